@@ -28,14 +28,14 @@ use Rattle.mk_words.specs.TurnSteps.{IsFresh, turn_stays}
 use Rattle.mk_words.proofs.Seats.{not_both, others_one, others_own, only_one}
 use Rattle.mk_words.proofs.Made.{made}
 use Rattle.mk_words.proofs.Undecided.{decides_nothing}
-use Rattle.mk_caller.specs.States.{never_of, number_of}
+use Rattle.mk_caller.specs.States.{never_of, caller_of_pass}
 use Rattle.mk_caller.specs.Called.{own_calls}
 use Rattle.mk_caller.proofs.OwnSteps.{by_append, calls_by, others_add_none}
 use Rattle.mk_cycle.proofs.OwnSteps.{no_more_calls}
 use Rattle.mk_waiting.specs.Taking.{TakesTurn, is_take, waits_for}
 use Rattle.mk_alloc.specs.TurnCalls.{CalledInTurn}
 use Rattle.mk_alloc.specs.TurnCycles.{CallIsExact}
-use Rattle.mk_alloc.specs.Underway.{GoesOn}
+use Rattle.mk_alloc.specs.Underway.{TurnGoesOn}
 use Rattle.mk_alloc.proofs.Decisions.{decided_in, registers_stay, same_last}
 use Rattle.mk_alloc.proofs.Going.{IsCallers}
 use Rattle.mk_alloc.proofs.OwnGives.{GivesNone, doing_gives, gives_append, others_give}
@@ -45,14 +45,14 @@ use Rattle.mk_alloc.proofs.Parts.{seen_behind, seen_made, seen_then}
 
 pub of_others_alone : (p : PassState) (others : List Event) → IsCallers p → Has p.seats p.seat
     → AreOfOthers p.seats others
-    → AreOfOthers (Caller (number_of p) ∷ []) others
+    → AreOfOthers (Caller (caller_of_pass p) ∷ []) others
 of_others_alone p others seat own of_others =
     subst (λ (s : Seat). AreOfOthers (s ∷ []) others) seat (others_own p.seats p.seat others own of_others)
 
 idle_adds : (p : PassState) (es : List Event) (s : Step) → may_decide s ≡ false
     → own_calls p (es ++ event_of p s ∷ []) ≡ own_calls p es
 idle_adds p es s idle =
-    ap (λ (l : List Decided). calls_by (number_of p) l)
+    ap (λ (l : List Decided). calls_by (caller_of_pass p) l)
     (no_more_calls p.table.config es (event_of p s)
     (decides_nothing p.table.config (left p.table.config es).now p.seat s idle))
 
@@ -62,7 +62,8 @@ pub step_adds_none : (p q : PassState) (s : Step) (m : Makes p s q) → IsCaller
 step_adds_none p q s m seat own idle =
     ap (λ (x : PassState). own_calls p x.seen) m.is
     ∙ idle_adds p (p.seen ++ m.others) s idle
-    ∙ others_add_none p.table.config (number_of p) p.seen m.others (of_others_alone p m.others seat own m.of_others)
+    ∙ others_add_none p.table.config (caller_of_pass p) p.seen m.others
+    (of_others_alone p m.others seat own m.of_others)
 
 take_idle : (s : Step) → is_take s ≡ true → may_decide s ≡ false
 take_idle (step.Take o) h = refl
@@ -78,12 +79,12 @@ waits_add p es (e ∷ rest) seat own all =
     ∙ waits_add p (es ++ e ∷ []) rest seat own parts.1
     ∙ ⊎_elim
     (λ (out : not (is_one_of p.seats e.seat) ≡ true).
-    others_add_none p.table.config (number_of p) es (e ∷ [])
-    (others_one (Caller (number_of p) ∷ []) e (λ has.
+    others_add_none p.table.config (caller_of_pass p) es (e ∷ [])
+    (others_one (Caller (caller_of_pass p) ∷ []) e (λ has.
     not_both p.seats e.seat (not-true (is_one_of p.seats e.seat) out)
-    (subst (λ (s : Seat). Has p.seats s) (seat ∙ sym (only_one (Caller (number_of p)) e.seat has)) own))))
+    (subst (λ (s : Seat). Has p.seats s) (seat ∙ sym (only_one (Caller (caller_of_pass p)) e.seat has)) own))))
     (λ (take : (is_take e.step && is_same_seat e.seat p.seat) ≡ true).
-    ap (λ (l : List Decided). calls_by (number_of p) l)
+    ap (λ (l : List Decided). calls_by (caller_of_pass p) l)
     (no_more_calls p.table.config es e (decides_nothing p.table.config (left p.table.config es).now e.seat e.step
     (take_idle e.step (and_parts (is_take e.step) (is_same_seat e.seat p.seat) take).0))))
     (or_cases (not (is_one_of p.seats e.seat)) (is_take e.step && is_same_seat e.seat p.seat) parts.0)
@@ -131,24 +132,27 @@ module _ (p taken : PassState) (o : Op) (seat : IsCallers p) (own : Has p.seats 
 
   -- So its registers are as they were.
   pub registers_taken : IsHistory taken.table.config taken.seen
-      → KeepsRegisters (number_of p) (never_of p) (never_of taken)
+      → KeepsRegisters (caller_of_pass p) (never_of p) (never_of taken)
   registers_taken history =
       let c : Config = p.table.config in
       let more : List Event = takes.waits.more ++ (taking.others ++ event_of waited (step.Take (Some o)) ∷ []) in
       let whole : IsHistory c (p.seen ++ more) =
       subst (λ (l : List Event). IsHistory c l) taken_seen
       (subst (λ (x : PassState). IsHistory x.table.config taken.seen) taken_same history) in
-      let none : calls_by (number_of p) (calls_from c (left c p.seen) more) ≡ [] =
-      same_last (own_calls p p.seen) (calls_by (number_of p) (calls_from c (left c p.seen) more)) []
-      (sym (by_append (number_of p) (calls c p.seen) (calls_from c (left c p.seen) more))
-      ∙ ap (λ (l : List Decided). calls_by (number_of p) l) (sym (calls_in_parts c p.seen more))
+      let none : calls_by (caller_of_pass p) (calls_from c (left c p.seen) more) ≡ [] =
+      same_last (own_calls p p.seen) (calls_by (caller_of_pass p) (calls_from c (left c p.seen) more)) []
+      (sym (by_append (caller_of_pass p) (calls c p.seen) (calls_from c (left c p.seen) more))
+      ∙ ap (λ (l : List Decided). calls_by (caller_of_pass p) l) (sym (calls_in_parts c p.seen more))
       ∙ ap (λ (l : List Event). own_calls p l) (sym taken_seen) ∙ taken_adds ∙ sym (append-nil (own_calls p p.seen))) in
-      subst (λ (x : PassState). KeepsRegisters (number_of p) (never_of p) (never_of (record x { seen = taken.seen })))
+      subst (λ (x : PassState). KeepsRegisters (caller_of_pass p) (never_of p) (never_of (record x {
+        seen =
+            taken.seen;
+      })))
       (sym taken_same)
-      (subst (λ (l : List Event). KeepsRegisters (number_of p) (never_of p) (never_behind c l)) (sym taken_seen)
-      (registers_stay c p.seen more (number_of p) whole none))
+      (subst (λ (l : List Event). KeepsRegisters (caller_of_pass p) (never_of p) (never_behind c l)) (sym taken_seen)
+      (registers_stay c p.seen more (caller_of_pass p) whole none))
 
-  module _ (done q : PassState) (a : Answer) (fresh : IsFresh taken (Some o)) (on : GoesOn (Some a) taken done)
+  module _ (done q : PassState) (a : Answer) (fresh : IsFresh taken (Some o)) (on : TurnGoesOn (Some a) taken done)
       (gives : Makes done step.Give q) (rests : call_of q ≡ at_rest) (history : IsHistory q.table.config q.seen) where
     done_same : done ≡ record p { seen = done.seen }
     done_same =
@@ -180,7 +184,7 @@ module _ (p taken : PassState) (o : Op) (seat : IsCallers p) (own : Has p.seats 
         { seen = done.seen ++ gives.others ++ event_of done step.Give ∷ [] }) done_same
         ∙ ap (λ (l : List Event). record p { seen = l }) (sym (ap (λ (x : PassState). x.seen) gives.is) ∙ seen_is)
 
-    pub entry : own_calls p (p.seen ++ more) ≡ own_calls p p.seen ++ entry_of (number_of p) o (Some a)
+    pub entry : own_calls p (p.seen ++ more) ≡ own_calls p p.seen ++ entry_of (caller_of_pass p) o (Some a)
     entry =
         ap (λ (l : List Event). own_calls p l) (sym seen_is)
         ∙ sym (ap (λ (x : PassState). own_calls x q.seen) done_same)
@@ -188,10 +192,10 @@ module _ (p taken : PassState) (o : Op) (seat : IsCallers p) (own : Has p.seats 
         ∙ ap (λ (x : PassState). own_calls x done.seen)
         (done_same ∙ sym (ap (λ (x : PassState). record x { seen = done.seen }) taken_same))
         ∙ on.entry
-        ∙ ap (λ (l : List Decided). l ++ entry_of (number_of taken) (call_of taken).op (Some a))
+        ∙ ap (λ (l : List Decided). l ++ entry_of (caller_of_pass taken) (call_of taken).op (Some a))
         (ap (λ (x : PassState). own_calls x taken.seen) taken_same ∙ taken_adds)
-        ∙ ap (λ (f : Flight). own_calls p p.seen ++ entry_of (number_of taken) f.op (Some a)) fresh.call
-        ∙ ap (λ (x : PassState). own_calls p p.seen ++ entry_of (number_of x) o (Some a)) taken_same
+        ∙ ap (λ (f : Flight). own_calls p p.seen ++ entry_of (caller_of_pass taken) f.op (Some a)) fresh.call
+        ∙ ap (λ (x : PassState). own_calls p p.seen ++ entry_of (caller_of_pass x) o (Some a)) taken_same
 
     pub whole : IsHistory p.table.config (p.seen ++ more)
     whole = subst (λ (x : PassState). IsHistory x.table.config x.seen) q_is history

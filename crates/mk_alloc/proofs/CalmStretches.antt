@@ -20,12 +20,12 @@ use Rattle.mk_core.specs.Growing.{AreOfOthers}
 use Rattle.mk_core.specs.History.{World, left}
 use Rattle.mk_core.specs.Moments.{Moment, flight_of}
 use Rattle.mk_core.proofs.ChangedAllocations.{fresh_storage, none_freed}
-use Rattle.mk_protocol.proofs.Frames.{left_after}
-use Rattle.mk_protocol.proofs.Protocols.{protocol_of}
+use Rattle.mk_laws.proofs.ProtocolFrames.{left_after}
+use Rattle.mk_laws.proofs.Protocols.{protocol_of}
 use Rattle.mk_words.specs.Seats.{Has}
 use Rattle.mk_words.specs.States.{PassState, event_of}
 use Rattle.mk_words.proofs.Seats.{only_one, others_one}
-use Rattle.mk_caller.specs.States.{number_of}
+use Rattle.mk_caller.specs.States.{caller_of_pass}
 use Rattle.mk_caller.specs.Called.{own_calls}
 use Rattle.mk_caller.proofs.OwnSteps.{calls_by, others_add_none}
 use Rattle.mk_cycle.specs.EngineLaw.{is_pending_free}
@@ -105,10 +105,10 @@ pub record GoesUndecided (p : PassState) (es fs : List Event) : Type 0 where
   pub call : call_in p fs ≡ call_in p es
   pub calls : own_calls p fs ≡ own_calls p es
 
-module _ (p : PassState) (seat : p.seat ≡ Caller (number_of p)) (own : Has p.seats p.seat) where
-  pub not_own : (e : Event) → e.seat ≢ p.seat → AreOfOthers (Caller (number_of p) ∷ []) (e ∷ [])
-  not_own e ne = others_one (Caller (number_of p) ∷ []) e
-      (λ has. ne (only_one (Caller (number_of p)) e.seat has ∙ sym seat))
+module _ (p : PassState) (seat : p.seat ≡ Caller (caller_of_pass p)) (own : Has p.seats p.seat) where
+  pub not_own : (e : Event) → e.seat ≢ p.seat → AreOfOthers (Caller (caller_of_pass p) ∷ []) (e ∷ [])
+  not_own e ne = others_one (Caller (caller_of_pass p) ∷ []) e
+      (λ has. ne (only_one (Caller (caller_of_pass p)) e.seat has ∙ sym seat))
 
   -- One event of another's decides none of the holder's calls,
   pub other_undecided : (es : List Event) (e : Event) → Here p es e → e.seat ≢ p.seat
@@ -117,7 +117,7 @@ module _ (p : PassState) (seat : p.seat ≡ Caller (number_of p)) (own : Has p.s
       record {
         call = ap (λ (w : World). flight_of w.now p.seat) h.behind
             ∙ (left_after p.table.config (left p.table.config es) e.seat p.seat e.step h.known h.meets ne).own.flight;
-        calls = others_add_none p.table.config (number_of p) es (e ∷ []) (not_own e ne);
+        calls = others_add_none p.table.config (caller_of_pass p) es (e ∷ []) (not_own e ne);
       }
 
   -- nor does one of its own.
@@ -131,7 +131,7 @@ module _ (p : PassState) (seat : p.seat ≡ Caller (number_of p)) (own : Has p.s
       record {
         call = ap (λ (w : World). flight_of w.now p.seat) h.behind
             ∙ flight_behind c m p.seat x (protocol_of c m h.known) h.holds st;
-        calls = ap (λ (l : List Decided). calls_by (number_of p) l)
+        calls = ap (λ (l : List Decided). calls_by (caller_of_pass p) l)
             (no_more_calls c es (event_of p x) (undecided c m p.seat x st));
       }
 
@@ -177,7 +177,7 @@ pub record StaysReserved (p : PassState) (es fs : List Event) : Type 0 where
   pub call : call_in p fs ≡ call_in p es
   pub storage : storage_in p fs ≡ storage_in p es
 
-module _ (p : PassState) (seat : p.seat ≡ Caller (number_of p)) (own : Has p.seats p.seat) where
+module _ (p : PassState) (seat : p.seat ≡ Caller (caller_of_pass p)) (own : Has p.seats p.seat) where
   own_storage : (es : List Event) (x : Step) → Here p es (event_of p x) → releases_none x ≡ true
       → is_pending_free (call_in p es) ≡ false → storage_in p (es ++ event_of p x ∷ []) ≡ storage_in p es
   own_storage es x h kind free =

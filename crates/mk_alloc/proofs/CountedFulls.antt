@@ -28,19 +28,19 @@ use Rattle.mk_core.specs.History.{IsHistory, World, call_decided, calls, first_w
 use Rattle.mk_core.specs.Moments.{Moment}
 use Rattle.mk_core.specs.NewPlaces.{is_run_gone, object_made}
 use Rattle.mk_core.proofs.Histories.{calls_more}
-use Rattle.mk_protocol.specs.Protocol.{has_place}
-use Rattle.mk_protocol.proofs.OthersCounts.{fulls_append, fulls_of}
+use Rattle.mk_laws.specs.Protocol.{has_place}
+use Rattle.mk_laws.proofs.OthersCounts.{fulls_append, fulls_of}
 use Rattle.mk_words.specs.States.{PassState, call_of, event_of, now_of, world_of}
 use Rattle.mk_words.specs.Steps.{Finds}
 use Rattle.mk_words.specs.TurnSteps.{Acts, turn_stays}
 use Rattle.mk_words.proofs.Made.{made}
 use Rattle.mk_turns.specs.Doing.{Does}
 use Rattle.mk_turns.proofs.Doing.{does_step, does_then}
-use Rattle.mk_caller.specs.States.{number_of}
+use Rattle.mk_caller.specs.States.{caller_of_pass}
 use Rattle.mk_caller.specs.Called.{own_calls}
 use Rattle.mk_caller.proofs.OwnSteps.{by_append, calls_by, others_add_none, own_entry}
 use Rattle.mk_cycle.specs.EngineLaw.{IsAtPhase, is_pending_free_at}
-use Rattle.mk_cycle.specs.TurnKeeps.{Done, InTurn, KeepsTurn, done_of, whole}
+use Rattle.mk_cycle.specs.TurnKeeps.{Done, InTurn, LeavesTurn, done_of, unchanged}
 use Rattle.mk_cycle.proofs.CleaningSteps.{calm_keeps}
 use Rattle.mk_cycle.proofs.KeptInParts.{free_then, gates_behind, gates_then, same_config}
 use Rattle.mk_objects.specs.Placing.{IsUnplaced, object_for, place_now_for}
@@ -107,10 +107,10 @@ raised_so n v f g is raised more = omega arith
 module _ (p p1 p2 : PassState) (n v : ℕ) (t : InTurn p) (quiet : IsQuiet p) (u : IsUnplaced p)
     (look : Acts p (step.Look word.Full) p1) (finds : Finds p (step.Look word.Full) n p1) (t1 : InTurn p1)
     (tallies : Acts p1 (step.Tally tally.Full v) p2) (t2 : InTurn p2) where
-  k1 : KeepsTurn whole p p1
-  k1 = calm_keeps p (step.Look word.Full) p1 look t t1.history refl quiet.free whole refl
+  k1 : LeavesTurn unchanged p p1
+  k1 = calm_keeps p (step.Look word.Full) p1 look t t1.history refl quiet.free unchanged refl
 
-  k2 : KeepsTurn but_full p1 p2
+  k2 : LeavesTurn but_full p1 p2
   k2 = calm_keeps p1 (step.Tally tally.Full v) p2 tallies t1 t2.history refl
       (free_then p p1 k1.call quiet.free) but_full refl
 
@@ -170,7 +170,7 @@ module _ (p p1 p2 : PassState) (n v : ℕ) (t : InTurn p) (quiet : IsQuiet p) (u
         ∙ sym (ap (λ (x : PassState). x.seen) full.makes.is))
 
     call_q : call_of q ≡ record (call_of p) { stage = stage.Give }
-    call_q = full.call (number_of p2) seat2 ∙ ap (λ (f : Flight). record f { stage = stage.Give }) call_same
+    call_q = full.call (caller_of_pass p2) seat2 ∙ ap (λ (f : Flight). record f { stage = stage.Give }) call_same
 
     holding_q : (now_of q).seats.holding ≡ (now_of p2).seats.holding
     holding_q = ap (λ (w : World). w.now.seats.holding) full.world ∙ full.holding
@@ -188,12 +188,12 @@ module _ (p p1 p2 : PassState) (n v : ℕ) (t : InTurn p) (quiet : IsQuiet p) (u
     config2 = ap (λ (x : PassState). x.table.config) same_pass
 
     decides : call_decided p2.table.config (left p2.table.config es).now e
-        ≡ entry_of (number_of p2) (call_of p2).op (Some answer.Full)
+        ≡ entry_of (caller_of_pass p2) (call_of p2).op (Some answer.Full)
     decides =
-        ap (λ (f : Flight). entry_of (number_of p2) f.op
+        ap (λ (f : Flight). entry_of (caller_of_pass p2) f.op
         (answer_decided p2.table.config (left p2.table.config es).now e)) full.own.flight
-        ∙ ap (λ (x : Option Answer). entry_of (number_of p2) (call_of p2).op x)
-        (answers p2.table.config (left p2.table.config es).now p2.seat (number_of p2) seat2)
+        ∙ ap (λ (x : Option Answer). entry_of (caller_of_pass p2) (call_of p2).op x)
+        (answers p2.table.config (left p2.table.config es).now p2.seat (caller_of_pass p2) seat2)
 
     ends_q : ends q.seen ≡ ends p.seen
     ends_q =
@@ -213,30 +213,30 @@ module _ (p p1 p2 : PassState) (n v : ℕ) (t : InTurn p) (quiet : IsQuiet p) (u
         let two : full_answers p2.table.config p2.seen ≡ full_answers p.table.config p.seen =
         ap (λ (c : Config). full_answers c p2.seen) (same_config p1 p2 k2.call.pass) ∙ k2.counts.fulls
         ∙ ap (λ (c : Config). full_answers c p1.seen) (same_config p p1 k1.call.pass) ∙ k1.counts.fulls in
-        let whole : full_answers p.table.config q.seen ≡ full_answers p2.table.config (es ++ e ∷ []) =
+        let unchanged : full_answers p.table.config q.seen ≡ full_answers p2.table.config (es ++ e ∷ []) =
         ap (λ (c : Config). full_answers c q.seen) (sym config2)
         ∙ ap (λ (l : List Event). full_answers p2.table.config l) seen_q in
         omega arith
 
-    entry : own_calls p q.seen ≡ own_calls p p.seen ++ entry_of (number_of p) (call_of p).op (Some answer.Full)
+    entry : own_calls p q.seen ≡ own_calls p p.seen ++ entry_of (caller_of_pass p) (call_of p).op (Some answer.Full)
     entry =
         sym (ap (λ (x : PassState). own_calls x q.seen) same_pass)
         ∙ ap (λ (l : List Event). own_calls p2 l) seen_q
-        ∙ ap (λ (l : List Decided). calls_by (number_of p2) l)
+        ∙ ap (λ (l : List Decided). calls_by (caller_of_pass p2) l)
         (calls_more p2.table.config (first_world p2.table.config) es e)
-        ∙ by_append (number_of p2) (calls p2.table.config es)
+        ∙ by_append (caller_of_pass p2) (calls p2.table.config es)
         (call_decided p2.table.config (left p2.table.config es).now e)
-        ∙ ap (λ (l : List Decided). l ++ calls_by (number_of p2)
+        ∙ ap (λ (l : List Decided). l ++ calls_by (caller_of_pass p2)
         (call_decided p2.table.config (left p2.table.config es).now e))
-        (others_add_none p2.table.config (number_of p2) p2.seen full.makes.others
+        (others_add_none p2.table.config (caller_of_pass p2) p2.seen full.makes.others
         (of_others_alone p2 full.makes.others seat2 t2.own full.makes.of_others))
-        ∙ ap (λ (l : List Decided). own_calls p2 p2.seen ++ calls_by (number_of p2) l) decides
+        ∙ ap (λ (l : List Decided). own_calls p2 p2.seen ++ calls_by (caller_of_pass p2) l) decides
         ∙ ap (λ (l : List Decided). own_calls p2 p2.seen ++ l)
-        (own_entry (number_of p2) (call_of p2).op (Some answer.Full))
-        ∙ ap (λ (f : Flight). own_calls p2 p2.seen ++ entry_of (number_of p2) f.op (Some answer.Full)) call_same
-        ∙ ap (λ (x : PassState). own_calls x p2.seen ++ entry_of (number_of x) (call_of p).op (Some answer.Full))
+        (own_entry (caller_of_pass p2) (call_of p2).op (Some answer.Full))
+        ∙ ap (λ (f : Flight). own_calls p2 p2.seen ++ entry_of (caller_of_pass p2) f.op (Some answer.Full)) call_same
+        ∙ ap (λ (x : PassState). own_calls x p2.seen ++ entry_of (caller_of_pass x) (call_of p).op (Some answer.Full))
         same_pass
-        ∙ ap (λ (l : List Decided). l ++ entry_of (number_of p) (call_of p).op (Some answer.Full))
+        ∙ ap (λ (l : List Decided). l ++ entry_of (caller_of_pass p) (call_of p).op (Some answer.Full))
         (sym (ap (λ (x : PassState). own_calls x p2.seen) k1.call.pass)
         ∙ step_adds_none p1 p2 (step.Tally tally.Full v) tallies.makes
         (subst (λ (x : PassState). IsCallers x) (sym k1.call.pass) seat) t1.own refl

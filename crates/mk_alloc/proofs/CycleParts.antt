@@ -11,7 +11,7 @@ use Rattle.mk_turns.specs.Doing.{Does}
 use Rattle.mk_turns.proofs.Doing.{does_then}
 use Rattle.mk_cycle.specs.BeginCycle.{BeginsCycle}
 use Rattle.mk_cycle.specs.FinishCycle.{FinishesCycle}
-use Rattle.mk_cycle.specs.Kinds.{begins_marking, clears, closes_marks, gives_back, holds_gates, sets_tallies}
+use Rattle.mk_cycle.specs.Kinds.{begins_marking, clears, closes_marks, is_giving_back, holds_gates, sets_tallies}
 use Rattle.mk_cycle.specs.TurnKeeps.{InTurn}
 use Rattle.mk_objects.proofs.JoinedLooks.{does_wider}
 use Rattle.mk_alloc.specs.TurnCycles.{finishes, is_want}
@@ -54,7 +54,7 @@ closes_of (step.Black p v) h = refl
 closes_of (step.Unblack p) h = refl
 closes_of _ h = cc
 
-pub gives_of : (x : Step) → gives_back x ≡ true → is_of_cycles x ≡ true
+pub gives_of : (x : Step) → is_giving_back x ≡ true → is_of_cycles x ≡ true
 gives_of (step.Look w) h = refl
 gives_of (step.Open j) h = refl
 gives_of (step.Wipe n) h = refl
@@ -141,7 +141,7 @@ closes_apart : AreApart closes_marks is_begin
 closes_apart step.Begin h = cc
 closes_apart _ h = refl
 
-gives_apart : AreApart gives_back is_begin
+gives_apart : AreApart is_giving_back is_begin
 gives_apart step.Begin h = cc
 gives_apart _ h = refl
 
@@ -153,7 +153,7 @@ closes_no_close : AreApart closes_marks is_close
 closes_no_close step.Close h = cc
 closes_no_close _ h = refl
 
-gives_no_end : AreApart gives_back is_end
+gives_no_end : AreApart is_giving_back is_end
 gives_no_end step.End h = cc
 gives_no_end _ h = refl
 
@@ -195,7 +195,7 @@ module _ (p q : PassState) (own : Has p.seats p.seat) (law : FinishesCycle p q) 
   own_released = has_then is_of_cycles law.makes.releases.closed law.makes.released d4 own_closed
 
   d5 : Does is_of_cycles law.makes.released law.makes.freed
-  d5 = wider gives_back gives_of law.makes.released law.makes.freed law.makes.frees
+  d5 = wider is_giving_back gives_of law.makes.released law.makes.freed law.makes.frees
 
   own_freed : Has law.makes.freed.seats law.makes.freed.seat
   own_freed = has_then is_of_cycles law.makes.released law.makes.freed d5 own_released
@@ -280,7 +280,7 @@ module _ (p q : PassState) (own : Has p.seats p.seat) (law : FinishesCycle p q) 
         (seen_then r.closed.seen m.released.seen q.seen (r.release.others ++ event_of r.closed step.Release ∷ []) _
         (seen_made r.closed m.released step.Release r.release)
         (seen_then m.released.seen m.freed.seen q.seen m.frees.more _
-        (seen_behind gives_back m.released m.freed m.frees)
+        (seen_behind is_giving_back m.released m.freed m.frees)
         (seen_then m.freed.seen m.ended.seen q.seen (m.end.others ++ event_of m.freed step.End ∷ []) m.behind.more
         (seen_made m.freed m.ended step.End m.end) (seen_behind sets_tallies m.ended q m.behind))))))
 
@@ -319,8 +319,8 @@ module _ (p q : PassState) (own : Has p.seats p.seat) (law : FinishesCycle p q) 
                 (h_released history);
             none_ended =
                 lacks_append is_end m.frees.more m.end.others
-                (part_lacks gives_back is_end m.released m.freed
-                (of_turn gives_back gives_of) ends_held gives_no_end t_released m.frees (h_freed history))
+                (part_lacks is_giving_back is_end m.released m.freed
+                (of_turn is_giving_back gives_of) ends_held gives_no_end t_released m.frees (h_freed history))
                 (others_lack is_end m.freed m.ended step.End ends_held t_freed m.end (h_ended history));
           };
           begins_none =
@@ -340,8 +340,8 @@ module _ (p q : PassState) (own : Has p.seats p.seat) (law : FinishesCycle p q) 
               (others_lack is_begin r.closed m.released step.Release begins_held t_closed r.release
               (h_released history)) refl)
               (lacks_append is_begin m.frees.more _
-              (part_lacks gives_back is_begin m.released m.freed
-              (of_turn gives_back gives_of) begins_held gives_apart t_released
+              (part_lacks is_giving_back is_begin m.released m.freed
+              (of_turn is_giving_back gives_of) begins_held gives_apart t_released
               m.frees (h_freed history))
               (lacks_append is_begin (m.end.others ++ event_of m.freed step.End ∷ []) m.behind.more
               (lacks_append is_begin m.end.others (event_of m.freed step.End ∷ [])

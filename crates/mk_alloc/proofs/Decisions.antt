@@ -22,11 +22,11 @@ use Rattle.mk_core.specs.Image.{answer_of, answers_of}
 use Rattle.mk_core.specs.Moments.{flight_of}
 use Rattle.mk_core.proofs.HistoryParts.{admitted_in_parts, calls_in_parts, earlier_part_is_history, left_in_parts}
 use Rattle.mk_core.proofs.HistoryParts.{never_in_parts}
-use Rattle.mk_images.proofs.OneEvent.{one_event}
-use Rattle.mk_invariant.proofs.Joined.{told_to_images}
-use Rattle.mk_frames.proofs.LastEvents.{comes_last, stands}
+use Rattle.mk_laws.proofs.ImagesOneEvent.{one_event}
+use Rattle.mk_laws.proofs.InvariantJoined.{told_to_images}
+use Rattle.mk_laws.proofs.LastEvents.{comes_last, stands}
 use Rattle.mk_words.specs.States.{PassState}
-use Rattle.mk_caller.specs.States.{number_of}
+use Rattle.mk_caller.specs.States.{caller_of_pass}
 use Rattle.mk_caller.specs.Called.{IsDecidedIn, own_calls}
 use Rattle.mk_caller.proofs.OwnSteps.{by_append, calls_by}
 
@@ -126,15 +126,15 @@ flagged_once (op.New d ty full) _ = refl
 flagged_once _ a = refl
 
 module _ (p : PassState) (o : Op) (a : Answer) (more : List Event) (history : IsHistory p.table.config (p.seen ++ more))
-    (entry : own_calls p (p.seen ++ more) ≡ own_calls p p.seen ++ entry_of (number_of p) o (Some a)) where
+    (entry : own_calls p (p.seen ++ more) ≡ own_calls p p.seen ++ entry_of (caller_of_pass p) o (Some a)) where
   abbrev c : Config
   c = p.table.config
 
   abbrev k : ℕ
-  k = number_of p
+  k = caller_of_pass p
 
   abbrev x : Decided
-  x = record { caller = number_of p; op = flagged o a; answer = a }
+  x = record { caller = caller_of_pass p; op = flagged o a; answer = a }
 
   found : Decision c k (left c p.seen) more x
   found =

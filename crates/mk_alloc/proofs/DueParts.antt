@@ -17,7 +17,7 @@ use Rattle.mk_cycle.specs.TurnKeeps.{InTurn}
 use Rattle.mk_objects.specs.Placing.{is_look}
 use Rattle.mk_alloc.specs.DueCycles.{EndsOlder, RunsCycle}
 use Rattle.mk_alloc.specs.TurnCycles.{finishes, has_step}
-use Rattle.mk_alloc.specs.Underway.{GoesOn, IsQuiet}
+use Rattle.mk_alloc.specs.Underway.{TurnGoesOn, IsQuiet}
 use Rattle.mk_alloc.proofs.CalmStretches.{cycles_in_turn, is_of_cycles}
 use Rattle.mk_alloc.proofs.CycleParts.{BeginIn, EndsIn, begin_does, begin_in, begins_held, finish_does, finish_in}
 use Rattle.mk_alloc.proofs.Going.{IsCallers, begun_on, callers_then, finished_on, looked_on, on_then}
@@ -116,7 +116,7 @@ end_at es e =
 -- An older cycle is ended, if one was on.
 record OlderIn (p q : PassState) : Type 0 where
   turn : InTurn q
-  on : GoesOn None p q
+  on : TurnGoesOn None p q
   more : List Event
   is : q.seen ≡ p.seen ++ more
   begins_none : Lacks is_begin more
@@ -133,7 +133,7 @@ older_in p q t seat quiet e history = by quiet.phase
         let t1 = in_turn_then is_look p e.looked look_in_turn t e.looks.does h in
         record {
           turn = subst (λ (x : PassState). InTurn x) (sym same) t1;
-          on = subst (λ (x : PassState). GoesOn None p x) (sym same) (looked_on p e.looked t seat quiet e.looks h);
+          on = subst (λ (x : PassState). TurnGoesOn None p x) (sym same) (looked_on p e.looked t seat quiet e.looks h);
           more = e.looks.does.more;
           is = ap (λ (x : PassState). x.seen) same ∙ seen_behind is_look p e.looked e.looks.does;
           begins_none = part_lacks is_look is_begin p e.looked look_in_turn begins_held look_no_begin t e.looks.does h;
@@ -161,7 +161,7 @@ older_in p q t seat quiet e history = by quiet.phase
 
 -- One `begin`, with what stands before it and after.
 pub record RunIn (on : Bool) (p q : PassState) : Type 0 where
-  pub goes : GoesOn None p q
+  pub goes : TurnGoesOn None p q
   pub first : List Event
   pub begin : Event
   pub second : List Event
@@ -203,7 +203,7 @@ module _ (on : Bool) (p q : PassState) (t : InTurn p) (seat : IsCallers p) (quie
     t_begun = in_turn_then is_of_cycles run.idle run.begun cycles_in_turn old.turn
         (begin_does run.idle run.begun own_idle run.begins) h_begun
 
-    on_begun : GoesOn None p run.begun
+    on_begun : TurnGoesOn None p run.begun
     on_begun = on_then None p run.idle run.begun old.on
         (begun_on run.idle run.begun old.turn seat_idle old.on.quiet run.begins h_begun)
 
@@ -248,7 +248,7 @@ module _ (on : Bool) (p q : PassState) (t : InTurn p) (seat : IsCallers p) (quie
       let h = subst (λ (x : PassState). IsHistory x.table.config x.seen) same history in
       let b = begun own_idle h in
       record {
-        goes = subst (λ (x : PassState). GoesOn None p x) (sym same) (on_begun own_idle h);
+        goes = subst (λ (x : PassState). TurnGoesOn None p x) (sym same) (on_begun own_idle h);
         first = first own_idle h;
         begin = b.begin;
         second = b.behind;

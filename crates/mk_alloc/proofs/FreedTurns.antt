@@ -14,7 +14,7 @@ use Rattle.mk_words.specs.States.{PassState, call_of}
 use Rattle.mk_words.specs.Steps.{Makes}
 use Rattle.mk_words.specs.TurnSteps.{IsFresh}
 use Rattle.mk_caller.specs.States as caller
-use Rattle.mk_caller.specs.States.{number_of}
+use Rattle.mk_caller.specs.States.{caller_of_pass}
 use Rattle.mk_cycle.specs.TurnKeeps.{InTurn}
 use Rattle.mk_objects.specs.Retired.{FindsFreed, IsDueSince, Retires}
 use Rattle.mk_objects.specs.Retiring.{IsUnloaded, is_freeing, is_loading}
@@ -22,7 +22,7 @@ use Rattle.mk_waiting.specs.Taking.{TakesTurn}
 use Rattle.mk_alloc.specs.DueCycles.{RunsIfDue}
 use Rattle.mk_alloc.specs.TurnCalls.{FreesObject, IsAnsweredDouble}
 use Rattle.mk_alloc.specs.TurnCycles.{FreeIsExact, IsDueIn}
-use Rattle.mk_alloc.specs.Underway.{BeginsTurn, GoesOn}
+use Rattle.mk_alloc.specs.Underway.{BeginsTurn, TurnGoesOn}
 use Rattle.mk_alloc.proofs.CalledTurns.{called, registers_taken, taken_callers, taken_same}
 use Rattle.mk_alloc.proofs.DueParts.{run_in}
 use Rattle.mk_alloc.proofs.FreeTurns.{is_quar, loading_frees, loading_no_quar, not_due_without, quars_held}
@@ -52,7 +52,7 @@ unloaded p taken r seat own takes fresh history lt base =
         ap (λ (x : PassState). caller.value_of (record x { seen = taken.seen }) i)
         (sym (taken_same p taken (op.Free r) seat own takes))
         ∙ ap (λ k. register_at (caller.never_of taken) k i)
-        (ap (λ (x : PassState). number_of x) (taken_same p taken (op.Free r) seat own takes))
+        (ap (λ (x : PassState). caller_of_pass x) (taken_same p taken (op.Free r) seat own takes))
         ∙ registers_taken p taken (op.Free r) seat own takes history i less
 
 -- The object was freed.
@@ -64,11 +64,11 @@ module _ (flag due : Bool) (p taken decided done q : PassState) (r : ℕ) (seat 
   seat_decided =
       callers_then is_freeing taken decided retires.decides.does (taken_callers p taken (op.Free r) seat own takes)
 
-  decides : GoesOn (Some answer.Done) taken decided
+  decides : TurnGoesOn (Some answer.Done) taken decided
   decides = decided_on taken r begins.fresh begins.phase begins.tidy is_freeing answer.Done decided
       (λ x h. h) retires.decides
 
-  pub freed_on : GoesOn (Some answer.Done) taken done
+  pub freed_on : TurnGoesOn (Some answer.Done) taken done
   freed_on = run_or_rest flag due answer.Done taken decided done decides t_decided seat_decided run t_done.history
 
   module _ (gives : Makes done step.Give q) (rests : call_of q ≡ at_rest)
@@ -128,7 +128,7 @@ loads_in_turn _ h = cc
 module _ (flag : Bool) (p taken decided q : PassState) (r : ℕ) (seat : IsCallers p) (own : Has p.seats p.seat)
     (takes : TakesTurn p (Some (op.Free r)) taken) (begins : BeginsTurn (op.Free r) taken) (t : InTurn taken)
     (finds : FindsFreed taken r decided) (t_decided : InTurn decided) where
-  pub double_on : GoesOn (Some answer.Double) taken decided
+  pub double_on : TurnGoesOn (Some answer.Double) taken decided
   double_on =
       decided_on taken r begins.fresh begins.phase begins.tidy is_loading answer.Double decided loading_frees
       finds.decides

@@ -29,13 +29,13 @@ use Rattle.mk_core.specs.TurnConditions.{may_wipe}
 use Rattle.mk_core.specs.Words.{Words, accessed}
 use Rattle.mk_core.proofs.ChangedAllocations.{changed_at, none_freed}
 use Rattle.mk_core.proofs.HistoryParts.{left_in_parts}
-use Rattle.mk_protocol.proofs.OthersMoves.{WorldBehind}
-use Rattle.mk_images.proofs.Before.{unmapped_is, words_are}
-use Rattle.mk_images.proofs.GrantMoves.{wiped_outside}
-use Rattle.mk_images.proofs.Kept.{exists_placed}
-use Rattle.mk_images.proofs.Stands.{stands_of}
-use Rattle.mk_invariant.proofs.Joined.{told_to_images}
-use Rattle.mk_frames.proofs.LastEvents.{comes_last, stands}
+use Rattle.mk_laws.proofs.OthersMoves.{WorldBehind}
+use Rattle.mk_laws.proofs.ImagesBefore.{unmapped_is, words_are}
+use Rattle.mk_laws.proofs.GrantMoves.{wiped_outside}
+use Rattle.mk_laws.proofs.ImagesKept.{exists_placed}
+use Rattle.mk_laws.proofs.ImagesStands.{stands_of}
+use Rattle.mk_laws.proofs.InvariantJoined.{told_to_images}
+use Rattle.mk_laws.proofs.LastEvents.{comes_last, stands}
 use Rattle.mk_words.specs.Seats.{Has}
 use Rattle.mk_words.specs.States.{PassState, call_of, event_of, world_of}
 use Rattle.mk_words.specs.Steps.{Makes}

@@ -38,13 +38,13 @@ use Rattle.mk_core.specs.Words.{phase_of}
 use Rattle.mk_core.proofs.Conditions.{meets_enabled}
 use Rattle.mk_core.proofs.Histories.{calls_more}
 use Rattle.mk_core.proofs.PlacesNow.{undecided_new}
-use Rattle.mk_layout.proofs.Holders.{seat_operands}
-use Rattle.mk_invariant.proofs.Theorems.{first_fit_finds_the_place}
-use Rattle.mk_protocol.proofs.Known.{known_left}
+use Rattle.mk_laws.proofs.LayoutHolders.{seat_operands}
+use Rattle.mk_laws.proofs.InvariantTheorems.{first_fit_finds_the_place}
+use Rattle.mk_laws.proofs.Known.{known_left}
 use Rattle.mk_words.specs.States.{PassState, call_of, now_of}
 use Rattle.mk_words.specs.Steps.{IsAdmittedTo, IsEnabledTo}
 use Rattle.mk_words.specs.TurnSteps.{IsTurn}
-use Rattle.mk_caller.specs.States.{number_of}
+use Rattle.mk_caller.specs.States.{caller_of_pass}
 use Rattle.mk_cycle.specs.EngineLaw.{IsAtPhase}
 use Rattle.mk_cycle.specs.TurnKeeps.{InTurn}
 use Rattle.mk_objects.specs.Placing.{IsUnplaced, object_for, place_now_for}
@@ -90,14 +90,14 @@ full_allowed p x turn t u idle ended none =
     (unplaced_settled p (acting_now p x turn acts) (acting_caller p acts) u t.history) ∙ none in
     let seat = new_callers p u in
     subst
-    (λ (s : Seat). number_of p < p.table.config.callers → is_undecided_new (flight_of (now_of p) s) ≡ true
+    (λ (s : Seat). caller_of_pass p < p.table.config.callers → is_undecided_new (flight_of (now_of p) s) ≡ true
     → place_on_pages p.table.config.resident (now_of p).words.pages
     (object_made p.table.config (flight_of (now_of p) s).op) ≡ None
     → IsEnabled p.table.config (now_of p) (record { seat = s; step = step.Full }))
-    (sym seat) (λ lt new fit. full_for p.table.config (now_of p) (number_of p) lt new idle u.placing ended fit)
+    (sym seat) (λ lt new fit. full_for p.table.config (now_of p) (caller_of_pass p) lt new idle u.placing ended fit)
     (exists seat t) u.new fits
   where
-    exists : IsCallers p → InTurn p → number_of p < p.table.config.callers
+    exists : IsCallers p → InTurn p → caller_of_pass p < p.table.config.callers
     exists seat t =
         (subst (λ (s : Seat). Holds p.table.config (now_of p) s) seat t.holds).0
 
@@ -155,5 +155,6 @@ full_admitted p t u =
     → has_operands p.table.config (flight_of (now_of p) s).op ≡ true
     → Holds p.table.config (now_of p) s
     → IsAdmittedBehind p.table.config p.seen (record { seat = s; step = step.Full }))
-    (sym seat) (λ new range holds. admitted_for p.table.config p.seen (number_of p) t.history holds.0 new range) u.new
+    (sym seat) (λ new range holds. admitted_for p.table.config p.seen
+    (caller_of_pass p) t.history holds.0 new range) u.new
     operands t.holds

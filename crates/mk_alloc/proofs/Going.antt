@@ -14,14 +14,14 @@ use Rattle.mk_words.specs.States.{PassState, call_of}
 use Rattle.mk_words.specs.TurnSteps.{turn_stays}
 use Rattle.mk_turns.specs.Doing.{Does}
 use Rattle.mk_turns.proofs.Doing.{does_nothing, does_then}
-use Rattle.mk_caller.specs.States.{number_of}
+use Rattle.mk_caller.specs.States.{caller_of_pass}
 use Rattle.mk_caller.specs.Called.{own_calls}
 use Rattle.mk_cycle.specs.BeginCycle.{BeginsCycle}
 use Rattle.mk_cycle.specs.FinishCycle.{FinishesCycle}
 use Rattle.mk_cycle.specs.TurnKeeps.{InTurn}
 use Rattle.mk_objects.specs.Placing.{is_look}
 use Rattle.mk_objects.proofs.JoinedLooks.{does_wider}
-use Rattle.mk_alloc.specs.Underway.{GoesOn, IsQuiet, Looks}
+use Rattle.mk_alloc.specs.Underway.{TurnGoesOn, IsQuiet, Looks}
 use Rattle.mk_alloc.proofs.CalmStretches.{cycles_in_turn, goes_undecided, is_of_cycles}
 use Rattle.mk_alloc.proofs.CycleParts.{begin_does, finish_does}
 use Rattle.mk_alloc.proofs.Parts.{seen_behind}
@@ -30,13 +30,13 @@ use Rattle.mk_alloc.proofs.Stretches.{does_stretch}
 
 -- the pass of a caller
 abbrev pub IsCallers : PassState → Type 0
-IsCallers p = p.seat ≡ Caller (number_of p)
+IsCallers p = p.seat ≡ Caller (caller_of_pass p)
 
 pub callers_then : (kinds : Step → Bool) (p q : PassState) → Does kinds p q → IsCallers p → IsCallers q
 callers_then kinds p q d is = subst (λ (x : PassState). IsCallers x) (sym d.is) is
 
-pub same_number : (kinds : Step → Bool) (p q : PassState) → Does kinds p q → number_of q ≡ number_of p
-same_number kinds p q d = ap (λ (x : PassState). number_of x) d.is
+pub same_number : (kinds : Step → Bool) (p q : PassState) → Does kinds p q → caller_of_pass q ≡ caller_of_pass p
+same_number kinds p q d = ap (λ (x : PassState). caller_of_pass x) d.is
 
 own_calls_same : (kinds : Step → Bool) (p q : PassState) → Does kinds p q → (es : List Event) → own_calls q es
     ≡ own_calls p es
@@ -48,7 +48,7 @@ looks_of _ h = cc
 
 -- A part of a turn that is free for a cycle, of steps of cycles alone
 pub undecided_part : (p q : PassState) → InTurn p → IsCallers p → IsQuiet p → IsQuiet q → (d : Does is_of_cycles p q)
-    → IsHistory q.table.config q.seen → call_of q ≡ call_of p → GoesOn None p q
+    → IsHistory q.table.config q.seen → call_of q ≡ call_of p → TurnGoesOn None p q
 undecided_part p q t seat quiet after d history call =
     record {
       does = does_wider is_of_cycles turn_stays cycles_in_turn p q d;
@@ -64,7 +64,7 @@ undecided_part p q t seat quiet after d history call =
     }
 
 pub looked_on : (p q : PassState) → InTurn p → IsCallers p → IsQuiet p → Looks p q → IsHistory q.table.config q.seen
-    → GoesOn None p q
+    → TurnGoesOn None p q
 looked_on p q t seat quiet k history =
     undecided_part p q t seat quiet (quiet_looked p q quiet k)
     (does_wider is_look is_of_cycles looks_of p q k.does) history
@@ -72,19 +72,19 @@ looked_on p q t seat quiet k history =
 
 pub begun_on : (p q : PassState) → InTurn p → IsCallers p → IsQuiet p → BeginsCycle p q
     → IsHistory q.table.config q.seen
-    → GoesOn None p q
+    → TurnGoesOn None p q
 begun_on p q t seat quiet b history =
     undecided_part p q t seat quiet (quiet_begun p q quiet b) (begin_does p q t.own b) history b.call
 
 pub finished_on : (p q : PassState) → InTurn p → IsCallers p → IsQuiet p → FinishesCycle p q
     → IsHistory q.table.config q.seen
-    → GoesOn None p q
+    → TurnGoesOn None p q
 finished_on p q t seat quiet f history =
     undecided_part p q t seat quiet (quiet_finished p q quiet f) (finish_does p q t.own f) history f.call
 
 -- one part after the other
 
-pub nothing_on : (p : PassState) → IsQuiet p → GoesOn None p p
+pub nothing_on : (p : PassState) → IsQuiet p → TurnGoesOn None p p
 nothing_on p quiet =
     record {
       does = does_nothing turn_stays p;
@@ -96,7 +96,7 @@ nothing_on p quiet =
     }
 
 -- nothing was decided before
-pub on_then : (a : Option Answer) (p q r : PassState) → GoesOn None p q → GoesOn a q r → GoesOn a p r
+pub on_then : (a : Option Answer) (p q r : PassState) → TurnGoesOn None p q → TurnGoesOn a q r → TurnGoesOn a p r
 on_then a p q r x y =
     let d : Does turn_stays p q = x.does in
     record {
@@ -104,17 +104,17 @@ on_then a p q r x y =
       quiet = y.quiet;
       entry =
           sym (own_calls_same turn_stays p q d r.seen) ∙ y.entry
-          ∙ ap (λ (l : List Decided). l ++ entry_of (number_of q) (call_of q).op a)
+          ∙ ap (λ (l : List Decided). l ++ entry_of (caller_of_pass q) (call_of q).op a)
           (own_calls_same turn_stays p q d q.seen ∙ x.entry ∙ append-nil (own_calls p p.seen))
           ∙ ap (λ k. own_calls p p.seen ++ entry_of k (call_of q).op a) (same_number turn_stays p q d)
-          ∙ ap (λ (o : Op). own_calls p p.seen ++ entry_of (number_of p) o a) x.op;
+          ∙ ap (λ (o : Op). own_calls p p.seen ++ entry_of (caller_of_pass p) o a) x.op;
       op = y.op ∙ x.op;
       decided = y.decided;
       undecided = λ none. y.undecided none ∙ x.undecided refl;
     }
 
 -- or nothing after
-pub then_on : (a : Answer) (p q r : PassState) → GoesOn (Some a) p q → GoesOn None q r → GoesOn (Some a) p r
+pub then_on : (a : Answer) (p q r : PassState) → TurnGoesOn (Some a) p q → TurnGoesOn None q r → TurnGoesOn (Some a) p r
 then_on a p q r x y =
     let d : Does turn_stays p q = x.does in
     record {

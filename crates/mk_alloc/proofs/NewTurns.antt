@@ -27,11 +27,11 @@ use Rattle.mk_core.specs.Frames.{Steady}
 use Rattle.mk_core.specs.History.{IsHistory, World}
 use Rattle.mk_core.specs.NewPlaces.{is_run_gone, is_undecided_new, object_made}
 use Rattle.mk_core.proofs.Lengths.{histories_keep_lengths}
-use Rattle.mk_layout.proofs.Settled.{gone_is_unmapped}
-use Rattle.mk_invariant.proofs.Theorems.{pages_show_the_storage}
+use Rattle.mk_laws.proofs.Settled.{gone_is_unmapped}
+use Rattle.mk_laws.proofs.InvariantTheorems.{pages_show_the_storage}
 use Rattle.mk_objects.proofs.MayAct.{off_four}
-use Rattle.mk_protocol.specs.Protocol.{has_place}
-use Rattle.mk_placement.proofs.Theorems.{fulls_fit_nowhere}
+use Rattle.mk_laws.specs.Protocol.{has_place}
+use Rattle.mk_laws.proofs.PlacementTheorems.{fulls_fit_nowhere}
 use Rattle.mk_words.specs.Seats.{Has}
 use Rattle.mk_words.specs.States.{PassState, call_of, event_of, now_of, world_of}
 use Rattle.mk_words.specs.Steps.{Makes}

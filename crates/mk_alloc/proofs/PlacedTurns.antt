@@ -20,20 +20,20 @@ use Rattle.mk_core.specs.History.{IsHistory, World, left}
 use Rattle.mk_core.specs.Moments.{is_held}
 use Rattle.mk_core.specs.NewPlaces.{is_run_gone, is_undecided_new}
 use Rattle.mk_core.proofs.PlacesNow.{undecided_new}
-use Rattle.mk_layout.proofs.Holders.{none_on_its_way}
-use Rattle.mk_placement.proofs.FreshWords.{fresh_pushed}
-use Rattle.mk_protocol.specs.Protocol.{has_place}
-use Rattle.mk_protocol.proofs.Known.{holds_turn, known_left}
+use Rattle.mk_laws.proofs.LayoutHolders.{none_on_its_way}
+use Rattle.mk_laws.proofs.FreshWords.{fresh_pushed}
+use Rattle.mk_laws.specs.Protocol.{has_place}
+use Rattle.mk_laws.proofs.Known.{holds_turn, known_left}
 use Rattle.mk_words.specs.States.{PassState, call_of, now_of, world_of}
 use Rattle.mk_words.specs.TurnSteps.{turn_stays}
 use Rattle.mk_turns.specs.Doing.{Does}
 use Rattle.mk_cycle.specs.EngineLaw.{is_pending_free_at}
-use Rattle.mk_cycle.specs.TurnKeeps.{InTurn, KeepsGates, KeepsTurn, IsGone, whole}
+use Rattle.mk_cycle.specs.TurnKeeps.{InTurn, KeepsGates, LeavesTurn, IsGone, unchanged}
 use Rattle.mk_cycle.proofs.KeptInParts.{same_config}
 use Rattle.mk_objects.specs.Placing.{IsPlaced, IsUnplaced, OnlyLooks, is_look, is_placing, object_at_place}
 use Rattle.mk_objects.specs.Unchanged.{IsAsLeft}
 use Rattle.mk_objects.proofs.JoinedLooks.{does_wider, looks_call, looks_left}
-use Rattle.mk_alloc.specs.Underway.{GoesOn, IsQuiet}
+use Rattle.mk_alloc.specs.Underway.{TurnGoesOn, IsQuiet}
 use Rattle.mk_alloc.proofs.Parts.{seen_behind}
 use Rattle.mk_alloc.proofs.PlacingStretches.{LeavesBeside, leaves_beside}
 use Rattle.mk_alloc.proofs.QuietTurns.{none_held_kept, quiet_kept, same_phase}
@@ -94,7 +94,7 @@ module _ (p q : PassState) (t : InTurn p) (u : IsUnplaced p) (quiet : IsQuiet p)
   d : Does is_placing p q
   d = does_wider is_look is_placing looks_place p q looks.does
 
-  kept : KeepsTurn whole p q
+  kept : LeavesTurn unchanged p q
   kept =
       let l : IsAsLeft p.seat (world_of p) (world_of q) = looks_left p q looks in
       record {
@@ -108,7 +108,7 @@ module _ (p q : PassState) (t : InTurn p) (u : IsUnplaced p) (quiet : IsQuiet p)
         counts = counts_beside p q t d history;
       }
 
-  pub looked_beside : GoesOn None p q
+  pub looked_beside : TurnGoesOn None p q
   looked_beside =
       record {
         does = does_wider is_look turn_stays look_stays p q looks.does;
@@ -197,7 +197,7 @@ module _ (p q : PassState) (t : InTurn p) (u : IsUnplaced p) (quiet : IsQuiet p)
         };
       }
 
-  pub placed_on : GoesOn (Some answer.Done) p q
+  pub placed_on : TurnGoesOn (Some answer.Done) p q
   placed_on =
       record {
         does = does_wider is_placing turn_stays placing_stays p q placed.granted.does;

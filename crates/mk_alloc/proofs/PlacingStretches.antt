@@ -25,10 +25,10 @@ use Rattle.mk_core.specs.History.{World, call_decided, calls, first_world, left}
 use Rattle.mk_core.specs.Moments.{Moment, flight_of, is_held}
 use Rattle.mk_core.specs.NewPlaces.{target}
 use Rattle.mk_core.proofs.Histories.{calls_more}
-use Rattle.mk_protocol.proofs.Frames.{left_after}
-use Rattle.mk_protocol.proofs.OrderlyLists.{actor_of}
-use Rattle.mk_protocol.proofs.OthersCounts.{answers_full, counts_nothing, entry_fulls, fulls_append, fulls_of}
-use Rattle.mk_protocol.proofs.SameWords.{Behind, tally_keeps}
+use Rattle.mk_laws.proofs.ProtocolFrames.{left_after}
+use Rattle.mk_laws.proofs.OrderlyLists.{actor_of}
+use Rattle.mk_laws.proofs.OthersCounts.{answers_full, counts_nothing, entry_fulls, fulls_append, fulls_of}
+use Rattle.mk_laws.proofs.SameWords.{Behind, tally_keeps}
 use Rattle.mk_words.specs.Seats.{Has}
 use Rattle.mk_words.specs.States.{PassState, event_of}
 use Rattle.mk_objects.specs.Placing.{is_placing}

@@ -16,9 +16,9 @@ use Rattle.mk_core.specs.NewPlaces.{is_run_gone}
 use Rattle.mk_core.specs.TurnConditions.{is_decided, held_by_pages}
 use Rattle.mk_core.specs.Words.{phase_of}
 use Rattle.mk_core.proofs.AllBelow.{all_below-at}
-use Rattle.mk_layout.specs.SettledPages.{IsSettled}
-use Rattle.mk_layout.proofs.Settled.{gone_is_unmapped}
-use Rattle.mk_protocol.specs.Protocol.{has_place}
+use Rattle.mk_laws.specs.SettledPages.{IsSettled}
+use Rattle.mk_laws.proofs.Settled.{gone_is_unmapped}
+use Rattle.mk_laws.specs.Protocol.{has_place}
 use Rattle.mk_words.specs.States.{PassState, call_of, now_of, world_of}
 use Rattle.mk_words.specs.Steps.{IsEnabledTo}
 use Rattle.mk_words.specs.TurnSteps.{Acts}
@@ -27,7 +27,7 @@ use Rattle.mk_turns.proofs.Doing.{does_step}
 use Rattle.mk_cycle.specs.BeginCycle.{BeginsCycle}
 use Rattle.mk_cycle.specs.EngineLaw.{IsFreeForCycle, is_pending_free}
 use Rattle.mk_cycle.specs.FinishCycle.{FinishesCycle}
-use Rattle.mk_cycle.specs.TurnKeeps.{Done, InTurn, KeepsGates, KeepsTurn, whole}
+use Rattle.mk_cycle.specs.TurnKeeps.{Done, InTurn, KeepsGates, LeavesTurn, unchanged}
 use Rattle.mk_cycle.proofs.Allowed.{look_allowed, protocol}
 use Rattle.mk_cycle.proofs.BeginSteps.{all_from}
 use Rattle.mk_cycle.proofs.CleaningSteps.{calm_keeps}
@@ -48,7 +48,7 @@ pub looked : (p q : PassState) → InTurn p → IsFreeForCycle p → IsHistory q
 looked p q t free history a =
     record {
       does = does_step is_look p q (step.Look word.Phase) t.own a.makes refl;
-      keeps = calm_keeps p (step.Look word.Phase) q a t history refl free whole refl;
+      keeps = calm_keeps p (step.Look word.Phase) q a t history refl free unchanged refl;
       gates = gates_behind p (step.Look word.Phase) q a refl;
     }
 
@@ -103,7 +103,7 @@ same_phase p q e (inr one) = inr (e ∙ one)
 
 -- So a turn stays quiet
 
-pub quiet_kept : (p q : PassState) → IsQuiet p → KeepsTurn whole p q → KeepsGates p q → IsQuiet q
+pub quiet_kept : (p q : PassState) → IsQuiet p → LeavesTurn unchanged p q → KeepsGates p q → IsQuiet q
 quiet_kept p q quiet k gates =
     record {
       free = free_then p q k.call quiet.free;

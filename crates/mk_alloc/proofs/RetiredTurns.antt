@@ -20,7 +20,7 @@ use Rattle.mk_core.specs.Cycles.{TurnOf, is_begin, is_end}
 use Rattle.mk_core.specs.History.{IsHistory}
 use Rattle.mk_core.specs.Moments.{none_is_held}
 use Rattle.mk_core.specs.Words.{phase_of}
-use Rattle.mk_protocol.specs.Protocol.{has_place}
+use Rattle.mk_laws.specs.Protocol.{has_place}
 use Rattle.mk_words.specs.Seats.{Has}
 use Rattle.mk_words.specs.States.{PassState, call_of, now_of}
 use Rattle.mk_words.specs.Steps.{Makes}
@@ -36,7 +36,7 @@ use Rattle.mk_objects.proofs.JoinedLooks.{does_wider}
 use Rattle.mk_waiting.specs.Taking.{TakesTurn}
 use Rattle.mk_alloc.specs.DueCycles.{RunsIfDue}
 use Rattle.mk_alloc.specs.TurnCycles.{FreeIsExact, FreesFirst, IsDueIn, finishes, is_of_cycle, within_turn}
-use Rattle.mk_alloc.specs.Underway.{GoesOn}
+use Rattle.mk_alloc.specs.Underway.{TurnGoesOn}
 use Rattle.mk_alloc.proofs.CalledTurns.{phase_taken, taken_same, turn_of, within_is}
 use Rattle.mk_alloc.proofs.CycleParts.{begins_held, finishes_held}
 use Rattle.mk_alloc.proofs.DueParts.{RunIn, at_behind, ends_before, run_in}
@@ -69,7 +69,7 @@ module _ (taken : PassState) (r : ℕ) (fresh : IsFresh taken (Some (op.Free r))
     (tidy : TalliesAreTidy taken.table.config taken.seen) where
   pub decided_on : (kinds : Step → Bool) (a : Answer) (q : PassState)
       → ((x : Step) → kinds x ≡ true → is_freeing x ≡ true)
-      → DecidesFree kinds a taken q → GoesOn (Some a) taken q
+      → DecidesFree kinds a taken q → TurnGoesOn (Some a) taken q
   decided_on kinds a q within d =
       record {
         does = does_wider kinds turn_stays (λ x h. freeing_in_turn x (within x h)) taken q d.does;
@@ -95,12 +95,12 @@ module _ (taken : PassState) (r : ℕ) (fresh : IsFresh taken (Some (op.Free r))
       }
 
 -- After a Free that is decided a cycle runs, if it is due.
-pub run_or_rest : (flag due : Bool) (a : Answer) (taken p q : PassState) → GoesOn (Some a) taken p → InTurn p
+pub run_or_rest : (flag due : Bool) (a : Answer) (taken p q : PassState) → TurnGoesOn (Some a) taken p → InTurn p
     → IsCallers p
-    → RunsIfDue flag due p q → IsHistory q.table.config q.seen → GoesOn (Some a) taken q
+    → RunsIfDue flag due p q → IsHistory q.table.config q.seen → TurnGoesOn (Some a) taken q
 run_or_rest flag due a taken p q x t seat run history = elim (cases_Bool due) [
   | inl runs ↦ then_on a taken p q x (run_in flag p q t seat x.quiet (run.runs runs) history).goes
-  | inr rests ↦ subst (λ (y : PassState). GoesOn (Some a) taken y) (sym (run.rests rests)) x
+  | inr rests ↦ subst (λ (y : PassState). TurnGoesOn (Some a) taken y) (sym (run.rests rests)) x
 ]
 
 freeing_no_begin : AreApart is_freeing is_begin
@@ -115,7 +115,7 @@ run_list a b d e x =
 
 module _ (p taken decided done q : PassState) (r : ℕ) (a : Answer) (seat : IsCallers p) (own : Has p.seats p.seat)
     (takes : TakesTurn p (Some (op.Free r)) taken) (fresh : IsFresh taken (Some (op.Free r))) (t : InTurn taken)
-    (on : GoesOn (Some a) taken done) (gives : Makes done step.Give q) (rests : call_of q ≡ at_rest)
+    (on : TurnGoesOn (Some a) taken done) (gives : Makes done step.Give q) (rests : call_of q ≡ at_rest)
     (history : IsHistory q.table.config q.seen) (t_done : InTurn done) where
   abbrev c : Config
   c = p.table.config

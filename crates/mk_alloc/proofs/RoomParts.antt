@@ -18,7 +18,7 @@ use Rattle.mk_turns.specs.Doing.{Does}
 use Rattle.mk_turns.proofs.Doing.{does_then, does_step}
 use Rattle.mk_cycle.specs.BeginCycle.{BeginsCycle}
 use Rattle.mk_cycle.specs.FinishCycle.{FinishesCycle}
-use Rattle.mk_cycle.specs.Kinds.{begins_marking, clears, closes_marks, gives_back, holds_gates, sets_tallies}
+use Rattle.mk_cycle.specs.Kinds.{begins_marking, clears, closes_marks, is_giving_back, holds_gates, sets_tallies}
 use Rattle.mk_cycle.specs.TurnKeeps.{InTurn}
 use Rattle.mk_cycle.specs.EngineLaw.{is_pending_free}
 use Rattle.mk_objects.specs.Placing.{is_look, is_placing}
@@ -135,7 +135,7 @@ closes_none (step.Black p v) h = refl
 closes_none (step.Unblack p) h = refl
 closes_none _ h = cc
 
-gives_no_room : AreApart gives_back asks_room
+gives_no_room : AreApart is_giving_back asks_room
 gives_no_room step.Begin h = cc
 gives_no_room step.Want h = cc
 gives_no_room _ h = refl
@@ -187,7 +187,8 @@ module _ (o : Object) (p q : PassState) (t : InTurn p) (seat : IsCallers p) (fre
       (seen_made r.closing r.closed step.Close r.close)
       (seen_then r.closed.seen m.released.seen q.seen (r.release.others ++ event_of r.closed step.Release ∷ []) _
       (seen_made r.closed m.released step.Release r.release)
-      (seen_then m.released.seen m.freed.seen q.seen m.frees.more _ (seen_behind gives_back m.released m.freed m.frees)
+      (seen_then m.released.seen m.freed.seen q.seen m.frees.more _
+      (seen_behind is_giving_back m.released m.freed m.frees)
       (seen_then m.freed.seen m.ended.seen q.seen (m.end.others ++ event_of m.freed step.End ∷ []) m.behind.more
       (seen_made m.freed m.ended step.End m.end) (seen_behind sets_tallies m.ended q m.behind)))) in
       let lacks_rest : Lacks asks_room rest =
@@ -200,7 +201,7 @@ module _ (o : Object) (p q : PassState) (t : InTurn p) (seat : IsCallers p) (fre
       (others_lack asks_room r.closed m.released step.Release rooms_held (t_closed p q t.own law t history) r.release
       (h_released p q t.own law history)) refl)
       (lacks_append asks_room m.frees.more _
-      (part_lacks gives_back asks_room m.released m.freed (of_turn gives_back gives_of) rooms_held gives_no_room
+      (part_lacks is_giving_back asks_room m.released m.freed (of_turn is_giving_back gives_of) rooms_held gives_no_room
       (t_released p q t.own law t history) m.frees (h_freed p q t.own law history))
       (lacks_append asks_room (m.end.others ++ event_of m.freed step.End ∷ []) m.behind.more
       (lacks_append asks_room m.end.others (event_of m.freed step.End ∷ [])

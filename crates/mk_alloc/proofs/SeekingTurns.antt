@@ -32,7 +32,7 @@ use Rattle.mk_caller.proofs.OneStep.{own_seat}
 use Rattle.mk_alloc.specs.Leaving.{OwnLeaveAllButReleased}
 use Rattle.mk_alloc.specs.Rooms.{AsksRoom, GrantsNone, Misfits, MisfitsIdly, Seeks}
 use Rattle.mk_alloc.specs.TurnCycles.{is_grant, lets_go}
-use Rattle.mk_alloc.specs.Underway.{GoesOn, IsQuiet, Looks}
+use Rattle.mk_alloc.specs.Underway.{TurnGoesOn, IsQuiet, Looks}
 use Rattle.mk_alloc.proofs.CalmStretches.{cycles_in_turn, is_of_cycles}
 use Rattle.mk_alloc.proofs.CycleParts.{begin_does, finish_does}
 use Rattle.mk_alloc.proofs.FullLeaves.{cycles_leave, leaves_then}
@@ -54,7 +54,7 @@ new_callers p u =
     let x = acting_caller p (new_is_acting (call_of p) u.new) in
     own_seat p x.number x.is
 
-same_object : (a : Option Answer) (p q : PassState) → GoesOn a p q → object_for q ≡ object_for p
+same_object : (a : Option Answer) (p q : PassState) → TurnGoesOn a p q → object_for q ≡ object_for p
 same_object a p q on =
     ap (λ (x : PassState). object_made x.table.config (call_of q).op) on.does.is
     ∙ ap (λ (o : Op). object_made p.table.config o) on.op

@@ -10,9 +10,9 @@ use Rattle.mk_core.specs.declared.events.Step.TheVariants as step
 use Rattle.mk_core.specs.History.{left}
 use Rattle.mk_core.specs.Moments.{Moment}
 use Rattle.mk_core.specs.Order.{group_of, is_of_turn}
-use Rattle.mk_protocol.proofs.Actors.{Actor, AsHolder, AsMarker, CallTakes, HostTakes, InCallOf, is_holders}
-use Rattle.mk_protocol.proofs.OrderlyLists.{actor_of}
-use Rattle.mk_protocol.proofs.Views.{HoldsTurn, view_of}
+use Rattle.mk_laws.proofs.Actors.{Actor, AsHolder, AsMarker, CallTakes, HostTakes, InCallOf, is_holders}
+use Rattle.mk_laws.proofs.OrderlyLists.{actor_of}
+use Rattle.mk_laws.proofs.Views.{HoldsTurn, view_of}
 use Rattle.mk_words.specs.Seats.{Has}
 use Rattle.mk_words.specs.States.{PassState, event_of}
 use Rattle.mk_alloc.proofs.ListParts.{Lacks, SomeKind, lacks_append, lacks_one}

@@ -15,12 +15,12 @@ use Rattle.mk_core.specs.History.{IsHistory, World, left, world_behind}
 use Rattle.mk_core.specs.Moments.{Moment, flight_of}
 use Rattle.mk_core.specs.Readings.{Holds}
 use Rattle.mk_core.proofs.HistoryParts.{earlier_part_is_history}
-use Rattle.mk_frames.proofs.LastEvents.{comes_last}
-use Rattle.mk_protocol.proofs.Actors.{Meets}
-use Rattle.mk_protocol.proofs.Frames.{left_after}
-use Rattle.mk_protocol.proofs.Known.{Known, holds_turn, known_left}
-use Rattle.mk_protocol.proofs.Orderly.{same_holder}
-use Rattle.mk_protocol.proofs.Views.{HoldsTurn, view_of}
+use Rattle.mk_laws.proofs.LastEvents.{comes_last}
+use Rattle.mk_laws.proofs.Actors.{Meets}
+use Rattle.mk_laws.proofs.ProtocolFrames.{left_after}
+use Rattle.mk_laws.proofs.Known.{Known, holds_turn, known_left}
+use Rattle.mk_laws.proofs.Orderly.{same_holder}
+use Rattle.mk_laws.proofs.Views.{HoldsTurn, view_of}
 use Rattle.mk_words.specs.Seats.{Has}
 use Rattle.mk_words.specs.States.{PassState, event_of, now_of}
 use Rattle.mk_words.specs.Steps.{Makes}

@@ -16,14 +16,14 @@ use Rattle.mk_core.specs.Moments.{Moment, flight_of}
 use Rattle.mk_core.specs.Order.{comes_next}
 use Rattle.mk_core.specs.Words.{phase_of}
 use Rattle.mk_core.proofs.Conditions.{meets_enabled}
-use Rattle.mk_protocol.proofs.Asked.{give_phase}
+use Rattle.mk_laws.proofs.Asked.{give_phase}
 use Rattle.mk_words.specs.Seats.{CallersAreBeforeOver, Has}
 use Rattle.mk_words.specs.States.{PassState, now_of}
 use Rattle.mk_words.specs.Steps.{IsEnabledTo}
 use Rattle.mk_words.specs.TurnSteps.{IsFresh}
 use Rattle.mk_words.proofs.OverPhases.{end_is_behind_over}
 use Rattle.mk_words.proofs.Seats.{only_one}
-use Rattle.mk_caller.specs.States.{IsIdleCaller, number_of}
+use Rattle.mk_caller.specs.States.{IsIdleCaller, caller_of_pass}
 use Rattle.mk_caller.proofs.OneStep.{own_seat}
 use Rattle.mk_waiting.specs.Taking.{TakesTurn}
 use Rattle.mk_objects.specs.Placing.{IsOutOfStop}
@@ -49,13 +49,14 @@ take_for c m k o lt rest under operands =
       holder = refl;
     })
 
-pub take_allowed : (p : PassState) (o : Op) → IsIdleCaller p → number_of p < p.table.config.callers → is_under_turn o
+pub take_allowed : (p : PassState) (o : Op) → IsIdleCaller p → caller_of_pass p < p.table.config.callers
+    → is_under_turn o
     ≡ true
     → has_operands p.table.config o ≡ true → IsEnabledTo p (step.Take (Some o))
 take_allowed p o idle lt under operands =
     subst (λ (s : Seat). IsEnabled p.table.config (now_of p) (record { seat = s; step = step.Take (Some o) }))
     (sym (callers p idle))
-    (take_for p.table.config (now_of p) (number_of p) o lt
+    (take_for p.table.config (now_of p) (caller_of_pass p) o lt
     (subst (λ (s : Seat). flight_of (now_of p) s ≡ at_rest) (callers p idle) idle.rest) under operands)
 
 at_most_one : (n : ℕ) → n ≤ 1 → (n ≡ 0) ⊎ (n ≡ 1)
@@ -64,7 +65,7 @@ at_most_one (suc zero) le = inr refl
 at_most_one (suc (suc n)) le = absurd (omega arith)
 
 -- Whose only seat is a caller's has seen no `over`.
-pub taken_phase : (p q : PassState) (o : Op) → IsCallers p → number_of p < p.table.config.callers → p.seats
+pub taken_phase : (p q : PassState) (o : Op) → IsCallers p → caller_of_pass p < p.table.config.callers → p.seats
     ≡ p.seat ∷ []
     → Has p.seats p.seat → TakesTurn p (Some o) q → IsFresh q (Some o) → IsHistory q.table.config q.seen
     → CallersAreBeforeOver q.table.config q.seats q.seen → IsOutOfStop (now_of q)
@@ -77,19 +78,19 @@ taken_phase p q o seat lt alone own takes fresh history before =
     same : q ≡ record p { seen = q.seen }
     same = taken_same p q o seat own takes
 
-    one_seat : p.seats ≡ Caller (number_of p) ∷ []
+    one_seat : p.seats ≡ Caller (caller_of_pass p) ∷ []
     one_seat = alone ∙ ap (λ (s : Seat). s ∷ []) seat
 
     has_host : phase_of (now_of q).words ≡ 5 → Has p.seats Host
     has_host five =
         subst (λ (x : PassState). Has x.seats Host) same
-        (before (number_of p) (subst (λ (x : PassState). number_of p < x.table.config.callers) (sym same) lt)
-        (subst (λ (x : PassState). Has x.seats (Caller (number_of p))) (sym same)
+        (before (caller_of_pass p) (subst (λ (x : PassState). caller_of_pass p < x.table.config.callers) (sym same) lt)
+        (subst (λ (x : PassState). Has x.seats (Caller (caller_of_pass p))) (sym same)
         (subst (λ (s : Seat). Has p.seats s) seat own))
         (end_is_behind_over q.table.config q.seen history five))
 
     not_host : Has p.seats Host → ⊥
     not_host has =
-        let e : Host ≡ Caller (number_of p) = only_one (Caller (number_of p)) Host
+        let e : Host ≡ Caller (caller_of_pass p) = only_one (Caller (caller_of_pass p)) Host
         (subst (λ (l : _). Has l Host) one_seat has) in
         cc

@@ -13,7 +13,7 @@ use Rattle.mk_cycle.specs.EngineLaw.{IsAtPhase}
 use Rattle.mk_objects.specs.Placing.{IsUnplaced, object_for, place_now_for}
 use Rattle.mk_alloc.specs.Leaving.{OwnLeaveAllButReleased}
 use Rattle.mk_alloc.specs.TurnCycles.{HasNoPlace, RunsOneCycle, has_step, is_grant, is_want, lets_go}
-use Rattle.mk_alloc.specs.Underway.{GoesOn}
+use Rattle.mk_alloc.specs.Underway.{TurnGoesOn}
 
 -- the steps that begin a cycle, or its end
 abbrev pub asks_room : Step → Bool
@@ -57,7 +57,7 @@ pub record RunsOne (p q : PassState) : Type 0 where
 -- The turn of a New went on, and asked for room so. Until it is answered it is granted nothing and leaves all but what
 -- is released, and then it lets nothing go.
 pub record Seeks (a : Option Answer) (p q : PassState) : Type 0 where
-  pub on : GoesOn a p q
+  pub on : TurnGoesOn a p q
   pub room : AsksRoom (object_for p) p q
   pub none : a ≡ None → GrantsNone p q
   pub leaves : a ≡ None → OwnLeaveAllButReleased p q

@@ -14,7 +14,7 @@ use Rattle.mk_geom.specs.declared.pages.Census.{Census}
 use Rattle.mk_words.specs.States.{PassState, world_of, call_of, event_of}
 use Rattle.mk_words.specs.Steps.{Makes}
 use Rattle.mk_words.specs.TurnSteps.{turn_stays}
-use Rattle.mk_caller.specs.States.{number_of}
+use Rattle.mk_caller.specs.States.{caller_of_pass}
 use Rattle.mk_caller.specs.Called.{own_calls, IsDecidedIn}
 use Rattle.mk_turns.specs.Doing.{Does}
 use Rattle.mk_waiting.specs.Taking.{TakesTurn}
@@ -33,7 +33,7 @@ pub record CalledInTurn (on : Bool) (p : PassState) (o : Op) (a : Answer) (q : P
   pub gives : Makes done step.Give q
   pub more : List Event
   pub is : q ≡ record p { seen = p.seen ++ more }
-  pub entry : own_calls p (p.seen ++ more) ≡ own_calls p p.seen ++ entry_of (number_of p) o (Some a)
+  pub entry : own_calls p (p.seen ++ more) ≡ own_calls p p.seen ++ entry_of (caller_of_pass p) o (Some a)
   pub decided : IsDecidedIn p (flagged o a) a more
   pub ends : EndsExactly on p.table.config p.seat (done.seen ++ gives.others)
   pub turn_op : ends.turn.op ≡ Some o

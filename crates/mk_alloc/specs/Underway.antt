@@ -8,11 +8,11 @@ use Rattle.mk_core.specs.Decided.{entry_of}
 use Rattle.mk_core.specs.Moments.{none_is_held}
 use Rattle.mk_words.specs.States.{PassState, call_of, now_of}
 use Rattle.mk_words.specs.TurnSteps.{IsFresh, turn_stays}
-use Rattle.mk_caller.specs.States.{number_of}
+use Rattle.mk_caller.specs.States.{caller_of_pass}
 use Rattle.mk_caller.specs.Called.{own_calls}
 use Rattle.mk_turns.specs.Doing.{Does}
 use Rattle.mk_cycle.specs.EngineLaw.{IsFreeForCycle}
-use Rattle.mk_cycle.specs.TurnKeeps.{KeepsGates, KeepsTurn, whole}
+use Rattle.mk_cycle.specs.TurnKeeps.{KeepsGates, LeavesTurn, unchanged}
 use Rattle.mk_objects.specs.Placing.{IsOutOfStop, is_look}
 
 -- Nothing is under way that a cycle or a `give` waits for, and the tallies are what they count.
@@ -31,10 +31,10 @@ pub record BeginsTurn (o : Op) (p : PassState) : Type 0 where
   pub tidy : TalliesAreTidy p.table.config p.seen
 
 -- From one to the other the turn went on, and is quiet. Its call was answered so, or not yet.
-pub record GoesOn (a : Option Answer) (p q : PassState) : Type 0 where
+pub record TurnGoesOn (a : Option Answer) (p q : PassState) : Type 0 where
   pub does : Does turn_stays p q
   pub quiet : IsQuiet q
-  pub entry : own_calls p q.seen ≡ own_calls p p.seen ++ entry_of (number_of p) (call_of p).op a
+  pub entry : own_calls p q.seen ≡ own_calls p p.seen ++ entry_of (caller_of_pass p) (call_of p).op a
   pub op : (call_of q).op ≡ (call_of p).op
   pub decided : is_some a ≡ true → (call_of q).stage ≡ stage.Give
   pub undecided : a ≡ None → call_of q ≡ call_of p
@@ -42,5 +42,5 @@ pub record GoesOn (a : Option Answer) (p q : PassState) : Type 0 where
 -- The holder looked, and all is as it was.
 pub record Looks (p q : PassState) : Type 0 where
   pub does : Does is_look p q
-  pub keeps : KeepsTurn whole p q
+  pub keeps : LeavesTurn unchanged p q
   pub gates : KeepsGates p q

@@ -1,7 +1,7 @@
 //! Freeing objects.
 ghost use Rattle.std.specs.Prelude.{◌≡◌, ◌<◌, ◌∷◌, [], IfOk, OnErr, true, false, length};
 ghost use Rattle.mk_never.specs.Admitted.{IsBase};
-ghost use Rattle.mk_caller.specs.States.{number_of, value_of};
+ghost use Rattle.mk_caller.specs.States.{caller_of_pass, value_of};
 ghost use Rattle.mk_turns.specs.Sweeping.{SweepsNothing};
 ghost use Rattle.mk_cycle.specs.Begun.{EachIsBegun};
 ghost use Rattle.mk_alloc.specs.TurnCalls.{FreesObject, IsAnsweredDouble};
@@ -25,7 +25,7 @@ pub fn free_object<E: Engine, R: Threads + Wait + Sync>(
     p: u8,
 ) -> Result<Freed, Double>
     requires home { caller.old.home ≡ true }
-    requires exists { number_of caller.old.pass < caller.old.pass.table.config.callers }
+    requires exists { caller_of_pass caller.old.pass < caller.old.pass.table.config.callers }
     requires alone { caller.old.pass.seats ≡ caller.old.pass.seat ∷ [] }
     requires register { p < 8 }
     requires base { IsBase (value_of caller.old.pass p) }

@@ -2,7 +2,7 @@
 ghost use Rattle.std.specs.Prelude.{◌≡◌, ◌<◌, ◌∷◌, [], OnOk, IfErr, true, false, length};
 ghost use Rattle.mk_never.specs.declared.operations.Op.TheVariants as op;
 ghost use Rattle.mk_core.specs.declared.events.Answer.TheVariants as answer;
-ghost use Rattle.mk_caller.specs.States.{number_of};
+ghost use Rattle.mk_caller.specs.States.{caller_of_pass};
 ghost use Rattle.mk_turns.specs.Sweeping.{SweepsNothing};
 ghost use Rattle.mk_cycle.specs.Begun.{EachIsBegun};
 ghost use Rattle.mk_alloc.specs.TurnCalls.{CalledInTurn, IsAnsweredFull};
@@ -35,7 +35,7 @@ pub fn new_object<E: Engine, R: Threads + Wait + Sync>(
     ty: u64,
 ) -> Result<(), Full>
     requires home { caller.old.home ≡ true }
-    requires exists { number_of caller.old.pass < caller.old.pass.table.config.callers }
+    requires exists { caller_of_pass caller.old.pass < caller.old.pass.table.config.callers }
     requires alone { caller.old.pass.seats ≡ caller.old.pass.seat ∷ [] }
     requires register { d < 8 }
     requires ty { ty < length caller.old.pass.table.config.types }

@@ -7,7 +7,7 @@ ghost use Rattle.mk_core.specs.History.{IsHistory};
 ghost use Rattle.mk_core.specs.Words.{phase_of};
 ghost use Rattle.mk_words.specs.States.{call_of, now_of};
 ghost use Rattle.mk_words.specs.Steps.{Makes};
-ghost use Rattle.mk_caller.specs.States.{IsIdleCaller, number_of};
+ghost use Rattle.mk_caller.specs.States.{IsIdleCaller, caller_of_pass};
 ghost use Rattle.mk_waiting.specs.Taking.{TakesTurn};
 ghost use Rattle.mk_alloc.specs.Underway.{BeginsTurn, IsQuiet, Looks};
 
@@ -22,7 +22,7 @@ use std::sync::Wait;
 pub(crate) fn take<R: Wait>(rt: &R, words: &Words, home: Pass, op: Op) -> Turn
     requires one_table { home.table ≡ words.now }
     requires idle { IsIdleCaller home }
-    requires exists { number_of home < home.table.config.callers }
+    requires exists { caller_of_pass home < home.table.config.callers }
     requires alone { home.seats ≡ home.seat ∷ [] }
     requires under_turn { is_under_turn op ≡ true }
     requires operands { has_operands home.table.config op ≡ true }

@@ -14,11 +14,11 @@ use Rattle.mk_words.specs.Seats.{CallersAreBeforeOver, Has}
 use Rattle.mk_words.specs.States.{PassState, call_of}
 use Rattle.mk_words.specs.Steps.{Finds, IsEnabledTo, Makes}
 use Rattle.mk_words.specs.TurnSteps.{IsFresh}
-use Rattle.mk_caller.specs.States.{IsIdleCaller, number_of}
+use Rattle.mk_caller.specs.States.{IsIdleCaller, caller_of_pass}
 use Rattle.mk_cycle.specs.TurnKeeps.{InTurn}
 use Rattle.mk_objects.specs.Placing.{IsPlaced}
 use Rattle.mk_alloc.specs.TurnCalls.{CalledInTurn}
-use Rattle.mk_alloc.specs.Underway.{BeginsTurn, GoesOn}
+use Rattle.mk_alloc.specs.Underway.{BeginsTurn, TurnGoesOn}
 use Rattle.mk_alloc.proofs.NewTurns.{begun_quiet, begun_unplaced, new_called, operands_of}
 use Rattle.mk_alloc.proofs.OneCycles.{none_runs_one, placed_begins_none}
 use Rattle.mk_alloc.proofs.PlacedTurns.{placed_on}
@@ -28,7 +28,8 @@ use Rattle.mk_alloc_clients.specs.Owned.{HasNumber}
 use Rattle.mk_alloc_clients.proofs.MadeNumbers.{taken_at_once, type_exists}
 use Rattle.mk_alloc_clients.proofs.OwnedCalls.{granted}
 
-module _ (p : PassState) (d ty : ℕ) (idle : IsIdleCaller p) (exists : number_of p < p.table.config.callers) (lt : d < 8)
+module _ (p : PassState) (d ty : ℕ) (idle : IsIdleCaller p) (exists : caller_of_pass p < p.table.config.callers)
+    (lt : d < 8)
     (kinds : kinds_of p.table.config.types ty ≡ Number ∷ []) where
   abbrev pub o : Op
   o = op.New d ty false
@@ -56,7 +57,7 @@ module _ (p : PassState) (d ty : ℕ) (idle : IsIdleCaller p) (exists : number_o
 
     -- Where its object was placed the turn may be given back,
     pub goes_on : (done : PassState) → InTurn taken → IsPlaced taken done → IsHistory done.table.config done.seen
-        → GoesOn (Some answer.Done) taken done
+        → TurnGoesOn (Some answer.Done) taken done
     goes_on done t placed h =
         placed_on taken done t (begun_unplaced taken d ty false begins) (begun_quiet taken d ty false begins) placed h
 

@@ -22,10 +22,10 @@ use Rattle.mk_core.specs.History.{IsHistory, bases_of, call_decided, calls, call
 use Rattle.mk_core.specs.Image.{answer_of}
 use Rattle.mk_core.proofs.Histories.{calls_more}
 use Rattle.mk_core.proofs.HistoryParts.{admitted_in_parts, calls_in_parts, earlier_part_is_history, never_in_parts}
-use Rattle.mk_frames.proofs.LastEvents.{comes_last, stands}
+use Rattle.mk_laws.proofs.LastEvents.{comes_last, stands}
 use Rattle.mk_words.specs.declared.call_steps.Held.{Held}
 use Rattle.mk_words.specs.States.{PassState, event_of}
-use Rattle.mk_caller.specs.States.{Admits, never_of, never_then, number_of}
+use Rattle.mk_caller.specs.States.{Admits, never_of, never_then, caller_of_pass}
 use Rattle.mk_caller.specs.Called.{Called, IsDecidedIn, own_calls}
 use Rattle.mk_caller.specs.declared.refusals.Refusal.TheVariants.{Fault, Null}
 use Rattle.mk_caller.specs.Causes.{FindsGateHeld, IsRefused}
@@ -66,16 +66,16 @@ only_one a (b ∷ z) y e h = let lengths = ap length h in absurd (grind (arith, 
 module _ (p : PassState) (o : Op) (a : Answer) (more : List Event) (once : flagged o a ≡ o)
     (history : IsHistory p.table.config (p.seen ++ more))
     (entry : own_calls p (p.seen ++ more)
-    ≡ own_calls p p.seen ++ record { caller = number_of p; op = o; answer = a } ∷ [])
+    ≡ own_calls p p.seen ++ record { caller = caller_of_pass p; op = o; answer = a } ∷ [])
     (decided : IsDecidedIn p o a more) where
   abbrev c : Config
   c = p.table.config
 
   abbrev k : ℕ
-  k = number_of p
+  k = caller_of_pass p
 
   abbrev x : Decided
-  x = record { caller = number_of p; op = o; answer = a }
+  x = record { caller = caller_of_pass p; op = o; answer = a }
 
   abbrev before : List Event
   before = p.seen ++ decided.before
@@ -184,10 +184,10 @@ module _ {p q : PassState} {a : Answer} (d : ℕ) (owns : OwnsNumber p d) (h : I
         done =
             c.decided.reply
             ∙ ap (λ (r : Reply). answer_of (bases c) r)
-            (store_replies (never_then p c.decided.before) (number_of p) d n there.owns);
+            (store_replies (never_then p c.decided.before) (caller_of_pass p) d n there.owns);
         has = subst (λ (r : PassState). HasNumber r d n) (sym c.is)
             (number_left p o a c.more refl (seen_history c) c.entry c.decided d n
-            (store_leaves (never_then p c.decided.before) (number_of p) d n there.owns));
+            (store_leaves (never_then p c.decided.before) (caller_of_pass p) d n there.owns));
       }
 
   pub loaded : Called p (op.GetNum d 0) a q → IsLoaded a q d (number_owned p d)
@@ -199,7 +199,7 @@ module _ {p q : PassState} {a : Answer} (d : ℕ) (owns : OwnsNumber p d) (h : I
         tells =
             c.decided.reply
             ∙ ap (λ (r : Reply). answer_of (bases c) r)
-            (load_replies (never_then p c.decided.before) (number_of p) d there.owns)
+            (load_replies (never_then p c.decided.before) (caller_of_pass p) d there.owns)
             ∙ ap answer.Num there.same;
         has = subst (λ (r : PassState). HasNumber r d (number_owned p d)) (sym c.is)
             (number_left p o a c.more refl (seen_history c) c.entry c.decided d (number_owned p d)
@@ -235,17 +235,18 @@ held_keeps {p} {q} {o} d owns h f =
     ∙ ap (λ (l : List Event). record p { seen = l })
     (append_assoc p.seen f.finds.makes.others (event_of p (step.Enter o) ∷ [])) in
     let whole : IsHistory c (p.seen ++ more) = subst (λ (r : PassState). IsHistory r.table.config r.seen) is h in
-    let none : calls_by (number_of p) (calls_from c (left c p.seen) more) ≡ [] =
-    same_last (own_calls p p.seen) (calls_by (number_of p) (calls_from c (left c p.seen) more)) []
-    (sym (by_append (number_of p) (calls c p.seen) (calls_from c (left c p.seen) more))
-    ∙ ap (λ (l : List Decided). calls_by (number_of p) l) (sym (calls_in_parts c p.seen more))
+    let none : calls_by (caller_of_pass p) (calls_from c (left c p.seen) more) ≡ [] =
+    same_last (own_calls p p.seen) (calls_by (caller_of_pass p) (calls_from c (left c p.seen) more)) []
+    (sym (by_append (caller_of_pass p) (calls c p.seen) (calls_from c (left c p.seen) more))
+    ∙ ap (λ (l : List Decided). calls_by (caller_of_pass p) l) (sym (calls_in_parts c p.seen more))
     ∙ ap (λ (r : PassState). own_calls p r.seen) (sym is) ∙ f.entries ∙ sym (append-nil (own_calls p p.seen))) in
-    let keeps = kept c p.seen more (number_of p) d whole none owns in
+    let keeps = kept c p.seen more (caller_of_pass p) d whole none owns in
     subst (λ (r : PassState). HasNumber r d (number_owned p d)) (sym is) (record { owns = keeps.owns; is = keeps.same })
 
 -- A New of one number that was granted gives its caller that number, which is 0.
 pub granted : (p : PassState) (d ty : ℕ) (more : List Event) → IsHistory p.table.config (p.seen ++ more)
-    → own_calls p (p.seen ++ more) ≡ own_calls p p.seen ++ entry_of (number_of p) (op.New d ty false) (Some answer.Done)
+    → own_calls p (p.seen ++ more) ≡ own_calls p p.seen
+    ++ entry_of (caller_of_pass p) (op.New d ty false) (Some answer.Done)
     → IsDecidedIn p (op.New d ty false) answer.Done more
     → kinds_of p.table.config.types ty ≡ Number ∷ [] → HasNumber (record p { seen = p.seen ++ more }) d 0
 granted p d ty more history entry decided kinds =
@@ -255,7 +256,7 @@ granted p d ty more history entry decided kinds =
     let all = (stands c before (before_history p o answer.Done more refl history entry decided)).all.mirrors in
     let asks = (admitted_before p o answer.Done more refl history entry decided).0 in
     number_left p o answer.Done more refl history entry decided d 0
-    (new_owns c.globals (never_behind c before) (number_of p) d ty all.typed asks.of_a_caller asks.in_range.0
+    (new_owns c.globals (never_behind c before) (caller_of_pass p) d ty all.typed asks.of_a_caller asks.in_range.0
     (ap (λ (types : List (List Kind)). kinds_of types ty) all.types ∙ kinds))
 
 -- Its caller may store and load.
@@ -265,7 +266,7 @@ may_store p d n owns =
     record {
       of_a_caller = owns.caller;
       in_range = owns.register;
-      access = access_admitted (never_of p) (number_of p) d owns;
+      access = access_admitted (never_of p) (caller_of_pass p) d owns;
       store = tt;
     }
 
@@ -274,7 +275,7 @@ may_load p d owns =
     record {
       of_a_caller = owns.caller;
       in_range = owns.register;
-      access = access_admitted (never_of p) (number_of p) d owns;
+      access = access_admitted (never_of p) (caller_of_pass p) d owns;
       store = tt;
     }
 
@@ -282,12 +283,12 @@ may_load p d owns =
 pub owned_numbers_stay : OwnedNumbersStay
 owned_numbers_stay p more d h others owns =
     let c : Config = p.table.config in
-    let none : calls_by (number_of p) (calls_from c (left c p.seen) more) ≡ [] =
-    same_last (own_calls p p.seen) (calls_by (number_of p) (calls_from c (left c p.seen) more)) []
-    (sym (by_append (number_of p) (calls c p.seen) (calls_from c (left c p.seen) more))
-    ∙ ap (λ (l : List Decided). calls_by (number_of p) l) (sym (calls_in_parts c p.seen more))
-    ∙ others_add_none c (number_of p) p.seen more others ∙ sym (append-nil (own_calls p p.seen))) in
-    let keeps = kept c p.seen more (number_of p) d h none owns in
+    let none : calls_by (caller_of_pass p) (calls_from c (left c p.seen) more) ≡ [] =
+    same_last (own_calls p p.seen) (calls_by (caller_of_pass p) (calls_from c (left c p.seen) more)) []
+    (sym (by_append (caller_of_pass p) (calls c p.seen) (calls_from c (left c p.seen) more))
+    ∙ ap (λ (l : List Decided). calls_by (caller_of_pass p) l) (sym (calls_in_parts c p.seen more))
+    ∙ others_add_none c (caller_of_pass p) p.seen more others ∙ sym (append-nil (own_calls p p.seen))) in
+    let keeps = kept c p.seen more (caller_of_pass p) d h none owns in
     record { owns = keeps.owns; is = keeps.same }
 
 -- One entry more, said of the pass as it is now
@@ -304,19 +305,24 @@ loads_stored b d n (Err e) has is = tt
 
 pub both_done : (p b q : PassState) (d n : ℕ) (r : Result ℕ Held) → Called p (op.SetNum d 0 n) answer.Done b
     → IfOk r (λ x. x ≡ n) → IfOk r (λ x. Called b (op.GetNum d 0) (answer.Num x) q)
-    → OnOk r (own_calls q q.seen ≡ own_calls p p.seen ++ store_then_load (number_of p) d n)
+    → OnOk r (own_calls q q.seen ≡ own_calls p p.seen ++ store_then_load (caller_of_pass p) d n)
 both_done p b q d n (Err e) set is get = tt
 both_done p b q d n (Ok x) set is get =
     entry_now b q get.more _ get.is get.entry
     ∙ ap (λ (k : ℕ). own_calls b b.seen ++ record { caller = k; op = op.GetNum d 0; answer = answer.Num x } ∷ [])
-    (ap (λ (r : PassState). number_of r) set.is)
+    (ap (λ (r : PassState). caller_of_pass r) set.is)
     ∙ ap (λ (y : ℕ). own_calls b b.seen
-    ++ record { caller = number_of p; op = op.GetNum d 0; answer = answer.Num y } ∷ []) is
-    ∙ ap (λ (l : List Decided). l ++ record { caller = number_of p; op = op.GetNum d 0; answer = answer.Num n } ∷ [])
+    ++ record { caller = caller_of_pass p; op = op.GetNum d 0; answer = answer.Num y } ∷ []) is
+    ∙ ap (λ (l : List Decided). l ++ record {
+      caller = caller_of_pass p;
+      op = op.GetNum d 0;
+      answer =
+          answer.Num n;
+    } ∷ [])
     (entry_now p b set.more _ set.is set.entry)
     ∙ append_assoc (own_calls p p.seen)
-    (record { caller = number_of p; op = op.SetNum d 0 n; answer = answer.Done } ∷ [])
-    (record { caller = number_of p; op = op.GetNum d 0; answer = answer.Num n } ∷ [])
+    (record { caller = caller_of_pass p; op = op.SetNum d 0 n; answer = answer.Done } ∷ [])
+    (record { caller = caller_of_pass p; op = op.GetNum d 0; answer = answer.Num n } ∷ [])
 
 -- after what was done before
 pub done_behind : (l l1 l2 : List Decided) (x : Decided) (xs : List Decided) → l1 ≡ l ++ x ∷ [] → l2 ≡ l1 ++ xs

@@ -5,12 +5,12 @@ use Rattle.mk_core.specs.declared.events.Seat.TheVariants.{Caller}
 use Rattle.mk_core.specs.Growing.{AreOfOthers}
 use Rattle.mk_core.specs.History.{IsHistory}
 use Rattle.mk_words.specs.States.{PassState}
-use Rattle.mk_caller.specs.States.{number_of}
+use Rattle.mk_caller.specs.States.{caller_of_pass}
 use Rattle.mk_alloc_clients.specs.Owned.{HasNumber, OwnsNumber, number_owned}
 
 -- Events of others: of other callers, of markers, and of the host.
 abbrev pub OwnedNumbersStay : Type 0
 OwnedNumbersStay =
     (p : PassState) (more : List Event) (d : ℕ) → IsHistory p.table.config (p.seen ++ more)
-    → AreOfOthers (Caller (number_of p) ∷ []) more → OwnsNumber p d
+    → AreOfOthers (Caller (caller_of_pass p) ∷ []) more → OwnsNumber p d
     → HasNumber (record p { seen = p.seen ++ more }) d (number_owned p d)

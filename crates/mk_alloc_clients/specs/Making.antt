@@ -10,7 +10,7 @@ use Rattle.mk_core.specs.declared.seats.Object.{Object}
 use Rattle.mk_core.specs.Decided.{Decided}
 use Rattle.mk_words.specs.States.{PassState, TurnState}
 use Rattle.mk_words.specs.Steps.{Finds}
-use Rattle.mk_caller.specs.States.{CallerState, IsIdleCaller, number_of}
+use Rattle.mk_caller.specs.States.{CallerState, IsIdleCaller, caller_of_pass}
 use Rattle.mk_objects.specs.Placing.{FitsNowhere}
 use Rattle.mk_alloc_clients.specs.declared.outcomes.Unmade.{Unmade}
 use Rattle.mk_alloc_clients.specs.declared.outcomes.Unmade.TheVariants.{NoRoom, TurnTaken}
@@ -26,7 +26,7 @@ one_number = record { words = 1; leaf = true }
 -- number.
 pub record MayMakeNumber (p : PassState) (d ty : ℕ) : Type 0 where
   pub idle : IsIdleCaller p
-  pub exists : number_of p < p.table.config.callers
+  pub exists : caller_of_pass p < p.table.config.callers
   pub alone : p.seats ≡ p.seat ∷ []
   pub one_page : p.table.config.pages ≡ 1
   pub register : d < 8

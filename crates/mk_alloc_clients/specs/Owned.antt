@@ -9,7 +9,7 @@ use Rattle.mk_never.specs.NeverHeap.{words_of}
 use Rattle.mk_never.specs.Reach.{LeadsTo}
 use Rattle.mk_never.specs.Types.{kinds_of}
 use Rattle.mk_words.specs.States.{PassState}
-use Rattle.mk_caller.specs.States.{never_of, number_of, value_of}
+use Rattle.mk_caller.specs.States.{never_of, caller_of_pass, value_of}
 
 -- The register, among those of all callers, is one of this caller's eight.
 abbrev pub IsRegisterOf : ℕ → ℕ → Type 0
@@ -42,7 +42,7 @@ number_behind n _ = 0
 -- After all that the pass has seen its caller owns a number, by this register; and which number that is.
 
 abbrev pub OwnsNumber : PassState → ℕ → Type 0
-OwnsNumber p d = OwnsNumberIn (never_of p) (number_of p) d
+OwnsNumber p d = OwnsNumberIn (never_of p) (caller_of_pass p) d
 
 abbrev pub number_owned : PassState → ℕ → ℕ
 number_owned p d = number_behind (never_of p) (value_of p d)

@@ -4,7 +4,7 @@ ghost use Rattle.mk_never.specs.declared.operations.Op.TheVariants as op;
 ghost use Rattle.mk_never.specs.declared.types.Kind.TheVariants as kind;
 ghost use Rattle.mk_never.specs.Types.{kinds_of};
 ghost use Rattle.mk_core.specs.declared.events.Answer.TheVariants as answer;
-ghost use Rattle.mk_caller.specs.States.{number_of};
+ghost use Rattle.mk_caller.specs.States.{caller_of_pass};
 ghost use Rattle.mk_alloc.specs.TurnCalls.{CalledInTurn};
 ghost use Rattle.mk_alloc_clients.specs.Making.{IsUnmade};
 ghost use Rattle.mk_alloc_clients.specs.Owned.{HasNumber};
@@ -17,7 +17,7 @@ use mk_never::Op;
 /// Makes an object of one number by the steps of a turn, in a heap of one page.
 pub fn make_number(caller: &mut Caller, d: u8, ty: u64) -> Result<(), Unmade>
     requires home { caller.old.home ≡ true }
-    requires exists { number_of caller.old.pass < caller.old.pass.table.config.callers }
+    requires exists { caller_of_pass caller.old.pass < caller.old.pass.table.config.callers }
     requires alone { caller.old.pass.seats ≡ caller.old.pass.seat ∷ [] }
     requires one_page { caller.old.pass.table.config.pages ≡ 1 }
     requires register { d < 8 }

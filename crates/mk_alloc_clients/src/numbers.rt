@@ -4,7 +4,7 @@ ghost use Rattle.mk_never.specs.declared.operations.Op.TheVariants as op;
 ghost use Rattle.mk_never.specs.declared.types.Kind.TheVariants as kind;
 ghost use Rattle.mk_never.specs.Types.{kinds_of};
 ghost use Rattle.mk_core.specs.declared.events.Answer.TheVariants as answer;
-ghost use Rattle.mk_caller.specs.States.{number_of};
+ghost use Rattle.mk_caller.specs.States.{caller_of_pass};
 ghost use Rattle.mk_caller.specs.Called.{Called, own_calls};
 ghost use Rattle.mk_caller.specs.Causes.{FindsGateHeld};
 ghost use Rattle.mk_alloc_clients.specs.Making.{EndsEarly, new_store_load, store_then_load};
@@ -66,7 +66,7 @@ pub fn store_and_load(caller: &mut Caller, d: u8, n: u64) -> Result<u64, Held>
     ensures home { caller.new.home ≡ true }
     ensures loaded { IfOk result (λ loaded. loaded ≡ n) }
     ensures did { OnOk result (own_calls caller.new.pass caller.new.pass.seen
-        ≡ own_calls caller.old.pass caller.old.pass.seen ++ store_then_load (number_of caller.old.pass) d n) }
+        ≡ own_calls caller.old.pass caller.old.pass.seen ++ store_then_load (caller_of_pass caller.old.pass) d n) }
     ensures still { OwnsNumber caller.new.pass d }
 {
     store(caller, d, n)?;
@@ -77,14 +77,14 @@ pub fn store_and_load(caller: &mut Caller, d: u8, n: u64) -> Result<u64, Held>
 /// did.
 pub fn number_in_new_object(caller: &mut Caller, d: u8, ty: u64, n: u64) -> Result<u64, Unfinished>
     requires home { caller.old.home ≡ true }
-    requires exists { number_of caller.old.pass < caller.old.pass.table.config.callers }
+    requires exists { caller_of_pass caller.old.pass < caller.old.pass.table.config.callers }
     requires alone { caller.old.pass.seats ≡ caller.old.pass.seat ∷ [] }
     requires one_page { caller.old.pass.table.config.pages ≡ 1 }
     requires register { d < 8 }
     requires number { kinds_of caller.old.pass.table.config.types ty ≡ kind.Num ∷ [] }
     ensures loaded { IfOk result (λ loaded. loaded ≡ n) }
     ensures did { OnOk result (own_calls caller.new.pass caller.new.pass.seen
-        ≡ own_calls caller.old.pass caller.old.pass.seen ++ new_store_load (number_of caller.old.pass) d ty n) }
+        ≡ own_calls caller.old.pass caller.old.pass.seen ++ new_store_load (caller_of_pass caller.old.pass) d ty n) }
     ensures early { IfErr result (λ e. EndsEarly caller.old.pass d ty e caller.new) }
 {
     match make_number(caller, d, ty) {

@@ -14,9 +14,9 @@ use Rattle.mk_never.specs.NeverHeap.{after_free, after_op, is_same}
 use Rattle.mk_never.specs.Admitted.{IsCaller}
 use Rattle.mk_core.specs.declared.events.Answer.{Answer}
 use Rattle.mk_core.specs.History.{never_behind}
-use Rattle.mk_frames.proofs.OtherCalls.{never_continues}
+use Rattle.mk_laws.proofs.OtherCalls.{never_continues}
 use Rattle.mk_words.specs.States.{PassState}
-use Rattle.mk_caller.specs.States.{number_of, never_of, value_of}
+use Rattle.mk_caller.specs.States.{caller_of_pass, never_of, value_of}
 use Rattle.mk_caller.specs.Called.{Called}
 use Rattle.mk_caller.specs.Laws.{destination, CallsLeaveOtherRegisters}
 
@@ -85,25 +85,27 @@ leaves n k (op.IsNull p) r ne = refl
 
 -- A register after a call is what the operation leaves at its place.
 pub value_left : {p q : PassState} {o : Op} {a : Answer} → (c : Called p o a q) → (r : ℕ) → r < 8
-    → value_of q r ≡ register_at (after_op (never_behind p.table.config (p.seen ++ c.decided.before)) (number_of p) o)
-    (number_of p) r
+    → value_of q r ≡ register_at (after_op (never_behind p.table.config (p.seen
+    ++ c.decided.before)) (caller_of_pass p) o)
+    (caller_of_pass p) r
 value_left {p} {q} c r lt = ap (λ (x : PassState). value_of x r) c.is ∙ c.decided.left_so r lt
 
 pub calls_leave_other_registers : CallsLeaveOtherRegisters
 calls_leave_other_registers p o a q r c lt ne =
-    value_left c r lt ∙ leaves (never_behind p.table.config (p.seen ++ c.decided.before)) (number_of p) o r ne
+    value_left c r lt ∙ leaves (never_behind p.table.config (p.seen ++ c.decided.before)) (caller_of_pass p) o r ne
     ∙ c.decided.known r lt
 
 -- A caller stays one.
 pub still_caller : {p q : PassState} {o : Op} {a : Answer} → (c : Called p o a q)
-    → IsCaller (never_of p) (number_of p) → IsCaller (never_of q) (number_of q)
+    → IsCaller (never_of p) (caller_of_pass p) → IsCaller (never_of q) (caller_of_pass q)
 still_caller {p} {q} c is =
     let on = never_continues p.table.config p.seen c.more in
-    subst (λ (x : PassState). IsCaller (never_of x) (number_of x)) (sym c.is)
-    (subst (λ count. 8 * number_of p + 7 < count) (sym on.registers) is)
+    subst (λ (x : PassState). IsCaller (never_of x) (caller_of_pass x)) (sym c.is)
+    (subst (λ count. 8 * caller_of_pass p + 7 < count) (sym on.registers) is)
 
-pub caller_there : {p q : PassState} {o : Op} {a : Answer} → (c : Called p o a q) → IsCaller (never_of p) (number_of p)
-    → IsCaller (never_behind p.table.config (p.seen ++ c.decided.before)) (number_of p)
+pub caller_there : {p q : PassState} {o : Op} {a : Answer} → (c : Called p o a q)
+    → IsCaller (never_of p) (caller_of_pass p)
+    → IsCaller (never_behind p.table.config (p.seen ++ c.decided.before)) (caller_of_pass p)
 caller_there {p} c is =
     let on = never_continues p.table.config p.seen c.decided.before in
-    subst (λ count. 8 * number_of p + 7 < count) (sym on.registers) is
+    subst (λ count. 8 * caller_of_pass p + 7 < count) (sym on.registers) is

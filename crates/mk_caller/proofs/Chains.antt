@@ -22,7 +22,7 @@ use Rattle.mk_core.specs.Calls.{at_rest, begun, onward, refused, first_of, steps
 use Rattle.mk_core.specs.Calls.{progress_reg}
 use Rattle.mk_core.specs.History.{never_behind}
 use Rattle.mk_words.specs.States.{PassState, call_of, event_of}
-use Rattle.mk_caller.specs.States.{number_of, never_of, value_of}
+use Rattle.mk_caller.specs.States.{caller_of_pass, never_of, value_of}
 use Rattle.mk_caller.specs.Called.{Called, steps_made}
 use Rattle.mk_caller.specs.Causes.{Probes, ProbesAWord}
 use Rattle.mk_caller.specs.Moves.{loads, MayBeginCall, MakesSteps, IsAtFlight, is_access, refused_register}
@@ -111,13 +111,15 @@ called {p} {r} {o} {ss} {a} at steps =
 
 -- While nothing is decided the caller's registers keep their values.
 pub keeps : {p q : PassState} {o : Op} {ss : List Step} → MakesSteps p o ss None q
-    → KeepsRegisters (number_of p) (never_of p) (never_of q)
-keeps {p} {q} m = subst (λ (x : PassState). KeepsRegisters (number_of p) (never_of p) (never_of x)) (sym m.is) m.decided
+    → KeepsRegisters (caller_of_pass p) (never_of p) (never_of q)
+keeps {p} {q} m =
+    subst (λ (x : PassState). KeepsRegisters (caller_of_pass p) (never_of p) (never_of x)) (sym m.is) m.decided
 
 pub value_kept : {p q : PassState} {o : Op} {ss : List Step} → MakesSteps p o ss None q → (r : ℕ) → r < 8
     → value_of q r ≡ value_of p r
 value_kept {p} {q} m r lt =
-    ap (λ (x : PassState). Rattle.mk_never.specs.NeverHeap.register_at (never_of q) (number_of x) r) m.is ∙ keeps m r lt
+    ap (λ (x : PassState). Rattle.mk_never.specs.NeverHeap.register_at (never_of q) (caller_of_pass x) r) m.is
+    ∙ keeps m r lt
 
 -- a probe of the later steps
 pub probes_from : {p q r : PassState} {o : Op} {ss : List Step} {t : Target} → MakesSteps p o ss None q → q_of o < 8
@@ -125,7 +127,7 @@ pub probes_from : {p q r : PassState} {o : Op} {ss : List Step} {t : Target} →
 probes_from {p} {q} {r} {o} {ss} {t} m lt probes =
     by m.more m.decided (subst (λ (x : PassState). Probes x o r t) m.is probes)
   where
-    by : (m1 : List Event) → KeepsRegisters (number_of p) (never_of p) (never_behind p.table.config (p.seen ++ m1))
+    by : (m1 : List Event) → KeepsRegisters (caller_of_pass p) (never_of p) (never_behind p.table.config (p.seen ++ m1))
         → Probes (record p { seen = p.seen ++ m1 }) o r t
         → Probes p o r t
     by m1 keeps x =

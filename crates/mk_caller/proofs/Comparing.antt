@@ -11,9 +11,9 @@ use Rattle.mk_core.specs.declared.events.Answer.TheVariants as answer
 use Rattle.mk_core.specs.Calls.{one_if}
 use Rattle.mk_core.specs.Image.{answer_of}
 use Rattle.mk_words.specs.States.{PassState}
-use Rattle.mk_caller.specs.States.{number_of, never_then, value_of, Admits}
+use Rattle.mk_caller.specs.States.{caller_of_pass, never_then, value_of, Admits}
 use Rattle.mk_caller.specs.Called.{Says}
-use Rattle.mk_caller.specs.Comparing.{ComparesValues}
+use Rattle.mk_caller.specs.Comparing.{CallComparesValues}
 
 -- the word that an access gets to which is answered by a number, and what that says
 record Reached (n : NeverState) (v w : Value) (i : ℕ) (said : Bool) : Type 0 where
@@ -43,11 +43,11 @@ equal_where_said : (said : Bool) (v w : Value) → said ≡ is_same v w → (sai
 equal_where_said said v w is = (λ yes. equal_from_same v w (sym is ∙ yes), λ e. is ∙ same_from_equal v w e)
 
 pub compares_values : {p q : PassState} (x i e r : ℕ) (said : Bool) → Admits p (op.CasPtr x i e r)
-    → Says p (op.CasPtr x i e r) said q → ComparesValues p x i e r said q
+    → Says p (op.CasPtr x i e r) said q → CallComparesValues p x i e r said q
 compares_values {p} x i e r said ad c =
     let n : NeverState = never_then p c.decided.before in
-    let there = reached _ n (register_at n (number_of p) x) (register_at n (number_of p) e) i said
-    (target_of n (register_at n (number_of p) x) i) refl c.decided.reply in
+    let there = reached _ n (register_at n (caller_of_pass p) x) (register_at n (caller_of_pass p) e) i said
+    (target_of n (register_at n (caller_of_pass p) x) i) refl c.decided.reply in
     record {
       called = c;
       number = there.number;

@@ -28,11 +28,11 @@ use Rattle.mk_core.specs.Order.{group_of, comes_next}
 use Rattle.mk_core.specs.Ranges.{is_in_range, has_gates, has_phase}
 use Rattle.mk_core.specs.Words.{phase_of}
 use Rattle.mk_core.proofs.Conditions.{meets_enabled}
-use Rattle.mk_layout.proofs.Holders.{seat_operands}
-use Rattle.mk_frames.proofs.LastEvents.{stands, goes_on_by}
+use Rattle.mk_laws.proofs.LayoutHolders.{seat_operands}
+use Rattle.mk_laws.proofs.LastEvents.{stands, goes_on_by}
 use Rattle.mk_words.specs.States.{PassState, call_of, event_of, now_of}
 use Rattle.mk_words.specs.Steps.{IsEnabledTo, IsAdmittedTo}
-use Rattle.mk_caller.specs.States.{number_of, never_of, Admits}
+use Rattle.mk_caller.specs.States.{caller_of_pass, never_of, Admits}
 use Rattle.mk_caller.specs.Moves.{MayBeginCall}
 use Rattle.mk_caller.proofs.OneStep.{flagged_same}
 
@@ -102,7 +102,7 @@ pub admitted : (p : PassState) (s : Step) → IsHistory p.table.config p.seen �
     → Admits p (call_of p).op → IsAdmittedTo p s
 admitted p s h on entered ad =
     (goes_on_by p.table.config p.seen (event_of p s) h on
-    (entry_admitted p.table.config.globals (never_of p) (number_of p) (call_of p).op
+    (entry_admitted p.table.config.globals (never_of p) (caller_of_pass p) (call_of p).op
     (answer_decided p.table.config (now_of p) (event_of p s)) entered ad)).admitted
 
 -- A step that decides nothing
@@ -111,7 +111,7 @@ pub idly_admitted : (p : PassState) (s : Step) → IsHistory p.table.config p.se
 idly_admitted p s h on none =
     (goes_on_by p.table.config p.seen (event_of p s) h on
     (subst (λ (a : Option Answer). AreAdmitted p.table.config.globals (never_of p)
-    (asked (entry_of (number_of p) (call_of p).op a))) (sym none) tt)).admitted
+    (asked (entry_of (caller_of_pass p) (call_of p).op a))) (sym none) tt)).admitted
 
 pub put_decides_nothing : (p : PassState) (k : ℕ) → p.seat ≡ Caller k → (call_of p).stage ≡ stage.Put
     → answer_decided p.table.config (now_of p) (event_of p step.Reg) ≡ None

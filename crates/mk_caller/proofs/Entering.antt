@@ -10,7 +10,7 @@ use Rattle.mk_words.specs.States.{PassState, call_of}
 use Rattle.mk_words.specs.Steps.{Goes}
 use Rattle.mk_words.specs.CallSteps.{FindsHeld}
 use Rattle.mk_words.specs.declared.call_steps.Held.{Held}
-use Rattle.mk_caller.specs.States.{number_of, never_of}
+use Rattle.mk_caller.specs.States.{caller_of_pass, never_of}
 use Rattle.mk_caller.specs.Called.{own_calls}
 use Rattle.mk_caller.specs.Causes.{FindsGateHeld}
 use Rattle.mk_caller.specs.Moves.{MayBeginCall, CallMoves}
@@ -38,7 +38,7 @@ held p o q (Err e) ready own before history finds stays =
       finds = finds;
       entries =
           ap (λ (r : PassState). own_calls p r.seen) m.is ∙ m.entry ∙ append-nil (own_calls p p.seen);
-      registers = subst (λ (r : PassState). Rattle.mk_never.specs.Laws.KeepsRegisters (number_of p) (never_of p)
+      registers = subst (λ (r : PassState). Rattle.mk_never.specs.Laws.KeepsRegisters (caller_of_pass p) (never_of p)
           (never_of r)) (sym m.is) m.decided;
       rest = stays.call ∙ ready.rest;
     }

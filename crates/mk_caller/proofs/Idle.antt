@@ -2,9 +2,9 @@
 use Rattle.std.proofs.Common.{◌≡◌, ℕ, true, ◌∙◌, ap, subst}
 use Rattle.std.specs.Prelude.{Option, Some, None}
 use Rattle.mk_words.specs.States.{WordsState, PassState}
-use Rattle.mk_caller.specs.States.{CallerState, caller_of, IsWhole, IsIdleCaller}
+use Rattle.mk_caller.specs.States.{CallerState, caller_of, IsPassAtRest, IsIdleCaller}
 
-pub idle : (w : WordsState) (k : ℕ) (x : Option PassState) (s : CallerState) → caller_of w k x ≡ s → IsWhole w k x
+pub idle : (w : WordsState) (k : ℕ) (x : Option PassState) (s : CallerState) → caller_of w k x ≡ s → IsPassAtRest w k x
     → s.home ≡ true → IsIdleCaller s.pass
 idle w k (Some p) s is whole home =
     subst (λ (y : CallerState). IsIdleCaller y.pass) is (record { caller = k; seat = whole.1; rest = whole.2 })

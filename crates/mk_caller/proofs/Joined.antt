@@ -13,7 +13,7 @@ use Rattle.mk_core.specs.History.{World, left, left_from, call_decided, never_be
 use Rattle.mk_core.specs.Image.{answer_of}
 use Rattle.mk_core.proofs.HistoryParts.{left_in_parts}
 use Rattle.mk_words.specs.States.{PassState}
-use Rattle.mk_caller.specs.States.{number_of, never_of}
+use Rattle.mk_caller.specs.States.{caller_of_pass, never_of}
 use Rattle.mk_caller.specs.Called.{own_steps, own_calls, IsDecidedIn}
 use Rattle.mk_caller.specs.Moves.{IsDecidedAs, MakesSteps}
 use Rattle.mk_caller.proofs.OwnSteps.{steps_from, steps_append}
@@ -35,7 +35,7 @@ steps_joined p m1 m2 ss ts a b =
 
 -- a decision of the later steps
 decided_later : (p : PassState) (o : Op) (a : Answer) (m1 m2 : List Event)
-    → KeepsRegisters (number_of p) (never_of p) (never_behind p.table.config (p.seen ++ m1))
+    → KeepsRegisters (caller_of_pass p) (never_of p) (never_behind p.table.config (p.seen ++ m1))
     → IsDecidedIn (seen_more p m1) o a m2 → IsDecidedIn p o a (m1 ++ m2)
 decided_later p o a m1 m2 keeps d =
     let c : Config = p.table.config in
@@ -45,25 +45,28 @@ decided_later p o a m1 m2 keeps d =
       event = d.event;
       behind = d.behind;
       is = ap (λ (l : List Event). m1 ++ l) d.is ∙ sym (append_assoc m1 d.before (d.event ∷ d.behind));
-      decides = subst (λ (l : List Event). call_decided c (left c l).now d.event ≡ entry_of (number_of p) o (Some a))
+      decides = subst (λ (l : List Event). call_decided c (left c l).now d.event
+          ≡ entry_of (caller_of_pass p) o (Some a))
           join d.decides;
       reply = subst (λ (l : List Event). a ≡ answer_of (bases_of (left c (l ++ d.event ∷ [])).allocations)
-          (reply_of (never_behind c l) (number_of p) o)) join d.reply;
-      known = keeps_both (number_of p) (never_of p) (never_behind c (p.seen ++ m1))
+          (reply_of (never_behind c l) (caller_of_pass p) o)) join d.reply;
+      known = keeps_both (caller_of_pass p) (never_of p) (never_behind c (p.seen ++ m1))
           (never_behind c (p.seen ++ (m1 ++ d.before))) keeps
-          (subst (λ (l : List Event). KeepsRegisters (number_of p) (never_behind c (p.seen ++ m1)) (never_behind c l))
+          (subst (λ (l : List Event). KeepsRegisters (caller_of_pass p) (never_behind c (p.seen
+          ++ m1)) (never_behind c l))
           join d.known);
       left_so =
-          subst (λ (l : List Event). KeepsRegisters (number_of p)
-          (after_op (never_behind c (p.seen ++ (m1 ++ d.before))) (number_of p) o) (never_behind c l))
+          subst (λ (l : List Event). KeepsRegisters (caller_of_pass p)
+          (after_op (never_behind c (p.seen ++ (m1 ++ d.before))) (caller_of_pass p) o) (never_behind c l))
           (append_assoc p.seen m1 m2)
-          (subst (λ (l : List Event). KeepsRegisters (number_of p) (after_op (never_behind c l) (number_of p) o)
+          (subst (λ (l : List Event). KeepsRegisters (caller_of_pass p) (after_op (never_behind c l)
+          (caller_of_pass p) o)
           (never_behind c ((p.seen ++ m1) ++ m2))) join d.left_so);
     }
 
 -- or of the earlier ones
 decided_before : (p : PassState) (o : Op) (a : Answer) (m1 m2 : List Event) → IsDecidedIn p o a m1
-    → KeepsRegisters (number_of p) (never_behind p.table.config (p.seen ++ m1))
+    → KeepsRegisters (caller_of_pass p) (never_behind p.table.config (p.seen ++ m1))
     (never_behind p.table.config ((p.seen ++ m1) ++ m2))
     → IsDecidedIn p o a (m1 ++ m2)
 decided_before p o a m1 m2 d keeps =
@@ -77,20 +80,20 @@ decided_before p o a m1 m2 d keeps =
       reply = d.reply;
       known = d.known;
       left_so =
-          subst (λ (l : List Event). KeepsRegisters (number_of p)
-          (after_op (never_behind c (p.seen ++ d.before)) (number_of p) o) (never_behind c l))
+          subst (λ (l : List Event). KeepsRegisters (caller_of_pass p)
+          (after_op (never_behind c (p.seen ++ d.before)) (caller_of_pass p) o) (never_behind c l))
           (append_assoc p.seen m1 m2)
-          (keeps_both (number_of p) (after_op (never_behind c (p.seen ++ d.before)) (number_of p) o)
+          (keeps_both (caller_of_pass p) (after_op (never_behind c (p.seen ++ d.before)) (caller_of_pass p) o)
           (never_behind c (p.seen ++ m1)) (never_behind c ((p.seen ++ m1) ++ m2)) d.left_so keeps);
     }
 
 decided_as_later : (p : PassState) (o : Op) (a : Option Answer) (m1 m2 : List Event)
-    → KeepsRegisters (number_of p) (never_of p) (never_behind p.table.config (p.seen ++ m1))
+    → KeepsRegisters (caller_of_pass p) (never_of p) (never_behind p.table.config (p.seen ++ m1))
     → IsDecidedAs (seen_more p m1) o a m2 → IsDecidedAs p o a (m1 ++ m2)
 decided_as_later p o None m1 m2 keeps d =
-    subst (λ (l : List Event). KeepsRegisters (number_of p) (never_of p) (never_behind p.table.config l))
+    subst (λ (l : List Event). KeepsRegisters (caller_of_pass p) (never_of p) (never_behind p.table.config l))
     (append_assoc p.seen m1 m2)
-    (keeps_both (number_of p) (never_of p) (never_behind p.table.config (p.seen ++ m1))
+    (keeps_both (caller_of_pass p) (never_of p) (never_behind p.table.config (p.seen ++ m1))
     (never_behind p.table.config ((p.seen ++ m1) ++ m2)) keeps d)
 decided_as_later p o (Some a) m1 m2 keeps d = decided_later p o a m1 m2 keeps d
 
@@ -106,7 +109,7 @@ joined p o ss ts a q r first second = by first.more first.steps first.entry firs
     (subst (λ (x : PassState). MakesSteps x o ts a r) first.is second)
   where
     by : (m1 : List Event) → own_steps p m1 ≡ ss → own_calls p (p.seen ++ m1) ≡ own_calls p p.seen ++ []
-        → KeepsRegisters (number_of p) (never_of p) (never_behind p.table.config (p.seen ++ m1))
+        → KeepsRegisters (caller_of_pass p) (never_of p) (never_behind p.table.config (p.seen ++ m1))
         → MakesSteps (seen_more p m1) o ts a r → MakesSteps p o (ss ++ ts) a r
     by m1 steps entry keeps second =
         record {
@@ -115,7 +118,8 @@ joined p o ss ts a q r first second = by first.more first.steps first.entry firs
           steps = steps_joined p m1 second.more ss ts steps second.steps;
           entry =
               ap (λ (l : List Event). own_calls p l) (sym (append_assoc p.seen m1 second.more)) ∙ second.entry
-              ∙ ap (λ (l : List Decided). l ++ entry_of (number_of p) o a) (entry ∙ append-nil (own_calls p p.seen));
+              ∙ ap (λ (l : List Decided). l ++ entry_of (caller_of_pass p) o a) (entry
+              ∙ append-nil (own_calls p p.seen));
           decided = decided_as_later p o a m1 second.more keeps second.decided;
         }
 
@@ -127,7 +131,7 @@ joined_on p o ss ts a q r first second = by first.more first.steps first.entry f
     (subst (λ (x : PassState). MakesSteps x o ts None r) first.is second)
   where
     by : (m1 : List Event) → own_steps p m1 ≡ ss → own_calls p (p.seen ++ m1) ≡ own_calls p p.seen ++ entry_of
-        (number_of p) o (Some a)
+        (caller_of_pass p) o (Some a)
         → IsDecidedIn p o a m1 → MakesSteps (seen_more p m1) o ts None r → MakesSteps p o (ss ++ ts) (Some a) r
     by m1 steps entry decided second =
         record {

@@ -26,16 +26,16 @@ use Rattle.mk_core.specs.History.{IsHistory}
 use Rattle.mk_core.specs.Image.{answer_of, answers_of}
 use Rattle.mk_core.specs.Ranges.{is_word_met}
 use Rattle.mk_core.proofs.Histories.{calls_more}
-use Rattle.mk_images.proofs.OneEvent.{one_event}
-use Rattle.mk_invariant.proofs.Joined.{told_to_images}
-use Rattle.mk_frames.proofs.AdmittedStill.{call_on}
-use Rattle.mk_frames.proofs.LastEvents.{stands, comes_last}
-use Rattle.mk_frames.proofs.OtherCalls.{registers_are_left, never_continues}
+use Rattle.mk_laws.proofs.ImagesOneEvent.{one_event}
+use Rattle.mk_laws.proofs.InvariantJoined.{told_to_images}
+use Rattle.mk_laws.proofs.AdmittedStill.{call_on}
+use Rattle.mk_laws.proofs.LastEvents.{stands, comes_last}
+use Rattle.mk_laws.proofs.OtherCalls.{registers_are_left, never_continues}
 use Rattle.mk_words.specs.Seats.{Has}
 use Rattle.mk_words.specs.States.{PassState, call_of, event_of}
 use Rattle.mk_words.specs.Steps.{Goes}
 use Rattle.mk_words.proofs.Made.{Made, made}
-use Rattle.mk_caller.specs.States.{number_of, never_of, Admits}
+use Rattle.mk_caller.specs.States.{caller_of_pass, never_of, Admits}
 use Rattle.mk_caller.specs.Called.{own_calls}
 use Rattle.mk_caller.specs.Moves.{IsDecidedAs, MakesSteps, IsUnderway, is_past_decision}
 use Rattle.mk_caller.proofs.OwnSteps.{own_step, by_append, own_entry, others_add_none, calls_by}
@@ -49,13 +49,13 @@ pub keeps_both : (k : ℕ) (n m l : NeverState) → KeepsRegisters k n m → Kee
 keeps_both k n m l f g r lt = g r lt ∙ f r lt
 
 -- What is admitted for an operation is admitted, whatever it is answered.
-pub own_seat : (p : PassState) (k : ℕ) → p.seat ≡ Caller k → p.seat ≡ Caller (number_of p)
+pub own_seat : (p : PassState) (k : ℕ) → p.seat ≡ Caller k → p.seat ≡ Caller (caller_of_pass p)
 own_seat p k is = is ∙ ap (λ j. Caller j) (sym (ap (λ (s : Seat). caller_number s) is))
 
 module _ (p : PassState) (o : Op) (s : Step) (x : Progress) (q : PassState) (k : ℕ) (seat : p.seat ≡ Caller k)
     (own : Has p.seats p.seat)
     (history : IsHistory q.table.config q.seen) (g : Goes p s x q) (entered : is_under_turn o ≡ false)
-    (same_op : entry_of (number_of p) (call_of p).op x.answer ≡ entry_of (number_of p) o x.answer) where
+    (same_op : entry_of (caller_of_pass p) (call_of p).op x.answer ≡ entry_of (caller_of_pass p) o x.answer) where
   abbrev c : Config
   c = p.table.config
 
@@ -71,30 +71,30 @@ module _ (p : PassState) (o : Op) (s : Step) (x : Progress) (q : PassState) (k :
   d : Made p s q g.makes
   d = made p s q g.makes own history
 
-  of_others : AreOfOthers (Caller (number_of p) ∷ []) others
+  of_others : AreOfOthers (Caller (caller_of_pass p) ∷ []) others
   of_others = subst (λ (t : Seat). AreOfOthers (t ∷ []) others) (own_seat p k seat) d.others
 
-  decides : call_decided c (left c es).now e ≡ entry_of (number_of p) o x.answer
+  decides : call_decided c (left c es).now e ≡ entry_of (caller_of_pass p) o x.answer
   decides =
-      ap (λ (f : Flight). entry_of (number_of p) f.op (answer_decided c (left c es).now e)) d.frame.own.flight
-      ∙ ap (λ (a : Option Answer). entry_of (number_of p) (call_of p).op a) g.answer
+      ap (λ (f : Flight). entry_of (caller_of_pass p) f.op (answer_decided c (left c es).now e)) d.frame.own.flight
+      ∙ ap (λ (a : Option Answer). entry_of (caller_of_pass p) (call_of p).op a) g.answer
       ∙ same_op
 
   joint : p.seen ++ (others ++ e ∷ []) ≡ es ++ e ∷ []
   joint = sym (append_assoc p.seen others (e ∷ []))
 
   never : never_behind c (p.seen ++ (others ++ e ∷ [])) ≡ after_calls (never_behind c es)
-      (asked (entry_of (number_of p) o x.answer))
+      (asked (entry_of (caller_of_pass p) o x.answer))
   never =
       ap (λ (l : List Event). never_behind c l) joint
       ∙ (comes_last c es e d.whole).never
       ∙ ap (λ (l : List Decided). after_calls (never_behind c es) (asked l)) decides
 
-  before : KeepsRegisters (number_of p) (never_of p) (never_behind c es)
-  before = registers_are_left c p.seen others (number_of p) d.history of_others
+  before : KeepsRegisters (caller_of_pass p) (never_of p) (never_behind c es)
+  before = registers_are_left c p.seen others (caller_of_pass p) d.history of_others
 
-  right : answered (entry_of (number_of p) o x.answer) ≡ answers_of (bases_of (left c (es ++ e ∷ [])).allocations)
-      (replies_of (never_behind c es) (asked (entry_of (number_of p) o x.answer)))
+  right : answered (entry_of (caller_of_pass p) o x.answer) ≡ answers_of (bases_of (left c (es ++ e ∷ [])).allocations)
+      (replies_of (never_behind c es) (asked (entry_of (caller_of_pass p) o x.answer)))
   right =
       let last = comes_last c es e d.whole in
       let st = stands c es d.history in
@@ -112,30 +112,33 @@ module _ (p : PassState) (o : Op) (s : Step) (x : Progress) (q : PassState) (k :
 
   decided_as : (a : Option Answer) → x.answer ≡ a → IsDecidedAs p o a (others ++ e ∷ [])
   decided_as None is =
-      subst (λ (n : NeverState). KeepsRegisters (number_of p) (never_of p) n)
-      (sym (never ∙ ap (λ (a : Option Answer). after_calls (never_behind c es) (asked (entry_of (number_of p) o a)))
+      subst (λ (n : NeverState). KeepsRegisters (caller_of_pass p) (never_of p) n)
+      (sym (never ∙ ap (λ (a : Option Answer). after_calls (never_behind c es) (asked (entry_of
+      (caller_of_pass p) o a)))
       is)) before
   decided_as (Some a) is =
       let flag = flagged_same o a entered in
       let one : (a ∷ []) ≡ answer_of (bases_of (left c (es ++ e ∷ [])).allocations)
-      (reply_of (never_behind c es) (number_of p) (flagged o a)) ∷ [] =
-      subst (λ (b : Option Answer). answered (entry_of (number_of p) o b) ≡ answers_of
+      (reply_of (never_behind c es) (caller_of_pass p) (flagged o a)) ∷ [] =
+      subst (λ (b : Option Answer). answered (entry_of (caller_of_pass p) o b) ≡ answers_of
       (bases_of (left c (es ++ e ∷ [])).allocations)
-      (replies_of (never_behind c es) (asked (entry_of (number_of p) o b)))) is right in
+      (replies_of (never_behind c es) (asked (entry_of (caller_of_pass p) o b)))) is right in
       record {
         before = others;
         event = e;
         behind = [];
         is = refl;
-        decides = decides ∙ ap (λ (b : Option Answer). entry_of (number_of p) o b) is;
+        decides = decides ∙ ap (λ (b : Option Answer). entry_of (caller_of_pass p) o b) is;
         reply = subst (λ (y : Op). a ≡ answer_of (bases_of (left c (es ++ e ∷ [])).allocations)
-            (reply_of (never_behind c es) (number_of p) y)) flag (cc one);
+            (reply_of (never_behind c es) (caller_of_pass p) y)) flag (cc one);
         known = before;
         left_so =
-            let after : never_behind c (p.seen ++ (others ++ e ∷ [])) ≡ after_op (never_behind c es) (number_of p) o =
-            never ∙ ap (λ (b : Option Answer). after_calls (never_behind c es) (asked (entry_of (number_of p) o b))) is
-            ∙ ap (λ (y : Op). after_op (never_behind c es) (number_of p) y) flag in
-            λ r lt. ap (λ (n : NeverState). register_at n (number_of p) r) after;
+            let after : never_behind c (p.seen ++ (others ++ e ∷ []))
+            ≡ after_op (never_behind c es) (caller_of_pass p) o =
+            never ∙ ap (λ (b : Option Answer). after_calls (never_behind c es) (asked (entry_of
+            (caller_of_pass p) o b))) is
+            ∙ ap (λ (y : Op). after_op (never_behind c es) (caller_of_pass p) y) flag in
+            λ r lt. ap (λ (n : NeverState). register_at n (caller_of_pass p) r) after;
       }
 
   is_more : q ≡ record p { seen = p.seen ++ (others ++ e ∷ []) }
@@ -149,12 +152,12 @@ module _ (p : PassState) (o : Op) (s : Step) (x : Progress) (q : PassState) (k :
         steps = own_step c p.seat (left c p.seen) others s d.others;
         entry =
             ap (λ (l : List Event). own_calls p l) joint
-            ∙ ap (λ (l : List Decided). calls_by (number_of p) l) (calls_more c (first_world c) es e)
-            ∙ by_append (number_of p) (calls c es) (call_decided c (left c es).now e)
-            ∙ ap (λ (l : List Decided). l ++ calls_by (number_of p) (call_decided c (left c es).now e))
-            (others_add_none c (number_of p) p.seen others of_others)
-            ∙ ap (λ (l : List Decided). own_calls p p.seen ++ calls_by (number_of p) l) decides
-            ∙ ap (λ (l : List Decided). own_calls p p.seen ++ l) (own_entry (number_of p) o x.answer);
+            ∙ ap (λ (l : List Decided). calls_by (caller_of_pass p) l) (calls_more c (first_world c) es e)
+            ∙ by_append (caller_of_pass p) (calls c es) (call_decided c (left c es).now e)
+            ∙ ap (λ (l : List Decided). l ++ calls_by (caller_of_pass p) (call_decided c (left c es).now e))
+            (others_add_none c (caller_of_pass p) p.seen others of_others)
+            ∙ ap (λ (l : List Decided). own_calls p p.seen ++ calls_by (caller_of_pass p) l) decides
+            ∙ ap (λ (l : List Decided). own_calls p p.seen ++ l) (own_entry (caller_of_pass p) o x.answer);
         decided = decided_as x.answer refl;
       }
 
@@ -170,12 +173,12 @@ module _ (p : PassState) (o : Op) (s : Step) (x : Progress) (q : PassState) (k :
       let at_last : (h : (x.answer ≡ None) × Admits p x.flight.op)
       → Admits (record p { seen = p.seen ++ (others ++ e ∷ []) }) x.flight.op =
       λ h.
-      let keeps : KeepsRegisters (number_of p) (never_of p) (never_behind c (p.seen ++ (others ++ e ∷ []))) =
+      let keeps : KeepsRegisters (caller_of_pass p) (never_of p) (never_behind c (p.seen ++ (others ++ e ∷ []))) =
       decided_as None h.0 in
       let st = stands c p.seen known in
       let flag = flagged_same x.flight.op answer.Done goes_on in
       subst (λ (y : Op). Admits (record p { seen = p.seen ++ (others ++ e ∷ []) }) y) flag
-      (call_on c.globals (never_of p) (never_behind c (p.seen ++ (others ++ e ∷ []))) (number_of p)
+      (call_on c.globals (never_of p) (never_behind c (p.seen ++ (others ++ e ∷ []))) (caller_of_pass p)
       (never_continues c p.seen (others ++ e ∷ [])) keeps
       st.all.mirrors.typed x.flight.op (Some answer.Done) (subst (λ (y : Op). Admits p y) (sym flag) h.1, tt)).0 in
       record {

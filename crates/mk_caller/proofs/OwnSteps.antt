@@ -19,7 +19,7 @@ use Rattle.mk_core.specs.Growing.{AreOfOthers, Finding, own_from, is_same_seat, 
 use Rattle.mk_core.specs.History.{World, world_behind, left_from, left, calls, calls_from, call_decided}
 use Rattle.mk_core.specs.Moments.{flight_of}
 use Rattle.mk_core.proofs.HistoryParts.{calls_in_parts}
-use Rattle.mk_protocol.proofs.Frames.{other_seat}
+use Rattle.mk_laws.proofs.ProtocolFrames.{other_seat}
 use Rattle.mk_words.proofs.Seats.{same_seat, same_self}
 
 own_append : (c : Config) (s : Seat) (w : World) (xs ys : List Event)

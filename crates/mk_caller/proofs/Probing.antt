@@ -25,20 +25,20 @@ use Rattle.mk_core.specs.Growing.{AreOfOthers}
 use Rattle.mk_core.specs.History.{World, left, never_behind, bases_of, IsHistory}
 use Rattle.mk_core.specs.Moments.{flight_of}
 use Rattle.mk_core.specs.Words.{header_at}
-use Rattle.mk_protocol.proofs.OrderlyLists.{not_astray}
-use Rattle.mk_protocol.proofs.Stages.{calls_stand, is_call_stage}
-use Rattle.mk_protocol.proofs.Standings.{InCall, standing}
-use Rattle.mk_images.specs.Images.{CarriesOwn, IsMet, has_q, has_some_q, image_scene_of}
-use Rattle.mk_images.proofs.Reached.{mapped_met, unmapped_target}
-use Rattle.mk_frames.proofs.AdmittedStill.{meets_register}
-use Rattle.mk_frames.proofs.LastEvents.{Stands, stands}
-use Rattle.mk_frames.proofs.OtherCalls.{registers_are_left, never_continues}
-use Rattle.mk_frames.proofs.ProbesStill.{ready, pages_tell}
+use Rattle.mk_laws.proofs.OrderlyLists.{not_astray}
+use Rattle.mk_laws.proofs.Stages.{calls_stand, is_call_stage}
+use Rattle.mk_laws.proofs.Standings.{InCall, standing}
+use Rattle.mk_laws.specs.Images.{CarriesOwn, IsMet, has_q, has_some_q, image_scene_of}
+use Rattle.mk_laws.proofs.Reached.{mapped_met, unmapped_target}
+use Rattle.mk_laws.proofs.AdmittedStill.{meets_register}
+use Rattle.mk_laws.proofs.LastEvents.{Stands, stands}
+use Rattle.mk_laws.proofs.OtherCalls.{registers_are_left, never_continues}
+use Rattle.mk_laws.proofs.ProbesStill.{ready, pages_tell}
 use Rattle.mk_words.specs.Seats.{Has}
 use Rattle.mk_words.specs.States.{PassState, call_of, event_of}
 use Rattle.mk_words.specs.Steps.{Finds}
 use Rattle.mk_words.proofs.Made.{Made, made}
-use Rattle.mk_caller.specs.States.{number_of, never_of, value_of}
+use Rattle.mk_caller.specs.States.{caller_of_pass, never_of, value_of}
 use Rattle.mk_caller.specs.Causes.{Probes, ProbesAWord}
 use Rattle.mk_caller.specs.Moves.{IsUnderway, is_access}
 use Rattle.mk_caller.proofs.Enabling.{met_is_small}
@@ -145,11 +145,11 @@ module _ (p : PassState) (q : PassState) (n : ℕ) (u : IsUnderway p) (own : Has
   d : Made p step.Probe q finds.makes
   d = made p step.Probe q finds.makes own history
 
-  others : AreOfOthers (Caller (number_of p) ∷ []) finds.makes.others
+  others : AreOfOthers (Caller (caller_of_pass p) ∷ []) finds.makes.others
   others = subst (λ (t : Seat). AreOfOthers (t ∷ []) finds.makes.others) (own_seat p u.caller u.seat) d.others
 
-  keeps : (r : ℕ) → r < 8 → register_at (never_behind p.table.config es) (number_of p) r ≡ value_of p r
-  keeps = registers_are_left p.table.config p.seen finds.makes.others (number_of p) d.history others
+  keeps : (r : ℕ) → r < 8 → register_at (never_behind p.table.config es) (caller_of_pass p) r ≡ value_of p r
+  keeps = registers_are_left p.table.config p.seen finds.makes.others (caller_of_pass p) d.history others
 
   same : flight_of (left p.table.config es).now p.seat ≡ call_of p
   same = d.frame.own.flight
@@ -157,13 +157,14 @@ module _ (p : PassState) (q : PassState) (n : ℕ) (u : IsUnderway p) (own : Has
   small : q_of o < 8
   small = met_is_small p stage.LoadQ h
 
-  meets : Meets (never_behind p.table.config es) (register_at (never_behind p.table.config es) (number_of p) (q_of o))
+  meets : Meets (never_behind p.table.config es) (register_at (never_behind p.table.config es) (caller_of_pass p)
+      (q_of o))
       (i_of o) (λ kind. Unit {0})
   meets =
-      meets_register p.table.config.globals (never_of p) (never_behind p.table.config es) (number_of p)
+      meets_register p.table.config.globals (never_of p) (never_behind p.table.config es) (caller_of_pass p)
       (never_continues p.table.config p.seen finds.makes.others) keeps
       (stands p.table.config p.seen h).all.mirrors.typed (q_of o) (i_of o) (λ kind. Unit {0}) small
-      (access_meets (never_of p) (number_of p) o through
+      (access_meets (never_of p) (caller_of_pass p) o through
       (u.admits (ap (λ (s : Stage). Rattle.mk_caller.specs.Moves.is_past_decision s) at)).access)
 
   finds_header : is_unmapped_header (header_of n) ≡ is_unmapped_header
@@ -175,10 +176,10 @@ module _ (p : PassState) (q : PassState) (n : ℕ) (u : IsUnderway p) (own : Has
   gets b is =
       subst (λ (x : Value). GetsTo b (never_behind p.table.config es) x (i_of o)) (keeps (q_of o) small)
       (subst (λ (f : Flight). GetsTo b (never_behind p.table.config es)
-      (register_at (never_behind p.table.config es) (number_of p) (q_of f.op)) (i_of f.op)) same
+      (register_at (never_behind p.table.config es) (caller_of_pass p) (q_of f.op)) (i_of f.op)) same
       (gets_to_for p.table.config es p.seat u.caller u.seat d.history u.exists (ap (λ (f : Flight). f.stage) same ∙ at)
       (subst (λ (f : Flight). Meets (never_behind p.table.config es)
-      (register_at (never_behind p.table.config es) (number_of p) (q_of f.op)) (i_of f.op) (λ kind. Unit {0}))
+      (register_at (never_behind p.table.config es) (caller_of_pass p) (q_of f.op)) (i_of f.op) (λ kind. Unit {0}))
       (sym same) meets)
       b (sym finds_header ∙ is)))
 

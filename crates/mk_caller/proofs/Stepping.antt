@@ -20,7 +20,7 @@ use Rattle.mk_core.specs.declared.events.Answer.TheVariants as answer
 use Rattle.mk_core.specs.History.{IsHistory}
 use Rattle.mk_core.specs.Order.{group_of, comes_next}
 use Rattle.mk_core.specs.Ranges.{is_in_range, is_word_met}
-use Rattle.mk_images.specs.Images.{has_q, has_some_q, is_put}
+use Rattle.mk_laws.specs.Images.{has_q, has_some_q, is_put}
 use Rattle.mk_words.specs.States.{PassState, call_of}
 use Rattle.mk_words.specs.Steps.{IsEnabledTo, IsAdmittedTo}
 use Rattle.mk_words.specs.CallSteps.{register_of}

@@ -23,16 +23,16 @@ use Rattle.mk_core.specs.Moments.{flight_of}
 use Rattle.mk_core.specs.Ranges.{is_word_met}
 use Rattle.mk_core.specs.Words.{register_word}
 use Rattle.mk_core.proofs.Lengths.{histories_keep_lengths}
-use Rattle.mk_images.specs.Images.{shown, is_put, has_q, has_some_q, CarriesOwn, flight_among}
-use Rattle.mk_images.specs.SafeSets.{IsSafe}
-use Rattle.mk_images.proofs.Kept.{base_at}
-use Rattle.mk_images.proofs.Pairs.{shows_plain}
-use Rattle.mk_images.proofs.Ready.{image_zero}
-use Rattle.mk_frames.proofs.LastEvents.{stands}
-use Rattle.mk_frames.proofs.ProbesStill.{ready}
+use Rattle.mk_laws.specs.Images.{shown, is_put, has_q, has_some_q, CarriesOwn, flight_among}
+use Rattle.mk_laws.specs.SafeSets.{IsSafe}
+use Rattle.mk_laws.proofs.ImagesKept.{base_at}
+use Rattle.mk_laws.proofs.Pairs.{shows_plain}
+use Rattle.mk_laws.proofs.Ready.{image_zero}
+use Rattle.mk_laws.proofs.LastEvents.{stands}
+use Rattle.mk_laws.proofs.ProbesStill.{ready}
 use Rattle.mk_words.specs.States.{PassState, call_of, now_of}
 use Rattle.mk_words.specs.CallSteps.{register_of}
-use Rattle.mk_caller.specs.States.{number_of, never_of, value_of, Admits}
+use Rattle.mk_caller.specs.States.{caller_of_pass, never_of, value_of, Admits}
 use Rattle.mk_caller.specs.Moves.{is_access}
 
 meets_some : (n : NeverState) (v : Value) (i : ℕ) (P : Kind → Type 0) → Meets n v i P → Meets n v i (λ kind. Unit {0})
@@ -107,7 +107,7 @@ word_for c es k h has some meets = by (register_at n k (q_of f.op)) (car.q has)
     w : World
     w = left c es
 
-    st : Rattle.mk_frames.proofs.LastEvents.Stands c es
+    st : Rattle.mk_laws.proofs.LastEvents.Stands c es
     st = stands c es h
 
     car : CarriesOwn (bases_of w.allocations) n k f
@@ -138,4 +138,4 @@ word_is_met p k is h has some through ad =
     (i_of (flight_of (now_of p) t).op) (λ kind. Unit {0})
     → is_word_met p.table.config (flight_of (now_of p) t) ≡ true)
     (sym is) (word_for p.table.config p.seen k h) has some
-    (access_meets (never_of p) (number_of p) (call_of p).op through ad.access)
+    (access_meets (never_of p) (caller_of_pass p) (call_of p).op through ad.access)

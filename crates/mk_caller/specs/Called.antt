@@ -16,7 +16,7 @@ use Rattle.mk_core.specs.Growing.{Finding, in_this_call}
 use Rattle.mk_core.specs.History.{left, calls, call_decided, bases_of}
 use Rattle.mk_core.specs.Image.{answer_of}
 use Rattle.mk_words.specs.States.{PassState, call_of}
-use Rattle.mk_caller.specs.States.{number_of, never_of, never_then}
+use Rattle.mk_caller.specs.States.{caller_of_pass, never_of, never_then}
 
 -- the step at a stage of a call
 abbrev pub step_at : Stage → Step
@@ -55,7 +55,7 @@ own_steps p more = map (λ (x : Finding). x.event.step) (in_this_call p.table.co
 
 -- the calls of its caller in a history
 abbrev pub own_calls : PassState → List Event → List Decided
-own_calls p es = filter (λ (x : Decided). x.caller == number_of p) (calls p.table.config es)
+own_calls p es = filter (λ (x : Decided). x.caller == caller_of_pass p) (calls p.table.config es)
 
 -- The event among these that decides the call. Its answer is the image of the reply of the heap that never reuses
 -- storage, at its place. There the caller's registers have the values that they had before the call, and after the
@@ -66,11 +66,12 @@ pub record IsDecidedIn (p : PassState) (o : Op) (a : Answer) (more : List Event)
   pub behind : List Event
   pub is : more ≡ before ++ event ∷ behind
   pub decides : call_decided p.table.config (left p.table.config (p.seen ++ before)).now event
-      ≡ entry_of (number_of p) o (Some a)
+      ≡ entry_of (caller_of_pass p) o (Some a)
   pub reply : a ≡ answer_of (bases_of (left p.table.config (p.seen ++ before ++ event ∷ [])).allocations)
-      (reply_of (never_then p before) (number_of p) o)
-  pub known : KeepsRegisters (number_of p) (never_of p) (never_then p before)
-  pub left_so : KeepsRegisters (number_of p) (after_op (never_then p before) (number_of p) o) (never_then p more)
+      (reply_of (never_then p before) (caller_of_pass p) o)
+  pub known : KeepsRegisters (caller_of_pass p) (never_of p) (never_then p before)
+  pub left_so : KeepsRegisters (caller_of_pass p) (after_op (never_then p before) (caller_of_pass p) o)
+      (never_then p more)
 
 -- The pass did this operation and was answered so. What it has seen begins with what it had seen. Its own steps since
 -- are those of this call, in their order. Its caller has one entry more, and no call in flight.
@@ -78,7 +79,7 @@ pub record Called (p : PassState) (o : Op) (a : Answer) (q : PassState) : Type 0
   pub more : List Event
   pub is : q ≡ record p { seen = p.seen ++ more }
   pub steps : own_steps p more ≡ steps_made o a
-  pub entry : own_calls p (p.seen ++ more) ≡ own_calls p p.seen ++ entry_of (number_of p) o (Some a)
+  pub entry : own_calls p (p.seen ++ more) ≡ own_calls p p.seen ++ entry_of (caller_of_pass p) o (Some a)
   pub decided : IsDecidedIn p o a more
   pub rest : call_of q ≡ at_rest
 

@@ -14,7 +14,7 @@ use Rattle.mk_words.specs.States.{PassState, call_of, event_of}
 use Rattle.mk_words.specs.CallSteps.{FindsHeld}
 use Rattle.mk_caller.specs.declared.refusals.Refusal.{Refusal}
 use Rattle.mk_caller.specs.declared.refusals.Refusal.TheVariants.{Fault, Null, Held}
-use Rattle.mk_caller.specs.States.{number_of, never_of, never_then, value_of}
+use Rattle.mk_caller.specs.States.{caller_of_pass, never_of, never_then, value_of}
 use Rattle.mk_caller.specs.Called.{own_calls, Called}
 
 -- The call has its probe here, where its access gets to this in the heap that never reuses storage: to a word, or to a
@@ -35,7 +35,7 @@ pub record ProbesAWord (p : PassState) (o : Op) (q : PassState) : Type 0 where
 pub record FindsGateHeld (p : PassState) (o : Op) (q : PassState) : Type 0 where
   pub finds : FindsHeld p o q
   pub entries : own_calls p q.seen ≡ own_calls p p.seen
-  pub registers : KeepsRegisters (number_of p) (never_of p) (never_of q)
+  pub registers : KeepsRegisters (caller_of_pass p) (never_of p) (never_of q)
   pub rest : call_of q ≡ at_rest
 
 -- Each refusal has its cause: the register's allocation is large and was freed before the probe, the register is null,

@@ -9,7 +9,7 @@ use Rattle.mk_caller.specs.Called.{Says}
 
 -- At the event that decides the call, its access gets to a word of an allocation, and the call says yes exactly where
 -- that word and register e hold one value there. A pointer to what stood in the same storage before is another value.
-pub record ComparesValues (p : PassState) (x i e r : ℕ) (said : Bool) (q : PassState) : Type 0 where
+pub record CallComparesValues (p : PassState) (x i e r : ℕ) (said : Bool) (q : PassState) : Type 0 where
   pub called : Says p (op.CasPtr x i e r) said q
   pub number : ℕ
   pub place : ℕ

@@ -19,7 +19,7 @@ use Rattle.mk_core.specs.Decided.{entry_of}
 use Rattle.mk_core.specs.History.{never_behind}
 use Rattle.mk_core.specs.Ranges.{is_word_met}
 use Rattle.mk_words.specs.States.{PassState, call_of}
-use Rattle.mk_caller.specs.States.{number_of, never_of, Admits}
+use Rattle.mk_caller.specs.States.{caller_of_pass, never_of, Admits}
 use Rattle.mk_caller.specs.Called.{step_at, refused_from, own_steps, own_calls, IsDecidedIn}
 
 -- what is after the deciding step
@@ -83,7 +83,8 @@ pub record IsUnderway (p : PassState) : Type 0 where
   pub page : (call_of p).stage ≡ stage.Dirty → is_word_met p.table.config (call_of p) ≡ true
 
 abbrev pub IsDecidedAs : PassState → Op → Option Answer → List Event → Type 0
-IsDecidedAs p o None more = KeepsRegisters (number_of p) (never_of p) (never_behind p.table.config (p.seen ++ more))
+IsDecidedAs p o None more = KeepsRegisters (caller_of_pass p) (never_of p) (never_behind p.table.config (p.seen
+    ++ more))
 IsDecidedAs p o (Some a) more = IsDecidedIn p o a more
 
 -- The pass made these steps of a call of the operation, which decided this answer or none.
@@ -91,7 +92,7 @@ pub record MakesSteps (p : PassState) (o : Op) (ss : List Step) (a : Option Answ
   pub more : List Event
   pub is : q ≡ record p { seen = p.seen ++ more }
   pub steps : own_steps p more ≡ ss
-  pub entry : own_calls p (p.seen ++ more) ≡ own_calls p p.seen ++ entry_of (number_of p) o a
+  pub entry : own_calls p (p.seen ++ more) ≡ own_calls p p.seen ++ entry_of (caller_of_pass p) o a
   pub decided : IsDecidedAs p o a more
 
 -- It made these steps of a call, which decided this answer or none, and its call is this one then.

@@ -22,8 +22,8 @@ lent p = record { pass = record p { seats = []; seen = [] }; home = false }
 abbrev pub at_home : PassState → CallerState
 at_home p = record { pass = p; home = true }
 
-abbrev pub number_of : PassState → ℕ
-number_of p = caller_number p.seat
+abbrev pub caller_of_pass : PassState → ℕ
+caller_of_pass p = caller_number p.seat
 
 -- the heap that never reuses storage, after what the pass has seen
 abbrev pub never_of : PassState → NeverState
@@ -35,11 +35,11 @@ never_then p more = never_behind p.table.config (p.seen ++ more)
 
 -- the value of one of the caller's registers after what the pass has seen
 abbrev pub value_of : PassState → ℕ → Value
-value_of p r = register_at (never_of p) (number_of p) r
+value_of p r = register_at (never_of p) (caller_of_pass p) r
 
 -- The operation is admitted there: the type and the offset of the value in the register admit the access.
 abbrev pub Admits : PassState → Op → Type 0
-Admits p o = IsAdmitted p.table.config.globals (never_of p) (number_of p) o
+Admits p o = IsAdmitted p.table.config.globals (never_of p) (caller_of_pass p) o
 
 -- the pass of a caller, and no call of it is in flight
 pub record IsIdleCaller (p : PassState) : Type 0 where
@@ -53,6 +53,6 @@ abbrev pub caller_of : WordsState → ℕ → Option PassState → CallerState
 caller_of w k (Some p) = at_home p
 caller_of w k None = record { pass = record { table = w; seat = Caller k; seats = []; seen = [] }; home = false }
 
-abbrev pub IsWhole : WordsState → ℕ → Option PassState → Type 0
-IsWhole w k (Some p) = (p.table ≡ w) × (p.seat ≡ Caller k) × (call_of p ≡ at_rest)
-IsWhole w k None = Unit {0}
+abbrev pub IsPassAtRest : WordsState → ℕ → Option PassState → Type 0
+IsPassAtRest w k (Some p) = (p.table ≡ w) × (p.seat ≡ Caller k) × (call_of p ≡ at_rest)
+IsPassAtRest w k None = Unit {0}

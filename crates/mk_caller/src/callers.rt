@@ -9,10 +9,10 @@ ghost use Rattle.mk_core.specs.History.{IsHistory};
 ghost use Rattle.mk_words.specs.Seats.{Has};
 ghost use Rattle.mk_words.specs.States.{call_of};
 ghost use Rattle.mk_caller.specs.declared.refusals.Refusal.TheVariants as refusal;
-ghost use Rattle.mk_caller.specs.States.{at_home, lent, number_of, value_of, Admits, IsIdleCaller};
+ghost use Rattle.mk_caller.specs.States.{at_home, lent, caller_of_pass, value_of, Admits, IsIdleCaller};
 ghost use Rattle.mk_caller.specs.Called.{Called, Says, IsAnswered};
 ghost use Rattle.mk_caller.specs.Causes.{FindsGateHeld, IsRefused, ProbesAWord};
-ghost use Rattle.mk_caller.specs.Comparing.{ComparesValues};
+ghost use Rattle.mk_caller.specs.Comparing.{CallComparesValues};
 
 use crate::calls;
 use crate::refusals::Refusal;
@@ -29,13 +29,13 @@ pub struct Caller<'h> {
 }
 
 impl<'h> Model for Caller<'h> {
-    ghost use Rattle.mk_caller.specs.States.{CallerState, caller_of, IsWhole};
+    ghost use Rattle.mk_caller.specs.States.{CallerState, caller_of, IsPassAtRest};
 
     ghost Value = { CallerState };
 
     ghost view = { λ c. caller_of c.words.now c.number c.pass };
 
-    ghost invariant = { λ c. IsWhole c.words.now c.number c.pass };
+    ghost invariant = { λ c. IsPassAtRest c.words.now c.number c.pass };
 }
 
 impl<'h> Caller<'h> {
@@ -58,7 +58,7 @@ impl<'h> Caller<'h> {
 
     /// The caller's number.
     pub fn number(&self) -> u64
-        ensures { result ≡ number_of self.now.pass }
+        ensures { result ≡ caller_of_pass self.now.pass }
     {
         self.number
     }
@@ -187,7 +187,7 @@ impl<'h> Caller<'h> {
         requires admitted { Admits self.old.pass (op.CasPtr q i p r) }
         ensures home { self.new.home ≡ true }
         ensures called { IfOk result (λ exchanged. Says self.old.pass (op.CasPtr q i p r) exchanged self.new.pass) }
-        ensures compares { IfOk result (λ exchanged. ComparesValues self.old.pass q i p r exchanged self.new.pass) }
+        ensures compares { IfOk result (λ exchanged. CallComparesValues self.old.pass q i p r exchanged self.new.pass) }
         ensures reached { OnOk result (ProbesAWord self.old.pass (op.CasPtr q i p r) self.new.pass) }
         ensures refused { IfErr result (λ e. IsRefused self.old.pass (op.CasPtr q i p r) e self.new.pass) }
     {

@@ -7,7 +7,7 @@ ghost use Rattle.mk_never.specs.NeverHeap.{is_same};
 ghost use Rattle.mk_caller.specs.States.{value_of};
 ghost use Rattle.mk_caller.specs.Called.{Called, Says, IsAnswered};
 ghost use Rattle.mk_caller.specs.Causes.{FindsGateHeld, IsRefused, ProbesAWord};
-ghost use Rattle.mk_caller.specs.Comparing.{ComparesValues};
+ghost use Rattle.mk_caller.specs.Comparing.{CallComparesValues};
 ghost use Rattle.mk_caller.specs.declared.refusals.Refusal.TheVariants as refusal;
 ghost use Rattle.mk_caller.specs.Moves.{MayBeginCall};
 
@@ -194,7 +194,7 @@ pub(crate) fn cas_ptr(
     requires one_table { pass.old.table ≡ words.now }
     requires ready { MayBeginCall pass.old (op.CasPtr q i p r) }
     ensures called { IfOk result (λ exchanged. Says pass.old (op.CasPtr q i p r) exchanged pass.new) }
-    ensures compares { IfOk result (λ exchanged. ComparesValues pass.old q i p r exchanged pass.new) }
+    ensures compares { IfOk result (λ exchanged. CallComparesValues pass.old q i p r exchanged pass.new) }
     ensures reached { OnOk result (ProbesAWord pass.old (op.CasPtr q i p r) pass.new) }
     ensures refused { IfErr result (λ e. IsRefused pass.old (op.CasPtr q i p r) e pass.new) }
 {

@@ -10,7 +10,7 @@ ghost use Rattle.mk_core.specs.Accesses.{register_met, reg_access};
 ghost use Rattle.mk_core.specs.Calls.{at_rest, begun, onward, refused, g_of, i_of, value_written, one_if, page_met};
 ghost use Rattle.mk_core.specs.Calls.{word_met, progress_reg, progress_read, progress_getg};
 ghost use Rattle.mk_words.specs.States.{call_of};
-ghost use Rattle.mk_images.specs.Images.{has_q, has_some_q};
+ghost use Rattle.mk_laws.specs.Images.{has_q, has_some_q};
 ghost use Rattle.mk_caller.specs.States.{value_of};
 ghost use Rattle.mk_never.specs.declared.values.Target.TheVariants.{Unmapped};
 ghost use Rattle.mk_caller.specs.Causes.{FindsGateHeld, Probes, ProbesAWord};

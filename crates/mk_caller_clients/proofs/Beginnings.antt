@@ -12,7 +12,7 @@ use Rattle.mk_core.specs.declared.events.Seat.TheVariants.{Caller}
 use Rattle.mk_core.specs.Calls.{at_rest}
 use Rattle.mk_core.specs.History.{World, left, first_world, never_behind, never_first, left_from, calls_from}
 use Rattle.mk_core.specs.Moments.{flight_of}
-use Rattle.mk_protocol.proofs.OrderlyLists.{at_first}
+use Rattle.mk_laws.proofs.OrderlyLists.{at_first}
 use Rattle.mk_words.specs.States.{PassState, WordsState}
 use Rattle.mk_caller.specs.States.{value_of, Admits, IsIdleCaller}
 

@@ -13,7 +13,7 @@ use Rattle.mk_core.specs.History.{first_world, left, calls, calls_from, call_dec
 use Rattle.mk_core.proofs.Histories.{calls_more}
 use Rattle.mk_core.proofs.HistoryParts.{calls_in_parts, never_in_parts}
 use Rattle.mk_words.specs.States.{PassState}
-use Rattle.mk_caller.specs.States.{number_of}
+use Rattle.mk_caller.specs.States.{caller_of_pass}
 use Rattle.mk_caller.specs.Called.{Called}
 use Rattle.mk_caller_clients.specs.Setters.{HasSeenAllOf}
 
@@ -60,13 +60,13 @@ module _ {p0 p1 r1 p2 : PassState} {o1 o2 : Op} {a1 a2 : Answer} (first : Called
   others = first.decided.behind ++ came
 
   abbrev entry : Decided
-  entry = record { caller = number_of p0; op = flagged o1 a1; answer = a1 }
+  entry = record { caller = caller_of_pass p0; op = flagged o1 a1; answer = a1 }
 
   pub same_config : r1.table.config ≡ c
   same_config = later.config ∙ ap (λ (x : PassState). x.table.config) first.is
 
-  pub same_number : number_of p1 ≡ number_of p0
-  same_number = ap (λ (x : PassState). number_of x) first.is
+  pub same_number : caller_of_pass p1 ≡ caller_of_pass p0
+  same_number = ap (λ (x : PassState). caller_of_pass x) first.is
 
   pub place : r1.seen ++ second.decided.before ≡ decided ++ others
   place =
@@ -84,7 +84,7 @@ module _ {p0 p1 r1 p2 : PassState} {o1 o2 : Op} {a1 a2 : Answer} (first : Called
       calls_more c (first_world c) before first.decided.event
       ∙ ap (λ (l : List Decided). calls c before ++ l) first.decided.decides
 
-  pub never_there : never_behind c decided ≡ after_op (never_behind c before) (number_of p0) (flagged o1 a1)
+  pub never_there : never_behind c decided ≡ after_op (never_behind c before) (caller_of_pass p0) (flagged o1 a1)
   never_there =
       never_in_parts c before (first.decided.event ∷ [])
       ∙ ap (λ (l : List Decided). after_calls (never_behind c before) (asked l))

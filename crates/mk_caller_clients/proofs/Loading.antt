@@ -23,11 +23,11 @@ use Rattle.mk_core.specs.Decided.{Decided, asked}
 use Rattle.mk_core.specs.History.{left, never_behind, bases_of, IsHistory}
 use Rattle.mk_core.specs.Image.{answer_of}
 use Rattle.mk_core.proofs.HistoryParts.{earlier_part_is_history}
-use Rattle.mk_frames.proofs.LastEvents.{comes_last, stands}
-use Rattle.mk_frames.proofs.AdmittedStill.{meets_register}
-use Rattle.mk_frames.proofs.OtherCalls.{never_continues}
+use Rattle.mk_laws.proofs.LastEvents.{comes_last, stands}
+use Rattle.mk_laws.proofs.AdmittedStill.{meets_register}
+use Rattle.mk_laws.proofs.OtherCalls.{never_continues}
 use Rattle.mk_words.specs.States.{PassState}
-use Rattle.mk_caller.specs.States.{number_of, never_of, value_of, Admits}
+use Rattle.mk_caller.specs.States.{caller_of_pass, never_of, value_of, Admits}
 use Rattle.mk_caller.specs.Called.{Called}
 use Rattle.mk_caller.proofs.After.{still_caller, calls_leave_other_registers}
 use Rattle.mk_caller_clients.specs.Setters.{is_store, IsOnlyStore}
@@ -95,7 +95,7 @@ same_word n m (Ptr a t o) i x y = pointer_word m a t o i y ∙ sym (pointer_word
 -- The deciding call of a history is admitted at its place.
 admitted_there : {p q : PassState} {o : Op} {a : Answer} → (c : Called p o a q) → IsHistory q.table.config q.seen
     → AreAdmitted p.table.config.globals (never_behind p.table.config (p.seen ++ c.decided.before))
-    (asked (Rattle.mk_core.specs.Decided.entry_of (number_of p) o (Rattle.std.specs.Prelude.Some a)))
+    (asked (Rattle.mk_core.specs.Decided.entry_of (caller_of_pass p) o (Rattle.std.specs.Prelude.Some a)))
 admitted_there {p} {q} {o} {a} c h =
     let es : List Event = p.seen ++ c.decided.before in
     let whole : q.seen ≡ (es ++ c.decided.event ∷ []) ++ c.decided.behind =
@@ -116,7 +116,7 @@ module _ {p0 p1 p2 : PassState} (x i n loaded : ℕ) (lt : x < 8) (h : IsHistory
   c = p0.table.config
 
   abbrev k : ℕ
-  k = number_of p0
+  k = caller_of_pass p0
 
   abbrev n1 : NeverState
   n1 = never_behind c (before set (at_once p1) get)
@@ -150,7 +150,7 @@ module _ {p0 p1 p2 : PassState} (x i n loaded : ℕ) (lt : x < 8) (h : IsHistory
       get.decided.reply
       ∙ ap (λ (m : NeverState). answer_of (bases_of (left p1.table.config
       (p1.seen ++ get.decided.before ++ get.decided.event ∷ [])).allocations)
-      (reply_of m (number_of p1) (op.GetNum x i))) there
+      (reply_of m (caller_of_pass p1) (op.GetNum x i))) there
       ∙ ap (λ j. answer_of (bases_of (left p1.table.config
       (p1.seen ++ get.decided.before ++ get.decided.event ∷ [])).allocations) (reply_of n2 j (op.GetNum x i)))
       (same_number set (at_once p1) get)
@@ -188,14 +188,15 @@ pub may_load : {p q : PassState} (x i n : ℕ) → Admits p (op.SetNum x i n) �
 may_load {p} {q} x i n ad h c =
     let whole : IsHistory p.table.config (p.seen ++ c.more) = subst
     (λ (r : PassState). IsHistory r.table.config r.seen) c.is h in
-    let keeps : KeepsRegisters (number_of p) (never_of p) (never_behind p.table.config (p.seen ++ c.more)) =
+    let keeps : KeepsRegisters (caller_of_pass p) (never_of p) (never_behind p.table.config (p.seen ++ c.more)) =
     λ r lt. sym (ap (λ (y : PassState). value_of y r) c.is)
     ∙ calls_leave_other_registers p (op.SetNum x i n) answer.Done q r c lt (λ e. cc) in
     let typed = (stands p.table.config p.seen (earlier_part_is_history p.table.config p.seen c.more
     whole)).all.mirrors.typed in
     let meets : Meets (never_behind p.table.config (p.seen ++ c.more))
-    (register_at (never_behind p.table.config (p.seen ++ c.more)) (number_of p) x) i IsNumber =
-    meets_register p.table.config.globals (never_of p) (never_behind p.table.config (p.seen ++ c.more)) (number_of p)
+    (register_at (never_behind p.table.config (p.seen ++ c.more)) (caller_of_pass p) x) i IsNumber =
+    meets_register p.table.config.globals (never_of p) (never_behind p.table.config (p.seen
+    ++ c.more)) (caller_of_pass p)
     (never_continues p.table.config p.seen c.more) keeps typed x i IsNumber ad.in_range ad.access in
     record {
       of_a_caller = still_caller c ad.of_a_caller;

@@ -15,10 +15,10 @@ use Rattle.mk_core.specs.declared.events.Answer.TheVariants as answer
 use Rattle.mk_core.specs.declared.events.Event.{Event}
 use Rattle.mk_core.specs.History.{never_behind}
 use Rattle.mk_words.specs.States.{PassState}
-use Rattle.mk_caller.specs.States.{number_of, never_of, value_of, Admits}
+use Rattle.mk_caller.specs.States.{caller_of_pass, never_of, value_of, Admits}
 use Rattle.mk_caller.specs.Called.{Called, IsAnswered}
 use Rattle.mk_caller.proofs.After.{set_same, value_left, calls_leave_other_registers, still_caller, caller_there}
-use Rattle.mk_frames.proofs.OtherCalls.{never_continues}
+use Rattle.mk_laws.proofs.OtherCalls.{never_continues}
 use Rattle.mk_caller_clients.specs.Setters.{is_set_of, IsOnlySetter, HasSeenAllOf, TakesOut}
 use Rattle.mk_caller_clients.proofs.Globals.{calls_keep, set_gives}
 use Rattle.mk_caller_clients.proofs.Between.{at_once, before, decided, others, between, same_config, place, never_there}
@@ -33,7 +33,7 @@ pub moved : {p q : PassState} (d x : ℕ) → Admits p (op.Move d x) → Called 
     → value_of q d ≡ value_of p x
 moved {p} d x ad c =
     value_left c d ad.in_range.0
-    ∙ set_same (never_behind p.table.config (p.seen ++ c.decided.before)) (number_of p) d _
+    ∙ set_same (never_behind p.table.config (p.seen ++ c.decided.before)) (caller_of_pass p) d _
     (caller_there c ad.of_a_caller) ad.in_range.0
     ∙ c.decided.known x ad.in_range.1
 
@@ -48,7 +48,7 @@ pub moved_same : {p q : PassState} (d x : ℕ) → Admits p (op.Move d x) → Ca
     → is_same (value_of q d) (value_of q x) ≡ true
 moved_same {p} {q} d x ad c = same_is q d x (moved d x ad c ∙ sym (source d x ad c))
 
-pub may_compare : {p q : PassState} {o : Op} {a : Answer} (x y : ℕ) → IsCaller (never_of p) (number_of p) → x < 8
+pub may_compare : {p q : PassState} {o : Op} {a : Answer} (x y : ℕ) → IsCaller (never_of p) (caller_of_pass p) → x < 8
     → y < 8 → Called p o a q → Admits q (op.Same x y)
 may_compare x y is lx ly c = record { of_a_caller = still_caller c is; in_range = (lx, ly); access = tt; store = tt }
 
@@ -81,7 +81,7 @@ module _ {p0 p1 r1 p2 p3 : PassState} (d g r : ℕ) (word : ℕ) (a : Answer) (o
         (none_between set later get (is_set_of g) p3.seen last.more (ap (λ (x : PassState). x.seen) last.is)
         (eq-eqb g g refl) only)
         ∙ ap (λ (n : NeverState). global_at n g) (never_there set later get)
-        ∙ set_gives n1 (number_of p0) g r
+        ∙ set_gives n1 (caller_of_pass p0) g r
         (subst (λ count. g < count) (sym (never_continues c p0.seen set.decided.before).globals) ad.in_range.0)
         ∙ set.decided.known r ad.in_range.1
 
@@ -89,7 +89,7 @@ module _ {p0 p1 r1 p2 p3 : PassState} (d g r : ℕ) (word : ℕ) (a : Answer) (o
     pub got : IsOnlySetter p0 g r p3 → value_of p2 d ≡ value_of p0 r
     got only =
         value_left get d may.in_range.0
-        ∙ set_same (never_behind r1.table.config (r1.seen ++ get.decided.before)) (number_of r1) d _
+        ∙ set_same (never_behind r1.table.config (r1.seen ++ get.decided.before)) (caller_of_pass r1) d _
         (caller_there get may.of_a_caller) may.in_range.0
         ∙ ap (λ (k : Config). global_at (never_behind k (r1.seen ++ get.decided.before)) g) (same_config set later get)
         ∙ ap (λ (l : List Event). global_at (never_behind c l) g) (place set later get)

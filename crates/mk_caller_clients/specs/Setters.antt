@@ -7,7 +7,7 @@ use Rattle.mk_core.specs.declared.events.Event.{Event}
 use Rattle.mk_core.specs.Decided.{Decided}
 use Rattle.mk_core.specs.History.{calls}
 use Rattle.mk_words.specs.States.{PassState}
-use Rattle.mk_caller.specs.States.{number_of, value_of, Admits}
+use Rattle.mk_caller.specs.States.{caller_of_pass, value_of, Admits}
 use Rattle.mk_caller.specs.Called.{Called}
 
 abbrev pub is_set_of : ℕ → Op → Bool
@@ -22,7 +22,7 @@ setters p g es = filter (λ (x : Decided). is_set_of g x.op) (calls p.table.conf
 abbrev pub IsOnlySetter : PassState → ℕ → ℕ → PassState → Type 0
 IsOnlySetter p g r q =
     setters p g q.seen ≡ setters p g p.seen
-    ++ record { caller = number_of p; op = op.SetGlobal g r; answer = Done } ∷ []
+    ++ record { caller = caller_of_pass p; op = op.SetGlobal g r; answer = Done } ∷ []
 
 -- The latter pass has seen all that the former has, as where the host joined that one and split off this one.
 pub record HasSeenAllOf (p q : PassState) : Type 0 where
@@ -44,10 +44,11 @@ is_store (op.SetPtr q i p) = true
 is_store (op.CasPtr q i p r) = true
 is_store _ = false
 
-abbrev pub stores : PassState → List Event → List Decided
-stores p es = filter (λ (x : Decided). is_store x.op) (calls p.table.config es)
+abbrev pub store_calls : PassState → List Event → List Decided
+store_calls p es = filter (λ (x : Decided). is_store x.op) (calls p.table.config es)
 
 -- After what the pass had seen its caller's own `set_num` is the only call that may have stored.
 abbrev pub IsOnlyStore : PassState → ℕ → ℕ → ℕ → PassState → Type 0
 IsOnlyStore p x i n q =
-    stores p q.seen ≡ stores p p.seen ++ record { caller = number_of p; op = op.SetNum x i n; answer = Done } ∷ []
+    store_calls p q.seen ≡ store_calls p p.seen
+    ++ record { caller = caller_of_pass p; op = op.SetNum x i n; answer = Done } ∷ []

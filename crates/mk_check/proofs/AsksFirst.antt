@@ -14,7 +14,8 @@ use Rattle.mk_check.specs.declared.feeding.tree.Node.TheVariants as node
 use Rattle.mk_check.specs.declared.feeding.tree.Frame.{Frame}
 use Rattle.mk_check.specs.declared.feeding.tree.Frame.TheVariants as frame
 use Rattle.mk_check.specs.Steps.{after_line, asks_first, is_asking, is_print, op_asked}
-use Rattle.mk_check.specs.Trees.{FrameIsWithin, FramesAreWithin, HasStopped, IsBelow, IsTree, IsWithin, LeavesBlock}
+use Rattle.mk_check.specs.Trees.{FrameIsWithin, FramesAreWithin, HasStopped, IsBelow, IsTree, PlaceIsWithin}
+use Rattle.mk_check.specs.Trees.{LeavesBlock}
 use Rattle.mk_check.specs.Trees.{MovesOn, MovesToOp, Place}
 use Rattle.mk_check.specs.Trees.{innermost, kept_in, node_after, node_at, node_to_go_on, place_behind_block}
 use Rattle.mk_check.specs.Trees.{resumed_node, steps_at, steps_from, trees, with_kept}
@@ -159,7 +160,8 @@ to_go_on_within count (node.Line line instruction next) at block h w = h
 to_go_on_within count (node.Rounds rounds body next) at block h w = h
 to_go_on_within count (node.Choice number first second next) at block h w = h
 
-pub resumed_within : (nodes : List Node) (p : Place) → IsWithin (length nodes) p → resumed_node nodes p < length nodes
+pub resumed_within : (nodes : List Node) (p : Place) → PlaceIsWithin (length nodes) p
+    → resumed_node nodes p < length nodes
 resumed_within nodes p w =
     to_go_on_within (length nodes) (node_at nodes p.at) p.at (innermost p.frames) w.at
     (λ f e. (FramesAreWithin_pop (length nodes) (take (length p.frames - 1) p.frames) f
@@ -219,25 +221,25 @@ module _ (nodes : List Node) where
   -- A place moves on through lines that print nothing.
 
   pub line_to_op : (p : Place) (line : ℕ) (instruction : Instruction) (next : ℕ) → IsTree nodes
-      → IsWithin (length nodes) p → node_at nodes p.at ≡ node.Line line instruction next
+      → PlaceIsWithin (length nodes) p → node_at nodes p.at ≡ node.Line line instruction next
       → is_asking instruction ≡ false
       → MovesOn nodes p (with_kept (record p { at = next }) (after_line instruction (kept_in p)))
   line_to_op p line instruction next tree w e asks =
       line_goes_on nodes p line instruction next tree w e (asked_so p.numbers instruction ∙ asks)
 
   pub stops_at_op : (p : Place) (line : ℕ) (instruction : Instruction) (next : ℕ) → IsTree nodes
-      → IsWithin (length nodes) p → node_at nodes p.at ≡ node.Line line instruction next
+      → PlaceIsWithin (length nodes) p → node_at nodes p.at ≡ node.Line line instruction next
       → is_asking instruction ≡ true → HasStopped nodes p p
   stops_at_op p line instruction next tree w e asks =
       asks_at nodes p line instruction next tree w e (asked_so p.numbers instruction ∙ asks)
 
-  stays_to_op : (p q : Place) → IsWithin (length nodes) p
+  stays_to_op : (p q : Place) → PlaceIsWithin (length nodes) p
       → asks_first (steps_at (trees nodes) p.at) ≡ true → q ≡ p → MovesToOp nodes p q
   stays_to_op p q w first same =
       subst (λ (x : Place). MovesToOp nodes p x) (sym same) (record { within = w; run = refl; first = first })
 
   -- the end of a block, after which an operation comes first
-  pub left_to_op : (p q : Place) (left : Bool) → IsTree nodes → IsWithin (length nodes) p
+  pub left_to_op : (p q : Place) (left : Bool) → IsTree nodes → PlaceIsWithin (length nodes) p
       → node_at nodes p.at ≡ node.Done → asks_first (steps_at (trees nodes) (resumed_node nodes p)) ≡ true
       → (IsTrue left → LeavesBlock p q) → (left ≡ false → (p.frames ≡ []) × (q ≡ p)) → MovesToOp nodes p q
   left_to_op p q true tree w e first leaves none =
@@ -262,7 +264,7 @@ module _ (nodes : List Node) where
       ∙ ap (λ (o : Option Frame). node_to_go_on node.Done p.at o) last in
       stays_to_op p q w (ap (λ (at : ℕ). asks_first (steps_at (trees nodes) at)) (sym resumed) ∙ first) (none refl).1
 
-  pub same_to_op : (p q : Place) (n : Node) → IsWithin (length nodes) p → node_at nodes p.at ≡ n
+  pub same_to_op : (p q : Place) (n : Node) → PlaceIsWithin (length nodes) p → node_at nodes p.at ≡ n
       → (n ≡ node.Done → ⊥) → asks_first (steps_at (trees nodes) (resumed_node nodes p)) ≡ true → q ≡ p
       → MovesToOp nodes p q
   same_to_op p q n w e other first same =

@@ -11,9 +11,9 @@ use Rattle.mk_check.specs.declared.feeding.tree.Node.TheVariants as node
 use Rattle.mk_check.specs.Feed.{is_refusal, refusal_line, refusal_text}
 use Rattle.mk_check.specs.Feeding.{FeedState, IsFeed, IsWaiting, TakesAnswer, op_of_node, work_left}
 use Rattle.mk_check.specs.Spots.{asks_at, goes_at_once}
-use Rattle.mk_check.specs.Steps.{Kept, Steps, after_answer, is_show, is_silent, op_asked, stop_of, stop_on_answer}
+use Rattle.mk_check.specs.Steps.{KeptState, Steps, after_answer, is_show, is_silent, op_asked, stop_of, stop_on_answer}
 use Rattle.mk_check.specs.Steps.{with_text}
-use Rattle.mk_check.specs.Trees.{HasStopped, IsTree, IsWithin, Place, StopsAt, kept_in, left_in, node_at}
+use Rattle.mk_check.specs.Trees.{HasStopped, IsTree, PlaceIsWithin, Place, StopsAt, kept_in, left_in, node_at}
 use Rattle.mk_check.specs.Trees.{stopped_in, with_kept}
 use Rattle.mk_check.proofs.AsksFirst.{asked_so, next_below}
 use Rattle.mk_check.proofs.Moves as moves
@@ -30,28 +30,29 @@ no_text answer.Fault h = cc
 no_text answer.Null h = cc
 no_text answer.Double h = cc
 
-silent_kept : (line : ℕ) (instruction : Instruction) (a : Answer) (k : Kept) → is_silent instruction a ≡ true
+silent_kept : (line : ℕ) (instruction : Instruction) (a : Answer) (k : KeptState) → is_silent instruction a ≡ true
     → with_text k (refusal_line line (refusal_text a)) ≡ k
 silent_kept line instruction a k h =
     ap (λ (t : List ℕ). with_text k (refusal_line line t))
     (no_text a (and_parts (not (is_refusal a)) (not (is_show instruction)) h).0)
-    ∙ ap (λ (t : List ℕ). let kept : Kept = record k { text = t } in kept) (append-nil k.text)
+    ∙ ap (λ (t : List ℕ). let kept : KeptState = record k { text = t } in kept) (append-nil k.text)
 
-pub stopped_here : (nodes : List Node) (p : Place) (n : Node) → IsTree nodes → IsWithin (length nodes) p
+pub stopped_here : (nodes : List Node) (p : Place) (n : Node) → IsTree nodes → PlaceIsWithin (length nodes) p
     → node_at nodes p.at ≡ n → is_some (op_of_node p.numbers n) ≡ true → HasStopped nodes p p
 stopped_here nodes p node.Done tree w e h = cc
-stopped_here nodes p (node.Line line instruction next) tree w e h = moves.asks_at nodes p line instruction next tree w e h
+stopped_here nodes p (node.Line line instruction next) tree w e h =
+    moves.asks_at nodes p line instruction next tree w e h
 stopped_here nodes p (node.Rounds rounds body next) tree w e h = cc
 stopped_here nodes p (node.Choice number first second next) tree w e h = cc
 
 -- The place is where the steps stop after an answer to the first.
 pub record StopsBehind (nodes : List Node) (p : Place) (a : Answer) (t : Place) : Type 0 where
-  pub within : IsWithin (length nodes) t
+  pub within : PlaceIsWithin (length nodes) t
   pub at : StopsAt (node_at nodes t.at) t
   pub run : stopped_in nodes t ≡ stop_on_answer (left_in nodes p) a (kept_in p)
 
 pub stops_at_once : (nodes : List Node) (p t : Place) (line : ℕ) (instruction : Instruction) (next : ℕ) (a : Answer)
-    → IsTree nodes → IsWithin (length nodes) p → node_at nodes p.at ≡ node.Line line instruction next
+    → IsTree nodes → PlaceIsWithin (length nodes) p → node_at nodes p.at ≡ node.Line line instruction next
     → is_silent instruction a ≡ true
     → HasStopped nodes (with_kept (record p { at = next }) (after_answer instruction a (kept_in p))) t
     → StopsBehind nodes p a t
@@ -63,7 +64,7 @@ stops_at_once nodes p t line instruction next a tree w e silent stopped =
       run = stopped.run
           ∙ sym (ap (λ (s : Steps). stop_on_answer s a (kept_in p))
           (unfolded_line nodes p line instruction next tree w e)
-          ∙ ap (λ (k : Kept). stop_of rest (after_answer instruction a k))
+          ∙ ap (λ (k : KeptState). stop_of rest (after_answer instruction a k))
           (silent_kept line instruction a (kept_in p) silent));
     }
 
@@ -79,7 +80,7 @@ neither true b e f = cc
 
 -- A node that is marked so: the script stops at the next one.
 pub stops_at_next : (nodes : List Node) (p : Place) (line : ℕ) (instruction : Instruction) (next : ℕ) (a : Answer)
-    → IsTree nodes → IsWithin (length nodes) p → node_at nodes p.at ≡ node.Line line instruction next
+    → IsTree nodes → PlaceIsWithin (length nodes) p → node_at nodes p.at ≡ node.Line line instruction next
     → is_refusal a ≡ false → goes_at_once nodes (node_at nodes p.at) ≡ true
     → StopsBehind nodes p a (with_kept (record p { at = next }) (after_answer instruction a (kept_in p)))
 stops_at_next nodes p line instruction next a tree w e told marked =

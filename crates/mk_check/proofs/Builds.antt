@@ -11,7 +11,8 @@ use Rattle.mk_check.specs.declared.feeding.tree.Node.TheVariants as node
 use Rattle.mk_check.specs.declared.feeding.building.Part.{Part}
 use Rattle.mk_check.specs.Steps.{Steps, Done}
 use Rattle.mk_check.specs.Trees.{steps_at, steps_from, with_node, trees}
-use Rattle.mk_check.specs.Building.{StepPart, with_element, Built, part_at, parts_at, parts_in, PartsAreWithin, IsSound}
+use Rattle.mk_check.specs.Building.{StepPart, with_element, Built, part_at, parts_at, parts_in, PartsAreWithin}
+use Rattle.mk_check.specs.Building.{IsSoundlyBuilt}
 use Rattle.mk_check.specs.Building.{with_part, with_node_and_part, AddsLine}
 use Rattle.mk_check.proofs.Moves.{trees_push}
 
@@ -72,8 +73,8 @@ PartsAreWithin_pop count (p ∷ parts) part w = let rest =
     PartsAreWithin_pop count parts part w.2 in ((w.0, w.1, rest.0), rest.1, rest.2)
 
 -- the innermost part is taken away
-pub popped : (b : Built) (part : Part) (parts : List Part) → IsSound b → b.parts ≡ parts ++ part ∷ []
-    → IsSound (record b { parts = parts }) × (part.steps < length b.nodes) × (part.second < length b.nodes)
+pub popped : (b : Built) (part : Part) (parts : List Part) → IsSoundlyBuilt b → b.parts ≡ parts ++ part ∷ []
+    → IsSoundlyBuilt (record b { parts = parts }) × (part.steps < length b.nodes) × (part.second < length b.nodes)
     × (parts_in b ≡ part_at (trees b.nodes) part ∷ parts_at (trees b.nodes) parts)
 popped b part parts sound was =
     let w = PartsAreWithin_pop (length b.nodes) parts part
@@ -85,8 +86,8 @@ popped b part parts sound was =
     )
 
 -- one more node, which begins a part
-grown_sound : (b : Built) (n : Node) (second : ℕ) → IsSound b → second < length b.nodes
-    → IsSound (with_node_and_part b n second)
+grown_sound : (b : Built) (n : Node) (second : ℕ) → IsSoundlyBuilt b → second < length b.nodes
+    → IsSoundlyBuilt (with_node_and_part b n second)
 grown_sound b n second sound h =
     let longer = length_push b.nodes n in
     let some = sound.some in
@@ -99,7 +100,7 @@ grown_sound b n second sound h =
           (omega arith) (omega arith);
     }
 
-grown_parts : (b : Built) (n : Node) (second : ℕ) → IsSound b → second < length b.nodes
+grown_parts : (b : Built) (n : Node) (second : ℕ) → IsSoundlyBuilt b → second < length b.nodes
     → parts_in (with_node_and_part b n second)
     ≡ record { steps = steps_from (trees b.nodes) n; second = steps_at (trees b.nodes) second } ∷ parts_in b
 grown_parts b n second sound h =
@@ -115,7 +116,7 @@ grown_parts b n second sound h =
       second = steps_at (trees b.nodes) second;
     } ∷ ps) k)
 
-pub line_added : (b : Built) (parts : List Part) (part : Part) (line : ℕ) (instruction : Instruction) → IsSound b
+pub line_added : (b : Built) (parts : List Part) (part : Part) (line : ℕ) (instruction : Instruction) → IsSoundlyBuilt b
     → b.parts ≡ parts ++ part ∷ []
     → AddsLine line (element.Line instruction) b
     (with_node_and_part (record b { parts = parts }) (node.Line line instruction part.steps) part.second)
@@ -127,7 +128,7 @@ line_added b parts part line instruction sound was =
           ∙ sym (ap (with_element line (element.Line instruction)) p.3);
     }
 
-pub repeat_added : (b : Built) (parts : List Part) (part body : Part) (line rounds : ℕ) → IsSound b
+pub repeat_added : (b : Built) (parts : List Part) (part body : Part) (line rounds : ℕ) → IsSoundlyBuilt b
     → b.parts ≡ (parts ++ part ∷ []) ++ body ∷ []
     → AddsLine line (element.Repeat rounds) b
     (with_node_and_part (record b { parts = parts }) (node.Rounds rounds body.steps part.steps) part.second)
@@ -141,7 +142,7 @@ repeat_added b parts part body line rounds sound was =
           ∙ ap (λ (ps : List StepPart). part_at (trees b.nodes) body ∷ ps) q.3));
     }
 
-pub if_added : (b : Built) (parts : List Part) (part branches : Part) (line number : ℕ) → IsSound b
+pub if_added : (b : Built) (parts : List Part) (part branches : Part) (line number : ℕ) → IsSoundlyBuilt b
     → b.parts ≡ (parts ++ part ∷ []) ++ branches ∷ []
     → AddsLine line (element.If number) b
     (with_node_and_part (record b { parts = parts }) (node.Choice number branches.steps branches.second part.steps)
@@ -158,14 +159,15 @@ if_added b parts part branches line number sound was =
           ∙ ap (λ (ps : List StepPart). part_at (trees b.nodes) branches ∷ ps) q.3));
     }
 
-put_parts : (b : Built) (second : ℕ) → IsSound b
+put_parts : (b : Built) (second : ℕ) → IsSoundlyBuilt b
     → parts_in (with_part b 0 second) ≡ record { steps = Done; second = steps_at (trees b.nodes) second } ∷ parts_in b
 put_parts b second sound =
     parts_at_push (trees b.nodes) b.parts (record { steps = 0; second = second })
     ∙ ap (λ (s : Steps). let p : StepPart = record { steps = s; second = steps_at (trees b.nodes) second } in p
     ∷ parts_in b) sound.first
 
-pub else_added : (b : Built) (parts : List Part) (part : Part) (line : ℕ) → IsSound b → b.parts ≡ parts ++ part ∷ []
+pub else_added : (b : Built) (parts : List Part) (part : Part) (line : ℕ) → IsSoundlyBuilt b → b.parts ≡ parts
+    ++ part ∷ []
     → AddsLine line element.Else b (with_part (record b { parts = parts }) 0 part.steps)
 else_added b parts part line sound was =
     let p = popped b part parts sound was in
@@ -179,7 +181,7 @@ else_added b parts part line sound was =
       parts = put_parts (record b { parts = parts }) part.steps p.0 ∙ sym (ap (with_element line element.Else) p.3);
     }
 
-pub end_added : (b : Built) (line : ℕ) → IsSound b → AddsLine line element.End b (with_part b 0 0)
+pub end_added : (b : Built) (line : ℕ) → IsSoundlyBuilt b → AddsLine line element.End b (with_part b 0 0)
 end_added b line sound = record {
   sound = record {
     some = sound.some;
@@ -192,14 +194,15 @@ end_added b line sound = record {
 }
 
 -- no part is open, or one
-pub none_added : (b c : Built) (line : ℕ) (e : Element) → IsSound b → b.parts ≡ [] → c ≡ b → with_element line e [] ≡ []
+pub none_added : (b c : Built) (line : ℕ) (e : Element) → IsSoundlyBuilt b → b.parts ≡ [] → c ≡ b
+    → with_element line e [] ≡ []
     → AddsLine line e b c
 none_added b c line e sound none same nothing =
     let f : parts_in b ≡ [] = ap (parts_at (trees b.nodes)) none in
     subst (λ (x : Built). AddsLine line e b x) (sym same)
     (record { sound = sound; parts = f ∙ sym (ap (with_element line e) f ∙ nothing) })
 
-pub one_added : (b c : Built) (part : Part) (line : ℕ) (e : Element) → IsSound b → b.parts ≡ part ∷ []
+pub one_added : (b c : Built) (part : Part) (line : ℕ) (e : Element) → IsSoundlyBuilt b → b.parts ≡ part ∷ []
     → c ≡ record b { parts = [] }
     → ((p : StepPart) → with_element line e (p ∷ []) ≡ []) → AddsLine line e b c
 one_added b c part line e sound one same nothing =

@@ -24,7 +24,7 @@ use Rattle.mk_check.specs.Declarations.{config_of, number_of_name, kind_of, kind
 use Rattle.mk_check.specs.Declarations.{globals_of}
 use Rattle.mk_check.specs.Declarations.{pages_of, resident_of}
 use Rattle.mk_check.specs.Typing.{Around, TypingFault, ◌or◌, unless, at_line, typing_fault, fault_from, type_words}
-use Rattle.mk_check.specs.Typing.{word_among, word_at, type_fault, inside_fault, pointers_fault, offsets_fault}
+use Rattle.mk_check.specs.Typing.{word_among, type_word_at, type_fault, inside_fault, pointers_fault, offsets_fault}
 use Rattle.mk_check.specs.Typing.{IsWellTyped}
 use Rattle.mk_script.proofs.PassedLines.{ArePassed, IsWhole}
 use Rattle.mk_check.proofs.GrammarLemmas.{Some≢None, at_most-None, option_or-None, heap_within, length-script_names}
@@ -127,7 +127,7 @@ module _ (program : List Item) (script : List Item) where
       → IsAmong (types_of program) (kind_of (type_names program) (Pointer at))
   inside_fault-IsAmong at h =
       word_within at (type_words at.name program) refl
-      (unless-None (is_some (word_at (record { program = program; script = script }) (Some at))) kind.Offset h)
+      (unless-None (is_some (type_word_at (record { program = program; script = script }) (Some at))) kind.Offset h)
 
   words_among : (words : List TypeWord) → offsets_fault (record { program = program; script = script }) words ≡ None
       → All (IsAmong (types_of program)) (map (kind_of (type_names program)) words)

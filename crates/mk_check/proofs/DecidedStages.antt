@@ -24,7 +24,7 @@ use Rattle.mk_core.specs.Calls.{progress_q, progress_p, progress_reg, progress_r
 use Rattle.mk_core.specs.Cells.{is_unmapped_header}
 use Rattle.mk_core.specs.Moments.{Moment}
 use Rattle.mk_core.specs.NewPlaces.{target}
-use Rattle.mk_core.specs.Order.{may_decide, comes_next, is_of_any_holder}
+use Rattle.mk_core.specs.Order.{may_decide_new, comes_next, is_of_any_holder}
 use Rattle.mk_core.specs.TurnConditions.{is_decided, cell_freed}
 use Rattle.mk_core.specs.Enabled.{holder_may}
 use Rattle.mk_core.specs.Effects.{decided, sees_double, progress, progress_freed, progress_look}
@@ -189,7 +189,7 @@ not_holders : (x : Step) → has_stage_of_its_own x ≡ true → is_of_any_holde
 not_holders step.Leave k h = cc
 not_holders _ k h = cc
 
-not_deciding : (o : Op) (x : Step) → has_stage_of_its_own x ≡ true → may_decide o x ≡ true → ⊥
+not_deciding : (o : Op) (x : Step) → has_stage_of_its_own x ≡ true → may_decide_new o x ≡ true → ⊥
 not_deciding (op.New d ty full) step.Grant k h = cc
 not_deciding (op.New d ty full) step.Full k h = cc
 not_deciding o x k h = not_holders x k h

@@ -5,7 +5,7 @@ use Rattle.mk_never.specs.declared.operations.Op.{Op}
 use Rattle.mk_core.specs.declared.events.Answer.{Answer}
 use Rattle.mk_core.specs.Decided.{flagged}
 use Rattle.mk_script.specs.declared.items.Item.{Item}
-use Rattle.mk_check.specs.Blocks.{Blocks, Done, Line, Rounds, Choice, is_done, script_of}
+use Rattle.mk_check.specs.Blocks.{Blocks, Done, Line, Rounds, Choice, is_end_of_block, script_of}
 use Rattle.mk_check.specs.Feed.{Scope, Fed, op_of, with_answer, note, take_answer, take_answers, fed_before_answers}
 use Rattle.mk_check.specs.Feed.{feed, has_ended}
 use Rattle.mk_check.specs.Feeding.{FeedState, FeedStandsFor, IsWaiting, first_op, script_scope, next_op}
@@ -24,7 +24,7 @@ feed_push program k answers a =
     take_answers_push (script_scope program k) (fed_before_answers (script_scope program k) (script_of program k))
     answers a
 
-taken_at_end : (scope : Scope) (fed : Fed) (left : Blocks) (a : Answer) → is_done left ≡ true
+taken_at_end : (scope : Scope) (fed : Fed) (left : Blocks) (a : Answer) → is_end_of_block left ≡ true
     → take_answer scope fed left a ≡ fed
 taken_at_end scope fed Done a h = refl
 taken_at_end scope fed (Line line item rest) a h = cc

@@ -20,7 +20,7 @@ use Rattle.mk_script.specs.declared.faults.LineFault.{LineFault}
 use Rattle.mk_script.specs.declared.faults.LineFault.TheVariants.{Text}
 use Rattle.mk_script.specs.declared.faults.TextKind.TheVariants as kind
 use Rattle.mk_script.specs.Names.{number_of_word}
-use Rattle.mk_script.specs.Keywords.{keyword_of, has_operands}
+use Rattle.mk_script.specs.Keywords.{keyword_of, has_word_count}
 use Rattle.mk_script.specs.Operands.{◌>>=◌, name, at, number, numbers, number_field, pointer_field, field_of, fields_of}
 use Rattle.mk_script.specs.Operands.{have_form, item_from}
 use Rattle.mk_script.specs.Lines.{line_item, other_line, placed_item, is_placed}
@@ -143,7 +143,7 @@ type_from (Ok t') fields t words h = ap (words_in words) h
 type_from (Err fault) fields t words h = absurd (Err≢Ok fault (TypeItem t words) h)
 
 form-word : (form : Keyword) (operands : List (List ℕ)) (t : List ℕ) (words : List TypeWord)
-    → has_operands form (length operands) ≡ true → have_form form operands ≡ true
+    → has_word_count form (length operands) ≡ true → have_form form operands ≡ true
     → item_from form operands ≡ Ok (TypeItem t words) → 1 ≤ length words
 unfolding item_from
 form-word TypeLine [] t words two forms h = absurd (Err≢Ok (Text kind.Word) (TypeItem t words) h)
@@ -160,11 +160,12 @@ placed-word : (before : List Item) (form : Option Keyword) (operands : List (Lis
     (words : List TypeWord) → placed_item before form operands ≡ Ok (TypeItem t words) → 1 ≤ length words
 placed-word before None operands t words h = absurd (Err≢Ok (Text kind.Word) (TypeItem t words) h)
 placed-word before (Some form) operands t words h =
-    let both = if-Ok-both (has_operands form (length operands) && have_form form operands && is_placed before form)
+    let both = if-Ok-both (has_word_count form (length operands) && have_form form operands && is_placed before form)
     (item_from form operands) (Text kind.Word) (TypeItem t words) h in
-    let fits = and-true (has_operands form (length operands) && have_form form operands) (is_placed before form) both.0
+    let fits = and-true (has_word_count form (length operands)
+    && have_form form operands) (is_placed before form) both.0
     in
-    let parts = and-true (has_operands form (length operands)) (have_form form operands) fits.0 in
+    let parts = and-true (has_word_count form (length operands)) (have_form form operands) fits.0 in
     form-word form operands t words parts.0 parts.1 both.1
 
 other_line-word : (before : List Item) (words : List (List ℕ)) (t : List ℕ) (kinds : List TypeWord)

@@ -8,7 +8,7 @@ use Rattle.mk_never.specs.declared.operations.Op.{Op}
 use Rattle.mk_core.specs.declared.events.Answer.{Answer}
 use Rattle.mk_script.specs.declared.items.Item.{Item}
 use Rattle.mk_script.specs.declared.items.Item.TheVariants.{Repeat, If, Else, End}
-use Rattle.mk_check.specs.Blocks.{Blocks, Done, Line, Rounds, Choice, followed_by, is_done, AllPlaced, AllLines}
+use Rattle.mk_check.specs.Blocks.{Blocks, Done, Line, Rounds, Choice, followed_by, is_end_of_block, AllPlaced, AllLines}
 use Rattle.mk_check.specs.Blocks.{AllFrom, Part, branch, with_line, with_item, parts_from, outermost_blocks}
 use Rattle.mk_check.specs.Blocks.{blocks_from, ScriptText, script_of}
 use Rattle.mk_check.specs.Feed.{Scope, Fed, number_in, op_of, run_line, then_run, run_rounds, run, with_answer, note}
@@ -70,7 +70,7 @@ module _ (P : ℕ → Item → Type 0) where
   AllPlaced-then_run : (fed : Fed) (go : Fed → Fed) (rest : Blocks) → AllPlaced P fed.left
       → ((f : Fed) → AllPlaced P (go f).left) → AllPlaced P rest
       → AllPlaced P (then_run fed go rest).left
-  AllPlaced-then_run fed go rest h goes behind = by_test (is_done fed.left)
+  AllPlaced-then_run fed go rest h goes behind = by_test (is_end_of_block fed.left)
     where
       by_test : (t : Bool) → AllPlaced P (if t then go fed else record fed { left = followed_by fed.left rest }).left
       by_test true = goes fed

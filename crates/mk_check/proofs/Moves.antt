@@ -10,10 +10,12 @@ use Rattle.mk_check.specs.declared.feeding.tree.Node.{Node}
 use Rattle.mk_check.specs.declared.feeding.tree.Node.TheVariants as node
 use Rattle.mk_check.specs.declared.feeding.tree.Frame.{Frame}
 use Rattle.mk_check.specs.declared.feeding.tree.Frame.TheVariants as frame
-use Rattle.mk_check.specs.Steps.{Steps, Done, Line, Rounds, Choice, then_steps, Kept, Stopped, op_asked, after_line}
+use Rattle.mk_check.specs.Steps.{Steps, Done, Line, Rounds, Choice, then_steps, KeptState, Stopped, op_asked}
+use Rattle.mk_check.specs.Steps.{after_line}
 use Rattle.mk_check.specs.Steps.{stop_of}
 use Rattle.mk_check.specs.Trees.{steps_at, steps_from, with_node, trees, IsBelow, node_at, IsTree, Place, frame_steps}
-use Rattle.mk_check.specs.Trees.{behind_frames, left_in, kept_in, with_kept, FrameIsWithin, FramesAreWithin, IsWithin}
+use Rattle.mk_check.specs.Trees.{behind_frames, left_in, kept_in, with_kept, FrameIsWithin, FramesAreWithin}
+use Rattle.mk_check.specs.Trees.{PlaceIsWithin}
 use Rattle.mk_check.specs.Trees.{StopsAt, place_in_rounds, place_behind_block, place_in_branch, LeavesBlock, work_of}
 use Rattle.mk_check.specs.Trees.{work_in, MovesOn, HasStopped}
 use Rattle.mk_check.proofs.StepLaws.{stop_of-round, stop_of-choice_zero, stop_of-choice_other}
@@ -108,7 +110,7 @@ work_of-then_steps (Choice number first second rest) b = omega (arith, work_of-t
 
 module _ (nodes : List Node) where
   -- the steps that are left once a `repeat` is entered
-  entered_runs : (p : Place) (rounds body next : ℕ) (k : Kept)
+  entered_runs : (p : Place) (rounds body next : ℕ) (k : KeptState)
       → stop_of (left_in nodes (place_in_rounds p rounds body next)) k
       ≡ stop_of (Rounds rounds (steps_at (trees nodes) body)
       (then_steps (steps_at (trees nodes) next) (behind_frames (trees nodes) p.frames))) k
@@ -133,36 +135,36 @@ module _ (nodes : List Node) where
 
   entered_within : (p : Place) (rounds body next : ℕ) → FramesAreWithin (length nodes) p.frames → body < length nodes
       → next < length nodes
-      → IsWithin (length nodes) (place_in_rounds p rounds body next)
+      → PlaceIsWithin (length nodes) (place_in_rounds p rounds body next)
   entered_within p zero body next w b n = record { at = n; frames = w }
   entered_within p (suc more) body next w b n =
       record { at = b; frames = FramesAreWithin_push (length nodes) p.frames (frame.Rounds more body next) w (b, n) }
 
   -- a node's steps are first among those that are left
-  unfolded : (p : Place) (n : Node) → IsTree nodes → IsWithin (length nodes) p → node_at nodes p.at ≡ n
+  unfolded : (p : Place) (n : Node) → IsTree nodes → PlaceIsWithin (length nodes) p → node_at nodes p.at ≡ n
       → left_in nodes p ≡ then_steps (steps_from (trees nodes) n) (behind_frames (trees nodes) p.frames)
   unfolded p n tree w e =
       ap (λ (s : Steps). then_steps s (behind_frames (trees nodes) p.frames)) (steps_at-trees nodes p.at tree w.at
       ∙ ap (steps_from (trees nodes)) e)
 
   pub unfolded_line : (p : Place) (line : ℕ) (instruction : Instruction) (next : ℕ) → IsTree nodes
-      → IsWithin (length nodes) p
+      → PlaceIsWithin (length nodes) p
       → node_at nodes p.at ≡ node.Line line instruction next
       → left_in nodes p ≡ Line line instruction (left_in nodes (record p { at = next }))
   unfolded_line p line instruction next tree w e = unfolded p (node.Line line instruction next) tree w e
 
-  pub unfolded_done : (p : Place) → IsTree nodes → IsWithin (length nodes) p → node_at nodes p.at ≡ node.Done
+  pub unfolded_done : (p : Place) → IsTree nodes → PlaceIsWithin (length nodes) p → node_at nodes p.at ≡ node.Done
       → p.frames ≡ [] → left_in nodes p ≡ Done
   unfolded_done p tree w e none = unfolded p node.Done tree w e ∙ ap (behind_frames (trees nodes)) none
 
-  below_length : (p : Place) (n : Node) → IsTree nodes → IsWithin (length nodes) p → node_at nodes p.at ≡ n
+  below_length : (p : Place) (n : Node) → IsTree nodes → PlaceIsWithin (length nodes) p → node_at nodes p.at ≡ n
       → IsBelow (length nodes) n
   below_length p n tree w e =
       subst (λ (m : Node). IsBelow (length nodes) m) e
       (IsBelow-more p.at (length nodes) (node_at nodes p.at) (let h = w.at in omega arith) (tree p.at w.at))
 
   pub line_goes_on : (p : Place) (line : ℕ) (instruction : Instruction) (next : ℕ) → IsTree nodes
-      → IsWithin (length nodes) p
+      → PlaceIsWithin (length nodes) p
       → node_at nodes p.at ≡ node.Line line instruction next → is_some (op_asked p.numbers instruction) ≡ false
       → MovesOn nodes p (with_kept (record p { at = next }) (after_line instruction (kept_in p)))
   line_goes_on p line instruction next tree w e none =
@@ -176,7 +178,7 @@ module _ (nodes : List Node) where
         nearer = omega (arith, ap work_of here);
       }
 
-  pub rounds_go_on : (p : Place) (rounds body next : ℕ) → IsTree nodes → IsWithin (length nodes) p
+  pub rounds_go_on : (p : Place) (rounds body next : ℕ) → IsTree nodes → PlaceIsWithin (length nodes) p
       → node_at nodes p.at ≡ node.Rounds rounds body next → MovesOn nodes p (place_in_rounds p rounds body next)
   rounds_go_on p rounds body next tree w e =
       let here = unfolded p (node.Rounds rounds body next) tree w e in
@@ -193,7 +195,7 @@ module _ (nodes : List Node) where
       kept zero = refl
       kept (suc m) = refl
 
-  pub choice_goes_on : (p : Place) (number first second next : ℕ) → IsTree nodes → IsWithin (length nodes) p
+  pub choice_goes_on : (p : Place) (number first second next : ℕ) → IsTree nodes → PlaceIsWithin (length nodes) p
       → node_at nodes p.at ≡ node.Choice number first second next
       → MovesOn nodes p (place_in_branch p number first second next)
   choice_goes_on p number first second next tree w e =
@@ -283,7 +285,7 @@ module _ (nodes : List Node) where
       kept zero = refl
       kept (suc m) = refl
 
-  pub end_goes_on : (p q : Place) → IsTree nodes → IsWithin (length nodes) p → node_at nodes p.at ≡ node.Done
+  pub end_goes_on : (p q : Place) → IsTree nodes → PlaceIsWithin (length nodes) p → node_at nodes p.at ≡ node.Done
       → LeavesBlock p q → MovesOn nodes p q
   end_goes_on p q tree w e leaves =
       let here : left_in nodes p ≡ frame_steps (trees nodes) (behind_frames (trees nodes) leaves.frames) leaves.frame =
@@ -297,7 +299,8 @@ module _ (nodes : List Node) where
 
   -- A place where the steps stop.
 
-  pub ends_at : (p : Place) → IsTree nodes → IsWithin (length nodes) p → node_at nodes p.at ≡ node.Done → p.frames ≡ []
+  pub ends_at : (p : Place) → IsTree nodes → PlaceIsWithin (length nodes) p → node_at nodes p.at ≡ node.Done
+      → p.frames ≡ []
       → HasStopped nodes p p
   ends_at p tree w e none =
       let here : left_in nodes p ≡ Done = unfolded p node.Done tree w e ∙ ap (behind_frames (trees nodes)) none in
@@ -310,7 +313,8 @@ module _ (nodes : List Node) where
         run = at (left_in nodes p) here;
       }
 
-  pub asks_at : (p : Place) (line : ℕ) (instruction : Instruction) (next : ℕ) → IsTree nodes → IsWithin (length nodes) p
+  pub asks_at : (p : Place) (line : ℕ) (instruction : Instruction) (next : ℕ) → IsTree nodes
+      → PlaceIsWithin (length nodes) p
       → node_at nodes p.at ≡ node.Line line instruction next → is_some (op_asked p.numbers instruction) ≡ true
       → HasStopped nodes p p
   asks_at p line instruction next tree w e some =

@@ -6,7 +6,8 @@ use Rattle.mk_check.specs.declared.feeding.tree.Node.TheVariants as node
 use Rattle.mk_check.specs.declared.feeding.tree.Frame.{Frame}
 use Rattle.mk_check.specs.declared.feeding.tree.Frame.TheVariants as frame
 use Rattle.mk_check.specs.Spots.{asks_at}
-use Rattle.mk_check.specs.Trees.{FrameIsWithin, FramesAreWithin, HasStopped, IsTree, IsWithin, Place, innermost, node_at}
+use Rattle.mk_check.specs.Trees.{FrameIsWithin, FramesAreWithin, HasStopped, IsTree, PlaceIsWithin, Place, innermost}
+use Rattle.mk_check.specs.Trees.{node_at}
 use Rattle.mk_check.proofs.AsksFirst.{round_left, split_last}
 use Rattle.mk_check.proofs.AtOnce.{asks_so, stopped_here}
 use Rattle.mk_check.proofs.Moves.{FramesAreWithin_pop, end_goes_on}
@@ -18,7 +19,7 @@ innermost_within count frames f w e =
     (subst (λ (xs : List Frame). FramesAreWithin count xs) (split_last frames f e) w)).1
 
 pub round_begins : (nodes : List Node) (p t : Place) (rounds less body next : ℕ) → IsTree nodes
-    → IsWithin (length nodes) p → node_at nodes p.at ≡ node.Done
+    → PlaceIsWithin (length nodes) p → node_at nodes p.at ≡ node.Done
     → innermost p.frames ≡ Some (frame.Rounds rounds body next) → 0 < rounds → less ≡ rounds - 1
     → asks_at (node_at nodes body) ≡ true
     → t ≡ record p { at = body; frames = slice_set p.frames (length p.frames - 1) (frame.Rounds less body next) }

@@ -8,25 +8,25 @@ use Rattle.mk_script.specs.declared.items.Item.TheVariants.{Heap}
 use Rattle.mk_check.specs.Declarations.{number_of_name}
 use Rattle.mk_check.specs.Blocks.{Blocks, Done, Line, Rounds, Choice, followed_by}
 use Rattle.mk_check.specs.Feed.{Scope, Fed, number_in, op_of, run_line, then_run, run_rounds, run, with_answer}
-use Rattle.mk_check.specs.Steps.{Steps, then_steps, none_left, steps_of, instruction_of, Kept, Stopped, op_asked}
+use Rattle.mk_check.specs.Steps.{Steps, then_steps, none_left, numbered, instruction_of, KeptState, Stopped, op_asked}
 use Rattle.mk_check.specs.Steps.{after_line, stop_behind, stop_of_rounds, stop_of, after_answer, stop_on_answer}
 use Rattle.mk_check.specs.Steps as steps
 
-abbrev pub kept_of : Fed → Kept
+abbrev pub kept_of : Fed → KeptState
 kept_of fed = record { numbers = fed.numbers; text = fed.text }
 
 abbrev pub stopped_of : Scope → Fed → Stopped
-stopped_of scope fed = record { left = steps_of scope fed.left; kept = kept_of fed }
+stopped_of scope fed = record { left = numbered scope fed.left; kept = kept_of fed }
 
 steps_of-followed_by : (scope : Scope) (a b : Blocks)
-    → steps_of scope (followed_by a b) ≡ then_steps (steps_of scope a) (steps_of scope b)
+    → numbered scope (followed_by a b) ≡ then_steps (numbered scope a) (numbered scope b)
 steps_of-followed_by scope Done b = refl
 steps_of-followed_by scope (Line line item rest) b =
     ap (steps.Line line (instruction_of scope item)) (steps_of-followed_by scope rest b)
 steps_of-followed_by scope (Rounds rounds body rest) b =
-    ap (steps.Rounds rounds (steps_of scope body)) (steps_of-followed_by scope rest b)
+    ap (steps.Rounds rounds (numbered scope body)) (steps_of-followed_by scope rest b)
 steps_of-followed_by scope (Choice number first second rest) b =
-    ap (steps.Choice (number_of_name number scope.numbers) (steps_of scope first) (steps_of scope second))
+    ap (steps.Choice (number_of_name number scope.numbers) (numbered scope first) (numbered scope second))
     (steps_of-followed_by scope rest b)
 
 pub op_of-asked : (scope : Scope) (fed : Fed) (item : Item)
@@ -58,13 +58,13 @@ pub record Agrees (scope : Scope) (fed : Fed) (stopped : Stopped) (ops : List Op
   pub stop : stopped_of scope fed ≡ stopped
   pub answers : fed.ops ≡ ops
 
-then_run_agrees : (scope : Scope) (fed : Fed) (go : Fed → Fed) (rest : Blocks) (go' : Kept → Stopped)
+then_run_agrees : (scope : Scope) (fed : Fed) (go : Fed → Fed) (rest : Blocks) (go' : KeptState → Stopped)
     → ((f : Fed) → Agrees scope (go f) (go' (kept_of f)) f.ops)
-    → Agrees scope (then_run fed go rest) (stop_behind (stopped_of scope fed) go' (steps_of scope rest)) fed.ops
+    → Agrees scope (then_run fed go rest) (stop_behind (stopped_of scope fed) go' (numbered scope rest)) fed.ops
 then_run_agrees scope fed go rest go' h = by_left fed.left
   where
     by_left : (left : Blocks) → Agrees scope (then_run (record fed { left = left }) go rest)
-        (stop_behind (stopped_of scope (record fed { left = left })) go' (steps_of scope rest)) fed.ops
+        (stop_behind (stopped_of scope (record fed { left = left })) go' (numbered scope rest)) fed.ops
     by_left Done = h (record fed { left = Done })
     by_left (Line line item left) = record {
       stop = ap (λ (s : Steps). let at : Stopped = record { left = s; kept = kept_of fed } in at)
@@ -83,51 +83,51 @@ then_run_agrees scope fed go rest go' h = by_left fed.left
     }
 
 -- a part that agrees, and then the rest
-then_agrees : (scope : Scope) (fed : Fed) (go : Fed → Fed) (rest : Blocks) (stopped : Stopped) (go' : Kept
+then_agrees : (scope : Scope) (fed : Fed) (go : Fed → Fed) (rest : Blocks) (stopped : Stopped) (go' : KeptState
     → Stopped) (ops : List Op)
     → Agrees scope fed stopped ops
     → ((f : Fed) → Agrees scope (go f) (go' (kept_of f)) f.ops)
-    → Agrees scope (then_run fed go rest) (stop_behind stopped go' (steps_of scope rest)) ops
+    → Agrees scope (then_run fed go rest) (stop_behind stopped go' (numbered scope rest)) ops
 then_agrees scope fed go rest stopped go' ops a h =
     let b = then_run_agrees scope fed go rest go' h in
     record {
-      stop = b.stop ∙ ap (λ (s : Stopped). stop_behind s go' (steps_of scope rest)) a.stop;
+      stop = b.stop ∙ ap (λ (s : Stopped). stop_behind s go' (numbered scope rest)) a.stop;
       answers = b.answers ∙ a.answers;
     }
 
-run_rounds_agrees : (scope : Scope) (rounds : ℕ) (body : Blocks) (go : Fed → Fed) (go' : Kept → Stopped)
+run_rounds_agrees : (scope : Scope) (rounds : ℕ) (body : Blocks) (go : Fed → Fed) (go' : KeptState → Stopped)
     → ((f : Fed) → Agrees scope (go f) (go' (kept_of f)) f.ops)
     → (fed : Fed) → Agrees scope (run_rounds rounds body go fed)
-    (stop_of_rounds rounds (steps_of scope body) go' (kept_of fed)) fed.ops
+    (stop_of_rounds rounds (numbered scope body) go' (kept_of fed)) fed.ops
 run_rounds_agrees scope zero body go go' h fed = record { stop = refl; answers = refl }
 run_rounds_agrees scope (suc more) body go go' h fed =
     then_agrees scope (go fed) (run_rounds more body go) (Rounds more body Done) (go' (kept_of fed))
-    (stop_of_rounds more (steps_of scope body) go') fed.ops
+    (stop_of_rounds more (numbered scope body) go') fed.ops
     (h fed) (run_rounds_agrees scope more body go go' h)
 
 -- The steps stop where the blocks do.
 pub run_agrees : (scope : Scope) (b : Blocks) (fed : Fed)
-    → Agrees scope (run scope b fed) (stop_of (steps_of scope b) (kept_of fed)) fed.ops
+    → Agrees scope (run scope b fed) (stop_of (numbered scope b) (kept_of fed)) fed.ops
 run_agrees scope Done fed = record { stop = refl; answers = refl }
 run_agrees scope (Line line item rest) fed =
     by_test (is_some (op_of scope fed item)) (is_some (op_asked fed.numbers (instruction_of scope item)))
     (ap (λ (o : Option Op). is_some o) (op_of-asked scope fed item))
     (let a = run_agrees scope rest (run_line scope fed item) in
     record {
-      stop = a.stop ∙ ap (stop_of (steps_of scope rest)) (kept_of-run_line scope fed item);
+      stop = a.stop ∙ ap (stop_of (numbered scope rest)) (kept_of-run_line scope fed item);
       answers = a.answers ∙ ops-run_line scope fed item;
     })
   where
     by_test : (s t : Bool) → s ≡ t
         → Agrees scope (run scope rest (run_line scope fed item))
-        (stop_of (steps_of scope rest) (after_line (instruction_of scope item) (kept_of fed))) fed.ops
+        (stop_of (numbered scope rest) (after_line (instruction_of scope item) (kept_of fed))) fed.ops
         → Agrees scope (if s then record fed { left = Line line item rest }
         else run scope rest (run_line scope fed item))
         (if t then record {
-          left = steps.Line line (instruction_of scope item) (steps_of scope rest);
+          left = steps.Line line (instruction_of scope item) (numbered scope rest);
           kept = kept_of fed;
         }
-        else stop_of (steps_of scope rest) (after_line (instruction_of scope item) (kept_of fed)))
+        else stop_of (numbered scope rest) (after_line (instruction_of scope item) (kept_of fed)))
         fed.ops
     by_test true true e h = record { stop = refl; answers = refl }
     by_test true false e h = cc
@@ -135,23 +135,23 @@ run_agrees scope (Line line item rest) fed =
     by_test false false e h = h
 run_agrees scope (Rounds rounds body rest) fed =
     then_agrees scope (run_rounds rounds body (run scope body) fed) (run scope rest) rest
-    (stop_of_rounds rounds (steps_of scope body) (stop_of (steps_of scope body)) (kept_of fed))
-    (stop_of (steps_of scope rest)) fed.ops
-    (run_rounds_agrees scope rounds body (run scope body) (stop_of (steps_of scope body)) (run_agrees scope body) fed)
+    (stop_of_rounds rounds (numbered scope body) (stop_of (numbered scope body)) (kept_of fed))
+    (stop_of (numbered scope rest)) fed.ops
+    (run_rounds_agrees scope rounds body (run scope body) (stop_of (numbered scope body)) (run_agrees scope body) fed)
     (run_agrees scope rest)
 run_agrees scope (Choice number first second rest) fed =
     then_agrees scope (if number_in scope fed number == 0 then run scope second fed else run scope first fed)
     (run scope rest) rest
-    (if number_in scope fed number == 0 then stop_of (steps_of scope second) (kept_of fed)
-    else stop_of (steps_of scope first) (kept_of fed))
-    (stop_of (steps_of scope rest)) fed.ops
+    (if number_in scope fed number == 0 then stop_of (numbered scope second) (kept_of fed)
+    else stop_of (numbered scope first) (kept_of fed))
+    (stop_of (numbered scope rest)) fed.ops
     (by_test (number_in scope fed number == 0) (run_agrees scope first fed) (run_agrees scope second fed))
     (run_agrees scope rest)
   where
-    by_test : (t : Bool) → Agrees scope (run scope first fed) (stop_of (steps_of scope first) (kept_of fed)) fed.ops
-        → Agrees scope (run scope second fed) (stop_of (steps_of scope second) (kept_of fed)) fed.ops
+    by_test : (t : Bool) → Agrees scope (run scope first fed) (stop_of (numbered scope first) (kept_of fed)) fed.ops
+        → Agrees scope (run scope second fed) (stop_of (numbered scope second) (kept_of fed)) fed.ops
         → Agrees scope (if t then run scope second fed else run scope first fed)
-        (if t then stop_of (steps_of scope second) (kept_of fed) else stop_of (steps_of scope first) (kept_of fed))
+        (if t then stop_of (numbered scope second) (kept_of fed) else stop_of (numbered scope first) (kept_of fed))
         fed.ops
     by_test true f g = g
     by_test false f g = f

@@ -13,14 +13,15 @@ use Rattle.mk_check.specs.declared.feeding.instructions.Instruction.TheVariants.
 use Rattle.mk_check.specs.declared.feeding.instructions.Instruction.TheVariants.{CasPtr, Same, IsNull, Show}
 use Rattle.mk_check.specs.declared.feeding.tree.Node.{Node}
 use Rattle.mk_check.specs.declared.feeding.tree.Node.TheVariants as node
-use Rattle.mk_check.specs.Blocks.{Blocks, Done, Line, Rounds, Choice, ScriptText, script_of, blocks_from, is_done}
+use Rattle.mk_check.specs.Blocks.{Blocks, Done, Line, Rounds, Choice, ScriptText, script_of, blocks_from}
+use Rattle.mk_check.specs.Blocks.{is_end_of_block}
 use Rattle.mk_check.specs.Feed.{Scope, Fed, op_of, refusal_line, refusal_text, answered_number, show_text, with_answer}
 use Rattle.mk_check.specs.Feed.{note, take_answer, fed_before_lines, feed, has_ended}
-use Rattle.mk_check.specs.Steps.{Steps, then_steps, steps_of, instruction_of, Kept, Stopped, op_asked, with_text}
+use Rattle.mk_check.specs.Steps.{Steps, then_steps, numbered, instruction_of, KeptState, Stopped, op_asked, with_text}
 use Rattle.mk_check.specs.Steps.{after_answer, stop_of, stop_on_answer}
 use Rattle.mk_check.specs.Steps as steps
 use Rattle.mk_check.specs.Trees.{Place, steps_at, trees, left_in, kept_in, stopped_in, with_kept, node_at, IsTree}
-use Rattle.mk_check.specs.Trees.{IsWithin, StopsAt, HasStopped}
+use Rattle.mk_check.specs.Trees.{PlaceIsWithin, StopsAt, HasStopped}
 use Rattle.mk_check.specs.Feeding.{FeedState, IsAtStop, op_of_node, op_in, first_op, script_scope, FeedStandsFor}
 use Rattle.mk_check.specs.Feeding.{IsFeed, IsWaiting}
 use Rattle.mk_check.proofs.StepLaws.{behind_text, stopped_behind_text, stop_of-text}
@@ -35,10 +36,10 @@ pub record BeginsWith (scope : Scope) (left : Blocks) (line : ℕ) (instruction 
   pub more : Blocks
   pub is : left ≡ Line line item more
   pub named : instruction_of scope item ≡ instruction
-  pub behind : steps_of scope more ≡ rest
+  pub behind : numbered scope more ≡ rest
 
 begins_with : (scope : Scope) (left : Blocks) (line : ℕ) (instruction : Instruction) (rest : Steps)
-    → steps_of scope left ≡ steps.Line line instruction rest → BeginsWith scope left line instruction rest
+    → numbered scope left ≡ steps.Line line instruction rest → BeginsWith scope left line instruction rest
 begins_with scope Done line instruction rest e = cc
 begins_with scope (Line l item more) line instruction rest e =
     let f : l ≡ line = cc in
@@ -46,7 +47,7 @@ begins_with scope (Line l item more) line instruction rest e =
 begins_with scope (Rounds rounds body more) line instruction rest e = cc
 begins_with scope (Choice number first second more) line instruction rest e = cc
 
-no_more : (scope : Scope) (left : Blocks) → steps_of scope left ≡ steps.Done → left ≡ Done
+no_more : (scope : Scope) (left : Blocks) → numbered scope left ≡ steps.Done → left ≡ Done
 no_more scope Done e = refl
 no_more scope (Line line item more) e = cc
 no_more scope (Rounds rounds body more) e = cc
@@ -60,13 +61,13 @@ pub record Tells (scope : Scope) (fed : Fed) (o : Option Op) : Type 0 where
   pub none : has_ended fed ≡ true → is_some o ≡ false
 
 tells : (scope : Scope) (fed : Fed) (nodes : List Node) (p : Place) (n : Node) → IsTree nodes
-    → IsWithin (length nodes) p → node_at nodes p.at ≡ n → StopsAt n p
-    → left_in nodes p ≡ steps_of scope fed.left → p.numbers ≡ fed.numbers → Tells scope fed (op_of_node p.numbers n)
+    → PlaceIsWithin (length nodes) p → node_at nodes p.at ≡ n → StopsAt n p
+    → left_in nodes p ≡ numbered scope fed.left → p.numbers ≡ fed.numbers → Tells scope fed (op_of_node p.numbers n)
 tells scope fed nodes p node.Done tree w e stops left numbers =
     let over = no_more scope fed.left (sym left ∙ unfolded_done nodes p tree w e stops) in
     record {
       op = sym (ap (first_op scope fed) over);
-      ended = λ h. ap is_done over;
+      ended = λ h. ap is_end_of_block over;
       none = λ h. refl;
     }
 tells scope fed nodes p (node.Line line instruction next) tree w e stops left numbers =
@@ -76,7 +77,7 @@ tells scope fed nodes p (node.Line line instruction next) tree w e stops left nu
     ap (λ (ns : List ℕ). op_asked ns instruction) numbers
     ∙ (ap (op_asked fed.numbers) (sym here.named)
     ∙ (sym (op_of-asked scope fed here.item) ∙ sym (ap (first_op scope fed) here.is))) in
-    let on : has_ended fed ≡ false = ap is_done here.is in
+    let on : has_ended fed ≡ false = ap is_end_of_block here.is in
     record { op = op; ended = λ h. cc; none = λ h. cc }
 tells scope fed nodes p (node.Rounds rounds body next) tree w e stops left numbers = absurd stops
 tells scope fed nodes p (node.Choice number first second next) tree w e stops left numbers = absurd stops
@@ -110,7 +111,7 @@ waits_for_answer s tree h waiting = by_op (is_some (op_in s)) refl
 
 pub start_stands : (program : List Item) (k : ℕ) (s : FeedState)
     → stopped_in s.nodes s.place
-    ≡ stop_of (steps_of (script_scope program k) (blocks_from (script_of program k).line (script_of program k).items))
+    ≡ stop_of (numbered (script_scope program k) (blocks_from (script_of program k).line (script_of program k).items))
     (kept_of (fed_before_lines (script_scope program k) (script_of program k)))
     → FeedStandsFor program k s []
 start_stands program k s e =
@@ -132,7 +133,7 @@ then_steps-done (steps.Choice number first second rest) = ap (steps.Choice numbe
 
 -- a script that ran from its first line
 pub start_stops : (nodes : List Node) (scope : Scope) (script : ScriptText) (at : ℕ) (p q : Place)
-    → steps_at (trees nodes) at ≡ steps_of scope (blocks_from script.line script.items)
+    → steps_at (trees nodes) at ≡ numbered scope (blocks_from script.line script.items)
     → p ≡ record {
       at = at;
       frames = [];
@@ -141,12 +142,12 @@ pub start_stops : (nodes : List Node) (scope : Scope) (script : ScriptText) (at 
     }
     → HasStopped nodes p q
     → stopped_in nodes q
-    ≡ stop_of (steps_of scope (blocks_from script.line script.items)) (kept_of (fed_before_lines scope script))
+    ≡ stop_of (numbered scope (blocks_from script.line script.items)) (kept_of (fed_before_lines scope script))
 start_stops nodes scope script at p q tree begins stopped =
-    let left : left_in nodes p ≡ steps_of scope (blocks_from script.line script.items) =
+    let left : left_in nodes p ≡ numbered scope (blocks_from script.line script.items) =
     ap (left_in nodes) begins ∙ (then_steps-done (steps_at (trees nodes) at) ∙ tree) in
     stopped.run ∙ (ap (λ (s : Steps). stop_of s (kept_in p)) left
-    ∙ ap (λ (x : Place). stop_of (steps_of scope (blocks_from script.line script.items)) (kept_in x)) begins)
+    ∙ ap (λ (x : Place). stop_of (numbered scope (blocks_from script.line script.items)) (kept_in x)) begins)
 
 -- One more answer.
 
@@ -160,7 +161,7 @@ notes fed (Some o) line a h = record { kept = refl; more = length_push fed.ops (
 
 record Answers (scope : Scope) (fed : Fed) (line : ℕ) (item : Item) (rest : Blocks) (a : Answer) : Type 0 where
   stop : stopped_of scope (take_answer scope fed (Line line item rest) a)
-      ≡ stop_on_answer (steps_of scope (Line line item rest)) a (kept_of fed)
+      ≡ stop_on_answer (numbered scope (Line line item rest)) a (kept_of fed)
   more : length (take_answer scope fed (Line line item rest) a).ops ≡ length fed.ops + 1
 
 answer_agrees : (scope : Scope) (fed : Fed) (line : ℕ) (item : Item) (rest : Blocks) (a : Answer)
@@ -171,8 +172,9 @@ answer_agrees scope fed line item rest a h =
     let noted_fed = note fed (op_of scope fed item) line a in
     let agrees = run_agrees scope rest (with_answer scope noted_fed item a) in
     record {
-      stop = agrees.stop ∙ (ap (stop_of (steps_of scope rest)) (kept_of-with_answer scope noted_fed item a)
-          ∙ ap (λ (k : Kept). stop_of (steps_of scope rest) (after_answer (instruction_of scope item) a k)) n.kept);
+      stop = agrees.stop ∙ (ap (stop_of (numbered scope rest)) (kept_of-with_answer scope noted_fed item a)
+          ∙ ap (λ (k : KeptState). stop_of (numbered scope rest) (after_answer
+          (instruction_of scope item) a k)) n.kept);
       more = ap (λ (os : List Op). length os) (agrees.answers ∙ ops-with_answer scope noted_fed item a) ∙ n.more;
     }
 
@@ -180,7 +182,7 @@ answered_from : (program : List Item) (k : ℕ) (answers : List Answer) (a : Ans
     (rest : Blocks) (s : FeedState)
     → (feed program k answers).left ≡ Line line item rest → length (feed program k answers).ops ≡ length answers
     → is_some (op_of (script_scope program k) (feed program k answers) item) ≡ true
-    → stopped_in s.nodes s.place ≡ stop_on_answer (steps_of (script_scope program k) (feed program k answers).left) a
+    → stopped_in s.nodes s.place ≡ stop_on_answer (numbered (script_scope program k) (feed program k answers).left) a
     (kept_of (feed program k answers))
     → FeedStandsFor program k s (answers ++ a ∷ [])
 answered_from program k answers a line item rest s is taken some stop =
@@ -190,7 +192,7 @@ answered_from program k answers a line item rest s is taken some stop =
     let at : feed program k (answers ++ a ∷ []) ≡ take_answer scope fed (Line line item rest) a =
     feed_push program k answers a ∙ ap (λ (b : Blocks). take_answer scope fed b a) is in
     let same : stopped_in s.nodes s.place ≡ stopped_of scope (feed program k (answers ++ a ∷ [])) =
-    stop ∙ (ap (λ (b : Blocks). stop_on_answer (steps_of scope b) a (kept_of fed)) is
+    stop ∙ (ap (λ (b : Blocks). stop_on_answer (numbered scope b) a (kept_of fed)) is
     ∙ (sym agrees.stop ∙ ap (stopped_of scope) (sym at))) in
     record {
       taken = ap (λ (f : Fed). length f.ops) at ∙ (agrees.more ∙ omega (arith, taken, length_push answers a));
@@ -201,7 +203,8 @@ answered_from program k answers a line item rest s is taken some stop =
 
 pub answer_stands : (program : List Item) (k : ℕ) (answers : List Answer) (a : Answer) (s t : FeedState) (line : ℕ)
     (instruction : Instruction) (next : ℕ)
-    → IsTree s.nodes → IsWithin (length s.nodes) s.place → node_at s.nodes s.place.at ≡ node.Line line instruction next
+    → IsTree s.nodes → PlaceIsWithin (length s.nodes) s.place → node_at s.nodes s.place.at
+    ≡ node.Line line instruction next
     → is_some (op_asked s.place.numbers instruction) ≡ true
     → stopped_in t.nodes t.place ≡ stop_on_answer (left_in s.nodes s.place) a (kept_in s.place)
     → FeedStandsFor program k s answers → FeedStandsFor program k t (answers ++ a ∷ [])
@@ -217,11 +220,11 @@ answer_stands program k answers a s t line instruction next tree w e some stop s
     answered_from program k answers a line here.item here.more t here.is st.taken (ap (λ (o : Option Op). is_some o) op
     ∙ some)
     (stop ∙ (ap (λ (x : Steps). stop_on_answer x a (kept_in s.place)) st.left
-    ∙ ap (stop_on_answer (steps_of scope fed.left) a) kept))
+    ∙ ap (stop_on_answer (numbered scope fed.left) a) kept))
 
 -- The text of an answer is made apart, and stands after the text before.
 
-after_answer-text : (text : List ℕ) (instruction : Instruction) (a : Answer) (k : Kept)
+after_answer-text : (text : List ℕ) (instruction : Instruction) (a : Answer) (k : KeptState)
     → after_answer instruction a (behind_text text k) ≡ behind_text text (after_answer instruction a k)
 after_answer-text text Nothing a k = refl
 after_answer-text text (Const number value) a k = refl
@@ -242,29 +245,29 @@ after_answer-text text (GetNum q number i) a k = refl
 after_answer-text text (CasPtr q p r number i) a k = refl
 after_answer-text text (Same p q number) a k = refl
 after_answer-text text (IsNull p number) a k = refl
-after_answer-text text (Show p) a k = ap (λ (t : List ℕ). let kept : Kept = record k { text = t } in kept)
+after_answer-text text (Show p) a k = ap (λ (t : List ℕ). let kept : KeptState = record k { text = t } in kept)
     (append_assoc text k.text (show_text (answered_number a)))
 
-pub stop_on_answer-text : (rest : Steps) (line : ℕ) (instruction : Instruction) (a : Answer) (k : Kept)
+pub stop_on_answer-text : (rest : Steps) (line : ℕ) (instruction : Instruction) (a : Answer) (k : KeptState)
     → stop_on_answer (steps.Line line instruction rest) a k
     ≡ stopped_behind_text k.text
     (stop_of rest (after_answer instruction a
     (record { numbers = k.numbers; text = refusal_line line (refusal_text a) })))
 stop_on_answer-text rest line instruction a k =
-    let apart : Kept = record { numbers = k.numbers; text = refusal_line line (refusal_text a) } in
+    let apart : KeptState = record { numbers = k.numbers; text = refusal_line line (refusal_text a) } in
     ap (stop_of rest) (after_answer-text k.text instruction a apart)
     ∙ stop_of-text k.text rest (after_answer instruction a apart)
 
 -- A copy that runs on without the text so far stops where the script stops.
 pub answer_stops : (nodes : List Node) (p r q t : Place) (line : ℕ) (instruction : Instruction) (next : ℕ) (a : Answer)
-    → IsTree nodes → IsWithin (length nodes) p → node_at nodes p.at ≡ node.Line line instruction next
+    → IsTree nodes → PlaceIsWithin (length nodes) p → node_at nodes p.at ≡ node.Line line instruction next
     → r ≡ with_kept (record p { at = next })
     (after_answer instruction a (record { numbers = p.numbers; text = refusal_line line (refusal_text a) }))
     → HasStopped nodes r q → t ≡ record q { text = p.text ++ q.text }
     → stopped_in nodes t ≡ stop_on_answer (left_in nodes p) a (kept_in p)
 answer_stops nodes p r q t line instruction next a tree w e starts stopped follows =
     let rest = left_in nodes (record p { at = next }) in
-    let apart : Kept = record { numbers = p.numbers; text = refusal_line line (refusal_text a) } in
+    let apart : KeptState = record { numbers = p.numbers; text = refusal_line line (refusal_text a) } in
     let runs : stopped_in nodes q ≡ stop_of rest (after_answer instruction a apart) =
     stopped.run ∙ ap (λ (x : Place). stop_of (left_in nodes x) (kept_in x)) starts in
     ap (stopped_in nodes) follows

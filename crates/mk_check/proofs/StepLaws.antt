@@ -9,7 +9,8 @@ use Rattle.mk_check.specs.declared.feeding.instructions.Instruction.TheVariants.
 use Rattle.mk_check.specs.declared.feeding.instructions.Instruction.TheVariants.{GetGlobal, SetGlobal, SetNum, GetNum}
 use Rattle.mk_check.specs.declared.feeding.instructions.Instruction.TheVariants.{CasPtr, Same, IsNull, Show}
 use Rattle.mk_check.specs.Feed.{newline}
-use Rattle.mk_check.specs.Steps.{Steps, Done, Line, Rounds, Choice, then_steps, Kept, Stopped, op_asked, after_line}
+use Rattle.mk_check.specs.Steps.{Steps, Done, Line, Rounds, Choice, then_steps, KeptState, Stopped, op_asked}
+use Rattle.mk_check.specs.Steps.{after_line}
 use Rattle.mk_check.specs.Steps.{stop_behind, stop_of_rounds, stop_of}
 
 pub then_steps_assoc : (a b c : Steps) → then_steps (then_steps a b) c ≡ then_steps a (then_steps b c)
@@ -19,8 +20,8 @@ then_steps_assoc (Rounds rounds body rest) b c = ap (Rounds rounds body) (then_s
 then_steps_assoc (Choice number first second rest) b c = ap (Choice number first second) (then_steps_assoc rest b c)
 
 -- after a part that ran two others run as one
-then_ran_then : (left : Steps) (kept : Kept) (rest more : Steps)
-    → ((k : Kept) → stop_of (then_steps rest more) k ≡ stop_behind (stop_of rest k) (stop_of more) more)
+then_ran_then : (left : Steps) (kept : KeptState) (rest more : Steps)
+    → ((k : KeptState) → stop_of (then_steps rest more) k ≡ stop_behind (stop_of rest k) (stop_of more) more)
     → stop_behind (record { left = left; kept = kept }) (stop_of (then_steps rest more)) (then_steps rest more)
     ≡ stop_behind (stop_behind (record { left = left; kept = kept }) (stop_of rest) rest) (stop_of more) more
 then_ran_then Done kept rest more h = h kept
@@ -35,7 +36,8 @@ then_ran_then (Choice number first second left) kept rest more h =
     (sym (then_steps_assoc (Choice number first second left) rest more))
 
 -- One part runs, and then the other.
-pub stop_of-then_steps : (a b : Steps) (k : Kept) → stop_of (then_steps a b) k ≡ stop_behind (stop_of a k) (stop_of b) b
+pub stop_of-then_steps : (a b : Steps) (k : KeptState) → stop_of (then_steps a b) k
+    ≡ stop_behind (stop_of a k) (stop_of b) b
 stop_of-then_steps Done b k = refl
 stop_of-then_steps (Line line instruction rest) b k =
     by_test (is_some (op_asked k.numbers instruction)) (stop_of-then_steps rest b (after_line instruction k))
@@ -57,7 +59,7 @@ stop_of-then_steps (Choice number first second rest) b k =
     then_ran_then s.left s.kept rest b (stop_of-then_steps rest b)
 
 -- rounds after the first, which may have stopped
-rounds_behind : (left : Steps) (kept : Kept) (more : ℕ) (body rest : Steps)
+rounds_behind : (left : Steps) (kept : KeptState) (more : ℕ) (body rest : Steps)
     → stop_behind (stop_behind (record { left = left; kept = kept }) (stop_of_rounds more body (stop_of body))
     (Rounds more body Done)) (stop_of rest) rest
     ≡ stop_behind (record { left = left; kept = kept }) (stop_of (Rounds more body rest)) (Rounds more body rest)
@@ -73,20 +75,20 @@ rounds_behind (Choice number first second left) kept more body rest =
     (then_steps_assoc (Choice number first second left) (Rounds more body Done) rest)
 
 -- A round more is the body, and then the other rounds.
-pub stop_of-round : (more : ℕ) (body rest : Steps) (k : Kept)
+pub stop_of-round : (more : ℕ) (body rest : Steps) (k : KeptState)
     → stop_of (Rounds (suc more) body rest) k ≡ stop_of (then_steps body (Rounds more body rest)) k
 stop_of-round more body rest k =
     rounds_behind (stop_of body k).left (stop_of body k).kept more body rest
     ∙ sym (stop_of-then_steps body (Rounds more body rest) k)
 
-pub stop_of-choice_zero : (number : ℕ) (first second rest : Steps) (k : Kept)
+pub stop_of-choice_zero : (number : ℕ) (first second rest : Steps) (k : KeptState)
     → (slice_index k.numbers number == 0) ≡ true
     → stop_of (Choice number first second rest) k ≡ stop_of (then_steps second rest) k
 stop_of-choice_zero number first second rest k h =
     ap (λ (t : Bool). stop_behind (if t then stop_of second k else stop_of first k) (stop_of rest) rest) h
     ∙ sym (stop_of-then_steps second rest k)
 
-pub stop_of-choice_other : (number : ℕ) (first second rest : Steps) (k : Kept)
+pub stop_of-choice_other : (number : ℕ) (first second rest : Steps) (k : KeptState)
     → (slice_index k.numbers number == 0) ≡ false
     → stop_of (Choice number first second rest) k ≡ stop_of (then_steps first rest) k
 stop_of-choice_other number first second rest k h =
@@ -95,20 +97,20 @@ stop_of-choice_other number first second rest k h =
 
 -- Text before.
 
-abbrev pub behind_text : List ℕ → Kept → Kept
+abbrev pub behind_text : List ℕ → KeptState → KeptState
 behind_text text k = record k { text = text ++ k.text }
 
 abbrev pub stopped_behind_text : List ℕ → Stopped → Stopped
 stopped_behind_text text s = record s { kept = behind_text text s.kept }
 
-pub after_line-text : (text : List ℕ) (instruction : Instruction) (k : Kept)
+pub after_line-text : (text : List ℕ) (instruction : Instruction) (k : KeptState)
     → after_line instruction (behind_text text k) ≡ behind_text text (after_line instruction k)
 after_line-text text Nothing k = refl
 after_line-text text (Const number value) k = refl
 after_line-text text (Add number left right) k = refl
 after_line-text text (Sub number left right) k = refl
 after_line-text text (Print number) k =
-    ap (λ (t : List ℕ). let kept : Kept = record k { text = t } in kept)
+    ap (λ (t : List ℕ). let kept : KeptState = record k { text = t } in kept)
     (append_assoc text k.text (decimal (slice_index k.numbers number) ++ newline))
 after_line-text text (New d ty) k = refl
 after_line-text text (Free p) k = refl
@@ -126,8 +128,8 @@ after_line-text text (Same p q number) k = refl
 after_line-text text (IsNull p number) k = refl
 after_line-text text (Show p) k = refl
 
-stop_behind-text : (text : List ℕ) (left : Steps) (kept : Kept) (go : Kept → Stopped) (rest : Steps)
-    → ((k : Kept) → go (behind_text text k) ≡ stopped_behind_text text (go k))
+stop_behind-text : (text : List ℕ) (left : Steps) (kept : KeptState) (go : KeptState → Stopped) (rest : Steps)
+    → ((k : KeptState) → go (behind_text text k) ≡ stopped_behind_text text (go k))
     → stop_behind (record { left = left; kept = behind_text text kept }) go rest
     ≡ stopped_behind_text text (stop_behind (record { left = left; kept = kept }) go rest)
 stop_behind-text text Done kept go rest h = h kept
@@ -135,9 +137,9 @@ stop_behind-text text (Line line instruction left) kept go rest h = refl
 stop_behind-text text (Rounds rounds body left) kept go rest h = refl
 stop_behind-text text (Choice number first second left) kept go rest h = refl
 
-stop_of_rounds-text : (text : List ℕ) (rounds : ℕ) (body : Steps) (go : Kept → Stopped)
-    → ((k : Kept) → go (behind_text text k) ≡ stopped_behind_text text (go k))
-    → (k : Kept) → stop_of_rounds rounds body go (behind_text text k)
+stop_of_rounds-text : (text : List ℕ) (rounds : ℕ) (body : Steps) (go : KeptState → Stopped)
+    → ((k : KeptState) → go (behind_text text k) ≡ stopped_behind_text text (go k))
+    → (k : KeptState) → stop_of_rounds rounds body go (behind_text text k)
     ≡ stopped_behind_text text (stop_of_rounds rounds body go k)
 stop_of_rounds-text text zero body go h k = refl
 stop_of_rounds-text text (suc more) body go h k =
@@ -146,7 +148,7 @@ stop_of_rounds-text text (suc more) body go h k =
     (stop_of_rounds-text text more body go h)
 
 -- Text that stands before stays before.
-pub stop_of-text : (text : List ℕ) (steps : Steps) (k : Kept)
+pub stop_of-text : (text : List ℕ) (steps : Steps) (k : KeptState)
     → stop_of steps (behind_text text k) ≡ stopped_behind_text text (stop_of steps k)
 stop_of-text text Done k = refl
 stop_of-text text (Line line instruction rest) k =
@@ -173,7 +175,7 @@ stop_of-text text (Choice number first second rest) k =
   where
     by_test : (t : Bool) → stop_of first (behind_text text k) ≡ stopped_behind_text text (stop_of first k)
         → stop_of second (behind_text text k) ≡ stopped_behind_text text (stop_of second k)
-        → ((k' : Kept) → stop_of rest (behind_text text k') ≡ stopped_behind_text text (stop_of rest k'))
+        → ((k' : KeptState) → stop_of rest (behind_text text k') ≡ stopped_behind_text text (stop_of rest k'))
         → stop_behind (if t then stop_of second (behind_text text k) else stop_of first (behind_text text k))
         (stop_of rest) rest
         ≡ stopped_behind_text text (stop_behind (if t then stop_of second k else stop_of first k) (stop_of rest) rest)

@@ -14,8 +14,9 @@ use Rattle.mk_script.specs.declared.items.Item.TheVariants.{Loadg, Storeg, Same,
 use Rattle.mk_check.specs.declared.typing_faults.TypeKind.{TypeKind}
 use Rattle.mk_check.specs.declared.typing_faults.TypeKind.TheVariants as kind
 use Rattle.mk_check.specs.Typing.{Around, type_words, global_type, pointer_at, ◌or◌, unless, type_fault, pointer_fault}
-use Rattle.mk_check.specs.Typing.{same_at, moved_by, place_behind, word_among, word_at, inside_fault, is_number_word}
-use Rattle.mk_check.specs.Typing.{pointed_place, base_of, is_base, global_at, kind_fault, number_word_fault}
+use Rattle.mk_check.specs.Typing.{same_at, moved_by, place_behind, word_among, type_word_at, inside_fault}
+use Rattle.mk_check.specs.Typing.{is_number_word}
+use Rattle.mk_check.specs.Typing.{pointed_place, base_of, is_base, base_of_global, kind_fault, number_word_fault}
 use Rattle.mk_check.specs.Typing.{pointer_word_fault, typing_fault}
 
 -- The register points to a place from which this word is i words on.
@@ -136,12 +137,12 @@ module _ (a : Around) (script : List Item) (stays : (name : List ℕ) (at : At) 
       let found = is_some_one (pointer_at pointer a.script) (unless_none _ kind.NoRegister e) in
       record { at = found.value; declared = stays pointer found.value found.is }
 
-  before : (pointer : List ℕ) (i : ℕ) (word : TypeWord) → word_at a (place_behind a pointer i) ≡ Some word
+  before : (pointer : List ℕ) (i : ℕ) (word : TypeWord) → type_word_at a (place_behind a pointer i) ≡ Some word
       → PointsBefore a.program script pointer i word
   before pointer i word e = by_place (pointer_at pointer a.script) refl e
     where
       by_place : (place : Option At) → pointer_at pointer a.script ≡ place
-          → word_at a (option_map (moved_by i) place) ≡ Some word → PointsBefore a.program script pointer i word
+          → type_word_at a (option_map (moved_by i) place) ≡ Some word → PointsBefore a.program script pointer i word
       by_place None is f = cc
       by_place (Some at) is f = record { at = at; declared = stays pointer at is; is = f }
 
@@ -152,7 +153,7 @@ module _ (a : Around) (script : List Item) (stays : (name : List ℕ) (at : At) 
   before_one : (pointer : List ℕ) (i : ℕ) (register : List ℕ) → pointer_word_fault a pointer i register ≡ None
       → PointsBeforeOne a.program script pointer i register
   before_one pointer i register e =
-      let one = are_one (pointed_place (word_at a (place_behind a pointer i))) (pointer_at register a.script)
+      let one = are_one (pointed_place (type_word_at a (place_behind a pointer i))) (pointer_at register a.script)
       (unless_none _ kind.Kind e) in
       record {
         at = one.at;
@@ -168,7 +169,7 @@ module _ (a : Around) (script : List Item) (stays : (name : List ℕ) (at : At) 
       (are_one _ _ (unless_none _ kind.Kind alike))
     where
       by_place : (place : Option At) → pointer_at pointer a.script ≡ place
-          → Is (word_at a (option_map (moved_by i) place))
+          → Is (type_word_at a (option_map (moved_by i) place))
           → AreOne (pointer_at register a.script) (option_map (moved_by i) place)
           → PointsBehind a.program script pointer i register
       by_place None is word one = let f = one.second in cc
@@ -197,11 +198,11 @@ module _ (a : Around) (script : List Item) (stays : (name : List ℕ) (at : At) 
         declared = stays pointer (base_of ty) (one.first ∙ sym one.second);
       }
 
-  to_global : (pointer global : List ℕ) → kind_fault (pointer_at pointer a.script) (global_at a global) ≡ None
+  to_global : (pointer global : List ℕ) → kind_fault (pointer_at pointer a.script) (base_of_global a global) ≡ None
       → PointsToGlobal a.program script pointer global
   to_global pointer global e =
       by_type (global_type global a.program) refl
-      (are_one (pointer_at pointer a.script) (global_at a global) (unless_none _ kind.Kind e))
+      (are_one (pointer_at pointer a.script) (base_of_global a global) (unless_none _ kind.Kind e))
     where
       by_type : (ty : Option (List ℕ)) → global_type global a.program ≡ ty
           → AreOne (pointer_at pointer a.script) (option_map base_of ty)

@@ -7,14 +7,14 @@ use Rattle.mk_check.specs.declared.feeding.instructions.Instruction.{Instruction
 use Rattle.mk_check.specs.declared.feeding.tree.Node.{Node}
 use Rattle.mk_check.specs.declared.feeding.tree.Node.TheVariants as node
 use Rattle.mk_check.specs.Feed.{refusal_line, refusal_text}
-use Rattle.mk_check.specs.Steps.{Steps, Done, Line, Rounds, Choice, then_steps, none_left, Kept, Stopped, op_asked}
+use Rattle.mk_check.specs.Steps.{Steps, Done, Line, Rounds, Choice, then_steps, none_left, KeptState, Stopped, op_asked}
 use Rattle.mk_check.specs.Steps.{with_text, after_line, stop_behind, stop_of_rounds, stop_of, after_answer}
 use Rattle.mk_check.specs.Steps.{stop_on_answer}
-use Rattle.mk_check.specs.Trees.{Place, left_in, kept_in, stopped_in, node_at, IsTree, IsWithin, work_of}
+use Rattle.mk_check.specs.Trees.{Place, left_in, kept_in, stopped_in, node_at, IsTree, PlaceIsWithin, work_of}
 use Rattle.mk_check.proofs.Moves.{work_of-then_steps, unfolded_line}
 
-work_of-stop_behind : (stopped : Stopped) (go : Kept → Stopped) (rest : Steps)
-    → ((k : Kept) → work_of (go k).left ≤ work_of rest)
+work_of-stop_behind : (stopped : Stopped) (go : KeptState → Stopped) (rest : Steps)
+    → ((k : KeptState) → work_of (go k).left ≤ work_of rest)
     → work_of (stop_behind stopped go rest).left ≤ work_of stopped.left + work_of rest
 work_of-stop_behind stopped go rest goes = by_test (none_left stopped.left)
   where
@@ -24,17 +24,17 @@ work_of-stop_behind stopped go rest goes = by_test (none_left stopped.left)
     by_test true = omega (arith, goes stopped.kept)
     by_test false = omega (arith, work_of-then_steps stopped.left rest)
 
-work_of-stop_of_rounds : (rounds : ℕ) (body : Steps) (go : Kept → Stopped)
-    → ((k : Kept) → work_of (go k).left ≤ work_of body)
-    → (k : Kept) → work_of (stop_of_rounds rounds body go k).left ≤ rounds * (1 + work_of body)
+work_of-stop_of_rounds : (rounds : ℕ) (body : Steps) (go : KeptState → Stopped)
+    → ((k : KeptState) → work_of (go k).left ≤ work_of body)
+    → (k : KeptState) → work_of (stop_of_rounds rounds body go k).left ≤ rounds * (1 + work_of body)
 work_of-stop_of_rounds zero body go goes k = omega arith
 work_of-stop_of_rounds (suc more) body go goes k =
-    let others : (j : Kept) → work_of (stop_of_rounds more body go j).left ≤ work_of (Rounds more body Done) =
+    let others : (j : KeptState) → work_of (stop_of_rounds more body go j).left ≤ work_of (Rounds more body Done) =
     λ j. omega (arith, work_of-stop_of_rounds more body go goes j) in
     omega (arith, work_of-stop_behind (go k) (stop_of_rounds more body go) (Rounds more body Done) others, goes k)
 
 -- A run leaves no more work than there was.
-pub work_of-stop_of : (steps : Steps) (k : Kept) → work_of (stop_of steps k).left ≤ work_of steps
+pub work_of-stop_of : (steps : Steps) (k : KeptState) → work_of (stop_of steps k).left ≤ work_of steps
 work_of-stop_of Done k = omega arith
 work_of-stop_of (Line line instruction rest) k =
     by_test (is_some (op_asked k.numbers instruction)) (work_of-stop_of rest (after_line instruction k))
@@ -66,14 +66,14 @@ work_of-stop_of (Choice number first second rest) k =
     by_test false f g = omega arith
 
 -- An answered line is no longer left.
-work_of-stop_on_answer : (line : ℕ) (instruction : Instruction) (rest : Steps) (a : Answer) (k : Kept)
+work_of-stop_on_answer : (line : ℕ) (instruction : Instruction) (rest : Steps) (a : Answer) (k : KeptState)
     → work_of (stop_on_answer (Line line instruction rest) a k).left < work_of (Line line instruction rest)
 work_of-stop_on_answer line instruction rest a k =
     omega (arith, work_of-stop_of rest (after_answer instruction a (with_text k (refusal_line line (refusal_text a)))))
 
 -- A place that was answered has less work left.
 pub answer_nearer : (nodes : List Node) (p t : Place) (line : ℕ) (instruction : Instruction) (next : ℕ) (a : Answer)
-    → IsTree nodes → IsWithin (length nodes) p → node_at nodes p.at ≡ node.Line line instruction next
+    → IsTree nodes → PlaceIsWithin (length nodes) p → node_at nodes p.at ≡ node.Line line instruction next
     → stopped_in nodes t ≡ stop_on_answer (left_in nodes p) a (kept_in p)
     → work_of (left_in nodes t) < work_of (left_in nodes p)
 answer_nearer nodes p t line instruction next a tree w here stop =

@@ -18,11 +18,11 @@ followed_by (Line line item rest) more = Line line item (followed_by rest more)
 followed_by (Rounds rounds body rest) more = Rounds rounds body (followed_by rest more)
 followed_by (Choice number first second rest) more = Choice number first second (followed_by rest more)
 
-abbrev pub is_done : Blocks → Bool
-is_done Done = true
-is_done (Line line item rest) = false
-is_done (Rounds rounds body rest) = false
-is_done (Choice number first second rest) = false
+abbrev pub is_end_of_block : Blocks → Bool
+is_end_of_block Done = true
+is_end_of_block (Line line item rest) = false
+is_end_of_block (Rounds rounds body rest) = false
+is_end_of_block (Choice number first second rest) = false
 
 -- P holds of each line's number and item
 abbrev pub AllPlaced : (ℕ → Item → Type 0) → Blocks → Type 0

@@ -8,7 +8,7 @@ use Rattle.mk_check.specs.declared.feeding.building.Part.{Part}
 use Rattle.mk_check.specs.Blocks.{branch}
 use Rattle.mk_check.specs.Blocks as blocks
 use Rattle.mk_check.specs.Feed.{Scope}
-use Rattle.mk_check.specs.Steps.{Steps, Done, Line, Rounds, Choice, steps_of}
+use Rattle.mk_check.specs.Steps.{Steps, Done, Line, Rounds, Choice, numbered}
 use Rattle.mk_check.specs.Trees.{steps_at, trees}
 
 -- A part of a script, as Blocks has it: its steps, and the second branch's, none where no `else` was read.
@@ -17,7 +17,7 @@ pub record StepPart : Type 0 where
   pub second : Steps
 
 abbrev pub part_of : Scope → blocks.Part → StepPart
-part_of scope part = record { steps = steps_of scope part.blocks; second = steps_of scope (branch part.second) }
+part_of scope part = record { steps = numbered scope part.blocks; second = numbered scope (branch part.second) }
 
 -- a line before the parts
 abbrev pub with_element : ℕ → Element → List StepPart → List StepPart
@@ -60,7 +60,7 @@ PartsAreWithin count [] = Unit {0}
 PartsAreWithin count (part ∷ parts) = (part.steps < count) × (part.second < count) × PartsAreWithin count parts
 
 -- the first node is the end of a block, and the parts name nodes that are there
-pub record IsSound (b : Built) : Type 0 where
+pub record IsSoundlyBuilt (b : Built) : Type 0 where
   pub some : 0 < length b.nodes
   pub first : steps_at (trees b.nodes) 0 ≡ Done
   pub parts : PartsAreWithin (length b.nodes) b.parts
@@ -74,5 +74,5 @@ with_node_and_part b n second = with_part (record b { nodes = b.nodes ++ n ∷ [
 
 -- the new nodes and parts have the line before those that were there
 pub record AddsLine (line : ℕ) (e : Element) (old new : Built) : Type 0 where
-  pub sound : IsSound new
+  pub sound : IsSoundlyBuilt new
   pub parts : parts_in new ≡ with_element line e (parts_in old)

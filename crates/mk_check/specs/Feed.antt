@@ -16,7 +16,8 @@ use Rattle.mk_script.specs.declared.items.Item.TheVariants.{Same, Isnull, Show, 
 use Rattle.mk_script.specs.declared.items.Item.TheVariants.{Else, End}
 use Rattle.mk_script.specs.Scopes.{type_names, global_names, pointer_names, number_names}
 use Rattle.mk_check.specs.Declarations.{number_of_name}
-use Rattle.mk_check.specs.Blocks.{Blocks, Done, Line, Rounds, Choice, followed_by, is_done, blocks_from, ScriptText}
+use Rattle.mk_check.specs.Blocks.{Blocks, Done, Line, Rounds, Choice, followed_by, is_end_of_block, blocks_from}
+use Rattle.mk_check.specs.Blocks.{ScriptText}
 use Rattle.mk_check.specs.Blocks.{script_of}
 
 -- the names that a script may use
@@ -40,8 +41,8 @@ pointer_place scope name = number_of_name name scope.pointers
 abbrev pub number_in : Scope → Fed → List ℕ → ℕ
 number_in scope fed name = slice_index fed.numbers (number_of_name name scope.numbers)
 
-abbrev pub with_number : Scope → Fed → List ℕ → ℕ → Fed
-with_number scope fed name value = record fed {
+abbrev pub fed_with_number : Scope → Fed → List ℕ → ℕ → Fed
+fed_with_number scope fed name value = record fed {
   numbers =
       slice_set fed.numbers (number_of_name name scope.numbers) value;
 }
@@ -90,17 +91,17 @@ newline = 10 ∷ []
 
 -- what another line does; sums and differences wrap at 2^64
 abbrev pub run_line : Scope → Fed → Item → Fed
-run_line scope fed (Const number value) = with_number scope fed number value
+run_line scope fed (Const number value) = fed_with_number scope fed number value
 run_line scope fed (Add number left right) =
-    with_number scope fed number ((number_in scope fed left + number_in scope fed right) % 2 ^ 64)
+    fed_with_number scope fed number ((number_in scope fed left + number_in scope fed right) % 2 ^ 64)
 run_line scope fed (Sub number left right) =
-    with_number scope fed number ((2 ^ 64 + number_in scope fed left - number_in scope fed right) % 2 ^ 64)
+    fed_with_number scope fed number ((2 ^ 64 + number_in scope fed left - number_in scope fed right) % 2 ^ 64)
 run_line scope fed (Print number) = record fed { text = fed.text ++ (decimal (number_in scope fed number) ++ newline) }
 run_line scope fed item = fed
 
 -- what runs after a part that may have stopped at an operation
 abbrev pub then_run : Fed → (Fed → Fed) → Blocks → Fed
-then_run fed go rest = if is_done fed.left then go fed else record fed { left = followed_by fed.left rest }
+then_run fed go rest = if is_end_of_block fed.left then go fed else record fed { left = followed_by fed.left rest }
 
 -- rounds of a body
 abbrev pub run_rounds : ℕ → Blocks → (Fed → Fed) → Fed → Fed
@@ -155,10 +156,11 @@ show_text (suc n) = codes "null\n"
 
 -- the instruction takes its answer
 abbrev pub with_answer : Scope → Fed → Item → Answer → Fed
-with_answer scope fed (Getn number pointer index) a = with_number scope fed number (answered_number a)
-with_answer scope fed (Casp number pointer index expected stored) a = with_number scope fed number (answered_number a)
-with_answer scope fed (Same number first second) a = with_number scope fed number (answered_number a)
-with_answer scope fed (Isnull number pointer) a = with_number scope fed number (answered_number a)
+with_answer scope fed (Getn number pointer index) a = fed_with_number scope fed number (answered_number a)
+with_answer scope fed (Casp number pointer index expected stored) a =
+    fed_with_number scope fed number (answered_number a)
+with_answer scope fed (Same number first second) a = fed_with_number scope fed number (answered_number a)
+with_answer scope fed (Isnull number pointer) a = fed_with_number scope fed number (answered_number a)
 with_answer scope fed (Show pointer) a = record fed { text = fed.text ++ show_text (answered_number a) }
 with_answer scope fed item a = fed
 
@@ -209,4 +211,4 @@ feed program k answers = feed_script (scope_of program (script_of program k).ite
 
 -- the script has ended
 abbrev pub has_ended : Fed → Bool
-has_ended fed = is_done fed.left
+has_ended fed = is_end_of_block fed.left

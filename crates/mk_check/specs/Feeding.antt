@@ -7,8 +7,8 @@ use Rattle.mk_check.specs.declared.feeding.tree.Node.{Node}
 use Rattle.mk_check.specs.declared.feeding.tree.Node.TheVariants as node
 use Rattle.mk_check.specs.Blocks.{Blocks, Done, Line, Rounds, Choice, script_of}
 use Rattle.mk_check.specs.Feed.{Scope, Fed, op_of, scope_of, feed, has_ended}
-use Rattle.mk_check.specs.Steps.{op_asked, steps_of}
-use Rattle.mk_check.specs.Trees.{Place, left_in, node_at, IsWithin, StopsAt, work_of}
+use Rattle.mk_check.specs.Steps.{op_asked, numbered}
+use Rattle.mk_check.specs.Trees.{Place, left_in, node_at, PlaceIsWithin, StopsAt, work_of}
 
 -- the nodes of a script, and where it is
 pub record FeedState : Type 0 where
@@ -17,7 +17,7 @@ pub record FeedState : Type 0 where
 
 -- it is at an operation or at its end
 pub record IsAtStop (s : FeedState) : Type 0 where
-  pub within : IsWithin (length s.nodes) s.place
+  pub within : PlaceIsWithin (length s.nodes) s.place
   pub stops : StopsAt (node_at s.nodes s.place.at) s.place
 
 -- the operation that a node asks for
@@ -54,7 +54,7 @@ next_op program k answers = first_op (script_scope program k) (feed program k an
 -- numbers in what is left.
 pub record FeedStandsFor (program : List Item) (k : ℕ) (s : FeedState) (answers : List Answer) : Type 0 where
   pub taken : length (feed program k answers).ops ≡ length answers
-  pub left : left_in s.nodes s.place ≡ steps_of (script_scope program k) (feed program k answers).left
+  pub left : left_in s.nodes s.place ≡ numbered (script_scope program k) (feed program k answers).left
   pub numbers : s.place.numbers ≡ (feed program k answers).numbers
   pub text : s.place.text ≡ (feed program k answers).text
 

@@ -22,17 +22,17 @@ abbrev pub around : Reading → Around
 around reading = record { program = reading.program; script = this_script (take reading.count reading.program) }
 
 -- what a map has for a name
-abbrev pub value_of : {X S : Type 0} → HashMap (Bor (List ℕ)) X S → List ℕ → Option X
-value_of names name = get_by (λ key. bytes_eq name key.now) names
+abbrev pub value_for_name : {X S : Type 0} → HashMap (Bor (List ℕ)) X S → List ℕ → Option X
+value_for_name names name = get_by (λ key. bytes_eq name key.now) names
 
 -- the value is added for the name, unless it has one
 abbrev pub AddsFirst : {X S : Type 0} → HashMap (Bor (List ℕ)) X S → HashMap (Bor (List ℕ)) X S → List ℕ → X → Type 0
 AddsFirst old new name value =
-    (other : List ℕ) → value_of new other
-    ≡ option_or (value_of old other) (if bytes_eq other name then Some value else None)
+    (other : List ℕ) → value_for_name new other
+    ≡ option_or (value_for_name old other) (if bytes_eq other name then Some value else None)
 
 abbrev pub KeepsValues : {X S : Type 0} → HashMap (Bor (List ℕ)) X S → HashMap (Bor (List ℕ)) X S → Type 0
-KeepsValues old new = (name : List ℕ) → value_of new name ≡ value_of old name
+KeepsValues old new = (name : List ℕ) → value_for_name new name ≡ value_for_name old name
 
 -- the lines of the script after a line
 abbrev pub lines_behind : List Item → Item → List Item
@@ -40,8 +40,8 @@ lines_behind lines item = if is_script item then [] else lines ++ item ∷ []
 
 -- they are those of the program
 pub record AreDeclared (declarations : Declarations) (program : List Item) : Type 0 where
-  pub types : (name : List ℕ) → option_copied (value_of declarations.types name) ≡ type_words name program
-  pub globals : (name : List ℕ) → option_copied (value_of declarations.globals name) ≡ global_type name program
+  pub types : (name : List ℕ) → option_copied (value_for_name declarations.types name) ≡ type_words name program
+  pub globals : (name : List ℕ) → option_copied (value_for_name declarations.globals name) ≡ global_type name program
 
 -- where the first register of a name is declared to point
 abbrev pub first_at : List PointerRegister → List ℕ → Option At

@@ -24,8 +24,8 @@ names_of sort.Pointer items = pointer_names items
 names_of sort.Number items = number_names items
 
 -- what references point to
-abbrev pub now_of : List (Bor (List ℕ)) → List (List ℕ)
-now_of names = map (λ (n : Bor (List ℕ)). n.now) names
+abbrev pub referred_names : List (Bor (List ℕ)) → List (List ℕ)
+referred_names names = map (λ (n : Bor (List ℕ)). n.now) names
 
 -- so few pointer registers and globals that a byte numbers them
 pub record HasFew (scope : Scope) : Type 0 where

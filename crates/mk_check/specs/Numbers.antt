@@ -4,7 +4,7 @@ use Rattle.std.specs.Prelude.{◌≡◌, ℕ, ◌+◌, if◌then◌else◌, List
 use Rattle.std.specs.Borrow.{Bor}
 use Rattle.std.specs.HashMap.{HashMap}
 use Rattle.std.specs.Str.{bytes_eq}
-use Rattle.mk_check.specs.Lookups.{value_of}
+use Rattle.mk_check.specs.Lookups.{value_for_name}
 
 -- a name's place among these, if it is one of them
 abbrev pub number_among : List ℕ → List (List ℕ) → Option ℕ
@@ -15,5 +15,5 @@ number_among name (other ∷ others) =
 -- the map has the place of each name, and they are this many
 pub record AreNumbers {S : Type 0} (numbers : HashMap (Bor (List ℕ)) ℕ S) (count : ℕ) (names : List (List ℕ)) : Type
     0 where
-  pub places : (name : List ℕ) → value_of numbers name ≡ number_among name names
+  pub places : (name : List ℕ) → value_for_name numbers name ≡ number_among name names
   pub all : count ≡ length names

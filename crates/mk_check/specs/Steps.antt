@@ -116,22 +116,22 @@ element_of scope item.End = element.End
 element_of scope other = element.Line (instruction_of scope other)
 
 -- the blocks with numbers for their names
-abbrev pub steps_of : Scope → Blocks → Steps
-steps_of scope blocks.Done = Done
-steps_of scope (blocks.Line line item rest) = Line line (instruction_of scope item) (steps_of scope rest)
-steps_of scope (blocks.Rounds rounds body rest) = Rounds rounds (steps_of scope body) (steps_of scope rest)
-steps_of scope (blocks.Choice number first second rest) =
-    Choice (number_place scope number) (steps_of scope first) (steps_of scope second) (steps_of scope rest)
+abbrev pub numbered : Scope → Blocks → Steps
+numbered scope blocks.Done = Done
+numbered scope (blocks.Line line item rest) = Line line (instruction_of scope item) (numbered scope rest)
+numbered scope (blocks.Rounds rounds body rest) = Rounds rounds (numbered scope body) (numbered scope rest)
+numbered scope (blocks.Choice number first second rest) =
+    Choice (number_place scope number) (numbered scope first) (numbered scope second) (numbered scope rest)
 
 -- the number registers, and the text so far
-pub record Kept : Type 0 where
+pub record KeptState : Type 0 where
   pub numbers : List ℕ
   pub text : List ℕ
 
 -- what is left to run, and what is kept
 pub record Stopped : Type 0 where
   pub left : Steps
-  pub kept : Kept
+  pub kept : KeptState
 
 -- the operation that an instruction asks for
 abbrev pub op_asked : List ℕ → Instruction → Option Op
@@ -156,14 +156,14 @@ op_asked numbers (Same p q number) = Some (op.Same p q)
 op_asked numbers (IsNull p number) = Some (op.IsNull p)
 op_asked numbers (Show p) = Some (op.IsNull p)
 
-abbrev pub with_value : Kept → ℕ → ℕ → Kept
+abbrev pub with_value : KeptState → ℕ → ℕ → KeptState
 with_value kept number value = record kept { numbers = slice_set kept.numbers number value }
 
-abbrev pub with_text : Kept → List ℕ → Kept
+abbrev pub with_text : KeptState → List ℕ → KeptState
 with_text kept text = record kept { text = kept.text ++ text }
 
 -- what another instruction does
-abbrev pub after_line : Instruction → Kept → Kept
+abbrev pub after_line : Instruction → KeptState → KeptState
 after_line Nothing kept = kept
 after_line (Const number value) kept = with_value kept number value
 after_line (Add number left right) kept =
@@ -188,17 +188,17 @@ after_line (IsNull p number) kept = kept
 after_line (Show p) kept = kept
 
 -- what runs after a part that may have stopped at an operation
-abbrev pub stop_behind : Stopped → (Kept → Stopped) → Steps → Stopped
+abbrev pub stop_behind : Stopped → (KeptState → Stopped) → Steps → Stopped
 stop_behind stopped go rest =
     if none_left stopped.left then go stopped.kept else record stopped { left = then_steps stopped.left rest }
 
 -- rounds of a body
-abbrev pub stop_of_rounds : ℕ → Steps → (Kept → Stopped) → Kept → Stopped
+abbrev pub stop_of_rounds : ℕ → Steps → (KeptState → Stopped) → KeptState → Stopped
 stop_of_rounds zero body go kept = record { left = Done; kept = kept }
 stop_of_rounds (suc more) body go kept = stop_behind (go kept) (stop_of_rounds more body go) (Rounds more body Done)
 
 -- where the steps stop: at the first operation, or at their end
-abbrev pub stop_of : Steps → Kept → Stopped
+abbrev pub stop_of : Steps → KeptState → Stopped
 stop_of Done kept = record { left = Done; kept = kept }
 stop_of (Line line instruction rest) kept =
     if is_some (op_asked kept.numbers instruction)
@@ -232,7 +232,7 @@ asks_first (Rounds rounds body rest) = false
 asks_first (Choice number first second rest) = false
 
 -- the instruction takes its answer
-abbrev pub after_answer : Instruction → Answer → Kept → Kept
+abbrev pub after_answer : Instruction → Answer → KeptState → KeptState
 after_answer Nothing a kept = kept
 after_answer (Const number value) a kept = kept
 after_answer (Add number left right) a kept = kept
@@ -263,7 +263,7 @@ abbrev pub is_silent : Instruction → Answer → Bool
 is_silent instruction a = not (is_refusal a) && not (is_show instruction)
 
 -- where the steps stop that begin with an instruction which is answered
-abbrev pub stop_on_answer : Steps → Answer → Kept → Stopped
+abbrev pub stop_on_answer : Steps → Answer → KeptState → Stopped
 stop_on_answer Done a kept = record { left = Done; kept = kept }
 stop_on_answer (Line line instruction rest) a kept =
     stop_of rest (after_answer instruction a (with_text kept (refusal_line line (refusal_text a))))

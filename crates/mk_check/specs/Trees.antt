@@ -6,7 +6,8 @@ use Rattle.mk_check.specs.declared.feeding.tree.Node.{Node}
 use Rattle.mk_check.specs.declared.feeding.tree.Node.TheVariants as node
 use Rattle.mk_check.specs.declared.feeding.tree.Frame.{Frame}
 use Rattle.mk_check.specs.declared.feeding.tree.Frame.TheVariants as frame
-use Rattle.mk_check.specs.Steps.{Steps, Done, Line, Rounds, Choice, then_steps, Kept, Stopped, op_asked, asks_first}
+use Rattle.mk_check.specs.Steps.{Steps, Done, Line, Rounds, Choice, then_steps, KeptState, Stopped, op_asked}
+use Rattle.mk_check.specs.Steps.{asks_first}
 use Rattle.mk_check.specs.Steps.{stop_of}
 
 -- the steps from a node; from one that isn't there, none
@@ -63,10 +64,10 @@ behind_frames built frames = fold (frame_steps built) Done frames
 abbrev pub left_in : List Node → Place → Steps
 left_in nodes p = then_steps (steps_at (trees nodes) p.at) (behind_frames (trees nodes) p.frames)
 
-abbrev pub kept_in : Place → Kept
+abbrev pub kept_in : Place → KeptState
 kept_in p = record { numbers = p.numbers; text = p.text }
 
-abbrev pub with_kept : Place → Kept → Place
+abbrev pub with_kept : Place → KeptState → Place
 with_kept p kept = record p { numbers = kept.numbers; text = kept.text }
 
 -- what is left to run, and what is kept
@@ -82,7 +83,7 @@ FramesAreWithin count [] = Unit {0}
 FramesAreWithin count (f ∷ frames) = FrameIsWithin count f × FramesAreWithin count frames
 
 -- it names nodes of this many alone
-pub record IsWithin (count : ℕ) (p : Place) : Type 0 where
+pub record PlaceIsWithin (count : ℕ) (p : Place) : Type 0 where
   pub at : p.at < count
   pub frames : FramesAreWithin count p.frames
 
@@ -149,18 +150,18 @@ work_in nodes p = 2 * work_of (left_in nodes p) + length p.frames
 
 -- The place moves on, and stops where it would have stopped.
 pub record MovesOn (nodes : List Node) (old new : Place) : Type 0 where
-  pub within : IsWithin (length nodes) new
+  pub within : PlaceIsWithin (length nodes) new
   pub run : stop_of (left_in nodes new) (kept_in new) ≡ stop_of (left_in nodes old) (kept_in old)
   pub nearer : work_in nodes new < work_in nodes old
 
 -- The place is the same or moves on, and its node's steps come to an operation first.
 pub record MovesToOp (nodes : List Node) (old new : Place) : Type 0 where
-  pub within : IsWithin (length nodes) new
+  pub within : PlaceIsWithin (length nodes) new
   pub run : stop_of (left_in nodes new) (kept_in new) ≡ stop_of (left_in nodes old) (kept_in old)
   pub first : asks_first (steps_at (trees nodes) new.at) ≡ true
 
 -- The place is where the steps stop.
 pub record HasStopped (nodes : List Node) (old new : Place) : Type 0 where
-  pub within : IsWithin (length nodes) new
+  pub within : PlaceIsWithin (length nodes) new
   pub at : StopsAt (node_at nodes new.at) new
   pub run : stopped_in nodes new ≡ stop_of (left_in nodes old) (kept_in old)

@@ -81,12 +81,12 @@ word_among None offset = None
 word_among (Some words) offset = slice_get words offset
 
 -- the word of a type at a place; none where that isn't inside
-abbrev pub word_at : Around → Option At → Option TypeWord
-word_at a None = None
-word_at a (Some at) = word_among (type_words at.name a.program) at.offset
+abbrev pub type_word_at : Around → Option At → Option TypeWord
+type_word_at a None = None
+type_word_at a (Some at) = word_among (type_words at.name a.program) at.offset
 
 abbrev pub inside_fault : Around → Option At → Option TypeKind
-inside_fault a place = unless (is_some (word_at a place)) kind.Offset
+inside_fault a place = unless (is_some (type_word_at a place)) kind.Offset
 
 abbrev pub is_number_word : Option TypeWord → Bool
 is_number_word (Some Number) = true
@@ -120,19 +120,19 @@ offsets_fault a (Pointer at ∷ words) = inside_fault a (Some at) or offsets_fau
 abbrev pub length_fault : ℕ → Option TypeKind
 length_fault count = unless (nat_le count 1000000) (kind.TooLong (min count (2 ^ 64 - 1)))
 
-abbrev pub global_at : Around → List ℕ → Option At
-global_at a name = option_map base_of (global_type name a.program)
+abbrev pub base_of_global : Around → List ℕ → Option At
+base_of_global a name = option_map base_of (global_type name a.program)
 
 abbrev pub kind_fault : Option At → Option At → Option TypeKind
 kind_fault s t = unless (same_at s t) kind.Kind
 
 -- a word after a register holds a number, or points to where another register does
 abbrev pub number_word_fault : Around → List ℕ → ℕ → Option TypeKind
-number_word_fault a pointer index = unless (is_number_word (word_at a (place_behind a pointer index))) kind.Kind
+number_word_fault a pointer index = unless (is_number_word (type_word_at a (place_behind a pointer index))) kind.Kind
 
 abbrev pub pointer_word_fault : Around → List ℕ → ℕ → List ℕ → Option TypeKind
 pointer_word_fault a pointer index register =
-    kind_fault (pointed_place (word_at a (place_behind a pointer index))) (pointer_at register a.script)
+    kind_fault (pointed_place (type_word_at a (place_behind a pointer index))) (pointer_at register a.script)
 
 -- What is wrong with a line that stands after these of its script, and before those after it: the names from left to
 -- right, then offsets, then kinds, then an interior pointer that is freed.
@@ -172,9 +172,9 @@ typing_fault a line behind (Move copied pointer) =
     or kind_fault (pointer_at copied a.script) (pointer_at pointer a.script)
 typing_fault a line behind (Clear pointer) = pointer_fault a pointer
 typing_fault a line behind (Loadg loaded global) =
-    pointer_fault a loaded or global_fault a global or kind_fault (pointer_at loaded a.script) (global_at a global)
+    pointer_fault a loaded or global_fault a global or kind_fault (pointer_at loaded a.script) (base_of_global a global)
 typing_fault a line behind (Storeg stored global) =
-    pointer_fault a stored or global_fault a global or kind_fault (pointer_at stored a.script) (global_at a global)
+    pointer_fault a stored or global_fault a global or kind_fault (pointer_at stored a.script) (base_of_global a global)
 typing_fault a line behind (Same number first second) =
     number_fault a number or pointer_fault a first or pointer_fault a second
 typing_fault a line behind (Isnull number pointer) = number_fault a number or pointer_fault a pointer

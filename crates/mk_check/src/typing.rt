@@ -81,7 +81,7 @@ impl<'a> Lookups<'a> {
     }
 
     fn word_at(&self, place: Place) -> Option<&'a TypeWord>
-        ensures { option_copied result ≡ rule.word_at (around self.now) (Some (at_of place.entry)) }
+        ensures { option_copied result ≡ rule.type_word_at (around self.now) (Some (at_of place.entry)) }
     {
         let words = self.type_words(place.name)?;
         if place.offset < words.len() as u128 {
@@ -92,7 +92,7 @@ impl<'a> Lookups<'a> {
     }
 
     fn word_behind(&self, pointer: &Name, index: u64) -> Option<&'a TypeWord>
-        ensures { option_copied result ≡ rule.word_at (around self.now)
+        ensures { option_copied result ≡ rule.type_word_at (around self.now)
             (rule.place_behind (around self.now) pointer.now index) }
     {
         self.word_at(self.place_behind(pointer, index)?)
@@ -135,7 +135,7 @@ impl<'a> Lookups<'a> {
 
     /// Where a global of its type's first word points.
     fn place_of_global(&self, global: &Name) -> Option<Place<'a>>
-        ensures { option_map at_of result ≡ rule.global_at (around self.now) global.now }
+        ensures { option_map at_of result ≡ rule.base_of_global (around self.now) global.now }
     {
         Some(Place::base(self.global_type(global)?))
     }

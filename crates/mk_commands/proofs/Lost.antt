@@ -7,7 +7,7 @@ use Rattle.mk_script.specs.Names.{number_of_word}
 use Rattle.clap.specs.Walk.{Text}
 use Rattle.mk_commands.specs.declared.commands.Command.{Command}
 use Rattle.mk_commands.specs.Given.{Given, with_markers, with_number, with_next}
-use Rattle.mk_commands.specs.Given.{with_word, with_words, whole}
+use Rattle.mk_commands.specs.Given.{given_with_word, with_words, whole}
 use Rattle.mk_commands.specs.Commands.{run_of, run_with, gen_of, gen_with, alone_of, markers_of}
 use Rattle.mk_commands.specs.Told.{Form, runs, gens, bare, Numbers, no_number, one_number, two_numbers, Told}
 use Rattle.mk_commands.specs.Told.{start_told, count_told, markers_read, run_read, gen_read, gen_between}
@@ -93,7 +93,7 @@ keeps_said g word (why_said (Some v)) = tt
 keeps_said g word unknown = tt
 keeps_said g word plain = keeps_number g word
 
-keeps_word : (g : Given) (word : Text) → KeepsIf g (with_word g word)
+keeps_word : (g : Given) (word : Text) → KeepsIf g (given_with_word g word)
 keeps_word g word = by_tests g.awaits g.ended
   where
     by_tests : (a n : Bool)
@@ -182,7 +182,7 @@ pub given_lost : (form : Form) (command : Command) (words : List Text) (g : Give
     → option_and_then (given_as form command) (option_and_then whole (with_words words g)) ≡ None
 given_lost form command [] g e = bad_found form command g e
 given_lost form command (word ∷ words) g e =
-    by_next (with_word g word) (keeps_word g word) (λ g' bad. given_lost form command words g' bad)
+    by_next (given_with_word g word) (keeps_word g word) (λ g' bad. given_lost form command words g' bad)
   where
     by_next : (o : Option Given) → KeepsIf g o
         → ((g' : Given) → is_bad form g' ≡ true

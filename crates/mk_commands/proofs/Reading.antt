@@ -9,7 +9,7 @@ use Rattle.mk_commands.specs.declared.commands.Command.{Command}
 use Rattle.mk_commands.specs.declared.commands.Command.TheVariants.{OnText}
 use Rattle.mk_commands.specs.declared.commands.TextCommand.TheVariants.{Run}
 use Rattle.mk_commands.specs.Given.{Given, nothing_given, with_markers, with_sweep, with_why, with_number, with_next}
-use Rattle.mk_commands.specs.Given.{with_word, with_words, whole, given_by}
+use Rattle.mk_commands.specs.Given.{given_with_word, with_words, whole, given_by}
 use Rattle.mk_commands.specs.Commands.{run_with, gen_with, markers_of}
 use Rattle.mk_commands.specs.Told.{Form, runs, gens, bare, Numbers, no_number, one_number, two_numbers, Told}
 use Rattle.mk_commands.specs.Told.{nothing_told, start_told, count_told, markers_read, gen_between}
@@ -338,7 +338,7 @@ awaiting_step form t g word s a = by_said (said word) (no_number_said word)
     by_said unknown (inr h) = rw (no_markers_given g word h) tt
 
 word_step : (form : Form) (t : Told) (g : Given) (word : Text) → Same form t g
-    → Steps form (word_told form t word) (with_word g word)
+    → Steps form (word_told form t word) (given_with_word g word)
 word_step form t g word s = by_tests t.awaits g.awaits t.ended g.ended s.awaits s.ended refl
   where
     by_tests : (a b m n : Bool) → a ≡ b → m ≡ n → g.awaits ≡ b
@@ -446,7 +446,7 @@ same_command form command [] t g s = by_tests t.awaits g.awaits s.awaits
     by_tests false true e = cc
     by_tests false false e = same_read form command t g s
 same_command form command (word ∷ words) t g s =
-    by_next (word_told form t word) (with_word g word) (word_step form t g word s)
+    by_next (word_told form t word) (given_with_word g word) (word_step form t g word s)
     (λ t' g' same. same_command form command words t' g' same)
   where
     by_next : (o : Option Told) (p : Option Given) → Steps form o p

@@ -57,8 +57,8 @@ with_other g word (Some digits) = with_markers g digits
 with_other g word None = with_number g word
 
 -- one word more, which may be of no form at its place
-abbrev pub with_word : Given → List ℕ → Option Given
-with_word g word =
+abbrev pub given_with_word : Given → List ℕ → Option Given
+given_with_word g word =
     if g.awaits then with_markers g word
     else if g.ended then with_number g word
     else if bytes_eq word (codes "--") then Some (record g { ended = true })
@@ -69,7 +69,7 @@ with_word g word =
 
 abbrev pub with_words : List (List ℕ) → Given → Option Given
 with_words [] g = Some g
-with_words (word ∷ words) g = option_and_then (with_words words) (with_word g word)
+with_words (word ∷ words) g = option_and_then (with_words words) (given_with_word g word)
 
 -- `--markers` is not the last word, but for what stands after `--`.
 abbrev pub whole : Given → Option Given

@@ -81,10 +81,10 @@ is_of_any_holder step.Full = false
 is_of_any_holder s = is_of_turn (group_of s)
 
 -- the steps that decide a New, besides those of any holder
-abbrev pub may_decide : Op → Step → Bool
-may_decide (op.New d ty full) step.Grant = true
-may_decide (op.New d ty full) step.Full = true
-may_decide _ s = is_of_any_holder s
+abbrev pub may_decide_new : Op → Step → Bool
+may_decide_new (op.New d ty full) step.Grant = true
+may_decide_new (op.New d ty full) step.Full = true
+may_decide_new _ s = is_of_any_holder s
 
 -- a caller's next step, at a stage of its call
 abbrev pub comes_next : Stage → Op → Step → Bool
@@ -103,7 +103,7 @@ comes_next stage.Getg o step.Getg = true
 comes_next stage.Setg o step.Setg = true
 comes_next stage.Dirty o step.Dirty = true
 comes_next stage.Leave o step.Leave = true
-comes_next stage.Turn o s = may_decide o s
+comes_next stage.Turn o s = may_decide_new o s
 comes_next stage.Give o s = is_of_any_holder s
 comes_next _ _ _ = false
 

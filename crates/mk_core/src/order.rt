@@ -1,7 +1,7 @@
 //! Conditions 1, 2 and 3 of an event: its seat exists, its kind is open to the seat, and it comes next in
 //! the seat's order.
 ghost use Rattle.std.specs.Prelude.{◌≡◌};
-ghost use Rattle.mk_core.specs.Order.{seat_exists, group_of, is_open_to, is_of_any_holder, may_decide, comes_next};
+ghost use Rattle.mk_core.specs.Order.{seat_exists, group_of, is_open_to, is_of_any_holder, may_decide_new, comes_next};
 ghost use Rattle.mk_core.specs.Order.{comes_next_to_host, host_has_turn, is_in_order};
 
 use crate::calls::is_under_turn;
@@ -60,7 +60,7 @@ fn is_of_any_holder(step: Step) -> bool
 
 /// Whether the step is one under the turn of a call that isn't decided.
 fn may_decide(op: Op, step: Step) -> bool
-    ensures { result ≡ may_decide op step }
+    ensures { result ≡ may_decide_new op step }
 {
     match (op, step) {
         (Op::New { .. }, Step::Grant | Step::Full) => true,

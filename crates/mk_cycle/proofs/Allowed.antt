@@ -15,8 +15,8 @@ use Rattle.mk_core.specs.NewPlaces.{target}
 use Rattle.mk_core.specs.Ranges.{is_word, is_run_cell, has_gates}
 use Rattle.mk_core.specs.TurnConditions.{frees, takes_snapshot, drops}
 use Rattle.mk_core.specs.Words.{Words, phase_of, quarantine_word}
-use Rattle.mk_protocol.specs.Protocol.{Protocol}
-use Rattle.mk_protocol.proofs.Protocols.{lists_keep_the_protocol}
+use Rattle.mk_laws.specs.Protocol.{Protocol}
+use Rattle.mk_laws.proofs.Protocols.{lists_keep_the_protocol}
 use Rattle.mk_never.specs.declared.operations.Op.{Op}
 use Rattle.mk_core.specs.History.{IsHistory}
 use Rattle.mk_words.specs.Seats.{Has}

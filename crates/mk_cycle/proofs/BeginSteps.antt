@@ -21,8 +21,8 @@ use Rattle.mk_core.specs.StopConditions.{has_clean_page}
 use Rattle.mk_core.specs.Words.{phase_of}
 use Rattle.mk_books.proofs.PlaceLemmas.{count_by-map}
 use Rattle.mk_core.proofs.AllBelow.{all_below_zero_is, all_below_more_is}
-use Rattle.mk_protocol.specs.Protocol.{has_place}
-use Rattle.mk_frames.proofs.LastEvents.{stands}
+use Rattle.mk_laws.specs.Protocol.{has_place}
+use Rattle.mk_laws.proofs.LastEvents.{stands}
 use Rattle.mk_words.specs.States.{PassState, world_of, now_of, call_of}
 use Rattle.mk_words.specs.Steps.{IsEnabledTo}
 use Rattle.mk_words.specs.TurnSteps.{world_at, Acts}

@@ -24,7 +24,7 @@ use Rattle.mk_turns.proofs.Doing.{does_step, not_own, own_in_parts}
 use Rattle.mk_turns.proofs.Sweeping.{only_seen, only_seen_by}
 use Rattle.mk_cycle.specs.Begun.{AreBegunFirst, DoesNothing, EachIsBegun, IsBegun, IsBegunFirst}
 use Rattle.mk_cycle.specs.FinishCycle.{FinishesCycle}
-use Rattle.mk_cycle.specs.Kinds.{begins_marking, clears, closes_marks, gives_back, holds_gates, sets_tallies}
+use Rattle.mk_cycle.specs.Kinds.{begins_marking, clears, closes_marks, is_giving_back, holds_gates, sets_tallies}
 use Rattle.mk_cycle.proofs.InParts.{InFirst, InSecond, in_parts}
 
 -- These kinds of step have no `begin` among them.
@@ -47,7 +47,7 @@ closing_begins_none : HaveNoBegin closes_marks
 closing_begins_none step.Begin h = cc
 closing_begins_none _ h = refl
 
-giving_begins_none : HaveNoBegin gives_back
+giving_begins_none : HaveNoBegin is_giving_back
 giving_begins_none step.Begin h = cc
 giving_begins_none _ h = refl
 
@@ -302,6 +302,7 @@ module _ (begins : Config → Seat → List Event → List Event → Type 0) whe
       (begun_then r.closing r.closed q closed (step_begins_none r.closing r.closed step.Close own_closing r.close refl)
       (begun_then r.closed m.released q released
       (step_begins_none r.closed m.released step.Release own_closed r.release refl)
-      (begun_then m.released m.freed q freed (does_begin_none gives_back m.released m.freed giving_begins_none m.frees)
+      (begun_then m.released m.freed q freed
+      (does_begin_none is_giving_back m.released m.freed giving_begins_none m.frees)
       (begun_then m.freed m.ended q ended (step_begins_none m.freed m.ended step.End own_freed m.end refl)
       (does_begin_none sets_tallies m.ended q setting_begins_none m.behind))))))

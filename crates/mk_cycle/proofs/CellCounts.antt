@@ -18,10 +18,10 @@ use Rattle.mk_core.specs.Bits.{has_bit}
 use Rattle.mk_core.specs.History.{left, never_behind, IsHistory}
 use Rattle.mk_core.specs.Words.{phase_of}
 use Rattle.mk_core.proofs.Lengths.{histories_keep_lengths}
-use Rattle.mk_layout.proofs.Settled.{unreleased_are_apart}
-use Rattle.mk_images.proofs.KnownWorlds.{known_world}
-use Rattle.mk_invariant.proofs.Histories.{histories_keep_the_invariant}
-use Rattle.mk_readings.proofs.Stands.{freed_cell}
+use Rattle.mk_laws.proofs.Settled.{unreleased_are_apart}
+use Rattle.mk_laws.proofs.KnownWorlds.{known_world}
+use Rattle.mk_laws.proofs.InvariantHistories.{histories_keep_the_invariant}
+use Rattle.mk_laws.proofs.ReadingsStands.{freed_cell}
 use Rattle.mk_cycle.specs.ReleasedPages.{sum_below}
 use Rattle.mk_cycle.proofs.SumsBelow.{sum_same, weighed_by_key, counted_by_key, one_if_any, counted_by_place}
 

@@ -5,10 +5,10 @@ use Rattle.std.proofs.lemmas.Bool.{cases_Bool, cases_lt, eqb-true, true≢false}
 use Rattle.mk_page_map.specs.Members.{has_other_cells, is_in_use, page_at}
 use Rattle.mk_core.specs.Frames.{Steady}
 use Rattle.mk_core.specs.Words.{header_at}
-use Rattle.mk_readings.proofs.FreePages.{free_pages_have_nothing}
+use Rattle.mk_laws.proofs.FreePages.{free_pages_have_nothing}
 use Rattle.mk_words.specs.PageMaps.{HasNoMarks}
 use Rattle.mk_words.specs.States.{PassState, now_of}
-use Rattle.mk_cycle.specs.Cleaning.{Cleans, HasTakenSnapshot, IsClean, IsReady, WasUndirty}
+use Rattle.mk_cycle.specs.Cleaning.{Cleans, HasTakenSnapshot, IsClean, IsCleanedPage, WasUndirty}
 use Rattle.mk_cycle.specs.TurnKeeps.{InTurn}
 use Rattle.mk_cycle.proofs.PageByPage.{no_header}
 use Rattle.mk_cycle.proofs.Undirty.{undirty_earlier, undirty_later, undirty_now}
@@ -45,9 +45,9 @@ free_bare_more p q n k before here =
 
 -- Pages below this one are ready.
 abbrev pub AreReady : PassState → PassState → ℕ → Type 0
-AreReady o p n = (page : ℕ) → page < n → IsReady page o p
+AreReady o p n = (page : ℕ) → page < n → IsCleanedPage page o p
 
-pub ready_stays : (o p q : PassState) (page : ℕ) → Cleans p q → IsReady page o p → IsReady page o q
+pub ready_stays : (o p q : PassState) (page : ℕ) → Cleans p q → IsCleanedPage page o p → IsCleanedPage page o q
 ready_stays o p q page k h =
     record { bare = bare_stays p q page k h.bare; undirty = undirty_later o p q page h.undirty k }
 
@@ -94,7 +94,7 @@ taken_past p from n before more page lt = elim (cases_lt page from) [
       | inr none ↦ absurd (true≢false (sym (ap not none) ∙ h))
     ]
 
-pub clean_ready : (o p q : PassState) (page : ℕ) → IsReady page o p → Cleans p q → HasTakenSnapshot q page
+pub clean_ready : (o p q : PassState) (page : ℕ) → IsCleanedPage page o p → Cleans p q → HasTakenSnapshot q page
     → IsClean q page
 clean_ready o p q page h k taken =
     record {

@@ -17,7 +17,7 @@ use Rattle.mk_core.specs.Moments.{Moment, flight_of}
 use Rattle.mk_core.specs.Calls.{still}
 use Rattle.mk_core.specs.Cycles.{is_end}
 use Rattle.mk_core.specs.declared.seats.Flight.{Flight}
-use Rattle.mk_zeros.specs.ZeroLaws.{stores}
+use Rattle.mk_laws.specs.ZeroLaws.{is_heap_store}
 use Rattle.mk_core.specs.Words.{Words, quarantine_word}
 use Rattle.mk_core.specs.Allocations.{PlacedAllocation, freed_where_it_stands}
 use Rattle.mk_geom.specs.declared.addresses.Cell.{Cell}
@@ -27,9 +27,9 @@ use Rattle.mk_turns.proofs.Doing.{does_nothing, does_then, does_step}
 use Rattle.mk_cycle.specs.Cleaning.{HasTakenSnapshot, IsClean, Cleans}
 use Rattle.mk_cycle.specs.EngineLaw.{IsFreeForCycle, IsAtPhase, is_pending_free}
 use Rattle.mk_cycle.specs.Kinds.{clears}
-use Rattle.mk_cycle.specs.TurnKeeps.{KeepsTurn, InTurn, but_cleaned}
+use Rattle.mk_cycle.specs.TurnKeeps.{LeavesTurn, InTurn, but_cleaned}
 use Rattle.mk_core.specs.declared.events.Event.{Event}
-use Rattle.mk_frames.proofs.LastEvents.{stands}
+use Rattle.mk_laws.proofs.LastEvents.{stands}
 use Rattle.mk_words.proofs.Made.{made}
 use Rattle.mk_cycle.proofs.KeptInParts.{free_then, keeps_at_once, keeps_then, gates_then, gates_behind}
 use Rattle.mk_cycle.proofs.Calm.{is_calm, calm_still, calm_done, frees_none}
@@ -67,7 +67,7 @@ zero_stays xs i r h = elim (cases_eq r i) [
   ]
 ]
 
-calm_stores : (s : Step) → is_calm s ≡ true → stores s ≡ false
+calm_stores : (s : Step) → is_calm s ≡ true → is_heap_store s ≡ false
 calm_stores step.Write h = cc
 calm_stores step.Cas h = cc
 calm_stores _ h = refl
@@ -86,7 +86,7 @@ module _ (p : PassState) (s : Step) (q : PassState) (a : Acts p s q) (t : InTurn
   pub calm_keeps : (view : Steady → Steady)
       → view (steady_of (world_behind p.table.config (world_at a.makes) (event_of p s)))
       ≡ view (steady_of (world_at a.makes))
-      → KeepsTurn view p q
+      → LeavesTurn view p q
   calm_keeps view same =
       let c : Config = p.table.config in
       let m : Moment = (world_at a.makes).now in

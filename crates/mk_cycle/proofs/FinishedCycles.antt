@@ -16,9 +16,9 @@ use Rattle.mk_core.specs.Moments.{is_held, none_is_held}
 use Rattle.mk_core.specs.TurnConditions.{held_by_pages}
 use Rattle.mk_core.specs.Words.{Words}
 use Rattle.mk_core.proofs.AllBelow.{all_below-at}
-use Rattle.mk_layout.specs.SettledPages.{IsSettled}
-use Rattle.mk_layout.proofs.Settled.{gone_is_unmapped}
-use Rattle.mk_invariant.proofs.Theorems.{pages_show_the_storage}
+use Rattle.mk_laws.specs.SettledPages.{IsSettled}
+use Rattle.mk_laws.proofs.Settled.{gone_is_unmapped}
+use Rattle.mk_laws.proofs.InvariantTheorems.{pages_show_the_storage}
 use Rattle.mk_words.specs.States.{PassState, world_of, now_of}
 use Rattle.mk_words.specs.TurnSteps.{Acts}
 use Rattle.mk_cycle.specs.declared.finishing.Released.{Released}
@@ -29,7 +29,7 @@ use Rattle.mk_cycle.specs.GivingAll.{GivesAllBack}
 use Rattle.mk_cycle.specs.Releasing.{words_released}
 use Rattle.mk_cycle.specs.Tallying.{Sets, with_cycle_counted}
 use Rattle.mk_cycle.specs.TurnKeeps.{Done, done_of, InTurn, KeepsCall, KeepsGates}
-use Rattle.mk_protocol.specs.Protocol.{has_place}
+use Rattle.mk_laws.specs.Protocol.{has_place}
 use Rattle.mk_cycle.proofs.BeginSteps.{all_from, counts_then}
 use Rattle.mk_cycle.proofs.EndSteps.{as_many_fulls, ended_call, ended_done, ended_gates, ended_gone, one_more_end}
 use Rattle.mk_cycle.proofs.EndSteps.{steady_ended}

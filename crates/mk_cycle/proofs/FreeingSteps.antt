@@ -22,21 +22,21 @@ use Rattle.mk_core.specs.Growing.{AreOfOthers}
 use Rattle.mk_core.specs.History.{World, world_behind, IsHistory}
 use Rattle.mk_core.specs.Moments.{Moment, flight_of, is_held, is_phase}
 use Rattle.mk_core.specs.Words.{phase_of}
-use Rattle.mk_zeros.specs.Zeros.{IsMappedWord}
-use Rattle.mk_zeros.specs.ZeroLaws.{stores}
-use Rattle.mk_frames.proofs.RunsStill.{HolderFinds, holder_finds}
+use Rattle.mk_laws.specs.Zeros.{IsWordOfMapped}
+use Rattle.mk_laws.specs.ZeroLaws.{is_heap_store}
+use Rattle.mk_laws.proofs.RunsStill.{HolderFinds, holder_finds}
 use Rattle.mk_words.specs.States.{WordsState, PassState, world_of, now_of, event_of}
 use Rattle.mk_words.specs.TurnSteps.{world_at, Acts}
 use Rattle.mk_words.proofs.Made.{made}
 use Rattle.mk_turns.proofs.Doing.{does_nothing, does_then, does_step}
 use Rattle.mk_cycle.specs.EngineLaw.{IsFreeForCycle, IsAtPhase, is_pending_free}
 use Rattle.mk_cycle.specs.Freeing.{but_pages, IsUnmapped, Frees}
-use Rattle.mk_cycle.specs.Kinds.{gives_back}
-use Rattle.mk_cycle.specs.TurnKeeps.{InTurn, KeepsTurn}
+use Rattle.mk_cycle.specs.Kinds.{is_giving_back}
+use Rattle.mk_cycle.specs.TurnKeeps.{InTurn, LeavesTurn}
 use Rattle.mk_core.specs.NewPlaces.{is_run_gone}
 use Rattle.mk_core.specs.Growing.{Finding}
 use Rattle.mk_core.proofs.HistoryParts.{earlier_part_is_history}
-use Rattle.mk_protocol.proofs.Frames.{others_leave}
+use Rattle.mk_laws.proofs.ProtocolFrames.{others_leave}
 use Rattle.mk_words.proofs.Seats.{others_own}
 use Rattle.mk_turns.specs.Doing.{are_of}
 use Rattle.mk_turns.proofs.Doing.{others_are_so, none_own}
@@ -48,25 +48,25 @@ use Rattle.mk_cycle.proofs.OwnSteps.{done_in, keeps_call, keeps_counts}
 pub frees_nothing : (p : PassState) → Frees p p
 frees_nothing p =
     record {
-      does = does_nothing gives_back p;
+      does = does_nothing is_giving_back p;
       keeps = keeps_at_once but_pages p;
       marks = refl;
       gates = λ j h. h;
       zeros = λ n u h. h;
     }
 
-same_allocations : (p q : PassState) → KeepsTurn but_pages p q → (world_of q).allocations ≡ (world_of p).allocations
+same_allocations : (p q : PassState) → LeavesTurn but_pages p q → (world_of q).allocations ≡ (world_of p).allocations
 same_allocations p q k = ap (λ (s : Steady). s.allocations) k.steady
 
-pub still_unmapped : (p q : PassState) (n : ℕ) → KeepsTurn but_pages p q → IsUnmapped p n → IsUnmapped q n
+pub still_unmapped : (p q : PassState) (n : ℕ) → LeavesTurn but_pages p q → IsUnmapped p n → IsUnmapped q n
 still_unmapped p q n k h m =
-    h (subst (λ (c : Config). IsMappedWord c (world_of p).allocations n) (same_config p q k.call.pass)
-    (subst (λ (xs : List PlacedAllocation). IsMappedWord q.table.config xs n) (same_allocations p q k) m))
+    h (subst (λ (c : Config). IsWordOfMapped c (world_of p).allocations n) (same_config p q k.call.pass)
+    (subst (λ (xs : List PlacedAllocation). IsWordOfMapped q.table.config xs n) (same_allocations p q k) m))
 
 pub frees_then : (p q r : PassState) → Frees p q → Frees q r → Frees p r
 frees_then p q r a b =
     record {
-      does = does_then gives_back p q r a.does b.does;
+      does = does_then is_giving_back p q r a.does b.does;
       keeps = keeps_then but_pages p q r a.keeps b.keeps;
       marks = b.marks ∙ a.marks;
       gates = λ j h. b.gates j (a.gates j h);
@@ -102,7 +102,7 @@ frees_done c m seat f n (step.Used p v) h kind free at =
     ap (λ (b : Bool). done_in (record h { placing = if b then h.placing else taken h.placing (place_now c m f) })) at
 frees_done c m seat f n s h kind free at = calm_done c m seat f n s h kind free
 
-frees_stores : (s : Step) → frees_calmly s ≡ true → stores s ≡ false
+frees_stores : (s : Step) → frees_calmly s ≡ true → is_heap_store s ≡ false
 frees_stores step.Write h = cc
 frees_stores step.Cas h = cc
 frees_stores _ h = refl
@@ -124,7 +124,8 @@ open_stays : (p q : PassState)
 open_stays p q h j e = ne_eqb _ 2 (h j (eqb-false _ 2 e))
 
 module _ (p : PassState) (s : Step) (q : PassState) (a : Acts p s q) (t : InTurn p) (u : InTurn q)
-    (kind : frees_calmly s ≡ true) (gives : gives_back s ≡ true) (free : IsFreeForCycle p) (at : IsAtPhase p 4) where
+    (kind : frees_calmly s ≡ true) (gives : is_giving_back s
+    ≡ true) (free : IsFreeForCycle p) (at : IsAtPhase p 4) where
   pub frees_step : FreesAt (world_at a.makes) (world_behind p.table.config (world_at a.makes) (event_of p s))
       → Frees p q
   frees_step x =
@@ -140,7 +141,7 @@ module _ (p : PassState) (s : Step) (q : PassState) (a : Acts p s q) (t : InTurn
       let finds : HolderFinds c p.seat (world_of p) w =
       holder_finds c p.seat p.seen a.makes.others d.history d.others t.holds in
       record {
-        does = does_step gives_back p q s t.own a.makes gives;
+        does = does_step is_giving_back p q s t.own a.makes gives;
         keeps = record {
           call = keeps_call p s q a t.own t.holds u.history st
               (λ n. frees_done c m p.seat f n s m.seats.holding kind pending four) (frees_stores s kind);
@@ -218,7 +219,7 @@ others_free p more t others history at =
         more = more;
         is = refl;
         own_or_others = others_are_so p.seats p.seat more t.own others;
-        of_kinds = ap (λ (xs : List Finding). are_of gives_back xs)
+        of_kinds = ap (λ (xs : List Finding). are_of is_giving_back xs)
             (none_own c p.seats p.seat (world_of p) more t.own others);
       };
       keeps = record {

@@ -16,7 +16,7 @@ use Rattle.mk_core.specs.declared.seats.Flight.{Flight}
 use Rattle.mk_core.specs.Bounded.{is_some_and}
 use Rattle.mk_core.specs.declared.seats.RunPages.{RunPages}
 use Rattle.mk_core.proofs.AllBelow.{all_below-at}
-use Rattle.mk_zeros.specs.Zeros.{MayHold, OfMapped, OfReleased, OfFreedRun, zero_scene_of}
+use Rattle.mk_laws.specs.Zeros.{MayHold, OfMapped, OfReleased, OfFreedRun, zero_scene_of}
 use Rattle.mk_core.specs.Cells.{pointed_cell, is_released_cell, is_in_run, words_are_zero}
 use Rattle.mk_core.specs.Frames.{Steady}
 use Rattle.mk_core.specs.History.{World}
@@ -27,7 +27,7 @@ use Rattle.mk_core.specs.TurnConditions.{gives_back, drops, empties, carves, unm
 use Rattle.mk_core.specs.TurnConditions.{is_in_gone_run, is_used_once, place_now}
 use Rattle.mk_core.specs.NewPlaces.{object_made, is_run_gone, is_run_unmapped}
 use Rattle.mk_core.specs.Words.{Words, header_at, used_at, page_of, phase_of}
-use Rattle.mk_frames.proofs.LastEvents.{stands}
+use Rattle.mk_laws.proofs.LastEvents.{stands}
 use Rattle.mk_words.specs.States.{PassState, world_of, now_of, call_of}
 use Rattle.mk_words.specs.Steps.{IsEnabledTo}
 use Rattle.mk_words.specs.TurnSteps.{world_at, Acts}

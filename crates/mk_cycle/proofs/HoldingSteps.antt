@@ -15,7 +15,7 @@ use Rattle.mk_turns.proofs.Doing.{does_nothing, does_then, does_step}
 use Rattle.mk_cycle.specs.EngineLaw.{IsFreeForCycle}
 use Rattle.mk_cycle.specs.Holding.{HoldsGates, IsHeldOrOwn}
 use Rattle.mk_cycle.specs.Kinds.{holds_gates}
-use Rattle.mk_cycle.specs.TurnKeeps.{InTurn, whole}
+use Rattle.mk_cycle.specs.TurnKeeps.{InTurn, unchanged}
 use Rattle.mk_cycle.proofs.Allowed.{protocol}
 use Rattle.mk_cycle.proofs.BeginSteps.{all_from}
 use Rattle.mk_cycle.proofs.CleaningSteps.{calm_keeps}
@@ -23,13 +23,13 @@ use Rattle.mk_cycle.proofs.KeptInParts.{free_then, keeps_at_once, keeps_then}
 use Rattle.mk_cycle.proofs.MayAct.{may_act}
 
 pub holds_nothing : (p : PassState) → HoldsGates p p
-holds_nothing p = record { does = does_nothing holds_gates p; keeps = keeps_at_once whole p; held = λ j h. h }
+holds_nothing p = record { does = does_nothing holds_gates p; keeps = keeps_at_once unchanged p; held = λ j h. h }
 
 pub holds_then : (p q r : PassState) → HoldsGates p q → HoldsGates q r → HoldsGates p r
 holds_then p q r a b =
     record {
       does = does_then holds_gates p q r a.does b.does;
-      keeps = keeps_then whole p q r a.keeps b.keeps;
+      keeps = keeps_then unchanged p q r a.keeps b.keeps;
       held = λ j h. b.held j (a.held j h);
     }
 
@@ -72,7 +72,7 @@ module _ (p q : PassState) (t : InTurn p) (free : IsFreeForCycle p) (u : InTurn 
   look_holds j a =
       record {
         does = does_step holds_gates p q (step.Look (word.Gate j)) t.own a.makes refl;
-        keeps = calm_keeps p (step.Look (word.Gate j)) q a t u.history refl free whole refl;
+        keeps = calm_keeps p (step.Look (word.Gate j)) q a t u.history refl free unchanged refl;
         held = λ i h. eq-eqb _ 2 (ap (λ (w : World). slice_index w.now.words.gates i) a.world
             ∙ a.turn.held_gates i (eqb-true _ 2 h));
       }
@@ -81,7 +81,7 @@ module _ (p q : PassState) (t : InTurn p) (free : IsFreeForCycle p) (u : InTurn 
   hold_holds j a =
       record {
         does = does_step holds_gates p q (step.Hold j) t.own a.makes refl;
-        keeps = calm_keeps p (step.Hold j) q a t u.history refl free whole refl;
+        keeps = calm_keeps p (step.Hold j) q a t u.history refl free unchanged refl;
         held = λ i h. eq-eqb _ 2
             (ap (λ (w : World). slice_index w.now.words.gates i) a.world
             ∙ stays_held (world_at a.makes).now.words.gates j i (a.turn.held_gates i (eqb-true _ 2 h)));

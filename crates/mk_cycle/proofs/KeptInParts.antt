@@ -8,12 +8,12 @@ use Rattle.mk_core.specs.Counts.{full_answers}
 use Rattle.mk_core.specs.Frames.{Steady}
 use Rattle.mk_core.specs.History.{World, world_behind}
 use Rattle.mk_core.specs.Moments.{is_held}
-use Rattle.mk_protocol.specs.Protocol.{has_place}
+use Rattle.mk_laws.specs.Protocol.{has_place}
 use Rattle.mk_words.specs.Seats.{Has}
 use Rattle.mk_words.specs.States.{PassState, event_of}
 use Rattle.mk_words.specs.TurnSteps.{world_at, Acts}
 use Rattle.mk_cycle.specs.EngineLaw.{IsFreeForCycle, is_pending_free}
-use Rattle.mk_cycle.specs.TurnKeeps.{Done, KeepsCall, KeepsTurn, KeepsGates}
+use Rattle.mk_cycle.specs.TurnKeeps.{Done, KeepsCall, LeavesTurn, KeepsGates}
 
 pub calls_then : (p q r : PassState) → KeepsCall p q → KeepsCall q r → KeepsCall p r
 calls_then p q r a b =
@@ -27,7 +27,7 @@ calls_then p q r a b =
 pub same_config : (p q : PassState) → q ≡ record p { seen = q.seen } → q.table.config ≡ p.table.config
 same_config p q is = ap (λ (x : PassState). x.table.config) is
 
-pub keeps_at_once : (view : Steady → Steady) (p : PassState) → KeepsTurn view p p
+pub keeps_at_once : (view : Steady → Steady) (p : PassState) → LeavesTurn view p p
 keeps_at_once view p =
     record {
       call = record { pass = refl; call = refl; done = refl; gone = λ g. g };
@@ -35,8 +35,8 @@ keeps_at_once view p =
       counts = record { ends = refl; fulls = refl };
     }
 
-pub keeps_then : (view : Steady → Steady) (p q r : PassState) → KeepsTurn view p q → KeepsTurn view q r
-    → KeepsTurn view p r
+pub keeps_then : (view : Steady → Steady) (p q r : PassState) → LeavesTurn view p q → LeavesTurn view q r
+    → LeavesTurn view p r
 keeps_then view p q r a b =
     record {
       call = calls_then p q r a.call b.call;
@@ -51,8 +51,8 @@ keeps_then view p q r a b =
     }
 
 -- Less is seen by another view of the view.
-pub keeps_less : (view more : Steady → Steady) (p q : PassState) → KeepsTurn view p q
-    → KeepsTurn (λ s. more (view s)) p q
+pub keeps_less : (view more : Steady → Steady) (p q : PassState) → LeavesTurn view p q
+    → LeavesTurn (λ s. more (view s)) p q
 keeps_less view more p q a = record { call = a.call; steady = ap more a.steady; counts = a.counts }
 
 pub gates_then : (p q r : PassState) → q ≡ record p { seen = q.seen } → KeepsGates p q → KeepsGates q r → KeepsGates p r

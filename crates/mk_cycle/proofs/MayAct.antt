@@ -20,20 +20,22 @@ use Rattle.mk_never.specs.Admitted.{AreAdmitted}
 use Rattle.mk_core.specs.Decided.{Decided, asked}
 use Rattle.mk_core.specs.History.{never_first, IsHistory}
 use Rattle.mk_core.specs.Moments.{Moment, flight_of, marker_at}
-use Rattle.mk_core.specs.Order.{seat_exists, group_of, is_open_to, is_of_any_holder, is_of_turn, may_decide, comes_next}
+use Rattle.mk_core.specs.Order.{seat_exists, group_of, is_open_to, is_of_any_holder, is_of_turn, may_decide_new}
+use Rattle.mk_core.specs.Order.{comes_next}
 use Rattle.mk_core.specs.Order.{comes_next_to_host, host_has_turn, is_in_order}
 use Rattle.mk_core.specs.Ranges.{is_in_range, has_gates, has_phase}
 use Rattle.mk_core.specs.Readings.{Holds, is_idle}
 use Rattle.mk_core.specs.Words.{phase_of}
 use Rattle.mk_core.proofs.Conditions.{meets_enabled}
-use Rattle.mk_protocol.specs.Protocol.{Protocol, has_stage}
+use Rattle.mk_laws.specs.Protocol.{Protocol, has_stage}
 use Rattle.mk_words.specs.States.{PassState, now_of, call_of, event_of}
 use Rattle.mk_words.specs.Steps.{IsEnabledTo, IsAdmittedTo}
 use Rattle.mk_cycle.specs.EngineLaw.{is_pending_free, is_pending_free_at}
 use Rattle.mk_cycle.proofs.Calm.{is_calm, calm_still}
 use Rattle.mk_cycle.proofs.OwnSteps.{no_more_calls, undecided}
 
-decides_new : (d ty : ℕ) (full : Bool) (s : Step) → is_of_any_holder s ≡ true → may_decide (op.New d ty full) s ≡ true
+decides_new : (d ty : ℕ) (full : Bool) (s : Step) → is_of_any_holder s ≡ true → may_decide_new (op.New d ty full) s
+    ≡ true
 decides_new d ty full step.Grant h = cc
 decides_new d ty full step.Full h = cc
 decides_new d ty full s h = h

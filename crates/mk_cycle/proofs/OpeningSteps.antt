@@ -9,14 +9,14 @@ use Rattle.mk_core.specs.declared.events.Step.TheVariants as step
 use Rattle.mk_core.specs.Growing.{AreOfOthers, is_one_of}
 use Rattle.mk_core.specs.History.{IsHistory}
 use Rattle.mk_core.proofs.HistoryParts.{earlier_part_is_history}
-use Rattle.mk_protocol.proofs.Actors.{is_holders}
-use Rattle.mk_protocol.proofs.Frames.{others_leave}
-use Rattle.mk_protocol.proofs.Known.{holds_turn}
-use Rattle.mk_protocol.proofs.Orderly.{same_holder}
-use Rattle.mk_protocol.proofs.OrderlyLists.{actor_of}
-use Rattle.mk_protocol.proofs.Views.{view_of}
-use Rattle.mk_frames.proofs.Holders.{acts_as_holder}
-use Rattle.mk_frames.proofs.LastEvents.{comes_last, stands}
+use Rattle.mk_laws.proofs.Actors.{is_holders}
+use Rattle.mk_laws.proofs.ProtocolFrames.{others_leave}
+use Rattle.mk_laws.proofs.Known.{holds_turn}
+use Rattle.mk_laws.proofs.Orderly.{same_holder}
+use Rattle.mk_laws.proofs.OrderlyLists.{actor_of}
+use Rattle.mk_laws.proofs.Views.{view_of}
+use Rattle.mk_laws.proofs.FramesHolders.{acts_as_holder}
+use Rattle.mk_laws.proofs.LastEvents.{comes_last, stands}
 use Rattle.mk_words.specs.Opening.{is_open, OnlyOpen, Opens}
 use Rattle.mk_words.specs.States.{PassState, world_of, now_of, call_of, event_of}
 use Rattle.mk_words.specs.Steps.{Makes}

@@ -26,11 +26,11 @@ use Rattle.mk_core.specs.Moments.{Moment, flight_of}
 use Rattle.mk_core.specs.NewPlaces.{is_run_gone}
 use Rattle.mk_core.specs.Readings.{Holds}
 use Rattle.mk_core.proofs.Histories.{calls_more}
-use Rattle.mk_protocol.specs.Protocol.{Protocol}
-use Rattle.mk_zeros.specs.ZeroLaws.{stores}
-use Rattle.mk_invariant.proofs.RunWords.{gone_behind}
-use Rattle.mk_frames.proofs.LastEvents.{stands}
-use Rattle.mk_frames.proofs.RunsStill.{holder_finds}
+use Rattle.mk_laws.specs.Protocol.{Protocol}
+use Rattle.mk_laws.specs.ZeroLaws.{is_heap_store}
+use Rattle.mk_laws.proofs.RunWords.{gone_behind}
+use Rattle.mk_laws.proofs.LastEvents.{stands}
+use Rattle.mk_laws.proofs.RunsStill.{holder_finds}
 use Rattle.mk_words.specs.Seats.{Has}
 use Rattle.mk_words.specs.States.{PassState, world_of, now_of, call_of, event_of}
 use Rattle.mk_words.specs.TurnSteps.{world_at, Acts}
@@ -104,7 +104,7 @@ module _ (p : PassState) (s : Step) (q : PassState) (a : Acts p s q) (own : Has 
 
   pub still_gone : ((n : ℕ)
       → (holding_behind c m p.seat (flight_of m p.seat) n s m.seats.holding).freed ≡ m.seats.holding.freed)
-      → stores s ≡ false → IsGone p → IsGone q
+      → is_heap_store s ≡ false → IsGone p → IsGone q
   still_gone k none gone =
       let at = holder_finds c p.seat p.seen a.makes.others d.history d.others holds in
       let here : is_run_gone m.words m.seats.holding.freed ≡ true =
@@ -127,7 +127,7 @@ module _ (p : PassState) (s : Step) (q : PassState) (a : Acts p s q) (own : Has 
   pub keeps_call : ((n : ℕ) → progress c m (flight_of m p.seat) n s ≡ still (flight_of m p.seat))
       → ((n : ℕ) → done_in (holding_behind c m p.seat (flight_of m p.seat) n s m.seats.holding)
       ≡ done_in m.seats.holding)
-      → stores s ≡ false → KeepsCall p q
+      → is_heap_store s ≡ false → KeepsCall p q
   keeps_call st k none =
       record {
         pass = same_pass;

@@ -18,7 +18,7 @@ use Rattle.mk_words.specs.TurnSteps.{world_at, Acts}
 use Rattle.mk_words.proofs.Made.{made}
 use Rattle.mk_cycle.specs.EngineLaw.{IsFreeForCycle, IsAtPhase, ClosesMarks}
 use Rattle.mk_cycle.specs.Releasing.{ReleasesUnmarked}
-use Rattle.mk_cycle.specs.TurnKeeps.{InTurn, KeepsTurn, but_phase}
+use Rattle.mk_cycle.specs.TurnKeeps.{InTurn, LeavesTurn, but_phase}
 use Rattle.mk_cycle.proofs.Allowed.{protocol}
 use Rattle.mk_cycle.proofs.BeginSteps.{counts_then}
 use Rattle.mk_cycle.proofs.CleaningSteps.{calm_keeps}
@@ -51,7 +51,7 @@ release_allowed p t free at held =
     (eq-eqb (phase_of (now_of p).words) 3 at) refl
 
 pub close_leaves : (p q : PassState) → InTurn p → IsFreeForCycle p → IsAtPhase p 2 → Acts p step.Close q → InTurn q
-    → KeepsTurn but_phase p q × IsAtPhase q 3
+    → LeavesTurn but_phase p q × IsAtPhase q 3
 close_leaves p q t free at a u = (
   calm_keeps p step.Close q a t u.history refl free but_phase refl,
   ap (λ (w : World). phase_of w.now.words) a.world ∙ phase_at p step.Close q a t u 2 at (omega arith),

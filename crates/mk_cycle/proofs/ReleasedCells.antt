@@ -31,15 +31,15 @@ use Rattle.mk_core.proofs.ObjectHeaders.{header_shows}
 use Rattle.mk_core.proofs.PointedAllocations.{released_where_left}
 use Rattle.mk_core.proofs.Sizes.{large_is_not_small, pages_some}
 use Rattle.mk_core.proofs.StandingAllocations.{cells_begin, placed_cell, typed_size}
-use Rattle.mk_layout.specs.Quarantine.{IsFreedCell}
-use Rattle.mk_layout.specs.LayoutScene.{is_released_in}
-use Rattle.mk_invariant.proofs.Theorems.{allocations_are_disjoint, allocations_stand}
-use Rattle.mk_frames.proofs.LastEvents.{stands}
-use Rattle.mk_frames.proofs.RunsStill.{HolderFinds, holder_finds}
-use Rattle.mk_zeros.specs.Zeros.{IsMappedWord}
-use Rattle.mk_zeros.proofs.MappedWords.{mapped_stays}
-use Rattle.mk_readings.specs.FreeWords.{IsOfNoneMapped}
-use Rattle.mk_readings.proofs.FreeWords.{unmapped_words_are_zero}
+use Rattle.mk_laws.specs.Quarantine.{IsFreedCell}
+use Rattle.mk_laws.specs.LayoutScene.{is_released_in}
+use Rattle.mk_laws.proofs.InvariantTheorems.{allocations_are_disjoint, allocations_stand}
+use Rattle.mk_laws.proofs.LastEvents.{stands}
+use Rattle.mk_laws.proofs.RunsStill.{HolderFinds, holder_finds}
+use Rattle.mk_laws.specs.Zeros.{IsWordOfMapped}
+use Rattle.mk_laws.proofs.MappedWords.{mapped_stays}
+use Rattle.mk_laws.specs.FreeWords.{IsOfNoneMapped}
+use Rattle.mk_laws.proofs.FreeWords.{unmapped_words_are_zero}
 use Rattle.mk_words.specs.States.{PassState, now_of, world_of}
 use Rattle.mk_words.specs.TurnSteps.{world_at, Acts}
 use Rattle.mk_words.proofs.Made.{made}
@@ -96,7 +96,7 @@ module _ (d q : PassState) (t : InTurn d) (u : InTurn q) (at : IsAtPhase d 3) (a
   none_mapped : (page k n : ℕ) (f : IsFreedCell c w.allocations page k)
       → has_bit (left_unmarked w.now.words page) k ≡ true
       → IsWordOf (storage_of c (placed_at w.allocations f.number)) n
-      → IsMappedWord c (map (with_released c w.now.words) w.allocations) n → ⊥
+      → IsWordOfMapped c (map (with_released c w.now.words) w.allocations) n → ⊥
   none_mapped page k n f has word m =
       let history = (made d step.Release q a.makes t.own u.history).history in
       let x : PlacedAllocation = placed_at w.allocations m.number in
@@ -203,8 +203,8 @@ module _ (d q : PassState) (t : InTurn d) (u : InTurn q) (at : IsAtPhase d 3) (a
       record {
         within = subst (λ (e : Config). n < 64 * e.pages) (sym same_table) own.0;
         unmapped = λ m. none_mapped page k n f has own.1
-            (subst (λ (e : Config). IsMappedWord e (map (with_released c w.now.words) w.allocations) n) same_table
-            (subst (λ (xs : List PlacedAllocation). IsMappedWord q.table.config xs n)
+            (subst (λ (e : Config). IsWordOfMapped e (map (with_released c w.now.words) w.allocations) n) same_table
+            (subst (λ (xs : List PlacedAllocation). IsWordOfMapped q.table.config xs n)
             (ap (λ (x : World). x.allocations) a.world) m));
       }
 

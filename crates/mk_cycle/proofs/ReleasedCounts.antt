@@ -22,9 +22,9 @@ use Rattle.mk_core.specs.Words.{Words, phase_of}
 use Rattle.mk_core.proofs.BitsWithout.{has_bit_without}
 use Rattle.mk_core.proofs.PointedAllocations.{released_where_left}
 use Rattle.mk_core.proofs.StandingAllocations.{cells_begin}
-use Rattle.mk_layout.specs.Quarantine.{has_bit_of, is_cycling}
-use Rattle.mk_invariant.proofs.Theorems.{allocations_stand}
-use Rattle.mk_frames.proofs.LastEvents.{stands}
+use Rattle.mk_laws.specs.Quarantine.{has_bit_of, is_cycling}
+use Rattle.mk_laws.proofs.InvariantTheorems.{allocations_stand}
+use Rattle.mk_laws.proofs.LastEvents.{stands}
 use Rattle.mk_words.specs.States.{PassState, world_of, now_of}
 use Rattle.mk_words.specs.TurnSteps.{world_at, Acts}
 use Rattle.mk_words.proofs.Made.{made}

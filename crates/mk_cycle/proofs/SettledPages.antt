@@ -17,10 +17,10 @@ use Rattle.mk_core.specs.TurnConditions.{empties}
 use Rattle.mk_core.specs.Words.{Words, header_at, used_at, quarantine_word}
 use Rattle.mk_core.proofs.BitsWithout.{has_bit_without}
 use Rattle.mk_core.proofs.WordBits.{no_bit, zero_from_bits}
-use Rattle.mk_layout.specs.Quarantine.{IsFreedCell}
-use Rattle.mk_layout.specs.LayoutScene.{is_released_in}
-use Rattle.mk_invariant.proofs.Theorems.{allocations_stand}
-use Rattle.mk_frames.proofs.LastEvents.{stands}
+use Rattle.mk_laws.specs.Quarantine.{IsFreedCell}
+use Rattle.mk_laws.specs.LayoutScene.{is_released_in}
+use Rattle.mk_laws.proofs.InvariantTheorems.{allocations_stand}
+use Rattle.mk_laws.proofs.LastEvents.{stands}
 use Rattle.mk_words.specs.States.{PassState, world_of, now_of}
 use Rattle.mk_cycle.specs.EngineLaw.{IsAtPhase}
 use Rattle.mk_cycle.specs.Freeing.{Frees, GivesNothingBack, FreesPage, GivesBack, HasFreeCells, IsSettledPage}

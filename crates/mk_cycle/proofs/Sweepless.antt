@@ -2,7 +2,7 @@
 use Rattle.std.proofs.Common.{refl}
 use Rattle.mk_core.specs.declared.events.Step.TheVariants as step
 use Rattle.mk_turns.specs.Sweeping.{HaveNoMark}
-use Rattle.mk_cycle.specs.Kinds.{clears, gives_back, holds_gates, sets_tallies}
+use Rattle.mk_cycle.specs.Kinds.{clears, is_giving_back, holds_gates, sets_tallies}
 
 pub clearing_marks_nothing : HaveNoMark clears
 clearing_marks_nothing (step.Mark p v) h = cc
@@ -12,7 +12,7 @@ pub holding_marks_nothing : HaveNoMark holds_gates
 holding_marks_nothing (step.Mark p v) h = cc
 holding_marks_nothing _ h = refl
 
-pub giving_marks_nothing : HaveNoMark gives_back
+pub giving_marks_nothing : HaveNoMark is_giving_back
 giving_marks_nothing (step.Mark p v) h = cc
 giving_marks_nothing _ h = refl
 

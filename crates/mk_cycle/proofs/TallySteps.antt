@@ -17,7 +17,7 @@ use Rattle.mk_turns.proofs.Doing.{does_then, does_step}
 use Rattle.mk_cycle.specs.EngineLaw.{IsFreeForCycle}
 use Rattle.mk_cycle.specs.Kinds.{sets_tallies}
 use Rattle.mk_cycle.specs.Tallying.{Sets, with_cycle_counted, with_tally}
-use Rattle.mk_cycle.specs.TurnKeeps.{InTurn, whole}
+use Rattle.mk_cycle.specs.TurnKeeps.{InTurn, unchanged}
 use Rattle.mk_cycle.proofs.CleaningSteps.{calm_keeps}
 use Rattle.mk_cycle.proofs.KeptInParts.{gates_behind, gates_then, keeps_then}
 
@@ -54,9 +54,9 @@ nothing_seen : Steady → Steady → Steady
 nothing_seen t s = t
 
 module _ (p q : PassState) (t : InTurn p) (free : IsFreeForCycle p) (u : InTurn q) where
-  pub look_sets : (x : Word) → Acts p (step.Look x) q → Sets whole p q
+  pub look_sets : (x : Word) → Acts p (step.Look x) q → Sets unchanged p q
   look_sets x a =
-      let k = calm_keeps p (step.Look x) q a t u.history refl free whole refl in
+      let k = calm_keeps p (step.Look x) q a t u.history refl free unchanged refl in
       record {
         does = does_step sets_tallies p q (step.Look x) t.own a.makes refl;
         call = k.call;
@@ -89,7 +89,7 @@ same_tally p q tally.Released same = ap (λ (s : Steady). s.released) same
 same_tally p q tally.Full same = ap (λ (s : Steady). s.full) same
 
 -- a tally that is raised by what it is found to be
-pub raised : (p a q : PassState) (n : Tally) (x : Word) (found more to : ℕ) → x ≡ tally_word n → Sets whole p a
+pub raised : (p a q : PassState) (n : Tally) (x : Word) (found more to : ℕ) → x ≡ tally_word n → Sets unchanged p a
     → found ≡ named_word (now_of a).words x → to ≡ in_a_word (found + more) → Sets (with_tally n to) a q
     → Sets (with_tally n (in_a_word (named_word (now_of p).words x + more))) p q
 raised p a q n x found more to is looks finds sum sets =
@@ -97,7 +97,7 @@ raised p a q n x found more to is looks finds sum sets =
     ap (λ (y : Word). named_word (now_of a).words y) is ∙ same_tally p a n looks.steady
     ∙ ap (λ (y : Word). named_word (now_of p).words y) (sym is) in
     subst (λ (v : ℕ). Sets (with_tally n v) p q) (sum ∙ ap (λ (m : ℕ). in_a_word (m + more)) (finds ∙ same))
-    (sets_then whole (with_tally n to) p a q looks sets)
+    (sets_then unchanged (with_tally n to) p a q looks sets)
 
 -- the three tallies, one after the other
 

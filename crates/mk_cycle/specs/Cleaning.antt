@@ -6,7 +6,7 @@ use Rattle.mk_words.specs.PageMaps.{HasNoMarks}
 use Rattle.mk_words.specs.States.{PassState, now_of}
 use Rattle.mk_turns.specs.Doing.{Does}
 use Rattle.mk_cycle.specs.Kinds.{clears}
-use Rattle.mk_cycle.specs.TurnKeeps.{KeepsTurn, KeepsGates, but_cleaned}
+use Rattle.mk_cycle.specs.TurnKeeps.{LeavesTurn, KeepsGates, but_cleaned}
 
 abbrev pub IsUnmarked : PassState → ℕ → Type 0
 IsUnmarked p page = slice_index (now_of p).words.marks page ≡ 0
@@ -27,7 +27,7 @@ pub record WasUndirty (page : ℕ) (p q : PassState) : Type 0 where
   pub zero : slice_index (left p.table.config (p.seen ++ before)).now.words.dirty page ≡ 0
 
 -- From one to the other pages were cleaned: no mark is left on this one, and its dirty word was 0.
-pub record IsReady (page : ℕ) (p q : PassState) : Type 0 where
+pub record IsCleanedPage (page : ℕ) (p q : PassState) : Type 0 where
   pub bare : HasNoMarks (now_of q).words page
   pub undirty : WasUndirty page p q
 
@@ -39,7 +39,7 @@ pub record IsClean (p : PassState) (page : ℕ) : Type 0 where
 -- From one to the other pages were cleaned: what is clean stays so.
 pub record Cleans (p q : PassState) : Type 0 where
   pub does : Does clears p q
-  pub keeps : KeepsTurn but_cleaned p q
+  pub keeps : LeavesTurn but_cleaned p q
   pub gates : KeepsGates p q
   pub unmarked : (page : ℕ) → IsUnmarked p page → IsUnmarked q page
   pub unscanned : (page : ℕ) → IsUnscanned p page → IsUnscanned q page

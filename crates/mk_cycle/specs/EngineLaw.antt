@@ -10,12 +10,12 @@ use Rattle.mk_core.specs.declared.seats.Stage.{Stage}
 use Rattle.mk_core.specs.declared.seats.Stage.TheVariants as stage
 use Rattle.mk_core.specs.Words.{phase_of}
 use Rattle.mk_core.specs.ClosedMarks.{MarksAreClosed}
-use Rattle.mk_protocol.specs.Protocol.{has_place}
+use Rattle.mk_laws.specs.Protocol.{has_place}
 use Rattle.mk_words.specs.States.{PassState, world_of, now_of, call_of}
 use Rattle.mk_words.specs.Steps.{IsEnabledTo}
 use Rattle.mk_turns.specs.Doing.{Does, count_done}
 use Rattle.mk_cycle.specs.Kinds.{is_want, begins_marking, closes_marks}
-use Rattle.mk_cycle.specs.TurnKeeps.{KeepsTurn, KeepsGates, IsGone, whole, but_phase}
+use Rattle.mk_cycle.specs.TurnKeeps.{LeavesTurn, KeepsGates, IsGone, unchanged, but_phase}
 
 -- a Free that hasn't decided its answer yet
 abbrev pub is_pending_free_at : Op → Stage → Bool
@@ -39,14 +39,14 @@ IsAtPhase p n = phase_of (now_of p).words ≡ n
 -- What an engine does in `begin`: it looks, marks, and holds gates that it opens again.
 pub record BeginsMarking (p q : PassState) : Type 0 where
   pub does : Does begins_marking p q
-  pub keeps : KeepsTurn whole p q
+  pub keeps : LeavesTurn unchanged p q
   pub gates : KeepsGates p q
 
 -- What it does in `close_marks`: it wants the close, once, and then it may close, with all marks closed.
 pub record ClosesMarks (p q : PassState) : Type 0 where
   pub does : Does closes_marks p q
   pub one_want : count_done is_want does ≡ 1
-  pub keeps : KeepsTurn but_phase p q
+  pub keeps : LeavesTurn but_phase p q
   pub phase : IsAtPhase q 2
   pub close : IsEnabledTo q step.Close
   pub closed : MarksAreClosed q.table.config (world_of q)

@@ -12,7 +12,7 @@ use Rattle.mk_words.specs.Steps.{Makes}
 use Rattle.mk_turns.specs.Doing.{Does}
 use Rattle.mk_cycle.specs.declared.finishing.Released.{Released}
 use Rattle.mk_cycle.specs.EngineLaw.{IsAtPhase}
-use Rattle.mk_cycle.specs.Kinds.{holds_gates, gives_back, sets_tallies}
+use Rattle.mk_cycle.specs.Kinds.{holds_gates, is_giving_back, sets_tallies}
 use Rattle.mk_cycle.specs.Releasing.{MakesRelease, words_released}
 use Rattle.mk_cycle.specs.TurnKeeps.{done_of, IsGone}
 
@@ -24,7 +24,7 @@ pub record MakesFinish (p q : PassState) : Type 0 where
   pub ended : PassState
   pub holds : Does holds_gates p held
   pub releases : MakesRelease held released
-  pub frees : Does gives_back released freed
+  pub frees : Does is_giving_back released freed
   pub end : Makes freed step.End ended
   pub behind : Does sets_tallies ended q
 

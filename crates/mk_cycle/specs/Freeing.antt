@@ -7,11 +7,11 @@ use Rattle.mk_core.specs.Frames.{Steady}
 use Rattle.mk_core.specs.Moments.{is_held}
 use Rattle.mk_core.specs.StopConditions.{has_settled_page}
 use Rattle.mk_core.specs.Words.{page_of, header_at, quarantine_word}
-use Rattle.mk_zeros.specs.Zeros.{IsMappedWord}
+use Rattle.mk_laws.specs.Zeros.{IsWordOfMapped}
 use Rattle.mk_words.specs.States.{PassState, world_of, now_of}
 use Rattle.mk_turns.specs.Doing.{Does}
-use Rattle.mk_cycle.specs.Kinds.{gives_back}
-use Rattle.mk_cycle.specs.TurnKeeps.{KeepsTurn}
+use Rattle.mk_cycle.specs.Kinds.{is_giving_back}
+use Rattle.mk_cycle.specs.TurnKeeps.{LeavesTurn}
 
 -- without what is given back, and the count of fresh words
 abbrev pub but_pages : Steady → Steady
@@ -19,7 +19,7 @@ but_pages s = record s { pages = []; freed = []; snapshot = []; fresh_words = 0 
 
 -- No mapped allocation has the word.
 abbrev pub IsUnmapped : PassState → ℕ → Type 0
-IsUnmapped p n = IsMappedWord p.table.config (world_of p).allocations n → ⊥
+IsUnmapped p n = IsWordOfMapped p.table.config (world_of p).allocations n → ⊥
 
 -- and lies in the heap
 pub record IsUnmappedWord (p : PassState) (n : ℕ) : Type 0 where
@@ -31,8 +31,8 @@ IsZero p n = slice_index (now_of p).words.heap n ≡ 0
 
 -- From one to the other cells were given back: marks and open gates stay, and words of no mapped allocation that are 0.
 pub record Frees (p q : PassState) : Type 0 where
-  pub does : Does gives_back p q
-  pub keeps : KeepsTurn but_pages p q
+  pub does : Does is_giving_back p q
+  pub keeps : LeavesTurn but_pages p q
   pub marks : (now_of q).words.marks ≡ (now_of p).words.marks
   pub gates : (j : ℕ) → is_held (now_of p).words j ≡ false → is_held (now_of q).words j ≡ false
   pub zeros : (n : ℕ) → IsUnmapped p n → IsZero p n → IsZero q n

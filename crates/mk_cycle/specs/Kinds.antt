@@ -42,15 +42,15 @@ holds_gates (step.Hold j) = true
 holds_gates _ = false
 
 -- after a `release`: the gates are opened, and what is released is wiped and given back
-abbrev pub gives_back : Step → Bool
-gives_back (step.Look x) = true
-gives_back (step.Open j) = true
-gives_back (step.Wipe n) = true
-gives_back (step.Used p v) = true
-gives_back (step.Quar p v) = true
-gives_back (step.Head p v) = true
-gives_back (step.Tally n v) = true
-gives_back _ = false
+abbrev pub is_giving_back : Step → Bool
+is_giving_back (step.Look x) = true
+is_giving_back (step.Open j) = true
+is_giving_back (step.Wipe n) = true
+is_giving_back (step.Used p v) = true
+is_giving_back (step.Quar p v) = true
+is_giving_back (step.Head p v) = true
+is_giving_back (step.Tally n v) = true
+is_giving_back _ = false
 
 -- after an `end`: the tallies are set
 abbrev pub sets_tallies : Step → Bool

@@ -34,7 +34,7 @@ pub record KeepsCall (p q : PassState) : Type 0 where
   pub gone : IsGone p → IsGone q
 
 -- All else that only the holder changes is the same as well, as far as this view of it shows.
-pub record KeepsTurn (view : Steady → Steady) (p q : PassState) : Type 0 where
+pub record LeavesTurn (view : Steady → Steady) (p q : PassState) : Type 0 where
   pub call : KeepsCall p q
   pub steady : view (steady_of (world_of q)) ≡ view (steady_of (world_of p))
   pub counts : CountsAreLeft p.table.config p.seen q.seen
@@ -51,8 +51,8 @@ pub record InTurn (p : PassState) : Type 0 where
 
 -- views
 
-abbrev pub whole : Steady → Steady
-whole s = s
+abbrev pub unchanged : Steady → Steady
+unchanged s = s
 
 abbrev pub but_phase : Steady → Steady
 but_phase s = record s { phase = 0 }

@@ -6,7 +6,7 @@ ghost use Rattle.mk_core.specs.Ranges.{is_word};
 ghost use Rattle.mk_core.specs.Words.{header_at, named_word};
 ghost use Rattle.mk_words.specs.PageMaps.{HasNoMarks};
 ghost use Rattle.mk_words.specs.States.{now_of};
-ghost use Rattle.mk_cycle.specs.Cleaning.{Cleans, IsUnmarked, IsUnscanned, HasTakenSnapshot, IsClean, IsReady};
+ghost use Rattle.mk_cycle.specs.Cleaning.{Cleans, IsUnmarked, IsUnscanned, HasTakenSnapshot, IsClean, IsCleanedPage};
 ghost use Rattle.mk_cycle.specs.Cleaning.{WasUndirty};
 ghost use Rattle.mk_cycle.specs.EngineLaw.{IsFreeForCycle, IsAtPhase, is_register};
 ghost use Rattle.mk_cycle.specs.TurnKeeps.{InTurn};
@@ -207,7 +207,7 @@ fn clean_pages_in_use(turn: &mut Turn, words: &Words)
         → HasNoMarks (now_of turn.old.pass).words page }
     ensures op { turn.new.op ≡ turn.old.op }
     ensures cleans { Cleans turn.old.pass turn.new.pass }
-    ensures ready { (page : ℕ) → page < words.now.config.pages → IsReady page turn.old.pass turn.new.pass }
+    ensures ready { (page : ℕ) → page < words.now.config.pages → IsCleanedPage page turn.old.pass turn.new.pass }
 {
     words.is_within_limits();
     let pages = words.pages();

@@ -8,7 +8,7 @@ ghost use Rattle.mk_core.specs.Words.{named_word};
 ghost use Rattle.mk_words.specs.States.{now_of};
 ghost use Rattle.mk_cycle.specs.EngineLaw.{IsFreeForCycle, is_register};
 ghost use Rattle.mk_cycle.specs.Tallying.{Sets, with_cycle_counted, with_tally};
-ghost use Rattle.mk_cycle.specs.TurnKeeps.{whole};
+ghost use Rattle.mk_cycle.specs.TurnKeeps.{unchanged};
 
 use crate::turn_steps;
 use mk_core::{Tally, Word};
@@ -22,7 +22,7 @@ fn look(turn: &mut Turn, words: &Words, x: Word) -> u64
     requires in_range { is_word words.now.config x ≡ true }
     requires no_register { is_register x ≡ false }
     ensures op { turn.new.op ≡ turn.old.op }
-    ensures sets { Sets whole turn.old.pass turn.new.pass }
+    ensures sets { Sets unchanged turn.old.pass turn.new.pass }
     ensures reads { result ≡ named_word (now_of turn.new.pass).words x }
 {
     turn_steps::look(turn, words, x)

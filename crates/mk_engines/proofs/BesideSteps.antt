@@ -36,10 +36,10 @@ use Rattle.mk_core.specs.TurnConditions.{place_now}
 use Rattle.mk_core.specs.Words.{Words, header_at, named_word, phase_of}
 use Rattle.mk_core.proofs.Lengths.{histories_keep_lengths}
 use Rattle.mk_core.proofs.PointedPages.{pointed_within}
-use Rattle.mk_guard.proofs.Changes.{headers_kind, is_head, marks_kind}
-use Rattle.mk_guard.proofs.Wells.{is_well, well_is, wells_from}
-use Rattle.mk_guard.specs.Guard.{IsMarking}
-use Rattle.mk_frames.proofs.LastEvents.{stands}
+use Rattle.mk_laws.proofs.Changes.{headers_kind, is_head, marks_kind}
+use Rattle.mk_laws.proofs.Wells.{is_well, well_is, wells_from}
+use Rattle.mk_laws.specs.Guard.{IsMarking}
+use Rattle.mk_laws.proofs.LastEvents.{stands}
 use Rattle.mk_marker.proofs.PointedCells.{pointed_is_cell}
 use Rattle.mk_words.specs.States.{PassState, TurnState, now_of, call_of, event_of}
 use Rattle.mk_words.specs.Steps.{Finds, IsEnabledTo, found_by}
@@ -53,7 +53,7 @@ use Rattle.mk_tracing.proofs.MoreMarks.{marked_now}
 use Rattle.mk_tracing.proofs.Steps.{found_there}
 use Rattle.mk_cycle.specs.EngineLaw.{is_register}
 use Rattle.mk_cycle.specs.Kinds.{begins_marking}
-use Rattle.mk_cycle.specs.TurnKeeps.{InTurn, KeepsTurn, whole}
+use Rattle.mk_cycle.specs.TurnKeeps.{InTurn, LeavesTurn, unchanged}
 use Rattle.mk_cycle.proofs.Allowed.{protocol}
 use Rattle.mk_cycle.proofs.CleaningSteps.{calm_keeps}
 use Rattle.mk_cycle.proofs.KeptInParts.{held_so}
@@ -143,7 +143,8 @@ module _ (t u : TurnState) (s : Step) (a : Acts t.pass s u.pass) (was : InTurn t
       (marks_kind c (world_at a.makes).now t.pass.seat s early d.meets) v
       (is_well c (world_at a.makes).now.words v others))
 
-  pub goes_step : begins_marking s ≡ true → is_head s ≡ false → looks_at_root s ≡ false → KeepsTurn whole t.pass u.pass
+  pub goes_step : begins_marking s ≡ true → is_head s ≡ false → looks_at_root s ≡ false
+      → LeavesTurn unchanged t.pass u.pass
       → TracesReached c (world_at a.makes).now s → GoesBeside t u
   goes_step kind none plain keeps rule =
       record {
@@ -167,24 +168,24 @@ module _ (t u : TurnState) (was : InTurn t.pass) (is : InTurn u.pass) (b : IsBes
   pub goes_look : (x : Word) → Acts t.pass (step.Look x) u.pass → gives_no_hand x ≡ true → GoesBeside t u
   goes_look x a plain =
       goes_step t u (step.Look x) a was is b same refl refl (no_root x plain)
-      (calm_keeps t.pass (step.Look x) u.pass a was is.history refl b.free whole refl)
+      (calm_keeps t.pass (step.Look x) u.pass a was is.history refl b.free unchanged refl)
       (no_heap_word t.pass.table.config (world_at a.makes).now x plain)
 
   pub goes_hold : (j : ℕ) → Acts t.pass (step.Hold j) u.pass → GoesBeside t u
   goes_hold j a =
       goes_step t u (step.Hold j) a was is b same refl refl refl
-      (calm_keeps t.pass (step.Hold j) u.pass a was is.history refl b.free whole refl) tt
+      (calm_keeps t.pass (step.Hold j) u.pass a was is.history refl b.free unchanged refl) tt
 
   pub goes_open : (j : ℕ) → Acts t.pass (step.Open j) u.pass → GoesBeside t u
   goes_open j a =
       goes_step t u (step.Open j) a was is b same refl refl refl
-      (calm_keeps t.pass (step.Open j) u.pass a was is.history refl b.free whole refl) tt
+      (calm_keeps t.pass (step.Open j) u.pass a was is.history refl b.free unchanged refl) tt
 
   pub finds_in_root : (x : Word) (n : ℕ) → Acts t.pass (step.Look x) u.pass → Finds t.pass (step.Look x) n u.pass
       → is_root x ≡ true
       → FindsInRoot x n t u
   finds_in_root x n a f root =
-      let keeps = calm_keeps t.pass (step.Look x) u.pass a was is.history refl b.free whole refl in
+      let keeps = calm_keeps t.pass (step.Look x) u.pass a was is.history refl b.free unchanged refl in
       record {
         table = ap (λ (y : PassState). y.table) a.makes.is;
         op = same;
@@ -255,7 +256,7 @@ module _ (t u : TurnState) (was : InTurn t.pass) (is : InTurn u.pass) (b : IsBes
       let none = no_header (header_at (world_at a.makes).now.words cell.page) z in
       absurd (omega arith)
 
-  mark_keeps : KeepsTurn whole t.pass u.pass
+  mark_keeps : LeavesTurn unchanged t.pass u.pass
   mark_keeps =
       let c : Config = t.pass.table.config in
       let m : Moment = (world_at a.makes).now in

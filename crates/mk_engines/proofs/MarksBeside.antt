@@ -22,7 +22,7 @@ use Rattle.mk_tracing.specs.Grays.{TracesReached}
 use Rattle.mk_tracing.specs.Stops.{is_root}
 use Rattle.mk_cycle.specs.Holding.{IsHeldOrOwn}
 use Rattle.mk_cycle.specs.Kinds.{begins_marking}
-use Rattle.mk_cycle.specs.TurnKeeps.{KeepsTurn, KeepsGates, whole}
+use Rattle.mk_cycle.specs.TurnKeeps.{LeavesTurn, KeepsGates, unchanged}
 use Rattle.mk_cycle.proofs.KeptInParts.{free_then, gates_then, keeps_at_once, keeps_then, same_config}
 use Rattle.mk_engines.specs.Beside.{FindsInRoot, GoesBeside, IsBeside, IsOpenToLook, KeepsOtherGates, LooksAt}
 use Rattle.mk_engines.specs.Beside.{MarksBeside, MarksReachedAlone, StaysWell, done_since, found_well, is_same_root}
@@ -30,7 +30,7 @@ use Rattle.mk_engines.specs.Beside.{looks_at, looks_at_root}
 use Rattle.mk_engines.proofs.Since.{done_then, nothing_done, nothing_keeps, rule_then}
 
 -- The turn goes on being free, and the cycle marking.
-pub still_beside : (p q : PassState) → IsBeside p → KeepsTurn whole p q → IsBeside q
+pub still_beside : (p q : PassState) → IsBeside p → LeavesTurn unchanged p q → IsBeside q
 still_beside p q b k =
     record { free = free_then p q k.call b.free; marking = ap (λ (x : Steady). x.phase) k.steady ∙ b.marking }
 
@@ -38,7 +38,7 @@ pub beside_nothing : (p : PassState) → MarksBeside p p
 beside_nothing p =
     record {
       does = does_nothing begins_marking p;
-      keeps = keeps_at_once whole p;
+      keeps = keeps_at_once unchanged p;
       reached = nothing_keeps TracesReached p;
       found = ap (λ (xs : List Finding). list_all (found_well p.table.config.pages (now_of p).words) xs)
           (nothing_done p);
@@ -78,7 +78,7 @@ module _ (p : PassState) (xs : List Event) (r : PassState) where
       let pages : ℕ = p.table.config.pages in
       record {
         does = does_then begins_marking p q r a.does b.does;
-        keeps = keeps_then whole p q r a.keeps b.keeps;
+        keeps = keeps_then unchanged p q r a.keeps b.keeps;
         reached = rule_then p xs r b.does.more b.does.is TracesReached a.reached b.reached;
         found =
             ap (λ (fs : List Finding). list_all (found_well pages (now_of r).words) fs)
@@ -91,7 +91,10 @@ module _ (p : PassState) (xs : List Event) (r : PassState) where
       }
 
   root_part : (x : Word) (n : ℕ) → IsBeside p → Does begins_marking p (record p { seen = p.seen ++ xs })
-      → KeepsTurn whole p (record p { seen = p.seen ++ xs }) → MarksReachedAlone p (record p { seen = p.seen ++ xs })
+      → LeavesTurn unchanged p (record p { seen = p.seen ++ xs }) → MarksReachedAlone p (record p {
+        seen = p.seen
+            ++ xs;
+      })
       → StaysWell p (record p { seen = p.seen ++ xs })
       → done_since p (record p { seen = p.seen ++ xs }) ≡ record { event = event_of p (step.Look x); found = n } ∷ []
       → MarksBeside (record p { seen = p.seen ++ xs }) r → points_well p.table.config.pages (now_of r).words n ≡ true
@@ -101,7 +104,7 @@ module _ (p : PassState) (xs : List Event) (r : PassState) where
       let pages : ℕ = p.table.config.pages in
       record {
         does = does_then begins_marking p q r does b.does;
-        keeps = keeps_then whole p q r keeps b.keeps;
+        keeps = keeps_then unchanged p q r keeps b.keeps;
         reached = rule_then p xs r b.does.more b.does.is TracesReached reached b.reached;
         found =
             ap (λ (fs : List Finding). list_all (found_well pages (now_of r).words) fs)
@@ -180,7 +183,7 @@ module _ (x : Word) (n : ℕ) (t u v : TurnState) (beside : IsBeside t.pass) (f 
         op = b.op ∙ f.op;
         beside = b.beside;
         marks =
-            subst (λ (y : PassState). Does begins_marking t.pass y → KeepsTurn whole t.pass y
+            subst (λ (y : PassState). Does begins_marking t.pass y → LeavesTurn unchanged t.pass y
             → MarksReachedAlone t.pass y
             → StaysWell t.pass y → done_since t.pass y ≡ record
             { event = event_of t.pass (step.Look x); found = n } ∷ []

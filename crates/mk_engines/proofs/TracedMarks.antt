@@ -21,8 +21,8 @@ use Rattle.mk_core.specs.Moments.{Moment, flight_of}
 use Rattle.mk_core.specs.NewPlaces.{is_run_gone}
 use Rattle.mk_core.specs.Readings.{Holds, is_idle}
 use Rattle.mk_core.specs.Words.{Words}
-use Rattle.mk_protocol.specs.Protocol.{Protocol, has_stage}
-use Rattle.mk_protocol.proofs.Protocols.{lists_keep_the_protocol}
+use Rattle.mk_laws.specs.Protocol.{Protocol, has_stage}
+use Rattle.mk_laws.proofs.Protocols.{lists_keep_the_protocol}
 use Rattle.mk_words.specs.States.{PassState, world_of, now_of}
 use Rattle.mk_words.specs.Steps.{IsEnabledTo}
 use Rattle.mk_turns.specs.Doing.{Does, are_of, done_in}
@@ -32,7 +32,7 @@ use Rattle.mk_tracing.specs.Stops.{HolderIsLoaded, IsWanted, is_loaded, is_loade
 use Rattle.mk_tracing.specs.Tracing.{Counted, Traces, Untouched, untouched_of, is_tracing, is_want}
 use Rattle.mk_cycle.specs.EngineLaw.{BeginsMarking, ClosesMarks, IsFreeForCycle, is_pending_free, is_pending_free_at}
 use Rattle.mk_cycle.specs.Kinds.{begins_marking, closes_marks, is_want as is_wish}
-use Rattle.mk_cycle.specs.TurnKeeps.{Done, KeepsCall, KeepsTurn, but_phase, whole}
+use Rattle.mk_cycle.specs.TurnKeeps.{Done, KeepsCall, LeavesTurn, but_phase, unchanged}
 use Rattle.mk_cycle.proofs.KeptInParts.{keeps_at_once}
 
 -- A call that is free for a cycle has loaded what it loads.
@@ -151,7 +151,7 @@ module _ (p q : PassState) (pass : q ≡ record p { seen = q.seen })
         allocations = x.allocations;
       }
 
-  pub keeps_turn : CountsAreLeft p.table.config p.seen q.seen → KeepsTurn but_phase p q
+  pub keeps_turn : CountsAreLeft p.table.config p.seen q.seen → LeavesTurn but_phase p q
   unfolding steady_as
   keeps_turn counts = record { call = keeps_call; steady = ap steady_as same; counts = counts }
 
@@ -179,4 +179,4 @@ closes_by_tracing p q counted wanted close closed =
 -- Nothing is a beginning of the marking.
 pub begins_with_nothing : (p : PassState) → BeginsMarking p p
 begins_with_nothing p =
-    record { does = does_nothing begins_marking p; keeps = keeps_at_once whole p; gates = λ j lt. refl }
+    record { does = does_nothing begins_marking p; keeps = keeps_at_once unchanged p; gates = λ j lt. refl }

@@ -18,7 +18,7 @@ use Rattle.mk_tracing.specs.Tracing.{OwnStepsKeep}
 use Rattle.mk_cycle.specs.EngineLaw.{IsFreeForCycle, IsAtPhase}
 use Rattle.mk_cycle.specs.Holding.{IsHeldOrOwn}
 use Rattle.mk_cycle.specs.Kinds.{begins_marking}
-use Rattle.mk_cycle.specs.TurnKeeps.{KeepsTurn, whole}
+use Rattle.mk_cycle.specs.TurnKeeps.{LeavesTurn, unchanged}
 
 -- the events that a pass has seen after what it had seen
 abbrev pub seen_since : PassState → PassState → List Event
@@ -73,7 +73,7 @@ pub record IsBeside (p : PassState) : Type 0 where
 -- From one to the other its holder looked, marked, and held or opened gates.
 pub record MarksBeside (p q : PassState) : Type 0 where
   pub does : Does begins_marking p q
-  pub keeps : KeepsTurn whole p q
+  pub keeps : LeavesTurn unchanged p q
   pub reached : MarksReachedAlone p q
   pub found : FoundPointsWell p q
   pub well : StaysWell p q
@@ -91,7 +91,7 @@ pub record FindsInRoot (x : Word) (n : ℕ) (t u : TurnState) : Type 0 where
   pub op : u.op ≡ t.op
   pub beside : IsBeside u.pass
   pub does : Does begins_marking t.pass u.pass
-  pub keeps : KeepsTurn whole t.pass u.pass
+  pub keeps : LeavesTurn unchanged t.pass u.pass
   pub reached : MarksReachedAlone t.pass u.pass
   pub done : done_since t.pass u.pass ≡ record { event = event_of t.pass (step.Look x); found = n } ∷ []
   pub well : StaysWell t.pass u.pass

@@ -8,7 +8,8 @@ use Rattle.mk_never.specs.declared.operations.Op.{Op}
 use Rattle.mk_core.specs.declared.events.Answer.{Answer}
 use Rattle.mk_script.specs.declared.items.Item.{Item}
 use Rattle.mk_script.specs.declared.items.Item.TheVariants.{Getn, Print, Else}
-use Rattle.mk_check.specs.Blocks.{Blocks, Done, Line, Rounds, Choice, followed_by, is_done, blocks_from, ScriptText}
+use Rattle.mk_check.specs.Blocks.{Blocks, Done, Line, Rounds, Choice, followed_by, is_end_of_block, blocks_from}
+use Rattle.mk_check.specs.Blocks.{ScriptText}
 use Rattle.mk_check.specs.Feed.{Scope, Fed, op_of, run_line, run_rounds, run, with_answer, note, take_answer}
 use Rattle.mk_check.specs.Feed.{take_answers, fed_before_lines, fed_before_answers, feed_script, has_ended}
 
@@ -57,7 +58,7 @@ record IsLeft (calls : ℕ) (before after : Fed) : Type 0 where
   calls_are : calls_of after.left ≡ calls
   plain : HasNoIf after.left
 
-calls_of-done : (b : Blocks) → is_done b ≡ true → calls_of b ≡ 0
+calls_of-done : (b : Blocks) → is_end_of_block b ≡ true → calls_of b ≡ 0
 calls_of-done Done done = refl
 calls_of-done (Line line item rest) done = absurd (false≢true done)
 calls_of-done (Rounds rounds body rest) done = absurd (false≢true done)
@@ -65,7 +66,7 @@ calls_of-done (Choice number first second rest) done = absurd (false≢true done
 
 -- a part runs, and what stands after it
 left_then : (n : ℕ) (before fed : Fed) (go : Fed → Fed) (rest : Blocks) → IsLeft n before fed → HasNoIf rest
-    → ((f : Fed) → IsLeft (calls_of rest) f (go f)) → (test : Bool) → is_done fed.left ≡ test
+    → ((f : Fed) → IsLeft (calls_of rest) f (go f)) → (test : Bool) → is_end_of_block fed.left ≡ test
     → IsLeft (n + calls_of rest) before (if test then go fed else record fed { left = followed_by fed.left rest })
 left_then n before fed go rest is plain goes true done =
     let behind = goes fed in
@@ -96,7 +97,7 @@ module _ (scope : Scope) where
       recounted (omega arith)
       (left_then (calls_of body) fed (go fed) (run_rounds more body go) (Rounds more body Done) (goes fed)
       (plain, tt) behind
-      (is_done (go fed).left) refl)
+      (is_end_of_block (go fed).left) refl)
 
   line_keeps : (fed : Fed) (item : Item) → (run_line scope fed item).ops ≡ fed.ops
   line_keeps fed (Print number) = refl
@@ -122,7 +123,7 @@ module _ (scope : Scope) where
       let all = run_rounds rounds body (run scope body) fed in
       left_then (rounds * calls_of body) fed all (run scope rest) rest
       (rounds_left rounds body (run scope body) plain.0 (run_left body plain.0) fed) plain.1
-      (run_left rest plain.1) (is_done all.left) refl
+      (run_left rest plain.1) (is_end_of_block all.left) refl
   run_left (Choice number first second rest) plain fed = absurd plain
 
   answer_keeps : (fed : Fed) (item : Item) (a : Answer) → (with_answer scope fed item a).ops ≡ fed.ops

@@ -11,7 +11,7 @@ use Rattle.mk_check.specs.Lengths.{length_of}
 use Rattle.mk_check.specs.Declarations.{kind_of}
 use Rattle.mk_check.specs.Feeding.{script_scope}
 use Rattle.mk_check.specs.Laws.{IsChecked, IsScript}
-use Rattle.mk_gen.specs.Generated.{node, buf, script_body, numbers_of, turns_of, generated_program}
+use Rattle.mk_gen.specs.Generated.{node, buf, script_body, count_of_numbers, turns_of, generated_program}
 use Rattle.mk_gen.specs.GeneratedText.{generated_text}
 use Rattle.mk_gen.specs.Laws.{DeclaresNodes, MakesTurns}
 use Rattle.mk_gen.proofs.Calls.{calls_of, HasNoIf, ended_calls}
@@ -33,12 +33,13 @@ kinds_of-numbers : (types : List (List ℕ)) (count : ℕ)
 kinds_of-numbers types zero = refl
 kinds_of-numbers types (suc more) = ap (λ kinds. Num ∷ kinds) (kinds_of-numbers types more)
 
-pub generated_declares_nodes : (start count : ℕ) → DeclaresNodes (generated_program start count) (numbers_of start)
+pub generated_declares_nodes : (start count : ℕ)
+    → DeclaresNodes (generated_program start count) (count_of_numbers start)
 unfolding generated_program
 generated_declares_nodes start count = record {
   pages = refl;
   resident = refl;
-  types = ap (λ kinds. (Num ∷ To 0 0 ∷ []) ∷ kinds ∷ []) (kinds_of-numbers (node ∷ buf ∷ []) (numbers_of start));
+  types = ap (λ kinds. (Num ∷ To 0 0 ∷ []) ∷ kinds ∷ []) (kinds_of-numbers (node ∷ buf ∷ []) (count_of_numbers start));
   globals = refl;
   scripts = refl;
 }

@@ -10,7 +10,7 @@ use Rattle.mk_script.specs.declared.items.Item.TheVariants.{TypeLine, Global, Sc
 use Rattle.mk_script.specs.declared.keywords.Keyword.{Keyword}
 use Rattle.mk_script.specs.declared.keywords.Keyword.TheVariants as keyword
 use Rattle.mk_script.specs.declared.faults.Which.TheVariants as which
-use Rattle.mk_script.specs.Words.{words_of}
+use Rattle.mk_script.specs.Words.{words_of_line}
 use Rattle.mk_script.specs.Keywords.{keyword_of}
 use Rattle.mk_script.specs.Scopes.{pointer_names, number_names, is_script, this_script, open_behind, open_blocks}
 use Rattle.mk_script.specs.Lines.{has_script, is_among, register_names, at_most, is_placed, placed_item, other_line}
@@ -109,7 +109,7 @@ module _ (a b : List Item) (alike : AreAlike a b) where
 
   pub read_alike : (line : List ℕ) (item : Item) → is_inside item ≡ true → IsRead a line item → IsRead b line item
   read_alike line item inside is = record {
-    says = sym (line_alike (words_of line)) ∙ is.says;
+    says = sym (line_alike (words_of_line line)) ∙ is.says;
     passes = sym (checked_alike item inside) ∙ is.passes;
     is_whole = is.is_whole;
     is_short = is.is_short;

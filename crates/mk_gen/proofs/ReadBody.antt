@@ -12,7 +12,7 @@ use lib.Chars.{codes}
 use Rattle.mk_core.proofs.EventsAt.{◌and◌}
 use Rattle.mk_script.specs.declared.items.Item.{Item}
 use Rattle.mk_script.specs.declared.items.Item.TheVariants.{Script}
-use Rattle.mk_script.specs.Words.{words_of}
+use Rattle.mk_script.specs.Words.{words_of_line}
 use Rattle.mk_script.specs.Spaced.{joined_words}
 use Rattle.mk_script.specs.Lines.{line_item, checked_item}
 use Rattle.mk_script.specs.Operands.{item_from}
@@ -27,7 +27,7 @@ abbrev pub is_plain : List ℕ → Bool
 is_plain line = list_all (λ byte. not (nat_eq byte 10)) line && nat_le (length line) 40
 
 -- a line of which all is known
-pub plain : {before : List Item} {line : List ℕ} {item : Item} → line_item before (words_of line) ≡ Ok item
+pub plain : {before : List Item} {line : List ℕ} {item : Item} → line_item before (words_of_line line) ≡ Ok item
     → checked_item before item ≡ Ok item → is_plain line ≡ true → IsRead before line item
 plain {before} {line} {item} says passes whole =
     let parts = and_parts _ _ whole in
@@ -45,7 +45,8 @@ pub by_words : {before : List Item} {line : List ℕ} {item : Item} (words : Lis
     → AreWords words
     → line_item before words ≡ Ok item → checked_item before item ≡ Ok item → length line ≤ 40 → IsRead before line item
 by_words {before} {line} {item} words is apart says passes short = record {
-  says = ap (λ text. line_item before (words_of text)) is ∙ ap (line_item before) (words_of-joined words apart) ∙ says;
+  says = ap (λ text. line_item before (words_of_line text)) is
+      ∙ ap (line_item before) (words_of-joined words apart) ∙ says;
   passes = passes;
   is_whole = subst (All (λ byte. nat_eq byte 10 ≡ false)) (sym is) (without_newline words apart);
   is_short = short;

@@ -6,7 +6,7 @@ use Rattle.std.proofs.lemmas.List.{append-nil}
 use Rattle.std.proofs.lemmas.List.Splits.{slice_split_at}
 use Rattle.std.proofs.lemmas.Bool.{false≢true, leb-true, le-leb, cond-true}
 use Rattle.mk_script.specs.declared.items.Item.{Item}
-use Rattle.mk_script.specs.Words.{lines_of, words_of, without_empty_last}
+use Rattle.mk_script.specs.Words.{lines_of, words_of_line, without_empty_last}
 use Rattle.mk_script.specs.Lines.{line_item, checked_item, line_of}
 use Rattle.mk_script.specs.Grammar.{at_end, go_on, items_behind, items_of_lines, program_of}
 use Rattle.mk_script.proofs.Said.{then_again}
@@ -14,7 +14,7 @@ use Rattle.mk_gen.specs.GeneratedText.{text_of_lines}
 
 -- a line of at most 40 bytes, without a newline, which is read as the item
 pub record IsRead (before : List Item) (line : List ℕ) (item : Item) : Type 0 where
-  pub says : line_item before (words_of line) ≡ Ok item
+  pub says : line_item before (words_of_line line) ≡ Ok item
   pub passes : checked_item before item ≡ Ok item
   pub is_whole : All (λ byte. nat_eq byte 10 ≡ false) line
   pub is_short : length line ≤ 40
@@ -63,9 +63,9 @@ length-text (line ∷ lines) before (item ∷ items) are =
     omega (arith, length-append line (10 ∷ text_of_lines lines), are.0.is_short, behind)
 
 is_line : (before : List Item) (line : List ℕ) (item : Item) → IsRead before line item
-    → line_of before (words_of line) ≡ Ok item
+    → line_of before (words_of_line line) ≡ Ok item
 is_line before line item is =
-    then_again (line_item before (words_of line)) (checked_item before) item (Ok item) is.says is.passes
+    then_again (line_item before (words_of_line line)) (checked_item before) item (Ok item) is.says is.passes
 
 items_are : (lines : List (List ℕ)) (before items : List Item) → AreRead before lines items
     → at_end (before ++ items) ≡ Ok (before ++ items) → items_behind lines before ≡ Ok (before ++ items)

@@ -18,7 +18,7 @@ use Rattle.mk_script.proofs.Said.{is_word-name}
 use Rattle.mk_script.proofs.PrintedForms.{read_name}
 use Rattle.mk_gen.specs.Draws.{next_state, draw}
 use Rattle.mk_gen.specs.Generated.{script_body, scripts}
-use Rattle.mk_gen.specs.GeneratedText.{body_lines, script_lines}
+use Rattle.mk_gen.specs.GeneratedText.{body_lines, lines_of_scripts}
 use Rattle.mk_gen.proofs.ReadLines.{IsRead, AreRead, AreRead-append}
 use Rattle.mk_gen.proofs.InScript.{alike_at_first, AreRead-alike}
 use Rattle.mk_gen.proofs.ReadBody.{by_words, body_is_read}
@@ -97,7 +97,7 @@ module _ (turns numbers : ℕ) (t : turns < 2 ^ 64) (some : 0 < numbers) (few : 
   pub scripts_are_read : (x : ℕ) (names before_names : List (List ℕ)) (before : List Item)
       → AreReady before before_names
       → MayBegin before_names names
-      → AreRead before (script_lines turns numbers x names) (scripts turns numbers x names)
+      → AreRead before (lines_of_scripts turns numbers x names) (scripts turns numbers x names)
   scripts_are_read x [] before_names before ready may = tt
   scripts_are_read x (name ∷ names) before_names before ready may =
       let number = draw (next_state x) 1000 in
@@ -108,7 +108,7 @@ module _ (turns numbers : ℕ) (t : turns < 2 ^ 64) (some : 0 < numbers) (few : 
       let script = script_is_read turns number place t number_small place_small before before_names name ready may.0 in
       let ready' = ready_behind turns number place before before_names name ready in
       AreRead-append ((codes "script " ++ name) ∷ body_lines turns number place)
-      (script_lines turns numbers behind names)
+      (lines_of_scripts turns numbers behind names)
       before (script_items turns number place name) (scripts turns numbers behind names) script
       (scripts_are_read behind names (before_names ++ name ∷ []) (before ++ script_items turns number place name) ready'
       may.1)

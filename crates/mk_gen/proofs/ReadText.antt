@@ -3,16 +3,16 @@ use Rattle.std.proofs.Common.{◌≡◌, ℕ, ◌<◌, ◌≤◌, ◌^◌, List,
 use Rattle.mk_script.specs.declared.items.Item.{Item}
 use Rattle.mk_script.specs.Grammar.{at_end, program_of}
 use Rattle.mk_gen.specs.Draws.{next_state}
-use Rattle.mk_gen.specs.Generated.{all_names, declarations, scripts, numbers_of, turns_of, generated_program}
-use Rattle.mk_gen.specs.GeneratedText.{declaration_lines, script_lines, generated_lines, generated_text}
+use Rattle.mk_gen.specs.Generated.{all_names, declarations, scripts, count_of_numbers, turns_of, generated_program}
+use Rattle.mk_gen.specs.GeneratedText.{declaration_lines, lines_of_scripts, generated_lines, generated_text}
 use Rattle.mk_gen.proofs.ReadLines.{AreRead, AreRead-append, program_of-lines}
 use Rattle.mk_gen.proofs.ReadDeclarations.{declarations_are_read}
 use Rattle.mk_gen.proofs.ReadScripts.{AreReady, draw-lt, scripts_are_read}
 
-pub numbers_some : (start : ℕ) → 1 ≤ numbers_of start
+pub numbers_some : (start : ℕ) → 1 ≤ count_of_numbers start
 numbers_some start = omega arith
 
-pub numbers_few : (start : ℕ) → numbers_of start ≤ 100
+pub numbers_few : (start : ℕ) → count_of_numbers start ≤ 100
 numbers_few start = omega (arith, draw-lt (next_state start) 100 (omega arith))
 
 declarations_are_ready : (numbers : ℕ) → AreReady (declarations numbers) []
@@ -20,7 +20,7 @@ declarations_are_ready numbers = record { some = refl; names_are = refl; closed 
 
 module _ (turns numbers x : ℕ) where
   lines : List (List ℕ)
-  lines = declaration_lines numbers ++ script_lines turns numbers x all_names
+  lines = declaration_lines numbers ++ lines_of_scripts turns numbers x all_names
 
   items : List Item
   items = declarations numbers ++ scripts turns numbers x all_names
@@ -28,7 +28,7 @@ module _ (turns numbers x : ℕ) where
   lines_are_read : turns < 2 ^ 64 → 1 ≤ numbers → numbers ≤ 100 → AreRead [] lines items
   unfolding lines items
   lines_are_read small some few =
-      AreRead-append (declaration_lines numbers) (script_lines turns numbers x all_names) []
+      AreRead-append (declaration_lines numbers) (lines_of_scripts turns numbers x all_names) []
       (declarations numbers) (scripts turns numbers x all_names)
       (declarations_are_read numbers some few)
       (scripts_are_read turns numbers small (omega (arith, some)) few x all_names [] (declarations numbers)
@@ -44,8 +44,8 @@ pub program_of-generated_text : (start count : ℕ) → count ≤ 3000000
 unfolding generated_program generated_text lines items
 program_of-generated_text start count most =
     program_of-lines (generated_lines start count) (generated_program start count)
-    (lines_are_read (turns_of count) (numbers_of start) (next_state start) (omega (arith, most))
+    (lines_are_read (turns_of count) (count_of_numbers start) (next_state start) (omega (arith, most))
     (numbers_some start) (numbers_few start))
-    (ends (turns_of count) (numbers_of start) (next_state start))
+    (ends (turns_of count) (count_of_numbers start) (next_state start))
     refl
     refl

@@ -12,7 +12,7 @@ use Rattle.mk_check.specs.Typing.{Around, length_fault, pointers_fault, offsets_
 use Rattle.mk_check.specs.Typing.{IsWellTyped}
 use Rattle.mk_check.proofs.LookupLemmas.{this_script-push}
 use Rattle.mk_gen.specs.Draws.{next_state, draw}
-use Rattle.mk_gen.specs.Generated.{all_names, declarations, script_body, scripts, numbers_of, turns_of}
+use Rattle.mk_gen.specs.Generated.{all_names, declarations, script_body, scripts, count_of_numbers, turns_of}
 use Rattle.mk_gen.specs.Generated.{generated_program}
 use Rattle.mk_gen.proofs.ReadScripts.{draw-lt}
 use Rattle.mk_gen.proofs.ReadText.{numbers_some}
@@ -78,7 +78,7 @@ declarations_are_typed numbers rest none = rw (numbers_have_types _ numbers, num
 pub generated_is_well_typed : (start count : ℕ) → count ≤ 3000000 → IsWellTyped (generated_program start count)
 unfolding generated_program program
 generated_is_well_typed start count most =
-    let numbers = numbers_of start in
+    let numbers = count_of_numbers start in
     let rest = scripts (turns_of count) numbers (next_state start) all_names in
     declarations_are_typed numbers rest
     (scripts_are_typed (turns_of count) numbers rest (omega (arith, most)) (omega (arith, numbers_some start))

@@ -5,8 +5,8 @@ use Rattle.std.proofs.lemmas.List.{get_or-map}
 use lib.Chars.{codes}
 use Rattle.mk_script.proofs.Spacing.{drop_next}
 use Rattle.mk_gen.specs.Draws.{next_state, draw}
-use Rattle.mk_gen.specs.Generated.{all_names, numbers_of, turns_of}
-use Rattle.mk_gen.specs.GeneratedText.{declaration_lines, body_lines, script_lines, text_of_lines, generated_text}
+use Rattle.mk_gen.specs.Generated.{all_names, count_of_numbers, turns_of}
+use Rattle.mk_gen.specs.GeneratedText.{declaration_lines, body_lines, lines_of_scripts, text_of_lines, generated_text}
 
 pub text_of_lines-append : (lines more : List (List ℕ))
     → text_of_lines (lines ++ more) ≡ text_of_lines lines ++ text_of_lines more
@@ -16,28 +16,29 @@ text_of_lines-append (line ∷ lines) more =
     ∙ sym (append_assoc line (codes "\n" ++ text_of_lines lines) (text_of_lines more))
 
 -- The lines before the first script are written, and all scripts are left.
-pub all_scripts_left : (start count numbers x : ℕ) (text : List ℕ) → numbers ≡ numbers_of start → x ≡ next_state start
+pub all_scripts_left : (start count numbers x : ℕ) (text : List ℕ) → numbers ≡ count_of_numbers start → x
+    ≡ next_state start
     → text ≡ text_of_lines (declaration_lines numbers)
-    → text ++ text_of_lines (script_lines (turns_of count) numbers x all_names) ≡ generated_text start count
+    → text ++ text_of_lines (lines_of_scripts (turns_of count) numbers x all_names) ≡ generated_text start count
 unfolding generated_text
 all_scripts_left start count numbers x text are is written =
-    let scripts = script_lines (turns_of count) (numbers_of start) (next_state start) all_names in
-    rw (written, is, are) (sym (text_of_lines-append (declaration_lines (numbers_of start)) scripts))
+    let scripts = lines_of_scripts (turns_of count) (count_of_numbers start) (next_state start) all_names in
+    rw (written, is, are) (sym (text_of_lines-append (declaration_lines (count_of_numbers start)) scripts))
 
 -- One script more is written, of those that are left: y is the state after its first draw, and z after its second.
 pub one_script_more : (turns numbers x number y place z i : ℕ) (names : List (List ℕ))
     (name before after whole : List ℕ)
     → number ≡ draw (next_state x) 1000 → y ≡ next_state x → place ≡ draw (next_state y) numbers → z ≡ next_state y
     → i < length names
-    → before ++ text_of_lines (script_lines turns numbers x (drop i names)) ≡ whole
+    → before ++ text_of_lines (lines_of_scripts turns numbers x (drop i names)) ≡ whole
     → after ≡ before ++ text_of_lines ((codes "script " ++ name) ∷ body_lines turns number place)
     → name ≡ get_or names i name
-    → after ++ text_of_lines (script_lines turns numbers z (drop (i + 1) names)) ≡ whole
+    → after ++ text_of_lines (lines_of_scripts turns numbers z (drop (i + 1) names)) ≡ whole
 one_script_more turns numbers x number y place z i names name before after whole drawn is drawn' is' inside was more
     named =
-    let rest = script_lines turns numbers z (drop (i + 1) names) in
+    let rest = lines_of_scripts turns numbers z (drop (i + 1) names) in
     let script = (codes "script " ++ name) ∷ body_lines turns number place in
-    let left : script ++ rest ≡ script_lines turns numbers x (drop i names) =
+    let left : script ++ rest ≡ lines_of_scripts turns numbers x (drop i names) =
     rw (drop_next names i name inside named, drawn, drawn', is', is) refl in
     ap (λ text. text ++ text_of_lines rest) more
     ∙ append_assoc before (text_of_lines script) (text_of_lines rest)

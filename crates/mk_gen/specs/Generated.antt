@@ -82,8 +82,8 @@ scripts turns numbers x (name ∷ names) =
     ++ scripts turns numbers (next_state (next_state x)) names
 
 -- the numbers of a Buf, which are drawn first
-abbrev pub numbers_of : ℕ → ℕ
-numbers_of start = 1 + draw (next_state start) 100
+abbrev pub count_of_numbers : ℕ → ℕ
+count_of_numbers start = 1 + draw (next_state start) 100
 
 -- the turns of each script
 abbrev pub turns_of : ℕ → ℕ
@@ -92,4 +92,5 @@ turns_of count = count / 48
 -- the program
 unfoldable pub generated_program : ℕ → ℕ → List Item
 generated_program start count =
-    declarations (numbers_of start) ++ scripts (turns_of count) (numbers_of start) (next_state start) all_names
+    declarations (count_of_numbers start)
+    ++ scripts (turns_of count) (count_of_numbers start) (next_state start) all_names

@@ -3,7 +3,7 @@ use Rattle.std.specs.Prelude.{ℕ, List, [], ◌∷◌, ◌++◌}
 use Rattle.std.specs.Fmt.{decimal}
 use lib.Chars.{codes}
 use Rattle.mk_gen.specs.Draws.{next_state, draw}
-use Rattle.mk_gen.specs.Generated.{all_names, numbers_of, turns_of}
+use Rattle.mk_gen.specs.Generated.{all_names, count_of_numbers, turns_of}
 
 abbrev pub declaration_lines : ℕ → List (List ℕ)
 declaration_lines numbers =
@@ -38,16 +38,16 @@ body_lines turns number place =
     codes "end" ∷
     []
 
-abbrev pub script_lines : ℕ → ℕ → ℕ → List (List ℕ) → List (List ℕ)
-script_lines turns numbers x [] = []
-script_lines turns numbers x (name ∷ names) =
+abbrev pub lines_of_scripts : ℕ → ℕ → ℕ → List (List ℕ) → List (List ℕ)
+lines_of_scripts turns numbers x [] = []
+lines_of_scripts turns numbers x (name ∷ names) =
     ((codes "script " ++ name) ∷ body_lines turns (draw (next_state x) 1000) (draw (next_state (next_state x)) numbers))
-    ++ script_lines turns numbers (next_state (next_state x)) names
+    ++ lines_of_scripts turns numbers (next_state (next_state x)) names
 
 abbrev pub generated_lines : ℕ → ℕ → List (List ℕ)
 generated_lines start count =
-    declaration_lines (numbers_of start)
-    ++ script_lines (turns_of count) (numbers_of start) (next_state start) all_names
+    declaration_lines (count_of_numbers start)
+    ++ lines_of_scripts (turns_of count) (count_of_numbers start) (next_state start) all_names
 
 -- the lines, each with its newline
 abbrev pub text_of_lines : List (List ℕ) → List ℕ

@@ -2,7 +2,7 @@
 ghost use Rattle.std.specs.Prelude.{ℕ, ◌≡◌, ◌≤◌, Ok};
 ghost use Rattle.mk_script.specs.Grammar.{program_of};
 ghost use Rattle.mk_check.specs.Laws.{IsChecked, IsScript};
-ghost use Rattle.mk_gen.specs.Generated.{numbers_of, turns_of, generated_program};
+ghost use Rattle.mk_gen.specs.Generated.{count_of_numbers, turns_of, generated_program};
 ghost use Rattle.mk_gen.specs.GeneratedText.{generated_text};
 ghost use Rattle.mk_gen.specs.Laws.{DeclaresNodes, MakesTurns};
 
@@ -15,7 +15,7 @@ pub fn generated_programs_are_checked()
 
 /// What a generated program declares.
 pub fn generated_programs_declare_nodes()
-    ensures { (start count : ℕ) → DeclaresNodes (generated_program start count) (numbers_of start) }
+    ensures { (start count : ℕ) → DeclaresNodes (generated_program start count) (count_of_numbers start) }
 {}
 
 /// A script that has ended has made all calls of its turns.

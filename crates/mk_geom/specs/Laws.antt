@@ -44,8 +44,8 @@ PagesHoldMappedWords =
     → PagesStandFor pages storages → held_by_uses (uses_of_pages pages) ≡ held_by_storages storages
 
 -- Each header of such pages is a header word.
-abbrev pub PagesHaveHeaderWords : Type 0
-PagesHaveHeaderWords = (pages : List Page) (storages : List Storage) → PagesStandFor pages storages
+abbrev pub StoragesHaveHeaderWords : Type 0
+StoragesHaveHeaderWords = (pages : List Page) (storages : List Storage) → PagesStandFor pages storages
     → HaveHeaderWords pages
 
 -- The words of the page of a cell that is one of storages that are laid out,

@@ -1,7 +1,8 @@
 //! Laws of pages and the storages that they stand for: facts alone, with no code. A proof that needs a
 //! law calls its function, or cites the lemma that proves it.
 ghost use Rattle.mk_geom.specs.Laws.{PagesShowUses, PagesShowPlaces, PagesShowCensus, PagesHoldMappedWords};
-ghost use Rattle.mk_geom.specs.Laws.{PagesHaveHeaderWords, FreePagesStandForNothing, CellPageHasWords, RunPageHasWords};
+ghost use Rattle.mk_geom.specs.Laws.{StoragesHaveHeaderWords, FreePagesStandForNothing, CellPageHasWords};
+ghost use Rattle.mk_geom.specs.Laws.{RunPageHasWords};
 ghost use Rattle.mk_geom.specs.Laws.{BarePageIsFree, PointsIntoCell, CellHasPointers, PointersHitCells};
 ghost use Rattle.mk_geom.specs.Laws.{UsedCellHasStorage, CellsTellStoragesApart, AddressesOfWordsPointIn};
 ghost use Rattle.mk_geom.specs.Laws.{CellHasFirstWord, FoundCellIsPlace, FoundRunIsPlace};
@@ -12,7 +13,7 @@ pub fn pages_show_what_stands_there()
     ensures places { PagesShowPlaces }
     ensures census { PagesShowCensus }
     ensures held { PagesHoldMappedWords }
-    ensures header_words { PagesHaveHeaderWords }
+    ensures header_words { StoragesHaveHeaderWords }
 {}
 
 /// The words of a page may be read off any storage that stands there.

@@ -15,7 +15,7 @@ use Rattle.mk_core.specs.Growing.{Grows, is_one_of, is_same_seat}
 use Rattle.mk_core.specs.History.{AreEnabledFrom, IsHistory, World, first_world, left, left_from, world_behind}
 use Rattle.mk_core.specs.Words.{phase_of}
 use Rattle.mk_core.proofs.HistoryParts.{earlier_part_is_history, enabled_in_parts}
-use Rattle.mk_readings.proofs.CyclePhases.{AsksPhase, moves_phase, phase_behind}
+use Rattle.mk_laws.proofs.CyclePhases.{AsksPhase, moves_phase, phase_behind}
 use Rattle.mk_words.specs.Seats.{Has, has_over, is_over}
 use Rattle.mk_words.specs.States.{PassState, WordsState, event_of}
 use Rattle.mk_words.specs.Steps.{Makes}

@@ -11,10 +11,10 @@ use Rattle.mk_core.specs.History.{left, IsHistory}
 use Rattle.mk_core.specs.Moments.{Moment}
 use Rattle.mk_core.specs.Order.{host_has_turn, seat_exists}
 use Rattle.mk_core.specs.Readings.{is_in_turn}
-use Rattle.mk_protocol.specs.Protocol.{Protocol}
-use Rattle.mk_protocol.proofs.Known.{known_left}
-use Rattle.mk_protocol.proofs.Protocols.{protocol_of}
-use Rattle.mk_placement.proofs.Tallies.{tallies_tell}
+use Rattle.mk_laws.specs.Protocol.{Protocol}
+use Rattle.mk_laws.proofs.Known.{known_left}
+use Rattle.mk_laws.proofs.Protocols.{protocol_of}
+use Rattle.mk_laws.proofs.Tallies.{tallies_tell}
 use Rattle.mk_words.specs.declared.finals.Final.{Final}
 use Rattle.mk_words.specs.Finals.{HasTallies}
 use Rattle.mk_words.specs.Finals as final

@@ -20,8 +20,8 @@ use Rattle.mk_core.specs.Order.{group_of, is_of_turn, is_open_to, seat_exists}
 use Rattle.mk_core.specs.Words.{phase_of}
 use Rattle.mk_core.proofs.Conditions.{enabled_meets}
 use Rattle.mk_core.proofs.HistoryParts.{enabled_in_parts, left_in_parts}
-use Rattle.mk_protocol.proofs.Actors.{Meets, is_holders}
-use Rattle.mk_readings.proofs.CyclePhases.{moves_phase, phase_behind}
+use Rattle.mk_laws.proofs.Actors.{Meets, is_holders}
+use Rattle.mk_laws.proofs.CyclePhases.{moves_phase, phase_behind}
 use Rattle.mk_words.specs.Seats.{Has, HasCallers}
 use Rattle.mk_words.specs.States.{PassState, now_of}
 use Rattle.mk_waiting.specs.Taking.{TakesTurn, Waits, is_take, waits_for}

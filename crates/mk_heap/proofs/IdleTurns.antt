@@ -16,8 +16,8 @@ use Rattle.mk_core.specs.Moments.{is_held, none_is_held}
 use Rattle.mk_core.specs.NewPlaces.{is_run_gone}
 use Rattle.mk_core.specs.Words.{phase_of}
 use Rattle.mk_core.proofs.AllBelow.{all_below-at}
-use Rattle.mk_protocol.specs.Protocol.{has_place}
-use Rattle.mk_protocol.proofs.Asked.{give_phase}
+use Rattle.mk_laws.specs.Protocol.{has_place}
+use Rattle.mk_laws.proofs.Asked.{give_phase}
 use Rattle.mk_words.specs.Seats.{has_over}
 use Rattle.mk_words.specs.States.{PassState, now_of, world_of}
 use Rattle.mk_words.specs.Steps.{Finds}
@@ -27,7 +27,7 @@ use Rattle.mk_words.proofs.OverPhases.{end_is_behind_over}
 use Rattle.mk_cycle.specs.BeginCycle.{BeginsCycle}
 use Rattle.mk_cycle.specs.EngineLaw.{IsAtPhase, IsFreeForCycle, is_pending_free}
 use Rattle.mk_cycle.specs.FinishCycle.{FinishesCycle}
-use Rattle.mk_cycle.specs.TurnKeeps.{Done, InTurn, KeepsGates, KeepsTurn, but_phase, whole}
+use Rattle.mk_cycle.specs.TurnKeeps.{Done, InTurn, KeepsGates, LeavesTurn, but_phase, unchanged}
 use Rattle.mk_cycle.proofs.BeginSteps.{all_from}
 use Rattle.mk_cycle.proofs.CleaningSteps.{calm_keeps}
 use Rattle.mk_cycle.proofs.KeptInParts.{free_then, gates_behind, keeps_less, same_config}
@@ -64,8 +64,8 @@ phase_found p q n t history f =
     ap (λ (i : ℕ). i % 8) f.finds ∙ ap (λ (s : Steady). s.phase) ((there.frame.turn t.holds).0).steady
 
 pub look_keeps : (p q : PassState) → InTurn p → IsFreeForCycle p → IsHistory q.table.config q.seen
-    → Acts p (step.Look word.Phase) q → KeepsTurn whole p q
-look_keeps p q t free history a = calm_keeps p (step.Look word.Phase) q a t history refl free whole refl
+    → Acts p (step.Look word.Phase) q → LeavesTurn unchanged p q
+look_keeps p q t free history a = calm_keeps p (step.Look word.Phase) q a t history refl free unchanged refl
 
 -- So it reports whether a cycle is on, which is finished then.
 
@@ -99,7 +99,7 @@ ends_one p q r n f on law =
 
 -- What is exact and tidy stays so where all but the phase is kept.
 
-pub exact_kept : (p q : PassState) → KeepsTurn but_phase p q → TalliesAreExact p.table.config p.seen
+pub exact_kept : (p q : PassState) → LeavesTurn but_phase p q → TalliesAreExact p.table.config p.seen
     → TalliesAreExact q.table.config q.seen
 exact_kept p q k x =
     let c : Config = p.table.config in
@@ -117,7 +117,7 @@ exact_kept p q k x =
           ∙ ap (λ (ys : List PlacedAllocation). in_a_word (fresh_words_of c ys)) allocations);
     }
 
-pub tidy_kept : (p q : PassState) → KeepsTurn but_phase p q → TalliesAreTidy p.table.config p.seen
+pub tidy_kept : (p q : PassState) → LeavesTurn but_phase p q → TalliesAreTidy p.table.config p.seen
     → TalliesAreTidy q.table.config q.seen
 tidy_kept p q k x =
     let same : q.table.config ≡ p.table.config = same_config p q k.call.pass in
@@ -148,7 +148,7 @@ pub looked_idle : (p q : PassState) → p.seat ≡ Host → InTurn p → IsFresh
     → TalliesAreTidy p.table.config p.seen → IsIdleTurn q
 looked_idle p q host t f history a none exact tidy =
     let keeps = look_keeps p q t (fresh_free p f) history a in
-    let less = keeps_less whole but_phase p q keeps in
+    let less = keeps_less unchanged but_phase p q keeps in
     record {
       seat = ap (λ (r : PassState). r.seat) keeps.call.pass ∙ host;
       phase = ap (λ (s : Steady). s.phase) keeps.steady ∙ none;

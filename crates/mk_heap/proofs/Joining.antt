@@ -15,7 +15,7 @@ use Rattle.mk_core.specs.Order.{host_has_turn}
 use Rattle.mk_core.proofs.Conditions.{enabled_meets, meets_enabled}
 use Rattle.mk_core.proofs.Histories.{last_enabled}
 use Rattle.mk_core.proofs.HistoryParts.{earlier_part_is_history}
-use Rattle.mk_protocol.proofs.Frames.{others_leave}
+use Rattle.mk_laws.proofs.ProtocolFrames.{others_leave}
 use Rattle.mk_words.specs.Seats.{Has}
 use Rattle.mk_words.specs.States.{PassState}
 use Rattle.mk_words.proofs.LongerLists.{longer_lists}

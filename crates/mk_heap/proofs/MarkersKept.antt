@@ -14,9 +14,9 @@ use Rattle.mk_core.specs.History.{left, IsHistory}
 use Rattle.mk_core.specs.MarkerConditions.{is_out}
 use Rattle.mk_core.specs.Moments.{flight_of, marker_at, marker_of, outside}
 use Rattle.mk_core.specs.StopConditions.{is_attending}
-use Rattle.mk_protocol.specs.Protocol.{IsIdle}
-use Rattle.mk_protocol.proofs.Known.{known_left}
-use Rattle.mk_protocol.proofs.Protocols.{protocol_of}
+use Rattle.mk_laws.specs.Protocol.{IsIdle}
+use Rattle.mk_laws.proofs.Known.{known_left}
+use Rattle.mk_laws.proofs.Protocols.{protocol_of}
 use Rattle.mk_words.specs.States.{PassState, WordsState, now_of}
 use Rattle.mk_words.specs.Markers.{marker_in}
 use Rattle.mk_marker.specs.Markers.{IsMarkers, IsOut}

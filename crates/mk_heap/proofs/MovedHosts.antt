@@ -22,7 +22,7 @@ use Rattle.mk_waiting.specs.Taking.{TakesTurn, Waits, is_take, waits_for}
 use Rattle.mk_waiting.proofs.Waiting.{joined_lists, waits_more}
 use Rattle.mk_cycle.specs.BeginCycle.{BeginsCycle}
 use Rattle.mk_cycle.specs.FinishCycle.{FinishesCycle}
-use Rattle.mk_cycle.specs.Kinds.{begins_marking, clears, closes_marks, gives_back, holds_gates, sets_tallies}
+use Rattle.mk_cycle.specs.Kinds.{begins_marking, clears, closes_marks, is_giving_back, holds_gates, sets_tallies}
 use Rattle.mk_heap.specs.Ending.{TakesIdleTurn}
 use Rattle.mk_heap.specs.Hosts.{HostState, IsHost, Rests}
 use Rattle.mk_heap.proofs.Joining.{still_rests}
@@ -115,7 +115,7 @@ finish_moves p q r v f =
     let closed : MovesOn p release.closed =
     moves_more p release.closing release.closed step.Close closing release.close in
     let released : MovesOn p m.released = moves_more p release.closed m.released step.Release closed release.release in
-    let freed : MovesOn p m.freed = moves_does gives_back p m.released m.freed released m.frees in
+    let freed : MovesOn p m.freed = moves_does is_giving_back p m.released m.freed released m.frees in
     moves_does sets_tallies p m.ended r (moves_more p m.freed m.ended step.End freed m.end) m.behind
 
 pub begin_moves : (p q r : PassState) → MovesOn p q → BeginsCycle q r → MovesOn p r

@@ -16,16 +16,16 @@ use Rattle.mk_core.specs.Ranges.{has_phase}
 use Rattle.mk_core.specs.Readings.{is_in}
 use Rattle.mk_core.specs.TurnConditions.{is_decided, held_by_pages}
 use Rattle.mk_core.specs.Words.{phase_of}
-use Rattle.mk_layout.specs.SettledPages.{IsSettled}
-use Rattle.mk_layout.proofs.Settled.{gone_is_unmapped}
-use Rattle.mk_protocol.proofs.Asked.{give_phase}
+use Rattle.mk_laws.specs.SettledPages.{IsSettled}
+use Rattle.mk_laws.proofs.Settled.{gone_is_unmapped}
+use Rattle.mk_laws.proofs.Asked.{give_phase}
 use Rattle.mk_words.specs.States.{PassState, call_of, now_of, world_of}
 use Rattle.mk_words.specs.Steps.{IsEnabledTo}
 use Rattle.mk_words.specs.TurnSteps.{Acts, world_at}
 use Rattle.mk_words.proofs.Made.{made}
 use Rattle.mk_words.proofs.Tallies.{settled_tallies}
 use Rattle.mk_cycle.specs.EngineLaw.{IsAtPhase, IsFreeForCycle}
-use Rattle.mk_cycle.specs.TurnKeeps.{InTurn, KeepsTurn, but_phase}
+use Rattle.mk_cycle.specs.TurnKeeps.{InTurn, LeavesTurn, but_phase}
 use Rattle.mk_cycle.proofs.Allowed.{protocol}
 use Rattle.mk_cycle.proofs.KeptInParts.{free_then, gates_behind}
 use Rattle.mk_cycle.proofs.MayAct.{may_act}
@@ -52,7 +52,7 @@ module _ (p q : PassState) (t : InTurn p) (idle : IsIdleTurn p) (u : InTurn q) (
   pub over_at_five : IsAtPhase q 5
   over_at_five = ap (λ (x : World). phase_of x.now.words) a.world ∙ phase_there
 
-  pub over_keeps : KeepsTurn but_phase p q
+  pub over_keeps : LeavesTurn but_phase p q
   over_keeps =
       record {
         call = keeps_call p step.Over q a t.own t.holds u.history (λ n. refl) (λ n. refl) refl;

@@ -8,7 +8,7 @@ use Rattle.mk_core.specs.Allocations.{PlacedAllocation, placed_at}
 use Rattle.mk_core.specs.Cycles.{is_quarantined}
 use Rattle.mk_core.specs.History.{IsHistory, left}
 use Rattle.mk_core.specs.Words.{Words, phase_of}
-use Rattle.mk_invariant.proofs.Histories.{histories_keep_the_invariant}
+use Rattle.mk_laws.proofs.InvariantHistories.{histories_keep_the_invariant}
 use Rattle.mk_words.specs.Finals.{freed_cells}
 use Rattle.mk_cycle.specs.ReleasedPages.{sum_below}
 use Rattle.mk_cycle.proofs.CellCounts.{AreTheirBits, cells_are_as_many}

@@ -18,12 +18,12 @@ use Rattle.mk_core.proofs.Histories.{calls_more}
 use Rattle.mk_core.specs.Counts.{TalliesAreExact}
 use Rattle.mk_core.specs.Ranges.{has_phase}
 use Rattle.mk_never.specs.Admitted.{AreAdmitted}
-use Rattle.mk_placement.proofs.TallySteps.{CountsNothing}
+use Rattle.mk_laws.proofs.TallySteps.{CountsNothing}
 use Rattle.mk_words.specs.States.{PassState, now_of}
 use Rattle.mk_words.specs.Steps.{IsAdmittedTo}
 use Rattle.mk_words.specs.TurnSteps.{Acts, IsFresh}
 use Rattle.mk_words.proofs.Tallies.{counts_tidy_more}
-use Rattle.mk_cycle.specs.TurnKeeps.{InTurn, but_phase, whole}
+use Rattle.mk_cycle.specs.TurnKeeps.{InTurn, but_phase, unchanged}
 use Rattle.mk_cycle.proofs.CleaningSteps.{calm_keeps}
 use Rattle.mk_cycle.proofs.KeptInParts.{free_then, gates_behind, keeps_less}
 use Rattle.mk_heap.proofs.IdleTurns.{exact_kept, fresh_free, none_held_kept}
@@ -93,11 +93,11 @@ given_phase p q a = ap (λ (w : World). phase_of w.now.words) a.world ∙ ap (λ
 pub looked_may_give : (p q : PassState) (x : Word) → p.seat ≡ Host → InTurn p → IsFresh p None
     → IsHistory q.table.config q.seen → Acts p (step.Look x) q → TalliesAreExact p.table.config p.seen → MayGive q
 looked_may_give p q x host t f history a exact =
-    let keeps = calm_keeps p (step.Look x) q a t history refl (fresh_free p f) whole refl in
+    let keeps = calm_keeps p (step.Look x) q a t history refl (fresh_free p f) unchanged refl in
     record {
       seat = ap (λ (r : PassState). r.seat) keeps.call.pass ∙ host;
       phase = ap (λ (s : Steady). has_phase s.phase step.Give) keeps.steady ∙ f.phase;
       free = free_then p q keeps.call (fresh_free p f);
       gates = none_held_kept p q keeps.call.pass (gates_behind p (step.Look x) q a refl) f.gates;
-      exact = exact_kept p q (keeps_less whole but_phase p q keeps) exact;
+      exact = exact_kept p q (keeps_less unchanged but_phase p q keeps) exact;
     }

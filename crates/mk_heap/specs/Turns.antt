@@ -12,7 +12,7 @@ is_register (word.Reg k r) = true
 is_register _ = false
 
 -- It took the turn, looked at the word and found this number, and gave the turn back.
-pub record Tells (p : PassState) (x : Word) (n : ℕ) (q : PassState) : Type 0 where
+pub record TellsWord (p : PassState) (x : Word) (n : ℕ) (q : PassState) : Type 0 where
   pub taken : PassState
   pub looked : PassState
   pub takes : TakesTurn p None taken

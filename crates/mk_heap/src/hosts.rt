@@ -11,7 +11,7 @@ ghost use Rattle.mk_marker.specs.Markers.{IsMarkers, IsOut};
 ghost use Rattle.mk_turns.specs.Sweeping.{SweepsNothing};
 ghost use Rattle.mk_heap.specs.Hosts.{pass_for, with_caller_made, with_caller_out, with_marker_made, with_joined};
 ghost use Rattle.mk_heap.specs.Hosts.{with_seen};
-ghost use Rattle.mk_heap.specs.Turns.{is_register, Tells};
+ghost use Rattle.mk_heap.specs.Turns.{is_register, TellsWord};
 
 use crate::heaps::Heap;
 use mk_caller::Caller;
@@ -163,7 +163,7 @@ impl Host {
         requires word { is_word heap.now.config x ≡ true }
         requires no_register { is_register x ≡ false }
         ensures host { self.new ≡ with_seen self.old self.new.pass.seen }
-        ensures tells { Tells self.old.pass x result self.new.pass }
+        ensures tells { TellsWord self.old.pass x result self.new.pass }
         ensures reached { SweepsNothing self.old.pass self.new.pass }
         ensures overs { has_over self.new.pass.seen ≡ has_over self.old.pass.seen }
     {

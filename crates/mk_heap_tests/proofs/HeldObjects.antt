@@ -18,36 +18,36 @@ use Rattle.mk_core.specs.declared.events.Seat.{Seat}
 use Rattle.mk_core.specs.declared.events.Seat.TheVariants.{Caller}
 use Rattle.mk_core.specs.Accesses.{caller_number}
 use Rattle.mk_core.specs.Decided.{flagged}
-use Rattle.mk_frames.proofs.OtherCalls.{never_continues}
+use Rattle.mk_laws.proofs.OtherCalls.{never_continues}
 use Rattle.mk_words.specs.States.{PassState, WordsState}
-use Rattle.mk_caller.specs.States.{CallerState, IsIdleCaller, at_home, never_then, number_of, value_of}
+use Rattle.mk_caller.specs.States.{CallerState, IsIdleCaller, at_home, never_then, caller_of_pass, value_of}
 use Rattle.mk_caller.proofs.After.{set_same}
 use Rattle.mk_alloc.specs.TurnCalls.{CalledInTurn, FreesObject, IsAnsweredDouble, IsAnsweredFull}
 use Rattle.mk_alloc.specs.declared.making.Full.{Full}
 use Rattle.mk_objects.specs.declared.freeing.Double.{Double}
 use Rattle.mk_objects.specs.declared.freeing.Freed.{Freed}
 use Rattle.mk_heap.specs.Hosts.{HostState, pass_for}
-use Rattle.mk_heap_tests.specs.HeldObjects.{HoldsObjects, IsPassOfObjects, IsReady, MayAllocate}
+use Rattle.mk_heap_tests.specs.HeldObjects.{HoldsObjects, IsPassOfObjects, MayMakeObjects, MayAllocate}
 use Rattle.mk_heap_tests.specs.Passes.{IsFirstPass}
 use Rattle.mk_heap_tests.proofs.JoinedHosts.{still_for}
 use Rattle.mk_heap_tests.proofs.Registers.{has_registers, null_at_first}
 
 -- what calls ask of such a caller
 
-pub number_is : (s : CallerState) → IsReady s → number_of s.pass < s.pass.table.config.callers
+pub number_is : (s : CallerState) → MayMakeObjects s → caller_of_pass s.pass < s.pass.table.config.callers
 number_is s r =
     let number : caller_number s.pass.seat ≡ r.number = ap caller_number r.seat in
     let exists = r.exists in
     omega arith
 
-pub is_alone : (s : CallerState) → IsReady s → s.pass.seats ≡ s.pass.seat ∷ []
+pub is_alone : (s : CallerState) → MayMakeObjects s → s.pass.seats ≡ s.pass.seat ∷ []
 is_alone s r = r.alone ∙ ap (λ (x : Seat). x ∷ []) (sym r.seat)
 
 -- a caller that has made no call
 pub ready_at_first : (h : HostState) (s : CallerState) → h.pass.seen ≡ [] → h.callers < h.pass.table.config.callers
-    → s ≡ at_home (pass_for h (Caller h.callers)) → IsReady s
+    → s ≡ at_home (pass_for h (Caller h.callers)) → MayMakeObjects s
 ready_at_first h s none more is =
-    subst (λ (t : CallerState). IsReady t) (sym is)
+    subst (λ (t : CallerState). MayMakeObjects t) (sym is)
     (record {
       number = h.callers;
       home = refl;
@@ -61,33 +61,34 @@ ready_at_first h s none more is =
 -- What a call under the turn leaves in a register.
 
 left_there : {on : Bool} {p q : PassState} {o : Op} {a : Answer} → (c : CalledInTurn on p o a q) → (r : ℕ) → r < 8
-    → value_of q r ≡ register_at (after_op (never_then p c.decided.before) (number_of p) (flagged o a)) (number_of p) r
+    → value_of q r ≡ register_at (after_op (never_then p c.decided.before) (caller_of_pass p) (flagged o a))
+    (caller_of_pass p) r
 left_there {on} {p} c r lt = ap (λ (x : PassState). value_of x r) c.is ∙ c.decided.left_so r lt
 
 has_registers_there : {on : Bool} {p q : PassState} {o : Op} {a : Answer} → (c : CalledInTurn on p o a q)
-    → number_of p < p.table.config.callers → IsCaller (never_then p c.decided.before) (number_of p)
+    → caller_of_pass p < p.table.config.callers → IsCaller (never_then p c.decided.before) (caller_of_pass p)
 has_registers_there {on} {p} c exists =
     let on_it = never_continues p.table.config p.seen c.decided.before in
-    subst (λ (count : ℕ). 8 * number_of p + 7 < count) (sym on_it.registers) (has_registers p exists)
+    subst (λ (count : ℕ). 8 * caller_of_pass p + 7 < count) (sym on_it.registers) (has_registers p exists)
 
 new_sets : {on : Bool} {p q : PassState} {d ty : ℕ} → CalledInTurn on p (op.New d ty false) answer.Done q
-    → number_of p < p.table.config.callers → d < 8 → IsBase (value_of q d)
+    → caller_of_pass p < p.table.config.callers → d < 8 → IsBase (value_of q d)
 new_sets {on} {p} {q} {d} {ty} c exists lt =
     let n : NeverState = never_then p c.decided.before in
     subst (λ (v : Value). IsBase v)
-    (sym (left_there c d lt ∙ set_same (with_new n ty) (number_of p) d _ (has_registers_there c exists) lt)) refl
+    (sym (left_there c d lt ∙ set_same (with_new n ty) (caller_of_pass p) d _ (has_registers_there c exists) lt)) refl
 
 new_leaves : {on : Bool} {p q : PassState} {d ty : ℕ} → (c : CalledInTurn on p (op.New d ty false) answer.Done q)
     → (r : ℕ) → r < 8 → r ≢ d → value_of q r ≡ value_of p r
 new_leaves {on} {p} {q} {d} {ty} c r lt other =
     let n : NeverState = never_then p c.decided.before in
     left_there c r lt
-    ∙ get_or-set_other n.registers (8 * number_of p + d) (8 * number_of p + r) _ Null
+    ∙ get_or-set_other n.registers (8 * caller_of_pass p + d) (8 * caller_of_pass p + r) _ Null
     (λ e. other (omega arith))
     ∙ c.decided.known r lt
 
 new_keeps : {on : Bool} {p q : PassState} {d ty : ℕ} → CalledInTurn on p (op.New d ty false) answer.Done q
-    → number_of p < p.table.config.callers → d < 8 → HoldsObjects p → HoldsObjects q
+    → caller_of_pass p < p.table.config.callers → d < 8 → HoldsObjects p → HoldsObjects q
 new_keeps {on} {p} {q} {d} c exists small h r lt = elim (cases_eq r d) [
   | inl same ↦ subst (λ (i : ℕ). IsBase (value_of q i)) (sym same) (new_sets c exists small)
   | inr other ↦ subst (λ (v : Value). IsBase v) (sym (new_leaves c r lt other)) (h r lt)
@@ -107,7 +108,8 @@ pub freed_keeps : {on : Bool} {p q : PassState} {x : ℕ} → CalledInTurn on p 
 freed_keeps {on} {p} {q} {x} c h r lt =
     let n : NeverState = never_then p c.decided.before in
     subst (λ (v : Value). IsBase v)
-    (sym (left_there c r lt ∙ free_leaves n (number_of p) r (register_at n (number_of p) x) ∙ c.decided.known r lt))
+    (sym (left_there c r lt ∙ free_leaves n (caller_of_pass p) r (register_at n (caller_of_pass p) x)
+    ∙ c.decided.known r lt))
     (h r lt)
 
 pub double_keeps : {on : Bool} {p q : PassState} {x : ℕ} → CalledInTurn on p (op.Free x) answer.Double q
@@ -115,7 +117,8 @@ pub double_keeps : {on : Bool} {p q : PassState} {x : ℕ} → CalledInTurn on p
 double_keeps {on} {p} {q} {x} c h r lt =
     let n : NeverState = never_then p c.decided.before in
     subst (λ (v : Value). IsBase v)
-    (sym (left_there c r lt ∙ free_leaves n (number_of p) r (register_at n (number_of p) x) ∙ c.decided.known r lt))
+    (sym (left_there c r lt ∙ free_leaves n (caller_of_pass p) r (register_at n (caller_of_pass p) x)
+    ∙ c.decided.known r lt))
     (h r lt)
 
 -- So a caller goes on after each.
@@ -130,8 +133,8 @@ pub same_then : (s t u : CallerState) → t.pass ≡ record s.pass { seen = t.pa
     → u.pass ≡ record t.pass { seen = u.pass.seen } → u.pass ≡ record s.pass { seen = u.pass.seen }
 same_then s t u first second = second ∙ ap (λ (p : PassState). record p { seen = u.pass.seen }) first
 
-ready_on : (s t : CallerState) → IsReady s → t.home ≡ true → t.pass ≡ record s.pass { seen = t.pass.seen }
-    → HoldsObjects t.pass → IsReady t
+ready_on : (s t : CallerState) → MayMakeObjects s → t.home ≡ true → t.pass ≡ record s.pass { seen = t.pass.seen }
+    → HoldsObjects t.pass → MayMakeObjects t
 ready_on s t r home is objects =
     record {
       number = r.number;
@@ -149,9 +152,9 @@ pub same_new : (on : Bool) (d ty : ℕ) {T : Type 0} (s t : CallerState) (x : Re
 same_new on d ty s t (Ok u) made full = seen_only made
 same_new on d ty s t (Err e) made full = seen_only full.called
 
-pub ready_new : (on : Bool) (d ty : ℕ) {T : Type 0} (s t : CallerState) (x : Result T Full) → IsReady s → d < 8
+pub ready_new : (on : Bool) (d ty : ℕ) {T : Type 0} (s t : CallerState) (x : Result T Full) → MayMakeObjects s → d < 8
     → t.home ≡ true → OnOk x (CalledInTurn on s.pass (op.New d ty false) answer.Done t.pass)
-    → IfErr x (λ full. IsAnsweredFull on s.pass (op.New d ty false) full.census t.pass) → IsReady t
+    → IfErr x (λ full. IsAnsweredFull on s.pass (op.New d ty false) full.census t.pass) → MayMakeObjects t
 ready_new on d ty s t (Ok u) r small home made full =
     ready_on s t r home (seen_only made) (new_keeps made (number_is s r) small r.objects)
 ready_new on d ty s t (Err e) r small home made full =
@@ -163,9 +166,9 @@ pub same_free : (on : Bool) (x : ℕ) (s t : CallerState) (y : Result Freed Doub
 same_free on x s t (Ok f) freed double = seen_only freed.called
 same_free on x s t (Err e) freed double = seen_only double.called
 
-pub ready_free : (on : Bool) (x : ℕ) (s t : CallerState) (y : Result Freed Double) → IsReady s → t.home ≡ true
+pub ready_free : (on : Bool) (x : ℕ) (s t : CallerState) (y : Result Freed Double) → MayMakeObjects s → t.home ≡ true
     → IfOk y (λ freed. FreesObject on s.pass x freed.due t.pass) → OnErr y (IsAnsweredDouble on s.pass x t.pass)
-    → IsReady t
+    → MayMakeObjects t
 ready_free on x s t (Ok f) r home freed double =
     ready_on s t r home (seen_only freed.called) (freed_keeps freed.called r.objects)
 ready_free on x s t (Err e) r home freed double =
@@ -173,7 +176,7 @@ ready_free on x s t (Err e) r home freed double =
 
 -- The bench is of the table's size still, and for another caller of the table too.
 
-pub may_at : (m b : ℕ) (s t : CallerState) → MayAllocate m b s → t.pass.table ≡ s.pass.table → IsReady t
+pub may_at : (m b : ℕ) (s t : CallerState) → MayAllocate m b s → t.pass.table ≡ s.pass.table → MayMakeObjects t
     → MayAllocate m b t
 may_at m b s t may same ready =
     let config : t.pass.table.config ≡ s.pass.table.config = ap (λ (w : WordsState). w.config) same in
@@ -185,7 +188,7 @@ may_at m b s t may same ready =
     }
 
 pub may_then : (m b n d : ℕ) (s t : CallerState) → MayAllocate m b s → n ≡ m → d ≡ b
-    → t.pass ≡ record s.pass { seen = t.pass.seen } → IsReady t → MayAllocate n d t
+    → t.pass ≡ record s.pass { seen = t.pass.seen } → MayMakeObjects t → MayAllocate n d t
 may_then m b n d s t may engine pages is ready =
     let at : MayAllocate m b t = may_at m b s t may (ap (λ (p : PassState). p.table) is) ready in
     record { ready = ready; ty = at.ty; engine = engine ∙ at.engine; pages = pages ∙ at.pages }
@@ -202,7 +205,7 @@ may_at_first w k made_for book p s first is exists ty engine pages =
     let table : s.pass.table ≡ w = ap (λ (x : CallerState). x.pass.table) is ∙ first.table in
     record {
       ready =
-          subst (λ (x : CallerState). IsReady x) (sym is)
+          subst (λ (x : CallerState). MayMakeObjects x) (sym is)
           (record {
             number = k;
             home = refl;
@@ -218,7 +221,7 @@ may_at_first w k made_for book p s first is exists ty engine pages =
 
 -- The pass of one that has made objects.
 pub pass_of_objects : (w : WordsState) (k : ℕ) (s t : CallerState) (q : PassState) → IsFirstPass w k s.pass
-    → t.pass ≡ record s.pass { seen = t.pass.seen } → IsReady t → q ≡ t.pass → IsIdleCaller t.pass
+    → t.pass ≡ record s.pass { seen = t.pass.seen } → MayMakeObjects t → q ≡ t.pass → IsIdleCaller t.pass
     → IsPassOfObjects w k q
 pass_of_objects w k s t q first is ready same idle =
     subst (λ (p : PassState). IsPassOfObjects w k p) (sym same)

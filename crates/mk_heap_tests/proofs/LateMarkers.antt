@@ -44,7 +44,7 @@ use Rattle.mk_heap.proofs.HostsKept.{first_is_host}
 use Rattle.mk_heap.proofs.IdleTurns.{begun_free, fresh_free, look_keeps, looked_idle, none_held_kept, none_is_on}
 use Rattle.mk_heap.proofs.Joining.{host_may_take}
 use Rattle.mk_heap.proofs.MovedHosts.{turn_moves}
-use Rattle.mk_heap_tests.specs.Passes.{HasJoinedOne, IsHostsPass, IsMarking, IsMarkerOut}
+use Rattle.mk_heap_tests.specs.Passes.{HasJoinedOne, IsHostsPass, HostIsMarking, IsMarkerOut}
 use Rattle.mk_heap_tests.proofs.JoinedHosts.{free_at_first, has_joined, none_is_held_at, only_zero}
 
 out_attends_not : (x : Presence) → is_out x ≡ true → is_attending x ≡ false
@@ -146,7 +146,7 @@ module _ (w : WordsState) (h p q : PassState) (host : IsHostsPass w h) (own : Ha
         looked_idle p q (ap (λ (x : PassState). x.seat) (turn_moves h p takes).is ∙ host.seat) t fresh history acts
         (none_is_on p q n t fresh before history finds none) exact tidy
 
-    pub marking : (r : PassState) → BeginsCycle q r → IsMarking w r
+    pub marking : (r : PassState) → BeginsCycle q r → HostIsMarking w r
     marking r begins =
         record {
           table = ap (λ (x : PassState). x.table) begins.pass ∙ looked_table;
@@ -161,7 +161,7 @@ on_ok (Ok a) P is h = h
 on_ok (Err e) P is h = cc
 
 -- The stop of the one caller, in which the close is wanted.
-module _ (w : WordsState) (p : PassState) (m : IsMarking w p) (one : w.config.callers ≡ 1) (t : InTurn p) where
+module _ (w : WordsState) (p : PassState) (m : HostIsMarking w p) (one : w.config.callers ≡ 1) (t : InTurn p) where
   one_caller : p.table.config.callers ≡ 1
   one_caller = ap (λ (v : WordsState). v.config.callers) m.table ∙ one
 

@@ -15,7 +15,7 @@ use Rattle.mk_words.specs.Seats.{CallersAreBeforeOver, Has}
 use Rattle.mk_words.specs.States.{PassState, WordsState, call_of}
 use Rattle.mk_words.specs.Steps.{IsEnabledTo, Makes}
 use Rattle.mk_words.specs.TurnSteps.{IsFresh}
-use Rattle.mk_caller.specs.States.{number_of}
+use Rattle.mk_caller.specs.States.{caller_of_pass}
 use Rattle.mk_cycle.specs.TurnKeeps.{InTurn}
 use Rattle.mk_waiting.specs.Taking.{TakesTurn}
 use Rattle.mk_objects.specs.Placing.{IsPlaced, IsUnplaced}
@@ -31,12 +31,12 @@ abbrev pub first_new : Op
 first_new = op.New 0 0 false
 
 module _ (w : WordsState) (k : ℕ) (p : PassState) (is : IsPassFor w k p) where
-  number : number_of p ≡ k
+  number : caller_of_pass p ≡ k
   number = ap caller_number is.seat
 
-  pub exists : k < w.config.callers → number_of p < p.table.config.callers
+  pub exists : k < w.config.callers → caller_of_pass p < p.table.config.callers
   exists few =
-      subst (λ (v : WordsState). number_of p < v.config.callers) (sym is.table)
+      subst (λ (v : WordsState). caller_of_pass p < v.config.callers) (sym is.table)
       (subst (λ (n : ℕ). n < w.config.callers) (sym number) few)
 
   alone : p.seats ≡ p.seat ∷ []

@@ -18,12 +18,12 @@ use Rattle.mk_caller.specs.Causes.{FindsGateHeld, IsRefused}
 use Rattle.mk_caller.specs.declared.refusals.Refusal.{Refusal}
 use Rattle.mk_caller.specs.declared.refusals.Refusal.TheVariants as refusal
 use Rattle.mk_caller.specs.Laws.{destination}
-use Rattle.mk_caller.specs.States.{Admits, never_of, number_of, value_of}
+use Rattle.mk_caller.specs.States.{Admits, never_of, caller_of_pass, value_of}
 use Rattle.mk_caller.proofs.After.{calls_leave_other_registers}
 use Rattle.mk_heap_tests.proofs.Registers.{globals_are, has_registers}
 use Rattle.mk_heap_tests.specs.Passes.{HoldsNull, StaysNull}
 
-of_a_caller : (p : PassState) → HoldsNull p → IsCaller (never_of p) (number_of p)
+of_a_caller : (p : PassState) → HoldsNull p → IsCaller (never_of p) (caller_of_pass p)
 of_a_caller p h =
     let number : caller_number p.seat ≡ h.number = ap caller_number h.seat in
     let exists = h.exists in
@@ -100,7 +100,7 @@ stays_called {p} {q} {o} {a} c other h =
 pub stays_held : {p q : PassState} {o : Op} → FindsGateHeld p o q → HoldsNull p → StaysNull p q
 stays_held {p} {q} f h =
     let is = pass_held f in
-    let same : number_of q ≡ number_of p = ap (λ (r : PassState). number_of r) is in
+    let same : caller_of_pass q ≡ caller_of_pass p = ap (λ (r : PassState). caller_of_pass r) is in
     record {
       is = is;
       null = later p q is

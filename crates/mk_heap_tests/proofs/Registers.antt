@@ -9,9 +9,9 @@ use Rattle.mk_core.specs.declared.config.Config.{Config}
 use Rattle.mk_core.specs.declared.events.Event.{Event}
 use Rattle.mk_core.specs.Decided.{asked}
 use Rattle.mk_core.specs.History.{calls, calls_from, never_behind, never_first}
-use Rattle.mk_protocol.proofs.OrderlyLists.{at_first}
+use Rattle.mk_laws.proofs.OrderlyLists.{at_first}
 use Rattle.mk_words.specs.States.{PassState}
-use Rattle.mk_caller.specs.States.{never_of, number_of, value_of}
+use Rattle.mk_caller.specs.States.{never_of, caller_of_pass, value_of}
 
 registers_are : (c : Config) (es : List Event) → length (never_behind c es).registers ≡ 8 * c.callers
 registers_are c es = (calls_stay (never_first c) (asked (calls c es))).registers ∙ length-replicate (8 * c.callers) Null
@@ -19,7 +19,8 @@ registers_are c es = (calls_stay (never_first c) (asked (calls c es))).registers
 pub globals_are : (c : Config) (es : List Event) → length (never_behind c es).globals ≡ 64
 globals_are c es = (calls_stay (never_first c) (asked (calls c es))).globals ∙ length-replicate 64 Null
 
-pub has_registers : (p : PassState) → number_of p < p.table.config.callers → IsCaller (never_of p) (number_of p)
+pub has_registers : (p : PassState) → caller_of_pass p < p.table.config.callers
+    → IsCaller (never_of p) (caller_of_pass p)
 has_registers p exists =
     let count = registers_are p.table.config p.seen in
     omega arith
@@ -31,6 +32,6 @@ none_called c = refl
 pub null_at_first : (p : PassState) (r : ℕ) → p.seen ≡ [] → value_of p r ≡ Null
 null_at_first p r is =
     let c : Config = p.table.config in
-    ap (λ (n : NeverState). register_at n (number_of p) r)
+    ap (λ (n : NeverState). register_at n (caller_of_pass p) r)
     (ap (λ (es : List Event). never_behind c es) is ∙ none_called c)
-    ∙ at_first (8 * c.callers) (8 * number_of p + r) Null
+    ∙ at_first (8 * c.callers) (8 * caller_of_pass p + r) Null

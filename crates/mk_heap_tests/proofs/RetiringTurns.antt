@@ -19,7 +19,7 @@ use Rattle.mk_objects.specs.Placing.{IsOutOfStop}
 use Rattle.mk_objects.specs.Retired.{FindsFreed, Retires}
 use Rattle.mk_objects.specs.Retiring.{IsUnloaded}
 use Rattle.mk_alloc.specs.DueCycles.{RunsIfDue}
-use Rattle.mk_alloc.specs.Underway.{BeginsTurn, GoesOn}
+use Rattle.mk_alloc.specs.Underway.{BeginsTurn, TurnGoesOn}
 use Rattle.mk_alloc.proofs.CalledTurns.{taken_same}
 use Rattle.mk_alloc.proofs.FreedTurns.{double_on, freed_on, frees_object, is_answered_double, unloaded}
 use Rattle.mk_alloc.proofs.QuietTurns.{give_allowed}
@@ -58,7 +58,7 @@ module _ (w : WordsState) (k r : ℕ) (p : PassState) (is : IsPassOfObjects w k 
         unloaded p q r (callers p is.pass.idle) own takes fresh t.history small (is.objects r small)
 
     -- The pass that is given back, where the turn went on to an answer.
-    back_of : (a : Answer) (d : PassState) → GoesOn (Some a) q d → (b : PassState) → Makes d step.Give b
+    back_of : (a : Answer) (d : PassState) → TurnGoesOn (Some a) q d → (b : PassState) → Makes d step.Give b
         → call_of b ≡ at_rest → IsPassFor w k b
     back_of a d on b gives rests =
         let all : (b.table ≡ p.table) × (b.seat ≡ p.seat) × (b.seats ≡ p.seats) = (
@@ -81,7 +81,7 @@ module _ (w : WordsState) (k r : ℕ) (p : PassState) (is : IsPassOfObjects w k 
       runs_none : RunsIfDue false false d d
       runs_none = record { runs = λ h. cc; rests = λ h. refl }
 
-      pub freed : GoesOn (Some answer.Done) q d
+      pub freed : TurnGoesOn (Some answer.Done) q d
       freed = freed_on false false p q d d d r (callers p is.pass.idle) own takes begins t retires u runs_none u
 
       pub freed_table : d.table ≡ w
@@ -103,7 +103,7 @@ module _ (w : WordsState) (k r : ℕ) (p : PassState) (is : IsPassOfObjects w k 
 
     -- It was freed already.
     module _ (d : PassState) (finds : FindsFreed q r d) (u : InTurn d) where
-      pub double : GoesOn (Some answer.Double) q d
+      pub double : TurnGoesOn (Some answer.Double) q d
       double = double_on false p q d d r (callers p is.pass.idle) own takes begins t finds u
 
       pub double_table : d.table ≡ w

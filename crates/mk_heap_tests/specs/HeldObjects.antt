@@ -11,7 +11,7 @@ abbrev pub HoldsObjects : PassState → Type 0
 HoldsObjects p = (r : ℕ) → r < 8 → IsBase (value_of p r)
 
 -- The caller may make objects, and free what its registers point to.
-pub record IsReady (s : CallerState) : Type 0 where
+pub record MayMakeObjects (s : CallerState) : Type 0 where
   pub number : ℕ
   pub home : s.home ≡ true
   pub seat : s.pass.seat ≡ Caller number
@@ -21,7 +21,7 @@ pub record IsReady (s : CallerState) : Type 0 where
 
 -- It may, with a bench that was made for this many pages and has a book of this many, and there is a type.
 pub record MayAllocate (made_for book : ℕ) (s : CallerState) : Type 0 where
-  pub ready : IsReady s
+  pub ready : MayMakeObjects s
   pub ty : 0 < length s.pass.table.config.types
   pub engine : made_for ≡ s.pass.table.config.pages
   pub pages : book ≡ s.pass.table.config.pages

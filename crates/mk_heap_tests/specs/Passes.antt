@@ -62,7 +62,7 @@ pub record IsHostsPass (w : WordsState) (p : PassState) : Type 0 where
   pub before_over : has_over p.seen ≡ false
 
 -- the host's turn in a cycle that isn't wanted for closing, with no gate held
-pub record IsMarking (w : WordsState) (p : PassState) : Type 0 where
+pub record HostIsMarking (w : WordsState) (p : PassState) : Type 0 where
   pub table : p.table ≡ w
   pub seat : p.seat ≡ Host
   pub phase : IsAtPhase p 1

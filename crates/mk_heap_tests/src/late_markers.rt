@@ -2,7 +2,7 @@
 ghost use Rattle.std.specs.Prelude.{◌≡◌, ◌<◌, length, true, false, IfSome};
 ghost use Rattle.mk_core.specs.Config.{IsWithinLimits};
 ghost use Rattle.mk_marker.specs.Markers.{attends};
-ghost use Rattle.mk_heap_tests.specs.Passes.{IsFirstPass, IsHostsPass, IsMarkerOut, IsMarking};
+ghost use Rattle.mk_heap_tests.specs.Passes.{IsFirstPass, IsHostsPass, IsMarkerOut, HostIsMarking};
 
 use crate::objects::make;
 use mk_caller::Caller;
@@ -52,7 +52,7 @@ fn begin<E: Engine, R: Threads + Wait + Sync>(
 ) -> Option<Turn>
     requires host { IsHostsPass words.now host }
     requires made_for { E.made_for bench.old.engine ≡ words.now.config.pages }
-    ensures { IfSome result (λ turn. IsMarking words.now turn.pass) }
+    ensures { IfSome result (λ turn. HostIsMarking words.now turn.pass) }
 {
     host.is_in_order();
     let mut turn = take_turn(rt, words, host, None);
@@ -69,7 +69,7 @@ fn begin<E: Engine, R: Threads + Wait + Sync>(
 /// The host holds the gate of the one caller and wants the close. What the marker is told, which is in and goes out
 /// then.
 fn want_close(words: &Words, turn: Turn, marker: &mut Marker) -> Option<Work>
-    requires turn { IsMarking words.now turn.pass }
+    requires turn { HostIsMarking words.now turn.pass }
     requires one { words.now.config.callers ≡ 1 }
     requires attends { attends marker.old ≡ true }
 {

@@ -1,7 +1,7 @@
 //! Objects of two words that callers make and free by direct calls, on one page of 32 cells.
 ghost use Rattle.std.specs.Prelude.{◌≡◌, ◌<◌, length, true};
 ghost use Rattle.mk_core.specs.Config.{IsWithinLimits};
-ghost use Rattle.mk_heap_tests.specs.HeldObjects.{IsReady, MayAllocate};
+ghost use Rattle.mk_heap_tests.specs.HeldObjects.{MayMakeObjects, MayAllocate};
 
 use mk_alloc::{Double, Freed, free_object, new_object};
 use mk_caller::Caller;
@@ -117,10 +117,10 @@ fn fill_and_free<E: Engine, R: Threads + Wait + Sync>(
     bench: &mut Bench<E>,
 ) -> Answers
     requires first { MayAllocate (E.made_for bench.old.engine) (length bench.old.book) first.old }
-    requires second { IsReady second.old }
+    requires second { MayMakeObjects second.old }
     requires one_table { second.old.pass.table ≡ first.old.pass.table }
-    ensures first { IsReady first.new }
-    ensures second { IsReady second.new }
+    ensures first { MayMakeObjects first.new }
+    ensures second { MayMakeObjects second.new }
     ensures same_first { first.new.pass ≡ record first.old.pass { seen = first.new.pass.seen } }
     ensures same_second { second.new.pass ≡ record second.old.pass { seen = second.new.pass.seen } }
 {

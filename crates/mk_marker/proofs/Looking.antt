@@ -21,8 +21,8 @@ use Rattle.mk_core.specs.Moments.{Moment, marker_at}
 use Rattle.mk_core.specs.StopConditions.{is_attending}
 use Rattle.mk_core.specs.Words.{named_word, header_at}
 use Rattle.mk_core.proofs.BitsWithout.{has_bit_without}
-use Rattle.mk_protocol.proofs.Known.{Known, known_left}
-use Rattle.mk_guard.specs.Guard.{IsMarking}
+use Rattle.mk_laws.proofs.Known.{Known, known_left}
+use Rattle.mk_laws.specs.Guard.{IsMarking}
 use Rattle.mk_words.specs.States.{PassState, now_of}
 use Rattle.mk_words.specs.Markers.{marker_in}
 use Rattle.mk_turns.proofs.Doing.{of_kinds_in_parts}

@@ -29,14 +29,14 @@ use Rattle.mk_core.proofs.ObjectHeaders.{made_shows, part_cells}
 use Rattle.mk_core.proofs.PageSteps.{UsedStep, ItTakes, ItGivesBack, used_step}
 use Rattle.mk_core.proofs.PlacesNow.{IsPlaced, ByFit, AsChosen, AsUsed, placed_now, undecided_new}
 use Rattle.mk_core.proofs.Sizes.{pages_some}
-use Rattle.mk_protocol.specs.Protocol.{has_place}
-use Rattle.mk_protocol.proofs.Actors.{Meets}
-use Rattle.mk_protocol.proofs.Known.{Known}
-use Rattle.mk_protocol.proofs.OthersMoves.{WorldBehind}
-use Rattle.mk_guard.specs.Guard.{GoesOn, IsMarking}
-use Rattle.mk_layout.specs.Terrain.{object_now}
-use Rattle.mk_layout.proofs.Behind.{object_kind}
-use Rattle.mk_layout.proofs.Holders.{new_has_turn, giver_has_turn, holding_object, placed_undecided, made_sized}
+use Rattle.mk_laws.specs.Protocol.{has_place}
+use Rattle.mk_laws.proofs.Actors.{Meets}
+use Rattle.mk_laws.proofs.Known.{Known}
+use Rattle.mk_laws.proofs.OthersMoves.{WorldBehind}
+use Rattle.mk_laws.specs.Guard.{HeaderGoesOn, IsMarking}
+use Rattle.mk_laws.specs.Terrain.{object_now}
+use Rattle.mk_laws.proofs.Behind.{object_kind}
+use Rattle.mk_laws.proofs.LayoutHolders.{new_has_turn, giver_has_turn, holding_object, placed_undecided, made_sized}
 
 -- the cell of a place whose first page is to be carved
 pub record IsToCarve (c : Config) (m : Moment) (p k : ℕ) : Type 0 where
@@ -155,7 +155,7 @@ module _ (c : Config) (w : World) (seat : Seat) (limits : IsWithinLimits c) (kno
 -- So a mark that was of a cell is of one after a step: headers go on.
 pub still_a_cell : (c : Config) (w : World) (seat : Seat) (x : Step) (p k : ℕ) → IsWithinLimits c → Known c w.now
     → IsMarking w.now.words → Meets c w.now seat x
-    → GoesOn c.pages (header_at w.now.words p) (header_at (WorldBehind c w seat x).now.words p)
+    → HeaderGoesOn c.pages (header_at w.now.words p) (header_at (WorldBehind c w seat x).now.words p)
     → IsCell c w.now p k → IsCell c (WorldBehind c w seat x).now p k
 still_a_cell c w seat x p k limits known early h goes is = elim is [
   | inl lt ↦ inl (onward lt)

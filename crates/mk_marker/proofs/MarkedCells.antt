@@ -23,20 +23,20 @@ use Rattle.mk_core.proofs.AllBelow.{all_below-at}
 use Rattle.mk_core.proofs.HistoryParts.{earlier_part_is_history}
 use Rattle.mk_core.proofs.Sizes.{pages_some}
 use Rattle.mk_core.proofs.WordBits.{no_bit}
-use Rattle.mk_protocol.proofs.Actors.{Meets}
-use Rattle.mk_protocol.proofs.Known.{Known}
-use Rattle.mk_protocol.proofs.OthersMoves.{WorldBehind}
-use Rattle.mk_guard.specs.Guard.{GoesOn, Guard, IsMarking, MarksStand}
-use Rattle.mk_guard.specs.Kept.{GuardPremises}
-use Rattle.mk_guard.proofs.Changes.{headers_kind, is_head}
-use Rattle.mk_guard.proofs.FoundHeaders.{head_finds}
-use Rattle.mk_guard.proofs.Headers.{head_keeps}
-use Rattle.mk_guard.proofs.KeptGuard.{goes_equal}
-use Rattle.mk_guard.proofs.Phases.{is_phase_step, phase_stays, over_phase}
-use Rattle.mk_invariant.proofs.Joined.{told_to_guard}
-use Rattle.mk_layout.specs.LayoutScene.{PlotStands, IsPlotShown}
-use Rattle.mk_layout.specs.Terrain.{IsLaidOut, object_now, plot_of}
-use Rattle.mk_frames.proofs.LastEvents.{stands, comes_last}
+use Rattle.mk_laws.proofs.Actors.{Meets}
+use Rattle.mk_laws.proofs.Known.{Known}
+use Rattle.mk_laws.proofs.OthersMoves.{WorldBehind}
+use Rattle.mk_laws.specs.Guard.{HeaderGoesOn, Guard, IsMarking, MarksStand}
+use Rattle.mk_laws.specs.Kept.{GuardPremises}
+use Rattle.mk_laws.proofs.Changes.{headers_kind, is_head}
+use Rattle.mk_laws.proofs.FoundHeaders.{head_finds}
+use Rattle.mk_laws.proofs.Headers.{head_keeps}
+use Rattle.mk_laws.proofs.KeptGuard.{goes_equal}
+use Rattle.mk_laws.proofs.Phases.{is_phase_step, phase_stays, over_phase}
+use Rattle.mk_laws.proofs.InvariantJoined.{told_to_guard}
+use Rattle.mk_laws.specs.LayoutScene.{PlotStands, IsPlotShown}
+use Rattle.mk_laws.specs.Terrain.{LayoutStands, object_now, plot_of}
+use Rattle.mk_laws.proofs.LastEvents.{stands, comes_last}
 use Rattle.mk_marker.proofs.MarkBits.{MarksAreOfCells, IsCell, IsToCarve, made_has, marking_not_four, still_a_cell}
 use Rattle.mk_marker.proofs.NewMarks.{new_mark}
 
@@ -44,12 +44,12 @@ use Rattle.mk_marker.proofs.NewMarks.{new_mark}
 headers_go_on : (c : Config) (w : World) (seat : Seat) (x : Step) → IsWithinLimits c → Known c w.now
     → AreOfPages c.pages w.now.words → IsMarking w.now.words
     → GuardPremises c w → Meets c w.now seat x → (p : ℕ)
-    → GoesOn c.pages (header_at w.now.words p) (header_at (WorldBehind c w seat x).now.words p)
+    → HeaderGoesOn c.pages (header_at w.now.words p) (header_at (WorldBehind c w seat x).now.words p)
 headers_go_on c w seat (step.Head q n) limits known len early say h p =
     (head_keeps c w.now seat q n len h (head_finds c w seat q n limits known early say h)).headers p
 headers_go_on c w seat x limits known len early say h p = rest x refl
   where
-    rest : (y : Step) → is_head y ≡ false → GoesOn c.pages (header_at w.now.words p)
+    rest : (y : Step) → is_head y ≡ false → HeaderGoesOn c.pages (header_at w.now.words p)
         (header_at (WorldBehind c w seat y).now.words p)
     rest y no_head = goes_equal c.pages (header_at w.now.words p) (header_at (WorldBehind c w seat y).now.words p)
         (headers_kind c w.now seat y no_head p)
@@ -75,7 +75,7 @@ nothing_marked c w seat len h p k is = true≢false (sym is ∙ no_bit (slice_in
     ]
 
 cells_kept : (c : Config) (w : World) (seat : Seat) (x : Step) → IsWithinLimits c → Known c w.now
-    → AreOfPages c.pages w.now.words → IsLaidOut c w → GuardPremises c w
+    → AreOfPages c.pages w.now.words → LayoutStands c w → GuardPremises c w
     → Guard c w.now → IsMarking w.now.words → Meets c w.now seat x → MarksAreOfCells c w.now → (p k : ℕ)
     → has_bit (slice_index (WorldBehind c w seat x).now.words.marks p) k ≡ true
     → IsCell c (WorldBehind c w seat x).now p k
@@ -89,7 +89,7 @@ cells_kept c w seat x limits known len laid say guard early h all p k is =
 
 -- One event, whatever it is.
 marks_behind : (c : Config) (w : World) (seat : Seat) (x : Step) → IsWithinLimits c → Known c w.now
-    → AreOfPages c.pages w.now.words → IsLaidOut c w → GuardPremises c w
+    → AreOfPages c.pages w.now.words → LayoutStands c w → GuardPremises c w
     → MarksStand c w.now → Meets c w.now seat x → MarksAreOfCells c w.now
     → MarksAreOfCells c (WorldBehind c w seat x).now
 marks_behind c w seat step.Begin limits known len laid say g h all early p k is = absurd
@@ -138,7 +138,7 @@ unfolding left_from
 none_at_first c early p k is = absurd (elim early [ inl e ↦ omega arith | inr e ↦ omega arith ])
 
 -- where the place that is chosen has its first header, that has its cells
-to_carve_shown : (c : Config) (w : World) (p k : ℕ) → IsLaidOut c w → IsToCarve c w.now p k
+to_carve_shown : (c : Config) (w : World) (p k : ℕ) → LayoutStands c w → IsToCarve c w.now p k
     → header_at w.now.words p ≢ 0 → k < cells_under (header_in w.now.words p)
 to_carve_shown c w p k laid t some =
     let plot : IsPlotShown w.now.words.pages t.place.page (object_now c w.now) =

@@ -27,7 +27,7 @@ use Rattle.mk_core.specs.StopConditions.{is_attending}
 use Rattle.mk_core.specs.Words.{named_word}
 use Rattle.mk_core.proofs.Lengths.{histories_keep_lengths}
 use Rattle.mk_core.proofs.WordBits.{bits_added, bit_for_has}
-use Rattle.mk_guard.proofs.Changes.{marks_kind}
+use Rattle.mk_laws.proofs.Changes.{marks_kind}
 use Rattle.mk_marker.specs.Working.{IsBlackIn}
 use Rattle.mk_words.specs.Seats.{Has}
 use Rattle.mk_words.specs.States.{WordsState, PassState, now_of, event_of}

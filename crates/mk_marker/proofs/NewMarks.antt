@@ -35,18 +35,18 @@ use Rattle.mk_core.proofs.PlacesNow.{IsPlaced, ByFit, AsChosen, AsUsed, PlacedNo
 use Rattle.mk_core.proofs.ServingSteps.{MarksPlace, marks_is}
 use Rattle.mk_core.proofs.Sizes.{pages_some}
 use Rattle.mk_core.proofs.WordBits.{more_bits, bit_of_power, bit_of_cell, bit_is_one}
-use Rattle.mk_protocol.specs.Protocol.{has_place}
-use Rattle.mk_protocol.proofs.Actors.{Meets}
-use Rattle.mk_protocol.proofs.Known.{Known}
-use Rattle.mk_protocol.proofs.OthersMoves.{WorldBehind}
-use Rattle.mk_guard.specs.Guard.{GoesOn, MarkerStands, IsMarking}
-use Rattle.mk_guard.proofs.Changes.{Table, reg_table, tally_table}
-use Rattle.mk_layout.specs.LayoutScene.{Among}
-use Rattle.mk_layout.specs.Terrain.{IsLaidOut, object_now, place_claim, claims_placed}
-use Rattle.mk_protocol.specs.Ground.{ground_of}
-use Rattle.mk_layout.proofs.Serving.{placed_claim}
-use Rattle.mk_layout.proofs.Behind.{object_kind}
-use Rattle.mk_layout.proofs.Holders.{new_has_turn, holding_object, first_header}
+use Rattle.mk_laws.specs.Protocol.{has_place}
+use Rattle.mk_laws.proofs.Actors.{Meets}
+use Rattle.mk_laws.proofs.Known.{Known}
+use Rattle.mk_laws.proofs.OthersMoves.{WorldBehind}
+use Rattle.mk_laws.specs.Guard.{HeaderGoesOn, MarkerStands, IsMarking}
+use Rattle.mk_laws.proofs.Changes.{Table, reg_table, tally_table}
+use Rattle.mk_laws.specs.LayoutScene.{Among}
+use Rattle.mk_laws.specs.Terrain.{LayoutStands, object_now, place_claim, claims_placed}
+use Rattle.mk_laws.specs.Ground.{ground_of}
+use Rattle.mk_laws.proofs.Serving.{placed_claim}
+use Rattle.mk_laws.proofs.Behind.{object_kind}
+use Rattle.mk_laws.proofs.LayoutHolders.{new_has_turn, holding_object, first_header}
 use Rattle.mk_marker.proofs.PointedCells.{pointed_is_cell, found_is_cell}
 use Rattle.mk_marker.proofs.MarkBits.{IsCell}
 
@@ -99,7 +99,7 @@ marker_stands c m Host markers on = cc
 seen_header_goes_on : (c : Config) (m : Moment) (seat : Seat) → Known c m
     → ((j : ℕ) → is_attending (marker_of m j).presence ≡ true → MarkerStands c m (marker_of m j))
     → is_some (cell_seen c (marker_at m seat).seen (marker_at m seat).hand) ≡ true
-    → (s : SeenHeader) → (marker_at m seat).seen ≡ Some s → GoesOn c.pages s.header (header_at m.words s.page)
+    → (s : SeenHeader) → (marker_at m seat).seen ≡ Some s → HeaderGoesOn c.pages s.header (header_at m.words s.page)
 seen_header_goes_on c m seat known markers some s is = elim (cases_Bool (is_attending (marker_at m seat).presence)) [
   | inl on ↦ (marker_stands c m seat markers on).seen s is
   | inr off ↦
@@ -109,7 +109,7 @@ seen_header_goes_on c m seat known markers some s is = elim (cases_Bool (is_atte
 ]
 
 module _ (c : Config) (w : World) (seat : Seat) (limits : IsWithinLimits c) (known : Known c w.now)
-    (laid : IsLaidOut c w) (on : is_phase w.now.words 4 ≡ false) where
+    (laid : LayoutStands c w) (on : is_phase w.now.words 4 ≡ false) where
   -- by a hand
   by_hand : (hand : Option Hand) (p n k : ℕ) → marks_by_hand c.pages w.now.words hand p n ≡ true → has_bit n k ≡ true
       → k < cells_under (header_in w.now.words p)
@@ -200,7 +200,7 @@ module _ (c : Config) (w : World) (seat : Seat) (limits : IsWithinLimits c) (kno
 
   -- by a marker
   seen_is : (seen : Option SeenHeader) (hand : Option ℕ)
-      → ((s : SeenHeader) → seen ≡ Some s → GoesOn c.pages s.header (header_at w.now.words s.page)) → (p k : ℕ)
+      → ((s : SeenHeader) → seen ≡ Some s → HeaderGoesOn c.pages s.header (header_at w.now.words s.page)) → (p k : ℕ)
       → is_some (cell_seen c seen hand) ≡ true → p ≡ seen_page (cell_seen c seen hand)
       → has_bit (seen_bit (cell_seen c seen hand)) k ≡ true
       → k < cells_under (header_in w.now.words p)
@@ -230,7 +230,7 @@ module _ (c : Config) (w : World) (seat : Seat) (limits : IsWithinLimits c) (kno
   -- The mark that a step adds.
   pub new_mark : (x : Step) (p k : ℕ) → Meets c w.now seat x → IsMarking w.now.words
       → ((j : ℕ) → is_attending (marker_of w.now j).presence ≡ true → MarkerStands c w.now (marker_of w.now j))
-      → ((p : ℕ) → GoesOn c.pages (header_at w.now.words p) (header_at (WorldBehind c w seat x).now.words p))
+      → ((p : ℕ) → HeaderGoesOn c.pages (header_at w.now.words p) (header_at (WorldBehind c w seat x).now.words p))
       → has_bit (slice_index (WorldBehind c w seat x).now.words.marks p) k ≡ true
       → (has_bit (slice_index w.now.words.marks p) k ≡ true) ⊎ IsCell c (WorldBehind c w seat x).now p k
   new_mark (step.Mark q n) p k h early markers goes is = elim (more_bits w.now.words.marks q n p k is) [

@@ -15,8 +15,8 @@ use Rattle.mk_core.specs.Cells.{cells_under, header_in, pointed_cell}
 use Rattle.mk_core.specs.History.{World}
 use Rattle.mk_core.specs.Moments.{is_phase}
 use Rattle.mk_core.proofs.PointedPages.{LiesUnder, lies_under, found_under}
-use Rattle.mk_layout.specs.LayoutScene.{run_count}
-use Rattle.mk_layout.specs.Terrain.{IsLaidOut}
+use Rattle.mk_laws.specs.LayoutScene.{run_count}
+use Rattle.mk_laws.specs.Terrain.{LayoutStands}
 
 -- a header that heads a run has one cell
 heads_one : (h : Option Header) (d : ℕ) → d < run_count h → 0 < cells_under h
@@ -29,7 +29,7 @@ later_index : (b : Bool) (h : Header) (page : ℕ) (cell : Cell)
 later_index true h page cell is = let here : run_of_page h page ≡ cell = cc in sym (ap (λ (x : Cell). x.index) here)
 later_index false h page cell is = cc
 
-module _ (c : Config) (w : World) (laid : IsLaidOut c w) (on : is_phase w.now.words 4 ≡ false) where
+module _ (c : Config) (w : World) (laid : LayoutStands c w) (on : is_phase w.now.words 4 ≡ false) where
   -- the cell lies on its own page, which has cells
   near : (h : Header) (page : ℕ) (cell : Cell) → header_in w.now.words page ≡ Some h → 0 < cells_under (Some h)
       → cell.page ≡ page

@@ -15,7 +15,7 @@ use Rattle.mk_never.specs.declared.operations.Op.TheVariants.{Move, Clear, GetGl
 use Rattle.mk_never.specs.Types.{kinds_of, zero_of, zero_words}
 use Rattle.mk_never.specs.NeverHeap.{NeverState, Call, no_allocation, register_at, allocation_at, words_of, word_at}
 use Rattle.mk_never.specs.NeverHeap.{with_register, with_global, with_word, with_freed, with_new, is_same, is_unmapped}
-use Rattle.mk_never.specs.NeverHeap.{is_granted, target_of, left_at, moved_on, after_free, after_op}
+use Rattle.mk_never.specs.NeverHeap.{grants_object, target_of, left_at, moved_on, after_free, after_op}
 use Rattle.mk_never.specs.Laws.{Continues, Reaches}
 use Rattle.mk_never.specs.Reach.{LeadsTo, WordLeadsTo, IsReachable, by_register, by_global, by_word, AccessIsToReached}
 use Rattle.mk_never.specs.Reach.{ReachGrowsByGrants, UnreachedStays}
@@ -234,7 +234,7 @@ unreached_stays n (x ∷ xs) number there reached =
     let there' : number < length (after_op n x.caller x.op).allocations = omega (arith, stays.count) in
     was_there (reach_grows_by_grants n x.caller x.op number
     (unreached_stays (after_op n x.caller x.op) xs number there' reached)) where
-      was_there : IsReachable n number ⊎ (IsTrue (is_granted x.op) × (number ≡ length n.allocations))
+      was_there : IsReachable n number ⊎ (IsTrue (grants_object x.op) × (number ≡ length n.allocations))
           → IsReachable n number
       was_there (inl old) = old
       was_there (inr granted) = let new : number ≡ length n.allocations = granted.1 in absurd (omega arith)

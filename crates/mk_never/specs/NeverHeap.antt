@@ -195,7 +195,7 @@ replies_of n [] = []
 replies_of n (x ∷ xs) = reply_of n x.caller x.op ∷ replies_of (after_op n x.caller x.op) xs
 
 -- whether the operation grants an object, which takes memory
-abbrev pub is_granted : Op → Bool
-is_granted (New d ty true) = false
-is_granted (New d ty false) = true
-is_granted other = false
+abbrev pub grants_object : Op → Bool
+grants_object (New d ty true) = false
+grants_object (New d ty false) = true
+grants_object other = false

@@ -4,7 +4,7 @@ use Rattle.mk_never.specs.declared.values.Value.{Value}
 use Rattle.mk_never.specs.declared.values.Value.TheVariants.{Null, Num, Ptr}
 use Rattle.mk_never.specs.declared.operations.Op.{Op}
 use Rattle.mk_never.specs.NeverHeap.{NeverState, Call, register_at, allocation_at, global_at, word_at, is_unmapped}
-use Rattle.mk_never.specs.NeverHeap.{after_op, after_calls, is_granted}
+use Rattle.mk_never.specs.NeverHeap.{after_op, after_calls, grants_object}
 use Rattle.mk_never.specs.Laws.{Reaches}
 
 -- The value is a pointer into the allocation.
@@ -43,7 +43,7 @@ AccessIsToReached n caller q i number place = Reaches n (register_at n caller q)
 abbrev pub ReachGrowsByGrants : NeverState → ℕ → Op → ℕ → Type 0
 ReachGrowsByGrants n caller op number =
     IsReachable (after_op n caller op) number
-    → IsReachable n number ⊎ (IsTrue (is_granted op) × (number ≡ length n.allocations))
+    → IsReachable n number ⊎ (IsTrue (grants_object op) × (number ≡ length n.allocations))
 
 -- An old allocation that is reached after the calls was reached before: what isn't reached never is again.
 abbrev pub UnreachedStays : NeverState → List Call → ℕ → Type 0

@@ -23,7 +23,7 @@ use Rattle.mk_core.specs.History.{never_first}
 use Rattle.mk_core.specs.Moments.{flight_of}
 use Rattle.mk_core.proofs.Histories.{calls_more}
 use Rattle.mk_core.proofs.HistoryParts.{earlier_part_is_history}
-use Rattle.mk_frames.proofs.Frames.{admitted_others_leave}
+use Rattle.mk_laws.proofs.SeatFrames.{admitted_others_leave}
 
 free_admitted : (c : Config) (k r : ℕ) (xs : List Call) → k < c.callers → r < 8
     → IsBase (register_at (after_calls (never_first c) xs) k r)

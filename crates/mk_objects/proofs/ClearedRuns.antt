@@ -5,7 +5,7 @@ use Rattle.mk_core.specs.declared.seats.RunPages.{RunPages}
 use Rattle.mk_core.specs.Frames.{Steady}
 use Rattle.mk_core.specs.Moments.{is_held, is_number_of, others_are_held}
 use Rattle.mk_core.specs.NewPlaces.{is_run_gone}
-use Rattle.mk_frames.proofs.Tests.{all_below_from}
+use Rattle.mk_laws.proofs.Tests.{all_below_from}
 use Rattle.mk_words.specs.States.{PassState, WordsState, now_of, world_of}
 use Rattle.mk_objects.specs.Deciding.{ClearsRun, is_following}
 use Rattle.mk_objects.specs.FreeParts.{HasGates, RunIsUnmapped, RunIsWiped, SetsGates, Unmaps, Wipes, all_others}

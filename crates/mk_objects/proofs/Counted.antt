@@ -13,7 +13,7 @@ use Rattle.mk_core.specs.Frames.{CountsAreLeft}
 use Rattle.mk_core.specs.History.{call_decided, calls, first_world, left}
 use Rattle.mk_core.specs.Moments.{flight_of}
 use Rattle.mk_core.proofs.Histories.{calls_more}
-use Rattle.mk_protocol.proofs.OthersCounts.{answers_full, entry_fulls, fulls_append, fulls_of}
+use Rattle.mk_laws.proofs.OthersCounts.{answers_full, entry_fulls, fulls_append, fulls_of}
 
 pub counts_then : (c : Config) (es fs gs : List Event) → CountsAreLeft c es fs → CountsAreLeft c fs gs
     → CountsAreLeft c es gs

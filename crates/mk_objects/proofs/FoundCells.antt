@@ -30,8 +30,8 @@ use Rattle.mk_core.specs.NewPlaces.{class_made, is_small_object}
 use Rattle.mk_core.specs.ObjectHeaders.{IsSized, cells_made}
 use Rattle.mk_core.proofs.Sizes.{class_known, large_cells, small_cells, words_within}
 use Rattle.mk_core.proofs.StandingAllocations.{placed_cell, typed_size}
-use Rattle.mk_layout.specs.SettledPages.{StandsUsed}
-use Rattle.mk_invariant.proofs.Theorems.{allocations_stand}
+use Rattle.mk_laws.specs.SettledPages.{StandsUsed}
+use Rattle.mk_laws.proofs.InvariantTheorems.{allocations_stand}
 use Rattle.mk_objects.proofs.Looks.{acting_caller}
 use Rattle.mk_objects.proofs.MayAct.{free_is_acting}
 

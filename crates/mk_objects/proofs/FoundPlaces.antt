@@ -25,7 +25,7 @@ use Rattle.mk_core.specs.Bits.{has_bit}
 use Rattle.mk_core.specs.NewPlaces.{class_made, is_small_object, place_on_pages}
 use Rattle.mk_core.specs.ObjectHeaders.{IsSized}
 use Rattle.mk_core.proofs.Sizes.{class_for_small, large_pages, pages_some}
-use Rattle.mk_layout.specs.LayoutScene.{header_on, used_on}
+use Rattle.mk_laws.specs.LayoutScene.{header_on, used_on}
 use Rattle.mk_books.proofs.UsedBitLemmas.{length-bits_of}
 
 bit_told : (count used k : ℕ) → slice_get (bits_of count used) k ≡ Some false → has_bit used k ≡ false

@@ -37,7 +37,7 @@ use Rattle.mk_core.specs.Moments.{others_are_held}
 use Rattle.mk_core.specs.Ranges.{is_run_cell}
 use Rattle.mk_core.specs.Readings.{Holds}
 use Rattle.mk_core.specs.Words.{phase_of}
-use Rattle.mk_protocol.proofs.Known.{Known}
+use Rattle.mk_laws.proofs.Known.{Known}
 use Rattle.mk_words.specs.Seats.{Has}
 use Rattle.mk_words.specs.States.{PassState, call_of, now_of, world_of}
 use Rattle.mk_words.specs.Steps.{IsEnabledTo}

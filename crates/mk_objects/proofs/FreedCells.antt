@@ -21,18 +21,18 @@ use Rattle.mk_core.specs.History.{IsHistory, World, bases_of, left, never_behind
 use Rattle.mk_core.specs.Image.{image_of}
 use Rattle.mk_core.specs.Moments.{flight_of}
 use Rattle.mk_core.specs.NewPlaces.{is_undecided_free}
-use Rattle.mk_images.specs.Images.{CarriesOwn, image_scene_of}
-use Rattle.mk_images.specs.Mirrors.{Mirrors}
-use Rattle.mk_images.specs.ImagePremises.{ImagePremises}
-use Rattle.mk_images.specs.SafeSets.{IsSafe}
-use Rattle.mk_images.proofs.Before.{ready_of}
-use Rattle.mk_images.proofs.FreeMoves.{pointer_cell}
-use Rattle.mk_images.proofs.KnownWorlds.{KnownWorld, known_world}
-use Rattle.mk_images.proofs.Ready.{Ready}
-use Rattle.mk_images.proofs.RegMoves.{flight}
-use Rattle.mk_images.proofs.Stands.{Stands, stands_of}
-use Rattle.mk_invariant.proofs.Histories.{histories_keep_the_invariant}
-use Rattle.mk_invariant.proofs.Joined.{told_to_images}
+use Rattle.mk_laws.specs.Images.{CarriesOwn, image_scene_of}
+use Rattle.mk_laws.specs.Mirrors.{Mirrors}
+use Rattle.mk_laws.specs.ImagePremises.{ImagePremises}
+use Rattle.mk_laws.specs.SafeSets.{IsSafe}
+use Rattle.mk_laws.proofs.ImagesBefore.{ready_of}
+use Rattle.mk_laws.proofs.FreeMoves.{pointer_cell}
+use Rattle.mk_laws.proofs.KnownWorlds.{KnownWorld, known_world}
+use Rattle.mk_laws.proofs.Ready.{Ready}
+use Rattle.mk_laws.proofs.RegMoves.{flight}
+use Rattle.mk_laws.proofs.ImagesStands.{Stands, stands_of}
+use Rattle.mk_laws.proofs.InvariantHistories.{histories_keep_the_invariant}
+use Rattle.mk_laws.proofs.InvariantJoined.{told_to_images}
 
 -- The register has a pointer to an unreleased allocation, and the value that the call has loaded points into its cell.
 pub record PointsAt (c : Config) (w : World) (n : NeverState) (k : ℕ) (f : Flight) : Type 0 where

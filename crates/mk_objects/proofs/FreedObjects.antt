@@ -28,10 +28,10 @@ use Rattle.mk_core.proofs.CellsOfAllocations.{stands_in_its_cell}
 use Rattle.mk_core.proofs.ObjectHeaders.{made_is_mapped, part_heads_run, small_heads_none, unmapped_is_unmapped}
 use Rattle.mk_core.proofs.Sizes.{large_count, large_is_not_small}
 use Rattle.mk_core.proofs.StandingAllocations.{cells_begin, first_page_shows, run_begins, typed_size}
-use Rattle.mk_images.proofs.KnownWorlds.{known_world}
-use Rattle.mk_images.specs.ImagePremises.{IsLaidOut, ImagePremises}
-use Rattle.mk_invariant.proofs.Histories.{histories_keep_the_invariant}
-use Rattle.mk_invariant.proofs.Joined.{told_to_images}
+use Rattle.mk_laws.proofs.KnownWorlds.{known_world}
+use Rattle.mk_laws.specs.ImagePremises.{IsLaidOut, ImagePremises}
+use Rattle.mk_laws.proofs.InvariantHistories.{histories_keep_the_invariant}
+use Rattle.mk_laws.proofs.InvariantJoined.{told_to_images}
 use Rattle.mk_words.specs.States.{PassState, call_of, now_of, world_of}
 use Rattle.mk_objects.specs.Placing.{IsOutOfStop}
 use Rattle.mk_objects.specs.Retired.{freed_and_fresh}

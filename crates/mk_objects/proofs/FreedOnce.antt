@@ -15,14 +15,14 @@ use Rattle.mk_core.specs.History.{IsHistory, World, left}
 use Rattle.mk_core.specs.Moments.{Moment, flight_of}
 use Rattle.mk_core.specs.Readings.{Holds}
 use Rattle.mk_core.proofs.HistoryParts.{earlier_part_is_history}
-use Rattle.mk_protocol.proofs.Actors.{is_holders}
-use Rattle.mk_protocol.proofs.Frames.{other_seat}
-use Rattle.mk_protocol.proofs.Known.{holds_turn}
-use Rattle.mk_protocol.proofs.Orderly.{same_holder}
-use Rattle.mk_protocol.proofs.OrderlyLists.{actor_of}
-use Rattle.mk_protocol.proofs.Views.{view_of}
-use Rattle.mk_frames.proofs.Holders.{acts_as_holder}
-use Rattle.mk_frames.proofs.LastEvents.{comes_last, stands}
+use Rattle.mk_laws.proofs.Actors.{is_holders}
+use Rattle.mk_laws.proofs.ProtocolFrames.{other_seat}
+use Rattle.mk_laws.proofs.Known.{holds_turn}
+use Rattle.mk_laws.proofs.Orderly.{same_holder}
+use Rattle.mk_laws.proofs.OrderlyLists.{actor_of}
+use Rattle.mk_laws.proofs.Views.{view_of}
+use Rattle.mk_laws.proofs.FramesHolders.{acts_as_holder}
+use Rattle.mk_laws.proofs.LastEvents.{comes_last, stands}
 use Rattle.mk_turns.specs.Doing.{Does}
 use Rattle.mk_words.specs.States.{PassState, WordsState, event_of, now_of, world_of}
 use Rattle.mk_words.specs.TurnSteps.{turn_stays}

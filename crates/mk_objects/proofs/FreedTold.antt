@@ -8,11 +8,11 @@ use Rattle.mk_core.specs.Allocations.{cell_of_allocation, placed_at}
 use Rattle.mk_core.specs.Cells.{is_freed}
 use Rattle.mk_core.specs.History.{IsHistory, World, left}
 use Rattle.mk_core.specs.Moments.{is_phase}
-use Rattle.mk_layout.specs.LayoutLaws.{StandsInOrder}
-use Rattle.mk_layout.specs.Quarantine.{IsFreedCell}
-use Rattle.mk_layout.specs.LayoutScene.{is_released_in}
-use Rattle.mk_layout.proofs.Settled.{unreleased_are_apart}
-use Rattle.mk_invariant.proofs.Histories.{histories_keep_the_invariant}
+use Rattle.mk_laws.specs.LayoutLaws.{StandsInOrder}
+use Rattle.mk_laws.specs.Quarantine.{IsFreedCell}
+use Rattle.mk_laws.specs.LayoutScene.{is_released_in}
+use Rattle.mk_laws.proofs.Settled.{unreleased_are_apart}
+use Rattle.mk_laws.proofs.InvariantHistories.{histories_keep_the_invariant}
 
 pub freed_told : (c : Config) (es : List Event) (i : ℕ) → IsHistory c es → is_phase (left c es).now.words 4 ≡ false
     → (placed_at (left c es).allocations i).released ≡ false

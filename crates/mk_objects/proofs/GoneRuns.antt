@@ -13,10 +13,10 @@ use Rattle.mk_core.specs.Growing.{AreOfOthers}
 use Rattle.mk_core.specs.History.{IsHistory, World, left, world_behind}
 use Rattle.mk_core.specs.NewPlaces.{is_run_gone}
 use Rattle.mk_core.specs.Readings.{Holds}
-use Rattle.mk_zeros.specs.ZeroLaws.{stores}
-use Rattle.mk_invariant.proofs.RunWords.{gone_behind}
-use Rattle.mk_frames.proofs.LastEvents.{ComesLast, comes_last, stands}
-use Rattle.mk_frames.proofs.RunsStill.{holder_finds}
+use Rattle.mk_laws.specs.ZeroLaws.{is_heap_store}
+use Rattle.mk_laws.proofs.RunWords.{gone_behind}
+use Rattle.mk_laws.proofs.LastEvents.{ComesLast, comes_last, stands}
+use Rattle.mk_laws.proofs.RunsStill.{holder_finds}
 use Rattle.mk_turns.specs.Doing.{Does}
 use Rattle.mk_words.specs.States.{PassState, now_of}
 use Rattle.mk_words.specs.TurnSteps.{turn_stays}
@@ -32,7 +32,7 @@ settling_stays (step.Open j) h = refl
 settling_stays (step.Tally n v) h = refl
 settling_stays _ h = cc
 
-settling_stores_none : (x : Step) → is_settling x ≡ true → stores x ≡ false
+settling_stores_none : (x : Step) → is_settling x ≡ true → is_heap_store x ≡ false
 settling_stores_none (step.Look x) h = refl
 settling_stores_none (step.Open j) h = refl
 settling_stores_none (step.Tally n v) h = refl

@@ -31,7 +31,7 @@ use Rattle.mk_core.specs.StopConditions.{marks_place}
 use Rattle.mk_core.specs.TurnConditions.{is_used_once, place_now}
 use Rattle.mk_core.specs.Words.{Words, header_at, phase_of, register_word}
 use Rattle.mk_core.proofs.WordBits.{bits_added}
-use Rattle.mk_frames.proofs.Tests.{without_on}
+use Rattle.mk_laws.proofs.Tests.{without_on}
 use Rattle.mk_objects.specs.Unchanged.{IsAsLeft}
 use Rattle.mk_objects.proofs.Unchanged.{HasCall, OfCaller, call_behind}
 use Rattle.mk_objects.specs.Placing.{IsGrantedAt, object_at_place}

@@ -12,8 +12,8 @@ use Rattle.mk_core.specs.Allocations.{unreleased_storage}
 use Rattle.mk_core.specs.History.{IsHistory, left}
 use Rattle.mk_core.proofs.Lengths.{histories_keep_lengths}
 use Rattle.mk_core.proofs.UnreleasedStorage.{unreleased_more}
-use Rattle.mk_layout.specs.SettledPages.{IsSettled}
-use Rattle.mk_invariant.proofs.Theorems.{pages_show_the_storage}
+use Rattle.mk_laws.specs.SettledPages.{IsSettled}
+use Rattle.mk_laws.proofs.InvariantTheorems.{pages_show_the_storage}
 use Rattle.mk_objects.proofs.FoundPlaces.{pages_hold_few}
 
 abbrev words_mapped : Storage → ℕ

@@ -31,8 +31,8 @@ use Rattle.mk_core.specs.Frames.{steady_of}
 use Rattle.mk_core.specs.declared.accesses.TableWord.TheVariants.{Named}
 use Rattle.mk_core.specs.declared.events.Word.TheVariants as word
 use Rattle.mk_core.proofs.Conditions.{meets_enabled}
-use Rattle.mk_protocol.proofs.Known.{Known}
-use Rattle.mk_protocol.proofs.OthersCounts.{answers_full}
+use Rattle.mk_laws.proofs.Known.{Known}
+use Rattle.mk_laws.proofs.OthersCounts.{answers_full}
 use Rattle.mk_words.specs.CallSteps.{register_of}
 use Rattle.mk_words.specs.Seats.{Has}
 use Rattle.mk_words.specs.States.{PassState, call_of, event_of, now_of, world_of}
@@ -44,8 +44,8 @@ use Rattle.mk_never.specs.Admitted.{IsBase}
 use Rattle.mk_never.specs.declared.values.Value.{Value}
 use Rattle.mk_never.specs.declared.values.Value.TheVariants.{Null, Num, Ptr}
 use Rattle.mk_core.specs.Image.{image_of}
-use Rattle.mk_images.specs.Images.{shown}
-use Rattle.mk_invariant.proofs.Histories.{histories_keep_the_invariant}
+use Rattle.mk_laws.specs.Images.{shown}
+use Rattle.mk_laws.proofs.InvariantHistories.{histories_keep_the_invariant}
 use Rattle.mk_never.specs.NeverHeap.{register_at}
 use Rattle.mk_objects.specs.Retiring.{CallIsAt, HasLoaded, IsFreeAt, IsUnloaded, value_of, entry_loaded, is_loading}
 use Rattle.mk_objects.specs.Retiring.{loaded_free}

@@ -22,7 +22,7 @@ use Rattle.mk_core.specs.Cells.{is_released_cell, is_unmapped_header, pointed_ce
 use Rattle.mk_core.specs.Enabled.{IsEnabled, marker_may, holder_may}
 use Rattle.mk_core.specs.Moments.{Moment, flight_of, is_held, is_number_of, marker_at, is_phase, others_are_held}
 use Rattle.mk_core.specs.NewPlaces.{is_new_at, is_run_gone, is_undecided_free, is_undecided_new, target, object_made}
-use Rattle.mk_core.specs.Order.{comes_next, group_of, is_in_order, is_of_any_holder, is_open_to, may_decide}
+use Rattle.mk_core.specs.Order.{comes_next, group_of, is_in_order, is_of_any_holder, is_open_to, may_decide_new}
 use Rattle.mk_core.specs.Order.{seat_exists}
 use Rattle.mk_core.specs.Ranges.{is_in_range, is_run_cell, is_word, has_gates, has_phase}
 use Rattle.mk_core.specs.StopConditions.{marks_by_hand, marks_place}
@@ -46,7 +46,7 @@ open_to_acting m (Caller k) acts = refl
 open_to_acting m (Marker k) acts = cc
 open_to_acting m Host acts = cc
 
-any_may_decide : (o : Op) (x : Step) → is_of_any_holder x ≡ true → may_decide o x ≡ true
+any_may_decide : (o : Op) (x : Step) → is_of_any_holder x ≡ true → may_decide_new o x ≡ true
 any_may_decide (op.New d ty full) step.Grant h = refl
 any_may_decide (op.New d ty full) step.Full h = refl
 any_may_decide _ x h = h

@@ -17,7 +17,7 @@ use Rattle.mk_core.specs.History.{World, first_world, world_behind, left, calls,
 use Rattle.mk_core.specs.Moments.{flight_of}
 use Rattle.mk_core.proofs.Histories.{calls_more}
 use Rattle.mk_core.proofs.HistoryParts.{calls_in_parts}
-use Rattle.mk_protocol.proofs.Frames.{other_seat}
+use Rattle.mk_laws.proofs.ProtocolFrames.{other_seat}
 
 -- the calls of one caller among these
 abbrev pub calls_by : ℕ → List Decided → List Decided

@@ -15,9 +15,9 @@ use Rattle.mk_core.specs.Calls.{d_of, g_of, has_operands, has_type, p_of, q_of, 
 use Rattle.mk_core.specs.History.{IsHistory}
 use Rattle.mk_core.specs.Moments.{flight_of}
 use Rattle.mk_core.specs.NewPlaces.{is_undecided_new, object_made, place_on_pages}
-use Rattle.mk_layout.proofs.Holders.{seat_operands}
-use Rattle.mk_protocol.proofs.Known.{known_left}
-use Rattle.mk_invariant.proofs.Theorems.{first_fit_finds_the_place}
+use Rattle.mk_laws.proofs.LayoutHolders.{seat_operands}
+use Rattle.mk_laws.proofs.Known.{known_left}
+use Rattle.mk_laws.proofs.InvariantTheorems.{first_fit_finds_the_place}
 use Rattle.mk_words.specs.States.{PassState, WordsState, call_of, now_of}
 use Rattle.mk_words.specs.TurnSteps.{IsTurn, op_for}
 use Rattle.mk_objects.specs.declared.objects.Shape.{Shape}

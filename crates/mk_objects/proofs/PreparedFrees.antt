@@ -11,7 +11,7 @@ use Rattle.mk_core.specs.Frames.{Steady, steady_of}
 use Rattle.mk_core.specs.History.{IsHistory}
 use Rattle.mk_core.specs.Moments.{is_held, none_is_held}
 use Rattle.mk_core.proofs.AllBelow.{all_below-at}
-use Rattle.mk_frames.proofs.Tests.{all_below_from}
+use Rattle.mk_laws.proofs.Tests.{all_below_from}
 use Rattle.mk_core.specs.Readings.{Holds}
 use Rattle.mk_words.specs.States.{PassState, WordsState, call_of, now_of, world_of}
 use Rattle.mk_objects.specs.Deciding.{FreesCell, StaysSo}

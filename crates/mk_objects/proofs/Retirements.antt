@@ -29,8 +29,8 @@ use Rattle.mk_core.specs.Moments.{flight_of, is_held, none_is_held, nothing_done
 use Rattle.mk_core.specs.NewPlaces.{is_run_gone, target}
 use Rattle.mk_core.specs.Readings.{Holds}
 use Rattle.mk_core.specs.Words.{quarantine_word}
-use Rattle.mk_frames.proofs.Tests.{all_below_from}
-use Rattle.mk_invariant.proofs.Histories.{histories_keep_the_invariant}
+use Rattle.mk_laws.proofs.Tests.{all_below_from}
+use Rattle.mk_laws.proofs.InvariantHistories.{histories_keep_the_invariant}
 use Rattle.mk_words.specs.States.{PassState, WordsState, call_of, now_of, world_of}
 use Rattle.mk_objects.specs.Deciding.{FreesCell, IsDecidedAt, MayFree}
 use Rattle.mk_objects.specs.Placing.{IsOutOfStop, OnlyLooks, ComesTo, entry_for, is_look}

@@ -25,8 +25,8 @@ use Rattle.mk_core.specs.NewPlaces.{is_undecided_free, target}
 use Rattle.mk_core.specs.Words.{Words}
 use Rattle.mk_geom.specs.declared.pages.Page.{Page}
 use Rattle.mk_core.specs.Readings.{Holds}
-use Rattle.mk_protocol.proofs.Known.{Known}
-use Rattle.mk_protocol.proofs.OthersCounts.{answers_full}
+use Rattle.mk_laws.proofs.Known.{Known}
+use Rattle.mk_laws.proofs.OthersCounts.{answers_full}
 use Rattle.mk_words.specs.Seats.{Has}
 use Rattle.mk_words.specs.States.{PassState, call_of, now_of, world_of}
 use Rattle.mk_words.specs.TurnSteps.{Acts, IsTurn}

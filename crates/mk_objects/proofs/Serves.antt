@@ -27,14 +27,14 @@ use Rattle.mk_core.proofs.Lengths.{histories_keep_lengths}
 use Rattle.mk_core.proofs.ObjectHeaders.{made_is_mapped, made_shows, part_not_free}
 use Rattle.mk_core.proofs.Sizes.{pages_some, small_pages}
 use Rattle.mk_core.proofs.WordBits.{no_bit}
-use Rattle.mk_protocol.proofs.Known.{known_left}
-use Rattle.mk_layout.proofs.Fits.{FitsInBlock, FitsOnFreePages, fits}
-use Rattle.mk_layout.proofs.Holders.{made_sized}
-use Rattle.mk_layout.proofs.Readings.{free_unused}
-use Rattle.mk_layout.specs.Terrain.{object_now, layout_scene_of}
-use Rattle.mk_protocol.specs.Ground.{ground_of}
+use Rattle.mk_laws.proofs.Known.{known_left}
+use Rattle.mk_laws.proofs.Fits.{FitsInBlock, FitsOnFreePages, fits}
+use Rattle.mk_laws.proofs.LayoutHolders.{made_sized}
+use Rattle.mk_laws.proofs.LayoutReadings.{free_unused}
+use Rattle.mk_laws.specs.Terrain.{object_now, layout_scene_of}
+use Rattle.mk_laws.specs.Ground.{ground_of}
 use Rattle.mk_core.specs.Moments.{is_phase}
-use Rattle.mk_invariant.proofs.Histories.{histories_keep_the_invariant}
+use Rattle.mk_laws.proofs.InvariantHistories.{histories_keep_the_invariant}
 use Rattle.mk_words.specs.Seats.{Has}
 use Rattle.mk_words.specs.States.{PassState, call_of, now_of, world_of}
 use Rattle.mk_words.specs.Steps.{IsEnabledTo}

@@ -26,7 +26,7 @@ use Rattle.mk_core.specs.ObjectHeaders.{IsSized}
 use Rattle.mk_core.specs.TurnConditions.{carves, is_marked_first, is_used_once, place_now, takes_cell}
 use Rattle.mk_core.specs.Words.{Words, header_at, used_at}
 use Rattle.mk_core.proofs.ObjectHeaders.{made_shows, part_not_free}
-use Rattle.mk_frames.proofs.Tests.{all_below_from, or_on, without_on}
+use Rattle.mk_laws.proofs.Tests.{all_below_from, or_on, without_on}
 use Rattle.mk_objects.specs.Placing.{IsOutOfStop}
 use Rattle.mk_objects.specs.Serving.{Carving, IsCellReady, Serving}
 use Rattle.mk_objects.specs.Unchanged.{IsAsLeft}

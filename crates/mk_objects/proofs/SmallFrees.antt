@@ -24,7 +24,7 @@ use Rattle.mk_core.specs.Moments.{is_held, none_is_held}
 use Rattle.mk_core.specs.NewPlaces.{is_run_gone}
 use Rattle.mk_core.specs.Readings.{Holds}
 use Rattle.mk_core.proofs.AllBelow.{all_below-at}
-use Rattle.mk_placement.proofs.Tallies.{fresh_is_told}
+use Rattle.mk_laws.proofs.Tallies.{fresh_is_told}
 use Rattle.mk_words.specs.States.{PassState, WordsState, call_of, now_of, world_of}
 use Rattle.mk_objects.specs.Deciding.{FreesCell, MayFree, StaysSo, is_following}
 use Rattle.mk_objects.specs.Dues.{FreesOnce, IsOverQuarter}

@@ -87,7 +87,8 @@ pub cells_of_block : (page : Page) (class : ℕ) (leaf : Bool) → class < 8
 cells_of_block page class leaf known free = elim (cases_eq page.header (word_of (block_header class leaf))) [
   | inl is ↦ cells_under_wanted page.header page.used class leaf known is
   | inr other ↦
-      let none = ap (λ cells. is_some (first_where not cells)) (cells_under_other page.header page.used class leaf other)
+      let none =
+      ap (λ cells. is_some (first_where not cells)) (cells_under_other page.header page.used class leaf other)
       in
       let clash : true ≡ false = sym free ∙ none in
       cc
@@ -128,7 +129,8 @@ block_found (first ∷ pages) class leaf page is = elim (cases_Bool (has_free_ce
 pub cell_told : (pages : List Page) (page class used : ℕ) (leaf : Bool) (found : Option ℕ) → class < 8
     → used ≡ (page_at pages page).used → has_free_cell class leaf (use_of_page (page_at pages page)) ≡ true
     → found ≡ first_where not (bits_of (cells_of class) used)
-    → option_map (λ index. record { page = page; index = index; carve = false }) found ≡ free_cell_on class leaf pages page
+    → option_map (λ index. record { page = page; index = index; carve = false }) found
+    ≡ free_cell_on class leaf pages page
 cell_told pages page class used leaf found known is free by_word =
     ap (option_map (λ index. record { page = page; index = index; carve = false }))
     (by_word ∙ ap (λ n. first_where not (bits_of (cells_of class) n)) is

@@ -34,9 +34,9 @@ use Rattle.mk_core.specs.TurnConditions.{is_used_once}
 use Rattle.mk_core.specs.Words.{header_at, phase_of, used_at}
 use Rattle.mk_core.proofs.GrantedAllocations.{granted_object}
 use Rattle.mk_core.proofs.WordBits.{bit_for_small, bit_is_none, bit_of_power, zero_from_bits}
-use Rattle.mk_layout.specs.SettledPages.{IsSettled}
-use Rattle.mk_placement.proofs.Tracked.{unplaced_settles}
-use Rattle.mk_protocol.proofs.Known.{Known, known_left}
+use Rattle.mk_laws.specs.SettledPages.{IsSettled}
+use Rattle.mk_laws.proofs.Tracked.{unplaced_settles}
+use Rattle.mk_laws.proofs.Known.{Known, known_left}
 use Rattle.mk_words.specs.Seats.{Has}
 use Rattle.mk_words.specs.States.{PassState, call_of, now_of, world_of}
 use Rattle.mk_words.specs.Steps.{IsAdmittedTo, IsEnabledTo}

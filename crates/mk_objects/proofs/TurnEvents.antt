@@ -13,7 +13,7 @@ use Rattle.mk_core.specs.History.{IsHistory, World, first_world, left, world_beh
 use Rattle.mk_core.specs.Readings.{Holds}
 use Rattle.mk_core.proofs.Histories.{left_more}
 use Rattle.mk_core.proofs.HistoryParts.{earlier_part_is_history}
-use Rattle.mk_protocol.proofs.Frames.{others_leave}
+use Rattle.mk_laws.proofs.ProtocolFrames.{others_leave}
 use Rattle.mk_turns.specs.Doing.{Does, are_of}
 use Rattle.mk_turns.proofs.Doing.{none_own}
 use Rattle.mk_words.specs.Seats.{Has}

@@ -15,7 +15,7 @@ use Rattle.mk_core.specs.Effects.{moment_behind, progress}
 use Rattle.mk_core.specs.History.{World, world_behind}
 use Rattle.mk_core.specs.Moments.{Moment, flight_of}
 use Rattle.mk_core.specs.Order.{seat_exists}
-use Rattle.mk_protocol.proofs.Growth.{grows_same, grows_joined}
+use Rattle.mk_laws.proofs.Growth.{grows_same, grows_joined}
 use Rattle.mk_objects.specs.Looking.{is_acting, is_steady_word}
 use Rattle.mk_objects.specs.Unchanged.{IsAsLeft}
 use Rattle.mk_objects.proofs.MayAct.{IsActing}

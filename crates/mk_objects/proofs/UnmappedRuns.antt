@@ -42,7 +42,7 @@ use Rattle.mk_core.specs.Readings.{Holds}
 use Rattle.mk_core.specs.TurnConditions.{is_in_gone_run, place_now, unmaps}
 use Rattle.mk_core.specs.Words.{Words, header_at, phase_of}
 use Rattle.mk_core.proofs.AllBelow.{all_below-at}
-use Rattle.mk_frames.proofs.Tests.{all_below_from}
+use Rattle.mk_laws.proofs.Tests.{all_below_from}
 use Rattle.mk_words.specs.Seats.{Has}
 use Rattle.mk_words.specs.States.{PassState, call_of, now_of, world_of}
 use Rattle.mk_words.specs.Steps.{Finds, IsEnabledTo}

@@ -55,7 +55,8 @@ fn free_from(page: u64) -> Place
 fn free_place(turn: &Turn, limit: u64) -> Option<Place>
     ensures { result
         ≡ (if nat_lt (resident_pages (uses_of_pages (now_of turn.now.pass).words.pages)) limit
-        then option_map carved (first_where is_free_page (uses_of_pages (now_of turn.now.pass).words.pages)) else None) }
+        then option_map carved (first_where is_free_page (uses_of_pages
+        (now_of turn.now.pass).words.pages)) else None) }
 {
     if turn.resident() < limit {
         turn.first_free().map(free_from)

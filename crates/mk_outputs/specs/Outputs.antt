@@ -18,7 +18,7 @@ use Rattle.mk_check.specs.Declarations.{config_of}
 use Rattle.mk_check.specs.Output.{output as output_behind}
 use Rattle.mk_core.specs.declared.events.Event.{Event}
 use Rattle.mk_core.specs.History.{AreEnabled}
-use Rattle.mk_theorems.specs.Promises.{KeepsAllPromises}
+use Rattle.mk_laws.specs.Promises.{KeepsAllPromises}
 use Rattle.mk_run.specs.Headline.{StandsInOneHistory}
 use Rattle.mk_run.specs.LastCycle.{EndsWithCycle}
 use Rattle.mk_why.specs.declared.kept.Kept.{Kept}
@@ -189,16 +189,16 @@ pub record IsOutputOfRequest (request : Request) (old new : Option (List ℕ)) (
       let program = generated_program request.start request.count in
       StandsInOneHistory program request.markers false false (summary program) output
 
-abbrev pub Answers : Command → Option (List ℕ) → Option (List ℕ) → List ℕ → Type 0
-Answers (asked.OnText on_text) old new output = IsOutputOnSource on_text old new output
-Answers (asked.Gen request) old new output = IsOutputOfRequest request old new output
+abbrev pub IsOutputOfCommand : Command → Option (List ℕ) → Option (List ℕ) → List ℕ → Type 0
+IsOutputOfCommand (asked.OnText on_text) old new output = IsOutputOnSource on_text old new output
+IsOutputOfCommand (asked.Gen request) old new output = IsOutputOfRequest request old new output
 
 -- W holds of what the words' command writes, where the source had one list of bytes left, and then the other.
 pub record HasAnswered (words : List (List ℕ)) (old new : Option (List ℕ)) (W : List ℕ → Type 0) : Type 0 where
   pub command : Command
   pub output : List ℕ
   pub named : command_of words ≡ Some command
-  pub answers : Answers command old new output
+  pub answers : IsOutputOfCommand command old new output
   pub written : W output
 
 -- The command's status on what is left of the source, or no memory.

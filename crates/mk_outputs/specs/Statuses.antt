@@ -60,8 +60,8 @@ abbrev pub not_enabled_words : ℕ → ℕ → List ℕ
 not_enabled_words event condition =
     codes "event " ++ (decimal event ++ (codes " not enabled, condition " ++ decimal condition))
 
-abbrev pub at_line : ℕ → List ℕ → List ℕ
-at_line line words = codes "line " ++ (decimal line ++ (codes ": " ++ (words ++ codes "\n")))
+abbrev pub message_at_line : ℕ → List ℕ → List ℕ
+message_at_line line words = codes "line " ++ (decimal line ++ (codes ": " ++ (words ++ codes "\n")))
 
 -- the line for standard error
 abbrev pub status_line : Status → List ℕ
@@ -70,10 +70,10 @@ status_line NoMemory = codes "no memory\n"
 status_line Usage = codes "usage: markus run, check, print, replay, gen or trace\n"
 status_line ReadFault = codes "read failed\n"
 status_line WriteFault = codes "write failed\n"
-status_line (Text line kind) = at_line line (text_words kind)
-status_line (IllTyped line fault) = at_line line (typing_words fault)
-status_line (Limit line which found) = at_line line (limit_words which found)
-status_line (NotEnabled line event condition) = at_line line (not_enabled_words event condition)
+status_line (Text line kind) = message_at_line line (text_words kind)
+status_line (IllTyped line fault) = message_at_line line (typing_words fault)
+status_line (Limit line which found) = message_at_line line (limit_words which found)
+status_line (NotEnabled line event condition) = message_at_line line (not_enabled_words event condition)
 
 -- the statuses that come before the first write
 abbrev pub IsBeforeWriting : Status → Type 0

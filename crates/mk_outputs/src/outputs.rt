@@ -4,7 +4,8 @@ ghost use Rattle.mk_io.specs.Bytes.{TakesAll};
 ghost use Rattle.mk_io.specs.Faults.{Rose};
 ghost use Rattle.mk_script.specs.Grammar.{program_of};
 ghost use Rattle.mk_commands.specs.Commands.{AreWithin, IsWithin};
-ghost use Rattle.mk_outputs.specs.Outputs.{Answers, IsOutput, IsOutputOf, IsStatusOf, status_on, status_of_program};
+ghost use Rattle.mk_outputs.specs.Outputs.{IsOutputOfCommand, IsOutput, IsOutputOf, IsStatusOf, status_on};
+ghost use Rattle.mk_outputs.specs.Outputs.{status_of_program};
 ghost use Rattle.mk_outputs.specs.Outputs.{status_of_text};
 ghost use Rattle.mk_outputs.specs.Statuses.{IsBeforeWriting, IsOfText};
 
@@ -31,7 +32,8 @@ pub fn output_of<S: Source, P: Pace + Sync, R: Threads + Wait + Sync>(
     pace: &P,
 ) -> Result<Vec<u8>, Status>
     requires { IsWithin command }
-    ensures ok { IfOk result (λ output. Answers command (S.left source.old) (S.left source.new) output.items) }
+    ensures ok { IfOk result (λ output. IsOutputOfCommand command (S.left source.old)
+        (S.left source.new) output.items) }
     ensures accepted { OnOk result (IsStatusOf command (S.left source.old) Status.Ok) }
     ensures refused { IfErr result (λ status. status ≢ Status.ReadFault
         → IsStatusOf command (S.left source.old) status) }

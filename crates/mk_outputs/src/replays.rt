@@ -4,7 +4,7 @@ ghost use Rattle.mk_core.specs.History.{AreEnabled};
 ghost use Rattle.mk_check.specs.Declarations.{config_of};
 ghost use Rattle.mk_check.specs.Output.{output};
 ghost use Rattle.mk_replay.specs.Replays.{history_of};
-ghost use Rattle.mk_theorems.specs.Promises.{KeepsAllPromises};
+ghost use Rattle.mk_laws.specs.Promises.{KeepsAllPromises};
 ghost use Rattle.mk_outputs.specs.Outputs.{IsOutputOnSchedule, status_on, status_of_schedule};
 ghost use Rattle.mk_outputs.specs.Statuses.{IsOfText};
 

@@ -1,7 +1,8 @@
 //! How the program ends.
 ghost use Rattle.std.specs.Prelude.{◌≡◌, IfOk, string_bytes};
 ghost use Rattle.mk_outputs.specs.Statuses as spec;
-ghost use Rattle.mk_outputs.specs.Statuses.{status_number, status_line, text_words, typing_words, which_word, limit_words};
+ghost use Rattle.mk_outputs.specs.Statuses.{status_number, status_line, text_words, typing_words, which_word};
+ghost use Rattle.mk_outputs.specs.Statuses.{limit_words};
 ghost use Rattle.mk_outputs.specs.Statuses.{not_enabled_words};
 
 use mk_check::{TypeKind, TypeStop};
@@ -197,13 +198,13 @@ impl From<TraceStop> for Status {
 }
 
 fn at_line(alloc: Global, line: u64, words: &str) -> Result<String, AllocError>
-    ensures { IfOk result (λ text. string_bytes text ≡ spec.at_line line words.now) }
+    ensures { IfOk result (λ text. string_bytes text ≡ spec.message_at_line line words.now) }
 {
     format!(in alloc; "line {line}: {words}\n")
 }
 
 fn type_line(alloc: Global, line: u64, kind: TypeKind) -> Result<String, AllocError>
-    ensures { IfOk result (λ text. string_bytes text ≡ spec.at_line line (typing_words kind)) }
+    ensures { IfOk result (λ text. string_bytes text ≡ spec.message_at_line line (typing_words kind)) }
 {
     match kind {
         TypeKind::TooLong { count } => {
@@ -220,7 +221,7 @@ fn type_line(alloc: Global, line: u64, kind: TypeKind) -> Result<String, AllocEr
 }
 
 fn limit_line(alloc: Global, line: u64, which: Which, found: u64) -> Result<String, AllocError>
-    ensures { IfOk result (λ text. string_bytes text ≡ spec.at_line line (limit_words which found)) }
+    ensures { IfOk result (λ text. string_bytes text ≡ spec.message_at_line line (limit_words which found)) }
 {
     let which = word_of(which);
     format!(in alloc; "line {line}: limit {which} {found}\n")
@@ -232,7 +233,7 @@ fn not_enabled_line(
     event: u64,
     condition: u64,
 ) -> Result<String, AllocError>
-    ensures { IfOk result (λ text. string_bytes text ≡ spec.at_line line (not_enabled_words event condition)) }
+    ensures { IfOk result (λ text. string_bytes text ≡ spec.message_at_line line (not_enabled_words event condition)) }
 {
     let words = format!(in alloc; "event {event} not enabled, condition {condition}")?;
     at_line(alloc, line, words.as_str())

@@ -62,7 +62,8 @@ same_sets held sets slice after resident page r s number is_set within =
           ∙ ap (λ xs. is_member xs s page) r.is_slice
           ∙ ap (is_member sets s) (sym same)
       | inr differ ↦
-          r.others s number (omega arith) (omega (arith, r.fit.few)) differ ∙ ap (λ xs. is_member xs s number) r.is_slice
+          r.others s number (omega arith) (omega (arith, r.fit.few)) differ
+          ∙ ap (λ xs. is_member xs s number) r.is_slice
     ]
 
 pub still_fits : (held : List Page) (sets slice after vec : List ℕ) (resident page : ℕ)
@@ -74,7 +75,8 @@ still_fits held sets slice after vec resident page r written =
     (subst (λ (xs : List ℕ). OthersStay xs after page) r.is_slice r.others))
 
 pub still_shows : (known : KnownPages) (held pages : List Page) (sets slice after vec freed snapshot : List ℕ)
-    (resident page : ℕ) → ChangesUncleaned held sets slice after resident page → vec ≡ after → known_by held sets ≡ known
+    (resident page : ℕ) → ChangesUncleaned held sets slice after resident page → vec ≡ after → known_by held sets
+    ≡ known
     → Shows known pages freed snapshot → Shows (known_by held vec) pages freed snapshot
 still_shows known held pages sets slice after vec freed snapshot resident page r written view shows =
     let before = subst (λ (k : KnownPages). Shows k pages freed snapshot) (sym view) shows in

@@ -46,7 +46,8 @@ impl PageMap {
     /// A quarantine word was stored, which has these freed cells and this snapshot.
     pub fn quarantine_stored(&mut self, page: u64, freed: u64, snapshot: u64)
         requires { page < length self.old.pages }
-        ensures shows { (pages : List Page) (freed_words snapshots : List ℕ) → Shows self.old pages freed_words snapshots
+        ensures shows { (pages : List Page) (freed_words snapshots : List ℕ)
+            → Shows self.old pages freed_words snapshots
             → Shows self.new pages (slice_set freed_words page freed) (slice_set snapshots page snapshot) }
         ensures uncleaned { (number : ℕ) → is_uncleaned self.new number ≡ is_uncleaned self.old number }
     {

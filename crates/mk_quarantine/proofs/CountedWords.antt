@@ -22,9 +22,9 @@ use Rattle.mk_core.specs.History.{World, first_world, left, left_from, world_beh
 use Rattle.mk_core.specs.Moments.{flight_of}
 use Rattle.mk_core.specs.TurnConditions.{cell_freed}
 use Rattle.mk_core.proofs.ChangedAllocations.{none_freed}
-use Rattle.mk_protocol.proofs.OthersMoves.{WorldBehind}
+use Rattle.mk_laws.proofs.OthersMoves.{WorldBehind}
 use Rattle.mk_objects.proofs.HeldFreed.{held_part, held_sum}
-use Rattle.mk_placement.proofs.FreshWords.{fresh_part, fresh_pushed, none_fresh}
+use Rattle.mk_laws.proofs.FreshWords.{fresh_part, fresh_pushed, none_fresh}
 use Rattle.mk_quarantine.specs.GivenBack.{given_back, given_back_behind, given_back_from, is_given_back}
 use Rattle.mk_quarantine.specs.GivenBack.{words_given_back}
 

@@ -19,13 +19,13 @@ use Rattle.mk_core.specs.Moments.{flight_of}
 use Rattle.mk_core.specs.Order.{comes_next, seat_exists}
 use Rattle.mk_core.specs.Words.{phase_of}
 use Rattle.mk_core.proofs.HistoryParts.{enabled_in_parts}
-use Rattle.mk_protocol.proofs.Known.{known_left}
-use Rattle.mk_protocol.proofs.NextSteps.{at_no_take, at_take}
-use Rattle.mk_protocol.proofs.Orderly.{turn_of}
-use Rattle.mk_protocol.proofs.Views.{HoldsTurn, view_of}
-use Rattle.mk_invariant.proofs.Induction.{before_it}
-use Rattle.mk_placement.proofs.Longer.{taken}
-use Rattle.mk_readings.proofs.CyclePhases.{AsksPhase, moves_phase, phase_behind}
+use Rattle.mk_laws.proofs.Known.{known_left}
+use Rattle.mk_laws.proofs.NextSteps.{at_no_take, at_take}
+use Rattle.mk_laws.proofs.Orderly.{turn_of}
+use Rattle.mk_laws.proofs.Views.{HoldsTurn, view_of}
+use Rattle.mk_laws.proofs.Induction.{before_it}
+use Rattle.mk_laws.proofs.Longer.{taken}
+use Rattle.mk_laws.proofs.CyclePhases.{AsksPhase, moves_phase, phase_behind}
 use Rattle.mk_alloc.specs.TurnCycles.{CallIsExact, EndsExactly, RunsOneCycle, has_step}
 use Rattle.mk_alloc.proofs.ListParts.{Lacks, lacks_at, lacks_second}
 use Rattle.mk_quarantine.specs.Bounds.{FreshIsQuarterOfHeld, HostBeginsLast, fresh_after}

@@ -23,13 +23,13 @@ use Rattle.mk_core.specs.NewPlaces.{is_undecided_free}
 use Rattle.mk_core.specs.Order.{seat_exists}
 use Rattle.mk_core.proofs.HistoryParts.{earlier_part_is_history}
 use Rattle.mk_core.proofs.PlacesNow.{undecided_free}
-use Rattle.mk_protocol.proofs.Actors.{Meets}
-use Rattle.mk_protocol.proofs.Known.{known_left}
-use Rattle.mk_protocol.proofs.Orderly.{turn_of}
-use Rattle.mk_protocol.proofs.Views.{view_of}
-use Rattle.mk_layout.proofs.Holders.{free_has_turn}
-use Rattle.mk_invariant.proofs.Induction.{before_it}
-use Rattle.mk_placement.proofs.Longer.{taken}
+use Rattle.mk_laws.proofs.Actors.{Meets}
+use Rattle.mk_laws.proofs.Known.{known_left}
+use Rattle.mk_laws.proofs.Orderly.{turn_of}
+use Rattle.mk_laws.proofs.Views.{view_of}
+use Rattle.mk_laws.proofs.LayoutHolders.{free_has_turn}
+use Rattle.mk_laws.proofs.Induction.{before_it}
+use Rattle.mk_laws.proofs.Longer.{taken}
 use Rattle.mk_alloc.specs.TurnCycles.{CallIsExact, EndsExactly, FreeIsExact, TurnsOfAreExact}
 use Rattle.mk_alloc.proofs.OwnGives.{GivesNone, gives_append, own_give}
 use Rattle.mk_quarantine.proofs.HeldTurns.{first_giver, lacks_own, next_of, turn_stays_held, IsSameTurn, one_turn}

@@ -17,15 +17,15 @@ use Rattle.mk_core.specs.History.{IsHistory, World, first_world, left, left_from
 use Rattle.mk_core.specs.Moments.{flight_of}
 use Rattle.mk_core.proofs.Histories.{left_more}
 use Rattle.mk_core.proofs.HistoryParts.{left_in_parts}
-use Rattle.mk_invariant.specs.Theorems.{OfHistories}
-use Rattle.mk_invariant.proofs.Induction.{KeptByEvents, before_it, holds_of_histories}
-use Rattle.mk_placement.proofs.Longer.{longer_at}
-use Rattle.mk_readings.proofs.CyclePhases.{phase_asked, release_is}
-use Rattle.mk_readings.proofs.ReleasedCycles.{HasClosed, cycle_so_far}
+use Rattle.mk_laws.specs.Theorems.{OfHistories}
+use Rattle.mk_laws.proofs.Induction.{KeptByEvents, before_it, holds_of_histories}
+use Rattle.mk_laws.proofs.Longer.{longer_at}
+use Rattle.mk_laws.proofs.CyclePhases.{phase_asked, release_is}
+use Rattle.mk_laws.proofs.ReleasedCycles.{HasClosed, cycle_so_far}
 use Rattle.mk_alloc.specs.TurnCycles.{has_step, is_of_cycle}
 use Rattle.mk_alloc.proofs.ListParts.{Lacks, lacks_append, lacks_at, lacks_first, lacks_one, none_at}
 use Rattle.mk_alloc.proofs.OwnGives.{own_give}
-use Rattle.mk_protocol.proofs.Actors.{Meets}
+use Rattle.mk_laws.proofs.Actors.{Meets}
 use Rattle.mk_quarantine.specs.Bounds.{fresh_after}
 use Rattle.mk_quarantine.proofs.HeldTurns.{BeginsInTurn, begun_in_turn}
 use Rattle.mk_quarantine.proofs.CountedWords.{IsQuarter, given_at, none_fresh_begun, none_fresh_stays, quarter_stays}

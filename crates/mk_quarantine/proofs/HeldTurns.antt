@@ -23,21 +23,21 @@ use Rattle.mk_core.proofs.HistoryParts.{earlier_part_is_history, enabled_in_part
 use Rattle.mk_core.proofs.Histories.{left_more}
 use Rattle.mk_core.specs.declared.events.Group.TheVariants as group
 use Rattle.mk_core.specs.Order.{group_of}
-use Rattle.mk_protocol.proofs.Actors.{Meets, Actor, AsHolder, AsMarker, CallTakes, HostTakes, InCallOf}
-use Rattle.mk_protocol.proofs.Known.{Known, known_behind, known_left}
-use Rattle.mk_protocol.proofs.Orderly.{turn_of}
-use Rattle.mk_protocol.proofs.OthersMoves.{WorldBehind}
-use Rattle.mk_protocol.proofs.SameWords.{tally_keeps}
-use Rattle.mk_protocol.proofs.Views.{HoldsTurn, view_of}
-use Rattle.mk_layout.proofs.Before.{reg_leaves}
-use Rattle.mk_layout.proofs.Holders.{giver_has_turn}
-use Rattle.mk_invariant.proofs.Induction.{before_it}
+use Rattle.mk_laws.proofs.Actors.{Meets, Actor, AsHolder, AsMarker, CallTakes, HostTakes, InCallOf}
+use Rattle.mk_laws.proofs.Known.{Known, known_behind, known_left}
+use Rattle.mk_laws.proofs.Orderly.{turn_of}
+use Rattle.mk_laws.proofs.OthersMoves.{WorldBehind}
+use Rattle.mk_laws.proofs.SameWords.{tally_keeps}
+use Rattle.mk_laws.proofs.Views.{HoldsTurn, view_of}
+use Rattle.mk_laws.proofs.LayoutBefore.{reg_leaves}
+use Rattle.mk_laws.proofs.LayoutHolders.{giver_has_turn}
+use Rattle.mk_laws.proofs.Induction.{before_it}
 use Rattle.mk_alloc.specs.TurnCycles.{has_step}
 use Rattle.mk_alloc.proofs.ListParts.{Lacks, InFirst, InSecond, stands, lacks_first}
 use Rattle.mk_alloc.proofs.OwnGives.{GivesNone, own_give}
-use Rattle.mk_placement.proofs.Longer.{taken}
-use Rattle.mk_protocol.proofs.OrderlyLists.{actor_of}
-use Rattle.mk_readings.proofs.CyclePhases.{begin_is}
+use Rattle.mk_laws.proofs.Longer.{taken}
+use Rattle.mk_laws.proofs.OrderlyLists.{actor_of}
+use Rattle.mk_laws.proofs.CyclePhases.{begin_is}
 
 -- The turn word while nobody gives the turn back, and that a turn of a seat is one.
 

@@ -20,12 +20,12 @@ use Rattle.mk_core.specs.TurnConditions.{cell_freed}
 use Rattle.mk_core.specs.Words.{Words, phase_of}
 use Rattle.mk_core.proofs.ChangedAllocations.{changed_at, earlier_at, freed_leaves, granted_at}
 use Rattle.mk_core.proofs.Histories.{left_more}
-use Rattle.mk_protocol.proofs.Actors.{Meets}
-use Rattle.mk_protocol.proofs.OthersMoves.{WorldBehind}
-use Rattle.mk_invariant.specs.Theorems.{OfHistories}
-use Rattle.mk_invariant.proofs.Induction.{KeptByEvents, before_it, holds_of_histories}
-use Rattle.mk_placement.proofs.Longer.{longer_at, longer_next, next_at_end}
-use Rattle.mk_readings.proofs.CyclePhases.{AsksPhase, phase_asked, phase_behind, phase_moves}
+use Rattle.mk_laws.proofs.Actors.{Meets}
+use Rattle.mk_laws.proofs.OthersMoves.{WorldBehind}
+use Rattle.mk_laws.specs.Theorems.{OfHistories}
+use Rattle.mk_laws.proofs.Induction.{KeptByEvents, before_it, holds_of_histories}
+use Rattle.mk_laws.proofs.Longer.{longer_at, longer_next, next_at_end}
+use Rattle.mk_laws.proofs.CyclePhases.{AsksPhase, phase_asked, phase_behind, phase_moves}
 use Rattle.mk_alloc.proofs.ListParts.{Lacks, lacks_append, lacks_one}
 use Rattle.mk_quarantine.specs.KeptAllocations.{IsKeptByLastCycle, QuarantineIsFreshOrKept}
 

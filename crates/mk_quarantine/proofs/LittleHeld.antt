@@ -7,9 +7,9 @@ use Rattle.mk_core.specs.declared.seats.Holding.{Holding}
 use Rattle.mk_core.specs.History.{IsHistory, left}
 use Rattle.mk_core.specs.Moments.{nothing_done}
 use Rattle.mk_core.specs.Words.{phase_of}
-use Rattle.mk_protocol.specs.Protocol.{has_place}
-use Rattle.mk_protocol.proofs.Known.{Known, known_left}
-use Rattle.mk_layout.specs.SettledPages.{is_freed_unmapped}
+use Rattle.mk_laws.specs.Protocol.{has_place}
+use Rattle.mk_laws.proofs.Known.{Known, known_left}
+use Rattle.mk_laws.specs.SettledPages.{is_freed_unmapped}
 use Rattle.mk_objects.proofs.HeldMore.{held_is_little}
 use Rattle.mk_quarantine.specs.Bounds.{held_after}
 

@@ -30,22 +30,22 @@ use Rattle.mk_core.specs.Order.{comes_next}
 use Rattle.mk_core.specs.TurnConditions.{cell_freed}
 use Rattle.mk_core.proofs.Histories.{left_more}
 use Rattle.mk_core.proofs.PlacesNow.{freed_cell}
-use Rattle.mk_protocol.proofs.Actors.{Meets}
-use Rattle.mk_protocol.proofs.Known.{Known, known_left}
-use Rattle.mk_protocol.proofs.Moves.{Move, Enters, GoesOn, Gives, Leaves, Stays, Takes, Works}
-use Rattle.mk_protocol.proofs.NextSteps.{at_no_take}
-use Rattle.mk_protocol.proofs.Orderly.{same_holder}
-use Rattle.mk_protocol.proofs.OrderlyLists.{at_first, event_moves}
-use Rattle.mk_protocol.proofs.OthersMoves.{WorldBehind}
-use Rattle.mk_protocol.proofs.SameWords.{tally_keeps}
-use Rattle.mk_protocol.proofs.Services.{Service, Fills, Frees, Goes, Grants, Loads, Places}
-use Rattle.mk_protocol.proofs.Standings.{InCall, UnderTurn, standing, standing_at}
-use Rattle.mk_protocol.proofs.Views.{View, flight_in, view_of}
-use Rattle.mk_layout.proofs.Before.{reg_leaves}
-use Rattle.mk_layout.proofs.Holders.{free_has_turn}
-use Rattle.mk_invariant.specs.Theorems.{OfHistories}
-use Rattle.mk_invariant.proofs.Induction.{KeptByEvents, before_it, holds_of_histories}
-use Rattle.mk_placement.proofs.Longer.{gives_turn, left_in_turn, longer_turn, taken}
+use Rattle.mk_laws.proofs.Actors.{Meets}
+use Rattle.mk_laws.proofs.Known.{Known, known_left}
+use Rattle.mk_laws.proofs.ProtocolMoves.{Move, Enters, GoesOn, Gives, Leaves, Stays, Takes, Works}
+use Rattle.mk_laws.proofs.NextSteps.{at_no_take}
+use Rattle.mk_laws.proofs.Orderly.{same_holder}
+use Rattle.mk_laws.proofs.OrderlyLists.{at_first, event_moves}
+use Rattle.mk_laws.proofs.OthersMoves.{WorldBehind}
+use Rattle.mk_laws.proofs.SameWords.{tally_keeps}
+use Rattle.mk_laws.proofs.Services.{Service, Fills, Frees, Goes, Grants, Loads, Places}
+use Rattle.mk_laws.proofs.Standings.{InCall, UnderTurn, standing, standing_at}
+use Rattle.mk_laws.proofs.Views.{View, flight_in, view_of}
+use Rattle.mk_laws.proofs.LayoutBefore.{reg_leaves}
+use Rattle.mk_laws.proofs.LayoutHolders.{free_has_turn}
+use Rattle.mk_laws.specs.Theorems.{OfHistories}
+use Rattle.mk_laws.proofs.Induction.{KeptByEvents, before_it, holds_of_histories}
+use Rattle.mk_laws.proofs.Longer.{gives_turn, left_in_turn, longer_turn, taken}
 
 -- before the event that decides it
 
@@ -121,7 +121,7 @@ came c v k n (Works f i t s) waits = by f i s waits
         Stayed (own_call v.flights k _ (λ x. absurd (give_not_open (flight_in v k).op x)) waits)
 came c v k n _ waits = Stayed refl
 
--- A free turn is taken by a `take` alone (as in mk_placement's Undecided).
+-- A free turn is taken by a `take` alone (as in `Undecided` of mk_laws).
 
 record IsTake (x : Step) : Type 0 where
   op : Option Op

@@ -15,9 +15,9 @@ use Rattle.mk_core.specs.Moments.{Moment, flight_of}
 use Rattle.mk_core.specs.declared.seats.Flight.{Flight}
 use Rattle.mk_core.proofs.Histories.{left_more}
 use Rattle.mk_core.proofs.HistoryParts.{left_in_parts}
-use Rattle.mk_invariant.specs.Theorems.{OfHistories}
-use Rattle.mk_invariant.proofs.Induction.{KeptByEvents, holds_of_histories}
-use Rattle.mk_placement.proofs.Longer.{taken}
+use Rattle.mk_laws.specs.Theorems.{OfHistories}
+use Rattle.mk_laws.proofs.Induction.{KeptByEvents, holds_of_histories}
+use Rattle.mk_laws.proofs.Longer.{taken}
 use Rattle.mk_alloc.specs.TurnCycles.{FreesFirst, IsDueIn, has_step, is_of_cycle, within_turn}
 use Rattle.mk_alloc.proofs.ListParts.{InFirst, InSecond, Lacks, lacks_append, lacks_at, lacks_first, lacks_one, stands}
 use Rattle.mk_quarantine.specs.Bounds.{FreshIsQuarterWithGivenBack, QuarantineIsQuarterAndKept}

@@ -17,11 +17,11 @@ use Rattle.mk_core.specs.Moments.{flight_of}
 use Rattle.mk_core.specs.TurnConditions.{cell_freed}
 use Rattle.mk_core.proofs.ChangedAllocations.{changed_at, earlier_at, freed_leaves, freed_released}
 use Rattle.mk_core.proofs.HistoryParts.{left_in_parts}
-use Rattle.mk_protocol.proofs.OthersMoves.{WorldBehind}
-use Rattle.mk_invariant.specs.Theorems.{OfHistories}
-use Rattle.mk_precision.specs.Precision.{through_release}
-use Rattle.mk_precision.proofs.Stopped.{keeps_only_the_touched}
-use Rattle.mk_precision.proofs.Stretches.{at_release}
+use Rattle.mk_laws.proofs.OthersMoves.{WorldBehind}
+use Rattle.mk_laws.specs.Theorems.{OfHistories}
+use Rattle.mk_laws.specs.Precision.{through_release}
+use Rattle.mk_laws.proofs.PrecisionStopped.{keeps_only_the_touched}
+use Rattle.mk_laws.proofs.Stretches.{at_release}
 use Rattle.mk_quarantine.specs.KeptAllocations.{KeptAreTouched}
 
 -- The allocation was granted.

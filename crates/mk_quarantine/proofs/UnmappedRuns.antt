@@ -6,8 +6,8 @@ use Rattle.mk_core.specs.declared.events.Event.{Event}
 use Rattle.mk_core.specs.declared.seats.Holding.{Holding}
 use Rattle.mk_core.specs.declared.seats.RunPages.{RunPages}
 use Rattle.mk_core.specs.History.{IsHistory, left}
-use Rattle.mk_protocol.proofs.Known.{known_left}
-use Rattle.mk_readings.proofs.UnmappedRuns.{unmapped_runs_take_no_memory}
+use Rattle.mk_laws.proofs.Known.{known_left}
+use Rattle.mk_laws.proofs.UnmappedRuns.{unmapped_runs_take_no_memory}
 use Rattle.mk_quarantine.specs.Bounds.{FreedRunsTakeNoMemory}
 
 none_is_some : (run : RunPages) → None ≡ Some run → ⊥

@@ -8,8 +8,8 @@ use Rattle.mk_core.specs.Allocations.{fresh_words_of, held_by_allocations, is_ma
 use Rattle.mk_core.specs.Cycles.{At, is_begin, is_give, is_release}
 use Rattle.mk_core.specs.Growing.{AreOfOthers}
 use Rattle.mk_core.specs.History.{IsHistory, left}
-use Rattle.mk_readings.specs.UnmappedRuns.{is_resident_in}
-use Rattle.mk_theorems.specs.Promises.{AtEachMoment}
+use Rattle.mk_laws.specs.UnmappedRuns.{is_resident_in}
+use Rattle.mk_laws.specs.Promises.{AtEachMoment}
 use Rattle.mk_alloc.specs.TurnCycles.{TurnsOfAreExact, has_step}
 use Rattle.mk_quarantine.specs.GivenBack.{given_back}
 use Rattle.mk_quarantine.specs.KeptAllocations.{KeptAreTouched, QuarantineIsFreshOrKept, kept_mapped}

@@ -43,12 +43,12 @@ use Rattle.mk_check.specs.Output.{ends_call, ends_call_of, ended_calls, answers_
 use Rattle.mk_check.proofs.AdmittedScripts.{first_are_noted, scripts_are_admitted}
 use Rattle.mk_check.proofs.ConfigLemmas.{config_within}
 use Rattle.mk_check.proofs.GivenAnswers.{as_list, counted, serves}
-use Rattle.mk_theorems.specs.Promises.{KeepsAllPromises}
-use Rattle.mk_theorems.proofs.Promises.{histories_keep_all_promises}
+use Rattle.mk_laws.specs.Promises.{KeepsAllPromises}
+use Rattle.mk_laws.proofs.Promises.{histories_keep_all_promises}
 use Rattle.mk_replay.specs.declared.schedule.Entry.{Entry}
 use Rattle.mk_replay.specs.declared.schedule.Form.{Form}
 use Rattle.mk_replay.specs.declared.schedule.Form.TheVariants as form
-use Rattle.mk_replay.specs.Replays.{op_for, step_of, event_of, history_from, history_of}
+use Rattle.mk_replay.specs.Replays.{next_op_for, step_of, event_of_entry, history_from, history_of}
 use Rattle.mk_replay.proofs.AskedCalls.{Asks, BeginsAsAsked, Waits, same_asks, own_step, others_step, waits}
 
 -- What one event more makes of a caller's answers, and of the count of its calls that ended.
@@ -241,17 +241,17 @@ module _ (program : List Item) (es : List Event) where
       let e : Event = record { seat = Host; step = s } in
       record { callers = callers_more e refl h.callers; each = λ k is. silent_more e k refl refl refl (h.each k is) }
 
-  entry_more : (x : Entry) → AreEnabled c (es ++ event_of program es x ∷ [])
-      → AreAsked program es → AreAsked program (es ++ event_of program es x ∷ [])
+  entry_more : (x : Entry) → AreEnabled c (es ++ event_of_entry program es x ∷ [])
+      → AreAsked program es → AreAsked program (es ++ event_of_entry program es x ∷ [])
   entry_more x enabled h =
-      let s = step_of x.form (op_for program es x.seat) in
+      let s = step_of x.form (next_op_for program es x.seat) in
       let e : Event = record { seat = x.seat; step = s } in
       let meets = enabled_meets c m e (last_enabled c (first_world c) es e enabled) in
       one_more x.seat s enabled (by_seat x.seat meets.order) h
     where
-      by_seat : (seat : Seat) → is_in_order c m seat (step_of x.form (op_for program es seat)) ≡ true
+      by_seat : (seat : Seat) → is_in_order c m seat (step_of x.form (next_op_for program es seat)) ≡ true
           → (k : ℕ) → seat ≡ Caller k
-          → BeginsAsAsked program k (answers_given c es k) (step_of x.form (op_for program es seat))
+          → BeginsAsAsked program k (answers_given c es k) (step_of x.form (next_op_for program es seat))
       by_seat (Caller j) order k is =
           let same : j ≡ k = cc in
           subst (λ (i : ℕ). BeginsAsAsked program i (answers_given c es i)
@@ -271,7 +271,7 @@ goes_on : (program : List Item) (es : List Event) (xs : List Entry) → GoesOn p
 unfolding history_from
 goes_on program es [] = record { more = []; are = sym (append-nil es) }
 goes_on program es (x ∷ xs) =
-    let e = event_of program es x in
+    let e = event_of_entry program es x in
     let later = goes_on program (es ++ e ∷ []) xs in
     record { more = e ∷ later.more; are = later.are ∙ append_assoc es (e ∷ []) later.more }
 
@@ -282,7 +282,7 @@ unfolding history_from
 asked_along program es [] enabled h = h
 asked_along program es (x ∷ xs) enabled h =
     let c = config_of program 8 in
-    let next = es ++ event_of program es x ∷ [] in
+    let next = es ++ event_of_entry program es x ∷ [] in
     let later = goes_on program next xs in
     let front = (enabled_parts c (first_world c) next later.more
     (subst (λ (all : List Event). AreEnabled c all) later.are enabled)).0 in

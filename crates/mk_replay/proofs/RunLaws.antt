@@ -34,9 +34,9 @@ use Rattle.mk_check.specs.Declarations.{config_of}
 use Rattle.mk_check.specs.Output.{ends_call}
 use Rattle.mk_core.specs.Growing.{is_same_seat}
 use Rattle.std.specs.Option.{option_or}
-use Rattle.mk_replay.specs.Replays.{event_of, IsTextOf, AreFirstTexts}
-use Rattle.mk_replay.specs.Players.{Served, served_by, served_to, IsFed, IsPlayerOf, ArePlayersOf, TakesAnswer}
-use Rattle.mk_replay.specs.Players.{TakesStep, TakeEvent, IsRunOf, TakesEntry}
+use Rattle.mk_replay.specs.Replays.{event_of_entry, IsReplayedText, AreFirstTexts}
+use Rattle.mk_replay.specs.Players.{Served, served_by, served_to, IsFed, IsPlayerOf, ArePlayersOf, PlayerTakesAnswer}
+use Rattle.mk_replay.specs.Players.{TakesStep, TakeEvent, IsRunAfter, TakesEntry}
 use Rattle.mk_replay.proofs.ServedMore.{served_more, served_first}
 
 -- A feed that waits takes the answer.
@@ -118,7 +118,7 @@ one_takes players j old new e a lt at is takes = λ program k d x less h.
 
 -- At a call's last step the answer that was kept, or is decided there, is given.
 pub last_takes : (old new : Player) (decided : Option Answer) (a : Answer) → option_or decided old.kept ≡ Some a
-    → TakesAnswer a (record old { kept = None }) new → TakesStep true decided old new
+    → PlayerTakesAnswer a (record old { kept = None }) new → TakesStep true decided old new
 last_takes old new decided a is takes = λ program k x h.
     let given : option_or decided x.kept ≡ Some a = ap (λ (o : Option Answer). option_or decided o) (sym h.kept) ∙ is in
     rw given (takes program k (record { answers = x.answers; kept = None })
@@ -141,12 +141,13 @@ players_push program players p h new = λ k d less.
 
 -- One text more.
 pub texts_push : (program : List Item) (es : List Event) (texts : List Text) (t : Text) → AreFirstTexts program es texts
-    → IsTextOf program es (length texts) t.bytes.items t.ops t.refused → AreFirstTexts program es (texts ++ t ∷ [])
+    → IsReplayedText program es (length texts) t.bytes.items t.ops t.refused → AreFirstTexts program es (texts
+    ++ t ∷ [])
 texts_push program es texts t h new = λ k d less.
     let total = length-append texts (t ∷ []) in
     elim (cases_eq k (length texts)) [
       | inl e ↦ rw (get_or_push texts t d k (sym e))
-          (subst (λ (i : ℕ). IsTextOf program es i t.bytes.items t.ops t.refused) (sym e) new)
+          (subst (λ (i : ℕ). IsReplayedText program es i t.bytes.items t.ops t.refused) (sym e) new)
       | inr ne ↦ (let lt : k < length texts = omega arith in rw (get_or_append_left texts (t ∷ []) d k lt) (h k d lt))
     ]
 
@@ -165,7 +166,7 @@ players_more program es e a players new count enabled is takes h = λ k d less.
 -- A run goes on after an event of the core.
 pub run_goes : (program : List Item) (es : List Event) (x : Entry) (old new : Run) (core : CoreState) (e : Event)
     (a : Option Answer)
-    → IsRunOf program es old → (IsTrue (seat_exists (config_of program 8) x.seat) → e ≡ event_of program es x)
+    → IsRunAfter program es old → (IsTrue (seat_exists (config_of program 8) x.seat) → e ≡ event_of_entry program es x)
     → e.seat ≡ x.seat
     → core.config ≡ old.core.config → CoreStandsFor core (es ++ e ∷ [])
     → calls old.core.config (es ++ e ∷ [])
@@ -178,7 +179,7 @@ run_goes program es x old new core e a h event seat same stands answers keeps co
     let config : core.config ≡ c = same ∙ h.config in
     let all : AreEnabled c (es ++ e ∷ []) = subst (λ (k : Config). AreEnabled k (es ++ e ∷ [])) config stands.enabled in
     let enabled : IsEnabled c (left c es).now e = last_enabled c (first_world c) es e all in
-    let is : e ≡ event_of program es x = event (ap (λ (s : Seat). seat_exists c s) (sym seat)
+    let is : e ≡ event_of_entry program es x = event (ap (λ (s : Seat). seat_exists c s) (sym seat)
     ∙ (enabled_meets c (left c es).now e enabled).seat) in
     let decided : a ≡ answer_decided c (left c es).now e =
     answer_is c es e (caller_number e.seat) (flight_of (left c es).now e.seat).op a
@@ -186,7 +187,7 @@ run_goes program es x old new core e a h event seat same stands answers keeps co
     ≡ calls k es ++ entry_of (caller_number e.seat) (flight_of (left k es).now e.seat).op a) h.config answers) in
     record {
       enabled = subst (λ (y : Event). failing c (left c es).now y ≡ 0) is enabled;
-      run = subst (λ (y : Event). IsRunOf program (es ++ y ∷ []) new) is
+      run = subst (λ (y : Event). IsRunAfter program (es ++ y ∷ []) new) is
           (record {
             config = ap (λ (k : CoreState). k.config) keeps ∙ config;
             stands = subst (λ (k : CoreState). CoreStandsFor k (es ++ e ∷ [])) (sym keeps) stands;

@@ -14,8 +14,8 @@ use Rattle.mk_replay.specs.declared.replaying.Run.{Run}
 use Rattle.mk_replay.specs.declared.replaying.ReplayStop.{ReplayStop}
 use Rattle.mk_replay.specs.declared.replaying.ReplayStop.TheVariants.{NotEnabled}
 use Rattle.mk_replay.specs.declared.schedule.Entry.{Entry}
-use Rattle.mk_replay.specs.Replays.{event_of, failing_entry, history_from, history_of, refusal_from, refusal_of}
-use Rattle.mk_replay.specs.Players.{EachHasRoom, IsRunOf, TakesEntry, IsNotEnabled, IsUnderWay}
+use Rattle.mk_replay.specs.Replays.{event_of_entry, failing_entry, history_from, history_of, refusal_from, refusal_of}
+use Rattle.mk_replay.specs.Players.{EachHasRoom, IsRunAfter, TakesEntry, IsNotEnabled, IsUnderWay}
 use Rattle.mk_check.specs.Feed.{is_refusal}
 use Rattle.mk_check.specs.Declarations.{config_of}
 use Rattle.mk_check.specs.Output.{answers_given}
@@ -35,7 +35,7 @@ room_of program schedule n run h few = λ k d less.
     record { ops = omega arith; refused = omega arith }
 
 refusal_more : (program : List Item) (es : List Event) (x : Entry) (xs : List Entry) → failing_entry program es x ≡ 0
-    → refusal_from program es (x ∷ xs) ≡ refusal_from program (es ++ event_of program es x ∷ []) xs
+    → refusal_from program es (x ∷ xs) ≡ refusal_from program (es ++ event_of_entry program es x ∷ []) xs
 unfolding refusal_from
 refusal_more program es x xs h = rw h refl
 
@@ -46,7 +46,7 @@ unfolding refusal_from
 refusal_here program es x xs h = rw h refl
 
 history_more : (program : List Item) (es : List Event) (x : Entry) (xs : List Entry)
-    → history_from program es (x ∷ xs) ≡ history_from program (es ++ event_of program es x ∷ []) xs
+    → history_from program es (x ∷ xs) ≡ history_from program (es ++ event_of_entry program es x ∷ []) xs
 unfolding history_from
 history_more program es x xs = refl
 
@@ -58,7 +58,7 @@ history_none : (program : List Item) (es : List Event) → history_from program 
 unfolding history_from
 history_none program es = refl
 
-pub first_under_way : (program : List Item) (schedule : List Entry) (run : Run) → IsRunOf program [] run
+pub first_under_way : (program : List Item) (schedule : List Entry) (run : Run) → IsRunAfter program [] run
     → IsUnderWay program schedule 0 run
 first_under_way program schedule run h =
     record { events = []; is_run = h; so_many = refl; refusal = refl; history = refl }
@@ -77,9 +77,10 @@ next_under_way program schedule entries n old new d same lt h t =
     let x = get_or entries n d in
     let at = item_at schedule entries n d same lt in
     record {
-      events = h.events ++ event_of program h.events x ∷ [];
+      events = h.events ++ event_of_entry program h.events x ∷ [];
       is_run = t.run;
-      so_many = (let e = length-append h.events (event_of program h.events x ∷ []) in let s = h.so_many in omega arith);
+      so_many = (let e = length-append h.events (event_of_entry program h.events x ∷ []) in let s =
+          h.so_many in omega arith);
       refusal = sym (refusal_more program h.events x (drop (n + 1) schedule) t.enabled)
           ∙ (ap (refusal_from program h.events) (sym at) ∙ h.refusal);
       history = sym (history_more program h.events x (drop (n + 1) schedule))
@@ -99,7 +100,7 @@ refused_here program schedule entries n run d stop same lt h t =
     ∙ (refusal_here program h.events x (drop (n + 1) schedule) no ∙ ap (λ (s : ReplayStop). Some s) (sym t.says)))
 
 pub record IsOver (program : List Item) (schedule : List Entry) (run : Run) : Type 0 where
-  pub is_run : IsRunOf program (history_of program schedule) run
+  pub is_run : IsRunAfter program (history_of program schedule) run
   pub refusal : refusal_of program schedule ≡ None
   pub enabled : AreEnabled (config_of program 8) (history_of program schedule)
 
@@ -109,7 +110,7 @@ over program schedule entries n run same le h =
     let none : drop n schedule ≡ [] = drop_of_length-le schedule (subst (λ (xs : List Entry). length xs ≤ n) same le) in
     let all : h.events ≡ history_of program schedule = sym (history_none program h.events)
     ∙ (ap (history_from program h.events) (sym none) ∙ h.history) in
-    let is_run = subst (λ (es : List Event). IsRunOf program es run) all h.is_run in
+    let is_run = subst (λ (es : List Event). IsRunAfter program es run) all h.is_run in
     record {
       is_run = is_run;
       refusal = sym h.refusal ∙ (ap (refusal_from program h.events) none ∙ refusal_none program h.events);

@@ -89,9 +89,9 @@ words_of_number =
     ∷ (codes "black", (λ n. word.Black n)) ∷ (codes "dirty", (λ n. word.Dirty n))
     ∷ (codes "heap", (λ n. word.Heap n)) ∷ []
 
-abbrev pub with_number : {A : Type 0} → Option (ℕ → A) → List ℕ → Result A TextKind
-with_number None w = Err kind.Word
-with_number (Some f) w = on_ok f (number w)
+abbrev pub form_with_number : {A : Type 0} → Option (ℕ → A) → List ℕ → Result A TextKind
+form_with_number None w = Err kind.Word
+form_with_number (Some f) w = on_ok f (number w)
 
 abbrev pub with_numbers : {A : Type 0} → Option (ℕ → ℕ → A) → List ℕ → List ℕ → Result A TextKind
 with_numbers None v w = Err kind.Word
@@ -100,7 +100,7 @@ with_numbers (Some f) v w = both f (number v) (number w)
 -- a word of the table, by its words
 abbrev pub table_word : List (List ℕ) → Result Word TextKind
 table_word (a ∷ []) = ok_or (value_among plain_words a) kind.Word
-table_word (a ∷ n ∷ []) = with_number (value_among words_of_number a) n
+table_word (a ∷ n ∷ []) = form_with_number (value_among words_of_number a) n
 table_word (a ∷ c ∷ r ∷ []) =
     with_numbers (if bytes_eq a (codes "reg") then Some (λ caller register. word.Reg caller register) else None) c r
 table_word _ = Err kind.Word

@@ -22,7 +22,7 @@ use Rattle.mk_replay.specs.declared.replaying.Run.{Run}
 use Rattle.mk_replay.specs.declared.replaying.ReplayStop.{ReplayStop}
 use Rattle.mk_replay.specs.declared.replaying.ReplayStop.TheVariants.{NotEnabled}
 use Rattle.mk_replay.specs.declared.schedule.Entry.{Entry}
-use Rattle.mk_replay.specs.Replays.{event_of, failing_entry, refusal_from, refusal_of, history_from}
+use Rattle.mk_replay.specs.Replays.{event_of_entry, failing_entry, refusal_from, refusal_of, history_from}
 use Rattle.mk_replay.specs.Replays.{history_of}
 
 -- The answers of a caller's calls that ended, and the one that was decided in the call in flight.
@@ -62,8 +62,8 @@ pub record IsPlayerOf (program : List Item) (k : ℕ) (x : Served) (p : Player) 
   pub refused : p.refused ≡ count_by is_refusal x.answers
 
 -- Whatever the first stands for, the second stands for that with the answer after it.
-abbrev pub TakesAnswer : Answer → Player → Player → Type 0
-TakesAnswer a old new = (program : List Item) (k : ℕ) (x : Served)
+abbrev pub PlayerTakesAnswer : Answer → Player → Player → Type 0
+PlayerTakesAnswer a old new = (program : List Item) (k : ℕ) (x : Served)
     → IsPlayerOf program k x old → IsPlayerOf program k (record x { answers = x.answers ++ a ∷ [] }) new
 
 -- Whatever the first was served, the second was served that and the step after it.
@@ -72,12 +72,12 @@ TakesStep last decided old new = (program : List Item) (k : ℕ) (x : Served)
     → IsPlayerOf program k x old → IsPlayerOf program k (served_behind last decided x) new
 
 -- The counts of a player's answers may grow.
-pub record HasRoom (p : Player) : Type 0 where
+pub record PlayerHasRoom (p : Player) : Type 0 where
   pub ops : p.ops < 18446744073709551615
   pub refused : p.refused < 18446744073709551615
 
 abbrev pub EachHasRoom : List Player → Type 0
-EachHasRoom players = (k : ℕ) (d : Player) → k < length players → HasRoom (slice_index_or players k d)
+EachHasRoom players = (k : ℕ) (d : Player) → k < length players → PlayerHasRoom (slice_index_or players k d)
 
 -- the players after an event that decides this answer, if any
 abbrev pub TakeEvent : Event → Option Answer → List Player → List Player → Type 0
@@ -90,7 +90,7 @@ ArePlayersOf program es players = (k : ℕ) (d : Player) → k < length players
     → IsPlayerOf program k (served_to (config_of program 8) es k) (slice_index_or players k d)
 
 -- a run after events
-pub record IsRunOf (program : List Item) (es : List Event) (run : Run) : Type 0 where
+pub record IsRunAfter (program : List Item) (es : List Event) (run : Run) : Type 0 where
   pub config : run.core.config ≡ config_of program 8
   pub stands : CoreStandsFor run.core es
   pub count : length run.players.items ≡ length (script_names program)
@@ -99,7 +99,7 @@ pub record IsRunOf (program : List Item) (es : List Event) (run : Run) : Type 0 
 -- The entry's event is enabled, and the run goes on after it.
 pub record TakesEntry (program : List Item) (es : List Event) (x : Entry) (new : Run) : Type 0 where
   pub enabled : failing_entry program es x ≡ 0
-  pub run : IsRunOf program (es ++ event_of program es x ∷ []) new
+  pub run : IsRunAfter program (es ++ event_of_entry program es x ∷ []) new
 
 -- The entry's event isn't enabled, and the refusal says so.
 pub record IsNotEnabled (program : List Item) (es : List Event) (x : Entry) (stop : ReplayStop) : Type 0 where
@@ -109,7 +109,7 @@ pub record IsNotEnabled (program : List Item) (es : List Event) (x : Entry) (sto
 -- the run after the first entries of a schedule
 pub record IsUnderWay (program : List Item) (schedule : List Entry) (count : ℕ) (run : Run) : Type 0 where
   pub events : List Event
-  pub is_run : IsRunOf program events run
+  pub is_run : IsRunAfter program events run
   pub so_many : length events ≡ count
   pub refusal : refusal_from program events (drop count schedule) ≡ refusal_of program schedule
   pub history : history_from program events (drop count schedule) ≡ history_of program schedule

@@ -26,9 +26,9 @@ use Rattle.mk_replay.specs.declared.replaying.ReplayStop.{ReplayStop}
 use Rattle.mk_replay.specs.declared.replaying.ReplayStop.TheVariants.{NotEnabled}
 
 -- A caller's operation is its script's next one, fed with the answers so far. Other seats have none.
-abbrev pub op_for : List Item → List Event → Seat → Option Op
-op_for program es (seat.Caller k) = next_op program k (answers_given (config_of program 8) es k)
-op_for program es _ = None
+abbrev pub next_op_for : List Item → List Event → Seat → Option Op
+next_op_for program es (seat.Caller k) = next_op program k (answers_given (config_of program 8) es k)
+next_op_for program es _ = None
 
 -- The step of a form. Where there is no operation, `enter` carries a New, which no `enter` may carry.
 abbrev pub step_of : Form → Option Op → Step
@@ -75,34 +75,36 @@ step_of form.Mblack o = step.Mblack
 step_of form.Over o = step.Over
 
 -- an entry's event after others
-abbrev pub event_of : List Item → List Event → Entry → Event
-event_of program es x = record { seat = x.seat; step = step_of x.form (op_for program es x.seat) }
+abbrev pub event_of_entry : List Item → List Event → Entry → Event
+event_of_entry program es x = record { seat = x.seat; step = step_of x.form (next_op_for program es x.seat) }
 
 -- the events of a schedule, with the operations of the scripts, after others
 unfoldable pub history_from : List Item → List Event → List Entry → List Event
 history_from program es [] = es
-history_from program es (x ∷ xs) = history_from program (es ++ event_of program es x ∷ []) xs
+history_from program es (x ∷ xs) = history_from program (es ++ event_of_entry program es x ∷ []) xs
 
 abbrev pub history_of : List Item → List Entry → List Event
 history_of program schedule = history_from program [] schedule
 
 -- the first condition of an entry's event that fails after others, or 0
 abbrev pub failing_entry : List Item → List Event → Entry → ℕ
-failing_entry program es x = failing (config_of program 8) (left (config_of program 8) es).now (event_of program es x)
+failing_entry program es x =
+    failing (config_of program 8) (left (config_of program 8) es).now (event_of_entry program es x)
 
 -- The refusal that names the first event that isn't enabled.
 unfoldable pub refusal_from : List Item → List Event → List Entry → Option ReplayStop
 refusal_from program es [] = None
 refusal_from program es (x ∷ xs) =
     if failing_entry program es x == 0
-    then refusal_from program (es ++ event_of program es x ∷ []) xs
+    then refusal_from program (es ++ event_of_entry program es x ∷ []) xs
     else Some (NotEnabled x.line x.place (failing_entry program es x))
 
 abbrev pub refusal_of : List Item → List Entry → Option ReplayStop
 refusal_of program schedule = refusal_from program [] schedule
 
 -- The text of script k, fed with the answers of its calls that ended, and the counts of these and of the refused ones.
-pub record IsTextOf (program : List Item) (es : List Event) (k : ℕ) (bytes : List ℕ) (ops refused : ℕ) : Type 0 where
+pub record IsReplayedText (program : List Item) (es : List Event) (k : ℕ) (bytes : List ℕ)
+    (ops refused : ℕ) : Type 0 where
   pub text : bytes ≡ text_behind program (config_of program 8) es k
   pub all : ops ≡ length (answers_given (config_of program 8) es k)
   pub refusals : refused ≡ count_by is_refusal (answers_given (config_of program 8) es k)
@@ -110,7 +112,7 @@ pub record IsTextOf (program : List Item) (es : List Event) (k : ℕ) (bytes : L
 -- the texts of the first scripts, in order
 abbrev pub AreFirstTexts : List Item → List Event → List Text → Type 0
 AreFirstTexts program es texts = (k : ℕ) (d : Text) → k < length texts
-    → IsTextOf program es k (slice_index_or texts k d).bytes.items (slice_index_or texts k d).ops
+    → IsReplayedText program es k (slice_index_or texts k d).bytes.items (slice_index_or texts k d).ops
     (slice_index_or texts k d).refused
 
 -- A text for each script, in order.

@@ -9,7 +9,7 @@ use Rattle.mk_script.specs.declared.faults.TextKind.{TextKind}
 use Rattle.mk_script.specs.declared.faults.TextKind.TheVariants as kind
 use Rattle.mk_script.specs.declared.faults.TextStop.{TextStop}
 use Rattle.mk_script.specs.declared.faults.TextStop.TheVariants as stop
-use Rattle.mk_script.specs.Words.{lines_of, words_of}
+use Rattle.mk_script.specs.Words.{lines_of, words_of_line}
 use Rattle.mk_script.specs.Grammar.{fault_at, longest_text, too_long, items_of_lines}
 use Rattle.mk_core.specs.declared.events.Seat.{Seat}
 use Rattle.mk_replay.specs.declared.schedule.Form.{Form}
@@ -45,7 +45,7 @@ entries_of_pieces line ([] ∷ pieces) = Err kind.Word
 entries_of_pieces line ((seat ∷ words) ∷ pieces) = both (entries_from line 1) (seat_of seat) (forms_of (words ∷ pieces))
 
 abbrev pub entries_of_line : ℕ → List ℕ → Result (List Entry) TextKind
-entries_of_line line text = entries_of_pieces line (map words_of (pieces_of text))
+entries_of_line line text = entries_of_pieces line (map words_of_line (pieces_of text))
 
 -- goes on after a line's events, or ends with its fault
 abbrev pub go_on : ℕ → Result (List Entry) TextKind → Result (List Entry) TextStop → Result (List Entry) TextStop
@@ -64,7 +64,7 @@ is_only_word (word ∷ []) = bytes_eq word (codes "schedule")
 is_only_word words = false
 
 abbrev pub is_schedule_line : List ℕ → Bool
-is_schedule_line line = is_only_word (words_of line)
+is_schedule_line line = is_only_word (words_of_line line)
 
 -- the lines before the first of these, which are the script part, and those after it
 unfoldable pub script_lines : List (List ℕ) → List (List ℕ)

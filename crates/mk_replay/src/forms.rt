@@ -284,7 +284,7 @@ fn register_word(name: &[u8], caller: &[u8], register: &[u8]) -> Result<Word, Te
 
 /// A word of the table with one number after its name.
 fn word_of_number(name: &[u8], operand: &[u8]) -> Result<Word, TextKind>
-    ensures { result ≡ spec.with_number (spec.value_among spec.words_of_number name.now) operand.now }
+    ensures { result ≡ spec.form_with_number (spec.value_among spec.words_of_number name.now) operand.now }
 {
     let word = listed(&WORDS_OF_NUMBER, name)?;
     Ok(word.of(number(operand)?))

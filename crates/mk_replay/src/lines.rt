@@ -1,6 +1,6 @@
 //! The events of a line.
 ghost use Rattle.std.specs.Prelude.{◌≡◌, ◌∷◌, [], ◌++◌, map, IfOk, OnOk, MatchOption, MatchResult, Ok, Err};
-ghost use Rattle.mk_script.specs.Words.{texts_of, words_of};
+ghost use Rattle.mk_script.specs.Words.{texts_of, words_of_line};
 ghost use Rattle.mk_replay.specs.Forms as spec;
 ghost use Rattle.mk_replay.specs.Schedules.{pieces_of, forms_of, entries_from, entries_of_pieces, entries_of_line};
 ghost use Rattle.mk_replay.specs.Entries.{AddsEntries, IsStopOf, IsEndOfPiece, forms_so_far, with_form};
@@ -75,7 +75,7 @@ fn read_pieces(
     pieces: &[&[u8]],
     entries: &mut Vec<Entry>,
 ) -> Result<(), LineStop>
-    ensures { let expected = entries_of_pieces line (map words_of (texts_of pieces.now)) in
+    ensures { let expected = entries_of_pieces line (map words_of_line (texts_of pieces.now)) in
         MatchResult result (λ _. AddsEntries expected entries.old.items entries.new.items)
         (IsStopOf expected) }
 {
@@ -94,7 +94,7 @@ fn read_words(
     others: &[&[u8]],
     entries: &mut Vec<Entry>,
 ) -> Result<(), LineStop>
-    ensures { let expected = entries_of_pieces line (texts_of words.now ∷ map words_of (texts_of others.now)) in
+    ensures { let expected = entries_of_pieces line (texts_of words.now ∷ map words_of_line (texts_of others.now)) in
         MatchResult result (λ _. AddsEntries expected entries.old.items entries.new.items)
         (IsStopOf expected) }
 {
@@ -116,7 +116,7 @@ fn forms(
     words: &[&[u8]],
     others: &[&[u8]],
 ) -> Result<Result<Vec<Form>, TextKind>, AllocError>
-    ensures { let expected = forms_of (texts_of words.now ∷ map words_of (texts_of others.now)) in
+    ensures { let expected = forms_of (texts_of words.now ∷ map words_of_line (texts_of others.now)) in
         IfOk result (λ forms. MatchResult forms (λ forms. expected ≡ Ok forms.items)
         (λ kind. expected ≡ Err kind)) }
 {

@@ -3,8 +3,9 @@ ghost use Rattle.std.specs.Prelude.{◌≡◌, ◌<◌, ◌+◌, ℕ, [], ◌∷
 ghost use Rattle.mk_check.specs.Feed.{is_refusal};
 ghost use Rattle.mk_check.specs.Laws.{IsScript};
 ghost use Rattle.mk_check.specs.Declarations.{config_of};
-ghost use Rattle.mk_replay.specs.Replays.{IsTextOf};
-ghost use Rattle.mk_replay.specs.Players.{Served, served_to, IsPlayerOf, TakesAnswer, TakesStep, FeedsOn, HasRoom};
+ghost use Rattle.mk_replay.specs.Replays.{IsReplayedText};
+ghost use Rattle.mk_replay.specs.Players.{Served, served_to, IsPlayerOf, PlayerTakesAnswer, TakesStep, FeedsOn};
+ghost use Rattle.mk_replay.specs.Players.{PlayerHasRoom};
 
 use mk_check::{Checked, Feed, Text, is_refusal};
 use mk_core::Answer;
@@ -51,7 +52,7 @@ impl Player {
 
     /// Counts an answer.
     fn count(&mut self, answer: Answer)
-        requires { HasRoom self.old }
+        requires { PlayerHasRoom self.old }
         ensures { self.new ≡ record self.old {
           ops = self.old.ops + 1;
           refused = count_by is_refusal (answer ∷ []) + self.old.refused;
@@ -65,8 +66,8 @@ impl Player {
 
     /// The answer of a call that ended.
     fn answer(&mut self, alloc: Global, answer: Answer) -> Result<(), NoMemory>
-        requires { HasRoom self.old }
-        ensures { OnOk result (TakesAnswer answer self.old self.new) }
+        requires { PlayerHasRoom self.old }
+        ensures { OnOk result (PlayerTakesAnswer answer self.old self.new) }
     {
         feed_on(&mut self.feed, alloc, answer)?;
         self.count(answer);
@@ -80,7 +81,7 @@ impl Player {
         decided: Option<Answer>,
         is_last: bool,
     ) -> Result<(), NoMemory>
-        requires { HasRoom self.old }
+        requires { PlayerHasRoom self.old }
         ensures { OnOk result (TakesStep is_last decided self.old self.new) }
     {
         let kept = decided.or(self.kept);
@@ -99,7 +100,7 @@ impl Player {
     pub(crate) fn text(&self, alloc: Global) -> Result<Text, NoMemory>
         ensures { (program : List Item) (es : List Event) (k : ℕ)
             → IsPlayerOf program k (served_to (config_of program 8) es k) self.now
-            → IfOk result (λ t. IsTextOf program es k t.bytes.items t.ops t.refused) }
+            → IfOk result (λ t. IsReplayedText program es k t.bytes.items t.ops t.refused) }
     {
         Ok(Text {
             bytes: self.feed.text().to_vec(alloc)?,

@@ -5,9 +5,10 @@ ghost use Rattle.mk_replay.specs.declared.replaying.ReplayStop.TheVariants as Re
 ghost use Rattle.mk_core.specs.Order.{seat_exists};
 ghost use Rattle.mk_core.specs.History.{AreEnabled, CallsAreAdmitted};
 ghost use Rattle.mk_check.specs.Declarations.{config_of};
-ghost use Rattle.mk_theorems.specs.Promises.{KeepsAllPromises};
-ghost use Rattle.mk_replay.specs.Replays.{event_of, failing_entry, op_for, history_of, refusal_of, AreTextsOf};
-ghost use Rattle.mk_replay.specs.Players.{EachHasRoom, TakeEvent, IsRunOf, ArePlayersOf, TakesEntry, IsNotEnabled};
+ghost use Rattle.mk_laws.specs.Promises.{KeepsAllPromises};
+ghost use Rattle.mk_replay.specs.Replays.{event_of_entry, failing_entry, next_op_for, history_of, refusal_of};
+ghost use Rattle.mk_replay.specs.Replays.{AreTextsOf};
+ghost use Rattle.mk_replay.specs.Players.{EachHasRoom, TakeEvent, IsRunAfter, ArePlayersOf, TakesEntry, IsNotEnabled};
 
 use crate::players::Player;
 use crate::steps::{ends_call, step_of};
@@ -67,7 +68,7 @@ impl Run {
 
     /// The program's scripts and heap after no event.
     fn start(alloc: Global, program: &Checked) -> Result<Run, NoMemory>
-        ensures { IfOk result (IsRunOf program.now []) }
+        ensures { IfOk result (IsRunAfter program.now []) }
     {
         let config = program.config(alloc, 8)?;
         Ok(Run {
@@ -78,8 +79,8 @@ impl Run {
 
     /// The next operation of a caller's script.
     fn op(&self, seat: Seat) -> Option<Op>
-        ensures { (program : List Item) (es : List Event) → IsRunOf program es self.now
-            → IsTrue (seat_exists (config_of program 8) seat) → result ≡ op_for program es seat }
+        ensures { (program : List Item) (es : List Event) → IsRunAfter program es self.now
+            → IsTrue (seat_exists (config_of program 8) seat) → result ≡ next_op_for program es seat }
     {
         let Seat::Caller(caller) = seat else {
             return None;
@@ -90,8 +91,8 @@ impl Run {
     /// The event of an entry; where its seat doesn't exist, some event of that seat.
     fn event(&self, entry: Entry) -> Event
         ensures seat { result.seat ≡ entry.seat }
-        ensures exact { (program : List Item) (es : List Event) → IsRunOf program es self.now
-            → IsTrue (seat_exists (config_of program 8) entry.seat) → result ≡ event_of program es entry }
+        ensures exact { (program : List Item) (es : List Event) → IsRunAfter program es self.now
+            → IsTrue (seat_exists (config_of program 8) entry.seat) → result ≡ event_of_entry program es entry }
     {
         Event {
             seat: entry.seat,
@@ -123,9 +124,9 @@ impl Run {
     /// One entry of the schedule.
     fn step(&mut self, alloc: Global, entry: Entry) -> Result<(), ReplayStop>
         requires { EachHasRoom self.old.players.items }
-        ensures ok { (program : List Item) (es : List Event) → IsRunOf program es self.old
+        ensures ok { (program : List Item) (es : List Event) → IsRunAfter program es self.old
             → OnOk result (TakesEntry program es entry self.new) }
-        ensures stop { (program : List Item) (es : List Event) → IsRunOf program es self.old
+        ensures stop { (program : List Item) (es : List Event) → IsRunAfter program es self.old
             → IfErr result (λ stop. stop ≢ ReplayStop.NoMemory → IsNotEnabled program es entry stop) }
     {
         let event = self.event(entry);
@@ -141,7 +142,7 @@ impl Run {
 
     /// The scripts' texts so far.
     fn texts(&self, alloc: Global) -> Result<Vec<Text>, NoMemory>
-        ensures { (program : List Item) (es : List Event) → IsRunOf program es self.now
+        ensures { (program : List Item) (es : List Event) → IsRunAfter program es self.now
             → IfOk result (λ texts. AreTextsOf program es texts.items) }
     {
         let mut texts = Vec::new(alloc);

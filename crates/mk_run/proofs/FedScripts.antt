@@ -13,7 +13,7 @@ use Rattle.mk_script.specs.declared.items.Item.TheVariants.{Getn, Casp, Same, Is
 use Rattle.mk_check.specs.Blocks.{Blocks, Done, Line, Rounds, Choice}
 use Rattle.mk_check.specs.Feed.{Scope, Fed, op_of, with_answer, note, run, take_answer, feed, is_refusal}
 use Rattle.mk_check.specs.Feeding.{FeedState, FeedStandsFor, script_scope}
-use Rattle.mk_check.specs.Steps.{steps_of}
+use Rattle.mk_check.specs.Steps.{numbered}
 use Rattle.mk_check.proofs.FeedLaws.{feed_push}
 use Rattle.mk_run.specs.declared.scripts.Script.{Script}
 use Rattle.mk_run.specs.Scripts.{as_told, IsFedWith}
@@ -73,7 +73,7 @@ same_feed : (program : List Item) (k : ℕ) (s : FeedState) (xs ys : List Answer
     → length xs ≡ length ys → FeedStandsFor program k s xs → FeedStandsFor program k s ys
 same_feed program k s xs ys same long h = record {
   taken = ap (λ (f : Fed). length f.ops) (sym same) ∙ h.taken ∙ long;
-  left = h.left ∙ ap (λ (f : Fed). steps_of (script_scope program k) f.left) same;
+  left = h.left ∙ ap (λ (f : Fed). numbered (script_scope program k) f.left) same;
   numbers = h.numbers ∙ ap (λ (f : Fed). f.numbers) same;
   text = h.text ∙ ap (λ (f : Fed). f.text) same;
 }

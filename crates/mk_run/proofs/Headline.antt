@@ -20,7 +20,7 @@ use Rattle.mk_check.specs.Feed.{feed}
 use Rattle.mk_check.specs.Laws.{IsScript, ops_of_caller}
 use Rattle.mk_check.specs.Output.{ended_calls, answers_among, answers_given, text_behind}
 use Rattle.mk_check.proofs.GivenAnswers.{serves}
-use Rattle.mk_theorems.proofs.Promises.{histories_keep_all_promises}
+use Rattle.mk_laws.proofs.Promises.{histories_keep_all_promises}
 use Rattle.mk_heap.specs.Reports as report
 use Rattle.mk_heap.specs.Reports.{IsWhole}
 use Rattle.mk_run.specs.declared.outcomes.Outcome.{Outcome}

@@ -17,7 +17,7 @@ use Rattle.mk_core.specs.Growing.{AreOfOthers, is_same_seat}
 use Rattle.mk_core.specs.History.{AreEnabledFrom, IsHistory, World, left, world_behind}
 use Rattle.mk_core.specs.Words.{phase_of}
 use Rattle.mk_core.proofs.HistoryParts.{earlier_part_is_history, enabled_in_parts}
-use Rattle.mk_readings.proofs.CyclePhases.{AsksPhase, close_is, moves_phase, phase_behind}
+use Rattle.mk_laws.proofs.CyclePhases.{AsksPhase, close_is, moves_phase, phase_behind}
 use Rattle.mk_words.specs.Seats.{Has, HasCallers}
 use Rattle.mk_words.specs.States.{PassState, event_of}
 use Rattle.mk_words.specs.Steps.{Makes}

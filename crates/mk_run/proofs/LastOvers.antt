@@ -16,7 +16,7 @@ use Rattle.mk_core.specs.Cycles.{before_close, is_begin}
 use Rattle.mk_core.specs.Growing.{AreOfOthers}
 use Rattle.mk_core.specs.History.{IsHistory, World, left}
 use Rattle.mk_core.proofs.HistoryParts.{earlier_part_is_history, enabled_in_parts}
-use Rattle.mk_protocol.proofs.Actors.{is_holders}
+use Rattle.mk_laws.proofs.Actors.{is_holders}
 use Rattle.mk_words.specs.Seats.{Has, HasCallers}
 use Rattle.mk_words.specs.States.{PassState, WordsState, event_of}
 use Rattle.mk_words.specs.Steps.{Makes}
@@ -76,7 +76,8 @@ pub stays : (x : Step) → turn_stays x ≡ true → turn_stays x ≡ true
 stays x h = h
 
 -- A cycle that is on may be finished.
-pub ends_unbegun : (taken idle : PassState) → InTurn taken → EndsCycle taken idle → IsHistory idle.table.config idle.seen
+pub ends_unbegun : (taken idle : PassState) → InTurn taken → EndsCycle taken idle
+    → IsHistory idle.table.config idle.seen
     → Unbegun taken idle
 ends_unbegun taken idle t ends history = elim ends.phase [
   | inl none ↦

@@ -22,7 +22,7 @@ use Rattle.mk_never.specs.declared.types.Kind.{Kind}
 use Rattle.mk_never.proofs.Later.{calls_stay}
 use Rattle.mk_words.specs.Seats.{Has}
 use Rattle.mk_words.specs.States.{PassState, WordsState}
-use Rattle.mk_caller.specs.States.{number_of, Admits, IsIdleCaller}
+use Rattle.mk_caller.specs.States.{caller_of_pass, Admits, IsIdleCaller}
 use Rattle.mk_caller.specs.Called.{own_calls}
 use Rattle.mk_caller.specs.Causes.{FindsGateHeld}
 use Rattle.mk_caller.proofs.OwnSteps.{calls_by}
@@ -37,8 +37,8 @@ use Rattle.mk_check.specs.Feeding.{next_op}
 use Rattle.mk_check.specs.Laws.{IsChecked, IsScript, AreNotedBy}
 use Rattle.mk_run.specs.Running.{answers_in, FollowsScript}
 use Rattle.mk_run.specs.declared.scripts.Script.{Script}
-use Rattle.mk_run.specs.Scripts.{as_told, unflagged, IsCalled, StaysAdmitted, MakesNoCall, Answers}
-use Rattle.mk_run.specs.Scripts.{IsFedWith, TakesAnswer, IsRunning}
+use Rattle.mk_run.specs.Scripts.{as_told, unflagged, IsCalled, IsAdmittedByOwnCalls, MakesNoCall, Answers}
+use Rattle.mk_run.specs.Scripts.{IsFedWith, ScriptTakesAnswer, IsRunning}
 use Rattle.mk_run.proofs.BesideTurns.{beside_then, called_beside, held_beside}
 use Rattle.mk_run.proofs.FedScripts.{fed_as_told}
 use Rattle.mk_alloc.proofs.ExactTurns.{stay_exact_behind_calls, stay_exact_where_held, stay_exact_behind_turns}
@@ -109,15 +109,17 @@ none_then_answers on p q o told r h entered g = record {
   is_told = g.is_told;
   is = then_seen p q r h.is g.is;
   entry = sym (same_own p q r.seen h.is) ∙ g.entry
-      ∙ ap (λ (l : List Decided). l ++ entry_of (number_of q) o (Some g.answer)) (same_own p q q.seen h.is ∙ h.entries)
-      ∙ ap (λ (s : PassState). own_calls p p.seen ++ entry_of (number_of s) o (Some g.answer)) h.is;
+      ∙ ap (λ (l : List Decided). l ++ entry_of (caller_of_pass q) o (Some g.answer)) (same_own p q q.seen h.is
+      ∙ h.entries)
+      ∙ ap (λ (s : PassState). own_calls p p.seen ++ entry_of (caller_of_pass s) o (Some g.answer)) h.is;
   exact = λ e. g.exact (h.exact e);
   in_turn = λ under. absurd (true≢false (sym under ∙ entered));
   beside = λ besides. beside_then p q r h.is h.beside (g.beside entered);
 }
 
 -- What stays admitted is admitted after a list to which the caller added no call.
-pub still_admitted : (on : Bool) (p : PassState) (o : Op) (q : PassState) → StaysAdmitted p o → MakesNoCall on p q
+pub still_admitted : (on : Bool) (p : PassState) (o : Op) (q : PassState) → IsAdmittedByOwnCalls p o
+    → MakesNoCall on p q
     → IsHistory q.table.config q.seen → Admits q o
 still_admitted on p o q stays h history =
     subst (λ (r : PassState). Admits r o) (sym h.is)
@@ -125,8 +127,8 @@ still_admitted on p o q stays h history =
     (subst (λ (w : WordsState). IsHistory w.config q.seen) (ap (λ (r : PassState). r.table) h.is) history) h.entries)
 
 -- ... and stays so.
-pub stays_admitted_after : (on : Bool) (p : PassState) (o : Op) (q : PassState) → StaysAdmitted p o
-    → MakesNoCall on p q → StaysAdmitted q o
+pub stays_admitted_after : (on : Bool) (p : PassState) (o : Op) (q : PassState) → IsAdmittedByOwnCalls p o
+    → MakesNoCall on p q → IsAdmittedByOwnCalls q o
 stays_admitted_after on p o q stays h es history own =
     subst (λ (r : PassState). Admits (record r { seen = es }) o) (sym h.is)
     (stays es (subst (λ (w : WordsState). IsHistory w.config es) (ap (λ (r : PassState). r.table) h.is) history)
@@ -149,7 +151,7 @@ answered_new on p o d ty full a q own is h =
       is_told = refl;
       is = made.is;
       entry = made.entry
-          ∙ ap (λ (x : Op). own_calls p p.seen ++ record { caller = number_of p; op = x; answer = a } ∷ [])
+          ∙ ap (λ (x : Op). own_calls p p.seen ++ record { caller = caller_of_pass p; op = x; answer = a } ∷ [])
           (flagged_alike d ty full a);
       exact = made.exact;
       in_turn = λ under. h;
@@ -178,7 +180,7 @@ module _ (on : Bool) (program : List Item) (k : ℕ) (p : PassState) (seat : p.s
   abbrev now : PassState
   now = record p { seen = es }
 
-  number : number_of p ≡ k
+  number : caller_of_pass p ≡ k
   number = ap (λ (s : Seat). caller_number s) seat
 
   abbrev answers : List Answer
@@ -186,7 +188,7 @@ module _ (on : Bool) (program : List Item) (k : ℕ) (p : PassState) (seat : p.s
 
   pub next_stays_admitted : IsChecked program → IsScript program k → c ≡ config_of program c.markers
       → FollowsScript on program k c es
-      → (o : Op) → next_op program k answers ≡ Some o → StaysAdmitted now o
+      → (o : Op) → next_op program k answers ≡ Some o → IsAdmittedByOwnCalls now o
   next_stays_admitted checked is_script config follows o next = λ fs history same.
       let mine : calls_by k (calls c fs) ≡ calls_by k (calls c es) =
       subst (λ (j : ℕ). calls_by j (calls c fs) ≡ calls_by j (calls c es)) number same in
@@ -213,7 +215,7 @@ module _ (on : Bool) (program : List Item) (k : ℕ) (p : PassState) (seat : p.s
           (h.exact (subst (λ (s : Seat). TurnsOfAreExact on c s es) (sym seat) follows.exact)));
     }
 
-    pub fed_on : (s t : Script) → IsFedWith program k answers s → TakesAnswer told s t
+    pub fed_on : (s t : Script) → IsFedWith program k answers s → ScriptTakesAnswer told s t
         → IsFedWith program k (answers_in c k q.seen) t
     fed_on s t fed takes =
         subst (λ (given : List Answer). IsFedWith program k given t)
@@ -224,15 +226,15 @@ module _ (on : Bool) (program : List Item) (k : ℕ) (p : PassState) (seat : p.s
 -- A script under way.
 
 -- The caller of a script exists, whatever its pass has seen.
-pub exists_on : (p q : PassState) (k : ℕ) (program : List Item) → q ≡ record p { seen = q.seen } → number_of p ≡ k
+pub exists_on : (p q : PassState) (k : ℕ) (program : List Item) → q ≡ record p { seen = q.seen } → caller_of_pass p ≡ k
     → IsScript program k
-    → p.table.config ≡ config_of program p.table.config.markers → number_of q < q.table.config.callers
+    → p.table.config ≡ config_of program p.table.config.markers → caller_of_pass q < q.table.config.callers
 exists_on p q k program is number script config =
     let callers : p.table.config.callers ≡ length (script_names program) = ap (λ (x : Config). x.callers) config in
     let within : k < length (script_names program) = script in
-    subst (λ (r : PassState). number_of r < r.table.config.callers) (sym is) (omega arith)
+    subst (λ (r : PassState). caller_of_pass r < r.table.config.callers) (sym is) (omega arith)
 
-pub seat_is : (p q : PassState) (k : ℕ) → q ≡ record p { seen = q.seen } → IsIdleCaller q → number_of p ≡ k
+pub seat_is : (p q : PassState) (k : ℕ) → q ≡ record p { seen = q.seen } → IsIdleCaller q → caller_of_pass p ≡ k
     → p.seat ≡ Caller k
 seat_is p q k is idle number =
     let seat : p.seat ≡ Caller idle.caller = ap (λ (r : PassState). r.seat) (sym is) ∙ idle.seat in
@@ -242,9 +244,9 @@ module _ (on : Bool) (program : List Item) (k : ℕ) (p q : PassState) (s : Scri
     (seat : p.seat ≡ Caller k) (o : Op) (next : next_op program k (answers_in p.table.config k q.seen) ≡ Some o) where
   pub asked_stays_admitted : IsChecked program → IsScript program k
       → p.table.config ≡ config_of program p.table.config.markers
-      → StaysAdmitted q o
+      → IsAdmittedByOwnCalls q o
   asked_stays_admitted checked is_script config =
-      subst (λ (r : PassState). StaysAdmitted r o) (sym run.is)
+      subst (λ (r : PassState). IsAdmittedByOwnCalls r o) (sym run.is)
       (next_stays_admitted on program k p seat q.seen checked is_script config run.follows o next)
 
   pub follows_now : (told : Answer) (r : PassState) → Answers on q o told r
@@ -255,7 +257,7 @@ module _ (on : Bool) (program : List Item) (k : ℕ) (p q : PassState) (s : Scri
       (follows_on on program k p seat q.seen o told r next (subst (λ (x : PassState). Answers on x o told r) run.is h)
       run.follows)
 
-  pub runs_on : (told : Answer) (r : PassState) (t : Script) → Answers on q o told r → TakesAnswer told s t
+  pub runs_on : (told : Answer) (r : PassState) (t : Script) → Answers on q o told r → ScriptTakesAnswer told s t
       → IsRunning on program k p r t
   runs_on told r t h takes =
       let answers = subst (λ (x : PassState). Answers on x o told r) run.is h in
@@ -269,7 +271,7 @@ module _ (on : Bool) (program : List Item) (k : ℕ) (p q : PassState) (s : Scri
 
 pub one_more_op : (program : List Item) (k : ℕ) (answers : List Answer) (told : Answer) (s t : Script)
     → IsFedWith program k answers s
-    → TakesAnswer told s t → t.ops ≡ s.ops + 1
+    → ScriptTakesAnswer told s t → t.ops ≡ s.ops + 1
 one_more_op program k answers told s t fed takes =
     (takes program k answers fed).ops ∙ length-append answers (told ∷ []) ∙ ap (λ (n : ℕ). n + 1) (sym fed.ops)
 

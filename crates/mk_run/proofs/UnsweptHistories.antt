@@ -14,8 +14,8 @@ use Rattle.mk_core.proofs.Conditions.{enabled_events_meet_all}
 use Rattle.mk_words.proofs.Seats.{same_seat, same_self}
 use Rattle.mk_turns.specs.Sweeping.{SweepsNothingFrom, is_mark}
 use Rattle.mk_turns.proofs.Sweeping.{other_steps_sweep}
-use Rattle.mk_precision.specs.Precision.{CyclesArePrecise}
-use Rattle.mk_theorems.specs.Promises.{KeepsAllPromises}
+use Rattle.mk_laws.specs.Precision.{CyclesArePrecise}
+use Rattle.mk_laws.specs.Promises.{KeepsAllPromises}
 use Rattle.mk_run.specs.Unswept.{IsUnswept}
 
 -- A marker makes none: its marks are of a kind of their own.

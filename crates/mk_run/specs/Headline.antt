@@ -17,8 +17,8 @@ use Rattle.mk_heap.specs.Reports.{IsWhole}
 use Rattle.mk_heap.specs.Reports as report
 use Rattle.mk_engines.specs.Roots.{CyclesMarkRootsFirst}
 use Rattle.mk_alloc.specs.TurnCycles.{TurnsOfAreExact}
-use Rattle.mk_precision.specs.Precision.{CyclesArePrecise}
-use Rattle.mk_theorems.specs.Promises.{KeepsAllPromises}
+use Rattle.mk_laws.specs.Precision.{CyclesArePrecise}
+use Rattle.mk_laws.specs.Promises.{KeepsAllPromises}
 use Rattle.mk_quarantine.specs.Bounds.{QuarantineIsBounded}
 use Rattle.mk_run.specs.declared.outcomes.Outcome.{Outcome}
 use Rattle.mk_run.specs.HostTurns.{HostComesLast}

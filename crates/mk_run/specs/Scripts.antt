@@ -14,7 +14,7 @@ use Rattle.mk_core.specs.History.{IsHistory}
 use Rattle.mk_core.specs.Order.{group_of}
 use Rattle.mk_turns.specs.Doing.{are_of, done_in}
 use Rattle.mk_words.specs.States.{PassState}
-use Rattle.mk_caller.specs.States.{number_of, Admits}
+use Rattle.mk_caller.specs.States.{caller_of_pass, Admits}
 use Rattle.mk_caller.specs.Called.{own_calls, Called}
 use Rattle.mk_alloc.specs.Laws.{OwnAreExact}
 use Rattle.mk_alloc.specs.TurnCalls.{CalledInTurn}
@@ -36,8 +36,8 @@ pub record IsCalled (p : PassState) (o : Op) (told : Answer) (q : PassState) : T
   pub called : Called p o answer q
 
 -- The operation is admitted whenever the caller's calls are still those that they are now.
-abbrev pub StaysAdmitted : PassState → Op → Type 0
-StaysAdmitted p o =
+abbrev pub IsAdmittedByOwnCalls : PassState → Op → Type 0
+IsAdmittedByOwnCalls p o =
     (es : List Event) → IsHistory p.table.config es → own_calls p es ≡ own_calls p p.seen
     → Admits (record p { seen = es }) o
 
@@ -73,7 +73,7 @@ pub record Answers (on : Bool) (p : PassState) (o : Op) (told : Answer) (q : Pas
   pub answer : Answer
   pub is_told : told ≡ as_told answer
   pub is : q ≡ record p { seen = q.seen }
-  pub entry : own_calls p q.seen ≡ own_calls p p.seen ++ entry_of (number_of p) o (Some answer)
+  pub entry : own_calls p q.seen ≡ own_calls p p.seen ++ entry_of (caller_of_pass p) o (Some answer)
   pub exact : OwnAreExact on p → OwnAreExact on q
   pub in_turn : is_under_turn o ≡ true → CalledInTurn on p (unflagged o) answer q
   pub beside : is_under_turn o ≡ false → StaysBeside p q
@@ -85,8 +85,8 @@ pub record IsFedWith (program : List Item) (k : ℕ) (answers : List Answer) (s 
   pub refused : s.refused ≡ count_by is_refusal answers
 
 -- Whatever the first was fed with, the second is fed with that and one answer more.
-abbrev pub TakesAnswer : Answer → Script → Script → Type 0
-TakesAnswer a old new = (program : List Item) (k : ℕ) (answers : List Answer)
+abbrev pub ScriptTakesAnswer : Answer → Script → Script → Type 0
+ScriptTakesAnswer a old new = (program : List Item) (k : ℕ) (answers : List Answer)
     → IsFedWith program k answers old → IsFedWith program k (answers ++ a ∷ []) new
 
 -- The pass that began as the first is at the second, and its caller follows the script, which is fed with all answers.
@@ -96,6 +96,6 @@ pub record IsRunning (on : Bool) (program : List Item) (k : ℕ) (p q : PassStat
   pub fed : IsFedWith program k (answers_in p.table.config k q.seen) s
 
 -- One more answer may be counted.
-pub record HasRoom (s : Script) : Type 0 where
+pub record ScriptHasRoom (s : Script) : Type 0 where
   pub ops : s.ops < 18446744073709551615
   pub refused : s.refused ≤ s.ops

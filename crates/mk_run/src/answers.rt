@@ -3,10 +3,10 @@ ghost use Rattle.std.specs.Prelude.{◌≡◌, ◌<◌, ◌∷◌, [], length, I
 ghost use Rattle.mk_core.specs.Calls.{is_under_turn};
 ghost use Rattle.mk_caller.specs.Causes.{FindsGateHeld, IsRefused};
 ghost use Rattle.mk_caller.specs.Moves.{is_access};
-ghost use Rattle.mk_caller.specs.States.{number_of, Admits};
+ghost use Rattle.mk_caller.specs.States.{caller_of_pass, Admits};
 ghost use Rattle.mk_turns.specs.Sweeping.{SweepsNothing};
 ghost use Rattle.mk_cycle.specs.Begun.{EachIsBegun};
-ghost use Rattle.mk_run.specs.Scripts.{IsCalled, StaysAdmitted, Answers};
+ghost use Rattle.mk_run.specs.Scripts.{IsCalled, IsAdmittedByOwnCalls, Answers};
 
 use mk_alloc::{free_object, new_object};
 use mk_caller::{Caller, Refusal};
@@ -95,9 +95,9 @@ fn call(caller: &mut Caller, op: Op) -> Result<Answer, Held>
 #[inline(never)]
 fn call_until_open<R: Wait>(rt: &R, caller: &mut Caller, op: Op) -> Answer
     requires home { caller.old.home ≡ true }
-    requires exists { number_of caller.old.pass < caller.old.pass.table.config.callers }
+    requires exists { caller_of_pass caller.old.pass < caller.old.pass.table.config.callers }
     requires entered { is_under_turn op ≡ false }
-    requires admitted { StaysAdmitted caller.old.pass op }
+    requires admitted { IsAdmittedByOwnCalls caller.old.pass op }
     ensures home { caller.new.home ≡ true }
     ensures answers { (on : Bool) → Answers on caller.old.pass op result caller.new.pass }
     ensures reached { SweepsNothing caller.old.pass caller.new.pass }
@@ -124,9 +124,9 @@ pub fn answer_to<E: Engine, R: Threads + Wait + Sync>(
     op: Op,
 ) -> Answer
     requires home { caller.old.home ≡ true }
-    requires exists { number_of caller.old.pass < caller.old.pass.table.config.callers }
+    requires exists { caller_of_pass caller.old.pass < caller.old.pass.table.config.callers }
     requires alone { caller.old.pass.seats ≡ caller.old.pass.seat ∷ [] }
-    requires admitted { StaysAdmitted caller.old.pass op }
+    requires admitted { IsAdmittedByOwnCalls caller.old.pass op }
     requires made_for { E.made_for bench.old.engine ≡ caller.old.pass.table.config.pages }
     requires book { length bench.old.book ≡ caller.old.pass.table.config.pages }
     ensures home { caller.new.home ≡ true }

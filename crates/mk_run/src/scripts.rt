@@ -3,11 +3,11 @@ ghost use Rattle.std.specs.Prelude.{◌≡◌, ◌+◌, [], ◌∷◌, length, c
 ghost use Rattle.mk_check.specs.Declarations.{config_of};
 ghost use Rattle.mk_check.specs.Feeding.{IsWaiting};
 ghost use Rattle.mk_check.specs.Laws.{IsScript};
-ghost use Rattle.mk_caller.specs.States.{number_of};
+ghost use Rattle.mk_caller.specs.States.{caller_of_pass};
 ghost use Rattle.mk_turns.specs.Sweeping.{SweepsNothing};
 ghost use Rattle.mk_cycle.specs.Begun.{EachIsBegun};
 ghost use Rattle.mk_run.specs.Running.{answers_in, FollowsScript, EndsScript, IsTextOf};
-ghost use Rattle.mk_run.specs.Scripts.{HasRoom, IsFedWith, TakesAnswer};
+ghost use Rattle.mk_run.specs.Scripts.{ScriptHasRoom, IsFedWith, ScriptTakesAnswer};
 
 use crate::answers::answer_to;
 use crate::paces::Pace;
@@ -48,7 +48,7 @@ impl Script {
     /// Counts an answer.
     #[inline(always)]
     fn count(&mut self, answer: Answer)
-        requires { HasRoom self.old }
+        requires { ScriptHasRoom self.old }
         ensures feed { self.new.feed ≡ self.old.feed }
         ensures ops { self.new.ops ≡ self.old.ops + 1 }
         ensures refused { self.new.refused ≡ count_by is_refusal (answer ∷ []) + self.old.refused }
@@ -63,8 +63,8 @@ impl Script {
     #[inline(always)]
     fn answer(&mut self, alloc: Global, answer: Answer) -> Result<(), NoMemory>
         requires waiting { IsWaiting self.old.feed }
-        requires room { HasRoom self.old }
-        ensures { OnOk result (TakesAnswer answer self.old self.new) }
+        requires room { ScriptHasRoom self.old }
+        ensures { OnOk result (ScriptTakesAnswer answer self.old self.new) }
     {
         self.feed.answer(alloc, answer)?;
         self.count(answer);
@@ -97,7 +97,7 @@ pub fn run_script<E: Engine, P: Pace, R: Threads + Wait + Sync>(
     pace: &P,
 ) -> Result<Text, NoMemory>
     requires home { caller.old.home ≡ true }
-    requires number { number_of caller.old.pass ≡ k }
+    requires number { caller_of_pass caller.old.pass ≡ k }
     requires alone { caller.old.pass.seats ≡ caller.old.pass.seat ∷ [] }
     requires script { IsScript program.now k }
     requires config { caller.old.pass.table.config ≡ config_of program.now caller.old.pass.table.config.markers }

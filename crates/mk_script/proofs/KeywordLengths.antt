@@ -1,5 +1,6 @@
 -- A word is looked for among the keywords of its length alone.
-use Rattle.std.proofs.Common.{◌≡◌, ℕ, ◌≢◌, ◌==◌, Bool, true, false, List, [], ◌∷◌, length, filter, None, refl, ap, sym, ◌∙◌}
+use Rattle.std.proofs.Common.{◌≡◌, ℕ, ◌≢◌, ◌==◌, Bool, true, false, List, [], ◌∷◌, length, filter, None, refl, ap, sym}
+use Rattle.std.proofs.Common.{◌∙◌}
 use Rattle.std.proofs.Common.{⊎_elim, eq-eqb, ne_eqb}
 use Rattle.std.specs.Prelude.{if◌then◌else◌, Some}
 use Rattle.std.specs.Str.{bytes_eq}

@@ -14,7 +14,7 @@ use Rattle.std.proofs.lemmas.Fmt.{decimal_nonempty}
 use Rattle.std.proofs.lemmas.Bool.Decides.{nat_tests}
 use Rattle.std.proofs.lemmas.Bool.{true≢false, and_from, and_parts, lt-ltb, ltb-true, cond-true}
 use Rattle.mk_script.specs.Names.{is_name_byte}
-use Rattle.mk_script.specs.Words.{words_of, is_empty}
+use Rattle.mk_script.specs.Words.{words_of_line, is_empty}
 use Rattle.mk_script.specs.Spaced.{spaced_words, joined_words}
 use Rattle.mk_script.proofs.PrintedNumbers.{all_ascii_digits-decimal}
 
@@ -94,7 +94,7 @@ keeps_words ((byte ∷ word) ∷ words) ws = cond-true _ _ _ (not_zero (length w
     ∙ ap (λ rest. (byte ∷ word) ∷ rest) (keeps_words words ws.1)
 
 -- the words of words with spaces between them
-pub words_of-joined : (words : List (List ℕ)) → AreWords words → words_of (joined_words words) ≡ words
+pub words_of-joined : (words : List (List ℕ)) → AreWords words → words_of_line (joined_words words) ≡ words
 words_of-joined [] ws = refl
 words_of-joined (word ∷ words) ws =
     ap (λ parts. filter (λ part. not (is_empty part)) parts) (split_spaced word words ws.0 ws.1)

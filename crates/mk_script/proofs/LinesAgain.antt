@@ -13,7 +13,7 @@ use Rattle.mk_script.specs.declared.keywords.Keyword.TheVariants as keyword
 use Rattle.mk_script.specs.declared.faults.LineFault.{LineFault}
 use Rattle.mk_script.specs.declared.faults.Which.{Which}
 use Rattle.mk_script.specs.declared.faults.Which.TheVariants as which
-use Rattle.mk_script.specs.Keywords.{keyword_of, has_operands}
+use Rattle.mk_script.specs.Keywords.{keyword_of, has_word_count}
 use Rattle.mk_script.specs.Operands.{have_form, item_from}
 use Rattle.mk_script.specs.Scopes.{type_names, open_blocks}
 use Rattle.mk_script.specs.Lines.{is_placed, heap_line, placed_item, other_line, line_item, is_twice, at_most}
@@ -64,7 +64,7 @@ placed_was : (before : List Item) (form : Option Keyword) (operands : List (List
     → placed_item before form operands ≡ Ok line → (k : Keyword) × Printed k line × (is_placed before k ≡ true)
 placed_was before None operands line short e = no_item e
 placed_was before (Some k) operands line short e =
-    let was = cond_ok (has_operands k (length operands) && have_form k operands && is_placed before k) _ _ line e in
+    let was = cond_ok (has_word_count k (length operands) && have_form k operands && is_placed before k) _ _ line e in
     let fits = and_parts _ _ was.0 in
     let forms = and_parts _ _ fits.0 in
     (k, said k operands line short forms.0 forms.1 was.1, fits.1)

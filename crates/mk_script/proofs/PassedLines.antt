@@ -7,7 +7,7 @@ use Rattle.std.proofs.lemmas.List.{append-nil}
 use Rattle.mk_script.specs.declared.items.Item.{Item}
 use Rattle.mk_script.specs.declared.faults.LineFault.{LineFault}
 use Rattle.mk_script.specs.declared.faults.TextStop.{TextStop}
-use Rattle.mk_script.specs.Words.{lines_of, words_of}
+use Rattle.mk_script.specs.Words.{lines_of, words_of_line}
 use Rattle.mk_script.specs.Scopes.{open_blocks}
 use Rattle.mk_script.specs.Operands.{◌>>=◌}
 use Rattle.mk_script.specs.Lines.{line_of, line_item, checked_item, or_item, limit_fault, is_twice, ends_rightly}
@@ -106,8 +106,8 @@ lines_behind : (lines : List (List ℕ)) (before items : List Item) → items_be
 lines_behind [] before items h = ended (has_none (open_blocks before)) (has_script before) _ _ before items refl refl h
 lines_behind (line ∷ lines) before items h =
     one_more (length before + 1) before items (λ item. items_behind lines (before ++ item ∷ []))
-    (line_of before (words_of line))
-    (passed before (words_of line)) (λ item. lines_behind lines (before ++ item ∷ []) items) h
+    (line_of before (words_of_line line))
+    (passed before (words_of_line line)) (λ item. lines_behind lines (before ++ item ∷ []) items) h
 
 pub whole_lines : (lines : List (List ℕ)) (items : List Item) → items_of_lines lines ≡ Ok items → IsWhole items
 whole_lines [] items h = absurd cc

@@ -14,13 +14,13 @@ use Rattle.mk_script.specs.declared.keywords.Keyword.TheVariants.{Repeat, If, El
 use Rattle.mk_script.specs.declared.faults.LineFault.{LineFault}
 use Rattle.mk_script.specs.declared.faults.LineFault.TheVariants.{Text}
 use Rattle.mk_script.specs.declared.faults.TextKind.TheVariants.{Word}
-use Rattle.mk_script.specs.Keywords.{has_operands}
+use Rattle.mk_script.specs.Keywords.{has_word_count}
 use Rattle.mk_script.specs.Lines.{is_placed, placed_item}
 use Rattle.mk_script.specs.Operands.{◌>>=◌, name, are_fields, fields_of, have_form, item_from}
 
 -- a line with a number of words that its form hasn't
 miscounted : (keyword : Keyword) (words : List (List ℕ)) → keyword ≢ TypeLine
-    → has_operands keyword (length words) ≡ false → item_from keyword words ≡ Err (Text Word)
+    → has_word_count keyword (length words) ≡ false → item_from keyword words ≡ Err (Text Word)
 unfolding item_from
 miscounted TypeLine words other counts = absurd (other refl)
 miscounted Heap (a ∷ b ∷ []) other counts = cc
@@ -67,7 +67,7 @@ chosen false formed placed found is is' unless = sym (unless refl)
 pub placed_plain : (before : List Item) (keyword : Keyword) (words : List (List ℕ)) → keyword ≢ TypeLine
     → is_placed before keyword ≡ true → placed_item before (Some keyword) words ≡ item_from keyword words
 placed_plain before keyword words other placed =
-    chosen (has_operands keyword (length words)) (have_form keyword words) (is_placed before keyword)
+    chosen (has_word_count keyword (length words)) (have_form keyword words) (is_placed before keyword)
     (item_from keyword words) (have_form-plain keyword words other) placed (miscounted keyword words other)
 
 refused : (counts formed placed : Bool) (found : Result Item LineFault) → placed ≡ false
@@ -76,7 +76,7 @@ refused counts formed placed found is = rw (is, and-false) refl
 
 pub unplaced : (before : List Item) (keyword : Keyword) (words : List (List ℕ)) → is_placed before keyword ≡ false
     → placed_item before (Some keyword) words ≡ Err (Text Word)
-unplaced before keyword words = refused (has_operands keyword (length words)) (have_form keyword words)
+unplaced before keyword words = refused (has_word_count keyword (length words)) (have_form keyword words)
     (is_placed before keyword) (item_from keyword words)
 
 formed_and_placed : (counts formed placed : Bool) (found : Result Item LineFault) → counts ≡ true → formed ≡ true
@@ -89,7 +89,7 @@ pub placed_type : (before : List Item) (word : List ℕ) (fields : List (List �
     → placed_item before (Some TypeLine) (word ∷ fields) ≡ item_from TypeLine (word ∷ fields)
 placed_type before word fields some placed formed =
     let counts : leb 2 (suc (length fields)) ≡ true = le-leb 2 (suc (length fields)) (omega arith) in
-    formed_and_placed (has_operands TypeLine (length (word ∷ fields))) (are_fields fields) (is_placed before TypeLine)
+    formed_and_placed (has_word_count TypeLine (length (word ∷ fields))) (are_fields fields) (is_placed before TypeLine)
     (item_from TypeLine (word ∷ fields)) counts formed placed
 
 -- what the name of a type's line says

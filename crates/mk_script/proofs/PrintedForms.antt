@@ -15,7 +15,7 @@ use Rattle.mk_script.specs.declared.keywords.Keyword.TheVariants.{Storeg, Same, 
 use Rattle.mk_script.specs.declared.keywords.Keyword.TheVariants.{Repeat, If, Else, End}
 use Rattle.mk_script.specs.declared.faults.LineFault.{LineFault}
 use Rattle.mk_script.specs.Names.{is_name}
-use Rattle.mk_script.specs.Keywords.{keyword_of, has_operands}
+use Rattle.mk_script.specs.Keywords.{keyword_of, has_word_count}
 use Rattle.mk_script.specs.Operands.{◌>>=◌, name, number, at, have_form, fields_of, item_from}
 use Rattle.mk_script.specs.Canonical.{at_text, fields_behind, words_of_item}
 use Rattle.mk_script.proofs.LineWords.{AreWords, is_word-decimal}
@@ -29,13 +29,13 @@ pub record Printed (form : Keyword) (item : Item) : Type 0 where
   pub operands : List (List ℕ)
   pub words : words_of_item item ≡ word ∷ operands
   pub keyword : keyword_of word ≡ Some form
-  pub count : has_operands form (length operands) ≡ true
+  pub count : has_word_count form (length operands) ≡ true
   pub formed : have_form form operands ≡ true
   pub reads : item_from form operands ≡ Ok item
   pub apart : AreWords (word ∷ operands)
 
 printed : {form : Keyword} {item : Item} (word : List ℕ) (operands : List (List ℕ))
-    → words_of_item item ≡ word ∷ operands → keyword_of word ≡ Some form → has_operands form (length operands) ≡ true
+    → words_of_item item ≡ word ∷ operands → keyword_of word ≡ Some form → has_word_count form (length operands) ≡ true
     → have_form form operands ≡ true → item_from form operands ≡ Ok item → AreWords (word ∷ operands)
     → Printed form item
 printed word operands words keyword count formed reads apart =
@@ -71,7 +71,7 @@ pub no_item : {A P : Type 0} {fault : LineFault} {x : A} → ◌≡◌ {A = Resu
 no_item e = absurd cc
 
 pub said : (form : Keyword) (operands : List (List ℕ)) (line : Item) → IsShort line
-    → has_operands form (length operands) ≡ true → have_form form operands ≡ true → item_from form operands ≡ Ok line
+    → has_word_count form (length operands) ≡ true → have_form form operands ≡ true → item_from form operands ≡ Ok line
     → Printed form line
 unfolding item_from
 said TypeLine (t ∷ []) line short count form e = absurd cc

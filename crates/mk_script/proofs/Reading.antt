@@ -18,7 +18,7 @@ use Rattle.mk_script.specs.Operands.{◌>>=◌}
 use Rattle.mk_script.specs.Scopes.{open_blocks}
 use Rattle.mk_script.specs.ScopeOf.{ReadsLine, IsStopOfLine}
 use Rattle.mk_script.specs.Stops.{stop_at}
-use Rattle.mk_script.specs.Words.{words_of, texts_of}
+use Rattle.mk_script.specs.Words.{words_of_line, texts_of}
 
 -- an item that is let through declares no name a second time
 passed : (twice rightly : Bool) (limit : Option LineFault) (item found : Item)
@@ -44,13 +44,13 @@ is_fresh before words item is = let_through before (line_item before words) item
 
 -- what a text is read as whose next line has an item, or hasn't
 pub goes_on : (before : List Item) (line : List ℕ) (lines : List (List ℕ)) (item : Item)
-    → line_of before (words_of line) ≡ Ok item
+    → line_of before (words_of_line line) ≡ Ok item
     → items_behind (line ∷ lines) before ≡ items_behind lines (before ++ item ∷ [])
 goes_on before line lines item is =
     ap (λ read. go_on (length before + 1) read (λ item'. items_behind lines (before ++ item' ∷ []))) is
 
 pub stops : (before : List Item) (line : List ℕ) (lines : List (List ℕ)) (number : ℕ) (found : LineStop)
-    → number ≡ length before + 1 → IsStopOfLine before (words_of line) found → stop_at number found ≢ stop.NoMemory
+    → number ≡ length before + 1 → IsStopOfLine before (words_of_line line) found → stop_at number found ≢ stop.NoMemory
     → items_behind (line ∷ lines) before ≡ Err (stop_at number found)
 stops before line lines number (Fault fault) counts is memory =
     ap (λ read. go_on (length before + 1) read (λ item. items_behind lines (before ++ item ∷ []))) is
@@ -69,7 +69,7 @@ at_line lines i before d inside = at_drop_more (λ left. items_behind (texts_of 
 
 pub step : (lines : List (Bor (List ℕ))) (i : ℕ) (before items : List Item) (scope : Scope) (d : Bor (List ℕ))
     → i < length lines
-    → ReadsLine before (words_of (get_or lines i d).now) items scope
+    → ReadsLine before (words_of_line (get_or lines i d).now) items scope
     → items_behind (texts_of (drop (i + 1) lines)) items ≡ items_behind (texts_of (drop i lines)) before
 step lines i before items scope d inside read =
     ap (λ now. items_behind (texts_of (drop (i + 1) lines)) now) read.items_are
@@ -78,7 +78,7 @@ step lines i before items scope d inside read =
 
 pub stops_at : (lines : List (Bor (List ℕ))) (i : ℕ) (before : List Item) (d : Bor (List ℕ)) (found : LineStop)
     → i < length lines → length before ≡ i
-    → IsStopOfLine before (words_of (get_or lines i d).now) found → stop_at (i + 1) found ≢ stop.NoMemory
+    → IsStopOfLine before (words_of_line (get_or lines i d).now) found → stop_at (i + 1) found ≢ stop.NoMemory
     → items_behind (texts_of (drop i lines)) before ≡ Err (stop_at (i + 1) found)
 stops_at lines i before d found inside counts is memory =
     at_line lines i before d inside

@@ -3,7 +3,7 @@ use Rattle.std.proofs.Common.{◌≡◌, ◌+◌, ◌≤◌, List, [], ◌∷◌
 use Rattle.std.proofs.lemmas.List.{append-nil}
 use Rattle.std.proofs.lemmas.Bool.{le-leb, cond-true}
 use Rattle.mk_script.specs.declared.items.Item.{Item}
-use Rattle.mk_script.specs.Words.{words_of}
+use Rattle.mk_script.specs.Words.{words_of_line}
 use Rattle.mk_script.specs.Lines.{line_of}
 use Rattle.mk_script.specs.Grammar.{at_end, go_on, items_behind, items_of_lines, program_of, IsOfSomeText}
 use Rattle.mk_script.specs.Canonical.{words_of_item, canonical_text}
@@ -37,7 +37,7 @@ items_again [] before items again whole end =
     let same : before ≡ items = sym (append-nil before) ∙ whole in
     subst (λ b. at_end b ≡ Ok items) (sym same) end
 items_again (line ∷ rest) before items again whole end =
-    let reads : line_of before (words_of (joined_words (words_of_item line))) ≡ Ok line =
+    let reads : line_of before (words_of_line (joined_words (words_of_item line))) ≡ Ok line =
     ap (λ ws. line_of before ws) (words_of-joined (words_of_item line) again.0.apart) ∙ again.0.reads in
     ap (λ r. go_on (length before + 1) r (λ x. items_behind (lines_of_items rest) (before ++ x ∷ []))) reads
     ∙ items_again rest (before ++ line ∷ []) items again.1 (append_assoc before (line ∷ []) rest ∙ whole) end

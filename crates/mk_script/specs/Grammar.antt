@@ -8,7 +8,7 @@ use Rattle.mk_script.specs.declared.faults.LineFault.{LineFault}
 use Rattle.mk_script.specs.declared.faults.LineFault.TheVariants.{Text, Limit}
 use Rattle.mk_script.specs.declared.faults.TextKind.TheVariants as kind
 use Rattle.mk_script.specs.declared.faults.Which.TheVariants as which
-use Rattle.mk_script.specs.Words.{lines_of, words_of}
+use Rattle.mk_script.specs.Words.{lines_of, words_of_line}
 use Rattle.mk_script.specs.Scopes.{open_blocks}
 use Rattle.mk_script.specs.Lines.{line_of, has_script, has_none}
 
@@ -33,7 +33,7 @@ go_on line (Err fault) next = Err (fault_at line fault)
 abbrev pub items_behind : List (List ℕ) → List Item → Result (List Item) TextStop
 items_behind [] before = at_end before
 items_behind (line ∷ lines) before =
-    go_on (length before + 1) (line_of before (words_of line)) (λ item. items_behind lines (before ++ item ∷ []))
+    go_on (length before + 1) (line_of before (words_of_line line)) (λ item. items_behind lines (before ++ item ∷ []))
 
 -- A text that has no line lacks its first.
 abbrev pub items_of_lines : List (List ℕ) → Result (List Item) TextStop

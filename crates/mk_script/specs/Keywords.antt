@@ -50,33 +50,33 @@ abbrev pub keyword_of : List ℕ → Option Keyword
 keyword_of word = keyword_among keywords word
 
 -- whether a line of this form has this many words after its first
-abbrev pub has_operands : Keyword → ℕ → Bool
-has_operands Heap count = count == 2
-has_operands TypeLine count = nat_le 2 count
-has_operands Global count = count == 2
-has_operands Script count = count == 1
-has_operands Ptr count = count == 2
-has_operands Num count = count == 1
-has_operands New count = count == 2
-has_operands Free count = count == 1
-has_operands Getn count = count == 3
-has_operands Setn count = count == 3
-has_operands Getp count = count == 3
-has_operands Setp count = count == 3
-has_operands Casp count = count == 5
-has_operands Lea count = count == 3
-has_operands Move count = count == 2
-has_operands Clear count = count == 1
-has_operands Loadg count = count == 2
-has_operands Storeg count = count == 2
-has_operands Same count = count == 3
-has_operands Isnull count = count == 2
-has_operands Show count = count == 1
-has_operands Const count = count == 2
-has_operands Add count = count == 3
-has_operands Sub count = count == 3
-has_operands Print count = count == 1
-has_operands Repeat count = count == 1
-has_operands If count = count == 1
-has_operands Else count = count == 0
-has_operands End count = count == 0
+abbrev pub has_word_count : Keyword → ℕ → Bool
+has_word_count Heap count = count == 2
+has_word_count TypeLine count = nat_le 2 count
+has_word_count Global count = count == 2
+has_word_count Script count = count == 1
+has_word_count Ptr count = count == 2
+has_word_count Num count = count == 1
+has_word_count New count = count == 2
+has_word_count Free count = count == 1
+has_word_count Getn count = count == 3
+has_word_count Setn count = count == 3
+has_word_count Getp count = count == 3
+has_word_count Setp count = count == 3
+has_word_count Casp count = count == 5
+has_word_count Lea count = count == 3
+has_word_count Move count = count == 2
+has_word_count Clear count = count == 1
+has_word_count Loadg count = count == 2
+has_word_count Storeg count = count == 2
+has_word_count Same count = count == 3
+has_word_count Isnull count = count == 2
+has_word_count Show count = count == 1
+has_word_count Const count = count == 2
+has_word_count Add count = count == 3
+has_word_count Sub count = count == 3
+has_word_count Print count = count == 1
+has_word_count Repeat count = count == 1
+has_word_count If count = count == 1
+has_word_count Else count = count == 0
+has_word_count End count = count == 0

@@ -16,7 +16,7 @@ use Rattle.mk_script.specs.declared.faults.LineFault.TheVariants.{Text, Limit}
 use Rattle.mk_script.specs.declared.faults.Which.{Which}
 use Rattle.mk_script.specs.declared.faults.Which.TheVariants as which
 use Rattle.mk_script.specs.declared.faults.TextKind.TheVariants as kind
-use Rattle.mk_script.specs.Keywords.{keyword_of, has_operands}
+use Rattle.mk_script.specs.Keywords.{keyword_of, has_word_count}
 use Rattle.mk_script.specs.Operands.{◌>>=◌, have_form, item_from}
 use Rattle.mk_script.specs.Scopes.{type_names, global_names, script_names, pointer_names, number_names, is_script}
 use Rattle.mk_script.specs.Scopes.{is_instruction, this_script, OpenBlock, InRepeat, InFirst, InSecond, open_blocks}
@@ -45,7 +45,7 @@ heap_line words = Err (Text kind.Header)
 abbrev pub placed_item : List Item → Option Keyword → List (List ℕ) → Result Item LineFault
 placed_item before None operands = Err (Text kind.Word)
 placed_item before (Some form) operands =
-    if has_operands form (length operands) && have_form form operands && is_placed before form
+    if has_word_count form (length operands) && have_form form operands && is_placed before form
     then item_from form operands
     else Err (Text kind.Word)
 

@@ -20,5 +20,5 @@ abbrev pub is_empty : List ℕ → Bool
 is_empty word = length word == 0
 
 -- The words of a line: what stands between spaces. No other byte separates words.
-abbrev pub words_of : List ℕ → List (List ℕ)
-words_of line = filter (λ word. not (is_empty word)) (slice_split (λ byte. byte == 32) line)
+abbrev pub words_of_line : List ℕ → List (List ℕ)
+words_of_line line = filter (λ word. not (is_empty word)) (slice_split (λ byte. byte == 32) line)

@@ -3,7 +3,7 @@ ghost use Rattle.std.specs.Prelude.{◌≡◌, ◌≢◌, IfOk, IfErr, MatchResu
 ghost use Rattle.mk_script.specs.Grammar as spec;
 ghost use Rattle.mk_script.specs.Grammar.{program_of, items_of_lines};
 ghost use Rattle.mk_script.specs.ScopeOf.{IsScopeOf, ReadsLine, IsStopOfLine};
-ghost use Rattle.mk_script.specs.Words.{lines_of, words_of};
+ghost use Rattle.mk_script.specs.Words.{lines_of, words_of_line};
 
 use crate::faults::{LineStop, TEXT_LIMIT, TOO_LONG, TextKind, TextStop, Which};
 use crate::scope::Scope;
@@ -56,8 +56,8 @@ fn read_line<'a>(
     line: &'a [u8],
 ) -> Result<(), LineStop>
     ensures { IsScopeOf scope.old items.old.items
-        → MatchResult result (λ _. ReadsLine items.old.items (words_of line.now) items.new.items scope.new)
-        (IsStopOfLine items.old.items (words_of line.now)) }
+        → MatchResult result (λ _. ReadsLine items.old.items (words_of_line line.now) items.new.items scope.new)
+        (IsStopOfLine items.old.items (words_of_line line.now)) }
 {
     replace_words(words, line)?;
     let item = line::item(alloc, scope, words.as_slice())?;

@@ -1,7 +1,7 @@
 //! Lines and words.
 ghost use Rattle.std.specs.Prelude.{◌≡◌, ◌==◌, IfOk, OnOk};
 ghost use Rattle.std.specs.List.{slice_split};
-ghost use Rattle.mk_script.specs.Words.{lines_of, words_of, texts_of};
+ghost use Rattle.mk_script.specs.Words.{lines_of, words_of_line, texts_of};
 
 use std::alloc::{AllocError, Global};
 
@@ -27,7 +27,7 @@ fn between_newlines(alloc: Global, text: &[u8]) -> Result<Vec<&[u8]>, AllocError
 
 /// The words of a line.
 pub fn split_words(alloc: Global, line: &[u8]) -> Result<Vec<&[u8]>, AllocError>
-    ensures { IfOk result (λ words. texts_of words.items ≡ words_of line.now) }
+    ensures { IfOk result (λ words. texts_of words.items ≡ words_of_line line.now) }
 {
     let mut words = Vec::new(alloc);
     replace_words(&mut words, line)?;
@@ -36,7 +36,7 @@ pub fn split_words(alloc: Global, line: &[u8]) -> Result<Vec<&[u8]>, AllocError>
 
 /// Puts the words of a line in the place of those of another.
 pub fn replace_words<'a>(words: &mut Vec<&'a [u8]>, line: &'a [u8]) -> Result<(), AllocError>
-    ensures { OnOk result (texts_of words.new.items ≡ words_of line.now) }
+    ensures { OnOk result (texts_of words.new.items ≡ words_of_line line.now) }
 {
     words.clear();
     for word in line.split(|byte| *byte == b' ') {

@@ -18,9 +18,9 @@ use Rattle.mk_core.specs.declared.events.Answer.{Answer}
 use Rattle.mk_core.specs.declared.events.Answer.TheVariants as answer
 use Rattle.mk_core.specs.Calls.{one_if}
 use Rattle.mk_core.specs.History.{IsHistory}
-use Rattle.mk_frames.proofs.LastEvents.{stands}
+use Rattle.mk_laws.proofs.LastEvents.{stands}
 use Rattle.mk_words.specs.States.{PassState}
-use Rattle.mk_caller.specs.States.{never_of, number_of, value_of}
+use Rattle.mk_caller.specs.States.{never_of, caller_of_pass, value_of}
 use Rattle.mk_caller.specs.Called.{Called, IsAnswered, Says}
 use Rattle.mk_caller.specs.Laws.{destination}
 use Rattle.mk_caller.proofs.After.{calls_leave_other_registers}
@@ -38,7 +38,7 @@ use Rattle.mk_stack.specs.Jobs.{found, find_no_room, place, start, lack, go_push
 use Rattle.mk_stack.specs.Jobs.{publish, push_again, peek, miss, meet, follow, unlink, pop_again, free, free_again}
 use Rattle.mk_stack.specs.Jobs.{read, clear}
 use Rattle.mk_stack.specs.Passes.{HasStackTypes}
-use Rattle.mk_stack.specs.Advancing.{Advances, Holds, IsPointerTo, MayPointTo}
+use Rattle.mk_stack.specs.Advancing.{Advances, IsAtPoint, IsPointerTo, MayPointTo}
 use Rattle.mk_stack.proofs.Heaps.{set_register, other_register}
 use Rattle.mk_stack.proofs.NodeKinds.{IsStackState, gets_to, top_word, node_link, global_kind, not_null_points}
 use Rattle.mk_stack.proofs.Replies.{Happens, from_called, from_turn}
@@ -52,7 +52,7 @@ may_on ty v w e h = subst (λ (x : Value). MayPointTo ty x) (sym e) h
 
 -- The state at which an operation was decided
 pub place_state : (p q : PassState) (o : Op) (a : Answer) → HasStackTypes p.table.config → (h : Happens p o a q)
-    → IsStackState p.table.config.globals h.n (number_of p)
+    → IsStackState p.table.config.globals h.n (caller_of_pass p)
 place_state p q o a types h =
     record {
       typed = h.typed;
@@ -64,8 +64,8 @@ place_state p q o a types h =
     }
 
 -- The state after what the pass has seen
-pub pass_state : (p : PassState) → HasStackTypes p.table.config → number_of p < p.table.config.callers
-    → IsHistory p.table.config p.seen → IsStackState p.table.config.globals (never_of p) (number_of p)
+pub pass_state : (p : PassState) → HasStackTypes p.table.config → caller_of_pass p < p.table.config.callers
+    → IsHistory p.table.config p.seen → IsStackState p.table.config.globals (never_of p) (caller_of_pass p)
 pass_state p types exists history =
     let mirrors = (stands p.table.config p.seen history).all.mirrors in
     record {
@@ -80,12 +80,12 @@ pass_state p types exists history =
 
 -- One operation of a caller, and its next point
 advance : (p q : PassState) (o : Op) (a : Answer) (s t : Point) (r : Reply) → (h : Happens p o a q)
-    → reply_of h.n (number_of p) o ≡ r → Asks s o r t → Holds q t → Advances p s q t
+    → reply_of h.n (caller_of_pass p) o ≡ r → Asks s o r t → IsAtPoint q t → Advances p s q t
 advance p q o a s t r h is asks holds =
     record {
       is = h.is;
       op = o;
-      reply = reply_of h.n (number_of p) o;
+      reply = reply_of h.n (caller_of_pass p) o;
       asks = subst (λ (x : Reply). Asks s o x t) (sym is) asks;
       did = h.did;
       holds = holds;
@@ -104,7 +104,7 @@ none_is_not x e = cc
 
 module _ (p q : PassState) (types : HasStackTypes p.table.config) (history : IsHistory q.table.config q.seen) where
   abbrev k : ℕ
-  k = number_of p
+  k = caller_of_pass p
 
   -- A register at the place where an operation is decided
   pub pointer_then : (o : Op) (a : Answer) (h : Happens p o a q) (ty r : ℕ) → r < 8 → IsPointerTo ty (value_of p r)
@@ -214,7 +214,7 @@ module _ (p q : PassState) (types : HasStackTypes p.table.config) (history : IsH
 
   -- A node is filled in, linked and published.
 
-  pub fill_advances : (x : ℕ) → Holds p (Filling x) → Called p (op.SetNum 1 0 x) answer.Done q
+  pub fill_advances : (x : ℕ) → IsAtPoint p (Filling x) → Called p (op.SetNum 1 0 x) answer.Done q
       → Advances p (Filling x) q (Looking x)
   fill_advances x holds called =
       let h = from_called p q (op.SetNum 1 0 x) answer.Done refl history called in
@@ -250,7 +250,7 @@ module _ (p q : PassState) (types : HasStackTypes p.table.config) (history : IsH
   load_keeps r d lt other q' i called =
       kept p q (op.GetPtr d q' i) (answer.Word called.word) called.called r lt (λ e. other (sym (some_is d r e)))
 
-  pub look_advances : (x : ℕ) → Holds p (Looking x) → IsAnswered p (op.GetPtr 2 0 0) q
+  pub look_advances : (x : ℕ) → IsAtPoint p (Looking x) → IsAnswered p (op.GetPtr 2 0 0) q
       → Advances p (Looking x) q (Linking x)
   look_advances x holds called =
       let h = from_called p q (op.GetPtr 2 0 0) (answer.Word called.word) refl history called.called in
@@ -261,7 +261,7 @@ module _ (p q : PassState) (types : HasStackTypes p.table.config) (history : IsH
         loaded_top holds.0 called,
       )
 
-  pub peek_advances : Holds p Peeking → IsAnswered p (op.GetPtr 2 0 0) q → Advances p Peeking q Testing
+  pub peek_advances : IsAtPoint p Peeking → IsAnswered p (op.GetPtr 2 0 0) q → Advances p Peeking q Testing
   peek_advances holds called =
       let h = from_called p q (op.GetPtr 2 0 0) (answer.Word called.word) refl history called.called in
       let v = word_reply h.bases called.word _ h.image in
@@ -270,7 +270,7 @@ module _ (p q : PassState) (types : HasStackTypes p.table.config) (history : IsH
         loaded_top holds called,
       )
 
-  pub link_advances : (x : ℕ) → Holds p (Linking x) → Called p (op.SetPtr 1 1 2) answer.Done q
+  pub link_advances : (x : ℕ) → IsAtPoint p (Linking x) → Called p (op.SetPtr 1 1 2) answer.Done q
       → Advances p (Linking x) q (Publishing x)
   link_advances x holds called =
       let h = from_called p q (op.SetPtr 1 1 2) answer.Done refl history called in
@@ -289,7 +289,7 @@ module _ (p q : PassState) (types : HasStackTypes p.table.config) (history : IsH
       advance p q (op.CasPtr 0 0 2 1) (answer.Num 1) (Publishing x) (Ended Pushed) (reply.Num 1) h
       (num_reply h.bases 1 _ h.image) publish tt
 
-  pub push_again_advances : (x : ℕ) → Holds p (Publishing x) → Says p (op.CasPtr 0 0 2 1) false q
+  pub push_again_advances : (x : ℕ) → IsAtPoint p (Publishing x) → Says p (op.CasPtr 0 0 2 1) false q
       → Advances p (Publishing x) q (Looking x)
   push_again_advances x holds called =
       let h = from_called p q (op.CasPtr 0 0 2 1) (answer.Num 0) refl history called in
@@ -309,7 +309,7 @@ module _ (p q : PassState) (types : HasStackTypes p.table.config) (history : IsH
       advance p q (op.IsNull 2) (answer.Num 1) Testing (Ended Empty) (reply.Num 1) h
       (num_reply h.bases 1 _ h.image) miss tt
 
-  pub meet_advances : Holds p Testing → is_same (value_of p 2) Null ≡ false → Says p (op.IsNull 2) false q
+  pub meet_advances : IsAtPoint p Testing → is_same (value_of p 2) Null ≡ false → Says p (op.IsNull 2) false q
       → Advances p Testing q Following
   meet_advances holds differs called =
       let h = says_null 2 false called in
@@ -339,7 +339,7 @@ module _ (p q : PassState) (types : HasStackTypes p.table.config) (history : IsH
       ∙ set_register h.n k 3 v (omega (arith, room)))
       (node_link p.table.config.globals h.n k state 2 there)
 
-  pub follow_advances : Holds p Following → IsAnswered p (op.GetPtr 3 2 1) q → Advances p Following q Taking
+  pub follow_advances : IsAtPoint p Following → IsAnswered p (op.GetPtr 3 2 1) q → Advances p Following q Taking
   follow_advances holds called =
       let h = from_called p q (op.GetPtr 3 2 1) (answer.Word called.word) refl history called.called in
       let v = word_reply h.bases called.word _ h.image in
@@ -353,14 +353,14 @@ module _ (p q : PassState) (types : HasStackTypes p.table.config) (history : IsH
   exchange_keeps said called r lt =
       kept p q (op.CasPtr 0 0 2 3) (answer.Num (one_if said)) called r lt (λ e. none_is_not r e)
 
-  pub unlink_advances : Holds p Taking → Says p (op.CasPtr 0 0 2 3) true q → Advances p Taking q Freeing
+  pub unlink_advances : IsAtPoint p Taking → Says p (op.CasPtr 0 0 2 3) true q → Advances p Taking q Freeing
   unlink_advances holds called =
       let h = from_called p q (op.CasPtr 0 0 2 3) (answer.Num 1) refl history called in
       advance p q (op.CasPtr 0 0 2 3) (answer.Num 1) Taking Freeing (reply.Num 1) h
       (num_reply h.bases 1 _ h.image) unlink
       (points_on 0 (value_of p 2) (value_of q 2) (exchange_keeps true called 2 (omega arith)) holds.1)
 
-  pub pop_again_advances : Holds p Taking → Says p (op.CasPtr 0 0 2 3) false q → Advances p Taking q Peeking
+  pub pop_again_advances : IsAtPoint p Taking → Says p (op.CasPtr 0 0 2 3) false q → Advances p Taking q Peeking
   pop_again_advances holds called =
       let h = from_called p q (op.CasPtr 0 0 2 3) (answer.Num 0) refl history called in
       advance p q (op.CasPtr 0 0 2 3) (answer.Num 0) Taking Peeking (reply.Num 0) h
@@ -372,19 +372,19 @@ module _ (p q : PassState) (types : HasStackTypes p.table.config) (history : IsH
   free_keeps n (Num m) r = refl
   free_keeps n (Ptr a ty offset) r = refl
 
-  free_holds : (a : Answer) → Holds p Freeing → (h : Happens p (op.Free 2) a q) → Holds q Reading
+  free_holds : (a : Answer) → IsAtPoint p Freeing → (h : Happens p (op.Free 2) a q) → IsAtPoint q Reading
   free_holds a holds h =
       points_on 0 (value_of p 2) (value_of q 2)
       (h.after 2 (omega arith) ∙ free_keeps h.n (register_at h.n k 2) 2 ∙ h.before 2 (omega arith)) holds
 
-  pub free_advances : (on : Bool) → Holds p Freeing → CalledInTurn on p (op.Free 2) answer.Done q
+  pub free_advances : (on : Bool) → IsAtPoint p Freeing → CalledInTurn on p (op.Free 2) answer.Done q
       → Advances p Freeing q Reading
   free_advances on holds called =
       let h = from_turn on p q (op.Free 2) answer.Done refl history called in
       advance p q (op.Free 2) answer.Done Freeing Reading reply.Done h (done_reply h.bases _ h.image) free
       (free_holds answer.Done holds h)
 
-  pub free_again_advances : (on : Bool) → Holds p Freeing → CalledInTurn on p (op.Free 2) answer.Double q
+  pub free_again_advances : (on : Bool) → IsAtPoint p Freeing → CalledInTurn on p (op.Free 2) answer.Double q
       → Advances p Freeing q Reading
   free_again_advances on holds called =
       let h = from_turn on p q (op.Free 2) answer.Double refl history called in

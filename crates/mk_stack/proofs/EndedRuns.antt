@@ -32,7 +32,7 @@ use Rattle.mk_stack.specs.declared.points.Point.TheVariants.{Founding, Founded}
 use Rattle.mk_stack.specs.declared.working.Ended.{Ended}
 use Rattle.mk_stack.specs.Joining.{HasHandedOut, HaveEnded, HaveFoundedAndWorked, IsReader, ReadsStack}
 use Rattle.mk_stack.specs.JobLists.{HaveDone}
-use Rattle.mk_stack.specs.Passes.{Goes, HasStackTypes, replied_to}
+use Rattle.mk_stack.specs.Passes.{GoesToPoint, HasStackTypes, replied_to}
 use Rattle.mk_stack.specs.Jobs.{Leads, Replied}
 use Rattle.mk_stack.specs.StackRuns.{IsStackRun}
 use Rattle.mk_stack.proofs.JoinedJobs.{next_unasked, same_or_later}
@@ -124,7 +124,7 @@ module _ (w : WordsState) (markers : ℕ) (lists : List Jobs) (joined : Joined) 
 
 -- What the operations of the first caller lead to, before its jobs
 pub founds_stack : (w : WordsState) (markers : ℕ) (h : HostState) (s : CallerState) (q r : PassState)
-    → HasHandedOut w markers 0 h → s ≡ at_home (pass_for h (Caller h.callers)) → Goes s.pass Founding q Founded
+    → HasHandedOut w markers 0 h → s ≡ at_home (pass_for h (Caller h.callers)) → GoesToPoint s.pass Founding q Founded
     → r ≡ q → Leads Founding (replied_to r) Founded
 founds_stack w markers h s q r made is goes same =
     subst (λ (l : List Replied). Leads Founding l Founded)

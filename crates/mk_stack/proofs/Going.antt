@@ -4,14 +4,14 @@ use Rattle.std.proofs.Common.{arith}
 use Rattle.mk_never.specs.declared.values.Value.{Value}
 use Rattle.mk_never.specs.NeverHeap.{register_at}
 use Rattle.mk_words.specs.States.{PassState}
-use Rattle.mk_caller.specs.States.{never_of, number_of, value_of}
+use Rattle.mk_caller.specs.States.{never_of, caller_of_pass, value_of}
 use Rattle.mk_stack.specs.declared.points.Point.{Point}
 use Rattle.mk_stack.specs.declared.points.Point.TheVariants.{Founding, Placing, Founded, Starting, Checking, Making}
 use Rattle.mk_stack.specs.declared.points.Point.TheVariants.{Filling, Looking, Linking, Publishing, Peeking, Testing}
 use Rattle.mk_stack.specs.declared.points.Point.TheVariants.{Following, Taking, Freeing, Reading, Ended}
 use Rattle.mk_stack.specs.Jobs.{Replied, Leads}
-use Rattle.mk_stack.specs.Passes.{Goes, replied_to}
-use Rattle.mk_stack.specs.Advancing.{Advances, Holds, IsPointerTo, MayPointTo, Stays}
+use Rattle.mk_stack.specs.Passes.{GoesToPoint, replied_to}
+use Rattle.mk_stack.specs.Advancing.{Advances, IsAtPoint, IsPointerTo, MayPointTo, Stays}
 
 pub leads_through : (s : Point) (xs : List Replied) (t : Point) (ys : List Replied) (u : Point) → Leads s xs t
     → Leads t ys u → Leads s (xs ++ ys) u
@@ -22,7 +22,7 @@ pub seen_then : (p q r : PassState) → q ≡ record p { seen = q.seen } → r �
     → r ≡ record p { seen = r.seen }
 seen_then p q r is next = next ∙ ap (λ (s : PassState). record s { seen = r.seen }) is
 
-pub goes_through : (p q r : PassState) (s t u : Point) → Goes p s q t → Goes q t r u → Goes p s r u
+pub goes_through : (p q r : PassState) (s t u : Point) → GoesToPoint p s q t → GoesToPoint q t r u → GoesToPoint p s r u
 goes_through p q r s t u goes on =
     record {
       is = seen_then p q r goes.is on.is;
@@ -34,7 +34,7 @@ goes_through p q r s t u goes on =
           ∙ append_assoc (replied_to p) goes.all on.all;
     }
 
-pub goes_once : (p q : PassState) (s t : Point) → Advances p s q t → Goes p s q t
+pub goes_once : (p q : PassState) (s t : Point) → Advances p s q t → GoesToPoint p s q t
 goes_once p q s t on =
     record {
       is = on.is;
@@ -43,10 +43,10 @@ goes_once p q s t on =
       did = on.did;
     }
 
-pub goes_more : (p q r : PassState) (s t u : Point) → Goes p s q t → Advances q t r u → Goes p s r u
+pub goes_more : (p q r : PassState) (s t u : Point) → GoesToPoint p s q t → Advances q t r u → GoesToPoint p s r u
 goes_more p q r s t u goes on = goes_through p q r s t u goes (goes_once q r t u on)
 
-pub goes_held : (p q r : PassState) (s t : Point) → Goes p s q t → Stays q r → Goes p s r t
+pub goes_held : (p q r : PassState) (s t : Point) → GoesToPoint p s q t → Stays q r → GoesToPoint p s r t
 goes_held p q r s t goes on =
     record {
       is = seen_then p q r goes.is on.is;
@@ -58,7 +58,7 @@ goes_held p q r s t goes on =
 module _ (q r : PassState) (on : Stays q r) where
   same : (x : ℕ) → x < 8 → value_of r x ≡ value_of q x
   same x lt =
-      ap (λ (s : PassState). register_at (never_of r) (number_of s) x) on.is ∙ on.registers x lt
+      ap (λ (s : PassState). register_at (never_of r) (caller_of_pass s) x) on.is ∙ on.registers x lt
 
   points : (ty x : ℕ) → x < 8 → IsPointerTo ty (value_of q x) → IsPointerTo ty (value_of r x)
   points ty x lt h = record { number = h.number; is = same x lt ∙ h.is }
@@ -66,7 +66,7 @@ module _ (q r : PassState) (on : Stays q r) where
   may : (ty x : ℕ) → x < 8 → MayPointTo ty (value_of q x) → MayPointTo ty (value_of r x)
   may ty x lt h = subst (λ (v : Value). MayPointTo ty v) (sym (same x lt)) h
 
-  pub holds_held : (t : Point) → Holds q t → Holds r t
+  pub holds_held : (t : Point) → IsAtPoint q t → IsAtPoint r t
   holds_held Founding h = tt
   holds_held Placing h = points 1 0 (omega arith) h
   holds_held Founded h = tt

@@ -16,7 +16,7 @@ use Rattle.mk_never.specs.NeverHeap.{after_calls}
 use Rattle.mk_words.specs.Seats.{Has, has_over}
 use Rattle.mk_words.specs.States.{WordsState, PassState}
 use Rattle.mk_words.proofs.Seats.{has_first, has_left, has_right, others_own, without_keeps}
-use Rattle.mk_caller.specs.States.{CallerState, at_home, number_of, IsIdleCaller}
+use Rattle.mk_caller.specs.States.{CallerState, at_home, caller_of_pass, IsIdleCaller}
 use Rattle.mk_heap.specs.Hosts.{HostState, pass_for, with_caller_made, with_joined}
 use Rattle.mk_stack.specs.declared.job_lists.Dones.{Dones}
 use Rattle.mk_stack.specs.declared.job_lists.Jobs.{Jobs}
@@ -27,7 +27,7 @@ use Rattle.mk_stack.specs.declared.joining.Worked.{Worked}
 use Rattle.mk_stack.specs.Interleavings.{own_replied}
 use Rattle.mk_stack.specs.JobLists.{DoesJobs, HasDone, HaveDone}
 use Rattle.mk_stack.specs.Jobs.{Replied, all_of}
-use Rattle.mk_stack.specs.Joining.{HasHandedOut, HasWorked, HaveWorked, IsReady}
+use Rattle.mk_stack.specs.Joining.{HasHandedOut, HasWorked, HaveWorked, IsBetweenJobs}
 use Rattle.mk_stack.specs.Passes.{replied_in, replied_to}
 use Rattle.mk_stack.proofs.OwnCalls.{none_of}
 use Rattle.mk_stack.proofs.Replies.{asked_in_two, none_replied, own_in_parts}
@@ -77,7 +77,8 @@ no_reply c k = refl
 
 pub unasked : (p : PassState) → p.seen ≡ [] → replied_to p ≡ []
 unasked p is =
-    ap (λ (l : List Event). replied_in p.table.config (number_of p) l) is ∙ no_reply p.table.config (number_of p)
+    ap (λ (l : List Event). replied_in p.table.config (caller_of_pass p) l) is
+    ∙ no_reply p.table.config (caller_of_pass p)
 
 -- The host makes the next caller.
 
@@ -92,8 +93,8 @@ next_made w markers n h made = record {
   same_markers = made.same_markers;
 }
 
-pub is_ready : (w : WordsState) (k : ℕ) (p q : PassState) → IsReady w k p → q ≡ record p { seen = q.seen }
-    → IsIdleCaller q → IsReady w k q
+pub is_ready : (w : WordsState) (k : ℕ) (p q : PassState) → IsBetweenJobs w k p → q ≡ record p { seen = q.seen }
+    → IsIdleCaller q → IsBetweenJobs w k q
 is_ready w k p q ready is idle = record {
   table = ap (λ (r : PassState). r.table) is ∙ ready.table;
   seat = ap (λ (r : PassState). r.seat) is ∙ ready.seat;
@@ -102,7 +103,7 @@ is_ready w k p q ready is idle = record {
 }
 
 pub next_ready : (w : WordsState) (markers n : ℕ) (h : HostState) (s : CallerState) → HasHandedOut w markers n h
-    → s ≡ at_home (pass_for h (Caller h.callers)) → IsIdleCaller s.pass → IsReady w n s.pass
+    → s ≡ at_home (pass_for h (Caller h.callers)) → IsIdleCaller s.pass → IsBetweenJobs w n s.pass
 next_ready w markers n h s made is idle =
     let next : s.pass ≡ pass_for h (Caller h.callers) = ap (λ (r : CallerState). r.pass) is in
     let seat : Caller h.callers ≡ Caller n = ap (λ (j : ℕ). Caller j) made.count in
@@ -119,12 +120,13 @@ next_unasked w markers n h s made is = unasked s.pass (ap (λ (r : CallerState).
 
 -- A caller did its jobs.
 
-pub done_by : (w : WordsState) (k : ℕ) (p q : PassState) (jobs : List Job) (dones : List Done) → IsReady w k p
+pub done_by : (w : WordsState) (k : ℕ) (p q : PassState) (jobs : List Job) (dones : List Done) → IsBetweenJobs w k p
     → DoesJobs p jobs dones q → HasDone w.config q.seen (replied_to p) k jobs dones
 done_by w k p q jobs dones ready does =
     let table : q.table ≡ w = ap (λ (r : PassState). r.table) does.is ∙ ready.table in
-    let number : number_of q ≡ k =
-    ap (λ (r : PassState). number_of r) does.is ∙ ap (λ (s : Seat). number_of (record p { seat = s })) ready.seat in
+    let number : caller_of_pass q ≡ k =
+    ap (λ (r : PassState). caller_of_pass r) does.is
+    ∙ ap (λ (s : Seat). caller_of_pass (record p { seat = s })) ready.seat in
     record {
       runs = does.runs;
       are_runs = does.are_runs;
@@ -136,7 +138,7 @@ done_by w k p q jobs dones ready does =
     }
 
 pub all_done_by : (w : WordsState) (k : ℕ) (p q : PassState) (jobs : List Job) (dones : Result Dones NoMemory)
-    → IsReady w k p → IfOk dones (λ ds. DoesJobs p jobs ds.list.items q)
+    → IsBetweenJobs w k p → IfOk dones (λ ds. DoesJobs p jobs ds.list.items q)
     → IfOk dones (λ ds. HasDone w.config q.seen (replied_to p) k jobs ds.list.items)
 all_done_by w k p q jobs (Ok ds) ready does = done_by w k p q jobs ds.list.items ready does
 all_done_by w k p q jobs (Err e) ready does = tt
@@ -191,7 +193,8 @@ dones_joined items c es ds fs before k jobs lists (Ok x) (Ok xs) (Ok all) mine t
     )
 
 pub one_joined : (w : WordsState) (markers : ℕ) (first : List Replied) (k : ℕ) (jobs : Jobs) (others : List Jobs)
-    (worked : Worked) (joined all : Joined) → HasWorked w first k jobs.list.items worked → HaveWorked w markers [] (k + 1) others joined
+    (worked : Worked) (joined all : Joined) → HasWorked w first k jobs.list.items worked
+    → HaveWorked w markers [] (k + 1) others joined
     → all.host ≡ with_joined joined.host worked.pass all.host.pass.seen
     → Grows joined.host.pass.seats joined.host.pass.seen all.host.pass.seen
     → Grows worked.pass.seats worked.pass.seen all.host.pass.seen
@@ -235,7 +238,7 @@ one_joined w markers first k jobs others worked joined all one rest is own came 
 
 -- The work of a caller's thread
 pub has_worked : (w : WordsState) (k : ℕ) (p : PassState) (s : CallerState) (q r : PassState) (jobs : List Job)
-    (dones : Result Dones NoMemory) → IsReady w k p → s ≡ at_home p → q ≡ record s.pass { seen = q.seen }
+    (dones : Result Dones NoMemory) → IsBetweenJobs w k p → s ≡ at_home p → q ≡ record s.pass { seen = q.seen }
     → IfOk dones (λ ds. DoesJobs s.pass jobs ds.list.items q) → r ≡ q → IsIdleCaller q
     → HasWorked w (replied_to p) k jobs (record { pass = r; dones = dones })
 has_worked w k p s q r jobs dones ready home is does same idle =
@@ -248,14 +251,14 @@ has_worked w k p s q r jobs dones ready home is does same idle =
 
 -- What a caller's jobs ask for
 
-pub ready_exists : (w : WordsState) (k : ℕ) (p : PassState) (s : CallerState) → IsReady w k p → s ≡ at_home p
-    → k < w.config.callers → number_of s.pass < s.pass.table.config.callers
+pub ready_exists : (w : WordsState) (k : ℕ) (p : PassState) (s : CallerState) → IsBetweenJobs w k p → s ≡ at_home p
+    → k < w.config.callers → caller_of_pass s.pass < s.pass.table.config.callers
 ready_exists w k p s ready home lt =
-    subst (λ (x : CallerState). number_of x.pass < x.pass.table.config.callers) (sym home)
-    (subst (λ (v : WordsState). number_of p < v.config.callers) (sym ready.table)
-    (subst (λ (x : Seat). number_of (record p { seat = x }) < w.config.callers) (sym ready.seat) lt))
+    subst (λ (x : CallerState). caller_of_pass x.pass < x.pass.table.config.callers) (sym home)
+    (subst (λ (v : WordsState). caller_of_pass p < v.config.callers) (sym ready.table)
+    (subst (λ (x : Seat). caller_of_pass (record p { seat = x }) < w.config.callers) (sym ready.seat) lt))
 
-pub ready_alone : (w : WordsState) (k : ℕ) (p : PassState) (s : CallerState) → IsReady w k p → s ≡ at_home p
+pub ready_alone : (w : WordsState) (k : ℕ) (p : PassState) (s : CallerState) → IsBetweenJobs w k p → s ≡ at_home p
     → s.pass.seats ≡ s.pass.seat ∷ []
 ready_alone w k p s ready home =
     subst (λ (x : CallerState). x.pass.seats ≡ x.pass.seat ∷ []) (sym home)

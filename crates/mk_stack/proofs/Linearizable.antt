@@ -9,7 +9,7 @@ use Rattle.mk_never.specs.declared.values.Value.TheVariants.{Null}
 use Rattle.mk_never.specs.NeverHeap.{NeverState, Call, start_of, allocation_at, after_calls, bit}
 use Rattle.mk_stack.specs.Jobs.{Replied, JobRun}
 use Rattle.mk_stack.specs.declared.points.Point.TheVariants.{Founding, Founded}
-use Rattle.mk_stack.specs.Interleavings.{IsInterleaved, first_of, order_of, own_decisions, AreDecidedOnce}
+use Rattle.mk_stack.specs.Interleavings.{IsInterleaved, jobs_of_first, order_of, own_decisions, AreDecidedOnce}
 use Rattle.mk_stack.specs.Laws.{IsLinearized, LeaksNothing, IsExplained, StacksAreLinearizable, IsOneOf, times_freed}
 use Rattle.mk_stack.proofs.Roles.{Role, Unborn, Base, Private, Stacked, Taken, Freed, is_gone}
 use Rattle.mk_stack.proofs.Invariant.{Core, Local, Work, Inv}
@@ -76,7 +76,7 @@ module _ (types : List (List Kind)) (callers : ℕ) (founding : List Replied) (r
   all = run_all callers n calls h.exist None unborn [] (first_work founding runs) first_inv first_works
 
   once : (ran : Ran callers n unborn [] (first_work founding runs) calls) (k : ℕ)
-      → AreDecidedOnce k (runs k) (drop (length (first_of k founding)) (own_decisions k calls ran.decisions))
+      → AreDecidedOnce k (runs k) (drop (length (jobs_of_first k founding)) (own_decisions k calls ran.decisions))
   unfolding first_work
   once ran zero = (ran.once zero).later
   once ran (suc k) = (ran.once (suc k)).later

@@ -15,7 +15,7 @@ use Rattle.mk_never.specs.NeverHeap.{Call}
 use Rattle.mk_words.specs.Seats.{Has, has_over, without_seat}
 use Rattle.mk_words.specs.States.{WordsState, PassState}
 use Rattle.mk_words.proofs.Seats.{has_first, has_left, has_right, others_own, without_keeps}
-use Rattle.mk_caller.specs.States.{CallerState, at_home, number_of}
+use Rattle.mk_caller.specs.States.{CallerState, at_home, caller_of_pass}
 use Rattle.mk_heap.specs.Hosts.{HostState, pass_for, with_caller_out, with_joined}
 use Rattle.mk_stack.specs.declared.walking.WalkPoint.TheVariants as walk
 use Rattle.mk_stack.specs.Interleavings.{AreBelow, own_replied}
@@ -41,7 +41,7 @@ reads_stack w h g s q r numbers table home walked same came =
     let own : Grows (Caller 0 ∷ []) q.seen g.pass.seen =
     subst (λ (x : PassState). Grows x.seats q.seen g.pass.seen) from.is grows in
     let did : replied_in h.pass.table.config 0 q.seen ≡ replied_in h.pass.table.config 0 h.pass.seen ++ from.all =
-    subst (λ (x : PassState). replied_in x.table.config (number_of x) q.seen
+    subst (λ (x : PassState). replied_in x.table.config (caller_of_pass x) q.seen
     ≡ replied_in h.pass.table.config 0 h.pass.seen ++ from.all) from.is from.did in
     record {
       all = from.all;

@@ -19,7 +19,7 @@ use Rattle.mk_core.specs.Calls.{q_of}
 use Rattle.mk_core.specs.Decided.{flagged}
 use Rattle.mk_core.specs.History.{IsHistory}
 use Rattle.mk_words.specs.States.{PassState}
-use Rattle.mk_caller.specs.States.{number_of, value_of}
+use Rattle.mk_caller.specs.States.{caller_of_pass, value_of}
 use Rattle.mk_caller.specs.Called.{Called}
 use Rattle.mk_caller.specs.Causes.{IsRefused}
 use Rattle.mk_caller.specs.declared.refusals.Refusal.{Refusal}
@@ -46,7 +46,7 @@ ptr_is_no_null a ty e = cc
 
 module _ (p q : PassState) (types : HasStackTypes p.table.config) (history : IsHistory q.table.config q.seen) where
   abbrev k : ℕ
-  k = number_of p
+  k = caller_of_pass p
 
   -- An access through a pointer to an object of the stack isn't answered Fault.
   no_fault : (o : Op) (ty i : ℕ) (ks : List Kind) → flagged o answer.Fault ≡ o → length ks ≤ 2

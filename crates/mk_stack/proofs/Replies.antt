@@ -20,9 +20,9 @@ use Rattle.mk_core.specs.History.{never_first}
 use Rattle.mk_core.specs.Image.{answer_of}
 use Rattle.mk_core.proofs.Histories.{calls_more}
 use Rattle.mk_core.proofs.HistoryParts.{calls_in_parts, earlier_part_is_history}
-use Rattle.mk_frames.proofs.LastEvents.{comes_last, stands}
+use Rattle.mk_laws.proofs.LastEvents.{comes_last, stands}
 use Rattle.mk_words.specs.States.{PassState, event_of}
-use Rattle.mk_caller.specs.States.{never_of, number_of, value_of}
+use Rattle.mk_caller.specs.States.{never_of, caller_of_pass, value_of}
 use Rattle.mk_caller.specs.Called.{Called, IsDecidedIn, own_calls}
 use Rattle.mk_caller.specs.Causes.{FindsGateHeld}
 use Rattle.mk_caller.proofs.OwnSteps.{by_append, calls_by}
@@ -74,12 +74,12 @@ pub record Happens (p : PassState) (o : Op) (a : Answer) (q : PassState) : Type 
   pub types : n.types ≡ p.table.config.types
   pub typed : IsTyped p.table.config.globals n
   pub count : length n.globals ≡ 64
-  pub caller : IsCaller n (number_of p)
-  pub before : KeepsRegisters (number_of p) (never_of p) n
-  pub after : (r : ℕ) → r < 8 → value_of q r ≡ register_at (after_op n (number_of p) o) (number_of p) r
+  pub caller : IsCaller n (caller_of_pass p)
+  pub before : KeepsRegisters (caller_of_pass p) (never_of p) n
+  pub after : (r : ℕ) → r < 8 → value_of q r ≡ register_at (after_op n (caller_of_pass p) o) (caller_of_pass p) r
   pub bases : List ℕ
-  pub image : a ≡ answer_of bases (reply_of n (number_of p) o)
-  pub did : replied_to q ≡ replied_to p ++ record { op = o; reply = reply_of n (number_of p) o } ∷ []
+  pub image : a ≡ answer_of bases (reply_of n (caller_of_pass p) o)
+  pub did : replied_to q ≡ replied_to p ++ record { op = o; reply = reply_of n (caller_of_pass p) o } ∷ []
 
 -- nothing is beside one element more
 only_one : (a z y : List Decided) (e : Decided) → ((a ++ z) ++ e ∷ []) ++ y ≡ a ++ e ∷ [] → (z ≡ []) × (y ≡ [])
@@ -90,16 +90,16 @@ only_one a (b ∷ z) y e h = let lengths = ap length h in absurd (grind (arith, 
 module _ (p : PassState) (o : Op) (a : Answer) (more : List Event) (once : flagged o a ≡ o)
     (history : IsHistory p.table.config (p.seen ++ more))
     (entry : own_calls p (p.seen ++ more)
-    ≡ own_calls p p.seen ++ record { caller = number_of p; op = o; answer = a } ∷ [])
+    ≡ own_calls p p.seen ++ record { caller = caller_of_pass p; op = o; answer = a } ∷ [])
     (decided : IsDecidedIn p o a more) where
   abbrev c : Config
   c = p.table.config
 
   abbrev k : ℕ
-  k = number_of p
+  k = caller_of_pass p
 
   abbrev x : Decided
-  x = record { caller = number_of p; op = o; answer = a }
+  x = record { caller = caller_of_pass p; op = o; answer = a }
 
   abbrev before : List Event
   before = p.seen ++ decided.before
@@ -216,7 +216,8 @@ pub from_called : (p q : PassState) (o : Op) (a : Answer) → flagged o a ≡ o 
 from_called p q o a once history h =
     subst (λ (r : PassState). Happens p o a r) (sym h.is)
     (happens p o a h.more once (subst (λ (r : PassState). IsHistory r.table.config r.seen) h.is history)
-    (h.entry ∙ ap (λ (y : Op). own_calls p p.seen ++ record { caller = number_of p; op = y; answer = a } ∷ []) once)
+    (h.entry ∙ ap (λ (y : Op). own_calls p p.seen
+    ++ record { caller = caller_of_pass p; op = y; answer = a } ∷ []) once)
     h.decided)
 
 pub from_turn : (on : Bool) (p q : PassState) (o : Op) (a : Answer) → flagged (flagged o a) a ≡ flagged o a
@@ -242,10 +243,10 @@ stays_held p q o f =
     }
   where
     held_did : (more : List Event) → own_calls p (p.seen ++ more) ≡ own_calls p p.seen
-        → replied_in p.table.config (number_of p) (p.seen ++ more) ≡ replied_to p
+        → replied_in p.table.config (caller_of_pass p) (p.seen ++ more) ≡ replied_to p
     held_did more same =
         let c : Config = p.table.config in
-        let k : ℕ = number_of p in
+        let k : ℕ = caller_of_pass p in
         let later : List Decided = calls_from c (left c p.seen) more in
         let nothing : calls_by k later ≡ [] =
         same_last (own_calls p p.seen) (calls_by k later) []

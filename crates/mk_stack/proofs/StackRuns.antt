@@ -11,12 +11,12 @@ use Rattle.mk_core.specs.Decided.{Decided, asked}
 use Rattle.mk_core.specs.Growing.{AreOfOthers}
 use Rattle.mk_core.specs.History.{IsHistory, calls, calls_from, left, never_behind, never_first}
 use Rattle.mk_core.proofs.HistoryParts.{calls_in_parts, earlier_part_is_history}
-use Rattle.mk_frames.proofs.LastEvents.{stands}
+use Rattle.mk_laws.proofs.LastEvents.{stands}
 use Rattle.mk_stack.specs.declared.job_lists.Dones.{Dones}
 use Rattle.mk_stack.specs.declared.job_lists.Jobs.{Jobs}
 use Rattle.mk_stack.specs.declared.points.Point.TheVariants.{Founding, Founded}
 use Rattle.mk_stack.specs.declared.walking.WalkPoint.TheVariants as walk
-use Rattle.mk_stack.specs.Interleavings.{AreBelow, AreJobRuns, IsInterleaved, first_of, own_replied}
+use Rattle.mk_stack.specs.Interleavings.{AreBelow, AreJobRuns, IsInterleaved, jobs_of_first, own_replied}
 use Rattle.mk_stack.specs.JobLists.{HaveDone}
 use Rattle.mk_stack.specs.Jobs.{Leads, Replied, JobRun, all_of}
 use Rattle.mk_stack.specs.Laws.{IsExplained}
@@ -90,7 +90,7 @@ module _ (c : Config) (es : List Event) where
   own_at : (below : AreBelow c.callers (asked (calls c es))) (first : List Replied) (k : ℕ) (lists : List Jobs)
       (all : List Dones) (h : HaveDone c es first k lists all) → (length lists ≡ 0 → first ≡ [])
       → k + length lists ≡ c.callers → (i : ℕ)
-      → replied_in c (k + i) es ≡ first_of i first ++ all_of (runs_at first k lists all h i)
+      → replied_in c (k + i) es ≡ jobs_of_first i first ++ all_of (runs_at first k lists all h i)
   unfolding runs_at
   own_at below first k [] [] h none count zero =
       unasked_beyond (k + 0) c.callers (never_first c) (asked (calls c es)) below (omega arith)
@@ -106,7 +106,7 @@ module _ (c : Config) (es : List Event) where
       ∙ own_at below [] (k + 1) xs ds h.1 (λ e. refl) (omega arith) i
       ∙ ap (λ (l : List Replied). l ++ all_of (runs_at [] (k + 1) xs ds h.1 i)) (no_first i)
     where
-      no_first : (i : ℕ) → first_of i [] ≡ []
+      no_first : (i : ℕ) → jobs_of_first i [] ≡ []
       no_first zero = refl
       no_first (suc i) = refl
 

@@ -14,7 +14,7 @@ use Rattle.mk_core.specs.declared.events.Answer.TheVariants as answer
 use Rattle.mk_core.specs.History.{IsHistory}
 use Rattle.mk_words.specs.States.{PassState}
 use Rattle.mk_caller.specs.Called.{Called, IsAnswered}
-use Rattle.mk_caller.specs.States.{number_of, value_of}
+use Rattle.mk_caller.specs.States.{caller_of_pass, value_of}
 use Rattle.mk_caller.proofs.After.{calls_leave_other_registers}
 use Rattle.mk_stack.specs.declared.jobs.Job.TheVariants.{Pop}
 use Rattle.mk_stack.specs.declared.points.Point.{Point}
@@ -22,12 +22,12 @@ use Rattle.mk_stack.specs.declared.points.Point.TheVariants as point
 use Rattle.mk_stack.specs.declared.walking.Found.{Found}
 use Rattle.mk_stack.specs.declared.walking.WalkPoint.{WalkPoint}
 use Rattle.mk_stack.specs.declared.walking.WalkPoint.TheVariants as walk
-use Rattle.mk_stack.specs.Advancing.{Advances, Holds, IsPointerTo, MayPointTo, Stays}
+use Rattle.mk_stack.specs.Advancing.{Advances, IsAtPoint, IsPointerTo, MayPointTo, Stays}
 use Rattle.mk_stack.specs.Jobs.{Asks, Replied, node_kinds}
 use Rattle.mk_stack.specs.Jobs as asked
 use Rattle.mk_stack.specs.Passes.{HasStackTypes, replied_to}
 use Rattle.mk_stack.specs.Walks.{HasWalked, HoldsDown, LeadsDown, StepsDown, Walks, number_read, numbers_read}
-use Rattle.mk_stack.specs.Walks.{next_of, numbers_of, walk_point, start, lack, go, peek, stop, meet, read, descend}
+use Rattle.mk_stack.specs.Walks.{next_of, numbers_found, walk_point, start, lack, go, peek, stop, meet, read, descend}
 use Rattle.mk_stack.proofs.Advances.{place_state, pointer_then}
 use Rattle.mk_stack.proofs.Going.{holds_held, seen_then}
 use Rattle.mk_stack.proofs.Heaps.{set_register}
@@ -41,7 +41,7 @@ module _ (p q : PassState) where
   -- what a pop asks at this point is what a walk asks there, and loads no number
   abbrev AsPop : WalkPoint → Op → Reply → Point → Type 0
   AsPop s o r t =
-      Holds q t → (Walks s o r (walk_point t)) × (number_read o r ≡ []) × HoldsDown q (walk_point t)
+      IsAtPoint q t → (Walks s o r (walk_point t)) × (number_read o r ≡ []) × HoldsDown q (walk_point t)
 
   steps_so : (s : WalkPoint) (u t : Point) → ((o : Op) (r : Reply) (x : Point) → Asks u o r x → AsPop s o r x)
       → Advances p u q t → StepsDown p s [] q (walk_point t)
@@ -84,11 +84,11 @@ module _ (p q : PassState) where
       by o r x asked.meet = λ holds. (meet, refl, holds)
 
 -- what it finds there
-pub went_on : (p q : PassState) (s u t : WalkPoint) (f : Found) → u ≡ s → next_of f ≡ t → numbers_of f ≡ []
-    → StepsDown p s [] q t → StepsDown p u (numbers_of f) q (next_of f)
+pub went_on : (p q : PassState) (s u t : WalkPoint) (f : Found) → u ≡ s → next_of f ≡ t → numbers_found f ≡ []
+    → StepsDown p s [] q t → StepsDown p u (numbers_found f) q (next_of f)
 went_on p q s u t f here next numbers steps =
-    subst (λ (x : WalkPoint). StepsDown p x (numbers_of f) q (next_of f)) (sym here)
-    (subst (λ (x : WalkPoint). StepsDown p s (numbers_of f) q x) (sym next)
+    subst (λ (x : WalkPoint). StepsDown p x (numbers_found f) q (next_of f)) (sym here)
+    (subst (λ (x : WalkPoint). StepsDown p s (numbers_found f) q x) (sym next)
     (subst (λ (l : List ℕ). StepsDown p s l q t) (sym numbers) steps))
 
 -- Then it reads the number of a node, and loads the node below.
@@ -114,7 +114,7 @@ may_descend globals n k state h =
 
 module _ (p q : PassState) (types : HasStackTypes p.table.config) (history : IsHistory q.table.config q.seen) where
   abbrev k : ℕ
-  k = number_of p
+  k = caller_of_pass p
 
   pub reads_number : (x : ℕ) → HoldsDown p walk.Reading → Called p (op.GetNum 2 0) (answer.Num x) q
       → StepsDown p walk.Reading (x ∷ []) q walk.Descending

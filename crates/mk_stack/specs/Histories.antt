@@ -8,7 +8,7 @@ use Rattle.mk_words.specs.States.{PassState}
 use Rattle.mk_stack.specs.declared.jobs.Job.{Job}
 use Rattle.mk_stack.specs.declared.jobs.Done.{Done}
 use Rattle.mk_stack.specs.declared.points.Point.TheVariants.{Founding, Founded}
-use Rattle.mk_stack.specs.Interleavings.{AreJobRuns, first_of}
+use Rattle.mk_stack.specs.Interleavings.{AreJobRuns, jobs_of_first}
 use Rattle.mk_stack.specs.Jobs.{JobRun, IsJobRun, Leads, Replied, all_of}
 use Rattle.mk_stack.specs.Laws.{IsExplained}
 use Rattle.mk_stack.specs.Passes.{DoesJob, HasStackTypes, replied_in, replied_to}
@@ -18,7 +18,7 @@ pub record AreJobsOf (c : Config) (es : List Event) (founding : List Replied) (r
   pub types : HasStackTypes c
   pub founds : Leads Founding founding Founded
   pub jobs : (k : ℕ) → AreJobRuns (runs k)
-  pub own : (k : ℕ) → replied_in c k es ≡ first_of k founding ++ all_of (runs k)
+  pub own : (k : ℕ) → replied_in c k es ≡ jobs_of_first k founding ++ all_of (runs k)
 
 -- Whatever threads the callers ran on, and whatever cycles ran beside them, the jobs of a history are linearizable, and
 -- no node leaks. An operation of a caller has one event of the history that decides it.

@@ -18,9 +18,9 @@ own_replied k n (x ∷ xs) =
     else own_replied k (after_op n x.caller x.op) xs
 
 -- the first caller makes the top before its jobs; the others begin with their jobs
-abbrev pub first_of : ℕ → List Replied → List Replied
-first_of zero founding = founding
-first_of (suc k) founding = []
+abbrev pub jobs_of_first : ℕ → List Replied → List Replied
+jobs_of_first zero founding = founding
+jobs_of_first (suc k) founding = []
 
 abbrev pub AreJobRuns : List JobRun → Type 0
 AreJobRuns [] = Unit {0}
@@ -37,7 +37,7 @@ pub record IsInterleaved (types : List (List Kind)) (callers : ℕ) (founding : 
   pub tops : kinds_of types 1 ≡ top_kinds
   pub founds : Leads Founding founding Founded
   pub jobs : (k : ℕ) → AreJobRuns (runs k)
-  pub own : (k : ℕ) → own_replied k (start_of types callers) calls ≡ first_of k founding ++ all_of (runs k)
+  pub own : (k : ℕ) → own_replied k (start_of types callers) calls ≡ jobs_of_first k founding ++ all_of (runs k)
   pub exist : AreBelow callers calls
 
 -- Some operations decide a job: a list with one entry for each operation, some of them none.

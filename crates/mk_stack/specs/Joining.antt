@@ -22,7 +22,7 @@ use Rattle.mk_stack.specs.StackRuns.{IsStackRun}
 use Rattle.mk_stack.specs.Walks.{LeadsDown, numbers_read}
 
 -- The pass of caller k between two jobs, which its own thread may take.
-pub record IsReady (w : WordsState) (k : ℕ) (p : PassState) : Type 0 where
+pub record IsBetweenJobs (w : WordsState) (k : ℕ) (p : PassState) : Type 0 where
   pub table : p.table ≡ w
   pub seat : p.seat ≡ Caller k
   pub alone : p.seats ≡ Caller k ∷ []
@@ -30,7 +30,7 @@ pub record IsReady (w : WordsState) (k : ℕ) (p : PassState) : Type 0 where
 
 -- Caller k did its jobs on a thread of its own, all of them where memory sufficed.
 pub record HasWorked (w : WordsState) (first : List Replied) (k : ℕ) (jobs : List Job) (worked : Worked) : Type 0 where
-  pub ready : IsReady w k worked.pass
+  pub ready : IsBetweenJobs w k worked.pass
   pub done : IfOk worked.dones (λ dones. HasDone w.config worked.pass.seen first k jobs dones.list.items)
 
 -- The host has made the callers below n, and joined none.

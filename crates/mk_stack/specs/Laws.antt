@@ -13,7 +13,7 @@ use Rattle.mk_never.specs.NeverHeap.{number_of}
 use Rattle.mk_never.specs.NeverHeap.{reply_of, after_op, after_calls, replies_of}
 use Rattle.mk_stack.specs.Jobs.{Replied, JobRun}
 use Rattle.mk_stack.specs.Orders.{Ordered, Explains}
-use Rattle.mk_stack.specs.Interleavings.{IsInterleaved, first_of, order_of, own_decisions, AreDecidedOnce}
+use Rattle.mk_stack.specs.Interleavings.{IsInterleaved, jobs_of_first, order_of, own_decisions, AreDecidedOnce}
 
 -- the word of the top that global 0 points to, or null where there is none
 abbrev pub uppermost : NeverState → Value → Value
@@ -65,7 +65,7 @@ pub record IsLinearized (types : List (List Kind)) (callers : ℕ) (founding : L
   pub explained : Explains (order_of decisions) (numbers_in (after_calls (start_of types callers) calls) nodes)
   pub founds_only : order_of (take (length founding) (own_decisions 0 calls decisions)) ≡ []
   pub once : (k : ℕ) → AreDecidedOnce k (runs k)
-      (drop (length (first_of k founding)) (own_decisions k calls decisions))
+      (drop (length (jobs_of_first k founding)) (own_decisions k calls decisions))
 
 -- A node that was granted is on the stack and was never freed, or isn't on it and was freed once. No Free is answered
 -- Double.

@@ -6,7 +6,7 @@ use Rattle.mk_core.specs.declared.events.Event.{Event}
 use Rattle.mk_core.specs.Decided.{asked}
 use Rattle.mk_core.specs.History.{calls, never_first}
 use Rattle.mk_words.specs.States.{PassState}
-use Rattle.mk_caller.specs.States.{number_of}
+use Rattle.mk_caller.specs.States.{caller_of_pass}
 use Rattle.mk_stack.specs.declared.jobs.Job.{Job}
 use Rattle.mk_stack.specs.declared.jobs.Done.{Done}
 use Rattle.mk_stack.specs.declared.jobs.Done.TheVariants.{Popped, Empty}
@@ -26,10 +26,10 @@ abbrev pub replied_in : Config → ℕ → List Event → List Replied
 replied_in c k es = own_replied k (never_first c) (asked (calls c es))
 
 abbrev pub replied_to : PassState → List Replied
-replied_to p = replied_in p.table.config (number_of p) p.seen
+replied_to p = replied_in p.table.config (caller_of_pass p) p.seen
 
 -- The pass has seen more, in which its caller's operations led from one point to another.
-pub record Goes (p : PassState) (s : Point) (q : PassState) (t : Point) : Type 0 where
+pub record GoesToPoint (p : PassState) (s : Point) (q : PassState) (t : Point) : Type 0 where
   pub is : q ≡ record p { seen = q.seen }
   pub all : List Replied
   pub leads : Leads s all t
@@ -37,7 +37,7 @@ pub record Goes (p : PassState) (s : Point) (q : PassState) (t : Point) : Type 0
 
 -- Its caller did the job, and this became of it.
 abbrev pub DoesJob : PassState → Job → Done → PassState → Type 0
-DoesJob p job done q = Goes p (Starting job) q (Ended done)
+DoesJob p job done q = GoesToPoint p (Starting job) q (Ended done)
 
 -- what became of a pop
 abbrev pub popped : Option ℕ → Done

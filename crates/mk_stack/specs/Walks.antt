@@ -77,9 +77,9 @@ abbrev pub next_of : Found → WalkPoint
 next_of (found.To t) = t
 next_of (found.Number n) = walk.Descending
 
-abbrev pub numbers_of : Found → List ℕ
-numbers_of (found.To t) = []
-numbers_of (found.Number n) = n ∷ []
+abbrev pub numbers_found : Found → List ℕ
+numbers_found (found.To t) = []
+numbers_found (found.Number n) = n ∷ []
 
 -- what the caller's registers hold at each point: 0 has the top, and 2 a node
 abbrev pub HoldsDown : PassState → WalkPoint → Type 0

@@ -1,9 +1,9 @@
 //! One operation of a job at a time, as the points of a job have it.
 ghost use Rattle.std.specs.Prelude.{◌≡◌, ◌<◌, ◌∷◌, [], length, IfOk, OnOk, OnErr, true};
-ghost use Rattle.mk_caller.specs.States.{number_of};
+ghost use Rattle.mk_caller.specs.States.{caller_of_pass};
 ghost use Rattle.mk_caller.specs.declared.refusals.Refusal.TheVariants as refusal;
 ghost use Rattle.mk_stack.specs.declared.points.Point.TheVariants as point;
-ghost use Rattle.mk_stack.specs.Advancing.{Advances, Holds, IsGoal, Stays, StaysEnded};
+ghost use Rattle.mk_stack.specs.Advancing.{Advances, IsAtPoint, IsGoal, Stays, StaysEnded};
 ghost use Rattle.mk_stack.specs.Jobs.{done_without};
 ghost use Rattle.mk_stack.specs.Passes.{HasStackTypes};
 
@@ -62,9 +62,9 @@ pub(crate) fn held(cause: Refusal) -> Held
 /// Stores the top in its global.
 fn place_top(caller: &mut Caller) -> Result<Point, Held>
     requires home { caller.old.home ≡ true }
-    requires exists { number_of caller.old.pass < caller.old.pass.table.config.callers }
+    requires exists { caller_of_pass caller.old.pass < caller.old.pass.table.config.callers }
     requires types { HasStackTypes caller.old.pass.table.config }
-    requires holds { Holds caller.old.pass point.Placing }
+    requires holds { IsAtPoint caller.old.pass point.Placing }
     ensures home { caller.new.home ≡ true }
     ensures advances { IfOk result (Advances caller.old.pass point.Placing caller.new.pass) }
     ensures held { OnErr result (Stays caller.old.pass caller.new.pass) }
@@ -81,9 +81,9 @@ fn place_top(caller: &mut Caller) -> Result<Point, Held>
 /// Loads the top from its global.
 pub(crate) fn load_top(caller: &mut Caller, job: Job) -> Result<Point, Held>
     requires home { caller.old.home ≡ true }
-    requires exists { number_of caller.old.pass < caller.old.pass.table.config.callers }
+    requires exists { caller_of_pass caller.old.pass < caller.old.pass.table.config.callers }
     requires types { HasStackTypes caller.old.pass.table.config }
-    requires holds { Holds caller.old.pass (point.Starting job) }
+    requires holds { IsAtPoint caller.old.pass (point.Starting job) }
     ensures home { caller.new.home ≡ true }
     ensures advances { IfOk result (Advances caller.old.pass (point.Starting job) caller.new.pass) }
     ensures held { OnErr result (Stays caller.old.pass caller.new.pass) }
@@ -100,9 +100,9 @@ pub(crate) fn load_top(caller: &mut Caller, job: Job) -> Result<Point, Held>
 /// Looks whether there is a top.
 pub(crate) fn check_top(caller: &mut Caller, job: Job) -> Result<Point, Held>
     requires home { caller.old.home ≡ true }
-    requires exists { number_of caller.old.pass < caller.old.pass.table.config.callers }
+    requires exists { caller_of_pass caller.old.pass < caller.old.pass.table.config.callers }
     requires types { HasStackTypes caller.old.pass.table.config }
-    requires holds { Holds caller.old.pass (point.Checking job) }
+    requires holds { IsAtPoint caller.old.pass (point.Checking job) }
     ensures home { caller.new.home ≡ true }
     ensures advances { IfOk result (Advances caller.old.pass (point.Checking job) caller.new.pass) }
     ensures held { OnErr result (Stays caller.old.pass caller.new.pass) }
@@ -123,9 +123,9 @@ pub(crate) fn check_top(caller: &mut Caller, job: Job) -> Result<Point, Held>
 /// Stores its number in the node that is pushed.
 fn fill(caller: &mut Caller, n: u64) -> Result<Point, Held>
     requires home { caller.old.home ≡ true }
-    requires exists { number_of caller.old.pass < caller.old.pass.table.config.callers }
+    requires exists { caller_of_pass caller.old.pass < caller.old.pass.table.config.callers }
     requires types { HasStackTypes caller.old.pass.table.config }
-    requires holds { Holds caller.old.pass (point.Filling n) }
+    requires holds { IsAtPoint caller.old.pass (point.Filling n) }
     ensures home { caller.new.home ≡ true }
     ensures advances { IfOk result (Advances caller.old.pass (point.Filling n) caller.new.pass) }
     ensures held { OnErr result (Stays caller.old.pass caller.new.pass) }
@@ -142,9 +142,9 @@ fn fill(caller: &mut Caller, n: u64) -> Result<Point, Held>
 /// Loads the uppermost node, or null.
 fn look(caller: &mut Caller, n: u64) -> Result<Point, Held>
     requires home { caller.old.home ≡ true }
-    requires exists { number_of caller.old.pass < caller.old.pass.table.config.callers }
+    requires exists { caller_of_pass caller.old.pass < caller.old.pass.table.config.callers }
     requires types { HasStackTypes caller.old.pass.table.config }
-    requires holds { Holds caller.old.pass (point.Looking n) }
+    requires holds { IsAtPoint caller.old.pass (point.Looking n) }
     ensures home { caller.new.home ≡ true }
     ensures advances { IfOk result (Advances caller.old.pass (point.Looking n) caller.new.pass) }
     ensures held { OnErr result (Stays caller.old.pass caller.new.pass) }
@@ -161,9 +161,9 @@ fn look(caller: &mut Caller, n: u64) -> Result<Point, Held>
 /// Links the node to the uppermost one.
 fn link(caller: &mut Caller, n: u64) -> Result<Point, Held>
     requires home { caller.old.home ≡ true }
-    requires exists { number_of caller.old.pass < caller.old.pass.table.config.callers }
+    requires exists { caller_of_pass caller.old.pass < caller.old.pass.table.config.callers }
     requires types { HasStackTypes caller.old.pass.table.config }
-    requires holds { Holds caller.old.pass (point.Linking n) }
+    requires holds { IsAtPoint caller.old.pass (point.Linking n) }
     ensures home { caller.new.home ≡ true }
     ensures advances { IfOk result (Advances caller.old.pass (point.Linking n) caller.new.pass) }
     ensures held { OnErr result (Stays caller.old.pass caller.new.pass) }
@@ -180,9 +180,9 @@ fn link(caller: &mut Caller, n: u64) -> Result<Point, Held>
 /// Exchanges the uppermost node for the new one, where it is still that which was loaded.
 fn publish(caller: &mut Caller, n: u64) -> Result<Point, Held>
     requires home { caller.old.home ≡ true }
-    requires exists { number_of caller.old.pass < caller.old.pass.table.config.callers }
+    requires exists { caller_of_pass caller.old.pass < caller.old.pass.table.config.callers }
     requires types { HasStackTypes caller.old.pass.table.config }
-    requires holds { Holds caller.old.pass (point.Publishing n) }
+    requires holds { IsAtPoint caller.old.pass (point.Publishing n) }
     ensures home { caller.new.home ≡ true }
     ensures advances { IfOk result (Advances caller.old.pass (point.Publishing n) caller.new.pass) }
     ensures held { OnErr result (Stays caller.old.pass caller.new.pass) }
@@ -200,9 +200,9 @@ fn publish(caller: &mut Caller, n: u64) -> Result<Point, Held>
 /// Loads the uppermost node, or null.
 pub(crate) fn peek(caller: &mut Caller) -> Result<Point, Held>
     requires home { caller.old.home ≡ true }
-    requires exists { number_of caller.old.pass < caller.old.pass.table.config.callers }
+    requires exists { caller_of_pass caller.old.pass < caller.old.pass.table.config.callers }
     requires types { HasStackTypes caller.old.pass.table.config }
-    requires holds { Holds caller.old.pass point.Peeking }
+    requires holds { IsAtPoint caller.old.pass point.Peeking }
     ensures home { caller.new.home ≡ true }
     ensures advances { IfOk result (Advances caller.old.pass point.Peeking caller.new.pass) }
     ensures held { OnErr result (Stays caller.old.pass caller.new.pass) }
@@ -219,9 +219,9 @@ pub(crate) fn peek(caller: &mut Caller) -> Result<Point, Held>
 /// Looks whether there is an uppermost node.
 pub(crate) fn test(caller: &mut Caller) -> Result<Point, Held>
     requires home { caller.old.home ≡ true }
-    requires exists { number_of caller.old.pass < caller.old.pass.table.config.callers }
+    requires exists { caller_of_pass caller.old.pass < caller.old.pass.table.config.callers }
     requires types { HasStackTypes caller.old.pass.table.config }
-    requires holds { Holds caller.old.pass point.Testing }
+    requires holds { IsAtPoint caller.old.pass point.Testing }
     ensures home { caller.new.home ≡ true }
     ensures advances { IfOk result (Advances caller.old.pass point.Testing caller.new.pass) }
     ensures held { OnErr result (Stays caller.old.pass caller.new.pass) }
@@ -239,9 +239,9 @@ pub(crate) fn test(caller: &mut Caller) -> Result<Point, Held>
 /// Loads the node below.
 fn follow(caller: &mut Caller) -> Result<Point, Held>
     requires home { caller.old.home ≡ true }
-    requires exists { number_of caller.old.pass < caller.old.pass.table.config.callers }
+    requires exists { caller_of_pass caller.old.pass < caller.old.pass.table.config.callers }
     requires types { HasStackTypes caller.old.pass.table.config }
-    requires holds { Holds caller.old.pass point.Following }
+    requires holds { IsAtPoint caller.old.pass point.Following }
     ensures home { caller.new.home ≡ true }
     ensures advances { IfOk result (Advances caller.old.pass point.Following caller.new.pass) }
     ensures held { OnErr result (Stays caller.old.pass caller.new.pass) }
@@ -258,9 +258,9 @@ fn follow(caller: &mut Caller) -> Result<Point, Held>
 /// Exchanges the uppermost node for the one below, where it is still that which was loaded.
 fn unlink(caller: &mut Caller) -> Result<Point, Held>
     requires home { caller.old.home ≡ true }
-    requires exists { number_of caller.old.pass < caller.old.pass.table.config.callers }
+    requires exists { caller_of_pass caller.old.pass < caller.old.pass.table.config.callers }
     requires types { HasStackTypes caller.old.pass.table.config }
-    requires holds { Holds caller.old.pass point.Taking }
+    requires holds { IsAtPoint caller.old.pass point.Taking }
     ensures home { caller.new.home ≡ true }
     ensures advances { IfOk result (Advances caller.old.pass point.Taking caller.new.pass) }
     ensures held { OnErr result (Stays caller.old.pass caller.new.pass) }
@@ -278,9 +278,9 @@ fn unlink(caller: &mut Caller) -> Result<Point, Held>
 /// Loads the number of the node that was taken, and is freed by now.
 fn read(caller: &mut Caller) -> Result<Point, Held>
     requires home { caller.old.home ≡ true }
-    requires exists { number_of caller.old.pass < caller.old.pass.table.config.callers }
+    requires exists { caller_of_pass caller.old.pass < caller.old.pass.table.config.callers }
     requires types { HasStackTypes caller.old.pass.table.config }
-    requires holds { Holds caller.old.pass point.Reading }
+    requires holds { IsAtPoint caller.old.pass point.Reading }
     ensures home { caller.new.home ≡ true }
     ensures advances { IfOk result (Advances caller.old.pass point.Reading caller.new.pass) }
     ensures held { OnErr result (Stays caller.old.pass caller.new.pass) }
@@ -297,7 +297,7 @@ fn read(caller: &mut Caller) -> Result<Point, Held>
 /// Sets a register to null, when the job has ended.
 pub(crate) fn clear(caller: &mut Caller, register: u8) -> Result<(), Held>
     requires home { caller.old.home ≡ true }
-    requires exists { number_of caller.old.pass < caller.old.pass.table.config.callers }
+    requires exists { caller_of_pass caller.old.pass < caller.old.pass.table.config.callers }
     requires types { HasStackTypes caller.old.pass.table.config }
     requires register { register < 8 }
     ensures home { caller.new.home ≡ true }
@@ -320,12 +320,12 @@ fn found<E: Engine, R: Threads + Wait + Sync>(
     bench: &mut Bench<E>,
 ) -> Point
     requires home { caller.old.home ≡ true }
-    requires exists { number_of caller.old.pass < caller.old.pass.table.config.callers }
+    requires exists { caller_of_pass caller.old.pass < caller.old.pass.table.config.callers }
     requires alone { caller.old.pass.seats ≡ caller.old.pass.seat ∷ [] }
     requires types { HasStackTypes caller.old.pass.table.config }
     requires made_for { E.made_for bench.old.engine ≡ caller.old.pass.table.config.pages }
     requires book { length bench.old.book ≡ caller.old.pass.table.config.pages }
-    requires holds { Holds caller.old.pass point.Founding }
+    requires holds { IsAtPoint caller.old.pass point.Founding }
     ensures home { caller.new.home ≡ true }
     ensures made_for { E.made_for bench.new.engine ≡ E.made_for bench.old.engine }
     ensures book { length bench.new.book ≡ length bench.old.book }
@@ -347,12 +347,12 @@ fn make<E: Engine, R: Threads + Wait + Sync>(
     n: u64,
 ) -> Point
     requires home { caller.old.home ≡ true }
-    requires exists { number_of caller.old.pass < caller.old.pass.table.config.callers }
+    requires exists { caller_of_pass caller.old.pass < caller.old.pass.table.config.callers }
     requires alone { caller.old.pass.seats ≡ caller.old.pass.seat ∷ [] }
     requires types { HasStackTypes caller.old.pass.table.config }
     requires made_for { E.made_for bench.old.engine ≡ caller.old.pass.table.config.pages }
     requires book { length bench.old.book ≡ caller.old.pass.table.config.pages }
-    requires holds { Holds caller.old.pass (point.Making n) }
+    requires holds { IsAtPoint caller.old.pass (point.Making n) }
     ensures home { caller.new.home ≡ true }
     ensures made_for { E.made_for bench.new.engine ≡ E.made_for bench.old.engine }
     ensures book { length bench.new.book ≡ length bench.old.book }
@@ -373,12 +373,12 @@ fn free<E: Engine, R: Threads + Wait + Sync>(
     bench: &mut Bench<E>,
 ) -> Point
     requires home { caller.old.home ≡ true }
-    requires exists { number_of caller.old.pass < caller.old.pass.table.config.callers }
+    requires exists { caller_of_pass caller.old.pass < caller.old.pass.table.config.callers }
     requires alone { caller.old.pass.seats ≡ caller.old.pass.seat ∷ [] }
     requires types { HasStackTypes caller.old.pass.table.config }
     requires made_for { E.made_for bench.old.engine ≡ caller.old.pass.table.config.pages }
     requires book { length bench.old.book ≡ caller.old.pass.table.config.pages }
-    requires holds { Holds caller.old.pass point.Freeing }
+    requires holds { IsAtPoint caller.old.pass point.Freeing }
     ensures home { caller.new.home ≡ true }
     ensures made_for { E.made_for bench.new.engine ≡ E.made_for bench.old.engine }
     ensures book { length bench.new.book ≡ length bench.old.book }
@@ -400,12 +400,12 @@ pub(crate) fn advance<E: Engine, R: Threads + Wait + Sync>(
     point: Point,
 ) -> Result<Point, Held>
     requires home { caller.old.home ≡ true }
-    requires exists { number_of caller.old.pass < caller.old.pass.table.config.callers }
+    requires exists { caller_of_pass caller.old.pass < caller.old.pass.table.config.callers }
     requires alone { caller.old.pass.seats ≡ caller.old.pass.seat ∷ [] }
     requires types { HasStackTypes caller.old.pass.table.config }
     requires made_for { E.made_for bench.old.engine ≡ caller.old.pass.table.config.pages }
     requires book { length bench.old.book ≡ caller.old.pass.table.config.pages }
-    requires holds { Holds caller.old.pass point }
+    requires holds { IsAtPoint caller.old.pass point }
     requires goes_on { IsGoal point → ⊥ }
     ensures home { caller.new.home ≡ true }
     ensures made_for { E.made_for bench.new.engine ≡ E.made_for bench.old.engine }

@@ -1,6 +1,6 @@
 //! Lists of jobs, each done by a caller of its own.
 ghost use Rattle.std.specs.Prelude.{◌≡◌, ◌<◌, ◌∷◌, [], length, IfOk, true};
-ghost use Rattle.mk_caller.specs.States.{number_of};
+ghost use Rattle.mk_caller.specs.States.{caller_of_pass};
 ghost use Rattle.mk_stack.specs.JobLists.{DoesJobs};
 ghost use Rattle.mk_stack.specs.Passes.{HasStackTypes};
 
@@ -37,7 +37,7 @@ pub fn run_jobs<E: Engine, P: Pace, R: Threads + Wait + Sync>(
     pace: &P,
 ) -> Result<Dones, NoMemory>
     requires home { caller.old.home ≡ true }
-    requires exists { number_of caller.old.pass < caller.old.pass.table.config.callers }
+    requires exists { caller_of_pass caller.old.pass < caller.old.pass.table.config.callers }
     requires alone { caller.old.pass.seats ≡ caller.old.pass.seat ∷ [] }
     requires types { HasStackTypes caller.old.pass.table.config }
     requires made_for { E.made_for bench.old.engine ≡ caller.old.pass.table.config.pages }

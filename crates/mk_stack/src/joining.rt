@@ -4,7 +4,7 @@ ghost use Rattle.std.specs.Thread.{IsSync};
 ghost use denote.Param.Send.{IsSend};
 ghost use Rattle.mk_caller.specs.States.{IsIdleCaller};
 ghost use Rattle.mk_stack.specs.Jobs.{Replied};
-ghost use Rattle.mk_stack.specs.Joining.{HasHandedOut, HasWorked, HaveWorked, IsReady};
+ghost use Rattle.mk_stack.specs.Joining.{HasHandedOut, HasWorked, HaveWorked, IsBetweenJobs};
 ghost use Rattle.mk_stack.specs.Passes.{HasStackTypes, replied_to};
 
 use crate::job_lists::{Dones, Jobs, run_jobs};
@@ -46,7 +46,7 @@ fn work_alone<E: Engine, P: Pace, R: Threads + Wait + Sync>(
 ) -> Worked
     requires exists { k < heap.now.config.callers }
     requires types { HasStackTypes heap.now.config }
-    requires pass { IsReady heap.now k pass }
+    requires pass { IsBetweenJobs heap.now k pass }
     requires made_for { E.made_for bench.engine ≡ heap.now.config.pages }
     requires book { length bench.book ≡ heap.now.config.pages }
     ensures worked { HasWorked heap.now (replied_to pass) k jobs.now.list.items result }
@@ -117,7 +117,7 @@ pub(crate) fn run_from<E: Engine + Send, P: Pace + Sync, R: Threads + Wait + Syn
     requires lists { k + length lists.now ≡ heap.now.config.callers }
     requires few { heap.now.config.callers ≤ 16 }
     requires benches { 1 + length benches.items ≡ length lists.now }
-    requires pass { IsReady heap.now k pass }
+    requires pass { IsBetweenJobs heap.now k pass }
     requires host { HasHandedOut heap.now host.markers (k + 1) host }
     requires made_for { E.made_for bench.engine ≡ heap.now.config.pages }
     requires book { length bench.book ≡ heap.now.config.pages }
@@ -146,7 +146,7 @@ pub(crate) fn run_from<E: Engine + Send, P: Pace + Sync, R: Threads + Wait + Syn
             requires shared { IsSync R.row × IsSync P.row × IsSend E.row }
             requires exists { k < heap.now.config.callers }
             requires types { HasStackTypes heap.now.config }
-            requires pass { IsReady heap.now k pass }
+            requires pass { IsBetweenJobs heap.now k pass }
             requires made_for { E.made_for bench.engine ≡ heap.now.config.pages }
             requires book { length bench.book ≡ heap.now.config.pages }
             ensures worked { HasWorked heap.entry.now (replied_to pass) k jobs.entry.now.list.items result }
@@ -157,7 +157,7 @@ pub(crate) fn run_from<E: Engine + Send, P: Pace + Sync, R: Threads + Wait + Syn
             requires lists { k + 1 + length others.now ≡ heap.now.config.callers }
             requires few { heap.now.config.callers ≤ 16 }
             requires benches { 1 + length benches.items ≡ length others.now }
-            requires pass { IsReady heap.now (k + 1) next }
+            requires pass { IsBetweenJobs heap.now (k + 1) next }
             requires begun { replied_to next ≡ [] }
             requires host { HasHandedOut heap.now host.markers (k + 1 + 1) host }
             requires made_for { E.made_for next_bench.engine ≡ heap.now.config.pages }

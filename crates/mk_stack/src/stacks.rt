@@ -1,8 +1,8 @@
 //! Numbers on a stack that callers share.
 ghost use Rattle.std.specs.Prelude.{◌≡◌, ◌<◌, ◌∷◌, [], length, OnOk, OnErr, true, false};
-ghost use Rattle.mk_caller.specs.States.{number_of};
-ghost use Rattle.mk_stack.specs.Advancing.{Holds, IsFit, IsGoal, StaysEnded};
-ghost use Rattle.mk_stack.specs.Passes.{DoesJob, Goes, HasStackTypes, popped};
+ghost use Rattle.mk_caller.specs.States.{caller_of_pass};
+ghost use Rattle.mk_stack.specs.Advancing.{IsAtPoint, IsFit, IsGoal, StaysEnded};
+ghost use Rattle.mk_stack.specs.Passes.{DoesJob, GoesToPoint, HasStackTypes, popped};
 
 use crate::advancing::{BELOW, NODE, UPPERMOST, advance, clear};
 use crate::jobs::{Done, Job};
@@ -34,16 +34,16 @@ fn go<E: Engine, R: Threads + Wait + Sync>(
     from: Point,
 ) -> Point
     requires home { caller.old.home ≡ true }
-    requires exists { number_of caller.old.pass < caller.old.pass.table.config.callers }
+    requires exists { caller_of_pass caller.old.pass < caller.old.pass.table.config.callers }
     requires alone { caller.old.pass.seats ≡ caller.old.pass.seat ∷ [] }
     requires types { HasStackTypes caller.old.pass.table.config }
     requires made_for { E.made_for bench.old.engine ≡ caller.old.pass.table.config.pages }
     requires book { length bench.old.book ≡ caller.old.pass.table.config.pages }
-    requires holds { Holds caller.old.pass from }
+    requires holds { IsAtPoint caller.old.pass from }
     ensures home { caller.new.home ≡ true }
     ensures made_for { E.made_for bench.new.engine ≡ E.made_for bench.old.engine }
     ensures book { length bench.new.book ≡ length bench.old.book }
-    ensures goes { Goes caller.old.pass from caller.new.pass result }
+    ensures goes { GoesToPoint caller.old.pass from caller.new.pass result }
     ensures goal { IsGoal result }
 {
     let backoff = Backoff::new();
@@ -68,7 +68,7 @@ pub fn found_stack<E: Engine, R: Threads + Wait + Sync>(
     bench: &mut Bench<E>,
 )
     requires home { caller.old.home ≡ true }
-    requires exists { number_of caller.old.pass < caller.old.pass.table.config.callers }
+    requires exists { caller_of_pass caller.old.pass < caller.old.pass.table.config.callers }
     requires alone { caller.old.pass.seats ≡ caller.old.pass.seat ∷ [] }
     requires types { HasStackTypes caller.old.pass.table.config }
     requires made_for { E.made_for bench.old.engine ≡ caller.old.pass.table.config.pages }
@@ -76,7 +76,7 @@ pub fn found_stack<E: Engine, R: Threads + Wait + Sync>(
     ensures home { caller.new.home ≡ true }
     ensures made_for { E.made_for bench.new.engine ≡ E.made_for bench.old.engine }
     ensures book { length bench.new.book ≡ length bench.old.book }
-    ensures founds { Goes caller.old.pass Point.Founding caller.new.pass Point.Founded }
+    ensures founds { GoesToPoint caller.old.pass Point.Founding caller.new.pass Point.Founded }
 {
     let _founded = go(rt, caller, bench, Point::Founding);
 }
@@ -85,7 +85,7 @@ pub fn found_stack<E: Engine, R: Threads + Wait + Sync>(
 /// node, and all that it is linked to.
 fn forget<R: Wait>(rt: &R, caller: &mut Caller, register: u8)
     requires home { caller.old.home ≡ true }
-    requires exists { number_of caller.old.pass < caller.old.pass.table.config.callers }
+    requires exists { caller_of_pass caller.old.pass < caller.old.pass.table.config.callers }
     requires types { HasStackTypes caller.old.pass.table.config }
     requires register { register < 8 }
     ensures home { caller.new.home ≡ true }
@@ -120,7 +120,7 @@ pub fn do_job<E: Engine, R: Threads + Wait + Sync>(
     job: Job,
 ) -> Done
     requires home { caller.old.home ≡ true }
-    requires exists { number_of caller.old.pass < caller.old.pass.table.config.callers }
+    requires exists { caller_of_pass caller.old.pass < caller.old.pass.table.config.callers }
     requires alone { caller.old.pass.seats ≡ caller.old.pass.seat ∷ [] }
     requires types { HasStackTypes caller.old.pass.table.config }
     requires made_for { E.made_for bench.old.engine ≡ caller.old.pass.table.config.pages }
@@ -147,7 +147,7 @@ pub fn push<E: Engine, R: Threads + Wait + Sync>(
     n: u64,
 ) -> Result<(), Full>
     requires home { caller.old.home ≡ true }
-    requires exists { number_of caller.old.pass < caller.old.pass.table.config.callers }
+    requires exists { caller_of_pass caller.old.pass < caller.old.pass.table.config.callers }
     requires alone { caller.old.pass.seats ≡ caller.old.pass.seat ∷ [] }
     requires types { HasStackTypes caller.old.pass.table.config }
     requires made_for { E.made_for bench.old.engine ≡ caller.old.pass.table.config.pages }
@@ -173,7 +173,7 @@ pub fn pop<E: Engine, R: Threads + Wait + Sync>(
     bench: &mut Bench<E>,
 ) -> Option<u64>
     requires home { caller.old.home ≡ true }
-    requires exists { number_of caller.old.pass < caller.old.pass.table.config.callers }
+    requires exists { caller_of_pass caller.old.pass < caller.old.pass.table.config.callers }
     requires alone { caller.old.pass.seats ≡ caller.old.pass.seat ∷ [] }
     requires types { HasStackTypes caller.old.pass.table.config }
     requires made_for { E.made_for bench.old.engine ≡ caller.old.pass.table.config.pages }

@@ -1,10 +1,10 @@
 //! A walk down the stack: a caller reads what is on it.
 ghost use Rattle.std.specs.Prelude.{◌≡◌, ◌<◌, [], IfOk, OnErr, true, false};
-ghost use Rattle.mk_caller.specs.States.{number_of};
+ghost use Rattle.mk_caller.specs.States.{caller_of_pass};
 ghost use Rattle.mk_stack.specs.declared.walking.WalkPoint.TheVariants as walk;
 ghost use Rattle.mk_stack.specs.Advancing.{Stays};
 ghost use Rattle.mk_stack.specs.Passes.{HasStackTypes};
-ghost use Rattle.mk_stack.specs.Walks.{HasWalked, HoldsDown, StepsDown, next_of, numbers_of, walk_point};
+ghost use Rattle.mk_stack.specs.Walks.{HasWalked, HoldsDown, StepsDown, next_of, numbers_found, walk_point};
 
 use crate::advancing::{LINK, NUMBER, UPPERMOST, check_top, held, load_top, peek, test};
 use crate::jobs::Job;
@@ -67,12 +67,12 @@ fn walk_point(point: Point) -> WalkPoint
 /// Loads the number of a node, which stays on the stack.
 fn read_number(caller: &mut Caller) -> Result<Found, Held>
     requires home { caller.old.home ≡ true }
-    requires exists { number_of caller.old.pass < caller.old.pass.table.config.callers }
+    requires exists { caller_of_pass caller.old.pass < caller.old.pass.table.config.callers }
     requires types { HasStackTypes caller.old.pass.table.config }
     requires holds { HoldsDown caller.old.pass walk.Reading }
     ensures home { caller.new.home ≡ true }
     ensures steps { IfOk result (λ found.
-        StepsDown caller.old.pass walk.Reading (numbers_of found) caller.new.pass (next_of found)) }
+        StepsDown caller.old.pass walk.Reading (numbers_found found) caller.new.pass (next_of found)) }
     ensures held { OnErr result (Stays caller.old.pass caller.new.pass) }
 {
     caller.is_idle();
@@ -87,12 +87,12 @@ fn read_number(caller: &mut Caller) -> Result<Found, Held>
 /// Loads the node below in place of the node.
 fn descend(caller: &mut Caller) -> Result<Found, Held>
     requires home { caller.old.home ≡ true }
-    requires exists { number_of caller.old.pass < caller.old.pass.table.config.callers }
+    requires exists { caller_of_pass caller.old.pass < caller.old.pass.table.config.callers }
     requires types { HasStackTypes caller.old.pass.table.config }
     requires holds { HoldsDown caller.old.pass walk.Descending }
     ensures home { caller.new.home ≡ true }
     ensures steps { IfOk result (λ found.
-        StepsDown caller.old.pass walk.Descending (numbers_of found) caller.new.pass (next_of found)) }
+        StepsDown caller.old.pass walk.Descending (numbers_found found) caller.new.pass (next_of found)) }
     ensures held { OnErr result (Stays caller.old.pass caller.new.pass) }
 {
     caller.is_idle();
@@ -107,7 +107,7 @@ fn descend(caller: &mut Caller) -> Result<Found, Held>
 /// What a walk finds that goes on as a pop does.
 fn go_on(next: Point) -> Found
     ensures next { next_of result ≡ walk_point next }
-    ensures numbers { numbers_of result ≡ [] }
+    ensures numbers { numbers_found result ≡ [] }
 {
     Found::To(walk_point(next))
 }
@@ -115,13 +115,13 @@ fn go_on(next: Point) -> Found
 /// The operation of a point of a walk, and what it finds; or the gate was held, and nothing was asked.
 fn go_down(caller: &mut Caller, point: WalkPoint) -> Result<Found, Held>
     requires home { caller.old.home ≡ true }
-    requires exists { number_of caller.old.pass < caller.old.pass.table.config.callers }
+    requires exists { caller_of_pass caller.old.pass < caller.old.pass.table.config.callers }
     requires types { HasStackTypes caller.old.pass.table.config }
     requires holds { HoldsDown caller.old.pass point }
     requires goes_on { point ≡ walk.Ended → ⊥ }
     ensures home { caller.new.home ≡ true }
     ensures steps { IfOk result (λ found.
-        StepsDown caller.old.pass point (numbers_of found) caller.new.pass (next_of found)) }
+        StepsDown caller.old.pass point (numbers_found found) caller.new.pass (next_of found)) }
     ensures held { OnErr result (Stays caller.old.pass caller.new.pass) }
 {
     match point {
@@ -142,7 +142,7 @@ pub(crate) fn read_stack<R: Wait>(
     caller: &mut Caller,
 ) -> Result<Vec<u64>, NoMemory>
     requires home { caller.old.home ≡ true }
-    requires exists { number_of caller.old.pass < caller.old.pass.table.config.callers }
+    requires exists { caller_of_pass caller.old.pass < caller.old.pass.table.config.callers }
     requires types { HasStackTypes caller.old.pass.table.config }
     ensures home { caller.new.home ≡ true }
     ensures pass { caller.new.pass ≡ record caller.old.pass { seen = caller.new.pass.seen } }

@@ -21,18 +21,18 @@ use Rattle.mk_core.specs.Moments.{Moment, holder_number}
 use Rattle.mk_core.specs.Readings.{Holds}
 use Rattle.mk_core.specs.Words.{Words}
 use Rattle.mk_core.proofs.Conditions.{enabled_meets}
-use Rattle.mk_protocol.proofs.Actors.{is_holders}
-use Rattle.mk_protocol.proofs.Known.{Known, holds_turn, known_behind}
-use Rattle.mk_protocol.proofs.Orderly.{same_holder, turn_of}
-use Rattle.mk_protocol.proofs.OrderlyLists.{actor_of}
-use Rattle.mk_protocol.proofs.OthersMoves.{CallLoads, CallWrite, Calls, Marks, OthersMove, Waits, WorldBehind}
-use Rattle.mk_protocol.proofs.OthersMoves.{others_move}
-use Rattle.mk_protocol.proofs.Protocols.{protocol_of}
-use Rattle.mk_protocol.proofs.TurnFrame.{turn_after}
-use Rattle.mk_protocol.proofs.Views.{HoldsTurn, view_of}
-use Rattle.mk_frames.proofs.Holders.{acts_as_holder}
-use Rattle.mk_precision.proofs.StepKinds.{both_fail}
-use Rattle.mk_precision.proofs.Stretches.{None_of}
+use Rattle.mk_laws.proofs.Actors.{is_holders}
+use Rattle.mk_laws.proofs.Known.{Known, holds_turn, known_behind}
+use Rattle.mk_laws.proofs.Orderly.{same_holder, turn_of}
+use Rattle.mk_laws.proofs.OrderlyLists.{actor_of}
+use Rattle.mk_laws.proofs.OthersMoves.{CallLoads, CallWrite, Calls, Marks, OthersMove, Waits, WorldBehind}
+use Rattle.mk_laws.proofs.OthersMoves.{others_move}
+use Rattle.mk_laws.proofs.Protocols.{protocol_of}
+use Rattle.mk_laws.proofs.TurnFrame.{turn_after}
+use Rattle.mk_laws.proofs.Views.{HoldsTurn, view_of}
+use Rattle.mk_laws.proofs.FramesHolders.{acts_as_holder}
+use Rattle.mk_laws.proofs.PrecisionStepKinds.{both_fail}
+use Rattle.mk_laws.proofs.Stretches.{None_of}
 use Rattle.mk_words.proofs.Seats.{not_both, same_self}
 use Rattle.mk_turns.specs.Doing.{AreOwnOrOfOthers}
 use Rattle.mk_tracing.specs.Tracing.{OwnStepsKeep}

@@ -12,8 +12,8 @@ use Rattle.mk_core.specs.StopConditions.{may_turn_black}
 use Rattle.mk_core.specs.Words.{Words}
 use Rattle.mk_core.proofs.Lengths.{histories_keep_lengths}
 use Rattle.mk_core.proofs.WordBits.{bit_for_has, bit_for_small, bits_added, bits_stay}
-use Rattle.mk_guard.specs.Guard.{CellsAreClosed}
-use Rattle.mk_frames.proofs.Tests.{all_below_from}
+use Rattle.mk_laws.specs.Guard.{CellsAreClosed}
+use Rattle.mk_laws.proofs.Tests.{all_below_from}
 use Rattle.mk_words.specs.States.{PassState}
 use Rattle.mk_tracing.specs.Grays.{is_black, with_blacks}
 use Rattle.mk_tracing.specs.Stops.{still_words}

@@ -10,8 +10,8 @@ use Rattle.mk_core.specs.Cells.{word_points_well}
 use Rattle.mk_core.specs.History.{IsHistory, left}
 use Rattle.mk_core.specs.Words.{Words}
 use Rattle.mk_core.proofs.AllBelow.{all_below-at}
-use Rattle.mk_guard.specs.Guard.{CellsAreClosed}
-use Rattle.mk_layout.specs.SettledPages.{IsSettled}
+use Rattle.mk_laws.specs.Guard.{CellsAreClosed}
+use Rattle.mk_laws.specs.SettledPages.{IsSettled}
 use Rattle.mk_words.specs.States.{TurnState, WordsState, now_of, world_of}
 use Rattle.mk_tracing.specs.Grays.{MarksMore, RootsPointWell}
 use Rattle.mk_tracing.specs.Stops.{still_words}

@@ -13,9 +13,9 @@ use Rattle.mk_core.specs.Cells.{cell_words, first_word, header_in, words_under}
 use Rattle.mk_core.specs.ClosedMarks.{is_scanned_allocation}
 use Rattle.mk_core.specs.History.{IsHistory, left}
 use Rattle.mk_core.specs.Words.{Words}
-use Rattle.mk_layout.specs.SettledPages.{IsSettled}
-use Rattle.mk_zeros.proofs.MappedWords.{mapped_stays}
-use Rattle.mk_invariant.proofs.Theorems.{allocations_are_disjoint, allocations_stand}
+use Rattle.mk_laws.specs.SettledPages.{IsSettled}
+use Rattle.mk_laws.proofs.MappedWords.{mapped_stays}
+use Rattle.mk_laws.proofs.InvariantTheorems.{allocations_are_disjoint, allocations_stand}
 use Rattle.mk_cycle.proofs.SumsBelow.{one_if_any}
 use Rattle.mk_sweep.specs.Swept.{IsScannedWord, scanned_words}
 use Rattle.mk_sweep.specs.Sweeping.{words_below}

@@ -14,16 +14,16 @@ use Rattle.mk_core.specs.Frames.{Steady, CountsAreLeft}
 use Rattle.mk_core.specs.History.{IsHistory}
 use Rattle.mk_core.specs.Moments.{Moment, flight_of}
 use Rattle.mk_core.specs.NewPlaces.{is_run_gone}
-use Rattle.mk_layout.specs.SettledPages.{is_freed_unmapped}
+use Rattle.mk_laws.specs.SettledPages.{is_freed_unmapped}
 use Rattle.mk_core.specs.Readings.{Holds, is_idle}
 use Rattle.mk_core.specs.Words.{Words}
-use Rattle.mk_protocol.specs.Protocol.{Protocol, has_stage}
-use Rattle.mk_protocol.proofs.Protocols.{lists_keep_the_protocol}
+use Rattle.mk_laws.specs.Protocol.{Protocol, has_stage}
+use Rattle.mk_laws.proofs.Protocols.{lists_keep_the_protocol}
 use Rattle.mk_words.specs.States.{PassState, world_of, now_of}
 use Rattle.mk_tracing.specs.Stops.{HolderIsLoaded, is_loaded, is_loaded_at}
 use Rattle.mk_tracing.specs.Tracing.{Untouched, untouched_of}
 use Rattle.mk_cycle.specs.EngineLaw.{IsFreeForCycle, is_pending_free, is_pending_free_at}
-use Rattle.mk_cycle.specs.TurnKeeps.{Done, IsGone, KeepsTurn, but_phase}
+use Rattle.mk_cycle.specs.TurnKeeps.{Done, IsGone, LeavesTurn, but_phase}
 
 -- A call that is free for a cycle has loaded what it loads.
 
@@ -98,7 +98,7 @@ module _ (p q : PassState) (pass : q ≡ record p { seen = q.seen })
         allocations = x.allocations;
       }
 
-  pub keeps_turn : CountsAreLeft p.table.config p.seen q.seen → KeepsTurn but_phase p q
+  pub keeps_turn : CountsAreLeft p.table.config p.seen q.seen → LeavesTurn but_phase p q
   unfolding done_as steady_as
   keeps_turn counts =
       record {

@@ -29,25 +29,25 @@ use Rattle.mk_core.proofs.ObjectHeaders.{part_has_no_pointers, small_heads_none,
 use Rattle.mk_core.proofs.PointedAllocations.{cell_word_is_its_own, taken_cell_is}
 use Rattle.mk_core.proofs.Sizes.{large_count, large_is_not_small, pages_some, words_within}
 use Rattle.mk_core.proofs.StandingAllocations.{cell_is_known, cells_begin, first_page_shows, typed_size}
-use Rattle.mk_protocol.specs.Ground.{ground_of}
-use Rattle.mk_protocol.specs.Protocol.{has_place}
-use Rattle.mk_layout.specs.LayoutScene.{Among, Claim, HasHeader, IsClaimed, IsShown, Mode, Unmapped, header_on}
-use Rattle.mk_layout.specs.LayoutScene.{is_released_in}
-use Rattle.mk_layout.specs.SettledPages.{IsSettled, StandsUsed}
-use Rattle.mk_layout.proofs.Settled.{unmapped_run}
-use Rattle.mk_layout.specs.Terrain.{IsCellOf, claim_of, claims_of, claims_on, claims_placed, mode_of, object_now}
-use Rattle.mk_layout.proofs.Claims.{claim_among, claim_is}
-use Rattle.mk_layout.proofs.Freed.{gone_terrain}
-use Rattle.mk_layout.proofs.Serving.{Laid, own_claim}
-use Rattle.mk_layout.proofs.Settled.{unreleased_are_apart}
-use Rattle.mk_images.proofs.KnownWorlds.{KnownWorld, known_world}
-use Rattle.mk_zeros.proofs.MappedWords.{mapped_stays}
-use Rattle.mk_zeros.proofs.TellGuard.{guard_in}
-use Rattle.mk_invariant.specs.Invariant.{Invariant}
-use Rattle.mk_invariant.proofs.Histories.{histories_keep_the_invariant}
-use Rattle.mk_invariant.proofs.Theorems.{allocations_stand}
-use Rattle.mk_readings.proofs.FreeCells.{free_cells_are_zero}
-use Rattle.mk_readings.proofs.Stands.{freed_cell}
+use Rattle.mk_laws.specs.Ground.{ground_of}
+use Rattle.mk_laws.specs.Protocol.{has_place}
+use Rattle.mk_laws.specs.LayoutScene.{Among, Claim, HasHeader, IsClaimed, IsShown, Mode, Unmapped, header_on}
+use Rattle.mk_laws.specs.LayoutScene.{is_released_in}
+use Rattle.mk_laws.specs.SettledPages.{IsSettled, StandsUsed}
+use Rattle.mk_laws.proofs.Settled.{unmapped_run}
+use Rattle.mk_laws.specs.Terrain.{IsCellOf, claim_of, claims_of, claims_on, claims_placed, mode_of, object_now}
+use Rattle.mk_laws.proofs.Claims.{claim_among, claim_is}
+use Rattle.mk_laws.proofs.Freed.{gone_terrain}
+use Rattle.mk_laws.proofs.Serving.{Laid, own_claim}
+use Rattle.mk_laws.proofs.Settled.{unreleased_are_apart}
+use Rattle.mk_laws.proofs.KnownWorlds.{KnownWorld, known_world}
+use Rattle.mk_laws.proofs.MappedWords.{mapped_stays}
+use Rattle.mk_laws.proofs.TellGuard.{guard_in}
+use Rattle.mk_laws.specs.Invariant.{Invariant}
+use Rattle.mk_laws.proofs.InvariantHistories.{histories_keep_the_invariant}
+use Rattle.mk_laws.proofs.InvariantTheorems.{allocations_stand}
+use Rattle.mk_laws.proofs.FreeCells.{free_cells_are_zero}
+use Rattle.mk_laws.proofs.ReadingsStands.{freed_cell}
 use Rattle.mk_sweep.specs.Swept.{IsScannedWord}
 
 -- the mapped allocation that isn't leaf and has this cell

@@ -22,20 +22,20 @@ use Rattle.mk_core.specs.Touched.{PointsIntoAllocation}
 use Rattle.mk_core.specs.Words.{phase_of}
 use Rattle.mk_core.proofs.Conditions.{enabled_meets}
 use Rattle.mk_core.proofs.HistoryParts.{earlier_part_is_history, enabled_in_parts, left_in_parts}
-use Rattle.mk_protocol.proofs.Actors.{is_holders}
-use Rattle.mk_protocol.proofs.Frames.{others_leave}
-use Rattle.mk_protocol.proofs.Known.{Known, known_left}
-use Rattle.mk_protocol.proofs.OrderlyLists.{actor_of}
-use Rattle.mk_protocol.proofs.OthersMoves.{WorldBehind}
-use Rattle.mk_frames.proofs.Holders.{acts_as_holder, holds_is}
-use Rattle.mk_frames.proofs.LastEvents.{ComesLast, comes_last}
-use Rattle.mk_images.proofs.KnownWorlds.{known_world}
-use Rattle.mk_precision.proofs.OneStep.{precise_begun}
-use Rattle.mk_precision.proofs.Precise.{IsPrecise}
-use Rattle.mk_precision.proofs.Stretches.{None_of, none_joined}
-use Rattle.mk_readings.specs.Releases.{allocation_behind}
-use Rattle.mk_readings.proofs.CyclePhases.{phase_moves}
-use Rattle.mk_readings.proofs.KeptPlaces.{StaysPut, keeps_cell, put_step, stays_put}
+use Rattle.mk_laws.proofs.Actors.{is_holders}
+use Rattle.mk_laws.proofs.ProtocolFrames.{others_leave}
+use Rattle.mk_laws.proofs.Known.{Known, known_left}
+use Rattle.mk_laws.proofs.OrderlyLists.{actor_of}
+use Rattle.mk_laws.proofs.OthersMoves.{WorldBehind}
+use Rattle.mk_laws.proofs.FramesHolders.{acts_as_holder, holds_is}
+use Rattle.mk_laws.proofs.LastEvents.{ComesLast, comes_last}
+use Rattle.mk_laws.proofs.KnownWorlds.{known_world}
+use Rattle.mk_laws.proofs.OneStep.{precise_begun}
+use Rattle.mk_laws.proofs.Precise.{IsPrecise}
+use Rattle.mk_laws.proofs.Stretches.{None_of, none_joined}
+use Rattle.mk_laws.specs.Releases.{allocation_behind}
+use Rattle.mk_laws.proofs.CyclePhases.{phase_moves}
+use Rattle.mk_laws.proofs.ReadingsKeptPlaces.{StaysPut, keeps_cell, put_step, stays_put}
 use Rattle.mk_words.specs.Seats.{Has}
 use Rattle.mk_words.specs.States.{PassState}
 use Rattle.mk_words.specs.Steps.{IsEnabledTo}

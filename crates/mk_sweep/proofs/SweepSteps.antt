@@ -25,10 +25,10 @@ use Rattle.mk_core.specs.Ranges.{is_word}
 use Rattle.mk_core.specs.Words.{Words, named_word, phase_of}
 use Rattle.mk_core.proofs.PointedAllocations.{word_points}
 use Rattle.mk_core.proofs.PointedPages.{pointed_within}
-use Rattle.mk_invariant.proofs.Theorems.{allocations_stand}
-use Rattle.mk_layout.specs.SettledPages.{IsSettled}
-use Rattle.mk_protocol.specs.Protocol.{has_place}
-use Rattle.mk_zeros.proofs.MappedWords.{mapped_stays}
+use Rattle.mk_laws.proofs.InvariantTheorems.{allocations_stand}
+use Rattle.mk_laws.specs.SettledPages.{IsSettled}
+use Rattle.mk_laws.specs.Protocol.{has_place}
+use Rattle.mk_laws.proofs.MappedWords.{mapped_stays}
 use Rattle.mk_words.specs.Seats.{Has}
 use Rattle.mk_words.specs.States.{PassState, TurnState, WordsState, now_of, world_of, event_of}
 use Rattle.mk_words.specs.Steps.{Finds, IsEnabledTo}

@@ -17,21 +17,21 @@ use Rattle.mk_core.specs.History.{World, IsHistory}
 use Rattle.mk_core.specs.Moments.{Moment}
 use Rattle.mk_core.specs.Words.{phase_of}
 use Rattle.mk_core.proofs.PointedAllocations.{marked_where_its_cell_is, points_well_where_marked}
-use Rattle.mk_guard.specs.Guard.{CellsAreClosed}
-use Rattle.mk_invariant.proofs.Theorems.{allocations_stand}
+use Rattle.mk_laws.specs.Guard.{CellsAreClosed}
+use Rattle.mk_laws.proofs.InvariantTheorems.{allocations_stand}
 use Rattle.mk_words.specs.States.{PassState, TurnState, WordsState, now_of, world_of}
 use Rattle.mk_turns.specs.Doing.{Does, done_in}
 use Rattle.mk_tracing.specs.Grays.{TracesReached}
 use Rattle.mk_tracing.specs.Stops.{IsWanted, still_words}
 use Rattle.mk_tracing.specs.Tracing.{Counted, Untouched, is_marking, is_tracing, is_waiting, is_want}
 use Rattle.mk_tracing.proofs.Closes.{marks_closed_now, may_close_now}
-use Rattle.mk_layout.proofs.Settled.{gone_is_unmapped}
+use Rattle.mk_laws.proofs.Settled.{gone_is_unmapped}
 use Rattle.mk_tracing.proofs.NoGrays.{no_gray}
 use Rattle.mk_tracing.proofs.Parts.{counted_by_kinds, counted_wider, traces_alike}
 use Rattle.mk_tracing.proofs.Wants.{wanted_once_then}
 use Rattle.mk_cycle.specs.EngineLaw.{BeginsMarking, ClosesMarks, IsFreeForCycle}
 use Rattle.mk_cycle.specs.Kinds.{begins_marking, closes_marks, is_want as is_wish}
-use Rattle.mk_cycle.specs.TurnKeeps.{whole as all_of_it}
+use Rattle.mk_cycle.specs.TurnKeeps.{unchanged as all_of_it}
 use Rattle.mk_cycle.proofs.KeptInParts.{keeps_at_once}
 use Rattle.mk_turns.proofs.Doing.{does_nothing}
 use Rattle.mk_sweep.specs.Swept.{IsScannedWord, IsSwept, IsSweptValue, InGlobal, InRegister, InWord, SweepsBy}

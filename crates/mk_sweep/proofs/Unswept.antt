@@ -16,9 +16,9 @@ use Rattle.mk_core.specs.History.{World, left_from, never_behind, world_behind}
 use Rattle.mk_core.specs.Moments.{Moment}
 use Rattle.mk_core.proofs.HistoryParts.{left_in_parts}
 use Rattle.mk_core.proofs.WordBits.{bit_of_power, more_bits}
-use Rattle.mk_images.proofs.KnownWorlds.{known_world}
-use Rattle.mk_invariant.proofs.Histories.{histories_keep_the_invariant}
-use Rattle.mk_precision.proofs.Worlds.{comes_back}
+use Rattle.mk_laws.proofs.KnownWorlds.{known_world}
+use Rattle.mk_laws.proofs.InvariantHistories.{histories_keep_the_invariant}
+use Rattle.mk_laws.proofs.Worlds.{comes_back}
 use Rattle.mk_words.specs.States.{PassState, world_of}
 use Rattle.mk_tracing.specs.Tracing.{OwnStepsKeep, is_tracing}
 use Rattle.mk_tracing.proofs.Parts.{kinds_keep}

@@ -11,13 +11,13 @@ use Rattle.mk_core.specs.Cycles.{before_release}
 use Rattle.mk_core.specs.History.{World, left, left_from, world_behind}
 use Rattle.mk_core.specs.Moments.{flight_of}
 use Rattle.mk_core.proofs.HistoryParts.{left_in_parts}
-use Rattle.mk_readings.specs.Releases.{allocation_before, allocation_behind}
-use Rattle.mk_readings.proofs.Releases.{releases_are_exact}
-use Rattle.mk_precision.proofs.AllocationSteps.{AreOfOne, allocation_step, goes_on, is_there, of_one_joined}
-use Rattle.mk_precision.proofs.Marking.{More, one_more}
-use Rattle.mk_precision.proofs.OlderAllocations.{AreOlder, older_behind}
-use Rattle.mk_precision.proofs.StepKinds.{is_grant, release_is}
-use Rattle.mk_precision.proofs.Stretches.{at_release, history_through}
+use Rattle.mk_laws.specs.Releases.{allocation_before, allocation_behind}
+use Rattle.mk_laws.proofs.Releases.{releases_are_exact}
+use Rattle.mk_laws.proofs.AllocationSteps.{AreOfOne, allocation_step, goes_on, is_there, of_one_joined}
+use Rattle.mk_laws.proofs.Marking.{More, one_more}
+use Rattle.mk_laws.proofs.OlderAllocations.{AreOlder, older_behind}
+use Rattle.mk_laws.proofs.PrecisionStepKinds.{is_grant, release_is}
+use Rattle.mk_laws.proofs.Stretches.{at_release, history_through}
 use Rattle.mk_words.specs.States.{PassState, WordsState, world_of}
 use Rattle.mk_tracing.specs.Tracing.{Untouched}
 use Rattle.mk_sweep.specs.Unswept.{LeaveUnmarked, UnsweptIsReleased}

@@ -7,7 +7,7 @@ use Rattle.mk_core.specs.Cycles.{Releasing, IsInSnapshot, before_begin, before_c
 use Rattle.mk_core.specs.History.{left}
 use Rattle.mk_words.specs.Seats.{Has}
 use Rattle.mk_words.specs.States.{PassState}
-use Rattle.mk_readings.specs.Releases.{allocation_behind}
+use Rattle.mk_laws.specs.Releases.{allocation_behind}
 use Rattle.mk_cycle.specs.declared.finishing.Released.{Released}
 use Rattle.mk_cycle.specs.BeginCycle.{BeginsCycle}
 use Rattle.mk_cycle.specs.FinishCycle.{FinishesCycle, HasReleased}

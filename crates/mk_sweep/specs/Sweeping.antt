@@ -12,7 +12,7 @@ use Rattle.mk_core.specs.Cells.{cells_under, has_no_pointers, header_in, pointed
 use Rattle.mk_core.specs.Frames.{OnlyGrow}
 use Rattle.mk_core.specs.Growing.{Finding}
 use Rattle.mk_core.specs.Words.{Words, used_at}
-use Rattle.mk_layout.specs.SettledPages.{IsSettled}
+use Rattle.mk_laws.specs.SettledPages.{IsSettled}
 use Rattle.mk_words.specs.States.{PassState, TurnState, world_of}
 use Rattle.mk_turns.specs.Doing.{Does, done_in}
 use Rattle.mk_tracing.specs.Grays.{AllAreBlack}

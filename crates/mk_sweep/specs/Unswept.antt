@@ -10,7 +10,7 @@ use Rattle.mk_core.specs.Cycles.{Releasing, IsInSnapshot, before_release}
 use Rattle.mk_core.specs.Growing.{is_same_seat}
 use Rattle.mk_core.specs.History.{World, IsHistory, world_behind}
 use Rattle.mk_words.specs.States.{PassState, now_of, world_of}
-use Rattle.mk_readings.specs.Releases.{allocation_behind}
+use Rattle.mk_laws.specs.Releases.{allocation_behind}
 use Rattle.mk_cycle.specs.EngineLaw.{IsAtPhase}
 use Rattle.mk_sweep.specs.Swept.{IsSwept}
 use Rattle.mk_sweep.specs.Sweeps.{Sweeps}

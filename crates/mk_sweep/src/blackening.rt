@@ -2,7 +2,7 @@
 ghost use Rattle.std.specs.Prelude.{◌≡◌, ℕ, ◌<◌, ◌≤◌, [], true, slice_index};
 ghost use Rattle.mk_core.specs.Cells.{cells_under, header_in};
 ghost use Rattle.mk_core.specs.StopConditions.{may_turn_black};
-ghost use Rattle.mk_guard.specs.Guard.{CellsAreClosed};
+ghost use Rattle.mk_laws.specs.Guard.{CellsAreClosed};
 ghost use Rattle.mk_tracing.specs.Grays.{is_black};
 ghost use Rattle.mk_tracing.specs.Stops.{still_words};
 ghost use Rattle.mk_sweep.specs.Sweeping.{BlacksMore, IsSweeping, PageIsBlack, SweepsOn};

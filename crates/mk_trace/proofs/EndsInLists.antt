@@ -14,11 +14,12 @@ use Rattle.mk_core.specs.Moments.{flight_of}
 use Rattle.mk_core.specs.Words.{phase_of}
 use Rattle.mk_core.proofs.Histories.{enabled_parts, left_append}
 use Rattle.mk_core.proofs.HistoryParts.{left_in_parts}
-use Rattle.mk_readings.proofs.CyclePhases.{begin_is, moves_phase, phase_behind}
+use Rattle.mk_laws.proofs.CyclePhases.{begin_is, moves_phase, phase_behind}
 use Rattle.mk_alloc.specs.TurnCycles.{RunsOneCycle, has_step}
 use Rattle.mk_alloc.proofs.ListParts.{lacks_first, lacks_second, none_at}
 use Rattle.mk_quarantine.proofs.HeldTurns.{next_of}
-use Rattle.mk_trace.specs.Ends.{EndsNone, EndsOne, EndsTell, FreesNone, IsIdle, LeavesAllocations, ReleasesNone}
+use Rattle.mk_trace.specs.Ends.{EndsNone, EndsOne, EndsTell, FreesNone, IsBetweenCycles, LeavesAllocations}
+use Rattle.mk_trace.specs.Ends.{ReleasesNone}
 use Rattle.mk_trace.specs.Peaks.{found_by_ends_from}
 use Rattle.mk_trace.proofs.FlagSteps.{releases_then, same_releases}
 use Rattle.mk_trace.proofs.FoundByEnds.{EndsOnce, FreesNoneFrom, IsOn, Rests, ends-append, ends_once, found-append}
@@ -163,7 +164,7 @@ module _ (c : Config) (es more : List Event) where
         released = subst (λ (x : World). ReleasesNone h.finds x.allocations) (sym left_then) h.released;
       }
 
-  idle_then : phase_of (left_from c (left c es) more).now.words ≡ 0 → IsIdle c (es ++ more)
+  idle_then : phase_of (left_from c (left c es) more).now.words ≡ 0 → IsBetweenCycles c (es ++ more)
   idle_then h = ap (λ (x : World). phase_of x.now.words) left_then ∙ h
 
   module _ (on : AreEnabledFrom c (left c es) more) (overs : has_step is_over more ≡ false) where
@@ -178,11 +179,11 @@ module _ (c : Config) (es more : List Event) where
     tells_ends one frees idle = ⊎_elim some none (cases_Bool (has_step is_begin more))
       where
         none : has_step is_begin more ≡ false
-            → IsIdle c (es ++ more) × (EndsNone c es (es ++ more) ⊎ EndsOne c es (es ++ more))
+            → IsBetweenCycles c (es ++ more) × (EndsNone c es (es ++ more) ⊎ EndsOne c es (es ++ more))
         none lacks = tells_none lacks idle
 
         some : has_step is_begin more ≡ true
-            → IsIdle c (es ++ more) × (EndsNone c es (es ++ more) ⊎ EndsOne c es (es ++ more))
+            → IsBetweenCycles c (es ++ more) × (EndsNone c es (es ++ more) ⊎ EndsOne c es (es ++ more))
         some has =
             let next = first_at is_begin more has in
             let b = next.at in
@@ -212,7 +213,7 @@ module _ (c : Config) (es xs ys : List Event) (on : AreEnabledFrom c (left c es)
       let first = none_then c es xs h in
       let told = tells_ends c (es ++ xs) ys parts_on.1 (lacks_second is_over xs ys overs) (one_second xs ys one) frees
       (idle_then c es xs h.phase) in
-      subst (λ (l : List Event). IsIdle c l × (EndsNone c es l ⊎ EndsOne c es l)) (append_assoc es xs ys) (
+      subst (λ (l : List Event). IsBetweenCycles c l × (EndsNone c es l ⊎ EndsOne c es l)) (append_assoc es xs ys) (
         told.0,
         ⊎_elim
             (λ (second : EndsNone c (es ++ xs) ((es ++ xs) ++ ys)).

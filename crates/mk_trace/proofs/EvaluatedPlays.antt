@@ -20,7 +20,7 @@ use Rattle.mk_core.specs.Moments.{flight_of}
 use Rattle.mk_core.proofs.EvaluatedHistories.{enabled}
 use Rattle.mk_core.proofs.EventsAt.{◌and◌, AtEach, Also, at_each}
 use Rattle.mk_core.proofs.Schedules.{by, c0, fault, first_fault}
-use Rattle.mk_theorems.proofs.Promises.{histories_keep_all_promises}
+use Rattle.mk_laws.proofs.Promises.{histories_keep_all_promises}
 use Rattle.mk_turns.specs.Sweeping.{is_mark}
 use Rattle.mk_turns.proofs.Sweeping.{other_steps_sweep}
 use Rattle.mk_alloc.specs.TurnCycles.{EndsExactly, TurnsOfAreExact, has_step, is_want, lets_go}
@@ -33,14 +33,14 @@ use Rattle.mk_trace.specs.declared.trace.TraceEvent.TheVariants.{A, W}
 use Rattle.mk_trace.specs.Grammar.{along}
 use Rattle.mk_trace.specs.Peaks.{greatest_from, found_by_ends_from, peaks_of}
 use Rattle.mk_trace.specs.Playing.{config_of, refused_events, IsPlayed}
-use Rattle.mk_trace.specs.Traces.{Contents, IsOfSomeText}
+use Rattle.mk_trace.specs.Traces.{Contents, IsOfSomeTraceText}
 use Rattle.mk_trace.proofs.ExactPlays.{nothing_given}
 use Rattle.mk_trace.proofs.Playable.{is_playable}
 
 unfoldable pub stored_and_made : Contents
 stored_and_made = record { pages = 1; resident = 1; slots = 2 ∷ []; events = W 0 1 5 ∷ A 0 ∷ [] }
 
-is_of_text : IsOfSomeText stored_and_made
+is_of_text : IsOfSomeTraceText stored_and_made
 unfolding stored_and_made along
 is_of_text = (codes "trace 1 1\nslot x 2\nw x 1 5\na x\n", refl)
 

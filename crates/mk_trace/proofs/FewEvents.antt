@@ -10,7 +10,7 @@ use Rattle.std.proofs.lemmas.List.Sums.{count_by-le-length}
 use Rattle.mk_never.specs.declared.operations.Op.{Op}
 use Rattle.mk_core.specs.declared.events.Event.{Event}
 use Rattle.mk_core.specs.Counts.{ends}
-use Rattle.mk_script.specs.Words.{lines_of, without_empty_last, words_of}
+use Rattle.mk_script.specs.Words.{lines_of, without_empty_last, words_of_line}
 use Rattle.mk_trace.specs.declared.faults.TraceStop.{TraceStop}
 use Rattle.mk_trace.specs.declared.lines.HeapPages.{HeapPages}
 use Rattle.mk_trace.specs.declared.lines.Line.{Line}
@@ -19,9 +19,10 @@ use Rattle.mk_trace.specs.declared.trace.TraceEvent.{TraceEvent}
 use Rattle.mk_trace.specs.declared.trace.TraceEvent.TheVariants.{A, K, F, C, W}
 use Rattle.mk_trace.specs.Grammar.{along, events_from, read_behind, text_fault_at, type_fault_at, with_event}
 use Rattle.mk_trace.specs.Grammar.{written_from}
-use Rattle.mk_trace.specs.Lines.{Written, header_of, nothing_written, with_line}
+use Rattle.mk_trace.specs.Lines.{LinesSoFar, header_line_of, nothing_written, with_trace_line}
 use Rattle.mk_trace.specs.Playing.{ops_of}
-use Rattle.mk_trace.specs.Traces.{Contents, IsOfSomeText, contents_from, contents_of, trace_of_lines, words_of_slots}
+use Rattle.mk_trace.specs.Traces.{Contents, IsOfSomeTraceText, contents_from, contents_of, trace_of_lines}
+use Rattle.mk_trace.specs.Traces.{words_of_slots}
 use Rattle.mk_trace.specs.Typing.{typed_event}
 use Rattle.mk_trace.proofs.ReadLines.{gone_on, passed_else, passed_then, then_next}
 
@@ -59,14 +60,15 @@ along_grows told read add measure grows number (line ∷ lines) before after h =
     let one = grows before parts.value in
     omega (arith, rest, one)
 
-line_adds : (before : Written) (given : Line) → length (with_line before given).events ≤ length before.events + 1
+line_adds : (before : LinesSoFar) (given : Line)
+    → length (with_trace_line before given).events ≤ length before.events + 1
 line_adds before (line.Slot slot) = omega arith
 line_adds before (line.Event event) = let count = length-append before.events (event ∷ []) in omega (arith, count)
 
 event_adds : (before : List TraceEvent) (event : TraceEvent) → length (with_event before event) ≤ length before + 1
 event_adds before event = let count = length-append before (event ∷ []) in omega (arith, count)
 
-read : (heap : HeapPages) (written : Written) (trace : Contents) → contents_of heap written ≡ Ok trace
+read : (heap : HeapPages) (written : LinesSoFar) (trace : Contents) → contents_of heap written ≡ Ok trace
     → length trace.events ≤ length written.events
 read heap written trace h =
     let some = passed_else (length written.slots == 0) _ _ trace h in
@@ -82,9 +84,10 @@ of_lines : (lines : List (List ℕ)) (trace : Contents) → trace_of_lines lines
     → length trace.events ≤ length lines
 of_lines [] trace h = absurd cc
 of_lines (first ∷ lines) trace h =
-    let header = gone_on (text_fault_at 1) (header_of (words_of first)) _ trace h in
+    let header = gone_on (text_fault_at 1) (header_line_of (words_of_line first)) _ trace h in
     let written = then_next (written_from 2 lines nothing_written) _ trace header.behind in
-    let events = along_grows text_fault_at read_behind with_line (λ (w : Written). length w.events) line_adds 2 lines
+    let events =
+    along_grows text_fault_at read_behind with_trace_line (λ (w : LinesSoFar). length w.events) line_adds 2 lines
     nothing_written written.value written.is in
     let count = read header.value written.value trace written.behind in
     omega (arith, events, count)
@@ -105,7 +108,7 @@ few_lines text =
     let newlines = count_by-le-length (λ byte. byte == 10) text in
     omega (arith, parts, count, newlines)
 
-pub few_events : (trace : Contents) → IsOfSomeText trace → length trace.events ≤ 1048577
+pub few_events : (trace : Contents) → IsOfSomeTraceText trace → length trace.events ≤ 1048577
 few_events trace (text, h) =
     let parts = passed_then (nat_le (length text) 1048576) _ _ trace h in
     let short : length text ≤ 1048576 = grind (arith, nat_tests, parts.0) in

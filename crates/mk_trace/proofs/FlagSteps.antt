@@ -29,8 +29,8 @@ use Rattle.mk_core.proofs.ChangedAllocations.{LeavesPlaces, changed_at, earlier_
 use Rattle.mk_core.proofs.ChangedAllocations.{fresh_leaves, released_leaves, none_freed}
 use Rattle.mk_core.specs.Counts.{decides_freed}
 use Rattle.mk_alloc.specs.TurnCycles.{has_step}
-use Rattle.mk_images.specs.Images.{AreTwins}
-use Rattle.mk_invariant.proofs.Histories.{histories_keep_the_invariant}
+use Rattle.mk_laws.specs.Images.{AreTwins}
+use Rattle.mk_laws.proofs.InvariantHistories.{histories_keep_the_invariant}
 use Rattle.mk_trace.specs.Freeing.{AreLater, unfreed}
 use Rattle.mk_trace.specs.Ends.{FreesNone, ReleasesNone}
 

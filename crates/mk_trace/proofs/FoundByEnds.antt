@@ -21,7 +21,7 @@ use Rattle.mk_core.specs.History.{AreEnabledFrom, World, call_decided, calls_fro
 use Rattle.mk_core.specs.Moments.{flight_of}
 use Rattle.mk_core.specs.Words.{phase_of}
 use Rattle.mk_core.proofs.Histories.{calls_append}
-use Rattle.mk_readings.proofs.CyclePhases.{AsksPhase, moves_phase, phase_behind}
+use Rattle.mk_laws.proofs.CyclePhases.{AsksPhase, moves_phase, phase_behind}
 use Rattle.mk_alloc.specs.TurnCycles.{has_step}
 use Rattle.mk_trace.specs.Ends.{FreesNone, ReleasesNone}
 use Rattle.mk_trace.specs.Peaks.{found_by_ends_from}

@@ -14,20 +14,21 @@ use Rattle.mk_core.specs.Cells.{cell_words, is_freed, pointed_cell}
 use Rattle.mk_core.specs.History.{IsHistory, left, never_behind}
 use Rattle.mk_core.specs.Words.{Words, header_at, phase_of}
 use Rattle.mk_core.proofs.WordBits.{no_bit}
-use Rattle.mk_images.proofs.KnownWorlds.{known_world}
-use Rattle.mk_invariant.proofs.Histories.{histories_keep_the_invariant}
+use Rattle.mk_laws.proofs.KnownWorlds.{known_world}
+use Rattle.mk_laws.proofs.InvariantHistories.{histories_keep_the_invariant}
 use Rattle.mk_trace.specs.declared.ledger.FreedObject.{FreedObject}
-use Rattle.mk_trace.specs.Ends.{IsIdle}
+use Rattle.mk_trace.specs.Ends.{IsBetweenCycles}
 use Rattle.mk_trace.specs.Freeing.{large_words, unfreed}
-use Rattle.mk_trace.specs.Ledgers.{object_of}
-use Rattle.mk_trace.specs.Looking.{OnlyLooks, word_behind}
+use Rattle.mk_trace.specs.Ledgers.{freed_object_of}
+use Rattle.mk_trace.specs.Looking.{HostOnlyLooks, word_behind}
 use Rattle.mk_trace.proofs.EndsInLists.{leaves_twice}
 use Rattle.mk_trace.proofs.FoundObjects.{PointsToCell, frees_nothing, points_to_cell}
 use Rattle.mk_trace.proofs.LookedTables.{leaves_then}
 
 -- looks, one after the other
 
-pub looks_twice : (c : Config) (es fs gs : List Event) → OnlyLooks c es fs → OnlyLooks c fs gs → OnlyLooks c es gs
+pub looks_twice : (c : Config) (es fs gs : List Event) → HostOnlyLooks c es fs → HostOnlyLooks c fs gs
+    → HostOnlyLooks c es gs
 looks_twice c es fs gs one two = record {
   calls = two.calls ∙ one.calls;
   leaves = leaves_twice c es fs gs one.leaves two.leaves;
@@ -36,15 +37,15 @@ looks_twice c es fs gs one two = record {
   exact = λ before. two.exact (one.exact before);
 }
 
-pub freed_looked : (c : Config) (es fs : List Event) → OnlyLooks c es fs → (cell : Cell)
+pub freed_looked : (c : Config) (es fs : List Event) → HostOnlyLooks c es fs → (cell : Cell)
     → is_freed (left c fs).now.words cell ≡ is_freed (left c es).now.words cell
 freed_looked c es fs looks cell = ap (λ (w : Words). is_freed w cell) looks.table.words
 
-pub pointed_looked : (c : Config) (es fs : List Event) → OnlyLooks c es fs → (u : ℕ)
+pub pointed_looked : (c : Config) (es fs : List Event) → HostOnlyLooks c es fs → (u : ℕ)
     → pointed_cell c.pages (left c fs).now.words.pages u ≡ pointed_cell c.pages (left c es).now.words.pages u
 pointed_looked c es fs looks u = ap (λ (w : Words). pointed_cell c.pages w.pages u) looks.table.words
 
-pub header_looked : (c : Config) (es fs : List Event) → OnlyLooks c es fs → (p : ℕ)
+pub header_looked : (c : Config) (es fs : List Event) → HostOnlyLooks c es fs → (p : ℕ)
     → header_at (left c fs).now.words p ≡ header_at (left c es).now.words p
 header_looked c es fs looks p = ap (λ (w : Words). header_at w p) looks.table.words
 
@@ -88,7 +89,7 @@ module _ (c : Config) (es : List Event) (history : IsHistory c es) where
 
   -- The object of a slot
 
-  module _ (slot : ℕ) (idle : IsIdle c es) where
+  module _ (slot : ℕ) (idle : IsBetweenCycles c es) where
     abbrev address : ℕ
     address = slice_index w.globals slot
 
@@ -96,13 +97,13 @@ module _ (c : Config) (es : List Event) (history : IsHistory c es) where
     xs = (left c es).allocations
 
     abbrev found : Option FreedObject
-    found = option_map (object_of c xs) (unfreed (never_behind c es) (global_at (never_behind c es) slot))
+    found = option_map (freed_object_of c xs) (unfreed (never_behind c es) (global_at (never_behind c es) slot))
 
     out : phase_of w ≢ 4
     out four = omega (arith, four, idle)
 
     pub no_object : None ≡ pointed_cell c.pages w.pages address → None ≡ found
-    no_object none = ap (λ (x : Option ℕ). option_map (object_of c xs) x)
+    no_object none = ap (λ (x : Option ℕ). option_map (freed_object_of c xs) x)
         (sym (frees_nothing c es history slot (sym none)))
 
     module _ (cell : Cell) (points : Some cell ≡ pointed_cell c.pages w.pages address) where
@@ -117,14 +118,14 @@ module _ (c : Config) (es : List Event) (history : IsHistory c es) where
       by_bit freed is = it.frees out ∙ ap (λ (b : Bool). if b then None else Some it.number) (sym is)
 
       pub freed_object : true ≡ is_freed w cell → None ≡ found
-      freed_object is = ap (λ (x : Option ℕ). option_map (object_of c xs) x) (sym (by_bit true is))
+      freed_object is = ap (λ (x : Option ℕ). option_map (freed_object_of c xs) x) (sym (by_bit true is))
 
       abbrev a : PlacedAllocation
       a = placed_at xs it.number
 
       same_object : (object : FreedObject) → object.cell ≡ cell → object.storage ≡ cell_words w cell
           → object.reserved ≡ (if not (nat_le object.storage 32) then object.storage else 0) → object.age ≡ 0
-          → object ≡ object_of c xs it.number
+          → object ≡ freed_object_of c xs it.number
       same_object object at words large young =
           let storage : object.storage ≡ storage_words c a = words ∙ it.words in
           let reserved : object.reserved ≡ large_words c a =
@@ -137,7 +138,7 @@ module _ (c : Config) (es : List Event) (history : IsHistory c es) where
             storage = storage_words c a;
             reserved = n;
           }) reserved
-          ∙ ap (λ (n : ℕ). record (object_of c xs it.number) { age = n }) young
+          ∙ ap (λ (n : ℕ). record (freed_object_of c xs it.number) { age = n }) young
 
       pub unfreed_object : (object : FreedObject) → false ≡ is_freed w cell → object.cell ≡ cell
           → object.storage ≡ cell_words w cell
@@ -145,4 +146,4 @@ module _ (c : Config) (es : List Event) (history : IsHistory c es) where
           → Some object ≡ found
       unfreed_object object is at words large young =
           ap (λ (x : FreedObject). Some x) (same_object object at words large young)
-          ∙ ap (λ (x : Option ℕ). option_map (object_of c xs) x) (sym (by_bit false is))
+          ∙ ap (λ (x : Option ℕ). option_map (freed_object_of c xs) x) (sym (by_bit false is))

@@ -28,14 +28,14 @@ use Rattle.mk_core.specs.Image.{image_of}
 use Rattle.mk_core.proofs.PointedAllocations.{word_points}
 use Rattle.mk_core.proofs.StandingAllocations.{cells_begin, storage_holds, typed_size}
 use Rattle.mk_core.proofs.Sizes.{large_is_not_small, words_are_small}
-use Rattle.mk_layout.specs.Quarantine.{IsFreedCell, IsQuarantined}
-use Rattle.mk_layout.specs.LayoutScene.{is_released_in}
-use Rattle.mk_layout.proofs.Settled.{unreleased_are_apart}
-use Rattle.mk_invariant.proofs.Histories.{histories_keep_the_invariant}
-use Rattle.mk_layout.specs.SettledPages.{StandsUsed}
-use Rattle.mk_images.specs.Mirrors.{Mirrors}
-use Rattle.mk_images.proofs.Kept.{exists_placed}
-use Rattle.mk_invariant.proofs.Theorems.{allocations_stand, reach_is_kept}
+use Rattle.mk_laws.specs.Quarantine.{IsFreedCell, IsQuarantined}
+use Rattle.mk_laws.specs.LayoutScene.{is_released_in}
+use Rattle.mk_laws.proofs.Settled.{unreleased_are_apart}
+use Rattle.mk_laws.proofs.InvariantHistories.{histories_keep_the_invariant}
+use Rattle.mk_laws.specs.SettledPages.{StandsUsed}
+use Rattle.mk_laws.specs.Mirrors.{Mirrors}
+use Rattle.mk_laws.proofs.ImagesKept.{exists_placed}
+use Rattle.mk_laws.proofs.InvariantTheorems.{allocations_stand, reach_is_kept}
 use Rattle.mk_trace.specs.Freeing.{AreLater, unfreed}
 
 -- Freed bits between calls: those of the allocations that are freed and unreleased, and no others.

@@ -21,8 +21,8 @@ use Rattle.mk_core.specs.Counts.{decides_freed}
 use Rattle.mk_core.specs.Cycles.{is_begin, is_release}
 use Rattle.mk_core.specs.Moments.{flight_of}
 use Rattle.mk_core.specs.Calls.{is_under_turn}
-use Rattle.mk_images.proofs.Kept.{exists_placed}
-use Rattle.mk_invariant.proofs.Theorems.{reach_is_kept}
+use Rattle.mk_laws.proofs.ImagesKept.{exists_placed}
+use Rattle.mk_laws.proofs.InvariantTheorems.{reach_is_kept}
 use Rattle.mk_alloc.proofs.ListParts.{none_at, lacks_append}
 use Rattle.mk_words.specs.States.{PassState, WordsState}
 use Rattle.mk_alloc.specs.TurnCycles.{FreeIsExact, FreesFirst, IsDueIn, has_step, is_of_cycle}
@@ -30,7 +30,7 @@ use Rattle.mk_heap.specs.Hosts.{HostState}
 use Rattle.mk_run.specs.Scripts.{unflagged}
 use Rattle.mk_trace.specs.Freeing.{AreLater, FlagsBehind, number_freed, FlagsBehindCall, IsMostWhereFreed}
 use Rattle.mk_trace.specs.Freeing.{QuarantinesMostWhereFreed, freed_words}
-use Rattle.mk_trace.specs.Calls.{Calls, IsHome, HoldsMostAtEnd}
+use Rattle.mk_trace.specs.Calls.{Calls, CallerIsHome, HoldsMostAtEnd}
 use Rattle.mk_trace.specs.Peaks.{greatest, greatest_from, quarantined_words, reserved_words}
 use Rattle.mk_trace.specs.Ends.{EndsTell, LeavesAllocations}
 use Rattle.mk_trace.proofs.FlagSteps.{is_freed_behind, is_freed_there, others_kept, points_there, twins, was_unfreed}
@@ -232,7 +232,7 @@ pub record Does (on : Bool) (c : Config) (es : List Event) (o : Op) (told : Answ
   pub flags : FlagsBehindCall c es o fs
 
 pub call_does : {on : Bool} {h : HostState} {o : Op} {told : Answer} {q : PassState} {fs : List Event}
-    (w : WordsState) → IsHome w h → Joined on h o told q fs → Does on w.config h.pass.seen o told fs
+    (w : WordsState) → CallerIsHome w h → Joined on h o told q fs → Does on w.config h.pass.seen o told fs
 call_does {on} {h} {o} {told} {q} {fs} w home j =
     let made = called j (callers_at_home w h home) in
     subst (λ (x : WordsState). Does on x.config h.pass.seen o told fs) home.table (record {

@@ -29,8 +29,8 @@ use Rattle.mk_core.specs.Moments.{Moment, flight_of}
 use Rattle.mk_core.specs.TurnConditions.{cell_freed}
 use Rattle.mk_core.specs.Words.{Words}
 use Rattle.mk_quarantine.proofs.CountedWords.{sum_filtered}
-use Rattle.mk_images.proofs.Kept.{exists_placed}
-use Rattle.mk_invariant.proofs.Theorems.{reach_is_kept}
+use Rattle.mk_laws.proofs.ImagesKept.{exists_placed}
+use Rattle.mk_laws.proofs.InvariantTheorems.{reach_is_kept}
 use Rattle.mk_objects.proofs.HeldFreed.{held_part, held_sum}
 use Rattle.mk_alloc.specs.TurnCycles.{is_grant, lets_go}
 use Rattle.mk_trace.specs.Peaks.{quarantined_words, reserved_words}

@@ -11,9 +11,9 @@ use Rattle.mk_core.specs.Counts.{TalliesAreExact}
 use Rattle.mk_core.specs.Growing.{AreOfOthers}
 use Rattle.mk_core.specs.History.{IsHistory, left}
 use Rattle.mk_core.proofs.HistoryParts.{earlier_part_is_history, enabled_in_parts}
-use Rattle.mk_heap.specs.Turns.{Tells}
-use Rattle.mk_placement.proofs.Tallies.{tallies_tell}
-use Rattle.mk_placement.proofs.TallySteps.{others_count_nothing}
+use Rattle.mk_heap.specs.Turns.{TellsWord}
+use Rattle.mk_laws.proofs.Tallies.{tallies_tell}
+use Rattle.mk_laws.proofs.TallySteps.{others_count_nothing}
 use Rattle.mk_words.specs.Seats.{Has, HasAll}
 use Rattle.mk_words.specs.States.{PassState, event_of}
 use Rattle.mk_words.proofs.Made.{made}
@@ -56,7 +56,7 @@ same_pass p w r l same is =
 
 -- Between calls the host looked at the word x, and found n.
 pub record Looked (p : PassState) (x : Word) (n : ℕ) (q : PassState) : Type 0 where
-  pub tells : Tells p x n q
+  pub tells : TellsWord p x n q
   pub own : Has p.seats p.seat
   pub all : HasAll p.table.config p.seats
   pub history : IsHistory p.table.config q.seen
@@ -65,7 +65,7 @@ module _ {p q : PassState} {x : Word} {n : ℕ} (l : Looked p x n q) where
   abbrev c : Config
   c = p.table.config
 
-  abbrev h : Tells p x n q
+  abbrev h : TellsWord p x n q
   h = l.tells
 
   abbrev waited : PassState

@@ -14,10 +14,11 @@ use Rattle.mk_core.specs.Cycles.{is_quarantined}
 use Rattle.mk_core.specs.History.{IsHistory, left}
 use Rattle.mk_core.specs.Words.{Words, phase_of}
 use Rattle.mk_core.specs.Counts.{in_a_word}
-use Rattle.mk_images.proofs.Kept.{exists_placed}
+use Rattle.mk_laws.proofs.ImagesKept.{exists_placed}
 use Rattle.mk_trace.specs.declared.ledger.FreedObject.{FreedObject}
 use Rattle.mk_trace.specs.Freeing.{FlagsBehind, FreesFlag, large_words}
-use Rattle.mk_trace.specs.Ledgers.{AreFound, AreObjectsOf, age_in_a_word, aged, aged_object, object_of, one_or_none}
+use Rattle.mk_trace.specs.Ledgers.{AreFound, AreObjectsOf, age_in_a_word, aged, aged_object, freed_object_of}
+use Rattle.mk_trace.specs.Ledgers.{one_or_none}
 use Rattle.mk_trace.specs.Peaks.{age_of}
 use Rattle.mk_trace.specs.Numbers.{AreThose, one_if, times}
 use Rattle.mk_trace.proofs.NumberLists.{equal_is, filters_agree, stands_passes, those_filtered, times_more, unequal_is}
@@ -120,11 +121,11 @@ module _ (c : Config) (es fs : List Event) (x : Option ℕ)
 
   one_noted : (found : List (List PlacedAllocation)) (objects : List FreedObject) (k : ℕ) → x ≡ Some k
       → AreFound found xs → AreObjectsOf c found xs (λ (i : ℕ). is_quarantined (placed_at xs i)) objects
-      → AreObjectsOf c found xs was_kept (objects ++ object_of c xs k ∷ [])
+      → AreObjectsOf c found xs was_kept (objects ++ freed_object_of c xs k ∷ [])
   one_noted found objects k is ends kept = record {
     numbers = kept.numbers ++ k ∷ [];
-    are = ap (λ (l : List FreedObject). l ++ object_of c xs k ∷ []) kept.are
-        ∙ ap (λ (n : ℕ). map (aged_object c found xs) kept.numbers ++ record (object_of c xs k) { age = n } ∷ [])
+    are = ap (λ (l : List FreedObject). l ++ freed_object_of c xs k ∷ []) kept.are
+        ∙ ap (λ (n : ℕ). map (aged_object c found xs) kept.numbers ++ record (freed_object_of c xs k) { age = n } ∷ [])
         (sym young)
         ∙ sym (map-append (aged_object c found xs) kept.numbers (k ∷ []));
     those = those;
@@ -163,7 +164,7 @@ module _ (c : Config) (es fs : List Event) (x : Option ℕ)
 
   noted_by : (found : List (List PlacedAllocation)) (objects : List FreedObject) (y : Option ℕ) → x ≡ y
       → AreFound found xs → AreObjectsOf c found xs (λ (i : ℕ). is_quarantined (placed_at xs i)) objects
-      → AreObjectsOf c found xs was_kept (objects ++ one_or_none (option_map (object_of c xs) y))
+      → AreObjectsOf c found xs was_kept (objects ++ one_or_none (option_map (freed_object_of c xs) y))
   noted_by found objects None is ends kept =
       subst (λ (l : List FreedObject). AreObjectsOf c found xs was_kept l) (sym (append-nil objects))
       (none_noted found objects is kept)
@@ -171,7 +172,7 @@ module _ (c : Config) (es fs : List Event) (x : Option ℕ)
 
   pub noted : (found : List (List PlacedAllocation)) (objects : List FreedObject) → AreFound found xs
       → AreObjectsOf c found xs (λ (i : ℕ). is_quarantined (placed_at xs i)) objects
-      → AreObjectsOf c found xs was_kept (objects ++ one_or_none (option_map (object_of c xs) x))
+      → AreObjectsOf c found xs was_kept (objects ++ one_or_none (option_map (freed_object_of c xs) x))
   noted found objects ends kept = noted_by found objects x refl ends kept
 
   -- and after it.

@@ -15,11 +15,12 @@ use Rattle.mk_core.specs.Words.{Words, phase_of}
 use Rattle.mk_trace.specs.declared.ledger.Freed.{Freed}
 use Rattle.mk_trace.specs.declared.ledger.FreedObject.{FreedObject}
 use Rattle.mk_trace.specs.declared.ledger.Peak.{Peak}
-use Rattle.mk_trace.specs.Ends.{EndsNone, EndsOne, IsIdle}
+use Rattle.mk_trace.specs.Ends.{EndsNone, EndsOne, IsBetweenCycles}
 use Rattle.mk_trace.specs.Freeing.{FlagsBehindCall, IsMostWhereFreed, QuarantinesMostWhereFreed, freed_words}
 use Rattle.mk_trace.specs.Freeing.{number_freed, words_of_some}
-use Rattle.mk_trace.specs.Ledgers.{AreAgesOf, AreFound, AreObjectsOf, IsPeakOf, Keeps, Notes, Settles, SettlesWhere}
-use Rattle.mk_trace.specs.Ledgers.{aged, age_in_a_word, aged_object, is_count_same, object_of, objects_kept}
+use Rattle.mk_trace.specs.Ledgers.{AreAgesOf, AreFound, AreObjectsOf, IsPeakOf, Keeps, Notes, SettlesFreed}
+use Rattle.mk_trace.specs.Ledgers.{SettlesWhere}
+use Rattle.mk_trace.specs.Ledgers.{aged, age_in_a_word, aged_object, is_count_same, freed_object_of, objects_kept}
 use Rattle.mk_trace.specs.Ledgers.{one_or_none, risen, some_words, still_kept, weighed_anew, with_one}
 use Rattle.mk_trace.specs.Peaks.{age_of, found_by_ends, greatest, quarantined_words, reserved_words}
 use Rattle.mk_trace.proofs.FoundAges.{kept_age, none_ages, none_found, one_ages, one_found}
@@ -58,7 +59,7 @@ other_count before count kept is other same =
 module _ (c : Config) (measure : List PlacedAllocation → ℕ) (words : FreedObject → ℕ) (weight : ℕ → ℕ)
     (measure_is : (ys : List PlacedAllocation) → measure ys ≡ weighed weight ys)
     (words_is : (ys : List PlacedAllocation) (i age : ℕ)
-    → words (record (object_of c ys i) { age = age }) ≡ weight (placed_at ys i).ty) where
+    → words (record (freed_object_of c ys i) { age = age }) ≡ weight (placed_at ys i).ty) where
   total : (found : List (List PlacedAllocation)) (ys : List PlacedAllocation) (objects : List FreedObject)
       → AreObjectsOf c found ys (λ (i : ℕ). is_quarantined (placed_at ys i)) objects
       → sum_by words objects ≡ measure ys
@@ -69,13 +70,13 @@ module _ (c : Config) (measure : List PlacedAllocation → ℕ) (words : FreedOb
       ∙ words_of_numbers weight kept.numbers ys kept.those ∙ sym (measure_is ys)
 
   some_is : (ys : List PlacedAllocation) (x : Option ℕ)
-      → some_words words (option_map (object_of c ys) x)
+      → some_words words (option_map (freed_object_of c ys) x)
       ≡ words_of_some (λ (a : PlacedAllocation). weight a.ty) ys x
   some_is ys None = refl
   some_is ys (Some i) = words_is ys i 0
 
   module _ (es fs : List Event) (o : Op) (first second third : Peak) (x : Option FreedObject)
-      (is : x ≡ option_map (object_of c (left c es).allocations) (number_freed (never_behind c es) o))
+      (is : x ≡ option_map (freed_object_of c (left c es).allocations) (number_freed (never_behind c es) o))
       (peak : IsPeakOf c measure es first) (rises : second ≡ risen first (some_words words x))
       (most : IsMostWhereFreed c measure (λ (a : PlacedAllocation). weight a.ty) es o fs) where
     adds : some_words words x ≡ freed_words c (λ (a : PlacedAllocation). weight a.ty) es o
@@ -123,12 +124,12 @@ module _ (c : Config) (measure : List PlacedAllocation → ℕ) (words : FreedOb
 
 -- All of them.
 module _ (c : Config) (es fs : List Event) (o : Op) (before : IsHistory c es) (behind : IsHistory c fs)
-    (few : ends es < 18446744073709551615) (idle : IsIdle c fs) (tells : EndsNone c es fs ⊎ EndsOne c es fs)
+    (few : ends es < 18446744073709551615) (idle : IsBetweenCycles c fs) (tells : EndsNone c es fs ⊎ EndsOne c es fs)
     (flags : FlagsBehindCall c es o fs)
     (most : QuarantinesMostWhereFreed c es o fs) (first second third : Freed) (x : Option FreedObject)
-    (is : x ≡ option_map (object_of c (left c es).allocations) (number_freed (never_behind c es) o))
+    (is : x ≡ option_map (freed_object_of c (left c es).allocations) (number_freed (never_behind c es) o))
     (keeps : Keeps c es first) (notes : Notes first x second)
-    (settles : Settles (left c fs).now.words.freed (in_a_word (ends fs)) second third) where
+    (settles : SettlesFreed (left c fs).now.words.freed (in_a_word (ends fs)) second third) where
   abbrev xs : List PlacedAllocation
   xs = (left c es).allocations
 

@@ -17,9 +17,10 @@ use Rattle.mk_core.specs.Words.{Words}
 use Rattle.mk_trace.specs.declared.ledger.Freed.{Freed}
 use Rattle.mk_trace.specs.declared.ledger.Peak.{Peak}
 use Rattle.mk_trace.specs.Calls.{most_held, HoldsMostAtEnd}
-use Rattle.mk_trace.specs.Ends.{IsIdle, EndsNone, EndsOne, EndsTell, LeavesAllocations}
-use Rattle.mk_trace.specs.Ledgers.{AreAgesOf, Keeps, objects_kept, AreFound, AreObjectsOf, IsPeakOf, Notes, Settles}
-use Rattle.mk_trace.specs.Ledgers.{object_of}
+use Rattle.mk_trace.specs.Ends.{IsBetweenCycles, EndsNone, EndsOne, EndsTell, LeavesAllocations}
+use Rattle.mk_trace.specs.Ledgers.{AreAgesOf, Keeps, objects_kept, AreFound, AreObjectsOf, IsPeakOf, Notes}
+use Rattle.mk_trace.specs.Ledgers.{SettlesFreed}
+use Rattle.mk_trace.specs.Ledgers.{freed_object_of}
 use Rattle.mk_trace.specs.Peaks.{HistoryPeaks, found_by_ends, found_by_ends_from, greatest, greatest_from, peaks_of}
 use Rattle.mk_trace.specs.Peaks.{quarantined_words, reserved_words}
 use Rattle.mk_trace.specs.Playing.{config_of}
@@ -27,7 +28,7 @@ use Rattle.mk_trace.specs.Traces.{Contents}
 use Rattle.mk_trace.specs.declared.ledger.FreedObject.{FreedObject}
 use Rattle.mk_trace.specs.Freeing.{FlagsBehindCall, IsMostWhereFreed, QuarantinesMostWhereFreed, freed_words}
 use Rattle.mk_trace.specs.Freeing.{large_words, number_freed}
-use Rattle.mk_trace.specs.Looking.{OnlyLooks}
+use Rattle.mk_trace.specs.Looking.{HostOnlyLooks}
 use Rattle.mk_trace.proofs.ReleasedAreFreed.{ages_counted}
 use Rattle.mk_trace.proofs.PeakParts.{last_below}
 use Rattle.mk_trace.proofs.KeptPeaks.{keeps_on}
@@ -38,9 +39,9 @@ pub first_held : (c : Config) (es : List Event) → es ≡ [] → most_held c es
 unfolding greatest_from unreleased_storage
 first_held c es empty = ap (λ (l : List Event). most_held c l) empty
 
-pub first_idle : (c : Config) (es : List Event) → es ≡ [] → IsIdle c es
+pub first_idle : (c : Config) (es : List Event) → es ≡ [] → IsBetweenCycles c es
 unfolding left_from
-first_idle c es empty = subst (λ (l : List Event). IsIdle c l) (sym empty) refl
+first_idle c es empty = subst (λ (l : List Event). IsBetweenCycles c l) (sym empty) refl
 
 pub first_keeps : (c : Config) (es : List Event) (f : Freed) → es ≡ []
     → f.quarantined ≡ record { now = 0; most = 0 } → f.reserved ≡ record { now = 0; most = 0 }
@@ -122,7 +123,7 @@ keeps_left c es fs f leaves quarantined reserved h = record {
 }
 
 -- So does a look.
-keeps_looked : (c : Config) (es fs : List Event) (f : Freed) → OnlyLooks c es fs → Keeps c es f → Keeps c fs f
+keeps_looked : (c : Config) (es fs : List Event) (f : Freed) → HostOnlyLooks c es fs → Keeps c es f → Keeps c fs f
 keeps_looked c es fs f looks h =
     keeps_left c es fs f looks.leaves (looks.most (quarantined_words c)) (looks.most (reserved_words c)) h
 
@@ -158,36 +159,37 @@ held_beside c es fs held leaves most is =
 
 -- Looks before a call and after it
 
-pub idle_looked : (c : Config) (es fs : List Event) → OnlyLooks c es fs → IsIdle c es → IsIdle c fs
+pub idle_looked : (c : Config) (es fs : List Event) → HostOnlyLooks c es fs → IsBetweenCycles c es
+    → IsBetweenCycles c fs
 idle_looked c es fs looks idle = looks.leaves.phase ∙ idle
 
-pub never_looked : (c : Config) (es fs : List Event) → OnlyLooks c es fs → never_behind c fs ≡ never_behind c es
+pub never_looked : (c : Config) (es fs : List Event) → HostOnlyLooks c es fs → never_behind c fs ≡ never_behind c es
 never_looked c es fs looks = ap (λ (l : List Decided). after_calls (never_first c) (asked l)) looks.calls
 
 -- One call
 module _ (c : Config) (es0 es1 es2 es3 es4 : List Event) (o : Op) (first second third : Freed)
-    (x : Option FreedObject) (before : OnlyLooks c es0 es1) (at_first : IsHistory c es1) (at_last : IsHistory c es2)
-    (few : ends es0 < 18446744073709551615) (idle : IsIdle c es0) (tells : EndsTell c es1 es2)
+    (x : Option FreedObject) (before : HostOnlyLooks c es0 es1) (at_first : IsHistory c es1) (at_last : IsHistory c es2)
+    (few : ends es0 < 18446744073709551615) (idle : IsBetweenCycles c es0) (tells : EndsTell c es1 es2)
     (most : QuarantinesMostWhereFreed c es1 o es2)
-    (flags : FlagsBehindCall c es1 o es2) (looks : OnlyLooks c es2 es3) (more : OnlyLooks c es3 es4)
-    (is : x ≡ option_map (object_of c (left c es0).allocations) (number_freed (never_behind c es0) o))
+    (flags : FlagsBehindCall c es1 o es2) (looks : HostOnlyLooks c es2 es3) (more : HostOnlyLooks c es3 es4)
+    (is : x ≡ option_map (freed_object_of c (left c es0).allocations) (number_freed (never_behind c es0) o))
     (keeps : Keeps c es0 first) (notes : Notes first x second)
-    (settles : Settles (left c es3).now.words.freed (in_a_word (ends es3)) second third) where
-  told : IsIdle c es2 × (EndsNone c es1 es2 ⊎ EndsOne c es1 es2)
+    (settles : SettlesFreed (left c es3).now.words.freed (in_a_word (ends es3)) second third) where
+  told : IsBetweenCycles c es2 × (EndsNone c es1 es2 ⊎ EndsOne c es1 es2)
   told = tells (idle_looked c es0 es1 before idle)
 
-  is_now : x ≡ option_map (object_of c (left c es1).allocations) (number_freed (never_behind c es1) o)
+  is_now : x ≡ option_map (freed_object_of c (left c es1).allocations) (number_freed (never_behind c es1) o)
   is_now =
       is
-      ∙ ap (λ (xs : List PlacedAllocation). option_map (object_of c xs) (number_freed (never_behind c es0) o))
+      ∙ ap (λ (xs : List PlacedAllocation). option_map (freed_object_of c xs) (number_freed (never_behind c es0) o))
       (sym before.table.allocations)
-      ∙ ap (λ (n : NeverState). option_map (object_of c (left c es1).allocations) (number_freed n o))
+      ∙ ap (λ (n : NeverState). option_map (freed_object_of c (left c es1).allocations) (number_freed n o))
       (sym (never_looked c es0 es1 before))
 
-  settles_now : Settles (left c es2).now.words.freed (in_a_word (ends es2)) second third
+  settles_now : SettlesFreed (left c es2).now.words.freed (in_a_word (ends es2)) second third
   settles_now =
-      subst (λ (count : ℕ). Settles (left c es2).now.words.freed (in_a_word count) second third) looks.leaves.count
-      (subst (λ (freed : List ℕ). Settles freed (in_a_word (ends es3)) second third)
+      subst (λ (count : ℕ). SettlesFreed (left c es2).now.words.freed (in_a_word count) second third) looks.leaves.count
+      (subst (λ (freed : List ℕ). SettlesFreed freed (in_a_word (ends es3)) second third)
       (ap (λ (w : Words). w.freed) looks.table.words) settles)
 
   pub keeps_behind : Keeps c es4 third
@@ -199,8 +201,8 @@ module _ (c : Config) (es0 es1 es2 es3 es4 : List Event) (o : Op) (first second 
       (keeps_looked c es0 es1 first before keeps) notes settles_now))
 
 -- At most one cycle ends.
-pub ends_over : (c : Config) (es0 es1 es2 es3 es4 : List Event) → OnlyLooks c es0 es1 → IsIdle c es0
-    → EndsTell c es1 es2 → OnlyLooks c es2 es3 → OnlyLooks c es3 es4 → ends es4 ≤ ends es0 + 1
+pub ends_over : (c : Config) (es0 es1 es2 es3 es4 : List Event) → HostOnlyLooks c es0 es1 → IsBetweenCycles c es0
+    → EndsTell c es1 es2 → HostOnlyLooks c es2 es3 → HostOnlyLooks c es3 es4 → ends es4 ≤ ends es0 + 1
 ends_over c es0 es1 es2 es3 es4 before idle tells looks more =
     let first = before.leaves.count in
     let third = looks.leaves.count in

@@ -9,7 +9,7 @@ use Rattle.std.proofs.Math.Bool.{and-false}
 use Rattle.std.proofs.lemmas.Bool.Decides.{nat_tests}
 use Rattle.mk_core.specs.Allocations.{PlacedAllocation, never_granted, placed_at}
 use Rattle.mk_core.specs.Cycles.{is_quarantined}
-use Rattle.mk_images.proofs.Kept.{exists_placed}
+use Rattle.mk_laws.proofs.ImagesKept.{exists_placed}
 use Rattle.mk_trace.specs.Numbers.{AreOfQuarantined, AreThose, one_if, times}
 use Rattle.mk_trace.proofs.FreedWords.{part, weighed, sum_alike}
 

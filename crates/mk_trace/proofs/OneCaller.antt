@@ -26,12 +26,12 @@ use Rattle.mk_core.specs.History.{calls, never_first, never_behind, IsHistory}
 use Rattle.mk_words.specs.Seats.{Has, HasAll, all_seats, has_over, without_seat}
 use Rattle.mk_words.specs.States.{WordsState, PassState}
 use Rattle.mk_words.proofs.Seats.{has_all, has_first, has_right}
-use Rattle.mk_caller.specs.States.{CallerState, at_home, number_of}
+use Rattle.mk_caller.specs.States.{CallerState, at_home, caller_of_pass}
 use Rattle.mk_caller.proofs.OwnSteps.{calls_by, others_add_none}
 use Rattle.mk_heap.specs.Hosts.{AllAreJoined, HostState, first_host, pass_for, with_caller_made, with_caller_out}
 use Rattle.mk_heap.specs.Hosts.{with_joined, with_seen}
-use Rattle.mk_run.specs.Scripts.{as_told, StaysAdmitted}
-use Rattle.mk_trace.specs.Calls.{IsHome, MayCome, SameCalls, Calls, CallsAll}
+use Rattle.mk_run.specs.Scripts.{as_told, IsAdmittedByOwnCalls}
+use Rattle.mk_trace.specs.Calls.{CallerIsHome, MayCome, SameCalls, Calls, CallsAll}
 use Rattle.mk_trace.specs.Playing.{begins_full, calls_of_caller, is_refusal}
 use Rattle.mk_trace.proofs.OwnPieces.{all_again}
 
@@ -160,8 +160,8 @@ next_may_come c es full ops refused fs o rest h admitted =
 
 -- The host between calls.
 
-pub told_home : (w : WordsState) (h : HostState) (g : HostState) → IsHome w h → g ≡ with_seen h g.pass.seen
-    → has_over g.pass.seen ≡ has_over h.pass.seen → IsHome w g
+pub told_home : (w : WordsState) (h : HostState) (g : HostState) → CallerIsHome w h → g ≡ with_seen h g.pass.seen
+    → has_over g.pass.seen ≡ has_over h.pass.seen → CallerIsHome w g
 told_home w h g home is overs = record {
   table = ap (λ (x : HostState). x.pass.table) is ∙ home.table;
   one = home.one;
@@ -172,9 +172,9 @@ told_home w h g home is overs = record {
   before_over = overs ∙ home.before_over;
 }
 
-pub joined_home : (w : WordsState) (h out g : HostState) (q : PassState) → IsHome w h → out ≡ with_caller_out h 0
+pub joined_home : (w : WordsState) (h out g : HostState) (q : PassState) → CallerIsHome w h → out ≡ with_caller_out h 0
     → g ≡ with_joined out q g.pass.seen → q.seats ≡ Caller 0 ∷ []
-    → has_over g.pass.seen ≡ has_over out.pass.seen → IsHome w g
+    → has_over g.pass.seen ≡ has_over out.pass.seen → CallerIsHome w g
 joined_home w h out g q home is joined seats overs = record {
   table = ap (λ (x : HostState). x.pass.table) joined ∙ ap (λ (x : HostState). x.pass.table) is ∙ home.table;
   one = home.one;
@@ -194,12 +194,12 @@ joined_home w h out g q home is joined seats overs = record {
 
 -- The caller that the host makes again.
 
-pub callers_at_home : (w : WordsState) (h : HostState) → IsHome w h → h.pass.table.config.callers ≡ 1
+pub callers_at_home : (w : WordsState) (h : HostState) → CallerIsHome w h → h.pass.table.config.callers ≡ 1
 callers_at_home w h home = ap (λ (x : WordsState). x.config.callers) home.table ∙ home.one
 
 -- What may come now may come while the caller makes no call.
-admits : (w : WordsState) (h : HostState) → IsHome w h → (o : Op) → MayCome w.config h.pass.seen o
-    → IsHistory h.pass.table.config h.pass.seen → StaysAdmitted (pass_for h (Caller 0)) o
+admits : (w : WordsState) (h : HostState) → CallerIsHome w h → (o : Op) → MayCome w.config h.pass.seen o
+    → IsHistory h.pass.table.config h.pass.seen → IsAdmittedByOwnCalls (pass_for h (Caller 0)) o
 admits w h home o comes history = λ es later same.
     let c = h.pass.table.config in
     let one = callers_at_home w h home in
@@ -208,7 +208,7 @@ admits w h home o comes history = λ es later same.
     subst (λ (xs : List Decided). IsAdmitted c.globals (after_calls (never_first c) (asked xs)) 0 o) (sym all)
     (subst (λ (x : WordsState). MayCome x.config h.pass.seen o) (sym home.table) comes)
 
-module _ (w : WordsState) (h : HostState) (home : IsHome w h) (s : CallerState)
+module _ (w : WordsState) (h : HostState) (home : CallerIsHome w h) (s : CallerState)
     (made : s ≡ at_home (pass_for h (Caller 0))) where
   pub made_seats : s.pass.seats ≡ Caller 0 ∷ []
   made_seats = ap (λ (x : CallerState). x.pass.seats) made
@@ -216,21 +216,21 @@ module _ (w : WordsState) (h : HostState) (home : IsHome w h) (s : CallerState)
   pub made_alone : s.pass.seats ≡ s.pass.seat ∷ []
   made_alone = subst (λ (x : CallerState). x.pass.seats ≡ x.pass.seat ∷ []) (sym made) refl
 
-  pub made_exists : number_of s.pass < s.pass.table.config.callers
+  pub made_exists : caller_of_pass s.pass < s.pass.table.config.callers
   made_exists =
       let one = callers_at_home w h home in
-      subst (λ (x : CallerState). number_of x.pass < x.pass.table.config.callers) (sym made) (omega (arith, one))
+      subst (λ (x : CallerState). caller_of_pass x.pass < x.pass.table.config.callers) (sym made) (omega (arith, one))
 
   pub made_admits : (o : Op) → MayCome w.config h.pass.seen o → IsHistory s.pass.table.config s.pass.seen
-      → StaysAdmitted s.pass o
+      → IsAdmittedByOwnCalls s.pass o
   made_admits o comes history =
-      subst (λ (x : CallerState). StaysAdmitted x.pass o) (sym made)
+      subst (λ (x : CallerState). IsAdmittedByOwnCalls x.pass o) (sym made)
       (admits w h home o comes (subst (λ (x : CallerState). IsHistory x.pass.table.config x.pass.seen) made history))
 
 -- The caller that the host makes first, and joins at once.
 pub first_home : (w : WordsState) (h made joined : HostState) (q : PassState) → w.config.callers ≡ 1 → h ≡ first_host w
     → made ≡ with_caller_made h → joined ≡ with_joined made q joined.pass.seen → q.seats ≡ Caller 0 ∷ []
-    → has_over joined.pass.seen ≡ has_over made.pass.seen → IsHome w joined
+    → has_over joined.pass.seen ≡ has_over made.pass.seen → CallerIsHome w joined
 first_home w h made joined q one first is joins seats overs =
     let all : made ≡ with_caller_made (first_host w) = is ∙ ap (λ (x : HostState). with_caller_made x) first in
     record {
@@ -251,7 +251,7 @@ first_home w h made joined q one first is joins seats overs =
     }
 
 -- All are joined then.
-pub home_joined : (w : WordsState) (h : HostState) → IsHome w h → AllAreJoined h
+pub home_joined : (w : WordsState) (h : HostState) → CallerIsHome w h → AllAreJoined h
 home_joined w h home = record {
   callers = λ k lt.
       (let n = home.callers in

@@ -14,20 +14,22 @@ use Rattle.mk_script.specs.declared.faults.Which.TheVariants as which
 use Rattle.mk_script.specs.Lines.{at_most, heap_limit, within}
 use Rattle.mk_script.specs.Operands.{name, number}
 use Rattle.mk_check.proofs.GrammarLemmas.{at_most-None, option_or-None}
-use Rattle.mk_script.specs.Words.{words_of, lines_of}
+use Rattle.mk_script.specs.Words.{words_of_line, lines_of}
 use Rattle.mk_trace.specs.declared.lines.HeapPages.{HeapPages}
 use Rattle.mk_trace.specs.declared.lines.Slot.{Slot}
 use Rattle.mk_trace.specs.declared.lines.Line.{Line}
 use Rattle.mk_trace.specs.declared.lines.Line.TheVariants as line
-use Rattle.mk_trace.specs.Lines.{Written, with_line, heap_pages, header_of, slot_number, slot_limit, checked_slot}
-use Rattle.mk_trace.specs.Lines.{slot_from, slot_line, event_of, event_line, line_of, nothing_written}
+use Rattle.mk_trace.specs.Lines.{LinesSoFar, with_trace_line, heap_pages, header_line_of, slot_number, slot_limit}
+use Rattle.mk_trace.specs.Lines.{checked_slot}
+use Rattle.mk_trace.specs.Lines.{slot_from, slot_line, event_line_of, event_line, trace_line_of, nothing_written}
 use Rattle.mk_trace.specs.declared.lines.Action.{Action}
 use Rattle.mk_trace.specs.declared.lines.Action.TheVariants.{New, Link, Free, Clear, Write}
 use Rattle.mk_trace.specs.declared.lines.EventLine.{EventLine}
 use Rattle.mk_trace.specs.declared.trace.TraceEvent.{TraceEvent}
 use Rattle.mk_trace.specs.declared.trace.TraceEvent.TheVariants.{A, K, F, C, W}
 use Rattle.mk_trace.specs.Typing.{typed_write, event_on, words_at, on_slot, typed_event}
-use Rattle.mk_trace.specs.Traces.{words_of_slots, Contents, contents_from, contents_of, trace_of_lines, IsOfSomeText}
+use Rattle.mk_trace.specs.Traces.{words_of_slots, Contents, contents_from, contents_of, trace_of_lines}
+use Rattle.mk_trace.specs.Traces.{IsOfSomeTraceText}
 use Rattle.mk_trace.specs.Laws.{IsEventOf, IsPlayable}
 use Rattle.mk_trace.specs.Grammar.{text_fault_at, type_fault_at, read_behind, with_event, written_from, events_from}
 use Rattle.mk_trace.specs.Playing.{config_of, types_from}
@@ -66,34 +68,35 @@ slot_more before word words found h are =
     let counted = bound (number words) _ found named.behind in
     one_more before (record { name = named.value; words = counted.value }) found counted.behind are
 
-slot_line_more : (before : Written) (operands : List (List ℕ)) (given : Line) → slot_line before operands ≡ Ok given
-    → AreWithin before.slots → AreWithin (with_line before given).slots
+slot_line_more : (before : LinesSoFar) (operands : List (List ℕ)) (given : Line) → slot_line before operands ≡ Ok given
+    → AreWithin before.slots → AreWithin (with_trace_line before given).slots
 slot_line_more before [] given h are = absurd cc
 slot_line_more before (a ∷ []) given h are = absurd cc
 slot_line_more before (word ∷ words ∷ []) given h are =
     let placed = passed_then (length before.events == 0) _ _ given h in
     let found = bound (slot_from before.slots word words) _ given placed.1 in
     let is : line.Slot found.value ≡ given = cc in
-    subst (λ (x : Line). AreWithin (with_line before x).slots) is
+    subst (λ (x : Line). AreWithin (with_trace_line before x).slots) is
     (slot_more before.slots word words found.value found.is are)
 slot_line_more before (a ∷ b ∷ c ∷ rest) given h are = absurd cc
 
-event_line_more : (before : Written) (word : List ℕ) (operands : List (List ℕ)) (given : Line)
-    → event_line before word operands ≡ Ok given → AreWithin before.slots → AreWithin (with_line before given).slots
+event_line_more : (before : LinesSoFar) (word : List ℕ) (operands : List (List ℕ)) (given : Line)
+    → event_line before word operands ≡ Ok given → AreWithin before.slots
+    → AreWithin (with_trace_line before given).slots
 event_line_more before word operands given h are =
     let placed = passed_else (length before.slots == 0) _ _ given h in
-    let found = bound (event_of word operands) _ given placed.1 in
+    let found = bound (event_line_of word operands) _ given placed.1 in
     let is : line.Event found.value ≡ given = cc in
-    subst (λ (x : Line). AreWithin (with_line before x).slots) is are
+    subst (λ (x : Line). AreWithin (with_trace_line before x).slots) is are
 
-by_word : (is_slot : Bool) (before : Written) (word : List ℕ) (operands : List (List ℕ)) (given : Line)
+by_word : (is_slot : Bool) (before : LinesSoFar) (word : List ℕ) (operands : List (List ℕ)) (given : Line)
     → (if is_slot then slot_line before operands else event_line before word operands) ≡ Ok given
-    → AreWithin before.slots → AreWithin (with_line before given).slots
+    → AreWithin before.slots → AreWithin (with_trace_line before given).slots
 by_word true before word operands given h are = slot_line_more before operands given h are
 by_word false before word operands given h are = event_line_more before word operands given h are
 
-pub line_more : (before : Written) (words : List (List ℕ)) (given : Line) → line_of before words ≡ Ok given
-    → AreWithin before.slots → AreWithin (with_line before given).slots
+pub line_more : (before : LinesSoFar) (words : List (List ℕ)) (given : Line) → trace_line_of before words ≡ Ok given
+    → AreWithin before.slots → AreWithin (with_trace_line before given).slots
 line_more before [] given h are = absurd cc
 line_more before (word ∷ operands) given h are = by_word (bytes_eq word (codes "slot")) before word operands given h are
 
@@ -112,7 +115,7 @@ heap_within pages resident heap h =
       resident = within_none 1 r.value p.value which.Resident limits.1;
     })
 
-pub header_within : (words : List (List ℕ)) (heap : HeapPages) → header_of words ≡ Ok heap → HeapIsWithin heap
+pub header_within : (words : List (List ℕ)) (heap : HeapPages) → header_line_of words ≡ Ok heap → HeapIsWithin heap
 header_within [] heap h = absurd cc
 header_within (a ∷ []) heap h = absurd cc
 header_within (a ∷ b ∷ []) heap h = absurd cc
@@ -180,7 +183,7 @@ heap_limits trace heap few sizes =
       globals = range_below 0 (length trace.slots) (length (types_from 0 trace.slots)) (omega (arith, count));
     }
 
-read : (heap : HeapPages) (written : Written) (trace : Contents) → HeapIsWithin heap → AreWithin written.slots
+read : (heap : HeapPages) (written : LinesSoFar) (trace : Contents) → HeapIsWithin heap → AreWithin written.slots
     → contents_of heap written ≡ Ok trace → IsPlayable trace
 read heap written trace pages slots h =
     let some = passed_else (length written.slots == 0) _ _ trace h in
@@ -206,13 +209,14 @@ read heap written trace pages slots h =
 of_lines : (lines : List (List ℕ)) (trace : Contents) → trace_of_lines lines ≡ Ok trace → IsPlayable trace
 of_lines [] trace h = absurd cc
 of_lines (first ∷ lines) trace h =
-    let header = gone_on (text_fault_at 1) (header_of (words_of first)) _ trace h in
+    let header = gone_on (text_fault_at 1) (header_line_of (words_of_line first)) _ trace h in
     let written = then_next (written_from 2 lines nothing_written) _ trace header.behind in
-    let slots = along_keeps text_fault_at read_behind with_line (λ (w : Written). AreWithin w.slots)
-    (λ before line given holds is. line_more before (words_of line) given is holds) 2 lines nothing_written
+    let slots = along_keeps text_fault_at read_behind with_trace_line (λ (w : LinesSoFar). AreWithin w.slots)
+    (λ before line given holds is. line_more before (words_of_line line) given is holds) 2 lines nothing_written
     written.value
     (record { few = omega arith; sizes = All-nil SlotIsWithin }) written.is in
-    read header.value written.value trace (header_within (words_of first) header.value header.is) slots written.behind
+    read header.value written.value trace (header_within
+    (words_of_line first) header.value header.is) slots written.behind
 
-pub is_playable : (trace : Contents) → IsOfSomeText trace → IsPlayable trace
+pub is_playable : (trace : Contents) → IsOfSomeTraceText trace → IsPlayable trace
 is_playable trace (text, h) = of_lines (lines_of text) trace (passed_then (nat_le (length text) 1048576) _ _ trace h).1

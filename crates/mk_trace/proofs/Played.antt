@@ -20,7 +20,7 @@ use Rattle.mk_words.specs.States.{WordsState, PassState}
 use Rattle.mk_caller.specs.States.{CallerState, at_home}
 use Rattle.mk_heap.specs.Hosts.{HostState, first_host, pass_for}
 use Rattle.mk_heap.specs.Reports.{IsWhole}
-use Rattle.mk_theorems.proofs.Promises.{histories_keep_all_promises}
+use Rattle.mk_laws.proofs.Promises.{histories_keep_all_promises}
 use Rattle.mk_quarantine.proofs.Bounds.{quarantine_of_one_is_bounded}
 use Rattle.mk_run.proofs.UnsweptHistories.{unswept_is_precise}
 use Rattle.mk_trace.specs.declared.trace.TraceEvent.{TraceEvent}

@@ -14,10 +14,10 @@ use Rattle.mk_script.specs.Lines.{within}
 use Rattle.mk_script.specs.Operands.{◌>>=◌}
 use Rattle.mk_script.specs.declared.faults.LineFault.TheVariants.{Text}
 use Rattle.mk_script.specs.declared.faults.TextKind.TheVariants.{Word}
-use Rattle.mk_script.specs.Words.{words_of, lines_of, texts_of}
+use Rattle.mk_script.specs.Words.{words_of_line, lines_of, texts_of}
 use Rattle.mk_trace.specs.declared.faults.TraceStop.{TraceStop}
 use Rattle.mk_trace.specs.Grammar.{go_on, along, text_fault_at, written_from}
-use Rattle.mk_trace.specs.Lines.{ok_unless, Written, slot_line, event_of, nothing_written, header_of}
+use Rattle.mk_trace.specs.Lines.{ok_unless, LinesSoFar, slot_line, event_line_of, nothing_written, header_line_of}
 use Rattle.mk_trace.specs.Traces.{and_then, Contents, trace_of, trace_of_lines, contents_of}
 use Rattle.mk_trace.specs.declared.faults.TraceStop.TheVariants.{NoMemory}
 use Rattle.mk_trace.specs.declared.lines.HeapPages.{HeapPages}
@@ -136,7 +136,7 @@ on_ok (Err fault) told next = tt
 
 -- Lines with a number of words that no form has.
 
-pub no_slot : (before : Written) (operands : List (List ℕ)) → length operands ≢ 2
+pub no_slot : (before : LinesSoFar) (operands : List (List ℕ)) → length operands ≢ 2
     → slot_line before operands ≡ Err (Text Word)
 no_slot before [] n2 = refl
 no_slot before (a ∷ []) n2 = refl
@@ -144,7 +144,7 @@ no_slot before (a ∷ b ∷ []) n2 = absurd (n2 refl)
 no_slot before (a ∷ b ∷ c ∷ rest) n2 = refl
 
 pub no_event : (word : List ℕ) (operands : List (List ℕ)) → length operands ≢ 1 → length operands ≢ 3
-    → event_of word operands ≡ Err (Text Word)
+    → event_line_of word operands ≡ Err (Text Word)
 no_event word [] n1 n3 = refl
 no_event word (a ∷ []) n1 n3 = absurd (n1 refl)
 no_event word (a ∷ b ∷ []) n1 n3 = refl
@@ -156,8 +156,8 @@ no_event word (a ∷ b ∷ c ∷ d ∷ rest) n1 n3 = refl
 short : (text : List ℕ) → length text ≤ 1048576 → trace_of text ≡ trace_of_lines (lines_of text)
 short text small = cond-true _ _ _ (le-leb _ _ small)
 
-read : (first : List ℕ) (rest : List (List ℕ)) (heap : HeapPages) (written : Written)
-    → header_of (words_of first) ≡ Ok heap → written_from 2 rest nothing_written ≡ Ok written
+read : (first : List ℕ) (rest : List (List ℕ)) (heap : HeapPages) (written : LinesSoFar)
+    → header_line_of (words_of_line first) ≡ Ok heap → written_from 2 rest nothing_written ≡ Ok written
     → trace_of_lines (first ∷ rest) ≡ contents_of heap written
 read first rest heap written header lines =
     ap (λ found. go_on (text_fault_at 1) found
@@ -165,9 +165,10 @@ read first rest heap written header lines =
     ∙ ap (λ found. and_then found (contents_of heap)) lines
 
 -- the first of these lines, and the others
-pub read_whole : (text : List ℕ) (lines : List (Bor (List ℕ))) (d : Bor (List ℕ)) (heap : HeapPages) (written : Written)
+pub read_whole : (text : List ℕ) (lines : List (Bor (List ℕ))) (d : Bor (List ℕ)) (heap : HeapPages)
+    (written : LinesSoFar)
     → length text ≤ 1048576 → texts_of lines ≡ lines_of text → 0 < length lines
-    → header_of (words_of (get_or lines 0 d).now) ≡ Ok heap
+    → header_line_of (words_of_line (get_or lines 0 d).now) ≡ Ok heap
     → written_from 2 (texts_of (take (length lines - 1) (drop 1 lines))) nothing_written ≡ Ok written
     → trace_of text ≡ contents_of heap written
 read_whole text lines d heap written small are some header rest =

@@ -23,10 +23,10 @@ use Rattle.mk_core.proofs.ChangedAllocations.{granted_at, released_leaves}
 use Rattle.mk_core.proofs.Histories.{left_more}
 use Rattle.mk_core.proofs.HistoryParts.{earlier_part_is_history, enabled_in_parts}
 use Rattle.mk_core.proofs.PointedAllocations.{released_where_left}
-use Rattle.mk_invariant.proofs.Histories.{histories_keep_the_invariant}
-use Rattle.mk_invariant.proofs.Theorems.{allocations_stand}
-use Rattle.mk_readings.proofs.CyclePhases.{AsksPhase, moves_phase}
-use Rattle.mk_readings.proofs.Snapshots.{unreleased_cycles}
+use Rattle.mk_laws.proofs.InvariantHistories.{histories_keep_the_invariant}
+use Rattle.mk_laws.proofs.InvariantTheorems.{allocations_stand}
+use Rattle.mk_laws.proofs.CyclePhases.{AsksPhase, moves_phase}
+use Rattle.mk_laws.proofs.Snapshots.{unreleased_cycles}
 use Rattle.mk_trace.specs.Ledgers.{AreAgesOf, age_in_a_word, is_gone}
 use Rattle.mk_trace.specs.Numbers.{one_if, times}
 use Rattle.mk_trace.specs.Peaks.{counted, released_ages}

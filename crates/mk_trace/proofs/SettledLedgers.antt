@@ -8,7 +8,8 @@ use Rattle.std.proofs.lemmas.List.Elements.{filter-append}
 use Rattle.mk_core.specs.Counts.{in_a_word}
 use Rattle.mk_trace.specs.declared.ledger.FreedObject.{FreedObject}
 use Rattle.mk_trace.specs.declared.ledger.Freed.{Freed}
-use Rattle.mk_trace.specs.Ledgers.{Settles, SettlesWhere, aged, ages_let_go, is_freed_among, objects_kept, still_kept}
+use Rattle.mk_trace.specs.Ledgers.{SettlesFreed, SettlesWhere, aged, ages_let_go, is_freed_among, objects_kept}
+use Rattle.mk_trace.specs.Ledgers.{still_kept}
 use Rattle.mk_trace.specs.Ledgers.{weighed_anew, with_one}
 use Rattle.mk_trace.proofs.NumberLists.{unequal_is}
 
@@ -100,12 +101,12 @@ pub settles_anew : (freed shown : List ℕ) (count told : ℕ) (old new : Freed)
     → new.reserved ≡ weighed_anew (λ (x : FreedObject). x.reserved) kept old.reserved
     → objects_kept new ≡ kept
     → new.ages.items ≡ fold with_one old.ages.items (ages_let_go shown (map aged found))
-    → new.ends ≡ count → Settles freed told old new
+    → new.ends ≡ count → SettlesFreed freed told old new
 settles_anew freed shown count told old new found kept at is other all still quarantined reserved objects ages ends =
     let kept_is : kept ≡ still_kept freed (map aged (objects_kept old)) =
     still ∙ ap (λ (l : List ℕ). still_kept l (map aged found)) at
     ∙ ap (λ (l : List FreedObject). still_kept freed (map aged l)) all in
-    subst (λ (n : ℕ). Settles freed n old new) is
+    subst (λ (n : ℕ). SettlesFreed freed n old new) is
     (record {
       ends = ends;
       objects = subst (λ (b : Bool). SettlesWhere b freed old new) (sym (unequal_is count old.ends other)) (

@@ -18,13 +18,13 @@ use Rattle.mk_core.proofs.Histories.{left_more}
 use Rattle.mk_words.specs.Seats.{Has, HasAll}
 use Rattle.mk_words.specs.States.{PassState, WordsState, event_of}
 use Rattle.mk_heap.specs.Hosts.{HostState}
-use Rattle.mk_heap.specs.Turns.{Tells}
+use Rattle.mk_heap.specs.Turns.{TellsWord}
 use Rattle.mk_alloc.specs.TurnCycles.{has_step}
 use Rattle.mk_alloc.proofs.Parts.{seen_made}
 use Rattle.mk_turns.specs.Sweeping.{SweepsNothing}
-use Rattle.mk_trace.specs.Calls.{IsHome, held_behind}
+use Rattle.mk_trace.specs.Calls.{CallerIsHome, held_behind}
 use Rattle.mk_trace.specs.Ends.{LeavesAllocations}
-use Rattle.mk_trace.specs.Looking.{LeavesTable, OnlyLooks, word_behind}
+use Rattle.mk_trace.specs.Looking.{LeavesTable, HostOnlyLooks, word_behind}
 use Rattle.mk_trace.specs.Peaks.{greatest}
 use Rattle.mk_trace.proofs.PeakParts.{from-append, last_below}
 use Rattle.mk_trace.proofs.HeldLooks.{IsApart, behind, first, first_lacks, looks_alone, seen_is, taken_same, taken_seen}
@@ -54,7 +54,7 @@ module _ {p q : PassState} {x : Word} {n : ℕ} (l : Looked p x n q) where
   abbrev c : Config
   c = p.table.config
 
-  abbrev h : Tells p x n q
+  abbrev h : TellsWord p x n q
   h = l.tells
 
   abbrev at : List Event
@@ -137,7 +137,7 @@ module _ {p q : PassState} {x : Word} {n : ℕ} (l : Looked p x n q) where
       (subst (λ (es : List Event). IsHistory c es) (seen_is l) l.history).enabled).1
       (all_lack l changes (record { take = λ o. refl; look = λ y. refl; give = refl })))
 
-  looks : p.seat ≡ Host → Has p.seats (Caller 0) → c.callers ≡ 1 → SweepsNothing p q → OnlyLooks c p.seen q.seen
+  looks : p.seat ≡ Host → Has p.seats (Caller 0) → c.callers ≡ 1 → SweepsNothing p q → HostOnlyLooks c p.seen q.seen
   looks host joined one sweeps = record {
     calls =
         same_calls c p.seen q.seen one
@@ -154,13 +154,14 @@ module _ {p q : PassState} {x : Word} {n : ℕ} (l : Looked p x n q) where
 
 -- All that a look of the host does and says.
 pub record Reports (c : Config) (es : List Event) (x : Word) (n : ℕ) (fs : List Event) : Type 0 where
-  pub looks : OnlyLooks c es fs
+  pub looks : HostOnlyLooks c es fs
   pub tells : n ≡ word_behind c es x
   pub holds : x ≡ word.Held → n ≡ held_behind c es
   pub counts : IsTidy c fs → x ≡ word.Cycles → n ≡ in_a_word (ends es)
 
-pub reports : (w : WordsState) (h : HostState) → IsHome w h → h.pass.seat ≡ Host → (x : Word) (n : ℕ) (k : HostState)
-    → Tells h.pass x n k.pass → IsHistory h.pass.table.config k.pass.seen → SweepsNothing h.pass k.pass
+pub reports : (w : WordsState) (h : HostState) → CallerIsHome w h → h.pass.seat ≡ Host
+    → (x : Word) (n : ℕ) (k : HostState)
+    → TellsWord h.pass x n k.pass → IsHistory h.pass.table.config k.pass.seen → SweepsNothing h.pass k.pass
     → Reports w.config h.pass.seen x n k.pass.seen
 reports w h home host x n k tells history sweeps =
     let l : Looked h.pass x n k.pass = record {

@@ -25,7 +25,7 @@ use Rattle.mk_trace.specs.Playing.{refused_events}
 use Rattle.mk_trace.specs.Traces.{Contents}
 
 -- The heap has one caller, which was made, and whose seat is home in the host's pass, as all others are.
-pub record IsHome (w : WordsState) (h : HostState) : Type 0 where
+pub record CallerIsHome (w : WordsState) (h : HostState) : Type 0 where
   pub table : h.pass.table ≡ w
   pub one : w.config.callers ≡ 1
   pub callers : h.callers ≡ 1

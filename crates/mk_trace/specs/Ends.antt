@@ -9,8 +9,8 @@ use Rattle.mk_core.specs.Words.{phase_of}
 use Rattle.mk_trace.specs.Peaks.{found_by_ends}
 
 -- No cycle is on.
-abbrev pub IsIdle : Config → List Event → Type 0
-IsIdle c es = phase_of (left c es).now.words ≡ 0
+abbrev pub IsBetweenCycles : Config → List Event → Type 0
+IsBetweenCycles c es = phase_of (left c es).now.words ≡ 0
 
 -- The second list has the allocations of the first, and maybe more. Of the first none was released meanwhile.
 pub record ReleasesNone (xs ys : List PlacedAllocation) : Type 0 where
@@ -38,7 +38,7 @@ pub record EndsOne (c : Config) (es fs : List Event) : Type 0 where
 
 -- Where no cycle was on, none is on again, and one ended at most.
 abbrev pub EndsTell : Config → List Event → List Event → Type 0
-EndsTell c es fs = IsIdle c es → IsIdle c fs × (EndsNone c es fs ⊎ EndsOne c es fs)
+EndsTell c es fs = IsBetweenCycles c es → IsBetweenCycles c fs × (EndsNone c es fs ⊎ EndsOne c es fs)
 
 -- No cycle began or ended, and all allocations are as they were.
 pub record LeavesAllocations (c : Config) (es fs : List Event) : Type 0 where

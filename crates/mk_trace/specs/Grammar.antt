@@ -3,7 +3,7 @@ use Rattle.std.specs.Prelude.{ℕ, ◌+◌, List, [], ◌∷◌, ◌++◌, Ok, E
 use Rattle.std.specs.declared.result.Result.{Result}
 use Rattle.mk_script.specs.declared.faults.LineFault.{LineFault}
 use Rattle.mk_script.specs.declared.faults.LineFault.TheVariants.{Text, Limit}
-use Rattle.mk_script.specs.Words.{words_of}
+use Rattle.mk_script.specs.Words.{words_of_line}
 use Rattle.mk_check.specs.declared.typing_faults.TypeKind.{TypeKind}
 use Rattle.mk_trace.specs.declared.faults.TraceStop.{TraceStop}
 use Rattle.mk_trace.specs.declared.faults.TraceStop.TheVariants as stop
@@ -11,7 +11,7 @@ use Rattle.mk_trace.specs.declared.lines.Slot.{Slot}
 use Rattle.mk_trace.specs.declared.lines.EventLine.{EventLine}
 use Rattle.mk_trace.specs.declared.lines.Line.{Line}
 use Rattle.mk_trace.specs.declared.trace.TraceEvent.{TraceEvent}
-use Rattle.mk_trace.specs.Lines.{Written, with_line, line_of}
+use Rattle.mk_trace.specs.Lines.{LinesSoFar, with_trace_line, trace_line_of}
 use Rattle.mk_trace.specs.Typing.{typed_event}
 
 -- a fault at a line
@@ -35,12 +35,12 @@ along told read add number [] before = Ok before
 along told read add number (line ∷ lines) before =
     go_on (told number) (read before line) (λ given. along told read add (number + 1) lines (add before given))
 
-abbrev pub read_behind : Written → List ℕ → Result Line LineFault
-read_behind written line = line_of written (words_of line)
+abbrev pub read_behind : LinesSoFar → List ℕ → Result Line LineFault
+read_behind written line = trace_line_of written (words_of_line line)
 
 -- the slots and the events of lines after others
-abbrev pub written_from : ℕ → List (List ℕ) → Written → Result Written TraceStop
-written_from number lines before = along text_fault_at read_behind with_line number lines before
+abbrev pub written_from : ℕ → List (List ℕ) → LinesSoFar → Result LinesSoFar TraceStop
+written_from number lines before = along text_fault_at read_behind with_trace_line number lines before
 
 abbrev pub with_event : List TraceEvent → TraceEvent → List TraceEvent
 with_event events event = events ++ event ∷ []

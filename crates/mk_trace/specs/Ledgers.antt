@@ -19,8 +19,8 @@ use Rattle.mk_trace.specs.Numbers.{AreThose}
 use Rattle.mk_trace.specs.Peaks.{age_of, counted, found_by_ends, greatest, quarantined_words, reserved_words}
 
 -- the object of an allocation, as it is freed
-abbrev pub object_of : Config → List PlacedAllocation → ℕ → FreedObject
-object_of c xs number =
+abbrev pub freed_object_of : Config → List PlacedAllocation → ℕ → FreedObject
+freed_object_of c xs number =
     record {
       cell = cell_of_allocation c (placed_at xs number);
       storage = storage_words c (placed_at xs number);
@@ -153,6 +153,6 @@ SettlesWhere false freed old new =
     × (new.ages.items ≡ fold with_one old.ages.items (ages_let_go freed (map aged (objects_kept old))))
 
 -- What was released is let go, and its ages are counted, where this many cycles have ended.
-pub record Settles (freed : List ℕ) (count : ℕ) (old new : Freed) : Type 0 where
+pub record SettlesFreed (freed : List ℕ) (count : ℕ) (old new : Freed) : Type 0 where
   pub ends : new.ends ≡ count
   pub objects : SettlesWhere (is_count_same count old) freed old new

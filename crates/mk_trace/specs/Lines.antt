@@ -22,16 +22,16 @@ use Rattle.mk_trace.specs.declared.lines.Line.{Line}
 use Rattle.mk_trace.specs.declared.lines.Line.TheVariants as line
 
 -- what the lines after the first say so far
-pub record Written : Type 0 where
+pub record LinesSoFar : Type 0 where
   pub slots : List Slot
   pub events : List EventLine
 
-abbrev pub nothing_written : Written
+abbrev pub nothing_written : LinesSoFar
 nothing_written = record { slots = []; events = [] }
 
-abbrev pub with_line : Written → Line → Written
-with_line written (line.Slot slot) = record written { slots = written.slots ++ slot ∷ [] }
-with_line written (line.Event event) = record written { events = written.events ++ event ∷ [] }
+abbrev pub with_trace_line : LinesSoFar → Line → LinesSoFar
+with_trace_line written (line.Slot slot) = record written { slots = written.slots ++ slot ∷ [] }
+with_trace_line written (line.Event event) = record written { events = written.events ++ event ∷ [] }
 
 abbrev pub ok_unless : {A : Type 0} → Option LineFault → A → Result A LineFault
 ok_unless None x = Ok x
@@ -43,10 +43,10 @@ abbrev pub heap_pages : List ℕ → List ℕ → Result HeapPages LineFault
 heap_pages pages resident =
     number pages >>= (λ p. number resident >>= (λ r. ok_unless (heap_limit p r) (record { pages = p; resident = r })))
 
-abbrev pub header_of : List (List ℕ) → Result HeapPages LineFault
-header_of (word ∷ pages ∷ resident ∷ []) =
+abbrev pub header_line_of : List (List ℕ) → Result HeapPages LineFault
+header_line_of (word ∷ pages ∷ resident ∷ []) =
     if bytes_eq word (codes "trace") then heap_pages pages resident else Err (Text kind.Header)
-header_of words = Err (Text kind.Header)
+header_line_of words = Err (Text kind.Header)
 
 -- `slot S WORDS`, before the first event
 
@@ -68,7 +68,7 @@ abbrev pub slot_from : List Slot → List ℕ → List ℕ → Result Slot LineF
 slot_from before slot words =
     name slot >>= (λ s. number words >>= (λ n. checked_slot before (record { name = s; words = n })))
 
-abbrev pub slot_line : Written → List (List ℕ) → Result Line LineFault
+abbrev pub slot_line : LinesSoFar → List (List ℕ) → Result Line LineFault
 slot_line before (slot ∷ words ∷ []) =
     if length before.events == 0
     then slot_from before.slots slot words >>= (λ checked. Ok (line.Slot checked))
@@ -98,19 +98,19 @@ write_event word slot index value =
     >>= (λ s. number index >>= (λ i. number value >>= (λ n. Ok (record { slot = s; action = Write i n }))))
     else Err (Text kind.Word)
 
-abbrev pub event_of : List ℕ → List (List ℕ) → Result EventLine LineFault
-event_of word (slot ∷ []) = plain_event word slot
-event_of word (slot ∷ index ∷ value ∷ []) = write_event word slot index value
-event_of word operands = Err (Text kind.Word)
+abbrev pub event_line_of : List ℕ → List (List ℕ) → Result EventLine LineFault
+event_line_of word (slot ∷ []) = plain_event word slot
+event_line_of word (slot ∷ index ∷ value ∷ []) = write_event word slot index value
+event_line_of word operands = Err (Text kind.Word)
 
-abbrev pub event_line : Written → List ℕ → List (List ℕ) → Result Line LineFault
+abbrev pub event_line : LinesSoFar → List ℕ → List (List ℕ) → Result Line LineFault
 event_line before word operands =
     if length before.slots == 0
     then Err (Text kind.Word)
-    else event_of word operands >>= (λ event. Ok (line.Event event))
+    else event_line_of word operands >>= (λ event. Ok (line.Event event))
 
 -- a line after the first
-abbrev pub line_of : Written → List (List ℕ) → Result Line LineFault
-line_of before [] = Err (Text kind.Word)
-line_of before (word ∷ operands) =
+abbrev pub trace_line_of : LinesSoFar → List (List ℕ) → Result Line LineFault
+trace_line_of before [] = Err (Text kind.Word)
+trace_line_of before (word ∷ operands) =
     if bytes_eq word (codes "slot") then slot_line before operands else event_line before word operands

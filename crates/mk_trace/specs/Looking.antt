@@ -19,7 +19,7 @@ pub record LeavesTable (w v : World) : Type 0 where
 
 -- The host only looked: no call was made, no cycle began or ended, the table and all measures of the allocations are as
 -- they were, and where all turns were exact they are.
-pub record OnlyLooks (c : Config) (es fs : List Event) : Type 0 where
+pub record HostOnlyLooks (c : Config) (es fs : List Event) : Type 0 where
   pub calls : SameCalls c es fs
   pub leaves : LeavesAllocations c es fs
   pub table : LeavesTable (left c es) (left c fs)

@@ -20,7 +20,7 @@ use Rattle.mk_core.specs.Growing.{is_same_seat}
 use Rattle.mk_core.specs.History.{left, calls, IsHistory, RefinesNever}
 use Rattle.mk_core.specs.Moments.{flight_of}
 pub use Rattle.mk_check.specs.Feed.{is_refusal}
-use Rattle.mk_precision.specs.Precision.{CyclesArePrecise}
+use Rattle.mk_laws.specs.Precision.{CyclesArePrecise}
 use Rattle.mk_heap.specs.Reports as report
 use Rattle.mk_alloc.specs.TurnCycles.{TurnsOfAreExact, is_of_cycle}
 use Rattle.mk_quarantine.specs.Bounds.{QuarantineIsBounded}

@@ -7,7 +7,7 @@ use Rattle.mk_trace.specs.declared.faults.TraceStop.{TraceStop}
 use Rattle.mk_trace.specs.declared.lines.Line.{Line}
 use Rattle.mk_trace.specs.Grammar.{text_fault_at}
 use Rattle.mk_trace.specs.declared.lines.HeapPages.{HeapPages}
-use Rattle.mk_trace.specs.Lines.{Written, with_line, line_of}
+use Rattle.mk_trace.specs.Lines.{LinesSoFar, with_trace_line, trace_line_of}
 use Rattle.mk_trace.specs.Traces.{trace_of, contents_of}
 
 -- a line has a fault, which is told with the line's number
@@ -17,11 +17,11 @@ pub record IsFaultOf {A : Type 0} (number : ℕ) (found : Result A LineFault) (s
   pub told : stop ≡ text_fault_at number fault
 
 -- a line was read after others
-pub record ReadsLine (before : Written) (words : List (List ℕ)) (behind : Written) : Type 0 where
+pub record ReadsTraceLine (before : LinesSoFar) (words : List (List ℕ)) (behind : LinesSoFar) : Type 0 where
   pub line : Line
-  pub is_line : line_of before words ≡ Ok line
-  pub behind_is : behind ≡ with_line before line
+  pub is_line : trace_line_of before words ≡ Ok line
+  pub behind_is : behind ≡ with_trace_line before line
 
 -- the heap and the lines of some text whose lines are of the grammar
-abbrev pub IsReadFrom : HeapPages → Written → Type 0
+abbrev pub IsReadFrom : HeapPages → LinesSoFar → Type 0
 IsReadFrom heap written = (text : List ℕ) × (trace_of text ≡ contents_of heap written)

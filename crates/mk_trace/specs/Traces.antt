@@ -4,14 +4,14 @@ use Rattle.std.specs.declared.result.Result.{Result}
 use Rattle.mk_script.specs.declared.faults.TextKind.TheVariants as kind
 use Rattle.mk_script.specs.declared.faults.Which.TheVariants as which
 use Rattle.mk_script.specs.Grammar.{longest_text, too_long}
-use Rattle.mk_script.specs.Words.{lines_of, words_of}
+use Rattle.mk_script.specs.Words.{lines_of, words_of_line}
 use Rattle.mk_trace.specs.declared.faults.TraceStop.{TraceStop}
 use Rattle.mk_trace.specs.declared.faults.TraceStop.TheVariants as stop
 use Rattle.mk_trace.specs.declared.lines.HeapPages.{HeapPages}
 use Rattle.mk_trace.specs.declared.lines.Slot.{Slot}
 use Rattle.mk_trace.specs.declared.trace.TraceEvent.{TraceEvent}
 use Rattle.mk_trace.specs.declared.trace.TraceEvent.TheVariants.{A, K, F, C, W}
-use Rattle.mk_trace.specs.Lines.{Written, nothing_written, header_of}
+use Rattle.mk_trace.specs.Lines.{LinesSoFar, nothing_written, header_line_of}
 use Rattle.mk_trace.specs.Grammar.{text_fault_at, go_on, written_from, events_from}
 
 -- What a trace says: the pages of its heap and how many of them may be resident, how many words the objects of each
@@ -44,7 +44,7 @@ words_of_slots slots = map (λ (slot : Slot). slot.words) slots
 
 -- The end of the text, where all lines are of the grammar and within the limits. Without a slot line 1 is the last.
 -- Event lines stand after that line and those of the slots.
-abbrev pub contents_of : HeapPages → Written → Result Contents TraceStop
+abbrev pub contents_of : HeapPages → LinesSoFar → Result Contents TraceStop
 contents_of heap written =
     if length written.slots == 0
     then Err (stop.Limit 1 which.Types 0)
@@ -54,7 +54,7 @@ contents_of heap written =
 abbrev pub trace_of_lines : List (List ℕ) → Result Contents TraceStop
 trace_of_lines [] = Err (stop.Text 1 kind.Header)
 trace_of_lines (first ∷ lines) =
-    go_on (text_fault_at 1) (header_of (words_of first))
+    go_on (text_fault_at 1) (header_line_of (words_of_line first))
     (λ heap. and_then (written_from 2 lines nothing_written) (contents_of heap))
 
 -- The trace of a text, or its first fault. All faults of lines come before those of types.
@@ -62,5 +62,5 @@ abbrev pub trace_of : List ℕ → Result Contents TraceStop
 trace_of text =
     if nat_le (length text) longest_text then trace_of_lines (lines_of text) else Err (text_fault_at 0 too_long)
 
-abbrev pub IsOfSomeText : Contents → Type 0
-IsOfSomeText contents = (text : List ℕ) × (trace_of text ≡ Ok contents)
+abbrev pub IsOfSomeTraceText : Contents → Type 0
+IsOfSomeTraceText contents = (text : List ℕ) × (trace_of text ≡ Ok contents)

@@ -3,8 +3,9 @@ ghost use Rattle.std.specs.Prelude.{◌≡◌, ◌+◌, ◌<◌, ◌≤◌, leng
 ghost use Rattle.mk_core.specs.Calls.{is_under_turn};
 ghost use Rattle.mk_core.specs.Counts.{ends};
 ghost use Rattle.mk_core.specs.History.{never_behind};
-ghost use Rattle.mk_trace.specs.Calls.{IsHome, MayCome, MayBePlayed, Calls, PlaysEvent, most_held, HoldsMostAtEnd};
-ghost use Rattle.mk_trace.specs.Ends.{EndsTell, IsIdle, LeavesAllocations};
+ghost use Rattle.mk_trace.specs.Calls.{CallerIsHome, MayCome, MayBePlayed, Calls, PlaysEvent, most_held};
+ghost use Rattle.mk_trace.specs.Calls.{HoldsMostAtEnd};
+ghost use Rattle.mk_trace.specs.Ends.{EndsTell, IsBetweenCycles, LeavesAllocations};
 ghost use Rattle.mk_trace.specs.ExactPlays.{StayExact};
 ghost use Rattle.mk_trace.specs.Freeing.{FlagsBehindCall, FreesItsSlot, FreesSlot, QuarantinesMostWhereFreed};
 ghost use Rattle.mk_trace.specs.Ledgers.{Keeps};
@@ -33,11 +34,11 @@ fn call<E: Engine, R: Threads + Wait + Sync>(
     bench: &mut Bench<E>,
     op: Op,
 ) -> Answer
-    requires home { IsHome heap.now host.old }
+    requires home { CallerIsHome heap.now host.old }
     requires admitted { MayCome heap.now.config host.old.pass.seen op }
     requires made_for { E.made_for bench.old.engine ≡ heap.now.config.pages }
     requires book { length bench.old.book ≡ heap.now.config.pages }
-    ensures home { IsHome heap.now host.new }
+    ensures home { CallerIsHome heap.now host.new }
     ensures made_for { E.made_for bench.new.engine ≡ E.made_for bench.old.engine }
     ensures book { length bench.new.book ≡ length bench.old.book }
     ensures calls { Calls heap.now.config host.old.pass.seen op result host.new.pass.seen }
@@ -76,16 +77,16 @@ fn answer<E: Engine, R: Threads + Wait + Sync>(
     requires points { FreesSlot (never_behind heap.now.config host.old.pass.seen) slot op }
     requires off { E.on ≡ false }
     requires unswept { E.sweeps ≡ false }
-    requires home { IsHome heap.now host.old }
-    requires idle { IsIdle heap.now.config host.old.pass.seen }
+    requires home { CallerIsHome heap.now host.old }
+    requires idle { IsBetweenCycles heap.now.config host.old.pass.seen }
     requires few { ends host.old.pass.seen < 18446744073709551615 }
     requires admitted { MayCome heap.now.config host.old.pass.seen op }
     requires made_for { E.made_for bench.old.engine ≡ heap.now.config.pages }
     requires book { length bench.old.book ≡ heap.now.config.pages }
     requires held { ledger.old.held ≡ most_held heap.now.config host.old.pass.seen }
     requires keeps { Keeps heap.now.config host.old.pass.seen ledger.old.freed }
-    ensures home { IsHome heap.now host.new }
-    ensures idle { IsIdle heap.now.config host.new.pass.seen }
+    ensures home { CallerIsHome heap.now host.new }
+    ensures idle { IsBetweenCycles heap.now.config host.new.pass.seen }
     ensures made_for { E.made_for bench.new.engine ≡ E.made_for bench.old.engine }
     ensures book { length bench.new.book ≡ length bench.old.book }
     ensures calls { IfOk result (λ told. Calls heap.now.config host.old.pass.seen op told host.new.pass.seen) }
@@ -122,8 +123,8 @@ pub(crate) fn refuses<E: Engine, R: Threads + Wait + Sync>(
     requires slot { slot_of event < 64 }
     requires off { E.on ≡ false }
     requires unswept { E.sweeps ≡ false }
-    requires home { IsHome heap.now host.old }
-    requires idle { IsIdle heap.now.config host.old.pass.seen }
+    requires home { CallerIsHome heap.now host.old }
+    requires idle { IsBetweenCycles heap.now.config host.old.pass.seen }
     requires few { ends host.old.pass.seen + 6 < 18446744073709551615 }
     requires admitted { MayBePlayed heap.now.config host.old.pass.seen event }
     requires frees { FreesItsSlot (never_behind heap.now.config host.old.pass.seen) event }
@@ -131,8 +132,8 @@ pub(crate) fn refuses<E: Engine, R: Threads + Wait + Sync>(
     requires book { length bench.old.book ≡ heap.now.config.pages }
     requires held { ledger.old.held ≡ most_held heap.now.config host.old.pass.seen }
     requires keeps { Keeps heap.now.config host.old.pass.seen ledger.old.freed }
-    ensures home { IsHome heap.now host.new }
-    ensures idle { IsIdle heap.now.config host.new.pass.seen }
+    ensures home { CallerIsHome heap.now host.new }
+    ensures idle { IsBetweenCycles heap.now.config host.new.pass.seen }
     ensures made_for { E.made_for bench.new.engine ≡ E.made_for bench.old.engine }
     ensures book { length bench.new.book ≡ length bench.old.book }
     ensures plays { IfOk result (λ refused.

@@ -18,9 +18,9 @@ pub struct Draft {
 }
 
 impl Model for Draft {
-    ghost use Rattle.mk_trace.specs.Lines.{Written};
+    ghost use Rattle.mk_trace.specs.Lines.{LinesSoFar};
 
-    ghost Value = { Written };
+    ghost Value = { LinesSoFar };
 
     ghost view = { λ d. record { slots = d.slots.items; events = d.events.items } };
 }
@@ -49,7 +49,7 @@ impl Draft {
 
     /// What a line of these words says after these.
     pub fn line(&self, words: &[&[u8]]) -> Result<Line, LineFault>
-        ensures { result ≡ spec.line_of self.now (texts_of words.now) }
+        ensures { result ≡ spec.trace_line_of self.now (texts_of words.now) }
     {
         let [word, operands @ ..] = words else {
             return Err(WORD);
@@ -86,7 +86,7 @@ impl Draft {
 
     /// Adds a line.
     pub fn push(&mut self, line: Line) -> Result<(), AllocError>
-        ensures { OnOk result (self.new ≡ spec.with_line self.old line) }
+        ensures { OnOk result (self.new ≡ spec.with_trace_line self.old line) }
     {
         match line {
             Line::Slot(slot) => self.slots.push(slot)?,

@@ -6,11 +6,11 @@ ghost use Rattle.mk_core.specs.Allocations.{PlacedAllocation};
 ghost use Rattle.mk_trace.specs.Laws.{IsPlayable, IsGreatest};
 ghost use Rattle.mk_trace.specs.PeakBounds.{BoundsMeetPeaks};
 ghost use Rattle.mk_trace.specs.Peaks.{greatest};
-ghost use Rattle.mk_trace.specs.Traces.{Contents, IsOfSomeText};
+ghost use Rattle.mk_trace.specs.Traces.{Contents, IsOfSomeTraceText};
 
 /// A trace of some text can be played: its heap is within the limits, and its events are of its slots.
 pub fn traces_are_playable()
-    ensures { (trace : Contents) → IsOfSomeText trace → IsPlayable trace }
+    ensures { (trace : Contents) → IsOfSomeTraceText trace → IsPlayable trace }
 {}
 
 /// The greatest measure of what a history leaves is over all its beginnings.

@@ -68,7 +68,7 @@ pub fn name(word: &[u8]) -> Result<Name, LineFault>
 
 /// Line 1.
 pub fn header(words: &[&[u8]]) -> Result<HeapPages, LineFault>
-    ensures { result ≡ spec.header_of (texts_of words.now) }
+    ensures { result ≡ spec.header_line_of (texts_of words.now) }
 {
     let [word, pages, resident] = words else {
         return Err(LineFault::Text(TextKind::Header));
@@ -92,7 +92,7 @@ fn heap_pages(pages: &[u8], resident: &[u8]) -> Result<HeapPages, LineFault>
 
 /// The event of a line whose first word is this, and whose others are these.
 pub fn event(word: &[u8], operands: &[&[u8]]) -> Result<EventLine, LineFault>
-    ensures { result ≡ spec.event_of word.now (texts_of operands.now) }
+    ensures { result ≡ spec.event_line_of word.now (texts_of operands.now) }
 {
     match operands {
         [slot] => plain_event(word, slot),

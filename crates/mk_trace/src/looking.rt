@@ -7,11 +7,11 @@ ghost use Rattle.mk_core.specs.History.{left, never_behind};
 ghost use Rattle.mk_core.specs.Ranges.{is_word};
 ghost use Rattle.mk_core.specs.declared.events.Word.TheVariants as table_word;
 ghost use Rattle.mk_heap.specs.Turns.{is_register};
-ghost use Rattle.mk_trace.specs.Calls.{IsHome, held_behind};
-ghost use Rattle.mk_trace.specs.Ends.{IsIdle};
+ghost use Rattle.mk_trace.specs.Calls.{CallerIsHome, held_behind};
+ghost use Rattle.mk_trace.specs.Ends.{IsBetweenCycles};
 ghost use Rattle.mk_trace.specs.Freeing.{number_freed, unfreed, FreesSlot};
-ghost use Rattle.mk_trace.specs.Ledgers.{object_of};
-ghost use Rattle.mk_trace.specs.Looking.{OnlyLooks, word_behind};
+ghost use Rattle.mk_trace.specs.Ledgers.{freed_object_of};
+ghost use Rattle.mk_trace.specs.Looking.{HostOnlyLooks, word_behind};
 
 use crate::ledger::FreedObject;
 use mk_core::{Word, has_bit, words_under};
@@ -22,11 +22,11 @@ use std::sync::Wait;
 
 /// What a word is. It is no call.
 pub(crate) fn look<R: Wait>(rt: &R, heap: &Heap, host: &mut Host, word: Word) -> u64
-    requires home { IsHome heap.now host.old }
+    requires home { CallerIsHome heap.now host.old }
     requires word { is_word heap.now.config word ≡ true }
     requires no_register { is_register word ≡ false }
-    ensures home { IsHome heap.now host.new }
-    ensures looks { OnlyLooks heap.now.config host.old.pass.seen host.new.pass.seen }
+    ensures home { CallerIsHome heap.now host.new }
+    ensures looks { HostOnlyLooks heap.now.config host.old.pass.seen host.new.pass.seen }
     ensures tells { result ≡ word_behind heap.now.config host.old.pass.seen word }
     ensures holds { word ≡ table_word.Held → result ≡ held_behind heap.now.config host.old.pass.seen }
     ensures counts { word ≡ table_word.Cycles → result ≡ in_a_word (ends host.old.pass.seen) }
@@ -39,9 +39,9 @@ pub(crate) fn look<R: Wait>(rt: &R, heap: &Heap, host: &mut Host, word: Word) ->
 
 /// The cell that an address points into.
 fn cell_at<R: Wait>(rt: &R, heap: &Heap, host: &mut Host, address: u64) -> Option<Cell>
-    requires home { IsHome heap.now host.old }
-    ensures home { IsHome heap.now host.new }
-    ensures looks { OnlyLooks heap.now.config host.old.pass.seen host.new.pass.seen }
+    requires home { CallerIsHome heap.now host.old }
+    ensures home { CallerIsHome heap.now host.new }
+    ensures looks { HostOnlyLooks heap.now.config host.old.pass.seen host.new.pass.seen }
     ensures finds { result
         ≡ pointed_cell heap.now.config.pages (left heap.now.config host.old.pass.seen).now.words.pages address }
 {
@@ -53,9 +53,9 @@ fn cell_at<R: Wait>(rt: &R, heap: &Heap, host: &mut Host, address: u64) -> Optio
 
 /// Whether the cell's object is freed and not released.
 pub(crate) fn is_quarantined<R: Wait>(rt: &R, heap: &Heap, host: &mut Host, cell: Cell) -> bool
-    requires home { IsHome heap.now host.old }
-    ensures home { IsHome heap.now host.new }
-    ensures looks { OnlyLooks heap.now.config host.old.pass.seen host.new.pass.seen }
+    requires home { CallerIsHome heap.now host.old }
+    ensures home { CallerIsHome heap.now host.new }
+    ensures looks { HostOnlyLooks heap.now.config host.old.pass.seen host.new.pass.seen }
     ensures finds { result ≡ is_freed (left heap.now.config host.old.pass.seen).now.words cell }
 {
     host.is_in_order();
@@ -70,12 +70,12 @@ pub(crate) fn is_quarantined<R: Wait>(rt: &R, heap: &Heap, host: &mut Host, cell
 /// The object that a slot points to, if it isn't freed yet.
 fn object_of_slot<R: Wait>(rt: &R, heap: &Heap, host: &mut Host, slot: u64) -> Option<FreedObject>
     requires slot { slot < 64 }
-    requires home { IsHome heap.now host.old }
-    requires idle { IsIdle heap.now.config host.old.pass.seen }
-    ensures home { IsHome heap.now host.new }
-    ensures looks { OnlyLooks heap.now.config host.old.pass.seen host.new.pass.seen }
+    requires home { CallerIsHome heap.now host.old }
+    requires idle { IsBetweenCycles heap.now.config host.old.pass.seen }
+    ensures home { CallerIsHome heap.now host.new }
+    ensures looks { HostOnlyLooks heap.now.config host.old.pass.seen host.new.pass.seen }
     ensures finds { result ≡ option_map
-        (object_of heap.now.config (left heap.now.config host.old.pass.seen).allocations)
+        (freed_object_of heap.now.config (left heap.now.config host.old.pass.seen).allocations)
         (unfreed (never_behind heap.now.config host.old.pass.seen)
         (global_at (never_behind heap.now.config host.old.pass.seen) slot)) }
 {
@@ -104,12 +104,12 @@ pub(crate) fn object_to_free<R: Wait>(
 ) -> Option<FreedObject>
     requires slot { slot < 64 }
     requires points { FreesSlot (never_behind heap.now.config host.old.pass.seen) slot op }
-    requires home { IsHome heap.now host.old }
-    requires idle { IsIdle heap.now.config host.old.pass.seen }
-    ensures home { IsHome heap.now host.new }
-    ensures looks { OnlyLooks heap.now.config host.old.pass.seen host.new.pass.seen }
+    requires home { CallerIsHome heap.now host.old }
+    requires idle { IsBetweenCycles heap.now.config host.old.pass.seen }
+    ensures home { CallerIsHome heap.now host.new }
+    ensures looks { HostOnlyLooks heap.now.config host.old.pass.seen host.new.pass.seen }
     ensures finds { result ≡ option_map
-        (object_of heap.now.config (left heap.now.config host.old.pass.seen).allocations)
+        (freed_object_of heap.now.config (left heap.now.config host.old.pass.seen).allocations)
         (number_freed (never_behind heap.now.config host.old.pass.seen) op) }
 {
     match op {

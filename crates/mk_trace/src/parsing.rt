@@ -1,9 +1,9 @@
 //! The reader.
 ghost use Rattle.std.specs.Prelude.{◌≡◌, ◌≢◌, ◌≤◌, ◌<◌, ◌+◌, ◌^◌, List, length, MatchResult, Ok, Err, IfOk, IfErr};
-ghost use Rattle.mk_script.specs.Words.{words_of, texts_of, lines_of};
+ghost use Rattle.mk_script.specs.Words.{words_of_line, texts_of, lines_of};
 ghost use Rattle.mk_trace.specs.Grammar.{written_from};
-ghost use Rattle.mk_trace.specs.Lines.{nothing_written, header_of, line_of};
-ghost use Rattle.mk_trace.specs.Reading.{IsFaultOf, ReadsLine, IsReadFrom};
+ghost use Rattle.mk_trace.specs.Lines.{nothing_written, header_line_of, trace_line_of};
+ghost use Rattle.mk_trace.specs.Reading.{IsFaultOf, ReadsTraceLine, IsReadFrom};
 ghost use Rattle.mk_trace.specs.Traces as spec;
 ghost use Rattle.mk_trace.specs.Traces.{trace_of, contents_of};
 
@@ -38,9 +38,9 @@ pub fn parse_trace(alloc: Global, bytes: &[u8]) -> Result<Trace, TraceStop>
 
 /// Line 1.
 fn read_header(alloc: Global, line: &[u8]) -> Result<HeapPages, TraceStop>
-    ensures heap { IfOk result (λ heap. header_of (words_of line.now) ≡ Ok heap) }
+    ensures heap { IfOk result (λ heap. header_line_of (words_of_line line.now) ≡ Ok heap) }
     ensures fault { IfErr result (λ stop. stop ≢ TraceStop.NoMemory
-        → IsFaultOf 1 (header_of (words_of line.now)) stop) }
+        → IsFaultOf 1 (header_line_of (words_of_line line.now)) stop) }
 {
     let words = split_words(alloc, line)?;
     match header(&words) {
@@ -64,8 +64,8 @@ fn read_lines(alloc: Global, lines: &[&[u8]]) -> Result<Draft, TraceStop>
 
 /// Reads a line of this number after those of the draft.
 fn read_line(alloc: Global, number: u64, draft: &mut Draft, line: &[u8]) -> Result<(), TraceStop>
-    ensures { MatchResult result (λ _. ReadsLine draft.old (words_of line.now) draft.new)
-        (λ stop. stop ≢ TraceStop.NoMemory → IsFaultOf number (line_of draft.old (words_of line.now)) stop) }
+    ensures { MatchResult result (λ _. ReadsTraceLine draft.old (words_of_line line.now) draft.new)
+        (λ stop. stop ≢ TraceStop.NoMemory → IsFaultOf number (trace_line_of draft.old (words_of_line line.now)) stop) }
 {
     let words = split_words(alloc, line)?;
     match draft.line(&words) {

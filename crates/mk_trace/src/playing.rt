@@ -2,8 +2,8 @@
 ghost use Rattle.std.specs.Prelude.{◌≡◌, ◌+◌, ◌<◌, [], false, length, if◌then◌else◌, IfOk};
 ghost use Rattle.mk_core.specs.Config.{IsWithinLimits};
 ghost use Rattle.mk_core.specs.Counts.{ends};
-ghost use Rattle.mk_trace.specs.Calls.{IsHome, SameCalls, HasPlayed, most_held};
-ghost use Rattle.mk_trace.specs.Ends.{IsIdle};
+ghost use Rattle.mk_trace.specs.Calls.{CallerIsHome, SameCalls, HasPlayed, most_held};
+ghost use Rattle.mk_trace.specs.Ends.{IsBetweenCycles};
 ghost use Rattle.mk_trace.specs.ExactPlays.{StayExact};
 ghost use Rattle.mk_trace.specs.Ledgers.{Keeps};
 ghost use Rattle.mk_trace.specs.Playing as spec;
@@ -28,7 +28,7 @@ fn opened(alloc: Global, config: &Config) -> Result<(Heap, Host), NoMemory>
     requires limits { IsWithinLimits config.now }
     requires one { config.now.callers ≡ 1 }
     ensures config { IfOk result (λ made. made.0.config ≡ config.now) }
-    ensures home { IfOk result (λ made. IsHome made.0 made.1) }
+    ensures home { IfOk result (λ made. CallerIsHome made.0 made.1) }
     ensures no_call { IfOk result (λ made. SameCalls config.now [] made.1.pass.seen) }
     ensures empty { IfOk result (λ made. made.1.pass.seen ≡ []) }
 {
@@ -60,15 +60,15 @@ fn play_events<E: Engine, R: Threads + Wait + Sync>(
     requires config { heap.now.config ≡ spec.config_of trace.now }
     requires off { E.on ≡ false }
     requires unswept { E.sweeps ≡ false }
-    requires home { IsHome heap.now host.old }
-    requires idle { IsIdle heap.now.config host.old.pass.seen }
+    requires home { CallerIsHome heap.now host.old }
+    requires idle { IsBetweenCycles heap.now.config host.old.pass.seen }
     requires none_ended { ends host.old.pass.seen ≡ 0 }
     requires no_call { SameCalls heap.now.config [] host.old.pass.seen }
     requires made_for { E.made_for bench.old.engine ≡ heap.now.config.pages }
     requires book { length bench.old.book ≡ heap.now.config.pages }
     requires held { ledger.old.held ≡ most_held heap.now.config host.old.pass.seen }
     requires keeps { Keeps heap.now.config host.old.pass.seen ledger.old.freed }
-    ensures home { IsHome heap.now host.new }
+    ensures home { CallerIsHome heap.now host.new }
     ensures held { IfOk result (λ refused. ledger.new.held ≡ most_held heap.now.config host.new.pass.seen) }
     ensures keeps { IfOk result (λ refused. Keeps heap.now.config host.new.pass.seen ledger.new.freed) }
     ensures played { IfOk result (λ refused. HasPlayed trace.now trace.now.events refused host.new.pass.seen) }

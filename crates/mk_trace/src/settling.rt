@@ -2,9 +2,9 @@
 ghost use Rattle.std.specs.Prelude.{◌≡◌, ◌∷◌, ◌++◌, [], fold, map, if◌then◌else◌, IfOk, OnOk};
 ghost use Rattle.mk_core.specs.Counts.{ends, in_a_word};
 ghost use Rattle.mk_core.specs.History.{left};
-ghost use Rattle.mk_trace.specs.Calls.{IsHome};
-ghost use Rattle.mk_trace.specs.Ledgers.{Settles, aged, ages_let_go, still_kept, with_one};
-ghost use Rattle.mk_trace.specs.Looking.{OnlyLooks};
+ghost use Rattle.mk_trace.specs.Calls.{CallerIsHome};
+ghost use Rattle.mk_trace.specs.Ledgers.{SettlesFreed, aged, ages_let_go, still_kept, with_one};
+ghost use Rattle.mk_trace.specs.Looking.{HostOnlyLooks};
 
 use crate::ledger::{Freed, FreedObject, count_age};
 use crate::looking::{is_quarantined, look};
@@ -42,9 +42,9 @@ fn keep_quarantined<R: Wait>(
     found: &[FreedObject],
     ages: &mut Vec<(u64, u64)>,
 ) -> Result<Vec<FreedObject>, NoMemory>
-    requires home { IsHome heap.now host.old }
-    ensures home { IsHome heap.now host.new }
-    ensures looks { OnlyLooks heap.now.config host.old.pass.seen host.new.pass.seen }
+    requires home { CallerIsHome heap.now host.old }
+    ensures home { CallerIsHome heap.now host.new }
+    ensures looks { HostOnlyLooks heap.now.config host.old.pass.seen host.new.pass.seen }
     ensures kept { IfOk result (λ kept. kept.items
         ≡ still_kept (left heap.now.config host.old.pass.seen).now.words.freed (map aged found.now)) }
     ensures ages { IfOk result (λ kept. ages.new.items ≡ fold with_one ages.old.items
@@ -66,10 +66,10 @@ pub(crate) fn settle<R: Wait>(
     host: &mut Host,
     freed: &mut Freed,
 ) -> Result<(), NoMemory>
-    requires home { IsHome heap.now host.old }
-    ensures home { IsHome heap.now host.new }
-    ensures looks { OnlyLooks heap.now.config host.old.pass.seen host.new.pass.seen }
-    ensures settles { OnOk result (Settles (left heap.now.config host.old.pass.seen).now.words.freed
+    requires home { CallerIsHome heap.now host.old }
+    ensures home { CallerIsHome heap.now host.new }
+    ensures looks { HostOnlyLooks heap.now.config host.old.pass.seen host.new.pass.seen }
+    ensures settles { OnOk result (SettlesFreed (left heap.now.config host.old.pass.seen).now.words.freed
         (in_a_word (ends host.old.pass.seen)) freed.old freed.new) }
 {
     let count = look(rt, heap, host, Word::Cycles);

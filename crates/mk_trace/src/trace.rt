@@ -1,7 +1,7 @@
 //! Traces.
 ghost use Rattle.std.specs.Prelude.{◌≡◌, ◌<◌, length, get_or};
 ghost use Rattle.mk_trace.specs.Traces.{slot_of};
-ghost use Rattle.mk_trace.specs.Traces.{contents_from, IsOfSomeText};
+ghost use Rattle.mk_trace.specs.Traces.{contents_from, IsOfSomeTraceText};
 
 use std::marker::Model;
 
@@ -44,13 +44,13 @@ pub struct Trace {
 }
 
 impl Model for Trace {
-    ghost use Rattle.mk_trace.specs.Traces.{Contents, contents_from, IsOfSomeText};
+    ghost use Rattle.mk_trace.specs.Traces.{Contents, contents_from, IsOfSomeTraceText};
 
     ghost Value = { Contents };
 
     ghost view = { λ t. contents_from t.pages t.resident t.slots.items t.events.items };
 
-    ghost invariant = { λ t. IsOfSomeText (contents_from t.pages t.resident t.slots.items t.events.items) };
+    ghost invariant = { λ t. IsOfSomeTraceText (contents_from t.pages t.resident t.slots.items t.events.items) };
 }
 
 impl Trace {
@@ -61,7 +61,7 @@ impl Trace {
         slots: Vec<u64>,
         events: Vec<TraceEvent>,
     ) -> Trace
-        requires { IsOfSomeText (contents_from pages resident slots.items events.items) }
+        requires { IsOfSomeTraceText (contents_from pages resident slots.items events.items) }
         ensures { result ≡ contents_from pages resident slots.items events.items }
     {
         Trace {
@@ -75,7 +75,7 @@ impl Trace {
     /// The pages of its heap.
     pub fn pages(&self) -> u64
         ensures pages { result ≡ self.now.pages }
-        ensures of_some_text { IsOfSomeText self.now }
+        ensures of_some_text { IsOfSomeTraceText self.now }
     {
         self.pages
     }
@@ -83,7 +83,7 @@ impl Trace {
     /// How many of them may be resident.
     pub fn resident(&self) -> u64
         ensures resident { result ≡ self.now.resident }
-        ensures of_some_text { IsOfSomeText self.now }
+        ensures of_some_text { IsOfSomeTraceText self.now }
     {
         self.resident
     }
@@ -91,7 +91,7 @@ impl Trace {
     /// How many words the objects of each slot have.
     pub fn slots(&self) -> &[u64]
         ensures slots { result.now ≡ self.now.slots }
-        ensures of_some_text { IsOfSomeText self.now }
+        ensures of_some_text { IsOfSomeTraceText self.now }
     {
         self.slots.as_slice()
     }
@@ -100,7 +100,7 @@ impl Trace {
     pub fn words_of(&self, slot: u64) -> u64
         requires { slot < length self.now.slots }
         ensures words { result ≡ get_or self.now.slots slot 0 }
-        ensures of_some_text { IsOfSomeText self.now }
+        ensures of_some_text { IsOfSomeTraceText self.now }
     {
         self.slots[slot as usize]
     }
@@ -108,7 +108,7 @@ impl Trace {
     /// Its events, in the order of their lines.
     pub fn events(&self) -> &[TraceEvent]
         ensures events { result.now ≡ self.now.events }
-        ensures of_some_text { IsOfSomeText self.now }
+        ensures of_some_text { IsOfSomeTraceText self.now }
     {
         self.events.as_slice()
     }

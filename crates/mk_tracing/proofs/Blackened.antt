@@ -14,7 +14,7 @@ use Rattle.mk_core.specs.Cells.{words_point_well}
 use Rattle.mk_core.specs.StopConditions.{may_turn_black}
 use Rattle.mk_core.specs.Words.{Words}
 use Rattle.mk_core.proofs.WordBits.{bits_stay, bits_added, bit_for_small, bit_for_has}
-use Rattle.mk_frames.proofs.Tests.{all_below_from}
+use Rattle.mk_laws.proofs.Tests.{all_below_from}
 use Rattle.mk_tracing.specs.Grays.{BlackensOne, ColoursMore, IsGray, MarksMore}
 
 -- how many numbers below one a test doesn't hold of, and the sum of these counts over pages

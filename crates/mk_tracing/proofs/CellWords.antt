@@ -21,18 +21,18 @@ use Rattle.mk_core.specs.History.{World, left, never_behind, IsHistory}
 use Rattle.mk_core.specs.Moments.{is_phase}
 use Rattle.mk_core.specs.ObjectHeaders.{ShowsPart, OfBlock, OfLeafBlock, OfRun, OfLeafRun, OfLater}
 use Rattle.mk_core.specs.declared.seats.Object.{Object}
-use Rattle.mk_protocol.specs.Ground.{ground_of}
-use Rattle.mk_protocol.proofs.InHeap.{in_heap_left}
-use Rattle.mk_protocol.proofs.RunsInHeap.{RunsFit}
-use Rattle.mk_layout.specs.LayoutScene.{shows_on}
-use Rattle.mk_layout.specs.Terrain.{object_now}
-use Rattle.mk_layout.proofs.Readings.{claimed, claimed_head}
-use Rattle.mk_layout.proofs.Serving.{Laid}
-use Rattle.mk_guard.proofs.CoveredWords.{covered_word}
-use Rattle.mk_zeros.proofs.BarePages.{Unreleasing, on_allocation, shown_there}
-use Rattle.mk_zeros.proofs.TellGuard.{later_pages}
-use Rattle.mk_invariant.specs.Invariant.{Invariant}
-use Rattle.mk_invariant.proofs.Histories.{histories_keep_the_invariant}
+use Rattle.mk_laws.specs.Ground.{ground_of}
+use Rattle.mk_laws.proofs.InHeap.{in_heap_left}
+use Rattle.mk_laws.proofs.RunsInHeap.{RunsFit}
+use Rattle.mk_laws.specs.LayoutScene.{shows_on}
+use Rattle.mk_laws.specs.Terrain.{object_now}
+use Rattle.mk_laws.proofs.LayoutReadings.{claimed, claimed_head}
+use Rattle.mk_laws.proofs.Serving.{Laid}
+use Rattle.mk_laws.proofs.CoveredWords.{covered_word}
+use Rattle.mk_laws.proofs.BarePages.{Unreleasing, on_allocation, shown_there}
+use Rattle.mk_laws.proofs.TellGuard.{later_pages}
+use Rattle.mk_laws.specs.Invariant.{Invariant}
+use Rattle.mk_laws.proofs.InvariantHistories.{histories_keep_the_invariant}
 
 -- the page is after its head as its header says
 abbrev LiesBehind : Words → ℕ → ℕ → Type 0

@@ -15,8 +15,8 @@ use Rattle.mk_core.specs.History.{IsHistory, AreEnabledFrom}
 use Rattle.mk_core.specs.StopConditions.{has_closed_page, none_attends, roots_point_well}
 use Rattle.mk_core.specs.Words.{Words, phase_of}
 use Rattle.mk_core.proofs.HistoryParts.{enabled_in_parts}
-use Rattle.mk_frames.proofs.Tests.{all_below_from, none_from}
-use Rattle.mk_invariant.proofs.Theorems.{closes_find_marks_closed}
+use Rattle.mk_laws.proofs.Tests.{all_below_from, none_from}
+use Rattle.mk_laws.proofs.InvariantTheorems.{closes_find_marks_closed}
 use Rattle.mk_words.specs.States.{PassState, now_of, world_of, event_of}
 use Rattle.mk_words.specs.Steps.{IsEnabledTo}
 use Rattle.mk_words.proofs.Undecided.{undecided_admitted}

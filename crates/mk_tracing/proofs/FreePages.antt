@@ -12,7 +12,7 @@ use Rattle.mk_page_map.specs.Members.{is_in_use}
 use Rattle.mk_core.specs.Cells.{cells_under, header_in}
 use Rattle.mk_core.specs.History.{IsHistory}
 use Rattle.mk_core.specs.Words.{Words, header_at, used_at}
-use Rattle.mk_readings.proofs.FreePages.{free_pages_have_nothing}
+use Rattle.mk_laws.proofs.FreePages.{free_pages_have_nothing}
 use Rattle.mk_words.specs.States.{PassState}
 use Rattle.mk_tracing.specs.Grays.{HasNoGray}
 use Rattle.mk_tracing.specs.Stops.{still_words}

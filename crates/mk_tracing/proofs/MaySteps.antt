@@ -19,7 +19,7 @@ use Rattle.mk_core.specs.Readings.{NoneAttends}
 use Rattle.mk_core.specs.StopConditions.{is_bit_of, marks_by_hand, none_attends, blackens, may_turn_black}
 use Rattle.mk_core.specs.Words.{Words, phase_of}
 use Rattle.mk_core.proofs.AllBelow.{all_below-at, all_below_not_is}
-use Rattle.mk_frames.proofs.Tests.{none_from}
+use Rattle.mk_laws.proofs.Tests.{none_from}
 use Rattle.mk_words.specs.States.{PassState, now_of, call_of}
 use Rattle.mk_words.specs.Steps.{IsEnabledTo}
 use Rattle.mk_tracing.specs.Grays.{HandPointsInto}

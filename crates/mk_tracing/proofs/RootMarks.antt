@@ -1,5 +1,6 @@
 -- Roots that point well, one after the other.
-use Rattle.std.proofs.Common.{◌≡◌, ◌⊎◌, ℕ, ◌+◌, ◌*◌, ◌-◌, ◌/◌, ◌%◌, ◌<◌, ◌≤◌, Bool, true, false, List, refl, sym, ◌∙◌, ap}
+use Rattle.std.proofs.Common.{◌≡◌, ◌⊎◌, ℕ, ◌+◌, ◌*◌, ◌-◌, ◌/◌, ◌%◌, ◌<◌, ◌≤◌, Bool, true, false, List, refl, sym, ◌∙◌}
+use Rattle.std.proofs.Common.{ap}
 use Rattle.std.proofs.Common.{subst, inl, inr, nat_le, nat_lt, bit_or}
 use Rattle.std.proofs.Common.{arith, slice_index_or}
 use Rattle.std.specs.Prelude.{◌&&◌, slice_index}
@@ -20,9 +21,9 @@ use Rattle.mk_core.specs.History.{left, never_behind, IsHistory, bases_of}
 use Rattle.mk_core.specs.Image.{image_of}
 use Rattle.mk_core.specs.Words.{Words, named_word, register_word}
 use Rattle.mk_core.proofs.Lengths.{histories_keep_lengths}
-use Rattle.mk_protocol.proofs.Protocols.{lists_keep_the_protocol}
-use Rattle.mk_images.specs.Images.{flight_among, shown}
-use Rattle.mk_invariant.proofs.Histories.{histories_keep_the_invariant}
+use Rattle.mk_laws.proofs.Protocols.{lists_keep_the_protocol}
+use Rattle.mk_laws.specs.Images.{flight_among, shown}
+use Rattle.mk_laws.proofs.InvariantHistories.{histories_keep_the_invariant}
 use Rattle.mk_words.specs.States.{PassState, now_of}
 use Rattle.mk_tracing.specs.Grays.{MarksMore, RootsPointWell}
 use Rattle.mk_tracing.specs.Stops.{is_root}

@@ -41,7 +41,8 @@ use Rattle.mk_core.specs.Frames.{HoldsAll, Steady, Written, steady_of, written_o
 use Rattle.mk_core.specs.History.{World, world_behind, left, first_world, calls}
 use Rattle.mk_core.specs.Moments.{Moment, flight_of, marker_at, outside, is_phase}
 use Rattle.mk_core.specs.NewPlaces.{object_made, bits_made, target}
-use Rattle.mk_core.specs.Order.{seat_exists, comes_next, comes_next_to_host, may_decide, is_of_any_holder, is_of_turn}
+use Rattle.mk_core.specs.Order.{seat_exists, comes_next, comes_next_to_host, may_decide_new, is_of_any_holder}
+use Rattle.mk_core.specs.Order.{is_of_turn}
 use Rattle.mk_core.specs.Order.{is_in_order, is_open_to, group_of, host_has_turn}
 use Rattle.mk_core.specs.Ranges.{is_in_range, has_gates, has_phase}
 use Rattle.mk_core.specs.Readings.{Holds}
@@ -91,7 +92,7 @@ others_leave_untouched p q s a all =
 
 -- Any step of a holder comes next, where the call has loaded what it loads.
 
-any_decides : (o : Op) (s : Step) → is_of_any_holder s ≡ true → may_decide o s ≡ true
+any_decides : (o : Op) (s : Step) → is_of_any_holder s ≡ true → may_decide_new o s ≡ true
 any_decides (op.New d ty full) step.Grant h = refl
 any_decides (op.New d ty full) step.Full h = refl
 any_decides o s h = h

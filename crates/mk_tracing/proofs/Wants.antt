@@ -9,7 +9,7 @@ use Rattle.mk_core.specs.History.{World, IsHistory}
 use Rattle.mk_core.specs.Moments.{Moment}
 use Rattle.mk_core.specs.Readings.{NoneAttends}
 use Rattle.mk_core.specs.Words.{phase_of}
-use Rattle.mk_protocol.proofs.Readings.{words_tell}
+use Rattle.mk_laws.proofs.ProtocolReadings.{words_tell}
 use Rattle.mk_words.specs.Seats.{Has}
 use Rattle.mk_words.specs.States.{PassState, now_of}
 use Rattle.mk_words.specs.Steps.{Finds}

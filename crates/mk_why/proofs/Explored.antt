@@ -12,7 +12,7 @@ use Rattle.mk_core.specs.Words.{Words, named_word}
 use borrow.Author.Count.{below_more}
 use Rattle.mk_why.specs.declared.found.Found.{Found}
 use Rattle.mk_why.specs.Searching.{IsFoundAt, IsFoundThrough, IsNoted, IsOnward, IsWay, IsFoundWithin, PointsAtBase}
-use Rattle.mk_why.specs.Searching.{root_word, AreWays, FindsMore, IsSearched, IsExplored, IsFound, IsSearch, at}
+use Rattle.mk_why.specs.Searching.{root_word, AreWays, FindsMore, IsSearched, IsExplored, IsFound, IsSearch, entry_at}
 use Rattle.mk_why.specs.Searching.{links_in, links_of}
 use Rattle.mk_why.specs.Stops.{View, base_at, world_in, is_still_word}
 use Rattle.mk_why.specs.declared.kept.Root.{Root}
@@ -85,7 +85,7 @@ done_stays : (c : Config) (v : View) (found more : List (Option Found)) → Stay
     → IsFound found base → IsSearched c v found base → IsSearched c v more base
 done_stays c v found more stays base x done a n begins scanned word =
     subst (λ k. IsNoted c v more (slice_index v.words.heap n) (k + 1)) (sym (same_links found more stays base x))
-    (noted_stays c v found more stays (slice_index v.words.heap n) (links_in (at found base) + 1)
+    (noted_stays c v found more stays (slice_index v.words.heap n) (links_in (entry_at found base) + 1)
     (done a n begins scanned word))
 
 -- The search went on from one place of the queue.
@@ -126,7 +126,7 @@ module _ (c : Config) (v : View) (found : List (Option Found))
       let next = leads.0 in
       let y = done (base_at v a) (record { entry = x.entry; there = x.there }) a leads.1.word refl leads.1.scanned
       leads.1.of_the_one next leads.1.to_the_other in
-      let few : links_in (at found (base_at v a)) ≡ x.entry.links = ap links_in x.there in
+      let few : links_in (entry_at found (base_at v a)) ≡ x.entry.links = ap links_in x.there in
       let z = leads_within links next b (n + 1)
       (record { entry = y.entry; there = y.there; near = let low = y.near in let near = x.near in omega arith })
       leads.2 in

@@ -17,20 +17,20 @@ use Rattle.mk_core.specs.Words.{header_at}
 use Rattle.mk_core.proofs.PointedAllocations.{marked_where_its_cell_is}
 use Rattle.mk_core.proofs.Sizes.{words_within}
 use Rattle.mk_core.proofs.StandingAllocations.{cell_is_known, cells_begin, typed_size}
-use Rattle.mk_layout.specs.Quarantine.{is_cycling}
-use Rattle.mk_layout.specs.SettledPages.{StandsUsed}
-use Rattle.mk_images.proofs.KnownWorlds.{known_world}
-use Rattle.mk_invariant.specs.Invariant.{Invariant}
-use Rattle.mk_invariant.proofs.Histories.{histories_keep_the_invariant}
-use Rattle.mk_invariant.proofs.Theorems.{allocations_stand}
-use Rattle.mk_readings.proofs.Stands.{freed_cell}
+use Rattle.mk_laws.specs.Quarantine.{is_cycling}
+use Rattle.mk_laws.specs.SettledPages.{StandsUsed}
+use Rattle.mk_laws.proofs.KnownWorlds.{known_world}
+use Rattle.mk_laws.specs.Invariant.{Invariant}
+use Rattle.mk_laws.proofs.InvariantHistories.{histories_keep_the_invariant}
+use Rattle.mk_laws.proofs.InvariantTheorems.{allocations_stand}
+use Rattle.mk_laws.proofs.ReadingsStands.{freed_cell}
 use Rattle.mk_words.specs.States.{PassState, WordsState, now_of, world_of}
 use Rattle.mk_cycle.specs.FinishCycle.{is_in_snapshot_of_cycle}
 use Rattle.mk_why.specs.declared.found.Storage.{Storage}
 use Rattle.mk_why.specs.declared.tables.Tables.{Tables}
 use Rattle.mk_why.specs.Chains.{is_kept}
 use Rattle.mk_why.specs.Listing.{AreOfKept, IsKeptAt, IsListed, ListsOn}
-use Rattle.mk_why.specs.Searching.{at}
+use Rattle.mk_why.specs.Searching.{entry_at}
 use Rattle.mk_why.specs.Stops.{IsStill, View, base_at, view_by, world_in}
 
 -- The cell, of this many words, is that of a kept allocation.
@@ -219,14 +219,15 @@ module _ (c : Config) (v : View) (r s : Tables) (cell : Cell) (size : ℕ) (of_k
   abbrev storage : Storage
   storage = record { address = 65536 + 8 * (64 * cell.page + cell.index * size); words = size }
 
-  there : at s.kept.items (64 * cell.page + cell.index * size)
+  there : entry_at s.kept.items (64 * cell.page + cell.index * size)
       ≡ Some (record { address = 65536 + 8 * (64 * cell.page + cell.index * size); words = size })
-  there = ap (λ (xs : List (Option Storage)). at xs base) set
+  there = ap (λ (xs : List (Option Storage)). entry_at xs base) set
       ∙ get_or-set_same r.kept.items base (Some storage) None within
 
-  elsewhere : (k : ℕ) → k ≢ 64 * cell.page + cell.index * size → at s.kept.items k ≡ at r.kept.items k
+  elsewhere : (k : ℕ) → k ≢ 64 * cell.page + cell.index * size → entry_at s.kept.items k ≡ entry_at r.kept.items k
   elsewhere k ne =
-      ap (λ (xs : List (Option Storage)). at xs k) set ∙ get_or-set_other r.kept.items base k (Some storage) None ne
+      ap (λ (xs : List (Option Storage)). entry_at xs k) set
+      ∙ get_or-set_other r.kept.items base k (Some storage) None ne
 
   sets_cell : ListsCell c v r s (64 * cell.page + cell.index * size) true true
   sets_cell =
@@ -243,7 +244,7 @@ module _ (c : Config) (v : View) (r s : Tables) (cell : Cell) (size : ℕ) (of_k
       of_all : AreOfKept c v s.kept.items
       of_all k x is = elim (cases_eq k base) [
         | inl e ↦
-            let both : Some x ≡ Some storage = sym is ∙ ap (λ n. at s.kept.items n) e ∙ there in
+            let both : Some x ≡ Some storage = sym is ∙ ap (λ n. entry_at s.kept.items n) e ∙ there in
             let same : x ≡ storage = cc in
             subst (λ (y : Storage). IsKeptAt c v k y) (sym same)
             (record {
@@ -260,7 +261,7 @@ module _ (c : Config) (v : View) (r s : Tables) (cell : Cell) (size : ℕ) (of_k
 
       stays : (k : ℕ) → IsListed r.kept.items k → IsListed s.kept.items k
       stays k x = elim (cases_eq k base) [
-        | inl e ↦ record { storage = storage; there = ap (λ n. at s.kept.items n) e ∙ there }
+        | inl e ↦ record { storage = storage; there = ap (λ n. entry_at s.kept.items n) e ∙ there }
         | inr ne ↦ record { storage = x.storage; there = elsewhere k ne ∙ x.there }
       ]
 
@@ -340,7 +341,7 @@ kept_page p history k same b =
         let end = st.stands.within in
         omega arith
 
-pub none_listed : (c : Config) (v : View) (kept : List (Option Storage)) → ((base : ℕ) → at kept base ≡ None)
+pub none_listed : (c : Config) (v : View) (kept : List (Option Storage)) → ((base : ℕ) → entry_at kept base ≡ None)
     → AreOfKept c v kept
 none_listed c v kept none base s is = let e = none base in absurd cc
 

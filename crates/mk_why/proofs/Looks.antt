@@ -33,13 +33,13 @@ use Rattle.mk_turns.proofs.Doing.{does_nothing, does_step, does_then, done_in_pa
 use Rattle.mk_tracing.specs.Stops.{IsWanted}
 use Rattle.mk_tracing.proofs.MaySteps.{may_look}
 use Rattle.mk_tracing.proofs.Steps.{found_there, may_step}
-use Rattle.mk_cycle.specs.TurnKeeps.{InTurn, KeepsTurn, but_phase}
+use Rattle.mk_cycle.specs.TurnKeeps.{InTurn, LeavesTurn, but_phase}
 use Rattle.mk_cycle.proofs.CleaningSteps.{calm_keeps}
 use Rattle.mk_cycle.proofs.KeptInParts.{free_then, keeps_at_once, keeps_then}
 use Rattle.mk_cycle.proofs.MayAct.{calm_admitted}
 use Rattle.mk_sweep.proofs.Kept.{ready_of}
-use Rattle.mk_frames.proofs.Tests.{none_from}
-use Rattle.mk_protocol.proofs.Frames.{others_leave}
+use Rattle.mk_laws.proofs.Tests.{none_from}
+use Rattle.mk_laws.proofs.ProtocolFrames.{others_leave}
 use Rattle.mk_words.proofs.Seats.{others_own}
 use Rattle.mk_turns.specs.Doing.{Does, are_of, count_done, done_in}
 use Rattle.mk_turns.specs.Sweeping.{HaveNoMark, SweepsNothing}
@@ -123,7 +123,7 @@ module _ (t u : TurnState) (x : Word) (a : Acts t.pass (step.Look x) u.pass) (tu
       ap view_of a.world
       ∙ view_left (world_of t.pass) (world_at a.makes) a.turn (a.stop (turn.holds, gates)) still.wanted still.none
 
-  keeps : KeepsTurn but_phase t.pass u.pass
+  keeps : LeavesTurn but_phase t.pass u.pass
   keeps = calm_keeps t.pass (step.Look x) u.pass a turn history refl still.free but_phase refl
 
   still_behind : IsStill u.pass

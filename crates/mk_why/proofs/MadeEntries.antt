@@ -13,7 +13,7 @@ use Rattle.std.proofs.lemmas.List.Elements.{Contains-append_left, Contains-push,
 use Rattle.mk_core.specs.declared.config.Config.{Config}
 use Rattle.mk_core.specs.Allocations.{PlacedAllocation, is_mapped, placed_at, storage_of}
 use Rattle.mk_core.specs.ClosedMarks.{is_marked_allocation, is_scanned_allocation}
-use Rattle.mk_zeros.proofs.MappedWords.{mapped_stays}
+use Rattle.mk_laws.proofs.MappedWords.{mapped_stays}
 use Rattle.mk_cycle.specs.FinishCycle.{is_in_snapshot_of_cycle}
 use Rattle.mk_why.specs.declared.found.Found.{Found}
 use Rattle.mk_why.specs.declared.found.Storage.{Storage}
@@ -25,12 +25,12 @@ use Rattle.mk_why.specs.Chains.{IsEntryOf, IsWhy, LinksLead, is_kept}
 use Rattle.mk_why.specs.Entries.{AreEntriesBelow, IsLed, IsLedBack, IsMadeOf, IsOneMore, IsToldWhy, IsWayOf, back_to}
 use Rattle.mk_why.specs.Entries.{root_of, step_back}
 use Rattle.mk_why.specs.Listing.{IsKeptAt, IsTold}
-use Rattle.mk_why.specs.Searching.{BeginApart, AreWays, IsOnward, IsWay, at}
+use Rattle.mk_why.specs.Searching.{BeginApart, AreWays, IsOnward, IsWay, entry_at}
 use Rattle.mk_why.specs.Stops.{View, base_at, world_in}
 
 -- what is read of a table
 pub read_at : {A : Type 0} → (xs : List (Option A)) (i : ℕ) (o : Option A) → o ≡ slice_index_or xs i o → i < length xs
-    → o ≡ at xs i
+    → o ≡ entry_at xs i
 read_at {A} xs i o is lt = get_or_read_under xs i (length xs) o None is lt refl
 
 -- One step back.
@@ -86,8 +86,8 @@ module _ (c : Config) (v : View) (found : List (Option Found)) (ways : AreWays c
   led_by (Start root) links pushed b count x way leads sum link before is = absurd cc
   led_by (Link to from) links pushed b count x on leads sum link before is =
       let less : on.before.links < links = let more = on.one_more in omega arith in
-      let same = pair_is to on.before link before (back_to to links (at found from))
-      (some_back to links (at found from) on.before on.there less) is in
+      let same = pair_is to on.before link before (back_to to links (entry_at found from))
+      (some_back to links (entry_at found from) on.before on.there less) is in
       let size = length-append pushed (link ∷ []) in
       let more = on.one_more in
       subst (λ (f : Found). IsLedBack c v found f (pushed ++ link ∷ []) b count) same.1
@@ -119,8 +119,8 @@ module _ (c : Config) (v : View) (found : List (Option Found)) (ways : AreWays c
       }
   ends_by (Link to from) links pushed b count x on leads sum is =
       let less : on.before.links < links = let more = on.one_more in omega arith in
-      absurd (pair_is_some to on.before (back_to to links (at found from))
-      (some_back to links (at found from) on.before on.there less) is)
+      absurd (pair_is_some to on.before (back_to to links (entry_at found from))
+      (some_back to links (entry_at found from) on.before on.there less) is)
 
   pub led_to_root : (f : Found) (pushed : List ℕ) (b count : ℕ) → IsLedBack c v found f pushed b count
       → step_back found f ≡ None → IsLed c v b count (root_of f.way) (reverse pushed)
@@ -166,7 +166,7 @@ module _ (c : Config) (v : View) (found : List (Option Found)) (kept : List (Opt
       let cycle = and_parts (a.freed && not a.released) (not a.fresh) parts.0 in
       not-true a.released (and_parts a.freed (not a.released) cycle.0).1
 
-  why_by : (b : ℕ) (o : Option Found) → at found (base_at v b) ≡ o → (root : Option Root) (links : List ℕ)
+  why_by : (b : ℕ) (o : Option Found) → entry_at found (base_at v b) ≡ o → (root : Option Root) (links : List ℕ)
       → IsToldWhy c v b o root links → IsWhy c (world_in v) b root links
   why_by b None is root links why =
       subst (λ (r : Option Root). IsWhy c (world_in v) b r links) (sym why.0) (
@@ -189,7 +189,8 @@ module _ (c : Config) (v : View) (found : List (Option Found)) (kept : List (Opt
             omega arith,
       )
 
-  way_by : (b : ℕ) → (placed_at v.allocations b).released ≡ false → (o : Option Found) → at found (base_at v b) ≡ o
+  way_by : (b : ℕ) → (placed_at v.allocations b).released ≡ false → (o : Option Found)
+      → entry_at found (base_at v b) ≡ o
       → IsWayOf c v found b o
   way_by b u None is = tt
   way_by b u (Some f) is =
@@ -198,20 +199,20 @@ module _ (c : Config) (v : View) (found : List (Option Found)) (kept : List (Opt
 
   -- the entry that is made of what the tables have
   made_entry : (base : ℕ) (s : Storage) → (k : IsKeptAt c v base s) → (entry : Kept)
-      → IsMadeOf found s (at found base) entry → IsEntryOf c (world_in v) entry k.number
+      → IsMadeOf found s (entry_at found base) entry → IsEntryOf c (world_in v) entry k.number
   made_entry base s k entry made =
       let b = k.number in
       let u = unreleased_kept b k.storage.kept in
-      let is : at found (base_at v b) ≡ at found base = ap (at found) k.is in
+      let is : entry_at found (base_at v b) ≡ entry_at found base = ap (entry_at found) k.is in
       record {
         kept = k.storage.kept;
         address = made.address ∙ k.storage.address;
         words = made.words ∙ k.storage.words;
-        why = why_by b (at found base) is entry.root entry.links.items
-            (made.why c v b told.explored.ways told.apart (way_by b u (at found base) is));
+        why = why_by b (entry_at found base) is entry.root entry.links.items
+            (made.why c v b told.explored.ways told.apart (way_by b u (entry_at found base) is));
       }
 
-  pub entries_none : (base : ℕ) (es : List Kept) → at kept base ≡ None → AreEntriesBelow c v base es
+  pub entries_none : (base : ℕ) (es : List Kept) → entry_at kept base ≡ None → AreEntriesBelow c v base es
       → AreEntriesBelow c v (base + 1) es
   entries_none base es none x =
       record {
@@ -223,13 +224,13 @@ module _ (c : Config) (v : View) (found : List (Option Found)) (kept : List (Opt
           | inr high ↦
               let y = told.each b kept_here in
               let e : base_at v b ≡ base = omega arith in
-              let both : Some y.storage ≡ None = sym y.there ∙ ap (at kept) e ∙ none in
+              let both : Some y.storage ≡ None = sym y.there ∙ ap (entry_at kept) e ∙ none in
               absurd cc
         ];
       }
 
-  pub entries_some : (base : ℕ) (es fs : List Kept) (s : Storage) → at kept base ≡ Some s
-      → IsOneMore found s (at found base) es fs → AreEntriesBelow c v base es → AreEntriesBelow c v (base + 1) fs
+  pub entries_some : (base : ℕ) (es fs : List Kept) (s : Storage) → entry_at kept base ≡ Some s
+      → IsOneMore found s (entry_at found base) es fs → AreEntriesBelow c v base es → AreEntriesBelow c v (base + 1) fs
   entries_some base es fs s is more x =
       subst (AreEntriesBelow c v (base + 1)) (sym more.is)
       (record {
@@ -292,12 +293,12 @@ no_entries c v =
     }
 
 pub entries_more : (c : Config) (v : View) (found : List (Option Found)) (kept : List (Option Storage))
-    → IsTold c found kept v → (base : ℕ) (es fs : List Kept) → (at kept base ≡ None → fs ≡ es)
-    → ((s : Storage) → at kept base ≡ Some s → IsOneMore found s (at found base) es fs)
+    → IsTold c found kept v → (base : ℕ) (es fs : List Kept) → (entry_at kept base ≡ None → fs ≡ es)
+    → ((s : Storage) → entry_at kept base ≡ Some s → IsOneMore found s (entry_at found base) es fs)
     → AreEntriesBelow c v base es → AreEntriesBelow c v (base + 1) fs
-entries_more c v found kept told base es fs same more x = by (at kept base) refl
+entries_more c v found kept told base es fs same more x = by (entry_at kept base) refl
   where
-    by : (o : Option Storage) → at kept base ≡ o → AreEntriesBelow c v (base + 1) fs
+    by : (o : Option Storage) → entry_at kept base ≡ o → AreEntriesBelow c v (base + 1) fs
     by None is =
         subst (AreEntriesBelow c v (base + 1)) (sym (same is)) (entries_none c v found kept told base es is x)
     by (Some s) is = entries_some c v found kept told base es fs s is (more s is) x

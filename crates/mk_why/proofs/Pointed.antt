@@ -17,15 +17,15 @@ use Rattle.mk_core.proofs.PointedPages.{pointed_within}
 use Rattle.mk_geom.specs.Headers.{header_of}
 use Rattle.mk_core.proofs.Sizes.{words_within}
 use Rattle.mk_core.proofs.StandingAllocations.{cells_begin, typed_size}
-use Rattle.mk_layout.specs.SettledPages.{IsSettled, StandsUsed}
-use Rattle.mk_layout.proofs.Settled.{gone_is_unmapped, unreleased_are_apart}
-use Rattle.mk_images.proofs.KnownWorlds.{known_world}
-use Rattle.mk_invariant.proofs.Histories.{histories_keep_the_invariant}
-use Rattle.mk_invariant.proofs.Theorems.{allocations_are_disjoint, allocations_stand}
-use Rattle.mk_precision.proofs.Worlds.{Told, comes_back, hits}
+use Rattle.mk_laws.specs.SettledPages.{IsSettled, StandsUsed}
+use Rattle.mk_laws.proofs.Settled.{gone_is_unmapped, unreleased_are_apart}
+use Rattle.mk_laws.proofs.KnownWorlds.{known_world}
+use Rattle.mk_laws.proofs.InvariantHistories.{histories_keep_the_invariant}
+use Rattle.mk_laws.proofs.InvariantTheorems.{allocations_are_disjoint, allocations_stand}
+use Rattle.mk_laws.proofs.Worlds.{Told, comes_back, hits}
 use Rattle.mk_words.specs.States.{PassState, WordsState, now_of, world_of}
 use Rattle.mk_sweep.proofs.ScannedCells.{scanned_stands, used_cell, used_is_taken}
-use Rattle.mk_zeros.proofs.MappedWords.{mapped_stays}
+use Rattle.mk_laws.proofs.MappedWords.{mapped_stays}
 use Rattle.mk_why.specs.Searching.{BeginApart, AreScannedFrom, IsFirstWord, IsBasePointed, PointsAtBase}
 use Rattle.mk_why.specs.Stops.{IsStill, base_at, view_by}
 

@@ -13,7 +13,8 @@ use Rattle.mk_core.specs.Touched.{PointsIntoAllocation}
 use Rattle.mk_core.specs.Words.{Words}
 use Rattle.mk_why.specs.declared.found.Found.{Found}
 use Rattle.mk_why.specs.declared.tables.Tables.{Tables}
-use Rattle.mk_why.specs.Searching.{IsFirstWord, IsSearched, IsFoundThrough, IsNoted, IsSearch, at, links_in, links_of}
+use Rattle.mk_why.specs.Searching.{IsFirstWord, IsSearched, IsFoundThrough, IsNoted, IsSearch, entry_at, links_in}
+use Rattle.mk_why.specs.Searching.{links_of}
 use Rattle.mk_why.specs.Stops.{View, base_at, view_of, world_in}
 use Rattle.mk_why.specs.declared.found.Storage.{Storage}
 use Rattle.mk_why.specs.declared.kept.Kept.{Kept}
@@ -46,7 +47,7 @@ done_from c v found base size links through whole noted a n begins scanned word 
     let first : (placed_at v.allocations a).base ≡ base = begins in
     let here : base + (n - base) ≡ n = omega arith in
     let few : n - base < size = omega arith in
-    let same : links_in (at found base) ≡ links = ap links_in through.there ∙ through.through in
+    let same : links_in (entry_at found base) ≡ links = ap links_in through.there ∙ through.through in
     subst (λ k. IsNoted c v found (slice_index v.words.heap n) (k + 1)) (sym same)
     (subst (λ j. IsNoted c v found (slice_index v.words.heap j) (links + 1)) here (noted (n - base) few))
 
@@ -65,10 +66,10 @@ module _ (c : Config) (v : View) (r : Tables) (place limit : ℕ) (search : IsSe
         record { number = y.number; unreleased = y.unreleased; is = y.is }
 
     module _ (base : ℕ) (is : base ≡ slice_index r.queue.items place) (f : Found)
-        (there : at r.found.items base ≡ Some f)
+        (there : entry_at r.found.items base ≡ Some f)
       where
         pub links_there : links_of r place ≡ f.links
-        links_there = ap (λ n. links_in (at r.found.items n)) (sym is) ∙ ap links_in there
+        links_there = ap (λ n. links_in (entry_at r.found.items n)) (sym is) ∙ ap links_in there
 
         pub one_more_fits : f.links + 1 ≤ r.count
         one_more_fits = let few = search.shallow place known in let same = links_there in omega arith
@@ -89,7 +90,7 @@ queue_read r place x is known =
     get_or_read_under r.queue.items place (length r.queue.items) x 0 is (omega arith) refl
 
 pub entry_read : (r : Tables) (base : ℕ) (o : Option Found) (f : Found) → o ≡ slice_index_or r.found.items base o
-    → base < length r.found.items → o ≡ Some f → at r.found.items base ≡ Some f
+    → base < length r.found.items → o ≡ Some f → entry_at r.found.items base ≡ Some f
 entry_read r base o f is lt some =
     sym (get_or_read_under r.found.items base (length r.found.items) o None is lt refl) ∙ some
 

@@ -12,12 +12,12 @@ use Rattle.mk_why.specs.declared.found.Way.{Way}
 use Rattle.mk_why.specs.declared.found.Way.TheVariants.{Link, Start}
 use Rattle.mk_why.specs.declared.tables.Tables.{Tables}
 use Rattle.mk_why.specs.Searching.{AreWays, FindsMore, IsFound, IsFoundAt, IsFoundThrough, IsNoted, IsQueued, IsSearch}
-use Rattle.mk_why.specs.Searching.{IsWay, IsFoundWithin, SearchesOn, at, links_in, links_of}
+use Rattle.mk_why.specs.Searching.{IsWay, IsFoundWithin, SearchesOn, entry_at, links_in, links_of}
 use Rattle.mk_why.specs.Stops.{IsStill, LooksOn, View, base_at, view_by}
 use Rattle.mk_why.proofs.Looks.{looks_at_nothing, looks_then}
 
 abbrev pub Stays : List (Option Found) → List (Option Found) → Type 0
-Stays found more = (base : ℕ) (f : Found) → at found base ≡ Some f → at more base ≡ Some f
+Stays found more = (base : ℕ) (f : Found) → entry_at found base ≡ Some f → entry_at more base ≡ Some f
 
 -- What was found stays so.
 
@@ -60,14 +60,14 @@ through_stays found more stays base links x =
     record { entry = x.entry; there = stays base x.entry x.there; through = x.through }
 
 pub same_links : (found more : List (Option Found)) → Stays found more → (base : ℕ) → IsFound found base
-    → links_in (at more base) ≡ links_in (at found base)
+    → links_in (entry_at more base) ≡ links_in (entry_at found base)
 same_links found more stays base x =
     ap links_in (stays base x.entry x.there) ∙ sym (ap links_in x.there)
 
 pub links_stay : (r s : Tables) → FindsMore r s → (i : ℕ) → i < r.count
     → IsFound r.found.items (slice_index r.queue.items i) → links_of s i ≡ links_of r i
 links_stay r s g i lt x =
-    ap (λ n. links_in (at s.found.items n)) (g.same i lt)
+    ap (λ n. links_in (entry_at s.found.items n)) (g.same i lt)
     ∙ same_links r.found.items s.found.items g.stays (slice_index r.queue.items i) x
 
 -- It grows by nothing, and by one part after another.
@@ -141,20 +141,21 @@ limit_of c v r limit more search below =
 
 -- One note more.
 module _ (c : Config) (v : View) (r s : Tables) (base : ℕ) (f : Found) (search : IsSearch c v r f.links)
-    (lt : base < length r.found.items) (none : is_some (at r.found.items base) ≡ false)
+    (lt : base < length r.found.items) (none : is_some (entry_at r.found.items base) ≡ false)
     (found : s.found.items ≡ slice_set r.found.items base (Some f))
     (queue : s.queue.items ≡ slice_set r.queue.items r.count base) (count : s.count ≡ r.count + 1)
     (room : s.count ≤ length s.queue.items) where
-  pub there : at s.found.items base ≡ Some f
-  there = ap (λ (xs : List (Option Found)). at xs base) found ∙ get_or-set_same r.found.items base (Some f) None lt
+  pub there : entry_at s.found.items base ≡ Some f
+  there = ap (λ (xs : List (Option Found)). entry_at xs base) found
+      ∙ get_or-set_same r.found.items base (Some f) None lt
 
-  elsewhere : (k : ℕ) → k ≢ base → at s.found.items k ≡ at r.found.items k
+  elsewhere : (k : ℕ) → k ≢ base → entry_at s.found.items k ≡ entry_at r.found.items k
   elsewhere k ne =
-      ap (λ (xs : List (Option Found)). at xs k) found ∙ get_or-set_other r.found.items base k (Some f) None ne
+      ap (λ (xs : List (Option Found)). entry_at xs k) found ∙ get_or-set_other r.found.items base k (Some f) None ne
 
-  not_there : (k : ℕ) (g : Found) → at r.found.items k ≡ Some g → k ≢ base
+  not_there : (k : ℕ) (g : Found) → entry_at r.found.items k ≡ Some g → k ≢ base
   not_there k g h e =
-      true≢false (ap is_some (sym h) ∙ ap (λ n. is_some (at r.found.items n)) e ∙ none)
+      true≢false (ap is_some (sym h) ∙ ap (λ n. is_some (entry_at r.found.items n)) e ∙ none)
 
   last : slice_index s.queue.items r.count ≡ base
   last =
@@ -179,7 +180,7 @@ module _ (c : Config) (v : View) (r s : Tables) (base : ℕ) (f : Found) (search
   links_before i few = links_stay r s note_grows i few (search.entries i few)
 
   links_last : links_of s r.count ≡ f.links
-  links_last = ap (λ n. links_in (at s.found.items n)) last ∙ ap links_in there
+  links_last = ap (λ n. links_in (entry_at s.found.items n)) last ∙ ap links_in there
 
   in_queue : (i : ℕ) → i < s.count → (i < r.count) ⊎ (i ≡ r.count)
   in_queue i few = elim (cases_lt i r.count) [
@@ -212,7 +213,7 @@ module _ (c : Config) (v : View) (r s : Tables) (base : ℕ) (f : Found) (search
       ways : AreWays c v s.found.items
       ways k g h = elim (cases_eq k base) [
         | inl e ↦
-            let both : Some g ≡ Some f = sym h ∙ ap (λ n. at s.found.items n) e ∙ there in
+            let both : Some g ≡ Some f = sym h ∙ ap (λ n. entry_at s.found.items n) e ∙ there in
             let same : g ≡ f = cc in
             subst (λ (y : Found). IsFoundAt c v s.found.items k y) (sym same)
             (subst (λ n. IsFoundAt c v s.found.items n f) (sym e)
@@ -228,13 +229,14 @@ module _ (c : Config) (v : View) (r s : Tables) (base : ℕ) (f : Found) (search
             let x = search.entries i before in
             record {
               entry = x.entry;
-              there = ap (λ n. at s.found.items n) (earlier i before)
+              there = ap (λ n. entry_at s.found.items n) (earlier i before)
                   ∙ note_grows.stays (slice_index r.queue.items i) x.entry x.there;
             }
         | inr e ↦
             record {
               entry = f;
-              there = ap (λ n. at s.found.items (slice_index s.queue.items n)) e ∙ ap (λ n. at s.found.items n) last
+              there = ap (λ n. entry_at s.found.items (slice_index s.queue.items n)) e
+                  ∙ ap (λ n. entry_at s.found.items n) last
                   ∙ there;
             }
       ]
@@ -280,19 +282,19 @@ pub record Notes (c : Config) (v : View) (r s : Tables) (base limit : ℕ) : Typ
   pub within : IsFoundWithin s.found.items base limit
 
 pub notes : (c : Config) (v : View) (r s : Tables) (base : ℕ) (f : Found) → IsSearch c v r f.links
-    → base < length r.found.items → (is_some (at r.found.items base) ≡ true → s ≡ r)
-    → (is_some (at r.found.items base) ≡ false → s.found.items ≡ slice_set r.found.items base (Some f))
-    → (is_some (at r.found.items base) ≡ false → s.queue.items ≡ slice_set r.queue.items r.count base)
-    → (is_some (at r.found.items base) ≡ false → s.count ≡ r.count + 1) → s.count ≤ length s.queue.items
+    → base < length r.found.items → (is_some (entry_at r.found.items base) ≡ true → s ≡ r)
+    → (is_some (entry_at r.found.items base) ≡ false → s.found.items ≡ slice_set r.found.items base (Some f))
+    → (is_some (entry_at r.found.items base) ≡ false → s.queue.items ≡ slice_set r.queue.items r.count base)
+    → (is_some (entry_at r.found.items base) ≡ false → s.count ≡ r.count + 1) → s.count ≤ length s.queue.items
     → f.links ≤ r.count → IsFoundAt c v r.found.items base f → Notes c v r s base f.links
 notes c v r s base f search lt known noted last more room shallow way =
-    elim (cases_Bool (is_some (at r.found.items base))) [
+    elim (cases_Bool (is_some (entry_at r.found.items base))) [
       | inl there ↦
           subst (λ (x : Tables). Notes c v r x base f.links) (sym (known there))
           (record {
             search = search;
             grows = grows_nothing r;
-            within = before (at r.found.items base) refl there;
+            within = before (entry_at r.found.items base) refl there;
           })
       | inr none ↦
           let new = there c v r s base f search lt none (noted none) (last none) (more none) room in
@@ -303,18 +305,18 @@ notes c v r s base f search lt known noted last more room shallow way =
           }
     ]
   where
-    before : (x : Option Found) → at r.found.items base ≡ x → is_some x ≡ true
+    before : (x : Option Found) → entry_at r.found.items base ≡ x → is_some x ≡ true
         → IsFoundWithin r.found.items base f.links
     before None e h = absurd (true≢false (sym h))
     before (Some g) e h =
         let q = search.queued base (record { entry = g; there = e }) in
         let low = search.below q.place q.known in
-        let same : links_of r q.place ≡ g.links = ap (λ n. links_in (at r.found.items n)) q.is ∙ ap links_in e in
+        let same : links_of r q.place ≡ g.links = ap (λ n. links_in (entry_at r.found.items n)) q.is ∙ ap links_in e in
         record { entry = g; there = e; near = omega arith }
 
 -- Before the first note.
 pub empty_search : (c : Config) (v : View) (r : Tables) → length r.found.items ≡ 64 * c.pages
-    → ((base : ℕ) → at r.found.items base ≡ None) → r.count ≡ 0 → IsSearch c v r 0
+    → ((base : ℕ) → entry_at r.found.items base ≡ None) → r.count ≡ 0 → IsSearch c v r 0
 empty_search c v r size none empty =
     record {
       size = size;
@@ -326,5 +328,5 @@ empty_search c v r size none empty =
       shallow = λ i lt. absurd (omega arith);
     }
   where
-    unfound : (base : ℕ) (f : Found) → at r.found.items base ≡ Some f → ⊥
+    unfound : (base : ℕ) (f : Found) → entry_at r.found.items base ≡ Some f → ⊥
     unfound base f h = let e = none base in cc

@@ -12,7 +12,7 @@ use Rattle.mk_why.specs.declared.found.Way.TheVariants.{Link, Start}
 use Rattle.mk_why.specs.declared.kept.Kept.{Kept}
 use Rattle.mk_why.specs.declared.kept.Root.{Root}
 use Rattle.mk_why.specs.Chains.{IsChain, IsEntryOf, LinksLead, is_kept}
-use Rattle.mk_why.specs.Searching.{BeginApart, AreWays, IsWay, at}
+use Rattle.mk_why.specs.Searching.{BeginApart, AreWays, IsWay, entry_at}
 use Rattle.mk_why.specs.Stops.{View, base_at, world_in}
 
 -- one link back, and how the allocation was found that has it
@@ -23,7 +23,7 @@ back_to link links (Some before) = if nat_lt before.links links then Some (link,
 
 abbrev pub back_by : List (Option Found) → Way → ℕ → Option (ℕ × Found)
 back_by found (Start root) links = None
-back_by found (Link link from) links = back_to link links (at found from)
+back_by found (Link link from) links = back_to link links (entry_at found from)
 
 abbrev pub step_back : List (Option Found) → Found → Option (ℕ × Found)
 step_back found f = back_by found f.way f.links

@@ -7,7 +7,7 @@ use Rattle.mk_why.specs.declared.found.Found.{Found}
 use Rattle.mk_why.specs.declared.found.Storage.{Storage}
 use Rattle.mk_why.specs.declared.tables.Tables.{Tables}
 use Rattle.mk_why.specs.Chains.{is_kept}
-use Rattle.mk_why.specs.Searching.{BeginApart, IsExplored, at}
+use Rattle.mk_why.specs.Searching.{BeginApart, IsExplored, entry_at}
 use Rattle.mk_why.specs.Stops.{View, base_at, world_in}
 
 -- The allocation is kept, and this is its storage.
@@ -23,12 +23,12 @@ pub record IsKeptAt (c : Config) (v : View) (base : ℕ) (s : Storage) : Type 0 
 
 -- The table has nothing but kept allocations.
 abbrev pub AreOfKept : Config → View → List (Option Storage) → Type 0
-AreOfKept c v kept = (base : ℕ) (s : Storage) → at kept base ≡ Some s → IsKeptAt c v base s
+AreOfKept c v kept = (base : ℕ) (s : Storage) → entry_at kept base ≡ Some s → IsKeptAt c v base s
 
 -- It has this one.
 pub record IsListed (kept : List (Option Storage)) (base : ℕ) : Type 0 where
   pub storage : Storage
-  pub there : at kept base ≡ Some storage
+  pub there : entry_at kept base ≡ Some storage
 
 -- More was listed, of kept allocations alone.
 pub record ListsOn (c : Config) (v : View) (r s : Tables) : Type 0 where

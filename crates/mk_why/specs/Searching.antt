@@ -19,8 +19,8 @@ use Rattle.mk_why.specs.Chains.{IsChain, IsLink, IsRoot, word_of_root}
 use Rattle.mk_why.specs.Stops.{LooksOn, View, base_at, view_by, world_in}
 
 -- what a table has for a heap word
-abbrev pub at : {A : Type 0} → List (Option A) → ℕ → Option A
-at table base = slice_index_or table base None
+abbrev pub entry_at : {A : Type 0} → List (Option A) → ℕ → Option A
+entry_at table base = slice_index_or table base None
 
 abbrev pub links_in : Option Found → ℕ
 links_in (Some found) = found.links
@@ -61,7 +61,7 @@ pub record IsOnward (c : Config) (v : View) (found : List (Option Found)) (link 
   pub begins : base_at v number ≡ from
   pub onward : IsLink c (world_in v) number link b
   pub before : Found
-  pub there : at found from ≡ Some before
+  pub there : entry_at found from ≡ Some before
   pub one_more : links ≡ before.links + 1
 
 abbrev pub IsWay : Config → View → List (Option Found) → Way → ℕ → ℕ → Type 0
@@ -77,17 +77,17 @@ pub record IsFoundAt (c : Config) (v : View) (found : List (Option Found)) (base
   pub way : IsWay c v found f.way f.links number
 
 abbrev pub AreWays : Config → View → List (Option Found) → Type 0
-AreWays c v found = (base : ℕ) (f : Found) → at found base ≡ Some f → IsFoundAt c v found base f
+AreWays c v found = (base : ℕ) (f : Found) → entry_at found base ≡ Some f → IsFoundAt c v found base f
 
 -- It was found.
 pub record IsFound (found : List (Option Found)) (base : ℕ) : Type 0 where
   pub entry : Found
-  pub there : at found base ≡ Some entry
+  pub there : entry_at found base ≡ Some entry
 
 -- It was found through exactly this many links.
 pub record IsFoundThrough (found : List (Option Found)) (base links : ℕ) : Type 0 where
   pub entry : Found
-  pub there : at found base ≡ Some entry
+  pub there : entry_at found base ≡ Some entry
   pub through : entry.links ≡ links
 
 pub record IsQueued (r : Tables) (base : ℕ) : Type 0 where
@@ -97,7 +97,7 @@ pub record IsQueued (r : Tables) (base : ℕ) : Type 0 where
 
 -- the links of the allocation that is in this place of the queue
 abbrev pub links_of : Tables → ℕ → ℕ
-links_of r i = links_in (at r.found.items (slice_index r.queue.items i))
+links_of r i = links_in (entry_at r.found.items (slice_index r.queue.items i))
 
 -- The queue has each allocation that was found, in the order of their links. None has more than this many,
 -- or more than its place.
@@ -113,7 +113,7 @@ pub record IsSearch (c : Config) (v : View) (r : Tables) (limit : ℕ) : Type 0 
 -- It was found through this many links, or fewer.
 pub record IsFoundWithin (found : List (Option Found)) (base limit : ℕ) : Type 0 where
   pub entry : Found
-  pub there : at found base ≡ Some entry
+  pub there : entry_at found base ≡ Some entry
   pub near : entry.links ≤ limit
 
 -- So was whatever the value points into.
@@ -126,11 +126,11 @@ abbrev pub IsSearched : Config → View → List (Option Found) → ℕ → Type
 IsSearched c v found base =
     (a n : ℕ) → base_at v a ≡ base → is_scanned_allocation c (placed_at v.allocations a) ≡ true
     → IsWordOf (storage_of c (placed_at v.allocations a)) n
-    → IsNoted c v found (slice_index v.words.heap n) (links_in (at found base) + 1)
+    → IsNoted c v found (slice_index v.words.heap n) (links_in (entry_at found base) + 1)
 
 -- More was found, and what was found before stays.
 pub record FindsMore (r s : Tables) : Type 0 where
-  pub stays : (base : ℕ) (f : Found) → at r.found.items base ≡ Some f → at s.found.items base ≡ Some f
+  pub stays : (base : ℕ) (f : Found) → entry_at r.found.items base ≡ Some f → entry_at s.found.items base ≡ Some f
   pub same : (i : ℕ) → i < r.count → slice_index s.queue.items i ≡ slice_index r.queue.items i
   pub further : r.count ≤ s.count
 

@@ -2,7 +2,7 @@
 use Rattle.std.specs.Prelude.{◌≡◌, ℕ, List, Option, None}
 use Rattle.mk_why.specs.declared.found.Found.{Found}
 use Rattle.mk_why.specs.declared.found.Storage.{Storage}
-use Rattle.mk_why.specs.Searching.{at}
+use Rattle.mk_why.specs.Searching.{entry_at}
 
 -- The engine inside, and by heap words how allocations were found, and the storage of those that are kept.
 pub record WhyState (E : Type 0) : Type 0 where
@@ -12,4 +12,4 @@ pub record WhyState (E : Type 0) : Type 0 where
 
 -- No allocation is in the table of those that are kept.
 abbrev pub HasKeptNothing : {E : Type 0} → WhyState E → Type 0
-HasKeptNothing why = (base : ℕ) → at why.kept base ≡ None
+HasKeptNothing why = (base : ℕ) → entry_at why.kept base ≡ None

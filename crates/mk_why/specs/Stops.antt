@@ -14,7 +14,7 @@ use Rattle.mk_core.specs.Words.{Words}
 use Rattle.mk_words.specs.States.{PassState, TurnState, now_of, world_of}
 use Rattle.mk_turns.specs.Doing.{Does}
 use Rattle.mk_cycle.specs.EngineLaw.{IsAtPhase, IsFreeForCycle}
-use Rattle.mk_cycle.specs.TurnKeeps.{KeepsTurn, but_phase}
+use Rattle.mk_cycle.specs.TurnKeeps.{LeavesTurn, but_phase}
 
 -- the words but the phase, and the allocations
 pub record View : Type 0 where
@@ -63,7 +63,7 @@ pub record LooksOn (t u : TurnState) : Type 0 where
   pub table : u.pass.table ≡ t.pass.table
   pub op : u.op ≡ t.op
   pub does : Does is_look t.pass u.pass
-  pub keeps : KeepsTurn but_phase t.pass u.pass
+  pub keeps : LeavesTurn but_phase t.pass u.pass
   pub view : view_by u.pass ≡ view_by t.pass
   pub still : IsStill u.pass
 

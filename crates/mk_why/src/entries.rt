@@ -4,7 +4,7 @@ ghost use Rattle.mk_core.specs.declared.config.Config.{Config};
 ghost use Rattle.mk_why.specs.declared.found.Storage.{Storage as StorageState};
 ghost use Rattle.mk_why.specs.Entries.{AreEntriesBelow, IsLed, IsMadeOf, IsOneMore, root_of, step_back};
 ghost use Rattle.mk_why.specs.Listing.{IsTold};
-ghost use Rattle.mk_why.specs.Searching.{BeginApart, AreWays, IsWay, at};
+ghost use Rattle.mk_why.specs.Searching.{BeginApart, AreWays, IsWay, entry_at};
 ghost use Rattle.mk_why.specs.Stops.{View};
 
 use crate::found::{Found, Storage, Way};
@@ -104,9 +104,10 @@ fn push_entry(
     entries: &mut Vec<Kept>,
 ) -> Result<(), NoMemory>
     requires { base < length tables.now.found.items }
-    ensures none { at tables.now.kept.items base ≡ None → entries.new ≡ entries.old }
-    ensures more { OnOk result ((s : StorageState) → at tables.now.kept.items base ≡ Some s
-        → IsOneMore tables.now.found.items s (at tables.now.found.items base) entries.old.items entries.new.items) }
+    ensures none { entry_at tables.now.kept.items base ≡ None → entries.new ≡ entries.old }
+    ensures more { OnOk result ((s : StorageState) → entry_at tables.now.kept.items base ≡ Some s
+        → IsOneMore tables.now.found.items s
+        (entry_at tables.now.found.items base) entries.old.items entries.new.items) }
 {
     let Some(storage) = tables.kept[base] else {
         return Ok(());
@@ -121,7 +122,8 @@ pub(crate) fn list_entries(tables: &Tables, alloc: Global) -> Result<Vec<Kept>, 
     ensures kept { IfOk result (λ entries. (c : Config) (v : View)
         → IsTold c tables.now.found.items tables.now.kept.items v
         → AreEntriesBelow c v (length tables.now.kept.items) entries.items) }
-    ensures none { ((base : ℕ) → at tables.now.kept.items base ≡ None) → IfOk result (λ entries. entries.items ≡ []) }
+    ensures none { ((base : ℕ) → entry_at tables.now.kept.items base ≡ None)
+        → IfOk result (λ entries. entries.items ≡ []) }
 {
     let mut entries = Vec::new(alloc);
     for base in 0..tables.kept.len() {

@@ -5,7 +5,7 @@ ghost use Rattle.mk_core.specs.Allocations.{cell_of_allocation, placed_at};
 ghost use Rattle.mk_core.specs.Words.{header_at};
 ghost use Rattle.mk_why.specs.Chains.{is_kept};
 ghost use Rattle.mk_why.specs.Listing.{AreOfKept, IsListed, ListsOn};
-ghost use Rattle.mk_why.specs.Searching.{at};
+ghost use Rattle.mk_why.specs.Searching.{entry_at};
 ghost use Rattle.mk_why.specs.Stops.{IsStill, LooksOn, base_at, view_by, world_in};
 
 use crate::found::Storage;
@@ -115,7 +115,7 @@ pub(crate) fn list_kept(words: &Words, stop: &mut Stopped, tables: &mut Tables)
     requires one_table { stop.old.pass.table ≡ words.now }
     requires still { IsStill stop.old.pass }
     requires size { length tables.old.kept.items ≡ 64 * words.now.config.pages }
-    requires none { (base : ℕ) → at tables.old.kept.items base ≡ None }
+    requires none { (base : ℕ) → entry_at tables.old.kept.items base ≡ None }
     ensures looks { LooksOn stop.old stop.new }
     ensures on { ListsOn words.now.config (view_by stop.old.pass) tables.old tables.new }
     ensures each { (b : ℕ) → is_kept words.now.config (world_in (view_by stop.old.pass)) b ≡ true

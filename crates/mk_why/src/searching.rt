@@ -6,7 +6,7 @@ ghost use Rattle.mk_why.specs.declared.kept.Root.TheVariants.{Register, Global};
 ghost use Rattle.mk_why.specs.Chains.{IsRoot, word_of_root};
 ghost use Rattle.mk_why.specs.Searching.{AreScannedFrom, AreWays, FindsMore, IsSearched, IsExplored, IsFound};
 ghost use Rattle.mk_why.specs.Searching.{IsFoundThrough};
-ghost use Rattle.mk_why.specs.Searching.{IsNoted, IsSearch, IsWay, SearchesOn, at, links_in, links_of, root_word};
+ghost use Rattle.mk_why.specs.Searching.{IsNoted, IsSearch, IsWay, SearchesOn, entry_at, links_in, links_of, root_word};
 ghost use Rattle.mk_why.specs.Stops.{IsStill, LooksOn, view_by, world_in};
 
 use crate::found::{Found, Way};
@@ -191,7 +191,7 @@ pub(crate) fn search(words: &Words, stop: &mut Stopped, tables: &mut Tables)
     requires one_table { stop.old.pass.table ≡ words.now }
     requires still { IsStill stop.old.pass }
     requires size { length tables.old.found.items ≡ 64 * words.now.config.pages }
-    requires none { (base : ℕ) → at tables.old.found.items base ≡ None }
+    requires none { (base : ℕ) → entry_at tables.old.found.items base ≡ None }
     requires empty { tables.old.count ≡ 0 }
     ensures on { LooksOn stop.old stop.new }
     ensures size { length tables.new.found.items ≡ 64 * words.now.config.pages }

@@ -20,13 +20,13 @@ pub(crate) struct Tables {
 
 impl Tables {
     ghost use Rattle.std.specs.Prelude.{◌<◌, ◌≤◌, ◌*◌, ◌+◌, true, false, Some, IfOk, slice_set};
-    ghost use Rattle.mk_why.specs.Searching.{at};
+    ghost use Rattle.mk_why.specs.Searching.{entry_at};
 
     /// Empty tables for a heap of this many pages.
     pub(crate) fn new(alloc: Global, pages: u64) -> Result<Tables, NoMemory>
         requires { pages ≤ 4096 }
         ensures size { IfOk result (λ made. length made.found.items ≡ 64 * pages) }
-        ensures none { IfOk result (λ made. (base : ℕ) → at made.kept.items base ≡ None) }
+        ensures none { IfOk result (λ made. (base : ℕ) → entry_at made.kept.items base ≡ None) }
     {
         let words = 64 * pages as usize;
         let found = vec![in alloc; None; words]?;
@@ -44,12 +44,12 @@ impl Tables {
     pub(crate) fn note(&mut self, base: u64, found: Found)
         requires { base < length self.old.found.items }
         ensures kept { self.new.kept ≡ self.old.kept }
-        ensures known { is_some (at self.old.found.items base) ≡ true → self.new ≡ self.old }
-        ensures noted { is_some (at self.old.found.items base) ≡ false
+        ensures known { is_some (entry_at self.old.found.items base) ≡ true → self.new ≡ self.old }
+        ensures noted { is_some (entry_at self.old.found.items base) ≡ false
             → self.new.found.items ≡ slice_set self.old.found.items base (Some found) }
-        ensures last { is_some (at self.old.found.items base) ≡ false
+        ensures last { is_some (entry_at self.old.found.items base) ≡ false
             → self.new.queue.items ≡ slice_set self.old.queue.items self.old.count base }
-        ensures more { is_some (at self.old.found.items base) ≡ false → self.new.count ≡ self.old.count + 1 }
+        ensures more { is_some (entry_at self.old.found.items base) ≡ false → self.new.count ≡ self.old.count + 1 }
         ensures room { self.new.count ≤ length self.new.queue.items }
     {
         let place = base as usize;
@@ -73,7 +73,7 @@ impl Tables {
     /// Forgets what was found.
     pub(crate) fn forget_found(&mut self)
         ensures size { length self.new.found.items ≡ length self.old.found.items }
-        ensures none { (base : ℕ) → at self.new.found.items base ≡ None }
+        ensures none { (base : ℕ) → entry_at self.new.found.items base ≡ None }
         ensures empty { self.new.count ≡ 0 }
     {
         forget(&mut self.found);
@@ -83,7 +83,7 @@ impl Tables {
     /// Forgets what was kept.
     pub(crate) fn forget_kept(&mut self)
         ensures size { length self.new.kept.items ≡ length self.old.kept.items }
-        ensures none { (base : ℕ) → at self.new.kept.items base ≡ None }
+        ensures none { (base : ℕ) → entry_at self.new.kept.items base ≡ None }
         ensures found { self.new.found ≡ self.old.found }
     {
         forget(&mut self.kept);

@@ -34,13 +34,13 @@ use Rattle.mk_core.specs.Effects.{progress, begins_where_free, moment_behind, an
 use Rattle.mk_core.specs.History.{World, IsHistory}
 use Rattle.mk_core.proofs.Conditions.{enabled_meets}
 use Rattle.mk_core.proofs.Lengths.{histories_keep_lengths}
-use Rattle.mk_protocol.proofs.NextSteps.{at_enter}
-use Rattle.mk_protocol.proofs.HeldGates.{gates_tell_holds}
+use Rattle.mk_laws.proofs.NextSteps.{at_enter}
+use Rattle.mk_laws.proofs.ProtocolHeldGates.{gates_tell_holds}
 use Rattle.mk_words.specs.Seats.{Has, is_caller}
 use Rattle.mk_words.specs.States.{PassState, now_of, call_of, event_of}
 use Rattle.mk_words.specs.Rule.{told_by}
 use Rattle.mk_words.specs.Steps.{IsEnabledTo, Makes, moment_of, found_by, Finds, Tells, Goes}
-use Rattle.mk_words.specs.CallSteps.{register_of, KeepsRegisters, KeepsOtherRegisters, FindsHeld}
+use Rattle.mk_words.specs.CallSteps.{register_of, LeavesRegisters, KeepsOtherRegisters, FindsHeld}
 use Rattle.mk_words.proofs.Made.{made}
 
 -- a step of a call is its caller's
@@ -124,7 +124,7 @@ register_behind p s q m own history r =
 pub keeps_registers : (p : PassState) (s : Step) (q : PassState) (m : Makes p s q) → Has p.seats p.seat
     → IsHistory q.table.config q.seen → (k : ℕ) → p.seat ≡ Caller k
     → (moment_behind p.table.config (moment_of m) (event_of p s)).words.registers ≡ (moment_of m).words.registers
-    → KeepsRegisters p q
+    → LeavesRegisters p q
 keeps_registers p s q m own history k is same r lt =
     register_behind p s q m own history r
     ∙ ap (λ (xs : List ℕ). slice_index xs (8 * caller_number p.seat + r)) same
@@ -146,7 +146,7 @@ module _ (p : PassState) (s : Step) (n : ℕ) (q : PassState) (t : Tells p s n q
   goes_on x is = let k = caller_is in subst (λ (y : Progress). Goes p s y q) is (goes p s q t.makes own history k.0 k.1)
 
   pub keeps : (moment_behind p.table.config (moment_of t.makes) (event_of p s)).words.registers
-      ≡ (moment_of t.makes).words.registers → KeepsRegisters p q
+      ≡ (moment_of t.makes).words.registers → LeavesRegisters p q
   keeps same = let k = caller_is in keeps_registers p s q t.makes own history k.0 k.1 same
 
   pub same_call : flight_of (moment_of t.makes) p.seat ≡ call_of p
@@ -214,7 +214,7 @@ module _ (p : PassState) (n : ℕ) (q : PassState) (t : Tells p step.Reg n q) (o
     pub load_goes : Goes p step.Reg (progress_reg (call_of p) (call_of p).stage n) q
     load_goes = goes_on p step.Reg n q t own history refl _ (reg_goes p q t.makes n found_is)
 
-    pub load_keeps : KeepsRegisters p q
+    pub load_keeps : LeavesRegisters p q
     load_keeps =
         keeps p step.Reg n q t own history refl
         (ap (λ (a : Access).
@@ -293,7 +293,7 @@ module _ (p : PassState) (o : Op) (n : ℕ) (q : PassState) (t : Tells p (step.E
   enter_waits held = goes_on p (step.Enter o) n q t own history refl _
       (waits (call_of p) o n (found_by t.makes) t.tells held)
 
-  pub enter_keeps : KeepsRegisters p q
+  pub enter_keeps : LeavesRegisters p q
   enter_keeps = keeps p (step.Enter o) n q t own history refl refl
 
   pub enter_held : n ≢ 0 → FindsHeld p o q

@@ -20,14 +20,14 @@ use Rattle.mk_core.specs.Readings.{Holds}
 use Rattle.mk_core.proofs.Conditions.{enabled_meets}
 use Rattle.mk_core.proofs.Histories.{left_more, last_enabled, enabled_parts}
 use Rattle.mk_core.proofs.HistoryParts.{earlier_part_is_history}
-use Rattle.mk_protocol.proofs.Frames.{left_after, other_seat}
-use Rattle.mk_protocol.proofs.Known.{holds_turn, known_left}
-use Rattle.mk_protocol.proofs.Orderly.{same_holder, turn_of}
-use Rattle.mk_protocol.proofs.Views.{view_of}
-use Rattle.mk_protocol.proofs.SameWords.{Behind, reg_keeps, tally_keeps}
-use Rattle.mk_protocol.proofs.NextSteps.{is_take}
-use Rattle.mk_protocol.proofs.OthersMoves.{free_move}
-use Rattle.mk_protocol.proofs.TurnFrame.{steady_out}
+use Rattle.mk_laws.proofs.ProtocolFrames.{left_after, other_seat}
+use Rattle.mk_laws.proofs.Known.{holds_turn, known_left}
+use Rattle.mk_laws.proofs.Orderly.{same_holder, turn_of}
+use Rattle.mk_laws.proofs.Views.{view_of}
+use Rattle.mk_laws.proofs.SameWords.{Behind, reg_keeps, tally_keeps}
+use Rattle.mk_laws.proofs.NextSteps.{is_take}
+use Rattle.mk_laws.proofs.OthersMoves.{free_move}
+use Rattle.mk_laws.proofs.TurnFrame.{steady_out}
 use Rattle.mk_words.specs.PageMaps.{IsMapOf, is_handing}
 use Rattle.mk_words.specs.TurnSteps.{turn_stays}
 use Rattle.mk_words.proofs.Unmarked.{is_mark, others_unmark, stays_bare}

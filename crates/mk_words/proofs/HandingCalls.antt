@@ -33,7 +33,8 @@ module _ (w : WordsState) (tid pid : TableId) (config key : Config) (me : Mine) 
   abbrev p : PassState
   p = state_of pid me seat
 
-  pub take_call : (words slots id : ℕ) (o : Option Op) (i number : ℕ) (picked : Event) → IsInOrder me seat → key ≡ config
+  pub take_call : (words slots id : ℕ) (o : Option Op) (i number : ℕ) (picked : Event) → IsInOrder me seat → key
+      ≡ config
       → words ≡ count_of_words config.pages → picked ≡ take_event seat o → May p (step.Take o)
       → Exchange 0 number ≡ access p.table.config (now_of p) (take_event seat o)
       → i ≡ index_of config.pages Turn

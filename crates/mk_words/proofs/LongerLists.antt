@@ -1,6 +1,6 @@
 -- The law on longer lists, as it is handed on here.
 use Rattle.mk_core.specs.LongerLists.{LongerListsGoOn}
-use Rattle.mk_frames.proofs.LongerLists.{longer_lists_go_on}
+use Rattle.mk_laws.proofs.FramesLongerLists.{longer_lists_go_on}
 
 pub longer_lists : LongerListsGoOn
 longer_lists = longer_lists_go_on

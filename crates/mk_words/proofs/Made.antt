@@ -12,16 +12,16 @@ use Rattle.mk_core.specs.Frames.{IsLeft}
 use Rattle.mk_core.proofs.Conditions.{enabled_meets}
 use Rattle.mk_core.proofs.Histories.{left_more, last_enabled}
 use Rattle.mk_core.proofs.HistoryParts.{earlier_part_is_history}
-use Rattle.mk_protocol.specs.Protocol.{Protocol}
-use Rattle.mk_protocol.proofs.Known.{Known, known_left}
-use Rattle.mk_protocol.proofs.Protocols.{protocol_of}
-use Rattle.mk_protocol.proofs.Frames.{others_leave}
-use Rattle.mk_protocol.proofs.Reaching.{events_reach_the_table}
+use Rattle.mk_laws.specs.Protocol.{Protocol}
+use Rattle.mk_laws.proofs.Known.{Known, known_left}
+use Rattle.mk_laws.proofs.Protocols.{protocol_of}
+use Rattle.mk_laws.proofs.ProtocolFrames.{others_leave}
+use Rattle.mk_laws.proofs.Reaching.{events_reach_the_table}
 use Rattle.mk_words.specs.Seats.{Has}
 use Rattle.mk_words.specs.States.{PassState, world_of, event_of}
 use Rattle.mk_words.specs.Steps.{Makes}
 use Rattle.mk_words.specs.Laws.{StepsStandBehindOthers}
-use Rattle.mk_frames.proofs.Frames.{admitted_others_leave}
+use Rattle.mk_laws.proofs.SeatFrames.{admitted_others_leave}
 use Rattle.mk_words.proofs.Seats.{others_own}
 
 -- The events of others leave the seat its own; the event met its conditions after them, and the new list leaves what

@@ -21,7 +21,7 @@ use Rattle.mk_core.specs.Effects.{marker_behind, moment_behind}
 use Rattle.mk_core.specs.History.{World, left, IsHistory}
 use Rattle.mk_core.specs.Growing.{Grows}
 use Rattle.mk_core.proofs.Conditions.{enabled_meets}
-use Rattle.mk_protocol.proofs.Frames.{others_leave}
+use Rattle.mk_laws.proofs.ProtocolFrames.{others_leave}
 use Rattle.mk_words.specs.Seats.{Has}
 use Rattle.mk_words.specs.States.{PassState, WordsState, now_of, event_of}
 use Rattle.mk_words.specs.Rule.{told_by}

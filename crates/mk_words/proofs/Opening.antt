@@ -13,7 +13,7 @@ use Rattle.mk_core.specs.declared.events.Event.{Event}
 use Rattle.mk_core.specs.declared.seats.Flight.{Flight}
 use Rattle.mk_core.specs.declared.seats.Marker.{Marker as MarkerState}
 use Rattle.mk_core.specs.Growing.{AreOfOthers}
-use Rattle.mk_protocol.proofs.Protocols.{lists_keep_the_protocol}
+use Rattle.mk_laws.proofs.Protocols.{lists_keep_the_protocol}
 use Rattle.mk_words.proofs.TurnSteps.{all_from}
 use Rattle.mk_core.specs.Calls.{at_rest}
 use Rattle.mk_core.specs.Moments.{Moment, outside, is_number_of, is_held, none_is_held}
@@ -23,7 +23,7 @@ use Rattle.mk_core.specs.History.{World, first_world, IsHistory}
 use Rattle.mk_core.specs.Readings.{Holds}
 use Rattle.mk_core.proofs.Conditions.{enabled_meets, meets_enabled}
 use Rattle.mk_core.proofs.Histories.{last_enabled}
-use Rattle.mk_protocol.specs.Protocol.{Protocol}
+use Rattle.mk_laws.specs.Protocol.{Protocol}
 use Rattle.mk_words.specs.Seats.{Has}
 use Rattle.mk_words.specs.States.{PassState, now_of, event_of}
 use Rattle.mk_words.specs.Steps.{IsEnabledTo}
@@ -33,8 +33,8 @@ use Rattle.mk_core.specs.Effects.{answer_decided}
 use Rattle.mk_core.specs.Frames.{steady_of, CountsAreLeft}
 use Rattle.mk_core.specs.History.{left}
 use Rattle.mk_core.specs.Moments.{flight_of}
-use Rattle.mk_protocol.proofs.OthersCounts.{answers_full}
-use Rattle.mk_placement.proofs.TallySteps.{CountsNothing}
+use Rattle.mk_laws.proofs.OthersCounts.{answers_full}
+use Rattle.mk_laws.proofs.TallySteps.{CountsNothing}
 use Rattle.mk_words.proofs.Tallies.{same_ends, same_fulls}
 use Rattle.mk_words.specs.Opening.{OthersMayOpen, OnlyOpen, Opens, AreOpened}
 use Rattle.mk_words.proofs.Owed.{history_more}

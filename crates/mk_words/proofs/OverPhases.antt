@@ -7,7 +7,7 @@ use Rattle.mk_core.specs.declared.events.Step.{Step}
 use Rattle.mk_core.specs.declared.events.Step.TheVariants as step
 use Rattle.mk_core.specs.History.{AreEnabledFrom, World, first_world, left_from, world_behind}
 use Rattle.mk_core.specs.Words.{phase_of}
-use Rattle.mk_readings.proofs.CyclePhases.{moves_phase, phase_behind}
+use Rattle.mk_laws.proofs.CyclePhases.{moves_phase, phase_behind}
 use Rattle.mk_words.specs.Laws.{EndIsBehindOver}
 use Rattle.mk_words.specs.Seats.{has_over, is_over}
 

@@ -22,12 +22,13 @@ use Rattle.mk_core.specs.Growing.{Grows, is_same_seat}
 use Rattle.mk_core.proofs.Histories.{enabled_more}
 use Rattle.mk_core.proofs.LayoutLemmas.{indexes_within}
 use Rattle.mk_core.proofs.RegionLemmas.{first_are_zero}
-use Rattle.mk_protocol.proofs.Reaching.{events_reach_the_table}
+use Rattle.mk_laws.proofs.Reaching.{events_reach_the_table}
 use Rattle.mk_words.specs.declared.rule.View.{View}
 use Rattle.mk_words.specs.Seats.{CallersAreBeforeOver, Has, HasAll, has_over, is_caller}
 use Rattle.mk_words.specs.PageMaps.{IsMapOf, is_handing}
 use Rattle.mk_words.specs.States.{WordsState, PassState, now_of, event_of}
-use Rattle.mk_words.specs.Rule.{Kept, Mine, told_by, no_step, adds, stores, settles, stays_with, goes_with, copy_of}
+use Rattle.mk_words.specs.Rule.{Kept, Mine, told_by, no_step, adds, stores_word, settles, stays_with, goes_with}
+use Rattle.mk_words.specs.Rule.{copy_of}
 use Rattle.mk_words.specs.Rule.{beside, nobody, first_view, Adds}
 use Rattle.mk_words.specs.Passes.{state_of, IsInOrder}
 use Rattle.mk_words.specs.Steps.{May, Tells, Finds}
@@ -274,7 +275,7 @@ perform_keeps me n seat found picked order on = in_order_still me n seat picked 
 -- a store
 pub allows_store : (key : Config) (slots id : ℕ) (me : Mine) (i : ℕ) (e : Event) (value : ℕ)
     → Allows (Kept key) slots id me i (λ n. value) (λ n m. adds e no_step me n m)
-    → Allows (Kept key) slots id me i (λ n. value) (λ n m. stores e no_step me value m)
+    → Allows (Kept key) slots id me i (λ n. value) (λ n m. stores_word e no_step me value m)
 allows_store key slots id me i e value allows s k long at small =
     let a = allows s k long at small in
     (a.0, a.1, a.2, a.3, (slice_index s.words i, a.4))

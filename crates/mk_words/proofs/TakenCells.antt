@@ -38,14 +38,14 @@ use Rattle.mk_core.proofs.WordBits.{bit_of_power}
 use Rattle.mk_core.specs.Readings.{Holds}
 use Rattle.mk_core.specs.History.{World, IsHistory}
 use Rattle.mk_core.proofs.Conditions.{enabled_meets}
-use Rattle.mk_protocol.proofs.Actors.{grants_new}
-use Rattle.mk_protocol.proofs.Known.{known_left}
+use Rattle.mk_laws.proofs.Actors.{grants_new}
+use Rattle.mk_laws.proofs.Known.{known_left}
 use Rattle.mk_words.specs.Seats.{Has}
 use Rattle.mk_words.specs.States.{PassState, now_of, call_of, event_of}
 use Rattle.mk_words.specs.Steps.{IsEnabledTo, Makes, found_by}
 use Rattle.mk_words.specs.TurnSteps.{op_for, IsTurn, turn_stays, world_at, Acts}
 use Rattle.mk_page_map.specs.KnownPages.{KnownPages}
-use Rattle.mk_words.specs.TurnSteps.{KnowsCell, KeepsTurn, cell_behind, register_granted, cell_base}
+use Rattle.mk_words.specs.TurnSteps.{KnowsCell, IsTurnWithMap, cell_behind, register_granted, cell_base}
 use Rattle.mk_words.proofs.Made.{made}
 use Rattle.mk_words.proofs.TurnSteps.{acts}
 
@@ -229,7 +229,7 @@ used_placing : (placing : Placing) → is_used_once placing ≡ true → (x : Pl
 used_placing (Used x) h = (x, refl)
 used_placing _ h = cc
 
-pub grants : (p : PassState) (o : Option Op) (cell : Option Cell) (map : KnownPages) → KeepsTurn p o cell map
+pub grants : (p : PassState) (o : Option Op) (cell : Option Cell) (map : KnownPages) → IsTurnWithMap p o cell map
     → IsEnabledTo p step.Grant → Grants p o cell
 grants p o cell map t on =
     let c : Config = p.table.config in
@@ -254,7 +254,7 @@ grants p o cell map t on =
 
 -- The value is the one that the event stores.
 pub grant_access : (p : PassState) (o : Option Op) (cell : Option Cell) (map : KnownPages) (config : Config)
-    (base address : ℕ) → KeepsTurn p o cell map → IsEnabledTo p step.Grant → config ≡ p.table.config
+    (base address : ℕ) → IsTurnWithMap p o cell map → IsEnabledTo p step.Grant → config ≡ p.table.config
     → base ≡ cell_base config o cell → address ≡ address_of base % 2 ^ 64
     → Store address ≡ access p.table.config (now_of p) (event_of p step.Grant)
 grant_access p o cell map config base address t on config_is base_is address_is =

@@ -15,25 +15,25 @@ use Rattle.mk_core.specs.History.{World, IsHistory, calls, call_decided, first_w
 use Rattle.mk_core.specs.Moments.{Moment, flight_of}
 use Rattle.mk_core.specs.Words.{Words, phase_of}
 use Rattle.mk_core.proofs.Histories.{calls_more, left_more}
-use Rattle.mk_protocol.proofs.OthersCounts.{entry_fulls, fulls_append, fulls_of}
-use Rattle.mk_placement.proofs.TallySteps.{CountsNothing}
+use Rattle.mk_laws.proofs.OthersCounts.{entry_fulls, fulls_append, fulls_of}
+use Rattle.mk_laws.proofs.TallySteps.{CountsNothing}
 use Rattle.mk_geom.proofs.HeldWords.{pages_hold_mapped_words}
 use Rattle.mk_core.specs.declared.seats.Holding.{Holding}
 use Rattle.mk_core.specs.TurnConditions.{held_by_pages}
 use Rattle.mk_core.proofs.Lengths.{histories_keep_lengths}
-use Rattle.mk_protocol.specs.Protocol.{Protocol, has_place}
-use Rattle.mk_protocol.proofs.Known.{known_left}
-use Rattle.mk_layout.specs.SettledPages.{IsSettled, is_freed_unmapped}
-use Rattle.mk_layout.proofs.Before.{Before}
-use Rattle.mk_layout.proofs.Histories.{known_before}
-use Rattle.mk_images.proofs.KnownWorlds.{known_world}
-use Rattle.mk_invariant.specs.Theorems.{OfHistories}
-use Rattle.mk_invariant.proofs.Histories.{histories_keep_the_invariant}
-use Rattle.mk_invariant.proofs.Joined.{told_to_layout}
-use Rattle.mk_invariant.proofs.Theorems.{pages_show_the_storage}
-use Rattle.mk_placement.proofs.FreshSteps.{FreshTold, fresh_told_behind}
-use Rattle.mk_invariant.proofs.Induction.{KeptByEvents, before_it, holds_of_histories}
-use Rattle.mk_placement.proofs.Tallies.{tallies_tell}
+use Rattle.mk_laws.specs.Protocol.{Protocol, has_place}
+use Rattle.mk_laws.proofs.Known.{known_left}
+use Rattle.mk_laws.specs.SettledPages.{IsSettled, is_freed_unmapped}
+use Rattle.mk_laws.proofs.LayoutBefore.{Before}
+use Rattle.mk_laws.proofs.LayoutHistories.{known_before}
+use Rattle.mk_laws.proofs.KnownWorlds.{known_world}
+use Rattle.mk_laws.specs.Theorems.{OfHistories}
+use Rattle.mk_laws.proofs.InvariantHistories.{histories_keep_the_invariant}
+use Rattle.mk_laws.proofs.InvariantJoined.{told_to_layout}
+use Rattle.mk_laws.proofs.InvariantTheorems.{pages_show_the_storage}
+use Rattle.mk_laws.proofs.FreshSteps.{FreshTold, fresh_told_behind}
+use Rattle.mk_laws.proofs.Induction.{KeptByEvents, before_it, holds_of_histories}
+use Rattle.mk_laws.proofs.Tallies.{tallies_tell}
 
 -- (as in the crate that proves what the tallies count, where it is private)
 module _ (c : Config) (es : List Event) (e : Event) (nothing : CountsNothing c (left c es) e) where

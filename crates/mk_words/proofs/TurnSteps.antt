@@ -37,17 +37,17 @@ use Rattle.mk_core.specs.Readings.{Holds}
 use Rattle.mk_core.specs.History.{World, left, IsHistory}
 use Rattle.mk_core.specs.Frames.{HoldsAll, Written}
 use Rattle.mk_core.proofs.Lengths.{histories_keep_lengths}
-use Rattle.mk_protocol.specs.Protocol.{Protocol}
+use Rattle.mk_laws.specs.Protocol.{Protocol}
 use Rattle.mk_core.specs.Counts.{IsTidy, TalliesAreExact, TalliesAreTidy}
 use Rattle.mk_core.specs.Enabled.{IsEnabled}
 use Rattle.mk_core.proofs.Conditions.{meets_enabled}
-use Rattle.mk_placement.proofs.TallySteps.{others_count_nothing}
-use Rattle.mk_placement.proofs.Tallies.{tallies_tell}
+use Rattle.mk_laws.proofs.TallySteps.{others_count_nothing}
+use Rattle.mk_laws.proofs.Tallies.{tallies_tell}
 use Rattle.mk_words.proofs.Tidy.{tidy_part}
 use Rattle.mk_words.proofs.Tallies.{exact_more, counts_tidy_more, free_tallies}
-use Rattle.mk_protocol.proofs.NextSteps.{at_no_take}
-use Rattle.mk_protocol.proofs.SameWords.{Behind, reg_keeps, tally_keeps}
-use Rattle.mk_protocol.proofs.Protocols.{lists_keep_the_protocol}
+use Rattle.mk_laws.proofs.NextSteps.{at_no_take}
+use Rattle.mk_laws.proofs.SameWords.{Behind, reg_keeps, tally_keeps}
+use Rattle.mk_laws.proofs.Protocols.{lists_keep_the_protocol}
 use Rattle.mk_words.specs.Seats.{Has}
 use Rattle.mk_words.specs.States.{PassState, now_of, call_of, world_of, event_of}
 use Rattle.mk_words.specs.Steps.{IsEnabledTo, Makes, moment_of, Finds, Tells}

@@ -1,5 +1,6 @@
 -- A page without a header gets no marks, but by a `mark` of the turn's holder, which comes before its header.
-use Rattle.std.proofs.Common.{◌≡◌, ◌≢◌, ℕ, zero, suc, ◌-◌, Bool, true, false, List, [], ◌∷◌, ◌++◌, length, refl, sym, ◌∙◌}
+use Rattle.std.proofs.Common.{◌≡◌, ◌≢◌, ℕ, zero, suc, ◌-◌, Bool, true, false, List, [], ◌∷◌, ◌++◌, length, refl, sym}
+use Rattle.std.proofs.Common.{◌∙◌}
 use Rattle.std.proofs.Common.{ap, subst, inl, inr, arith}
 use Rattle.std.specs.Prelude.{◌^◌, ◌&&◌, ◌==◌, Option, Some, None, is_some, is_none, not, slice_index, slice_set}
 use Rattle.std.specs.Prelude.{if◌then◌else◌}
@@ -35,16 +36,16 @@ use Rattle.mk_core.proofs.Conditions.{enabled_meets}
 use Rattle.mk_core.proofs.Histories.{last_enabled}
 use Rattle.mk_core.proofs.HistoryParts.{earlier_part_is_history}
 use Rattle.mk_core.proofs.PointedPages.{found_under, lies_under}
-use Rattle.mk_protocol.proofs.Actors.{Actor, AsHolder, AsMarker, CallTakes, HostTakes, InCallOf, Meets}
-use Rattle.mk_protocol.proofs.IdleMarkers.{work_attends}
-use Rattle.mk_protocol.proofs.Known.{Known, known_left}
-use Rattle.mk_protocol.proofs.OrderlyLists.{actor_of}
-use Rattle.mk_protocol.proofs.SameWords.{Behind}
-use Rattle.mk_protocol.proofs.Views.{HoldsTurn, view_of}
-use Rattle.mk_guard.specs.Guard.{IsMarking, MarkerStands}
-use Rattle.mk_guard.proofs.Changes.{Table, reg_table, tally_table}
-use Rattle.mk_invariant.proofs.Histories.{histories_keep_the_invariant}
-use Rattle.mk_readings.proofs.Stands.{headers_and_quarantine_tell}
+use Rattle.mk_laws.proofs.Actors.{Actor, AsHolder, AsMarker, CallTakes, HostTakes, InCallOf, Meets}
+use Rattle.mk_laws.proofs.IdleMarkers.{work_attends}
+use Rattle.mk_laws.proofs.Known.{Known, known_left}
+use Rattle.mk_laws.proofs.OrderlyLists.{actor_of}
+use Rattle.mk_laws.proofs.SameWords.{Behind}
+use Rattle.mk_laws.proofs.Views.{HoldsTurn, view_of}
+use Rattle.mk_laws.specs.Guard.{IsMarking, MarkerStands}
+use Rattle.mk_laws.proofs.Changes.{Table, reg_table, tally_table}
+use Rattle.mk_laws.proofs.InvariantHistories.{histories_keep_the_invariant}
+use Rattle.mk_laws.proofs.ReadingsStands.{headers_and_quarantine_tell}
 use Rattle.mk_words.specs.PageMaps.{HasNoMarks}
 
 -- a `mark` of the turn's holder

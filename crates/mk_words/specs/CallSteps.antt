@@ -12,8 +12,8 @@ use Rattle.mk_words.specs.Steps.{Makes, found_by}
 abbrev pub register_of : PassState → ℕ → ℕ
 register_of p r = register_word (now_of p).words (caller_number p.seat) r
 
-abbrev pub KeepsRegisters : PassState → PassState → Type 0
-KeepsRegisters p q = (r : ℕ) → r < 8 → register_of q r ≡ register_of p r
+abbrev pub LeavesRegisters : PassState → PassState → Type 0
+LeavesRegisters p q = (r : ℕ) → r < 8 → register_of q r ≡ register_of p r
 
 -- but for one
 abbrev pub KeepsOtherRegisters : ℕ → PassState → PassState → Type 0

@@ -93,8 +93,8 @@ abbrev pub adds : Event → TableStep KnownPages → Mine → ℕ → Mine → T
 adds e st m found n = (n.1 ≡ m.1) × Adds e m.0 found n.0
 
 -- A store isn't told what it finds.
-abbrev pub stores : Event → TableStep KnownPages → Mine → ℕ → Mine → Type 0
-stores e st m stored n = (found : ℕ) × adds e st m found n
+abbrev pub stores_word : Event → TableStep KnownPages → Mine → ℕ → Mine → Type 0
+stores_word e st m stored n = (found : ℕ) × adds e st m found n
 
 -- A look takes in what came by a join, and all events so far.
 pub record Settles (v w : View) : Type 0 where

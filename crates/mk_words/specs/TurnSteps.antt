@@ -107,7 +107,7 @@ KnowsCell p cell = (x : Place) → (now_of p).seats.holding.placing ≡ Used x
 
 -- The pass's seat holds the turn, for this operation, and knows the cell that it has taken. Its map shows what is left
 -- after all that the pass has seen.
-pub record KeepsTurn (p : PassState) (o : Option Op) (cell : Option Cell) (map : KnownPages) : Type 0 where
+pub record IsTurnWithMap (p : PassState) (o : Option Op) (cell : Option Cell) (map : KnownPages) : Type 0 where
   pub turn : IsTurn p o
   pub knows : KnowsCell p cell
   pub shows : IsMapOf map (now_of p).words

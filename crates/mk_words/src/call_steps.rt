@@ -11,7 +11,7 @@ ghost use Rattle.mk_core.specs.Calls.{progress_reg, progress_read, progress_getg
 ghost use Rattle.mk_core.specs.Effects.{progress_probe};
 ghost use Rattle.mk_words.specs.States.{call_of};
 ghost use Rattle.mk_words.specs.Steps.{IsEnabledTo, IsAdmittedTo, Finds, Goes};
-ghost use Rattle.mk_words.specs.CallSteps.{register_of, KeepsRegisters, KeepsOtherRegisters, FindsHeld};
+ghost use Rattle.mk_words.specs.CallSteps.{register_of, LeavesRegisters, KeepsOtherRegisters, FindsHeld};
 
 use crate::passes::Pass;
 use crate::words::Words;
@@ -31,7 +31,7 @@ impl Pass {
             (Goes self.old (step.Enter op) (record { flight = begun op; answer = None }) self.new) }
         ensures held { OnErr result (FindsHeld self.old op self.new) }
         ensures stays { OnErr result (Goes self.old (step.Enter op) (still (call_of self.old)) self.new) }
-        ensures registers { KeepsRegisters self.old self.new }
+        ensures registers { LeavesRegisters self.old self.new }
     {
         let gate = TableWord::Named(Word::Gate(self.caller()));
         let found = self.perform(
@@ -48,7 +48,7 @@ impl Pass {
         requires one_table { self.old.table ≡ words.now }
         requires enabled { IsEnabledTo self.old step.Leave }
         ensures goes { Goes self.old step.Leave (record { flight = at_rest; answer = None }) self.new }
-        ensures registers { KeepsRegisters self.old self.new }
+        ensures registers { LeavesRegisters self.old self.new }
     {
         let gate = TableWord::Named(Word::Gate(self.caller()));
         self.perform(words, Step::Leave, gate, Access::Store(0));
@@ -65,7 +65,7 @@ impl Pass {
         ensures goes { Goes self.old step.Reg
             (progress_reg (call_of self.old) (call_of self.old).stage result) self.new }
         ensures own { result ≡ register_of self.old r }
-        ensures registers { KeepsRegisters self.old self.new }
+        ensures registers { LeavesRegisters self.old self.new }
     {
         let register = TableWord::Named(Word::Reg {
             caller: self.caller(),
@@ -100,7 +100,7 @@ impl Pass {
         requires page { page ≡ page_met (call_of self.old) }
         ensures finds { Finds self.old step.Probe result self.new }
         ensures goes { Goes self.old step.Probe (progress_probe (call_of self.old) result) self.new }
-        ensures registers { KeepsRegisters self.old self.new }
+        ensures registers { LeavesRegisters self.old self.new }
     {
         let header = TableWord::Named(Word::Head(page));
         self.perform(words, Step::Probe, header, Access::Load)
@@ -115,7 +115,7 @@ impl Pass {
         ensures finds { Finds self.old step.Read result self.new }
         ensures goes { Goes self.old step.Read
             (progress_read (call_of self.old) (call_of self.old).op result) self.new }
-        ensures registers { KeepsRegisters self.old self.new }
+        ensures registers { LeavesRegisters self.old self.new }
     {
         let heap = TableWord::Named(Word::Heap(word));
         self.perform(words, Step::Read, heap, Access::Load)
@@ -129,7 +129,7 @@ impl Pass {
         requires word { word ≡ word_met (call_of self.old) }
         requires value { v ≡ value_written (call_of self.old) (call_of self.old).op }
         ensures goes { Goes self.old step.Write (onward (call_of self.old) (Some answer.Done)) self.new }
-        ensures registers { KeepsRegisters self.old self.new }
+        ensures registers { LeavesRegisters self.old self.new }
     {
         let heap = TableWord::Named(Word::Heap(word));
         self.perform(words, Step::Write, heap, Access::Store(v));
@@ -144,7 +144,7 @@ impl Pass {
         requires expected { expected ≡ (call_of self.old).p }
         requires new { new ≡ (call_of self.old).r }
         ensures goes { Goes self.old step.Cas (onward (call_of self.old) (Some (answer.Num (one_if result)))) self.new }
-        ensures registers { KeepsRegisters self.old self.new }
+        ensures registers { LeavesRegisters self.old self.new }
     {
         let heap = TableWord::Named(Word::Heap(word));
         let found = self.perform(
@@ -164,7 +164,7 @@ impl Pass {
         requires global { g ≡ g_of (call_of self.old).op }
         ensures finds { Finds self.old step.Getg result self.new }
         ensures goes { Goes self.old step.Getg (progress_getg (call_of self.old) result) self.new }
-        ensures registers { KeepsRegisters self.old self.new }
+        ensures registers { LeavesRegisters self.old self.new }
     {
         let global = TableWord::Named(Word::Global(g as u64));
         self.perform(words, Step::Getg, global, Access::Load)
@@ -178,7 +178,7 @@ impl Pass {
         requires global { g ≡ g_of (call_of self.old).op }
         requires value { v ≡ (call_of self.old).p }
         ensures goes { Goes self.old step.Setg (onward (call_of self.old) (Some answer.Done)) self.new }
-        ensures registers { KeepsRegisters self.old self.new }
+        ensures registers { LeavesRegisters self.old self.new }
     {
         let global = TableWord::Named(Word::Global(g as u64));
         self.perform(words, Step::Setg, global, Access::Store(v));
@@ -190,7 +190,7 @@ impl Pass {
         requires enabled { IsEnabledTo self.old step.Dirty }
         requires page { page ≡ page_met (call_of self.old) }
         ensures goes { Goes self.old step.Dirty (onward (call_of self.old) None) self.new }
-        ensures registers { KeepsRegisters self.old self.new }
+        ensures registers { LeavesRegisters self.old self.new }
     {
         let dirty = TableWord::Named(Word::Dirty(page));
         self.perform(words, Step::Dirty, dirty, Access::Store(1));

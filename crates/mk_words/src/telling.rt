@@ -35,9 +35,9 @@ pub struct Put<J> {
 }
 
 impl<J: Making> Play<MapHome, View> for Put<J> {
-    ghost use Rattle.mk_words.specs.Rule.{stores};
+    ghost use Rattle.mk_words.specs.Rule.{stores_word};
 
-    ghost then = { stores J.event };
+    ghost then = { stores_word J.event };
 }
 
 /// The step that takes the turn, and the page map with it.

@@ -34,11 +34,11 @@ impl Model for Turn {
 
     ghost Value = { TurnState };
 
-    ghost use Rattle.mk_words.specs.TurnSteps.{KeepsTurn};
+    ghost use Rattle.mk_words.specs.TurnSteps.{IsTurnWithMap};
 
     ghost view = { λ t. record { pass = t.pass; op = t.op } };
 
-    ghost invariant = { λ t. KeepsTurn t.pass t.op t.cell t.map.value };
+    ghost invariant = { λ t. IsTurnWithMap t.pass t.op t.cell t.map.value };
 }
 
 /// Another seat has the turn, by its number: a caller's own, or for the host the number of callers.

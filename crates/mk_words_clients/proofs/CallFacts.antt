@@ -20,7 +20,7 @@ use Rattle.mk_core.specs.Order.{group_of, comes_next}
 use Rattle.mk_core.specs.Ranges.{is_in_range}
 use Rattle.mk_words.specs.States.{PassState, WordsState, event_of}
 use Rattle.mk_words.specs.Steps.{IsEnabledTo, IsAdmittedTo, Makes, Goes}
-use Rattle.mk_words_clients.specs.Clients.{IsCallers, IsIn, StaysAdmitted}
+use Rattle.mk_words_clients.specs.Clients.{IsCallers, IsMidCall, StaysAdmitted}
 use Rattle.mk_words_clients.proofs.Admitting.{op_step}
 use Rattle.mk_words_clients.proofs.Enabling.{call_step}
 
@@ -38,7 +38,7 @@ pub stays_on : (p q : PassState) (s : Step) (o : Op) → Makes p s q → StaysAd
 stays_on p q s o m stays =
     subst (λ (x : PassState). StaysAdmitted x o) (sym m.is) (behind p m.others (event_of p s) o stays)
 
-pub admitted_now : (p : PassState) (o : Op) (f : Flight) (s : Step) → IsIn p o f → f.op ≡ o
+pub admitted_now : (p : PassState) (o : Op) (f : Flight) (s : Step) → IsMidCall p o f → f.op ≡ o
     → IsHistory p.table.config p.seen → ((a : Answer) → flagged o a ≡ o) → IsAdmittedTo p s
 admitted_now p o f s i op_is h plain =
     let c : Config = p.table.config in
@@ -48,13 +48,13 @@ admitted_now p o f s i op_is h plain =
     op_step p s h (λ a. subst (λ (x : Op). IsAdmitted c.globals (never_behind c p.seen) (caller_number p.seat) x)
     (sym (ap (λ (y : Op). flagged y a) (ap (λ (y : Flight). y.op) i.call ∙ op_is) ∙ plain a)) here)
 
-pub next_may : (p : PassState) (o : Op) (f : Flight) (s : Step) → IsIn p o f → group_of s ≡ group.Callers
+pub next_may : (p : PassState) (o : Op) (f : Flight) (s : Step) → IsMidCall p o f → group_of s ≡ group.Callers
     → comes_next f.stage f.op s ≡ true
     → ((k : ℕ) → is_in_range p.table.config (Caller k) f s ≡ true) → IsEnabledTo p s
 next_may p o f s i kind next range = call_step p s i.number f i.seat i.within i.call kind next (range i.number)
 
-pub goes_on : (p q : PassState) (s : Step) (x : Progress) (o : Op) (f g : Flight) → IsIn p o f → Goes p s x q
-    → x.flight ≡ g → IsIn q o g
+pub goes_on : (p q : PassState) (s : Step) (x : Progress) (o : Op) (f g : Flight) → IsMidCall p o f → Goes p s x q
+    → x.flight ≡ g → IsMidCall q o g
 goes_on p q s x o f g i goes is =
     record {
       number = i.number;
@@ -66,7 +66,7 @@ goes_on p q s x o f g i goes is =
     }
 
 pub enters : (p q : PassState) (o : Op) → IsCallers p → StaysAdmitted p o
-    → Goes p (step.Enter o) (record { flight = begun o; answer = None }) q → IsIn q o (begun o)
+    → Goes p (step.Enter o) (record { flight = begun o; answer = None }) q → IsMidCall q o (begun o)
 enters p q o i stays goes =
     record {
       number = i.number;
@@ -77,7 +77,7 @@ enters p q o i stays goes =
       admitted = stays_on p q (step.Enter o) o goes.makes stays;
     }
 
-pub ends : (p q : PassState) (o : Op) (f : Flight) → IsIn p o f
+pub ends : (p q : PassState) (o : Op) (f : Flight) → IsMidCall p o f
     → Goes p step.Leave (record { flight = at_rest; answer = None }) q → IsCallers q
 ends p q o f i goes =
     record {

@@ -22,7 +22,7 @@ use Rattle.mk_core.specs.Ranges.{has_phase, is_in_range, has_gates}
 use Rattle.mk_core.specs.Effects.{moment_behind}
 use Rattle.mk_core.specs.History.{World, world_behind, left}
 use Rattle.mk_core.specs.Frames.{Steady, steady_of, CountsAreLeft}
-use Rattle.mk_protocol.proofs.Asked.{none_held}
+use Rattle.mk_laws.proofs.Asked.{none_held}
 use Rattle.mk_words.specs.States.{PassState, now_of, world_of}
 use Rattle.mk_words.specs.TurnSteps.{world_at, Acts}
 use Rattle.mk_words.proofs.TurnSteps.{all_from}
@@ -35,7 +35,7 @@ use Rattle.mk_core.specs.NewPlaces.{is_run_gone}
 use Rattle.mk_core.specs.Cycles.{is_end}
 use Rattle.mk_core.specs.Counts.{TalliesAreTidy, in_a_word, releases}
 use Rattle.mk_core.proofs.Conditions.{meets_enabled}
-use Rattle.mk_placement.proofs.TallySteps.{CountsNothing}
+use Rattle.mk_laws.proofs.TallySteps.{CountsNothing}
 use Rattle.mk_words.specs.Steps.{IsEnabledTo}
 use Rattle.mk_words.proofs.Tallies.{counts_tidy_more}
 use Rattle.mk_words.specs.Opening.{OthersMayOpen}

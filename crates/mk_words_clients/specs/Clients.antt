@@ -68,7 +68,7 @@ abbrev pub IsAt : PassState → ℕ → ℕ → ℕ → ℕ → Type 0
 IsAt p page k next end = (marker_in p).scan ≡ Some (record { page = page; index = k; next = next; end = end })
 
 -- A caller is in a call of the operation, which is here, and stays admitted.
-pub record IsIn (p : PassState) (o : Op) (f : Flight) : Type 0 where
+pub record IsMidCall (p : PassState) (o : Op) (f : Flight) : Type 0 where
   pub number : ℕ
   pub seat : p.seat ≡ Caller number
   pub within : number < p.table.config.callers

@@ -2,7 +2,7 @@
 ghost use Rattle.std.specs.Prelude.{◌≡◌, ℕ, ◌+◌, ◌<◌, ◌^◌, ◌++◌, [], ◌∷◌, length, IfOk, OnOk};
 ghost use Rattle.mk_check.specs.declared.feeding.instructions.Element.TheVariants as element;
 ghost use Rattle.mk_check.specs.Blocks.{blocks_from};
-ghost use Rattle.mk_check.specs.Steps.{Done, steps_of};
+ghost use Rattle.mk_check.specs.Steps.{Done, numbered};
 ghost use Rattle.mk_check.specs.NamesInScope.{HasFew};
 ghost use Rattle.mk_check.specs.Trees.{IsBelow, steps_at, trees};
 
@@ -40,7 +40,7 @@ impl Model for Builder {
 }
 
 impl Builder {
-    ghost use Rattle.mk_check.specs.Building.{Built, IsSound, parts_in, with_part, with_node_and_part, AddsLine};
+    ghost use Rattle.mk_check.specs.Building.{Built, IsSoundlyBuilt, parts_in, with_part, with_node_and_part, AddsLine};
     ghost use Rattle.mk_check.specs.Building.{innermost_steps};
 
     fn put(&mut self, part: Part) -> Result<(), NoMemory>
@@ -61,7 +61,7 @@ impl Builder {
 
     /// No lines.
     pub fn start(alloc: Global) -> Result<Builder, NoMemory>
-        ensures sound { IfOk result (λ b. IsSound b) }
+        ensures sound { IfOk result (λ b. IsSoundlyBuilt b) }
         ensures parts { IfOk result (λ b. parts_in b ≡ record { steps = Done; second = Done } ∷ []) }
     {
         let mut builder = Builder {
@@ -73,7 +73,7 @@ impl Builder {
     }
 
     fn add_line(&mut self, line: u64, instruction: Instruction) -> Result<(), NoMemory>
-        requires { IsSound self.old }
+        requires { IsSoundlyBuilt self.old }
         ensures { OnOk result (AddsLine line (element.Line instruction) self.old self.new) }
     {
         let Some(part) = self.parts.pop() else {
@@ -88,7 +88,7 @@ impl Builder {
     }
 
     fn add_repeat(&mut self, rounds: u64) -> Result<(), NoMemory>
-        requires { IsSound self.old }
+        requires { IsSoundlyBuilt self.old }
         ensures { OnOk result ((line : ℕ) → AddsLine line (element.Repeat rounds) self.old self.new) }
     {
         let Some(body) = self.parts.pop() else {
@@ -106,7 +106,7 @@ impl Builder {
     }
 
     fn add_if(&mut self, number: usize) -> Result<(), NoMemory>
-        requires { IsSound self.old }
+        requires { IsSoundlyBuilt self.old }
         ensures { OnOk result ((line : ℕ) → AddsLine line (element.If number) self.old self.new) }
     {
         let Some(branches) = self.parts.pop() else {
@@ -125,7 +125,7 @@ impl Builder {
     }
 
     fn add_else(&mut self) -> Result<(), NoMemory>
-        requires { IsSound self.old }
+        requires { IsSoundlyBuilt self.old }
         ensures { OnOk result ((line : ℕ) → AddsLine line element.Else self.old self.new) }
     {
         let Some(branch) = self.parts.pop() else {
@@ -138,7 +138,7 @@ impl Builder {
     }
 
     fn add_end(&mut self) -> Result<(), NoMemory>
-        requires { IsSound self.old }
+        requires { IsSoundlyBuilt self.old }
         ensures { OnOk result ((line : ℕ) → AddsLine line element.End self.old self.new) }
     {
         self.put(Part {
@@ -149,7 +149,7 @@ impl Builder {
 
     /// Adds a line before those that were added.
     pub fn add(&mut self, line: u64, element: Element) -> Result<(), NoMemory>
-        requires { IsSound self.old }
+        requires { IsSoundlyBuilt self.old }
         ensures { OnOk result (AddsLine line element self.old self.new) }
     {
         match element {
@@ -163,7 +163,7 @@ impl Builder {
 
     /// The tree, and the node of its first line.
     pub fn finish(self) -> (Tree, usize)
-        requires { IsSound self }
+        requires { IsSoundlyBuilt self }
         ensures steps { steps_at (trees result.0) result.1 ≡ innermost_steps (parts_in self) }
         ensures within { result.1 < length result.0 }
     {
@@ -186,7 +186,7 @@ pub fn tree_of(
 ) -> Result<(Tree, usize), NoMemory>
     requires few { HasFew names.now }
     requires lines { line + length items.now < 2 ^ 64 }
-    ensures steps { IfOk result (λ t. steps_at (trees t.0) t.1 ≡ steps_of names.now (blocks_from line items.now)) }
+    ensures steps { IfOk result (λ t. steps_at (trees t.0) t.1 ≡ numbered names.now (blocks_from line items.now)) }
     ensures within { IfOk result (λ t. t.1 < length t.0) }
 {
     let mut builder = Builder::start(alloc)?;

@@ -2,7 +2,7 @@
 ghost use Rattle.std.specs.Prelude.{◌≡◌, ◌+◌, ◌<◌, ◌≤◌, ◌^◌, length, map, IfOk};
 ghost use Rattle.std.specs.Option.{option_copied};
 ghost use Rattle.mk_check.specs.Declarations.{number_of_name};
-ghost use Rattle.mk_check.specs.NamesInScope.{declared_name, names_of, now_of};
+ghost use Rattle.mk_check.specs.NamesInScope.{declared_name, names_of, referred_names};
 ghost use Rattle.mk_check.specs.Feed.{scope_of};
 ghost use Rattle.mk_check.specs.Steps.{instruction_of, number_place};
 
@@ -35,7 +35,7 @@ fn declared(sort: Sort, item: &Item) -> Option<&Name>
 
 /// The names of a sort, in the order of their lines.
 fn names_among(alloc: Global, sort: Sort, items: &[Item]) -> Result<Vec<&Name>, NoMemory>
-    ensures { IfOk result (λ names. now_of names.items ≡ names_of sort items.now) }
+    ensures { IfOk result (λ names. referred_names names.items ≡ names_of sort items.now) }
 {
     let mut names = Vec::new(alloc);
     for item in items {
@@ -48,7 +48,7 @@ fn names_among(alloc: Global, sort: Sort, items: &[Item]) -> Result<Vec<&Name>, 
 
 /// The place of a name among these; their count, where it isn't among them.
 fn number_of_name(names: &[&Name], name: &Name) -> usize
-    ensures value { result ≡ number_of_name name.now (now_of names.now) }
+    ensures value { result ≡ number_of_name name.now (referred_names names.now) }
     ensures within { result ≤ length names.now }
 {
     for (index, other) in names.iter().enumerate() {
@@ -70,15 +70,15 @@ pub struct Names<'a> {
 
 impl<'a> Model for Names<'a> {
     ghost use Rattle.mk_check.specs.Feed.{Scope};
-    ghost use Rattle.mk_check.specs.NamesInScope.{now_of};
+    ghost use Rattle.mk_check.specs.NamesInScope.{referred_names};
 
     ghost Value = { Scope };
 
     ghost view = { λ n. record {
-      types = now_of n.types.items;
-      globals = now_of n.globals.items;
-      pointers = now_of n.pointers.items;
-      numbers = now_of n.numbers.items;
+      types = referred_names n.types.items;
+      globals = referred_names n.globals.items;
+      pointers = referred_names n.pointers.items;
+      numbers = referred_names n.numbers.items;
     } };
 }
 

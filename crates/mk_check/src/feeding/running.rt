@@ -4,7 +4,7 @@ ghost use Rattle.std.specs.Prelude.{slice_set, take};
 ghost use Rattle.std.specs.Prelude.{IsTrue, IfOk, OnOk, OnErr, is_some, replicate, codes};
 ghost use Rattle.mk_check.specs.Feed.{newline, answered_number};
 ghost use Rattle.mk_check.specs.Steps as steps;
-ghost use Rattle.mk_check.specs.Trees.{kept_in, with_kept, IsWithin, place_in_rounds};
+ghost use Rattle.mk_check.specs.Trees.{kept_in, with_kept, PlaceIsWithin, place_in_rounds};
 ghost use Rattle.mk_check.specs.Trees.{innermost, place_in_branch};
 ghost use Rattle.mk_check.specs.Trees.{LeavesBlock, MovesOn, HasStopped};
 ghost use Rattle.mk_check.specs.declared.feeding.tree.Frame.TheVariants as frame;
@@ -306,7 +306,7 @@ impl Running {
 
     /// Moves on, unless it is at an operation or at the end.
     fn step(&mut self, alloc: Global, tree: &Tree) -> Result<bool, NoMemory>
-        requires { IsWithin (length tree.now) self.old }
+        requires { PlaceIsWithin (length tree.now) self.old }
         ensures goes_on { IfOk result (λ more. IsTrue more → MovesOn tree.now self.old self.new) }
         ensures stops { IfOk result (λ more. more ≡ false → HasStopped tree.now self.old self.new) }
     {
@@ -342,7 +342,7 @@ impl Running {
 
     /// Runs on to the next operation, or to the end.
     pub fn run(&mut self, alloc: Global, tree: &Tree) -> Result<(), NoMemory>
-        requires { IsWithin (length tree.now) self.old }
+        requires { PlaceIsWithin (length tree.now) self.old }
         ensures { OnOk result (HasStopped tree.now self.old self.new) }
     {
         while self.step(alloc, tree)? {}

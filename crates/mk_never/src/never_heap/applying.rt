@@ -1,6 +1,6 @@
 //! Operations on the heap that never reuses storage, one by one.
 ghost use Rattle.std.specs.Prelude.{◌≡◌, false, IsTrue, IfOk, OnOk, OnErr};
-ghost use Rattle.mk_never.specs.NeverHeap.{reply_of, after_op, is_granted};
+ghost use Rattle.mk_never.specs.NeverHeap.{reply_of, after_op, grants_object};
 ghost use Rattle.mk_never.specs.Admitted.{IsCaller, OperandsAreInRange, AccessIsAdmitted};
 
 use super::{NeverHeap, NoMemory, are_same, bit_of, number_in};
@@ -16,7 +16,7 @@ impl NeverHeap {
         ensures reply { IfOk result (λ reply. reply ≡ reply_of self.old caller op) }
         ensures left { OnOk result (self.new ≡ after_op self.old caller op) }
         ensures unchanged { OnErr result (self.new ≡ self.old) }
-        ensures no_memory { OnErr result (IsTrue (is_granted op)) }
+        ensures no_memory { OnErr result (IsTrue (grants_object op)) }
     {
         match op {
             Op::New { d, ty, full } => self.new_object(caller, d, ty, full),

@@ -7,7 +7,7 @@ use Rattle.mk_caller.specs.States.{CallerState}
 use Rattle.mk_cycle.proofs.Allowed.{in_turn}
 use Rattle.mk_waiting.specs.Taking.{TakesTurn}
 use Rattle.mk_alloc.specs.TurnCalls.{FreesObject, IsAnsweredDouble}
-use Rattle.mk_alloc.specs.Underway.{GoesOn}
+use Rattle.mk_alloc.specs.Underway.{TurnGoesOn}
 use Rattle.mk_alloc.proofs.CalledTurns.{taken_same}
 use Rattle.mk_alloc.proofs.FreedTurns.{freed_on, frees_object, is_answered_double, unloaded}
 use Rattle.mk_alloc.proofs.TakenTurns.{callers}
@@ -46,7 +46,8 @@ done g c = let i = c.is_in_order-in-Ok-2.ensures in in_turn c.run_if_due-turn.re
 
 on : (g : _) (c : After-is_in_order-in-Ok-2 g)
     → TakesTurn c.args.caller.now.pass (Some (op.Free c.args.p)) c.take-turn.result.pass
-    → InTurn c.take-turn.result.pass → GoesOn (Some answer.Done) c.take-turn.result.pass c.run_if_due-turn.result.pass
+    → InTurn c.take-turn.result.pass
+    → TurnGoesOn (Some answer.Done) c.take-turn.result.pass c.run_if_due-turn.result.pass
 on g c takes taken =
     freed_on g.E.Engine.on c.in-Ok.freed.due c.args.caller.now.pass c.take-turn.result.pass
     c.retire_object.new.turn.pass c.run_if_due-turn.result.pass c.run_if_due-turn.result.pass c.args.p

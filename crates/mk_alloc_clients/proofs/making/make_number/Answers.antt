@@ -12,7 +12,7 @@ use Rattle.mk_alloc.proofs.NewTurns.{begun_unplaced}
 use Rattle.mk_alloc.proofs.QuietTurns.{give_allowed}
 use Rattle.mk_alloc_clients.specs.Owned.{HasNumber}
 use Rattle.mk_alloc_clients.proofs.MadeCalls.{begins, goes_on, made_in_turn, made_owns, may_take}
-use Rattle.mk_alloc.specs.Underway.{GoesOn}
+use Rattle.mk_alloc.specs.Underway.{TurnGoesOn}
 use Rattle.mk_alloc_clients.proofs.making.make_number.Goals as goal
 use Rattle.mk_alloc_clients.proofs.making.make_number.Goals.{After-is_in_order, After-is_in_order-in-Ok}
 use Rattle.mk_alloc_clients.proofs.making.make_number.Goals.{After-is_in_order-in-Ok-2}
@@ -45,7 +45,7 @@ place_number-requires-clause-unplaced c =
 -- the object was placed
 on : (c : After-is_in_order-in-Ok)
     → Finds c.args.caller.now.pass (step.Take (Some (op.New c.args.d c.args.ty false))) 0 c.in-Ok.turn.pass
-    → GoesOn (Some answer.Done) c.in-Ok.turn.pass c.place_number.new.turn.pass
+    → TurnGoesOn (Some answer.Done) c.in-Ok.turn.pass c.place_number.new.turn.pass
 on c finds =
     let e = c.in-Ok.ensures in
     let i = c.is_in_order.ensures in

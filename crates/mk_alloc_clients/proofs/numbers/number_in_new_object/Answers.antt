@@ -1,6 +1,6 @@
 use Rattle.std.proofs.Common.{◌++◌, true, ◌∙◌, ap}
 use Rattle.mk_words.specs.States.{PassState}
-use Rattle.mk_caller.specs.States.{number_of}
+use Rattle.mk_caller.specs.States.{caller_of_pass}
 use Rattle.mk_caller.specs.Called.{own_calls}
 use Rattle.mk_alloc_clients.specs.Making.{store_then_load}
 use Rattle.mk_alloc_clients.proofs.OwnedCalls.{done_behind, entry_now}
@@ -13,7 +13,7 @@ returns-in-Ok-store_and_load-clause-did c =
     let q : PassState = c.store_and_load.new.caller.pass in
     let called = c.in-Ok.ensures.made true in
     done_behind (own_calls p p.seen) (own_calls b b.seen) (own_calls q q.seen) _
-    (store_then_load (number_of p) c.args.d c.args.n) (entry_now p b called.more _ called.is called.entry)
+    (store_then_load (caller_of_pass p) c.args.d c.args.n) (entry_now p b called.more _ called.is called.entry)
     (c.in-Ok-store_and_load.ensures.did
     ∙ ap (λ k. own_calls b b.seen ++ store_then_load k c.args.d c.args.n)
-    (ap (λ (r : PassState). number_of r) called.is))
+    (ap (λ (r : PassState). caller_of_pass r) called.is))

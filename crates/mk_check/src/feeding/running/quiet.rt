@@ -2,7 +2,7 @@
 ghost use Rattle.std.specs.Prelude.{◌≡◌, ◌<◌, length, true, false, IsTrue};
 ghost use Rattle.mk_check.specs.Steps as steps;
 ghost use Rattle.mk_check.specs.Steps.{asks_first};
-ghost use Rattle.mk_check.specs.Trees.{kept_in, with_kept, IsWithin, resumed_node, steps_at, trees};
+ghost use Rattle.mk_check.specs.Trees.{kept_in, with_kept, PlaceIsWithin, resumed_node, steps_at, trees};
 ghost use Rattle.mk_check.specs.Trees.{MovesOn, MovesToOp, HasStopped};
 
 use crate::feeding::instructions::Instruction;
@@ -49,7 +49,7 @@ impl Running {
     /// Leaves the block that ends here, if one does.
     #[inline(always)]
     fn resume(&mut self, tree: &Tree)
-        requires within { IsWithin (length tree.now) self.old }
+        requires within { PlaceIsWithin (length tree.now) self.old }
         requires first { asks_first (steps_at (trees tree.now) (resumed_node tree.now self.old)) ≡ true }
         ensures { MovesToOp tree.now self.old self.new }
     {
@@ -63,7 +63,7 @@ impl Running {
 
     /// Runs a line, unless it asks for an operation.
     fn step_to_op(&mut self, tree: &Tree) -> bool
-        requires within { IsWithin (length tree.now) self.old }
+        requires within { PlaceIsWithin (length tree.now) self.old }
         requires first { asks_first (steps_at (trees tree.now) self.old.at) ≡ true }
         ensures goes_on { IsTrue result → MovesOn tree.now self.old self.new }
         ensures first { IsTrue result → asks_first (steps_at (trees tree.now) self.new.at) ≡ true }
@@ -87,7 +87,7 @@ impl Running {
 
     /// Runs to the operation that comes first.
     fn run_to_op(&mut self, tree: &Tree)
-        requires within { IsWithin (length tree.now) self.old }
+        requires within { PlaceIsWithin (length tree.now) self.old }
         requires first { asks_first (steps_at (trees tree.now) self.old.at) ≡ true }
         ensures { HasStopped tree.now self.old self.new }
     {
@@ -98,7 +98,7 @@ impl Running {
     /// and none begun.
     #[inline(always)]
     fn comes_to_op(&self, tree: &Tree, at: usize) -> bool
-        requires { IsWithin (length tree.now) (record self.now { at = at }) }
+        requires { PlaceIsWithin (length tree.now) (record self.now { at = at }) }
         ensures { result ≡ asks_first (steps_at (trees tree.now)
             (resumed_node tree.now (record self.now { at = at }))) }
     {
@@ -108,7 +108,7 @@ impl Running {
     /// Runs on to that operation. No memory is taken.
     #[inline(always)]
     fn run_on_to_op(&mut self, tree: &Tree)
-        requires within { IsWithin (length tree.now) self.old }
+        requires within { PlaceIsWithin (length tree.now) self.old }
         requires first { asks_first (steps_at (trees tree.now) (resumed_node tree.now self.old)) ≡ true }
         ensures { HasStopped tree.now self.old self.new }
     {
@@ -126,7 +126,7 @@ impl Running {
         instruction: Instruction,
         answer: Answer,
     ) -> bool
-        requires within { IsWithin (length tree.now) (record self.old { at = next }) }
+        requires within { PlaceIsWithin (length tree.now) (record self.old { at = next }) }
         requires silent { steps.is_silent instruction answer ≡ true }
         ensures taken { IsTrue result → HasStopped tree.now (with_kept (record self.old { at = next })
             (steps.after_answer instruction answer (kept_in self.old))) self.new }
@@ -157,7 +157,7 @@ impl Running {
         instruction: Instruction,
         answer: Answer,
     ) -> bool
-        requires within { IsWithin (length tree.now) (record self.old { at = next }) }
+        requires within { PlaceIsWithin (length tree.now) (record self.old { at = next }) }
         requires silent { steps.is_silent instruction answer ≡ true }
         ensures taken { IsTrue result → HasStopped tree.now (with_kept (record self.old { at = next })
             (steps.after_answer instruction answer (kept_in self.old))) self.new }
@@ -180,7 +180,7 @@ impl Running {
         instruction: Instruction,
         answer: Answer,
     ) -> bool
-        requires within { IsWithin (length tree.now) (record self.old { at = next }) }
+        requires within { PlaceIsWithin (length tree.now) (record self.old { at = next }) }
         requires silent { steps.is_silent instruction answer ≡ true }
         ensures taken { IsTrue result → HasStopped tree.now (with_kept (record self.old { at = next })
             (steps.after_answer instruction answer (kept_in self.old))) self.new }

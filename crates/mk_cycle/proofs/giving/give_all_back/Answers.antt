@@ -1,7 +1,7 @@
 use Rattle.std.proofs.Common.{◌<◌, sym, ap, subst}
 use Rattle.mk_words.specs.States.{PassState, WordsState, TurnState}
 use Rattle.mk_cycle.specs.Holding.{HoldsGates}
-use Rattle.mk_cycle.specs.Kinds.{gives_back, holds_gates}
+use Rattle.mk_cycle.specs.Kinds.{is_giving_back, holds_gates}
 use Rattle.mk_cycle.proofs.FreeingSteps.{frees_then}
 use Rattle.mk_cycle.proofs.GivingAll.{all_told, gives_all_back}
 use Rattle.mk_cycle.proofs.SettledPages.{free_cells_stay}
@@ -47,7 +47,7 @@ returns-clause-reached g c none =
     let frees = frees_then r _ q c.open_gates-turn.ensures.opens.frees c.settle_pages-settled.ensures.frees in
     sweeps_then p h q holds.keeps.call.pass (does_sweep holds_gates p h holding_marks_nothing holds.does)
     (sweeps_then h r q c.release_unmarked.ensures.releases.call.pass (c.release_unmarked.ensures.reached none)
-    (does_sweep gives_back r q giving_marks_nothing frees.does))
+    (does_sweep is_giving_back r q giving_marks_nothing frees.does))
 
 pub returns-clause-told_at_close : goal.returns-clause-told_at_close
 returns-clause-told_at_close g c =

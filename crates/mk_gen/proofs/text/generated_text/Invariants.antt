@@ -2,11 +2,11 @@
 use Rattle.std.proofs.Common.{◌≡◌, ◌++◌, drop}
 use Rattle.std.specs.String.{string_bytes}
 use Rattle.mk_gen.specs.Generated.{turns_of, all_names}
-use Rattle.mk_gen.specs.GeneratedText.{script_lines, text_of_lines, generated_text}
+use Rattle.mk_gen.specs.GeneratedText.{lines_of_scripts, text_of_lines, generated_text}
 use Rattle.mk_gen.proofs.text.generated_text.Given as goal
 
 abbrev pub invariant-loop-name : goal.invariant-loop-name
 invariant-loop-name l =
     string_bytes l.text ++ text_of_lines
-    (script_lines (turns_of l.count) l.numbers l.draws (drop l.name-index all_names))
+    (lines_of_scripts (turns_of l.count) l.numbers l.draws (drop l.name-index all_names))
     ≡ generated_text l.start l.count

@@ -4,7 +4,7 @@ use Rattle.mk_core.specs.declared.events.Seat.TheVariants.{Host}
 use Rattle.mk_core.proofs.PhaseTests.{in_word, not_in_word}
 use Rattle.mk_words.specs.Seats.{Has}
 use Rattle.mk_words.specs.States.{PassState}
-use Rattle.mk_cycle.specs.TurnKeeps.{but_phase, whole}
+use Rattle.mk_cycle.specs.TurnKeeps.{but_phase, unchanged}
 use Rattle.mk_cycle.proofs.Allowed.{in_turn}
 use Rattle.mk_cycle.proofs.KeptInParts.{free_then, keeps_less}
 use Rattle.mk_heap.proofs.BeforeOver.{taken_overs}
@@ -67,7 +67,7 @@ returns-then-is_in-clause-idle g c =
     ap (λ (r : PassState). r.seat) (turn_moves c.args.home p t.ensures.takes).is ∙ c.requires.seat in
     let free = fresh_free p t.ensures.fresh in
     let keeps = look_keeps p q turn free c.is_in_order-3.ensures.history c.look-found.ensures.acts in
-    let less = keeps_less whole but_phase p q keeps in
+    let less = keeps_less unchanged but_phase p q keeps in
     finished_idle q c.finish_cycle.result.0.pass (ap (λ (r : PassState). r.seat) keeps.call.pass ∙ seat)
     (free_then p q keeps.call free) c.finish_cycle.ensures.law
     (exact_kept p q less t.ensures.exact) (tidy_kept p q less t.ensures.tidy)

@@ -1,6 +1,6 @@
 use Rattle.std.proofs.Common.{ℕ, ◌<◌, ◌^◌, refl, arith}
 use Rattle.std.specs.Prelude.{slice_index}
-use Rattle.mk_invariant.proofs.Histories.{histories_keep_the_invariant}
+use Rattle.mk_laws.proofs.InvariantHistories.{histories_keep_the_invariant}
 use Rattle.mk_words.specs.States.{PassState, call_of, now_of}
 use Rattle.mk_objects.specs.Retiring.{loaded_free}
 use Rattle.mk_objects.proofs.FreeSteps.{freed_half, freed_word_made, quarantine_may, quarantine_once}

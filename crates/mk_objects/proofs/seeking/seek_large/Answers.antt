@@ -8,7 +8,8 @@ pub overflow_add-resident : goal.overflow_add-resident
 overflow_add-resident c =
     let p : PassState = c.args.turn.now.pass in
     let many : length (now_of p).words.pages ≡ c.args.words.now.config.pages =
-    (histories_keep_lengths p.table.config p.seen).pages ∙ ap (λ (t : WordsState). t.config.pages) c.requires.one_table in
+    (histories_keep_lengths p.table.config p.seen).pages
+    ∙ ap (λ (t : WordsState). t.config.pages) c.requires.one_table in
     omega (
       arith,
       c.resident.ensures,

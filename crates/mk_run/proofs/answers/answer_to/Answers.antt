@@ -7,7 +7,7 @@ use Rattle.mk_run.proofs.ScriptCalls.{stays_admitted_after, type_exists}
 use Rattle.mk_turns.proofs.Sweeping.{sweeps_then}
 use Rattle.mk_alloc.proofs.UnsweptTurns.{calls_sweep_nothing, sweep_nothing_where_held}
 use Rattle.mk_words.specs.States.{PassState}
-use Rattle.mk_caller.specs.States.{number_of}
+use Rattle.mk_caller.specs.States.{caller_of_pass}
 use Rattle.mk_run.proofs.answers.answer_to.Goals as goal
 
 pub new_object-requires-clause-ty : goal.new_object-requires-clause-ty
@@ -43,7 +43,7 @@ call_until_open-requires g c =
     let entered : is_under_turn c.args.op ≡ false = search rules in
     record {
       home = c.call.ensures.home;
-      exists = subst (λ (q : PassState). number_of q < q.table.config.callers) (sym none.is) c.requires.exists;
+      exists = subst (λ (q : PassState). caller_of_pass q < q.table.config.callers) (sym none.is) c.requires.exists;
       entered = entered;
       admitted = stays_admitted_after true p c.args.op c.call.new.caller.pass c.requires.admitted none;
     }

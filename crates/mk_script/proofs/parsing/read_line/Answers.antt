@@ -1,6 +1,6 @@
 use Rattle.std.proofs.Common.{◌≡◌, ◌++◌, ◌∷◌, [], Ok, ◌∙◌, ap, sym, arith}
 use Rattle.mk_script.specs.Lines.{line_of}
-use Rattle.mk_script.specs.Words.{texts_of, words_of}
+use Rattle.mk_script.specs.Words.{texts_of, words_of_line}
 use Rattle.mk_script.proofs.Reading.{is_fresh}
 use Rattle.mk_script.proofs.parsing.read_line.Goals as goal
 
@@ -8,9 +8,10 @@ pub returns : goal.returns
 returns c = λ scope.
     let before = c.args.items.now.items in
     let item = c.in_ok-item.item in
-    let words : words_of c.args.line.now ≡ texts_of c.as_slice.result.now = sym (ap texts_of c.as_slice.ensures.value
+    let words : words_of_line c.args.line.now
+    ≡ texts_of c.as_slice.result.now = sym (ap texts_of c.as_slice.ensures.value
     ∙ c.in_ok-replace_words.ensures) in
-    let is_item : line_of before (words_of c.args.line.now) ≡ Ok item = ap (line_of before) words
+    let is_item : line_of before (words_of_line c.args.line.now) ≡ Ok item = ap (line_of before) words
     ∙ c.in_ok-item.ensures before scope in
     let items_are : c.push.new.self.items ≡ before ++ item ∷ [] = grind arith in
     record {
@@ -18,5 +19,5 @@ returns c = λ scope.
       is_item = is_item;
       items_are = items_are;
       scope_of = rw items_are
-          (c.in_ok-add.ensures before scope (is_fresh before (words_of c.args.line.now) item is_item));
+          (c.in_ok-add.ensures before scope (is_fresh before (words_of_line c.args.line.now) item is_item));
     }

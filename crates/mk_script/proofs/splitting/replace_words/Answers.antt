@@ -8,7 +8,8 @@ pub returns : goal.returns
 returns c =
     let seen = YieldsList-end
     (YieldsList-at c.into_iter-word-iterator.ensures.into_iter_gives
-    (YieldsList-from_slice_split _ (λ byte. byte == 32) c.args.line.now c.split-word-items.ensures.rest c.split-word-items.ensures.done
+    (YieldsList-from_slice_split _
+    (λ byte. byte == 32) c.args.line.now c.split-word-items.ensures.rest c.split-word-items.ensures.done
     c.split-word-items.ensures.closure (λ x b q k. search (rules, tests))))
     c.loop-word.yielded _ c.loop-word.yielded_by _ _ c.in-None.is c.next.ensures.steps in
     c.loop-word.invariant ∙ ap (filter (λ word. not (is_empty word))) seen.0

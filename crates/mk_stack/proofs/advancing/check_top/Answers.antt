@@ -1,7 +1,7 @@
 use Rattle.std.proofs.Common.{Bool, subst, sym, ◌∙◌, arith}
 use Rattle.mk_never.specs.declared.operations.Op.TheVariants as op
 use Rattle.mk_words.specs.States.{PassState}
-use Rattle.mk_caller.specs.States.{never_of, number_of}
+use Rattle.mk_caller.specs.States.{never_of, caller_of_pass}
 use Rattle.mk_caller.specs.Called.{Says}
 use Rattle.mk_stack.proofs.NodeKinds.{may_look}
 use Rattle.mk_stack.proofs.Advances.{pass_state, go_pop_advances, go_push_advances, lack_advances}
@@ -15,7 +15,7 @@ use Rattle.mk_stack.proofs.advancing.check_top.Goals as goal
 pub is_null-null-requires-clause-admitted : goal.is_null-null-requires-clause-admitted
 is_null-null-requires-clause-admitted c =
     let p : PassState = c.args.caller.now.pass in
-    may_look p.table.config.globals (never_of p) (number_of p)
+    may_look p.table.config.globals (never_of p) (caller_of_pass p)
     (pass_state p c.requires.types c.requires.exists c.is_idle.ensures.history) 0 (omega arith)
 
 pub returns-in-Ok-true-clause-advances : goal.returns-in-Ok-true-clause-advances

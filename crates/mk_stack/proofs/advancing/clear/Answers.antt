@@ -1,6 +1,6 @@
 use Rattle.mk_never.specs.declared.operations.Op.TheVariants as op
 use Rattle.mk_words.specs.States.{PassState}
-use Rattle.mk_caller.specs.States.{never_of, number_of}
+use Rattle.mk_caller.specs.States.{never_of, caller_of_pass}
 use Rattle.mk_stack.specs.declared.points.Point.TheVariants.{Ended}
 use Rattle.mk_stack.proofs.Advances.{clear_advances, pass_state}
 use Rattle.mk_stack.proofs.Going.{goes_once}
@@ -11,7 +11,7 @@ use Rattle.mk_stack.proofs.advancing.clear.Goals as goal
 pub clear-cleared-requires-clause-admitted : goal.clear-cleared-requires-clause-admitted
 clear-cleared-requires-clause-admitted c =
     let p : PassState = c.args.caller.now.pass in
-    may_clear p.table.config.globals (never_of p) (number_of p)
+    may_clear p.table.config.globals (never_of p) (caller_of_pass p)
     (pass_state p c.requires.types c.requires.exists c.is_idle.ensures.history) c.args.register c.requires.register
 
 pub returns-in-Ok-clause-ended : goal.returns-in-Ok-clause-ended

@@ -1,7 +1,7 @@
 use Rattle.std.proofs.Common.{subst}
 use Rattle.mk_never.specs.declared.operations.Op.TheVariants as op
 use Rattle.mk_words.specs.States.{PassState}
-use Rattle.mk_caller.specs.States.{never_of, number_of}
+use Rattle.mk_caller.specs.States.{never_of, caller_of_pass}
 use Rattle.mk_caller.specs.declared.refusals.Refusal.{Refusal}
 use Rattle.mk_caller.specs.Causes.{IsRefused}
 use Rattle.mk_stack.proofs.NodeKinds.{may_fill}
@@ -13,7 +13,7 @@ use Rattle.mk_stack.proofs.advancing.fill.Goals as goal
 pub set_num-filled-requires-clause-admitted : goal.set_num-filled-requires-clause-admitted
 set_num-filled-requires-clause-admitted c =
     let p : PassState = c.args.caller.now.pass in
-    may_fill p.table.config.globals (never_of p) (number_of p)
+    may_fill p.table.config.globals (never_of p) (caller_of_pass p)
     (pass_state p c.requires.types c.requires.exists c.is_idle.ensures.history) c.args.n c.requires.holds.1
 
 pub held-requires : goal.held-requires

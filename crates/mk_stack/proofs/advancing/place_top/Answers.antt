@@ -1,6 +1,6 @@
 use Rattle.mk_never.specs.declared.operations.Op.TheVariants as op
 use Rattle.mk_words.specs.States.{PassState}
-use Rattle.mk_caller.specs.States.{never_of, number_of}
+use Rattle.mk_caller.specs.States.{never_of, caller_of_pass}
 use Rattle.mk_stack.proofs.NodeKinds.{may_place}
 use Rattle.mk_stack.proofs.Advances.{pass_state, place_advances}
 use Rattle.mk_stack.proofs.Replies.{stays_held}
@@ -9,7 +9,7 @@ use Rattle.mk_stack.proofs.advancing.place_top.Goals as goal
 pub set_global-placed-requires-clause-admitted : goal.set_global-placed-requires-clause-admitted
 set_global-placed-requires-clause-admitted c =
     let p : PassState = c.args.caller.now.pass in
-    may_place p.table.config.globals (never_of p) (number_of p)
+    may_place p.table.config.globals (never_of p) (caller_of_pass p)
     (pass_state p c.requires.types c.requires.exists c.is_idle.ensures.history) c.requires.holds
 
 pub returns-in-Ok-clause-advances : goal.returns-in-Ok-clause-advances

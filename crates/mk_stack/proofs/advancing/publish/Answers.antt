@@ -1,7 +1,7 @@
 use Rattle.std.proofs.Common.{Bool, subst, arith}
 use Rattle.mk_never.specs.declared.operations.Op.TheVariants as op
 use Rattle.mk_words.specs.States.{PassState}
-use Rattle.mk_caller.specs.States.{never_of, number_of, value_of}
+use Rattle.mk_caller.specs.States.{never_of, caller_of_pass, value_of}
 use Rattle.mk_caller.specs.declared.refusals.Refusal.{Refusal}
 use Rattle.mk_caller.specs.Causes.{IsRefused}
 use Rattle.mk_caller.specs.Called.{Says}
@@ -14,7 +14,7 @@ use Rattle.mk_stack.proofs.advancing.publish.Goals as goal
 pub cas_ptr-exchanged-requires-clause-admitted : goal.cas_ptr-exchanged-requires-clause-admitted
 cas_ptr-exchanged-requires-clause-admitted c =
     let p : PassState = c.args.caller.now.pass in
-    may_exchange p.table.config.globals (never_of p) (number_of p)
+    may_exchange p.table.config.globals (never_of p) (caller_of_pass p)
     (pass_state p c.requires.types c.requires.exists c.is_idle.ensures.history) 1
     (omega arith) c.requires.holds.0 c.requires.holds.2 (may_point 0 (value_of p 1) c.requires.holds.1)
 

@@ -1,7 +1,7 @@
 use Rattle.std.proofs.Common.{subst}
 use Rattle.mk_never.specs.declared.operations.Op.TheVariants as op
 use Rattle.mk_words.specs.States.{PassState}
-use Rattle.mk_caller.specs.States.{never_of, number_of}
+use Rattle.mk_caller.specs.States.{never_of, caller_of_pass}
 use Rattle.mk_caller.specs.declared.refusals.Refusal.{Refusal}
 use Rattle.mk_caller.specs.Causes.{IsRefused}
 use Rattle.mk_stack.proofs.NodeKinds.{may_read}
@@ -13,7 +13,7 @@ use Rattle.mk_stack.proofs.advancing.read.Goals as goal
 pub get_num-read-requires-clause-admitted : goal.get_num-read-requires-clause-admitted
 get_num-read-requires-clause-admitted c =
     let p : PassState = c.args.caller.now.pass in
-    may_read p.table.config.globals (never_of p) (number_of p)
+    may_read p.table.config.globals (never_of p) (caller_of_pass p)
     (pass_state p c.requires.types c.requires.exists c.is_idle.ensures.history) c.requires.holds
 
 pub held-requires : goal.held-requires

@@ -8,7 +8,7 @@ use Rattle.mk_words.specs.States.{PassState}
 use Rattle.mk_stack.specs.declared.job_lists.Jobs.{Jobs}
 use Rattle.mk_stack.specs.declared.joining.Joined.{Joined}
 use Rattle.mk_stack.specs.Jobs.{Replied}
-use Rattle.mk_stack.specs.Joining.{HasHandedOut, HaveWorked, IsReady}
+use Rattle.mk_stack.specs.Joining.{HasHandedOut, HaveWorked, IsBetweenJobs}
 use Rattle.mk_stack.specs.Passes.{replied_to}
 use Rattle.mk_stack.proofs.JoinedJobs.{next_made, next_ready, next_unasked, no_lists, none_joined}
 use Rattle.mk_stack.proofs.joining.+fn-run_from-join+arg3+run_from.Goals as goal
@@ -23,8 +23,8 @@ join-worked-requires-after_bounds g t c κs within =
     let next : HasHandedOut w c.args.host.markers (k + 1 + 1) c.caller.new.self =
     subst (λ (h : HostState). HasHandedOut w c.args.host.markers (k + 1 + 1) h) (sym c.caller.ensures.host)
     (next_made w c.args.host.markers (k + 1) host c.requires.host) in
-    let ready : IsReady w (k + 1) c.finish-next.result =
-    subst (λ (p : PassState). IsReady w (k + 1) p) (sym c.finish-next.ensures.pass)
+    let ready : IsBetweenJobs w (k + 1) c.finish-next.result =
+    subst (λ (p : PassState). IsBetweenJobs w (k + 1) p) (sym c.finish-next.ensures.pass)
     (next_ready w c.args.host.markers (k + 1) host c.caller.result c.requires.host c.caller.ensures.caller
     c.finish-next.ensures.idle) in
     let begun : replied_to c.finish-next.result ≡ [] =

@@ -3,7 +3,7 @@ use Rattle.mk_words.specs.States.{PassState}
 use Rattle.mk_stack.specs.declared.jobs.Done.{Done}
 use Rattle.mk_stack.specs.declared.points.Point.{Point}
 use Rattle.mk_stack.specs.declared.points.Point.TheVariants.{Ended, Starting}
-use Rattle.mk_stack.specs.Passes.{Goes}
+use Rattle.mk_stack.specs.Passes.{GoesToPoint}
 use Rattle.mk_stack.proofs.Going.{goes_through}
 use Rattle.mk_stack.proofs.JobGoals.{fit_as, job_ends}
 use Rattle.mk_stack.proofs.stacks.do_job.Goals as goal
@@ -22,7 +22,7 @@ returns-clause-does g c =
     let t : PassState = c.forget-2.new.caller.pass in
     let d : Done = c.in-Ended.done in
     goes_through p q t (Starting c.args.job) (Ended d) (Ended d)
-    (subst (λ (x : Point). Goes p (Starting c.args.job) q x) c.in-Ended.is c.go.ensures.goes)
+    (subst (λ (x : Point). GoesToPoint p (Starting c.args.job) q x) c.in-Ended.is c.go.ensures.goes)
     (goes_through q r t (Ended d) (Ended d) (Ended d) (c.forget.ensures.ended d) (c.forget-2.ensures.ended d))
 
 pub returns-clause-fit : goal.returns-clause-fit

@@ -1,6 +1,6 @@
 use Rattle.std.proofs.Common.{◌≡◌, true, length}
-use Rattle.mk_stack.specs.Advancing.{Holds}
-use Rattle.mk_stack.specs.Passes.{Goes}
+use Rattle.mk_stack.specs.Advancing.{IsAtPoint}
+use Rattle.mk_stack.specs.Passes.{GoesToPoint}
 use Rattle.mk_stack.proofs.stacks.go.Given as goal
 
 abbrev pub invariant-points : goal.invariant-points
@@ -8,6 +8,6 @@ invariant-points g l = record {
   home : l.caller.home ≡ true;
   made_for : g.E.Engine.made_for l.bench.engine ≡ g.E.Engine.made_for l.fn.bench.engine;
   book : length l.bench.book ≡ length l.fn.bench.book;
-  goes : Goes l.fn.caller.pass l.fn.from l.caller.pass l.point;
-  holds : Holds l.caller.pass l.point;
+  goes : GoesToPoint l.fn.caller.pass l.fn.from l.caller.pass l.point;
+  holds : IsAtPoint l.caller.pass l.point;
 }

@@ -3,7 +3,7 @@ use Rattle.mk_words.specs.States.{PassState}
 use Rattle.mk_stack.specs.declared.walking.Found.{Found}
 use Rattle.mk_stack.specs.declared.walking.WalkPoint.{WalkPoint}
 use Rattle.mk_stack.specs.declared.walking.WalkPoint.TheVariants as walk
-use Rattle.mk_stack.specs.Walks.{HasWalked, HoldsDown, StepsDown, next_of, numbers_of}
+use Rattle.mk_stack.specs.Walks.{HasWalked, HoldsDown, StepsDown, next_of, numbers_found}
 use Rattle.mk_stack.proofs.WalkSteps.{walked_more}
 use Rattle.mk_stack.proofs.walking.read_stack.Goals as goal
 
@@ -13,7 +13,7 @@ points-preserved-in-Ok-To g c =
     let q : PassState = c.points.caller.pass in
     let r : PassState = c.go_down.new.caller.pass in
     let steps : StepsDown q c.points.point [] r c.in-Ok-To.next =
-    subst (λ (f : Found). StepsDown q c.points.point (numbers_of f) r (next_of f)) c.in-Ok-To.field-0-is
+    subst (λ (f : Found). StepsDown q c.points.point (numbers_found f) r (next_of f)) c.in-Ok-To.field-0-is
     c.in-Ok-To.ensures.steps in
     record {
       home = c.go_down.ensures.home;
@@ -30,7 +30,7 @@ points-preserved-in-Ok-Number g c =
     let q : PassState = c.points.caller.pass in
     let r : PassState = c.go_down.new.caller.pass in
     let steps : StepsDown q c.points.point (c.in-Ok-Number.n ∷ []) r walk.Descending =
-    subst (λ (f : Found). StepsDown q c.points.point (numbers_of f) r (next_of f)) c.in-Ok-Number.field-0-is
+    subst (λ (f : Found). StepsDown q c.points.point (numbers_found f) r (next_of f)) c.in-Ok-Number.field-0-is
     c.in-Ok-Number.ensures.steps in
     record {
       home = c.go_down.ensures.home;

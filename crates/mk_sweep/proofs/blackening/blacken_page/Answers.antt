@@ -2,7 +2,7 @@ use Rattle.std.proofs.Common.{◌∙◌, [], ap, subst, sym}
 use Rattle.mk_geom.specs.Headers.{header_of}
 use Rattle.mk_core.specs.Cells.{cells_under, header_in}
 use Rattle.mk_core.specs.Words.{Words}
-use Rattle.mk_guard.specs.Guard.{CellsAreClosed}
+use Rattle.mk_laws.specs.Guard.{CellsAreClosed}
 use Rattle.mk_tracing.specs.Stops.{still_words}
 use Rattle.mk_sweep.specs.Sweeping.{BlacksMore}
 use Rattle.mk_sweep.proofs.SweepSteps.{quiet_then}

@@ -1,6 +1,6 @@
 use Rattle.std.proofs.Common.{◌≡◌, ◌∙◌, ◌<◌, ℕ, length, ap, subst, sym}
 use Rattle.std.specs.Prelude.{slice_index}
-use Rattle.mk_guard.specs.Guard.{CellsAreClosed}
+use Rattle.mk_laws.specs.Guard.{CellsAreClosed}
 use Rattle.mk_words.specs.States.{TurnState, WordsState}
 use Rattle.mk_tracing.specs.Stops.{still_words}
 use Rattle.mk_sweep.specs.Sweeping.{PageIsBlack, PointWell, SweepsOn, words_below}

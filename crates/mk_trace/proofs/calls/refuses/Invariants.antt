@@ -1,7 +1,7 @@
 use Rattle.std.proofs.Common.{◌≡◌, ◌+◌, ◌≤◌, length}
-use Rattle.mk_trace.specs.Calls.{IsHome, most_held}
+use Rattle.mk_trace.specs.Calls.{CallerIsHome, most_held}
 use Rattle.mk_core.specs.Counts.{ends}
-use Rattle.mk_trace.specs.Ends.{IsIdle}
+use Rattle.mk_trace.specs.Ends.{IsBetweenCycles}
 use Rattle.mk_trace.specs.ExactPlays.{StayExact}
 use Rattle.mk_trace.specs.Ledgers.{Keeps}
 use Rattle.mk_trace.proofs.LaterOps.{AreCalled}
@@ -10,8 +10,8 @@ use Rattle.mk_trace.proofs.calls.refuses.Given as goal
 -- the first operation was called, and this many of those after it
 abbrev pub invariant-loop-op : goal.invariant-loop-op
 invariant-loop-op g l = record {
-  home : IsHome l.heap l.host;
-  idle : IsIdle l.heap.config l.host.pass.seen;
+  home : CallerIsHome l.heap l.host;
+  idle : IsBetweenCycles l.heap.config l.host.pass.seen;
   made_for : g.E.Engine.made_for l.bench.engine ≡ g.E.Engine.made_for l.fn.bench.engine;
   book : length l.bench.book ≡ length l.fn.bench.book;
   held : l.ledger.held ≡ most_held l.heap.config l.host.pass.seen;

@@ -5,7 +5,7 @@ use Rattle.mk_geom.specs.Headers.{header_of}
 use Rattle.mk_core.specs.Cells.{pointed_cell, words_under}
 use Rattle.mk_core.specs.History.{IsHistory, left}
 use Rattle.mk_words.specs.States.{WordsState}
-use Rattle.mk_trace.specs.Looking.{OnlyLooks}
+use Rattle.mk_trace.specs.Looking.{HostOnlyLooks}
 use Rattle.mk_trace.proofs.FoundCells.{cell_within, freed_looked, freed_object, header_looked, looks_twice, no_object}
 use Rattle.mk_trace.proofs.FoundCells.{pointed_looked, unfreed_object}
 use Rattle.mk_trace.proofs.looking.object_of_slot.Goals as goal
@@ -31,13 +31,13 @@ found g c =
     ∙ ap (λ (u : ℕ). pointed_cell d.pages (left d es).now.words.pages u) c.look-address.ensures.tells
 
 looked : (g : _) (c : After-cell_at g)
-    → OnlyLooks c.args.heap.now.config c.args.host.now.pass.seen c.cell_at.new.host.pass.seen
+    → HostOnlyLooks c.args.heap.now.config c.args.host.now.pass.seen c.cell_at.new.host.pass.seen
 looked g c =
     looks_twice c.args.heap.now.config c.args.host.now.pass.seen c.look-address.new.host.pass.seen
     c.cell_at.new.host.pass.seen c.look-address.ensures.looks c.cell_at.ensures.looks
 
 looked_last : (g : _) (c : After-is_quarantined g)
-    → OnlyLooks c.args.heap.now.config c.args.host.now.pass.seen c.look-header.new.host.pass.seen
+    → HostOnlyLooks c.args.heap.now.config c.args.host.now.pass.seen c.look-header.new.host.pass.seen
 looked_last g c =
     looks_twice c.args.heap.now.config c.args.host.now.pass.seen c.cell_at.new.host.pass.seen
     c.look-header.new.host.pass.seen

@@ -3,7 +3,7 @@ use Rattle.std.proofs.lemmas.List.{at_drop_more, at_drop_all}
 use Rattle.mk_script.specs.Words.{texts_of}
 use Rattle.mk_trace.specs.declared.faults.TraceStop.TheVariants.{NoMemory}
 use Rattle.mk_trace.specs.Grammar.{text_fault_at, read_behind, written_from}
-use Rattle.mk_trace.specs.Lines.{nothing_written, with_line}
+use Rattle.mk_trace.specs.Lines.{nothing_written, with_trace_line}
 use Rattle.mk_trace.proofs.ReadLines.{hands_on, step, stopped, ended}
 use Rattle.mk_trace.proofs.parsing.read_lines.Goals as goal
 
@@ -12,7 +12,7 @@ loop-index-preserved c =
     let lines = c.args.lines.now in
     let i = c.loop-index.index in
     let read = c.in_ok-read_line.ensures in
-    step text_fault_at read_behind with_line 2 i _ (texts_of (drop (i + 1) lines)) (texts_of (drop i lines))
+    step text_fault_at read_behind with_trace_line 2 i _ (texts_of (drop (i + 1) lines)) (texts_of (drop i lines))
     c.loop-index.draft c.read_line.new.draft read.line
     (at_drop_more texts_of lines i _ c.loop-index-test.true) read.is_line read.behind_is
     ∙ c.loop-index.invariant
@@ -27,7 +27,8 @@ returns-in_err-read_line-clause-fault c =
     (λ memory.
     let read = c.in_err-read_line.ensures memory in
     sym c.loop-index.invariant
-    ∙ stopped text_fault_at read_behind with_line (2 + i) _ (texts_of (drop (i + 1) lines)) (texts_of (drop i lines))
+    ∙ stopped text_fault_at read_behind with_trace_line (2 + i) _ (texts_of (drop (i + 1) lines)) (texts_of
+    (drop i lines))
     c.loop-index.draft read.fault (at_drop_more texts_of lines i _ c.loop-index-test.true) read.is_fault
     ∙ ap (λ number. Err (text_fault_at number read.fault)) number_is ∙ ap Err (sym read.told))
 
@@ -36,5 +37,5 @@ returns-clause-draft c =
     let lines = c.args.lines.now in
     let i = c.loop-index.index in
     sym c.loop-index.invariant
-    ∙ ended text_fault_at read_behind with_line (2 + i) (texts_of (drop i lines))
+    ∙ ended text_fault_at read_behind with_trace_line (2 + i) (texts_of (drop i lines))
     c.loop-index.draft (at_drop_all texts_of lines i c.loop-index-test.false)

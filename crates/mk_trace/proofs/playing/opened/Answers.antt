@@ -2,7 +2,7 @@ use Rattle.std.proofs.Common.{◌∙◌, ap}
 use Rattle.mk_core.specs.declared.config.Config.{Config}
 use Rattle.mk_words.specs.States.{WordsState}
 use Rattle.mk_heap.specs.Hosts.{HostState}
-use Rattle.mk_trace.specs.Calls.{IsHome}
+use Rattle.mk_trace.specs.Calls.{CallerIsHome}
 use Rattle.mk_caller.specs.States.{CallerState}
 use Rattle.mk_trace.proofs.HeldCalls.{opened_empty}
 use Rattle.mk_trace.proofs.OneCaller.{first_home}
@@ -17,7 +17,7 @@ returns c =
     let one = ap (λ (d : Config). d.callers) c.in_ok-heap.ensures.config ∙ c.requires.one in
     let seats = first_seats w h c.caller.result c.finish-caller.result c.in_ok-heap.ensures.host c.caller.ensures.caller
     c.finish-caller.ensures.pass in
-    let home : IsHome w k =
+    let home : CallerIsHome w k =
     first_home w h c.caller.new.self k c.finish-caller.result one c.in_ok-heap.ensures.host c.caller.ensures.host
     c.join_caller.ensures.host seats c.join_caller.ensures.overs in
     record {

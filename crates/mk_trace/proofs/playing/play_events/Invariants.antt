@@ -1,8 +1,8 @@
 use Rattle.std.proofs.Common.{◌≡◌, ◌*◌, ◌≤◌, length}
 use Rattle.std.specs.Prelude.{take}
 use Rattle.mk_core.specs.Counts.{ends}
-use Rattle.mk_trace.specs.Calls.{IsHome, HasPlayed, most_held}
-use Rattle.mk_trace.specs.Ends.{IsIdle}
+use Rattle.mk_trace.specs.Calls.{CallerIsHome, HasPlayed, most_held}
+use Rattle.mk_trace.specs.Ends.{IsBetweenCycles}
 use Rattle.mk_trace.specs.ExactPlays.{StayExact}
 use Rattle.mk_trace.specs.Ledgers.{Keeps}
 use Rattle.mk_trace.proofs.playing.play_events.Given as goal
@@ -10,10 +10,10 @@ use Rattle.mk_trace.proofs.playing.play_events.Given as goal
 -- this many events were played
 abbrev pub invariant-loop-event : goal.invariant-loop-event
 invariant-loop-event g l = record {
-  home : IsHome l.heap l.host;
+  home : CallerIsHome l.heap l.host;
   made_for : g.E.Engine.made_for l.bench.engine ≡ l.heap.config.pages;
   book : length l.bench.book ≡ l.heap.config.pages;
-  idle : IsIdle l.heap.config l.host.pass.seen;
+  idle : IsBetweenCycles l.heap.config l.host.pass.seen;
   keeps : Keeps l.heap.config l.host.pass.seen l.ledger.freed;
   exact : StayExact l.heap.config l.fn.host.pass.seen l.host.pass.seen;
   held : l.ledger.held ≡ most_held l.heap.config l.host.pass.seen;

@@ -1,16 +1,16 @@
 use Rattle.std.proofs.Common.{◌≡◌, map, take}
 use Rattle.std.specs.Prelude.{fold}
 use Rattle.mk_core.specs.History.{left}
-use Rattle.mk_trace.specs.Calls.{IsHome}
+use Rattle.mk_trace.specs.Calls.{CallerIsHome}
 use Rattle.mk_trace.specs.Ledgers.{aged, ages_let_go, still_kept, with_one}
-use Rattle.mk_trace.specs.Looking.{OnlyLooks}
+use Rattle.mk_trace.specs.Looking.{HostOnlyLooks}
 use Rattle.mk_trace.proofs.settling.keep_quarantined.Given as goal
 
 -- of the objects so far those are kept whose cells were freed at the first look, and the ages of the others are counted
 abbrev pub invariant-loop-object : goal.invariant-loop-object
 invariant-loop-object g l = record {
-  home : IsHome l.heap l.host;
-  looks : OnlyLooks l.heap.config l.fn.host.pass.seen l.host.pass.seen;
+  home : CallerIsHome l.heap l.host;
+  looks : HostOnlyLooks l.heap.config l.fn.host.pass.seen l.host.pass.seen;
   kept : l.kept.items
       ≡ still_kept (left l.heap.config l.fn.host.pass.seen).now.words.freed (map aged (take l.object-index l.found));
   ages : l.ages.items

@@ -38,7 +38,8 @@ returns-clause-unscanned c =
     cleared_unscanned v page
     ((blacks_cleared x v c.head_page_under-head.result c.unblack_page-2.ensures.words).fewer page
     (black_cleared w x page c.unblack_page.ensures.words))
-    (ap (λ q. slice_index v.blacks q) head ∙ black_cleared x v c.head_page_under-head.result c.unblack_page-2.ensures.words)
+    (ap (λ q. slice_index v.blacks q) head
+    ∙ black_cleared x v c.head_page_under-head.result c.unblack_page-2.ensures.words)
 
 pub unblack_page-requires-clause-part : goal.unblack_page-requires-clause-part
 unblack_page-requires-clause-part c =

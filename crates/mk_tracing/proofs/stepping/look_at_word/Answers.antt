@@ -72,7 +72,8 @@ returns-clause-on c =
 pub returns-clause-found : goal.returns-clause-found
 returns-clause-found c =
     let p = c.args.stop.now.pass in
-    look_finds p c.look_among.new.self.pass c.requires.wanted (c.is_in_order.ensures.turn.holds, c.is_in_order.ensures.gates)
+    look_finds p c.look_among.new.self.pass c.requires.wanted
+    (c.is_in_order.ensures.turn.holds, c.is_in_order.ensures.gates)
     (word.Heap (first_word (still_words p) c.args.cell + c.args.i))
     (subst (λ k. Acts p (step.Look (word.Heap (64 * c.args.cell.page + c.args.cell.index * k + c.args.i)))
     c.look_among.new.self.pass) c.requires.size c.look_among.ensures.acts)
@@ -93,7 +94,8 @@ returns-clause-hand c =
     subst (λ k. Acts p (step.Look (word.Heap (64 * c.args.cell.page + c.args.cell.index * k + c.args.i))) q)
     c.requires.size c.look_among.ensures.acts in
     let f : Finds p (step.Look (word.Heap n)) c.look_among.result q =
-    subst (λ k. Finds p (step.Look (word.Heap (64 * c.args.cell.page + c.args.cell.index * k + c.args.i))) c.look_among.result
+    subst (λ k. Finds p (step.Look (word.Heap
+    (64 * c.args.cell.page + c.args.cell.index * k + c.args.i))) c.look_among.result
     q) c.requires.size c.look_among.ensures.finds in
     word_hand p c.is_in_order.ensures.history c.args.cell c.args.i gray c.requires.scanned
     (subst (λ k. c.args.i < k) c.requires.size c.requires.within)

@@ -3,7 +3,7 @@ use Rattle.std.specs.Prelude.{None}
 use Rattle.mk_core.specs.declared.config.Config.{Config}
 use Rattle.mk_why.specs.Entries.{AreEntriesBelow}
 use Rattle.mk_why.specs.Listing.{IsTold}
-use Rattle.mk_why.specs.Searching.{at}
+use Rattle.mk_why.specs.Searching.{entry_at}
 use Rattle.mk_why.specs.Stops.{View}
 use Rattle.mk_why.proofs.entries.list_entries.Given as goal
 
@@ -11,5 +11,5 @@ abbrev pub invariant-loop-base : goal.invariant-loop-base
 invariant-loop-base l = record {
   below : (c : Config) (v : View) → IsTold c l.tables.found.items l.tables.kept.items v
       → AreEntriesBelow c v l.base l.entries.items;
-  none : ((base : ℕ) → at l.tables.kept.items base ≡ None) → l.entries.items ≡ [];
+  none : ((base : ℕ) → entry_at l.tables.kept.items base ≡ None) → l.entries.items ≡ [];
 }

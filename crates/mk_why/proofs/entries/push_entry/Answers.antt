@@ -3,7 +3,7 @@ use Rattle.std.specs.Prelude.{Option, Some}
 use Rattle.mk_why.specs.declared.found.Found.{Found}
 use Rattle.mk_why.specs.declared.found.Storage.{Storage}
 use Rattle.mk_why.specs.Entries.{IsMadeOf}
-use Rattle.mk_why.specs.Searching.{at}
+use Rattle.mk_why.specs.Searching.{entry_at}
 use Rattle.mk_why.proofs.MadeEntries.{read_at}
 use Rattle.mk_why.proofs.entries.push_entry.Goals as goal
 
@@ -12,16 +12,16 @@ returns-clause-more c s is =
     let found = c.args.tables.now.found.items in
     let kept = c.args.tables.now.kept.items in
     let low : c.args.base < length kept = let keeps = c.args.tables.now.keeps in let lt = c.requires in omega arith in
-    let read : c.index.result.now ≡ at kept c.args.base =
+    let read : c.index.result.now ≡ entry_at kept c.args.base =
     read_at kept c.args.base c.index.result.now c.index.ensures low in
-    let way : c.index-2.result.now ≡ at found c.args.base =
+    let way : c.index-2.result.now ≡ entry_at found c.args.base =
     read_at found c.args.base c.index-2.result.now c.index-2.ensures c.requires in
     let both : Some s ≡ Some c.in-Some.storage = sym is ∙ sym read ∙ c.in-Some.is in
     let same : s ≡ c.in-Some.storage = cc in
     record {
       entry = c.in_ok-kept.kept;
       is = c.in_ok-append.ensures;
-      made = subst (λ (x : Storage). IsMadeOf found x (at found c.args.base) c.in_ok-kept.kept) (sym same)
+      made = subst (λ (x : Storage). IsMadeOf found x (entry_at found c.args.base) c.in_ok-kept.kept) (sym same)
           (subst (λ (o : Option Found). IsMadeOf found c.in-Some.storage o c.in_ok-kept.kept) way
           c.in_ok-kept.ensures);
     }

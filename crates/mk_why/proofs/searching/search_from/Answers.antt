@@ -1,6 +1,6 @@
 use Rattle.std.proofs.Common.{◌≡◌, ◌+◌, ◌<◌, refl, sym, subst, arith, length}
 use Rattle.std.specs.Prelude.{Some, slice_index}
-use Rattle.mk_why.specs.Searching.{AreScannedFrom, IsFirstWord, IsSearched, IsSearch, SearchesOn, at, links_of}
+use Rattle.mk_why.specs.Searching.{AreScannedFrom, IsFirstWord, IsSearched, IsSearch, SearchesOn, entry_at, links_of}
 use Rattle.mk_why.specs.Stops.{View, view_by}
 use Rattle.mk_why.proofs.Scans.{done_from, entry_read, links_there, one_more_fits, queue_read, queued_base}
 use Rattle.mk_why.proofs.Scans.{queued_within}
@@ -22,13 +22,13 @@ low c =
 
 -- what was found there
 there : (c : In-Some) → c.index-base.result.now < length c.args.tables.now.found.items
-    → at c.args.tables.now.found.items c.index-base.result.now ≡ Some c.in-Some.found
+    → entry_at c.args.tables.now.found.items c.index-base.result.now ≡ Some c.in-Some.found
 there c low =
     entry_read c.args.tables.now c.index-base.result.now c.index.result.now c.in-Some.found c.index.ensures low
     c.in-Some.is
 
 links : (c : In-Some) → c.index-base.result.now ≡ slice_index c.args.tables.now.queue.items c.args.place
-    → at c.args.tables.now.found.items c.index-base.result.now ≡ Some c.in-Some.found
+    → entry_at c.args.tables.now.found.items c.index-base.result.now ≡ Some c.in-Some.found
     → links_of c.args.tables.now c.args.place ≡ c.in-Some.found.links
 links c base there =
     let r = c.args.tables.now in

@@ -19,5 +19,6 @@ pub returns-clause-points : goal.returns-clause-points
 returns-clause-points c =
     c.lookup.ensures ∙ ap (λ n. cell_at n c.look_at-header.result c.args.value) c.pages-2.ensures
     ∙ ap (λ h. cell_at c.args.words.now.config.pages h c.args.value)
-    (c.look_at-header.ensures.found ∙ ap (λ n. header_at (view_by c.args.stop.now.pass).words n) c.in_ok-page.ensures.page)
+    (c.look_at-header.ensures.found
+    ∙ ap (λ n. header_at (view_by c.args.stop.now.pass).words n) c.in_ok-page.ensures.page)
     ∙ found_by_header c.args.words.now.config.pages (view_by c.args.stop.now.pass).words c.args.value

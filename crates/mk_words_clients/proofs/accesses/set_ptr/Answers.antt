@@ -12,7 +12,7 @@ use Rattle.mk_never.specs.declared.operations.Op.TheVariants as op
 use Rattle.mk_geom.specs.Addresses.{heap_word_at}
 use Rattle.mk_words.specs.CallSteps.{register_of}
 use Rattle.mk_words.specs.States.{PassState, WordsState}
-use Rattle.mk_words_clients.specs.Clients.{IsIn}
+use Rattle.mk_words_clients.specs.Clients.{IsMidCall}
 use Rattle.mk_words_clients.proofs.CallFacts.{enters, goes_on, next_may, admitted_now}
 use Rattle.mk_words_clients.proofs.accesses.set_ptr.Goals as goal
 use Rattle.mk_words_clients.proofs.accesses.set_ptr.Goals.{After-is_in_order, After-is_in_order-2, After-is_in_order-3}
@@ -26,7 +26,8 @@ at_load o to = record (begun o) { stage = LoadP; q = to }
 abbrev at_probe : Op → ℕ → ℕ → Flight
 at_probe o to value = record (at_load o to) { stage = Probe; p = value }
 
-entered : (c : After-is_in_order) → let o = op.SetPtr c.args.q c.args.i c.args.p in IsIn c.enter.new.self o (begun o)
+entered : (c : After-is_in_order) → let o =
+    op.SetPtr c.args.q c.args.i c.args.p in IsMidCall c.enter.new.self o (begun o)
 entered c =
     enters c.args.pass.now c.enter.new.self (op.SetPtr c.args.q c.args.i c.args.p) c.requires.callers
     c.requires.admitted c.in_ok-enter.ensures.goes
@@ -35,8 +36,9 @@ entered c =
 own : (c : After-is_in_order-2) → c.reg_load-to.result ≡ register_of c.args.pass.now c.args.q
 own c = c.reg_load-to.ensures.own ∙ c.enter.ensures.registers c.args.q c.requires.to
 
-found : (c : After-is_in_order-2) → let o = op.SetPtr c.args.q c.args.i c.args.p in IsIn c.enter.new.self o (begun o)
-    → IsIn c.reg_load-to.new.self o (at_load o c.reg_load-to.result)
+found : (c : After-is_in_order-2) → let o =
+    op.SetPtr c.args.q c.args.i c.args.p in IsMidCall c.enter.new.self o (begun o)
+    → IsMidCall c.reg_load-to.new.self o (at_load o c.reg_load-to.result)
 found c at =
     let o : Op = op.SetPtr c.args.q c.args.i c.args.p in
     let n : ℕ = c.reg_load-to.result in
@@ -49,8 +51,8 @@ found c at =
     else onward (record (begun o) { q = n }) None).flight) (ne_eqb n 0 some))
 
 loaded : (c : After-is_in_order-3) → let o = op.SetPtr c.args.q c.args.i c.args.p in
-    IsIn c.reg_load-to.new.self o (at_load o c.reg_load-to.result)
-    → IsIn c.reg_load-value.new.self o (at_probe o c.reg_load-to.result c.reg_load-value.result)
+    IsMidCall c.reg_load-to.new.self o (at_load o c.reg_load-to.result)
+    → IsMidCall c.reg_load-value.new.self o (at_probe o c.reg_load-to.result c.reg_load-value.result)
 loaded c at =
     let o : Op = op.SetPtr c.args.q c.args.i c.args.p in
     let n : ℕ = c.reg_load-to.result in
@@ -60,7 +62,7 @@ loaded c at =
 
 probed : (c : After-is_in_order-4) → let o = op.SetPtr c.args.q c.args.i c.args.p in
     let f = at_probe o c.reg_load-to.result c.reg_load-value.result in
-    IsIn c.reg_load-value.new.self o f → IsIn c.probe-header.new.self o (record f { stage = Write })
+    IsMidCall c.reg_load-value.new.self o f → IsMidCall c.probe-header.new.self o (record f { stage = Write })
 probed c at =
     let o : Op = op.SetPtr c.args.q c.args.i c.args.p in
     let before : Flight = at_probe o c.reg_load-to.result c.reg_load-value.result in
@@ -72,7 +74,8 @@ probed c at =
 
 written : (c : After-write) → let o = op.SetPtr c.args.q c.args.i c.args.p in
     let f = at_probe o c.reg_load-to.result c.reg_load-value.result in
-    IsIn c.probe-header.new.self o (record f { stage = Write }) → IsIn c.write.new.self o (record f { stage = Dirty })
+    IsMidCall c.probe-header.new.self o (record f { stage = Write })
+    → IsMidCall c.write.new.self o (record f { stage = Dirty })
 written c at =
     let o : Op = op.SetPtr c.args.q c.args.i c.args.p in
     let f : Flight = at_probe o c.reg_load-to.result c.reg_load-value.result in
@@ -123,7 +126,8 @@ write-requires-clause-enabled c =
     let at = probed x.After-is_in_order-4
     (loaded x.After-is_in_order-3 (found x.After-is_in_order-2 (entered x.After-is_in_order))) in
     next_may _ _ _ step.Write at refl refl
-    (λ _. met x.After-is_in_order-4 c.probe-header.new.self.table (own x.After-is_in_order-2) (probed_table x.After-is_in_order-4))
+    (λ _. met x.After-is_in_order-4 c.probe-header.new.self.table (own x.After-is_in_order-2)
+    (probed_table x.After-is_in_order-4))
 
 pub write-requires-clause-admitted : goal.write-requires-clause-admitted
 write-requires-clause-admitted c =

@@ -3,7 +3,7 @@ use Rattle.std.specs.Prelude.{replicate, codes}
 use Rattle.mk_script.specs.declared.items.Item.{Item}
 use Rattle.mk_check.specs.Blocks.{ScriptText, script_of, blocks_from}
 use Rattle.mk_check.specs.Feed.{Scope, scope_of, fed_before_lines, newline}
-use Rattle.mk_check.specs.Steps.{steps_of}
+use Rattle.mk_check.specs.Steps.{numbered}
 use Rattle.mk_check.specs.Trees.{Place, steps_at, trees}
 use Rattle.mk_check.specs.Feeding.{script_scope, FeedStandsFor}
 use Rattle.mk_check.proofs.Stands.{start_stands, start_stops}
@@ -33,11 +33,11 @@ begins c =
     ∙ ap (scope_of c.args.items.now) c.script_at-lines.ensures.items in
     let script : ScriptText = script_of program k in
     let steps : steps_at (trees c.in_ok-tree.tree) c.in_ok-tree.at
-    ≡ steps_of scope (blocks_from script.line script.items) =
+    ≡ numbered scope (blocks_from script.line script.items) =
     c.in_ok-tree.ensures.steps
-    ∙ (ap (λ (s : Scope). steps_of s (blocks_from lines.result.line lines.result.items.now)) named
-    ∙ (ap (λ (l : ℕ). steps_of scope (blocks_from l lines.result.items.now)) lines.ensures.line
-    ∙ ap (λ (xs : List Item). steps_of scope (blocks_from script.line xs)) lines.ensures.items)) in
+    ∙ (ap (λ (s : Scope). numbered s (blocks_from lines.result.line lines.result.items.now)) named
+    ∙ (ap (λ (l : ℕ). numbered scope (blocks_from l lines.result.items.now)) lines.ensures.line
+    ∙ ap (λ (xs : List Item). numbered scope (blocks_from script.line xs)) lines.ensures.items)) in
     let count : c.numbers.result ≡ length scope.numbers = c.numbers.ensures
     ∙ ap (λ (s : Scope). length s.numbers) named in
     let at = c.in_ok-tree.at in

@@ -1,8 +1,8 @@
 use Rattle.std.proofs.Common.{◌≡◌, ◌+◌, drop}
 use Rattle.mk_check.specs.Declarations.{number_of_name}
-use Rattle.mk_check.specs.NamesInScope.{now_of}
+use Rattle.mk_check.specs.NamesInScope.{referred_names}
 use Rattle.mk_check.proofs.feeding.names.number_of_name.Given as goal
 
 abbrev pub invariant-loop-index : goal.invariant-loop-index
-invariant-loop-index l = l.index + number_of_name l.name (now_of (drop l.index l.names))
-    ≡ number_of_name l.name (now_of l.names)
+invariant-loop-index l = l.index + number_of_name l.name (referred_names (drop l.index l.names))
+    ≡ number_of_name l.name (referred_names l.names)

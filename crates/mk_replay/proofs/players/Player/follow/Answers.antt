@@ -1,7 +1,7 @@
 use Rattle.std.proofs.Common.{◌≡◌, true, Bool, Some, None, sym, ◌∙◌, subst}
 use Rattle.std.proofs.lemmas.Result.{IfOk-weaker}
 use Rattle.std.specs.Option.{option_or}
-use Rattle.mk_replay.specs.Players.{TakesAnswer, TakesStep}
+use Rattle.mk_replay.specs.Players.{PlayerTakesAnswer, TakesStep}
 use Rattle.mk_replay.proofs.RunLaws.{last_takes}
 use Rattle.mk_replay.proofs.players.Player.follow.Goals as goal
 
@@ -10,7 +10,7 @@ returns-in-Some c =
     let old = c.args.self.now in
     let last : c.args.is_last ≡ true = c.if-not-is_last.false in
     let is : option_or c.args.decided old.kept ≡ Some c.in-Some.answer = sym c.or-kept.ensures ∙ c.in-Some.is in
-    IfOk-weaker c.answer.result (λ _. TakesAnswer c.in-Some.answer (record old { kept = None }) c.answer.new.self)
+    IfOk-weaker c.answer.result (λ _. PlayerTakesAnswer c.in-Some.answer (record old { kept = None }) c.answer.new.self)
     (λ _. TakesStep c.args.is_last c.args.decided old c.answer.new.self)
     (λ _ takes. subst (λ (b : Bool). TakesStep b c.args.decided old c.answer.new.self) (sym last)
     (last_takes old c.answer.new.self c.args.decided c.in-Some.answer is takes)) c.answer.ensures

@@ -2,7 +2,7 @@ use Rattle.std.proofs.Common.{◌≡◌, List, ◌<◌, length, get_or, ℕ, sym
 use Rattle.mk_check.specs.declared.text.Text.{Text}
 use Rattle.mk_replay.specs.declared.players.Player.{Player}
 use Rattle.mk_check.specs.Declarations.{config_of}
-use Rattle.mk_replay.specs.Replays.{IsTextOf, AreFirstTexts}
+use Rattle.mk_replay.specs.Replays.{IsReplayedText, AreFirstTexts}
 use Rattle.mk_replay.specs.Players.{served_to, IsPlayerOf}
 use Rattle.mk_replay.proofs.RunLaws.{texts_push}
 use Rattle.mk_replay.proofs.replaying.Run.texts.Goals as goal
@@ -22,7 +22,7 @@ loop-player-preserved c = record {
       let t = c.in_ok-text.ensures program es n is in
       subst (λ (xs : List Text). AreFirstTexts program es xs) (sym c.in_ok-push.ensures.items)
       (texts_push program es texts c.in_ok-text.text (c.loop-player.invariant.texts program es h)
-      (subst (λ (i : ℕ). IsTextOf program es i c.in_ok-text.text.bytes.items c.in_ok-text.text.ops
+      (subst (λ (i : ℕ). IsReplayedText program es i c.in_ok-text.text.bytes.items c.in_ok-text.text.ops
       c.in_ok-text.text.refused) (sym c.loop-player.invariant.count) t));
 }
 

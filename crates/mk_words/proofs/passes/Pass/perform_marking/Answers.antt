@@ -25,7 +25,8 @@ invariant_of-self c =
     let f = c.perform-found in
     let same = ap (λ (r : PassState). r.table.config) c.self.view_is
     ∙ ap (λ (w : WordsState). w.config) (c.requires.one_table ∙ sym c.words.view_is) in
-    let m = marks p.own c.args.step f.result f.new.self f.ensures.told f.ensures.own f.ensures.history c.requires.kind in
+    let m =
+    marks p.own c.args.step f.result f.new.self f.ensures.told f.ensures.own f.ensures.history c.requires.kind in
     c.marker_behind-self-inside.ensures
     ∙ ap (λ (d : Config). marker_behind d f.result c.args.step p.marker) (sym same)
     ∙ ap (λ (x : MarkerState). marker_behind p.own.table.config f.result c.args.step x) c.self.invariant

@@ -7,7 +7,8 @@ invariant_of-result c =
     let h = c.in-Ok in
     let p = c.self.inside.own in
     record {
-      turn = takes p c.args.op 0 h.pass h.ensures.taken c.is_in_order.ensures.own c.is_in_order-in-Ok.ensures.history refl;
+      turn =
+          takes p c.args.op 0 h.pass h.ensures.taken c.is_in_order.ensures.own c.is_in_order-in-Ok.ensures.history refl;
       knows = fresh_knows h.pass c.args.op
           (takes_fresh p c.args.op 0 h.pass h.ensures.taken c.is_in_order.ensures.own
           c.is_in_order-in-Ok.ensures.history refl);
@@ -40,7 +41,8 @@ pub returns-in-Err-clause-busy : goal.returns-in-Err-clause-busy
 returns-in-Err-clause-busy c =
     let h = c.in-Err in
     take_finds c.args.self c.args.op h.found h.own (rw (sym c.self.view_is) h.ensures.missed)
-    (rw (sym c.self.view_is) c.is_in_order.ensures.own) c.is_in_order-in-Err.ensures.history _ (omega (arith, h.ensures.another))
+    (rw (sym c.self.view_is) c.is_in_order.ensures.own) c.is_in_order-in-Err.ensures.history _ (omega
+    (arith, h.ensures.another))
 
 pub returns-in-Err-clause-stays : goal.returns-in-Err-clause-stays
 returns-in-Err-clause-stays c =

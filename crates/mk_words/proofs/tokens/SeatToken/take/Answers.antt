@@ -107,5 +107,6 @@ returns-else-found-eq0-clause-missed c =
     subst (λ (r : PassState). Tells r (step.Take c.args.op) f.result
     (state_of f.new.token.table_id f.new.token.me p.seat)) c.self.view_is
     (take_tells p.token.table_id f.new.token.table_id p.token.me f.new.token.me p.seat c.args.op
-    c.turn_word-number.result f.result f.ensures.table (take_access p.token.table_id p.token.me p.seat c.args.op c.turn_word-number.result c.args.self c.self.view_is
+    c.turn_word-number.result f.result f.ensures.table
+    (take_access p.token.table_id p.token.me p.seat c.args.op c.turn_word-number.result c.args.self c.self.view_is
     c.turn_word-number.ensures) c.self.invariant.order f.ensures.told)

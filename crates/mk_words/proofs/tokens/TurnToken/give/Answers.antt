@@ -47,22 +47,27 @@ give_as-requires-clause-order c = order_then (goal.at.give_as-requires-clause-or
 
 pub give_as-requires-clause-one_table : goal.give_as-requires-clause-one_table
 give_as-requires-clause-one_table c =
-    subst (λ (r : PassState). r.table ≡ c.args.words.now) (sym (same_pass (goal.at.give_as-requires-clause-one_table c).After-exchange-empty)) c.requires.one_table
+    subst (λ (r : PassState). r.table
+    ≡ c.args.words.now) (sym (same_pass
+    (goal.at.give_as-requires-clause-one_table c).After-exchange-empty)) c.requires.one_table
 
 pub give_as-requires-clause-may : goal.give_as-requires-clause-may
 give_as-requires-clause-may c =
-    subst (λ (r : PassState). May r step.Give) (sym (same_pass (goal.at.give_as-requires-clause-may c).After-exchange-empty)) c.requires.may
+    subst (λ (r : PassState). May r step.Give) (sym (same_pass
+    (goal.at.give_as-requires-clause-may c).After-exchange-empty)) c.requires.may
 
 pub give_as-requires-clause-holds : goal.give_as-requires-clause-holds
 give_as-requires-clause-holds c =
-    subst (λ (r : PassState). Holds r.table.config (now_of r) r.seat) (sym (same_pass (goal.at.give_as-requires-clause-holds c).After-exchange-empty))
+    subst (λ (r : PassState). Holds r.table.config (now_of r) r.seat) (sym (same_pass
+    (goal.at.give_as-requires-clause-holds c).After-exchange-empty))
     c.requires.holds
 
 pub give_as-requires-clause-slot : goal.give_as-requires-clause-slot
 give_as-requires-clause-slot c = (
   c.args.map.value,
   slot_then (goal.at.give_as-requires-clause-slot c).After-exchange-empty,
-  subst (λ (r : PassState). IsMapOf c.args.map.value (now_of r).words) (sym (same_pass (goal.at.give_as-requires-clause-slot c).After-exchange-empty))
+  subst (λ (r : PassState). IsMapOf c.args.map.value (now_of r).words) (sym (same_pass
+      (goal.at.give_as-requires-clause-slot c).After-exchange-empty))
       c.requires.map,
 )
 
@@ -71,7 +76,9 @@ invariant_of-result c =
     let x = c.exchange-empty.new.seat in
     let f = c.give_as in
     record {
-      order = give_order x.me f.new.token.me c.self.inside.seat (order_then (goal.at.invariant_of-result c).After-exchange-empty) f.ensures.told;
+      order =
+          give_order x.me f.new.token.me c.self.inside.seat (order_then
+          (goal.at.invariant_of-result c).After-exchange-empty) f.ensures.told;
       no_slot = f.ensures.told.0 ∙ ap rest (slot_then (goal.at.invariant_of-result c).After-exchange-empty);
     }
 

@@ -24,7 +24,11 @@ perform_as-requires-clause-access c =
     (sym c.self.view_is) c.requires.access
 
 pub invariant_of-self : goal.invariant_of-self
-invariant_of-self c = record { order = c.perform_as.ensures.order; slot = (c.self.invariant.slot.0, c.perform_as.ensures.slots ∙ c.self.invariant.slot.1) }
+invariant_of-self c = record {
+  order = c.perform_as.ensures.order;
+  slot =
+      (c.self.invariant.slot.0, c.perform_as.ensures.slots ∙ c.self.invariant.slot.1);
+}
 
 pub returns-clause-told : goal.returns-clause-told
 returns-clause-told c =

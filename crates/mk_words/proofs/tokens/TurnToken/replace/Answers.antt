@@ -25,7 +25,11 @@ replace_as-requires-clause-access c =
     (sym c.self.view_is) c.requires.access
 
 pub invariant_of-self : goal.invariant_of-self
-invariant_of-self c = record { order = c.replace_as.ensures.order; slot = (c.self.invariant.slot.0, c.replace_as.ensures.slots ∙ c.self.invariant.slot.1) }
+invariant_of-self c = record {
+  order = c.replace_as.ensures.order;
+  slot =
+      (c.self.invariant.slot.0, c.replace_as.ensures.slots ∙ c.self.invariant.slot.1);
+}
 
 pub returns-clause-finds : goal.returns-clause-finds
 returns-clause-finds c =

@@ -8,5 +8,7 @@ use Rattle.mk_words.proofs.turns.Turn.first_block.Goals as goal
 
 pub returns : goal.returns
 returns c =
-    subst (λ (t : TurnState). c.first_block.result ≡ first_where (has_free_cell c.args.class c.args.leaf) (uses_of_pages (now_of t.pass).words.pages)) c.self.view_is
+    subst (λ (t : TurnState). c.first_block.result
+    ≡ first_where (has_free_cell c.args.class c.args.leaf) (uses_of_pages
+    (now_of t.pass).words.pages)) c.self.view_is
     (c.first_block.ensures _ _ _ (shows_that _ _ _ c.deref.ensures c.self.invariant.shows).words)

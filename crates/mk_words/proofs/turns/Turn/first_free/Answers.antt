@@ -7,5 +7,6 @@ use Rattle.mk_words.proofs.turns.Turn.first_free.Goals as goal
 
 pub returns : goal.returns
 returns c =
-    subst (λ (t : TurnState). c.first_free.result ≡ first_where is_free_page (uses_of_pages (now_of t.pass).words.pages)) c.self.view_is
+    subst (λ (t : TurnState). c.first_free.result
+    ≡ first_where is_free_page (uses_of_pages (now_of t.pass).words.pages)) c.self.view_is
     (c.first_free.ensures _ _ _ (shows_that _ _ _ c.deref.ensures c.self.invariant.shows).words)

@@ -7,5 +7,6 @@ use Rattle.mk_words.proofs.turns.Turn.first_range.Goals as goal
 
 pub returns : goal.returns
 returns c =
-    subst (λ (t : TurnState). c.first_range.result ≡ range_start c.args.count (uses_of_pages (now_of t.pass).words.pages)) c.self.view_is
+    subst (λ (t : TurnState). c.first_range.result
+    ≡ range_start c.args.count (uses_of_pages (now_of t.pass).words.pages)) c.self.view_is
     (c.first_range.ensures _ _ _ (shows_that _ _ _ c.deref.ensures c.self.invariant.shows).words)

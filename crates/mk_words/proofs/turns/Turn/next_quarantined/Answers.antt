@@ -6,6 +6,8 @@ use Rattle.mk_words.proofs.turns.Turn.next_quarantined.Goals as goal
 
 pub returns : goal.returns
 returns c =
-    subst (λ (t : TurnState). IsNext (has_freed_cells (now_of t.pass).words.freed) c.args.from t.pass.table.config.pages c.next_quarantined.result) c.self.view_is
-    (next_known c.self.inside.pass (has_freed_cells (now_of c.self.inside.pass).words.freed) c.args.from c.next_quarantined.result
+    subst (λ (t : TurnState). IsNext (has_freed_cells
+    (now_of t.pass).words.freed) c.args.from t.pass.table.config.pages c.next_quarantined.result) c.self.view_is
+    (next_known c.self.inside.pass (has_freed_cells
+    (now_of c.self.inside.pass).words.freed) c.args.from c.next_quarantined.result
     (c.next_quarantined.ensures _ _ _ (shows_that _ _ _ c.deref.ensures c.self.invariant.shows).words))

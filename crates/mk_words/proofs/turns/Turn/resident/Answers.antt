@@ -7,5 +7,6 @@ use Rattle.mk_words.proofs.turns.Turn.resident.Goals as goal
 
 pub returns : goal.returns
 returns c =
-    subst (λ (t : TurnState). c.resident.result ≡ resident_pages (uses_of_pages (now_of t.pass).words.pages)) c.self.view_is
+    subst (λ (t : TurnState). c.resident.result
+    ≡ resident_pages (uses_of_pages (now_of t.pass).words.pages)) c.self.view_is
     (c.resident.ensures _ _ _ (shows_that _ _ _ c.deref.ensures c.self.invariant.shows).words)

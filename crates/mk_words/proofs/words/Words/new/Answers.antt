@@ -1,6 +1,6 @@
 use Rattle.std.proofs.Common.{◌≡◌, ℕ, [], ◌∷◌, ◌∙◌, ap, rules}
 use Rattle.std.specs.Prelude.{replicate}
-use Rattle.mk_protocol.proofs.OrderlyLists.{at_first}
+use Rattle.mk_laws.proofs.OrderlyLists.{at_first}
 use Rattle.mk_words.specs.Rule.{Mine}
 use Rattle.mk_words.proofs.MapSteps.{shows_that}
 use Rattle.mk_words.proofs.Owed.{first_call, first_in_order}

@@ -1,11 +1,11 @@
 use Rattle.std.proofs.Common.{◌≡◌, length}
 use Rattle.mk_check.specs.Steps.{stop_of}
-use Rattle.mk_check.specs.Trees.{kept_in, left_in, IsWithin, work_in}
+use Rattle.mk_check.specs.Trees.{kept_in, left_in, PlaceIsWithin, work_in}
 use Rattle.mk_check.proofs.feeding.running.Running.run.Given as goal
 
 abbrev pub invariant-loop : goal.invariant-loop
 invariant-loop l = record {
-  within : IsWithin (length l.tree) l.self;
+  within : PlaceIsWithin (length l.tree) l.self;
   run : stop_of (left_in l.tree l.self) (kept_in l.self)
       ≡ stop_of (left_in l.tree l.initial.self) (kept_in l.initial.self);
 }

@@ -1,11 +1,11 @@
 use Rattle.std.proofs.Common.{◌≡◌, length, true}
 use Rattle.mk_check.specs.Steps.{asks_first, stop_of}
-use Rattle.mk_check.specs.Trees.{kept_in, left_in, steps_at, trees, IsWithin, work_in}
+use Rattle.mk_check.specs.Trees.{kept_in, left_in, steps_at, trees, PlaceIsWithin, work_in}
 use Rattle.mk_check.proofs.feeding.running.Running.run_to_op.Given as goal
 
 abbrev pub invariant-loop : goal.invariant-loop
 invariant-loop l = record {
-  within : IsWithin (length l.tree) l.self;
+  within : PlaceIsWithin (length l.tree) l.self;
   first : asks_first (steps_at (trees l.tree) l.self.at) ≡ true;
   run : stop_of (left_in l.tree l.self) (kept_in l.self)
       ≡ stop_of (left_in l.tree l.initial.self) (kept_in l.initial.self);

@@ -1,8 +1,0 @@
-use Rattle.mk_invariant.proofs.Theorems.{allocations_are_disjoint, allocations_stand}
-use Rattle.mk_invariant.proofs.allocations_stand_apart.Goals as goal
-
-pub returns-clause-stand : goal.returns-clause-stand
-returns-clause-stand c = allocations_stand
-
-pub returns-clause-disjoint : goal.returns-clause-disjoint
-returns-clause-disjoint c = allocations_are_disjoint

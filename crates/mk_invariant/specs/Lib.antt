@@ -1,3 +1,0 @@
-pub mod Invariant
-pub mod RunGates
-pub mod Theorems

@@ -1,0 +1,250 @@
+-- The storages of unreleased allocations lie apart, where nothing is on its way.
+use Rattle.std.proofs.Common.{Bool, List, ap, arith, false, get_or, inl, inr, le_refl, length, refl, suc, sym, true, []}
+use Rattle.std.proofs.Common.{zero, ℕ, ◌%◌, ◌*◌, ◌+◌, ◌-◌, ◌/◌, ◌<◌, ◌∙◌, ◌∷◌, ◌≡◌, ◌≢◌, ◌≤◌, ◌⊎◌}
+use Rattle.std.specs.Prelude.{None, Option}
+use Rattle.std.proofs.lemmas.Bool.{cases_Bool, cases_eq, cases_lt, cases_order, true≢false}
+use Rattle.std.proofs.lemmas.List.Elements.{Contains-get_or}
+use Rattle.std.proofs.lemmas.Nat.{mul-le}
+use Rattle.mk_laws.proofs.Vocabulary.{BeginsAtCell, Cell, Config, Header, IsSized, IsWithinLimits, Object, OfBlock}
+use Rattle.mk_laws.proofs.Vocabulary.{OfLater, OfLeafBlock, OfLeafRun, OfRun, PlacedAllocation, ShowsPart, Storage}
+use Rattle.mk_laws.proofs.Vocabulary.{Words, cell_of_allocation, class_made, class_words_of, header_in, is_small}
+use Rattle.mk_laws.proofs.Vocabulary.{is_small_object, object_placed, pages_made, placed_at, stands_on, storage_of}
+use Rattle.mk_laws.proofs.Vocabulary.{storage_words, unreleased_storage}
+use Rattle.mk_geom.specs.Storages.{LieApart}
+use Rattle.mk_geom.proofs.Standing.{stands_parts}
+use Rattle.mk_core.proofs.Sizes.{pages_some, small_pages, small_words, words_are_small, words_within}
+use Rattle.mk_core.proofs.StandingAllocations.{first_page_shows, placed_cell}
+use Rattle.mk_core.proofs.UnreleasedStorage.{released_front, storage_is_of, unreleased_front}
+use Rattle.mk_laws.specs.LayoutScene.{AreApart, Claim, IsLaidOn, IsOfOneCell, IsShown, NoPlot, LayoutScene}
+use Rattle.mk_laws.specs.Terrain.{IsAtCell, claim_of, claims_of}
+use Rattle.mk_laws.proofs.Claims.{claim_among, front, gone_front}
+use Rattle.mk_laws.proofs.StandingClaims.{IsStanding, ends_on_pages, stands_there}
+use Rattle.mk_laws.proofs.Unmapping.{shares_run}
+
+-- a scene in which nothing is on its way: no place, no run, no released cell
+abbrev pub quiet_scene : Config → Words → List PlacedAllocation → LayoutScene
+quiet_scene c w xs = record {
+  pages = w.pages;
+  claims = claims_of c None xs;
+  plot = NoPlot;
+  releasing = false;
+  snapshot = w.snapshot;
+  marks = w.marks;
+}
+
+pub record Rests (c : Config) (w : Words) (xs : List PlacedAllocation) : Type 0 where
+  pub limits : IsWithinLimits c
+  pub lengths : length w.pages ≡ c.pages
+  pub laid : IsLaidOn (quiet_scene c w xs)
+  pub cells : (i : ℕ) → (placed_at xs i).released ≡ false → IsAtCell c (placed_at xs i)
+
+pub shown_of : (c : Config) (w : Words) (xs : List PlacedAllocation) (i : ℕ) → Rests c w xs
+    → (placed_at xs i).released ≡ false → IsShown w.pages (claim_of c None (placed_at xs i))
+shown_of c w xs i r u = r.laid.shown (claim_of c None (placed_at xs i)) (claim_among c None xs i u)
+
+pub standing_of : (c : Config) (w : Words) (xs : List PlacedAllocation) (i : ℕ) → Rests c w xs
+    → (placed_at xs i).released ≡ false → IsStanding c w (placed_at xs i)
+standing_of c w xs i r u = stands_there c None w (placed_at xs i) r.lengths (shown_of c w xs i r u) u (r.cells i u)
+
+-- the pages of its storage
+pub on_its_pages : (c : Config) (a : PlacedAllocation) (p : ℕ) → IsSized (object_placed c a)
+    → BeginsAtCell (object_placed c a) a.base → stands_on p (storage_of c a) ≡ true
+    → (a.base / 64 ≤ p) × (p < a.base / 64 + pages_made (object_placed c a))
+on_its_pages c a p sized b h =
+    let parts = stands_parts p (storage_of c a) h in
+    let low : a.base / 64 ≤ p = parts.0 in
+    let up : p ≤ (a.base + storage_words c a - 1) / 64 = parts.1 in
+    let high : a.base + storage_words c a ≤ 64 * (a.base / 64 + pages_made (object_placed c a)) =
+    ends_on_pages (object_placed c a) a.base sized b in
+    let some : 1 ≤ storage_words c a = (words_within (object_placed c a) sized).0 in
+    (low, omega arith)
+
+-- Two small objects whose first pages show one header are of one class and sort.
+same_block_by : (o u : Object) (x y : Option Header) → x ≡ y → ShowsPart o 0 x → ShowsPart u 0 y
+    → is_small_object o ≡ true → is_small_object u ≡ true → (class_made o ≡ class_made u) × (o.leaf ≡ u.leaf)
+same_block_by o u x y e (OfBlock f s l) (OfBlock g t m) so su = (
+  let k : class_made o ≡ class_made u = cc in k,
+  l ∙ sym m,
+)
+same_block_by o u x y e (OfLeafBlock f s l) (OfLeafBlock g t m) so su =
+    (let k : class_made o ≡ class_made u = cc in k, l ∙ sym m)
+same_block_by o u x y e (OfBlock f s l) (OfLeafBlock g t m) so su = absurd (true≢false (let k : true ≡ false = cc in k))
+same_block_by o u x y e (OfLeafBlock f s l) (OfBlock g t m) so su = absurd (true≢false (let k : true ≡ false = cc in k))
+same_block_by o u x y e (OfRun d f l k) any so su = absurd (true≢false (sym so ∙ l))
+same_block_by o u x y e (OfLeafRun f l k) any so su = absurd (true≢false (sym so ∙ l))
+same_block_by o u x y e (OfLater d f l) any so su = absurd (true≢false (sym so ∙ l))
+same_block_by o u x y e any (OfRun d f l k) so su = absurd (true≢false (sym su ∙ l))
+same_block_by o u x y e any (OfLeafRun f l k) so su = absurd (true≢false (sym su ∙ l))
+same_block_by o u x y e any (OfLater d f l) so su = absurd (true≢false (sym su ∙ l))
+
+pub first_part_of : (c : Config) (w : Words) (xs : List PlacedAllocation) (i : ℕ) → Rests c w xs
+    → (placed_at xs i).released ≡ false
+    → ShowsPart (object_placed c (placed_at xs i)) 0 (header_in w ((placed_at xs i).base / 64))
+first_part_of c w xs i r u = first_page_shows c w (placed_at xs i) (shown_of c w xs i r u).sized
+    (standing_of c w xs i r u).headers
+
+pub same_block : (c : Config) (w : Words) (xs : List PlacedAllocation) (i j : ℕ) → Rests c w xs
+    → (placed_at xs i).released ≡ false → (placed_at xs j).released ≡ false
+    → is_small_object (object_placed c (placed_at xs i)) ≡ true
+    → is_small_object (object_placed c (placed_at xs j)) ≡ true
+    → (placed_at xs i).base / 64 ≡ (placed_at xs j).base / 64
+    → (class_made (object_placed c (placed_at xs i)) ≡ class_made (object_placed c (placed_at xs j)))
+    × ((object_placed c (placed_at xs i)).leaf ≡ (object_placed c (placed_at xs j)).leaf)
+same_block c w xs i j r u v si sj page =
+    same_block_by (object_placed c (placed_at xs i)) (object_placed c (placed_at xs j))
+    (header_in w ((placed_at xs i).base / 64)) (header_in w ((placed_at xs j).base / 64))
+    (rw page) (first_part_of c w xs i r u) (first_part_of c w xs j r v) si sj
+
+-- The cell's index is that at which the object begins.
+pub index_is : (c : Config) (a : PlacedAllocation) → IsSized (object_placed c a)
+    → (b : BeginsAtCell (object_placed c a) a.base) → (cell_of_allocation c a).index ≡ b.index
+index_is c a sized b = ap (λ (x : Cell). x.index) (placed_cell c a sized b)
+
+pub small_is : (c : Config) (a : PlacedAllocation) → IsSized (object_placed c a)
+    → is_small (storage_of c a) ≡ is_small_object (object_placed c a)
+small_is c a sized = words_are_small (object_placed c a) sized
+
+-- two of them lie apart
+pub lie_apart : (c : Config) (w : Words) (xs : List PlacedAllocation) (i j : ℕ) → Rests c w xs
+    → (placed_at xs i).released ≡ false → (placed_at xs j).released ≡ false
+    → (IsOfOneCell (claim_of c None (placed_at xs i)) (claim_of c None (placed_at xs j)) → ⊥)
+    → LieApart (storage_of c (placed_at xs i)) (storage_of c (placed_at xs j))
+lie_apart c w xs i j r u v other =
+    by (is_small_object (object_placed c (placed_at xs i))) refl (is_small_object (object_placed c (placed_at xs j)))
+    refl
+  where
+    a : PlacedAllocation
+    a = placed_at xs i
+
+    b : PlacedAllocation
+    b = placed_at xs j
+
+    sa : IsShown w.pages (claim_of c None (placed_at xs i))
+    sa = shown_of c w xs i r u
+
+    sb : IsShown w.pages (claim_of c None (placed_at xs j))
+    sb = shown_of c w xs j r v
+
+    ba : BeginsAtCell (object_placed c (placed_at xs i)) (placed_at xs i).base
+    ba = (r.cells i u).begins
+
+    bb : BeginsAtCell (object_placed c (placed_at xs j)) (placed_at xs j).base
+    bb = (r.cells j v).begins
+
+    -- where they share no page
+    far : ((d e : ℕ) → d < pages_made (object_placed c (placed_at xs i))
+        → e < pages_made (object_placed c (placed_at xs j))
+        → (placed_at xs i).base / 64 + d ≢ (placed_at xs j).base / 64 + e)
+        → LieApart (storage_of c (placed_at xs i)) (storage_of c (placed_at xs j))
+    far none =
+        let pa = pages_some (object_placed c a) sa.sized in
+        let pb = pages_some (object_placed c b) sb.sized in
+        let ha : a.base + storage_words c a ≤ 64 * (a.base / 64 + pages_made (object_placed c a)) =
+        ends_on_pages (object_placed c a) a.base sa.sized ba in
+        let hb : b.base + storage_words c b ≤ 64 * (b.base / 64 + pages_made (object_placed c b)) =
+        ends_on_pages (object_placed c b) b.base sb.sized bb in
+        record {
+          apart = elim (cases_lt (b.base / 64) (a.base / 64 + pages_made (object_placed c a))) [
+            | inr ge ↦ inl (omega arith)
+            | inl lt ↦ elim (cases_lt (a.base / 64) (b.base / 64 + pages_made (object_placed c b))) [
+              | inr ge ↦ inr (omega arith)
+              | inl lt2 ↦ absurd (elim (cases_lt (a.base / 64) (b.base / 64)) [
+                | inl less ↦ none (b.base / 64 - a.base / 64) 0 (omega arith) (omega arith) (omega arith)
+                | inr more ↦ none 0 (a.base / 64 - b.base / 64) (omega arith) (omega arith) (omega arith)
+              ])
+            ]
+          ];
+          alike = λ p ha2 hb2.
+              let ra = on_its_pages c a p sa.sized ba ha2 in
+              let rb = on_its_pages c b p sb.sized bb hb2 in
+              let a0 = ra.0 in
+              let a1 = ra.1 in
+              let b0 = rb.0 in
+              let b1 = rb.1 in
+              absurd (none (p - a.base / 64) (p - b.base / 64) (omega arith) (omega arith) (omega arith));
+        }
+
+    -- two cells of one page
+    near : is_small_object (object_placed c (placed_at xs i)) ≡ true
+        → is_small_object (object_placed c (placed_at xs j)) ≡ true
+        → (placed_at xs i).base / 64 ≡ (placed_at xs j).base / 64
+        → LieApart (storage_of c (placed_at xs i)) (storage_of c (placed_at xs j))
+    near small_a small_b page =
+        let same = same_block c w xs i j r u v small_a small_b page in
+        let k : ℕ = class_words_of (class_made (object_placed c b)) in
+        let wa : storage_words c a ≡ k = small_words (object_placed c a) small_a ∙ rw same.0 in
+        let wb : storage_words c b ≡ k = small_words (object_placed c b) small_b in
+        let first_a : a.base % 64 ≡ ba.index * k = ba.first ∙ rw wa in
+        let first_b : b.base % 64 ≡ bb.index * k = bb.first ∙ rw wb in
+        record {
+          apart = elim (cases_order ba.index bb.index) [
+            | inl e ↦ absurd (other (page, index_is c a sa.sized ba ∙ e ∙ sym (index_is c b sb.sized bb)))
+            | inr (inl lt) ↦ let m = mul-le (suc ba.index) k bb.index k lt (le_refl k) in inl (omega arith)
+            | inr (inr gt) ↦ let m = mul-le (suc bb.index) k ba.index k gt (le_refl k) in inr (omega arith)
+          ];
+          alike = λ p ha hb. (small_is c a sa.sized ∙ small_a, small_is c b sb.sized ∙ small_b, wa ∙ sym wb, same.1);
+        }
+
+    by : (x : Bool) → is_small_object (object_placed c (placed_at xs i)) ≡ x → (y : Bool)
+        → is_small_object (object_placed c (placed_at xs j)) ≡ y
+        → LieApart (storage_of c (placed_at xs i)) (storage_of c (placed_at xs j))
+    by false l y is =
+        far (λ d e ld le at.
+        let same = shares_run (quiet_scene c w xs) (claim_of c None a) (claim_of c None b) d e r.laid
+        (claim_among c None xs i u) (claim_among c None xs j v) l ld le (sym at) in
+        other (ap (λ (z : Claim). z.page) (sym same), ap (λ (z : Claim). z.index) (sym same)))
+    by true s false l =
+        far (λ d e ld le at.
+        let same = shares_run (quiet_scene c w xs) (claim_of c None b) (claim_of c None a) e d r.laid
+        (claim_among c None xs j v) (claim_among c None xs i u) l le ld at in
+        other (ap (λ (z : Claim). z.page) same, ap (λ (z : Claim). z.index) same))
+    by true s true s2 = elim (cases_eq (a.base / 64) (b.base / 64)) [
+      | inl page ↦ near s s2 page
+      | inr ne ↦ far (λ d e ld le at. let one = small_pages (object_placed c a) s in let two = small_pages
+          (object_placed c b) s2 in ne (omega arith))
+    ]
+
+swapped : (s t : Storage) → LieApart s t → LieApart t s
+swapped s t l =
+    record {
+      apart = elim l.apart [ inl x ↦ inr x | inr x ↦ inl x ];
+      alike = λ p ht hs. let x = l.alike p hs ht in (x.1, x.0, sym x.2, sym x.3);
+    }
+
+-- the storages of the list, in pairs
+abbrev LieInPairs : List Storage → Type 0
+LieInPairs ss = (i j : ℕ) (d : Storage) → i < length ss → j < length ss → i ≢ j
+    → LieApart (get_or ss i d) (get_or ss j d)
+
+pub lie_in_pairs : (c : Config) (xs : List PlacedAllocation) → AreApart (claims_of c None xs)
+    → ((i j : ℕ) → (placed_at xs i).released ≡ false → (placed_at xs j).released ≡ false
+    → (IsOfOneCell (claim_of c None (placed_at xs i)) (claim_of c None (placed_at xs j)) → ⊥)
+    → LieApart (storage_of c (placed_at xs i)) (storage_of c (placed_at xs j))) → LieInPairs (unreleased_storage c xs)
+unfolding unreleased_storage
+lie_in_pairs c [] apart lie = λ i j d li lj ne. absurd (omega arith)
+lie_in_pairs c (x ∷ xs) apart lie =
+    by (cases_Bool x.released) (λ rest. lie_in_pairs c xs rest (λ i j. lie (suc i) (suc j)))
+  where
+    beside : x.released ≡ false → AreApart (claim_of c None x ∷ claims_of c None xs) → (j : ℕ) (d : Storage)
+        → j < length (unreleased_storage c xs) → LieApart (storage_of c x) (get_or (unreleased_storage c xs) j d)
+    beside u ap2 j d lj =
+        let h = storage_is_of c xs (get_or (unreleased_storage c xs) j d)
+        (Contains-get_or (unreleased_storage c xs) j d lj) in
+        rw h.storage (lie 0 (suc h.number) u h.unreleased
+        (λ same. ap2.0 (claim_of c None (placed_at xs h.number)) (claim_among c None xs h.number h.unreleased) same))
+
+    cons : x.released ≡ false → AreApart (claim_of c None x ∷ claims_of c None xs)
+        → LieInPairs (unreleased_storage c xs) → LieInPairs (storage_of c x ∷ unreleased_storage c xs)
+    cons u ap2 rest zero zero d li lj ne = absurd (ne refl)
+    cons u ap2 rest zero (suc j) d li lj ne = beside u ap2 j d (omega arith)
+    cons u ap2 rest (suc i) zero d li lj ne =
+        swapped (storage_of c x) (get_or (unreleased_storage c xs) i d) (beside u ap2 i d (omega arith))
+    cons u ap2 rest (suc i) (suc j) d li lj ne = rest i j d (omega arith) (omega arith) (λ e. ne (rw e))
+
+    by : (x.released ≡ true) ⊎ (x.released ≡ false)
+        → (AreApart (claims_of c None xs) → LieInPairs (unreleased_storage c xs))
+        → LieInPairs (unreleased_storage c (x ∷ xs))
+    by (inl gone) rest = rw (released_front c x xs gone) (rest (rw (gone_front c None x xs gone) at apart))
+    by (inr u) rest =
+        let ap2 : AreApart (claim_of c None x ∷ claims_of c None xs) = rw (front c None x xs u) at apart in
+        rw (unreleased_front c x xs u) (cons u ap2 (rest ap2.1))

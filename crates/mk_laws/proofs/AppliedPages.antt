@@ -1,0 +1,95 @@
+-- What is promised of pages, and of words that nobody has, on the schedule of a large object, read off from the
+-- theorems.
+use Rattle.std.proofs.Common.{◌≡◌, ℕ, Bool, true, false, List, ◌∷◌, take, drop, refl, sym, ◌∙◌, ap, arith}
+use Rattle.std.specs.Prelude.{slice_index}
+use Rattle.std.specs.List.{list_any}
+use Rattle.std.proofs.lemmas.Bool.{leb-true, ltb-true, or_parts, true≢false}
+use Rattle.std.proofs.lemmas.List.Folds.{list_any-append}
+use Rattle.mk_laws.proofs.Vocabulary.{Event, IsHistory, Step, all_below, left, left_from, may_turn_black}
+use Rattle.mk_laws.proofs.Vocabulary.{pointed_cell, register_word}
+use Rattle.mk_core.specs.declared.events.Step.TheVariants as step
+use Rattle.mk_core.proofs.EvaluatedLarge.{large_is_history}
+use Rattle.mk_core.proofs.EventsAt.{events_from}
+use Rattle.mk_core.proofs.HistoryParts.{earlier_part_is_history}
+use Rattle.mk_core.proofs.LargeSchedule.{large_freed, three_pages}
+use Rattle.mk_core.proofs.Schedules.{by, c0}
+use Rattle.mk_laws.proofs.Settled.{unmapped_run}
+use Rattle.mk_laws.specs.FreePages.{HasAllocation}
+use Rattle.mk_laws.specs.UnmappedRuns.{IsOfUnmappedRun, is_resident_in}
+use Rattle.mk_laws.specs.UnsetWords.{IsNeverSet}
+use Rattle.mk_laws.proofs.AppliedTheorems.{unmapped_is_settled}
+use Rattle.mk_laws.proofs.FreePages as pages
+use Rattle.mk_laws.proofs.UnmappedRuns as runs
+use Rattle.mk_laws.proofs.UnsetWords as words
+
+-- The object's second page is marked dirty: the object stands there.
+
+marked_dirty : IsHistory three_pages (take 12 large_freed)
+unfolding by c0 large_freed
+marked_dirty = earlier_part_is_history three_pages (take 12 large_freed) (drop 12 large_freed) large_is_history
+
+pub object_is_there : HasAllocation three_pages (left three_pages (take 12 large_freed)) 1
+unfolding by c0 all_below pointed_cell three_pages large_freed left_from
+object_is_there =
+    pages.dirty_pages_have_allocations three_pages (take 12 large_freed) marked_dirty 1
+    (λ z. let no : ◌≡◌ {A = ℕ} 1 0 = z in absurd (omega arith))
+
+-- Both pages are given back in the cycle: the dirty word of the second is 0 then, as its header is.
+
+given_back : IsHistory three_pages (take 46 large_freed)
+unfolding by c0 large_freed
+given_back = earlier_part_is_history three_pages (take 46 large_freed) (drop 46 large_freed) large_is_history
+
+pub page_is_clean : slice_index (left three_pages (take 46 large_freed)).now.words.dirty 1 ≡ 0
+unfolding by c0 all_below pointed_cell may_turn_black three_pages large_freed left_from
+page_is_clean = (pages.free_pages_have_nothing three_pages (take 46 large_freed) given_back 1 refl).dirty
+
+-- A third caller isn't there, and no global is stored to.
+
+pub third_has_no_register : register_word (left three_pages large_freed).now.words 2 0 ≡ 0
+unfolding three_pages
+third_has_no_register =
+    words.registers_of_no_caller_are_zero three_pages large_freed large_is_history 2 0 (leb-true 2 2 refl)
+
+is_setg : Step → Bool
+is_setg step.Setg = true
+is_setg _ = false
+
+none_is_set : list_any (λ (e : Event). is_setg e.step) large_freed ≡ false
+unfolding by c0 large_freed is_setg
+none_is_set = refl
+
+never_set : (g : ℕ) → IsNeverSet three_pages large_freed g
+unfolding is_setg
+never_set g front rest seat is set =
+    let parts = list_any-append (λ (e : Event). is_setg e.step) front
+    (record { seat = seat; step = step.Setg } ∷ rest) in
+    let none = or_parts (list_any (λ (e : Event). is_setg e.step) front) true
+    (sym parts ∙ ap (λ (es : List Event). list_any (λ (e : Event). is_setg e.step) es) (sym is) ∙ none_is_set) in
+    true≢false none.1
+
+pub global_is_zero : slice_index (left three_pages large_freed).now.words.globals 5 ≡ 0
+global_is_zero = words.unset_globals_are_zero three_pages large_freed large_is_history 5 (never_set 5)
+
+-- The object's second page takes no memory from the event that unmaps it on, up to the next New, which takes it again.
+
+second_is_unmapped : IsOfUnmappedRun three_pages (left three_pages (take 19 large_freed)) 1
+unfolding by c0 all_below pointed_cell may_turn_black three_pages large_freed left_from
+second_is_unmapped =
+    record {
+      number = 0;
+      unreleased = refl;
+      freed = refl;
+      page = (leb-true 0 64 refl, ltb-true 64 128 refl);
+      unmapped = λ run is at. unmapped_run (left three_pages (take 19 large_freed)) unmapped_is_settled.unmapped run is;
+    }
+
+up_to_the_next : IsHistory three_pages (take 50 large_freed)
+unfolding by c0 large_freed
+up_to_the_next = earlier_part_is_history three_pages (take 50 large_freed) (drop 50 large_freed) large_is_history
+
+pub second_takes_no_memory : is_resident_in (left three_pages (take 50 large_freed)) 1 ≡ false
+unfolding by c0 large_freed events_from
+second_takes_no_memory =
+    runs.unmapped_runs_take_no_memory three_pages (take 50 large_freed) up_to_the_next (take 19 large_freed)
+    (events_from 19 31 large_freed) 1 refl second_is_unmapped refl

@@ -1,0 +1,196 @@
+-- What headers, snapshots, releases and free words tell on small schedules, read off from the theorems.
+use Rattle.std.proofs.Common.{◌≡◌, ℕ, zero, suc, ◌<◌, ◌≤◌, true, false, take, drop, Some, refl, sym}
+use Rattle.std.specs.Prelude.{slice_index}
+use Rattle.std.proofs.lemmas.Bool.{eqb-false, false≢true, leb-true, ltb-true}
+use Rattle.mk_never.specs.Reach.{by_register, by_word}
+use Rattle.mk_laws.proofs.Vocabulary.{At, Cell, IsHistory, IsTaken, Releasing, RunPages, World, all_below}
+use Rattle.mk_laws.proofs.Vocabulary.{before_release, calls_from, cell_of_allocation, header_in, is_begin, is_freed}
+use Rattle.mk_laws.proofs.Vocabulary.{is_quarantined, left, left_from, may_turn_black, placed_at, pointed_cell}
+use Rattle.mk_laws.proofs.Vocabulary.{run_headed, stands_in, words_are_zero}
+use Rattle.mk_core.specs.declared.events.Seat.TheVariants as seat
+use Rattle.mk_core.specs.declared.events.Step.TheVariants as step
+use Rattle.mk_core.specs.Cells.{is_in_snapshot}
+use Rattle.mk_core.specs.Readings.{SnapshotTells}
+use Rattle.mk_core.proofs.EvaluatedCycles.{cycle_of_blackened, first_cycle, in_first_snapshot, not_in_first_snapshot}
+use Rattle.mk_core.proofs.EvaluatedFreed.{third_cell, third_is_freed}
+use Rattle.mk_core.proofs.EvaluatedHistories.{blackened_is_history, freed_is_history, marking_is_history}
+use Rattle.mk_core.proofs.EvaluatedLarge.{large_is_history}
+use Rattle.mk_core.proofs.EventsAt.{at_number, event_number}
+use Rattle.mk_core.proofs.HistoryParts.{earlier_part_is_history}
+use Rattle.mk_core.proofs.LargeSchedule.{large_freed, three_pages}
+use Rattle.mk_core.proofs.MoreSchedules.{granted_while_marking, two_pages}
+use Rattle.mk_core.proofs.Schedules.{blackened_before_the_move, by, c0, freed_after_begin, host, m0, one_page}
+use Rattle.mk_core.proofs.Schedules.{pointer_page}
+use Rattle.mk_core.proofs.SmallCycles.{begun_in_stop, marked_in_stop, small, stopped_cycle, three_objects}
+use Rattle.mk_core.proofs.SmallHistories.{stopped_is_history}
+use Rattle.mk_laws.specs.FreeWords.{IsOfNoneMapped}
+use Rattle.mk_laws.specs.Releases.{allocation_behind}
+use Rattle.mk_laws.proofs.FreeCells as cells
+use Rattle.mk_laws.proofs.FreeWords.{unmapped_words_are_zero}
+use Rattle.mk_laws.proofs.ReleasedCycles.{releases_are_of_cycles}
+use Rattle.mk_laws.proofs.Releases.{no_others_release, releases_are_exact, releases_none_reached}
+use Rattle.mk_laws.proofs.Snapshots as snapshots
+use Rattle.mk_laws.proofs.ReadingsStands.{headers_and_quarantine_tell}
+
+-- what the lists leave that several theorems are applied to
+
+abbrev pub marked : World
+marked = left small (take 47 stopped_cycle)
+
+abbrev pub back : World
+back = left one_page freed_after_begin
+
+abbrev pub wiped : World
+wiped = left three_pages (take 20 large_freed)
+
+-- Headers and freed bits.
+
+run_is_made : IsHistory three_pages (take 4 large_freed)
+unfolding by c0 large_freed
+run_is_made = earlier_part_is_history three_pages (take 4 large_freed) (drop 4 large_freed) large_is_history
+
+-- The second page of a run of two says that the first is its head.
+pub later_page_has_its_head : (run : RunPages)
+    × (run_headed (header_in (left three_pages (take 4 large_freed)).now.words 0) 0 ≡ Some run) × (1 < run.count)
+    × (1 ≤ 1)
+unfolding by c0 all_below pointed_cell three_pages large_freed left_from
+later_page_has_its_head =
+    (headers_and_quarantine_tell three_pages (take 4 large_freed) run_is_made).later (λ e. eqb-false 0 4 refl e) 1 1
+    true refl
+
+three_is_history : IsHistory small three_objects
+unfolding begun_in_stop three_objects
+three_is_history = earlier_part_is_history small three_objects (drop 24 stopped_cycle) stopped_is_history
+
+-- The one freed bit is that of a freed object,
+pub freed_bit_is_of_a_freed_one : (a : IsTaken (left small three_objects) third_cell)
+    × ((placed_at (left small three_objects).allocations a.number).freed ≡ true)
+unfolding left_from all_below pointed_cell three_objects
+freed_bit_is_of_a_freed_one =
+    (headers_and_quarantine_tell small three_objects three_is_history).freed (λ e. eqb-false 0 4 refl e) third_cell
+    third_is_freed
+
+-- which has it.
+pub freed_one_has_its_bit : is_freed (left small three_objects).now.words third_cell ≡ true
+unfolding left_from all_below pointed_cell three_objects
+freed_one_has_its_bit = (headers_and_quarantine_tell small three_objects three_is_history).quarantined third_cell
+    (record { number = 2; in_range = ltb-true 2 32 refl; stands = refl }) refl
+
+-- Before the `close` the third object's snapshot bit is set, and it is the one.
+
+marked_is_history : IsHistory small (take 47 stopped_cycle)
+unfolding begun_in_stop three_objects marked_in_stop
+marked_is_history = earlier_part_is_history small (take 47 stopped_cycle) (drop 47 stopped_cycle) stopped_is_history
+
+abbrev pub begun : At is_begin (take 47 stopped_cycle)
+unfolding begun_in_stop three_objects marked_in_stop event_number at_number
+begun = at_number is_begin 39 (take 47 stopped_cycle) refl refl
+
+told : SnapshotTells small begun
+unfolding begun_in_stop three_objects marked_in_stop event_number at_number
+told = snapshots.snapshots_tell small (take 47 stopped_cycle) marked_is_history begun refl
+
+pub third_in_snapshot : is_in_snapshot marked.now.words
+    (cell_of_allocation small (placed_at (left small begun.before).allocations 2)) ≡ true
+unfolding left_from all_below pointed_cell begun_in_stop three_objects marked_in_stop event_number at_number
+third_in_snapshot = told.has 2 refl
+
+pub bit_is_of_a_quarantined_one : (i : ℕ) × (is_quarantined (placed_at (left small begun.before).allocations i) ≡ true)
+    × (cell_of_allocation small (placed_at (left small begun.before).allocations i) ≡ third_cell)
+unfolding left_from all_below pointed_cell begun_in_stop three_objects marked_in_stop event_number at_number
+bit_is_of_a_quarantined_one = told.is third_cell refl
+
+-- The first `release` releases the object that was freed before the `begin`, and not the one freed after it.
+
+pub first_is_released : (allocation_behind one_page first_cycle.releasing 0).released ≡ true
+unfolding by c0 host all_below pointed_cell one_page freed_after_begin left_from event_number at_number first_cycle
+first_is_released =
+    (releases_are_exact one_page freed_after_begin freed_is_history first_cycle.releasing 0 refl).1
+    (in_first_snapshot, refl)
+
+pub second_is_not_released : (allocation_behind one_page first_cycle.releasing 1).released ≡ true → ⊥
+unfolding by c0 host all_below pointed_cell one_page freed_after_begin left_from event_number at_number first_cycle
+second_is_not_released gone =
+    not_in_first_snapshot
+    ((releases_are_exact one_page freed_after_begin freed_is_history first_cycle.releasing 1 refl).0 gone).0
+
+-- The other schedule's keeps a freed object to which a word leads: it is marked, and it is reached.
+
+pub marked_is_not_released : (allocation_behind pointer_page cycle_of_blackened.releasing 2).released ≡ true → ⊥
+unfolding by c0 m0 host all_below pointed_cell may_turn_black pointer_page blackened_before_the_move left_from
+    event_number at_number cycle_of_blackened
+marked_is_not_released gone =
+    false≢true
+    (sym ((releases_are_exact pointer_page blackened_before_the_move blackened_is_history cycle_of_blackened.releasing 2
+    refl).0 gone).1)
+
+pub reached_is_not_released : (allocation_behind pointer_page cycle_of_blackened.releasing 2).released ≡ false
+unfolding by c0 m0 host all_below pointed_cell may_turn_black pointer_page blackened_before_the_move left_from
+    calls_from
+    event_number at_number cycle_of_blackened
+reached_is_not_released =
+    releases_none_reached pointer_page blackened_before_the_move blackened_is_history cycle_of_blackened.releasing 2
+    (by_word 0 0 2 (by_register 0 0 refl) (refl, refl))
+
+-- The `begin` of that cycle releases none.
+pub begin_releases_none : (placed_at (left one_page (take 16 freed_after_begin)).allocations 0).released ≡ false
+unfolding by c0 host all_below pointed_cell one_page freed_after_begin left_from
+begin_releases_none =
+    no_others_release one_page freed_after_begin freed_is_history (take 15 freed_after_begin)
+    (drop 16 freed_after_begin) (record { seat = c0; step = step.Begin }) refl refl 0 refl
+
+-- Each `release` has its cycle.
+pub release_has_its_cycle : (r : Releasing freed_after_begin) × (before_release r ≡ take 32 freed_after_begin)
+unfolding by c0 host freed_after_begin
+release_has_its_cycle =
+    releases_are_of_cycles one_page freed_after_begin freed_is_history (take 32 freed_after_begin)
+    (drop 33 freed_after_begin) seat.Host refl
+
+-- Words that are 0: those of the cell that was given back,
+
+abbrev second_cell : Cell
+second_cell = record { page = 0; index = 1 }
+
+stands_there : (number : ℕ) → stands_in back.now.words second_cell (placed_at back.allocations number) ≡ true → ⊥
+unfolding by c0 host all_below pointed_cell one_page freed_after_begin left_from
+stands_there zero h = false≢true h
+stands_there (suc zero) h = false≢true h
+stands_there (suc (suc zero)) h = false≢true h
+stands_there (suc (suc (suc n))) h = false≢true h
+
+pub given_back_is_zero : words_are_zero back.now.words 32 32 ≡ true
+unfolding by c0 host all_below pointed_cell one_page freed_after_begin left_from
+given_back_is_zero =
+    cells.free_cells_are_zero one_page freed_after_begin freed_is_history (λ e. eqb-false 0 4 refl e) second_cell
+    (ltb-true 1 2 refl) (λ a. stands_there a.number a.stands)
+
+-- one of the four after ten cells of 6 words,
+pub behind_cells_is_zero : slice_index (left two_pages granted_while_marking).now.words.heap 126 ≡ 0
+unfolding by c0 all_below pointed_cell two_pages granted_while_marking left_from
+behind_cells_is_zero =
+    cells.words_behind_cells_are_zero two_pages granted_while_marking marking_is_history (λ e. eqb-false 1 4 refl e) 126
+    (leb-true 60 62 refl)
+
+-- one of a free page,
+pub free_page_is_zero : slice_index (left three_pages large_freed).now.words.heap 150 ≡ 0
+unfolding by c0 all_below pointed_cell three_pages large_freed left_from
+free_page_is_zero =
+    cells.words_behind_cells_are_zero three_pages large_freed large_is_history (λ e. eqb-false 0 4 refl e) 150
+    (leb-true 0 22 refl)
+
+-- and, once its run is wiped, the word that was written to of a freed large object.
+
+wiped_is_history : IsHistory three_pages (take 20 large_freed)
+unfolding by c0 large_freed
+wiped_is_history = earlier_part_is_history three_pages (take 20 large_freed) (drop 20 large_freed) large_is_history
+
+none_is_mapped : (n : ℕ) → IsOfNoneMapped three_pages wiped.allocations n
+unfolding by c0 all_below pointed_cell three_pages large_freed left_from
+none_is_mapped n zero mapped word = false≢true mapped
+none_is_mapped n (suc i) mapped word = false≢true mapped
+
+pub wiped_is_zero : slice_index wiped.now.words.heap 64 ≡ 0
+unfolding by c0 all_below pointed_cell three_pages large_freed left_from
+wiped_is_zero =
+    unmapped_words_are_zero three_pages (take 20 large_freed) wiped_is_history (λ e. eqb-false 0 4 refl e) refl 64
+    (none_is_mapped 64)

@@ -1,0 +1,239 @@
+-- The theorems over all histories, applied to small schedules: what each says there, read off by computation.
+use Rattle.std.proofs.Common.{◌≡◌, ℕ, ◌≤◌, true, false, List, ◌∷◌, ◌++◌, replicate, take, drop, None, Some, refl, sym}
+use Rattle.std.proofs.Common.{[]}
+use Rattle.std.proofs.Common.{◌∙◌, ap, subst, inl, arith, append_assoc}
+use Rattle.std.specs.Prelude.{slice_index}
+use Rattle.std.proofs.lemmas.Bool.{eqb-false, false≢true, leb-true, ltb-true}
+use Rattle.mk_never.specs.declared.values.Target.{Target}
+use Rattle.mk_laws.proofs.Vocabulary.{DirtyIsOwed, Event, IsGuarded, IsHeaderWord, IsHistory, IsWordOf, NeverState}
+use Rattle.mk_laws.proofs.Vocabulary.{Null, OwesDirty, PageIsDirty, PointsWell, Value, WordOf, World, all_below}
+use Rattle.mk_laws.proofs.Vocabulary.{answers_of, asked, bases_of, calls, calls_from, cell_of_allocation, free_page}
+use Rattle.mk_laws.proofs.Vocabulary.{header_at, is_begin, is_run_gone, left, left_from, may_turn_black}
+use Rattle.mk_laws.proofs.Vocabulary.{never_behind, placed_at, pointed_cell, points_well, register_at, replies_of}
+use Rattle.mk_laws.proofs.Vocabulary.{resident_pages, storage_of, unreleased_storage, uses_of_pages, word_at}
+use Rattle.mk_laws.proofs.Vocabulary.{word_points_well}
+use Rattle.mk_geom.specs.Storages.{words_of_storages}
+use Rattle.mk_core.specs.declared.events.Answer.TheVariants as answer
+use Rattle.mk_core.specs.declared.events.Seat.TheVariants as seat
+use Rattle.mk_core.specs.Allocations.{place_among_allocations}
+use Rattle.mk_core.specs.Cells.{is_used}
+use Rattle.mk_core.specs.History.{never_first}
+use Rattle.mk_core.proofs.EvaluatedGuards.{page_is_clean, written_points_badly}
+use Rattle.mk_core.proofs.EvaluatedHistories.{exchanged_is_history, freed_is_history, full_is_history, swept_is_history}
+use Rattle.mk_core.proofs.EvaluatedLarge.{large_is_history}
+use Rattle.mk_core.proofs.EvaluatedReach.{first_is_reached, second_is_reached}
+use Rattle.mk_core.proofs.EventsAt.{at_number, event_number}
+use Rattle.mk_core.proofs.HistoryParts.{earlier_part_is_history}
+use Rattle.mk_core.proofs.LargeSchedule.{large_freed, three_pages}
+use Rattle.mk_core.proofs.MoreSchedules.{before_the_sweep, exchanged, full_then_reused, sweeping_mark}
+use Rattle.mk_core.proofs.Schedules.{answers_freed, by, c0, host, freed_after_begin, one_page, pointer_page}
+use Rattle.mk_core.proofs.SmallCycles.{begun_in_stop, marked_beside, marked_in_stop, page_dirtied, scanned_again}
+use Rattle.mk_core.proofs.SmallCycles.{second_cleared, small, stopped_cycle, third_released, three_objects}
+use Rattle.mk_core.proofs.SmallCycles.{written_beside}
+use Rattle.mk_core.proofs.SmallHistories.{beside_is_history, stopped_is_history}
+use Rattle.mk_laws.specs.Quarantine.{has_bit_of}
+use Rattle.mk_laws.specs.SettledPages.{IsSettled}
+use Rattle.mk_laws.specs.Theorems.{KeepsTheInvariant}
+use Rattle.mk_laws.proofs.InvariantHistories.{events_keep_the_invariant, histories_keep_the_invariant}
+use Rattle.mk_laws.proofs.Quarantines as quarantines
+use Rattle.mk_laws.proofs.InvariantTheorems as theorems
+
+-- The invariant after the first of two lists goes on to the second by one event.
+pub invariant_by_one_event : KeepsTheInvariant pointer_page (before_the_sweep ++ sweeping_mark ∷ [])
+invariant_by_one_event =
+    events_keep_the_invariant pointer_page before_the_sweep sweeping_mark swept_is_history
+    (histories_keep_the_invariant pointer_page before_the_sweep
+    (earlier_part_is_history pointer_page before_the_sweep (sweeping_mark ∷ []) swept_is_history))
+
+-- what the lists leave that several theorems are applied to
+
+abbrev pub full : World
+full = left one_page full_then_reused
+
+abbrev pub beside : World
+beside = left small written_beside
+
+abbrev pub stopped : ℕ → World
+stopped count = left small (take count stopped_cycle)
+
+abbrev pub marking : World
+marking = left one_page (take 31 freed_after_begin)
+
+-- The images of the replies are these answers.
+pub images_of_replies : answers_of (bases_of (left one_page freed_after_begin).allocations)
+    (replies_of (never_first one_page) (asked (calls one_page freed_after_begin)))
+    ≡ replicate 7 answer.Done ++ answer.Num 0 ∷ []
+images_of_replies = sym (theorems.histories_refine_never one_page freed_after_begin freed_is_history) ∙ answers_freed
+
+-- An object that a register leads to is unreleased, and so is one that it leads to by a word.
+
+begun_is_history : IsHistory small begun_in_stop
+begun_is_history = earlier_part_is_history small begun_in_stop _ stopped_is_history
+
+pub first_is_kept : (placed_at (left small begun_in_stop).allocations 0).released ≡ false
+first_is_kept = theorems.reach_is_kept small begun_in_stop begun_is_history 0 first_is_reached
+
+pub second_is_kept : (placed_at (left small begun_in_stop).allocations 1).released ≡ false
+second_is_kept = theorems.reach_is_kept small begun_in_stop begun_is_history 1 second_is_reached
+
+-- The first exchange is answered 1, so the values are equal; at the second they aren't, or it would be answered so too.
+
+abbrev word_of_target : NeverState → Target → Value
+word_of_target n (WordOf number place) = word_at n number place
+word_of_target n _ = Null
+
+pub first_compares_equal : word_at (never_behind pointer_page (take 16 exchanged)) 0 0
+    ≡ register_at (never_behind pointer_page (take 16 exchanged)) 0 2
+unfolding by c0 all_below pointed_cell pointer_page exchanged left_from calls_from
+first_compares_equal =
+    let compares =
+    theorems.exchanges_compare pointer_page exchanged exchanged_is_history (take 16 exchanged) (drop 17 exchanged)
+    0 0 0 2 1 refl refl in
+    ap (word_of_target (never_behind pointer_page (take 16 exchanged))) compares.target ∙ compares.answered.0 refl
+
+answered_zero : Some (answer.Num 0) ≡ Some (answer.Num 1) → ⊥
+answered_zero h = let no : ◌≡◌ {A = ℕ} 0 1 = cc in omega arith
+
+pub second_compares_unequal : word_at (never_behind pointer_page (take 24 exchanged)) 0 0
+    ≡ register_at (never_behind pointer_page (take 24 exchanged)) 0 2 → ⊥
+unfolding by c0 all_below pointed_cell pointer_page exchanged left_from calls_from
+second_compares_unequal same =
+    let compares =
+    theorems.exchanges_compare pointer_page exchanged exchanged_is_history (take 24 exchanged) (drop 25 exchanged)
+    0 0 0 2 1 refl refl in
+    answered_zero (compares.answered.1
+    (sym (ap (word_of_target (never_behind pointer_page (take 24 exchanged))) compares.target) ∙ same))
+
+-- Two objects fill a page: each has its used bit, and no word of one is the other's.
+
+pub third_is_used : is_used full.now.words (cell_of_allocation one_page (placed_at full.allocations 2)) ≡ true
+unfolding by c0 all_below pointed_cell may_turn_black one_page full_then_reused left_from
+third_is_used = (theorems.allocations_stand one_page full_then_reused full_is_history 2 refl).used
+
+pub word_of_the_first_alone : IsWordOf (storage_of one_page (placed_at full.allocations 2)) 10 → ⊥
+unfolding by c0 all_below pointed_cell may_turn_black one_page full_then_reused left_from
+word_of_the_first_alone word =
+    eqb-false 0 2 refl (theorems.allocations_are_disjoint one_page full_then_reused full_is_history 0 2 10 refl refl
+    (leb-true 0 10 refl, ltb-true 10 32 refl) word)
+
+full_is_settled : IsSettled full
+unfolding by c0 all_below pointed_cell may_turn_black one_page full_then_reused left_from
+full_is_settled = record { releasing = refl; placing = refl; unmapped = refl }
+
+-- The header and the used word of the page, told by the storage of the two,
+pub page_told_by_storage : words_of_storages (unreleased_storage one_page full.allocations) 0
+    ≡ record { header = 125; used = 3 }
+unfolding by c0 all_below pointed_cell may_turn_black one_page full_then_reused left_from
+page_told_by_storage =
+    sym ((theorems.pages_show_the_storage one_page full_then_reused full_is_history full_is_settled).words
+    0 free_page (ltb-true 0 1 refl))
+
+-- and no place among them, told by the words.
+pub no_place_told_by_words : place_among_allocations one_page 32 true full.allocations ≡ None
+unfolding by c0 all_below pointed_cell may_turn_black one_page full_then_reused left_from
+no_place_told_by_words =
+    sym (theorems.first_fit_finds_the_place one_page full_then_reused full_is_history
+    (record { words = 32; leaf = true }) full_is_settled)
+
+-- A large object's pages are unmapped and its words aren't wiped yet. Its run is shown as unmapped, and the next object
+-- has its place after it.
+
+abbrev pub unmapped : World
+unmapped = left three_pages (take 19 large_freed)
+
+unmapped_is_history : IsHistory three_pages (take 19 large_freed)
+unfolding by c0 large_freed
+unmapped_is_history = earlier_part_is_history three_pages (take 19 large_freed) (drop 19 large_freed) large_is_history
+
+pub not_wiped_yet : is_run_gone unmapped.now.words unmapped.now.seats.holding.freed ≡ false
+unfolding by c0 all_below pointed_cell three_pages large_freed left_from
+not_wiped_yet = refl
+
+pub unmapped_is_settled : IsSettled unmapped
+unfolding by c0 all_below pointed_cell may_turn_black three_pages large_freed left_from
+unmapped_is_settled = record { releasing = refl; placing = refl; unmapped = refl }
+
+pub head_told_by_storage : words_of_storages (unreleased_storage three_pages unmapped.allocations) 0
+    ≡ record { header = 43; used = 1 }
+unfolding by c0 all_below pointed_cell may_turn_black three_pages large_freed left_from
+head_told_by_storage =
+    sym ((theorems.pages_show_the_storage three_pages (take 19 large_freed) unmapped_is_history
+    unmapped_is_settled).words 0 free_page (ltb-true 0 3 refl))
+
+pub place_behind_told_by_words : place_among_allocations three_pages 64 true unmapped.allocations
+    ≡ Some (record { page = 2; index = 0; carve = true })
+unfolding by c0 all_below pointed_cell may_turn_black three_pages large_freed left_from
+place_behind_told_by_words =
+    sym (theorems.first_fit_finds_the_place three_pages (take 19 large_freed) unmapped_is_history
+    (record { words = 64; leaf = true }) unmapped_is_settled)
+
+-- A word of a black object points to an unmarked one, and its page isn't dirty: so a call owes the page its dirty mark.
+
+beside_begins : IsHistory small written_beside
+unfolding marked_beside written_beside three_objects
+beside_begins =
+    earlier_part_is_history small written_beside ((page_dirtied ++ second_cleared ++ scanned_again) ++ third_released)
+    (subst (λ (es : List Event). IsHistory small es)
+    (append_assoc written_beside (page_dirtied ++ second_cleared ++ scanned_again) third_released) beside_is_history)
+
+written_is_guarded : IsGuarded small beside.now 0
+unfolding left_from all_below pointed_cell written_beside three_objects
+written_is_guarded =
+    theorems.black_cells_are_guarded small written_beside beside_begins (inl refl) 0 0 0
+    (ltb-true 0 32 refl) refl refl (ltb-true 0 2 refl)
+
+owed_by_one : IsGuarded small beside.now 0 → (k : ℕ) × OwesDirty beside.now k 0
+owed_by_one (PointsWell well) = absurd (false≢true (sym written_points_badly ∙ well))
+owed_by_one (PageIsDirty dirty) = let clean = page_is_clean in absurd (omega arith)
+owed_by_one (DirtyIsOwed k owes) = (k, owes)
+
+pub a_call_owes_dirty : (k : ℕ) × OwesDirty beside.now k 0
+a_call_owes_dirty = owed_by_one written_is_guarded
+
+-- Before a `close` the word that leads from the first object to the second points well, and after it too.
+
+pub word_points_well_at_close : word_points_well small.pages (stopped 47).now.words 0 ≡ true
+unfolding left_from all_below pointed_cell begun_in_stop three_objects marked_in_stop
+word_points_well_at_close =
+    (theorems.closes_find_marks_closed small stopped_cycle stopped_is_history (take 47 stopped_cycle)
+    (drop 48 stopped_cycle) seat.Host refl).words 0 0 refl refl (leb-true 0 0 refl, ltb-true 0 2 refl)
+
+closed_is_history : IsHistory small (take 48 stopped_cycle)
+unfolding begun_in_stop three_objects marked_in_stop
+closed_is_history = earlier_part_is_history small (take 48 stopped_cycle) (drop 48 stopped_cycle) stopped_is_history
+
+pub register_points_well_behind : points_well small.pages (stopped 48).now.words
+    (slice_index (stopped 48).now.words.registers 0) ≡ true
+unfolding left_from all_below pointed_cell begun_in_stop three_objects marked_in_stop
+register_points_well_behind =
+    (theorems.marks_stay_closed small (take 48 stopped_cycle) closed_is_history refl).registers 0
+
+-- Header words, and how many pages are resident.
+
+pub head_of_a_run : IsHeaderWord (header_at (left three_pages large_freed).now.words 0)
+head_of_a_run = quarantines.pages_have_header_words three_pages large_freed large_is_history 0
+
+pub one_is_resident : resident_pages (uses_of_pages full.now.words.pages) ≤ 1
+unfolding one_page
+one_is_resident = quarantines.few_pages_are_resident one_page full_then_reused full_is_history
+
+-- Before the first `close` the first object, which was freed before the `begin`, has its snapshot bit; the second,
+-- freed after it, has none.
+
+begun_since : IsHistory one_page (take 31 freed_after_begin)
+unfolding by c0 host freed_after_begin
+begun_since = earlier_part_is_history one_page (take 31 freed_after_begin) (drop 31 freed_after_begin) freed_is_history
+
+pub first_in_snapshot : has_bit_of one_page marking.now.words.snapshot
+    (placed_at marking.allocations 0) ≡ true
+unfolding by c0 host all_below pointed_cell one_page freed_after_begin left_from event_number at_number
+first_in_snapshot =
+    quarantines.snapshot_is_the_cycles one_page (take 31 freed_after_begin) begun_since
+    (at_number is_begin 15 (take 31 freed_after_begin) refl refl) refl refl 0 refl
+
+pub second_outside_snapshot : has_bit_of one_page marking.now.words.snapshot
+    (placed_at marking.allocations 1) ≡ false
+unfolding by c0 host all_below pointed_cell one_page freed_after_begin left_from event_number at_number
+second_outside_snapshot =
+    quarantines.snapshot_is_the_cycles one_page (take 31 freed_after_begin) begun_since
+    (at_number is_begin 15 (take 31 freed_after_begin) refl refl) refl refl 1 refl

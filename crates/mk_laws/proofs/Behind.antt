@@ -1,0 +1,158 @@
+-- One event: what stands on the pages after it.
+use Rattle.std.proofs.Common.{Bool, ap, arith, false, inl, inr, refl, sym, true, ℕ, ◌%◌, ◌+◌, ◌-◌, ◌^◌, ◌∙◌, ◌≡◌, ◌≢◌}
+use Rattle.std.proofs.Common.{◌⊎◌}
+use Rattle.std.specs.Prelude.{None, Option, Some, if◌then◌else◌, is_some, ◌==◌}
+use Rattle.std.proofs.lemmas.Bool.{and_parts, cases_Bool, eq-eqb, eqb-true, ne_eqb}
+use Rattle.mk_laws.proofs.Vocabulary.{Chosen, Config, Marker, Moment, Placing, Seat, SeenHeader, Step, World}
+use Rattle.mk_laws.proofs.Vocabulary.{cell_seen, holder_number, host_has_turn, is_attending, is_phase, marker_at}
+use Rattle.mk_laws.proofs.Vocabulary.{marker_of, nothing_done, phase_of}
+use Rattle.mk_core.specs.declared.events.Step.TheVariants as step
+use Rattle.mk_laws.specs.Protocol.{has_place}
+use Rattle.mk_laws.proofs.Actors.{Meets}
+use Rattle.mk_laws.proofs.Colours.{AddsMarks, ClearsMarks, ColourStep, Colours, MarksSeen, colour_step, colours_of}
+use Rattle.mk_laws.proofs.Known.{Known}
+use Rattle.mk_laws.proofs.NewPlace.{held_place, new_was}
+use Rattle.mk_laws.proofs.OthersMoves.{WorldBehind}
+use Rattle.mk_laws.proofs.OrderlyLists.{actor_of, not_astray, orderly_behind}
+use Rattle.mk_laws.proofs.SameWords.{tally_keeps}
+use Rattle.mk_laws.proofs.Sorts.{moves}
+use Rattle.mk_laws.proofs.Views.{view_of}
+use Rattle.mk_laws.specs.Ground.{ground_of}
+use Rattle.mk_laws.specs.Terrain.{HasLayout, LayoutStands, object_now}
+use Rattle.mk_laws.proofs.LayoutBefore.{Before, is_releasing_behind, reg_leaves}
+use Rattle.mk_laws.proofs.LayoutByKind.{by_kind, placeless}
+use Rattle.mk_laws.proofs.Dropped.{unreleasing}
+
+-- whether the phase is releasing
+
+not_four : (n m : ℕ) → n % 8 ≢ 4 → m % 8 ≢ 4 → (n % 8 == 4) ≡ (m % 8 == 4)
+not_four n m hn hm = ne_eqb (n % 8) 4 hn ∙ sym (ne_eqb (m % 8) 4 hm)
+
+same_low : (n m : ℕ) → n % 8 ≡ m % 8 → (n % 8 == 4) ≡ (m % 8 == 4)
+same_low n m e = rw e
+
+pub over_phase : (c : Config) (w : World) (seat : Seat) → Meets c w.now seat step.Over → w.now.words.phase % 8 ≡ 0
+over_phase c w seat h =
+    eqb-true (w.now.words.phase % 8) 0 (and_parts (host_has_turn c w.now) (is_phase w.now.words 0) h.holder).1
+
+pub phase_kind : (c : Config) (w : World) (seat : Seat) (x : Step) → Meets c w.now seat x
+    → is_phase (WorldBehind c w seat x).now.words 4 ≡ is_releasing_behind x (is_phase w.now.words 4)
+phase_kind c w seat step.Reg h = same_low _ _ (rw (reg_leaves c w seat).phase)
+phase_kind c w seat (step.Tally n v) h = same_low _ _ (rw (tally_keeps w.now.words n v).phase)
+phase_kind c w seat step.Begin h =
+    let e = eqb-true (w.now.words.phase % 8) 0 h.phase in
+    not_four ((w.now.words.phase + 1) % 2 ^ 64) w.now.words.phase (λ x. omega arith) (λ x. omega arith)
+phase_kind c w seat step.Want h =
+    let e = eqb-true (w.now.words.phase % 8) 1 h.phase in
+    not_four ((w.now.words.phase + 1) % 2 ^ 64) w.now.words.phase (λ x. omega arith) (λ x. omega arith)
+phase_kind c w seat step.Close h =
+    let e = eqb-true (w.now.words.phase % 8) 2 h.phase in
+    not_four ((w.now.words.phase + 1) % 2 ^ 64) w.now.words.phase (λ x. omega arith) (λ x. omega arith)
+phase_kind c w seat step.Release h = let e =
+    eqb-true (w.now.words.phase % 8) 3 h.phase in eq-eqb ((w.now.words.phase + 1) % 2 ^ 64 % 8) 4 (omega arith)
+phase_kind c w seat step.End h =
+    let e = eqb-true (w.now.words.phase % 8) 4 h.phase in
+    ne_eqb ((w.now.words.phase + (2 ^ 64 - 4)) % 2 ^ 64 % 8) 4 (λ x. omega arith)
+phase_kind c w seat step.Attend h = same_low ((w.now.words.phase + 8) % 2 ^ 64) w.now.words.phase (omega arith)
+phase_kind c w seat step.Quit h = same_low ((w.now.words.phase + (2 ^ 64 - 8)) % 2 ^ 64) w.now.words.phase (omega arith)
+phase_kind c w seat step.Over h =
+    let e = over_phase c w seat h in
+    not_four ((w.now.words.phase + 5) % 2 ^ 64) w.now.words.phase (λ x. omega arith) (λ x. omega arith)
+phase_kind c w seat _ h = refl
+
+-- While released cells are there, no mark changes: nobody marks then.
+seen_attends : (c : Config) (m : Moment) (seat : Seat) → Known c m
+    → is_some (cell_seen c (marker_at m seat).seen (marker_at m seat).hand) ≡ true
+    → (phase_of m.words ≡ 1) ⊎ (phase_of m.words ≡ 2)
+seen_attends c m (Marker k) known some = elim (cases_Bool (is_attending (marker_of m k).presence)) [
+  | inl on ↦ known.orderly.attends k on
+  | inr off ↦
+      let none = (known.orderly.idle k off).seen in
+      let f : false ≡ true = ap (λ (x : Option SeenHeader). is_some (cell_seen c x (marker_of m k).hand)) (sym none)
+      ∙ some in
+      cc
+]
+seen_attends c m _ known some = cc
+
+marks_stay : (c : Config) (m : Moment) (seat : Seat) (y : Colours) → Known c m → phase_of m.words ≡ 4
+    → ColourStep c m seat y → y.marks ≡ m.words.marks
+marks_stay c m seat y known four (ClearsMarks p quiet) = absurd (omega arith)
+marks_stay c m seat y known four (AddsMarks p bits early may) =
+    elim early [ inl e ↦ absurd (omega arith) | inr e ↦ absurd (omega arith) ]
+marks_stay c m seat y known four (MarksSeen p bits some at is) =
+    elim (seen_attends c m seat known some) [ inl e ↦ absurd (omega arith) | inr e ↦ absurd (omega arith) ]
+marks_stay c m seat y known four _ = refl
+
+pub releasing_marks : (c : Config) (w : World) (seat : Seat) (x : Step) → Known c w.now → Meets c w.now seat x
+    → is_releasing_behind x (is_phase w.now.words 4) ≡ true
+    → (WorldBehind c w seat x).now.words.marks ≡ w.now.words.marks
+releasing_marks c w seat step.Release known h on = refl
+releasing_marks c w seat step.End known h on = refl
+releasing_marks c w seat x known h on = by x h on
+  where
+    by : (x : Step) → Meets c w.now seat x → is_releasing_behind x (is_phase w.now.words 4) ≡ true
+        → (WorldBehind c w seat x).now.words.marks ≡ w.now.words.marks
+    by step.Release h on = refl
+    by step.End h on = refl
+    by x h on = marks_stay c w.now seat (colours_of (WorldBehind c w seat x).now) known
+        (eqb-true (phase_of w.now.words) 4 on) (colour_step c w.now seat x h)
+
+-- Where there is a place after, the turn is the same,
+turn_kind : (c : Config) (w : World) (seat : Seat) (x : Step) → Meets c w.now seat x
+    → has_place (WorldBehind c w seat x).now.seats.holding.placing ≡ true
+    → (WorldBehind c w seat x).now.words.turn ≡ w.now.words.turn
+turn_kind c w seat (step.Take o) h has = by (w.now.words.turn == 0) has
+  where
+    by : (b : Bool) → has_place (if b then nothing_done else w.now.seats.holding).placing ≡ true
+        → (if b then 1 + holder_number c seat else w.now.words.turn) ≡ w.now.words.turn
+    by true has = cc
+    by false has = refl
+turn_kind c w seat step.Give h has = cc
+turn_kind c w seat step.Reg h has = (reg_leaves c w seat).turn
+turn_kind c w seat (step.Tally n v) h has = (tally_keeps w.now.words n v).turn
+turn_kind c w seat _ h has = refl
+
+-- and so is the object whose place it is.
+held_none : (p : Placing) → has_place p ≡ true → held_place p ≡ None → ⊥
+held_none (Chosen place) has none = let e : Some place ≡ None = none in cc
+held_none _ has none = cc
+
+pub object_kind : (c : Config) (w : World) (seat : Seat) (x : Step) → Known c w.now → Meets c w.now seat x
+    → has_place (WorldBehind c w seat x).now.seats.holding.placing ≡ true
+    → object_now c (WorldBehind c w seat x).now ≡ object_now c w.now
+object_kind c w seat x known h has =
+    let v : World = WorldBehind c w seat x in
+    let turn = turn_kind c w seat x h has in
+    let k : ℕ = v.now.words.turn - 1 in
+    let orderly = orderly_behind c w.now seat x known.small known.orderly h in
+    let new = orderly.served.placed has in
+    let move = moves c w.now seat x (not_astray c w.now known.orderly) (actor_of c w.now seat x known.orderly h) h in
+    elim (new_was c (view_of w.now) seat (view_of v.now) k move new) [
+      | inl same ↦ rw same (rw turn)
+      | inr none ↦ absurd (held_none v.now.seats.holding.placing has none)
+    ]
+
+-- An enabled event: laid out before it, laid out after it.
+pub layout_behind : (c : Config) (w : World) (seat : Seat) (x : Step) → Before c w → Meets c w.now seat x
+    → LayoutStands c w → LayoutStands c (WorldBehind c w seat x)
+layout_behind c w seat x b h laid =
+    let v : World = WorldBehind c w seat x in
+    let kind = by_kind c w seat x b h laid in
+    let phase = phase_kind c w seat x h in
+    let marked : HasLayout c (object_now c w.now) (is_phase v.now.words 4) v.now.words.marks (ground_of v) =
+    rw phase (marks (is_releasing_behind x (is_phase w.now.words 4)) refl kind) in
+    elim (cases_Bool (has_place v.now.seats.holding.placing)) [
+      | inl has ↦ rw (object_kind c w seat x b.known h has) marked
+      | inr none ↦ (placeless c (object_now c w.now) (object_now c v.now) (is_phase v.now.words 4) v.now.words.marks
+          (ground_of v) v.now.seats.holding.placing refl none marked).0
+    ]
+  where
+    marks : (r : Bool) → is_releasing_behind x (is_phase w.now.words 4) ≡ r
+        → HasLayout c (object_now c w.now) r w.now.words.marks (ground_of (WorldBehind c w seat x))
+        → HasLayout c (object_now c w.now) r (WorldBehind c w seat x).now.words.marks
+        (ground_of (WorldBehind c w seat x))
+    marks true is st = rw (releasing_marks c w seat x b.known h is) st
+    marks false is st =
+        unreleasing c (object_now c w.now) w.now.words.marks (WorldBehind c w seat x).now.words.marks
+        (ground_of (WorldBehind c w seat x))
+        (WorldBehind c w seat x).now.words.freed (WorldBehind c w seat x).now.words.snapshot st

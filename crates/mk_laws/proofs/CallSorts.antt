@@ -1,0 +1,292 @@
+-- Each step of a caller's call outside the turn leads to what the images allow.
+use Rattle.std.proofs.Common.{◌≡◌, ℕ, ◌+◌, ◌*◌, ◌<◌, Bool, true, false, List, length, refl, sym, ap, subst, ◌∙◌, arith}
+use Rattle.std.specs.Prelude.{slice_index, slice_set, ◌==◌, if◌then◌else◌, Some, None}
+use Rattle.std.proofs.lemmas.Bool.{ltb-true}
+use Rattle.mk_laws.proofs.Vocabulary.{Answer, AreAdmitted, Caller, Config, Flight, IsAdmitted, MeetsAll, Named}
+use Rattle.mk_laws.proofs.Vocabulary.{NeverState, Op, Stage, Step, Words, World, accessed, answer_decided, asked}
+use Rattle.mk_laws.proofs.Vocabulary.{at_rest, bases_of, begun, call_decided, d_of, entry_of, flagged, flight_of}
+use Rattle.mk_laws.proofs.Vocabulary.{g_of, header_at, is_under_turn, onward, page_met, progress_read, progress_reg}
+use Rattle.mk_laws.proofs.Vocabulary.{refused, reg_access, register_met, register_word, still, word_met}
+use Rattle.mk_laws.proofs.Vocabulary.{world_behind}
+use Rattle.mk_never.specs.declared.operations.Op.TheVariants as op
+use Rattle.mk_core.specs.declared.events.Answer.TheVariants as answer
+use Rattle.mk_core.specs.declared.events.Word.TheVariants as word
+use Rattle.mk_core.specs.declared.events.Step.TheVariants as step
+use Rattle.mk_core.specs.declared.seats.Stage.TheVariants as stage
+use Rattle.mk_core.specs.Calls.{value_written, progress_cas, progress_getg}
+use Rattle.mk_core.specs.Effects.{progress_probe, begins_where_free}
+use Rattle.mk_laws.proofs.Standings.{standing_at, standing, is_astray}
+use Rattle.mk_laws.proofs.Stages.{is_call_stage}
+use Rattle.mk_laws.proofs.NextSteps.{at_its_stage, at_reg, at_enter}
+use Rattle.mk_laws.proofs.OrderlyLists.{not_astray}
+use Rattle.mk_laws.proofs.Operands.{operands_of}
+use Rattle.mk_laws.specs.Images.{image_scene_of, is_put, is_past_probe, CarriesOwn, ProbedOwn}
+use Rattle.mk_laws.proofs.KnownWorlds.{KnownWorld}
+use Rattle.mk_laws.specs.Mirrors.{Mirrors}
+use Rattle.mk_laws.proofs.ImagesMoves.{is_bare, Flies}
+use Rattle.mk_laws.proofs.ImagesKept.{own_plain}
+use Rattle.mk_laws.proofs.Ready.{Ready, Leads, LeadsBy, either_leads}
+use Rattle.mk_laws.proofs.Refusals.{goes_bare}
+use Rattle.mk_laws.proofs.Reached.{PagesShow}
+use Rattle.mk_laws.proofs.RegMoves.{flight, flies_on, registers_behind, reg_leads}
+use Rattle.mk_laws.proofs.ImagesCallMoves.{probe_leads, read_leads, write_leads, cas_leads, getg_leads, setg_leads}
+
+abbrev pub LeadsAt : Config → World → NeverState → (ℕ → Bool) → ℕ → Step → Type 0
+LeadsAt c w n safe k x =
+    Leads safe (image_scene_of w) n k (flight_of w.now (Caller k)).op
+    (image_scene_of (world_behind c w (record { seat = Caller k; step = x })))
+    (answer_decided c w.now (record { seat = Caller k; step = x }))
+
+abbrev pub AdmittedAt : Config → World → NeverState → ℕ → Step → Type 0
+AdmittedAt c w n k x = AreAdmitted c.globals n (asked (call_decided c w.now (record { seat = Caller k; step = x })))
+
+abbrev pub Meets : Config → World → ℕ → Step → Type 0
+Meets c w k x = MeetsAll c w.now (record { seat = Caller k; step = x })
+
+pub flag_is : (o : Op) (a : Answer) → is_under_turn o ≡ false → flagged o a ≡ o
+flag_is (op.New d ty full) a h = cc
+flag_is _ a h = refl
+
+-- a call outside the turn
+pub call_outside : (o : Op) (s : Stage) → is_call_stage s ≡ true → is_astray (standing_at s o) ≡ false
+    → is_under_turn o ≡ false
+call_outside (op.GetNum q i) stage.Idle h a = cc
+call_outside (op.SetNum q i m) stage.Idle h a = cc
+call_outside (op.GetPtr d q i) stage.Idle h a = cc
+call_outside (op.SetPtr q i p) stage.Idle h a = cc
+call_outside (op.CasPtr q i p r) stage.Idle h a = cc
+call_outside (op.Lea d q i) stage.Idle h a = cc
+call_outside (op.Move d q) stage.Idle h a = cc
+call_outside (op.Clear d) stage.Idle h a = cc
+call_outside (op.GetGlobal d g) stage.Idle h a = cc
+call_outside (op.SetGlobal g p) stage.Idle h a = cc
+call_outside (op.Same p q) stage.Idle h a = cc
+call_outside (op.IsNull p) stage.Idle h a = cc
+call_outside (op.New d ty full) stage.Idle h a = cc
+call_outside (op.Free p) stage.Idle h a = cc
+call_outside _ _ h a = cc
+
+pub admitted_call : (listed : List ℕ) (n : NeverState) (k : ℕ) (o : Op) (a : Answer) → is_under_turn o ≡ false
+    → AreAdmitted listed n (asked (entry_of k o (Some a)))
+    → IsAdmitted listed n k o
+admitted_call listed n k o a out ad = rw (flag_is o a out) at ad.0
+
+read_admitted : (listed : List ℕ) (n : NeverState) (k : ℕ) (f : Flight) (o : Op) (x : ℕ) → is_under_turn o ≡ false
+    → AreAdmitted listed n (asked (entry_of k o (progress_read f o x).answer)) → IsAdmitted listed n k o
+read_admitted listed n k f (op.GetPtr d q i) x out ad = ad.0
+read_admitted listed n k f o x out ad = admitted_call listed n k o (answer.Num x) out (by o ad)
+  where
+    by : (o : Op) → AreAdmitted listed n (asked (entry_of k o (progress_read f o x).answer))
+        → AreAdmitted listed n (asked (entry_of k o (Some (answer.Num x))))
+    by (op.GetPtr d q i) ad = ad
+    by _ ad = ad
+
+pub literal : (f : Flight) (st : Stage) → f.stage ≡ st → f ≡ flight st f.op f.q f.p f.r f.loaded
+literal f st e = rw e
+
+-- the words after `reg`
+reg_registers : (w : Words) (k : ℕ) (f : Flight) (st : Stage)
+    → (accessed w (Named (word.Reg k (register_met f st))) (reg_access f st)).registers
+    ≡ registers_behind w.registers k f st
+reg_registers w k f stage.Store = refl
+reg_registers w k f stage.Put = refl
+reg_registers w k f _ = refl
+
+reg_globals : (w : Words) (k : ℕ) (f : Flight) (st : Stage)
+    → (accessed w (Named (word.Reg k (register_met f st))) (reg_access f st)).globals ≡ w.globals
+reg_globals w k f stage.Store = refl
+reg_globals w k f stage.Put = refl
+reg_globals w k f _ = refl
+
+reg_heap : (w : Words) (k : ℕ) (f : Flight) (st : Stage)
+    → (accessed w (Named (word.Reg k (register_met f st))) (reg_access f st)).heap ≡ w.heap
+reg_heap w k f stage.Store = refl
+reg_heap w k f stage.Put = refl
+reg_heap w k f _ = refl
+
+-- a begun call has loaded nothing
+begun_carries : (bs : List ℕ) (o : Op) (n : NeverState) (k : ℕ) → CarriesOwn bs n k (begun o)
+begun_carries bs (op.New d ty full) n k =
+    record { q = λ e. cc; some_q = λ e. cc; p = λ e. cc; some_p = λ e. cc; r = λ e. cc }
+begun_carries bs _ n k = record { q = λ e. cc; some_q = λ e. cc; p = λ e. cc; some_p = λ e. cc; r = λ e. cc }
+
+begun_unprobed : (o : Op) → is_past_probe (begun o).stage ≡ false
+begun_unprobed (op.New d ty full) = refl
+begun_unprobed _ = refl
+
+begun_not_put : (o : Op) → is_put (begun o).stage ≡ false
+begun_not_put (op.New d ty full) = refl
+begun_not_put _ = refl
+
+module _ (c : Config) (w : World) (n : NeverState) (known : KnownWorld c w) (mirrors : Mirrors c w n) (safe : ℕ
+    → Bool) (ready : Ready c.globals safe (image_scene_of w) n) where
+  pub there_is : (k : ℕ) → k < c.callers → k < length w.now.seats.flights
+  there_is k lt = let e = known.now.orderly.flights in omega (arith, e)
+
+  pub own_registers : (k : ℕ) → k < c.callers → 8 * k + 7 < length n.registers
+  own_registers k lt = let e = mirrors.register_count in omega (arith, e)
+
+  pub own_words : (k : ℕ) → k < c.callers → 8 * k + 7 < length w.now.words.registers
+  own_words k lt = let e = known.lengths.registers in let m = known.limits.callers.1 in omega (arith, e)
+
+  pub own_d : (k : ℕ) → d_of (flight_of w.now (Caller k)).op < 8
+  own_d k = (ready.small k).3
+
+  own_astray : (k : ℕ) → k < c.callers → is_astray (standing (flight_of w.now (Caller k))) ≡ false
+  own_astray k lt = not_astray c w.now known.now.orderly k lt
+
+  -- a call that begins, or doesn't
+  pub begins : (k : ℕ) (o next : Op) (x : ℕ) → is_put (flight_of w.now (Caller k)).stage ≡ false
+      → LeadsBy safe (image_scene_of w) n k o (image_scene_of w) (begins_where_free (flight_of w.now (Caller k)) next x)
+  begins k o next x was =
+      either_leads safe (image_scene_of w) n k o (image_scene_of w) (x == 0) (record {
+        flight = begun next;
+        answer =
+            None;
+      }) _ (λ z. flies_on safe (image_scene_of w) n k o (begun next) was (begun_not_put next) (begun_carries _ next n k)
+      (λ past. let y : false ≡ true = sym (begun_unprobed next) ∙ past in cc))
+      (λ z. flies_on safe (image_scene_of w) n k o (flight_of w.now (Caller k)) was was (ready.images.carried k)
+      (ready.images.probed k))
+
+  -- a call that stays where it is
+  pub stays : (k : ℕ) (o : Op)
+      → Leads safe (image_scene_of w) n k o
+      (record (image_scene_of w) { flights = slice_set w.now.seats.flights k (flight_of w.now (Caller k)) }) None
+  stays k o = (
+    Flies k (flight_of w.now (Caller k)) (λ r x. refl) (ready.images.carried k) (ready.images.probed k),
+    λ more. refl,
+  )
+
+  pub bare_on : (k : ℕ) (o : Op) (f : Flight) → is_put (flight_of w.now (Caller k)).stage ≡ false
+      → is_bare f.stage ≡ true
+      → Leads safe (image_scene_of w) n k o (record (image_scene_of w) {
+        flights =
+            slice_set w.now.seats.flights k f;
+      }) None
+  bare_on k o f was bare = (goes_bare safe (image_scene_of w) n k f was bare, λ more. refl)
+
+  stage_put : (k : ℕ) (st : Stage) → (flight_of w.now (Caller k)).stage ≡ st → is_put st ≡ false
+      → is_put (flight_of w.now (Caller k)).stage ≡ false
+  stage_put k st e h = ap is_put e ∙ h
+
+  pub enter_leads : (k : ℕ) (o : Op) → Meets c w k (step.Enter o) → LeadsAt c w n safe k (step.Enter o)
+  enter_leads k o h =
+      let f = flight_of w.now (Caller k) in
+      begins k f.op o _ (ap is_put (at_enter f.stage f.op o h.order).0)
+
+  pub leave_leads : (k : ℕ) → Meets c w k step.Leave → LeadsAt c w n safe k step.Leave
+  leave_leads k h = let f =
+      flight_of w.now (Caller k) in bare_on k f.op at_rest
+      (stage_put k stage.Leave (at_its_stage f.stage f.op step.Leave refl h.order) refl) refl
+
+  pub dirty_leads : (k : ℕ) → Meets c w k step.Dirty → LeadsAt c w n safe k step.Dirty
+  dirty_leads k h =
+      let f = flight_of w.now (Caller k) in
+      let lt = ltb-true k c.callers h.seat in
+      let e = literal f stage.Dirty (at_its_stage f.stage f.op step.Dirty refl h.order) in
+      rw e (dirty_by f.op f.q f.p f.r f.loaded (rw e at (own_astray k lt)) (rw e))
+    where
+      dirty_by : (o : Op) (q p r l : ℕ) → is_astray (standing_at stage.Dirty o) ≡ false
+          → is_put (flight_of w.now (Caller k)).stage ≡ false → Leads safe (image_scene_of w) n k o
+          (record (image_scene_of w)
+          { flights = slice_set w.now.seats.flights k (onward (flight stage.Dirty o q p r l) None).flight }) None
+      dirty_by (op.SetNum q' i m) q p r l a was = bare_on k (op.SetNum q' i m) _ was refl
+      dirty_by (op.SetPtr q' i p') q p r l a was = bare_on k (op.SetPtr q' i p') _ was refl
+      dirty_by (op.CasPtr q' i p' r') q p r l a was = bare_on k (op.CasPtr q' i p' r') _ was refl
+      dirty_by (op.New d ty full) q p r l a was = cc
+      dirty_by _ q p r l a was = cc
+
+  pub reg_leads_at : (k : ℕ) → Meets c w k step.Reg → AdmittedAt c w n k step.Reg → LeadsAt c w n safe k step.Reg
+  reg_leads_at k h ad =
+      let f = flight_of w.now (Caller k) in
+      let lt = ltb-true k c.callers h.seat in
+      let x = register_word w.now.words k (register_met f f.stage) in
+      rw (reg_registers w.now.words k f f.stage) (rw (reg_globals w.now.words k f f.stage)
+      (rw (reg_heap w.now.words k f f.stage)
+      (reg_leads c.globals safe (image_scene_of w) n k ready (there_is k lt) (own_registers k lt)
+      (own_words k lt) f.stage
+      f.op f.q f.p f.r f.loaded x refl (own_d k) (at_reg f.stage f.op h.order) (own_astray k lt)
+      (ready.images.carried k) (λ np. own_plain (image_scene_of w) n ready.images k _
+      (register_small_here k f.stage) np) ad)))
+    where
+      register_small_here : (k : ℕ) (s : Stage) → register_met (flight_of w.now (Caller k)) s < 8
+      register_small_here k stage.LoadQ = (ready.small k).0
+      register_small_here k stage.LoadP = (ready.small k).1
+      register_small_here k stage.LoadR = (ready.small k).2
+      register_small_here k _ = (ready.small k).3
+
+  pub probe_leads_at : (k : ℕ) → PagesShow (header_at w.now.words) (image_scene_of w) n → Meets c w k step.Probe
+      → AdmittedAt c w n k step.Probe → LeadsAt c w n safe k step.Probe
+  probe_leads_at k show h ad =
+      let f = flight_of w.now (Caller k) in
+      let lt = ltb-true k c.callers h.seat in
+      let st = at_its_stage f.stage f.op step.Probe refl h.order in
+      let e = literal f stage.Probe st in
+      let out = call_outside f.op f.stage (ap is_call_stage st) (own_astray k lt) in
+      subst (λ (g : Flight). LeadsBy safe (image_scene_of w) n k g.op (image_scene_of w)
+      (progress_probe g (header_at w.now.words (page_met f)))) (sym e)
+      (probe_leads c.globals safe (image_scene_of w) n k ready (there_is k lt) (own_registers k lt)
+      (header_at w.now.words) show f.op f.q f.p f.r f.loaded (header_at w.now.words (page_met f)) e (own_d k)
+      (rw e at (own_astray k lt)) (rw e at (ready.images.carried k)) refl
+      (λ u. admitted_call c.globals n k f.op answer.Fault out (subst (λ b. AreAdmitted c.globals n
+      (asked (entry_of k f.op (if b then refused f answer.Fault else onward f None).answer))) u ad)))
+
+  pub read_leads_at : (k : ℕ) → Meets c w k step.Read → AdmittedAt c w n k step.Read → LeadsAt c w n safe k step.Read
+  read_leads_at k h ad =
+      let f = flight_of w.now (Caller k) in
+      let lt = ltb-true k c.callers h.seat in
+      let st = at_its_stage f.stage f.op step.Read refl h.order in
+      let e = literal f stage.Read st in
+      let out = call_outside f.op f.stage (ap is_call_stage st) (own_astray k lt) in
+      let x = slice_index w.now.words.heap (word_met f) in
+      subst (λ (g : Flight). LeadsBy safe (image_scene_of w) n k g.op (image_scene_of w) (progress_read g g.op x))
+      (sym e) (read_leads c.globals safe (image_scene_of w) n k ready (there_is k lt)
+      (own_registers k lt) f.op f.q f.p f.r f.loaded x e (own_d k) (rw e at (own_astray k lt))
+      (rw e at (ready.images.carried k)) (rw e at (ready.images.probed k)) refl
+      (read_admitted c.globals n k f f.op x out ad))
+
+  pub write_leads_at : (k : ℕ) → Meets c w k step.Write → AdmittedAt c w n k step.Write
+      → LeadsAt c w n safe k step.Write
+  write_leads_at k h ad =
+      let f = flight_of w.now (Caller k) in
+      let lt = ltb-true k c.callers h.seat in
+      let st = at_its_stage f.stage f.op step.Write refl h.order in
+      let e = literal f stage.Write st in
+      let out = call_outside f.op f.stage (ap is_call_stage st) (own_astray k lt) in
+      rw e (write_leads c.globals safe (image_scene_of w) n k ready (there_is k lt)
+      (own_registers k lt) f.op f.q f.p f.r f.loaded e (rw e at (own_astray k lt)) (rw e at (ready.images.carried k))
+      (rw e at (ready.images.probed k)) (admitted_call c.globals n k f.op answer.Done out ad))
+
+  pub cas_leads_at : (k : ℕ) → Meets c w k step.Cas → AdmittedAt c w n k step.Cas → LeadsAt c w n safe k step.Cas
+  cas_leads_at k h ad =
+      let f = flight_of w.now (Caller k) in
+      let lt = ltb-true k c.callers h.seat in
+      let st = at_its_stage f.stage f.op step.Cas refl h.order in
+      let e = literal f stage.Cas st in
+      let out = call_outside f.op f.stage (ap is_call_stage st) (own_astray k lt) in
+      let x = slice_index w.now.words.heap (word_met f) in
+      rw e (cas_leads c.globals safe (image_scene_of w) n k ready (there_is k lt)
+      (own_registers k lt) f.op f.q f.p f.r f.loaded x e (rw e at (own_astray k lt)) (rw e at (ready.images.carried k))
+      (rw e at (ready.images.probed k)) refl (admitted_call c.globals n k f.op _ out ad))
+
+  pub getg_leads_at : (k : ℕ) → Meets c w k step.Getg → LeadsAt c w n safe k step.Getg
+  getg_leads_at k h =
+      let f = flight_of w.now (Caller k) in
+      let lt = ltb-true k c.callers h.seat in
+      let e = literal f stage.Getg (at_its_stage f.stage f.op step.Getg refl h.order) in
+      let x = slice_index w.now.words.globals (g_of f.op) in
+      rw e (getg_leads c.globals safe (image_scene_of w) n k ready (there_is k lt)
+      (own_registers k lt) f.op f.q f.p f.r f.loaded x e (own_d k) (rw e at (own_astray k lt)) refl)
+
+  pub setg_leads_at : (k : ℕ) → Meets c w k step.Setg → LeadsAt c w n safe k step.Setg
+  setg_leads_at k h =
+      let f = flight_of w.now (Caller k) in
+      let lt = ltb-true k c.callers h.seat in
+      let e = literal f stage.Setg (at_its_stage f.stage f.op step.Setg refl h.order) in
+      let parts = operands_of c f.op (known.now.operands k) in
+      let small = parts.g in
+      let lg = known.lengths.globals in
+      let ln = mirrors.global_count in
+      rw e (setg_leads c.globals safe (image_scene_of w) n k ready (there_is k lt)
+      (own_registers k lt) f.op f.q f.p f.r f.loaded e (rw e at (own_astray k lt)) (rw e at (ready.images.carried k))
+      (omega arith) (omega arith))

@@ -1,0 +1,247 @@
+-- What each kind of step changes of what the guard reads.
+use Rattle.std.proofs.Common.{◌≡◌, ◌⊎◌, ℕ, ◌*◌, ◌/◌, ◌<◌, Bool, true, false, List, length, refl, sym, ◌∙◌, ap, subst}
+use Rattle.std.proofs.Common.{inl, inr, arith}
+use Rattle.std.specs.Prelude.{nat_le, nat_lt, slice_index, slice_index_or, slice_set}
+use Rattle.std.proofs.lemmas.Bool.{cases_eq, cases_lt, true≢false, ltb-true, and_parts}
+use Rattle.std.proofs.lemmas.List.{get_or-set_same, get_or-set_other, set_past}
+use Rattle.mk_laws.proofs.Vocabulary.{Access, AreOfPages, Caller, Config, DirtyIsOwed, Flight, Host, IsGuarded}
+use Rattle.mk_laws.proofs.Vocabulary.{Load, Marker, Moment, Named, OnlyGrow, Op, OwesDirty, Page, Seat, Stage, Step}
+use Rattle.mk_laws.proofs.Vocabulary.{Store, Tally, Words, accessed, at_rest, caller_number, comes_next, flight_of}
+use Rattle.mk_laws.proofs.Vocabulary.{found, free_page, has_bit, header_at, page_met, progress, reg_access}
+use Rattle.mk_laws.proofs.Vocabulary.{register_met, stage_behind, steps_of, tally_word, word_met}
+use Rattle.mk_never.specs.declared.operations.Op.TheVariants as op
+use Rattle.mk_core.specs.declared.events.Tally.TheVariants as tally
+use Rattle.mk_core.specs.declared.events.Word.TheVariants as word
+use Rattle.mk_core.specs.declared.events.Step.TheVariants as step
+use Rattle.mk_core.specs.declared.seats.Stage.TheVariants as stage
+use Rattle.mk_core.proofs.WordBits.{no_bit}
+use Rattle.mk_laws.proofs.Standings.{standing_at, is_astray}
+use Rattle.mk_laws.proofs.NextSteps.{at_its_stage}
+use Rattle.mk_laws.proofs.Actors.{Meets}
+use Rattle.mk_laws.proofs.SameWords.{Behind}
+use Rattle.mk_laws.proofs.OrderlyLists.{not_astray}
+use Rattle.mk_laws.proofs.Known.{Known}
+use Rattle.mk_laws.proofs.Growth.{grows_same, grows_more}
+use Rattle.mk_laws.proofs.Colours.{Colours, colours_of, ColourStep, ClearsMarks, AddsMarks, MarksSeen, colour_step}
+use Rattle.mk_laws.specs.Guard.{IsMarking}
+use Rattle.mk_laws.proofs.Wells.{bare_guarded}
+
+-- the words that only a few kinds change
+pub record Table : Type 0 where
+  pub phase : ℕ
+  pub globals : List ℕ
+  pub pages : List Page
+  pub marks : List ℕ
+  pub blacks : List ℕ
+  pub dirty : List ℕ
+  pub heap : List ℕ
+
+abbrev pub table_of : Words → Table
+table_of w = record {
+  phase = w.phase;
+  globals = w.globals;
+  pages = w.pages;
+  marks = w.marks;
+  blacks = w.blacks;
+  dirty = w.dirty;
+  heap = w.heap;
+}
+
+register_table : (w : Words) (k r : ℕ) (a : Access) → table_of (accessed w (Named (word.Reg k r)) a) ≡ table_of w
+register_table w k r Load = refl
+register_table w k r _ = refl
+
+pub tally_table : (w : Words) (n : Tally) (v : ℕ) → table_of (accessed w (Named (tally_word n)) (Store v)) ≡ table_of w
+tally_table w tally.Held v = refl
+tally_table w _ v = refl
+
+pub reg_table : (c : Config) (m : Moment) (seat : Seat) → table_of (Behind c m seat step.Reg).words ≡ table_of m.words
+reg_table c m seat =
+    register_table m.words (caller_number seat) _ _
+
+-- A call that has written, or exchanged, owes the dirty word after it.
+
+wrote : (o : Op) → is_astray (standing_at stage.Write o) ≡ false → stage_behind stage.Write (steps_of o) ≡ stage.Dirty
+wrote (op.SetNum q i n) h = refl
+wrote (op.SetPtr q i p) h = refl
+wrote _ h = cc
+
+swapped : (o : Op) → is_astray (standing_at stage.Cas o) ≡ false → stage_behind stage.Cas (steps_of o) ≡ stage.Dirty
+swapped (op.CasPtr q i p r) h = refl
+swapped _ h = cc
+
+-- heap words: one that changes is owed, or is 0
+
+stored : (c : Config) (m : Moment) (k : ℕ) (x : Step) (n y : ℕ) (f : Flight) → k < length m.seats.flights
+    → (Behind c m (Caller k) x).words.heap ≡ slice_set m.words.heap (word_met (flight_of m (Caller k))) n
+    → (Behind c m (Caller k) x).seats.flights ≡ slice_set m.seats.flights k f → f.stage ≡ stage.Dirty
+    → word_met f ≡ word_met (flight_of m (Caller k))
+    → (slice_index (Behind c m (Caller k) x).words.heap y ≡ slice_index m.words.heap y)
+    ⊎ IsGuarded c (Behind c m (Caller k) x) y
+stored c m k x n y f lt heap flights at same = elim (cases_eq y (word_met (flight_of m (Caller k)))) [
+  | inl e ↦
+      let is : flight_of (Behind c m (Caller k) x) (Caller k) ≡ f = rw flights
+      (get_or-set_same m.seats.flights k f at_rest lt) in
+      inr (DirtyIsOwed k (
+        rw is at,
+        rw is (rw (same ∙ sym e)),
+      ))
+  | inr ne ↦ inl (rw heap (get_or-set_other m.words.heap _ y n 0 ne))
+]
+
+pub heap_kind : (c : Config) (m : Moment) (seat : Seat) (x : Step) → Known c m → Meets c m seat x → (y : ℕ)
+    → (slice_index (Behind c m seat x).words.heap y ≡ slice_index m.words.heap y) ⊎ IsGuarded c (Behind c m seat x) y
+heap_kind c m seat step.Reg known h y = inl (ap (λ (t : Table). slice_index t.heap y) (reg_table c m seat))
+heap_kind c m seat (step.Tally n v) known h y = inl (ap (λ (t : Table). slice_index t.heap y) (tally_table m.words n v))
+heap_kind c m (Caller k) step.Write known h y =
+    let lt = ltb-true k c.callers h.seat in
+    let at = at_its_stage (flight_of m (Caller k)).stage (flight_of m (Caller k)).op step.Write refl h.order in
+    let fine = subst (λ (s : Stage). is_astray (standing_at s (flight_of m (Caller k)).op) ≡ false) at
+    (not_astray c m known.orderly k lt) in
+    stored c m k step.Write _ y
+    (progress c m (flight_of m (Caller k)) (found c m (record { seat = Caller k; step = step.Write }))
+    step.Write).flight (omega (arith, lt, known.orderly.flights)) refl refl
+    (ap (λ (s : Stage). stage_behind s (steps_of (flight_of m (Caller k)).op)) at
+    ∙ wrote (flight_of m (Caller k)).op fine) refl
+heap_kind c m (Caller k) step.Cas known h y =
+    let lt = ltb-true k c.callers h.seat in
+    let at = at_its_stage (flight_of m (Caller k)).stage (flight_of m (Caller k)).op step.Cas refl h.order in
+    let fine = subst (λ (s : Stage). is_astray (standing_at s (flight_of m (Caller k)).op) ≡ false) at
+    (not_astray c m known.orderly k lt) in
+    stored c m k step.Cas _ y
+    (progress c m (flight_of m (Caller k)) (found c m (record { seat = Caller k; step = step.Cas })) step.Cas).flight
+    (omega (arith, lt, known.orderly.flights)) refl refl
+    (ap (λ (s : Stage). stage_behind s (steps_of (flight_of m (Caller k)).op)) at
+    ∙ swapped (flight_of m (Caller k)).op fine) refl
+heap_kind c m (Marker k) step.Write known h y = let kind = h.kind in cc
+heap_kind c m Host step.Write known h y = let kind = h.kind in cc
+heap_kind c m (Marker k) step.Cas known h y = let kind = h.kind in cc
+heap_kind c m Host step.Cas known h y = let kind = h.kind in cc
+heap_kind c m seat (step.Wipe n) known h y = elim (cases_eq y n) [
+  | inl e ↦ elim (cases_lt n (length m.words.heap)) [
+    | inl lt ↦
+        let bare = ap (λ i. slice_index (slice_set m.words.heap n 0) i) e ∙ get_or-set_same m.words.heap n 0 0 lt in
+        inr (bare_guarded c (Behind c m seat (step.Wipe n)) y bare)
+    | inr past ↦ inl (rw (set_past m.words.heap n 0 past))
+  ]
+  | inr ne ↦ inl (get_or-set_other m.words.heap n y 0 0 ne)
+]
+heap_kind c m seat _ known h y = inl refl
+
+-- dirty words
+
+abbrev pub is_undirty : Step → Bool
+is_undirty (step.Undirty p) = true
+is_undirty _ = false
+
+pub dirty_kind : (c : Config) (m : Moment) (seat : Seat) (x : Step) → is_undirty x ≡ false → (p : ℕ)
+    → slice_index m.words.dirty p ≡ 1 → slice_index (Behind c m seat x).words.dirty p ≡ 1
+dirty_kind c m seat step.Reg u p h = ap (λ (t : Table). slice_index t.dirty p) (reg_table c m seat) ∙ h
+dirty_kind c m seat (step.Tally n v) u p h = ap (λ (t : Table). slice_index t.dirty p) (tally_table m.words n v) ∙ h
+dirty_kind c m seat step.Dirty u p h = elim (cases_eq p (page_met (flight_of m seat))) [
+  | inl e ↦ elim (cases_lt (page_met (flight_of m seat)) (length m.words.dirty)) [
+    | inl lt ↦ rw e (get_or-set_same m.words.dirty (page_met (flight_of m seat)) 1 0 lt)
+    | inr past ↦ rw (set_past m.words.dirty (page_met (flight_of m seat)) 1 past) h
+  ]
+  | inr ne ↦ get_or-set_other m.words.dirty (page_met (flight_of m seat)) p 1 0 ne ∙ h
+]
+dirty_kind c m seat (step.Undirty q) u p h = cc
+dirty_kind c m seat _ u p h = h
+
+-- A call that owes a dirty word has no other step next.
+
+abbrev pub is_dirty : Step → Bool
+is_dirty step.Dirty = true
+is_dirty _ = false
+
+pub at_owed : (o : Op) (x : Step) → comes_next stage.Dirty o x ≡ true → is_dirty x ≡ true
+at_owed o step.Dirty h = refl
+at_owed o _ h = cc
+
+pub owed_kind : (c : Config) (m : Moment) (seat : Seat) (x : Step) → AreOfPages c.pages m.words → Meets c m seat x
+    → (j p : ℕ) → OwesDirty m j p
+    → OwesDirty (Behind c m seat x) j p ⊎ (slice_index (Behind c m seat x).words.dirty p ≡ 1)
+owed_kind c m (Caller k) x len h j p owes = elim (cases_eq j k) [
+  | inr ne ↦
+      let is = get_or-set_other m.seats.flights k j
+      (progress c m (flight_of m (Caller k)) (found c m (record { seat = Caller k; step = x })) x).flight at_rest ne
+      in
+      inl (rw is owes.0, rw is owes.1)
+  | inl e ↦
+      let own : (flight_of m (Caller k)).stage ≡ stage.Dirty = rw e at owes.0 in
+      let page : page_met (flight_of m (Caller k)) ≡ p = rw e at owes.1 in
+      inr (rw page at (paid x h (at_owed (flight_of m (Caller k)).op x (rw own at h.order))))
+]
+  where
+    paid : (x : Step) → Meets c m (Caller k) x → is_dirty x ≡ true
+        → slice_index (Behind c m (Caller k) x).words.dirty (page_met (flight_of m (Caller k))) ≡ 1
+    paid step.Dirty h is =
+        let met = (and_parts (nat_le 65536 (flight_of m (Caller k)).q)
+        (nat_lt (word_met (flight_of m (Caller k))) (64 * c.pages)) h.range).1 in
+        let lt = ltb-true (word_met (flight_of m (Caller k))) (64 * c.pages) met in
+        get_or-set_same m.words.dirty (page_met (flight_of m (Caller k))) 1 0 (omega (arith, len.dirty, lt))
+    paid _ h is = cc
+owed_kind c m _ x len h j p owes = inl owes
+
+-- headers
+
+abbrev pub is_head : Step → Bool
+is_head (step.Head p n) = true
+is_head _ = false
+
+pub headers_kind : (c : Config) (m : Moment) (seat : Seat) (x : Step) → is_head x ≡ false → (p : ℕ)
+    → header_at (Behind c m seat x).words p ≡ header_at m.words p
+headers_kind c m seat step.Reg u p =
+    ap (λ (t : Table). (slice_index_or t.pages p free_page).header) (reg_table c m seat)
+headers_kind c m seat (step.Tally n v) u p =
+    ap (λ (t : Table). (slice_index_or t.pages p free_page).header) (tally_table m.words n v)
+headers_kind c m seat (step.Head q n) u p = cc
+headers_kind c m seat (step.Used q n) u p = elim (cases_eq p q) [
+  | inl e ↦ elim (cases_lt q (length m.words.pages)) [
+    | inl lt ↦
+        rw e (ap (λ (y : Page). y.header)
+        (get_or-set_same m.words.pages q (record { header = header_at m.words q; used = n }) free_page lt) ∙ rw (← e))
+    | inr past ↦ rw (set_past m.words.pages q (record { header = header_at m.words q; used = n }) past)
+  ]
+  | inr ne ↦ ap (λ (y : Page). y.header)
+      (get_or-set_other m.words.pages q p (record { header = header_at m.words q; used = n }) free_page ne)
+]
+headers_kind c m seat _ u p = refl
+
+-- marks only grow while a cycle marks
+marks_grow : (c : Config) (m : Moment) (seat : Seat) (y : Colours) → IsMarking m.words → ColourStep c m seat y
+    → OnlyGrow m.words.marks y.marks
+marks_grow c m seat y early (ClearsMarks p z) =
+    elim early [ inl e ↦ absurd (omega arith) | inr e ↦ absurd (omega arith) ]
+marks_grow c m seat y early (AddsMarks p bits e h) = grows_more m.words.marks p bits
+marks_grow c m seat y early (MarksSeen p bits s e f) = grows_more m.words.marks p bits
+marks_grow c m seat y early _ = grows_same m.words.marks
+
+pub marks_kind : (c : Config) (m : Moment) (seat : Seat) (x : Step) → IsMarking m.words → Meets c m seat x
+    → OnlyGrow m.words.marks (Behind c m seat x).words.marks
+marks_kind c m seat x early h = marks_grow c m seat _ early (colour_step c m seat x h)
+
+-- black words: bits are added by two kinds
+abbrev pub is_blackening : Step → Bool
+is_blackening (step.Black p n) = true
+is_blackening step.Mblack = true
+is_blackening _ = false
+
+pub blacks_kind : (c : Config) (m : Moment) (seat : Seat) (x : Step) → is_blackening x ≡ false
+    → OnlyGrow (Behind c m seat x).words.blacks m.words.blacks
+blacks_kind c m seat step.Reg u = subst (λ (t : Table). OnlyGrow t.blacks m.words.blacks) (sym (reg_table c m seat))
+    (grows_same m.words.blacks)
+blacks_kind c m seat (step.Tally n v) u =
+    subst (λ (t : Table). OnlyGrow t.blacks m.words.blacks) (sym (tally_table m.words n v)) (grows_same m.words.blacks)
+blacks_kind c m seat (step.Black p n) u = cc
+blacks_kind c m seat step.Mblack u = cc
+blacks_kind c m seat (step.Unblack q) u = λ p k is. elim (cases_eq p q) [
+  | inl e ↦ elim (cases_lt q (length m.words.blacks)) [
+    | inl lt ↦
+        let none = ap (λ i. slice_index (slice_set m.words.blacks q 0) i) e ∙ get_or-set_same m.words.blacks q 0 0 lt in
+        absurd (true≢false (sym is ∙ no_bit (slice_index (slice_set m.words.blacks q 0) p) k none))
+    | inr past ↦ rw (set_past m.words.blacks q 0 past) at is
+  ]
+  | inr ne ↦ rw (get_or-set_other m.words.blacks q p 0 0 ne) at is
+]
+blacks_kind c m seat _ u = grows_same m.words.blacks

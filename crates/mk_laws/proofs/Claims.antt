@@ -1,0 +1,143 @@
+-- The claims of the allocations, by their numbers, and after a change of each.
+use Rattle.std.proofs.Common.{List, ap, false, inl, inr, map, refl, subst, suc, sym, true, zero, ℕ, ◌∙◌, ◌∷◌, ◌≡◌, ◌⊎◌}
+use Rattle.std.proofs.Common.{[]}
+use Rattle.std.specs.Prelude.{Option}
+use Rattle.std.proofs.lemmas.Bool.{cases_Bool, cond-false, cond-true, true≢false}
+use Rattle.mk_laws.proofs.Vocabulary.{Cell, Config, PlacedAllocation, RunPages, cell_of_allocation, object_placed}
+use Rattle.mk_laws.proofs.Vocabulary.{placed_at}
+use Rattle.mk_core.proofs.ChangedAllocations.{LeavesPlaces, changed_at}
+use Rattle.mk_laws.specs.LayoutScene.{Among, AreApart, Claim, IsOfOneCell}
+use Rattle.mk_laws.specs.Terrain.{IsAtCell, claim_of, claims_of}
+
+-- the unreleased allocation whose claim it is
+pub record IsClaimOf (c : Config) (run : Option RunPages) (xs : List PlacedAllocation) (x : Claim) : Type 0 where
+  pub number : ℕ
+  pub unreleased : (placed_at xs number).released ≡ false
+  pub is : x ≡ claim_of c run (placed_at xs number)
+
+-- one allocation more at the front
+pub front : (c : Config) (run : Option RunPages) (a : PlacedAllocation) (xs : List PlacedAllocation)
+    → a.released ≡ false → claims_of c run (a ∷ xs) ≡ claim_of c run a ∷ claims_of c run xs
+front c run a xs u = cond-false a.released (claims_of c run xs) (claim_of c run a ∷ claims_of c run xs) u
+
+pub gone_front : (c : Config) (run : Option RunPages) (a : PlacedAllocation) (xs : List PlacedAllocation)
+    → a.released ≡ true → claims_of c run (a ∷ xs) ≡ claims_of c run xs
+gone_front c run a xs r = cond-true a.released (claims_of c run xs) (claim_of c run a ∷ claims_of c run xs) r
+
+behind_front : (c : Config) (run : Option RunPages) (a : PlacedAllocation) (xs : List PlacedAllocation) (x : Claim)
+    → IsClaimOf c run xs x → IsClaimOf c run (a ∷ xs) x
+behind_front c run a xs x h = record { number = suc h.number; unreleased = h.unreleased; is = h.is }
+
+pub claim_is : (c : Config) (run : Option RunPages) (xs : List PlacedAllocation) (x : Claim)
+    → Among x (claims_of c run xs) → IsClaimOf c run xs x
+claim_is c run [] x i = absurd i
+claim_is c run (a ∷ xs) x i = elim (cases_Bool a.released) [
+  | inl r ↦ behind_front c run a xs x (claim_is c run xs x (rw (gone_front c run a xs r) at i))
+  | inr u ↦
+      let j : Among x (claim_of c run a ∷ claims_of c run xs) = rw (front c run a xs u) at i in
+      elim j [
+        | inl e ↦ record { number = 0; unreleased = u; is = e }
+        | inr k ↦ behind_front c run a xs x (claim_is c run xs x k)
+      ]
+]
+
+pub claim_among : (c : Config) (run : Option RunPages) (xs : List PlacedAllocation) (i : ℕ)
+    → (placed_at xs i).released ≡ false → Among (claim_of c run (placed_at xs i)) (claims_of c run xs)
+claim_among c run [] i u = absurd (true≢false u)
+claim_among c run (a ∷ xs) zero u = rw (front c run a xs u) (inl refl)
+claim_among c run (a ∷ xs) (suc i) u = elim (cases_Bool a.released) [
+  | inl r ↦ rw (gone_front c run a xs r) (claim_among c run xs i u)
+  | inr v ↦ rw (front c run a xs v) (inr (claim_among c run xs i u))
+]
+
+-- A change of each allocation that leaves it at its place and undoes no release.
+pub record LeavesCells (g : PlacedAllocation → PlacedAllocation) : Type 0 where
+  pub places : LeavesPlaces g
+  pub released : (a : PlacedAllocation) → (g a).released ≡ false → a.released ≡ false
+
+pub same_cell : (c : Config) (a b : PlacedAllocation) → b.base ≡ a.base → b.ty ≡ a.ty
+    → cell_of_allocation c b ≡ cell_of_allocation c a
+same_cell c a b base ty = rw base (rw ty)
+
+pub one_cell : (c : Config) (old new : Option RunPages) (a b : PlacedAllocation) → b.base ≡ a.base → b.ty ≡ a.ty
+    → IsOfOneCell (claim_of c new b) (claim_of c old a)
+one_cell c old new a b base ty = (rw base, ap (λ (x : Cell). x.index) (same_cell c a b base ty))
+
+-- A claim after it is that of an allocation that was unreleased.
+pub record WasClaim (c : Config) (run : Option RunPages) (g : PlacedAllocation
+    → PlacedAllocation) (xs : List PlacedAllocation) (y : Claim) : Type 0 where
+  pub number : ℕ
+  pub unreleased : (g (placed_at xs number)).released ≡ false
+  pub was : (placed_at xs number).released ≡ false
+  pub is : y ≡ claim_of c run (g (placed_at xs number))
+
+pub was_claim : (c : Config) (run : Option RunPages) (g : PlacedAllocation
+    → PlacedAllocation) (xs : List PlacedAllocation) (y : Claim) → LeavesCells g
+    → Among y (claims_of c run (map g xs)) → WasClaim c run g xs y
+was_claim c run g xs y leaves i =
+    let x = claim_is c run (map g xs) y i in
+    let at = changed_at g xs x.number leaves.places.none in
+    let u : (g (placed_at xs x.number)).released ≡ false = rw (← at) x.unreleased in
+    record {
+      number = x.number;
+      unreleased = u;
+      was = leaves.released (placed_at xs x.number) u;
+      is = x.is ∙ ap (λ (a : PlacedAllocation). claim_of c run a) at;
+    }
+
+pub changed_among : (c : Config) (run : Option RunPages) (g : PlacedAllocation
+    → PlacedAllocation) (xs : List PlacedAllocation) (i : ℕ) → LeavesCells g
+    → (g (placed_at xs i)).released ≡ false → Among (claim_of c run (g (placed_at xs i))) (claims_of c run (map g xs))
+changed_among c run g xs i leaves u =
+    let at = changed_at g xs i leaves.places.none in
+    subst (λ (a : PlacedAllocation). Among (claim_of c run a) (claims_of c run (map g xs))) at
+    (claim_among c run (map g xs) i (ap (λ (a : PlacedAllocation). a.released) at ∙ u))
+
+-- Claims stay apart,
+pub apart_behind : (c : Config) (old new : Option RunPages) (g : PlacedAllocation
+    → PlacedAllocation) (xs : List PlacedAllocation) → LeavesCells g
+    → AreApart (claims_of c old xs) → AreApart (claims_of c new (map g xs))
+apart_behind c old new g [] leaves apart = apart
+apart_behind c old new g (a ∷ xs) leaves apart =
+    by (cases_Bool (g a).released) (cases_Bool a.released) (λ before. apart_behind c old new g xs leaves before)
+  where
+    by : ((g a).released ≡ true) ⊎ ((g a).released ≡ false) → (a.released ≡ true) ⊎ (a.released ≡ false)
+        → (AreApart (claims_of c old xs) → AreApart (claims_of c new (map g xs)))
+        → AreApart (claims_of c new (map g (a ∷ xs)))
+    by (inl r) (inl s) rest = rw (gone_front c new (g a) (map g xs) r) (rest (rw (gone_front c old a xs s) at apart))
+    by (inl r) (inr v) rest =
+        let before : AreApart (claim_of c old a ∷ claims_of c old xs) = rw (front c old a xs v) at apart in
+        rw (gone_front c new (g a) (map g xs) r) (rest before.1)
+    by (inr u) (inl s) rest = absurd (true≢false (sym s ∙ leaves.released a u))
+    by (inr u) (inr v) rest =
+        let before : AreApart (claim_of c old a ∷ claims_of c old xs) = rw (front c old a xs v) at apart in
+        rw (front c new (g a) (map g xs) u) (
+          λ y i same.
+              let was = was_claim c new g xs y leaves i in
+              let b : PlacedAllocation = placed_at xs was.number in
+              let of_b = one_cell c old new b (g b) (leaves.places.base b) (leaves.places.ty b) in
+              let of_a = one_cell c old new a (g a) (leaves.places.base a) (leaves.places.ty a) in
+              before.0 (claim_of c old b) (claim_among c old xs was.number was.was) (
+                sym of_a.0 ∙ same.0 ∙ ap (λ (x : Claim). x.page) was.is ∙ of_b.0,
+                sym of_a.1 ∙ same.1 ∙ ap (λ (x : Claim). x.index) was.is ∙ of_b.1,
+              ),
+          rest before.1,
+        )
+
+-- and allocations at their cells.
+pub at_cell : (c : Config) (a b : PlacedAllocation) → b.base ≡ a.base → b.ty ≡ a.ty → IsAtCell c a → IsAtCell c b
+at_cell c a b base ty at =
+    let same : object_placed c b ≡ object_placed c a = rw ty in
+    record {
+      typed = rw ty at.typed;
+      begins = rw same (rw base at.begins);
+    }
+
+pub cells_behind : (c : Config) (g : PlacedAllocation → PlacedAllocation) (xs : List PlacedAllocation) → LeavesCells g
+    → ((i : ℕ) → (placed_at xs i).released ≡ false → IsAtCell c (placed_at xs i))
+    → (i : ℕ) → (placed_at (map g xs) i).released ≡ false → IsAtCell c (placed_at (map g xs) i)
+cells_behind c g xs leaves cells i u =
+    let at = changed_at g xs i leaves.places.none in
+    let v = leaves.released (placed_at xs i) (rw (← at) u) in
+    rw at (at_cell c (placed_at xs i) (g (placed_at xs i)) (leaves.places.base (placed_at xs i))
+    (leaves.places.ty (placed_at xs i)) (cells i v))

@@ -1,0 +1,132 @@
+-- `close`: no dirty word, nothing owed, marked cells black; so the marks are closed.
+use Rattle.std.proofs.Common.{◌≡◌, ℕ, ◌+◌, ◌/◌, ◌<◌, true, false, refl, sym, ◌∙◌, ap, subst, inl, inr, arith}
+use Rattle.std.specs.Prelude.{slice_index, slice_index_or, min, ◌&&◌, ◌==◌, bit_and}
+use Rattle.std.specs.List.{list_all}
+use Rattle.std.specs.Int.{bit_at}
+use Rattle.std.proofs.lemmas.Bool.{cases_eq, cases_lt, true≢false, eqb-true, eq-eqb, and_parts}
+use Rattle.std.proofs.lemmas.List.{get_or_past}
+use Rattle.std.proofs.lemmas.Nat.Bits.{bit_at_and, bit_at_ones}
+use Rattle.mk_laws.proofs.Vocabulary.{AreOfPages, BlackIsGuarded, Caller, Config, DirtyIsOwed, Flight, Host}
+use Rattle.mk_laws.proofs.Vocabulary.{IsGuarded, Marker, Moment, Page, PageIsDirty, PointsWell, Seat, Stage, Words}
+use Rattle.mk_laws.proofs.Vocabulary.{all_below, at_rest, cells_under, comes_next, first_word, flight_of, free_page}
+use Rattle.mk_laws.proofs.Vocabulary.{has_bit, has_closed_page, header_in, header_of, holder_number, none_attends}
+use Rattle.mk_laws.proofs.Vocabulary.{points_well, roots_point_well, without, word_points_well}
+use Rattle.mk_core.specs.declared.events.Step.TheVariants as step
+use Rattle.mk_core.specs.declared.seats.Stage.TheVariants as stage
+use Rattle.mk_core.specs.Cells.{cell_bits}
+use Rattle.mk_core.proofs.AllBelow.{all_below-at}
+use Rattle.mk_core.proofs.ListTests.{list_all-at}
+use Rattle.mk_core.proofs.WordBits.{without_none, fewer_bits}
+use Rattle.mk_core.proofs.MarkTests.{null_points_well}
+use Rattle.mk_laws.proofs.Standings.{InCall, standing, standing_at, is_astray}
+use Rattle.mk_laws.proofs.Stages.{calls_stand}
+use Rattle.mk_laws.proofs.Views.{view_of}
+use Rattle.mk_laws.proofs.Orderly.{shows_at}
+use Rattle.mk_laws.proofs.Actors.{Meets}
+use Rattle.mk_laws.proofs.Asked.{others_held}
+use Rattle.mk_laws.proofs.OrderlyLists.{not_astray}
+use Rattle.mk_laws.proofs.Known.{Known}
+use Rattle.mk_laws.specs.Guard.{CellsAreClosed}
+use Rattle.mk_laws.proofs.Changes.{at_owed}
+
+-- where a `close` is enabled, no call owes a dirty word
+none_owes : (c : Config) (m : Moment) (seat : Seat) (j : ℕ) → Known c m → Meets c m seat step.Close
+    → (flight_of m (Caller j)).stage ≡ stage.Dirty → ⊥
+none_owes c m seat j known h at = elim (cases_lt j c.callers) [
+  | inr past ↦
+      let rest : flight_of m (Caller j) ≡ at_rest =
+      get_or_past m.seats.flights j at_rest (omega (arith, known.orderly.flights)) in
+      let bad : stage.Idle ≡ stage.Dirty = sym (rw rest) ∙ at in
+      true≢false (let y : true ≡ false = cc in y)
+  | inl lt ↦ elim (cases_eq (holder_number c seat) j) [
+    | inl e ↦ own seat e lt h
+    | inr ne ↦
+        let fine = subst (λ (s : Stage). is_astray (standing_at s (flight_of m (Caller j)).op) ≡ false) at
+        (not_astray c m known.orderly j lt) in
+        let stands : standing (flight_of m (Caller j)) ≡ InCall
+        = ap (λ (s : Stage). standing_at s (flight_of m (Caller j)).op) at ∙ calls_stand stage.Dirty _ refl fine in
+        let one = (shows_at c (view_of m) j InCall known.orderly lt stands).0 in
+        let two = others_held c m seat h.gates j lt ne in
+        absurd (omega arith)
+  ]
+]
+  where
+    own : (seat : Seat) → holder_number c seat ≡ j → j < c.callers → Meets c m seat step.Close → ⊥
+    own (Caller k) e lt h =
+        let here : (flight_of m (Caller k)).stage ≡ stage.Dirty =
+        subst (λ i. (flight_of m (Caller i)).stage ≡ stage.Dirty) (sym e) at in
+        true≢false (sym (at_owed (flight_of m (Caller k)).op step.Close (rw here at h.order)))
+    own (Marker k) e lt h = absurd (omega arith)
+    own Host e lt h = absurd (omega arith)
+
+-- a marked cell of the page is black, and the page isn't dirty
+
+record ClosedPage (w : Words) (p : ℕ) : Type 0 where
+  black : without (bit_and (slice_index w.marks p) (cell_bits w p)) (slice_index w.blacks p) ≡ 0
+  clean : slice_index w.dirty p ≡ 0
+
+closed_page : (w : Words) (p : ℕ) → has_closed_page w p ≡ true → ClosedPage w p
+closed_page w p h =
+    let parts = and_parts _ _ h in
+    record {
+      black = eqb-true _ 0 parts.0;
+      clean = eqb-true _ 0 parts.1;
+    }
+
+black_bit : (w : Words) (p k : ℕ) → ClosedPage w p → k < cells_under (header_in w p)
+    → has_bit (slice_index w.marks p) k ≡ true → has_bit (slice_index w.blacks p) k ≡ true
+black_bit w p k h lt is =
+    fewer_bits (bit_and _ (cell_bits w p)) _ k (without_none (bit_and _ (cell_bits w p)) _ h.black)
+    (eq-eqb (bit_at (bit_and _ (cell_bits w p)) k) 1 (bit_at_and _ (cell_bits w p) k
+    ∙ (let one = eqb-true (bit_at _ k) 1 is in
+    let ones = bit_at_ones _ k lt in
+    let both : min (bit_at (slice_index w.marks p) k) (bit_at (cell_bits w p) k) ≡ 1 = omega arith in
+    both)))
+
+pub closed : (c : Config) (m : Moment) (seat : Seat) → Known c m → AreOfPages c.pages m.words
+    → Meets c m seat step.Close → BlackIsGuarded c m → CellsAreClosed c m.words
+closed c m seat known len h black =
+    record {
+      registers = λ i. list_all-at (points_well c.pages m.words) m.words.registers 0 roots.0
+          (null_points_well c m.words) i;
+      globals = λ g. list_all-at (points_well c.pages m.words) m.words.globals 0 roots.1 (null_points_well c m.words) g;
+      words = λ cell i lt is scanned li.
+          let there = page cell.page (in_heap cell.page cell.index lt) in
+          settled (first_word m.words cell + i)
+          (black cell.page cell.index i lt (black_bit m.words cell.page cell.index there lt is) scanned li);
+    }
+  where
+    parts : (all_below c.pages (has_closed_page m.words) ≡ true) × (roots_point_well c.pages m.words ≡ true)
+    parts =
+        let a = and_parts (none_attends m.seats.markers && all_below c.pages (has_closed_page m.words))
+        (roots_point_well c.pages m.words) h.holder in
+        ((and_parts (none_attends m.seats.markers) (all_below c.pages (has_closed_page m.words)) a.0).1, a.1)
+
+    roots : (list_all (points_well c.pages m.words) m.words.registers ≡ true)
+        × (list_all (points_well c.pages m.words) m.words.globals ≡ true)
+    roots = and_parts (list_all (points_well c.pages m.words) m.words.registers)
+        (list_all (points_well c.pages m.words) m.words.globals) parts.1
+
+    page : (p : ℕ) → p < c.pages → ClosedPage m.words p
+    page p lt = closed_page m.words p (all_below-at c.pages p (has_closed_page m.words) parts.0 lt)
+
+    in_heap : (p k : ℕ) → k < cells_under (header_in m.words p) → p < c.pages
+    in_heap p k lt = elim (cases_lt p c.pages) [
+      | inl is ↦ is
+      | inr past ↦
+          let free : slice_index_or m.words.pages p free_page ≡ free_page =
+          get_or_past m.words.pages p free_page (omega (arith, len.pages)) in
+          let none : k < 0 = subst (λ (y : Page). k < cells_under (header_of y.header)) free lt in
+          absurd (omega arith)
+    ]
+
+    dirty : (p : ℕ) → slice_index m.words.dirty p ≡ 1 → ⊥
+    dirty p one = elim (cases_lt p c.pages) [
+      | inl lt ↦ let zero = (page p lt).clean in absurd (omega arith)
+      | inr past ↦ let zero = get_or_past m.words.dirty p 0 (omega (arith, len.dirty)) in absurd (omega arith)
+    ]
+
+    settled : (n : ℕ) → IsGuarded c m n → word_points_well c.pages m.words n ≡ true
+    settled n (PointsWell h) = h
+    settled n (PageIsDirty d) = absurd (dirty (n / 64) d)
+    settled n (DirtyIsOwed j owes) = absurd (none_owes c m seat j known h owes.0)

@@ -1,0 +1,157 @@
+-- What an event may do to marks, blacks and dirty words, and to the hand of the turn's holder.
+use Rattle.std.proofs.Common.{◌≡◌, ◌⊎◌, ℕ, Bool, true, false, List, refl, sym, ◌∙◌, ap, subst, inl, inr, arith}
+use Rattle.std.specs.Prelude.{Option, None, is_some, slice_index, slice_set, bit_or, not, ◌&&◌, ◌||◌, ◌==◌}
+use Rattle.std.specs.Prelude.{if◌then◌else◌}
+use Rattle.std.proofs.lemmas.Bool.{not-true, eqb-true, or_cases, and_parts}
+use Rattle.mk_laws.proofs.Vocabulary.{Access, Config, Hand, Load, Moment, Named, OnlyGrow, Seat, Step, Store, Tally}
+use Rattle.mk_laws.proofs.Vocabulary.{Word, Words, accessed, caller_number, cell_seen, flight_of, found, head_page}
+use Rattle.mk_laws.proofs.Vocabulary.{is_attending, is_phase, marker_at, marker_of, none_attends, nothing_done}
+use Rattle.mk_laws.proofs.Vocabulary.{or_else, page_met, phase_of, reg_access, register_met, scan_page, seen_bit}
+use Rattle.mk_laws.proofs.Vocabulary.{seen_page, tally_word}
+use Rattle.mk_core.specs.declared.events.Tally.TheVariants as tally
+use Rattle.mk_core.specs.declared.events.Word.TheVariants as word
+use Rattle.mk_core.specs.declared.events.Step.TheVariants as step
+use Rattle.mk_core.specs.StopConditions.{may_mark, may_undirty, may_black}
+use Rattle.mk_core.specs.MarkerConditions.{may_mblack}
+use Rattle.mk_core.specs.Accesses.{scan_bit}
+use Rattle.mk_core.specs.Effects.{hand_given}
+use Rattle.mk_laws.proofs.Asked.{none_at}
+use Rattle.mk_laws.proofs.Actors.{Meets}
+use Rattle.mk_laws.proofs.SameWords.{Behind}
+use Rattle.mk_laws.proofs.Growth.{grows_same, grows_more}
+
+pub record Colours : Type 0 where
+  pub marks : List ℕ
+  pub blacks : List ℕ
+  pub dirty : List ℕ
+  pub hand : Option Hand
+
+abbrev pub colours_with : Words → Option Hand → Colours
+colours_with w hand = record { marks = w.marks; blacks = w.blacks; dirty = w.dirty; hand = hand }
+
+abbrev pub colours_of : Moment → Colours
+colours_of m = colours_with m.words m.seats.holding.hand
+
+-- The phase is 0, or the stop is wanted and no marker attends.
+abbrev pub IsQuiet : Moment → Type 0
+IsQuiet m = (phase_of m.words ≡ 0) ⊎ ((phase_of m.words ≡ 2) × (none_attends m.seats.markers ≡ true))
+
+-- where a seat steps
+pub data ColourStep (c : Config) (m : Moment) (seat : Seat) : Colours → Type 0 where
+  Leaves : ColourStep c m seat (colours_of m)
+  ClearsMarks : (p : ℕ) → phase_of m.words ≡ 0
+      → ColourStep c m seat (record (colours_of m) { marks = slice_set m.words.marks p 0 })
+  AddsMarks : (p bits : ℕ) → (phase_of m.words ≡ 1) ⊎ (phase_of m.words ≡ 2)
+      → may_mark c m (flight_of m seat) p bits ≡ true
+      → ColourStep c m seat
+      (record (colours_of m) { marks = slice_set m.words.marks p (bit_or (slice_index m.words.marks p) bits) })
+  MarksSeen : (p bits : ℕ) → is_some (cell_seen c (marker_at m seat).seen (marker_at m seat).hand) ≡ true
+      → seen_page (cell_seen c (marker_at m seat).seen (marker_at m seat).hand) ≡ p
+      → seen_bit (cell_seen c (marker_at m seat).seen (marker_at m seat).hand) ≡ bits
+      → ColourStep c m seat
+      (record (colours_of m) { marks = slice_set m.words.marks p (bit_or (slice_index m.words.marks p) bits) })
+  Blackens : (p bits : ℕ) → phase_of m.words ≡ 2 → may_black c m p bits ≡ true
+      → ColourStep c m seat
+      (record (colours_of m) { blacks = slice_set m.words.blacks p (bit_or (slice_index m.words.blacks p) bits) })
+  BlackensScanned : (p bits : ℕ) → may_mblack (marker_at m seat) ≡ true → scan_page (marker_at m seat).scan ≡ p
+      → scan_bit (marker_at m seat).scan ≡ bits
+      → ColourStep c m seat
+      (record (colours_of m) { blacks = slice_set m.words.blacks p (bit_or (slice_index m.words.blacks p) bits) })
+  Whitens : (p : ℕ) → IsQuiet m → ColourStep c m seat (record (colours_of m) { blacks = slice_set m.words.blacks p 0 })
+  Dirties : ColourStep c m seat
+      (record (colours_of m) { dirty = slice_set m.words.dirty (page_met (flight_of m seat)) 1 })
+  Cleans : (p : ℕ) → IsQuiet m → may_undirty m p ≡ true
+      → ColourStep c m seat (record (colours_of m) { dirty = slice_set m.words.dirty p 0 })
+  TakesHand : (x : Word)
+      → ColourStep c m seat
+      (colours_with m.words
+      (or_else (hand_given c m seat x (found c m (record { seat = seat; step = step.Look x }))) m.seats.holding.hand))
+  DropsHand : ColourStep c m seat (record (colours_of m) { hand = None })
+
+pub reg_colours : (w : Words) (k r : ℕ) (a : Access) (hand : Option Hand)
+    → colours_with (accessed w (Named (word.Reg k r)) a) hand ≡ colours_with w hand
+reg_colours w k r Load hand = refl
+reg_colours w k r _ hand = refl
+
+pub tally_colours : (w : Words) (n : Tally) (v : ℕ) (hand : Option Hand)
+    → colours_with (accessed w (Named (tally_word n)) (Store v)) hand ≡ colours_with w hand
+tally_colours w tally.Held v hand = refl
+tally_colours w _ v hand = refl
+
+marking : (n : ℕ) → ((n == 1) || (n == 2)) ≡ true → (n ≡ 1) ⊎ (n ≡ 2)
+marking n h = elim (or_cases (n == 1) (n == 2) h) [ inl e ↦ inl (eqb-true n 1 e) | inr e ↦ inr (eqb-true n 2 e) ]
+
+quiet : (m : Moment) (more : Bool) → ((phase_of m.words == 0) || (phase_of m.words == 2)) ≡ true
+    → (not (is_phase m.words 2) || (none_attends m.seats.markers && more)) ≡ true → IsQuiet m
+quiet m more h own = elim (or_cases (phase_of m.words == 0) (phase_of m.words == 2) h) [
+  | inl z ↦ inl (eqb-true (phase_of m.words) 0 z)
+  | inr two ↦ elim (or_cases (not (is_phase m.words 2)) (none_attends m.seats.markers && more) own) [
+    | inl out ↦ let y : true ≡ false = sym two ∙ not-true (is_phase m.words 2) out in cc
+    | inr none ↦ inr (eqb-true (phase_of m.words) 2 two, (and_parts (none_attends m.seats.markers) more none).0)
+  ]
+]
+
+and_true : (b : Bool) → b ≡ (b && true)
+and_true true = refl
+and_true false = refl
+
+-- what `undirty` asks besides that no marker attends
+abbrev is_blank : Moment → ℕ → Bool
+is_blank m p = (slice_index m.words.blacks p == 0) && (slice_index m.words.blacks (head_page m.words p) == 0)
+
+and_moved : (a b d : Bool) → (a && b && d) ≡ (a && (b && d))
+and_moved true b d = refl
+and_moved false b d = refl
+
+takes_or_not : (c : Config) (m : Moment) (seat : Seat) (b : Bool)
+    → ColourStep c m seat (colours_with m.words (if b then nothing_done else m.seats.holding).hand)
+takes_or_not c m seat true = DropsHand
+takes_or_not c m seat false = Leaves
+
+-- all kinds, whatever the seat
+pub colour_step : (c : Config) (m : Moment) (seat : Seat) (x : Step) → Meets c m seat x
+    → ColourStep c m seat (colours_of (Behind c m seat x))
+colour_step c m seat step.Reg h =
+    let f = flight_of m seat in
+    rw (reg_colours m.words (caller_number seat) (register_met f f.stage)
+    (reg_access f f.stage) m.seats.holding.hand) Leaves
+colour_step c m seat (step.Tally n v) h = rw (tally_colours m.words n v m.seats.holding.hand) Leaves
+colour_step c m seat (step.Take o) h = takes_or_not c m seat (m.words.turn == 0)
+colour_step c m seat step.Give h = DropsHand
+colour_step c m seat (step.Look w) h = TakesHand w
+colour_step c m seat step.Begin h = DropsHand
+colour_step c m seat step.Dirty h = Dirties
+colour_step c m seat (step.Clear p) h = ClearsMarks p (eqb-true (phase_of m.words) 0 h.phase)
+colour_step c m seat (step.Mark p v) h = AddsMarks p v (marking (phase_of m.words) h.phase) h.holder
+colour_step c m seat step.Mmark h = MarksSeen _ _ h.marker refl refl
+colour_step c m seat (step.Black p v) h = Blackens p v (eqb-true (phase_of m.words) 2 h.phase) h.holder
+colour_step c m seat step.Mblack h = BlackensScanned _ _ h.marker refl refl
+colour_step c m seat (step.Unblack p) h =
+    Whitens p (quiet m true h.phase (rw (← (and_true (none_attends m.seats.markers))) h.holder))
+colour_step c m seat (step.Undirty p) h =
+    Cleans p (quiet m (is_blank m p) h.phase
+    (rw (← (and_moved (none_attends m.seats.markers) (slice_index m.words.blacks p == 0)
+    (slice_index m.words.blacks (head_page m.words p) == 0))) h.holder)) h.holder
+colour_step c m seat _ h = Leaves
+
+-- While a marker attends, no mark and no black bit is cleared.
+quiet_ends : (m : Moment) (k : ℕ) → (phase_of m.words ≡ 1) ⊎ (phase_of m.words ≡ 2)
+    → is_attending (marker_of m k).presence ≡ true → IsQuiet m → ⊥
+quiet_ends m k early a (inl z) = elim early [ inl e ↦ absurd (omega arith) | inr e ↦ absurd (omega arith) ]
+quiet_ends m k early a (inr none) = let f : true ≡ false = sym a ∙ none_at m.seats.markers k none.1 in cc
+
+pub attending_grows : (c : Config) (m : Moment) (seat : Seat) (y : Colours) (k : ℕ)
+    → (phase_of m.words ≡ 1) ⊎ (phase_of m.words ≡ 2)
+    → is_attending (marker_of m k).presence ≡ true
+    → ColourStep c m seat y → OnlyGrow m.words.marks y.marks × OnlyGrow m.words.blacks y.blacks
+attending_grows c m seat y k early a (AddsMarks p bits e h) =
+    (grows_more m.words.marks p bits, grows_same m.words.blacks)
+attending_grows c m seat y k early a (MarksSeen p bits s e f) =
+    (grows_more m.words.marks p bits, grows_same m.words.blacks)
+attending_grows c m seat y k early a (Blackens p bits e h) =
+    (grows_same m.words.marks, grows_more m.words.blacks p bits)
+attending_grows c m seat y k early a (BlackensScanned p bits s e f) =
+    (grows_same m.words.marks, grows_more m.words.blacks p bits)
+attending_grows c m seat y k early a (ClearsMarks p z) = absurd (quiet_ends m k early a (inl z))
+attending_grows c m seat y k early a (Whitens p q) = absurd (quiet_ends m k early a q)
+attending_grows c m seat y k early a _ = (grows_same m.words.marks, grows_same m.words.blacks)

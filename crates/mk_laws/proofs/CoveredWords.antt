@@ -1,0 +1,52 @@
+-- A word of a scanned cell that isn't 0 lies on a page that leads to the cell's page.
+use Rattle.std.proofs.Common.{◌≡◌, ◌≢◌, ℕ, ◌+◌, ◌*◌, ◌/◌, ◌%◌, ◌<◌, true, false, refl, ◌∙◌, ap, inl, inr, arith}
+use Rattle.std.specs.Prelude.{Option, Some, None, slice_index}
+use Rattle.std.proofs.lemmas.Bool.{cases_eq, true≢false}
+use Rattle.mk_laws.proofs.Vocabulary.{Block, Free, Header, Later, LeafBlock, LeafRun, Run, Words, cells_under}
+use Rattle.mk_laws.proofs.Vocabulary.{class_words_of, has_no_pointers, head_page, head_page_under, header_in}
+use Rattle.mk_laws.proofs.Vocabulary.{words_under}
+use Rattle.mk_geom.proofs.ClassTable.{cell_ends}
+use Rattle.mk_laws.specs.Kept.{LaterPagesAreKnown}
+
+-- a page that is its own head
+own_head : (w : Words) (p : ℕ) (x : Option Header) → header_in w p ≡ x → head_page_under x p ≡ p → (n : ℕ) → n / 64 ≡ p
+    → head_page w (n / 64) ≡ p
+own_head w p x is head n at = ap (λ q. head_page w q) at ∙ rw is head
+
+pub covered_word : (w : Words) (p k i : ℕ) → LaterPagesAreKnown w → k < cells_under (header_in w p)
+    → has_no_pointers (header_in w p) ≡ false → i < words_under (header_in w p)
+    → slice_index w.heap (64 * p + k * words_under (header_in w p) + i) ≢ 0
+    → head_page w ((64 * p + k * words_under (header_in w p) + i) / 64) ≡ p
+covered_word w p k i later lk scanned li some = by (header_in w p) refl lk scanned li some
+  where
+    in_run : (count : ℕ) → header_in w p ≡ Some (Run count true) → k < 1 → i < 64 * count
+        → slice_index w.heap (64 * p + k * (64 * count) + i) ≢ 0
+        → head_page w ((64 * p + k * (64 * count) + i) / 64) ≡ p
+    in_run count is lk li some =
+        let zero : k ≡ 0 = omega arith in
+        let at : 64 * p + k * (64 * count) + i ≡ 64 * p + i = rw zero (omega arith) in
+        elim (cases_eq (i / 64) 0) [
+          | inl first ↦ own_head w p _ is refl _ (ap (λ n. n / 64) at ∙ omega arith)
+          | inr ne ↦
+              let page : (64 * p + k * (64 * count) + i) / 64 ≡ p + i / 64 = ap (λ n. n / 64) at ∙ omega arith in
+              elim (later p count (i / 64) is (omega arith) (omega arith)) [
+                | inl head ↦ rw page head
+                | inr bare ↦
+                    let word : 64 * p + k * (64 * count) + i ≡ 64 * (p + i / 64) + i % 64 = at ∙ omega arith in
+                    absurd (some (rw word (bare (i % 64) (omega arith))))
+              ]
+        ]
+
+    by : (x : Option Header) → header_in w p ≡ x → k < cells_under x → has_no_pointers x ≡ false → i < words_under x
+        → slice_index w.heap (64 * p + k * words_under x + i) ≢ 0
+        → head_page w ((64 * p + k * words_under x + i) / 64) ≡ p
+    by (Some (Block class)) is lk scanned li some =
+        let ends = cell_ends k _ lk in
+        own_head w p (Some (Block class)) is refl _ (omega arith)
+    by (Some (Run count true)) is lk scanned li some = in_run count is lk li some
+    by (Some (Run count false)) is lk scanned li some = absurd (true≢false scanned)
+    by (Some (LeafBlock class)) is lk scanned li some = absurd (true≢false scanned)
+    by (Some (LeafRun count)) is lk scanned li some = absurd (true≢false scanned)
+    by (Some Free) is lk scanned li some = absurd (omega arith)
+    by (Some (Later d m)) is lk scanned li some = absurd (omega arith)
+    by None is lk scanned li some = absurd (omega arith)

@@ -1,0 +1,138 @@
+-- The phases of a cycle: which a step asks for and leaves, and between which steps they stand.
+use Rattle.std.proofs.Common.{◌≡◌, ℕ, ◌≤◌, ◌%◌, false, List, ◌∷◌, refl, sym, ap, subst, arith, []}
+use Rattle.std.specs.List.{list_any}
+use Rattle.std.proofs.lemmas.Bool.{eqb-true, or_from, or_parts}
+use Rattle.mk_laws.proofs.Vocabulary.{AreEnabledFrom, Config, Event, Moment, Seat, Step, World, is_begin, is_close}
+use Rattle.mk_laws.proofs.Vocabulary.{is_release, left_from, phase_of, world_behind}
+use Rattle.mk_core.specs.declared.events.Step.TheVariants as step
+use Rattle.mk_core.proofs.Conditions.{enabled_meets}
+use Rattle.mk_laws.proofs.Actors.{Meets}
+use Rattle.mk_laws.proofs.SameWords.{Behind}
+use Rattle.mk_laws.proofs.Changes.{Table, reg_table, tally_table}
+use Rattle.mk_laws.proofs.Phases.{over_phase}
+pub use Rattle.mk_laws.proofs.ProtocolStepKinds.{begin_is, close_is, release_is}
+
+-- the phase that a step asks for
+
+abbrev pub AsksPhase : Step → ℕ → Type 0
+AsksPhase step.Begin p = p ≡ 0
+AsksPhase step.Want p = p ≡ 1
+AsksPhase step.Close p = p ≡ 2
+AsksPhase step.Release p = p ≡ 3
+AsksPhase step.End p = p ≡ 4
+AsksPhase step.Over p = p ≡ 0
+AsksPhase _ p = Unit {0}
+
+pub phase_asked : (c : Config) (m : Moment) (seat : Seat) (x : Step) → Meets c m seat x → AsksPhase x (phase_of m.words)
+phase_asked c m seat step.Begin h = eqb-true (phase_of m.words) 0 h.phase
+phase_asked c m seat step.Want h = eqb-true (phase_of m.words) 1 h.phase
+phase_asked c m seat step.Close h = eqb-true (phase_of m.words) 2 h.phase
+phase_asked c m seat step.Release h = eqb-true (phase_of m.words) 3 h.phase
+phase_asked c m seat step.End h = eqb-true (phase_of m.words) 4 h.phase
+phase_asked c m seat step.Over h = over_phase c m seat h
+phase_asked c m seat _ h = tt
+
+-- and the phase after it
+
+abbrev pub phase_behind : Step → ℕ → ℕ
+phase_behind step.Begin p = 1
+phase_behind step.Want p = 2
+phase_behind step.Close p = 3
+phase_behind step.Release p = 4
+phase_behind step.End p = 0
+phase_behind step.Over p = 5
+phase_behind _ p = p
+
+pub phase_moves : (c : Config) (m : Moment) (seat : Seat) (x : Step) → Meets c m seat x
+    → phase_of (Behind c m seat x).words ≡ phase_behind x (phase_of m.words)
+phase_moves c m seat step.Reg h = ap (λ (t : Table). t.phase % 8) (reg_table c m seat)
+phase_moves c m seat (step.Tally n v) h = ap (λ (t : Table). t.phase % 8) (tally_table m.words n v)
+phase_moves c m seat step.Begin h = let e = phase_asked c m seat step.Begin h in omega arith
+phase_moves c m seat step.Want h = let e = phase_asked c m seat step.Want h in omega arith
+phase_moves c m seat step.Close h = let e = phase_asked c m seat step.Close h in omega arith
+phase_moves c m seat step.Release h = let e = phase_asked c m seat step.Release h in omega arith
+phase_moves c m seat step.End h = let e = phase_asked c m seat step.End h in omega arith
+phase_moves c m seat step.Over h = let e = over_phase c m seat h in omega arith
+phase_moves c m seat step.Attend h = omega arith
+phase_moves c m seat step.Quit h = omega arith
+phase_moves c m seat _ h = refl
+
+-- While marking goes on, phases 1 and 2, no cycle begins or releases before the `close`.
+pub record IsMarking (p : ℕ) : Type 0 where
+  pub least : 1 ≤ p
+  pub most : p ≤ 2
+
+marking_step : (x : Step) (p : ℕ) → AsksPhase x p → IsMarking p → is_close x ≡ false
+    → IsMarking (phase_behind x p) × (is_begin x ≡ false) × (is_release x ≡ false)
+marking_step step.Begin p asks m out = let least = m.least in absurd (omega arith)
+marking_step step.Want p asks m out = (record { least = omega arith; most = omega arith }, refl, refl)
+marking_step step.Close p asks m out = cc
+marking_step step.Release p asks m out = let most = m.most in absurd (omega arith)
+marking_step step.End p asks m out = let most = m.most in absurd (omega arith)
+marking_step step.Over p asks m out = let least = m.least in absurd (omega arith)
+marking_step _ p asks m out = (m, refl, refl)
+
+-- From a `begin` up to its `release`, phases 1, 2 and 3, no other cycle begins.
+pub record IsUnreleased (p : ℕ) : Type 0 where
+  pub least : 1 ≤ p
+  pub most : p ≤ 3
+
+unreleased_step : (x : Step) (p : ℕ) → AsksPhase x p → IsUnreleased p → is_release x ≡ false
+    → IsUnreleased (phase_behind x p) × (is_begin x ≡ false)
+unreleased_step step.Begin p asks m out = let least = m.least in absurd (omega arith)
+unreleased_step step.Want p asks m out = (record { least = omega arith; most = omega arith }, refl)
+unreleased_step step.Close p asks m out = (record { least = omega arith; most = omega arith }, refl)
+unreleased_step step.Release p asks m out = cc
+unreleased_step step.End p asks m out = let most = m.most in absurd (omega arith)
+unreleased_step step.Over p asks m out = let least = m.least in absurd (omega arith)
+unreleased_step _ p asks m out = (m, refl)
+
+-- One event that is enabled: what its phases are.
+pub moves_phase : (c : Config) (w : World) (e : Event) (es : List Event) → AreEnabledFrom c w (e ∷ es)
+    → AsksPhase e.step (phase_of w.now.words)
+    × (phase_of (world_behind c w e).now.words ≡ phase_behind e.step (phase_of w.now.words))
+    × AreEnabledFrom c (world_behind c w e) es
+unfolding AreEnabledFrom
+moves_phase c w e es on =
+    let meets = enabled_meets c w.now e on.0 in
+    (phase_asked c w.now e.seat e.step meets, phase_moves c w.now e.seat e.step meets, on.1)
+
+pub record MarkingGoesOn (c : Config) (w : World) (es : List Event) : Type 0 where
+  pub phase : IsMarking (phase_of (left_from c w es).now.words)
+  pub none_begins : list_any (λ (e : Event). is_begin e.step) es ≡ false
+  pub none_releases : list_any (λ (e : Event). is_release e.step) es ≡ false
+
+pub marking_goes_on : (c : Config) (w : World) (es : List Event) → AreEnabledFrom c w es
+    → IsMarking (phase_of w.now.words) → list_any (λ (e : Event). is_close e.step) es ≡ false → MarkingGoesOn c w es
+unfolding left_from
+marking_goes_on c w [] on m none = record { phase = m; none_begins = refl; none_releases = refl }
+marking_goes_on c w (e ∷ es) on m none =
+    let outs = or_parts (is_close e.step) (list_any (λ (x : Event). is_close x.step) es) none in
+    let moves = moves_phase c w e es on in
+    let one = marking_step e.step (phase_of w.now.words) moves.0 m outs.0 in
+    let rest = marking_goes_on c (world_behind c w e) es moves.2 (subst IsMarking (sym moves.1) one.0) outs.1 in
+    record {
+      phase = rest.phase;
+      none_begins = or_from (is_begin e.step) (list_any (λ (x : Event). is_begin x.step) es) one.1 rest.none_begins;
+      none_releases = or_from (is_release e.step) (list_any (λ (x : Event). is_release x.step) es) one.2
+          rest.none_releases;
+    }
+
+pub record NoneIsReleased (c : Config) (w : World) (es : List Event) : Type 0 where
+  pub phase : IsUnreleased (phase_of (left_from c w es).now.words)
+  pub none_begins : list_any (λ (e : Event). is_begin e.step) es ≡ false
+
+pub none_is_released : (c : Config) (w : World) (es : List Event) → AreEnabledFrom c w es
+    → IsUnreleased (phase_of w.now.words)
+    → list_any (λ (e : Event). is_release e.step) es ≡ false → NoneIsReleased c w es
+unfolding left_from
+none_is_released c w [] on m none = record { phase = m; none_begins = refl }
+none_is_released c w (e ∷ es) on m none =
+    let outs = or_parts (is_release e.step) (list_any (λ (x : Event). is_release x.step) es) none in
+    let moves = moves_phase c w e es on in
+    let one = unreleased_step e.step (phase_of w.now.words) moves.0 m outs.0 in
+    let rest = none_is_released c (world_behind c w e) es moves.2 (subst IsUnreleased (sym moves.1) one.0) outs.1 in
+    record {
+      phase = rest.phase;
+      none_begins = or_from (is_begin e.step) (list_any (λ (x : Event). is_begin x.step) es) one.1 rest.none_begins;
+    }

@@ -1,0 +1,283 @@
+-- On a dirty page, and on one whose dirty mark a call owes, an unreleased allocation stands. Only a `release` could end
+-- that, and at a `release` no page is dirty and no mark is owed.
+use Rattle.std.proofs.Common.{◌≡◌, ◌≢◌, ◌⊎◌, ℕ, true, false, List, ◌∷◌, ◌++◌, length, refl, sym, ◌∙◌, ap, subst, inl}
+use Rattle.std.proofs.Common.{[]}
+use Rattle.std.proofs.Common.{inr, arith, append-nil}
+use Rattle.std.specs.Prelude.{slice_index, slice_index_or, slice_set, ◌==◌, ◌&&◌}
+use Rattle.std.proofs.lemmas.Bool.{cases_eq, cases_lt, and_parts, eqb-true, ltb-true, true≢false}
+use Rattle.std.proofs.lemmas.List.{get_or-set_other, get_or-set_same, get_or_past, set_past}
+use Rattle.mk_laws.proofs.Vocabulary.{AreAdmitted, AreEnabledFrom, Call, Caller, Config, Decided, Event, Flight}
+use Rattle.mk_laws.proofs.Vocabulary.{Host, IsHistory, Marker, Moment, Seat, Stage, Step, World, all_below, asked}
+use Rattle.mk_laws.proofs.Vocabulary.{at_rest, call_decided, calls_from, first_world, flight_of, found}
+use Rattle.mk_laws.proofs.Vocabulary.{has_closed_page, is_release, left, left_from, never_behind, none_attends}
+use Rattle.mk_laws.proofs.Vocabulary.{page_met, phase_of, placed_at, progress, roots_point_well, storage_words}
+use Rattle.mk_laws.proofs.Vocabulary.{word_met}
+use Rattle.mk_core.specs.declared.events.Step.TheVariants as step
+use Rattle.mk_core.specs.declared.seats.Stage.TheVariants as stage
+use Rattle.mk_core.proofs.AllBelow.{all_below-at}
+use Rattle.mk_core.proofs.Histories.{left_more}
+use Rattle.mk_core.proofs.HistoryParts.{admitted_in_parts, earlier_part_is_history, enabled_in_parts}
+use Rattle.mk_laws.proofs.Actors.{Meets}
+use Rattle.mk_laws.proofs.Known.{Known}
+use Rattle.mk_laws.proofs.NextSteps.{at_its_stage}
+use Rattle.mk_laws.proofs.Orderly.{shows_at}
+use Rattle.mk_laws.proofs.OrderlyLists.{at_first, not_astray}
+use Rattle.mk_laws.proofs.OthersMoves.{WorldBehind}
+use Rattle.mk_laws.proofs.Protocols.{protocol_of}
+use Rattle.mk_laws.proofs.SameWords.{Behind}
+use Rattle.mk_laws.proofs.Stages.{calls_stand}
+use Rattle.mk_laws.proofs.Standings.{InCall, is_astray, standing, standing_at}
+use Rattle.mk_laws.proofs.Views.{view_of}
+use Rattle.mk_laws.proofs.Changes.{Table, is_dirty, reg_table, tally_table}
+use Rattle.mk_laws.proofs.KnownWorlds.{KnownWorld, known_world}
+use Rattle.mk_laws.specs.Zeros.{IsWordOfMapped}
+use Rattle.mk_laws.specs.ZeroLaws.{is_heap_store}
+use Rattle.mk_laws.specs.Theorems.{OfHistories}
+use Rattle.mk_laws.proofs.InvariantHistories.{histories_keep_the_invariant}
+use Rattle.mk_laws.proofs.Induction.{KeptByEvents, before_it, holds_of_histories}
+use Rattle.mk_laws.proofs.InvariantJoined.{told_to_zeros}
+use Rattle.mk_laws.specs.FreePages.{DirtyPagesHaveAllocations, HasAllocation}
+use Rattle.mk_laws.proofs.CyclePhases.{phase_asked, phase_behind, phase_moves}
+use Rattle.mk_laws.proofs.MappedWords.{mapped_stays}
+use Rattle.mk_laws.proofs.ReadingsKeptPlaces.{put_step}
+use Rattle.mk_laws.proofs.OwedMarks.{owes_since}
+
+pub record DirtyStands (c : Config) (w : World) : Type 0 where
+  pub dirty : DirtyPagesHaveAllocations c w
+  pub owed : (k : ℕ) → (flight_of w.now (Caller k)).stage ≡ stage.Dirty
+      → HasAllocation c w (page_met (flight_of w.now (Caller k)))
+  -- From `close` to `release` no page is dirty.
+  pub clean : phase_of w.now.words ≡ 3 → (p : ℕ) → slice_index w.now.words.dirty p ≡ 0
+
+-- An allocation stays but at a `release`.
+allocation_stays : (c : Config) (w : World) (seat : Seat) (x : Step) (p : ℕ) → is_release x ≡ false
+    → HasAllocation c w p → HasAllocation c (WorldBehind c w seat x) p
+allocation_stays c w seat x p out a =
+    let put = put_step c w seat x a.number out a.unreleased in
+    let base = put.base in
+    let words : storage_words c (placed_at (WorldBehind c w seat x).allocations a.number)
+    ≡ storage_words c (placed_at w.allocations a.number) = ap (λ ty. storage_words c (record {
+      base = 0;
+      ty = ty;
+      freed = false;
+      fresh = false;
+      released = false;
+    })) put.ty in
+    let of_it = a.of_it in
+    record {
+      number = a.number;
+      unreleased = put.unreleased;
+      word = a.word;
+      of_it = (omega arith, omega arith);
+      page = a.page;
+    }
+
+-- While the marks are closed, up to the `release`, no call owes a mark.
+none_owes : (c : Config) (m : Moment) → Known c m → phase_of m.words ≡ 3 → (k : ℕ)
+    → (flight_of m (Caller k)).stage ≡ stage.Dirty → ⊥
+none_owes c m known three k at = elim (cases_lt k c.callers) [
+  | inr past ↦
+      let rest : flight_of m (Caller k) ≡ at_rest =
+      get_or_past m.seats.flights k at_rest (omega (arith, known.orderly.flights)) in
+      let bad : stage.Idle ≡ stage.Dirty = sym (ap (λ (f : Flight). f.stage) rest) ∙ at in
+      true≢false (let y : true ≡ false = cc in y)
+  | inl lt ↦
+      let fine = subst (λ (s : Stage). is_astray (standing_at s (flight_of m (Caller k)).op) ≡ false) at
+      (not_astray c m known.orderly k lt) in
+      let stands : standing (flight_of m (Caller k)) ≡ InCall
+      = ap (λ (s : Stage). standing_at s (flight_of m (Caller k)).op) at
+      ∙ calls_stand stage.Dirty (flight_of m (Caller k)).op refl fine in
+      let shows = shows_at c (view_of m) k InCall known.orderly lt stands in
+      let one = shows.0 in
+      let two = (protocol_of c m known).stopped three k lt shows.1 in
+      absurd (omega arith)
+]
+
+-- A page that is dirty after a step was so before, or the step is its dirty mark.
+dirty_since : (c : Config) (m : Moment) (seat : Seat) (x : Step) (p : ℕ)
+    → slice_index (Behind c m seat x).words.dirty p ≢ 0
+    → (slice_index m.words.dirty p ≢ 0) ⊎ ((is_dirty x ≡ true) × (page_met (flight_of m seat) ≡ p))
+dirty_since c m seat step.Reg p some =
+    inl (λ z. some (ap (λ (t : Table). slice_index t.dirty p) (reg_table c m seat) ∙ z))
+dirty_since c m seat (step.Tally n v) p some =
+    inl (λ z. some (ap (λ (t : Table). slice_index t.dirty p) (tally_table m.words n v) ∙ z))
+dirty_since c m seat (step.Undirty q) p some = inl (λ z. some (elim (cases_eq p q) [
+  | inr ne ↦ get_or-set_other m.words.dirty q p 0 0 ne ∙ z
+  | inl e ↦ elim (cases_lt q (length m.words.dirty)) [
+    | inl lt ↦ ap (λ i. slice_index (slice_set m.words.dirty q 0) i) e ∙ get_or-set_same m.words.dirty q 0 0 lt
+    | inr past ↦ ap (λ (ys : List ℕ). slice_index ys p) (set_past m.words.dirty q 0 past) ∙ z
+  ]
+]))
+dirty_since c m seat step.Dirty p some = elim (cases_eq p (page_met (flight_of m seat))) [
+  | inl e ↦ inr (refl, sym e)
+  | inr ne ↦ inl (λ z. some (get_or-set_other m.words.dirty (page_met (flight_of m seat)) p 1 0 ne ∙ z))
+]
+dirty_since c m seat _ p some = inl some
+
+-- The step is of a caller that owes the mark.
+owes_now : (c : Config) (m : Moment) (seat : Seat) (x : Step) → Meets c m seat x → is_dirty x ≡ true
+    → (k : ℕ) × (seat ≡ Caller k) × ((flight_of m (Caller k)).stage ≡ stage.Dirty)
+owes_now c m (Caller k) step.Dirty h is =
+    (k, refl, at_its_stage (flight_of m (Caller k)).stage (flight_of m (Caller k)).op step.Dirty refl h.order)
+owes_now c m (Marker k) step.Dirty h is = let kind = h.kind in cc
+owes_now c m Host step.Dirty h is = let kind = h.kind in cc
+owes_now c m seat _ h is = cc
+
+-- A call that owes a mark after a step owed it before, or the step is its store.
+mark_since : (c : Config) (m : Moment) (seat : Seat) (x : Step) → Known c m → Meets c m seat x → (k : ℕ)
+    → (flight_of (Behind c m seat x) (Caller k)).stage ≡ stage.Dirty
+    → (flight_of (Behind c m seat x) (Caller k) ≡ flight_of m (Caller k))
+    ⊎ ((is_heap_store x ≡ true) × (page_met (flight_of m seat) ≡ page_met (flight_of (Behind c m seat x) (Caller k))))
+mark_since c m (Caller j) x known h k at = elim (cases_eq k j) [
+  | inr ne ↦ inl (get_or-set_other m.seats.flights j k flight at_rest ne)
+  | inl e ↦
+      let lt = ltb-true j c.callers h.seat in
+      let here : flight_of (Behind c m (Caller j) x) (Caller k) ≡ flight =
+      ap (λ i. slice_index_or (slice_set m.seats.flights j flight) i at_rest) e
+      ∙ get_or-set_same m.seats.flights j flight at_rest (omega (arith, known.orderly.flights)) in
+      elim (owes_since c m (flight_of m (Caller j)) _ x h.order (ap (λ (f : Flight). f.stage) (sym here) ∙ at)) [
+        | inl same ↦ inl (here ∙ same ∙ ap (λ i. flight_of m (Caller i)) (sym e))
+        | inr new ↦ inr (new.0, sym (ap (λ (f : Flight). page_met f) here ∙ new.1))
+      ]
+]
+  where
+    flight : Flight
+    flight = (progress c m (flight_of m (Caller j)) (found c m (record { seat = Caller j; step = x })) x).flight
+mark_since c m _ x known h k at = inl refl
+
+-- Where the marks are closed after a step, no page was dirty before it.
+was_clean : (c : Config) (w : World) (seat : Seat) (x : Step) → KnownWorld c w → Meets c w.now seat x
+    → DirtyStands c w → phase_behind x (phase_of w.now.words) ≡ 3 → (p : ℕ) → slice_index w.now.words.dirty p ≡ 0
+was_clean c w seat step.Close known h d three p = elim (cases_lt p c.pages) [
+  | inr past ↦ get_or_past w.now.words.dirty p 0 (omega (arith, known.lengths.dirty))
+  | inl lt ↦
+      let roots = and_parts (none_attends w.now.seats.markers && all_below c.pages (has_closed_page w.now.words))
+      (roots_point_well c.pages w.now.words) h.holder in
+      let pages = and_parts (none_attends w.now.seats.markers) (all_below c.pages (has_closed_page w.now.words))
+      roots.0 in
+      let page = and_parts _ (slice_index w.now.words.dirty p == 0)
+      (all_below-at c.pages p (has_closed_page w.now.words) pages.1 lt) in
+      eqb-true (slice_index w.now.words.dirty p) 0 page.1
+]
+was_clean c w seat step.Begin known h d three p = absurd (omega arith)
+was_clean c w seat step.Want known h d three p = absurd (omega arith)
+was_clean c w seat step.Release known h d three p = absurd (omega arith)
+was_clean c w seat step.End known h d three p = absurd (omega arith)
+was_clean c w seat step.Over known h d three p = absurd (omega arith)
+was_clean c w seat _ known h d three p = d.clean three p
+
+not_closing : (x : Step) (n : ℕ) → is_dirty x ≡ true → phase_behind x n ≡ n
+not_closing step.Dirty n is = refl
+not_closing _ n is = cc
+
+module _ (c : Config) (w : World) (seat : Seat) (x : Step) (known : KnownWorld c w) (h : Meets c w.now seat x)
+    (d : DirtyStands c w) where
+  clean_behind : phase_of (WorldBehind c w seat x).now.words ≡ 3 → (p : ℕ)
+      → slice_index (WorldBehind c w seat x).now.words.dirty p ≡ 0
+  clean_behind three p = elim (cases_eq (slice_index (WorldBehind c w seat x).now.words.dirty p) 0) [
+    | inl is ↦ is
+    | inr some ↦
+        let closed = sym (phase_moves c w.now seat x h) ∙ three in
+        elim (dirty_since c w.now seat x p some) [
+          | inl was ↦ absurd (was (was_clean c w seat x known h d closed p))
+          | inr marks ↦
+              let owes = owes_now c w.now seat x h marks.0 in
+              absurd (none_owes c w.now known.now (sym (not_closing x (phase_of w.now.words) marks.0) ∙ closed) owes.0
+              owes.2)
+        ]
+  ]
+
+  stands_at_release : phase_of w.now.words ≡ 3 → is_dirty x ≡ false → is_heap_store x ≡ false
+      → DirtyStands c (WorldBehind c w seat x)
+  stands_at_release three undirty unstored =
+      record {
+        dirty = λ p some. elim (dirty_since c w.now seat x p some) [
+          | inl was ↦ absurd (was (d.clean three p))
+          | inr marks ↦ absurd (true≢false (sym marks.0 ∙ undirty))
+        ];
+        owed = λ k at. elim (mark_since c w.now seat x known.now h k at) [
+          | inl same ↦ absurd (none_owes c w.now known.now three k (ap (λ (f : Flight). f.stage) (sym same) ∙ at))
+          | inr new ↦ absurd (true≢false (sym new.0 ∙ unstored))
+        ];
+        clean = clean_behind;
+      }
+
+  mark_has : is_dirty x ≡ true → HasAllocation c w (page_met (flight_of w.now seat))
+  mark_has is =
+      let owes = owes_now c w.now seat x h is in
+      subst (λ (s : Seat). HasAllocation c w (page_met (flight_of w.now s))) (sym owes.1) (d.owed owes.0 owes.2)
+
+  stands_behind : is_release x ≡ false
+      → (is_heap_store x ≡ true → IsWordOfMapped c w.allocations (word_met (flight_of w.now seat)))
+      → DirtyStands c (WorldBehind c w seat x)
+  stands_behind out stored =
+      record {
+        dirty = λ p some. allocation_stays c w seat x p out (elim (dirty_since c w.now seat x p some) [
+          | inl was ↦ d.dirty p was
+          | inr marks ↦ subst (λ q. HasAllocation c w q) marks.1 (mark_has marks.0)
+        ]);
+        owed = λ k at. allocation_stays c w seat x _ out (elim (mark_since c w.now seat x known.now h k at) [
+          | inl same ↦
+              subst (λ (f : Flight). HasAllocation c w (page_met f)) (sym same)
+              (d.owed k (ap (λ (f : Flight). f.stage) (sym same) ∙ at))
+          | inr new ↦
+              let m = stored new.0 in
+              subst (λ q. HasAllocation c w q) new.1 (record {
+                number = m.number;
+                unreleased = mapped_stays c (placed_at w.allocations m.number) m.mapped;
+                word = word_met (flight_of w.now seat);
+                of_it = m.word;
+                page = refl;
+              })
+        ]);
+        clean = clean_behind;
+      }
+
+-- One event, whatever it is.
+by_event : (c : Config) (w : World) (seat : Seat) (x : Step) → KnownWorld c w → Meets c w.now seat x → DirtyStands c w
+    → (is_heap_store x ≡ true → IsWordOfMapped c w.allocations (word_met (flight_of w.now seat)))
+    → DirtyStands c (WorldBehind c w seat x)
+by_event c w seat step.Release known h d stored =
+    stands_at_release c w seat step.Release known h d (phase_asked c w.now seat step.Release h) refl refl
+by_event c w seat x known h d stored = stands_behind c w seat x known h d refl stored
+
+abbrev Stands : Config → List Event → Type 0
+Stands c es = DirtyStands c (left c es)
+
+first_stands : (c : Config) → Stands c []
+unfolding left_from
+first_stands c =
+    record {
+      dirty = λ p some. absurd (some (at_first c.pages p 0));
+      owed = λ k at.
+          let rest = at_first c.callers k at_rest in
+          let bad : stage.Idle ≡ stage.Dirty = sym (ap (λ (f : Flight). f.stage) rest) ∙ at in
+          absurd (true≢false (let y : true ≡ false = cc in y));
+      clean = λ three p. at_first c.pages p 0;
+    }
+
+-- A store is to a word of a mapped allocation.
+stores_told : (c : Config) (es : List Event) (e : Event) → IsHistory c (es ++ e ∷ []) → is_heap_store e.step ≡ true
+    → IsWordOfMapped c (left c es).allocations (word_met (flight_of (left c es).now e.seat))
+unfolding AreEnabledFrom calls_from
+stores_told c es e h =
+    let before = earlier_part_is_history c es (e ∷ []) h in
+    let xs : List Decided = call_decided c (left c es).now e ++ [] in
+    let one : asked xs ≡ asked (call_decided c (left c es).now e) =
+    ap (λ (ys : List Decided). asked ys) (append-nil (call_decided c (left c es).now e)) in
+    let on = ((enabled_in_parts c es (e ∷ [])).0 h.enabled).1.0 in
+    let admitted : AreAdmitted c.globals (never_behind c es) (asked (call_decided c (left c es).now e)) =
+    subst (λ (ys : List Call). AreAdmitted c.globals (never_behind c es) ys) one
+    ((admitted_in_parts c es (e ∷ [])).0 h.admitted).1 in
+    (told_to_zeros c (left c es) (never_behind c es) (known_world c es before.within_limits before.enabled)
+    (histories_keep_the_invariant c es before) e on admitted).stored
+
+kept : KeptByEvents Stands
+kept c es e h d =
+    let here = before_it c (es ++ e ∷ []) es e [] h refl in
+    subst (λ (w : World). DirtyStands c w) (sym (left_more c (first_world c) es e))
+    (by_event c (left c es) e.seat e.step (known_world c es here.0.within_limits here.0.enabled) here.1 d
+    (stores_told c es e h))
+
+pub dirty_stands : OfHistories Stands
+dirty_stands = holds_of_histories Stands first_stands kept

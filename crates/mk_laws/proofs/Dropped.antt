@@ -1,0 +1,121 @@
+-- `quar` (b) and (c), and `end`, on the terrain.
+use Rattle.std.proofs.Common.{Bool, List, arith, false, inl, inr, length, sym, true, ℕ, ◌<◌, ◌∙◌, ◌≡◌, ◌≢◌, ◌⊎◌}
+use Rattle.std.specs.Prelude.{not, slice_index, slice_set, ◌==◌, ◌||◌}
+use Rattle.std.proofs.lemmas.Bool.{and_parts, cases_Bool, cases_eq, cases_lt, eqb-false, eqb-true, not-true, or_cases}
+use Rattle.std.proofs.lemmas.Bool.{true≢false}
+use Rattle.std.proofs.lemmas.List.{get_or-set_other, get_or-set_same, set_past}
+use Rattle.mk_laws.proofs.Vocabulary.{Config, Object, Words, World, has_bit, head_page, header_at, may_end, used_at}
+use Rattle.mk_core.specs.Cells.{left_unmarked, none_is_left_unmarked}
+use Rattle.mk_core.specs.StopConditions.{has_settled_page}
+use Rattle.mk_core.proofs.AllBelow.{all_below-at}
+use Rattle.mk_core.proofs.BitsWithout.{has_bit_without}
+use Rattle.mk_core.proofs.PageSteps.{Drops}
+use Rattle.mk_core.proofs.WordBits.{no_bit}
+use Rattle.mk_laws.specs.LayoutScene.{IsClaimed, is_released_in}
+use Rattle.mk_laws.specs.Ground.{Ground, ground_of}
+use Rattle.mk_laws.specs.Terrain.{HasLayout, claims_on, layout_scene_of}
+use Rattle.mk_laws.proofs.Releasing.{layout_ended}
+use Rattle.mk_laws.proofs.Serving.{Laid}
+
+-- While the phase isn't releasing, no cell is released, whatever the snapshot, the freed cells and the marks.
+pub unreleasing : (c : Config) (o : Object) (marks other : List ℕ) (t : Ground) (freed snapshot : List ℕ)
+    → HasLayout c o false marks t → HasLayout c o false other (record t { freed = freed; snapshot = snapshot })
+unreleasing c o marks other t freed snapshot st =
+    record {
+      scene = let s = st.scene in record {
+        shown = s.shown;
+        apart = s.apart;
+        used = s.used;
+        plot = s.plot;
+        occupied = s.occupied;
+        later = s.later;
+      };
+      gone = st.gone;
+      first = st.first;
+      cells = st.cells;
+    }
+
+-- The freed cells aren't read at all.
+pub refreed : (c : Config) (o : Object) (releasing : Bool) (marks : List ℕ) (t : Ground) (freed : List ℕ)
+    → HasLayout c o releasing marks t → HasLayout c o releasing marks (record t { freed = freed })
+refreed c o releasing marks t freed st = record { scene = st.scene; gone = st.gone; first = st.first; cells = st.cells }
+
+-- `quar` (c): released cells that aren't used are dropped
+pub dropped : (c : Config) (o : Object) (w : World) (p freed n : ℕ) → Laid c o true w (ground_of w)
+    → Drops w.now.words p freed n
+    → Laid c o true w (record (ground_of w) { snapshot = slice_set w.now.words.snapshot p n })
+dropped c o w p freed n st h =
+    let s = st.scene in
+    record {
+      scene = record {
+        shown = s.shown;
+        apart = s.apart;
+        used = λ q k bit. let u = s.used q k bit in (u.0, by q k bit u.1);
+        plot = s.plot;
+        occupied = s.occupied;
+        later = s.later;
+      };
+      gone = st.gone;
+      first = st.first;
+      cells = st.cells;
+    }
+  where
+    stays : (q k : ℕ) → has_bit (used_at w.now.words q) k ≡ true → has_bit (slice_index w.now.words.snapshot q) k ≡ true
+        → has_bit (slice_index (slice_set w.now.words.snapshot p n) q) k ≡ true
+    stays q k bit was = elim (cases_eq q p) [
+      | inr ne ↦ rw (get_or-set_other w.now.words.snapshot p q n 0 ne) was
+      | inl e ↦ elim (cases_lt p (length w.now.words.snapshot)) [
+        | inr past ↦ rw (set_past w.now.words.snapshot p n past) was
+        | inl lt ↦
+            let here : slice_index (slice_set w.now.words.snapshot p n) q ≡ n =
+            rw e (get_or-set_same w.now.words.snapshot p n 0 lt) in
+            rw here (elim (cases_Bool (has_bit n k)) [
+              | inl is ↦ is
+              | inr out ↦
+                  let lost = h.gone k (rw (← e) was) out in
+                  absurd (true≢false (sym bit ∙ rw e lost.1))
+            ])
+      ]
+    ]
+
+    by : (q k : ℕ) → has_bit (used_at w.now.words q) k ≡ true → IsClaimed (claims_on c o (ground_of w)) q k
+        ⊎ (is_released_in true w.now.words.snapshot w.now.words.marks q k ≡ true)
+        → IsClaimed (claims_on c o (ground_of w)) q k
+        ⊎ (is_released_in true (slice_set w.now.words.snapshot p n) w.now.words.marks q k ≡ true)
+    by q k bit (inl own) = inl own
+    by q k bit (inr r) =
+        let parts = and_parts (has_bit (slice_index w.now.words.snapshot q) k)
+        (not (has_bit (slice_index w.now.words.marks q) k)) r in
+        inr (rw (stays q k bit parts.0) parts.1)
+
+-- What `end` asks: no cell of a page is left, and one with a header has a used cell at its head.
+pub record IsSettledPage (w : Words) (p : ℕ) : Type 0 where
+  pub none : (k : ℕ) → is_released_in true w.snapshot w.marks p k ≡ false
+  pub used : header_at w p ≢ 0 → used_at w (head_page w p) ≢ 0
+
+pub settled_page : (w : Words) (count p : ℕ) → may_end count w ≡ true → p < count → IsSettledPage w p
+settled_page w count p h lt =
+    let occupied : Bool = (header_at w p == 0) || not (used_at w (head_page w p) == 0) in
+    let parts = and_parts (none_is_left_unmarked w p) occupied (all_below-at count p (has_settled_page w) h lt) in
+    record {
+      none = λ k. sym (has_bit_without (slice_index w.snapshot p) (slice_index w.marks p) k)
+          ∙ no_bit (left_unmarked w p) k (eqb-true (left_unmarked w p) 0 parts.0);
+      used = λ some empty. elim (or_cases (header_at w p == 0) (not (used_at w (head_page w p) == 0)) parts.1) [
+        | inl z ↦ some (eqb-true (header_at w p) 0 z)
+        | inr u ↦ eqb-false (used_at w (head_page w p)) 0 (not-true (used_at w (head_page w p) == 0) u) empty
+      ];
+    }
+
+-- `end`
+pub ended : (c : Config) (o : Object) (w : World) → length w.now.words.pages ≡ c.pages → Laid c o true w (ground_of w)
+    → may_end c.pages w.now.words ≡ true → Laid c o false w (ground_of w)
+ended c o w len st h =
+    record {
+      scene = layout_ended (layout_scene_of c o true w.now.words.marks (ground_of w)) st.scene (record {
+        none = λ p k lt. (settled_page w.now.words c.pages p h (omega (arith, len))).none k;
+        settled = λ p lt some empty. (settled_page w.now.words c.pages p h (omega (arith, len))).used some empty;
+      });
+      gone = st.gone;
+      first = st.first;
+      cells = st.cells;
+    }

@@ -1,0 +1,255 @@
+-- Each enabled and admitted event leads to what the images allow.
+use Rattle.std.proofs.Common.{◌≡◌, ◌≢◌, ℕ, ◌%◌, ◌<◌, Bool, true, false, List, map, refl, sym, ap, subst, ◌∙◌, inl, inr}
+use Rattle.std.proofs.Common.{arith}
+use Rattle.std.specs.Prelude.{slice_set, ◌&&◌, ◌||◌, ◌==◌, not, if◌then◌else◌, Option, Some, None}
+use Rattle.std.proofs.lemmas.Bool.{cases_Bool, cases_eq, cases_lt, eqb-true, or_cases, ltb-true, false≢true}
+use Rattle.std.proofs.lemmas.List.{set-get_or, get_or_past}
+use Rattle.mk_laws.proofs.Vocabulary.{AreAdmitted, Caller, Cell, Config, Event, Flight, Host, Marker, MeetsAll}
+use Rattle.mk_laws.proofs.Vocabulary.{Named, NeverState, PlacedAllocation, Seat, Stage, Step, Store, Tally, World}
+use Rattle.mk_laws.proofs.Vocabulary.{accessed, answer_decided, asked, at_rest, call_decided, caller_number}
+use Rattle.mk_laws.proofs.Vocabulary.{cell_freed, flight_of, freed_where_it_stands, frees, host_has_turn}
+use Rattle.mk_laws.proofs.Vocabulary.{is_open_to, is_phase, is_run_cell, is_run_gone, no_longer_fresh}
+use Rattle.mk_laws.proofs.Vocabulary.{others_are_held, tally_word, target, world_behind}
+use Rattle.mk_core.specs.declared.events.Group.TheVariants as group
+use Rattle.mk_core.specs.declared.events.Step.TheVariants as step
+use Rattle.mk_core.specs.declared.events.Tally.TheVariants as tally
+use Rattle.mk_core.specs.declared.seats.Stage.TheVariants as stage
+use Rattle.mk_laws.proofs.Views.{view_of, gate_in}
+use Rattle.mk_laws.proofs.Standings.{InCall, standing, Shows, is_astray}
+use Rattle.mk_core.proofs.ChangedAllocations.{changed_at, fresh_leaves, none_freed}
+use Rattle.mk_laws.proofs.Stages.{is_call_stage, is_turn_stage, calls_stand, new_stands}
+use Rattle.mk_laws.proofs.NextSteps.{of_turn, at_its_stage, at_take, at_no_take}
+use Rattle.mk_laws.proofs.Asked.{others_held}
+use Rattle.mk_laws.proofs.Actors.{grants_new}
+use Rattle.mk_laws.proofs.OrderlyLists.{not_astray}
+use Rattle.mk_laws.proofs.ImagesKeptPlaces.{same_places}
+use Rattle.mk_laws.proofs.ImagesStands.{gone_shows, Stands}
+use Rattle.mk_laws.specs.Images.{ImageScene, image_scene_of, flight_among, is_put, is_past_probe}
+use Rattle.mk_laws.proofs.KnownWorlds.{KnownWorld}
+use Rattle.mk_laws.specs.Mirrors.{Mirrors}
+use Rattle.mk_laws.specs.ImagePremises.{ImagePremises}
+use Rattle.mk_laws.proofs.ImagesMoves.{Move, Rests, Wipes, Renews}
+use Rattle.mk_laws.proofs.Ready.{Ready, Leads}
+use Rattle.mk_laws.proofs.ImagesBefore.{pages_show}
+use Rattle.mk_laws.proofs.ImagesHeldGates.{others_idle}
+use Rattle.mk_laws.proofs.GrantMoves.{wiped_outside}
+use Rattle.mk_laws.proofs.ReleaseMoves.{releases}
+use Rattle.mk_laws.proofs.CallSorts.{begins, bare_on, enter_leads, leave_leads, dirty_leads, reg_leads_at}
+use Rattle.mk_laws.proofs.CallSorts.{probe_leads_at, read_leads_at, write_leads_at, cas_leads_at, getg_leads_at}
+use Rattle.mk_laws.proofs.CallSorts.{setg_leads_at}
+use Rattle.mk_laws.proofs.TurnMoves.{grant_by, full_by, quar_by, look_by}
+
+-- what an event leads to, and that what it decides is right
+abbrev pub Goes : Config → World → NeverState → (ℕ → Bool) → Event → Type 0
+Goes c w n safe e = Leads safe (image_scene_of w) n (caller_number e.seat) (flight_of w.now e.seat).op
+    (image_scene_of (world_behind c w e)) (answer_decided c w.now e)
+
+abbrev MeetsOf : Config → World → Seat → Step → Type 0
+MeetsOf c w seat x = MeetsAll c w.now (record { seat = seat; step = x })
+
+abbrev AdmittedOf : Config → World → NeverState → Event → Type 0
+AdmittedOf c w n e = AreAdmitted c.globals n (asked (call_decided c w.now e))
+
+-- a kind that is for the turn's holder and leaves its flight alone, or for others
+abbrev is_still : Step → Bool
+is_still step.Reg = false
+is_still step.Write = false
+is_still step.Cas = false
+is_still step.Setg = false
+is_still (step.Quar p v) = false
+is_still step.Grant = false
+is_still x = true
+
+-- what is after it but for the flights
+abbrev still_scene : Config → World → Seat → Step → ImageScene
+still_scene c w seat x =
+    record (image_scene_of (world_behind c w (record { seat = seat; step = x }))) { flights = w.now.seats.flights }
+
+turn_plain : (s : Stage) → is_turn_stage s ≡ true → is_put s ≡ false
+turn_plain stage.Put h = cc
+turn_plain _ h = refl
+
+idle_plain : (s : Stage) → s ≡ stage.Idle → is_put s ≡ false
+idle_plain s e = ap is_put e
+
+tally_scene : (w : World) (t : Tally) (v : ℕ)
+    → image_scene_of w ≡ record {
+      registers = (accessed w.now.words (Named (tally_word t)) (Store v)).registers;
+      globals = (accessed w.now.words (Named (tally_word t)) (Store v)).globals;
+      heap = (accessed w.now.words (Named (tally_word t)) (Store v)).heap;
+      flights = w.now.seats.flights;
+      allocations = w.allocations;
+    }
+tally_scene w tally.Held v = refl
+tally_scene w _ v = refl
+
+abbrev no_cell : Option Cell
+no_cell = None
+
+none_target : (b : Bool) → (if b then no_cell else no_cell) ≡ no_cell
+none_target true = refl
+none_target false = refl
+
+module _ (c : Config) (w : World) (n : NeverState) (known : KnownWorld c w) (mirrors : Mirrors c w n)
+    (others : ImagePremises c w) (safe : ℕ
+    → Bool) (ready : Ready c.globals safe (image_scene_of w) n) (st : Stands c w.now.words w.allocations) where
+  -- at a release nothing is owed
+  plain_at : (seat : Seat) → is_open_to seat group.Turn ≡ true → MeetsOf c w seat step.Release → (j : ℕ)
+      → is_put (flight_among w.now.seats.flights j).stage ≡ false
+  plain_at (Caller k) o h j = elim (cases_eq j k) [
+    | inl e ↦
+        let f = flight_of w.now (Caller k) in
+        rw e (turn_plain f.stage (of_turn f.stage f.op step.Release refl refl h.order))
+    | inr ne ↦ idle_plain _
+        (others_idle c (view_of w.now) k known.now.orderly (others_held c w.now (Caller k) h.gates) j ne)
+  ]
+  plain_at Host o h j = elim (cases_lt j c.callers) [
+    | inl lt ↦ idle_plain _
+        (others_idle c (view_of w.now) c.callers known.now.orderly (others_held c w.now Host h.gates) j
+        (λ e. absurd (omega arith)))
+    | inr le ↦ rw (get_or_past w.now.seats.flights j at_rest (let e = known.now.orderly.flights in omega (arith, e)))
+  ]
+  plain_at (Marker k) o h j = absurd (false≢true o)
+
+  still_moves : (seat : Seat) (x : Step) → is_still x ≡ true → MeetsOf c w seat x
+      → Move safe (image_scene_of w) n (still_scene c w seat x) n
+  still_moves seat step.Reg s h = absurd (false≢true s)
+  still_moves seat step.Write s h = absurd (false≢true s)
+  still_moves seat step.Cas s h = absurd (false≢true s)
+  still_moves seat step.Setg s h = absurd (false≢true s)
+  still_moves seat (step.Quar p v) s h = absurd (false≢true s)
+  still_moves seat step.Grant s h = absurd (false≢true s)
+  still_moves seat (step.Tally t v) s h =
+      subst (λ (x : ImageScene). Move safe (image_scene_of w) n x n) (tally_scene w t v) Rests
+  still_moves seat (step.Wipe x) s h = Wipes x (wiped_outside c w n known mirrors others st x (h.holder))
+  still_moves seat step.Begin s h =
+      Renews (map no_longer_fresh w.allocations) (same_places no_longer_fresh w.allocations fresh_leaves)
+      (λ a. rw (changed_at no_longer_fresh w.allocations a refl))
+      (λ a. rw (changed_at no_longer_fresh w.allocations a refl))
+  still_moves seat step.Release s h =
+      releases c w n known mirrors safe ready st (others.marks (eqb-true _ 3 h.phase)) (plain_at seat h.kind h)
+  still_moves seat _ s h = Rests
+
+  -- of a caller, whose flight stays
+  still_leads : (k : ℕ) (t : ImageScene) → Move safe (image_scene_of w) n t n → t.flights ≡ w.now.seats.flights
+      → Leads safe (image_scene_of w) n k (flight_of w.now (Caller k)).op
+      (record t { flights = slice_set w.now.seats.flights k (flight_of w.now (Caller k)) }) None
+  still_leads k t m e = (
+    rw (e ∙ sym (set-get_or w.now.seats.flights k at_rest)) at m,
+    λ more. refl,
+  )
+
+  astray_not : (k : ℕ) → k < c.callers → is_astray (standing (flight_of w.now (Caller k))) ≡ false
+  astray_not k lt = not_astray c w.now known.now.orderly k lt
+
+  -- who is in a call finds freed runs gone
+  gone_for : (k : ℕ) → k < c.callers → standing (flight_of w.now (Caller k)) ≡ InCall
+      → is_run_gone w.now.words w.now.seats.holding.freed ≡ true
+  gone_for k lt in_call = elim (cases_Bool (is_run_gone w.now.words w.now.seats.holding.freed)) [
+    | inl e ↦ e
+    | inr e ↦
+        let s : Shows w.now.words.turn (gate_in (view_of w.now) k) k InCall =
+        rw in_call at (known.now.orderly.each k lt) in
+        let g = others.gates e k lt s.1 in
+        let one = s.0 in
+        absurd (omega arith)
+  ]
+
+  quiet_at : (k p v : ℕ) → MeetsOf c w (Caller k) (step.Quar p v)
+      → is_run_cell w.now.words (target c.pages w.now.words (flight_of w.now (Caller k))) ≡ true → (j : ℕ) → j ≢ k
+      → is_past_probe (flight_among w.now.seats.flights j).stage ≡ false
+  quiet_at k p v h run j ne =
+      let held : others_are_held c.callers w.now.words (Caller k) ≡ true =
+      either_held _ _ run h.gates in
+      ap is_past_probe (others_idle c (view_of w.now) k known.now.orderly (others_held c w.now (Caller k) held) j ne)
+    where
+      either_held : (a b : Bool) → a ≡ true → (not a || b) ≡ true → b ≡ true
+      either_held true b e g = g
+      either_held false b e g = absurd (false≢true e)
+
+  grant_phase : (p : ℕ) → ((p == 0) || (p == 1)) ≡ true → p ≢ 4
+  grant_phase p h = elim (or_cases (p == 0) (p == 1) h) [
+    | inl e ↦ λ x. absurd (let y = eqb-true p 0 e in omega (arith, x, y))
+    | inr e ↦ λ x. absurd (let y = eqb-true p 1 e in omega (arith, x, y))
+  ]
+
+  caller_goes : (k : ℕ) (x : Step) → MeetsOf c w (Caller k) x → AdmittedOf c w n (record { seat = Caller k; step = x })
+      → Goes c w n safe (record { seat = Caller k; step = x })
+  caller_goes k (step.Enter o) h ad = enter_leads c w n known mirrors safe ready k o h
+  caller_goes k step.Leave h ad = leave_leads c w n known mirrors safe ready k h
+  caller_goes k step.Reg h ad = reg_leads_at c w n known mirrors safe ready k h ad
+  caller_goes k step.Probe h ad =
+      let f = flight_of w.now (Caller k) in
+      let lt = ltb-true k c.callers h.seat in
+      let in_call = calls_stand f.stage f.op (ap is_call_stage (at_its_stage f.stage f.op step.Probe refl h.order))
+      (astray_not k lt) in
+      probe_leads_at c w n known mirrors safe ready k
+      (pages_show c w n known mirrors st (gone_shows c w known.limits others (gone_for k lt in_call))) h ad
+  caller_goes k step.Read h ad = read_leads_at c w n known mirrors safe ready k h ad
+  caller_goes k step.Write h ad = write_leads_at c w n known mirrors safe ready k h ad
+  caller_goes k step.Cas h ad = cas_leads_at c w n known mirrors safe ready k h ad
+  caller_goes k step.Getg h ad = getg_leads_at c w n known mirrors safe ready k h
+  caller_goes k step.Setg h ad = setg_leads_at c w n known mirrors safe ready k h
+  caller_goes k step.Dirty h ad = dirty_leads c w n known mirrors safe ready k h
+  caller_goes k (step.Take (Some o)) h ad =
+      let f = flight_of w.now (Caller k) in
+      begins c w n known mirrors safe ready k f.op o _ (ap is_put (at_take f.stage f.op o h.order).0)
+  caller_goes k (step.Take None) h ad = absurd (at_no_take _ _ h.order)
+  caller_goes k step.Give h ad = let f =
+      flight_of w.now (Caller k) in bare_on c w n known mirrors safe ready k f.op at_rest
+      (turn_plain f.stage (of_turn f.stage f.op step.Give refl refl h.order)) refl
+  caller_goes k (step.Look x) h ad = look_by c w n known mirrors others safe ready st k (ltb-true k c.callers h.seat)
+      _ x refl
+  caller_goes k (step.Quar p v) h ad =
+      quar_by c w n known mirrors others safe ready st k (ltb-true k c.callers h.seat) _ p v
+      _ refl refl (quiet_at k p v h)
+  caller_goes k step.Grant h ad =
+      let f = flight_of w.now (Caller k) in
+      let lt = ltb-true k c.callers h.seat in
+      grant_by c w n known mirrors others safe ready st k lt f.stage f.op f.q f.p f.r f.loaded
+      w.now.seats.holding.placing refl h.order (h.holder) refl
+      (lt, new_stands f.stage f.op (grants_new c w.now (Caller k) h)) (grant_phase _ h.phase) (known.now.operands k)
+  caller_goes k step.Full h ad =
+      let f = flight_of w.now (Caller k) in
+      full_by c w n known mirrors others safe ready st k (ltb-true k c.callers h.seat) f.stage f.op f.q f.p f.r f.loaded
+      refl h.order
+  caller_goes k step.Attend h ad = absurd (false≢true h.kind)
+  caller_goes k step.Quit h ad = absurd (false≢true h.kind)
+  caller_goes k (step.Mlook x) h ad = absurd (false≢true h.kind)
+  caller_goes k (step.Claim p i) h ad = absurd (false≢true h.kind)
+  caller_goes k step.Mload h ad = absurd (false≢true h.kind)
+  caller_goes k step.Mmark h ad = absurd (false≢true h.kind)
+  caller_goes k step.Mblack h ad = absurd (false≢true h.kind)
+  caller_goes k step.Over h ad = absurd (false≢true h.kind)
+  caller_goes k x h ad = still_leads k _ (still_moves (Caller k) x refl h) refl
+
+  host_goes : (x : Step) → MeetsOf c w Host x → Goes c w n safe (record { seat = Host; step = x })
+  host_goes step.Reg h = absurd (false≢true h.kind)
+  host_goes step.Write h = absurd (false≢true h.kind)
+  host_goes step.Cas h = absurd (false≢true h.kind)
+  host_goes step.Setg h = absurd (false≢true h.kind)
+  host_goes step.Grant h = absurd (no_holder _ h.order)
+    where
+      no_holder : (b : Bool) → (b && false) ≡ true → ⊥
+      no_holder true e = false≢true e
+      no_holder false e = false≢true e
+  host_goes (step.Quar p v) h = (
+    rw (none_target _) (rw (none_freed w.now.words w.allocations) Rests),
+    λ more. refl,
+  )
+  host_goes x h = (still_moves Host x refl h, λ more. refl)
+
+  marker_goes : (k : ℕ) (x : Step) → MeetsOf c w (Marker k) x → Goes c w n safe (record { seat = Marker k; step = x })
+  marker_goes k step.Reg h = absurd (false≢true h.kind)
+  marker_goes k step.Write h = absurd (false≢true h.kind)
+  marker_goes k step.Cas h = absurd (false≢true h.kind)
+  marker_goes k step.Setg h = absurd (false≢true h.kind)
+  marker_goes k step.Grant h = absurd (false≢true h.kind)
+  marker_goes k (step.Quar p v) h = absurd (false≢true h.kind)
+  marker_goes k x h = (still_moves (Marker k) x refl h, λ more. refl)
+
+  pub goes : (seat : Seat) (x : Step) → MeetsOf c w seat x → AdmittedOf c w n (record { seat = seat; step = x })
+      → Goes c w n safe (record { seat = seat; step = x })
+  goes (Caller k) x h ad = caller_goes k x h ad
+  goes (Marker k) x h ad = marker_goes k x h
+  goes Host x h ad = host_goes x h

@@ -1,0 +1,98 @@
+-- A compare and exchange compares values: of two values that a program can get to, the images are equal only where they
+-- are.
+use Rattle.std.proofs.Common.{◌≡◌, ◌↔◌, ℕ, Bool, true, false, List, ◌∷◌, ◌++◌, refl, sym, ap, subst, ◌∙◌}
+use Rattle.std.specs.Prelude.{slice_index, ◌==◌, Some}
+use Rattle.std.proofs.lemmas.Bool.{ltb-true}
+use Rattle.mk_laws.proofs.Vocabulary.{AreAdmitted, AreEnabledFrom, Caller, Config, Event, Flight, IsAdmitted}
+use Rattle.mk_laws.proofs.Vocabulary.{IsHistory, MeetsAll, NeverState, Op, Value, WordOf, World, answer_decided}
+use Rattle.mk_laws.proofs.Vocabulary.{asked, bases_of, call_decided, calls_from, flight_of, is_same, is_under_turn}
+use Rattle.mk_laws.proofs.Vocabulary.{left, never_behind, one_if, register_at, target_of, word_at, word_met}
+use Rattle.mk_never.specs.declared.operations.Op.TheVariants as op
+use Rattle.mk_never.proofs.Sameness.{equal_from_same, same_from_equal}
+use Rattle.mk_core.specs.declared.events.Answer.TheVariants as answer
+use Rattle.mk_core.specs.declared.events.Step.TheVariants as step
+use Rattle.mk_core.specs.declared.seats.Stage.TheVariants as stage
+use Rattle.mk_core.proofs.Conditions.{enabled_meets}
+use Rattle.mk_core.proofs.HistoryParts.{enabled_in_parts, admitted_in_parts, earlier_part_is_history}
+use Rattle.mk_laws.proofs.NextSteps.{at_its_stage}
+use Rattle.mk_laws.specs.Images.{image_scene_of, CarriesOwn, ProbedOwn}
+use Rattle.mk_laws.specs.ImagePremises.{ImagePremises}
+use Rattle.mk_laws.specs.Mirrors.{Mirrors}
+use Rattle.mk_laws.specs.Laws.{ImagePremisesAlong, HistoriesCompareValues}
+use Rattle.mk_laws.proofs.KnownWorlds.{KnownWorld, known_world}
+use Rattle.mk_laws.proofs.ImagesStands.{stands_of}
+use Rattle.mk_laws.proofs.ImagesBefore.{ready_of}
+use Rattle.mk_laws.proofs.RegMoves.{flight}
+use Rattle.mk_laws.proofs.ImagesCallMoves.{cas_compares}
+use Rattle.mk_laws.proofs.CallSorts.{admitted_call, there_is, own_registers}
+use Rattle.mk_laws.proofs.ImagesHistories.{say_along, histories_mirror}
+
+told : (b : Bool) (u v : Value) → b ≡ is_same u v → (Some (answer.Num (one_if b)) ≡ Some (answer.Num 1)) ↔ (u ≡ v)
+told b u v is = (
+  λ e. equal_from_same u v (sym is ∙ one b e),
+  λ e. rw (is ∙ same_from_equal u v e),
+)
+  where
+    one : (b : Bool) → Some (answer.Num (one_if b)) ≡ Some (answer.Num 1) → b ≡ true
+    one true e = refl
+    one false e = cc
+
+-- the event of a `cas`
+abbrev cas_of : ℕ → Event
+cas_of k = record { seat = Caller k; step = step.Cas }
+
+-- the word that register q leads to, and what the answer says of its value
+record Compares (c : Config) (w : World) (n : NeverState) (k q i p : ℕ) : Type 0 where
+  pub number : ℕ
+  pub place : ℕ
+  pub target : target_of n (register_at n k q) i ≡ WordOf number place
+  pub answered : (answer_decided c w.now (cas_of k) ≡ Some (answer.Num 1))
+      ↔ (word_at n number place ≡ register_at n k p)
+
+compares_values : (c : Config) (w : World) (n : NeverState) (k q i p r : ℕ) → KnownWorld c w
+    → ImagePremises c w → Mirrors c w n → MeetsAll c w.now (cas_of k)
+    → (flight_of w.now (Caller k)).op ≡ op.CasPtr q i p r
+    → AreAdmitted c.globals n (asked (call_decided c w.now (cas_of k)))
+    → Compares c w n k q i p
+compares_values c w n k q i p r known others mirrors h is ad =
+    let f = flight_of w.now (Caller k) in
+    let x = slice_index w.now.words.heap (word_met f) in
+    let safe = mirrors.safe in
+    let ready = ready_of c w n known mirrors (stands_of c w known.limits others) safe.0 safe.1 in
+    let lt = ltb-true k c.callers h.seat in
+    let st = at_its_stage f.stage f.op step.Cas refl h.order in
+    let o = op.CasPtr q i p r in
+    let lit : f ≡ flight stage.Cas o f.q f.p f.r f.loaded = ap (λ s. flight s f.op f.q f.p f.r f.loaded) st ∙ rw is in
+    let admitted : IsAdmitted c.globals n k o =
+    rw is at (admitted_call c.globals n k f.op _ (ap is_under_turn is) ad)
+    in
+    let compared = cas_compares c.globals safe.0 (image_scene_of w) n k ready
+    (there_is c w n known mirrors safe.0 ready k lt)
+    (own_registers c w n known mirrors safe.0 ready k lt) q i p r f.q f.p f.r f.loaded x
+    (rw lit at (ready.images.carried k)) (rw lit at (ready.images.probed k)) (rw lit) admitted in
+    record {
+      number = compared.0.number;
+      place = compared.0.place;
+      target = compared.0.target;
+      answered = told (x == f.p) _ (register_at n k p) compared.1;
+    }
+
+pub histories_compare : HistoriesCompareValues
+unfolding AreEnabledFrom calls_from
+histories_compare c es h others before behind k q i p r whole is =
+    let parts : IsHistory c (before ++ cas_of k ∷ behind) = rw whole at h in
+    let say : ImagePremisesAlong c (before ++ cas_of k ∷ behind) = rw whole at others in
+    let earlier = earlier_part_is_history c before (cas_of k ∷ behind) parts in
+    let mirrors = histories_mirror c before earlier (say_along c before (cas_of k ∷ behind) say) in
+    let on = ((enabled_in_parts c before (cas_of k ∷ behind)).0 parts.enabled).1.0 in
+    let admitted = ((admitted_in_parts c before (cas_of k ∷ behind)).0 parts.admitted).1 in
+    let compares = compares_values c (left c before) _ k q i p r
+    (known_world c before earlier.within_limits earlier.enabled)
+    (say before (cas_of k ∷ behind) refl) mirrors (enabled_meets c (left c before).now (cas_of k) on) is
+    (admitted.0, tt) in
+    record {
+      number = compares.number;
+      place = compares.place;
+      target = compares.target;
+      answered = compares.answered;
+    }

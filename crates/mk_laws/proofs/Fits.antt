@@ -1,0 +1,108 @@
+-- What the place that first fit finds says of the pages, in words.
+use Rattle.std.proofs.Common.{Bool, List, ap, arith, false, inl, inr, length, refl, sym, true, ℕ, ◌+◌, ◌<◌, ◌∙◌, ◌≡◌}
+use Rattle.std.proofs.Common.{◌≤◌, ◌⊎◌}
+use Rattle.std.specs.Prelude.{Option, Some, slice_index_or}
+use Rattle.std.proofs.lemmas.Bool.{cases_Bool, leb-false, leb-true}
+use Rattle.std.proofs.lemmas.Option.{get_or_from_slice_get, slice_get_within}
+use Rattle.mk_laws.proofs.Vocabulary.{Block, Free, Header, IsSized, LeafBlock, Object, Page, Place, block_header}
+use Rattle.mk_laws.proofs.Vocabulary.{cells_made, cells_of, class_made, free_page, header_made, header_of}
+use Rattle.mk_laws.proofs.Vocabulary.{is_small_object, pages_made, place_on_pages, resident_pages, use_under}
+use Rattle.mk_laws.proofs.Vocabulary.{uses_of_pages, word_of}
+use Rattle.mk_geom.specs.PageUses.{is_free_page}
+use Rattle.mk_geom.specs.PageWords.{bits_of}
+use Rattle.mk_geom.specs.Places.{MayTakeCell}
+use Rattle.mk_geom.proofs.FirstFit.{cell_place_is, run_place_is}
+use Rattle.mk_geom.proofs.HeaderLemmas.{word_of-header_of}
+use Rattle.mk_core.proofs.ObjectHeaders.{small_header}
+use Rattle.mk_core.proofs.Sizes.{class_for_small, large_pages, small_cells, small_pages}
+use Rattle.mk_laws.specs.LayoutScene.{header_on, shows_on, used_on}
+use Rattle.mk_books.proofs.UsedBitLemmas.{length-bits_of}
+
+-- the pages of the place are free, and this many more may be resident
+pub record FitsOnFreePages (limit : ℕ) (pages : List Page) (o : Object) (place : Place) : Type 0 where
+  pub room : resident_pages (uses_of_pages pages) + pages_made o ≤ limit
+  pub index : place.index ≡ 0
+  pub within : place.page + pages_made o ≤ length pages
+  pub free : (d : ℕ) → d < pages_made o → header_on pages (place.page + d) ≡ 0
+
+-- its page is a block for the object
+pub record FitsInBlock (pages : List Page) (o : Object) (place : Place) : Type 0 where
+  pub small : is_small_object o ≡ true
+  pub within : place.page < length pages
+  pub header : header_on pages place.page ≡ header_made o 0
+  pub index : place.index < cells_made o
+
+zero_word : (h : ℕ) → header_of h ≡ Some Free → h ≡ 0
+zero_word h is = sym (word_of-header_of h Free is).1
+
+free_header : (h : ℕ) (x : Option Header) (u : ℕ) → header_of h ≡ x → is_free_page (use_under x u) ≡ true → h ≡ 0
+free_header h (Some Free) u is free = zero_word h is
+free_header h _ u is free = cc
+
+-- a cell that may be taken is on a free page, or on one with the block's header
+taken_from : (h u class index : ℕ) (leaf : Bool) (x : Option Header) → header_of h ≡ x
+    → MayTakeCell class leaf index (use_under x u)
+    → (h ≡ 0) ⊎ ((h ≡ word_of (block_header class leaf)) × (index < cells_of class))
+taken_from h u class index leaf (Some Free) is may = inl (zero_word h is)
+taken_from h u class index leaf (Some (Block k)) is may =
+    inr (
+      sym (word_of-header_of h (Block k) is).1 ∙ rw may.0 (ap (λ b. word_of (block_header class b)) may.1),
+      rw (length-bits_of (cells_of k) u
+          ∙ ap cells_of may.0) at (slice_get_within (bits_of (cells_of k) u) index false may.2),
+    )
+taken_from h u class index leaf (Some (LeafBlock k)) is may =
+    inr (
+      sym (word_of-header_of h (LeafBlock k) is).1 ∙ rw may.0 (ap (λ b. word_of (block_header class b)) may.1),
+      rw (length-bits_of (cells_of k) u
+          ∙ ap cells_of may.0) at (slice_get_within (bits_of (cells_of k) u) index false may.2),
+    )
+taken_from h u class index leaf _ is may = absurd may
+
+free_use : (h u : ℕ) → h ≡ 0 → is_free_page (use_under (header_of h) u) ≡ true
+free_use h u z = rw z
+
+pub fits : (limit : ℕ) (pages : List Page) (o : Object) (place : Place) → IsSized o
+    → place_on_pages limit pages o ≡ Some place → FitsOnFreePages limit pages o place ⊎ FitsInBlock pages o place
+fits limit pages o place sized at = elim (cases_Bool (is_small_object o)) [ inl s ↦ small s | inr l ↦ inl (large l) ]
+  where
+    large : is_small_object o ≡ false → FitsOnFreePages limit pages o place
+    large l =
+        let is = run_place_is limit o.words o.leaf pages place (leb-false o.words 32 l) at in
+        let count = large_pages o l in
+        let within = is.free.within in
+        let room = is.has_room in
+        record {
+          room = omega arith;
+          index = is.index;
+          within = omega arith;
+          free = λ d lt.
+              free_header (header_on pages (place.page + d)) (shows_on pages (place.page + d))
+              (used_on pages (place.page + d)) refl
+              (is.free.free (place.page + d) free_page (omega arith) (omega arith));
+        }
+
+    small : is_small_object o ≡ true → FitsOnFreePages limit pages o place ⊎ FitsInBlock pages o place
+    small s =
+        let class_is = class_for_small o.words sized.0 (leb-true o.words 32 s) in
+        let is = cell_place_is limit o.words (class_made o) o.leaf pages place class_is at in
+        let page : slice_index_or pages place.page free_page ≡ is.page =
+        get_or_from_slice_get pages place.page is.page free_page is.at in
+        let one = small_pages o s in
+        let inside = slice_get_within pages place.page is.page is.at in
+        elim (taken_from is.page.header is.page.used (class_made o) place.index o.leaf (header_of is.page.header) refl
+        is.may_take) [
+          | inl z ↦ inl (record {
+            room = let room = is.has_room (is.carves ∙ free_use is.page.header is.page.used z) in omega arith;
+            index = is.carves_first (is.carves ∙ free_use is.page.header is.page.used z);
+            within = omega arith;
+            free = λ d lt.
+                let zero : place.page + d ≡ place.page = omega arith in
+                rw zero (ap (λ (x : Page). x.header) page ∙ z);
+          })
+          | inr block ↦ inr (record {
+            small = s;
+            within = inside;
+            header = ap (λ (x : Page). x.header) page ∙ block.0 ∙ sym (small_header o 0 s);
+            index = let cells = small_cells o s in let b = block.1 in omega arith;
+          })
+        ]

@@ -1,0 +1,288 @@
+-- What the layout, the quarantine and the rest say to the images.
+use Rattle.std.proofs.Common.{Bool, List, ap, arith, false, inl, inr, length, refl, subst, sym, true, zero, suc, ℕ, ◌+◌}
+use Rattle.std.proofs.Common.{◌/◌, ◌<◌, ◌∙◌, ◌≡◌, ◌≢◌, ◌≤◌}
+use Rattle.std.specs.Prelude.{None, Option, Some, not, slice_index, ◌&&◌, ◌==◌}
+use Rattle.std.proofs.lemmas.Bool.{and_parts, cases_Bool, eq-eqb, eqb-true, lt-ltb}
+use Rattle.mk_laws.proofs.Vocabulary.{Caller, Cell, Config, Flight, MarksAreClosed, Object, Place, PlacedAllocation}
+use Rattle.mk_laws.proofs.Vocabulary.{Placing, RunPages, Used, World, address_of, all_below, base_made}
+use Rattle.mk_laws.proofs.Vocabulary.{cell_of_allocation, cells_made, flight_of, granted, header_at, header_made}
+use Rattle.mk_laws.proofs.Vocabulary.{is_large, is_mapped, is_phase, is_released_cell, is_small_object}
+use Rattle.mk_laws.proofs.Vocabulary.{is_undecided_new, kinds_of, object_made, object_placed, pages_made, phase_of}
+use Rattle.mk_laws.proofs.Vocabulary.{placed_at, pointed_cell, stands, unmapped_header}
+use Rattle.mk_core.specs.NewPlaces.{place_stands}
+use Rattle.mk_core.proofs.AllBelow.{all_below_more_is, all_below_zero_is}
+use Rattle.mk_core.proofs.BitsWithout.{has_bit_without}
+use Rattle.mk_core.proofs.GrantedAllocations.{granted_base_is, granted_object, granted_type, placed_headers}
+use Rattle.mk_core.proofs.GrantedAllocations.{placed_stands}
+use Rattle.mk_core.proofs.PointedAllocations.{base_points}
+use Rattle.mk_core.proofs.Sizes.{large_is_not_small, pages_some}
+use Rattle.mk_core.proofs.StandingAllocations.{typed_size}
+use Rattle.mk_laws.specs.Quarantine.{IsQuarantined}
+use Rattle.mk_laws.specs.LayoutScene.{Among, Claim, HasHeader, IsShown, Unmapping, is_released_in}
+use Rattle.mk_laws.specs.Ground.{ground_of}
+use Rattle.mk_laws.specs.Terrain.{IsClaimedRun, LayoutStands, RunStands, claim_of, claims_of, claims_placed}
+use Rattle.mk_laws.specs.Terrain.{is_unmapping, mode_of, object_now, place_claim, layout_scene_of}
+use Rattle.mk_laws.proofs.Claims.{claim_among, claim_is}
+use Rattle.mk_laws.proofs.LayoutHolders.{holding_object, new_has_turn, seat_operands}
+use Rattle.mk_laws.proofs.LayoutJoined.{apart_across, apart_left}
+use Rattle.mk_laws.proofs.Released.{all_stand}
+use Rattle.mk_laws.proofs.Serving.{own_claim, placed_claim}
+use Rattle.mk_laws.proofs.OneCell.{numbers_apart}
+use Rattle.mk_laws.proofs.StandingClaims.{IsStanding, place_index}
+use Rattle.mk_laws.proofs.Unmapping.{shares_run}
+use Rattle.mk_laws.specs.ImagePremises.{IsFreedRun, IsPlaceOfNone, ImagePremises, run_of_allocation}
+use Rattle.mk_laws.specs.ImagePremises as images
+use Rattle.mk_laws.proofs.KnownWorlds.{KnownWorld}
+use Rattle.mk_laws.specs.Zeros.{HasZeros}
+use Rattle.mk_laws.specs.RunGates.{HoldsRunGates}
+use Rattle.mk_laws.proofs.TellImages.{zeros_tell_the_images}
+
+-- A large allocation that is freed isn't mapped.
+pub gone_is : (c : Config) (a : PlacedAllocation) → a.released ≡ false
+    → is_mapped c a ≡ not (a.freed && not (is_small_object (object_placed c a)))
+gone_is c a u =
+    ap (λ b. not b && not (a.freed && is_large (kinds_of c.types a.ty))) u
+    ∙ ap (λ b. not (a.freed && b)) (large_is_not_small (kinds_of c.types a.ty))
+
+mode_mapped : (x going : Bool) (o : Object) (d h : ℕ) → not x ≡ true → HasHeader (mode_of x going) o d h
+    → h ≡ header_made o d
+mode_mapped true going o d h e has = cc
+mode_mapped false going o d h e has = has
+
+mode_unmapped : (x going : Bool) (o : Object) (d h : ℕ) → not x ≡ false → going ≡ false
+    → HasHeader (mode_of x going) o d h → h ≡ unmapped_header (pages_made o) d
+mode_unmapped false going o d h e g has = cc
+mode_unmapped true true o d h e g has = cc
+mode_unmapped true false o d h e g has = has.1
+
+mode_unmapping : (x going : Bool) → mode_of x going ≡ Unmapping → x ≡ true
+mode_unmapping true going e = refl
+mode_unmapping false going e = cc
+
+-- What is left of a snapshot's cells is released while the phase is releasing.
+pub released_is : (w : World) (cell : Cell) → is_released_cell w.now.words cell
+    ≡ is_released_in (is_phase w.now.words 4) w.now.words.snapshot w.now.words.marks cell.page cell.index
+released_is w cell =
+    by (is_phase w.now.words 4) _ _ _
+    (has_bit_without (slice_index w.now.words.snapshot cell.page) (slice_index w.now.words.marks cell.page) cell.index)
+  where
+    by : (b x y z : Bool) → x ≡ (y && not z) → (b && x) ≡ (b && y && not z)
+    by true x y z e = e
+    by false x y z e = refl
+
+module _ (c : Config) (w : World) (known : KnownWorld c w) (laid : LayoutStands c w) where
+  abbrev xs : List PlacedAllocation
+  xs = w.allocations
+
+  abbrev run : Option RunPages
+  run = w.now.seats.holding.freed
+
+  pub shown_claim : (i : ℕ) → (placed_at w.allocations i).released ≡ false
+      → IsShown w.now.words.pages (claim_of c w.now.seats.holding.freed (placed_at w.allocations i))
+  shown_claim i u =
+      let x : Claim = claim_of c w.now.seats.holding.freed (placed_at w.allocations i) in
+      laid.scene.shown x (own_claim c (object_now c w.now) (ground_of w) x
+      (claim_among c w.now.seats.holding.freed w.allocations i u))
+
+  pub standing : (i : ℕ) → (placed_at w.allocations i).released ≡ false
+      → IsStanding c w.now.words (placed_at w.allocations i)
+  standing i u = all_stand c (object_now c w.now) (is_phase w.now.words 4) w known.lengths.pages laid i u
+
+  bases_apart : (i j : ℕ) → (placed_at w.allocations i).released ≡ false → (placed_at w.allocations j).released ≡ false
+      → i ≢ j → (placed_at w.allocations i).base ≢ (placed_at w.allocations j).base
+  bases_apart i j u v ne same =
+      let si = standing i u in
+      let sj = standing j v in
+      let one = base_points c w.now.words (placed_at w.allocations i) known.limits si.stands si.headers in
+      let two = base_points c w.now.words (placed_at w.allocations j) known.limits sj.stands sj.headers in
+      let both : Some (cell_of_allocation c (placed_at w.allocations i))
+      ≡ Some (cell_of_allocation c (placed_at w.allocations j)) =
+      sym one ∙ ap (λ n. pointed_cell c.pages w.now.words.pages (address_of n)) same ∙ two in
+      let cells : cell_of_allocation c (placed_at w.allocations i) ≡ cell_of_allocation c (placed_at w.allocations j) =
+      cc in
+      ne (numbers_apart c w.now.seats.holding.freed w.allocations i j
+      (apart_left (claims_of c w.now.seats.holding.freed w.allocations)
+      (claims_placed (object_now c w.now) w.now.seats.holding.placing) laid.scene.apart) u v
+      (ap (λ (x : Cell). x.page) cells, ap (λ (x : Cell). x.index) cells))
+
+  -- The run that the call frees
+
+  pub run_of : (r : RunPages) → w.now.seats.holding.freed ≡ Some r
+      → IsClaimedRun (claims_of c w.now.seats.holding.freed w.allocations) r
+  run_of r e = subst (λ (x : Option RunPages). RunStands (claims_of c w.now.seats.holding.freed w.allocations) x) e
+      laid.gone
+
+  freed_run : (r : RunPages) → w.now.seats.holding.freed ≡ Some r → IsFreedRun c w r
+  freed_run r e =
+      let x = run_of r e in
+      let n = claim_is c w.now.seats.holding.freed w.allocations x.claim x.among in
+      let a : PlacedAllocation = placed_at w.allocations n.number in
+      let gone : (a.freed && not (is_small_object (object_placed c a))) ≡ true =
+      mode_unmapping (a.freed && not (is_small_object (object_placed c a))) _ (ap (λ (y : Claim). y.mode) (sym n.is)
+      ∙ x.mode) in
+      let page : r.page ≡ a.base / 64 = sym x.page ∙ ap (λ (y : Claim). y.page) n.is in
+      let count : r.count ≡ pages_made (object_placed c a) = sym x.count
+      ∙ ap (λ (y : Claim). pages_made y.object) n.is in
+      record {
+        number = n.number;
+        unreleased = n.unreleased;
+        large = ap (λ (y : Claim). is_small_object y.object) (sym n.is) ∙ x.large;
+        freed = (and_parts a.freed (not (is_small_object (object_placed c a))) gone).0;
+        is = ap (λ p. record { page = p; count = r.count }) page
+            ∙ ap (λ k. record { page = a.base / 64; count = k }) count;
+      }
+
+  not_going : (i : ℕ) → (placed_at w.allocations i).released ≡ false
+      → is_small_object (object_placed c (placed_at w.allocations i)) ≡ false
+      → w.now.seats.holding.freed ≢ Some (run_of_allocation c (placed_at w.allocations i))
+      → is_unmapping w.now.seats.holding.freed ((placed_at w.allocations i).base / 64) ≡ false
+  not_going i u large other = by w.now.seats.holding.freed refl
+    where
+      by : (r : Option RunPages) → w.now.seats.holding.freed ≡ r
+          → is_unmapping r ((placed_at w.allocations i).base / 64) ≡ false
+      by None e = refl
+      by (Some r) e = elim (cases_Bool (r.page == (placed_at w.allocations i).base / 64)) [
+        | inr out ↦ out
+        | inl here ↦
+            let a : PlacedAllocation = placed_at w.allocations i in
+            let x = run_of r e in
+            let there = eqb-true r.page (a.base / 64) here in
+            let mine = own_claim c (object_now c w.now) (ground_of w) (claim_of c w.now.seats.holding.freed a)
+            (claim_among c w.now.seats.holding.freed w.allocations i u) in
+            let his = own_claim c (object_now c w.now) (ground_of w) x.claim x.among in
+            let some = pages_some (object_placed c a) (shown_claim i u).sized in
+            let some2 = pages_some x.claim.object (laid.scene.shown x.claim his).sized in
+            let page = x.page in
+            let same : x.claim ≡ claim_of c w.now.seats.holding.freed a =
+            shares_run (layout_scene_of c (object_now c w.now) (is_phase w.now.words 4) w.now.words.marks (ground_of w))
+            (claim_of c w.now.seats.holding.freed a) x.claim 0 0 laid.scene mine his large
+            (omega arith) (omega arith) (omega arith) in
+            let count : r.count ≡ pages_made (object_placed c a) = sym x.count
+            ∙ ap (λ (y : Claim). pages_made y.object) same in
+            absurd (other (e ∙ ap (λ (y : RunPages). Some y) (ap (λ p. record { page = p; count = r.count }) there
+            ∙ ap (λ k. record { page = a.base / 64; count = k }) count)))
+      ]
+
+  pub laid_out : (i : ℕ) → (placed_at w.allocations i).released ≡ false
+      → images.IsLaidOut c w.now.words w.now.seats.holding.freed (placed_at w.allocations i)
+  laid_out i u =
+      let a : PlacedAllocation = placed_at w.allocations i in
+      let s = standing i u in
+      let gone : is_mapped c a ≡ not (a.freed && not (is_small_object (object_placed c a))) = gone_is c a u in
+      record {
+        stands = s.stands;
+        headers = s.headers;
+        mapped = λ m d lt. mode_mapped (a.freed && not (is_small_object (object_placed c a))) _ (object_placed c a) d _
+            (sym gone ∙ m) ((shown_claim i u).headers d lt);
+        unmapped = λ m other d lt.
+            let off : not (a.freed && not (is_small_object (object_placed c a))) ≡ false = sym gone ∙ m in
+            mode_unmapped (a.freed && not (is_small_object (object_placed c a))) _ (object_placed c a) d _ off
+            (not_going i u (large_of (a.freed) (is_small_object (object_placed c a)) off) other)
+            ((shown_claim i u).headers d lt);
+      }
+    where
+      large_of : (x y : Bool) → not (x && not y) ≡ false → y ≡ false
+      large_of true true e = cc
+      large_of true false e = refl
+      large_of false y e = cc
+
+  -- The place of an undecided New
+
+  all_stands : (o : Object) (first n : ℕ) → ((d : ℕ) → d < n → header_at w.now.words (first + d) ≡ header_made o d)
+      → all_below n (stands w.now.words first (header_made o)) ≡ true
+  all_stands o first zero h = all_below_zero_is (stands w.now.words first (header_made o))
+  all_stands o first (suc n) h =
+      subst (λ k. all_below k (stands w.now.words first (header_made o)) ≡ true) (omega arith)
+      (all_below_more_is n (stands w.now.words first (header_made o)) (all_stands o first n (λ d lt. h d (omega arith)))
+      (eq-eqb (header_at w.now.words (first + n)) (header_made o n) (h n (omega arith))))
+
+  -- No unreleased allocation begins where another one would stand whose cell is the place's.
+  place_alone : (b : PlacedAllocation) (place : Place) → b.ty < length c.types → b.released ≡ false
+      → b.base ≡ base_made (object_placed c b) place
+      → place.index < cells_made (object_placed c b) → place.page + pages_made (object_placed c b) ≤ c.pages
+      → place_stands w.now.words (object_placed c b) place ≡ true
+      → w.now.seats.holding.placing ≡ Used place → (i : ℕ) → (placed_at w.allocations i).released ≡ false
+      → (placed_at w.allocations i).base ≢ base_made (object_placed c b) place
+  place_alone b place typed v base cell pages stand is i u same =
+      let a : PlacedAllocation = placed_at w.allocations i in
+      let s = standing i u in
+      let stands = placed_stands c b place known.limits typed v base cell pages in
+      let one = base_points c w.now.words a known.limits s.stands s.headers in
+      let two = base_points c w.now.words b known.limits stands
+      (placed_headers c w.now.words b place known.limits typed base cell stand) in
+      let both : Some (cell_of_allocation c a) ≡ Some (cell_of_allocation c b) =
+      sym one ∙ ap (λ n. pointed_cell c.pages w.now.words.pages (address_of n)) (same ∙ sym base) ∙ two in
+      let cells : cell_of_allocation c a ≡ cell_of_allocation c b = cc in
+      let at = place_index c b place (typed_size c b known.limits typed) base cell in
+      let among : Among (place_claim (object_now c w.now) place)
+      (claims_placed (object_now c w.now) w.now.seats.holding.placing) =
+      subst (λ (x : Placing). Among (place_claim (object_now c w.now) place) (claims_placed (object_now c w.now) x))
+      (sym is) (inl refl) in
+      let page : a.base / 64 ≡ place.page = ap (λ (x : Cell). x.page) cells ∙ at.0 in
+      let index : (cell_of_allocation c a).index ≡ place.index = ap (λ (x : Cell). x.index) cells ∙ at.1 in
+      apart_across (claims_of c w.now.seats.holding.freed w.allocations)
+      (claims_placed (object_now c w.now) w.now.seats.holding.placing)
+      (claim_of c w.now.seats.holding.freed a) (place_claim (object_now c w.now) place) laid.scene.apart
+      (claim_among c w.now.seats.holding.freed w.allocations i u) among (page, index)
+
+  taken : (place : Place) (k : ℕ) → w.now.seats.holding.placing ≡ Used place → k < c.callers
+      → is_undecided_new (flight_of w.now (Caller k)) ≡ true
+      → IsPlaceOfNone c w (object_made c (flight_of w.now (Caller k)).op) place
+  taken place k is lt new =
+      let f : Flight = flight_of w.now (Caller k) in
+      let o : Object = object_made c f.op in
+      let object : object_now c w.now ≡ o =
+      holding_object c w.now (Caller k) known.now (new_has_turn c w.now (Caller k) (lt-ltb k c.callers lt) new) in
+      let among : Among (place_claim (object_now c w.now) place)
+      (claims_placed (object_now c w.now) w.now.seats.holding.placing) =
+      subst (λ (x : Placing). Among (place_claim (object_now c w.now) place) (claims_placed (object_now c w.now) x))
+      (sym is) (inl refl) in
+      let shown : IsShown w.now.words.pages (place_claim o place) =
+      subst (λ (u : Object). IsShown w.now.words.pages (place_claim u place)) object
+      (laid.scene.shown (place_claim (object_now c w.now) place)
+      (placed_claim c (object_now c w.now) (ground_of w) (place_claim (object_now c w.now) place) among)) in
+      let pages : place.page + pages_made o ≤ c.pages =
+      subst (λ n. place.page + pages_made o ≤ n) known.lengths.pages shown.within in
+      let b : PlacedAllocation = granted c w.now f in
+      let base : b.base ≡ base_made o place = granted_base_is c f w.now.seats.holding.placing place is in
+      let e : object_placed c b ≡ o = granted_object c w.now f new in
+      let stand : place_stands w.now.words o place ≡ true = all_stands o place.page (pages_made o) shown.headers in
+      record {
+        index = shown.known;
+        pages = pages;
+        stands = stand;
+        alone = λ i u same. place_alone b place
+            (granted_type c w.now f new (seat_operands c w.now (Caller k) known.now)) refl (base
+            ∙ ap (λ (x : Object). base_made x place) (sym e))
+            (subst (λ (x : Object). place.index < cells_made x) (sym e) shown.known)
+            (subst (λ (x : Object). place.page + pages_made x ≤ c.pages) (sym e) pages)
+            (subst (λ (x : Object). place_stands w.now.words x place ≡ true) (sym e) stand) is i u (same
+            ∙ ap (λ (x : Object). base_made x place) (sym e));
+      }
+
+  pub say_to_images : IsQuarantined c w → HasZeros c w → HoldsRunGates c w
+      → (phase_of w.now.words ≡ 3 → MarksAreClosed c w) → ImagePremises c w
+  say_to_images q zeros gates marks =
+      record {
+        laid_out = laid_out;
+        apart = bases_apart;
+        taken = taken;
+        freed_run = freed_run;
+        gates = gates;
+        shown = q.shown;
+        freed = λ cell is. elim (q.owned cell.page cell.index is) [
+          | inl f ↦ inl (record { number = f.number; unreleased = f.unreleased; freed = f.freed; cell = f.cell })
+          | inr r ↦ inr (released_is w cell ∙ r)
+        ];
+        kept = λ i u. released_is w (cell_of_allocation c (placed_at w.allocations i))
+            ∙ kept_at i u (is_phase w.now.words 4) refl;
+        zero_words = zeros_tell_the_images c w zeros;
+        marks = marks;
+      }
+    where
+      kept_at : (i : ℕ) → (placed_at w.allocations i).released ≡ false → (b : Bool) → is_phase w.now.words 4 ≡ b
+          → is_released_in b w.now.words.snapshot w.now.words.marks
+          (cell_of_allocation c (placed_at w.allocations i)).page
+          (cell_of_allocation c (placed_at w.allocations i)).index ≡ false
+      kept_at i u true e = q.kept e i u
+      kept_at i u false e = refl

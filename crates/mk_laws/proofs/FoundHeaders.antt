@@ -1,0 +1,307 @@
+-- What a `head` finds while a cycle marks, from what the layout says.
+use Rattle.std.proofs.Common.{◌≡◌, ◌⊎◌, ℕ, ◌+◌, ◌-◌, ◌*◌, ◌^◌, ◌<◌, Bool, true, false, length, refl, sym, ◌∙◌, ap, []}
+use Rattle.std.proofs.Common.{subst, inl, inr, arith, option_and_then}
+use Rattle.std.specs.Prelude.{Option, Some, None, slice_index, nat_le, nat_lt, ◌&&◌, ◌||◌, ◌==◌, not, if◌then◌else◌}
+use Rattle.std.proofs.lemmas.Bool.{cases_Bool, cases_eq, true≢false, eqb-true, eq-eqb, and_parts, or_cases, not-true}
+use Rattle.std.proofs.lemmas.Bool.{ltb-true, le-leb, cond-true, cond-false}
+use Rattle.std.proofs.lemmas.Nat.Bits.{bit_at_ones}
+use Rattle.std.proofs.Math.Bool.{or-true}
+use Rattle.mk_laws.proofs.Vocabulary.{Cell, Config, Flight, Header, IsHeaderOf, IsSized, IsWithinLimits, Object}
+use Rattle.mk_laws.proofs.Vocabulary.{OfBlock, OfLater, OfLeafBlock, OfLeafRun, OfRun, Op, Place, RunPages, Seat}
+use Rattle.mk_laws.proofs.Vocabulary.{ShowsPart, Words, World, cell_at, cells_made, cells_of, cells_under}
+use Rattle.mk_laws.proofs.Vocabulary.{class_made, class_words_of, d_of, flight_of, g_of, has_bit, has_operands}
+use Rattle.mk_laws.proofs.Vocabulary.{head_page_under, header_at, header_in, header_made, header_of}
+use Rattle.mk_laws.proofs.Vocabulary.{is_heap_address, is_leaf_header, is_marked_first, is_phase, is_small_object}
+use Rattle.mk_laws.proofs.Vocabulary.{is_undecided_new, is_unmapped_header, object_made, p_of, page_at_address}
+use Rattle.mk_laws.proofs.Vocabulary.{pages_made, phase_of, place_now, q_of, r_of, unmapped_header, without}
+use Rattle.mk_laws.proofs.Vocabulary.{words_made, words_under}
+use Rattle.mk_geom.specs.Addresses.{cell_under, word_at_address}
+use Rattle.mk_geom.proofs.ClassTable.{cell_ends, some_cells}
+use Rattle.mk_core.specs.declared.events.Step.TheVariants as step
+use Rattle.mk_core.specs.Calls.{has_type}
+use Rattle.mk_core.specs.NewPlaces.{bits_made}
+use Rattle.mk_core.proofs.Sizes.{small_cells, large_cells, small_pages, small_words, large_words, class_known}
+use Rattle.mk_core.proofs.Sizes.{large_count}
+use Rattle.mk_core.proofs.ObjectHeaders.{made_shows, header_shows, part_head, part_not_free, part_cells, part_words}
+use Rattle.mk_core.proofs.ObjectHeaders.{later_cells, same_cells, same_words, unmapped_is_unmapped}
+use Rattle.mk_core.proofs.PlacesNow.{NewAtTurn, undecided_new, placed_now}
+use Rattle.mk_core.proofs.PointedPages.{lies_under, found_under}
+use Rattle.mk_core.proofs.ServingSteps.{Carves}
+use Rattle.mk_core.proofs.PageSteps.{Unmaps, HeadStep, ItCarves, ItUnmaps, ItEmpties, head_step}
+use Rattle.mk_core.proofs.WordBits.{without_none, fewer_bits}
+use Rattle.mk_laws.proofs.Actors.{Meets}
+use Rattle.mk_laws.proofs.Known.{Known}
+use Rattle.mk_laws.proofs.NewPlace.{new_holds}
+use Rattle.mk_laws.specs.Guard.{HeaderGoesOn, IsMarking}
+use Rattle.mk_laws.specs.Kept.{PlaceIsBare, RunHasObject, GuardPremises}
+use Rattle.mk_laws.proofs.Phases.{either_phase}
+use Rattle.mk_laws.proofs.Headers.{HeadFinds, Carved, Unmapped}
+
+-- What an address on a page of a run points into: cell 0 of its first page.
+
+abbrev run_cell : ℕ → ℕ → Option Cell
+run_cell distance page = if nat_le distance page then Some (record { page = page - distance; index = 0 }) else None
+
+first_cell : (distance page : ℕ) → distance ≡ 0 → Some (record { page = page; index = 0 }) ≡ run_cell distance page
+first_cell distance page z =
+    let here : page ≡ page - distance = omega arith in
+    ap (λ (p : ℕ). Some (record { page = p; index = 0 })) here
+    ∙ sym (cond-true (nat_le distance page) (Some (record { page = page - distance; index = 0 })) None
+    (le-leb distance page (omega arith)))
+
+run_cell_under : (o : Object) (distance page word : ℕ) (x : Option Header) → ShowsPart o distance x
+    → is_small_object o ≡ false → option_and_then (λ h. cell_under h page word) x ≡ run_cell distance page
+run_cell_under o distance page word x (OfBlock z small leaf) large = absurd (true≢false (sym small ∙ large))
+run_cell_under o distance page word x (OfLeafBlock z small leaf) large = absurd (true≢false (sym small ∙ large))
+run_cell_under o distance page word x (OfRun mapped z l leaf) large = first_cell distance page z
+run_cell_under o distance page word x (OfLeafRun z l leaf) large = first_cell distance page z
+run_cell_under o distance page word x (OfLater mapped some l) large = refl
+
+run_cell_at : (pages header value distance : ℕ) (o : Object) → ShowsPart o distance (header_of header)
+    → is_small_object o ≡ false
+    → cell_at pages header value ≡ (if is_heap_address pages value then run_cell distance (page_at_address value)
+    else None)
+run_cell_at pages header value distance o part large =
+    ap (λ (x : Option Cell). if is_heap_address pages value then x else None)
+    (run_cell_under o distance (page_at_address value) (word_at_address value) (header_of header) part large)
+
+-- Unmapping shows the same.
+
+unmapped_goes : (pages before after distance : ℕ) (o : Object) → is_small_object o ≡ false
+    → ShowsPart o distance (header_of before) → ShowsPart o distance (header_of after)
+    → is_unmapped_header (header_of after) ≡ true → HeaderGoesOn pages before after
+unmapped_goes pages before after distance o large b a unmapped =
+    record {
+      cell = λ v y is. run_cell_at pages after v distance o a large
+          ∙ sym (run_cell_at pages before v distance o b large) ∙ is;
+      count = λ some. same_cells o distance (header_of after) (header_of before) a b;
+      words = λ some. same_words o distance (header_of after) (header_of before) a b;
+      unscanned = λ some t. rw unmapped (or-true _);
+    }
+
+unmaps_find : (c : Config) (w : Words) (freed : Option RunPages) (p n : ℕ)
+    → ((run : RunPages) → freed ≡ Some run → RunHasObject w run) → Unmaps w freed p n → HeadFinds c.pages w p n
+unmaps_find c w freed p n runs u =
+    Unmapped (part_not_free o.object distance n after)
+    (unmapped_goes c.pages (header_at w p) n distance o.object o.large before after unmapped)
+    (λ v y on is. run_cell_at c.pages (header_at w p) v distance o.object before o.large
+    ∙ sym (run_cell_at c.pages n v distance o.object after o.large) ∙ is)
+    (λ none. same_cells o.object distance (header_of n) (header_in w p) after before ∙ none)
+  where
+    o : RunHasObject w u.run
+    o = runs u.run u.there
+
+    distance : ℕ
+    distance = p - u.run.page
+
+    near : p - u.run.page < u.run.count
+    near = u.next.near
+
+    within : p - u.run.page < pages_made o.object
+    within = rw o.count near
+
+    here : u.run.page + (p - u.run.page) ≡ p
+    here = let le = u.next.from in omega arith
+
+    before : ShowsPart o.object (p - u.run.page) (header_of (header_at w p))
+    before =
+        header_shows o.object (p - u.run.page) (header_at w p) o.sized within
+        (rw here at (o.headers (p - u.run.page) near))
+
+    is : n ≡ unmapped_header (pages_made o.object) (p - u.run.page)
+    is = u.next.is ∙ ap (λ (k : ℕ). unmapped_header k (p - u.run.page)) (sym o.count)
+
+    after : ShowsPart o.object (p - u.run.page) (header_of n)
+    after = header_shows o.object (p - u.run.page) n o.sized within (inr (o.large, is))
+
+    unmapped : is_unmapped_header (header_of n) ≡ true
+    unmapped = rw is
+        (unmapped_is_unmapped (pages_made o.object) (p - u.run.page) (large_count o.object o.sized o.large) within)
+
+-- Carving: the cells that the headers make are marked first.
+
+made_bit : (o : Object) (k : ℕ) → k < cells_made o → has_bit (bits_made o) k ≡ true
+made_bit o k lt = elim (cases_Bool (is_small_object o)) [
+  | inl small ↦
+      let cells = small_cells o small in
+      ap (λ n. has_bit n k) (cond-true (is_small_object o) (2 ^ cells_of (class_made o) - 1) 1 small)
+      ∙ rw (bit_at_ones (cells_of (class_made o)) k (omega arith))
+  | inr large ↦
+      let one = large_cells o large in
+      let zero : k ≡ 0 = omega arith in
+      ap (λ n. has_bit n k) (cond-false (is_small_object o) (2 ^ cells_of (class_made o) - 1) 1 large) ∙ rw zero
+]
+
+-- The cell of a value on such a page is one of the first page's.
+made_cell : (pages : ℕ) (o : Object) (first distance value : ℕ) (x : Cell) → IsSized o → distance < pages_made o
+    → page_at_address value ≡ first + distance
+    → cell_at pages (header_made o distance) value ≡ Some x → (x.page ≡ first) × (x.index < cells_made o)
+made_cell pages o first distance value x sized lt on is = (page, index)
+  where
+    part : ShowsPart o distance (header_of (header_made o distance))
+    part = made_shows o distance sized lt
+
+    under : (h : Header) × (header_of (header_made o distance) ≡ Some h)
+        × (cell_under h (page_at_address value) (word_at_address value) ≡ Some x)
+    under = found_under pages (header_made o distance) value x is
+
+    page : x.page ≡ first
+    page =
+        let lies = lies_under under.0 (page_at_address value) (word_at_address value) x under.2 in
+        lies.head ∙ rw (← under.1) (rw on (part_head o distance first (header_of (header_made o distance)) part))
+
+    small_index : is_small_object o ≡ true → x.index < cells_made o
+    small_index small =
+        let one = small_pages o small in
+        let zero : distance ≡ 0 = omega arith in
+        let cells : cells_under (header_of (header_made o distance)) ≡ cells_made o
+        = part_cells o (header_of (header_made o distance))
+        (subst (λ d. ShowsPart o d (header_of (header_made o distance))) zero part) in
+        let shown : cells_under (Some under.0) ≡ cells_made o = rw (← under.1) cells in
+        let class = small_cells o small in
+        let some = some_cells (class_made o) (class_known o sized small).0 in
+        let lies = lies_under under.0 (page_at_address value) (word_at_address value) x under.2 in
+        elim lies.known [
+          | inl none ↦ absurd (omega arith)
+          | inr known ↦ omega arith
+        ]
+
+    run_index : (b : Bool) → (if b then run_cell distance (page_at_address value) else None) ≡ Some x → x.index ≡ 0
+    run_index false e = cc
+    run_index true e = by (nat_le distance (page_at_address value)) e
+      where
+        by : (b : Bool) → (if b then Some (record { page = page_at_address value - distance; index = 0 }) else None)
+            ≡ Some x → x.index ≡ 0
+        by true e = let same : record { page = page_at_address value - distance; index = 0 } ≡ x =
+            cc in sym (ap (λ (y : Cell). y.index) same)
+        by false e = cc
+
+    index : x.index < cells_made o
+    index = elim (cases_Bool (is_small_object o)) [
+      | inl small ↦ small_index small
+      | inr large ↦
+          let one = large_cells o large in
+          let zero = run_index (is_heap_address pages value)
+          (sym (run_cell_at pages (header_made o distance) value distance o part large) ∙ is) in
+          omega arith
+    ]
+
+first_marked : (w : Words) (o : Object) (place : Place) (k : ℕ) → is_phase w 1 ≡ true → is_marked_first w o place ≡ true
+    → k < cells_made o → has_bit (slice_index w.marks place.page) k ≡ true
+first_marked w o place k one first lt =
+    elim (or_cases (not (is_phase w 1)) _ first) [
+      | inl out ↦ absurd (true≢false (sym one ∙ not-true (is_phase w 1) out))
+      | inr none ↦
+          fewer_bits (bits_made o) _ k (without_none (bits_made o) _ (eqb-true _ 0 none)) (made_bit o k lt)
+    ]
+
+-- Its words are those of its pages.
+word_within : (o : Object) (k i : ℕ) → IsSized o → k < cells_made o → i < words_made o
+    → k * words_made o + i < 64 * pages_made o
+word_within o k i sized lk li = elim (cases_Bool (is_small_object o)) [
+  | inl small ↦
+      let cells = small_cells o small in
+      let words = small_words o small in
+      let one = small_pages o small in
+      let ends = cell_ends k (class_words_of (class_made o)) (omega arith) in
+      let product : k * words_made o ≡ k * class_words_of (class_made o) = rw words in
+      omega arith
+  | inr large ↦
+      let cells = large_cells o large in
+      let words = large_words o large in
+      let zero : k ≡ 0 = omega arith in
+      let product : k * words_made o ≡ 0 * words_made o = rw zero in
+      omega arith
+]
+
+carves_find : (c : Config) (w : Words) (o : Object) (found : Option Place) (p n : ℕ) → IsSized o → is_phase w 1 ≡ true
+    → ((place : Place) → found ≡ Some place → PlaceIsBare w o place) → Carves w o found p n → HeadFinds c.pages w p n
+carves_find c w o found p n sized one bare k =
+    Carved free (λ v x on is.
+    let cell = made_cell c.pages o k.place.page (p - k.place.page) v x sized near (on
+    ∙ sym here) (subst (λ a. cell_at c.pages a v ≡ Some x) k.next.is is) in
+    subst (λ q. has_bit (slice_index w.marks q) x.index ≡ true) (sym cell.0)
+    (first_marked w o k.place x.index one k.marked cell.1))
+    (λ j i lj li. words j i (subst (λ a. j < cells_under (header_of a)) k.next.is lj)
+    (subst (λ a. i < words_under (header_of a)) k.next.is li))
+  where
+    b : PlaceIsBare w o k.place
+    b = bare k.place k.there
+
+    near : p - k.place.page < pages_made o
+    near = k.next.near
+
+    here : k.place.page + (p - k.place.page) ≡ p
+    here = let le = k.next.from in omega arith
+
+    free : header_at w p ≡ 0
+    free = elim (b.headers (p - k.place.page) near) [
+      | inl z ↦ subst (λ q. header_at w q ≡ 0) here z
+      | inr made ↦ absurd (k.next.not_yet (subst (λ q. header_at w q ≡ header_made o (p - k.place.page)) here made))
+    ]
+
+    words : (j i : ℕ) → j < cells_under (header_of (header_made o (p - k.place.page)))
+        → i < words_under (header_of (header_made o (p - k.place.page)))
+        → slice_index w.heap (64 * p + j * words_under (header_of n) + i) ≡ 0
+    words j i lj li = elim (cases_eq (p - k.place.page) 0) [
+      | inr ne ↦
+          let none = later_cells o (p - k.place.page) (header_of (header_made o (p - k.place.page)))
+          (made_shows o (p - k.place.page) sized near) (omega arith) in
+          absurd (omega arith)
+      | inl z ↦
+          let le = k.next.from in
+          let at : p ≡ k.place.page = omega arith in
+          let part = subst (λ d. ShowsPart o d (header_of (header_made o (p - k.place.page)))) z
+          (made_shows o (p - k.place.page) sized near) in
+          let cells = part_cells o (header_of (header_made o (p - k.place.page))) part in
+          let size = part_words o (header_of (header_made o (p - k.place.page))) part in
+          let shown : words_under (header_of n) ≡ words_made o = ap (λ a. words_under (header_of a)) k.next.is ∙ size in
+          let within = word_within o j i sized (omega arith) (omega arith) in
+          let product : j * words_under (header_of n) ≡ j * words_made o = ap (λ a. j * a) shown in
+          let first : 64 * p + j * words_under (header_of n) + i ≡ 64 * k.place.page + (j * words_made o + i) =
+          omega arith in
+          ap (λ m. slice_index w.heap m) first
+          ∙ b.words (subst (λ q. header_at w q ≡ 0) at free) (j * words_made o + i) within
+    ]
+
+-- The object of an undecided New has 1 to 4,096 words.
+new_sized : (c : Config) (f : Flight) → IsWithinLimits c → has_operands c f.op ≡ true → is_undecided_new f ≡ true
+    → IsSized (object_made c f.op)
+new_sized c f limits operands new = by f.op (undecided_new f new) operands
+  where
+    by : (o : Op) → NewAtTurn f.stage o → has_operands c o ≡ true → IsSized (object_made c o)
+    by o at operands =
+        let typed = (and_parts
+        (nat_lt (q_of o) 8 && nat_lt (p_of o) 8 && nat_lt (r_of o) 8 && nat_lt (d_of o) 8 && nat_lt (g_of o) 64)
+        (has_type c o) operands).1 in
+        subst (λ (x : Op). IsSized (object_made c x)) (sym at.op)
+        (limits.types at.ty []
+        (ltb-true at.ty (length c.types) (subst (λ (x : Op). has_type c x ≡ true) at.op typed))).0
+
+-- While a cycle marks, a `head` comes before the stop is wanted.
+marking_phase : (n : ℕ) → ((n == 0) || (n == 1) || (n == 4)) ≡ true → (n ≡ 1) ⊎ (n ≡ 2) → n ≡ 1
+marking_phase n h (inl e) = e
+marking_phase n h (inr two) = elim (or_cases _ (n == 4) h) [
+  | inl a ↦ elim (either_phase n 0 1 a) [ inl e ↦ absurd (omega arith) | inr e ↦ absurd (omega arith) ]
+  | inr e ↦ let z = eqb-true n 4 e in absurd (omega arith)
+]
+
+pub head_finds : (c : Config) (w : World) (seat : Seat) (p n : ℕ) → IsWithinLimits c → Known c w.now
+    → IsMarking w.now.words → GuardPremises c w → Meets c w.now seat (step.Head p n) → HeadFinds c.pages w.now.words p n
+head_finds c w seat p n limits known early say h = by (head_step c w.now (flight_of w.now seat) p n h.holder)
+  where
+    one : phase_of w.now.words ≡ 1
+    one = marking_phase _ h.phase early
+
+    new_has : (place : Place) → place_now c w.now (flight_of w.now seat) ≡ Some place
+        → IsSized (object_made c (flight_of w.now seat).op)
+    new_has place now =
+        let new = (placed_now c w.now (flight_of w.now seat) place now).new in
+        let own = new_holds c w.now seat (step.Head p n) h new in
+        new_sized c (flight_of w.now seat) limits (rw own.2 (known.operands own.0)) new
+
+    by : HeadStep c w.now (flight_of w.now seat) p n → HeadFinds c.pages w.now.words p n
+    by (ItCarves four k) =
+        carves_find c w.now.words _ _ p n (new_has k.place k.there) (eq-eqb _ 1 one) (say.place early seat) k
+    by (ItUnmaps four u) = unmaps_find c w.now.words w.now.seats.holding.freed p n (say.freed early) u
+    by (ItEmpties four k) = let e = eqb-true _ 4 four in absurd (omega arith)

@@ -1,0 +1,83 @@
+-- Who steps: the turn's holder, or a seat whose step no gate, phase or word of the turn's is asked for.
+use Rattle.std.proofs.Common.{ap, false, refl, sym, true, ℕ, ◌∙◌, ◌≡◌}
+use Rattle.mk_laws.proofs.Vocabulary.{Caller, Config, Flight, Holds, Marker, Moment, Seat, Step, flight_of}
+use Rattle.mk_laws.proofs.Vocabulary.{group_of, has_gates, has_phase, holder_may, is_of_turn}
+use Rattle.mk_core.specs.declared.events.Group.TheVariants as group
+use Rattle.mk_core.specs.declared.events.Step.TheVariants as step
+use Rattle.std.proofs.lemmas.Bool.{true≢false}
+use Rattle.mk_laws.proofs.Actors.{Actor, AsHolder, AsMarker, CallTakes, HostTakes, InCallOf, is_holders}
+use Rattle.mk_laws.proofs.Orderly.{Orderly}
+use Rattle.mk_laws.proofs.OrderlyLists.{not_astray}
+use Rattle.mk_laws.proofs.Standings.{in_turn_told, is_standing_under_turn}
+use Rattle.mk_laws.proofs.Views.{HoldsTurn, view_of}
+
+-- who holds the turn by what the protocol reads holds it by its call
+pub holds_is : (c : Config) (m : Moment) (seat : Seat) → Orderly c (view_of m) → HoldsTurn c (view_of m) seat
+    → Holds c m seat
+holds_is c m (Caller k) o t = (
+  t.0,
+  sym (in_turn_told _ _ (not_astray c m o k t.0)) ∙ ap is_standing_under_turn t.1,
+)
+holds_is c m _ o t = t
+
+-- A holder's kind of step is the holder's.
+
+calls_kind : (x : Step) → group_of x ≡ group.Callers → is_holders x ≡ false
+calls_kind (step.Take o) g = cc
+calls_kind step.Over g = cc
+calls_kind x g = ap is_of_turn g
+
+markers_kind : (x : Step) → group_of x ≡ group.Markers → is_holders x ≡ false
+markers_kind (step.Take o) g = cc
+markers_kind step.Over g = cc
+markers_kind x g = ap is_of_turn g
+
+pub acts_as_holder : (c : Config) (m : Moment) (seat : Seat) (x : Step) → Actor c m seat x → is_holders x ≡ true
+    → HoldsTurn c (view_of m) seat
+acts_as_holder c m seat x (InCallOf k _ lt g) is = absurd (true≢false (sym is ∙ calls_kind x g))
+acts_as_holder c m seat x (AsMarker k _ lt g) is = absurd (true≢false (sym is ∙ markers_kind x g))
+acts_as_holder c m seat x (CallTakes k o lt idle take) is = cc
+acts_as_holder c m seat x (HostTakes free) is = cc
+acts_as_holder c m seat x (AsHolder _ _ t n) is = t
+
+-- What is asked of the holder alone is asked of no other.
+pub record AsksNothing (c : Config) (m : Moment) (s : Seat) (f : Flight) (n : ℕ) (x : Step) : Type 0 where
+  pub gates : has_gates c m.words s f x ≡ true
+  pub phase : has_phase n x ≡ true
+  pub holder : holder_may c m f x ≡ true
+
+call_asks_nothing : (c : Config) (m : Moment) (s : Seat) (f : Flight) (n : ℕ) (x : Step) → group_of x ≡ group.Callers
+    → AsksNothing c m s f n x
+call_asks_nothing c m s f n (step.Enter o) g = record { gates = refl; phase = refl; holder = refl }
+call_asks_nothing c m s f n step.Leave g = record { gates = refl; phase = refl; holder = refl }
+call_asks_nothing c m s f n step.Reg g = record { gates = refl; phase = refl; holder = refl }
+call_asks_nothing c m s f n step.Probe g = record { gates = refl; phase = refl; holder = refl }
+call_asks_nothing c m s f n step.Read g = record { gates = refl; phase = refl; holder = refl }
+call_asks_nothing c m s f n step.Write g = record { gates = refl; phase = refl; holder = refl }
+call_asks_nothing c m s f n step.Cas g = record { gates = refl; phase = refl; holder = refl }
+call_asks_nothing c m s f n step.Getg g = record { gates = refl; phase = refl; holder = refl }
+call_asks_nothing c m s f n step.Setg g = record { gates = refl; phase = refl; holder = refl }
+call_asks_nothing c m s f n step.Dirty g = record { gates = refl; phase = refl; holder = refl }
+call_asks_nothing c m s f n _ g = cc
+
+marker_asks_nothing : (c : Config) (m : Moment) (s : Seat) (f : Flight) (n : ℕ) (x : Step) → group_of x ≡ group.Markers
+    → AsksNothing c m s f n x
+marker_asks_nothing c m s f n step.Attend g = record { gates = refl; phase = refl; holder = refl }
+marker_asks_nothing c m s f n step.Quit g = record { gates = refl; phase = refl; holder = refl }
+marker_asks_nothing c m s f n (step.Mlook w) g = record { gates = refl; phase = refl; holder = refl }
+marker_asks_nothing c m s f n (step.Claim p i) g = record { gates = refl; phase = refl; holder = refl }
+marker_asks_nothing c m s f n step.Mload g = record { gates = refl; phase = refl; holder = refl }
+marker_asks_nothing c m s f n step.Mmark g = record { gates = refl; phase = refl; holder = refl }
+marker_asks_nothing c m s f n step.Mblack g = record { gates = refl; phase = refl; holder = refl }
+marker_asks_nothing c m s f n _ g = cc
+
+-- A step is its holder's, or nothing is asked for it, at whatever moment.
+pub data Asks (c : Config) (m : Moment) (s : Seat) (x : Step) : Type 0 where
+  OfHolder : HoldsTurn c (view_of m) s → Asks c m s x
+  OfNone : ((n : Moment) (f : Flight) (phase : ℕ) → AsksNothing c n s f phase x) → Asks c m s x
+
+pub asks : (c : Config) (m : Moment) (s : Seat) (x : Step) → Actor c m s x → Asks c m s x
+asks c m s x (InCallOf k _ lt g) = OfNone (λ n f phase. call_asks_nothing c n (Caller k) f phase x g)
+asks c m s x (AsMarker k _ lt g) = OfNone (λ n f phase. marker_asks_nothing c n (Marker k) f phase x g)
+asks c m s x (AsHolder _ _ t n) = OfHolder t
+asks c m s x _ = OfNone (λ n f phase. record { gates = refl; phase = refl; holder = refl })

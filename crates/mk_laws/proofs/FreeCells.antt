@@ -1,0 +1,237 @@
+-- The words of a cell in which no unreleased allocation stands, and those after a page's cells, are of none.
+use Rattle.std.proofs.Common.{◌≡◌, ◌≢◌, ◌⊎◌, ℕ, zero, suc, ◌+◌, ◌-◌, ◌*◌, ◌/◌, ◌%◌, ◌<◌, ◌≤◌, Bool, true, refl, sym}
+use Rattle.std.proofs.Common.{◌∙◌, ap, subst, inl, inr, arith, le_refl}
+use Rattle.std.specs.Prelude.{not, ◌==◌, slice_index, Option, Some, None}
+use Rattle.std.proofs.lemmas.Bool.{and_from, cases_eq, cases_order, eq-eqb}
+use Rattle.std.proofs.lemmas.Nat.{mul-le}
+use Rattle.mk_laws.proofs.Vocabulary.{BeginsAtCell, Block, Cell, Config, Free, Header, IsSized, IsTaken, Later}
+use Rattle.mk_laws.proofs.Vocabulary.{LeafBlock, LeafRun, NeverState, Object, OfBlock, OfLater, OfLeafBlock}
+use Rattle.mk_laws.proofs.Vocabulary.{OfLeafRun, OfRun, PlacedAllocation, Run, ShowsPart, Words, World, cell_words}
+use Rattle.mk_laws.proofs.Vocabulary.{cells_of, cells_under, class_made, class_words_of, first_word, header_at}
+use Rattle.mk_laws.proofs.Vocabulary.{header_in, heads_run, is_small_object, object_placed, pages_made, phase_of}
+use Rattle.mk_laws.proofs.Vocabulary.{placed_at, words_are_zero, words_made, words_under}
+use Rattle.mk_geom.proofs.ClassTable.{cell_ends}
+use Rattle.mk_core.proofs.AllBelow.{all_below_more_is, all_below_zero_is}
+use Rattle.mk_core.proofs.ObjectHeaders.{header_shows, later_cells, part_not_free, part_words, shown_later}
+use Rattle.mk_core.proofs.Sizes.{small_cells, small_words}
+use Rattle.mk_core.proofs.StandingAllocations.{run_begins, typed_size}
+use Rattle.mk_laws.specs.LayoutScene.{run_count}
+use Rattle.mk_laws.proofs.StandingClaims.{ends_on_pages}
+use Rattle.mk_laws.proofs.KnownWorlds.{KnownWorld}
+use Rattle.mk_laws.specs.Invariant.{Invariant}
+use Rattle.mk_laws.specs.Theorems.{OfHistories}
+use Rattle.mk_laws.proofs.ForImages.{standing}
+use Rattle.mk_laws.specs.FreeWords.{FreeCellsAreZero, Leaves, WordsBehindCellsAreZero, words_in_cells}
+use Rattle.mk_laws.proofs.FreeWords.{IsOfOne, of_one, of_worlds}
+
+-- A number is in one of equal parts alone.
+one_part : (size i j n : ℕ) → i * size ≤ n → n < i * size + size → j * size ≤ n → n < j * size + size → i ≡ j
+one_part size i j n from to low high = elim (cases_order i j) [
+  | inl is ↦ is
+  | inr (inl below) ↦ absurd (omega (arith, mul-le (suc i) size j size below (le_refl size)))
+  | inr (inr above) ↦ absurd (omega (arith, mul-le (suc j) size i size above (le_refl size)))
+]
+
+-- A cell ends on its page, or it is a run's.
+cell_on : (x : Option Header) (k i : ℕ) → k < cells_under x → i < words_under x
+    → (k * words_under x + i < 64) ⊎ ((heads_run x ≡ true) × (k ≡ 0) × (words_under x ≡ 64 * run_count x))
+cell_on None k i known lt = absurd (omega arith)
+cell_on (Some Free) k i known lt = absurd (omega arith)
+cell_on (Some (Block class)) k i known lt = inl (let ends = cell_ends k (class_words_of class) known in omega arith)
+cell_on (Some (LeafBlock class)) k i known lt = inl (let ends = cell_ends k (class_words_of class) known in omega arith)
+cell_on (Some (Run count mapped)) k i known lt = inr (refl, omega arith, refl)
+cell_on (Some (LeafRun count)) k i known lt = inr (refl, omega arith, refl)
+cell_on (Some (Later distance mapped)) k i known lt = absurd (omega arith)
+
+-- what is known of an unreleased allocation that has the word, and of the page that the word is on
+record OnPage (w : Words) (o : Object) (base x : ℕ) : Type 0 where
+  sized : IsSized o
+  begins : BeginsAtCell o base
+  from : base ≤ x
+  to : x < base + words_made o
+  distance : ℕ
+  page : base / 64 + distance ≡ x / 64
+  near : distance < pages_made o
+  part : ShowsPart o distance (header_in w (x / 64))
+
+-- where an object's base is on its page
+base_on_page : (o : Object) (base : ℕ) → (b : BeginsAtCell o base) → base ≡ 64 * (base / 64) + b.index * words_made o
+base_on_page o base b = let first = b.first in omega arith
+
+-- The allocation that has a word of a cell begins where the cell does: on the word's own page,
+begins_there : (w : Words) (o : Object) (base n p k : ℕ) → OnPage w o base n → n / 64 ≡ p
+    → k < cells_under (header_in w p) → 64 * p + k * words_under (header_in w p) ≤ n
+    → n < 64 * p + k * words_under (header_in w p) + words_under (header_in w p)
+    → base ≡ 64 * p + k * words_under (header_in w p)
+begins_there w o base n p k x at known low high = elim (cases_eq x.distance 0) [
+  | inr far ↦
+      let none = later_cells o x.distance (header_in w (n / 64)) x.part (omega arith) in
+      let here : cells_under (header_in w p)
+      ≡ cells_under (header_in w (n / 64)) = ap (λ q. cells_under (header_in w q)) (sym at) in
+      absurd (omega arith)
+  | inl first ↦
+      let words : words_under (header_in w p) ≡ words_made o =
+      ap (λ q. words_under (header_in w q)) (sym at)
+      ∙ part_words o (header_in w (n / 64)) (subst (λ d. ShowsPart o d (header_in w (n / 64))) first x.part) in
+      let page = x.page in
+      let from = x.from in
+      let to = x.to in
+      let base_is = base_on_page o base x.begins in
+      let size : k * words_under (header_in w p) ≡ k * words_made o = ap (λ m. k * m) words in
+      let same : x.begins.index
+      ≡ k = one_part (words_made o) x.begins.index k (n - 64 * p) (omega arith) (omega arith) (omega arith)
+      (omega arith) in
+      let index : x.begins.index * words_made o ≡ k * words_made o = ap (λ i. i * words_made o) same in
+      omega arith
+]
+
+-- what is known of a later page, in short
+is_free_or_later : {A B C D : Type 0} → A ⊎ (B × C × D) → A ⊎ B
+is_free_or_later (inl later) = inl later
+is_free_or_later (inr free) = inr free.0
+
+-- or on a later page of a run.
+run_begins_there : (w : Words) (o : Object) (base n p d : ℕ) → OnPage w o base n → n / 64 ≡ p + d → 1 ≤ d
+    → ((mapped : Bool) × (header_in w (p + d) ≡ Some (Later d mapped))) ⊎ (header_at w (p + d) ≡ 0) → base ≡ 64 * p
+run_begins_there w o base n p d x at some (inr free) =
+    absurd (part_not_free o x.distance (header_at w (n / 64)) x.part (ap (λ q. header_at w q) at ∙ free))
+run_begins_there w o base n p d x at some (inl later) =
+    let is = shown_later o x.distance d later.0 (header_in w (n / 64)) x.part (ap (λ q. header_in w q) at ∙ later.1) in
+    let same = is.0 in
+    let page = x.page in
+    let aligned = (run_begins o base is.2 x.begins).1 in
+    omega arith
+
+-- A small object's words end with its page's cells.
+small_within : (o : Object) (base n : ℕ) (b : BeginsAtCell o base) → is_small_object o ≡ true → n / 64 ≡ base / 64
+    → n < base + words_made o → n % 64 < cells_of (class_made o) * class_words_of (class_made o)
+small_within o base n b small at to =
+    let known : b.index < cells_of (class_made o) = subst (λ k. b.index < k) (small_cells o small) b.known in
+    let words = small_words o small in
+    let size : b.index * words_made o ≡ b.index * class_words_of (class_made o) = ap (λ k. b.index * k) words in
+    let base_is = base_on_page o base b in
+    let size_of : ℕ = class_words_of (class_made o) in
+    let most = mul-le (suc b.index) size_of (cells_of (class_made o)) size_of known (le_refl size_of) in
+    omega arith
+
+-- What shows a page of an object has the object's words there within its cells.
+within_cells : (o : Object) (distance base n : ℕ) (x : Option Header) → ShowsPart o distance x
+    → (b : BeginsAtCell o base) → n / 64 ≡ base / 64 + distance → n < base + words_made o → n % 64 < words_in_cells x
+within_cells o distance base n x (OfBlock first small leaf) b at to = small_within o base n b small (omega arith) to
+within_cells o distance base n x (OfLeafBlock first small leaf) b at to = small_within o base n b small (omega arith) to
+within_cells o distance base n x (OfRun mapped first large leaf) b at to = omega arith
+within_cells o distance base n x (OfLeafRun first large leaf) b at to = omega arith
+within_cells o distance base n x (OfLater mapped far large) b at to = omega arith
+
+module _ (c : Config) (w : World) (n : NeverState) (known : KnownWorld c w) (all : Invariant c w n) where
+  on_page : (x : ℕ) (one : IsOfOne c w x) → OnPage w.now.words (object_placed c (placed_at w.allocations one.number))
+      (placed_at w.allocations one.number).base x
+  on_page x one =
+      let a : PlacedAllocation = placed_at w.allocations one.number in
+      let o : Object = object_placed c a in
+      let s = standing c w known all.order.laid one.number one.unreleased in
+      let sized = typed_size c a known.limits s.stands.typed in
+      let ends = ends_on_pages o a.base sized s.stands.begins in
+      let from : a.base ≤ x = one.word.0 in
+      let to : x < a.base + words_made o = one.word.1 in
+      let d : ℕ = x / 64 - a.base / 64 in
+      let there : a.base / 64 + d ≡ x / 64 = omega arith in
+      let near : d < pages_made o = omega arith in
+      record {
+        sized = sized;
+        begins = s.stands.begins;
+        from = from;
+        to = to;
+        distance = d;
+        page = there;
+        near = near;
+        part = subst (λ p. ShowsPart o d (header_in w.now.words p)) there
+            (header_shows o d (header_at w.now.words (a.base / 64 + d)) sized near (s.headers d near));
+      }
+
+  taken_by : (cell : Cell) (x : ℕ) (one : IsOfOne c w x) → cell.index < cells_under (header_in w.now.words cell.page)
+      → (placed_at w.allocations one.number).base ≡ first_word w.now.words cell → IsTaken w cell
+  taken_by cell x one lt first =
+      let a : PlacedAllocation = placed_at w.allocations one.number in
+      record {
+        number = one.number;
+        in_range = lt;
+        stands = and_from (not a.released) (a.base == first_word w.now.words cell) (ap not one.unreleased)
+            (eq-eqb a.base (first_word w.now.words cell) first);
+      }
+
+  -- What has a word of a run begins where the run does.
+  in_run : (o : Object) (base : ℕ) (cell : Cell) (i : ℕ) → OnPage w.now.words o base (first_word w.now.words cell + i)
+      → cell.index < cells_under (header_in w.now.words cell.page) → i < cell_words w.now.words cell
+      → heads_run (header_in w.now.words cell.page) ≡ true → cell.index ≡ 0
+      → cell_words w.now.words cell ≡ 64 * run_count (header_in w.now.words cell.page)
+      → base ≡ first_word w.now.words cell
+  in_run o base cell i on lt near heads first_one words =
+      let size : ℕ = words_under (header_in w.now.words cell.page) in
+      let first : cell.index * size ≡ 0 * size = ap (λ k. k * size) first_one in
+      let x : ℕ = first_word w.now.words cell + i in
+      elim (cases_eq (i / 64) 0) [
+        | inl here ↦ begins_there w.now.words o base x cell.page cell.index on (omega arith) lt (omega arith)
+            (omega arith)
+        | inr far ↦
+            let later = (all.order.runs cell.page heads).later (i / 64) (omega arith) (omega arith) in
+            let page = is_free_or_later later in
+            let base_is = run_begins_there w.now.words o base x cell.page (i / 64) on (omega arith)
+            (omega arith) page in
+            omega arith
+      ]
+
+  -- So a word of a cell that isn't 0 says that the cell is taken.
+  pub cell_of_word : phase_of w.now.words ≢ 4 → (cell : Cell)
+      → cell.index < cells_under (header_in w.now.words cell.page)
+      → (i : ℕ) → i < cell_words w.now.words cell → slice_index w.now.words.heap (first_word w.now.words cell + i) ≢ 0
+      → IsTaken w cell
+  cell_of_word quiet cell lt i near some =
+      let x : ℕ = first_word w.now.words cell + i in
+      let one = of_one c w n known all quiet x some in
+      let o : Object = object_placed c (placed_at w.allocations one.number) in
+      let base : ℕ = (placed_at w.allocations one.number).base in
+      let on = on_page x one in
+      taken_by cell x one lt (elim (cell_on (header_in w.now.words cell.page) cell.index i lt near) [
+        | inl within ↦
+            begins_there w.now.words o base x cell.page cell.index on (omega arith) lt (omega arith) (omega arith)
+        | inr run ↦ in_run o base cell i on lt near run.0 run.1 run.2
+      ])
+
+  cell_is_zero : phase_of w.now.words ≢ 4 → (cell : Cell) → cell.index < cells_under (header_in w.now.words cell.page)
+      → (IsTaken w cell → ⊥) → (count : ℕ) → count ≤ cell_words w.now.words cell
+      → words_are_zero w.now.words (first_word w.now.words cell) count ≡ true
+  cell_is_zero quiet cell lt free zero le =
+      all_below_zero_is (λ i. slice_index w.now.words.heap (first_word w.now.words cell + i) == 0)
+  cell_is_zero quiet cell lt free (suc count) le =
+      let word : ℕ = slice_index w.now.words.heap (first_word w.now.words cell + count) in
+      let is : word ≡ 0 = elim (cases_eq word 0) [
+        | inl is ↦ is
+        | inr some ↦ absurd (free (cell_of_word quiet cell lt count (omega arith) some))
+      ] in
+      subst (λ k. words_are_zero w.now.words (first_word w.now.words cell) k ≡ true) (omega arith)
+      (all_below_more_is count (λ i. slice_index w.now.words.heap (first_word w.now.words cell + i) == 0)
+      (cell_is_zero quiet cell lt free count (omega arith)) (eq-eqb word 0 is))
+
+  behind_is_zero : phase_of w.now.words ≢ 4 → (x : ℕ) → words_in_cells (header_in w.now.words (x / 64)) ≤ x % 64
+      → slice_index w.now.words.heap x ≡ 0
+  behind_is_zero quiet x past = elim (cases_eq (slice_index w.now.words.heap x) 0) [
+    | inl is ↦ is
+    | inr some ↦
+        let one = of_one c w n known all quiet x some in
+        let a : PlacedAllocation = placed_at w.allocations one.number in
+        let on = on_page x one in
+        let shown : Option Header = header_in w.now.words (x / 64) in
+        let lt = within_cells (object_placed c a) on.distance a.base x shown on.part on.begins (sym on.page) on.to in
+        absurd (omega arith)
+  ]
+
+  free_cells : FreeCellsAreZero c w
+  free_cells quiet cell lt free =
+      cell_is_zero quiet cell lt free (cell_words w.now.words cell) (le_refl (cell_words w.now.words cell))
+
+pub free_cells_are_zero : OfHistories (Leaves FreeCellsAreZero)
+free_cells_are_zero = of_worlds free_cells
+
+pub words_behind_cells_are_zero : OfHistories (Leaves WordsBehindCellsAreZero)
+words_behind_cells_are_zero = of_worlds behind_is_zero

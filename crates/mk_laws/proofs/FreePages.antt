@@ -1,0 +1,66 @@
+-- A page without a header has nothing.
+use Rattle.std.proofs.Common.{◌≡◌, ◌≢◌, ℕ, ◌+◌, ◌-◌, ◌/◌, true, refl, ◌∙◌, ap, inl, inr, arith}
+use Rattle.std.specs.Prelude.{slice_index}
+use Rattle.std.proofs.lemmas.Bool.{cases_eq}
+use Rattle.mk_laws.proofs.Vocabulary.{Config, NeverState, PlacedAllocation, World, cells_under, has_bit, header_at}
+use Rattle.mk_laws.proofs.Vocabulary.{header_in, header_of, is_phase, left, never_behind, object_placed, placed_at}
+use Rattle.mk_laws.proofs.Vocabulary.{storage_words, words_made}
+use Rattle.mk_laws.specs.Terrain.{claim_of, object_now, layout_scene_of}
+use Rattle.mk_laws.specs.Ground.{ground_of}
+use Rattle.mk_laws.proofs.LayoutReadings.{claimed_some, free_unused, zero_where_none}
+use Rattle.mk_laws.proofs.StandingClaims.{ends_on_pages}
+use Rattle.mk_laws.proofs.KnownWorlds.{KnownWorld, known_world}
+use Rattle.mk_laws.specs.Invariant.{Invariant}
+use Rattle.mk_laws.specs.Theorems.{OfHistories}
+use Rattle.mk_laws.proofs.ForImages.{shown_claim, standing}
+use Rattle.mk_laws.proofs.InvariantHistories.{histories_keep_the_invariant}
+use Rattle.mk_laws.specs.FreePages.{DirtyPagesHaveAllocations, FreePagesHaveNothing, HasAllocation, HasNothing}
+use Rattle.mk_laws.specs.FreeWords.{Leaves}
+use Rattle.mk_laws.proofs.DirtyPages.{dirty_stands}
+
+module _ (c : Config) (w : World) (n : NeverState) (known : KnownWorld c w) (all : Invariant c w n) where
+  -- Where an allocation stands there is a header.
+  allocation_shows : (p : ℕ) → HasAllocation c w p → header_at w.now.words p ≢ 0
+  allocation_shows p x z =
+      let a : PlacedAllocation = placed_at w.allocations x.number in
+      let shown = shown_claim c w known all.order.laid x.number x.unreleased in
+      let s = standing c w known all.order.laid x.number x.unreleased in
+      let ends = ends_on_pages (object_placed c a) a.base shown.sized s.stands.begins in
+      let words : storage_words c a ≡ words_made (object_placed c a) = refl in
+      let of_it = x.of_it in
+      let page = x.page in
+      let there : a.base / 64 + (p - a.base / 64) ≡ p = omega arith in
+      claimed_some w.now.words.pages (claim_of c w.now.seats.holding.freed a) (p - a.base / 64) shown (omega arith)
+      (ap (λ q. header_at w.now.words q) there ∙ z)
+
+  no_cells : (p : ℕ) → header_at w.now.words p ≡ 0 → cells_under (header_in w.now.words p) ≡ 0
+  no_cells p z = ap (λ h. cells_under (header_of h)) z
+
+  none_freed : (p : ℕ) → header_at w.now.words p ≡ 0 → (k : ℕ) → has_bit (slice_index w.now.words.freed p) k ≡ true → ⊥
+  none_freed p z k bit =
+      let none = no_cells p z in
+      let known_there = all.order.known p k bit in
+      absurd (omega arith)
+
+  free_page : DirtyPagesHaveAllocations c w → (p : ℕ) → header_at w.now.words p ≡ 0 → HasNothing w.now.words p
+  free_page dirty p z =
+      record {
+        used =
+            free_unused (layout_scene_of c (object_now c w.now) (is_phase w.now.words 4) w.now.words.marks
+            (ground_of w)) p all.order.laid.scene z;
+        freed = zero_where_none (slice_index w.now.words.freed p) (none_freed p z);
+        snapshot = zero_where_none (slice_index w.now.words.snapshot p)
+            (λ k bit. none_freed p z k (all.order.quarantined.within p k bit));
+        dirty = elim (cases_eq (slice_index w.now.words.dirty p) 0) [
+          | inl is ↦ is
+          | inr some ↦ absurd (allocation_shows p (dirty p some) z)
+        ];
+      }
+
+pub dirty_pages_have_allocations : OfHistories (Leaves DirtyPagesHaveAllocations)
+dirty_pages_have_allocations c es h = (dirty_stands c es h).dirty
+
+pub free_pages_have_nothing : OfHistories (Leaves FreePagesHaveNothing)
+free_pages_have_nothing c es h =
+    free_page c (left c es) (never_behind c es) (known_world c es h.within_limits h.enabled)
+    (histories_keep_the_invariant c es h) (dirty_pages_have_allocations c es h)

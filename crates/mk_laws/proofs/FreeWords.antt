@@ -1,0 +1,125 @@
+-- While the phase isn't releasing, a word that isn't 0 is one of an unreleased allocation.
+use Rattle.std.proofs.Common.{◌≡◌, ◌≢◌, ℕ, ◌+◌, ◌-◌, ◌*◌, ◌/◌, ◌%◌, ◌<◌, ◌≤◌, true, false, sym, ◌∙◌, ap, inl, inr}
+use Rattle.std.proofs.Common.{arith}
+use Rattle.std.specs.Prelude.{◌==◌, nat_le, nat_lt, slice_index, Option, Some}
+use Rattle.std.proofs.lemmas.Bool.{and_parts, cases_eq, eqb-true, leb-true, ltb-true}
+use Rattle.mk_laws.proofs.Vocabulary.{Config, IsWordOf, NeverState, Object, PlacedAllocation, RunPages, Words}
+use Rattle.mk_laws.proofs.Vocabulary.{World, is_run_gone, is_run_unmapped, left, never_behind, object_placed}
+use Rattle.mk_laws.proofs.Vocabulary.{pages_made, phase_of, placed_at, storage_of, storage_words, words_are_zero}
+use Rattle.mk_core.specs.Cells.{is_in_run}
+use Rattle.mk_core.proofs.AllBelow.{all_below-at}
+use Rattle.mk_core.proofs.Sizes.{large_words}
+use Rattle.mk_core.proofs.StandingAllocations.{run_begins}
+use Rattle.mk_laws.specs.ImagePremises.{run_of_allocation}
+use Rattle.mk_laws.proofs.KnownWorlds.{KnownWorld, known_world}
+use Rattle.mk_laws.specs.Zeros.{IsFreedWord, IsWordOfMapped, MayHold, OfFreedRun, OfMapped, OfReleased, zero_scene_of}
+use Rattle.mk_laws.proofs.ChangedScenes.{none_released}
+use Rattle.mk_laws.proofs.MappedWords.{mapped_stays}
+use Rattle.mk_laws.specs.Invariant.{Invariant}
+use Rattle.mk_laws.specs.Theorems.{OfHistories}
+use Rattle.mk_laws.proofs.ForImages.{standing}
+use Rattle.mk_laws.proofs.InvariantHistories.{histories_keep_the_invariant}
+use Rattle.mk_laws.proofs.InvariantJoined.{told_to_images}
+use Rattle.mk_laws.specs.FreeWords.{Leaves, UnmappedWordsAreZero, WordsOfNoneAreZero}
+use Rattle.mk_laws.proofs.ReadingsStands.{not_releasing}
+
+-- the unreleased allocation that has the word
+pub record IsOfOne (c : Config) (w : World) (x : ℕ) : Type 0 where
+  pub number : ℕ
+  pub unreleased : (placed_at w.allocations number).released ≡ false
+  pub word : IsWordOf (storage_of c (placed_at w.allocations number)) x
+
+-- The words of a run are those of the large object whose pages it has.
+run_word : (base words pages x : ℕ) → base % 64 ≡ 0 → words ≡ 64 * pages → base / 64 ≤ x / 64
+    → x / 64 - base / 64 < pages → (base ≤ x) × (x < base + words)
+run_word base words pages x aligned is from to = (omega arith, omega arith)
+
+in_run : (run : RunPages) (x : ℕ) → is_in_run run x ≡ true → (run.page ≤ x / 64) × (x / 64 - run.page < run.count)
+in_run run x h =
+    let parts = and_parts (nat_le run.page (x / 64)) (nat_lt (x / 64 - run.page) run.count) h in
+    (leb-true run.page (x / 64) parts.0, ltb-true (x / 64 - run.page) run.count parts.1)
+
+-- in a run that is gone
+gone_word : (w : Words) (run : RunPages) (x : ℕ) → is_in_run run x ≡ true → is_run_gone w (Some run) ≡ true
+    → slice_index w.heap x ≡ 0
+gone_word w run x word gone =
+    let parts = and_parts (is_run_unmapped w run) (words_are_zero w (64 * run.page) (64 * run.count)) gone in
+    let at = in_run run x word in
+    let from = at.0 in
+    let to = at.1 in
+    let there : 64 * run.page + (x - 64 * run.page) ≡ x = omega arith in
+    ap (λ i. slice_index w.heap i) (sym there) ∙ eqb-true (slice_index w.heap (64 * run.page + (x - 64 * run.page))) 0
+    (all_below-at (64 * run.count) (x - 64 * run.page) (λ i. slice_index w.heap (64 * run.page + i) == 0) parts.1
+    (omega arith))
+
+module _ (c : Config) (w : World) (n : NeverState) (known : KnownWorld c w) (all : Invariant c w n) where
+  of_freed_run : (x : ℕ) → IsFreedWord w.now.seats.holding.freed x → IsOfOne c w x
+  of_freed_run x f =
+      let run = (told_to_images c w n known all).freed_run f.run f.there in
+      let a : PlacedAllocation = placed_at w.allocations run.number in
+      let o : Object = object_placed c a in
+      let stands = (standing c w known all.order.laid run.number run.unreleased).stands in
+      let aligned = (run_begins o a.base run.large stands.begins).1 in
+      let word : is_in_run (run_of_allocation c a) x ≡ true = ap (λ (r : RunPages). is_in_run r x) (sym run.is)
+      ∙ f.word in
+      let at = in_run (run_of_allocation c a) x word in
+      record {
+        number = run.number;
+        unreleased = run.unreleased;
+        word = run_word a.base (storage_words c a) (pages_made o) x aligned (large_words o run.large) at.0 at.1;
+      }
+
+  of_mapped : (x : ℕ) → IsWordOfMapped c w.allocations x → IsOfOne c w x
+  of_mapped x m =
+      record {
+        number = m.number;
+        unreleased = mapped_stays c (placed_at w.allocations m.number) m.mapped;
+        word = m.word;
+      }
+
+  -- A word that isn't 0 is one of an unreleased allocation,
+  pub of_one : phase_of w.now.words ≢ 4 → (x : ℕ) → slice_index w.now.words.heap x ≢ 0 → IsOfOne c w x
+  of_one quiet x some = by (all.zeros x some)
+    where
+      by : MayHold c (zero_scene_of w) x → IsOfOne c w x
+      by (OfMapped m) = of_mapped x m
+      by (OfReleased r) = absurd (none_released c (zero_scene_of w) x (not_releasing w quiet) r)
+      by (OfFreedRun f) = of_freed_run x f
+
+  -- and of a mapped one, where the freed run is gone.
+  pub of_one_mapped : phase_of w.now.words ≢ 4 → is_run_gone w.now.words w.now.seats.holding.freed ≡ true
+      → (x : ℕ) → slice_index w.now.words.heap x ≢ 0 → IsWordOfMapped c w.allocations x
+  of_one_mapped quiet gone x some = by (all.zeros x some)
+    where
+      by : MayHold c (zero_scene_of w) x → IsWordOfMapped c w.allocations x
+      by (OfMapped m) = m
+      by (OfReleased r) = absurd (none_released c (zero_scene_of w) x (not_releasing w quiet) r)
+      by (OfFreedRun f) =
+          let there = ap (λ (r : Option RunPages). is_run_gone w.now.words r) (sym f.there) ∙ gone in
+          absurd (some (gone_word w.now.words f.run x f.word there))
+
+  words_of_none : WordsOfNoneAreZero c w
+  words_of_none quiet x none = elim (cases_eq (slice_index w.now.words.heap x) 0) [
+    | inl is ↦ is
+    | inr some ↦ let one = of_one quiet x some in absurd (none one.number one.unreleased one.word)
+  ]
+
+  unmapped_words : UnmappedWordsAreZero c w
+  unmapped_words quiet gone x none = elim (cases_eq (slice_index w.now.words.heap x) 0) [
+    | inl is ↦ is
+    | inr some ↦ let one = of_one_mapped quiet gone x some in absurd (none one.number one.mapped one.word)
+  ]
+
+-- Both of all histories; this is how the invariant is after each.
+pub of_worlds : {claim : Config → World → Type 0}
+    → ((c : Config) (w : World) (n : NeverState) → KnownWorld c w → Invariant c w n → claim c w)
+    → OfHistories (Leaves claim)
+of_worlds {claim} known c es h =
+    known c (left c es) (never_behind c es) (known_world c es h.within_limits h.enabled)
+    (histories_keep_the_invariant c es h)
+
+pub words_of_none_are_zero : OfHistories (Leaves WordsOfNoneAreZero)
+words_of_none_are_zero = of_worlds words_of_none
+
+pub unmapped_words_are_zero : OfHistories (Leaves UnmappedWordsAreZero)
+unmapped_words_are_zero = of_worlds unmapped_words

@@ -1,0 +1,258 @@
+-- `quar` (a) on the terrain: an object is freed, and the run that a call freed is gone.
+use Rattle.std.proofs.Common.{Bool, ap, arith, false, inl, inr, length, map, refl, subst, sym, true, ℕ, ◌+◌, ◌/◌, ◌<◌}
+use Rattle.std.proofs.Common.{◌∙◌, ◌≡◌, ◌⊎◌}
+use Rattle.std.specs.Prelude.{None, Option, Some, if◌then◌else◌, not, ◌&&◌, ◌==◌}
+use Rattle.std.proofs.lemmas.Bool.{cases_Bool, cond-true, eq-eqb, eqb-true, not-true, true≢false}
+use Rattle.std.proofs.lemmas.List.{map-id}
+use Rattle.mk_laws.proofs.Vocabulary.{Cell, Config, Header, IsSized, IsWithinLimits, Object, OfBlock, OfLater}
+use Rattle.mk_laws.proofs.Vocabulary.{OfLeafBlock, OfLeafRun, OfRun, PlacedAllocation, RunPages, ShowsPart, Words}
+use Rattle.mk_laws.proofs.Vocabulary.{World, cell_of_allocation, cells_made, cells_under, freed_where_it_stands}
+use Rattle.mk_laws.proofs.Vocabulary.{header_at, header_in, is_run_unmapped, is_small_object, object_placed}
+use Rattle.mk_laws.proofs.Vocabulary.{pages_made, placed_at, run_headed, run_of_cell, stands, stands_in}
+use Rattle.mk_laws.proofs.Vocabulary.{unmapped_header}
+use Rattle.mk_core.proofs.AllBelow.{all_below-at}
+use Rattle.mk_core.proofs.CellsOfAllocations.{stands_in_its_cell, stands_in_no_other}
+use Rattle.mk_core.proofs.ChangedAllocations.{freed_leaves, freed_released}
+use Rattle.mk_core.proofs.ObjectHeaders.{part_cells}
+use Rattle.mk_core.proofs.Sizes.{pages_some}
+use Rattle.mk_core.proofs.SmallCycles.{small}
+use Rattle.mk_core.proofs.StandingAllocations.{first_page_shows}
+use Rattle.mk_laws.specs.LayoutScene.{Among, Claim, HasHeader, IsShown, IsUnmappedHeaderOf}
+use Rattle.mk_laws.specs.Ground.{ground_of}
+use Rattle.mk_laws.specs.Terrain.{IsCellOf, IsClaimedRun, RunStands, claim_of, claims_of, claims_on, is_unmapping}
+use Rattle.mk_laws.specs.Terrain.{mode_of, layout_scene_of}
+use Rattle.mk_laws.proofs.Claims.{LeavesCells, changed_among, claim_among}
+use Rattle.mk_laws.proofs.Modes.{Remodes, remoded}
+use Rattle.mk_laws.proofs.LayoutReadings.{one_claim}
+use Rattle.mk_laws.proofs.Released.{all_stand}
+use Rattle.mk_laws.proofs.Serving.{Laid, own_claim}
+use Rattle.mk_laws.proofs.StandingClaims.{IsStanding}
+use Rattle.mk_laws.proofs.Unmapping.{shares_run}
+
+-- the run that the header of an object's first page heads
+run_small : (o : Object) (x : Option Header) (p : ℕ) → ShowsPart o 0 x → is_small_object o ≡ true
+    → run_headed x p ≡ None
+run_small o x p (OfRun m first large leaf) s = absurd (true≢false (sym s ∙ large))
+run_small o x p (OfLeafRun first large leaf) s = absurd (true≢false (sym s ∙ large))
+run_small o x p (OfLater m some large) s = absurd (omega arith)
+run_small o x p _ s = refl
+
+pub run_large : (o : Object) (x : Option Header) (p : ℕ) → ShowsPart o 0 x → is_small_object o ≡ false
+    → run_headed x p ≡ Some (record { page = p; count = pages_made o })
+run_large o x p (OfBlock first small leaf) l = absurd (true≢false (sym small ∙ l))
+run_large o x p (OfLeafBlock first small leaf) l = absurd (true≢false (sym small ∙ l))
+run_large o x p (OfLater m some large) l = absurd (omega arith)
+run_large o x p _ l = refl
+
+-- Where no run is on its way, the header of a claim's page stays right for what it becomes.
+moves : (freed now large going : Bool) (o : Object) (d h : ℕ) → (freed ≡ true → now ≡ true)
+    → (freed ≡ false → now ≡ true → large ≡ true → going ≡ true)
+    → HasHeader (mode_of (freed && large) false) o d h → HasHeader (mode_of (now && large) going) o d h
+moves true true true true o d h stays starts has = inr has
+moves true true true false o d h stays starts has = has
+moves true true false going o d h stays starts has = has
+moves true false large going o d h stays starts has = absurd (true≢false (sym (stays refl)))
+moves false false large going o d h stays starts has = has
+moves false true false going o d h stays starts has = has
+moves false true true true o d h stays starts has = inl has
+moves false true true false o d h stays starts has = absurd (true≢false (sym (starts refl refl refl)))
+
+pub freeing_leaves : (w : Words) (cell : Option Cell) → LeavesCells (freed_where_it_stands w cell)
+freeing_leaves w cell = record { places = freed_leaves w cell; released = λ a h. sym (freed_released w cell a) ∙ h }
+
+-- What stands in the cell of an unreleased allocation has that cell.
+pub standing_cell : (c : Config) (o : Object) (w : World) (cell : Cell) → length w.now.words.pages ≡ c.pages
+    → IsCellOf c w.allocations cell → Laid c o false w (ground_of w)
+    → (i : ℕ) → (placed_at w.allocations i).released ≡ false
+    → stands_in w.now.words cell (placed_at w.allocations i) ≡ true
+    → cell_of_allocation c (placed_at w.allocations i) ≡ cell
+standing_cell c o w cell len own st i u h =
+    let x = shown own.number own.unreleased in
+    let a : PlacedAllocation = placed_at w.allocations own.number in
+    let page : a.base / 64 ≡ cell.page = ap (λ (y : Cell). y.page) own.is in
+    let part : ShowsPart (object_placed c a) 0 (header_in w.now.words cell.page) =
+    rw page at
+    (first_page_shows c w.now.words a x.sized (all_stand c o false w len st own.number own.unreleased).headers) in
+    let cells = part_cells (object_placed c a) (header_in w.now.words cell.page) part in
+    let index : (cell_of_allocation c a).index ≡ cell.index = ap (λ (y : Cell). y.index) own.is in
+    let lt : (cell_of_allocation c a).index < cells_made (object_placed c a) = x.known in
+    let known : cell.index < cells_under (header_in w.now.words cell.page) = omega arith in
+    (stands_in_no_other c w.now.words (placed_at w.allocations i) cell (shown i u).sized
+    (all_stand c o false w len st i u).headers known h).1
+  where
+    shown : (i : ℕ) → (placed_at w.allocations i).released ≡ false
+        → IsShown w.now.words.pages (claim_of c w.now.seats.holding.freed (placed_at w.allocations i))
+    shown i u =
+        let x : Claim = claim_of c w.now.seats.holding.freed (placed_at w.allocations i) in
+        st.scene.shown x (own_claim c o (ground_of w) x (claim_among c w.now.seats.holding.freed w.allocations i u))
+
+pub freed_terrain : (c : Config) (o : Object) (w : World) (cell : Cell) → IsWithinLimits c
+    → length w.now.words.pages ≡ c.pages → w.now.seats.holding.freed ≡ None
+    → IsCellOf c w.allocations cell → Laid c o false w (ground_of w) → Laid c o false w (record (ground_of w) {
+      run = run_of_cell w.now.words (Some cell);
+      allocations = map (freed_where_it_stands w.now.words (Some cell)) w.allocations;
+    })
+freed_terrain c o w cell limits len none own st =
+    by (cases_Bool (is_small_object (object_placed c (placed_at w.allocations own.number))))
+  where
+    a : PlacedAllocation
+    a = placed_at w.allocations own.number
+
+    stand : (i : ℕ) → (placed_at w.allocations i).released ≡ false
+        → IsStanding c w.now.words (placed_at w.allocations i)
+    stand = all_stand c o false w len st
+
+    among : (i : ℕ) → (placed_at w.allocations i).released ≡ false
+        → Among (claim_of c w.now.seats.holding.freed (placed_at w.allocations i)) (claims_on c o (ground_of w))
+    among i u = own_claim c o (ground_of w) _ (claim_among c w.now.seats.holding.freed w.allocations i u)
+
+    sized : IsSized (object_placed c (placed_at w.allocations own.number))
+    sized = (st.scene.shown (claim_of c w.now.seats.holding.freed (placed_at w.allocations own.number))
+        (among own.number own.unreleased)).sized
+
+    page : (placed_at w.allocations own.number).base / 64 ≡ cell.page
+    page = ap (λ (x : Cell). x.page) own.is
+
+    part : ShowsPart (object_placed c (placed_at w.allocations own.number)) 0 (header_in w.now.words cell.page)
+    part =
+        rw page at (first_page_shows c w.now.words (placed_at w.allocations own.number) sized
+        (stand own.number own.unreleased).headers)
+
+    cell_of : (i : ℕ) → (placed_at w.allocations i).released ≡ false
+        → stands_in w.now.words cell (placed_at w.allocations i) ≡ true
+        → cell_of_allocation c (placed_at w.allocations i) ≡ cell
+    cell_of = standing_cell c o w cell len own st
+
+    keeps : (b : PlacedAllocation) → b.released ≡ false
+        → (freed_where_it_stands w.now.words (Some cell) b).released ≡ false
+    keeps b u = freed_released w.now.words (Some cell) b ∙ u
+
+    modes : (run : Option RunPages) → ((i : ℕ) → (placed_at w.allocations i).released ≡ false
+        → stands_in w.now.words cell (placed_at w.allocations i) ≡ true
+        → is_small_object (object_placed c (placed_at w.allocations i)) ≡ false
+        → is_unmapping run ((placed_at w.allocations i).base / 64) ≡ true)
+        → Remodes c (ground_of w) run (freed_where_it_stands w.now.words (Some cell))
+    modes run going =
+        record {
+          leaves = freeing_leaves w.now.words (Some cell);
+          keeps = keeps;
+          headers = λ i u d ld has.
+              at (placed_at w.allocations i) d (header_at w.now.words ((placed_at w.allocations i).base / 64 + d))
+              (stands_in w.now.words cell (placed_at w.allocations i)) refl (going i u) (rw none at has);
+        }
+      where
+        at : (a : PlacedAllocation) (d h : ℕ) (b : Bool) → stands_in w.now.words cell a ≡ b
+            → (stands_in w.now.words cell a ≡ true → is_small_object (object_placed c a) ≡ false
+            → is_unmapping run (a.base / 64) ≡ true) → HasHeader (claim_of c None a).mode (object_placed c a) d h
+            → HasHeader (claim_of c run (if b then record a { freed = true; fresh = true } else a)).mode
+            (object_placed c a) d h
+        at a d h true is go has =
+            moves a.freed true (not (is_small_object (object_placed c a))) (is_unmapping run (a.base / 64))
+            (object_placed c a) d h (λ e. refl) (λ e f l. go is (not-true (is_small_object (object_placed c a)) l)) has
+        at a d h false is go has =
+            moves a.freed a.freed (not (is_small_object (object_placed c a))) (is_unmapping run (a.base / 64))
+            (object_placed c a) d h (λ e. e) (λ e f l. absurd (true≢false (sym f ∙ e))) has
+
+    by : (is_small_object (object_placed c (placed_at w.allocations own.number)) ≡ true)
+        ⊎ (is_small_object (object_placed c (placed_at w.allocations own.number)) ≡ false)
+        → Laid c o false w (record (ground_of w) {
+          run = run_of_cell w.now.words (Some cell);
+          allocations = map (freed_where_it_stands w.now.words (Some cell)) w.allocations;
+        })
+    by (inl small) =
+        rw (run_small (object_placed c a) (header_in w.now.words cell.page) cell.page part small)
+        (remoded c o false w.now.words.marks (ground_of w) None (freed_where_it_stands w.now.words (Some cell)) st
+        (modes None (λ i u h large.
+        let there = cell_of i u h in
+        let one =
+        one_claim (claims_on c o (ground_of w)) (claim_of c w.now.seats.holding.freed (placed_at w.allocations i))
+        (claim_of c w.now.seats.holding.freed a) st.scene.apart (among i u) (among own.number own.unreleased)
+        (ap (λ (x : Cell). x.page) (there ∙ sym own.is), ap (λ (x : Cell). x.index) (there ∙ sym own.is)) in
+        absurd (true≢false (sym small ∙ ap (λ (z : Claim). is_small_object z.object) (sym one) ∙ large)))) tt)
+    by (inr large) =
+        let run : RunPages = record { page = cell.page; count = pages_made (object_placed c a) } in
+        let is_run = run_large (object_placed c a) (header_in w.now.words cell.page) cell.page part large in
+        rw is_run
+        (remoded c o false w.now.words.marks (ground_of w) (Some run) (freed_where_it_stands w.now.words (Some cell)) st
+        (modes (Some run) (λ i u h l. eq-eqb cell.page ((placed_at w.allocations i).base / 64)
+        (sym (ap (λ (x : Cell). x.page) (cell_of i u h))))) (claimed_run run refl refl large))
+      where
+        claimed_run : (run : RunPages) → run.page ≡ cell.page
+            → run.count ≡ pages_made (object_placed c (placed_at w.allocations own.number))
+            → is_small_object (object_placed c (placed_at w.allocations own.number)) ≡ false
+            → IsClaimedRun (claims_of c (Some run) (map (freed_where_it_stands w.now.words (Some cell)) w.allocations))
+            run
+        claimed_run run at_page count large =
+            let s = stand own.number own.unreleased in
+            let in_cell : stands_in w.now.words cell a ≡ true =
+            rw (← own.is) (stands_in_its_cell c w.now.words a limits s.stands s.headers) in
+            let freed : PlacedAllocation = record a { freed = true; fresh = true } in
+            let same : freed_where_it_stands w.now.words (Some cell) a ≡ freed =
+            cond-true (stands_in w.now.words cell a) freed a in_cell in
+            record {
+              claim = claim_of c (Some run) freed;
+              among =
+                  rw same at
+                  (changed_among c (Some run) (freed_where_it_stands w.now.words (Some cell)) w.allocations own.number
+                  (freeing_leaves w.now.words (Some cell)) (keeps a own.unreleased));
+              page = page ∙ sym at_page;
+              count = sym count;
+              large = large;
+              mode = rw large (rw (eq-eqb run.page (a.base / 64) (at_page ∙ sym page)));
+            }
+
+-- The run is unmapped, and the call that freed it ends.
+pub gone_terrain : (c : Config) (o : Object) (releasing : Bool) (w : World)
+    → ((run : RunPages) → w.now.seats.holding.freed ≡ Some run → is_run_unmapped w.now.words run ≡ true)
+    → Laid c o releasing w (ground_of w) → Laid c o releasing w (record (ground_of w) { run = None })
+gone_terrain c o releasing w unmapped st =
+    rw (map-id w.allocations) at (remoded c o releasing w.now.words.marks (ground_of w) None (λ a. a) st (record {
+      leaves = record { places = record { base = λ a. refl; ty = λ a. refl; none = refl }; released = λ a h. h };
+      keeps = λ a u. u;
+      headers = λ i u d lt has. by w.now.seats.holding.freed refl i u d lt has st.gone;
+    }) tt)
+  where
+    ends : (freed large going : Bool) (o : Object) (d h : ℕ)
+        → (freed ≡ true → large ≡ true → going ≡ true → IsUnmappedHeaderOf o d h)
+        → HasHeader (mode_of (freed && large) going) o d h → HasHeader (mode_of (freed && large) false) o d h
+    ends true true true o d h un has = un refl refl refl
+    ends true true false o d h un has = has
+    ends true false going o d h un has = has
+    ends false large going o d h un has = has
+
+    by : (run : Option RunPages) → w.now.seats.holding.freed ≡ run → (i : ℕ)
+        → (placed_at w.allocations i).released ≡ false → (d : ℕ)
+        → d < pages_made (object_placed c (placed_at w.allocations i))
+        → HasHeader (claim_of c w.now.seats.holding.freed (placed_at w.allocations i)).mode
+        (object_placed c (placed_at w.allocations i)) d
+        (header_at w.now.words ((placed_at w.allocations i).base / 64 + d))
+        → RunStands (claims_of c w.now.seats.holding.freed w.allocations) w.now.seats.holding.freed
+        → HasHeader (claim_of c None (placed_at w.allocations i)).mode (object_placed c (placed_at w.allocations i)) d
+        (header_at w.now.words ((placed_at w.allocations i).base / 64 + d))
+    by None is i u d lt has r = rw is at has
+    by (Some run) is i u d lt has r =
+        let a : PlacedAllocation = placed_at w.allocations i in
+        let ob : Object = object_placed c a in
+        let h : ℕ = header_at w.now.words (a.base / 64 + d) in
+        ends a.freed (not (is_small_object ob)) (run.page == a.base / 64) ob d h (λ f l g.
+        let large = not-true (is_small_object ob) l in
+        let page = eqb-true run.page (a.base / 64) g in
+        let x : IsClaimedRun (claims_of c w.now.seats.holding.freed w.allocations) run =
+        subst (λ (y : Option RunPages). RunStands (claims_of c w.now.seats.holding.freed w.allocations) y) is r in
+        let ix = own_claim c o (ground_of w) x.claim x.among in
+        let ia = own_claim c o (ground_of w) (claim_of c w.now.seats.holding.freed a)
+        (claim_among c w.now.seats.holding.freed w.allocations i u) in
+        let sx = st.scene.shown x.claim ix in
+        let some = pages_some x.claim.object sx.sized in
+        let xp = x.page in
+        let one =
+        shares_run (layout_scene_of c o releasing w.now.words.marks (ground_of w))
+        (claim_of c w.now.seats.holding.freed a)
+        x.claim 0 0 st.scene ia ix large (omega arith) (omega arith) (omega arith) in
+        let count : pages_made ob ≡ run.count = ap (λ (z : Claim). pages_made z.object) (sym one) ∙ x.count in
+        let near : d < run.count = omega arith in (
+          large,
+          rw (← page) (eqb-true (header_at w.now.words (run.page + d)) (unmapped_header run.count d)
+              (all_below-at run.count d (stands w.now.words run.page (unmapped_header run.count))
+              (unmapped run is) near) ∙ rw (← count)),
+        )) (rw is at has)

@@ -1,0 +1,392 @@
+-- The run that a Free unmaps is what its register points to.
+use Rattle.std.proofs.Common.{◌≡◌, ◌≢◌, ◌⊎◌, ℕ, ◌+◌, ◌*◌, ◌/◌, ◌%◌, ◌<◌, Bool, true, false, length, refl, sym, ap}
+use Rattle.std.proofs.Common.{subst, ◌∙◌, inl, inr, arith}
+use Rattle.std.specs.Prelude.{slice_index, slice_index_or, slice_set, ◌&&◌, not, if◌then◌else◌, Option, Some, None}
+use Rattle.std.proofs.lemmas.Bool.{cases_Bool, cases_eq, cases_lt, ltb-true, false≢true}
+use Rattle.std.proofs.lemmas.List.{get_or-set_same, get_or-set_other, get_or_append_left, length-map, get_or_past}
+use Rattle.mk_laws.proofs.Vocabulary.{Answer, AreAdmitted, Caller, Cell, Config, Event, Flight, Header, Holding}
+use Rattle.mk_laws.proofs.Vocabulary.{Host, IsSound, LeafRun, Marker, Moment, NeverState, Null, Num, Op}
+use Rattle.mk_laws.proofs.Vocabulary.{PlacedAllocation, Progress, Ptr, Run, RunPages, Seat, Stage, Step, Value}
+use Rattle.mk_laws.proofs.Vocabulary.{Word, Words, World, after_calls, after_free, answer_decided, asked, at_rest}
+use Rattle.mk_laws.proofs.Vocabulary.{bases_of, call_decided, cell_freed, cell_of_allocation, comes_next, decided}
+use Rattle.mk_laws.proofs.Vocabulary.{entry_of, flight_of, found, header_in, heads_run, image_of, is_phase}
+use Rattle.mk_laws.proofs.Vocabulary.{is_small_object, is_undecided_free, nothing_done, object_placed, or_else}
+use Rattle.mk_laws.proofs.Vocabulary.{p_of, placed_at, pointed_cell, progress, progress_freed, register_at}
+use Rattle.mk_laws.proofs.Vocabulary.{run_headed, run_of_cell, sees_double, still, world_behind}
+use Rattle.mk_never.specs.declared.operations.Op.TheVariants as op
+use Rattle.mk_never.specs.Laws.{AreNotBy}
+use Rattle.mk_never.proofs.Registers.{admitted_keep}
+use Rattle.mk_never.proofs.Edits.{set_by}
+use Rattle.mk_core.specs.declared.events.Answer.TheVariants as answer
+use Rattle.mk_core.specs.declared.events.Word.TheVariants as word
+use Rattle.mk_core.specs.declared.events.Step.TheVariants as step
+use Rattle.mk_core.specs.declared.seats.Stage.TheVariants as stage
+use Rattle.mk_core.specs.Order.{is_of_any_holder}
+use Rattle.mk_core.specs.Effects.{holding_behind}
+use Rattle.mk_core.proofs.PlacesNow.{freed_cell}
+use Rattle.mk_core.proofs.ObjectHeaders.{small_heads_none}
+use Rattle.mk_core.proofs.StandingAllocations.{typed_size, run_begins, first_page_shows}
+use Rattle.mk_laws.specs.Protocol.{is_decided_free}
+use Rattle.mk_laws.proofs.Standings.{Standing, Resting, InCall, UnderTurn, standing}
+use Rattle.mk_laws.proofs.Views.{View, view_of, flight_in, HoldsTurn}
+use Rattle.mk_laws.proofs.ProtocolMoves.{Move as ProtocolMove, Stays, Enters, GoesOn, Leaves, Takes, Gives, Works}
+use Rattle.mk_laws.proofs.ProtocolMoves.{Holds}
+use Rattle.mk_laws.proofs.ProtocolMoves.{Opens, Phases, Attends, Quits, Scans}
+use Rattle.mk_laws.proofs.Orderly.{turn_of}
+use Rattle.mk_laws.proofs.Actors.{Meets}
+use Rattle.mk_laws.proofs.OrderlyLists.{not_astray, actor_of}
+use Rattle.mk_laws.proofs.Stages.{turns_stand}
+use Rattle.mk_laws.proofs.NextSteps.{of_turn}
+use Rattle.mk_laws.proofs.Sorts.{moves}
+use Rattle.mk_laws.specs.Images.{image_scene_of, CarriesOwn}
+use Rattle.mk_laws.specs.SafeSets.{IsSafe}
+use Rattle.mk_laws.specs.ImagePremises.{ImagePremises}
+use Rattle.mk_laws.specs.Mirrors.{Mirrors, PointsAtRun, OwnsFreedRun}
+use Rattle.mk_laws.proofs.KnownWorlds.{KnownWorld}
+use Rattle.mk_laws.proofs.Bases.{IsLonger}
+use Rattle.mk_laws.proofs.ImagesKept.{base_at}
+use Rattle.mk_laws.proofs.ImagesFreeing.{decided_free_stands, decided_free_gives, frees_run}
+use Rattle.mk_laws.proofs.ImagesStands.{Stands, stands_of}
+use Rattle.mk_laws.proofs.Ready.{Ready}
+use Rattle.mk_laws.proofs.ImagesBefore.{ready_of}
+use Rattle.mk_laws.proofs.RegMoves.{flight}
+use Rattle.mk_laws.proofs.FreeMoves.{pointer_cell}
+use Rattle.mk_laws.proofs.CallSorts.{literal}
+
+-- the heap that never reuses storage, after an event
+abbrev pub never_after : Config → World → NeverState → Event → NeverState
+never_after c w n e = after_calls n (asked (call_decided c w.now e))
+
+abbrev event_of : Seat → Step → Event
+event_of seat x = record { seat = seat; step = x }
+
+-- the run that is freed after a step
+abbrev freed_behind : Config → World → Seat → Flight → Step → Option RunPages
+freed_behind c w seat f x =
+    (holding_behind c w.now seat f (found c w.now (event_of seat x)) x w.now.seats.holding).freed
+
+abbrev gives : Step → Bool
+gives step.Give = true
+gives _ = false
+
+-- It was freed before, or is freed by this step.
+data WasFreed (c : Config) (w : World) (f : Flight) (run : RunPages) : Step → Type 0 where
+  Before : {x : Step} → w.now.seats.holding.freed ≡ Some run → gives x ≡ false → WasFreed c w f run x
+  Now : (p v : ℕ) → run_of_cell w.now.words (cell_freed c.pages w.now.words f p v) ≡ Some run
+      → WasFreed c w f run (step.Quar p v)
+
+take_freed : (b : Bool) (h : Holding) (run : RunPages) → (if b then nothing_done else h).freed ≡ Some run
+    → h.freed ≡ Some run
+take_freed true h run e = cc
+take_freed false h run e = e
+
+else_freed : (x y : Option RunPages) (run : RunPages) → or_else x y ≡ Some run → (x ≡ Some run) ⊎ (y ≡ Some run)
+else_freed None y run e = inr e
+else_freed (Some r) y run e = inl e
+
+was_freed : (c : Config) (w : World) (seat : Seat) (f : Flight) (x : Step) (run : RunPages)
+    → freed_behind c w seat f x ≡ Some run → WasFreed c w f run x
+was_freed c w seat f (step.Take o) run e = Before (take_freed _ w.now.seats.holding run e) refl
+was_freed c w seat f step.Give run e = cc
+was_freed c w seat f (step.Quar p v) run e =
+    elim (else_freed _ w.now.seats.holding.freed run e) [
+      | inl new ↦ Now p v new
+      | inr old ↦ Before old refl
+    ]
+was_freed c w seat f _ run e = Before e refl
+
+-- Who is under the turn after a step of its own was so, where somebody had the turn.
+
+holds_now : (c : Config) (v : View) (seat : Seat) (k : ℕ) → seat ≡ Caller k → HoldsTurn c v seat
+    → standing (flight_in v k) ≡ UnderTurn
+holds_now c v seat k e hold = by (rw e at hold)
+  where
+    by : HoldsTurn c v (Caller k) → standing (flight_in v k) ≡ UnderTurn
+    by h = h.1
+
+set_under : (v : View) (j k : ℕ) (f : Flight) (s : Standing) → standing f ≡ s → s ≢ UnderTurn
+    → standing (slice_index_or (slice_set v.flights j f) k at_rest) ≡ UnderTurn → standing (flight_in v k) ≡ UnderTurn
+set_under v j k f s is ne =
+    set_by (λ (x : Flight). standing x ≡ UnderTurn
+    → standing (flight_in v k) ≡ UnderTurn) v.flights j k f at_rest (λ e h. absurd (ne (sym is ∙ h))) (λ h. h)
+
+was_under : (c : Config) (v : View) (seat : Seat) (u : View) (k : ℕ) → ProtocolMove c v seat u → seat ≡ Caller k
+    → v.turn ≢ 0
+    → standing (flight_in u k) ≡ UnderTurn → standing (flight_in v k) ≡ UnderTurn
+was_under c v seat u k (Enters {k = j} f a b d g) e t h = set_under v j k f InCall g (λ x. cc) h
+was_under c v seat u k (GoesOn {k = j} f a b d) e t h = set_under v j k f InCall d (λ x. cc) h
+was_under c v seat u k (Leaves {k = j} a b) e t h = set_under v j k at_rest Resting refl (λ x. cc) h
+was_under c v seat u k (Takes f z m) e t h = absurd (t z)
+was_under c v seat u k (Gives hold a b) e t h = holds_now c v seat k e hold
+was_under c v seat u k (Works f g hold s) e t h = holds_now c v seat k e hold
+was_under c v seat u k (Holds j hold a b d) e t h = holds_now c v seat k e hold
+was_under c v seat u k (Opens j hold a b d g) e t h = holds_now c v seat k e hold
+was_under c v seat u k (Phases g hold a b p) e t h = holds_now c v seat k e hold
+was_under c v seat u k _ e t h = h
+
+-- At Give a holder's step but `give` leaves the call as it is.
+
+none_freed_at : (b : Bool) (f : Flight) → progress_freed f (if b && false then None else None) ≡ still f
+none_freed_at true f = refl
+none_freed_at false f = refl
+
+none_seen : (w : Words) (x : Word) → sees_double w None x ≡ false
+none_seen w (word.Quar p) = refl
+none_seen w _ = refl
+
+give_still : (c : Config) (m : Moment) (o : Op) (q p r l n : ℕ) (x : Step) → is_of_any_holder x ≡ true → gives x ≡ false
+    → progress c m (flight stage.Give o q p r l) n x ≡ still (flight stage.Give o q p r l)
+give_still c m o q p r l n (step.Enter y) h g = absurd (false≢true h)
+give_still c m o q p r l n step.Leave h g = absurd (false≢true h)
+give_still c m o q p r l n step.Reg h g = absurd (false≢true h)
+give_still c m o q p r l n step.Probe h g = absurd (false≢true h)
+give_still c m o q p r l n step.Read h g = absurd (false≢true h)
+give_still c m o q p r l n step.Write h g = absurd (false≢true h)
+give_still c m o q p r l n step.Cas h g = absurd (false≢true h)
+give_still c m o q p r l n step.Getg h g = absurd (false≢true h)
+give_still c m o q p r l n step.Setg h g = absurd (false≢true h)
+give_still c m o q p r l n step.Dirty h g = absurd (false≢true h)
+give_still c m o q p r l n (step.Take y) h g = absurd (false≢true h)
+give_still c m o q p r l n step.Grant h g = absurd (false≢true h)
+give_still c m o q p r l n step.Full h g = absurd (false≢true h)
+give_still c m o q p r l n step.Give h g = absurd (false≢true (sym g))
+give_still c m o q p r l n (step.Quar y v) h g = none_freed_at _ _
+give_still c m o q p r l n (step.Look x) h g =
+    let f = flight stage.Give o q p r l in
+    ap (λ (b : Bool). if b then decided f answer.Double else still f) (none_seen m.words x)
+give_still c m o q p r l n _ h g = refl
+
+no_run : (w : Words) (b : Bool) (run : RunPages) → run_of_cell w (if b && false then None else None) ≡ Some run → ⊥
+no_run w true run e = cc
+no_run w false run e = cc
+
+abbrev page_in : Option RunPages → ℕ
+page_in (Some r) = r.page
+page_in None = 0
+
+-- what heads a run
+headed : (h : Option Header) (page : ℕ) (run : RunPages) → run_headed h page ≡ Some run
+    → (run.page ≡ page) × (heads_run h ≡ true)
+headed (Some (Run count mapped)) page run e = (sym (ap page_in e), refl)
+headed (Some (LeafRun count)) page run e = (sym (ap page_in e), refl)
+headed None page run e = cc
+headed (Some _) page run e = cc
+
+free_keeps : (n : NeverState) (v : Value) (k r : ℕ) → register_at (after_free n v) k r ≡ register_at n k r
+free_keeps n Null k r = refl
+free_keeps n (Num m) k r = refl
+free_keeps n (Ptr a t o) k r = refl
+
+pub not_by : (j k : ℕ) (o : Op) (a : Option Answer) → j ≢ k → AreNotBy k (asked (entry_of j o a))
+not_by j k o None ne = tt
+not_by j k o (Some a) ne = (ne, tt)
+
+module _ (c : Config) (w : World) (n : NeverState) (known : KnownWorld c w) (others : ImagePremises c w)
+    (mirrors : Mirrors c w n) where
+  st : Stands c w.now.words w.allocations
+  st = stands_of c w known.limits others
+
+  ready : Ready c.globals mirrors.safe.0 (image_scene_of w) n
+  ready = ready_of c w n known mirrors st mirrors.safe.0 mirrors.safe.1
+
+  -- who is in a decided Free holds the turn
+  holds : (k : ℕ) → k < c.callers → is_decided_free (flight_of w.now (Caller k)) ≡ true
+      → HoldsTurn c (view_of w.now) (Caller k)
+  holds k lt free = (lt, decided_free_stands _ _ free)
+
+  -- what a register points at is there after the event
+  points_on : (e : Event) (k r : ℕ) (run : RunPages)
+      → IsLonger (bases_of w.allocations) (bases_of (world_behind c w e).allocations)
+      → register_at (never_after c w n e) k r ≡ register_at n k r → PointsAtRun w n k r run
+      → PointsAtRun (world_behind c w e) (never_after c w n e) k r run
+  points_on e k r run grows same h =
+      let sound : IsSound n (Ptr h.number h.ty h.offset) = rw h.is at (mirrors.typed.registers (8 * k + r)) in
+      let there : h.number < length n.allocations = sound.0 in
+      let longs = length-map w.allocations (λ (x : PlacedAllocation). x.base) in
+      let count = mirrors.twins.count in
+      record {
+        number = h.number;
+        ty = h.ty;
+        offset = h.offset;
+        is = same ∙ h.is;
+        base = sym (base_at _ h.number) ∙ rw grows.is (get_or_append_left _ grows.more 0 h.number (omega arith)
+            ∙ base_at w.allocations h.number ∙ h.base);
+      }
+
+  -- the target of a Free that is a run
+  run_target : (k r : ℕ) (v : Value) (p : ℕ) (cell : Cell) (run : RunPages) → register_at n k r ≡ v → IsSound n v
+      → IsSafe mirrors.safe.0 v
+      → p ≡ image_of (bases_of w.allocations) v → p ≢ 0
+      → pointed_cell c.pages w.now.words.pages p ≡ Some cell → run_of_cell w.now.words (Some cell) ≡ Some run
+      → PointsAtRun w n k r run
+  run_target k r Null p cell run is sound s e ne points heads = absurd (ne e)
+  run_target k r (Num m) p cell run is sound s e ne points heads = absurd sound
+  run_target k r (Ptr a t o) p cell run is sound s e ne points heads =
+      let u = mirrors.safe.1.unreleased a s in
+      let x = placed_at w.allocations a in
+      let h = others.laid_out a u in
+      let sized = typed_size c x known.limits h.stands.typed in
+      let cells : Some cell ≡ Some (cell_of_allocation c x) = sym points
+      ∙ pointer_cell c w n known mirrors mirrors.safe.0 ready st a t o p sound s e in
+      let its = headed (header_in w.now.words (x.base / 64)) (x.base / 64) run (ap (run_of_cell w.now.words) (sym cells)
+      ∙ heads) in
+      let start : x.base % 64 ≡ 0 = elim (cases_Bool (is_small_object (object_placed c x))) [
+        | inl small ↦ absurd
+            (false≢true (sym (small_heads_none (object_placed c x) 0 _
+            (first_page_shows c w.now.words x sized h.headers) small).0 ∙ its.1))
+        | inr large ↦ (run_begins (object_placed c x) x.base large h.stands.begins).1
+      ] in
+      record { number = a; ty = t; offset = o; is = is; base = omega (arith, its.0) }
+
+  new_by : (k : ℕ) (s : Stage) (o : Op) (q p r l : ℕ) (cell : Cell) (run : RunPages)
+      → is_undecided_free (flight s o q p r l) ≡ true
+      → pointed_cell c.pages w.now.words.pages p ≡ Some cell
+      → run_of_cell w.now.words (Some cell) ≡ Some run → CarriesOwn (bases_of w.allocations) n k (flight s o q p r l)
+      → PointsAtRun w n k (p_of o) run
+      × (register_at (after_calls n (asked (entry_of k o (Some answer.Done)))) k (p_of o) ≡ register_at n k (p_of o))
+  new_by k stage.Turn (op.Free p') q p r l cell run undecided points heads car = (
+    run_target k p' (register_at n k p') p cell run refl (mirrors.typed.registers (8 * k + p'))
+        (mirrors.safe.1.registers (8 * k + p')) (car.p refl) (car.some_p refl) points heads,
+    free_keeps n (register_at n k p') k p',
+  )
+  new_by k _ _ q p r l cell run undecided points heads car = absurd (false≢true undecided)
+
+  turn_taken : (run : RunPages) → w.now.seats.holding.freed ≡ Some run → w.now.words.turn ≢ 0
+  turn_taken run old z = let e : None ≡ Some run = ap (λ (h : Holding). h.freed) (sym (known.now.orderly.free z))
+      ∙ old in cc
+
+  -- what the group says after the step of a seat
+  abbrev OwnsBehind : Seat → Step → RunPages → ℕ → Type 0
+  OwnsBehind seat x run k =
+      is_decided_free (flight_of (world_behind c w (event_of seat x)).now (Caller k)) ≡ true
+      → PointsAtRun (world_behind c w (event_of seat x)) (never_after c w n (event_of seat x)) k
+      (p_of (flight_of (world_behind c w (event_of seat x)).now (Caller k)).op) run
+
+  abbrev GrowsBehind : Seat → Step → Type 0
+  GrowsBehind seat x = IsLonger (bases_of w.allocations) (bases_of (world_behind c w (event_of seat x)).allocations)
+
+  -- the holder's own step, where the run was freed before
+  own_old : (k : ℕ) (x : Step) (run : RunPages) → Meets c w.now (Caller k) x → GrowsBehind (Caller k) x
+      → w.now.seats.holding.freed ≡ Some run → gives x ≡ false
+      → OwnsBehind (Caller k) x run k
+  own_old k x run h grows old g free =
+      let e = event_of (Caller k) x in
+      let lt = ltb-true k c.callers h.seat in
+      let f = flight_of w.now (Caller k) in
+      let behind = flight_of (world_behind c w e).now (Caller k) in
+      let under = decided_free_stands behind.stage behind.op free in
+      let was = was_under c (view_of w.now) (Caller k) _ k
+      (moves c w.now (Caller k) x (not_astray c w.now known.now.orderly)
+      (actor_of c w.now (Caller k) x known.now.orderly h) h) refl (turn_taken run old) under in
+      let was_free = frees_run c w.now k run known.now.orderly (lt, was) old in
+      let at_give = decided_free_gives f.stage f.op was_free in
+      let lit = literal f stage.Give at_give in
+      let any : is_of_any_holder x ≡ true = rw at_give at h.order in
+      let stays : progress c w.now f (found c w.now e) x ≡ still f =
+      subst (λ (y : Flight). progress c w.now y (found c w.now e) x ≡ still y) (sym lit)
+      (give_still c w.now f.op f.q f.p f.r f.loaded (found c w.now e) x any g) in
+      let there : k < length w.now.seats.flights = (let l = known.now.orderly.flights in omega (arith, l)) in
+      let same : behind ≡ f = get_or-set_same w.now.seats.flights k _ at_rest there ∙ rw stays in
+      let never : never_after c w n e ≡ n = rw stays in
+      rw same (points_on e k (p_of f.op) run grows (rw never) (mirrors.freed_run run old k was_free))
+
+  -- the step of another caller
+  other_old : (j k : ℕ) (x : Step) (run : RunPages) → j ≢ k → GrowsBehind (Caller j) x
+      → AreAdmitted c.globals n (asked (call_decided c w.now (event_of (Caller j) x)))
+      → w.now.seats.holding.freed ≡ Some run → OwnsBehind (Caller j) x run k
+  other_old j k x run ne grows ad old free =
+      let e = event_of (Caller j) x in
+      let same : flight_of (world_behind c w e).now (Caller k) ≡ flight_of w.now (Caller k) =
+      get_or-set_other w.now.seats.flights j k _ at_rest (λ y. ne (sym y)) in
+      rw same (points_on e k _ run grows (admitted_keep c.globals n k _ ad (not_by j k _ _ ne) _ (ready.small k).1)
+      (mirrors.freed_run run old k (rw same at free)))
+
+  -- a run that is freed by this step
+  own_new : (k p v : ℕ) (run : RunPages) (y : Option Cell) → k < c.callers → GrowsBehind (Caller k) (step.Quar p v)
+      → cell_freed c.pages w.now.words (flight_of w.now (Caller k)) p v ≡ y
+      → run_of_cell w.now.words y ≡ Some run → OwnsBehind (Caller k) (step.Quar p v) run k
+  own_new k p v run None lt grows e heads free = cc
+  own_new k p v run (Some cell) lt grows e heads free =
+      let ev = event_of (Caller k) (step.Quar p v) in
+      let f = flight_of w.now (Caller k) in
+      let freed = freed_cell c.pages w.now.words f p v cell e in
+      let new = new_by k f.stage f.op f.q f.p f.r f.loaded cell run freed.free freed.pointed heads
+      (mirrors.images.carried k) in
+      let there : k < length w.now.seats.flights = (let l = known.now.orderly.flights in omega (arith, l)) in
+      let same : (flight_of (world_behind c w ev).now (Caller k)).op ≡ f.op =
+      ap (λ (y : Flight). y.op) (get_or-set_same w.now.seats.flights k _ at_rest there)
+      ∙ ap (λ (y : Option Cell). (progress_freed f y).flight.op) e in
+      let never : never_after c w n ev ≡ after_calls n (asked (entry_of k f.op (Some answer.Done))) =
+      ap (λ (y : Option Cell). after_calls n (asked (entry_of k f.op (progress_freed f y).answer))) e in
+      subst (λ (o : Op). PointsAtRun (world_behind c w ev) (never_after c w n ev) k (p_of o) run) (sym same)
+      (points_on ev k (p_of f.op) run grows (ap (λ m. register_at m k (p_of f.op)) never ∙ new.1) new.0)
+
+  -- Two callers are never under the turn.
+  other_new : (j k p v : ℕ) (run : RunPages) → j ≢ k → Meets c w.now (Caller j) (step.Quar p v)
+      → OwnsBehind (Caller j) (step.Quar p v) run k
+  other_new j k p v run ne h free =
+      let f = flight_of w.now (Caller j) in
+      let lj = ltb-true j c.callers h.seat in
+      let same : flight_of (world_behind c w (event_of (Caller j) (step.Quar p v))).now (Caller k)
+      ≡ flight_of w.now (Caller k) = get_or-set_other w.now.seats.flights j k _ at_rest (λ y. ne (sym y)) in
+      let was : is_decided_free (flight_of w.now (Caller k)) ≡ true = rw same at free in
+      let lk : k < c.callers = there k was in
+      let tj = turn_of c (view_of w.now) (Caller j) known.now.orderly (
+        lj,
+        turns_stand f.stage f.op (of_turn f.stage f.op (step.Quar p v) refl refl h.order)
+            (not_astray c w.now known.now.orderly j lj),
+      ) in
+      let tk = turn_of c (view_of w.now) (Caller k) known.now.orderly (holds k lk was) in
+      absurd (ne (omega arith))
+    where
+      there : (k : ℕ) → is_decided_free (flight_of w.now (Caller k)) ≡ true → k < c.callers
+      there k free = elim (cases_lt k c.callers) [
+        | inl lt ↦ lt
+        | inr le ↦ absurd (false≢true (ap (λ (y : Flight). is_decided_free y)
+            (sym (get_or_past w.now.seats.flights k at_rest (let e = known.now.orderly.flights in omega (arith, e))))
+            ∙ free))
+      ]
+
+  caller_owns : (j : ℕ) (x : Step) → Meets c w.now (Caller j) x → GrowsBehind (Caller j) x
+      → AreAdmitted c.globals n (asked (call_decided c w.now (event_of (Caller j) x)))
+      → (run : RunPages) → WasFreed c w (flight_of w.now (Caller j)) run x → (k : ℕ) → OwnsBehind (Caller j) x run k
+  caller_owns j x h grows ad run (Before old g) k = elim (cases_eq j k) [
+    | inl e ↦ subst (λ (i : ℕ). OwnsBehind (Caller j) x run i) e (own_old j x run h grows old g)
+    | inr ne ↦ other_old j k x run ne grows ad old
+  ]
+  caller_owns j x h grows ad run (Now p v heads) k = elim (cases_eq j k) [
+    | inl e ↦ subst (λ (i : ℕ). OwnsBehind (Caller j) (step.Quar p v) run i) e
+        (own_new j p v run (cell_freed c.pages w.now.words (flight_of w.now (Caller j)) p v)
+        (ltb-true j c.callers h.seat) grows refl heads)
+    | inr ne ↦ other_new j k p v run ne h
+  ]
+
+  host_owns : (x : Step) → GrowsBehind Host x → (run : RunPages) → WasFreed c w at_rest run x → (k : ℕ)
+      → OwnsBehind Host x run k
+  host_owns x grows run (Before old g) k free =
+      points_on (event_of Host x) k _ run grows refl (mirrors.freed_run run old k free)
+  host_owns x grows run (Now p v heads) k free = absurd (no_run w.now.words _ run heads)
+
+  owns : (seat : Seat) (x : Step) → Meets c w.now seat x → GrowsBehind seat x
+      → AreAdmitted c.globals n (asked (call_decided c w.now (event_of seat x)))
+      → OwnsFreedRun (world_behind c w (event_of seat x)) (never_after c w n (event_of seat x))
+  owns (Caller j) x h grows ad run e k free =
+      caller_owns j x h grows ad run (was_freed c w (Caller j) (flight_of w.now (Caller j)) x run e) k free
+  owns Host x h grows ad run e k free = host_owns x grows run (was_freed c w Host at_rest x run e) k free
+  owns (Marker j) x h grows ad run e k free =
+      points_on (event_of (Marker j) x) k _ run grows refl (mirrors.freed_run run (marker_freed x e) k free)
+    where
+      marker_freed : (x : Step) → freed_behind c w (Marker j) at_rest x ≡ Some run
+          → w.now.seats.holding.freed ≡ Some run
+      marker_freed x e = by x (was_freed c w (Marker j) at_rest x run e)
+        where
+          by : (x : Step) → WasFreed c w at_rest run x → w.now.seats.holding.freed ≡ Some run
+          by x (Before old g) = old
+          by x (Now p v heads) = absurd (no_run w.now.words (not (is_phase w.now.words 4)) run heads)
+
+pub freed_run_stays : (c : Config) (w : World) (n : NeverState) (e : Event) → KnownWorld c w → ImagePremises c w
+    → Mirrors c w n → Meets c w.now e.seat e.step
+    → IsLonger (bases_of w.allocations) (bases_of (world_behind c w e).allocations)
+    → AreAdmitted c.globals n (asked (call_decided c w.now e))
+    → OwnsFreedRun (world_behind c w e) (never_after c w n e)
+freed_run_stays c w n e known others mirrors h grows ad = owns c w n known others mirrors e.seat e.step h grows ad

@@ -1,0 +1,187 @@
+-- The count of fresh words that is kept beside the table is that of the allocations, after each kind of event.
+use Rattle.std.proofs.Common.{◌≡◌, ◌≢◌, ℕ, ◌+◌, ◌-◌, ◌<◌, ◌^◌, Bool, true, false, List, map, length, refl, sym, ◌∙◌, ap}
+use Rattle.std.proofs.Common.{subst, arith, inl, inr}
+use Rattle.std.specs.Prelude.{None, Option, Some, min, not, slice_index, ◌&&◌, ◌||◌, ◌==◌, if◌then◌else◌}
+use Rattle.std.proofs.lemmas.Bool.{and_parts, cases_lt, cond-true, false_from_ne_true, not-true, true≢false}
+use Rattle.std.proofs.lemmas.List.{get_or_past}
+use Rattle.mk_laws.proofs.Vocabulary.{Cell, Config, Header, Object, PlacedAllocation, Seat, ShowsPart, Step, World}
+use Rattle.mk_laws.proofs.Vocabulary.{cell_freed, cell_of_allocation, first_word, flight_of, freed_where_it_stands}
+use Rattle.mk_laws.proofs.Vocabulary.{fresh_words_of, granted, has_bit, header_in, heads_run, in_a_word, is_large}
+use Rattle.mk_laws.proofs.Vocabulary.{is_phase, is_small_object, kinds_of, never_granted, object_placed, placed_at}
+use Rattle.mk_laws.proofs.Vocabulary.{stands_in, storage_words, with_released, words_made, words_under}
+use Rattle.mk_core.specs.declared.events.Step.TheVariants as step
+use Rattle.mk_core.specs.Effects.{words_freed}
+use Rattle.mk_core.proofs.ChangedAllocations.{changed_at, none_freed, released_leaves}
+use Rattle.mk_core.proofs.ObjectHeaders.{part_heads_run, part_words, small_heads_none}
+use Rattle.mk_core.proofs.PlacesNow.{freed_cell}
+use Rattle.mk_core.proofs.Sizes.{large_is_not_small}
+use Rattle.mk_core.proofs.StandingAllocations.{first_page_shows}
+use Rattle.mk_laws.proofs.Actors.{Meets}
+use Rattle.mk_laws.proofs.OthersMoves.{WorldBehind}
+use Rattle.mk_laws.specs.Ground.{ground_of}
+use Rattle.mk_laws.specs.LayoutLaws.{StandsInOrder}
+use Rattle.mk_laws.specs.Quarantine.{KeepsSnapshot}
+use Rattle.mk_laws.specs.Terrain.{claims_of, claims_placed, object_now}
+use Rattle.mk_laws.proofs.LayoutBefore.{Before}
+use Rattle.mk_laws.proofs.LayoutJoined.{apart_left}
+use Rattle.mk_laws.proofs.OneCell.{numbers_apart}
+use Rattle.mk_laws.proofs.QuarantineByKind.{frees_here, shown_at}
+use Rattle.mk_laws.proofs.QuarantineChanges.{FreesHere}
+use Rattle.mk_laws.proofs.Released.{all_stand}
+use Rattle.mk_laws.proofs.Serving.{Laid}
+use Rattle.mk_laws.proofs.SnapshotKinds.{snapshot_behind}
+use Rattle.mk_laws.proofs.FreshWords.{CountsAsBefore, fresh_kept, fresh_more, fresh_part, fresh_pushed, no_part}
+use Rattle.mk_laws.proofs.FreshWords.{none_fresh, stale_part}
+
+-- The count is that of the allocations, as it stands in a word.
+abbrev pub FreshTold : Config → World → Type 0
+FreshTold c w = w.now.fresh_words ≡ in_a_word (fresh_words_of c w.allocations)
+
+-- what a freed object adds: a small one's storage
+words_of_part : (o : Object) (x : Option Header) → ShowsPart o 0 x → (small : Bool) → is_small_object o ≡ small
+    → (if heads_run x then 0 else words_under x) ≡ (if small then words_made o else 0)
+words_of_part o x part true is =
+    ap (λ b. if b then 0 else words_under x) (small_heads_none o 0 x part is).0 ∙ part_words o x part
+words_of_part o x part false is = ap (λ b. if b then 0 else words_under x) (part_heads_run o x part is)
+
+-- and what it counts from then on
+counted_freed : (released large small : Bool) (n : ℕ) → released ≡ false → large ≡ not small
+    → (if (not released && not (true && large)) && true then n else 0) ≡ (if small then n else 0)
+counted_freed true large small n is l = absurd (true≢false is)
+counted_freed false true true n is l = absurd (true≢false l)
+counted_freed false true false n is l = refl
+counted_freed false false true n is l = refl
+counted_freed false false false n is l = absurd (true≢false (sym l))
+
+abbrev freed_fresh : PlacedAllocation → PlacedAllocation
+freed_fresh a = record a { freed = true; fresh = true }
+
+-- `quar` (a): one allocation becomes fresh
+module _ (c : Config) (w : World) (cell : Cell) (n : ℕ) (b : Before c w) (off : is_phase w.now.words 4 ≡ false)
+    (order : StandsInOrder c w) (x : FreesHere c w cell n) where
+  abbrev freed : PlacedAllocation → PlacedAllocation
+  freed a = freed_where_it_stands w.now.words (Some cell) a
+
+  abbrev own : PlacedAllocation
+  own = placed_at w.allocations x.own.number
+
+  -- the others stay
+  others_count : (i : ℕ) → i ≢ x.own.number → (stand : Bool)
+      → stands_in w.now.words cell (placed_at w.allocations i) ≡ stand
+      → fresh_part c (if stand then freed_fresh (placed_at w.allocations i) else placed_at w.allocations i)
+      ≡ fresh_part c (placed_at w.allocations i)
+  others_count i ne false is = refl
+  others_count i ne true is =
+      let a : PlacedAllocation = placed_at w.allocations i in
+      let u = not-true a.released (and_parts (not a.released) (a.base == first_word w.now.words cell) is).0 in
+      let same : cell_of_allocation c a ≡ cell_of_allocation c own = x.others i u is ∙ sym x.own.is in
+      let apart = apart_left (claims_of c w.now.seats.holding.freed w.allocations)
+      (claims_placed (object_now c w.now) w.now.seats.holding.placing) order.laid.scene.apart in
+      absurd (ne (numbers_apart c w.now.seats.holding.freed w.allocations i x.own.number apart u x.own.unreleased
+      (ap (λ (y : Cell). y.page) same, ap (λ (y : Cell). y.index) same)))
+
+  part : ShowsPart (object_placed c own) 0 (header_in w.now.words cell.page)
+  part =
+      let laid : Laid c (object_now c w.now) false w (ground_of w) =
+      subst (λ four. Laid c (object_now c w.now) four w (ground_of w)) off order.laid in
+      let shown = shown_at c w x.own.number order.laid x.own.unreleased in
+      let stands = all_stand c (object_now c w.now) false w b.lengths.pages laid x.own.number x.own.unreleased in
+      subst (λ p. ShowsPart (object_placed c own) 0 (header_in w.now.words p)) (ap (λ (y : Cell). y.page) x.own.is)
+      (first_page_shows c w.now.words own shown.sized stands.headers)
+
+  unfreed : own.freed ≡ false
+  unfreed = false_from_ne_true own.freed (λ f.
+      let bit = order.quarantined.shown x.own.number x.own.unreleased f in
+      let same = ap (λ (y : Cell). has_bit (slice_index w.now.words.freed y.page) y.index) x.own.is in
+      true≢false (sym bit ∙ same ∙ x.unset))
+
+  stale : own.fresh ≡ false
+  stale = false_from_ne_true own.fresh (λ f. true≢false (sym (order.snapshot.fresh x.own.number f).0 ∙ unfreed))
+
+  own_counts : fresh_part c (freed own) ≡ fresh_part c own + words_freed w.now.words (Some cell)
+  own_counts =
+      let o : Object = object_placed c own in
+      let small : Bool = is_small_object o in
+      let becomes : freed own ≡ freed_fresh own =
+      cond-true (stands_in w.now.words cell own) (freed_fresh own) own x.stands in
+      let large = large_is_not_small (kinds_of c.types own.ty) in
+      let counted = counted_freed own.released _ small (words_made o) x.own.unreleased large in
+      let now : fresh_part c (freed own) ≡ (if small then words_made o else 0) =
+      ap (λ (y : PlacedAllocation). fresh_part c y) becomes ∙ counted in
+      let was = stale_part c own stale in
+      let added : words_freed w.now.words (Some cell) ≡ (if small then words_made o else 0) =
+      words_of_part o (header_in w.now.words cell.page) part small refl in
+      omega arith
+
+  within : x.own.number < length w.allocations
+  within = elim (cases_lt x.own.number (length w.allocations)) [
+    | inl lt ↦ lt
+    | inr past ↦
+        let none = get_or_past w.allocations x.own.number never_granted past in
+        absurd (true≢false (ap (λ (y : PlacedAllocation). y.released) (sym none) ∙ x.own.unreleased))
+  ]
+
+  fresh_freed : fresh_words_of c (map (freed_where_it_stands w.now.words (Some cell)) w.allocations)
+      ≡ fresh_words_of c w.allocations + words_freed w.now.words (Some cell)
+  fresh_freed =
+      fresh_more c (freed_where_it_stands w.now.words (Some cell)) w.allocations x.own.number
+      (words_freed w.now.words (Some cell)) within
+      (λ i ne. others_count i ne (stands_in w.now.words cell (placed_at w.allocations i)) refl) own_counts
+
+-- A sum stands still at the greatest number of a word.
+
+none_added : (n s : ℕ) → n ≡ in_a_word s → min (n + 0) (2 ^ 64 - 1) ≡ in_a_word s
+none_added n s is = omega arith
+
+some_added : (n s d t : ℕ) → n ≡ in_a_word s → t ≡ s + d → min (n + d) (2 ^ 64 - 1) ≡ in_a_word t
+some_added n s d t is sum = omega arith
+
+quar_told : (c : Config) (w : World) (seat : Seat) (p n : ℕ) → Before c w → Meets c w.now seat (step.Quar p n)
+    → StandsInOrder c w → FreshTold c w → FreshTold c (WorldBehind c w seat (step.Quar p n))
+quar_told c w seat p n b h order told = by (cell_freed c.pages w.now.words (flight_of w.now seat) p n) refl
+  where
+    by : (cell : Option Cell) → cell_freed c.pages w.now.words (flight_of w.now seat) p n ≡ cell
+        → min (w.now.fresh_words + words_freed w.now.words cell) (2 ^ 64 - 1)
+        ≡ in_a_word (fresh_words_of c (map (freed_where_it_stands w.now.words cell) w.allocations))
+    by None is =
+        none_added w.now.fresh_words (fresh_words_of c w.allocations) told
+        ∙ ap (λ (ys : List PlacedAllocation). in_a_word (fresh_words_of c ys))
+        (sym (none_freed w.now.words w.allocations))
+    by (Some cell) is =
+        let x = freed_cell c.pages w.now.words (flight_of w.now seat) p n cell is in
+        let sum = fresh_freed c w cell n b x.phase order (frees_here c w seat p n cell b h order.laid x) in
+        some_added w.now.fresh_words (fresh_words_of c w.allocations) (words_freed w.now.words (Some cell)) _ told sum
+
+-- `release`: what is fresh stays
+release_told : (c : Config) (w : World) (seat : Seat) → KeepsSnapshot c w
+    → KeepsSnapshot c (WorldBehind c w seat step.Release) → FreshTold c w
+    → FreshTold c (WorldBehind c w seat step.Release)
+release_told c w seat s now told =
+    told ∙ ap (λ n. in_a_word n) (sym (fresh_kept c (with_released c w.now.words) w.allocations same))
+  where
+    counted : (released left mapped fresh : Bool) (m : ℕ) → (fresh ≡ true → (released || left) ≡ released)
+        → (if (not (released || left) && mapped) && fresh then m else 0)
+        ≡ (if (not released && mapped) && fresh then m else 0)
+    counted released left mapped true m stays = ap (λ b. if (not b && mapped) && true then m else 0) (stays refl)
+    counted released left mapped false m stays =
+        no_part (not (released || left) && mapped) m ∙ sym (no_part (not released && mapped) m)
+
+    same : (i : ℕ) → CountsAsBefore c (with_released c w.now.words) (placed_at w.allocations i)
+    same i =
+        let a : PlacedAllocation = placed_at w.allocations i in
+        let at = changed_at (with_released c w.now.words) w.allocations i (released_leaves c w.now.words).none in
+        counted a.released _ (not (a.freed && is_large (kinds_of c.types a.ty))) a.fresh (storage_words c a) (λ f.
+        let behind = now.fresh i (ap (λ (y : PlacedAllocation). y.fresh) at ∙ f) in
+        ap (λ (y : PlacedAllocation). y.released) (sym at) ∙ behind.1 ∙ sym (s.fresh i f).1)
+
+-- each kind of event, whatever the seat
+pub fresh_told_behind : (c : Config) (w : World) (seat : Seat) (x : Step) → Before c w → Meets c w.now seat x
+    → StandsInOrder c w → FreshTold c w → FreshTold c (WorldBehind c w seat x)
+fresh_told_behind c w seat (step.Quar p n) b h order told = quar_told c w seat p n b h order told
+fresh_told_behind c w seat step.Begin b h order told = ap (λ n. in_a_word n) (sym (none_fresh c w.allocations))
+fresh_told_behind c w seat step.Grant b h order told =
+    told ∙ ap (λ n. in_a_word n) (sym (fresh_pushed c w.allocations (granted c w.now (flight_of w.now seat)) refl))
+fresh_told_behind c w seat step.Release b h order told =
+    let behind = snapshot_behind c w seat step.Release b h order.laid order.quarantined order.snapshot in
+    release_told c w seat order.snapshot behind told
+fresh_told_behind c w seat _ b h order told = told

@@ -1,0 +1,84 @@
+-- The words of fresh allocations, as a sum over all.
+use Rattle.std.proofs.Common.{◌≡◌, ◌≢◌, ℕ, zero, suc, ◌+◌, ◌<◌, Bool, true, false, List, ◌∷◌, ◌++◌, map, length, refl}
+use Rattle.std.proofs.Common.{[]}
+use Rattle.std.proofs.Common.{sym, ◌∙◌, ap, arith}
+use Rattle.std.specs.Prelude.{◌&&◌, if◌then◌else◌, filter, sum_by}
+use Rattle.std.proofs.lemmas.List.Sums.{sum_by-cons}
+use Rattle.std.proofs.Math.Bool.{and-false}
+use Rattle.mk_laws.proofs.Vocabulary.{Config, PlacedAllocation, fresh_words_of, is_mapped, no_longer_fresh}
+use Rattle.mk_laws.proofs.Vocabulary.{placed_at, storage_words}
+
+-- what one allocation counts
+abbrev pub fresh_part : Config → PlacedAllocation → ℕ
+fresh_part c a = if is_mapped c a && a.fresh then storage_words c a else 0
+
+-- one that isn't fresh counts nothing
+
+pub no_part : (mapped : Bool) (n : ℕ) → (if mapped && false then n else 0) ≡ 0
+no_part mapped n = ap (λ b. if b then n else 0) (and-false mapped)
+
+pub stale_part : (c : Config) (a : PlacedAllocation) → a.fresh ≡ false → fresh_part c a ≡ 0
+stale_part c a stale =
+    ap (λ b. if is_mapped c a && b then storage_words c a else 0) stale ∙ no_part (is_mapped c a) (storage_words c a)
+
+fresh_cons : (c : Config) (a : PlacedAllocation) (xs : List PlacedAllocation)
+    → fresh_words_of c (a ∷ xs) ≡ fresh_part c a + fresh_words_of c xs
+fresh_cons c a xs = by (is_mapped c a && a.fresh)
+  where
+    rest : List PlacedAllocation
+    rest = filter (λ b. is_mapped c b && b.fresh) xs
+
+    by : (b : Bool) → sum_by (storage_words c) (if b then a ∷ rest else rest)
+        ≡ (if b then storage_words c a else 0) + sum_by (storage_words c) rest
+    by true = sum_by-cons (storage_words c) a rest
+    by false = omega arith
+
+-- one more, which isn't fresh
+pub fresh_pushed : (c : Config) (xs : List PlacedAllocation) (a : PlacedAllocation) → a.fresh ≡ false
+    → fresh_words_of c (xs ++ a ∷ []) ≡ fresh_words_of c xs
+fresh_pushed c [] a stale = fresh_cons c a [] ∙ ap (λ n. n + fresh_words_of c []) (stale_part c a stale)
+fresh_pushed c (x ∷ xs) a stale =
+    fresh_cons c x (xs ++ a ∷ []) ∙ ap (λ n. fresh_part c x + n) (fresh_pushed c xs a stale) ∙ sym (fresh_cons c x xs)
+
+-- none is fresh
+pub none_fresh : (c : Config) (xs : List PlacedAllocation) → fresh_words_of c (map no_longer_fresh xs) ≡ 0
+none_fresh c [] = refl
+none_fresh c (a ∷ xs) =
+    let all = fresh_cons c (no_longer_fresh a) (map no_longer_fresh xs) in
+    let first = stale_part c (no_longer_fresh a) refl in
+    let rest = none_fresh c xs in
+    omega arith
+
+module _ (c : Config) (change : PlacedAllocation → PlacedAllocation) where
+  -- The allocation counts after the change what it did.
+  abbrev pub CountsAsBefore : PlacedAllocation → Type 0
+  CountsAsBefore a = fresh_part c (change a) ≡ fresh_part c a
+
+  -- where each does
+  pub fresh_kept : (xs : List PlacedAllocation) → ((i : ℕ) → CountsAsBefore (placed_at xs i))
+      → fresh_words_of c (map change xs) ≡ fresh_words_of c xs
+  fresh_kept [] same = refl
+  fresh_kept (a ∷ xs) same =
+      let first = same 0 in
+      let rest = fresh_kept xs (λ i. same (suc i)) in
+      let now = fresh_cons c (change a) (map change xs) in
+      let was = fresh_cons c a xs in
+      omega arith
+
+  -- where one of them counts so much more
+  pub fresh_more : (xs : List PlacedAllocation) (j more : ℕ) → j < length xs
+      → ((i : ℕ) → i ≢ j → CountsAsBefore (placed_at xs i))
+      → fresh_part c (change (placed_at xs j)) ≡ fresh_part c (placed_at xs j) + more
+      → fresh_words_of c (map change xs) ≡ fresh_words_of c xs + more
+  fresh_more [] j more lt same one = absurd (omega arith)
+  fresh_more (a ∷ xs) zero more lt same one =
+      let rest = fresh_kept xs (λ i. same (suc i) (λ e. omega arith)) in
+      let now = fresh_cons c (change a) (map change xs) in
+      let was = fresh_cons c a xs in
+      omega arith
+  fresh_more (a ∷ xs) (suc j) more lt same one =
+      let rest = fresh_more xs j more (omega arith) (λ i ne. same (suc i) (λ e. ne (omega arith))) one in
+      let first = same 0 (λ e. omega arith) in
+      let now = fresh_cons c (change a) (map change xs) in
+      let was = fresh_cons c a xs in
+      omega arith

@@ -1,0 +1,64 @@
+-- The gates that a step of the turn's holder asks for are as it asks, whatever others did since.
+use Rattle.std.proofs.Common.{List, ap, refl, true, ℕ, ◌∙◌, ◌≡◌}
+use Rattle.std.specs.Prelude.{not, slice_index, ◌||◌, ◌==◌}
+use Rattle.std.proofs.lemmas.Bool.{eq-eqb, eqb-false, eqb-true, ne_eqb, not-true}
+use Rattle.mk_laws.proofs.Vocabulary.{Config, Flight, Page, Seat, Steady, Step, TurnIsLeft, World, has_gates}
+use Rattle.mk_laws.proofs.Vocabulary.{header_of, is_held, is_number_of, is_phase, is_run_cell, is_unmapped_header}
+use Rattle.mk_laws.proofs.Vocabulary.{others_are_held, phase_of, target}
+use Rattle.mk_core.specs.declared.events.Step.TheVariants as step
+use Rattle.mk_core.specs.declared.events.Word.TheVariants as word
+use Rattle.mk_core.specs.Moments.{none_is_held}
+use Rattle.mk_laws.proofs.Tests.{all_below_on, or_on}
+
+module _ (c : Config) (w v : World) (kept : TurnIsLeft w v) where
+  pub phase_same : phase_of v.now.words ≡ phase_of w.now.words
+  phase_same = ap (λ (s : Steady). s.phase) kept.steady
+
+  pub pages_same : v.now.words.pages ≡ w.now.words.pages
+  pages_same = ap (λ (s : Steady). s.pages) kept.steady
+
+  held_on : (j : ℕ) → is_held w.now.words j ≡ true → is_held v.now.words j ≡ true
+  held_on j h = eq-eqb _ 2 (kept.held_gates j (eqb-true _ 2 h))
+
+  free_on : (j : ℕ) → not (is_held w.now.words j) ≡ true → not (is_held v.now.words j) ≡ true
+  free_on j h =
+      ap not (ne_eqb _ 2 (kept.other_gates j (eqb-false _ 2 (not-true _ h))))
+
+  pub others_on : (s : Seat) → others_are_held c.callers w.now.words s ≡ true
+      → others_are_held c.callers v.now.words s ≡ true
+  others_on s h =
+      all_below_on c.callers (λ j. is_number_of s j || is_held w.now.words j)
+      (λ j. is_number_of s j || is_held v.now.words j) (λ j lt. or_on (is_number_of s j) _ (is_number_of s j)
+      _ (λ e. e) (held_on j)) h
+
+  none_on : none_is_held c.callers w.now.words ≡ true → none_is_held c.callers v.now.words ≡ true
+  none_on h = all_below_on c.callers (λ j. not (is_held w.now.words j))
+      (λ j. not (is_held v.now.words j)) (λ j lt. free_on j) h
+
+  run_cell_same : (f : Flight) → is_run_cell v.now.words (target c.pages v.now.words f) ≡ is_run_cell w.now.words
+      (target c.pages w.now.words f)
+  run_cell_same f = rw pages_same
+
+  two_or : (s : Seat) → (not (is_phase w.now.words 2) || others_are_held c.callers w.now.words s) ≡ true
+      → (not (is_phase v.now.words 2) || others_are_held c.callers v.now.words s) ≡ true
+  two_or s h =
+      or_on _ _ _ _ (λ e. rw phase_same e) (others_on s) h
+
+  pub gates_on : (s : Seat) (f : Flight) (x : Step) → has_gates c w.now.words s f x ≡ true
+      → has_gates c v.now.words s f x ≡ true
+  gates_on s f step.Give h = none_on h
+  gates_on s f (step.Look (word.Reg j r)) h = or_on (is_number_of s j) _ (is_number_of s j) _ (λ e. e) (held_on j) h
+  gates_on s f (step.Head p n) h =
+      or_on _ _ _ _ (λ e. e) (others_on s) h
+  gates_on s f (step.Quar p n) h =
+      or_on _ _ _ _ (λ e. ap not (run_cell_same f) ∙ e) (others_on s) h
+  gates_on s f (step.Hold j) h = free_on j h
+  gates_on s f (step.Open j) h = held_on j h
+  gates_on s f step.Close h = others_on s h
+  gates_on s f step.Release h = others_on s h
+  gates_on s f step.Want h = others_on s h
+  gates_on s f (step.Undirty p) h = two_or s h
+  gates_on s f (step.Black p n) h = others_on s h
+  gates_on s f (step.Unblack p) h = two_or s h
+  gates_on s f (step.Look _) h = refl
+  gates_on s f _ h = refl

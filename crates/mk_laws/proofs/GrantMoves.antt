@@ -1,0 +1,118 @@
+-- The words of the place of a New are 0 when it is granted, and a wiped word is in no mapped allocation.
+use Rattle.std.proofs.Common.{◌≡◌, ◌≢◌, ℕ, ◌+◌, ◌-◌, ◌*◌, ◌/◌, ◌<◌, ◌≤◌, Bool, true, false, length, refl, sym, ap, ◌∙◌}
+use Rattle.std.proofs.Common.{inl, inr, arith}
+use Rattle.std.specs.Prelude.{slice_index, nat_le, nat_lt, ◌&&◌, not, Option, Some, None}
+use Rattle.std.proofs.lemmas.Bool.{cases_eq, and_parts, leb-true, eqb-true, or_cases, ltb-true, false≢true, true≢false}
+use Rattle.mk_laws.proofs.Vocabulary.{Cell, Config, NeverState, Place, PlacedAllocation, RunPages, Words, World}
+use Rattle.mk_laws.proofs.Vocabulary.{address_of, allocation_at, base_made, cell_of_allocation, first_word}
+use Rattle.mk_laws.proofs.Vocabulary.{header_at, header_in, header_of, is_left_unmarked, is_phase, is_released_cell}
+use Rattle.mk_laws.proofs.Vocabulary.{is_run_unmapped, is_some_and, is_unmapped, is_unmapped_header, object_placed}
+use Rattle.mk_laws.proofs.Vocabulary.{pages_made, phase_of, placed_at, pointed_cell, stands, storage_words}
+use Rattle.mk_laws.proofs.Vocabulary.{unmapped_header, words_of}
+use Rattle.mk_core.specs.Cells.{is_in_run}
+use Rattle.mk_core.specs.TurnConditions.{may_wipe, is_in_gone_run}
+use Rattle.mk_core.proofs.AllBelow.{all_below-at}
+use Rattle.mk_core.proofs.Sizes.{large_count}
+use Rattle.mk_core.proofs.ObjectHeaders.{unmapped_is_unmapped}
+use Rattle.mk_core.proofs.StandingAllocations.{typed_size, cells_begin}
+use Rattle.mk_core.proofs.GrantedAllocations.{placed_stands, placed_headers}
+use Rattle.mk_core.proofs.PointedAllocations.{word_points}
+use Rattle.mk_laws.specs.Mirrors.{Mirrors}
+use Rattle.mk_laws.specs.ImagePremises.{IsPlaceOfNone, MayHoldWords, OfMapped, OfReleased, OfFreedRun, ImagePremises}
+use Rattle.mk_laws.proofs.KnownWorlds.{KnownWorld}
+use Rattle.mk_laws.proofs.ImagesKept.{exists_placed}
+use Rattle.mk_laws.proofs.ImagesStands.{is_gone, Stands}
+use Rattle.mk_laws.proofs.ImagesBefore.{words_fit, unmapped_is, first_in}
+
+-- the cell of a place, by the allocation that is granted there
+pub record FillsCell (c : Config) (w : Words) (a : PlacedAllocation) : Type 0 where
+  pub cell : (i : ℕ) → i < storage_words c a
+      → pointed_cell c.pages w.pages (address_of (a.base + i)) ≡ Some (cell_of_allocation c a)
+  pub first : first_word w (cell_of_allocation c a) ≡ a.base
+  pub inside : a.base + storage_words c a ≤ 64 * c.pages
+
+pub fills_cell : (c : Config) (w : World) (a : PlacedAllocation) (place : Place) → KnownWorld c w
+    → a.ty < length c.types → a.released ≡ false
+    → a.base ≡ base_made (object_placed c a) place → IsPlaceOfNone c w (object_placed c a) place
+    → FillsCell c w.now.words a
+fills_cell c w a place known typed unreleased base h =
+    let st = placed_stands c a place known.limits typed unreleased base h.index h.pages in
+    let has = placed_headers c w.now.words a place known.limits typed base h.index h.stands in
+    record {
+      cell = λ i lt. word_points c w.now.words a known.limits st has (a.base + i) (omega arith, omega arith);
+      first = (cells_begin c w.now.words a known.limits st has).0;
+      inside = st.within;
+    }
+
+module _ (c : Config) (w : World) (n : NeverState) (known : KnownWorld c w) (mirrors : Mirrors c w n)
+    (others : ImagePremises c w) (st : Stands c w.now.words w.allocations) where
+  -- the words of a place that is granted, while no run is freed
+  pub place_is_zero : (a : PlacedAllocation) (place : Place) → ((run : RunPages) → w.now.seats.holding.freed ≢ Some run)
+      → phase_of w.now.words ≢ 4
+      → a.base ≡ base_made (object_placed c a) place → IsPlaceOfNone c w (object_placed c a) place
+      → FillsCell c w.now.words a
+      → (i : ℕ) → i < storage_words c a → slice_index w.now.words.heap (a.base + i) ≡ 0
+  place_is_zero a place no_run phase base h fills i lt = elim (cases_eq (slice_index w.now.words.heap (a.base + i)) 0) [
+    | inl z ↦ z
+    | inr ne ↦ absurd (by (others.zero_words (a.base + i) ne))
+  ]
+    where
+      by : MayHoldWords c w (a.base + i) → ⊥
+      by (OfMapped j m is) =
+          let x = placed_at w.allocations j in
+          let u = unreleased_of x.released (is_gone c x) m in
+          let low = is.0 in
+          let there : x.base + (a.base + i - x.base) ≡ a.base + i = omega arith in
+          let cells : Some (cell_of_allocation c x) ≡ Some (cell_of_allocation c a) =
+          sym (st.cell j (a.base + i - x.base) u (let high = is.1 in omega arith)) ∙ rw there (fills.cell i lt) in
+          h.alone j u (sym (st.first j u) ∙ ap (first_in w.now.words) cells ∙ fills.first ∙ base)
+        where
+          unreleased_of : (r g : Bool) → (not r && not g) ≡ true → r ≡ false
+          unreleased_of false g e = refl
+          unreleased_of true g e = cc
+      by (OfReleased cell p r) =
+          phase (eqb-true (phase_of w.now.words) 4
+          (and_parts (is_phase w.now.words 4) (is_left_unmarked w.now.words cell) r).0)
+      by (OfFreedRun run e is) = no_run run e
+
+  -- a word that is wiped
+  pub wiped_outside : (x : ℕ) → may_wipe c w.now x ≡ true → (a i : ℕ) → (placed_at w.allocations a).released ≡ false
+      → is_unmapped (allocation_at n a) ≡ false
+      → i < length (words_of n a) → (placed_at w.allocations a).base + i ≢ x
+  wiped_outside x h a i u m li e =
+      let lt = exists_placed w.allocations a u in
+      let fits = words_fit c w n known mirrors a lt in
+      let un = sym (unmapped_is c w n known mirrors a lt) ∙ m in
+      let cell : pointed_cell c.pages w.now.words.pages (address_of x)
+      ≡ Some (cell_of_allocation c (placed_at w.allocations a)) =
+      rw (← e) (st.cell a i u (omega arith)) in
+      let mapped : is_unmapped_header (header_in w.now.words (x / 64)) ≡ false =
+      rw (← e) (st.mapped a i u un (omega arith)) in
+      elim (or_cases (is_some_and (is_released_cell w.now.words) (pointed_cell c.pages w.now.words.pages
+      (address_of x))) (is_in_gone_run w.now.words w.now.seats.holding.freed x) h) [
+        | inl r ↦ absurd (false≢true (sym (others.kept a u)
+            ∙ ap (λ (y : Option Cell). is_some_and (is_released_cell w.now.words) y) (sym cell) ∙ r))
+        | inr g ↦ absurd (true≢false (sym (gone_word w.now.seats.holding.freed refl g) ∙ mapped))
+      ]
+    where
+      gone_word : (freed : Option RunPages) → w.now.seats.holding.freed ≡ freed
+          → is_in_gone_run w.now.words freed x ≡ true → is_unmapped_header (header_in w.now.words (x / 64)) ≡ true
+      gone_word None is g = cc
+      gone_word (Some run) is g =
+          let at = others.freed_run run is in
+          let owner = placed_at w.allocations at.number in
+          let sized = typed_size c owner known.limits (others.laid_out at.number at.unreleased).stands.typed in
+          let count : run.count ≡ pages_made (object_placed c owner) = ap (λ (r : RunPages). r.count) at.is in
+          let some = (large_count (object_placed c owner) sized at.large).0 in
+          let most = (large_count (object_placed c owner) sized at.large).1 in
+          let parts = and_parts (is_in_run run x) (is_run_unmapped w.now.words run) g in
+          let inside = and_parts (nat_le run.page (x / 64)) (nat_lt (x / 64 - run.page) run.count) parts.0 in
+          let low = leb-true run.page (x / 64) inside.0 in
+          let high = ltb-true (x / 64 - run.page) run.count inside.1 in
+          let word : header_at w.now.words (run.page + (x / 64 - run.page))
+          ≡ unmapped_header run.count (x / 64 - run.page) =
+          eqb-true _ _ (all_below-at run.count (x / 64 - run.page)
+          (stands w.now.words run.page (unmapped_header run.count)) parts.1 high) in
+          let place : x / 64 ≡ run.page + (x / 64 - run.page) = omega arith in
+          ap (λ p. is_unmapped_header (header_in w.now.words p)) place ∙ ap (λ y. is_unmapped_header (header_of y)) word
+          ∙ unmapped_is_unmapped run.count (x / 64 - run.page) (omega arith, omega arith) high

@@ -1,0 +1,114 @@
+-- `grant` on the terrain: what is granted is the claim of its place.
+use Rattle.std.proofs.Common.{Bool, List, append-nil, false, inl, inr, length, refl, suc, sym, true, zero, ℕ, ◌++◌, ◌/◌}
+use Rattle.std.proofs.Common.{[]}
+use Rattle.std.proofs.Common.{◌<◌, ◌∙◌, ◌∷◌, ◌≡◌, ◌⊎◌}
+use Rattle.std.specs.Prelude.{None, Option, Some, if◌then◌else◌}
+use Rattle.std.proofs.lemmas.Bool.{cond-false, true≢false}
+use Rattle.mk_laws.proofs.Vocabulary.{BeginsAtCell, Config, Granted, Place, PlacedAllocation, RunPages, Used}
+use Rattle.mk_laws.proofs.Vocabulary.{base_made, cell_of_allocation, object_placed, placed_at}
+use Rattle.mk_core.proofs.StandingAllocations.{made_begins}
+use Rattle.mk_laws.specs.LayoutScene.{IsLaidOn, IsShown, NoPlot}
+use Rattle.mk_laws.specs.Ground.{Ground}
+use Rattle.mk_laws.specs.Terrain.{HasLayout, RunStands, claim_of, claims_of, place_claim, layout_scene_of}
+use Rattle.mk_laws.proofs.LayoutJoined.{among_back, among_front}
+use Rattle.mk_laws.proofs.StandingClaims.{place_index}
+
+-- An allocation after a `grant` is one from before, or the new one.
+pub pushed_at : (xs : List PlacedAllocation) (a : PlacedAllocation) (i : ℕ)
+    → (placed_at (xs ++ a ∷ []) i).released ≡ false
+    → (((placed_at xs i).released ≡ false) × (placed_at (xs ++ a ∷ []) i ≡ placed_at xs i))
+    ⊎ (placed_at (xs ++ a ∷ []) i ≡ a)
+pushed_at [] a zero u = inr refl
+pushed_at [] a (suc i) u = absurd (true≢false u)
+pushed_at (x ∷ xs) a zero u = inl (u, refl)
+pushed_at (x ∷ xs) a (suc i) u = pushed_at xs a i u
+
+pub pushed_any : (xs : List PlacedAllocation) (a : PlacedAllocation) (i : ℕ)
+    → (placed_at (xs ++ a ∷ []) i ≡ placed_at xs i) ⊎ (placed_at (xs ++ a ∷ []) i ≡ a)
+pushed_any [] a zero = inr refl
+pushed_any [] a (suc i) = inl refl
+pushed_any (x ∷ xs) a zero = inl refl
+pushed_any (x ∷ xs) a (suc i) = pushed_any xs a i
+
+-- One that was there is.
+pub still_at : (xs : List PlacedAllocation) (a : PlacedAllocation) (i : ℕ) → (placed_at xs i).released ≡ false
+    → placed_at (xs ++ a ∷ []) i ≡ placed_at xs i
+still_at [] a i u = absurd (true≢false u)
+still_at (x ∷ xs) a zero u = refl
+still_at (x ∷ xs) a (suc i) u = still_at xs a i u
+
+pub pushed_claims : (c : Config) (run : Option RunPages) (xs : List PlacedAllocation) (a : PlacedAllocation)
+    → a.released ≡ false → claims_of c run (xs ++ a ∷ []) ≡ claims_of c run xs ++ claim_of c run a ∷ []
+pushed_claims c run [] a u = cond-false a.released [] (claim_of c run a ∷ []) u
+pushed_claims c run (x ∷ xs) a u = rw (pushed_claims c run xs a u) (by x.released)
+  where
+    by : (b : Bool) → (if b then claims_of c run xs ++ claim_of c run a ∷ []
+        else claim_of c run x ∷ (claims_of c run xs ++ claim_of c run a ∷ []))
+        ≡ (if b then claims_of c run xs else claim_of c run x ∷ claims_of c run xs) ++ claim_of c run a ∷ []
+    by true = refl
+    by false = refl
+
+-- The new allocation has its place's base, and isn't freed or released.
+pub record IsGrantedAt (c : Config) (a : PlacedAllocation) (place : Place) : Type 0 where
+  pub typed : a.ty < length c.types
+  pub base : a.base ≡ base_made (object_placed c a) place
+  pub freed : a.freed ≡ false
+  pub unreleased : a.released ≡ false
+
+pub granted_terrain : (c : Config) (releasing : Bool) (marks : List ℕ) (t : Ground) (place : Place)
+    (a : PlacedAllocation) → t.placing ≡ Used place → IsGrantedAt c a place
+    → HasLayout c (object_placed c a) releasing marks t → HasLayout c (object_placed c a) releasing marks
+    (record t { placing = Granted; allocations = t.allocations ++ a ∷ [] })
+granted_terrain c releasing marks t place a used is st =
+    record {
+      scene = rw claims at was;
+      gone = gone t.run st.gone;
+      first = tt;
+      cells = λ i u. elim (pushed_at t.allocations a i u) [
+        | inl old ↦ rw old.1 (st.cells i old.0)
+        | inr new ↦ rw new (record { typed = is.typed; begins = begins })
+      ];
+    }
+  where
+    was : IsLaidOn (record (layout_scene_of c (object_placed c a) releasing marks t)
+        { claims = claims_of c t.run t.allocations ++ place_claim (object_placed c a) place ∷ []; plot = NoPlot })
+    was = rw used at st.scene
+
+    shown : IsShown t.pages (place_claim (object_placed c a) place)
+    shown =
+        let s = was in
+        s.shown (place_claim (object_placed c a) place)
+        (among_back (claims_of c t.run t.allocations) (place_claim (object_placed c a) place ∷ [])
+        (place_claim (object_placed c a) place) (inl refl))
+
+    begins : BeginsAtCell (object_placed c a) a.base
+    begins =
+        let made = made_begins (object_placed c a) place shown.sized shown.known in
+        rw is.base made.0
+
+    at : (a.base / 64 ≡ place.page) × ((cell_of_allocation c a).index ≡ place.index)
+    at = place_index c a place shown.sized is.base shown.known
+
+    claim : claim_of c t.run a ≡ place_claim (object_placed c a) place
+    claim = rw at.0 (rw at.1 (rw is.freed))
+
+    claims : claims_of c t.run t.allocations ++ place_claim (object_placed c a) place ∷ []
+        ≡ claims_of c t.run (t.allocations ++ a ∷ []) ++ []
+    claims =
+        rw (← claim) (sym (pushed_claims c t.run t.allocations a is.unreleased)
+        ∙ sym (append-nil (claims_of c t.run (t.allocations ++ a ∷ []))))
+
+    gone : (r : Option RunPages) → RunStands (claims_of c t.run t.allocations) r
+        → RunStands (claims_of c t.run (t.allocations ++ a ∷ [])) r
+    gone None x = tt
+    gone (Some r) x =
+        record {
+          claim = x.claim;
+          among =
+              rw (pushed_claims c t.run t.allocations a is.unreleased)
+              (among_front (claims_of c t.run t.allocations) (claim_of c t.run a ∷ []) x.claim x.among);
+          page = x.page;
+          count = x.count;
+          large = x.large;
+          mode = x.mode;
+        }

@@ -1,0 +1,238 @@
+-- What an event may do to what stands on the pages and to the quarantine, by the conditions under which it does so.
+use Rattle.std.proofs.Common.{◌≡◌, ◌≢◌, ◌⊎◌, ℕ, ◌/◌, ◌%◌, ◌^◌, ◌≤◌, Bool, true, false, List, [], ◌∷◌, ◌++◌, map, refl}
+use Rattle.std.proofs.Common.{sym, subst, inl, inr}
+use Rattle.std.specs.Prelude.{Option, Some, None, slice_set, not, ◌&&◌, ◌||◌, ◌==◌, if◌then◌else◌}
+use Rattle.std.proofs.lemmas.Bool.{not-true, eqb-true, eqb-false, and_parts, or_cases}
+use Rattle.mk_laws.proofs.Vocabulary.{Access, Caller, Cell, Config, Flight, Granted, Host, Load, Marker, Moment}
+use Rattle.mk_laws.proofs.Vocabulary.{Named, Op, Page, PlacedAllocation, Placing, RunPages, Seat, Step, Store}
+use Rattle.mk_laws.proofs.Vocabulary.{Tally, Unplaced, Words, World, accessed, caller_number, carves, cell_freed}
+use Rattle.mk_laws.proofs.Vocabulary.{chosen, empties, flight_of, freed_where_it_stands, frees, gives_back, granted}
+use Rattle.mk_laws.proofs.Vocabulary.{header_at, is_phase, is_undecided_new, is_used_once, marks_place}
+use Rattle.mk_laws.proofs.Vocabulary.{no_longer_fresh, nothing_done, object_made, or_else, phase_of, place_now}
+use Rattle.mk_laws.proofs.Vocabulary.{reg_access, register_met, run_of_cell, taken, takes_cell, tally_word, target}
+use Rattle.mk_laws.proofs.Vocabulary.{unmaps, used_at, with_released}
+use Rattle.mk_core.specs.declared.events.Tally.TheVariants as tally
+use Rattle.mk_core.specs.declared.events.Word.TheVariants as word
+use Rattle.mk_core.specs.declared.events.Step.TheVariants as step
+use Rattle.mk_core.specs.declared.seats.Stage.TheVariants as stage
+use Rattle.mk_core.specs.TurnConditions.{may_give, may_head, may_use, may_quarantine, takes_snapshot, drops}
+use Rattle.mk_laws.specs.Ground.{Ground, ground_of}
+use Rattle.mk_laws.proofs.Asked.{give_phase}
+use Rattle.mk_laws.proofs.NextSteps.{at_take, at_no_take}
+use Rattle.mk_laws.proofs.Actors.{Meets, grants_new}
+use Rattle.mk_laws.proofs.OthersMoves.{WorldBehind}
+
+abbrev pub with_header : Words → ℕ → ℕ → List Page
+with_header w p n = slice_set w.pages p (record { header = n; used = used_at w p })
+
+abbrev pub with_used : Words → ℕ → ℕ → List Page
+with_used w p n = slice_set w.pages p (record { header = header_at w p; used = n })
+
+-- the ground after a `quar` that frees that cell, or none
+abbrev pub with_quarantine : World → ℕ → ℕ → Option Cell → Ground
+with_quarantine w p n cell =
+    record (ground_of w) {
+      freed = slice_set w.now.words.freed p (n % 2 ^ 32);
+      snapshot = slice_set w.now.words.snapshot p (n / 2 ^ 32);
+      run = or_else (run_of_cell w.now.words cell) w.now.seats.holding.freed;
+      allocations = map (freed_where_it_stands w.now.words cell) w.allocations;
+    }
+
+-- the ground after a `head`, a `used`, a `mark` and a `take`, by what decides where a New's place is
+
+abbrev pub headed : Config → World → Flight → ℕ → ℕ → Bool → Ground
+headed c w f p n b =
+    record (ground_of w) {
+      pages = with_header w.now.words p n;
+      placing = if b then w.now.seats.holding.placing else chosen w.now.seats.holding.placing (place_now c w.now f);
+    }
+
+abbrev pub used_up : Config → World → Flight → ℕ → ℕ → Bool → Ground
+used_up c w f p n b =
+    record (ground_of w) {
+      pages = with_used w.now.words p n;
+      placing = if b then w.now.seats.holding.placing else taken w.now.seats.holding.placing (place_now c w.now f);
+    }
+
+abbrev pub marked : Config → World → Flight → Bool → Ground
+marked c w f b =
+    record (ground_of w) {
+      placing = if b then chosen w.now.seats.holding.placing (place_now c w.now f)
+          else w.now.seats.holding.placing;
+    }
+
+abbrev pub begun_by : World → Bool → Ground
+begun_by w b =
+    record (ground_of w) {
+      placing = (if b then nothing_done else w.now.seats.holding).placing;
+      run = (if b then nothing_done else w.now.seats.holding).freed;
+    }
+
+-- where a seat steps whose call is f
+pub data GroundStep (c : Config) (w : World) (f : Flight) : Ground → Type 0 where
+  Rests : GroundStep c w f (ground_of w)
+  Starts : w.now.words.turn ≡ 0 → f.stage ≡ stage.Idle
+      → GroundStep c w f (record (ground_of w) { placing = Unplaced; run = None })
+  Gives : may_give w.now f ≡ true → (phase_of w.now.words ≤ 1) ⊎ (phase_of w.now.words ≡ 5)
+      → GroundStep c w f (record (ground_of w) { placing = Unplaced; run = None })
+  Carves : (p n : ℕ) → carves w.now.words (object_made c f.op) (place_now c w.now f) p n ≡ true
+      → phase_of w.now.words ≢ 4
+      → GroundStep c w f (record (ground_of w) {
+        pages = with_header w.now.words p n;
+        placing = chosen w.now.seats.holding.placing (place_now c w.now f);
+      })
+  Unmaps : (p n : ℕ) → unmaps w.now.words w.now.seats.holding.freed p n ≡ true → phase_of w.now.words ≢ 4
+      → GroundStep c w f (record (ground_of w) {
+        pages = with_header w.now.words p n;
+        placing = chosen w.now.seats.holding.placing (place_now c w.now f);
+      })
+  Empties : (p n : ℕ) → empties w.now.words p n ≡ true → phase_of w.now.words ≡ 4
+      → GroundStep c w f (record (ground_of w) { pages = with_header w.now.words p n })
+  TakesCell : (p n : ℕ) → is_used_once w.now.seats.holding.placing ≡ false
+      → takes_cell w.now.words (object_made c f.op) (place_now c w.now f) p n ≡ true → phase_of w.now.words ≢ 4
+      → GroundStep c w f (record (ground_of w) {
+        pages = with_used w.now.words p n;
+        placing = taken w.now.seats.holding.placing (place_now c w.now f);
+      })
+  GivesBack : (p n : ℕ) → gives_back w.now.words p n ≡ true → phase_of w.now.words ≡ 4
+      → GroundStep c w f (record (ground_of w) { pages = with_used w.now.words p n })
+  Frees : (p n : ℕ) (cell : Option Cell) → cell_freed c.pages w.now.words f p n ≡ cell
+      → frees w.now.words (target c.pages w.now.words f) p n ≡ true
+      → phase_of w.now.words ≢ 4
+      → GroundStep c w f (with_quarantine w p n cell)
+  Snapshots : (p n : ℕ) (cell : Option Cell) → cell_freed c.pages w.now.words f p n ≡ cell
+      → takes_snapshot w.now.words p n ≡ true
+      → GroundStep c w f (with_quarantine w p n cell)
+  Drops : (p n : ℕ) (cell : Option Cell) → cell_freed c.pages w.now.words f p n ≡ cell
+      → drops w.now.words p (n % 2 ^ 32) (n / 2 ^ 32) ≡ true → phase_of w.now.words ≡ 4
+      → GroundStep c w f (with_quarantine w p n cell)
+  Grants : is_undecided_new f ≡ true → is_used_once w.now.seats.holding.placing ≡ true
+      → GroundStep c w f (record (ground_of w) {
+        placing = Granted;
+        allocations = w.allocations ++ granted c w.now f ∷ [];
+      })
+  Places : (p n : ℕ) → marks_place w.now.words (object_made c f.op) (place_now c w.now f) p n ≡ true
+      → GroundStep c w f (record (ground_of w) { placing = chosen w.now.seats.holding.placing (place_now c w.now f) })
+  Freshens : phase_of w.now.words ≡ 0
+      → GroundStep c w f (record (ground_of w) { allocations = map no_longer_fresh w.allocations })
+  Releases : phase_of w.now.words ≡ 3
+      → GroundStep c w f (record (ground_of w) { allocations = map (with_released c w.now.words) w.allocations })
+
+-- the words of the ground are the same
+pub record KeepsGround (w x : Words) : Type 0 where
+  pub pages : x.pages ≡ w.pages
+  pub freed : x.freed ≡ w.freed
+  pub snapshot : x.snapshot ≡ w.snapshot
+
+pub tally_ground : (w : Words) (n : Tally) (v : ℕ) → KeepsGround w (accessed w (Named (tally_word n)) (Store v))
+tally_ground w tally.Held v = record { pages = refl; freed = refl; snapshot = refl }
+tally_ground w _ v = record { pages = refl; freed = refl; snapshot = refl }
+
+pub reg_ground : (w : Words) (k r : ℕ) (a : Access) → KeepsGround w (accessed w (Named (word.Reg k r)) a)
+reg_ground w k r Load = record { pages = refl; freed = refl; snapshot = refl }
+reg_ground w k r _ = record { pages = refl; freed = refl; snapshot = refl }
+
+rests : (c : Config) (w : World) (f : Flight) (x : Words) → KeepsGround w.now.words x
+    → GroundStep c w f (record (ground_of w) { pages = x.pages; freed = x.freed; snapshot = x.snapshot })
+rests c w f x g =
+    rw g.pages (rw g.freed (rw g.snapshot Rests))
+
+-- the kinds that go by the phase
+
+head_step : (c : Config) (w : World) (f : Flight) (p n : ℕ) → may_head c w.now f p n ≡ true
+    → GroundStep c w f (headed c w f p n (is_phase w.now.words 4))
+head_step c w f p n h = by (is_phase w.now.words 4) refl h
+  where
+    carved : Bool
+    carved = carves w.now.words (object_made c f.op) (place_now c w.now f) p n
+
+    unmapped : Bool
+    unmapped = unmaps w.now.words w.now.seats.holding.freed p n
+
+    by : (b : Bool) → is_phase w.now.words 4 ≡ b → (if b then empties w.now.words p n else carved || unmapped) ≡ true
+        → GroundStep c w f (headed c w f p n b)
+    by true e k = Empties p n k (eqb-true (phase_of w.now.words) 4 e)
+    by false e k =
+        elim (or_cases carved unmapped k) [
+          | inl a ↦ Carves p n a (eqb-false (phase_of w.now.words) 4 e)
+          | inr a ↦ Unmaps p n a (eqb-false (phase_of w.now.words) 4 e)
+        ]
+
+used_step : (c : Config) (w : World) (f : Flight) (p n : ℕ) → may_use c w.now f p n ≡ true
+    → GroundStep c w f (used_up c w f p n (is_phase w.now.words 4))
+used_step c w f p n h = by (is_phase w.now.words 4) refl h
+  where
+    takes : Bool
+    takes = takes_cell w.now.words (object_made c f.op) (place_now c w.now f) p n
+
+    by : (b : Bool) → is_phase w.now.words 4 ≡ b
+        → (if b then gives_back w.now.words p n else not (is_used_once w.now.seats.holding.placing) && takes) ≡ true
+        → GroundStep c w f (used_up c w f p n b)
+    by true e k = GivesBack p n k (eqb-true (phase_of w.now.words) 4 e)
+    by false e k =
+        let both = and_parts (not (is_used_once w.now.seats.holding.placing)) takes k in
+        TakesCell p n (not-true (is_used_once w.now.seats.holding.placing) both.0) both.1
+        (eqb-false (phase_of w.now.words) 4 e)
+
+quar_step : (c : Config) (w : World) (f : Flight) (p n : ℕ) → may_quarantine c w.now f p n ≡ true
+    → GroundStep c w f (with_quarantine w p n (cell_freed c.pages w.now.words f p n))
+quar_step c w f p n h = by (is_phase w.now.words 4) refl h
+  where
+    frees_it : Bool
+    frees_it = frees w.now.words (target c.pages w.now.words f) p n
+
+    snaps : Bool
+    snaps = takes_snapshot w.now.words p n
+
+    by : (b : Bool) → is_phase w.now.words 4 ≡ b
+        → (if b then drops w.now.words p (n % 2 ^ 32) (n / 2 ^ 32) else frees_it || snaps) ≡ true
+        → GroundStep c w f (with_quarantine w p n (cell_freed c.pages w.now.words f p n))
+    by true e k = Drops p n (cell_freed c.pages w.now.words f p n) refl k (eqb-true (phase_of w.now.words) 4 e)
+    by false e k = elim (or_cases frees_it snaps k) [
+      | inl a ↦ Frees p n (cell_freed c.pages w.now.words f p n) refl a (eqb-false (phase_of w.now.words) 4 e)
+      | inr a ↦ Snapshots p n (cell_freed c.pages w.now.words f p n) refl a
+    ]
+
+mark_step : (c : Config) (w : World) (f : Flight) (p n : ℕ)
+    → GroundStep c w f (marked c w f (marks_place w.now.words (object_made c f.op) (place_now c w.now f) p n))
+mark_step c w f p n = by (marks_place w.now.words (object_made c f.op) (place_now c w.now f) p n) refl
+  where
+    by : (b : Bool) → marks_place w.now.words (object_made c f.op) (place_now c w.now f) p n ≡ b
+        → GroundStep c w f (marked c w f b)
+    by true e = Places p n e
+    by false e = Rests
+
+take_step : (c : Config) (w : World) (f : Flight) → f.stage ≡ stage.Idle
+    → GroundStep c w f (begun_by w (w.now.words.turn == 0))
+take_step c w f idle = by (w.now.words.turn == 0) refl
+  where
+    by : (b : Bool) → (w.now.words.turn == 0) ≡ b
+        → GroundStep c w f (begun_by w b)
+    by true e = Starts (eqb-true w.now.words.turn 0 e) idle
+    by false e = Rests
+
+taker_idle : (c : Config) (m : Moment) (seat : Seat) (o : Option Op) → Meets c m seat (step.Take o)
+    → (flight_of m seat).stage ≡ stage.Idle
+taker_idle c m (Caller k) (Some o) h = (at_take (flight_of m (Caller k)).stage (flight_of m (Caller k)).op o h.order).0
+taker_idle c m (Caller k) None h =
+    absurd (at_no_take (flight_of m (Caller k)).stage (flight_of m (Caller k)).op h.order)
+taker_idle c m _ o h = refl
+
+-- all kinds, whatever the seat
+pub ground_step : (c : Config) (w : World) (seat : Seat) (x : Step) → Meets c w.now seat x
+    → GroundStep c w (flight_of w.now seat) (ground_of (WorldBehind c w seat x))
+ground_step c w seat (step.Take o) h = take_step c w (flight_of w.now seat) (taker_idle c w.now seat o h)
+ground_step c w seat step.Give h = Gives h.holder (give_phase (phase_of w.now.words) h.phase)
+ground_step c w seat step.Reg h =
+    rests c w (flight_of w.now seat) _
+    (reg_ground w.now.words (caller_number seat) (register_met (flight_of w.now seat) (flight_of w.now seat).stage)
+    (reg_access (flight_of w.now seat) (flight_of w.now seat).stage))
+ground_step c w seat (step.Tally n v) h = rests c w (flight_of w.now seat) _ (tally_ground w.now.words n v)
+ground_step c w seat (step.Head p n) h = head_step c w (flight_of w.now seat) p n h.holder
+ground_step c w seat (step.Used p n) h = used_step c w (flight_of w.now seat) p n h.holder
+ground_step c w seat (step.Quar p n) h = quar_step c w (flight_of w.now seat) p n h.holder
+ground_step c w seat step.Grant h = Grants (grants_new c w.now seat h) h.holder
+ground_step c w seat (step.Mark p n) h = mark_step c w (flight_of w.now seat) p n
+ground_step c w seat step.Begin h = Freshens (eqb-true (phase_of w.now.words) 0 h.phase)
+ground_step c w seat step.Release h = Releases (eqb-true (phase_of w.now.words) 3 h.phase)
+ground_step c w seat _ h = Rests

@@ -1,0 +1,31 @@
+-- Bits are added to a word of a list, and no bit is cleared.
+use Rattle.std.proofs.Common.{◌≡◌, ℕ, ◌≤◌, true, List, length, sym, ◌∙◌, ap, inl, inr, arith}
+use Rattle.std.specs.Prelude.{slice_index, slice_set, bit_or, max}
+use Rattle.std.specs.Int.{bit_at}
+use Rattle.std.proofs.lemmas.Bool.{cases_eq, cases_lt, eqb-true, eq-eqb}
+use Rattle.std.proofs.lemmas.List.{get_or-set_same, get_or-set_other, set_past}
+use Rattle.std.proofs.lemmas.Nat.Bits.{bit_at_or}
+use Rattle.mk_laws.proofs.Vocabulary.{OnlyGrow, has_bit}
+
+more : (a b k : ℕ) → has_bit a k ≡ true → has_bit (bit_or a b) k ≡ true
+more a b k is =
+    let one = eqb-true (bit_at a k) 1 is in
+    let le : bit_at b k ≤ 1 = omega arith in
+    eq-eqb (bit_at (bit_or a b) k) 1 (bit_at_or a b k ∙ (let m : max (bit_at a k) (bit_at b k) ≡ 1 = omega arith in m))
+
+pub grows_same : (xs : List ℕ) → OnlyGrow xs xs
+grows_same xs p k is = is
+
+pub grows_joined : (xs ys zs : List ℕ) → OnlyGrow xs ys → OnlyGrow ys zs → OnlyGrow xs zs
+grows_joined xs ys zs a b p k is = b p k (a p k is)
+
+pub grows_more : (xs : List ℕ) (q bits : ℕ) → OnlyGrow xs (slice_set xs q (bit_or (slice_index xs q) bits))
+grows_more xs q bits p k is = elim (cases_eq p q) [
+  | inl e ↦ elim (cases_lt q (length xs)) [
+    | inl lt ↦
+        rw (ap (λ i. slice_index (slice_set xs q (bit_or (slice_index xs q) bits)) i) e
+        ∙ get_or-set_same xs q (bit_or (slice_index xs q) bits) 0 lt) (more (slice_index xs q) bits k (sym (rw e) ∙ is))
+    | inr past ↦ rw (set_past xs q (bit_or (slice_index xs q) bits) past) is
+  ]
+  | inr ne ↦ rw (get_or-set_other xs q p (bit_or (slice_index xs q) bits) 0 ne) is
+]

@@ -1,0 +1,119 @@
+-- What the markers are in the middle of stands after an event that keeps what is guarded.
+use Rattle.std.proofs.Common.{◌≡◌, ℕ, ◌<◌, Bool, true, false, List, refl, sym, ap, subst, arith}
+use Rattle.std.specs.Prelude.{Option, Some, None, is_none, is_some, slice_index, slice_set, bit_or, ◌&&◌, ◌==◌}
+use Rattle.std.specs.Prelude.{if◌then◌else◌}
+use Rattle.std.proofs.lemmas.Bool.{and_parts}
+use Rattle.mk_laws.proofs.Vocabulary.{AreOfPages, Caller, Cell, Config, Host, Marker, MarkerState, Moment, Scan}
+use Rattle.mk_laws.proofs.Vocabulary.{Seat, SeenHeader, Step, Word, behind_mlook, cell_at, cell_seen, found}
+use Rattle.mk_laws.proofs.Vocabulary.{has_bit, has_next_word, has_seen_cell, header_at, is_attending, marker_behind}
+use Rattle.mk_laws.proofs.Vocabulary.{marker_of, next_word, page_at_address, seen_bit, seen_page}
+use Rattle.mk_core.specs.declared.events.Step.TheVariants as step
+use Rattle.mk_core.specs.declared.events.Word.TheVariants as word
+use Rattle.mk_core.specs.declared.seats.Presence.TheVariants.{Out}
+use Rattle.mk_core.specs.Bits.{bit_for}
+use Rattle.mk_core.specs.MarkerConditions.{is_markers_word}
+use Rattle.mk_core.proofs.PointedPages.{cell_within}
+use Rattle.mk_core.proofs.WordBits.{bit_for_has, bits_added}
+use Rattle.mk_laws.proofs.Actors.{Meets}
+use Rattle.mk_laws.proofs.SameWords.{Behind}
+use Rattle.mk_laws.proofs.ProtocolMarkers.{marker_set}
+use Rattle.mk_laws.specs.Guard.{MarkerStands}
+use Rattle.mk_laws.proofs.KeptGuard.{Keeps, marker_kept}
+use Rattle.mk_laws.proofs.Scans.{look_stands, unseen_stands, unscanning_stands, idle_stands, claim_stands, load_stands}
+use Rattle.mk_laws.proofs.Scans.{mark_stands, seen_well}
+
+pub nothing_is : {A : Type 0} (x : Option A) → is_none x ≡ true → x ≡ None
+nothing_is None h = refl
+nothing_is (Some y) h = cc
+
+-- the cell that an `mmark` marks, and the value of the hand
+record Seen (c : Config) (x : MarkerState) : Type 0 where
+  value : ℕ
+  cell : Cell
+  hand : x.hand ≡ Some value
+  is : cell_seen c x.seen x.hand ≡ Some cell
+  page : cell.page < c.pages
+  index : cell.index < 64
+
+seen_cell : (c : Config) (x : MarkerState) → is_some (cell_seen c x.seen x.hand) ≡ true → Seen c x
+seen_cell c x own = by x.seen x.hand refl refl own
+  where
+    by : (seen : Option SeenHeader) (hand : Option ℕ) → x.seen ≡ seen → x.hand ≡ hand
+        → is_some (cell_seen c seen hand) ≡ true → Seen c x
+    by None hand es eh own = cc
+    by (Some q) None es eh own = cc
+    by (Some q) (Some value) es eh own = at (q.page == page_at_address value) refl _ refl own
+      where
+        at : (b : Bool) → (q.page == page_at_address value) ≡ b → (y : Option Cell) → cell_at c.pages q.header value ≡ y
+            → is_some (if b then y else None) ≡ true → Seen c x
+        at false e y is own = cc
+        at true e None is own = cc
+        at true e (Some y) is own =
+            let n = cell_within c.pages q.header value y is in
+            let there : cell_seen c (Some q) (Some value) ≡ Some y = rw (e, is) in
+            record {
+              value = value;
+              cell = y;
+              hand = eh;
+              is = rw es (rw eh there);
+              page = n.0;
+              index = n.1;
+            }
+
+looks : (c : Config) (m : Moment) (x : Word) (y : MarkerState) (f : ℕ)
+    → ((p : ℕ) → x ≡ word.Head p → f ≡ header_at m.words p) → MarkerStands c m y
+    → MarkerStands c m (behind_mlook c f x y)
+looks c m (word.Head p) y f is h = rw (is p refl) (look_stands c m p y h)
+looks c m _ y f is h = unseen_stands c m y h
+
+-- the marks with these bits more on a page
+abbrev marks_with : List ℕ → ℕ → ℕ → List ℕ
+marks_with marks page bits = slice_set marks page (bit_or (slice_index marks page) bits)
+
+-- a marker's own step
+own_marker : (c : Config) (m : Moment) (k : ℕ) (x : Step) → AreOfPages c.pages m.words → Meets c m (Marker k) x
+    → Keeps c m (Behind c m (Marker k) x)
+    → (is_attending (marker_of m k).presence ≡ true → MarkerStands c m (marker_of m k))
+    → is_attending (marker_behind c (found c m (record { seat = Marker k; step = x })) x (marker_of m k)).presence
+    ≡ true → MarkerStands c (Behind c m (Marker k) x)
+    (marker_behind c (found c m (record { seat = Marker k; step = x })) x (marker_of m k))
+own_marker c m k step.Attend len h keeps before at = idle_stands c _ _
+own_marker c m k step.Quit len h keeps before at = idle_stands c _ Out
+own_marker c m k (step.Mlook x) len h keeps before at =
+    let own = (and_parts _ (is_markers_word x) h.marker).0 in
+    marker_kept c m _ _ keeps (looks c m x (marker_of m k) (found c m (record { seat = Marker k; step = step.Mlook x }))
+    (λ p e. rw e) (before own))
+own_marker c m k (step.Claim p i) len h keeps before at =
+    let a = and_parts _ _ h.marker in
+    marker_kept c m _ _ keeps (claim_stands c m (marker_of m k) p i a.1 (before at))
+own_marker c m k step.Mload len h keeps before at =
+    let a = and_parts _ _ h.marker in
+    marker_kept c m _ _ keeps (load_stands c m (marker_of m k) _ a.0 (nothing_is (marker_of m k).hand a.1)
+    (λ y e. sym (rw e)) (before at))
+own_marker c m k step.Mmark len h keeps before at =
+    let s = seen_cell c (marker_of m k) h.marker in
+    let n = Behind c m (Marker k) step.Mmark in
+    let there : MarkerStands c n (marker_of m k) = marker_kept c m n (marker_of m k) keeps (before at) in
+    mark_stands c n (marker_of m k) s.value s.hand (seen_well c n (marker_of m k) s.cell s.value s.hand s.is there
+    (rw s.is (bits_added m.words.marks s.cell.page _ s.cell.index
+    (let lt = s.page in omega (arith, len.marks, lt)) (bit_for_has s.cell.index s.index)))) there
+own_marker c m k step.Mblack len h keeps before at =
+    marker_kept c m _ _ keeps (unscanning_stands c m (marker_of m k) (before at))
+own_marker c m k _ len h keeps before at = let kind = h.kind in cc
+
+-- all markers
+pub markers_stand : (c : Config) (m : Moment) (seat : Seat) (x : Step) → AreOfPages c.pages m.words → Meets c m seat x
+    → Keeps c m (Behind c m seat x)
+    → ((k : ℕ) → is_attending (marker_of m k).presence ≡ true → MarkerStands c m (marker_of m k))
+    → (k : ℕ) → is_attending (marker_of (Behind c m seat x) k).presence ≡ true
+    → MarkerStands c (Behind c m seat x) (marker_of (Behind c m seat x) k)
+markers_stand c m (Caller k) x len h keeps before j at =
+    marker_kept c m (Behind c m (Caller k) x) (marker_of m j) keeps (before j at)
+markers_stand c m Host x len h keeps before j at =
+    marker_kept c m (Behind c m Host x) (marker_of m j) keeps (before j at)
+markers_stand c m (Marker k) x len h keeps before j at =
+    marker_set m.seats.markers k j
+    (marker_behind c (found c m (record { seat = Marker k; step = x })) x (marker_of m k))
+    (λ (y : MarkerState). is_attending y.presence ≡ true → MarkerStands c (Behind c m (Marker k) x) y)
+    (λ lt own. own_marker c m k x len h keeps (before k) own)
+    (λ other. marker_kept c m (Behind c m (Marker k) x) (marker_of m j) keeps (before j other)) at

@@ -1,0 +1,189 @@
+-- From `close` to `release` the marks stay closed: nothing changes but words that are wiped.
+use Rattle.std.proofs.Common.{◌≡◌, ◌⊎◌, ℕ, ◌+◌, ◌*◌, ◌<◌, true, false, List, length, refl, sym, ◌∙◌, ap, subst, inl}
+use Rattle.std.proofs.Common.{inr, arith}
+use Rattle.std.specs.Prelude.{slice_index, slice_set, ◌==◌, ◌||◌}
+use Rattle.std.proofs.lemmas.Bool.{cases_Bool, cases_eq, cases_lt, true≢false, ltb-true, eqb-true, or_cases}
+use Rattle.std.proofs.lemmas.List.{get_or-set_same, get_or-set_other, set_past}
+use Rattle.mk_laws.proofs.Vocabulary.{Caller, Config, Flight, Host, Marker, Moment, Named, Seat, Stage, Step, Store}
+use Rattle.mk_laws.proofs.Vocabulary.{Tally, Words, accessed, cells_under, first_word, flight_of, group_of, has_bit}
+use Rattle.mk_laws.proofs.Vocabulary.{has_no_pointers, header_at, header_of, is_open_to, marker_of, phase_of}
+use Rattle.mk_laws.proofs.Vocabulary.{points_well, reg_access, register_met, word_points_well, words_under}
+use Rattle.mk_core.specs.declared.events.Word.TheVariants as word
+use Rattle.mk_core.specs.declared.events.Group.{Group}
+use Rattle.mk_core.specs.declared.events.Group.TheVariants as group
+use Rattle.mk_core.specs.declared.events.Step.TheVariants as step
+use Rattle.mk_core.specs.declared.seats.Stage.TheVariants as stage
+use Rattle.mk_laws.proofs.Standings.{InCall}
+use Rattle.mk_laws.proofs.Stages.{is_call_stage, is_reg_stage, calls_stand}
+use Rattle.mk_laws.proofs.NextSteps.{stage_of, has_stage_of_its_own, at_its_stage, at_reg}
+use Rattle.mk_laws.proofs.Views.{view_of}
+use Rattle.mk_laws.proofs.Orderly.{shows_at}
+use Rattle.mk_laws.proofs.Actors.{Meets}
+use Rattle.mk_laws.proofs.SameWords.{Behind}
+use Rattle.mk_laws.proofs.OrderlyLists.{not_astray}
+use Rattle.mk_laws.proofs.Known.{Known}
+use Rattle.mk_laws.proofs.IdleMarkers.{work_attends}
+use Rattle.mk_laws.specs.Guard.{CellsAreClosed}
+use Rattle.mk_laws.proofs.Phases.{either_phase}
+use Rattle.mk_laws.proofs.Wells.{well_is, is_well, bare_word_well, wells_from}
+use Rattle.mk_laws.proofs.Changes.{Table, reg_table, tally_table, is_head, headers_kind}
+use Rattle.mk_core.proofs.RegisterAccesses.{tally_leaves_registers}
+
+-- what leaves closed marks closed
+pub record LeavesClosed (w v : Words) : Type 0 where
+  pub registers : v.registers ≡ w.registers
+  pub globals : v.globals ≡ w.globals
+  pub headers : (p : ℕ) → header_at v p ≡ header_at w p
+  pub marks : v.marks ≡ w.marks
+  pub heap : (n : ℕ) → (slice_index v.heap n ≡ slice_index w.heap n) ⊎ (slice_index v.heap n ≡ 0)
+
+pub stays_closed : (c : Config) (w v : Words) → LeavesClosed w v → CellsAreClosed c w → CellsAreClosed c v
+stays_closed c w v same h =
+    record {
+      registers = λ i. rw same.registers (over _ (h.registers i));
+      globals = λ g. rw same.globals (over _ (h.globals g));
+      words = λ cell i lt is scanned li.
+          let first : first_word v cell ≡ first_word w cell = rw (same.headers cell.page) in
+          rw first (word _ (h.words cell i (rw (same.headers cell.page) at lt) (rw same.marks at is)
+          (rw (same.headers cell.page) at scanned) (rw (same.headers cell.page) at li)));
+    }
+  where
+    over : (value : ℕ) → points_well c.pages w value ≡ true → points_well c.pages v value ≡ true
+    over value is =
+        well_is c v value (wells_from c w v same.headers (λ p k bit. rw same.marks bit) value (is_well c w value is))
+
+    word : (n : ℕ) → word_points_well c.pages w n ≡ true → word_points_well c.pages v n ≡ true
+    word n is = elim (same.heap n) [
+      | inl e ↦ rw e (over _ is)
+      | inr z ↦ well_is c v _ (bare_word_well c v _ z)
+    ]
+
+-- At this phase no caller is in a call outside the turn.
+
+no_call : (c : Config) (m : Moment) (k : ℕ) → Known c m → phase_of m.words ≡ 3 → k < c.callers
+    → is_call_stage (flight_of m (Caller k)).stage ≡ true → ⊥
+no_call c m k known three lt at =
+    let stands = calls_stand _ _ at (not_astray c m known.orderly k lt) in
+    let s = shows_at c (view_of m) k InCall known.orderly lt stands in
+    let one = s.0 in
+    let two = known.orderly.stopped three k lt s.1 in
+    absurd (omega arith)
+
+of_callers : (x : Step) → has_stage_of_its_own x ≡ true → group_of x ≡ group.Callers
+of_callers step.Leave own = refl
+of_callers step.Probe own = refl
+of_callers step.Read own = refl
+of_callers step.Write own = refl
+of_callers step.Cas own = refl
+of_callers step.Getg own = refl
+of_callers step.Setg own = refl
+of_callers step.Dirty own = refl
+of_callers _ own = cc
+
+no_step : (c : Config) (m : Moment) (seat : Seat) (x : Step) → Known c m → phase_of m.words ≡ 3 → Meets c m seat x
+    → has_stage_of_its_own x ≡ true → is_call_stage (stage_of x) ≡ true → ⊥
+no_step c m (Caller k) x known three h own at =
+    no_call c m k known three (ltb-true k c.callers h.seat) (subst (λ (s : Stage). is_call_stage s ≡ true)
+    (sym (at_its_stage (flight_of m (Caller k)).stage (flight_of m (Caller k)).op x own h.order)) at)
+no_step c m (Marker k) x known three h own at =
+    true≢false (sym (ap (λ (g : Group). is_open_to (Marker k) g) (sym (of_callers x own)) ∙ h.kind))
+no_step c m Host x known three h own at =
+    true≢false (sym (ap (λ (g : Group). is_open_to Host g) (sym (of_callers x own)) ∙ h.kind))
+
+-- `reg` only loads
+load_alone : (w : Words) (k r : ℕ) (f : Flight) (s : Stage) → is_reg_stage s ≡ true → is_call_stage s ≡ false
+    → (accessed w (Named (word.Reg k r)) (reg_access f s)).registers ≡ w.registers
+load_alone w k r f stage.LoadP reg out = refl
+load_alone w k r f stage.LoadQ reg out = cc
+load_alone w k r f stage.LoadR reg out = cc
+load_alone w k r f stage.Store reg out = cc
+load_alone w k r f stage.Put reg out = cc
+load_alone w k r f _ reg out = cc
+
+reg_still : (c : Config) (m : Moment) (seat : Seat) → Known c m → phase_of m.words ≡ 3 → Meets c m seat step.Reg
+    → (Behind c m seat step.Reg).words.registers ≡ m.words.registers
+reg_still c m (Caller k) known three h = elim (cases_Bool (is_call_stage (flight_of m (Caller k)).stage)) [
+  | inl at ↦ absurd (no_call c m k known three (ltb-true k c.callers h.seat) at)
+  | inr out ↦
+      load_alone m.words k (register_met (flight_of m (Caller k)) (flight_of m (Caller k)).stage)
+      (flight_of m (Caller k)) (flight_of m (Caller k)).stage
+      (at_reg (flight_of m (Caller k)).stage (flight_of m (Caller k)).op h.order) out
+]
+reg_still c m _ known three h = let kind = h.kind in cc
+
+registers_still : (c : Config) (m : Moment) (seat : Seat) (x : Step) → Known c m → phase_of m.words ≡ 3
+    → Meets c m seat x → (Behind c m seat x).words.registers ≡ m.words.registers
+registers_still c m seat step.Reg known three h = reg_still c m seat known three h
+registers_still c m seat (step.Tally n v) known three h = tally_leaves_registers m.words n v
+registers_still c m seat step.Grant known three h =
+    elim (either_phase (phase_of m.words) 0 1 h.phase) [ inl e ↦ absurd (omega arith) | inr e ↦ absurd (omega arith) ]
+registers_still c m seat _ known three h = refl
+
+globals_still : (c : Config) (m : Moment) (seat : Seat) (x : Step) → Known c m → phase_of m.words ≡ 3 → Meets c m seat x
+    → (Behind c m seat x).words.globals ≡ m.words.globals
+globals_still c m seat step.Reg known three h = ap (λ (t : Table). t.globals) (reg_table c m seat)
+globals_still c m seat (step.Tally n v) known three h = ap (λ (t : Table). t.globals) (tally_table m.words n v)
+globals_still c m seat step.Setg known three h = absurd (no_step c m seat step.Setg known three h refl refl)
+globals_still c m seat _ known three h = refl
+
+heap_still : (c : Config) (m : Moment) (seat : Seat) (x : Step) → Known c m → phase_of m.words ≡ 3 → Meets c m seat x
+    → (n : ℕ) → (slice_index (Behind c m seat x).words.heap n ≡ slice_index m.words.heap n)
+    ⊎ (slice_index (Behind c m seat x).words.heap n ≡ 0)
+heap_still c m seat step.Reg known three h n = inl (ap (λ (t : Table). slice_index t.heap n) (reg_table c m seat))
+heap_still c m seat (step.Tally t v) known three h n =
+    inl (ap (λ (t : Table). slice_index t.heap n) (tally_table m.words t v))
+heap_still c m seat step.Write known three h n = absurd (no_step c m seat step.Write known three h refl refl)
+heap_still c m seat step.Cas known three h n = absurd (no_step c m seat step.Cas known three h refl refl)
+heap_still c m seat (step.Wipe i) known three h n = elim (cases_eq n i) [
+  | inl e ↦ elim (cases_lt i (length m.words.heap)) [
+    | inl lt ↦ inr (rw e (get_or-set_same m.words.heap i 0 0 lt))
+    | inr past ↦ inl (rw (set_past m.words.heap i 0 past))
+  ]
+  | inr ne ↦ inl (get_or-set_other m.words.heap i n 0 0 ne)
+]
+heap_still c m seat _ known three h n = inl refl
+
+-- marks: no marker attends
+no_mark : (c : Config) (m : Moment) (seat : Seat) → Known c m → phase_of m.words ≡ 3 → Meets c m seat step.Mmark → ⊥
+no_mark c m (Marker k) known three h =
+    elim (known.orderly.attends k (work_attends c (marker_of m k) step.Mmark (known.orderly.idle k) h.marker refl))
+    [ inl e ↦ absurd (omega arith) | inr e ↦ absurd (omega arith) ]
+no_mark c m _ known three h = true≢false (sym h.kind)
+
+marks_still : (c : Config) (m : Moment) (seat : Seat) (x : Step) → Known c m → phase_of m.words ≡ 3 → Meets c m seat x
+    → (Behind c m seat x).words.marks ≡ m.words.marks
+marks_still c m seat step.Reg known three h = ap (λ (t : Table). t.marks) (reg_table c m seat)
+marks_still c m seat (step.Tally n v) known three h = ap (λ (t : Table). t.marks) (tally_table m.words n v)
+marks_still c m seat (step.Clear p) known three h = let z =
+    eqb-true (phase_of m.words) 0 h.phase in absurd (omega arith)
+marks_still c m seat (step.Mark p v) known three h =
+    elim (either_phase (phase_of m.words) 1 2 h.phase) [ inl e ↦ absurd (omega arith) | inr e ↦ absurd (omega arith) ]
+marks_still c m seat step.Mmark known three h = absurd (no_mark c m seat known three h)
+marks_still c m seat _ known three h = refl
+
+-- no header is stored
+no_head : (n : ℕ) → n ≡ 3 → ((n == 0) || (n == 1) || (n == 4)) ≡ true → ⊥
+no_head n three h = elim (or_cases _ (n == 4) h) [
+  | inl a ↦ elim (either_phase n 0 1 a) [ inl e ↦ absurd (omega arith) | inr e ↦ absurd (omega arith) ]
+  | inr e ↦ let z = eqb-true n 4 e in absurd (omega arith)
+]
+
+headers_still : (c : Config) (m : Moment) (seat : Seat) (x : Step) → phase_of m.words ≡ 3 → Meets c m seat x → (p : ℕ)
+    → header_at (Behind c m seat x).words p ≡ header_at m.words p
+headers_still c m seat (step.Head q n) three h p = absurd (no_head (phase_of m.words) three h.phase)
+headers_still c m seat x three h p = rest x h refl
+  where
+    rest : (x : Step) → Meets c m seat x → is_head x ≡ false
+        → header_at (Behind c m seat x).words p ≡ header_at m.words p
+    rest x h none = headers_kind c m seat x none p
+
+pub leaves_closed : (c : Config) (m : Moment) (seat : Seat) (x : Step) → Known c m → phase_of m.words ≡ 3
+    → Meets c m seat x → LeavesClosed m.words (Behind c m seat x).words
+leaves_closed c m seat x known three h =
+    record {
+      registers = registers_still c m seat x known three h;
+      globals = globals_still c m seat x known three h;
+      headers = headers_still c m seat x three h;
+      marks = marks_still c m seat x known three h;
+      heap = heap_still c m seat x known three h;
+    }

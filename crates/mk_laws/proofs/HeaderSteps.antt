@@ -1,0 +1,90 @@
+-- What an event may do to headers while a call of another seat is in flight outside the turn: it unmaps no page.
+use Rattle.std.proofs.Common.{◌≡◌, ◌≢◌, ℕ, ◌<◌, true, false, List, length, refl, sym, ◌∙◌, ap, subst, inl, inr, arith}
+use Rattle.std.specs.Prelude.{slice_index, slice_index_or, slice_set, not, ◌||◌}
+use Rattle.std.proofs.lemmas.Bool.{cases_eq, cases_lt, not-true, eqb-true, or_cases}
+use Rattle.std.proofs.lemmas.List.{get_or-set_same, get_or-set_other, set_past}
+use Rattle.mk_laws.proofs.Vocabulary.{Access, Caller, Config, Host, Load, Marker, Moment, Named, Page, Seat, Step}
+use Rattle.mk_laws.proofs.Vocabulary.{Store, Tally, Words, accessed, caller_number, flight_of, free_page, header_at}
+use Rattle.mk_laws.proofs.Vocabulary.{header_in, header_of, is_held, is_number_of, is_unmapped_header}
+use Rattle.mk_laws.proofs.Vocabulary.{others_are_held, reg_access, register_met, tally_word, used_at}
+use Rattle.mk_core.specs.declared.events.Tally.TheVariants as tally
+use Rattle.mk_core.specs.declared.events.Word.TheVariants as word
+use Rattle.mk_core.specs.declared.events.Step.TheVariants as step
+use Rattle.mk_core.proofs.AllBelow.{all_below-at}
+use Rattle.mk_laws.proofs.Actors.{Meets}
+use Rattle.mk_laws.proofs.SameWords.{Behind}
+
+-- what becomes of the pages
+pub data HeaderStep (w : Words) : List Page → Type 0 where
+  KeepsPages : HeaderStep w w.pages
+  SetsUsed : (p n : ℕ) → HeaderStep w (slice_set w.pages p (record { header = header_at w p; used = n }))
+  SetsHeader : (p v : ℕ) → is_unmapped_header (header_of v) ≡ false
+      → HeaderStep w (slice_set w.pages p (record { header = v; used = used_at w p }))
+
+pub tally_pages : (w : Words) (n : Tally) (v : ℕ) → (accessed w (Named (tally_word n)) (Store v)).pages ≡ w.pages
+tally_pages w tally.Held v = refl
+tally_pages w _ v = refl
+
+pub reg_pages : (w : Words) (k r : ℕ) (a : Access) → (accessed w (Named (word.Reg k r)) a).pages ≡ w.pages
+reg_pages w k r Load = refl
+reg_pages w k r _ = refl
+
+-- One of the other gates isn't held, so no page is unmapped.
+not_unmapped : (c : Config) (w : Words) (seat : Seat) (k v : ℕ) → k < c.callers → seat ≢ Caller k
+    → slice_index w.gates k ≡ 1
+    → (not (is_unmapped_header (header_of v)) || others_are_held c.callers w seat) ≡ true
+    → is_unmapped_header (header_of v) ≡ false
+not_unmapped c w seat k v lt ne one h =
+    elim (or_cases (not (is_unmapped_header (header_of v))) (others_are_held c.callers w seat) h) [
+      | inl is ↦ not-true (is_unmapped_header (header_of v)) is
+      | inr all ↦ elim (or_cases (is_number_of seat k) (is_held w k)
+          (all_below-at c.callers k (λ j. is_number_of seat j || is_held w j) all lt)) [
+            | inl own ↦ absurd (ne (seat_is seat k own))
+            | inr two ↦ let g = eqb-true (slice_index w.gates k) 2 two in absurd (omega arith)
+          ]
+    ]
+  where
+    seat_is : (seat : Seat) (k : ℕ) → is_number_of seat k ≡ true → seat ≡ Caller k
+    seat_is (Caller j) k h = ap (λ i. Caller i) (eqb-true j k h)
+    seat_is (Marker j) k h = cc
+    seat_is Host k h = cc
+
+pub header_step : (c : Config) (m : Moment) (seat : Seat) (x : Step) (k : ℕ) → Meets c m seat x → k < c.callers
+    → seat ≢ Caller k → slice_index m.words.gates k ≡ 1
+    → HeaderStep m.words (Behind c m seat x).words.pages
+header_step c m seat (step.Head p v) k h lt ne one = SetsHeader p v (not_unmapped c m.words seat k v lt ne one h.gates)
+header_step c m seat (step.Used p v) k h lt ne one = SetsUsed p v
+header_step c m seat (step.Tally n v) k h lt ne one = rw (tally_pages m.words n v) KeepsPages
+header_step c m seat step.Reg k h lt ne one =
+    rw (reg_pages m.words (caller_number seat) (register_met (flight_of m seat) (flight_of m seat).stage)
+    (reg_access (flight_of m seat) (flight_of m seat).stage)) KeepsPages
+header_step c m seat _ k h lt ne one = KeepsPages
+
+-- a page's header after a change of one page
+pub page_set : (ps : List Page) (p q : ℕ) (x : Page) → (P : ℕ → Type 0) → (p < length ps → P x.header)
+    → P (slice_index_or ps q free_page).header
+    → P (slice_index_or (slice_set ps p x) q free_page).header
+page_set ps p q x P mine other = elim (cases_eq q p) [
+  | inl e ↦ elim (cases_lt p (length ps)) [
+    | inl lt ↦ rw (ap (λ j. slice_index_or (slice_set ps p x) j free_page) e
+        ∙ get_or-set_same ps p x free_page lt) (mine lt)
+    | inr le ↦ rw (set_past ps p x le) other
+  ]
+  | inr ne ↦ rw (get_or-set_other ps p q x free_page ne) other
+]
+
+-- a header stays where only the used word changes
+pub used_set : (w : Words) (p q n : ℕ) → (P : ℕ → Type 0) → P (header_at w q)
+    → P (slice_index_or (slice_set w.pages p (record { header = header_at w p; used = n })) q free_page).header
+used_set w p q n P is = elim (cases_eq q p) [
+  | inl e ↦ page_set w.pages p q (record { header = header_at w p; used = n }) P (λ lt. rw e at is) is
+  | inr ne ↦ rw (get_or-set_other w.pages p q (record { header = header_at w p; used = n }) free_page ne) is
+]
+
+pub stays_mapped : (w : Words) (ps : List Page) (q : ℕ) → HeaderStep w ps → is_unmapped_header (header_in w q) ≡ false
+    → is_unmapped_header (header_of (slice_index_or ps q free_page).header) ≡ false
+stays_mapped w ps q KeepsPages h = h
+stays_mapped w ps q (SetsUsed p n) h = used_set w p q n (λ y. is_unmapped_header (header_of y) ≡ false) h
+stays_mapped w ps q (SetsHeader p v is) h =
+    page_set w.pages p q (record { header = v; used = used_at w p }) (λ y. is_unmapped_header (header_of y) ≡ false)
+    (λ lt. is) h

@@ -1,0 +1,71 @@
+-- Each page has a header word, after each event.
+use Rattle.std.proofs.Common.{List, arith, inl, inr, refl, subst, sym, true, ℕ, ◌-◌, ◌<◌, ◌≡◌}
+use Rattle.std.specs.Prelude.{IsSome, Option}
+use Rattle.std.proofs.lemmas.Bool.{cases_eq}
+use Rattle.mk_laws.proofs.Vocabulary.{Config, Header, IsHeaderWord, Object, OfBlock, OfLater, OfLeafBlock}
+use Rattle.mk_laws.proofs.Vocabulary.{OfLeafRun, OfRun, Page, RunPages, Seat, ShowsPart, Step, World, flight_of}
+use Rattle.mk_laws.proofs.Vocabulary.{header_made, header_of, object_made, pages_made, seat_exists, unmapped_header}
+use Rattle.mk_core.specs.declared.events.Step.TheVariants as step
+use Rattle.mk_core.proofs.ObjectHeaders.{made_shows, unmapped_shows}
+use Rattle.mk_core.proofs.PageSteps.{HeadStep, ItCarves, ItEmpties, ItUnmaps, head_step}
+use Rattle.mk_core.proofs.PlacesNow.{placed_now}
+use Rattle.mk_laws.proofs.Actors.{Meets}
+use Rattle.mk_laws.proofs.Ground.{tally_ground}
+use Rattle.mk_laws.proofs.OthersMoves.{WorldBehind}
+use Rattle.mk_laws.specs.Room.{HasHeaderWords}
+use Rattle.mk_laws.specs.LayoutScene.{header_on}
+use Rattle.mk_laws.specs.Ground.{ground_of}
+use Rattle.mk_laws.specs.Terrain.{IsClaimedRun, LayoutStands, RunStands, claims_of, object_now}
+use Rattle.mk_laws.proofs.LayoutBefore.{Before, page_within, reg_leaves_ground}
+use Rattle.mk_laws.proofs.LayoutHolders.{made_sized}
+use Rattle.mk_laws.proofs.PageSets.{headed_here, headed_other, used_header}
+use Rattle.mk_laws.proofs.Serving.{own_claim}
+
+part_is : (o : Object) (d : ℕ) (x : Option Header) → ShowsPart o d x → IsSome x
+part_is o d x (OfBlock f s l) = refl
+part_is o d x (OfLeafBlock f s l) = refl
+part_is o d x (OfRun m f s l) = refl
+part_is o d x (OfLeafRun f s l) = refl
+part_is o d x (OfLater m f s) = refl
+
+-- the header that a `head` stores
+stored_word : (c : Config) (w : World) (seat : Seat) (p n : ℕ) → Before c w → seat_exists c seat ≡ true
+    → LayoutStands c w
+    → HeadStep c w.now (flight_of w.now seat) p n → IsHeaderWord n
+stored_word c w seat p n b there laid (ItCarves off x) =
+    let placed = placed_now c w.now (flight_of w.now seat) x.place x.there in
+    let sized = made_sized c w.now seat b.limits b.known placed.new in
+    let o : Object = object_made c (flight_of w.now seat).op in
+    rw x.next.is (part_is o (p - x.place.page) (header_of (header_made o (p - x.place.page)))
+    (made_shows o (p - x.place.page) sized x.next.near))
+stored_word c w seat p n b there laid (ItUnmaps off x) =
+    let r : IsClaimedRun (claims_of c w.now.seats.holding.freed w.allocations) x.run =
+    subst (λ (y : Option RunPages). RunStands (claims_of c w.now.seats.holding.freed w.allocations) y) x.there laid.gone
+    in
+    let o : Object = r.claim.object in
+    let sized = (laid.scene.shown r.claim (own_claim c (object_now c w.now) (ground_of w) r.claim r.among)).sized in
+    let near : p - x.run.page < pages_made o = (let count = r.count in let lt = x.next.near in omega arith) in
+    let value : unmapped_header (pages_made o) (p - x.run.page) ≡ n = rw r.count (sym x.next.is) in
+    rw value at (part_is o (p - x.run.page) (header_of (unmapped_header (pages_made o) (p - x.run.page)))
+    (unmapped_shows o (p - x.run.page) sized near r.large))
+stored_word c w seat p n b there laid (ItEmpties on x) = rw x.is refl
+
+abbrev HaveWords : List Page → Type 0
+HaveWords pages = (p : ℕ) → IsHeaderWord (header_on pages p)
+
+pub words_behind : (c : Config) (w : World) (seat : Seat) (x : Step) → Before c w → Meets c w.now seat x
+    → LayoutStands c w
+    → HasHeaderWords w → HasHeaderWords (WorldBehind c w seat x)
+words_behind c w seat (step.Head p n) b h laid words = λ q. elim (cases_eq q p) [
+  | inl e ↦
+      rw e (rw (headed_here w.now.words.pages p n (page_within c w p b h.range))
+      (stored_word c w seat p n b h.seat laid (head_step c w.now (flight_of w.now seat) p n h.holder)))
+  | inr ne ↦ rw (headed_other w.now.words.pages p n q ne) (words q)
+]
+words_behind c w seat (step.Used p n) b h laid words =
+    λ q. rw (used_header w.now.words.pages p n q (page_within c w p b h.range)) (words q)
+words_behind c w seat step.Reg b h laid words =
+    subst (λ (ps : List Page). HaveWords ps) (sym (reg_leaves_ground c w seat).pages) words
+words_behind c w seat (step.Tally n v) b h laid words =
+    subst (λ (ps : List Page). HaveWords ps) (sym (tally_ground w.now.words n v).pages) words
+words_behind c w seat _ b h laid words = words

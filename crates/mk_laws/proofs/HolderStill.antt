@@ -1,0 +1,306 @@
+-- What a step of the turn's holder asks of the words still holds, whatever others did since.
+use Rattle.std.proofs.Common.{Bool, List, ap, arith, refl, sym, true, ℕ, ◌+◌, ◌-◌, ◌/◌, ◌%◌, ◌^◌, ◌∙◌, ◌≡◌, ◌≢◌, inl}
+use Rattle.std.proofs.Common.{inr}
+use Rattle.std.specs.Prelude.{Option, if◌then◌else◌, not, slice_index, ◌&&◌, ◌||◌, ◌==◌, bit_and}
+use Rattle.std.proofs.lemmas.Bool.{and_parts, cases_Bool, eqb-true, or_left, or_right}
+use Rattle.mk_laws.proofs.Vocabulary.{Cell, Config, Flight, Holding, Object, Page, Place, Seat, Steady, Step}
+use Rattle.mk_laws.proofs.Vocabulary.{TurnIsLeft, Words, World, Written, address_of, all_below, carves, empties}
+use Rattle.mk_laws.proofs.Vocabulary.{frees, gives_back, has_closed_page, has_gates, has_phase, head_page}
+use Rattle.mk_laws.proofs.Vocabulary.{header_at, header_made, held_by_pages, holder_may, is_decided}
+use Rattle.mk_laws.proofs.Vocabulary.{is_left_unmarked, is_marked_first, is_next_header, is_phase, is_released_cell}
+use Rattle.mk_laws.proofs.Vocabulary.{is_run_gone, is_some_and, is_used_once, marks_place, may_answer_full, may_end}
+use Rattle.mk_laws.proofs.Vocabulary.{may_turn_black, none_attends, object_made, others_are_held, pages_made}
+use Rattle.mk_laws.proofs.Vocabulary.{phase_of, place_now, pointed_cell, quarantine_word, roots_point_well}
+use Rattle.mk_laws.proofs.Vocabulary.{takes_cell, target, unmaps, used_at, without}
+use Rattle.mk_core.specs.declared.events.Step.TheVariants as step
+use Rattle.mk_core.specs.Cells.{are_left_unmarked}
+use Rattle.mk_core.specs.Frames.{written_of}
+use Rattle.mk_core.specs.MarkerConditions.{may_end_all}
+use Rattle.mk_core.specs.NewPlaces.{bits_made}
+use Rattle.mk_core.specs.StopConditions.{blackens, marks_by_hand, may_begin, may_black, may_close, may_mark}
+use Rattle.mk_core.specs.StopConditions.{may_unblack, may_undirty}
+use Rattle.mk_core.specs.TurnConditions.{are_wiped, drops, is_in_gone_run, may_give, may_head, may_quarantine, may_use}
+use Rattle.mk_core.specs.TurnConditions.{may_wipe, takes_snapshot}
+use Rattle.mk_laws.proofs.Asked.{none_at}
+use Rattle.mk_laws.proofs.Tests.{and_on, if_on, none_from, or_on, some_on, without_on}
+use Rattle.mk_laws.proofs.GatesStill.{pages_same, phase_same}
+
+module _ (c : Config) (w v : World) (kept : TurnIsLeft w v) (own : v.now.seats.holding ≡ w.now.seats.holding) where
+  abbrev a : Words
+  a = w.now.words
+
+  abbrev b : Words
+  b = v.now.words
+
+  phase : phase_of b ≡ phase_of a
+  phase = phase_same c w v kept
+
+  pages : b.pages ≡ a.pages
+  pages = pages_same c w v kept
+
+  phase_is : (n : ℕ) → is_phase b n ≡ is_phase a n
+  phase_is n = rw phase
+
+  -- Outside the phases of marking and closing no mark changes.
+  quiet : (n : ℕ) → phase_of a ≡ n → n ≢ 1 → n ≢ 2 → (b.marks ≡ a.marks) × (b.blacks ≡ a.blacks)
+  quiet n is n1 n2 = kept.unmarked (λ e. n1 (sym is ∙ e)) (λ e. n2 (sym is ∙ e))
+
+  quiet_at_4 : is_phase a 4 ≡ true → b.marks ≡ a.marks
+  quiet_at_4 four = (quiet 4 (eqb-true (phase_of a) 4 four) (λ e. absurd (omega arith)) (λ e. absurd (omega arith))).0
+
+  place_same : (f : Flight) → place_now c v.now f ≡ place_now c w.now f
+  place_same f =
+      rw own (rw pages)
+
+  -- `head`
+
+  next_on : (first count : ℕ) (wanted : ℕ → ℕ) (p n : ℕ) → is_next_header a first count wanted p n ≡ true
+      → is_next_header b first count wanted p n ≡ true
+  next_on first count wanted p n h = rw pages h
+
+  marked_on : (o : Object) (place : Place) → is_marked_first a o place ≡ true → is_marked_first b o place ≡ true
+  marked_on o place h =
+      or_on (not (is_phase a 1)) _ (not (is_phase b 1)) _ (λ e. ap not (phase_is 1) ∙ e) (without_on (bits_made o) _
+      _ (kept.marks_grow place.page)) h
+
+  carves_on : (f : Flight) (p n : ℕ) → carves a (object_made c f.op) (place_now c w.now f) p n ≡ true
+      → carves b (object_made c f.op) (place_now c v.now f) p n ≡ true
+  carves_on f p n h =
+      let o : Object = object_made c f.op in
+      rw (place_same f)
+      (some_on (λ (x : Place). is_next_header a x.page (pages_made o) (header_made o) p n && is_marked_first a o x)
+      (λ (x : Place). is_next_header b x.page (pages_made o) (header_made o) p n
+      && is_marked_first b o x) (place_now c w.now f) (λ x q. and_on _ _ _ _
+      (next_on x.page (pages_made o) (header_made o) p n) (marked_on o x) q) h)
+
+  unmaps_same : (p n : ℕ) → unmaps b v.now.seats.holding.freed p n ≡ unmaps a w.now.seats.holding.freed p n
+  unmaps_same p n = rw own (rw pages)
+
+  empties_same : (p n : ℕ) → empties b p n ≡ empties a p n
+  empties_same p n =
+      ap (λ (s : Steady). empties (record a { pages = s.pages; freed = s.freed; snapshot = s.snapshot }) p n)
+      kept.steady
+
+  head_on : (f : Flight) (p n : ℕ) → may_head c w.now f p n ≡ true → may_head c v.now f p n ≡ true
+  head_on f p n h =
+      let o : Object = object_made c f.op in
+      ap (λ i. if i == 4 then empties b p n else carves b o (place_now c v.now f) p n
+      || unmaps b v.now.seats.holding.freed p n) phase
+      ∙ if_on (is_phase a 4) (empties a p n) (carves a o (place_now c w.now f) p n
+      || unmaps a w.now.seats.holding.freed p n)
+      (empties b p n) (carves b o (place_now c v.now f) p n || unmaps b v.now.seats.holding.freed p n)
+      (λ four e. empties_same p n ∙ e)
+      (λ off e. or_on (carves a o (place_now c w.now f) p n) (unmaps a w.now.seats.holding.freed p n)
+      (carves b o (place_now c v.now f) p n) (unmaps b v.now.seats.holding.freed p n)
+      (carves_on f p n) (λ u. unmaps_same p n ∙ u) e) h
+
+  -- `used`
+
+  abbrev gives_unmarked : Words → ℕ → ℕ → Bool
+  gives_unmarked x p n = (bit_and n (used_at x p) == n) && are_left_unmarked x p (used_at x p - n)
+
+  unmarked_same : (p n : ℕ) → b.marks ≡ a.marks → gives_unmarked b p n ≡ gives_unmarked a p n
+  unmarked_same p n marks =
+      ap (λ (ms : List ℕ). gives_unmarked (record b { marks = ms }) p n) marks
+      ∙ ap (λ (s : Steady). gives_unmarked (record a { pages = s.pages; snapshot = s.snapshot }) p n) kept.steady
+
+  takes_same : (f : Flight) (p n : ℕ) → takes_cell b (object_made c f.op) (place_now c v.now f) p n
+      ≡ takes_cell a (object_made c f.op) (place_now c w.now f) p n
+  takes_same f p n =
+      rw (place_same f) (rw pages)
+
+  used_on : (f : Flight) (p n : ℕ)
+      → (is_phase a 4 ≡ true → gives_back a p n ≡ true → are_wiped b p (used_at b p - n) ≡ true)
+      → may_use c w.now f p n ≡ true → may_use c v.now f p n ≡ true
+  used_on f p n wiped h =
+      let o : Object = object_made c f.op in
+      let first : Bool = not (is_used_once w.now.seats.holding.placing) in
+      rw phase (if_on (is_phase a 4) (gives_back a p n) _ (gives_back b p n) _
+      (λ four e. and_on (gives_unmarked a p n) _ (gives_unmarked b p n)
+      _ (λ u. unmarked_same p n (quiet_at_4 four) ∙ u) (λ u. wiped four e) e) (λ off e. and_on first _ _ _
+      (λ u. rw own u) (λ u. takes_same f p n ∙ u) e) h)
+
+  -- `quar`
+
+  drops_same : (p f n : ℕ) → b.marks ≡ a.marks → drops b p f n ≡ drops a p f n
+  drops_same p f n marks =
+      ap (λ (ms : List ℕ). drops (record b { marks = ms }) p f n) marks
+      ∙ ap (λ (s : Steady). drops (record a { pages = s.pages; freed = s.freed; snapshot = s.snapshot }) p f n)
+      kept.steady
+
+  frees_same : (f : Flight) (p n : ℕ) → frees b (target c.pages b f) p n ≡ frees a (target c.pages a f) p n
+  frees_same f p n =
+      ap (λ (s : Steady). frees (record a { pages = s.pages; freed = s.freed; snapshot = s.snapshot })
+      (target c.pages (record a { pages = s.pages; freed = s.freed; snapshot = s.snapshot }) f) p n) kept.steady
+
+  snapshot_same : (p n : ℕ) → takes_snapshot b p n ≡ takes_snapshot a p n
+  snapshot_same p n =
+      ap (λ (s : Steady). (s.phase == 0) && (n == quarantine_word (slice_index s.freed p) (slice_index s.freed p)))
+      kept.steady
+
+  quarantine_on : (f : Flight) (p n : ℕ) → may_quarantine c w.now f p n ≡ true → may_quarantine c v.now f p n ≡ true
+  quarantine_on f p n h =
+      ap (λ i. if i == 4 then drops b p (n % 2 ^ 32) (n / 2 ^ 32) else frees b (target c.pages b f) p n
+      || takes_snapshot b p n) phase ∙ if_on (is_phase a 4) (drops a p (n % 2 ^ 32) (n / 2 ^ 32))
+      (frees a (target c.pages a f) p n || takes_snapshot a p n)
+      (drops b p (n % 2 ^ 32) (n / 2 ^ 32)) (frees b (target c.pages b f) p n || takes_snapshot b p n)
+      (λ four e. drops_same p (n % 2 ^ 32) (n / 2 ^ 32) (quiet_at_4 four) ∙ e)
+      (λ off e. or_on (frees a (target c.pages a f) p n) (takes_snapshot a p n)
+      (frees b (target c.pages b f) p n) (takes_snapshot b p n)
+      (λ u. frees_same f p n ∙ u) (λ u. snapshot_same p n ∙ u) e) h
+
+  -- `mark`, `wipe`, `full`, `give`
+
+  mark_same : (f : Flight) (p n : ℕ) → may_mark c v.now f p n ≡ may_mark c w.now f p n
+  mark_same f p n =
+      let o : Object = object_made c f.op in
+      ap (λ (x : Option Place). marks_by_hand c.pages b v.now.seats.holding.hand p n || marks_place b o x p n)
+      (place_same f)
+      ∙ ap (λ (h : Holding). marks_by_hand c.pages b h.hand p n || marks_place b o (place_now c w.now f) p n) own
+      ∙ ap (λ (s : Steady). marks_by_hand c.pages (record a { pages = s.pages }) w.now.seats.holding.hand p n
+      || is_some_and (λ (x : Place). (s.phase == 1) && (p == x.page) && (header_at (record a { pages = s.pages })
+      p == 0) && (n == bits_made o)) (place_now c w.now f)) kept.steady
+
+  released_on : (cell : Cell) → is_released_cell a cell ≡ true → is_released_cell b cell ≡ true
+  released_on cell h =
+      let four = (and_parts (is_phase a 4) (is_left_unmarked a cell) h).0 in
+      ap (λ (ms : List ℕ). is_released_cell (record b { marks = ms }) cell) (quiet_at_4 four)
+      ∙ ap (λ (s : Steady). (s.phase == 4) && is_left_unmarked (record a { snapshot = s.snapshot }) cell) kept.steady
+      ∙ h
+
+  gone_run_same : (n : ℕ) → is_in_gone_run b v.now.seats.holding.freed n ≡ is_in_gone_run a w.now.seats.holding.freed n
+  gone_run_same n =
+      rw own (rw pages)
+
+  wipe_on : (n : ℕ) → may_wipe c w.now n ≡ true → may_wipe c v.now n ≡ true
+  wipe_on n h =
+      or_on _ _ _ _ (λ e. rw pages (some_on (is_released_cell a) (is_released_cell b) _ released_on e))
+      (λ e. gone_run_same n ∙ e) h
+
+  full_same : (f : Flight) → may_answer_full c.resident b.pages (object_made c f.op)
+      v.now.seats.holding.placing v.now.seats.holding.cycle
+      ≡ may_answer_full c.resident a.pages (object_made c f.op) w.now.seats.holding.placing w.now.seats.holding.cycle
+  full_same f =
+      rw pages (rw own)
+
+  give_on : (f : Flight) → (is_run_gone a w.now.seats.holding.freed ≡ true
+      → is_run_gone b w.now.seats.holding.freed ≡ true) → may_give w.now f ≡ true → may_give v.now f ≡ true
+  give_on f gone h =
+      let run : Bool = is_run_gone a w.now.seats.holding.freed in
+      let run' : Bool = is_run_gone b v.now.seats.holding.freed in
+      and_on (is_decided f.stage && run && (a.held == held_by_pages a)) (a.fresh == w.now.fresh_words)
+      (is_decided f.stage && run' && (b.held == held_by_pages b)) (b.fresh == v.now.fresh_words)
+      (λ e. and_on (is_decided f.stage && run) (a.held == held_by_pages a) (is_decided f.stage
+      && run') (b.held == held_by_pages b) (λ d. and_on (is_decided f.stage) run (is_decided f.stage) run' (λ u. u)
+      (λ u. ap (λ (x : Holding). is_run_gone b x.freed) own ∙ gone u) d)
+      (λ u. ap (λ (s : Steady). s.held == held_by_pages (record a { pages = s.pages })) kept.steady ∙ u) e)
+      (λ e. ap (λ (s : Steady). s.fresh == s.fresh_words) kept.steady ∙ e) h
+
+  -- the phase's steps
+
+  begin_on : phase_of a ≡ 0 → may_begin c.pages a ≡ true → may_begin c.pages b ≡ true
+  begin_on zero h =
+      let q = quiet 0 zero (λ e. absurd (omega arith)) (λ e. absurd (omega arith)) in
+      ap (λ (ms : List ℕ). may_begin c.pages (record b { marks = ms })) q.0
+      ∙ ap (λ (bs : List ℕ). may_begin c.pages (record b { marks = a.marks; blacks = bs })) q.1
+      ∙ ap (λ (s : Steady). may_begin c.pages (record a { freed = s.freed; snapshot = s.snapshot; fresh = s.fresh }))
+      kept.steady ∙ h
+
+  end_on : phase_of a ≡ 4 → may_end c.pages a ≡ true → may_end c.pages b ≡ true
+  end_on four h =
+      let q = quiet 4 four (λ e. absurd (omega arith)) (λ e. absurd (omega arith)) in
+      ap (λ (ms : List ℕ). may_end c.pages (record b { marks = ms })) q.0
+      ∙ ap (λ (s : Steady). may_end c.pages (record a { pages = s.pages; snapshot = s.snapshot })) kept.steady ∙ h
+
+  over_on : may_end_all c w.now ≡ true → may_end_all c v.now ≡ true
+  over_on h = ap (λ (s : Steady). (s.turn == 1 + c.callers) && (s.phase == 0)) kept.steady ∙ h
+
+  -- In the stop no marker begins to attend.
+  none_on : phase_of a ≡ 2 → none_attends w.now.seats.markers ≡ true → none_attends v.now.seats.markers ≡ true
+  none_on two none = none_from v.now.seats.markers (kept.stopped two (λ k. none_at w.now.seats.markers k none)).0
+
+  stopped : phase_of a ≡ 2 → none_attends w.now.seats.markers ≡ true → (b.marks ≡ a.marks) × (b.blacks ≡ a.blacks)
+  stopped two none = let x = kept.stopped two (λ k. none_at w.now.seats.markers k none) in (x.1, x.2)
+
+  close_on : phase_of a ≡ 2 → written_of v ≡ written_of w → may_close c w.now ≡ true → may_close c v.now ≡ true
+  close_on two written h =
+      let parts = and_parts (none_attends w.now.seats.markers && all_below c.pages (has_closed_page a))
+      (roots_point_well c.pages a) h in
+      let none = (and_parts (none_attends w.now.seats.markers) (all_below c.pages (has_closed_page a)) parts.0).0 in
+      let q = stopped two none in
+      ap (λ (t : Bool). t && all_below c.pages (has_closed_page b) && roots_point_well c.pages b)
+      (none_on two none ∙ sym none)
+      ∙ ap (λ (ms : List ℕ). none_attends w.now.seats.markers && all_below c.pages (has_closed_page
+      (record b { marks = ms })) && roots_point_well c.pages (record b { marks = ms })) q.0 ∙ ap (λ (bs : List ℕ).
+      none_attends w.now.seats.markers && all_below c.pages
+      (has_closed_page (record b { marks = a.marks; blacks = bs })) && roots_point_well c.pages
+      (record b { marks = a.marks })) q.1 ∙ ap (λ (x : Written). none_attends w.now.seats.markers && all_below c.pages
+      (has_closed_page (record b { marks = a.marks; blacks = a.blacks; dirty = x.dirty }))
+      && roots_point_well c.pages (record b { marks = a.marks; registers = x.registers; globals = x.globals })) written
+      ∙ ap (λ (ps : List Page). may_close c (record w.now { words = record a { pages = ps } })) pages ∙ h
+
+  black_on : (p n : ℕ) → phase_of a ≡ 2 → written_of v ≡ written_of w → may_black c w.now p n ≡ true
+      → may_black c v.now p n ≡ true
+  unfolding may_turn_black
+  black_on p n two written h =
+      let none = (and_parts (none_attends w.now.seats.markers)
+      (not (all_below 32 (λ k. not (blackens c.pages a p n k)))) h).0 in
+      let q = stopped two none in
+      ap (λ (t : Bool). t && not (all_below 32 (λ k. not (blackens c.pages b p n k)))) (none_on two none ∙ sym none)
+      ∙ ap (λ (ms : List ℕ). none_attends w.now.seats.markers && not (all_below 32
+      (λ k. not (blackens c.pages (record b { marks = ms }) p n k)))) q.0
+      ∙ ap (λ (x : Written). none_attends w.now.seats.markers && not (all_below 32
+      (λ k. not (blackens c.pages (record b { marks = a.marks; heap = x.heap }) p n k)))) written
+      ∙ ap (λ (ps : List Page). may_black c (record w.now { words = record a { pages = ps } }) p n) pages ∙ h
+
+  undirty_on : (p : ℕ) → may_undirty w.now p ≡ true → may_undirty v.now p ≡ true
+  undirty_on p h = elim (cases_Bool (is_phase a 2)) [
+    | inr off ↦ or_left (not (is_phase b 2)) _ (ap not (phase_is 2 ∙ off))
+    | inl on ↦
+        let two = eqb-true (phase_of a) 2 on in
+        let all = ap (λ t. not t || (none_attends w.now.seats.markers && (slice_index a.blacks p == 0)
+        && (slice_index a.blacks (head_page a p) == 0))) (sym on) ∙ h in
+        let parts = and_parts (none_attends w.now.seats.markers && (slice_index a.blacks p == 0))
+        (slice_index a.blacks (head_page a p) == 0) all in
+        let none = (and_parts (none_attends w.now.seats.markers) (slice_index a.blacks p == 0) parts.0).0 in
+        let q = stopped two none in
+        or_right (not (is_phase b 2)) _
+        (ap (λ (t : Bool). t && (slice_index b.blacks p == 0) && (slice_index b.blacks (head_page b p) == 0))
+        (none_on two none ∙ sym none) ∙ ap (λ (bs : List ℕ). none_attends w.now.seats.markers && (slice_index bs p == 0)
+        && (slice_index bs (head_page b p) == 0)) q.1
+        ∙ ap (λ (ps : List Page). none_attends w.now.seats.markers && (slice_index a.blacks p == 0)
+        && (slice_index a.blacks (head_page (record a { pages = ps }) p) == 0)) pages ∙ all)
+  ]
+
+  unblack_on : may_unblack w.now ≡ true → may_unblack v.now ≡ true
+  unblack_on h = elim (cases_Bool (is_phase a 2)) [
+    | inr off ↦ or_left (not (is_phase b 2)) _ (ap not (phase_is 2 ∙ off))
+    | inl on ↦
+        or_right (not (is_phase b 2)) _
+        (none_on (eqb-true (phase_of a) 2 on) (ap (λ t. not t || none_attends w.now.seats.markers) (sym on) ∙ h))
+  ]
+
+  -- all of them
+  pub holder_on : (s : Seat) (f : Flight) (x : Step) → has_gates c a s f x ≡ true → has_phase (phase_of a) x ≡ true
+      → (others_are_held c.callers a s ≡ true → written_of v ≡ written_of w)
+      → (is_run_gone a w.now.seats.holding.freed ≡ true → is_run_gone b w.now.seats.holding.freed ≡ true)
+      → ((p n : ℕ) → is_phase a 4 ≡ true → gives_back a p n ≡ true → are_wiped b p (used_at b p - n) ≡ true)
+      → holder_may c w.now f x ≡ true → holder_may c v.now f x ≡ true
+  holder_on s f step.Give gates at written gone wiped h = give_on f gone h
+  holder_on s f (step.Head p n) gates at written gone wiped h = head_on f p n h
+  holder_on s f (step.Used p n) gates at written gone wiped h = used_on f p n (wiped p n) h
+  holder_on s f (step.Quar p n) gates at written gone wiped h = quarantine_on f p n h
+  holder_on s f step.Grant gates at written gone wiped h = ap (λ (x : Holding). is_used_once x.placing) own ∙ h
+  holder_on s f (step.Open j) gates at written gone wiped h = ap (λ (x : Holding). is_run_gone b x.freed) own ∙ gone h
+  holder_on s f (step.Mark p n) gates at written gone wiped h = mark_same f p n ∙ h
+  holder_on s f (step.Wipe n) gates at written gone wiped h = wipe_on n h
+  holder_on s f step.Full gates at written gone wiped h = full_same f ∙ h
+  holder_on s f step.Begin gates at written gone wiped h = begin_on (eqb-true (phase_of a) 0 at) h
+  holder_on s f step.Close gates at written gone wiped h = close_on (eqb-true (phase_of a) 2 at) (written gates) h
+  holder_on s f step.End gates at written gone wiped h = end_on (eqb-true (phase_of a) 4 at) h
+  holder_on s f (step.Undirty p) gates at written gone wiped h = undirty_on p h
+  holder_on s f (step.Black p n) gates at written gone wiped h =
+      black_on p n (eqb-true (phase_of a) 2 at) (written gates) h
+  holder_on s f (step.Unblack p) gates at written gone wiped h = unblack_on h
+  holder_on s f step.Over gates at written gone wiped h = over_on h
+  holder_on s f _ gates at written gone wiped h = refl

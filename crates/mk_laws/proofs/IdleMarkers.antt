@@ -1,0 +1,82 @@
+-- A marker that doesn't attend is in the middle of nothing, and stays so.
+use Rattle.std.proofs.Common.{◌≡◌, ℕ, Bool, true, false, refl, sym, ◌∙◌, ap, inl, inr}
+use Rattle.std.specs.Prelude.{Option, Some, None, is_none, is_some, ◌&&◌}
+use Rattle.std.proofs.lemmas.Bool.{cases_Bool, and_parts}
+use Rattle.mk_laws.proofs.Vocabulary.{Config, SeenHeader, Step, Word, behind_mlook, cell_seen, has_next_word}
+use Rattle.mk_laws.proofs.Vocabulary.{has_seen_cell, is_attending, is_scanned, marker_behind, marker_may}
+use Rattle.mk_core.specs.declared.events.Step.TheVariants as step
+use Rattle.mk_core.specs.declared.events.Word.TheVariants as word
+use Rattle.mk_core.specs.declared.seats.Marker.{Marker}
+use Rattle.mk_core.specs.MarkerConditions.{is_markers_word}
+use Rattle.mk_laws.proofs.ProtocolMoves.{IdlesOutside}
+
+-- what a marker has only while it attends
+
+next_attends : (x : Marker) → IdlesOutside x → has_next_word x.scan ≡ true → is_attending x.presence ≡ true
+next_attends x h s = elim (cases_Bool (is_attending x.presence)) [
+  | inl e ↦ e
+  | inr e ↦ let i = h e in let f : false ≡ true = ap has_next_word (sym i.scan) ∙ s in cc
+]
+
+scanned_attends : (x : Marker) → IdlesOutside x → is_scanned x.scan ≡ true → is_attending x.presence ≡ true
+scanned_attends x h s = elim (cases_Bool (is_attending x.presence)) [
+  | inl e ↦ e
+  | inr e ↦ let i = h e in let f : false ≡ true = ap is_scanned (sym i.scan) ∙ s in cc
+]
+
+none_seen : (c : Config) (s : Option SeenHeader) → is_some (cell_seen c s None) ≡ false
+none_seen c (Some s) = refl
+none_seen c None = refl
+
+seen_attends : (c : Config) (x : Marker) → IdlesOutside x → is_some (cell_seen c x.seen x.hand) ≡ true
+    → is_attending x.presence ≡ true
+seen_attends c x h s = elim (cases_Bool (is_attending x.presence)) [
+  | inl e ↦ e
+  | inr e ↦
+      let i = h e in
+      let f : false ≡ true = sym (none_seen c x.seen)
+      ∙ ap (λ (v : Option ℕ). is_some (cell_seen c x.seen v)) (sym i.hand) ∙ s in
+      cc
+]
+
+-- Whoever looks, claims, loads, marks or blackens attends.
+abbrev pub is_work : Step → Bool
+is_work (step.Mlook w) = true
+is_work (step.Claim p i) = true
+is_work step.Mload = true
+is_work step.Mmark = true
+is_work step.Mblack = true
+is_work _ = false
+
+pub work_attends : (c : Config) (x : Marker) (s : Step) → IdlesOutside x → marker_may c x s ≡ true → is_work s ≡ true
+    → is_attending x.presence ≡ true
+work_attends c x (step.Mlook w) h m k = (and_parts (is_attending x.presence) (is_markers_word w) m).0
+work_attends c x (step.Claim p i) h m k =
+    (and_parts (is_attending x.presence) (is_none x.scan)
+    (and_parts (is_attending x.presence && is_none x.scan) (has_seen_cell x.seen p i) m).0).0
+work_attends c x step.Mload h m k = next_attends x h (and_parts (has_next_word x.scan) (is_none x.hand) m).0
+work_attends c x step.Mmark h m k = seen_attends c x h m
+work_attends c x step.Mblack h m k = scanned_attends x h (and_parts (is_scanned x.scan) (is_none x.hand) m).0
+work_attends c x _ h m k = cc
+
+-- it keeps its presence, so all is said
+
+pub look_stays : (c : Config) (n : ℕ) (w : Word) (x : Marker) → (behind_mlook c n w x).presence ≡ x.presence
+look_stays c n (word.Head p) x = refl
+look_stays c n _ x = refl
+
+pub work_stays : (c : Config) (n : ℕ) (s : Step) (x : Marker) → is_work s ≡ true
+    → (marker_behind c n s x).presence ≡ x.presence
+work_stays c n (step.Mlook w) x k = look_stays c n w x
+work_stays c n (step.Claim p i) x k = refl
+work_stays c n step.Mload x k = refl
+work_stays c n step.Mmark x k = refl
+work_stays c n step.Mblack x k = refl
+work_stays c n _ x k = cc
+
+pub work_idles : (c : Config) (n : ℕ) (s : Step) (x : Marker) → marker_may c x s ≡ true → is_work s ≡ true
+    → IdlesOutside x → IdlesOutside (marker_behind c n s x)
+work_idles c n s x m k h e =
+    let a = work_attends c x s h m k in
+    let f : true ≡ false = sym a ∙ ap is_attending (sym (work_stays c n s x k)) ∙ e in
+    cc

@@ -1,0 +1,38 @@
+-- A caller whose gate is held is between calls.
+use Rattle.std.proofs.Common.{◌≡◌, ◌≢◌, ℕ, ◌<◌, Bool, true, false, refl, sym, ap, inl, inr, arith}
+use Rattle.std.proofs.lemmas.Bool.{cases_lt}
+use Rattle.std.proofs.lemmas.List.{get_or_past}
+use Rattle.mk_laws.proofs.Vocabulary.{Config, Flight, Op, Stage, at_rest, is_under_turn}
+use Rattle.mk_core.specs.declared.seats.Stage.TheVariants as stage
+use Rattle.mk_laws.specs.Protocol.{has_stage}
+use Rattle.mk_laws.proofs.Standings.{Standing, Resting, InCall, UnderTurn, Astray, standing_in, standing_at}
+use Rattle.mk_laws.proofs.Standings.{standing, Shows}
+use Rattle.mk_laws.proofs.Views.{View, flight_in, gate_in}
+use Rattle.mk_laws.proofs.Orderly.{Orderly}
+
+never_rests : (b u : Bool) → standing_in b u ≡ Resting → ⊥
+never_rests true true h = cc
+never_rests true false h = cc
+never_rests false u h = cc
+
+pub resting_idle : (o : Op) (s : Stage) → standing_at s o ≡ Resting → s ≡ stage.Idle
+resting_idle o stage.Idle h = refl
+resting_idle o s h = absurd (never_rests (has_stage o s) (is_under_turn o) h)
+
+held_resting : (t k : ℕ) (s : Standing) (g : ℕ) → g ≡ 2 → Shows t g k s → s ≡ Resting
+held_resting t k Resting g e h = refl
+held_resting t k Astray g e h = absurd h
+held_resting t k _ g e h = absurd (let x = h.0 in omega arith)
+
+pub held_idle : (c : Config) (v : View) (j : ℕ) → Orderly c v → j < c.callers → gate_in v j ≡ 2
+    → (flight_in v j).stage ≡ stage.Idle
+held_idle c v j p lt e =
+    resting_idle (flight_in v j).op (flight_in v j).stage (held_resting v.turn j _ (gate_in v j) e (p.each j lt))
+
+-- Where the gates of all others are held, all but one are idle.
+pub others_idle : (c : Config) (v : View) (k : ℕ) → Orderly c v → ((j : ℕ) → j < c.callers → k ≢ j → gate_in v j ≡ 2)
+    → (j : ℕ) → j ≢ k → (flight_in v j).stage ≡ stage.Idle
+others_idle c v k p held j ne = elim (cases_lt j c.callers) [
+  | inl lt ↦ held_idle c v j p lt (held j lt (λ e. ne (sym e)))
+  | inr le ↦ rw (get_or_past v.flights j at_rest (let e = p.flights in omega (arith, e)))
+]

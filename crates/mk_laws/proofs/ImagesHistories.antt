@@ -1,0 +1,161 @@
+-- All histories: the answers are the images of the replies, and what is reached isn't released.
+use Rattle.std.proofs.Common.{◌≡◌, ℕ, ◌*◌, ◌/◌, ◌%◌, Bool, true, false, List, [], ◌∷◌, ◌++◌, replicate, refl, sym, ap}
+use Rattle.std.proofs.Common.{subst, ◌∙◌, append-nil, append_assoc, arith}
+use Rattle.std.specs.Prelude.{slice_index, slice_index_or}
+use Rattle.std.proofs.lemmas.List.{map-append, length-replicate}
+use Rattle.mk_laws.proofs.Vocabulary.{Answer, AreAdmitted, AreEnabled, AreEnabledFrom, Call, Config, Decided, Event}
+use Rattle.mk_laws.proofs.Vocabulary.{Flight, IsEnabled, IsHistory, IsWithinLimits, NeverState, Null, Num, Ptr}
+use Rattle.mk_laws.proofs.Vocabulary.{Value, World, after_calls, answer_of, answered, answers_of, asked, at_rest}
+use Rattle.mk_laws.proofs.Vocabulary.{bases_of, call_decided, calls_from, first_world, image_of, left, left_from}
+use Rattle.mk_laws.proofs.Vocabulary.{never_behind, replies_of, world_behind}
+use Rattle.mk_never.specs.Reach.{LeadsTo}
+use Rattle.mk_never.proofs.TypedCalls.{start_is_typed}
+use Rattle.mk_never.proofs.Parts.{after_append, replies_append, admitted_split}
+use Rattle.mk_never.proofs.Reached.{reached_is_in}
+use Rattle.mk_core.specs.History.{never_first}
+use Rattle.mk_core.proofs.Histories.{left_more, enabled_more}
+use Rattle.mk_laws.proofs.OrderlyLists.{at_first}
+use Rattle.mk_laws.specs.Images.{shown, CarriesOwn, ProbedOwn}
+use Rattle.mk_laws.specs.SafeSets.{IsSafe, HasSafeSet}
+use Rattle.mk_laws.specs.ImagePremises.{ImagePremises}
+use Rattle.mk_laws.specs.Mirrors.{Mirrors}
+use Rattle.mk_laws.specs.Laws.{ImagePremisesAlong, HistoriesRefineNever, HistoriesMirrorNever, ReachedIsUnreleased}
+use Rattle.mk_laws.specs.Laws.{HistoriesTellOthers}
+use Rattle.mk_laws.proofs.KnownWorlds.{KnownWorld, known_world}
+use Rattle.mk_laws.proofs.Pairs.{bare_carries}
+use Rattle.mk_laws.proofs.ImagesOneEvent.{Follows, one_event}
+use Rattle.mk_laws.proofs.Saying.{images_say}
+use Rattle.mk_laws.proofs.Bases.{IsLonger}
+use Rattle.mk_laws.proofs.FreedRuns.{never_after}
+
+-- what events leave and decide, from a world on
+record FollowsAll (c : Config) (w : World) (n : NeverState) (es : List Event) : Type 0 where
+  pub mirrors : Mirrors c (left_from c w es) (after_calls n (asked (calls_from c w es)))
+  pub bases : IsLonger (bases_of w.allocations) (bases_of (left_from c w es).allocations)
+  pub right : answered (calls_from c w es)
+      ≡ answers_of (bases_of (left_from c w es).allocations) (replies_of n (asked (calls_from c w es)))
+
+abbrev call_of : Decided → Call
+call_of x = record { caller = x.caller; op = x.op }
+
+abbrev answer_in : Decided → Answer
+answer_in x = x.answer
+
+joined_right : (bs : List ℕ) (n : NeverState) (xs ys : List Decided)
+    → answered xs ≡ answers_of bs (replies_of n (asked xs))
+    → answered ys ≡ answers_of bs (replies_of (after_calls n (asked xs)) (asked ys))
+    → answered (xs ++ ys) ≡ answers_of bs (replies_of n (asked (xs ++ ys)))
+joined_right bs n xs ys hx hy =
+    map-append answer_in xs ys ∙ rw hx (rw hy (sym (map-append (answer_of bs) _ _)
+    ∙ ap (answers_of bs) (sym (replies_append n (asked xs) (asked ys))
+    ∙ ap (replies_of n) (sym (map-append call_of xs ys)))))
+
+-- The list is in two parts: the events that are done, and those that come.
+follows_from : (c : Config) (whole done es : List Event) (w : World) (n : NeverState) → IsWithinLimits c
+    → w ≡ left c done → AreEnabled c done → AreEnabledFrom c w es
+    → done ++ es ≡ whole → ImagePremisesAlong c whole → Mirrors c w n
+    → AreAdmitted c.globals n (asked (calls_from c w es))
+    → FollowsAll c w n es
+unfolding left_from AreEnabledFrom calls_from
+follows_from c whole done [] w n limits is was on e others mirrors ad =
+    record { mirrors = mirrors; bases = record { more = []; is = sym (append-nil _) }; right = refl }
+follows_from c whole done (x ∷ es) w n limits is was on e others mirrors ad =
+    let xs = call_decided c w.now x in
+    let v = world_behind c w x in
+    let ys = calls_from c v es in
+    let split : asked (xs ++ ys) ≡ asked xs ++ asked ys = map-append call_of xs ys in
+    let admitted = admitted_split c.globals n (asked xs) (asked ys) (rw split at ad) in
+    let known : KnownWorld c w = rw is (known_world c done limits was) in
+    let here : ImagePremises c w = rw is (others done (x ∷ es) e) in
+    let one : Follows c w n x = one_event c w n x known here mirrors on.0 admitted.0 in
+    let behind : v ≡ left c (done ++ x ∷ []) = rw is (sym (left_more c (first_world c) done x)) in
+    let enabled : AreEnabled c (done ++ x ∷ []) = enabled_more c (first_world c) done x was (rw is at on.0) in
+    let rest : FollowsAll c v (never_after c w n x) es =
+    follows_from c whole (done ++ x ∷ []) es v (never_after c w n x) limits behind enabled on.1
+    (append_assoc done (x ∷ []) es ∙ e) others one.mirrors admitted.1 in
+    let after : after_calls n (asked (xs ++ ys)) ≡ after_calls (never_after c w n x) (asked ys) =
+    ap (after_calls n) split ∙ after_append n (asked xs) (asked ys) in
+    record {
+      mirrors = rw after rest.mirrors;
+      bases = record {
+        more = one.bases.more ++ rest.bases.more;
+        is = rest.bases.is ∙ rw one.bases.is (append_assoc _ one.bases.more rest.bases.more);
+      };
+      right = joined_right _ n xs ys (rw rest.bases.is (one.right rest.bases.more)) rest.right;
+    }
+
+-- the first world
+first_safe : (c : Config) → HasSafeSet [] (never_first c)
+first_safe c = (
+  λ a. false,
+  record {
+    registers = λ k. rw (at_first (8 * c.callers) k Null) tt;
+    globals = λ g. rw (at_first 64 g Null) tt;
+    closed = λ a i s m. cc;
+    unreleased = λ a s. cc;
+  },
+)
+
+pub first_mirrors : (c : Config) → Mirrors c (first_world c) (never_first c)
+first_mirrors c =
+    record {
+      types = refl;
+      register_count = length-replicate (8 * c.callers) Null;
+      global_count = refl;
+      typed = start_is_typed c.globals c.types c.callers;
+      twins = record { count = refl; ty = λ a lt. absurd (omega arith); freed = λ a lt. absurd (omega arith) };
+      images = record {
+        registers = λ k. rw (at_first c.callers (k / 8) at_rest)
+            (at_first 128 k 0 ∙ sym (ap (image_of []) (at_first (8 * c.callers) k Null)));
+        globals = λ g. at_first 64 g 0 ∙ sym (ap (image_of []) (at_first 64 g Null));
+        heap = λ a i u m lt. absurd (omega arith);
+        carried = λ j. rw (at_first c.callers j at_rest) (bare_carries [] at_rest _ _ _ refl);
+        probed = λ j. rw (at_first c.callers j at_rest) (λ past. cc);
+      };
+      freed_run = λ run e. cc;
+      safe = first_safe c;
+    }
+
+all_follow : (c : Config) (es : List Event) → IsHistory c es → ImagePremisesAlong c es
+    → FollowsAll c (first_world c) (never_first c) es
+unfolding left_from AreEnabledFrom
+all_follow c es h others =
+    follows_from c es [] es (first_world c) (never_first c) h.within_limits refl tt h.enabled refl others
+    (first_mirrors c) h.admitted
+
+pub histories_refine : HistoriesRefineNever
+histories_refine c es h others = (all_follow c es h others).right
+
+pub histories_mirror : HistoriesMirrorNever
+histories_mirror c es h others = (all_follow c es h others).mirrors
+
+-- The premises hold along each front.
+pub say_along : (c : Config) (front rest : List Event) → ImagePremisesAlong c (front ++ rest)
+    → ImagePremisesAlong c front
+say_along c front rest others xs ys e = others xs (ys ++ rest) (sym (append_assoc xs ys rest) ∙ rw e)
+
+-- A list is the last of its own fronts.
+others_behind : (c : Config) (es : List Event) → ImagePremisesAlong c es → ImagePremises c (left c es)
+others_behind c es others = others es [] (append-nil es)
+
+pub histories_tell : HistoriesTellOthers
+histories_tell c es h others =
+    images_say c (left c es) (never_behind c es) (known_world c es h.within_limits h.enabled)
+    (others_behind c es others) (histories_mirror c es h others)
+
+-- What is reached is in a safe set.
+safe_leads : (safe : ℕ → Bool) (v : Value) (number : ℕ) → IsSafe safe v → LeadsTo v number → safe number ≡ true
+safe_leads safe (Ptr a t o) number is leads = ap safe (sym leads) ∙ is
+safe_leads safe _ number is leads = absurd leads
+
+pub reached_is_unreleased : ReachedIsUnreleased
+reached_is_unreleased c es h others number reached =
+    let set = (histories_mirror c es h others).safe in
+    set.1.unreleased number
+    (reached_is_in (never_behind c es) (λ a. set.0 a ≡ true)
+    record {
+      registers = λ r a leads. safe_leads set.0 _ a (set.1.registers r) leads;
+      globals = λ g a leads. safe_leads set.0 _ a (set.1.globals g) leads;
+      words = λ from place a is leads. safe_leads set.0 _ a (set.1.closed from place is leads.0) leads.1;
+    }
+    number reached)

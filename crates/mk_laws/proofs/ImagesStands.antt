@@ -1,0 +1,140 @@
+-- What stands where, as lookups show it.
+use Rattle.std.proofs.Common.{◌≡◌, ◌≢◌, ℕ, ◌+◌, ◌*◌, ◌/◌, ◌<◌, ◌≤◌, Bool, true, false, List, sym, ap, subst, ◌∙◌, inl}
+use Rattle.std.proofs.Common.{inr, arith}
+use Rattle.std.specs.Prelude.{◌&&◌, ◌==◌, not, Option, Some, None}
+use Rattle.std.proofs.lemmas.Bool.{cases_Bool, and_parts, and_from, eqb-true, eq-eqb, not-true, true≢false}
+use Rattle.mk_laws.proofs.Vocabulary.{BeginsAtCell, Config, IsSized, IsWithinLimits, PlacedAllocation, RunPages}
+use Rattle.mk_laws.proofs.Vocabulary.{Words, World, address_of, cell_of_allocation, first_word, header_at}
+use Rattle.mk_laws.proofs.Vocabulary.{header_in, header_of, heads_run, is_large, is_mapped, is_run_gone}
+use Rattle.mk_laws.proofs.Vocabulary.{is_run_unmapped, is_small_object, is_unmapped_header, kinds_of, object_placed}
+use Rattle.mk_laws.proofs.Vocabulary.{pages_made, placed_at, pointed_cell, stands, storage_words, unmapped_header}
+use Rattle.mk_laws.proofs.Vocabulary.{words_are_zero}
+use Rattle.mk_core.proofs.AllBelow.{all_below-at}
+use Rattle.mk_core.proofs.Sizes.{large_is_not_small, small_pages, large_words, large_count}
+use Rattle.mk_core.proofs.ObjectHeaders.{part_heads_run, made_is_mapped, unmapped_is_unmapped}
+use Rattle.mk_core.proofs.StandingAllocations.{typed_size, cell_ends_within, run_begins, first_page_shows, cells_begin}
+use Rattle.mk_core.proofs.PointedAllocations.{word_points}
+use Rattle.mk_laws.specs.ImagePremises.{run_of_allocation, IsLaidOut, ImagePremises}
+
+-- A large allocation that was freed is unmapped.
+abbrev pub is_gone : Config → PlacedAllocation → Bool
+is_gone c a = a.freed && is_large (kinds_of c.types a.ty)
+
+-- of the unreleased allocations
+pub record Stands (c : Config) (w : Words) (xs : List PlacedAllocation) : Type 0 where
+  pub cell : (a i : ℕ) → (placed_at xs a).released ≡ false → i < storage_words c (placed_at xs a)
+      → pointed_cell c.pages w.pages (address_of ((placed_at xs a).base + i))
+      ≡ Some (cell_of_allocation c (placed_at xs a))
+  pub first : (a : ℕ) → (placed_at xs a).released ≡ false
+      → first_word w (cell_of_allocation c (placed_at xs a)) ≡ (placed_at xs a).base
+  pub inside : (a : ℕ) → (placed_at xs a).released ≡ false
+      → (placed_at xs a).base + storage_words c (placed_at xs a) ≤ 64 * c.pages
+  pub apart : (a b : ℕ) → (placed_at xs a).released ≡ false → (placed_at xs b).released ≡ false → a ≢ b
+      → (placed_at xs a).base ≢ (placed_at xs b).base
+  pub mapped : (a i : ℕ) → (placed_at xs a).released ≡ false → is_gone c (placed_at xs a) ≡ false
+      → i < storage_words c (placed_at xs a)
+      → is_unmapped_header (header_in w (((placed_at xs a).base + i) / 64)) ≡ false
+  pub run : (a : ℕ) → (placed_at xs a).released ≡ false → is_large (kinds_of c.types (placed_at xs a).ty) ≡ true
+      → heads_run (header_in w ((placed_at xs a).base / 64)) ≡ true
+
+-- how far after its first page a word of an allocation lies
+pub record PageOfWord (c : Config) (a : PlacedAllocation) (i : ℕ) : Type 0 where
+  pub distance : ℕ
+  pub page : (a.base + i) / 64 ≡ a.base / 64 + distance
+  pub near : distance < pages_made (object_placed c a)
+
+pub page_of_word : (c : Config) (a : PlacedAllocation) (i : ℕ) → IsSized (object_placed c a)
+    → BeginsAtCell (object_placed c a) a.base → i < storage_words c a
+    → PageOfWord c a i
+page_of_word c a i sized b lt = elim (cases_Bool (is_small_object (object_placed c a))) [
+  | inl small ↦
+      let one = small_pages (object_placed c a) small in
+      let ends = cell_ends_within (object_placed c a) a.base sized small b in
+      let first = b.first in
+      record { distance = 0; page = omega arith; near = omega arith }
+  | inr large ↦
+      let words = large_words (object_placed c a) large in
+      let first = (run_begins (object_placed c a) a.base large b).1 in
+      record { distance = i / 64; page = omega arith; near = omega arith }
+]
+
+mapped_is : (c : Config) (a : PlacedAllocation) → a.released ≡ false → is_mapped c a ≡ not (is_gone c a)
+mapped_is c a unreleased = rw unreleased
+
+pub large_object : (c : Config) (a : PlacedAllocation) → is_large (kinds_of c.types a.ty) ≡ true
+    → is_small_object (object_placed c a) ≡ false
+large_object c a large = not-true _ (sym (large_is_not_small _) ∙ large)
+
+pub stands_of : (c : Config) (w : World) → IsWithinLimits c → ImagePremises c w → Stands c w.now.words w.allocations
+stands_of c w limits others =
+    record {
+      cell = λ a i u lt.
+          let h = others.laid_out a u in word_points c w.now.words (placed_at w.allocations a) limits h.stands h.headers
+          ((placed_at w.allocations a).base + i) (omega arith, omega arith);
+      first = λ a u. let h =
+          others.laid_out a u in (cells_begin c w.now.words (placed_at w.allocations a) limits h.stands h.headers).0;
+      inside = λ a u. (others.laid_out a u).stands.within;
+      apart = others.apart;
+      mapped = λ a i u un lt.
+          let h = others.laid_out a u in
+          let sized = typed_size c (placed_at w.allocations a) limits h.stands.typed in
+          let at = page_of_word c (placed_at w.allocations a) i sized h.stands.begins lt in
+          ap (λ p. is_unmapped_header (header_in w.now.words p)) at.page
+          ∙ ap (λ x. is_unmapped_header (header_of x))
+          (h.mapped (mapped_is c (placed_at w.allocations a) u ∙ ap not un) at.distance at.near)
+          ∙ made_is_mapped (object_placed c (placed_at w.allocations a)) at.distance sized at.near;
+      run = λ a u large.
+          let h = others.laid_out a u in
+          part_heads_run (object_placed c (placed_at w.allocations a)) _
+          (first_page_shows c w.now.words (placed_at w.allocations a)
+          (typed_size c (placed_at w.allocations a) limits h.stands.typed) h.headers)
+          (large_object c (placed_at w.allocations a) large);
+    }
+
+-- A run that is gone shows on its pages that it is unmapped.
+
+abbrev page_in : Option RunPages → ℕ
+page_in (Some run) = run.page
+page_in None = 0
+
+abbrev count_in : Option RunPages → ℕ
+count_in (Some run) = run.count
+count_in None = 0
+
+other_run : (r s : RunPages) → ((r.page == s.page) && (r.count == s.count)) ≡ false → Some r ≢ Some s
+other_run r s e is =
+    true≢false
+    (sym (and_from (r.page == s.page) (r.count == s.count) (eq-eqb r.page s.page (ap page_in is))
+    (eq-eqb r.count s.count (ap count_in is))) ∙ e)
+
+gone_headers : (c : Config) (w : Words) (freed : Option RunPages) (a : PlacedAllocation) → IsLaidOut c w freed a
+    → is_mapped c a ≡ false → is_run_gone w freed ≡ true
+    → (distance : ℕ) → distance < pages_made (object_placed c a)
+    → header_at w (a.base / 64 + distance) ≡ unmapped_header (pages_made (object_placed c a)) distance
+gone_headers c w None a h un gone distance near = h.unmapped un (λ e. cc) distance near
+gone_headers c w (Some run) a h un gone distance near =
+    elim (cases_Bool ((run.page == a.base / 64) && (run.count == pages_made (object_placed c a)))) [
+      | inr e ↦ h.unmapped un (other_run run (run_of_allocation c a) e) distance near
+      | inl e ↦
+          let same = and_parts _ _ e in
+          let page = eqb-true run.page (a.base / 64) same.0 in
+          let count = eqb-true run.count (pages_made (object_placed c a)) same.1 in
+          let all = (and_parts _ _ gone).0 in
+          rw page at (rw count at (eqb-true _ _ (all_below-at run.count distance _ all (omega arith))))
+    ]
+
+pub gone_shows : (c : Config) (w : World) → IsWithinLimits c → ImagePremises c w
+    → is_run_gone w.now.words w.now.seats.holding.freed ≡ true
+    → (a i : ℕ) → (placed_at w.allocations a).released ≡ false → is_gone c (placed_at w.allocations a) ≡ true
+    → i < storage_words c (placed_at w.allocations a)
+    → is_unmapped_header (header_in w.now.words (((placed_at w.allocations a).base + i) / 64)) ≡ true
+gone_shows c w limits others gone a i u un lt =
+    let x = placed_at w.allocations a in
+    let h = others.laid_out a u in
+    let sized = typed_size c x limits h.stands.typed in
+    let at = page_of_word c x i sized h.stands.begins lt in
+    let large = large_object c x (and_parts x.freed (is_large (kinds_of c.types x.ty)) un).1 in
+    rw at.page
+    (rw (gone_headers c w.now.words w.now.seats.holding.freed x h (mapped_is c x u ∙ ap not un) gone
+    at.distance at.near)
+    (unmapped_is_unmapped _ at.distance (large_count (object_placed c x) sized large) at.near))

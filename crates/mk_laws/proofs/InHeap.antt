@@ -1,0 +1,85 @@
+-- Runs, places and scans lie in the heap, after every enabled list.
+use Rattle.std.proofs.Common.{◌≡◌, ℕ, ◌<◌, true, List, [], ◌∷◌, refl, sym, subst}
+use Rattle.std.specs.Prelude.{nat_lt}
+use Rattle.std.proofs.lemmas.Bool.{ltb-true, and_parts}
+use Rattle.mk_laws.proofs.Vocabulary.{AreEnabled, AreEnabledFrom, AreOfPages, Caller, Config, Event, Host}
+use Rattle.mk_laws.proofs.Vocabulary.{IsWithinLimits, Marker, MarkerState, Moment, Page, Seat, Step, World, access}
+use Rattle.mk_laws.proofs.Vocabulary.{first_moment, first_world, flight_of, found, free_page, is_in_range, left}
+use Rattle.mk_laws.proofs.Vocabulary.{left_from, marker_behind, marker_of, outside, word_accessed, world_behind}
+use Rattle.mk_core.specs.declared.events.Step.TheVariants as step
+use Rattle.mk_core.specs.declared.events.Word.TheVariants as word
+use Rattle.mk_core.proofs.Conditions.{enabled_meets}
+use Rattle.mk_core.proofs.Lengths.{zero_lengths, accessed_lengths}
+use Rattle.mk_laws.proofs.ProtocolMarkers.{marker_set}
+use Rattle.mk_laws.proofs.Actors.{Meets}
+use Rattle.mk_laws.proofs.OrderlyLists.{at_first}
+use Rattle.mk_laws.proofs.Known.{Known, known_behind, known_at_first}
+use Rattle.mk_laws.proofs.OthersMoves.{WorldBehind}
+use Rattle.mk_laws.specs.Ground.{ground_of}
+use Rattle.mk_laws.proofs.Ground.{ground_step}
+use Rattle.mk_laws.proofs.NewPlace.{PlacesFit, place_fits_now, places_behind}
+use Rattle.mk_laws.proofs.RunsInHeap.{RunFits, RunsFit, runs_behind}
+use Rattle.mk_laws.proofs.ScansInHeap.{MarkerFits, nothing_fits, marker_fits_behind}
+
+pub record InHeap (c : Config) (m : Moment) : Type 0 where
+  pub lengths : AreOfPages c.pages m.words
+  pub runs : RunsFit c m.words.pages
+  pub places : PlacesFit c m
+  pub markers : (k : ℕ) → MarkerFits c (marker_of m k)
+
+own_fits : (c : Config) (m : Moment) (k : ℕ) (x : Step) → Meets c m (Marker k) x → InHeap c m
+    → MarkerFits c (marker_behind c (found c m (record { seat = Marker k; step = x })) x (marker_of m k))
+own_fits c m k x h in_heap =
+    marker_fits_behind c (found c m (record { seat = Marker k; step = x })) x (marker_of m k) (looked x)
+    (claimed x h.range) h.marker (in_heap.markers k)
+  where
+    looked : (x : Step) (p : ℕ) → x ≡ step.Mlook (word.Head p)
+        → RunFits c p (found c m (record { seat = Marker k; step = x }))
+    looked x p e = rw e (in_heap.runs p)
+
+    claimed : (x : Step) → is_in_range c (Marker k) (flight_of m (Marker k)) x ≡ true → (p i : ℕ) → x ≡ step.Claim p i
+        → p < c.pages
+    claimed x range p i e =
+        let r = rw e at range in
+        ltb-true p c.pages (and_parts (nat_lt p c.pages) (nat_lt i 32) r).0
+
+markers_fit : (c : Config) (w : World) (seat : Seat) (x : Step) → InHeap c w.now → Meets c w.now seat x → (k : ℕ)
+    → MarkerFits c (marker_of (WorldBehind c w seat x).now k)
+markers_fit c w (Marker j) x in_heap h k =
+    marker_set w.now.seats.markers j k _ (λ (y : MarkerState). MarkerFits c y) (λ lt. own_fits c w.now j x h in_heap)
+    (in_heap.markers k)
+markers_fit c w _ x in_heap h k = in_heap.markers k
+
+in_heap_behind : (c : Config) (w : World) (seat : Seat) (x : Step) → Known c w.now → InHeap c w.now
+    → Meets c w.now seat x → InHeap c (WorldBehind c w seat x).now
+in_heap_behind c w seat x known in_heap h =
+    let e : Event = record { seat = seat; step = x } in
+    record {
+      lengths = accessed_lengths c.pages w.now.words (word_accessed c w.now e) (access c w.now e) in_heap.lengths;
+      runs =
+          runs_behind c w (flight_of w.now seat) (ground_of (WorldBehind c w seat x))
+          (λ place now. place_fits_now c w.now seat x place in_heap.lengths.pages in_heap.places h now) in_heap.runs
+          (ground_step c w seat x h);
+      places = places_behind c w seat x known in_heap.lengths.pages in_heap.places h;
+      markers = markers_fit c w seat x in_heap h;
+    }
+
+in_heap_from : (c : Config) (w : World) (es : List Event) → Known c w.now → InHeap c w.now → AreEnabledFrom c w es
+    → InHeap c (left_from c w es).now
+unfolding left_from AreEnabledFrom
+in_heap_from c w [] known in_heap on = in_heap
+in_heap_from c w (e ∷ es) known in_heap on =
+    in_heap_from c (world_behind c w e) es (known_behind c w.now e known on.0)
+    (in_heap_behind c w e.seat e.step known in_heap (enabled_meets c w.now e on.0)) on.1
+
+in_heap_at_first : (c : Config) → InHeap c (first_moment c)
+in_heap_at_first c =
+    record {
+      lengths = zero_lengths c.pages;
+      runs = λ p. rw (at_first c.pages p free_page) (λ count shows. cc);
+      places = λ k lt new place held. cc;
+      markers = λ k. rw (at_first 8 k outside) (nothing_fits c outside refl refl);
+    }
+
+pub in_heap_left : (c : Config) (es : List Event) → IsWithinLimits c → AreEnabled c es → InHeap c (left c es).now
+in_heap_left c es limits on = in_heap_from c (first_world c) es (known_at_first c limits) (in_heap_at_first c) on

@@ -1,0 +1,52 @@
+-- The invariant over all histories.
+use Rattle.std.proofs.lemmas.Bool.{true≢false}
+use Rattle.std.proofs.Common.{List, append-nil, ap, subst, sym, ◌++◌, ◌∙◌, ◌∷◌, ◌≡◌, []}
+use Rattle.mk_laws.proofs.Vocabulary.{AreAdmitted, AreEnabledFrom, Call, Decided, NeverState, World, after_calls}
+use Rattle.mk_laws.proofs.Vocabulary.{asked, call_decided, calls_from, left, left_from, never_behind, world_behind}
+use Rattle.mk_core.proofs.HistoryParts.{admitted_in_parts, earlier_part_is_history, enabled_in_parts, left_in_parts}
+use Rattle.mk_core.proofs.HistoryParts.{never_in_parts}
+use Rattle.mk_laws.proofs.LayoutHistories.{in_order_at_first}
+use Rattle.mk_laws.proofs.FreedRuns.{never_after}
+use Rattle.mk_laws.proofs.ImagesHistories.{first_mirrors}
+use Rattle.mk_laws.proofs.KnownWorlds.{known_world}
+use Rattle.mk_laws.proofs.GuardHistories.{marks_at_first}
+use Rattle.mk_laws.proofs.ZerosHistories.{zeros_at_first}
+use Rattle.mk_laws.specs.Invariant.{Invariant}
+use Rattle.mk_laws.specs.Theorems.{EventsKeepTheInvariant, InvariantAtFirst, KeepsTheInvariant, OfHistories}
+use Rattle.mk_laws.proofs.InvariantJoined.{invariant_behind}
+use Rattle.mk_laws.proofs.Induction.{holds_of_histories}
+
+pub invariant_at_first : InvariantAtFirst
+invariant_at_first c =
+    record {
+      order = in_order_at_first c;
+      zeros = zeros_at_first c;
+      run_gates = λ off. absurd (true≢false off);
+      mirrors = first_mirrors c;
+      marks = marks_at_first c;
+    }
+
+-- One event of a history, in the words of the list.
+pub events_keep_the_invariant : EventsKeepTheInvariant
+unfolding left_from AreEnabledFrom calls_from
+events_keep_the_invariant c es e h all =
+    let before = earlier_part_is_history c es (e ∷ []) h in
+    let w : World = left c es in
+    let n : NeverState = never_behind c es in
+    let xs : List Decided = call_decided c w.now e ++ [] in
+    let one : asked xs ≡ asked (call_decided c w.now e) =
+    ap (λ (ys : List Decided). asked ys) (append-nil (call_decided c w.now e)) in
+    let on = ((enabled_in_parts c es (e ∷ [])).0 h.enabled).1.0 in
+    let admitted : AreAdmitted c.globals n (asked (call_decided c w.now e)) =
+    subst (λ (ys : List Call). AreAdmitted c.globals n ys) one ((admitted_in_parts c es (e ∷ [])).0 h.admitted).1 in
+    let behind = invariant_behind c w n e (known_world c es before.within_limits before.enabled) all on admitted in
+    let never : never_behind c (es ++ e ∷ []) ≡ never_after c w n e = never_in_parts c es (e ∷ [])
+    ∙ ap (λ (ys : List Call). after_calls n ys) one in
+    subst (λ (v : World). Invariant c v (never_behind c (es ++ e ∷ []))) (sym (left_in_parts c es (e ∷ [])))
+    (subst (λ (m : NeverState). Invariant c (world_behind c w e) m) (sym never) behind)
+
+pub histories_keep_the_invariant : OfHistories KeepsTheInvariant
+unfolding left_from calls_from
+histories_keep_the_invariant =
+    holds_of_histories KeepsTheInvariant (λ c. invariant_at_first c)
+    (λ c es e h all. events_keep_the_invariant c es e h all)

@@ -1,0 +1,62 @@
+-- The groups joined: what each is told in one world, and one event.
+use Rattle.std.proofs.lemmas.Bool.{eqb-true}
+use Rattle.mk_laws.proofs.Vocabulary.{AreAdmitted, Config, Event, IsEnabled, NeverState, World, asked, call_decided}
+use Rattle.mk_laws.proofs.Vocabulary.{phase_of, world_behind}
+use Rattle.mk_core.proofs.Conditions.{enabled_meets}
+use Rattle.mk_laws.specs.LayoutLaws.{LayoutPremises}
+use Rattle.mk_laws.proofs.LayoutHistories.{order_behind}
+use Rattle.mk_laws.specs.ImagesSay.{ImagesSay}
+use Rattle.mk_laws.specs.ImagePremises as images
+use Rattle.mk_laws.proofs.FreedRuns.{never_after}
+use Rattle.mk_laws.proofs.KnownWorlds.{KnownWorld}
+use Rattle.mk_laws.proofs.ImagesOneEvent.{one_event}
+use Rattle.mk_laws.proofs.Saying.{images_say}
+use Rattle.mk_laws.specs.Kept as guard
+use Rattle.mk_laws.proofs.GuardHistories.{stopped_marks_are_closed}
+use Rattle.mk_laws.proofs.GuardOneEvent.{marks_behind}
+use Rattle.mk_laws.specs.ZeroLaws as zeros
+use Rattle.mk_laws.proofs.ZerosHistories.{zeros_behind}
+use Rattle.mk_laws.specs.Invariant.{Invariant}
+use Rattle.mk_laws.proofs.RunGates.{run_gates_behind}
+use Rattle.mk_laws.proofs.TellGuard.{guard_in}
+use Rattle.mk_laws.proofs.TellImages.{images_tell_the_zeros}
+use Rattle.mk_laws.proofs.ForImages.{say_to_images}
+
+module _ (c : Config) (w : World) (n : NeverState) (known : KnownWorld c w) (all : Invariant c w n) where
+  pub told_to_guard : guard.GuardPremises c w
+  told_to_guard = guard_in c w known all.order.laid all.zeros
+
+  pub told_to_images : images.ImagePremises c w
+  told_to_images = say_to_images c w known all.order.laid all.order.quarantined all.zeros all.run_gates
+      (stopped_marks_are_closed c w known.limits told_to_guard all.marks)
+
+  told_by_images : ImagesSay c w n
+  told_by_images = images_say c w n known told_to_images all.mirrors
+
+  pub told_to_layout : LayoutPremises c w
+  told_to_layout =
+      record {
+        target = λ seat cell is. let x =
+            told_by_images.target seat cell is in record { number = x.number; unreleased = x.unreleased; is = x.cell };
+        marked = λ three run is. told_by_images.marked (eqb-true (phase_of w.now.words) 3 three) run is;
+      }
+
+  pub told_to_zeros : (e : Event) → IsEnabled c w.now e → AreAdmitted c.globals n (asked (call_decided c w.now e))
+      → zeros.ZeroPremises c w e
+  told_to_zeros e on admitted = images_tell_the_zeros c w n e all.order.laid told_by_images on admitted
+
+-- One event, whatever it is.
+pub invariant_behind : (c : Config) (w : World) (n : NeverState) (e : Event) → KnownWorld c w → Invariant c w n
+    → IsEnabled c w.now e
+    → AreAdmitted c.globals n (asked (call_decided c w.now e)) → Invariant c (world_behind c w e) (never_after c w n e)
+invariant_behind c w n e known all on admitted =
+    record {
+      order = order_behind c w e known.limits known.lengths known.now on (told_to_layout c w n known all) all.order;
+      zeros = zeros_behind c w e known.limits known.lengths known.now on (told_to_zeros c w n known all e on admitted)
+          all.zeros;
+      run_gates = run_gates_behind c w known all.order.laid all.run_gates e.seat e.step (enabled_meets c w.now e on)
+          (told_to_zeros c w n known all e on admitted).stored;
+      mirrors = (one_event c w n e known (told_to_images c w n known all) all.mirrors on admitted).mirrors;
+      marks = marks_behind c w e.seat e.step known.limits known.now known.lengths (told_to_guard c w n known all)
+          (enabled_meets c w.now e on) all.marks;
+    }

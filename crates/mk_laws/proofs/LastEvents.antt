@@ -1,0 +1,56 @@
+-- What is known of the last event of a history, and of what it leaves.
+use Rattle.std.proofs.Common.{List, append-nil, ap, subst, sym, ◌++◌, ◌∙◌, ◌∷◌, ◌≡◌, []}
+use Rattle.mk_laws.proofs.Vocabulary.{AreAdmitted, AreEnabledFrom, Call, Config, Decided, Event, IsEnabled}
+use Rattle.mk_laws.proofs.Vocabulary.{IsHistory, MeetsAll, after_calls, asked, call_decided, calls_from, left}
+use Rattle.mk_laws.proofs.Vocabulary.{left_from, never_behind, world_behind}
+use Rattle.mk_core.proofs.Conditions.{enabled_meets}
+use Rattle.mk_core.proofs.HistoryParts.{admitted_in_parts, earlier_part_is_history, enabled_in_parts, left_in_parts}
+use Rattle.mk_core.proofs.HistoryParts.{never_in_parts}
+use Rattle.mk_laws.proofs.FreedRuns.{never_after}
+use Rattle.mk_laws.proofs.KnownWorlds.{KnownWorld, known_world}
+use Rattle.mk_laws.specs.Invariant.{Invariant}
+use Rattle.mk_laws.proofs.InvariantHistories.{histories_keep_the_invariant}
+
+-- A history with what is known of its world.
+pub record Stands (c : Config) (es : List Event) : Type 0 where
+  pub known : KnownWorld c (left c es)
+  pub all : Invariant c (left c es) (never_behind c es)
+
+pub stands : (c : Config) (es : List Event) → IsHistory c es → Stands c es
+stands c es h = record { known = known_world c es h.within_limits h.enabled; all = histories_keep_the_invariant c es h }
+
+pub record ComesLast (c : Config) (es : List Event) (e : Event) : Type 0 where
+  pub before : IsHistory c es
+  pub on : IsEnabled c (left c es).now e
+  pub meets : MeetsAll c (left c es).now e
+  pub admitted : AreAdmitted c.globals (never_behind c es) (asked (call_decided c (left c es).now e))
+  pub leaves : left c (es ++ e ∷ []) ≡ world_behind c (left c es) e
+  pub never : never_behind c (es ++ e ∷ []) ≡ never_after c (left c es) (never_behind c es) e
+
+pub comes_last : (c : Config) (es : List Event) (e : Event) → IsHistory c (es ++ e ∷ []) → ComesLast c es e
+unfolding left_from AreEnabledFrom calls_from
+comes_last c es e h =
+    let xs : List Decided = call_decided c (left c es).now e ++ [] in
+    let one : asked xs ≡ asked (call_decided c (left c es).now e) = rw (append-nil _) in
+    let on = ((enabled_in_parts c es (e ∷ [])).0 h.enabled).1.0 in
+    record {
+      before = earlier_part_is_history c es (e ∷ []) h;
+      on = on;
+      meets = enabled_meets c (left c es).now e on;
+      admitted = rw one at ((admitted_in_parts c es (e ∷ [])).0 h.admitted).1;
+      leaves = left_in_parts c es (e ∷ []);
+      never = never_in_parts c es (e ∷ []) ∙ rw one;
+    }
+
+-- And the other way: a history goes on by an event that is enabled and admitted.
+pub goes_on_by : (c : Config) (es : List Event) (e : Event) → IsHistory c es → IsEnabled c (left c es).now e
+    → AreAdmitted c.globals (never_behind c es) (asked (call_decided c (left c es).now e)) → IsHistory c (es ++ e ∷ [])
+unfolding left_from AreEnabledFrom calls_from
+goes_on_by c es e h on admitted =
+    let one : asked (call_decided c (left c es).now e ++ []) ≡ asked (call_decided c (left c es).now e) =
+    rw (append-nil _) in
+    record {
+      within_limits = h.within_limits;
+      enabled = (enabled_in_parts c es (e ∷ [])).1 (h.enabled, (on, tt));
+      admitted = (admitted_in_parts c es (e ∷ [])).1 (h.admitted, rw one admitted);
+    }

@@ -1,0 +1,55 @@
+-- What is known of a world before an event, and what is to show after it.
+use Rattle.std.proofs.Common.{Bool, arith, false, length, true, ℕ, ◌<◌, ◌≡◌}
+use Rattle.std.specs.Prelude.{nat_lt}
+use Rattle.std.proofs.lemmas.Bool.{ltb-true}
+use Rattle.mk_laws.proofs.Vocabulary.{AreOfPages, Config, Flight, IsWithinLimits, Seat, Step, World, caller_number}
+use Rattle.mk_laws.proofs.Vocabulary.{flight_of, is_phase, reg_access, register_met}
+use Rattle.mk_core.specs.declared.events.Step.TheVariants as step
+use Rattle.mk_laws.proofs.Ground.{KeepsGround, reg_ground}
+use Rattle.mk_laws.proofs.Known.{Known}
+use Rattle.mk_laws.proofs.OthersMoves.{WorldBehind}
+use Rattle.mk_laws.proofs.SameWords.{reg_keeps, Keeps}
+use Rattle.mk_laws.specs.LayoutLaws.{LayoutPremises}
+use Rattle.mk_laws.specs.LayoutScene.{Among, Claim, is_released_in}
+use Rattle.mk_laws.specs.Ground.{Ground, ground_of}
+use Rattle.mk_laws.specs.Terrain.{claims_on, object_now}
+use Rattle.mk_laws.proofs.Serving.{Laid}
+
+-- all that is known of the world before
+pub record Before (c : Config) (w : World) : Type 0 where
+  pub limits : IsWithinLimits c
+  pub lengths : AreOfPages c.pages w.now.words
+  pub known : Known c w.now
+  pub others : LayoutPremises c w
+  -- no claim's cell is released
+  pub unreleased : is_phase w.now.words 4 ≡ true → (x : Claim)
+      → Among x (claims_on c (object_now c w.now) (ground_of w))
+      → is_released_in true w.now.words.snapshot w.now.words.marks x.page x.index ≡ false
+
+-- laid out as at that moment, but for the terrain
+abbrev pub LaidNow : Config → World → Ground → Type 0
+LaidNow c w t = Laid c (object_now c w.now) (is_phase w.now.words 4) w t
+
+-- whether released cells are there after a step
+abbrev pub is_releasing_behind : Step → Bool → Bool
+is_releasing_behind step.Release b = true
+is_releasing_behind step.End b = false
+is_releasing_behind _ b = b
+
+abbrev pub LaidBehind : Config → World → Step → Ground → Type 0
+LaidBehind c w x t = Laid c (object_now c w.now) (is_releasing_behind x (is_phase w.now.words 4)) w t
+
+pub page_within : (c : Config) (w : World) (p : ℕ) → Before c w → nat_lt p c.pages ≡ true → p < length w.now.words.pages
+page_within c w p b h = let lt = ltb-true p c.pages h in let len = b.lengths.pages in omega arith
+
+-- A `reg` leaves the protocol's words, and the ground's.
+pub reg_leaves : (c : Config) (w : World) (seat : Seat) → Keeps w.now.words (WorldBehind c w seat step.Reg).now.words
+reg_leaves c w seat =
+    let f : Flight = flight_of w.now seat in
+    reg_keeps w.now.words (caller_number seat) (register_met f f.stage) (reg_access f f.stage)
+
+pub reg_leaves_ground : (c : Config) (w : World) (seat : Seat)
+    → KeepsGround w.now.words (WorldBehind c w seat step.Reg).now.words
+reg_leaves_ground c w seat =
+    let f : Flight = flight_of w.now seat in
+    reg_ground w.now.words (caller_number seat) (register_met f f.stage) (reg_access f f.stage)

@@ -1,0 +1,99 @@
+-- Who serves: the holder of the turn, its object, and how far it is.
+use Rattle.std.proofs.Common.{arith, false, refl, sym, true, ◌-◌, ◌∙◌, ◌≡◌, ◌≢◌}
+use Rattle.std.specs.Prelude.{None, Option, Some}
+use Rattle.std.proofs.lemmas.Bool.{ltb-true}
+use Rattle.mk_laws.proofs.Vocabulary.{Caller, Config, IsSized, IsWithinLimits, Moment, Object, Op, RunPages, Seat}
+use Rattle.mk_laws.proofs.Vocabulary.{Stage, Step, flight_of, group_of, has_operands, header_made, is_free_at}
+use Rattle.mk_laws.proofs.Vocabulary.{is_undecided_free, is_undecided_new, object_made, seat_exists}
+use Rattle.mk_never.specs.declared.operations.Op.TheVariants as op
+use Rattle.mk_core.specs.declared.events.Group.TheVariants as group
+use Rattle.mk_core.specs.declared.events.Step.TheVariants as step
+use Rattle.mk_core.specs.declared.seats.Stage.TheVariants as stage
+use Rattle.mk_core.proofs.GrantedAllocations.{new_sized}
+use Rattle.mk_core.proofs.ObjectHeaders.{made_shows, part_not_free}
+use Rattle.mk_core.proofs.Sizes.{pages_some}
+use Rattle.mk_laws.specs.Protocol.{has_place, is_decided_free_at}
+use Rattle.mk_laws.proofs.Actors.{Actor, AsHolder, AsMarker, CallTakes, HostTakes, InCallOf, Meets}
+use Rattle.mk_laws.proofs.Known.{Known}
+use Rattle.mk_laws.proofs.NextSteps.{is_take}
+use Rattle.mk_laws.proofs.Orderly.{holders_flight}
+use Rattle.mk_laws.proofs.OrderlyLists.{actor_of}
+use Rattle.mk_laws.proofs.Stages.{new_stands}
+use Rattle.mk_laws.proofs.Standings.{UnderTurn, standing_at}
+use Rattle.mk_laws.proofs.Views.{HoldsTurn, flight_is, view_of}
+use Rattle.mk_laws.specs.Terrain.{object_now}
+
+-- A seat with an undecided New or Free holds the turn.
+free_stands : (s : Stage) (o : Op) → is_free_at s o ≡ true → standing_at s o ≡ UnderTurn
+free_stands stage.Turn (op.Free p) h = refl
+free_stands _ _ h = cc
+
+pub new_has_turn : (c : Config) (m : Moment) (seat : Seat) → seat_exists c seat ≡ true
+    → is_undecided_new (flight_of m seat) ≡ true → HoldsTurn c (view_of m) seat
+new_has_turn c m (Caller k) there u =
+    (ltb-true k c.callers there, new_stands (flight_of m (Caller k)).stage (flight_of m (Caller k)).op u)
+new_has_turn c m _ there u = cc
+
+pub free_has_turn : (c : Config) (m : Moment) (seat : Seat) → seat_exists c seat ≡ true
+    → is_undecided_free (flight_of m seat) ≡ true → HoldsTurn c (view_of m) seat
+free_has_turn c m (Caller k) there u =
+    (ltb-true k c.callers there, free_stands (flight_of m (Caller k)).stage (flight_of m (Caller k)).op u)
+free_has_turn c m _ there u = cc
+
+-- So does a seat whose step is of the turn's kinds, but for `take`.
+holder_of : (c : Config) (m : Moment) (seat : Seat) (x : Step) → Actor c m seat x → is_take x ≡ false
+    → group_of x ≡ group.Turn → HoldsTurn c (view_of m) seat
+holder_of c m seat x (InCallOf k y lt g) t is = cc
+holder_of c m seat x (AsMarker k y lt g) t is = cc
+holder_of c m seat x (CallTakes k o lt idle under) t is = cc
+holder_of c m seat x (HostTakes away) t is = cc
+holder_of c m seat x (AsHolder s y holds n) t is = holds
+
+pub giver_has_turn : (c : Config) (m : Moment) (seat : Seat) → Known c m → Meets c m seat step.Give
+    → HoldsTurn c (view_of m) seat
+giver_has_turn c m seat known h = holder_of c m seat step.Give (actor_of c m seat step.Give known.orderly h) refl refl
+
+-- The call that the turn word names is the seat's.
+pub holding_flight : (c : Config) (m : Moment) (seat : Seat) → Known c m → HoldsTurn c (view_of m) seat
+    → flight_of m (Caller (m.words.turn - 1)) ≡ flight_of m seat
+holding_flight c m seat known t = holders_flight c (view_of m) seat known.orderly t ∙ sym (flight_is m seat)
+
+pub holding_object : (c : Config) (m : Moment) (seat : Seat) → Known c m → HoldsTurn c (view_of m) seat
+    → object_now c m ≡ object_made c (flight_of m seat).op
+holding_object c m seat known t = rw (holding_flight c m seat known t)
+
+-- While it has a run on its way, it has decided a Free, and while it has a place, it hasn't decided its New.
+decided_later : (o : Op) (s : Stage) → s ≡ stage.Turn → is_decided_free_at s o ≡ true → ⊥
+decided_later o stage.Turn at h = cc
+decided_later o _ at h = cc
+
+pub no_run : (c : Config) (m : Moment) (seat : Seat) → Known c m → HoldsTurn c (view_of m) seat
+    → (flight_of m seat).stage ≡ stage.Turn → (run : RunPages) → m.seats.holding.freed ≡ Some run → ⊥
+no_run c m seat known t at run is =
+    let decided = known.orderly.served.freed (rw is) in
+    decided_later (flight_of m seat).op (flight_of m seat).stage at (rw (← (holding_flight c m seat known t)) decided)
+
+pub none_on_its_way : (c : Config) (m : Moment) (seat : Seat) → Known c m → HoldsTurn c (view_of m) seat
+    → (flight_of m seat).stage ≡ stage.Turn → m.seats.holding.freed ≡ None
+none_on_its_way c m seat known t at = by m.seats.holding.freed (no_run c m seat known t at)
+  where
+    by : (x : Option RunPages) → ((run : RunPages) → x ≡ Some run → ⊥) → x ≡ None
+    by None out = refl
+    by (Some run) out = absurd (out run refl)
+
+pub placed_undecided : (c : Config) (m : Moment) (seat : Seat) → Known c m → HoldsTurn c (view_of m) seat
+    → has_place m.seats.holding.placing ≡ true → is_undecided_new (flight_of m seat) ≡ true
+placed_undecided c m seat known t has = rw (← (holding_flight c m seat known t)) (known.orderly.served.placed has)
+
+-- The operands of a seat's call are in range, so a New makes an object of 1 to 4,096 words.
+pub seat_operands : (c : Config) (m : Moment) (seat : Seat) → Known c m → has_operands c (flight_of m seat).op ≡ true
+seat_operands c m (Caller k) known = known.operands k
+seat_operands c m _ known = refl
+
+pub made_sized : (c : Config) (m : Moment) (seat : Seat) → IsWithinLimits c → Known c m
+    → is_undecided_new (flight_of m seat) ≡ true → IsSized (object_made c (flight_of m seat).op)
+made_sized c m seat limits known u = new_sized c (flight_of m seat) limits u (seat_operands c m seat known)
+
+pub first_header : (o : Object) → IsSized o → header_made o 0 ≢ 0
+first_header o sized =
+    part_not_free o 0 (header_made o 0) (made_shows o 0 sized (let some = pages_some o sized in omega arith))

@@ -1,0 +1,65 @@
+-- What a laid out scene says of one page.
+use Rattle.std.proofs.Common.{List, arith, inl, inr, sym, true, ℕ, ◌+◌, ◌<◌, ◌∙◌, ◌∷◌, ◌≡◌, ◌≢◌, []}
+use Rattle.std.proofs.lemmas.Bool.{false_from_ne_true, true≢false}
+use Rattle.mk_laws.proofs.Vocabulary.{IsHeaderOf, Object, Page, ShowsPart, cells_under, has_bit, pages_made}
+use Rattle.mk_core.proofs.ObjectHeaders.{header_shows, part_head, part_not_free}
+use Rattle.mk_core.proofs.WordBits.{no_bit, zero_from_bits}
+use Rattle.mk_laws.specs.LayoutScene.{Among, AreApart, Claim, HasHeader, IsLaidOn, IsOfOneCell, IsShown, Mapped, Mode}
+use Rattle.mk_laws.specs.LayoutScene.{LayoutScene, Unmapped, Unmapping, head_on, header_on, shows_on, used_on}
+
+-- a word with no bit is 0, and 0 has none
+pub zero_where_none : (n : ℕ) → ((k : ℕ) → has_bit n k ≡ true → ⊥) → n ≡ 0
+zero_where_none n none = zero_from_bits n (λ k. false_from_ne_true (has_bit n k) (none k))
+
+pub none_set : (n k : ℕ) → n ≡ 0 → has_bit n k ≡ true → ⊥
+none_set n k z h = true≢false (sym h ∙ no_bit n k z)
+
+-- a header that the mode allows is one of the object
+pub header_of_mode : (mode : Mode) (o : Object) (distance header : ℕ) → HasHeader mode o distance header
+    → IsHeaderOf o distance header
+header_of_mode Mapped o distance header has = inl has
+header_of_mode Unmapping o distance header has = has
+header_of_mode Unmapped o distance header has = inr has
+
+-- the claim's pages show its parts
+pub claimed : (pages : List Page) (x : Claim) (distance : ℕ) → IsShown pages x → distance < pages_made x.object
+    → ShowsPart x.object distance (shows_on pages (x.page + distance))
+claimed pages x distance shown lt = header_shows x.object distance (header_on pages (x.page + distance)) shown.sized lt
+    (header_of_mode x.mode x.object distance (header_on pages (x.page + distance)) (shown.headers distance lt))
+
+pub claimed_head : (pages : List Page) (x : Claim) (distance : ℕ) → IsShown pages x → distance < pages_made x.object
+    → head_on pages (x.page + distance) ≡ x.page
+claimed_head pages x distance shown lt = part_head x.object distance x.page (shows_on pages (x.page + distance))
+    (claimed pages x distance shown lt)
+
+-- so its head has a used bit
+pub claimed_used : (pages : List Page) (x : Claim) (distance : ℕ) → IsShown pages x → distance < pages_made x.object
+    → used_on pages (head_on pages (x.page + distance)) ≢ 0
+claimed_used pages x distance shown lt z =
+    none_set (used_on pages x.page) x.index (rw (← (claimed_head pages x distance shown lt)) z) shown.used
+
+pub claimed_some : (pages : List Page) (x : Claim) (distance : ℕ) → IsShown pages x → distance < pages_made x.object
+    → header_on pages (x.page + distance) ≢ 0
+claimed_some pages x distance shown lt = part_not_free x.object distance (header_on pages (x.page + distance))
+    (claimed pages x distance shown lt)
+
+-- a page without cells has no used bit
+pub cellless_unused : (s : LayoutScene) (p : ℕ) → IsLaidOn s → cells_under (shows_on s.pages p) ≡ 0
+    → used_on s.pages p ≡ 0
+cellless_unused s p laid none =
+    zero_where_none (used_on s.pages p) (λ k h. let t = laid.used p k h in let lt = t.0 in absurd (omega arith))
+
+pub free_unused : (s : LayoutScene) (p : ℕ) → IsLaidOn s → header_on s.pages p ≡ 0 → used_on s.pages p ≡ 0
+free_unused s p laid z = cellless_unused s p laid (rw z)
+
+-- two claims of one cell are one
+pub one_claim : (xs : List Claim) (x y : Claim) → AreApart xs → Among x xs → Among y xs → IsOfOneCell x y → x ≡ y
+one_claim [] x y apart ix iy same = absurd ix
+one_claim (z ∷ zs) x y apart (inl ex) (inl ey) same = ex ∙ sym ey
+one_claim (z ∷ zs) x y apart (inl ex) (inr iy) same = absurd (apart.0 y iy (rw (← ex) same.0, rw (← ex) same.1))
+one_claim (z ∷ zs) x y apart (inr ix) (inl ey) same =
+    absurd (apart.0 x ix (
+      rw (← ey) (sym same.0),
+      rw (← ey) (sym same.1),
+    ))
+one_claim (z ∷ zs) x y apart (inr ix) (inr iy) same = one_claim zs x y apart.1 ix iy same

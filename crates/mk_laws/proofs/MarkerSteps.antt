@@ -1,0 +1,264 @@
+-- What a marker holds is touched, and what it scans has no leaf, after each step.
+use Rattle.std.proofs.Common.{Bool, ap, arith, false, inl, inr, refl, subst, sym, true, ℕ, ◌+◌, ◌<◌, ◌≤◌, ◌∙◌, ◌≡◌, ◌≢◌}
+use Rattle.std.specs.Prelude.{None, Option, Some, if◌then◌else◌, is_none, nat_lt, slice_index, ◌&&◌, ◌==◌}
+use Rattle.std.proofs.lemmas.Bool.{and_parts, eqb-true, ltb-true}
+use Rattle.std.proofs.lemmas.Option.{none-some, same_Some}
+use Rattle.mk_never.specs.NeverHeap.{NeverState}
+use Rattle.mk_geom.specs.Addresses.{cell_at, is_heap_address, page_at_address}
+use Rattle.mk_geom.specs.Headers.{header_of}
+use Rattle.mk_geom.specs.declared.addresses.Cell.{Cell}
+use Rattle.mk_core.specs.Accesses.{found, next_word}
+use Rattle.mk_core.specs.Allocations.{PlacedAllocation, cell_of_allocation, placed_at, storage_of}
+use Rattle.mk_core.specs.Bits.{has_bit}
+use Rattle.mk_core.specs.Cells.{cell_words, cells_under, first_word, has_no_pointers, header_in, is_marked, words_under}
+use Rattle.mk_core.specs.Effects.{behind_mlook, hand_behind_look, marker_behind, open_hand, scan_begun, scan_claimed}
+use Rattle.mk_core.specs.Effects.{scan_onward}
+use Rattle.mk_core.specs.History.{World}
+use Rattle.mk_core.specs.MarkerConditions.{has_next_word, has_seen_cell}
+use Rattle.mk_core.specs.Moments.{marker_of}
+use Rattle.mk_core.specs.StopConditions.{is_attending}
+use Rattle.mk_core.specs.Words.{header_at}
+use Rattle.mk_core.specs.declared.config.Config.{Config}
+use Rattle.mk_core.specs.declared.events.Seat.{Seat}
+use Rattle.mk_core.specs.declared.events.Seat.TheVariants.{Caller, Host, Marker}
+use Rattle.mk_core.specs.declared.events.Step.{Step}
+use Rattle.mk_core.specs.declared.events.Step.TheVariants as step
+use Rattle.mk_core.specs.declared.events.Word.{Word}
+use Rattle.mk_core.specs.declared.events.Word.TheVariants as word
+use Rattle.mk_core.specs.declared.seats.Marker.{Marker as MarkerState}
+use Rattle.mk_core.specs.declared.seats.Scan.{Scan}
+use Rattle.mk_core.specs.declared.seats.SeenHeader.{SeenHeader}
+use Rattle.mk_laws.specs.Protocol.{IsIdle}
+use Rattle.mk_laws.proofs.ProtocolMarkers.{marker_set}
+use Rattle.mk_laws.proofs.OthersMoves.{WorldBehind}
+use Rattle.mk_laws.specs.Guard.{EndsItsCell, MarkerStands, ScanStands, cell_scanned}
+use Rattle.mk_laws.proofs.Granting.{points_behind}
+use Rattle.mk_laws.proofs.NoLeaves.{no_leaf_behind, scanned_has_none}
+use Rattle.mk_laws.proofs.Precise.{HasNoLeaf, IsPrecise, MarkerIsPrecise, PointsOnlyInto, PrecisionScene, Steps}
+use Rattle.mk_laws.proofs.Precise.{precision_scene_of}
+use Rattle.mk_laws.proofs.ScannedWords.{scanned_cell}
+use Rattle.mk_laws.proofs.Worlds.{IsHeld, Told, held}
+
+-- A marker that is in the middle of nothing holds and has seen nothing.
+pub idle_is_precise : (c : Config) (s : PrecisionScene) (T : ℕ → Type 0) (x : MarkerState) → IsIdle x
+    → MarkerIsPrecise c s T x
+idle_is_precise c s T x idle =
+    record {
+      hand = λ v is. absurd (none-some _ (sym idle.hand ∙ is));
+      scan = λ z is. absurd (none-some _ (sym idle.scan ∙ is));
+      seen = λ z is. absurd (none-some _ (sym idle.seen ∙ is));
+    }
+
+-- what goes on after a step of another, or of its own
+pub marker_kept : (c : Config) (w : World) (n : NeverState) (seat : Seat) (x : Step) (after : NeverState)
+    (T : ℕ → Type 0) (y : MarkerState) → Steps c w n seat x after T
+    → MarkerStands c w.now y → MarkerIsPrecise c (precision_scene_of w) T y
+    → MarkerIsPrecise c (precision_scene_of (WorldBehind c w seat x)) T y
+marker_kept c w n seat x after T y s stand precise =
+    record {
+      hand = λ v is. points_behind c w n seat x after T v s (precise.hand v is);
+      scan = λ z is lt.
+          no_leaf_behind c w n seat x after T s z.page
+          (λ none. let known = (stand.scan z is).index in absurd (omega arith)) (precise.scan z is lt);
+      seen = λ z is some scanned.
+          no_leaf_behind c w n seat x after T s z.page (λ none. some (sym ((stand.seen z is).count some) ∙ none))
+          (precise.seen z is some scanned);
+    }
+
+-- `mlook`
+look_precise : (c : Config) (w : World) (n : NeverState) (T : ℕ → Type 0) (y : MarkerState) (p f : ℕ) → Told c w n
+    → f ≡ header_at w.now.words p → MarkerIsPrecise c (precision_scene_of w) T y
+    → MarkerIsPrecise c (precision_scene_of w) T (behind_mlook c f (word.Head p) y)
+look_precise c w n T y p f t is m =
+    record {
+      hand = λ v at. m.hand v (kept y.hand v at);
+      scan = m.scan;
+      seen = λ z at some scanned.
+          let e : record { page = p; header = f } ≡ z = same_Some _ _ at in
+          let page : p ≡ z.page = ap (λ (q : SeenHeader). q.page) e in
+          let header : f ≡ z.header = ap (λ (q : SeenHeader). q.header) e in
+          scanned_has_none c w n z.page t
+          (ap (λ q. has_no_pointers (header_in w.now.words q)) (sym page)
+          ∙ ap (λ h. has_no_pointers (header_of h)) (sym is ∙ header) ∙ scanned);
+    }
+  where
+    kept : (hand : Option ℕ) (v : ℕ) → hand_behind_look c p f hand ≡ Some v → hand ≡ Some v
+    kept None v at = at
+    kept (Some u) v at = by ((p == page_at_address u) && is_none (cell_at c.pages f u)) at
+      where
+        by : (b : Bool) → (if b then None else Some u) ≡ Some v → Some u ≡ Some v
+        by true at = absurd (none-some _ at)
+        by false at = at
+
+unseen_precise : (c : Config) (w : World) (T : ℕ → Type 0) (y : MarkerState)
+    → MarkerIsPrecise c (precision_scene_of w) T y
+    → MarkerIsPrecise c (precision_scene_of w) T (record y { seen = None })
+unseen_precise c w T y m = record { hand = m.hand; scan = m.scan; seen = λ s is. absurd (none-some _ is) }
+
+looks : (c : Config) (w : World) (n : NeverState) (T : ℕ → Type 0) (y : MarkerState) (x : Word) (f : ℕ) → Told c w n
+    → ((p : ℕ) → x ≡ word.Head p → f ≡ header_at w.now.words p) → MarkerIsPrecise c (precision_scene_of w) T y
+    → MarkerIsPrecise c (precision_scene_of w) T (behind_mlook c f x y)
+looks c w n T y (word.Head p) f t is m = look_precise c w n T y p f t (is p refl) m
+looks c w n T y _ f t is m = unseen_precise c w T y m
+
+-- `claim`: words are scanned only under a header that shows no leaf
+claim_precise : (c : Config) (w : World) (T : ℕ → Type 0) (y : MarkerState) (p k marks : ℕ)
+    → has_seen_cell y.seen p k ≡ true → MarkerIsPrecise c (precision_scene_of w) T y
+    → MarkerIsPrecise c (precision_scene_of w) T (record y { scan = scan_claimed p k marks y.seen })
+claim_precise c w T y p k marks own m =
+    record { hand = m.hand; scan = λ s is lt. by y.seen own m.seen s is lt; seen = m.seen }
+  where
+    by : (seen : Option SeenHeader) → has_seen_cell seen p k ≡ true
+        → ((z : SeenHeader) → seen ≡ Some z → cells_under (header_of z.header) ≢ 0
+        → has_no_pointers (header_of z.header) ≡ false → HasNoLeaf c (precision_scene_of w) z.page)
+        → (s : Scan) → scan_claimed p k marks seen ≡ Some s → s.next < s.end → HasNoLeaf c (precision_scene_of w) s.page
+    by None own none s is lt = cc
+    by (Some z) own none s is lt = marked (has_bit marks k) is
+      where
+        parts : ((z.page == p) ≡ true) × (nat_lt k (cells_under (header_of z.header)) ≡ true)
+        parts = and_parts (z.page == p) (nat_lt k (cells_under (header_of z.header))) own
+
+        some : cells_under (header_of z.header) ≢ 0
+        some e = let within = ltb-true k (cells_under (header_of z.header)) parts.1 in absurd (omega arith)
+
+        scanned : (b : Bool) → has_no_pointers (header_of z.header) ≡ b
+            → (scan_begun p k z.header).next < (scan_begun p k z.header).end
+            → has_no_pointers (header_of z.header) ≡ false
+        scanned true e less =
+            let end : (scan_begun p k z.header).end ≡ (scan_begun p k z.header).next + 0 =
+            ap (λ b. (scan_begun p k z.header).next + (if b then 0 else words_under (header_of z.header))) e in
+            absurd (omega arith)
+        scanned false e less = e
+
+        marked : (b : Bool) → (if b then Some (scan_begun p k z.header) else None) ≡ Some s
+            → HasNoLeaf c (precision_scene_of w) s.page
+        marked false is = absurd (none-some _ is)
+        marked true is =
+            let e : scan_begun p k z.header ≡ s = same_Some _ _ is in
+            let less : (scan_begun p k z.header).next < (scan_begun p k z.header).end =
+            subst (λ (q : Scan). q.next < q.end) (sym e) lt in
+            subst (λ (q : Scan). HasNoLeaf c (precision_scene_of w) q.page) e
+            (subst (λ q. HasNoLeaf c (precision_scene_of w) q) (eqb-true z.page p parts.0)
+            (none z refl some (scanned (has_no_pointers (header_of z.header)) refl less)))
+
+-- `mload`: a word of a marked cell that isn't leaf
+loaded_points : (c : Config) (w : World) (n : NeverState) (seat : Seat) (x : Step) (after : NeverState)
+    (T : ℕ → Type 0) (hand : Option ℕ) (z : Scan)
+    → Steps c w n seat x after T → IsPrecise c w T → ScanStands c w.now hand z → z.next < z.end
+    → HasNoLeaf c (precision_scene_of w) z.page
+    → PointsOnlyInto c w.allocations T (slice_index w.now.words.heap z.next)
+loaded_points c w n seat x after T hand z s precise st less none b points =
+    s.here.words o.number z.next touched (o.unreleased, leaf, o.word) b points
+  where
+    inside : EndsItsCell w.now.words z
+        → z.next < first_word w.now.words (cell_scanned z) + cell_words w.now.words (cell_scanned z)
+    inside (inl e) = omega arith
+    inside (inr e) = let start = st.start in let at = e.0 in absurd (omega arith)
+
+    low : 65536 ≤ slice_index w.now.words.heap z.next
+    low = points.1.0
+
+    o : IsHeld c w z.next
+    o = held c w n s.before s.early z.next (λ e. absurd (omega arith))
+
+    a : PlacedAllocation
+    a = placed_at w.allocations o.number
+
+    same : cell_of_allocation c a ≡ cell_scanned z
+    same =
+        scanned_cell c w n z.page z.index z.next o.number s.before st.index st.start
+        (inside st.end) o.unreleased o.word
+
+    touched : T o.number
+    touched =
+        precise.marked o.number o.unreleased
+        (subst (λ (y : Cell). is_marked w.now.words y ≡ true) (sym same) st.marked)
+
+    leaf : (storage_of c a).leaf ≡ false
+    leaf = none.allocations o.number o.unreleased (ap (λ (y : Cell). y.page) same)
+
+load_precise : (c : Config) (w : World) (n : NeverState) (seat : Seat) (x : Step) (after : NeverState)
+    (T : ℕ → Type 0) (y : MarkerState)
+    → Steps c w n seat x after T → IsPrecise c w T → MarkerStands c w.now y → has_next_word y.scan ≡ true
+    → MarkerIsPrecise c (precision_scene_of w) T y
+    → MarkerIsPrecise c (precision_scene_of w) T
+    (record y { scan = scan_onward y.scan; hand = open_hand c (slice_index w.now.words.heap (next_word y.scan)) })
+load_precise c w n seat x after T y s precise stand more m =
+    record {
+      hand = λ v is. opened y.scan more stand.scan m.scan v is;
+      scan = λ z is less. onward y.scan m.scan z is less;
+      seen = m.seen;
+    }
+  where
+    opened : (scan : Option Scan) → has_next_word scan ≡ true
+        → ((z : Scan) → scan ≡ Some z → ScanStands c w.now y.hand z)
+        → ((z : Scan) → scan ≡ Some z → z.next < z.end → HasNoLeaf c (precision_scene_of w) z.page)
+        → (v : ℕ) → open_hand c (slice_index w.now.words.heap (next_word scan)) ≡ Some v
+        → PointsOnlyInto c w.allocations T v
+    opened None more st none v is = cc
+    opened (Some z) more st none v is = by (is_heap_address c.pages (slice_index w.now.words.heap z.next)) is
+      where
+        by : (b : Bool) → (if b then Some (slice_index w.now.words.heap z.next) else None) ≡ Some v
+            → PointsOnlyInto c w.allocations T v
+        by false is = absurd (none-some _ is)
+        by true is =
+            let e : slice_index w.now.words.heap z.next ≡ v = same_Some _ _ is in
+            let less = ltb-true z.next z.end more in
+            subst (λ u. PointsOnlyInto c w.allocations T u) e
+            (loaded_points c w n seat x after T y.hand z s precise (st z refl) less (none z refl less))
+
+    onward : (scan : Option Scan) → ((z : Scan) → scan ≡ Some z → z.next < z.end
+        → HasNoLeaf c (precision_scene_of w) z.page)
+        → (z : Scan) → scan_onward scan ≡ Some z → z.next < z.end → HasNoLeaf c (precision_scene_of w) z.page
+    onward None none z is less = absurd (none-some _ is)
+    onward (Some q) none z is less =
+        let e : record q { next = q.next + 1 } ≡ z = same_Some _ _ is in
+        let page : q.page ≡ z.page = ap (λ (k : Scan). k.page) e in
+        let next : q.next + 1 ≡ z.next = ap (λ (k : Scan). k.next) e in
+        let end : q.end ≡ z.end = ap (λ (k : Scan). k.end) e in
+        subst (λ k. HasNoLeaf c (precision_scene_of w) k) page (none q refl (omega arith))
+
+-- a marker's own step, seen from before it
+own_marker : (c : Config) (w : World) (n : NeverState) (k : ℕ) (x : Step) (after : NeverState) (T : ℕ → Type 0)
+    → Steps c w n (Marker k) x after T → IsPrecise c w T
+    → MarkerStands c w.now (marker_of w.now k)
+    → MarkerIsPrecise c (precision_scene_of (WorldBehind c w (Marker k) x)) T
+    (marker_behind c (found c w.now (record { seat = Marker k; step = x })) x (marker_of w.now k))
+own_marker c w n k step.Attend after T s precise stand =
+    idle_is_precise c (precision_scene_of (WorldBehind c w (Marker k) step.Attend)) T _
+    (record { scan = refl; hand = refl; seen = refl })
+own_marker c w n k step.Quit after T s precise stand =
+    idle_is_precise c (precision_scene_of (WorldBehind c w (Marker k) step.Quit)) T _
+    (record { scan = refl; hand = refl; seen = refl })
+own_marker c w n k (step.Mlook x) after T s precise stand =
+    looks c w n T (marker_of w.now k) x (found c w.now (record { seat = Marker k; step = step.Mlook x })) s.before
+    (λ p e. ap (λ (y : Word). found c w.now (record { seat = Marker k; step = step.Mlook y })) e) (precise.markers k)
+own_marker c w n k (step.Claim p i) after T s precise stand =
+    let a = and_parts (is_attending (marker_of w.now k).presence && is_none (marker_of w.now k).scan)
+    (has_seen_cell (marker_of w.now k).seen p i) s.meets.marker in
+    claim_precise c w T (marker_of w.now k) p i _ a.1 (precise.markers k)
+own_marker c w n k step.Mload after T s precise stand =
+    let a = and_parts (has_next_word (marker_of w.now k).scan) (is_none (marker_of w.now k).hand) s.meets.marker in
+    load_precise c w n (Marker k) step.Mload after T (marker_of w.now k) s precise stand a.0 (precise.markers k)
+own_marker c w n k step.Mmark after T s precise stand =
+    let m = precise.markers k in
+    record { hand = λ v is. absurd (none-some _ is); scan = m.scan; seen = m.seen }
+own_marker c w n k step.Mblack after T s precise stand =
+    let m = precise.markers k in
+    record { hand = m.hand; scan = λ z is. absurd (none-some _ is); seen = m.seen }
+own_marker c w n k _ after T s precise stand = let kind = s.meets.kind in cc
+
+pub markers_behind : (c : Config) (w : World) (n : NeverState) (seat : Seat) (x : Step) (after : NeverState)
+    (T : ℕ → Type 0) → Steps c w n seat x after T → IsPrecise c w T
+    → ((j : ℕ) → MarkerStands c w.now (marker_of w.now j)) → (j : ℕ)
+    → MarkerIsPrecise c (precision_scene_of (WorldBehind c w seat x)) T (marker_of (WorldBehind c w seat x).now j)
+markers_behind c w n (Caller k) x after T s precise stand j =
+    marker_kept c w n (Caller k) x after T (marker_of w.now j) s (stand j) (precise.markers j)
+markers_behind c w n Host x after T s precise stand j =
+    marker_kept c w n Host x after T (marker_of w.now j) s (stand j) (precise.markers j)
+markers_behind c w n (Marker k) x after T s precise stand j =
+    marker_set w.now.seats.markers k j
+    (marker_behind c (found c w.now (record { seat = Marker k; step = x })) x (marker_of w.now k))
+    (λ (y : MarkerState). MarkerIsPrecise c (precision_scene_of (WorldBehind c w (Marker k) x)) T y)
+    (λ lt. own_marker c w n k x after T s precise (stand k))
+    (marker_kept c w n (Marker k) x after T (marker_of w.now j) s (stand j) (precise.markers j))

@@ -1,0 +1,196 @@
+-- The place of an undecided New lies in the heap.
+use Rattle.std.proofs.Common.{◌≡◌, ◌⊎◌, ℕ, ◌+◌, ◌<◌, ◌≤◌, Bool, true, false, List, length, refl, sym, ◌∙◌, ap, subst}
+use Rattle.std.proofs.Common.{inl, inr}
+use Rattle.std.specs.Prelude.{Option, Some, None, slice_index_or, slice_set, if◌then◌else◌}
+use Rattle.std.proofs.lemmas.Bool.{cases_eq, cases_lt, ltb-true, leb-false}
+use Rattle.std.proofs.lemmas.List.{get_or-set_same, get_or-set_other, set_past}
+use Rattle.mk_laws.proofs.Vocabulary.{Caller, Chosen, Config, Flight, Granted, Holding, Host, Marker, Moment}
+use Rattle.mk_laws.proofs.Vocabulary.{Object, Op, Page, Place, Placing, Seat, Step, Unplaced, Used, World, at_rest}
+use Rattle.mk_laws.proofs.Vocabulary.{chosen, flight_of, is_new_at, is_small_object, is_undecided_new, object_made}
+use Rattle.mk_laws.proofs.Vocabulary.{place_by_placing, place_now, place_on_pages, run_pages_of, taken}
+use Rattle.mk_geom.proofs.FirstFit.{run_place_is}
+use Rattle.mk_core.specs.declared.seats.Stage.TheVariants as stage
+use Rattle.mk_laws.proofs.Standings.{InCall, UnderTurn, standing}
+use Rattle.mk_laws.proofs.Stages.{new_stands}
+use Rattle.mk_laws.proofs.Services.{Service, Goes, Loads, Places as PlacesNew, Fills, Grants as GrantsNew}
+use Rattle.mk_laws.proofs.Services.{Frees as FreesRun}
+use Rattle.mk_laws.proofs.Views.{View, view_of, flight_in, flight_at, flights_with, HoldsTurn}
+use Rattle.mk_laws.proofs.ProtocolMoves.{Move, Enters, GoesOn, Leaves, Takes, Gives as GivesTurn, Works}
+use Rattle.mk_laws.proofs.Orderly.{same_holder}
+use Rattle.mk_laws.proofs.Actors.{Meets}
+use Rattle.mk_laws.proofs.OrderlyLists.{event_moves}
+use Rattle.mk_laws.proofs.Known.{Known}
+use Rattle.mk_laws.proofs.OthersMoves.{WorldBehind}
+use Rattle.mk_laws.specs.Ground.{Ground}
+use Rattle.mk_laws.proofs.Ground.{GroundStep, Starts, Gives, Carves, Unmaps, TakesCell, Grants, Places, ground_step}
+
+abbrev pub held_place : Placing → Option Place
+held_place (Chosen place) = Some place
+held_place (Used place) = Some place
+held_place _ = None
+
+-- A large object has all its pages in the heap.
+abbrev pub PlaceFits : Config → Op → Place → Type 0
+PlaceFits c o place = is_small_object (object_made c o) ≡ false
+    → place.page + run_pages_of (object_made c o).words ≤ c.pages
+
+abbrev pub PlacesFit : Config → Moment → Type 0
+PlacesFit c m =
+    (k : ℕ) → k < c.callers → is_undecided_new (flight_of m (Caller k)) ≡ true → (place : Place)
+    → held_place m.seats.holding.placing ≡ Some place
+    → PlaceFits c (flight_of m (Caller k)).op place
+
+-- the place of first fit does, and so that of the step
+
+first_fits : (resident : ℕ) (pages : List Page) (o : Object) (place : Place)
+    → place_on_pages resident pages o ≡ Some place
+    → is_small_object o ≡ false → place.page + run_pages_of o.words ≤ length pages
+first_fits resident pages o place is large =
+    (run_place_is resident o.words o.leaf pages place (leb-false o.words 32 large) is).free.within
+
+in_fits : (c : Config) (pages : List Page) (o : Op) (placing : Placing) (place : Place) → length pages ≡ c.pages
+    → ((y : Place) → held_place placing ≡ Some y → PlaceFits c o y)
+    → place_by_placing c.resident pages (object_made c o) placing ≡ Some place → PlaceFits c o place
+in_fits c pages o Unplaced place count held is =
+    λ large. rw count at (first_fits c.resident pages (object_made c o) place is large)
+in_fits c pages o Granted place count held is = cc
+in_fits c pages o _ place count held is = held place is
+
+now_is : (c : Config) (m : Moment) (f : Flight) (place : Place) → place_now c m f ≡ Some place
+    → (is_undecided_new f ≡ true)
+    × (place_by_placing c.resident m.words.pages (object_made c f.op) m.seats.holding.placing ≡ Some place)
+now_is c m f place e = by (is_undecided_new f) refl e
+  where
+    by : (b : Bool) → is_undecided_new f ≡ b
+        → (if b then place_by_placing c.resident m.words.pages (object_made c f.op) m.seats.holding.placing else None)
+        ≡ Some place
+        → (is_undecided_new f ≡ true)
+        × (place_by_placing c.resident m.words.pages (object_made c f.op) m.seats.holding.placing ≡ Some place)
+    by true is h = (is, h)
+    by false is h = cc
+
+-- a place that is held was held, or is that of the step
+
+chosen_held : (p : Placing) (place : Option Place) (x : Place) → held_place (chosen p place) ≡ Some x
+    → (held_place p ≡ Some x) ⊎ (place ≡ Some x)
+chosen_held Unplaced (Some y) x h = inr h
+chosen_held Unplaced None x h = inl h
+chosen_held _ place x h = inl h
+
+taken_held : (p : Placing) (place : Option Place) (x : Place) → held_place (taken p place) ≡ Some x
+    → (held_place p ≡ Some x) ⊎ (place ≡ Some x)
+taken_held p (Some y) x h = inr h
+taken_held p None x h = inl h
+
+ground_place : (c : Config) (w : World) (f : Flight) (g : Ground) (x : Place) → GroundStep c w f g
+    → held_place g.placing ≡ Some x
+    → (held_place w.now.seats.holding.placing ≡ Some x) ⊎ (place_now c w.now f ≡ Some x)
+ground_place c w f g x (Starts z idle) h = cc
+ground_place c w f g x (Gives own at) h = cc
+ground_place c w f g x (Carves p n own at) h = chosen_held w.now.seats.holding.placing (place_now c w.now f) x h
+ground_place c w f g x (Unmaps p n own at) h = chosen_held w.now.seats.holding.placing (place_now c w.now f) x h
+ground_place c w f g x (TakesCell p n once own at) h = taken_held w.now.seats.holding.placing (place_now c w.now f) x h
+ground_place c w f g x (Places p n own) h = chosen_held w.now.seats.holding.placing (place_now c w.now f) x h
+ground_place c w f g x (Grants new once) h = cc
+ground_place c w f g x _ h = inl h
+
+-- an undecided New is one that was there, or there is no place
+
+set_new : (fs : List Flight) (k j : ℕ) (f : Flight) → (is_undecided_new f ≡ true → f ≡ slice_index_or fs k at_rest)
+    → is_undecided_new (slice_index_or (slice_set fs k f) j at_rest) ≡ true
+    → slice_index_or (slice_set fs k f) j at_rest ≡ slice_index_or fs j at_rest
+set_new fs k j f same new = elim (cases_eq j k) [
+  | inl e ↦ elim (cases_lt k (length fs)) [
+    | inl lt ↦
+        let now : slice_index_or (slice_set fs k f) j at_rest ≡ f = rw e (get_or-set_same fs k f at_rest lt) in
+        now ∙ same (rw (← now) new) ∙ ap (λ i. slice_index_or fs i at_rest) (sym e)
+    | inr past ↦ rw (set_past fs k f past)
+  ]
+  | inr ne ↦ get_or-set_other fs k j f at_rest ne
+]
+
+pub call_no_new : (f : Flight) → standing f ≡ InCall → is_undecided_new f ≡ true → ⊥
+call_no_new f is new = let e : InCall ≡ UnderTurn = sym is ∙ new_stands f.stage f.op new in absurd (apart e)
+  where
+    apart : InCall ≡ UnderTurn → ⊥
+    apart e = cc
+
+pub give_no_new : (o : Op) → is_new_at stage.Give o ≡ true → ⊥
+give_no_new o h = cc
+
+pub service_new : (f : Flight) (h : Holding) (g : Flight) (i : Holding) → Service f h g i → is_undecided_new g ≡ true
+    → g ≡ f
+service_new f h g i (Goes _ p q) new = refl
+service_new f h g i (Loads _ at stands no_new) new = let e : true ≡ false = sym new ∙ no_new in cc
+service_new f h g i (PlacesNew _ was p q) new = refl
+service_new f h g i _ new = absurd (give_no_new f.op new)
+
+pub new_was : (c : Config) (v : View) (seat : Seat) (n : View) (j : ℕ) → Move c v seat n
+    → is_undecided_new (flight_in n j) ≡ true
+    → (flight_in n j ≡ flight_in v j) ⊎ (held_place n.holding.placing ≡ None)
+new_was c v seat n j (Enters {k} f lt z was is) new =
+    inl (set_new v.flights k j f (λ x. absurd (call_no_new f is x)) new)
+new_was c v seat n j (GoesOn {k} f lt was is) new = inl (set_new v.flights k j f (λ x. absurd (call_no_new f is x)) new)
+new_was c v seat n j (Leaves {k} lt was) new = inl (set_new v.flights k j at_rest (λ x. cc) new)
+new_was c v seat n j (Takes f z may) new = inr refl
+new_was c v seat n j (GivesTurn t none at) new = inr refl
+new_was c v seat n j (Works f i t s) new = inl (by seat t s new)
+  where
+    by : (s : Seat) → HoldsTurn c v s → Service (flight_at v.flights s) v.holding f i
+        → is_undecided_new (slice_index_or (flights_with v.flights s f) j at_rest) ≡ true
+        → slice_index_or (flights_with v.flights s f) j at_rest ≡ flight_in v j
+    by (Caller k) t s new = set_new v.flights k j f (service_new (slice_index_or v.flights k at_rest) v.holding f i s)
+        new
+    by (Marker k) t s new = absurd t
+    by Host t s new = refl
+new_was c v seat n j _ new = inl refl
+
+-- the seat of an undecided New holds the turn
+pub new_holds : (c : Config) (m : Moment) (seat : Seat) (x : Step) → Meets c m seat x
+    → is_undecided_new (flight_of m seat) ≡ true
+    → (k : ℕ) × (k < c.callers) × (seat ≡ Caller k)
+new_holds c m (Caller k) x h new = (k, ltb-true k c.callers h.seat, refl)
+new_holds c m _ x h new = cc
+
+-- the place of a step
+pub place_fits_now : (c : Config) (m : Moment) (seat : Seat) (x : Step) (place : Place) → length m.words.pages ≡ c.pages
+    → PlacesFit c m
+    → Meets c m seat x → place_now c m (flight_of m seat) ≡ Some place
+    → PlaceFits c (flight_of m seat).op place
+place_fits_now c m seat x place count fits h now =
+    let is = now_is c m (flight_of m seat) place now in
+    let own = new_holds c m seat x h is.0 in
+    let own_new : is_undecided_new (flight_of m (Caller own.0)) ≡ true = rw own.2 at is.0 in
+    in_fits c m.words.pages (flight_of m seat).op m.seats.holding.placing place count
+    (λ y old. rw own.2 (fits own.0 own.1 own_new y old)) is.1
+
+pub places_behind : (c : Config) (w : World) (seat : Seat) (x : Step) → Known c w.now
+    → length w.now.words.pages ≡ c.pages → PlacesFit c w.now
+    → Meets c w.now seat x → PlacesFit c (WorldBehind c w seat x).now
+places_behind c w seat x known count fits h k lt new place held =
+    elim (new_was c (view_of w.now) seat (view_of (WorldBehind c w seat x).now) k
+    (event_moves c w.now seat x known.orderly h) new) [
+      | inr none ↦ let e : None ≡ Some place = sym none ∙ held in absurd (none_some e)
+      | inl same ↦
+          let was : is_undecided_new (flight_of w.now (Caller k)) ≡ true = rw (← same) new in
+          rw same (before was (ground_place c w (flight_of w.now seat) _ place (ground_step c w seat x h) held))
+    ]
+  where
+    none_some : None ≡ Some place → ⊥
+    none_some e = cc
+
+    before : is_undecided_new (flight_of w.now (Caller k)) ≡ true
+        → (held_place w.now.seats.holding.placing ≡ Some place)
+        ⊎ (place_now c w.now (flight_of w.now seat) ≡ Some place) → PlaceFits c (flight_of w.now (Caller k)).op place
+    before was (inl old) = fits k lt was place old
+    before was (inr now) =
+        let is = now_is c w.now (flight_of w.now seat) place now in
+        let own = new_holds c w.now seat x h is.0 in
+        let own_new : is_undecided_new (flight_of w.now (Caller own.0)) ≡ true = rw own.2 at is.0 in
+        let stands : standing (flight_of w.now (Caller own.0)) ≡ UnderTurn =
+        new_stands (flight_of w.now (Caller own.0)).stage (flight_of w.now (Caller own.0)).op own_new in
+        let mine : standing (flight_of w.now (Caller k)) ≡ UnderTurn =
+        new_stands (flight_of w.now (Caller k)).stage (flight_of w.now (Caller k)).op was in
+        let that : seat ≡ Caller k = own.2
+        ∙ same_holder c (view_of w.now) (Caller own.0) (Caller k) known.orderly (own.1, stands) (lt, mine) in
+        rw that at (place_fits_now c w.now seat x place count fits h now)

@@ -1,0 +1,72 @@
+-- All is in order after every enabled list.
+use Rattle.std.proofs.Common.{◌≡◌, ℕ, ◌<◌, ◌≤◌, true, false, List, [], ◌∷◌, refl, sym, ◌∙◌, ap, subst, inl, inr, arith}
+use Rattle.std.specs.Prelude.{replicate, slice_index, slice_index_or}
+use Rattle.std.proofs.lemmas.Bool.{cases_lt}
+use Rattle.std.proofs.lemmas.List.{length-replicate, get_or-replicate, get_or_past}
+use Rattle.mk_laws.proofs.Vocabulary.{AreEnabledFrom, Caller, Config, Event, Flight, Moment, Seat, Step, World}
+use Rattle.mk_laws.proofs.Vocabulary.{at_rest, first_moment, flight_of, is_attending, left_from, outside}
+use Rattle.mk_laws.proofs.Vocabulary.{world_behind}
+use Rattle.mk_core.specs.declared.seats.Marker.{Marker}
+use Rattle.mk_core.proofs.Conditions.{enabled_meets}
+use Rattle.mk_laws.proofs.Standings.{Resting, standing, is_astray, Shows, shown_not_astray}
+use Rattle.mk_laws.proofs.Services.{nothing_served}
+use Rattle.mk_laws.proofs.Views.{view_of, gate_in}
+use Rattle.mk_laws.proofs.ProtocolMoves.{Move}
+use Rattle.mk_laws.proofs.Orderly.{Orderly}
+use Rattle.mk_laws.proofs.ProtocolKept.{kept}
+use Rattle.mk_laws.proofs.Actors.{Meets, Actor, acts}
+use Rattle.mk_laws.proofs.SameWords.{Behind}
+use Rattle.mk_laws.proofs.Sorts.{moves}
+
+-- no call is astray, so each event is someone's
+
+pub not_astray : (c : Config) (m : Moment) → Orderly c (view_of m) → (k : ℕ) → k < c.callers
+    → is_astray (standing (flight_of m (Caller k))) ≡ false
+not_astray c m h k lt = shown_not_astray m.words.turn (gate_in (view_of m) k) k (standing (flight_of m (Caller k)))
+    (h.each k lt)
+
+pub actor_of : (c : Config) (m : Moment) (seat : Seat) (x : Step) → Orderly c (view_of m) → Meets c m seat x
+    → Actor c m seat x
+actor_of c m seat x o h = acts c m seat x (not_astray c m o) h
+
+pub event_moves : (c : Config) (m : Moment) (seat : Seat) (x : Step) → Orderly c (view_of m) → Meets c m seat x
+    → Move c (view_of m) seat (view_of (Behind c m seat x))
+event_moves c m seat x o h = moves c m seat x (not_astray c m o) (actor_of c m seat x o h) h
+
+-- one event, and many
+
+pub orderly_behind : (c : Config) (m : Moment) (seat : Seat) (x : Step) → c.callers ≤ 16 → Orderly c (view_of m)
+    → Meets c m seat x
+    → Orderly c (view_of (Behind c m seat x))
+orderly_behind c m seat x small o h =
+    kept c (view_of m) seat (view_of (Behind c m seat x)) small o (event_moves c m seat x o h)
+
+pub at_first : {A : Type 0} (n k : ℕ) (x : A) → slice_index_or (replicate n x) k x ≡ x
+at_first n k x = elim (cases_lt k n) [
+  | inl lt ↦ get_or-replicate n k x x lt
+  | inr le ↦ get_or_past (replicate n x) k x (omega (arith, length-replicate n x))
+]
+
+pub orderly_at_first : (c : Config) → c.callers ≤ 16 → Orderly c (view_of (first_moment c))
+orderly_at_first c small =
+    record {
+      flights = length-replicate c.callers at_rest;
+      gates = refl;
+      markers = refl;
+      turn = omega arith;
+      each = λ k lt. rw (at_first c.callers k at_rest) (subst (λ (g : ℕ). Shows 0 g k Resting) (sym (at_first 16 k 0))
+          (λ e. absurd (omega arith), omega arith, λ e. refl, λ e. absurd (omega arith)));
+      served = nothing_served _ _;
+      free = λ e. refl;
+      phase = refl;
+      low = omega arith;
+      cycle = λ a b. absurd (omega arith);
+      stopped = λ e. absurd (omega arith);
+      attends = λ k a. let e : false ≡ true = ap (λ (x : Marker). is_attending x.presence) (sym (at_first 8 k outside))
+          ∙ a in cc;
+      idle = λ k a. record {
+        scan = rw (at_first 8 k outside);
+        hand = rw (at_first 8 k outside);
+        seen = rw (at_first 8 k outside);
+      };
+    }

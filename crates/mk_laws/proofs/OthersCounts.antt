@@ -1,0 +1,97 @@
+-- While a seat holds the turn, no other ends a cycle, and none is answered Full.
+use Rattle.std.proofs.Common.{◌≡◌, ℕ, ◌+◌, Bool, true, false, List, ◌++◌, refl, ◌∙◌, ap}
+use Rattle.std.specs.Prelude.{Option, Some, None, count_by, cond, if◌then◌else◌, ◌==◌}
+use Rattle.std.proofs.lemmas.List.{map-append}
+use Rattle.std.proofs.lemmas.List.Sums.{sum_by-append}
+use Rattle.mk_laws.proofs.Vocabulary.{Answer, Caller, Config, Decided, Flight, Moment, Op, Progress, Seat, Stage}
+use Rattle.mk_laws.proofs.Vocabulary.{Step, answer_decided, answered, begun, entry_of, flight_of, found, group_of}
+use Rattle.mk_laws.proofs.Vocabulary.{header_of, is_end, is_some_and, is_unmapped_header, onward, progress}
+use Rattle.mk_laws.proofs.Vocabulary.{progress_p, progress_q, progress_read, progress_reg, refused, still}
+use Rattle.mk_never.specs.declared.operations.Op.TheVariants as op
+use Rattle.mk_core.specs.declared.events.Answer.TheVariants as answer
+use Rattle.mk_core.specs.declared.events.Group.TheVariants as group
+use Rattle.mk_core.specs.declared.events.Step.TheVariants as step
+use Rattle.mk_core.specs.declared.seats.Stage.TheVariants as stage
+use Rattle.mk_core.specs.Counts.{is_full_answer}
+use Rattle.mk_laws.proofs.Views.{view_of, HoldsTurn}
+use Rattle.mk_laws.proofs.Actors.{Actor, InCallOf, AsMarker, CallTakes, HostTakes, AsHolder}
+
+abbrev pub answers_full : Option Answer → Bool
+answers_full a = is_some_and is_full_answer a
+
+either_answer : (b : Bool) (p q : Progress) → answers_full p.answer ≡ false → answers_full q.answer ≡ false
+    → answers_full (if b then p else q).answer ≡ false
+either_answer true p q hp hq = hp
+either_answer false p q hp hq = hq
+
+q_answer : (f : Flight) (o : Op) (n : ℕ) → answers_full (progress_q f o n).answer ≡ false
+q_answer f (op.Move d q) n = refl
+q_answer f (op.Same p q) n = refl
+q_answer f _ n = either_answer (n == 0) _ _ refl refl
+
+p_answer : (f : Flight) (o : Op) (n : ℕ) → answers_full (progress_p f o n).answer ≡ false
+p_answer f (op.IsNull p) n = refl
+p_answer f (op.Free p) n = either_answer (n == 0) _ _ refl refl
+p_answer f _ n = refl
+
+reg_answer : (f : Flight) (s : Stage) (n : ℕ) → answers_full (progress_reg f s n).answer ≡ false
+reg_answer f stage.LoadQ n = q_answer f f.op n
+reg_answer f stage.LoadP n = p_answer f f.op n
+reg_answer f _ n = refl
+
+read_answer : (f : Flight) (o : Op) (n : ℕ) → answers_full (progress_read f o n).answer ≡ false
+read_answer f (op.GetPtr d q i) n = refl
+read_answer f _ n = refl
+
+call_answer : (c : Config) (m : Moment) (f : Flight) (n : ℕ) (x : Step) → group_of x ≡ group.Callers
+    → answers_full (progress c m f n x).answer ≡ false
+call_answer c m f n (step.Enter o) g = either_answer (n == 0) (record { flight = begun o; answer = None })
+    (still f) refl refl
+call_answer c m f n step.Leave g = refl
+call_answer c m f n step.Reg g = reg_answer f f.stage n
+call_answer c m f n step.Probe g = either_answer (is_unmapped_header (header_of n)) (refused f answer.Fault)
+    (onward f None) refl refl
+call_answer c m f n step.Read g = read_answer f f.op n
+call_answer c m f n step.Write g = refl
+call_answer c m f n step.Cas g = refl
+call_answer c m f n step.Getg g = refl
+call_answer c m f n step.Setg g = refl
+call_answer c m f n step.Dirty g = refl
+call_answer c m f n _ g = cc
+
+call_no_end : (x : Step) → group_of x ≡ group.Callers → is_end x ≡ false
+call_no_end step.End g = cc
+call_no_end _ g = refl
+
+marker_no_end : (x : Step) → group_of x ≡ group.Markers → is_end x ≡ false
+marker_no_end step.End g = cc
+marker_no_end _ g = refl
+
+-- one event of a seat that doesn't hold the turn
+pub counts_nothing : (c : Config) (m : Moment) (seat : Seat) (x : Step) → (HoldsTurn c (view_of m) seat → ⊥)
+    → Actor c m seat x
+    → (is_end x ≡ false) × (answers_full (answer_decided c m (record { seat = seat; step = x })) ≡ false)
+counts_nothing c m seat x out (InCallOf k _ lt g) =
+    (call_no_end x g, call_answer c m (flight_of m (Caller k)) (found c m (record { seat = Caller k; step = x })) x g)
+counts_nothing c m seat x out (AsMarker k _ lt g) = (marker_no_end x g, refl)
+counts_nothing c m seat x out (CallTakes k o lt idle is) = (
+  refl,
+  either_answer (m.words.turn == 0) (record { flight = begun o; answer = None })
+      (still (flight_of m (Caller k))) refl refl,
+)
+counts_nothing c m seat x out (HostTakes free) = (refl, refl)
+counts_nothing c m seat x out (AsHolder _ _ t n) = absurd (out t)
+
+-- and so the counts
+
+abbrev pub fulls_of : List Decided → ℕ
+fulls_of ds = count_by is_full_answer (answered ds)
+
+pub entry_fulls : (k : ℕ) (o : Op) (a : Option Answer) → answers_full a ≡ false → fulls_of (entry_of k o a) ≡ 0
+entry_fulls k o (Some answer.Full) h = cc
+entry_fulls k o _ h = refl
+
+pub fulls_append : (xs ys : List Decided) → fulls_of (xs ++ ys) ≡ fulls_of xs + fulls_of ys
+fulls_append xs ys =
+    rw (map-append (λ (d : Decided). d.answer) xs ys)
+    (sum_by-append (λ (a : Answer). cond {A = ℕ} (is_full_answer a) 1 0) (answered xs) (answered ys))

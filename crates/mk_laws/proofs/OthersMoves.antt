@@ -1,0 +1,225 @@
+-- What an event may do whose seat doesn't hold the turn, while another holds it.
+use Rattle.std.proofs.Common.{◌≡◌, ◌≢◌, ℕ, ◌+◌, ◌-◌, ◌*◌, ◌%◌, ◌^◌, ◌<◌, ◌≤◌, Bool, true, false, List, refl, sym, ◌∙◌}
+use Rattle.std.proofs.Common.{ap, subst, inl, inr, arith}
+use Rattle.std.specs.Prelude.{Some, None, slice_index, slice_set, bit_or, if◌then◌else◌}
+use Rattle.std.proofs.lemmas.Bool.{cases_eq, eq-eqb, ne_eqb}
+use Rattle.std.proofs.lemmas.List.{set-get_or}
+use Rattle.mk_laws.proofs.Vocabulary.{Caller, Config, Flight, Host, Marker, MarkerState, Moment, Named, Op, Seat}
+use Rattle.mk_laws.proofs.Vocabulary.{Stage, Step, Words, World, accessed, at_rest, begun, flight_of, found}
+use Rattle.mk_laws.proofs.Vocabulary.{group_of, is_attending, is_in, marker_of, nothing_done, outside, reg_access}
+use Rattle.mk_laws.proofs.Vocabulary.{register_met, still, world_behind}
+use Rattle.mk_core.specs.declared.events.Group.TheVariants as group
+use Rattle.mk_core.specs.declared.events.Word.TheVariants as word
+use Rattle.mk_core.specs.declared.events.Step.TheVariants as step
+use Rattle.mk_core.specs.declared.seats.Stage.TheVariants as stage
+use Rattle.mk_core.specs.Moments.{Seats}
+use Rattle.mk_laws.proofs.Standings.{Standing, Resting, InCall, UnderTurn, Astray, standing, is_astray}
+use Rattle.mk_laws.proofs.Stages.{is_call_stage, is_reg_stage, calls_stand, regs_work}
+use Rattle.mk_laws.proofs.NextSteps.{stage_of, has_stage_of_its_own, at_its_stage, at_reg, is_take}
+use Rattle.mk_laws.proofs.Views.{view_of, HoldsTurn}
+use Rattle.mk_laws.proofs.Orderly.{shows_at, turn_of}
+use Rattle.mk_laws.proofs.Actors.{Meets, Actor, InCallOf, AsMarker, CallTakes, HostTakes, AsHolder}
+use Rattle.mk_laws.proofs.IdleMarkers.{work_attends, look_stays}
+use Rattle.mk_laws.proofs.MarkerMoves.{attends_at}
+use Rattle.mk_laws.proofs.ProtocolMarkers.{count_in-at}
+use Rattle.mk_laws.proofs.OrderlyLists.{not_astray, actor_of}
+use Rattle.mk_laws.proofs.Operands.{Operands, operands_of, register_small}
+use Rattle.mk_laws.proofs.Known.{Known}
+
+-- the words and the seats of a world are others
+abbrev pub with_words_seats : World → Words → Seats → World
+with_words_seats w x s = record {
+  now = record { words = x; seats = s; fresh_words = w.now.fresh_words };
+  allocations = w.allocations;
+}
+
+-- what a caller outside the turn writes
+pub data CallWrite (k : ℕ) (w : Words) : Words → Type 0 where
+  CallLoads : CallWrite k w w
+  SetsGate : (v : ℕ) → v ≤ 1 → CallWrite k w (record w { gates = slice_set w.gates k v })
+  SetsRegister : (r v : ℕ) → r < 8 → CallWrite k w (record w { registers = slice_set w.registers (8 * k + r) v })
+  SetsGlobal : (g v : ℕ) → CallWrite k w (record w { globals = slice_set w.globals g v })
+  SetsHeap : (n v : ℕ) → CallWrite k w (record w { heap = slice_set w.heap n v })
+  SetsDirty : (p : ℕ) → CallWrite k w (record w { dirty = slice_set w.dirty p 1 })
+
+-- what a marker writes that comes, goes or attends
+pub data MarkerWrite (k : ℕ) (m : Moment) : MarkerState → Words → Type 0 where
+  MarkerLoads : {y : MarkerState} → y.presence ≡ (marker_of m k).presence → MarkerWrite k m y m.words
+  ComesIn : {y : MarkerState} → (is_attending y.presence ≡ true → m.words.phase % 8 ≡ 1)
+      → MarkerWrite k m y (record m.words { phase = (m.words.phase + 8) % 2 ^ 64 })
+  GoesOut : {y : MarkerState} → is_attending y.presence ≡ false → 8 ≤ m.words.phase
+      → MarkerWrite k m y (record m.words { phase = (m.words.phase + (2 ^ 64 - 8)) % 2 ^ 64 })
+  AddsMarks : {y : MarkerState} (p bits : ℕ) → is_attending (marker_of m k).presence ≡ true
+      → y.presence ≡ (marker_of m k).presence
+      → MarkerWrite k m y (record m.words
+      { marks = slice_set m.words.marks p (bit_or (slice_index m.words.marks p) bits) })
+  AddsBlacks : {y : MarkerState} (p bits : ℕ) → is_attending (marker_of m k).presence ≡ true
+      → y.presence ≡ (marker_of m k).presence
+      → MarkerWrite k m y (record m.words
+      { blacks = slice_set m.words.blacks p (bit_or (slice_index m.words.blacks p) bits) })
+
+-- all of it
+pub data OthersMove (c : Config) (w : World) : Seat → World → Type 0 where
+  Waits : {seat : Seat} → OthersMove c w seat w
+  Calls : {k : ℕ} (f : Flight) {x : Words} → k < c.callers → slice_index w.now.words.gates k ≤ 1
+      → CallWrite k w.now.words x
+      → OthersMove c w (Caller k)
+      (with_words_seats w x (record w.now.seats { flights = slice_set w.now.seats.flights k f }))
+  Marks : {k : ℕ} (y : MarkerState) {x : Words} → k < 8 → MarkerWrite k w.now y x
+      → OthersMove c w (Marker k)
+      (with_words_seats w x (record w.now.seats { markers = slice_set w.now.seats.markers k y }))
+
+abbrev pub WorldBehind : Config → World → Seat → Step → World
+WorldBehind c w seat x = world_behind c w (record { seat = seat; step = x })
+
+abbrev Outs : Config → World → Seat → Step → Type 0
+Outs c w seat x = OthersMove c w seat (WorldBehind c w seat x)
+
+abbrev finds : Config → World → Seat → Step → ℕ
+finds c w seat x = found c w.now (record { seat = seat; step = x })
+
+-- nothing is changed
+waits_flight : (c : Config) (w : World) (k : ℕ)
+    → OthersMove c w (Caller k)
+    (with_words_seats w w.now.words
+    (record w.now.seats { flights = slice_set w.now.seats.flights k (flight_of w.now (Caller k)) }))
+waits_flight c w k = rw (set-get_or w.now.seats.flights k at_rest) Waits
+
+-- a call that begins where it may
+abbrev begun_if : Bool → Op → Flight → Flight
+begun_if b o f = (if b then record { flight = begun o; answer = None } else still f).flight
+
+-- `enter`, where the gate is 0, and where it is held
+abbrev entered : World → ℕ → Op → Bool → World
+entered w k o b =
+    with_words_seats w (record w.now.words
+    { gates = slice_set w.now.words.gates k (if b then 1 else slice_index w.now.words.gates k) })
+    (record w.now.seats { flights = slice_set w.now.seats.flights k (begun_if b o (flight_of w.now (Caller k))) })
+
+enter_out : (c : Config) (w : World) (k : ℕ) (o : Op) → k < c.callers → Outs c w (Caller k) (step.Enter o)
+enter_out c w k o lt = elim (cases_eq (slice_index w.now.words.gates k) 0) [
+  | inl z ↦
+      rw (eq-eqb (slice_index w.now.words.gates k) 0 z) (Calls (begun o) lt (omega arith) (SetsGate 1 (omega arith)))
+  | inr ne ↦
+      rw (ne_eqb (slice_index w.now.words.gates k) 0 ne) (rw (set-get_or w.now.words.gates k 0) (waits_flight c w k))
+]
+
+-- the turn is held, so nobody takes it
+take_out : (c : Config) (w : World) (k : ℕ) (o : Op) → w.now.words.turn ≢ 0 → Outs c w (Caller k) (step.Take (Some o))
+take_out c w k o ne = rw (ne_eqb w.now.words.turn 0 ne) (waits_flight c w k)
+
+host_take_out : (c : Config) (w : World) → w.now.words.turn ≢ 0 → Outs c w Host (step.Take None)
+host_take_out c w ne = rw (ne_eqb w.now.words.turn 0 ne) Waits
+
+-- the gate of a caller in a call
+
+pub gate_one : (c : Config) (m : Moment) (k : ℕ) → Known c m → k < c.callers
+    → standing (flight_of m (Caller k)) ≡ InCall → slice_index m.words.gates k ≡ 1
+gate_one c m k h lt is = (shows_at c (view_of m) k InCall h.orderly lt is).0
+
+in_call : (c : Config) (m : Moment) (k : ℕ) (x : Step) → Known c m → k < c.callers → Meets c m (Caller k) x
+    → has_stage_of_its_own x ≡ true
+    → is_call_stage (stage_of x) ≡ true
+    → slice_index m.words.gates k ≤ 1
+in_call c m k x known lt h own is =
+    let f = flight_of m (Caller k) in
+    let g = gate_one c m k known lt
+    (calls_stand f.stage f.op (ap is_call_stage (at_its_stage f.stage f.op x own h.order)
+    ∙ is) (not_astray c m known.orderly k lt)) in
+    omega arith
+
+-- `reg` is in a call outside the turn, unless its seat holds the turn
+reg_in_call : (c : Config) (m : Moment) (k : ℕ) → Known c m → k < c.callers
+    → is_reg_stage (flight_of m (Caller k)).stage ≡ true
+    → (HoldsTurn c (view_of m) (Caller k) → ⊥)
+    → slice_index m.words.gates k ≤ 1
+reg_in_call c m k known lt is free = let g =
+    gate_one c m k known lt (by (standing (flight_of m (Caller k))) refl) in omega arith
+  where
+    by : (s : Standing) → standing (flight_of m (Caller k)) ≡ s → standing (flight_of m (Caller k)) ≡ InCall
+    by Resting e = absurd (regs_work (flight_of m (Caller k)).stage (flight_of m (Caller k)).op is e)
+    by InCall e = e
+    by UnderTurn e = absurd (free (lt, e))
+    by Astray e = let y : true ≡ false = ap is_astray (sym e) ∙ not_astray c m known.orderly k lt in cc
+
+reg_write : (w : Words) (k : ℕ) (f : Flight) (s : Stage) → Operands f.op
+    → CallWrite k w (accessed w (Named (word.Reg k (register_met f s))) (reg_access f s))
+reg_write w k f stage.Store o = SetsRegister (register_met f stage.Store) _ (register_small f stage.Store o)
+reg_write w k f stage.Put o = SetsRegister (register_met f stage.Put) _ (register_small f stage.Put o)
+reg_write w k f _ o = CallLoads
+
+call_out : (c : Config) (w : World) (k : ℕ) (x : Step) → Known c w.now → (HoldsTurn c (view_of w.now) (Caller k) → ⊥)
+    → k < c.callers
+    → group_of x ≡ group.Callers → Meets c w.now (Caller k) x
+    → Outs c w (Caller k) x
+call_out c w k (step.Enter o) known out lt g h = enter_out c w k o lt
+call_out c w k step.Leave known out lt g h =
+    Calls _ lt (in_call c w.now k step.Leave known lt h refl refl) (SetsGate 0 (omega arith))
+call_out c w k step.Reg known out lt g h =
+    let f = flight_of w.now (Caller k) in
+    Calls _ lt (reg_in_call c w.now k known lt (at_reg f.stage f.op h.order) out)
+    (reg_write w.now.words k f f.stage (operands_of c f.op (known.operands k)))
+call_out c w k step.Probe known out lt g h = Calls _ lt (in_call c w.now k step.Probe known lt h refl refl) CallLoads
+call_out c w k step.Read known out lt g h = Calls _ lt (in_call c w.now k step.Read known lt h refl refl) CallLoads
+call_out c w k step.Write known out lt g h =
+    Calls _ lt (in_call c w.now k step.Write known lt h refl refl) (SetsHeap _ _)
+call_out c w k step.Cas known out lt g h = Calls _ lt (in_call c w.now k step.Cas known lt h refl refl) (SetsHeap _ _)
+call_out c w k step.Getg known out lt g h = Calls _ lt (in_call c w.now k step.Getg known lt h refl refl) CallLoads
+call_out c w k step.Setg known out lt g h =
+    Calls _ lt (in_call c w.now k step.Setg known lt h refl refl) (SetsGlobal _ _)
+call_out c w k step.Dirty known out lt g h =
+    Calls _ lt (in_call c w.now k step.Dirty known lt h refl refl) (SetsDirty _)
+call_out c w k _ known out lt g h = cc
+
+-- markers, whoever holds the turn
+
+in_counts : (c : Config) (m : Moment) (k : ℕ) → Known c m → k < 8 → is_in (marker_of m k) ≡ true → 8 ≤ m.words.phase
+in_counts c m k h lt is =
+    let one = count_in-at m.seats.markers k (omega (arith, h.orderly.markers)) is in
+    let p = h.orderly.phase in
+    omega arith
+
+marker_out : (c : Config) (w : World) (k : ℕ) (x : Step) → Known c w.now → k < 8 → group_of x ≡ group.Markers
+    → Meets c w.now (Marker k) x → Outs c w (Marker k) x
+marker_out c w k step.Attend known lt g h = Marks _ lt (ComesIn (attends_at w.now.words.phase))
+marker_out c w k step.Quit known lt g h = Marks outside lt (GoesOut refl (in_counts c w.now k known lt h.marker))
+marker_out c w k (step.Mlook y) known lt g h =
+    Marks _ lt (MarkerLoads (look_stays c (finds c w (Marker k) (step.Mlook y)) y (marker_of w.now k)))
+marker_out c w k (step.Claim p i) known lt g h = Marks _ lt (MarkerLoads refl)
+marker_out c w k step.Mload known lt g h = Marks _ lt (MarkerLoads refl)
+marker_out c w k step.Mmark known lt g h =
+    Marks _ lt (AddsMarks _ _ (work_attends c (marker_of w.now k) step.Mmark (known.orderly.idle k) h.marker refl) refl)
+marker_out c w k step.Mblack known lt g h =
+    Marks _ lt (AddsBlacks _ _ (work_attends c (marker_of w.now k) step.Mblack (known.orderly.idle k) h.marker refl)
+    refl)
+marker_out c w k _ known lt g h = cc
+
+-- any seat that doesn't hold the turn
+pub others_move : (c : Config) (w : World) (seat : Seat) (x : Step) → Known c w.now → w.now.words.turn ≢ 0
+    → (HoldsTurn c (view_of w.now) seat → ⊥) → Meets c w.now seat x
+    → OthersMove c w seat (WorldBehind c w seat x)
+others_move c w seat x known held out h = by seat x (actor_of c w.now seat x known.orderly h) out h
+  where
+    by : (seat : Seat) (x : Step) → Actor c w.now seat x → (HoldsTurn c (view_of w.now) seat → ⊥) → Meets c w.now seat x
+        → Outs c w seat x
+    by seat x (InCallOf k _ lt g) out h = call_out c w k x known out lt g h
+    by seat x (AsMarker k _ lt g) out h = marker_out c w k x known lt g h
+    by seat x (CallTakes k o lt idle is) out h = take_out c w k o held
+    by seat x (HostTakes free) out h = host_take_out c w held
+    by seat x (AsHolder _ _ t n) out h = absurd (out t)
+
+-- While nobody holds the turn: any step but a take.
+pub free_move : (c : Config) (w : World) (seat : Seat) (x : Step) → Known c w.now → w.now.words.turn ≡ 0
+    → is_take x ≡ false → Meets c w.now seat x
+    → OthersMove c w seat (WorldBehind c w seat x)
+free_move c w seat x known free takes h = by seat x (actor_of c w.now seat x known.orderly h) takes h
+  where
+    none : (seat : Seat) → HoldsTurn c (view_of w.now) seat → ⊥
+    none seat t = let is = turn_of c (view_of w.now) seat known.orderly t in absurd (omega arith)
+
+    by : (seat : Seat) (x : Step) → Actor c w.now seat x → is_take x ≡ false → Meets c w.now seat x → Outs c w seat x
+    by seat x (InCallOf k _ lt g) takes h = call_out c w k x known (λ t. none (Caller k) t) lt g h
+    by seat x (AsMarker k _ lt g) takes h = marker_out c w k x known lt g h
+    by seat x (CallTakes k o lt idle is) takes h = absurd (cc)
+    by seat x (HostTakes free) takes h = absurd (cc)
+    by seat x (AsHolder _ _ t n) takes h = absurd (none seat t)

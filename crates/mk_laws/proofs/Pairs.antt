@@ -1,0 +1,104 @@
+-- Two lists that are changed at one place together, and facts on images under changes of what they read.
+use Rattle.std.proofs.Common.{◌≡◌, ◌≢◌, ℕ, ◌+◌, ◌<◌, true, false, List, ◌++◌, length, get_or, set, refl, sym, ap, subst}
+use Rattle.std.proofs.Common.{◌∙◌, inl, inr, arith}
+use Rattle.std.specs.Prelude.{if◌then◌else◌}
+use Rattle.std.proofs.lemmas.Bool.{cases_eq, eq-eqb, ne_eqb}
+use Rattle.std.proofs.lemmas.List.{get_or-set_same, get_or-set_other, get_or_append_left}
+use Rattle.mk_laws.proofs.Vocabulary.{Flight, IsSound, NeverState, Null, Num, Op, Ptr, Stage, Value, address_of}
+use Rattle.mk_laws.proofs.Vocabulary.{allocation_at, d_of, image_of, is_unmapped, words_of}
+use Rattle.mk_core.specs.declared.seats.Stage.TheVariants as stage
+use Rattle.mk_laws.specs.Images.{has_q, has_some_q, has_p, has_some_p, has_r, is_put, owes, shown, is_past_probe}
+use Rattle.mk_laws.specs.Images.{Carries, IsMet}
+use Rattle.mk_laws.proofs.ImagesMoves.{is_bare}
+
+pub set_both : {A B : Type 0} (P : A → B → Type 0) (xs : List A) (ys : List B) (k i : ℕ) (x dx : A) (y dy : B)
+    → k < length xs → k < length ys
+    → (i ≡ k → P x y) → (i ≢ k → P (get_or xs i dx) (get_or ys i dy))
+    → P (get_or (set xs k x) i dx) (get_or (set ys k y) i dy)
+set_both P xs ys k i x dx y dy lx ly new old = elim (cases_eq i k) [
+  | inl e ↦ rw e (rw (get_or-set_same xs k x dx lx) (rw (get_or-set_same ys k y dy ly) (new e)))
+  | inr ne ↦ rw (get_or-set_other xs k i x dx ne) (rw (get_or-set_other ys k i y dy ne) (old ne))
+]
+
+-- a stage that carries nothing
+pub bare_carries : (bs : List ℕ) (f : Flight) (a b d : Value) → is_bare f.stage ≡ true → Carries bs f a b d
+bare_carries bs f a b d h =
+    let n = none f.stage f.op h in
+    record {
+      q = λ e. let x : false ≡ true = sym n.0 ∙ e in cc;
+      some_q = λ e. let x : false ≡ true = sym n.1 ∙ e in cc;
+      p = λ e. let x : false ≡ true = sym n.2 ∙ e in cc;
+      some_p = λ e. let x : false ≡ true = sym n.3 ∙ e in cc;
+      r = λ e. let x : false ≡ true = sym n.4 ∙ e in cc;
+    }
+  where
+    none : (s : Stage) (o : Op) → is_bare s ≡ true
+        → (has_q s o ≡ false) × (has_some_q s o ≡ false) × (has_p s o ≡ false) × (has_some_p s o ≡ false)
+        × (has_r s o ≡ false)
+    none stage.Idle o h = (refl, refl, refl, refl, refl)
+    none stage.Getg o h = (refl, refl, refl, refl, refl)
+    none stage.Dirty o h = (refl, refl, refl, refl, refl)
+    none stage.Leave o h = (refl, refl, refl, refl, refl)
+    none stage.Give o h = (refl, refl, refl, refl, refl)
+    none _ o h = cc
+
+pub put_carries : (bs : List ℕ) (f : Flight) (a b d : Value) → f.stage ≡ stage.Put → Carries bs f a b d
+put_carries bs f a b d h =
+    record {
+      q = λ e. let x : has_q stage.Put f.op ≡ true = rw h at e in cc;
+      some_q = λ e. let x : has_some_q stage.Put f.op ≡ true = rw h at e in cc;
+      p = λ e. let x : has_p stage.Put f.op ≡ true = rw h at e in cc;
+      some_p = λ e. let x : has_some_p stage.Put f.op ≡ true = rw h at e in cc;
+      r = λ e. let x : has_r stage.Put f.op ≡ true = rw h at e in cc;
+    }
+
+pub bare_unprobed : (s : Stage) → is_bare s ≡ true → is_past_probe s ≡ false
+bare_unprobed stage.Read h = cc
+bare_unprobed _ h = cc
+
+-- what a flight shows of a register
+pub shows_plain : (f : Flight) (r x : ℕ) → is_put f.stage ≡ false → shown f r x ≡ x
+shows_plain f r x h = rw (none f.stage (d_of f.op) r h)
+  where
+    none : (s : Stage) (d r : ℕ) → is_put s ≡ false → owes s d r ≡ false
+    none stage.Put d r h = cc
+    none _ d r h = refl
+
+pub shows_owed : (f : Flight) (x : ℕ) → f.stage ≡ stage.Put → shown f (d_of f.op) x ≡ f.loaded
+shows_owed f x h = rw h (rw (eq-eqb (d_of f.op) (d_of f.op) refl))
+
+pub shows_other : (f : Flight) (r x : ℕ) → f.stage ≡ stage.Put → d_of f.op ≢ r → shown f r x ≡ x
+shows_other f r x h ne = rw h (rw (ne_eqb (d_of f.op) r ne))
+
+pub bare_owes_nothing : (s : Stage) → is_bare s ≡ true → is_put s ≡ false
+bare_owes_nothing stage.Put h = cc
+bare_owes_nothing _ h = refl
+
+-- images with one more base
+pub image_more : (n : NeverState) (bs more : List ℕ) (v : Value) → length bs ≡ length n.allocations → IsSound n v
+    → image_of (bs ++ more) v ≡ image_of bs v
+image_more n bs more (Ptr a t o) e s =
+    ap (λ x. address_of (x + o))
+    (get_or_append_left bs more 0 a (let lt : a < length n.allocations = s.0 in omega (arith, e)))
+image_more n bs more _ e s = refl
+
+-- what is carried, where the values are others with the same images
+pub carries_same : (bs cs : List ℕ) (f : Flight) (a b d a2 b2 d2 : Value) → image_of cs a2 ≡ image_of bs a
+    → image_of cs b2 ≡ image_of bs b → image_of cs d2 ≡ image_of bs d
+    → Carries bs f a b d → Carries cs f a2 b2 d2
+carries_same bs cs f a b d a2 b2 d2 ea eb ed h =
+    record {
+      q = λ e. h.q e ∙ sym ea;
+      some_q = h.some_q;
+      p = λ e. h.p e ∙ sym eb;
+      some_p = h.some_p;
+      r = λ e. h.r e
+          ∙ sym ed;
+    }
+
+-- an access that is met, where lengths and what is unmapped are the same
+pub met_same : (n m : NeverState) (v : Value) (i : ℕ) → ((a : ℕ) → length (words_of m a) ≡ length (words_of n a))
+    → ((a : ℕ) → is_unmapped (allocation_at n a) ≡ false → is_unmapped (allocation_at m a) ≡ false)
+    → IsMet n v i → IsMet m v i
+met_same n m (Ptr a t o) i l u h = λ lt. u a (h (let e = l a in omega (arith, e)))
+met_same n m _ i l u h = tt

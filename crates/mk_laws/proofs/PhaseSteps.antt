@@ -1,0 +1,94 @@
+-- The phase along a cycle: it marks up to the `close`, and stays where it is up to the `release` and the `end`.
+use Rattle.std.proofs.Common.{arith, false, inl, inr, refl, sym, ℕ, ◌∙◌, ◌≡◌, ◌≤◌, ◌⊎◌}
+use Rattle.std.proofs.lemmas.Bool.{eqb-true, true≢false}
+use Rattle.mk_core.specs.Cycles.{is_begin, is_close, is_end, is_release}
+use Rattle.mk_core.specs.Moments.{Moment}
+use Rattle.mk_core.specs.Words.{phase_of}
+use Rattle.mk_core.specs.declared.config.Config.{Config}
+use Rattle.mk_core.specs.declared.events.Seat.{Seat}
+use Rattle.mk_core.specs.declared.events.Step.{Step}
+use Rattle.mk_core.specs.declared.events.Step.TheVariants as step
+use Rattle.mk_laws.proofs.Actors.{Meets}
+use Rattle.mk_laws.proofs.SameWords.{Behind}
+use Rattle.mk_laws.specs.Guard.{IsMarking}
+use Rattle.mk_laws.proofs.PrecisionStepKinds.{is_grant}
+use Rattle.mk_laws.proofs.Phases.{either_phase, is_phase_step, over_phase, phase_stays}
+
+none_begins : (x : Step) → is_phase_step x ≡ false → is_begin x ≡ false
+none_begins step.Begin stays = cc
+none_begins _ stays = refl
+
+none_releases : (x : Step) → is_phase_step x ≡ false → is_release x ≡ false
+none_releases step.Release stays = cc
+none_releases _ stays = refl
+
+pub record GoesOnMarking (c : Config) (m : Moment) (seat : Seat) (x : Step) : Type 0 where
+  pub early : IsMarking (Behind c m seat x).words
+  pub begun : is_begin x ≡ false
+  pub released : is_release x ≡ false
+
+not_at : (n p : ℕ) → (n ≡ 1) ⊎ (n ≡ 2) → n ≡ p → (p ≡ 0) ⊎ (3 ≤ p) → ⊥
+not_at n p (inl e) at (inl z) = absurd (omega arith)
+not_at n p (inl e) at (inr le) = absurd (omega arith)
+not_at n p (inr e) at (inl z) = absurd (omega arith)
+not_at n p (inr e) at (inr le) = absurd (omega arith)
+
+-- While it marks, what isn't a `close` leaves it marking.
+pub marking_goes_on : (c : Config) (m : Moment) (seat : Seat) (x : Step) → IsMarking m.words → Meets c m seat x
+    → is_close x ≡ false → GoesOnMarking c m seat x
+marking_goes_on c m seat step.Begin early h other =
+    absurd (not_at (phase_of m.words) 0 early (eqb-true (phase_of m.words) 0 h.phase) (inl refl))
+marking_goes_on c m seat step.Want early h other =
+    let one = eqb-true (phase_of m.words) 1 h.phase in
+    record { early = inr (omega arith); begun = refl; released = refl }
+marking_goes_on c m seat step.Close early h other = cc
+marking_goes_on c m seat step.Release early h other =
+    absurd (not_at (phase_of m.words) 3 early (eqb-true (phase_of m.words) 3 h.phase) (inr (omega arith)))
+marking_goes_on c m seat step.End early h other =
+    absurd (not_at (phase_of m.words) 4 early (eqb-true (phase_of m.words) 4 h.phase) (inr (omega arith)))
+marking_goes_on c m seat step.Over early h other =
+    absurd (not_at (phase_of m.words) 0 early (over_phase c m seat h) (inl refl))
+marking_goes_on c m seat x early h other = rest x refl
+  where
+    rest : (x : Step) → is_phase_step x ≡ false → GoesOnMarking c m seat x
+    rest x stays =
+        let same = phase_stays c m seat x stays in
+        record {
+          early = elim early [ inl e ↦ inl (same ∙ e) | inr e ↦ inr (same ∙ e) ];
+          begun = none_begins x stays;
+          released = none_releases x stays;
+        }
+
+-- After the `close` neither a `begin` nor a grant comes: the phase waits for the `release`, and then for the `end`.
+pub record Waits (c : Config) (m : Moment) (seat : Seat) (x : Step) (p : ℕ) : Type 0 where
+  pub phase : phase_of (Behind c m seat x).words ≡ p
+  pub begun : is_begin x ≡ false
+  pub granted : is_grant x ≡ false
+
+waits : (c : Config) (m : Moment) (seat : Seat) (x : Step) (p : ℕ) → 3 ≤ p → phase_of m.words ≡ p → Meets c m seat x
+    → (p ≡ 3 → is_release x ≡ false) → (p ≡ 4 → is_end x ≡ false) → Waits c m seat x p
+waits c m seat step.Begin p late at h out past = let z = eqb-true (phase_of m.words) 0 h.phase in absurd (omega arith)
+waits c m seat step.Want p late at h out past = let z = eqb-true (phase_of m.words) 1 h.phase in absurd (omega arith)
+waits c m seat step.Close p late at h out past = let z = eqb-true (phase_of m.words) 2 h.phase in absurd (omega arith)
+waits c m seat step.Release p late at h out past =
+    absurd (true≢false (out (sym at ∙ eqb-true (phase_of m.words) 3 h.phase)))
+waits c m seat step.End p late at h out past =
+    absurd (true≢false (past (sym at ∙ eqb-true (phase_of m.words) 4 h.phase)))
+waits c m seat step.Over p late at h out past = let z = over_phase c m seat h in absurd (omega arith)
+waits c m seat step.Grant p late at h out past =
+    elim (either_phase (phase_of m.words) 0 1 h.phase) [ inl e ↦ absurd (omega arith) | inr e ↦ absurd (omega arith) ]
+waits c m seat x p late at h out past = rest x refl refl
+  where
+    rest : (x : Step) → is_phase_step x ≡ false → is_grant x ≡ false → Waits c m seat x p
+    rest x stays other =
+        record { phase = phase_stays c m seat x stays ∙ at; begun = none_begins x stays; granted = other }
+
+pub stopped_waits : (c : Config) (m : Moment) (seat : Seat) (x : Step) → phase_of m.words ≡ 3 → Meets c m seat x
+    → is_release x ≡ false
+    → Waits c m seat x 3
+stopped_waits c m seat x at h other = waits c m seat x 3 (omega arith) at h (λ e. other) (λ e. absurd (omega arith))
+
+pub releasing_waits : (c : Config) (m : Moment) (seat : Seat) (x : Step) → phase_of m.words ≡ 4 → Meets c m seat x
+    → is_end x ≡ false
+    → Waits c m seat x 4
+releasing_waits c m seat x at h other = waits c m seat x 4 (omega arith) at h (λ e. absurd (omega arith)) (λ e. other)

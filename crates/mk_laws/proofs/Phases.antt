@@ -1,0 +1,43 @@
+-- The phase that a condition names, and the phase after a step.
+use Rattle.std.proofs.Common.{◌≡◌, ◌⊎◌, ℕ, ◌%◌, Bool, true, false, refl, ap, inl, inr, arith}
+use Rattle.std.specs.Prelude.{◌||◌, ◌==◌}
+use Rattle.std.proofs.lemmas.Bool.{eqb-true, and_parts, or_cases}
+use Rattle.mk_laws.proofs.Vocabulary.{Config, Moment, Seat, Step, host_has_turn, is_phase, phase_of}
+use Rattle.mk_core.specs.declared.events.Step.TheVariants as step
+use Rattle.mk_laws.proofs.Actors.{Meets}
+use Rattle.mk_laws.proofs.SameWords.{Behind}
+use Rattle.mk_laws.proofs.Changes.{Table, reg_table, tally_table}
+
+pub either_phase : (n a b : ℕ) → ((n == a) || (n == b)) ≡ true → (n ≡ a) ⊎ (n ≡ b)
+either_phase n a b h = elim (or_cases (n == a) (n == b) h) [
+  | inl e ↦ inl (eqb-true n a e)
+  | inr e ↦ inr (eqb-true n b e)
+]
+
+-- six kinds change it
+
+abbrev pub is_phase_step : Step → Bool
+is_phase_step step.Begin = true
+is_phase_step step.Want = true
+is_phase_step step.Close = true
+is_phase_step step.Release = true
+is_phase_step step.End = true
+is_phase_step step.Over = true
+is_phase_step _ = false
+
+pub phase_stays : (c : Config) (m : Moment) (seat : Seat) (x : Step) → is_phase_step x ≡ false
+    → phase_of (Behind c m seat x).words ≡ phase_of m.words
+phase_stays c m seat step.Reg no_change = ap (λ (t : Table). t.phase % 8) (reg_table c m seat)
+phase_stays c m seat (step.Tally n v) no_change = ap (λ (t : Table). t.phase % 8) (tally_table m.words n v)
+phase_stays c m seat step.Begin no_change = cc
+phase_stays c m seat step.Want no_change = cc
+phase_stays c m seat step.Close no_change = cc
+phase_stays c m seat step.Release no_change = cc
+phase_stays c m seat step.End no_change = cc
+phase_stays c m seat step.Over no_change = cc
+phase_stays c m seat step.Attend no_change = omega arith
+phase_stays c m seat step.Quit no_change = omega arith
+phase_stays c m seat _ no_change = refl
+
+pub over_phase : (c : Config) (m : Moment) (seat : Seat) → Meets c m seat step.Over → phase_of m.words ≡ 0
+over_phase c m seat h = eqb-true (phase_of m.words) 0 (and_parts (host_has_turn c m) (is_phase m.words 0) h.holder).1

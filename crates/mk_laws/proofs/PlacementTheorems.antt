@@ -1,0 +1,98 @@
+-- Where the objects of all histories are granted, and when a New is full.
+use Rattle.std.proofs.Common.{◌≡◌, ℕ, ◌<◌, true, false, List, ◌∷◌, ◌++◌, refl, sym, ◌∙◌, ap, subst, arith}
+use Rattle.std.specs.Prelude.{IsSome, None, Option, Some, is_none}
+use Rattle.std.proofs.lemmas.Bool.{eqb-true, ne_eqb, true≢false}
+use Rattle.mk_laws.proofs.Vocabulary.{Caller, Config, Event, Holding, IsHistory, Moment, Object, OwnCycle, Page}
+use Rattle.mk_laws.proofs.Vocabulary.{Place, Placing, Seat, Step, Unplaced, Used, World, flight_of, granted_base}
+use Rattle.mk_laws.proofs.Vocabulary.{is_phase, is_undecided_new, is_used_once, left, may_answer_full, phase_of}
+use Rattle.mk_laws.proofs.Vocabulary.{place_on_pages}
+use Rattle.mk_core.specs.declared.events.Step.TheVariants as step
+use Rattle.mk_core.specs.declared.seats.OwnCycle.TheVariants.{Ended}
+use Rattle.mk_core.specs.Placement.{FullsFitNowhere, GrantsStandAtTheirPlaces, FindsNoPlace, StandsAtItsPlace}
+use Rattle.mk_core.specs.Placement.{object_at}
+use Rattle.mk_laws.proofs.Actors.{Meets, fills_new, grants_new}
+use Rattle.mk_laws.proofs.NewPlace.{held_place, new_holds}
+use Rattle.mk_laws.specs.Theorems.{OfHistories}
+use Rattle.mk_laws.proofs.InvariantTheorems.{first_fit_finds_the_place}
+use Rattle.mk_laws.proofs.Induction.{before_it}
+use Rattle.mk_laws.proofs.OwnCycles.{HasCycle}
+use Rattle.mk_laws.proofs.Tracked.{HasPlace, news_are_tracked, unplaced_settles}
+use Rattle.mk_laws.proofs.Undecided.{HasNew}
+
+-- What holds where a caller with an undecided New makes a step of this kind holds where any seat makes it.
+at_each : (c : Config) (x : Step) (claim : List Event → Seat → Type 0)
+    → ((m : Moment) (seat : Seat) → Meets c m seat x → is_undecided_new (flight_of m seat) ≡ true)
+    → ((es : List Event) (k : ℕ) → IsHistory c es → k < c.callers → HasNew (left c es) k
+    → Meets c (left c es).now (Caller k) x → claim es (Caller k))
+    → (es before : List Event) (e : Event) (behind : List Event) → IsHistory c es → es ≡ before ++ e ∷ behind
+    → e.step ≡ x → claim before e.seat
+at_each c x claim news there es before e behind h is kind =
+    let here = before_it c es before e behind h is in
+    let m : Moment = (left c before).now in
+    let meets : Meets c m e.seat x = subst (λ (y : Step). Meets c m e.seat y) kind here.1 in
+    let new = news m e.seat meets in
+    let own = new_holds c m e.seat x meets new in
+    subst (λ (s : Seat). claim before s) (sym own.2)
+    (there before own.0 here.0 own.1 (subst (λ (s : Seat). is_undecided_new (flight_of m s) ≡ true) own.2 new)
+    (subst (λ (s : Seat). Meets c m s x) own.2 meets))
+
+-- `grant`
+
+granted_there : (c : Config) (es : List Event) (k : ℕ) → IsHistory c es → k < c.callers → HasNew (left c es) k
+    → Meets c (left c es).now (Caller k) step.Grant → StandsAtItsPlace c es (Caller k)
+granted_there c es k h lt new meets = by (left c es).now.seats.holding.placing refl meets.holder
+  where
+    o : Object
+    o = object_at c es (Caller k)
+
+    by : (p : Placing) → (left c es).now.seats.holding.placing ≡ p → is_used_once p ≡ true
+        → StandsAtItsPlace c es (Caller k)
+    by (Used place) at once =
+        let t = news_are_tracked c es h k lt new in
+        let served : HasPlace c (Caller k) t.turn o (Some place) =
+        subst (λ (p : Placing). HasPlace c (Caller k) t.turn o (held_place p)) at t.placed in
+        record {
+          turn = t.turn;
+          first = served.first;
+          place = place;
+          fits = served.fits;
+          base = ap (λ (p : Placing). granted_base c (flight_of (left c es).now (Caller k)) p) at;
+        }
+    by _ at once = cc
+
+pub grants_stand_at_their_places : OfHistories GrantsStandAtTheirPlaces
+grants_stand_at_their_places c es h before e behind is =
+    at_each c step.Grant (StandsAtItsPlace c) (grants_new c) (granted_there c) es before e behind h is
+
+-- `full`
+
+full_is : (resident : ℕ) (pages : List Page) (o : Object) (placing : Placing) (cycle : OwnCycle)
+    → may_answer_full resident pages o placing cycle ≡ true
+    → (placing ≡ Unplaced) × (cycle ≡ Ended) × (is_none (place_on_pages resident pages o) ≡ true)
+full_is resident pages o Unplaced Ended h = (refl, refl, h)
+full_is resident pages o _ _ h = cc
+
+none_is_there : (found : Option Place) → is_none found ≡ true → IsSome found → ⊥
+none_is_there None is some = true≢false (sym some)
+none_is_there (Some place) is some = true≢false (sym is)
+
+full_there : (c : Config) (es : List Event) (k : ℕ) → IsHistory c es → k < c.callers → HasNew (left c es) k
+    → Meets c (left c es).now (Caller k) step.Full → FindsNoPlace c es (Caller k)
+full_there c es k h lt new meets =
+    let w : World = left c es in
+    let o : Object = object_at c es (Caller k) in
+    let y : Holding = w.now.seats.holding in
+    let parts = full_is c.resident w.now.words.pages o y.placing y.cycle meets.holder in
+    let t = news_are_tracked c es h k lt new in
+    let zero = eqb-true (phase_of w.now.words) 0 meets.phase in
+    let off : is_phase w.now.words 4 ≡ false = ne_eqb (phase_of w.now.words) 4 (λ four. omega arith) in
+    let same = first_fit_finds_the_place c es h o (unplaced_settles c es k h lt new off parts.0) in
+    record {
+      turn = t.turn;
+      cycle = subst (λ (x : OwnCycle). HasCycle t.turn.behind x (phase_of w.now.words)) parts.1 t.cycle;
+      no_fit = none_is_there _ (ap (λ (found : Option Place). is_none found) (sym same) ∙ parts.2);
+    }
+
+pub fulls_fit_nowhere : OfHistories FullsFitNowhere
+fulls_fit_nowhere c es h before e behind is =
+    at_each c step.Full (FindsNoPlace c) (fills_new c) (full_there c) es before e behind h is

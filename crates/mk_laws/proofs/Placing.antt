@@ -1,0 +1,323 @@
+-- The steps of a New: its place is chosen, its pages get their headers one by one, and its cell is taken.
+use Rattle.std.proofs.Common.{Bool, List, ap, arith, false, inl, inr, length, length-set, refl, subst, sym, true, ℕ, []}
+use Rattle.std.proofs.Common.{◌++◌, ◌+◌, ◌-◌, ◌<◌, ◌^◌, ◌∙◌, ◌∷◌, ◌≡◌, ◌≢◌, ◌≤◌, ◌⊎◌}
+use Rattle.std.specs.Prelude.{Some}
+use Rattle.std.proofs.lemmas.Bool.{cases_eq, true≢false}
+use Rattle.mk_laws.proofs.Vocabulary.{IsSized, Later, Object, ShowsPart, cells_made, cells_under, has_bit}
+use Rattle.mk_laws.proofs.Vocabulary.{header_made, header_of, pages_made, stands}
+use Rattle.mk_core.proofs.ObjectHeaders.{made_shows, part_cells, shown_later}
+use Rattle.mk_core.proofs.Sizes.{pages_some}
+use Rattle.mk_core.proofs.WordBits.{added_here, added_other}
+use Rattle.mk_laws.specs.LayoutScene.{Among, AreApart, Claim, HasItsHead, InPlot, IsClaimed, IsLaidOn, IsOfOneCell}
+use Rattle.mk_laws.specs.LayoutScene.{IsPlotShown, IsShown, IsTakenCell, Mapped, NoPlot, Plotted, LayoutScene}
+use Rattle.mk_laws.specs.LayoutScene.{head_on, header_on, is_released_on, run_count, shows_on, used_on}
+use Rattle.mk_laws.proofs.PageSets.{headed_here, headed_other, headed_used, used_header, used_here, used_other}
+use Rattle.mk_laws.proofs.PageSets.{with_header_on, with_used_on}
+use Rattle.mk_laws.proofs.LayoutReadings.{claimed_head, claimed_some, free_unused, none_set, zero_where_none}
+use Rattle.mk_laws.proofs.Releasing.{head_of_other, shown_beside}
+use Rattle.mk_laws.proofs.RunCounts.{part_count}
+
+-- the place is chosen: its pages are free
+abbrev pub ChosenAt : LayoutScene → ℕ → Object → LayoutScene
+ChosenAt s first o = record s { plot = Plotted first o }
+
+pub layout_chosen : (s : LayoutScene) (first : ℕ) (o : Object) → IsLaidOn s → s.plot ≡ NoPlot → IsSized o
+    → first + pages_made o ≤ length s.pages
+    → ((d : ℕ) → d < pages_made o → header_on s.pages (first + d) ≡ 0) → IsLaidOn (ChosenAt s first o)
+layout_chosen s first o laid none sized within free =
+    record {
+      shown = laid.shown;
+      apart = laid.apart;
+      used = laid.used;
+      plot = record {
+        sized = sized;
+        within = within;
+        headers = λ d lt. inl (free d lt);
+        used = λ d lt. free_unused s (first + d) laid (free d lt);
+      };
+      occupied = λ p some empty. elim (laid.occupied p some empty) [
+        | inl on ↦ inl on
+        | inr here ↦ absurd (rw none at here)
+      ];
+      later = laid.later;
+    }
+
+-- `head` (a) and (b): the first page that hasn't its header gets it
+abbrev pub Carved : LayoutScene → ℕ → Object → ℕ → LayoutScene
+Carved s first o d = record s { pages = with_header_on s.pages (first + d) (header_made o d); plot = Plotted first o }
+
+pub record Carves (s : LayoutScene) (first : ℕ) (o : Object) (d : ℕ) : Type 0 where
+  pub within : d < pages_made o
+  pub not_yet : header_on s.pages (first + d) ≢ header_made o d
+  pub before : (e : ℕ) → e < d → header_on s.pages (first + e) ≡ header_made o e
+
+pub layout_carved : (s : LayoutScene) (first : ℕ) (o : Object) (d : ℕ) → IsLaidOn s → s.plot ≡ Plotted first o
+    → s.releasing ≡ false → Carves s first o d → IsLaidOn (Carved s first o d)
+layout_carved s first o d laid plotted off next =
+    record {
+      shown = λ x among. shown_beside s.pages p n x lt (laid.shown x among)
+          (λ e le at. claimed_some s.pages x e (laid.shown x among) le (ap (λ q. header_on s.pages q) at ∙ was));
+      apart = laid.apart;
+      used = λ q k h. elim (cases_eq q p) [
+        | inl e ↦ absurd (none_set (used_on s.pages p) k (free_unused s p laid was) (rw (← e) (old q k h)))
+        | inr ne ↦ let t = laid.used q k (old q k h) in (
+          rw (ap (λ h. cells_under (header_of h)) (sym (headed_other s.pages p n q ne))) at t.0,
+          t.1,
+        )
+      ];
+      plot = record {
+        sized = plot.sized;
+        within = let len = length-set s.pages p (record { header = n; used = used_on s.pages p }) in let w =
+            plot.within in omega arith;
+        headers = λ e le. elim (cases_eq e d) [
+          | inl same ↦ inr (rw same (headed_here s.pages p n lt ∙ rw (← same)))
+          | inr other ↦ rw (headed_other s.pages p n (first + e) (λ x. other (omega arith))) (plot.headers e le)
+        ];
+        used = λ e le. headed_used s.pages p n (first + e) lt ∙ plot.used e le;
+      };
+      occupied = λ q some empty. elim (cases_eq q p) [
+        | inl e ↦ let w = next.within in inr (omega arith, omega arith)
+        | inr ne ↦ elim (laid.occupied q (λ z. some (headed_other s.pages p n q ne ∙ z))
+            (rw (← (head_of_other s.pages p n q ne))
+            (sym (headed_used s.pages p n (head_on (with_header_on s.pages p n) q) lt) ∙ empty))) [
+              | inl on ↦ inl on
+              | inr here ↦ inr (rw plotted at here)
+            ]
+      ];
+      later = λ q e m is. elim (cases_eq q p) [
+        | inl same ↦ headed_later q e m same is
+        | inr ne ↦
+            let l = laid.later q e m (rw (← (headed_other s.pages p n q ne)) is) in (
+              l.0,
+              elim (cases_eq (q - e) p) [
+                | inl at ↦ absurd (not_headed e (subst (λ i. (e < run_count (shows_on s.pages i))
+                    ⊎ ((s.releasing ≡ true) × (header_on s.pages i ≡ 0))) at l.1))
+                | inr other ↦ rw (headed_other s.pages p n (q - e) other) l.1
+              ],
+            )
+      ];
+    }
+  where
+    p : ℕ
+    p = first + d
+
+    n : ℕ
+    n = header_made o d
+
+    plot : IsPlotShown s.pages first o
+    plot = rw plotted at laid.plot
+
+    lt : first + d < length s.pages
+    lt = let w = plot.within in let l = next.within in omega arith
+
+    was : header_on s.pages (first + d) ≡ 0
+    was = elim (plot.headers d next.within) [ inl z ↦ z | inr stands ↦ absurd (next.not_yet stands) ]
+
+    old : (q k : ℕ) → has_bit (used_on (with_header_on s.pages (first + d) (header_made o d)) q) k ≡ true
+        → has_bit (used_on s.pages q) k ≡ true
+    old q k h = rw (← (headed_used s.pages (first + d) (header_made o d) q lt)) h
+
+    not_headed : (e : ℕ)
+        → (e < run_count (shows_on s.pages (first + d))) ⊎ ((s.releasing ≡ true) × (header_on s.pages (first + d) ≡ 0))
+        → ⊥
+    not_headed e (inl less) = let none : run_count (shows_on s.pages (first + d)) ≡ 0 = rw was in omega arith
+    not_headed e (inr on) = true≢false (sym on.0 ∙ off)
+
+    part : ShowsPart o d (header_of (header_made o d))
+    part = made_shows o d plot.sized next.within
+
+    headed_later : (q e : ℕ) (m : Bool) → q ≡ first + d
+        → shows_on (with_header_on s.pages (first + d) (header_made o d)) q ≡ Some (Later e m)
+        → HasItsHead (with_header_on s.pages (first + d) (header_made o d)) s.releasing q e
+    headed_later q e m same is =
+        let at =
+        shown_later o d e m (header_of (header_made o d)) part
+        (rw (← (headed_here s.pages (first + d) (header_made o d) lt))
+        (ap (λ i. shows_on (with_header_on s.pages (first + d) (header_made o d)) i) (sym same) ∙ is)) in
+        let e_is : e ≡ d = at.0 in
+        let some : 1 ≤ d = at.1 in
+        let back : q - e ≡ first = omega arith in
+        let zero : first + 0 ≡ first = omega arith in
+        let w = next.within in
+        let head : header_on (with_header_on s.pages (first + d) (header_made o d)) (q - e) ≡ header_made o 0 =
+        rw back (headed_other s.pages (first + d) (header_made o d) first (λ x. omega arith)
+        ∙ rw (← zero) (next.before 0 (omega arith))) in (
+          omega arith,
+          inl (rw head
+              (let count = part_count o (header_of (header_made o 0)) (made_shows o 0 plot.sized (omega arith)) at.2
+              in omega arith)),
+        )
+
+-- `used` (a): the cell of the place is taken, after all its headers
+abbrev pub Taken : LayoutScene → Claim → ℕ → LayoutScene
+Taken s x n = record s { pages = with_used_on s.pages x.page n; claims = s.claims ++ x ∷ []; plot = NoPlot }
+
+pub record Takes (s : LayoutScene) (x : Claim) (n : ℕ) : Type 0 where
+  pub sized : IsSized x.object
+  pub mapped : x.mode ≡ Mapped
+  pub index : x.index < cells_made x.object
+  pub within : x.page + pages_made x.object ≤ length s.pages
+  pub headers : (d : ℕ) → d < pages_made x.object → header_on s.pages (x.page + d) ≡ header_made x.object d
+  pub unset : has_bit (used_on s.pages x.page) x.index ≡ false
+  pub value : n ≡ used_on s.pages x.page + 2 ^ x.index
+  pub plot : (q : ℕ) → InPlot s.plot q → InPlot (Plotted x.page x.object) q
+
+pub among_push : (xs : List Claim) (x y : Claim) → Among y (xs ++ x ∷ []) → Among y xs ⊎ (y ≡ x)
+among_push [] x y (inl e) = inr e
+among_push [] x y (inr out) = absurd out
+among_push (z ∷ zs) x y (inl e) = inl (inl e)
+among_push (z ∷ zs) x y (inr i) = elim (among_push zs x y i) [ inl j ↦ inl (inr j) | inr e ↦ inr e ]
+
+pub among_left : (xs : List Claim) (x y : Claim) → Among y xs → Among y (xs ++ x ∷ [])
+among_left [] x y i = absurd i
+among_left (z ∷ zs) x y (inl e) = inl e
+among_left (z ∷ zs) x y (inr i) = inr (among_left zs x y i)
+
+pub among_last : (xs : List Claim) (x : Claim) → Among x (xs ++ x ∷ [])
+among_last [] x = inl refl
+among_last (z ∷ zs) x = inr (among_last zs x)
+
+apart_push : (xs : List Claim) (x : Claim) → AreApart xs → ((y : Claim) → Among y xs → IsOfOneCell y x → ⊥)
+    → AreApart (xs ++ x ∷ [])
+apart_push [] x apart new = (λ y i. absurd i, tt)
+apart_push (z ∷ zs) x apart new = (
+  λ y i same. elim (among_push zs x y i) [
+    | inl j ↦ apart.0 y j same
+    | inr e ↦ new z (inl refl) (same.0 ∙ rw e, same.1 ∙ rw e)
+  ],
+  apart_push zs x apart.1 (λ y i. new y (inr i)),
+)
+
+pub layout_taken : (s : LayoutScene) (x : Claim) (n : ℕ) → IsLaidOn s → Takes s x n → IsLaidOn (Taken s x n)
+layout_taken s x n laid t =
+    record {
+      shown = λ y among. elim (among_push s.claims x y among) [
+        | inl was ↦ grown y (laid.shown y was)
+        | inr e ↦ rw e own
+      ];
+      apart =
+          apart_push s.claims x laid.apart
+          (λ y i same. true≢false (sym (laid.shown y i).used ∙ rw same.0
+          (rw same.1 t.unset)));
+      used = used;
+      plot = tt;
+      occupied = λ q some empty. elim
+          (laid.occupied q (λ z. some (used_header s.pages x.page n q lt ∙ z)) (unused q empty)) [
+            | inl on ↦ inl on
+            | inr here ↦ absurd (full q (t.plot q here) empty)
+          ];
+      later = λ q d m is.
+          let l = laid.later q d m (rw (← (used_header s.pages x.page n q lt)) is) in (
+            l.0,
+            rw (used_header s.pages x.page n (q - d) lt) l.1,
+          );
+    }
+  where
+    some_pages : 1 ≤ pages_made x.object
+    some_pages = pages_some x.object t.sized
+
+    lt : x.page < length s.pages
+    lt = let w = t.within in let o = some_pages in omega arith
+
+    len : length (with_used_on s.pages x.page n) ≡ length s.pages
+    len = length-set s.pages x.page (record { header = header_on s.pages x.page; used = n })
+
+    here_set : has_bit (used_on (with_used_on s.pages x.page n) x.page) x.index ≡ true
+    here_set = rw (used_here s.pages x.page n lt ∙ t.value)
+        (added_here (used_on s.pages x.page) x.index t.unset)
+
+    same_bit : (q k : ℕ) → (q ≡ x.page → k ≢ x.index)
+        → has_bit (used_on (with_used_on s.pages x.page n) q) k ≡ has_bit (used_on s.pages q) k
+    same_bit q k other = elim (cases_eq q x.page) [
+      | inr ne ↦ rw (used_other s.pages x.page n q ne)
+      | inl e ↦ rw e
+          (rw (used_here s.pages x.page n lt ∙ t.value)
+          (added_other (used_on s.pages x.page) x.index k t.unset (other e)
+          ∙ rw (← e)))
+    ]
+
+    grow : (q k : ℕ) → has_bit (used_on s.pages q) k ≡ true
+        → has_bit (used_on (with_used_on s.pages x.page n) q) k ≡ true
+    grow q k h = same_bit q k (λ e ek. true≢false (sym h ∙ rw e
+        (rw ek t.unset))) ∙ h
+
+    grown : (y : Claim) → IsShown s.pages y → IsShown (with_used_on s.pages x.page n) y
+    grown y was =
+        record {
+          sized = was.sized;
+          known = was.known;
+          within = let l = len in let w = was.within in omega arith;
+          headers = λ d ld. rw (used_header s.pages x.page n (y.page + d) lt) (was.headers d ld);
+          used = grow y.page y.index was.used;
+        }
+
+    own : IsShown (with_used_on s.pages x.page n) x
+    own =
+        record {
+          sized = t.sized;
+          known = t.index;
+          within = let l = len in let w = t.within in omega arith;
+          headers =
+              λ d ld. rw t.mapped
+              (used_header s.pages x.page n (x.page + d) lt ∙ t.headers d ld);
+          used = here_set;
+        }
+
+    cells_here : cells_under (shows_on s.pages x.page) ≡ cells_made x.object
+    cells_here =
+        let zero : x.page + 0 ≡ x.page = omega arith in
+        let o = some_pages in
+        rw (← zero)
+        (rw (t.headers 0 (omega arith))
+        (part_cells x.object (header_of (header_made x.object 0)) (made_shows x.object 0 t.sized (omega arith))))
+
+    used : (p k : ℕ) → has_bit (used_on (with_used_on s.pages x.page n) p) k ≡ true → IsTakenCell (Taken s x n) p k
+    used p k h = elim (both (cases_eq p x.page) (cases_eq k x.index)) [
+      | inl at ↦
+          let inside = t.index in
+          let cells = cells_here in (
+            rw (ap (λ h. cells_under (header_of h)) (used_header s.pages x.page n p lt)
+                ∙ ap (λ i. cells_under (shows_on s.pages i)) at.0 ∙ cells)
+                (let e = at.1 in omega arith),
+            inl (record { claim = x; among = among_last s.claims x; page = sym at.0; index = sym at.1 }),
+          )
+      | inr other ↦
+          let was = laid.used p k (sym (same_bit p k other) ∙ h) in (
+            rw (ap (λ h. cells_under (header_of h)) (used_header s.pages x.page n p lt)) was.0,
+            owner p k was.1,
+          )
+    ]
+      where
+        both : (p ≡ x.page) ⊎ (p ≢ x.page) → (k ≡ x.index) ⊎ (k ≢ x.index)
+            → ((p ≡ x.page) × (k ≡ x.index)) ⊎ (p ≡ x.page → k ≢ x.index)
+        both (inl ep) (inl ek) = inl (ep, ek)
+        both (inl ep) (inr nk) = inr (λ e. nk)
+        both (inr np) any = inr (λ e. absurd (np e))
+
+        owner : (p k : ℕ) → IsClaimed s.claims p k ⊎ (is_released_on s p k ≡ true)
+            → IsClaimed (s.claims ++ x ∷ []) p k ⊎ (is_released_on s p k ≡ true)
+        owner p k (inr r) = inr r
+        owner p k (inl o) = inl
+            (record { claim = o.claim; among = among_left s.claims x o.claim o.among; page = o.page; index = o.index })
+
+    unused : (q : ℕ) → used_on (with_used_on s.pages x.page n) (head_on (with_used_on s.pages x.page n) q) ≡ 0
+        → used_on s.pages (head_on s.pages q) ≡ 0
+    unused q empty =
+        let head : head_on (with_used_on s.pages x.page n) q ≡ head_on s.pages q =
+        rw (used_header s.pages x.page n q lt) in
+        zero_where_none (used_on s.pages (head_on s.pages q))
+        (λ k h. none_set (used_on (with_used_on s.pages x.page n) (head_on s.pages q)) k
+        (rw (← head) empty) (grow (head_on s.pages q) k h))
+
+    -- a page of the place has its head's bit now
+    full : (q : ℕ) → InPlot (Plotted x.page x.object) q
+        → used_on (with_used_on s.pages x.page n) (head_on (with_used_on s.pages x.page n) q) ≡ 0 → ⊥
+    full q here empty =
+        let low = here.0 in
+        let high = here.1 in
+        let at : x.page + (q - x.page) ≡ q = omega arith in
+        let head : head_on (with_used_on s.pages x.page n) q ≡ x.page =
+        rw (← at)
+        (claimed_head (with_used_on s.pages x.page n) x (q - x.page) own (omega arith)) in
+        none_set (used_on (with_used_on s.pages x.page n) x.page) x.index
+        (ap (λ i. used_on (with_used_on s.pages x.page n) i) (sym head) ∙ empty) here_set

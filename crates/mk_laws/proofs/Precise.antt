@@ -1,0 +1,113 @@
+-- What stands while a cycle without a sweeping mark marks: all that is marked, and all that a hand holds, is touched.
+use Rattle.std.proofs.Common.{List, ap, arith, false, true, ℕ, ◌+◌, ◌/◌, ◌<◌, ◌≤◌, ◌≡◌, ◌≢◌}
+use Rattle.std.specs.Prelude.{Some, slice_index, slice_index_or}
+use Rattle.mk_never.specs.declared.values.Value.TheVariants.{Null}
+use Rattle.mk_never.specs.NeverHeap.{NeverState}
+use Rattle.mk_geom.specs.Addresses.{heap_word_at}
+use Rattle.mk_geom.specs.Headers.{header_of}
+use Rattle.mk_geom.specs.StorageWords.{IsWordOf, PointsInto}
+use Rattle.mk_core.specs.Allocations.{PlacedAllocation, cell_of_allocation, placed_at, storage_of, storage_words}
+use Rattle.mk_core.specs.Cells.{cells_under, has_no_pointers, is_leaf_header, is_marked}
+use Rattle.mk_core.specs.Cycles.{is_unmarked, sweeps}
+use Rattle.mk_core.specs.History.{World, bases_of}
+use Rattle.mk_core.specs.Image.{image_of}
+use Rattle.mk_core.specs.Moments.{flight_of, marker_of}
+use Rattle.mk_core.specs.NewPlaces.{object_of}
+use Rattle.mk_core.specs.ObjectHeaders.{words_made}
+use Rattle.mk_core.specs.Touched.{IsWordOfAllocation}
+use Rattle.mk_core.specs.declared.config.Config.{Config}
+use Rattle.mk_core.specs.declared.events.Seat.{Seat}
+use Rattle.mk_core.specs.declared.events.Step.{Step}
+use Rattle.mk_core.specs.declared.seats.Hand.{Hand}
+use Rattle.mk_core.specs.declared.seats.Marker.{Marker}
+use Rattle.mk_core.specs.declared.seats.Scan.{Scan}
+use Rattle.mk_core.specs.declared.seats.SeenHeader.{SeenHeader}
+use Rattle.mk_never.specs.Types.{kinds_of}
+use Rattle.mk_geom.specs.declared.pages.Page.{Page}
+use Rattle.mk_laws.specs.LayoutScene.{shows_on}
+use Rattle.mk_laws.proofs.Actors.{Meets}
+use Rattle.mk_laws.proofs.OthersMoves.{WorldBehind}
+use Rattle.mk_laws.specs.Guard.{IsMarking}
+use Rattle.mk_laws.proofs.AllocationSteps.{AreOfOne, Came, allocation_step, came}
+use Rattle.mk_laws.proofs.Worlds.{Told}
+
+-- The value points into no unreleased allocation but the set's.
+abbrev pub PointsOnlyInto : Config → List PlacedAllocation → (ℕ → Type 0) → ℕ → Type 0
+PointsOnlyInto c xs T v =
+    (b : ℕ) → ((placed_at xs b).released ≡ false) × PointsInto v (storage_of c (placed_at xs b)) → T b
+
+-- In one world the set has what roots point into, and what a word of a member does.
+pub record IsClosedIn (c : Config) (w : World) (n : NeverState) (T : ℕ → Type 0) : Type 0 where
+  pub registers : (i : ℕ)
+      → PointsOnlyInto c w.allocations T (image_of (bases_of w.allocations) (slice_index_or n.registers i Null))
+  pub globals : (g : ℕ) → PointsOnlyInto c w.allocations T (slice_index w.now.words.globals g)
+  pub words : (a x : ℕ) → T a → IsWordOfAllocation c w x a
+      → PointsOnlyInto c w.allocations T (slice_index w.now.words.heap x)
+
+-- what is read of a world
+pub record PrecisionScene : Type 0 where
+  pub pages : List Page
+  pub allocations : List PlacedAllocation
+
+abbrev pub precision_scene_of : World → PrecisionScene
+precision_scene_of w = record { pages = w.now.words.pages; allocations = w.allocations }
+
+-- The page shows no leaf header, and no unreleased leaf begins there: an unmapped run doesn't say whether it was one.
+pub record HasNoLeaf (c : Config) (s : PrecisionScene) (p : ℕ) : Type 0 where
+  pub header : is_leaf_header (shows_on s.pages p) ≡ false
+  pub allocations : (a : ℕ) → (placed_at s.allocations a).released ≡ false → (placed_at s.allocations a).base / 64 ≡ p
+      → (storage_of c (placed_at s.allocations a)).leaf ≡ false
+
+-- what a marker holds and has seen
+pub record MarkerIsPrecise (c : Config) (s : PrecisionScene) (T : ℕ → Type 0) (x : Marker) : Type 0 where
+  pub hand : (v : ℕ) → x.hand ≡ Some v → PointsOnlyInto c s.allocations T v
+  pub scan : (z : Scan) → x.scan ≡ Some z → z.next < z.end → HasNoLeaf c s z.page
+  pub seen : (z : SeenHeader) → x.seen ≡ Some z → cells_under (header_of z.header) ≢ 0
+      → has_no_pointers (header_of z.header) ≡ false
+      → HasNoLeaf c s z.page
+
+pub record IsPrecise (c : Config) (w : World) (T : ℕ → Type 0) : Type 0 where
+  pub marked : (b : ℕ) → (placed_at w.allocations b).released ≡ false
+      → is_marked w.now.words (cell_of_allocation c (placed_at w.allocations b)) ≡ true → T b
+  pub hand : (h : Hand) → w.now.seats.holding.hand ≡ Some h → is_unmarked h.source ≡ false
+      → PointsOnlyInto c w.allocations T h.value
+  pub markers : (j : ℕ) → MarkerIsPrecise c (precision_scene_of w) T (marker_of w.now j)
+
+-- one step while the cycle marks, which isn't a sweeping mark, between two worlds in which the set is closed
+pub record Steps (c : Config) (w : World) (n : NeverState) (seat : Seat) (x : Step) (after : NeverState)
+    (T : ℕ → Type 0) : Type 0 where
+  pub before : Told c w n
+  pub behind : Told c (WorldBehind c w seat x) after
+  pub meets : Meets c w.now seat x
+  pub early : IsMarking w.now.words
+  pub unswept : sweeps c w.now (flight_of w.now seat) x ≡ false
+  pub here : IsClosedIn c w n T
+  pub there : IsClosedIn c (WorldBehind c w seat x) after T
+
+-- An allocation keeps its words.
+pub same_words : (c : Config) (a b : PlacedAllocation) → AreOfOne a b → storage_words c b ≡ storage_words c a
+same_words c a b e = ap (λ t. words_made (object_of (kinds_of c.types t))) e.ty
+
+pub same_leaf : (c : Config) (a b : PlacedAllocation) → AreOfOne a b → (storage_of c b).leaf ≡ (storage_of c a).leaf
+same_leaf c a b e = ap (λ t. (object_of (kinds_of c.types t)).leaf) e.ty
+
+pub same_word : (c : Config) (a b : PlacedAllocation) (x : ℕ) → AreOfOne a b → IsWordOf (storage_of c b) x
+    → IsWordOf (storage_of c a) x
+same_word c a b x e word =
+    let words = same_words c a b e in
+    let base = e.base in
+    let from : b.base ≤ x = word.0 in
+    let to : x < b.base + storage_words c b = word.1 in
+    (omega arith, omega arith)
+
+pub points_before : (c : Config) (a b : PlacedAllocation) (v : ℕ) → AreOfOne a b → PointsInto v (storage_of c b)
+    → PointsInto v (storage_of c a)
+points_before c a b v e into = (into.0, same_word c a b (heap_word_at v) e into.1)
+
+-- An unreleased allocation after a step came with it, or was there before.
+pub came_behind : (c : Config) (w : World) (seat : Seat) (x : Step) (i : ℕ)
+    → (placed_at (WorldBehind c w seat x).allocations i).released ≡ false
+    → Came w.allocations (WorldBehind c w seat x).allocations x i
+came_behind c w seat x i u =
+    came w.allocations (WorldBehind c w seat x).allocations x i
+    (allocation_step c w.now (flight_of w.now seat) x w.allocations) u

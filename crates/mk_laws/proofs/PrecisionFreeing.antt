@@ -1,0 +1,201 @@
+-- After a cycle's `end` what its `release` released counts as free: no unreleased storage has a word of it.
+use Rattle.std.proofs.Common.{List, [], ap, append-nil, append_assoc, arith, false, refl, subst, sym, ℕ, ◌%◌, ◌++◌, ◌≤◌}
+use Rattle.std.proofs.Common.{◌∙◌, ◌∷◌, ◌≡◌}
+use Rattle.std.specs.Prelude.{Contains, not}
+use Rattle.std.proofs.lemmas.Bool.{and_parts, not-true, true≢false}
+use Rattle.std.specs.List.{list_any}
+use Rattle.mk_geom.specs.Storages.{IsRun, IsStorage, Storage, is_small}
+use Rattle.mk_geom.specs.StorageWords.{IsWordOf}
+use Rattle.mk_geom.proofs.Standing.{has_words, large_is_run}
+use Rattle.mk_core.specs.Allocations.{PlacedAllocation, placed_at, storage_of, storage_words, unreleased_storage}
+use Rattle.mk_core.specs.Cycles.{Cycle, Releasing, before_begin, before_end, before_release, is_end, is_release}
+use Rattle.mk_core.specs.History.{IsHistory, World, left, world_behind}
+use Rattle.mk_core.specs.Words.{phase_of}
+use Rattle.mk_core.specs.declared.config.Config.{Config}
+use Rattle.mk_core.specs.declared.events.Event.{Event}
+use Rattle.mk_core.specs.declared.events.Step.{Step}
+use Rattle.mk_core.specs.declared.events.Step.TheVariants as step
+use Rattle.mk_core.proofs.HistoryParts.{earlier_part_is_history}
+use Rattle.mk_core.proofs.StandingAllocations.{standing_has_storage}
+use Rattle.mk_core.proofs.UnreleasedStorage.{storage_is_of}
+use Rattle.mk_laws.proofs.OthersMoves.{WorldBehind}
+use Rattle.mk_laws.specs.Theorems.{OfHistories}
+use Rattle.mk_laws.proofs.InvariantTheorems.{allocations_are_disjoint}
+use Rattle.mk_laws.specs.Precision.{FreesTheUntouched, through_end, through_release}
+use Rattle.mk_laws.proofs.AllocationSteps.{is_there}
+use Rattle.mk_laws.proofs.FreeStorage.{counts_as_free}
+use Rattle.mk_laws.proofs.Marking.{one_more, told}
+use Rattle.mk_laws.proofs.PrecisionStepKinds.{begin_is, both_fail, end_is, is_grant, release_is}
+use Rattle.mk_laws.proofs.OlderAllocations.{AreOlder, IsKept, kept_along, older_behind, older_joined, older_same}
+use Rattle.mk_laws.proofs.PhaseSteps.{releasing_waits}
+use Rattle.mk_laws.proofs.Precise.{same_word, same_words}
+use Rattle.mk_laws.proofs.PrecisionStopped.{AtRelease, at_the_release, last_begin, releases_the_untouched}
+use Rattle.mk_laws.proofs.Stretches.{along_without, at_end, at_release, history_through}
+use Rattle.mk_laws.proofs.Worlds.{stands}
+
+-- what stands this many events after the `release`
+record WhileReleasing (c : Config) (start more : List Event) : Type 0 where
+  phase : phase_of (left c (start ++ more)).now.words ≡ 4
+  older : AreOlder (left c start).allocations (left c (start ++ more)).allocations
+
+releasing_goes_on : (c : Config) (start more : List Event) (e : Event) → IsHistory c ((start ++ more) ++ e ∷ [])
+    → is_end e.step ≡ false → WhileReleasing c start more
+    → WhileReleasing c start (more ++ e ∷ [])
+releasing_goes_on c start more e h other at =
+    let m = one_more c (start ++ more) e h in
+    let w : World = left c (start ++ more) in
+    let waits = releasing_waits c w.now e.seat e.step at.phase m.meets other in
+    let left_is : world_behind c w e ≡ left c (start ++ (more ++ e ∷ [])) =
+    sym m.left ∙ ap (λ (xs : List Event). left c xs) (append_assoc start more (e ∷ [])) in
+    record {
+      phase = subst (λ (v : World). phase_of v.now.words ≡ 4) left_is waits.phase;
+      older = subst (λ (v : World). AreOlder (left c start).allocations v.allocations) left_is
+          (older_joined (left c start).allocations w.allocations (WorldBehind c w e.seat e.step).allocations at.older
+          (older_behind c w e.seat e.step waits.granted));
+    }
+
+-- what the `release`, and what comes up to the `end`, leave of the allocations before
+record Released (c : Config) {es : List Event} (k : Cycle es) : Type 0 where
+  release : AreOlder (left c (before_release k.releasing)).allocations
+      (left c (through_release k.releasing)).allocations
+  end : AreOlder (left c (through_release k.releasing)).allocations (left c (through_end k)).allocations
+
+released : (c : Config) (es : List Event) (k : Cycle es) → IsHistory c es → AtRelease c k.releasing → Released c k
+released c es k h at =
+    let front : List Event = before_release k.releasing in
+    let e : Event = k.releasing.release.at.event in
+    let w : World = left c front in
+    let more : List Event = k.end.at.before in
+    let start : List Event = through_release k.releasing in
+    let is = release_is e.step k.releasing.release.at.of_kind in
+    let releasing = history_through c es front k.releasing.release.at.behind e h (at_release k.releasing) in
+    let m = one_more c front e releasing in
+    let left_is : WorldBehind c w e.seat step.Release ≡ left c start =
+    ap (λ (x : Step). WorldBehind c w e.seat x) (sym is) ∙ sym m.left in
+    let three = at.phase in
+    let four : phase_of (left c start).now.words ≡ 4 =
+    subst (λ (v : World). phase_of v.now.words ≡ 4) left_is (omega arith) in
+    let same : start ++ more ≡ before_end k = append_assoc front (e ∷ []) more in
+    let ending = history_through c es (before_end k) k.end.at.behind k.end.at.event h (at_end k) in
+    let whole : IsHistory c (start ++ more) =
+    subst (λ (xs : List Event). IsHistory c xs) (sym same)
+    (earlier_part_is_history c (before_end k) (k.end.at.event ∷ []) ending) in
+    let first : WhileReleasing c start [] =
+    record {
+      phase = subst (λ (xs : List Event). phase_of (left c xs).now.words ≡ 4) (sym (append-nil start)) four;
+      older = subst (λ (xs : List Event). AreOlder (left c start).allocations (left c xs).allocations)
+          (sym (append-nil start)) (older_same (left c start).allocations);
+    } in
+    let along : WhileReleasing c start more =
+    along_without c is_end (λ (xs : List Event). WhileReleasing c start xs) start [] more
+    (λ xs d g other. releasing_goes_on c start xs d g other) whole k.end.none_before first in
+    let last = one_more c (before_end k) k.end.at.event ending in
+    let v : World = left c (before_end k) in
+    record {
+      release = subst (λ (y : World). AreOlder w.allocations y.allocations) left_is
+          (older_behind c w e.seat step.Release refl);
+      end = older_joined (left c start).allocations v.allocations (left c (through_end k)).allocations
+          (subst (λ (xs : List Event). AreOlder (left c start).allocations (left c xs).allocations) same along.older)
+          (subst (λ (y : World). AreOlder v.allocations y.allocations) (sym last.left)
+          (older_behind c v k.end.at.event.seat k.end.at.event.step
+          (ap is_grant (end_is k.end.at.event.step k.end.at.of_kind))));
+    }
+
+-- What is in the snapshot is unreleased up to the `release`.
+kept_to_release : (c : Config) (es : List Event) (k : Releasing es) (i : ℕ) → IsHistory c es → AtRelease c k
+    → (placed_at (left c (before_begin k.marking)).allocations i).released ≡ false
+    → IsKept (left c (before_release k)) i
+kept_to_release c es k i h at u =
+    let b = last_begin k in
+    let e : Event = k.release.at.event in
+    let releasing = history_through c es (before_release k) k.release.at.behind e h (at_release k) in
+    let whole = earlier_part_is_history c (before_release k) (e ∷ []) releasing in
+    subst (λ (xs : List Event). IsKept (left c xs) i) (sym b.is)
+    (kept_along c b.before (b.event ∷ b.behind) i (subst (λ (xs : List Event). IsHistory c xs) b.is whole)
+    (both_fail (is_release b.event.step) (list_any (λ (x : Event). is_release x.step) b.behind)
+    (ap is_release (begin_is b.event.step b.of_kind)) at.released)
+    (record { there = is_there (left c b.before).allocations i u; unreleased = u }))
+
+pub frees_the_untouched : OfHistories FreesTheUntouched
+frees_the_untouched c es h k unswept i quarantined untouched =
+    counts_as_free ss (storage_of c (placed_at zs i)) some run others apart
+  where
+    r : Releasing es
+    r = k.releasing
+
+    at : AtRelease c r
+    at = at_the_release c es r h unswept
+
+    xs : List PlacedAllocation
+    xs = (left c (before_release r)).allocations
+
+    ys : List PlacedAllocation
+    ys = (left c (through_release r)).allocations
+
+    zs : List PlacedAllocation
+    zs = (left c (through_end k)).allocations
+
+    ss : List Storage
+    ss = unreleased_storage c zs
+
+    before : IsHistory c (before_release r)
+    before =
+        earlier_part_is_history c (before_release r) (r.release.at.event ∷ [])
+        (history_through c es (before_release r) r.release.at.behind r.release.at.event h (at_release r))
+
+    done : Released c k
+    done = released c es k h at
+
+    older : AreOlder xs zs
+    older = older_joined xs ys zs done.release done.end
+
+    kept : IsKept (left c (before_release r)) i
+    kept =
+        let a : PlacedAllocation = placed_at (left c (before_begin r.marking)).allocations i in
+        kept_to_release c es r i h at (not-true a.released (and_parts a.freed (not a.released) quarantined).1)
+
+    -- an allocation that was unreleased before the `release` has its storage still
+    storage : (j : ℕ) → (placed_at xs j).released ≡ false → IsStorage c.pages (storage_of c (placed_at xs j))
+    storage j u =
+        standing_has_storage c (placed_at xs j) h.within_limits
+        (stands c (left c (before_release r)) _ (told c (before_release r) before) j u)
+
+    size : (j : ℕ) → (placed_at xs j).released ≡ false → 1 ≤ storage_words c (placed_at zs j)
+    size j u =
+        let words = same_words c (placed_at xs j) (placed_at zs j) (older.same j (is_there xs j u)) in
+        let some = has_words c.pages (storage_of c (placed_at xs j)) (storage j u) in
+        omega arith
+
+    some : 1 ≤ storage_words c (placed_at zs i)
+    some = size i kept.unreleased
+
+    run : is_small (storage_of c (placed_at zs i)) ≡ false → IsRun (storage_of c (placed_at zs i))
+    run large =
+        let same = older.same i kept.there in
+        let words = same_words c (placed_at xs i) (placed_at zs i) same in
+        let z = large_is_run c.pages (storage_of c (placed_at xs i)) (storage i kept.unreleased)
+        (ap (λ n. is_small (record (storage_of c (placed_at xs i)) { words = n })) (sym words) ∙ large) in
+        record {
+          pages = z.pages;
+          some = z.some;
+          most = z.most;
+          words = words ∙ z.words;
+          first = ap (λ n. n % 64) same.base ∙ z.first;
+        }
+
+    others : (t : Storage) → Contains ss t → 1 ≤ t.words
+    others t inside =
+        let o = storage_is_of c zs t inside in
+        subst (λ (y : Storage). 1 ≤ y.words) (sym o.storage) (size o.number (older.was o.number o.unreleased))
+
+    apart : (t : Storage) → Contains ss t → (n : ℕ) → IsWordOf (storage_of c (placed_at zs i)) n → IsWordOf t n → ⊥
+    apart t inside n own its =
+        let o = storage_is_of c zs t inside in
+        let j : ℕ = o.number in
+        let u = older.was j o.unreleased in
+        let mine = same_word c (placed_at xs i) (placed_at zs i) n (older.same i kept.there) own in
+        let other = same_word c (placed_at xs j) (placed_at zs j) n (older.same j (is_there xs j u))
+        (subst (λ (y : Storage). IsWordOf y n) o.storage its) in
+        let same = allocations_are_disjoint c (before_release r) before i j n kept.unreleased u mine other in
+        let gone = releases_the_untouched c es h r unswept i quarantined untouched in
+        true≢false (sym gone ∙ ap (λ l. (placed_at ys l).released) same ∙ done.end.was j o.unreleased)

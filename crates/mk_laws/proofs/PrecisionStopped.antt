@@ -1,0 +1,210 @@
+-- From a cycle's `close` to its `release` all that is marked is touched. The `release` releases the rest of the
+-- snapshot.
+use Rattle.std.proofs.Common.{Bool, List, [], ap, append-nil, append_assoc, arith, false, inl, inr, refl, subst, sym}
+use Rattle.std.proofs.Common.{true, ℕ, ◌++◌, ◌∙◌, ◌∷◌, ◌≡◌}
+use Rattle.std.specs.Prelude.{not, slice_index, ◌&&◌}
+use Rattle.std.proofs.lemmas.Bool.{cases_Bool, eqb-true, true≢false}
+use Rattle.std.specs.List.{list_any}
+use Rattle.mk_geom.specs.declared.addresses.Cell.{Cell}
+use Rattle.mk_core.specs.Allocations.{PlacedAllocation, cell_of_allocation, placed_at, with_released}
+use Rattle.mk_core.specs.Bits.{has_bit}
+use Rattle.mk_core.specs.Cells.{is_left_unmarked, is_marked}
+use Rattle.mk_core.specs.Cycles.{At, NoneSweeps, Releasing, before_close, before_release, is_begin, is_close}
+use Rattle.mk_core.specs.Cycles.{is_release, through}
+use Rattle.mk_core.specs.History.{IsHistory, World, left, world_behind}
+use Rattle.mk_core.specs.Touched.{IsTouched}
+use Rattle.mk_core.specs.Words.{phase_of}
+use Rattle.mk_core.specs.declared.config.Config.{Config}
+use Rattle.mk_core.specs.declared.events.Event.{Event}
+use Rattle.mk_core.specs.declared.events.Seat.{Seat}
+use Rattle.mk_core.specs.declared.events.Step.{Step}
+use Rattle.mk_core.specs.declared.events.Step.TheVariants as step
+use Rattle.mk_core.proofs.BitsWithout.{has_bit_without}
+use Rattle.mk_core.proofs.ChangedAllocations.{changed_at}
+use Rattle.mk_core.proofs.HistoryParts.{earlier_part_is_history}
+use Rattle.mk_core.proofs.PointedAllocations.{released_where_left}
+use Rattle.mk_laws.proofs.Actors.{Meets}
+use Rattle.mk_laws.proofs.Known.{Known}
+use Rattle.mk_laws.proofs.OthersMoves.{WorldBehind}
+use Rattle.mk_laws.specs.Quarantine.{has_bit_of, is_cycling}
+use Rattle.mk_laws.proofs.Claims.{same_cell}
+use Rattle.mk_laws.proofs.GuardStopped.{leaves_closed}
+use Rattle.mk_laws.proofs.Quarantines.{snapshot_is_the_cycles}
+use Rattle.mk_laws.specs.Theorems.{OfHistories}
+use Rattle.mk_laws.specs.Precision.{KeepsOnlyTheTouched, ReleasesTheUntouched, through_release}
+use Rattle.mk_laws.proofs.AllocationSteps.{Came, IsNew, Stayed}
+use Rattle.mk_laws.proofs.Marking.{marked_at_close, one_more, told}
+use Rattle.mk_laws.proofs.PrecisionStepKinds.{both_fail, close_is, is_grant, neither, release_is}
+use Rattle.mk_laws.proofs.PhaseSteps.{stopped_waits}
+use Rattle.mk_laws.proofs.Precise.{came_behind}
+use Rattle.mk_laws.proofs.Stretches.{None_of, along_without, at_close, at_release, history_through, none_joined}
+use Rattle.mk_laws.proofs.Worlds.{headers, stands}
+
+-- All that is marked is of the set.
+abbrev pub IsMarkedOnly : Config → World → (ℕ → Type 0) → Type 0
+IsMarkedOnly c w T =
+    (b : ℕ) → (placed_at w.allocations b).released ≡ false → is_marked w.now.words
+    (cell_of_allocation c (placed_at w.allocations b)) ≡ true → T b
+
+-- what stands this many events after the `close`
+record AtStop (c : Config) (T : ℕ → Type 0) (start more : List Event) : Type 0 where
+  phase : phase_of (left c (start ++ more)).now.words ≡ 3
+  marked : IsMarkedOnly c (left c (start ++ more)) T
+  begun : None_of is_begin more
+
+not_granted : (x : Step) → is_grant x ≡ false → x ≡ step.Grant → ⊥
+not_granted x out is = true≢false (sym (ap is_grant is) ∙ out)
+
+-- one event that isn't the `release`
+stop_behind : (c : Config) (w : World) (seat : Seat) (x : Step) (T : ℕ → Type 0) → Known c w.now
+    → phase_of w.now.words ≡ 3 → Meets c w.now seat x
+    → is_release x ≡ false → IsMarkedOnly c w T → IsMarkedOnly c (WorldBehind c w seat x) T
+stop_behind c w seat x T known three h other marked b u is = by (came_behind c w seat x b u)
+  where
+    a : PlacedAllocation
+    a = placed_at (WorldBehind c w seat x).allocations b
+
+    cell : Cell
+    cell = cell_of_allocation c a
+
+    by : Came w.allocations (WorldBehind c w seat x).allocations x b → T b
+    by (IsNew grant at) = absurd (not_granted x (stopped_waits c w.now seat x three h other).granted grant)
+    by (Stayed was same) =
+        let still = (leaves_closed c w.now seat x known three h).marks in
+        let here : is_marked w.now.words cell ≡ true =
+        subst (λ (ys : List ℕ). has_bit (slice_index ys cell.page) cell.index ≡ true) still is in
+        marked b was (subst (λ (y : Cell). is_marked w.now.words y ≡ true)
+        (same_cell c (placed_at w.allocations b) a same.base same.ty) here)
+
+stop_goes_on : (c : Config) (T : ℕ → Type 0) (start more : List Event) (e : Event)
+    → IsHistory c ((start ++ more) ++ e ∷ []) → is_release e.step ≡ false
+    → AtStop c T start more → AtStop c T start (more ++ e ∷ [])
+stop_goes_on c T start more e h other at =
+    let m = one_more c (start ++ more) e h in
+    let w : World = left c (start ++ more) in
+    let waits = stopped_waits c w.now e.seat e.step at.phase m.meets other in
+    let left_is : world_behind c w e ≡ left c (start ++ (more ++ e ∷ [])) =
+    sym m.left ∙ ap (λ (xs : List Event). left c xs) (append_assoc start more (e ∷ [])) in
+    record {
+      phase = subst (λ (v : World). phase_of v.now.words ≡ 3) left_is waits.phase;
+      marked = subst (λ (v : World). IsMarkedOnly c v T) left_is
+          (stop_behind c w e.seat e.step T
+          (told c (start ++ more) m.history).known.now at.phase m.meets other at.marked);
+      begun = none_joined is_begin more (e ∷ []) at.begun (both_fail (is_begin e.step) false waits.begun refl);
+    }
+
+-- after the `close`
+stop_begins : (c : Config) (T : ℕ → Type 0) (front : List Event) (e : Event) → IsHistory c (front ++ e ∷ [])
+    → is_close e.step ≡ true
+    → IsMarkedOnly c (left c front) T → AtStop c T (front ++ e ∷ []) []
+stop_begins c T front e h kind marked =
+    let m = one_more c front e h in
+    let w : World = left c front in
+    let is = close_is e.step kind in
+    let meets : Meets c w.now e.seat step.Close = subst (λ (x : Step). Meets c w.now e.seat x) is m.meets in
+    let two = eqb-true (phase_of w.now.words) 2 meets.phase in
+    let left_is : WorldBehind c w e.seat step.Close ≡ left c ((front ++ e ∷ []) ++ []) =
+    ap (λ (x : Step). WorldBehind c w e.seat x) (sym is) ∙ sym m.left
+    ∙ ap (λ (xs : List Event). left c xs) (sym (append-nil (front ++ e ∷ []))) in
+    record {
+      phase = subst (λ (v : World). phase_of v.now.words ≡ 3) left_is (omega arith);
+      marked = subst (λ (v : World). IsMarkedOnly c v T) left_is marked;
+      begun = refl;
+    }
+
+-- what stands before the `release`
+pub record AtRelease (c : Config) {es : List Event} (k : Releasing es) : Type 0 where
+  pub phase : phase_of (left c (before_release k)).now.words ≡ 3
+  pub marked : IsMarkedOnly c (left c (before_release k)) (IsTouched c k.marking)
+  pub begun : None_of is_begin (k.marking.close.at.before ++ k.marking.close.at.event ∷ k.release.at.before)
+  pub released : None_of is_release (k.marking.close.at.before ++ k.marking.close.at.event ∷ k.release.at.before)
+
+pub at_the_release : (c : Config) (es : List Event) (k : Releasing es) → IsHistory c es → NoneSweeps c k.marking
+    → AtRelease c k
+at_the_release c es k h unswept =
+    let e : Event = k.marking.close.at.event in
+    let front : List Event = before_close k.marking in
+    let more : List Event = k.release.at.before in
+    let T : ℕ → Type 0 = IsTouched c k.marking in
+    let closing = history_through c es front k.marking.close.at.behind e h (at_close k.marking) in
+    let marked = marked_at_close c es k.marking (earlier_part_is_history c front (e ∷ []) closing) unswept in
+    let same : (front ++ e ∷ []) ++ more ≡ before_release k = append_assoc front (e ∷ []) more in
+    let releasing = history_through c es (before_release k) k.release.at.behind k.release.at.event h (at_release k) in
+    let whole : IsHistory c ((front ++ e ∷ []) ++ more) =
+    subst (λ (xs : List Event). IsHistory c xs) (sym same)
+    (earlier_part_is_history c (before_release k) (k.release.at.event ∷ []) releasing) in
+    let at : AtStop c T (front ++ e ∷ []) more =
+    along_without c is_release (λ (xs : List Event). AtStop c T (front ++ e ∷ []) xs) (front ++ e ∷ []) [] more
+    (λ xs d g other. stop_goes_on c T (front ++ e ∷ []) xs d g other) whole k.release.none_before
+    (stop_begins c T front e closing k.marking.close.at.of_kind marked.at.precise.marked) in
+    record {
+      phase = subst (λ (xs : List Event). phase_of (left c xs).now.words ≡ 3) same at.phase;
+      marked = subst (λ (xs : List Event). IsMarkedOnly c (left c xs) T) same at.marked;
+      begun = none_joined is_begin k.marking.close.at.before (e ∷ more) marked.begun
+          (both_fail (is_begin e.step) (list_any (λ (x : Event). is_begin x.step) more)
+          (ap is_begin (close_is e.step k.marking.close.at.of_kind)) at.begun);
+      released = none_joined is_release k.marking.close.at.before (e ∷ more) marked.released
+          (both_fail (is_release e.step) (list_any (λ (x : Event). is_release x.step) more)
+          (ap is_release (close_is e.step k.marking.close.at.of_kind)) k.release.none_before);
+    }
+
+-- the last `begin` before the `release` is the cycle's
+abbrev pub last_begin : {es : List Event} (k : Releasing es) → At is_begin (before_release k)
+last_begin {es} k =
+    let b : At is_begin es = k.marking.begin in
+    let close : List Event = k.marking.close.at.before in
+    let rest : List Event = k.marking.close.at.event ∷ k.release.at.before in
+    record {
+      before = b.before;
+      event = b.event;
+      behind = close ++ rest;
+      is = append_assoc (through b) close rest ∙ append_assoc b.before (b.event ∷ []) (close ++ rest);
+      of_kind = b.of_kind;
+    }
+
+-- An allocation of the snapshot that a `release` leaves unreleased is marked.
+kept_is_marked : (c : Config) (w : World) (i : ℕ)
+    → has_bit_of c w.now.words.snapshot (placed_at w.allocations i) ≡ true
+    → is_left_unmarked w.now.words (cell_of_allocation c (placed_at w.allocations i)) ≡ false
+    → is_marked w.now.words (cell_of_allocation c (placed_at w.allocations i)) ≡ true
+kept_is_marked c w i taken kept =
+    let cell : Cell = cell_of_allocation c (placed_at w.allocations i) in
+    not_both (has_bit (slice_index w.now.words.snapshot cell.page) cell.index) (is_marked w.now.words cell)
+    (sym (has_bit_without (slice_index w.now.words.snapshot cell.page)
+    (slice_index w.now.words.marks cell.page) cell.index) ∙ kept) taken
+  where
+    not_both : (a b : Bool) → (a && not b) ≡ false → a ≡ true → b ≡ true
+    not_both true true h e = refl
+    not_both true false h e = sym h
+    not_both false b h e = cc
+
+pub keeps_only_the_touched : OfHistories KeepsOnlyTheTouched
+keeps_only_the_touched c es h k unswept i quarantined unreleased =
+    let w : World = left c (before_release k) in
+    let e : Event = k.release.at.event in
+    let a : PlacedAllocation = placed_at w.allocations i in
+    let releasing = history_through c es (before_release k) k.release.at.behind e h (at_release k) in
+    let m = one_more c (before_release k) e releasing in
+    let at = at_the_release c es k h unswept in
+    let is = release_is e.step k.release.at.of_kind in
+    let left_is : left c (through_release k) ≡ WorldBehind c w e.seat step.Release =
+    m.left ∙ ap (λ (x : Step). WorldBehind c w e.seat x) is in
+    let now : (with_released c w.now.words a).released ≡ false =
+    ap (λ (x : PlacedAllocation). x.released) (sym (changed_at (with_released c w.now.words) w.allocations i refl))
+    ∙ ap (λ (v : World). (placed_at v.allocations i).released) (sym left_is) ∙ unreleased in
+    let u : a.released ≡ false = (neither a.released _ now).0 in
+    let t = told c (before_release k) m.history in
+    let taken : has_bit_of c w.now.words.snapshot a ≡ true =
+    snapshot_is_the_cycles c (before_release k) m.history (last_begin k) at.begun (ap is_cycling at.phase) i u
+    ∙ quarantined in
+    let kept = sym (released_where_left c w.now.words a h.within_limits (stands c w _ t i u) (headers c w _ t i u))
+    ∙ now in
+    at.marked i u (kept_is_marked c w i taken kept)
+
+-- What isn't touched is released.
+pub releases_the_untouched : OfHistories ReleasesTheUntouched
+releases_the_untouched c es h k unswept i quarantined untouched = elim
+    (cases_Bool (placed_at (left c (through_release k)).allocations i).released) [
+      | inl released ↦ released
+      | inr unreleased ↦ absurd (untouched (keeps_only_the_touched c es h k unswept i quarantined unreleased))
+    ]

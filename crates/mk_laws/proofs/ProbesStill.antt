@@ -1,0 +1,145 @@
+-- A run that a `probe` finds unmapped stays so: the call's own register points into its allocation.
+use Rattle.std.proofs.Common.{Bool, ap, arith, false, inl, inr, length, refl, subst, sym, true, ℕ, ◌+◌, ◌*◌, ◌<◌, ◌∙◌}
+use Rattle.std.proofs.Common.{◌≡◌}
+use Rattle.std.specs.Prelude.{if◌then◌else◌, nat_lt}
+use Rattle.std.proofs.lemmas.Bool.{and_from, and_parts, cases_Bool, true≢false}
+use Rattle.mk_laws.proofs.Vocabulary.{AccessIsAdmitted, Caller, Config, Continues, Flight, IsAdmitted, IsSound}
+use Rattle.mk_laws.proofs.Vocabulary.{Meets, NeverState, Op, Ptr, Stage, Unmapped, Value, WordOf, World}
+use Rattle.mk_laws.proofs.Vocabulary.{allocation_at, bases_of, flight_of, header_at, header_in, i_of, is_large}
+use Rattle.mk_laws.proofs.Vocabulary.{is_run_gone, is_unmapped, is_unmapped_header, page_met, q_of, register_at}
+use Rattle.mk_laws.proofs.Vocabulary.{target_of, words_of}
+use Rattle.mk_core.specs.declared.seats.Stage.TheVariants as stage
+use Rattle.mk_laws.proofs.Orderly.{shows_at}
+use Rattle.mk_laws.proofs.OrderlyLists.{not_astray}
+use Rattle.mk_laws.proofs.Stages.{calls_stand, is_call_stage}
+use Rattle.mk_laws.proofs.Standings.{InCall, is_astray, standing, standing_at}
+use Rattle.mk_laws.proofs.Views.{view_of}
+use Rattle.mk_laws.specs.Images.{CarriesOwn, IsMet, image_scene_of}
+use Rattle.mk_laws.specs.ImagePremises.{ImagePremises}
+use Rattle.mk_laws.proofs.ImagesBefore.{pages_show, ready_of}
+use Rattle.mk_laws.proofs.CallSorts.{literal}
+use Rattle.mk_laws.proofs.KnownWorlds.{KnownWorld}
+use Rattle.mk_laws.proofs.Reached.{PagesShow, mapped_met, unmapped_target}
+use Rattle.mk_laws.proofs.Ready.{Ready}
+use Rattle.mk_laws.proofs.RegMoves.{flight}
+use Rattle.mk_laws.proofs.ImagesStands.{Stands, gone_shows, stands_of}
+use Rattle.mk_laws.specs.Invariant.{Invariant}
+use Rattle.mk_laws.proofs.InvariantJoined.{told_to_images}
+use Rattle.mk_laws.proofs.ImagesCallMoves.{access_meets, at_probe}
+
+-- the access of an operation with a `probe`
+probe_meets : (n : NeverState) (k : ℕ) (o : Op) → is_astray (standing_at stage.Probe o) ≡ false → AccessIsAdmitted n k o
+    → Meets n (register_at n k (q_of o)) (i_of o) (λ kind. Unit {0})
+probe_meets n k o a h = access_meets n k o (at_probe o a).access h
+
+-- An allocation that is unmapped stays so.
+unmapped_on : (n m : NeverState) (a : ℕ) → Continues n m → a < length n.allocations
+    → is_unmapped (allocation_at n a) ≡ true → is_unmapped (allocation_at m a) ≡ true
+unmapped_on n m a on lt u =
+    let parts = and_parts _ (is_large (words_of n a)) u in
+    and_from _ (is_large (words_of m a)) (on.freed a parts.0) (rw (on.size a lt) parts.1)
+
+target_unmapped : (n : NeverState) (a t o i : ℕ) → target_of n (Ptr a t o) i ≡ Unmapped
+    → is_unmapped (allocation_at n a) ≡ true
+target_unmapped n a t o i is = by (is_unmapped (allocation_at n a)) is
+  where
+    by : (b : Bool) → (if b then Unmapped else WordOf a (o + i)) ≡ Unmapped → b ≡ true
+    by true e = refl
+    by false e = cc
+
+clash : (n m : NeverState) (v : Value) (i : ℕ) → Continues n m → IsSound n v → Meets n v i (λ kind. Unit {0})
+    → target_of n v i ≡ Unmapped → IsMet m v i → ⊥
+clash n m (Ptr a t o) i on sound meets is met =
+    true≢false (sym (unmapped_on n m a on sound.0 (target_unmapped n a t o i is))
+    ∙ met (rw (on.size a sound.0) meets.0))
+clash n m _ i on sound meets is met = cc
+
+module _ (c : Config) (w : World) (n : NeverState) (known : KnownWorld c w) (all : Invariant c w n) where
+  others : ImagePremises c w
+  others = told_to_images c w n known all
+
+  pub st : Stands c w.now.words w.allocations
+  st = stands_of c w known.limits others
+
+  pub ready : Ready c.globals all.mirrors.safe.0 (image_scene_of w) n
+  ready = ready_of c w n known all.mirrors st all.mirrors.safe.0 all.mirrors.safe.1
+
+  -- Who is in a call finds freed runs gone,
+  pub gone_for : (k : ℕ) → k < c.callers → standing (flight_of w.now (Caller k)) ≡ InCall
+      → is_run_gone w.now.words w.now.seats.holding.freed ≡ true
+  gone_for k lt in_call = elim (cases_Bool (is_run_gone w.now.words w.now.seats.holding.freed)) [
+    | inl e ↦ e
+    | inr e ↦
+        let s = shows_at c (view_of w.now) k InCall known.now.orderly lt in_call in
+        let g = all.run_gates e k lt s.1 in
+        let one = s.0 in
+        absurd (omega arith)
+  ]
+
+  -- so headers tell it what is unmapped.
+  pub pages_tell : (k : ℕ) → k < c.callers → standing (flight_of w.now (Caller k)) ≡ InCall
+      → PagesShow (header_at w.now.words) (image_scene_of w) n
+  pages_tell k lt in_call =
+      pages_show c w n known all.mirrors st (gone_shows c w known.limits others (gone_for k lt in_call))
+
+  own_sound : (k r : ℕ) → IsSound n (register_at n k r)
+  own_sound k r = all.mirrors.typed.registers (8 * k + r)
+
+  -- What a `probe` finds unmapped is so to the heap that never reuses storage,
+  finds_unmapped : (k : ℕ) (o : Op) (q p r l : ℕ) → k < c.callers
+      → flight_of w.now (Caller k) ≡ flight stage.Probe o q p r l → standing (flight_of w.now (Caller k)) ≡ InCall
+      → Meets n (register_at n k (q_of o)) (i_of o) (λ kind. Unit {0})
+      → is_unmapped_header (header_in w.now.words (page_met (flight stage.Probe o q p r l))) ≡ true
+      → target_of n (register_at n k (q_of o)) (i_of o) ≡ Unmapped
+  finds_unmapped k o q p r l lt is in_call meets u =
+      let car : CarriesOwn (bases_of w.allocations) n k (flight stage.Probe o q p r l) =
+      rw is at (all.mirrors.images.carried k) in
+      unmapped_target c.globals all.mirrors.safe.0 (image_scene_of w) n ready (header_at w.now.words)
+      (pages_tell k lt in_call) _ q (i_of o) (λ kind. Unit {0})
+      (car.q refl) (car.some_q refl) (own_sound k (q_of o)) (all.mirrors.safe.1.registers (8 * k + q_of o)) meets u
+
+  -- and what it finds mapped isn't.
+  finds_mapped : (k : ℕ) (o : Op) (q p r l : ℕ) → k < c.callers
+      → flight_of w.now (Caller k) ≡ flight stage.Probe o q p r l → standing (flight_of w.now (Caller k)) ≡ InCall
+      → is_unmapped_header (header_in w.now.words (page_met (flight stage.Probe o q p r l))) ≡ false
+      → IsMet n (register_at n k (q_of o)) (i_of o)
+  finds_mapped k o q p r l lt is in_call u =
+      let car : CarriesOwn (bases_of w.allocations) n k (flight stage.Probe o q p r l) =
+      rw is at (all.mirrors.images.carried k) in
+      mapped_met c.globals all.mirrors.safe.0 (image_scene_of w) n ready (header_at w.now.words)
+      (pages_tell k lt in_call) _ q (i_of o)
+      (car.q refl) (car.some_q refl) (own_sound k (q_of o)) (all.mirrors.safe.1.registers (8 * k + q_of o)) u
+
+pub probe_still : (c : Config) (w v : World) (n m : NeverState) (kw : KnownWorld c w) (kv : KnownWorld c v)
+    (aw : Invariant c w n) (av : Invariant c v m) (k : ℕ)
+    → k < c.callers → flight_of v.now (Caller k) ≡ flight_of w.now (Caller k)
+    → (flight_of w.now (Caller k)).stage ≡ stage.Probe
+    → Continues n m → register_at m k (q_of (flight_of w.now (Caller k)).op)
+    ≡ register_at n k (q_of (flight_of w.now (Caller k)).op) → IsAdmitted c.globals n k (flight_of w.now (Caller k)).op
+    → is_unmapped_header (header_in w.now.words (page_met (flight_of w.now (Caller k)))) ≡ true
+    → is_unmapped_header (header_in v.now.words (page_met (flight_of w.now (Caller k)))) ≡ true
+probe_still c w v n m kw kv aw av k lt same at on own admitted u =
+    elim (cases_Bool (is_unmapped_header (header_in v.now.words (page_met f)))) [
+      | inl is ↦ is
+      | inr mapped ↦
+          let met = finds_mapped c v m kv av k f.op f.q f.p f.r f.loaded lt (same ∙ lit)
+          (ap standing same ∙ in_call) mapped in
+          absurd (clash n m _ (i_of f.op) on (aw.mirrors.typed.registers (8 * k + q_of f.op)) meets
+          (finds_unmapped c w n kw aw k f.op f.q f.p f.r f.loaded lt lit in_call meets u) (rw own at met))
+    ]
+  where
+    f : Flight
+    f = flight_of w.now (Caller k)
+
+    lit : f ≡ flight stage.Probe f.op f.q f.p f.r f.loaded
+    lit = literal f stage.Probe at
+
+    astray : is_astray (standing f) ≡ false
+    astray = not_astray c w.now kw.now.orderly k lt
+
+    in_call : standing f ≡ InCall
+    in_call = calls_stand f.stage f.op (ap is_call_stage at) astray
+
+    meets : Meets n (register_at n k (q_of f.op)) (i_of f.op) (λ kind. Unit {0})
+    meets = probe_meets n k f.op (subst (λ (s : Stage). is_astray (standing_at s f.op)
+        ≡ false) at astray) admitted.access

@@ -1,0 +1,318 @@
+-- The frame law: what the events of other seats leave, for one event and for many.
+use Rattle.std.proofs.Common.{◌≡◌, ◌≢◌, ◌⊎◌, ℕ, ◌<◌, ◌≤◌, true, false, List, [], ◌∷◌, ◌++◌, refl, sym, ◌∙◌, ap, subst}
+use Rattle.std.proofs.Common.{inl, inr, arith}
+use Rattle.std.specs.Prelude.{slice_index, slice_set, ◌||◌, ◌==◌, ◌/◌, cond}
+use Rattle.std.proofs.lemmas.Bool.{cases_lt, eq-eqb}
+use Rattle.std.proofs.lemmas.List.{get_or-set_other, get_or_past}
+use Rattle.std.proofs.lemmas.List.Sums.{sum_by-append}
+use Rattle.mk_laws.proofs.Vocabulary.{AreEnabledFrom, AreOfOthers, Caller, Config, Decided, Event, Flight, Holds}
+use Rattle.mk_laws.proofs.Vocabulary.{Host, IsInCall, IsLeft, Marker, MarkerState, Moment, OnlyGrow, Seat, Steady}
+use Rattle.mk_laws.proofs.Vocabulary.{Step, TurnIsLeft, Words, World, Written, all_below, answer_decided, at_rest}
+use Rattle.mk_laws.proofs.Vocabulary.{call_decided, caller_number, calls, calls_from, ends, first_world, flight_of}
+use Rattle.mk_laws.proofs.Vocabulary.{header_in, holder_number, is_attending, is_end, is_in, is_number_of}
+use Rattle.mk_laws.proofs.Vocabulary.{is_one_of, is_unmapped_header, left, left_from, marker_at, others_are_held}
+use Rattle.mk_laws.proofs.Vocabulary.{outside, phase_of, world_behind}
+use Rattle.mk_core.specs.Growing.{is_same_seat}
+use Rattle.mk_core.specs.Readings.{is_in_call, is_in_turn}
+use Rattle.mk_core.specs.Frames.{Attends, IsIn, HoldsAll, OwnIsLeft, written_of, CountsAreLeft, ScanIsLeft, OthersLeave}
+use Rattle.mk_core.proofs.Conditions.{enabled_meets}
+use Rattle.mk_core.proofs.Histories.{left_append, enabled_parts, calls_append}
+use Rattle.mk_laws.specs.Protocol.{Protocol}
+use Rattle.mk_laws.proofs.Standings.{in_call_told, in_call_is, standing}
+use Rattle.mk_laws.proofs.Views.{view_of}
+use Rattle.mk_laws.proofs.Orderly.{turn_of, same_holder}
+use Rattle.mk_laws.proofs.Asked.{others_held}
+use Rattle.mk_laws.proofs.Actors.{Meets}
+use Rattle.mk_laws.proofs.OrderlyLists.{not_astray, actor_of}
+use Rattle.mk_laws.proofs.Protocols.{protocol_of}
+use Rattle.mk_laws.proofs.ProtocolReadings.{in_counts}
+use Rattle.mk_laws.proofs.Known.{Known, known_behind, known_left, holds_turn}
+use Rattle.mk_laws.proofs.OthersMoves.{with_words_seats, WorldBehind, OthersMove, Waits, Calls, Marks, MarkerWrite}
+use Rattle.mk_laws.proofs.OthersMoves.{ComesIn, gate_one, others_move}
+use Rattle.mk_laws.proofs.Growth.{grows_same, grows_joined}
+use Rattle.mk_laws.proofs.TurnFrame.{holding_out, turn_after, turn_same, turn_joined}
+use Rattle.mk_laws.proofs.RegisterSteps.{register_step, others_registers}
+use Rattle.mk_laws.proofs.HeaderSteps.{header_step, stays_mapped}
+use Rattle.mk_laws.proofs.Colours.{colours_of, colour_step, attending_grows}
+use Rattle.mk_laws.proofs.OthersCounts.{counts_nothing, fulls_of, entry_fulls, fulls_append}
+
+-- the call of another caller, and another marker
+
+others_flight : (c : Config) (w : World) (seat s : Seat) (x : Step) → seat ≢ s
+    → flight_of (WorldBehind c w seat x).now s ≡ flight_of w.now s
+others_flight c w (Caller j) (Caller k) x ne = get_or-set_other w.now.seats.flights j k _ at_rest (λ e. ne (rw (← e)))
+others_flight c w (Marker j) (Caller k) x ne = refl
+others_flight c w Host (Caller k) x ne = refl
+others_flight c w seat _ x ne = refl
+
+others_marker : (c : Config) (w : World) (seat s : Seat) (x : Step) → seat ≢ s
+    → marker_at (WorldBehind c w seat x).now s ≡ marker_at w.now s
+others_marker c w (Marker j) (Marker k) x ne = get_or-set_other w.now.seats.markers j k _ outside (λ e. ne (rw (← e)))
+others_marker c w (Caller j) (Marker k) x ne = refl
+others_marker c w Host (Marker k) x ne = refl
+others_marker c w seat _ x ne = refl
+
+-- A seat that holds the turn holds it still, after an event of another.
+others_out : (c : Config) (w : World) (seat s : Seat) (x : Step) → Known c w.now → Meets c w.now seat x → seat ≢ s
+    → Holds c w.now s
+    → OthersMove c w seat (WorldBehind c w seat x)
+others_out c w seat s x known h ne holds =
+    let t = holds_turn c w.now s known.orderly holds in
+    let turn = turn_of c (view_of w.now) s known.orderly t in
+    others_move c w seat x known (λ e. absurd (omega arith))
+    (λ out. ne (same_holder c (view_of w.now) seat s known.orderly out t)) h
+
+still_holds : (c : Config) (s : Seat) (w v : World) → flight_of v.now s ≡ flight_of w.now s
+    → v.now.words.turn ≡ w.now.words.turn → Holds c w.now s → Holds c v.now s
+still_holds c (Caller k) w v flight turn h = (h.0, rw flight h.1)
+still_holds c (Marker k) w v flight turn h = h
+still_holds c Host w v flight turn h = turn ∙ h
+
+-- what is left, by worlds
+pub record Left (c : Config) (s : Seat) (w v : World) : Type 0 where
+  pub own : OwnIsLeft c s w v
+  pub mapped : IsInCall w.now s → (p : ℕ) → is_unmapped_header (header_in w.now.words p) ≡ false
+      → is_unmapped_header (header_in v.now.words p) ≡ false
+  pub turn : Holds c w.now s → TurnIsLeft w v
+  pub stop : HoldsAll c w.now s → written_of v ≡ written_of w
+  pub scan : Attends w.now s
+      → OnlyGrow w.now.words.marks v.now.words.marks × OnlyGrow w.now.words.blacks v.now.words.blacks
+
+own_after : (c : Config) (w : World) (seat s : Seat) (x : Step) → Known c w.now → Meets c w.now seat x → seat ≢ s
+    → OwnIsLeft c s w (WorldBehind c w seat x)
+own_after c w seat s x known h ne =
+    record {
+      flight = others_flight c w seat s x ne;
+      marker = others_marker c w seat s x ne;
+      registers = λ k r is lt. others_registers w.now.words seat _ k r (register_step c w.now seat x known.operands h)
+          (λ e. ne (e ∙ sym is)) lt;
+      holding = λ holds.
+          let move = others_out c w seat s x known h ne holds in
+          let turn = turn_after c w seat (WorldBehind c w seat x) known move in (
+            still_holds c s w (WorldBehind c w seat x) (others_flight c w seat s x ne)
+                (ap (λ (y : Steady). y.turn) turn.steady) holds,
+            holding_out c w seat (WorldBehind c w seat x) move,
+          );
+    }
+
+-- a call in flight is that of a caller, whose gate is 1
+in_call_gate : (c : Config) (m : Moment) (k : ℕ) → Known c m → is_in_call (flight_of m (Caller k)) ≡ true
+    → (k < c.callers) × (slice_index m.words.gates k ≡ 1)
+in_call_gate c m k known is = elim (cases_lt k c.callers) [
+  | inl lt ↦
+      let f = flight_of m (Caller k) in (
+        lt,
+        gate_one c m k known lt
+            (in_call_is (standing f) (in_call_told f.stage f.op (not_astray c m known.orderly k lt) ∙ is)),
+      )
+  | inr past ↦
+      let f : false ≡ true =
+      ap (λ (g : Flight). is_in_call g)
+      (sym (get_or_past m.seats.flights k at_rest (omega (arith, known.orderly.flights)))) ∙ is in
+      cc
+]
+
+mapped_after : (c : Config) (w : World) (seat s : Seat) (x : Step) → Known c w.now → Meets c w.now seat x → seat ≢ s
+    → IsInCall w.now s
+    → (p : ℕ) → is_unmapped_header (header_in w.now.words p) ≡ false
+    → is_unmapped_header (header_in (WorldBehind c w seat x).now.words p) ≡ false
+mapped_after c w seat (Caller k) x known h ne call p is =
+    let g = in_call_gate c w.now k known call in
+    stays_mapped w.now.words _ p (header_step c w.now seat x k h g.0 ne g.1) is
+mapped_after c w seat _ x known h ne call p is = absurd call
+
+-- Where all other gates are held, callers do nothing, and markers don't change what callers do.
+marks_leave : (w : World) (k : ℕ) (y : MarkerState) (ms : List MarkerState) (x : Words) → MarkerWrite k w.now y x
+    → written_of (with_words_seats w x (record w.now.seats { markers = ms })) ≡ written_of w
+marks_leave w k y ms x (ComesIn a) = refl
+marks_leave w k y ms x _ = refl
+
+stop_out : (c : Config) (w : World) (seat s : Seat) (v : World) → OthersMove c w seat v → seat ≢ s → Holds c w.now s
+    → others_are_held c.callers w.now.words s ≡ true → written_of v ≡ written_of w
+stop_out c w seat s v Waits ne holds all = refl
+stop_out c w seat s v (Calls {k} f {x} lt le write) ne holds all =
+    let two = others_held c w.now s all k lt (λ e. ne (same s k lt holds e)) in
+    absurd (omega arith)
+  where
+    same : (s : Seat) (k : ℕ) → k < c.callers → Holds c w.now s → holder_number c s ≡ k → Caller k ≡ s
+    same (Caller j) k lt holds e = ap (λ i. Caller i) (sym e)
+    same (Marker j) k lt holds e = absurd holds
+    same Host k lt holds e = absurd (omega arith)
+stop_out c w seat s v (Marks {k} y {x} lt write) ne holds all =
+    marks_leave w k y (slice_set w.now.seats.markers k y) x write
+
+scan_after : (c : Config) (w : World) (seat s : Seat) (x : Step) → Known c w.now → Meets c w.now seat x
+    → Attends w.now s
+    → OnlyGrow w.now.words.marks (WorldBehind c w seat x).now.words.marks
+    × OnlyGrow w.now.words.blacks (WorldBehind c w seat x).now.words.blacks
+scan_after c w seat (Marker k) x known h a =
+    attending_grows c w.now seat (colours_of (WorldBehind c w seat x).now) k (known.orderly.attends k a) a
+    (colour_step c w.now seat x h)
+scan_after c w seat _ x known h a = absurd a
+
+-- one event of another seat
+pub left_after : (c : Config) (w : World) (seat s : Seat) (x : Step) → Known c w.now → Meets c w.now seat x → seat ≢ s
+    → Left c s w (WorldBehind c w seat x)
+left_after c w seat s x known h ne =
+    record {
+      own = own_after c w seat s x known h ne;
+      mapped = mapped_after c w seat s x known h ne;
+      turn = λ holds. turn_after c w seat (WorldBehind c w seat x) known (others_out c w seat s x known h ne holds);
+      stop = λ all. stop_out c w seat s (WorldBehind c w seat x) (others_out c w seat s x known h ne all.0) ne all.0
+          all.1;
+      scan = scan_after c w seat s x known h;
+    }
+
+pub left_same : (c : Config) (s : Seat) (w : World) → Left c s w w
+left_same c s w =
+    record {
+      own = record { flight = refl; marker = refl; registers = λ k r is lt. refl; holding = λ holds. (holds, refl) };
+      mapped = λ call p is. is;
+      turn = λ holds. turn_same w;
+      stop = λ all. refl;
+      scan = λ a. (grows_same w.now.words.marks, grows_same w.now.words.blacks);
+    }
+
+-- what the seat is in the middle of, it still is
+
+still_calls : (c : Config) (s : Seat) (w u : World) → OwnIsLeft c s w u → IsInCall w.now s → IsInCall u.now s
+still_calls c (Caller k) w u l call = ap (λ (f : Flight). is_in_call f) l.flight ∙ call
+still_calls c _ w u l call = call
+
+pub still_attends : (c : Config) (s : Seat) (w u : World) → OwnIsLeft c s w u → Attends w.now s → Attends u.now s
+still_attends c (Marker k) w u l a = ap (λ (y : MarkerState). is_attending y.presence) l.marker ∙ a
+still_attends c _ w u l a = a
+
+still_in : (c : Config) (s : Seat) (w u : World) → OwnIsLeft c s w u → IsIn w.now s → IsIn u.now s
+still_in c (Marker k) w u l i = ap (λ (y : MarkerState). is_in y) l.marker ∙ i
+still_in c _ w u l i = i
+
+still_stopped : (c : Config) (s : Seat) (w u : World) → Left c s w u → HoldsAll c w.now s → HoldsAll c u.now s
+still_stopped c s w u l all = (
+  (l.own.holding all.0).0,
+  ap (λ (y : Written). all_below c.callers (λ j. is_number_of s j || (slice_index y.gates j == 2))) (l.stop all)
+      ∙ all.1,
+)
+
+pub left_joined : (c : Config) (s : Seat) (w u v : World) → Left c s w u → Left c s u v → Left c s w v
+left_joined c s w u v a b =
+    record {
+      own = record {
+        flight = b.own.flight ∙ a.own.flight;
+        marker = b.own.marker ∙ a.own.marker;
+        registers = λ k r is lt. b.own.registers k r is lt ∙ a.own.registers k r is lt;
+        holding = λ holds. let x = a.own.holding holds in let y = b.own.holding x.0 in (y.0, y.1 ∙ x.1);
+      };
+      mapped = λ call p is. b.mapped (still_calls c s w u a.own call) p (a.mapped call p is);
+      turn = λ holds. turn_joined w u v (a.turn holds) (b.turn (a.own.holding holds).0);
+      stop = λ all. b.stop (still_stopped c s w u a all) ∙ a.stop all;
+      scan = λ att.
+          let x = a.scan att in
+          let y = b.scan (still_attends c s w u a.own att) in (
+            grows_joined w.now.words.marks u.now.words.marks v.now.words.marks x.0 y.0,
+            grows_joined w.now.words.blacks u.now.words.blacks v.now.words.blacks x.1 y.1,
+          );
+    }
+
+-- the list goes on with events of others
+
+same_seat : (s : Seat) → is_same_seat s s ≡ true
+same_seat (Caller k) = eq-eqb k k refl
+same_seat (Marker k) = eq-eqb k k refl
+same_seat Host = refl
+
+pub other_seat : (s seat : Seat) → is_one_of (s ∷ []) seat ≡ false → seat ≢ s
+other_seat s seat h e =
+    let f : true ≡ false = sym (rw (same_seat s)) ∙ ap (λ (t : Seat). is_one_of (s ∷ []) t) (sym e) ∙ h in
+    cc
+
+pub left_later : (c : Config) (s : Seat) (w : World) (es : List Event) → Known c w.now → AreEnabledFrom c w es
+    → AreOfOthers (s ∷ []) es → Left c s w (left_from c w es)
+unfolding left_from AreEnabledFrom AreOfOthers
+left_later c s w [] k on others = left_same c s w
+left_later c s w (e ∷ es) k on others =
+    left_joined c s w (world_behind c w e) (left_from c (world_behind c w e) es)
+    (left_after c w e.seat s e.step k (enabled_meets c w.now e on.0) (other_seat s e.seat others.0))
+    (left_later c s (world_behind c w e) es (known_behind c w.now e k on.0) on.1 others.1)
+
+-- the counts
+
+record CountsNothing (c : Config) (w : World) (es : List Event) : Type 0 where
+  none_ends : ends es ≡ 0
+  none_full : fulls_of (calls_from c w es) ≡ 0
+
+counts_later : (c : Config) (s : Seat) (w : World) (es : List Event) → Known c w.now → AreEnabledFrom c w es
+    → AreOfOthers (s ∷ []) es
+    → Holds c w.now s → CountsNothing c w es
+unfolding calls_from AreEnabledFrom AreOfOthers
+counts_later c s w [] k on others holds = record { none_ends = refl; none_full = refl }
+counts_later c s w (e ∷ es) k on others holds =
+    let h = enabled_meets c w.now e on.0 in
+    let ne = other_seat s e.seat others.0 in
+    let t = holds_turn c w.now s k.orderly holds in
+    let now = counts_nothing c w.now e.seat e.step (λ out. ne (same_holder c (view_of w.now) e.seat s k.orderly out t))
+    (actor_of c w.now e.seat e.step k.orderly h) in
+    let one = left_after c w e.seat s e.step k h ne in
+    let rest = counts_later c s (world_behind c w e) es (known_behind c w.now e k on.0) on.1 others.1
+    (one.own.holding holds).0 in
+    let first : cond {A = ℕ} (is_end e.step) 1 0 ≡ 0 = rw now.0 in
+    let entry = entry_fulls (caller_number e.seat) (flight_of w.now e.seat).op (answer_decided c w.now e) now.1 in
+    record {
+      none_ends = sum_by-append (λ (x : Event). cond {A = ℕ} (is_end x.step) 1 0) (e ∷ []) es
+          ∙ (let r = rest.none_ends in omega arith);
+      none_full = fulls_append (call_decided c w.now e) (calls_from c (world_behind c w e) es)
+          ∙ (let r = rest.none_full in omega arith);
+    }
+
+counts_left : (c : Config) (es more : List Event) → CountsNothing c (left c es) more → CountsAreLeft c es (es ++ more)
+counts_left c es more h =
+    record {
+      ends = sum_by-append (λ (x : Event). cond {A = ℕ} (is_end x.step) 1 0) es more
+          ∙ (let r = h.none_ends in omega arith);
+      fulls =
+          rw (calls_append c (first_world c) es more) (fulls_append (calls c es) (calls_from c (left c es) more)
+          ∙ (let r = h.none_full in omega arith));
+    }
+
+-- the law
+
+scan_left : (c : Config) (s : Seat) (w v : World) → Left c s w v → Protocol c v.now → Attends w.now s → ScanIsLeft w v
+scan_left c s w v l p a =
+    let grow = l.scan a in
+    record { phase = by s (still_attends c s w v l.own a); marks = grow.0; blacks = grow.1 }
+  where
+    by : (s : Seat) → Attends v.now s → (phase_of v.now.words ≡ 1) ⊎ (phase_of v.now.words ≡ 2)
+    by (Marker k) a = p.attends k a
+    by (Caller k) a = absurd a
+    by Host a = absurd a
+
+visit_left : (c : Config) (s : Seat) (m : Moment) → Protocol c m → IsIn m s → 1 ≤ m.words.phase / 8
+visit_left c (Marker k) m p i = in_counts c m k p i
+visit_left c _ m p i = absurd i
+
+is_left : (c : Config) (s : Seat) (es more : List Event) → Left c s (left c es) (left c (es ++ more))
+    → Known c (left c (es ++ more)).now
+    → (Holds c (left c es).now s → CountsAreLeft c es (es ++ more)) → IsLeft c s es (es ++ more)
+is_left c s es more l known counts =
+    let p = protocol_of c (left c (es ++ more)).now known in
+    record {
+      own = l.own;
+      in_call = λ k is call. record {
+        gate =
+            (in_call_gate c (left c (es ++ more)).now k known (rw is at
+            (still_calls c s (left c es) (left c (es ++ more)) l.own call))).1;
+        mapped = l.mapped call;
+      };
+      turn = λ holds. (l.turn holds, counts holds);
+      stop = l.stop;
+      scan = λ a. scan_left c s (left c es) (left c (es ++ more)) l p a;
+      visit = λ i. visit_left c s (left c (es ++ more)).now p (still_in c s (left c es) (left c (es ++ more)) l.own i);
+    }
+
+pub others_leave : OthersLeave
+others_leave c es more s limits on others =
+    let parts = enabled_parts c (first_world c) es more on in
+    let known = known_left c es limits parts.0 in
+    is_left c s es more (rw (left_append c (first_world c) es more)
+    (left_later c s (left c es) more known parts.1 others)) (known_left c (es ++ more) limits on)
+    (λ holds. counts_left c es more (counts_later c s (left c es) more known parts.1 others holds))

@@ -1,0 +1,312 @@
+-- Each move keeps all in order.
+use Rattle.std.proofs.Common.{◌≡◌, ◌≢◌, ◌⊎◌, ℕ, ◌+◌, ◌-◌, ◌*◌, ◌%◌, ◌^◌, ◌<◌, ◌≤◌, true, List, length, length-set, refl}
+use Rattle.std.proofs.Common.{sym, ◌∙◌, ap, subst, inl, inr, arith}
+use Rattle.std.specs.Prelude.{slice_index, slice_index_or, slice_set}
+use Rattle.std.proofs.lemmas.Bool.{cases_eq}
+use Rattle.std.proofs.lemmas.List.{get_or-set_same, get_or-set_other}
+use Rattle.mk_laws.proofs.Vocabulary.{Caller, Config, Flight, Holding, Host, Marker, MarkerState, Presence, Seat}
+use Rattle.mk_laws.proofs.Vocabulary.{at_rest, holder_number, is_attending, outside}
+use Rattle.mk_laws.proofs.Standings.{Standing, Resting, InCall, standing, Shows, shows_taken, shows_given}
+use Rattle.mk_laws.proofs.Standings.{shows_held, shows_opened}
+use Rattle.mk_laws.proofs.Services.{Served, Service, Goes, service_stands, service_rests, served_on, nothing_served}
+use Rattle.mk_laws.proofs.Views.{View, flight_in, gate_in, marker_in, flight_at, flights_with, HoldsTurn}
+use Rattle.mk_laws.proofs.ProtocolMoves.{IdlesOutside, Move, Stays, Enters, GoesOn, Leaves, Takes, Gives, Works, Holds}
+use Rattle.mk_laws.proofs.ProtocolMoves.{Opens, Phases, Attends, Quits, Scans}
+use Rattle.mk_laws.proofs.Shown.{AllShow, all_but_flight, all_but_gate, all_but_both, all_but_seat, length_with}
+use Rattle.mk_laws.proofs.ProtocolMarkers.{count_in, counted_same, counted_more, counted_less, marker_set, up_eight}
+use Rattle.mk_laws.proofs.ProtocolMarkers.{down_eight}
+use Rattle.mk_laws.proofs.Orderly.{Orderly, shows_at, turn_of, holders_flight, holder_shows, giver_shows}
+use Rattle.mk_laws.proofs.Orderly.{taker_shows, taker_number, few_in}
+use Rattle.mk_laws.proofs.PhaseKept.{phase_kept}
+
+flights_kept : (c : Config) (v : View) (seat : Seat) (f : Flight) → Orderly c v
+    → length (flights_with v.flights seat f) ≡ c.callers
+flights_kept c v seat f h = length_with v.flights seat f ∙ h.flights
+
+-- a caller that isn't the holder goes on
+others_served : (c : Config) (v : View) (k : ℕ) (f : Flight) → Orderly c v → v.turn ≢ 1 + k
+    → Served (slice_index_or (slice_set v.flights k f) (v.turn - 1) at_rest) v.holding
+others_served c v k f h ne = elim (cases_eq v.turn 0) [
+  | inl z ↦ rw (h.free z) (nothing_served _ _)
+  | inr held ↦ rw (get_or-set_other v.flights k (v.turn - 1) f at_rest (λ e. ne (omega arith))) h.served
+]
+
+-- the holder goes on
+works_served : (c : Config) (v : View) (seat : Seat) (f : Flight) (i : Holding) → Orderly c v → HoldsTurn c v seat
+    → Service (flight_at v.flights seat) v.holding f i
+    → Served (slice_index_or (flights_with v.flights seat f) (v.turn - 1) at_rest) i
+works_served c v seat f i h t s =
+    rw (behind c v seat f i h t s) (served_on (flight_at v.flights seat) v.holding f i
+    (rw (holders_flight c v seat h t) at h.served) s)
+  where
+    behind : (c : Config) (v : View) (seat : Seat) (f : Flight) (i : Holding) → Orderly c v → HoldsTurn c v seat
+        → Service (flight_at v.flights seat) v.holding f i
+        → slice_index_or (flights_with v.flights seat f) (v.turn - 1) at_rest ≡ f
+    behind c v (Caller k) f i h t s =
+        let turn = turn_of c v (Caller k) h t in
+        let e : v.turn - 1 ≡ k = omega arith in
+        ap (λ j. slice_index_or (slice_set v.flights k f) j at_rest) e
+        ∙ get_or-set_same v.flights k f at_rest (omega (arith, h.flights, t.0))
+    behind c v (Marker k) f i h t s = absurd t
+    behind c v Host f i h t s = holders_flight c v Host h t ∙ sym (service_rests at_rest v.holding f i refl s)
+
+works_shown : (c : Config) (v : View) (seat : Seat) (f : Flight) (i : Holding) → Orderly c v → HoldsTurn c v seat
+    → Service (flight_at v.flights seat) v.holding f i
+    → AllShow c.callers v.turn v.gates (flights_with v.flights seat f)
+works_shown c v seat f i h t s =
+    all_but_seat c v.turn seat v.gates v.flights f
+    (holder_shows c v seat f h t (λ is. service_stands (flight_at v.flights seat) v.holding f i is s))
+    (λ b lb ne. h.each b lb)
+
+-- a gate of another is set
+gate_shown : (c : Config) (v : View) (j x : ℕ) → c.callers ≤ 16 → Orderly c v → j < c.callers
+    → Shows v.turn x j (standing (flight_in v j))
+    → AllShow c.callers v.turn (slice_set v.gates j x) v.flights
+gate_shown c v j x small h lj s = all_but_gate c.callers v.turn j x v.gates v.flights (omega (arith, h.gates)) s
+    (λ b lb nb. h.each b lb)
+
+-- one gate is set to 2, or stays
+held_or : (gs : List ℕ) (j b : ℕ) → j < length gs → (b ≢ j → slice_index gs b ≡ 2)
+    → slice_index (slice_set gs j 2) b ≡ 2
+held_or gs j b lt other = elim (cases_eq b j) [
+  | inl e ↦ rw e (get_or-set_same gs j 2 0 lt)
+  | inr ne ↦ get_or-set_other gs j b 2 0 ne ∙ other ne
+]
+
+-- a marker attends only in these phases, after a change of one
+attends_set : (v : View) (p k : ℕ) (x : MarkerState)
+    → (is_attending x.presence ≡ true → (v.phase % 8 ≡ 1) ⊎ (v.phase % 8 ≡ 2))
+    → ((b : ℕ) → is_attending (marker_in v b).presence ≡ true → (v.phase % 8 ≡ 1) ⊎ (v.phase % 8 ≡ 2)) → p ≡ v.phase % 8
+    → (b : ℕ) → is_attending (slice_index_or (slice_set v.markers k x) b outside).presence ≡ true → (p ≡ 1) ⊎ (p ≡ 2)
+attends_set v p k x own others e b a =
+    rw e (marker_set v.markers k b x (λ (y : MarkerState). is_attending y.presence ≡ true
+    → (v.phase % 8 ≡ 1) ⊎ (v.phase % 8 ≡ 2)) (λ lk. own) (others b) a)
+
+pub kept : (c : Config) (v : View) (seat : Seat) (n : View) → c.callers ≤ 16 → Orderly c v → Move c v seat n
+    → Orderly c n
+kept c v seat n small h Stays = h
+kept c v seat n small h (Enters {k} f lt free was is) =
+    let s = shows_at c v k Resting h lt was in
+    let g : gate_in v k ≡ 0 = free in
+    record {
+      flights = length-set v.flights k f ∙ h.flights;
+      gates = length-set v.gates k 1 ∙ h.gates;
+      markers = h.markers;
+      turn = h.turn;
+      each = all_but_both c.callers v.turn k 1 v.gates v.flights f (omega (arith, h.gates)) (omega (arith, h.flights))
+          (rw is (refl, s.3)) h.each;
+      served = others_served c v k f h s.3;
+      free = h.free;
+      phase = h.phase;
+      low = h.low;
+      cycle = h.cycle;
+      stopped = λ e b lb ne. absurd (omega (arith, g, h.stopped e k lt s.3));
+      attends = h.attends;
+      idle = h.idle;
+    }
+kept c v seat n small h (GoesOn {k} f lt was is) =
+    let s = shows_at c v k InCall h lt was in
+    record {
+      flights = length-set v.flights k f ∙ h.flights;
+      gates = h.gates;
+      markers = h.markers;
+      turn = h.turn;
+      each =
+          all_but_flight c.callers v.turn k v.gates v.flights f (omega (arith, h.flights))
+          (rw is s) (λ b lb ne. h.each b lb);
+      served = others_served c v k f h s.1;
+      free = h.free;
+      phase = h.phase;
+      low = h.low;
+      cycle = h.cycle;
+      stopped = h.stopped;
+      attends = h.attends;
+      idle = h.idle;
+    }
+kept c v seat n small h (Leaves {k} lt was) =
+    let s = shows_at c v k InCall h lt was in
+    let g : gate_in v k ≡ 1 = s.0 in
+    record {
+      flights = length-set v.flights k at_rest ∙ h.flights;
+      gates = length-set v.gates k 0 ∙ h.gates;
+      markers = h.markers;
+      turn = h.turn;
+      each =
+          all_but_both c.callers v.turn k 0 v.gates v.flights at_rest (omega (arith, h.gates))
+          (omega (arith, h.flights))
+          (λ e. absurd (omega arith), omega arith, λ e. refl, s.1) h.each;
+      served = others_served c v k at_rest h s.1;
+      free = h.free;
+      phase = h.phase;
+      low = h.low;
+      cycle = h.cycle;
+      stopped = λ e b lb ne. absurd (omega (arith, g, h.stopped e k lt s.1));
+      attends = h.attends;
+      idle = h.idle;
+    }
+kept c v seat n small h (Takes f z may) =
+    record {
+      flights = flights_kept c v seat f h;
+      gates = h.gates;
+      markers = h.markers;
+      turn = omega (arith, taker_number c v seat f may);
+      each = all_but_seat c (1 + holder_number c seat) seat v.gates v.flights f (taker_shows c v seat f h z may)
+          (λ b lb ne. shows_taken (gate_in v b) b (holder_number c seat) (standing (flight_in v b)) ne
+          (rw z at (h.each b lb)));
+      served = nothing_served _ _;
+      free = λ e. absurd (omega arith);
+      phase = h.phase;
+      low = h.low;
+      cycle = λ a b e. absurd (omega arith);
+      stopped = λ e. absurd (h.cycle (omega arith) (omega arith) z);
+      attends = h.attends;
+      idle = h.idle;
+    }
+kept c v seat n small h (Gives t none at) =
+    let turn = turn_of c v seat h t in
+    record {
+      flights = flights_kept c v seat at_rest h;
+      gates = h.gates;
+      markers = h.markers;
+      turn = omega arith;
+      each = all_but_seat c 0 seat v.gates v.flights at_rest (giver_shows c v seat h t)
+          (λ b lb ne. shows_given v.turn (gate_in v b) b (holder_number c seat) (standing (flight_in v b)) ne turn
+          (none b lb) (h.each b lb));
+      served = nothing_served _ _;
+      free = λ e. refl;
+      phase = h.phase;
+      low = h.low;
+      cycle = λ a b. elim at [ inl l ↦ absurd (omega arith) | inr l ↦ absurd (omega arith) ];
+      stopped = λ e. elim at [ inl l ↦ absurd (omega arith) | inr l ↦ absurd (omega arith) ];
+      attends = h.attends;
+      idle = h.idle;
+    }
+kept c v seat n small h (Works f i t s) =
+    let turn = turn_of c v seat h t in
+    record {
+      flights = flights_kept c v seat f h;
+      gates = h.gates;
+      markers = h.markers;
+      turn = h.turn;
+      each = works_shown c v seat f i h t s;
+      served = works_served c v seat f i h t s;
+      free = λ e. absurd (omega arith);
+      phase = h.phase;
+      low = h.low;
+      cycle = h.cycle;
+      stopped = h.stopped;
+      attends = h.attends;
+      idle = h.idle;
+    }
+kept c v seat n small h (Holds j t lj ne was) =
+    let turn = turn_of c v seat h t in
+    record {
+      flights = h.flights;
+      gates = length-set v.gates j 2 ∙ h.gates;
+      markers = h.markers;
+      turn = h.turn;
+      each =
+          gate_shown c v j 2 small h lj (shows_held v.turn j (holder_number c seat) (standing (flight_in v j)) ne turn
+          (rw was at (h.each j lj)));
+      served = h.served;
+      free = λ e. absurd (omega arith);
+      phase = h.phase;
+      low = h.low;
+      cycle = h.cycle;
+      stopped = λ e k lk nk. held_or v.gates j k (omega (arith, h.gates)) (λ _. h.stopped e k lk nk);
+      attends = h.attends;
+      idle = h.idle;
+    }
+kept c v seat n small h (Opens j t lj ne was open3) =
+    let turn = turn_of c v seat h t in
+    record {
+      flights = h.flights;
+      gates = length-set v.gates j 0 ∙ h.gates;
+      markers = h.markers;
+      turn = h.turn;
+      each =
+          gate_shown c v j 0 small h lj (shows_opened v.turn j (holder_number c seat) (standing (flight_in v j)) ne turn
+          (rw was at (h.each j lj)));
+      served = h.served;
+      free = λ e. absurd (omega arith);
+      phase = h.phase;
+      low = h.low;
+      cycle = h.cycle;
+      stopped = λ e. absurd (open3 e);
+      attends = h.attends;
+      idle = h.idle;
+    }
+kept c v seat n small h (Phases i {n = p} t same_place same_run step) =
+    let turn = turn_of c v seat h t in
+    let k = phase_kept c v seat p h t step in
+    record {
+      flights = h.flights;
+      gates = h.gates;
+      markers = h.markers;
+      turn = h.turn;
+      each = h.each;
+      served = served_on (flight_in v (v.turn - 1)) v.holding (flight_in v (v.turn - 1)) i h.served
+          (Goes i same_place same_run);
+      free = λ e. absurd (omega arith);
+      phase = k.phase;
+      low = k.low;
+      cycle = λ a b e. absurd (omega arith);
+      stopped = k.stopped;
+      attends = k.attends;
+      idle = h.idle;
+    }
+kept c v seat n small h (Attends {k} x lt was is at idle) =
+    let more = counted_more v.markers k x (omega (arith, h.markers)) was is in
+    let up = up_eight v.phase (count_in v.markers) (v.phase % 8) h.phase h.low (few_in c v h) in
+    record {
+      flights = h.flights;
+      gates = h.gates;
+      markers = length-set v.markers k x ∙ h.markers;
+      turn = h.turn;
+      each = h.each;
+      served = h.served;
+      free = h.free;
+      phase = omega (arith, up.0, up.1, more);
+      low = omega (arith, up.0, h.low);
+      cycle = λ a b. h.cycle (omega (arith, up.0)) (omega (arith, up.0));
+      stopped = λ e. h.stopped (omega (arith, up.0));
+      attends = attends_set v (((v.phase + 8) % 2 ^ 64) % 8) k x (λ y. inl (at y)) h.attends up.0;
+      idle = λ b. marker_set v.markers k b x (λ (y : MarkerState). IdlesOutside y) (λ lk _. idle) (h.idle b);
+    }
+kept c v seat n small h (Quits {k} lt was) =
+    let less = counted_less v.markers k outside (omega (arith, h.markers)) was refl in
+    let down = down_eight v.phase (count_in v.markers) (count_in (slice_set v.markers k outside))
+    (v.phase % 8) h.phase h.low (few_in c v h) less in
+    record {
+      flights = h.flights;
+      gates = h.gates;
+      markers = length-set v.markers k outside ∙ h.markers;
+      turn = h.turn;
+      each = h.each;
+      served = h.served;
+      free = h.free;
+      phase = omega (arith, down.0, down.1);
+      low = omega (arith, down.0, h.low);
+      cycle = λ a b. h.cycle (omega (arith, down.0)) (omega (arith, down.0));
+      stopped = λ e. h.stopped (omega (arith, down.0));
+      attends = attends_set v (((v.phase + (2 ^ 64 - 8)) % 2 ^ 64) % 8) k outside (λ y. cc) h.attends down.0;
+      idle = λ b. marker_set v.markers k b outside (λ (y : MarkerState). IdlesOutside y)
+          (λ lk _. record { scan = refl; hand = refl; seen = refl }) (h.idle b);
+    }
+kept c v seat n small h (Scans {k} x lt same idle) =
+    let less = counted_same v.markers k x (omega (arith, h.markers)) same in
+    record {
+      flights = h.flights;
+      gates = h.gates;
+      markers = length-set v.markers k x ∙ h.markers;
+      turn = h.turn;
+      each = h.each;
+      served = h.served;
+      free = h.free;
+      phase = h.phase ∙ ap (λ n. v.phase % 8 + 8 * n) (sym less);
+      low = h.low;
+      cycle = h.cycle;
+      stopped = h.stopped;
+      attends = attends_set v (v.phase % 8) k x (λ y. h.attends k (rw (← same) y)) h.attends refl;
+      idle = λ b. marker_set v.markers k b x (λ (y : MarkerState). IdlesOutside y) (λ lk. idle (h.idle k)) (h.idle b);
+    }

@@ -1,0 +1,77 @@
+-- What a look at the turn, at a gate and at the phase says.
+use Rattle.std.proofs.Common.{◌≡◌, ℕ, ◌-◌, ◌/◌, ◌<◌, ◌≤◌, true, false, List, length, refl, sym, ◌∙◌, ap, inl, inr}
+use Rattle.std.proofs.Common.{arith}
+use Rattle.std.specs.Prelude.{not}
+use Rattle.std.proofs.lemmas.Bool.{cases_Bool, cases_eq, cases_lt}
+use Rattle.std.proofs.lemmas.List.{get_or_past}
+use Rattle.mk_laws.proofs.Vocabulary.{Caller, Config, Event, Holds, Host, Marker, MarkerState, Moment, Presence}
+use Rattle.mk_laws.proofs.Vocabulary.{Seat, is_attending, is_in, left, marker_of, outside}
+use Rattle.mk_core.specs.declared.seats.Presence.TheVariants.{Attending}
+use Rattle.mk_core.specs.MarkerConditions.{is_out}
+use Rattle.mk_core.specs.Readings.{TurnTells, GateTells, PhaseTells}
+use Rattle.mk_laws.specs.Protocol.{Protocol}
+use Rattle.mk_laws.specs.HolderReadings.{WordsTell}
+use Rattle.mk_laws.proofs.ProtocolMarkers.{count_in-at}
+use Rattle.mk_laws.proofs.ProtocolHeldGates.{gates_tell_holds}
+use Rattle.mk_laws.proofs.Protocols.{lists_keep_the_protocol}
+
+turn_tells : (c : Config) (m : Moment) → Protocol c m → TurnTells c m
+turn_tells c m p = record { least = p.turn; caller = p.holder; nobody = (held, free) }
+  where
+    held : m.words.turn ≡ 0 → (s : Seat) → Holds c m s → ⊥
+    held z (Caller k) h = let e = (p.holder k h.0).1 h.1 in absurd (omega arith)
+    held z (Marker k) h = h
+    held z Host h = absurd (omega arith)
+
+    free : ((s : Seat) → Holds c m s → ⊥) → m.words.turn ≡ 0
+    free none = elim (cases_eq m.words.turn 0) [
+      | inl z ↦ z
+      | inr some ↦ elim (cases_lt (m.words.turn - 1) c.callers) [
+        | inl lt ↦ absurd (none (Caller (m.words.turn - 1)) (lt, (p.holder (m.words.turn - 1) lt).0 (omega arith)))
+        | inr past ↦ let most = p.turn in absurd (none Host (omega arith))
+      ]
+    ]
+
+attending_in : (p : Presence) → is_attending p ≡ true → not (is_out p) ≡ true
+attending_in Attending h = refl
+attending_in _ h = cc
+
+-- a marker that is in is one of the eight, and counts
+pub in_counts : (c : Config) (m : Moment) (k : ℕ) → Protocol c m → is_in (marker_of m k) ≡ true → 1 ≤ m.words.phase / 8
+in_counts c m k p is = elim (cases_lt k (length m.seats.markers)) [
+  | inl lt ↦ let one = count_in-at m.seats.markers k lt is in let high = p.high in omega arith
+  | inr past ↦ let f : false ≡ true =
+      ap (λ (x : MarkerState). is_in x) (sym (get_or_past m.seats.markers k outside past)) ∙ is in cc
+]
+
+phase_tells : (c : Config) (m : Moment) → Protocol c m → PhaseTells c m
+phase_tells c m p =
+    record {
+      low = p.low;
+      high = p.high;
+      none_in = λ z k. none k
+          (λ a. let one = in_counts c m k p (attending_in (marker_of m k).presence a) in absurd (omega arith));
+      attends = λ n1 n2 k. none k (λ a. elim (p.attends k a) [ inl e ↦ n1 e | inr e ↦ n2 e ]);
+      under_the_turn = p.cycle;
+      stopped = p.stopped;
+    }
+  where
+    none : (k : ℕ) → (is_attending (marker_of m k).presence ≡ true → ⊥) → is_attending (marker_of m k).presence ≡ false
+    none k no_one = elim (cases_Bool (is_attending (marker_of m k).presence)) [ inl a ↦ absurd (no_one a) | inr a ↦ a ]
+
+gate_tells : (c : Config) (es : List Event) (k : ℕ) → Protocol c (left c es).now → k < c.callers → GateTells c es k
+gate_tells c es k p lt = record {
+  least = p.gate k lt;
+  in_call = p.in_call k lt;
+  held = gates_tell_holds c es k;
+  by_another = p.held k lt;
+}
+
+pub words_tell : WordsTell
+words_tell c es limits on =
+    let p = lists_keep_the_protocol c es limits on in
+    record {
+      turn = turn_tells c (left c es).now p;
+      gates = λ k lt. gate_tells c es k p lt;
+      phase = phase_tells c (left c es).now p;
+    }

@@ -1,0 +1,70 @@
+-- The protocol holds after every enabled list.
+use Rattle.std.proofs.Common.{◌≡◌, ◌≢◌, ◌↔◌, ℕ, ◌+◌, ◌-◌, ◌<◌, ◌≤◌, Bool, true, false, refl, sym, ◌∙◌, ap, inl, inr}
+use Rattle.std.proofs.Common.{arith}
+use Rattle.std.specs.Prelude.{Option, is_some}
+use Rattle.std.proofs.lemmas.Bool.{cases_lt}
+use Rattle.std.proofs.lemmas.List.{get_or_past}
+use Rattle.mk_laws.proofs.Vocabulary.{Caller, Config, Flight, Moment, RunPages, at_rest, flight_of}
+use Rattle.mk_laws.proofs.Vocabulary.{is_undecided_new, left}
+use Rattle.mk_laws.specs.Protocol.{is_decided_new, is_decided_free, SomeCaller, Protocol, ListsKeepTheProtocol}
+use Rattle.mk_laws.proofs.Standings.{standing, is_standing_in_call, shows_turn, shows_gate, in_call_told}
+use Rattle.mk_laws.proofs.Standings.{in_turn_told, stage_told}
+use Rattle.mk_laws.proofs.Views.{view_of, flight_in, gate_in}
+use Rattle.mk_laws.proofs.Orderly.{Orderly}
+use Rattle.mk_laws.proofs.OrderlyLists.{not_astray}
+use Rattle.mk_laws.proofs.Operands.{HaveOperands}
+use Rattle.mk_laws.proofs.Known.{Known, known_left}
+
+-- what is in order is as the protocol says
+
+-- the holder is a caller, where its call is so and no call is astray
+some_caller : (c : Config) (m : Moment) (test : Flight → Bool) → Orderly c (view_of m) → test at_rest ≡ false
+    → test (flight_in (view_of m) (m.words.turn - 1)) ≡ true → SomeCaller c m test
+some_caller c m test o rests is = elim (cases_lt (m.words.turn - 1) c.callers) [
+  | inl lt ↦ record { caller = m.words.turn - 1; within = lt; holds = is }
+  | inr past ↦
+      let none = get_or_past m.seats.flights (m.words.turn - 1) at_rest (omega (arith, o.flights)) in
+      let e : false ≡ true = sym rests ∙ ap test (sym none) ∙ is in
+      cc
+]
+
+told : (c : Config) (m : Moment) → Orderly c (view_of m) → HaveOperands c m.seats.flights → Protocol c m
+told c m o operands =
+    record {
+      callers = o.flights;
+      markers = o.markers;
+      low = o.low;
+      high = let e = o.phase in omega arith;
+      turn = o.turn;
+      gate = λ k lt. (gates k lt).0;
+      in_call = λ k lt.
+          let g = (gates k lt).1 in
+          let told = in_call_told (flight_of m (Caller k)).stage (flight_of m (Caller k)).op (not_astray c m o k lt) in
+          (λ x. sym told ∙ g.0 x, λ x. g.1 (told ∙ x));
+      held = λ k lt. (gates k lt).2;
+      holder = λ k lt.
+          let t = shows_turn m.words.turn (gate_in (view_of m) k) k (standing (flight_of m (Caller k))) (o.each k lt) in
+          let told = in_turn_told (flight_of m (Caller k)).stage (flight_of m (Caller k)).op (not_astray c m o k lt) in
+          (λ x. sym told ∙ t.0 x, λ x. t.1 (told ∙ x));
+      stage = λ k lt. stage_told (flight_of m (Caller k)).stage (flight_of m (Caller k)).op (not_astray c m o k lt);
+      operands = operands;
+      cycle = o.cycle;
+      stopped = o.stopped;
+      attends = o.attends;
+      idle = o.idle;
+      free = o.free;
+      placed = λ e. some_caller c m is_undecided_new o refl (o.served.placed e);
+      granted = λ e. some_caller c m is_decided_new o refl (o.served.granted e);
+      freed = λ run e. some_caller c m is_decided_free o refl (o.served.freed (rw e));
+    }
+  where
+    gates : (k : ℕ) → k < c.callers → (gate_in (view_of m) k ≤ 2)
+        × ((gate_in (view_of m) k ≡ 1) ↔ (is_standing_in_call (standing (flight_of m (Caller k))) ≡ true))
+        × (gate_in (view_of m) k ≡ 2 → (m.words.turn ≢ 0) × (m.words.turn ≢ 1 + k))
+    gates k lt = shows_gate m.words.turn (gate_in (view_of m) k) k (standing (flight_of m (Caller k))) (o.each k lt)
+
+pub protocol_of : (c : Config) (m : Moment) → Known c m → Protocol c m
+protocol_of c m known = told c m known.orderly known.operands
+
+pub lists_keep_the_protocol : ListsKeepTheProtocol
+lists_keep_the_protocol c es limits on = protocol_of c (left c es).now (known_left c es limits on)

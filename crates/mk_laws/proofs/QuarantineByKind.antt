@@ -1,0 +1,242 @@
+-- What each kind of event makes of the quarantine.
+use Rattle.std.proofs.Common.{Bool, List, ap, arith, false, inl, inr, length, refl, sym, true, ℕ, ◌%◌, ◌/◌, ◌<◌, ◌^◌}
+use Rattle.std.proofs.Common.{◌∙◌, ◌≡◌}
+use Rattle.std.specs.Prelude.{None, Option, Some, if◌then◌else◌, not, slice_index, slice_set, ◌&&◌, ◌==◌, ◌||◌}
+use Rattle.std.proofs.lemmas.Bool.{and_from, cases_lt, cond-true, eqb-true, false_from_ne_true, ltb-true, or_cases}
+use Rattle.std.proofs.lemmas.Bool.{true≢false}
+use Rattle.std.proofs.lemmas.List.{get_or_past, set-get_or}
+use Rattle.mk_never.specs.declared.operations.Op.TheVariants as op
+use Rattle.mk_laws.proofs.Vocabulary.{Cell, Config, Flight, Page, Place, PlacedAllocation, Placing, Seat, Step}
+use Rattle.mk_laws.proofs.Vocabulary.{Unplaced, Used, Words, World, cell_freed, cell_of_allocation, chosen}
+use Rattle.mk_laws.proofs.Vocabulary.{flight_of, found, frees, granted, is_phase, is_undecided_free}
+use Rattle.mk_laws.proofs.Vocabulary.{is_undecided_new, marks_place, may_end, nothing_done, object_made}
+use Rattle.mk_laws.proofs.Vocabulary.{object_placed, or_else, phase_of, place_now, placed_at, run_of_cell}
+use Rattle.mk_laws.proofs.Vocabulary.{stands_in, taken, target}
+use Rattle.mk_core.specs.declared.events.Step.TheVariants as step
+use Rattle.mk_core.proofs.CellsOfAllocations.{stands_in_its_cell}
+use Rattle.mk_core.proofs.ChangedAllocations.{none_freed}
+use Rattle.mk_core.proofs.EvaluatedPlaces.{full}
+use Rattle.mk_core.proofs.PageSteps.{ItDrops, ItFrees, ItGivesBack, ItTakes, ItTakesSnapshot, QuarantineStep, UsedStep}
+use Rattle.mk_core.proofs.PageSteps.{quarantine_step, used_step}
+use Rattle.mk_core.proofs.PlacesNow.{FreesCell, chosen_used, freed_cell, undecided_free, undecided_new}
+use Rattle.mk_laws.specs.Protocol.{has_place}
+use Rattle.mk_laws.proofs.Actors.{Meets}
+use Rattle.mk_laws.proofs.Ground.{KeepsGround, tally_ground, with_quarantine}
+use Rattle.mk_laws.proofs.OthersMoves.{WorldBehind}
+use Rattle.mk_laws.specs.Quarantine.{HasQuarantine, IsQuarantined}
+use Rattle.mk_laws.specs.LayoutScene.{Claim, IsShown, is_released_in}
+use Rattle.mk_laws.specs.Ground.{Ground, ground_of}
+use Rattle.mk_laws.specs.Terrain.{LayoutStands, claim_of, object_now}
+use Rattle.mk_laws.proofs.LayoutBefore.{Before, is_releasing_behind, reg_leaves_ground}
+use Rattle.mk_laws.proofs.LayoutByKind.{off_at}
+use Rattle.mk_laws.proofs.Claims.{claim_among}
+use Rattle.mk_laws.proofs.Dropped.{settled_page}
+use Rattle.mk_laws.proofs.Freed.{standing_cell}
+use Rattle.mk_laws.proofs.LayoutHolders.{free_has_turn, placed_undecided}
+use Rattle.mk_laws.proofs.LayoutPageKinds.{with_halves}
+use Rattle.mk_laws.proofs.QuarantineChanges.{FreesHere, begin_kept, free_kept, grant_kept, index_small, release_kept}
+use Rattle.mk_laws.proofs.QuarantineSteps.{drop_kept, end_kept, released_bits, replaced, snapshot_kept, take_kept}
+use Rattle.mk_laws.proofs.LayoutReadings.{none_set}
+use Rattle.mk_laws.proofs.Released.{all_stand}
+use Rattle.mk_laws.proofs.Serving.{Laid, own_claim}
+
+abbrev pub QuarantinedAs : Config → Bool → World → Ground → Type 0
+QuarantinedAs c releasing w t = HasQuarantine c releasing w.now.words.marks t
+
+abbrev pub QuarantinedNow : Config → World → Ground → Type 0
+QuarantinedNow c w t = QuarantinedAs c (is_phase w.now.words 4) w t
+
+-- What the layout says of an unreleased allocation's cell.
+pub shown_at : (c : Config) (w : World) (i : ℕ) → LayoutStands c w → (placed_at w.allocations i).released ≡ false
+    → IsShown w.now.words.pages (claim_of c w.now.seats.holding.freed (placed_at w.allocations i))
+shown_at c w i laid u =
+    let x : Claim = claim_of c w.now.seats.holding.freed (placed_at w.allocations i) in
+    laid.scene.shown x (own_claim c (object_now c w.now) (ground_of w) x
+    (claim_among c w.now.seats.holding.freed w.allocations i u))
+
+-- `quar`
+
+-- a step that frees, frees a cell
+pub frees_some : (pages : ℕ) (w : Words) (f : Flight) (p n : ℕ) → is_phase w 4 ≡ false
+    → frees w (target pages w f) p n ≡ true → cell_freed pages w f p n ≡ None → ⊥
+frees_some pages w f p n off h none =
+    let both : (not (is_phase w 4) && frees w (target pages w f) p n) ≡ true =
+    and_from (not (is_phase w 4)) (frees w (target pages w f) p n) (ap not off) h in
+    let at : target pages w f ≡ None =
+    sym (cond-true (not (is_phase w 4) && frees w (target pages w f) p n) (target pages w f) None both) ∙ none in
+    let e : true ≡ false = sym h ∙ ap (λ (x : Option Cell). frees w x p n) at in
+    true≢false e
+
+-- a New and a Free aren't the same call
+not_both : (f : Flight) → is_undecided_new f ≡ true → is_undecided_free f ≡ true → ⊥
+not_both f new free =
+    let a = undecided_new f new in
+    let b = undecided_free f free in
+    let e : op.New a.d a.ty a.full ≡ op.Free b.p = sym a.op ∙ b.op in
+    apart a.d a.ty a.full b.p e
+  where
+    apart : (d ty : ℕ) (full : Bool) (p : ℕ) → op.New d ty full ≡ op.Free p → ⊥
+    apart d ty full p e = cc
+
+quar_none : (c : Config) (w : World) (f : Flight) (p n : ℕ) → p < length w.now.words.freed
+    → p < length w.now.words.snapshot → cell_freed c.pages w.now.words f p n ≡ None
+    → QuarantineStep c w.now f p n → IsQuarantined c w → QuarantinedNow c w (with_halves w p n)
+quar_none c w f p n lf ls none (ItFrees off x) q = absurd (frees_some c.pages w.now.words f p n off x none)
+quar_none c w f p n lf ls none (ItDrops on x) q = rw on (drop_kept c w p (n % 2 ^ 32) (n / 2 ^ 32) lf ls (rw on at q) x)
+quar_none c w f p n lf ls none (ItTakesSnapshot x) q =
+    let value = x.is in
+    let small = (q.small p).0 in
+    let low : n % 2 ^ 32 ≡ slice_index w.now.words.freed p = omega arith in
+    let high : n / 2 ^ 32 ≡ slice_index w.now.words.freed p = omega arith in
+    let same : slice_set w.now.words.freed p (n % 2 ^ 32) ≡ w.now.words.freed =
+    rw low (set-get_or w.now.words.freed p 0) in
+    let off = off_at w 0 x.phase (λ e. absurd (omega arith)) in
+    rw off (rw same (rw high (snapshot_kept c w.now.words.marks (ground_of w) p ls (rw off at q))))
+
+-- what a step that frees finds
+pub frees_here : (c : Config) (w : World) (seat : Seat) (p n : ℕ) (cell : Cell) → Before c w
+    → Meets c w.now seat (step.Quar p n) → LayoutStands c w
+    → FreesCell c.pages w.now.words (flight_of w.now seat) p n cell → FreesHere c w cell n
+frees_here c w seat p n cell b h laid x =
+    let own = b.others.target seat cell x.at in
+    let a : PlacedAllocation = placed_at w.allocations own.number in
+    let off : Laid c (object_now c w.now) false w (ground_of w) = rw x.phase at laid in
+    let s = all_stand c (object_now c w.now) false w b.lengths.pages off own.number own.unreleased in
+    let shown = shown_at c w own.number laid own.unreleased in
+    let known : (cell_of_allocation c a).index < 32 =
+    index_small (object_placed c a) (cell_of_allocation c a).index shown.sized shown.known in
+    let index : (cell_of_allocation c a).index ≡ cell.index = ap (λ (y : Cell). y.index) own.is in
+    let page = x.page in
+    let lt = ltb-true p c.pages h.range in
+    let f = b.lengths.freed in
+    let g = b.lengths.snapshot in
+    let turn = free_has_turn c w.now seat h.seat x.free in
+    record {
+      page = omega arith;
+      in_snapshot = omega arith;
+      index = omega arith;
+      own = own;
+      stands = ap (λ (y : Cell). stands_in w.now.words y a) (sym own.is)
+          ∙ stands_in_its_cell c w.now.words a b.limits s.stands s.headers;
+      others = standing_cell c (object_now c w.now) w cell b.lengths.pages own off;
+      unset = x.unfreed;
+      value = x.value ∙ rw page;
+      unplaced = false_from_ne_true (has_place w.now.seats.holding.placing)
+          (λ has. not_both (flight_of w.now seat) (placed_undecided c w.now seat b.known turn has) x.free);
+    }
+
+quar_kept : (c : Config) (w : World) (seat : Seat) (p n : ℕ) → Before c w → Meets c w.now seat (step.Quar p n)
+    → LayoutStands c w → IsQuarantined c w → QuarantinedNow c w (ground_of (WorldBehind c w seat (step.Quar p n)))
+quar_kept c w seat p n b h laid q = by (cell_freed c.pages w.now.words (flight_of w.now seat) p n) refl
+  where
+    lf : p < length w.now.words.freed
+    lf = let lt = ltb-true p c.pages h.range in let len = b.lengths.freed in omega arith
+
+    ls : p < length w.now.words.snapshot
+    ls = let lt = ltb-true p c.pages h.range in let len = b.lengths.snapshot in omega arith
+
+    by : (cell : Option Cell) → cell_freed c.pages w.now.words (flight_of w.now seat) p n ≡ cell
+        → QuarantinedNow c w (with_quarantine w p n cell)
+    by None is =
+        rw (none_freed w.now.words w.allocations)
+        (quar_none c w (flight_of w.now seat) p n lf ls is (quarantine_step c w.now (flight_of w.now seat) p n h.holder)
+        q)
+    by (Some cell) is =
+        let x = freed_cell c.pages w.now.words (flight_of w.now seat) p n cell is in
+        rw x.phase (rw x.page
+        (free_kept c w cell (or_else (run_of_cell w.now.words (Some cell)) w.now.seats.holding.freed) n
+        (frees_here c w seat p n cell b h laid x) (rw x.phase at q)))
+
+-- `head` and `used`
+head_from : (four : Bool) (placing : Placing) (found : Option Place) (place : Place)
+    → (if four then placing else chosen placing found) ≡ Used place → placing ≡ Used place
+head_from true placing found place e = e
+head_from false placing found place e = chosen_used placing found place e
+
+abbrev UsedAs : Config → World → List Page → Bool → Option Place → Type 0
+UsedAs c w pages four found =
+    QuarantinedAs c four w (record (ground_of w) {
+      pages = pages;
+      placing = if four then w.now.seats.holding.placing else taken w.now.seats.holding.placing found;
+    })
+
+used_kept : (c : Config) (w : World) (seat : Seat) (p n : ℕ) (pages : List Page) → LayoutStands c w → IsQuarantined c w
+    → UsedStep c w.now (flight_of w.now seat) p n
+    → UsedAs c w pages (is_phase w.now.words 4) (place_now c w.now (flight_of w.now seat))
+used_kept c w seat p n pages laid q (ItTakes off once x) =
+    rw off (rw x.there (take_kept c w.now.words.marks (ground_of w) pages x.place (λ i u. (shown_at c w i laid u).used)
+    (rw (← x.taken.at) x.taken.unused) (rw off at q)))
+used_kept c w seat p n pages laid q (ItGivesBack on x) =
+    rw on (replaced c true w.now.words.marks (ground_of w) pages w.now.seats.holding.placing w.now.seats.holding.freed
+    (λ place e. e) (rw on at q))
+
+-- `mark`
+mark_from : (t : Bool) (placing : Placing) (found : Option Place) (place : Place)
+    → (if t then chosen placing found else placing) ≡ Used place → placing ≡ Used place
+mark_from false placing found place e = e
+mark_from true placing found place e = chosen_used placing found place e
+
+-- words that leave the quarantine
+kept_ground : (c : Config) (w : World) (x : Words) → KeepsGround w.now.words x → IsQuarantined c w
+    → QuarantinedNow c w (record (ground_of w) { pages = x.pages; freed = x.freed; snapshot = x.snapshot })
+kept_ground c w x g q = rw g.pages (rw g.freed (rw g.snapshot q))
+
+-- `grant` and `end`
+pub grants_early : (w : World) → ((phase_of w.now.words == 0) || (phase_of w.now.words == 1)) ≡ true
+    → is_phase w.now.words 4 ≡ false
+grants_early w h = elim (or_cases (phase_of w.now.words == 0) (phase_of w.now.words == 1) h) [
+  | inl e ↦ off_at w 0 e (λ x. absurd (omega arith))
+  | inr e ↦ off_at w 1 e (λ x. absurd (omega arith))
+]
+
+none_left : (c : Config) (w : World) → Before c w → may_end c.pages w.now.words ≡ true → (p k : ℕ)
+    → is_released_in true w.now.words.snapshot w.now.words.marks p k ≡ false
+none_left c w b own p k = elim (cases_lt p c.pages) [
+  | inl lt ↦ (settled_page w.now.words c.pages p own lt).none k
+  | inr past ↦ false_from_ne_true (is_released_in true w.now.words.snapshot w.now.words.marks p k) (λ r.
+      let bits = released_bits w.now.words.snapshot w.now.words.marks p k r in
+      none_set (slice_index w.now.words.snapshot p) k
+      (get_or_past w.now.words.snapshot p 0 (let len = b.lengths.snapshot in omega arith)) bits.0)
+]
+
+-- each kind of event, whatever the seat
+pub quarantine_by_kind : (c : Config) (w : World) (seat : Seat) (x : Step) → Before c w → Meets c w.now seat x
+    → LayoutStands c w → IsQuarantined c w
+    → QuarantinedAs c (is_releasing_behind x (is_phase w.now.words 4)) w (ground_of (WorldBehind c w seat x))
+quarantine_by_kind c w seat (step.Take o) b h laid q = by (w.now.words.turn == 0) refl
+  where
+    by : (t : Bool) → (w.now.words.turn == 0) ≡ t → QuarantinedNow c w (record (ground_of w) {
+      placing = (if t then nothing_done else w.now.seats.holding).placing;
+      run = (if t then nothing_done else w.now.seats.holding).freed;
+    })
+    by false is = q
+    by true is = rw (b.known.orderly.free (eqb-true w.now.words.turn 0 is)) at q
+quarantine_by_kind c w seat step.Give b h laid q =
+    replaced c (is_phase w.now.words 4) w.now.words.marks (ground_of w) w.now.words.pages Unplaced None
+    (λ place e. cc) q
+quarantine_by_kind c w seat step.Reg b h laid q =
+    kept_ground c w _ (reg_leaves_ground c w seat) q
+quarantine_by_kind c w seat (step.Tally n v) b h laid q = kept_ground c w _ (tally_ground w.now.words n v) q
+quarantine_by_kind c w seat (step.Head p n) b h laid q =
+    replaced c (is_phase w.now.words 4) w.now.words.marks (ground_of w) _ _ w.now.seats.holding.freed
+    (λ place e. head_from (is_phase w.now.words 4) w.now.seats.holding.placing
+    (place_now c w.now (flight_of w.now seat)) place e) q
+quarantine_by_kind c w seat (step.Used p n) b h laid q =
+    used_kept c w seat p n _ laid q (used_step c w.now (flight_of w.now seat) p n h.holder)
+quarantine_by_kind c w seat (step.Quar p n) b h laid q = quar_kept c w seat p n b h laid q
+quarantine_by_kind c w seat step.Grant b h laid q =
+    let off = grants_early w h.phase in
+    rw off (grant_kept c w.now.words.marks (ground_of w) (granted c w.now (flight_of w.now seat)) refl (rw off at q))
+quarantine_by_kind c w seat (step.Mark p n) b h laid q =
+    replaced c (is_phase w.now.words 4) w.now.words.marks (ground_of w) _ _ w.now.seats.holding.freed (λ place e.
+    mark_from (marks_place w.now.words (object_made c (flight_of w.now seat).op)
+    (place_now c w.now (flight_of w.now seat)) p n) w.now.seats.holding.placing
+    (place_now c w.now (flight_of w.now seat)) place e) q
+quarantine_by_kind c w seat step.Begin b h laid q =
+    begin_kept c (is_phase w.now.words 4) w.now.words.marks (ground_of w) q
+quarantine_by_kind c w seat step.Release b h laid q =
+    let off = off_at w 3 h.phase (λ e. absurd (omega arith)) in
+    release_kept c w b.limits (all_stand c (object_now c w.now) false w b.lengths.pages (rw off at laid)) (rw off at q)
+quarantine_by_kind c w seat step.End b h laid q =
+    end_kept c w.now.words.marks (ground_of w) (none_left c w b h.holder) (rw h.phase at q)
+quarantine_by_kind c w seat _ b h laid q = q

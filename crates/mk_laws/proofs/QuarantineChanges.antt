@@ -1,0 +1,314 @@
+-- The quarantine after the steps that change allocations: `release`, `quar` (a), `grant`, `begin`.
+use Rattle.std.proofs.Common.{Bool, List, ap, arith, false, inl, inr, length, map, pow-suc, refl, suc, sym, true, ℕ, []}
+use Rattle.std.proofs.Common.{◌%◌, ◌*◌, ◌++◌, ◌+◌, ◌/◌, ◌<◌, ◌^◌, ◌∙◌, ◌∷◌, ◌≡◌, ◌≤◌, ◌⊎◌}
+use Rattle.std.specs.Prelude.{Option, Some, if◌then◌else◌, slice_index, slice_set}
+use Rattle.std.proofs.Math.Pow.{pow_mono}
+use Rattle.std.proofs.lemmas.Bool.{cases_Bool, cases_eq, cond-true, true≢false}
+use Rattle.std.proofs.lemmas.Nat.{mul-le, or_lt}
+use Rattle.mk_laws.proofs.Vocabulary.{Cell, Config, Granted, IsSized, IsWithinLimits, Object, PlacedAllocation}
+use Rattle.mk_laws.proofs.Vocabulary.{Placing, RunPages, Words, World, cell_of_allocation, cells_made, class_made}
+use Rattle.mk_laws.proofs.Vocabulary.{class_words_of, freed_where_it_stands, has_bit, is_small_object}
+use Rattle.mk_laws.proofs.Vocabulary.{no_longer_fresh, placed_at, quarantine_word, stands_in, with_released}
+use Rattle.mk_geom.proofs.ClassTable.{cell_ends, class_words_within}
+use Rattle.mk_core.proofs.ChangedAllocations.{changed_at, freed_released}
+use Rattle.mk_core.proofs.Sizes.{class_known, large_cells, small_cells}
+use Rattle.mk_core.proofs.SmallCycles.{small}
+use Rattle.mk_core.proofs.WordBits.{added_here, added_other, sum_is_or}
+use Rattle.mk_laws.specs.Protocol.{has_place}
+use Rattle.mk_laws.specs.Quarantine.{HasQuarantine, IsFreedCell}
+use Rattle.mk_laws.specs.LayoutScene.{is_released_in}
+use Rattle.mk_laws.specs.Ground.{Ground, ground_of}
+use Rattle.mk_laws.specs.Terrain.{IsCellOf}
+use Rattle.mk_laws.proofs.LayoutByKind.{fresh_cells}
+use Rattle.mk_laws.proofs.Claims.{LeavesCells, same_cell}
+use Rattle.mk_laws.proofs.Freed.{freeing_leaves}
+use Rattle.mk_laws.proofs.Granted.{pushed_at, still_at}
+use Rattle.mk_laws.proofs.QuarantineSteps.{bit_cases, least_set}
+use Rattle.mk_laws.proofs.Released.{left_is, releasing_leaves}
+use Rattle.mk_laws.proofs.StandingClaims.{IsStanding}
+
+-- A freed cell after a change that leaves its allocation unreleased, and freed.
+pub freed_behind : (c : Config) (g : PlacedAllocation → PlacedAllocation) (xs : List PlacedAllocation) (p k : ℕ)
+    → LeavesCells g → (o : IsFreedCell c xs p k)
+    → (g (placed_at xs o.number)).released ≡ false → (g (placed_at xs o.number)).freed ≡ true
+    → IsFreedCell c (map g xs) p k
+freed_behind c g xs p k leaves o u f =
+    let a : PlacedAllocation = placed_at xs o.number in
+    let at = changed_at g xs o.number leaves.places.none in
+    record {
+      number = o.number;
+      unreleased = ap (λ (b : PlacedAllocation). b.released) at ∙ u;
+      freed = ap (λ (b : PlacedAllocation). b.freed) at ∙ f;
+      cell = ap (λ (b : PlacedAllocation). cell_of_allocation c b) at
+          ∙ same_cell c a (g a) (leaves.places.base a) (leaves.places.ty a) ∙ o.cell;
+    }
+
+-- An unreleased allocation after a change, at its number before it.
+pub record BeforeChange (c : Config) (g : PlacedAllocation
+    → PlacedAllocation) (xs : List PlacedAllocation) (i : ℕ) : Type 0 where
+  pub now : placed_at (map g xs) i ≡ g (placed_at xs i)
+  pub unreleased : (g (placed_at xs i)).released ≡ false
+  pub was : (placed_at xs i).released ≡ false
+  pub cell : cell_of_allocation c (placed_at (map g xs) i) ≡ cell_of_allocation c (placed_at xs i)
+
+pub before_change : (c : Config) (g : PlacedAllocation → PlacedAllocation) (xs : List PlacedAllocation) (i : ℕ)
+    → LeavesCells g → (placed_at (map g xs) i).released ≡ false → BeforeChange c g xs i
+before_change c g xs i leaves u =
+    let a : PlacedAllocation = placed_at xs i in
+    let at = changed_at g xs i leaves.places.none in
+    let v = ap (λ (b : PlacedAllocation). b.released) (sym at) ∙ u in
+    record {
+      now = at;
+      unreleased = v;
+      was = leaves.released a v;
+      cell = ap (λ (b : PlacedAllocation). cell_of_allocation c b) at
+          ∙ same_cell c a (g a) (leaves.places.base a) (leaves.places.ty a);
+    }
+
+-- `release`: what stays isn't released, and what goes is
+pub release_kept : (c : Config) (w : World) → IsWithinLimits c
+    → ((i : ℕ) → (placed_at w.allocations i).released ≡ false → IsStanding c w.now.words (placed_at w.allocations i))
+    → HasQuarantine c false w.now.words.marks (ground_of w) → HasQuarantine c true w.now.words.marks
+    (record (ground_of w) { allocations = map (with_released c w.now.words) w.allocations })
+release_kept c w limits stand q =
+    record {
+      small = q.small;
+      within = q.within;
+      owned = λ p k h. owned p k (q.owned p k h);
+      shown = λ i u f.
+          let b = before_change c (with_released c w.now.words) w.allocations i leaves u in
+          ap (λ (x : Cell). has_bit (slice_index w.now.words.freed x.page) x.index) b.cell
+          ∙ q.shown i b.was (ap (λ (x : PlacedAllocation). x.freed) (sym b.now) ∙ f);
+      taken = q.taken;
+      kept = λ on i u.
+          let b = before_change c (with_released c w.now.words) w.allocations i leaves u in
+          ap (λ (x : Cell). is_released_in true w.now.words.snapshot w.now.words.marks x.page x.index) b.cell
+          ∙ sym (left_is c w.now.words (placed_at w.allocations i) limits (stand i b.was)) ∙ b.unreleased;
+    }
+  where
+    leaves : LeavesCells (with_released c w.now.words)
+    leaves = releasing_leaves c w.now.words
+
+    owned : (p k : ℕ) → IsFreedCell c w.allocations p k
+        ⊎ (is_released_in false w.now.words.snapshot w.now.words.marks p k ≡ true)
+        → IsFreedCell c (map (with_released c w.now.words) w.allocations) p k
+        ⊎ (is_released_in true w.now.words.snapshot w.now.words.marks p k ≡ true)
+    owned p k (inr r) = absurd (true≢false (sym r))
+    owned p k (inl o) = elim (cases_Bool (with_released c w.now.words (placed_at w.allocations o.number)).released) [
+      | inr u ↦ inl (freed_behind c (with_released c w.now.words) w.allocations p k leaves o u o.freed)
+      | inl r ↦
+          inr (ap (λ (x : Cell). is_released_in true w.now.words.snapshot w.now.words.marks x.page x.index) (sym o.cell)
+          ∙ sym (left_is c w.now.words (placed_at w.allocations o.number) limits (stand o.number o.unreleased)) ∙ r)
+    ]
+
+-- `begin`
+pub begin_kept : (c : Config) (releasing : Bool) (marks : List ℕ) (t : Ground) → HasQuarantine c releasing marks t
+    → HasQuarantine c releasing marks (record t { allocations = map no_longer_fresh t.allocations })
+begin_kept c releasing marks t q =
+    record {
+      small = q.small;
+      within = q.within;
+      owned = λ p k h. elim (q.owned p k h) [
+        | inl o ↦ inl (freed_behind c no_longer_fresh t.allocations p k fresh_cells o o.unreleased o.freed)
+        | inr r ↦ inr r
+      ];
+      shown = λ i u f.
+          let b = before_change c no_longer_fresh t.allocations i fresh_cells u in
+          ap (λ (x : Cell). has_bit (slice_index t.freed x.page) x.index) b.cell
+          ∙ q.shown i b.was (ap (λ (x : PlacedAllocation). x.freed) (sym b.now) ∙ f);
+      taken = q.taken;
+      kept = λ on i u.
+          let b = before_change c no_longer_fresh t.allocations i fresh_cells u in
+          ap (λ (x : Cell). is_released_in true t.snapshot marks x.page x.index) b.cell ∙ q.kept on i b.was;
+    }
+
+-- `grant`
+pub grant_kept : (c : Config) (marks : List ℕ) (t : Ground) (a : PlacedAllocation) → a.freed ≡ false
+    → HasQuarantine c false marks t
+    → HasQuarantine c false marks (record t { placing = Granted; allocations = t.allocations ++ a ∷ [] })
+grant_kept c marks t a unfreed q =
+    record {
+      small = q.small;
+      within = q.within;
+      owned = λ p k h. elim (q.owned p k h) [
+        | inl o ↦
+            let still = still_at t.allocations a o.number o.unreleased in
+            inl (record {
+              number = o.number;
+              unreleased = rw still o.unreleased;
+              freed = rw still o.freed;
+              cell = rw still o.cell;
+            })
+        | inr r ↦ inr r
+      ];
+      shown = λ i u f. elim (pushed_at t.allocations a i u) [
+        | inl old ↦ rw old.1 (q.shown i old.0 (rw (← old.1) f))
+        | inr new ↦ absurd (true≢false (sym f ∙ rw new unfreed))
+      ];
+      taken = λ place is. cc;
+      kept = λ on. absurd (true≢false (sym on));
+    }
+
+-- a page has at most 32 cells
+pub index_small : (o : Object) (k : ℕ) → IsSized o → k < cells_made o → k < 32
+index_small o k sized lt = elim (cases_Bool (is_small_object o)) [
+  | inl small ↦
+      let cells = small_cells o small in
+      let range = class_words_within (class_made o) (class_known o sized small).0 in
+      let ends = cell_ends k (class_words_of (class_made o)) (omega arith) in
+      let m = mul-le k 2 k (class_words_of (class_made o)) (omega arith) range.0 in
+      omega arith
+  | inr large ↦ let one = large_cells o large in omega arith
+]
+
+-- `quar` (a): the freed bit of an unreleased allocation's cell
+freed_if : (b : Bool) (a : PlacedAllocation) → a.freed ≡ true
+    → (if b then record a { freed = true; fresh = true } else a).freed ≡ true
+freed_if true a f = refl
+freed_if false a f = f
+
+pub freed_stays : (w : Words) (cell : Cell) (a : PlacedAllocation) → a.freed ≡ true
+    → (freed_where_it_stands w (Some cell) a).freed ≡ true
+freed_stays w cell a f = freed_if (stands_in w cell a) a f
+
+freed_by : (b : Bool) (a : PlacedAllocation) → (if b then record a { freed = true; fresh = true } else a).freed ≡ true
+    → (b ≡ true) ⊎ (a.freed ≡ true)
+freed_by true a f = inl refl
+freed_by false a f = inr f
+
+-- what the step finds
+pub record FreesHere (c : Config) (w : World) (cell : Cell) (n : ℕ) : Type 0 where
+  pub page : cell.page < length w.now.words.freed
+  pub in_snapshot : cell.page < length w.now.words.snapshot
+  pub index : cell.index < 32
+  pub own : IsCellOf c w.allocations cell
+  pub stands : stands_in w.now.words cell (placed_at w.allocations own.number) ≡ true
+  pub others : (i : ℕ) → (placed_at w.allocations i).released ≡ false
+      → stands_in w.now.words cell (placed_at w.allocations i) ≡ true
+      → cell_of_allocation c (placed_at w.allocations i) ≡ cell
+  pub unset : has_bit (slice_index w.now.words.freed cell.page) cell.index ≡ false
+  pub value : n ≡ quarantine_word (slice_index w.now.words.freed cell.page + 2 ^ cell.index)
+      (slice_index w.now.words.snapshot cell.page)
+  pub unplaced : has_place w.now.seats.holding.placing ≡ false
+
+-- the halves of the value that it stores
+pub free_halves : (c : Config) (w : World) (cell : Cell) (n : ℕ) → FreesHere c w cell n
+    → HasQuarantine c false w.now.words.marks (ground_of w)
+    → (n % 2 ^ 32 ≡ slice_index w.now.words.freed cell.page + 2 ^ cell.index)
+    × (n / 2 ^ 32 ≡ slice_index w.now.words.snapshot cell.page)
+free_halves c w cell n x q = let e = x.value in let s = sum in (omega arith, omega arith)
+  where
+    sum : slice_index w.now.words.freed cell.page + 2 ^ cell.index < 2 ^ 32
+    sum =
+        let a = (q.small cell.page).0 in
+        let lt = x.index in
+        let more : 2 * 2 ^ cell.index ≤ 2 ^ 32 =
+        (let le : suc cell.index ≤ 32 = omega arith in let p : 2 ^ suc cell.index
+        ≤ 2 ^ 32 = pow_mono le in let s = pow-suc 2 cell.index in omega arith) in
+        let some : 1 ≤ 2 ^ cell.index =
+        (let z : 0 ≤ cell.index = omega arith in let p : 2 ^ 0 ≤ 2 ^ cell.index = pow_mono z in omega arith) in
+        let b = or_lt 32 (slice_index w.now.words.freed cell.page) (2 ^ cell.index) a (omega arith) in
+        let e = sum_is_or (slice_index w.now.words.freed cell.page) cell.index x.unset in
+        omega arith
+
+pub free_kept : (c : Config) (w : World) (cell : Cell) (run : Option RunPages) (n : ℕ) → FreesHere c w cell n
+    → HasQuarantine c false w.now.words.marks (ground_of w) → HasQuarantine c false w.now.words.marks
+    (record (ground_of w) {
+      freed = slice_set w.now.words.freed cell.page (n % 2 ^ 32);
+      snapshot = slice_set w.now.words.snapshot cell.page (n / 2 ^ 32);
+      run = run;
+      allocations = map (freed_where_it_stands w.now.words (Some cell)) w.allocations;
+    })
+free_kept c w cell run n x q =
+    record {
+      small = λ i. (
+        least_set w.now.words.freed cell.page (n % 2 ^ 32) i x.page (omega arith) (q.small i).0,
+        least_set w.now.words.snapshot cell.page (n / 2 ^ 32) i x.in_snapshot
+            (let h = high in let s = (q.small cell.page).1 in omega arith) (q.small i).1,
+      );
+      within = λ i k h. grown i k (q.within i k (same_snap i k h));
+      owned = owned;
+      shown = λ i u f.
+          let b = before_change c (freed_where_it_stands w.now.words (Some cell)) w.allocations i leaves u in
+          let a : PlacedAllocation = placed_at w.allocations i in
+          ap (λ (y : Cell). has_bit (slice_index (slice_set w.now.words.freed cell.page (n % 2 ^ 32)) y.page) y.index)
+          b.cell ∙ elim (freed_by (stands_in w.now.words cell a) a (rw (← b.now) f)) [
+            | inl here ↦
+                ap (λ (y : Cell). has_bit (slice_index (slice_set w.now.words.freed cell.page (n % 2 ^ 32)) y.page)
+                y.index) (x.others i b.was here) ∙ set_here
+            | inr old ↦ grown (cell_of_allocation c a).page (cell_of_allocation c a).index (q.shown i b.was old)
+          ];
+      taken = λ place used. absurd (true≢false (ap (λ (p : Placing). has_place p) (sym used) ∙ x.unplaced));
+      kept = λ on. absurd (true≢false (sym on));
+    }
+  where
+    leaves : LeavesCells (freed_where_it_stands w.now.words (Some cell))
+    leaves = freeing_leaves w.now.words (Some cell)
+
+    low : n % 2 ^ 32 ≡ slice_index w.now.words.freed cell.page + 2 ^ cell.index
+    low = (free_halves c w cell n x q).0
+
+    high : n / 2 ^ 32 ≡ slice_index w.now.words.snapshot cell.page
+    high = (free_halves c w cell n x q).1
+
+    set_here : has_bit (slice_index (slice_set w.now.words.freed cell.page (n % 2 ^ 32)) cell.page) cell.index ≡ true
+    set_here = elim (bit_cases w.now.words.freed cell.page (n % 2 ^ 32) cell.page cell.index x.page) [
+      | inl here ↦ here.1 ∙ rw low (added_here (slice_index w.now.words.freed cell.page) cell.index x.unset)
+      | inr other ↦ absurd (other.0 refl)
+    ]
+
+    same_snap : (i k : ℕ) → has_bit (slice_index (slice_set w.now.words.snapshot cell.page (n / 2 ^ 32)) i) k ≡ true
+        → has_bit (slice_index w.now.words.snapshot i) k ≡ true
+    same_snap i k h = elim (bit_cases w.now.words.snapshot cell.page (n / 2 ^ 32) i k x.in_snapshot) [
+      | inl here ↦ rw here.0 (rw (← high) (sym here.1 ∙ h))
+      | inr other ↦ sym other.1 ∙ h
+    ]
+
+    grown : (i k : ℕ) → has_bit (slice_index w.now.words.freed i) k ≡ true
+        → has_bit (slice_index (slice_set w.now.words.freed cell.page (n % 2 ^ 32)) i) k ≡ true
+    grown i k h = elim (bit_cases w.now.words.freed cell.page (n % 2 ^ 32) i k x.page) [
+      | inr other ↦ other.1 ∙ h
+      | inl here ↦ here.1 ∙ rw low (elim (cases_eq k cell.index) [
+        | inl e ↦ rw e (added_here (slice_index w.now.words.freed cell.page) cell.index x.unset)
+        | inr ne ↦ added_other (slice_index w.now.words.freed cell.page) cell.index k x.unset ne ∙ rw (← here.0) h
+      ])
+    ]
+
+    still : (i k : ℕ) → IsFreedCell c w.allocations i k
+        → IsFreedCell c (map (freed_where_it_stands w.now.words (Some cell)) w.allocations) i k
+    still i k o =
+        freed_behind c (freed_where_it_stands w.now.words (Some cell)) w.allocations i k leaves o
+        (freed_released w.now.words (Some cell) (placed_at w.allocations o.number)
+        ∙ o.unreleased) (freed_stays w.now.words cell (placed_at w.allocations o.number) o.freed)
+
+    was : (i k : ℕ) → has_bit (slice_index w.now.words.freed i) k ≡ true
+        → IsFreedCell c (map (freed_where_it_stands w.now.words (Some cell)) w.allocations) i k
+    was i k h = elim (q.owned i k h) [ inl o ↦ still i k o | inr r ↦ absurd (true≢false (sym r)) ]
+
+    new : IsFreedCell c (map (freed_where_it_stands w.now.words (Some cell)) w.allocations) cell.page cell.index
+    new =
+        let a : PlacedAllocation = placed_at w.allocations x.own.number in
+        let at = changed_at (freed_where_it_stands w.now.words (Some cell)) w.allocations x.own.number
+        leaves.places.none in
+        let same : freed_where_it_stands w.now.words (Some cell) a ≡ record a { freed = true; fresh = true } =
+        cond-true (stands_in w.now.words cell a) (record a { freed = true; fresh = true }) a x.stands in
+        record {
+          number = x.own.number;
+          unreleased = rw (at ∙ same) x.own.unreleased;
+          freed = rw (at ∙ same);
+          cell = rw (at ∙ same) x.own.is;
+        }
+
+    owned : (i k : ℕ) → has_bit (slice_index (slice_set w.now.words.freed cell.page (n % 2 ^ 32)) i) k ≡ true
+        → IsFreedCell c (map (freed_where_it_stands w.now.words (Some cell)) w.allocations) i k
+        ⊎ (is_released_in false (slice_set w.now.words.snapshot cell.page (n / 2 ^ 32)) w.now.words.marks i k ≡ true)
+    owned i k h = elim (bit_cases w.now.words.freed cell.page (n % 2 ^ 32) i k x.page) [
+      | inr other ↦ inl (was i k (sym other.1 ∙ h))
+      | inl here ↦ elim (cases_eq k cell.index) [
+        | inl e ↦
+            inl (rw e (rw here.0 new))
+        | inr ne ↦
+            inl (was i k (rw here.0 (sym (added_other (slice_index w.now.words.freed cell.page) cell.index k x.unset ne)
+            ∙ rw (← low) (sym here.1 ∙ h))))
+      ]
+    ]

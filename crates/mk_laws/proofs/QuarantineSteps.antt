@@ -1,0 +1,309 @@
+-- The quarantine after each kind of step.
+use Rattle.std.proofs.Common.{Bool, List, ap, arith, bit_and, false, inl, inr, length, min, refl, sym, true, ℕ, ◌-◌}
+use Rattle.std.proofs.Common.{◌<◌, ◌^◌, ◌∙◌, ◌≡◌, ◌≢◌, ◌≤◌, ◌⊎◌}
+use Rattle.std.specs.Prelude.{Option, not, slice_index, slice_set, ◌&&◌}
+use Rattle.std.proofs.lemmas.Bool.{and_parts, cases_Bool, cases_eq, false_from_ne_true, not-true, true≢false, and_right}
+use Rattle.std.proofs.lemmas.List.{get_or-set_other, get_or-set_same}
+use Rattle.std.proofs.lemmas.Nat.{and_le_r}
+use Rattle.std.proofs.lemmas.Nat.Bits.{bit_at_and, same_from_bits}
+use Rattle.std.specs.Int.{bit_at}
+use Rattle.mk_laws.proofs.Vocabulary.{Cell, Chosen, Config, Granted, Object, Page, Place, Placing, RunPages}
+use Rattle.mk_laws.proofs.Vocabulary.{Unplaced, Used, World, cell_of_allocation, has_bit, placed_at, without}
+use Rattle.mk_core.proofs.BitsWithout.{has_bit_without}
+use Rattle.mk_core.proofs.PageSteps.{Drops, left_bits}
+use Rattle.mk_core.proofs.WordBits.{fewer_bits, rest_bits}
+use Rattle.mk_laws.specs.Quarantine.{HasQuarantine, IsFreedCell}
+use Rattle.mk_laws.specs.LayoutScene.{Among, Claim, is_released_in, used_on}
+use Rattle.mk_laws.specs.Ground.{Ground, ground_of}
+use Rattle.mk_laws.specs.Terrain.{claims_of, claims_on, claims_placed}
+use Rattle.mk_laws.proofs.Claims.{claim_is}
+use Rattle.mk_laws.proofs.LayoutJoined.{among_parts}
+
+-- the bits of a word that another hasn't, where the other's are all its own
+rest_bit : (n m k : ℕ) → bit_and n m ≡ n → has_bit (m - n) k ≡ (has_bit m k && not (has_bit n k))
+rest_bit n m k sub = rw same (has_bit_without m n k)
+  where
+    least : (a b : ℕ) → min a b ≡ min b a
+    least a b = omega arith
+
+    turned : bit_and m n ≡ n
+    turned = same_from_bits (bit_and m n) (bit_and n m) (λ i. bit_at_and m n i ∙ least (bit_at m i) (bit_at n i)
+        ∙ sym (bit_at_and n m i)) ∙ sub
+
+    same : m - n ≡ without m n
+    same = ap (λ x. m - x) (sym turned)
+
+pub and_both : (a b : Bool) → a ≡ true → b ≡ false → (a && not b) ≡ true
+and_both a b x y = rw x (ap not y)
+
+-- one page's word is changed
+pub set_cases : (xs : List ℕ) (p n q : ℕ) → p < length xs → ((q ≡ p) × (slice_index (slice_set xs p n) q ≡ n))
+    ⊎ ((q ≢ p) × (slice_index (slice_set xs p n) q ≡ slice_index xs q))
+set_cases xs p n q lt = elim (cases_eq q p) [
+  | inr ne ↦ inr (ne, get_or-set_other xs p q n 0 ne)
+  | inl e ↦ inl (e, rw e (get_or-set_same xs p n 0 lt))
+]
+
+pub least_set : (xs : List ℕ) (p n i : ℕ) → p < length xs → n < 2 ^ 32 → slice_index xs i < 2 ^ 32
+    → slice_index (slice_set xs p n) i < 2 ^ 32
+least_set xs p n i lt l was = elim (set_cases xs p n i lt) [
+  | inl here ↦ let e = here.1 in omega arith
+  | inr other ↦ let e = other.1 in omega arith
+]
+
+-- a bit after a change of a page's word
+pub bit_cases : (xs : List ℕ) (p n q k : ℕ) → p < length xs
+    → ((q ≡ p) × (has_bit (slice_index (slice_set xs p n) q) k ≡ has_bit n k))
+    ⊎ ((q ≢ p) × (has_bit (slice_index (slice_set xs p n) q) k ≡ has_bit (slice_index xs q) k))
+bit_cases xs p n q k lt = elim (set_cases xs p n q lt) [
+  | inl here ↦ inl (here.0, rw here.1)
+  | inr other ↦ inr (other.0, rw other.1)
+]
+
+without_le : (x y : ℕ) → without x y ≤ x
+without_le x y = omega arith
+
+-- what says that a cell is released
+pub released_bits : (snapshot marks : List ℕ) (p k : ℕ) → is_released_in true snapshot marks p k ≡ true
+    → (has_bit (slice_index snapshot p) k ≡ true) × (has_bit (slice_index marks p) k ≡ false)
+released_bits snapshot marks p k r =
+    let parts = and_parts (has_bit (slice_index snapshot p) k) (not (has_bit (slice_index marks p) k)) r in
+    (parts.0, not-true (has_bit (slice_index marks p) k) parts.1)
+
+-- `quar` (c): on one page some released bits go, of both halves
+pub drop_kept : (c : Config) (w : World) (p f n : ℕ) → p < length w.now.words.freed → p < length w.now.words.snapshot
+    → HasQuarantine c true w.now.words.marks (ground_of w) → Drops w.now.words p f n
+    → HasQuarantine c true w.now.words.marks
+    (record (ground_of w) { freed = slice_set w.now.words.freed p f; snapshot = slice_set w.now.words.snapshot p n })
+drop_kept c w p f n lf ls q d =
+    record {
+      small = λ i. (
+        least_set w.now.words.freed p f i lf f_small (q.small i).0,
+        least_set w.now.words.snapshot p n i ls n_small (q.small i).1,
+      );
+      within = within;
+      owned = owned;
+      shown = λ i u x. stays (cell_of_allocation c (placed_at w.allocations i)).page
+          (cell_of_allocation c (placed_at w.allocations i)).index (q.shown i u x) (q.kept refl i u);
+      taken = λ place is. elim (bit_cases w.now.words.freed p f place.page place.index lf) [
+        | inl here ↦ here.1 ∙ false_from_ne_true (has_bit f place.index) (λ x.
+            true≢false (sym (was_freed place.index x)
+            ∙ rw (← here.0) (q.taken place is)))
+        | inr other ↦ other.1 ∙ q.taken place is
+      ];
+      kept = λ on i u.
+          let x : Cell = cell_of_allocation c (placed_at w.allocations i) in
+          false_from_ne_true (is_released_in true (slice_set w.now.words.snapshot p n) w.now.words.marks x.page x.index)
+          (λ r.
+          let bits = released_bits (slice_set w.now.words.snapshot p n) w.now.words.marks x.page x.index r in
+          true≢false
+          (sym (and_both (has_bit (slice_index w.now.words.snapshot x.page) x.index)
+          (has_bit (slice_index w.now.words.marks x.page) x.index) (was_snap x.page x.index bits.0) bits.1)
+          ∙ q.kept refl i u));
+    }
+  where
+    rest : ℕ
+    rest = slice_index w.now.words.snapshot p - n
+
+    n_small : n < 2 ^ 32
+    n_small = let s = (q.small p).1 in let le = and_le_r n (slice_index w.now.words.snapshot p) in let is =
+        d.fewer in omega arith
+
+    f_small : f < 2 ^ 32
+    f_small = let s = (q.small p).0 in let is = d.is in let le =
+        without_le (slice_index w.now.words.freed p) (slice_index w.now.words.snapshot p - n) in omega arith
+
+    f_bit : (k : ℕ) → has_bit f k
+        ≡ (has_bit (slice_index w.now.words.freed p) k && not (has_bit (slice_index w.now.words.snapshot p - n) k))
+    f_bit k = rw d.is
+        (has_bit_without (slice_index w.now.words.freed p) (slice_index w.now.words.snapshot p - n) k)
+
+    was_freed : (k : ℕ) → has_bit f k ≡ true → has_bit (slice_index w.now.words.freed p) k ≡ true
+    was_freed k x = (and_parts (has_bit (slice_index w.now.words.freed p) k)
+        (not (has_bit (slice_index w.now.words.snapshot p - n) k)) (sym (f_bit k) ∙ x)).0
+
+    was_snap : (i k : ℕ) → has_bit (slice_index (slice_set w.now.words.snapshot p n) i) k ≡ true
+        → has_bit (slice_index w.now.words.snapshot i) k ≡ true
+    was_snap i k x = elim (bit_cases w.now.words.snapshot p n i k ls) [
+      | inr other ↦ sym other.1 ∙ x
+      | inl here ↦ rw here.0
+          (fewer_bits n (slice_index w.now.words.snapshot p) k d.fewer (sym here.1 ∙ x))
+    ]
+
+    within : (i k : ℕ) → has_bit (slice_index (slice_set w.now.words.snapshot p n) i) k ≡ true
+        → has_bit (slice_index (slice_set w.now.words.freed p f) i) k ≡ true
+    within i k x = elim (bit_cases w.now.words.freed p f i k lf) [
+      | inr other ↦ other.1 ∙ q.within i k (was_snap i k x)
+      | inl here ↦
+          let bit : has_bit n k ≡ true = elim (bit_cases w.now.words.snapshot p n i k ls) [
+            | inl h ↦ sym h.1
+                ∙ x
+            | inr o ↦ absurd (o.0 here.0)
+          ] in
+          let out = rest_bit n (slice_index w.now.words.snapshot p) k d.fewer
+          ∙ and_right (has_bit (slice_index w.now.words.snapshot p) k) _ (ap not bit) in
+          let was = ap (λ j. has_bit (slice_index w.now.words.freed j) k) (sym here.0)
+          ∙ q.within i k (was_snap i k x) in
+          here.1 ∙ f_bit k ∙ and_both (has_bit (slice_index w.now.words.freed p) k)
+          (has_bit (slice_index w.now.words.snapshot p - n) k) was out
+    ]
+
+    -- what isn't released stays freed
+    stays : (i k : ℕ) → has_bit (slice_index w.now.words.freed i) k ≡ true
+        → is_released_in true w.now.words.snapshot w.now.words.marks i k ≡ false
+        → has_bit (slice_index (slice_set w.now.words.freed p f) i) k ≡ true
+    stays i k x out = elim (bit_cases w.now.words.freed p f i k lf) [
+      | inr other ↦ other.1 ∙ x
+      | inl here ↦
+          let was = ap (λ j. has_bit (slice_index w.now.words.freed j) k) (sym here.0) ∙ x in
+          let none = false_from_ne_true (has_bit (slice_index w.now.words.snapshot p - n) k) (λ r.
+          let bits = left_bits w.now.words p (slice_index w.now.words.snapshot p - n) k d.left r in
+          true≢false (sym (and_both (has_bit (slice_index w.now.words.snapshot p) k)
+          (has_bit (slice_index w.now.words.marks p) k) bits.0 bits.1)
+          ∙ rw (← here.0) out)) in
+          here.1 ∙ f_bit k ∙ and_both (has_bit (slice_index w.now.words.freed p) k)
+          (has_bit (slice_index w.now.words.snapshot p - n) k) was none
+    ]
+
+    -- what is still freed and was released is released still
+    still_released : (i k : ℕ) → has_bit (slice_index (slice_set w.now.words.freed p f) i) k ≡ true
+        → has_bit (slice_index w.now.words.snapshot i) k ≡ true
+        → has_bit (slice_index (slice_set w.now.words.snapshot p n) i) k ≡ true
+    still_released i k x was = elim (bit_cases w.now.words.snapshot p n i k ls) [
+      | inr other ↦ other.1 ∙ was
+      | inl here ↦
+          let bit : has_bit f k ≡ true = elim (bit_cases w.now.words.freed p f i k lf) [
+            | inl h ↦ sym h.1
+                ∙ x
+            | inr o ↦ absurd (o.0 here.0)
+          ] in
+          let out = (and_parts (has_bit (slice_index w.now.words.freed p) k)
+          (not (has_bit (slice_index w.now.words.snapshot p - n) k)) (sym (f_bit k) ∙ bit)).1 in
+          let there = ap (λ j. has_bit (slice_index w.now.words.snapshot j) k) (sym here.0) ∙ was in
+          here.1 ∙ elim (cases_Bool (has_bit n k)) [
+            | inl is ↦ is
+            | inr gone ↦ absurd (true≢false (sym (rest_bits n (slice_index w.now.words.snapshot p) k d.fewer there gone)
+                ∙ not-true (has_bit (slice_index w.now.words.snapshot p - n) k) out))
+          ]
+    ]
+
+    owned : (i k : ℕ) → has_bit (slice_index (slice_set w.now.words.freed p f) i) k ≡ true
+        → IsFreedCell c w.allocations i k
+        ⊎ (is_released_in true (slice_set w.now.words.snapshot p n) w.now.words.marks i k ≡ true)
+    owned i k x =
+        let was : has_bit (slice_index w.now.words.freed i) k ≡ true = elim (bit_cases w.now.words.freed p f i k lf) [
+          | inl here ↦ rw here.0 (was_freed k (sym here.1 ∙ x))
+          | inr other ↦ sym other.1 ∙ x
+        ] in
+        elim (q.owned i k was) [
+          | inl o ↦ inl o
+          | inr r ↦
+              let bits = released_bits w.now.words.snapshot w.now.words.marks i k r in
+              inr (and_both (has_bit (slice_index (slice_set w.now.words.snapshot p n) i) k)
+              (has_bit (slice_index w.now.words.marks i) k) (still_released i k x bits.0) bits.1)
+        ]
+
+-- `quar` (b): the freed cells are the snapshot
+pub snapshot_kept : (c : Config) (marks : List ℕ) (t : Ground) (p : ℕ) → p < length t.snapshot
+    → HasQuarantine c false marks t
+    → HasQuarantine c false marks (record t { snapshot = slice_set t.snapshot p (slice_index t.freed p) })
+snapshot_kept c marks t p ls q =
+    record {
+      small = λ i. ((q.small i).0, least_set t.snapshot p (slice_index t.freed p) i ls (q.small p).0 (q.small i).1);
+      within = λ i k x. elim (bit_cases t.snapshot p (slice_index t.freed p) i k ls) [
+        | inl here ↦ rw here.0 (sym here.1 ∙ x)
+        | inr other ↦ q.within i k (sym other.1 ∙ x)
+      ];
+      owned = q.owned;
+      shown = q.shown;
+      taken = q.taken;
+      kept = λ on. absurd (true≢false (sym on));
+    }
+
+-- `end`
+pub end_kept : (c : Config) (marks : List ℕ) (t : Ground)
+    → ((p k : ℕ) → is_released_in true t.snapshot marks p k ≡ false)
+    → HasQuarantine c true marks t → HasQuarantine c false marks t
+end_kept c marks t none q =
+    record {
+      small = q.small;
+      within = q.within;
+      owned = λ p k h. elim (q.owned p k h) [ inl o ↦ inl o | inr r ↦ absurd (true≢false (sym r ∙ none p k)) ];
+      shown = q.shown;
+      taken = q.taken;
+      kept = λ on. absurd (true≢false (sym on));
+    }
+
+-- While the phase isn't releasing, the marks don't matter.
+pub unmarked : (c : Config) (marks other : List ℕ) (t : Ground) → HasQuarantine c false marks t
+    → HasQuarantine c false other t
+unmarked c marks other t q =
+    record {
+      small = q.small;
+      within = q.within;
+      owned = q.owned;
+      shown = q.shown;
+      taken = q.taken;
+      kept = λ on. absurd (true≢false (sym on));
+    }
+
+-- Headers, used words and runs aren't read, and no step but one takes a cell.
+pub replaced : (c : Config) (releasing : Bool) (marks : List ℕ) (t : Ground) (pages : List Page) (placing : Placing)
+    (run : Option RunPages)
+    → ((place : Place) → placing ≡ Used place → t.placing ≡ Used place) → HasQuarantine c releasing marks t
+    → HasQuarantine c releasing marks (record t { pages = pages; placing = placing; run = run })
+replaced c releasing marks t pages placing run from q =
+    record {
+      small = q.small;
+      within = q.within;
+      owned = q.owned;
+      shown = q.shown;
+      taken = λ place is. q.taken place (from place is);
+      kept = q.kept;
+    }
+
+-- `used` (a): a cell without a used bit is in no quarantine
+pub take_kept : (c : Config) (marks : List ℕ) (t : Ground) (pages : List Page) (place : Place)
+    → ((i : ℕ) → (placed_at t.allocations i).released ≡ false
+    → has_bit (used_on t.pages (cell_of_allocation c (placed_at t.allocations i)).page)
+    (cell_of_allocation c (placed_at t.allocations i)).index ≡ true)
+    → has_bit (used_on t.pages place.page) place.index ≡ false → HasQuarantine c false marks t
+    → HasQuarantine c false marks (record t { pages = pages; placing = Used place })
+take_kept c marks t pages place used unset q =
+    record {
+      small = q.small;
+      within = q.within;
+      owned = q.owned;
+      shown = q.shown;
+      taken = λ found is. let e : place ≡ found =
+          cc in rw e at clear;
+      kept = q.kept;
+    }
+  where
+    clear : has_bit (slice_index t.freed place.page) place.index ≡ false
+    clear = false_from_ne_true (has_bit (slice_index t.freed place.page) place.index)
+        (λ h. elim (q.owned place.page place.index h) [
+          | inr r ↦ true≢false (sym r)
+          | inl o ↦ true≢false (sym (used o.number o.unreleased)
+              ∙ ap (λ (x : Cell). has_bit (used_on t.pages x.page) x.index) o.cell ∙ unset)
+        ])
+
+-- what the layout asks of the quarantine while cells are released
+pub none_released : (c : Config) (o : Object) (marks : List ℕ) (t : Ground) → HasQuarantine c true marks t → (x : Claim)
+    → Among x (claims_on c o t) → is_released_in true t.snapshot marks x.page x.index ≡ false
+none_released c o marks t q x i = elim (among_parts (claims_of c t.run t.allocations) (claims_placed o t.placing) x i) [
+  | inl j ↦
+      let n = claim_is c t.run t.allocations x j in
+      rw n.is (q.kept refl n.number n.unreleased)
+  | inr j ↦ by t.placing refl j
+]
+  where
+    by : (placing : Placing) → t.placing ≡ placing → Among x (claims_placed o placing)
+        → is_released_in true t.snapshot marks x.page x.index ≡ false
+    by Unplaced is j = absurd j
+    by Granted is j = absurd j
+    by (Chosen place) is j = absurd j
+    by (Used place) is (inr j) = absurd j
+    by (Used place) is (inl e) = false_from_ne_true (is_released_in true t.snapshot marks x.page x.index) (λ r.
+        let bits = released_bits t.snapshot marks x.page x.index r in
+        true≢false (sym (q.within x.page x.index bits.0) ∙ rw e (q.taken place is)))

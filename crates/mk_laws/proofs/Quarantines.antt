@@ -1,0 +1,36 @@
+-- What the layout and the quarantine say of all histories.
+use Rattle.std.proofs.Common.{List, append_assoc, subst, sym, ◌++◌, ◌∷◌, ◌≡◌, []}
+use Rattle.mk_laws.proofs.Vocabulary.{Config, Event, IsHistory, World, left, left_from}
+use Rattle.mk_core.proofs.HistoryParts.{earlier_part_is_history, left_in_parts}
+use Rattle.mk_core.proofs.Lengths.{histories_keep_lengths}
+use Rattle.mk_laws.specs.LayoutLaws.{LayoutPremisesFrom}
+use Rattle.mk_laws.proofs.CycleSnapshots.{snapshots_are_of_cycles}
+use Rattle.mk_laws.proofs.ResidentPages.{resident_few}
+use Rattle.mk_laws.proofs.KnownWorlds.{known_world}
+use Rattle.mk_laws.specs.Theorems.{FewPagesAreResident, OfHistories, PagesHaveHeaderWords, SnapshotIsTheCycles}
+use Rattle.mk_laws.proofs.InvariantHistories.{histories_keep_the_invariant}
+use Rattle.mk_laws.proofs.InvariantJoined.{told_to_layout}
+
+pub pages_have_header_words : OfHistories PagesHaveHeaderWords
+pages_have_header_words c es h = (histories_keep_the_invariant c es h).order.words
+
+pub few_pages_are_resident : OfHistories FewPagesAreResident
+few_pages_are_resident c es h =
+    resident_few c (left c es) (histories_keep_lengths c es).pages (histories_keep_the_invariant c es h).order.room
+
+-- The layout is told what it asks along a history.
+told_from : (c : Config) (done es : List Event) → IsHistory c (done ++ es) → LayoutPremisesFrom c (left c done) es
+unfolding LayoutPremisesFrom left_from
+told_from c done [] h = tt
+told_from c done (e ∷ es) h =
+    let here = earlier_part_is_history c done (e ∷ es) h in
+    let split : done ++ e ∷ es ≡ (done ++ e ∷ []) ++ es = sym (append_assoc done (e ∷ []) es) in (
+      told_to_layout c (left c done) _ (known_world c done here.within_limits here.enabled)
+          (histories_keep_the_invariant c done here),
+      subst (λ (w : World). LayoutPremisesFrom c w es) (left_in_parts c done (e ∷ []))
+          (told_from c (done ++ e ∷ []) es (subst (λ (xs : List Event). IsHistory c xs) split h)),
+    )
+
+pub snapshot_is_the_cycles : OfHistories SnapshotIsTheCycles
+unfolding left_from
+snapshot_is_the_cycles c es h = snapshots_are_of_cycles c es h.within_limits h.enabled (told_from c [] es h)

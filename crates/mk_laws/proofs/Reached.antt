@@ -1,0 +1,98 @@
+-- The word that an access reaches: one of a mapped allocation.
+use Rattle.std.proofs.Common.{◌≡◌, ◌≢◌, ℕ, ◌+◌, ◌-◌, ◌/◌, ◌<◌, Bool, true, false, List, ◌++◌, length, refl, sym, ap}
+use Rattle.std.proofs.Common.{◌∙◌, arith}
+use Rattle.std.specs.Prelude.{if◌then◌else◌}
+use Rattle.std.proofs.lemmas.Bool.{false≢true}
+use Rattle.std.proofs.lemmas.List.{length-map}
+use Rattle.mk_laws.proofs.Vocabulary.{IsNumber, IsSound, IsTypedAllocation, Kind, Meets, NeverState, Null, Num}
+use Rattle.mk_laws.proofs.Vocabulary.{Number, PlacedAllocation, Ptr, Suits, To, Unmapped, Value, WordOf}
+use Rattle.mk_laws.proofs.Vocabulary.{allocation_at, bases_of, header_of, image_of, is_unmapped, is_unmapped_header}
+use Rattle.mk_laws.proofs.Vocabulary.{kind_in, number_of, placed_at, target_of, word_at, words_of}
+use Rattle.mk_laws.specs.Images.{ImageScene, IsMet}
+use Rattle.mk_laws.specs.SafeSets.{IsSafe}
+use Rattle.mk_laws.proofs.Pairs.{image_more}
+use Rattle.mk_laws.proofs.ImagesKept.{base_at}
+use Rattle.mk_laws.proofs.Ready.{Ready}
+
+-- the access through the value, i words on, whose address is in q
+pub record Reaches (safe : ℕ → Bool) (s : ImageScene) (n : NeverState) (v : Value) (q i : ℕ) (P : Kind
+    → Type 0) : Type 0 where
+  pub number : ℕ
+  pub place : ℕ
+  pub target : target_of n v i ≡ WordOf number place
+  pub word : (q - 65536) / 8 + i ≡ (placed_at s.allocations number).base + place
+  pub inside : place < length (words_of n number)
+  pub exists : number < length n.allocations
+  pub unreleased : (placed_at s.allocations number).released ≡ false
+  pub mapped : is_unmapped (allocation_at n number) ≡ false
+  pub of_set : safe number ≡ true
+  pub kind : P (kind_in n (allocation_at n number) place)
+
+-- where a header of a page says that it is unmapped
+abbrev pub PagesShow : (ℕ → ℕ) → ImageScene → NeverState → Type 0
+PagesShow header s n =
+    (a i : ℕ) → (placed_at s.allocations a).released ≡ false → i < length (words_of n a)
+    → is_unmapped_header (header_of (header (((placed_at s.allocations a).base + i) / 64)))
+    ≡ is_unmapped (allocation_at n a)
+
+module _ (listed : List ℕ) (safe : ℕ → Bool) (s : ImageScene) (n : NeverState) (h : Ready listed safe s n) where
+  word_is : (a t o q i : ℕ) → q ≡ image_of (bases_of s.allocations) (Ptr a t o)
+      → (q - 65536) / 8 + i ≡ (placed_at s.allocations a).base + (o + i)
+  word_is a t o q i e = let b = base_at s.allocations a in omega arith
+
+  pub reaches : (v : Value) (q i : ℕ) (P : Kind → Type 0) → q ≡ image_of (bases_of s.allocations) v → q ≢ 0
+      → IsSound n v → IsSafe safe v → IsMet n v i → Meets n v i P
+      → Reaches safe s n v q i P
+  reaches Null q i P e ne sound is met meets = absurd (ne e)
+  reaches (Num m) q i P e ne sound is met meets = absurd sound
+  reaches (Ptr a t o) q i P e ne sound is met meets =
+      let mapped = met meets.0 in
+      record {
+        number = a;
+        place = o + i;
+        target = rw mapped;
+        word = word_is a t o q i e;
+        inside = meets.0;
+        exists = sound.0;
+        unreleased = h.set.unreleased a is;
+        mapped = mapped;
+        of_set = is;
+        kind = meets.1;
+      }
+
+  -- what `probe` says
+  pub unmapped_target : (header : ℕ → ℕ) → PagesShow header s n → (v : Value) (q i : ℕ) (P : Kind → Type 0)
+      → q ≡ image_of (bases_of s.allocations) v → q ≢ 0 → IsSound n v
+      → IsSafe safe v → Meets n v i P
+      → is_unmapped_header (header_of (header (((q - 65536) / 8 + i) / 64))) ≡ true → target_of n v i ≡ Unmapped
+  unmapped_target header show Null q i P e ne sound is meets u = absurd (ne e)
+  unmapped_target header show (Num m) q i P e ne sound is meets u = absurd sound
+  unmapped_target header show (Ptr a t o) q i P e ne sound is meets u =
+      let un : is_unmapped (allocation_at n a) ≡ true =
+      sym (show a (o + i) (h.set.unreleased a is) meets.0) ∙ rw (← (word_is a t o q i e)) u in
+      rw un
+
+  pub mapped_met : (header : ℕ → ℕ) → PagesShow header s n → (v : Value) (q i : ℕ)
+      → q ≡ image_of (bases_of s.allocations) v → q ≢ 0 → IsSound n v → IsSafe safe v
+      → is_unmapped_header (header_of (header (((q - 65536) / 8 + i) / 64))) ≡ false → IsMet n v i
+  mapped_met header show (Ptr a t o) q i e ne sound is u = λ inside.
+      sym (show a (o + i) (h.set.unreleased a is) inside)
+      ∙ ap (λ x. is_unmapped_header (header_of (header (x / 64)))) (sym (word_is a t o q i e)) ∙ u
+  mapped_met header show _ q i e ne sound is u = tt
+
+  -- a word of a mapped allocation
+  pub suits : (a i : ℕ) → a < length n.allocations → i < length (words_of n a)
+      → Suits n (word_at n a i) (kind_in n (allocation_at n a) i)
+  suits a i la li = let t : IsTypedAllocation n (allocation_at n a) = h.typed.allocations a la in t.words i li
+
+  pub sound_more : (v : Value) (more : List ℕ) → IsSound n v
+      → image_of (bases_of s.allocations) v ≡ image_of (bases_of s.allocations ++ more) v
+  sound_more v more sound =
+      sym (image_more n _ more v (length-map s.allocations (λ (x : PlacedAllocation). x.base) ∙ h.count) sound)
+
+pub of_number : (n : NeverState) (bs : List ℕ) (v : Value) (kind : Kind) → IsNumber kind → Suits n v kind
+    → image_of bs v ≡ number_of v
+of_number n bs (Num m) Number is su = refl
+of_number n bs Null Number is su = absurd su
+of_number n bs (Ptr a t o) Number is su = absurd su
+of_number n bs v (To t o) is su = absurd (false≢true is)

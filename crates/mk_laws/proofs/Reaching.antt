@@ -1,0 +1,178 @@
+-- Which word an enabled event reaches, and how.
+use Rattle.std.proofs.Common.{◌≡◌, ℕ, ◌*◌, ◌<◌, ◌≤◌, Bool, true, false, ◌++◌, refl, sym, ◌∙◌, ap, subst, arith}
+use Rattle.std.specs.Prelude.{nat_le, nat_lt, not, is_none, ◌&&◌}
+use Rattle.std.proofs.lemmas.Bool.{ltb-true, and_parts}
+use Rattle.mk_laws.proofs.Vocabulary.{Caller, Config, Flight, Holding, Holds, Host, Marker, MarkerState, Moment}
+use Rattle.mk_laws.proofs.Vocabulary.{Placing, Seat, Step, Tally, Word, access, caller_number, flight_of}
+use Rattle.mk_laws.proofs.Vocabulary.{has_next_word, holder_number, is_number_of, is_scanned, is_undecided_new}
+use Rattle.mk_laws.proofs.Vocabulary.{left, marker_at, outside, page_met, seat_exists, tally_word, word_accessed}
+use Rattle.mk_laws.proofs.Vocabulary.{Op, Stage, is_new_at, is_under_turn, word_met}
+use Rattle.mk_never.specs.declared.operations.Op.TheVariants as op
+use Rattle.mk_core.specs.declared.seats.Stage.TheVariants as stage
+use Rattle.mk_core.specs.Readings.{is_idle}
+use Rattle.mk_core.specs.declared.events.Step.TheVariants as step
+use Rattle.mk_core.specs.declared.events.Tally.TheVariants as tally
+use Rattle.mk_core.specs.declared.events.Word.TheVariants as word
+use Rattle.mk_core.specs.Layout.{NamesWord, IsOfTable}
+use Rattle.mk_core.specs.Ranges.{is_word, is_word_met}
+use Rattle.mk_core.specs.Accesses.{word_reached, access_by}
+use Rattle.mk_core.proofs.Conditions.{enabled_meets}
+use Rattle.mk_laws.specs.Reaching.{EventsReachTheTable, OthersLeaveAccesses}
+use Rattle.mk_laws.proofs.Actors.{Meets, grants_new}
+use Rattle.mk_laws.proofs.Operands.{Operands, operands_of, register_small}
+use Rattle.mk_laws.proofs.Known.{Known, known_left}
+use Rattle.mk_laws.proofs.NewPlace.{new_holds}
+use Rattle.mk_laws.proofs.ScansInHeap.{MarkerFits, nothing_fits, next_in_heap, scan_page_in_heap, seen_page_in_heap}
+use Rattle.mk_laws.proofs.InHeap.{InHeap, in_heap_left}
+use Rattle.mk_laws.proofs.ProtocolFrames.{others_leave}
+use Rattle.mk_laws.proofs.ProtocolStepKinds.{is_grant}
+
+-- what is known of a seat
+
+number_small : (c : Config) (seat : Seat) → c.callers ≤ 16 → seat_exists c seat ≡ true → caller_number seat < 16
+number_small c (Caller k) small h = let lt = ltb-true k c.callers h in omega arith
+number_small c _ small h = omega arith
+
+seat_operands : (c : Config) (m : Moment) (seat : Seat) → Known c m → Operands (flight_of m seat).op
+seat_operands c m (Caller k) known = operands_of c (flight_of m (Caller k)).op (known.operands k)
+seat_operands c m (Marker k) known = operands_of c (flight_of m (Marker k)).op refl
+seat_operands c m Host known = operands_of c (flight_of m Host).op refl
+
+seat_marker : (c : Config) (m : Moment) (seat : Seat) → InHeap c m → MarkerFits c (marker_at m seat)
+seat_marker c m (Marker k) h = h.markers k
+seat_marker c m _ h = nothing_fits c outside refl refl
+
+-- a word that is looked at
+looked_at : (c : Config) (x : Word) → c.callers ≤ 16 → is_word c x ≡ true → NamesWord c.pages x
+looked_at c (word.Gate j) small h = let lt = ltb-true j c.callers h in omega arith
+looked_at c (word.Reg j r) small h =
+    let both = and_parts (nat_lt j c.callers) (nat_lt r 8) h in
+    let lt = ltb-true j c.callers both.0 in
+    (omega arith, ltb-true r 8 both.1)
+looked_at c (word.Global g) small h = ltb-true g 64 h
+looked_at c (word.Head p) small h = ltb-true p c.pages h
+looked_at c (word.Used p) small h = ltb-true p c.pages h
+looked_at c (word.Quar p) small h = ltb-true p c.pages h
+looked_at c (word.Mark p) small h = ltb-true p c.pages h
+looked_at c (word.Black p) small h = ltb-true p c.pages h
+looked_at c (word.Dirty p) small h = ltb-true p c.pages h
+looked_at c (word.Heap n) small h = ltb-true n (64 * c.pages) h
+looked_at c _ small h = tt
+
+tallied : (pages : ℕ) (t : Tally) → NamesWord pages (tally_word t)
+tallied pages tally.Held = tt
+tallied pages _ = tt
+
+-- the word that a call accesses
+met : (c : Config) (f : Flight) → is_word_met c f ≡ true → (word_met f < 64 * c.pages) × (page_met f < c.pages)
+met c f h =
+    let lt = ltb-true (word_met f) (64 * c.pages)
+    (and_parts (nat_le 65536 f.q) (nat_lt (word_met f) (64 * c.pages)) h).1 in
+    (lt, omega arith)
+
+other_gate : (c : Config) (seat : Seat) (j : ℕ) → c.callers ≤ 16
+    → (nat_lt j c.callers && not (is_number_of seat j)) ≡ true → j < 16
+other_gate c seat j small h = let lt =
+    ltb-true j c.callers (and_parts (nat_lt j c.callers) (not (is_number_of seat j)) h).0 in omega arith
+
+reaches : (c : Config) (m : Moment) (seat : Seat) (x : Step) → Known c m → InHeap c m → Meets c m seat x
+    → IsOfTable c.pages (word_accessed c m (record { seat = seat; step = x }))
+reaches c m seat (step.Enter o) known heap h = number_small c seat known.small h.seat
+reaches c m seat step.Leave known heap h = number_small c seat known.small h.seat
+reaches c m seat step.Reg known heap h = (
+  number_small c seat known.small h.seat,
+  register_small (flight_of m seat) (flight_of m seat).stage (seat_operands c m seat known),
+)
+reaches c m seat step.Probe known heap h = (met c (flight_of m seat) h.range).1
+reaches c m seat step.Read known heap h = (met c (flight_of m seat) h.range).0
+reaches c m seat step.Write known heap h = (met c (flight_of m seat) h.range).0
+reaches c m seat step.Cas known heap h = (met c (flight_of m seat) h.range).0
+reaches c m seat step.Getg known heap h = (seat_operands c m seat known).g
+reaches c m seat step.Setg known heap h = (seat_operands c m seat known).g
+reaches c m seat step.Dirty known heap h = (met c (flight_of m seat) h.range).1
+reaches c m seat (step.Look w) known heap h = looked_at c w known.small h.range
+reaches c m seat (step.Head p v) known heap h = ltb-true p c.pages h.range
+reaches c m seat (step.Used p v) known heap h = ltb-true p c.pages h.range
+reaches c m seat (step.Quar p v) known heap h = ltb-true p c.pages h.range
+reaches c m seat step.Grant known heap h = (number_small c seat known.small h.seat, (seat_operands c m seat known).d)
+reaches c m seat (step.Tally n v) known heap h = tallied c.pages n
+reaches c m seat (step.Hold j) known heap h = other_gate c seat j known.small h.range
+reaches c m seat (step.Open j) known heap h = other_gate c seat j known.small h.range
+reaches c m seat (step.Clear p) known heap h = ltb-true p c.pages h.range
+reaches c m seat (step.Mark p v) known heap h = ltb-true p c.pages h.range
+reaches c m seat (step.Wipe n) known heap h = ltb-true n (64 * c.pages) h.range
+reaches c m seat (step.Undirty p) known heap h = ltb-true p c.pages h.range
+reaches c m seat (step.Black p v) known heap h = ltb-true p c.pages h.range
+reaches c m seat (step.Unblack p) known heap h = ltb-true p c.pages h.range
+reaches c m seat (step.Mlook w) known heap h = looked_at c w known.small h.range
+reaches c m seat (step.Claim p i) known heap h =
+    ltb-true p c.pages (and_parts (nat_lt p c.pages) (nat_lt i 32) h.range).0
+reaches c m seat step.Mload known heap h =
+    next_in_heap c (marker_at m seat).scan
+    (and_parts (has_next_word (marker_at m seat).scan) (is_none (marker_at m seat).hand) h.marker).0
+    (seat_marker c m seat heap).end
+reaches c m seat step.Mmark known heap h = seen_page_in_heap c (marker_at m seat).seen (marker_at m seat).hand h.marker
+reaches c m seat step.Mblack known heap h =
+    scan_page_in_heap c (marker_at m seat).scan
+    (and_parts (is_scanned (marker_at m seat).scan) (is_none (marker_at m seat).hand) h.marker).0
+    (seat_marker c m seat heap).page
+reaches c m seat _ known heap h = tt
+
+pub events_reach_the_table : EventsReachTheTable
+events_reach_the_table c es e limits on now =
+    reaches c (left c es).now e.seat e.step (known_left c es limits on) (in_heap_left c es limits on)
+    (enabled_meets c (left c es).now e now)
+
+-- the access is the same where the call, the marker and a New's place are
+
+placing_apart : (c : Config) (n : ℕ) (f : Flight) (p q : Placing) (x : MarkerState) (s : Step) → is_grant s ≡ false
+    → access_by c n f p x s ≡ access_by c n f q x s
+placing_apart c n f p q x step.Grant g = cc
+placing_apart c n f p q x _ g = refl
+
+-- whoever is in a New holds the turn
+new_in_turn : (s : Stage) (o : Op) → is_new_at s o ≡ true → (not (is_idle s) && is_under_turn o) ≡ true
+new_in_turn stage.Turn (op.New d ty full) h = refl
+new_in_turn _ _ h = cc
+
+granter_holds : (c : Config) (m : Moment) (seat : Seat) → Meets c m seat step.Grant → Holds c m seat
+granter_holds c m seat h =
+    let new = grants_new c m seat h in
+    let own = new_holds c m seat step.Grant h new in
+    rw own.2 (
+      own.1,
+      new_in_turn (flight_of m (Caller own.0)).stage (flight_of m (Caller own.0)).op (rw own.2 at new),
+    )
+
+same_access : (c : Config) (m n : Moment) (seat : Seat) (x : Step) → flight_of n seat ≡ flight_of m seat
+    → marker_at n seat ≡ marker_at m seat
+    → (is_grant x ≡ true → n.seats.holding ≡ m.seats.holding)
+    → access c n (record { seat = seat; step = x }) ≡ access c m (record { seat = seat; step = x })
+same_access c m n seat x flight marker holding =
+    rw flight
+    (ap (λ (y : MarkerState). access_by c (holder_number c seat) (flight_of m seat) n.seats.holding.placing y x) marker
+    ∙ by (is_grant x) refl)
+  where
+    by : (b : Bool) → is_grant x ≡ b
+        → access_by c (holder_number c seat) (flight_of m seat) n.seats.holding.placing (marker_at m seat) x
+        ≡ access_by c (holder_number c seat) (flight_of m seat) m.seats.holding.placing (marker_at m seat) x
+    by true g = ap (λ (h : Holding). access_by c (holder_number c seat) (flight_of m seat) h.placing
+        (marker_at m seat) x) (holding g)
+    by false g = placing_apart c (holder_number c seat) (flight_of m seat) n.seats.holding.placing
+        m.seats.holding.placing (marker_at m seat) x g
+
+pub others_leave_accesses : OthersLeaveAccesses
+others_leave_accesses c es more e limits on others now =
+    let l = (others_leave c es more e.seat limits on others).own in
+    record {
+      word = rw l.flight
+          (ap (λ (y : MarkerState). word_reached c (caller_number e.seat) (flight_of (left c es).now e.seat) y e.step)
+          l.marker);
+      access =
+          same_access c (left c es).now (left c (es ++ more)).now e.seat e.step l.flight l.marker
+          (λ g. (l.holding (granting e.step g (enabled_meets c (left c es).now e now))).1);
+    }
+  where
+    granting : (x : Step) → is_grant x ≡ true → Meets c (left c es).now e.seat x → Holds c (left c es).now e.seat
+    granting step.Grant g h = granter_holds c (left c es).now e.seat h
+    granting _ g h = cc

@@ -1,0 +1,62 @@
+-- An unreleased allocation keeps its place, and stays unreleased, up to a `release`.
+use Rattle.std.proofs.Common.{◌≡◌, ℕ, false, List, ◌∷◌, map, refl, ◌∙◌, ap, []}
+use Rattle.std.specs.List.{list_any}
+use Rattle.std.proofs.lemmas.Bool.{or_parts}
+use Rattle.mk_laws.proofs.Vocabulary.{Config, Event, PlacedAllocation, Seat, Step, World, cell_freed}
+use Rattle.mk_laws.proofs.Vocabulary.{cell_of_allocation, flight_of, freed_where_it_stands, granted, is_release}
+use Rattle.mk_laws.proofs.Vocabulary.{left_from, no_longer_fresh, placed_at, world_behind}
+use Rattle.mk_core.specs.declared.events.Step.TheVariants as step
+use Rattle.mk_core.proofs.ChangedAllocations.{LeavesPlaces, changed_at, freed_leaves, freed_released, fresh_leaves}
+use Rattle.mk_laws.proofs.OthersMoves.{WorldBehind}
+use Rattle.mk_laws.proofs.Claims.{same_cell}
+use Rattle.mk_laws.proofs.Granted.{still_at}
+
+pub record StaysPut (a b : PlacedAllocation) : Type 0 where
+  pub base : b.base ≡ a.base
+  pub ty : b.ty ≡ a.ty
+  pub unreleased : b.released ≡ false
+
+-- so it keeps its cell
+pub keeps_cell : (c : Config) (a b : PlacedAllocation) → StaysPut a b → cell_of_allocation c b ≡ cell_of_allocation c a
+keeps_cell c a b put = same_cell c a b put.base put.ty
+
+-- after a change of each allocation that leaves the places and releases none
+changed_puts : (g : PlacedAllocation → PlacedAllocation) (xs : List PlacedAllocation) (i : ℕ) → LeavesPlaces g
+    → (g (placed_at xs i)).released ≡ false → StaysPut (placed_at xs i) (placed_at (map g xs) i)
+changed_puts g xs i leaves u =
+    let at = changed_at g xs i leaves.none in
+    record {
+      base = ap (λ (a : PlacedAllocation). a.base) at ∙ leaves.base (placed_at xs i);
+      ty = ap (λ (a : PlacedAllocation). a.ty) at ∙ leaves.ty (placed_at xs i);
+      unreleased = ap (λ (a : PlacedAllocation). a.released) at ∙ u;
+    }
+
+pub put_step : (c : Config) (w : World) (seat : Seat) (x : Step) (i : ℕ) → is_release x ≡ false
+    → (placed_at w.allocations i).released ≡ false
+    → StaysPut (placed_at w.allocations i) (placed_at (WorldBehind c w seat x).allocations i)
+put_step c w seat (step.Quar p n) i out u =
+    changed_puts (freed_where_it_stands w.now.words (cell_freed c.pages w.now.words (flight_of w.now seat) p n))
+    w.allocations i (freed_leaves w.now.words (cell_freed c.pages w.now.words (flight_of w.now seat) p n))
+    (freed_released w.now.words (cell_freed c.pages w.now.words (flight_of w.now seat) p n) (placed_at w.allocations i)
+    ∙ u)
+put_step c w seat step.Begin i out u = changed_puts no_longer_fresh w.allocations i fresh_leaves u
+put_step c w seat step.Grant i out u =
+    let still = still_at w.allocations (granted c w.now (flight_of w.now seat)) i u in
+    record {
+      base = ap (λ (a : PlacedAllocation). a.base) still;
+      ty = ap (λ (a : PlacedAllocation). a.ty) still;
+      unreleased = ap (λ (a : PlacedAllocation). a.released) still ∙ u;
+    }
+put_step c w seat step.Release i out u = cc
+put_step c w seat _ i out u = record { base = refl; ty = refl; unreleased = u }
+
+pub stays_put : (c : Config) (w : World) (es : List Event) (i : ℕ)
+    → list_any (λ (e : Event). is_release e.step) es ≡ false → (placed_at w.allocations i).released ≡ false
+    → StaysPut (placed_at w.allocations i) (placed_at (left_from c w es).allocations i)
+unfolding left_from
+stays_put c w [] i none u = record { base = refl; ty = refl; unreleased = u }
+stays_put c w (e ∷ es) i none u =
+    let outs = or_parts (is_release e.step) (list_any (λ (x : Event). is_release x.step) es) none in
+    let one = put_step c w e.seat e.step i outs.0 u in
+    let rest = stays_put c (world_behind c w e) es i outs.1 one.unreleased in
+    record { base = rest.base ∙ one.base; ty = rest.ty ∙ one.ty; unreleased = rest.unreleased }

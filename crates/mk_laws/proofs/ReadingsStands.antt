@@ -1,0 +1,94 @@
+-- What headers and freed bits say of the allocations, after each history.
+use Rattle.std.proofs.Common.{◌≡◌, ◌≢◌, ◌⊎◌, ℕ, ◌<◌, ◌≤◌, Bool, true, false, refl, sym, ◌∙◌, ap, inl, inr, arith}
+use Rattle.std.specs.Prelude.{Option, Some, ◌-◌, ◌==◌, not}
+use Rattle.std.proofs.lemmas.Bool.{and_parts, ne_eqb, not-true, true≢false}
+use Rattle.mk_laws.proofs.Vocabulary.{Cell, Config, Header, IsTaken, LeafRun, NeverState, PlacedAllocation, Run}
+use Rattle.mk_laws.proofs.Vocabulary.{RunPages, World, cell_of_allocation, first_word, header_in, is_freed}
+use Rattle.mk_laws.proofs.Vocabulary.{is_phase, left, never_behind, phase_of, placed_at, run_headed, stands_in}
+use Rattle.mk_core.specs.Readings.{WordsTellWhatStands}
+use Rattle.mk_core.proofs.CellsOfAllocations.{stands_in_its_cell}
+use Rattle.mk_core.proofs.PointedAllocations.{taken_cell_is}
+use Rattle.mk_core.proofs.StandingAllocations.{typed_size}
+use Rattle.mk_laws.specs.Quarantine.{IsFreedCell}
+use Rattle.mk_laws.specs.LayoutScene.{HasItsHead, is_released_in, run_count}
+use Rattle.mk_laws.proofs.KnownWorlds.{KnownWorld, known_world}
+use Rattle.mk_laws.specs.Invariant.{Invariant}
+use Rattle.mk_laws.specs.Theorems.{OfHistories}
+use Rattle.mk_laws.proofs.ForImages.{standing}
+use Rattle.mk_laws.proofs.InvariantHistories.{histories_keep_the_invariant}
+use Rattle.mk_laws.specs.WordReadings.{HeadersAndQuarantineTell}
+
+-- a header that heads a run of more pages than this
+run_there : (x : Option Header) (page distance : ℕ) → distance < run_count x
+    → (run : RunPages) × (run_headed x page ≡ Some run) × (distance < run.count)
+run_there (Some (Run count mapped)) page distance lt = (record { page = page; count = count }, refl, lt)
+run_there (Some (LeafRun count)) page distance lt = (record { page = page; count = count }, refl, lt)
+run_there _ page distance lt = absurd (omega arith)
+
+pub not_releasing : (w : World) → phase_of w.now.words ≢ 4 → is_phase w.now.words 4 ≡ false
+not_releasing w quiet = ne_eqb (phase_of w.now.words) 4 quiet
+
+module _ (c : Config) (w : World) (n : NeverState) (known : KnownWorld c w) (all : Invariant c w n) where
+  -- A freed bit is that of a freed allocation's cell, where the phase isn't releasing.
+  pub freed_cell : phase_of w.now.words ≢ 4 → (cell : Cell) → is_freed w.now.words cell ≡ true
+      → IsFreedCell c w.allocations cell.page cell.index
+  freed_cell quiet cell bit = by (all.order.quarantined.owned cell.page cell.index bit)
+    where
+      released_when : Bool → Bool
+      released_when releasing = is_released_in releasing w.now.words.snapshot w.now.words.marks cell.page cell.index
+
+      by : IsFreedCell c w.allocations cell.page cell.index ⊎ (released_when (is_phase w.now.words 4) ≡ true)
+          → IsFreedCell c w.allocations cell.page cell.index
+      by (inl o) = o
+      by (inr r) = absurd (true≢false (sym r ∙ ap released_when (not_releasing w quiet)))
+
+  later_page : phase_of w.now.words ≢ 4 → (p distance : ℕ)
+      → HasItsHead w.now.words.pages (is_phase w.now.words 4) p distance
+      → (run : RunPages) × (run_headed (header_in w.now.words (p - distance)) (p - distance) ≡ Some run)
+      × (distance < run.count) × (distance ≤ p)
+  later_page quiet p distance has = elim has.1 [
+    | inl lt ↦
+        let r = run_there (header_in w.now.words (p - distance)) (p - distance) distance lt in
+        (r.0, r.1, r.2, has.0)
+    | inr lost ↦ absurd (true≢false (sym lost.0 ∙ not_releasing w quiet))
+  ]
+
+  taken_freed : (cell : Cell) → is_freed w.now.words cell ≡ true → IsFreedCell c w.allocations cell.page cell.index
+      → (a : IsTaken w cell) × ((placed_at w.allocations a.number).freed ≡ true)
+  taken_freed cell bit o =
+      let a : PlacedAllocation = placed_at w.allocations o.number in
+      let s = standing c w known all.order.laid o.number o.unreleased in (
+        record {
+          number = o.number;
+          in_range = all.order.known cell.page cell.index bit;
+          stands = ap (λ (x : Cell). stands_in w.now.words x a) (sym o.cell)
+              ∙ stands_in_its_cell c w.now.words a known.limits s.stands s.headers;
+        },
+        o.freed,
+      )
+
+  -- who stands in a cell, and that it is its own
+  taken : (cell : Cell) (t : IsTaken w cell) → ((placed_at w.allocations t.number).released ≡ false)
+      × (cell_of_allocation c (placed_at w.allocations t.number) ≡ cell)
+  taken cell t =
+      let a : PlacedAllocation = placed_at w.allocations t.number in
+      let u = not-true a.released (and_parts (not a.released) (a.base == first_word w.now.words cell) t.stands).0 in
+      let s = standing c w known all.order.laid t.number u in
+      taken_cell_is c w cell t (typed_size c a known.limits s.stands.typed) s.headers
+
+  words_tell : WordsTellWhatStands w
+  words_tell =
+      record {
+        headers = all.order.words;
+        later = λ quiet p distance mapped is. later_page quiet p distance
+            (all.order.laid.scene.later p distance mapped is);
+        freed = λ quiet cell bit. taken_freed cell bit (freed_cell quiet cell bit);
+        quarantined = λ cell t freed.
+            ap (λ (x : Cell). is_freed w.now.words x) (sym (taken cell t).1)
+            ∙ all.order.quarantined.shown t.number (taken cell t).0 freed;
+      }
+
+pub headers_and_quarantine_tell : OfHistories HeadersAndQuarantineTell
+headers_and_quarantine_tell c es h =
+    words_tell c (left c es) (never_behind c es) (known_world c es h.within_limits h.enabled)
+    (histories_keep_the_invariant c es h)

@@ -1,0 +1,122 @@
+-- A call that is decided and changes nothing, or is refused.
+use Rattle.std.proofs.Common.{◌≡◌, ℕ, ◌+◌, ◌*◌, ◌<◌, Bool, true, false, List, ◌++◌, length, refl, sym, ap, subst, ◌∙◌}
+use Rattle.std.proofs.Common.{arith}
+use Rattle.std.specs.Prelude.{slice_set, Some, if◌then◌else◌}
+use Rattle.mk_laws.proofs.Vocabulary.{Answer, Done, Flight, NeverState, Null, Num, Op, Stage, Unmapped, WordOf}
+use Rattle.mk_laws.proofs.Vocabulary.{answer_of, bases_of, bit, d_of, flagged, i_of, is_same, number_of, q_of}
+use Rattle.mk_laws.proofs.Vocabulary.{register_at, stage_refused, target_of, with_register, with_word, word_at}
+use Rattle.mk_never.specs.declared.operations.Op.TheVariants as op
+use Rattle.mk_never.specs.declared.operations.Reply.{Reply}
+use Rattle.mk_never.specs.declared.operations.Reply.TheVariants.{Num as Number, Val}
+use Rattle.mk_never.specs.declared.values.Target.{Target}
+use Rattle.mk_never.specs.declared.values.Target.TheVariants.{Nothing}
+use Rattle.mk_never.specs.NeverHeap.{reply_at, left_at, reply_of, after_op}
+use Rattle.mk_core.specs.declared.seats.Stage.TheVariants as stage
+use Rattle.mk_laws.specs.Images.{ImageScene, flight_among, is_put}
+use Rattle.mk_laws.proofs.ImagesMoves.{is_bare, Move, Flies, Owes}
+use Rattle.mk_laws.proofs.Pairs.{bare_carries, bare_unprobed, shows_plain, bare_owes_nothing}
+use Rattle.mk_laws.proofs.Ready.{Leads, one_right}
+
+abbrev pub accesses : Op → Bool
+accesses (op.GetNum q i) = true
+accesses (op.SetNum q i m) = true
+accesses (op.GetPtr d q i) = true
+accesses (op.SetPtr q i p) = true
+accesses (op.CasPtr q i p r) = true
+accesses _ = false
+
+abbrev pub is_word : Target → Bool
+is_word (WordOf a i) = true
+is_word _ = false
+
+-- a flight that goes on, with nothing owed before or after
+pub goes_bare : (safe : ℕ → Bool) (s : ImageScene) (n : NeverState) (k : ℕ) (f : Flight)
+    → is_put (flight_among s.flights k).stage ≡ false → is_bare f.stage ≡ true
+    → Move safe s n (record s { flights = slice_set s.flights k f }) n
+goes_bare safe s n k f was bare =
+    Flies k f (λ r x. shows_plain f r x (bare_owes_nothing f.stage bare)
+    ∙ sym (shows_plain (flight_among s.flights k) r x was)) (bare_carries _ f _ _ _ bare)
+    (λ past. let x : false ≡ true = sym (bare_unprobed f.stage bare) ∙ past in cc)
+
+-- a decided call that leaves the heap as it is
+pub decides_nothing : (safe : ℕ → Bool) (s : ImageScene) (n : NeverState) (k : ℕ) (o : Op) (f : Flight) (a : Answer)
+    → flagged o a ≡ o
+    → is_put (flight_among s.flights k).stage ≡ false → is_bare f.stage ≡ true → after_op n k o ≡ n
+    → ((bs : List ℕ) → a ≡ answer_of bs (reply_of n k o))
+    → Leads safe s n k o (record s { flights = slice_set s.flights k f }) (Some a)
+decides_nothing safe s n k o f a flag was bare stays is = (
+  subst (λ (m : NeverState). Move safe s n (record s { flights = slice_set s.flights k f }) m)
+      (sym (ap (after_op n k) flag ∙ stays)) (goes_bare safe s n k f was bare),
+  λ more. one_right _ a n k o (is _
+      ∙ ap (λ (x : Op). answer_of (bases_of s.allocations ++ more) (reply_of n k x)) (sym flag)),
+)
+
+-- a refused call whose register becomes null, which is still to be stored
+pub owes_null : (safe : ℕ → Bool) (s : ImageScene) (n : NeverState) (k d : ℕ) (o : Op) (f : Flight) (a : Answer)
+    → flagged o a ≡ o → k < length s.flights
+    → 8 * k + 7 < length n.registers → is_put (flight_among s.flights k).stage ≡ false
+    → f.stage ≡ stage.Put → d_of f.op ≡ d → d < 8 → f.loaded ≡ 0 → after_op n k o ≡ with_register n k d Null
+    → ((bs : List ℕ) → a ≡ answer_of bs (reply_of n k o))
+    → Leads safe s n k o (record s { flights = slice_set s.flights k f }) (Some a)
+owes_null safe s n k d o f a flag there long was put isd ld zero stays is = (
+  rw (ap (after_op n k) flag ∙ stays ∙ ap (λ x. with_register n k x Null) (sym isd))
+      (Owes k f Null there long was put (omega (arith, isd)) zero tt),
+  λ more. one_right _ a n k o (is _
+      ∙ ap (λ (x : Op). answer_of (bases_of s.allocations ++ more) (reply_of n k x)) (sym flag)),
+)
+
+refused_reply : (x t : Target) (at : ℕ → ℕ → Reply) → x ≡ t → is_word t ≡ false
+    → reply_at x at ≡ reply_at t (λ a w. Done)
+refused_reply x t at e none = rw e (by t none)
+  where
+    by : (t : Target) → is_word t ≡ false → reply_at t at ≡ reply_at t (λ a w. Done)
+    by Nothing none = refl
+    by Unmapped none = refl
+    by (WordOf a i) none = cc
+
+refused_left : (x t : Target) (left : NeverState) (at : ℕ → ℕ → NeverState) → x ≡ t → is_word t ≡ false
+    → left_at x left at ≡ left
+refused_left x t left at e none = rw e (by t none)
+  where
+    by : (t : Target) → is_word t ≡ false → left_at t left at ≡ left
+    by Nothing none = refl
+    by Unmapped none = refl
+    by (WordOf a i) none = cc
+
+abbrev flight : Stage → Op → ℕ → ℕ → ℕ → ℕ → Flight
+flight st o q p r l = record { stage = st; op = o; q = q; p = p; r = r; loaded = l }
+
+-- an access that reaches none word
+pub refuses : (safe : ℕ → Bool) (s : ImageScene) (n : NeverState) (k : ℕ) (o : Op) (q p r : ℕ) (a : Answer) (t : Target)
+    → accesses o ≡ true → k < length s.flights
+    → 8 * k + 7 < length n.registers
+    → is_put (flight_among s.flights k).stage ≡ false → d_of o < 8 → is_word t ≡ false
+    → target_of n (register_at n k (q_of o)) (i_of o) ≡ t
+    → ((bs : List ℕ) → a ≡ answer_of bs (reply_at t (λ a w. Done)))
+    → Leads safe s n k o
+    (record s {
+      flights = slice_set s.flights k
+          (record { stage = stage_refused o; op = o; q = q; p = p; r = r; loaded = 0 });
+    }) (Some a)
+refuses safe s n k (op.GetNum q' i) q p r a t is there long was ld none e answer =
+    decides_nothing safe s n k (op.GetNum q' i) _ a refl was refl refl (λ bs. answer bs ∙ ap (answer_of bs)
+    (sym (refused_reply _ t (λ a w. Number (number_of (word_at n a w))) e none)))
+refuses safe s n k (op.SetNum q' i m) q p r a t is there long was ld none e answer =
+    decides_nothing safe s n k (op.SetNum q' i m) _ a refl was refl
+    (refused_left _ t n (λ a w. with_word n a w (Num m)) e none) (λ bs. answer bs ∙ ap (answer_of bs)
+    (sym (refused_reply _ t (λ a w. Done) e none)))
+refuses safe s n k (op.SetPtr q' i p') q p r a t is there long was ld none e answer =
+    decides_nothing safe s n k (op.SetPtr q' i p') _ a refl was refl
+    (refused_left _ t n (λ a w. with_word n a w (register_at n k p')) e none) (λ bs. answer bs ∙ ap (answer_of bs)
+    (sym (refused_reply _ t (λ a w. Done) e none)))
+refuses safe s n k (op.CasPtr q' i p' r') q p r a t is there long was ld none e answer =
+    decides_nothing safe s n k (op.CasPtr q' i p' r') _ a refl was refl (refused_left _ t n
+    (λ a w. if is_same (word_at n a w) (register_at n k p') then with_word n a w (register_at n k r') else n) e none)
+    (λ bs. answer bs ∙ ap (answer_of bs) (sym (refused_reply _ t
+    (λ a w. Number (bit (is_same (word_at n a w) (register_at n k p')))) e none)))
+refuses safe s n k (op.GetPtr d q' i) q p r a t is there long was ld none e answer =
+    owes_null safe s n k d (op.GetPtr d q' i) _ a refl there long was refl refl ld refl (refused_left _ t _
+    (λ a w. with_register n k d (word_at n a w)) e none) (λ bs. answer bs ∙ ap (answer_of bs)
+    (sym (refused_reply _ t (λ a w. Val (word_at n a w)) e none)))
+refuses safe s n k (op.New d' ty full) q p r a t is there long was ld none e answer = cc
+refuses safe s n k _ q p r a t is there long was ld none e answer = cc

@@ -1,0 +1,266 @@
+-- `reg` leads to what the images allow, at each stage.
+use Rattle.std.proofs.Common.{◌≡◌, ◌≢◌, ℕ, ◌+◌, ◌*◌, ◌%◌, ◌^◌, ◌<◌, Bool, true, false, List, ◌++◌, length, refl, sym}
+use Rattle.std.proofs.Common.{ap, subst, ◌∙◌, arith}
+use Rattle.std.specs.Prelude.{if◌then◌else◌, slice_set, ◌==◌, Some, None}
+use Rattle.std.proofs.lemmas.Bool.{false≢true, eqb-true, eqb-false}
+use Rattle.mk_laws.proofs.Vocabulary.{AreAdmitted, Done, Flight, IsAdmitted, IsSound, Meets, NeverState, Null, Num}
+use Rattle.mk_laws.proofs.Vocabulary.{Op, Ptr, Stage, Value, after_free, answer_of, asked, bases_of, d_of, entry_of}
+use Rattle.mk_laws.proofs.Vocabulary.{i_of, image_of, is_same, one_if, onward, p_of, progress_p, progress_q}
+use Rattle.mk_laws.proofs.Vocabulary.{progress_reg, q_of, r_of, refused, register_at, register_met, stage_behind}
+use Rattle.mk_laws.proofs.Vocabulary.{steps_of, target_of, with_register}
+use Rattle.mk_never.specs.declared.operations.Op.TheVariants as op
+use Rattle.mk_never.specs.declared.values.Target.TheVariants.{Nothing}
+use Rattle.mk_never.specs.NeverHeap.{free_reply, lea_reply, moved_on}
+use Rattle.mk_core.specs.declared.events.Answer.TheVariants as answer
+use Rattle.mk_core.specs.declared.seats.Stage.TheVariants as stage
+use Rattle.mk_core.specs.Calls.{value_for}
+use Rattle.mk_laws.proofs.Standings.{standing_at, is_astray}
+use Rattle.mk_laws.proofs.Stages.{is_reg_stage}
+use Rattle.mk_laws.specs.Images.{is_past_probe, ImageScene, flight_among, is_put, has_p, has_some_p, has_r, Carries}
+use Rattle.mk_laws.specs.Images.{CarriesOwn, ProbedOwn}
+use Rattle.mk_laws.specs.SafeSets.{IsSafe}
+use Rattle.mk_laws.proofs.ImagesMoves.{Move, Flies, Pays, Stores}
+use Rattle.mk_laws.proofs.Pairs.{shows_plain}
+use Rattle.mk_laws.proofs.ImagesKept.{base_at}
+use Rattle.mk_laws.proofs.Ready.{Ready, image_zero, image_test, bit_is, Leads, LeadsBy, either_leads, one_right}
+use Rattle.mk_laws.proofs.Refusals.{accesses, refuses, decides_nothing, owes_null}
+
+abbrev pub flight : Stage → Op → ℕ → ℕ → ℕ → ℕ → Flight
+flight st o q p r l = record { stage = st; op = o; q = q; p = p; r = r; loaded = l }
+
+-- only q is carried
+carries_q : (bs : List ℕ) (f : Flight) (a b d : Value) → f.q ≡ image_of bs a → f.q ≢ 0 → has_p f.stage f.op ≡ false
+    → has_some_p f.stage f.op ≡ false
+    → has_r f.stage f.op ≡ false → Carries bs f a b d
+carries_q bs f a b d e ne p sp r = record {
+  q = λ x. e;
+  some_q = λ x. ne;
+  p = λ x. let y : false ≡ true = sym p
+      ∙ x in cc;
+  some_p = λ x. let y : false ≡ true = sym sp ∙ x in cc;
+  r = λ x. let y : false ≡ true = sym r ∙ x in cc;
+}
+
+-- after the load of q, an access carries q alone
+record BehindLoadQ (s : Stage) (o : Op) : Type 0 where
+  pub p : has_p s o ≡ false
+  pub some_p : has_some_p s o ≡ false
+  pub r : has_r s o ≡ false
+  pub put : is_put s ≡ false
+  pub probed : is_past_probe s ≡ false
+
+behind_load_q : (o : Op) → accesses o ≡ true → BehindLoadQ (stage_behind stage.LoadQ (steps_of o)) o
+behind_load_q (op.GetNum q i) h = record { p = refl; some_p = refl; r = refl; put = refl; probed = refl }
+behind_load_q (op.SetNum q i m) h = record { p = refl; some_p = refl; r = refl; put = refl; probed = refl }
+behind_load_q (op.GetPtr d q i) h = record { p = refl; some_p = refl; r = refl; put = refl; probed = refl }
+behind_load_q (op.SetPtr q i p) h = record { p = refl; some_p = refl; r = refl; put = refl; probed = refl }
+behind_load_q (op.CasPtr q i p r) h = record { p = refl; some_p = refl; r = refl; put = refl; probed = refl }
+behind_load_q _ h = absurd (false≢true h)
+
+-- a flight that goes on undecided
+pub flies_on : (safe : ℕ → Bool) (s : ImageScene) (n : NeverState) (k : ℕ) (o : Op) (f : Flight)
+    → is_put (flight_among s.flights k).stage ≡ false → is_put f.stage ≡ false
+    → CarriesOwn (bases_of s.allocations) n k f → ProbedOwn n k f
+    → Leads safe s n k o (record s { flights = slice_set s.flights k f }) None
+flies_on safe s n k o f was is carries probed = (
+  Flies k f (λ r x. shows_plain f r x is ∙ sym (shows_plain (flight_among s.flights k) r x was)) carries probed,
+  λ more. refl,
+)
+
+-- a pointer i words on
+lea_value : (listed : List ℕ) (safe : ℕ → Bool) (s : ImageScene) (n : NeverState) → Ready listed safe s n
+    → (v : Value) (x i : ℕ) → IsSound n v → IsSafe safe v
+    → x ≡ image_of (bases_of s.allocations) v → x ≢ 0
+    → Meets n v i (λ kind. Unit {0}) → ((x + 8 * i) % 2 ^ 64 ≡ image_of (bases_of s.allocations) (moved_on v i))
+    × IsSafe safe (moved_on v i) × (lea_reply v ≡ Done)
+lea_value listed safe s n h Null x i sound is e ne meets = absurd (ne e)
+lea_value listed safe s n h (Num m) x i sound is e ne meets = absurd sound
+lea_value listed safe s n h (Ptr a t o) x i sound is e ne meets =
+    let u = h.set.unreleased a is in
+    let b = h.bound a (o + i) u meets.0 in
+    let ba = base_at s.allocations a in
+    let room = h.room in
+    (omega arith, is, refl)
+
+module _ (listed : List ℕ) (safe : ℕ → Bool) (s : ImageScene) (n : NeverState) (k : ℕ) (h : Ready listed safe s n)
+    (there : k < length s.flights) (long : 8 * k + 7 < length n.registers) (longs : 8 * k + 7 < length s.registers)
+  where
+    null_at : (q x : ℕ) → x ≡ image_of (bases_of s.allocations) (register_at n k q) → (x == 0) ≡ true
+        → register_at n k q ≡ Null
+    null_at q x e z = image_zero n _ (register_at n k q) (h.typed.registers (8 * k + q)) (sym e ∙ eqb-true x 0 z)
+
+    -- an access loads its pointer, or is refused
+    load_q : (o : Op) (q p r l x : ℕ) → accesses o ≡ true → flight_among s.flights k ≡ flight stage.LoadQ o q p r l
+        → d_of o < 8
+        → x ≡ image_of (bases_of s.allocations) (register_at n k (q_of o))
+        → LeadsBy safe s n k o s (if x == 0 then refused (flight stage.LoadQ o x p r l) answer.Null
+        else onward (flight stage.LoadQ o x p r l) None)
+    load_q o q p r l x access is ld e =
+        let was = ap (λ (f : Flight). is_put f.stage) is in
+        let next = behind_load_q o access in
+        either_leads safe s n k o s (x == 0) _ _
+        (λ z. refuses safe s n k o x p r answer.Null Nothing access there long was ld refl
+        (rw (null_at (q_of o) x e z)) (λ bs. refl))
+        (λ nz. flies_on safe s n k o (flight (stage_behind stage.LoadQ (steps_of o)) o x p r l) was next.put
+        (carries_q _ _ _ _ _ e (eqb-false x 0 nz) next.p next.some_p next.r)
+        (λ y. absurd (false≢true (sym next.probed ∙ y))))
+
+    reg_q : (o : Op) (q p r l x : ℕ) → flight_among s.flights k ≡ flight stage.LoadQ o q p r l → d_of o < 8
+        → is_astray (standing_at stage.LoadQ o) ≡ false
+        → CarriesOwn (bases_of s.allocations) n k (flight stage.LoadQ o q p r l)
+        → x ≡ image_of (bases_of s.allocations) (register_at n k (q_of o))
+        → LeadsBy safe s n k o s (progress_q (flight stage.LoadQ o q p r l) o x)
+    reg_q (op.GetNum q' i) q p r l x is ld a car e = load_q (op.GetNum q' i) q p r l x refl is ld e
+    reg_q (op.SetNum q' i m) q p r l x is ld a car e = load_q (op.SetNum q' i m) q p r l x refl is ld e
+    reg_q (op.GetPtr d q' i) q p r l x is ld a car e = load_q (op.GetPtr d q' i) q p r l x refl is ld e
+    reg_q (op.SetPtr q' i p') q p r l x is ld a car e = load_q (op.SetPtr q' i p') q p r l x refl is ld e
+    reg_q (op.CasPtr q' i p' r') q p r l x is ld a car e = load_q (op.CasPtr q' i p' r') q p r l x refl is ld e
+    reg_q (op.Lea d q' i) q p r l x is ld a car e =
+        let was = ap (λ (f : Flight). is_put f.stage) is in
+        either_leads safe s n k (op.Lea d q' i) s (x == 0) _ _
+        (λ z. owes_null safe s n k d (op.Lea d q' i) _ answer.Null refl there long was refl refl ld refl
+        (rw (null_at q' x e z)) (λ bs. ap (λ v. answer_of bs (lea_reply v)) (sym (null_at q' x e z))))
+        (λ nz. flies_on safe s n k (op.Lea d q' i) _ was refl
+        (carries_q _ _ _ _ _ e (eqb-false x 0 nz) refl refl refl) (λ y. cc))
+    reg_q (op.Move d q') q p r l x is ld a car e =
+        flies_on safe s n k (op.Move d q') _ (rw is) refl
+        (record { q = λ y. e; some_q = λ y. cc; p = λ y. cc; some_p = λ y. cc; r = λ y. cc }) (λ y. cc)
+    reg_q (op.Same p' q') q p r l x is ld a car e =
+        let u = register_at n k p' in
+        let v = register_at n k q' in
+        let ep : p ≡ image_of (bases_of s.allocations) u = car.p refl in
+        let tests : (p == x) ≡ is_same u v =
+        rw ep (rw e (image_test listed safe s n h u v (h.typed.registers (8 * k + p')) (h.typed.registers (8 * k + q'))
+        (h.set.registers (8 * k + p')) (h.set.registers (8 * k + q')))) in
+        decides_nothing safe s n k (op.Same p' q') _ (answer.Num (one_if (p == x))) refl (rw is) refl refl
+        (λ bs. rw tests (ap answer.Num (bit_is (is_same u v))))
+    reg_q (op.New d ty full) q p r l x is ld a car e = cc
+    reg_q _ q p r l x is ld a car e = cc
+
+    reg_p : (o : Op) (q p r l x : ℕ) → flight_among s.flights k ≡ flight stage.LoadP o q p r l
+        → is_astray (standing_at stage.LoadP o) ≡ false
+        → CarriesOwn (bases_of s.allocations) n k (flight stage.LoadP o q p r l)
+        → x ≡ image_of (bases_of s.allocations) (register_at n k (p_of o))
+        → LeadsBy safe s n k o s (progress_p (flight stage.LoadP o q p r l) o x)
+    reg_p (op.SetPtr q' i p') q p r l x is a car e =
+        flies_on safe s n k (op.SetPtr q' i p') _ (rw is) refl
+        (record { q = λ y. car.q refl; some_q = λ y. car.some_q refl; p = λ y. e; some_p = λ y. cc; r = λ y. cc })
+        (λ y. cc)
+    reg_p (op.CasPtr q' i p' r') q p r l x is a car e =
+        flies_on safe s n k (op.CasPtr q' i p' r') _ (rw is) refl
+        (record { q = λ y. car.q refl; some_q = λ y. car.some_q refl; p = λ y. e; some_p = λ y. cc; r = λ y. cc })
+        (λ y. cc)
+    reg_p (op.SetGlobal g p') q p r l x is a car e =
+        flies_on safe s n k (op.SetGlobal g p') _ (rw is) refl
+        (record { q = λ y. cc; some_q = λ y. cc; p = λ y. e; some_p = λ y. cc; r = λ y. cc }) (λ y. cc)
+    reg_p (op.Same p' q') q p r l x is a car e =
+        flies_on safe s n k (op.Same p' q') _ (rw is) refl
+        (record { q = λ y. cc; some_q = λ y. cc; p = λ y. e; some_p = λ y. cc; r = λ y. cc }) (λ y. cc)
+    reg_p (op.IsNull p') q p r l x is a car e =
+        let v = register_at n k p' in
+        let tests : (x == 0) ≡ is_same v Null = rw e
+        (image_test listed safe s n h v Null (h.typed.registers (8 * k + p')) tt (h.set.registers (8 * k + p')) tt) in
+        decides_nothing safe s n k (op.IsNull p') _ (answer.Num (one_if (x == 0))) refl (rw is) refl refl
+        (λ bs. rw tests (ap answer.Num (bit_is (is_same v Null))))
+    reg_p (op.Free p') q p r l x is a car e =
+        let was = ap (λ (f : Flight). is_put f.stage) is in
+        either_leads safe s n k (op.Free p') s (x == 0) _ _
+        (λ z. decides_nothing safe s n k (op.Free p') _ answer.Done refl was refl (rw (null_at p' x e z))
+        (λ bs. ap (λ v. answer_of bs (free_reply n v)) (sym (null_at p' x e z))))
+        (λ nz. flies_on safe s n k (op.Free p') _ was refl
+        (record { q = λ y. cc; some_q = λ y. cc; p = λ y. e; some_p = λ y. eqb-false x 0 nz; r = λ y. cc }) (λ y. cc))
+    reg_p (op.New d ty full) q p r l x is a car e = cc
+    reg_p _ q p r l x is a car e = cc
+
+    reg_r : (o : Op) (q p r l x : ℕ) → flight_among s.flights k ≡ flight stage.LoadR o q p r l
+        → is_astray (standing_at stage.LoadR o) ≡ false
+        → CarriesOwn (bases_of s.allocations) n k (flight stage.LoadR o q p r l)
+        → x ≡ image_of (bases_of s.allocations) (register_at n k (r_of o))
+        → LeadsBy safe s n k o s (onward (record (flight stage.LoadR o q p r l) { r = x }) None)
+    reg_r (op.CasPtr q' i p' r') q p r l x is a car e =
+        flies_on safe s n k (op.CasPtr q' i p' r') (flight stage.Probe (op.CasPtr q' i p' r') q p x l) (rw is) refl
+        (record {
+          q = λ y. car.q refl;
+          some_q = λ y. car.some_q refl;
+          p = λ y. car.p refl;
+          some_p = λ y. cc;
+          r = λ y. e;
+        }) (λ y. cc)
+    reg_r (op.New d ty full) q p r l x is a car e = cc
+    reg_r _ q p r l x is a car e = cc
+
+    reg_store : (o : Op) (q p r l : ℕ) → flight_among s.flights k ≡ flight stage.Store o q p r l → d_of o < 8
+        → is_astray (standing_at stage.Store o) ≡ false
+        → CarriesOwn (bases_of s.allocations) n k (flight stage.Store o q p r l)
+        → AreAdmitted listed n (asked (entry_of k o (Some answer.Done)))
+        → LeadsBy safe s n k o
+        (record s { registers = slice_set s.registers (8 * k + d_of o) (value_for (flight stage.Store o q p r l) o) })
+        (onward (flight stage.Store o q p r l) (Some answer.Done))
+    reg_store (op.Lea d q' i) q p r l is ld a car ad =
+        let admitted : IsAdmitted listed n k (op.Lea d q' i) = ad.0 in
+        let lea = lea_value listed safe s n h (register_at n k q') q i (h.typed.registers (8 * k + q'))
+        (h.set.registers (8 * k + q')) (car.q refl) (car.some_q refl) admitted.access in (
+          Stores k d _ (flight stage.Leave (op.Lea d q' i) q p r l) (moved_on (register_at n k q') i)
+              (record { there = there; registers = long; was = rw is; bare = refl }) longs ld lea.0 lea.1,
+          λ more. one_right (bases_of s.allocations ++ more) answer.Done n k (op.Lea d q' i)
+              (ap (answer_of (bases_of s.allocations ++ more)) (sym lea.2)),
+        )
+    reg_store (op.Move d q') q p r l is ld a car ad = (
+      Stores k d _ (flight stage.Leave (op.Move d q') q p r l) (register_at n k q') (record {
+        there = there;
+        registers = long;
+        was = rw is;
+        bare = refl;
+      }) longs ld (car.q refl) (h.set.registers (8 * k + q')),
+      λ more. refl,
+    )
+    reg_store (op.Clear d) q p r l is ld a car ad = (
+      Stores k d 0 (flight stage.Leave (op.Clear d) q p r l) Null
+          (record { there = there; registers = long; was = rw is; bare = refl }) longs ld refl tt,
+      λ more. refl,
+    )
+    reg_store (op.New d ty full) q p r l is ld a car ad = cc
+    reg_store _ q p r l is ld a car ad = cc
+
+    reg_put : (o : Op) (q p r l : ℕ) → flight_among s.flights k ≡ flight stage.Put o q p r l → d_of o < 8
+        → Leads safe s n k o
+        (record s {
+          registers = slice_set s.registers (8 * k + d_of o) l;
+          flights = slice_set s.flights k (flight stage.Leave o q p r l);
+        }) None
+    reg_put o q p r l is ld = (
+      subst (λ (g : Flight). Move safe s n (record s {
+        registers = slice_set s.registers (8 * k + d_of g.op) g.loaded;
+        flights = slice_set s.flights k (flight stage.Leave o q p r l);
+      }) n) is (Pays k (flight stage.Leave o q p r l) there longs (rw is) (rw is ld) refl),
+      λ more. refl,
+    )
+
+-- the registers after `reg`
+abbrev pub registers_behind : List ℕ → ℕ → Flight → Stage → List ℕ
+registers_behind xs k f stage.Store = slice_set xs (8 * k + d_of f.op) (value_for f f.op)
+registers_behind xs k f stage.Put = slice_set xs (8 * k + d_of f.op) f.loaded
+registers_behind xs k f _ = xs
+
+pub reg_leads : (listed : List ℕ) (safe : ℕ → Bool) (s : ImageScene) (n : NeverState) (k : ℕ) → Ready listed safe s n
+    → k < length s.flights → 8 * k + 7 < length n.registers
+    → 8 * k + 7 < length s.registers
+    → (st : Stage) (o : Op) (q p r l x : ℕ) → flight_among s.flights k ≡ flight st o q p r l → d_of o < 8
+    → is_reg_stage st ≡ true → is_astray (standing_at st o) ≡ false
+    → CarriesOwn (bases_of s.allocations) n k (flight st o q p r l)
+    → (is_put st ≡ false
+    → x ≡ image_of (bases_of s.allocations) (register_at n k (register_met (flight st o q p r l) st)))
+    → AreAdmitted listed n (asked (entry_of k o (progress_reg (flight st o q p r l) st x).answer))
+    → LeadsBy safe s n k o (record s { registers = registers_behind s.registers k (flight st o q p r l) st })
+    (progress_reg (flight st o q p r l) st x)
+reg_leads listed safe s n k h there long longs stage.LoadQ o q p r l x is ld rs a car e ad =
+    reg_q listed safe s n k h there long longs o q p r l x is ld a car (e refl)
+reg_leads listed safe s n k h there long longs stage.LoadP o q p r l x is ld rs a car e ad =
+    reg_p listed safe s n k h there long longs o q p r l x is a car (e refl)
+reg_leads listed safe s n k h there long longs stage.LoadR o q p r l x is ld rs a car e ad =
+    reg_r listed safe s n k h there long longs o q p r l x is a car (e refl)
+reg_leads listed safe s n k h there long longs stage.Store o q p r l x is ld rs a car e ad =
+    reg_store listed safe s n k h there long longs o q p r l is ld a car ad
+reg_leads listed safe s n k h there long longs stage.Put o q p r l x is ld rs a car e ad =
+    reg_put listed safe s n k h there long longs o q p r l is ld
+reg_leads listed safe s n k h there long longs _ o q p r l x is ld rs a car e ad = cc

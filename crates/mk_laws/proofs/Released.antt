@@ -1,0 +1,134 @@
+-- `release` on the terrain: an allocation is released exactly where its cell is left unmarked.
+use Rattle.std.proofs.Common.{Bool, List, arith, false, inl, inr, length, map, refl, sym, true, ℕ, ◌++◌, ◌/◌, ◌∙◌, ◌≡◌}
+use Rattle.std.proofs.Common.{◌⊎◌}
+use Rattle.std.specs.Prelude.{None, Option, Some, slice_index, ◌||◌}
+use Rattle.std.proofs.lemmas.Bool.{cases_Bool, true≢false}
+use Rattle.mk_laws.proofs.Vocabulary.{Config, IsWithinLimits, Object, PlacedAllocation, RunPages, Words, World}
+use Rattle.mk_laws.proofs.Vocabulary.{address_of, cell_of_allocation, is_left_unmarked, is_some_and, placed_at}
+use Rattle.mk_laws.proofs.Vocabulary.{pointed_cell, with_released}
+use Rattle.mk_core.proofs.BitsWithout.{has_bit_without}
+use Rattle.mk_core.proofs.ChangedAllocations.{released_leaves}
+use Rattle.mk_core.proofs.PointedAllocations.{released_where_left}
+use Rattle.mk_core.proofs.Sizes.{large_cells}
+use Rattle.mk_laws.proofs.ProtocolKept.{kept}
+use Rattle.mk_laws.specs.LayoutScene.{Among, Claim, is_released_in}
+use Rattle.mk_laws.specs.Ground.{ground_of}
+use Rattle.mk_laws.specs.Terrain.{RunStands, claim_of, claims_of, claims_placed, layout_scene_of}
+use Rattle.mk_laws.proofs.Claims.{LeavesCells, apart_behind, cells_behind, changed_among, claim_among, claim_is}
+use Rattle.mk_laws.proofs.Claims.{was_claim}
+use Rattle.mk_laws.proofs.LayoutJoined.{among_back, among_front, among_parts, apart_across, apart_joined, apart_left}
+use Rattle.mk_laws.proofs.LayoutJoined.{apart_right}
+use Rattle.mk_laws.proofs.Releasing.{layout_released}
+use Rattle.mk_laws.proofs.Serving.{Laid, own_claim, placed_claim}
+use Rattle.mk_laws.proofs.StandingClaims.{IsStanding, stands_there}
+
+-- The unreleased allocations stand on the heap, with their headers.
+pub all_stand : (c : Config) (o : Object) (releasing : Bool) (w : World) → length w.now.words.pages ≡ c.pages
+    → Laid c o releasing w (ground_of w)
+    → (i : ℕ) → (placed_at w.allocations i).released ≡ false → IsStanding c w.now.words (placed_at w.allocations i)
+all_stand c o releasing w len st i u =
+    let a : PlacedAllocation = placed_at w.allocations i in
+    let x : Claim = claim_of c w.now.seats.holding.freed a in
+    stands_there c w.now.seats.holding.freed w.now.words a len
+    (st.scene.shown x (own_claim c o (ground_of w) x (claim_among c w.now.seats.holding.freed w.allocations i u))) u
+    (st.cells i u)
+
+pub releasing_leaves : (c : Config) (w : Words) → LeavesCells (with_released c w)
+releasing_leaves c w =
+    record {
+      places = released_leaves c w;
+      released = λ a h. by a.released
+          (is_some_and (is_left_unmarked w) (pointed_cell c.pages w.pages (address_of a.base))) h;
+    }
+  where
+    by : (x y : Bool) → (x || y) ≡ false → x ≡ false
+    by true y h = cc
+    by false y h = refl
+
+-- whether a release of the allocation's cell releases it
+pub left_is : (c : Config) (w : Words) (a : PlacedAllocation) → IsWithinLimits c → IsStanding c w a
+    → (with_released c w a).released
+    ≡ is_released_in true w.snapshot w.marks (a.base / 64) (cell_of_allocation c a).index
+left_is c w a limits st =
+    released_where_left c w a limits st.stands st.headers
+    ∙ has_bit_without (slice_index w.snapshot (a.base / 64)) (slice_index w.marks (a.base / 64))
+    (cell_of_allocation c a).index
+
+-- a claim goes exactly where its cell is released
+pub goes : (c : Config) (run : Option RunPages) (w : Words) (xs : List PlacedAllocation) (x : Claim) → IsWithinLimits c
+    → ((i : ℕ) → (placed_at xs i).released ≡ false → IsStanding c w (placed_at xs i)) → Among x (claims_of c run xs)
+    → Among x (claims_of c run (map (with_released c w) xs))
+    ⊎ (is_released_in true w.snapshot w.marks x.page x.index ≡ true)
+goes c run w xs x limits stand i =
+    let n = claim_is c run xs x i in
+    let a : PlacedAllocation = placed_at xs n.number in
+    let left = left_is c w a limits (stand n.number n.unreleased) in
+    elim (cases_Bool (with_released c w a).released) [
+      | inr u ↦
+          inl (rw n.is (changed_among c run (with_released c w) xs n.number (releasing_leaves c w) u))
+      | inl r ↦ inr (rw n.is (sym left ∙ r))
+    ]
+
+pub released_terrain : (c : Config) (o : Object) (w : World) → IsWithinLimits c → length w.now.words.pages ≡ c.pages
+    → Laid c o false w (ground_of w) → ((run : RunPages) → w.now.seats.holding.freed ≡ Some run
+    → is_released_in true w.now.words.snapshot w.now.words.marks run.page 0 ≡ false)
+    → Laid c o true w (record (ground_of w) { allocations = map (with_released c w.now.words) w.allocations })
+released_terrain c o w limits len st kept =
+    record {
+      scene = layout_released (layout_scene_of c o false w.now.words.marks (ground_of w))
+          (claims_of c w.now.seats.holding.freed ys ++ placed) st.scene refl (record {
+            fewer = λ x i. elim (among_parts (claims_of c w.now.seats.holding.freed ys) placed x i) [
+              | inl j ↦ own_claim c o (ground_of w) x (was x j)
+              | inr j ↦ placed_claim c o (ground_of w) x j
+            ];
+            apart = apart_joined (claims_of c w.now.seats.holding.freed ys) placed
+                (apart_behind c w.now.seats.holding.freed w.now.seats.holding.freed (with_released c w.now.words)
+                w.allocations (releasing_leaves c w.now.words) (apart_left own placed st.scene.apart))
+                (apart_right own placed st.scene.apart)
+                (λ x y ix iy. apart_across own placed x y st.scene.apart (was x ix) iy);
+            gone = λ x i. elim (among_parts own placed x i) [
+              | inl j ↦ elim (going x j)
+                  [ inl k ↦ inl (among_front (claims_of c w.now.seats.holding.freed ys) placed x k) | inr r ↦ inr r ]
+              | inr j ↦ inl (among_back (claims_of c w.now.seats.holding.freed ys) placed x j)
+            ];
+          });
+      gone = gone w.now.seats.holding.freed refl st.gone;
+      first = st.first;
+      cells = cells_behind c (with_released c w.now.words) w.allocations (releasing_leaves c w.now.words) st.cells;
+    }
+  where
+    ys : List PlacedAllocation
+    ys = map (with_released c w.now.words) w.allocations
+
+    own : List Claim
+    own = claims_of c w.now.seats.holding.freed w.allocations
+
+    placed : List Claim
+    placed = claims_placed o w.now.seats.holding.placing
+
+    was : (x : Claim) → Among x
+        (claims_of c w.now.seats.holding.freed (map (with_released c w.now.words) w.allocations))
+        → Among x (claims_of c w.now.seats.holding.freed w.allocations)
+    was x j =
+        let n = was_claim c w.now.seats.holding.freed (with_released c w.now.words) w.allocations x
+        (releasing_leaves c w.now.words) j in
+        rw n.is (claim_among c w.now.seats.holding.freed w.allocations n.number n.was)
+
+    going : (x : Claim) → Among x (claims_of c w.now.seats.holding.freed w.allocations)
+        → Among x (claims_of c w.now.seats.holding.freed (map (with_released c w.now.words) w.allocations))
+        ⊎ (is_released_in true w.now.words.snapshot w.now.words.marks x.page x.index ≡ true)
+    going x j = goes c w.now.seats.holding.freed w.now.words w.allocations x limits (all_stand c o false w len st) j
+
+    gone : (run : Option RunPages) → w.now.seats.holding.freed ≡ run
+        → RunStands (claims_of c w.now.seats.holding.freed w.allocations) run
+        → RunStands (claims_of c w.now.seats.holding.freed (map (with_released c w.now.words) w.allocations)) run
+    gone None is r = tt
+    gone (Some x) is r = elim (going r.claim r.among) [
+      | inl j ↦ record { claim = r.claim; among = j; page = r.page; count = r.count; large = r.large; mode = r.mode }
+      | inr lost ↦
+          let shown = st.scene.shown r.claim (own_claim c o (ground_of w) r.claim r.among) in
+          let one = large_cells r.claim.object r.large in
+          let lt = shown.known in
+          let zero : r.claim.index ≡ 0 = omega arith in
+          absurd (true≢false (sym lost ∙ rw r.page (rw zero (kept x is))))
+    ]

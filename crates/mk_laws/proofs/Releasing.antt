@@ -1,0 +1,255 @@
+-- The steps that release: `release`, cells given back, pages freed in any order, and `end`.
+use Rattle.std.proofs.Common.{Bool, List, ap, arith, false, inl, inr, length, length-set, refl, sym, true, ℕ, ◌+◌, ◌-◌}
+use Rattle.std.proofs.Common.{◌<◌, ◌∙◌, ◌≡◌, ◌≢◌, ◌⊎◌}
+use Rattle.std.specs.Prelude.{Option, Some}
+use Rattle.std.proofs.lemmas.Bool.{cases_Bool, cases_eq, cases_lt, true≢false}
+use Rattle.std.proofs.lemmas.List.{get_or_past}
+use Rattle.mk_laws.proofs.Vocabulary.{Header, Later, Page, cells_under, ends, free_page, has_bit, head_page_under}
+use Rattle.mk_laws.proofs.Vocabulary.{header_of, pages_made, stands}
+use Rattle.mk_laws.proofs.ProtocolKept.{kept}
+use Rattle.mk_laws.specs.LayoutScene.{Among, AreApart, Claim, IsClaimed, IsLaidOn, IsShown, NoPlot, Plot, PlotStands}
+use Rattle.mk_laws.specs.LayoutScene.{Plotted, LayoutScene, head_on, header_on, is_released_in, is_released_on}
+use Rattle.mk_laws.specs.LayoutScene.{shows_on, used_on}
+use Rattle.mk_laws.proofs.PageSets.{headed_here, headed_other, headed_used, used_header, used_here, used_other}
+use Rattle.mk_laws.proofs.PageSets.{with_header_on, with_used_on}
+use Rattle.mk_laws.proofs.LayoutReadings.{cellless_unused, claimed_used, free_unused, none_set, zero_where_none}
+
+-- a page with nothing on it is on no claim's pages
+unclaimed : (s : LayoutScene) (p : ℕ) → IsLaidOn s → used_on s.pages (head_on s.pages p) ≡ 0 → (x : Claim)
+    → Among x s.claims → (distance : ℕ) → distance < pages_made x.object → x.page + distance ≢ p
+unclaimed s p laid z x among distance lt e = claimed_used s.pages x distance (laid.shown x among) lt (rw e z)
+
+-- the pages of a claim are others
+pub shown_beside : (pages : List Page) (p n : ℕ) (x : Claim) → p < length pages → IsShown pages x
+    → ((distance : ℕ) → distance < pages_made x.object → x.page + distance ≢ p) → IsShown (with_header_on pages p n) x
+shown_beside pages p n x lt shown apart =
+    record {
+      sized = shown.sized;
+      known = shown.known;
+      within = let len = length-set pages p (record { header = n; used = used_on pages p }) in let w =
+          shown.within in omega arith;
+      headers = λ d ld. rw (headed_other pages p n (x.page + d) (apart d ld)) (shown.headers d ld);
+      used = rw (headed_used pages p n x.page lt) shown.used;
+    }
+
+-- where a page shows what it showed, so does its head
+pub head_of_other : (pages : List Page) (p n q : ℕ) → q ≢ p → head_on (with_header_on pages p n) q ≡ head_on pages q
+head_of_other pages p n q ne = rw (headed_other pages p n q ne)
+
+abbrev Emptied : LayoutScene → ℕ → LayoutScene
+Emptied s p = record s { pages = with_header_on s.pages p 0 }
+
+plot_emptied : (pages : List Page) (p : ℕ) (plot : Plot) → p < length pages → PlotStands pages plot
+    → PlotStands (with_header_on pages p 0) plot
+plot_emptied pages p NoPlot lt stands = stands
+plot_emptied pages p (Plotted first o) lt stands =
+    record {
+      sized = stands.sized;
+      within = let len = length-set pages p (record { header = 0; used = used_on pages p }) in let w =
+          stands.within in omega arith;
+      headers = λ d ld. elim (cases_eq (first + d) p) [
+        | inl e ↦ inl (rw e (headed_here pages p 0 lt))
+        | inr ne ↦ rw (headed_other pages p 0 (first + d) ne) (stands.headers d ld)
+      ];
+      used = λ d ld. headed_used pages p 0 (first + d) lt ∙ stands.used d ld;
+    }
+
+-- `head` (d): a page of which nothing is left is free
+pub layout_emptied : (s : LayoutScene) (p : ℕ) → IsLaidOn s → p < length s.pages → s.releasing ≡ true
+    → used_on s.pages (head_on s.pages p) ≡ 0 → IsLaidOn (Emptied s p)
+layout_emptied s p laid lt on z =
+    record {
+      shown = λ x among. shown_beside s.pages p 0 x lt (laid.shown x among) (unclaimed s p laid z x among);
+      apart = laid.apart;
+      used = λ q k h. elim (cases_eq q p) [
+        | inl e ↦ absurd (none_set (used_on s.pages p) k unused (rw (← e)
+            (old q k h)))
+        | inr ne ↦ let t = laid.used q k
+            (old q k h) in (
+              rw (ap (λ h. cells_under (header_of h)) (sym (headed_other s.pages p 0 q ne))) at t.0,
+              t.1,
+            )
+      ];
+      plot = plot_emptied s.pages p s.plot lt laid.plot;
+      occupied = λ q some empty. inl on;
+      later = λ q d m is. elim (cases_eq q p) [
+        | inl e ↦ absurd (not_later m d (ap (λ i. shows_on (with_header_on s.pages p 0) i) (sym e) ∙ is))
+        | inr ne ↦
+            let l = laid.later q d m (rw (← (headed_other s.pages p 0 q ne)) is) in (
+              l.0,
+              elim (cases_eq (q - d) p) [
+                | inl e ↦ inr (on, rw e (headed_here s.pages p 0 lt))
+                | inr other ↦ rw (headed_other s.pages p 0 (q - d) other) l.1
+              ],
+            )
+      ];
+    }
+  where
+    old : (q k : ℕ) → has_bit (used_on (with_header_on s.pages p 0) q) k ≡ true → has_bit (used_on s.pages q) k ≡ true
+    old q k h = rw (← (headed_used s.pages p 0 q lt)) h
+
+    -- a later page has no bit, and another is its own head
+    unused_by : (x : Option Header) → shows_on s.pages p ≡ x → used_on s.pages (head_page_under x p) ≡ 0
+        → used_on s.pages p ≡ 0
+    unused_by (Some (Later d m)) is z = cellless_unused s p laid (ap cells_under is)
+    unused_by _ is z = z
+
+    unused : used_on s.pages p ≡ 0
+    unused = unused_by (shows_on s.pages p) refl z
+
+    not_later : (m : Bool) (d : ℕ) → shows_on (with_header_on s.pages p 0) p ≡ Some (Later d m) → ⊥
+    not_later m d is = let e : header_of 0 ≡ Some (Later d m) = ap header_of (sym (headed_here s.pages p 0 lt))
+        ∙ is in true≢false (let y : true ≡ false = cc in y)
+
+-- `used` (b): bits of released cells go
+abbrev GivenBack : LayoutScene → ℕ → ℕ → LayoutScene
+GivenBack s p n = record s { pages = with_used_on s.pages p n }
+
+pub record Gives (s : LayoutScene) (p n : ℕ) : Type 0 where
+  pub fewer : (k : ℕ) → has_bit n k ≡ true → has_bit (used_on s.pages p) k ≡ true
+  pub gone : (k : ℕ) → has_bit (used_on s.pages p) k ≡ true → has_bit n k ≡ false → is_released_on s p k ≡ true
+
+pub layout_given_back : (s : LayoutScene) (p n : ℕ) → IsLaidOn s → p < length s.pages → s.releasing ≡ true → Gives s p n
+    → ((x : Claim) → Among x s.claims → is_released_on s x.page x.index ≡ false) → IsLaidOn (GivenBack s p n)
+layout_given_back s p n laid lt on gives kept =
+    record {
+      shown = λ x among. shown x among (laid.shown x among);
+      apart = laid.apart;
+      used = λ q k h. let t =
+          laid.used q k (fewer q k h)
+          in (rw (ap (λ h. cells_under (header_of h)) (sym (used_header s.pages p n q lt))) at t.0, t.1);
+      plot = plot s.plot laid.plot;
+      occupied = λ q some empty. inl on;
+      later = λ q d m is.
+          let l = laid.later q d m (rw (← (used_header s.pages p n q lt)) is) in (
+            l.0,
+            rw (used_header s.pages p n (q - d) lt) l.1,
+          );
+    }
+  where
+    len : length (with_used_on s.pages p n) ≡ length s.pages
+    len = length-set s.pages p (record { header = header_on s.pages p; used = n })
+
+    fewer : (q k : ℕ) → has_bit (used_on (with_used_on s.pages p n) q) k ≡ true → has_bit (used_on s.pages q) k ≡ true
+    fewer q k h = elim (cases_eq q p) [
+      | inl e ↦ rw e (gives.fewer k (rw (← (used_here s.pages p n lt))
+          (ap (λ i. has_bit (used_on (with_used_on s.pages p n) i) k) (sym e) ∙ h)))
+      | inr ne ↦ rw (← (used_other s.pages p n q ne)) h
+    ]
+
+    bit : (x : Claim) → Among x s.claims → has_bit (used_on s.pages x.page) x.index ≡ true
+        → has_bit (used_on (with_used_on s.pages p n) x.page) x.index ≡ true
+    bit x among was = elim (cases_eq x.page p) [
+      | inr ne ↦ rw (used_other s.pages p n x.page ne) was
+      | inl e ↦ rw e (rw (used_here s.pages p n lt) (elim (cases_Bool (has_bit n x.index)) [
+        | inl stays ↦ stays
+        | inr goes ↦ absurd (true≢false (sym (gives.gone x.index (rw (← e) was) goes) ∙ rw (← e) (kept x among)))
+      ]))
+    ]
+
+    shown : (x : Claim) → Among x s.claims → IsShown s.pages x → IsShown (with_used_on s.pages p n) x
+    shown x among was =
+        record {
+          sized = was.sized;
+          known = was.known;
+          within = let l = len in let w = was.within in omega arith;
+          headers = λ d ld. rw (used_header s.pages p n (x.page + d) lt) (was.headers d ld);
+          used = bit x among was.used;
+        }
+
+    plot : (plot : Plot) → PlotStands s.pages plot → PlotStands (with_used_on s.pages p n) plot
+    plot NoPlot stands = stands
+    plot (Plotted first o) stands =
+        record {
+          sized = stands.sized;
+          within = let l = len in let w = stands.within in omega arith;
+          headers = λ d ld. rw (used_header s.pages p n (first + d) lt) (stands.headers d ld);
+          used =
+              λ d ld. zero_where_none (used_on (with_used_on s.pages p n) (first + d))
+              (λ k h. none_set (used_on s.pages (first + d)) k (stands.used d ld) (fewer (first + d) k h));
+        }
+
+-- `release`: some claims go, and their cells are released
+abbrev Released : LayoutScene → List Claim → LayoutScene
+Released s claims = record s { claims = claims; releasing = true }
+
+pub record Releases (s : LayoutScene) (claims : List Claim) : Type 0 where
+  pub fewer : (x : Claim) → Among x claims → Among x s.claims
+  pub apart : AreApart claims
+  pub gone : (x : Claim) → Among x s.claims
+      → Among x claims ⊎ (is_released_in true s.snapshot s.marks x.page x.index ≡ true)
+
+pub layout_released : (s : LayoutScene) (claims : List Claim) → IsLaidOn s → s.releasing ≡ false → Releases s claims
+    → IsLaidOn (Released s claims)
+layout_released s claims laid off r =
+    record {
+      shown = λ x among. laid.shown x (r.fewer x among);
+      apart = r.apart;
+      used = λ p k h. let t = laid.used p k h in (t.0, by p k t.1);
+      plot = laid.plot;
+      occupied = λ p some empty. inl refl;
+      later = λ p d m is. let l =
+          laid.later p d m is in (
+            l.0,
+            elim l.1 [ inl head ↦ inl head | inr lost ↦ absurd (true≢false (sym lost.0 ∙ off)) ],
+          );
+    }
+  where
+    by : (p k : ℕ) → IsClaimed s.claims p k ⊎ (is_released_on s p k ≡ true)
+        → IsClaimed claims p k ⊎ (is_released_in true s.snapshot s.marks p k ≡ true)
+    by p k (inr was) = absurd (true≢false (sym was ∙ rw off))
+    by p k (inl o) = elim (r.gone o.claim o.among) [
+      | inl stays ↦ inl (record { claim = o.claim; among = stays; page = o.page; index = o.index })
+      | inr goes ↦ inr (rw (← o.index) (rw (← o.page) goes))
+    ]
+
+-- `end`: nothing released is left, and no page without a used cell
+abbrev Ended : LayoutScene → LayoutScene
+Ended s = record s { releasing = false }
+
+pub record Ends (s : LayoutScene) : Type 0 where
+  pub none : (p k : ℕ) → p < length s.pages → is_released_on s p k ≡ false
+  pub settled : (p : ℕ) → p < length s.pages → header_on s.pages p ≢ 0 → used_on s.pages (head_on s.pages p) ≢ 0
+
+pub layout_ended : (s : LayoutScene) → IsLaidOn s → Ends s → IsLaidOn (Ended s)
+layout_ended s laid ends =
+    record {
+      shown = laid.shown;
+      apart = laid.apart;
+      used = λ p k h. let t = laid.used p k h in (t.0, inl (by p k h t.1));
+      plot = laid.plot;
+      occupied = λ p some empty. absurd (ends.settled p (inside p some) some empty);
+      later = λ p d m is. let l =
+          laid.later p d m is in (
+            l.0,
+            inl (elim l.1 [ inl head ↦ head | inr lost ↦ absurd (headless p d m is lost.1) ]),
+          );
+    }
+  where
+    inside : (p : ℕ) → header_on s.pages p ≢ 0 → p < length s.pages
+    inside p some = elim (cases_lt p (length s.pages)) [
+      | inl lt ↦ lt
+      | inr ge ↦ absurd (some (ap (λ (x : Page). x.header) (get_or_past s.pages p free_page ge)))
+    ]
+
+    with_bit : (p k : ℕ) → has_bit (used_on s.pages p) k ≡ true → p < length s.pages
+    with_bit p k h =
+        elim (cases_lt p (length s.pages)) [
+          | inl lt ↦ lt
+          | inr ge ↦ absurd (none_set (used_on s.pages p) k
+              (ap (λ (x : Page). x.used) (get_or_past s.pages p free_page ge)) h)
+        ]
+
+    by : (p k : ℕ) → has_bit (used_on s.pages p) k ≡ true → IsClaimed s.claims p k ⊎ (is_released_on s p k ≡ true)
+        → IsClaimed s.claims p k
+    by p k h (inl o) = o
+    by p k h (inr r) = absurd (true≢false (sym r ∙ ends.none p k (with_bit p k h)))
+
+    not_free : (d : ℕ) (m : Bool) (p : ℕ) → shows_on s.pages p ≡ Some (Later d m) → header_on s.pages p ≢ 0
+    not_free d m p is z = let e : header_of 0 ≡ Some (Later d m) = ap header_of (sym z)
+        ∙ is in true≢false (let y : true ≡ false = cc in y)
+
+    headless : (p d : ℕ) (m : Bool) → shows_on s.pages p ≡ Some (Later d m) → header_on s.pages (p - d) ≡ 0 → ⊥
+    headless p d m is z =
+        let some = not_free d m p is in
+        ends.settled p (inside p some) some (rw is (free_unused s (p - d) laid z))

@@ -1,0 +1,121 @@
+-- How many pages are resident or in a plot, where few change.
+use Rattle.std.proofs.Common.{Bool, List, ap, arith, false, inl, inr, length, refl, sym, true, ℕ, ◌<◌, ◌∙◌, ◌≡◌, ◌≢◌}
+use Rattle.std.proofs.Common.{◌≤◌}
+use Rattle.std.specs.Prelude.{None, Option, Some}
+use Rattle.std.proofs.lemmas.Bool.{cases_eq, cases_lt, or_cases, true≢false, or_left, or_right}
+use Rattle.std.proofs.lemmas.List.{get_or-set_other, get_or-set_same, set_past}
+use Rattle.mk_laws.proofs.Vocabulary.{Block, Config, Free, Header, Later, LeafBlock, LeafRun, Object, Page, Placing}
+use Rattle.mk_laws.proofs.Vocabulary.{Run, World, free_page, header_of, is_resident_page, is_unmapped_header}
+use Rattle.mk_laws.proofs.Vocabulary.{resident_pages, use_under, uses_of_pages}
+use Rattle.mk_geom.specs.PageWords.{use_of_page}
+use Rattle.mk_geom.specs.StorageWords.{page_in}
+use Rattle.mk_laws.specs.Room.{HasRoom, count_below, in_plot, is_taken_page}
+use Rattle.mk_laws.specs.LayoutScene.{NoPlot, Plot, header_on, shows_on, used_on}
+use Rattle.mk_laws.specs.Terrain.{object_now, plot_of}
+use Rattle.mk_laws.proofs.Counts.{count_fewer, count_list}
+use Rattle.mk_laws.proofs.PageSets.{with_header_on, with_used_on}
+use Rattle.mk_books.proofs.PlaceLemmas.{count_by-map}
+
+abbrev pub RoomOn : Config → Object → List Page → Placing → Type 0
+RoomOn c o pages placing = count_below c.pages (is_taken_page pages (plot_of o placing)) ≤ c.resident
+
+abbrev pub is_resident : List Page → ℕ → Bool
+is_resident pages p = is_resident_page (use_of_page (page_in pages p))
+
+-- as few pages are taken as before
+pub room_fewer : (c : Config) (o u : Object) (pages others : List Page) (placing other : Placing)
+    → ((q : ℕ) → q < c.pages → is_taken_page others (plot_of u other) q ≡ true
+    → is_taken_page pages (plot_of o placing) q ≡ true) → RoomOn c o pages placing → RoomOn c u others other
+room_fewer c o u pages others placing other fewer room =
+    let less = count_fewer c.pages (is_taken_page others (plot_of u other)) (is_taken_page pages (plot_of o placing))
+    fewer in
+    omega arith
+
+-- without a plot fewer are
+pub room_unplaced : (c : Config) (o u : Object) (pages others : List Page) (placing other : Placing)
+    → plot_of u other ≡ NoPlot
+    → ((q : ℕ) → q < c.pages → is_resident others q ≡ true → is_resident pages q ≡ true) → RoomOn c o pages placing
+    → RoomOn c u others other
+room_unplaced c o u pages others placing other none fewer room =
+    room_fewer c o u pages others placing other (λ q lt t. or_left (is_resident pages q) (in_plot (plot_of o placing) q)
+    (elim (or_cases (is_resident others q) (in_plot (plot_of u other) q) t) [
+      | inl r ↦ fewer q lt r
+      | inr i ↦ absurd (true≢false (sym i ∙ rw none))
+    ])) room
+
+-- with the same plot, where fewer pages are resident
+pub room_same : (c : Config) (o : Object) (pages others : List Page) (placing : Placing)
+    → ((q : ℕ) → q < c.pages → is_resident others q ≡ true → is_taken_page pages (plot_of o placing) q ≡ true)
+    → RoomOn c o pages placing → RoomOn c o others placing
+room_same c o pages others placing fewer room =
+    room_fewer c o o pages others placing placing
+    (λ q lt t. elim (or_cases (is_resident others q) (in_plot (plot_of o placing) q) t) [
+      | inl r ↦ fewer q lt r
+      | inr i ↦ or_right (is_resident pages q) (in_plot (plot_of o placing) q) i
+    ]) room
+
+-- whether a page is resident is said by its header
+pub resident_use : (x : Option Header) (u v : ℕ) → is_resident_page (use_under x u) ≡ is_resident_page (use_under x v)
+resident_use None u v = refl
+resident_use (Some Free) u v = refl
+resident_use (Some (Block k)) u v = refl
+resident_use (Some (LeafBlock k)) u v = refl
+resident_use (Some (Run n m)) u v = refl
+resident_use (Some (LeafRun n)) u v = refl
+resident_use (Some (Later d m)) u v = refl
+
+pub unmapped_use : (x : Option Header) (u : ℕ) → is_unmapped_header x ≡ true → is_resident_page (use_under x u) ≡ false
+unmapped_use None u h = refl
+unmapped_use (Some Free) u h = refl
+unmapped_use (Some (Run n false)) u h = refl
+unmapped_use (Some (Later d false)) u h = refl
+unmapped_use _ u h = cc
+
+pub resident_used : (pages : List Page) (p n q : ℕ) → is_resident (with_used_on pages p n) q ≡ true
+    → is_resident pages q ≡ true
+resident_used pages p n q h = elim (cases_eq q p) [
+  | inr ne ↦ rw (← (get_or-set_other pages p q (record { header = header_on pages p; used = n }) free_page ne)) h
+  | inl e ↦ elim (cases_lt p (length pages)) [
+    | inl lt ↦
+        let page : page_in (with_used_on pages p n) q ≡ record { header = header_on pages p; used = n } =
+        rw e (get_or-set_same pages p (record { header = header_on pages p; used = n }) free_page lt) in
+        rw e (resident_use (shows_on pages p) (used_on pages p) n
+        ∙ ap (λ (x : Page). is_resident_page (use_of_page x)) (sym page) ∙ h)
+    | inr past ↦ rw (← (set_past pages p (record { header = header_on pages p; used = n }) past)) h
+  ]
+]
+
+-- another page than the one whose header changes
+pub resident_other : (pages : List Page) (p n q : ℕ) → q ≢ p → is_resident (with_header_on pages p n) q ≡ true
+    → is_resident pages q ≡ true
+resident_other pages p n q ne h =
+    rw (← (get_or-set_other pages p q (record { header = n; used = used_on pages p }) free_page ne)) h
+
+-- where the header that it gets isn't that of a resident page
+pub resident_gone : (pages : List Page) (p n q : ℕ) → p < length pages
+    → is_resident_page (use_under (header_of n) (used_on pages p)) ≡ false
+    → is_resident (with_header_on pages p n) q ≡ true → is_resident pages q ≡ true
+resident_gone pages p n q lt out h = elim (cases_eq q p) [
+  | inr ne ↦ resident_other pages p n q ne h
+  | inl e ↦
+      let page : page_in (with_header_on pages p n) q ≡ record { header = n; used = used_on pages p } =
+      rw e (get_or-set_same pages p (record { header = n; used = used_on pages p }) free_page lt) in
+      absurd (true≢false (sym h ∙ rw page out))
+]
+
+pub resident_count : (pages : List Page)
+    → count_below (length pages) (is_resident pages) ≡ resident_pages (uses_of_pages pages)
+resident_count pages = count_list pages free_page (λ (x : Page). is_resident_page (use_of_page x))
+    ∙ sym (count_by-map is_resident_page use_of_page pages)
+
+-- Fewer are resident than are taken.
+pub resident_few : (c : Config) (w : World) → length w.now.words.pages ≡ c.pages → HasRoom c w
+    → resident_pages (uses_of_pages w.now.words.pages) ≤ c.resident
+resident_few c w len room =
+    let pages : List Page = w.now.words.pages in
+    let plot : Plot = plot_of (object_now c w.now) w.now.seats.holding.placing in
+    let less = count_fewer c.pages (is_resident pages) (is_taken_page pages plot)
+    (λ q lt r. or_left (is_resident pages q) (in_plot plot q) r) in
+    let count : count_below c.pages (is_resident pages) ≡ resident_pages (uses_of_pages pages) =
+    rw (← len) (resident_count pages) in
+    omega arith

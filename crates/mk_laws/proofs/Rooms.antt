@@ -1,0 +1,247 @@
+-- No more pages are resident than may be, after each event.
+use Rattle.std.proofs.Common.{Bool, List, ap, arith, false, inl, inr, length, refl, subst, sym, true, ℕ, ◌+◌, ◌-◌, ◌<◌}
+use Rattle.std.proofs.Common.{◌∙◌, ◌≡◌}
+use Rattle.std.specs.Prelude.{None, Option, Some, if◌then◌else◌, nat_le, nat_lt, ◌==◌}
+use Rattle.std.proofs.lemmas.Bool.{and_from, cases_Bool, cases_eq, le-leb, lt-ltb, or_left, or_right}
+use Rattle.mk_laws.proofs.Vocabulary.{Chosen, Config, Granted, IsSized, Object, Page, Place, Placing, RunPages}
+use Rattle.mk_laws.proofs.Vocabulary.{Seat, Step, Unplaced, Used, World, chosen, flight_of, found, header_at}
+use Rattle.mk_laws.proofs.Vocabulary.{header_made, header_of, is_phase, is_resident_page, is_unmapped_header}
+use Rattle.mk_laws.proofs.Vocabulary.{marks_place, nothing_done, object_made, pages_made, place_now, resident_pages}
+use Rattle.mk_laws.proofs.Vocabulary.{seat_exists, taken, use_under, uses_of_pages}
+use Rattle.mk_core.specs.declared.events.Step.TheVariants as step
+use Rattle.mk_core.proofs.ObjectHeaders.{unmapped_is_unmapped}
+use Rattle.mk_core.proofs.PageSteps.{HeadStep, ItCarves, ItEmpties, ItUnmaps, head_step}
+use Rattle.mk_core.proofs.PlacesNow.{AsChosen, AsUsed, ByFit, IsPlaced, placed_now, undecided_new}
+use Rattle.mk_core.proofs.ServingSteps.{IsNextHeader, marks_is}
+use Rattle.mk_core.proofs.Sizes.{large_count, small_pages}
+use Rattle.mk_laws.specs.Protocol.{has_place}
+use Rattle.mk_laws.proofs.Actors.{Meets}
+use Rattle.mk_laws.proofs.Ground.{tally_ground}
+use Rattle.mk_laws.proofs.OthersMoves.{WorldBehind}
+use Rattle.mk_laws.specs.Room.{HasRoom, count_below, in_plot}
+use Rattle.mk_laws.specs.LayoutScene.{Among, NoPlot, Plotted, used_on}
+use Rattle.mk_laws.specs.Ground.{ground_of}
+use Rattle.mk_laws.specs.Terrain.{IsClaimedRun, LayoutStands, RunStands, claims_of, claims_placed, object_now}
+use Rattle.mk_laws.specs.Terrain.{place_claim, plot_of}
+use Rattle.mk_laws.proofs.LayoutBefore.{Before, page_within, reg_leaves_ground}
+use Rattle.mk_laws.proofs.Behind.{object_kind}
+use Rattle.mk_laws.proofs.Counts.{count_range}
+use Rattle.mk_laws.proofs.Fits.{FitsOnFreePages, fits}
+use Rattle.mk_laws.proofs.LayoutHolders.{first_header, holding_object, made_sized, new_has_turn, no_run}
+use Rattle.mk_laws.proofs.LayoutPageKinds.{none_chosen}
+use Rattle.mk_laws.proofs.PageSets.{with_header_on, with_used_on}
+use Rattle.mk_laws.proofs.ResidentPages.{RoomOn, is_resident, resident_count, resident_gone, resident_other}
+use Rattle.mk_laws.proofs.ResidentPages.{resident_used, room_same, room_unplaced, unmapped_use}
+use Rattle.mk_laws.proofs.Serving.{Laid, own_claim, placed_claim}
+
+-- The place is chosen, where this many pages are free.
+chosen_room : (c : Config) (o : Object) (pages : List Page) (place : Place) → length pages ≡ c.pages
+    → FitsOnFreePages c.resident pages o place → RoomOn c o pages (Chosen place)
+chosen_room c o pages place len fit =
+    let range = count_range c.pages place.page (pages_made o) (is_resident pages) in
+    let count : count_below c.pages (is_resident pages) ≡ resident_pages (uses_of_pages pages) =
+    rw (← len) (resident_count pages) in
+    let room = fit.room in
+    omega arith
+
+-- A page of the plot gets its header.
+carved_room : (c : Config) (o : Object) (w : World) (place : Place) (p n : ℕ)
+    → IsNextHeader w.now.words place.page (pages_made o) (header_made o) p n
+    → RoomOn c o w.now.words.pages (Chosen place) → RoomOn c o (with_header_on w.now.words.pages p n) (Chosen place)
+carved_room c o w place p n next room =
+    room_same c o w.now.words.pages (with_header_on w.now.words.pages p n) (Chosen place)
+    (λ q lt r. elim (cases_eq q p) [
+      | inr ne ↦ or_left (is_resident w.now.words.pages q) (in_plot (Plotted place.page o) q)
+          (resident_other w.now.words.pages p n q ne r)
+      | inl e ↦
+          let low = next.from in
+          let near = next.near in
+          or_right (is_resident w.now.words.pages q) (in_plot (Plotted place.page o) q)
+          (and_from (nat_le place.page q) (nat_lt q (place.page + pages_made o)) (le-leb place.page q (omega arith))
+          (lt-ltb q (place.page + pages_made o) (omega arith)))
+    ]) room
+
+abbrev HeadRoom : Config → World → Seat → ℕ → ℕ → Bool → Type 0
+HeadRoom c w seat p n four =
+    RoomOn c (object_now c w.now) (with_header_on w.now.words.pages p n) (if four then w.now.seats.holding.placing
+    else chosen w.now.seats.holding.placing (place_now c w.now (flight_of w.now seat)))
+
+head_room : (c : Config) (w : World) (seat : Seat) (p n : ℕ) → Before c w → seat_exists c seat ≡ true
+    → p < length w.now.words.pages → LayoutStands c w → HasRoom c w → HeadStep c w.now (flight_of w.now seat) p n
+    → RoomOn c (object_now c w.now) (with_header_on w.now.words.pages p n)
+    (if is_phase w.now.words 4 then w.now.seats.holding.placing
+    else chosen w.now.seats.holding.placing (place_now c w.now (flight_of w.now seat)))
+head_room c w seat p n b there lt laid room (ItCarves off x) =
+    let placed = placed_now c w.now (flight_of w.now seat) x.place x.there in
+    let own = holding_object c w.now seat b.known (new_has_turn c w.now seat there placed.new) in
+    let o : Object = object_made c (flight_of w.now seat).op in
+    let sized = made_sized c w.now seat b.limits b.known placed.new in
+    subst (λ four. HeadRoom c w seat p n four) (sym off)
+    (subst (λ (y : Option Place). RoomOn c (object_now c w.now) (with_header_on w.now.words.pages p n)
+    (chosen w.now.seats.holding.placing y)) (sym x.there)
+    (subst (λ (y : Object). RoomOn c y (with_header_on w.now.words.pages p n)
+    (chosen w.now.seats.holding.placing (Some x.place))) (sym own)
+    (by o sized own w.now.seats.holding.placing refl placed.placed x.next)))
+  where
+    by : (o : Object) → IsSized o → object_now c w.now ≡ o → (placing : Placing) → w.now.seats.holding.placing ≡ placing
+        → IsPlaced c.resident w.now.words.pages o x.place placing
+        → IsNextHeader w.now.words x.place.page (pages_made o) (header_made o) p n
+        → RoomOn c o (with_header_on w.now.words.pages p n) (chosen placing (Some x.place))
+    by o sized own Unplaced is (ByFit at) next = elim (fits c.resident w.now.words.pages o x.place sized at) [
+      | inl fit ↦ carved_room c o w x.place p n next (chosen_room c o w.now.words.pages x.place b.lengths.pages fit)
+      | inr fit ↦
+          let one = small_pages o fit.small in
+          let near = next.near in
+          let low = next.from in
+          let d : p - x.place.page ≡ 0 = omega arith in
+          let here : p ≡ x.place.page = omega arith in
+          absurd (next.not_yet (ap (λ q. header_at w.now.words q) here ∙ fit.header
+          ∙ ap (λ e. header_made o e) (sym d)))
+    ]
+    by o sized own (Chosen place) is AsChosen next =
+        carved_room c o w place p n next (subst (λ (y : Placing). RoomOn c o w.now.words.pages y) is
+        (subst (λ (y : Object). RoomOn c y w.now.words.pages w.now.seats.holding.placing) own room))
+    by o sized own (Used place) is AsUsed next =
+        let st = subst (λ (y : Object). Laid c y (is_phase w.now.words 4) w (ground_of w)) own laid in
+        let there : Among (place_claim o place) (claims_placed o w.now.seats.holding.placing) =
+        subst (λ (y : Placing). Among (place_claim o place) (claims_placed o y)) (sym is) (inl refl) in
+        let shown = st.scene.shown (place_claim o place) (placed_claim c o (ground_of w) (place_claim o place) there) in
+        let low = next.from in
+        let back : place.page + (p - place.page) ≡ p = omega arith in
+        absurd (next.not_yet (ap (λ q. header_at w.now.words q) (sym back) ∙ shown.headers (p - place.page) next.near))
+    by o sized own Granted is out next = elim out [ ]
+head_room c w seat p n b there lt laid room (ItUnmaps off x) =
+    subst (λ four. HeadRoom c w seat p n four) (sym off) (by (place_now c w.now (flight_of w.now seat)) refl)
+  where
+    out : is_resident_page (use_under (header_of n) (used_on w.now.words.pages p)) ≡ false
+    out =
+        let r : IsClaimedRun (claims_of c w.now.seats.holding.freed w.allocations) x.run =
+        subst (λ (y : Option RunPages). RunStands (claims_of c w.now.seats.holding.freed w.allocations) y) x.there
+        laid.gone in
+        let sized = (laid.scene.shown r.claim (own_claim c (object_now c w.now) (ground_of w) r.claim r.among)).sized in
+        let range = large_count r.claim.object sized r.large in
+        let low = range.0 in
+        let high = range.1 in
+        let count = r.count in
+        unmapped_use (header_of n) (used_on w.now.words.pages p) (ap (λ v. is_unmapped_header (header_of v)) x.next.is
+        ∙ unmapped_is_unmapped x.run.count (p - x.run.page) (omega arith, omega arith) x.next.near)
+
+    by : (place : Option Place) → place_now c w.now (flight_of w.now seat) ≡ place
+        → RoomOn c (object_now c w.now) (with_header_on w.now.words.pages p n)
+        (chosen w.now.seats.holding.placing place)
+    by (Some place) at =
+        let placed = placed_now c w.now (flight_of w.now seat) place at in
+        let turn = new_has_turn c w.now seat there placed.new in
+        absurd (no_run c w.now seat b.known turn (undecided_new (flight_of w.now seat) placed.new).stage x.run x.there)
+    by None at =
+        subst (λ (y : Placing). RoomOn c (object_now c w.now) (with_header_on w.now.words.pages p n) y)
+        (sym (none_chosen w.now.seats.holding.placing))
+        (room_same c (object_now c w.now) w.now.words.pages (with_header_on w.now.words.pages p n)
+        w.now.seats.holding.placing (λ q lq r. or_left (is_resident w.now.words.pages q)
+        (in_plot (plot_of (object_now c w.now) w.now.seats.holding.placing) q)
+        (resident_gone w.now.words.pages p n q lt out r)) room)
+head_room c w seat p n b there lt laid room (ItEmpties on x) =
+    subst (λ four. HeadRoom c w seat p n four) (sym on)
+    (room_same c (object_now c w.now) w.now.words.pages (with_header_on w.now.words.pages p n)
+    w.now.seats.holding.placing (λ q lq r. or_left (is_resident w.now.words.pages q)
+    (in_plot (plot_of (object_now c w.now) w.now.seats.holding.placing) q) (resident_gone w.now.words.pages p n q lt
+    (ap (λ v. is_resident_page (use_under (header_of v) (used_on w.now.words.pages p))) x.is) r)) room)
+
+mark_room : (c : Config) (w : World) (seat : Seat) (p n : ℕ) → Before c w → seat_exists c seat ≡ true → HasRoom c w
+    → (t : Bool)
+    → marks_place w.now.words (object_made c (flight_of w.now seat).op) (place_now c w.now (flight_of w.now seat)) p n
+    ≡ t → RoomOn c (object_now c w.now) w.now.words.pages
+    (if t then chosen w.now.seats.holding.placing (place_now c w.now (flight_of w.now seat))
+    else w.now.seats.holding.placing)
+mark_room c w seat p n b there room false is = room
+mark_room c w seat p n b there room true is =
+    let x = marks_is w.now.words (object_made c (flight_of w.now seat).op) (place_now c w.now (flight_of w.now seat)) p
+    n is in
+    let placed = placed_now c w.now (flight_of w.now seat) x.place x.there in
+    let own = holding_object c w.now seat b.known (new_has_turn c w.now seat there placed.new) in
+    let o : Object = object_made c (flight_of w.now seat).op in
+    let sized = made_sized c w.now seat b.limits b.known placed.new in
+    let free = ap (λ q. header_at w.now.words q) (sym x.marked.at) ∙ x.marked.free in
+    rw x.there (rw own (by o sized own x.place free w.now.seats.holding.placing refl placed.placed))
+  where
+    by : (o : Object) → IsSized o → object_now c w.now ≡ o → (place : Place) → header_at w.now.words place.page ≡ 0
+        → (placing : Placing) → w.now.seats.holding.placing ≡ placing
+        → IsPlaced c.resident w.now.words.pages o place placing
+        → RoomOn c o w.now.words.pages (chosen placing (Some place))
+    by o sized own place free Unplaced is (ByFit at) = elim (fits c.resident w.now.words.pages o place sized at) [
+      | inl fit ↦ chosen_room c o w.now.words.pages place b.lengths.pages fit
+      | inr fit ↦ absurd (first_header o sized (sym fit.header ∙ free))
+    ]
+    by o sized own place free (Chosen found) is AsChosen = rw is at (rw own at room)
+    by o sized own place free (Used found) is AsUsed = rw is at (rw own at room)
+    by o sized own place free Granted is out = elim out [ ]
+
+used_room : (c : Config) (w : World) (p n : ℕ) (four : Bool) (found : Option Place) → HasRoom c w
+    → RoomOn c (object_now c w.now) (with_used_on w.now.words.pages p n) (if four then w.now.seats.holding.placing
+    else taken w.now.seats.holding.placing found)
+used_room c w p n four found room = by four found
+  where
+    same : RoomOn c (object_now c w.now) (with_used_on w.now.words.pages p n) w.now.seats.holding.placing
+    same =
+        room_same c (object_now c w.now) w.now.words.pages (with_used_on w.now.words.pages p n)
+        w.now.seats.holding.placing (λ q lt r. or_left (is_resident w.now.words.pages q)
+        (in_plot (plot_of (object_now c w.now) w.now.seats.holding.placing) q)
+        (resident_used w.now.words.pages p n q r)) room
+
+    by : (four : Bool) (found : Option Place)
+        → RoomOn c (object_now c w.now) (with_used_on w.now.words.pages p n) (if four then w.now.seats.holding.placing
+        else taken w.now.seats.holding.placing found)
+    by true found = same
+    by false None = same
+    by false (Some place) =
+        room_unplaced c (object_now c w.now) (object_now c w.now) w.now.words.pages (with_used_on w.now.words.pages p n)
+        w.now.seats.holding.placing (Used place) refl (λ q lt r. resident_used w.now.words.pages p n q r) room
+
+-- each kind of event, whatever the seat
+room_by_kind : (c : Config) (w : World) (seat : Seat) (x : Step) → Before c w → Meets c w.now seat x → LayoutStands c w
+    → HasRoom c w → RoomOn c (object_now c w.now) (WorldBehind c w seat x).now.words.pages
+    (WorldBehind c w seat x).now.seats.holding.placing
+room_by_kind c w seat (step.Take o) b h laid room = by (w.now.words.turn == 0)
+  where
+    by : (t : Bool) → RoomOn c (object_now c w.now) w.now.words.pages (if t then nothing_done
+        else w.now.seats.holding).placing
+    by true = room_unplaced c (object_now c w.now) (object_now c w.now) w.now.words.pages w.now.words.pages
+        w.now.seats.holding.placing Unplaced refl (λ q lt r. r) room
+    by false = room
+room_by_kind c w seat step.Give b h laid room =
+    room_unplaced c (object_now c w.now) (object_now c w.now) w.now.words.pages w.now.words.pages
+    w.now.seats.holding.placing Unplaced refl (λ q lt r. r) room
+room_by_kind c w seat step.Reg b h laid room = rw (reg_leaves_ground c w seat).pages room
+room_by_kind c w seat (step.Tally n v) b h laid room = rw (tally_ground w.now.words n v).pages room
+room_by_kind c w seat (step.Head p n) b h laid room =
+    head_room c w seat p n b h.seat (page_within c w p b h.range) laid room
+    (head_step c w.now (flight_of w.now seat) p n h.holder)
+room_by_kind c w seat (step.Used p n) b h laid room =
+    used_room c w p n (is_phase w.now.words 4) (place_now c w.now (flight_of w.now seat)) room
+room_by_kind c w seat step.Grant b h laid room =
+    room_unplaced c (object_now c w.now) (object_now c w.now) w.now.words.pages w.now.words.pages
+    w.now.seats.holding.placing Granted refl (λ q lt r. r) room
+room_by_kind c w seat (step.Mark p n) b h laid room =
+    mark_room c w seat p n b h.seat room
+    (marks_place w.now.words (object_made c (flight_of w.now seat).op) (place_now c w.now (flight_of w.now seat)) p
+    n) refl
+room_by_kind c w seat _ b h laid room = room
+
+no_plot : (o : Object) (placing : Placing) → has_place placing ≡ false → plot_of o placing ≡ NoPlot
+no_plot o (Chosen place) none = cc
+no_plot o (Used place) none = cc
+no_plot o _ none = refl
+
+pub room_behind : (c : Config) (w : World) (seat : Seat) (x : Step) → Before c w → Meets c w.now seat x
+    → LayoutStands c w
+    → HasRoom c w → HasRoom c (WorldBehind c w seat x)
+room_behind c w seat x b h laid room =
+    let v : World = WorldBehind c w seat x in
+    let kind = room_by_kind c w seat x b h laid room in
+    elim (cases_Bool (has_place v.now.seats.holding.placing)) [
+      | inl has ↦ rw (object_kind c w seat x b.known h has) kind
+      | inr none ↦
+          room_unplaced c (object_now c w.now) (object_now c v.now) v.now.words.pages v.now.words.pages
+          v.now.seats.holding.placing v.now.seats.holding.placing
+          (no_plot (object_now c v.now) v.now.seats.holding.placing none) (λ q lt r. r) kind
+    ]

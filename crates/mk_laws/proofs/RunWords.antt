@@ -1,0 +1,155 @@
+-- A run that is unmapped and wiped stays so, up to the `give` of its call.
+use Rattle.std.proofs.Common.{Bool, ap, arith, false, inl, inr, length, refl, subst, suc, sym, true, zero, ℕ, ◌*◌, ◌+◌}
+use Rattle.std.proofs.Common.{◌-◌, ◌/◌, ◌<◌, ◌∙◌, ◌≡◌, ◌≢◌}
+use Rattle.std.specs.Prelude.{List, Option, Some, slice_index, slice_set, ◌&&◌}
+use Rattle.std.proofs.lemmas.Bool.{and_parts, cases_eq, cases_lt, eq-eqb, eqb-true, true≢false}
+use Rattle.std.proofs.lemmas.List.{get_or-set_other, get_or-set_same, set_past}
+use Rattle.mk_laws.proofs.Vocabulary.{Config, Page, PlacedAllocation, RunPages, Seat, Step, Words, World, all_below}
+use Rattle.mk_laws.proofs.Vocabulary.{flight_of, free_page, head_page, header_at, header_of, is_run_gone}
+use Rattle.mk_laws.proofs.Vocabulary.{is_run_unmapped, is_unmapped_header, object_placed, pages_made, placed_at}
+use Rattle.mk_laws.proofs.Vocabulary.{stands, unmapped_header, used_at, word_met, words_are_zero}
+use Rattle.mk_core.specs.declared.events.Step.TheVariants as step
+use Rattle.mk_core.proofs.AllBelow.{all_below-at, all_below_more_is, all_below_zero_is}
+use Rattle.mk_core.proofs.ObjectHeaders.{made_is_mapped, unmapped_is_unmapped}
+use Rattle.mk_core.proofs.PageSteps.{HeadStep, ItCarves, ItEmpties, ItUnmaps, head_step}
+use Rattle.mk_core.proofs.PlacesNow.{placed_now, undecided_new}
+use Rattle.mk_core.proofs.ServingSteps.{IsNextHeader}
+use Rattle.mk_core.proofs.Sizes.{large_count}
+use Rattle.mk_core.proofs.StandingAllocations.{typed_size}
+use Rattle.mk_laws.proofs.Actors.{Meets}
+use Rattle.mk_laws.proofs.SameWords.{Behind}
+use Rattle.mk_laws.specs.Ground.{ground_of}
+use Rattle.mk_laws.specs.Terrain.{LayoutStands, object_now}
+use Rattle.mk_laws.proofs.LayoutHolders.{new_has_turn, no_run}
+use Rattle.mk_laws.proofs.LayoutReadings.{claimed_used}
+use Rattle.mk_laws.proofs.Serving.{own_claim}
+use Rattle.mk_laws.proofs.StandingClaims.{ends_on_pages}
+use Rattle.mk_laws.proofs.KnownWorlds.{KnownWorld}
+use Rattle.mk_laws.proofs.Changes.{Table, headers_kind, is_head, reg_table, tally_table}
+use Rattle.mk_laws.specs.ZeroLaws.{is_heap_store}
+use Rattle.mk_laws.specs.Zeros.{IsWordOfMapped}
+use Rattle.mk_laws.proofs.MappedWords.{mapped_stays}
+use Rattle.mk_laws.proofs.ForImages.{laid_out, run_of}
+
+all_below_from : (n : ℕ) (test : ℕ → Bool) → ((k : ℕ) → k < n → test k ≡ true) → all_below n test ≡ true
+all_below_from zero test h = all_below_zero_is test
+all_below_from (suc n) test h =
+    subst (λ k. all_below k test ≡ true) (omega arith)
+    (all_below_more_is n test (all_below_from n test (λ k lt. h k (omega arith))) (h n (omega arith)))
+
+gone_from : (v : Words) (r : RunPages) → ((d : ℕ) → d < r.count → header_at v (r.page + d) ≡ unmapped_header r.count d)
+    → ((i : ℕ) → i < 64 * r.count → slice_index v.heap (64 * r.page + i) ≡ 0) → is_run_gone v (Some r) ≡ true
+gone_from v r headers words =
+    let unmapped : is_run_unmapped v r ≡ true = all_below_from r.count (stands v r.page (unmapped_header r.count))
+    (λ d lt. eq-eqb _ _ (headers d lt)) in
+    let zeros : words_are_zero v (64 * r.page) (64 * r.count) ≡ true =
+    all_below_from (64 * r.count) _ (λ i lt. eq-eqb _ _ (words i lt)) in
+    ap (λ b. b && words_are_zero v (64 * r.page) (64 * r.count)) unmapped ∙ zeros
+
+module _ (c : Config) (w : World) (known : KnownWorld c w) (laid : LayoutStands c w) (r : RunPages)
+    (is : w.now.seats.holding.freed ≡ Some r)
+    (gone : is_run_gone w.now.words w.now.seats.holding.freed ≡ true) where
+  gone_parts : (is_run_unmapped w.now.words r ≡ true) × (words_are_zero w.now.words (64 * r.page) (64 * r.count) ≡ true)
+  gone_parts =
+      and_parts (is_run_unmapped w.now.words r) (words_are_zero w.now.words (64 * r.page) (64 * r.count))
+      (ap (λ (x : Option RunPages). is_run_gone w.now.words x) (sym is) ∙ gone)
+
+  headers_gone : (d : ℕ) → d < r.count → header_at w.now.words (r.page + d) ≡ unmapped_header r.count d
+  headers_gone d lt = eqb-true _ _
+      (all_below-at r.count d (stands w.now.words r.page (unmapped_header r.count)) gone_parts.0 lt)
+
+  words_gone : (i : ℕ) → i < 64 * r.count → slice_index w.now.words.heap (64 * r.page + i) ≡ 0
+  words_gone i lt = eqb-true _ _ (all_below-at (64 * r.count) i _ gone_parts.1 lt)
+
+  -- No page of it gets another header.
+  head_elsewhere : (seat : Seat) (p n : ℕ) → Meets c w.now seat (step.Head p n) → (d : ℕ) → d < r.count → r.page + d ≢ p
+  head_elsewhere seat p n h d lt at = by (head_step c w.now (flight_of w.now seat) p n h.holder)
+    where
+      by : HeadStep c w.now (flight_of w.now seat) p n → ⊥
+      by (ItCarves off x) =
+          let new = (placed_now c w.now (flight_of w.now seat) x.place x.there).new in
+          no_run c w.now seat known.now (new_has_turn c w.now seat h.seat new)
+          (undecided_new (flight_of w.now seat) new).stage r is
+      by (ItUnmaps off x) =
+          let both : Some x.run ≡ Some r = sym x.there ∙ is in
+          let same : x.run ≡ r = cc in
+          let next : IsNextHeader w.now.words r.page r.count (unmapped_header r.count) p n =
+          subst (λ (y : RunPages). IsNextHeader w.now.words y.page y.count (unmapped_header y.count) p n) same x.next in
+          let distance : p - r.page ≡ d = omega arith in
+          next.not_yet (ap (λ q. header_at w.now.words q) (sym at) ∙ headers_gone d lt
+          ∙ ap (λ e. unmapped_header r.count e) (sym distance))
+      by (ItEmpties on x) =
+          let y = run_of c w known laid r is in
+          let shown = laid.scene.shown y.claim (own_claim c (object_now c w.now) (ground_of w) y.claim y.among) in
+          let page = y.page in
+          let count = y.count in
+          let here : y.claim.page + d ≡ p = omega arith in
+          claimed_used w.now.words.pages y.claim d shown (omega arith)
+          (subst (λ q. used_at w.now.words (head_page w.now.words q) ≡ 0) (sym here) x.unused)
+
+  -- No word of it is one of a mapped allocation.
+  not_mapped : (i : ℕ) → i < 64 * r.count → IsWordOfMapped c w.allocations (64 * r.page + i) → ⊥
+  not_mapped i lt m =
+      let a : PlacedAllocation = placed_at w.allocations m.number in
+      let u = mapped_stays c a m.mapped in
+      let l = laid_out c w known laid m.number u in
+      let sized = typed_size c a known.limits l.stands.typed in
+      let end = ends_on_pages (object_placed c a) a.base sized l.stands.begins in
+      let from = m.word.0 in
+      let to = m.word.1 in
+      let d : ℕ = r.page + i / 64 - a.base / 64 in
+      let near : d < pages_made (object_placed c a) = omega arith in
+      let there : a.base / 64 + d ≡ r.page + i / 64 = omega arith in
+      let y = run_of c w known laid r is in
+      let shown = laid.scene.shown y.claim (own_claim c (object_now c w.now) (ground_of w) y.claim y.among) in
+      let range = large_count y.claim.object shown.sized y.large in
+      let low = range.0 in
+      let high = range.1 in
+      let count = y.count in
+      let some : i / 64 < r.count = omega arith in
+      true≢false (sym (unmapped_is_unmapped r.count (i / 64) (omega arith, omega arith) some)
+      ∙ ap (λ h. is_unmapped_header (header_of h)) (sym (headers_gone (i / 64) some)
+      ∙ ap (λ q. header_at w.now.words q) (sym there) ∙ l.mapped m.mapped d near)
+      ∙ made_is_mapped (object_placed c a) d sized near)
+
+  headers_behind : (seat : Seat) (x : Step) → Meets c w.now seat x → (d : ℕ) → d < r.count
+      → header_at (Behind c w.now seat x).words (r.page + d) ≡ unmapped_header r.count d
+  headers_behind seat (step.Head p n) h d lt =
+      ap (λ (y : Page). y.header)
+      (get_or-set_other w.now.words.pages p (r.page + d) (record { header = n; used = used_at w.now.words p })
+      free_page (head_elsewhere seat p n h d lt)) ∙ headers_gone d lt
+  headers_behind seat x h d lt = rest x refl
+    where
+      rest : (x : Step) → is_head x ≡ false
+          → header_at (Behind c w.now seat x).words (r.page + d) ≡ unmapped_header r.count d
+      rest x other = headers_kind c w.now seat x other (r.page + d) ∙ headers_gone d lt
+
+  words_behind : (seat : Seat) (x : Step) → Meets c w.now seat x
+      → (is_heap_store x ≡ true → IsWordOfMapped c w.allocations (word_met (flight_of w.now seat)))
+      → (i : ℕ) → i < 64 * r.count → slice_index (Behind c w.now seat x).words.heap (64 * r.page + i) ≡ 0
+  words_behind seat step.Reg h stored i lt =
+      ap (λ (t : Table). slice_index t.heap (64 * r.page + i)) (reg_table c w.now seat) ∙ words_gone i lt
+  words_behind seat (step.Tally n v) h stored i lt =
+      ap (λ (t : Table). slice_index t.heap (64 * r.page + i)) (tally_table w.now.words n v) ∙ words_gone i lt
+  words_behind seat step.Write h stored i lt =
+      get_or-set_other w.now.words.heap (word_met (flight_of w.now seat)) (64 * r.page + i) _ 0
+      (λ e. not_mapped i lt (subst (λ n. IsWordOfMapped c w.allocations n) (sym e) (stored refl))) ∙ words_gone i lt
+  words_behind seat step.Cas h stored i lt =
+      get_or-set_other w.now.words.heap (word_met (flight_of w.now seat)) (64 * r.page + i) _ 0
+      (λ e. not_mapped i lt (subst (λ n. IsWordOfMapped c w.allocations n) (sym e) (stored refl))) ∙ words_gone i lt
+  words_behind seat (step.Wipe n) h stored i lt = elim (cases_eq (64 * r.page + i) n) [
+    | inr ne ↦ get_or-set_other w.now.words.heap n (64 * r.page + i) 0 0 ne ∙ words_gone i lt
+    | inl e ↦ elim (cases_lt n (length w.now.words.heap)) [
+      | inl near ↦ ap (λ k. slice_index (slice_set w.now.words.heap n 0) k) e
+          ∙ get_or-set_same w.now.words.heap n 0 0 near
+      | inr past ↦ ap (λ (ys : List ℕ). slice_index ys (64 * r.page + i)) (set_past w.now.words.heap n 0 past)
+          ∙ words_gone i lt
+    ]
+  ]
+  words_behind seat _ h stored i lt = words_gone i lt
+
+  pub gone_behind : (seat : Seat) (x : Step) → Meets c w.now seat x
+      → (is_heap_store x ≡ true → IsWordOfMapped c w.allocations (word_met (flight_of w.now seat)))
+      → is_run_gone (Behind c w.now seat x).words (Some r) ≡ true
+  gone_behind seat x h stored = gone_from (Behind c w.now seat x).words r (headers_behind seat x h)
+      (words_behind seat x h stored)

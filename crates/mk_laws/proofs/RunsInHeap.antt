@@ -1,0 +1,150 @@
+-- A mapped run that a header shows lies in the heap.
+use Rattle.std.proofs.Common.{◌≡◌, ◌≢◌, ℕ, zero, suc, ◌+◌, ◌-◌, ◌*◌, ◌<◌, ◌≤◌, Bool, true, false, List, refl, sym, ◌∙◌}
+use Rattle.std.proofs.Common.{subst, inl, inr, arith}
+use Rattle.std.specs.Prelude.{Option, Some, None, unwrap_or, nat_le, nat_lt, not, ◌==◌, ◌&&◌, if◌then◌else◌}
+use Rattle.std.specs.Prelude.{slice_index_or, slice_set}
+use Rattle.std.proofs.lemmas.Bool.{cases_eq, eqb-true, leb-true, and_parts}
+use Rattle.std.proofs.lemmas.List.{get_or-set_other}
+use Rattle.mk_laws.proofs.Vocabulary.{Config, Flight, Object, Page, Place, Run, RunPages, Words, World, all_below}
+use Rattle.mk_laws.proofs.Vocabulary.{block_header, carves, class_made, empties, free_page, header_at, header_made}
+use Rattle.mk_laws.proofs.Vocabulary.{header_of, is_marked_first, is_next_header, is_small_object, object_made}
+use Rattle.mk_laws.proofs.Vocabulary.{pages_made, place_now, run_header, run_pages_of, stands, unmapped_header}
+use Rattle.mk_laws.proofs.Vocabulary.{unmaps, used_at, word_of}
+use Rattle.mk_geom.specs.Classes.{class_for}
+use Rattle.mk_geom.proofs.HeaderLemmas.{word_of-header_of}
+use Rattle.mk_geom.proofs.ClassTable.{class_for-some}
+use Rattle.mk_laws.proofs.HeaderSteps.{page_set, used_set}
+use Rattle.mk_laws.specs.Ground.{Ground}
+use Rattle.mk_laws.proofs.Ground.{GroundStep, Carves, Unmaps, Empties, TakesCell, GivesBack}
+use Rattle.mk_laws.proofs.NewPlace.{PlaceFits}
+
+-- what a header word at a page shows ends in the heap
+abbrev pub RunFits : Config → ℕ → ℕ → Type 0
+RunFits c page header = (count : ℕ) → header_of header ≡ Some (Run count true) → page + count ≤ c.pages
+
+abbrev pub RunsFit : Config → List Page → Type 0
+RunsFit c pages = (p : ℕ) → RunFits c p (slice_index_or pages p free_page).header
+
+-- the word of a mapped run
+shown_word : (word count : ℕ) → header_of word ≡ Some (Run count true) → 9 + 16 * count ≡ word
+shown_word word count h = (word_of-header_of word (Run count true) h).1
+
+-- of the headers that are stored, only the head of a mapped run shows one
+
+class_small : (words : ℕ) → unwrap_or (class_for words) 0 < 8
+class_small words = by (class_for words) refl
+  where
+    by : (x : Option ℕ) → class_for words ≡ x → unwrap_or x 0 < 8
+    by (Some class) e = (class_for-some words class e).0
+    by None e = omega arith
+
+block_apart : (class count : ℕ) (leaf : Bool) → class < 8 → 9 + 16 * count ≡ word_of (block_header class leaf) → ⊥
+block_apart class count true lt e = omega arith
+block_apart class count false lt e = omega arith
+
+run_shown : (pages count distance : ℕ) (mapped leaf : Bool)
+    → 9 + 16 * count ≡ word_of (run_header pages mapped leaf distance)
+    → (mapped ≡ true) × (distance ≡ 0) × (count ≡ pages)
+run_shown pages count zero true false e = (refl, refl, omega arith)
+run_shown pages count zero false false e = absurd (omega arith)
+run_shown pages count (suc d) true leaf e = absurd (omega arith)
+run_shown pages count (suc d) false leaf e = absurd (omega arith)
+run_shown pages count zero true true e = absurd (omega arith)
+run_shown pages count zero false true e = absurd (omega arith)
+
+made_shown : (o : Object) (distance count : ℕ) → 9 + 16 * count ≡ header_made o distance
+    → (is_small_object o ≡ false) × (distance ≡ 0) × (count ≡ run_pages_of o.words)
+made_shown o distance count e = by (is_small_object o) refl e
+  where
+    by : (b : Bool) → is_small_object o ≡ b
+        → 9 + 16 * count ≡ (if b then word_of (block_header (class_made o) o.leaf)
+        else word_of (run_header (run_pages_of o.words) true o.leaf distance))
+        → (is_small_object o ≡ false) × (distance ≡ 0) × (count ≡ run_pages_of o.words)
+    by true is h = absurd (block_apart (class_made o) count o.leaf (class_small o.words) h)
+    by false is h = let r = run_shown (run_pages_of o.words) count distance true o.leaf h in (is, r.1, r.2)
+
+-- the header that is stored next, and its page
+pub record Next (first page value : ℕ) (wanted : ℕ → ℕ) : Type 0 where
+  pub behind : first ≤ page
+  pub is : value ≡ wanted (page - first)
+
+pub next_is : (w : Words) (first count : ℕ) (wanted : ℕ → ℕ) (page value : ℕ)
+    → is_next_header w first count wanted page value ≡ true → Next first page value wanted
+next_is w first count wanted page value h =
+    let last = and_parts
+    (nat_le first page && nat_lt (page - first) count && not (header_at w page == wanted (page - first))
+    && all_below (page - first) (stands w first wanted))
+    (value == wanted (page - first)) h in
+    let three = and_parts
+    (nat_le first page && nat_lt (page - first) count && not (header_at w page == wanted (page - first)))
+    (all_below (page - first) (stands w first wanted)) last.0 in
+    let two = and_parts (nat_le first page && nat_lt (page - first) count)
+    (not (header_at w page == wanted (page - first))) three.0 in
+    let one = and_parts (nat_le first page) (nat_lt (page - first) count) two.0 in
+    record { behind = leb-true first page one.0; is = eqb-true value (wanted (page - first)) last.1 }
+
+carved_fits : (c : Config) (w : Words) (f : Flight) (place : Option Place) (p n : ℕ)
+    → ((x : Place) → place ≡ Some x → PlaceFits c f.op x)
+    → carves w (object_made c f.op) place p n ≡ true → RunFits c p n
+carved_fits c w f None p n fits h = cc
+carved_fits c w f (Some x) p n fits h = λ count shows.
+    let o = object_made c f.op in
+    let next = next_is w x.page (pages_made o) (header_made o) p n
+    (and_parts (is_next_header w x.page (pages_made o) (header_made o) p n) (is_marked_first w o x) h).0 in
+    let made = made_shown o (p - x.page) count (shown_word n count shows ∙ next.is) in
+    let room = fits x refl made.0 in
+    let at = next.behind in
+    omega (arith, made.1, made.2)
+
+unmapped_fits : (c : Config) (w : Words) (run : Option RunPages) (p n : ℕ) → unmaps w run p n ≡ true → RunFits c p n
+unmapped_fits c w None p n h = cc
+unmapped_fits c w (Some run) p n h = λ count shows.
+    let next = next_is w run.page run.count (unmapped_header run.count) p n h in
+    let made = run_shown run.count count (p - run.page) false false (shown_word n count shows ∙ next.is) in
+    let e : false ≡ true = made.0 in
+    cc
+
+emptied_fits : (c : Config) (w : Words) (p n : ℕ) → empties w p n ≡ true → RunFits c p n
+emptied_fits c w p n h = λ count shows.
+    let word = shown_word n count shows in
+    let zero : n ≡ 0 = eqb-true n 0 (value_zero h) in
+    absurd (omega arith)
+  where
+    value_zero : empties w p n ≡ true → (n == 0) ≡ true
+    value_zero h = first_of_four (n == 0) _ _ _ h
+      where
+        first_of_four : (a b d e : Bool) → (a && b && d && e) ≡ true → a ≡ true
+        first_of_four true b d e h = refl
+        first_of_four false b d e h = cc
+
+-- one page's header is set, or none
+
+header_set : (c : Config) (ps : List Page) (p n u : ℕ) → RunFits c p n → RunsFit c ps
+    → RunsFit c (slice_set ps p (record { header = n; used = u }))
+header_set c ps p n u fits all q = elim (cases_eq q p) [
+  | inl e ↦
+      let own : RunFits c p (slice_index_or (slice_set ps p (record { header = n; used = u })) q free_page).header =
+      page_set ps p q (record { header = n; used = u }) (λ y. RunFits c p y) (λ lt. fits)
+      (λ count shows. rw e at (all q count shows)) in
+      λ count shows. rw e (own count shows)
+  | inr ne ↦ page_set_other ps p q (record { header = n; used = u }) ne (all q)
+]
+  where
+    page_set_other : (ps : List Page) (p q : ℕ) (x : Page) → q ≢ p → RunFits c q (slice_index_or ps q free_page).header
+        → RunFits c q (slice_index_or (slice_set ps p x) q free_page).header
+    page_set_other ps p q x ne h = rw (get_or-set_other ps p q x free_page ne) h
+
+pub runs_behind : (c : Config) (w : World) (f : Flight) (g : Ground)
+    → ((x : Place) → place_now c w.now f ≡ Some x → PlaceFits c f.op x)
+    → RunsFit c w.now.words.pages → GroundStep c w f g → RunsFit c g.pages
+runs_behind c w f g fits all (Carves p n own at) =
+    header_set c w.now.words.pages p n (used_at w.now.words p)
+    (carved_fits c w.now.words f (place_now c w.now f) p n fits own) all
+runs_behind c w f g fits all (Unmaps p n own at) =
+    header_set c w.now.words.pages p n (used_at w.now.words p)
+    (unmapped_fits c w.now.words w.now.seats.holding.freed p n own) all
+runs_behind c w f g fits all (Empties p n own at) =
+    header_set c w.now.words.pages p n (used_at w.now.words p) (emptied_fits c w.now.words p n own) all
+runs_behind c w f g fits all (TakesCell p n once own at) = λ q. used_set w.now.words p q n (λ y. RunFits c q y) (all q)
+runs_behind c w f g fits all (GivesBack p n own at) = λ q. used_set w.now.words p q n (λ y. RunFits c q y) (all q)
+runs_behind c w f g fits all _ = all

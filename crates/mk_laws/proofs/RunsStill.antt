@@ -1,0 +1,118 @@
+-- What others leave to the turn's holder of the heap's words: those that lie in no mapped allocation, and the run that
+-- it has unmapped and wiped.
+use Rattle.std.proofs.Common.{Bool, List, ap, false, inl, inr, refl, subst, sym, true, ℕ, ◌++◌, ◌∙◌, ◌∷◌, ◌≡◌, []}
+use Rattle.std.proofs.lemmas.Bool.{cases_Bool}
+use Rattle.std.specs.Prelude.{None, Option, Some, slice_index}
+use Rattle.std.proofs.lemmas.List.{get_or-set_other}
+use Rattle.mk_laws.proofs.Vocabulary.{AreOfOthers, Config, Event, Holding, Holds, IsHistory, PlacedAllocation}
+use Rattle.mk_laws.proofs.Vocabulary.{RunPages, Seat, Steady, Step, World, flight_of, is_one_of, is_run_gone, left}
+use Rattle.mk_laws.proofs.Vocabulary.{word_met}
+use Rattle.mk_core.specs.declared.events.Step.TheVariants as step
+use Rattle.mk_laws.proofs.Actors.{Meets, is_holders}
+use Rattle.mk_laws.proofs.ProtocolFrames.{left_after, other_seat}
+use Rattle.mk_laws.proofs.Known.{holds_turn}
+use Rattle.mk_laws.proofs.Orderly.{same_holder}
+use Rattle.mk_laws.proofs.OrderlyLists.{actor_of}
+use Rattle.mk_laws.proofs.OthersMoves.{WorldBehind}
+use Rattle.mk_laws.proofs.Views.{HoldsTurn, view_of}
+use Rattle.mk_laws.proofs.Changes.{Table, reg_table, tally_table}
+use Rattle.mk_laws.proofs.KnownWorlds.{KnownWorld}
+use Rattle.mk_laws.specs.Terrain.{LayoutStands}
+use Rattle.mk_laws.specs.ZeroLaws.{is_heap_store}
+use Rattle.mk_laws.specs.Zeros.{IsWordOfMapped}
+use Rattle.mk_laws.proofs.InvariantJoined.{told_to_zeros}
+use Rattle.mk_laws.proofs.RunWords.{gone_behind}
+use Rattle.mk_laws.proofs.Grown.{along_others}
+use Rattle.mk_laws.proofs.FramesHolders.{acts_as_holder}
+use Rattle.mk_laws.proofs.LastEvents.{comes_last, stands}
+
+abbrev is_wipe : Step → Bool
+is_wipe (step.Wipe n) = true
+is_wipe _ = false
+
+-- Only the turn's holder wipes.
+wipe_is_holders : (x : Step) → is_wipe x ≡ true → is_holders x ≡ true
+wipe_is_holders (step.Wipe n) w = refl
+wipe_is_holders _ w = cc
+
+-- A word of no mapped allocation is changed by the holder alone.
+heap_after : (c : Config) (w : World) (seat : Seat) (x : Step) → (is_wipe x ≡ false)
+    → (is_heap_store x ≡ true → IsWordOfMapped c w.allocations (word_met (flight_of w.now seat)))
+    → (n : ℕ) → (IsWordOfMapped c w.allocations n → ⊥)
+    → slice_index (WorldBehind c w seat x).now.words.heap n ≡ slice_index w.now.words.heap n
+heap_after c w seat step.Reg no_wipe stored n none = ap (λ (t : Table). slice_index t.heap n) (reg_table c w.now seat)
+heap_after c w seat (step.Tally t v) no_wipe stored n none =
+    ap (λ (t : Table). slice_index t.heap n) (tally_table w.now.words t v)
+heap_after c w seat step.Write no_wipe stored n none =
+    get_or-set_other w.now.words.heap _ n _ 0 (λ e. none (rw e (stored refl)))
+heap_after c w seat step.Cas no_wipe stored n none =
+    get_or-set_other w.now.words.heap _ n _ 0 (λ e. none (rw e (stored refl)))
+heap_after c w seat (step.Wipe i) no_wipe stored n none = cc
+heap_after c w seat _ no_wipe stored n none = refl
+
+gone_after : (c : Config) (w : World) (seat : Seat) (x : Step) (freed : Option RunPages) → KnownWorld c w
+    → LayoutStands c w → w.now.seats.holding.freed ≡ freed
+    → Meets c w.now seat x → (is_heap_store x ≡ true → IsWordOfMapped c w.allocations (word_met (flight_of w.now seat)))
+    → is_run_gone w.now.words w.now.seats.holding.freed ≡ true
+    → is_run_gone (WorldBehind c w seat x).now.words freed ≡ true
+gone_after c w seat x None known laid is h stored gone = refl
+gone_after c w seat x (Some r) known laid is h stored gone = gone_behind c w known laid r is gone seat x h stored
+
+-- what the turn's holder finds
+pub record HolderFinds (c : Config) (s : Seat) (w v : World) : Type 0 where
+  pub holds : Holds c v.now s
+  pub holding : v.now.seats.holding ≡ w.now.seats.holding
+  pub allocations : v.allocations ≡ w.allocations
+  pub gone : is_run_gone w.now.words w.now.seats.holding.freed ≡ true
+      → is_run_gone v.now.words w.now.seats.holding.freed ≡ true
+  pub outside : (n : ℕ) → (IsWordOfMapped c w.allocations n → ⊥)
+      → slice_index v.now.words.heap n ≡ slice_index w.now.words.heap n
+
+abbrev Finds : Config → Seat → List Event → List Event → Type 0
+Finds c s es fs = Holds c (left c es).now s → HolderFinds c s (left c es) (left c fs)
+
+finds_joined : (c : Config) (s : Seat) (w u v : World) → (Holds c w.now s → HolderFinds c s w u)
+    → (Holds c u.now s → HolderFinds c s u v) → Holds c w.now s → HolderFinds c s w v
+finds_joined c s w u v x y holds =
+    let a = x holds in
+    let b = y a.holds in
+    record {
+      holds = b.holds;
+      holding = b.holding ∙ a.holding;
+      allocations = b.allocations ∙ a.allocations;
+      gone = λ e. rw (ap (λ (h : Holding). h.freed) a.holding) at (b.gone (rw a.holding (a.gone e)));
+      outside = λ n none. b.outside n (λ m. none (rw a.allocations at m)) ∙ a.outside n none;
+    }
+
+finds_one : (c : Config) (s : Seat) (es : List Event) (e : Event) → IsHistory c (es ++ e ∷ [])
+    → is_one_of (s ∷ []) e.seat ≡ false → Finds c s es (es ++ e ∷ [])
+finds_one c s es e h other holds =
+    let last = comes_last c es e h in
+    let st = stands c es last.before in
+    let w : World = left c es in
+    let ne = other_seat s e.seat other in
+    let own = left_after c w e.seat s e.step st.known.now last.meets ne in
+    let stored = (told_to_zeros c w _ st.known st.all e last.on last.admitted).stored in
+    let turn = own.turn holds in
+    let out : HoldsTurn c (view_of w.now) e.seat → ⊥ =
+    λ t. ne (same_holder c (view_of w.now) e.seat s st.known.now.orderly t
+    (holds_turn c w.now s st.known.now.orderly holds)) in
+    let no_wipe : is_wipe e.step ≡ false = elim (cases_Bool (is_wipe e.step)) [
+      | inr e' ↦ e'
+      | inl e' ↦ absurd (out (acts_as_holder c w.now e.seat e.step (actor_of c w.now e.seat e.step st.known.now.orderly
+          last.meets) (wipe_is_holders e.step e')))
+    ] in
+    rw last.leaves (record {
+      holds = (own.own.holding holds).0;
+      holding = (own.own.holding holds).1;
+      allocations = ap (λ (y : Steady). y.allocations) turn.steady;
+      gone = gone_after c w e.seat e.step w.now.seats.holding.freed st.known st.all.order.laid refl last.meets stored;
+      outside = heap_after c w e.seat e.step no_wipe stored;
+    })
+
+pub holder_finds : (c : Config) (s : Seat) (es more : List Event) → IsHistory c (es ++ more) → AreOfOthers (s ∷ []) more
+    → Holds c (left c es).now s → HolderFinds c s (left c es) (left c (es ++ more))
+holder_finds c s es more h others =
+    along_others c (s ∷ []) (Finds c s)
+    (λ xs holds. record { holds = holds; holding = refl; allocations = refl; gone = λ e. e; outside = λ n none. refl })
+    (λ xs ys zs. finds_joined c s (left c xs) (left c ys) (left c zs)) (finds_one c s) es more h others

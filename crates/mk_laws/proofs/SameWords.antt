@@ -1,0 +1,54 @@
+-- The moment after an event, and steps that leave the words of the protocol as they are.
+use Rattle.std.proofs.Common.{◌≡◌, ℕ, List, refl, sym, subst}
+use Rattle.mk_laws.proofs.Vocabulary.{Access, Config, Flight, Holding, Load, MarkerState, Moment, Named, Seat, Step}
+use Rattle.mk_laws.proofs.Vocabulary.{Store, Tally, Words, accessed, found, tally_word}
+use Rattle.mk_core.specs.declared.events.Tally.TheVariants as tally
+use Rattle.mk_core.specs.declared.events.Word.TheVariants as word
+use Rattle.mk_core.specs.Effects.{moment_behind}
+use Rattle.mk_laws.proofs.Views.{View, view_of}
+use Rattle.mk_laws.proofs.ProtocolMoves.{Move}
+
+abbrev pub Behind : Config → Moment → Seat → Step → Moment
+Behind c m seat x = moment_behind c m (record { seat = seat; step = x })
+
+abbrev pub Moves : Config → Moment → Seat → Step → Type 0
+Moves c m seat x = Move c (view_of m) seat (view_of (Behind c m seat x))
+
+abbrev pub finds : Config → Moment → Seat → Step → ℕ
+finds c m seat x = found c m (record { seat = seat; step = x })
+
+-- the words of the protocol are the same
+pub record Keeps (w x : Words) : Type 0 where
+  pub turn : x.turn ≡ w.turn
+  pub phase : x.phase ≡ w.phase
+  pub gates : x.gates ≡ w.gates
+
+pub reg_keeps : (w : Words) (k r : ℕ) (a : Access) → Keeps w (accessed w (Named (word.Reg k r)) a)
+reg_keeps w k r Load = record { turn = refl; phase = refl; gates = refl }
+reg_keeps w k r _ = record { turn = refl; phase = refl; gates = refl }
+
+pub tally_keeps : (w : Words) (n : Tally) (v : ℕ) → Keeps w (accessed w (Named (tally_word n)) (Store v))
+tally_keeps w tally.Held v = record { turn = refl; phase = refl; gates = refl }
+tally_keeps w _ v = record { turn = refl; phase = refl; gates = refl }
+
+-- a move, where the words of the protocol are the same
+pub with_words : (c : Config) (v : View) (seat : Seat) (w x : Words) (fs : List Flight) (h : Holding)
+    (ms : List MarkerState) → Keeps w x
+    → Move c v seat (record {
+      turn = w.turn;
+      phase = w.phase;
+      gates = w.gates;
+      flights = fs;
+      holding = h;
+      markers = ms;
+    })
+    → Move c v seat (record {
+      turn = x.turn;
+      phase = x.phase;
+      gates = x.gates;
+      flights = fs;
+      holding = h;
+      markers = ms;
+    })
+with_words c v seat w x fs h ms same move =
+    rw same.turn (rw same.phase (rw same.gates move))

@@ -1,0 +1,188 @@
+-- What the images tell the other groups.
+use Rattle.std.proofs.Common.{◌≡◌, ◌≢◌, ◌⊎◌, ℕ, ◌+◌, ◌-◌, ◌*◌, ◌/◌, true, false, refl, sym, ap, subst, ◌∙◌, inl, inr}
+use Rattle.std.proofs.Common.{arith}
+use Rattle.std.specs.Prelude.{◌&&◌, not, Option, Some}
+use Rattle.std.proofs.lemmas.Bool.{cases_eq, ltb-true, false≢true}
+use Rattle.mk_laws.proofs.Vocabulary.{AreAdmitted, Caller, Cell, Config, Flight, Host, IsAdmitted, IsNumber}
+use Rattle.mk_laws.proofs.Vocabulary.{IsPointer, IsSound, Kind, Marker, MeetsAll, NeverState, Null, Num, Op, Ptr}
+use Rattle.mk_laws.proofs.Vocabulary.{RunPages, Seat, Stage, Step, Value, World, asked, bases_of, call_decided}
+use Rattle.mk_laws.proofs.Vocabulary.{cell_of_allocation, flight_of, i_of, image_of, is_marked, is_none_or}
+use Rattle.mk_laws.proofs.Vocabulary.{is_undecided_free, object_placed, p_of, phase_of, placed_at, pointed_cell}
+use Rattle.mk_laws.proofs.Vocabulary.{register_at, target, word_met}
+use Rattle.mk_never.specs.declared.operations.Op.TheVariants as op
+use Rattle.mk_core.specs.declared.events.Step.TheVariants as step
+use Rattle.mk_core.specs.declared.seats.Stage.TheVariants as stage
+use Rattle.mk_core.proofs.Conditions.{enabled_meets}
+use Rattle.mk_core.proofs.PlacesNow.{target_is}
+use Rattle.mk_core.proofs.StandingAllocations.{typed_size, run_begins, run_cell}
+use Rattle.mk_laws.proofs.Standings.{standing_at, is_astray}
+use Rattle.mk_laws.proofs.Stages.{is_call_stage}
+use Rattle.mk_laws.proofs.NextSteps.{at_its_stage}
+use Rattle.mk_laws.proofs.OrderlyLists.{not_astray}
+use Rattle.mk_laws.proofs.Protocols.{protocol_of}
+use Rattle.mk_laws.specs.Images.{image_scene_of, is_put, CarriesOwn, ProbedOwn}
+use Rattle.mk_laws.specs.SafeSets.{IsSafe}
+use Rattle.mk_laws.specs.ImagePremises.{ImagePremises}
+use Rattle.mk_laws.specs.Mirrors.{Mirrors}
+use Rattle.mk_laws.specs.ImagesSay.{IsCellOfUnreleased, IsMappedWord, ImagesSay}
+use Rattle.mk_laws.proofs.KnownWorlds.{KnownWorld}
+use Rattle.mk_laws.proofs.ImagesKept.{own_plain, exists_placed}
+use Rattle.mk_laws.proofs.ImagesStands.{Stands, stands_of, is_gone}
+use Rattle.mk_laws.proofs.Ready.{Ready}
+use Rattle.mk_laws.proofs.Reached.{Reaches, reaches}
+use Rattle.mk_laws.proofs.ImagesBefore.{words_fit, unmapped_is, ready_of}
+use Rattle.mk_laws.proofs.RegMoves.{flight}
+use Rattle.mk_laws.proofs.ImagesFreeing.{decided_free_gives}
+use Rattle.mk_laws.proofs.FreeMoves.{pointer_cell}
+use Rattle.mk_laws.proofs.CallSorts.{call_outside, admitted_call, literal}
+
+module _ (c : Config) (w : World) (n : NeverState) (known : KnownWorld c w) (others : ImagePremises c w)
+    (mirrors : Mirrors c w n) where
+  st : Stands c w.now.words w.allocations
+  st = stands_of c w known.limits others
+
+  ready : Ready c.globals mirrors.safe.0 (image_scene_of w) n
+  ready = ready_of c w n known mirrors st mirrors.safe.0 mirrors.safe.1
+
+  own_sound : (k r : ℕ) → IsSound n (register_at n k r)
+  own_sound k r = mirrors.typed.registers (8 * k + r)
+
+  own_safe : (k r : ℕ) → IsSafe mirrors.safe.0 (register_at n k r)
+  own_safe k r = mirrors.safe.1.registers (8 * k + r)
+
+  -- The target of a Free
+
+  value_cell : (v : Value) (p : ℕ) (cell : Cell) → IsSound n v → IsSafe mirrors.safe.0 v
+      → p ≡ image_of (bases_of w.allocations) v → p ≢ 0
+      → pointed_cell c.pages w.now.words.pages p ≡ Some cell → IsCellOfUnreleased c w cell
+  value_cell Null p cell sound is e ne points = absurd (ne e)
+  value_cell (Num m) p cell sound is e ne points = absurd sound
+  value_cell (Ptr a t o) p cell sound is e ne points =
+      let here : Some (cell_of_allocation c (placed_at w.allocations a)) ≡ Some cell =
+      sym (pointer_cell c w n known mirrors mirrors.safe.0 ready st a t o p sound is e) ∙ points in
+      record { number = a; unreleased = mirrors.safe.1.unreleased a is; cell = cc }
+
+  free_target : (k : ℕ) (s : Stage) (o : Op) (q p r l : ℕ) (cell : Cell) → is_undecided_free (flight s o q p r l) ≡ true
+      → pointed_cell c.pages w.now.words.pages p ≡ Some cell
+      → CarriesOwn (bases_of w.allocations) n k (flight s o q p r l) → IsCellOfUnreleased c w cell
+  free_target k stage.Turn (op.Free p') q p r l cell undecided points car =
+      value_cell (register_at n k p') p cell (own_sound k p') (own_safe k p') (car.p refl) (car.some_p refl) points
+  free_target k _ _ q p r l cell undecided points car = absurd (false≢true undecided)
+
+  target_cell : (seat : Seat) (cell : Cell) → target c.pages w.now.words (flight_of w.now seat) ≡ Some cell
+      → IsCellOfUnreleased c w cell
+  target_cell (Caller k) cell e =
+      let f = flight_of w.now (Caller k) in
+      let is = target_is c.pages w.now.words f cell e in
+      free_target k f.stage f.op f.q f.p f.r f.loaded cell is.free is.pointed (ready.images.carried k)
+  target_cell _ cell e = cc
+
+  -- The run of a Free, at the end of a stop
+
+  run_marked : phase_of w.now.words ≡ 3 → (run : RunPages) → w.now.seats.holding.freed ≡ Some run
+      → is_marked w.now.words (record { page = run.page; index = 0 }) ≡ true
+  run_marked phase run e =
+      let who = (protocol_of c w.now known.now).freed run e in
+      let k = who.caller in
+      let f = flight_of w.now (Caller k) in
+      let points = mirrors.freed_run run e k who.holds in
+      let owner = others.freed_run run e in
+      let x = placed_at w.allocations owner.number in
+      let h = others.laid_out owner.number owner.unreleased in
+      let sized = typed_size c x known.limits h.stands.typed in
+      let start = (run_begins (object_placed c x) x.base owner.large h.stands.begins).1 in
+      let page : run.page ≡ x.base / 64 = ap (λ (r : RunPages). r.page) owner.is in
+      let is : IsSafe mirrors.safe.0 (Ptr points.number points.ty points.offset) =
+      subst (λ (v : Value). IsSafe mirrors.safe.0 v) points.is (own_safe k (p_of f.op)) in
+      let sound : IsSound n (Ptr points.number points.ty points.offset) =
+      subst (λ (v : Value). IsSound n v) points.is (own_sound k (p_of f.op)) in
+      let there = mirrors.safe.1.unreleased points.number is in
+      let one : points.number ≡ owner.number = elim (cases_eq points.number owner.number) [
+        | inl same ↦ same
+        | inr ne ↦ absurd (others.apart points.number owner.number there owner.unreleased ne
+            (let b = points.base in omega arith))
+      ] in
+      let plain : is_put f.stage ≡ false = ap is_put (decided_free_gives f.stage f.op who.holds) in
+      let word = own_plain (image_scene_of w) n ready.images k (p_of f.op) (ready.small k).1 plain
+      ∙ ap (image_of (bases_of w.allocations)) points.is in
+      let cell = pointer_cell c w n known mirrors mirrors.safe.0 ready st points.number points.ty points.offset _ sound
+      is word in
+      let well = (others.marks phase).registers (8 * k + p_of f.op) in
+      subst (λ p. is_marked w.now.words (record { page = p; index = 0 }) ≡ true) (sym page)
+      (subst (λ (y : Cell). is_marked w.now.words y ≡ true)
+      (ap (λ i. cell_of_allocation c (placed_at w.allocations i)) one ∙ run_cell c x sized owner.large)
+      (ap (λ (y : Option Cell). is_none_or (is_marked w.now.words) y) (sym cell) ∙ well))
+
+  -- The word that a caller stores to
+
+  reached_word : (k i q : ℕ) (v : Value) (P : Kind → Type 0) → Reaches mirrors.safe.0 (image_scene_of w) n v q i P
+      → IsMappedWord c w ((q - 65536) / 8 + i)
+  reached_word k i q v P to =
+      let x = placed_at w.allocations to.number in
+      let lt = exists_placed w.allocations to.number to.unreleased in
+      let fits = words_fit c w n known mirrors to.number lt in
+      let gone = sym (unmapped_is c w n known mirrors to.number lt) ∙ to.mapped in
+      let word = to.word in
+      let inside = to.inside in
+      record {
+        number = to.number;
+        mapped = rw to.unreleased (ap not gone);
+        word = (omega arith, omega arith);
+      }
+
+  write_word : (k : ℕ) (o : Op) (q p r l : ℕ) → is_astray (standing_at stage.Write o) ≡ false
+      → CarriesOwn (bases_of w.allocations) n k (flight stage.Write o q p r l)
+      → ProbedOwn n k (flight stage.Write o q p r l)
+      → IsAdmitted c.globals n k o → IsMappedWord c w ((q - 65536) / 8 + i_of o)
+  write_word k (op.SetNum q' i m) q p r l a car pro ad =
+      reached_word k i q _ IsNumber
+      (reaches c.globals mirrors.safe.0 (image_scene_of w) n ready (register_at n k q') q i IsNumber (car.q refl)
+      (car.some_q refl) (own_sound k q') (own_safe k q') (pro refl) ad.access)
+  write_word k (op.SetPtr q' i p') q p r l a car pro ad =
+      reached_word k i q _ IsPointer
+      (reaches c.globals mirrors.safe.0 (image_scene_of w) n ready (register_at n k q') q i IsPointer (car.q refl)
+      (car.some_q refl) (own_sound k q') (own_safe k q') (pro refl) ad.access)
+  write_word k (op.New d ty full) q p r l a car pro ad = cc
+  write_word k _ q p r l a car pro ad = cc
+
+  cas_word : (k : ℕ) (o : Op) (q p r l : ℕ) → is_astray (standing_at stage.Cas o) ≡ false
+      → CarriesOwn (bases_of w.allocations) n k (flight stage.Cas o q p r l)
+      → ProbedOwn n k (flight stage.Cas o q p r l)
+      → IsAdmitted c.globals n k o → IsMappedWord c w ((q - 65536) / 8 + i_of o)
+  cas_word k (op.CasPtr q' i p' r') q p r l a car pro ad =
+      reached_word k i q _ IsPointer
+      (reaches c.globals mirrors.safe.0 (image_scene_of w) n ready (register_at n k q') q i IsPointer (car.q refl)
+      (car.some_q refl) (own_sound k q') (own_safe k q') (pro refl) ad.access)
+  cas_word k (op.New d ty full) q p r l a car pro ad = cc
+  cas_word k _ q p r l a car pro ad = cc
+
+  stored_word : (k : ℕ) (x : Step) → (x ≡ step.Write) ⊎ (x ≡ step.Cas)
+      → MeetsAll c w.now (record { seat = Caller k; step = x })
+      → AreAdmitted c.globals n (asked (call_decided c w.now (record { seat = Caller k; step = x })))
+      → IsMappedWord c w (word_met (flight_of w.now (Caller k)))
+  stored_word k step.Write is h ad =
+      let f = flight_of w.now (Caller k) in
+      let at = at_its_stage f.stage f.op step.Write refl h.order in
+      let a = not_astray c w.now known.now.orderly k (ltb-true k c.callers h.seat) in
+      let lit = literal f stage.Write at in
+      write_word k f.op f.q f.p f.r f.loaded (subst (λ (s : Stage). is_astray (standing_at s f.op) ≡ false) at a)
+      (rw lit at (ready.images.carried k)) (rw lit at (ready.images.probed k))
+      (admitted_call c.globals n k f.op _ (call_outside f.op f.stage (ap is_call_stage at) a) ad)
+  stored_word k step.Cas is h ad =
+      let f = flight_of w.now (Caller k) in
+      let at = at_its_stage f.stage f.op step.Cas refl h.order in
+      let a = not_astray c w.now known.now.orderly k (ltb-true k c.callers h.seat) in
+      let lit = literal f stage.Cas at in
+      cas_word k f.op f.q f.p f.r f.loaded (subst (λ (s : Stage). is_astray (standing_at s f.op) ≡ false) at a)
+      (rw lit at (ready.images.carried k)) (rw lit at (ready.images.probed k))
+      (admitted_call c.globals n k f.op _ (call_outside f.op f.stage (ap is_call_stage at) a) ad)
+  stored_word k _ (inl e) h ad = cc
+  stored_word k _ (inr e) h ad = cc
+
+  pub images_say : ImagesSay c w n
+  images_say =
+      record {
+        target = target_cell;
+        marked = run_marked;
+        stored = λ k x now. stored_word k x now.step (enabled_meets c w.now _ now.enabled) now.admitted;
+      }

@@ -1,0 +1,163 @@
+-- What a marker scans lies in the heap.
+use Rattle.std.proofs.Common.{◌≡◌, ℕ, ◌+◌, ◌*◌, ◌<◌, ◌≤◌, Bool, true, false, refl, sym, ◌∙◌, ap, subst, arith}
+use Rattle.std.specs.Prelude.{Option, Some, None, is_some, is_none, nat_lt, ◌==◌, ◌&&◌, if◌then◌else◌}
+use Rattle.std.proofs.lemmas.Bool.{eqb-true, ltb-true, and_parts}
+use Rattle.mk_laws.proofs.Vocabulary.{Block, Cell, Config, Free, Header, Later, LeafBlock, LeafRun, Run, Scan}
+use Rattle.mk_laws.proofs.Vocabulary.{SeenHeader, Step, Word, behind_mlook, cell_at, cell_seen, cells_under}
+use Rattle.mk_laws.proofs.Vocabulary.{class_words_of, has_bit, has_next_word, has_no_pointers, has_seen_cell}
+use Rattle.mk_laws.proofs.Vocabulary.{header_of, is_attending, is_scanned, marker_behind, marker_may, next_word}
+use Rattle.mk_laws.proofs.Vocabulary.{page_at_address, scan_begun, scan_claimed, scan_onward, scan_page, seen_page}
+use Rattle.mk_laws.proofs.Vocabulary.{words_under}
+use Rattle.mk_geom.proofs.ClassTable.{cell_ends}
+use Rattle.mk_core.specs.declared.events.Step.TheVariants as step
+use Rattle.mk_core.specs.declared.events.Word.TheVariants as word
+use Rattle.mk_core.specs.declared.seats.Marker.{Marker}
+use Rattle.mk_laws.proofs.RunsInHeap.{RunFits}
+use Rattle.mk_core.proofs.PointedPages.{cell_within}
+
+pub record MarkerFits (c : Config) (x : Marker) : Type 0 where
+  pub seen : (s : SeenHeader) → x.seen ≡ Some s → RunFits c s.page s.header
+  pub page : (s : Scan) → x.scan ≡ Some s → s.page < c.pages
+  pub end : (s : Scan) → x.scan ≡ Some s → s.end ≤ 64 * c.pages
+
+pub nothing_fits : (c : Config) (x : Marker) → x.seen ≡ None → x.scan ≡ None → MarkerFits c x
+nothing_fits c x no_seen no_scan =
+    record {
+      seen = λ s e. absurd (apart s (sym no_seen ∙ e));
+      page = λ s e. absurd (apart s (sym no_scan ∙ e));
+      end = λ s e. absurd (apart s (sym no_scan ∙ e));
+    }
+  where
+    apart : {A : Type 0} (s : A) → None ≡ Some s → ⊥
+    apart s e = cc
+
+-- a scan that is begun under a header
+
+scan_end : (c : Config) (p i : ℕ) (h : Option Header) → p < c.pages → i < cells_under h
+    → ((count : ℕ) → h ≡ Some (Run count true) → p + count ≤ c.pages)
+    → 64 * p + i * words_under h + (if has_no_pointers h then 0 else words_under h) ≤ 64 * c.pages
+scan_end c p i (Some (Block class)) lt li fits = omega (arith, cell_ends i (class_words_of class) li)
+scan_end c p i (Some (LeafBlock class)) lt li fits = omega (arith, cell_ends i (class_words_of class) li)
+scan_end c p i (Some (Run count true)) lt li fits =
+    let room = fits count refl in
+    let z : i ≡ 0 = omega arith in
+    rw z (omega arith)
+scan_end c p i (Some (Run count false)) lt li fits =
+    let z : i ≡ 0 = omega arith in
+    rw z (omega arith)
+scan_end c p i (Some (LeafRun count)) lt li fits =
+    let z : i ≡ 0 = omega arith in
+    rw z (omega arith)
+scan_end c p i _ lt li fits = absurd (omega arith)
+
+seen_cell : (x : Option SeenHeader) (p i : ℕ) → has_seen_cell x p i ≡ true → (s : SeenHeader) → x ≡ Some s
+    → (s.page ≡ p) × (i < cells_under (header_of s.header))
+seen_cell None p i h s e = cc
+seen_cell (Some seen) p i h s e =
+    let both = and_parts (seen.page == p) (nat_lt i (cells_under (header_of seen.header))) h in
+    subst (λ (y : SeenHeader). (y.page ≡ p) × (i < cells_under (header_of y.header))) (same seen s e)
+    (eqb-true seen.page p both.0, ltb-true i (cells_under (header_of seen.header)) both.1)
+  where
+    same : (a b : SeenHeader) → Some a ≡ Some b → a ≡ b
+    same a b e = cc
+
+claimed_is : (p i marks : ℕ) (x : Option SeenHeader) (s : Scan) → scan_claimed p i marks x ≡ Some s
+    → (h : SeenHeader) × (x ≡ Some h) × (s ≡ scan_begun p i h.header)
+claimed_is p i marks None s e = cc
+claimed_is p i marks (Some h) s e = (h, refl, by (has_bit marks i) e)
+  where
+    by : (b : Bool) → (if b then Some (scan_begun p i h.header) else None) ≡ Some s → s ≡ scan_begun p i h.header
+    by true e = cc
+    by false e = cc
+
+claims : (c : Config) (p i marks : ℕ) (x : Marker) → p < c.pages → has_seen_cell x.seen p i ≡ true → MarkerFits c x
+    → MarkerFits c (record x { scan = scan_claimed p i marks x.seen })
+claims c p i marks x lt seen h =
+    record {
+      seen = h.seen;
+      page = λ s e. let k = claimed_is p i marks x.seen s e in rw k.2 lt;
+      end = λ s e.
+          let k = claimed_is p i marks x.seen s e in
+          let at = seen_cell x.seen p i seen k.0 k.1 in
+          let fits : (count : ℕ) → header_of k.0.header ≡ Some (Run count true)
+          → p + count ≤ c.pages = λ count shows. rw at.0 at (h.seen k.0 k.1 count shows) in
+          rw k.2 (scan_end c p i (header_of k.0.header) lt at.1 fits);
+    }
+
+loads : (c : Config) (hand : Option ℕ) (x : Marker) → MarkerFits c x
+    → MarkerFits c (record x { scan = scan_onward x.scan; hand = hand })
+loads c hand x h = record {
+  seen = h.seen;
+  page = λ s e. by_page x.scan h.page s e;
+  end = λ s e. by_end x.scan h.end s e;
+}
+  where
+    by_page : (o : Option Scan) → ((s : Scan) → o ≡ Some s → s.page < c.pages) → (s : Scan) → scan_onward o ≡ Some s
+        → s.page < c.pages
+    by_page (Some t) k s e = subst (λ (y : Scan). y.page < c.pages) (same _ s e) (k t refl)
+      where
+        same : (a b : Scan) → Some a ≡ Some b → a ≡ b
+        same a b e = cc
+    by_page None k s e = cc
+
+    by_end : (o : Option Scan) → ((s : Scan) → o ≡ Some s → s.end ≤ 64 * c.pages) → (s : Scan) → scan_onward o ≡ Some s
+        → s.end ≤ 64 * c.pages
+    by_end (Some t) k s e = subst (λ (y : Scan). y.end ≤ 64 * c.pages) (same _ s e) (k t refl)
+      where
+        same : (a b : Scan) → Some a ≡ Some b → a ≡ b
+        same a b e = cc
+    by_end None k s e = cc
+
+looks : (c : Config) (n : ℕ) (w : Word) (x : Marker) → ((p : ℕ) → w ≡ word.Head p → RunFits c p n) → MarkerFits c x
+    → MarkerFits c (behind_mlook c n w x)
+looks c n (word.Head p) x fits h =
+    record {
+      seen = λ s e. subst (λ (t : SeenHeader). RunFits c t.page t.header) (same _ s e) (fits p refl);
+      page = h.page;
+      end = h.end;
+    }
+  where
+    same : (a b : SeenHeader) → Some a ≡ Some b → a ≡ b
+    same a b e = cc
+looks c n _ x fits h = record { seen = λ s e. cc; page = h.page; end = h.end }
+
+-- where a marker steps that finds n
+pub marker_fits_behind : (c : Config) (n : ℕ) (s : Step) (x : Marker)
+    → ((p : ℕ) → s ≡ step.Mlook (word.Head p) → RunFits c p n)
+    → ((p i : ℕ) → s ≡ step.Claim p i → p < c.pages)
+    → marker_may c x s ≡ true → MarkerFits c x → MarkerFits c (marker_behind c n s x)
+marker_fits_behind c n step.Attend x looked claimed m h = nothing_fits c _ refl refl
+marker_fits_behind c n step.Quit x looked claimed m h = nothing_fits c _ refl refl
+marker_fits_behind c n (step.Mlook w) x looked claimed m h = looks c n w x (λ p e. looked p (rw e)) h
+marker_fits_behind c n (step.Claim p i) x looked claimed m h =
+    claims c p i n x (claimed p i refl)
+    (and_parts (is_attending x.presence && is_none x.scan) (has_seen_cell x.seen p i) m).1 h
+marker_fits_behind c n step.Mload x looked claimed m h = loads c _ x h
+marker_fits_behind c n step.Mmark x looked claimed m h = record { seen = h.seen; page = h.page; end = h.end }
+marker_fits_behind c n step.Mblack x looked claimed m h = record { seen = h.seen; page = λ s e. cc; end = λ s e. cc }
+marker_fits_behind c n _ x looked claimed m h = h
+
+-- the words that a scan and a hand reach
+
+pub next_in_heap : (c : Config) (x : Option Scan) → has_next_word x ≡ true
+    → ((s : Scan) → x ≡ Some s → s.end ≤ 64 * c.pages) → next_word x < 64 * c.pages
+next_in_heap c (Some s) h fits = let lt = ltb-true s.next s.end h in let le = fits s refl in omega arith
+next_in_heap c None h fits = cc
+
+pub scan_page_in_heap : (c : Config) (x : Option Scan) → is_scanned x ≡ true
+    → ((s : Scan) → x ≡ Some s → s.page < c.pages) → scan_page x < c.pages
+scan_page_in_heap c (Some s) h fits = fits s refl
+scan_page_in_heap c None h fits = cc
+
+pub seen_page_in_heap : (c : Config) (s : Option SeenHeader) (hand : Option ℕ) → is_some (cell_seen c s hand) ≡ true
+    → seen_page (cell_seen c s hand) < c.pages
+seen_page_in_heap c (Some s) (Some value) h =
+    by (s.page == page_at_address value) (cell_at c.pages s.header value) refl h
+  where
+    by : (b : Bool) (cell : Option Cell) → cell_at c.pages s.header value ≡ cell
+        → is_some (if b then cell else None) ≡ true → seen_page (if b then cell else None) < c.pages
+    by true (Some cell) e h = (cell_within c.pages s.header value cell e).0
+    by true None e h = cc
+    by false cell e h = cc
+seen_page_in_heap c (Some s) None h = cc
+seen_page_in_heap c None hand h = cc

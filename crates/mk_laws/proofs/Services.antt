@@ -1,0 +1,116 @@
+-- What the turn's holder has done in its call: where a New is, and what a Free has freed.
+use Rattle.std.proofs.Common.{◌≡◌, true, false, refl, sym, ◌∙◌, ap}
+use Rattle.std.specs.Prelude.{Option, None, is_some}
+use Rattle.mk_laws.proofs.Vocabulary.{Flight, Granted, Holding, Op, Placing, RunPages, Stage, Unplaced, is_free_at}
+use Rattle.mk_laws.proofs.Vocabulary.{is_new_at, is_undecided_free, is_undecided_new}
+use Rattle.mk_never.specs.declared.operations.Op.TheVariants as op
+use Rattle.mk_core.specs.declared.seats.Stage.TheVariants as stage
+use Rattle.mk_laws.specs.Protocol.{has_place, is_granted, is_decided_new_at, is_decided_free_at}
+use Rattle.mk_laws.proofs.Standings.{UnderTurn, standing}
+use Rattle.mk_laws.proofs.Stages.{gives_stand}
+
+-- what is done is done for a call at this stage
+pub record Serves (s : Stage) (o : Op) (placing : Placing) (run : Option RunPages) : Type 0 where
+  pub placed : has_place placing ≡ true → is_new_at s o ≡ true
+  pub granted : is_granted placing ≡ true → is_decided_new_at s o ≡ true
+  pub freed : is_some run ≡ true → is_decided_free_at s o ≡ true
+
+abbrev pub Served : Flight → Holding → Type 0
+Served f h = Serves f.stage f.op h.placing h.freed
+
+-- how the holder's call and what it has done go on
+pub data Service (f : Flight) (h : Holding) : Flight → Holding → Type 0 where
+  Goes : (g : Holding) → g.placing ≡ h.placing → g.freed ≡ h.freed → Service f h f g
+  Loads : (g : Flight) → f.stage ≡ stage.LoadP → standing g ≡ UnderTurn → is_undecided_new g ≡ false → Service f h g h
+  Places : (g : Holding) → is_undecided_new f ≡ true → (is_granted g.placing ≡ true → is_granted h.placing ≡ true)
+      → g.freed ≡ h.freed → Service f h f g
+  Fills : is_undecided_new f ≡ true → h.placing ≡ Unplaced → Service f h (record f { stage = stage.Give }) h
+  Grants : is_undecided_new f ≡ true → Service f h (record f { stage = stage.Give }) (record h { placing = Granted })
+  Frees : (g : Holding) → is_undecided_free f ≡ true → g.placing ≡ h.placing
+      → Service f h (record f { stage = stage.Give }) g
+
+-- the call stays under the turn, and a seat without a call has none
+
+pub service_stands : (f : Flight) (h : Holding) (g : Flight) (i : Holding) → standing f ≡ UnderTurn → Service f h g i
+    → standing g ≡ UnderTurn
+service_stands f h g i is (Goes _ p q) = is
+service_stands f h g i is (Loads _ at stands no_new) = stands
+service_stands f h g i is (Places _ new p q) = is
+service_stands f h g i is _ = gives_stand f.stage f.op is
+
+pub service_rests : (f : Flight) (h : Holding) (g : Flight) (i : Holding) → f.stage ≡ stage.Idle → Service f h g i
+    → g ≡ f
+service_rests f h g i idle (Loads _ at stands no_new) = let e : stage.Idle ≡ stage.LoadP = sym idle ∙ at in cc
+service_rests f h g i idle (Fills new p) = let e : false ≡ true = ap (λ (s : Stage). is_new_at s f.op) (sym idle)
+    ∙ new in cc
+service_rests f h g i idle (Grants new) = let e : false ≡ true = ap (λ (s : Stage). is_new_at s f.op) (sym idle)
+    ∙ new in cc
+service_rests f h g i idle (Frees _ free p) = let e : false ≡ true = ap (λ (s : Stage). is_free_at s f.op) (sym idle)
+    ∙ free in cc
+service_rests f h g i idle _ = refl
+
+-- what the stages exclude
+
+new_decided : (s : Stage) (o : Op) → is_new_at s o ≡ true → is_decided_new_at stage.Give o ≡ true
+new_decided stage.Turn (op.New d ty full) h = refl
+new_decided _ _ h = cc
+
+free_decided : (s : Stage) (o : Op) → is_free_at s o ≡ true → is_decided_free_at stage.Give o ≡ true
+free_decided stage.Turn (op.Free p) h = refl
+free_decided _ _ h = cc
+
+new_gives_none : (s : Stage) (o : Op) → is_new_at s o ≡ true
+    → (is_decided_new_at s o ≡ false) × (is_decided_free_at s o ≡ false)
+new_gives_none stage.Turn (op.New d ty full) h = (refl, refl)
+new_gives_none _ _ h = cc
+
+free_gives_none : (s : Stage) (o : Op) → is_free_at s o ≡ true
+    → (is_new_at s o ≡ false) × (is_decided_new_at s o ≡ false)
+free_gives_none stage.Turn (op.Free p) h = (refl, refl)
+free_gives_none _ _ h = cc
+
+load_gives_none : (s : Stage) (o : Op) → s ≡ stage.LoadP
+    → (is_new_at s o ≡ false) × (is_decided_new_at s o ≡ false) × (is_decided_free_at s o ≡ false)
+load_gives_none stage.LoadP o h = (refl, refl, refl)
+load_gives_none _ o h = cc
+
+pub served_on : (f : Flight) (h : Holding) (g : Flight) (i : Holding) → Served f h → Service f h g i → Served g i
+served_on f h g i s (Goes _ p q) =
+    record {
+      placed = λ e. s.placed (ap has_place (sym p) ∙ e);
+      granted = λ e. s.granted (ap is_granted (sym p) ∙ e);
+      freed = λ e. s.freed (ap is_some (sym q) ∙ e);
+    }
+served_on f h g i s (Loads _ at stands no_new) =
+    let none = load_gives_none f.stage f.op at in
+    record {
+      placed = λ e. let x : true ≡ false = sym (s.placed e) ∙ none.0 in cc;
+      granted = λ e. let x : true ≡ false = sym (s.granted e) ∙ none.1 in cc;
+      freed = λ e. let x : true ≡ false = sym (s.freed e) ∙ none.2 in cc;
+    }
+served_on f h g i s (Places _ new p q) =
+    record { placed = λ e. new; granted = λ e. s.granted (p e); freed = λ e. s.freed (ap is_some (sym q) ∙ e) }
+served_on f h g i s (Fills new p) =
+    let none = new_gives_none f.stage f.op new in
+    record {
+      placed = λ e. let x : false ≡ true = ap has_place (sym p) ∙ e in cc;
+      granted = λ e. new_decided f.stage f.op new;
+      freed = λ e. let x : true ≡ false = sym (s.freed e) ∙ none.1 in cc;
+    }
+served_on f h g i s (Grants new) =
+    let none = new_gives_none f.stage f.op new in
+    record {
+      placed = λ e. cc;
+      granted = λ e. new_decided f.stage f.op new;
+      freed = λ e. let x : true ≡ false = sym (s.freed e) ∙ none.1 in cc;
+    }
+served_on f h g i s (Frees _ free p) =
+    let none = free_gives_none f.stage f.op free in
+    record {
+      placed = λ e. let x : true ≡ false = sym (s.placed (ap has_place (sym p) ∙ e)) ∙ none.0 in cc;
+      granted = λ e. let x : true ≡ false = sym (s.granted (ap is_granted (sym p) ∙ e)) ∙ none.1 in cc;
+      freed = λ e. free_decided f.stage f.op free;
+    }
+
+pub nothing_served : (s : Stage) (o : Op) → Serves s o Unplaced None
+nothing_served s o = record { placed = λ e. cc; granted = λ e. cc; freed = λ e. cc }

@@ -1,0 +1,255 @@
+-- The steps of a New and of a Free on the terrain: `head`, `used`, `mark`.
+use Rattle.std.proofs.Common.{Bool, List, ap, append-nil, arith, false, inl, inr, length, refl, subst, sym, true, ℕ, []}
+use Rattle.std.proofs.Common.{◌++◌, ◌+◌, ◌-◌, ◌<◌, ◌∙◌, ◌∷◌, ◌≡◌, ◌≢◌, ◌≤◌}
+use Rattle.std.specs.Prelude.{Option, Some, not}
+use Rattle.mk_laws.proofs.Vocabulary.{Chosen, Config, Granted, IsSized, Object, Place, Placing, RunPages, Unplaced}
+use Rattle.mk_laws.proofs.Vocabulary.{Used, World, cells_made, chosen, header_at, header_made, is_used_once}
+use Rattle.mk_laws.proofs.Vocabulary.{pages_made, unmapped_header, used_at}
+use Rattle.mk_core.proofs.PageSteps.{Empties, GivesBack, Unmaps}
+use Rattle.mk_core.proofs.PlacesNow.{AsChosen, AsUsed, ByFit, IsPlaced}
+use Rattle.mk_core.proofs.ServingSteps.{IsCellTaken, IsNextHeader}
+use Rattle.mk_core.proofs.Sizes.{cells_some, pages_some, small_pages}
+use Rattle.mk_core.proofs.WordBits.{fewer_bits}
+use Rattle.mk_laws.specs.LayoutScene.{Among, Claim, InPlot, IsLaidOn, IsPlotShown, Plotted, LayoutScene}
+use Rattle.mk_laws.specs.LayoutScene.{is_released_in}
+use Rattle.mk_laws.specs.Ground.{Ground, ground_of}
+use Rattle.mk_laws.specs.Terrain.{HasLayout, IsClaimedRun, RunStands, claims_of, claims_on, claims_placed}
+use Rattle.mk_laws.specs.Terrain.{place_claim, plot_of, layout_scene_of}
+use Rattle.mk_laws.proofs.Fits.{FitsOnFreePages, fits}
+use Rattle.mk_laws.proofs.LayoutJoined.{among_back, among_front}
+use Rattle.mk_laws.proofs.PageSets.{with_header_on, with_used_on}
+use Rattle.mk_laws.proofs.Placing.{layout_carved, layout_chosen, layout_taken}
+use Rattle.mk_laws.proofs.Releasing.{layout_emptied, layout_given_back}
+use Rattle.mk_laws.proofs.Unmapping.{layout_page_unmapped}
+
+-- a terrain that is laid out, with the marks of this world
+abbrev pub Laid : Config → Object → Bool → World → Ground → Type 0
+Laid c o releasing w t = HasLayout c o releasing w.now.words.marks t
+
+-- with another placing that is the same
+placed_as : (c : Config) (o : Object) (releasing : Bool) (w : World) (t : Ground) (placing : Placing)
+    → t.placing ≡ placing → Laid c o releasing w t → Laid c o releasing w (record t { placing = placing })
+placed_as c o releasing w t placing is st = rw is at st
+
+-- the claim of an allocation is one of the terrain's
+pub own_claim : (c : Config) (o : Object) (t : Ground) (x : Claim) → Among x (claims_of c t.run t.allocations)
+    → Among x (claims_on c o t)
+own_claim c o t x i = among_front (claims_of c t.run t.allocations) (claims_placed o t.placing) x i
+
+pub placed_claim : (c : Config) (o : Object) (t : Ground) (x : Claim) → Among x (claims_placed o t.placing)
+    → Among x (claims_on c o t)
+placed_claim c o t x i = among_back (claims_of c t.run t.allocations) (claims_placed o t.placing) x i
+
+-- `head` (d): a page with nothing on it is free
+pub head_empties : (c : Config) (o : Object) (w : World) (p n : ℕ) → p < length w.now.words.pages
+    → Laid c o true w (ground_of w) → Empties w.now.words p n
+    → Laid c o true w (record (ground_of w) { pages = with_header_on w.now.words.pages p n })
+head_empties c o w p n lt st h =
+    record {
+      scene = rw h.is
+          (layout_emptied (layout_scene_of c o true w.now.words.marks (ground_of w)) p st.scene lt refl h.unused);
+      gone = st.gone;
+      first = st.first;
+      cells = st.cells;
+    }
+
+-- `head` (c): a page of the run that the call freed is unmapped
+pub head_unmaps : (c : Config) (o : Object) (releasing : Bool) (w : World) (p n : ℕ)
+    → Laid c o releasing w (ground_of w) → Unmaps w.now.words w.now.seats.holding.freed p n
+    → Laid c o releasing w (record (ground_of w) { pages = with_header_on w.now.words.pages p n })
+head_unmaps c o releasing w p n st h =
+    let x : IsClaimedRun (claims_of c w.now.seats.holding.freed w.allocations) h.run =
+    subst (λ (r : Option RunPages). RunStands (claims_of c w.now.seats.holding.freed w.allocations) r) h.there st.gone
+    in
+    let next = h.next in
+    let page = x.page in
+    let count = x.count in
+    let near = next.near in
+    let low = next.from in
+    let at : x.claim.page + (p - h.run.page) ≡ p = omega arith in
+    let value : unmapped_header (pages_made x.claim.object) (p - h.run.page) ≡ n = rw count (sym next.is) in
+    record {
+      scene = subst (λ q. IsLaidOn (layout_scene_of c o releasing w.now.words.marks
+          (record (ground_of w) { pages = with_header_on w.now.words.pages q n }))) at (rw value at
+          (layout_page_unmapped (layout_scene_of c o releasing w.now.words.marks (ground_of w)) x.claim
+          (p - h.run.page) st.scene (own_claim c o (ground_of w) x.claim x.among) x.mode x.large (omega arith)));
+      gone = st.gone;
+      first = st.first;
+      cells = st.cells;
+    }
+
+-- The place is chosen, where its pages are free.
+chosen_free : (c : Config) (o : Object) (releasing : Bool) (w : World) (place : Place)
+    → Laid c o releasing w (ground_of w) → w.now.seats.holding.placing ≡ Unplaced → IsSized o
+    → FitsOnFreePages c.resident w.now.words.pages o place
+    → Laid c o releasing w (record (ground_of w) { placing = Chosen place })
+chosen_free c o releasing w place st is sized fit =
+    let was = placed_as c o releasing w (ground_of w) Unplaced is st in
+    record {
+      scene = layout_chosen (layout_scene_of c o releasing w.now.words.marks (record (ground_of w) {
+        placing =
+            Unplaced;
+      })) place.page o was.scene refl sized fit.within fit.free;
+      gone = st.gone;
+      first = fit.index;
+      cells = st.cells;
+    }
+
+-- `head` (b), where the place is chosen
+carved_on : (c : Config) (o : Object) (w : World) (place : Place) (p n : ℕ)
+    → Laid c o false w (record (ground_of w) { placing = Chosen place })
+    → IsNextHeader w.now.words place.page (pages_made o) (header_made o) p n
+    → Laid c o false w (record (ground_of w) { pages = with_header_on w.now.words.pages p n; placing = Chosen place })
+carved_on c o w place p n st next =
+    let low = next.from in
+    let at : place.page + (p - place.page) ≡ p = omega arith in
+    record {
+      scene = subst (λ q. IsLaidOn (layout_scene_of c o false w.now.words.marks
+          (record (ground_of w) { pages = with_header_on w.now.words.pages q n; placing = Chosen place }))) at
+          (rw next.is
+          (layout_carved (layout_scene_of c o false w.now.words.marks (record (ground_of w) { placing = Chosen place }))
+          place.page o (p - place.page) st.scene refl refl (record {
+            within = next.near;
+            not_yet = λ e. next.not_yet (ap (λ q. header_at w.now.words q) (sym at) ∙ e);
+            before = next.before;
+          })));
+      gone = st.gone;
+      first = st.first;
+      cells = st.cells;
+    }
+
+-- `head` (a) and (b): a page of the place gets its header
+pub head_carves : (c : Config) (o : Object) (w : World) (place : Place) (p n : ℕ) → Laid c o false w (ground_of w)
+    → IsSized o → IsPlaced c.resident w.now.words.pages o place w.now.seats.holding.placing
+    → IsNextHeader w.now.words place.page (pages_made o) (header_made o) p n → Laid c o false w (record (ground_of w) {
+      pages = with_header_on w.now.words.pages p n;
+      placing = chosen w.now.seats.holding.placing (Some place);
+    })
+head_carves c o w place p n st sized placed next = by w.now.seats.holding.placing refl placed
+  where
+    by : (placing : Placing) → w.now.seats.holding.placing ≡ placing
+        → IsPlaced c.resident w.now.words.pages o place placing → Laid c o false w (record (ground_of w) {
+          pages = with_header_on w.now.words.pages p n;
+          placing = chosen placing (Some place);
+        })
+    by Unplaced is (ByFit at) = elim (fits c.resident w.now.words.pages o place sized at) [
+      | inl fit ↦ carved_on c o w place p n (chosen_free c o false w place st is sized fit) next
+      | inr fit ↦
+          let one = small_pages o fit.small in
+          let near = next.near in
+          let low = next.from in
+          let d : p - place.page ≡ 0 = omega arith in
+          let here : p ≡ place.page = omega arith in
+          absurd (next.not_yet (ap (λ q. header_at w.now.words q) here ∙ fit.header
+          ∙ ap (λ e. header_made o e) (sym d)))
+    ]
+    by (Chosen place) is AsChosen =
+        carved_on c o w place p n (placed_as c o false w (ground_of w) (Chosen place) is st) next
+    by (Used place) is AsUsed =
+        let own : Among (place_claim o place) (claims_placed o w.now.seats.holding.placing) =
+        subst (λ (x : Placing). Among (place_claim o place) (claims_placed o x)) (sym is) (inl refl) in
+        let shown = st.scene.shown (place_claim o place) (placed_claim c o (ground_of w) (place_claim o place) own) in
+        let low = next.from in
+        let there : place.page + (p - place.page) ≡ p = omega arith in
+        absurd (next.not_yet (ap (λ q. header_at w.now.words q) (sym there) ∙ shown.headers (p - place.page) next.near))
+    by Granted is out = elim out [ ]
+
+-- `mark` (b): the place is chosen before its first header is stored
+pub mark_places : (c : Config) (o : Object) (releasing : Bool) (w : World) (place : Place)
+    → Laid c o releasing w (ground_of w) → IsSized o
+    → IsPlaced c.resident w.now.words.pages o place w.now.seats.holding.placing → header_at w.now.words place.page ≡ 0
+    → header_made o 0 ≢ 0
+    → Laid c o releasing w (record (ground_of w) { placing = chosen w.now.seats.holding.placing (Some place) })
+mark_places c o releasing w place st sized placed free made = by w.now.seats.holding.placing refl placed
+  where
+    by : (placing : Placing) → w.now.seats.holding.placing ≡ placing
+        → IsPlaced c.resident w.now.words.pages o place placing
+        → Laid c o releasing w (record (ground_of w) { placing = chosen placing (Some place) })
+    by Unplaced is (ByFit at) = elim (fits c.resident w.now.words.pages o place sized at) [
+      | inl fit ↦ chosen_free c o releasing w place st is sized fit
+      | inr fit ↦ absurd (made (sym fit.header ∙ free))
+    ]
+    by (Chosen place) is AsChosen = placed_as c o releasing w (ground_of w) (Chosen place) is st
+    by (Used place) is AsUsed = placed_as c o releasing w (ground_of w) (Used place) is st
+    by Granted is out = elim out [ ]
+
+-- `used` (a): the cell of the place is taken
+no_claims : (xs : List Claim) (x : Claim) → (xs ++ []) ++ x ∷ [] ≡ xs ++ x ∷ []
+no_claims xs x = rw (append-nil xs)
+
+taken_at : (c : Config) (o : Object) (releasing : Bool) (w : World) (placing : Placing) (place : Place) (p n : ℕ)
+    → Laid c o releasing w (record (ground_of w) { placing = placing })
+    → claims_placed o placing ≡ [] → IsCellTaken w.now.words o place p n → IsSized o → place.index < cells_made o
+    → place.page + pages_made o ≤ length w.now.words.pages
+    → ((q : ℕ) → InPlot (plot_of o placing) q → InPlot (Plotted place.page o) q)
+    → Laid c o releasing w (record (ground_of w) { pages = with_used_on w.now.words.pages p n; placing = Used place })
+taken_at c o releasing w placing place p n st none next sized index within plot =
+    let xs : List Claim = claims_of c w.now.seats.holding.freed w.allocations in
+    let s : LayoutScene = layout_scene_of c o releasing w.now.words.marks (ground_of w) in
+    let was : IsLaidOn (record s { claims = xs ++ []; plot = plot_of o placing }) = rw none at st.scene in
+    record {
+      scene =
+          rw next.at (rw (no_claims xs (place_claim o place)) at
+          (layout_taken (record s { claims = xs ++ []; plot = plot_of o placing }) (place_claim o place) n was (record {
+            sized = sized;
+            mapped = refl;
+            index = index;
+            within = within;
+            headers = next.headers;
+            unset = rw (← next.at) next.unused;
+            value = next.is ∙ rw next.at;
+            plot = plot;
+          })));
+      gone = st.gone;
+      first = tt;
+      cells = st.cells;
+    }
+
+pub used_takes : (c : Config) (o : Object) (releasing : Bool) (w : World) (place : Place) (p n : ℕ)
+    → Laid c o releasing w (ground_of w) → IsSized o → header_made o 0 ≢ 0
+    → is_used_once w.now.seats.holding.placing ≡ false
+    → IsPlaced c.resident w.now.words.pages o place w.now.seats.holding.placing → IsCellTaken w.now.words o place p n
+    → Laid c o releasing w (record (ground_of w) { pages = with_used_on w.now.words.pages p n; placing = Used place })
+used_takes c o releasing w place p n st sized made once placed next = by w.now.seats.holding.placing refl once placed
+  where
+    by : (placing : Placing) → w.now.seats.holding.placing ≡ placing → is_used_once placing ≡ false
+        → IsPlaced c.resident w.now.words.pages o place placing → Laid c o releasing w
+        (record (ground_of w) { pages = with_used_on w.now.words.pages p n; placing = Used place })
+    by Unplaced is once (ByFit at) = elim (fits c.resident w.now.words.pages o place sized at) [
+      | inl fit ↦
+          let zero : place.page + 0 ≡ place.page = omega arith in
+          let some = pages_some o sized in
+          absurd (made (sym (next.headers 0 (omega arith)) ∙ fit.free 0 (omega arith)))
+      | inr fit ↦
+          let one = small_pages o fit.small in
+          let lt = fit.within in
+          taken_at c o releasing w Unplaced place p n (placed_as c o releasing w (ground_of w) Unplaced is st) refl next
+          sized fit.index (omega arith) (λ q out. absurd out)
+    ]
+    by (Chosen place) is once AsChosen =
+        let here = placed_as c o releasing w (ground_of w) (Chosen place) is st in
+        let plot : IsPlotShown w.now.words.pages place.page o = here.scene.plot in
+        let first : place.index ≡ 0 = here.first in
+        let some = cells_some o sized in
+        taken_at c o releasing w (Chosen place) place p n here refl next sized (omega arith) plot.within (λ q i. i)
+    by (Used place) is once AsUsed = cc
+    by Granted is once out = elim out [ ]
+
+-- `used` (b): released cells are given back
+pub used_gives_back : (c : Config) (o : Object) (w : World) (p n : ℕ) → p < length w.now.words.pages
+    → Laid c o true w (ground_of w) → GivesBack w.now.words p n → ((x : Claim) → Among x (claims_on c o (ground_of w))
+    → is_released_in true w.now.words.snapshot w.now.words.marks x.page x.index ≡ false)
+    → Laid c o true w (record (ground_of w) { pages = with_used_on w.now.words.pages p n })
+used_gives_back c o w p n lt st h apart =
+    record {
+      scene = layout_given_back (layout_scene_of c o true w.now.words.marks (ground_of w)) p n st.scene lt refl
+          (record {
+            fewer = λ k bit. fewer_bits n (used_at w.now.words p) k h.fewer bit;
+            gone = λ k bit out.
+                let goes = h.gone k bit out in
+                rw goes.0 (ap not goes.1);
+          }) apart;
+      gone = st.gone;
+      first = st.first;
+      cells = st.cells;
+    }

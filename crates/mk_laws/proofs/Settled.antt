@@ -1,0 +1,95 @@
+-- What a laid out world says of its allocations; where nothing is on its way, its pages stand for the unreleased
+-- storage.
+use Rattle.std.proofs.Common.{ap, append-nil, false, length, refl, sym, true, ◌*◌, ◌++◌, ◌∙◌, ◌≡◌}
+use Rattle.std.specs.Prelude.{None, Option, Some}
+use Rattle.std.proofs.lemmas.Bool.{and_parts}
+use Rattle.mk_laws.proofs.Vocabulary.{Cell, Chosen, Config, Granted, IsWithinLimits, PlacedAllocation, Placing}
+use Rattle.mk_laws.proofs.Vocabulary.{RunPages, Unplaced, Used, Words, World, is_phase, is_run_gone}
+use Rattle.mk_laws.proofs.Vocabulary.{is_run_unmapped, left, placed_at, unreleased_storage, words_are_zero}
+use Rattle.mk_geom.proofs.Bridge.{same_places}
+use Rattle.mk_core.proofs.Lengths.{histories_keep_lengths}
+use Rattle.mk_laws.specs.Protocol.{has_place}
+use Rattle.mk_laws.specs.LayoutScene.{Claim, NoPlot}
+use Rattle.mk_laws.specs.SettledPages.{FirstFitIsThePlace, HeadersStand, IsSettled, UnreleasedAreApart}
+use Rattle.mk_laws.specs.SettledPages.{UnreleasedStand, is_freed_unmapped}
+use Rattle.mk_laws.specs.Ground.{ground_of}
+use Rattle.mk_laws.specs.Terrain.{LayoutStands, claim_of, claims_of, claims_placed, object_now, plot_of}
+use Rattle.mk_laws.proofs.Apart.{Rests}
+use Rattle.mk_laws.proofs.Claims.{claim_among}
+use Rattle.mk_laws.proofs.Freed.{gone_terrain}
+use Rattle.mk_laws.proofs.HeadersStand.{pages_stand}
+use Rattle.mk_laws.proofs.LayoutJoined.{apart_left}
+use Rattle.mk_laws.proofs.OneCell.{numbers_apart}
+use Rattle.mk_laws.proofs.Released.{all_stand}
+use Rattle.mk_laws.proofs.Serving.{Laid, own_claim}
+
+pub unreleased_stand : UnreleasedStand
+unreleased_stand c es limits laid i u =
+    let w : World = left c es in
+    let a : PlacedAllocation = placed_at w.allocations i in
+    let x : Claim = claim_of c w.now.seats.holding.freed a in
+    let s = all_stand c (object_now c w.now) (is_phase w.now.words 4) w (histories_keep_lengths c es).pages laid i u in
+    let shown = laid.scene.shown x
+    (own_claim c (object_now c w.now) (ground_of w) x (claim_among c w.now.seats.holding.freed w.allocations i u))
+    in
+    record { stands = s.stands; headers = s.headers; used = shown.used }
+
+pub unreleased_are_apart : UnreleasedAreApart
+unreleased_are_apart c es laid i j u v same =
+    let w : World = left c es in
+    numbers_apart c w.now.seats.holding.freed w.allocations i j
+    (apart_left (claims_of c w.now.seats.holding.freed w.allocations)
+    (claims_placed (object_now c w.now) w.now.seats.holding.placing) laid.scene.apart) u v
+    (ap (λ (x : Cell). x.page) same, ap (λ (x : Cell). x.index) same)
+
+-- A run that is unmapped and wiped is unmapped.
+pub gone_is_unmapped : (w : Words) (freed : Option RunPages) → is_run_gone w freed ≡ true
+    → is_freed_unmapped w freed ≡ true
+gone_is_unmapped w None gone = refl
+gone_is_unmapped w (Some run) gone =
+    (and_parts (is_run_unmapped w run) (words_are_zero w (64 * run.page) (64 * run.count)) gone).0
+
+pub unmapped_run : (w : World) → is_freed_unmapped w.now.words w.now.seats.holding.freed ≡ true → (run : RunPages)
+    → w.now.seats.holding.freed ≡ Some run → is_run_unmapped w.now.words run ≡ true
+unmapped_run w unmapped run is = ap (λ (x : Option RunPages). is_freed_unmapped w.now.words x) (sym is) ∙ unmapped
+
+settled_rests : (c : Config) (w : World) → IsWithinLimits c → length w.now.words.pages ≡ c.pages → LayoutStands c w
+    → IsSettled w → Rests c w.now.words w.allocations
+settled_rests c w limits len laid s = by w.now.seats.holding.placing refl s.placing
+  where
+    rested : Laid c (object_now c w.now) false w (record (ground_of w) { run = None })
+    rested = gone_terrain c (object_now c w.now) false w (unmapped_run w s.unmapped) (rw s.releasing at laid)
+
+    rests : (placing : Placing)
+        → Laid c (object_now c w.now) false w (record (ground_of w) { run = None; placing = placing })
+        → plot_of (object_now c w.now) placing ≡ NoPlot
+        → claims_of c None w.allocations ++ claims_placed (object_now c w.now) placing ≡ claims_of c None w.allocations
+        → Rests c w.now.words w.allocations
+    rests placing st plot claims =
+        record {
+          limits = limits;
+          lengths = len;
+          laid = rw claims at (rw plot at st.scene);
+          cells = st.cells;
+        }
+
+    at : (placing : Placing) → w.now.seats.holding.placing ≡ placing
+        → Laid c (object_now c w.now) false w (record (ground_of w) { run = None; placing = placing })
+    at placing is = rw is at rested
+
+    by : (placing : Placing) → w.now.seats.holding.placing ≡ placing → has_place placing ≡ false
+        → Rests c w.now.words w.allocations
+    by Unplaced is out = rests Unplaced (at Unplaced is) refl (append-nil (claims_of c None w.allocations))
+    by Granted is out = rests Granted (at Granted is) refl (append-nil (claims_of c None w.allocations))
+    by (Chosen place) is out = cc
+    by (Used place) is out = cc
+
+pub headers_stand : HeadersStand
+headers_stand c es limits laid s =
+    pages_stand c (left c es).now.words (left c es).allocations
+    (settled_rests c (left c es) limits (histories_keep_lengths c es).pages laid s)
+
+pub first_fit_is_the_place : FirstFitIsThePlace
+first_fit_is_the_place c es o limits laid s =
+    same_places (left c es).now.words.pages (unreleased_storage c (left c es).allocations) c.resident o.words o.leaf
+    (headers_stand c es limits laid s) ∙ rw (histories_keep_lengths c es).pages

@@ -1,0 +1,133 @@
+-- From a `begin` up to its `release` the snapshot bits are those of the allocations that were in quarantine then.
+use Rattle.std.proofs.Common.{◌≡◌, ◌≢◌, ℕ, Bool, true, false, List, ◌∷◌, ◌++◌, refl, sym, ◌∙◌, ap, subst, arith, []}
+use Rattle.std.specs.Prelude.{◌||◌, nat_le, not}
+use Rattle.std.specs.List.{list_any}
+use Rattle.std.proofs.lemmas.Bool.{and_from, and_parts, le-leb, not-true, or_parts}
+use Rattle.mk_laws.proofs.Vocabulary.{AreEnabledFrom, At, Cell, Config, Event, IsHistory, PlacedAllocation, Step}
+use Rattle.mk_laws.proofs.Vocabulary.{World, cell_of_allocation, is_begin, is_quarantined, is_release, left}
+use Rattle.mk_laws.proofs.Vocabulary.{left_from, never_behind, phase_of, placed_at, world_behind}
+use Rattle.mk_core.specs.Cells.{is_in_snapshot}
+use Rattle.mk_core.specs.Readings.{SnapshotTells, SnapshotsTell}
+use Rattle.mk_core.proofs.HistoryParts.{enabled_in_parts, left_in_parts}
+use Rattle.mk_laws.proofs.KnownWorlds.{known_world}
+use Rattle.mk_laws.specs.Quarantine.{IsFreedCell, has_bit_of, is_cycling}
+use Rattle.mk_laws.specs.Theorems.{KeepsTheInvariant, OfHistories}
+use Rattle.mk_laws.proofs.InvariantHistories.{histories_keep_the_invariant}
+use Rattle.mk_laws.proofs.Quarantines.{snapshot_is_the_cycles}
+use Rattle.mk_laws.proofs.CyclePhases.{IsUnreleased, NoneIsReleased, begin_is, moves_phase, none_is_released}
+use Rattle.mk_laws.proofs.CyclePhases.{phase_behind}
+use Rattle.mk_laws.proofs.ReadingsKeptPlaces.{StaysPut, keeps_cell, stays_put}
+use Rattle.mk_laws.proofs.ReadingsStands.{freed_cell}
+
+-- the events from a `begin` on, as a part of the list
+
+pub at_event : (c : Config) (es : List Event) (kind : Step → Bool) (at : At kind es)
+    → left c es ≡ left_from c (left c at.before) (at.event ∷ at.behind)
+at_event c es kind at = ap (λ (xs : List Event). left c xs) at.is ∙ left_in_parts c at.before (at.event ∷ at.behind)
+
+pub enabled_at : (c : Config) (es : List Event) (kind : Step → Bool) (at : At kind es) → IsHistory c es
+    → AreEnabledFrom c (left c at.before) (at.event ∷ at.behind)
+enabled_at c es kind at h =
+    let split : IsHistory c (at.before ++ at.event ∷ at.behind) = subst (λ (xs : List Event). IsHistory c xs) at.is h in
+    ((enabled_in_parts c at.before (at.event ∷ at.behind)).0 split.enabled).1
+
+-- An unreleased phase is one of a cycle's.
+pub unreleased_cycles : (p : ℕ) → IsUnreleased p → (is_cycling p ≡ true) × (p ≢ 4)
+unreleased_cycles p u =
+    let least = u.least in
+    let most = u.most in
+    (and_from (nat_le 1 p) (nat_le p 4) (le-leb 1 p least) (le-leb p 4 (omega arith)), λ e. absurd (omega arith))
+
+-- what stands after a `begin` where nothing was released since
+pub begun_world : (c : Config) (w : World) (e : Event) (es : List Event) → AreEnabledFrom c w (e ∷ es)
+    → is_begin e.step ≡ true
+    → list_any (λ (x : Event). is_release x.step) es ≡ false → NoneIsReleased c (world_behind c w e) es
+begun_world c w e es on is none =
+    let moves = moves_phase c w e es on in
+    let first : phase_of (world_behind c w e).now.words ≡ 1 = moves.1
+    ∙ ap (λ (x : Step). phase_behind x (phase_of w.now.words)) (begin_is e.step is) in
+    none_is_released c (world_behind c w e) es moves.2 (record { least = omega arith; most = omega arith }) none
+
+either_kind : (es : List Event) → list_any (λ (e : Event). is_begin e.step || is_release e.step) es ≡ false
+    → (list_any (λ (e : Event). is_begin e.step) es ≡ false) × (list_any (λ (e : Event). is_release e.step) es ≡ false)
+either_kind [] none = (refl, refl)
+either_kind (e ∷ es) none =
+    let parts = or_parts (is_begin e.step || is_release e.step) _ none in
+    let kinds = or_parts (is_begin e.step) (is_release e.step) parts.0 in
+    let rest = either_kind es parts.1 in (
+      ap (λ b. b || list_any (λ (x : Event). is_begin x.step) es) kinds.0 ∙ rest.0,
+      ap (λ b. b || list_any (λ (x : Event). is_release x.step) es) kinds.1 ∙ rest.1,
+    )
+
+module _ (c : Config) (es : List Event) (h : IsHistory c es) (begin : At is_begin es)
+    (none : list_any (λ (e : Event). is_begin e.step || is_release e.step) begin.behind ≡ false) where
+  -- the allocations at the `begin`, and the world now
+  abbrev olds : List PlacedAllocation
+  olds = (left c begin.before).allocations
+
+  abbrev w : World
+  w = left c es
+
+  no_release : list_any (λ (e : Event). is_release e.step) begin.behind ≡ false
+  no_release = (either_kind begin.behind none).1
+
+  since : left c es ≡ left_from c (left c begin.before) (begin.event ∷ begin.behind)
+  since = at_event c es is_begin begin
+
+  phase : IsUnreleased (phase_of (left c es).now.words)
+  unfolding left_from
+  phase =
+      let on = enabled_at c es is_begin begin h in
+      let begun = begun_world c (left c begin.before) begin.event begin.behind on begin.of_kind no_release in
+      subst (λ (v : World). IsUnreleased (phase_of v.now.words)) (sym since) begun.phase
+
+  -- An allocation that was unreleased then is so, in its cell.
+  put : (i : ℕ) → (placed_at olds i).released ≡ false → StaysPut (placed_at olds i) (placed_at w.allocations i)
+  put i u =
+      let begins = begin_is begin.event.step begin.of_kind in
+      let none_in : list_any (λ (e : Event). is_release e.step) (begin.event ∷ begin.behind) ≡ false =
+      ap (λ (x : Step). is_release x || list_any (λ (e : Event). is_release e.step) begin.behind) begins ∙ no_release in
+      subst (λ (v : World). StaysPut (placed_at olds i) (placed_at v.allocations i)) (sym since)
+      (stays_put c (left c begin.before) (begin.event ∷ begin.behind) i none_in u)
+
+  all : KeepsTheInvariant c es
+  all = histories_keep_the_invariant c es h
+
+  snapshot_is : (i : ℕ) → (placed_at w.allocations i).released ≡ false
+      → has_bit_of c w.now.words.snapshot (placed_at w.allocations i) ≡ is_quarantined (placed_at olds i)
+  snapshot_is =
+      snapshot_is_the_cycles c es h begin (either_kind begin.behind none).0
+      (unreleased_cycles (phase_of w.now.words) phase).0
+
+  put_quarantined : (i : ℕ) → is_quarantined (placed_at olds i) ≡ true
+      → StaysPut (placed_at olds i) (placed_at w.allocations i)
+  put_quarantined i q =
+      let a : PlacedAllocation = placed_at olds i in
+      put i (not-true a.released (and_parts a.freed (not a.released) q).1)
+
+  same_cell : (i : ℕ) → is_quarantined (placed_at olds i) ≡ true
+      → cell_of_allocation c (placed_at w.allocations i) ≡ cell_of_allocation c (placed_at olds i)
+  same_cell i q = keeps_cell c (placed_at olds i) (placed_at w.allocations i) (put_quarantined i q)
+
+  is_of : (cell : Cell) → is_in_snapshot w.now.words cell ≡ true → IsFreedCell c w.allocations cell.page cell.index
+      → (i : ℕ) × (is_quarantined (placed_at olds i) ≡ true) × (cell_of_allocation c (placed_at olds i) ≡ cell)
+  is_of cell bit o =
+      let q : is_quarantined (placed_at olds o.number) ≡ true =
+      sym (snapshot_is o.number o.unreleased) ∙ ap (λ (x : Cell). is_in_snapshot w.now.words x) o.cell ∙ bit in
+      (o.number, q, sym (same_cell o.number q) ∙ o.cell)
+
+  pub told : SnapshotTells c begin
+  told =
+      record {
+        has = λ i q.
+            ap (λ (x : Cell). is_in_snapshot w.now.words x) (sym (same_cell i q))
+            ∙ snapshot_is i (put_quarantined i q).unreleased ∙ q;
+        is = λ cell bit.
+            let known = known_world c es h.within_limits h.enabled in
+            let quiet = (unreleased_cycles (phase_of w.now.words) phase).1 in
+            let freed = all.order.quarantined.within cell.page cell.index bit in
+            is_of cell bit (freed_cell c w (never_behind c es) known all quiet cell freed);
+      }
+
+pub snapshots_tell : OfHistories SnapshotsTell
+snapshots_tell c es h begin none = told c es h begin none

@@ -1,0 +1,198 @@
+-- What the tallies count: before each `give`, and where nobody holds the turn.
+use Rattle.std.proofs.Common.{◌≡◌, ◌≤◌, ◌⊎◌, ℕ, ◌+◌, Bool, true, false, List, ◌∷◌, ◌++◌, refl, sym, ◌∙◌, ap, []}
+use Rattle.std.proofs.Common.{append_assoc, subst, arith, inl, inr}
+use Rattle.std.specs.Prelude.{cond, ◌&&◌, ◌==◌}
+use Rattle.std.proofs.lemmas.Bool.{and_parts, eqb-true, false_from_ne_true, ne_eqb, true≢false}
+use Rattle.std.proofs.lemmas.List.Sums.{sum_by_push}
+use Rattle.mk_geom.proofs.HeldWords.{pages_hold_mapped_words}
+use Rattle.mk_laws.proofs.Vocabulary.{Config, Decided, Event, Flight, IsHistory, IsTidy, Moment, PlacedAllocation}
+use Rattle.mk_laws.proofs.Vocabulary.{Seat, Stage, Step, TalliesAreTidy, Words, World, answer_decided, call_decided}
+use Rattle.mk_laws.proofs.Vocabulary.{caller_number, calls, calls_from, ends, first_world, flight_of}
+use Rattle.mk_laws.proofs.Vocabulary.{fresh_words_of, held_by_pages, in_a_word, is_decided, is_end, is_run_gone}
+use Rattle.mk_laws.proofs.Vocabulary.{is_undecided_new, left, left_from, phase_of, unreleased_storage, world_behind}
+use Rattle.mk_core.specs.declared.events.Step.TheVariants as step
+use Rattle.mk_core.specs.Allocations.{held_by_allocations}
+use Rattle.mk_core.specs.Counts.{TalliesAreExact, full_answers, releases}
+use Rattle.mk_core.specs.Readings.{TalliesTell}
+use Rattle.mk_core.proofs.Histories.{calls_more, left_more}
+use Rattle.mk_core.proofs.Lengths.{histories_keep_lengths}
+use Rattle.mk_core.proofs.PlacesNow.{undecided_new}
+use Rattle.mk_laws.specs.Protocol.{has_place}
+use Rattle.mk_laws.proofs.Actors.{Meets}
+use Rattle.mk_laws.proofs.Asked.{give_phase}
+use Rattle.mk_laws.proofs.Known.{Known, known_left}
+use Rattle.mk_laws.proofs.OthersCounts.{entry_fulls, fulls_append, fulls_of}
+use Rattle.mk_laws.specs.SettledPages.{IsSettled}
+use Rattle.mk_laws.proofs.Settled.{gone_is_unmapped}
+use Rattle.mk_laws.proofs.LayoutBefore.{Before}
+use Rattle.mk_laws.proofs.LayoutHistories.{known_before}
+use Rattle.mk_laws.proofs.LayoutHolders.{giver_has_turn, placed_undecided}
+use Rattle.mk_laws.proofs.KnownWorlds.{known_world}
+use Rattle.mk_laws.specs.Theorems.{OfHistories}
+use Rattle.mk_laws.proofs.InvariantHistories.{histories_keep_the_invariant}
+use Rattle.mk_laws.proofs.InvariantJoined.{told_to_layout}
+use Rattle.mk_laws.proofs.InvariantTheorems.{pages_show_the_storage}
+use Rattle.mk_laws.specs.ExactTallies.{TalliesAreExactAtGives}
+use Rattle.mk_laws.proofs.FreshSteps.{FreshTold, fresh_told_behind}
+use Rattle.mk_laws.proofs.Induction.{KeptByEvents, before_it, holds_of_histories}
+use Rattle.mk_laws.proofs.TallySteps.{CountsNothing, Gives, Leaves, Takes, TurnStep, give_counts_nothing}
+use Rattle.mk_laws.proofs.TallySteps.{others_count_nothing, turn_step}
+
+-- The fresh count of the moment is that of the allocations, after every history.
+
+abbrev pub FreshIsTold : Config → List Event → Type 0
+FreshIsTold c es = FreshTold c (left c es)
+
+world_before : (c : Config) (es : List Event) → IsHistory c es → Before c (left c es)
+world_before c es h =
+    let all = histories_keep_the_invariant c es h in
+    let others = told_to_layout c (left c es) _ (known_world c es h.within_limits h.enabled) all in
+    let known = known_left c es h.within_limits h.enabled in
+    known_before c (left c es) h.within_limits (histories_keep_lengths c es) known others all.order.quarantined
+
+fresh_kept : KeptByEvents FreshIsTold
+fresh_kept c es e h told =
+    let here = before_it c (es ++ e ∷ []) es e [] h refl in
+    let order = (histories_keep_the_invariant c es here.0).order in
+    subst (λ (w : World). FreshTold c w) (sym (left_more c (first_world c) es e))
+    (fresh_told_behind c (left c es) e.seat e.step (world_before c es here.0) here.1 order told)
+
+fresh_at_first : (c : Config) → FreshIsTold c []
+unfolding left_from
+fresh_at_first c = refl
+
+pub fresh_is_told : OfHistories FreshIsTold
+fresh_is_told = holds_of_histories FreshIsTold fresh_at_first fresh_kept
+
+-- At a `give` nothing is on its way.
+
+decided_no_new : (f : Flight) → is_decided f.stage ≡ true → is_undecided_new f ≡ true → ⊥
+decided_no_new f decided new = true≢false (sym decided ∙ ap (λ (s : Stage). is_decided s) (undecided_new f new).stage)
+
+giving : (phase : ℕ) → (phase ≤ 1) ⊎ (phase ≡ 5) → (phase == 4) ≡ false
+giving phase (inl low) = ne_eqb phase 4 (λ four. omega arith)
+giving phase (inr over) = ne_eqb phase 4 (λ four. omega arith)
+
+exact_at_give : (c : Config) (es : List Event) (seat : Seat) → IsHistory c es → Meets c (left c es).now seat step.Give
+    → TalliesAreExact c es
+exact_at_give c es seat h meets =
+    let a = and_parts (is_decided f.stage && gone && held) (m.words.fresh == m.fresh_words) meets.holder in
+    let b = and_parts (is_decided f.stage && gone) held a.0 in
+    let d = and_parts (is_decided f.stage) gone b.0 in
+    let holds = giver_has_turn c m seat known meets in
+    let settled : IsSettled (left c es) = record {
+      releasing = giving (phase_of m.words) (give_phase (phase_of m.words) meets.phase);
+      placing = false_from_ne_true (has_place m.seats.holding.placing)
+          (λ has. decided_no_new f d.0 (placed_undecided c m seat known holds has));
+      unmapped = gone_is_unmapped m.words m.seats.holding.freed d.1;
+    } in
+    let shown = pages_show_the_storage c es h settled in
+    record {
+      held = eqb-true m.words.held (held_by_pages m.words) b.1
+          ∙ pages_hold_mapped_words m.words.pages (unreleased_storage c (left c es).allocations) shown;
+      fresh = eqb-true m.words.fresh m.fresh_words a.1 ∙ fresh_is_told c es h;
+    }
+  where
+    m : Moment
+    m = (left c es).now
+
+    f : Flight
+    f = flight_of m seat
+
+    known : Known c m
+    known = known_left c es h.within_limits h.enabled
+
+    gone : Bool
+    gone = is_run_gone m.words m.seats.holding.freed
+
+    held : Bool
+    held = m.words.held == held_by_pages m.words
+
+pub tallies_are_exact_at_gives : OfHistories TalliesAreExactAtGives
+tallies_are_exact_at_gives c es h before e behind is gives =
+    let here = before_it c es before e behind h is in
+    exact_at_give c before e.seat here.0 (subst (λ (x : Step). Meets c (left c before).now e.seat x) gives here.1)
+
+-- An event that counts nothing leaves the tallies exact and tidy.
+module _ (c : Config) (es : List Event) (e : Event) (nothing : CountsNothing c (left c es) e) where
+  more : left c (es ++ e ∷ []) ≡ world_behind c (left c es) e
+  more = left_more c (first_world c) es e
+
+  tally : (word : Words → ℕ) (n : ℕ) → word (world_behind c (left c es) e).now.words ≡ word (left c es).now.words
+      → word (left c es).now.words ≡ n → word (left c (es ++ e ∷ [])).now.words ≡ n
+  tally word n same is = ap (λ (w : World). word w.now.words) more ∙ same ∙ is
+
+  same_allocations : (left c es).allocations ≡ (left c (es ++ e ∷ [])).allocations
+  same_allocations = sym (ap (λ (w : World). w.allocations) more ∙ nothing.alike.allocations)
+
+  same_ends : ends es ≡ ends (es ++ e ∷ [])
+  same_ends =
+      let last : cond {A = ℕ} (is_end e.step) 1 0 ≡ 0 = ap (λ b. cond {A = ℕ} b 1 0) nothing.no_end in
+      let pushed : ends (es ++ e ∷ []) ≡ ends es + cond {A = ℕ} (is_end e.step) 1 0 =
+      sum_by_push (λ (x : Event). cond {A = ℕ} (is_end x.step) 1 0) es e in
+      omega arith
+
+  same_fulls : full_answers c es ≡ full_answers c (es ++ e ∷ [])
+  same_fulls =
+      let ds : List Decided = call_decided c (left c es).now e in
+      let m : Moment = (left c es).now in
+      let last : fulls_of ds ≡ 0 =
+      entry_fulls (caller_number e.seat) (flight_of m e.seat).op (answer_decided c m e) nothing.no_full in
+      let pushed : full_answers c (es ++ e ∷ []) ≡ full_answers c es + fulls_of ds =
+      ap (λ (xs : List Decided). fulls_of xs) (calls_more c (first_world c) es e) ∙ fulls_append (calls c es) ds in
+      omega arith
+
+  exact_more : TalliesAreExact c es → TalliesAreExact c (es ++ e ∷ [])
+  exact_more exact =
+      record {
+        held = tally (λ (w : Words). w.held) _ nothing.alike.tallies.held exact.held
+            ∙ ap (λ (xs : List PlacedAllocation). held_by_allocations c xs) same_allocations;
+        fresh = tally (λ (w : Words). w.fresh) _ nothing.alike.tallies.fresh exact.fresh
+            ∙ ap (λ (xs : List PlacedAllocation). in_a_word (fresh_words_of c xs)) same_allocations;
+      }
+
+  tidy_more : TalliesAreTidy c es → TalliesAreTidy c (es ++ e ∷ [])
+  tidy_more tidy =
+      record {
+        cycles = tally (λ (w : Words). w.cycles) _ nothing.alike.tallies.cycles tidy.cycles ∙ ap in_a_word same_ends;
+        released = tally (λ (w : Words). w.released) _ nothing.alike.tallies.released tidy.released
+            ∙ ap (λ (xs : List PlacedAllocation). in_a_word (releases xs)) same_allocations;
+        full = tally (λ (w : Words). w.full) _ nothing.alike.tallies.full tidy.full ∙ ap in_a_word same_fulls;
+      }
+
+-- the earlier part of a tidy list is tidy
+tidy_before : (c : Config) (es : List Event) (e : Event) → IsTidy c (es ++ e ∷ []) → IsTidy c es
+tidy_before c es e tidy before g behind is gives =
+    tidy before g (behind ++ e ∷ [])
+    (ap (λ (xs : List Event). xs ++ e ∷ []) is ∙ append_assoc before (g ∷ behind) (e ∷ [])) gives
+
+abbrev ExactAndTidy : Config → List Event → Type 0
+ExactAndTidy c es = TalliesAreExact c es × (IsTidy c es → TalliesAreTidy c es)
+
+told_behind : (c : Config) (es : List Event) (e : Event) → IsHistory c es → Meets c (left c es).now e.seat e.step
+    → TalliesTell c es → TurnStep e.step (left c es).now.words.turn (world_behind c (left c es) e).now.words.turn
+    → (world_behind c (left c es) e).now.words.turn ≡ 0 → ExactAndTidy c (es ++ e ∷ [])
+told_behind c es e h meets tells (Takes held) free = absurd (held free)
+told_behind c es e h meets tells (Gives is) free =
+    let nothing = give_counts_nothing c (left c es) e is in
+    let exact = exact_at_give c es e.seat h (subst (λ (x : Step). Meets c (left c es).now e.seat x) is meets) in
+    (exact_more c es e nothing exact, λ tidy. tidy_more c es e nothing (tidy es e [] refl is))
+told_behind c es e h meets tells (Leaves same) free =
+    let was : (left c es).now.words.turn ≡ 0 = sym same ∙ free in
+    let nothing = others_count_nothing c (left c es) e (known_left c es h.within_limits h.enabled) meets was in
+    let told = tells was in
+    (exact_more c es e nothing told.0, λ tidy. tidy_more c es e nothing (told.1 (tidy_before c es e tidy)))
+
+tells_kept : KeptByEvents TalliesTell
+tells_kept c es e h tells free =
+    let here = before_it c (es ++ e ∷ []) es e [] h refl in
+    told_behind c es e here.0 here.1 tells (turn_step c (left c es) e.seat e.step)
+    (ap (λ (v : World). v.now.words.turn) (sym (left_more c (first_world c) es e)) ∙ free)
+
+tells_at_first : (c : Config) → TalliesTell c []
+unfolding left_from calls_from unreleased_storage
+tells_at_first c free =
+    (record { held = refl; fresh = refl }, λ tidy. record { cycles = refl; released = refl; full = refl })
+
+pub tallies_tell : OfHistories TalliesTell
+tallies_tell = holds_of_histories TalliesTell tells_at_first tells_kept

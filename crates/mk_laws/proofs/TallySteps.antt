@@ -1,0 +1,120 @@
+-- What events leave to the tallies, and to the allocations that they count.
+use Rattle.std.proofs.Common.{◌≡◌, ◌≢◌, ℕ, ◌+◌, Bool, true, false, refl, ◌∙◌, ap, arith}
+use Rattle.std.specs.Prelude.{◌==◌, if◌then◌else◌}
+use Rattle.mk_laws.proofs.Vocabulary.{Caller, Config, Event, Flight, Host, Marker, Moment, Seat, Step, World}
+use Rattle.mk_laws.proofs.Vocabulary.{answer_decided, caller_number, flight_of, group_of, holder_number, is_end}
+use Rattle.mk_laws.proofs.Vocabulary.{is_of_turn, reg_access, register_met, world_behind}
+use Rattle.mk_core.specs.declared.events.Step.TheVariants as step
+use Rattle.mk_core.proofs.RegisterAccesses.{LeavesTallies, register_leaves_tallies}
+use Rattle.mk_laws.proofs.Actors.{Actor, AsHolder, AsMarker, InCallOf, Meets}
+use Rattle.mk_laws.proofs.Known.{Known}
+use Rattle.mk_laws.proofs.Orderly.{turn_of}
+use Rattle.mk_laws.proofs.OrderlyLists.{actor_of}
+use Rattle.mk_laws.proofs.OthersCounts.{answers_full, counts_nothing}
+use Rattle.mk_laws.proofs.OthersMoves.{WorldBehind}
+use Rattle.mk_laws.proofs.SameWords.{tally_keeps}
+use Rattle.mk_laws.proofs.Views.{HoldsTurn, view_of}
+use Rattle.mk_laws.proofs.LayoutBefore.{reg_leaves}
+
+-- The step changes no tally, and no allocation.
+abbrev pub counts_alike : Step → Bool
+counts_alike (step.Tally n v) = false
+counts_alike (step.Quar p n) = false
+counts_alike step.Grant = false
+counts_alike step.Begin = false
+counts_alike step.Release = false
+counts_alike _ = true
+
+pub record CountsAlike (w v : World) : Type 0 where
+  pub tallies : LeavesTallies w.now.words v.now.words
+  pub allocations : v.allocations ≡ w.allocations
+
+alike : (c : Config) (w : World) (seat : Seat) (x : Step) → counts_alike x ≡ true
+    → CountsAlike w (WorldBehind c w seat x)
+alike c w seat (step.Tally n v) is = cc
+alike c w seat (step.Quar p n) is = cc
+alike c w seat step.Grant is = cc
+alike c w seat step.Begin is = cc
+alike c w seat step.Release is = cc
+alike c w seat step.Reg is =
+    let f : Flight = flight_of w.now seat in
+    let access = reg_access f f.stage in
+    record {
+      tallies = register_leaves_tallies w.now.words (caller_number seat) (register_met f f.stage) access;
+      allocations = refl;
+    }
+alike c w seat _ is =
+    record {
+      tallies = record { held = refl; fresh = refl; cycles = refl; released = refl; full = refl };
+      allocations = refl;
+    }
+
+-- What an event does to the turn: it takes one that is free, gives it back, or leaves it.
+pub data TurnStep (x : Step) (turn now : ℕ) : Type 0 where
+  Takes : now ≢ 0 → TurnStep x turn now
+  Gives : x ≡ step.Give → TurnStep x turn now
+  Leaves : now ≡ turn → TurnStep x turn now
+
+pub turn_step : (c : Config) (w : World) (seat : Seat) (x : Step)
+    → TurnStep x w.now.words.turn (WorldBehind c w seat x).now.words.turn
+turn_step c w seat (step.Take o) = by (w.now.words.turn == 0)
+  where
+    by : (b : Bool) → TurnStep (step.Take o) w.now.words.turn (if b then 1 + holder_number c seat else w.now.words.turn)
+    by true = Takes (λ z. omega arith)
+    by false = Leaves refl
+turn_step c w seat step.Give = Gives refl
+turn_step c w seat step.Reg = Leaves (reg_leaves c w seat).turn
+turn_step c w seat (step.Tally n v) = Leaves (tally_keeps w.now.words n v).turn
+turn_step c w seat _ = Leaves refl
+
+-- A seat that doesn't hold the turn leaves them, and so does `give`.
+
+of_no_turn : (x : Step) → is_of_turn (group_of x) ≡ false → counts_alike x ≡ true
+of_no_turn (step.Tally n v) g = cc
+of_no_turn (step.Quar p n) g = cc
+of_no_turn step.Grant g = cc
+of_no_turn step.Begin g = cc
+of_no_turn step.Release g = cc
+of_no_turn _ g = refl
+
+outside_alike : (c : Config) (m : Moment) (seat : Seat) (x : Step) → (HoldsTurn c (view_of m) seat → ⊥)
+    → Actor c m seat x → counts_alike x ≡ true
+outside_alike c m seat x out (InCallOf k y lt g) = of_no_turn y (ap is_of_turn g)
+outside_alike c m seat x out (AsMarker k y lt g) = of_no_turn y (ap is_of_turn g)
+outside_alike c m seat x out (AsHolder s y holds n) = absurd (out holds)
+outside_alike c m seat x out _ = refl
+
+give_answers : (c : Config) (m : Moment) (seat : Seat)
+    → answers_full (answer_decided c m (record { seat = seat; step = step.Give })) ≡ false
+give_answers c m (Caller k) = refl
+give_answers c m (Marker k) = refl
+give_answers c m Host = refl
+
+-- the event counts nothing: no tally changes and no allocation, no cycle ends, and no call is answered Full
+pub record CountsNothing (c : Config) (w : World) (e : Event) : Type 0 where
+  pub alike : CountsAlike w (world_behind c w e)
+  pub no_end : is_end e.step ≡ false
+  pub no_full : answers_full (answer_decided c w.now e) ≡ false
+
+pub give_counts_nothing : (c : Config) (w : World) (e : Event) → e.step ≡ step.Give → CountsNothing c w e
+give_counts_nothing c w e is =
+    record {
+      alike = alike c w e.seat e.step (ap (λ (x : Step). counts_alike x) is);
+      no_end = ap (λ (x : Step). is_end x) is;
+      no_full = ap (λ (x : Step). answers_full (answer_decided c w.now (record { seat = e.seat; step = x }))) is
+          ∙ give_answers c w.now e.seat;
+    }
+
+pub others_count_nothing : (c : Config) (w : World) (e : Event) → Known c w.now → Meets c w.now e.seat e.step
+    → w.now.words.turn ≡ 0 → CountsNothing c w e
+others_count_nothing c w e known h free =
+    let actor = actor_of c w.now e.seat e.step known.orderly h in
+    let none = counts_nothing c w.now e.seat e.step out actor in
+    record {
+      alike = alike c w e.seat e.step (outside_alike c w.now e.seat e.step out actor);
+      no_end = none.0;
+      no_full = none.1;
+    }
+  where
+    out : HoldsTurn c (view_of w.now) e.seat → ⊥
+    out t = let turn = turn_of c (view_of w.now) e.seat known.orderly t in omega arith

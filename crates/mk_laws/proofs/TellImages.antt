@@ -1,0 +1,56 @@
+-- What the zero words tell the images, and the images them.
+use Rattle.std.proofs.Common.{◌≡◌, ℕ, true, refl, inl, inr}
+use Rattle.std.proofs.lemmas.Bool.{false≢true}
+use Rattle.mk_laws.proofs.Vocabulary.{AreAdmitted, Caller, Config, Host, IsEnabled, Marker, NeverState, Seat, Step}
+use Rattle.mk_laws.proofs.Vocabulary.{World, asked, call_decided, flight_of, word_met}
+use Rattle.mk_core.specs.declared.events.Step.TheVariants as step
+use Rattle.mk_core.proofs.Conditions.{enabled_meets}
+use Rattle.mk_laws.specs.ImagePremises.{MayHoldWords}
+use Rattle.mk_laws.specs.ImagePremises as images
+use Rattle.mk_laws.specs.ImagesSay.{ImagesSay}
+use Rattle.mk_laws.specs.ImagesSay as said
+use Rattle.mk_laws.specs.Zeros.{zero_scene_of, IsWordOfMapped, MayHold, OfMapped, OfReleased, OfFreedRun}
+use Rattle.mk_laws.specs.ZeroLaws.{is_heap_store}
+use Rattle.mk_laws.specs.ZerosTell.{ZerosTellTheImages, ImagesTellTheZeros}
+
+pub zeros_tell_the_images : ZerosTellTheImages
+zeros_tell_the_images c w z n some = by (z n some)
+  where
+    by : MayHold c (zero_scene_of w) n → MayHoldWords c w n
+    by (OfMapped m) = images.OfMapped m.number m.mapped m.word
+    by (OfReleased r) = images.OfReleased r.cell r.pointed r.released
+    by (OfFreedRun f) = images.OfFreedRun f.run f.there f.word
+
+mapped_word : (c : Config) (w : World) (n : ℕ) → said.IsMappedWord c w n → IsWordOfMapped c w.allocations n
+mapped_word c w n m = record { number = m.number; mapped = m.mapped; word = m.word }
+
+-- Only callers store to the heap.
+stored_by : (c : Config) (w : World) (n : NeverState) (seat : Seat) (x : Step) → ImagesSay c w n
+    → IsEnabled c w.now (record { seat = seat; step = x })
+    → AreAdmitted c.globals n (asked (call_decided c w.now (record { seat = seat; step = x }))) → is_heap_store x ≡ true
+    → IsWordOfMapped c w.allocations (word_met (flight_of w.now seat))
+stored_by c w n (Caller k) step.Write say on ad s =
+    mapped_word c w _ (say.stored k step.Write (record { step = inl refl; enabled = on; admitted = ad }))
+stored_by c w n (Caller k) step.Cas say on ad s =
+    mapped_word c w _ (say.stored k step.Cas (record { step = inr refl; enabled = on; admitted = ad }))
+stored_by c w n (Marker k) step.Write say on ad s =
+    absurd (false≢true (enabled_meets c w.now (record { seat = Marker k; step = step.Write }) on).kind)
+stored_by c w n (Marker k) step.Cas say on ad s =
+    absurd (false≢true (enabled_meets c w.now (record { seat = Marker k; step = step.Cas }) on).kind)
+stored_by c w n Host step.Write say on ad s =
+    absurd (false≢true (enabled_meets c w.now (record { seat = Host; step = step.Write }) on).kind)
+stored_by c w n Host step.Cas say on ad s =
+    absurd (false≢true (enabled_meets c w.now (record { seat = Host; step = step.Cas }) on).kind)
+stored_by c w n _ _ say on ad s = absurd (false≢true s)
+
+pub images_tell_the_zeros : ImagesTellTheZeros
+images_tell_the_zeros c w n e laid say on ad =
+    record {
+      laid_out = laid;
+      target = λ cell at. let x = say.target e.seat cell at in record {
+        number = x.number;
+        unreleased = x.unreleased;
+        is = x.cell;
+      };
+      stored = λ s. stored_by c w n e.seat e.step say on ad s;
+    }

@@ -1,0 +1,61 @@
+-- Tests that still hold where their parts do.
+use Rattle.std.proofs.Common.{Bool, List, ◌∷◌, ap, arith, false, inl, inr, refl, suc, sym, true, zero, ℕ, ◌<◌, ◌∙◌, ◌≡◌}
+use Rattle.std.proofs.Common.{[]}
+use Rattle.std.specs.Prelude.{None, Option, Some, if◌then◌else◌, not, slice_index_or, ◌&&◌, ◌||◌, ◌==◌}
+use Rattle.std.proofs.lemmas.Bool.{and_from, and_parts, cases_Bool, eq-eqb, eqb-true, true≢false}
+use Rattle.mk_core.specs.declared.seats.Marker.{Marker}
+use Rattle.mk_laws.proofs.Vocabulary.{all_below, has_bit, is_attending, is_some_and, none_attends, outside, without}
+use Rattle.mk_core.proofs.AllBelow.{all_below-at}
+use Rattle.mk_core.proofs.BitsWithout.{has_bit_without}
+use Rattle.mk_core.proofs.WordBits.{no_bit, zero_from_bits}
+
+pub or_on : (a b x y : Bool) → (a ≡ true → x ≡ true) → (b ≡ true → y ≡ true) → (a || b) ≡ true → (x || y) ≡ true
+or_on true b x y f g h = ap (λ t. t || y) (f refl)
+or_on false b true y f g h = refl
+or_on false b false y f g h = g h
+
+pub and_on : (a b x y : Bool) → (a ≡ true → x ≡ true) → (b ≡ true → y ≡ true) → (a && b) ≡ true → (x && y) ≡ true
+and_on a b x y f g h = let p = and_parts a b h in and_from x y (f p.0) (g p.1)
+
+pub if_on : (t a b x y : Bool) → (t ≡ true → a ≡ true → x ≡ true) → (t ≡ false → b ≡ true → y ≡ true)
+    → (if t then a else b) ≡ true → (if t then x else y) ≡ true
+if_on true a b x y f g h = f refl h
+if_on false a b x y f g h = g refl h
+
+pub some_on : {A : Type 0} (p q : A → Bool) (o : Option A) → ((x : A) → p x ≡ true → q x ≡ true)
+    → is_some_and p o ≡ true → is_some_and q o ≡ true
+some_on p q (Some x) f h = f x h
+some_on p q None f h = h
+
+pub all_below_from : (n : ℕ) (test : ℕ → Bool) → ((k : ℕ) → k < n → test k ≡ true) → all_below n test ≡ true
+unfolding all_below
+all_below_from zero test h = refl
+all_below_from (suc n) test h =
+    and_from (all_below n test) (test n) (all_below_from n test (λ k lt. h k (omega arith))) (h n (omega arith))
+
+pub all_below_on : (n : ℕ) (p q : ℕ → Bool) → ((k : ℕ) → k < n → p k ≡ true → q k ≡ true) → all_below n p ≡ true
+    → all_below n q ≡ true
+all_below_on n p q f h = all_below_from n q (λ k lt. f k lt (all_below-at n k p h lt))
+
+-- Bits that are all in one word are in one that has its bits.
+pub without_on : (bits m n : ℕ) → ((k : ℕ) → has_bit m k ≡ true → has_bit n k ≡ true) → (without bits m == 0) ≡ true
+    → (without bits n == 0) ≡ true
+without_on bits m n grow h =
+    eq-eqb (without bits n) 0 (zero_from_bits (without bits n) (λ k. has_bit_without bits n k
+    ∙ by k (has_bit bits k) refl))
+  where
+    none : (k : ℕ) → (has_bit bits k && not (has_bit m k)) ≡ false
+    none k = sym (has_bit_without bits m k) ∙ no_bit (without bits m) k (eqb-true (without bits m) 0 h)
+
+    by : (k : ℕ) (b : Bool) → has_bit bits k ≡ b → (b && not (has_bit n k)) ≡ false
+    by k false is = refl
+    by k true is = elim (cases_Bool (has_bit m k)) [
+      | inl in_it ↦ ap not (grow k in_it)
+      | inr out ↦ absurd (true≢false (sym (ap not out) ∙ ap (λ b. b && not (has_bit m k)) (sym is) ∙ none k))
+    ]
+
+-- each marker of a list
+pub none_from : (xs : List Marker) → ((k : ℕ) → is_attending (slice_index_or xs k outside).presence ≡ false)
+    → none_attends xs ≡ true
+none_from [] h = refl
+none_from (x ∷ xs) h = and_from _ (none_attends xs) (ap not (h 0)) (none_from xs (λ k. h (suc k)))

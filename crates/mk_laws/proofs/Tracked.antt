@@ -1,0 +1,223 @@
+-- What is said of a turn while its New is undecided, after every history.
+use Rattle.std.proofs.Common.{◌≡◌, ℕ, ◌<◌, true, false, List, ◌∷◌, ◌++◌, refl, sym, ◌∙◌, ap, subst, arith, []}
+use Rattle.std.specs.Prelude.{None, Option, Some, ◌&&◌, ◌==◌}
+use Rattle.std.proofs.lemmas.Bool.{and_parts, eqb-true, false_from_ne_true, true≢false}
+use Rattle.std.proofs.lemmas.List.{get_or-set_same}
+use Rattle.mk_laws.proofs.Vocabulary.{Caller, Config, Event, Flight, Holding, IsHistory, Object, Place, Placing}
+use Rattle.mk_laws.proofs.Vocabulary.{RunPages, Seat, Step, TurnOf, Unplaced, World, at_rest, first_world}
+use Rattle.mk_laws.proofs.Vocabulary.{flight_of, is_phase, is_undecided_new, left, left_from, object_made, phase_of}
+use Rattle.mk_laws.proofs.Vocabulary.{place_on_pages, world_behind}
+use Rattle.mk_core.specs.declared.events.Step.TheVariants as step
+use Rattle.mk_core.specs.Allocations.{place_among_allocations}
+use Rattle.mk_core.specs.Cycles.{is_give}
+use Rattle.mk_core.specs.Placement.{FirstServed, NoneServesFrom, before_served, event_serves, place_after}
+use Rattle.mk_core.proofs.Histories.{left_more}
+use Rattle.mk_core.proofs.PlacesNow.{undecided_new}
+use Rattle.mk_laws.specs.Protocol.{has_place}
+use Rattle.mk_laws.proofs.Actors.{Meets}
+use Rattle.mk_laws.proofs.Known.{Known, known_left}
+use Rattle.mk_laws.proofs.NewPlace.{held_place}
+use Rattle.mk_laws.proofs.OrderlyLists.{at_first}
+use Rattle.mk_laws.proofs.OthersMoves.{WorldBehind}
+use Rattle.mk_laws.specs.SettledPages.{IsSettled, is_freed_unmapped}
+use Rattle.mk_laws.proofs.LayoutHolders.{none_on_its_way}
+use Rattle.mk_laws.specs.Theorems.{OfHistories}
+use Rattle.mk_laws.proofs.InvariantTheorems.{first_fit_finds_the_place}
+use Rattle.mk_laws.proofs.Induction.{KeptByEvents, before_it, holds_of_histories}
+use Rattle.mk_laws.proofs.Longer.{gives_turn, left_in_turn, longer_first, longer_turn, none_serves_more, taken}
+use Rattle.mk_laws.proofs.OwnCycles.{HasCycle, cycle_more, cycle_step}
+use Rattle.mk_laws.proofs.Placings.{Fixes, GoesOn, PlacingStep, Stays, places_at}
+use Rattle.mk_laws.proofs.Undecided.{HasNew, IsTaken, NewCame, WasNew, new_came, new_holds_turn, new_object}
+
+-- A step of the turn has served its New first, where the place was this one.
+pub record ServedFirst (c : Config) (s : Seat) {es : List Event} (t : TurnOf c s es) (o : Object) (place : Place)
+    : Type 0 where
+  pub first : FirstServed c t
+  pub fits : place_after c (before_served t first) o ≡ Some place
+
+-- what is said of the turn's steps by the place that its New holds, or by none
+abbrev pub HasPlace : (c : Config) (s : Seat) {es : List Event} (t : TurnOf c s es) → Object → Option Place → Type 0
+HasPlace c s t o None = NoneServesFrom c (left c (t.before ++ taken t ∷ [])) t.behind
+HasPlace c s t o (Some place) = ServedFirst c s t o place
+
+-- The turn of a caller after a list that leaves this world: where its New is, and how far a cycle of its own.
+pub record Tracked (c : Config) (es : List Event) (w : World) (k : ℕ) : Type 0 where
+  pub turn : TurnOf c (Caller k) es
+  pub placed : HasPlace c (Caller k) turn (new_object c w k) (held_place w.now.seats.holding.placing)
+  pub cycle : HasCycle turn.behind w.now.seats.holding.cycle (phase_of w.now.words)
+
+abbrev pub NewsAreTracked : Config → List Event → Type 0
+NewsAreTracked c es = (k : ℕ) → k < c.callers → HasNew (left c es) k → Tracked c es (left c es) k
+
+-- The event gives no turn back of a caller whose New is undecided after it.
+gives_off : (c : Config) (w : World) (seat : Seat) (x : Step) (k : ℕ) → Known c w.now → k < c.callers
+    → HasNew (WorldBehind c w seat x) k → gives_turn (Caller k) (record { seat = seat; step = x }) ≡ false
+gives_off c w (Caller j) x k known lt new =
+    false_from_ne_true ((k == j) && is_give x)
+    (λ is. let both = and_parts (k == j) (is_give x) is in by j x (eqb-true k j both.0) both.1 new)
+  where
+    by : (j : ℕ) (x : Step) → k ≡ j → is_give x ≡ true → HasNew (WorldBehind c w (Caller j) x) k → ⊥
+    by j step.Give own is new =
+        let rests = get_or-set_same w.now.seats.flights k at_rest at_rest (omega (arith, known.orderly.flights)) in
+        let mine : HasNew (WorldBehind c w (Caller k) step.Give) k =
+        subst (λ i. HasNew (WorldBehind c w (Caller i) step.Give) k) (sym own) new in
+        true≢false (sym mine ∙ ap (λ (f : Flight). is_undecided_new f) rests)
+    by j _ own is new = cc
+gives_off c w _ x k known lt new = refl
+
+-- Where nothing is placed yet, nothing is on its way,
+pub unplaced_settles : (c : Config) (es : List Event) (k : ℕ) → IsHistory c es → k < c.callers → HasNew (left c es) k
+    → is_phase (left c es).now.words 4 ≡ false → (left c es).now.seats.holding.placing ≡ Unplaced
+    → IsSettled (left c es)
+unplaced_settles c es k h lt new off at =
+    let w : World = left c es in
+    let undecided = undecided_new (flight_of w.now (Caller k)) new in
+    let none = none_on_its_way c w.now (Caller k) (known_left c es h.within_limits h.enabled)
+    (new_holds_turn c w k lt new) undecided.stage in
+    record {
+      releasing = off;
+      placing = ap (λ (p : Placing). has_place p) at;
+      unmapped = ap (λ (run : Option RunPages). is_freed_unmapped w.now.words run) none;
+    }
+
+-- and first fit over the words is the place among the allocations.
+abbrev FitsHere : Config → List Event → Object → Type 0
+FitsHere c es o =
+    (place : Place) → is_phase (left c es).now.words 4 ≡ false → (left c es).now.seats.holding.placing ≡ Unplaced
+    → place_on_pages c.resident (left c es).now.words.pages o ≡ Some place → place_after c es o ≡ Some place
+
+fits_here : (c : Config) (es : List Event) (k : ℕ) (o : Object) → IsHistory c es → k < c.callers → HasNew (left c es) k
+    → FitsHere c es o
+fits_here c es k o h lt new place off at found =
+    sym (first_fit_finds_the_place c es h o (unplaced_settles c es k h lt new off at)) ∙ found
+
+-- So what is said of the turn's steps is told with one more.
+module _ (c : Config) (es : List Event) (e : Event) (k : ℕ) (o : Object) (t : TurnOf c (Caller k) es)
+    (on : gives_turn (Caller k) e ≡ false) where
+  to_place : (now place : Option Place) → now ≡ place → HasPlace c (Caller k) (longer_turn t e on) o place
+      → HasPlace c (Caller k) (longer_turn t e on) o now
+  to_place now place is has = subst (λ (p : Option Place). HasPlace c (Caller k) (longer_turn t e on) o p) (sym is) has
+
+  goes_on : (place : Place) → ServedFirst c (Caller k) t o place → ServedFirst c (Caller k) (longer_turn t e on) o place
+  goes_on place served = record { first = longer_first t e on served.first; fits = served.fits }
+
+  stays : event_serves c (left c es) e ≡ false → (place : Option Place) → HasPlace c (Caller k) t o place
+      → HasPlace c (Caller k) (longer_turn t e on) o place
+  stays none None has =
+      let here = left_in_turn c (Caller k) es t in
+      none_serves_more c _ t.behind e has (ap (λ (w : World). event_serves c w e) here ∙ none)
+  stays none (Some place) has = goes_on place has
+
+  fixes : (place : Place) → event_serves c (left c es) e ≡ true → place_after c es o ≡ Some place
+      → HasPlace c (Caller k) t o None → ServedFirst c (Caller k) (longer_turn t e on) o place
+  fixes place is fits none =
+      let here : left c (t.before ++ taken t ∷ t.behind) ≡ left c es = ap (λ (xs : List Event). left c xs) (sym t.is) in
+      record {
+        first = record {
+          before = t.behind;
+          event = e;
+          behind = [];
+          is = refl;
+          none_before = none;
+          serves = ap (λ (w : World). event_serves c w e) here ∙ is;
+        };
+        fits = ap (λ (w : World). place_among_allocations c o.words o.leaf w.allocations) here ∙ fits;
+      }
+
+  place_more : (was now : Option Place) → PlacingStep c (left c es).now o (event_serves c (left c es) e) was now
+      → FitsHere c es o → HasPlace c (Caller k) t o was → HasPlace c (Caller k) (longer_turn t e on) o now
+  place_more was now (Stays none same) fit has = to_place now was same (stays none was has)
+  place_more was now (Fixes place is off at found empty there) fit has =
+      to_place now (Some place) there
+      (fixes place is (fit place off at found) (subst (λ (p : Option Place). HasPlace c (Caller k) t o p) empty has))
+  place_more was now (GoesOn place here there) fit has =
+      to_place now (Some place) there
+      (goes_on place (subst (λ (p : Option Place). HasPlace c (Caller k) t o p) here has))
+
+-- One event: the `take` of the New, or one after it.
+
+abbrev TrackedBehind : Config → List Event → Seat → Step → ℕ → Type 0
+TrackedBehind c es seat x k =
+    Tracked c (es ++ record { seat = seat; step = x } ∷ []) (WorldBehind c (left c es) seat x) k
+
+tracked_behind : (c : Config) (es : List Event) (seat : Seat) (x : Step) (k : ℕ) → NewCame c (left c es) seat x k
+    → NewsAreTracked c es → IsHistory c es → Meets c (left c es).now seat x → k < c.callers
+    → HasNew (WorldBehind c (left c es) seat x) k → TrackedBehind c es seat x k
+unfolding NoneServesFrom
+tracked_behind c es seat x k (IsTaken o own take free begun) all h meets lt new =
+    record {
+      turn = turn;
+      placed =
+          subst (λ (y : Holding). HasPlace c (Caller k) turn (new_object c v k) (held_place y.placing)) (sym begun) tt;
+      cycle = subst (λ (y : Holding). HasCycle [] y.cycle (phase_of v.now.words)) (sym begun) tt;
+    }
+  where
+    v : World
+    v = WorldBehind c (left c es) seat x
+
+    turn : TurnOf c (Caller k) (es ++ record { seat = seat; step = x } ∷ [])
+    turn =
+        record {
+          before = es;
+          op = Some o;
+          behind = [];
+          is = ap (λ (s : Seat). es ++ record { seat = s; step = x } ∷ []) own
+              ∙ ap (λ (y : Step). es ++ record { seat = Caller k; step = y } ∷ []) take;
+          took = free;
+          goes_on = refl;
+        }
+tracked_behind c es seat x k (WasNew same) all h meets lt new =
+    record {
+      turn = longer_turn t.turn e on;
+      placed =
+          subst
+          (λ (y : Object). HasPlace c (Caller k) (longer_turn t.turn e on) y (held_place v.now.seats.holding.placing))
+          (ap (λ (f : Flight). object_made c f.op) (sym same))
+          (place_more c es e k o t.turn on _ _ (places_at c w seat x k known meets lt was new)
+          (fits_here c es k o h lt was) t.placed);
+      cycle =
+          cycle_more t.turn.behind e (phase_of w.now.words) _ w.now.seats.holding.cycle _ (cycle_step c w seat x meets)
+          t.cycle;
+    }
+  where
+    w : World
+    w = left c es
+
+    v : World
+    v = WorldBehind c (left c es) seat x
+
+    e : Event
+    e = record { seat = seat; step = x }
+
+    o : Object
+    o = new_object c (left c es) k
+
+    known : Known c (left c es).now
+    known = known_left c es h.within_limits h.enabled
+
+    was : HasNew (left c es) k
+    was = ap (λ (f : Flight). is_undecided_new f) (sym same) ∙ new
+
+    t : Tracked c es (left c es) k
+    t = all k lt was
+
+    on : gives_turn (Caller k) (record { seat = seat; step = x }) ≡ false
+    on = gives_off c (left c es) seat x k known lt new
+
+one_more : KeptByEvents NewsAreTracked
+one_more c es e h all k lt new =
+    let here = before_it c (es ++ e ∷ []) es e [] h refl in
+    let more : left c (es ++ e ∷ []) ≡ world_behind c (left c es) e = left_more c (first_world c) es e in
+    let behind : HasNew (world_behind c (left c es) e) k = subst (λ (w : World). HasNew w k) more new in
+    let known = known_left c es here.0.within_limits here.0.enabled in
+    let came = new_came c (left c es) e.seat e.step k known here.1 behind in
+    subst (λ (w : World). Tracked c (es ++ e ∷ []) w k) (sym more)
+    (tracked_behind c es e.seat e.step k came all here.0 here.1 lt behind)
+
+at_the_first : (c : Config) → NewsAreTracked c []
+unfolding left_from
+at_the_first c k lt new =
+    absurd (true≢false (sym new ∙ ap (λ (f : Flight). is_undecided_new f) (at_first c.callers k at_rest)))
+
+pub news_are_tracked : OfHistories NewsAreTracked
+news_are_tracked = holds_of_histories NewsAreTracked at_the_first one_more

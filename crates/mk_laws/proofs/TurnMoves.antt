@@ -1,0 +1,204 @@
+-- Each step that the turn's holder takes leads to what the images allow.
+use Rattle.std.proofs.Common.{◌≡◌, ◌≢◌, ℕ, ◌+◌, ◌*◌, ◌%◌, ◌^◌, ◌<◌, Bool, true, false, List, [], ◌∷◌, ◌++◌, length, map}
+use Rattle.std.proofs.Common.{refl, sym, ap, subst, ◌∙◌, arith}
+use Rattle.std.specs.Prelude.{slice_set, ◌==◌, Option, Some, None}
+use Rattle.std.proofs.lemmas.Bool.{and_parts, false≢true}
+use Rattle.mk_laws.proofs.Vocabulary.{Caller, Cell, Config, Flight, Kind, NeverState, Op, PlacedAllocation, Placing}
+use Rattle.mk_laws.proofs.Vocabulary.{Ptr, Stage, Used, Word, Words, World, address_of, answer_of, base_made}
+use Rattle.mk_laws.proofs.Vocabulary.{bases_of, cell_freed, comes_next, d_of, decided, flight_of}
+use Rattle.mk_laws.proofs.Vocabulary.{freed_where_it_stands, granted_base, has_operands, is_freed, is_run_cell}
+use Rattle.mk_laws.proofs.Vocabulary.{is_undecided_free, is_undecided_new, is_used_once, kinds_of, object_made}
+use Rattle.mk_laws.proofs.Vocabulary.{phase_of, pointed_cell, progress_freed, register_at, sees_double, still}
+use Rattle.mk_laws.proofs.Vocabulary.{target, with_new, with_register}
+use Rattle.mk_never.specs.declared.operations.Op.TheVariants as op
+use Rattle.mk_core.specs.declared.events.Answer.TheVariants as answer
+use Rattle.mk_core.specs.declared.events.Word.TheVariants as word
+use Rattle.mk_core.specs.declared.events.Step.TheVariants as step
+use Rattle.mk_core.specs.declared.seats.Stage.TheVariants as stage
+use Rattle.mk_core.specs.Allocations.{type_made}
+use Rattle.mk_core.specs.Effects.{progress_look}
+use Rattle.mk_core.proofs.PlacesNow.{target_is, freed_cell}
+use Rattle.mk_core.proofs.ChangedAllocations.{none_freed}
+use Rattle.mk_core.proofs.StandingAllocations.{storage_holds}
+use Rattle.mk_core.proofs.GrantedAllocations.{granted_type}
+use Rattle.mk_laws.proofs.ImagesFreeing.{new_frees_none}
+use Rattle.mk_laws.proofs.Views.{view_of, HoldsTurn}
+use Rattle.mk_laws.proofs.Operands.{operands_of}
+use Rattle.mk_laws.specs.ImagePremises.{IsPlaceOfNone, ImagePremises}
+use Rattle.mk_laws.proofs.ImagesKept.{fresh_one}
+use Rattle.mk_laws.proofs.GrantMoves.{fills_cell, place_is_zero}
+use Rattle.mk_laws.specs.Images.{image_scene_of, flight_among, is_put, is_past_probe, CarriesOwn}
+use Rattle.mk_laws.proofs.KnownWorlds.{KnownWorld}
+use Rattle.mk_laws.specs.Mirrors.{Mirrors}
+use Rattle.mk_laws.proofs.ImagesStands.{Stands}
+use Rattle.mk_laws.proofs.ImagesMoves.{Move, Grants}
+use Rattle.mk_laws.proofs.Ready.{Ready, Leads, either_leads, one_right}
+use Rattle.mk_laws.proofs.Refusals.{goes_bare}
+use Rattle.mk_laws.proofs.RegMoves.{flight}
+use Rattle.mk_laws.proofs.FreeMoves.{free_by, double_by}
+use Rattle.mk_laws.proofs.CallSorts.{stays, own_registers, own_words, there_is}
+
+-- what a look at a cell that is freed already shows
+record SeesFreed (w : Words) (t : Option Cell) : Type 0 where
+  pub cell : Cell
+  pub is : t ≡ Some cell
+  pub freed : is_freed w cell ≡ true
+
+sees_freed : (w : Words) (t : Option Cell) (x : Word) → sees_double w t x ≡ true → SeesFreed w t
+sees_freed w (Some cell) (word.Quar p) h =
+    record { cell = cell; is = refl; freed = (and_parts (p == cell.page) (is_freed w cell) h).1 }
+sees_freed w None (word.Quar p) h = cc
+sees_freed w _ _ h = cc
+
+module _ (c : Config) (w : World) (n : NeverState) (known : KnownWorld c w) (mirrors : Mirrors c w n)
+    (others : ImagePremises c w) (safe : ℕ
+    → Bool) (ready : Ready c.globals safe (image_scene_of w) n) (st : Stands c w.now.words w.allocations)
+    (k : ℕ) (lt : k < c.callers) where
+  pub grant_by : (s : Stage) (o : Op) (q p r l : ℕ) (placing : Placing)
+      → flight_of w.now (Caller k) ≡ flight s o q p r l → comes_next s o step.Grant ≡ true
+      → is_used_once placing ≡ true
+      → w.now.seats.holding.placing ≡ placing → HoldsTurn c (view_of w.now) (Caller k) → phase_of w.now.words ≢ 4
+      → has_operands c o ≡ true
+      → Leads safe (image_scene_of w) n k o (record {
+        registers = slice_set w.now.words.registers (8 * k + d_of o)
+            (address_of (granted_base c (flight s o q p r l) placing) % 2 ^ 64);
+        globals = w.now.words.globals;
+        heap = w.now.words.heap;
+        flights = slice_set w.now.seats.flights k (flight stage.Give o q p r l);
+        allocations = w.allocations ++ fresh_one (granted_base c (flight s o q p r l) placing) (type_made o) ∷ [];
+      }) (Some answer.Done)
+  grant_by stage.Turn (op.New d ty full) q p r l (Used place) is next used placed hold phase operands =
+      let o = object_made c (op.New d ty full) in
+      let f = flight stage.Turn (op.New d ty full) q p r l in
+      let a = fresh_one (base_made o place) ty in
+      let new : is_undecided_new (flight_of w.now (Caller k)) ≡ true = rw is in
+      let typed : ty < length c.types = granted_type c w.now f refl operands in
+      let taken : IsPlaceOfNone c w o place = rw is at (others.taken place k placed lt new) in
+      let fills = fills_cell c w a place known typed refl refl taken in
+      let holds = (storage_holds c a known.limits typed).0 in
+      let inside = fills.inside in
+      let pages = known.limits.pages.1 in
+      let word : address_of (base_made o place) ≡ address_of (base_made o place) % 2 ^ 64 = omega arith in
+      let zero_there = place_is_zero c w n known mirrors others st a place
+      (λ run. new_frees_none c w.now k run known.now.orderly hold new) phase refl taken fills in (
+        subst (λ x. Move safe (image_scene_of w) n (record {
+          registers = slice_set w.now.words.registers (8 * k + d) x;
+          globals = w.now.words.globals;
+          heap = w.now.words.heap;
+          flights = slice_set w.now.seats.flights k (flight stage.Give (op.New d ty full) q p r l);
+          allocations = w.allocations ++ a ∷ [];
+        }) (with_register (with_new n ty) k d (Ptr (length n.allocations) ty 0))) word
+            (Grants k d (base_made o place) ty (flight stage.Give (op.New d ty full) q p r l) (record {
+              there = there_is c w n known mirrors safe ready k lt;
+              registers = own_registers c w n known mirrors safe ready k lt;
+              was = rw is;
+              bare = refl;
+            }) (own_words c w n known mirrors safe ready k lt) (operands_of c (op.New d ty full) operands).d
+            (λ i li. zero_there i
+            (let small = subst (λ (types : List (List Kind)). i < length (kinds_of types ty)) mirrors.types li
+            in omega arith))),
+        λ more. refl,
+      )
+  grant_by stage.Turn (op.New d ty full) q p r l _ is next used placed hold phase operands = absurd (false≢true used)
+  grant_by _ _ q p r l _ is next used placed hold phase operands = absurd (false≢true next)
+
+  pub full_by : (s : Stage) (o : Op) (q p r l : ℕ) → flight_among w.now.seats.flights k ≡ flight s o q p r l
+      → comes_next s o step.Full ≡ true
+      → Leads safe (image_scene_of w) n k o
+      (record (image_scene_of w) { flights = slice_set w.now.seats.flights k (flight stage.Give o q p r l) })
+      (Some answer.Full)
+  full_by stage.Turn (op.New d ty full) q p r l is next = (
+    goes_bare safe (image_scene_of w) n k _ (rw is) refl,
+    λ more. refl,
+  )
+  full_by _ _ q p r l is next = absurd (false≢true next)
+
+  freed_by : (s : Stage) (o : Op) (q p r l : ℕ) (cell : Cell) → flight_among w.now.seats.flights k ≡ flight s o q p r l
+      → is_undecided_free (flight s o q p r l) ≡ true
+      → pointed_cell c.pages w.now.words.pages p ≡ Some cell → is_freed w.now.words cell ≡ false
+      → (is_run_cell w.now.words (Some cell) ≡ true → (j : ℕ) → j ≢ k
+      → is_past_probe (flight_among w.now.seats.flights j).stage ≡ false)
+      → CarriesOwn (bases_of w.allocations) n k (flight s o q p r l)
+      → Leads safe (image_scene_of w) n k o
+      (record (image_scene_of w) {
+        flights = slice_set w.now.seats.flights k (flight stage.Give o q p r l);
+        allocations = map (freed_where_it_stands w.now.words (Some cell)) w.allocations;
+      }) (Some answer.Done)
+  freed_by stage.Turn (op.Free p') q p r l cell is undecided points fresh quiet car =
+      let f = flight stage.Give (op.Free p') q p r l in
+      let free = free_by c w n known mirrors safe ready st others k (op.Free p') f p cell (register_at n k p')
+      (record {
+        there = there_is c w n known mirrors safe ready k lt;
+        registers = own_registers c w n known mirrors safe ready k lt;
+        was = ap (λ (g : Flight). is_put g.stage) is;
+        bare = refl;
+      })
+      (mirrors.typed.registers (8 * k + p')) (ready.set.registers (8 * k + p')) (car.p refl) (car.some_p refl) points
+      fresh quiet in (
+        free.0,
+        λ more. one_right (bases_of (map (freed_where_it_stands w.now.words (Some cell)) w.allocations) ++ more)
+            answer.Done n k (op.Free p')
+            (ap (answer_of (bases_of (map (freed_where_it_stands w.now.words (Some cell)) w.allocations) ++ more))
+            (sym free.1)),
+      )
+  freed_by _ _ q p r l cell is undecided points fresh quiet car = absurd (false≢true undecided)
+
+  twice_by : (s : Stage) (o : Op) (q p r l : ℕ) (cell : Cell) → flight_among w.now.seats.flights k ≡ flight s o q p r l
+      → is_undecided_free (flight s o q p r l) ≡ true
+      → pointed_cell c.pages w.now.words.pages p ≡ Some cell → is_freed w.now.words cell ≡ true
+      → CarriesOwn (bases_of w.allocations) n k (flight s o q p r l)
+      → Leads safe (image_scene_of w) n k o
+      (record (image_scene_of w) { flights = slice_set w.now.seats.flights k (flight stage.Give o q p r l) })
+      (Some answer.Double)
+  twice_by stage.Turn (op.Free p') q p r l cell is undecided points is_free car =
+      let f = flight stage.Give (op.Free p') q p r l in
+      let free = double_by c w n known mirrors safe ready st others k f p cell (register_at n k p')
+      (ap (λ (g : Flight). is_put g.stage) is) refl
+      (mirrors.typed.registers (8 * k + p')) (ready.set.registers (8 * k + p')) (car.p refl) (car.some_p refl) points
+      is_free in (
+        free.0,
+        λ more. one_right (bases_of w.allocations ++ more) answer.Double n k (op.Free p')
+            (ap (answer_of (bases_of w.allocations ++ more)) (sym free.1)),
+      )
+  twice_by _ _ q p r l cell is undecided points is_free car = absurd (false≢true undecided)
+
+  -- `quar`
+  pub quar_by : (f : Flight) (p v : ℕ) (x : Option Cell) → flight_among w.now.seats.flights k ≡ f
+      → cell_freed c.pages w.now.words f p v ≡ x
+      → (is_run_cell w.now.words (target c.pages w.now.words f) ≡ true → (j : ℕ) → j ≢ k
+      → is_past_probe (flight_among w.now.seats.flights j).stage ≡ false)
+      → Leads safe (image_scene_of w) n k f.op
+      (record (image_scene_of w) {
+        flights = slice_set w.now.seats.flights k (progress_freed f x).flight;
+        allocations = map (freed_where_it_stands w.now.words x) w.allocations;
+      }) (progress_freed f x).answer
+  quar_by f p v None is e quiet =
+      subst (λ (xs : List PlacedAllocation). Leads safe (image_scene_of w) n k f.op
+      (record (image_scene_of w) { flights = slice_set w.now.seats.flights k f; allocations = xs }) None)
+      (sym (none_freed w.now.words w.allocations))
+      (subst (λ (g : Flight). Leads safe (image_scene_of w) n k g.op
+      (record (image_scene_of w) { flights = slice_set w.now.seats.flights k g }) None) is
+      (stays c w n known mirrors safe ready k (flight_among w.now.seats.flights k).op))
+  quar_by f p v (Some cell) is e quiet =
+      let freed = freed_cell c.pages w.now.words f p v cell e in
+      freed_by f.stage f.op f.q f.p f.r f.loaded cell is freed.free freed.pointed freed.unfreed
+      (λ r. quiet (ap (is_run_cell w.now.words) freed.at ∙ r))
+      (subst (λ (g : Flight). CarriesOwn (bases_of w.allocations) n k g) is (ready.images.carried k))
+
+  -- a look
+  pub look_by : (f : Flight) (x : Word) → flight_among w.now.seats.flights k ≡ f
+      → Leads safe (image_scene_of w) n k f.op
+      (record (image_scene_of w) { flights = slice_set w.now.seats.flights k (progress_look c w.now.words f x).flight })
+      (progress_look c w.now.words f x).answer
+  look_by f x is =
+      either_leads safe (image_scene_of w) n k f.op (image_scene_of w) (sees_double w.now.words
+      (target c.pages w.now.words f) x)
+      (decided f answer.Double) (still f)
+      (λ sees.
+      let t = sees_freed w.now.words (target c.pages w.now.words f) x sees in
+      let points = target_is c.pages w.now.words f t.cell t.is in
+      twice_by f.stage f.op f.q f.p f.r f.loaded t.cell is points.free points.pointed t.freed
+      (subst (λ (g : Flight). CarriesOwn (bases_of w.allocations) n k g) is (ready.images.carried k)))
+      (λ sees. subst (λ (g : Flight). Leads safe (image_scene_of w) n k g.op
+      (record (image_scene_of w) { flights = slice_set w.now.seats.flights k g }) None) is
+      (stays c w n known mirrors safe ready k (flight_among w.now.seats.flights k).op))

@@ -1,0 +1,169 @@
+-- The pages of a freed large allocation aren't resident, until they get other headers.
+use Rattle.std.proofs.Common.{◌≡◌, ℕ, ◌+◌, ◌-◌, ◌*◌, ◌/◌, ◌<◌, Bool, true, false, List, ◌∷◌, length, refl, sym, ◌∙◌, ap}
+use Rattle.std.proofs.Common.{[]}
+use Rattle.std.proofs.Common.{subst, inl, inr, arith}
+use Rattle.std.specs.Prelude.{◌&&◌, ◌==◌, not, Option, Some, None}
+use Rattle.std.specs.List.{list_any}
+use Rattle.std.proofs.lemmas.Bool.{and_from, and_parts, cases_Bool, cases_eq, cases_lt, eq-eqb, eqb-true}
+use Rattle.std.proofs.lemmas.Bool.{false_from_ne_true, ne_eqb, not-true, or_parts, true≢false}
+use Rattle.std.proofs.lemmas.List.{set_past}
+use Rattle.mk_laws.proofs.Vocabulary.{Config, Event, IsHistory, Moment, NeverState, Object, Page, PlacedAllocation}
+use Rattle.mk_laws.proofs.Vocabulary.{RunPages, Seat, Step, World, first_world, header_at, header_of, is_phase}
+use Rattle.mk_laws.proofs.Vocabulary.{is_resident_page, is_small_object, is_unmapped_header, left, left_from}
+use Rattle.mk_laws.proofs.Vocabulary.{never_behind, object_placed, pages_made, placed_at, storage_words}
+use Rattle.mk_laws.proofs.Vocabulary.{unmapped_header, use_under, world_behind}
+use Rattle.mk_core.specs.declared.events.Step.TheVariants as step
+use Rattle.mk_core.proofs.Histories.{left_append}
+use Rattle.mk_core.proofs.HistoryParts.{earlier_part_is_history}
+use Rattle.mk_core.proofs.ObjectHeaders.{unmapped_is_unmapped}
+use Rattle.mk_core.proofs.Sizes.{large_count, large_words}
+use Rattle.mk_core.proofs.StandingAllocations.{run_begins}
+use Rattle.mk_laws.specs.Ground.{ground_of}
+use Rattle.mk_laws.proofs.SameWords.{Behind}
+use Rattle.mk_laws.proofs.Changes.{Table, reg_table, tally_table}
+use Rattle.mk_laws.specs.LayoutScene.{HasHeader, IsShown, used_on}
+use Rattle.mk_laws.specs.Terrain.{claim_of, is_unmapping, mode_of, object_now}
+use Rattle.mk_laws.proofs.Claims.{claim_among}
+use Rattle.mk_laws.proofs.Freed.{gone_terrain}
+use Rattle.mk_laws.proofs.ResidentPages.{is_resident, resident_gone, resident_other, resident_used, unmapped_use}
+use Rattle.mk_laws.proofs.Serving.{Laid, own_claim}
+use Rattle.mk_laws.proofs.KnownWorlds.{KnownWorld, known_world}
+use Rattle.mk_laws.specs.Invariant.{Invariant}
+use Rattle.mk_laws.specs.Theorems.{OfHistories}
+use Rattle.mk_laws.proofs.ForImages.{gone_is, shown_claim, standing}
+use Rattle.mk_laws.proofs.InvariantHistories.{histories_keep_the_invariant}
+use Rattle.mk_laws.specs.UnmappedRuns.{IsOfUnmappedRun, UnmappedRunsTakeNoMemory, gives_header, is_resident_in}
+
+-- A page stays out of memory at each step that gives it no header.
+
+stays_out : (c : Config) (m : Moment) (seat : Seat) (x : Step) (p : ℕ) → gives_header p x ≡ false
+    → is_resident m.words.pages p ≡ false → is_resident (Behind c m seat x).words.pages p ≡ false
+stays_out c m seat step.Reg p none out = ap (λ (t : Table). is_resident t.pages p) (reg_table c m seat) ∙ out
+stays_out c m seat (step.Tally n v) p none out =
+    ap (λ (t : Table). is_resident t.pages p) (tally_table m.words n v) ∙ out
+stays_out c m seat (step.Used q n) p none out =
+    false_from_ne_true (is_resident (Behind c m seat (step.Used q n)).words.pages p)
+    (λ resident. true≢false (sym (resident_used m.words.pages q n p resident) ∙ out))
+stays_out c m seat (step.Head q n) p none out =
+    false_from_ne_true (is_resident (Behind c m seat (step.Head q n)).words.pages p)
+    (λ resident. true≢false (sym (was resident) ∙ out))
+  where
+    zero_there : p ≡ q → n ≡ 0
+    zero_there e = elim (cases_eq n 0) [
+      | inl z ↦ z
+      | inr some ↦ absurd (true≢false (sym (and_from (q == p) (not (n == 0)) (eq-eqb q p (sym e))
+          (ap not (ne_eqb n 0 some))) ∙ none))
+    ]
+
+    was : is_resident (Behind c m seat (step.Head q n)).words.pages p ≡ true → is_resident m.words.pages p ≡ true
+    was resident = elim (cases_eq p q) [
+      | inr ne ↦ resident_other m.words.pages q n p ne resident
+      | inl e ↦ elim (cases_lt q (length m.words.pages)) [
+        | inl lt ↦
+            resident_gone m.words.pages q n p lt
+            (ap (λ v. is_resident_page (use_under (header_of v) (used_on m.words.pages q))) (zero_there e)) resident
+        | inr past ↦
+            ap (λ (ps : List Page). is_resident ps p)
+            (sym (set_past m.words.pages q (record { header = n; used = used_on m.words.pages q }) past)) ∙ resident
+      ]
+    ]
+stays_out c m seat _ p none out = out
+
+stays_along : (c : Config) (w : World) (es : List Event) (p : ℕ)
+    → list_any (λ (e : Event). gives_header p e.step) es ≡ false → is_resident w.now.words.pages p ≡ false
+    → is_resident (left_from c w es).now.words.pages p ≡ false
+unfolding left_from
+stays_along c w [] p none out = out
+stays_along c w (e ∷ es) p none out =
+    let parts = or_parts (gives_header p e.step) (list_any (λ (x : Event). gives_header p x.step) es) none in
+    stays_along c (world_behind c w e) es p parts.1 (stays_out c w.now e.seat e.step p parts.0 out)
+
+-- The pages of the run have the headers of an unmapped one.
+
+unmapped_mode : (x going : Bool) (o : Object) (d h : ℕ) → x ≡ true → going ≡ false → HasHeader (mode_of x going) o d h
+    → h ≡ unmapped_header (pages_made o) d
+unmapped_mode true false o d h is out has = has.1
+unmapped_mode true true o d h is out has = cc
+unmapped_mode false going o d h is out has = cc
+
+not_false : (b : Bool) → not b ≡ false → b ≡ true
+not_false true h = refl
+not_false false h = cc
+
+module _ (c : Config) (w : World) (n : NeverState) (known : KnownWorld c w) (all : Invariant c w n) (p : ℕ)
+    (x : IsOfUnmappedRun c w p) where
+  abbrev a : PlacedAllocation
+  a = placed_at w.allocations x.number
+
+  abbrev o : Object
+  o = object_placed c (placed_at w.allocations x.number)
+
+  gone : ((placed_at w.allocations x.number).freed && not (is_small_object (object_placed c
+      (placed_at w.allocations x.number)))) ≡ true
+  gone = not_false (a.freed && not (is_small_object o)) (sym (gone_is c a x.unreleased) ∙ x.freed)
+
+  large : is_small_object (object_placed c (placed_at w.allocations x.number)) ≡ false
+  large = not-true (is_small_object o) (and_parts a.freed (not (is_small_object o)) gone).1
+
+  -- how far the page is after the first one
+  record OnRun : Type 0 where
+    distance : ℕ
+    near : distance < pages_made (object_placed c (placed_at w.allocations x.number))
+    there : (placed_at w.allocations x.number).base / 64 + distance ≡ p
+
+  on_run : OnRun
+  on_run =
+      let s = standing c w known all.order.laid x.number x.unreleased in
+      let aligned = (run_begins o a.base large s.stands.begins).1 in
+      let words : storage_words c a ≡ 64 * pages_made o = large_words o large in
+      let page = x.page in
+      record { distance = p - a.base / 64; near = omega arith; there = omega arith }
+
+  sized_shown : IsShown w.now.words.pages (claim_of c w.now.seats.holding.freed (placed_at w.allocations x.number))
+  sized_shown = shown_claim c w known all.order.laid x.number x.unreleased
+
+  -- by the call under way, or by an earlier one
+  header_there : header_at w.now.words p
+      ≡ unmapped_header (pages_made (object_placed c (placed_at w.allocations x.number))) on_run.distance
+  header_there = elim (cases_Bool (is_unmapping w.now.seats.holding.freed (a.base / 64))) [
+    | inr other ↦ by w.now.seats.holding.freed other (sized_shown.headers on_run.distance on_run.near)
+    | inl going ↦
+        let rested : Laid c (object_now c w.now) (is_phase w.now.words 4) w (record (ground_of w) { run = None }) =
+        gone_terrain c (object_now c w.now) (is_phase w.now.words 4) w
+        (λ run is. x.unmapped run is (page_of_run w.now.seats.holding.freed run is going)) all.order.laid in
+        let shown = rested.scene.shown (claim_of c None a)
+        (own_claim c (object_now c w.now) (record (ground_of w) { run = None }) (claim_of c None a)
+        (claim_among c None w.allocations x.number x.unreleased)) in
+        by None refl (shown.headers on_run.distance on_run.near)
+  ]
+    where
+      page_of_run : (freed : Option RunPages) (run : RunPages) → freed ≡ Some run
+          → is_unmapping freed ((placed_at w.allocations x.number).base / 64) ≡ true
+          → run.page ≡ (placed_at w.allocations x.number).base / 64
+      page_of_run freed run is going =
+          eqb-true run.page (a.base / 64) (ap (λ (y : Option RunPages). is_unmapping y (a.base / 64)) (sym is) ∙ going)
+
+      by : (freed : Option RunPages) → is_unmapping freed ((placed_at w.allocations x.number).base / 64) ≡ false
+          → HasHeader (claim_of c freed (placed_at w.allocations x.number)).mode
+          (object_placed c (placed_at w.allocations x.number)) on_run.distance
+          (header_at w.now.words ((placed_at w.allocations x.number).base / 64 + on_run.distance))
+          → header_at w.now.words p
+          ≡ unmapped_header (pages_made (object_placed c (placed_at w.allocations x.number))) on_run.distance
+      by freed other has =
+          ap (λ q. header_at w.now.words q) (sym on_run.there)
+          ∙ unmapped_mode (a.freed && not (is_small_object o)) _ o on_run.distance _ gone other has
+
+  not_resident : is_resident_in w p ≡ false
+  not_resident =
+      unmapped_use (header_of (header_at w.now.words p)) (used_on w.now.words.pages p)
+      (ap (λ h. is_unmapped_header (header_of h)) header_there
+      ∙ unmapped_is_unmapped (pages_made o) on_run.distance (large_count o sized_shown.sized large) on_run.near)
+
+pub unmapped_runs_take_no_memory : OfHistories UnmappedRunsTakeNoMemory
+unmapped_runs_take_no_memory c es h front more p is x none =
+    let before = earlier_part_is_history c front more (subst (λ (xs : List Event). IsHistory c xs) is h) in
+    let out = not_resident c (left c front) (never_behind c front)
+    (known_world c front before.within_limits before.enabled) (histories_keep_the_invariant c front before) p x in
+    ap (λ (xs : List Event). is_resident_in (left c xs) p) is
+    ∙ ap (λ (w : World). is_resident_in w p) (left_append c (first_world c) front more)
+    ∙ stays_along c (left c front) more p none out

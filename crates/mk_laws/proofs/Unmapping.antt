@@ -1,0 +1,268 @@
+-- The steps that unmap a run: it is freed, its pages get their headers, and the call that freed it ends.
+use Rattle.std.proofs.Common.{Bool, List, ap, arith, false, inl, inr, length, length-set, sym, true, ℕ, ◌+◌, ◌-◌, ◌<◌}
+use Rattle.std.proofs.Common.{◌∙◌, ◌≡◌, ◌≢◌, ◌⊎◌}
+use Rattle.std.specs.Prelude.{Some}
+use Rattle.std.proofs.lemmas.Bool.{cases_eq}
+use Rattle.mk_laws.proofs.Vocabulary.{Later, Object, ShowsPart, cells_made, cells_under, header_made, header_of}
+use Rattle.mk_laws.proofs.Vocabulary.{is_small_object, pages_made, stands, unmapped_header}
+use Rattle.mk_core.proofs.ObjectHeaders.{later_part, made_shows, part_cells, part_head, same_cells, shown_later}
+use Rattle.mk_core.proofs.ObjectHeaders.{unmapped_shows}
+use Rattle.mk_core.proofs.Sizes.{large_cells, pages_some}
+use Rattle.mk_laws.specs.LayoutScene.{Among, AreApart, Claim, HasHeader, HasItsHead, IsClaimed, IsLaidOn, IsOfOneCell}
+use Rattle.mk_laws.specs.LayoutScene.{IsPlotShown, IsShown, Mode, NoPlot, Plot, PlotStands, Plotted, LayoutScene}
+use Rattle.mk_laws.specs.LayoutScene.{Unmapping, head_on, header_on, is_released_on, run_count, shows_on, used_on}
+use Rattle.mk_laws.proofs.PageSets.{headed_here, headed_other, headed_used, with_header_on}
+use Rattle.mk_laws.proofs.LayoutReadings.{claimed, claimed_head, claimed_some, none_set, one_claim}
+use Rattle.mk_laws.proofs.Releasing.{head_of_other, shown_beside}
+use Rattle.mk_laws.proofs.RunCounts.{same_count}
+
+-- a claim's cells are those under its first page's header
+pub cells_at_claim : (s : LayoutScene) (x : Claim) → IsShown s.pages x
+    → cells_under (shows_on s.pages x.page) ≡ cells_made x.object
+cells_at_claim s x shown =
+    let zero : x.page + 0 ≡ x.page = omega arith in
+    rw (← zero) (part_cells x.object (shows_on s.pages (x.page + 0))
+    (claimed s.pages x 0 shown (let some = pages_some x.object shown.sized in omega arith)))
+
+-- a claim that shares a page with a run's is the run's
+pub shares_run : (s : LayoutScene) (x y : Claim) (d e : ℕ) → IsLaidOn s → Among x s.claims → Among y s.claims
+    → is_small_object x.object ≡ false → d < pages_made x.object
+    → e < pages_made y.object → y.page + e ≡ x.page + d → y ≡ x
+shares_run s x y d e laid ix iy large ld le at =
+    let sx = laid.shown x ix in
+    let sy = laid.shown y iy in
+    let page : y.page ≡ x.page = sym (claimed_head s.pages y e sy le) ∙ ap (λ q. head_on s.pages q) at
+    ∙ claimed_head s.pages x d sx ld in
+    let one = large_cells x.object large in
+    let cells = cells_at_claim s x sx in
+    let cells_y : cells_under (shows_on s.pages x.page) ≡ cells_made y.object = rw (← page) (cells_at_claim s y sy) in
+    let iix = sx.known in
+    let iiy = sy.known in
+    one_claim s.claims y x laid.apart iy ix (page, omega arith)
+
+-- and the page isn't one of a plot
+pub apart_of_plot : (s : LayoutScene) (x : Claim) (d first e : ℕ) (o : Object) → IsLaidOn s → Among x s.claims
+    → d < pages_made x.object → IsPlotShown s.pages first o → e < pages_made o → first + e ≢ x.page + d
+apart_of_plot s x d first e o laid ix ld plot le at =
+    let sx = laid.shown x ix in
+    let head : head_on s.pages (first + e) ≡ x.page = ap (λ q. head_on s.pages q) at ∙ claimed_head s.pages x d sx ld in
+    by head (plot.headers e le)
+  where
+    by : head_on s.pages (first + e) ≡ x.page
+        → (header_on s.pages (first + e) ≡ 0) ⊎ (header_on s.pages (first + e) ≡ header_made o e) → ⊥
+    by head (inl z) = claimed_some s.pages x d (laid.shown x ix) ld (rw (← at) z)
+    by head (inr is) =
+        let own : head_on s.pages (first + e) ≡ first =
+        rw is (part_head o e first (header_of (header_made o e)) (made_shows o e plot.sized le)) in
+        let zero : first + 0 ≡ first = omega arith in
+        none_set (used_on s.pages x.page) x.index (ap (λ p. used_on s.pages p) (sym head ∙ own ∙ sym zero)
+        ∙ plot.used 0 (let some = pages_some o plot.sized in omega arith)) (laid.shown x ix).used
+
+-- `head` (c): a page of the run that is unmapping gets its header
+abbrev pub PageUnmapped : LayoutScene → Claim → ℕ → LayoutScene
+PageUnmapped s x d = record s { pages = with_header_on s.pages (x.page + d) (unmapped_header (pages_made x.object) d) }
+
+pub layout_page_unmapped : (s : LayoutScene) (x : Claim) (d : ℕ) → IsLaidOn s → Among x s.claims → x.mode ≡ Unmapping
+    → is_small_object x.object ≡ false → d < pages_made x.object → IsLaidOn (PageUnmapped s x d)
+layout_page_unmapped s x d laid ix mode large ld =
+    record {
+      shown = λ y iy. elim (same_or_not y x) [
+        | inl same ↦ let e =
+            one_claim s.claims y x laid.apart iy ix same in rw e own
+        | inr other ↦ shown_beside s.pages p n y lt (laid.shown y iy)
+            (λ e le at. let is = shares_run s x y d e laid ix iy large ld le at in other
+            (rw is, rw is))
+      ];
+      apart = laid.apart;
+      used = λ q k h. let t = laid.used q k (rw (← (headed_used s.pages p n q lt))
+          h) in (rw (cells q) t.0, t.1);
+      plot = plot s.plot laid.plot;
+      occupied =
+          λ q some empty. laid.occupied q (was_some q some)
+          (rw (← (head q))
+          (sym (headed_used s.pages p n (head_on (with_header_on s.pages p n) q) lt) ∙ empty));
+      later = λ q e m is. elim (cases_eq q p) [
+        | inl same ↦ own_later q e m same is
+        | inr ne ↦ kept q e m (laid.later q e m (rw (← (headed_other s.pages p n q ne)) is))
+      ];
+    }
+  where
+    p : ℕ
+    p = x.page + d
+
+    n : ℕ
+    n = unmapped_header (pages_made x.object) d
+
+    same_or_not : (y x : Claim) → IsOfOneCell y x ⊎ (IsOfOneCell y x → ⊥)
+    same_or_not y x = elim (cases_eq y.page x.page) [
+      | inl ep ↦ elim (cases_eq y.index x.index) [ inl ei ↦ inl (ep, ei) | inr ni ↦ inr (λ same. ni same.1) ]
+      | inr np ↦ inr (λ same. np same.0)
+    ]
+
+    sx : IsShown s.pages x
+    sx = laid.shown x ix
+
+    lt : x.page + d < length s.pages
+    lt = let w = sx.within in let l = ld in omega arith
+
+    len : length (with_header_on s.pages (x.page + d) (unmapped_header (pages_made x.object) d)) ≡ length s.pages
+    len = length-set s.pages (x.page + d)
+        (record { header = unmapped_header (pages_made x.object) d; used = used_on s.pages (x.page + d) })
+
+    old : ShowsPart x.object d (shows_on s.pages (x.page + d))
+    old = claimed s.pages x d sx ld
+
+    new : ShowsPart x.object d (header_of (unmapped_header (pages_made x.object) d))
+    new = unmapped_shows x.object d sx.sized ld large
+
+    here : header_on (with_header_on s.pages (x.page + d) (unmapped_header (pages_made x.object) d)) (x.page + d)
+        ≡ unmapped_header (pages_made x.object) d
+    here = headed_here s.pages (x.page + d) (unmapped_header (pages_made x.object) d) lt
+
+    header_of_run : (e : ℕ) → e < pages_made x.object
+        → HasHeader Unmapping x.object e
+        (header_on (with_header_on s.pages (x.page + d) (unmapped_header (pages_made x.object) d)) (x.page + e))
+    header_of_run e le = elim (cases_eq e d) [
+      | inl same ↦ inr (
+        large,
+        rw same (here ∙ rw (← same)),
+      )
+      | inr ne ↦ rw (headed_other s.pages (x.page + d) (unmapped_header (pages_made x.object) d) (x.page + e)
+          (λ is. ne (omega arith)))
+          (rw mode at (sx.headers e le))
+    ]
+
+    own : IsShown (with_header_on s.pages (x.page + d) (unmapped_header (pages_made x.object) d)) x
+    own =
+        record {
+          sized = sx.sized;
+          known = sx.known;
+          within = let l = len in let w = sx.within in omega arith;
+          headers =
+              λ e le. rw mode
+              (header_of_run e le);
+          used = rw (headed_used s.pages (x.page + d) (unmapped_header (pages_made x.object) d) x.page lt) sx.used;
+        }
+
+    cells : (q : ℕ) → cells_under
+        (shows_on (with_header_on s.pages (x.page + d) (unmapped_header (pages_made x.object) d)) q)
+        ≡ cells_under (shows_on s.pages q)
+    cells q = elim (cases_eq q (x.page + d)) [
+      | inl e ↦
+          rw e
+          (rw here
+          (same_cells x.object d (header_of (unmapped_header (pages_made x.object) d)) (shows_on s.pages (x.page + d))
+          new old ∙ rw (← e)))
+      | inr ne ↦ rw (headed_other s.pages (x.page + d) (unmapped_header (pages_made x.object) d) q ne)
+    ]
+
+    counts : (q : ℕ) → run_count
+        (shows_on (with_header_on s.pages (x.page + d) (unmapped_header (pages_made x.object) d)) q)
+        ≡ run_count (shows_on s.pages q)
+    counts q = elim (cases_eq q (x.page + d)) [
+      | inl e ↦
+          rw e (rw here
+          (same_count x.object d (header_of (unmapped_header (pages_made x.object) d)) (shows_on s.pages (x.page + d))
+          new old large
+          ∙ rw (← e)))
+      | inr ne ↦ rw (headed_other s.pages (x.page + d) (unmapped_header (pages_made x.object) d) q ne)
+    ]
+
+    head : (q : ℕ) → head_on (with_header_on s.pages (x.page + d) (unmapped_header (pages_made x.object) d)) q
+        ≡ head_on s.pages q
+    head q = elim (cases_eq q (x.page + d)) [
+      | inl e ↦
+          rw e
+          (rw here
+          (part_head x.object d x.page (header_of (unmapped_header (pages_made x.object) d)) new
+          ∙ sym (part_head x.object d x.page (shows_on s.pages (x.page + d)) old)
+          ∙ rw (← e)))
+      | inr ne ↦ head_of_other s.pages (x.page + d) (unmapped_header (pages_made x.object) d) q ne
+    ]
+
+    was_some : (q : ℕ) → header_on (with_header_on s.pages (x.page + d) (unmapped_header (pages_made x.object) d)) q ≢ 0
+        → header_on s.pages q ≢ 0
+    was_some q some z = elim (cases_eq q (x.page + d)) [
+      | inl e ↦ claimed_some s.pages x d sx ld (rw (← e) z)
+      | inr ne ↦ some (headed_other s.pages (x.page + d) (unmapped_header (pages_made x.object) d) q ne ∙ z)
+    ]
+
+    plot : (plot : Plot) → PlotStands s.pages plot
+        → PlotStands (with_header_on s.pages (x.page + d) (unmapped_header (pages_made x.object) d)) plot
+    plot NoPlot stands = stands
+    plot (Plotted first o) stands =
+        record {
+          sized = stands.sized;
+          within = let l = len in let w = stands.within in omega arith;
+          headers =
+              λ e le. rw (headed_other s.pages (x.page + d) (unmapped_header (pages_made x.object) d) (first + e)
+              (apart_of_plot s x d first e o laid ix ld stands le))
+              (stands.headers e le);
+          used = λ e le. headed_used s.pages (x.page + d) (unmapped_header (pages_made x.object) d) (first + e) lt
+              ∙ stands.used e le;
+        }
+
+    -- the page that a later page names keeps its count, and isn't freed
+    kept : (q e : ℕ) (m : Bool) → HasItsHead s.pages s.releasing q e
+        → HasItsHead (with_header_on s.pages (x.page + d) (unmapped_header (pages_made x.object) d)) s.releasing q e
+    kept q e m l = (
+      l.0,
+      elim l.1 [
+        | inl less ↦ inl (rw (counts (q - e)) less)
+        | inr lost ↦ elim (cases_eq (q - e) (x.page + d)) [
+          | inl at ↦ absurd (claimed_some s.pages x d sx ld (rw (← at) lost.1))
+          | inr ne ↦ inr (
+            lost.0,
+            headed_other s.pages (x.page + d) (unmapped_header (pages_made x.object) d) (q - e) ne
+                ∙ lost.1,
+          )
+        ]
+      ],
+    )
+
+    own_later : (q e : ℕ) (m : Bool) → q ≡ x.page + d
+        → shows_on (with_header_on s.pages (x.page + d) (unmapped_header (pages_made x.object) d)) q ≡ Some (Later e m)
+        → HasItsHead (with_header_on s.pages (x.page + d) (unmapped_header (pages_made x.object) d)) s.releasing q e
+    own_later q e m same is =
+        let at =
+        shown_later x.object d e m (header_of (unmapped_header (pages_made x.object) d)) new (ap header_of (sym here)
+        ∙ ap (λ i. shows_on (with_header_on s.pages (x.page + d) (unmapped_header (pages_made x.object) d)) i)
+        (sym same) ∙ is) in
+        let was = later_part x.object d (shows_on s.pages (x.page + d)) old at.1 in
+        kept q e m (laid.later q e was.0 (ap (λ i. shows_on s.pages i) same ∙ was.1
+        ∙ ap (λ i. Some (Later i was.0)) (sym at.0)))
+
+-- Claims that change how far they are unmapped, where the headers stand for that.
+pub record Changes (s : LayoutScene) (claims : List Claim) : Type 0 where
+  pub from : (y : Claim) → Among y claims → (m : Mode) × Among (record y { mode = m }) s.claims
+  pub to : (x : Claim) → Among x s.claims → (m : Mode) × Among (record x { mode = m }) claims
+  pub apart : AreApart claims
+  pub headers : (y : Claim) → Among y claims → (d : ℕ) → d < pages_made y.object
+      → HasHeader y.mode y.object d (header_on s.pages (y.page + d))
+
+pub layout_changed : (s : LayoutScene) (claims : List Claim) → IsLaidOn s → Changes s claims
+    → IsLaidOn (record s { claims = claims })
+layout_changed s claims laid ch =
+    record {
+      shown =
+          λ y iy. let was =
+          laid.shown (record y { mode = (ch.from y iy).0 }) (ch.from y iy).1 in record {
+            sized = was.sized;
+            known = was.known;
+            within = was.within;
+            headers = ch.headers y iy;
+            used = was.used;
+          };
+      apart = ch.apart;
+      used = λ p k h. let t = laid.used p k h in (t.0, owner p k t.1);
+      plot = laid.plot;
+      occupied = laid.occupied;
+      later = laid.later;
+    }
+  where
+    owner : (p k : ℕ) → IsClaimed s.claims p k ⊎ (is_released_on s p k ≡ true)
+        → IsClaimed claims p k ⊎ (is_released_on s p k ≡ true)
+    owner p k (inr r) = inr r
+    owner p k (inl o) = let t =
+        ch.to o.claim o.among in inl
+        (record { claim = record o.claim { mode = t.0 }; among = t.1; page = o.page; index = o.index })

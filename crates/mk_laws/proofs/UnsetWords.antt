@@ -1,0 +1,76 @@
+-- Registers of no caller, and globals that nobody has stored to.
+use Rattle.std.proofs.Common.{◌≡◌, ℕ, ◌+◌, ◌*◌, ◌/◌, ◌%◌, Bool, true, false, List, ◌∷◌, ◌++◌, refl, sym, ◌∙◌, ap, arith}
+use Rattle.std.proofs.Common.{[]}
+use Rattle.std.proofs.Common.{append_assoc}
+use Rattle.std.specs.Prelude.{slice_index}
+use Rattle.std.proofs.lemmas.List.{get_or-set_other, get_or_past}
+use Rattle.mk_laws.proofs.Vocabulary.{Config, Event, Flight, Moment, NeverState, Null, Seat, Step, Value, World}
+use Rattle.mk_laws.proofs.Vocabulary.{at_rest, bases_of, first_world, flight_of, g_of, image_of, left, left_from}
+use Rattle.mk_core.specs.declared.events.Seat.TheVariants as seat
+use Rattle.mk_core.specs.declared.events.Step.TheVariants as step
+use Rattle.mk_core.proofs.Histories.{left_more}
+use Rattle.mk_laws.proofs.OrderlyLists.{at_first}
+use Rattle.mk_laws.proofs.SameWords.{Behind}
+use Rattle.mk_laws.proofs.Changes.{Table, reg_table, tally_table}
+use Rattle.mk_laws.specs.Images.{shown}
+use Rattle.mk_laws.proofs.KnownWorlds.{KnownWorld}
+use Rattle.mk_laws.specs.Invariant.{Invariant}
+use Rattle.mk_laws.specs.Theorems.{OfHistories}
+use Rattle.mk_laws.proofs.Induction.{KeptByEvents, holds_of_histories}
+use Rattle.mk_laws.specs.FreeWords.{Leaves}
+use Rattle.mk_laws.specs.UnsetWords.{IsNeverSet, RegistersOfNoCallerAreZero, UnsetGlobalsAreZero}
+use Rattle.mk_laws.proofs.FreeWords.{of_worlds}
+
+-- A register is the image of a value of the heap that never reuses storage, and that heap has none for it.
+no_caller : (c : Config) (w : World) (n : NeverState) → KnownWorld c w → Invariant c w n
+    → RegistersOfNoCallerAreZero c w
+no_caller c w n known all k r past =
+    let i : ℕ = 8 * k + r in
+    let flights = known.now.orderly.flights in
+    let rest : flight_of w.now (seat.Caller (i / 8)) ≡ at_rest =
+    get_or_past w.now.seats.flights (i / 8) at_rest (omega arith) in
+    let plain = ap (λ (f : Flight). shown f (i % 8) (slice_index w.now.words.registers i)) rest in
+    let count = all.mirrors.register_count in
+    sym plain ∙ all.mirrors.images.registers i
+    ∙ ap (λ (v : Value). image_of (bases_of w.allocations) v) (get_or_past n.registers i Null (omega arith))
+
+pub registers_of_no_caller_are_zero : OfHistories (Leaves RegistersOfNoCallerAreZero)
+registers_of_no_caller_are_zero = of_worlds no_caller
+
+-- A `setg` alone stores to globals.
+
+abbrev is_setg : Step → Bool
+is_setg step.Setg = true
+is_setg _ = false
+
+globals_stay : (c : Config) (m : Moment) (seat : Seat) (x : Step) → is_setg x ≡ false
+    → (Behind c m seat x).words.globals ≡ m.words.globals
+globals_stay c m seat step.Reg out = ap (λ (t : Table). t.globals) (reg_table c m seat)
+globals_stay c m seat (step.Tally n v) out = ap (λ (t : Table). t.globals) (tally_table m.words n v)
+globals_stay c m seat step.Setg out = cc
+globals_stay c m seat _ out = refl
+
+one_more : (c : Config) (es : List Event) (seat : Seat) (x : Step) (g : ℕ)
+    → IsNeverSet c (es ++ record { seat = seat; step = x } ∷ []) g → slice_index (left c es).now.words.globals g ≡ 0
+    → slice_index (Behind c (left c es).now seat x).words.globals g ≡ 0
+one_more c es seat step.Setg g never zero =
+    let f = flight_of (left c es).now seat in
+    get_or-set_other (left c es).now.words.globals (g_of f.op) g f.p 0 (λ e. never es [] seat refl (sym e)) ∙ zero
+one_more c es seat x g never zero =
+    ap (λ (gs : List ℕ). slice_index gs g) (globals_stay c (left c es).now seat x refl) ∙ zero
+
+first_unset : (c : Config) → UnsetGlobalsAreZero c []
+unfolding left_from
+first_unset c g never = at_first 64 g 0
+
+kept : KeptByEvents UnsetGlobalsAreZero
+kept c es e h unset g never =
+    let before : IsNeverSet c es g =
+    λ front rest seat is. never front (rest ++ e ∷ []) seat
+    (ap (λ (xs : List Event). xs ++ e ∷ []) is ∙ append_assoc front (record { seat = seat; step = step.Setg } ∷ rest)
+    (e ∷ [])) in
+    ap (λ (w : World). slice_index w.now.words.globals g) (left_more c (first_world c) es e)
+    ∙ one_more c es e.seat e.step g never (unset g before)
+
+pub unset_globals_are_zero : OfHistories UnsetGlobalsAreZero
+unset_globals_are_zero = holds_of_histories UnsetGlobalsAreZero first_unset kept

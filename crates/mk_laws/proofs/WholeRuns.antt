@@ -1,0 +1,257 @@
+-- Runs are whole, after each event.
+use Rattle.std.proofs.Common.{Bool, List, ap, arith, false, inl, inr, length, length-set, refl, subst, sym, true, ℕ}
+use Rattle.std.proofs.Common.{◌+◌, ◌-◌, ◌<◌, ◌∙◌, ◌≡◌, ◌≢◌, ◌⊎◌}
+use Rattle.std.specs.Prelude.{Option, Some}
+use Rattle.std.proofs.lemmas.Bool.{cases_Bool, cases_eq, true≢false}
+use Rattle.mk_laws.proofs.Vocabulary.{Config, Flight, Header, Later, LeafRun, Object, Page, Run, Seat, ShowsPart}
+use Rattle.mk_laws.proofs.Vocabulary.{Step, Words, World, cells_under, flight_of, head_page, head_page_under}
+use Rattle.mk_laws.proofs.Vocabulary.{header_made, header_of, heads_run, is_phase, is_small_object, pages_made}
+use Rattle.mk_laws.proofs.Vocabulary.{stands}
+use Rattle.mk_core.specs.declared.events.Step.TheVariants as step
+use Rattle.mk_core.proofs.ObjectHeaders.{later_part, made_shows, small_heads_none}
+use Rattle.mk_core.proofs.PageSteps.{Empties, GivesBack, HeadStep, ItCarves, ItEmpties, ItGivesBack, ItTakes, ItUnmaps}
+use Rattle.mk_core.proofs.PageSteps.{UsedStep, head_step, used_step}
+use Rattle.mk_core.proofs.Sizes.{pages_some}
+use Rattle.mk_core.proofs.WordBits.{fewer_bits}
+use Rattle.mk_laws.proofs.Actors.{Meets}
+use Rattle.mk_laws.proofs.Ground.{tally_ground}
+use Rattle.mk_laws.proofs.OthersMoves.{WorldBehind}
+use Rattle.mk_laws.specs.LayoutScene.{Among, Claim, InPlot, IsLaidOn, NoPlot, Plot, PlotStands, Plotted, LayoutScene}
+use Rattle.mk_laws.specs.LayoutScene.{head_on, header_on, run_count, shows_on, used_on}
+use Rattle.mk_laws.specs.Ground.{ground_of}
+use Rattle.mk_laws.specs.Terrain.{LayoutStands, object_now, plot_of, layout_scene_of}
+use Rattle.mk_laws.specs.WholeRuns.{HasLaterPage, HaveWholeRuns, RunIsWhole, RunsAreWhole}
+use Rattle.mk_laws.proofs.LayoutBefore.{Before, is_releasing_behind, page_within, reg_leaves_ground}
+use Rattle.mk_laws.proofs.Behind.{phase_kind}
+use Rattle.mk_laws.proofs.OnClaims.{find_bit}
+use Rattle.mk_laws.proofs.PageSets.{headed_here, headed_other, headed_used, used_header, used_here, used_other}
+use Rattle.mk_laws.proofs.PageSets.{with_header_on, with_used_on}
+use Rattle.mk_laws.proofs.LayoutReadings.{claimed, none_set, zero_where_none}
+use Rattle.mk_laws.proofs.RunCounts.{part_count}
+
+-- what heads a run is its own head
+own_head : (x : Option Header) (p : ℕ) → heads_run x ≡ true → head_page_under x p ≡ p
+own_head (Some (Run n m)) p h = refl
+own_head (Some (LeafRun n)) p h = refl
+own_head _ p h = cc
+
+-- and shows an object's first page
+heads_first : (o : Object) (d : ℕ) (x : Option Header) → ShowsPart o d x → heads_run x ≡ true → d ≡ 0
+heads_first o d x part h = elim (cases_eq d 0) [
+  | inl z ↦ z
+  | inr ne ↦
+      let later = later_part o d x part (omega arith) in
+      absurd (true≢false (sym h ∙ rw later.1))
+]
+
+heads_large : (o : Object) (x : Option Header) → ShowsPart o 0 x → heads_run x ≡ true → is_small_object o ≡ false
+heads_large o x part h = elim (cases_Bool (is_small_object o)) [
+  | inl s ↦ absurd (true≢false (sym h ∙ (small_heads_none o 0 x part s).0))
+  | inr l ↦ l
+]
+
+later_at : (pages : List Page) (releasing : Bool) (plot : Plot) (p q d : ℕ) (x : Option Header) → q ≡ p
+    → shows_on pages (q + d) ≡ x → {large : Type 0}
+    → (mapped : Bool) × (x ≡ Some (Later d mapped)) × large → HasLaterPage pages releasing plot p d
+later_at pages releasing plot p q d x page at (mapped, is, large) = inl (mapped, rw (← page) (at ∙ is))
+
+-- from a claim at its head
+claimed_run : (s : LayoutScene) (x : Claim) (p : ℕ) → IsLaidOn s → Among x s.claims → x.page ≡ p
+    → heads_run (shows_on s.pages p) ≡ true → RunIsWhole s.pages s.releasing s.plot p
+claimed_run s x p laid ix page h =
+    let shown = laid.shown x ix in
+    let some = pages_some x.object shown.sized in
+    let zero : x.page + 0 ≡ p = omega arith in
+    let part : ShowsPart x.object 0 (shows_on s.pages p) = rw zero at (claimed s.pages x 0 shown (omega arith)) in
+    let large = heads_large x.object (shows_on s.pages p) part h in
+    let count = part_count x.object (shows_on s.pages p) part large in
+    let within = shown.within in
+    record {
+      within = omega arith;
+      later = λ d some lt.
+          let near : d < pages_made x.object = omega arith in
+          later_at s.pages s.releasing s.plot p x.page d (shows_on s.pages (x.page + d)) page refl
+          (later_part x.object d (shows_on s.pages (x.page + d)) (claimed s.pages x d shown near) some);
+    }
+
+-- from a plot, whose first page it is
+plotted_run : (s : LayoutScene) (plot : Plot) (p : ℕ) → s.plot ≡ plot → PlotStands s.pages plot → InPlot plot p
+    → heads_run (shows_on s.pages p) ≡ true → RunIsWhole s.pages s.releasing plot p
+plotted_run s NoPlot p is stands here h = absurd here
+plotted_run s (Plotted first o) p is stands here h =
+    let low = here.0 in
+    let high = here.1 in
+    let at : first + (p - first) ≡ p = omega arith in
+    by (subst (λ q. (header_on s.pages q ≡ 0) ⊎ (header_on s.pages q ≡ header_made o (p - first))) at
+    (stands.headers (p - first) (omega arith)))
+  where
+    made : header_on s.pages p ≡ header_made o (p - first) → RunIsWhole s.pages s.releasing (Plotted first o) p
+    made e =
+        let low = here.0 in
+        let high = here.1 in
+        let part : ShowsPart o (p - first) (shows_on s.pages p) =
+        rw e (made_shows o (p - first) stands.sized (omega arith))
+        in
+        let none = heads_first o (p - first) (shows_on s.pages p) part h in
+        let page : p ≡ first = omega arith in
+        let front : ShowsPart o 0 (shows_on s.pages p) = rw none at part in
+        let large = heads_large o (shows_on s.pages p) front h in
+        let count = part_count o (shows_on s.pages p) front large in
+        let within = stands.within in
+        let zero : first + 0 ≡ p = omega arith in
+        let some = pages_some o stands.sized in
+        record {
+          within = omega arith;
+          later = λ d some_d lt.
+              let near : d < pages_made o = omega arith in
+              elim (stands.headers d near) [
+                | inl z ↦ inr (
+                  rw page z,
+                  rw (← zero) (stands.used 0 (omega arith)),
+                  inr here,
+                )
+                | inr m ↦
+                    later_at s.pages s.releasing (Plotted first o) p first d (header_of (header_made o d)) (sym page)
+                    (rw m) (later_part o d (header_of (header_made o d)) (made_shows o d stands.sized near) some_d)
+              ];
+        }
+
+    by : (header_on s.pages p ≡ 0) ⊎ (header_on s.pages p ≡ header_made o (p - first))
+        → RunIsWhole s.pages s.releasing (Plotted first o) p
+    by (inl z) = absurd (true≢false (sym h ∙ rw z))
+    by (inr e) = made e
+
+-- While the phase isn't releasing, they are whole in what is laid out.
+whole_quiet : (s : LayoutScene) → IsLaidOn s → s.releasing ≡ false → HaveWholeRuns s.pages s.releasing s.plot
+whole_quiet s laid off p h = elim (find_bit (used_on s.pages p) (cells_under (shows_on s.pages p))) [
+  | inr none ↦
+      let empty : used_on s.pages p ≡ 0 =
+      zero_where_none (used_on s.pages p) (λ k bit. let t = laid.used p k bit in true≢false (sym bit ∙ none k t.0))
+      in
+      let head : used_on s.pages (head_on s.pages p) ≡ 0 = rw (own_head (shows_on s.pages p) p h) empty in
+      elim (laid.occupied p (λ z. true≢false (sym h ∙ rw z)) head) [
+        | inl on ↦ absurd (true≢false (sym on ∙ off))
+        | inr here ↦ plotted_run s s.plot p refl laid.plot here h
+      ]
+  | inl (k, bit) ↦ elim (laid.used p k bit).1 [
+    | inr r ↦ absurd (true≢false (sym r ∙ rw off))
+    | inl o ↦ claimed_run s o.claim p laid o.among o.page h
+  ]
+]
+
+-- While it is, the place of a New doesn't matter.
+replotted : (pages : List Page) (plot other : Plot) (before : Bool) → HaveWholeRuns pages before plot
+    → HaveWholeRuns pages true other
+replotted pages plot other before whole p h =
+    let r = whole p h in
+    record {
+      within = r.within;
+      later = λ d some lt. elim (r.later d some lt) [ inl is ↦ inl is | inr free ↦ inr (free.0, free.1, inl refl) ];
+    }
+
+-- `head` (d)
+emptied : (w : Words) (plot : Plot) (p n : ℕ) → p < length w.pages → Empties w p n → HaveWholeRuns w.pages true plot
+    → HaveWholeRuns (with_header_on w.pages p n) true plot
+emptied w plot p n lt x whole q h = elim (cases_eq q p) [
+  | inl e ↦
+      absurd (true≢false (sym h ∙ rw e (rw (headed_here w.pages p n lt) (rw x.is))))
+  | inr ne ↦ other ne
+]
+  where
+    other : q ≢ p → RunIsWhole (with_header_on w.pages p n) true plot q
+    other ne =
+        let same : shows_on (with_header_on w.pages p n) q ≡ shows_on w.pages q = rw (headed_other w.pages p n q ne) in
+        let r = whole q (rw (← same) h) in
+        let count : run_count (shows_on (with_header_on w.pages p n) q) ≡ run_count (shows_on w.pages q) = rw same in
+        let len = length-set w.pages p (record { header = n; used = used_on w.pages p }) in
+        let within = r.within in
+        record {
+          within = omega arith;
+          later = λ d some near. page d (cases_eq (q + d) p) (r.later d some (omega arith));
+        }
+      where
+        page : (d : ℕ) → (q + d ≡ p) ⊎ (q + d ≢ p) → HasLaterPage w.pages true plot q d
+            → HasLaterPage (with_header_on w.pages p n) true plot q d
+        page d (inr away) (inl is) = inl (is.0, rw (headed_other w.pages p n (q + d) away) is.1)
+        page d (inr away) (inr free) = inr (
+          headed_other w.pages p n (q + d) away ∙ free.0,
+          headed_used w.pages p n q lt ∙ free.1,
+          free.2,
+        )
+        page d (inl at) (inr free) =
+            inr (
+              ap (λ i. header_on (with_header_on w.pages p n) i) at ∙ headed_here w.pages p n lt ∙ x.is,
+              headed_used w.pages p n q lt ∙ free.1,
+              free.2,
+            )
+        page d (inl at) (inl is) =
+            let head : head_page w p ≡ q = rw (← at) (rw is.1 (let back : q + d - d ≡ q = omega arith in back)) in
+            inr (
+              ap (λ i. header_on (with_header_on w.pages p n) i) at ∙ headed_here w.pages p n lt ∙ x.is,
+              headed_used w.pages p n q lt ∙ rw (← head) x.unused,
+              inl refl,
+            )
+
+-- `used` (b)
+given_back : (w : Words) (plot : Plot) (p n : ℕ) → p < length w.pages → GivesBack w p n
+    → HaveWholeRuns w.pages true plot → HaveWholeRuns (with_used_on w.pages p n) true plot
+given_back w plot p n lt x whole q h =
+    let same : shows_on (with_used_on w.pages p n) q ≡ shows_on w.pages q = rw (used_header w.pages p n q lt) in
+    let r = whole q (rw (← same) h) in
+    let count : run_count (shows_on (with_used_on w.pages p n) q) ≡ run_count (shows_on w.pages q) = rw same in
+    let len = length-set w.pages p (record { header = header_on w.pages p; used = n }) in
+    let within = r.within in
+    record { within = omega arith; later = λ d some near. page d (r.later d some (omega arith)) }
+  where
+    still : used_on w.pages q ≡ 0 → used_on (with_used_on w.pages p n) q ≡ 0
+    still z = elim (cases_eq q p) [
+      | inr ne ↦ used_other w.pages p n q ne ∙ z
+      | inl e ↦
+          rw e (used_here w.pages p n lt ∙ zero_where_none n (λ k bit. none_set (used_on w.pages p) k (rw (← e)
+          z) (fewer_bits n (used_on w.pages p) k x.fewer bit)))
+    ]
+
+    page : (d : ℕ) → HasLaterPage w.pages true plot q d → HasLaterPage (with_used_on w.pages p n) true plot q d
+    page d (inl is) = inl (is.0, rw (used_header w.pages p n (q + d) lt) is.1)
+    page d (inr free) = inr (used_header w.pages p n (q + d) lt ∙ free.0, still free.1, free.2)
+
+head_whole : (c : Config) (w : World) (f : Flight) (plot : Plot) (p n : ℕ) → p < length w.now.words.pages
+    → is_phase w.now.words 4 ≡ true → HeadStep c w.now f p n
+    → HaveWholeRuns w.now.words.pages true plot → HaveWholeRuns (with_header_on w.now.words.pages p n) true plot
+head_whole c w f plot p n lt four (ItCarves off x) whole = absurd (true≢false (sym four ∙ off))
+head_whole c w f plot p n lt four (ItUnmaps off x) whole = absurd (true≢false (sym four ∙ off))
+head_whole c w f plot p n lt four (ItEmpties on x) whole = emptied w.now.words plot p n lt x whole
+
+used_whole : (c : Config) (w : World) (f : Flight) (plot : Plot) (p n : ℕ) → p < length w.now.words.pages
+    → is_phase w.now.words 4 ≡ true → UsedStep c w.now f p n
+    → HaveWholeRuns w.now.words.pages true plot → HaveWholeRuns (with_used_on w.now.words.pages p n) true plot
+used_whole c w f plot p n lt four (ItTakes off once x) whole = absurd (true≢false (sym four ∙ off))
+used_whole c w f plot p n lt four (ItGivesBack on x) whole = given_back w.now.words plot p n lt x whole
+
+-- what each kind does while the phase is releasing, and where it becomes so
+whole_by_kind : (c : Config) (w : World) (seat : Seat) (x : Step) (plot : Plot) → Before c w → Meets c w.now seat x
+    → is_releasing_behind x (is_phase w.now.words 4) ≡ true
+    → HaveWholeRuns w.now.words.pages true plot → HaveWholeRuns (WorldBehind c w seat x).now.words.pages true plot
+whole_by_kind c w seat (step.Head p n) plot b h on whole =
+    head_whole c w (flight_of w.now seat) plot p n (page_within c w p b h.range) on
+    (head_step c w.now (flight_of w.now seat) p n h.holder) whole
+whole_by_kind c w seat (step.Used p n) plot b h on whole =
+    used_whole c w (flight_of w.now seat) plot p n (page_within c w p b h.range) on
+    (used_step c w.now (flight_of w.now seat) p n h.holder) whole
+whole_by_kind c w seat step.Reg plot b h on whole = rw (reg_leaves_ground c w seat).pages whole
+whole_by_kind c w seat (step.Tally n v) plot b h on whole = rw (tally_ground w.now.words n v).pages whole
+whole_by_kind c w seat _ plot b h on whole = whole
+
+pub whole_behind : (c : Config) (w : World) (seat : Seat) (x : Step) → Before c w → Meets c w.now seat x
+    → RunsAreWhole c w → LayoutStands c (WorldBehind c w seat x) → RunsAreWhole c (WorldBehind c w seat x)
+whole_behind c w seat x b h whole laid =
+    let v : World = WorldBehind c w seat x in
+    let plot : Plot = plot_of (object_now c v.now) v.now.seats.holding.placing in
+    elim (cases_Bool (is_releasing_behind x (is_phase w.now.words 4))) [
+      | inl on ↦
+          rw (phase_kind c w seat x h ∙ on) (whole_by_kind c w seat x plot b h on
+          (replotted w.now.words.pages (plot_of (object_now c w.now) w.now.seats.holding.placing) plot
+          (is_phase w.now.words 4) whole))
+      | inr off ↦ whole_quiet (layout_scene_of c (object_now c v.now) (is_phase v.now.words 4) v.now.words.marks
+          (ground_of v)) laid.scene (phase_kind c w seat x h ∙ off)
+    ]

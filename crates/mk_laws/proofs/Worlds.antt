@@ -1,0 +1,166 @@
+-- What is known of a world of a history, and what values and words in it point into.
+use Rattle.std.proofs.Common.{ap, arith, false, inl, inr, subst, sym, true, ℕ, ◌-◌, ◌/◌, ◌<◌, ◌∙◌, ◌≡◌, ◌≢◌, ◌⊎◌, ◌*◌}
+use Rattle.std.specs.Prelude.{Option, Some, nat_le, nat_lt, slice_index}
+use Rattle.std.proofs.lemmas.Bool.{and_parts, eqb-true, leb-true, ltb-true}
+use Rattle.mk_never.specs.NeverHeap.{NeverState}
+use Rattle.mk_geom.specs.Addresses.{head_page_under, page_at_address}
+use Rattle.mk_geom.specs.Storages.{IsStorage, stands_on}
+use Rattle.mk_geom.specs.StorageWords.{IsWordOf, PointsInto}
+use Rattle.mk_geom.specs.declared.headers.Header.{Header}
+use Rattle.mk_geom.specs.declared.headers.Header.TheVariants.{Block, Free, Later, LeafBlock, LeafRun, Run}
+use Rattle.mk_geom.proofs.Standing.{stands_at_first, stands_from}
+use Rattle.mk_core.specs.Allocations.{PlacedAllocation, cell_of_allocation, placed_at, storage_of, storage_words}
+use Rattle.mk_core.specs.Cells.{has_no_pointers, header_in, is_left_unmarked, is_unmapped_header, pointed_cell}
+use Rattle.mk_core.specs.History.{World}
+use Rattle.mk_core.specs.NewPlaces.{is_small_object, pages_made}
+use Rattle.mk_core.specs.Moments.{is_phase}
+use Rattle.mk_core.specs.ObjectHeaders.{IsSized, OfBlock, OfLater, OfLeafBlock, OfLeafRun, OfRun, ShowsPart}
+use Rattle.mk_core.specs.StandingAllocations.{HasItsHeaders, StandsOnHeap, object_placed}
+use Rattle.mk_core.specs.Words.{phase_of}
+use Rattle.mk_core.specs.declared.config.Config.{Config}
+use Rattle.mk_core.specs.declared.seats.Object.{Object}
+use Rattle.mk_core.specs.declared.seats.RunPages.{RunPages}
+use Rattle.mk_core.proofs.ObjectHeaders.{part_has_no_pointers}
+use Rattle.mk_core.proofs.PointedAllocations.{pointers_come_back}
+use Rattle.mk_core.proofs.PointedPages.{PointsTo, points_to}
+use Rattle.mk_core.proofs.Sizes.{large_words}
+use Rattle.mk_core.proofs.StandingAllocations.{first_page_shows, pointers_hit, run_begins, standing_has_storage}
+use Rattle.mk_core.proofs.StandingAllocations.{typed_size}
+use Rattle.mk_laws.specs.LayoutScene.{run_count}
+use Rattle.mk_laws.specs.ImagePremises as images
+use Rattle.mk_laws.specs.ImagePremises.{MayHoldWords, OfFreedRun, OfMapped, OfReleased}
+use Rattle.mk_laws.proofs.KnownWorlds.{KnownWorld}
+use Rattle.mk_laws.specs.Guard.{IsMarking}
+use Rattle.mk_laws.proofs.MappedWords.{mapped_stays}
+use Rattle.mk_laws.specs.Invariant.{Invariant}
+use Rattle.mk_laws.proofs.InvariantJoined.{told_to_images}
+use Rattle.mk_laws.proofs.PrecisionStepKinds.{neither}
+
+-- all that is known of it
+pub record Told (c : Config) (w : World) (n : NeverState) : Type 0 where
+  pub known : KnownWorld c w
+  pub all : Invariant c w n
+
+-- A heap word is one of an unreleased allocation.
+pub record IsHeld (c : Config) (w : World) (x : ℕ) : Type 0 where
+  pub number : ℕ
+  pub unreleased : (placed_at w.allocations number).released ≡ false
+  pub word : IsWordOf (storage_of c (placed_at w.allocations number)) x
+
+not_four : (n : ℕ) → (n ≡ 1) ⊎ (n ≡ 2) → n ≡ 4 → ⊥
+not_four n (inl e) f = absurd (omega arith)
+not_four n (inr e) f = absurd (omega arith)
+
+-- a run's head shows the pages of its object
+part_count : (o : Object) (x : Option Header) (d : ℕ) → ShowsPart o 0 x → d < run_count x
+    → (is_small_object o ≡ false) × (d < pages_made o)
+part_count o x d (OfBlock first small leaf) lt = absurd (omega arith)
+part_count o x d (OfLeafBlock first small leaf) lt = absurd (omega arith)
+part_count o x d (OfRun mapped first large leaf) lt = (large, lt)
+part_count o x d (OfLeafRun first large leaf) lt = (large, lt)
+part_count o x d (OfLater mapped some large) lt = absurd (omega arith)
+
+module _ (c : Config) (w : World) (n : NeverState) (t : Told c w n) where
+  others : images.ImagePremises c w
+  others = told_to_images c w n t.known t.all
+
+  pub stands : (b : ℕ) → (placed_at w.allocations b).released ≡ false → StandsOnHeap c (placed_at w.allocations b)
+  stands b u = (others.laid_out b u).stands
+
+  pub headers : (b : ℕ) → (placed_at w.allocations b).released ≡ false
+      → HasItsHeaders c w.now.words (placed_at w.allocations b)
+  headers b u = (others.laid_out b u).headers
+
+  pub sized : (b : ℕ) → (placed_at w.allocations b).released ≡ false
+      → IsSized (object_placed c (placed_at w.allocations b))
+  sized b u = typed_size c (placed_at w.allocations b) t.known.limits (stands b u).typed
+
+  -- What points into an allocation's storage points into its cell,
+  pub hits : (b v : ℕ) → (placed_at w.allocations b).released ≡ false
+      → PointsInto v (storage_of c (placed_at w.allocations b))
+      → pointed_cell c.pages w.now.words.pages v ≡ Some (cell_of_allocation c (placed_at w.allocations b))
+  hits b v u into =
+      pointers_hit c w.now.words (placed_at w.allocations b) t.known.limits (stands b u) (headers b u) v into
+
+  first_part : (b : ℕ) → (placed_at w.allocations b).released ≡ false
+      → ShowsPart (object_placed c (placed_at w.allocations b)) 0
+      (header_in w.now.words ((placed_at w.allocations b).base / 64))
+  first_part b u = first_page_shows c w.now.words (placed_at w.allocations b) (sized b u) (headers b u)
+
+  -- and back.
+  pub comes_back : IsMarking w.now.words → (b v : ℕ) → (placed_at w.allocations b).released ≡ false
+      → pointed_cell c.pages w.now.words.pages v ≡ Some (cell_of_allocation c (placed_at w.allocations b))
+      → PointsInto v (storage_of c (placed_at w.allocations b))
+  comes_back early b v u is =
+      pointers_come_back c w.now.words a t.known.limits (stands b u) (headers b u) v
+      (by to.header to.shown to.lies.head) is
+    where
+      a : PlacedAllocation
+      a = placed_at w.allocations b
+
+      storage : IsStorage c.pages (storage_of c a)
+      storage = standing_has_storage c a t.known.limits (stands b u)
+
+      to : PointsTo c.pages w.now.words v (cell_of_allocation c a)
+      to = points_to c.pages w.now.words v (cell_of_allocation c a) is
+
+      on_first : a.base / 64 ≡ page_at_address v → stands_on (page_at_address v) (storage_of c a) ≡ true
+      on_first at = stands_at_first c.pages (storage_of c a) (page_at_address v) storage at
+
+      by : (h : Header) → header_in w.now.words (page_at_address v) ≡ Some h
+          → a.base / 64 ≡ head_page_under (Some h) (page_at_address v)
+          → stands_on (page_at_address v) (storage_of c a) ≡ true
+      by Free shown head = on_first head
+      by (Block class) shown head = on_first head
+      by (LeafBlock class) shown head = on_first head
+      by (Run count mapped) shown head = on_first head
+      by (LeafRun count) shown head = on_first head
+      by (Later distance mapped) shown head =
+          let later = t.all.order.laid.scene.later (page_at_address v) distance mapped shown in
+          let le = later.0 in
+          elim later.1 [
+            | inr four ↦ absurd (not_four (phase_of w.now.words) early (eqb-true (phase_of w.now.words) 4 four.0))
+            | inl lt ↦
+                let counted : distance < run_count (header_in w.now.words (a.base / 64)) =
+                subst (λ p. distance < run_count (header_in w.now.words p)) (sym head) lt in
+                let part = part_count (object_placed c a) (header_in w.now.words (a.base / 64)) distance
+                (first_part b u) counted in
+                let large = part.0 in
+                let near = part.1 in
+                let words : storage_words c a ≡ 64 * pages_made (object_placed c a) =
+                large_words (object_placed c a) large in
+                let first = (run_begins (object_placed c a) a.base large (stands b u).begins).1 in
+                stands_from (page_at_address v) (storage_of c a) (omega arith) (omega arith)
+          ]
+
+  -- Where its page's header is scanned, an allocation isn't leaf.
+  pub not_leaf : (a : ℕ) → (placed_at w.allocations a).released ≡ false
+      → has_no_pointers (header_in w.now.words ((placed_at w.allocations a).base / 64)) ≡ false
+      → (storage_of c (placed_at w.allocations a)).leaf ≡ false
+  not_leaf a u scanned =
+      let o : Object = object_placed c (placed_at w.allocations a) in
+      let x : Option Header = header_in w.now.words ((placed_at w.allocations a).base / 64) in
+      (neither o.leaf (is_unmapped_header x) (sym (part_has_no_pointers o x (first_part a u)) ∙ scanned)).0
+
+  -- A word that isn't 0 is held, while a cycle marks.
+  pub held : IsMarking w.now.words → (x : ℕ) → slice_index w.now.words.heap x ≢ 0 → IsHeld c w x
+  held early x some = by (others.zero_words x some)
+    where
+      by : MayHoldWords c w x → IsHeld c w x
+      by (OfMapped i mapped word) =
+          record { number = i; unreleased = mapped_stays c (placed_at w.allocations i) mapped; word = word }
+      by (OfReleased cell pointed released) =
+          let four = (and_parts (is_phase w.now.words 4) (is_left_unmarked w.now.words cell) released).0 in
+          absurd (not_four (phase_of w.now.words) early (eqb-true (phase_of w.now.words) 4 four))
+      by (OfFreedRun run there inside) =
+          let f = others.freed_run run there in
+          let a : PlacedAllocation = placed_at w.allocations f.number in
+          let page : run.page ≡ a.base / 64 = ap (λ (r : RunPages). r.page) f.is in
+          let count : run.count ≡ pages_made (object_placed c a) = ap (λ (r : RunPages). r.count) f.is in
+          let parts = and_parts (nat_le run.page (x / 64)) (nat_lt (x / 64 - run.page) run.count) inside in
+          let from = leb-true run.page (x / 64) parts.0 in
+          let to = ltb-true (x / 64 - run.page) run.count parts.1 in
+          let words : storage_words c a ≡ 64 * pages_made (object_placed c a) =
+          large_words (object_placed c a) f.large in
+          let first = (run_begins (object_placed c a) a.base f.large (stands f.number f.unreleased).begins).1 in
+          record { number = f.number; unreleased = f.unreleased; word = (omega arith, omega arith) }

@@ -1,0 +1,71 @@
+-- What stands while a cycle marks: the words of black cells are guarded, and what markers have scanned and seen goes
+-- on. And what stands from `close` to `release`: the marks are closed.
+use Rattle.std.specs.Prelude.{◌≡◌, ◌≢◌, ◌⊎◌, ℕ, ◌+◌, ◌<◌, ◌≤◌, true, false, slice_index, Option, Some}
+use Rattle.mk_geom.specs.declared.addresses.Cell.{Cell}
+use Rattle.mk_geom.specs.Headers.{header_of}
+use Rattle.mk_geom.specs.Addresses.{cell_at}
+use Rattle.mk_core.specs.declared.config.Config.{Config}
+use Rattle.mk_core.specs.declared.seats.Scan.{Scan}
+use Rattle.mk_core.specs.declared.seats.SeenHeader.{SeenHeader}
+use Rattle.mk_core.specs.declared.seats.Marker.{Marker}
+use Rattle.mk_core.specs.Words.{Words, phase_of, header_at}
+use Rattle.mk_core.specs.Cells.{header_in, cells_under, words_under, has_no_pointers, is_marked, first_word, cell_words}
+use Rattle.mk_core.specs.Cells.{points_well, word_points_well}
+use Rattle.mk_core.specs.Moments.{Moment, marker_of}
+use Rattle.mk_core.specs.StopConditions.{is_attending}
+use Rattle.mk_core.specs.ClosedMarks.{IsGuarded, BlackIsGuarded}
+
+-- One header word goes on as another: what the one shows of cells, the other shows too.
+pub record HeaderGoesOn (pages before after : ℕ) : Type 0 where
+  pub cell : (value : ℕ) (x : Cell) → cell_at pages before value ≡ Some x → cell_at pages after value ≡ Some x
+  pub count : cells_under (header_of before) ≢ 0 → cells_under (header_of after) ≡ cells_under (header_of before)
+  pub words : cells_under (header_of before) ≢ 0 → words_under (header_of after) ≡ words_under (header_of before)
+  pub unscanned : cells_under (header_of before) ≢ 0 → has_no_pointers (header_of before) ≡ true
+      → has_no_pointers (header_of after) ≡ true
+
+abbrev pub cell_scanned : Scan → Cell
+cell_scanned x = record { page = x.page; index = x.index }
+
+-- the scan's cell is there, and the scan ends after its last word, or at its first where it isn't scanned
+abbrev pub EndsItsCell : Words → Scan → Type 0
+EndsItsCell w x =
+    (x.end ≡ first_word w (cell_scanned x) + cell_words w (cell_scanned x))
+    ⊎ ((x.end ≡ first_word w (cell_scanned x)) × (has_no_pointers (header_in w x.page) ≡ true))
+
+-- A marker is so far in a marked cell: each word before its next one is guarded, or is its open hand.
+pub record ScanStands (c : Config) (m : Moment) (hand : Option ℕ) (x : Scan) : Type 0 where
+  pub index : x.index < cells_under (header_in m.words x.page)
+  pub marked : is_marked m.words (cell_scanned x) ≡ true
+  pub start : first_word m.words (cell_scanned x) ≤ x.next
+  pub next : x.next ≤ x.end
+  pub end : EndsItsCell m.words x
+  pub passed : has_no_pointers (header_in m.words x.page) ≡ false → (n : ℕ) → first_word m.words (cell_scanned x) ≤ n
+      → n < x.next
+      → IsGuarded c m n ⊎ (hand ≡ Some (slice_index m.words.heap n))
+
+-- And the header that it has seen goes on.
+pub record MarkerStands (c : Config) (m : Moment) (x : Marker) : Type 0 where
+  pub scan : (s : Scan) → x.scan ≡ Some s → ScanStands c m x.hand s
+  pub seen : (s : SeenHeader) → x.seen ≡ Some s → HeaderGoesOn c.pages s.header (header_at m.words s.page)
+
+pub record Guard (c : Config) (m : Moment) : Type 0 where
+  pub black : BlackIsGuarded c m
+  pub markers : (k : ℕ) → is_attending (marker_of m k).presence ≡ true → MarkerStands c m (marker_of m k)
+
+-- The phase is marking, or wanted for closing.
+abbrev pub IsMarking : Words → Type 0
+IsMarking w = (phase_of w ≡ 1) ⊎ (phase_of w ≡ 2)
+
+-- Every register and global, and every word of a marked cell that is scanned, points into nothing or into a marked
+-- cell.
+pub record CellsAreClosed (c : Config) (w : Words) : Type 0 where
+  pub registers : (i : ℕ) → points_well c.pages w (slice_index w.registers i) ≡ true
+  pub globals : (g : ℕ) → points_well c.pages w (slice_index w.globals g) ≡ true
+  pub words : (cell : Cell) (i : ℕ) → cell.index < cells_under (header_in w cell.page) → is_marked w cell ≡ true
+      → has_no_pointers (header_in w cell.page) ≡ false → i < cell_words w cell
+      → word_points_well c.pages w (first_word w cell + i) ≡ true
+
+-- What a cycle stands on, from its `begin` to its `close`, and from there to its `release`.
+pub record MarksStand (c : Config) (m : Moment) : Type 0 where
+  pub guarded : IsMarking m.words → Guard c m
+  pub closed : phase_of m.words ≡ 3 → CellsAreClosed c m.words

@@ -1,0 +1,45 @@
+-- A world mirrors the heap that never reuses storage: the group of facts that each admitted event keeps.
+use Rattle.std.specs.Prelude.{◌≡◌, ℕ, ◌*◌, true, length, Some}
+use Rattle.mk_never.specs.declared.values.Value.TheVariants.{Ptr}
+use Rattle.mk_never.specs.NeverHeap.{NeverState, register_at}
+use Rattle.mk_never.specs.Typed.{IsTyped}
+use Rattle.mk_core.specs.declared.config.Config.{Config}
+use Rattle.mk_core.specs.declared.events.Seat.TheVariants.{Caller}
+use Rattle.mk_core.specs.declared.seats.RunPages.{RunPages}
+use Rattle.mk_core.specs.Calls.{p_of}
+use Rattle.mk_core.specs.Moments.{flight_of}
+use Rattle.mk_core.specs.Allocations.{placed_at}
+use Rattle.mk_core.specs.History.{World}
+use Rattle.mk_laws.specs.Protocol.{is_decided_free}
+use Rattle.mk_laws.specs.Images.{image_scene_of, AreImages, AreTwins}
+use Rattle.mk_laws.specs.SafeSets.{HasSafeSet}
+
+-- The register points into the allocation of the run.
+pub record PointsAtRun (w : World) (n : NeverState) (k r : ℕ) (run : RunPages) : Type 0 where
+  pub number : ℕ
+  pub ty : ℕ
+  pub offset : ℕ
+  pub is : register_at n k r ≡ Ptr number ty offset
+  pub base : (placed_at w.allocations number).base ≡ 64 * run.page
+
+-- A Free's register points into the run that the call unmaps.
+abbrev pub OwnsFreedRun : World → NeverState → Type 0
+OwnsFreedRun w n =
+    (run : RunPages) → w.now.seats.holding.freed ≡ Some run → (k : ℕ)
+    → is_decided_free (flight_of w.now (Caller k)) ≡ true
+    → PointsAtRun w n k (p_of (flight_of w.now (Caller k)).op) run
+
+pub record Mirrors (c : Config) (w : World) (n : NeverState) : Type 0 where
+  -- That heap has the types, the callers' registers and the globals of the configuration, and its values are typed.
+  pub types : n.types ≡ c.types
+  pub register_count : length n.registers ≡ 8 * c.callers
+  pub global_count : length n.globals ≡ 64
+  pub typed : IsTyped c.globals n
+  -- It has the same allocations,
+  pub twins : AreTwins w.allocations n
+  -- whose words are the images of its values.
+  pub images : AreImages (image_scene_of w) n
+  -- A call keeps the pointer to the run that it unmaps.
+  pub freed_run : OwnsFreedRun w n
+  -- What a program can get to isn't released.
+  pub safe : HasSafeSet w.allocations n

@@ -1,0 +1,23 @@
+-- The snapshot's bits are those of the cycle's snapshot: the allocations that were freed and unreleased before its
+-- `begin`.
+use Rattle.std.specs.Prelude.{◌≡◌, ℕ, true, false, List}
+use Rattle.std.specs.List.{list_any}
+use Rattle.mk_core.specs.declared.config.Config.{Config}
+use Rattle.mk_core.specs.declared.events.Event.{Event}
+use Rattle.mk_core.specs.Config.{IsWithinLimits}
+use Rattle.mk_core.specs.Words.{phase_of}
+use Rattle.mk_core.specs.Allocations.{placed_at}
+use Rattle.mk_core.specs.Cycles.{At, is_begin, is_quarantined}
+use Rattle.mk_core.specs.History.{first_world, left, AreEnabled}
+use Rattle.mk_laws.specs.Quarantine.{is_cycling, has_bit_of}
+use Rattle.mk_laws.specs.LayoutLaws.{LayoutPremisesFrom}
+
+-- So it is up to the cycle's `end`, for each allocation that isn't released yet.
+abbrev pub SnapshotsAreOfCycles : Type 0
+SnapshotsAreOfCycles =
+    (c : Config) (es : List Event) → IsWithinLimits c → AreEnabled c es → LayoutPremisesFrom c (first_world c) es
+    → (begin : At is_begin es) → list_any (λ (e : Event). is_begin e.step) begin.behind ≡ false
+    → is_cycling (phase_of (left c es).now.words) ≡ true → (i : ℕ)
+    → (placed_at (left c es).allocations i).released ≡ false
+    → has_bit_of c (left c es).now.words.snapshot (placed_at (left c es).allocations i)
+    ≡ is_quarantined (placed_at (left c begin.before).allocations i)

@@ -1,0 +1,102 @@
+-- What holds of all histories.
+use Rattle.std.specs.Prelude.{◌≡◌, ℕ, false, List, [], ◌∷◌, ◌++◌, ◌≤◌, true}
+use Rattle.mk_never.specs.Reach.{IsReachable}
+use Rattle.mk_geom.specs.StorageWords.{IsWordOf}
+use Rattle.mk_geom.specs.Storages.{PagesStandFor}
+use Rattle.mk_core.specs.declared.config.Config.{Config}
+use Rattle.mk_core.specs.declared.events.Event.{Event}
+use Rattle.mk_core.specs.declared.events.Seat.{Seat}
+use Rattle.mk_core.specs.declared.events.Step.TheVariants as step
+use Rattle.mk_core.specs.declared.seats.Object.{Object}
+use Rattle.mk_core.specs.Allocations.{place_among_allocations, placed_at, storage_of, unreleased_storage}
+use Rattle.mk_core.specs.ClosedMarks.{MarkingIsGuarded, MarksAreClosed}
+use Rattle.mk_core.specs.History.{IsHistory, first_world, left, never_behind, never_first}
+use Rattle.mk_core.specs.NewPlaces.{place_on_pages}
+use Rattle.mk_core.specs.Words.{phase_of}
+use Rattle.mk_core.specs.Cycles.{At, is_begin, is_quarantined}
+use Rattle.mk_laws.specs.Quarantine.{has_bit_of, is_cycling}
+use Rattle.std.specs.List.{list_any}
+use Rattle.mk_geom.specs.PageUses.{resident_pages}
+use Rattle.mk_geom.specs.PageWords.{uses_of_pages}
+use Rattle.mk_laws.specs.Room.{HasHeaderWords}
+use Rattle.mk_laws.specs.SettledPages.{IsSettled, StandsUsed}
+use Rattle.mk_laws.specs.Invariant.{Invariant}
+
+-- It holds of each history.
+abbrev pub OfHistories : (Config → List Event → Type 0) → Type 0
+OfHistories claim = (c : Config) (es : List Event) → IsHistory c es → claim c es
+
+-- The invariant holds before any event,
+abbrev pub InvariantAtFirst : Type 0
+InvariantAtFirst = (c : Config) → Invariant c (first_world c) (never_first c)
+
+-- and one event of a history keeps it.
+abbrev pub EventsKeepTheInvariant : Type 0
+EventsKeepTheInvariant =
+    (c : Config) (es : List Event) (e : Event) → IsHistory c (es ++ e ∷ [])
+    → Invariant c (left c es) (never_behind c es) → Invariant c (left c (es ++ e ∷ [])) (never_behind c (es ++ e ∷ []))
+
+abbrev pub KeepsTheInvariant : Config → List Event → Type 0
+KeepsTheInvariant c es = Invariant c (left c es) (never_behind c es)
+
+-- What a program can get to isn't released.
+abbrev pub KeepsTheReach : Config → List Event → Type 0
+KeepsTheReach c es = (number : ℕ) → IsReachable (never_behind c es) number
+    → (placed_at (left c es).allocations number).released ≡ false
+
+-- Each unreleased allocation stands on the heap, with its headers and its used bit,
+abbrev pub AllocationsStand : Config → List Event → Type 0
+AllocationsStand c es =
+    (i : ℕ) → (placed_at (left c es).allocations i).released ≡ false
+    → StandsUsed c (left c es) (placed_at (left c es).allocations i)
+
+-- and no two have a word in common.
+abbrev pub AllocationsAreDisjoint : Config → List Event → Type 0
+AllocationsAreDisjoint c es =
+    (i j n : ℕ) → (placed_at (left c es).allocations i).released ≡ false
+    → (placed_at (left c es).allocations j).released ≡ false
+    → IsWordOf (storage_of c (placed_at (left c es).allocations i)) n
+    → IsWordOf (storage_of c (placed_at (left c es).allocations j)) n → i ≡ j
+
+-- Where nothing is on its way, headers and used words are those of the unreleased storage,
+abbrev pub PagesShowTheStorage : Config → List Event → Type 0
+PagesShowTheStorage c es =
+    IsSettled (left c es) → PagesStandFor (left c es).now.words.pages (unreleased_storage c (left c es).allocations)
+
+-- and first fit over them finds the place among the allocations.
+abbrev pub FirstFitFindsThePlace : Config → List Event → Type 0
+FirstFitFindsThePlace c es =
+    (o : Object) → IsSettled (left c es)
+    → place_on_pages c.resident (left c es).now.words.pages o
+    ≡ place_among_allocations c o.words o.leaf (left c es).allocations
+
+-- While a cycle marks, the words of black cells are guarded.
+abbrev pub GuardsBlackCells : Config → List Event → Type 0
+GuardsBlackCells c es = MarkingIsGuarded c (left c es).now
+
+-- Each `close` finds the marks closed,
+abbrev pub ClosesFindMarksClosed : Config → List Event → Type 0
+ClosesFindMarksClosed c es =
+    (before behind : List Event) (seat : Seat) → es ≡ before ++ record { seat = seat; step = step.Close } ∷ behind
+    → MarksAreClosed c (left c before)
+
+-- and they are up to the `release`.
+abbrev pub MarksStayClosed : Config → List Event → Type 0
+MarksStayClosed c es = phase_of (left c es).now.words ≡ 3 → MarksAreClosed c (left c es)
+
+-- Each page has a header word,
+abbrev pub PagesHaveHeaderWords : Config → List Event → Type 0
+PagesHaveHeaderWords c es = HasHeaderWords (left c es)
+
+-- and at most this many pages are resident.
+abbrev pub FewPagesAreResident : Config → List Event → Type 0
+FewPagesAreResident c es = resident_pages (uses_of_pages (left c es).now.words.pages) ≤ c.resident
+
+-- From the last `begin` up to its `end`, an unreleased allocation's snapshot bit says whether it was freed before it.
+abbrev pub SnapshotIsTheCycles : Config → List Event → Type 0
+SnapshotIsTheCycles c es =
+    (begin : At is_begin es) → list_any (λ (e : Event). is_begin e.step) begin.behind ≡ false
+    → is_cycling (phase_of (left c es).now.words) ≡ true → (i : ℕ)
+    → (placed_at (left c es).allocations i).released ≡ false
+    → has_bit_of c (left c es).now.words.snapshot (placed_at (left c es).allocations i)
+    ≡ is_quarantined (placed_at (left c begin.before).allocations i)

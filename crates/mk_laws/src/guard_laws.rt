@@ -1,0 +1,29 @@
+//! What stands while a cycle marks, and from its `close` to its `release`: facts alone, with no code.
+
+ghost use Rattle.mk_laws.specs.Kept.{GuardPremisesAtFirst, EventsKeepTheMarks, MarksStandBehindLists};
+ghost use Rattle.mk_laws.specs.Kept.{CloseFindsMarksClosed, StoppedMarksAreClosed, MarkingGuards};
+ghost use Rattle.mk_laws.specs.Left.{OthersLeaveHeaders, OthersLeaveWells};
+
+/// One event keeps what stands while a cycle marks and stops, where the layout says what is asked of it.
+pub fn events_keep_the_marks()
+    ensures { EventsKeepTheMarks }
+{}
+
+/// So it stands after every list along which the layout says so, as it does of the first world.
+pub fn marks_stand_behind_lists()
+    ensures at_first { GuardPremisesAtFirst }
+    ensures along { MarksStandBehindLists }
+{}
+
+/// Then words of black cells are guarded while a cycle marks; a `close` finds the marks closed, and they stay so.
+pub fn marks_are_closed()
+    ensures guarded { MarkingGuards }
+    ensures at_close { CloseFindsMarksClosed }
+    ensures stopped { StoppedMarksAreClosed }
+{}
+
+/// Others take no header back from a marker that attends; and what points well still does, also for the holder.
+pub fn others_leave_what_points_well()
+    ensures headers { OthersLeaveHeaders }
+    ensures wells { OthersLeaveWells }
+{}

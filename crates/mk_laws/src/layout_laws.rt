@@ -1,0 +1,44 @@
+//! What stands on the pages, and the quarantine, at every moment: facts alone, with no code.
+
+ghost use Rattle.mk_laws.specs.LayoutLaws.{EventsKeepTheLayout, LayoutHasFewResidentPages, HistoriesAreLaidOut};
+ghost use Rattle.mk_laws.specs.LayoutLaws.{LayoutHasHeaderWords};
+ghost use Rattle.mk_laws.specs.SettledPages.{FirstFitIsThePlace, HeadersStand, UnreleasedAreApart, UnreleasedStand};
+ghost use Rattle.mk_laws.specs.Snapshots.{SnapshotsAreOfCycles};
+
+/// Whatever the event, what stands on the pages stays laid out, and the quarantine in order, where the other
+/// groups say what it asks.
+pub fn events_keep_the_layout()
+    ensures { EventsKeepTheLayout }
+{}
+
+/// So all is laid out after every list of enabled events along which the other groups say so.
+pub fn histories_are_laid_out()
+    ensures { HistoriesAreLaidOut }
+{}
+
+/// Each page then has a header word, and at most as many pages are resident as may be.
+pub fn pages_are_in_order()
+    ensures words { LayoutHasHeaderWords }
+    ensures few { LayoutHasFewResidentPages }
+{}
+
+/// The snapshot's bits are those of the allocations that were freed before the cycle's `begin`.
+pub fn snapshots_are_of_cycles()
+    ensures { SnapshotsAreOfCycles }
+{}
+
+/// In a laid out world each unreleased allocation stands on the heap, in a cell of its own.
+pub fn unreleased_allocations_stand()
+    ensures stand { UnreleasedStand }
+    ensures apart { UnreleasedAreApart }
+{}
+
+/// While nothing is on its way, the headers and used bits are those of the unreleased storage.
+pub fn headers_stand()
+    ensures { HeadersStand }
+{}
+
+/// And first fit over the words finds the place among the allocations.
+pub fn first_fit_is_the_place()
+    ensures { FirstFitIsThePlace }
+{}

@@ -1,0 +1,24 @@
+//! Where the objects of all histories are granted, when a New is full, and what the tallies count: facts alone, with no
+//! code.
+
+ghost use Rattle.mk_core.specs.Placement.{FullsFitNowhere, GrantsStandAtTheirPlaces};
+ghost use Rattle.mk_core.specs.Readings.{TalliesTell};
+ghost use Rattle.mk_laws.specs.Theorems.{OfHistories};
+ghost use Rattle.mk_laws.specs.ExactTallies.{TalliesAreExactAtGives};
+
+/// Each object is granted at its place by first fit, before the call's first step that serves it.
+pub fn grants_stand_at_their_places()
+    ensures { OfHistories GrantsStandAtTheirPlaces }
+{}
+
+/// Where a New is full nothing fits, and a cycle was begun and ended in its call.
+pub fn fulls_fit_nowhere()
+    ensures { OfHistories FullsFitNowhere }
+{}
+
+/// Before each `give`, and where nobody holds the turn, the tallies of held and fresh words are those of the
+/// allocations; the other tallies are right where nobody holds the turn, if they were so before each `give`.
+pub fn tallies_are_exact()
+    ensures at_gives { OfHistories TalliesAreExactAtGives }
+    ensures told { OfHistories TalliesTell }
+{}

@@ -1,0 +1,15 @@
+//! Precision, over all histories: what a cycle releases, and that its storage is then free. Facts alone, with no code.
+
+ghost use Rattle.mk_laws.specs.Theorems.{OfHistories};
+ghost use Rattle.mk_laws.specs.Precision.{FreesTheUntouched, KeepsOnlyTheTouched, ReleasesTheUntouched};
+
+/// A cycle without a sweeping mark releases each allocation of its snapshot that isn't touched; what it keeps is.
+pub fn untouched_is_released()
+    ensures kept { OfHistories KeepsOnlyTheTouched }
+    ensures released { OfHistories ReleasesTheUntouched }
+{}
+
+/// After the cycle's `end`, its storage counts as free in place and fits.
+pub fn what_is_released_is_free()
+    ensures { OfHistories FreesTheUntouched }
+{}

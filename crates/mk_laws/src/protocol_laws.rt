@@ -1,0 +1,28 @@
+//! Who holds what, after every enabled list of events: facts alone, with no code.
+
+ghost use Rattle.mk_core.specs.Frames.{OthersLeave};
+ghost use Rattle.mk_laws.specs.Protocol.{ListsKeepTheProtocol};
+ghost use Rattle.mk_laws.specs.Reaching.{EventsReachTheTable, OthersLeaveAccesses};
+ghost use Rattle.mk_laws.specs.HolderReadings.{WordsTell};
+
+/// After any enabled events: who holds the turn, whose gate is held, which phase may stand, and how far
+/// callers, the holder and the markers may be.
+pub fn lists_keep_the_protocol()
+    ensures protocol { ListsKeepTheProtocol }
+{}
+
+/// What a look at the turn, at a gate and at the phase says.
+pub fn words_tell_who_holds_what()
+    ensures told { WordsTell }
+{}
+
+/// What the events of other seats leave to a seat, by what it is in the middle of.
+pub fn others_leave_a_seat_its_own()
+    ensures left { OthersLeave }
+{}
+
+/// An event reaches a word of the table, and the same one in the same way whatever other seats do before it.
+pub fn events_reach_words_of_the_table()
+    ensures of_the_table { EventsReachTheTable }
+    ensures the_same { OthersLeaveAccesses }
+{}

@@ -1,0 +1,60 @@
+//! What looks at the table's words say, what a cycle releases, and which words are 0, in all histories: facts
+//! alone, with no code.
+
+ghost use Rattle.mk_core.specs.Readings.{SnapshotsTell};
+ghost use Rattle.mk_laws.specs.Theorems.{OfHistories};
+ghost use Rattle.mk_laws.specs.FreeWords.{FreeCellsAreZero, Leaves, UnmappedWordsAreZero, WordsBehindCellsAreZero};
+ghost use Rattle.mk_laws.specs.FreeWords.{WordsOfNoneAreZero};
+ghost use Rattle.mk_laws.specs.FreePages.{DirtyPagesHaveAllocations, FreePagesHaveNothing};
+ghost use Rattle.mk_laws.specs.WordReadings.{HeadersAndQuarantineTell};
+ghost use Rattle.mk_laws.specs.Releases.{NoOthersRelease, ReleasesAreExact, ReleasesAreOfCycles};
+ghost use Rattle.mk_laws.specs.Releases.{ReleasesNoneReached};
+ghost use Rattle.mk_laws.specs.UnmappedRuns.{UnmappedRunsTakeNoMemory};
+ghost use Rattle.mk_laws.specs.UnsetWords.{RegistersOfNoCallerAreZero, UnsetGlobalsAreZero};
+
+/// What a look at a header word and at the freed bits of a quarantine word says.
+pub fn words_tell_what_stands()
+    ensures { OfHistories HeadersAndQuarantineTell }
+{}
+
+/// From a `begin` up to its `release` the snapshot bits are those of the allocations that were in quarantine then.
+pub fn snapshots_tell()
+    ensures { OfHistories SnapshotsTell }
+{}
+
+/// A `release` releases the allocations of its cycle's snapshot whose cells have no mark, and none that is reached;
+/// no other event releases any.
+pub fn releases_are_exact()
+    ensures exact { OfHistories ReleasesAreExact }
+    ensures none_reached { OfHistories ReleasesNoneReached }
+    ensures no_others { OfHistories NoOthersRelease }
+    ensures of_cycles { OfHistories ReleasesAreOfCycles }
+{}
+
+/// While the phase isn't releasing, words are 0 in cells without an allocation, after the cells of a page, and on
+/// free pages.
+pub fn free_cells_are_zero()
+    ensures of_none { OfHistories (Leaves WordsOfNoneAreZero) }
+    ensures unmapped { OfHistories (Leaves UnmappedWordsAreZero) }
+    ensures cells { OfHistories (Leaves FreeCellsAreZero) }
+    ensures behind_cells { OfHistories (Leaves WordsBehindCellsAreZero) }
+{}
+
+/// A page without a header has its used word, its quarantine word and its dirty word 0: on each dirty page an
+/// unreleased allocation stands.
+pub fn free_pages_have_nothing()
+    ensures free { OfHistories (Leaves FreePagesHaveNothing) }
+    ensures dirty { OfHistories (Leaves DirtyPagesHaveAllocations) }
+{}
+
+/// Registers of callers that the configuration doesn't have hold 0, and so do globals that no `setg` stored to.
+pub fn unset_words_are_zero()
+    ensures registers { OfHistories (Leaves RegistersOfNoCallerAreZero) }
+    ensures globals { OfHistories UnsetGlobalsAreZero }
+{}
+
+/// The pages of a freed large allocation aren't resident from its last `head` on, until they are made a block or a
+/// run again.
+pub fn unmapped_runs_take_no_memory()
+    ensures { OfHistories UnmappedRunsTakeNoMemory }
+{}

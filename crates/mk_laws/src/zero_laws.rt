@@ -1,0 +1,26 @@
+//! Words of the heap that hold no value are 0, at every moment: facts alone, with no code.
+
+ghost use Rattle.mk_laws.specs.ZeroLaws.{EventsKeepTheZeros, ZerosStandBehindLists};
+ghost use Rattle.mk_laws.specs.ZerosTell.{ImagesTellTheZeros, ZerosTellTheGuard, ZerosTellTheImages};
+
+/// Whatever the event, only words of mapped allocations, of released cells that are still used and of the run that a
+/// call is unmapping aren't 0, where the other groups say what it asks.
+pub fn events_keep_the_zeros()
+    ensures { EventsKeepTheZeros }
+{}
+
+/// So it is after every list of enabled events along which the other groups say so.
+pub fn zeros_stand_behind_lists()
+    ensures { ZerosStandBehindLists }
+{}
+
+/// What the images and the guard ask of zero words, in their own terms.
+pub fn zeros_tell_the_others()
+    ensures images { ZerosTellTheImages }
+    ensures guard { ZerosTellTheGuard }
+{}
+
+/// What the zero words ask of the images before each event.
+pub fn images_tell_the_zeros()
+    ensures { ImagesTellTheZeros }
+{}

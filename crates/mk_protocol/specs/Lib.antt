@@ -1,4 +1,0 @@
-pub mod Protocol
-pub mod Reaching
-pub mod Readings
-pub mod Ground

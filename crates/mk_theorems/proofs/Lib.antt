@@ -1,2 +1,0 @@
-pub mod AppliedPlacement
-pub mod Promises

@@ -1,9 +1,0 @@
-use Rattle.mk_zeros.proofs.TellGuard.{zeros_tell_the_guard}
-use Rattle.mk_zeros.proofs.TellImages.{zeros_tell_the_images}
-use Rattle.mk_zeros.proofs.zeros_tell_the_others.Goals as goal
-
-pub returns-clause-images : goal.returns-clause-images
-returns-clause-images c = zeros_tell_the_images
-
-pub returns-clause-guard : goal.returns-clause-guard
-returns-clause-guard c = zeros_tell_the_guard

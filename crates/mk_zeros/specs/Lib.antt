@@ -1,3 +1,0 @@
-pub mod ZeroLaws
-pub mod Zeros
-pub mod ZerosTell
