@@ -1,4 +1,4 @@
-//! Two stacks of numbers in plain Rust, which do the jobs of `ours.rt`: a vector under a lock, and Treiber's stack with
+//! Two stacks of numbers in plain Rust, which do the jobs of `ours.rattle`: a vector under a lock, and Treiber's stack with
 //! counted pointers, whose nodes are used again but never freed.
 //!
 //! usage: plain lock|counted CALLERS DEPTH PAIRS
