@@ -1,6 +1,5 @@
-//! What holds of every history of a heap: facts alone, with no code. Start with `theorem_laws`: all promises of a
-//! history
-//! in one record. The other modules prove them, lowest first.
+//! What holds of every history of a heap: facts alone, with no code. Start with `theorem_laws`, which has all promises
+//! of a history in one record. The other modules prove them.
 #![tactic(auto)]
 
 pub mod frame_laws;

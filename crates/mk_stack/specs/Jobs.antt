@@ -30,8 +30,7 @@ done_without (Push n) = Full
 done_without Pop = Empty
 
 -- Register 0 has the top, 1 the node that is pushed, 2 the uppermost node, and 3 the one below it. When a job has
--- ended,
--- its caller may set registers to null.
+-- ended, its caller may set registers to null.
 -- At a point the operation is asked, is replied so, and leads to the next point.
 pub data Asks : Point → Op → Reply → Point → Type 0 where
   found : Asks Founding (op.New 0 1 false) reply.Done Placing

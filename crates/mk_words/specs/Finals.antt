@@ -16,8 +16,7 @@ abbrev pub config_of : Final → Config
 config_of f = f.memory.me.0.config
 
 -- How many cells are freed by the quarantine words of the first pages, of this many. These words have the freed cells
--- in
--- their low halves.
+-- in their low halves.
 abbrev pub freed_bits_in : List ℕ → ℕ → ℕ → ℕ
 freed_bits_in words pages zero = 0
 freed_bits_in words pages (suc n) =
