@@ -1,4 +1,8 @@
 //! New objects, and objects that are freed: the calls of a script under the turn.
+//!
+//! Each call is one operation of the history, with the cycles that it asks for and no others; Full comes only where
+//! nothing fits after a cycle of that call. Start with `making` and `freeing`; `specs/TurnCalls.antt` says what they
+//! ensure.
 #![tactic(auto)]
 
 mod cycles;

@@ -1,5 +1,7 @@
 //! Programs over the step calls of the turn and the calls of a caller: an object that is made by steps, and what its
 //! caller loads from it, with other threads at work.
+//!
+//! What a caller stored in an object that only it can get to is what it loads. Start with `numbers`.
 #![tactic(auto)]
 
 mod laws;

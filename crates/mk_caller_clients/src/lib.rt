@@ -1,4 +1,6 @@
 //! Small programs over the calls of a caller: what the contracts suffice for.
+//!
+//! Each says what its caller gets back whatever others do. Start with `moves_through_memory` below.
 #![tactic(auto)]
 
 mod threads;

@@ -1,4 +1,7 @@
 //! The words of the command line: which command they are, with its options and numbers.
+//!
+//! `command_in` answers the command that the words are by definition, and none where they are of no form. Start with
+//! `commands`, then `specs/Commands.antt`.
 #![tactic(auto)]
 
 mod arguments;

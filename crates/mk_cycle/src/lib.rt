@@ -1,4 +1,7 @@
 //! Cycles: engines make the marks, and what was freed before a cycle and isn't marked in it is given back.
+//!
+//! `begin_cycle` and `finish_cycle` do what a cycle of the history is made of, and nothing else. Start with `engine`:
+//! what an engine owes; then `beginning` and `finishing`.
 #![tactic(auto)]
 
 mod beginning;

@@ -1,4 +1,7 @@
 //! Engines that trace: one in the stop alone, and one beside the callers and then in the stop.
+//!
+//! Both make only marks that pointers lead to, so their cycles are precise; `MostlyEngine` looks at all roots directly
+//! after the `begin`. Start with `stop_engine`, then `mostly_engine`.
 #![tactic(auto)]
 
 mod clients;

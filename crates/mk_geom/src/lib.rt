@@ -1,5 +1,8 @@
-//! The heap's geometry: size classes, the header word of a page, and what an address points into.
-//! A word has 64 bits, a page 64 words.
+//! The heap's geometry: size classes, the header word of a page, and what an address points into. A word has 64 bits, a
+//! page 64 words.
+//!
+//! Each function computes what the definition of its name says, and the laws join two views: pages as words, and
+//! storages as a list. Start with `classes` and `headers`; `specs/PageUses.antt` defines first fit.
 #![tactic(auto)]
 
 mod addresses;

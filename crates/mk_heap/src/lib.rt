@@ -1,4 +1,7 @@
 //! A heap, and its host, which creates callers and markers, joins them, and closes the heap.
+//!
+//! The report of `Heap::close` has the whole history, to proofs alone, and its tallies. Start with `heaps` and `hosts`;
+//! `clients` has a small program.
 #![tactic(auto)]
 
 mod clients;

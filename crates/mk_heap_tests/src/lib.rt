@@ -1,4 +1,4 @@
-//! Tests of the running heap, with real threads.
+//! Tests of the running heap, with real threads: what no clause says. `docs/GATE.md` lists them by file.
 #![tactic(auto)]
 
 #[cfg(test)]

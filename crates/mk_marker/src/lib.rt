@@ -1,4 +1,7 @@
 //! What one marker's thread does on a heap.
+//!
+//! A marker attends a cycle, scans a marked cell at a time, and quits when the close is wanted; each answer of
+//! `Marker::work` has its cause. Start with `markers`.
 #![tactic(auto)]
 
 mod cells;

@@ -1,5 +1,8 @@
-//! The heap that never reuses storage: what a program may rely on, as plain data and as a machine of
-//! one thread. It has no addresses, no pages, no quarantine and no marks.
+//! The heap that never reuses storage: what a program may rely on, as plain data and as a machine of one thread. It has
+//! no addresses, no pages, no quarantine and no marks.
+//!
+//! Every answer of the real heap is compared with this one's. `NeverHeap::apply` replies and leaves just what the
+//! definition says. Start with `specs/NeverHeap.antt`, then `specs/Admitted.antt`: which operations may be asked.
 #![tactic(auto)]
 
 pub mod laws;

@@ -1,4 +1,7 @@
 //! Placing and freeing objects under the turn.
+//!
+//! `place_object` grants an object at its first-fit place, or shows that none is there; `retire_object` frees one, or
+//! answers that it is freed already. Start with `placing` and `retiring`.
 #![tactic(auto)]
 
 mod freeing;

@@ -1,4 +1,7 @@
 //! What each command writes, and how the program ends.
+//!
+//! `output_of` gives all of it at once, so nothing is written before a refusal. Start with `outputs`, then
+//! `specs/Outputs.antt`.
 #![tactic(auto)]
 
 mod generating;

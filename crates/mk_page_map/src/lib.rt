@@ -1,6 +1,8 @@
 //! A map of a heap's pages, which answers where first fit finds a place, and which pages a pass has to look at, without
 //! a look at the pages. Whoever may change the pages keeps it, and tells it of each header, used and quarantine word
 //! that changes.
+//!
+//! Its answers are those of the pages that it shows (`Shows`). Start with `page_map`, then `specs/KnownPages.antt`.
 #![tactic(auto)]
 
 mod changes;

@@ -1,5 +1,7 @@
 //! How much memory quarantine takes, in all histories in which the turns of callers are exact: facts alone, with no
 //! code.
+//!
+//! Start with `specs/Bounds.antt`.
 #![tactic(auto)]
 
 ghost use Rattle.mk_quarantine.specs.Bounds.{QuarantinesAreBounded};

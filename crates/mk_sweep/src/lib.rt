@@ -1,5 +1,7 @@
 //! An engine that sweeps: in the stop it looks once at each word of each mapped allocation that isn't leaf, and follows
 //! nothing.
+//!
+//! What no such word points into is released (`sweep_cycle`). Start with `sweep_engine`; `cycles` has a whole cycle.
 #![tactic(auto)]
 
 mod blackening;

@@ -1,5 +1,8 @@
 //! What every engine does in the stop: wants the close and waits for the markers, marks from the roots, blackens every
 //! marked cell, and looks again at what is dirty.
+//!
+//! After `close_marks` each word of a marked cell points into nothing or into a marked cell, as a `close` asks. Start
+//! with `closing`; `tracing` follows the pointers.
 #![tactic(auto)]
 
 mod closing;

@@ -1,4 +1,6 @@
 //! What a seat does in a call, from what its pass had seen to what it has seen now: facts alone, with no code.
+//!
+//! They add up what was done in several calls. Start with `specs/Doing.antt`.
 #![tactic(auto)]
 
 ghost use Rattle.mk_turns.specs.Doing.{NothingIsDone, DoneInTurn, StepsAreDone};

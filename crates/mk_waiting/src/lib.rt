@@ -1,4 +1,7 @@
 //! Waiting for the turn, and how one who waits for long pauses.
+//!
+//! `take_turn` returns with the turn, and others' steps alone come before its `take`. How long it waits is no promise.
+//! Start with `take_turn`; `patience` says how one waits.
 #![tactic(auto)]
 
 mod patience;
