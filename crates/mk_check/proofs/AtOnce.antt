@@ -10,12 +10,12 @@ use Rattle.mk_check.specs.declared.feeding.tree.Node.{Node}
 use Rattle.mk_check.specs.declared.feeding.tree.Node.TheVariants as node
 use Rattle.mk_check.specs.Feed.{is_refusal, refusal_line, refusal_text}
 use Rattle.mk_check.specs.Feeding.{FeedState, IsFeed, IsWaiting, TakesAnswer, op_of_node, work_left}
-use Rattle.mk_check.specs.Spots.{asks_at, goes_at_once}
+use Rattle.mk_check.specs.Spots.{asks_at}
 use Rattle.mk_check.specs.Steps.{KeptState, Steps, after_answer, is_show, is_silent, op_asked, stop_of, stop_on_answer}
 use Rattle.mk_check.specs.Steps.{with_text}
 use Rattle.mk_check.specs.Trees.{HasStopped, IsTree, PlaceIsWithin, Place, StopsAt, kept_in, left_in, node_at}
 use Rattle.mk_check.specs.Trees.{stopped_in, with_kept}
-use Rattle.mk_check.proofs.AsksFirst.{asked_so, next_below}
+use Rattle.mk_check.proofs.AsksFirst.{asked_so}
 use Rattle.mk_check.proofs.Moves as moves
 use Rattle.mk_check.proofs.Moves.{unfolded_line}
 use Rattle.mk_check.proofs.Stands.{answer_stands, waits_for_answer}
@@ -73,26 +73,6 @@ asks_so numbers node.Done h = cc
 asks_so numbers (node.Line line instruction next) h = asked_so numbers instruction ∙ h
 asks_so numbers (node.Rounds rounds body next) h = cc
 asks_so numbers (node.Choice number first second next) h = cc
-
-neither : (a b : Bool) → a ≡ false → not b ≡ true → (not a && not b) ≡ true
-neither false b e f = f
-neither true b e f = cc
-
--- A node that is marked so: the script stops at the next one.
-pub stops_at_next : (nodes : List Node) (p : Place) (line : ℕ) (instruction : Instruction) (next : ℕ) (a : Answer)
-    → IsTree nodes → PlaceIsWithin (length nodes) p → node_at nodes p.at ≡ node.Line line instruction next
-    → is_refusal a ≡ false → goes_at_once nodes (node_at nodes p.at) ≡ true
-    → StopsBehind nodes p a (with_kept (record p { at = next }) (after_answer instruction a (kept_in p)))
-stops_at_next nodes p line instruction next a tree w e told marked =
-    let parts =
-    and_parts (not (is_show instruction)) (asks_at (node_at nodes next)) (sym (ap (goes_at_once nodes) e) ∙ marked) in
-    let below = next_below nodes p.at line instruction next tree w.at e in
-    let there : Place = with_kept (record p { at = next }) (after_answer instruction a (kept_in p)) in
-    stops_at_once nodes p there line instruction next a tree w e
-    (neither (is_refusal a) (is_show instruction) told parts.0)
-    (stopped_here nodes there (node_at nodes next) tree
-    (record { at = (let h = w.at in omega arith); frames = w.frames }) refl
-    (asks_so there.numbers (node_at nodes next) parts.1))
 
 -- A script that waits, answered so.
 module _ (s : FeedState) (t : Place) (a : Answer) (line : ℕ) (instruction : Instruction) (next : ℕ)

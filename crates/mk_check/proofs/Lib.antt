@@ -21,6 +21,7 @@ pub mod WorkLaws
 pub mod AsksFirst
 pub mod AtOnce
 pub mod NextRounds
+pub mod Sequels
 pub mod DeclaredPlaces
 pub mod TypedLines
 pub mod DeclaredRegisters

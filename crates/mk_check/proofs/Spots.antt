@@ -1,14 +1,13 @@
 -- A tree with marks that gets one more node.
-use Rattle.std.proofs.Common.{◌≡◌, ℕ, ◌<◌, false, List, [], ◌∷◌, ◌++◌, length, refl, ap, sym, ◌∙◌}
-use Rattle.std.proofs.Common.{subst, arith, inl, inr}
-use Rattle.std.specs.Prelude.{not, ◌&&◌}
+use Rattle.std.proofs.Common.{◌≡◌, ℕ, ◌<◌, List, [], ◌∷◌, ◌++◌, length, refl, ap, sym, ◌∙◌}
+use Rattle.std.proofs.Common.{subst, arith, inl, inr, get_or}
 use Rattle.std.proofs.lemmas.Bool.{cases_lt}
-use Rattle.std.proofs.lemmas.List.{get_or-map, get_or_append_left, get_or_at, length_push, length-map, map-append}
+use Rattle.std.proofs.lemmas.List.{get_or-map, get_or_append_left, get_or_at, get_or_default, length_push, length-map, map-append}
 use Rattle.mk_check.specs.declared.feeding.tree.Node.{Node}
 use Rattle.mk_check.specs.declared.feeding.tree.Node.TheVariants as node
+use Rattle.mk_check.specs.declared.feeding.tree.Sequel.TheVariants as sequel
 use Rattle.mk_check.specs.declared.feeding.tree.Spot.{Spot}
-use Rattle.mk_check.specs.Spots.{IsMarkedTree, asks_at, goes_at_once, nodes_of, spot_at}
-use Rattle.mk_check.specs.Steps.{is_show}
+use Rattle.mk_check.specs.Spots.{IsMarkedTree, nodes_of, sequel_before, sequel_of, spot_at}
 use Rattle.mk_check.specs.Trees.{IsBelow, IsTree, node_at}
 use Rattle.mk_check.proofs.Moves.{IsBelow-more, IsTree_push}
 
@@ -18,24 +17,24 @@ length-nodes_of spots = length-map spots (λ (s : Spot). s.node)
 pub node_of_spot : (spots : List Spot) (at : ℕ) → at < length spots
     → node_at (nodes_of spots) at ≡ (spot_at spots at).node
 node_of_spot spots at h =
-    get_or-map (λ (s : Spot). s.node) spots at (record { node = node.Done; goes_at_once = false }) node.Done h
+    get_or-map (λ (s : Spot). s.node) spots at (record { node = node.Done; sequel = sequel.Other }) node.Done h
 
 nodes_of_push : (spots : List Spot) (s : Spot) → nodes_of (spots ++ s ∷ []) ≡ nodes_of spots ++ s.node ∷ []
 nodes_of_push spots s = map-append (λ (s : Spot). s.node) spots (s ∷ [])
 
 same_mark : (nodes more : List Node) (n : Node) → IsBelow (length nodes) n
-    → goes_at_once (nodes ++ more) n ≡ goes_at_once nodes n
+    → sequel_of (nodes ++ more) n ≡ sequel_of nodes n
 same_mark nodes more node.Done below = refl
 same_mark nodes more (node.Line line instruction next) below =
-    ap (λ (m : Node). not (is_show instruction) && asks_at m) (get_or_append_left nodes more node.Done next below)
+    ap (λ (m : Node). sequel_before m instruction) (get_or_append_left nodes more node.Done next below)
 same_mark nodes more (node.Rounds rounds body next) below = refl
 same_mark nodes more (node.Choice number first second next) below = refl
 
 same_mark_pushed : (spots : List Spot) (s : Spot) (n : Node) → IsBelow (length spots) n
-    → goes_at_once (nodes_of spots) n ≡ goes_at_once (nodes_of (spots ++ s ∷ [])) n
+    → sequel_of (nodes_of spots) n ≡ sequel_of (nodes_of (spots ++ s ∷ [])) n
 same_mark_pushed spots s n below =
     let within = subst (λ (c : ℕ). IsBelow c n) (sym (length-nodes_of spots)) below in
-    sym (ap (λ (nodes : List Node). goes_at_once nodes n) (nodes_of_push spots s)
+    sym (ap (λ (nodes : List Node). sequel_of nodes n) (nodes_of_push spots s)
     ∙ same_mark (nodes_of spots) (s.node ∷ []) n within)
 
 -- the node of a spot names nodes before it
@@ -47,26 +46,35 @@ spot_below spots at m h =
     (m.tree at (omega (arith, length-nodes_of spots))))
 
 pub IsMarkedTree_push : (spots : List Spot) (s : Spot) → IsMarkedTree spots → IsBelow (length (nodes_of spots)) s.node
-    → s.goes_at_once ≡ goes_at_once (nodes_of spots) s.node → IsMarkedTree (spots ++ s ∷ [])
+    → s.sequel ≡ sequel_of (nodes_of spots) s.node → IsMarkedTree (spots ++ s ∷ [])
 IsMarkedTree_push spots s m below mark = record {
   tree = subst (λ (nodes : List Node). IsTree nodes) (sym (nodes_of_push spots s))
       (IsTree_push (nodes_of spots) s.node m.tree below);
   marks = λ at h. elim (cases_lt at (length spots)) [
     | inl lt ↦
         let here : spot_at (spots ++ s ∷ []) at ≡ spot_at spots at =
-        get_or_append_left spots (s ∷ []) (record { node = node.Done; goes_at_once = false }) at lt in
-        ap (λ (x : Spot). x.goes_at_once) here
+        get_or_append_left spots (s ∷ []) (record { node = node.Done; sequel = sequel.Other }) at lt in
+        ap (λ (x : Spot). x.sequel) here
         ∙ (m.marks at lt
         ∙ (same_mark_pushed spots s (spot_at spots at).node (spot_below spots at m lt)
-        ∙ ap (λ (x : Spot). goes_at_once (nodes_of (spots ++ s ∷ [])) x.node) (sym here)))
+        ∙ ap (λ (x : Spot). sequel_of (nodes_of (spots ++ s ∷ [])) x.node) (sym here)))
     | inr ge ↦
         let e : length spots ≡ at = omega (arith, length_push spots s) in
         let here : spot_at (spots ++ s ∷ []) at ≡ s =
-        get_or_at spots s [] (record { node = node.Done; goes_at_once = false }) at e in
+        get_or_at spots s [] (record { node = node.Done; sequel = sequel.Other }) at e in
         let within = subst (λ (c : ℕ). IsBelow c s.node) (length-nodes_of spots) below in
-        ap (λ (x : Spot). x.goes_at_once) here
+        ap (λ (x : Spot). x.sequel) here
         ∙ (mark
         ∙ (same_mark_pushed spots s s.node within
-        ∙ ap (λ (x : Spot). goes_at_once (nodes_of (spots ++ s ∷ [])) x.node) (sym here)))
+        ∙ ap (λ (x : Spot). sequel_of (nodes_of (spots ++ s ∷ [])) x.node) (sym here)))
   ];
 }
+
+-- what is known at a place of the list, whatever would stand where there is none
+pub sequel_there : (spots : List Spot) (at : ℕ) (s : Spot) → IsMarkedTree spots → at < length (nodes_of spots)
+    → s ≡ get_or spots at s → s.sequel ≡ sequel_of (nodes_of spots) (node_at (nodes_of spots) at)
+sequel_there spots at s m h is =
+    let lt : at < length spots = omega (arith, length-nodes_of spots) in
+    let same : s ≡ spot_at spots at = is ∙ get_or_default spots at s _ lt in
+    ap (λ (x : Spot). x.sequel) same
+    ∙ (m.marks at lt ∙ ap (sequel_of (nodes_of spots)) (sym (node_of_spot spots at lt)))

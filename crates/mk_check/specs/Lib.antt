@@ -9,6 +9,7 @@ pub mod Lengths
 pub mod Lookups
 pub mod Numbers
 pub mod Rules
+pub mod AtOnce
 pub mod Spots
 pub mod NamesInScope
 pub mod Output

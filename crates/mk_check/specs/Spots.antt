@@ -1,10 +1,14 @@
--- A script's tree with a mark at each node.
+-- A script's tree with what comes after each node.
 -- Private functions alone cite these words.
-use Rattle.std.specs.Prelude.{◌≡◌, ℕ, ◌<◌, Bool, false, not, ◌&&◌, List, length, map, slice_index_or}
+use Rattle.std.specs.Prelude.{◌≡◌, ℕ, ◌<◌, Bool, false, if◌then◌else◌, List, length, map, slice_index_or}
+use Rattle.std.specs.Prelude.{Option, Some, None}
+use Rattle.mk_check.specs.declared.feeding.instructions.Instruction.{Instruction}
 use Rattle.mk_check.specs.declared.feeding.tree.Node.{Node}
 use Rattle.mk_check.specs.declared.feeding.tree.Node.TheVariants as node
+use Rattle.mk_check.specs.declared.feeding.tree.Sequel.{Sequel}
+use Rattle.mk_check.specs.declared.feeding.tree.Sequel.TheVariants as sequel
 use Rattle.mk_check.specs.declared.feeding.tree.Spot.{Spot}
-use Rattle.mk_check.specs.Steps.{is_asking, is_show}
+use Rattle.mk_check.specs.Steps.{is_asking, is_show, keeping_register}
 use Rattle.mk_check.specs.Trees.{IsTree, node_at}
 
 abbrev pub nodes_of : List Spot → List Node
@@ -17,21 +21,42 @@ asks_at (node.Line line instruction next) = is_asking instruction
 asks_at (node.Rounds rounds body next) = false
 asks_at (node.Choice number first second next) = false
 
--- A script that is answered at the node comes to the next operation at once: it shows nothing, and the line after it
--- asks for one.
-abbrev pub goes_at_once : List Node → Node → Bool
-goes_at_once nodes node.Done = false
-goes_at_once nodes (node.Line line instruction next) = not (is_show instruction) && asks_at (node_at nodes next)
-goes_at_once nodes (node.Rounds rounds body next) = false
-goes_at_once nodes (node.Choice number first second next) = false
+-- a line that asks for an operation comes next
+abbrev pub then_asks : Option ℕ → Sequel
+then_asks None = sequel.Asks
+then_asks (Some number) = sequel.KeptThenAsks number
+
+-- the end of a block comes next
+abbrev pub then_ends : Option ℕ → Sequel
+then_ends None = sequel.Ends
+then_ends (Some number) = sequel.KeptThenEnds number
+
+-- this node comes after an answer that is kept in this register, if in any
+abbrev pub then_node : Node → Option ℕ → Sequel
+then_node node.Done kept = then_ends kept
+then_node (node.Line line instruction next) kept = if is_asking instruction then then_asks kept else sequel.Other
+then_node (node.Rounds rounds body next) kept = sequel.Other
+then_node (node.Choice number first second next) kept = sequel.Other
+
+-- what comes after an instruction before this node
+abbrev pub sequel_before : Node → Instruction → Sequel
+sequel_before next instruction =
+    if is_show instruction then sequel.Other else then_node next (keeping_register instruction)
+
+-- what comes after a node
+abbrev pub sequel_of : List Node → Node → Sequel
+sequel_of nodes node.Done = sequel.Other
+sequel_of nodes (node.Line line instruction next) = sequel_before (node_at nodes next) instruction
+sequel_of nodes (node.Rounds rounds body next) = sequel.Other
+sequel_of nodes (node.Choice number first second next) = sequel.Other
 
 -- what is known at this place; where there is none, of the end of a block
 abbrev pub spot_at : List Spot → ℕ → Spot
-spot_at spots at = slice_index_or spots at (record { node = node.Done; goes_at_once = false })
+spot_at spots at = slice_index_or spots at (record { node = node.Done; sequel = sequel.Other })
 
--- The nodes are a tree, and each has the mark that it should.
+-- The nodes are a tree, and each has what comes after it.
 pub record IsMarkedTree (spots : List Spot) : Type 0 where
   pub tree : IsTree (nodes_of spots)
   pub marks :
       (at : ℕ) → at < length spots
-      → (spot_at spots at).goes_at_once ≡ goes_at_once (nodes_of spots) (spot_at spots at).node
+      → (spot_at spots at).sequel ≡ sequel_of (nodes_of spots) (spot_at spots at).node

@@ -254,6 +254,14 @@ after_answer (Same p q number) a kept = with_value kept number (answered_number 
 after_answer (IsNull p number) a kept = with_value kept number (answered_number a)
 after_answer (Show p) a kept = with_text kept (show_text (answered_number a))
 
+-- the number register that keeps the answer
+abbrev pub keeping_register : Instruction → Option ℕ
+keeping_register (GetNum q number i) = Some number
+keeping_register (CasPtr q p r number i) = Some number
+keeping_register (Same p q number) = Some number
+keeping_register (IsNull p number) = Some number
+keeping_register instruction = None
+
 abbrev pub is_show : Instruction → Bool
 is_show (Show p) = true
 is_show instruction = false

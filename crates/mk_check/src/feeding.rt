@@ -10,7 +10,6 @@ mod scripts;
 mod tree;
 
 use crate::Checked;
-use crate::text::is_refusal;
 use building::tree_of;
 use mk_core::Answer;
 use mk_never::{NoMemory, Op};
@@ -99,13 +98,14 @@ impl Feed {
         ensures nearer { OnOk result (work_left self.new < work_left self.old) }
         ensures err { OnErr result (self.new ≡ self.old) }
     {
-        if self.answer_at_once(answer) || self.answer_quietly(answer) {
+        if self.answer_at_once(answer) {
             return Ok(());
         }
-        self.answer_ahead(alloc, answer)
+        self.answer_later(alloc, answer)
     }
 
-    /// The same where the next line asks for an operation and nothing is printed. Returns whether that is so.
+    /// The same where the next operation, or a round that begins with one, follows and nothing is printed. Returns
+    /// whether that is so.
     #[inline(always)]
     fn answer_at_once(&mut self, answer: Answer) -> bool
         requires { IsWaiting self.old }
@@ -114,9 +114,6 @@ impl Feed {
         ensures refused { result ≡ false → self.new ≡ self.old }
     {
         let at = self.running.at();
-        if is_refusal(answer) || !self.tree.goes_at_once(at) {
-            return false;
-        }
         let Node::Line {
             instruction,
             next,
@@ -125,13 +122,27 @@ impl Feed {
         else {
             unreachable!()
         };
-        self.running.take_at(next, instruction, answer);
-        true
+        let sequel = self.tree.sequel(at);
+        self.running
+            .take_at_once(&self.tree, sequel, next, instruction, answer)
+    }
+
+    /// The same where other lines come next, or something is printed.
+    #[inline(never)]
+    fn answer_later(&mut self, alloc: Global, answer: Answer) -> Result<(), NoMemory>
+        requires { IsWaiting self.old }
+        ensures ok { OnOk result (TakesAnswer self.old answer self.new) }
+        ensures nearer { OnOk result (work_left self.new < work_left self.old) }
+        ensures err { OnErr result (self.new ≡ self.old) }
+    {
+        if self.answer_quietly(answer) {
+            return Ok(());
+        }
+        self.answer_ahead(alloc, answer)
     }
 
     /// The same where the next operation comes before anything is printed, with at most one block left and none begun.
     /// Returns whether it does.
-    #[inline(always)]
     fn answer_quietly(&mut self, answer: Answer) -> bool
         requires { IsWaiting self.old }
         ensures taken { IsTrue result → TakesAnswer self.old answer self.new }
@@ -149,7 +160,7 @@ impl Feed {
         instruction.is_silent(answer)
             && self
                 .running
-                .take_quietly(&self.tree, next, instruction, answer)
+                .take_to_op(&self.tree, next, instruction, answer)
     }
 
     /// The same, run on a copy first, so that no memory leaves the script as it was.

@@ -99,7 +99,7 @@ pub enum Instruction {
 impl Instruction {
     ghost use Rattle.std.specs.Prelude.{◌≡◌, ℕ, List, is_some};
     ghost use Rattle.mk_core.specs.declared.events.Answer.{Answer};
-    ghost use Rattle.mk_check.specs.Steps.{is_print, is_show, is_silent, op_asked};
+    ghost use Rattle.mk_check.specs.Steps.{is_print, is_show, is_silent, keeping_register, op_asked};
 
     /// Whether it asks for an operation.
     #[inline(always)]
@@ -136,6 +136,19 @@ impl Instruction {
         ensures { result ≡ is_silent self.now answer }
     {
         !is_refusal(answer) && !self.shows()
+    }
+
+    /// The number register that keeps its answer.
+    pub fn keeping_register(&self) -> Option<usize>
+        ensures { result ≡ keeping_register self.now }
+    {
+        match self {
+            Instruction::GetNum { number, .. }
+            | Instruction::CasPtr { number, .. }
+            | Instruction::Same { number, .. }
+            | Instruction::IsNull { number, .. } => Some(*number),
+            _ => None,
+        }
     }
 }
 

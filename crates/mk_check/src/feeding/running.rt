@@ -9,6 +9,7 @@ ghost use Rattle.mk_check.specs.Trees.{innermost, place_in_branch};
 ghost use Rattle.mk_check.specs.Trees.{LeavesBlock, MovesOn, HasStopped};
 ghost use Rattle.mk_check.specs.declared.feeding.tree.Frame.TheVariants as frame;
 
+mod at_once;
 mod printing;
 mod quiet;
 

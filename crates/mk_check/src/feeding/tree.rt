@@ -55,11 +55,71 @@ impl Frame {
     }
 }
 
-/// A node, and whether a script that is answered at it comes to the next operation at once.
+/// What comes after a line that is answered and shows nothing: another line that asks for an operation, or the end of a
+/// block. The number is that of the register which keeps the answer, where one does.
+#[derive(Clone, Copy)]
+pub enum Sequel {
+    /// Something else, or something is shown.
+    Other,
+    Asks,
+    KeptThenAsks { number: usize },
+    Ends,
+    KeptThenEnds { number: usize },
+}
+
+impl Sequel {
+    ghost use Rattle.mk_check.specs.Spots.{sequel_before, then_asks, then_ends};
+
+    /// A line that asks for an operation comes after an answer that is kept in this register, if in any.
+    fn asks(kept: Option<usize>) -> Sequel
+        ensures { result ≡ then_asks kept }
+    {
+        match kept {
+            Some(number) => Sequel::KeptThenAsks { number },
+            None => Sequel::Asks,
+        }
+    }
+
+    /// The end of a block comes after it.
+    fn ends(kept: Option<usize>) -> Sequel
+        ensures { result ≡ then_ends kept }
+    {
+        match kept {
+            Some(number) => Sequel::KeptThenEnds { number },
+            None => Sequel::Ends,
+        }
+    }
+
+    /// What comes after an instruction that this node follows.
+    fn before(next: Node, instruction: Instruction) -> Sequel
+        ensures { result ≡ sequel_before next instruction }
+    {
+        if instruction.shows() {
+            return Sequel::Other;
+        }
+        match next {
+            Node::Line {
+                instruction: later,
+                ..
+            } => {
+                if later.asks() {
+                    Sequel::asks(instruction.keeping_register())
+                } else {
+                    Sequel::Other
+                }
+            }
+            Node::Done => Sequel::ends(instruction.keeping_register()),
+            Node::Rounds { .. } => Sequel::Other,
+            Node::Choice { .. } => Sequel::Other,
+        }
+    }
+}
+
+/// A node, and what comes after it.
 #[derive(Clone, Copy)]
 pub struct Spot {
     node: Node,
-    goes_at_once: bool,
+    sequel: Sequel,
 }
 
 /// The nodes, each of which names those before it alone.
@@ -81,7 +141,7 @@ impl Model for Tree {
 }
 
 impl Tree {
-    ghost use Rattle.mk_check.specs.Spots.{asks_at, goes_at_once};
+    ghost use Rattle.mk_check.specs.Spots.{asks_at, sequel_of};
     ghost use Rattle.mk_check.specs.Steps.{asks_first};
     ghost use Rattle.mk_check.specs.Trees.{IsTree, IsBelow, node_at, steps_at, trees};
 
@@ -104,8 +164,8 @@ impl Tree {
         requires { IsBelow (length self.old) node }
         ensures { OnOk result (self.new ≡ self.old ++ node ∷ []) }
     {
-        let goes_at_once = self.would_go_at_once(node);
-        Ok(self.spots.push(Spot { node, goes_at_once })?)
+        let sequel = self.sequel_from(node);
+        Ok(self.spots.push(Spot { node, sequel })?)
     }
 
     #[inline(always)]
@@ -129,29 +189,28 @@ impl Tree {
         }
     }
 
-    /// Whether a script that is answered at a node which stands after these comes to the next operation at once.
-    fn would_go_at_once(&self, node: Node) -> bool
+    /// What comes after a node that names these alone.
+    fn sequel_from(&self, node: Node) -> Sequel
         requires { IsBelow (length self.now) node }
-        ensures { result ≡ goes_at_once self.now node }
+        ensures { result ≡ sequel_of self.now node }
     {
         match node {
             Node::Line {
                 instruction,
                 next,
                 ..
-            } => !instruction.shows() && self.asks(next),
-            _ => false,
+            } => Sequel::before(self.node(next), instruction),
+            _ => Sequel::Other,
         }
     }
 
-    /// Whether a script that is answered at this node comes to the next operation at once: the line that follows asks
-    /// for one, and nothing is shown.
+    /// What comes after a node.
     #[inline(always)]
-    pub fn goes_at_once(&self, at: usize) -> bool
+    pub fn sequel(&self, at: usize) -> Sequel
         requires { at < length self.now }
-        ensures { result ≡ goes_at_once self.now (node_at self.now at) }
+        ensures { result ≡ sequel_of self.now (node_at self.now at) }
     {
-        self.spots[at].goes_at_once
+        self.spots[at].sequel
     }
 
     /// Whether a script at this node comes to an operation before it prints, and before a block begins or ends.

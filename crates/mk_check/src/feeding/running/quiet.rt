@@ -13,8 +13,7 @@ use mk_core::Answer;
 impl Running {
     /// The instruction takes an answer at which it prints nothing, and the script is at another node. No memory is
     /// taken.
-    #[inline(always)]
-    pub fn take_at(&mut self, at: usize, instruction: Instruction, answer: Answer)
+    fn take_at(&mut self, at: usize, instruction: Instruction, answer: Answer)
         requires { steps.is_silent instruction answer ≡ true }
         ensures { self.new ≡ with_kept (record self.old { at = at })
             (steps.after_answer instruction answer (kept_in self.old)) }
@@ -116,41 +115,10 @@ impl Running {
         self.run_to_op(tree);
     }
 
-    /// Takes an answer at which nothing is printed, where the next node is the end of a `repeat` that has a round left
-    /// and whose body begins with an operation: begins that round. Returns whether that is so.
-    #[inline(always)]
-    fn take_to_round(
-        &mut self,
-        tree: &Tree,
-        next: usize,
-        instruction: Instruction,
-        answer: Answer,
-    ) -> bool
-        requires within { PlaceIsWithin (length tree.now) (record self.old { at = next }) }
-        requires silent { steps.is_silent instruction answer ≡ true }
-        ensures taken { IsTrue result → HasStopped tree.now (with_kept (record self.old { at = next })
-            (steps.after_answer instruction answer (kept_in self.old))) self.new }
-        ensures refused { result ≡ false → self.new ≡ self.old }
-    {
-        let Node::Done = tree.node(next) else {
-            return false;
-        };
-        let Some(Frame::Rounds { rounds, body, next }) = self.innermost() else {
-            return false;
-        };
-        if rounds == 0 || !tree.asks(body) {
-            return false;
-        }
-        self.take_at(body, instruction, answer);
-        self.go_round(rounds - 1, body, next);
-        true
-    }
-
     /// Takes an answer at which nothing is printed and runs on from the node after it to the next operation, if that
     /// comes before anything is printed, with at most one block left and none begun. Returns whether it does. No
     /// memory is taken.
-    #[inline(always)]
-    fn take_to_op(
+    pub fn take_to_op(
         &mut self,
         tree: &Tree,
         next: usize,
@@ -169,26 +137,5 @@ impl Running {
         self.take_at(next, instruction, answer);
         self.run_on_to_op(tree);
         true
-    }
-
-    /// The same by the shorter way, where it serves.
-    #[inline(always)]
-    pub fn take_quietly(
-        &mut self,
-        tree: &Tree,
-        next: usize,
-        instruction: Instruction,
-        answer: Answer,
-    ) -> bool
-        requires within { PlaceIsWithin (length tree.now) (record self.old { at = next }) }
-        requires silent { steps.is_silent instruction answer ≡ true }
-        ensures taken { IsTrue result → HasStopped tree.now (with_kept (record self.old { at = next })
-            (steps.after_answer instruction answer (kept_in self.old))) self.new }
-        ensures refused { result ≡ false → self.new ≡ self.old }
-    {
-        if self.take_to_round(tree, next, instruction, answer) {
-            return true;
-        }
-        self.take_to_op(tree, next, instruction, answer)
     }
 }

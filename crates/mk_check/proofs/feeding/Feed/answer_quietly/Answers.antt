@@ -7,7 +7,7 @@ use Rattle.mk_check.specs.Feeding.{FeedState, IsFeed, IsWaiting, TakesAnswer, op
 use Rattle.mk_check.proofs.AtOnce.{StopsBehind, feeds_at_once, nearer_at_once, stops_at_once, takes_at_once}
 use Rattle.mk_check.proofs.Stands.{op_of_others, waits_for_answer}
 use Rattle.mk_check.proofs.feeding.Feed.answer_quietly.Goals as goal
-use Rattle.mk_check.proofs.feeding.Feed.answer_quietly.Goals.{After-take_quietly}
+use Rattle.mk_check.proofs.feeding.Feed.answer_quietly.Goals.{After-take_to_op}
 
 pub unreachable-requires : goal.unreachable-requires
 unreachable-requires c =
@@ -22,18 +22,18 @@ unreachable-requires c =
     let never : false ≡ true = sym (ap (λ (o : Option Op). is_some o) none) ∙ some in
     absurd cc
 
-here : (c : After-take_quietly) → node_at c.self.inside.tree c.self.inside.running.at
+here : (c : After-take_to_op) → node_at c.self.inside.tree c.self.inside.running.at
     ≡ node.Line c.in-Line.line c.in-Line.instruction c.in-Line.next
 here c = ap (node_at c.self.inside.tree) (sym c.at.ensures) ∙ sym c.in-Line.ensures.value
 
-behind : (c : After-take_quietly) → c.take_quietly.result ≡ true
-    → StopsBehind c.self.inside.tree c.self.inside.running c.args.answer c.take_quietly.new.self
+behind : (c : After-take_to_op) → c.take_to_op.result ≡ true
+    → StopsBehind c.self.inside.tree c.self.inside.running c.args.answer c.take_to_op.new.self
 behind c t =
-    stops_at_once c.self.inside.tree c.self.inside.running c.take_quietly.new.self c.in-Line.line c.in-Line.instruction
+    stops_at_once c.self.inside.tree c.self.inside.running c.take_to_op.new.self c.in-Line.line c.in-Line.instruction
     c.in-Line.next c.args.answer c.in-Line.ensures.tree c.self.invariant.stop.within (here c)
-    (sym c.is_silent.ensures ∙ c.if-is_silent.true) (c.take_quietly.ensures.taken t)
+    (sym c.is_silent.ensures ∙ c.if-is_silent.true) (c.take_to_op.ensures.taken t)
 
-waiting : (c : After-take_quietly)
+waiting : (c : After-take_to_op)
     → IsWaiting (record { nodes = c.self.inside.tree; place = c.self.inside.running })
 waiting c = subst (λ (s : FeedState). IsWaiting s) (sym c.self.view_is) c.requires
 
@@ -47,26 +47,26 @@ feeds s t false takes stays is =
 pub invariant_of-self : goal.invariant_of-self
 invariant_of-self c =
     let s : FeedState = record { nodes = c.self.inside.tree; place = c.self.inside.running } in
-    let g = (goal.at.invariant_of-self c).After-take_quietly in
-    feeds s c.take_quietly.new.self c.take_quietly.result
-    (λ t. feeds_at_once s c.take_quietly.new.self c.args.answer c.in-Line.line c.in-Line.instruction c.in-Line.next
-    c.in-Line.ensures.tree c.self.invariant (waiting g) (here g) (behind g t)) c.take_quietly.ensures.refused
+    let g = (goal.at.invariant_of-self c).After-take_to_op in
+    feeds s c.take_to_op.new.self c.take_to_op.result
+    (λ t. feeds_at_once s c.take_to_op.new.self c.args.answer c.in-Line.line c.in-Line.instruction c.in-Line.next
+    c.in-Line.ensures.tree c.self.invariant (waiting g) (here g) (behind g t)) c.take_to_op.ensures.refused
     c.self.invariant
 
 pub returns-then-is_silent-clause-taken : goal.returns-then-is_silent-clause-taken
 returns-then-is_silent-clause-taken c =
     let s : FeedState = record { nodes = c.self.inside.tree; place = c.self.inside.running } in
-    let after : FeedState = record { nodes = c.self.inside.tree; place = c.take_quietly.new.self } in
-    let g = (goal.at.returns-then-is_silent-clause-taken c).After-take_quietly in
+    let after : FeedState = record { nodes = c.self.inside.tree; place = c.take_to_op.new.self } in
+    let g = (goal.at.returns-then-is_silent-clause-taken c).After-take_to_op in
     λ t. subst (λ (x : FeedState). TakesAnswer x c.args.answer after) c.self.view_is
-    (takes_at_once s c.take_quietly.new.self c.args.answer c.in-Line.line c.in-Line.instruction c.in-Line.next
+    (takes_at_once s c.take_to_op.new.self c.args.answer c.in-Line.line c.in-Line.instruction c.in-Line.next
     c.in-Line.ensures.tree c.self.invariant (waiting g) (here g) (behind g t))
 
 pub returns-then-is_silent-clause-nearer : goal.returns-then-is_silent-clause-nearer
 returns-then-is_silent-clause-nearer c =
     let s : FeedState = record { nodes = c.self.inside.tree; place = c.self.inside.running } in
-    let after : FeedState = record { nodes = c.self.inside.tree; place = c.take_quietly.new.self } in
-    let g = (goal.at.returns-then-is_silent-clause-nearer c).After-take_quietly in
+    let after : FeedState = record { nodes = c.self.inside.tree; place = c.take_to_op.new.self } in
+    let g = (goal.at.returns-then-is_silent-clause-nearer c).After-take_to_op in
     λ t. subst (λ (x : FeedState). work_left after < work_left x) c.self.view_is
-    (nearer_at_once s c.take_quietly.new.self c.args.answer c.in-Line.line c.in-Line.instruction c.in-Line.next
+    (nearer_at_once s c.take_to_op.new.self c.args.answer c.in-Line.line c.in-Line.instruction c.in-Line.next
     c.in-Line.ensures.tree c.self.invariant (waiting g) (here g) (behind g t))

@@ -1,7 +1,7 @@
 use Rattle.std.proofs.Common.{List, length, sym, subst, ap, ◌∙◌}
 use Rattle.mk_check.specs.declared.feeding.tree.Node.{Node}
 use Rattle.mk_check.specs.declared.feeding.tree.Spot.{Spot}
-use Rattle.mk_check.specs.Spots.{IsMarkedTree, goes_at_once}
+use Rattle.mk_check.specs.Spots.{IsMarkedTree, sequel_of}
 use Rattle.mk_check.specs.Trees.{IsBelow}
 use Rattle.mk_check.proofs.Spots.{IsMarkedTree_push}
 use Rattle.mk_check.proofs.feeding.tree.Tree.push.Goals as goal
@@ -10,8 +10,8 @@ pub invariant_of-self-2 : goal.invariant_of-self-2
 invariant_of-self-2 c =
     let spots = c.self.inside.spots.items in
     subst (λ (xs : List Spot). IsMarkedTree xs) (sym c.in_ok-push.ensures.items)
-    (IsMarkedTree_push spots (record { node = c.args.node; goes_at_once = c.would_go_at_once-goes_at_once.result })
+    (IsMarkedTree_push spots (record { node = c.args.node; sequel = c.sequel_from-sequel.result })
     c.self.invariant
     (subst (λ (nodes : List Node). IsBelow (length nodes) c.args.node) (sym c.self.view_is) c.requires)
-    (c.would_go_at_once-goes_at_once.ensures
-    ∙ ap (λ (nodes : List Node). goes_at_once nodes c.args.node) (sym c.self.view_is)))
+    (c.sequel_from-sequel.ensures
+    ∙ ap (λ (nodes : List Node). sequel_of nodes c.args.node) (sym c.self.view_is)))
