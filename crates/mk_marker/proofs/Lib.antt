@@ -7,4 +7,5 @@ pub mod MarkBits
 pub mod NewMarks
 pub mod MarkedCells
 pub mod Looking
+pub mod OutMarkers
 pub mod Worked

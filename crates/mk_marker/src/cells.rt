@@ -8,7 +8,7 @@ ghost use Rattle.mk_marker.specs.Steps.{IsOf, LooksInVain, SeesCell};
 
 use crate::steps::look;
 use mk_core::Word;
-use mk_words::{Pass, Words};
+use mk_words::{MarkerPass, Words};
 
 /// A cell that a marker has seen marked and not black, under this header word of its page.
 #[derive(Clone, Copy, Debug, PartialEq, Eq)]
@@ -35,7 +35,7 @@ fn lowest_bit(word: u64) -> u64
 
 /// Looks for a cell of the page that is marked and not black. A page without header has no cell yet: a `New` marks
 /// the cells that it carves first.
-fn find_on_page(words: &Words, pass: &mut Pass, page: u64) -> Option<MarkedCell>
+fn find_on_page(words: &Words, pass: &mut MarkerPass, page: u64) -> Option<MarkedCell>
     requires marker { IsOf words.now pass.old }
     requires between { IsBetweenScans pass.old }
     requires page { page < words.now.config.pages }
@@ -63,7 +63,7 @@ fn find_on_page(words: &Words, pass: &mut Pass, page: u64) -> Option<MarkedCell>
 }
 
 /// Looks for such a cell from one page on, up to another.
-fn find_between(words: &Words, pass: &mut Pass, first: u64, end: u64) -> Option<MarkedCell>
+fn find_between(words: &Words, pass: &mut MarkerPass, first: u64, end: u64) -> Option<MarkedCell>
     requires marker { IsOf words.now pass.old }
     requires between { IsBetweenScans pass.old }
     requires end { end ≤ words.now.config.pages }
@@ -80,7 +80,7 @@ fn find_between(words: &Words, pass: &mut Pass, first: u64, end: u64) -> Option<
 }
 
 /// Looks for such a cell on all pages, from this one on and then from page 0 on.
-pub(crate) fn find_cell(words: &Words, pass: &mut Pass, first: u64) -> Option<MarkedCell>
+pub(crate) fn find_cell(words: &Words, pass: &mut MarkerPass, first: u64) -> Option<MarkedCell>
     requires marker { IsOf words.now pass.old }
     requires between { IsBetweenScans pass.old }
     requires first { first < words.now.config.pages }

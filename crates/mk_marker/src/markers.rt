@@ -7,7 +7,7 @@ use crate::phases::phase_in;
 use crate::scans::scan_cell;
 use crate::steps::{attend, look, quit};
 use mk_core::{Phase, Seat, Word};
-use mk_words::{Pass, Words};
+use mk_words::{MarkerPass, Pass, Words};
 use std::marker::Model;
 
 /// The phase that `attend` found, which isn't marking.
@@ -31,7 +31,7 @@ pub enum Work {
 #[derive(Drop)]
 pub struct Marker<'h> {
     words: &'h Words,
-    pass: Pass,
+    pass: MarkerPass,
     page: u64,
 }
 
@@ -67,12 +67,17 @@ impl<'h> Marker<'h> {
         ensures { result ≡ pass }
     {
         words.is_within_limits();
+        pass.is_in_order();
         let number = match pass.seat() {
             Seat::Marker(number) => number,
             Seat::Caller(_) | Seat::Host => 0,
         };
         let page = first_page(words.pages(), number);
-        Marker { words, pass, page }
+        Marker {
+            words,
+            pass: MarkerPass::new(pass),
+            page,
+        }
     }
 
     /// Comes in, to mark for the cycle that is on. Where none is marking, it is out again.
@@ -130,6 +135,6 @@ impl<'h> Marker<'h> {
         ensures out { IsOut result }
     {
         let Marker { pass, .. } = self;
-        pass
+        pass.into_pass()
     }
 }

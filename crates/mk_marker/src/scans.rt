@@ -15,10 +15,10 @@ use crate::headers::words_scanned;
 use crate::steps::{blacken, claim, load, look, mark};
 use mk_core::Word;
 use mk_geom::{heap_page, lookup};
-use mk_words::{Pass, Words};
+use mk_words::{MarkerPass, Words};
 
 /// Marks the cell into which the value in its hand points, or finds that it points into nothing.
-fn mark_target(words: &Words, pass: &mut Pass, page: u64, value: u64)
+fn mark_target(words: &Words, pass: &mut MarkerPass, page: u64, value: u64)
     requires marker { IsOf words.now pass.old }
     requires holding { IsHolding (marker_in pass.old) value }
     requires page { page ≡ page_at_address value }
@@ -36,7 +36,7 @@ fn mark_target(words: &Words, pass: &mut Pass, page: u64, value: u64)
 }
 
 /// Loads the next word of the cell, and marks what it points into.
-fn scan_word(words: &Words, pass: &mut Pass)
+fn scan_word(words: &Words, pass: &mut MarkerPass)
     requires marker { IsOf words.now pass.old }
     requires scanning { IsScanning (marker_in pass.old) }
     requires more { 0 < words_left (marker_in pass.old) }
@@ -53,7 +53,7 @@ fn scan_word(words: &Words, pass: &mut Pass)
 }
 
 /// Scans the words of the cell.
-fn scan_words(words: &Words, pass: &mut Pass, count: u64)
+fn scan_words(words: &Words, pass: &mut MarkerPass, count: u64)
     requires marker { IsOf words.now pass.old }
     requires scanning { IsScanning (marker_in pass.old) }
     requires left { words_left (marker_in pass.old) ≡ count }
@@ -68,7 +68,7 @@ fn scan_words(words: &Words, pass: &mut Pass, count: u64)
 }
 
 /// Scans a cell that it has seen marked, and makes it black.
-pub(crate) fn scan_cell(words: &Words, pass: &mut Pass, cell: MarkedCell)
+pub(crate) fn scan_cell(words: &Words, pass: &mut MarkerPass, cell: MarkedCell)
     requires marker { IsOf words.now pass.old }
     requires seen { marker_in pass.old ≡ between_scans (Some (record { page = cell.page; header = cell.header })) }
     requires page { cell.page < words.now.config.pages }

@@ -16,11 +16,11 @@ ghost use Rattle.mk_marker.specs.Steps.{words_left};
 
 use crate::cells::MarkedCell;
 use mk_core::Word;
-use mk_words::{Pass, Words};
+use mk_words::{MarkerPass, Words};
 
 /// Comes in, and returns the phase word as it was, which has one of the six phases.
 #[inline(always)]
-pub(crate) fn attend(words: &Words, pass: &mut Pass) -> u64
+pub(crate) fn attend(words: &Words, pass: &mut MarkerPass) -> u64
     requires marker { IsOf words.now pass.old }
     requires out { IsOut pass.old }
     ensures moves { MovesMarker pass.old step.Attend result pass.new }
@@ -34,7 +34,7 @@ pub(crate) fn attend(words: &Words, pass: &mut Pass) -> u64
 
 /// Goes out.
 #[inline(always)]
-pub(crate) fn quit(words: &Words, pass: &mut Pass)
+pub(crate) fn quit(words: &Words, pass: &mut MarkerPass)
     requires marker { IsOf words.now pass.old }
     requires comes { is_out (marker_in pass.old).presence ≡ false }
     ensures { Moved pass.old step.Quit pass.new }
@@ -46,7 +46,7 @@ pub(crate) fn quit(words: &Words, pass: &mut Pass)
 
 /// Looks at the phase, or at a mark, black or header word.
 #[inline(always)]
-pub(crate) fn look(words: &Words, pass: &mut Pass, x: Word) -> u64
+pub(crate) fn look(words: &Words, pass: &mut MarkerPass, x: Word) -> u64
     requires marker { IsOf words.now pass.old }
     requires attends { attends pass.old ≡ true }
     requires word { (is_markers_word x && is_word words.now.config x) ≡ true }
@@ -61,7 +61,7 @@ pub(crate) fn look(words: &Words, pass: &mut Pass, x: Word) -> u64
 
 /// Claims a cell that it has seen marked. It is marked still, since no mark is taken back while a marker attends.
 #[inline(always)]
-pub(crate) fn claim(words: &Words, pass: &mut Pass, cell: MarkedCell)
+pub(crate) fn claim(words: &Words, pass: &mut MarkerPass, cell: MarkedCell)
     requires marker { IsOf words.now pass.old }
     requires seen { marker_in pass.old ≡ between_scans (Some (record { page = cell.page; header = cell.header })) }
     requires page { cell.page < words.now.config.pages }
@@ -79,7 +79,7 @@ pub(crate) fn claim(words: &Words, pass: &mut Pass, cell: MarkedCell)
 
 /// Loads the next word of the cell.
 #[inline(always)]
-pub(crate) fn load(words: &Words, pass: &mut Pass) -> u64
+pub(crate) fn load(words: &Words, pass: &mut MarkerPass) -> u64
     requires marker { IsOf words.now pass.old }
     requires scanning { IsScanning (marker_in pass.old) }
     requires more { 0 < words_left (marker_in pass.old) }
@@ -93,7 +93,7 @@ pub(crate) fn load(words: &Words, pass: &mut Pass) -> u64
 
 /// Marks the cell that it has seen, into which its open hand points.
 #[inline(always)]
-pub(crate) fn mark(words: &Words, pass: &mut Pass)
+pub(crate) fn mark(words: &Words, pass: &mut MarkerPass)
     requires marker { IsOf words.now pass.old }
     requires cell { may_mmark words.now.config (marker_in pass.old) ≡ true }
     ensures { Moved pass.old step.Mmark pass.new }
@@ -105,7 +105,7 @@ pub(crate) fn mark(words: &Words, pass: &mut Pass)
 
 /// Blackens the cell that it has scanned.
 #[inline(always)]
-pub(crate) fn blacken(words: &Words, pass: &mut Pass, cell: MarkedCell)
+pub(crate) fn blacken(words: &Words, pass: &mut MarkerPass, cell: MarkedCell)
     requires marker { IsOf words.now pass.old }
     requires scanned { may_mblack (marker_in pass.old) ≡ true }
     requires cell { IsScanOf (marker_in pass.old) cell.page cell.index }

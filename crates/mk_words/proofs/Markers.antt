@@ -1,5 +1,5 @@
 -- What a seat is at as a marker, after its own steps and those of others.
-use Rattle.std.proofs.Common.{◌≡◌, ℕ, ◌<◌, true, false, List, ◌++◌, length, refl, sym, ◌∙◌, ap, subst, arith}
+use Rattle.std.proofs.Common.{◌≡◌, ℕ, ◌<◌, true, length, refl, sym, ◌∙◌, ap, subst, arith}
 use Rattle.std.proofs.lemmas.Bool.{ltb-true}
 use Rattle.std.proofs.lemmas.List.{get_or-set_same}
 use Rattle.mk_core.specs.declared.config.Config.{Config}
@@ -7,7 +7,6 @@ use Rattle.mk_core.specs.declared.events.Seat.{Seat}
 use Rattle.mk_core.specs.declared.events.Seat.TheVariants.{Caller, Marker, Host}
 use Rattle.mk_core.specs.declared.events.Step.{Step}
 use Rattle.mk_core.specs.declared.events.Step.TheVariants as step
-use Rattle.mk_core.specs.declared.events.Event.{Event}
 use Rattle.mk_core.specs.declared.events.Group.{Group}
 use Rattle.mk_core.specs.declared.events.Group.TheVariants as group
 use Rattle.mk_core.specs.declared.seats.Flight.{Flight}
@@ -18,16 +17,13 @@ use Rattle.mk_core.specs.Accesses.{access_by, found}
 use Rattle.mk_core.specs.Moments.{Moment, outside, flight_of, marker_at, holder_number}
 use Rattle.mk_core.specs.Enabled.{marker_may}
 use Rattle.mk_core.specs.Effects.{marker_behind, moment_behind}
-use Rattle.mk_core.specs.History.{World, left, IsHistory}
-use Rattle.mk_core.specs.Growing.{Grows}
+use Rattle.mk_core.specs.History.{World, IsHistory}
 use Rattle.mk_core.proofs.Conditions.{enabled_meets}
-use Rattle.mk_laws.proofs.ProtocolFrames.{others_leave}
 use Rattle.mk_words.specs.Seats.{Has}
-use Rattle.mk_words.specs.States.{PassState, WordsState, now_of, event_of}
+use Rattle.mk_words.specs.States.{PassState, now_of, event_of}
 use Rattle.mk_words.specs.Rule.{told_by}
-use Rattle.mk_words.specs.Steps.{IsEnabledTo, Makes, moment_of, found_by, Tells}
+use Rattle.mk_words.specs.Steps.{IsEnabledTo, moment_of, found_by, Tells}
 use Rattle.mk_words.specs.Markers.{is_markers, marker_in, Marks}
-use Rattle.mk_words.proofs.Seats.{others_own}
 use Rattle.mk_words.proofs.Made.{Made, made}
 
 -- no access of a marker's is a store
@@ -50,33 +46,12 @@ marker_steps (Caller k) group.Markers m h = cc
 marker_steps Host group.Markers m h = cc
 marker_steps seat _ m h = cc
 
-other_steps : (c : Config) (m : Moment) (seat : Seat) (s : Step) → is_markers (group_of s) ≡ false
-    → is_open_to seat (group_of s) ≡ true → (n : Moment) → marker_at n seat ≡ outside
-other_steps c m (Caller k) s g h n = refl
-other_steps c m Host s g h n = refl
-other_steps c m (Marker k) s g h n = by (group_of s) g h
-  where
-    by : (x : Group) → is_markers x ≡ false → is_open_to (Marker k) x ≡ true → marker_at n (Marker k) ≡ outside
-    by group.Markers g h = cc
-    by _ g h = cc
-
 behind_own : (c : Config) (m : Moment) (seat : Seat) (k : ℕ) (s : Step) → seat ≡ Marker k → k < length m.seats.markers
     → marker_at (moment_behind c m (record { seat = seat; step = s })) seat
     ≡ marker_behind c (found c m (record { seat = seat; step = s })) s (marker_at m seat)
 behind_own c m (Marker j) k s is lt = let same : j ≡ k = cc in get_or-set_same m.seats.markers j _ outside (omega arith)
 behind_own c m (Caller j) k s is lt = cc
 behind_own c m Host k s is lt = cc
-
--- a seat that makes a step of another kind is out as a marker
-pub is_outside : (p : PassState) (s : Step) (q : PassState) (m : Makes p s q) → Has p.seats p.seat
-    → IsHistory q.table.config q.seen → is_markers (group_of s) ≡ false
-    → (marker_in p ≡ outside) × (marker_in q ≡ outside)
-is_outside p s q m own history kind =
-    let d = made p s q m own history in (
-      other_steps p.table.config (now_of p) p.seat s kind d.meets.kind (now_of p),
-      ap (λ (x : Seat). marker_at (now_of q) x) d.seat
-          ∙ other_steps p.table.config (now_of p) p.seat s kind d.meets.kind (now_of q),
-    )
 
 module _ (p : PassState) (s : Step) (n : ℕ) (q : PassState) (t : Tells p s n q) (own : Has p.seats p.seat)
     (history : IsHistory q.table.config q.seen) where
@@ -100,21 +75,6 @@ module _ (p : PassState) (s : Step) (n : ℕ) (q : PassState) (t : Tells p s n q
             ∙ ap (λ (x : MarkerState). marker_behind c (found_by t.makes) s x) d.frame.own.marker
             ∙ ap (λ (i : ℕ). marker_behind c i s (marker_in p)) (sym found_is);
       }
-
--- a pass that has seen more of others is at the same
-pub joined_marker : (p q : PassState) → q.table ≡ p.table → q.seat ≡ p.seat → Has p.seats p.seat
-    → Grows p.seats p.seen q.seen → IsHistory q.table.config q.seen
-    → marker_in q ≡ marker_in p
-joined_marker p q table seat own grows history =
-    let at = λ (w : WordsState) (es : List Event) (x : Seat). marker_at (left w.config es).now x in
-    let whole : IsHistory p.table.config (p.seen ++ grows.more) =
-    subst (λ (es : List Event). IsHistory p.table.config es) grows.is
-    (subst (λ (w : WordsState). IsHistory w.config q.seen) table history) in
-    ap (λ (w : WordsState). at w q.seen q.seat) table
-    ∙ ap (λ (es : List Event). at p.table es q.seat) grows.is
-    ∙ ap (λ (x : Seat). at p.table (p.seen ++ grows.more) x) seat
-    ∙ (others_leave p.table.config p.seen grows.more p.seat whole.within_limits whole.enabled
-    (others_own p.seats p.seat grows.more own grows.of_others)).own.marker
 
 -- what an enabled step of a marker's is asked of what the marker is at
 pub own_met : (p : PassState) (s : Step) → IsEnabledTo p s → marker_may p.table.config (marker_in p) s ≡ true

@@ -1,4 +1,4 @@
-//! The steps of markers. A pass keeps what its marker is at, so these need no further numbers.
+//! The steps of markers. A marker's pass keeps what the marker is at, so these need no further numbers.
 ghost use Rattle.std.specs.Prelude.{◌≡◌, None};
 ghost use Rattle.mk_core.specs.declared.events.Step.TheVariants as step;
 ghost use Rattle.mk_core.specs.Accesses.{seen_page, seen_bit, next_word, scan_page, scan_bit};
@@ -6,7 +6,7 @@ ghost use Rattle.mk_core.specs.Moments.{outside};
 ghost use Rattle.mk_words.specs.Markers.{marker_in, Marks, Claims};
 ghost use Rattle.mk_words.specs.Steps.{IsEnabledTo, Makes};
 
-use crate::passes::Pass;
+use crate::marker_passes::MarkerPass;
 use crate::scans::cell_seen;
 use crate::words::Words;
 use mk_core::{Access, Scan, Step, TableWord, Word, bit_for, has_bit};
@@ -43,7 +43,7 @@ fn seen_bit(cell: Option<Cell>) -> u64
     cell.map_or(0, |cell| bit_for(cell.index))
 }
 
-impl Pass {
+impl MarkerPass {
     /// Comes in, and returns the phase word as it was: where that is marking, the marker attends.
     pub fn attend(&mut self, words: &Words) -> u64
         requires one_table { self.old.table ≡ words.now }

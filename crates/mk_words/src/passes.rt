@@ -3,45 +3,29 @@ ghost use Rattle.std.specs.Prelude.{◌≡◌, true, false};
 ghost use Rattle.mk_core.specs.Accesses.{caller_number, word_accessed, access};
 ghost use Rattle.mk_core.specs.History.{IsHistory};
 ghost use Rattle.mk_core.specs.Counts.{IsTidy};
-ghost use Rattle.mk_core.specs.Order.{group_of};
 ghost use Rattle.mk_words.specs.Seats.{CallersAreBeforeOver, Has, is_caller};
 ghost use Rattle.mk_words.specs.PageMaps.{is_handing};
 ghost use Rattle.mk_words.specs.States.{now_of, event_of};
-ghost use Rattle.mk_words.specs.Markers.{is_markers, marker_in, Marks};
 ghost use Rattle.mk_words.specs.Steps.{May, Tells};
 
-use crate::scans::marker_behind;
 use crate::tokens::SeatToken;
 use crate::words::Words;
-use mk_core::{Access, Marker, Presence, Seat, Step, TableWord};
+use mk_core::{Access, Seat, Step, TableWord};
 use std::marker::Model;
-
-/// What a marker that is out is in the middle of, and a seat that is no marker's.
-pub(crate) const OUTSIDE: Marker = Marker {
-    presence: Presence::Out,
-    scan: None,
-    hand: None,
-    seen: None,
-};
 
 /// The right to make the steps of one seat, of no use for another table than its own. It knows a list of the events
 /// so far, which has all those of its seats: its own, and those of the passes that were joined to it.
 #[derive(Drop)]
 pub struct Pass {
     pub(crate) own: SeatToken,
-    pub(crate) marker: Marker,
 }
 
 impl Model for Pass {
-    ghost use Rattle.std.specs.Prelude.{◌≡◌};
     ghost use Rattle.mk_words.specs.States.{PassState};
-    ghost use Rattle.mk_words.specs.Markers.{marker_in};
 
     ghost Value = { PassState };
 
     ghost view = { λ p. p.own };
-
-    ghost invariant = { λ p. p.marker ≡ marker_in p.own };
 }
 
 impl Pass {
@@ -72,11 +56,10 @@ impl Pass {
         self.own.caller()
     }
 
-    /// Makes a step of any kind but a marker's.
+    /// Makes a step of any kind but the two that hand over the turn.
     #[inline(always)]
     pub(crate) fn perform(&mut self, words: &Words, step: Step, word: TableWord, by: Access) -> u64
         requires one_table { self.old.table ≡ words.now }
-        requires kind { is_markers (group_of step) ≡ false }
         requires hands_none { is_handing step ≡ false }
         requires may { May self.old step }
         requires word { word ≡ word_accessed self.old.table.config (now_of self.old) (event_of self.old step) }
@@ -86,37 +69,5 @@ impl Pass {
         ensures history { IsHistory self.new.table.config self.new.seen }
     {
         self.own.perform(words, step, word, by)
-    }
-
-    /// What its seat is in the middle of as a marker.
-    #[inline(always)]
-    pub(crate) fn marker(&self) -> Marker
-        ensures { result ≡ marker_in self.now }
-    {
-        self.marker
-    }
-
-    /// Makes a step of a marker's, and keeps what the marker is at then.
-    #[inline(always)]
-    pub(crate) fn perform_marking(
-        &mut self,
-        words: &Words,
-        step: Step,
-        word: TableWord,
-        by: Access,
-    ) -> u64
-        requires one_table { self.old.table ≡ words.now }
-        requires kind { is_markers (group_of step) ≡ true }
-        requires hands_none { is_handing step ≡ false }
-        requires may { May self.old step }
-        requires word { word ≡ word_accessed self.old.table.config (now_of self.old) (event_of self.old step) }
-        requires access { by ≡ access self.old.table.config (now_of self.old) (event_of self.old step) }
-        ensures { Marks self.old step result self.new }
-    {
-        words.is_within_limits();
-        let marker = self.marker;
-        let found = self.own.perform(words, step, word, by);
-        self.marker = marker_behind(&words.config, found, step, marker);
-        found
     }
 }

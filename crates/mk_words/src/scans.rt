@@ -12,7 +12,7 @@ ghost use Rattle.mk_core.specs.Calls.{at_rest};
 ghost use Rattle.mk_core.specs.Enabled.{marker_may};
 ghost use Rattle.mk_core.specs.Ranges.{is_in_range};
 
-use crate::passes::OUTSIDE;
+use crate::marker_passes::OUTSIDE;
 use mk_core::{
     Config, Marker, Phase, Presence, Scan, SeenHeader, Step, Word, has_bit, has_no_pointers,
     words_under,

@@ -20,7 +20,7 @@ use atomic_table::Seat as Token;
 use mk_core::{Access, Seat, Step, TableWord};
 use std::marker::{Brand, Model};
 
-/// A pass's token with its seat. What a marker is at isn't kept here, so a turn is moved in few words.
+/// A pass's token with its seat.
 #[derive(Drop)]
 pub(crate) struct SeatToken {
     pub(crate) token: Token<MapHome, View>,

@@ -11,7 +11,7 @@ ghost use Rattle.mk_words.specs.States.{now_of, call_of, event_of};
 ghost use Rattle.mk_words.specs.Steps.{IsEnabledTo, May, Makes, Finds, Tells};
 ghost use Rattle.mk_words.specs.TurnSteps.{IsTurn, IsFresh, turn_stays, Acts};
 
-use crate::passes::{OUTSIDE, Pass};
+use crate::passes::Pass;
 use crate::tokens::TurnToken;
 use crate::words::Words;
 use mk_core::{Access, Seat, Step, TableWord};
@@ -62,7 +62,7 @@ impl Pass {
         ensures stays { IfErr result (λ back. call_of back.0 ≡ call_of self) }
         ensures again { IfErr result (λ back. IsEnabledTo back.0 (step.Take op)) }
     {
-        let Pass { own, .. } = self;
+        let Pass { own } = self;
         own.is_in_order();
         match own.take(words, op) {
             Ok((pass, map)) => {
@@ -76,11 +76,7 @@ impl Pass {
             }
             Err((own, found)) => {
                 own.is_in_order();
-                let back = Pass {
-                    own,
-                    marker: OUTSIDE,
-                };
-                Err((back, Busy { holder: found - 1 }))
+                Err((Pass { own }, Busy { holder: found - 1 }))
             }
         }
     }
@@ -144,9 +140,6 @@ impl Turn {
         pass.is_in_order();
         let own = pass.give(words, map);
         own.is_in_order();
-        Pass {
-            own,
-            marker: OUTSIDE,
-        }
+        Pass { own }
     }
 }

@@ -11,7 +11,7 @@ ghost use Rattle.mk_words.specs.Finals.{history_of, config_of, HasTallies};
 use crate::finals::{Final, freed_bits, last_word};
 use crate::homes::MapHome;
 use crate::indexes::{count_of_words, index_of};
-use crate::passes::{OUTSIDE, Pass};
+use crate::passes::Pass;
 use crate::rule::{OneHistory, View};
 use crate::telling::{HandOver, Handing, Remember, Settle, Together};
 use crate::tokens::SeatToken;
@@ -115,7 +115,6 @@ impl Words {
                         token,
                         seat: Seat::Host,
                     },
-                    marker: OUTSIDE,
                 },
             )),
             Err(_) => Err(NoMemory),
@@ -136,7 +135,6 @@ impl Words {
     {
         Pass {
             own: Words::split_as::<Brand>(words, &mut pass.own, seat),
-            marker: OUTSIDE,
         }
     }
 
@@ -166,10 +164,8 @@ impl Words {
         ensures own { Grows into.old.seats into.old.seen into.new.seen }
         ensures came { Grows from.seats from.seen into.new.seen }
     {
-        let Pass { own, .. } = from;
-        into.own.is_in_order();
+        let Pass { own } = from;
         Words::join_tokens(words, &mut into.own, own);
-        into.own.is_in_order();
     }
 
     fn join_tokens(words: &Words, into: &mut SeatToken, from: SeatToken)
@@ -205,7 +201,7 @@ impl Words {
         ensures config { config_of result ≡ words.config }
         ensures tallies { HasTallies (now_of pass).words words.config.pages result }
     {
-        let Pass { own, .. } = pass;
+        let Pass { own } = pass;
         Words::close_by(words, own)
     }
 

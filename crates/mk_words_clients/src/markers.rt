@@ -8,10 +8,10 @@ ghost use Rattle.mk_words_clients.specs.Clients.{IsOutside, IsAttending, IsAt};
 
 use mk_core::{Phase, Word};
 use mk_geom::{Header, cells, class_words, decode, heap_page, lookup};
-use mk_words::{Pass, Words};
+use mk_words::{MarkerPass, Words};
 
 /// Loads the next word of the cell, and marks what it points to.
-fn scan_word(words: &Words, pass: &mut Pass)
+fn scan_word(words: &Words, pass: &mut MarkerPass)
     requires one_table { pass.old.table ≡ words.now }
     requires attends { IsAttending pass.old }
     requires next { has_next_word (marker_in pass.old).scan ≡ true }
@@ -33,7 +33,7 @@ fn scan_word(words: &Words, pass: &mut Pass)
 }
 
 /// Scans a cell that it has claimed, and blackens it.
-fn scan_words(words: &Words, pass: &mut Pass, page: u64, k: u64, count: u64)
+fn scan_words(words: &Words, pass: &mut MarkerPass, page: u64, k: u64, count: u64)
     requires one_table { pass.old.table ≡ words.now }
     requires attends { IsAttending pass.old }
     requires at { IsAt pass.old page k (64 * page + k * count) (64 * page + k * count + count) }
@@ -49,7 +49,7 @@ fn scan_words(words: &Words, pass: &mut Pass, page: u64, k: u64, count: u64)
 }
 
 /// Scans a cell of a block, if it is marked.
-fn scan_cell(words: &Words, pass: &mut Pass, page: u64, k: u64)
+fn scan_cell(words: &Words, pass: &mut MarkerPass, page: u64, k: u64)
     requires one_table { pass.old.table ≡ words.now }
     requires attends { IsAttending pass.old }
     requires idle { (marker_in pass.old).scan ≡ None }
@@ -69,7 +69,7 @@ fn scan_cell(words: &Words, pass: &mut Pass, page: u64, k: u64)
 }
 
 /// Comes in, scans a cell if the marker attends, and goes out.
-pub fn visit(words: &Words, pass: &mut Pass, page: u64, k: u64)
+pub fn visit(words: &Words, pass: &mut MarkerPass, page: u64, k: u64)
     requires one_table { pass.old.table ≡ words.now }
     requires outside { IsOutside pass.old }
     requires page { page < words.now.config.pages }

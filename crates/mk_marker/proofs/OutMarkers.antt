@@ -1,0 +1,42 @@
+-- A marker that is out is in the middle of nothing.
+use Rattle.std.proofs.Common.{◌≡◌, ℕ, true, false, refl, ◌∙◌, ap, subst}
+use Rattle.std.specs.Prelude.{Option, None}
+use Rattle.mk_core.specs.declared.config.Config.{Config}
+use Rattle.mk_core.specs.declared.events.Seat.{Seat}
+use Rattle.mk_core.specs.declared.seats.Marker.{Marker as MarkerState}
+use Rattle.mk_core.specs.declared.seats.Presence.{Presence}
+use Rattle.mk_core.specs.declared.seats.Presence.TheVariants.{Out}
+use Rattle.mk_core.specs.declared.seats.Scan.{Scan}
+use Rattle.mk_core.specs.declared.seats.SeenHeader.{SeenHeader}
+use Rattle.mk_core.specs.History.{left, IsHistory}
+use Rattle.mk_core.specs.MarkerConditions.{is_out}
+use Rattle.mk_core.specs.Moments.{marker_at, marker_of, outside}
+use Rattle.mk_core.specs.StopConditions.{is_attending}
+use Rattle.mk_laws.specs.Protocol.{IsIdle}
+use Rattle.mk_laws.proofs.Known.{known_left}
+use Rattle.mk_laws.proofs.Protocols.{protocol_of}
+use Rattle.mk_words.specs.States.{PassState, now_of}
+use Rattle.mk_words.specs.Markers.{marker_in}
+use Rattle.mk_marker.specs.Markers.{IsMarkers, IsOut}
+
+out_is : (x : Presence) → is_out x ≡ true → x ≡ Out
+out_is Out h = refl
+out_is _ h = cc
+
+nothing_is : (x : MarkerState) → is_out x.presence ≡ true → (is_attending x.presence ≡ false → IsIdle x) → x ≡ outside
+nothing_is x out idle =
+    let is = out_is x.presence out in
+    let none = idle (ap (λ (y : Presence). is_attending y) is) in
+    ap (λ (y : Presence). record { presence = y; scan = x.scan; hand = x.hand; seen = x.seen }) is
+    ∙ ap (λ (y : Option Scan). record { presence = Out; scan = y; hand = x.hand; seen = x.seen }) none.scan
+    ∙ ap (λ (y : Option ℕ). record { presence = Out; scan = None; hand = y; seen = x.seen }) none.hand
+    ∙ ap (λ (y : Option SeenHeader). record { presence = Out; scan = None; hand = None; seen = y }) none.seen
+
+pub out_is_outside : (p : PassState) → IsHistory p.table.config p.seen → IsMarkers p → IsOut p → marker_in p ≡ outside
+out_is_outside p h of out =
+    let c : Config = p.table.config in
+    let protocol = protocol_of c (left c p.seen).now (known_left c p.seen h.within_limits h.enabled) in
+    let same : marker_in p ≡ marker_of (now_of p) of.number = ap (λ (s : Seat). marker_at (now_of p) s) of.seat in
+    same
+    ∙ nothing_is (marker_of (now_of p) of.number) (subst (λ (x : MarkerState). is_out x.presence ≡ true) same out)
+    (protocol.idle of.number)

@@ -1,0 +1,112 @@
+//! A marker's pass: what a marker is at, kept beside the right to make its steps.
+ghost use Rattle.std.specs.Prelude.{◌≡◌, true, false};
+ghost use Rattle.mk_core.specs.Accesses.{word_accessed, access};
+ghost use Rattle.mk_core.specs.History.{IsHistory};
+ghost use Rattle.mk_core.specs.Counts.{IsTidy};
+ghost use Rattle.mk_core.specs.Moments.{outside};
+ghost use Rattle.mk_core.specs.Order.{group_of};
+ghost use Rattle.mk_words.specs.Seats.{CallersAreBeforeOver, Has};
+ghost use Rattle.mk_words.specs.PageMaps.{is_handing};
+ghost use Rattle.mk_words.specs.States.{now_of, event_of};
+ghost use Rattle.mk_words.specs.Markers.{is_markers, marker_in, Marks};
+ghost use Rattle.mk_words.specs.Steps.{May};
+
+use crate::passes::Pass;
+use crate::scans::marker_behind;
+use crate::tokens::SeatToken;
+use crate::words::Words;
+use mk_core::{Access, Marker, Presence, Step, TableWord};
+use std::marker::Model;
+
+/// What a marker that is out is in the middle of.
+pub(crate) const OUTSIDE: Marker = Marker {
+    presence: Presence::Out,
+    scan: None,
+    hand: None,
+    seen: None,
+};
+
+/// The pass of a marker's seat, with what the marker is at. So its steps need no further numbers, and the passes of
+/// other seats are moved in few words.
+#[derive(Drop)]
+pub struct MarkerPass {
+    own: SeatToken,
+    marker: Marker,
+}
+
+impl Model for MarkerPass {
+    ghost use Rattle.std.specs.Prelude.{◌≡◌};
+    ghost use Rattle.mk_words.specs.States.{PassState};
+    ghost use Rattle.mk_words.specs.Markers.{marker_in};
+
+    ghost Value = { PassState };
+
+    ghost view = { λ p. p.own };
+
+    ghost invariant = { λ p. p.marker ≡ marker_in p.own };
+}
+
+impl MarkerPass {
+    /// The pass of a marker that is out.
+    pub fn new(pass: Pass) -> MarkerPass
+        requires out { marker_in pass ≡ outside }
+        ensures { result ≡ pass }
+    {
+        let Pass { own } = pass;
+        MarkerPass {
+            own,
+            marker: OUTSIDE,
+        }
+    }
+
+    /// The pass alone.
+    pub fn into_pass(self) -> Pass
+        ensures { result ≡ self }
+    {
+        let MarkerPass { own, .. } = self;
+        Pass { own }
+    }
+
+    /// What holds of every pass. It does nothing.
+    #[inline(always)]
+    pub fn is_in_order(&self)
+        ensures own { Has self.now.seats self.now.seat }
+        ensures history { IsHistory self.now.table.config self.now.seen }
+        ensures before_over { CallersAreBeforeOver self.now.table.config self.now.seats self.now.seen }
+        ensures tidy { IsTidy self.now.table.config self.now.seen }
+    {
+        self.own.is_in_order();
+    }
+
+    /// What its seat is in the middle of as a marker.
+    #[inline(always)]
+    pub(crate) fn marker(&self) -> Marker
+        ensures { result ≡ marker_in self.now }
+    {
+        self.marker
+    }
+
+    /// Makes a step of a marker's, and keeps what the marker is at then.
+    #[inline(always)]
+    pub(crate) fn perform_marking(
+        &mut self,
+        words: &Words,
+        step: Step,
+        word: TableWord,
+        by: Access,
+    ) -> u64
+        requires one_table { self.old.table ≡ words.now }
+        requires kind { is_markers (group_of step) ≡ true }
+        requires hands_none { is_handing step ≡ false }
+        requires may { May self.old step }
+        requires word { word ≡ word_accessed self.old.table.config (now_of self.old) (event_of self.old step) }
+        requires access { by ≡ access self.old.table.config (now_of self.old) (event_of self.old step) }
+        ensures { Marks self.old step result self.new }
+    {
+        words.is_within_limits();
+        let marker = self.marker;
+        let found = self.own.perform(words, step, word, by);
+        self.marker = marker_behind(&words.config, found, step, marker);
+        found
+    }
+}
