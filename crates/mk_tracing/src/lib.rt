@@ -8,6 +8,7 @@ mod grays;
 mod laws;
 mod noting;
 mod roots;
+mod scanning;
 mod stepping;
 mod tracing;
 mod values;
