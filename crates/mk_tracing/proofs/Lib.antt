@@ -14,3 +14,4 @@ pub mod Clearing
 pub mod FreePages
 pub mod Closes
 pub mod DirtyWords
+pub mod ScannedWords

@@ -10,9 +10,9 @@ use Rattle.mk_core.specs.declared.seats.Flight.{Flight}
 use Rattle.mk_core.specs.declared.seats.Hand.{Hand}
 use Rattle.mk_core.specs.Bits.{has_bit, without}
 use Rattle.mk_core.specs.Bounded.{is_some_and}
-use Rattle.mk_core.specs.Words.{Words, register_word}
+use Rattle.mk_core.specs.Words.{Words, header_at, register_word}
 use Rattle.mk_core.specs.Cells.{header_in, head_page, cells_under, cell_bits, first_word, cell_words, is_marked}
-use Rattle.mk_core.specs.Cells.{pointed_cell, points_well}
+use Rattle.mk_core.specs.Cells.{has_no_pointers, pointed_cell, points_well}
 use Rattle.mk_core.specs.Cycles.{is_unmarked, sweeps}
 use Rattle.mk_core.specs.Frames.{OnlyGrow}
 use Rattle.mk_core.specs.Moments.{Moment}
@@ -30,6 +30,17 @@ pub record IsGray (pages : ℕ) (w : Words) (cell : Cell) : Type 0 where
   pub index : cell.index < cells_under (header_in w cell.page)
   pub marked : is_marked w cell ≡ true
   pub not_black : is_black w cell ≡ false
+
+-- A gray cell of this many words, which are to be scanned.
+pub record IsDue (pages : ℕ) (w : Words) (cell : Cell) (size : ℕ) : Type 0 where
+  pub gray : IsGray pages w cell
+  pub scanned : has_no_pointers (header_in w cell.page) ≡ false
+  pub words : size ≡ cell_words w cell
+
+-- a gray cell, and the header word of its page
+pub record IsGrayUnder (pages : ℕ) (w : Words) (cell : Cell) (header : ℕ) : Type 0 where
+  pub gray : IsGray pages w cell
+  pub word : header ≡ header_at w cell.page
 
 -- a word of one
 pub record IsGrayWord (pages : ℕ) (w : Words) (n : ℕ) : Type 0 where
@@ -122,6 +133,12 @@ RegistersAreWell c p q k =
 
 abbrev pub GlobalIsWell : Config → PassState → PassState → ℕ → Type 0
 GlobalIsWell c p q g = points_well c.pages (still_words q) (slice_index (still_words p).globals g) ≡ true
+
+-- What a word of a cell was points well now.
+abbrev pub WordIsWell : Config → PassState → PassState → Cell → ℕ → Type 0
+WordIsWell c p q cell i =
+    points_well c.pages (still_words q)
+    (slice_index (still_words p).heap (first_word (still_words p) cell + i)) ≡ true
 
 -- Each register and each global points well.
 pub record RootsPointWell (pages : ℕ) (w : Words) : Type 0 where

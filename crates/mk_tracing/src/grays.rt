@@ -3,7 +3,7 @@ ghost use Rattle.std.specs.Prelude.{◌≡◌, ℕ, ◌<◌, ◌≤◌, true, fa
 ghost use Rattle.mk_geom.specs.Headers.{header_of};
 ghost use Rattle.mk_core.specs.Bits.{has_bit};
 ghost use Rattle.mk_core.specs.Cells.{cells_under};
-ghost use Rattle.mk_tracing.specs.Grays.{HasNoGray, IsGray, MarksOn};
+ghost use Rattle.mk_tracing.specs.Grays.{HasNoGray, IsGrayUnder, MarksOn};
 ghost use Rattle.mk_tracing.specs.Stops.{IsWanted, still_words};
 
 use crate::stepping::{look_among, look_at, next_in_use};
@@ -11,6 +11,13 @@ use crate::worklist::Worklist;
 use mk_core::{Word, cells_under, has_bit};
 use mk_geom::Cell;
 use mk_words::{Stopped, Words};
+
+/// A gray cell, and the header word of its page.
+#[derive(Clone, Copy)]
+pub(crate) struct Gray {
+    pub(crate) cell: Cell,
+    pub(crate) header: u64,
+}
 
 /// The first of these cells that is under the header word.
 fn first_of(cells: u64, header: u64) -> Option<u64>
@@ -26,14 +33,15 @@ fn first_of(cells: u64, header: u64) -> Option<u64>
 /// The first gray cell of a page on which these cells are marked. The black word is looked at, and the header only
 /// where a marked cell isn't black.
 #[inline(never)]
-fn gray_among(words: &Words, stop: &mut Stopped, page: u64, marks: u64) -> Option<Cell>
+fn gray_among(words: &Words, stop: &mut Stopped, page: u64, marks: u64) -> Option<Gray>
     requires one_table { stop.old.pass.table ≡ words.now }
     requires wanted { IsWanted stop.old.pass }
     requires page { page < words.now.config.pages }
     requires marks { marks ≡ slice_index (still_words stop.old.pass).marks page }
     ensures on { MarksOn stop.old stop.new }
     ensures words { still_words stop.new.pass ≡ still_words stop.old.pass }
-    ensures gray { IfSome result (λ cell. IsGray words.now.config.pages (still_words stop.old.pass) cell) }
+    ensures gray { IfSome result
+        (λ gray. IsGrayUnder words.now.config.pages (still_words stop.old.pass) gray.cell gray.header) }
     ensures none { IfNone result (HasNoGray (still_words stop.old.pass) page) }
 {
     let blacks = look_at(words, stop, Word::Black(page));
@@ -45,19 +53,21 @@ fn gray_among(words: &Words, stop: &mut Stopped, page: u64, marks: u64) -> Optio
     let Some(index) = first_of(grays, header) else {
         return None;
     };
-    Some(Cell { page, index })
+    let cell = Cell { page, index };
+    Some(Gray { cell, header })
 }
 
 /// The first gray cell of a page. Where no cell is marked, no more is looked at.
 #[inline(always)]
-fn gray_on(words: &Words, stop: &mut Stopped, pages: u64, page: u64) -> Option<Cell>
+fn gray_on(words: &Words, stop: &mut Stopped, pages: u64, page: u64) -> Option<Gray>
     requires one_table { stop.old.pass.table ≡ words.now }
     requires pages { pages ≡ words.now.config.pages }
     requires wanted { IsWanted stop.old.pass }
     requires page { page < words.now.config.pages }
     ensures on { MarksOn stop.old stop.new }
     ensures words { still_words stop.new.pass ≡ still_words stop.old.pass }
-    ensures gray { IfSome result (λ cell. IsGray words.now.config.pages (still_words stop.old.pass) cell) }
+    ensures gray { IfSome result
+        (λ gray. IsGrayUnder words.now.config.pages (still_words stop.old.pass) gray.cell gray.header) }
     ensures none { IfNone result (HasNoGray (still_words stop.old.pass) page) }
 {
     let marks = look_among(words, stop, pages, Word::Mark(page));
@@ -68,13 +78,14 @@ fn gray_on(words: &Words, stop: &mut Stopped, pages: u64, page: u64) -> Option<C
 }
 
 /// The first gray cell from a page on, up to another. It goes from page in use to page in use: a free page has no cell.
-fn gray_between(words: &Words, stop: &mut Stopped, from: u64, to: u64) -> Option<Cell>
+fn gray_between(words: &Words, stop: &mut Stopped, from: u64, to: u64) -> Option<Gray>
     requires one_table { stop.old.pass.table ≡ words.now }
     requires wanted { IsWanted stop.old.pass }
     requires to { to ≤ words.now.config.pages }
     ensures on { MarksOn stop.old stop.new }
     ensures words { still_words stop.new.pass ≡ still_words stop.old.pass }
-    ensures gray { IfSome result (λ cell. IsGray words.now.config.pages (still_words stop.old.pass) cell) }
+    ensures gray { IfSome result
+        (λ gray. IsGrayUnder words.now.config.pages (still_words stop.old.pass) gray.cell gray.header) }
     ensures none { IfNone result ((p : ℕ) → from ≤ p → p < to → HasNoGray (still_words stop.old.pass) p) }
 {
     let pages = words.pages();
@@ -84,80 +95,91 @@ fn gray_between(words: &Words, stop: &mut Stopped, from: u64, to: u64) -> Option
             return None;
         }
         let found = gray_on(words, stop, pages, page);
-        if let Some(cell) = found {
-            return Some(cell);
+        if let Some(gray) = found {
+            return Some(gray);
         }
         next = page + 1;
     }
     None
 }
 
-/// Whether a cell that was noted is gray.
-fn is_gray(words: &Words, stop: &mut Stopped, cell: Cell) -> bool
+/// A cell that was noted, if it is gray.
+#[inline(always)]
+fn gray_still(words: &Words, stop: &mut Stopped, cell: Cell) -> Option<Gray>
     requires one_table { stop.old.pass.table ≡ words.now }
     requires wanted { IsWanted stop.old.pass }
     ensures on { MarksOn stop.old stop.new }
     ensures words { still_words stop.new.pass ≡ still_words stop.old.pass }
-    ensures gray { result ≡ true → IsGray words.now.config.pages (still_words stop.old.pass) cell }
+    ensures gray { IfSome result
+        (λ gray. IsGrayUnder words.now.config.pages (still_words stop.old.pass) gray.cell gray.header) }
 {
-    if cell.page >= words.pages() {
-        return false;
+    let pages = words.pages();
+    if cell.page >= pages {
+        return None;
     }
-    let header = look_at(words, stop, Word::Head(cell.page));
-    let marks = look_at(words, stop, Word::Mark(cell.page));
-    let blacks = look_at(words, stop, Word::Black(cell.page));
-    cell.index < cells_under(header) && has_bit(marks, cell.index) && !has_bit(blacks, cell.index)
+    let header = look_among(words, stop, pages, Word::Head(cell.page));
+    let marks = look_among(words, stop, pages, Word::Mark(cell.page));
+    let blacks = look_among(words, stop, pages, Word::Black(cell.page));
+    if cell.index < cells_under(header) && has_bit(marks, cell.index) && !has_bit(blacks, cell.index) {
+        Some(Gray { cell, header })
+    } else {
+        None
+    }
 }
 
 /// The gray cell that was noted last.
-fn gray_noted(words: &Words, stop: &mut Stopped, work: &mut Worklist) -> Option<Cell>
+fn gray_noted(words: &Words, stop: &mut Stopped, work: &mut Worklist) -> Option<Gray>
     requires one_table { stop.old.pass.table ≡ words.now }
     requires wanted { IsWanted stop.old.pass }
     ensures on { MarksOn stop.old stop.new }
     ensures words { still_words stop.new.pass ≡ still_words stop.old.pass }
-    ensures gray { IfSome result (λ cell. IsGray words.now.config.pages (still_words stop.old.pass) cell) }
+    ensures gray { IfSome result
+        (λ gray. IsGrayUnder words.now.config.pages (still_words stop.old.pass) gray.cell gray.header) }
 {
     while let Some(cell) = work.pop() {
-        if is_gray(words, stop, cell) {
-            return Some(cell);
+        let found = gray_still(words, stop, cell);
+        if let Some(gray) = found {
+            return Some(gray);
         }
     }
     None
 }
 
 /// A gray cell, from the page on where the last one was found. None where no page has any.
-fn gray_somewhere(words: &Words, stop: &mut Stopped, from: u64) -> Option<Cell>
+fn gray_somewhere(words: &Words, stop: &mut Stopped, from: u64) -> Option<Gray>
     requires one_table { stop.old.pass.table ≡ words.now }
     requires wanted { IsWanted stop.old.pass }
     ensures on { MarksOn stop.old stop.new }
     ensures words { still_words stop.new.pass ≡ still_words stop.old.pass }
-    ensures gray { IfSome result (λ cell. IsGray words.now.config.pages (still_words stop.old.pass) cell) }
+    ensures gray { IfSome result
+        (λ gray. IsGrayUnder words.now.config.pages (still_words stop.old.pass) gray.cell gray.header) }
     ensures none { IfNone result ((p : ℕ) → p < words.now.config.pages → HasNoGray (still_words stop.old.pass) p) }
 {
     let pages = words.pages();
     let found = gray_between(words, stop, from, pages);
-    if let Some(cell) = found {
-        return Some(cell);
+    if let Some(gray) = found {
+        return Some(gray);
     }
     gray_between(words, stop, 0, from.min(pages))
 }
 
 /// A gray cell: one that was noted, or else one that is found page by page. None where no page has any.
-pub(crate) fn next_gray(words: &Words, stop: &mut Stopped, work: &mut Worklist) -> Option<Cell>
+pub(crate) fn next_gray(words: &Words, stop: &mut Stopped, work: &mut Worklist) -> Option<Gray>
     requires one_table { stop.old.pass.table ≡ words.now }
     requires wanted { IsWanted stop.old.pass }
     ensures on { MarksOn stop.old stop.new }
     ensures words { still_words stop.new.pass ≡ still_words stop.old.pass }
-    ensures gray { IfSome result (λ cell. IsGray words.now.config.pages (still_words stop.old.pass) cell) }
+    ensures gray { IfSome result
+        (λ gray. IsGrayUnder words.now.config.pages (still_words stop.old.pass) gray.cell gray.header) }
     ensures none { IfNone result ((p : ℕ) → p < words.now.config.pages → HasNoGray (still_words stop.old.pass) p) }
 {
     let noted = gray_noted(words, stop, work);
-    if let Some(cell) = noted {
-        return Some(cell);
+    if let Some(gray) = noted {
+        return Some(gray);
     }
-    let Some(cell) = gray_somewhere(words, stop, work.page) else {
+    let Some(gray) = gray_somewhere(words, stop, work.page) else {
         return None;
     };
-    work.page = cell.page;
-    Some(cell)
+    work.page = gray.cell.page;
+    Some(gray)
 }

@@ -11,6 +11,7 @@ mod grays;
 mod laws;
 mod noting;
 mod roots;
+mod scanning;
 mod stepping;
 mod tracing;
 mod values;

@@ -1,12 +1,12 @@
 //! Steps in the stop, when the close is wanted and no marker attends.
 ghost use Rattle.std.specs.Prelude.{◌≡◌, ◌≢◌, ◌+◌, ◌<◌, ◌^◌, true, false, slice_index, slice_set, bit_or};
-ghost use Rattle.mk_core.specs.Cells.{cell_words, first_word, has_no_pointers, head_page, header_in};
+ghost use Rattle.mk_core.specs.Cells.{first_word, head_page};
 ghost use Rattle.mk_core.specs.History.{IsHistory};
 ghost use Rattle.mk_core.specs.Ranges.{is_word};
 ghost use Rattle.mk_core.specs.StopConditions.{may_turn_black};
 ghost use Rattle.mk_core.specs.Words.{named_word};
 ghost use Rattle.mk_page_map.specs.Members.{IsNext, is_in_use};
-ghost use Rattle.mk_tracing.specs.Grays.{with_marks, with_blacks, without_blacks, without_dirty, HasDirtyPart, IsGray};
+ghost use Rattle.mk_tracing.specs.Grays.{with_marks, with_blacks, without_blacks, without_dirty, HasDirtyPart, IsDue};
 ghost use Rattle.mk_tracing.specs.Grays.{IsInHand, HandPointsInto, MarksOn};
 ghost use Rattle.mk_tracing.specs.Stops.{IsWanted, hand_of, is_page_word, is_root, still_words};
 
@@ -87,9 +87,7 @@ pub(crate) fn look_at_word(
     requires one_table { stop.old.pass.table ≡ words.now }
     requires pages { pages ≡ words.now.config.pages }
     requires wanted { IsWanted stop.old.pass }
-    requires gray { IsGray words.now.config.pages (still_words stop.old.pass) cell }
-    requires scanned { has_no_pointers (header_in (still_words stop.old.pass) cell.page) ≡ false }
-    requires size { size ≡ cell_words (still_words stop.old.pass) cell }
+    requires due { IsDue words.now.config.pages (still_words stop.old.pass) cell size }
     requires within { i < size }
     ensures on { MarksOn stop.old stop.new }
     ensures words { still_words stop.new.pass ≡ still_words stop.old.pass }

@@ -1,4 +1,4 @@
-use Rattle.std.proofs.Common.{◌∙◌, ap}
+use Rattle.std.proofs.Common.{◌≡◌, ◌∙◌, ap}
 use Rattle.mk_core.specs.Words.{Words, header_at}
 use Rattle.mk_tracing.specs.Stops.{still_words}
 use Rattle.mk_tracing.proofs.StopSteps.{on_then}
@@ -29,7 +29,12 @@ returns-clause-on c =
 
 pub returns-clause-gray : goal.returns-clause-gray
 returns-clause-gray c =
-    gray_there c.args.words.now.config.pages (still_words c.args.stop.now.pass) c.args.page c.in-Some.index
-    c.look_at-header.result c.args.marks c.look_at-blacks.result c.requires.page
-    (c.look_at-header.ensures.found ∙ ap (λ (w : Words). header_at w c.args.page) c.look_at-blacks.ensures.words)
-    c.requires.marks c.look_at-blacks.ensures.found c.in-Some.ensures.known c.in-Some.ensures.one
+    let w = still_words c.args.stop.now.pass in
+    let word : c.look_at-header.result ≡ header_at w c.args.page = c.look_at-header.ensures.found
+    ∙ ap (λ (y : Words). header_at y c.args.page) c.look_at-blacks.ensures.words in
+    record {
+      gray = gray_there c.args.words.now.config.pages w c.args.page c.in-Some.index c.look_at-header.result c.args.marks
+          c.look_at-blacks.result c.requires.page word c.requires.marks c.look_at-blacks.ensures.found
+          c.in-Some.ensures.known c.in-Some.ensures.one;
+      word = word;
+    }

@@ -5,12 +5,12 @@ use Rattle.mk_tracing.proofs.grays.gray_noted.Goals as goal
 pub loop-cell-init : goal.loop-cell-init
 loop-cell-init c = record { on = on_from c.args.stop.now c.requires.wanted; words = refl }
 
-pub returns-then-is_gray-clause-on : goal.returns-then-is_gray-clause-on
-returns-then-is_gray-clause-on c = on_then c.args.stop.now c.loop-cell.stop c.is_gray.new.stop c.loop-cell.invariant.on
-    c.is_gray.ensures.on
+pub returns-in-Some-found-clause-on : goal.returns-in-Some-found-clause-on
+returns-in-Some-found-clause-on c = on_then c.args.stop.now c.loop-cell.stop c.gray_still-found.new.stop c.loop-cell.invariant.on
+    c.gray_still-found.ensures.on
 
 pub loop-cell-preserved : goal.loop-cell-preserved
 loop-cell-preserved c = record {
-  on = on_then c.args.stop.now c.loop-cell.stop c.is_gray.new.stop c.loop-cell.invariant.on c.is_gray.ensures.on;
-  words = c.is_gray.ensures.words ∙ c.loop-cell.invariant.words;
+  on = on_then c.args.stop.now c.loop-cell.stop c.gray_still-found.new.stop c.loop-cell.invariant.on c.gray_still-found.ensures.on;
+  words = c.gray_still-found.ensures.words ∙ c.loop-cell.invariant.words;
 }

@@ -17,22 +17,22 @@ look_among-requires-clause-enabled c =
     let p = c.args.stop.now.pass in
     let gray : IsGray p.table.config.pages (still_words p) c.args.cell =
     subst (λ (t : WordsState). IsGray t.config.pages (still_words p) c.args.cell)
-    (sym c.requires.one_table) c.requires.gray in
+    (sym c.requires.one_table) c.requires.due.gray in
     subst (λ k. IsEnabledTo p (step.Look (word.Heap (64 * c.args.cell.page + c.args.cell.index * k + c.args.i))))
-    (sym c.requires.size)
+    (sym c.requires.due.words)
     (may_look p c.requires.wanted (c.is_in_order.ensures.turn.holds, c.is_in_order.ensures.gates)
     (word.Heap (first_word (still_words p) c.args.cell + c.args.i))
-    (word_named p c.is_in_order.ensures.history c.args.cell c.args.i gray c.requires.scanned
-    (subst (λ k. c.args.i < k) c.requires.size c.requires.within)))
+    (word_named p c.is_in_order.ensures.history c.args.cell c.args.i gray c.requires.due.scanned
+    (subst (λ k. c.args.i < k) c.requires.due.words c.requires.within)))
 
 pub overflow_mul-word-2 : goal.overflow_mul-word-2
 overflow_mul-word-2 c =
     let p = c.args.stop.now.pass in
     let gray : IsGray p.table.config.pages (still_words p) c.args.cell =
     subst (λ (t : WordsState). IsGray t.config.pages (still_words p) c.args.cell)
-    (sym c.requires.one_table) c.requires.gray in
-    let near = word_near p c.is_in_order.ensures.history c.args.cell c.args.i c.args.size gray c.requires.scanned
-    c.requires.size c.requires.within in
+    (sym c.requires.one_table) c.requires.due.gray in
+    let near = word_near p c.is_in_order.ensures.history c.args.cell c.args.i c.args.size gray c.requires.due.scanned
+    c.requires.due.words c.requires.within in
     omega arith
 
 pub overflow_add-word : goal.overflow_add-word
@@ -40,9 +40,9 @@ overflow_add-word c =
     let p = c.args.stop.now.pass in
     let gray : IsGray p.table.config.pages (still_words p) c.args.cell =
     subst (λ (t : WordsState). IsGray t.config.pages (still_words p) c.args.cell)
-    (sym c.requires.one_table) c.requires.gray in
-    let near = word_near p c.is_in_order.ensures.history c.args.cell c.args.i c.args.size gray c.requires.scanned
-    c.requires.size c.requires.within in
+    (sym c.requires.one_table) c.requires.due.gray in
+    let near = word_near p c.is_in_order.ensures.history c.args.cell c.args.i c.args.size gray c.requires.due.scanned
+    c.requires.due.words c.requires.within in
     omega arith
 
 pub overflow_add-word-2 : goal.overflow_add-word-2
@@ -50,9 +50,9 @@ overflow_add-word-2 c =
     let p = c.args.stop.now.pass in
     let gray : IsGray p.table.config.pages (still_words p) c.args.cell =
     subst (λ (t : WordsState). IsGray t.config.pages (still_words p) c.args.cell)
-    (sym c.requires.one_table) c.requires.gray in
-    let near = word_near p c.is_in_order.ensures.history c.args.cell c.args.i c.args.size gray c.requires.scanned
-    c.requires.size c.requires.within in
+    (sym c.requires.one_table) c.requires.due.gray in
+    let near = word_near p c.is_in_order.ensures.history c.args.cell c.args.i c.args.size gray c.requires.due.scanned
+    c.requires.due.words c.requires.within in
     omega arith
 
 pub returns-clause-on : goal.returns-clause-on
@@ -60,14 +60,14 @@ returns-clause-on c =
     let p = c.args.stop.now.pass in
     let gray : IsGray p.table.config.pages (still_words p) c.args.cell =
     subst (λ (t : WordsState). IsGray t.config.pages (still_words p) c.args.cell)
-    (sym c.requires.one_table) c.requires.gray in
+    (sym c.requires.one_table) c.requires.due.gray in
     on_word c.args.stop.now c.look_among.new.self c.requires.wanted
     (c.is_in_order.ensures.turn.holds, c.is_in_order.ensures.gates) c.is_in_order.ensures.own c.look_among.ensures.op
     (first_word (still_words p) c.args.cell + c.args.i)
     (subst (λ k. Acts p (step.Look (word.Heap (64 * c.args.cell.page + c.args.cell.index * k + c.args.i)))
-    c.look_among.new.self.pass) c.requires.size c.look_among.ensures.acts)
+    c.look_among.new.self.pass) c.requires.due.words c.look_among.ensures.acts)
     (gray_word p.table.config.pages (still_words p) c.args.cell c.args.i gray
-    (subst (λ k. c.args.i < k) c.requires.size c.requires.within))
+    (subst (λ k. c.args.i < k) c.requires.due.words c.requires.within))
 
 pub returns-clause-found : goal.returns-clause-found
 returns-clause-found c =
@@ -76,10 +76,10 @@ returns-clause-found c =
     (c.is_in_order.ensures.turn.holds, c.is_in_order.ensures.gates)
     (word.Heap (first_word (still_words p) c.args.cell + c.args.i))
     (subst (λ k. Acts p (step.Look (word.Heap (64 * c.args.cell.page + c.args.cell.index * k + c.args.i)))
-    c.look_among.new.self.pass) c.requires.size c.look_among.ensures.acts)
+    c.look_among.new.self.pass) c.requires.due.words c.look_among.ensures.acts)
     c.look_among.result
     (subst (λ k. Finds p (step.Look (word.Heap (64 * c.args.cell.page + c.args.cell.index * k + c.args.i)))
-    c.look_among.result c.look_among.new.self.pass) c.requires.size c.look_among.ensures.finds)
+    c.look_among.result c.look_among.new.self.pass) c.requires.due.words c.look_among.ensures.finds)
     refl refl
 
 pub returns-clause-hand : goal.returns-clause-hand
@@ -89,16 +89,16 @@ returns-clause-hand c =
     let n : ℕ = first_word (still_words p) c.args.cell + c.args.i in
     let gray : IsGray p.table.config.pages (still_words p) c.args.cell =
     subst (λ (t : WordsState). IsGray t.config.pages (still_words p) c.args.cell)
-    (sym c.requires.one_table) c.requires.gray in
+    (sym c.requires.one_table) c.requires.due.gray in
     let a : Acts p (step.Look (word.Heap n)) q =
     subst (λ k. Acts p (step.Look (word.Heap (64 * c.args.cell.page + c.args.cell.index * k + c.args.i))) q)
-    c.requires.size c.look_among.ensures.acts in
+    c.requires.due.words c.look_among.ensures.acts in
     let f : Finds p (step.Look (word.Heap n)) c.look_among.result q =
     subst (λ k. Finds p (step.Look (word.Heap
     (64 * c.args.cell.page + c.args.cell.index * k + c.args.i))) c.look_among.result
-    q) c.requires.size c.look_among.ensures.finds in
-    word_hand p c.is_in_order.ensures.history c.args.cell c.args.i gray c.requires.scanned
-    (subst (λ k. c.args.i < k) c.requires.size c.requires.within)
+    q) c.requires.due.words c.look_among.ensures.finds in
+    word_hand p c.is_in_order.ensures.history c.args.cell c.args.i gray c.requires.due.scanned
+    (subst (λ k. c.args.i < k) c.requires.due.words c.requires.within)
     q c.requires.wanted (c.is_in_order.ensures.turn.holds, c.is_in_order.ensures.gates) c.look_among.result a f
     (look_finds p q c.requires.wanted (c.is_in_order.ensures.turn.holds, c.is_in_order.ensures.gates)
     (word.Heap n) a c.look_among.result f refl refl)

@@ -7,8 +7,8 @@ use Rattle.mk_tracing.proofs.tracing.blacken.Goals as goal
 
 pub blacken_cell-requires-clause-index : goal.blacken_cell-requires-clause-index
 blacken_cell-requires-clause-index c =
-    let few = cells_few (header_in (still_words c.args.stop.now.pass) c.args.cell.page) in
-    let known = c.requires.gray.index in
+    let few = cells_few (header_in (still_words c.args.stop.now.pass) c.args.gray.cell.page) in
+    let known = c.requires.gray.gray.index in
     omega arith
 
 pub returns-clause-on : goal.returns-clause-on
@@ -18,5 +18,5 @@ returns-clause-on c = on_then c.args.stop.now c.scan_if_due.new.stop c.blacken_c
 pub returns-clause-one : goal.returns-clause-one
 returns-clause-one c =
     blackens_one (still_words c.args.stop.now.pass) (still_words c.scan_if_due.new.stop.pass)
-    (still_words c.blacken_cell.new.stop.pass) c.args.cell
+    (still_words c.blacken_cell.new.stop.pass) c.args.gray.cell
     c.scan_if_due.ensures.more c.blacken_cell.ensures.words

@@ -8,36 +8,36 @@ use Rattle.mk_tracing.proofs.Blackened.{colours_same, colours_then, one_fewer_wh
 use Rattle.mk_tracing.proofs.StopSteps.{on_from, on_then}
 use Rattle.mk_tracing.proofs.tracing.trace.Goals as goal
 
-pub loop-cell-init : goal.loop-cell-init
-loop-cell-init c = record {
+pub loop-gray-init : goal.loop-gray-init
+loop-gray-init c = record {
   on = on_from c.args.stop.now c.requires.wanted;
   more = colours_same
       (still_words c.args.stop.now.pass);
 }
 
-pub loop-cell-smaller : goal.loop-cell-smaller
-loop-cell-smaller c =
-    let p = c.loop-cell.stop.pass in
-    let pages : p.table ≡ c.args.words.now = c.loop-cell.invariant.on.table ∙ c.requires.one_table in
+pub loop-gray-smaller : goal.loop-gray-smaller
+loop-gray-smaller c =
+    let p = c.loop-gray.stop.pass in
+    let pages : p.table ≡ c.args.words.now = c.loop-gray.invariant.on.table ∙ c.requires.one_table in
     one_fewer_white c.args.words.now.config.pages (still_words p) (still_words c.next_gray.new.stop.pass)
-    (still_words c.blacken.new.stop.pass) c.in-Some.cell
-    c.in-Some.ensures.gray (sym ((histories_keep_lengths p.table.config p.seen).blacks ∙ ap
+    (still_words c.blacken.new.stop.pass) c.in-Some.gray.cell
+    c.in-Some.ensures.gray.gray (sym ((histories_keep_lengths p.table.config p.seen).blacks ∙ ap
     (λ (t : WordsState). t.config.pages) pages))
     c.next_gray.ensures.words c.blacken.ensures.one
 
-pub loop-cell-preserved : goal.loop-cell-preserved
-loop-cell-preserved c =
+pub loop-gray-preserved : goal.loop-gray-preserved
+loop-gray-preserved c =
     let w = still_words c.args.stop.now.pass in
     let v = still_words c.next_gray.new.stop.pass in
     let more : ColoursMore w v = subst (λ (y : Words). ColoursMore w y)
-    (sym c.next_gray.ensures.words) c.loop-cell.invariant.more in
+    (sym c.next_gray.ensures.words) c.loop-gray.invariant.more in
     record {
       on = on_then c.args.stop.now c.next_gray.new.stop c.blacken.new.stop
-          (on_then c.args.stop.now c.loop-cell.stop c.next_gray.new.stop c.loop-cell.invariant.on
+          (on_then c.args.stop.now c.loop-gray.stop c.next_gray.new.stop c.loop-gray.invariant.on
           c.next_gray.ensures.on) c.blacken.ensures.on;
-      more = colours_then w v (still_words c.blacken.new.stop.pass) c.in-Some.cell more c.blacken.ensures.one;
+      more = colours_then w v (still_words c.blacken.new.stop.pass) c.in-Some.gray.cell more c.blacken.ensures.one;
     }
 
 pub returns-clause-on : goal.returns-clause-on
-returns-clause-on c = on_then c.args.stop.now c.loop-cell.stop c.next_gray.new.stop c.loop-cell.invariant.on
+returns-clause-on c = on_then c.args.stop.now c.loop-gray.stop c.next_gray.new.stop c.loop-gray.invariant.on
     c.next_gray.ensures.on

@@ -1,0 +1,43 @@
+use Rattle.std.proofs.Common.{ℕ, ◌+◌, refl, ap, ◌∙◌, arith}
+use Rattle.std.specs.Prelude.{slice_index}
+use Rattle.std.proofs.lemmas.Bool.{ltb-true}
+use Rattle.mk_core.specs.Cells.{first_word}
+use Rattle.mk_core.specs.Words.{Words}
+use Rattle.mk_tracing.specs.Stops.{still_words}
+use Rattle.mk_tracing.proofs.RootMarks.{most_then}
+use Rattle.mk_tracing.proofs.ScannedWords.{due_same}
+use Rattle.mk_tracing.proofs.StopSteps.{on_from, on_then}
+use Rattle.mk_tracing.proofs.scanning.are_before_heap.Goals as goal
+
+pub loop-i-init : goal.loop-i-init
+loop-i-init c = record {
+  on = on_from c.args.stop.now c.requires.wanted;
+  words = refl;
+  most = λ j lt. absurd (omega arith);
+}
+
+pub look_at_word-all-requires-clause-due : goal.look_at_word-all-requires-clause-due
+look_at_word-all-requires-clause-due c =
+    due_same c.args.words.now.config.pages (still_words c.args.stop.now.pass) (still_words c.loop-i.stop.pass)
+    c.args.cell c.args.size c.requires.due c.loop-i.invariant.words
+
+pub loop-i-preserved : goal.loop-i-preserved
+loop-i-preserved c =
+    let w = still_words c.args.stop.now.pass in
+    let look = c.look_at_word-all in
+    let here : ℕ = c.args.first + c.loop-i.i in
+    record {
+      on = on_then c.args.stop.now c.loop-i.stop look.new.stop c.loop-i.invariant.on look.ensures.on;
+      words = look.ensures.words ∙ c.loop-i.invariant.words;
+      most = most_then (λ j. slice_index w.heap (first_word w c.args.cell + (c.args.first + j))) c.loop-i.all
+          look.result c.loop-i.i c.loop-i.invariant.most
+          (look.ensures.found
+          ∙ ap (λ (y : Words). slice_index y.heap (first_word y c.args.cell + here)) c.loop-i.invariant.words);
+    }
+
+pub returns-clause-before : goal.returns-clause-before
+returns-clause-before c is i lt =
+    let end = c.loop-i-test.false in
+    let most = c.loop-i.invariant.most i (omega arith) in
+    let small = ltb-true c.loop-i.all 65536 is in
+    omega arith

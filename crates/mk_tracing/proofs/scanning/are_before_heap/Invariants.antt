@@ -1,0 +1,15 @@
+use Rattle.std.proofs.Common.{◌≡◌, ℕ, ◌+◌, ◌<◌, ◌≤◌}
+use Rattle.std.specs.Prelude.{slice_index}
+use Rattle.mk_core.specs.Cells.{first_word}
+use Rattle.mk_tracing.specs.Grays.{MarksOn}
+use Rattle.mk_tracing.specs.Stops.{still_words}
+use Rattle.mk_tracing.proofs.scanning.are_before_heap.Given as goal
+
+abbrev pub invariant-loop-i : goal.invariant-loop-i
+invariant-loop-i l = record {
+  on : MarksOn l.fn.stop l.stop;
+  words : still_words l.stop.pass ≡ still_words l.fn.stop.pass;
+  most : (j : ℕ) → j < l.i
+      → slice_index (still_words l.fn.stop.pass).heap (first_word (still_words l.fn.stop.pass) l.cell + (l.first + j))
+      ≤ l.all;
+}

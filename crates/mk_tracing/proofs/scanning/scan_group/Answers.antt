@@ -1,0 +1,43 @@
+use Rattle.std.proofs.Common.{◌≡◌, ℕ, ◌+◌, true, subst, arith}
+use Rattle.std.specs.Prelude.{slice_index}
+use Rattle.mk_core.specs.Cells.{first_word, points_well}
+use Rattle.mk_core.specs.Words.{Words}
+use Rattle.mk_tracing.specs.Grays.{MarksMore}
+use Rattle.mk_tracing.specs.Stops.{still_words}
+use Rattle.mk_tracing.proofs.MoreMarks.{more_same}
+use Rattle.mk_tracing.proofs.RootMarks.{before_well}
+use Rattle.mk_tracing.proofs.ScannedWords.{due_same}
+use Rattle.mk_tracing.proofs.StopSteps.{on_then}
+use Rattle.mk_tracing.proofs.scanning.scan_group.Goals as goal
+
+pub returns-then-are_before_heap-clause-more : goal.returns-then-are_before_heap-clause-more
+returns-then-are_before_heap-clause-more c =
+    more_same (still_words c.args.stop.now.pass) (still_words c.are_before_heap.new.stop.pass)
+    c.are_before_heap.ensures.words
+
+pub returns-then-are_before_heap-clause-well : goal.returns-then-are_before_heap-clause-well
+returns-then-are_before_heap-clause-well c i lt =
+    before_well c.args.words.now.config.pages (still_words c.are_before_heap.new.stop.pass) _
+    (c.are_before_heap.ensures.before c.if-are_before_heap.true i lt)
+
+pub scan_words-requires-clause-due : goal.scan_words-requires-clause-due
+scan_words-requires-clause-due c =
+    due_same c.args.words.now.config.pages (still_words c.args.stop.now.pass)
+    (still_words c.are_before_heap.new.stop.pass) c.args.cell c.args.size c.requires.due c.are_before_heap.ensures.words
+
+pub returns-clause-on : goal.returns-clause-on
+returns-clause-on c = on_then c.args.stop.now c.are_before_heap.new.stop c.scan_words.new.stop
+    c.are_before_heap.ensures.on c.scan_words.ensures.on
+
+pub returns-clause-more : goal.returns-clause-more
+returns-clause-more c =
+    let x = still_words c.scan_words.new.stop.pass in
+    subst (λ (y : Words). MarksMore y x) c.are_before_heap.ensures.words c.scan_words.ensures.more
+
+pub returns-clause-well : goal.returns-clause-well
+returns-clause-well c i lt =
+    let x = still_words c.scan_words.new.stop.pass in
+    let here : ℕ = c.args.first + i in
+    subst (λ (y : Words). points_well c.args.words.now.config.pages x
+    (slice_index y.heap (first_word y c.args.cell + here)) ≡ true) c.are_before_heap.ensures.words
+    (c.scan_words.ensures.well here (omega arith) (omega arith))

@@ -1,0 +1,113 @@
+//! The scan of a gray cell: its words are looked at, and what they point into is marked. Most words are null or small
+//! numbers, so those of a group are looked at together first.
+ghost use Rattle.std.specs.Prelude.{◌≡◌, ℕ, ◌+◌, ◌<◌, ◌≤◌, true, slice_index};
+ghost use Rattle.mk_core.specs.Cells.{first_word, words_point_well};
+ghost use Rattle.mk_tracing.specs.Grays.{IsDue, MarksMore, MarksOn, WordIsWell};
+ghost use Rattle.mk_tracing.specs.Stops.{IsWanted, still_words};
+
+use crate::noting::mark_and_note;
+use crate::stepping::look_at_word;
+use crate::worklist::Worklist;
+use mk_geom::{Cell, HEAP_START};
+use mk_words::{Stopped, Words};
+
+/// The words of a cell are groups of this many, and at most seven more.
+const GROUP: u64 = 8;
+
+/// Looks at a group of words of a gray cell, from this one on. Returns true only where all are before the heap, as null
+/// is.
+#[inline(always)]
+fn are_before_heap(
+    words: &Words,
+    stop: &mut Stopped,
+    pages: u64,
+    cell: Cell,
+    size: u64,
+    first: u64,
+) -> bool
+    requires one_table { stop.old.pass.table ≡ words.now }
+    requires pages { pages ≡ words.now.config.pages }
+    requires wanted { IsWanted stop.old.pass }
+    requires due { IsDue words.now.config.pages (still_words stop.old.pass) cell size }
+    requires group { first + 8 ≤ size }
+    ensures on { MarksOn stop.old stop.new }
+    ensures words { still_words stop.new.pass ≡ still_words stop.old.pass }
+    ensures before { result ≡ true → (i : ℕ) → i < 8
+        → slice_index (still_words stop.old.pass).heap (first_word (still_words stop.old.pass) cell + (first + i))
+        < 65536 }
+{
+    let mut all = 0;
+    for i in 0..GROUP {
+        all |= look_at_word(words, stop, pages, cell, size, first + i);
+    }
+    all < HEAP_START
+}
+
+/// Looks at the words of a gray cell from one on, up to another. What one points into is marked before the next.
+fn scan_words(
+    words: &Words,
+    stop: &mut Stopped,
+    work: &mut Worklist,
+    pages: u64,
+    cell: Cell,
+    size: u64,
+    from: u64,
+    to: u64,
+)
+    requires one_table { stop.old.pass.table ≡ words.now }
+    requires pages { pages ≡ words.now.config.pages }
+    requires wanted { IsWanted stop.old.pass }
+    requires due { IsDue words.now.config.pages (still_words stop.old.pass) cell size }
+    requires to { to ≤ size }
+    ensures on { MarksOn stop.old stop.new }
+    ensures more { MarksMore (still_words stop.old.pass) (still_words stop.new.pass) }
+    ensures well { (i : ℕ) → from ≤ i → i < to
+        → WordIsWell words.now.config stop.old.pass stop.new.pass cell i }
+{
+    for i in from..to {
+        let value = look_at_word(words, stop, pages, cell, size, i);
+        mark_and_note(words, stop, work, pages, value);
+    }
+}
+
+/// Looks at a group of words of a gray cell, from this one on, and marks what they point into.
+fn scan_group(
+    words: &Words,
+    stop: &mut Stopped,
+    work: &mut Worklist,
+    pages: u64,
+    cell: Cell,
+    size: u64,
+    first: u64,
+)
+    requires one_table { stop.old.pass.table ≡ words.now }
+    requires pages { pages ≡ words.now.config.pages }
+    requires wanted { IsWanted stop.old.pass }
+    requires due { IsDue words.now.config.pages (still_words stop.old.pass) cell size }
+    requires group { first + 8 ≤ size }
+    ensures on { MarksOn stop.old stop.new }
+    ensures more { MarksMore (still_words stop.old.pass) (still_words stop.new.pass) }
+    ensures well { (i : ℕ) → i < 8 → WordIsWell words.now.config stop.old.pass stop.new.pass cell (first + i) }
+{
+    if are_before_heap(words, stop, pages, cell, size, first) {
+        return;
+    }
+    scan_words(words, stop, work, pages, cell, size, first, first + GROUP);
+}
+
+/// Looks at each word of a gray cell, of this many, and marks what it points into.
+pub(crate) fn scan(words: &Words, stop: &mut Stopped, work: &mut Worklist, cell: Cell, size: u64)
+    requires one_table { stop.old.pass.table ≡ words.now }
+    requires wanted { IsWanted stop.old.pass }
+    requires due { IsDue words.now.config.pages (still_words stop.old.pass) cell size }
+    ensures on { MarksOn stop.old stop.new }
+    ensures more { MarksMore (still_words stop.old.pass) (still_words stop.new.pass) }
+    ensures well { words_point_well words.now.config.pages (still_words stop.new.pass) cell ≡ true }
+{
+    let pages = words.pages();
+    let groups = size / GROUP;
+    for group in 0..groups {
+        scan_group(words, stop, work, pages, cell, size, GROUP * group);
+    }
+    scan_words(words, stop, work, pages, cell, size, GROUP * groups, size);
+}
