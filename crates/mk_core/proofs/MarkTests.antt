@@ -17,7 +17,7 @@ abbrev pub is_word_of : Storage → ℕ → Bool
 is_word_of s n = nat_le s.first n && nat_lt n (s.first + s.words)
 
 pub is_word_of_by : (s : Storage) (n : ℕ) → IsWordOf s n → is_word_of s n ≡ true
-is_word_of_by s n h = and_from (nat_le s.first n) (nat_lt n (s.first + s.words)) (le-leb _ _ h.0) (lt-ltb _ _ h.1)
+is_word_of_by s n h = and_from _ _ (le-leb _ _ h.0) (lt-ltb _ _ h.1)
 
 -- a word of this value at heap word n points well, or isn't the storage's
 abbrev pub points_well_in : Config → Words → Storage → ℕ → ℕ → Bool
@@ -43,8 +43,8 @@ null_points_well c w = refl
 pub marks_closed_by_test : (c : Config) (w : World) → marks_are_closed c w ≡ true → MarksAreClosed c w
 marks_closed_by_test c w h =
     let well = points_well c.pages w.now.words in
-    let outer = and_parts (list_all well w.now.words.registers && list_all well w.now.words.globals) _ h in
-    let roots = and_parts (list_all well w.now.words.registers) (list_all well w.now.words.globals) outer.0 in
+    let outer = and_parts _ _ h in
+    let roots = and_parts _ _ outer.0 in
     record {
       registers = λ i. list_all-at well w.now.words.registers 0 roots.0 (null_points_well c w.now.words) i;
       globals = λ g. list_all-at well w.now.words.globals 0 roots.1 (null_points_well c w.now.words) g;
@@ -52,7 +52,7 @@ marks_closed_by_test c w h =
           let a = placed_at w.allocations i in
           let each = list_all-at (allocation_points_well c w.now.words) w.allocations never_granted outer.1 refl i in
           let all = implied _ _ each
-          (and_from (is_scanned_allocation c a) (is_marked_allocation c w.now.words a) scanned marked) in
+          (and_from _ _ scanned marked) in
           implied _ _
           (numbered_all-at (points_well_in c w.now.words (storage_of c a)) w.now.words.heap 0 all
           (λ j. ap (λ b. not (is_word_of (storage_of c a) j) || b) (null_points_well c w.now.words) ∙ or-true _) n)

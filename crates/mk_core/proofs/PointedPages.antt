@@ -38,7 +38,7 @@ of_block class page word cell is = by (nat_lt word (cells_of class * class_words
         → (cell.page ≡ page) × (cell.index < 64) × (cell.index < cells_of class)
     by true inside is =
         let here : record { page = page; index = word / class_words_of class } ≡ cell = cc in
-        let known = within (ltb-true word (cells_of class * class_words_of class) inside) in
+        let known = within (ltb-true _ _ inside) in
         let most : cells_of class ≤ 64 = div-le_self 64 (class_words_of class) in
         subst (λ (k : Cell). (k.page ≡ page) × (k.index < 64) × (k.index < cells_of class)) here
         (refl, omega arith, known)

@@ -49,11 +49,10 @@ pub points_into : (c : Config) (w : World) (S : ℕ → Bool) (value b : ℕ)
     → is_into_members c w S value ≡ true → PointsIntoAllocation c w value b → S b ≡ true
 points_into c w S value b h points =
     let a = placed_at w.allocations b in
-    let inside = is_word_of (storage_of c a) (heap_word_at value) in
     let all = implied (nat_le 65536 value) _ h (le-leb _ _ points.1.0) in
     let each = numbered_all-at (points_into_member c S value) w.allocations never_granted all (λ i. refl) b in
     let word = is_word_of_by (storage_of c a) (heap_word_at value) points.1.1 in
-    implied _ _ each (and_from (not a.released) inside (not_from_false a.released points.0) word)
+    implied _ _ each (and_from _ _ (not_from_false a.released points.0) word)
 
 pub word_points_into : (c : Config) (w : World) (S : ℕ → Bool) (a n b : ℕ)
     → numbered_all (words_are_into_members c w S) w.allocations ≡ true
@@ -61,9 +60,9 @@ pub word_points_into : (c : Config) (w : World) (S : ℕ → Bool) (a n b : ℕ)
 word_points_into c w S a n b h member inside points =
     let x = placed_at w.allocations a in
     let each = numbered_all-at (words_are_into_members c w S) w.allocations never_granted h (λ i. refl) a in
-    let follow = and_from (not (storage_of c x).leaf) (S a) (not_from_false _ inside.1) member in
+    let follow = and_from _ _ (not_from_false _ inside.1) member in
     let all = implied _ _ each
-    (and_from (not x.released) (not (storage_of c x).leaf && S a) (not_from_false _ inside.0) follow) in
+    (and_from _ _ (not_from_false _ inside.0) follow) in
     let word = numbered_all-at (word_is_into_members c w S x) w.now.words.heap 0 all
     (λ i. or-true (not (is_word_of (storage_of c x) i))) n in
     points_into c w S _ b (implied _ _ word (is_word_of_by (storage_of c x) n inside.2)) points
@@ -96,8 +95,6 @@ closed_along_by_test c es k S h =
         × (list_all (is_into_members c (left c front) S) (left c front).now.words.globals ≡ true)
         × (numbered_all (words_are_into_members c (left c front) S) (left c front).allocations ≡ true)
     parts front at =
-        let outer = and_parts _ (numbered_all (words_are_into_members c (left c front) S) (left c front).allocations)
-        (closed_at front at) in
-        let roots = and_parts (list_all (register_is_into_members c (left c front) S) (never_behind c front).registers)
-        _ outer.0 in
+        let outer = and_parts _ _ (closed_at front at) in
+        let roots = and_parts _ _ outer.0 in
         (roots.0, roots.1, outer.1)
