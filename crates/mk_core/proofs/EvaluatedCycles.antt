@@ -1,63 +1,60 @@
 -- Cycles in the schedules: their parts, their snapshots, and which marks sweep.
 use Rattle.std.proofs.Common.{◌≡◌, Bool, true, false, ◌||◌, List, [], ◌∷◌, refl, sym}
 use Rattle.std.proofs.lemmas.Bool.{false≢true}
-use Rattle.mk_core.specs.declared.config.Config.{Config}
-use Rattle.mk_core.specs.declared.events.Event.{Event}
+use Rattle.mk_core.proofs.Vocabulary.{Config, Event, flight_of, is_begin, is_close, is_end, is_release, left, placed_at}
+use Rattle.mk_core.proofs.Vocabulary.{World, world_behind}
 use Rattle.mk_core.specs.Bounded.{all_below}
 use Rattle.mk_core.specs.Cells.{pointed_cell}
 use Rattle.mk_core.specs.StopConditions.{may_turn_black}
-use Rattle.mk_core.specs.Moments.{flight_of}
-use Rattle.mk_core.specs.Allocations.{placed_at}
-use Rattle.mk_core.specs.History.{World, world_behind, left_from, left}
-use Rattle.mk_core.specs.Cycles.{is_begin, is_close, is_release, is_end, Cycle, IsInSnapshot, sweeps, NoneSweepsFrom}
-use Rattle.mk_core.specs.Cycles.{NoneSweeps}
-use Rattle.mk_core.proofs.EventsAt.{event_number, at_number, next_number, cycle_of}
+use Rattle.mk_core.specs.History.{left_from}
+use Rattle.mk_core.specs.Cycles.{Cycle, IsInSnapshot, sweeps, NoneSweepsFrom, NoneSweeps}
+use Rattle.mk_core.proofs.EventsAt.{event_number, at_number, next_of, cycle_of}
 use Rattle.mk_core.proofs.Schedules.{by, c0, m0, host, one_page, pointer_page, freed_after_begin}
 use Rattle.mk_core.proofs.Schedules.{blackened_before_the_move}
 use Rattle.mk_core.proofs.MoreSchedules.{exchanged, before_the_sweep, sweeping_mark}
 
 -- The first cycle is begun in a caller's turn and ended in the host's.
 unfoldable pub first_cycle : Cycle freed_after_begin
-unfolding by c0 host freed_after_begin event_number at_number next_number
+unfolding by c0 host freed_after_begin event_number at_number
 first_cycle =
-    cycle_of (at_number is_begin 15 _ refl refl) (next_number is_close 15 _ refl refl refl)
-    (next_number is_release 0 _ refl refl refl) (next_number is_end 3 _ refl refl refl)
+    cycle_of (at_number is_begin 15 _ refl refl) (next_of (at_number is_close 15 _ refl refl) refl)
+    (next_of (at_number is_release 0 _ refl refl) refl) (next_of (at_number is_end 3 _ refl refl) refl)
 
 -- The second is begun and ended in one turn.
 unfoldable pub second_cycle : Cycle freed_after_begin
-unfolding by c0 host freed_after_begin event_number at_number next_number
+unfolding by c0 host freed_after_begin event_number at_number
 second_cycle =
-    cycle_of (at_number is_begin 42 _ refl refl) (next_number is_close 1 _ refl refl refl)
-    (next_number is_release 0 _ refl refl refl) (next_number is_end 4 _ refl refl refl)
+    cycle_of (at_number is_begin 42 _ refl refl) (next_of (at_number is_close 1 _ refl refl) refl)
+    (next_of (at_number is_release 0 _ refl refl) refl) (next_of (at_number is_end 4 _ refl refl) refl)
 
 -- The first object is freed before the first cycle begins, and the second only after that.
 pub in_first_snapshot : IsInSnapshot one_page first_cycle.releasing.marking 0
-unfolding by c0 host all_below pointed_cell one_page freed_after_begin left_from event_number at_number next_number first_cycle
+unfolding by c0 host all_below pointed_cell one_page freed_after_begin left_from event_number at_number first_cycle
 in_first_snapshot = refl
 
 pub not_in_first_snapshot : IsInSnapshot one_page first_cycle.releasing.marking 1 → ⊥
-unfolding by c0 host all_below pointed_cell one_page freed_after_begin left_from event_number at_number next_number first_cycle
+unfolding by c0 host all_below pointed_cell one_page freed_after_begin left_from event_number at_number first_cycle
 not_in_first_snapshot h = false≢true h
 
 -- When the second cycle begins the first object is released already.
 pub in_second_snapshot : IsInSnapshot one_page second_cycle.releasing.marking 1
-unfolding by c0 host all_below pointed_cell one_page freed_after_begin left_from event_number at_number next_number second_cycle
+unfolding by c0 host all_below pointed_cell one_page freed_after_begin left_from event_number at_number second_cycle
 in_second_snapshot = refl
 
 pub not_in_second_snapshot : IsInSnapshot one_page second_cycle.releasing.marking 0 → ⊥
-unfolding by c0 host all_below pointed_cell one_page freed_after_begin left_from event_number at_number next_number second_cycle
+unfolding by c0 host all_below pointed_cell one_page freed_after_begin left_from event_number at_number second_cycle
 not_in_second_snapshot h = false≢true h
 
 -- The freed object of the other schedule is in its cycle's snapshot, and isn't released, since a word points to it.
 unfoldable pub cycle_of_blackened : Cycle blackened_before_the_move
-unfolding by c0 m0 host blackened_before_the_move event_number at_number next_number
+unfolding by c0 m0 host blackened_before_the_move event_number at_number
 cycle_of_blackened =
-    cycle_of (at_number is_begin 34 _ refl refl) (next_number is_close 50 _ refl refl refl)
-    (next_number is_release 0 _ refl refl refl) (next_number is_end 0 _ refl refl refl)
+    cycle_of (at_number is_begin 34 _ refl refl) (next_of (at_number is_close 50 _ refl refl) refl)
+    (next_of (at_number is_release 0 _ refl refl) refl) (next_of (at_number is_end 0 _ refl refl) refl)
 
 pub in_snapshot_of_blackened : IsInSnapshot pointer_page cycle_of_blackened.releasing.marking 2
 unfolding by c0 m0 host all_below pointed_cell may_turn_black pointer_page blackened_before_the_move left_from
-    event_number at_number next_number cycle_of_blackened
+    event_number at_number cycle_of_blackened
 in_snapshot_of_blackened = refl
 
 pub not_released : (placed_at (left pointer_page blackened_before_the_move).allocations 2).released ≡ false
@@ -84,13 +81,13 @@ none_sweeps c w (e ∷ es) h =
 -- No mark at all is made in the first cycle, and in the other schedule each is by a register or by a word of a marked
 -- cell.
 pub first_has_none : NoneSweeps one_page first_cycle.releasing.marking
-unfolding by c0 host all_below pointed_cell one_page freed_after_begin left_from event_number at_number next_number first_cycle
+unfolding by c0 host all_below pointed_cell one_page freed_after_begin left_from event_number at_number first_cycle
     any_sweeps
 first_has_none = none_sweeps one_page _ _ refl
 
 pub blackened_has_none : NoneSweeps pointer_page cycle_of_blackened.releasing.marking
 unfolding by c0 m0 host all_below pointed_cell may_turn_black pointer_page blackened_before_the_move left_from
-    event_number at_number next_number cycle_of_blackened any_sweeps
+    event_number at_number cycle_of_blackened any_sweeps
 blackened_has_none = none_sweeps pointer_page _ _ refl
 
 -- A word of an object that has no mark, looked at in the stop, gives a sweeping mark.

@@ -1,30 +1,23 @@
 -- Each of the schedules is a history.
 use Rattle.std.proofs.Common.{◌≡◌, ℕ, ◌+◌, ◌<◌, ◌≤◌, le_refl, arith, Bool, true, false, ◌==◌, if◌then◌else◌, eqb-true}
-use Rattle.std.proofs.Common.{refl}
-use Rattle.std.proofs.Common.{List, [], ◌∷◌, ◌++◌, length, replicate, drop, Option, Some, None}
+use Rattle.std.proofs.Common.{refl, List, [], ◌∷◌, ◌++◌, length, replicate, drop, Option, Some, None, All}
 use Rattle.std.proofs.lemmas.List.{length-replicate}
 use Rattle.std.proofs.lemmas.List.Elements.{All-nil, All-cons, All-replicate}
-use Rattle.std.specs.Prelude.{All}
+use Rattle.mk_core.proofs.Vocabulary.{Config, Event, failing, first_world, IsHistory, IsWithinLimits, NeverState, Op}
+use Rattle.mk_core.proofs.Vocabulary.{To, World, world_behind}
 use Rattle.mk_never.specs.declared.types.Kind.{Kind}
-use Rattle.mk_never.specs.declared.types.Kind.TheVariants.{Num, To}
-use Rattle.mk_never.specs.declared.operations.Op.{Op}
-use Rattle.mk_never.specs.NeverHeap.{NeverState}
+use Rattle.mk_never.specs.declared.types.Kind.TheVariants.{Num}
 use Rattle.mk_never.specs.Admitted.{IsAdmitted, IsCaller, OperandsAreInRange, AccessIsAdmitted, StoreIsAdmitted}
-use Rattle.mk_core.specs.declared.config.Config.{Config}
-use Rattle.mk_core.specs.declared.events.Event.{Event}
-use Rattle.mk_core.specs.Config.{IsBetween, IsWithinLimits, IsAmong, IsTypeAmong}
-use Rattle.mk_core.specs.Enabled.{failing}
-use Rattle.mk_core.specs.History.{left_from, calls_from, World, first_world, world_behind, AreEnabledFrom, AreEnabled}
-use Rattle.mk_core.specs.History.{IsHistory, CallsAreAdmitted}
+use Rattle.mk_core.specs.Config.{IsBetween, IsAmong, IsTypeAmong}
+use Rattle.mk_core.specs.History.{left_from, calls_from, AreEnabledFrom, AreEnabled, CallsAreAdmitted}
 use Rattle.mk_core.specs.Bounded.{all_below}
 use Rattle.mk_core.specs.Cells.{pointed_cell}
 use Rattle.mk_core.specs.StopConditions.{may_turn_black}
 use Rattle.mk_core.proofs.Schedules.{by, c0, m0, host, fault, first_fault, one_page, pointer_page, freed_after_begin}
-use Rattle.mk_core.proofs.Schedules.{blackened_before_the_move}
-use Rattle.mk_core.proofs.Schedules.{no_fault_freed, no_fault_blackened}
+use Rattle.mk_core.proofs.Schedules.{blackened_before_the_move, no_fault_freed, no_fault_blackened}
 use Rattle.mk_core.proofs.MoreSchedules.{two_pages, full_then_reused, a_quarter_and_all, granted_while_marking}
-use Rattle.mk_core.proofs.MoreSchedules.{exchanged, before_the_sweep, sweeping_mark}
-use Rattle.mk_core.proofs.MoreSchedules.{no_fault_full, no_fault_quarter, no_fault_marking, no_fault_swept}
+use Rattle.mk_core.proofs.MoreSchedules.{exchanged, before_the_sweep, sweeping_mark, no_fault_full, no_fault_quarter}
+use Rattle.mk_core.proofs.MoreSchedules.{no_fault_marking, no_fault_swept}
 use Rattle.mk_core.proofs.EventsAt.{◌and◌}
 use Rattle.mk_core.proofs.HistoryParts.{earlier_part_is_history}
 

@@ -1,19 +1,16 @@
 -- Places in the schedules: what fits, where each object is granted, and where a New is refused.
 use Rattle.std.proofs.Common.{◌≡◌, Bool, true, false, List, [], take, Some, refl, ap}
 use Rattle.std.proofs.lemmas.Bool.{false≢true}
+use Rattle.mk_core.proofs.Vocabulary.{Event, is_begin, is_close, is_end, is_release, left, StandsAtItsPlace, Step}
 use Rattle.mk_never.specs.declared.operations.Op.TheVariants as op
-use Rattle.mk_core.specs.declared.events.Step.{Step}
 use Rattle.mk_core.specs.declared.events.Step.TheVariants as step
-use Rattle.mk_core.specs.declared.events.Event.{Event}
 use Rattle.mk_core.specs.Bounded.{all_below}
 use Rattle.mk_core.specs.Cells.{pointed_cell}
 use Rattle.mk_core.specs.StopConditions.{may_turn_black}
 use Rattle.mk_core.specs.Allocations.{unreleased_storage, place_among_allocations, FitsAmongAllocations}
-use Rattle.mk_core.specs.Cycles.{is_begin, is_close, is_release, is_end}
-use Rattle.mk_core.specs.History.{left_from, left}
-use Rattle.mk_core.specs.Placement.{NoneServesFrom, StandsAtItsPlace, GrantsStandAtTheirPlaces, FindsNoPlace}
-use Rattle.mk_core.specs.Placement.{FullsFitNowhere}
-use Rattle.mk_core.proofs.EventsAt.{◌and◌, event_number, at_number, next_number, cycle_of, turn_number, served}
+use Rattle.mk_core.specs.History.{left_from}
+use Rattle.mk_core.specs.Placement.{NoneServesFrom, GrantsStandAtTheirPlaces, FindsNoPlace, FullsFitNowhere}
+use Rattle.mk_core.proofs.EventsAt.{◌and◌, event_number, at_number, next_of, cycle_of, turn_number, served}
 use Rattle.mk_core.proofs.EventsAt.{stands_at, AtEach, Also, at_each}
 use Rattle.mk_core.proofs.Schedules.{by, c0, host, one_page, freed_after_begin}
 use Rattle.mk_core.proofs.MoreSchedules.{two_pages, full_then_reused, granted_while_marking}
@@ -77,12 +74,12 @@ grant_while_marking =
 -- The refused New begins and ends a cycle in its turn. Both cells are still taken after it, so it doesn't fit.
 pub full : FindsNoPlace one_page (take 31 full_then_reused) c0
 unfolding by c0 all_below pointed_cell may_turn_black one_page full_then_reused left_from unreleased_storage event_number
-    at_number next_number turn_number
+    at_number turn_number
 full =
     record {
       turn = turn_number one_page c0 16 (Some (op.New 2 0 false)) (take 31 full_then_reused) refl refl refl;
-      cycle = cycle_of (at_number is_begin 2 _ refl refl) (next_number is_close 7 _ refl refl refl)
-          (next_number is_release 0 _ refl refl refl) (next_number is_end 0 _ refl refl refl);
+      cycle = cycle_of (at_number is_begin 2 _ refl refl) (next_of (at_number is_close 7 _ refl refl) refl)
+          (next_of (at_number is_release 0 _ refl refl) refl) (next_of (at_number is_end 0 _ refl refl) refl);
       no_fit = λ h. false≢true h;
     }
 

@@ -3,22 +3,14 @@ use Rattle.std.proofs.Common.{◌≡◌, ℕ, ◌+◌, Bool, true, false, ◌&&�
 use Rattle.std.proofs.Common.{append-nil, append_assoc}
 use Rattle.std.specs.Prelude.{⊤, slice_index_or}
 use Rattle.std.specs.List.{list_any}
-use Rattle.mk_never.specs.declared.operations.Op.{Op}
-use Rattle.mk_core.specs.declared.config.Config.{Config}
-use Rattle.mk_core.specs.declared.events.Seat.{Seat}
+use Rattle.mk_core.proofs.Vocabulary.{base_made, Config, Event, flight_of, is_begin, is_close, is_end, is_give}
+use Rattle.mk_core.proofs.Vocabulary.{is_release, left, Op, Place, Seat, StandsAtItsPlace, Step}
 use Rattle.mk_core.specs.declared.events.Seat.TheVariants as seat
-use Rattle.mk_core.specs.declared.events.Step.{Step}
 use Rattle.mk_core.specs.declared.events.Step.TheVariants as step
-use Rattle.mk_core.specs.declared.events.Event.{Event}
 use Rattle.mk_core.specs.Growing.{is_same_seat}
-use Rattle.mk_core.specs.Moments.{flight_of}
-use Rattle.mk_core.specs.NewPlaces.{base_made}
 use Rattle.mk_core.specs.Accesses.{granted_base}
-use Rattle.mk_core.specs.History.{left}
 use Rattle.mk_core.specs.Placement.{NoneServesFrom, event_serves, FirstServed, before_served, object_at, place_after}
-use Rattle.mk_core.specs.Placement.{StandsAtItsPlace}
-use Rattle.mk_geom.specs.declared.pages.Place.{Place}
-use Rattle.mk_core.specs.Cycles.{At, Next, Cycle, is_begin, is_close, is_release, is_end, is_give, TurnOf}
+use Rattle.mk_core.specs.Cycles.{At, Next, Cycle, TurnOf}
 
 -- a proof of the first, and one of the others
 infixr 10 ◌and◌
@@ -40,12 +32,10 @@ unfoldable pub at_number : (kind : Step → Bool) (n : ℕ) (es : List Event)
 at_number kind n es is of_kind =
     record { before = take n es; event = event_number n es; behind = drop (n + 1) es; is = is; of_kind = of_kind }
 
--- the next of a kind
-unfoldable pub next_number : (kind : Step → Bool) (n : ℕ) (es : List Event)
-    → es ≡ take n es ++ event_number n es ∷ drop (n + 1) es
-    → kind (event_number n es).step ≡ true → list_any (λ (e : Event). kind e.step) (take n es) ≡ false → Next kind es
-unfolding at_number
-next_number kind n es is of_kind none = record { at = at_number kind n es is of_kind; none_before = none }
+-- which is the next of its kind
+abbrev pub next_of : {kind : Step → Bool} {es : List Event} (at : At kind es)
+    → list_any (λ (e : Event). kind e.step) at.before ≡ false → Next kind es
+next_of at none = record { at = at; none_before = none }
 
 -- a cycle, by its `begin`, and how many events come before its `close`, its `release` and its `end`
 abbrev pub cycle_of : {es : List Event} (begin : At is_begin es) (close : Next is_close begin.behind)

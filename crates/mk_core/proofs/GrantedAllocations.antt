@@ -1,29 +1,19 @@
 -- What is granted stands at its New's place.
 use Rattle.std.proofs.Common.{◌≡◌, ℕ, ◌+◌, ◌*◌, ◌/◌, ◌<◌, ◌≤◌, Bool, true, false, [], length, sym, ap, subst, ◌∙◌, inl}
-use Rattle.std.proofs.Common.{inr, arith}
-use Rattle.std.specs.Prelude.{nat_lt}
+use Rattle.std.proofs.Common.{inr, arith, nat_lt}
 use Rattle.std.proofs.lemmas.Bool.{cases_Bool, and_parts, ltb-true, cond-true, cond-false, eqb-true}
-use Rattle.mk_never.specs.declared.operations.Op.{Op}
+use Rattle.mk_core.proofs.Vocabulary.{base_made, BeginsAtCell, cells_made, cells_of, class_made, class_words_of, Config}
+use Rattle.mk_core.proofs.Vocabulary.{Flight, HasItsHeaders, header_at, header_made, is_small_object, IsSized}
+use Rattle.mk_core.proofs.Vocabulary.{IsWithinLimits, kinds_of, Moment, Object, object_made, object_placed, Op}
+use Rattle.mk_core.proofs.Vocabulary.{pages_made, Place, PlacedAllocation, StandsOnHeap, Words, words_made}
 use Rattle.mk_never.specs.declared.operations.Op.TheVariants as op
-use Rattle.mk_never.specs.Types.{kinds_of}
-use Rattle.mk_geom.specs.declared.pages.Place.{Place}
-use Rattle.mk_geom.specs.Classes.{class_words_of, cells_of}
 use Rattle.mk_geom.proofs.ClassTable.{cell_ends}
-use Rattle.mk_core.specs.declared.config.Config.{Config}
-use Rattle.mk_core.specs.declared.seats.Object.{Object}
-use Rattle.mk_core.specs.declared.seats.Flight.{Flight}
 use Rattle.mk_core.specs.declared.seats.Placing.{Placing}
 use Rattle.mk_core.specs.declared.seats.Placing.TheVariants.{Used}
-use Rattle.mk_core.specs.Config.{IsWithinLimits}
-use Rattle.mk_core.specs.Words.{Words, header_at}
 use Rattle.mk_core.specs.Calls.{has_operands, has_type}
 use Rattle.mk_core.specs.Accesses.{granted_base}
-use Rattle.mk_core.specs.NewPlaces.{object_of, object_made, is_small_object, class_made, pages_made, header_made}
-use Rattle.mk_core.specs.NewPlaces.{base_made, place_stands, is_undecided_new}
-use Rattle.mk_core.specs.ObjectHeaders.{IsSized, cells_made, words_made}
-use Rattle.mk_core.specs.Allocations.{PlacedAllocation, type_made, granted}
-use Rattle.mk_core.specs.Moments.{Moment}
-use Rattle.mk_core.specs.StandingAllocations.{object_placed, BeginsAtCell, StandsOnHeap, HasItsHeaders}
+use Rattle.mk_core.specs.NewPlaces.{object_of, place_stands, is_undecided_new}
+use Rattle.mk_core.specs.Allocations.{type_made, granted}
 use Rattle.mk_core.proofs.AllBelow.{all_below-at}
 use Rattle.mk_core.proofs.Sizes.{small_cells, small_pages, small_words, large_words}
 use Rattle.mk_core.proofs.StandingAllocations.{made_begins}

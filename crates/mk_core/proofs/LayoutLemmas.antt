@@ -2,10 +2,8 @@
 use Rattle.std.proofs.Common.{◌≡◌, ◌⊎◌, inl, inr, ℕ, ◌+◌, ◌*◌, ◌<◌, ◌≤◌, refl, sym, ◌∙◌, ap, arith}
 use Rattle.std.proofs.lemmas.Bool.{cases_order}
 use Rattle.std.specs.Prelude.{⊤}
-use Rattle.mk_core.specs.declared.events.Word.{Word}
+use Rattle.mk_core.proofs.Vocabulary.{Named, TableWord, Turn, Word}
 use Rattle.mk_core.specs.declared.events.Word.TheVariants as word
-use Rattle.mk_core.specs.declared.accesses.TableWord.{TableWord}
-use Rattle.mk_core.specs.declared.accesses.TableWord.TheVariants.{Turn, Named}
 use Rattle.mk_core.specs.Layout.{index_of_named, index_of, count_of_words, NamesWord, IsOfTable, LineGroup, OfPhase}
 use Rattle.mk_core.specs.Layout.{OfTurn, OfTallies, OfGlobals, OfPages, OfHeap, OfGate, OfRegisters, OfDirty}
 use Rattle.mk_core.specs.Layout.{line_group_of_named, line_group, LineGroupsAreApart}

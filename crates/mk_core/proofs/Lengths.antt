@@ -1,20 +1,15 @@
 -- Each region of the words keeps its length.
 use Rattle.std.proofs.Common.{ℕ, ◌+◌, ◌*◌, List, [], ◌∷◌, length-set, refl, arith}
 use Rattle.std.proofs.lemmas.List.{length-replicate}
-use Rattle.mk_geom.specs.declared.pages.Page.{Page}
+use Rattle.mk_core.proofs.Vocabulary.{Access, Config, Event, first_world, left, Load, Named, Page, Store, TableWord}
+use Rattle.mk_core.proofs.Vocabulary.{Turn, Word, Words, World, world_behind, zero_words_of}
 use Rattle.mk_geom.specs.Storages.{free_page}
-use Rattle.mk_core.specs.declared.config.Config.{Config}
-use Rattle.mk_core.specs.declared.events.Event.{Event}
-use Rattle.mk_core.specs.declared.events.Word.{Word}
 use Rattle.mk_core.specs.declared.events.Word.TheVariants as word
-use Rattle.mk_core.specs.declared.accesses.TableWord.{TableWord}
-use Rattle.mk_core.specs.declared.accesses.TableWord.TheVariants.{Turn, Named}
-use Rattle.mk_core.specs.declared.accesses.Access.{Access}
-use Rattle.mk_core.specs.declared.accesses.Access.TheVariants.{Load, Store, Exchange, Or, Add, Sub}
-use Rattle.mk_core.specs.Words.{Words, zero_words_of, with_named, with_word_in, word_in, becomes, accessed}
+use Rattle.mk_core.specs.declared.accesses.Access.TheVariants.{Exchange, Or, Add, Sub}
+use Rattle.mk_core.specs.Words.{with_named, with_word_in, word_in, becomes, accessed}
 use Rattle.mk_core.specs.Layout.{AreOfPages}
 use Rattle.mk_core.specs.Accesses.{word_accessed, access}
-use Rattle.mk_core.specs.History.{World, first_world, world_behind, left_from, left}
+use Rattle.mk_core.specs.History.{left_from}
 
 pub zero_lengths : (count : ℕ) → AreOfPages count (zero_words_of count)
 zero_lengths count =

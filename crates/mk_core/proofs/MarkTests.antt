@@ -3,14 +3,10 @@ use Rattle.std.proofs.Common.{◌≡◌, ℕ, ◌+◌, Bool, true, not, ◌&&◌
 use Rattle.std.specs.List.{list_all}
 use Rattle.std.proofs.Math.Bool.{or-true}
 use Rattle.std.proofs.lemmas.Bool.{and_parts, and_from, le-leb, lt-ltb}
-use Rattle.mk_geom.specs.Storages.{Storage}
-use Rattle.mk_geom.specs.StorageWords.{IsWordOf}
-use Rattle.mk_core.specs.declared.config.Config.{Config}
-use Rattle.mk_core.specs.Words.{Words}
-use Rattle.mk_core.specs.Cells.{pointed_cell, points_well}
-use Rattle.mk_core.specs.Allocations.{PlacedAllocation, never_granted, placed_at, storage_of}
+use Rattle.mk_core.proofs.Vocabulary.{Config, IsWordOf, never_granted, placed_at, PlacedAllocation, points_well}
+use Rattle.mk_core.proofs.Vocabulary.{Storage, storage_of, Words, World}
+use Rattle.mk_core.specs.Cells.{pointed_cell}
 use Rattle.mk_core.specs.ClosedMarks.{MarksAreClosed, is_marked_allocation, is_scanned_allocation}
-use Rattle.mk_core.specs.History.{World}
 use Rattle.mk_core.proofs.ListTests.{implied, list_all-at, numbered_all, numbered_all-at}
 
 abbrev pub is_word_of : Storage → ℕ → Bool

@@ -1,18 +1,16 @@
 -- What the steps that change a page's header, used and quarantine words find and store.
 use Rattle.std.proofs.Common.{◌≡◌, ℕ, ◌-◌, ◌/◌, ◌%◌, ◌^◌, ◌<◌, Bool, true, false, refl, sym, ◌∙◌, ap, inl, inr, bit_and}
-use Rattle.std.proofs.Common.{◌⊎◌}
-use Rattle.std.specs.Prelude.{◌&&◌, ◌||◌, not, Option, Some, None, slice_index, if◌then◌else◌}
+use Rattle.std.proofs.Common.{◌⊎◌, ◌&&◌, ◌||◌, not, Option, Some, None, slice_index, if◌then◌else◌}
 use Rattle.std.proofs.lemmas.Bool.{cases_Bool, and_parts, eqb-true, not-true, true≢false}
-use Rattle.mk_core.specs.declared.config.Config.{Config}
-use Rattle.mk_core.specs.declared.seats.Flight.{Flight}
+use Rattle.mk_core.proofs.Vocabulary.{cell_words, Config, first_word, Flight, has_bit, is_phase, Moment, object_made}
+use Rattle.mk_core.proofs.Vocabulary.{place_now, quarantine_word, unmapped_header, Words, words_are_zero}
 use Rattle.mk_core.specs.declared.seats.RunPages.{RunPages}
-use Rattle.mk_core.specs.Words.{Words, used_at, quarantine_word}
-use Rattle.mk_core.specs.Bits.{has_bit, without}
-use Rattle.mk_core.specs.Cells.{head_page, left_unmarked, are_left_unmarked, words_are_zero, first_word, cell_words}
-use Rattle.mk_core.specs.NewPlaces.{object_made, unmapped_header, target}
-use Rattle.mk_core.specs.TurnConditions.{place_now, carves, unmaps, empties, may_head, takes_cell, is_used_once}
-use Rattle.mk_core.specs.TurnConditions.{are_wiped, gives_back, may_use, frees, takes_snapshot, drops, may_quarantine}
-use Rattle.mk_core.specs.Moments.{Moment, is_phase}
+use Rattle.mk_core.specs.Words.{used_at}
+use Rattle.mk_core.specs.Bits.{without}
+use Rattle.mk_core.specs.Cells.{head_page, left_unmarked, are_left_unmarked}
+use Rattle.mk_core.specs.NewPlaces.{target}
+use Rattle.mk_core.specs.TurnConditions.{carves, unmaps, empties, may_head, takes_cell, is_used_once, are_wiped}
+use Rattle.mk_core.specs.TurnConditions.{gives_back, may_use, frees, takes_snapshot, drops, may_quarantine}
 use Rattle.mk_core.proofs.AllBelow.{all_below-at}
 use Rattle.mk_core.proofs.BitsWithout.{has_bit_without}
 use Rattle.mk_core.proofs.WordBits.{fewer_bits, rest_bits, without_none, no_common}

@@ -1,26 +1,18 @@
 -- What is known where there is a place of a New, or a cell that a Free frees.
-use Rattle.std.proofs.Common.{◌≡◌, ℕ, ◌+◌, ◌^◌, Bool, true, false, refl, sym, ◌∙◌, ap, subst, ◌⊎◌, inl, inr}
-use Rattle.std.specs.Prelude.{◌&&◌, not, Option, Some, None, slice_index, if◌then◌else◌, List}
+use Rattle.std.proofs.Common.{◌≡◌, ℕ, ◌+◌, ◌^◌, Bool, true, false, refl, sym, ◌∙◌, ap, subst, ◌⊎◌, inl, inr, ◌&&◌, not}
+use Rattle.std.proofs.Common.{Option, Some, None, slice_index, if◌then◌else◌, List}
 use Rattle.std.proofs.lemmas.Bool.{and_parts, eqb-true, not-true}
-use Rattle.mk_never.specs.declared.operations.Op.{Op}
+use Rattle.mk_core.proofs.Vocabulary.{Cell, Config, Flight, is_phase, Moment, Object, object_made, Op, Page, Place}
+use Rattle.mk_core.proofs.Vocabulary.{place_now, quarantine_word, Words}
 use Rattle.mk_never.specs.declared.operations.Op.TheVariants as op
-use Rattle.mk_geom.specs.declared.addresses.Cell.{Cell}
-use Rattle.mk_geom.specs.declared.pages.Page.{Page}
-use Rattle.mk_geom.specs.declared.pages.Place.{Place}
-use Rattle.mk_core.specs.declared.config.Config.{Config}
-use Rattle.mk_core.specs.declared.seats.Object.{Object}
 use Rattle.mk_core.specs.declared.seats.Stage.{Stage}
 use Rattle.mk_core.specs.declared.seats.Stage.TheVariants as stage
-use Rattle.mk_core.specs.declared.seats.Flight.{Flight}
 use Rattle.mk_core.specs.declared.seats.Placing.{Placing}
 use Rattle.mk_core.specs.declared.seats.Placing.TheVariants.{Unplaced, Chosen, Used, Granted}
-use Rattle.mk_core.specs.Words.{Words, quarantine_word}
 use Rattle.mk_core.specs.Cells.{pointed_cell, is_freed}
-use Rattle.mk_core.specs.NewPlaces.{place_on_pages, place_by_placing, object_made, is_new_at, is_free_at}
-use Rattle.mk_core.specs.NewPlaces.{is_undecided_new}
+use Rattle.mk_core.specs.NewPlaces.{place_on_pages, place_by_placing, is_new_at, is_free_at, is_undecided_new}
 use Rattle.mk_core.specs.NewPlaces.{is_undecided_free, target}
-use Rattle.mk_core.specs.TurnConditions.{place_now, frees, cell_freed}
-use Rattle.mk_core.specs.Moments.{Moment, is_phase}
+use Rattle.mk_core.specs.TurnConditions.{frees, cell_freed}
 use Rattle.mk_core.specs.Effects.{chosen, taken}
 
 -- what stands under a test, where something does

@@ -5,15 +5,12 @@ use Rattle.std.proofs.lemmas.List.{get_or_append_left, get_or-append-add, set-ap
 use Rattle.std.proofs.lemmas.List.{length-map, length-append, replicate-append-replicate, get_or-map}
 use Rattle.std.proofs.Math.Seq.{map-set_same}
 use Rattle.std.proofs.Math.Nat.{mod-add-div}
-use Rattle.mk_geom.specs.declared.pages.Page.{Page}
+use Rattle.mk_core.proofs.Vocabulary.{Access, Load, Named, Page, quarantine_word, Store, TableWord, Turn, Word, Words}
+use Rattle.mk_core.proofs.Vocabulary.{zero_words_of}
 use Rattle.mk_geom.specs.Storages.{free_page}
-use Rattle.mk_core.specs.declared.events.Word.{Word}
 use Rattle.mk_core.specs.declared.events.Word.TheVariants as word
-use Rattle.mk_core.specs.declared.accesses.TableWord.{TableWord}
-use Rattle.mk_core.specs.declared.accesses.TableWord.TheVariants.{Turn, Named}
-use Rattle.mk_core.specs.declared.accesses.Access.{Access}
-use Rattle.mk_core.specs.declared.accesses.Access.TheVariants.{Load, Store, Exchange, Or, Add, Sub}
-use Rattle.mk_core.specs.Words.{Words, zero_words_of, quarantine_word, word_in, with_word_in, becomes}
+use Rattle.mk_core.specs.declared.accesses.Access.TheVariants.{Exchange, Or, Add, Sub}
+use Rattle.mk_core.specs.Words.{word_in, with_word_in, becomes}
 use Rattle.mk_core.proofs.Spread.{set_later, length_spread, spread_at, spread_set, word_at, word_set}
 use Rattle.mk_core.proofs.Spread.{length_words, words_set, zeros_spread}
 use Rattle.mk_core.specs.Layout.{index_of, IsOfTable, quarantine_words, gap, spread, regions, joined, in_order}

@@ -1,19 +1,13 @@
 -- What an access to a register or to a tally leaves alone.
-use Rattle.std.proofs.Common.{◌≡◌, ℕ, ◌<◌, true, refl, rules}
-use Rattle.std.specs.Prelude.{nat_lt}
+use Rattle.std.proofs.Common.{◌≡◌, ℕ, ◌<◌, true, refl, rules, nat_lt}
 use Rattle.std.proofs.lemmas.Bool.{and_parts, ltb-true}
-use Rattle.mk_never.specs.declared.operations.Op.{Op}
-use Rattle.mk_core.specs.declared.config.Config.{Config}
+use Rattle.mk_core.proofs.Vocabulary.{Access, Config, Flight, Load, Named, Op, Store, Words}
 use Rattle.mk_core.specs.declared.events.Tally.{Tally}
 use Rattle.mk_core.specs.declared.events.Tally.TheVariants as tally
 use Rattle.mk_core.specs.declared.events.Word.TheVariants as word
-use Rattle.mk_core.specs.declared.accesses.TableWord.TheVariants.{Named}
-use Rattle.mk_core.specs.declared.accesses.Access.{Access}
-use Rattle.mk_core.specs.declared.accesses.Access.TheVariants.{Load, Store}
 use Rattle.mk_core.specs.declared.seats.Stage.{Stage}
 use Rattle.mk_core.specs.declared.seats.Stage.TheVariants as stage
-use Rattle.mk_core.specs.declared.seats.Flight.{Flight}
-use Rattle.mk_core.specs.Words.{Words, accessed}
+use Rattle.mk_core.specs.Words.{accessed}
 use Rattle.mk_core.specs.Calls.{has_operands, has_type, q_of, p_of, r_of, d_of, g_of}
 use Rattle.mk_core.specs.Accesses.{register_met, tally_word}
 

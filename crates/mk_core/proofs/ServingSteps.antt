@@ -2,20 +2,15 @@
 use Rattle.std.proofs.Common.{◌≡◌, ◌≢◌, ℕ, ◌+◌, ◌-◌, ◌<◌, ◌≤◌, ◌^◌, true, false, refl}
 use Rattle.std.specs.Prelude.{not, ◌==◌, nat_lt, Option, Some, None}
 use Rattle.std.proofs.lemmas.Bool.{and_parts, eqb-true, eqb-false, leb-true, ltb-true, not-true}
-use Rattle.mk_geom.specs.declared.pages.Place.{Place}
-use Rattle.mk_core.specs.declared.config.Config.{Config}
-use Rattle.mk_core.specs.declared.events.Step.{Step}
+use Rattle.mk_core.proofs.Vocabulary.{Config, Flight, has_bit, header_at, header_made, is_phase, Moment, Object}
+use Rattle.mk_core.proofs.Vocabulary.{object_made, pages_made, Place, place_now, stands, Step, Words}
 use Rattle.mk_core.specs.declared.events.Step.TheVariants as step
-use Rattle.mk_core.specs.declared.seats.Object.{Object}
-use Rattle.mk_core.specs.declared.seats.Flight.{Flight}
-use Rattle.mk_core.specs.Words.{Words, header_at, used_at}
-use Rattle.mk_core.specs.Bits.{has_bit}
+use Rattle.mk_core.specs.Words.{used_at}
 use Rattle.mk_core.specs.Bounded.{all_below}
-use Rattle.mk_core.specs.NewPlaces.{object_made, pages_made, header_made, bits_made, stands, is_next_header}
-use Rattle.mk_core.specs.TurnConditions.{place_now, carves, takes_cell, is_marked_first}
+use Rattle.mk_core.specs.NewPlaces.{bits_made, is_next_header}
+use Rattle.mk_core.specs.TurnConditions.{carves, takes_cell, is_marked_first}
 use Rattle.mk_core.specs.StopConditions.{marks_place}
 use Rattle.mk_core.specs.Placement.{serves}
-use Rattle.mk_core.specs.Moments.{Moment, is_phase}
 use Rattle.mk_core.proofs.AllBelow.{all_below-at}
 
 -- the first page of this many that hasn't the header that is wanted there, and that header

@@ -3,17 +3,13 @@ use Rattle.std.proofs.Common.{◌≡◌, ℕ, Bool, true, not, ◌&&◌, ◌||�
 use Rattle.std.specs.List.{list_all}
 use Rattle.std.proofs.Math.Bool.{or-true}
 use Rattle.std.proofs.lemmas.Bool.{and_parts, and_from, not_from_false, le-leb}
-use Rattle.mk_never.specs.declared.values.Value.{Value}
-use Rattle.mk_never.specs.declared.values.Value.TheVariants.{Null}
-use Rattle.mk_never.specs.NeverHeap.{NeverState}
+use Rattle.mk_core.proofs.Vocabulary.{Config, Event, IsClosedAlong, left, Marking, never_behind, never_granted}
+use Rattle.mk_core.proofs.Vocabulary.{NeverState, Null, placed_at, PlacedAllocation, storage_of, Value, World}
 use Rattle.mk_geom.specs.Addresses.{heap_word_at}
-use Rattle.mk_core.specs.declared.config.Config.{Config}
-use Rattle.mk_core.specs.declared.events.Event.{Event}
 use Rattle.mk_core.specs.Image.{image_of}
-use Rattle.mk_core.specs.Allocations.{PlacedAllocation, never_granted, placed_at, storage_of}
-use Rattle.mk_core.specs.History.{World, left, never_behind, bases_of}
-use Rattle.mk_core.specs.Cycles.{Marking, through}
-use Rattle.mk_core.specs.Touched.{LeadsToMoment, PointsIntoAllocation, IsWordOfAllocation, IsClosedAlong}
+use Rattle.mk_core.specs.History.{bases_of}
+use Rattle.mk_core.specs.Cycles.{through}
+use Rattle.mk_core.specs.Touched.{LeadsToMoment, PointsIntoAllocation, IsWordOfAllocation}
 use Rattle.mk_core.proofs.ListTests.{implied, list_all-at, numbered_all, numbered_all-at, all_fronts, all_fronts-at}
 use Rattle.mk_core.proofs.MarkTests.{is_word_of, is_word_of_by}
 
