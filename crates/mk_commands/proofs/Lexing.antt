@@ -1,20 +1,16 @@
--- What a word says is what it gives.
-use Rattle.std.proofs.Common.{◌≡◌, ◌⊎◌, ◌∙◌, ◌++◌, ℕ, suc, ◌+◌, Bool, true, false, not, ◌==◌, [], ◌∷◌, Option}
-use Rattle.std.proofs.Common.{Some, None, refl, sym, ap, subst, inl, inr, arith, take, drop, if◌then◌else◌}
-use Rattle.std.proofs.Common.{option_and_then, slice_get, chars}
+-- What a word says is what clap reads in it.
+use Rattle.std.proofs.Common.{◌≡◌, ◌∙◌, ◌++◌, ℕ, suc, ◌+◌, Bool, true, false, not, ◌==◌, [], ◌∷◌, Option}
+use Rattle.std.proofs.Common.{Some, None, refl, sym, ap, arith, take, drop, if◌then◌else◌}
+use Rattle.std.proofs.Common.{option_and_then}
 use Rattle.std.specs.Prelude.{unwrap_or}
 use Rattle.std.specs.List.{list_any, prefix_len}
-use Rattle.std.specs.Str.{bytes_eq}
+use Rattle.std.specs.Str.{bytes_eq, chars}
 use Rattle.std.proofs.lemmas.Slice.Eq.{bytes_eq-Decides}
 use Rattle.std.proofs.lemmas.Bool.Decides.{nat_tests}
 use lib.Chars.{codes}
-use Rattle.mk_script.specs.Names.{number_of_word}
-use Rattle.clap.specs.Lexer.{long_of, long_of_rest, short_of, short_of_rest, strip_byte, name_and_value}
+use Rattle.clap.specs.Lexer.{long_of, long_of_rest, short_of, strip_byte, name_and_value}
 use Rattle.clap.specs.Walk.{Text}
-use Rattle.mk_commands.specs.Given.{Given, with_markers, with_sweep, with_why, with_number, with_next, with_other}
-use Rattle.mk_commands.specs.Given.{behind}
-use Rattle.mk_commands.proofs.Telling.{Said, ends, markers_said, sweep_said, why_said, unknown, plain, said, said_other}
-use Rattle.mk_commands.proofs.Telling.{said_long, said_short, said_char}
+use Rattle.mk_commands.specs.Given.{Said, sweep_flag, why_flag, markers_said, flag_said, unknown, said, said_dashed, behind}
 
 -- ---- the parts of `--name=value`
 
@@ -72,20 +68,12 @@ long_shape word p e = first (strip_byte 45 word) refl e
     first None a e = cc
     first (Some r) a e = second r a (strip_byte 45 r) refl e
 
-short_shape : (word flags : Text) → short_of word ≡ Some flags → (rest : Text) × (word ≡ 45 ∷ rest)
-short_shape word flags e = first (strip_byte 45 word) refl e
-  where
-    first : (o : Option Text) → strip_byte 45 word ≡ o → option_and_then short_of_rest o ≡ Some flags
-        → (rest : Text) × (word ≡ 45 ∷ rest)
-    first None a e = cc
-    first (Some r) a e = (r, stripped 45 word r a)
-
 behind_shape : (front word digits : Text) → behind front word ≡ Some digits → word ≡ front ++ digits
 behind_shape [] word digits e = ap (λ (o : Option Text). unwrap_or o word) e
 behind_shape (x ∷ front) [] digits e = cc
-behind_shape (x ∷ front) (y ∷ word) digits e = by_test (x == y) refl e (behind_shape front word digits)
+behind_shape (x ∷ front) (y ∷ word) digits e = by_test (y == x) refl e (behind_shape front word digits)
   where
-    by_test : (t : Bool) → (x == y) ≡ t → behind (x ∷ front) (y ∷ word) ≡ Some digits
+    by_test : (t : Bool) → (y == x) ≡ t → behind (x ∷ front) (y ∷ word) ≡ Some digits
         → (behind front word ≡ Some digits → word ≡ front ++ digits)
         → y ∷ word ≡ x ∷ (front ++ digits)
     by_test true t e more =
@@ -94,149 +82,115 @@ behind_shape (x ∷ front) (y ∷ word) digits e = by_test (x == y) refl e (behi
         ap (λ n. n ∷ word) is ∙ ap (λ l. x ∷ l) (more left)
     by_test false t e more = let no : None ≡ Some digits = rw t at e in cc
 
-no_number_dashed : (word rest : Text) → word ≡ 45 ∷ rest → number_of_word word ≡ None
-no_number_dashed word rest e = subst (λ (w : Text). number_of_word w ≡ None) (sym e) refl
+-- ---- a word without a name
 
--- a word that is neither plain nor `--` is no number
-pub no_number_said : (word : Text) → (said word ≡ plain) ⊎ (number_of_word word ≡ None)
-no_number_said word = first (bytes_eq word (codes "--")) refl
+pub says_dashed : (word : Text) → bytes_eq word (codes "--") ≡ false → long_of word ≡ None
+    → said word ≡ said_dashed (short_of word)
+unfolding chars
+says_dashed [] e l = refl
+says_dashed (x ∷ xs) e l = by_first (x == 45) refl xs e l
   where
-    short : (o : Option Text) → short_of word ≡ o → (said_short o ≡ plain) ⊎ (number_of_word word ≡ None)
-    short None e = inl refl
-    short (Some flags) e = let s = short_shape word flags e in inr (no_number_dashed word s.0 s.1)
+    by_second : (t : Bool) → (x == 45) ≡ true → (y : ℕ) → (y == 45) ≡ t → (ys : Text)
+        → bytes_eq (x ∷ y ∷ ys) (codes "--") ≡ false → long_of (x ∷ y ∷ ys) ≡ None
+        → said (x ∷ y ∷ ys) ≡ said_dashed (short_of (x ∷ y ∷ ys))
+    by_second false first y second ys e l =
+        rw (first, second) (ap (λ b. said_dashed (if b then Some (y ∷ ys) else None)) first)
+    by_second true first y second [] e l = let no : true ≡ false = rw (first, second) at e in cc
+    by_second true first y second (z ∷ zs) e l =
+        let no : Some (name_and_value (z ∷ zs)) ≡ None = rw (first, second) at l in cc
 
-    long : (o : Option (Text × Option Text)) → long_of word ≡ o
-        → (said_other o word ≡ plain) ⊎ (number_of_word word ≡ None)
-    long None e = short (short_of word) refl
-    long (Some p) e = inr (no_number_dashed word _ (long_shape word p e))
+    by_first : (t : Bool) → (x == 45) ≡ t → (xs : Text) → bytes_eq (x ∷ xs) (codes "--") ≡ false
+        → long_of (x ∷ xs) ≡ None → said (x ∷ xs) ≡ said_dashed (short_of (x ∷ xs))
+    by_first false first xs e l = rw first (ap (λ b. said_dashed (if b then Some xs else None)) first)
+    by_first true first [] e l = rw first (ap (λ b. said_dashed (if b then Some [] else None)) first)
+    by_first true first (y ∷ ys) e l = by_second (y == 45) first y refl ys e l
 
-    first : (t : Bool) → bytes_eq word (codes "--") ≡ t → (said word ≡ plain) ⊎ (number_of_word word ≡ None)
-    first true e = inr (no_number_dashed word _ ((bytes_eq-Decides word (codes "--")).0 e))
-    first false e = rw e (long (long_of word) refl)
+-- ---- a word with a name
 
--- ---- what a word gives, where no number is awaited and no `--` was read
+abbrev pub no_value : Option Text → Said → Said
+no_value None s = s
+no_value (Some v) s = unknown
 
-abbrev pub given_said : Given → Text → Said → Option Given
-given_said g word ends = Some (record g { ended = true })
-given_said g word (markers_said None) = Some (record g { awaits = true })
-given_said g word (markers_said (Some digits)) = with_markers g digits
-given_said g word (sweep_said None) = with_sweep g
-given_said g word (sweep_said (Some v)) = None
-given_said g word (why_said None) = with_why g
-given_said g word (why_said (Some v)) = None
-given_said g word unknown = None
-given_said g word plain = with_number g word
+abbrev pub said_long : Text → Option Text → Said
+said_long name v = if bytes_eq (codes "markers") name then markers_said v
+    else if bytes_eq (codes "sweep") name then no_value v (flag_said sweep_flag)
+    else if bytes_eq (codes "why") name then no_value v (flag_said why_flag)
+    else unknown
 
-abbrev pub given_free : Given → Text → Option Given
-given_free g word = if bytes_eq word (codes "--") then Some (record g { ended = true })
-    else if bytes_eq word (codes "--markers") then Some (record g { awaits = true })
-    else if bytes_eq word (codes "--sweep") then with_sweep g
-    else if bytes_eq word (codes "--why") then with_why g
-    else with_other g word (behind (codes "--markers=") word)
+unknown_dashed : (rest : Text) → said_dashed (Some (45 ∷ rest)) ≡ unknown
+unfolding chars
+unknown_dashed [] = refl
+unknown_dashed (x ∷ rest) = refl
 
-none_number : (g : Given) (word : Text) → number_of_word word ≡ None → with_number g word ≡ None
-none_number g word e = ap (option_and_then (with_next g)) e
-
-is_not : (word other : Text) → bytes_eq word other ≡ false → word ≡ other → ⊥
-is_not word other e same = let yes = (bytes_eq-Decides word other).1 same in let bad : true ≡ false = sym yes ∙ e in cc
-
--- a word with a name, that is none of the options
-other_name : (g : Given) (word : Text) (p : Text × Option Text) → long_of word ≡ Some p
-    → bytes_eq word (codes "--markers") ≡ false → bytes_eq word (codes "--sweep") ≡ false
-    → bytes_eq word (codes "--why") ≡ false
-    → behind (codes "--markers=") word ≡ None
-    → with_number g word ≡ given_said g word (said_long p.0 p.1)
-other_name g word p l m s w b = on_markers (bytes_eq (codes "markers") p.0) refl
+pub says_long : (word id : Text) (v : Option Text) → bytes_eq word (codes "--") ≡ false
+    → long_of word ≡ Some (id, v) → said word ≡ said_long id v
+unfolding chars
+says_long word id v e l = on_markers (bytes_eq (codes "markers") id) refl
   where
-    none : with_number g word ≡ None
-    none = none_number g word (no_number_dashed word _ (long_shape word p l))
+    shape : word ≡ 45 ∷ 45 ∷ (id ++ tail_of v)
+    shape = long_shape word (id, v) l
 
-    named : (name : Text) → bytes_eq name p.0 ≡ true → word ≡ 45 ∷ 45 ∷ (name ++ tail_of p.1)
-    named name e = subst (λ (n : Text). word ≡ 45 ∷ 45 ∷ (n ++ tail_of p.1)) (sym ((bytes_eq-Decides name p.0).0 e))
-        (long_shape word p l)
+    named : (name : Text) → bytes_eq name id ≡ true → word ≡ 45 ∷ 45 ∷ (name ++ tail_of v)
+    named name b = shape ∙ ap (λ (n : Text). 45 ∷ 45 ∷ (n ++ tail_of v)) (sym ((bytes_eq-Decides name id).0 b))
 
-    markers_value : (v : Option Text) → word ≡ 45 ∷ 45 ∷ (codes "markers" ++ tail_of v)
-        → with_number g word ≡ given_said g word (markers_said v)
-    markers_value None e = absurd (is_not word (codes "--markers") m e)
-    markers_value (Some v) e =
-        let some : behind (codes "--markers=") word ≡ Some v =
-        subst (λ (u : Text). behind (codes "--markers=") u ≡ Some v) (sym e) refl in
-        let bad : None ≡ Some v = sym b ∙ some in cc
+    markers_says : (u : Option Text) → said (45 ∷ 45 ∷ (codes "markers" ++ tail_of u)) ≡ markers_said u
+    markers_says None = refl
+    markers_says (Some x) = refl
 
-    sweep_value : (v : Option Text) → word ≡ 45 ∷ 45 ∷ (codes "sweep" ++ tail_of v)
-        → with_number g word ≡ given_said g word (sweep_said v)
-    sweep_value None e = absurd (is_not word (codes "--sweep") s e)
-    sweep_value (Some v) e = none
+    sweep_says : (u : Option Text)
+        → said (45 ∷ 45 ∷ (codes "sweep" ++ tail_of u)) ≡ no_value u (flag_said sweep_flag)
+    sweep_says None = refl
+    sweep_says (Some x) = refl
 
-    why_value : (v : Option Text) → word ≡ 45 ∷ 45 ∷ (codes "why" ++ tail_of v)
-        → with_number g word ≡ given_said g word (why_said v)
-    why_value None e = absurd (is_not word (codes "--why") w e)
-    why_value (Some v) e = none
+    why_says : (u : Option Text) → said (45 ∷ 45 ∷ (codes "why" ++ tail_of u)) ≡ no_value u (flag_said why_flag)
+    why_says None = refl
+    why_says (Some x) = refl
 
-    on_why : (t : Bool) → bytes_eq (codes "why") p.0 ≡ t
-        → with_number g word ≡ given_said g word (if t then why_said p.1 else unknown)
-    on_why true e = why_value p.1 (named (codes "why") e)
-    on_why false e = none
+    -- a word of another name
+    is_not : (name other : Text) (u : Option Text) → bytes_eq name id ≡ false → long_of other ≡ Some (name, u)
+        → word ≡ other → ⊥
+    is_not name other u differs of_other same =
+        let is : id ≡ name = ap (λ (o : Option (Text × Option Text)). (unwrap_or o (id, v)).0)
+        (sym l ∙ ap long_of same ∙ of_other) in
+        let yes : bytes_eq name id ≡ true = (bytes_eq-Decides name id).1 (sym is) in
+        let no : true ≡ false = sym yes ∙ differs in cc
 
-    on_sweep : (t : Bool) → bytes_eq (codes "sweep") p.0 ≡ t
-        → with_number g word
-        ≡ given_said g word (if t then sweep_said p.1 else if bytes_eq (codes "why") p.0 then why_said p.1 else unknown)
-    on_sweep true e = sweep_value p.1 (named (codes "sweep") e)
-    on_sweep false e = on_why (bytes_eq (codes "why") p.0) refl
+    test_fails : (name other : Text) → bytes_eq name id ≡ false → long_of other ≡ Some (name, None) → (t : Bool)
+        → bytes_eq word other ≡ t → bytes_eq word other ≡ false
+    test_fails name other differs of_other true t =
+        absurd (is_not name other None differs of_other ((bytes_eq-Decides word other).0 t))
+    test_fails name other differs of_other false t = t
 
-    on_markers : (t : Bool) → bytes_eq (codes "markers") p.0 ≡ t
-        → with_number g word ≡ given_said g word (said_long p.0 p.1)
-    on_markers true e = rw e (markers_value p.1 (named (codes "markers") e))
-    on_markers false e = rw e (on_sweep (bytes_eq (codes "sweep") p.0) refl)
+    none_behind : bytes_eq (codes "markers") id ≡ false → (o : Option Text) → behind (codes "--markers=") word ≡ o
+        → behind (codes "--markers=") word ≡ None
+    none_behind m None b = b
+    none_behind m (Some digits) b =
+        absurd (is_not (codes "markers") (codes "--markers=" ++ digits) (Some digits) m refl
+        (behind_shape (codes "--markers=") word digits b))
 
-pub lexed : (g : Given) (word : Text) → given_free g word ≡ given_said g word (said word)
-lexed g word = on_ends (bytes_eq word (codes "--")) refl
-  where
-    literal : (other : Text) → bytes_eq word other ≡ true → given_free g other ≡ given_said g other (said other)
-        → given_free g word ≡ given_said g word (said word)
-    literal other e h = subst (λ (w : Text). given_free g w ≡ given_said g w (said w))
-        (sym ((bytes_eq-Decides word other).0 e)) h
+    other : bytes_eq (codes "markers") id ≡ false → bytes_eq (codes "sweep") id ≡ false
+        → bytes_eq (codes "why") id ≡ false → said word ≡ unknown
+    other m s w =
+        rw (
+          e,
+          test_fails (codes "markers") (codes "--markers") m refl _ refl,
+          test_fails (codes "sweep") (codes "--sweep") s refl _ refl,
+          test_fails (codes "why") (codes "--why") w refl _ refl,
+          none_behind m _ refl,
+        ) (ap (λ (u : Text). said_dashed (behind (codes "-") u)) shape ∙ unknown_dashed (id ++ tail_of v))
 
-    short : (o : Option Text) → short_of word ≡ o → with_number g word ≡ given_said g word (said_short o)
-    short None e = refl
-    short (Some flags) e = char (slice_get (chars flags) 0)
-      where
-        char : (o : Option ℕ) → with_number g word ≡ given_said g word (said_char o)
-        char None = refl
-        char (Some x) = let s = short_shape word flags e in none_number g word (no_number_dashed word s.0 s.1)
+    on_why : (b : Bool) → bytes_eq (codes "why") id ≡ b → bytes_eq (codes "markers") id ≡ false
+        → bytes_eq (codes "sweep") id ≡ false
+        → said word ≡ (if b then no_value v (flag_said why_flag) else unknown)
+    on_why true w m s = ap said (named (codes "why") w) ∙ why_says v
+    on_why false w m s = other m s w
 
-    long : (o : Option (Text × Option Text)) → long_of word ≡ o
-        → bytes_eq word (codes "--markers") ≡ false → bytes_eq word (codes "--sweep") ≡ false
-        → bytes_eq word (codes "--why") ≡ false
-        → behind (codes "--markers=") word ≡ None → with_number g word ≡ given_said g word (said_other o word)
-    long None l m s w b = short (short_of word) refl
-    long (Some p) l m s w b = other_name g word p l m s w b
+    on_sweep : (b : Bool) → bytes_eq (codes "sweep") id ≡ b → bytes_eq (codes "markers") id ≡ false
+        → said word ≡ (if b then no_value v (flag_said sweep_flag)
+        else if bytes_eq (codes "why") id then no_value v (flag_said why_flag) else unknown)
+    on_sweep true s m = ap said (named (codes "sweep") s) ∙ sweep_says v
+    on_sweep false s m = on_why (bytes_eq (codes "why") id) refl m s
 
-    on_behind : (o : Option Text) → behind (codes "--markers=") word ≡ o → bytes_eq word (codes "--") ≡ false
-        → bytes_eq word (codes "--markers") ≡ false → bytes_eq word (codes "--sweep") ≡ false
-        → bytes_eq word (codes "--why") ≡ false
-        → given_free g word ≡ given_said g word (said word)
-    on_behind (Some digits) b e m s w =
-        subst (λ (u : Text). given_free g u ≡ given_said g u (said u))
-        (sym (behind_shape (codes "--markers=") word digits b)) refl
-    on_behind None b e m s w = rw (e, m, s, w, b) (long (long_of word) refl m s w b)
-
-    on_why : (t : Bool) → bytes_eq word (codes "--why") ≡ t → bytes_eq word (codes "--") ≡ false
-        → bytes_eq word (codes "--markers") ≡ false → bytes_eq word (codes "--sweep") ≡ false
-        → given_free g word ≡ given_said g word (said word)
-    on_why true w e m s = literal (codes "--why") w refl
-    on_why false w e m s = on_behind (behind (codes "--markers=") word) refl e m s w
-
-    on_sweep : (t : Bool) → bytes_eq word (codes "--sweep") ≡ t → bytes_eq word (codes "--") ≡ false
-        → bytes_eq word (codes "--markers") ≡ false → given_free g word ≡ given_said g word (said word)
-    on_sweep true s e m = literal (codes "--sweep") s refl
-    on_sweep false s e m = on_why (bytes_eq word (codes "--why")) refl e m s
-
-    on_markers : (t : Bool) → bytes_eq word (codes "--markers") ≡ t → bytes_eq word (codes "--") ≡ false
-        → given_free g word ≡ given_said g word (said word)
-    on_markers true m e = literal (codes "--markers") m refl
-    on_markers false m e = on_sweep (bytes_eq word (codes "--sweep")) refl e m
-
-    on_ends : (t : Bool) → bytes_eq word (codes "--") ≡ t → given_free g word ≡ given_said g word (said word)
-    on_ends true e = literal (codes "--") e refl
-    on_ends false e = on_markers (bytes_eq word (codes "--markers")) refl e
+    on_markers : (b : Bool) → bytes_eq (codes "markers") id ≡ b → said word ≡ said_long id v
+    on_markers true m = rw m (ap said (named (codes "markers") m) ∙ markers_says v)
+    on_markers false m = rw m (on_sweep (bytes_eq (codes "sweep") id) refl m)

@@ -1,7 +1,4 @@
-pub mod Telling
 pub mod Lexing
-pub mod Lost
-pub mod Reading
 pub mod Rows
 pub mod Walking
 pub mod Standing

@@ -15,16 +15,13 @@ use Rattle.clap.specs.declared.builder.value_parser.Reading.{Reading}
 use Rattle.clap.specs.declared.builder.value_parser.Reading.TheVariants.{AsWritten}
 use Rattle.clap.specs.declared.parser.matches.ValueSource.TheVariants.{DefaultValue}
 use Rattle.clap.proofs.FaultLemmas.{leaf_fault}
-use Rattle.mk_commands.specs.Told.{Form, runs, gens, bare, Told, nothing_told, no_number, app_named, HasTold}
-use Rattle.mk_commands.specs.Told.{start_told, count_told}
+use Rattle.mk_commands.specs.Commands.{start_of, count_of}
+use Rattle.mk_commands.specs.Given.{Form, runs, gens, bare, Given, nothing_given, no_number, given_by}
+use Rattle.mk_commands.specs.Told.{app_named, HasGiven}
 use Rattle.clap.specs.Walk.{rows_of}
 use Rattle.clap.specs.Matches.{found_of}
 use Rattle.clap.specs.declared.parser.matches.ArgMatches.{ArgMatches}
 use Rattle.mk_commands.specs.declared.commands.Command.{Command}
-use Rattle.mk_commands.specs.Given.{given_by}
-use Rattle.mk_commands.proofs.Telling.{told_by}
-use Rattle.mk_commands.proofs.Lost.{told_as, given_as}
-use Rattle.mk_commands.proofs.Reading.{told_command}
 use Rattle.mk_commands.proofs.Rows.{entry, row, has_entry, values_added, entry_other, entry_same, first_of_entry}
 use Rattle.mk_commands.proofs.Rows.{one_of_entry}
 use Rattle.mk_commands.proofs.Walking.{shape, rules, standing, rest_fault, rest_rows, flag_filled}
@@ -92,39 +89,39 @@ flag_found : (id : Text) (rows : List Row) (b : Bool) → entry id rows ≡ Some
 flag_found id rows b e = one_of_entry id rows
     ∙ ap (option_and_then (λ (p : List Text × Reading). option_map (read_as p.1) (slice_get p.0 0))) e
 
-has_told : (form : Form) (rows : List Row) (t : Told) → Holds rows t → HasTold form (with_defaults form rows) t
-has_told runs rows t h =
+has_given : (form : Form) (rows : List Row) (t : Given) → Holds rows t → HasGiven form (with_defaults form rows) t
+has_given runs rows t h =
     let sweep = flag_filled (codes "sweep") in
     let why = flag_filled (codes "why") in
     let one = with_default rows sweep in
-    subst (λ (r : List Row). HasTold runs r t) (sym (defaulted_is runs rows)) (record {
+    subst (λ (r : List Row). HasGiven runs r t) (sym (defaulted_is runs rows)) (record {
       markers = first_found (codes "markers") (defaulted runs rows) t.markers
           (flag_other (codes "why") (codes "markers") one refl ∙ flag_other (codes "sweep") (codes "markers") rows refl
-          ∙ h.markers);
+          ∙ h.markers_are);
       flags = (
         flag_found (codes "sweep") (defaulted runs rows) t.sweep (flag_other (codes "why") (codes "sweep") one refl
-            ∙ flag_same (codes "sweep") rows t.sweep refl h.sweep),
+            ∙ flag_same (codes "sweep") rows t.sweep refl h.sweep_is),
         flag_found (codes "why") (defaulted runs rows) t.why
-            (flag_same (codes "why") one t.why refl (flag_other (codes "sweep") (codes "why") rows refl ∙ h.why)),
+            (flag_same (codes "why") one t.why refl (flag_other (codes "sweep") (codes "why") rows refl ∙ h.why_is)),
       );
-      start = first_found (codes "start") (defaulted runs rows) (start_told t.numbers)
+      start = first_found (codes "start") (defaulted runs rows) (start_of t.numbers)
           (flag_other (codes "why") (codes "start") one refl ∙ flag_other (codes "sweep") (codes "start") rows refl
-          ∙ h.start);
-      count = first_found (codes "count") (defaulted runs rows) (count_told t.numbers)
+          ∙ h.start_is);
+      count = first_found (codes "count") (defaulted runs rows) (count_of t.numbers)
           (flag_other (codes "why") (codes "count") one refl ∙ flag_other (codes "sweep") (codes "count") rows refl
-          ∙ h.count);
+          ∙ h.count_is);
     })
-has_told gens rows t h = subst (λ (r : List Row). HasTold gens r t) (sym (defaulted_is gens rows)) (record {
-  markers = first_found (codes "markers") rows t.markers h.markers;
+has_given gens rows t h = subst (λ (r : List Row). HasGiven gens r t) (sym (defaulted_is gens rows)) (record {
+  markers = first_found (codes "markers") rows t.markers h.markers_are;
   flags = tt;
-  start = first_found (codes "start") rows (start_told t.numbers) h.start;
-  count = first_found (codes "count") rows (count_told t.numbers) h.count;
+  start = first_found (codes "start") rows (start_of t.numbers) h.start_is;
+  count = first_found (codes "count") rows (count_of t.numbers) h.count_is;
 })
-has_told bare rows t h = record {
-  markers = first_found (codes "markers") rows t.markers h.markers;
+has_given bare rows t h = record {
+  markers = first_found (codes "markers") rows t.markers h.markers_are;
   flags = tt;
-  start = first_found (codes "start") rows (start_told t.numbers) h.start;
-  count = first_found (codes "count") rows (count_told t.numbers) h.count;
+  start = first_found (codes "start") rows (start_of t.numbers) h.start_is;
+  count = first_found (codes "count") rows (count_of t.numbers) h.count_is;
 }
 
 -- ---- what comes after the last word refuses nothing
@@ -192,35 +189,30 @@ matches_are runs name words = refl
 matches_are gens name words = refl
 matches_are bare name words = refl
 
-holds_nothing : Holds [] nothing_told
-holds_nothing = record {
-  markers = refl;
-  sweep = refl;
-  why = refl;
-  start = refl;
-  count = refl;
-}
+holds_nothing : Holds [] nothing_given
+holds_nothing =
+    record { markers_are = refl; sweep_is = refl; why_is = refl; start_is = refl; count_is = refl }
 
 -- clap takes the words where they tell something, and finds it
-abbrev TakesTold : Form → Text → List Text → Option Told → Type 0
-TakesTold form name words None = fault_of (app_named form name) words ≢ []
-TakesTold form name words (Some t) = (fault_of (app_named form name) words ≡ [])
-    × HasTold form (matches_of (app_named form name) words) t
+abbrev TakesGiven : Form → Text → List Text → Option Given → Type 0
+TakesGiven form name words None = fault_of (app_named form name) words ≢ []
+TakesGiven form name words (Some t) = (fault_of (app_named form name) words ≡ [])
+    × HasGiven form (matches_of (app_named form name) words) t
 
 nothing_pending : (form : Form) → settle_fault (rules form) false nothing_held ≡ []
 nothing_pending form = refl
 
-taken : (form : Form) (name : Text) (words : List Text) → TakesTold form name words (told_by form (drop 1 words))
-taken form name words = by_told (told_by form (drop 1 words))
-    (tells form name (drop 1 words) false nothing_told [] None no_number false refl refl
+taken : (form : Form) (name : Text) (words : List Text) → TakesGiven form name words (given_by form (drop 1 words))
+taken form name words = by_told (given_by form (drop 1 words))
+    (tells form name (drop 1 words) false nothing_given [] None no_number false refl refl
     (nothing_pending form, holds_nothing, refl))
   where
-    by_told : (o : Option Told) → TellsAs form name (standing [] None idle 1 false) (drop 1 words) o
-        → TakesTold form name words o
+    by_told : (o : Option Given) → TellsAs form name (standing [] None idle 1 false) (drop 1 words) o
+        → TakesGiven form name words o
     by_told None h = λ e. h (sym (fault_is form name words) ∙ e)
     by_told (Some t) h = (
       fault_is form name words ∙ h.0,
-      subst (λ (r : List Row). HasTold form r t) (sym (matches_are form name words)) (has_told form _ t h.1),
+      subst (λ (r : List Row). HasGiven form r t) (sym (matches_are form name words)) (has_given form _ t h.1),
     )
 
 -- what is found in the words, by the command that clap knows
@@ -228,24 +220,23 @@ abbrev pub Finds : App → List Text → Option ArgMatches → Type 0
 Finds app words found = MatchOption found (fault_of app words ≢ []) (λ m. (fault_of app words ≡ [])
     × (rows_of (found_of m) ≡ matches_of app words))
 
-abbrev pub Answers : Form → Command → Option ArgMatches → Option Command → Type 0
-Answers form command found answer = MatchOption found (answer ≡ None)
-    (λ m. (t : Told) → HasTold form (rows_of (found_of m)) t → answer ≡ told_as form command t)
+abbrev pub Answers : Form → (Given → Option Command) → Option ArgMatches → Option Command → Type 0
+Answers form read found answer = MatchOption found (answer ≡ None)
+    (λ m. (t : Given) → HasGiven form (rows_of (found_of m)) t → answer ≡ read t)
 
 -- the answer is the command of the words
-pub answer_is : (form : Form) (command : Command) (name : Text) (app : App) (words : List Text)
+pub answer_is : (form : Form) (read : Given → Option Command) (name : Text) (app : App) (words : List Text)
     (found : Option ArgMatches) (answer : Option Command)
-    → app ≡ app_named form name → Finds app words found → Answers form command found answer
-    → answer ≡ option_and_then (given_as form command) (given_by (drop 1 words))
-answer_is form command name app words found answer is finds answers =
-    by_told found (subst (λ (a : App). Finds a words found) is finds) answers (told_by form (drop 1 words))
+    → app ≡ app_named form name → Finds app words found → Answers form read found answer
+    → answer ≡ option_and_then read (given_by form (drop 1 words))
+answer_is form read name app words found answer is finds answers =
+    by_given found (subst (λ (a : App). Finds a words found) is finds) answers (given_by form (drop 1 words))
     (taken form name words)
-    ∙ told_command form command (drop 1 words)
   where
-    by_told : (f : Option ArgMatches) → Finds (app_named form name) words f → Answers form command f answer
-        → (o : Option Told) → TakesTold form name words o → answer ≡ option_and_then (told_as form command) o
-    by_told None refused none None t = none
-    by_told None refused none (Some t) takes = absurd (refused takes.0)
-    by_told (Some m) found read None refuses = absurd (refuses found.0)
-    by_told (Some m) found read (Some t) takes =
-        read t (subst (λ (r : List Row). HasTold form r t) (sym found.1) takes.1)
+    by_given : (f : Option ArgMatches) → Finds (app_named form name) words f → Answers form read f answer
+        → (o : Option Given) → TakesGiven form name words o → answer ≡ option_and_then read o
+    by_given None refused none None t = none
+    by_given None refused none (Some t) takes = absurd (refused takes.0)
+    by_given (Some m) found reads None refuses = absurd (refuses found.0)
+    by_given (Some m) found reads (Some t) takes =
+        reads t (subst (λ (r : List Row). HasGiven form r t) (sym found.1) takes.1)

@@ -10,13 +10,13 @@ use Rattle.clap.specs.Faults.{settle_fault, walk_fault}
 use Rattle.clap.specs.declared.error.kind.ErrorKind.TheVariants as kind
 use Rattle.clap.specs.declared.builder.value_parser.Reading.TheVariants.{AsWritten}
 use Rattle.clap.specs.declared.parser.matches.ValueSource.TheVariants.{CommandLine}
-use Rattle.mk_commands.specs.Told.{Form, runs, gens, bare, Numbers, Told}
-use Rattle.mk_commands.proofs.Telling.{Said, ends, markers_said, sweep_said, why_said, unknown, plain, said, said_long}
-use Rattle.mk_commands.proofs.Telling.{markers_told, said_told, awaiting_told}
-use Rattle.mk_commands.proofs.Telling.{word_told, words_told, takes_markers}
+use Rattle.mk_commands.specs.Given.{Form, runs, gens, bare, takes_markers, Said, ends, markers_said, flag_said, unknown}
+use Rattle.mk_commands.specs.Given.{sweep_flag, why_flag, plain, said, Numbers, Given, with_markers, given_said}
+use Rattle.mk_commands.specs.Given.{given_awaited, given_with_word, with_words}
+use Rattle.mk_commands.proofs.Lexing.{no_value, said_long, says_long, says_dashed}
 use Rattle.mk_commands.proofs.Rows.{values_set}
 use Rattle.mk_commands.proofs.Walking.{View, is_ends, is_long, is_bundle, is_odd, is_plain, view, PassesBy}
-use Rattle.mk_commands.proofs.Walking.{plain_passes, odd_passes, long_is, long_says, bundle_is, bundle_stops}
+use Rattle.mk_commands.proofs.Walking.{plain_passes, odd_passes, long_is, bundle_is, bundle_stops}
 use Rattle.mk_commands.proofs.Walking.{long_stops, lost, goes_on, word_stops, rules, standing}
 use Rattle.mk_commands.proofs.Walking.{holding, position_of}
 use Rattle.mk_commands.proofs.Standing.{Holds, has_markers, holds_markers, IsAt}
@@ -26,48 +26,39 @@ use Rattle.mk_commands.proofs.OptionWords.{conflict_if, some_markers, is_none, F
 
 -- ---- a word where no number is awaited
 
-free_tells : (form : Form) (name word : Text) (words : List Text) (t : Told) (rows : List Row)
+free_tells : (form : Form) (name word : Text) (words : List Text) (t : Given) (rows : List Row)
     (p : Option (Text × List Text)) (ns : Numbers) (tr : Bool)
     → t.numbers ≡ ns → t.ended ≡ tr → IsAt false form t rows p → More form name words
     → TellsAs form name (standing rows p idle (position_of ns) tr) (word ∷ words)
-    (option_and_then (words_told form words) (word_told form t word))
+    (option_and_then (with_words form words) (given_with_word form t word))
 free_tells form name word words t rows p ns true is en i more =
-    subst (λ (o : Option Told). TellsAs form name (standing rows p idle (position_of ns) true) (word ∷ words)
-    (option_and_then (words_told form words) o))
+    subst (λ (o : Option Given). TellsAs form name (standing rows p idle (position_of ns) true) (word ∷ words)
+    (option_and_then (with_words form words) o))
     (sym (told_ended form t word i.2 en)) (number_tells form name word words t rows p ns true is en i refl refl more)
 free_tells form name word words t rows p ns false is en i more = on_view (view word)
   where
-    by_said : (x : Said) → said word ≡ x → Free form name word words rows p ns (said_told form x word t)
-        → Free form name word words rows p ns (word_told form t word)
+    by_said : (x : Said) → said word ≡ x → Free form name word words rows p ns (given_said form x word t)
+        → Free form name word words rows p ns (given_with_word form t word)
     by_said x s h = subst (Free form name word words rows p ns)
-        (sym (told_free form t word i.2 en ∙ ap (λ (y : Said). said_told form y word t) s)) h
+        (sym (told_free form t word i.2 en ∙ ap (λ (y : Said). given_said form y word t) s)) h
 
-    passing : PassesBy form name word → Free form name word words rows p ns (word_told form t word)
+    passing : PassesBy form name word → Free form name word words rows p ns (given_with_word form t word)
     passing by = by_said plain by.says
         (number_tells form name word words t rows p ns false is en i (by.met idle (position_of ns) rows p)
         (by.passes idle rows p) more)
 
-    held : Holds (settled_rows (rules form) p rows) (record t { ended = true })
-    held = record {
-      markers = i.1.markers;
-      sweep = i.1.sweep;
-      why = i.1.why;
-      start = i.1.start;
-      count = i.1.count;
-    }
-
-    on_view : View word → Free form name word words rows p ns (word_told form t word)
+    on_view : View word → Free form name word words rows p ns (given_with_word form t word)
     on_view (is_ends e) =
         let step = goes_on form name (standing rows p idle (position_of ns) false) word words (holding rows p)
         (trailing (position_of ns)) refl
         (rw e refl) (rw e refl) refl in
         by_said ends (rw e refl)
         (moved form name (standing rows p idle (position_of ns) false) _ (word ∷ words) words _ step
-        (more false (record t { ended = true }) rows p ns true is refl (i.0, held, i.2)))
+        (more false (record t { ended = true }) rows p ns true is refl i))
     on_view (is_long id v e l) =
-        by_said (said_long id v) (long_says word id v e l)
-        (long_go form name word words t rows p ns is en i e more id v l)
-    on_view (is_bundle flags x e l s c) = by_said unknown (rw (e, l, s, c) refl)
+        by_said (said_long id v) (says_long word id v e l)
+        (long_go form name word words rows p ns t is en i e more id v l)
+    on_view (is_bundle flags x e l s c) = by_said unknown (says_dashed word e l ∙ rw (s, c) refl)
         (word_stops form name (standing rows p idle (position_of ns) false) word words refl
         (λ g. bundle_stops form x flags (holding rows p) c refl
         (sym (bundle_is form name word flags idle (holding rows p) e l s) ∙ g)))
@@ -105,32 +96,35 @@ awaited_rows runs k x rows = refl
 awaited_rows gens k x rows = refl
 awaited_rows bare k x rows = cc
 
-never_long : (id : Text) (v : Option Text) (word : Text) (t : Told) → awaiting_told (said_long id v) word t ≡ None
-never_long id v word t = on_markers (bytes_eq (codes "markers") id) (bytes_eq (codes "sweep") id)
-    (bytes_eq (codes "why") id)
+-- An option with a name is no number.
+never_long : (id : Text) (v : Option Text) (word : Text) (t : Given) → given_awaited (said_long id v) word t ≡ None
+never_long id v word t =
+    by_tests v (bytes_eq (codes "markers") id) (bytes_eq (codes "sweep") id) (bytes_eq (codes "why") id)
   where
-    on_markers : (m s w : Bool)
-        → awaiting_told (if m then markers_said v else if s then sweep_said v else if w then why_said v
-        else unknown) word t ≡ None
-    on_markers true s w = refl
-    on_markers false true w = refl
-    on_markers false false true = refl
-    on_markers false false false = refl
+    by_tests : (u : Option Text) (m s w : Bool)
+        → given_awaited (if m then markers_said u else if s then no_value u (flag_said sweep_flag)
+        else if w then no_value u (flag_said why_flag) else unknown) word t ≡ None
+    by_tests u true s w = refl
+    by_tests None false true w = refl
+    by_tests (Some x) false true w = refl
+    by_tests None false false true = refl
+    by_tests (Some x) false false true = refl
+    by_tests u false false false = refl
 
-awaiting_tells : (form : Form) (name word : Text) (words : List Text) (t : Told) (rows : List Row) (ns : Numbers)
+awaiting_tells : (form : Form) (name word : Text) (words : List Text) (t : Given) (rows : List Row) (ns : Numbers)
     → t.numbers ≡ ns → Holds rows t → t.awaits ≡ true → t.ended ≡ false → takes_markers form ≡ true
     → More form name words
     → TellsAs form name (standing rows (Some (codes "markers", [])) (option (codes "markers")) (position_of ns) false)
     (word ∷ words)
-    (option_and_then (words_told form words) (word_told form t word))
+    (option_and_then (with_words form words) (given_with_word form t word))
 awaiting_tells form name word words t rows ns is h a en k more = on_view (view word)
   where
-    by_told : (o : Option Told) → awaiting_told (said word) word t ≡ o → Awaiting form name word words rows ns o
-        → Awaiting form name word words rows ns (word_told form t word)
+    by_told : (o : Option Given) → given_awaited (said word) word t ≡ o → Awaiting form name word words rows ns o
+        → Awaiting form name word words rows ns (given_with_word form t word)
     by_told o s g = subst (Awaiting form name word words rows ns) (sym (told_awaiting form t word a ∙ s)) g
 
     by_markers : PassesBy form name word → (b : Bool) → is_some t.markers ≡ b
-        → Awaiting form name word words rows ns (markers_told t word)
+        → Awaiting form name word words rows ns (with_markers t word)
     by_markers by true has =
         let step = goes_on form name (at_value rows ns) word words (holding rows (Some (codes "markers", word ∷ [])))
         (next idle) refl
@@ -148,7 +142,7 @@ awaiting_tells form name word words t rows ns is h a en k more = on_view (view w
         ∙ awaited_met form k word rows)
         (by.passes (option (codes "markers")) rows (Some (codes "markers", []))) refl in
         let fresh = has_markers rows t h ∙ has in
-        let u : Told = record t { markers = Some word; awaits = false } in
+        let u : Given = record t { markers = Some word; awaits = false } in
         let held : Holds (settled_rows (rules form) (Some (codes "markers", word ∷ [])) rows) u =
         subst (λ (r : List Row). Holds r u)
         (sym (awaited_rows form k word rows
@@ -159,11 +153,11 @@ awaiting_tells form name word words t rows ns is h a en k more = on_view (view w
         (more false u rows (Some (codes "markers", word ∷ [])) ns false is en
         (awaited form k rows false fresh word, held, refl)))
 
-    passing : PassesBy form name word → Awaiting form name word words rows ns (word_told form t word)
-    passing by = by_told (markers_told t word) (ap (λ (x : Said). awaiting_told x word t) by.says)
+    passing : PassesBy form name word → Awaiting form name word words rows ns (given_with_word form t word)
+    passing by = by_told (with_markers t word) (ap (λ (x : Said). given_awaited x word t) by.says)
         (by_markers by (is_some t.markers) refl)
 
-    on_view : View word → Awaiting form name word words rows ns (word_told form t word)
+    on_view : View word → Awaiting form name word words rows ns (given_with_word form t word)
     on_view (is_ends e) =
         let step = goes_on form name (at_value rows ns) word words (holding rows (Some (codes "markers", [])))
         (trailing (position_of ns)) refl
@@ -174,11 +168,13 @@ awaiting_tells form name word words t rows ns is h a en k more = on_view (view w
     on_view (is_long id v e l) =
         let kinds = long_is form name word id v (option (codes "markers")) (position_of ns)
         (holding rows (Some (codes "markers", []))) e l in
-        by_told None (ap (λ (x : Said). awaiting_told x word t) (long_says word id v e l) ∙ never_long id v word t)
+        by_told None (ap (λ (x : Said). given_awaited x word t) (says_long word id v e l) ∙ never_long id v word t)
         (word_stops form name (at_value rows ns) word words refl
         (λ g. long_stops (rules form) (arg_by_long (rules form) id) v (holding rows (Some (codes "markers", [])))
         (none_awaited form k rows) (sym kinds.1 ∙ g)))
-    on_view (is_bundle flags x e l s c) = by_told None (rw (e, l, s, c) refl)
+    on_view (is_bundle flags x e l s c) =
+        let says : said word ≡ unknown = says_dashed word e l ∙ rw (s, c) refl in
+        by_told None (ap (λ (y : Said). given_awaited y word t) says)
         (word_stops form name (at_value rows ns) word words refl
         (λ g. bundle_stops form x flags (holding rows (Some (codes "markers", []))) c refl
         (sym (bundle_is form name word flags (option (codes "markers")) (holding rows (Some (codes "markers", []))) e l
@@ -208,8 +204,8 @@ tells form name (word ∷ words) = one_more (tells form name words)
     one_more more true t rows p ns tr is en i =
         subst (λ (q : Option (Text × List Text)). TellsAs form name
         (standing rows q (option (codes "markers")) (position_of ns) tr) (word ∷ words)
-        (words_told form (word ∷ words) t)) (sym i.0)
+        (with_words form (word ∷ words) t)) (sym i.0)
         (subst (λ (r : Bool). TellsAs form name
         (standing rows (Some (codes "markers", [])) (option (codes "markers")) (position_of ns) r) (word ∷ words)
-        (words_told form (word ∷ words) t)) (sym i.3 ∙ en)
+        (with_words form (word ∷ words) t)) (sym i.3 ∙ en)
         (awaiting_tells form name word words t rows ns is i.1 i.2 i.3 i.4 more))

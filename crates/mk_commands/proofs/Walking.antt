@@ -17,11 +17,9 @@ use Rattle.clap.specs.Faults.{step_fault, turn_fault, walk_fault, word_fault, sh
 use Rattle.clap.specs.declared.error.kind.ErrorKind.TheVariants as kind
 use Rattle.clap.proofs.FaultLemmas.{fault_ends}
 use Rattle.clap.proofs.WalkLemmas.{bundle_ends}
-use Rattle.mk_commands.specs.Told.{Form, runs, gens, bare, Numbers, no_number, one_number, two_numbers}
-use Rattle.mk_commands.specs.Told.{rules_of, app_named, markers_rule, flag_rule}
-use Rattle.mk_commands.specs.Told.{positional_rule}
-use Rattle.mk_commands.proofs.Telling.{plain, said}
-use Rattle.mk_commands.proofs.Telling.{said_long}
+use Rattle.mk_commands.specs.Given.{Form, runs, gens, bare, Numbers, no_number, one_number, two_numbers, plain, said}
+use Rattle.mk_commands.specs.Told.{rules_of, app_named, markers_rule, flag_rule, positional_rule}
+use Rattle.mk_commands.proofs.Lexing.{says_dashed}
 
 -- ---- the commands as clap builds them
 
@@ -225,7 +223,7 @@ pub record PassesBy (form : Form) (name : Text) (word : Text) : Type 0 where
 pub plain_passes : (form : Form) (name word : Text) → bytes_eq word (codes "--") ≡ false → long_of word ≡ None
     → short_of word ≡ None → PassesBy form name word
 plain_passes form name word e l s = record {
-  says = rw (e, l, s) refl;
+  says = says_dashed word e l ∙ rw s refl;
   met = λ waiting position rows p. rw (no_subcommand waiting word, e, l, s) refl;
   passes = λ waiting rows p. rw (no_subcommand waiting word, e, l, s) refl;
 }
@@ -234,7 +232,7 @@ pub odd_passes : (form : Form) (name word flags : Text) → bytes_eq word (codes
     → short_of word ≡ Some flags
     → slice_get (chars flags) 0 ≡ None → PassesBy form name word
 odd_passes form name word flags e l s x = record {
-  says = rw (e, l, s, x) refl;
+  says = says_dashed word e l ∙ rw (s, x) refl;
   met = λ waiting position rows p. rw (no_subcommand waiting word, e, l, s)
       (rw (sym (bundle_ends (rules form) (length flags) flags 0 no_flag (holding rows p) (sym x))) refl);
   passes = λ waiting rows p. rw (no_subcommand waiting word, e, l, s)
@@ -252,10 +250,6 @@ long_is form name word id v waiting position h e l = (
   rw (no_subcommand waiting word, e, l) refl,
   rw (no_subcommand waiting word, e, l, shape_rules form name, again_not form name) refl,
 )
-
-pub long_says : (word id : Text) (v : Option Text) → bytes_eq word (codes "--") ≡ false → long_of word ≡ Some (id, v)
-    → said word ≡ said_long id v
-long_says word id v e l = rw (e, l) refl
 
 pub bundle_is : (form : Form) (name word flags : Text) (waiting : Waiting) (h : Held)
     → bytes_eq word (codes "--") ≡ false → long_of word ≡ None → short_of word ≡ Some flags

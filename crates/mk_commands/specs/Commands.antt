@@ -1,49 +1,61 @@
 -- The commands of the words.
-use Rattle.std.specs.Prelude.{ℕ, ◌≤◌, ◌&&◌, ◌||◌, nat_lt, nat_le, List, [], ◌∷◌, Option, Some, None, is_some, unwrap_or}
+use Rattle.std.specs.Prelude.{ℕ, Bool, ◌≤◌, ◌&&◌, ◌||◌, nat_lt, nat_le, List, [], ◌∷◌, Option, Some, None}
 use Rattle.std.specs.Prelude.{option_and_then, if◌then◌else◌}
 use Rattle.std.specs.Str.{bytes_eq}
 use lib.Chars.{codes}
+use Rattle.mk_script.specs.Names.{number_of_word}
 use Rattle.mk_commands.specs.declared.commands.Command.{Command}
 use Rattle.mk_commands.specs.declared.commands.Command.TheVariants.{OnText, Gen}
 use Rattle.mk_commands.specs.declared.commands.TextCommand.{TextCommand}
 use Rattle.mk_commands.specs.declared.commands.TextCommand.TheVariants.{Run, Check, Print, Replay, Trace}
-use Rattle.mk_commands.specs.Given.{Given, given_by}
+use Rattle.mk_commands.specs.Given.{Given, Numbers, no_number, one_number, two_numbers, runs, gens, bare, given_by}
 
 -- the number of markers, 0 to 8, and 0 where none is given
-abbrev pub markers_of : Given → Option ℕ
-markers_of g = if nat_le (unwrap_or g.markers 0) 8 then Some (unwrap_or g.markers 0) else None
+abbrev pub markers_of : Option (List ℕ) → Option ℕ
+markers_of None = Some 0
+markers_of (Some digits) = option_and_then (λ n. if nat_le n 8 then Some n else None) (number_of_word digits)
 
 -- A sweep goes with no markers.
-abbrev pub run_with : Given → ℕ → Option Command
-run_with g markers =
-    if is_some g.start || (g.sweep && nat_lt 0 markers) then None
-    else Some (OnText (Run (record { markers = markers; sweep = g.sweep; why = g.why })))
+abbrev pub run_with : Bool → Bool → ℕ → Option Command
+run_with sweep why markers = if sweep && nat_lt 0 markers then None
+    else Some (OnText (Run (record { markers = markers; sweep = sweep; why = why })))
 
 abbrev pub run_of : Given → Option Command
-run_of g = option_and_then (run_with g) (markers_of g)
+run_of g = option_and_then (run_with g.sweep g.why) (markers_of g.markers)
 
--- a command that takes no option and no further word
-abbrev pub alone_of : Command → Given → Option Command
-alone_of command g = if is_some g.markers || g.sweep || g.why || is_some g.start then None else Some command
+abbrev pub start_of : Numbers → Option (List ℕ)
+start_of no_number = None
+start_of (one_number start) = Some start
+start_of (two_numbers start count) = Some start
 
-abbrev pub gen_with : Given → ℕ → ℕ → ℕ → Option Command
-gen_with g markers start count =
-    if g.sweep || g.why || nat_lt count 48 || nat_lt 3000000 count then None
+abbrev pub count_of : Numbers → Option (List ℕ)
+count_of (two_numbers start count) = Some count
+count_of _ = None
+
+abbrev pub gen_with : ℕ → ℕ → ℕ → Option Command
+gen_with markers start count = if nat_lt count 48 || nat_lt 3000000 count then None
     else Some (Gen (record { start = start; count = count; markers = markers }))
 
-abbrev pub gen_of : Given → Option Command
-gen_of g =
-    option_and_then (λ markers. option_and_then (λ start. option_and_then (gen_with g markers start) g.count) g.start)
-    (markers_of g)
+abbrev pub gen_from : Option ℕ → Option ℕ → Option ℕ → Option Command
+gen_from markers start count =
+    option_and_then (λ m. option_and_then (λ s. option_and_then (gen_with m s) count) start) markers
 
-abbrev pub command_named : List ℕ → Given → Option Command
-command_named name g =
-    if bytes_eq name (codes "run") then run_of g
-    else if bytes_eq name (codes "check") then alone_of (OnText Check) g
-    else if bytes_eq name (codes "print") then alone_of (OnText Print) g
-    else if bytes_eq name (codes "replay") then alone_of (OnText Replay) g
-    else if bytes_eq name (codes "gen") then gen_of g
-    else if bytes_eq name (codes "trace") then alone_of (OnText Trace) g
+abbrev pub gen_of : Given → Option Command
+gen_of g = gen_from (markers_of g.markers) (option_and_then number_of_word (start_of g.numbers))
+    (option_and_then number_of_word (count_of g.numbers))
+
+-- a command that takes no option and no further word
+abbrev pub alone_of : TextCommand → Given → Option Command
+alone_of command g = Some (OnText command)
+
+abbrev pub command_named : List ℕ → List (List ℕ) → Option Command
+command_named name words =
+    if bytes_eq name (codes "run") then option_and_then run_of (given_by runs words)
+    else if bytes_eq name (codes "check") then option_and_then (alone_of Check) (given_by bare words)
+    else if bytes_eq name (codes "print") then option_and_then (alone_of Print) (given_by bare words)
+    else if bytes_eq name (codes "replay") then option_and_then (alone_of Replay) (given_by bare words)
+    else if bytes_eq name (codes "gen") then option_and_then gen_of (given_by gens words)
+    else if bytes_eq name (codes "trace") then option_and_then (alone_of Trace) (given_by bare words)
     else None
 
 -- There are no more markers than a heap has.
@@ -63,4 +75,4 @@ IsWithin (Gen request) = (request.count ≤ 3000000) × (request.markers ≤ 8)
 -- `--markers=K` may stand anywhere after the name. After `--` there are no options.
 abbrev pub command_of : List (List ℕ) → Option Command
 command_of [] = None
-command_of (name ∷ words) = option_and_then (command_named name) (given_by words)
+command_of (name ∷ words) = command_named name words

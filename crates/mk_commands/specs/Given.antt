@@ -1,19 +1,77 @@
--- The words after a command's name.
-use Rattle.std.specs.Prelude.{ℕ, Bool, true, false, List, [], ◌∷◌, ◌==◌, if◌then◌else◌, Option, Some, None, is_some}
-use Rattle.std.specs.Prelude.{option_and_then, option_map}
-use Rattle.std.specs.Str.{bytes_eq}
+-- The words after a command's name, by what the command takes.
+use Rattle.std.specs.Prelude.{ℕ, Bool, true, false, List, [], ◌∷◌, ◌==◌, if◌then◌else◌, slice_get}
+use Rattle.std.specs.Prelude.{Option, Some, None, is_some, option_and_then, option_map}
+use Rattle.std.specs.Str.{bytes_eq, chars}
 use lib.Chars.{codes}
-use Rattle.mk_script.specs.Names.{number_of_word}
+
+-- what a command takes: options, numbers, or nothing
+pub data Form : Type 0 where
+  runs : Form
+  gens : Form
+  bare : Form
+
+abbrev pub takes_markers : Form → Bool
+takes_markers bare = false
+takes_markers _ = true
+
+abbrev pub takes_flags : Form → Bool
+takes_flags runs = true
+takes_flags _ = false
+
+-- an option without a value
+pub data Flag : Type 0 where
+  sweep_flag : Flag
+  why_flag : Flag
+
+-- what a word says: that no option comes after it, an option, one that there isn't, or no option
+pub data Said : Type 0 where
+  ends : Said
+  markers_said : Option (List ℕ) → Said
+  flag_said : Flag → Said
+  unknown : Said
+  plain : Said
+
+-- what stands after this front of a word, if the word has it
+abbrev pub behind : List ℕ → List ℕ → Option (List ℕ)
+behind [] word = Some word
+behind (x ∷ front) [] = None
+behind (x ∷ front) (y ∷ word) = if y == x then behind front word else None
+
+-- A word that begins with `-`, and has a character more, is an option.
+abbrev pub said_dashed : Option (List ℕ) → Said
+said_dashed None = plain
+said_dashed (Some rest) = if is_some (slice_get (chars rest) 0) then unknown else plain
+
+abbrev pub said_other : Option (List ℕ) → List ℕ → Said
+said_other (Some digits) word = markers_said (Some digits)
+said_other None word = said_dashed (behind (codes "-") word)
+
+abbrev pub said : List ℕ → Said
+said word =
+    if bytes_eq word (codes "--") then ends
+    else if bytes_eq word (codes "--markers") then markers_said None
+    else if bytes_eq word (codes "--sweep") then flag_said sweep_flag
+    else if bytes_eq word (codes "--why") then flag_said why_flag
+    else said_other (behind (codes "--markers=") word) word
+
+-- the words that are no options
+pub data Numbers : Type 0 where
+  no_number : Numbers
+  one_number : List ℕ → Numbers
+  two_numbers : List ℕ → List ℕ → Numbers
+
+-- There is no command with more than two.
+abbrev pub more_numbers : Numbers → List ℕ → Option Numbers
+more_numbers no_number word = Some (one_number word)
+more_numbers (one_number start) word = Some (two_numbers start word)
+more_numbers (two_numbers start count) word = None
 
 -- what words of the command line give, as far as they were read
 pub record Given : Type 0 where
-  -- the number after `--markers`
-  pub markers : Option ℕ
+  pub markers : Option (List ℕ)
   pub sweep : Bool
   pub why : Bool
-  -- the first two words that are no options, which are numbers
-  pub start : Option ℕ
-  pub count : Option ℕ
+  pub numbers : Numbers
   -- `--markers` was read, and its number comes next
   pub awaits : Bool
   -- `--` was read: no option comes after it
@@ -21,59 +79,56 @@ pub record Given : Type 0 where
 
 abbrev pub nothing_given : Given
 nothing_given =
-    record { markers = None; sweep = false; why = false; start = None; count = None; awaits = false; ended = false }
+    record { markers = None; sweep = false; why = false; numbers = no_number; awaits = false; ended = false }
 
 -- Each option is given at most once.
 
 abbrev pub with_markers : Given → List ℕ → Option Given
-with_markers g digits =
-    if is_some g.markers then None
-    else option_map (λ n. record g { markers = Some n; awaits = false }) (number_of_word digits)
+with_markers g digits = if is_some g.markers then None else Some (record g { markers = Some digits; awaits = false })
 
-abbrev pub with_sweep : Given → Option Given
-with_sweep g = if g.sweep then None else Some (record g { sweep = true })
+abbrev pub markers_by : Option (List ℕ) → Given → Option Given
+markers_by None g = Some (record g { awaits = true })
+markers_by (Some digits) g = with_markers g digits
 
-abbrev pub with_why : Given → Option Given
-with_why g = if g.why then None else Some (record g { why = true })
+abbrev pub has_flag : Flag → Given → Bool
+has_flag sweep_flag g = g.sweep
+has_flag why_flag g = g.why
 
--- There is no command with more than two numbers.
-abbrev pub with_next : Given → ℕ → Option Given
-with_next g n =
-    if is_some g.start then (if is_some g.count then None else Some (record g { count = Some n }))
-    else Some (record g { start = Some n })
+abbrev pub set_flag : Flag → Given → Given
+set_flag sweep_flag g = record g { sweep = true }
+set_flag why_flag g = record g { why = true }
 
--- A word that is no option is a number. One that begins with `-` is none.
-abbrev pub with_number : Given → List ℕ → Option Given
-with_number g digits = option_and_then (with_next g) (number_of_word digits)
+abbrev pub with_flag : Flag → Given → Option Given
+with_flag flag g = if has_flag flag g then None else Some (set_flag flag g)
 
--- what stands after this front of a word, if the word has it
-abbrev pub behind : List ℕ → List ℕ → Option (List ℕ)
-behind [] word = Some word
-behind (x ∷ front) [] = None
-behind (x ∷ front) (y ∷ word) = if x == y then behind front word else None
+abbrev pub with_number : Form → Given → List ℕ → Option Given
+with_number gens g word = option_map (λ numbers. record g { numbers = numbers }) (more_numbers g.numbers word)
+with_number _ g word = None
 
-abbrev pub with_other : Given → List ℕ → Option (List ℕ) → Option Given
-with_other g word (Some digits) = with_markers g digits
-with_other g word None = with_number g word
+-- what a word gives, where it may be an option
+abbrev pub given_said : Form → Said → List ℕ → Given → Option Given
+given_said form ends word g = Some (record g { ended = true })
+given_said form (markers_said v) word g = if takes_markers form then markers_by v g else None
+given_said form (flag_said flag) word g = if takes_flags form then with_flag flag g else None
+given_said form unknown word g = None
+given_said form plain word g = with_number form g word
+
+-- The number of `--markers` is no option.
+abbrev pub given_awaited : Said → List ℕ → Given → Option Given
+given_awaited plain word g = with_markers g word
+given_awaited _ word g = None
 
 -- one word more, which may be of no form at its place
-abbrev pub given_with_word : Given → List ℕ → Option Given
-given_with_word g word =
-    if g.awaits then with_markers g word
-    else if g.ended then with_number g word
-    else if bytes_eq word (codes "--") then Some (record g { ended = true })
-    else if bytes_eq word (codes "--markers") then Some (record g { awaits = true })
-    else if bytes_eq word (codes "--sweep") then with_sweep g
-    else if bytes_eq word (codes "--why") then with_why g
-    else with_other g word (behind (codes "--markers=") word)
-
-abbrev pub with_words : List (List ℕ) → Given → Option Given
-with_words [] g = Some g
-with_words (word ∷ words) g = option_and_then (with_words words) (given_with_word g word)
+abbrev pub given_with_word : Form → Given → List ℕ → Option Given
+given_with_word form g word =
+    if g.awaits then given_awaited (said word) word g
+    else if g.ended then with_number form g word
+    else given_said form (said word) word g
 
 -- `--markers` is not the last word, but for what stands after `--`.
-abbrev pub whole : Given → Option Given
-whole g = if g.awaits then None else Some g
+abbrev pub with_words : Form → List (List ℕ) → Given → Option Given
+with_words form [] g = if g.awaits then None else Some g
+with_words form (word ∷ words) g = option_and_then (with_words form words) (given_with_word form g word)
 
-abbrev pub given_by : List (List ℕ) → Option Given
-given_by words = option_and_then whole (with_words words nothing_given)
+abbrev pub given_by : Form → List (List ℕ) → Option Given
+given_by form words = with_words form words nothing_given

@@ -1,7 +1,8 @@
 //! What clap is told of each command, and what it finds.
 ghost use Rattle.std.specs.Prelude.{◌≡◌, ◌≢◌, [], IfOk, MatchOption, false, map, string_bytes, true};
 ghost use Rattle.clap.specs.Words.{app_of, fault_of, found_of, is_simple_and_free, matches_of, rows_of, rule_of};
-ghost use Rattle.mk_commands.specs.Told.{app_named, bare, flag_rule, gens, markers_rule, positional_rule, runs};
+ghost use Rattle.mk_commands.specs.Given.{bare, gens, runs};
+ghost use Rattle.mk_commands.specs.Told.{app_named, flag_rule, markers_rule, positional_rule};
 
 use clap::error::ErrorKind;
 use clap::{Arg, ArgAction, ArgMatches, Command};

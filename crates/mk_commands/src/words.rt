@@ -1,12 +1,13 @@
 //! The commands of the words.
-ghost use Rattle.std.specs.Prelude.{◌≡◌, IfOk, IfSome, drop, map, option_and_then, string_bytes};
-ghost use Rattle.clap.specs.Words.{first_value, found_of, rows_of};
+ghost use Rattle.std.specs.Prelude.{Bool, ◌≡◌, IfOk, IfSome, Some, drop, map, option_and_then, string_bytes};
+ghost use Rattle.clap.specs.Matches.{one_text};
+ghost use Rattle.clap.specs.Values.{bool_text};
+ghost use Rattle.clap.specs.Words.{first_value, found_of};
 ghost use lib.Chars.{codes};
 ghost use Rattle.mk_script.specs.Names.{number_of_word};
-ghost use Rattle.mk_commands.specs.Commands.{IsWithin, alone_of, command_of, gen_of, run_of};
-ghost use Rattle.mk_commands.specs.Given.{given_by};
-ghost use Rattle.mk_commands.specs.declared.commands.Command.TheVariants.{OnText};
-ghost use Rattle.mk_commands.specs.Told.{HasTold, Told, gen_read, gens, markers_read, run_read, runs};
+ghost use Rattle.mk_commands.specs.Commands.{IsWithin, alone_of, command_of, gen_from, gen_of, markers_of};
+ghost use Rattle.mk_commands.specs.Commands.{run_of, run_with};
+ghost use Rattle.mk_commands.specs.Given.{bare, gens, given_by, runs};
 
 use crate::arguments::{alone, found_in, generate, run};
 use crate::commands::{Command, Options, Request, TextCommand};
@@ -17,7 +18,7 @@ use std::alloc::Global;
 
 /// How many markers are asked for: 0 to 8, and 0 where nothing is said.
 fn markers_in(matches: &ArgMatches<'_>) -> Option<u64>
-    ensures { result ≡ markers_read (first_value (found_of matches.now) (codes "markers")) }
+    ensures { result ≡ markers_of (first_value (found_of matches.now) (codes "markers")) }
 {
     let Some(digits) = matches.get_str("markers") else {
         return Some(0);
@@ -27,7 +28,9 @@ fn markers_in(matches: &ArgMatches<'_>) -> Option<u64>
 }
 
 fn run_in(matches: &ArgMatches<'_>) -> Option<Command>
-    ensures { (t : Told) → HasTold runs (rows_of (found_of matches.now)) t → result ≡ run_read t }
+    ensures { (sweep why : Bool) → one_text (found_of matches.now) (codes "sweep") ≡ Some (bool_text sweep)
+        → one_text (found_of matches.now) (codes "why") ≡ Some (bool_text why)
+        → result ≡ option_and_then (run_with sweep why) (markers_of (first_value (found_of matches.now) (codes "markers"))) }
 {
     let markers = markers_in(matches)?;
     let sweep = matches.get_flag("sweep");
@@ -51,7 +54,9 @@ fn number_in(matches: &ArgMatches<'_>, name: &str) -> Option<u64>
 }
 
 fn gen_in(matches: &ArgMatches<'_>) -> Option<Command>
-    ensures { (t : Told) → HasTold gens (rows_of (found_of matches.now)) t → result ≡ gen_read t }
+    ensures { result ≡ gen_from (markers_of (first_value (found_of matches.now) (codes "markers")))
+        (option_and_then number_of_word (first_value (found_of matches.now) (codes "start")))
+        (option_and_then number_of_word (first_value (found_of matches.now) (codes "count"))) }
 {
     let markers = markers_in(matches)?;
     let start = number_in(matches, "start")?;
@@ -73,7 +78,7 @@ fn run_by<'a>(
     words: &'a [String],
 ) -> Result<Option<Command>, NoMemory>
     ensures { IfOk result (λ answer. answer ≡ option_and_then run_of
-        (given_by (drop 1 (map (λ word. string_bytes word) words.entry.now)))) }
+        (given_by runs (drop 1 (map (λ word. string_bytes word) words.entry.now)))) }
 {
     let found = found_in(run(alloc, name)?, words)?;
     match &found {
@@ -89,7 +94,7 @@ fn gen_by<'a>(
     words: &'a [String],
 ) -> Result<Option<Command>, NoMemory>
     ensures { IfOk result (λ answer. answer ≡ option_and_then gen_of
-        (given_by (drop 1 (map (λ word. string_bytes word) words.entry.now)))) }
+        (given_by gens (drop 1 (map (λ word. string_bytes word) words.entry.now)))) }
 {
     let found = found_in(generate(alloc, name)?, words)?;
     match &found {
@@ -105,8 +110,8 @@ fn alone_by<'a>(
     name: &'a str,
     words: &'a [String],
 ) -> Result<Option<Command>, NoMemory>
-    ensures { IfOk result (λ answer. answer ≡ option_and_then (alone_of (OnText command))
-        (given_by (drop 1 (map (λ word. string_bytes word) words.entry.now)))) }
+    ensures { IfOk result (λ answer. answer ≡ option_and_then (alone_of command)
+        (given_by bare (drop 1 (map (λ word. string_bytes word) words.entry.now)))) }
 {
     let found = found_in(alone(alloc, name), words)?;
     match &found {

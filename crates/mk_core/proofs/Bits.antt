@@ -1,10 +1,9 @@
 -- Bits of words.
-use Rattle.std.proofs.Common.{◌≡◌, ℕ, ◌+◌, ◌^◌, ◌<◌, ◌≤◌, false, ap, arith}
-use Rattle.std.specs.Prelude.{◌==◌}
+use Rattle.std.proofs.Common.{◌≡◌, ℕ, ◌+◌, ◌^◌, ◌<◌, ◌≤◌, false, ap, arith, ◌==◌}
 use Rattle.std.proofs.Math.Pow.{pow_mono}
 use Rattle.std.proofs.lemmas.Bool.{ne_eqb}
 use Rattle.std.proofs.lemmas.Nat.Bits.{bit_at_above}
-use Rattle.mk_core.specs.Bits.{has_bit}
+use Rattle.mk_core.proofs.Vocabulary.{has_bit}
 
 -- a word has no bit after its last
 pub has_bit_past : (word k : ℕ) → word < 2 ^ 64 → 64 ≤ k → has_bit word k ≡ false

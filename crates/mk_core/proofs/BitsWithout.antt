@@ -1,7 +1,6 @@
 -- The bits that a word has and another hasn't.
 use Rattle.std.proofs.Common.{◌≡◌, ℕ, zero, suc, ◌-◌, ◌/◌, ◌%◌, ◌<◌, ◌≤◌, min, ◌&&◌, not, bit_and, refl, sym, ◌∙◌, ap}
-use Rattle.std.proofs.Common.{arith}
-use Rattle.std.specs.Prelude.{◌==◌}
+use Rattle.std.proofs.Common.{arith, ◌==◌}
 use Rattle.std.specs.Int.{bit_at}
 use Rattle.std.proofs.lemmas.Nat.{and_le_l}
 use Rattle.std.proofs.lemmas.Nat.Bits.{bit_at_and, bit_at_lowest, bit_at-suc, bit_at-lt, same_from_bits}

@@ -2,19 +2,12 @@
 use Rattle.std.proofs.Common.{◌≡◌, ℕ, ◌*◌, ◌/◌, ◌<◌, true, false, sym, ◌∙◌, ap, inl, inr, arith}
 use Rattle.std.specs.Prelude.{not, ◌==◌, Option, Some, None}
 use Rattle.std.proofs.lemmas.Bool.{not-true, cases_eq, and_parts, and_from, eqb-true, eq-eqb}
-use Rattle.mk_geom.specs.declared.addresses.Cell.{Cell}
-use Rattle.mk_geom.specs.declared.headers.Header.{Header}
-use Rattle.mk_geom.specs.declared.headers.Header.TheVariants.{Free, Block, LeafBlock, Run, LeafRun, Later}
-use Rattle.mk_geom.specs.Classes.{class_words_of, cells_of}
-use Rattle.mk_geom.specs.StorageWords.{cell_of_storage}
+use Rattle.mk_core.proofs.Vocabulary.{BeginsAtCell, Block, Cell, cell_of_storage, cells_made, cells_of, cells_under}
+use Rattle.mk_core.proofs.Vocabulary.{class_words_of, Config, first_word, Free, HasItsHeaders, Header, header_in}
+use Rattle.mk_core.proofs.Vocabulary.{IsSized, IsWithinLimits, Later, LeafBlock, LeafRun, object_placed}
+use Rattle.mk_core.proofs.Vocabulary.{PlacedAllocation, Run, stands_in, StandsOnHeap, storage_of, Words, words_made}
+use Rattle.mk_core.proofs.Vocabulary.{words_under}
 use Rattle.mk_geom.proofs.ClassTable.{cell_ends}
-use Rattle.mk_core.specs.declared.config.Config.{Config}
-use Rattle.mk_core.specs.Config.{IsWithinLimits}
-use Rattle.mk_core.specs.Words.{Words}
-use Rattle.mk_core.specs.Cells.{first_word, header_in, cells_under, words_under}
-use Rattle.mk_core.specs.ObjectHeaders.{IsSized, cells_made, words_made}
-use Rattle.mk_core.specs.Allocations.{PlacedAllocation, storage_of, stands_in}
-use Rattle.mk_core.specs.StandingAllocations.{object_placed, BeginsAtCell, StandsOnHeap, HasItsHeaders}
 use Rattle.mk_core.proofs.ObjectHeaders.{part_cells, part_words}
 use Rattle.mk_core.proofs.StandingAllocations.{placed_cell, first_page_shows, cells_begin}
 

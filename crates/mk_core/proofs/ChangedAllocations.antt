@@ -1,20 +1,16 @@
 -- Allocations that change one by one, and stay at their places.
 use Rattle.std.proofs.Common.{◌≡◌, ℕ, ◌+◌, ◌*◌, ◌/◌, ◌<◌, ◌≤◌, Bool, true, false, List, [], ◌∷◌, ◌++◌, map, length}
-use Rattle.std.proofs.Common.{get_or, refl, sym, ap, subst, ◌∙◌}
-use Rattle.std.specs.Prelude.{◌&&◌, not, if◌then◌else◌, Option, Some, None}
+use Rattle.std.proofs.Common.{get_or, refl, sym, ap, subst, ◌∙◌, ◌&&◌, not, if◌then◌else◌, Option, Some, None}
 use Rattle.std.proofs.Math.Bool.{and-false}
 use Rattle.std.proofs.Math.ListN.{get_or-map as get_or-map-default}
 use Rattle.std.proofs.Math.Seq.{get_or-append_seam}
 use Rattle.std.proofs.lemmas.List.{get_or_append_left}
-use Rattle.mk_never.specs.Types.{kinds_of, is_large}
-use Rattle.mk_geom.specs.declared.addresses.Cell.{Cell}
-use Rattle.mk_core.specs.declared.config.Config.{Config}
-use Rattle.mk_core.specs.Words.{Words, header_at}
-use Rattle.mk_core.specs.NewPlaces.{object_of, is_small_object, pages_made}
-use Rattle.mk_core.specs.ObjectHeaders.{words_made, IsHeaderOf}
-use Rattle.mk_core.specs.Allocations.{PlacedAllocation, never_granted, placed_at, stands_in, freed_where_it_stands}
-use Rattle.mk_core.specs.Allocations.{with_released, no_longer_fresh, storage_of, unreleased_storage}
-use Rattle.mk_core.specs.StandingAllocations.{object_placed, BeginsAtCell, StandsOnHeap, HasItsHeaders}
+use Rattle.mk_core.proofs.Vocabulary.{BeginsAtCell, Cell, Config, HasItsHeaders, header_at, is_small_object, IsHeaderOf}
+use Rattle.mk_core.proofs.Vocabulary.{kinds_of, never_granted, object_placed, pages_made, placed_at, PlacedAllocation}
+use Rattle.mk_core.proofs.Vocabulary.{stands_in, StandsOnHeap, storage_of, Words, words_made}
+use Rattle.mk_never.specs.Types.{is_large}
+use Rattle.mk_core.specs.NewPlaces.{object_of}
+use Rattle.mk_core.specs.Allocations.{freed_where_it_stands, with_released, no_longer_fresh, unreleased_storage}
 use Rattle.mk_core.proofs.Sizes.{large_is_not_small}
 use Rattle.mk_core.proofs.UnreleasedStorage.{unreleased_kept}
 

@@ -1,15 +1,12 @@
 -- What each condition says of an enabled event.
-use Rattle.std.proofs.Common.{◌≡◌, ℕ, Bool, true, false, refl, subst, arith}
-use Rattle.std.specs.Prelude.{◌&&◌, if◌then◌else◌}
-use Rattle.mk_core.specs.declared.config.Config.{Config}
-use Rattle.mk_core.specs.declared.events.Event.{Event}
+use Rattle.std.proofs.Common.{◌≡◌, ℕ, Bool, true, false, refl, subst, arith, ◌&&◌, if◌then◌else◌}
+use Rattle.mk_core.proofs.Vocabulary.{Config, Event, flight_of, IsEnabled, Moment, Seat}
 use Rattle.mk_core.specs.Words.{phase_of}
-use Rattle.mk_core.specs.Moments.{Moment, flight_of, marker_of, marker_at}
+use Rattle.mk_core.specs.Moments.{marker_of, marker_at}
 use Rattle.mk_core.specs.Order.{seat_exists, group_of, is_open_to, is_in_order}
 use Rattle.mk_core.specs.Ranges.{is_in_range, has_gates, has_phase}
-use Rattle.mk_core.specs.declared.events.Seat.{Seat}
 use Rattle.mk_core.specs.declared.events.Seat.TheVariants as seat
-use Rattle.mk_core.specs.Enabled.{marker_may, holder_may, meets_own, IsEnabled, MeetsAll, EnabledEventsMeetAll}
+use Rattle.mk_core.specs.Enabled.{marker_may, holder_may, meets_own, MeetsAll, EnabledEventsMeetAll}
 
 and_parts : (a b : Bool) → (a && b) ≡ true → (a ≡ true) × (b ≡ true)
 and_parts true true h = (refl, refl)

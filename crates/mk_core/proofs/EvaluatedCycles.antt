@@ -1,17 +1,14 @@
 -- Cycles in the schedules: their parts, their snapshots, and which marks sweep.
-use Rattle.std.proofs.Common.{◌≡◌, Bool, true, false, ◌||◌, List, [], ◌∷◌, drop, refl, sym}
+use Rattle.std.proofs.Common.{◌≡◌, Bool, true, false, ◌||◌, List, [], ◌∷◌, refl, sym}
 use Rattle.std.proofs.lemmas.Bool.{false≢true}
-use Rattle.mk_core.specs.declared.config.Config.{Config}
-use Rattle.mk_core.specs.declared.events.Event.{Event}
+use Rattle.mk_core.proofs.Vocabulary.{Config, Event, flight_of, is_begin, is_close, is_end, is_release, left, placed_at}
+use Rattle.mk_core.proofs.Vocabulary.{World, world_behind}
 use Rattle.mk_core.specs.Bounded.{all_below}
 use Rattle.mk_core.specs.Cells.{pointed_cell}
 use Rattle.mk_core.specs.StopConditions.{may_turn_black}
-use Rattle.mk_core.specs.Moments.{flight_of}
-use Rattle.mk_core.specs.Allocations.{placed_at}
-use Rattle.mk_core.specs.History.{World, world_behind, left_from, left}
-use Rattle.mk_core.specs.Cycles.{is_begin, is_close, is_release, is_end, Cycle, IsInSnapshot, sweeps, NoneSweepsFrom}
-use Rattle.mk_core.specs.Cycles.{NoneSweeps}
-use Rattle.mk_core.proofs.EventsAt.{event_number, at_number}
+use Rattle.mk_core.specs.History.{left_from}
+use Rattle.mk_core.specs.Cycles.{Cycle, IsInSnapshot, sweeps, NoneSweepsFrom, NoneSweeps}
+use Rattle.mk_core.proofs.EventsAt.{event_number, at_number, next_of, cycle_of}
 use Rattle.mk_core.proofs.Schedules.{by, c0, m0, host, one_page, pointer_page, freed_after_begin}
 use Rattle.mk_core.proofs.Schedules.{blackened_before_the_move}
 use Rattle.mk_core.proofs.MoreSchedules.{exchanged, before_the_sweep, sweeping_mark}
@@ -20,31 +17,15 @@ use Rattle.mk_core.proofs.MoreSchedules.{exchanged, before_the_sweep, sweeping_m
 unfoldable pub first_cycle : Cycle freed_after_begin
 unfolding by c0 host freed_after_begin event_number at_number
 first_cycle =
-    record {
-      releasing = record {
-        marking = record {
-          begin = at_number is_begin 15 freed_after_begin refl refl;
-          close = record { at = at_number is_close 15 (drop 16 freed_after_begin) refl refl; none_before = refl };
-        };
-        release = record { at = at_number is_release 0 (drop 32 freed_after_begin) refl refl; none_before = refl };
-      };
-      end = record { at = at_number is_end 3 (drop 33 freed_after_begin) refl refl; none_before = refl };
-    }
+    cycle_of (at_number is_begin 15 _ refl refl) (next_of (at_number is_close 15 _ refl refl) refl)
+    (next_of (at_number is_release 0 _ refl refl) refl) (next_of (at_number is_end 3 _ refl refl) refl)
 
 -- The second is begun and ended in one turn.
 unfoldable pub second_cycle : Cycle freed_after_begin
 unfolding by c0 host freed_after_begin event_number at_number
 second_cycle =
-    record {
-      releasing = record {
-        marking = record {
-          begin = at_number is_begin 42 freed_after_begin refl refl;
-          close = record { at = at_number is_close 1 (drop 43 freed_after_begin) refl refl; none_before = refl };
-        };
-        release = record { at = at_number is_release 0 (drop 45 freed_after_begin) refl refl; none_before = refl };
-      };
-      end = record { at = at_number is_end 4 (drop 46 freed_after_begin) refl refl; none_before = refl };
-    }
+    cycle_of (at_number is_begin 42 _ refl refl) (next_of (at_number is_close 1 _ refl refl) refl)
+    (next_of (at_number is_release 0 _ refl refl) refl) (next_of (at_number is_end 4 _ refl refl) refl)
 
 -- The first object is freed before the first cycle begins, and the second only after that.
 pub in_first_snapshot : IsInSnapshot one_page first_cycle.releasing.marking 0
@@ -68,22 +49,8 @@ not_in_second_snapshot h = false≢true h
 unfoldable pub cycle_of_blackened : Cycle blackened_before_the_move
 unfolding by c0 m0 host blackened_before_the_move event_number at_number
 cycle_of_blackened =
-    record {
-      releasing = record {
-        marking = record {
-          begin = at_number is_begin 34 blackened_before_the_move refl refl;
-          close = record {
-            at = at_number is_close 50 (drop 35 blackened_before_the_move) refl refl;
-            none_before = refl;
-          };
-        };
-        release = record {
-          at = at_number is_release 0 (drop 86 blackened_before_the_move) refl refl;
-          none_before = refl;
-        };
-      };
-      end = record { at = at_number is_end 0 (drop 87 blackened_before_the_move) refl refl; none_before = refl };
-    }
+    cycle_of (at_number is_begin 34 _ refl refl) (next_of (at_number is_close 50 _ refl refl) refl)
+    (next_of (at_number is_release 0 _ refl refl) refl) (next_of (at_number is_end 0 _ refl refl) refl)
 
 pub in_snapshot_of_blackened : IsInSnapshot pointer_page cycle_of_blackened.releasing.marking 2
 unfolding by c0 m0 host all_below pointed_cell may_turn_black pointer_page blackened_before_the_move left_from

@@ -1,19 +1,14 @@
 -- What headers and freed bits tell after a small history: the one freed bit is that of the third object.
 use Rattle.std.proofs.Common.{◌≡◌, ℕ, zero, suc, ◌+◌, ◌*◌, ◌<◌, Bool, true, false, [], ◌∷◌, Some, refl, sym, ◌∙◌, ap}
-use Rattle.std.proofs.Common.{ap₂, subst, inl, inr, arith}
-use Rattle.std.specs.Prelude.{◌==◌}
+use Rattle.std.proofs.Common.{ap₂, subst, inl, inr, arith, ◌==◌}
 use Rattle.std.proofs.lemmas.Bool.{false≢true, cases_eq, eqb-true, eqb-false, ltb-true}
 use Rattle.std.proofs.lemmas.Nat.Bits.{bit_at-zero, bit_at-pow_other}
-use Rattle.mk_geom.specs.declared.addresses.Cell.{Cell}
-use Rattle.mk_geom.specs.declared.headers.Header.TheVariants.{Later}
+use Rattle.mk_core.proofs.Vocabulary.{Cell, cells_under, first_moment, has_bit, header_at, header_in, Later, left}
+use Rattle.mk_core.proofs.Vocabulary.{placed_at, stands_in, World, zero_words_of}
 use Rattle.mk_geom.specs.Headers.{IsHeaderWord}
-use Rattle.mk_core.specs.Bits.{has_bit}
 use Rattle.mk_core.specs.Bounded.{all_below}
-use Rattle.mk_core.specs.Words.{header_at, zero_words_of}
-use Rattle.mk_core.specs.Moments.{first_moment}
-use Rattle.mk_core.specs.Cells.{pointed_cell, header_in, cells_under, is_freed}
-use Rattle.mk_core.specs.Allocations.{placed_at, stands_in}
-use Rattle.mk_core.specs.History.{World, left_from, left}
+use Rattle.mk_core.specs.Cells.{pointed_cell, is_freed}
+use Rattle.mk_core.specs.History.{left_from}
 use Rattle.mk_core.specs.Readings.{IsTaken, WordsTellWhatStands}
 use Rattle.mk_core.proofs.SmallCycles.{small, three_objects}
 

@@ -1,27 +1,23 @@
 -- Each of the schedules is a history.
 use Rattle.std.proofs.Common.{◌≡◌, ℕ, ◌+◌, ◌<◌, ◌≤◌, le_refl, arith, Bool, true, false, ◌==◌, if◌then◌else◌, eqb-true}
-use Rattle.std.proofs.Common.{refl}
-use Rattle.std.proofs.Common.{List, [], ◌∷◌, ◌++◌, length, replicate, drop, Option, Some, None}
+use Rattle.std.proofs.Common.{refl, List, [], ◌∷◌, ◌++◌, length, replicate, drop, Option, Some, None, All}
 use Rattle.std.proofs.lemmas.List.{length-replicate}
 use Rattle.std.proofs.lemmas.List.Elements.{All-nil, All-cons, All-replicate}
-use Rattle.std.specs.Prelude.{All}
+use Rattle.mk_core.proofs.Vocabulary.{Config, Event, failing, first_world, IsHistory, IsWithinLimits, NeverState, Op}
+use Rattle.mk_core.proofs.Vocabulary.{To, World, world_behind}
 use Rattle.mk_never.specs.declared.types.Kind.{Kind}
-use Rattle.mk_never.specs.declared.types.Kind.TheVariants.{Num, To}
-use Rattle.mk_core.specs.declared.config.Config.{Config}
-use Rattle.mk_core.specs.declared.events.Event.{Event}
-use Rattle.mk_core.specs.Config.{IsBetween, IsWithinLimits, IsAmong, IsTypeAmong}
-use Rattle.mk_core.specs.Enabled.{failing}
-use Rattle.mk_core.specs.History.{left_from, calls_from, World, first_world, world_behind, AreEnabledFrom, AreEnabled}
-use Rattle.mk_core.specs.History.{IsHistory, CallsAreAdmitted}
+use Rattle.mk_never.specs.declared.types.Kind.TheVariants.{Num}
+use Rattle.mk_never.specs.Admitted.{IsAdmitted, IsCaller, OperandsAreInRange, AccessIsAdmitted, StoreIsAdmitted}
+use Rattle.mk_core.specs.Config.{IsBetween, IsAmong, IsTypeAmong}
+use Rattle.mk_core.specs.History.{left_from, calls_from, AreEnabledFrom, AreEnabled, CallsAreAdmitted}
 use Rattle.mk_core.specs.Bounded.{all_below}
 use Rattle.mk_core.specs.Cells.{pointed_cell}
 use Rattle.mk_core.specs.StopConditions.{may_turn_black}
 use Rattle.mk_core.proofs.Schedules.{by, c0, m0, host, fault, first_fault, one_page, pointer_page, freed_after_begin}
-use Rattle.mk_core.proofs.Schedules.{blackened_before_the_move}
-use Rattle.mk_core.proofs.Schedules.{no_fault_freed, no_fault_blackened}
+use Rattle.mk_core.proofs.Schedules.{blackened_before_the_move, no_fault_freed, no_fault_blackened}
 use Rattle.mk_core.proofs.MoreSchedules.{two_pages, full_then_reused, a_quarter_and_all, granted_while_marking}
-use Rattle.mk_core.proofs.MoreSchedules.{exchanged, before_the_sweep, sweeping_mark}
-use Rattle.mk_core.proofs.MoreSchedules.{no_fault_full, no_fault_quarter, no_fault_marking, no_fault_swept}
+use Rattle.mk_core.proofs.MoreSchedules.{exchanged, before_the_sweep, sweeping_mark, no_fault_full, no_fault_quarter}
+use Rattle.mk_core.proofs.MoreSchedules.{no_fault_marking, no_fault_swept}
 use Rattle.mk_core.proofs.EventsAt.{◌and◌}
 use Rattle.mk_core.proofs.HistoryParts.{earlier_part_is_history}
 
@@ -102,152 +98,99 @@ pointer_page_limits =
     small_limits 1 1 pointer_page.types (omega arith, omega arith) (omega arith, omega arith) (omega arith)
     (one_type pointer_page.types (To 0 0 ∷ Num ∷ []) ((omega arith, omega arith), pointer_and_number))
 
+pub admitted : {globals : List ℕ} {n : NeverState} {caller : ℕ} {op : Op} → IsCaller n caller → OperandsAreInRange n op
+    → AccessIsAdmitted n caller op → StoreIsAdmitted globals n caller op → IsAdmitted globals n caller op
+admitted caller range access store =
+    record { of_a_caller = caller; in_range = range; access = access; store = store }
+
+pub history : (c : Config) (es : List Event) → IsWithinLimits c → first_fault c es ≡ None → CallsAreAdmitted c es
+    → IsHistory c es
+history c es limits no_fault calls =
+    record { within_limits = limits; enabled = enabled c es no_fault; admitted = calls }
+
 freed_is_admitted : CallsAreAdmitted one_page freed_after_begin
 unfolding by c0 host all_below pointed_cell one_page freed_after_begin left_from calls_from
 freed_is_admitted =
-    record { of_a_caller = omega arith; in_range = (omega arith, omega arith); access = tt; store = tt }
-    and record { of_a_caller = omega arith; in_range = (omega arith, omega arith); access = tt; store = tt }
-    and record { of_a_caller = omega arith; in_range = omega arith; access = tt; store = refl }
-    and record { of_a_caller = omega arith; in_range = omega arith; access = tt; store = refl }
-    and record { of_a_caller = omega arith; in_range = omega arith; access = tt; store = tt }
-    and record { of_a_caller = omega arith; in_range = omega arith; access = tt; store = tt }
-    and record { of_a_caller = omega arith; in_range = (omega arith, omega arith); access = tt; store = tt }
-    and record { of_a_caller = omega arith; in_range = omega arith; access = tt; store = tt } and tt
+    admitted (omega arith) (omega arith) tt tt
+    and admitted (omega arith) (omega arith) tt tt
+    and admitted (omega arith) (omega arith) tt refl
+    and admitted (omega arith) (omega arith) tt refl
+    and admitted (omega arith) (omega arith) tt tt
+    and admitted (omega arith) (omega arith) tt tt
+    and admitted (omega arith) (omega arith) tt tt
+    and admitted (omega arith) (omega arith) tt tt and tt
 
 pub freed_is_history : IsHistory one_page freed_after_begin
-freed_is_history =
-    record {
-      within_limits = one_page_limits;
-      enabled = enabled one_page freed_after_begin no_fault_freed;
-      admitted = freed_is_admitted;
-    }
+freed_is_history = history one_page freed_after_begin one_page_limits no_fault_freed freed_is_admitted
 
 blackened_is_admitted : CallsAreAdmitted pointer_page blackened_before_the_move
 unfolding by c0 m0 host all_below pointed_cell may_turn_black pointer_page blackened_before_the_move left_from
     calls_from
 blackened_is_admitted =
-    record { of_a_caller = omega arith; in_range = (omega arith, omega arith); access = tt; store = tt }
-    and record { of_a_caller = omega arith; in_range = (omega arith, omega arith); access = tt; store = tt }
-    and record { of_a_caller = omega arith; in_range = (omega arith, omega arith); access = tt; store = tt }
-    and record {
-      of_a_caller = omega arith;
-      in_range = (omega arith, omega arith);
-      access = (omega arith, refl);
-      store = (omega arith, (refl, refl));
-    }
-    and record { of_a_caller = omega arith; in_range = omega arith; access = (omega arith, refl); store = tt }
-    and record { of_a_caller = omega arith; in_range = omega arith; access = tt; store = refl }
-    and record { of_a_caller = omega arith; in_range = omega arith; access = tt; store = tt }
-    and record {
-      of_a_caller = omega arith;
-      in_range = (omega arith, omega arith);
-      access = (omega arith, refl);
-      store = tt;
-    }
-    and record {
-      of_a_caller = omega arith;
-      in_range = (omega arith, omega arith);
-      access = (omega arith, refl);
-      store = (omega arith, (refl, refl));
-    }
-    and record {
-      of_a_caller = omega arith;
-      in_range = (omega arith, omega arith);
-      access = (omega arith, refl);
-      store = (omega arith, tt);
-    }
-    and record { of_a_caller = omega arith; in_range = omega arith; access = tt; store = tt }
-    and record {
-      of_a_caller = omega arith;
-      in_range = (omega arith, omega arith);
-      access = (omega arith, refl);
-      store = tt;
-    }
-    and record { of_a_caller = omega arith; in_range = omega arith; access = (omega arith, refl); store = tt } and tt
+    admitted (omega arith) (omega arith) tt tt
+    and admitted (omega arith) (omega arith) tt tt
+    and admitted (omega arith) (omega arith) tt tt
+    and admitted (omega arith) (omega arith) (omega arith, refl) (omega arith, (refl, refl))
+    and admitted (omega arith) (omega arith) (omega arith, refl) tt
+    and admitted (omega arith) (omega arith) tt refl
+    and admitted (omega arith) (omega arith) tt tt
+    and admitted (omega arith) (omega arith) (omega arith, refl) tt
+    and admitted (omega arith) (omega arith) (omega arith, refl) (omega arith, (refl, refl))
+    and admitted (omega arith) (omega arith) (omega arith, refl) (omega arith, tt)
+    and admitted (omega arith) (omega arith) tt tt
+    and admitted (omega arith) (omega arith) (omega arith, refl) tt
+    and admitted (omega arith) (omega arith) (omega arith, refl) tt and tt
 
 pub blackened_is_history : IsHistory pointer_page blackened_before_the_move
 blackened_is_history =
-    record {
-      within_limits = pointer_page_limits;
-      enabled = enabled pointer_page blackened_before_the_move no_fault_blackened;
-      admitted = blackened_is_admitted;
-    }
+    history pointer_page blackened_before_the_move pointer_page_limits no_fault_blackened blackened_is_admitted
 
 full_is_admitted : CallsAreAdmitted one_page full_then_reused
 unfolding by c0 all_below pointed_cell may_turn_black one_page full_then_reused left_from calls_from
 full_is_admitted =
-    record { of_a_caller = omega arith; in_range = (omega arith, omega arith); access = tt; store = tt }
-    and record { of_a_caller = omega arith; in_range = (omega arith, omega arith); access = tt; store = tt }
-    and record { of_a_caller = omega arith; in_range = omega arith; access = tt; store = refl }
-    and record { of_a_caller = omega arith; in_range = (omega arith, omega arith); access = tt; store = tt }
-    and record { of_a_caller = omega arith; in_range = omega arith; access = tt; store = tt }
-    and record { of_a_caller = omega arith; in_range = (omega arith, omega arith); access = tt; store = tt } and tt
+    admitted (omega arith) (omega arith) tt tt
+    and admitted (omega arith) (omega arith) tt tt
+    and admitted (omega arith) (omega arith) tt refl
+    and admitted (omega arith) (omega arith) tt tt
+    and admitted (omega arith) (omega arith) tt tt
+    and admitted (omega arith) (omega arith) tt tt and tt
 
 pub full_is_history : IsHistory one_page full_then_reused
-full_is_history =
-    record {
-      within_limits = one_page_limits;
-      enabled = enabled one_page full_then_reused no_fault_full;
-      admitted = full_is_admitted;
-    }
+full_is_history = history one_page full_then_reused one_page_limits no_fault_full full_is_admitted
 
 quarter_is_admitted : CallsAreAdmitted two_pages a_quarter_and_all
 unfolding by c0 all_below pointed_cell two_pages a_quarter_and_all left_from calls_from
 quarter_is_admitted =
-    record { of_a_caller = omega arith; in_range = (omega arith, omega arith); access = tt; store = tt }
-    and record { of_a_caller = omega arith; in_range = (omega arith, omega arith); access = tt; store = tt }
-    and record { of_a_caller = omega arith; in_range = omega arith; access = tt; store = refl }
-    and record { of_a_caller = omega arith; in_range = omega arith; access = tt; store = refl } and tt
+    admitted (omega arith) (omega arith) tt tt
+    and admitted (omega arith) (omega arith) tt tt
+    and admitted (omega arith) (omega arith) tt refl
+    and admitted (omega arith) (omega arith) tt refl and tt
 
 pub quarter_is_history : IsHistory two_pages a_quarter_and_all
-quarter_is_history =
-    record {
-      within_limits = two_pages_limits;
-      enabled = enabled two_pages a_quarter_and_all no_fault_quarter;
-      admitted = quarter_is_admitted;
-    }
+quarter_is_history = history two_pages a_quarter_and_all two_pages_limits no_fault_quarter quarter_is_admitted
 
 marking_is_admitted : CallsAreAdmitted two_pages granted_while_marking
 unfolding by c0 all_below pointed_cell two_pages granted_while_marking left_from calls_from
 marking_is_admitted =
-    record { of_a_caller = omega arith; in_range = (omega arith, omega arith); access = tt; store = tt }
-    and record { of_a_caller = omega arith; in_range = omega arith; access = tt; store = refl }
-    and record { of_a_caller = omega arith; in_range = (omega arith, omega arith); access = tt; store = tt }
+    admitted (omega arith) (omega arith) tt tt
+    and admitted (omega arith) (omega arith) tt refl
+    and admitted (omega arith) (omega arith) tt tt
     and tt
 
 pub marking_is_history : IsHistory two_pages granted_while_marking
-marking_is_history =
-    record {
-      within_limits = two_pages_limits;
-      enabled = enabled two_pages granted_while_marking no_fault_marking;
-      admitted = marking_is_admitted;
-    }
+marking_is_history = history two_pages granted_while_marking two_pages_limits no_fault_marking marking_is_admitted
 
 swept_is_admitted : CallsAreAdmitted pointer_page (before_the_sweep ++ sweeping_mark ∷ [])
 unfolding by c0 host all_below pointed_cell pointer_page exchanged before_the_sweep sweeping_mark left_from calls_from
 swept_is_admitted =
-    record { of_a_caller = omega arith; in_range = (omega arith, omega arith); access = tt; store = tt }
-    and record { of_a_caller = omega arith; in_range = (omega arith, omega arith); access = tt; store = tt }
-    and record {
-      of_a_caller = omega arith;
-      in_range = (omega arith, omega arith, omega arith);
-      access = (omega arith, refl);
-      store = (omega arith, (tt, (refl, refl)));
-    }
-    and record {
-      of_a_caller = omega arith;
-      in_range = (omega arith, omega arith, omega arith);
-      access = (omega arith, refl);
-      store = (omega arith, (tt, (refl, refl)));
-    } and tt
+    admitted (omega arith) (omega arith) tt tt
+    and admitted (omega arith) (omega arith) tt tt
+    and admitted (omega arith) (omega arith) (omega arith, refl) (omega arith, (tt, (refl, refl)))
+    and admitted (omega arith) (omega arith) (omega arith, refl) (omega arith, (tt, (refl, refl))) and tt
 
 pub swept_is_history : IsHistory pointer_page (before_the_sweep ++ sweeping_mark ∷ [])
 swept_is_history =
-    record {
-      within_limits = pointer_page_limits;
-      enabled = enabled pointer_page (before_the_sweep ++ sweeping_mark ∷ []) no_fault_swept;
-      admitted = swept_is_admitted;
-    }
+    history pointer_page (before_the_sweep ++ sweeping_mark ∷ []) pointer_page_limits no_fault_swept swept_is_admitted
 
 -- so is its earlier part
 pub exchanged_is_history : IsHistory pointer_page exchanged

@@ -1,25 +1,23 @@
 -- The schedule of a large object, evaluated: answers, counts, places and what is due.
 use Rattle.std.proofs.Common.{◌≡◌, ◌<◌, arith, true, false, List, [], ◌∷◌, replicate, take, Some, refl, ap}
 use Rattle.std.proofs.lemmas.Bool.{false≢true}
+use Rattle.mk_core.proofs.Vocabulary.{answered, calls, Event, is_give, IsHistory, IsWithinLimits, left}
+use Rattle.mk_core.proofs.Vocabulary.{StandsAtItsPlace}
 use Rattle.mk_never.specs.declared.types.Kind.TheVariants.{Num}
 use Rattle.mk_never.specs.declared.operations.Op.TheVariants as op
 use Rattle.mk_core.specs.declared.events.Answer.TheVariants as answer
 use Rattle.mk_core.specs.declared.events.Step.TheVariants as step
-use Rattle.mk_core.specs.declared.events.Event.{Event}
 use Rattle.mk_core.specs.Bounded.{all_below}
 use Rattle.mk_core.specs.Cells.{pointed_cell}
-use Rattle.mk_core.specs.Config.{IsWithinLimits}
 use Rattle.mk_core.specs.Allocations.{unreleased_storage, held_by_allocations, fresh_words_of, place_among_allocations}
 use Rattle.mk_core.specs.Allocations.{FitsAmongAllocations}
-use Rattle.mk_core.specs.Decided.{answered}
-use Rattle.mk_core.specs.History.{left_from, left, calls_from, calls, CallsAreAdmitted, IsHistory, RefinesNever}
-use Rattle.mk_core.specs.Cycles.{is_give}
+use Rattle.mk_core.specs.History.{left_from, calls_from, CallsAreAdmitted, RefinesNever}
 use Rattle.mk_core.specs.Counts.{TalliesAreTidy, IsTidy, IsDue}
-use Rattle.mk_core.specs.Placement.{NoneServesFrom, StandsAtItsPlace}
-use Rattle.mk_core.proofs.EventsAt.{◌and◌, events_from, event_number, turn_number, AtEach, Also, at_each}
+use Rattle.mk_core.specs.Placement.{NoneServesFrom}
+use Rattle.mk_core.proofs.EventsAt.{◌and◌, event_number, turn_number, served, stands_at, AtEach, Also, at_each}
 use Rattle.mk_core.proofs.Schedules.{by, c0}
 use Rattle.mk_core.proofs.LargeSchedule.{three_pages, large_freed, no_fault_large}
-use Rattle.mk_core.proofs.EvaluatedHistories.{enabled, small_limits, numbers, one_type}
+use Rattle.mk_core.proofs.EvaluatedHistories.{small_limits, numbers, one_type, admitted, history}
 
 three_pages_limits : IsWithinLimits three_pages
 unfolding three_pages
@@ -30,21 +28,16 @@ three_pages_limits =
 large_is_admitted : CallsAreAdmitted three_pages large_freed
 unfolding by c0 all_below pointed_cell three_pages large_freed left_from calls_from
 large_is_admitted =
-    record { of_a_caller = omega arith; in_range = (omega arith, omega arith); access = tt; store = tt }
-    and record { of_a_caller = omega arith; in_range = omega arith; access = (omega arith, refl); store = tt }
-    and record { of_a_caller = omega arith; in_range = omega arith; access = tt; store = refl }
-    and record { of_a_caller = omega arith; in_range = omega arith; access = (omega arith, refl); store = tt }
-    and record { of_a_caller = omega arith; in_range = omega arith; access = tt; store = refl }
-    and record { of_a_caller = omega arith; in_range = omega arith; access = tt; store = tt }
-    and record { of_a_caller = omega arith; in_range = (omega arith, omega arith); access = tt; store = tt } and tt
+    admitted (omega arith) (omega arith) tt tt
+    and admitted (omega arith) (omega arith) (omega arith, refl) tt
+    and admitted (omega arith) (omega arith) tt refl
+    and admitted (omega arith) (omega arith) (omega arith, refl) tt
+    and admitted (omega arith) (omega arith) tt refl
+    and admitted (omega arith) (omega arith) tt tt
+    and admitted (omega arith) (omega arith) tt tt and tt
 
 pub large_is_history : IsHistory three_pages large_freed
-large_is_history =
-    record {
-      within_limits = three_pages_limits;
-      enabled = enabled three_pages large_freed no_fault_large;
-      admitted = large_is_admitted;
-    }
+large_is_history = history three_pages large_freed three_pages_limits no_fault_large large_is_admitted
 
 -- A New, a write and a Free are done. The read is refused as one of an unmapped object, and the second Free as one too
 -- many.
@@ -86,25 +79,12 @@ fits_behind = refl
 
 -- So the second object stands where the first one stood. The headers that the cycle frees serve nothing.
 pub large_grant : StandsAtItsPlace three_pages (take 53 large_freed) c0
-unfolding by c0 all_below pointed_cell three_pages large_freed left_from unreleased_storage events_from event_number
+unfolding by c0 all_below pointed_cell three_pages large_freed left_from unreleased_storage event_number
     turn_number NoneServesFrom
 large_grant =
-    record {
-      turn = turn_number three_pages c0 34 (Some (op.New 1 0 false)) (take 53 large_freed) refl refl refl;
-      first = record {
-        before = events_from 35 15 large_freed;
-        event = event_number 50 large_freed;
-        behind = events_from 51 2 large_freed;
-        is = refl;
-        none_before = refl and refl and refl and refl and refl and refl and refl and refl and refl and refl and refl and
-            refl
-            and refl and refl and refl and tt;
-        serves = refl;
-      };
-      place = record { page = 0; index = 0; carve = true };
-      fits = refl;
-      base = refl;
-    }
+    stands_at (turn_number three_pages c0 34 (Some (op.New 1 0 false)) (take 53 large_freed) refl refl refl)
+    (served _ 15 refl (refl and refl and refl and refl and refl and refl and refl and refl and refl and refl and refl and refl and refl and refl and refl and tt) refl)
+    (record { page = 0; index = 0; carve = true }) refl refl
 
 pub large_is_tidy : IsTidy three_pages large_freed
 unfolding by c0 all_below pointed_cell three_pages large_freed left_from calls_from AtEach Also

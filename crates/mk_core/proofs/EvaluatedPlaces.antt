@@ -1,19 +1,17 @@
 -- Places in the schedules: what fits, where each object is granted, and where a New is refused.
 use Rattle.std.proofs.Common.{◌≡◌, Bool, true, false, List, [], take, Some, refl, ap}
 use Rattle.std.proofs.lemmas.Bool.{false≢true}
+use Rattle.mk_core.proofs.Vocabulary.{Event, is_begin, is_close, is_end, is_release, left, StandsAtItsPlace, Step}
 use Rattle.mk_never.specs.declared.operations.Op.TheVariants as op
-use Rattle.mk_core.specs.declared.events.Step.{Step}
 use Rattle.mk_core.specs.declared.events.Step.TheVariants as step
-use Rattle.mk_core.specs.declared.events.Event.{Event}
 use Rattle.mk_core.specs.Bounded.{all_below}
 use Rattle.mk_core.specs.Cells.{pointed_cell}
 use Rattle.mk_core.specs.StopConditions.{may_turn_black}
 use Rattle.mk_core.specs.Allocations.{unreleased_storage, place_among_allocations, FitsAmongAllocations}
-use Rattle.mk_core.specs.Cycles.{is_begin, is_close, is_release, is_end}
-use Rattle.mk_core.specs.History.{left_from, left}
-use Rattle.mk_core.specs.Placement.{NoneServesFrom, StandsAtItsPlace, GrantsStandAtTheirPlaces, FindsNoPlace}
-use Rattle.mk_core.specs.Placement.{FullsFitNowhere}
-use Rattle.mk_core.proofs.EventsAt.{events_from, event_number, at_number, turn_number, AtEach, Also, at_each}
+use Rattle.mk_core.specs.History.{left_from}
+use Rattle.mk_core.specs.Placement.{NoneServesFrom, GrantsStandAtTheirPlaces, FindsNoPlace, FullsFitNowhere}
+use Rattle.mk_core.proofs.EventsAt.{◌and◌, event_number, at_number, next_of, cycle_of, turn_number, served}
+use Rattle.mk_core.proofs.EventsAt.{stands_at, AtEach, Also, at_each}
 use Rattle.mk_core.proofs.Schedules.{by, c0, host, one_page, freed_after_begin}
 use Rattle.mk_core.proofs.MoreSchedules.{two_pages, full_then_reused, granted_while_marking}
 
@@ -39,61 +37,25 @@ is_grant _ = false
 -- The first object carves the page, and the second takes the cell beside it. The third is served only after the cycle
 -- in its turn: the `used` and the `head` of the cycle serve nothing. So it stands where the first one stood.
 pub first_grant : StandsAtItsPlace one_page (take 3 freed_after_begin) c0
-unfolding by c0 host all_below pointed_cell one_page freed_after_begin left_from unreleased_storage events_from
-    event_number at_number turn_number NoneServesFrom
+unfolding by c0 host all_below pointed_cell one_page freed_after_begin left_from unreleased_storage event_number
+    turn_number NoneServesFrom
 first_grant =
-    record {
-      turn = turn_number one_page c0 0 (Some (op.New 0 0 false)) (take 3 freed_after_begin) refl refl refl;
-      first = record {
-        before = [];
-        event = event_number 1 freed_after_begin;
-        behind = events_from 2 1 freed_after_begin;
-        is = refl;
-        none_before = tt;
-        serves = refl;
-      };
-      place = record { page = 0; index = 0; carve = true };
-      fits = refl;
-      base = refl;
-    }
+    stands_at (turn_number one_page c0 0 (Some (op.New 0 0 false)) (take 3 freed_after_begin) refl refl refl)
+    (served _ 0 refl tt refl) (record { page = 0; index = 0; carve = true }) refl refl
 
 pub second_grant : StandsAtItsPlace one_page (take 8 freed_after_begin) c0
-unfolding by c0 host all_below pointed_cell one_page freed_after_begin left_from unreleased_storage events_from
-    event_number at_number turn_number NoneServesFrom
+unfolding by c0 host all_below pointed_cell one_page freed_after_begin left_from unreleased_storage event_number
+    turn_number NoneServesFrom
 second_grant =
-    record {
-      turn = turn_number one_page c0 6 (Some (op.New 1 0 false)) (take 8 freed_after_begin) refl refl refl;
-      first = record {
-        before = [];
-        event = event_number 7 freed_after_begin;
-        behind = [];
-        is = refl;
-        none_before = tt;
-        serves = refl;
-      };
-      place = record { page = 0; index = 1; carve = false };
-      fits = refl;
-      base = refl;
-    }
+    stands_at (turn_number one_page c0 6 (Some (op.New 1 0 false)) (take 8 freed_after_begin) refl refl refl)
+    (served _ 0 refl tt refl) (record { page = 0; index = 1; carve = false }) refl refl
 
 pub third_grant : StandsAtItsPlace one_page (take 53 freed_after_begin) c0
-unfolding by c0 host all_below pointed_cell one_page freed_after_begin left_from unreleased_storage events_from
-    event_number at_number turn_number NoneServesFrom
+unfolding by c0 host all_below pointed_cell one_page freed_after_begin left_from unreleased_storage event_number
+    turn_number NoneServesFrom
 third_grant =
-    record {
-      turn = turn_number one_page c0 39 (Some (op.New 2 0 false)) (take 53 freed_after_begin) refl refl refl;
-      first = record {
-        before = events_from 40 11 freed_after_begin;
-        event = event_number 51 freed_after_begin;
-        behind = events_from 52 1 freed_after_begin;
-        is = refl;
-        none_before = (refl, (refl, (refl, (refl, (refl, (refl, (refl, (refl, (refl, (refl, (refl, tt)))))))))));
-        serves = refl;
-      };
-      place = record { page = 0; index = 0; carve = true };
-      fits = refl;
-      base = refl;
-    }
+    stands_at (turn_number one_page c0 39 (Some (op.New 2 0 false)) (take 53 freed_after_begin) refl refl refl)
+    (served _ 11 refl (refl and refl and refl and refl and refl and refl and refl and refl and refl and refl and refl and tt) refl) (record { page = 0; index = 0; carve = true }) refl refl
 
 pub grants_stand : GrantsStandAtTheirPlaces one_page freed_after_begin
 unfolding by c0 host freed_after_begin AtEach Also
@@ -103,47 +65,21 @@ grants_stand before e behind is grant =
 
 -- Where the phase is marking, the mark on the page's ten cells is what serves the object first.
 pub grant_while_marking : StandsAtItsPlace two_pages (take 16 granted_while_marking) c0
-unfolding by c0 all_below pointed_cell two_pages granted_while_marking left_from unreleased_storage events_from
-    event_number turn_number NoneServesFrom
+unfolding by c0 all_below pointed_cell two_pages granted_while_marking left_from unreleased_storage event_number
+    turn_number NoneServesFrom
 grant_while_marking =
-    record {
-      turn = turn_number two_pages c0 12 (Some (op.New 1 1 false)) (take 16 granted_while_marking) refl refl refl;
-      first = record {
-        before = [];
-        event = event_number 13 granted_while_marking;
-        behind = events_from 14 2 granted_while_marking;
-        is = refl;
-        none_before = tt;
-        serves = refl;
-      };
-      place = record { page = 1; index = 0; carve = true };
-      fits = refl;
-      base = refl;
-    }
+    stands_at (turn_number two_pages c0 12 (Some (op.New 1 1 false)) (take 16 granted_while_marking) refl refl refl)
+    (served _ 0 refl tt refl) (record { page = 1; index = 0; carve = true }) refl refl
 
 -- The refused New begins and ends a cycle in its turn. Both cells are still taken after it, so it doesn't fit.
 pub full : FindsNoPlace one_page (take 31 full_then_reused) c0
-unfolding by c0 all_below pointed_cell may_turn_black one_page full_then_reused left_from unreleased_storage events_from
-    event_number at_number turn_number
+unfolding by c0 all_below pointed_cell may_turn_black one_page full_then_reused left_from unreleased_storage event_number
+    at_number turn_number
 full =
     record {
       turn = turn_number one_page c0 16 (Some (op.New 2 0 false)) (take 31 full_then_reused) refl refl refl;
-      cycle = record {
-        releasing = record {
-          marking = record {
-            begin = at_number is_begin 2 (events_from 17 14 full_then_reused) refl refl;
-            close = record {
-              at = at_number is_close 7 (events_from 20 11 full_then_reused) refl refl;
-              none_before = refl;
-            };
-          };
-          release = record {
-            at = at_number is_release 0 (events_from 28 3 full_then_reused) refl refl;
-            none_before = refl;
-          };
-        };
-        end = record { at = at_number is_end 0 (events_from 29 2 full_then_reused) refl refl; none_before = refl };
-      };
+      cycle = cycle_of (at_number is_begin 2 _ refl refl) (next_of (at_number is_close 7 _ refl refl) refl)
+          (next_of (at_number is_release 0 _ refl refl) refl) (next_of (at_number is_end 0 _ refl refl) refl);
       no_fit = λ h. false≢true h;
     }
 

@@ -1,18 +1,16 @@
 -- What is to be shown at each event of a kind in a list, as a product of one part for each of them.
-use Rattle.std.proofs.Common.{◌≡◌, ℕ, ◌+◌, Bool, true, false, ◌&&◌, List, [], ◌∷◌, ◌++◌, take, drop, Option, sym, subst}
+use Rattle.std.proofs.Common.{◌≡◌, ℕ, ◌+◌, Bool, true, false, ◌&&◌, List, [], ◌∷◌, ◌++◌, take, drop, Option, Some, sym, subst}
 use Rattle.std.proofs.Common.{append-nil, append_assoc}
 use Rattle.std.specs.Prelude.{⊤, slice_index_or}
 use Rattle.std.specs.List.{list_any}
-use Rattle.mk_never.specs.declared.operations.Op.{Op}
-use Rattle.mk_core.specs.declared.config.Config.{Config}
-use Rattle.mk_core.specs.declared.events.Seat.{Seat}
+use Rattle.mk_core.proofs.Vocabulary.{base_made, Config, Event, flight_of, is_begin, is_close, is_end, is_give}
+use Rattle.mk_core.proofs.Vocabulary.{is_release, left, Op, Place, Seat, StandsAtItsPlace, Step}
 use Rattle.mk_core.specs.declared.events.Seat.TheVariants as seat
-use Rattle.mk_core.specs.declared.events.Step.{Step}
 use Rattle.mk_core.specs.declared.events.Step.TheVariants as step
-use Rattle.mk_core.specs.declared.events.Event.{Event}
 use Rattle.mk_core.specs.Growing.{is_same_seat}
-use Rattle.mk_core.specs.History.{left}
-use Rattle.mk_core.specs.Cycles.{At, is_give, TurnOf}
+use Rattle.mk_core.specs.Accesses.{granted_base}
+use Rattle.mk_core.specs.Placement.{NoneServesFrom, event_serves, FirstServed, before_served, object_at, place_after}
+use Rattle.mk_core.specs.Cycles.{At, Next, Cycle, TurnOf}
 
 -- a proof of the first, and one of the others
 infixr 10 ◌and◌
@@ -34,12 +32,44 @@ unfoldable pub at_number : (kind : Step → Bool) (n : ℕ) (es : List Event)
 at_number kind n es is of_kind =
     record { before = take n es; event = event_number n es; behind = drop (n + 1) es; is = is; of_kind = of_kind }
 
+-- which is the next of its kind
+abbrev pub next_of : {kind : Step → Bool} {es : List Event} (at : At kind es)
+    → list_any (λ (e : Event). kind e.step) at.before ≡ false → Next kind es
+next_of at none = record { at = at; none_before = none }
+
+-- a cycle, by its `begin`, and how many events come before its `close`, its `release` and its `end`
+abbrev pub cycle_of : {es : List Event} (begin : At is_begin es) (close : Next is_close begin.behind)
+    (release : Next is_release close.at.behind) (end : Next is_end release.at.behind) → Cycle es
+cycle_of begin close release end =
+    record { releasing = record { marking = record { begin = begin; close = close }; release = release }; end = end }
+
 unfoldable pub turn_number : (c : Config) (s : Seat) (n : ℕ) (o : Option Op) (es : List Event)
     → es ≡ take n es ++ record { seat = s; step = step.Take o } ∷ drop (n + 1) es
     → (left c (take n es)).now.words.turn ≡ 0
     → list_any (λ (e : Event). is_same_seat s e.seat && is_give e.step) (drop (n + 1) es) ≡ false → TurnOf c s es
 turn_number c s n o es is took goes_on =
     record { before = take n es; op = o; behind = drop (n + 1) es; is = is; took = took; goes_on = goes_on }
+
+-- the first event that serves a New, by its number in its turn; and where its object stands
+abbrev pub served : {c : Config} {s : Seat} {es : List Event} (t : TurnOf c s es) (n : ℕ)
+    → t.behind ≡ take n t.behind ++ event_number n t.behind ∷ drop (n + 1) t.behind
+    → NoneServesFrom c (left c (t.before ++ record { seat = s; step = step.Take t.op } ∷ [])) (take n t.behind)
+    → event_serves c (left c (t.before ++ record { seat = s; step = step.Take t.op } ∷ take n t.behind))
+    (event_number n t.behind) ≡ true → FirstServed c t
+served t n is none serves = record {
+  before = take n t.behind;
+  event = event_number n t.behind;
+  behind = drop (n + 1) t.behind;
+  is = is;
+  none_before = none;
+  serves = serves;
+}
+
+abbrev pub stands_at : {c : Config} {s : Seat} {es : List Event} (t : TurnOf c s es) (first : FirstServed c t)
+    (place : Place) → place_after c (before_served t first) (object_at c es s) ≡ Some place
+    → granted_base c (flight_of (left c es).now s) (left c es).now.seats.holding.placing
+    ≡ base_made (object_at c es s) place → StandsAtItsPlace c es s
+stands_at t first place fits base = record { turn = t; first = first; place = place; fits = fits; base = base }
 
 -- where the test holds, the first is asked too
 unfoldable pub Also : Bool → Type 0 → Type 0 → Type 0

@@ -1,29 +1,19 @@
 -- What is granted stands at its New's place.
 use Rattle.std.proofs.Common.{◌≡◌, ℕ, ◌+◌, ◌*◌, ◌/◌, ◌<◌, ◌≤◌, Bool, true, false, [], length, sym, ap, subst, ◌∙◌, inl}
-use Rattle.std.proofs.Common.{inr, arith}
-use Rattle.std.specs.Prelude.{◌&&◌, nat_lt}
+use Rattle.std.proofs.Common.{inr, arith, nat_lt}
 use Rattle.std.proofs.lemmas.Bool.{cases_Bool, and_parts, ltb-true, cond-true, cond-false, eqb-true}
-use Rattle.mk_never.specs.declared.operations.Op.{Op}
+use Rattle.mk_core.proofs.Vocabulary.{base_made, BeginsAtCell, cells_made, cells_of, class_made, class_words_of, Config}
+use Rattle.mk_core.proofs.Vocabulary.{Flight, HasItsHeaders, header_at, header_made, is_small_object, IsSized}
+use Rattle.mk_core.proofs.Vocabulary.{IsWithinLimits, kinds_of, Moment, Object, object_made, object_placed, Op}
+use Rattle.mk_core.proofs.Vocabulary.{pages_made, Place, PlacedAllocation, StandsOnHeap, Words, words_made}
 use Rattle.mk_never.specs.declared.operations.Op.TheVariants as op
-use Rattle.mk_never.specs.Types.{kinds_of}
-use Rattle.mk_geom.specs.declared.pages.Place.{Place}
-use Rattle.mk_geom.specs.Classes.{class_words_of, cells_of}
 use Rattle.mk_geom.proofs.ClassTable.{cell_ends}
-use Rattle.mk_core.specs.declared.config.Config.{Config}
-use Rattle.mk_core.specs.declared.seats.Object.{Object}
-use Rattle.mk_core.specs.declared.seats.Flight.{Flight}
 use Rattle.mk_core.specs.declared.seats.Placing.{Placing}
 use Rattle.mk_core.specs.declared.seats.Placing.TheVariants.{Used}
-use Rattle.mk_core.specs.Config.{IsWithinLimits}
-use Rattle.mk_core.specs.Words.{Words, header_at}
-use Rattle.mk_core.specs.Calls.{has_operands, has_type, q_of, p_of, r_of, d_of, g_of}
+use Rattle.mk_core.specs.Calls.{has_operands, has_type}
 use Rattle.mk_core.specs.Accesses.{granted_base}
-use Rattle.mk_core.specs.NewPlaces.{object_of, object_made, is_small_object, class_made, pages_made, header_made}
-use Rattle.mk_core.specs.NewPlaces.{base_made, place_stands, stands, is_undecided_new}
-use Rattle.mk_core.specs.ObjectHeaders.{IsSized, cells_made, words_made}
-use Rattle.mk_core.specs.Allocations.{PlacedAllocation, type_made, granted}
-use Rattle.mk_core.specs.Moments.{Moment}
-use Rattle.mk_core.specs.StandingAllocations.{object_placed, BeginsAtCell, StandsOnHeap, HasItsHeaders}
+use Rattle.mk_core.specs.NewPlaces.{object_of, place_stands, is_undecided_new}
+use Rattle.mk_core.specs.Allocations.{type_made, granted}
 use Rattle.mk_core.proofs.AllBelow.{all_below-at}
 use Rattle.mk_core.proofs.Sizes.{small_cells, small_pages, small_words, large_words}
 use Rattle.mk_core.proofs.StandingAllocations.{made_begins}
@@ -43,11 +33,9 @@ granted_object c m f new = let n = undecided_new f new in made_is c f.op n.d n.t
 typed_by : (c : Config) (o : Op) (d ty : ℕ) (full : Bool) → o ≡ op.New d ty full → has_operands c o ≡ true
     → type_made o < length c.types
 typed_by c o d ty full is h =
-    let typed = (and_parts
-    (nat_lt (q_of o) 8 && nat_lt (p_of o) 8 && nat_lt (r_of o) 8 && nat_lt (d_of o) 8 && nat_lt (g_of o) 64)
-    (has_type c o) h).1 in
+    let typed = (and_parts _ _ h).1 in
     let at : nat_lt ty (length c.types) ≡ true = ap (λ (x : Op). has_type c x) (sym is) ∙ typed in
-    subst (λ (x : Op). type_made x < length c.types) (sym is) (ltb-true ty (length c.types) at)
+    subst (λ (x : Op). type_made x < length c.types) (sym is) (ltb-true _ _ at)
 
 pub granted_type : (c : Config) (m : Moment) (f : Flight) → is_undecided_new f ≡ true → has_operands c f.op ≡ true
     → (granted c m f).ty < length c.types
@@ -88,7 +76,6 @@ pub placed_stands : (c : Config) (a : PlacedAllocation) (place : Place) → IsWi
     → a.base ≡ base_made (object_placed c a) place → place.index < cells_made (object_placed c a)
     → place.page + pages_made (object_placed c a) ≤ c.pages → StandsOnHeap c a
 placed_stands c a place limits typed unreleased base known within =
-    let o = object_placed c a in
     let sized : IsSized (object_placed c a) = (limits.types a.ty [] typed).0 in
     let begins = (made_begins (object_placed c a) place sized known).0 in
     let ends = place_ends (object_placed c a) place sized known in
@@ -110,9 +97,7 @@ placed_headers c w a place limits typed base known h distance near =
     let page : a.base / 64 ≡ place.page = ap (λ n. n / 64) base
     ∙ (made_begins (object_placed c a) place sized known).2 in
     let at : header_at w (place.page + distance) ≡ header_made (object_placed c a) distance =
-    eqb-true (header_at w (place.page + distance)) (header_made (object_placed c a) distance)
-    (all_below-at (pages_made (object_placed c a)) distance (stands w place.page (header_made (object_placed c a))) h
-    near) in
+    eqb-true _ _ (all_below-at (pages_made (object_placed c a)) distance _ h near) in
     inl (ap (λ p. header_at w (p + distance)) page ∙ at)
 
 -- A grant's base is that of the place whose cell is taken.

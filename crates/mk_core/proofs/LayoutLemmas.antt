@@ -2,10 +2,8 @@
 use Rattle.std.proofs.Common.{◌≡◌, ◌⊎◌, inl, inr, ℕ, ◌+◌, ◌*◌, ◌<◌, ◌≤◌, refl, sym, ◌∙◌, ap, arith}
 use Rattle.std.proofs.lemmas.Bool.{cases_order}
 use Rattle.std.specs.Prelude.{⊤}
-use Rattle.mk_core.specs.declared.events.Word.{Word}
+use Rattle.mk_core.proofs.Vocabulary.{Named, TableWord, Turn, Word}
 use Rattle.mk_core.specs.declared.events.Word.TheVariants as word
-use Rattle.mk_core.specs.declared.accesses.TableWord.{TableWord}
-use Rattle.mk_core.specs.declared.accesses.TableWord.TheVariants.{Turn, Named}
 use Rattle.mk_core.specs.Layout.{index_of_named, index_of, count_of_words, NamesWord, IsOfTable, LineGroup, OfPhase}
 use Rattle.mk_core.specs.Layout.{OfTurn, OfTallies, OfGlobals, OfPages, OfHeap, OfGate, OfRegisters, OfDirty}
 use Rattle.mk_core.specs.Layout.{line_group_of_named, line_group, LineGroupsAreApart}
@@ -112,39 +110,12 @@ record StandsIn (pages group place : ℕ) : Type 0 where
 named_stands_in : (pages : ℕ) (x : Word) → NamesWord pages x
     → StandsIn pages (rank pages (line_group_of_named x)) (index_of_named pages x)
 named_stands_in pages (word.Reg c r) h =
-    let lc = h.0 in let lr = h.1 in record {
-      first = omega arith;
-      late = λ l. omega arith;
-      few = λ l. omega arith;
-      globals = λ l. omega arith;
-      between = λ l. omega arith;
-      headers = λ l. omega arith;
-      dirty = λ l m. omega arith;
-      last = omega arith;
-    }
-named_stands_in pages x h = record {
-  first = omega arith;
-  late = λ l. omega arith;
-  few = λ l. omega arith;
-  globals = λ l. omega arith;
-  between = λ l. omega arith;
-  headers = λ l. omega arith;
-  dirty = λ l m. omega arith;
-  last = omega arith;
-}
+    let lc = h.0 in let lr = h.1 in omega arith
+named_stands_in pages x h = omega arith
 
 stands_in : (pages : ℕ) (x : TableWord) → IsOfTable pages x
     → StandsIn pages (rank pages (line_group x)) (index_of pages x)
-stands_in pages Turn h = record {
-  first = omega arith;
-  late = λ l. omega arith;
-  few = λ l. omega arith;
-  globals = λ l. omega arith;
-  between = λ l. omega arith;
-  headers = λ l. omega arith;
-  dirty = λ l m. omega arith;
-  last = omega arith;
-}
+stands_in pages Turn h = omega arith
 stands_in pages (Named x) h = named_stands_in pages x h
 
 -- after the globals

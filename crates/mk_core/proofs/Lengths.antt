@@ -1,19 +1,15 @@
 -- Each region of the words keeps its length.
-use Rattle.std.proofs.Common.{ℕ, ◌+◌, ◌*◌, List, [], ◌∷◌, length-set, refl, ◌∙◌}
+use Rattle.std.proofs.Common.{ℕ, ◌+◌, ◌*◌, List, [], ◌∷◌, length-set, refl, arith}
 use Rattle.std.proofs.lemmas.List.{length-replicate}
+use Rattle.mk_core.proofs.Vocabulary.{Access, Config, Event, first_world, left, Load, Named, Page, Store, TableWord}
+use Rattle.mk_core.proofs.Vocabulary.{Turn, Word, Words, World, world_behind, zero_words_of}
 use Rattle.mk_geom.specs.Storages.{free_page}
-use Rattle.mk_core.specs.declared.config.Config.{Config}
-use Rattle.mk_core.specs.declared.events.Event.{Event}
-use Rattle.mk_core.specs.declared.events.Word.{Word}
 use Rattle.mk_core.specs.declared.events.Word.TheVariants as word
-use Rattle.mk_core.specs.declared.accesses.TableWord.{TableWord}
-use Rattle.mk_core.specs.declared.accesses.TableWord.TheVariants.{Turn, Named}
-use Rattle.mk_core.specs.declared.accesses.Access.{Access}
-use Rattle.mk_core.specs.declared.accesses.Access.TheVariants.{Load, Store, Exchange, Or, Add, Sub}
-use Rattle.mk_core.specs.Words.{Words, zero_words_of, with_named, with_word_in, word_in, becomes, accessed}
+use Rattle.mk_core.specs.declared.accesses.Access.TheVariants.{Exchange, Or, Add, Sub}
+use Rattle.mk_core.specs.Words.{with_named, with_word_in, word_in, becomes, accessed}
 use Rattle.mk_core.specs.Layout.{AreOfPages}
 use Rattle.mk_core.specs.Accesses.{word_accessed, access}
-use Rattle.mk_core.specs.History.{World, first_world, world_behind, left_from, left}
+use Rattle.mk_core.specs.History.{left_from}
 
 pub zero_lengths : (count : ℕ) → AreOfPages count (zero_words_of count)
 zero_lengths count =
@@ -31,175 +27,21 @@ zero_lengths count =
     }
 
 named_lengths : (count : ℕ) (w : Words) (x : Word) (v : ℕ) → AreOfPages count w → AreOfPages count (with_named w x v)
-named_lengths count w (word.Gate j) v h =
-    record {
-      gates = length-set w.gates j v
-          ∙ h.gates;
-      registers = h.registers;
-      globals = h.globals;
-      pages = h.pages;
-      freed = h.freed;
-      snapshot = h.snapshot;
-      marks = h.marks;
-      blacks = h.blacks;
-      dirty = h.dirty;
-      heap = h.heap;
-    }
-named_lengths count w (word.Reg c r) v h =
-    record {
-      gates = h.gates;
-      registers = length-set w.registers (8 * c + r) v
-          ∙ h.registers;
-      globals = h.globals;
-      pages = h.pages;
-      freed = h.freed;
-      snapshot = h.snapshot;
-      marks = h.marks;
-      blacks = h.blacks;
-      dirty = h.dirty;
-      heap = h.heap;
-    }
-named_lengths count w (word.Global g) v h =
-    record {
-      gates = h.gates;
-      registers = h.registers;
-      globals = length-set w.globals g v
-          ∙ h.globals;
-      pages = h.pages;
-      freed = h.freed;
-      snapshot = h.snapshot;
-      marks = h.marks;
-      blacks = h.blacks;
-      dirty = h.dirty;
-      heap = h.heap;
-    }
-named_lengths count w (word.Head p) v h =
-    record {
-      gates = h.gates;
-      registers = h.registers;
-      globals = h.globals;
-      pages = length-set w.pages p _
-          ∙ h.pages;
-      freed = h.freed;
-      snapshot = h.snapshot;
-      marks = h.marks;
-      blacks = h.blacks;
-      dirty = h.dirty;
-      heap = h.heap;
-    }
-named_lengths count w (word.Used p) v h =
-    record {
-      gates = h.gates;
-      registers = h.registers;
-      globals = h.globals;
-      pages = length-set w.pages p _
-          ∙ h.pages;
-      freed = h.freed;
-      snapshot = h.snapshot;
-      marks = h.marks;
-      blacks = h.blacks;
-      dirty = h.dirty;
-      heap = h.heap;
-    }
-named_lengths count w (word.Quar p) v h =
-    record {
-      gates = h.gates;
-      registers = h.registers;
-      globals = h.globals;
-      pages = h.pages;
-      freed = length-set w.freed p _ ∙ h.freed;
-      snapshot = length-set w.snapshot p _
-          ∙ h.snapshot;
-      marks = h.marks;
-      blacks = h.blacks;
-      dirty = h.dirty;
-      heap = h.heap;
-    }
-named_lengths count w (word.Mark p) v h =
-    record {
-      gates = h.gates;
-      registers = h.registers;
-      globals = h.globals;
-      pages = h.pages;
-      freed = h.freed;
-      snapshot = h.snapshot;
-      marks = length-set w.marks p v
-          ∙ h.marks;
-      blacks = h.blacks;
-      dirty = h.dirty;
-      heap = h.heap;
-    }
-named_lengths count w (word.Black p) v h =
-    record {
-      gates = h.gates;
-      registers = h.registers;
-      globals = h.globals;
-      pages = h.pages;
-      freed = h.freed;
-      snapshot = h.snapshot;
-      marks = h.marks;
-      blacks = length-set w.blacks p v
-          ∙ h.blacks;
-      dirty = h.dirty;
-      heap = h.heap;
-    }
-named_lengths count w (word.Dirty p) v h =
-    record {
-      gates = h.gates;
-      registers = h.registers;
-      globals = h.globals;
-      pages = h.pages;
-      freed = h.freed;
-      snapshot = h.snapshot;
-      marks = h.marks;
-      blacks = h.blacks;
-      dirty = length-set w.dirty p v
-          ∙ h.dirty;
-      heap = h.heap;
-    }
-named_lengths count w (word.Heap n) v h =
-    record {
-      gates = h.gates;
-      registers = h.registers;
-      globals = h.globals;
-      pages = h.pages;
-      freed = h.freed;
-      snapshot = h.snapshot;
-      marks = h.marks;
-      blacks = h.blacks;
-      dirty = h.dirty;
-      heap = length-set w.heap n v
-          ∙ h.heap;
-    }
-named_lengths count w _ v h =
-    record {
-      gates = h.gates;
-      registers = h.registers;
-      globals = h.globals;
-      pages = h.pages;
-      freed = h.freed;
-      snapshot = h.snapshot;
-      marks = h.marks;
-      blacks = h.blacks;
-      dirty = h.dirty;
-      heap = h.heap;
-    }
+named_lengths count w (word.Gate j) v h = omega (arith, length-set w.gates j v)
+named_lengths count w (word.Reg c r) v h = omega (arith, length-set w.registers (8 * c + r) v)
+named_lengths count w (word.Global g) v h = omega (arith, length-set w.globals g v)
+named_lengths count w (word.Head p) v h = omega (arith, length-set {A = Page})
+named_lengths count w (word.Used p) v h = omega (arith, length-set {A = Page})
+named_lengths count w (word.Quar p) v h = omega (arith, length-set {A = ℕ})
+named_lengths count w (word.Mark p) v h = omega (arith, length-set w.marks p v)
+named_lengths count w (word.Black p) v h = omega (arith, length-set w.blacks p v)
+named_lengths count w (word.Dirty p) v h = omega (arith, length-set w.dirty p v)
+named_lengths count w (word.Heap n) v h = omega (arith, length-set w.heap n v)
+named_lengths count w _ v h = omega arith
 
 word_lengths : (count : ℕ) (w : Words) (x : TableWord) (v : ℕ) → AreOfPages count w
     → AreOfPages count (with_word_in w x v)
-word_lengths count w Turn v h =
-    record {
-      gates = h.gates;
-      registers = h.registers;
-      globals = h.globals;
-      pages = h.pages;
-      freed = h.freed;
-      snapshot = h.snapshot;
-      marks = h.marks;
-      blacks = h.blacks;
-      dirty = h.dirty;
-      heap = h.heap;
-    }
+word_lengths count w Turn v h = omega arith
 word_lengths count w (Named x) v h = named_lengths count w x v h
 
 pub accessed_lengths : (count : ℕ) (w : Words) (x : TableWord) (a : Access) → AreOfPages count w

@@ -52,3 +52,4 @@ pub mod TouchedTests
 pub mod UnreleasedStorage
 pub mod Wiped
 pub mod WordBits
+pub mod Vocabulary

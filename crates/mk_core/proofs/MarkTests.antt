@@ -3,21 +3,17 @@ use Rattle.std.proofs.Common.{◌≡◌, ℕ, ◌+◌, Bool, true, not, ◌&&◌
 use Rattle.std.specs.List.{list_all}
 use Rattle.std.proofs.Math.Bool.{or-true}
 use Rattle.std.proofs.lemmas.Bool.{and_parts, and_from, le-leb, lt-ltb}
-use Rattle.mk_geom.specs.Storages.{Storage}
-use Rattle.mk_geom.specs.StorageWords.{IsWordOf}
-use Rattle.mk_core.specs.declared.config.Config.{Config}
-use Rattle.mk_core.specs.Words.{Words}
-use Rattle.mk_core.specs.Cells.{pointed_cell, points_well}
-use Rattle.mk_core.specs.Allocations.{PlacedAllocation, never_granted, placed_at, storage_of}
+use Rattle.mk_core.proofs.Vocabulary.{Config, IsWordOf, never_granted, placed_at, PlacedAllocation, points_well}
+use Rattle.mk_core.proofs.Vocabulary.{Storage, storage_of, Words, World}
+use Rattle.mk_core.specs.Cells.{pointed_cell}
 use Rattle.mk_core.specs.ClosedMarks.{MarksAreClosed, is_marked_allocation, is_scanned_allocation}
-use Rattle.mk_core.specs.History.{World}
 use Rattle.mk_core.proofs.ListTests.{implied, list_all-at, numbered_all, numbered_all-at}
 
 abbrev pub is_word_of : Storage → ℕ → Bool
 is_word_of s n = nat_le s.first n && nat_lt n (s.first + s.words)
 
 pub is_word_of_by : (s : Storage) (n : ℕ) → IsWordOf s n → is_word_of s n ≡ true
-is_word_of_by s n h = and_from (nat_le s.first n) (nat_lt n (s.first + s.words)) (le-leb _ _ h.0) (lt-ltb _ _ h.1)
+is_word_of_by s n h = and_from _ _ (le-leb _ _ h.0) (lt-ltb _ _ h.1)
 
 -- a word of this value at heap word n points well, or isn't the storage's
 abbrev pub points_well_in : Config → Words → Storage → ℕ → ℕ → Bool
@@ -43,8 +39,8 @@ null_points_well c w = refl
 pub marks_closed_by_test : (c : Config) (w : World) → marks_are_closed c w ≡ true → MarksAreClosed c w
 marks_closed_by_test c w h =
     let well = points_well c.pages w.now.words in
-    let outer = and_parts (list_all well w.now.words.registers && list_all well w.now.words.globals) _ h in
-    let roots = and_parts (list_all well w.now.words.registers) (list_all well w.now.words.globals) outer.0 in
+    let outer = and_parts _ _ h in
+    let roots = and_parts _ _ outer.0 in
     record {
       registers = λ i. list_all-at well w.now.words.registers 0 roots.0 (null_points_well c w.now.words) i;
       globals = λ g. list_all-at well w.now.words.globals 0 roots.1 (null_points_well c w.now.words) g;
@@ -52,7 +48,7 @@ marks_closed_by_test c w h =
           let a = placed_at w.allocations i in
           let each = list_all-at (allocation_points_well c w.now.words) w.allocations never_granted outer.1 refl i in
           let all = implied _ _ each
-          (and_from (is_scanned_allocation c a) (is_marked_allocation c w.now.words a) scanned marked) in
+          (and_from _ _ scanned marked) in
           implied _ _
           (numbered_all-at (points_well_in c w.now.words (storage_of c a)) w.now.words.heap 0 all
           (λ j. ap (λ b. not (is_word_of (storage_of c a) j) || b) (null_points_well c w.now.words) ∙ or-true _) n)

@@ -1,20 +1,17 @@
 -- What the header of each page of an object shows.
 use Rattle.std.proofs.Common.{◌≡◌, ◌≢◌, ℕ, zero, suc, ◌+◌, ◌<◌, ◌≤◌, Bool, true, false, refl, sym, ◌∙◌, ap, subst, inl}
-use Rattle.std.proofs.Common.{inr, arith}
-use Rattle.std.specs.Prelude.{◌&&◌, ◌||◌, Option, Some}
+use Rattle.std.proofs.Common.{inr, arith, ◌&&◌, ◌||◌, Option, Some}
 use Rattle.std.proofs.lemmas.Bool.{cases_Bool, cases_eq, true≢false, cond-true, cond-false}
-use Rattle.mk_geom.specs.declared.headers.Header.{Header}
-use Rattle.mk_geom.specs.declared.headers.Header.TheVariants.{Free, Block, LeafBlock, Run, LeafRun, Later}
+use Rattle.mk_core.proofs.Vocabulary.{Block, cells_made, cells_under, class_made, Free, Header, header_made}
+use Rattle.mk_core.proofs.Vocabulary.{is_small_object, IsHeaderOf, IsSized, Later, LeafBlock, LeafRun, Object}
+use Rattle.mk_core.proofs.Vocabulary.{pages_made, Run, unmapped_header, words_made, words_under}
 use Rattle.mk_geom.specs.Headers.{word_of, header_of}
 use Rattle.mk_geom.specs.Storages.{block_header, run_header}
 use Rattle.mk_geom.specs.Classes.{run_pages_of}
 use Rattle.mk_geom.proofs.HeaderLemmas.{header_of-word_of}
-use Rattle.mk_core.specs.declared.seats.Object.{Object}
 use Rattle.mk_geom.specs.Addresses.{head_page_under}
-use Rattle.mk_core.specs.Cells.{cells_under, words_under, heads_run, is_unmapped_header, has_no_pointers}
-use Rattle.mk_core.specs.NewPlaces.{is_small_object, class_made, pages_made, header_made, unmapped_header}
-use Rattle.mk_core.specs.ObjectHeaders.{IsSized, cells_made, words_made, ShowsPart, OfBlock, OfLeafBlock, OfRun}
-use Rattle.mk_core.specs.ObjectHeaders.{OfLeafRun, OfLater, IsHeaderOf, FirstPartsHaveCells}
+use Rattle.mk_core.specs.Cells.{heads_run, is_unmapped_header, has_no_pointers}
+use Rattle.mk_core.specs.ObjectHeaders.{ShowsPart, OfBlock, OfLeafBlock, OfRun, OfLeafRun, OfLater, FirstPartsHaveCells}
 use Rattle.mk_core.proofs.Sizes.{small_cells, large_cells, small_pages, large_pages, small_words, large_words}
 use Rattle.mk_core.proofs.Sizes.{class_known, large_count}
 

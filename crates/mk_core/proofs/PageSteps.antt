@@ -1,18 +1,16 @@
 -- What the steps that change a page's header, used and quarantine words find and store.
 use Rattle.std.proofs.Common.{◌≡◌, ℕ, ◌-◌, ◌/◌, ◌%◌, ◌^◌, ◌<◌, Bool, true, false, refl, sym, ◌∙◌, ap, inl, inr, bit_and}
-use Rattle.std.proofs.Common.{◌⊎◌}
-use Rattle.std.specs.Prelude.{◌&&◌, ◌||◌, not, ◌==◌, Option, Some, None, slice_index, if◌then◌else◌}
+use Rattle.std.proofs.Common.{◌⊎◌, ◌&&◌, ◌||◌, not, Option, Some, None, slice_index, if◌then◌else◌}
 use Rattle.std.proofs.lemmas.Bool.{cases_Bool, and_parts, eqb-true, not-true, true≢false}
-use Rattle.mk_core.specs.declared.config.Config.{Config}
-use Rattle.mk_core.specs.declared.seats.Flight.{Flight}
+use Rattle.mk_core.proofs.Vocabulary.{cell_words, Config, first_word, Flight, has_bit, is_phase, Moment, object_made}
+use Rattle.mk_core.proofs.Vocabulary.{place_now, quarantine_word, unmapped_header, Words, words_are_zero}
 use Rattle.mk_core.specs.declared.seats.RunPages.{RunPages}
-use Rattle.mk_core.specs.Words.{Words, used_at, quarantine_word}
-use Rattle.mk_core.specs.Bits.{has_bit, without}
-use Rattle.mk_core.specs.Cells.{head_page, left_unmarked, are_left_unmarked, words_are_zero, first_word, cell_words}
-use Rattle.mk_core.specs.NewPlaces.{object_made, unmapped_header, target}
-use Rattle.mk_core.specs.TurnConditions.{place_now, carves, unmaps, empties, may_head, takes_cell, is_used_once}
-use Rattle.mk_core.specs.TurnConditions.{are_wiped, gives_back, may_use, frees, takes_snapshot, drops, may_quarantine}
-use Rattle.mk_core.specs.Moments.{Moment, is_phase}
+use Rattle.mk_core.specs.Words.{used_at}
+use Rattle.mk_core.specs.Bits.{without}
+use Rattle.mk_core.specs.Cells.{head_page, left_unmarked, are_left_unmarked}
+use Rattle.mk_core.specs.NewPlaces.{target}
+use Rattle.mk_core.specs.TurnConditions.{carves, unmaps, empties, may_head, takes_cell, is_used_once, are_wiped}
+use Rattle.mk_core.specs.TurnConditions.{gives_back, may_use, frees, takes_snapshot, drops, may_quarantine}
 use Rattle.mk_core.proofs.AllBelow.{all_below-at}
 use Rattle.mk_core.proofs.BitsWithout.{has_bit_without}
 use Rattle.mk_core.proofs.WordBits.{fewer_bits, rest_bits, without_none, no_common}
@@ -44,18 +42,14 @@ pub record Empties (w : Words) (page value : ℕ) : Type 0 where
 
 pub empties_is : (w : Words) (page value : ℕ) → empties w page value ≡ true → Empties w page value
 empties_is w page value h =
-    let is = value == 0 in
-    let unused = used_at w (head_page w page) == 0 in
-    let unfreed = slice_index w.freed (head_page w page) == 0 in
-    let outside = slice_index w.snapshot (head_page w page) == 0 in
-    let a = and_parts (is && unused && unfreed) outside h in
-    let b = and_parts (is && unused) unfreed a.0 in
-    let d = and_parts is unused b.0 in
+    let a = and_parts _ _ h in
+    let b = and_parts _ _ a.0 in
+    let d = and_parts _ _ b.0 in
     record {
-      is = eqb-true value 0 d.0;
-      unused = eqb-true (used_at w (head_page w page)) 0 d.1;
-      unfreed = eqb-true (slice_index w.freed (head_page w page)) 0 b.1;
-      outside = eqb-true (slice_index w.snapshot (head_page w page)) 0 a.1;
+      is = eqb-true _ 0 d.0;
+      unused = eqb-true _ 0 d.1;
+      unfreed = eqb-true _ 0 b.1;
+      outside = eqb-true _ 0 a.1;
     }
 
 -- A `head` that may come carves a page, unmaps one, or empties one.
@@ -88,12 +82,11 @@ head_step c m f page value h = by (is_phase m.words 4) refl h
 pub left_bits : (w : Words) (page bits k : ℕ) → are_left_unmarked w page bits ≡ true → has_bit bits k ≡ true
     → (has_bit (slice_index w.snapshot page) k ≡ true) × (has_bit (slice_index w.marks page) k ≡ false)
 left_bits w page bits k h bit =
-    let none = without_none bits (left_unmarked w page) (eqb-true (without bits (left_unmarked w page)) 0 h) in
+    let none = without_none bits (left_unmarked w page) (eqb-true _ 0 h) in
     let left : has_bit (left_unmarked w page) k ≡ true = fewer_bits bits (left_unmarked w page) k none bit in
     let parts =
-    and_parts (has_bit (slice_index w.snapshot page) k) (not (has_bit (slice_index w.marks page) k))
-    (sym (has_bit_without (slice_index w.snapshot page) (slice_index w.marks page) k) ∙ left) in
-    (parts.0, not-true (has_bit (slice_index w.marks page) k) parts.1)
+    and_parts _ _ (sym (has_bit_without (slice_index w.snapshot page) (slice_index w.marks page) k) ∙ left) in
+    (parts.0, not-true _ parts.1)
 
 -- cells whose words are 0
 pub wiped_cell : (w : Words) (page bits k : ℕ) → are_wiped w page bits ≡ true → k < 32 → has_bit bits k ≡ true
@@ -117,11 +110,10 @@ pub record GivesBack (w : Words) (page value : ℕ) : Type 0 where
 
 pub gives_back_is : (w : Words) (page value : ℕ) → gives_back w page value ≡ true → GivesBack w page value
 gives_back_is w page value h =
-    let fewer = bit_and value (used_at w page) == value in
     let left = are_left_unmarked w page (used_at w page - value) in
-    let a = and_parts (fewer && left) (are_wiped w page (used_at w page - value)) h in
-    let b = and_parts fewer left a.0 in
-    let sub : bit_and value (used_at w page) ≡ value = eqb-true (bit_and value (used_at w page)) value b.0 in
+    let a = and_parts _ _ h in
+    let b = and_parts _ _ a.0 in
+    let sub : bit_and value (used_at w page) ≡ value = eqb-true _ _ b.0 in
     record {
       fewer = sub;
       left = b.1;
@@ -149,9 +141,8 @@ used_step c m f page value h = by (is_phase m.words 4) refl h
         → UsedStep c m f page value
     by true is h = ItGivesBack is (gives_back_is m.words page value h)
     by false is h =
-        let a = and_parts (not (is_used_once m.seats.holding.placing))
-        (takes_cell m.words (object_made c f.op) (place_now c m f) page value) h in
-        ItTakes is (not-true (is_used_once m.seats.holding.placing) a.0)
+        let a = and_parts _ _ h in
+        ItTakes is (not-true _ a.0)
         (takes_is m.words (object_made c f.op) (place_now c m f) page value a.1)
 
 -- Quarantine words.
@@ -162,11 +153,10 @@ pub record TakesSnapshot (w : Words) (page value : ℕ) : Type 0 where
 
 pub takes_snapshot_is : (w : Words) (page value : ℕ) → takes_snapshot w page value ≡ true → TakesSnapshot w page value
 takes_snapshot_is w page value h =
-    let a = and_parts (is_phase w 0) (value == quarantine_word (slice_index w.freed page) (slice_index w.freed page)) h
-    in
+    let a = and_parts _ _ h in
     record {
       phase = a.0;
-      is = eqb-true value (quarantine_word (slice_index w.freed page) (slice_index w.freed page)) a.1;
+      is = eqb-true _ _ a.1;
     }
 
 pub record Drops (w : Words) (page freed snapshot : ℕ) : Type 0 where
@@ -181,21 +171,16 @@ pub record Drops (w : Words) (page freed snapshot : ℕ) : Type 0 where
 pub drops_is : (w : Words) (page freed snapshot : ℕ) → drops w page freed snapshot ≡ true → Drops w page freed snapshot
 drops_is w page freed snapshot h =
     let rest = slice_index w.snapshot page - snapshot in
-    let fewer = bit_and snapshot (slice_index w.snapshot page) == snapshot in
-    let left = are_left_unmarked w page rest in
-    let unused = bit_and (used_at w page) rest == 0 in
-    let a = and_parts (fewer && left && unused) (freed == without (slice_index w.freed page) rest) h in
-    let b = and_parts (fewer && left) unused a.0 in
-    let d = and_parts fewer left b.0 in
-    let sub : bit_and snapshot (slice_index w.snapshot page) ≡ snapshot =
-    eqb-true (bit_and snapshot (slice_index w.snapshot page)) snapshot d.0 in
-    let none : bit_and (used_at w page) (slice_index w.snapshot page - snapshot) ≡ 0 =
-    eqb-true (bit_and (used_at w page) rest) 0 b.1 in
+    let a = and_parts _ _ h in
+    let b = and_parts _ _ a.0 in
+    let d = and_parts _ _ b.0 in
+    let sub : bit_and snapshot (slice_index w.snapshot page) ≡ snapshot = eqb-true _ _ d.0 in
+    let none : bit_and (used_at w page) (slice_index w.snapshot page - snapshot) ≡ 0 = eqb-true _ 0 b.1 in
     record {
       fewer = sub;
       left = d.1;
       unused = none;
-      is = eqb-true freed (without (slice_index w.freed page) rest) a.1;
+      is = eqb-true _ _ a.1;
       gone = λ k bit out.
           let goes = rest_bits snapshot (slice_index w.snapshot page) k sub bit out in (
             (left_bits w page (slice_index w.snapshot page - snapshot) k d.1 goes).1,

@@ -1,6 +1,5 @@
 -- What a test of a phase word says of it.
-use Rattle.std.proofs.Common.{◌≡◌, ℕ, Bool, true, false, sym, ◌∙◌}
-use Rattle.std.specs.Prelude.{◌==◌, ◌%◌}
+use Rattle.std.proofs.Common.{◌≡◌, ℕ, Bool, true, false, sym, ◌∙◌, ◌==◌, ◌%◌}
 use Rattle.std.proofs.lemmas.Bool.{eqb-true, eqb-false}
 
 pub in_word : (word number : ℕ) (answer : Bool) → answer ≡ (word % 8 == number) → answer ≡ true → word % 8 ≡ number

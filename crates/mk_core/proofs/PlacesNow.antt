@@ -1,26 +1,18 @@
 -- What is known where there is a place of a New, or a cell that a Free frees.
-use Rattle.std.proofs.Common.{◌≡◌, ℕ, ◌+◌, ◌^◌, Bool, true, false, refl, sym, ◌∙◌, ap, subst, ◌⊎◌, inl, inr}
-use Rattle.std.specs.Prelude.{◌&&◌, not, ◌==◌, Option, Some, None, slice_index, if◌then◌else◌, List}
+use Rattle.std.proofs.Common.{◌≡◌, ℕ, ◌+◌, ◌^◌, Bool, true, false, refl, sym, ◌∙◌, ap, subst, ◌⊎◌, inl, inr, ◌&&◌, not}
+use Rattle.std.proofs.Common.{Option, Some, None, slice_index, if◌then◌else◌, List}
 use Rattle.std.proofs.lemmas.Bool.{and_parts, eqb-true, not-true}
-use Rattle.mk_never.specs.declared.operations.Op.{Op}
+use Rattle.mk_core.proofs.Vocabulary.{Cell, Config, Flight, is_phase, Moment, Object, object_made, Op, Page, Place}
+use Rattle.mk_core.proofs.Vocabulary.{place_now, quarantine_word, Words}
 use Rattle.mk_never.specs.declared.operations.Op.TheVariants as op
-use Rattle.mk_geom.specs.declared.addresses.Cell.{Cell}
-use Rattle.mk_geom.specs.declared.pages.Page.{Page}
-use Rattle.mk_geom.specs.declared.pages.Place.{Place}
-use Rattle.mk_core.specs.declared.config.Config.{Config}
-use Rattle.mk_core.specs.declared.seats.Object.{Object}
 use Rattle.mk_core.specs.declared.seats.Stage.{Stage}
 use Rattle.mk_core.specs.declared.seats.Stage.TheVariants as stage
-use Rattle.mk_core.specs.declared.seats.Flight.{Flight}
 use Rattle.mk_core.specs.declared.seats.Placing.{Placing}
 use Rattle.mk_core.specs.declared.seats.Placing.TheVariants.{Unplaced, Chosen, Used, Granted}
-use Rattle.mk_core.specs.Words.{Words, quarantine_word}
 use Rattle.mk_core.specs.Cells.{pointed_cell, is_freed}
-use Rattle.mk_core.specs.NewPlaces.{place_on_pages, place_by_placing, object_made, is_new_at, is_free_at}
-use Rattle.mk_core.specs.NewPlaces.{is_undecided_new}
+use Rattle.mk_core.specs.NewPlaces.{place_on_pages, place_by_placing, is_new_at, is_free_at, is_undecided_new}
 use Rattle.mk_core.specs.NewPlaces.{is_undecided_free, target}
-use Rattle.mk_core.specs.TurnConditions.{place_now, frees, cell_freed}
-use Rattle.mk_core.specs.Moments.{Moment, is_phase}
+use Rattle.mk_core.specs.TurnConditions.{frees, cell_freed}
 use Rattle.mk_core.specs.Effects.{chosen, taken}
 
 -- what stands under a test, where something does
@@ -142,18 +134,18 @@ pub freed_cell : (pages : ℕ) (w : Words) (f : Flight) (p v : ℕ) (cell : Cell
     → FreesCell pages w f p v cell
 freed_cell pages w f p v cell h =
     let under = some_under (not (is_phase w 4) && frees w (target pages w f) p v) (target pages w f) cell h in
-    let tests = and_parts (not (is_phase w 4)) (frees w (target pages w f) p v) under.0 in
+    let tests = and_parts _ _ under.0 in
     let here : frees w (Some cell) p v ≡ true = ap (λ (x : Option Cell). frees w x p v) (sym under.1) ∙ tests.1 in
     let value = quarantine_word (slice_index w.freed p + 2 ^ cell.index) (slice_index w.snapshot p) in
-    let a = and_parts ((p == cell.page) && not (is_freed w cell)) (v == value) here in
-    let b = and_parts (p == cell.page) (not (is_freed w cell)) a.0 in
+    let a = and_parts _ _ here in
+    let b = and_parts _ _ a.0 in
     let is = target_is pages w f cell under.1 in
     record {
-      phase = not-true (is_phase w 4) tests.0;
+      phase = not-true _ tests.0;
       at = under.1;
       free = is.free;
       pointed = is.pointed;
-      page = eqb-true p cell.page b.0;
-      unfreed = not-true (is_freed w cell) b.1;
-      value = eqb-true v value a.1;
+      page = eqb-true _ _ b.0;
+      unfreed = not-true _ b.1;
+      value = eqb-true _ _ a.1;
     }

@@ -1,19 +1,15 @@
 -- Where the cell lies into which a value points.
 use Rattle.std.proofs.Common.{◌≡◌, ◌⊎◌, ℕ, ◌*◌, ◌/◌, ◌<◌, ◌≤◌, Bool, true, false, refl, sym, ◌∙◌, ap, subst, inl, inr}
-use Rattle.std.proofs.Common.{arith, option_and_then}
-use Rattle.std.specs.Prelude.{Option, Some, None, nat_le, nat_lt, if◌then◌else◌}
+use Rattle.std.proofs.Common.{arith, option_and_then, Option, Some, None, nat_le, nat_lt, if◌then◌else◌}
 use Rattle.std.proofs.Math.Nat.{div-le_self, div-lt_iff_lt-mul}
 use Rattle.std.proofs.lemmas.Bool.{cases_eq, ltb-true}
-use Rattle.mk_geom.specs.declared.addresses.Cell.{Cell}
-use Rattle.mk_geom.specs.declared.headers.Header.{Header}
-use Rattle.mk_geom.specs.declared.headers.Header.TheVariants.{Free, Block, Run, Later, LeafBlock, LeafRun}
-use Rattle.mk_geom.specs.Addresses.{is_heap_address, page_at_address, word_at_address, cell_of_block, head_page_under}
-use Rattle.mk_geom.specs.Addresses.{run_of_page, cell_under, cell_at}
-use Rattle.mk_geom.specs.Classes.{class_words_of, cells_of}
+use Rattle.mk_core.proofs.Vocabulary.{Block, Cell, cells_of, cells_under, class_words_of, Free, Header, header_at}
+use Rattle.mk_core.proofs.Vocabulary.{header_in, Later, LeafBlock, LeafRun, page_at_address, Run, Words}
+use Rattle.mk_geom.specs.Addresses.{is_heap_address, word_at_address, cell_of_block, head_page_under, run_of_page}
+use Rattle.mk_geom.specs.Addresses.{cell_under, cell_at}
 use Rattle.mk_geom.specs.Headers.{header_of}
 use Rattle.mk_geom.proofs.CellsOnPages.{is_address}
-use Rattle.mk_core.specs.Words.{Words, header_at}
-use Rattle.mk_core.specs.Cells.{cells_under, header_in, head_page, pointed_cell}
+use Rattle.mk_core.specs.Cells.{head_page, pointed_cell}
 
 -- It lies on the head page of the value's page, and is one of the 64 that a page has at most, and of those that the
 -- value's page has, if it has cells.
@@ -38,7 +34,7 @@ of_block class page word cell is = by (nat_lt word (cells_of class * class_words
         → (cell.page ≡ page) × (cell.index < 64) × (cell.index < cells_of class)
     by true inside is =
         let here : record { page = page; index = word / class_words_of class } ≡ cell = cc in
-        let known = within (ltb-true word (cells_of class * class_words_of class) inside) in
+        let known = within (ltb-true _ _ inside) in
         let most : cells_of class ≤ 64 = div-le_self 64 (class_words_of class) in
         subst (λ (k : Cell). (k.page ≡ page) × (k.index < 64) × (k.index < cells_of class)) here
         (refl, omega arith, known)

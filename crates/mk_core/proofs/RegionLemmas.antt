@@ -5,15 +5,12 @@ use Rattle.std.proofs.lemmas.List.{get_or_append_left, get_or-append-add, set-ap
 use Rattle.std.proofs.lemmas.List.{length-map, length-append, replicate-append-replicate, get_or-map}
 use Rattle.std.proofs.Math.Seq.{map-set_same}
 use Rattle.std.proofs.Math.Nat.{mod-add-div}
-use Rattle.mk_geom.specs.declared.pages.Page.{Page}
+use Rattle.mk_core.proofs.Vocabulary.{Access, Load, Named, Page, quarantine_word, Store, TableWord, Turn, Word, Words}
+use Rattle.mk_core.proofs.Vocabulary.{zero_words_of}
 use Rattle.mk_geom.specs.Storages.{free_page}
-use Rattle.mk_core.specs.declared.events.Word.{Word}
 use Rattle.mk_core.specs.declared.events.Word.TheVariants as word
-use Rattle.mk_core.specs.declared.accesses.TableWord.{TableWord}
-use Rattle.mk_core.specs.declared.accesses.TableWord.TheVariants.{Turn, Named}
-use Rattle.mk_core.specs.declared.accesses.Access.{Access}
-use Rattle.mk_core.specs.declared.accesses.Access.TheVariants.{Load, Store, Exchange, Or, Add, Sub}
-use Rattle.mk_core.specs.Words.{Words, zero_words_of, quarantine_word, word_in, with_word_in, becomes}
+use Rattle.mk_core.specs.declared.accesses.Access.TheVariants.{Exchange, Or, Add, Sub}
+use Rattle.mk_core.specs.Words.{word_in, with_word_in, becomes}
 use Rattle.mk_core.proofs.Spread.{set_later, length_spread, spread_at, spread_set, word_at, word_set}
 use Rattle.mk_core.proofs.Spread.{length_words, words_set, zeros_spread}
 use Rattle.mk_core.specs.Layout.{index_of, IsOfTable, quarantine_words, gap, spread, regions, joined, in_order}
@@ -98,19 +95,7 @@ begins pages w h =
     ∙ sym h.snapshot) ∙ h.freed in
     let s : length (spread (length w.dirty) 1 15 w.dirty) ≡ 16 * length w.dirty = length_words w.dirty in
     let m = h.marks in let b = h.blacks in let d = h.dirty in let n = h.heap in
-    record {
-      gates = omega arith;
-      registers = omega arith;
-      globals = omega arith;
-      headers = omega arith;
-      used = omega arith;
-      quarantine = omega arith;
-      marks = omega arith;
-      blacks = omega arith;
-      dirty = omega arith;
-      heap = omega arith;
-      all = omega arith;
-    }
+    omega arith
 
 -- the word at k of region j, whose index is i
 at : (w : Words) (j k i n : ℕ) → before (regions w) j ≡ n → i ≡ n + k → k < length (region (regions w) j)
@@ -125,12 +110,6 @@ set_at w j k i n v b e lt = sym (ap (λ x. slice_set (in_order w) x v) (e ∙ ap
 
 named_stands : (pages : ℕ) (w : Words) (x : Word) → AreOfPages pages w → Begins pages w → IsOfTable pages (Named x)
     → slice_index (in_order w) (index_of pages (Named x)) ≡ word_in w (Named x)
-named_stands pages w word.Phase h b t = refl
-named_stands pages w word.Held h b t = refl
-named_stands pages w word.Fresh h b t = refl
-named_stands pages w word.Cycles h b t = refl
-named_stands pages w word.Released h b t = refl
-named_stands pages w word.Full h b t = refl
 named_stands pages w (word.Gate j) h b t =
     let l : length (spread 16 1 15 w.gates) ≡ 256 = length_spread 16 1 15 w.gates h.gates in
     at w 6 (16 * j) (48 + 16 * j) 48 b.gates refl (omega arith) ∙ word_at 16 w.gates j h.gates t
@@ -162,6 +141,7 @@ named_stands pages w (word.Dirty p) h b t =
     ∙ word_at (length w.dirty) w.dirty p refl (omega arith)
 named_stands pages w (word.Heap n) h b t = let l =
     h.heap in at w 17 n (656 + 21 * pages + n) (656 + 21 * pages) b.heap refl (omega arith)
+named_stands pages w _ h b t = refl
 
 pub words_stand : WordsStandAtTheirIndexes
 words_stand pages w Turn h t = refl
@@ -193,12 +173,6 @@ quarantine_whole v = mod-add-div v (2 ^ 32)
 named_changes : (pages : ℕ) (w : Words) (x : Word) (v : ℕ) → AreOfPages pages w → Begins pages w
     → IsOfTable pages (Named x)
     → in_order (with_word_in w (Named x) v) ≡ slice_set (in_order w) (index_of pages (Named x)) v
-named_changes pages w word.Phase v h b t = refl
-named_changes pages w word.Held v h b t = refl
-named_changes pages w word.Fresh v h b t = refl
-named_changes pages w word.Cycles v h b t = refl
-named_changes pages w word.Released v h b t = refl
-named_changes pages w word.Full v h b t = refl
 named_changes pages w (word.Gate j) v h b t =
     let l : length (spread 16 1 15 w.gates) ≡ 256 = length_spread 16 1 15 w.gates h.gates in
     ap (λ xs. put w 6 xs) (word_set 16 w.gates j v h.gates t)
@@ -243,6 +217,7 @@ named_changes pages w (word.Dirty p) v h b t =
     ∙ set_at w 16 (16 * p) (656 + 5 * pages + 16 * p) (656 + 5 * pages) v b.dirty refl (omega arith)
 named_changes pages w (word.Heap n) v h b t = let l =
     h.heap in set_at w 17 n (656 + 21 * pages + n) (656 + 21 * pages) v b.heap refl (omega arith)
+named_changes pages w _ v h b t = refl
 
 pub words_change : ChangesStandAtTheirIndexes
 words_change pages w Turn v h t = refl

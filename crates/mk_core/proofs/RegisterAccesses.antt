@@ -1,19 +1,13 @@
 -- What an access to a register or to a tally leaves alone.
-use Rattle.std.proofs.Common.{◌≡◌, ℕ, ◌<◌, true, refl}
-use Rattle.std.specs.Prelude.{◌&&◌, nat_lt}
+use Rattle.std.proofs.Common.{◌≡◌, ℕ, ◌<◌, true, refl, rules, nat_lt}
 use Rattle.std.proofs.lemmas.Bool.{and_parts, ltb-true}
-use Rattle.mk_never.specs.declared.operations.Op.{Op}
-use Rattle.mk_core.specs.declared.config.Config.{Config}
+use Rattle.mk_core.proofs.Vocabulary.{Access, Config, Flight, Load, Named, Op, Store, Words}
 use Rattle.mk_core.specs.declared.events.Tally.{Tally}
 use Rattle.mk_core.specs.declared.events.Tally.TheVariants as tally
 use Rattle.mk_core.specs.declared.events.Word.TheVariants as word
-use Rattle.mk_core.specs.declared.accesses.TableWord.TheVariants.{Named}
-use Rattle.mk_core.specs.declared.accesses.Access.{Access}
-use Rattle.mk_core.specs.declared.accesses.Access.TheVariants.{Load, Store}
 use Rattle.mk_core.specs.declared.seats.Stage.{Stage}
 use Rattle.mk_core.specs.declared.seats.Stage.TheVariants as stage
-use Rattle.mk_core.specs.declared.seats.Flight.{Flight}
-use Rattle.mk_core.specs.Words.{Words, accessed}
+use Rattle.mk_core.specs.Words.{accessed}
 use Rattle.mk_core.specs.Calls.{has_operands, has_type, q_of, p_of, r_of, d_of, g_of}
 use Rattle.mk_core.specs.Accesses.{register_met, tally_word}
 
@@ -46,34 +40,8 @@ register_changes w k r Load = refl
 register_changes w k r _ = refl
 
 pub register_leaves : (w : Words) (k r : ℕ) (a : Access) → LeavesTable w (accessed w (Named (word.Reg k r)) a)
-register_leaves w k r Load =
-    record {
-      phase = refl;
-      turn = refl;
-      gates = refl;
-      globals = refl;
-      pages = refl;
-      freed = refl;
-      snapshot = refl;
-      marks = refl;
-      blacks = refl;
-      dirty = refl;
-      heap = refl;
-    }
-register_leaves w k r _ =
-    record {
-      phase = refl;
-      turn = refl;
-      gates = refl;
-      globals = refl;
-      pages = refl;
-      freed = refl;
-      snapshot = refl;
-      marks = refl;
-      blacks = refl;
-      dirty = refl;
-      heap = refl;
-    }
+register_leaves w k r Load = search rules
+register_leaves w k r _ = search rules
 
 pub register_leaves_tallies : (w : Words) (k r : ℕ) (a : Access) → LeavesTallies w (accessed w (Named (word.Reg k r)) a)
 register_leaves_tallies w k r Load = record { held = refl; fresh = refl; cycles = refl; released = refl; full = refl }
@@ -81,34 +49,8 @@ register_leaves_tallies w k r _ = record { held = refl; fresh = refl; cycles = r
 
 -- and one to a tally the tallies alone.
 pub tally_leaves : (w : Words) (n : Tally) (v : ℕ) → LeavesTable w (accessed w (Named (tally_word n)) (Store v))
-tally_leaves w tally.Held v =
-    record {
-      phase = refl;
-      turn = refl;
-      gates = refl;
-      globals = refl;
-      pages = refl;
-      freed = refl;
-      snapshot = refl;
-      marks = refl;
-      blacks = refl;
-      dirty = refl;
-      heap = refl;
-    }
-tally_leaves w _ v =
-    record {
-      phase = refl;
-      turn = refl;
-      gates = refl;
-      globals = refl;
-      pages = refl;
-      freed = refl;
-      snapshot = refl;
-      marks = refl;
-      blacks = refl;
-      dirty = refl;
-      heap = refl;
-    }
+tally_leaves w tally.Held v = search rules
+tally_leaves w _ v = search rules
 
 pub tally_leaves_registers : (w : Words) (n : Tally) (v : ℕ)
     → (accessed w (Named (tally_word n)) (Store v)).registers ≡ w.registers
@@ -121,14 +63,10 @@ register_is_small c f s h = by f s (parts c f.op h)
   where
     parts : (c : Config) (o : Op) → has_operands c o ≡ true → (q_of o < 8) × (p_of o < 8) × (r_of o < 8) × (d_of o < 8)
     parts c o h =
-        let a = and_parts (nat_lt (q_of o) 8 && nat_lt (p_of o) 8 && nat_lt (r_of o) 8 && nat_lt (d_of o) 8
-        && nat_lt (g_of o) 64) (has_type c o) h in
-        let b = and_parts (nat_lt (q_of o) 8 && nat_lt (p_of o) 8 && nat_lt (r_of o) 8 && nat_lt (d_of o) 8)
-        (nat_lt (g_of o) 64) a.0 in
-        let d = and_parts (nat_lt (q_of o) 8 && nat_lt (p_of o) 8 && nat_lt (r_of o) 8) (nat_lt (d_of o) 8) b.0 in
-        let r = and_parts (nat_lt (q_of o) 8 && nat_lt (p_of o) 8) (nat_lt (r_of o) 8) d.0 in
-        let p = and_parts (nat_lt (q_of o) 8) (nat_lt (p_of o) 8) r.0 in
-        (ltb-true (q_of o) 8 p.0, ltb-true (p_of o) 8 p.1, ltb-true (r_of o) 8 r.1, ltb-true (d_of o) 8 d.1)
+        let d = and_parts _ _ (and_parts _ (nat_lt (g_of o) 64) (and_parts _ (has_type c o) h).0).0 in
+        let r = and_parts _ (nat_lt (r_of o) 8) d.0 in
+        let p = and_parts (nat_lt (q_of o) 8) _ r.0 in
+        (ltb-true _ 8 p.0, ltb-true _ 8 p.1, ltb-true _ 8 r.1, ltb-true _ 8 d.1)
 
     by : (f : Flight) (s : Stage) → (q_of f.op < 8) × (p_of f.op < 8) × (r_of f.op < 8) × (d_of f.op < 8)
         → register_met f s < 8

@@ -1,22 +1,16 @@
 -- What the steps that serve a new object find and store.
 use Rattle.std.proofs.Common.{◌≡◌, ◌≢◌, ℕ, ◌+◌, ◌-◌, ◌<◌, ◌≤◌, ◌^◌, true, false, refl}
-use Rattle.std.specs.Prelude.{◌&&◌, not, ◌==◌, nat_le, nat_lt, Option, Some, None}
+use Rattle.std.specs.Prelude.{not, ◌==◌, nat_lt, Option, Some, None}
 use Rattle.std.proofs.lemmas.Bool.{and_parts, eqb-true, eqb-false, leb-true, ltb-true, not-true}
-use Rattle.mk_geom.specs.declared.pages.Place.{Place}
-use Rattle.mk_core.specs.declared.config.Config.{Config}
-use Rattle.mk_core.specs.declared.events.Step.{Step}
+use Rattle.mk_core.proofs.Vocabulary.{Config, Flight, has_bit, header_at, header_made, is_phase, Moment, Object}
+use Rattle.mk_core.proofs.Vocabulary.{object_made, pages_made, Place, place_now, stands, Step, Words}
 use Rattle.mk_core.specs.declared.events.Step.TheVariants as step
-use Rattle.mk_core.specs.declared.seats.Object.{Object}
-use Rattle.mk_core.specs.declared.seats.Flight.{Flight}
-use Rattle.mk_core.specs.Words.{Words, header_at, used_at}
-use Rattle.mk_core.specs.Bits.{has_bit}
+use Rattle.mk_core.specs.Words.{used_at}
 use Rattle.mk_core.specs.Bounded.{all_below}
-use Rattle.mk_core.specs.NewPlaces.{object_made, pages_made, header_made, bits_made, stands, is_next_header}
-use Rattle.mk_core.specs.NewPlaces.{place_stands}
-use Rattle.mk_core.specs.TurnConditions.{place_now, carves, takes_cell, is_marked_first}
+use Rattle.mk_core.specs.NewPlaces.{bits_made, is_next_header}
+use Rattle.mk_core.specs.TurnConditions.{carves, takes_cell, is_marked_first}
 use Rattle.mk_core.specs.StopConditions.{marks_place}
 use Rattle.mk_core.specs.Placement.{serves}
-use Rattle.mk_core.specs.Moments.{Moment, is_phase}
 use Rattle.mk_core.proofs.AllBelow.{all_below-at}
 
 -- the first page of this many that hasn't the header that is wanted there, and that header
@@ -31,22 +25,19 @@ pub next_header : (w : Words) (first count : ℕ) (wanted : ℕ → ℕ) (page v
     → is_next_header w first count wanted page value ≡ true
     → IsNextHeader w first count wanted page value
 next_header w first count wanted page value h =
-    let low = nat_le first page in
     let near = nat_lt (page - first) count in
     let not_yet = not (header_at w page == wanted (page - first)) in
     let before = all_below (page - first) (stands w first wanted) in
-    let a = and_parts (low && near && not_yet && before) (value == wanted (page - first)) h in
-    let b = and_parts (low && near && not_yet) before a.0 in
-    let d = and_parts (low && near) not_yet b.0 in
-    let e = and_parts low near d.0 in
+    let a = and_parts _ _ h in
+    let b = and_parts _ _ a.0 in
+    let d = and_parts _ _ b.0 in
+    let e = and_parts _ _ d.0 in
     record {
-      from = leb-true first page e.0;
-      near = ltb-true (page - first) count e.1;
-      not_yet = eqb-false (header_at w page) (wanted (page - first))
-          (not-true (header_at w page == wanted (page - first)) d.1);
-      before = λ k lt. eqb-true (header_at w (first + k)) (wanted k)
-          (all_below-at (page - first) k (stands w first wanted) b.1 lt);
-      is = eqb-true value (wanted (page - first)) a.1;
+      from = leb-true _ _ e.0;
+      near = ltb-true _ _ e.1;
+      not_yet = eqb-false _ _ (not-true _ d.1);
+      before = λ k lt. eqb-true _ _ (all_below-at (page - first) k (stands w first wanted) b.1 lt);
+      is = eqb-true _ _ a.1;
     }
 
 -- the place's cell, after all its headers, whose used bit isn't set, and the word with that bit
@@ -59,18 +50,14 @@ pub record IsCellTaken (w : Words) (o : Object) (place : Place) (page value : �
 pub cell_taken : (w : Words) (o : Object) (place : Place) (page value : ℕ)
     → takes_cell w o (Some place) page value ≡ true → IsCellTaken w o place page value
 cell_taken w o place page value h =
-    let here = page == place.page in
-    let stand = place_stands w o place in
-    let unused = not (has_bit (used_at w page) place.index) in
-    let a = and_parts (here && stand && unused) (value == used_at w page + 2 ^ place.index) h in
-    let b = and_parts (here && stand) unused a.0 in
-    let d = and_parts here stand b.0 in
+    let a = and_parts _ _ h in
+    let b = and_parts _ _ a.0 in
+    let d = and_parts _ _ b.0 in
     record {
-      at = eqb-true page place.page d.0;
-      headers = λ k lt. eqb-true (header_at w (place.page + k)) (header_made o k)
-          (all_below-at (pages_made o) k (stands w place.page (header_made o)) d.1 lt);
-      unused = not-true (has_bit (used_at w page) place.index) b.1;
-      is = eqb-true value (used_at w page + 2 ^ place.index) a.1;
+      at = eqb-true _ _ d.0;
+      headers = λ k lt. eqb-true _ _ (all_below-at (pages_made o) k (stands w place.page (header_made o)) d.1 lt);
+      unused = not-true _ b.1;
+      is = eqb-true _ _ a.1;
     }
 
 -- the bits of the cells of the place's first page, which has no header yet
@@ -83,16 +70,14 @@ pub record IsPlaceMarked (w : Words) (o : Object) (place : Place) (page value : 
 pub place_marked : (w : Words) (o : Object) (place : Place) (page value : ℕ)
     → marks_place w o (Some place) page value ≡ true → IsPlaceMarked w o place page value
 place_marked w o place page value h =
-    let here = page == place.page in
-    let free = header_at w page == 0 in
-    let a = and_parts (is_phase w 1 && here && free) (value == bits_made o) h in
-    let b = and_parts (is_phase w 1 && here) free a.0 in
-    let d = and_parts (is_phase w 1) here b.0 in
+    let a = and_parts _ _ h in
+    let b = and_parts _ _ a.0 in
+    let d = and_parts _ _ b.0 in
     record {
       phase = d.0;
-      at = eqb-true page place.page d.1;
-      free = eqb-true (header_at w page) 0 b.1;
-      is = eqb-true value (bits_made o) a.1;
+      at = eqb-true _ _ d.1;
+      free = eqb-true _ 0 b.1;
+      is = eqb-true _ _ a.1;
     }
 
 -- Each of these has a place.
@@ -106,8 +91,7 @@ pub carves_is : (w : Words) (o : Object) (found : Option Place) (page value : �
     → Carves w o found page value
 carves_is w o None page value h = cc
 carves_is w o (Some place) page value h =
-    let a = and_parts (is_next_header w place.page (pages_made o) (header_made o) page value)
-    (is_marked_first w o place) h in
+    let a = and_parts _ _ h in
     record {
       place = place;
       there = refl;
@@ -148,13 +132,12 @@ pub data ServesBy (c : Config) (m : Moment) (f : Flight) : Step → Type 0 where
 
 pub serves_by : (c : Config) (m : Moment) (f : Flight) (s : Step) → serves c m f s ≡ true → ServesBy c m f s
 serves_by c m f (step.Head page value) h =
-    let a = and_parts (not (is_phase m.words 4)) (carves m.words (object_made c f.op) (place_now c m f) page value) h in
-    ByHeader page value (not-true (is_phase m.words 4) a.0)
+    let a = and_parts _ _ h in
+    ByHeader page value (not-true _ a.0)
     (carves_is m.words (object_made c f.op) (place_now c m f) page value a.1)
 serves_by c m f (step.Used page value) h =
-    let a = and_parts (not (is_phase m.words 4)) (takes_cell m.words (object_made c f.op) (place_now c m f) page value)
-    h in
-    ByCell page value (not-true (is_phase m.words 4) a.0)
+    let a = and_parts _ _ h in
+    ByCell page value (not-true _ a.0)
     (takes_is m.words (object_made c f.op) (place_now c m f) page value a.1)
 serves_by c m f (step.Mark page value) h =
     ByMark page value (marks_is m.words (object_made c f.op) (place_now c m f) page value h)

@@ -6,11 +6,10 @@ use Rattle.std.specs.List.{list_any, position_or_len, position}
 use Rattle.std.proofs.lemmas.Bool.{cases_Bool, le-leb, lt-leb, leb-true, ne_eqb, or_left, or_right, cond-true}
 use Rattle.std.proofs.lemmas.Bool.{cond-false}
 use Rattle.std.proofs.lemmas.Bool.Decides.{leb_tells}
-use Rattle.mk_geom.specs.Classes.{class_sizes, class_words_of, cells_of, class_for, run_pages_of}
+use Rattle.mk_core.proofs.Vocabulary.{cells_made, cells_of, class_made, class_words_of, is_small_object, IsSized}
+use Rattle.mk_core.proofs.Vocabulary.{Object, pages_made, words_made}
+use Rattle.mk_geom.specs.Classes.{class_sizes, class_for, run_pages_of}
 use Rattle.mk_geom.proofs.ClassTable.{class_for-some, class_words_within, some_cells}
-use Rattle.mk_core.specs.declared.seats.Object.{Object}
-use Rattle.mk_core.specs.NewPlaces.{is_small_object, class_made, pages_made}
-use Rattle.mk_core.specs.ObjectHeaders.{IsSized, cells_made, words_made}
 use Rattle.mk_core.specs.HistoryLaws.{LargeIsNotSmall}
 
 over_is_not : (n : ℕ) → nat_lt 32 n ≡ not (nat_le n 32)

@@ -1,21 +1,19 @@
 -- The two lists of a small heap are histories: within limits, enabled, and of admitted calls.
-use Rattle.std.proofs.Common.{◌≡◌, ℕ, true, false, List, [], ◌∷◌, ◌++◌, ◌<◌, All, refl, sym, subst}
-use Rattle.std.specs.Prelude.{◌==◌}
+use Rattle.std.proofs.Common.{◌≡◌, ℕ, true, false, List, [], ◌∷◌, ◌++◌, ◌<◌, All, refl, sym, subst, arith}
 use Rattle.std.proofs.lemmas.Bool.{and_parts, eqb-true, leb-true, ltb-true}
 use Rattle.std.proofs.lemmas.List.Elements.{All-nil, All-cons}
-use Rattle.mk_never.specs.declared.types.Kind.TheVariants.{Num, To}
+use Rattle.mk_core.proofs.Vocabulary.{asked, calls, Config, Event, first_world, IsHistory, IsWithinLimits, never_first}
+use Rattle.mk_core.proofs.Vocabulary.{To, World, world_behind}
+use Rattle.mk_never.specs.declared.types.Kind.TheVariants.{Num}
 use Rattle.mk_never.specs.declared.operations.Op.TheVariants as op
 use Rattle.mk_never.specs.NeverHeap.{Call}
 use Rattle.mk_never.specs.Admitted.{AreAdmitted}
-use Rattle.mk_core.specs.declared.config.Config.{Config}
-use Rattle.mk_core.specs.declared.events.Event.{Event}
-use Rattle.mk_core.specs.Config.{IsWithinLimits, IsAmong, IsTypeAmong}
+use Rattle.mk_core.specs.Config.{IsAmong, IsTypeAmong}
 use Rattle.mk_core.specs.Bounded.{all_below}
 use Rattle.mk_core.specs.Cells.{pointed_cell}
-use Rattle.mk_core.specs.Enabled.{failing}
-use Rattle.mk_core.specs.Decided.{asked}
-use Rattle.mk_core.specs.History.{World, first_world, world_behind, left_from, calls_from, AreEnabledFrom, calls}
-use Rattle.mk_core.specs.History.{never_first, IsHistory}
+use Rattle.mk_core.specs.History.{left_from, calls_from, AreEnabledFrom}
+use Rattle.mk_core.proofs.EventsAt.{◌and◌}
+use Rattle.mk_core.proofs.EvaluatedHistories.{admitted}
 use Rattle.mk_core.proofs.SmallCycles.{small, all_enabled, stopped_are_enabled, beside_are_enabled}
 use Rattle.mk_core.proofs.SmallCycles.{three_objects, begun_in_stop, marked_in_stop, written_beside, marked_beside}
 use Rattle.mk_core.proofs.SmallCycles.{third_released, stopped_cycle}
@@ -24,8 +22,8 @@ pub enabled_by_test : (c : Config) (w : World) (es : List Event) → all_enabled
 unfolding AreEnabledFrom all_enabled
 enabled_by_test c w [] h = tt
 enabled_by_test c w (e ∷ es) h =
-    let both = and_parts (failing c w.now e == 0) (all_enabled c (world_behind c w e) es) h in
-    (eqb-true (failing c w.now e) 0 both.0, enabled_by_test c (world_behind c w e) es both.1)
+    let both = and_parts _ _ h in
+    (eqb-true _ 0 both.0, enabled_by_test c (world_behind c w e) es both.1)
 
 kinds_are_among : All (IsAmong small.types) (To 0 0 ∷ Num ∷ [])
 kinds_are_among =
@@ -57,45 +55,14 @@ small_calls =
     ∷ record { caller = 0; op = op.Clear 1 } ∷ []
 
 small_calls_are_admitted : AreAdmitted [] (never_first small) small_calls
-small_calls_are_admitted = (
-  record {
-    of_a_caller = ltb-true 7 8 refl;
-    in_range = (ltb-true 0 8 refl, ltb-true 0 1 refl);
-    access = tt;
-    store = tt;
-  },
-  (
-    record {
-      of_a_caller = ltb-true 7 8 refl;
-      in_range = (ltb-true 1 8 refl, ltb-true 0 1 refl);
-      access = tt;
-      store = tt;
-    },
-    (
-      record {
-        of_a_caller = ltb-true 7 8 refl;
-        in_range = (ltb-true 2 8 refl, ltb-true 0 1 refl);
-        access = tt;
-        store = tt;
-      },
-      (
-        record { of_a_caller = ltb-true 7 8 refl; in_range = ltb-true 2 8 refl; access = tt; store = refl },
-        (
-          record { of_a_caller = ltb-true 7 8 refl; in_range = ltb-true 2 8 refl; access = tt; store = tt },
-          (
-            record {
-              of_a_caller = ltb-true 7 8 refl;
-              in_range = (ltb-true 0 8 refl, ltb-true 1 8 refl);
-              access = (ltb-true 0 2 refl, refl);
-              store = (ltb-true 0 2 refl, (refl, refl));
-            },
-            (record { of_a_caller = ltb-true 7 8 refl; in_range = ltb-true 1 8 refl; access = tt; store = tt }, tt),
-          ),
-        ),
-      ),
-    ),
-  ),
-)
+small_calls_are_admitted =
+    admitted (omega arith) (omega arith) tt tt
+    and admitted (omega arith) (omega arith) tt tt
+    and admitted (omega arith) (omega arith) tt tt
+    and admitted (omega arith) (omega arith) tt refl
+    and admitted (omega arith) (omega arith) tt tt
+    and admitted (omega arith) (omega arith) (omega arith, refl) (omega arith, (refl, refl))
+    and admitted (omega arith) (omega arith) tt tt and tt
 
 calls_in_stop : asked (calls small stopped_cycle) ≡ small_calls
 unfolding left_from calls_from all_below pointed_cell begun_in_stop three_objects marked_in_stop

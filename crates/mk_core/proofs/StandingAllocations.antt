@@ -1,32 +1,26 @@
 -- The storage and the cell of an allocation that stands on the heap.
 use Rattle.std.proofs.Common.{◌≡◌, ℕ, ◌+◌, ◌-◌, ◌*◌, ◌/◌, ◌%◌, ◌<◌, ◌≤◌, Bool, true, false, [], length, refl, sym, ◌∙◌}
-use Rattle.std.proofs.Common.{ap, subst, inl, inr, arith, ◌⊎◌, zero, suc}
-use Rattle.std.specs.Prelude.{◌&&◌, not}
+use Rattle.std.proofs.Common.{ap, subst, inl, inr, arith, ◌⊎◌, zero, suc, ◌&&◌, not}
 use Rattle.std.proofs.lemmas.Bool.{cases_Bool, true≢false, cond-true, cond-false}
 use Rattle.std.proofs.Math.Bool.{and-false}
-use Rattle.mk_never.specs.Types.{kinds_of, is_large}
-use Rattle.mk_geom.specs.declared.addresses.Cell.{Cell}
-use Rattle.mk_geom.specs.declared.pages.Place.{Place}
-use Rattle.mk_geom.specs.Addresses.{page_at_address}
-use Rattle.mk_geom.specs.Classes.{class_words_of, cells_of}
+use Rattle.mk_core.proofs.Vocabulary.{base_made, BeginsAtCell, Cell, cell_of_storage, cells_made, cells_of, cells_under}
+use Rattle.mk_core.proofs.Vocabulary.{class_made, class_words_of, Config, HasItsHeaders, header_at, header_in}
+use Rattle.mk_core.proofs.Vocabulary.{is_small_object, IsHeaderOf, IsSized, IsWithinLimits, kinds_of, Object}
+use Rattle.mk_core.proofs.Vocabulary.{object_placed, page_at_address, pages_made, Place, PlacedAllocation, storage_of}
+use Rattle.mk_core.proofs.Vocabulary.{unmapped_header, Words, words_made, words_under}
+use Rattle.mk_never.specs.Types.{is_large}
 use Rattle.mk_geom.specs.Headers.{word_of}
 use Rattle.mk_geom.specs.Storages.{stands_on, run_header, IsCell, IsRun, IsStorage}
-use Rattle.mk_geom.specs.StorageWords.{cell_of_storage, ShowsStorage}
+use Rattle.mk_geom.specs.StorageWords.{ShowsStorage}
 use Rattle.mk_geom.proofs.ClassTable.{cell_ends, class_words_within}
 use Rattle.mk_geom.proofs.Standing.{stands_parts}
 use Rattle.mk_geom.proofs.PointedCells.{cell_from_first, small_cell_of, large_cell_of, cell_first, stands_at_address}
 use Rattle.mk_geom.proofs.PointedCells.{shows_cell, shows_run, points_into_cell}
-use Rattle.mk_core.specs.declared.config.Config.{Config}
-use Rattle.mk_core.specs.declared.seats.Object.{Object}
-use Rattle.mk_core.specs.Config.{IsWithinLimits}
-use Rattle.mk_core.specs.Words.{Words, header_at}
-use Rattle.mk_core.specs.Cells.{pointed_cell, header_in, cells_under, words_under}
-use Rattle.mk_core.specs.NewPlaces.{is_small_object, class_made, pages_made, unmapped_header, base_made}
-use Rattle.mk_core.specs.ObjectHeaders.{IsSized, cells_made, words_made, ShowsPart, IsHeaderOf}
-use Rattle.mk_core.specs.Allocations.{PlacedAllocation, is_mapped, storage_words, storage_of}
-use Rattle.mk_core.specs.StandingAllocations.{object_placed, BeginsAtCell, HasItsHeaders, StorageHoldsObjects}
-use Rattle.mk_core.specs.StandingAllocations.{StandingHasStorage, HeadersShowStorage, PointersHitAllocations}
-use Rattle.mk_core.specs.StandingAllocations.{CellsBeginAtBases}
+use Rattle.mk_core.specs.Cells.{pointed_cell}
+use Rattle.mk_core.specs.ObjectHeaders.{ShowsPart}
+use Rattle.mk_core.specs.Allocations.{is_mapped, storage_words}
+use Rattle.mk_core.specs.StandingAllocations.{StorageHoldsObjects, StandingHasStorage, HeadersShowStorage}
+use Rattle.mk_core.specs.StandingAllocations.{PointersHitAllocations, CellsBeginAtBases}
 use Rattle.mk_core.proofs.Sizes.{large_is_not_small, small_cells, large_cells, small_pages, small_words, large_words}
 use Rattle.mk_core.proofs.Sizes.{class_known, large_count, words_are_small, words_within, words_hold, pages_some}
 use Rattle.mk_core.proofs.ObjectHeaders.{small_header, large_header, header_shows, part_cells, part_words}

@@ -1,18 +1,16 @@
 -- What a step says of the histories for which the core stood.
 use Rattle.std.proofs.Common.{◌≡◌, ◌↔◌, ◌≤◌, List, [], ◌∷◌, ◌++◌, Option, Result, Ok, Err, MatchResult, IsOk, IfOk}
 use Rattle.std.proofs.Common.{OnOk, refl, sym, ◌∙◌, ap, subst, arith}
+use Rattle.mk_core.proofs.Vocabulary.{calls, Config, CoreState, Event, failing, first_moment, first_world, flight_of}
+use Rattle.mk_core.proofs.Vocabulary.{IsEnabled, left, Moment, World}
 use Rattle.mk_never.specs.declared.never_heap.NoMemory.{NoMemory}
-use Rattle.mk_core.specs.declared.config.Config.{Config}
 use Rattle.mk_core.specs.declared.events.Answer.{Answer}
-use Rattle.mk_core.specs.declared.events.Event.{Event}
 use Rattle.mk_core.specs.declared.events.NotEnabled.{NotEnabled}
 use Rattle.mk_core.specs.Accesses.{caller_number}
-use Rattle.mk_core.specs.Moments.{Moment, first_moment, flight_of}
-use Rattle.mk_core.specs.Enabled.{IsEnabled, failing}
 use Rattle.mk_core.specs.Effects.{moment_behind, answer_decided}
-use Rattle.mk_core.specs.History.{World, first_world, left_from, left, AreEnabledFrom, AreEnabled, calls}
+use Rattle.mk_core.specs.History.{left_from, AreEnabledFrom, AreEnabled}
 use Rattle.mk_core.specs.Decided.{entry_of}
-use Rattle.mk_core.specs.Standing.{CoreState, CoreStandsFor}
+use Rattle.mk_core.specs.Standing.{CoreStandsFor}
 use Rattle.mk_core.proofs.Histories.{left_more, enabled_more, last_enabled, calls_more}
 
 abbrev Tells : CoreState → Event → Result (Option Answer) NotEnabled → Type 0

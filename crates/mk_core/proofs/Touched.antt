@@ -1,10 +1,7 @@
 -- What is touched is the least set that is closed under pointers along the cycle.
 use Rattle.std.proofs.Common.{◌≡◌, ℕ, Bool, true, List}
-use Rattle.mk_core.specs.declared.config.Config.{Config}
-use Rattle.mk_core.specs.declared.events.Event.{Event}
-use Rattle.mk_core.specs.Cycles.{Marking}
-use Rattle.mk_core.specs.Touched.{IsTouched, by_register, by_global, by_word, IsClosedAlong, TouchedIsClosed}
-use Rattle.mk_core.specs.Touched.{TouchedIsLeast}
+use Rattle.mk_core.proofs.Vocabulary.{Config, Event, IsClosedAlong, Marking}
+use Rattle.mk_core.specs.Touched.{IsTouched, by_register, by_global, by_word, TouchedIsClosed, TouchedIsLeast}
 
 pub touched_is_closed : (c : Config) (es : List Event) (k : Marking es) → TouchedIsClosed c k
 touched_is_closed c es k = record { registers = by_register; globals = by_global; words = by_word }

@@ -3,17 +3,13 @@ use Rattle.std.proofs.Common.{◌≡◌, ℕ, Bool, true, not, ◌&&◌, ◌||�
 use Rattle.std.specs.List.{list_all}
 use Rattle.std.proofs.Math.Bool.{or-true}
 use Rattle.std.proofs.lemmas.Bool.{and_parts, and_from, not_from_false, le-leb}
-use Rattle.mk_never.specs.declared.values.Value.{Value}
-use Rattle.mk_never.specs.declared.values.Value.TheVariants.{Null}
-use Rattle.mk_never.specs.NeverHeap.{NeverState}
+use Rattle.mk_core.proofs.Vocabulary.{Config, Event, IsClosedAlong, left, Marking, never_behind, never_granted}
+use Rattle.mk_core.proofs.Vocabulary.{NeverState, Null, placed_at, PlacedAllocation, storage_of, Value, World}
 use Rattle.mk_geom.specs.Addresses.{heap_word_at}
-use Rattle.mk_core.specs.declared.config.Config.{Config}
-use Rattle.mk_core.specs.declared.events.Event.{Event}
 use Rattle.mk_core.specs.Image.{image_of}
-use Rattle.mk_core.specs.Allocations.{PlacedAllocation, never_granted, placed_at, storage_of}
-use Rattle.mk_core.specs.History.{World, left, never_behind, bases_of}
-use Rattle.mk_core.specs.Cycles.{Marking, through}
-use Rattle.mk_core.specs.Touched.{LeadsToMoment, PointsIntoAllocation, IsWordOfAllocation, IsClosedAlong}
+use Rattle.mk_core.specs.History.{bases_of}
+use Rattle.mk_core.specs.Cycles.{through}
+use Rattle.mk_core.specs.Touched.{LeadsToMoment, PointsIntoAllocation, IsWordOfAllocation}
 use Rattle.mk_core.proofs.ListTests.{implied, list_all-at, numbered_all, numbered_all-at, all_fronts, all_fronts-at}
 use Rattle.mk_core.proofs.MarkTests.{is_word_of, is_word_of_by}
 
@@ -49,11 +45,10 @@ pub points_into : (c : Config) (w : World) (S : ℕ → Bool) (value b : ℕ)
     → is_into_members c w S value ≡ true → PointsIntoAllocation c w value b → S b ≡ true
 points_into c w S value b h points =
     let a = placed_at w.allocations b in
-    let inside = is_word_of (storage_of c a) (heap_word_at value) in
     let all = implied (nat_le 65536 value) _ h (le-leb _ _ points.1.0) in
     let each = numbered_all-at (points_into_member c S value) w.allocations never_granted all (λ i. refl) b in
     let word = is_word_of_by (storage_of c a) (heap_word_at value) points.1.1 in
-    implied _ _ each (and_from (not a.released) inside (not_from_false a.released points.0) word)
+    implied _ _ each (and_from _ _ (not_from_false a.released points.0) word)
 
 pub word_points_into : (c : Config) (w : World) (S : ℕ → Bool) (a n b : ℕ)
     → numbered_all (words_are_into_members c w S) w.allocations ≡ true
@@ -61,9 +56,9 @@ pub word_points_into : (c : Config) (w : World) (S : ℕ → Bool) (a n b : ℕ)
 word_points_into c w S a n b h member inside points =
     let x = placed_at w.allocations a in
     let each = numbered_all-at (words_are_into_members c w S) w.allocations never_granted h (λ i. refl) a in
-    let follow = and_from (not (storage_of c x).leaf) (S a) (not_from_false _ inside.1) member in
+    let follow = and_from _ _ (not_from_false _ inside.1) member in
     let all = implied _ _ each
-    (and_from (not x.released) (not (storage_of c x).leaf && S a) (not_from_false _ inside.0) follow) in
+    (and_from _ _ (not_from_false _ inside.0) follow) in
     let word = numbered_all-at (word_is_into_members c w S x) w.now.words.heap 0 all
     (λ i. or-true (not (is_word_of (storage_of c x) i))) n in
     points_into c w S _ b (implied _ _ word (is_word_of_by (storage_of c x) n inside.2)) points
@@ -96,8 +91,6 @@ closed_along_by_test c es k S h =
         × (list_all (is_into_members c (left c front) S) (left c front).now.words.globals ≡ true)
         × (numbered_all (words_are_into_members c (left c front) S) (left c front).allocations ≡ true)
     parts front at =
-        let outer = and_parts _ (numbered_all (words_are_into_members c (left c front) S) (left c front).allocations)
-        (closed_at front at) in
-        let roots = and_parts (list_all (register_is_into_members c (left c front) S) (never_behind c front).registers)
-        _ outer.0 in
+        let outer = and_parts _ _ (closed_at front at) in
+        let roots = and_parts _ _ outer.0 in
         (roots.0, roots.1, outer.1)

@@ -1,11 +1,9 @@
 -- The unreleased storage: in parts, after changes, and which allocation has a storage of it.
 use Rattle.std.proofs.Common.{◌≡◌, ℕ, zero, suc, true, false, List, [], ◌∷◌, ◌++◌, map, refl, sym, ◌∙◌, ap, subst, inl}
-use Rattle.std.proofs.Common.{inr, arith}
-use Rattle.std.specs.Prelude.{Contains}
+use Rattle.std.proofs.Common.{inr, arith, Contains}
 use Rattle.std.proofs.lemmas.Bool.{cases_Bool, true≢false, cond-true, cond-false}
-use Rattle.mk_geom.specs.Storages.{Storage}
-use Rattle.mk_core.specs.declared.config.Config.{Config}
-use Rattle.mk_core.specs.Allocations.{PlacedAllocation, placed_at, storage_of, unreleased_storage}
+use Rattle.mk_core.proofs.Vocabulary.{Config, placed_at, PlacedAllocation, Storage, storage_of}
+use Rattle.mk_core.specs.Allocations.{unreleased_storage}
 use Rattle.mk_core.specs.StandingAllocations.{HasStorage, UnreleasedStorageIsOfAllocations, UnreleasedStorageInParts}
 
 -- one allocation more at the front

@@ -10,7 +10,8 @@ use Rattle.std.proofs.lemmas.List.{get_or-set_same, get_or-set_other, set_past}
 use Rattle.std.proofs.lemmas.Nat.{or_disjoint, and_le_l, pow-add}
 use Rattle.std.proofs.lemmas.Nat.Bits.{and_pow, bit_at_or, bit_at_and, bit_at_xor, bit_at-pow_same, bit_at-pow_other}
 use Rattle.std.proofs.lemmas.Nat.Bits.{bit_at-lt, bit_at-zero, same_from_bits}
-use Rattle.mk_core.specs.Bits.{has_bit, bit_for, without}
+use Rattle.mk_core.proofs.Vocabulary.{has_bit}
+use Rattle.mk_core.specs.Bits.{bit_for, without}
 
 pub bit_is_one : (n k : ℕ) → has_bit n k ≡ true → bit_at n k ≡ 1
 bit_is_one n k h = eqb-true (bit_at n k) 1 h

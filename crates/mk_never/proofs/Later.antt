@@ -6,8 +6,8 @@ use Rattle.mk_never.specs.declared.values.Value.{Value}
 use Rattle.mk_never.specs.declared.values.Value.TheVariants.{Null, Num, Ptr}
 use Rattle.mk_never.specs.declared.values.Target.{Target}
 use Rattle.mk_never.specs.declared.operations.Op.{Op}
-use Rattle.mk_never.specs.declared.operations.Op.TheVariants.{New, Free, GetNum, SetNum, GetPtr, SetPtr, CasPtr, Lea}
-use Rattle.mk_never.specs.declared.operations.Op.TheVariants.{Move, Clear, GetGlobal, SetGlobal, Same, IsNull}
+use Rattle.mk_never.specs.declared.operations.Op.TheVariants.{New, Free, SetNum, GetPtr, SetPtr, CasPtr, Lea}
+use Rattle.mk_never.specs.declared.operations.Op.TheVariants.{Move, Clear, GetGlobal, SetGlobal}
 use Rattle.mk_never.specs.NeverHeap.{NeverState, Allocation, Call, no_allocation, register_at, allocation_at, words_of}
 use Rattle.mk_never.specs.NeverHeap.{word_at, with_register, with_global, with_word, with_freed, with_new, is_same}
 use Rattle.mk_never.specs.NeverHeap.{left_at, after_free, after_op, after_calls}
@@ -108,7 +108,6 @@ op_stays n c (New d ty full) =
     if_by (λ m. Continues n m) full _ _ (λ e. same n)
     (λ e. join n (with_new n ty) _ (new_stays n ty) (register_stays (with_new n ty) c d _))
 op_stays n c (Free p) = free_stays n (register_at n c p)
-op_stays n c (GetNum q i) = same n
 op_stays n c (SetNum q i m) = access_stays n _ n _ (same n) (λ number place. word_stays n number place _)
 op_stays n c (GetPtr d q i) = access_stays n _ _ _ (register_stays n c d _) (λ number place. register_stays n c d _)
 op_stays n c (SetPtr q i p) = access_stays n _ n _ (same n) (λ number place. word_stays n number place _)
@@ -121,8 +120,7 @@ op_stays n c (Move d q) = register_stays n c d _
 op_stays n c (Clear d) = register_stays n c d _
 op_stays n c (GetGlobal d g) = register_stays n c d _
 op_stays n c (SetGlobal g p) = global_stays n g _
-op_stays n c (Same p q) = same n
-op_stays n c (IsNull p) = same n
+op_stays n c _ = same n
 
 pub calls_stay : (n : NeverState) (calls : List Call) → Continues n (after_calls n calls)
 calls_stay n [] = same n

@@ -5,8 +5,8 @@ use Rattle.mk_never.specs.declared.values.Value.{Value}
 use Rattle.mk_never.specs.declared.values.Value.TheVariants.{Null, Num, Ptr}
 use Rattle.mk_never.specs.declared.values.Target.{Target}
 use Rattle.mk_never.specs.declared.operations.Op.{Op}
-use Rattle.mk_never.specs.declared.operations.Op.TheVariants.{New, Free, GetNum, SetNum, GetPtr, SetPtr, CasPtr, Lea}
-use Rattle.mk_never.specs.declared.operations.Op.TheVariants.{Move, Clear, GetGlobal, SetGlobal, Same, IsNull}
+use Rattle.mk_never.specs.declared.operations.Op.TheVariants.{New, Free, SetNum, GetPtr, SetPtr, CasPtr, Lea}
+use Rattle.mk_never.specs.declared.operations.Op.TheVariants.{Move, Clear, GetGlobal}
 use Rattle.mk_never.specs.NeverHeap.{NeverState, Call, register_at, word_at, with_register, with_new, is_same, left_at}
 use Rattle.mk_never.specs.NeverHeap.{after_free, after_op, after_calls}
 use Rattle.mk_never.specs.Admitted.{OperandsAreInRange, IsAdmitted, AreAdmitted}
@@ -36,7 +36,6 @@ op_keeps n caller c (New d ty full) other in_range =
     if_by (λ m. KeepsRegisters caller n m) full _ _ (λ e r below. refl)
     (λ e. other_register (with_new n ty) caller c d _ other in_range)
 op_keeps n caller c (Free p) other in_range = free_keeps n caller (register_at n c p)
-op_keeps n caller c (GetNum q i) other in_range = λ r below. refl
 op_keeps n caller c (SetNum q i m) other in_range =
     access_keeps n caller _ n _ (λ r below. refl) (λ number place r below. refl)
 op_keeps n caller c (GetPtr d q i) other in_range =
@@ -52,9 +51,7 @@ op_keeps n caller c (Lea d q i) other in_range = other_register n caller c d _ o
 op_keeps n caller c (Move d q) other in_range = other_register n caller c d _ other in_range
 op_keeps n caller c (Clear d) other in_range = other_register n caller c d _ other in_range
 op_keeps n caller c (GetGlobal d g) other in_range = other_register n caller c d _ other in_range
-op_keeps n caller c (SetGlobal g p) other in_range = λ r below. refl
-op_keeps n caller c (Same p q) other in_range = λ r below. refl
-op_keeps n caller c (IsNull p) other in_range = λ r below. refl
+op_keeps n caller c _ other in_range = λ r below. refl
 
 pub calls_keep : (n : NeverState) (caller : ℕ) (calls : List Call) → AreByOthers caller calls
     → KeepsRegisters caller n (after_calls n calls)
@@ -66,19 +63,12 @@ calls_keep n caller (x ∷ xs) others =
 -- operands in range: so is the register that is set
 pub destination : (n : NeverState) (op : Op) → OperandsAreInRange n op → DestinationIsInRange op
 destination n (New d ty full) h = h.0
-destination n (Free p) h = tt
-destination n (GetNum q i) h = tt
-destination n (SetNum q i m) h = tt
 destination n (GetPtr d q i) h = h.0
-destination n (SetPtr q i p) h = tt
-destination n (CasPtr q i p r) h = tt
 destination n (Lea d q i) h = h.0
 destination n (Move d q) h = h.0
 destination n (Clear d) h = h
 destination n (GetGlobal d g) h = h.0
-destination n (SetGlobal g p) h = tt
-destination n (Same p q) h = tt
-destination n (IsNull p) h = tt
+destination n _ h = tt
 
 -- admitted calls set registers of their own callers
 pub by_others : (globals : List ℕ) (n : NeverState) (caller : ℕ) (calls : List Call) → AreAdmitted globals n calls

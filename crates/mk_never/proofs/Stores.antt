@@ -8,8 +8,7 @@ use Rattle.mk_never.specs.declared.values.Value.TheVariants.{Null, Num, Ptr}
 use Rattle.mk_never.specs.declared.values.Target.{Target}
 use Rattle.mk_never.specs.declared.values.Target.TheVariants.{Unmapped, WordOf}
 use Rattle.mk_never.specs.declared.operations.Op.{Op}
-use Rattle.mk_never.specs.declared.operations.Op.TheVariants.{New, Free, GetNum, SetNum, GetPtr, SetPtr, CasPtr, Lea}
-use Rattle.mk_never.specs.declared.operations.Op.TheVariants.{Move, Clear, GetGlobal, SetGlobal, Same, IsNull}
+use Rattle.mk_never.specs.declared.operations.Op.TheVariants.{New, Free, SetNum, GetPtr, SetPtr, CasPtr}
 use Rattle.mk_never.specs.declared.operations.Reply.{Reply}
 use Rattle.mk_never.specs.declared.operations.Reply.TheVariants.{Num as Number, Val}
 use Rattle.mk_never.specs.NeverHeap.{NeverState, Call, no_allocation, register_at, allocation_at, words_of, word_at}
@@ -61,7 +60,6 @@ op_keeps n c (New d ty full) number place there none =
     if_by (λ m. WordStays number place n m) full _ _ (λ e. refl)
     (λ e. ap (λ a. get_or a.words place Null) (get_or_append_left n.allocations _ no_allocation number there))
 op_keeps n c (Free p) number place there none = free_keeps n (register_at n c p) number place
-op_keeps n c (GetNum q i) number place there none = refl
 op_keeps n c (SetNum q i m) number place there none =
     left_at_by (λ m. WordStays number place n m) (target_of n (register_at n c q) i) n _ refl
     (λ a w e. other_word n a w number place _ (λ e'. none (e ∙ e')))
@@ -76,13 +74,7 @@ op_keeps n c (CasPtr q i p r) number place there none =
     (λ same. let here : word_at n a w ≡ register_at n c p = equal_from_same _ _ same in other_word n a w number place _
     (λ e'. none (e ∙ e', (cc))))
     (λ differs. refl))
-op_keeps n c (Lea d q i) number place there none = refl
-op_keeps n c (Move d q) number place there none = refl
-op_keeps n c (Clear d) number place there none = refl
-op_keeps n c (GetGlobal d g) number place there none = refl
-op_keeps n c (SetGlobal g p) number place there none = refl
-op_keeps n c (Same p q) number place there none = refl
-op_keeps n c (IsNull p) number place there none = refl
+op_keeps n c _ number place there none = refl
 
 pub calls_keep : (n : NeverState) (calls : List Call) (number place : ℕ) → UnstoredStays n calls number place
 calls_keep n [] number place there none = refl
@@ -107,12 +99,8 @@ stored_in n m number place v h e = ap (λ m. word_at m number place) e ∙ this_
 
 -- an operation that stores to a word leaves its value there
 pub store_leaves : (n : NeverState) (c : ℕ) (op : Op) (number place : ℕ) → StoreLeaves n c op number place
-store_leaves n c (New d ty full) number place h stores = absurd stores
-store_leaves n c (Free p) number place h stores = absurd stores
-store_leaves n c (GetNum q i) number place h stores = absurd stores
 store_leaves n c (SetNum q i m) number place h stores =
     stored_in n _ number place _ h (left_reached _ n _ number place stores)
-store_leaves n c (GetPtr d q i) number place h stores = absurd stores
 store_leaves n c (SetPtr q i p) number place h stores =
     stored_in n _ number place _ h (left_reached _ n _ number place stores)
 store_leaves n c (CasPtr q i p r) number place h stores =
@@ -120,13 +108,7 @@ store_leaves n c (CasPtr q i p r) number place h stores =
     stored_in n _ number place _ h
     (left_reached _ n _ number place stores.0
     ∙ ap (λ b. if b then with_word n number place (register_at n c r) else n) exchanges)
-store_leaves n c (Lea d q i) number place h stores = absurd stores
-store_leaves n c (Move d q) number place h stores = absurd stores
-store_leaves n c (Clear d) number place h stores = absurd stores
-store_leaves n c (GetGlobal d g) number place h stores = absurd stores
-store_leaves n c (SetGlobal g p) number place h stores = absurd stores
-store_leaves n c (Same p q) number place h stores = absurd stores
-store_leaves n c (IsNull p) number place h stores = absurd stores
+store_leaves n c _ number place h stores = absurd stores
 
 -- a load from a word gives its value
 pub loads_give : (n : NeverState) (number place : ℕ) (v : Value) → word_at n number place ≡ v
@@ -167,20 +149,10 @@ reached_is_inside n (Ptr a ty offset) i P number place meets reaches =
     (subst (λ k. offset + i < length (words_of n k)) number_is meets.0)) reaches
 
 pub store_is_inside : (n : NeverState) (c : ℕ) (op : Op) (number place : ℕ) → StoreIsInside n c op number place
-store_is_inside n c (New d ty full) number place access stores = absurd stores
-store_is_inside n c (Free p) number place access stores = absurd stores
-store_is_inside n c (GetNum q i) number place access stores = absurd stores
 store_is_inside n c (SetNum q i m) number place access stores =
     reached_is_inside n (register_at n c q) i IsNumber number place access stores
-store_is_inside n c (GetPtr d q i) number place access stores = absurd stores
 store_is_inside n c (SetPtr q i p) number place access stores =
     reached_is_inside n (register_at n c q) i IsPointer number place access stores
 store_is_inside n c (CasPtr q i p r) number place access stores =
     reached_is_inside n (register_at n c q) i IsPointer number place access stores.0
-store_is_inside n c (Lea d q i) number place access stores = absurd stores
-store_is_inside n c (Move d q) number place access stores = absurd stores
-store_is_inside n c (Clear d) number place access stores = absurd stores
-store_is_inside n c (GetGlobal d g) number place access stores = absurd stores
-store_is_inside n c (SetGlobal g p) number place access stores = absurd stores
-store_is_inside n c (Same p q) number place access stores = absurd stores
-store_is_inside n c (IsNull p) number place access stores = absurd stores
+store_is_inside n c _ number place access stores = absurd stores

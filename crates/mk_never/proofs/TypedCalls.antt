@@ -1,13 +1,12 @@
 -- Admitted calls leave a typed state.
 use Rattle.std.proofs.Common.{◌≡◌, ℕ, zero, suc, ◌+◌, ◌*◌, Bool, List, [], ◌∷◌, Option, None, Some, replicate, get_or}
-use Rattle.std.proofs.Common.{refl, sym, subst, arith}
-use Rattle.std.specs.Prelude.{IfSome, slice_get}
+use Rattle.std.proofs.Common.{refl, sym, subst, arith, IfSome, slice_get}
 use Rattle.mk_never.specs.declared.types.Kind.{Kind}
 use Rattle.mk_never.specs.declared.types.Kind.TheVariants.{To}
 use Rattle.mk_never.specs.declared.values.Value.TheVariants.{Null, Num}
 use Rattle.mk_never.specs.declared.operations.Op.{Op}
-use Rattle.mk_never.specs.declared.operations.Op.TheVariants.{New, Free, GetNum, SetNum, GetPtr, SetPtr, CasPtr, Lea}
-use Rattle.mk_never.specs.declared.operations.Op.TheVariants.{Move, Clear, GetGlobal, SetGlobal, Same, IsNull}
+use Rattle.mk_never.specs.declared.operations.Op.TheVariants.{New, Free, SetNum, GetPtr, SetPtr, CasPtr, Lea}
+use Rattle.mk_never.specs.declared.operations.Op.TheVariants.{Move, Clear, GetGlobal, SetGlobal}
 use Rattle.mk_never.specs.NeverHeap.{NeverState, Call, register_at, allocation_at, word_at, with_new, is_same, start_of}
 use Rattle.mk_never.specs.NeverHeap.{after_op}
 use Rattle.mk_never.specs.Admitted.{IsNumber, IsPointer, IsOfKind, OperandsAreInRange, AccessIsAdmitted}
@@ -68,7 +67,6 @@ module _ (listed : List ℕ) (n : NeverState) (c : ℕ) (typed : IsTyped listed 
   pub op_keeps : (op : Op) → Keeps op
   op_keeps (New d ty full) = new_keeps d ty full
   op_keeps (Free p) = λ in_range access store. typed_free listed n typed (register_at n c p) (register_is_sound p)
-  op_keeps (GetNum q i) = λ in_range access store. typed
   op_keeps (SetNum q i m) = set_num_keeps q i m
   op_keeps (GetPtr d q i) = get_ptr_keeps d q i
   op_keeps (SetPtr q i p) = set_ptr_keeps q i p
@@ -78,8 +76,7 @@ module _ (listed : List ℕ) (n : NeverState) (c : ℕ) (typed : IsTyped listed 
   op_keeps (Clear d) = λ in_range access store. typed_register listed n typed c d Null tt
   op_keeps (GetGlobal d g) = λ in_range access store. typed_register listed n typed c d _ (typed.globals g)
   op_keeps (SetGlobal g p) = λ in_range access store. typed_global listed n typed g _ (register_is_sound p) store
-  op_keeps (Same p q) = λ in_range access store. typed
-  op_keeps (IsNull p) = λ in_range access store. typed
+  op_keeps _ = λ in_range access store. typed
 
 pub calls_keep : (listed : List ℕ) (n : NeverState) (calls : List Call) → KeepsTyped listed n calls
 calls_keep listed n [] typed admitted = typed

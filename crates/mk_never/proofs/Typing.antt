@@ -1,8 +1,7 @@
 -- A state stays typed under admitted operations.
 use Rattle.std.proofs.Common.{ℕ, ◌+◌, ◌*◌, ◌<◌, false, List, [], length, set, refl, sym, ap, subst, ◌∙◌, inl, arith}
-use Rattle.std.proofs.Common.{length-set, length-append}
+use Rattle.std.proofs.Common.{length-set, length-append, IfSome, slice_get}
 use Rattle.std.proofs.lemmas.List.{length-map, get_or_at}
-use Rattle.std.specs.Prelude.{IfSome, slice_get}
 use Rattle.mk_never.specs.declared.types.Kind.{Kind}
 use Rattle.mk_never.specs.declared.types.Kind.TheVariants.{To}
 use Rattle.mk_never.specs.declared.values.Value.{Value}

@@ -1,7 +1,6 @@
 -- What isn't reached stays so: operations get their pointers from where reached ones stand.
 use Rattle.std.proofs.Common.{◌≡◌, ◌⊎◌, inl, inr, ℕ, zero, suc, ◌+◌, ◌*◌, ◌<◌, Bool, true, false, ◌&&◌, List, [], ◌∷◌}
-use Rattle.std.proofs.Common.{◌++◌, length, map, get_or, refl, sym, subst, arith, length-set}
-use Rattle.std.specs.Prelude.{nat_lt, IsTrue}
+use Rattle.std.proofs.Common.{◌++◌, length, map, get_or, refl, sym, subst, arith, length-set, nat_lt, IsTrue}
 use Rattle.std.proofs.lemmas.List.{get_or_past}
 use Rattle.mk_never.specs.declared.types.Kind.{Kind}
 use Rattle.mk_never.specs.declared.types.Kind.TheVariants.{Num as Number, To}
@@ -10,8 +9,8 @@ use Rattle.mk_never.specs.declared.values.Value.TheVariants.{Null, Num, Ptr}
 use Rattle.mk_never.specs.declared.values.Target.{Target}
 use Rattle.mk_never.specs.declared.values.Target.TheVariants.{Unmapped, WordOf}
 use Rattle.mk_never.specs.declared.operations.Op.{Op}
-use Rattle.mk_never.specs.declared.operations.Op.TheVariants.{New, Free, GetNum, SetNum, GetPtr, SetPtr, CasPtr, Lea}
-use Rattle.mk_never.specs.declared.operations.Op.TheVariants.{Move, Clear, GetGlobal, SetGlobal, Same, IsNull}
+use Rattle.mk_never.specs.declared.operations.Op.TheVariants.{New, Free, SetNum, GetPtr, SetPtr, CasPtr, Lea}
+use Rattle.mk_never.specs.declared.operations.Op.TheVariants.{Move, Clear, GetGlobal, SetGlobal}
 use Rattle.mk_never.specs.Types.{kinds_of, zero_of, zero_words}
 use Rattle.mk_never.specs.NeverHeap.{NeverState, Call, no_allocation, register_at, allocation_at, words_of, word_at}
 use Rattle.mk_never.specs.NeverHeap.{with_register, with_global, with_word, with_freed, with_new, is_same, is_unmapped}
@@ -204,7 +203,6 @@ module _ (n : NeverState) (c : ℕ) where
   pub reach_grows_by_grants : (op : Op) (number : ℕ) → ReachGrowsByGrants n c op number
   reach_grows_by_grants (New d ty full) number = new_grows d ty full number
   reach_grows_by_grants (Free p) number = λ reached. inl (free_adds_none n (register_at n c p) number reached)
-  reach_grows_by_grants (GetNum q i) number = λ reached. inl reached
   reach_grows_by_grants (SetNum q i m) number =
       λ reached. inl (access_adds_none n (target_of n (register_at n c q) i) n _ (same_adds_none n)
       (λ a w got. word_adds_none n a w (Num m) (num_leads n m)) number reached)
@@ -220,8 +218,7 @@ module _ (n : NeverState) (c : ℕ) where
   reach_grows_by_grants (GetGlobal d g) number =
       λ reached. inl (register_adds_none n c d _ (λ k leads. by_global g k leads) number reached)
   reach_grows_by_grants (SetGlobal g p) number = λ reached. inl (global_adds_none n g _ (at_register p) number reached)
-  reach_grows_by_grants (Same p q) number = λ reached. inl reached
-  reach_grows_by_grants (IsNull p) number = λ reached. inl reached
+  reach_grows_by_grants _ number = λ reached. inl reached
 
 pub access_is_to_reached : (n : NeverState) (caller q i number place : ℕ) → AccessIsToReached n caller q i number place
 access_is_to_reached n caller q i number place reaches =

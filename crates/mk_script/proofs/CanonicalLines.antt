@@ -2,10 +2,7 @@
 use Rattle.std.proofs.Common.{◌≡◌, ℕ, nat_eq, List, [], ◌∷◌, ◌++◌, refl, ap, ◌∙◌, map, append_assoc}
 use Rattle.std.specs.List.{slice_split}
 use Rattle.std.proofs.lemmas.List.Splits.{slice_split_at}
-use Rattle.mk_script.specs.declared.items.Item.{Item}
-use Rattle.mk_script.specs.Canonical.{words_of_item, canonical_text}
-use Rattle.mk_script.specs.Words.{lines_of, without_empty_last}
-use Rattle.mk_script.specs.Spaced.{joined_words}
+use Rattle.mk_script.proofs.Vocabulary.{canonical_text, Item, joined_words, lines_of, without_empty_last, words_of_item}
 use Rattle.mk_script.proofs.Spacing.{line_text-joined}
 use Rattle.mk_script.proofs.LineWords.{AreWords, without_newline}
 

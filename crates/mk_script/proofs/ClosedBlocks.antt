@@ -3,11 +3,9 @@
 use Rattle.std.proofs.Common.{◌≡◌, Bool, true, false, List, [], ◌∷◌, ◌++◌, map, refl, ap, sym, ◌∙◌, subst, append_assoc}
 use Rattle.std.proofs.lemmas.List.{append-nil}
 use Rattle.std.proofs.lemmas.List.Sums.{fold_push}
-use Rattle.mk_script.specs.declared.items.Item.{Item}
+use Rattle.mk_script.proofs.Vocabulary.{ends_rightly, has_none, IsOfSomeText, Item, open_behind, open_blocks}
 use Rattle.mk_script.specs.declared.items.Item.TheVariants.{Script, Repeat, If, Else, End}
-use Rattle.mk_script.specs.Scopes.{OpenBlock, InRepeat, InFirst, InSecond, open_behind, open_blocks}
-use Rattle.mk_script.specs.Lines.{ends_rightly, has_none}
-use Rattle.mk_script.specs.Grammar.{IsOfSomeText}
+use Rattle.mk_script.specs.Scopes.{OpenBlock, InRepeat, InFirst, InSecond}
 use Rattle.mk_script.proofs.PassedLines.{ArePassed, is_whole}
 
 -- After these open blocks no line ends one that isn't open, and at the end none is.

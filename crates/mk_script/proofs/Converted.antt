@@ -1,7 +1,7 @@
 -- A fault of a line that a `?` hands on.
 use Rattle.std.proofs.Common.{◌≡◌, Ok, Err, Result}
 use Rattle.std.specs.Result.{IsErrAnd}
-use Rattle.mk_script.specs.declared.faults.LineFault.{LineFault}
+use Rattle.mk_script.proofs.Vocabulary.{LineFault}
 use Rattle.mk_script.specs.declared.faults.LineStop.{LineStop}
 use Rattle.mk_script.specs.declared.faults.LineStop.TheVariants.{Fault}
 use Rattle.mk_script.specs.Stops.{Gives}

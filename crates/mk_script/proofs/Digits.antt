@@ -5,7 +5,8 @@ use Rattle.std.proofs.Math.Bool.{and-false}
 use Rattle.std.proofs.lemmas.Bool.{le-ltb, lt-ltb}
 use Rattle.std.proofs.lemmas.List.{at_drop_more, at_drop_all}
 use Rattle.std.specs.Str.{all_ascii_digits}
-use Rattle.mk_script.specs.Names.{value_from, value_of_digits}
+use Rattle.mk_script.proofs.Vocabulary.{value_from}
+use Rattle.mk_script.specs.Names.{value_of_digits}
 
 pub value_from-le : (high : ℕ) (digits : List ℕ) → high ≤ value_from high digits
 value_from-le high [] = omega arith

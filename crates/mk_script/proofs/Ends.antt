@@ -1,13 +1,9 @@
 -- How a text ends, by its blocks and its scripts.
-use Rattle.std.proofs.Common.{◌≡◌, ℕ, Bool, true, false, List, length, refl, sym, ◌∙◌, Ok, Err}
-use Rattle.std.specs.Prelude.{not}
-use Rattle.mk_script.specs.declared.items.Item.{Item}
+use Rattle.std.proofs.Common.{◌≡◌, ℕ, Bool, true, false, List, length, refl, sym, ◌∙◌, Ok, Err, not}
+use Rattle.mk_script.proofs.Vocabulary.{at_end, has_none, has_script, Item, open_blocks}
 use Rattle.mk_script.specs.declared.faults.TextStop.TheVariants.{Text, Limit}
 use Rattle.mk_script.specs.declared.faults.TextKind.TheVariants.{End}
 use Rattle.mk_script.specs.declared.faults.Which.TheVariants.{Scripts}
-use Rattle.mk_script.specs.Scopes.{open_blocks}
-use Rattle.mk_script.specs.Lines.{has_script, has_none}
-use Rattle.mk_script.specs.Grammar.{at_end}
 
 closed_is : (b closed : Bool) → b ≡ not closed → b ≡ false → closed ≡ true
 closed_is b true e f = refl

@@ -1,13 +1,11 @@
 -- A word is looked for among the keywords of its length alone.
 use Rattle.std.proofs.Common.{◌≡◌, ℕ, ◌≢◌, ◌==◌, Bool, true, false, List, [], ◌∷◌, length, filter, None, refl, ap, sym}
-use Rattle.std.proofs.Common.{◌∙◌}
-use Rattle.std.proofs.Common.{⊎_elim, eq-eqb, ne_eqb}
-use Rattle.std.specs.Prelude.{if◌then◌else◌, Some}
+use Rattle.std.proofs.Common.{◌∙◌, ⊎_elim, eq-eqb, ne_eqb, if◌then◌else◌, Some}
 use Rattle.std.specs.Str.{bytes_eq}
 use Rattle.std.proofs.lemmas.Bool.{cases_Bool, false≢true}
 use Rattle.std.proofs.lemmas.Slice.Eq.{bytes_eq-Decides}
-use Rattle.mk_script.specs.declared.keywords.Keyword.{Keyword}
-use Rattle.mk_script.specs.Keywords.{keywords, keyword_among, keyword_of}
+use Rattle.mk_script.proofs.Vocabulary.{Keyword, keyword_of}
+use Rattle.mk_script.specs.Keywords.{keywords, keyword_among}
 
 -- words of different lengths differ
 differ : (word other : List ℕ) → (length other == length word) ≡ false → bytes_eq word other ≡ false

@@ -2,7 +2,7 @@
 use Rattle.std.proofs.Common.{◌≡◌, ℕ, ◌+◌, ◌-◌, ◌<◌, ◌==◌, true, false, List, [], ◌∷◌, ◌++◌, length, get_or, take, Bor}
 use Rattle.std.proofs.Common.{refl, ap, ◌∙◌, sym, arith}
 use Rattle.std.proofs.lemmas.List.{take_all, take_more, map-append}
-use Rattle.mk_script.specs.Words.{without_empty_last, texts_of}
+use Rattle.mk_script.proofs.Vocabulary.{texts_of, without_empty_last}
 
 last_empty : (front : List (List ℕ)) (last : List ℕ) → (length last == 0) ≡ true
     → without_empty_last (front ++ last ∷ []) ≡ front

@@ -23,3 +23,4 @@ mod Pushed
 mod PutName
 mod Reading
 mod ScopeAfter
+pub mod Vocabulary

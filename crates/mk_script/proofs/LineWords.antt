@@ -13,9 +13,8 @@ use Rattle.std.proofs.lemmas.List.{append-nil, length-append}
 use Rattle.std.proofs.lemmas.Fmt.{decimal_nonempty}
 use Rattle.std.proofs.lemmas.Bool.Decides.{nat_tests}
 use Rattle.std.proofs.lemmas.Bool.{true≢false, and_from, and_parts, lt-ltb, ltb-true, cond-true}
+use Rattle.mk_script.proofs.Vocabulary.{is_empty, joined_words, spaced_words, words_of_line}
 use Rattle.mk_script.specs.Names.{is_name_byte}
-use Rattle.mk_script.specs.Words.{words_of_line, is_empty}
-use Rattle.mk_script.specs.Spaced.{spaced_words, joined_words}
 use Rattle.mk_script.proofs.PrintedNumbers.{all_ascii_digits-decimal}
 
 -- whether each byte is above the space

@@ -6,21 +6,17 @@ use Rattle.std.specs.Str.{bytes_eq}
 use Rattle.std.proofs.lemmas.Bool.{and_from, and_parts, leb-true, cond-true}
 use lib.Chars.{codes}
 use Rattle.std.specs.Option.{option_or}
-use Rattle.mk_script.specs.declared.items.Item.{Item}
+use Rattle.mk_script.proofs.Vocabulary.{ends_rightly, has_word_count, have_form, is_placed, is_twice, Item, Keyword}
+use Rattle.mk_script.proofs.Vocabulary.{keyword_of, line_of, LineFault, open_blocks, type_names, words_of_item}
 use Rattle.mk_script.specs.declared.items.Item.TheVariants as item
-use Rattle.mk_script.specs.declared.keywords.Keyword.{Keyword}
 use Rattle.mk_script.specs.declared.keywords.Keyword.TheVariants as keyword
-use Rattle.mk_script.specs.declared.faults.LineFault.{LineFault}
 use Rattle.mk_script.specs.declared.faults.Which.{Which}
 use Rattle.mk_script.specs.declared.faults.Which.TheVariants as which
-use Rattle.mk_script.specs.Keywords.{keyword_of, has_word_count}
-use Rattle.mk_script.specs.Operands.{have_form, item_from}
-use Rattle.mk_script.specs.Scopes.{type_names, open_blocks}
-use Rattle.mk_script.specs.Lines.{is_placed, heap_line, placed_item, other_line, line_item, is_twice, at_most}
-use Rattle.mk_script.specs.Lines.{limit_fault, ends_rightly, or_item, checked_item, line_of}
-use Rattle.mk_script.specs.Canonical.{words_of_item}
+use Rattle.mk_script.specs.Operands.{item_from}
+use Rattle.mk_script.specs.Lines.{heap_line, placed_item, other_line, line_item, at_most, limit_fault, checked_item}
 use Rattle.mk_script.proofs.LineWords.{AreWords, is_word-decimal}
-use Rattle.mk_script.proofs.Said.{then_was, then_again, with_number, is_this}
+use Rattle.mk_script.proofs.Said.{then_again, with_number, is_this}
+use Rattle.mk_script.proofs.PassedLines.{passed}
 use Rattle.mk_script.proofs.PrintedForms.{Printed, IsShort, said, no_item, read_number}
 
 -- a line's item again, from words that are words of a line
@@ -32,10 +28,6 @@ pub cond_ok : {A E : Type 0} (b : Bool) (r : Result A E) (fault : E) (x : A) →
     → (b ≡ true) × (r ≡ Ok x)
 cond_ok true r fault x e = (refl, e)
 cond_ok false r fault x e = absurd cc
-
-cond_later : {A E : Type 0} (b : Bool) (fault : E) (r : Result A E) (x : A) → cond b (Err fault) r ≡ Ok x → r ≡ Ok x
-cond_later true fault r x e = absurd cc
-cond_later false fault r x e = e
 
 cond_none : {A : Type 0} (b : Bool) (x : A) → cond b None (Some x) ≡ None → b ≡ true
 cond_none true x e = refl
@@ -92,13 +84,6 @@ item_again (first ∷ before) words line short e =
       apart = subst AreWords (sym was.1.words) was.1.apart;
     }
 
--- The checks of an item change nothing of it.
-
-or_item_was : (fault : Option LineFault) (line found : Item) → or_item fault line ≡ Ok found
-    → (fault ≡ None) × (line ≡ found)
-or_item_was None line found e = let same : line ≡ found = cc in (refl, same)
-or_item_was (Some fault) line found e = no_item e
-
 option_or_was : (first second : Option LineFault) → option_or first second ≡ None → second ≡ None
 option_or_was None second e = e
 option_or_was (Some fault) second e = absurd cc
@@ -112,25 +97,16 @@ is_short before (item.TypeLine name words) e =
     (option_or_was (at_most (length (type_names before) + 1) 64 which.Types) _ e)
 is_short before line e = tt
 
-checked_was : (before : List Item) (line found : Item) → checked_item before line ≡ Ok found
-    → (line ≡ found) × IsShort line
-checked_was before line found e =
-    let once = cond_later (is_twice before line) _ _ found e in
-    let limits = then_was (or_item (limit_fault before line) line) _ found once in
-    let kept = or_item_was (limit_fault before line) line limits.0 limits.1 in
-    let last : ◌≡◌ {A = Result Item LineFault} (Ok limits.0) (Ok found) =
-    (cond_ok (ends_rightly (open_blocks before) line) _ _ found limits.2).1 in
-    let same : limits.0 ≡ found = cc in
-    (kept.1 ∙ same, is_short before line kept.0)
+checked_again : (before : List Item) (line : Item) → is_twice before line ≡ false → limit_fault before line ≡ None
+    → ends_rightly (open_blocks before) line ≡ true → checked_item before line ≡ Ok line
+checked_again before line fresh within ends = rw (fresh, within, ends) refl
 
 pub line_again : (before : List Item) (words : List (List ℕ)) (line : Item) → line_of before words ≡ Ok line
     → (line_of before (words_of_item line) ≡ Ok line) × AreWords (words_of_item line)
 line_again before words line e =
-    let steps = then_was (line_item before words) (checked_item before) line e in
-    let checked = checked_was before steps.0 line steps.2 in
-    let again = subst (IsAgain before) checked.0 (item_again before words steps.0 checked.1 steps.1) in
-    let passes : checked_item before line ≡ Ok line =
-    subst (λ x. checked_item before x ≡ Ok line) checked.0 steps.2 in (
-      then_again (line_item before (words_of_item line)) (checked_item before) line (Ok line) again.reads passes,
+    let p = passed before words line e in
+    let again = item_again before p.words line (is_short before line p.within) p.says in (
+      then_again (line_item before (words_of_item line)) (checked_item before) line (Ok line) again.reads
+          (checked_again before line p.fresh p.within p.ends),
       again.apart,
     )

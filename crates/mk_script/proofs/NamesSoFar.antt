@@ -5,7 +5,7 @@ use Rattle.std.specs.List.Sorted.{IsPermutation}
 use Rattle.std.specs.Str.{bytes_eq}
 use Rattle.std.proofs.lemmas.List.Folds.{list_any-append}
 use Rattle.std.proofs.lemmas.List.Sorted.{list_any-IsPermutation, length_permutation}
-use Rattle.mk_script.specs.Lines.{is_among}
+use Rattle.mk_script.proofs.Vocabulary.{is_among}
 
 pub among : (name : List ℕ) (names set : List (List ℕ)) → IsPermutation names set
     → is_among name set ≡ is_among name names

@@ -1,6 +1,6 @@
 -- A line with a number of words that no form has.
 use Rattle.std.proofs.Common.{◌≡◌, ◌≢◌, ℕ, List, [], ◌∷◌, length, Err, refl}
-use Rattle.mk_script.specs.declared.keywords.Keyword.{Keyword}
+use Rattle.mk_script.proofs.Vocabulary.{Keyword}
 use Rattle.mk_script.specs.declared.keywords.Keyword.TheVariants.{TypeLine}
 use Rattle.mk_script.specs.declared.faults.LineFault.TheVariants.{Text}
 use Rattle.mk_script.specs.declared.faults.TextKind.TheVariants.{Word}

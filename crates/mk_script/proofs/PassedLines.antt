@@ -1,24 +1,20 @@
 -- What each line of a program of some text keeps, after the lines before it.
 use Rattle.std.proofs.Common.{◌≡◌, ℕ, ◌+◌, Bool, true, false, List, [], ◌∷◌, ◌++◌, length, refl, ap, sym, ◌∙◌, subst}
-use Rattle.std.proofs.Common.{append_assoc, Ok, Err}
-use Rattle.std.specs.Prelude.{Option, Some, None, if◌then◌else◌, nat_le}
+use Rattle.std.proofs.Common.{append_assoc, Ok, Err, Option, Some, None, if◌then◌else◌, nat_le}
 use Rattle.std.specs.declared.result.Result.{Result}
 use Rattle.std.proofs.lemmas.List.{append-nil}
-use Rattle.mk_script.specs.declared.items.Item.{Item}
-use Rattle.mk_script.specs.declared.faults.LineFault.{LineFault}
+use Rattle.mk_script.proofs.Vocabulary.{ends_rightly, go_on, has_none, has_script, is_twice, IsOfSomeText, Item}
+use Rattle.mk_script.proofs.Vocabulary.{items_behind, items_of_lines, line_of, LineFault, lines_of, open_blocks}
+use Rattle.mk_script.proofs.Vocabulary.{words_of_line, ◌>>=◌}
 use Rattle.mk_script.specs.declared.faults.TextStop.{TextStop}
-use Rattle.mk_script.specs.Words.{lines_of, words_of_line}
-use Rattle.mk_script.specs.Scopes.{open_blocks}
-use Rattle.mk_script.specs.Operands.{◌>>=◌}
-use Rattle.mk_script.specs.Lines.{line_of, line_item, checked_item, or_item, limit_fault, is_twice, ends_rightly}
-use Rattle.mk_script.specs.Lines.{has_script, has_none}
-use Rattle.mk_script.specs.Grammar.{go_on, items_behind, items_of_lines, IsOfSomeText}
+use Rattle.mk_script.specs.Lines.{line_item, checked_item, or_item, limit_fault}
 
--- A line after these: what its words say; it passes no limit, and ends no block that isn't open.
+-- A line after these: what its words say; it declares no name twice, passes no limit, and ends no block that isn't open.
 pub record IsPassed (before : List Item) (item : Item) : Type 0 where
   pub words : List (List ℕ)
   pub reads : line_of before words ≡ Ok item
   pub says : line_item before words ≡ Ok item
+  pub fresh : is_twice before item ≡ false
   pub within : limit_fault before item ≡ None
   pub ends : ends_rightly (open_blocks before) item ≡ true
 
@@ -42,6 +38,7 @@ record Behind (before items : List Item) : Type 0 where
 
 record Checks (twice right : Bool) (fault : Option LineFault) (found item : Item) : Type 0 where
   same : found ≡ item
+  fresh : twice ≡ false
   within : fault ≡ None
   ends : right ≡ true
 
@@ -49,11 +46,11 @@ checks : (twice ends : Bool) (first last : LineFault) (fault : Option LineFault)
     → (if twice then Err first else (or_item fault found >>= (λ item'. if ends then Ok item' else Err last))) ≡ Ok item
     → Checks twice ends fault found item
 checks true ends first last fault found item h = absurd cc
-checks false true first last None found item h = record { same = cc; within = refl; ends = refl }
+checks false true first last None found item h = record { same = cc; fresh = refl; within = refl; ends = refl }
 checks false false first last None found item h = absurd cc
 checks false ends first last (Some fault) found item h = absurd cc
 
-passed : (before : List Item) (words : List (List ℕ)) (item : Item) → line_of before words ≡ Ok item
+pub passed : (before : List Item) (words : List (List ℕ)) (item : Item) → line_of before words ≡ Ok item
     → IsPassed before item
 passed before words item h = by_found (line_item before words) refl h
   where
@@ -66,6 +63,7 @@ passed before words item h = by_found (line_item before words) refl h
           words = words;
           reads = h;
           says = says ∙ ap (λ (x : Item). Ok x) c.same;
+          fresh = ap (is_twice before) (sym c.same) ∙ c.fresh;
           within = ap (limit_fault before) (sym c.same) ∙ c.within;
           ends = ap (ends_rightly (open_blocks before)) (sym c.same) ∙ c.ends;
         }

@@ -4,19 +4,17 @@ use Rattle.std.proofs.Common.{Some, Ok, Err, refl, sym, arith}
 use Rattle.std.proofs.lemmas.Bool.{le-leb}
 use Rattle.std.specs.declared.result.Result.{Result}
 use Rattle.std.proofs.Math.Bool.{and-false}
-use Rattle.mk_script.specs.declared.items.Item.{Item}
+use Rattle.mk_script.proofs.Vocabulary.{are_fields, fields_of, has_word_count, have_form, is_placed, Item, Keyword}
+use Rattle.mk_script.proofs.Vocabulary.{LineFault, name, ◌>>=◌}
 use Rattle.mk_script.specs.declared.items.Item.TheVariants as item
-use Rattle.mk_script.specs.declared.keywords.Keyword.{Keyword}
 use Rattle.mk_script.specs.declared.keywords.Keyword.TheVariants.{Heap, TypeLine, Global, Script, Ptr, Num, New, Free}
 use Rattle.mk_script.specs.declared.keywords.Keyword.TheVariants.{Getn, Setn, Getp, Setp, Casp, Lea, Move, Clear, Loadg}
 use Rattle.mk_script.specs.declared.keywords.Keyword.TheVariants.{Storeg, Same, Isnull, Show, Const, Add, Sub, Print}
 use Rattle.mk_script.specs.declared.keywords.Keyword.TheVariants.{Repeat, If, Else, End}
-use Rattle.mk_script.specs.declared.faults.LineFault.{LineFault}
 use Rattle.mk_script.specs.declared.faults.LineFault.TheVariants.{Text}
 use Rattle.mk_script.specs.declared.faults.TextKind.TheVariants.{Word}
-use Rattle.mk_script.specs.Keywords.{has_word_count}
-use Rattle.mk_script.specs.Lines.{is_placed, placed_item}
-use Rattle.mk_script.specs.Operands.{◌>>=◌, name, are_fields, fields_of, have_form, item_from}
+use Rattle.mk_script.specs.Lines.{placed_item}
+use Rattle.mk_script.specs.Operands.{item_from}
 
 -- a line with a number of words that its form hasn't
 miscounted : (keyword : Keyword) (words : List (List ℕ)) → keyword ≢ TypeLine

@@ -10,14 +10,12 @@ use Rattle.std.proofs.lemmas.List.{replicate_more, length-append, length-replica
 use Rattle.std.proofs.lemmas.List.Elements.{All-nil, All-cons, All-head, All-tail, All-append, All-replicate}
 use Rattle.std.proofs.lemmas.Bool.{and_from, and_parts, eqb-true, le-leb, leb-true, cond-true, cases_cond, cond_both}
 use lib.Chars.{codes}
-use Rattle.mk_script.specs.declared.items.At.{At}
+use Rattle.mk_script.proofs.Vocabulary.{At, at, at_text, fields_behind, fields_of, LineFault, number_of_word}
 use Rattle.mk_script.specs.declared.items.TypeWord.{TypeWord}
 use Rattle.mk_script.specs.declared.items.TypeWord.TheVariants.{Number, Pointer}
-use Rattle.mk_script.specs.declared.faults.LineFault.{LineFault}
-use Rattle.mk_script.specs.Names.{number_of_word}
 use Rattle.std.specs.Result.{result_ok}
-use Rattle.mk_script.specs.Operands.{at, numbers, number_field, pointer_field, field_of, fields_of}
-use Rattle.mk_script.specs.Canonical.{at_text, numbers_text, numbers_before, fields_behind}
+use Rattle.mk_script.specs.Operands.{numbers, number_field, pointer_field, field_of}
+use Rattle.mk_script.specs.Canonical.{numbers_text, numbers_before}
 use Rattle.mk_script.proofs.PrintedNumbers.{number_of_word-decimal}
 use Rattle.mk_script.proofs.LineWords.{is_word, is_solid-decimal, is_word-append, AreWords}
 use Rattle.mk_script.proofs.Said.{IsPlace, at_was, at_again, is_solid-at}

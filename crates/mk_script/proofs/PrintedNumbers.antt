@@ -7,7 +7,8 @@ use Rattle.std.proofs.lemmas.Fmt.{digits_decimal, digits_value-decimal, decimal_
 use Rattle.std.proofs.lemmas.Str.Parse.{IsNumeralModel, numerals_by_fold}
 use Rattle.std.proofs.lemmas.Grind.{common_steps}
 use Rattle.std.proofs.lemmas.Bool.{and_from, or_right, lt-ltb, not_from_false, ne_eqb, cond-true}
-use Rattle.mk_script.specs.Names.{value_from, is_numeral, number_of_word}
+use Rattle.mk_script.proofs.Vocabulary.{number_of_word, value_from}
+use Rattle.mk_script.specs.Names.{is_numeral}
 
 own : IsNumeralModel (λ ds. all_ascii_digits ds ≡ true) (value_from 0)
 own = numerals_by_fold _ (search rules) value_from (search rules)

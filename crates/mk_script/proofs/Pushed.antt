@@ -4,10 +4,10 @@ use Rattle.std.proofs.Common.{reverse, refl, ap, sym, ◌∙◌, arith}
 use Rattle.std.proofs.lemmas.List.{reverse-append, take_all, take_more, length-append}
 use Rattle.std.proofs.lemmas.List.Sums.{fold-append}
 use Rattle.std.proofs.Math.Seq.{set-append_seam}
-use Rattle.mk_script.specs.declared.items.Item.{Item}
+use Rattle.mk_script.proofs.Vocabulary.{global_names, is_script, Item, number_names, open_behind, open_blocks}
+use Rattle.mk_script.proofs.Vocabulary.{pointer_names, script_names, this_script, type_names}
 use Rattle.mk_script.specs.declared.items.Item.TheVariants.{TypeLine, Global, Script, Ptr, Num}
-use Rattle.mk_script.specs.Scopes.{type_names, global_names, script_names, pointer_names, number_names, is_script}
-use Rattle.mk_script.specs.Scopes.{this_script, OpenBlock, InSecond, behind_else, open_behind, open_blocks}
+use Rattle.mk_script.specs.Scopes.{OpenBlock, InSecond, behind_else}
 
 pub type_names-push : (before : List Item) (item : Item)
     → type_names (before ++ item ∷ []) ≡ type_names before ++ type_names (item ∷ [])

@@ -5,7 +5,7 @@ use Rattle.std.specs.List.{list_any}
 use Rattle.std.specs.List.Sorted.{IsPermutation}
 use Rattle.std.specs.Str.{bytes_eq}
 use Rattle.std.proofs.lemmas.List.Sorted.{IsPermutation-trans, IsPermutation-to_front, IsPermutation-map}
-use Rattle.mk_script.specs.Lines.{is_among}
+use Rattle.mk_script.proofs.Vocabulary.{is_among}
 
 pub list_any-map : {A B : Type 0} (p : B → Bool) (f : A → B) (xs : List A)
     → list_any p (map f xs) ≡ list_any (λ x. p (f x)) xs

@@ -1,46 +1,18 @@
 -- Lines, one after the others.
-use Rattle.std.proofs.Common.{◌≡◌, ◌≢◌, ◌<◌, ◌+◌, ℕ, Bool, true, false, if◌then◌else◌, List, [], ◌∷◌, ◌++◌, length}
-use Rattle.std.proofs.Common.{get_or, drop, Bor, Option, Some, None, Ok, Err, Result, refl, ap, sym, ◌∙◌, arith}
+use Rattle.std.proofs.Common.{◌≡◌, ◌≢◌, ◌<◌, ◌+◌, ℕ, List, [], ◌∷◌, ◌++◌, length}
+use Rattle.std.proofs.Common.{get_or, drop, Bor, Ok, Err, Result, refl, ap, sym, ◌∙◌, arith}
 use Rattle.std.specs.Result.{IfOk, IfErr, MatchResult}
 use Rattle.std.proofs.lemmas.List.{length-map, at_drop_more}
-use Rattle.mk_script.specs.declared.items.Item.{Item}
+use Rattle.mk_script.proofs.Vocabulary.{go_on, Item, items_behind, items_of_lines, line_of, texts_of, words_of_line}
 use Rattle.mk_script.specs.declared.scope.Scope.{Scope}
-use Rattle.mk_script.specs.declared.faults.LineFault.{LineFault}
-use Rattle.mk_script.specs.declared.faults.LineFault.TheVariants.{Text}
 use Rattle.mk_script.specs.declared.faults.TextKind.TheVariants as kind
 use Rattle.mk_script.specs.declared.faults.LineStop.{LineStop}
 use Rattle.mk_script.specs.declared.faults.LineStop.TheVariants.{Fault, NoMemory}
 use Rattle.mk_script.specs.declared.faults.TextStop.{TextStop}
 use Rattle.mk_script.specs.declared.faults.TextStop.TheVariants as stop
-use Rattle.mk_script.specs.Grammar.{fault_at, go_on, items_behind, items_of_lines}
-use Rattle.mk_script.specs.Lines.{is_twice, limit_fault, or_item, ends_rightly, checked_item, line_item, line_of}
-use Rattle.mk_script.specs.Operands.{◌>>=◌}
-use Rattle.mk_script.specs.Scopes.{open_blocks}
+use Rattle.mk_script.specs.Grammar.{fault_at}
 use Rattle.mk_script.specs.ScopeOf.{ReadsLine, IsStopOfLine}
 use Rattle.mk_script.specs.Stops.{stop_at}
-use Rattle.mk_script.specs.Words.{words_of_line, texts_of}
-
--- an item that is let through declares no name a second time
-passed : (twice rightly : Bool) (limit : Option LineFault) (item found : Item)
-    → (if twice then Err (Text kind.Twice)
-    else (or_item limit item >>= (λ item'. if rightly then Ok item' else Err (Text kind.End)))) ≡ Ok found
-    → (twice ≡ false) × (item ≡ found)
-passed true rightly limit item found is = cc
-passed false rightly (Some fault) item found is = cc
-passed false true None item found is = (refl, cc)
-passed false false None item found is = cc
-
-let_through : (before : List Item) (read : Result Item LineFault) (item : Item)
-    → (read >>= checked_item before) ≡ Ok item → is_twice before item ≡ false
-let_through before (Ok read) item is =
-    let both = passed (is_twice before read) (ends_rightly (open_blocks before) read) (limit_fault before read) read
-    item is in
-    ap (is_twice before) (sym both.1) ∙ both.0
-let_through before (Err fault) item is = cc
-
-pub is_fresh : (before : List Item) (words : List (List ℕ)) (item : Item) → line_of before words ≡ Ok item
-    → is_twice before item ≡ false
-is_fresh before words item is = let_through before (line_item before words) item is
 
 -- what a text is read as whose next line has an item, or hasn't
 pub goes_on : (before : List Item) (line : List ℕ) (lines : List (List ℕ)) (item : Item)

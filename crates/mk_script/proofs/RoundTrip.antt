@@ -2,12 +2,9 @@
 use Rattle.std.proofs.Common.{◌≡◌, ◌+◌, ◌≤◌, List, [], ◌∷◌, ◌++◌, length, refl, ap, ◌∙◌, sym, subst, append_assoc, Ok}
 use Rattle.std.proofs.lemmas.List.{append-nil}
 use Rattle.std.proofs.lemmas.Bool.{le-leb, cond-true}
-use Rattle.mk_script.specs.declared.items.Item.{Item}
-use Rattle.mk_script.specs.Words.{words_of_line}
-use Rattle.mk_script.specs.Lines.{line_of}
-use Rattle.mk_script.specs.Grammar.{at_end, go_on, items_behind, items_of_lines, program_of, IsOfSomeText}
-use Rattle.mk_script.specs.Canonical.{words_of_item, canonical_text}
-use Rattle.mk_script.specs.Spaced.{joined_words}
+use Rattle.mk_script.proofs.Vocabulary.{at_end, canonical_text, go_on, IsOfSomeText, Item, items_behind, items_of_lines}
+use Rattle.mk_script.proofs.Vocabulary.{joined_words, line_of, words_of_item, words_of_line}
+use Rattle.mk_script.specs.Grammar.{program_of}
 use Rattle.mk_script.proofs.LineWords.{AreWords, words_of-joined}
 use Rattle.mk_script.proofs.CanonicalLines.{lines_of_items, HaveWords, lines_of-canonical_text}
 use Rattle.mk_script.proofs.LinesAgain.{line_again}

@@ -11,13 +11,11 @@ use Rattle.std.proofs.lemmas.Bool.Decides.{nat_tests}
 use Rattle.std.proofs.lemmas.Bool.{and_from, and_parts, or_from, or_right, not_from_false, ne_eqb, cond-true}
 use Rattle.std.proofs.lemmas.Bool.{cond-false, cases_cond, cond_both}
 use lib.Chars.{codes}
-use Rattle.mk_script.specs.declared.items.At.{At}
-use Rattle.mk_script.specs.declared.faults.LineFault.{LineFault}
+use Rattle.mk_script.proofs.Vocabulary.{At, at, at_text, LineFault, name, number_of_word, ◌>>=◌}
 use Rattle.mk_script.specs.declared.faults.LineFault.TheVariants.{Text}
 use Rattle.mk_script.specs.declared.faults.TextKind.TheVariants as kind
-use Rattle.mk_script.specs.Names.{is_name, is_name_byte, name_of, number_of_word}
-use Rattle.mk_script.specs.Operands.{◌>>=◌, name, number, at, is_plus}
-use Rattle.mk_script.specs.Canonical.{at_text}
+use Rattle.mk_script.specs.Names.{is_name, is_name_byte, name_of}
+use Rattle.mk_script.specs.Operands.{number, is_plus}
 use Rattle.mk_script.proofs.PrintedNumbers.{number_of_word-decimal, number_of_word-below}
 use Rattle.mk_script.proofs.LineWords.{is_solid, is_word, is_solid-names, is_solid-decimal, is_solid-append}
 use Rattle.mk_script.proofs.LineWords.{is_word-append}

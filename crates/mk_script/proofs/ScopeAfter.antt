@@ -5,15 +5,13 @@ use Rattle.std.specs.List.Sorted.{IsPermutation}
 use Rattle.std.proofs.lemmas.List.{append-nil}
 use Rattle.std.proofs.lemmas.List.Folds.{list_any-append}
 use Rattle.std.proofs.lemmas.List.Sorted.{IsPermutation-refl, IsPermutation-trans, IsPermutation-append_left}
-use Rattle.mk_script.specs.declared.items.At.{At}
+use Rattle.mk_script.proofs.Vocabulary.{At, global_names, has_script, is_script, Item, number_names, open_behind}
+use Rattle.mk_script.proofs.Vocabulary.{pointer_names, script_names, this_script, type_names}
 use Rattle.mk_script.specs.declared.items.TypeWord.{TypeWord}
-use Rattle.mk_script.specs.declared.items.Item.{Item}
 use Rattle.mk_script.specs.declared.items.Item.TheVariants.{Heap, TypeLine, Global, Script, Ptr, Num}
 use Rattle.mk_script.specs.declared.scope.Scope.{Scope}
-use Rattle.mk_script.specs.Lines.{has_script}
 use Rattle.mk_script.specs.ScopeOf.{IsScopeOf, has_lines}
-use Rattle.mk_script.specs.Scopes.{type_names, global_names, script_names, pointer_names, number_names, is_script}
-use Rattle.mk_script.specs.Scopes.{is_instruction, this_script, open_behind}
+use Rattle.mk_script.specs.Scopes.{is_instruction}
 use Rattle.mk_script.proofs.Pushed.{type_names-push, global_names-push, script_names-push, pointer_names-push}
 use Rattle.mk_script.proofs.Pushed.{number_names-push, this_script-push, open_blocks-push}
 
@@ -37,29 +35,10 @@ pub record Adds (item : Item) (types globals scripts pointers numbers : List (Li
   pub pointers_are : pointer_names (item ∷ []) ≡ pointers
   pub numbers_are : number_names (item ∷ []) ≡ numbers
 
-pub heap_adds : (pages resident : ℕ) (item : Item) → item ≡ Heap pages resident → Adds item [] [] [] [] []
-heap_adds pages resident item is =
-    rw is (record { types_are = refl; globals_are = refl; scripts_are = refl; pointers_are = refl; numbers_are = refl })
-
-pub type_adds : (name : List ℕ) (words : List TypeWord) (item : Item) → item ≡ TypeLine name words
-    → Adds item (name ∷ []) [] [] [] []
-type_adds name words item is =
-    rw is (record { types_are = refl; globals_are = refl; scripts_are = refl; pointers_are = refl; numbers_are = refl })
-
-pub global_adds : (name ty : List ℕ) (item : Item) → item ≡ Global name ty → Adds item [] (name ∷ []) [] [] []
-global_adds name ty item is =
-    rw is (record { types_are = refl; globals_are = refl; scripts_are = refl; pointers_are = refl; numbers_are = refl })
-
-pub script_adds : (name : List ℕ) (item : Item) → item ≡ Script name → Adds item [] [] (name ∷ []) [] []
-script_adds name item is =
-    rw is (record { types_are = refl; globals_are = refl; scripts_are = refl; pointers_are = refl; numbers_are = refl })
-
-pub ptr_adds : (name : List ℕ) (at : At) (item : Item) → item ≡ Ptr name at → Adds item [] [] [] (name ∷ []) []
-ptr_adds name at item is =
-    rw is (record { types_are = refl; globals_are = refl; scripts_are = refl; pointers_are = refl; numbers_are = refl })
-
-pub num_adds : (name : List ℕ) (item : Item) → item ≡ Num name → Adds item [] [] [] [] (name ∷ [])
-num_adds name item is =
+pub adds : (item line : Item) → item ≡ line
+    → Adds item (type_names (line ∷ [])) (global_names (line ∷ [])) (script_names (line ∷ []))
+    (pointer_names (line ∷ [])) (number_names (line ∷ []))
+adds item line is =
     rw is (record { types_are = refl; globals_are = refl; scripts_are = refl; pointers_are = refl; numbers_are = refl })
 
 -- any other line is an instruction, and adds none
@@ -145,7 +124,7 @@ pub after_script : (old new : Scope) (before : List Item) (item : Item) (name : 
     → IsScopeOf new (before ++ item ∷ [])
 after_script old new before item name is scope header script instruction types' globals' scripts' pointers' numbers'
     blocks =
-    let adds = script_adds name item is in
+    let adds = adds item (Script name) is in
     let lines : this_script (before ++ item ∷ []) ≡ [] = this_script-push before item ∙ rw is refl in
     record {
       header = header ∙ has_lines-push before item;

@@ -4,9 +4,8 @@ use Rattle.std.proofs.Common.{drop-cons, refl, ap, ◌∙◌, sym, append_assoc,
 use Rattle.std.specs.declared.result.Result.{Result}
 use Rattle.std.proofs.lemmas.List.{append-nil}
 use lib.Chars.{codes}
-use Rattle.mk_script.specs.declared.items.At.{At}
-use Rattle.mk_script.specs.Canonical.{at_text, numbers_before, line_text}
-use Rattle.mk_script.specs.Spaced.{spaced_words, joined_words}
+use Rattle.mk_script.proofs.Vocabulary.{At, at_text, joined_words, spaced_words}
+use Rattle.mk_script.specs.Canonical.{numbers_before, line_text}
 
 pub spaced_words-append : (xs ys : List (List ℕ)) → spaced_words (xs ++ ys) ≡ spaced_words xs ++ spaced_words ys
 spaced_words-append [] ys = refl

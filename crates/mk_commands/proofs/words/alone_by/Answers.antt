@@ -2,7 +2,8 @@ use Rattle.std.proofs.Common.{Option, Some, None, map, refl, string_bytes, subst
 use Rattle.clap.specs.Words.{app_of}
 use Rattle.clap.specs.declared.parser.matches.ArgMatches.{ArgMatches}
 use Rattle.mk_commands.specs.declared.commands.Command.TheVariants.{OnText}
-use Rattle.mk_commands.specs.Told.{bare}
+use Rattle.mk_commands.specs.Commands.{alone_of}
+use Rattle.mk_commands.specs.Given.{bare}
 use Rattle.mk_commands.proofs.Taken.{Finds, answer_is}
 use Rattle.mk_commands.proofs.words.alone_by.Goals as goal
 
@@ -11,7 +12,7 @@ returns-in-Some c =
     let words = map (λ word. string_bytes word) c.args.words.now in
     let app = app_of c.alone.result in
     let finds = subst (λ (found : Option ArgMatches). Finds app words found) c.in-Some.is c.in_ok-found.ensures in
-    answer_is bare (OnText c.args.command) c.args.name.now app words (Some c.in-Some._matches)
+    answer_is bare (alone_of c.args.command) c.args.name.now app words (Some c.in-Some._matches)
     (Some (OnText c.args.command)) c.alone.ensures finds (λ t h. refl)
 
 pub returns : goal.returns
@@ -19,4 +20,4 @@ returns c =
     let words = map (λ word. string_bytes word) c.args.words.now in
     let app = app_of c.alone.result in
     let finds = subst (λ (found : Option ArgMatches). Finds app words found) c.in-None.is c.in_ok-found.ensures in
-    answer_is bare (OnText c.args.command) c.args.name.now app words None None c.alone.ensures finds refl
+    answer_is bare (alone_of c.args.command) c.args.name.now app words None None c.alone.ensures finds refl

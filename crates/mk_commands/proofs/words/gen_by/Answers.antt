@@ -1,9 +1,9 @@
 use Rattle.std.proofs.Common.{Option, Some, None, map, refl, string_bytes, subst}
-use Rattle.clap.specs.Words.{app_of}
+use Rattle.clap.specs.Words.{app_of, found_of}
 use Rattle.clap.specs.declared.parser.matches.ArgMatches.{ArgMatches}
-use Rattle.mk_commands.specs.declared.commands.Command.TheVariants.{OnText}
-use Rattle.mk_commands.specs.declared.commands.TextCommand.TheVariants.{Check}
-use Rattle.mk_commands.specs.Told.{gens}
+use Rattle.mk_commands.specs.Commands.{gen_of}
+use Rattle.mk_commands.specs.Given.{gens}
+use Rattle.mk_commands.proofs.Getting.{gen_reads}
 use Rattle.mk_commands.proofs.Taken.{Finds, answer_is}
 use Rattle.mk_commands.proofs.words.gen_by.Goals as goal
 
@@ -12,12 +12,13 @@ returns-in-Some c =
     let words = map (λ word. string_bytes word) c.args.words.now in
     let app = app_of c.in_ok-generate.field-0 in
     let finds = subst (λ (found : Option ArgMatches). Finds app words found) c.in-Some.is c.in_ok-found.ensures in
-    answer_is gens (OnText Check) c.args.name.now app words (Some c.in-Some.matches) c.gen_in.result
-    c.in_ok-generate.ensures finds c.gen_in.ensures
+    answer_is gens gen_of c.args.name.now app words (Some c.in-Some.matches) c.gen_in.result
+    c.in_ok-generate.ensures finds
+    (λ t. gen_reads (found_of c.in-Some.matches) t c.gen_in.result c.gen_in.ensures)
 
 pub returns : goal.returns
 returns c =
     let words = map (λ word. string_bytes word) c.args.words.now in
     let app = app_of c.in_ok-generate.field-0 in
     let finds = subst (λ (found : Option ArgMatches). Finds app words found) c.in-None.is c.in_ok-found.ensures in
-    answer_is gens (OnText Check) c.args.name.now app words None None c.in_ok-generate.ensures finds refl
+    answer_is gens gen_of c.args.name.now app words None None c.in_ok-generate.ensures finds refl

@@ -1,9 +1,9 @@
 use Rattle.std.proofs.Common.{Option, Some, None, map, refl, string_bytes, subst}
-use Rattle.clap.specs.Words.{app_of}
+use Rattle.clap.specs.Words.{app_of, found_of}
 use Rattle.clap.specs.declared.parser.matches.ArgMatches.{ArgMatches}
-use Rattle.mk_commands.specs.declared.commands.Command.TheVariants.{OnText}
-use Rattle.mk_commands.specs.declared.commands.TextCommand.TheVariants.{Check}
-use Rattle.mk_commands.specs.Told.{runs}
+use Rattle.mk_commands.specs.Commands.{run_of}
+use Rattle.mk_commands.specs.Given.{runs}
+use Rattle.mk_commands.proofs.Getting.{run_reads}
 use Rattle.mk_commands.proofs.Taken.{Finds, answer_is}
 use Rattle.mk_commands.proofs.words.run_by.Goals as goal
 
@@ -12,12 +12,12 @@ returns-in-Some c =
     let words = map (λ word. string_bytes word) c.args.words.now in
     let app = app_of c.in_ok-run.field-0 in
     let finds = subst (λ (found : Option ArgMatches). Finds app words found) c.in-Some.is c.in_ok-found.ensures in
-    answer_is runs (OnText Check) c.args.name.now app words (Some c.in-Some.matches) c.run_in.result c.in_ok-run.ensures
-    finds c.run_in.ensures
+    answer_is runs run_of c.args.name.now app words (Some c.in-Some.matches) c.run_in.result c.in_ok-run.ensures
+    finds (λ t. run_reads (found_of c.in-Some.matches) t c.run_in.result c.run_in.ensures)
 
 pub returns : goal.returns
 returns c =
     let words = map (λ word. string_bytes word) c.args.words.now in
     let app = app_of c.in_ok-run.field-0 in
     let finds = subst (λ (found : Option ArgMatches). Finds app words found) c.in-None.is c.in_ok-found.ensures in
-    answer_is runs (OnText Check) c.args.name.now app words None None c.in_ok-run.ensures finds refl
+    answer_is runs run_of c.args.name.now app words None None c.in_ok-run.ensures finds refl

@@ -1,50 +1,43 @@
-use Rattle.std.proofs.Common.{◌≡◌, ◌∙◌, ℕ, Bool, true, false, Some, None, refl, sym, ap₂, arith}
+use Rattle.std.proofs.Common.{◌≡◌, ◌∙◌, ℕ, Bool, true, false, Some, None, refl, sym, ap, ap₂, arith, option_and_then}
 use Rattle.std.proofs.lemmas.Bool.Decides.{nat_tests}
 use Rattle.std.specs.Prelude.{nat_lt}
-use Rattle.clap.specs.Words.{found_of}
-use Rattle.mk_commands.specs.Told.{runs}
-use Rattle.mk_commands.proofs.Getting.{markers_got, sweep_got, why_got, run_kept, run_made, run_reads}
+use Rattle.mk_commands.specs.declared.commands.Command.TheVariants.{OnText}
+use Rattle.mk_commands.specs.declared.commands.TextCommand.TheVariants.{Run}
+use Rattle.mk_commands.specs.Commands.{run_with}
+use Rattle.mk_commands.proofs.Getting.{flag_is}
 use Rattle.mk_commands.proofs.words.run_in.Goals.{else-sweep-via-then-sweep+else-markers-gt0, else-sweep-via-else-sweep}
 use Rattle.mk_commands.proofs.words.run_in.Goals as goal
 
 pub returns-in_err-markers : goal.returns-in_err-markers
-returns-in_err-markers c t h =
-    let read = c.markers_in.ensures ∙ markers_got runs (found_of c.args.matches.now) t h in
-    c.from_residual.ensures ∙ run_reads t None (sym c.in_err-markers.was ∙ read)
+returns-in_err-markers c sweep why s w = c.from_residual.ensures
+    ∙ ap (option_and_then (run_with sweep why)) (sym c.in_err-markers.was ∙ c.markers_in.ensures)
 
-refused_made : (m : ℕ) (sweep why : Bool) → sweep ≡ true → nat_lt 0 m ≡ true → None ≡ run_made m sweep why
-refused_made m sweep why s n = rw (s, n) refl
+refused : (m : ℕ) (sweep why : Bool) → sweep ≡ true → nat_lt 0 m ≡ true → None ≡ run_with sweep why m
+refused m sweep why s n = rw (s, n) refl
 
 pub returns-then-markers-gt0 : goal.returns-then-markers-gt0
-returns-then-markers-gt0 c t h =
-    let read = c.markers_in.ensures ∙ markers_got runs (found_of c.args.matches.now) t h in
-    let sweep = sweep_got (found_of c.args.matches.now) t c.get_flag-sweep.result h c.get_flag-sweep.ensures.value
-    c.get_flag-sweep.ensures.other in
+returns-then-markers-gt0 c sweep why s w =
+    let is = flag_is sweep c.get_flag-sweep.result _ s c.get_flag-sweep.ensures.value c.get_flag-sweep.ensures.other in
     let some : nat_lt 0 c.in_ok-markers.markers ≡ true = let lt = c.if-markers-gt0.true in grind (arith, nat_tests) in
-    refused_made c.in_ok-markers.markers t.sweep t.why (sym sweep ∙ c.if-sweep.true) some
-    ∙ run_reads t (Some c.in_ok-markers.markers) (sym c.in_ok-markers.was ∙ read)
+    refused c.in_ok-markers.markers sweep why (sym is ∙ c.if-sweep.true) some
+    ∙ ap (option_and_then (run_with sweep why)) (sym c.in_ok-markers.was ∙ c.markers_in.ensures)
 
-kept_few : (m : ℕ) (sweep why : Bool) → nat_lt 0 m ≡ false → run_kept m sweep why ≡ run_made m sweep why
-kept_few m true why n = rw n refl
-kept_few m false why n = refl
-
-kept_off : (m : ℕ) (sweep why : Bool) → sweep ≡ false → run_kept m sweep why ≡ run_made m sweep why
-kept_off m true why e = cc
-kept_off m false why e = refl
+kept : (m : ℕ) (sweep why : Bool) → (sweep ≡ true → nat_lt 0 m ≡ false)
+    → Some (OnText (Run (record { markers = m; sweep = sweep; why = why }))) ≡ run_with sweep why m
+kept m true why few = rw (few refl) refl
+kept m false why few = refl
 
 pub returns : goal.returns
-returns c t h =
-    let f = found_of c.args.matches.now in
+returns c sweep why s w =
     let m = c.in_ok-markers.markers in
-    let read = c.markers_in.ensures ∙ markers_got runs f t h in
-    let sweep = sweep_got f t c.get_flag-sweep.result h c.get_flag-sweep.ensures.value c.get_flag-sweep.ensures.other in
-    let why = why_got f t c.get_flag-why.result h c.get_flag-why.ensures.value c.get_flag-why.ensures.other in
-    let kept : run_kept m c.get_flag-sweep.result c.get_flag-why.result
-    ≡ run_made m c.get_flag-sweep.result c.get_flag-why.result =
+    let on = c.get_flag-sweep.result in
+    let is = flag_is sweep on _ s c.get_flag-sweep.ensures.value c.get_flag-sweep.ensures.other in
+    let is_why = flag_is why c.get_flag-why.result _ w c.get_flag-why.ensures.value c.get_flag-why.ensures.other in
+    let few : on ≡ true → nat_lt 0 m ≡ false =
     elim c.else-sweep.branch [
-      | else-sweep-via-then-sweep+else-markers-gt0 w ↦
-          let none : nat_lt 0 m ≡ false = let le = w.if-markers-gt0.false in grind (arith, nat_tests) in
-          kept_few m c.get_flag-sweep.result c.get_flag-why.result none
-      | else-sweep-via-else-sweep w ↦ kept_off m c.get_flag-sweep.result c.get_flag-why.result w.if-sweep.false
+      | else-sweep-via-then-sweep+else-markers-gt0 v ↦ λ h. let le = v.if-markers-gt0.false in grind (arith, nat_tests)
+      | else-sweep-via-else-sweep v ↦ λ h. let off = v.if-sweep.false in absurd cc
     ] in
-    kept ∙ ap₂ (run_made m) sweep why ∙ run_reads t (Some m) (sym c.in_ok-markers.was ∙ read)
+    kept m on c.get_flag-why.result few
+    ∙ ap₂ (λ (a b : Bool). run_with a b m) is is_why
+    ∙ ap (option_and_then (run_with sweep why)) (sym c.in_ok-markers.was ∙ c.markers_in.ensures)

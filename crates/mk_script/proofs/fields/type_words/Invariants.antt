@@ -1,6 +1,5 @@
 use Rattle.std.proofs.Common.{◌≡◌, take}
-use Rattle.mk_script.specs.Operands.{fields_of}
-use Rattle.mk_script.specs.Words.{texts_of}
+use Rattle.mk_script.proofs.Vocabulary.{fields_of, texts_of}
 use Rattle.mk_script.proofs.fields.type_words.Given as goal
 
 -- the words of the fields so far

@@ -1,10 +1,9 @@
 use Rattle.std.proofs.Common.{◌≡◌, ◌<◌, true, length, Ok, ◌∙◌, ap, sym, subst, arith}
 use Rattle.std.proofs.lemmas.Bool.Decides.{nat_tests}
 use Rattle.std.proofs.lemmas.List.{length-map}
+use Rattle.mk_script.proofs.Vocabulary.{are_fields, fields_of, texts_of, ◌>>=◌}
 use Rattle.mk_script.specs.declared.items.Item.TheVariants.{TypeLine}
-use Rattle.mk_script.specs.Operands.{◌>>=◌, are_fields, fields_of}
 use Rattle.mk_script.specs.Stops.{Gives, checked_behind}
-use Rattle.mk_script.specs.Words.{texts_of}
 use Rattle.mk_script.proofs.Converted.{gives_fault}
 use Rattle.mk_script.proofs.Placed.{placed_type, named_type}
 use Rattle.mk_script.proofs.line.type_line.Goals as goal

@@ -1,11 +1,9 @@
 use Rattle.std.proofs.Common.{◌≡◌, ◌≢◌, ◌<◌, ◌+◌, Err, length, ◌∙◌, ap, sym, arith}
 use Rattle.std.proofs.lemmas.Bool.Decides.{nat_tests}
 use Rattle.std.proofs.lemmas.List.{at_drop_all, length-append}
-use Rattle.mk_script.specs.declared.items.Item.{Item}
+use Rattle.mk_script.proofs.Vocabulary.{at_end, Item, items_behind, items_of_lines, lines_of, texts_of}
 use Rattle.mk_script.specs.declared.faults.TextStop.TheVariants.{NoMemory}
-use Rattle.mk_script.specs.Grammar.{items_of_lines, items_behind, at_end}
 use Rattle.mk_script.specs.Stops.{stop_at}
-use Rattle.mk_script.specs.Words.{lines_of, texts_of}
 use Rattle.mk_script.proofs.Reading.{step, stops_at, whole, ended_well, ended_badly}
 use Rattle.mk_script.proofs.parsing.items.Goals as goal
 

@@ -1,7 +1,6 @@
 use Rattle.std.proofs.Common.{◌≡◌, [], drop, length}
-use Rattle.mk_script.specs.Grammar.{items_behind}
+use Rattle.mk_script.proofs.Vocabulary.{items_behind, texts_of}
 use Rattle.mk_script.specs.ScopeOf.{IsScopeOf}
-use Rattle.mk_script.specs.Words.{texts_of}
 use Rattle.mk_script.proofs.parsing.items.Given as goal
 
 -- the items so far are of the lines so far, and the lines that are left decide

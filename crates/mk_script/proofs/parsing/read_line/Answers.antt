@@ -1,7 +1,6 @@
 use Rattle.std.proofs.Common.{◌≡◌, ◌++◌, ◌∷◌, [], Ok, ◌∙◌, ap, sym, arith}
-use Rattle.mk_script.specs.Lines.{line_of}
-use Rattle.mk_script.specs.Words.{texts_of, words_of_line}
-use Rattle.mk_script.proofs.Reading.{is_fresh}
+use Rattle.mk_script.proofs.Vocabulary.{line_of, texts_of, words_of_line}
+use Rattle.mk_script.proofs.PassedLines.{passed}
 use Rattle.mk_script.proofs.parsing.read_line.Goals as goal
 
 pub returns : goal.returns
@@ -19,5 +18,5 @@ returns c = λ scope.
       is_item = is_item;
       items_are = items_are;
       scope_of = rw items_are
-          (c.in_ok-add.ensures before scope (is_fresh before (words_of_line c.args.line.now) item is_item));
+          (c.in_ok-add.ensures before scope (passed before (words_of_line c.args.line.now) item is_item).fresh);
     }

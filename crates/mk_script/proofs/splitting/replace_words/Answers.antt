@@ -1,7 +1,7 @@
 use Rattle.std.proofs.Common.{◌==◌, not, filter, ap, ◌∙◌, rules, tests}
 use Rattle.std.proofs.lemmas.Iterator.Consumers.{YieldsList-at, YieldsList-end}
 use Rattle.std.proofs.lemmas.Iterator.Splits.{YieldsList-from_slice_split}
-use Rattle.mk_script.specs.Words.{is_empty}
+use Rattle.mk_script.proofs.Vocabulary.{is_empty}
 use Rattle.mk_script.proofs.splitting.replace_words.Goals as goal
 
 pub returns : goal.returns

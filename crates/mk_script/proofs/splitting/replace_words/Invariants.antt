@@ -1,5 +1,5 @@
 use Rattle.std.proofs.Common.{◌≡◌, not, filter}
-use Rattle.mk_script.specs.Words.{is_empty, texts_of}
+use Rattle.mk_script.proofs.Vocabulary.{is_empty, texts_of}
 use Rattle.mk_script.proofs.splitting.replace_words.Given as goal
 
 -- the words so far, of the pieces so far

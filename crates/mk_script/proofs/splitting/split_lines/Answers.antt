@@ -1,5 +1,5 @@
 use Rattle.std.proofs.Common.{◌≡◌, ◌-◌, ◌<◌, ◌==◌, true, false, length, get_or, take, ap, sym, ◌∙◌, arith}
-use Rattle.mk_script.specs.Words.{without_empty_last, texts_of}
+use Rattle.mk_script.proofs.Vocabulary.{texts_of, without_empty_last}
 use Rattle.mk_script.proofs.LastPiece.{with_last, without_last}
 use Rattle.mk_script.proofs.splitting.split_lines.Goals as goal
 use Rattle.mk_script.proofs.splitting.split_lines.Goals.{then-is_empty, else-is_empty}

@@ -1,6 +1,5 @@
-use Rattle.std.proofs.Common.{sym, ◌∙◌, ap, arith}
-use Rattle.std.specs.Prelude.{◌||◌}
-use Rattle.mk_core.specs.Standing.{CoreState}
+use Rattle.std.proofs.Common.{sym, ◌∙◌, ap, arith, ◌||◌}
+use Rattle.mk_core.proofs.Vocabulary.{CoreState}
 use Rattle.mk_core.specs.Moments.{is_number_of, is_held, others_are_held}
 use Rattle.mk_core.proofs.AllBelow.{all_below_not_is}
 use Rattle.mk_core.proofs.machine.Core.others_are_held.Goals as goal

@@ -1,5 +1,4 @@
-use Rattle.std.proofs.Common.{sym, ◌∙◌, ap, arith}
-use Rattle.std.specs.Prelude.{not}
+use Rattle.std.proofs.Common.{sym, ◌∙◌, ap, arith, not}
 use Rattle.mk_core.specs.StopConditions.{blackens}
 use Rattle.mk_core.proofs.AllBelow.{all_below_not_is}
 use Rattle.mk_core.proofs.table.Table.blackens_none.Goals as goal

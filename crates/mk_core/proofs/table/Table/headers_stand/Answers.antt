@@ -1,6 +1,6 @@
 use Rattle.std.proofs.Common.{sym, arith}
 use Rattle.std.proofs.lemmas.Bool.Decides.{nat_tests}
-use Rattle.mk_core.specs.NewPlaces.{stands}
+use Rattle.mk_core.proofs.Vocabulary.{stands}
 use Rattle.mk_core.specs.PageHeaders.{header_wanted}
 use Rattle.mk_core.proofs.AllBelow.{all_below_not_is}
 use Rattle.mk_core.proofs.table.Table.headers_stand.Goals as goal

@@ -1,5 +1,5 @@
 use Rattle.std.proofs.Common.{◌≡◌, ◌*◌, true}
-use Rattle.mk_core.specs.Cells.{words_are_zero}
+use Rattle.mk_core.proofs.Vocabulary.{words_are_zero}
 use Rattle.mk_core.proofs.table.Table.is_run_wiped.Given as goal
 
 abbrev pub invariant-loop-page : goal.invariant-loop-page

@@ -1,5 +1,4 @@
-use Rattle.std.proofs.Common.{◌≡◌, ◌+◌, true, slice_index}
-use Rattle.std.specs.Prelude.{◌==◌}
+use Rattle.std.proofs.Common.{◌≡◌, ◌+◌, true, slice_index, ◌==◌}
 use Rattle.mk_core.specs.Bounded.{all_below}
 use Rattle.mk_core.proofs.table.Table.words_are_zero.Given as goal
 

@@ -1,8 +1,8 @@
 use Rattle.std.proofs.Common.{◌∙◌, sym, ap}
 use Rattle.std.specs.List.{list_any}
 use Rattle.std.specs.Str.{bytes_eq}
+use Rattle.mk_script.proofs.Vocabulary.{is_among}
 use Rattle.mk_script.proofs.PutName.{list_any-map}
-use Rattle.mk_script.specs.Lines.{is_among}
 use Rattle.mk_script.proofs.name_set.NameSet.contains.Goals as goal
 
 pub returns : goal.returns

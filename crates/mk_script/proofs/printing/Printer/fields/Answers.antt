@@ -1,6 +1,5 @@
 use Rattle.std.proofs.Common.{◌++◌, arith, ap, ◌∙◌}
-use Rattle.mk_script.specs.Canonical.{fields_behind}
-use Rattle.mk_script.specs.Spaced.{spaced_words}
+use Rattle.mk_script.proofs.Vocabulary.{fields_behind, spaced_words}
 use Rattle.mk_script.proofs.Spacing.{drop_next, pointer_behind}
 use Rattle.mk_script.proofs.printing.Printer.fields.Goals as goal
 use Rattle.mk_script.proofs.printing.Printer.fields.Goals.{in-Number}

@@ -1,6 +1,5 @@
 use Rattle.std.proofs.Common.{◌≡◌, ◌++◌, ◌≤◌, drop}
-use Rattle.mk_script.specs.Canonical.{fields_behind}
-use Rattle.mk_script.specs.Spaced.{spaced_words}
+use Rattle.mk_script.proofs.Vocabulary.{fields_behind, spaced_words}
 use Rattle.mk_script.proofs.printing.Printer.fields.Given as goal
 
 abbrev pub invariant-loop-word : goal.invariant-loop-word

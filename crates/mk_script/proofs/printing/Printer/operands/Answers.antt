@@ -1,5 +1,6 @@
 use Rattle.std.proofs.Common.{◌++◌, map, append_assoc, ap, ◌∙◌}
-use Rattle.mk_script.specs.Spaced.{spaced_words, operand_text}
+use Rattle.mk_script.proofs.Vocabulary.{spaced_words}
+use Rattle.mk_script.specs.Spaced.{operand_text}
 use Rattle.mk_script.proofs.Spacing.{drop_next}
 use Rattle.mk_script.proofs.printing.Printer.operands.Goals as goal
 

@@ -1,5 +1,6 @@
 use Rattle.std.proofs.Common.{◌≡◌, ◌++◌, map, drop}
-use Rattle.mk_script.specs.Spaced.{spaced_words, operand_text}
+use Rattle.mk_script.proofs.Vocabulary.{spaced_words}
+use Rattle.mk_script.specs.Spaced.{operand_text}
 use Rattle.mk_script.proofs.printing.Printer.operands.Given as goal
 
 abbrev pub invariant-loop-operand : goal.invariant-loop-operand

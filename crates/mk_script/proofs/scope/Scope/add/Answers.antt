@@ -1,10 +1,9 @@
 use Rattle.std.proofs.Common.{◌≡◌, ◌∙◌, false, ◌||◌, [], ◌∷◌, reverse, ap, refl, sym}
-use Rattle.mk_script.specs.Lines.{is_twice, is_among}
-use Rattle.mk_script.specs.Scopes.{type_names, global_names, script_names, pointer_names, number_names, this_script}
-use Rattle.mk_script.specs.Scopes.{is_script, is_instruction}
+use Rattle.mk_script.proofs.Vocabulary.{global_names, is_among, is_script, is_twice, number_names, pointer_names}
+use Rattle.mk_script.proofs.Vocabulary.{script_names, this_script, type_names}
+use Rattle.mk_script.specs.Scopes.{is_instruction}
 use Rattle.mk_script.proofs.NamesSoFar.{among, on_ok, among_neither}
-use Rattle.mk_script.proofs.ScopeAfter.{heap_adds, type_adds, global_adds, ptr_adds, num_adds, other_adds, kept}
-use Rattle.mk_script.proofs.ScopeAfter.{after_line, after_script, or-false, or-true}
+use Rattle.mk_script.proofs.ScopeAfter.{adds, other_adds, kept, after_line, after_script, or-false, or-true}
 use Rattle.mk_script.proofs.scope.Scope.add.Goals as goal
 
 pub returns-in-Heap : goal.returns-in-Heap
@@ -12,7 +11,7 @@ returns-in-Heap c = λ before scope fresh.
     let old = c.args.self.now in
     let is = c.in-Heap.is in
     after_line old _ before c.args.item.now [] [] [] [] [] scope
-    (heap_adds c.in-Heap.pages c.in-Heap.resident c.args.item.now is) (ap is_script is)
+    (adds c.args.item.now _ is) (ap is_script is)
     refl refl (sym (or-false old.has_instruction (is_instruction c.args.item.now) (ap is_instruction is)))
     (kept old.types) (kept old.globals) (kept old.scripts) (kept old.pointers)
     (kept old.numbers) c.in_ok-follow_blocks.ensures
@@ -25,7 +24,7 @@ returns-in-TypeLine c = λ before scope fresh.
     among c.in-TypeLine.name (type_names before) old.types scope.types ∙ sym (ap (is_twice before) is) ∙ fresh in
     on_ok c.insert.result (c.insert.ensures absent) (λ added.
     after_line old _ before c.args.item.now (c.in-TypeLine.name ∷ []) [] [] [] [] scope
-    (type_adds c.in-TypeLine.name c.in-TypeLine.words c.args.item.now is) (ap is_script is)
+    (adds c.args.item.now _ is) (ap is_script is)
     refl refl (sym (or-false old.has_instruction (is_instruction c.args.item.now) (ap is_instruction is)))
     added (kept old.globals) (kept old.scripts) (kept old.pointers) (kept old.numbers) c.in_ok-follow_blocks.ensures)
 
@@ -38,7 +37,7 @@ returns-in-Global c = λ before scope fresh.
     ∙ fresh in
     on_ok c.insert-in-Global.result (c.insert-in-Global.ensures absent) (λ added.
     after_line old _ before c.args.item.now [] (c.in-Global.name ∷ []) [] [] [] scope
-    (global_adds c.in-Global.name c.in-Global.ty c.args.item.now is) (ap is_script is)
+    (adds c.args.item.now _ is) (ap is_script is)
     refl refl (sym (or-false old.has_instruction (is_instruction c.args.item.now) (ap is_instruction is)))
     (kept old.types) added (kept old.scripts) (kept old.pointers) (kept old.numbers) c.in_ok-follow_blocks.ensures)
 
@@ -52,7 +51,7 @@ returns-in-Ptr c = λ before scope fresh.
     ∙ fresh)).0 in
     on_ok c.insert-in-Ptr.result (c.insert-in-Ptr.ensures absent) (λ added.
     after_line old _ before c.args.item.now [] [] [] (c.in-Ptr.name ∷ []) [] scope
-    (ptr_adds c.in-Ptr.name c.in-Ptr.at c.args.item.now is) (ap is_script is)
+    (adds c.args.item.now _ is) (ap is_script is)
     refl refl (sym (or-false old.has_instruction (is_instruction c.args.item.now) (ap is_instruction is)))
     (kept old.types) (kept old.globals) (kept old.scripts) added (kept old.numbers) c.in_ok-follow_blocks.ensures)
 
@@ -66,7 +65,7 @@ returns-in-Num c = λ before scope fresh.
     ∙ fresh)).1 in
     on_ok c.insert-in-Num.result (c.insert-in-Num.ensures absent) (λ added.
     after_line old _ before c.args.item.now [] [] [] [] (c.in-Num.name ∷ []) scope
-    (num_adds c.in-Num.name c.args.item.now is) (ap is_script is)
+    (adds c.args.item.now _ is) (ap is_script is)
     refl refl (sym (or-false old.has_instruction (is_instruction c.args.item.now) (ap is_instruction is)))
     (kept old.types) (kept old.globals) (kept old.scripts) (kept old.pointers) added c.in_ok-follow_blocks.ensures)
 

@@ -1,5 +1,4 @@
-use Rattle.mk_script.specs.Lines.{is_among}
-use Rattle.mk_script.specs.Scopes.{pointer_names, number_names, this_script}
+use Rattle.mk_script.proofs.Vocabulary.{is_among, number_names, pointer_names, this_script}
 use Rattle.mk_script.proofs.NamesSoFar.{among_both, either_true, either_false}
 use Rattle.mk_script.proofs.scope.Scope.has_register.Goals as goal
 

@@ -1,0 +1,47 @@
+-- The words of the heap and of its steps, for what is proved of them here: a proof imports them from here.
+pub use Rattle.mk_core.specs.Allocations.{PlacedAllocation, never_granted, placed_at, stands_in, storage_of}
+pub use Rattle.mk_core.specs.Bits.{has_bit}
+pub use Rattle.mk_core.specs.Cells.{cell_words, cells_under, first_word, header_in, points_well, word_points_well}
+pub use Rattle.mk_core.specs.Cells.{words_are_zero, words_under}
+pub use Rattle.mk_core.specs.Config.{IsWithinLimits}
+pub use Rattle.mk_core.specs.Cycles.{Marking, is_begin, is_close, is_end, is_give, is_release}
+pub use Rattle.mk_core.specs.Decided.{answered, asked}
+pub use Rattle.mk_core.specs.Enabled.{IsEnabled, failing}
+pub use Rattle.mk_core.specs.History.{IsHistory, World, calls, first_world, left, never_behind, never_first}
+pub use Rattle.mk_core.specs.History.{world_behind}
+pub use Rattle.mk_core.specs.Moments.{Moment, first_moment, flight_of, is_phase}
+pub use Rattle.mk_core.specs.NewPlaces.{base_made, class_made, header_made, is_small_object, object_made, pages_made}
+pub use Rattle.mk_core.specs.NewPlaces.{stands, unmapped_header}
+pub use Rattle.mk_core.specs.ObjectHeaders.{IsHeaderOf, IsSized, cells_made, words_made}
+pub use Rattle.mk_core.specs.Placement.{StandsAtItsPlace}
+pub use Rattle.mk_core.specs.Standing.{CoreState}
+pub use Rattle.mk_core.specs.StandingAllocations.{BeginsAtCell, HasItsHeaders, StandsOnHeap, object_placed}
+pub use Rattle.mk_core.specs.Touched.{IsClosedAlong}
+pub use Rattle.mk_core.specs.TurnConditions.{place_now}
+pub use Rattle.mk_core.specs.Words.{Words, header_at, quarantine_word, zero_words_of}
+pub use Rattle.mk_core.specs.declared.accesses.Access.{Access}
+pub use Rattle.mk_core.specs.declared.accesses.Access.TheVariants.{Load, Store}
+pub use Rattle.mk_core.specs.declared.accesses.TableWord.{TableWord}
+pub use Rattle.mk_core.specs.declared.accesses.TableWord.TheVariants.{Named, Turn}
+pub use Rattle.mk_core.specs.declared.config.Config.{Config}
+pub use Rattle.mk_core.specs.declared.events.Event.{Event}
+pub use Rattle.mk_core.specs.declared.events.Seat.{Seat}
+pub use Rattle.mk_core.specs.declared.events.Step.{Step}
+pub use Rattle.mk_core.specs.declared.events.Word.{Word}
+pub use Rattle.mk_core.specs.declared.seats.Flight.{Flight}
+pub use Rattle.mk_core.specs.declared.seats.Object.{Object}
+pub use Rattle.mk_geom.specs.Addresses.{page_at_address}
+pub use Rattle.mk_geom.specs.Classes.{cells_of, class_words_of}
+pub use Rattle.mk_geom.specs.StorageWords.{IsWordOf, cell_of_storage}
+pub use Rattle.mk_geom.specs.Storages.{Storage}
+pub use Rattle.mk_geom.specs.declared.addresses.Cell.{Cell}
+pub use Rattle.mk_geom.specs.declared.headers.Header.{Header}
+pub use Rattle.mk_geom.specs.declared.headers.Header.TheVariants.{Block, Free, Later, LeafBlock, LeafRun, Run}
+pub use Rattle.mk_geom.specs.declared.pages.Page.{Page}
+pub use Rattle.mk_geom.specs.declared.pages.Place.{Place}
+pub use Rattle.mk_never.specs.NeverHeap.{NeverState}
+pub use Rattle.mk_never.specs.Types.{kinds_of}
+pub use Rattle.mk_never.specs.declared.operations.Op.{Op}
+pub use Rattle.mk_never.specs.declared.types.Kind.TheVariants.{To}
+pub use Rattle.mk_never.specs.declared.values.Value.{Value}
+pub use Rattle.mk_never.specs.declared.values.Value.TheVariants.{Null, Ptr}

@@ -1,0 +1,15 @@
+-- Words of the definitions, for what is proved of them: a proof imports them from here.
+pub use Rattle.mk_script.specs.Canonical.{at_text, canonical_text, fields_behind, words_of_item}
+pub use Rattle.mk_script.specs.Grammar.{IsOfSomeText, at_end, go_on, items_behind, items_of_lines}
+pub use Rattle.mk_script.specs.Keywords.{has_word_count, keyword_of}
+pub use Rattle.mk_script.specs.Lines.{ends_rightly, has_none, has_script, is_among, is_placed, is_twice, line_of}
+pub use Rattle.mk_script.specs.Names.{number_of_word, value_from}
+pub use Rattle.mk_script.specs.Operands.{are_fields, at, fields_of, have_form, name, ◌>>=◌}
+pub use Rattle.mk_script.specs.Scopes.{global_names, is_script, number_names, open_behind, open_blocks, pointer_names}
+pub use Rattle.mk_script.specs.Scopes.{script_names, this_script, type_names}
+pub use Rattle.mk_script.specs.Spaced.{joined_words, spaced_words}
+pub use Rattle.mk_script.specs.Words.{is_empty, lines_of, texts_of, without_empty_last, words_of_line}
+pub use Rattle.mk_script.specs.declared.faults.LineFault.{LineFault}
+pub use Rattle.mk_script.specs.declared.items.At.{At}
+pub use Rattle.mk_script.specs.declared.items.Item.{Item}
+pub use Rattle.mk_script.specs.declared.keywords.Keyword.{Keyword}
