@@ -1,11 +1,8 @@
 -- A word of a scanned cell that isn't 0 lies on a page that leads to the cell's page.
-use Rattle.std.proofs.Common.{◌≡◌, ◌≢◌, ℕ, ◌+◌, ◌*◌, ◌/◌, ◌%◌, ◌<◌, true, false, refl, ◌∙◌, ap, inl, inr, arith}
-use Rattle.std.specs.Prelude.{Option, Some, None, slice_index}
-use Rattle.std.proofs.lemmas.Bool.{cases_eq, true≢false}
-use Rattle.mk_laws.proofs.Vocabulary.{Block, Free, Header, Later, LeafBlock, LeafRun, Run, Words, cells_under}
-use Rattle.mk_laws.proofs.Vocabulary.{class_words_of, has_no_pointers, head_page, head_page_under, header_in}
-use Rattle.mk_laws.proofs.Vocabulary.{words_under}
-use Rattle.mk_geom.proofs.ClassTable.{cell_ends}
+use Rattle.mk_laws.proofs.Vocabulary.{Block, Free, Header, Later, LeafBlock, LeafRun, None, Option, Run, Some, Words}
+use Rattle.mk_laws.proofs.Vocabulary.{ap, arith, cases_eq, cell_ends, cells_under, false, has_no_pointers, head_page}
+use Rattle.mk_laws.proofs.Vocabulary.{head_page_under, header_in, inl, inr, refl, slice_index, true, true≢false}
+use Rattle.mk_laws.proofs.Vocabulary.{words_under, ℕ, ◌%◌, ◌*◌, ◌+◌, ◌/◌, ◌<◌, ◌∙◌, ◌≡◌, ◌≢◌}
 use Rattle.mk_laws.specs.Kept.{LaterPagesAreKnown}
 
 -- a page that is its own head

@@ -1,27 +1,21 @@
 -- What the layout, the quarantine and the rest say to the images.
-use Rattle.std.proofs.Common.{Bool, List, ap, arith, false, inl, inr, length, refl, subst, sym, true, zero, suc, ℕ, ◌+◌}
-use Rattle.std.proofs.Common.{◌/◌, ◌<◌, ◌∙◌, ◌≡◌, ◌≢◌, ◌≤◌}
-use Rattle.std.specs.Prelude.{None, Option, Some, not, slice_index, ◌&&◌, ◌==◌}
-use Rattle.std.proofs.lemmas.Bool.{and_parts, cases_Bool, eq-eqb, eqb-true, lt-ltb}
-use Rattle.mk_laws.proofs.Vocabulary.{Caller, Cell, Config, Flight, MarksAreClosed, Object, Place, PlacedAllocation}
-use Rattle.mk_laws.proofs.Vocabulary.{Placing, RunPages, Used, World, address_of, all_below, base_made}
-use Rattle.mk_laws.proofs.Vocabulary.{cell_of_allocation, cells_made, flight_of, granted, header_at, header_made}
-use Rattle.mk_laws.proofs.Vocabulary.{is_large, is_mapped, is_phase, is_released_cell, is_small_object}
-use Rattle.mk_laws.proofs.Vocabulary.{is_undecided_new, kinds_of, object_made, object_placed, pages_made, phase_of}
-use Rattle.mk_laws.proofs.Vocabulary.{placed_at, pointed_cell, stands, unmapped_header}
+use Rattle.mk_laws.proofs.Vocabulary.{Among, Bool, Caller, Cell, Claim, Config, Flight, HasHeader, HasZeros}
+use Rattle.mk_laws.proofs.Vocabulary.{ImagePremises, IsClaimedRun, IsPlaceOfNone, IsQuarantined, IsShown, LayoutStands}
+use Rattle.mk_laws.proofs.Vocabulary.{List, MarksAreClosed, None, Object, Option, Place, PlacedAllocation, Placing}
+use Rattle.mk_laws.proofs.Vocabulary.{RunPages, RunStands, Some, Unmapping, Used, World, address_of, all_below}
+use Rattle.mk_laws.proofs.Vocabulary.{all_below_more_is, all_below_zero_is, and_parts, ap, arith, base_made, cases_Bool}
+use Rattle.mk_laws.proofs.Vocabulary.{cell_of_allocation, cells_made, claim_of, claims_of, claims_placed, eq-eqb}
+use Rattle.mk_laws.proofs.Vocabulary.{eqb-true, false, flight_of, granted, granted_base_is, granted_object}
+use Rattle.mk_laws.proofs.Vocabulary.{granted_type, ground_of, has_bit_without, header_at, header_made, inl, inr}
+use Rattle.mk_laws.proofs.Vocabulary.{is_large, is_mapped, is_phase, is_released_cell, is_released_in, is_small_object}
+use Rattle.mk_laws.proofs.Vocabulary.{is_undecided_new, is_unmapping, kinds_of, large_is_not_small, layout_scene_of}
+use Rattle.mk_laws.proofs.Vocabulary.{length, lt-ltb, mode_of, not, object_made, object_now, object_placed, pages_made}
+use Rattle.mk_laws.proofs.Vocabulary.{pages_some, phase_of, place_claim, placed_at, pointed_cell, refl}
+use Rattle.mk_laws.proofs.Vocabulary.{run_of_allocation, slice_index, stands, subst, suc, sym, true, typed_size}
+use Rattle.mk_laws.proofs.Vocabulary.{unmapped_header, zero, ℕ, ◌&&◌, ◌+◌, ◌/◌, ◌<◌, ◌==◌, ◌∙◌, ◌≡◌, ◌≢◌, ◌≤◌}
 use Rattle.mk_core.specs.NewPlaces.{place_stands}
-use Rattle.mk_core.proofs.AllBelow.{all_below_more_is, all_below_zero_is}
-use Rattle.mk_core.proofs.BitsWithout.{has_bit_without}
-use Rattle.mk_core.proofs.GrantedAllocations.{granted_base_is, granted_object, granted_type, placed_headers}
-use Rattle.mk_core.proofs.GrantedAllocations.{placed_stands}
+use Rattle.mk_core.proofs.GrantedAllocations.{placed_headers, placed_stands}
 use Rattle.mk_core.proofs.PointedAllocations.{base_points}
-use Rattle.mk_core.proofs.Sizes.{large_is_not_small, pages_some}
-use Rattle.mk_core.proofs.StandingAllocations.{typed_size}
-use Rattle.mk_laws.specs.Quarantine.{IsQuarantined}
-use Rattle.mk_laws.specs.LayoutScene.{Among, Claim, HasHeader, IsShown, Unmapping, is_released_in}
-use Rattle.mk_laws.specs.Ground.{ground_of}
-use Rattle.mk_laws.specs.Terrain.{IsClaimedRun, LayoutStands, RunStands, claim_of, claims_of, claims_placed}
-use Rattle.mk_laws.specs.Terrain.{is_unmapping, mode_of, object_now, place_claim, layout_scene_of}
 use Rattle.mk_laws.proofs.Claims.{claim_among, claim_is}
 use Rattle.mk_laws.proofs.LayoutHolders.{holding_object, new_has_turn, seat_operands}
 use Rattle.mk_laws.proofs.LayoutJoined.{apart_across, apart_left}
@@ -30,10 +24,9 @@ use Rattle.mk_laws.proofs.Serving.{own_claim, placed_claim}
 use Rattle.mk_laws.proofs.OneCell.{numbers_apart}
 use Rattle.mk_laws.proofs.StandingClaims.{IsStanding, place_index}
 use Rattle.mk_laws.proofs.Unmapping.{shares_run}
-use Rattle.mk_laws.specs.ImagePremises.{IsFreedRun, IsPlaceOfNone, ImagePremises, run_of_allocation}
+use Rattle.mk_laws.specs.ImagePremises.{IsFreedRun}
 use Rattle.mk_laws.specs.ImagePremises as images
 use Rattle.mk_laws.proofs.KnownWorlds.{KnownWorld}
-use Rattle.mk_laws.specs.Zeros.{HasZeros}
 use Rattle.mk_laws.specs.RunGates.{HoldsRunGates}
 use Rattle.mk_laws.proofs.TellImages.{zeros_tell_the_images}
 

@@ -1,27 +1,20 @@
 -- What a Free frees, and the answer Double.
-use Rattle.std.proofs.Common.{◌≡◌, ◌≢◌, ℕ, ◌+◌, Bool, true, false, List, map, sym, ap, subst, ◌∙◌, inl, inr, arith}
-use Rattle.std.specs.Prelude.{slice_set, ◌==◌, not, nat_lt, if◌then◌else◌, Option, Some, None}
-use Rattle.std.proofs.lemmas.Bool.{false≢true, cases_Bool, cases_eq, and_parts, and_from, eqb-true, eq-eqb, not-true}
-use Rattle.std.proofs.lemmas.List.{set-get_or}
-use Rattle.mk_laws.proofs.Vocabulary.{Cell, Config, Flight, IsSound, NeverAllocation, NeverState, Null, Num, Op}
-use Rattle.mk_laws.proofs.Vocabulary.{PlacedAllocation, Ptr, Value, Words, World, address_of, after_free}
-use Rattle.mk_laws.proofs.Vocabulary.{allocation_at, bases_of, cell_of_allocation, first_word}
-use Rattle.mk_laws.proofs.Vocabulary.{freed_where_it_stands, image_of, is_freed, is_released_cell, is_run_cell}
-use Rattle.mk_laws.proofs.Vocabulary.{no_allocation, placed_at, pointed_cell, stands_in, with_freed as never_freed}
+use Rattle.mk_laws.proofs.Vocabulary.{Bool, Cell, Config, Flight, ImagePremises, IsSafe, IsSound, List, Mirrors}
+use Rattle.mk_laws.proofs.Vocabulary.{NeverAllocation, NeverState, None, Null, Num, Op, Option, PlacedAllocation, Ptr}
+use Rattle.mk_laws.proofs.Vocabulary.{Some, Value, Words, World, address_of, after_free, allocation_at, and_from}
+use Rattle.mk_laws.proofs.Vocabulary.{and_parts, ap, arith, bases_of, cases_Bool, cases_eq, cell_of_allocation}
+use Rattle.mk_laws.proofs.Vocabulary.{changed_at, eq-eqb, eqb-true, false, false≢true, first_word, flight_among}
+use Rattle.mk_laws.proofs.Vocabulary.{freed_leaves, freed_released, freed_where_it_stands, if◌then◌else◌, image_of}
+use Rattle.mk_laws.proofs.Vocabulary.{image_scene_of, inl, inr, is_freed, is_past_probe, is_put, is_released_cell}
+use Rattle.mk_laws.proofs.Vocabulary.{is_run_cell, map, nat_lt, no_allocation, not, not-true, placed_at, pointed_cell}
+use Rattle.mk_laws.proofs.Vocabulary.{set-get_or, slice_set, stands_in, subst, sym, true, with_freed as never_freed, ℕ}
+use Rattle.mk_laws.proofs.Vocabulary.{◌+◌, ◌==◌, ◌∙◌, ◌≡◌, ◌≢◌}
+use Rattle.mk_laws.proofs.Basics.{Frees, KnownWorld, Move, Ready, Stands, base_at, exists_placed, goes_bare}
+use Rattle.mk_laws.proofs.Basics.{pointed_word, words_fit}
 use Rattle.mk_never.specs.declared.operations.Reply.TheVariants as reply
 use Rattle.mk_never.specs.NeverHeap.{free_reply}
-use Rattle.mk_laws.specs.Images.{image_scene_of, flight_among, is_put, is_past_probe}
-use Rattle.mk_laws.specs.SafeSets.{IsSafe}
-use Rattle.mk_laws.proofs.ImagesStands.{Stands}
-use Rattle.mk_laws.proofs.KnownWorlds.{KnownWorld}
-use Rattle.mk_laws.specs.Mirrors.{Mirrors}
-use Rattle.mk_laws.specs.ImagePremises.{ImagePremises}
-use Rattle.mk_laws.proofs.ImagesMoves.{is_bare, Move, Decides, Frees}
-use Rattle.mk_laws.proofs.ImagesKept.{base_at, exists_placed}
-use Rattle.mk_laws.proofs.Ready.{Ready, pointed_word}
-use Rattle.mk_laws.proofs.Refusals.{goes_bare}
-use Rattle.mk_laws.proofs.ImagesBefore.{words_fit, words_are, first_in}
-use Rattle.mk_core.proofs.ChangedAllocations.{changed_at, freed_leaves, freed_released}
+use Rattle.mk_laws.proofs.ImagesMoves.{is_bare, Decides}
+use Rattle.mk_laws.proofs.ImagesBefore.{words_are, first_in}
 use Rattle.mk_laws.proofs.ImagesKeptPlaces.{same_places}
 
 abbrev is_freed_in : Words → Option Cell → Bool

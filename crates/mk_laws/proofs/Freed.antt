@@ -1,26 +1,19 @@
 -- `quar` (a) on the terrain: an object is freed, and the run that a call freed is gone.
-use Rattle.std.proofs.Common.{Bool, ap, arith, false, inl, inr, length, map, refl, subst, sym, true, ℕ, ◌+◌, ◌/◌, ◌<◌}
-use Rattle.std.proofs.Common.{◌∙◌, ◌≡◌, ◌⊎◌}
-use Rattle.std.specs.Prelude.{None, Option, Some, if◌then◌else◌, not, ◌&&◌, ◌==◌}
-use Rattle.std.proofs.lemmas.Bool.{cases_Bool, cond-true, eq-eqb, eqb-true, not-true, true≢false}
 use Rattle.std.proofs.lemmas.List.{map-id}
-use Rattle.mk_laws.proofs.Vocabulary.{Cell, Config, Header, IsSized, IsWithinLimits, Object, OfBlock, OfLater}
-use Rattle.mk_laws.proofs.Vocabulary.{OfLeafBlock, OfLeafRun, OfRun, PlacedAllocation, RunPages, ShowsPart, Words}
-use Rattle.mk_laws.proofs.Vocabulary.{World, cell_of_allocation, cells_made, cells_under, freed_where_it_stands}
-use Rattle.mk_laws.proofs.Vocabulary.{header_at, header_in, is_run_unmapped, is_small_object, object_placed}
-use Rattle.mk_laws.proofs.Vocabulary.{pages_made, placed_at, run_headed, run_of_cell, stands, stands_in}
-use Rattle.mk_laws.proofs.Vocabulary.{unmapped_header}
-use Rattle.mk_core.proofs.AllBelow.{all_below-at}
-use Rattle.mk_core.proofs.CellsOfAllocations.{stands_in_its_cell, stands_in_no_other}
-use Rattle.mk_core.proofs.ChangedAllocations.{freed_leaves, freed_released}
-use Rattle.mk_core.proofs.ObjectHeaders.{part_cells}
-use Rattle.mk_core.proofs.Sizes.{pages_some}
-use Rattle.mk_core.proofs.SmallCycles.{small}
-use Rattle.mk_core.proofs.StandingAllocations.{first_page_shows}
-use Rattle.mk_laws.specs.LayoutScene.{Among, Claim, HasHeader, IsShown, IsUnmappedHeaderOf}
-use Rattle.mk_laws.specs.Ground.{ground_of}
-use Rattle.mk_laws.specs.Terrain.{IsCellOf, IsClaimedRun, RunStands, claim_of, claims_of, claims_on, is_unmapping}
-use Rattle.mk_laws.specs.Terrain.{mode_of, layout_scene_of}
+use Rattle.mk_laws.proofs.Vocabulary.{Among, Bool, Cell, Claim, Config, HasHeader, Header, IsClaimedRun, IsShown}
+use Rattle.mk_laws.proofs.Vocabulary.{IsSized, IsWithinLimits, None, Object, OfBlock, OfLater, OfLeafBlock, OfLeafRun}
+use Rattle.mk_laws.proofs.Vocabulary.{OfRun, Option, PlacedAllocation, RunPages, RunStands, ShowsPart, Some, Words}
+use Rattle.mk_laws.proofs.Vocabulary.{World, all_below-at, ap, arith, cases_Bool, cell_of_allocation, cells_made}
+use Rattle.mk_laws.proofs.Vocabulary.{cells_under, claim_of, claims_of, claims_on, cond-true, eq-eqb, eqb-true, false}
+use Rattle.mk_laws.proofs.Vocabulary.{first_page_shows, freed_leaves, freed_released, freed_where_it_stands, ground_of}
+use Rattle.mk_laws.proofs.Vocabulary.{header_at, header_in, if◌then◌else◌, inl, inr, is_run_unmapped, is_small_object}
+use Rattle.mk_laws.proofs.Vocabulary.{is_unmapping, layout_scene_of, length, map, mode_of, not, not-true, object_placed}
+use Rattle.mk_laws.proofs.Vocabulary.{pages_made, pages_some, part_cells, placed_at, refl, run_headed, run_of_cell}
+use Rattle.mk_laws.proofs.Vocabulary.{small, stands, stands_in, stands_in_its_cell, subst, sym, true, true≢false}
+use Rattle.mk_laws.proofs.Vocabulary.{unmapped_header, ℕ, ◌&&◌, ◌+◌, ◌/◌, ◌<◌, ◌==◌, ◌∙◌, ◌≡◌, ◌⊎◌}
+use Rattle.mk_core.proofs.CellsOfAllocations.{stands_in_no_other}
+use Rattle.mk_laws.specs.LayoutScene.{IsUnmappedHeaderOf}
+use Rattle.mk_laws.specs.Terrain.{IsCellOf}
 use Rattle.mk_laws.proofs.Claims.{LeavesCells, changed_among, claim_among}
 use Rattle.mk_laws.proofs.Modes.{Remodes, remoded}
 use Rattle.mk_laws.proofs.LayoutReadings.{one_claim}

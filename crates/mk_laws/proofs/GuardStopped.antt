@@ -1,32 +1,22 @@
 -- From `close` to `release` the marks stay closed: nothing changes but words that are wiped.
-use Rattle.std.proofs.Common.{◌≡◌, ◌⊎◌, ℕ, ◌+◌, ◌*◌, ◌<◌, true, false, List, length, refl, sym, ◌∙◌, ap, subst, inl}
-use Rattle.std.proofs.Common.{inr, arith}
-use Rattle.std.specs.Prelude.{slice_index, slice_set, ◌==◌, ◌||◌}
-use Rattle.std.proofs.lemmas.Bool.{cases_Bool, cases_eq, cases_lt, true≢false, ltb-true, eqb-true, or_cases}
-use Rattle.std.proofs.lemmas.List.{get_or-set_same, get_or-set_other, set_past}
-use Rattle.mk_laws.proofs.Vocabulary.{Caller, Config, Flight, Host, Marker, Moment, Named, Seat, Stage, Step, Store}
-use Rattle.mk_laws.proofs.Vocabulary.{Tally, Words, accessed, cells_under, first_word, flight_of, group_of, has_bit}
-use Rattle.mk_laws.proofs.Vocabulary.{has_no_pointers, header_at, header_of, is_open_to, marker_of, phase_of}
-use Rattle.mk_laws.proofs.Vocabulary.{points_well, reg_access, register_met, word_points_well, words_under}
+use Rattle.mk_laws.proofs.Vocabulary.{Caller, CellsAreClosed, Config, Flight, Host, Marker, Moment, Named, Seat, Stage}
+use Rattle.mk_laws.proofs.Vocabulary.{Step, Store, Tally, Words, accessed, ap, arith, cases_Bool, cases_eq, cases_lt}
+use Rattle.mk_laws.proofs.Vocabulary.{eqb-true, false, first_word, flight_of, get_or-set_other, get_or-set_same}
+use Rattle.mk_laws.proofs.Vocabulary.{group_of, header_at, inl, inr, is_open_to, length, ltb-true, marker_of, or_cases}
+use Rattle.mk_laws.proofs.Vocabulary.{phase_of, points_well, refl, reg_access, register_met, set_past, slice_index}
+use Rattle.mk_laws.proofs.Vocabulary.{subst, sym, true, true≢false, word_points_well, ℕ, ◌<◌, ◌==◌, ◌||◌, ◌∙◌, ◌≡◌, ◌⊎◌}
+use Rattle.mk_laws.proofs.Basics.{Behind, InCall, Known, Meets, Table, at_its_stage, at_reg, calls_stand, either_phase}
+use Rattle.mk_laws.proofs.Basics.{headers_kind, is_call_stage, is_head, not_astray, reg_table, shows_at, tally_table}
+use Rattle.mk_laws.proofs.Basics.{view_of, wells_from}
 use Rattle.mk_core.specs.declared.events.Word.TheVariants as word
 use Rattle.mk_core.specs.declared.events.Group.{Group}
 use Rattle.mk_core.specs.declared.events.Group.TheVariants as group
 use Rattle.mk_core.specs.declared.events.Step.TheVariants as step
 use Rattle.mk_core.specs.declared.seats.Stage.TheVariants as stage
-use Rattle.mk_laws.proofs.Standings.{InCall}
-use Rattle.mk_laws.proofs.Stages.{is_call_stage, is_reg_stage, calls_stand}
-use Rattle.mk_laws.proofs.NextSteps.{stage_of, has_stage_of_its_own, at_its_stage, at_reg}
-use Rattle.mk_laws.proofs.Views.{view_of}
-use Rattle.mk_laws.proofs.Orderly.{shows_at}
-use Rattle.mk_laws.proofs.Actors.{Meets}
-use Rattle.mk_laws.proofs.SameWords.{Behind}
-use Rattle.mk_laws.proofs.OrderlyLists.{not_astray}
-use Rattle.mk_laws.proofs.Known.{Known}
+use Rattle.mk_laws.proofs.Stages.{is_reg_stage}
+use Rattle.mk_laws.proofs.NextSteps.{stage_of, has_stage_of_its_own}
 use Rattle.mk_laws.proofs.IdleMarkers.{work_attends}
-use Rattle.mk_laws.specs.Guard.{CellsAreClosed}
-use Rattle.mk_laws.proofs.Phases.{either_phase}
-use Rattle.mk_laws.proofs.Wells.{well_is, is_well, bare_word_well, wells_from}
-use Rattle.mk_laws.proofs.Changes.{Table, reg_table, tally_table, is_head, headers_kind}
+use Rattle.mk_laws.proofs.Wells.{well_is, is_well, bare_word_well}
 use Rattle.mk_core.proofs.RegisterAccesses.{tally_leaves_registers}
 
 -- what leaves closed marks closed

@@ -1,25 +1,17 @@
 -- Each page has a header word, after each event.
-use Rattle.std.proofs.Common.{List, arith, inl, inr, refl, subst, sym, true, ℕ, ◌-◌, ◌<◌, ◌≡◌}
-use Rattle.std.specs.Prelude.{IsSome, Option}
-use Rattle.std.proofs.lemmas.Bool.{cases_eq}
-use Rattle.mk_laws.proofs.Vocabulary.{Config, Header, IsHeaderWord, Object, OfBlock, OfLater, OfLeafBlock}
-use Rattle.mk_laws.proofs.Vocabulary.{OfLeafRun, OfRun, Page, RunPages, Seat, ShowsPart, Step, World, flight_of}
-use Rattle.mk_laws.proofs.Vocabulary.{header_made, header_of, object_made, pages_made, seat_exists, unmapped_header}
+use Rattle.std.specs.Prelude.{IsSome}
+use Rattle.mk_laws.proofs.Vocabulary.{Config, HeadStep, Header, IsClaimedRun, IsHeaderWord, ItCarves, ItEmpties}
+use Rattle.mk_laws.proofs.Vocabulary.{ItUnmaps, LayoutStands, List, Object, OfBlock, OfLater, OfLeafBlock, OfLeafRun}
+use Rattle.mk_laws.proofs.Vocabulary.{OfRun, Option, Page, RunPages, RunStands, Seat, ShowsPart, Step, World, arith}
+use Rattle.mk_laws.proofs.Vocabulary.{cases_eq, claims_of, flight_of, ground_of, head_step, header_made, header_of}
+use Rattle.mk_laws.proofs.Vocabulary.{header_on, inl, inr, made_shows, object_made, object_now, pages_made, placed_now}
+use Rattle.mk_laws.proofs.Vocabulary.{refl, seat_exists, subst, sym, true, unmapped_header, ℕ, ◌-◌, ◌<◌, ◌≡◌}
+use Rattle.mk_laws.proofs.Basics.{Before, Meets, WorldBehind, headed_other, made_sized, own_claim, page_within}
+use Rattle.mk_laws.proofs.Basics.{reg_leaves_ground, tally_ground, used_header}
 use Rattle.mk_core.specs.declared.events.Step.TheVariants as step
-use Rattle.mk_core.proofs.ObjectHeaders.{made_shows, unmapped_shows}
-use Rattle.mk_core.proofs.PageSteps.{HeadStep, ItCarves, ItEmpties, ItUnmaps, head_step}
-use Rattle.mk_core.proofs.PlacesNow.{placed_now}
-use Rattle.mk_laws.proofs.Actors.{Meets}
-use Rattle.mk_laws.proofs.Ground.{tally_ground}
-use Rattle.mk_laws.proofs.OthersMoves.{WorldBehind}
+use Rattle.mk_core.proofs.ObjectHeaders.{unmapped_shows}
 use Rattle.mk_laws.specs.Room.{HasHeaderWords}
-use Rattle.mk_laws.specs.LayoutScene.{header_on}
-use Rattle.mk_laws.specs.Ground.{ground_of}
-use Rattle.mk_laws.specs.Terrain.{IsClaimedRun, LayoutStands, RunStands, claims_of, object_now}
-use Rattle.mk_laws.proofs.LayoutBefore.{Before, page_within, reg_leaves_ground}
-use Rattle.mk_laws.proofs.LayoutHolders.{made_sized}
-use Rattle.mk_laws.proofs.PageSets.{headed_here, headed_other, used_header}
-use Rattle.mk_laws.proofs.Serving.{own_claim}
+use Rattle.mk_laws.proofs.PageSets.{headed_here}
 
 part_is : (o : Object) (d : ℕ) (x : Option Header) → ShowsPart o d x → IsSome x
 part_is o d x (OfBlock f s l) = refl

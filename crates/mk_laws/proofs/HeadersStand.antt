@@ -1,41 +1,38 @@
 -- Where nothing is on its way, the headers and used words are those of the unreleased storage.
-use Rattle.std.proofs.Common.{Bool, Contains, List, ap, arith, false, get_or, inl, inr, length, pow-suc, refl, subst}
-use Rattle.std.proofs.Common.{[]}
-use Rattle.std.proofs.Common.{suc, sym, true, zero, ℕ, ◌%◌, ◌*◌, ◌+◌, ◌-◌, ◌/◌, ◌<◌, ◌^◌, ◌∙◌, ◌∷◌, ◌≡◌, ◌≤◌, ◌⊎◌}
-use Rattle.std.specs.Prelude.{None, not, slice_index_or, ◌&&◌}
-use Rattle.std.proofs.lemmas.Bool.{cases_Bool, cases_eq, cases_lt, false_from_ne_true, true≢false}
+use Rattle.std.proofs.Common.{Contains, pow-suc}
 use Rattle.std.proofs.lemmas.List.{get_or_default}
 use Rattle.std.proofs.lemmas.List.Elements.{Contains-get_or}
 use Rattle.std.proofs.lemmas.Nat.Bits.{bit_at_above, bit_at_lowest, same_from_bits}
-use Rattle.std.specs.Int.{bit_at}
-use Rattle.mk_laws.proofs.Vocabulary.{Config, Header, Object, PlacedAllocation, ShowsPart, Storage, Words}
-use Rattle.mk_laws.proofs.Vocabulary.{block_header, cell_of_allocation, cells_of, cells_under, class_made}
-use Rattle.mk_laws.proofs.Vocabulary.{class_words_of, free_page, has_bit, header_at, header_made, is_mapped}
-use Rattle.mk_laws.proofs.Vocabulary.{is_small_object, kinds_of, object_placed, pages_made, placed_at, run_header}
-use Rattle.mk_laws.proofs.Vocabulary.{stands, stands_on, storage_of, storage_words, taken, unreleased_storage}
-use Rattle.mk_laws.proofs.Vocabulary.{used_at, word_of}
+use Rattle.mk_laws.proofs.Vocabulary.{Bool, Claim, Config, HasHeader, Header, IsClaimed, IsShown, List, None, Object}
+use Rattle.mk_laws.proofs.Vocabulary.{PlacedAllocation, ShowsPart, Storage, Words, [], ap, arith, bit_at, block_header}
+use Rattle.mk_laws.proofs.Vocabulary.{cases_Bool, cases_eq, cases_lt, cell_ends, cell_of_allocation, cells_of}
+use Rattle.mk_laws.proofs.Vocabulary.{cells_under, claim_of, claims_of, class_known, class_made, class_words_of, false}
+use Rattle.mk_laws.proofs.Vocabulary.{false_from_ne_true, free_page, get_or, has_bit, header_at, header_made, inl, inr}
+use Rattle.mk_laws.proofs.Vocabulary.{is_mapped, is_released_in, is_small_object, kinds_of, large_cells}
+use Rattle.mk_laws.proofs.Vocabulary.{large_is_not_small, large_words, later_cells, length, mode_of, not, object_placed}
+use Rattle.mk_laws.proofs.Vocabulary.{pages_made, pages_some, placed_at, refl, run_begins, run_header, shows_on}
+use Rattle.mk_laws.proofs.Vocabulary.{slice_index_or, small, small_cells, small_pages, small_words}
+use Rattle.mk_laws.proofs.Vocabulary.{standing_has_storage, stands, stands_on, storage_is_of, storage_of, storage_words}
+use Rattle.mk_laws.proofs.Vocabulary.{subst, suc, sym, taken, true, true≢false, unreleased_storage, used_at, word_of}
+use Rattle.mk_laws.proofs.Vocabulary.{words_within, zero, ℕ, ◌%◌, ◌&&◌, ◌*◌, ◌+◌, ◌-◌, ◌/◌, ◌<◌, ◌^◌, ◌∙◌, ◌∷◌, ◌≡◌}
+use Rattle.mk_laws.proofs.Vocabulary.{◌≤◌, ◌⊎◌}
+use Rattle.mk_laws.proofs.Basics.{claim_among, claimed, claimed_some}
 use Rattle.mk_geom.specs.Storages.{AreLaidOut, PagesStandFor, block_page, class_of_storage, first_page, is_cell_taken}
 use Rattle.mk_geom.specs.Storages.{run_page, run_used, taken_cells, used_word, words_of_storages}
-use Rattle.mk_geom.proofs.ClassTable.{cell_ends, class_words_within}
+use Rattle.mk_geom.proofs.ClassTable.{class_words_within}
 use Rattle.mk_geom.proofs.Standing.{class_of_words, stands_from}
 use Rattle.mk_geom.proofs.StoredWords.{words_at, words_by_large, words_by_small, words_free}
 use Rattle.mk_geom.proofs.TakenCells.{cell_taken_by, cell_taken_from, get_or-taken_cells, length-taken_cells}
 use Rattle.mk_geom.proofs.TakenCells.{same_from_both, same_index}
 use Rattle.mk_geom.proofs.UsedWords.{bit_at-used_word}
-use Rattle.mk_core.proofs.ObjectHeaders.{large_header, later_cells, small_header}
-use Rattle.mk_core.proofs.Sizes.{class_known, large_cells, large_is_not_small, large_words, pages_some, small_cells}
-use Rattle.mk_core.proofs.Sizes.{small_pages, small_words, words_within}
-use Rattle.mk_core.proofs.SmallCycles.{small}
-use Rattle.mk_core.proofs.StandingAllocations.{run_begins, standing_has_storage}
-use Rattle.mk_core.proofs.UnreleasedStorage.{has_its_storage, storage_is_of}
+use Rattle.mk_core.proofs.ObjectHeaders.{large_header, small_header}
+use Rattle.mk_core.proofs.UnreleasedStorage.{has_its_storage}
 use Rattle.mk_core.proofs.WordBits.{bit_is_none, bit_is_one}
-use Rattle.mk_laws.specs.LayoutScene.{Claim, HasHeader, IsClaimed, IsShown, is_released_in, shows_on}
-use Rattle.mk_laws.specs.Terrain.{claim_of, claims_of, mode_of}
 use Rattle.mk_laws.proofs.Apart.{Rests, index_is, lie_apart, lie_in_pairs, on_its_pages, quiet_scene, same_block}
 use Rattle.mk_laws.proofs.Apart.{shown_of, small_is, standing_of}
-use Rattle.mk_laws.proofs.Claims.{claim_among, claim_is}
+use Rattle.mk_laws.proofs.Claims.{claim_is}
 use Rattle.mk_laws.proofs.OnClaims.{IsOn, on_claim}
-use Rattle.mk_laws.proofs.LayoutReadings.{cellless_unused, claimed, claimed_some, free_unused}
+use Rattle.mk_laws.proofs.LayoutReadings.{cellless_unused, free_unused}
 use Rattle.mk_laws.proofs.StandingClaims.{large_index}
 use Rattle.mk_laws.proofs.Unmapping.{cells_at_claim, shares_run}
 

@@ -1,11 +1,11 @@
 -- How a step of the turn's holder serves its call.
-use Rattle.std.proofs.Common.{List, ◌≡◌, Bool, true, false, refl, ap}
-use Rattle.std.specs.Prelude.{ℕ, Option, Some, None, is_some, ◌&&◌, not, if◌then◌else◌}
-use Rattle.mk_laws.proofs.Vocabulary.{Cell, Config, Flight, Granted, Hand, Holding, Moment, Object, OwnCycle, Page}
-use Rattle.mk_laws.proofs.Vocabulary.{Place, Placing, Unplaced, Word, Words, cell_freed, chosen, decided, frees}
-use Rattle.mk_laws.proofs.Vocabulary.{is_phase, is_undecided_free, is_undecided_new, may_answer_full, object_made}
-use Rattle.mk_laws.proofs.Vocabulary.{or_else, place_by_placing, place_now, pointed_cell, progress_freed}
-use Rattle.mk_laws.proofs.Vocabulary.{run_of_cell, sees_double, still, taken, target}
+use Rattle.std.specs.Prelude.{ℕ}
+use Rattle.mk_laws.proofs.Vocabulary.{Bool, Cell, Config, Flight, Granted, Hand, Holding, List, Moment, None, Object}
+use Rattle.mk_laws.proofs.Vocabulary.{Option, OwnCycle, Page, Place, Placing, Some, Unplaced, Word, Words, cell_freed}
+use Rattle.mk_laws.proofs.Vocabulary.{chosen, decided, false, frees, if◌then◌else◌, is_phase, is_some}
+use Rattle.mk_laws.proofs.Vocabulary.{is_undecided_free, is_undecided_new, may_answer_full, not, object_made, or_else}
+use Rattle.mk_laws.proofs.Vocabulary.{place_by_placing, place_now, pointed_cell, progress_freed, refl, run_of_cell}
+use Rattle.mk_laws.proofs.Vocabulary.{sees_double, still, taken, target, true, ◌&&◌, ◌≡◌}
 use Rattle.mk_core.specs.declared.events.Answer.TheVariants as answer
 use Rattle.mk_core.specs.declared.events.Word.TheVariants as word
 use Rattle.mk_laws.specs.Protocol.{is_granted}

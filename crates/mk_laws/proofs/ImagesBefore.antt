@@ -1,19 +1,13 @@
 -- What a step of a caller needs, from the groups.
-use Rattle.std.proofs.Common.{[], ◌≡◌, ◌≢◌, ℕ, ◌+◌, ◌/◌, ◌<◌, ◌≤◌, Bool, true, false, List, length, sym, ap, subst, ◌∙◌}
-use Rattle.std.proofs.Common.{inl, inr, arith}
-use Rattle.std.specs.Prelude.{nat_lt, ◌&&◌, Option, Some, None}
-use Rattle.std.proofs.lemmas.Bool.{cases_Bool}
-use Rattle.mk_laws.proofs.Vocabulary.{Cell, Config, Flight, IsTypedAllocation, Kind, NeverState, Words, World}
-use Rattle.mk_laws.proofs.Vocabulary.{address_of, allocation_at, cell_of_allocation, first_word, header_at}
-use Rattle.mk_laws.proofs.Vocabulary.{header_in, is_large, is_unmapped, is_unmapped_header, kinds_of, placed_at}
-use Rattle.mk_laws.proofs.Vocabulary.{pointed_cell, storage_words, words_of}
+use Rattle.mk_laws.proofs.Vocabulary.{Bool, Cell, Config, Flight, IsSafeSet, IsTypedAllocation, List, Mirrors}
+use Rattle.mk_laws.proofs.Vocabulary.{NeverState, None, Option, Some, Words, World, [], address_of, allocation_at, ap}
+use Rattle.mk_laws.proofs.Vocabulary.{arith, cases_Bool, cell_of_allocation, false, first_word, flight_among, header_at}
+use Rattle.mk_laws.proofs.Vocabulary.{header_in, image_scene_of, inl, inr, is_unmapped, is_unmapped_header, kinds_of}
+use Rattle.mk_laws.proofs.Vocabulary.{length, placed_at, pointed_cell, storage_holds, storage_words, subst, sym, true}
+use Rattle.mk_laws.proofs.Vocabulary.{words_of, ℕ, ◌+◌, ◌/◌, ◌<◌, ◌∙◌, ◌≡◌, ◌≢◌, ◌≤◌}
 use Rattle.mk_laws.proofs.Operands.{HaveOperands, operands_of}
-use Rattle.mk_laws.specs.Images.{image_scene_of, flight_among}
-use Rattle.mk_laws.specs.SafeSets.{IsSafeSet}
 use Rattle.mk_laws.proofs.ImagesStands.{Stands, is_gone}
-use Rattle.mk_core.proofs.StandingAllocations.{storage_holds}
 use Rattle.mk_laws.proofs.KnownWorlds.{KnownWorld}
-use Rattle.mk_laws.specs.Mirrors.{Mirrors}
 use Rattle.mk_laws.proofs.ImagesKept.{AreApart, AreSmall, exists_placed}
 use Rattle.mk_laws.proofs.Ready.{Ready}
 use Rattle.mk_laws.proofs.Reached.{PagesShow}

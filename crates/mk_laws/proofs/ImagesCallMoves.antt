@@ -1,32 +1,28 @@
 -- The other kinds of a caller's call lead to what the images allow.
-use Rattle.std.proofs.Common.{◌≡◌, ℕ, ◌+◌, ◌-◌, ◌*◌, ◌/◌, ◌<◌, Bool, true, false, List, ◌++◌, length, refl, sym, ap}
-use Rattle.std.proofs.Common.{subst, ◌∙◌}
-use Rattle.std.specs.Prelude.{slice_index, slice_set, ◌==◌, Some, None, if◌then◌else◌}
-use Rattle.std.proofs.lemmas.List.{set-get_or}
-use Rattle.std.proofs.lemmas.Bool.{false≢true, true≢false}
-use Rattle.mk_laws.proofs.Vocabulary.{AccessIsAdmitted, Done, Flight, IsAdmitted, IsNumber, IsPointer, IsSound}
-use Rattle.mk_laws.proofs.Vocabulary.{Kind, Meets, NeverState, Null, Num, Op, Ptr, Stage, Unmapped, Value}
-use Rattle.mk_laws.proofs.Vocabulary.{allocation_at, answer_of, bases_of, bit, d_of, g_of, global_at, header_of}
-use Rattle.mk_laws.proofs.Vocabulary.{i_of, image_of, is_same, is_unmapped, is_unmapped_header, number_of, one_if}
-use Rattle.mk_laws.proofs.Vocabulary.{onward, placed_at, progress_read, q_of, refused, register_at, stage_behind}
-use Rattle.mk_laws.proofs.Vocabulary.{steps_of, target_of, with_register, with_word, word_at, words_of}
+use Rattle.mk_laws.proofs.Vocabulary.{AccessIsAdmitted, Bool, CarriesOwn, Done, Flight, ImageScene, IsAdmitted}
+use Rattle.mk_laws.proofs.Vocabulary.{IsNumber, IsPointer, IsSafe, IsSound, Kind, List, Meets, NeverState, Num, Op}
+use Rattle.mk_laws.proofs.Vocabulary.{ProbedOwn, Ptr, Some, Stage, Unmapped, Value, allocation_at, answer_of, ap}
+use Rattle.mk_laws.proofs.Vocabulary.{bases_of, bit, d_of, false, false≢true, flight_among, g_of, global_at, has_p}
+use Rattle.mk_laws.proofs.Vocabulary.{has_r, has_some_p, header_of, i_of, if◌then◌else◌, image_of, is_put, is_same}
+use Rattle.mk_laws.proofs.Vocabulary.{is_unmapped, is_unmapped_header, length, number_of, one_if, onward, placed_at}
+use Rattle.mk_laws.proofs.Vocabulary.{progress_read, q_of, refl, register_at, set-get_or, slice_index, slice_set}
+use Rattle.mk_laws.proofs.Vocabulary.{stage_behind, steps_of, subst, sym, true, true≢false, with_word, word_at}
+use Rattle.mk_laws.proofs.Vocabulary.{words_of, ℕ, ◌*◌, ◌++◌, ◌+◌, ◌-◌, ◌/◌, ◌<◌, ◌==◌, ◌∙◌, ◌≡◌}
+use Rattle.mk_laws.proofs.Basics.{Move, PagesShow, Ready, Writes, either_leads, flight, goes_bare, is_astray}
+use Rattle.mk_laws.proofs.Basics.{standing_at}
 use Rattle.mk_never.specs.declared.operations.Op.TheVariants as op
 use Rattle.mk_never.specs.declared.operations.Reply.TheVariants.{Num as Number, Val}
-use Rattle.mk_never.specs.NeverHeap.{reply_at, left_at}
+use Rattle.mk_never.specs.NeverHeap.{reply_at}
 use Rattle.mk_core.specs.declared.events.Answer.TheVariants as answer
 use Rattle.mk_core.specs.declared.seats.Stage.TheVariants as stage
 use Rattle.mk_core.specs.Calls.{progress_cas, progress_getg, value_written}
 use Rattle.mk_core.specs.Effects.{progress_probe}
-use Rattle.mk_laws.proofs.Standings.{standing_at, is_astray}
-use Rattle.mk_laws.specs.Images.{has_p, has_some_p, has_r, ImageScene, flight_among, is_put, CarriesOwn, ProbedOwn}
-use Rattle.mk_laws.specs.SafeSets.{IsSafe}
-use Rattle.mk_laws.proofs.ImagesMoves.{Move, Decides, Owes, Shares, Writes}
-use Rattle.mk_laws.proofs.Ready.{Ready, image_test, bit_is, LeadsBy, either_leads, one_right}
-use Rattle.mk_laws.proofs.Refusals.{accesses, refuses, goes_bare, decides_nothing}
+use Rattle.mk_laws.proofs.ImagesMoves.{Decides, Owes, Shares}
+use Rattle.mk_laws.proofs.Ready.{image_test, bit_is, LeadsBy, one_right}
+use Rattle.mk_laws.proofs.Refusals.{accesses, refuses, decides_nothing}
 use Rattle.mk_never.proofs.Soundness.{suited_is_sound}
-use Rattle.mk_laws.proofs.Reached.{PagesShow, Reaches, reaches, unmapped_target, mapped_met, suits, sound_more}
-use Rattle.mk_laws.proofs.Reached.{of_number}
-use Rattle.mk_laws.proofs.RegMoves.{flight, flies_on}
+use Rattle.mk_laws.proofs.Reached.{Reaches, reaches, unmapped_target, mapped_met, suits, sound_more, of_number}
+use Rattle.mk_laws.proofs.RegMoves.{flies_on}
 
 -- the access of an operation, at whatever kind of word
 meets_some : (n : NeverState) (v : Value) (i : ℕ) (P : Kind → Type 0) → Meets n v i P → Meets n v i (λ kind. Unit {0})

@@ -1,23 +1,22 @@
 -- The images are kept by each move.
-use Rattle.std.proofs.Common.{◌≡◌, ◌≢◌, ℕ, zero, suc, ◌+◌, ◌*◌, ◌/◌, ◌%◌, ◌<◌, Bool, true, false, List, [], ◌∷◌, ◌++◌}
-use Rattle.std.proofs.Common.{length, map, get_or, refl, sym, ap, subst, ◌∙◌, inl, inr, arith, length-set}
 use Rattle.std.proofs.Common.{length-append}
-use Rattle.std.specs.Prelude.{slice_index, slice_index_or, slice_set, ◌&&◌, nat_lt}
-use Rattle.std.proofs.lemmas.Bool.{cases_eq, cases_lt, cases_Bool, and_right}
-use Rattle.std.proofs.lemmas.List.{get_or-set_same, get_or-set_other, get_or_append_left, get_or_at, get_or_past}
-use Rattle.std.proofs.lemmas.List.{map-append, length-map}
+use Rattle.std.proofs.lemmas.List.{get_or_at}
 use Rattle.std.proofs.Math.ListN.{get_or-map as get_or-map-default}
-use Rattle.mk_laws.proofs.Vocabulary.{Flight, IsSound, IsTyped, IsTypedAllocation, Kind, NeverAllocation}
-use Rattle.mk_laws.proofs.Vocabulary.{NeverState, Null, Num, Number, PlacedAllocation, Ptr, Stage, Suits, To, Value}
-use Rattle.mk_laws.proofs.Vocabulary.{address_of, allocation_at, at_rest, bases_of, d_of, global_at, i_of, image_of}
-use Rattle.mk_laws.proofs.Vocabulary.{is_large, is_unmapped, kind_in, kinds_of, never_granted, no_allocation, p_of}
-use Rattle.mk_laws.proofs.Vocabulary.{placed_at, q_of, r_of, register_at, with_freed, with_global, with_new}
-use Rattle.mk_laws.proofs.Vocabulary.{with_register, with_word, word_at, words_of}
+use Rattle.mk_laws.proofs.Vocabulary.{Bool, Carries, CarriesOwn, Flight, ImageScene, IsMet, IsSound, IsTyped}
+use Rattle.mk_laws.proofs.Vocabulary.{IsTypedAllocation, Kind, List, NeverAllocation, NeverState, Null, Num, Number}
+use Rattle.mk_laws.proofs.Vocabulary.{PlacedAllocation, ProbedOwn, Ptr, Stage, Suits, To, Value, [], address_of}
+use Rattle.mk_laws.proofs.Vocabulary.{allocation_at, and_right, ap, arith, at_rest, bases_of, cases_Bool, cases_eq}
+use Rattle.mk_laws.proofs.Vocabulary.{cases_lt, d_of, false, flight_among, get_or, get_or-set_other, get_or-set_same}
+use Rattle.mk_laws.proofs.Vocabulary.{get_or_append_left, get_or_past, image_of, inl, inr, is_large, is_past_probe}
+use Rattle.mk_laws.proofs.Vocabulary.{is_put, is_unmapped, kind_in, kinds_of, length, length-map, length-set, map}
+use Rattle.mk_laws.proofs.Vocabulary.{map-append, never_granted, no_allocation, p_of, placed_at, q_of, r_of, refl}
+use Rattle.mk_laws.proofs.Vocabulary.{register_at, set_by, shown, slice_index, slice_index_or, slice_set, subst, suc}
+use Rattle.mk_laws.proofs.Vocabulary.{sym, true, with_freed, with_global, with_new, with_register, with_word, word_at}
+use Rattle.mk_laws.proofs.Vocabulary.{words_of, zero, ℕ, ◌%◌, ◌*◌, ◌++◌, ◌+◌, ◌/◌, ◌<◌, ◌∙◌, ◌∷◌, ◌≡◌, ◌≢◌}
 use Rattle.mk_never.specs.Types.{zero_of, zero_words}
-use Rattle.mk_never.proofs.Edits.{set_by, exists}
+use Rattle.mk_never.proofs.Edits.{exists}
 use Rattle.mk_core.specs.declared.seats.Stage.TheVariants as stage
-use Rattle.mk_laws.specs.Images.{ImageScene, flight_among, is_put, shown, is_past_probe, Carries, CarriesOwn, IsMet}
-use Rattle.mk_laws.specs.Images.{ProbedOwn, AreImages}
+use Rattle.mk_laws.specs.Images.{AreImages}
 use Rattle.mk_laws.proofs.ImagesMoves.{is_bare, Decides, Move, Rests, Flies, Owes, Pays, Stores, Shares, Writes, Wipes}
 use Rattle.mk_laws.proofs.ImagesMoves.{Grants, Frees, Renews, Releases}
 use Rattle.mk_laws.proofs.Pairs.{set_both, bare_carries, put_carries, bare_unprobed, shows_plain, shows_owed}

@@ -1,19 +1,17 @@
 -- Which steps bring a call to where it owes a dirty mark: a store and an exchange.
-use Rattle.std.proofs.Common.{◌≡◌, ◌⊎◌, ℕ, Bool, true, false, refl, sym, ◌∙◌, ap, inl, inr}
-use Rattle.std.specs.Prelude.{Option, Some, None, ◌==◌, if◌then◌else◌}
-use Rattle.std.proofs.lemmas.Bool.{true≢false}
-use Rattle.mk_laws.proofs.Vocabulary.{Answer, Cell, Config, Flight, Moment, Op, Stage, Step, begun, cell_freed}
-use Rattle.mk_laws.proofs.Vocabulary.{comes_next, decided, header_of, is_unmapped_header, onward, page_met}
-use Rattle.mk_laws.proofs.Vocabulary.{progress, progress_freed, progress_p, progress_q, progress_read, progress_reg}
-use Rattle.mk_laws.proofs.Vocabulary.{refused, sees_double, stage_behind, stage_refused, steps_of, still, target}
+use Rattle.mk_laws.proofs.Vocabulary.{Answer, Bool, Cell, Config, Flight, Moment, None, Op, Option, Some, Stage, Step}
+use Rattle.mk_laws.proofs.Vocabulary.{ap, begun, cell_freed, comes_next, decided, false, header_of, if◌then◌else◌, inl}
+use Rattle.mk_laws.proofs.Vocabulary.{inr, is_heap_store, is_unmapped_header, onward, page_met, progress}
+use Rattle.mk_laws.proofs.Vocabulary.{progress_freed, progress_p, progress_q, progress_read, progress_reg, refl}
+use Rattle.mk_laws.proofs.Vocabulary.{refused, sees_double, stage_behind, stage_refused, steps_of, still, sym, target}
+use Rattle.mk_laws.proofs.Vocabulary.{true, true≢false, ℕ, ◌==◌, ◌∙◌, ◌≡◌, ◌⊎◌}
+use Rattle.mk_laws.proofs.Basics.{at_its_stage, at_reg}
 use Rattle.mk_never.specs.declared.operations.Op.TheVariants as op
 use Rattle.mk_core.specs.declared.events.Answer.TheVariants as answer
 use Rattle.mk_core.specs.declared.events.Step.TheVariants as step
 use Rattle.mk_core.specs.declared.seats.Stage.TheVariants as stage
 use Rattle.mk_core.specs.Calls.{first_of}
-use Rattle.mk_laws.proofs.NextSteps.{at_its_stage, at_reg}
 use Rattle.mk_laws.proofs.Stages.{is_reg_stage}
-use Rattle.mk_laws.specs.ZeroLaws.{is_heap_store}
 
 -- the call has its store, or its exchange, next
 abbrev is_storing : Stage → Bool

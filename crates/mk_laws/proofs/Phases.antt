@@ -1,8 +1,7 @@
 -- The phase that a condition names, and the phase after a step.
-use Rattle.std.proofs.Common.{◌≡◌, ◌⊎◌, ℕ, ◌%◌, Bool, true, false, refl, ap, inl, inr, arith}
-use Rattle.std.specs.Prelude.{◌||◌, ◌==◌}
-use Rattle.std.proofs.lemmas.Bool.{eqb-true, and_parts, or_cases}
-use Rattle.mk_laws.proofs.Vocabulary.{Config, Moment, Seat, Step, host_has_turn, is_phase, phase_of}
+use Rattle.mk_laws.proofs.Vocabulary.{Bool, Config, Moment, Seat, Step, and_parts, ap, arith, eqb-true, false}
+use Rattle.mk_laws.proofs.Vocabulary.{host_has_turn, inl, inr, is_phase, or_cases, phase_of, refl, true, ℕ, ◌%◌, ◌==◌}
+use Rattle.mk_laws.proofs.Vocabulary.{◌||◌, ◌≡◌, ◌⊎◌}
 use Rattle.mk_core.specs.declared.events.Step.TheVariants as step
 use Rattle.mk_laws.proofs.Actors.{Meets}
 use Rattle.mk_laws.proofs.SameWords.{Behind}

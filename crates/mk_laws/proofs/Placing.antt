@@ -1,16 +1,13 @@
 -- The steps of a New: its place is chosen, its pages get their headers one by one, and its cell is taken.
-use Rattle.std.proofs.Common.{Bool, List, ap, arith, false, inl, inr, length, length-set, refl, subst, sym, true, ℕ, []}
-use Rattle.std.proofs.Common.{◌++◌, ◌+◌, ◌-◌, ◌<◌, ◌^◌, ◌∙◌, ◌∷◌, ◌≡◌, ◌≢◌, ◌≤◌, ◌⊎◌}
-use Rattle.std.specs.Prelude.{Some}
-use Rattle.std.proofs.lemmas.Bool.{cases_eq, true≢false}
-use Rattle.mk_laws.proofs.Vocabulary.{IsSized, Later, Object, ShowsPart, cells_made, cells_under, has_bit}
-use Rattle.mk_laws.proofs.Vocabulary.{header_made, header_of, pages_made, stands}
-use Rattle.mk_core.proofs.ObjectHeaders.{made_shows, part_cells, shown_later}
-use Rattle.mk_core.proofs.Sizes.{pages_some}
+use Rattle.mk_laws.proofs.Vocabulary.{Among, AreApart, Bool, Claim, HasItsHead, InPlot, IsClaimed, IsLaidOn}
+use Rattle.mk_laws.proofs.Vocabulary.{IsOfOneCell, IsPlotShown, IsShown, IsSized, Later, LayoutScene, List, Mapped}
+use Rattle.mk_laws.proofs.Vocabulary.{NoPlot, Object, Plotted, ShowsPart, Some, [], ap, arith, cases_eq, cells_made}
+use Rattle.mk_laws.proofs.Vocabulary.{cells_under, false, has_bit, head_on, header_made, header_of, header_on, inl, inr}
+use Rattle.mk_laws.proofs.Vocabulary.{is_released_on, length, length-set, made_shows, pages_made, pages_some}
+use Rattle.mk_laws.proofs.Vocabulary.{part_cells, refl, run_count, shown_later, shows_on, stands, subst, sym, true}
+use Rattle.mk_laws.proofs.Vocabulary.{true≢false, used_on, ℕ, ◌++◌, ◌+◌, ◌-◌, ◌<◌, ◌^◌, ◌∙◌, ◌∷◌, ◌≡◌, ◌≢◌, ◌≤◌, ◌⊎◌}
 use Rattle.mk_core.proofs.WordBits.{added_here, added_other}
-use Rattle.mk_laws.specs.LayoutScene.{Among, AreApart, Claim, HasItsHead, InPlot, IsClaimed, IsLaidOn, IsOfOneCell}
-use Rattle.mk_laws.specs.LayoutScene.{IsPlotShown, IsShown, IsTakenCell, Mapped, NoPlot, Plotted, LayoutScene}
-use Rattle.mk_laws.specs.LayoutScene.{head_on, header_on, is_released_on, run_count, shows_on, used_on}
+use Rattle.mk_laws.specs.LayoutScene.{IsTakenCell}
 use Rattle.mk_laws.proofs.PageSets.{headed_here, headed_other, headed_used, used_header, used_here, used_other}
 use Rattle.mk_laws.proofs.PageSets.{with_header_on, with_used_on}
 use Rattle.mk_laws.proofs.LayoutReadings.{claimed_head, claimed_some, free_unused, none_set, zero_where_none}

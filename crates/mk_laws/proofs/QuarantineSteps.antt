@@ -1,21 +1,17 @@
 -- The quarantine after each kind of step.
-use Rattle.std.proofs.Common.{Bool, List, ap, arith, bit_and, false, inl, inr, length, min, refl, sym, true, ℕ, ◌-◌}
-use Rattle.std.proofs.Common.{◌<◌, ◌^◌, ◌∙◌, ◌≡◌, ◌≢◌, ◌≤◌, ◌⊎◌}
-use Rattle.std.specs.Prelude.{Option, not, slice_index, slice_set, ◌&&◌}
-use Rattle.std.proofs.lemmas.Bool.{and_parts, cases_Bool, cases_eq, false_from_ne_true, not-true, true≢false, and_right}
-use Rattle.std.proofs.lemmas.List.{get_or-set_other, get_or-set_same}
+use Rattle.std.proofs.Common.{bit_and, min}
 use Rattle.std.proofs.lemmas.Nat.{and_le_r}
 use Rattle.std.proofs.lemmas.Nat.Bits.{bit_at_and, same_from_bits}
-use Rattle.std.specs.Int.{bit_at}
-use Rattle.mk_laws.proofs.Vocabulary.{Cell, Chosen, Config, Granted, Object, Page, Place, Placing, RunPages}
-use Rattle.mk_laws.proofs.Vocabulary.{Unplaced, Used, World, cell_of_allocation, has_bit, placed_at, without}
-use Rattle.mk_core.proofs.BitsWithout.{has_bit_without}
-use Rattle.mk_core.proofs.PageSteps.{Drops, left_bits}
-use Rattle.mk_core.proofs.WordBits.{fewer_bits, rest_bits}
-use Rattle.mk_laws.specs.Quarantine.{HasQuarantine, IsFreedCell}
-use Rattle.mk_laws.specs.LayoutScene.{Among, Claim, is_released_in, used_on}
-use Rattle.mk_laws.specs.Ground.{Ground, ground_of}
-use Rattle.mk_laws.specs.Terrain.{claims_of, claims_on, claims_placed}
+use Rattle.mk_laws.proofs.Vocabulary.{Among, Bool, Cell, Chosen, Claim, Config, Drops, Granted, Ground, HasQuarantine}
+use Rattle.mk_laws.proofs.Vocabulary.{IsFreedCell, List, Object, Option, Page, Place, Placing, RunPages, Unplaced, Used}
+use Rattle.mk_laws.proofs.Vocabulary.{World, and_parts, and_right, ap, arith, bit_at, cases_Bool, cases_eq}
+use Rattle.mk_laws.proofs.Vocabulary.{cell_of_allocation, claims_of, claims_on, claims_placed, false}
+use Rattle.mk_laws.proofs.Vocabulary.{false_from_ne_true, fewer_bits, get_or-set_other, get_or-set_same, ground_of}
+use Rattle.mk_laws.proofs.Vocabulary.{has_bit, has_bit_without, inl, inr, is_released_in, length, not, not-true}
+use Rattle.mk_laws.proofs.Vocabulary.{placed_at, refl, slice_index, slice_set, sym, true, true≢false, used_on, without}
+use Rattle.mk_laws.proofs.Vocabulary.{ℕ, ◌&&◌, ◌-◌, ◌<◌, ◌^◌, ◌∙◌, ◌≡◌, ◌≢◌, ◌≤◌, ◌⊎◌}
+use Rattle.mk_core.proofs.PageSteps.{left_bits}
+use Rattle.mk_core.proofs.WordBits.{rest_bits}
 use Rattle.mk_laws.proofs.Claims.{claim_is}
 use Rattle.mk_laws.proofs.LayoutJoined.{among_parts}
 

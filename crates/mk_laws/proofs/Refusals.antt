@@ -1,10 +1,9 @@
 -- A call that is decided and changes nothing, or is refused.
-use Rattle.std.proofs.Common.{◌≡◌, ℕ, ◌+◌, ◌*◌, ◌<◌, Bool, true, false, List, ◌++◌, length, refl, sym, ap, subst, ◌∙◌}
-use Rattle.std.proofs.Common.{arith}
-use Rattle.std.specs.Prelude.{slice_set, Some, if◌then◌else◌}
-use Rattle.mk_laws.proofs.Vocabulary.{Answer, Done, Flight, NeverState, Null, Num, Op, Stage, Unmapped, WordOf}
-use Rattle.mk_laws.proofs.Vocabulary.{answer_of, bases_of, bit, d_of, flagged, i_of, is_same, number_of, q_of}
-use Rattle.mk_laws.proofs.Vocabulary.{register_at, stage_refused, target_of, with_register, with_word, word_at}
+use Rattle.mk_laws.proofs.Vocabulary.{Answer, Bool, Done, Flight, ImageScene, List, NeverState, Null, Num, Op, Some}
+use Rattle.mk_laws.proofs.Vocabulary.{Stage, Unmapped, WordOf, answer_of, ap, arith, bases_of, bit, d_of, false}
+use Rattle.mk_laws.proofs.Vocabulary.{flagged, flight_among, i_of, if◌then◌else◌, is_put, is_same, length, number_of}
+use Rattle.mk_laws.proofs.Vocabulary.{q_of, refl, register_at, slice_set, stage_refused, subst, sym, target_of, true}
+use Rattle.mk_laws.proofs.Vocabulary.{with_register, with_word, word_at, ℕ, ◌*◌, ◌++◌, ◌+◌, ◌<◌, ◌∙◌, ◌≡◌}
 use Rattle.mk_never.specs.declared.operations.Op.TheVariants as op
 use Rattle.mk_never.specs.declared.operations.Reply.{Reply}
 use Rattle.mk_never.specs.declared.operations.Reply.TheVariants.{Num as Number, Val}
@@ -12,7 +11,6 @@ use Rattle.mk_never.specs.declared.values.Target.{Target}
 use Rattle.mk_never.specs.declared.values.Target.TheVariants.{Nothing}
 use Rattle.mk_never.specs.NeverHeap.{reply_at, left_at, reply_of, after_op}
 use Rattle.mk_core.specs.declared.seats.Stage.TheVariants as stage
-use Rattle.mk_laws.specs.Images.{ImageScene, flight_among, is_put}
 use Rattle.mk_laws.proofs.ImagesMoves.{is_bare, Move, Flies, Owes}
 use Rattle.mk_laws.proofs.Pairs.{bare_carries, bare_unprobed, shows_plain, bare_owes_nothing}
 use Rattle.mk_laws.proofs.Ready.{Leads, one_right}

@@ -1,13 +1,12 @@
 -- `reg` leads to what the images allow, at each stage.
-use Rattle.std.proofs.Common.{◌≡◌, ◌≢◌, ℕ, ◌+◌, ◌*◌, ◌%◌, ◌^◌, ◌<◌, Bool, true, false, List, ◌++◌, length, refl, sym}
-use Rattle.std.proofs.Common.{ap, subst, ◌∙◌, arith}
-use Rattle.std.specs.Prelude.{if◌then◌else◌, slice_set, ◌==◌, Some, None}
-use Rattle.std.proofs.lemmas.Bool.{false≢true, eqb-true, eqb-false}
-use Rattle.mk_laws.proofs.Vocabulary.{AreAdmitted, Done, Flight, IsAdmitted, IsSound, Meets, NeverState, Null, Num}
-use Rattle.mk_laws.proofs.Vocabulary.{Op, Ptr, Stage, Value, after_free, answer_of, asked, bases_of, d_of, entry_of}
-use Rattle.mk_laws.proofs.Vocabulary.{i_of, image_of, is_same, one_if, onward, p_of, progress_p, progress_q}
-use Rattle.mk_laws.proofs.Vocabulary.{progress_reg, q_of, r_of, refused, register_at, register_met, stage_behind}
-use Rattle.mk_laws.proofs.Vocabulary.{steps_of, target_of, with_register}
+use Rattle.mk_laws.proofs.Vocabulary.{AreAdmitted, Bool, Carries, CarriesOwn, Done, Flight, ImageScene, IsAdmitted}
+use Rattle.mk_laws.proofs.Vocabulary.{IsSafe, IsSound, List, Meets, NeverState, None, Null, Num, Op, ProbedOwn, Ptr}
+use Rattle.mk_laws.proofs.Vocabulary.{Some, Stage, Value, answer_of, ap, arith, asked, bases_of, d_of, entry_of}
+use Rattle.mk_laws.proofs.Vocabulary.{eqb-false, eqb-true, false, false≢true, flight_among, has_p, has_r, has_some_p}
+use Rattle.mk_laws.proofs.Vocabulary.{if◌then◌else◌, image_of, is_past_probe, is_put, is_same, length, one_if, onward}
+use Rattle.mk_laws.proofs.Vocabulary.{p_of, progress_p, progress_q, progress_reg, q_of, r_of, refl, refused}
+use Rattle.mk_laws.proofs.Vocabulary.{register_at, register_met, slice_set, stage_behind, steps_of, subst, sym, true, ℕ}
+use Rattle.mk_laws.proofs.Vocabulary.{◌%◌, ◌*◌, ◌++◌, ◌+◌, ◌<◌, ◌==◌, ◌^◌, ◌∙◌, ◌≡◌, ◌≢◌}
 use Rattle.mk_never.specs.declared.operations.Op.TheVariants as op
 use Rattle.mk_never.specs.declared.values.Target.TheVariants.{Nothing}
 use Rattle.mk_never.specs.NeverHeap.{free_reply, lea_reply, moved_on}
@@ -16,9 +15,6 @@ use Rattle.mk_core.specs.declared.seats.Stage.TheVariants as stage
 use Rattle.mk_core.specs.Calls.{value_for}
 use Rattle.mk_laws.proofs.Standings.{standing_at, is_astray}
 use Rattle.mk_laws.proofs.Stages.{is_reg_stage}
-use Rattle.mk_laws.specs.Images.{is_past_probe, ImageScene, flight_among, is_put, has_p, has_some_p, has_r, Carries}
-use Rattle.mk_laws.specs.Images.{CarriesOwn, ProbedOwn}
-use Rattle.mk_laws.specs.SafeSets.{IsSafe}
 use Rattle.mk_laws.proofs.ImagesMoves.{Move, Flies, Pays, Stores}
 use Rattle.mk_laws.proofs.Pairs.{shows_plain}
 use Rattle.mk_laws.proofs.ImagesKept.{base_at}

@@ -1,31 +1,21 @@
 -- A release cuts the safe set to the marked allocations.
-use Rattle.std.proofs.Common.{◌≡◌, ℕ, ◌+◌, ◌/◌, ◌%◌, ◌<◌, Bool, true, false, List, length, map, refl, sym, ap, subst}
-use Rattle.std.proofs.Common.{◌∙◌, inl, inr, arith}
-use Rattle.std.specs.Prelude.{slice_index, slice_index_or, ◌&&◌, ◌||◌, not, Option, Some}
-use Rattle.std.proofs.lemmas.Bool.{cases_Bool, cases_lt, and_parts, and_from, and_right, or_parts}
-use Rattle.std.proofs.lemmas.List.{get_or_past}
-use Rattle.mk_laws.proofs.Vocabulary.{Cell, Config, IsSound, IsTypedAllocation, Kind, MarksAreClosed, NeverState}
-use Rattle.mk_laws.proofs.Vocabulary.{Null, Num, Number, PlacedAllocation, Ptr, Suits, To, Value, World, address_of}
-use Rattle.mk_laws.proofs.Vocabulary.{allocation_at, bases_of, cell_of_allocation, global_at, has_bit, image_of}
-use Rattle.mk_laws.proofs.Vocabulary.{is_left_unmarked, is_marked, is_none_or, is_some_and, is_unmapped, kind_in}
-use Rattle.mk_laws.proofs.Vocabulary.{kinds_of, placed_at, pointed_cell, points_well, storage_words, with_released}
-use Rattle.mk_laws.proofs.Vocabulary.{word_at, words_of}
+use Rattle.mk_laws.proofs.Vocabulary.{Bool, Cell, Config, IsSafe, IsSafeSet, IsSound, IsTypedAllocation, Kind, List}
+use Rattle.mk_laws.proofs.Vocabulary.{MarksAreClosed, Mirrors, NeverState, Null, Num, Number, Option, PlacedAllocation}
+use Rattle.mk_laws.proofs.Vocabulary.{Ptr, Some, Suits, To, Value, World, address_of, allocation_at, and_from}
+use Rattle.mk_laws.proofs.Vocabulary.{and_parts, and_right, ap, arith, bases_of, cases_Bool, cases_lt}
+use Rattle.mk_laws.proofs.Vocabulary.{cell_of_allocation, changed_at, false, flight_among, get_or_past, global_at}
+use Rattle.mk_laws.proofs.Vocabulary.{has_bit, has_bit_without, image_of, image_scene_of, inl, inr, is_left_unmarked}
+use Rattle.mk_laws.proofs.Vocabulary.{is_marked, is_none_or, is_put, is_some_and, is_unmapped, kinds_of, length, map}
+use Rattle.mk_laws.proofs.Vocabulary.{not, or_parts, placed_at, pointed_cell, points_well, refl, released_leaves}
+use Rattle.mk_laws.proofs.Vocabulary.{slice_index, slice_index_or, storage_holds, storage_words, sym, true}
+use Rattle.mk_laws.proofs.Vocabulary.{with_released, word_at, words_of, ℕ, ◌%◌, ◌&&◌, ◌+◌, ◌/◌, ◌<◌, ◌||◌, ◌∙◌, ◌≡◌}
+use Rattle.mk_laws.proofs.Basics.{KnownWorld, Move, Ready, Releases, Stands, base_at, exists_placed, pointed_word}
+use Rattle.mk_laws.proofs.Basics.{unmapped_is, words_fit}
 use Rattle.mk_never.specs.Types.{is_number, is_leaf}
-use Rattle.mk_core.proofs.BitsWithout.{has_bit_without}
 use Rattle.mk_core.proofs.ListTests.{list_all-at}
-use Rattle.mk_core.proofs.StandingAllocations.{storage_holds}
-use Rattle.mk_laws.specs.Images.{image_scene_of, flight_among, is_put}
-use Rattle.mk_laws.specs.SafeSets.{IsSafe, IsSafeSet}
-use Rattle.mk_laws.proofs.ImagesStands.{Stands, is_gone}
-use Rattle.mk_laws.proofs.KnownWorlds.{KnownWorld}
-use Rattle.mk_laws.specs.Mirrors.{Mirrors}
 use Rattle.mk_core.specs.ClosedMarks.{is_marked_allocation, is_scanned_allocation}
-use Rattle.mk_laws.proofs.ImagesMoves.{Move, Releases}
 use Rattle.mk_laws.proofs.Pairs.{shows_plain}
-use Rattle.mk_laws.proofs.ImagesKept.{base_at, exists_placed}
-use Rattle.mk_laws.proofs.Ready.{Ready, pointed_word}
-use Rattle.mk_laws.proofs.ImagesBefore.{type_is, words_fit, unmapped_is}
-use Rattle.mk_core.proofs.ChangedAllocations.{changed_at, released_leaves}
+use Rattle.mk_laws.proofs.ImagesBefore.{type_is}
 use Rattle.mk_laws.proofs.ImagesKeptPlaces.{same_places}
 
 is_number_kind : (kind : Kind) → is_number kind ≡ true → kind ≡ Number

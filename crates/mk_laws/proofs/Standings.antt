@@ -1,7 +1,6 @@
 -- Where a caller stands, and what the turn word and its gate show of it.
-use Rattle.std.proofs.Common.{◌≡◌, ◌≢◌, ◌↔◌, ℕ, ◌+◌, ◌≤◌, Bool, true, false, refl, arith}
-use Rattle.std.specs.Prelude.{◌&&◌, not}
-use Rattle.mk_laws.proofs.Vocabulary.{Flight, Op, Stage, is_under_turn}
+use Rattle.mk_laws.proofs.Vocabulary.{Bool, Flight, Op, Stage, arith, false, is_under_turn, not, refl, true, ℕ, ◌&&◌}
+use Rattle.mk_laws.proofs.Vocabulary.{◌+◌, ◌↔◌, ◌≡◌, ◌≢◌, ◌≤◌}
 use Rattle.mk_core.specs.declared.seats.Stage.TheVariants as stage
 use Rattle.mk_core.specs.Readings.{is_idle}
 use Rattle.mk_laws.specs.Protocol.{has_stage}

@@ -1,20 +1,13 @@
 -- What events leave to the tallies, and to the allocations that they count.
-use Rattle.std.proofs.Common.{◌≡◌, ◌≢◌, ℕ, ◌+◌, Bool, true, false, refl, ◌∙◌, ap, arith}
-use Rattle.std.specs.Prelude.{◌==◌, if◌then◌else◌}
-use Rattle.mk_laws.proofs.Vocabulary.{Caller, Config, Event, Flight, Host, Marker, Moment, Seat, Step, World}
-use Rattle.mk_laws.proofs.Vocabulary.{answer_decided, caller_number, flight_of, group_of, holder_number, is_end}
-use Rattle.mk_laws.proofs.Vocabulary.{is_of_turn, reg_access, register_met, world_behind}
+use Rattle.mk_laws.proofs.Vocabulary.{Bool, Caller, Config, Event, Flight, Host, Marker, Moment, Seat, Step, World}
+use Rattle.mk_laws.proofs.Vocabulary.{answer_decided, ap, arith, caller_number, false, flight_of, group_of}
+use Rattle.mk_laws.proofs.Vocabulary.{holder_number, if◌then◌else◌, is_end, is_of_turn, refl, reg_access, register_met}
+use Rattle.mk_laws.proofs.Vocabulary.{true, world_behind, ℕ, ◌+◌, ◌==◌, ◌∙◌, ◌≡◌, ◌≢◌}
+use Rattle.mk_laws.proofs.Basics.{Actor, AsHolder, AsMarker, HoldsTurn, InCallOf, Known, Meets, WorldBehind, actor_of}
+use Rattle.mk_laws.proofs.Basics.{reg_leaves, tally_keeps, turn_of, view_of}
 use Rattle.mk_core.specs.declared.events.Step.TheVariants as step
 use Rattle.mk_core.proofs.RegisterAccesses.{LeavesTallies, register_leaves_tallies}
-use Rattle.mk_laws.proofs.Actors.{Actor, AsHolder, AsMarker, InCallOf, Meets}
-use Rattle.mk_laws.proofs.Known.{Known}
-use Rattle.mk_laws.proofs.Orderly.{turn_of}
-use Rattle.mk_laws.proofs.OrderlyLists.{actor_of}
 use Rattle.mk_laws.proofs.OthersCounts.{answers_full, counts_nothing}
-use Rattle.mk_laws.proofs.OthersMoves.{WorldBehind}
-use Rattle.mk_laws.proofs.SameWords.{tally_keeps}
-use Rattle.mk_laws.proofs.Views.{HoldsTurn, view_of}
-use Rattle.mk_laws.proofs.LayoutBefore.{reg_leaves}
 
 -- The step changes no tally, and no allocation.
 abbrev pub counts_alike : Step → Bool

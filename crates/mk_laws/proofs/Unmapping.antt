@@ -1,16 +1,12 @@
 -- The steps that unmap a run: it is freed, its pages get their headers, and the call that freed it ends.
-use Rattle.std.proofs.Common.{Bool, List, ap, arith, false, inl, inr, length, length-set, sym, true, ℕ, ◌+◌, ◌-◌, ◌<◌}
-use Rattle.std.proofs.Common.{◌∙◌, ◌≡◌, ◌≢◌, ◌⊎◌}
-use Rattle.std.specs.Prelude.{Some}
-use Rattle.std.proofs.lemmas.Bool.{cases_eq}
-use Rattle.mk_laws.proofs.Vocabulary.{Later, Object, ShowsPart, cells_made, cells_under, header_made, header_of}
-use Rattle.mk_laws.proofs.Vocabulary.{is_small_object, pages_made, stands, unmapped_header}
-use Rattle.mk_core.proofs.ObjectHeaders.{later_part, made_shows, part_cells, part_head, same_cells, shown_later}
-use Rattle.mk_core.proofs.ObjectHeaders.{unmapped_shows}
-use Rattle.mk_core.proofs.Sizes.{large_cells, pages_some}
-use Rattle.mk_laws.specs.LayoutScene.{Among, AreApart, Claim, HasHeader, HasItsHead, IsClaimed, IsLaidOn, IsOfOneCell}
-use Rattle.mk_laws.specs.LayoutScene.{IsPlotShown, IsShown, Mode, NoPlot, Plot, PlotStands, Plotted, LayoutScene}
-use Rattle.mk_laws.specs.LayoutScene.{Unmapping, head_on, header_on, is_released_on, run_count, shows_on, used_on}
+use Rattle.mk_laws.proofs.Vocabulary.{Among, AreApart, Bool, Claim, HasHeader, HasItsHead, IsClaimed, IsLaidOn}
+use Rattle.mk_laws.proofs.Vocabulary.{IsOfOneCell, IsPlotShown, IsShown, Later, LayoutScene, List, Mode, NoPlot, Object}
+use Rattle.mk_laws.proofs.Vocabulary.{Plot, PlotStands, Plotted, ShowsPart, Some, Unmapping, ap, arith, cases_eq}
+use Rattle.mk_laws.proofs.Vocabulary.{cells_made, cells_under, false, head_on, header_made, header_of, header_on, inl}
+use Rattle.mk_laws.proofs.Vocabulary.{inr, is_released_on, is_small_object, large_cells, length, length-set, made_shows}
+use Rattle.mk_laws.proofs.Vocabulary.{pages_made, pages_some, part_cells, part_head, run_count, shown_later, shows_on}
+use Rattle.mk_laws.proofs.Vocabulary.{stands, sym, true, unmapped_header, used_on, ℕ, ◌+◌, ◌-◌, ◌<◌, ◌∙◌, ◌≡◌, ◌≢◌, ◌⊎◌}
+use Rattle.mk_core.proofs.ObjectHeaders.{later_part, same_cells, unmapped_shows}
 use Rattle.mk_laws.proofs.PageSets.{headed_here, headed_other, headed_used, with_header_on}
 use Rattle.mk_laws.proofs.LayoutReadings.{claimed, claimed_head, claimed_some, none_set, one_claim}
 use Rattle.mk_laws.proofs.Releasing.{head_of_other, shown_beside}

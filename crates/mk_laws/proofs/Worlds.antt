@@ -1,40 +1,23 @@
 -- What is known of a world of a history, and what values and words in it point into.
-use Rattle.std.proofs.Common.{ap, arith, false, inl, inr, subst, sym, true, ℕ, ◌-◌, ◌/◌, ◌<◌, ◌∙◌, ◌≡◌, ◌≢◌, ◌⊎◌, ◌*◌}
-use Rattle.std.specs.Prelude.{Option, Some, nat_le, nat_lt, slice_index}
-use Rattle.std.proofs.lemmas.Bool.{and_parts, eqb-true, leb-true, ltb-true}
-use Rattle.mk_never.specs.NeverHeap.{NeverState}
-use Rattle.mk_geom.specs.Addresses.{head_page_under, page_at_address}
-use Rattle.mk_geom.specs.Storages.{IsStorage, stands_on}
-use Rattle.mk_geom.specs.StorageWords.{IsWordOf, PointsInto}
-use Rattle.mk_geom.specs.declared.headers.Header.{Header}
-use Rattle.mk_geom.specs.declared.headers.Header.TheVariants.{Block, Free, Later, LeafBlock, LeafRun, Run}
+use Rattle.mk_laws.proofs.Vocabulary.{Block, Config, Free, HasItsHeaders, Header, Invariant, IsMarking, IsSized}
+use Rattle.mk_laws.proofs.Vocabulary.{IsStorage, IsWordOf, Later, LeafBlock, LeafRun, MayHoldWords, NeverState, Object}
+use Rattle.mk_laws.proofs.Vocabulary.{OfBlock, OfLater, OfLeafBlock, OfLeafRun, OfRun, Option, PlacedAllocation}
+use Rattle.mk_laws.proofs.Vocabulary.{PointsInto, Run, RunPages, ShowsPart, Some, StandsOnHeap, World, and_parts, ap}
+use Rattle.mk_laws.proofs.Vocabulary.{arith, cell_of_allocation, eqb-true, false, first_page_shows, has_no_pointers}
+use Rattle.mk_laws.proofs.Vocabulary.{head_page_under, header_in, inl, inr, is_left_unmarked, is_phase, is_small_object}
+use Rattle.mk_laws.proofs.Vocabulary.{large_words, leb-true, ltb-true, nat_le, nat_lt, object_placed, or_parts}
+use Rattle.mk_laws.proofs.Vocabulary.{page_at_address, pages_made, part_has_no_pointers, phase_of, placed_at}
+use Rattle.mk_laws.proofs.Vocabulary.{pointed_cell, run_begins, run_count, shown, slice_index, small}
+use Rattle.mk_laws.proofs.Vocabulary.{standing_has_storage, stands_on, storage_of, storage_words, subst, sym, true}
+use Rattle.mk_laws.proofs.Vocabulary.{typed_size, ℕ, ◌*◌, ◌-◌, ◌/◌, ◌<◌, ◌∙◌, ◌≡◌, ◌≢◌, ◌⊎◌}
+use Rattle.mk_laws.proofs.Basics.{KnownWorld, mapped_stays}
 use Rattle.mk_geom.proofs.Standing.{stands_at_first, stands_from}
-use Rattle.mk_core.specs.Allocations.{PlacedAllocation, cell_of_allocation, placed_at, storage_of, storage_words}
-use Rattle.mk_core.specs.Cells.{has_no_pointers, header_in, is_left_unmarked, is_unmapped_header, pointed_cell}
-use Rattle.mk_core.specs.History.{World}
-use Rattle.mk_core.specs.NewPlaces.{is_small_object, pages_made}
-use Rattle.mk_core.specs.Moments.{is_phase}
-use Rattle.mk_core.specs.ObjectHeaders.{IsSized, OfBlock, OfLater, OfLeafBlock, OfLeafRun, OfRun, ShowsPart}
-use Rattle.mk_core.specs.StandingAllocations.{HasItsHeaders, StandsOnHeap, object_placed}
-use Rattle.mk_core.specs.Words.{phase_of}
-use Rattle.mk_core.specs.declared.config.Config.{Config}
-use Rattle.mk_core.specs.declared.seats.Object.{Object}
-use Rattle.mk_core.specs.declared.seats.RunPages.{RunPages}
-use Rattle.mk_core.proofs.ObjectHeaders.{part_has_no_pointers}
 use Rattle.mk_core.proofs.PointedAllocations.{pointers_come_back}
 use Rattle.mk_core.proofs.PointedPages.{PointsTo, points_to}
-use Rattle.mk_core.proofs.Sizes.{large_words}
-use Rattle.mk_core.proofs.StandingAllocations.{first_page_shows, pointers_hit, run_begins, standing_has_storage}
-use Rattle.mk_core.proofs.StandingAllocations.{typed_size}
-use Rattle.mk_laws.specs.LayoutScene.{run_count}
+use Rattle.mk_core.proofs.StandingAllocations.{pointers_hit}
 use Rattle.mk_laws.specs.ImagePremises as images
-use Rattle.mk_laws.specs.ImagePremises.{MayHoldWords, OfFreedRun, OfMapped, OfReleased}
-use Rattle.mk_laws.proofs.KnownWorlds.{KnownWorld}
-use Rattle.mk_laws.specs.Guard.{IsMarking}
-use Rattle.mk_laws.proofs.MappedWords.{mapped_stays}
-use Rattle.mk_laws.specs.Invariant.{Invariant}
+use Rattle.mk_laws.specs.ImagePremises.{OfFreedRun, OfMapped, OfReleased}
 use Rattle.mk_laws.proofs.InvariantJoined.{told_to_images}
-use Rattle.mk_laws.proofs.PrecisionStepKinds.{neither}
 
 -- all that is known of it
 pub record Told (c : Config) (w : World) (n : NeverState) : Type 0 where
@@ -79,8 +62,7 @@ module _ (c : Config) (w : World) (n : NeverState) (t : Told c w n) where
   pub hits : (b v : ℕ) → (placed_at w.allocations b).released ≡ false
       → PointsInto v (storage_of c (placed_at w.allocations b))
       → pointed_cell c.pages w.now.words.pages v ≡ Some (cell_of_allocation c (placed_at w.allocations b))
-  hits b v u into =
-      pointers_hit c w.now.words (placed_at w.allocations b) t.known.limits (stands b u) (headers b u) v into
+  hits b v u into = pointers_hit c w.now.words _ t.known.limits (stands b u) (headers b u) v into
 
   first_part : (b : ℕ) → (placed_at w.allocations b).released ≡ false
       → ShowsPart (object_placed c (placed_at w.allocations b)) 0
@@ -140,7 +122,7 @@ module _ (c : Config) (w : World) (n : NeverState) (t : Told c w n) where
   not_leaf a u scanned =
       let o : Object = object_placed c (placed_at w.allocations a) in
       let x : Option Header = header_in w.now.words ((placed_at w.allocations a).base / 64) in
-      (neither o.leaf (is_unmapped_header x) (sym (part_has_no_pointers o x (first_part a u)) ∙ scanned)).0
+      (or_parts o.leaf _ (sym (part_has_no_pointers o x (first_part a u)) ∙ scanned)).0
 
   -- A word that isn't 0 is held, while a cycle marks.
   pub held : IsMarking w.now.words → (x : ℕ) → slice_index w.now.words.heap x ≢ 0 → IsHeld c w x
