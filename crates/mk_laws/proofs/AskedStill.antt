@@ -37,8 +37,7 @@ worded k _ x y = refl
 read_asked : (k : ℕ) (f : Flight) (o : Op) (x y : ℕ)
     → asked (entry_of k o (progress_read f o x).answer) ≡ asked (entry_of k o (progress_read f o y).answer)
 read_asked k f (op.GetPtr d q i) x y = refl
-read_asked k f (op.New d ty full) x y = refl
-read_asked k f _ x y = refl
+read_asked k f _ x y = cc
 
 pub asked_the_same : (c : Config) (m n : Moment) (k : ℕ) (f : Flight) (found find : ℕ) (x : Step)
     → SeesTheSame c m n f found find x

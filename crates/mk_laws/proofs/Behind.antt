@@ -99,10 +99,9 @@ turn_kind c w seat (step.Take o) h has = by (w.now.words.turn == 0) has
         → (if b then 1 + holder_number c seat else w.now.words.turn) ≡ w.now.words.turn
     by true has = cc
     by false has = refl
-turn_kind c w seat step.Give h has = cc
 turn_kind c w seat step.Reg h has = (reg_leaves c w seat).turn
 turn_kind c w seat (step.Tally n v) h has = (tally_keeps w.now.words n v).turn
-turn_kind c w seat _ h has = refl
+turn_kind c w seat _ h has = cc
 
 -- and so is the object whose place it is.
 held_none : (p : Placing) → has_place p ≡ true → held_place p ≡ None → ⊥

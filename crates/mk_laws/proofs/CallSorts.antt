@@ -80,20 +80,17 @@ reg_registers : (w : Words) (k : ℕ) (f : Flight) (st : Stage)
     → (accessed w (Named (word.Reg k (register_met f st))) (reg_access f st)).registers
     ≡ registers_behind w.registers k f st
 reg_registers w k f stage.Store = refl
-reg_registers w k f stage.Put = refl
-reg_registers w k f _ = refl
+reg_registers w k f _ = cc
 
 reg_globals : (w : Words) (k : ℕ) (f : Flight) (st : Stage)
     → (accessed w (Named (word.Reg k (register_met f st))) (reg_access f st)).globals ≡ w.globals
 reg_globals w k f stage.Store = refl
-reg_globals w k f stage.Put = refl
-reg_globals w k f _ = refl
+reg_globals w k f _ = cc
 
 reg_heap : (w : Words) (k : ℕ) (f : Flight) (st : Stage)
     → (accessed w (Named (word.Reg k (register_met f st))) (reg_access f st)).heap ≡ w.heap
 reg_heap w k f stage.Store = refl
-reg_heap w k f stage.Put = refl
-reg_heap w k f _ = refl
+reg_heap w k f _ = cc
 
 -- a begun call has loaded nothing
 begun_carries : (bs : List ℕ) (o : Op) (n : NeverState) (k : ℕ) → CarriesOwn bs n k (begun o)
@@ -184,7 +181,6 @@ module _ (c : Config) (w : World) (n : NeverState) (known : KnownWorld c w) (mir
       dirty_by (op.SetNum q' i m) q p r l a was = bare_on k (op.SetNum q' i m) _ was refl
       dirty_by (op.SetPtr q' i p') q p r l a was = bare_on k (op.SetPtr q' i p') _ was refl
       dirty_by (op.CasPtr q' i p' r') q p r l a was = bare_on k (op.CasPtr q' i p' r') _ was refl
-      dirty_by (op.New d ty full) q p r l a was = cc
       dirty_by _ q p r l a was = cc
 
   pub reg_leads_at : (k : ℕ) → Meets c w k step.Reg → AdmittedAt c w n k step.Reg → LeadsAt c w n safe k step.Reg

@@ -22,8 +22,7 @@ idle_decides_nothing : (c : Config) (m : Moment) (f : Flight) (s : Stage) (o : O
     → comes_next s o x ≡ true → (progress c m f n x).answer ≡ None
 idle_decides_nothing c m f stage.Idle o n (step.Enter next) is h = begins_nothing f next n
 idle_decides_nothing c m f stage.Idle o n (step.Take (Some next)) is h = begins_nothing f next n
-idle_decides_nothing c m f stage.Idle o n _ is h = cc
-idle_decides_nothing c m f _ o n x is h = cc
+idle_decides_nothing c m f _ o n _ is h = cc
 
 held_decides_nothing : (c : Config) (m : Moment) (k : ℕ) (x : Step) → Known c m → Meets c m (Caller k) x
     → slice_index m.words.gates k ≡ 2 → asked (call_decided c m (record { seat = Caller k; step = x })) ≡ []

@@ -59,7 +59,6 @@ reg_table c m seat =
 
 wrote : (o : Op) → is_astray (standing_at stage.Write o) ≡ false → stage_behind stage.Write (steps_of o) ≡ stage.Dirty
 wrote (op.SetNum q i n) h = refl
-wrote (op.SetPtr q i p) h = refl
 wrote _ h = cc
 
 swapped : (o : Op) → is_astray (standing_at stage.Cas o) ≡ false → stage_behind stage.Cas (steps_of o) ≡ stage.Dirty
@@ -191,7 +190,6 @@ headers_kind c m seat step.Reg u p =
     ap (λ (t : Table). (slice_index_or t.pages p free_page).header) (reg_table c m seat)
 headers_kind c m seat (step.Tally n v) u p =
     ap (λ (t : Table). (slice_index_or t.pages p free_page).header) (tally_table m.words n v)
-headers_kind c m seat (step.Head q n) u p = cc
 headers_kind c m seat (step.Used q n) u p = elim (cases_eq p q) [
   | inl e ↦ elim (cases_lt q (length m.words.pages)) [
     | inl lt ↦
@@ -202,7 +200,7 @@ headers_kind c m seat (step.Used q n) u p = elim (cases_eq p q) [
   | inr ne ↦ ap (λ (y : Page). y.header)
       (get_or-set_other m.words.pages q p (record { header = header_at m.words q; used = n }) free_page ne)
 ]
-headers_kind c m seat _ u p = refl
+headers_kind c m seat _ u p = cc
 
 -- marks only grow while a cycle marks
 marks_grow : (c : Config) (m : Moment) (seat : Seat) (y : Colours) → IsMarking m.words → ColourStep c m seat y

@@ -44,9 +44,8 @@ mode_mapped false going o d h e has = has
 
 mode_unmapped : (x going : Bool) (o : Object) (d h : ℕ) → not x ≡ false → going ≡ false
     → HasHeader (mode_of x going) o d h → h ≡ unmapped_header (pages_made o) d
-mode_unmapped false going o d h e g has = cc
-mode_unmapped true true o d h e g has = cc
 mode_unmapped true false o d h e g has = has.1
+mode_unmapped _ _ o d h e g has = cc
 
 mode_unmapping : (x going : Bool) → mode_of x going ≡ Unmapping → x ≡ true
 mode_unmapping true going e = refl
@@ -176,8 +175,7 @@ module _ (c : Config) (w : World) (known : KnownWorld c w) (laid : LayoutStands 
     where
       large_of : (x y : Bool) → not (x && not y) ≡ false → y ≡ false
       large_of true true e = cc
-      large_of true false e = refl
-      large_of false y e = cc
+      large_of _ _ e = cc
 
   -- The place of an undecided New
 

@@ -6,7 +6,6 @@ use Rattle.mk_laws.proofs.Basics.{Actor, AsHolder, AsMarker, HoldsTurn, InCallOf
 use Rattle.mk_laws.proofs.Basics.{view_of}
 use Rattle.mk_core.specs.declared.events.Group.TheVariants as group
 use Rattle.mk_core.specs.declared.events.Step.TheVariants as step
-use Rattle.mk_laws.proofs.Actors.{CallTakes, HostTakes}
 use Rattle.mk_laws.proofs.Standings.{in_turn_told, is_standing_under_turn}
 
 -- who holds the turn by what the protocol reads holds it by its call
@@ -34,9 +33,8 @@ pub acts_as_holder : (c : Config) (m : Moment) (seat : Seat) (x : Step) → Acto
     → HoldsTurn c (view_of m) seat
 acts_as_holder c m seat x (InCallOf k _ lt g) is = absurd (true≢false (sym is ∙ calls_kind x g))
 acts_as_holder c m seat x (AsMarker k _ lt g) is = absurd (true≢false (sym is ∙ markers_kind x g))
-acts_as_holder c m seat x (CallTakes k o lt idle take) is = cc
-acts_as_holder c m seat x (HostTakes free) is = cc
 acts_as_holder c m seat x (AsHolder _ _ t n) is = t
+acts_as_holder c m seat x _ is = cc
 
 -- What is asked of the holder alone is asked of no other.
 pub record AsksNothing (c : Config) (m : Moment) (s : Seat) (f : Flight) (n : ℕ) (x : Step) : Type 0 where

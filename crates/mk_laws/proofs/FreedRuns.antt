@@ -119,25 +119,11 @@ none_seen w _ = refl
 
 give_still : (c : Config) (m : Moment) (o : Op) (q p r l n : ℕ) (x : Step) → is_of_any_holder x ≡ true → gives x ≡ false
     → progress c m (flight stage.Give o q p r l) n x ≡ still (flight stage.Give o q p r l)
-give_still c m o q p r l n (step.Enter y) h g = absurd (false≢true h)
-give_still c m o q p r l n step.Leave h g = absurd (false≢true h)
-give_still c m o q p r l n step.Reg h g = absurd (false≢true h)
-give_still c m o q p r l n step.Probe h g = absurd (false≢true h)
-give_still c m o q p r l n step.Read h g = absurd (false≢true h)
-give_still c m o q p r l n step.Write h g = absurd (false≢true h)
-give_still c m o q p r l n step.Cas h g = absurd (false≢true h)
-give_still c m o q p r l n step.Getg h g = absurd (false≢true h)
-give_still c m o q p r l n step.Setg h g = absurd (false≢true h)
-give_still c m o q p r l n step.Dirty h g = absurd (false≢true h)
-give_still c m o q p r l n (step.Take y) h g = absurd (false≢true h)
-give_still c m o q p r l n step.Grant h g = absurd (false≢true h)
-give_still c m o q p r l n step.Full h g = absurd (false≢true h)
-give_still c m o q p r l n step.Give h g = absurd (false≢true (sym g))
 give_still c m o q p r l n (step.Quar y v) h g = none_freed_at _ _
 give_still c m o q p r l n (step.Look x) h g =
     let f = flight stage.Give o q p r l in
     ap (λ (b : Bool). if b then decided f answer.Double else still f) (none_seen m.words x)
-give_still c m o q p r l n _ h g = refl
+give_still c m o q p r l n _ h g = cc
 
 no_run : (w : Words) (b : Bool) (run : RunPages) → run_of_cell w (if b && false then None else None) ≡ Some run → ⊥
 no_run w true run e = cc
@@ -152,13 +138,11 @@ headed : (h : Option Header) (page : ℕ) (run : RunPages) → run_headed h page
     → (run.page ≡ page) × (heads_run h ≡ true)
 headed (Some (Run count mapped)) page run e = (sym (ap page_in e), refl)
 headed (Some (LeafRun count)) page run e = (sym (ap page_in e), refl)
-headed None page run e = cc
-headed (Some _) page run e = cc
+headed _ page run e = cc
 
 free_keeps : (n : NeverState) (v : Value) (k r : ℕ) → register_at (after_free n v) k r ≡ register_at n k r
 free_keeps n Null k r = refl
-free_keeps n (Num m) k r = refl
-free_keeps n (Ptr a t o) k r = refl
+free_keeps n _ k r = cc
 
 pub not_by : (j k : ℕ) (o : Op) (a : Option Answer) → j ≢ k → AreNotBy k (asked (entry_of j o a))
 not_by j k o None ne = tt

@@ -29,9 +29,8 @@ pushed_any (x ∷ xs) a (suc i) = pushed_any xs a i
 -- One that was there is.
 pub still_at : (xs : List PlacedAllocation) (a : PlacedAllocation) (i : ℕ) → (placed_at xs i).released ≡ false
     → placed_at (xs ++ a ∷ []) i ≡ placed_at xs i
-still_at [] a i u = absurd (true≢false u)
-still_at (x ∷ xs) a zero u = refl
 still_at (x ∷ xs) a (suc i) u = still_at xs a i u
+still_at _ a _ u = cc
 
 pub pushed_claims : (c : Config) (run : Option RunPages) (xs : List PlacedAllocation) (a : PlacedAllocation)
     → a.released ≡ false → claims_of c run (xs ++ a ∷ []) ≡ claims_of c run xs ++ claim_of c run a ∷ []

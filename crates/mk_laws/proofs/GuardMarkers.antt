@@ -33,8 +33,6 @@ seen_cell c x own = by x.seen x.hand refl refl own
   where
     by : (seen : Option SeenHeader) (hand : Option ℕ) → x.seen ≡ seen → x.hand ≡ hand
         → is_some (cell_seen c seen hand) ≡ true → Seen c x
-    by None hand es eh own = cc
-    by (Some q) None es eh own = cc
     by (Some q) (Some value) es eh own = at (q.page == page_at_address value) refl _ refl own
       where
         at : (b : Bool) → (q.page == page_at_address value) ≡ b → (y : Option Cell) → cell_at c.pages q.header value ≡ y
@@ -52,6 +50,7 @@ seen_cell c x own = by x.seen x.hand refl refl own
               page = n.0;
               index = n.1;
             }
+    by _ _ es eh own = cc
 
 looks : (c : Config) (m : Moment) (x : Word) (y : MarkerState) (f : ℕ)
     → ((p : ℕ) → x ≡ word.Head p → f ≡ header_at m.words p) → MarkerStands c m y

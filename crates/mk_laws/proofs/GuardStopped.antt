@@ -1,10 +1,10 @@
 -- From `close` to `release` the marks stay closed: nothing changes but words that are wiped.
 use Rattle.mk_laws.proofs.Vocabulary.{Caller, CellsAreClosed, Config, Flight, Host, Marker, Moment, Named, Seat, Stage}
-use Rattle.mk_laws.proofs.Vocabulary.{Step, Store, Tally, Words, accessed, ap, arith, cases_Bool, cases_eq, cases_lt}
-use Rattle.mk_laws.proofs.Vocabulary.{eqb-true, false, first_word, flight_of, get_or-set_other, get_or-set_same}
-use Rattle.mk_laws.proofs.Vocabulary.{group_of, header_at, inl, inr, is_open_to, length, ltb-true, marker_of, or_cases}
-use Rattle.mk_laws.proofs.Vocabulary.{phase_of, points_well, refl, reg_access, register_met, set_past, slice_index}
-use Rattle.mk_laws.proofs.Vocabulary.{subst, sym, true, true≢false, word_points_well, ℕ, ◌<◌, ◌==◌, ◌||◌, ◌∙◌, ◌≡◌, ◌⊎◌}
+use Rattle.mk_laws.proofs.Vocabulary.{Step, Tally, Words, accessed, ap, arith, cases_Bool, cases_eq, cases_lt, eqb-true}
+use Rattle.mk_laws.proofs.Vocabulary.{false, first_word, flight_of, get_or-set_other, get_or-set_same, group_of}
+use Rattle.mk_laws.proofs.Vocabulary.{header_at, inl, inr, is_open_to, length, ltb-true, marker_of, or_cases, phase_of}
+use Rattle.mk_laws.proofs.Vocabulary.{points_well, refl, reg_access, register_met, set_past, slice_index, subst, sym}
+use Rattle.mk_laws.proofs.Vocabulary.{true, true≢false, word_points_well, ℕ, ◌<◌, ◌==◌, ◌||◌, ◌∙◌, ◌≡◌, ◌⊎◌}
 use Rattle.mk_laws.proofs.Basics.{Behind, InCall, Known, Meets, Table, at_its_stage, at_reg, calls_stand, either_phase}
 use Rattle.mk_laws.proofs.Basics.{headers_kind, is_call_stage, is_head, not_astray, reg_table, shows_at, tally_table}
 use Rattle.mk_laws.proofs.Basics.{view_of, wells_from}
@@ -61,13 +61,6 @@ no_call c m k known three lt at =
 
 of_callers : (x : Step) → has_stage_of_its_own x ≡ true → group_of x ≡ group.Callers
 of_callers step.Leave own = refl
-of_callers step.Probe own = refl
-of_callers step.Read own = refl
-of_callers step.Write own = refl
-of_callers step.Cas own = refl
-of_callers step.Getg own = refl
-of_callers step.Setg own = refl
-of_callers step.Dirty own = refl
 of_callers _ own = cc
 
 no_step : (c : Config) (m : Moment) (seat : Seat) (x : Step) → Known c m → phase_of m.words ≡ 3 → Meets c m seat x
@@ -84,10 +77,6 @@ no_step c m Host x known three h own at =
 load_alone : (w : Words) (k r : ℕ) (f : Flight) (s : Stage) → is_reg_stage s ≡ true → is_call_stage s ≡ false
     → (accessed w (Named (word.Reg k r)) (reg_access f s)).registers ≡ w.registers
 load_alone w k r f stage.LoadP reg out = refl
-load_alone w k r f stage.LoadQ reg out = cc
-load_alone w k r f stage.LoadR reg out = cc
-load_alone w k r f stage.Store reg out = cc
-load_alone w k r f stage.Put reg out = cc
 load_alone w k r f _ reg out = cc
 
 reg_still : (c : Config) (m : Moment) (seat : Seat) → Known c m → phase_of m.words ≡ 3 → Meets c m seat step.Reg

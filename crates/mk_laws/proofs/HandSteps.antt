@@ -1,8 +1,8 @@
 -- What the turn holder's hand holds is touched: a root's image, or a word of a marked cell that is scanned.
 use Rattle.std.specs.Prelude.{option_and_then}
-use Rattle.mk_laws.proofs.Vocabulary.{Bool, Caller, Cell, Config, Hand, Host, Marker, Moment, NeverState, None, Null}
-use Rattle.mk_laws.proofs.Vocabulary.{Op, Option, PlacedAllocation, Placing, Seat, Some, Stage, Step, Word, Words}
-use Rattle.mk_laws.proofs.Vocabulary.{World, address_of, and_parts, ap, arith, bases_of, cell_of_allocation, comes_next}
+use Rattle.mk_laws.proofs.Vocabulary.{Bool, Caller, Cell, Config, Hand, Moment, NeverState, None, Null, Op, Option}
+use Rattle.mk_laws.proofs.Vocabulary.{PlacedAllocation, Placing, Seat, Some, Stage, Step, Word, Words, World}
+use Rattle.mk_laws.proofs.Vocabulary.{address_of, and_parts, ap, arith, bases_of, cell_of_allocation, comes_next}
 use Rattle.mk_laws.proofs.Vocabulary.{eqb-true, false, flight_of, found, has_no_pointers, header_in, if◌then◌else◌}
 use Rattle.mk_laws.proofs.Vocabulary.{image_of, inl, inr, is_marked, is_number_of, is_put, is_unmarked, ltb-true}
 use Rattle.mk_laws.proofs.Vocabulary.{nat_lt, nothing_done, or_cases, or_else, placed_at, pointed_cell, refl}
@@ -64,8 +64,7 @@ module _ (c : Config) (w : World) (n : NeverState) (t : Told c w n) where
       by (Caller k) own h =
           let same : k ≡ j = eqb-true k j own in
           rw same at (look_stage _ _ (word.Reg j r) h.order)
-      by (Marker k) own h = cc
-      by Host own h = cc
+      by _ own h = cc
 
   register_image : (seat : Seat) (j r : ℕ) → Meets c w.now seat (step.Look (word.Reg j r))
       → register_word w.now.words j r ≡ image_of (bases_of w.allocations) (slice_index_or n.registers (8 * j + r) Null)
@@ -93,7 +92,6 @@ cell_hand w stop placing cell value h is out =
         then Some (record { value = value; source = Marked })
         else if d then Some (record { value = value; source = Unmarked }) else None) ≡ Some h
         → IsOfMarked w cell value h
-    by true b d ea eb is = cc
     by false true d ea eb is =
         let e : record { value = value; source = Marked } ≡ h = same_Some _ _ is in
         record { scanned = ea; marked = eb; holds = sym (ap (λ (y : Hand). y.value) e) }
@@ -101,7 +99,7 @@ cell_hand w stop placing cell value h is out =
         let e : record { value = value; source = Unmarked } ≡ h = same_Some _ _ is in
         let bad : true ≡ false = ap (λ (y : Hand). is_unmarked y.source) e ∙ out in
         cc
-    by false false false ea eb is = cc
+    by _ _ _ ea eb is = cc
 
 module _ (c : Config) (w : World) (n : NeverState) (T : ℕ → Type 0) (precise : IsPrecise c w T) where
   -- a word of a marked cell that is scanned

@@ -1,11 +1,11 @@
 -- Each page has a header word, after each event.
 use Rattle.std.specs.Prelude.{IsSome}
 use Rattle.mk_laws.proofs.Vocabulary.{Config, HeadStep, Header, IsClaimedRun, IsHeaderWord, ItCarves, ItEmpties}
-use Rattle.mk_laws.proofs.Vocabulary.{ItUnmaps, LayoutStands, List, Object, OfBlock, OfLater, OfLeafBlock, OfLeafRun}
-use Rattle.mk_laws.proofs.Vocabulary.{OfRun, Option, Page, RunPages, RunStands, Seat, ShowsPart, Step, World, arith}
-use Rattle.mk_laws.proofs.Vocabulary.{cases_eq, claims_of, flight_of, ground_of, head_step, header_made, header_of}
-use Rattle.mk_laws.proofs.Vocabulary.{header_on, inl, inr, made_shows, object_made, object_now, pages_made, placed_now}
-use Rattle.mk_laws.proofs.Vocabulary.{refl, seat_exists, subst, sym, true, unmapped_header, ℕ, ◌-◌, ◌<◌, ◌≡◌}
+use Rattle.mk_laws.proofs.Vocabulary.{ItUnmaps, LayoutStands, List, Object, OfBlock, Option, Page, RunPages, RunStands}
+use Rattle.mk_laws.proofs.Vocabulary.{Seat, ShowsPart, Step, World, arith, cases_eq, claims_of, flight_of, ground_of}
+use Rattle.mk_laws.proofs.Vocabulary.{head_step, header_made, header_of, header_on, inl, inr, made_shows, object_made}
+use Rattle.mk_laws.proofs.Vocabulary.{object_now, pages_made, placed_now, refl, seat_exists, subst, sym, true}
+use Rattle.mk_laws.proofs.Vocabulary.{unmapped_header, ℕ, ◌-◌, ◌<◌, ◌≡◌}
 use Rattle.mk_laws.proofs.Basics.{Before, Meets, WorldBehind, headed_other, made_sized, own_claim, page_within}
 use Rattle.mk_laws.proofs.Basics.{reg_leaves_ground, tally_ground, used_header}
 use Rattle.mk_core.specs.declared.events.Step.TheVariants as step
@@ -15,10 +15,7 @@ use Rattle.mk_laws.proofs.PageSets.{headed_here}
 
 part_is : (o : Object) (d : ℕ) (x : Option Header) → ShowsPart o d x → IsSome x
 part_is o d x (OfBlock f s l) = refl
-part_is o d x (OfLeafBlock f s l) = refl
-part_is o d x (OfRun m f s l) = refl
-part_is o d x (OfLeafRun f s l) = refl
-part_is o d x (OfLater m f s) = refl
+part_is o d x _ = cc
 
 -- the header that a `head` stores
 stored_word : (c : Config) (w : World) (seat : Seat) (p n : ℕ) → Before c w → seat_exists c seat ≡ true

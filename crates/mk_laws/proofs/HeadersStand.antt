@@ -61,8 +61,7 @@ one_bit n low only = same_from_bits n 1 (λ k. elim (cases_eq k 0) [
 
 unmapped_run : (count : ℕ) (leaf : Bool) (d : ℕ) → run_header count false false d ≡ run_header count false leaf d
 unmapped_run count true zero = refl
-unmapped_run count false zero = refl
-unmapped_run count leaf (suc d) = refl
+unmapped_run count _ _ = cc
 
 -- the header word of a large claim's page, mapped where the allocation isn't freed
 run_word : (o : Object) (freed : Bool) (d h : ℕ) → is_small_object o ≡ false

@@ -66,10 +66,6 @@ look_stays c n _ x = refl
 pub work_stays : (c : Config) (n : ℕ) (s : Step) (x : Marker) → is_work s ≡ true
     → (marker_behind c n s x).presence ≡ x.presence
 work_stays c n (step.Mlook w) x k = look_stays c n w x
-work_stays c n (step.Claim p i) x k = refl
-work_stays c n step.Mload x k = refl
-work_stays c n step.Mmark x k = refl
-work_stays c n step.Mblack x k = refl
 work_stays c n _ x k = cc
 
 pub work_idles : (c : Config) (n : ℕ) (s : Step) (x : Marker) → marker_may c x s ≡ true → is_work s ≡ true

@@ -120,7 +120,6 @@ module _ (listed : List ℕ) (safe : ℕ → Bool) (s : ImageScene) (n : NeverSt
             ∙ ap (λ t. answer_of (bases_of s.allocations ++ more) (reply_at t (λ a w. Val (word_at n a w))))
             (sym to.target)),
       )
-  read_leads (op.New d ty full) q p r l x is ld a car pro e ad = cc
   read_leads _ q p r l x is ld a car pro e ad = cc
 
   decides : (f : Flight) (st : Stage) (o : Op) (q p r l : ℕ) → flight_among s.flights k ≡ flight st o q p r l
@@ -159,7 +158,6 @@ module _ (listed : List ℕ) (safe : ℕ → Bool) (s : ImageScene) (n : NeverSt
         λ more. one_right _ answer.Done n k (op.SetPtr q' i p')
             (ap (λ t. answer_of (bases_of s.allocations ++ more) (reply_at t (λ a w. Done))) (sym to.target)),
       )
-  write_leads (op.New d ty full) q p r l is a car pro ad = cc
   write_leads _ q p r l is a car pro ad = cc
 
   cas_by : (b : Bool) (o : Op) (q p r l r' a i w x : ℕ) → w ≡ (placed_at s.allocations a).base + i
@@ -221,7 +219,6 @@ module _ (listed : List ℕ) (safe : ℕ → Bool) (s : ImageScene) (n : NeverSt
             (ap answer.Num (bit_is _) ∙ ap (λ t. answer_of (bases_of s.allocations ++ more)
             (reply_at t (λ a w. Number (bit (is_same (word_at n a w) (register_at n k p')))))) (sym to.target))),
       )
-  cas_leads (op.New d ty full) q p r l x is a car pro e ad = cc
   cas_leads _ q p r l x is a car pro e ad = cc
 
   pub getg_leads : (o : Op) (q p r l x : ℕ) → flight_among s.flights k ≡ flight stage.Getg o q p r l → d_of o < 8
@@ -235,7 +232,6 @@ module _ (listed : List ℕ) (safe : ℕ → Bool) (s : ImageScene) (n : NeverSt
         λ more. one_right _ (answer.Word x) n k (op.GetGlobal d g)
             (ap answer.Word (value ∙ sound_more listed safe s n h (global_at n g) more (h.typed.globals g))),
       )
-  getg_leads (op.New d ty full) q p r l x is ld a e = cc
   getg_leads _ q p r l x is ld a e = cc
 
   pub setg_leads : (o : Op) (q p r l : ℕ) → flight_among s.flights k ≡ flight stage.Setg o q p r l
@@ -249,5 +245,4 @@ module _ (listed : List ℕ) (safe : ℕ → Bool) (s : ImageScene) (n : NeverSt
         (record { there = there; registers = long; was = rw is; bare = refl }) lg ln (car.p refl) (own_safe p'),
     λ more. refl,
   )
-  setg_leads (op.New d ty full) q p r l is a car lg ln = cc
   setg_leads _ q p r l is a car lg ln = cc

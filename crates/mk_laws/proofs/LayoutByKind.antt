@@ -1,10 +1,10 @@
 -- What each kind of event makes of the terrain.
-use Rattle.mk_laws.proofs.Vocabulary.{Bool, Chosen, Config, Flight, Granted, Ground, HasLayout, LayoutScene}
-use Rattle.mk_laws.proofs.Vocabulary.{LayoutStands, List, None, Object, Op, Option, PlacedAllocation, Placing, RunPages}
-use Rattle.mk_laws.proofs.Vocabulary.{Seat, Some, Step, Unplaced, Used, Words, World, [], and_parts, and_right, ap}
-use Rattle.mk_laws.proofs.Vocabulary.{arith, chosen, claims_of, decided, eqb-true, false, false_from_ne_true, flight_of}
-use Rattle.mk_laws.proofs.Vocabulary.{fresh_leaves, granted, granted_base_is, granted_object, granted_type, ground_of}
-use Rattle.mk_laws.proofs.Vocabulary.{has_bit, has_place, header_at, held_by_pages, if◌then◌else◌, is_decided, is_phase}
+use Rattle.mk_laws.proofs.Vocabulary.{Bool, Config, Flight, Granted, Ground, HasLayout, LayoutScene, LayoutStands, List}
+use Rattle.mk_laws.proofs.Vocabulary.{None, Object, Op, Option, PlacedAllocation, Placing, RunPages, Seat, Some, Step}
+use Rattle.mk_laws.proofs.Vocabulary.{Unplaced, Used, Words, World, [], and_parts, and_right, ap, arith, chosen}
+use Rattle.mk_laws.proofs.Vocabulary.{claims_of, decided, eqb-true, false, false_from_ne_true, flight_of, fresh_leaves}
+use Rattle.mk_laws.proofs.Vocabulary.{granted, granted_base_is, granted_object, granted_type, ground_of, has_bit}
+use Rattle.mk_laws.proofs.Vocabulary.{has_place, header_at, held_by_pages, if◌then◌else◌, is_decided, is_phase}
 use Rattle.mk_laws.proofs.Vocabulary.{is_run_gone, is_run_unmapped, is_undecided_new, is_used_once, layout_scene_of}
 use Rattle.mk_laws.proofs.Vocabulary.{map, marks_is, marks_place, may_end, ne_eqb, no_longer_fresh, not, nothing_done}
 use Rattle.mk_laws.proofs.Vocabulary.{object_made, object_now, object_placed, phase_of, place_now, placed_now, refl}
@@ -40,9 +40,6 @@ grant_kind c w seat b h laid = by w.now.seats.holding.placing refl h.holder
           placing = Granted;
           allocations = w.allocations ++ granted c w.now (flight_of w.now seat) ∷ [];
         })
-    by Unplaced is k = cc
-    by (Chosen place) is k = cc
-    by Granted is k = cc
     by (Used place) is k =
         let f : Flight = flight_of w.now seat in
         let a : PlacedAllocation = granted c w.now f in
@@ -56,6 +53,7 @@ grant_kind c w seat b h laid = by w.now.seats.holding.placing refl h.holder
           freed = refl;
           unreleased = refl;
         }) (rw own at laid))
+    by _ is k = cc
 
 -- `mark`
 mark_kind : (c : Config) (w : World) (seat : Seat) (p n : ℕ) → Before c w → Meets c w.now seat (step.Mark p n)
@@ -111,8 +109,6 @@ placeless c o other releasing marks t placing is none st = by placing is none (r
     by : (placing : Placing) → t.placing ≡ placing → has_place placing ≡ false
         → HasLayout c o releasing marks (record t { placing = placing })
         → HasLayout c other releasing marks t × HasLayout c other releasing marks (record t { placing = Unplaced })
-    by (Chosen place) is none s = cc
-    by (Used place) is none s = cc
     by Unplaced is none s =
         let x : HasLayout c other releasing marks (record t { placing = Unplaced }) =
         record { scene = s.scene; gone = s.gone; first = tt; cells = s.cells } in
@@ -123,6 +119,7 @@ placeless c o other releasing marks t placing is none st = by placing is none (r
           rw is x,
           record { scene = s.scene; gone = s.gone; first = tt; cells = s.cells },
         )
+    by _ is none s = cc
 
 -- `give`: the seat has decided, so it has no place, and its run is gone
 undecided_waits : (f : Flight) → is_undecided_new f ≡ true → is_decided f.stage ≡ true → ⊥

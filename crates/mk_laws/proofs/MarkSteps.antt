@@ -28,10 +28,7 @@ pub marks_same : (c : Config) (m : Moment) (seat : Seat) (x : Step) → is_of_ma
     → (Behind c m seat x).words.marks ≡ m.words.marks
 marks_same c m seat step.Reg out = ap (λ (t : Table). t.marks) (reg_table c m seat)
 marks_same c m seat (step.Tally n v) out = ap (λ (t : Table). t.marks) (tally_table m.words n v)
-marks_same c m seat (step.Clear p) out = cc
-marks_same c m seat (step.Mark p v) out = cc
-marks_same c m seat step.Mmark out = cc
-marks_same c m seat _ out = refl
+marks_same c m seat _ out = cc
 
 -- A cell of an unreleased allocation has a header on its page.
 has_header : (c : Config) (w : World) (n : NeverState) (b : ℕ) → Told c w n
@@ -78,8 +75,7 @@ left_holds false b h none = cc
 
 left_fails : (a b : Bool) → (a && not b) ≡ false → b ≡ false → a ≡ false
 left_fails true true h none = cc
-left_fails true false h none = cc
-left_fails false b h none = refl
+left_fails _ _ h none = cc
 
 -- a place that is marked has no header yet
 place_is_free : (w : Words) (o : Object) (place : Option Place) (page value : ℕ)
@@ -103,8 +99,6 @@ seen_marks c m x k stand bit own = by x.seen x.hand refl refl own bit
     by : (seen : Option SeenHeader) (hand : Option ℕ) → x.seen ≡ seen → x.hand ≡ hand
         → is_some (cell_seen c seen hand) ≡ true
         → has_bit (seen_bit (cell_seen c seen hand)) k ≡ true → MarksSeen c m.words x k
-    by None hand es eh own bit = cc
-    by (Some q) None es eh own bit = cc
     by (Some q) (Some value) es eh own bit = at (q.page == page_at_address value) refl _ refl own bit
       where
         at : (b : Bool) → (q.page == page_at_address value) ≡ b → (y : Option Cell) → cell_at c.pages q.header value ≡ y
@@ -125,6 +119,7 @@ seen_marks c m x k stand bit own = by x.seen x.hand refl refl own bit
                   ap (λ p. cell_at c.pages (header_at m.words p) value)
                   (sym (eqb-true q.page (page_at_address value) e)) ∙ now ∙ rw (← page) (rw (← same));
             }
+    by _ _ es eh own bit = cc
 
 module _ (c : Config) (w : World) (n : NeverState) (T : ℕ → Type 0) (precise : IsPrecise c w T) where
   -- Whatever of it stands there, a cell that is marked is touched.

@@ -1,8 +1,8 @@
 -- The place of an undecided New lies in the heap.
 use Rattle.std.proofs.lemmas.Bool.{leb-false}
-use Rattle.mk_laws.proofs.Vocabulary.{Bool, Caller, Chosen, Config, Flight, Granted, Ground, Holding, Host, List}
-use Rattle.mk_laws.proofs.Vocabulary.{Marker, Moment, None, Object, Op, Option, Page, Place, Placing, Seat, Some, Step}
-use Rattle.mk_laws.proofs.Vocabulary.{Unplaced, Used, World, ap, at_rest, cases_eq, cases_lt, chosen, false, flight_of}
+use Rattle.mk_laws.proofs.Vocabulary.{Bool, Caller, Chosen, Config, Flight, Granted, Ground, Holding, List, Moment}
+use Rattle.mk_laws.proofs.Vocabulary.{None, Object, Op, Option, Page, Place, Placing, Seat, Some, Step, Unplaced, Used}
+use Rattle.mk_laws.proofs.Vocabulary.{World, ap, at_rest, cases_eq, cases_lt, chosen, false, flight_of}
 use Rattle.mk_laws.proofs.Vocabulary.{get_or-set_other, get_or-set_same, if◌then◌else◌, inl, inr, is_new_at}
 use Rattle.mk_laws.proofs.Vocabulary.{is_small_object, is_undecided_new, length, ltb-true, object_made}
 use Rattle.mk_laws.proofs.Vocabulary.{place_by_placing, place_now, place_on_pages, refl, run_pages_of, set_past}
@@ -138,8 +138,7 @@ new_was c v seat n j (Works f i t s) new = inl (by seat t s new)
         → slice_index_or (flights_with v.flights s f) j at_rest ≡ flight_in v j
     by (Caller k) t s new = set_new v.flights k j f (service_new (slice_index_or v.flights k at_rest) v.holding f i s)
         new
-    by (Marker k) t s new = absurd t
-    by Host t s new = refl
+    by _ t s new = cc
 new_was c v seat n j _ new = inl refl
 
 -- the seat of an undecided New holds the turn

@@ -85,5 +85,4 @@ at_take _ o next h = cc
 
 pub at_no_take : (s : Stage) (o : Op) → comes_next s o (step.Take None) ≡ true → ⊥
 at_no_take stage.Turn o h = let e = (deciding_kind o (step.Take None) h).1 in cc
-at_no_take stage.Idle o h = cc
 at_no_take _ o h = cc

@@ -1,12 +1,12 @@
 -- Pages where no leaf begins, and that they stay so while they show cells.
 use Rattle.mk_laws.proofs.Vocabulary.{Config, HeadStep, Header, IsMarking, ItCarves, ItEmpties, ItUnmaps, LeafBlock}
-use Rattle.mk_laws.proofs.Vocabulary.{LeafRun, NeverState, Object, Option, Page, PlacedAllocation, Seat, Some, Step}
-use Rattle.mk_laws.proofs.Vocabulary.{World, ap, arith, cases_eq, cells_under, eqb-true, false, first_page_shows}
-use Rattle.mk_laws.proofs.Vocabulary.{flight_of, free_page, get_or-set_other, get_or-set_same, has_no_pointers}
-use Rattle.mk_laws.proofs.Vocabulary.{head_step, header_at, header_in, header_made, header_of, inl, inr, is_leaf_header}
-use Rattle.mk_laws.proofs.Vocabulary.{is_mapped, is_unmapped_header, large_count, length, ltb-true, made_is_mapped}
-use Rattle.mk_laws.proofs.Vocabulary.{object_made, object_placed, or_parts, pages_some, part_has_no_pointers, phase_of}
-use Rattle.mk_laws.proofs.Vocabulary.{placed_at, refl, shown, slice_index_or, slice_set, storage_of, subst, sym, true}
+use Rattle.mk_laws.proofs.Vocabulary.{NeverState, Object, Option, Page, PlacedAllocation, Seat, Some, Step, World, ap}
+use Rattle.mk_laws.proofs.Vocabulary.{arith, cases_eq, cells_under, eqb-true, false, first_page_shows, flight_of}
+use Rattle.mk_laws.proofs.Vocabulary.{free_page, get_or-set_other, get_or-set_same, has_no_pointers, head_step}
+use Rattle.mk_laws.proofs.Vocabulary.{header_at, header_in, header_made, header_of, inl, inr, is_leaf_header, is_mapped}
+use Rattle.mk_laws.proofs.Vocabulary.{is_unmapped_header, large_count, length, ltb-true, made_is_mapped, object_made}
+use Rattle.mk_laws.proofs.Vocabulary.{object_placed, or_parts, pages_some, part_has_no_pointers, phase_of, placed_at}
+use Rattle.mk_laws.proofs.Vocabulary.{refl, shown, slice_index_or, slice_set, storage_of, subst, sym, true}
 use Rattle.mk_laws.proofs.Vocabulary.{unmapped_header, unmapped_is_unmapped, used_at, ℕ, ◌+◌, ◌-◌, ◌/◌, ◌∙◌, ◌≡◌, ◌≢◌}
 use Rattle.mk_laws.proofs.Basics.{Came, IsNew, Meets, Stayed, WorldBehind, headers_kind, is_head}
 use Rattle.mk_core.specs.declared.events.Step.TheVariants as step
@@ -47,8 +47,7 @@ mapped_not_leaf c w n i t u mapped shown =
 
 unmapped_no_leaf : (x : Option Header) → is_unmapped_header x ≡ true → is_leaf_header x ≡ false
 unmapped_no_leaf (Some (LeafBlock class)) h = cc
-unmapped_no_leaf (Some (LeafRun count)) h = cc
-unmapped_no_leaf _ h = refl
+unmapped_no_leaf _ h = cc
 
 -- a header that a `head` stores while the cycle marks
 stored_no_leaf : (c : Config) (w : World) (n : NeverState) (seat : Seat) (p v : ℕ) → Told c w n

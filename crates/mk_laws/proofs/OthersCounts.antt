@@ -30,9 +30,8 @@ q_answer f (op.Same p q) n = refl
 q_answer f _ n = either_answer (n == 0) _ _ refl refl
 
 p_answer : (f : Flight) (o : Op) (n : ℕ) → answers_full (progress_p f o n).answer ≡ false
-p_answer f (op.IsNull p) n = refl
 p_answer f (op.Free p) n = either_answer (n == 0) _ _ refl refl
-p_answer f _ n = refl
+p_answer f _ n = cc
 
 reg_answer : (f : Flight) (s : Stage) (n : ℕ) → answers_full (progress_reg f s n).answer ≡ false
 reg_answer f stage.LoadQ n = q_answer f f.op n
@@ -47,16 +46,10 @@ call_answer : (c : Config) (m : Moment) (f : Flight) (n : ℕ) (x : Step) → gr
     → answers_full (progress c m f n x).answer ≡ false
 call_answer c m f n (step.Enter o) g = either_answer (n == 0) (record { flight = begun o; answer = None })
     (still f) refl refl
-call_answer c m f n step.Leave g = refl
 call_answer c m f n step.Reg g = reg_answer f f.stage n
 call_answer c m f n step.Probe g = either_answer (is_unmapped_header (header_of n)) (refused f answer.Fault)
     (onward f None) refl refl
 call_answer c m f n step.Read g = read_answer f f.op n
-call_answer c m f n step.Write g = refl
-call_answer c m f n step.Cas g = refl
-call_answer c m f n step.Getg g = refl
-call_answer c m f n step.Setg g = refl
-call_answer c m f n step.Dirty g = refl
 call_answer c m f n _ g = cc
 
 call_no_end : (x : Step) → group_of x ≡ group.Callers → is_end x ≡ false

@@ -217,6 +217,5 @@ free_move c w seat x known free takes h = by seat x (actor_of c w.now seat x kno
     by : (seat : Seat) (x : Step) → Actor c w.now seat x → is_take x ≡ false → Meets c w.now seat x → Outs c w seat x
     by seat x (InCallOf k _ lt g) takes h = call_out c w k x known (λ t. none (Caller k) t) lt g h
     by seat x (AsMarker k _ lt g) takes h = marker_out c w k x known lt g h
-    by seat x (CallTakes k o lt idle is) takes h = absurd (cc)
-    by seat x (HostTakes free) takes h = absurd (cc)
     by seat x (AsHolder _ _ t n) takes h = absurd (none seat t)
+    by seat x _ takes h = cc

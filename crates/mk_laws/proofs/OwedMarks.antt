@@ -31,13 +31,11 @@ first_not_dirty _ h = cc
 
 refusal_not_dirty : (o : Op) → stage_refused o ≡ stage.Dirty → ⊥
 refusal_not_dirty (op.GetPtr d q i) h = cc
-refusal_not_dirty (op.Lea d q i) h = cc
 refusal_not_dirty _ h = cc
 
 reg_is_no_store : (s : Stage) → is_reg_stage s ≡ true → is_storing s ≡ false
 reg_is_no_store stage.Write h = cc
-reg_is_no_store stage.Cas h = cc
-reg_is_no_store _ h = refl
+reg_is_no_store _ h = cc
 
 onward_not_dirty : (f : Flight) → is_storing f.stage ≡ false → stage_behind f.stage (steps_of f.op) ≡ stage.Dirty → ⊥
 onward_not_dirty f off h = true≢false (sym (behind_is_dirty f.op f.stage h) ∙ off)
@@ -76,8 +74,7 @@ reg_stays f stage.LoadQ n off h = absurd (q_not_dirty f f.op n off h)
 reg_stays f stage.LoadP n off h = absurd (p_not_dirty f f.op n off h)
 reg_stays f stage.LoadR n off h = absurd (onward_not_dirty (record f { r = n }) off h)
 reg_stays f stage.Store n off h = absurd (onward_not_dirty f off h)
-reg_stays f stage.Put n off h = cc
-reg_stays f _ n off h = refl
+reg_stays f _ n off h = cc
 
 begins_stays : (b : Bool) (f : Flight) (o : Op)
     → (if b then record { flight = begun o; answer = None } else still f).flight.stage ≡ stage.Dirty

@@ -35,16 +35,12 @@ use Rattle.mk_laws.proofs.OthersCounts.{counts_nothing, fulls_of, entry_fulls, f
 others_flight : (c : Config) (w : World) (seat s : Seat) (x : Step) → seat ≢ s
     → flight_of (WorldBehind c w seat x).now s ≡ flight_of w.now s
 others_flight c w (Caller j) (Caller k) x ne = get_or-set_other w.now.seats.flights j k _ at_rest (λ e. ne (rw (← e)))
-others_flight c w (Marker j) (Caller k) x ne = refl
-others_flight c w Host (Caller k) x ne = refl
-others_flight c w seat _ x ne = refl
+others_flight c w _ _ x ne = cc
 
 others_marker : (c : Config) (w : World) (seat s : Seat) (x : Step) → seat ≢ s
     → marker_at (WorldBehind c w seat x).now s ≡ marker_at w.now s
 others_marker c w (Marker j) (Marker k) x ne = get_or-set_other w.now.seats.markers j k _ outside (λ e. ne (rw (← e)))
-others_marker c w (Caller j) (Marker k) x ne = refl
-others_marker c w Host (Marker k) x ne = refl
-others_marker c w seat _ x ne = refl
+others_marker c w _ _ x ne = cc
 
 -- A seat that holds the turn holds it still, after an event of another.
 others_out : (c : Config) (w : World) (seat s : Seat) (x : Step) → Known c w.now → Meets c w.now seat x → seat ≢ s

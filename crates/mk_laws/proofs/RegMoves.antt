@@ -130,7 +130,6 @@ module _ (listed : List ℕ) (safe : ℕ → Bool) (s : ImageScene) (n : NeverSt
         (h.set.registers (8 * k + p')) (h.set.registers (8 * k + q')))) in
         decides_nothing safe s n k (op.Same p' q') _ (answer.Num (one_if (p == x))) refl (rw is) refl refl
         (λ bs. rw tests (ap answer.Num (bit_is (is_same u v))))
-    reg_q (op.New d ty full) q p r l x is ld a car e = cc
     reg_q _ q p r l x is ld a car e = cc
 
     reg_p : (o : Op) (q p r l x : ℕ) → flight_among s.flights k ≡ flight stage.LoadP o q p r l
@@ -165,7 +164,6 @@ module _ (listed : List ℕ) (safe : ℕ → Bool) (s : ImageScene) (n : NeverSt
         (λ bs. ap (λ v. answer_of bs (free_reply n v)) (sym (null_at p' x e z))))
         (λ nz. flies_on safe s n k (op.Free p') _ was refl
         (record { q = λ y. cc; some_q = λ y. cc; p = λ y. e; some_p = λ y. eqb-false x 0 nz; r = λ y. cc }) (λ y. cc))
-    reg_p (op.New d ty full) q p r l x is a car e = cc
     reg_p _ q p r l x is a car e = cc
 
     reg_r : (o : Op) (q p r l x : ℕ) → flight_among s.flights k ≡ flight stage.LoadR o q p r l
@@ -182,7 +180,6 @@ module _ (listed : List ℕ) (safe : ℕ → Bool) (s : ImageScene) (n : NeverSt
           some_p = λ y. cc;
           r = λ y. e;
         }) (λ y. cc)
-    reg_r (op.New d ty full) q p r l x is a car e = cc
     reg_r _ q p r l x is a car e = cc
 
     reg_store : (o : Op) (q p r l : ℕ) → flight_among s.flights k ≡ flight stage.Store o q p r l → d_of o < 8
@@ -215,7 +212,6 @@ module _ (listed : List ℕ) (safe : ℕ → Bool) (s : ImageScene) (n : NeverSt
           (record { there = there; registers = long; was = rw is; bare = refl }) longs ld refl tt,
       λ more. refl,
     )
-    reg_store (op.New d ty full) q p r l is ld a car ad = cc
     reg_store _ q p r l is ld a car ad = cc
 
     reg_put : (o : Op) (q p r l : ℕ) → flight_among s.flights k ≡ flight stage.Put o q p r l → d_of o < 8

@@ -1,8 +1,8 @@
 -- What a cycle's `release` releases.
 use Rattle.std.specs.Prelude.{◌↔◌}
-use Rattle.mk_laws.proofs.Vocabulary.{AreEnabledFrom, At, Bool, Caller, Cell, Config, Decided, Event, Host, IsHistory}
-use Rattle.mk_laws.proofs.Vocabulary.{List, Marker, Moment, NeverState, OfHistories, PlacedAllocation, Releasing, Seat}
-use Rattle.mk_laws.proofs.Vocabulary.{Step, World, [], after_calls, and_from, and_parts, ap, append_assoc, arith, asked}
+use Rattle.mk_laws.proofs.Vocabulary.{AreEnabledFrom, At, Bool, Caller, Cell, Config, Decided, Event, IsHistory, List}
+use Rattle.mk_laws.proofs.Vocabulary.{Moment, NeverState, OfHistories, PlacedAllocation, Releasing, Seat, Step, World}
+use Rattle.mk_laws.proofs.Vocabulary.{[], after_calls, and_from, and_parts, ap, append_assoc, arith, asked}
 use Rattle.mk_laws.proofs.Vocabulary.{before_release, call_decided, calls_from, cell_of_allocation, changed_at}
 use Rattle.mk_laws.proofs.Vocabulary.{earlier_part_is_history, enabled_in_parts, enabled_parts, false, flight_of}
 use Rattle.mk_laws.proofs.Vocabulary.{has_bit_of, has_bit_without, is_begin, is_close, is_marked, is_quarantined}
@@ -64,8 +64,7 @@ none_decided c m e is = ap (λ (x : Step). call_decided c m (record { seat = e.s
   where
     by : (seat : Seat) → call_decided c m (record { seat = seat; step = step.Release }) ≡ []
     by (Caller k) = refl
-    by (Marker k) = refl
-    by Host = refl
+    by _ = cc
 
 never_stays : (c : Config) (es : List Event) (e : Event) → is_release e.step ≡ true
     → never_behind c (es ++ e ∷ []) ≡ never_behind c es

@@ -219,8 +219,7 @@ room_by_kind c w seat _ b h laid room = room
 
 no_plot : (o : Object) (placing : Placing) → has_place placing ≡ false → plot_of o placing ≡ NoPlot
 no_plot o (Chosen place) none = cc
-no_plot o (Used place) none = cc
-no_plot o _ none = refl
+no_plot o _ none = cc
 
 pub room_behind : (c : Config) (w : World) (seat : Seat) (x : Step) → Before c w → Meets c w.now seat x
     → LayoutStands c w

@@ -1,9 +1,9 @@
 -- While a run isn't unmapped and wiped, the gates of all but the turn's holder are held: after one event.
-use Rattle.mk_laws.proofs.Vocabulary.{Bool, Cell, Config, Header, IsWordOfMapped, LayoutStands, LeafRun, Moment, None}
-use Rattle.mk_laws.proofs.Vocabulary.{Option, Run, RunPages, Seat, Some, Step, Words, World, ap, caller_number}
-use Rattle.mk_laws.proofs.Vocabulary.{cases_Bool, cell_freed, false, flight_of, freed_cell, header_in, heads_run}
-use Rattle.mk_laws.proofs.Vocabulary.{holder_number, if◌then◌else◌, inl, inr, is_heap_store, is_run_cell, is_run_gone}
-use Rattle.mk_laws.proofs.Vocabulary.{not, nothing_done, or_else, others_are_held, refl, reg_access, register_met}
+use Rattle.mk_laws.proofs.Vocabulary.{Bool, Cell, Config, Header, IsWordOfMapped, LayoutStands, Moment, None, Option}
+use Rattle.mk_laws.proofs.Vocabulary.{Run, RunPages, Seat, Some, Step, Words, World, ap, caller_number, cases_Bool}
+use Rattle.mk_laws.proofs.Vocabulary.{cell_freed, false, flight_of, freed_cell, header_in, heads_run, holder_number}
+use Rattle.mk_laws.proofs.Vocabulary.{if◌then◌else◌, inl, inr, is_heap_store, is_run_cell, is_run_gone, not}
+use Rattle.mk_laws.proofs.Vocabulary.{nothing_done, or_else, others_are_held, refl, reg_access, register_met}
 use Rattle.mk_laws.proofs.Vocabulary.{run_headed, run_of_cell, slice_index, subst, sym, target, true, true≢false}
 use Rattle.mk_laws.proofs.Vocabulary.{word_met, ℕ, ◌+◌, ◌<◌, ◌==◌, ◌||◌, ◌∙◌, ◌≡◌, ◌≢◌}
 use Rattle.mk_laws.proofs.Basics.{Behind, KnownWorld, Meets, free_has_turn, others_held, reg_keeps, tally_keeps}
@@ -23,25 +23,19 @@ moves_run _ = false
 freed_kind : (c : Config) (m : Moment) (seat : Seat) (x : Step) → moves_run x ≡ false
     → (Behind c m seat x).seats.holding.freed ≡ m.seats.holding.freed
 freed_kind c m seat (step.Take o) out = cc
-freed_kind c m seat step.Give out = cc
-freed_kind c m seat (step.Quar p n) out = cc
-freed_kind c m seat _ out = refl
+freed_kind c m seat _ out = cc
 
 turn_kind : (c : Config) (m : Moment) (seat : Seat) (x : Step) → moves_run x ≡ false
     → (Behind c m seat x).words.turn ≡ m.words.turn
-turn_kind c m seat (step.Take o) out = cc
-turn_kind c m seat step.Give out = cc
-turn_kind c m seat (step.Quar p n) out = cc
 turn_kind c m seat step.Reg out =
     (reg_keeps m.words (caller_number seat) (register_met (flight_of m seat) (flight_of m seat).stage)
     (reg_access (flight_of m seat) (flight_of m seat).stage)).turn
 turn_kind c m seat (step.Tally n v) out = (tally_keeps m.words n v).turn
-turn_kind c m seat _ out = refl
+turn_kind c m seat _ out = cc
 
 -- A cell that heads a run is a run's.
 heads : (x : Option Header) (p : ℕ) (r : RunPages) → run_headed x p ≡ Some r → heads_run x ≡ true
 heads (Some (Run count mapped)) p r is = refl
-heads (Some (LeafRun count)) p r is = refl
 heads _ p r is = cc
 
 some_run : (w : Words) (cell : Option Cell) (r : RunPages) → run_of_cell w cell ≡ Some r

@@ -36,8 +36,7 @@ heap_after c w seat step.Write no_wipe stored n none =
     get_or-set_other w.now.words.heap _ n _ 0 (λ e. none (rw e (stored refl)))
 heap_after c w seat step.Cas no_wipe stored n none =
     get_or-set_other w.now.words.heap _ n _ 0 (λ e. none (rw e (stored refl)))
-heap_after c w seat (step.Wipe i) no_wipe stored n none = cc
-heap_after c w seat _ no_wipe stored n none = refl
+heap_after c w seat _ no_wipe stored n none = cc
 
 gone_after : (c : Config) (w : World) (seat : Seat) (x : Step) (freed : Option RunPages) → KnownWorld c w
     → LayoutStands c w → w.now.seats.holding.freed ≡ freed

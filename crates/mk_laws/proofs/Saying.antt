@@ -129,7 +129,6 @@ module _ (c : Config) (w : World) (n : NeverState) (known : KnownWorld c w) (oth
       reached_word k i q _ IsPointer
       (reaches c.globals mirrors.safe.0 (image_scene_of w) n ready (register_at n k q') q i IsPointer (car.q refl)
       (car.some_q refl) (own_sound k q') (own_safe k q') (pro refl) ad.access)
-  write_word k (op.New d ty full) q p r l a car pro ad = cc
   write_word k _ q p r l a car pro ad = cc
 
   cas_word : (k : ℕ) (o : Op) (q p r l : ℕ) → is_astray (standing_at stage.Cas o) ≡ false
@@ -140,7 +139,6 @@ module _ (c : Config) (w : World) (n : NeverState) (known : KnownWorld c w) (oth
       reached_word k i q _ IsPointer
       (reaches c.globals mirrors.safe.0 (image_scene_of w) n ready (register_at n k q') q i IsPointer (car.q refl)
       (car.some_q refl) (own_sound k q') (own_safe k q') (pro refl) ad.access)
-  cas_word k (op.New d ty full) q p r l a car pro ad = cc
   cas_word k _ q p r l a car pro ad = cc
 
   stored_word : (k : ℕ) (x : Step) → (x ≡ step.Write) ⊎ (x ≡ step.Cas)

@@ -156,5 +156,4 @@ seen_page_in_heap c (Some s) (Some value) h =
     by true (Some cell) e h = (cell_within c.pages s.header value cell e).0
     by true None e h = cc
     by false cell e h = cc
-seen_page_in_heap c (Some s) None h = cc
-seen_page_in_heap c None hand h = cc
+seen_page_in_heap c _ _ h = cc

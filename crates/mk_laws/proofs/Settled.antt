@@ -1,11 +1,11 @@
 -- What a laid out world says of its allocations; where nothing is on its way, its pages stand for the unreleased
 -- storage.
-use Rattle.mk_laws.proofs.Vocabulary.{Cell, Chosen, Claim, Config, Granted, IsSettled, IsWithinLimits, LayoutStands}
-use Rattle.mk_laws.proofs.Vocabulary.{NoPlot, None, Option, PlacedAllocation, Placing, RunPages, Some, Unplaced, Used}
-use Rattle.mk_laws.proofs.Vocabulary.{Words, World, and_parts, ap, append-nil, claim_of, claims_of, claims_placed}
-use Rattle.mk_laws.proofs.Vocabulary.{false, ground_of, has_place, histories_keep_lengths, is_phase, is_run_gone}
-use Rattle.mk_laws.proofs.Vocabulary.{is_run_unmapped, left, length, object_now, placed_at, plot_of, refl, sym, true}
-use Rattle.mk_laws.proofs.Vocabulary.{unreleased_storage, words_are_zero, ◌*◌, ◌++◌, ◌∙◌, ◌≡◌}
+use Rattle.mk_laws.proofs.Vocabulary.{Cell, Claim, Config, Granted, IsSettled, IsWithinLimits, LayoutStands, NoPlot}
+use Rattle.mk_laws.proofs.Vocabulary.{None, Option, PlacedAllocation, Placing, RunPages, Some, Unplaced, Words, World}
+use Rattle.mk_laws.proofs.Vocabulary.{and_parts, ap, append-nil, claim_of, claims_of, claims_placed, false, ground_of}
+use Rattle.mk_laws.proofs.Vocabulary.{has_place, histories_keep_lengths, is_phase, is_run_gone, is_run_unmapped, left}
+use Rattle.mk_laws.proofs.Vocabulary.{length, object_now, placed_at, plot_of, refl, sym, true, unreleased_storage}
+use Rattle.mk_laws.proofs.Vocabulary.{words_are_zero, ◌*◌, ◌++◌, ◌∙◌, ◌≡◌}
 use Rattle.mk_laws.proofs.Basics.{Laid, all_stand, apart_left, claim_among, gone_terrain, own_claim}
 use Rattle.mk_geom.proofs.Bridge.{same_places}
 use Rattle.mk_laws.specs.SettledPages.{FirstFitIsThePlace, HeadersStand, UnreleasedAreApart, UnreleasedStand}
@@ -72,8 +72,7 @@ settled_rests c w limits len laid s = by w.now.seats.holding.placing refl s.plac
         → Rests c w.now.words w.allocations
     by Unplaced is out = rests Unplaced (at Unplaced is) refl (append-nil (claims_of c None w.allocations))
     by Granted is out = rests Granted (at Granted is) refl (append-nil (claims_of c None w.allocations))
-    by (Chosen place) is out = cc
-    by (Used place) is out = cc
+    by _ is out = cc
 
 pub headers_stand : HeadersStand
 headers_stand c es limits laid s =

@@ -1,14 +1,13 @@
 -- What is fresh and what is in the snapshot, after each kind of event.
-use Rattle.mk_laws.proofs.Vocabulary.{Among, Bool, Cell, Chosen, Config, Flight, Granted, IsQuarantined, KeepsSnapshot}
-use Rattle.mk_laws.proofs.Vocabulary.{LayoutStands, Object, PlacedAllocation, Placing, Seat, Step, Unplaced, Used}
-use Rattle.mk_laws.proofs.Vocabulary.{World, [], all_below, all_below-at, and_parts, ap, arith, cases_Bool}
-use Rattle.mk_laws.proofs.Vocabulary.{cell_of_allocation, changed_at, claims_of, claims_placed, eqb-true, false}
-use Rattle.mk_laws.proofs.Vocabulary.{false_from_ne_true, flight_of, granted, granted_base_is, granted_object}
-use Rattle.mk_laws.proofs.Vocabulary.{ground_of, has_bit, has_bit_of, has_clean_page, inl, inr, is_cycling, is_phase}
-use Rattle.mk_laws.proofs.Vocabulary.{is_undecided_new, is_used_once, length, map, no_longer_fresh, not, object_now}
-use Rattle.mk_laws.proofs.Vocabulary.{object_placed, pages_made, pages_some, phase_of, place_claim, placed_at, refl}
-use Rattle.mk_laws.proofs.Vocabulary.{released_leaves, slice_index, sym, true, true≢false, with_released, ℕ, ◌&&◌, ◌++◌}
-use Rattle.mk_laws.proofs.Vocabulary.{◌+◌, ◌/◌, ◌<◌, ◌==◌, ◌∙◌, ◌∷◌, ◌≡◌, ◌≤◌, ◌⊎◌}
+use Rattle.mk_laws.proofs.Vocabulary.{Among, Bool, Cell, Config, Flight, IsQuarantined, KeepsSnapshot, LayoutStands}
+use Rattle.mk_laws.proofs.Vocabulary.{Object, PlacedAllocation, Placing, Seat, Step, Used, World, [], all_below}
+use Rattle.mk_laws.proofs.Vocabulary.{all_below-at, and_parts, ap, arith, cases_Bool, cell_of_allocation, changed_at}
+use Rattle.mk_laws.proofs.Vocabulary.{claims_of, claims_placed, eqb-true, false, false_from_ne_true, flight_of, granted}
+use Rattle.mk_laws.proofs.Vocabulary.{granted_base_is, granted_object, ground_of, has_bit, has_bit_of, has_clean_page}
+use Rattle.mk_laws.proofs.Vocabulary.{inl, inr, is_cycling, is_phase, is_undecided_new, is_used_once, length, map}
+use Rattle.mk_laws.proofs.Vocabulary.{no_longer_fresh, not, object_now, object_placed, pages_made, pages_some, phase_of}
+use Rattle.mk_laws.proofs.Vocabulary.{place_claim, placed_at, refl, released_leaves, slice_index, sym, true, true≢false}
+use Rattle.mk_laws.proofs.Vocabulary.{with_released, ℕ, ◌&&◌, ◌++◌, ◌+◌, ◌/◌, ◌<◌, ◌==◌, ◌∙◌, ◌∷◌, ◌≡◌, ◌≤◌, ◌⊎◌}
 use Rattle.mk_laws.proofs.Basics.{Before, Meets, WorldBehind, all_stand, apart_left, grants_new, holding_object}
 use Rattle.mk_laws.proofs.Basics.{new_has_turn, placed_claim, reg_leaves_ground, releasing_leaves, tally_ground}
 use Rattle.mk_core.specs.StopConditions.{may_begin}
@@ -106,9 +105,6 @@ grant_kind c w seat b h laid q s =
 
     outside : (placing : Placing) → w.now.seats.holding.placing ≡ placing → is_used_once placing ≡ true
         → has_bit_of c w.now.words.snapshot (granted c w.now (flight_of w.now seat)) ≡ false
-    outside Unplaced is k = cc
-    outside (Chosen place) is k = cc
-    outside Granted is k = cc
     outside (Used place) is k =
         let f : Flight = flight_of w.now seat in
         let o : Object = object_placed c a in
@@ -124,6 +120,7 @@ grant_kind c w seat b h laid q s =
         rw cell.0 (rw cell.1
         (unset_in_snapshot c (is_phase w.now.words 4) w.now.words.marks (ground_of w) place.page place.index q
         (q.taken place is)))
+    outside _ is k = cc
 
 -- `release`: what is fresh isn't released
 release_kind : (c : Config) (w : World) → Before c w → is_phase w.now.words 3 ≡ true → LayoutStands c w

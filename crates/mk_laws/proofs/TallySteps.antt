@@ -1,8 +1,8 @@
 -- What events leave to the tallies, and to the allocations that they count.
-use Rattle.mk_laws.proofs.Vocabulary.{Bool, Caller, Config, Event, Flight, Host, Marker, Moment, Seat, Step, World}
-use Rattle.mk_laws.proofs.Vocabulary.{answer_decided, ap, arith, caller_number, false, flight_of, group_of}
-use Rattle.mk_laws.proofs.Vocabulary.{holder_number, if◌then◌else◌, is_end, is_of_turn, refl, reg_access, register_met}
-use Rattle.mk_laws.proofs.Vocabulary.{true, world_behind, ℕ, ◌+◌, ◌==◌, ◌∙◌, ◌≡◌, ◌≢◌}
+use Rattle.mk_laws.proofs.Vocabulary.{Bool, Caller, Config, Event, Flight, Moment, Seat, Step, World, answer_decided}
+use Rattle.mk_laws.proofs.Vocabulary.{ap, arith, caller_number, false, flight_of, group_of, holder_number}
+use Rattle.mk_laws.proofs.Vocabulary.{if◌then◌else◌, is_end, is_of_turn, refl, reg_access, register_met, true}
+use Rattle.mk_laws.proofs.Vocabulary.{world_behind, ℕ, ◌+◌, ◌==◌, ◌∙◌, ◌≡◌, ◌≢◌}
 use Rattle.mk_laws.proofs.Basics.{Actor, AsHolder, AsMarker, HoldsTurn, InCallOf, Known, Meets, WorldBehind, actor_of}
 use Rattle.mk_laws.proofs.Basics.{reg_leaves, tally_keeps, turn_of, view_of}
 use Rattle.mk_core.specs.declared.events.Step.TheVariants as step
@@ -64,11 +64,7 @@ turn_step c w seat _ = Leaves refl
 
 of_no_turn : (x : Step) → is_of_turn (group_of x) ≡ false → counts_alike x ≡ true
 of_no_turn (step.Tally n v) g = cc
-of_no_turn (step.Quar p n) g = cc
-of_no_turn step.Grant g = cc
-of_no_turn step.Begin g = cc
-of_no_turn step.Release g = cc
-of_no_turn _ g = refl
+of_no_turn _ g = cc
 
 outside_alike : (c : Config) (m : Moment) (seat : Seat) (x : Step) → (HoldsTurn c (view_of m) seat → ⊥)
     → Actor c m seat x → counts_alike x ≡ true
@@ -80,8 +76,7 @@ outside_alike c m seat x out _ = refl
 give_answers : (c : Config) (m : Moment) (seat : Seat)
     → answers_full (answer_decided c m (record { seat = seat; step = step.Give })) ≡ false
 give_answers c m (Caller k) = refl
-give_answers c m (Marker k) = refl
-give_answers c m Host = refl
+give_answers c m _ = cc
 
 -- the event counts nothing: no tally changes and no allocation, no cycle ends, and no call is answered Full
 pub record CountsNothing (c : Config) (w : World) (e : Event) : Type 0 where

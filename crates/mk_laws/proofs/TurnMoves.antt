@@ -88,8 +88,7 @@ module _ (c : Config) (w : World) (n : NeverState) (known : KnownWorld c w) (mir
             in omega arith))),
         λ more. refl,
       )
-  grant_by stage.Turn (op.New d ty full) q p r l _ is next used placed hold phase operands = absurd (false≢true used)
-  grant_by _ _ q p r l _ is next used placed hold phase operands = absurd (false≢true next)
+  grant_by _ _ q p r l _ is next used placed hold phase operands = cc
 
   pub full_by : (s : Stage) (o : Op) (q p r l : ℕ) → flight_among w.now.seats.flights k ≡ flight s o q p r l
       → comes_next s o step.Full ≡ true

@@ -67,8 +67,7 @@ stays_along c w (e ∷ es) p none out =
 unmapped_mode : (x going : Bool) (o : Object) (d h : ℕ) → x ≡ true → going ≡ false → HasHeader (mode_of x going) o d h
     → h ≡ unmapped_header (pages_made o) d
 unmapped_mode true false o d h is out has = has.1
-unmapped_mode true true o d h is out has = cc
-unmapped_mode false going o d h is out has = cc
+unmapped_mode _ _ o d h is out has = cc
 
 not_false : (b : Bool) → not b ≡ false → b ≡ true
 not_false true h = refl

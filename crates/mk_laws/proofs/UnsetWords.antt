@@ -37,8 +37,7 @@ globals_stay : (c : Config) (m : Moment) (seat : Seat) (x : Step) → is_setg x 
     → (Behind c m seat x).words.globals ≡ m.words.globals
 globals_stay c m seat step.Reg out = ap (λ (t : Table). t.globals) (reg_table c m seat)
 globals_stay c m seat (step.Tally n v) out = ap (λ (t : Table). t.globals) (tally_table m.words n v)
-globals_stay c m seat step.Setg out = cc
-globals_stay c m seat _ out = refl
+globals_stay c m seat _ out = cc
 
 one_more : (c : Config) (es : List Event) (seat : Seat) (x : Step) (g : ℕ)
     → IsNeverSet c (es ++ record { seat = seat; step = x } ∷ []) g → slice_index (left c es).now.words.globals g ≡ 0

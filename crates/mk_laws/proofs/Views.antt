@@ -43,8 +43,7 @@ flights_with fs _ f = fs
 
 pub flight_is : (m : Moment) (seat : Seat) → flight_of m seat ≡ flight_at m.seats.flights seat
 flight_is m (Caller k) = refl
-flight_is m (Marker k) = refl
-flight_is m Host = refl
+flight_is m _ = cc
 
 -- the seat holds the turn
 abbrev pub HoldsTurn : Config → View → Seat → Type 0

@@ -1,10 +1,10 @@
 -- Runs are whole, after each event.
 use Rattle.mk_laws.proofs.Vocabulary.{Among, Bool, Claim, Config, Empties, Flight, GivesBack, HeadStep, Header, InPlot}
 use Rattle.mk_laws.proofs.Vocabulary.{IsLaidOn, ItCarves, ItEmpties, ItGivesBack, ItTakes, ItUnmaps, Later, LayoutScene}
-use Rattle.mk_laws.proofs.Vocabulary.{LayoutStands, LeafRun, List, NoPlot, Object, Option, Page, Plot, PlotStands}
-use Rattle.mk_laws.proofs.Vocabulary.{Plotted, Run, Seat, ShowsPart, Some, Step, UsedStep, Words, World, ap, arith}
-use Rattle.mk_laws.proofs.Vocabulary.{cases_Bool, cases_eq, cells_under, false, fewer_bits, flight_of, ground_of}
-use Rattle.mk_laws.proofs.Vocabulary.{head_on, head_page, head_page_under, head_step, header_made, header_of, header_on}
+use Rattle.mk_laws.proofs.Vocabulary.{LayoutStands, List, NoPlot, Object, Option, Page, Plot, PlotStands, Plotted, Run}
+use Rattle.mk_laws.proofs.Vocabulary.{Seat, ShowsPart, Some, Step, UsedStep, Words, World, ap, arith, cases_Bool}
+use Rattle.mk_laws.proofs.Vocabulary.{cases_eq, cells_under, false, fewer_bits, flight_of, ground_of, head_on}
+use Rattle.mk_laws.proofs.Vocabulary.{head_page, head_page_under, head_step, header_made, header_of, header_on}
 use Rattle.mk_laws.proofs.Vocabulary.{heads_run, inl, inr, is_phase, is_small_object, layout_scene_of, length}
 use Rattle.mk_laws.proofs.Vocabulary.{length-set, made_shows, object_now, pages_made, pages_some, plot_of, refl}
 use Rattle.mk_laws.proofs.Vocabulary.{run_count, shows_on, small_heads_none, stands, subst, sym, true, true≢false}
@@ -23,7 +23,6 @@ use Rattle.mk_laws.proofs.RunCounts.{part_count}
 -- what heads a run is its own head
 own_head : (x : Option Header) (p : ℕ) → heads_run x ≡ true → head_page_under x p ≡ p
 own_head (Some (Run n m)) p h = refl
-own_head (Some (LeafRun n)) p h = refl
 own_head _ p h = cc
 
 -- and shows an object's first page

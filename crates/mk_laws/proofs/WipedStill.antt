@@ -52,7 +52,6 @@ block_word class page k i y inside is =
 own_run : (h : Header) (page word : ℕ) (y : Cell) → heads_run (Some h) ≡ true → cell_under h page word ≡ Some y
     → y ≡ record { page = page; index = 0 }
 own_run (Run count mapped) page word y r is = cc
-own_run (LeafRun count) page word y r is = cc
 own_run _ page word y r is = cc
 
 later_run : (d : ℕ) (mapped : Bool) (page word : ℕ) (y : Cell) → cell_under (Later d mapped) page word ≡ Some y

@@ -1,11 +1,10 @@
 -- Only words that may hold values aren't 0, after every list of enabled events.
-use Rattle.mk_laws.proofs.Vocabulary.{AreEnabledFrom, AreOfPages, Bool, Caller, Config, Event, HasZeros, Host}
-use Rattle.mk_laws.proofs.Vocabulary.{IsEnabled, IsWithinLimits, List, Marker, None, OfFreedRun, OfMapped}
-use Rattle.mk_laws.proofs.Vocabulary.{OthersAreZero, Seat, Some, World, [], access, accessed_lengths, ap, at_rest}
-use Rattle.mk_laws.proofs.Vocabulary.{enabled_meets, false, first_moment, first_world, flight_of}
-use Rattle.mk_laws.proofs.Vocabulary.{histories_keep_lengths, is_heap_store, is_phase, left, left_from, refl, subst}
-use Rattle.mk_laws.proofs.Vocabulary.{sym, target, true, true≢false, word_accessed, world_behind, zero_lengths}
-use Rattle.mk_laws.proofs.Vocabulary.{zero_scene_with, ℕ, ◌*◌, ◌∙◌, ◌∷◌, ◌≡◌}
+use Rattle.mk_laws.proofs.Vocabulary.{AreEnabledFrom, AreOfPages, Bool, Caller, Config, Event, HasZeros, IsEnabled}
+use Rattle.mk_laws.proofs.Vocabulary.{IsWithinLimits, List, None, OfFreedRun, OfMapped, OthersAreZero, Seat, Some}
+use Rattle.mk_laws.proofs.Vocabulary.{World, [], access, accessed_lengths, ap, at_rest, enabled_meets, false}
+use Rattle.mk_laws.proofs.Vocabulary.{first_moment, first_world, flight_of, histories_keep_lengths, is_heap_store}
+use Rattle.mk_laws.proofs.Vocabulary.{is_phase, left, left_from, refl, subst, sym, target, true, true≢false}
+use Rattle.mk_laws.proofs.Vocabulary.{word_accessed, world_behind, zero_lengths, zero_scene_with, ℕ, ◌*◌, ◌∙◌, ◌∷◌, ◌≡◌}
 use Rattle.mk_laws.proofs.Basics.{Known, at_first, changed_words, is_releasing_behind, known_at_first, known_behind}
 use Rattle.mk_laws.proofs.Basics.{known_left, none_released}
 use Rattle.mk_laws.specs.LayoutLaws as layout
@@ -73,5 +72,4 @@ others_at_first c e limits still =
   where
     no_target : (seat : Seat) → target c.pages (first_moment c).words (flight_of (first_moment c) seat) ≡ None
     no_target (Caller k) = ap (target c.pages (first_moment c).words) (at_first c.callers k at_rest)
-    no_target (Marker k) = refl
-    no_target Host = refl
+    no_target _ = cc
