@@ -106,104 +106,104 @@ pub small_is : (c : Config) (a : PlacedAllocation) → IsSized (object_placed c 
 small_is c a sized = words_are_small (object_placed c a) sized
 
 -- two of them lie apart
-pub lie_apart : (c : Config) (w : Words) (xs : List PlacedAllocation) (i j : ℕ) → Rests c w xs
-    → (placed_at xs i).released ≡ false → (placed_at xs j).released ≡ false
-    → (IsOfOneCell (claim_of c None (placed_at xs i)) (claim_of c None (placed_at xs j)) → ⊥)
-    → LieApart (storage_of c (placed_at xs i)) (storage_of c (placed_at xs j))
-lie_apart c w xs i j r u v other =
-    by (is_small_object (object_placed c (placed_at xs i))) refl (is_small_object (object_placed c (placed_at xs j)))
-    refl
-  where
-    a : PlacedAllocation
-    a = placed_at xs i
+module _ (c : Config) (w : Words) (xs : List PlacedAllocation) (i j : ℕ) (r : Rests c w xs)
+    (u : (placed_at xs i).released ≡ false) (v : (placed_at xs j).released ≡ false)
+    (other : (IsOfOneCell (claim_of c None (placed_at xs i)) (claim_of c None (placed_at xs j)) → ⊥)) where
+  abbrev b : PlacedAllocation
+  b = placed_at xs j
 
-    b : PlacedAllocation
-    b = placed_at xs j
+  abbrev a : PlacedAllocation
+  a = placed_at xs i
 
-    sa : IsShown w.pages (claim_of c None (placed_at xs i))
-    sa = shown_of c w xs i r u
+  sa : IsShown w.pages (claim_of c None a)
+  sa = shown_of c w xs i r u
 
-    sb : IsShown w.pages (claim_of c None (placed_at xs j))
-    sb = shown_of c w xs j r v
+  sb : IsShown w.pages (claim_of c None b)
+  sb = shown_of c w xs j r v
 
-    ba : BeginsAtCell (object_placed c (placed_at xs i)) (placed_at xs i).base
-    ba = (r.cells i u).begins
+  ba : BeginsAtCell (object_placed c a) a.base
+  ba = (r.cells i u).begins
 
-    bb : BeginsAtCell (object_placed c (placed_at xs j)) (placed_at xs j).base
-    bb = (r.cells j v).begins
+  bb : BeginsAtCell (object_placed c b) b.base
+  bb = (r.cells j v).begins
 
-    -- where they share no page
-    far : ((d e : ℕ) → d < pages_made (object_placed c (placed_at xs i))
-        → e < pages_made (object_placed c (placed_at xs j))
-        → (placed_at xs i).base / 64 + d ≢ (placed_at xs j).base / 64 + e)
-        → LieApart (storage_of c (placed_at xs i)) (storage_of c (placed_at xs j))
-    far none =
-        let pa = pages_some (object_placed c a) sa.sized in
-        let pb = pages_some (object_placed c b) sb.sized in
-        let ha : a.base + storage_words c a ≤ 64 * (a.base / 64 + pages_made (object_placed c a)) =
-        ends_on_pages (object_placed c a) a.base sa.sized ba in
-        let hb : b.base + storage_words c b ≤ 64 * (b.base / 64 + pages_made (object_placed c b)) =
-        ends_on_pages (object_placed c b) b.base sb.sized bb in
-        record {
-          apart = elim (cases_lt (b.base / 64) (a.base / 64 + pages_made (object_placed c a))) [
-            | inr ge ↦ inl (omega arith)
-            | inl lt ↦ elim (cases_lt (a.base / 64) (b.base / 64 + pages_made (object_placed c b))) [
-              | inr ge ↦ inr (omega arith)
-              | inl lt2 ↦ absurd (elim (cases_lt (a.base / 64) (b.base / 64)) [
-                | inl less ↦ none (b.base / 64 - a.base / 64) 0 (omega arith) (omega arith) (omega arith)
-                | inr more ↦ none 0 (a.base / 64 - b.base / 64) (omega arith) (omega arith) (omega arith)
-              ])
-            ]
-          ];
-          alike = λ p ha2 hb2.
-              let ra = on_its_pages c a p sa.sized ba ha2 in
-              let rb = on_its_pages c b p sb.sized bb hb2 in
-              let a0 = ra.0 in
-              let a1 = ra.1 in
-              let b0 = rb.0 in
-              let b1 = rb.1 in
-              absurd (none (p - a.base / 64) (p - b.base / 64) (omega arith) (omega arith) (omega arith));
-        }
+  -- where they share no page
+  far : ((d e : ℕ) → d < pages_made (object_placed c a)
+      → e < pages_made (object_placed c b)
+      → a.base / 64 + d ≢ b.base / 64 + e)
+      → LieApart (storage_of c a) (storage_of c b)
+  far none =
+      let pa = pages_some (object_placed c a) sa.sized in
+      let pb = pages_some (object_placed c b) sb.sized in
+      let ha : a.base + storage_words c a ≤ 64 * (a.base / 64 + pages_made (object_placed c a)) =
+      ends_on_pages (object_placed c a) a.base sa.sized ba in
+      let hb : b.base + storage_words c b ≤ 64 * (b.base / 64 + pages_made (object_placed c b)) =
+      ends_on_pages (object_placed c b) b.base sb.sized bb in
+      record {
+        apart = elim (cases_lt (b.base / 64) (a.base / 64 + pages_made (object_placed c a))) [
+          | inr ge ↦ inl (omega arith)
+          | inl lt ↦ elim (cases_lt (a.base / 64) (b.base / 64 + pages_made (object_placed c b))) [
+            | inr ge ↦ inr (omega arith)
+            | inl lt2 ↦ absurd (elim (cases_lt (a.base / 64) (b.base / 64)) [
+              | inl less ↦ none (b.base / 64 - a.base / 64) 0 (omega arith) (omega arith) (omega arith)
+              | inr more ↦ none 0 (a.base / 64 - b.base / 64) (omega arith) (omega arith) (omega arith)
+            ])
+          ]
+        ];
+        alike = λ p ha2 hb2.
+            let ra = on_its_pages c a p sa.sized ba ha2 in
+            let rb = on_its_pages c b p sb.sized bb hb2 in
+            let a0 = ra.0 in
+            let a1 = ra.1 in
+            let b0 = rb.0 in
+            let b1 = rb.1 in
+            absurd (none (p - a.base / 64) (p - b.base / 64) (omega arith) (omega arith) (omega arith));
+      }
 
-    -- two cells of one page
-    near : is_small_object (object_placed c (placed_at xs i)) ≡ true
-        → is_small_object (object_placed c (placed_at xs j)) ≡ true
-        → (placed_at xs i).base / 64 ≡ (placed_at xs j).base / 64
-        → LieApart (storage_of c (placed_at xs i)) (storage_of c (placed_at xs j))
-    near small_a small_b page =
-        let same = same_block c w xs i j r u v small_a small_b page in
-        let k : ℕ = class_words_of (class_made (object_placed c b)) in
-        let wa : storage_words c a ≡ k = small_words (object_placed c a) small_a ∙ rw same.0 in
-        let wb : storage_words c b ≡ k = small_words (object_placed c b) small_b in
-        let first_a : a.base % 64 ≡ ba.index * k = ba.first ∙ rw wa in
-        let first_b : b.base % 64 ≡ bb.index * k = bb.first ∙ rw wb in
-        record {
-          apart = elim (cases_order ba.index bb.index) [
-            | inl e ↦ absurd (other (page, index_is c a sa.sized ba ∙ e ∙ sym (index_is c b sb.sized bb)))
-            | inr (inl lt) ↦ let m = mul-le (suc ba.index) k bb.index k lt (le_refl k) in inl (omega arith)
-            | inr (inr gt) ↦ let m = mul-le (suc bb.index) k ba.index k gt (le_refl k) in inr (omega arith)
-          ];
-          alike = λ p ha hb. (small_is c a sa.sized ∙ small_a, small_is c b sb.sized ∙ small_b, wa ∙ sym wb, same.1);
-        }
+  -- two cells of one page
+  near : is_small_object (object_placed c a) ≡ true
+      → is_small_object (object_placed c b) ≡ true
+      → a.base / 64 ≡ b.base / 64
+      → LieApart (storage_of c a) (storage_of c b)
+  near small_a small_b page =
+      let same = same_block c w xs i j r u v small_a small_b page in
+      let k : ℕ = class_words_of (class_made (object_placed c b)) in
+      let wa : storage_words c a ≡ k = small_words (object_placed c a) small_a ∙ rw same.0 in
+      let wb : storage_words c b ≡ k = small_words (object_placed c b) small_b in
+      let first_a : a.base % 64 ≡ ba.index * k = ba.first ∙ rw wa in
+      let first_b : b.base % 64 ≡ bb.index * k = bb.first ∙ rw wb in
+      record {
+        apart = elim (cases_order ba.index bb.index) [
+          | inl e ↦ absurd (other (page, index_is c a sa.sized ba ∙ e ∙ sym (index_is c b sb.sized bb)))
+          | inr (inl lt) ↦ let m = mul-le (suc ba.index) k bb.index k lt (le_refl k) in inl (omega arith)
+          | inr (inr gt) ↦ let m = mul-le (suc bb.index) k ba.index k gt (le_refl k) in inr (omega arith)
+        ];
+        alike = λ p ha hb. (small_is c a sa.sized ∙ small_a, small_is c b sb.sized ∙ small_b, wa ∙ sym wb, same.1);
+      }
 
-    by : (x : Bool) → is_small_object (object_placed c (placed_at xs i)) ≡ x → (y : Bool)
-        → is_small_object (object_placed c (placed_at xs j)) ≡ y
-        → LieApart (storage_of c (placed_at xs i)) (storage_of c (placed_at xs j))
-    by false l y is =
-        far (λ d e ld le at.
-        let same = shares_run (quiet_scene c w xs) (claim_of c None a) (claim_of c None b) d e r.laid
-        (claim_among c None xs i u) (claim_among c None xs j v) l ld le (sym at) in
-        other (ap (λ (z : Claim). z.page) (sym same), ap (λ (z : Claim). z.index) (sym same)))
-    by true s false l =
-        far (λ d e ld le at.
-        let same = shares_run (quiet_scene c w xs) (claim_of c None b) (claim_of c None a) e d r.laid
-        (claim_among c None xs j v) (claim_among c None xs i u) l le ld at in
-        other (ap (λ (z : Claim). z.page) same, ap (λ (z : Claim). z.index) same))
-    by true s true s2 = elim (cases_eq (a.base / 64) (b.base / 64)) [
-      | inl page ↦ near s s2 page
-      | inr ne ↦ far (λ d e ld le at. let one = small_pages (object_placed c a) s in let two = small_pages
-          (object_placed c b) s2 in ne (omega arith))
-    ]
+  by : (x : Bool) → is_small_object (object_placed c a) ≡ x → (y : Bool)
+      → is_small_object (object_placed c b) ≡ y
+      → LieApart (storage_of c a) (storage_of c b)
+  by false l y is =
+      far (λ d e ld le at.
+      let same = shares_run (quiet_scene c w xs) (claim_of c None a) (claim_of c None b) d e r.laid
+      (claim_among c None xs i u) (claim_among c None xs j v) l ld le (sym at) in
+      other (ap (λ (z : Claim). z.page) (sym same), ap (λ (z : Claim). z.index) (sym same)))
+  by true s false l =
+      far (λ d e ld le at.
+      let same = shares_run (quiet_scene c w xs) (claim_of c None b) (claim_of c None a) e d r.laid
+      (claim_among c None xs j v) (claim_among c None xs i u) l le ld at in
+      other (ap (λ (z : Claim). z.page) same, ap (λ (z : Claim). z.index) same))
+  by true s true s2 = elim (cases_eq (a.base / 64) (b.base / 64)) [
+    | inl page ↦ near s s2 page
+    | inr ne ↦ far (λ d e ld le at. let one = small_pages (object_placed c a) s in let two = small_pages
+        (object_placed c b) s2 in ne (omega arith))
+  ]
+
+  pub lie_apart : LieApart (storage_of c a) (storage_of c b)
+  lie_apart =
+      by (is_small_object (object_placed c a)) refl (is_small_object (object_placed c b))
+      refl
 
 swapped : (s t : Storage) → LieApart s t → LieApart t s
 swapped s t l =

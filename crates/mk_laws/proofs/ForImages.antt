@@ -69,46 +69,46 @@ module _ (c : Config) (w : World) (known : KnownWorld c w) (laid : LayoutStands 
   abbrev run : Option RunPages
   run = w.now.seats.holding.freed
 
-  pub shown_claim : (i : ℕ) → (placed_at w.allocations i).released ≡ false
-      → IsShown w.now.words.pages (claim_of c w.now.seats.holding.freed (placed_at w.allocations i))
+  pub shown_claim : (i : ℕ) → (placed_at xs i).released ≡ false
+      → IsShown w.now.words.pages (claim_of c run (placed_at xs i))
   shown_claim i u =
-      let x : Claim = claim_of c w.now.seats.holding.freed (placed_at w.allocations i) in
+      let x : Claim = claim_of c run (placed_at xs i) in
       laid.scene.shown x (own_claim c (object_now c w.now) (ground_of w) x
-      (claim_among c w.now.seats.holding.freed w.allocations i u))
+      (claim_among c run xs i u))
 
-  pub standing : (i : ℕ) → (placed_at w.allocations i).released ≡ false
-      → IsStanding c w.now.words (placed_at w.allocations i)
+  pub standing : (i : ℕ) → (placed_at xs i).released ≡ false
+      → IsStanding c w.now.words (placed_at xs i)
   standing i u = all_stand c (object_now c w.now) (is_phase w.now.words 4) w known.lengths.pages laid i u
 
-  bases_apart : (i j : ℕ) → (placed_at w.allocations i).released ≡ false → (placed_at w.allocations j).released ≡ false
-      → i ≢ j → (placed_at w.allocations i).base ≢ (placed_at w.allocations j).base
+  bases_apart : (i j : ℕ) → (placed_at xs i).released ≡ false → (placed_at xs j).released ≡ false
+      → i ≢ j → (placed_at xs i).base ≢ (placed_at xs j).base
   bases_apart i j u v ne same =
       let si = standing i u in
       let sj = standing j v in
-      let one = base_points c w.now.words (placed_at w.allocations i) known.limits si.stands si.headers in
-      let two = base_points c w.now.words (placed_at w.allocations j) known.limits sj.stands sj.headers in
-      let both : Some (cell_of_allocation c (placed_at w.allocations i))
-      ≡ Some (cell_of_allocation c (placed_at w.allocations j)) =
+      let one = base_points c w.now.words (placed_at xs i) known.limits si.stands si.headers in
+      let two = base_points c w.now.words (placed_at xs j) known.limits sj.stands sj.headers in
+      let both : Some (cell_of_allocation c (placed_at xs i))
+      ≡ Some (cell_of_allocation c (placed_at xs j)) =
       sym one ∙ ap (λ n. pointed_cell c.pages w.now.words.pages (address_of n)) same ∙ two in
-      let cells : cell_of_allocation c (placed_at w.allocations i) ≡ cell_of_allocation c (placed_at w.allocations j) =
+      let cells : cell_of_allocation c (placed_at xs i) ≡ cell_of_allocation c (placed_at xs j) =
       cc in
-      ne (numbers_apart c w.now.seats.holding.freed w.allocations i j
-      (apart_left (claims_of c w.now.seats.holding.freed w.allocations)
+      ne (numbers_apart c run xs i j
+      (apart_left (claims_of c run xs)
       (claims_placed (object_now c w.now) w.now.seats.holding.placing) laid.scene.apart) u v
       (ap (λ (x : Cell). x.page) cells, ap (λ (x : Cell). x.index) cells))
 
   -- The run that the call frees
 
-  pub run_of : (r : RunPages) → w.now.seats.holding.freed ≡ Some r
-      → IsClaimedRun (claims_of c w.now.seats.holding.freed w.allocations) r
-  run_of r e = subst (λ (x : Option RunPages). RunStands (claims_of c w.now.seats.holding.freed w.allocations) x) e
+  pub run_of : (r : RunPages) → run ≡ Some r
+      → IsClaimedRun (claims_of c run xs) r
+  run_of r e = subst (λ (x : Option RunPages). RunStands (claims_of c run xs) x) e
       laid.gone
 
-  freed_run : (r : RunPages) → w.now.seats.holding.freed ≡ Some r → IsFreedRun c w r
+  freed_run : (r : RunPages) → run ≡ Some r → IsFreedRun c w r
   freed_run r e =
       let x = run_of r e in
-      let n = claim_is c w.now.seats.holding.freed w.allocations x.claim x.among in
-      let a : PlacedAllocation = placed_at w.allocations n.number in
+      let n = claim_is c run xs x.claim x.among in
+      let a : PlacedAllocation = placed_at xs n.number in
       let gone : (a.freed && not (is_small_object (object_placed c a))) ≡ true =
       mode_unmapping (a.freed && not (is_small_object (object_placed c a))) _ (ap (λ (y : Claim). y.mode) (sym n.is)
       ∙ x.mode) in
@@ -124,30 +124,30 @@ module _ (c : Config) (w : World) (known : KnownWorld c w) (laid : LayoutStands 
             ∙ ap (λ k. record { page = a.base / 64; count = k }) count;
       }
 
-  not_going : (i : ℕ) → (placed_at w.allocations i).released ≡ false
-      → is_small_object (object_placed c (placed_at w.allocations i)) ≡ false
-      → w.now.seats.holding.freed ≢ Some (run_of_allocation c (placed_at w.allocations i))
-      → is_unmapping w.now.seats.holding.freed ((placed_at w.allocations i).base / 64) ≡ false
-  not_going i u large other = by w.now.seats.holding.freed refl
+  not_going : (i : ℕ) → (placed_at xs i).released ≡ false
+      → is_small_object (object_placed c (placed_at xs i)) ≡ false
+      → run ≢ Some (run_of_allocation c (placed_at xs i))
+      → is_unmapping run ((placed_at xs i).base / 64) ≡ false
+  not_going i u large other = by run refl
     where
-      by : (r : Option RunPages) → w.now.seats.holding.freed ≡ r
-          → is_unmapping r ((placed_at w.allocations i).base / 64) ≡ false
+      by : (r : Option RunPages) → run ≡ r
+          → is_unmapping r ((placed_at xs i).base / 64) ≡ false
       by None e = refl
-      by (Some r) e = elim (cases_Bool (r.page == (placed_at w.allocations i).base / 64)) [
+      by (Some r) e = elim (cases_Bool (r.page == (placed_at xs i).base / 64)) [
         | inr out ↦ out
         | inl here ↦
-            let a : PlacedAllocation = placed_at w.allocations i in
+            let a : PlacedAllocation = placed_at xs i in
             let x = run_of r e in
             let there = eqb-true r.page (a.base / 64) here in
-            let mine = own_claim c (object_now c w.now) (ground_of w) (claim_of c w.now.seats.holding.freed a)
-            (claim_among c w.now.seats.holding.freed w.allocations i u) in
+            let mine = own_claim c (object_now c w.now) (ground_of w) (claim_of c run a)
+            (claim_among c run xs i u) in
             let his = own_claim c (object_now c w.now) (ground_of w) x.claim x.among in
             let some = pages_some (object_placed c a) (shown_claim i u).sized in
             let some2 = pages_some x.claim.object (laid.scene.shown x.claim his).sized in
             let page = x.page in
-            let same : x.claim ≡ claim_of c w.now.seats.holding.freed a =
+            let same : x.claim ≡ claim_of c run a =
             shares_run (layout_scene_of c (object_now c w.now) (is_phase w.now.words 4) w.now.words.marks (ground_of w))
-            (claim_of c w.now.seats.holding.freed a) x.claim 0 0 laid.scene mine his large
+            (claim_of c run a) x.claim 0 0 laid.scene mine his large
             (omega arith) (omega arith) (omega arith) in
             let count : r.count ≡ pages_made (object_placed c a) = sym x.count
             ∙ ap (λ (y : Claim). pages_made y.object) same in
@@ -155,10 +155,10 @@ module _ (c : Config) (w : World) (known : KnownWorld c w) (laid : LayoutStands 
             ∙ ap (λ k. record { page = a.base / 64; count = k }) count)))
       ]
 
-  pub laid_out : (i : ℕ) → (placed_at w.allocations i).released ≡ false
-      → images.IsLaidOut c w.now.words w.now.seats.holding.freed (placed_at w.allocations i)
+  pub laid_out : (i : ℕ) → (placed_at xs i).released ≡ false
+      → images.IsLaidOut c w.now.words run (placed_at xs i)
   laid_out i u =
-      let a : PlacedAllocation = placed_at w.allocations i in
+      let a : PlacedAllocation = placed_at xs i in
       let s = standing i u in
       let gone : is_mapped c a ≡ not (a.freed && not (is_small_object (object_placed c a))) = gone_is c a u in
       record {
@@ -192,10 +192,10 @@ module _ (c : Config) (w : World) (known : KnownWorld c w) (laid : LayoutStands 
       → b.base ≡ base_made (object_placed c b) place
       → place.index < cells_made (object_placed c b) → place.page + pages_made (object_placed c b) ≤ c.pages
       → place_stands w.now.words (object_placed c b) place ≡ true
-      → w.now.seats.holding.placing ≡ Used place → (i : ℕ) → (placed_at w.allocations i).released ≡ false
-      → (placed_at w.allocations i).base ≢ base_made (object_placed c b) place
+      → w.now.seats.holding.placing ≡ Used place → (i : ℕ) → (placed_at xs i).released ≡ false
+      → (placed_at xs i).base ≢ base_made (object_placed c b) place
   place_alone b place typed v base cell pages stand is i u same =
-      let a : PlacedAllocation = placed_at w.allocations i in
+      let a : PlacedAllocation = placed_at xs i in
       let s = standing i u in
       let stands = placed_stands c b place known.limits typed v base cell pages in
       let one = base_points c w.now.words a known.limits s.stands s.headers in
@@ -211,10 +211,10 @@ module _ (c : Config) (w : World) (known : KnownWorld c w) (laid : LayoutStands 
       (sym is) (inl refl) in
       let page : a.base / 64 ≡ place.page = ap (λ (x : Cell). x.page) cells ∙ at.0 in
       let index : (cell_of_allocation c a).index ≡ place.index = ap (λ (x : Cell). x.index) cells ∙ at.1 in
-      apart_across (claims_of c w.now.seats.holding.freed w.allocations)
+      apart_across (claims_of c run xs)
       (claims_placed (object_now c w.now) w.now.seats.holding.placing)
-      (claim_of c w.now.seats.holding.freed a) (place_claim (object_now c w.now) place) laid.scene.apart
-      (claim_among c w.now.seats.holding.freed w.allocations i u) among (page, index)
+      (claim_of c run a) (place_claim (object_now c w.now) place) laid.scene.apart
+      (claim_among c run xs i u) among (page, index)
 
   taken : (place : Place) (k : ℕ) → w.now.seats.holding.placing ≡ Used place → k < c.callers
       → is_undecided_new (flight_of w.now (Caller k)) ≡ true
@@ -265,15 +265,15 @@ module _ (c : Config) (w : World) (known : KnownWorld c w) (laid : LayoutStands 
           | inl f ↦ inl (record { number = f.number; unreleased = f.unreleased; freed = f.freed; cell = f.cell })
           | inr r ↦ inr (released_is w cell ∙ r)
         ];
-        kept = λ i u. released_is w (cell_of_allocation c (placed_at w.allocations i))
+        kept = λ i u. released_is w (cell_of_allocation c (placed_at xs i))
             ∙ kept_at i u (is_phase w.now.words 4) refl;
         zero_words = zeros_tell_the_images c w zeros;
         marks = marks;
       }
     where
-      kept_at : (i : ℕ) → (placed_at w.allocations i).released ≡ false → (b : Bool) → is_phase w.now.words 4 ≡ b
+      kept_at : (i : ℕ) → (placed_at xs i).released ≡ false → (b : Bool) → is_phase w.now.words 4 ≡ b
           → is_released_in b w.now.words.snapshot w.now.words.marks
-          (cell_of_allocation c (placed_at w.allocations i)).page
-          (cell_of_allocation c (placed_at w.allocations i)).index ≡ false
+          (cell_of_allocation c (placed_at xs i)).page
+          (cell_of_allocation c (placed_at xs i)).index ≡ false
       kept_at i u true e = q.kept e i u
       kept_at i u false e = refl

@@ -27,10 +27,13 @@ is_released_in w None = false
 
 module _ (c : Config) (w : World) (n : NeverState) (known : KnownWorld c w) (mirrors : Mirrors c w n) (safe : ℕ
     → Bool) (ready : Ready c.globals safe (image_scene_of w) n) (st : Stands c w.now.words w.allocations) where
+  abbrev placed : ℕ → PlacedAllocation
+  placed i = placed_at w.allocations i
+
   -- the cell that a value points into
   pub pointer_cell : (a t o p : ℕ) → IsSound n (Ptr a t o) → IsSafe safe (Ptr a t o)
       → p ≡ image_of (bases_of w.allocations) (Ptr a t o)
-      → pointed_cell c.pages w.now.words.pages p ≡ Some (cell_of_allocation c (placed_at w.allocations a))
+      → pointed_cell c.pages w.now.words.pages p ≡ Some (cell_of_allocation c (placed a))
   pointer_cell a t o p sound is e =
       let u = ready.set.unreleased a is in
       let inside = pointed_word c.globals safe (image_scene_of w) n ready a t o sound in
@@ -39,8 +42,8 @@ module _ (c : Config) (w : World) (n : NeverState) (known : KnownWorld c w) (mir
       ∙ st.cell a o u (omega arith)
 
   -- an allocation with the same first word is the same
-  same_first : (a b : ℕ) → (placed_at w.allocations a).released ≡ false → (placed_at w.allocations b).released ≡ false
-      → (placed_at w.allocations b).base ≡ (placed_at w.allocations a).base → b ≡ a
+  same_first : (a b : ℕ) → (placed a).released ≡ false → (placed b).released ≡ false
+      → (placed b).base ≡ (placed a).base → b ≡ a
   same_first a b ua ub e = elim (cases_eq b a) [ inl x ↦ x | inr ne ↦ absurd (st.apart b a ub ua ne e) ]
 
   pub free_by : (others : ImagePremises c w) (k : ℕ) (o : Op) (f : Flight) (p : ℕ) (cell : Cell) (v : Value)
@@ -61,11 +64,11 @@ module _ (c : Config) (w : World) (n : NeverState) (known : KnownWorld c w) (mir
       let u = ready.set.unreleased a is in
       let lt = exists_placed w.allocations a u in
       let here = pointer_cell a t x p sound is e in
-      let cells : Some cell ≡ Some (cell_of_allocation c (placed_at w.allocations a)) = sym points ∙ here in
-      let first : first_word w.now.words cell ≡ (placed_at w.allocations a).base = ap (first_in w.now.words) cells
+      let cells : Some cell ≡ Some (cell_of_allocation c (placed a)) = sym points ∙ here in
+      let first : first_word w.now.words cell ≡ (placed a).base = ap (first_in w.now.words) cells
       ∙ st.first a u in
       let leaves = freed_leaves w.now.words (Some cell) in
-      let its : (placed_at w.allocations a).freed ≡ false = elim (cases_Bool (placed_at w.allocations a).freed) [
+      let its : (placed a).freed ≡ false = elim (cases_Bool (placed a).freed) [
         | inl yes_freed ↦
             let y : false ≡ true = sym not_freed ∙ ap (is_freed_in w.now.words) cells
             ∙ others.shown a u yes_freed in absurd (cc)
@@ -75,33 +78,33 @@ module _ (c : Config) (w : World) (n : NeverState) (known : KnownWorld c w) (mir
             (same_places (freed_where_it_stands w.now.words (Some cell)) w.allocations leaves)
             (λ b. ap (λ (y : PlacedAllocation). y.released)
             (changed_at (freed_where_it_stands w.now.words (Some cell)) w.allocations b leaves.none)
-            ∙ freed_released w.now.words (Some cell) (placed_at w.allocations b))
+            ∙ freed_released w.now.words (Some cell) (placed b))
             sound.0
             (λ b ne2. ap (λ (y : PlacedAllocation). y.freed)
             (changed_at (freed_where_it_stands w.now.words (Some cell)) w.allocations b leaves.none)
-            ∙ ap (λ t. (if t then record (placed_at w.allocations b) { freed = true; fresh = true }
-            else placed_at w.allocations b).freed) (apart_from b a cell u first ne2))
+            ∙ ap (λ t. (if t then record (placed b) { freed = true; fresh = true }
+            else placed b).freed) (apart_from b a cell u first ne2))
             (ap (λ (y : PlacedAllocation). y.freed)
             (changed_at (freed_where_it_stands w.now.words (Some cell)) w.allocations a leaves.none)
-            ∙ ap (λ t. (if t then record (placed_at w.allocations a) { freed = true; fresh = true }
-            else placed_at w.allocations a).freed)
-            (and_from (not (placed_at w.allocations a).released)
-            ((placed_at w.allocations a).base == first_word w.now.words cell) (ap not u)
-            (eq-eqb (placed_at w.allocations a).base (first_word w.now.words cell) (sym first))))
+            ∙ ap (λ t. (if t then record (placed a) { freed = true; fresh = true }
+            else placed a).freed)
+            (and_from (not (placed a).released)
+            ((placed a).base == first_word w.now.words cell) (ap not u)
+            (eq-eqb (placed a).base (first_word w.now.words cell) (sym first))))
             (λ un. quiet (ap (is_run_cell w.now.words) cells
             ∙ st.run a u (ap (λ l. nat_lt 32 l) (sym (words_are c w n known mirrors a lt)) ∙ un))),
         ap (λ b. if b then reply.Double else reply.Done) (sym (mirrors.twins.freed a lt) ∙ its),
       )
     where
-      apart_from : (b a : ℕ) (cell : Cell) → (placed_at w.allocations a).released ≡ false
-          → first_word w.now.words cell ≡ (placed_at w.allocations a).base → b ≢ a
-          → stands_in w.now.words cell (placed_at w.allocations b) ≡ false
-      apart_from b a cell ua first ne = elim (cases_Bool (stands_in w.now.words cell (placed_at w.allocations b))) [
+      apart_from : (b a : ℕ) (cell : Cell) → (placed a).released ≡ false
+          → first_word w.now.words cell ≡ (placed a).base → b ≢ a
+          → stands_in w.now.words cell (placed b) ≡ false
+      apart_from b a cell ua first ne = elim (cases_Bool (stands_in w.now.words cell (placed b))) [
         | inl h ↦
-            let parts = and_parts (not (placed_at w.allocations b).released)
-            ((placed_at w.allocations b).base == first_word w.now.words cell) h in
-            absurd (st.apart b a (not-true (placed_at w.allocations b).released parts.0) ua ne
-            (eqb-true (placed_at w.allocations b).base (first_word w.now.words cell) parts.1 ∙ first))
+            let parts = and_parts (not (placed b).released)
+            ((placed b).base == first_word w.now.words cell) h in
+            absurd (st.apart b a (not-true (placed b).released parts.0) ua ne
+            (eqb-true (placed b).base (first_word w.now.words cell) parts.1 ∙ first))
         | inr h ↦ h
       ]
 
@@ -121,10 +124,10 @@ module _ (c : Config) (w : World) (n : NeverState) (known : KnownWorld c w) (mir
       let u = ready.set.unreleased a is in
       let lt = exists_placed w.allocations a u in
       let here = pointer_cell a t x p sound is e in
-      let cells : Some cell ≡ Some (cell_of_allocation c (placed_at w.allocations a)) = sym points ∙ here in
-      let first : first_word w.now.words cell ≡ (placed_at w.allocations a).base = ap (first_in w.now.words) cells
+      let cells : Some cell ≡ Some (cell_of_allocation c (placed a)) = sym points ∙ here in
+      let first : first_word w.now.words cell ≡ (placed a).base = ap (first_in w.now.words) cells
       ∙ st.first a u in
-      let its : (placed_at w.allocations a).freed ≡ true = elim (others.freed cell is_free) [
+      let its : (placed a).freed ≡ true = elim (others.freed cell is_free) [
         | inl at ↦ its_own a at.number u at.unreleased at.freed (sym (st.first at.number at.unreleased)
             ∙ ap (first_word w.now.words) at.cell ∙ first)
         | inr released ↦ absurd (false≢true (sym (others.kept a u) ∙ ap (is_released_in w.now.words) (sym cells)
@@ -137,11 +140,11 @@ module _ (c : Config) (w : World) (n : NeverState) (known : KnownWorld c w) (mir
         ap (λ b. if b then reply.Double else reply.Done) never,
       )
     where
-      its_own : (a b : ℕ) → (placed_at w.allocations a).released ≡ false → (placed_at w.allocations b).released ≡ false
-          → (placed_at w.allocations b).freed ≡ true
-          → (placed_at w.allocations b).base ≡ (placed_at w.allocations a).base
-          → (placed_at w.allocations a).freed ≡ true
-      its_own a b ua ub fb e = ap (λ i. (placed_at w.allocations i).freed) (sym (same_first a b ua ub e)) ∙ fb
+      its_own : (a b : ℕ) → (placed a).released ≡ false → (placed b).released ≡ false
+          → (placed b).freed ≡ true
+          → (placed b).base ≡ (placed a).base
+          → (placed a).freed ≡ true
+      its_own a b ua ub fb e = ap (λ i. (placed i).freed) (sym (same_first a b ua ub e)) ∙ fb
 
       same_never : (a : ℕ) → (allocation_at n a).freed ≡ true → never_freed n a ≡ n
       same_never a h =

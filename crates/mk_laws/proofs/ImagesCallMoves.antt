@@ -57,6 +57,9 @@ at_probe _ h = absurd (true≢false h)
 
 module _ (listed : List ℕ) (safe : ℕ → Bool) (s : ImageScene) (n : NeverState) (k : ℕ) (h : Ready listed safe s n)
     (there : k < length s.flights) (long : 8 * k + 7 < length n.registers) where
+  abbrev bases : List ℕ
+  bases = bases_of s.allocations
+
   own_sound : (r : ℕ) → IsSound n (register_at n k r)
   own_sound r = h.typed.registers (8 * k + r)
 
@@ -67,7 +70,7 @@ module _ (listed : List ℕ) (safe : ℕ → Bool) (s : ImageScene) (n : NeverSt
   pub probe_leads : (header : ℕ → ℕ) → PagesShow header s n → (o : Op) (q p r l x : ℕ)
       → flight_among s.flights k ≡ flight stage.Probe o q p r l → d_of o < 8
       → is_astray (standing_at stage.Probe o) ≡ false
-      → CarriesOwn (bases_of s.allocations) n k (flight stage.Probe o q p r l)
+      → CarriesOwn bases n k (flight stage.Probe o q p r l)
       → x ≡ header (((q - 65536) / 8 + i_of o) / 64)
       → (is_unmapped_header (header_of x) ≡ true → IsAdmitted listed n k o)
       → LeadsBy safe s n k o s (progress_probe (flight stage.Probe o q p r l) x)
@@ -93,7 +96,7 @@ module _ (listed : List ℕ) (safe : ℕ → Bool) (s : ImageScene) (n : NeverSt
 
   pub read_leads : (o : Op) (q p r l x : ℕ) → flight_among s.flights k ≡ flight stage.Read o q p r l → d_of o < 8
       → is_astray (standing_at stage.Read o) ≡ false
-      → CarriesOwn (bases_of s.allocations) n k (flight stage.Read o q p r l)
+      → CarriesOwn bases n k (flight stage.Read o q p r l)
       → ProbedOwn n k (flight stage.Read o q p r l) → x ≡ slice_index s.heap ((q - 65536) / 8 + i_of o)
       → IsAdmitted listed n k o
       → LeadsBy safe s n k o s (progress_read (flight stage.Read o q p r l) o x)
@@ -110,7 +113,7 @@ module _ (listed : List ℕ) (safe : ℕ → Bool) (s : ImageScene) (n : NeverSt
       let to = reaches listed safe s n h (register_at n k q') q i IsPointer (car.q refl) (car.some_q refl)
       (own_sound q') (own_safe q') (pro refl) ad.access in
       let word = word_at n to.number to.place in
-      let value : x ≡ image_of (bases_of s.allocations) word = e ∙ ap (slice_index s.heap) to.word
+      let value : x ≡ image_of bases word = e ∙ ap (slice_index s.heap) to.word
       ∙ h.images.heap to.number to.place to.unreleased to.mapped to.inside in
       let sound = suited_is_sound n word _ to.kind (suits listed safe s n h to.number to.place to.exists to.inside) in (
         rw to.target (Owes k (flight stage.Put (op.GetPtr d q' i) q p r x) word there long (rw is) refl ld value
@@ -133,7 +136,7 @@ module _ (listed : List ℕ) (safe : ℕ → Bool) (s : ImageScene) (n : NeverSt
 
   pub write_leads : (o : Op) (q p r l : ℕ) → flight_among s.flights k ≡ flight stage.Write o q p r l
       → is_astray (standing_at stage.Write o) ≡ false
-      → CarriesOwn (bases_of s.allocations) n k (flight stage.Write o q p r l)
+      → CarriesOwn bases n k (flight stage.Write o q p r l)
       → ProbedOwn n k (flight stage.Write o q p r l) → IsAdmitted listed n k o
       → LeadsBy safe s n k o
       (record s { heap = slice_set s.heap ((q - 65536) / 8 + i_of o) (value_written (flight stage.Write o q p r l) o) })
@@ -163,7 +166,7 @@ module _ (listed : List ℕ) (safe : ℕ → Bool) (s : ImageScene) (n : NeverSt
   cas_by : (b : Bool) (o : Op) (q p r l r' a i w x : ℕ) → w ≡ (placed_at s.allocations a).base + i
       → x ≡ slice_index s.heap w → (placed_at s.allocations a).released ≡ false
       → is_unmapped (allocation_at n a) ≡ false
-      → i < length (words_of n a) → r ≡ image_of (bases_of s.allocations) (register_at n k r')
+      → i < length (words_of n a) → r ≡ image_of bases (register_at n k r')
       → Decides s n k (flight stage.Dirty o q p r l)
       → Move safe s n (record s {
         heap = slice_set s.heap w (if b then r else x);
@@ -178,7 +181,7 @@ module _ (listed : List ℕ) (safe : ℕ → Bool) (s : ImageScene) (n : NeverSt
 
   -- A compare and exchange reaches a word, and compares its value to that of its caller's register p.
   pub cas_compares : (q' i p' r' q p r l x : ℕ)
-      → CarriesOwn (bases_of s.allocations) n k (flight stage.Cas (op.CasPtr q' i p' r') q p r l)
+      → CarriesOwn bases n k (flight stage.Cas (op.CasPtr q' i p' r') q p r l)
       → ProbedOwn n k (flight stage.Cas (op.CasPtr q' i p' r') q p r l)
       → x ≡ slice_index s.heap ((q - 65536) / 8 + i) → IsAdmitted listed n k (op.CasPtr q' i p' r')
       → (to : Reaches safe s n (register_at n k q') q i IsPointer)
@@ -187,7 +190,7 @@ module _ (listed : List ℕ) (safe : ℕ → Bool) (s : ImageScene) (n : NeverSt
       let to = reaches listed safe s n h (register_at n k q') q i IsPointer (car.q refl) (car.some_q refl)
       (own_sound q') (own_safe q') (pro refl) ad.access in
       let word = word_at n to.number to.place in
-      let value : x ≡ image_of (bases_of s.allocations) word = e ∙ ap (slice_index s.heap) to.word
+      let value : x ≡ image_of bases word = e ∙ ap (slice_index s.heap) to.word
       ∙ h.images.heap to.number to.place to.unreleased to.mapped to.inside in
       let sound = suited_is_sound n word _ to.kind (suits listed safe s n h to.number to.place to.exists to.inside) in (
         to,
@@ -197,7 +200,7 @@ module _ (listed : List ℕ) (safe : ℕ → Bool) (s : ImageScene) (n : NeverSt
 
   pub cas_leads : (o : Op) (q p r l x : ℕ) → flight_among s.flights k ≡ flight stage.Cas o q p r l
       → is_astray (standing_at stage.Cas o) ≡ false
-      → CarriesOwn (bases_of s.allocations) n k (flight stage.Cas o q p r l)
+      → CarriesOwn bases n k (flight stage.Cas o q p r l)
       → ProbedOwn n k (flight stage.Cas o q p r l) → x ≡ slice_index s.heap ((q - 65536) / 8 + i_of o)
       → IsAdmitted listed n k o
       → LeadsBy safe s n k o (record s { heap = slice_set s.heap ((q - 65536) / 8 + i_of o) (if x == p then r else x) })
@@ -226,7 +229,7 @@ module _ (listed : List ℕ) (safe : ℕ → Bool) (s : ImageScene) (n : NeverSt
       → x ≡ slice_index s.globals (g_of o)
       → LeadsBy safe s n k o s (progress_getg (flight stage.Getg o q p r l) x)
   getg_leads (op.GetGlobal d g) q p r l x is ld a e =
-      let value : x ≡ image_of (bases_of s.allocations) (global_at n g) = e ∙ h.images.globals g in (
+      let value : x ≡ image_of bases (global_at n g) = e ∙ h.images.globals g in (
         Owes k (flight stage.Put (op.GetGlobal d g) q p r x) (global_at n g) there long
             (rw is) refl ld value (h.set.globals g),
         λ more. one_right _ (answer.Word x) n k (op.GetGlobal d g)
@@ -236,7 +239,7 @@ module _ (listed : List ℕ) (safe : ℕ → Bool) (s : ImageScene) (n : NeverSt
 
   pub setg_leads : (o : Op) (q p r l : ℕ) → flight_among s.flights k ≡ flight stage.Setg o q p r l
       → is_astray (standing_at stage.Setg o) ≡ false
-      → CarriesOwn (bases_of s.allocations) n k (flight stage.Setg o q p r l)
+      → CarriesOwn bases n k (flight stage.Setg o q p r l)
       → g_of o < length s.globals → g_of o < length n.globals
       → LeadsBy safe s n k o (record s { globals = slice_set s.globals (g_of o) p })
       (onward (flight stage.Setg o q p r l) (Some answer.Done))

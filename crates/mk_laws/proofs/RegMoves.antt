@@ -81,14 +81,17 @@ lea_value listed safe s n h (Ptr a t o) x i sound is e ne meets =
 module _ (listed : List ℕ) (safe : ℕ → Bool) (s : ImageScene) (n : NeverState) (k : ℕ) (h : Ready listed safe s n)
     (there : k < length s.flights) (long : 8 * k + 7 < length n.registers) (longs : 8 * k + 7 < length s.registers)
   where
-    null_at : (q x : ℕ) → x ≡ image_of (bases_of s.allocations) (register_at n k q) → (x == 0) ≡ true
+    abbrev bases : List ℕ
+    bases = bases_of s.allocations
+
+    null_at : (q x : ℕ) → x ≡ image_of bases (register_at n k q) → (x == 0) ≡ true
         → register_at n k q ≡ Null
     null_at q x e z = image_zero n _ (register_at n k q) (h.typed.registers (8 * k + q)) (sym e ∙ eqb-true x 0 z)
 
     -- an access loads its pointer, or is refused
     load_q : (o : Op) (q p r l x : ℕ) → accesses o ≡ true → flight_among s.flights k ≡ flight stage.LoadQ o q p r l
         → d_of o < 8
-        → x ≡ image_of (bases_of s.allocations) (register_at n k (q_of o))
+        → x ≡ image_of bases (register_at n k (q_of o))
         → LeadsBy safe s n k o s (if x == 0 then refused (flight stage.LoadQ o x p r l) answer.Null
         else onward (flight stage.LoadQ o x p r l) None)
     load_q o q p r l x access is ld e =
@@ -103,8 +106,8 @@ module _ (listed : List ℕ) (safe : ℕ → Bool) (s : ImageScene) (n : NeverSt
 
     reg_q : (o : Op) (q p r l x : ℕ) → flight_among s.flights k ≡ flight stage.LoadQ o q p r l → d_of o < 8
         → is_astray (standing_at stage.LoadQ o) ≡ false
-        → CarriesOwn (bases_of s.allocations) n k (flight stage.LoadQ o q p r l)
-        → x ≡ image_of (bases_of s.allocations) (register_at n k (q_of o))
+        → CarriesOwn bases n k (flight stage.LoadQ o q p r l)
+        → x ≡ image_of bases (register_at n k (q_of o))
         → LeadsBy safe s n k o s (progress_q (flight stage.LoadQ o q p r l) o x)
     reg_q (op.GetNum q' i) q p r l x is ld a car e = load_q (op.GetNum q' i) q p r l x refl is ld e
     reg_q (op.SetNum q' i m) q p r l x is ld a car e = load_q (op.SetNum q' i m) q p r l x refl is ld e
@@ -124,7 +127,7 @@ module _ (listed : List ℕ) (safe : ℕ → Bool) (s : ImageScene) (n : NeverSt
     reg_q (op.Same p' q') q p r l x is ld a car e =
         let u = register_at n k p' in
         let v = register_at n k q' in
-        let ep : p ≡ image_of (bases_of s.allocations) u = car.p refl in
+        let ep : p ≡ image_of bases u = car.p refl in
         let tests : (p == x) ≡ is_same u v =
         rw ep (rw e (image_test listed safe s n h u v (h.typed.registers (8 * k + p')) (h.typed.registers (8 * k + q'))
         (h.set.registers (8 * k + p')) (h.set.registers (8 * k + q')))) in
@@ -134,8 +137,8 @@ module _ (listed : List ℕ) (safe : ℕ → Bool) (s : ImageScene) (n : NeverSt
 
     reg_p : (o : Op) (q p r l x : ℕ) → flight_among s.flights k ≡ flight stage.LoadP o q p r l
         → is_astray (standing_at stage.LoadP o) ≡ false
-        → CarriesOwn (bases_of s.allocations) n k (flight stage.LoadP o q p r l)
-        → x ≡ image_of (bases_of s.allocations) (register_at n k (p_of o))
+        → CarriesOwn bases n k (flight stage.LoadP o q p r l)
+        → x ≡ image_of bases (register_at n k (p_of o))
         → LeadsBy safe s n k o s (progress_p (flight stage.LoadP o q p r l) o x)
     reg_p (op.SetPtr q' i p') q p r l x is a car e =
         flies_on safe s n k (op.SetPtr q' i p') _ (rw is) refl
@@ -168,8 +171,8 @@ module _ (listed : List ℕ) (safe : ℕ → Bool) (s : ImageScene) (n : NeverSt
 
     reg_r : (o : Op) (q p r l x : ℕ) → flight_among s.flights k ≡ flight stage.LoadR o q p r l
         → is_astray (standing_at stage.LoadR o) ≡ false
-        → CarriesOwn (bases_of s.allocations) n k (flight stage.LoadR o q p r l)
-        → x ≡ image_of (bases_of s.allocations) (register_at n k (r_of o))
+        → CarriesOwn bases n k (flight stage.LoadR o q p r l)
+        → x ≡ image_of bases (register_at n k (r_of o))
         → LeadsBy safe s n k o s (onward (record (flight stage.LoadR o q p r l) { r = x }) None)
     reg_r (op.CasPtr q' i p' r') q p r l x is a car e =
         flies_on safe s n k (op.CasPtr q' i p' r') (flight stage.Probe (op.CasPtr q' i p' r') q p x l) (rw is) refl
@@ -184,7 +187,7 @@ module _ (listed : List ℕ) (safe : ℕ → Bool) (s : ImageScene) (n : NeverSt
 
     reg_store : (o : Op) (q p r l : ℕ) → flight_among s.flights k ≡ flight stage.Store o q p r l → d_of o < 8
         → is_astray (standing_at stage.Store o) ≡ false
-        → CarriesOwn (bases_of s.allocations) n k (flight stage.Store o q p r l)
+        → CarriesOwn bases n k (flight stage.Store o q p r l)
         → AreAdmitted listed n (asked (entry_of k o (Some answer.Done)))
         → LeadsBy safe s n k o
         (record s { registers = slice_set s.registers (8 * k + d_of o) (value_for (flight stage.Store o q p r l) o) })

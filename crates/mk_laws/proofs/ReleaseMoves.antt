@@ -25,8 +25,11 @@ is_number_kind (To t o) h = cc
 module _ (c : Config) (w : World) (n : NeverState) (known : KnownWorld c w) (mirrors : Mirrors c w n) (safe : ℕ
     → Bool) (ready : Ready c.globals safe (image_scene_of w) n) (st : Stands c w.now.words w.allocations)
     (marks : MarksAreClosed c w) (plain : (j : ℕ) → is_put (flight_among w.now.seats.flights j).stage ≡ false) where
+  abbrev placed : ℕ → PlacedAllocation
+  placed i = placed_at w.allocations i
+
   abbrev cut : ℕ → Bool
-  cut a = safe a && is_marked w.now.words (cell_of_allocation c (placed_at w.allocations a))
+  cut a = safe a && is_marked w.now.words (cell_of_allocation c (placed a))
 
   value_cut : (v : Value) → IsSound n v → IsSafe safe v
       → points_well c.pages w.now.words (image_of (bases_of w.allocations) v) ≡ true → IsSafe cut v
@@ -45,21 +48,21 @@ module _ (c : Config) (w : World) (n : NeverState) (known : KnownWorld c w) (mir
       → IsSound n v → IsSafe safe v → IsSafe cut v
   root_cut x v well e sound is = value_cut v sound is (rw e at well)
 
-  some_words : (a : ℕ) → (placed_at w.allocations a).released ≡ false → 0 < storage_words c (placed_at w.allocations a)
+  some_words : (a : ℕ) → (placed a).released ≡ false → 0 < storage_words c (placed a)
   some_words a u =
       let lt = exists_placed w.allocations a u in
-      let holds = storage_holds c (placed_at w.allocations a) known.limits (type_is c w n known mirrors a lt) in
+      let holds = storage_holds c (placed a) known.limits (type_is c w n known mirrors a lt) in
       holds.1.0
 
-  base_cell_is : (a : ℕ) → (placed_at w.allocations a).released ≡ false
-      → pointed_cell c.pages w.now.words.pages (address_of (placed_at w.allocations a).base)
-      ≡ Some (cell_of_allocation c (placed_at w.allocations a))
+  base_cell_is : (a : ℕ) → (placed a).released ≡ false
+      → pointed_cell c.pages w.now.words.pages (address_of (placed a).base)
+      ≡ Some (cell_of_allocation c (placed a))
   base_cell_is a u =
-      let same : address_of (placed_at w.allocations a).base ≡ address_of ((placed_at w.allocations a).base + 0) =
+      let same : address_of (placed a).base ≡ address_of ((placed a).base + 0) =
       omega arith in
       ap (pointed_cell c.pages w.now.words.pages) same ∙ st.cell a 0 u (some_words a u)
 
-  word_cut : (a i : ℕ) → safe a ≡ true → is_marked w.now.words (cell_of_allocation c (placed_at w.allocations a)) ≡ true
+  word_cut : (a i : ℕ) → safe a ≡ true → is_marked w.now.words (cell_of_allocation c (placed a)) ≡ true
       → is_unmapped (allocation_at n a) ≡ false
       → IsSafe cut (word_at n a i)
   word_cut a i sa marked mapped = elim (cases_lt i (length (words_of n a))) [
@@ -70,17 +73,17 @@ module _ (c : Config) (w : World) (n : NeverState) (known : KnownWorld c w) (mir
         let count = mirrors.twins.count in
         let typed : IsTypedAllocation n (allocation_at n a) = mirrors.typed.allocations a (omega arith) in
         let un = sym (unmapped_is c w n known mirrors a lt) ∙ mapped in
-        elim (cases_Bool (is_leaf (kinds_of c.types (placed_at w.allocations a).ty))) [
+        elim (cases_Bool (is_leaf (kinds_of c.types (placed a).ty))) [
           | inl leaf ↦ number_cut (word_at n a i) _ (typed.words i li) (is_number_kind _ (rw mirrors.types
               (rw (mirrors.twins.ty a lt) at
-              (list_all-at is_number (kinds_of c.types (placed_at w.allocations a).ty) Number leaf refl i))))
+              (list_all-at is_number (kinds_of c.types (placed a).ty) Number leaf refl i))))
           | inr pointers ↦
               let fits = words_fit c w n known mirrors a lt in
-              let scanned : is_scanned_allocation c (placed_at w.allocations a) ≡ true =
+              let scanned : is_scanned_allocation c (placed a) ≡ true =
               rw u (rw un (ap not pointers)) in
-              let is_marked_here : is_marked_allocation c w.now.words (placed_at w.allocations a) ≡ true =
+              let is_marked_here : is_marked_allocation c w.now.words (placed a) ≡ true =
               rw (base_cell_is a u) marked in
-              let well = marks.words a ((placed_at w.allocations a).base + i) scanned is_marked_here
+              let well = marks.words a ((placed a).base + i) scanned is_marked_here
               (omega arith, omega arith) in
               suited_cut (word_at n a i) _ (typed.words i li) (ready.set.closed a i sa mapped)
               (rw (ready.images.heap a i u mapped li) at well)
@@ -114,13 +117,13 @@ module _ (c : Config) (w : World) (n : NeverState) (known : KnownWorld c w) (mir
         globals = λ g. root_cut (slice_index w.now.words.globals g) (global_at n g) (marks.globals g)
             (ready.images.globals g) (mirrors.typed.globals g) (ready.set.globals g);
         closed = λ a i ka mapped. let parts =
-            and_parts (safe a) (is_marked w.now.words (cell_of_allocation c (placed_at w.allocations a))) ka in word_cut
+            and_parts (safe a) (is_marked w.now.words (cell_of_allocation c (placed a))) ka in word_cut
             a i parts.0 parts.1 mapped;
         unreleased = λ a ka.
-            let parts = and_parts (safe a) (is_marked w.now.words (cell_of_allocation c (placed_at w.allocations a))) ka
+            let parts = and_parts (safe a) (is_marked w.now.words (cell_of_allocation c (placed a))) ka
             in
             let u = ready.set.unreleased a parts.0 in
-            let x = placed_at w.allocations a in
+            let x = placed a in
             let cell = cell_of_allocation c x in
             ap (λ (y : PlacedAllocation). y.released) (changed_at (with_released c w.now.words) w.allocations a refl)
             ∙ ap (λ b. b || is_some_and (is_left_unmarked w.now.words)
@@ -135,7 +138,7 @@ module _ (c : Config) (w : World) (n : NeverState) (known : KnownWorld c w) (mir
   pub releases : Move safe (image_scene_of w) n
       (record (image_scene_of w) { allocations = map (with_released c w.now.words) w.allocations }) n
   releases =
-      Releases (map (with_released c w.now.words) w.allocations)
+      Releases cut_allocations
       (same_places (with_released c w.now.words) w.allocations (released_leaves c w.now.words)) (λ a u. (or_parts _ _
       (ap (λ (y : PlacedAllocation). y.released)
       (sym (changed_at (with_released c w.now.words) w.allocations a refl)) ∙ u)).0)

@@ -71,7 +71,7 @@ module _ (c : Config) (es : List Event) (h : IsHistory c es) (begin : At is_begi
   since : left c es ≡ left_from c (left c begin.before) (begin.event ∷ begin.behind)
   since = at_event c es is_begin begin
 
-  phase : IsUnreleased (phase_of (left c es).now.words)
+  phase : IsUnreleased (phase_of w.now.words)
   unfolding left_from
   phase =
       let on = enabled_at c es is_begin begin h in

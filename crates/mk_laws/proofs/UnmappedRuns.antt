@@ -79,20 +79,19 @@ module _ (c : Config) (w : World) (n : NeverState) (known : KnownWorld c w) (all
   a = placed_at w.allocations x.number
 
   abbrev o : Object
-  o = object_placed c (placed_at w.allocations x.number)
+  o = object_placed c a
 
-  gone : ((placed_at w.allocations x.number).freed && not (is_small_object (object_placed c
-      (placed_at w.allocations x.number)))) ≡ true
+  gone : (a.freed && not (is_small_object o)) ≡ true
   gone = not_false (a.freed && not (is_small_object o)) (sym (gone_is c a x.unreleased) ∙ x.freed)
 
-  large : is_small_object (object_placed c (placed_at w.allocations x.number)) ≡ false
+  large : is_small_object o ≡ false
   large = not-true (is_small_object o) (and_parts a.freed (not (is_small_object o)) gone).1
 
   -- how far the page is after the first one
   record OnRun : Type 0 where
     distance : ℕ
-    near : distance < pages_made (object_placed c (placed_at w.allocations x.number))
-    there : (placed_at w.allocations x.number).base / 64 + distance ≡ p
+    near : distance < pages_made o
+    there : a.base / 64 + distance ≡ p
 
   on_run : OnRun
   on_run =
@@ -102,12 +101,12 @@ module _ (c : Config) (w : World) (n : NeverState) (known : KnownWorld c w) (all
       let page = x.page in
       record { distance = p - a.base / 64; near = omega arith; there = omega arith }
 
-  sized_shown : IsShown w.now.words.pages (claim_of c w.now.seats.holding.freed (placed_at w.allocations x.number))
+  sized_shown : IsShown w.now.words.pages (claim_of c w.now.seats.holding.freed a)
   sized_shown = shown_claim c w known all.order.laid x.number x.unreleased
 
   -- by the call under way, or by an earlier one
   header_there : header_at w.now.words p
-      ≡ unmapped_header (pages_made (object_placed c (placed_at w.allocations x.number))) on_run.distance
+      ≡ unmapped_header (pages_made o) on_run.distance
   header_there = elim (cases_Bool (is_unmapping w.now.seats.holding.freed (a.base / 64))) [
     | inr other ↦ by w.now.seats.holding.freed other (sized_shown.headers on_run.distance on_run.near)
     | inl going ↦
@@ -121,17 +120,17 @@ module _ (c : Config) (w : World) (n : NeverState) (known : KnownWorld c w) (all
   ]
     where
       page_of_run : (freed : Option RunPages) (run : RunPages) → freed ≡ Some run
-          → is_unmapping freed ((placed_at w.allocations x.number).base / 64) ≡ true
-          → run.page ≡ (placed_at w.allocations x.number).base / 64
+          → is_unmapping freed (a.base / 64) ≡ true
+          → run.page ≡ a.base / 64
       page_of_run freed run is going =
           eqb-true run.page (a.base / 64) (ap (λ (y : Option RunPages). is_unmapping y (a.base / 64)) (sym is) ∙ going)
 
-      by : (freed : Option RunPages) → is_unmapping freed ((placed_at w.allocations x.number).base / 64) ≡ false
-          → HasHeader (claim_of c freed (placed_at w.allocations x.number)).mode
-          (object_placed c (placed_at w.allocations x.number)) on_run.distance
-          (header_at w.now.words ((placed_at w.allocations x.number).base / 64 + on_run.distance))
+      by : (freed : Option RunPages) → is_unmapping freed (a.base / 64) ≡ false
+          → HasHeader (claim_of c freed a).mode
+          o on_run.distance
+          (header_at w.now.words (a.base / 64 + on_run.distance))
           → header_at w.now.words p
-          ≡ unmapped_header (pages_made (object_placed c (placed_at w.allocations x.number))) on_run.distance
+          ≡ unmapped_header (pages_made o) on_run.distance
       by freed other has =
           ap (λ q. header_at w.now.words q) (sym on_run.there)
           ∙ unmapped_mode (a.freed && not (is_small_object o)) _ o on_run.distance _ gone other has

@@ -44,41 +44,44 @@ part_count o x d (OfLeafRun first large leaf) lt = (large, lt)
 part_count o x d (OfLater mapped some large) lt = absurd (omega arith)
 
 module _ (c : Config) (w : World) (n : NeverState) (t : Told c w n) where
+  abbrev placed : ℕ → PlacedAllocation
+  placed i = placed_at w.allocations i
+
   others : images.ImagePremises c w
   others = told_to_images c w n t.known t.all
 
-  pub stands : (b : ℕ) → (placed_at w.allocations b).released ≡ false → StandsOnHeap c (placed_at w.allocations b)
+  pub stands : (b : ℕ) → (placed b).released ≡ false → StandsOnHeap c (placed b)
   stands b u = (others.laid_out b u).stands
 
-  pub headers : (b : ℕ) → (placed_at w.allocations b).released ≡ false
-      → HasItsHeaders c w.now.words (placed_at w.allocations b)
+  pub headers : (b : ℕ) → (placed b).released ≡ false
+      → HasItsHeaders c w.now.words (placed b)
   headers b u = (others.laid_out b u).headers
 
-  pub sized : (b : ℕ) → (placed_at w.allocations b).released ≡ false
-      → IsSized (object_placed c (placed_at w.allocations b))
-  sized b u = typed_size c (placed_at w.allocations b) t.known.limits (stands b u).typed
+  pub sized : (b : ℕ) → (placed b).released ≡ false
+      → IsSized (object_placed c (placed b))
+  sized b u = typed_size c (placed b) t.known.limits (stands b u).typed
 
   -- What points into an allocation's storage points into its cell,
-  pub hits : (b v : ℕ) → (placed_at w.allocations b).released ≡ false
-      → PointsInto v (storage_of c (placed_at w.allocations b))
-      → pointed_cell c.pages w.now.words.pages v ≡ Some (cell_of_allocation c (placed_at w.allocations b))
+  pub hits : (b v : ℕ) → (placed b).released ≡ false
+      → PointsInto v (storage_of c (placed b))
+      → pointed_cell c.pages w.now.words.pages v ≡ Some (cell_of_allocation c (placed b))
   hits b v u into = pointers_hit c w.now.words _ t.known.limits (stands b u) (headers b u) v into
 
-  first_part : (b : ℕ) → (placed_at w.allocations b).released ≡ false
-      → ShowsPart (object_placed c (placed_at w.allocations b)) 0
-      (header_in w.now.words ((placed_at w.allocations b).base / 64))
-  first_part b u = first_page_shows c w.now.words (placed_at w.allocations b) (sized b u) (headers b u)
+  first_part : (b : ℕ) → (placed b).released ≡ false
+      → ShowsPart (object_placed c (placed b)) 0
+      (header_in w.now.words ((placed b).base / 64))
+  first_part b u = first_page_shows c w.now.words (placed b) (sized b u) (headers b u)
 
   -- and back.
-  pub comes_back : IsMarking w.now.words → (b v : ℕ) → (placed_at w.allocations b).released ≡ false
-      → pointed_cell c.pages w.now.words.pages v ≡ Some (cell_of_allocation c (placed_at w.allocations b))
-      → PointsInto v (storage_of c (placed_at w.allocations b))
+  pub comes_back : IsMarking w.now.words → (b v : ℕ) → (placed b).released ≡ false
+      → pointed_cell c.pages w.now.words.pages v ≡ Some (cell_of_allocation c (placed b))
+      → PointsInto v (storage_of c (placed b))
   comes_back early b v u is =
       pointers_come_back c w.now.words a t.known.limits (stands b u) (headers b u) v
       (by to.header to.shown to.lies.head) is
     where
       a : PlacedAllocation
-      a = placed_at w.allocations b
+      a = placed b
 
       storage : IsStorage c.pages (storage_of c a)
       storage = standing_has_storage c a t.known.limits (stands b u)
@@ -116,12 +119,12 @@ module _ (c : Config) (w : World) (n : NeverState) (t : Told c w n) where
           ]
 
   -- Where its page's header is scanned, an allocation isn't leaf.
-  pub not_leaf : (a : ℕ) → (placed_at w.allocations a).released ≡ false
-      → has_no_pointers (header_in w.now.words ((placed_at w.allocations a).base / 64)) ≡ false
-      → (storage_of c (placed_at w.allocations a)).leaf ≡ false
+  pub not_leaf : (a : ℕ) → (placed a).released ≡ false
+      → has_no_pointers (header_in w.now.words ((placed a).base / 64)) ≡ false
+      → (storage_of c (placed a)).leaf ≡ false
   not_leaf a u scanned =
-      let o : Object = object_placed c (placed_at w.allocations a) in
-      let x : Option Header = header_in w.now.words ((placed_at w.allocations a).base / 64) in
+      let o : Object = object_placed c (placed a) in
+      let x : Option Header = header_in w.now.words ((placed a).base / 64) in
       (or_parts o.leaf _ (sym (part_has_no_pointers o x (first_part a u)) ∙ scanned)).0
 
   -- A word that isn't 0 is held, while a cycle marks.
@@ -130,13 +133,13 @@ module _ (c : Config) (w : World) (n : NeverState) (t : Told c w n) where
     where
       by : MayHoldWords c w x → IsHeld c w x
       by (OfMapped i mapped word) =
-          record { number = i; unreleased = mapped_stays c (placed_at w.allocations i) mapped; word = word }
+          record { number = i; unreleased = mapped_stays c (placed i) mapped; word = word }
       by (OfReleased cell pointed released) =
           let four = (and_parts (is_phase w.now.words 4) (is_left_unmarked w.now.words cell) released).0 in
           absurd (not_four (phase_of w.now.words) early (eqb-true (phase_of w.now.words) 4 four))
       by (OfFreedRun run there inside) =
           let f = others.freed_run run there in
-          let a : PlacedAllocation = placed_at w.allocations f.number in
+          let a : PlacedAllocation = placed f.number in
           let page : run.page ≡ a.base / 64 = ap (λ (r : RunPages). r.page) f.is in
           let count : run.count ≡ pages_made (object_placed c a) = ap (λ (r : RunPages). r.count) f.is in
           let parts = and_parts (nat_le run.page (x / 64)) (nat_lt (x / 64 - run.page) run.count) inside in
