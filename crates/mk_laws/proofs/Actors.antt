@@ -1,10 +1,9 @@
 -- Whose step an event is: a caller's in its call, a marker's, one that takes the turn, or the holder's.
-use Rattle.std.proofs.Common.{◌≡◌, ◌≢◌, ℕ, ◌+◌, ◌<◌, Bool, true, false, refl, sym, ◌∙◌, ap, inl, inr}
-use Rattle.std.specs.Prelude.{Some, None, ◌&&◌}
-use Rattle.std.proofs.lemmas.Bool.{cases_Bool, ltb-true, eqb-true, eqb-false, not-true, and_parts}
-use Rattle.mk_laws.proofs.Vocabulary.{Caller, Config, Flight, Host, Marker, MeetsAll, Moment, Op, Seat, Stage, Step}
-use Rattle.mk_laws.proofs.Vocabulary.{comes_next, flight_of, group_of, host_has_turn, is_new_at, is_of_turn}
-use Rattle.mk_laws.proofs.Vocabulary.{is_open_to, is_phase, is_undecided_new, is_under_turn}
+use Rattle.mk_laws.proofs.Vocabulary.{Bool, Caller, Config, Flight, Host, Marker, MeetsAll, Moment, None, Op, Seat}
+use Rattle.mk_laws.proofs.Vocabulary.{Some, Stage, Step, and_parts, ap, cases_Bool, comes_next, eqb-false, eqb-true}
+use Rattle.mk_laws.proofs.Vocabulary.{false, flight_of, group_of, host_has_turn, inl, inr, is_new_at, is_of_turn}
+use Rattle.mk_laws.proofs.Vocabulary.{is_open_to, is_phase, is_undecided_new, is_under_turn, ltb-true, not-true, refl}
+use Rattle.mk_laws.proofs.Vocabulary.{sym, true, ℕ, ◌&&◌, ◌+◌, ◌<◌, ◌∙◌, ◌≡◌, ◌≢◌}
 use Rattle.mk_never.specs.declared.operations.Op.TheVariants as op
 use Rattle.mk_core.specs.declared.events.Step.TheVariants as step
 use Rattle.mk_core.specs.declared.events.Group.{Group}

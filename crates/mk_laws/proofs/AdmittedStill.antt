@@ -1,10 +1,8 @@
 -- An operation that is admitted stays so, whatever others call.
-use Rattle.std.proofs.Common.{List, ap, length, subst, sym, ℕ, ◌*◌, ◌+◌, ◌<◌, ◌∙◌, ◌≡◌}
-use Rattle.std.specs.Prelude.{IfSome, None, Option, Some, slice_get, slice_index_or}
-use Rattle.mk_laws.proofs.Vocabulary.{AccessIsAdmitted, Answer, AreAdmitted, Continues, IsAdmitted, IsNumber}
-use Rattle.mk_laws.proofs.Vocabulary.{IsPointer, IsSound, IsTyped, KeepsRegisters, Kind, Meets, NeverState, Number}
-use Rattle.mk_laws.proofs.Vocabulary.{Op, Ptr, To, Value, allocation_at, asked, entry_of, flagged, kinds_of}
-use Rattle.mk_laws.proofs.Vocabulary.{register_at}
+use Rattle.mk_laws.proofs.Vocabulary.{AccessIsAdmitted, Answer, AreAdmitted, Continues, IsAdmitted, IsNumber, IsPointer}
+use Rattle.mk_laws.proofs.Vocabulary.{IsSound, IsTyped, KeepsRegisters, Kind, List, Meets, NeverState, None, Number, Op}
+use Rattle.mk_laws.proofs.Vocabulary.{Option, Ptr, Some, Value, allocation_at, ap, asked, entry_of, flagged, kinds_of}
+use Rattle.mk_laws.proofs.Vocabulary.{register_at, slice_index_or, subst, sym, ℕ, ◌*◌, ◌+◌, ◌<◌, ◌∙◌, ◌≡◌}
 use Rattle.mk_never.specs.declared.operations.Op.TheVariants as op
 use Rattle.mk_never.specs.Admitted.{IsBase, IsOfKind, OperandsAreInRange, StoreIsAdmitted}
 

@@ -1,24 +1,25 @@
 -- The storages of unreleased allocations lie apart, where nothing is on its way.
-use Rattle.std.proofs.Common.{Bool, List, ap, arith, false, get_or, inl, inr, le_refl, length, refl, suc, sym, true, []}
-use Rattle.std.proofs.Common.{zero, ℕ, ◌%◌, ◌*◌, ◌+◌, ◌-◌, ◌/◌, ◌<◌, ◌∙◌, ◌∷◌, ◌≡◌, ◌≢◌, ◌≤◌, ◌⊎◌}
-use Rattle.std.specs.Prelude.{None, Option}
-use Rattle.std.proofs.lemmas.Bool.{cases_Bool, cases_eq, cases_lt, cases_order, true≢false}
+use Rattle.std.proofs.Common.{le_refl}
+use Rattle.std.proofs.lemmas.Bool.{cases_order}
 use Rattle.std.proofs.lemmas.List.Elements.{Contains-get_or}
-use Rattle.std.proofs.lemmas.Nat.{mul-le}
-use Rattle.mk_laws.proofs.Vocabulary.{BeginsAtCell, Cell, Config, Header, IsSized, IsWithinLimits, Object, OfBlock}
-use Rattle.mk_laws.proofs.Vocabulary.{OfLater, OfLeafBlock, OfLeafRun, OfRun, PlacedAllocation, ShowsPart, Storage}
-use Rattle.mk_laws.proofs.Vocabulary.{Words, cell_of_allocation, class_made, class_words_of, header_in, is_small}
-use Rattle.mk_laws.proofs.Vocabulary.{is_small_object, object_placed, pages_made, placed_at, stands_on, storage_of}
-use Rattle.mk_laws.proofs.Vocabulary.{storage_words, unreleased_storage}
+use Rattle.mk_laws.proofs.Vocabulary.{AreApart, BeginsAtCell, Bool, Cell, Claim, Config, Header, IsAtCell, IsLaidOn}
+use Rattle.mk_laws.proofs.Vocabulary.{IsOfOneCell, IsShown, IsSized, IsWithinLimits, LayoutScene, List, NoPlot, None}
+use Rattle.mk_laws.proofs.Vocabulary.{Object, OfBlock, OfLater, OfLeafBlock, OfLeafRun, OfRun, Option, PlacedAllocation}
+use Rattle.mk_laws.proofs.Vocabulary.{ShowsPart, Storage, Words, [], ap, arith, cases_Bool, cases_eq, cases_lt}
+use Rattle.mk_laws.proofs.Vocabulary.{cell_of_allocation, claim_of, claims_of, class_made, class_words_of, false}
+use Rattle.mk_laws.proofs.Vocabulary.{first_page_shows, get_or, header_in, inl, inr, is_small, is_small_object, length}
+use Rattle.mk_laws.proofs.Vocabulary.{mul-le, object_placed, pages_made, pages_some, placed_at, refl, small_pages}
+use Rattle.mk_laws.proofs.Vocabulary.{small_words, stands_on, storage_is_of, storage_of, storage_words, suc, sym, true}
+use Rattle.mk_laws.proofs.Vocabulary.{true≢false, unreleased_storage, words_within, zero, ℕ, ◌%◌, ◌*◌, ◌+◌, ◌-◌, ◌/◌}
+use Rattle.mk_laws.proofs.Vocabulary.{◌<◌, ◌∙◌, ◌∷◌, ◌≡◌, ◌≢◌, ◌≤◌, ◌⊎◌}
+use Rattle.mk_laws.proofs.Basics.{IsStanding, claim_among, ends_on_pages}
 use Rattle.mk_geom.specs.Storages.{LieApart}
 use Rattle.mk_geom.proofs.Standing.{stands_parts}
-use Rattle.mk_core.proofs.Sizes.{pages_some, small_pages, small_words, words_are_small, words_within}
-use Rattle.mk_core.proofs.StandingAllocations.{first_page_shows, placed_cell}
-use Rattle.mk_core.proofs.UnreleasedStorage.{released_front, storage_is_of, unreleased_front}
-use Rattle.mk_laws.specs.LayoutScene.{AreApart, Claim, IsLaidOn, IsOfOneCell, IsShown, NoPlot, LayoutScene}
-use Rattle.mk_laws.specs.Terrain.{IsAtCell, claim_of, claims_of}
-use Rattle.mk_laws.proofs.Claims.{claim_among, front, gone_front}
-use Rattle.mk_laws.proofs.StandingClaims.{IsStanding, ends_on_pages, stands_there}
+use Rattle.mk_core.proofs.Sizes.{words_are_small}
+use Rattle.mk_core.proofs.StandingAllocations.{placed_cell}
+use Rattle.mk_core.proofs.UnreleasedStorage.{released_front, unreleased_front}
+use Rattle.mk_laws.proofs.Claims.{front, gone_front}
+use Rattle.mk_laws.proofs.StandingClaims.{stands_there}
 use Rattle.mk_laws.proofs.Unmapping.{shares_run}
 
 -- a scene in which nothing is on its way: no place, no run, no released cell
@@ -105,104 +106,104 @@ pub small_is : (c : Config) (a : PlacedAllocation) → IsSized (object_placed c 
 small_is c a sized = words_are_small (object_placed c a) sized
 
 -- two of them lie apart
-pub lie_apart : (c : Config) (w : Words) (xs : List PlacedAllocation) (i j : ℕ) → Rests c w xs
-    → (placed_at xs i).released ≡ false → (placed_at xs j).released ≡ false
-    → (IsOfOneCell (claim_of c None (placed_at xs i)) (claim_of c None (placed_at xs j)) → ⊥)
-    → LieApart (storage_of c (placed_at xs i)) (storage_of c (placed_at xs j))
-lie_apart c w xs i j r u v other =
-    by (is_small_object (object_placed c (placed_at xs i))) refl (is_small_object (object_placed c (placed_at xs j)))
-    refl
-  where
-    a : PlacedAllocation
-    a = placed_at xs i
+module _ (c : Config) (w : Words) (xs : List PlacedAllocation) (i j : ℕ) (r : Rests c w xs)
+    (u : (placed_at xs i).released ≡ false) (v : (placed_at xs j).released ≡ false)
+    (other : (IsOfOneCell (claim_of c None (placed_at xs i)) (claim_of c None (placed_at xs j)) → ⊥)) where
+  abbrev b : PlacedAllocation
+  b = placed_at xs j
 
-    b : PlacedAllocation
-    b = placed_at xs j
+  abbrev a : PlacedAllocation
+  a = placed_at xs i
 
-    sa : IsShown w.pages (claim_of c None (placed_at xs i))
-    sa = shown_of c w xs i r u
+  sa : IsShown w.pages (claim_of c None a)
+  sa = shown_of c w xs i r u
 
-    sb : IsShown w.pages (claim_of c None (placed_at xs j))
-    sb = shown_of c w xs j r v
+  sb : IsShown w.pages (claim_of c None b)
+  sb = shown_of c w xs j r v
 
-    ba : BeginsAtCell (object_placed c (placed_at xs i)) (placed_at xs i).base
-    ba = (r.cells i u).begins
+  ba : BeginsAtCell (object_placed c a) a.base
+  ba = (r.cells i u).begins
 
-    bb : BeginsAtCell (object_placed c (placed_at xs j)) (placed_at xs j).base
-    bb = (r.cells j v).begins
+  bb : BeginsAtCell (object_placed c b) b.base
+  bb = (r.cells j v).begins
 
-    -- where they share no page
-    far : ((d e : ℕ) → d < pages_made (object_placed c (placed_at xs i))
-        → e < pages_made (object_placed c (placed_at xs j))
-        → (placed_at xs i).base / 64 + d ≢ (placed_at xs j).base / 64 + e)
-        → LieApart (storage_of c (placed_at xs i)) (storage_of c (placed_at xs j))
-    far none =
-        let pa = pages_some (object_placed c a) sa.sized in
-        let pb = pages_some (object_placed c b) sb.sized in
-        let ha : a.base + storage_words c a ≤ 64 * (a.base / 64 + pages_made (object_placed c a)) =
-        ends_on_pages (object_placed c a) a.base sa.sized ba in
-        let hb : b.base + storage_words c b ≤ 64 * (b.base / 64 + pages_made (object_placed c b)) =
-        ends_on_pages (object_placed c b) b.base sb.sized bb in
-        record {
-          apart = elim (cases_lt (b.base / 64) (a.base / 64 + pages_made (object_placed c a))) [
-            | inr ge ↦ inl (omega arith)
-            | inl lt ↦ elim (cases_lt (a.base / 64) (b.base / 64 + pages_made (object_placed c b))) [
-              | inr ge ↦ inr (omega arith)
-              | inl lt2 ↦ absurd (elim (cases_lt (a.base / 64) (b.base / 64)) [
-                | inl less ↦ none (b.base / 64 - a.base / 64) 0 (omega arith) (omega arith) (omega arith)
-                | inr more ↦ none 0 (a.base / 64 - b.base / 64) (omega arith) (omega arith) (omega arith)
-              ])
-            ]
-          ];
-          alike = λ p ha2 hb2.
-              let ra = on_its_pages c a p sa.sized ba ha2 in
-              let rb = on_its_pages c b p sb.sized bb hb2 in
-              let a0 = ra.0 in
-              let a1 = ra.1 in
-              let b0 = rb.0 in
-              let b1 = rb.1 in
-              absurd (none (p - a.base / 64) (p - b.base / 64) (omega arith) (omega arith) (omega arith));
-        }
+  -- where they share no page
+  far : ((d e : ℕ) → d < pages_made (object_placed c a)
+      → e < pages_made (object_placed c b)
+      → a.base / 64 + d ≢ b.base / 64 + e)
+      → LieApart (storage_of c a) (storage_of c b)
+  far none =
+      let pa = pages_some (object_placed c a) sa.sized in
+      let pb = pages_some (object_placed c b) sb.sized in
+      let ha : a.base + storage_words c a ≤ 64 * (a.base / 64 + pages_made (object_placed c a)) =
+      ends_on_pages (object_placed c a) a.base sa.sized ba in
+      let hb : b.base + storage_words c b ≤ 64 * (b.base / 64 + pages_made (object_placed c b)) =
+      ends_on_pages (object_placed c b) b.base sb.sized bb in
+      record {
+        apart = elim (cases_lt (b.base / 64) (a.base / 64 + pages_made (object_placed c a))) [
+          | inr ge ↦ inl (omega arith)
+          | inl lt ↦ elim (cases_lt (a.base / 64) (b.base / 64 + pages_made (object_placed c b))) [
+            | inr ge ↦ inr (omega arith)
+            | inl lt2 ↦ absurd (elim (cases_lt (a.base / 64) (b.base / 64)) [
+              | inl less ↦ none (b.base / 64 - a.base / 64) 0 (omega arith) (omega arith) (omega arith)
+              | inr more ↦ none 0 (a.base / 64 - b.base / 64) (omega arith) (omega arith) (omega arith)
+            ])
+          ]
+        ];
+        alike = λ p ha2 hb2.
+            let ra = on_its_pages c a p sa.sized ba ha2 in
+            let rb = on_its_pages c b p sb.sized bb hb2 in
+            let a0 = ra.0 in
+            let a1 = ra.1 in
+            let b0 = rb.0 in
+            let b1 = rb.1 in
+            absurd (none (p - a.base / 64) (p - b.base / 64) (omega arith) (omega arith) (omega arith));
+      }
 
-    -- two cells of one page
-    near : is_small_object (object_placed c (placed_at xs i)) ≡ true
-        → is_small_object (object_placed c (placed_at xs j)) ≡ true
-        → (placed_at xs i).base / 64 ≡ (placed_at xs j).base / 64
-        → LieApart (storage_of c (placed_at xs i)) (storage_of c (placed_at xs j))
-    near small_a small_b page =
-        let same = same_block c w xs i j r u v small_a small_b page in
-        let k : ℕ = class_words_of (class_made (object_placed c b)) in
-        let wa : storage_words c a ≡ k = small_words (object_placed c a) small_a ∙ rw same.0 in
-        let wb : storage_words c b ≡ k = small_words (object_placed c b) small_b in
-        let first_a : a.base % 64 ≡ ba.index * k = ba.first ∙ rw wa in
-        let first_b : b.base % 64 ≡ bb.index * k = bb.first ∙ rw wb in
-        record {
-          apart = elim (cases_order ba.index bb.index) [
-            | inl e ↦ absurd (other (page, index_is c a sa.sized ba ∙ e ∙ sym (index_is c b sb.sized bb)))
-            | inr (inl lt) ↦ let m = mul-le (suc ba.index) k bb.index k lt (le_refl k) in inl (omega arith)
-            | inr (inr gt) ↦ let m = mul-le (suc bb.index) k ba.index k gt (le_refl k) in inr (omega arith)
-          ];
-          alike = λ p ha hb. (small_is c a sa.sized ∙ small_a, small_is c b sb.sized ∙ small_b, wa ∙ sym wb, same.1);
-        }
+  -- two cells of one page
+  near : is_small_object (object_placed c a) ≡ true
+      → is_small_object (object_placed c b) ≡ true
+      → a.base / 64 ≡ b.base / 64
+      → LieApart (storage_of c a) (storage_of c b)
+  near small_a small_b page =
+      let same = same_block c w xs i j r u v small_a small_b page in
+      let k : ℕ = class_words_of (class_made (object_placed c b)) in
+      let wa : storage_words c a ≡ k = small_words (object_placed c a) small_a ∙ rw same.0 in
+      let wb : storage_words c b ≡ k = small_words (object_placed c b) small_b in
+      let first_a : a.base % 64 ≡ ba.index * k = ba.first ∙ rw wa in
+      let first_b : b.base % 64 ≡ bb.index * k = bb.first ∙ rw wb in
+      record {
+        apart = elim (cases_order ba.index bb.index) [
+          | inl e ↦ absurd (other (page, index_is c a sa.sized ba ∙ e ∙ sym (index_is c b sb.sized bb)))
+          | inr (inl lt) ↦ let m = mul-le (suc ba.index) k bb.index k lt (le_refl k) in inl (omega arith)
+          | inr (inr gt) ↦ let m = mul-le (suc bb.index) k ba.index k gt (le_refl k) in inr (omega arith)
+        ];
+        alike = λ p ha hb. (small_is c a sa.sized ∙ small_a, small_is c b sb.sized ∙ small_b, wa ∙ sym wb, same.1);
+      }
 
-    by : (x : Bool) → is_small_object (object_placed c (placed_at xs i)) ≡ x → (y : Bool)
-        → is_small_object (object_placed c (placed_at xs j)) ≡ y
-        → LieApart (storage_of c (placed_at xs i)) (storage_of c (placed_at xs j))
-    by false l y is =
-        far (λ d e ld le at.
-        let same = shares_run (quiet_scene c w xs) (claim_of c None a) (claim_of c None b) d e r.laid
-        (claim_among c None xs i u) (claim_among c None xs j v) l ld le (sym at) in
-        other (ap (λ (z : Claim). z.page) (sym same), ap (λ (z : Claim). z.index) (sym same)))
-    by true s false l =
-        far (λ d e ld le at.
-        let same = shares_run (quiet_scene c w xs) (claim_of c None b) (claim_of c None a) e d r.laid
-        (claim_among c None xs j v) (claim_among c None xs i u) l le ld at in
-        other (ap (λ (z : Claim). z.page) same, ap (λ (z : Claim). z.index) same))
-    by true s true s2 = elim (cases_eq (a.base / 64) (b.base / 64)) [
-      | inl page ↦ near s s2 page
-      | inr ne ↦ far (λ d e ld le at. let one = small_pages (object_placed c a) s in let two = small_pages
-          (object_placed c b) s2 in ne (omega arith))
-    ]
+  by : (x : Bool) → is_small_object (object_placed c a) ≡ x → (y : Bool)
+      → is_small_object (object_placed c b) ≡ y
+      → LieApart (storage_of c a) (storage_of c b)
+  by false l y is =
+      far (λ d e ld le at.
+      let same = shares_run (quiet_scene c w xs) (claim_of c None a) (claim_of c None b) d e r.laid
+      (claim_among c None xs i u) (claim_among c None xs j v) l ld le (sym at) in
+      other (ap (λ (z : Claim). z.page) (sym same), ap (λ (z : Claim). z.index) (sym same)))
+  by true s false l =
+      far (λ d e ld le at.
+      let same = shares_run (quiet_scene c w xs) (claim_of c None b) (claim_of c None a) e d r.laid
+      (claim_among c None xs j v) (claim_among c None xs i u) l le ld at in
+      other (ap (λ (z : Claim). z.page) same, ap (λ (z : Claim). z.index) same))
+  by true s true s2 = elim (cases_eq (a.base / 64) (b.base / 64)) [
+    | inl page ↦ near s s2 page
+    | inr ne ↦ far (λ d e ld le at. let one = small_pages (object_placed c a) s in let two = small_pages
+        (object_placed c b) s2 in ne (omega arith))
+  ]
+
+  pub lie_apart : LieApart (storage_of c a) (storage_of c b)
+  lie_apart =
+      by (is_small_object (object_placed c a)) refl (is_small_object (object_placed c b))
+      refl
 
 swapped : (s t : Storage) → LieApart s t → LieApart t s
 swapped s t l =

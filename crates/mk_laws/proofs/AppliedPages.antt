@@ -1,20 +1,13 @@
 -- What is promised of pages, and of words that nobody has, on the schedule of a large object, read off from the
 -- theorems.
-use Rattle.std.proofs.Common.{◌≡◌, ℕ, Bool, true, false, List, ◌∷◌, take, drop, refl, sym, ◌∙◌, ap, arith}
-use Rattle.std.specs.Prelude.{slice_index}
-use Rattle.std.specs.List.{list_any}
-use Rattle.std.proofs.lemmas.Bool.{leb-true, ltb-true, or_parts, true≢false}
-use Rattle.std.proofs.lemmas.List.Folds.{list_any-append}
-use Rattle.mk_laws.proofs.Vocabulary.{Event, IsHistory, Step, all_below, left, left_from, may_turn_black}
-use Rattle.mk_laws.proofs.Vocabulary.{pointed_cell, register_word}
+use Rattle.mk_laws.proofs.Vocabulary.{Bool, Event, HasAllocation, IsHistory, List, Step, all_below, ap, arith, by, c0}
+use Rattle.mk_laws.proofs.Vocabulary.{drop, earlier_part_is_history, false, large_freed, large_is_history, leb-true}
+use Rattle.mk_laws.proofs.Vocabulary.{left, left_from, list_any, list_any-append, ltb-true, may_turn_black, or_parts}
+use Rattle.mk_laws.proofs.Vocabulary.{pointed_cell, refl, register_word, slice_index, sym, take, three_pages, true}
+use Rattle.mk_laws.proofs.Vocabulary.{true≢false, ℕ, ◌∙◌, ◌∷◌, ◌≡◌}
 use Rattle.mk_core.specs.declared.events.Step.TheVariants as step
-use Rattle.mk_core.proofs.EvaluatedLarge.{large_is_history}
 use Rattle.mk_core.proofs.EventsAt.{events_from}
-use Rattle.mk_core.proofs.HistoryParts.{earlier_part_is_history}
-use Rattle.mk_core.proofs.LargeSchedule.{large_freed, three_pages}
-use Rattle.mk_core.proofs.Schedules.{by, c0}
 use Rattle.mk_laws.proofs.Settled.{unmapped_run}
-use Rattle.mk_laws.specs.FreePages.{HasAllocation}
 use Rattle.mk_laws.specs.UnmappedRuns.{IsOfUnmappedRun, is_resident_in}
 use Rattle.mk_laws.specs.UnsetWords.{IsNeverSet}
 use Rattle.mk_laws.proofs.AppliedTheorems.{unmapped_is_settled}

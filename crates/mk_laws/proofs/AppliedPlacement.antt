@@ -1,21 +1,14 @@
 -- The promises on placement and tallies, applied to a small schedule: what each says there, read off.
-use Rattle.std.proofs.Common.{◌≡◌, ℕ, true, List, take, drop, Some, refl, sym}
-use Rattle.mk_geom.specs.declared.pages.Place.{Place}
-use Rattle.mk_core.specs.declared.events.Event.{Event}
-use Rattle.mk_core.specs.Allocations.{FitsAmongAllocations, fresh_words_of, held_by_allocations}
-use Rattle.mk_core.specs.Bounded.{all_below}
-use Rattle.mk_core.specs.Cells.{pointed_cell}
-use Rattle.mk_core.specs.Counts.{in_a_word}
-use Rattle.mk_core.specs.Cycles.{BeginsAndEndsIn, TurnOf}
-use Rattle.mk_core.specs.History.{left, left_from}
-use Rattle.mk_core.specs.NewPlaces.{base_made}
-use Rattle.mk_core.specs.Placement.{FindsNoPlace, StandsAtItsPlace, before_served, object_at, place_after}
-use Rattle.mk_core.specs.StopConditions.{may_turn_black}
+use Rattle.std.proofs.Common.{Some}
+use Rattle.mk_laws.proofs.Vocabulary.{Event, List, Place, TurnOf, all_below, base_made, by, c0, drop, event_number}
+use Rattle.mk_laws.proofs.Vocabulary.{fresh_words_of, in_a_word, left, left_from, may_turn_black, one_page}
+use Rattle.mk_laws.proofs.Vocabulary.{pointed_cell, refl, sym, take, true, ℕ, ◌≡◌}
+use Rattle.mk_core.specs.Allocations.{FitsAmongAllocations, held_by_allocations}
 use Rattle.mk_core.specs.Counts.{TalliesAreExact}
+use Rattle.mk_core.specs.Cycles.{BeginsAndEndsIn}
+use Rattle.mk_core.specs.Placement.{FindsNoPlace, StandsAtItsPlace, before_served, object_at, place_after}
 use Rattle.mk_core.proofs.EvaluatedHistories.{full_is_history}
-use Rattle.mk_core.proofs.EventsAt.{event_number}
 use Rattle.mk_core.proofs.MoreSchedules.{full_then_reused}
-use Rattle.mk_core.proofs.Schedules.{by, c0, one_page}
 use Rattle.mk_laws.specs.Promises.{KeepsAllPromises}
 use Rattle.mk_laws.proofs.Promises.{histories_keep_all_promises}
 

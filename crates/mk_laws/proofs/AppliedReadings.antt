@@ -1,12 +1,14 @@
 -- What headers, snapshots, releases and free words tell on small schedules, read off from the theorems.
-use Rattle.std.proofs.Common.{◌≡◌, ℕ, zero, suc, ◌<◌, ◌≤◌, true, false, take, drop, Some, refl, sym}
-use Rattle.std.specs.Prelude.{slice_index}
-use Rattle.std.proofs.lemmas.Bool.{eqb-false, false≢true, leb-true, ltb-true}
-use Rattle.mk_never.specs.Reach.{by_register, by_word}
+use Rattle.std.proofs.Common.{Some}
 use Rattle.mk_laws.proofs.Vocabulary.{At, Cell, IsHistory, IsTaken, Releasing, RunPages, World, all_below}
-use Rattle.mk_laws.proofs.Vocabulary.{before_release, calls_from, cell_of_allocation, header_in, is_begin, is_freed}
-use Rattle.mk_laws.proofs.Vocabulary.{is_quarantined, left, left_from, may_turn_black, placed_at, pointed_cell}
-use Rattle.mk_laws.proofs.Vocabulary.{run_headed, stands_in, words_are_zero}
+use Rattle.mk_laws.proofs.Vocabulary.{before_release, begun_in_stop, by, c0, calls_from, cell_of_allocation, drop}
+use Rattle.mk_laws.proofs.Vocabulary.{earlier_part_is_history, eqb-false, event_number, false, false≢true, header_in}
+use Rattle.mk_laws.proofs.Vocabulary.{is_begin, is_freed, is_quarantined, large_freed, large_is_history, leb-true, left}
+use Rattle.mk_laws.proofs.Vocabulary.{left_from, ltb-true, marked_in_stop, may_turn_black, one_page, placed_at}
+use Rattle.mk_laws.proofs.Vocabulary.{pointed_cell, refl, run_headed, slice_index, small, stands_in, stopped_cycle}
+use Rattle.mk_laws.proofs.Vocabulary.{stopped_is_history, suc, sym, take, three_objects, three_pages, true}
+use Rattle.mk_laws.proofs.Vocabulary.{words_are_zero, zero, ℕ, ◌<◌, ◌≡◌, ◌≤◌}
+use Rattle.mk_never.specs.Reach.{by_register, by_word}
 use Rattle.mk_core.specs.declared.events.Seat.TheVariants as seat
 use Rattle.mk_core.specs.declared.events.Step.TheVariants as step
 use Rattle.mk_core.specs.Cells.{is_in_snapshot}
@@ -14,15 +16,9 @@ use Rattle.mk_core.specs.Readings.{SnapshotTells}
 use Rattle.mk_core.proofs.EvaluatedCycles.{cycle_of_blackened, first_cycle, in_first_snapshot, not_in_first_snapshot}
 use Rattle.mk_core.proofs.EvaluatedFreed.{third_cell, third_is_freed}
 use Rattle.mk_core.proofs.EvaluatedHistories.{blackened_is_history, freed_is_history, marking_is_history}
-use Rattle.mk_core.proofs.EvaluatedLarge.{large_is_history}
-use Rattle.mk_core.proofs.EventsAt.{at_number, event_number}
-use Rattle.mk_core.proofs.HistoryParts.{earlier_part_is_history}
-use Rattle.mk_core.proofs.LargeSchedule.{large_freed, three_pages}
+use Rattle.mk_core.proofs.EventsAt.{at_number}
 use Rattle.mk_core.proofs.MoreSchedules.{granted_while_marking, two_pages}
-use Rattle.mk_core.proofs.Schedules.{blackened_before_the_move, by, c0, freed_after_begin, host, m0, one_page}
-use Rattle.mk_core.proofs.Schedules.{pointer_page}
-use Rattle.mk_core.proofs.SmallCycles.{begun_in_stop, marked_in_stop, small, stopped_cycle, three_objects}
-use Rattle.mk_core.proofs.SmallHistories.{stopped_is_history}
+use Rattle.mk_core.proofs.Schedules.{blackened_before_the_move, freed_after_begin, host, m0, pointer_page}
 use Rattle.mk_laws.specs.FreeWords.{IsOfNoneMapped}
 use Rattle.mk_laws.specs.Releases.{allocation_behind}
 use Rattle.mk_laws.proofs.FreeCells as cells

@@ -1,17 +1,17 @@
 -- The theorems over all histories, applied to small schedules: what each says there, read off by computation.
-use Rattle.std.proofs.Common.{◌≡◌, ℕ, ◌≤◌, true, false, List, ◌∷◌, ◌++◌, replicate, take, drop, None, Some, refl, sym}
-use Rattle.std.proofs.Common.{[]}
-use Rattle.std.proofs.Common.{◌∙◌, ap, subst, inl, arith, append_assoc}
-use Rattle.std.specs.Prelude.{slice_index}
-use Rattle.std.proofs.lemmas.Bool.{eqb-false, false≢true, leb-true, ltb-true}
+use Rattle.std.proofs.Common.{replicate, None, Some}
+use Rattle.mk_laws.proofs.Vocabulary.{DirtyIsOwed, Event, IsGuarded, IsHeaderWord, IsHistory, IsSettled, IsWordOf}
+use Rattle.mk_laws.proofs.Vocabulary.{KeepsTheInvariant, List, NeverState, Null, OwesDirty, PageIsDirty, PointsWell}
+use Rattle.mk_laws.proofs.Vocabulary.{Value, WordOf, World, [], all_below, answers_of, ap, append_assoc, arith, asked}
+use Rattle.mk_laws.proofs.Vocabulary.{bases_of, begun_in_stop, by, c0, calls, calls_from, cell_of_allocation, drop}
+use Rattle.mk_laws.proofs.Vocabulary.{earlier_part_is_history, eqb-false, event_number, false, false≢true, free_page}
+use Rattle.mk_laws.proofs.Vocabulary.{has_bit_of, header_at, inl, is_begin, is_run_gone, large_freed, large_is_history}
+use Rattle.mk_laws.proofs.Vocabulary.{leb-true, left, left_from, ltb-true, marked_in_stop, may_turn_black, never_behind}
+use Rattle.mk_laws.proofs.Vocabulary.{one_page, placed_at, pointed_cell, points_well, refl, register_at, replies_of}
+use Rattle.mk_laws.proofs.Vocabulary.{resident_pages, slice_index, small, stopped_cycle, stopped_is_history, storage_of}
+use Rattle.mk_laws.proofs.Vocabulary.{subst, sym, take, three_objects, three_pages, true, unreleased_storage}
+use Rattle.mk_laws.proofs.Vocabulary.{uses_of_pages, word_at, word_points_well, ℕ, ◌++◌, ◌∙◌, ◌∷◌, ◌≡◌, ◌≤◌}
 use Rattle.mk_never.specs.declared.values.Target.{Target}
-use Rattle.mk_laws.proofs.Vocabulary.{DirtyIsOwed, Event, IsGuarded, IsHeaderWord, IsHistory, IsWordOf, NeverState}
-use Rattle.mk_laws.proofs.Vocabulary.{Null, OwesDirty, PageIsDirty, PointsWell, Value, WordOf, World, all_below}
-use Rattle.mk_laws.proofs.Vocabulary.{answers_of, asked, bases_of, calls, calls_from, cell_of_allocation, free_page}
-use Rattle.mk_laws.proofs.Vocabulary.{header_at, is_begin, is_run_gone, left, left_from, may_turn_black}
-use Rattle.mk_laws.proofs.Vocabulary.{never_behind, placed_at, pointed_cell, points_well, register_at, replies_of}
-use Rattle.mk_laws.proofs.Vocabulary.{resident_pages, storage_of, unreleased_storage, uses_of_pages, word_at}
-use Rattle.mk_laws.proofs.Vocabulary.{word_points_well}
 use Rattle.mk_geom.specs.Storages.{words_of_storages}
 use Rattle.mk_core.specs.declared.events.Answer.TheVariants as answer
 use Rattle.mk_core.specs.declared.events.Seat.TheVariants as seat
@@ -20,20 +20,13 @@ use Rattle.mk_core.specs.Cells.{is_used}
 use Rattle.mk_core.specs.History.{never_first}
 use Rattle.mk_core.proofs.EvaluatedGuards.{page_is_clean, written_points_badly}
 use Rattle.mk_core.proofs.EvaluatedHistories.{exchanged_is_history, freed_is_history, full_is_history, swept_is_history}
-use Rattle.mk_core.proofs.EvaluatedLarge.{large_is_history}
 use Rattle.mk_core.proofs.EvaluatedReach.{first_is_reached, second_is_reached}
-use Rattle.mk_core.proofs.EventsAt.{at_number, event_number}
-use Rattle.mk_core.proofs.HistoryParts.{earlier_part_is_history}
-use Rattle.mk_core.proofs.LargeSchedule.{large_freed, three_pages}
+use Rattle.mk_core.proofs.EventsAt.{at_number}
 use Rattle.mk_core.proofs.MoreSchedules.{before_the_sweep, exchanged, full_then_reused, sweeping_mark}
-use Rattle.mk_core.proofs.Schedules.{answers_freed, by, c0, host, freed_after_begin, one_page, pointer_page}
-use Rattle.mk_core.proofs.SmallCycles.{begun_in_stop, marked_beside, marked_in_stop, page_dirtied, scanned_again}
-use Rattle.mk_core.proofs.SmallCycles.{second_cleared, small, stopped_cycle, third_released, three_objects}
+use Rattle.mk_core.proofs.Schedules.{answers_freed, host, freed_after_begin, pointer_page}
+use Rattle.mk_core.proofs.SmallCycles.{marked_beside, page_dirtied, scanned_again, second_cleared, third_released}
 use Rattle.mk_core.proofs.SmallCycles.{written_beside}
-use Rattle.mk_core.proofs.SmallHistories.{beside_is_history, stopped_is_history}
-use Rattle.mk_laws.specs.Quarantine.{has_bit_of}
-use Rattle.mk_laws.specs.SettledPages.{IsSettled}
-use Rattle.mk_laws.specs.Theorems.{KeepsTheInvariant}
+use Rattle.mk_core.proofs.SmallHistories.{beside_is_history}
 use Rattle.mk_laws.proofs.InvariantHistories.{events_keep_the_invariant, histories_keep_the_invariant}
 use Rattle.mk_laws.proofs.Quarantines as quarantines
 use Rattle.mk_laws.proofs.InvariantTheorems as theorems

@@ -1,13 +1,12 @@
 -- What the conditions on gates, phases and markers say.
-use Rattle.std.proofs.Common.{◌≡◌, ◌≢◌, ◌⊎◌, ℕ, ◌<◌, ◌≤◌, true, false, List, [], ◌∷◌, refl, inl, inr, arith, zero, suc}
-use Rattle.std.specs.Prelude.{slice_index, slice_index_or, not, ◌&&◌, ◌||◌, ◌==◌, nat_lt}
-use Rattle.std.proofs.lemmas.Bool.{not-true, ltb-true, eqb-true, eqb-false, and_parts, or_cases}
-use Rattle.mk_laws.proofs.Vocabulary.{Caller, Config, Host, Marker, MarkerState, Moment, Seat, Words, all_below}
-use Rattle.mk_laws.proofs.Vocabulary.{has_closed_page, holder_number, is_attending, is_held, is_number_of}
-use Rattle.mk_laws.proofs.Vocabulary.{none_attends, others_are_held, outside, roots_point_well}
+use Rattle.mk_laws.proofs.Vocabulary.{Caller, Config, Host, List, Marker, MarkerState, Moment, Seat, Words, []}
+use Rattle.mk_laws.proofs.Vocabulary.{all_below, all_below-at, and_parts, arith, eqb-false, eqb-true, false}
+use Rattle.mk_laws.proofs.Vocabulary.{has_closed_page, holder_number, inl, inr, is_attending, is_held, is_number_of}
+use Rattle.mk_laws.proofs.Vocabulary.{ltb-true, nat_lt, none_attends, not, not-true, or_cases, others_are_held, outside}
+use Rattle.mk_laws.proofs.Vocabulary.{refl, roots_point_well, slice_index, slice_index_or, suc, true, zero, ℕ, ◌&&◌}
+use Rattle.mk_laws.proofs.Vocabulary.{◌<◌, ◌==◌, ◌||◌, ◌∷◌, ◌≡◌, ◌≢◌, ◌≤◌, ◌⊎◌}
 use Rattle.mk_core.specs.Moments.{none_is_held}
 use Rattle.mk_core.specs.StopConditions.{may_close}
-use Rattle.mk_core.proofs.AllBelow.{all_below-at}
 use Rattle.mk_laws.proofs.Views.{view_of}
 use Rattle.mk_laws.proofs.ProtocolMoves.{OthersAreHeld}
 

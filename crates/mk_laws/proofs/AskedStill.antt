@@ -1,11 +1,9 @@
 -- What a step asks of the heap that never reuses storage it asks after a longer list too: what it finds may differ,
 -- and so the answer, but not whether it decides, nor what for.
-use Rattle.std.proofs.Common.{Bool, ap, false, refl, sym, true, ℕ, ◌∙◌, ◌≡◌}
-use Rattle.std.specs.Prelude.{None, Option, Some, if◌then◌else◌, ◌==◌}
-use Rattle.mk_laws.proofs.Vocabulary.{Answer, Cell, Config, Flight, Moment, Op, Step, Word, asked, begun}
-use Rattle.mk_laws.proofs.Vocabulary.{cell_freed, decided, entry_of, header_of, is_unmapped_header, onward}
-use Rattle.mk_laws.proofs.Vocabulary.{progress, progress_freed, progress_read, progress_reg, refused, sees_double}
-use Rattle.mk_laws.proofs.Vocabulary.{still, target}
+use Rattle.mk_laws.proofs.Vocabulary.{Answer, Bool, Cell, Config, Flight, Moment, None, Op, Option, Some, Step, Word}
+use Rattle.mk_laws.proofs.Vocabulary.{ap, asked, begun, cell_freed, decided, entry_of, false, header_of, if◌then◌else◌}
+use Rattle.mk_laws.proofs.Vocabulary.{is_unmapped_header, onward, progress, progress_freed, progress_read, progress_reg}
+use Rattle.mk_laws.proofs.Vocabulary.{refl, refused, sees_double, still, sym, target, true, ℕ, ◌==◌, ◌∙◌, ◌≡◌}
 use Rattle.mk_never.specs.declared.operations.Op.TheVariants as op
 use Rattle.mk_core.specs.declared.events.Answer.TheVariants as answer
 use Rattle.mk_core.specs.declared.events.Step.TheVariants as step
@@ -39,8 +37,7 @@ worded k _ x y = refl
 read_asked : (k : ℕ) (f : Flight) (o : Op) (x y : ℕ)
     → asked (entry_of k o (progress_read f o x).answer) ≡ asked (entry_of k o (progress_read f o y).answer)
 read_asked k f (op.GetPtr d q i) x y = refl
-read_asked k f (op.New d ty full) x y = refl
-read_asked k f _ x y = refl
+read_asked k f _ x y = cc
 
 pub asked_the_same : (c : Config) (m n : Moment) (k : ℕ) (f : Flight) (found find : ℕ) (x : Step)
     → SeesTheSame c m n f found find x

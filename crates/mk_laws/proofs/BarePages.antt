@@ -1,23 +1,15 @@
 -- While no cell is released, words that aren't 0 lie on the pages of unreleased allocations; on all others they are 0.
-use Rattle.std.proofs.Common.{◌≡◌, ◌≢◌, ℕ, ◌+◌, ◌-◌, ◌/◌, ◌<◌, ◌≤◌, false, refl, sym, ◌∙◌, ap, subst, inl, inr, arith}
-use Rattle.std.specs.Prelude.{slice_index, Option, nat_le, nat_lt}
-use Rattle.std.proofs.lemmas.Bool.{and_parts, cases_eq, leb-true, ltb-true}
-use Rattle.mk_laws.proofs.Vocabulary.{Config, Object, PlacedAllocation, RunPages, ShowsPart, World, header_made}
-use Rattle.mk_laws.proofs.Vocabulary.{header_of, is_phase, object_placed, pages_made, placed_at, storage_words}
-use Rattle.mk_laws.proofs.Vocabulary.{words_made}
-use Rattle.mk_core.proofs.ObjectHeaders.{made_shows, part_head}
-use Rattle.mk_core.proofs.Sizes.{pages_some}
-use Rattle.mk_laws.specs.LayoutScene.{Claim, Among, IsShown, IsPlotShown, header_on, used_on, shows_on, head_on}
-use Rattle.mk_laws.specs.Ground.{ground_of}
-use Rattle.mk_laws.specs.Terrain.{RunStands, IsClaimedRun, claim_of, claims_of, object_now}
-use Rattle.mk_laws.proofs.Claims.{claim_among}
-use Rattle.mk_laws.proofs.LayoutReadings.{none_set, claimed_head, claimed_some}
-use Rattle.mk_laws.proofs.Serving.{Laid, own_claim}
-use Rattle.mk_laws.proofs.StandingClaims.{ends_on_pages}
-use Rattle.mk_laws.specs.Zeros.{zero_scene_of, IsWordOfMapped, IsFreedWord, MayHold, OfMapped, OfReleased, OfFreedRun}
-use Rattle.mk_laws.specs.Zeros.{HasZeros}
-use Rattle.mk_laws.proofs.MappedWords.{mapped_stays}
-use Rattle.mk_laws.proofs.ChangedScenes.{none_released}
+use Rattle.mk_laws.proofs.Vocabulary.{Among, Claim, Config, HasZeros, IsClaimedRun, IsFreedWord, IsPlotShown, IsShown}
+use Rattle.mk_laws.proofs.Vocabulary.{IsWordOfMapped, MayHold, Object, OfFreedRun, OfMapped, OfReleased, Option}
+use Rattle.mk_laws.proofs.Vocabulary.{PlacedAllocation, RunPages, RunStands, ShowsPart, World, and_parts, ap, arith}
+use Rattle.mk_laws.proofs.Vocabulary.{cases_eq, claim_of, claims_of, false, ground_of, head_on, header_made, header_of}
+use Rattle.mk_laws.proofs.Vocabulary.{header_on, inl, inr, is_phase, leb-true, ltb-true, made_shows, nat_le, nat_lt}
+use Rattle.mk_laws.proofs.Vocabulary.{object_now, object_placed, pages_made, pages_some, part_head, placed_at, refl}
+use Rattle.mk_laws.proofs.Vocabulary.{shows_on, slice_index, storage_words, subst, sym, used_on, words_made}
+use Rattle.mk_laws.proofs.Vocabulary.{zero_scene_of, ℕ, ◌+◌, ◌-◌, ◌/◌, ◌<◌, ◌∙◌, ◌≡◌, ◌≢◌, ◌≤◌}
+use Rattle.mk_laws.proofs.Basics.{Laid, claim_among, claimed_some, ends_on_pages, mapped_stays, none_released, none_set}
+use Rattle.mk_laws.proofs.Basics.{own_claim}
+use Rattle.mk_laws.proofs.LayoutReadings.{claimed_head}
 
 -- a world in order, whose phase isn't releasing
 pub record Unreleasing (c : Config) (w : World) : Type 0 where

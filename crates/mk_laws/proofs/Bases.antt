@@ -1,11 +1,7 @@
 -- Bases are added after the others, and stay.
-use Rattle.std.proofs.Common.{◌≡◌, ℕ, Bool, List, [], ◌∷◌, ◌++◌, sym, ◌∙◌, append-nil}
-use Rattle.std.proofs.lemmas.List.{map-append}
-use Rattle.mk_laws.proofs.Vocabulary.{NeverState, PlacedAllocation, bases_of}
-use Rattle.mk_laws.specs.Images.{ImageScene}
-use Rattle.mk_laws.proofs.ImagesMoves.{Move, Rests, Flies, Owes, Pays, Stores, Shares, Writes, Wipes, Grants, Frees}
-use Rattle.mk_laws.proofs.ImagesMoves.{Renews}
-use Rattle.mk_laws.proofs.ImagesMoves.{Releases}
+use Rattle.mk_laws.proofs.Vocabulary.{Bool, ImageScene, List, NeverState, PlacedAllocation, [], append-nil, bases_of}
+use Rattle.mk_laws.proofs.Vocabulary.{map-append, sym, ℕ, ◌++◌, ◌∙◌, ◌∷◌, ◌≡◌}
+use Rattle.mk_laws.proofs.Basics.{Frees, Grants, Move, Releases, Renews, Writes}
 
 pub record IsLonger (xs ys : List ℕ) : Type 0 where
   pub more : List ℕ

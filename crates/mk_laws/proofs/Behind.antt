@@ -1,25 +1,17 @@
 -- One event: what stands on the pages after it.
-use Rattle.std.proofs.Common.{Bool, ap, arith, false, inl, inr, refl, sym, true, ℕ, ◌%◌, ◌+◌, ◌-◌, ◌^◌, ◌∙◌, ◌≡◌, ◌≢◌}
-use Rattle.std.proofs.Common.{◌⊎◌}
-use Rattle.std.specs.Prelude.{None, Option, Some, if◌then◌else◌, is_some, ◌==◌}
-use Rattle.std.proofs.lemmas.Bool.{and_parts, cases_Bool, eq-eqb, eqb-true, ne_eqb}
-use Rattle.mk_laws.proofs.Vocabulary.{Chosen, Config, Marker, Moment, Placing, Seat, SeenHeader, Step, World}
-use Rattle.mk_laws.proofs.Vocabulary.{cell_seen, holder_number, host_has_turn, is_attending, is_phase, marker_at}
-use Rattle.mk_laws.proofs.Vocabulary.{marker_of, nothing_done, phase_of}
+use Rattle.mk_laws.proofs.Vocabulary.{Bool, Chosen, Config, HasLayout, LayoutStands, Marker, Moment, None, Option}
+use Rattle.mk_laws.proofs.Vocabulary.{Placing, Seat, SeenHeader, Some, Step, World, and_parts, ap, arith, cases_Bool}
+use Rattle.mk_laws.proofs.Vocabulary.{cell_seen, eq-eqb, eqb-true, false, ground_of, has_place, holder_number}
+use Rattle.mk_laws.proofs.Vocabulary.{host_has_turn, if◌then◌else◌, inl, inr, is_attending, is_phase, is_some}
+use Rattle.mk_laws.proofs.Vocabulary.{marker_at, marker_of, ne_eqb, nothing_done, object_now, phase_of, refl, sym, true}
+use Rattle.mk_laws.proofs.Vocabulary.{ℕ, ◌%◌, ◌+◌, ◌-◌, ◌==◌, ◌^◌, ◌∙◌, ◌≡◌, ◌≢◌, ◌⊎◌}
+use Rattle.mk_laws.proofs.Basics.{Before, Known, Meets, WorldBehind, actor_of, held_place, is_releasing_behind}
+use Rattle.mk_laws.proofs.Basics.{not_astray, reg_leaves, tally_keeps, view_of}
 use Rattle.mk_core.specs.declared.events.Step.TheVariants as step
-use Rattle.mk_laws.specs.Protocol.{has_place}
-use Rattle.mk_laws.proofs.Actors.{Meets}
 use Rattle.mk_laws.proofs.Colours.{AddsMarks, ClearsMarks, ColourStep, Colours, MarksSeen, colour_step, colours_of}
-use Rattle.mk_laws.proofs.Known.{Known}
-use Rattle.mk_laws.proofs.NewPlace.{held_place, new_was}
-use Rattle.mk_laws.proofs.OthersMoves.{WorldBehind}
-use Rattle.mk_laws.proofs.OrderlyLists.{actor_of, not_astray, orderly_behind}
-use Rattle.mk_laws.proofs.SameWords.{tally_keeps}
+use Rattle.mk_laws.proofs.NewPlace.{new_was}
+use Rattle.mk_laws.proofs.OrderlyLists.{orderly_behind}
 use Rattle.mk_laws.proofs.Sorts.{moves}
-use Rattle.mk_laws.proofs.Views.{view_of}
-use Rattle.mk_laws.specs.Ground.{ground_of}
-use Rattle.mk_laws.specs.Terrain.{HasLayout, LayoutStands, object_now}
-use Rattle.mk_laws.proofs.LayoutBefore.{Before, is_releasing_behind, reg_leaves}
 use Rattle.mk_laws.proofs.LayoutByKind.{by_kind, placeless}
 use Rattle.mk_laws.proofs.Dropped.{unreleasing}
 
@@ -107,10 +99,9 @@ turn_kind c w seat (step.Take o) h has = by (w.now.words.turn == 0) has
         → (if b then 1 + holder_number c seat else w.now.words.turn) ≡ w.now.words.turn
     by true has = cc
     by false has = refl
-turn_kind c w seat step.Give h has = cc
 turn_kind c w seat step.Reg h has = (reg_leaves c w seat).turn
 turn_kind c w seat (step.Tally n v) h has = (tally_keeps w.now.words n v).turn
-turn_kind c w seat _ h has = refl
+turn_kind c w seat _ h has = cc
 
 -- and so is the object whose place it is.
 held_none : (p : Placing) → has_place p ≡ true → held_place p ≡ None → ⊥

@@ -1,30 +1,23 @@
 -- The words of black cells stay guarded: cells that turn black, and pages that are made clean.
-use Rattle.std.proofs.Common.{◌≡◌, ◌≢◌, ℕ, zero, suc, ◌+◌, ◌*◌, ◌/◌, ◌^◌, ◌<◌, Bool, true, false, List, refl, sym, ◌∙◌}
-use Rattle.std.proofs.Common.{ap, subst, inl, inr, arith}
-use Rattle.std.specs.Prelude.{Option, Some, None, is_none, slice_index, slice_set, nat_lt, ◌&&◌, ◌||◌, ◌==◌, not}
-use Rattle.std.specs.Prelude.{bit_or}
-use Rattle.std.proofs.lemmas.Bool.{eq-eqb, cases_eq, true≢false, eqb-true, and_parts, or_cases, not-true}
-use Rattle.std.proofs.lemmas.List.{get_or-set_other}
-use Rattle.mk_laws.proofs.Vocabulary.{AreOfPages, BlackIsGuarded, Config, DirtyIsOwed, IsGuarded, Marker, Moment}
-use Rattle.mk_laws.proofs.Vocabulary.{PageIsDirty, PointsWell, Scan, Seat, Words, World, all_below, cell_words}
-use Rattle.mk_laws.proofs.Vocabulary.{cells_under, first_word, has_bit, has_no_pointers, head_page, header_in}
-use Rattle.mk_laws.proofs.Vocabulary.{is_marked, is_phase, is_scanned, marker_of, may_turn_black, none_attends}
-use Rattle.mk_laws.proofs.Vocabulary.{phase_of, scan_page, word_points_well, words_under}
+use Rattle.mk_laws.proofs.Vocabulary.{AreOfPages, BlackIsGuarded, Bool, Config, DirtyIsOwed, GuardPremises, IsGuarded}
+use Rattle.mk_laws.proofs.Vocabulary.{IsMarking, Marker, Moment, None, Option, PageIsDirty, PointsWell, Scan, Seat}
+use Rattle.mk_laws.proofs.Vocabulary.{Some, Words, World, all_below, all_below-at, and_parts, arith, bit_or, cases_eq}
+use Rattle.mk_laws.proofs.Vocabulary.{cell_words, cells_under, eq-eqb, eqb-true, false, first_word, get_or-set_other}
+use Rattle.mk_laws.proofs.Vocabulary.{has_bit, has_no_pointers, head_page, header_in, inl, inr, is_marked, is_none}
+use Rattle.mk_laws.proofs.Vocabulary.{is_phase, is_scanned, marker_of, may_turn_black, nat_lt, no_bit, none_attends}
+use Rattle.mk_laws.proofs.Vocabulary.{not, not-true, or_cases, phase_of, refl, scan_page, slice_index, slice_set, suc}
+use Rattle.mk_laws.proofs.Vocabulary.{sym, true, true≢false, word_points_well, words_under, zero, ℕ, ◌&&◌, ◌*◌, ◌+◌}
+use Rattle.mk_laws.proofs.Vocabulary.{◌/◌, ◌<◌, ◌==◌, ◌^◌, ◌||◌, ◌∙◌, ◌≡◌, ◌≢◌}
+use Rattle.mk_laws.proofs.Basics.{Behind, Keeps, Known, Meets, either_phase}
 use Rattle.mk_core.specs.declared.events.Step.TheVariants as step
 use Rattle.mk_core.specs.Cells.{words_point_well}
 use Rattle.mk_core.specs.Accesses.{scan_bit}
 use Rattle.mk_core.specs.StopConditions.{blackens}
-use Rattle.mk_core.proofs.AllBelow.{all_below-at}
-use Rattle.mk_core.proofs.WordBits.{no_bit, bit_of_power, bit_of_cell, more_bits}
-use Rattle.mk_laws.proofs.Actors.{Meets}
-use Rattle.mk_laws.proofs.SameWords.{Behind}
-use Rattle.mk_laws.proofs.Known.{Known}
+use Rattle.mk_core.proofs.WordBits.{bit_of_power, bit_of_cell, more_bits}
 use Rattle.mk_laws.proofs.IdleMarkers.{work_attends}
-use Rattle.mk_laws.specs.Guard.{ScanStands, Guard, IsMarking}
-use Rattle.mk_laws.specs.Kept.{GuardPremises}
+use Rattle.mk_laws.specs.Guard.{Guard}
 use Rattle.mk_laws.proofs.Wells.{bare_guarded}
-use Rattle.mk_laws.proofs.KeptGuard.{Keeps, NewCellsAreGuarded, black_kept}
-use Rattle.mk_laws.proofs.Phases.{either_phase}
+use Rattle.mk_laws.proofs.KeptGuard.{NewCellsAreGuarded, black_kept}
 use Rattle.mk_laws.proofs.Changes.{owed_kind}
 use Rattle.mk_laws.proofs.CoveredWords.{covered_word}
 use Rattle.mk_laws.proofs.Scans.{scanned_guarded}

@@ -1,34 +1,25 @@
 -- Each step of a caller's call outside the turn leads to what the images allow.
-use Rattle.std.proofs.Common.{◌≡◌, ℕ, ◌+◌, ◌*◌, ◌<◌, Bool, true, false, List, length, refl, sym, ap, subst, ◌∙◌, arith}
-use Rattle.std.specs.Prelude.{slice_index, slice_set, ◌==◌, if◌then◌else◌, Some, None}
-use Rattle.std.proofs.lemmas.Bool.{ltb-true}
-use Rattle.mk_laws.proofs.Vocabulary.{Answer, AreAdmitted, Caller, Config, Flight, IsAdmitted, MeetsAll, Named}
-use Rattle.mk_laws.proofs.Vocabulary.{NeverState, Op, Stage, Step, Words, World, accessed, answer_decided, asked}
-use Rattle.mk_laws.proofs.Vocabulary.{at_rest, bases_of, begun, call_decided, d_of, entry_of, flagged, flight_of}
-use Rattle.mk_laws.proofs.Vocabulary.{g_of, header_at, is_under_turn, onward, page_met, progress_read, progress_reg}
-use Rattle.mk_laws.proofs.Vocabulary.{refused, reg_access, register_met, register_word, still, word_met}
-use Rattle.mk_laws.proofs.Vocabulary.{world_behind}
+use Rattle.mk_laws.proofs.Vocabulary.{Answer, AreAdmitted, Bool, Caller, CarriesOwn, Config, Flight, IsAdmitted, List}
+use Rattle.mk_laws.proofs.Vocabulary.{MeetsAll, Mirrors, Named, NeverState, None, Op, Some, Stage, Step, Words, World}
+use Rattle.mk_laws.proofs.Vocabulary.{accessed, answer_decided, ap, arith, asked, at_rest, begun, call_decided, d_of}
+use Rattle.mk_laws.proofs.Vocabulary.{entry_of, false, flagged, flight_of, g_of, header_at, if◌then◌else◌}
+use Rattle.mk_laws.proofs.Vocabulary.{image_scene_of, is_past_probe, is_put, is_under_turn, length, ltb-true, onward}
+use Rattle.mk_laws.proofs.Vocabulary.{page_met, progress_read, refl, refused, reg_access, register_met, register_word}
+use Rattle.mk_laws.proofs.Vocabulary.{slice_index, slice_set, subst, sym, true, word_met, world_behind, ℕ, ◌*◌, ◌+◌}
+use Rattle.mk_laws.proofs.Vocabulary.{◌<◌, ◌==◌, ◌∙◌, ◌≡◌}
+use Rattle.mk_laws.proofs.Basics.{KnownWorld, Leads, PagesShow, Ready, at_its_stage, at_reg, either_leads, flight}
+use Rattle.mk_laws.proofs.Basics.{goes_bare, is_astray, is_call_stage, not_astray, operands_of, standing, standing_at}
 use Rattle.mk_never.specs.declared.operations.Op.TheVariants as op
 use Rattle.mk_core.specs.declared.events.Answer.TheVariants as answer
 use Rattle.mk_core.specs.declared.events.Word.TheVariants as word
 use Rattle.mk_core.specs.declared.events.Step.TheVariants as step
 use Rattle.mk_core.specs.declared.seats.Stage.TheVariants as stage
-use Rattle.mk_core.specs.Calls.{value_written, progress_cas, progress_getg}
 use Rattle.mk_core.specs.Effects.{progress_probe, begins_where_free}
-use Rattle.mk_laws.proofs.Standings.{standing_at, standing, is_astray}
-use Rattle.mk_laws.proofs.Stages.{is_call_stage}
-use Rattle.mk_laws.proofs.NextSteps.{at_its_stage, at_reg, at_enter}
-use Rattle.mk_laws.proofs.OrderlyLists.{not_astray}
-use Rattle.mk_laws.proofs.Operands.{operands_of}
-use Rattle.mk_laws.specs.Images.{image_scene_of, is_put, is_past_probe, CarriesOwn, ProbedOwn}
-use Rattle.mk_laws.proofs.KnownWorlds.{KnownWorld}
-use Rattle.mk_laws.specs.Mirrors.{Mirrors}
+use Rattle.mk_laws.proofs.NextSteps.{at_enter}
 use Rattle.mk_laws.proofs.ImagesMoves.{is_bare, Flies}
 use Rattle.mk_laws.proofs.ImagesKept.{own_plain}
-use Rattle.mk_laws.proofs.Ready.{Ready, Leads, LeadsBy, either_leads}
-use Rattle.mk_laws.proofs.Refusals.{goes_bare}
-use Rattle.mk_laws.proofs.Reached.{PagesShow}
-use Rattle.mk_laws.proofs.RegMoves.{flight, flies_on, registers_behind, reg_leads}
+use Rattle.mk_laws.proofs.Ready.{LeadsBy}
+use Rattle.mk_laws.proofs.RegMoves.{flies_on, registers_behind, reg_leads}
 use Rattle.mk_laws.proofs.ImagesCallMoves.{probe_leads, read_leads, write_leads, cas_leads, getg_leads, setg_leads}
 
 abbrev pub LeadsAt : Config → World → NeverState → (ℕ → Bool) → ℕ → Step → Type 0
@@ -89,20 +80,17 @@ reg_registers : (w : Words) (k : ℕ) (f : Flight) (st : Stage)
     → (accessed w (Named (word.Reg k (register_met f st))) (reg_access f st)).registers
     ≡ registers_behind w.registers k f st
 reg_registers w k f stage.Store = refl
-reg_registers w k f stage.Put = refl
-reg_registers w k f _ = refl
+reg_registers w k f _ = cc
 
 reg_globals : (w : Words) (k : ℕ) (f : Flight) (st : Stage)
     → (accessed w (Named (word.Reg k (register_met f st))) (reg_access f st)).globals ≡ w.globals
 reg_globals w k f stage.Store = refl
-reg_globals w k f stage.Put = refl
-reg_globals w k f _ = refl
+reg_globals w k f _ = cc
 
 reg_heap : (w : Words) (k : ℕ) (f : Flight) (st : Stage)
     → (accessed w (Named (word.Reg k (register_met f st))) (reg_access f st)).heap ≡ w.heap
 reg_heap w k f stage.Store = refl
-reg_heap w k f stage.Put = refl
-reg_heap w k f _ = refl
+reg_heap w k f _ = cc
 
 -- a begun call has loaded nothing
 begun_carries : (bs : List ℕ) (o : Op) (n : NeverState) (k : ℕ) → CarriesOwn bs n k (begun o)
@@ -193,7 +181,6 @@ module _ (c : Config) (w : World) (n : NeverState) (known : KnownWorld c w) (mir
       dirty_by (op.SetNum q' i m) q p r l a was = bare_on k (op.SetNum q' i m) _ was refl
       dirty_by (op.SetPtr q' i p') q p r l a was = bare_on k (op.SetPtr q' i p') _ was refl
       dirty_by (op.CasPtr q' i p' r') q p r l a was = bare_on k (op.CasPtr q' i p' r') _ was refl
-      dirty_by (op.New d ty full) q p r l a was = cc
       dirty_by _ q p r l a was = cc
 
   pub reg_leads_at : (k : ℕ) → Meets c w k step.Reg → AdmittedAt c w n k step.Reg → LeadsAt c w n safe k step.Reg

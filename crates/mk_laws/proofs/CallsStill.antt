@@ -1,27 +1,19 @@
 -- A caller whose gate is held decides no call, so its registers stay as they are in the heap that never reuses storage,
 -- and where all gates are held, all of that heap does.
-use Rattle.std.proofs.Common.{List, ap, arith, false, inl, inr, refl, subst, sym, true, ℕ, ◌++◌, ◌<◌, ◌∙◌, ◌∷◌, ◌≡◌, []}
-use Rattle.std.proofs.Common.{◌≢◌}
-use Rattle.std.specs.Prelude.{None, Option, Some, slice_index, ◌==◌, ◌||◌}
-use Rattle.std.proofs.lemmas.Bool.{cases_eq, ltb-true}
-use Rattle.mk_laws.proofs.Vocabulary.{Answer, AreOfOthers, Call, Caller, Config, Event, Flight, Holds, Host}
-use Rattle.mk_laws.proofs.Vocabulary.{IsHistory, KeepsRegisters, Marker, Moment, NeverState, Op, Seat, Stage, Step}
-use Rattle.mk_laws.proofs.Vocabulary.{World, Written, after_calls, all_below, asked, call_decided, comes_next}
-use Rattle.mk_laws.proofs.Vocabulary.{entry_of, flight_of, found, holder_number, is_number_of, is_one_of, left}
-use Rattle.mk_laws.proofs.Vocabulary.{never_behind, progress, register_at}
-use Rattle.mk_never.proofs.Registers.{admitted_keep}
+use Rattle.mk_laws.proofs.Vocabulary.{AreOfOthers, Call, Caller, Config, Event, Flight, Holds, Host, IsHistory}
+use Rattle.mk_laws.proofs.Vocabulary.{KeepsRegisters, List, Marker, Moment, NeverState, None, Op, Seat, Some, Stage}
+use Rattle.mk_laws.proofs.Vocabulary.{Step, World, Written, [], admitted_keep, after_calls, ap, arith, asked}
+use Rattle.mk_laws.proofs.Vocabulary.{call_decided, cases_eq, comes_next, false, flight_of, found, holder_number, inl}
+use Rattle.mk_laws.proofs.Vocabulary.{inr, is_one_of, left, ltb-true, never_behind, progress, refl, slice_index, true}
+use Rattle.mk_laws.proofs.Vocabulary.{ℕ, ◌++◌, ◌<◌, ◌∙◌, ◌∷◌, ◌≡◌, ◌≢◌}
+use Rattle.mk_laws.proofs.Basics.{Known, Meets, along_others, others_held, view_of}
 use Rattle.mk_core.specs.declared.events.Step.TheVariants as step
 use Rattle.mk_core.specs.declared.seats.Stage.TheVariants as stage
 use Rattle.mk_core.specs.Frames.{HoldsAll}
-use Rattle.mk_laws.proofs.Actors.{Meets}
-use Rattle.mk_laws.proofs.Asked.{others_held}
 use Rattle.mk_laws.proofs.ProtocolFrames.{left_after, other_seat}
-use Rattle.mk_laws.proofs.Known.{Known}
-use Rattle.mk_laws.proofs.Views.{view_of}
 use Rattle.mk_laws.proofs.FreedRuns.{never_after}
 use Rattle.mk_laws.proofs.ImagesHeldGates.{held_idle}
 use Rattle.mk_laws.proofs.AskedStill.{begins_nothing}
-use Rattle.mk_laws.proofs.Grown.{along_others}
 use Rattle.mk_laws.proofs.LastEvents.{comes_last, stands}
 use Rattle.mk_laws.proofs.OtherCalls.{call_not_by}
 
@@ -30,8 +22,7 @@ idle_decides_nothing : (c : Config) (m : Moment) (f : Flight) (s : Stage) (o : O
     → comes_next s o x ≡ true → (progress c m f n x).answer ≡ None
 idle_decides_nothing c m f stage.Idle o n (step.Enter next) is h = begins_nothing f next n
 idle_decides_nothing c m f stage.Idle o n (step.Take (Some next)) is h = begins_nothing f next n
-idle_decides_nothing c m f stage.Idle o n _ is h = cc
-idle_decides_nothing c m f _ o n x is h = cc
+idle_decides_nothing c m f _ o n _ is h = cc
 
 held_decides_nothing : (c : Config) (m : Moment) (k : ℕ) (x : Step) → Known c m → Meets c m (Caller k) x
     → slice_index m.words.gates k ≡ 2 → asked (call_decided c m (record { seat = Caller k; step = x })) ≡ []

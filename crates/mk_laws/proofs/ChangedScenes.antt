@@ -1,16 +1,12 @@
 -- What a change of the scene leaves to show, and steps that store to the heap.
-use Rattle.std.proofs.Common.{◌≡◌, ◌≢◌, ℕ, false, List, refl, sym, ◌∙◌, subst}
-use Rattle.std.specs.Prelude.{slice_index, slice_set}
-use Rattle.std.proofs.lemmas.Bool.{and_parts, true≢false}
-use Rattle.mk_never.proofs.Edits.{set_by}
-use Rattle.mk_laws.proofs.Vocabulary.{AreOfPages, Config, IsWithinLimits, Page, Seat, Step, Words, World, has_bit}
-use Rattle.mk_laws.proofs.Vocabulary.{is_phase, placed_at, without}
+use Rattle.mk_laws.proofs.Vocabulary.{AreOfPages, Config, HasZeros, IsFreedWord, IsReleasedWord, IsWithinLimits}
+use Rattle.mk_laws.proofs.Vocabulary.{IsWordOfMapped, List, MayHold, OfFreedRun, OfMapped, OfReleased, OthersAreZero}
+use Rattle.mk_laws.proofs.Vocabulary.{Page, Seat, Step, Words, World, ZeroScene, and_parts, false, has_bit, is_phase}
+use Rattle.mk_laws.proofs.Vocabulary.{is_released_there, object_now, placed_at, refl, set_by, slice_index, slice_set}
+use Rattle.mk_laws.proofs.Vocabulary.{subst, sym, true≢false, without, zero_scene_with, ℕ, ◌∙◌, ◌≡◌, ◌≢◌}
 use Rattle.mk_laws.proofs.Known.{Known}
-use Rattle.mk_laws.specs.Terrain.{object_now}
 use Rattle.mk_laws.proofs.Released.{all_stand}
 use Rattle.mk_laws.proofs.StandingClaims.{IsStanding}
-use Rattle.mk_laws.specs.Zeros.{is_released_there, ZeroScene, zero_scene_with, IsWordOfMapped, IsReleasedWord}
-use Rattle.mk_laws.specs.Zeros.{IsFreedWord, MayHold, OfMapped, OfReleased, OfFreedRun, OthersAreZero, HasZeros}
 use Rattle.mk_laws.specs.ZeroLaws.{ZeroPremises}
 use Rattle.mk_core.proofs.RegisterAccesses.{LeavesTable}
 

@@ -1,20 +1,17 @@
 -- What each kind of step changes of what the guard reads.
-use Rattle.std.proofs.Common.{◌≡◌, ◌⊎◌, ℕ, ◌*◌, ◌/◌, ◌<◌, Bool, true, false, List, length, refl, sym, ◌∙◌, ap, subst}
-use Rattle.std.proofs.Common.{inl, inr, arith}
-use Rattle.std.specs.Prelude.{nat_le, nat_lt, slice_index, slice_index_or, slice_set}
-use Rattle.std.proofs.lemmas.Bool.{cases_eq, cases_lt, true≢false, ltb-true, and_parts}
-use Rattle.std.proofs.lemmas.List.{get_or-set_same, get_or-set_other, set_past}
-use Rattle.mk_laws.proofs.Vocabulary.{Access, AreOfPages, Caller, Config, DirtyIsOwed, Flight, Host, IsGuarded}
-use Rattle.mk_laws.proofs.Vocabulary.{Load, Marker, Moment, Named, OnlyGrow, Op, OwesDirty, Page, Seat, Stage, Step}
-use Rattle.mk_laws.proofs.Vocabulary.{Store, Tally, Words, accessed, at_rest, caller_number, comes_next, flight_of}
-use Rattle.mk_laws.proofs.Vocabulary.{found, free_page, has_bit, header_at, page_met, progress, reg_access}
-use Rattle.mk_laws.proofs.Vocabulary.{register_met, stage_behind, steps_of, tally_word, word_met}
+use Rattle.mk_laws.proofs.Vocabulary.{Access, AreOfPages, Bool, Caller, Config, DirtyIsOwed, Flight, Host, IsGuarded}
+use Rattle.mk_laws.proofs.Vocabulary.{IsMarking, List, Load, Marker, Moment, Named, OnlyGrow, Op, OwesDirty, Page, Seat}
+use Rattle.mk_laws.proofs.Vocabulary.{Stage, Step, Store, Tally, Words, accessed, and_parts, ap, arith, at_rest}
+use Rattle.mk_laws.proofs.Vocabulary.{caller_number, cases_eq, cases_lt, comes_next, false, flight_of, found, free_page}
+use Rattle.mk_laws.proofs.Vocabulary.{get_or-set_other, get_or-set_same, header_at, inl, inr, length, ltb-true, nat_le}
+use Rattle.mk_laws.proofs.Vocabulary.{nat_lt, no_bit, page_met, progress, refl, set_past, slice_index, slice_index_or}
+use Rattle.mk_laws.proofs.Vocabulary.{slice_set, stage_behind, steps_of, subst, sym, tally_word, true, true≢false}
+use Rattle.mk_laws.proofs.Vocabulary.{word_met, ℕ, ◌*◌, ◌<◌, ◌∙◌, ◌≡◌, ◌⊎◌}
 use Rattle.mk_never.specs.declared.operations.Op.TheVariants as op
 use Rattle.mk_core.specs.declared.events.Tally.TheVariants as tally
 use Rattle.mk_core.specs.declared.events.Word.TheVariants as word
 use Rattle.mk_core.specs.declared.events.Step.TheVariants as step
 use Rattle.mk_core.specs.declared.seats.Stage.TheVariants as stage
-use Rattle.mk_core.proofs.WordBits.{no_bit}
 use Rattle.mk_laws.proofs.Standings.{standing_at, is_astray}
 use Rattle.mk_laws.proofs.NextSteps.{at_its_stage}
 use Rattle.mk_laws.proofs.Actors.{Meets}
@@ -22,8 +19,7 @@ use Rattle.mk_laws.proofs.SameWords.{Behind}
 use Rattle.mk_laws.proofs.OrderlyLists.{not_astray}
 use Rattle.mk_laws.proofs.Known.{Known}
 use Rattle.mk_laws.proofs.Growth.{grows_same, grows_more}
-use Rattle.mk_laws.proofs.Colours.{Colours, colours_of, ColourStep, ClearsMarks, AddsMarks, MarksSeen, colour_step}
-use Rattle.mk_laws.specs.Guard.{IsMarking}
+use Rattle.mk_laws.proofs.Colours.{Colours, ColourStep, ClearsMarks, AddsMarks, MarksSeen, colour_step}
 use Rattle.mk_laws.proofs.Wells.{bare_guarded}
 
 -- the words that only a few kinds change
@@ -63,7 +59,6 @@ reg_table c m seat =
 
 wrote : (o : Op) → is_astray (standing_at stage.Write o) ≡ false → stage_behind stage.Write (steps_of o) ≡ stage.Dirty
 wrote (op.SetNum q i n) h = refl
-wrote (op.SetPtr q i p) h = refl
 wrote _ h = cc
 
 swapped : (o : Op) → is_astray (standing_at stage.Cas o) ≡ false → stage_behind stage.Cas (steps_of o) ≡ stage.Dirty
@@ -195,7 +190,6 @@ headers_kind c m seat step.Reg u p =
     ap (λ (t : Table). (slice_index_or t.pages p free_page).header) (reg_table c m seat)
 headers_kind c m seat (step.Tally n v) u p =
     ap (λ (t : Table). (slice_index_or t.pages p free_page).header) (tally_table m.words n v)
-headers_kind c m seat (step.Head q n) u p = cc
 headers_kind c m seat (step.Used q n) u p = elim (cases_eq p q) [
   | inl e ↦ elim (cases_lt q (length m.words.pages)) [
     | inl lt ↦
@@ -206,7 +200,7 @@ headers_kind c m seat (step.Used q n) u p = elim (cases_eq p q) [
   | inr ne ↦ ap (λ (y : Page). y.header)
       (get_or-set_other m.words.pages q p (record { header = header_at m.words q; used = n }) free_page ne)
 ]
-headers_kind c m seat _ u p = refl
+headers_kind c m seat _ u p = cc
 
 -- marks only grow while a cycle marks
 marks_grow : (c : Config) (m : Moment) (seat : Seat) (y : Colours) → IsMarking m.words → ColourStep c m seat y

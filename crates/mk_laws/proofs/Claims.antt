@@ -1,13 +1,9 @@
 -- The claims of the allocations, by their numbers, and after a change of each.
-use Rattle.std.proofs.Common.{List, ap, false, inl, inr, map, refl, subst, suc, sym, true, zero, ℕ, ◌∙◌, ◌∷◌, ◌≡◌, ◌⊎◌}
-use Rattle.std.proofs.Common.{[]}
-use Rattle.std.specs.Prelude.{Option}
-use Rattle.std.proofs.lemmas.Bool.{cases_Bool, cond-false, cond-true, true≢false}
-use Rattle.mk_laws.proofs.Vocabulary.{Cell, Config, PlacedAllocation, RunPages, cell_of_allocation, object_placed}
-use Rattle.mk_laws.proofs.Vocabulary.{placed_at}
-use Rattle.mk_core.proofs.ChangedAllocations.{LeavesPlaces, changed_at}
-use Rattle.mk_laws.specs.LayoutScene.{Among, AreApart, Claim, IsOfOneCell}
-use Rattle.mk_laws.specs.Terrain.{IsAtCell, claim_of, claims_of}
+use Rattle.mk_laws.proofs.Vocabulary.{Among, AreApart, Cell, Claim, Config, IsAtCell, IsOfOneCell, LeavesPlaces, List}
+use Rattle.mk_laws.proofs.Vocabulary.{Option, PlacedAllocation, RunPages, [], ap, cases_Bool, cell_of_allocation}
+use Rattle.mk_laws.proofs.Vocabulary.{changed_at, claim_of, claims_of, cond-false, cond-true, false, inl, inr, map}
+use Rattle.mk_laws.proofs.Vocabulary.{object_placed, placed_at, refl, subst, suc, sym, true, true≢false, zero, ℕ, ◌∙◌}
+use Rattle.mk_laws.proofs.Vocabulary.{◌∷◌, ◌≡◌, ◌⊎◌}
 
 -- the unreleased allocation whose claim it is
 pub record IsClaimOf (c : Config) (run : Option RunPages) (xs : List PlacedAllocation) (x : Claim) : Type 0 where

@@ -1,18 +1,14 @@
 -- Where cells are closed, so are the allocations that stand there.
-use Rattle.std.proofs.Common.{◌≡◌, ℕ, ◌+◌, ◌-◌, ◌/◌, true, false, sym, ◌∙◌, ap, subst, inl, arith}
-use Rattle.std.specs.Prelude.{◌||◌, not}
-use Rattle.std.proofs.lemmas.Bool.{and_parts, not-true}
-use Rattle.mk_laws.proofs.Vocabulary.{Config, HasItsHeaders, IsWithinLimits, IsWordOf, MarksAreClosed}
-use Rattle.mk_laws.proofs.Vocabulary.{PlacedAllocation, Words, World, cell_words, first_word, has_no_pointers}
-use Rattle.mk_laws.proofs.Vocabulary.{header_at, header_in, header_made, header_of, is_mapped, is_unmapped_header}
-use Rattle.mk_laws.proofs.Vocabulary.{object_placed, placed_at, storage_of, storage_words, word_points_well}
+use Rattle.mk_laws.proofs.Vocabulary.{CellsAreClosed, Config, HasItsHeaders, IsWithinLimits, IsWordOf, MarksAreClosed}
+use Rattle.mk_laws.proofs.Vocabulary.{PlacedAllocation, Words, World, and_parts, arith, cell_words, cells_begin, false}
+use Rattle.mk_laws.proofs.Vocabulary.{first_page_shows, first_word, has_no_pointers, header_at, header_in, header_made}
+use Rattle.mk_laws.proofs.Vocabulary.{inl, is_mapped, made_is_mapped, not-true, object_placed, pages_some}
+use Rattle.mk_laws.proofs.Vocabulary.{part_has_no_pointers, placed_at, storage_of, storage_words, subst, sym, true}
+use Rattle.mk_laws.proofs.Vocabulary.{typed_size, word_points_well, ℕ, ◌+◌, ◌-◌, ◌/◌, ◌∙◌, ◌≡◌}
 use Rattle.mk_geom.specs.StorageWords.{cell_of_storage}
 use Rattle.mk_core.specs.ClosedMarks.{is_marked_allocation}
-use Rattle.mk_core.proofs.Sizes.{pages_some}
-use Rattle.mk_core.proofs.ObjectHeaders.{made_is_mapped, part_has_no_pointers}
-use Rattle.mk_core.proofs.StandingAllocations.{typed_size, first_page_shows, cells_begin, cell_is_known}
+use Rattle.mk_core.proofs.StandingAllocations.{cell_is_known}
 use Rattle.mk_core.proofs.PointedAllocations.{marked_where_its_cell_is}
-use Rattle.mk_laws.specs.Guard.{CellsAreClosed}
 use Rattle.mk_laws.specs.Kept.{StandsMapped}
 
 has_headers : (c : Config) (w : Words) (a : PlacedAllocation) → StandsMapped c w a → HasItsHeaders c w a

@@ -1,32 +1,23 @@
 -- `close`: no dirty word, nothing owed, marked cells black; so the marks are closed.
-use Rattle.std.proofs.Common.{◌≡◌, ℕ, ◌+◌, ◌/◌, ◌<◌, true, false, refl, sym, ◌∙◌, ap, subst, inl, inr, arith}
-use Rattle.std.specs.Prelude.{slice_index, slice_index_or, min, ◌&&◌, ◌==◌, bit_and}
+use Rattle.std.specs.Prelude.{min, bit_and}
 use Rattle.std.specs.List.{list_all}
-use Rattle.std.specs.Int.{bit_at}
-use Rattle.std.proofs.lemmas.Bool.{cases_eq, cases_lt, true≢false, eqb-true, eq-eqb, and_parts}
-use Rattle.std.proofs.lemmas.List.{get_or_past}
 use Rattle.std.proofs.lemmas.Nat.Bits.{bit_at_and, bit_at_ones}
-use Rattle.mk_laws.proofs.Vocabulary.{AreOfPages, BlackIsGuarded, Caller, Config, DirtyIsOwed, Flight, Host}
+use Rattle.mk_laws.proofs.Vocabulary.{AreOfPages, BlackIsGuarded, Caller, CellsAreClosed, Config, DirtyIsOwed, Host}
 use Rattle.mk_laws.proofs.Vocabulary.{IsGuarded, Marker, Moment, Page, PageIsDirty, PointsWell, Seat, Stage, Words}
-use Rattle.mk_laws.proofs.Vocabulary.{all_below, at_rest, cells_under, comes_next, first_word, flight_of, free_page}
-use Rattle.mk_laws.proofs.Vocabulary.{has_bit, has_closed_page, header_in, header_of, holder_number, none_attends}
-use Rattle.mk_laws.proofs.Vocabulary.{points_well, roots_point_well, without, word_points_well}
+use Rattle.mk_laws.proofs.Vocabulary.{all_below, all_below-at, and_parts, ap, arith, at_rest, bit_at, cases_eq}
+use Rattle.mk_laws.proofs.Vocabulary.{cases_lt, cells_under, eq-eqb, eqb-true, false, fewer_bits, first_word, flight_of}
+use Rattle.mk_laws.proofs.Vocabulary.{free_page, get_or_past, has_bit, has_closed_page, header_in, header_of}
+use Rattle.mk_laws.proofs.Vocabulary.{holder_number, inl, inr, none_attends, points_well, refl, roots_point_well}
+use Rattle.mk_laws.proofs.Vocabulary.{slice_index, slice_index_or, subst, sym, true, true≢false, without}
+use Rattle.mk_laws.proofs.Vocabulary.{word_points_well, ℕ, ◌&&◌, ◌+◌, ◌/◌, ◌<◌, ◌∙◌, ◌≡◌}
+use Rattle.mk_laws.proofs.Basics.{InCall, Known, Meets, calls_stand, is_astray, not_astray, others_held, shows_at}
+use Rattle.mk_laws.proofs.Basics.{standing, standing_at, view_of}
 use Rattle.mk_core.specs.declared.events.Step.TheVariants as step
 use Rattle.mk_core.specs.declared.seats.Stage.TheVariants as stage
 use Rattle.mk_core.specs.Cells.{cell_bits}
-use Rattle.mk_core.proofs.AllBelow.{all_below-at}
 use Rattle.mk_core.proofs.ListTests.{list_all-at}
-use Rattle.mk_core.proofs.WordBits.{without_none, fewer_bits}
+use Rattle.mk_core.proofs.WordBits.{without_none}
 use Rattle.mk_core.proofs.MarkTests.{null_points_well}
-use Rattle.mk_laws.proofs.Standings.{InCall, standing, standing_at, is_astray}
-use Rattle.mk_laws.proofs.Stages.{calls_stand}
-use Rattle.mk_laws.proofs.Views.{view_of}
-use Rattle.mk_laws.proofs.Orderly.{shows_at}
-use Rattle.mk_laws.proofs.Actors.{Meets}
-use Rattle.mk_laws.proofs.Asked.{others_held}
-use Rattle.mk_laws.proofs.OrderlyLists.{not_astray}
-use Rattle.mk_laws.proofs.Known.{Known}
-use Rattle.mk_laws.specs.Guard.{CellsAreClosed}
 use Rattle.mk_laws.proofs.Changes.{at_owed}
 
 -- where a `close` is enabled, no call owes a dirty word

@@ -1,13 +1,11 @@
 -- What an event may do to marks, blacks and dirty words, and to the hand of the turn's holder.
-use Rattle.std.proofs.Common.{◌≡◌, ◌⊎◌, ℕ, Bool, true, false, List, refl, sym, ◌∙◌, ap, subst, inl, inr, arith}
-use Rattle.std.specs.Prelude.{Option, None, is_some, slice_index, slice_set, bit_or, not, ◌&&◌, ◌||◌, ◌==◌}
-use Rattle.std.specs.Prelude.{if◌then◌else◌}
-use Rattle.std.proofs.lemmas.Bool.{not-true, eqb-true, or_cases, and_parts}
-use Rattle.mk_laws.proofs.Vocabulary.{Access, Config, Hand, Load, Moment, Named, OnlyGrow, Seat, Step, Store, Tally}
-use Rattle.mk_laws.proofs.Vocabulary.{Word, Words, accessed, caller_number, cell_seen, flight_of, found, head_page}
-use Rattle.mk_laws.proofs.Vocabulary.{is_attending, is_phase, marker_at, marker_of, none_attends, nothing_done}
-use Rattle.mk_laws.proofs.Vocabulary.{or_else, page_met, phase_of, reg_access, register_met, scan_page, seen_bit}
-use Rattle.mk_laws.proofs.Vocabulary.{seen_page, tally_word}
+use Rattle.mk_laws.proofs.Vocabulary.{Access, Bool, Config, Hand, List, Load, Moment, Named, None, OnlyGrow, Option}
+use Rattle.mk_laws.proofs.Vocabulary.{Seat, Step, Store, Tally, Word, Words, accessed, and_parts, arith, bit_or}
+use Rattle.mk_laws.proofs.Vocabulary.{caller_number, cell_seen, eqb-true, false, flight_of, found, head_page}
+use Rattle.mk_laws.proofs.Vocabulary.{if◌then◌else◌, inl, inr, is_attending, is_phase, is_some, marker_at, marker_of}
+use Rattle.mk_laws.proofs.Vocabulary.{none_attends, not, not-true, nothing_done, or_cases, or_else, page_met, phase_of}
+use Rattle.mk_laws.proofs.Vocabulary.{refl, reg_access, register_met, scan_page, seen_bit, seen_page, slice_index}
+use Rattle.mk_laws.proofs.Vocabulary.{slice_set, sym, tally_word, true, ℕ, ◌&&◌, ◌==◌, ◌||◌, ◌∙◌, ◌≡◌, ◌⊎◌}
 use Rattle.mk_core.specs.declared.events.Tally.TheVariants as tally
 use Rattle.mk_core.specs.declared.events.Word.TheVariants as word
 use Rattle.mk_core.specs.declared.events.Step.TheVariants as step

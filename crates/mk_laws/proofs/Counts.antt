@@ -1,11 +1,10 @@
 -- Counts of the numbers below one that pass a test.
-use Rattle.std.proofs.Common.{Bool, List, arith, false, length, min, refl, suc, sym, true, zero, ℕ, ◌+◌, ◌-◌, ◌<◌, ◌∙◌}
-use Rattle.std.proofs.Common.{◌∷◌, ◌≡◌, ◌≤◌}
-use Rattle.std.specs.Prelude.{cond, if◌then◌else◌, nat_le, nat_lt, slice_index_or, ◌&&◌, ◌||◌}
-use Rattle.std.proofs.lemmas.Bool.{leb-true, ltb-true, true≢false}
+use Rattle.std.proofs.Common.{min}
 use Rattle.std.proofs.lemmas.List.Recursion.{is_count_by}
 use Rattle.std.specs.List.{count_by}
-use Rattle.mk_laws.specs.Room.{count_below}
+use Rattle.mk_laws.proofs.Vocabulary.{Bool, List, arith, cond, count_below, false, if◌then◌else◌, leb-true, length}
+use Rattle.mk_laws.proofs.Vocabulary.{ltb-true, nat_le, nat_lt, refl, slice_index_or, suc, sym, true, true≢false, zero}
+use Rattle.mk_laws.proofs.Vocabulary.{ℕ, ◌&&◌, ◌+◌, ◌-◌, ◌<◌, ◌||◌, ◌∙◌, ◌∷◌, ◌≡◌, ◌≤◌}
 
 -- where fewer pass
 pub count_fewer : (n : ℕ) (test other : ℕ → Bool) → ((p : ℕ) → p < n → test p ≡ true → other p ≡ true)

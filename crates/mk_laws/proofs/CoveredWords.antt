@@ -1,11 +1,8 @@
 -- A word of a scanned cell that isn't 0 lies on a page that leads to the cell's page.
-use Rattle.std.proofs.Common.{◌≡◌, ◌≢◌, ℕ, ◌+◌, ◌*◌, ◌/◌, ◌%◌, ◌<◌, true, false, refl, ◌∙◌, ap, inl, inr, arith}
-use Rattle.std.specs.Prelude.{Option, Some, None, slice_index}
-use Rattle.std.proofs.lemmas.Bool.{cases_eq, true≢false}
-use Rattle.mk_laws.proofs.Vocabulary.{Block, Free, Header, Later, LeafBlock, LeafRun, Run, Words, cells_under}
-use Rattle.mk_laws.proofs.Vocabulary.{class_words_of, has_no_pointers, head_page, head_page_under, header_in}
-use Rattle.mk_laws.proofs.Vocabulary.{words_under}
-use Rattle.mk_geom.proofs.ClassTable.{cell_ends}
+use Rattle.mk_laws.proofs.Vocabulary.{Block, Free, Header, Later, None, Option, Run, Some, Words, ap, arith, cases_eq}
+use Rattle.mk_laws.proofs.Vocabulary.{cell_ends, cells_under, false, has_no_pointers, head_page, head_page_under}
+use Rattle.mk_laws.proofs.Vocabulary.{header_in, inl, inr, refl, slice_index, true, words_under, ℕ, ◌%◌, ◌*◌, ◌+◌, ◌/◌}
+use Rattle.mk_laws.proofs.Vocabulary.{◌<◌, ◌∙◌, ◌≡◌, ◌≢◌}
 use Rattle.mk_laws.specs.Kept.{LaterPagesAreKnown}
 
 -- a page that is its own head
@@ -44,9 +41,7 @@ covered_word w p k i later lk scanned li some = by (header_in w p) refl lk scann
         let ends = cell_ends k _ lk in
         own_head w p (Some (Block class)) is refl _ (omega arith)
     by (Some (Run count true)) is lk scanned li some = in_run count is lk li some
-    by (Some (Run count false)) is lk scanned li some = absurd (true≢false scanned)
-    by (Some (LeafBlock class)) is lk scanned li some = absurd (true≢false scanned)
-    by (Some (LeafRun count)) is lk scanned li some = absurd (true≢false scanned)
     by (Some Free) is lk scanned li some = absurd (omega arith)
     by (Some (Later d m)) is lk scanned li some = absurd (omega arith)
     by None is lk scanned li some = absurd (omega arith)
+    by _ is lk scanned li some = cc

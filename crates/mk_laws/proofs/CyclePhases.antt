@@ -1,15 +1,10 @@
 -- The phases of a cycle: which a step asks for and leaves, and between which steps they stand.
-use Rattle.std.proofs.Common.{◌≡◌, ℕ, ◌≤◌, ◌%◌, false, List, ◌∷◌, refl, sym, ap, subst, arith, []}
-use Rattle.std.specs.List.{list_any}
-use Rattle.std.proofs.lemmas.Bool.{eqb-true, or_from, or_parts}
-use Rattle.mk_laws.proofs.Vocabulary.{AreEnabledFrom, Config, Event, Moment, Seat, Step, World, is_begin, is_close}
-use Rattle.mk_laws.proofs.Vocabulary.{is_release, left_from, phase_of, world_behind}
+use Rattle.mk_laws.proofs.Vocabulary.{AreEnabledFrom, Config, Event, List, Moment, Seat, Step, World, [], ap, arith}
+use Rattle.mk_laws.proofs.Vocabulary.{enabled_meets, eqb-true, false, is_begin, is_close, is_release, left_from}
+use Rattle.mk_laws.proofs.Vocabulary.{list_any, or_from, or_parts, phase_of, refl, subst, sym, world_behind, ℕ, ◌%◌}
+use Rattle.mk_laws.proofs.Vocabulary.{◌∷◌, ◌≡◌, ◌≤◌}
+use Rattle.mk_laws.proofs.Basics.{Behind, Meets, Table, over_phase, reg_table, tally_table}
 use Rattle.mk_core.specs.declared.events.Step.TheVariants as step
-use Rattle.mk_core.proofs.Conditions.{enabled_meets}
-use Rattle.mk_laws.proofs.Actors.{Meets}
-use Rattle.mk_laws.proofs.SameWords.{Behind}
-use Rattle.mk_laws.proofs.Changes.{Table, reg_table, tally_table}
-use Rattle.mk_laws.proofs.Phases.{over_phase}
 pub use Rattle.mk_laws.proofs.ProtocolStepKinds.{begin_is, close_is, release_is}
 
 -- the phase that a step asks for

@@ -1,37 +1,23 @@
 -- Along a list without a `begin`, what was freed before the last one stays told by the flags.
-use Rattle.std.proofs.Common.{Bool, List, ap, arith, false, inl, inr, length, map, refl, suc, sym, true, zero, ℕ, ◌++◌}
-use Rattle.std.proofs.Common.{[]}
-use Rattle.std.proofs.Common.{◌∙◌, ◌∷◌, ◌≡◌, ◌≤◌, ◌⊎◌}
-use Rattle.std.specs.Prelude.{None, Option, Some, if◌then◌else◌, not, slice_index, ◌&&◌, ◌||◌}
-use Rattle.std.proofs.lemmas.Bool.{false_from_ne_true, true≢false}
-use Rattle.std.proofs.lemmas.List.{get_or_past, length-append, length-map}
-use Rattle.std.specs.List.{list_any}
-use Rattle.mk_laws.proofs.Vocabulary.{AreEnabledFrom, AreOfPages, Cell, Config, Event, IsWithinLimits}
-use Rattle.mk_laws.proofs.Vocabulary.{PlacedAllocation, Seat, Step, World, access, cell_freed, first_world}
-use Rattle.mk_laws.proofs.Vocabulary.{flight_of, freed_where_it_stands, granted, has_bit, is_begin, is_quarantined}
-use Rattle.mk_laws.proofs.Vocabulary.{left, left_from, never_granted, no_longer_fresh, placed_at, stands_in}
-use Rattle.mk_laws.proofs.Vocabulary.{with_released, word_accessed, world_behind}
+use Rattle.std.proofs.lemmas.List.{length-append}
+use Rattle.mk_laws.proofs.Vocabulary.{AreEnabledFrom, AreOfPages, Bool, Cell, Config, Event, IsQuarantined}
+use Rattle.mk_laws.proofs.Vocabulary.{IsWithinLimits, LayoutPremisesFrom, LayoutStands, List, None, Option}
+use Rattle.mk_laws.proofs.Vocabulary.{PlacedAllocation, Seat, Some, StandsInOrder, Step, World, [], access}
+use Rattle.mk_laws.proofs.Vocabulary.{accessed_lengths, ap, arith, cell_freed, enabled_meets, false, false_from_ne_true}
+use Rattle.mk_laws.proofs.Vocabulary.{first_world, flight_of, freed_cell, freed_where_it_stands, get_or_past, granted}
+use Rattle.mk_laws.proofs.Vocabulary.{has_bit, if◌then◌else◌, inl, inr, is_begin, is_quarantined, left, left_append}
+use Rattle.mk_laws.proofs.Vocabulary.{left_from, length, length-map, list_any, map, never_granted, no_longer_fresh}
+use Rattle.mk_laws.proofs.Vocabulary.{none_freed, not, placed_at, refl, slice_index, stands_in, suc, sym, true}
+use Rattle.mk_laws.proofs.Vocabulary.{true≢false, with_released, word_accessed, world_behind, zero, zero_lengths, ℕ}
+use Rattle.mk_laws.proofs.Vocabulary.{◌&&◌, ◌++◌, ◌||◌, ◌∙◌, ◌∷◌, ◌≡◌, ◌≤◌, ◌⊎◌}
+use Rattle.mk_laws.proofs.Basics.{Before, Known, Meets, WorldBehind, begin_is, freeing_leaves, known_at_first}
+use Rattle.mk_laws.proofs.Basics.{known_behind, releasing_leaves}
 use Rattle.mk_core.specs.declared.events.Step.TheVariants as step
-use Rattle.mk_core.proofs.ChangedAllocations.{none_freed}
-use Rattle.mk_core.proofs.Conditions.{enabled_meets}
-use Rattle.mk_core.proofs.Histories.{left_append}
-use Rattle.mk_core.proofs.Lengths.{accessed_lengths, zero_lengths}
-use Rattle.mk_core.proofs.PlacesNow.{freed_cell}
-use Rattle.mk_laws.proofs.Actors.{Meets}
-use Rattle.mk_laws.proofs.Known.{Known, known_at_first, known_behind}
-use Rattle.mk_laws.proofs.OthersMoves.{WorldBehind}
-use Rattle.mk_laws.specs.LayoutLaws.{LayoutPremisesFrom, StandsInOrder}
-use Rattle.mk_laws.specs.Quarantine.{IsQuarantined}
 use Rattle.mk_laws.specs.Snapshots.{SnapshotsAreOfCycles}
-use Rattle.mk_laws.specs.Terrain.{LayoutStands}
-use Rattle.mk_laws.proofs.LayoutBefore.{Before}
 use Rattle.mk_laws.proofs.LayoutByKind.{fresh_cells}
-use Rattle.mk_laws.proofs.Freed.{freeing_leaves}
 use Rattle.mk_laws.proofs.LayoutHistories.{in_order_at_first, known_before, order_behind}
 use Rattle.mk_laws.proofs.QuarantineByKind.{frees_here}
 use Rattle.mk_laws.proofs.QuarantineChanges.{FreesHere, before_change}
-use Rattle.mk_laws.proofs.Released.{releasing_leaves}
-use Rattle.mk_laws.proofs.ProtocolStepKinds.{begin_is}
 
 -- freed, and not after the last `begin`
 abbrev is_freed_before : PlacedAllocation → Bool

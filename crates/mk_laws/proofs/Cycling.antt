@@ -1,13 +1,8 @@
 -- Whether the phase is one of a cycle's, after each kind of event.
-use Rattle.std.proofs.Common.{Bool, ap, arith, false, refl, sym, true, ℕ, ◌%◌, ◌+◌, ◌-◌, ◌^◌, ◌∙◌, ◌≡◌}
-use Rattle.std.proofs.lemmas.Bool.{eqb-true}
-use Rattle.mk_laws.proofs.Vocabulary.{Config, Seat, Step, World, phase_of}
+use Rattle.mk_laws.proofs.Vocabulary.{Bool, Config, Seat, Step, World, ap, arith, eqb-true, false, is_cycling, phase_of}
+use Rattle.mk_laws.proofs.Vocabulary.{refl, sym, true, ℕ, ◌%◌, ◌+◌, ◌-◌, ◌^◌, ◌∙◌, ◌≡◌}
+use Rattle.mk_laws.proofs.Basics.{Meets, WorldBehind, reg_leaves, tally_keeps}
 use Rattle.mk_core.specs.declared.events.Step.TheVariants as step
-use Rattle.mk_laws.proofs.Actors.{Meets}
-use Rattle.mk_laws.proofs.OthersMoves.{WorldBehind}
-use Rattle.mk_laws.proofs.SameWords.{tally_keeps}
-use Rattle.mk_laws.specs.Quarantine.{is_cycling}
-use Rattle.mk_laws.proofs.LayoutBefore.{reg_leaves}
 use Rattle.mk_laws.proofs.Behind.{over_phase}
 
 -- whether the phase is one of a cycle's after a step

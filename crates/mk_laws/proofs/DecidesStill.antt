@@ -1,26 +1,18 @@
 -- The call that an event decides after a list, it decides after what others did since, and it is admitted there.
-use Rattle.std.proofs.Common.{Bool, List, ap, inl, inr, refl, subst, sym, true, ℕ, ◌++◌, ◌<◌, ◌∙◌, ◌∷◌, ◌≡◌, []}
-use Rattle.std.specs.Prelude.{None, Some, if◌then◌else◌, is_some, not, ◌&&◌, ◌==◌}
-use Rattle.std.proofs.lemmas.Bool.{cases_Bool, ltb-true}
-use Rattle.mk_laws.proofs.Vocabulary.{AreAdmitted, AreOfOthers, Call, Caller, Config, Event, Flight, Holds}
-use Rattle.mk_laws.proofs.Vocabulary.{IsEnabled, IsHistory, IsInCall, IsLeft, Seat, Steady, Step, Word, Words}
-use Rattle.mk_laws.proofs.Vocabulary.{World, answer_decided, asked, call_decided, cell_freed, entry_of, flight_of}
-use Rattle.mk_laws.proofs.Vocabulary.{found, frees, header_in, header_of, is_unmapped_header, left, never_behind}
-use Rattle.mk_laws.proofs.Vocabulary.{onward, page_met, progress, q_of, refused, register_met, sees_double, target}
-use Rattle.mk_laws.proofs.Vocabulary.{word_accessed}
-use Rattle.mk_core.specs.declared.accesses.TableWord.{TableWord}
+use Rattle.mk_laws.proofs.Vocabulary.{AreAdmitted, AreOfOthers, Bool, Caller, Config, Event, Flight, Holds, IsEnabled}
+use Rattle.mk_laws.proofs.Vocabulary.{IsHistory, IsInCall, IsLeft, List, None, Seat, Some, Steady, Step, Word, Words}
+use Rattle.mk_laws.proofs.Vocabulary.{World, [], answer_decided, ap, asked, call_decided, cases_Bool, cell_freed}
+use Rattle.mk_laws.proofs.Vocabulary.{enabled_meets, entry_of, flight_of, found, frees, header_in, header_of}
+use Rattle.mk_laws.proofs.Vocabulary.{if◌then◌else◌, inl, inr, is_some, is_unmapped_header, left, ltb-true}
+use Rattle.mk_laws.proofs.Vocabulary.{never_behind, not, onward, page_met, progress, q_of, refl, refused, sees_double}
+use Rattle.mk_laws.proofs.Vocabulary.{subst, sym, target, true, word_accessed, ℕ, ◌&&◌, ◌++◌, ◌<◌, ◌==◌, ◌∙◌, ◌∷◌, ◌≡◌}
+use Rattle.mk_laws.proofs.Basics.{InCall, Meets, actor_of, at_its_stage, calls_stand, in_call_told, is_call_stage}
+use Rattle.mk_laws.proofs.Basics.{is_holders, not_astray, operands_of, register_small, standing}
 use Rattle.mk_core.specs.declared.events.Answer.TheVariants as answer
 use Rattle.mk_core.specs.declared.events.Step.TheVariants as step
 use Rattle.mk_core.specs.declared.seats.Stage.TheVariants as stage
-use Rattle.mk_core.specs.Words.{word_in}
-use Rattle.mk_core.proofs.Conditions.{enabled_meets}
-use Rattle.mk_laws.proofs.Actors.{Meets, is_holders}
-use Rattle.mk_laws.proofs.NextSteps.{at_its_stage}
-use Rattle.mk_laws.proofs.Operands.{operands_of, register_small}
-use Rattle.mk_laws.proofs.OrderlyLists.{actor_of, not_astray}
 use Rattle.mk_laws.proofs.Reaching.{others_leave_accesses}
-use Rattle.mk_laws.proofs.Stages.{calls_stand, is_call_stage}
-use Rattle.mk_laws.proofs.Standings.{InCall, in_call_told, is_standing_in_call, standing}
+use Rattle.mk_laws.proofs.Standings.{is_standing_in_call}
 use Rattle.mk_laws.proofs.CallSorts.{admitted_call, call_outside}
 use Rattle.mk_laws.proofs.AdmittedStill.{call_on}
 use Rattle.mk_laws.proofs.AskedStill.{asked_the_same}

@@ -1,44 +1,28 @@
 -- On a dirty page, and on one whose dirty mark a call owes, an unreleased allocation stands. Only a `release` could end
 -- that, and at a `release` no page is dirty and no mark is owed.
-use Rattle.std.proofs.Common.{◌≡◌, ◌≢◌, ◌⊎◌, ℕ, true, false, List, ◌∷◌, ◌++◌, length, refl, sym, ◌∙◌, ap, subst, inl}
-use Rattle.std.proofs.Common.{[]}
-use Rattle.std.proofs.Common.{inr, arith, append-nil}
-use Rattle.std.specs.Prelude.{slice_index, slice_index_or, slice_set, ◌==◌, ◌&&◌}
-use Rattle.std.proofs.lemmas.Bool.{cases_eq, cases_lt, and_parts, eqb-true, ltb-true, true≢false}
-use Rattle.std.proofs.lemmas.List.{get_or-set_other, get_or-set_same, get_or_past, set_past}
 use Rattle.mk_laws.proofs.Vocabulary.{AreAdmitted, AreEnabledFrom, Call, Caller, Config, Decided, Event, Flight}
-use Rattle.mk_laws.proofs.Vocabulary.{Host, IsHistory, Marker, Moment, Seat, Stage, Step, World, all_below, asked}
-use Rattle.mk_laws.proofs.Vocabulary.{at_rest, call_decided, calls_from, first_world, flight_of, found}
-use Rattle.mk_laws.proofs.Vocabulary.{has_closed_page, is_release, left, left_from, never_behind, none_attends}
-use Rattle.mk_laws.proofs.Vocabulary.{page_met, phase_of, placed_at, progress, roots_point_well, storage_words}
-use Rattle.mk_laws.proofs.Vocabulary.{word_met}
+use Rattle.mk_laws.proofs.Vocabulary.{HasAllocation, Host, IsHistory, IsWordOfMapped, List, Marker, Moment, OfHistories}
+use Rattle.mk_laws.proofs.Vocabulary.{Seat, Stage, Step, World, [], admitted_in_parts, all_below, all_below-at}
+use Rattle.mk_laws.proofs.Vocabulary.{and_parts, ap, append-nil, arith, asked, at_rest, call_decided, calls_from}
+use Rattle.mk_laws.proofs.Vocabulary.{cases_eq, cases_lt, earlier_part_is_history, enabled_in_parts, eqb-true, false}
+use Rattle.mk_laws.proofs.Vocabulary.{first_world, flight_of, found, get_or-set_other, get_or-set_same, get_or_past}
+use Rattle.mk_laws.proofs.Vocabulary.{has_closed_page, inl, inr, is_heap_store, is_release, left, left_from, left_more}
+use Rattle.mk_laws.proofs.Vocabulary.{length, ltb-true, never_behind, none_attends, page_met, phase_of, placed_at}
+use Rattle.mk_laws.proofs.Vocabulary.{progress, refl, roots_point_well, set_past, slice_index, slice_index_or}
+use Rattle.mk_laws.proofs.Vocabulary.{slice_set, storage_words, subst, sym, true, true≢false, word_met, ℕ, ◌&&◌, ◌++◌}
+use Rattle.mk_laws.proofs.Vocabulary.{◌==◌, ◌∙◌, ◌∷◌, ◌≡◌, ◌≢◌, ◌⊎◌}
+use Rattle.mk_laws.proofs.Basics.{Behind, InCall, KeptByEvents, Known, KnownWorld, Meets, Table, WorldBehind, at_first}
+use Rattle.mk_laws.proofs.Basics.{at_its_stage, before_it, calls_stand, holds_of_histories, is_astray, known_world}
+use Rattle.mk_laws.proofs.Basics.{mapped_stays, not_astray, reg_table, shows_at, standing, standing_at, tally_table}
+use Rattle.mk_laws.proofs.Basics.{view_of}
 use Rattle.mk_core.specs.declared.events.Step.TheVariants as step
 use Rattle.mk_core.specs.declared.seats.Stage.TheVariants as stage
-use Rattle.mk_core.proofs.AllBelow.{all_below-at}
-use Rattle.mk_core.proofs.Histories.{left_more}
-use Rattle.mk_core.proofs.HistoryParts.{admitted_in_parts, earlier_part_is_history, enabled_in_parts}
-use Rattle.mk_laws.proofs.Actors.{Meets}
-use Rattle.mk_laws.proofs.Known.{Known}
-use Rattle.mk_laws.proofs.NextSteps.{at_its_stage}
-use Rattle.mk_laws.proofs.Orderly.{shows_at}
-use Rattle.mk_laws.proofs.OrderlyLists.{at_first, not_astray}
-use Rattle.mk_laws.proofs.OthersMoves.{WorldBehind}
 use Rattle.mk_laws.proofs.Protocols.{protocol_of}
-use Rattle.mk_laws.proofs.SameWords.{Behind}
-use Rattle.mk_laws.proofs.Stages.{calls_stand}
-use Rattle.mk_laws.proofs.Standings.{InCall, is_astray, standing, standing_at}
-use Rattle.mk_laws.proofs.Views.{view_of}
-use Rattle.mk_laws.proofs.Changes.{Table, is_dirty, reg_table, tally_table}
-use Rattle.mk_laws.proofs.KnownWorlds.{KnownWorld, known_world}
-use Rattle.mk_laws.specs.Zeros.{IsWordOfMapped}
-use Rattle.mk_laws.specs.ZeroLaws.{is_heap_store}
-use Rattle.mk_laws.specs.Theorems.{OfHistories}
+use Rattle.mk_laws.proofs.Changes.{is_dirty}
 use Rattle.mk_laws.proofs.InvariantHistories.{histories_keep_the_invariant}
-use Rattle.mk_laws.proofs.Induction.{KeptByEvents, before_it, holds_of_histories}
 use Rattle.mk_laws.proofs.InvariantJoined.{told_to_zeros}
-use Rattle.mk_laws.specs.FreePages.{DirtyPagesHaveAllocations, HasAllocation}
+use Rattle.mk_laws.specs.FreePages.{DirtyPagesHaveAllocations}
 use Rattle.mk_laws.proofs.CyclePhases.{phase_asked, phase_behind, phase_moves}
-use Rattle.mk_laws.proofs.MappedWords.{mapped_stays}
 use Rattle.mk_laws.proofs.ReadingsKeptPlaces.{put_step}
 use Rattle.mk_laws.proofs.OwedMarks.{owes_since}
 

@@ -1,19 +1,12 @@
 -- `quar` (b) and (c), and `end`, on the terrain.
-use Rattle.std.proofs.Common.{Bool, List, arith, false, inl, inr, length, sym, true, ℕ, ◌<◌, ◌∙◌, ◌≡◌, ◌≢◌, ◌⊎◌}
-use Rattle.std.specs.Prelude.{not, slice_index, slice_set, ◌==◌, ◌||◌}
-use Rattle.std.proofs.lemmas.Bool.{and_parts, cases_Bool, cases_eq, cases_lt, eqb-false, eqb-true, not-true, or_cases}
-use Rattle.std.proofs.lemmas.Bool.{true≢false}
-use Rattle.std.proofs.lemmas.List.{get_or-set_other, get_or-set_same, set_past}
-use Rattle.mk_laws.proofs.Vocabulary.{Config, Object, Words, World, has_bit, head_page, header_at, may_end, used_at}
+use Rattle.mk_laws.proofs.Vocabulary.{Bool, Config, Drops, Ground, HasLayout, IsClaimed, List, Object, Words, World}
+use Rattle.mk_laws.proofs.Vocabulary.{all_below-at, and_parts, arith, cases_Bool, cases_eq, cases_lt, claims_on}
+use Rattle.mk_laws.proofs.Vocabulary.{eqb-false, eqb-true, false, get_or-set_other, get_or-set_same, ground_of, has_bit}
+use Rattle.mk_laws.proofs.Vocabulary.{has_bit_without, head_page, header_at, inl, inr, is_released_in, layout_scene_of}
+use Rattle.mk_laws.proofs.Vocabulary.{length, may_end, no_bit, not, not-true, or_cases, set_past, slice_index}
+use Rattle.mk_laws.proofs.Vocabulary.{slice_set, sym, true, true≢false, used_at, ℕ, ◌<◌, ◌==◌, ◌||◌, ◌∙◌, ◌≡◌, ◌≢◌, ◌⊎◌}
 use Rattle.mk_core.specs.Cells.{left_unmarked, none_is_left_unmarked}
 use Rattle.mk_core.specs.StopConditions.{has_settled_page}
-use Rattle.mk_core.proofs.AllBelow.{all_below-at}
-use Rattle.mk_core.proofs.BitsWithout.{has_bit_without}
-use Rattle.mk_core.proofs.PageSteps.{Drops}
-use Rattle.mk_core.proofs.WordBits.{no_bit}
-use Rattle.mk_laws.specs.LayoutScene.{IsClaimed, is_released_in}
-use Rattle.mk_laws.specs.Ground.{Ground, ground_of}
-use Rattle.mk_laws.specs.Terrain.{HasLayout, claims_on, layout_scene_of}
 use Rattle.mk_laws.proofs.Releasing.{layout_ended}
 use Rattle.mk_laws.proofs.Serving.{Laid}
 

@@ -1,24 +1,16 @@
 -- An event that is enabled after a list is enabled after what others did since.
-use Rattle.std.proofs.Common.{Bool, List, ap, arith, false, inl, inr, refl, subst, sym, true, ◌++◌, ◌+◌, ◌∙◌, ◌∷◌, ◌≡◌}
-use Rattle.std.proofs.Common.{[]}
-use Rattle.std.proofs.Common.{◌≢◌}
-use Rattle.std.specs.Prelude.{Option, if◌then◌else◌, ◌==◌}
-use Rattle.std.proofs.lemmas.Bool.{cases_Bool, eq-eqb, eqb-false, eqb-true, ltb-true, ne_eqb}
-use Rattle.mk_laws.proofs.Vocabulary.{AreOfOthers, Caller, Config, Event, Flight, Host, IsEnabled, IsHistory}
-use Rattle.mk_laws.proofs.Vocabulary.{IsLeft, Marker, MarkerState, MeetsAll, Moment, Op, Seat, Step, World}
-use Rattle.mk_laws.proofs.Vocabulary.{caller_number, comes_next, flight_of, has_gates, has_phase, holder_may}
-use Rattle.mk_laws.proofs.Vocabulary.{host_has_turn, is_in_range, left, marker_may, phase_of, reg_access}
-use Rattle.mk_laws.proofs.Vocabulary.{register_met}
+use Rattle.mk_laws.proofs.Vocabulary.{AreOfOthers, Bool, Caller, Config, Event, Flight, Host, IsEnabled, IsHistory}
+use Rattle.mk_laws.proofs.Vocabulary.{IsLeft, List, Marker, MeetsAll, Moment, Op, Option, Seat, Step, World, [], ap}
+use Rattle.mk_laws.proofs.Vocabulary.{arith, caller_number, cases_Bool, comes_next, earlier_part_is_history}
+use Rattle.mk_laws.proofs.Vocabulary.{enabled_meets, eq-eqb, eqb-false, eqb-true, false, flight_of, has_gates}
+use Rattle.mk_laws.proofs.Vocabulary.{has_phase, holder_may, host_has_turn, if◌then◌else◌, inl, inr, left, ltb-true}
+use Rattle.mk_laws.proofs.Vocabulary.{ne_eqb, phase_of, refl, sym, true, ◌++◌, ◌+◌, ◌==◌, ◌∙◌, ◌∷◌, ◌≡◌, ◌≢◌}
+use Rattle.mk_laws.proofs.Basics.{Behind, Meets, actor_of, along_others, reg_keeps, tally_keeps}
 use Rattle.mk_core.specs.declared.events.Step.TheVariants as step
-use Rattle.mk_core.specs.Order.{comes_next_to_host, is_in_order}
-use Rattle.mk_core.proofs.Conditions.{enabled_meets, meets_enabled}
-use Rattle.mk_core.proofs.HistoryParts.{earlier_part_is_history}
-use Rattle.mk_laws.proofs.Actors.{Meets}
+use Rattle.mk_core.specs.Order.{is_in_order}
+use Rattle.mk_core.proofs.Conditions.{meets_enabled}
 use Rattle.mk_laws.proofs.ProtocolFrames.{other_seat, others_leave}
-use Rattle.mk_laws.proofs.OrderlyLists.{actor_of}
-use Rattle.mk_laws.proofs.SameWords.{Behind, reg_keeps, tally_keeps}
 use Rattle.mk_laws.proofs.GatesStill.{gates_on, pages_same, phase_same}
-use Rattle.mk_laws.proofs.Grown.{along_others}
 use Rattle.mk_laws.proofs.HolderStill.{holder_on}
 use Rattle.mk_laws.proofs.FramesHolders.{Asks, OfHolder, OfNone, asks, holds_is}
 use Rattle.mk_laws.proofs.LastEvents.{comes_last, stands}

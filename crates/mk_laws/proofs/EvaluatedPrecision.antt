@@ -1,18 +1,16 @@
 -- The laws on a small cycle: its third allocation is freed and not touched, so it is released, and its storage free.
-use Rattle.std.proofs.Common.{[], refl, true, ◌∷◌, ◌≡◌}
-use Rattle.mk_core.specs.Allocations.{placed_at, storage_of, unreleased_storage}
-use Rattle.mk_core.specs.Bounded.{all_below}
-use Rattle.mk_core.specs.Cells.{pointed_cell}
-use Rattle.mk_core.specs.Cycles.{Cycle, NoneSweeps, Releasing, through}
-use Rattle.mk_core.specs.History.{left, left_from}
+use Rattle.mk_laws.proofs.Vocabulary.{Cycle, Releasing, [], all_below, begun_in_stop, left, left_from, marked_in_stop}
+use Rattle.mk_laws.proofs.Vocabulary.{placed_at, pointed_cell, refl, small, stopped_cycle, stopped_is_history}
+use Rattle.mk_laws.proofs.Vocabulary.{storage_of, three_objects, through, through_release, true, unreleased_storage}
+use Rattle.mk_laws.proofs.Vocabulary.{◌∷◌, ◌≡◌}
+use Rattle.mk_core.specs.Cycles.{NoneSweeps}
 use Rattle.mk_core.specs.declared.events.Seat.TheVariants as seat
 use Rattle.mk_core.specs.declared.events.Step.TheVariants as step
 use Rattle.mk_core.specs.declared.events.Tally.TheVariants as tally
 use Rattle.mk_core.proofs.EvaluatedCycles.{any_sweeps, none_sweeps}
 use Rattle.mk_core.proofs.EvaluatedTouched.{marking, third_is_in_snapshot, third_is_untouched}
-use Rattle.mk_core.proofs.SmallCycles.{begun_in_stop, by_host, marked_in_stop, small, stopped_cycle, three_objects}
-use Rattle.mk_core.proofs.SmallHistories.{stopped_is_history}
-use Rattle.mk_laws.specs.Precision.{CountsAsFree, through_end, through_release}
+use Rattle.mk_core.proofs.SmallCycles.{by_host}
+use Rattle.mk_laws.specs.Precision.{CountsAsFree, through_end}
 use Rattle.mk_laws.proofs.PrecisionFreeing.{frees_the_untouched}
 use Rattle.mk_laws.proofs.PrecisionStopped.{releases_the_untouched}
 

@@ -1,35 +1,26 @@
 -- Each enabled and admitted event leads to what the images allow.
-use Rattle.std.proofs.Common.{◌≡◌, ◌≢◌, ℕ, ◌%◌, ◌<◌, Bool, true, false, List, map, refl, sym, ap, subst, ◌∙◌, inl, inr}
-use Rattle.std.proofs.Common.{arith}
-use Rattle.std.specs.Prelude.{slice_set, ◌&&◌, ◌||◌, ◌==◌, not, if◌then◌else◌, Option, Some, None}
-use Rattle.std.proofs.lemmas.Bool.{cases_Bool, cases_eq, cases_lt, eqb-true, or_cases, ltb-true, false≢true}
-use Rattle.std.proofs.lemmas.List.{set-get_or, get_or_past}
-use Rattle.mk_laws.proofs.Vocabulary.{AreAdmitted, Caller, Cell, Config, Event, Flight, Host, Marker, MeetsAll}
-use Rattle.mk_laws.proofs.Vocabulary.{Named, NeverState, PlacedAllocation, Seat, Stage, Step, Store, Tally, World}
-use Rattle.mk_laws.proofs.Vocabulary.{accessed, answer_decided, asked, at_rest, call_decided, caller_number}
-use Rattle.mk_laws.proofs.Vocabulary.{cell_freed, flight_of, freed_where_it_stands, frees, host_has_turn}
-use Rattle.mk_laws.proofs.Vocabulary.{is_open_to, is_phase, is_run_cell, is_run_gone, no_longer_fresh}
-use Rattle.mk_laws.proofs.Vocabulary.{others_are_held, tally_word, target, world_behind}
+use Rattle.mk_laws.proofs.Vocabulary.{AreAdmitted, Bool, Caller, Cell, Config, Event, Host, ImagePremises, ImageScene}
+use Rattle.mk_laws.proofs.Vocabulary.{Marker, MeetsAll, Mirrors, Named, NeverState, None, Option, Seat, Some, Stage}
+use Rattle.mk_laws.proofs.Vocabulary.{Step, Store, Tally, World, accessed, answer_decided, ap, arith, asked, at_rest}
+use Rattle.mk_laws.proofs.Vocabulary.{call_decided, caller_number, cases_Bool, cases_eq, cases_lt, changed_at, eqb-true}
+use Rattle.mk_laws.proofs.Vocabulary.{false, false≢true, flight_among, flight_of, fresh_leaves, get_or_past}
+use Rattle.mk_laws.proofs.Vocabulary.{if◌then◌else◌, image_scene_of, inl, inr, is_open_to, is_past_probe, is_put}
+use Rattle.mk_laws.proofs.Vocabulary.{is_run_cell, is_run_gone, ltb-true, map, no_longer_fresh, none_freed, not}
+use Rattle.mk_laws.proofs.Vocabulary.{or_cases, others_are_held, refl, set-get_or, slice_set, subst, sym, tally_word}
+use Rattle.mk_laws.proofs.Vocabulary.{target, true, world_behind, ℕ, ◌&&◌, ◌<◌, ◌==◌, ◌||◌, ◌∙◌, ◌≡◌, ◌≢◌}
+use Rattle.mk_laws.proofs.Basics.{InCall, KnownWorld, Leads, Move, Ready, Renews, Stands, at_its_stage, at_no_take}
+use Rattle.mk_laws.proofs.Basics.{calls_stand, gate_in, grants_new, is_astray, is_call_stage, not_astray, others_held}
+use Rattle.mk_laws.proofs.Basics.{standing, view_of}
 use Rattle.mk_core.specs.declared.events.Group.TheVariants as group
 use Rattle.mk_core.specs.declared.events.Step.TheVariants as step
 use Rattle.mk_core.specs.declared.events.Tally.TheVariants as tally
 use Rattle.mk_core.specs.declared.seats.Stage.TheVariants as stage
-use Rattle.mk_laws.proofs.Views.{view_of, gate_in}
-use Rattle.mk_laws.proofs.Standings.{InCall, standing, Shows, is_astray}
-use Rattle.mk_core.proofs.ChangedAllocations.{changed_at, fresh_leaves, none_freed}
-use Rattle.mk_laws.proofs.Stages.{is_call_stage, is_turn_stage, calls_stand, new_stands}
-use Rattle.mk_laws.proofs.NextSteps.{of_turn, at_its_stage, at_take, at_no_take}
-use Rattle.mk_laws.proofs.Asked.{others_held}
-use Rattle.mk_laws.proofs.Actors.{grants_new}
-use Rattle.mk_laws.proofs.OrderlyLists.{not_astray}
+use Rattle.mk_laws.proofs.Standings.{Shows}
+use Rattle.mk_laws.proofs.Stages.{is_turn_stage, new_stands}
+use Rattle.mk_laws.proofs.NextSteps.{of_turn, at_take}
 use Rattle.mk_laws.proofs.ImagesKeptPlaces.{same_places}
-use Rattle.mk_laws.proofs.ImagesStands.{gone_shows, Stands}
-use Rattle.mk_laws.specs.Images.{ImageScene, image_scene_of, flight_among, is_put, is_past_probe}
-use Rattle.mk_laws.proofs.KnownWorlds.{KnownWorld}
-use Rattle.mk_laws.specs.Mirrors.{Mirrors}
-use Rattle.mk_laws.specs.ImagePremises.{ImagePremises}
-use Rattle.mk_laws.proofs.ImagesMoves.{Move, Rests, Wipes, Renews}
-use Rattle.mk_laws.proofs.Ready.{Ready, Leads}
+use Rattle.mk_laws.proofs.ImagesStands.{gone_shows}
+use Rattle.mk_laws.proofs.ImagesMoves.{Rests, Wipes}
 use Rattle.mk_laws.proofs.ImagesBefore.{pages_show}
 use Rattle.mk_laws.proofs.ImagesHeldGates.{others_idle}
 use Rattle.mk_laws.proofs.GrantMoves.{wiped_outside}

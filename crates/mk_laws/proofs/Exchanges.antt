@@ -1,28 +1,19 @@
 -- A compare and exchange compares values: of two values that a program can get to, the images are equal only where they
 -- are.
-use Rattle.std.proofs.Common.{◌≡◌, ◌↔◌, ℕ, Bool, true, false, List, ◌∷◌, ◌++◌, refl, sym, ap, subst, ◌∙◌}
-use Rattle.std.specs.Prelude.{slice_index, ◌==◌, Some}
-use Rattle.std.proofs.lemmas.Bool.{ltb-true}
-use Rattle.mk_laws.proofs.Vocabulary.{AreAdmitted, AreEnabledFrom, Caller, Config, Event, Flight, IsAdmitted}
-use Rattle.mk_laws.proofs.Vocabulary.{IsHistory, MeetsAll, NeverState, Op, Value, WordOf, World, answer_decided}
-use Rattle.mk_laws.proofs.Vocabulary.{asked, bases_of, call_decided, calls_from, flight_of, is_same, is_under_turn}
-use Rattle.mk_laws.proofs.Vocabulary.{left, never_behind, one_if, register_at, target_of, word_at, word_met}
+use Rattle.mk_laws.proofs.Vocabulary.{AreAdmitted, AreEnabledFrom, Bool, Caller, Config, Event, ImagePremises}
+use Rattle.mk_laws.proofs.Vocabulary.{ImagePremisesAlong, IsAdmitted, IsHistory, MeetsAll, Mirrors, NeverState, Some}
+use Rattle.mk_laws.proofs.Vocabulary.{Value, WordOf, World, admitted_in_parts, answer_decided, ap, asked, call_decided}
+use Rattle.mk_laws.proofs.Vocabulary.{calls_from, earlier_part_is_history, enabled_in_parts, enabled_meets, false}
+use Rattle.mk_laws.proofs.Vocabulary.{flight_of, image_scene_of, is_same, is_under_turn, left, ltb-true, one_if, refl}
+use Rattle.mk_laws.proofs.Vocabulary.{register_at, slice_index, sym, target_of, true, word_at, word_met, ℕ, ◌++◌, ◌==◌}
+use Rattle.mk_laws.proofs.Vocabulary.{◌↔◌, ◌∙◌, ◌∷◌, ◌≡◌}
+use Rattle.mk_laws.proofs.Basics.{KnownWorld, at_its_stage, flight, known_world, ready_of, stands_of}
 use Rattle.mk_never.specs.declared.operations.Op.TheVariants as op
 use Rattle.mk_never.proofs.Sameness.{equal_from_same, same_from_equal}
 use Rattle.mk_core.specs.declared.events.Answer.TheVariants as answer
 use Rattle.mk_core.specs.declared.events.Step.TheVariants as step
 use Rattle.mk_core.specs.declared.seats.Stage.TheVariants as stage
-use Rattle.mk_core.proofs.Conditions.{enabled_meets}
-use Rattle.mk_core.proofs.HistoryParts.{enabled_in_parts, admitted_in_parts, earlier_part_is_history}
-use Rattle.mk_laws.proofs.NextSteps.{at_its_stage}
-use Rattle.mk_laws.specs.Images.{image_scene_of, CarriesOwn, ProbedOwn}
-use Rattle.mk_laws.specs.ImagePremises.{ImagePremises}
-use Rattle.mk_laws.specs.Mirrors.{Mirrors}
-use Rattle.mk_laws.specs.Laws.{ImagePremisesAlong, HistoriesCompareValues}
-use Rattle.mk_laws.proofs.KnownWorlds.{KnownWorld, known_world}
-use Rattle.mk_laws.proofs.ImagesStands.{stands_of}
-use Rattle.mk_laws.proofs.ImagesBefore.{ready_of}
-use Rattle.mk_laws.proofs.RegMoves.{flight}
+use Rattle.mk_laws.specs.Laws.{HistoriesCompareValues}
 use Rattle.mk_laws.proofs.ImagesCallMoves.{cas_compares}
 use Rattle.mk_laws.proofs.CallSorts.{admitted_call, there_is, own_registers}
 use Rattle.mk_laws.proofs.ImagesHistories.{say_along, histories_mirror}

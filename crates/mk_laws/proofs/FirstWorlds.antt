@@ -1,11 +1,8 @@
 -- What is asked of the others holds of the first world.
-use Rattle.std.proofs.Common.{◌≡◌, ℕ, ◌*◌, false, sym, ap, ◌∙◌, arith}
-use Rattle.std.specs.Prelude.{◌==◌}
-use Rattle.std.proofs.lemmas.Bool.{false≢true}
 use Rattle.std.proofs.lemmas.Nat.Bits.{bit_at-zero}
-use Rattle.mk_laws.proofs.Vocabulary.{Config, first_world, has_bit}
-use Rattle.mk_laws.proofs.OrderlyLists.{at_first}
-use Rattle.mk_laws.specs.ImagePremises.{ImagePremises}
+use Rattle.mk_laws.proofs.Vocabulary.{Config, ImagePremises, ap, arith, false, false≢true, first_world, has_bit, sym, ℕ}
+use Rattle.mk_laws.proofs.Vocabulary.{◌*◌, ◌∙◌, ◌≡◌}
+use Rattle.mk_laws.proofs.Basics.{at_first}
 
 bare_word : (k : ℕ) → has_bit 0 k ≡ false
 bare_word k = rw (bit_at-zero k)

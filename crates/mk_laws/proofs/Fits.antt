@@ -1,21 +1,19 @@
 -- What the place that first fit finds says of the pages, in words.
-use Rattle.std.proofs.Common.{Bool, List, ap, arith, false, inl, inr, length, refl, sym, true, ℕ, ◌+◌, ◌<◌, ◌∙◌, ◌≡◌}
-use Rattle.std.proofs.Common.{◌≤◌, ◌⊎◌}
-use Rattle.std.specs.Prelude.{Option, Some, slice_index_or}
-use Rattle.std.proofs.lemmas.Bool.{cases_Bool, leb-false, leb-true}
+use Rattle.std.proofs.lemmas.Bool.{leb-false}
 use Rattle.std.proofs.lemmas.Option.{get_or_from_slice_get, slice_get_within}
-use Rattle.mk_laws.proofs.Vocabulary.{Block, Free, Header, IsSized, LeafBlock, Object, Page, Place, block_header}
-use Rattle.mk_laws.proofs.Vocabulary.{cells_made, cells_of, class_made, free_page, header_made, header_of}
-use Rattle.mk_laws.proofs.Vocabulary.{is_small_object, pages_made, place_on_pages, resident_pages, use_under}
-use Rattle.mk_laws.proofs.Vocabulary.{uses_of_pages, word_of}
+use Rattle.mk_laws.proofs.Vocabulary.{Block, Bool, Free, Header, IsSized, LeafBlock, List, Object, Option, Page, Place}
+use Rattle.mk_laws.proofs.Vocabulary.{Some, ap, arith, block_header, cases_Bool, cells_made, cells_of, class_made}
+use Rattle.mk_laws.proofs.Vocabulary.{false, free_page, header_made, header_of, header_on, inl, inr, is_small_object}
+use Rattle.mk_laws.proofs.Vocabulary.{leb-true, length, pages_made, place_on_pages, refl, resident_pages, shows_on}
+use Rattle.mk_laws.proofs.Vocabulary.{slice_index_or, small_cells, small_pages, sym, true, use_under, used_on}
+use Rattle.mk_laws.proofs.Vocabulary.{uses_of_pages, word_of, ℕ, ◌+◌, ◌<◌, ◌∙◌, ◌≡◌, ◌≤◌, ◌⊎◌}
 use Rattle.mk_geom.specs.PageUses.{is_free_page}
 use Rattle.mk_geom.specs.PageWords.{bits_of}
 use Rattle.mk_geom.specs.Places.{MayTakeCell}
 use Rattle.mk_geom.proofs.FirstFit.{cell_place_is, run_place_is}
 use Rattle.mk_geom.proofs.HeaderLemmas.{word_of-header_of}
 use Rattle.mk_core.proofs.ObjectHeaders.{small_header}
-use Rattle.mk_core.proofs.Sizes.{class_for_small, large_pages, small_cells, small_pages}
-use Rattle.mk_laws.specs.LayoutScene.{header_on, shows_on, used_on}
+use Rattle.mk_core.proofs.Sizes.{class_for_small, large_pages}
 use Rattle.mk_books.proofs.UsedBitLemmas.{length-bits_of}
 
 -- the pages of the place are free, and this many more may be resident

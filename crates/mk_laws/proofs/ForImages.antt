@@ -1,27 +1,21 @@
 -- What the layout, the quarantine and the rest say to the images.
-use Rattle.std.proofs.Common.{Bool, List, ap, arith, false, inl, inr, length, refl, subst, sym, true, zero, suc, ℕ, ◌+◌}
-use Rattle.std.proofs.Common.{◌/◌, ◌<◌, ◌∙◌, ◌≡◌, ◌≢◌, ◌≤◌}
-use Rattle.std.specs.Prelude.{None, Option, Some, not, slice_index, ◌&&◌, ◌==◌}
-use Rattle.std.proofs.lemmas.Bool.{and_parts, cases_Bool, eq-eqb, eqb-true, lt-ltb}
-use Rattle.mk_laws.proofs.Vocabulary.{Caller, Cell, Config, Flight, MarksAreClosed, Object, Place, PlacedAllocation}
-use Rattle.mk_laws.proofs.Vocabulary.{Placing, RunPages, Used, World, address_of, all_below, base_made}
-use Rattle.mk_laws.proofs.Vocabulary.{cell_of_allocation, cells_made, flight_of, granted, header_at, header_made}
-use Rattle.mk_laws.proofs.Vocabulary.{is_large, is_mapped, is_phase, is_released_cell, is_small_object}
-use Rattle.mk_laws.proofs.Vocabulary.{is_undecided_new, kinds_of, object_made, object_placed, pages_made, phase_of}
-use Rattle.mk_laws.proofs.Vocabulary.{placed_at, pointed_cell, stands, unmapped_header}
+use Rattle.mk_laws.proofs.Vocabulary.{Among, Bool, Caller, Cell, Claim, Config, Flight, HasHeader, HasZeros}
+use Rattle.mk_laws.proofs.Vocabulary.{ImagePremises, IsClaimedRun, IsPlaceOfNone, IsQuarantined, IsShown, LayoutStands}
+use Rattle.mk_laws.proofs.Vocabulary.{List, MarksAreClosed, None, Object, Option, Place, PlacedAllocation, Placing}
+use Rattle.mk_laws.proofs.Vocabulary.{RunPages, RunStands, Some, Unmapping, Used, World, address_of, all_below}
+use Rattle.mk_laws.proofs.Vocabulary.{all_below_more_is, all_below_zero_is, and_parts, ap, arith, base_made, cases_Bool}
+use Rattle.mk_laws.proofs.Vocabulary.{cell_of_allocation, cells_made, claim_of, claims_of, claims_placed, eq-eqb}
+use Rattle.mk_laws.proofs.Vocabulary.{eqb-true, false, flight_of, granted, granted_base_is, granted_object}
+use Rattle.mk_laws.proofs.Vocabulary.{granted_type, ground_of, has_bit_without, header_at, header_made, inl, inr}
+use Rattle.mk_laws.proofs.Vocabulary.{is_large, is_mapped, is_phase, is_released_cell, is_released_in, is_small_object}
+use Rattle.mk_laws.proofs.Vocabulary.{is_undecided_new, is_unmapping, kinds_of, large_is_not_small, layout_scene_of}
+use Rattle.mk_laws.proofs.Vocabulary.{length, lt-ltb, mode_of, not, object_made, object_now, object_placed, pages_made}
+use Rattle.mk_laws.proofs.Vocabulary.{pages_some, phase_of, place_claim, placed_at, pointed_cell, refl}
+use Rattle.mk_laws.proofs.Vocabulary.{run_of_allocation, slice_index, stands, subst, suc, sym, true, typed_size}
+use Rattle.mk_laws.proofs.Vocabulary.{unmapped_header, zero, ℕ, ◌&&◌, ◌+◌, ◌/◌, ◌<◌, ◌==◌, ◌∙◌, ◌≡◌, ◌≢◌, ◌≤◌}
 use Rattle.mk_core.specs.NewPlaces.{place_stands}
-use Rattle.mk_core.proofs.AllBelow.{all_below_more_is, all_below_zero_is}
-use Rattle.mk_core.proofs.BitsWithout.{has_bit_without}
-use Rattle.mk_core.proofs.GrantedAllocations.{granted_base_is, granted_object, granted_type, placed_headers}
-use Rattle.mk_core.proofs.GrantedAllocations.{placed_stands}
+use Rattle.mk_core.proofs.GrantedAllocations.{placed_headers, placed_stands}
 use Rattle.mk_core.proofs.PointedAllocations.{base_points}
-use Rattle.mk_core.proofs.Sizes.{large_is_not_small, pages_some}
-use Rattle.mk_core.proofs.StandingAllocations.{typed_size}
-use Rattle.mk_laws.specs.Quarantine.{IsQuarantined}
-use Rattle.mk_laws.specs.LayoutScene.{Among, Claim, HasHeader, IsShown, Unmapping, is_released_in}
-use Rattle.mk_laws.specs.Ground.{ground_of}
-use Rattle.mk_laws.specs.Terrain.{IsClaimedRun, LayoutStands, RunStands, claim_of, claims_of, claims_placed}
-use Rattle.mk_laws.specs.Terrain.{is_unmapping, mode_of, object_now, place_claim, layout_scene_of}
 use Rattle.mk_laws.proofs.Claims.{claim_among, claim_is}
 use Rattle.mk_laws.proofs.LayoutHolders.{holding_object, new_has_turn, seat_operands}
 use Rattle.mk_laws.proofs.LayoutJoined.{apart_across, apart_left}
@@ -30,10 +24,9 @@ use Rattle.mk_laws.proofs.Serving.{own_claim, placed_claim}
 use Rattle.mk_laws.proofs.OneCell.{numbers_apart}
 use Rattle.mk_laws.proofs.StandingClaims.{IsStanding, place_index}
 use Rattle.mk_laws.proofs.Unmapping.{shares_run}
-use Rattle.mk_laws.specs.ImagePremises.{IsFreedRun, IsPlaceOfNone, ImagePremises, run_of_allocation}
+use Rattle.mk_laws.specs.ImagePremises.{IsFreedRun}
 use Rattle.mk_laws.specs.ImagePremises as images
 use Rattle.mk_laws.proofs.KnownWorlds.{KnownWorld}
-use Rattle.mk_laws.specs.Zeros.{HasZeros}
 use Rattle.mk_laws.specs.RunGates.{HoldsRunGates}
 use Rattle.mk_laws.proofs.TellImages.{zeros_tell_the_images}
 
@@ -51,9 +44,8 @@ mode_mapped false going o d h e has = has
 
 mode_unmapped : (x going : Bool) (o : Object) (d h : ℕ) → not x ≡ false → going ≡ false
     → HasHeader (mode_of x going) o d h → h ≡ unmapped_header (pages_made o) d
-mode_unmapped false going o d h e g has = cc
-mode_unmapped true true o d h e g has = cc
 mode_unmapped true false o d h e g has = has.1
+mode_unmapped _ _ o d h e g has = cc
 
 mode_unmapping : (x going : Bool) → mode_of x going ≡ Unmapping → x ≡ true
 mode_unmapping true going e = refl
@@ -77,46 +69,46 @@ module _ (c : Config) (w : World) (known : KnownWorld c w) (laid : LayoutStands 
   abbrev run : Option RunPages
   run = w.now.seats.holding.freed
 
-  pub shown_claim : (i : ℕ) → (placed_at w.allocations i).released ≡ false
-      → IsShown w.now.words.pages (claim_of c w.now.seats.holding.freed (placed_at w.allocations i))
+  pub shown_claim : (i : ℕ) → (placed_at xs i).released ≡ false
+      → IsShown w.now.words.pages (claim_of c run (placed_at xs i))
   shown_claim i u =
-      let x : Claim = claim_of c w.now.seats.holding.freed (placed_at w.allocations i) in
+      let x : Claim = claim_of c run (placed_at xs i) in
       laid.scene.shown x (own_claim c (object_now c w.now) (ground_of w) x
-      (claim_among c w.now.seats.holding.freed w.allocations i u))
+      (claim_among c run xs i u))
 
-  pub standing : (i : ℕ) → (placed_at w.allocations i).released ≡ false
-      → IsStanding c w.now.words (placed_at w.allocations i)
+  pub standing : (i : ℕ) → (placed_at xs i).released ≡ false
+      → IsStanding c w.now.words (placed_at xs i)
   standing i u = all_stand c (object_now c w.now) (is_phase w.now.words 4) w known.lengths.pages laid i u
 
-  bases_apart : (i j : ℕ) → (placed_at w.allocations i).released ≡ false → (placed_at w.allocations j).released ≡ false
-      → i ≢ j → (placed_at w.allocations i).base ≢ (placed_at w.allocations j).base
+  bases_apart : (i j : ℕ) → (placed_at xs i).released ≡ false → (placed_at xs j).released ≡ false
+      → i ≢ j → (placed_at xs i).base ≢ (placed_at xs j).base
   bases_apart i j u v ne same =
       let si = standing i u in
       let sj = standing j v in
-      let one = base_points c w.now.words (placed_at w.allocations i) known.limits si.stands si.headers in
-      let two = base_points c w.now.words (placed_at w.allocations j) known.limits sj.stands sj.headers in
-      let both : Some (cell_of_allocation c (placed_at w.allocations i))
-      ≡ Some (cell_of_allocation c (placed_at w.allocations j)) =
+      let one = base_points c w.now.words (placed_at xs i) known.limits si.stands si.headers in
+      let two = base_points c w.now.words (placed_at xs j) known.limits sj.stands sj.headers in
+      let both : Some (cell_of_allocation c (placed_at xs i))
+      ≡ Some (cell_of_allocation c (placed_at xs j)) =
       sym one ∙ ap (λ n. pointed_cell c.pages w.now.words.pages (address_of n)) same ∙ two in
-      let cells : cell_of_allocation c (placed_at w.allocations i) ≡ cell_of_allocation c (placed_at w.allocations j) =
+      let cells : cell_of_allocation c (placed_at xs i) ≡ cell_of_allocation c (placed_at xs j) =
       cc in
-      ne (numbers_apart c w.now.seats.holding.freed w.allocations i j
-      (apart_left (claims_of c w.now.seats.holding.freed w.allocations)
+      ne (numbers_apart c run xs i j
+      (apart_left (claims_of c run xs)
       (claims_placed (object_now c w.now) w.now.seats.holding.placing) laid.scene.apart) u v
       (ap (λ (x : Cell). x.page) cells, ap (λ (x : Cell). x.index) cells))
 
   -- The run that the call frees
 
-  pub run_of : (r : RunPages) → w.now.seats.holding.freed ≡ Some r
-      → IsClaimedRun (claims_of c w.now.seats.holding.freed w.allocations) r
-  run_of r e = subst (λ (x : Option RunPages). RunStands (claims_of c w.now.seats.holding.freed w.allocations) x) e
+  pub run_of : (r : RunPages) → run ≡ Some r
+      → IsClaimedRun (claims_of c run xs) r
+  run_of r e = subst (λ (x : Option RunPages). RunStands (claims_of c run xs) x) e
       laid.gone
 
-  freed_run : (r : RunPages) → w.now.seats.holding.freed ≡ Some r → IsFreedRun c w r
+  freed_run : (r : RunPages) → run ≡ Some r → IsFreedRun c w r
   freed_run r e =
       let x = run_of r e in
-      let n = claim_is c w.now.seats.holding.freed w.allocations x.claim x.among in
-      let a : PlacedAllocation = placed_at w.allocations n.number in
+      let n = claim_is c run xs x.claim x.among in
+      let a : PlacedAllocation = placed_at xs n.number in
       let gone : (a.freed && not (is_small_object (object_placed c a))) ≡ true =
       mode_unmapping (a.freed && not (is_small_object (object_placed c a))) _ (ap (λ (y : Claim). y.mode) (sym n.is)
       ∙ x.mode) in
@@ -132,30 +124,30 @@ module _ (c : Config) (w : World) (known : KnownWorld c w) (laid : LayoutStands 
             ∙ ap (λ k. record { page = a.base / 64; count = k }) count;
       }
 
-  not_going : (i : ℕ) → (placed_at w.allocations i).released ≡ false
-      → is_small_object (object_placed c (placed_at w.allocations i)) ≡ false
-      → w.now.seats.holding.freed ≢ Some (run_of_allocation c (placed_at w.allocations i))
-      → is_unmapping w.now.seats.holding.freed ((placed_at w.allocations i).base / 64) ≡ false
-  not_going i u large other = by w.now.seats.holding.freed refl
+  not_going : (i : ℕ) → (placed_at xs i).released ≡ false
+      → is_small_object (object_placed c (placed_at xs i)) ≡ false
+      → run ≢ Some (run_of_allocation c (placed_at xs i))
+      → is_unmapping run ((placed_at xs i).base / 64) ≡ false
+  not_going i u large other = by run refl
     where
-      by : (r : Option RunPages) → w.now.seats.holding.freed ≡ r
-          → is_unmapping r ((placed_at w.allocations i).base / 64) ≡ false
+      by : (r : Option RunPages) → run ≡ r
+          → is_unmapping r ((placed_at xs i).base / 64) ≡ false
       by None e = refl
-      by (Some r) e = elim (cases_Bool (r.page == (placed_at w.allocations i).base / 64)) [
+      by (Some r) e = elim (cases_Bool (r.page == (placed_at xs i).base / 64)) [
         | inr out ↦ out
         | inl here ↦
-            let a : PlacedAllocation = placed_at w.allocations i in
+            let a : PlacedAllocation = placed_at xs i in
             let x = run_of r e in
             let there = eqb-true r.page (a.base / 64) here in
-            let mine = own_claim c (object_now c w.now) (ground_of w) (claim_of c w.now.seats.holding.freed a)
-            (claim_among c w.now.seats.holding.freed w.allocations i u) in
+            let mine = own_claim c (object_now c w.now) (ground_of w) (claim_of c run a)
+            (claim_among c run xs i u) in
             let his = own_claim c (object_now c w.now) (ground_of w) x.claim x.among in
             let some = pages_some (object_placed c a) (shown_claim i u).sized in
             let some2 = pages_some x.claim.object (laid.scene.shown x.claim his).sized in
             let page = x.page in
-            let same : x.claim ≡ claim_of c w.now.seats.holding.freed a =
+            let same : x.claim ≡ claim_of c run a =
             shares_run (layout_scene_of c (object_now c w.now) (is_phase w.now.words 4) w.now.words.marks (ground_of w))
-            (claim_of c w.now.seats.holding.freed a) x.claim 0 0 laid.scene mine his large
+            (claim_of c run a) x.claim 0 0 laid.scene mine his large
             (omega arith) (omega arith) (omega arith) in
             let count : r.count ≡ pages_made (object_placed c a) = sym x.count
             ∙ ap (λ (y : Claim). pages_made y.object) same in
@@ -163,10 +155,10 @@ module _ (c : Config) (w : World) (known : KnownWorld c w) (laid : LayoutStands 
             ∙ ap (λ k. record { page = a.base / 64; count = k }) count)))
       ]
 
-  pub laid_out : (i : ℕ) → (placed_at w.allocations i).released ≡ false
-      → images.IsLaidOut c w.now.words w.now.seats.holding.freed (placed_at w.allocations i)
+  pub laid_out : (i : ℕ) → (placed_at xs i).released ≡ false
+      → images.IsLaidOut c w.now.words run (placed_at xs i)
   laid_out i u =
-      let a : PlacedAllocation = placed_at w.allocations i in
+      let a : PlacedAllocation = placed_at xs i in
       let s = standing i u in
       let gone : is_mapped c a ≡ not (a.freed && not (is_small_object (object_placed c a))) = gone_is c a u in
       record {
@@ -183,8 +175,7 @@ module _ (c : Config) (w : World) (known : KnownWorld c w) (laid : LayoutStands 
     where
       large_of : (x y : Bool) → not (x && not y) ≡ false → y ≡ false
       large_of true true e = cc
-      large_of true false e = refl
-      large_of false y e = cc
+      large_of _ _ e = cc
 
   -- The place of an undecided New
 
@@ -201,10 +192,10 @@ module _ (c : Config) (w : World) (known : KnownWorld c w) (laid : LayoutStands 
       → b.base ≡ base_made (object_placed c b) place
       → place.index < cells_made (object_placed c b) → place.page + pages_made (object_placed c b) ≤ c.pages
       → place_stands w.now.words (object_placed c b) place ≡ true
-      → w.now.seats.holding.placing ≡ Used place → (i : ℕ) → (placed_at w.allocations i).released ≡ false
-      → (placed_at w.allocations i).base ≢ base_made (object_placed c b) place
+      → w.now.seats.holding.placing ≡ Used place → (i : ℕ) → (placed_at xs i).released ≡ false
+      → (placed_at xs i).base ≢ base_made (object_placed c b) place
   place_alone b place typed v base cell pages stand is i u same =
-      let a : PlacedAllocation = placed_at w.allocations i in
+      let a : PlacedAllocation = placed_at xs i in
       let s = standing i u in
       let stands = placed_stands c b place known.limits typed v base cell pages in
       let one = base_points c w.now.words a known.limits s.stands s.headers in
@@ -220,10 +211,10 @@ module _ (c : Config) (w : World) (known : KnownWorld c w) (laid : LayoutStands 
       (sym is) (inl refl) in
       let page : a.base / 64 ≡ place.page = ap (λ (x : Cell). x.page) cells ∙ at.0 in
       let index : (cell_of_allocation c a).index ≡ place.index = ap (λ (x : Cell). x.index) cells ∙ at.1 in
-      apart_across (claims_of c w.now.seats.holding.freed w.allocations)
+      apart_across (claims_of c run xs)
       (claims_placed (object_now c w.now) w.now.seats.holding.placing)
-      (claim_of c w.now.seats.holding.freed a) (place_claim (object_now c w.now) place) laid.scene.apart
-      (claim_among c w.now.seats.holding.freed w.allocations i u) among (page, index)
+      (claim_of c run a) (place_claim (object_now c w.now) place) laid.scene.apart
+      (claim_among c run xs i u) among (page, index)
 
   taken : (place : Place) (k : ℕ) → w.now.seats.holding.placing ≡ Used place → k < c.callers
       → is_undecided_new (flight_of w.now (Caller k)) ≡ true
@@ -274,15 +265,15 @@ module _ (c : Config) (w : World) (known : KnownWorld c w) (laid : LayoutStands 
           | inl f ↦ inl (record { number = f.number; unreleased = f.unreleased; freed = f.freed; cell = f.cell })
           | inr r ↦ inr (released_is w cell ∙ r)
         ];
-        kept = λ i u. released_is w (cell_of_allocation c (placed_at w.allocations i))
+        kept = λ i u. released_is w (cell_of_allocation c (placed_at xs i))
             ∙ kept_at i u (is_phase w.now.words 4) refl;
         zero_words = zeros_tell_the_images c w zeros;
         marks = marks;
       }
     where
-      kept_at : (i : ℕ) → (placed_at w.allocations i).released ≡ false → (b : Bool) → is_phase w.now.words 4 ≡ b
+      kept_at : (i : ℕ) → (placed_at xs i).released ≡ false → (b : Bool) → is_phase w.now.words 4 ≡ b
           → is_released_in b w.now.words.snapshot w.now.words.marks
-          (cell_of_allocation c (placed_at w.allocations i)).page
-          (cell_of_allocation c (placed_at w.allocations i)).index ≡ false
+          (cell_of_allocation c (placed_at xs i)).page
+          (cell_of_allocation c (placed_at xs i)).index ≡ false
       kept_at i u true e = q.kept e i u
       kept_at i u false e = refl

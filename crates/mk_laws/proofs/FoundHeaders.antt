@@ -1,40 +1,36 @@
 -- What a `head` finds while a cycle marks, from what the layout says.
-use Rattle.std.proofs.Common.{◌≡◌, ◌⊎◌, ℕ, ◌+◌, ◌-◌, ◌*◌, ◌^◌, ◌<◌, Bool, true, false, length, refl, sym, ◌∙◌, ap, []}
-use Rattle.std.proofs.Common.{subst, inl, inr, arith, option_and_then}
-use Rattle.std.specs.Prelude.{Option, Some, None, slice_index, nat_le, nat_lt, ◌&&◌, ◌||◌, ◌==◌, not, if◌then◌else◌}
-use Rattle.std.proofs.lemmas.Bool.{cases_Bool, cases_eq, true≢false, eqb-true, eq-eqb, and_parts, or_cases, not-true}
-use Rattle.std.proofs.lemmas.Bool.{ltb-true, le-leb, cond-true, cond-false}
+use Rattle.std.proofs.Common.{option_and_then}
 use Rattle.std.proofs.lemmas.Nat.Bits.{bit_at_ones}
 use Rattle.std.proofs.Math.Bool.{or-true}
-use Rattle.mk_laws.proofs.Vocabulary.{Cell, Config, Flight, Header, IsHeaderOf, IsSized, IsWithinLimits, Object}
-use Rattle.mk_laws.proofs.Vocabulary.{OfBlock, OfLater, OfLeafBlock, OfLeafRun, OfRun, Op, Place, RunPages, Seat}
-use Rattle.mk_laws.proofs.Vocabulary.{ShowsPart, Words, World, cell_at, cells_made, cells_of, cells_under}
-use Rattle.mk_laws.proofs.Vocabulary.{class_made, class_words_of, d_of, flight_of, g_of, has_bit, has_operands}
-use Rattle.mk_laws.proofs.Vocabulary.{head_page_under, header_at, header_in, header_made, header_of}
-use Rattle.mk_laws.proofs.Vocabulary.{is_heap_address, is_leaf_header, is_marked_first, is_phase, is_small_object}
-use Rattle.mk_laws.proofs.Vocabulary.{is_undecided_new, is_unmapped_header, object_made, p_of, page_at_address}
-use Rattle.mk_laws.proofs.Vocabulary.{pages_made, phase_of, place_now, q_of, r_of, unmapped_header, without}
-use Rattle.mk_laws.proofs.Vocabulary.{words_made, words_under}
+use Rattle.mk_laws.proofs.Vocabulary.{Bool, Cell, Config, Flight, GuardPremises, HeadStep, Header, HeaderGoesOn}
+use Rattle.mk_laws.proofs.Vocabulary.{IsMarking, IsSized, IsWithinLimits, ItCarves, ItEmpties, ItUnmaps, None, Object}
+use Rattle.mk_laws.proofs.Vocabulary.{OfBlock, OfLater, OfLeafBlock, OfLeafRun, OfRun, Op, Option, Place, RunPages}
+use Rattle.mk_laws.proofs.Vocabulary.{Seat, ShowsPart, Some, Words, World, [], and_parts, ap, arith, cases_Bool}
+use Rattle.mk_laws.proofs.Vocabulary.{cases_eq, cell_at, cell_ends, cells_made, cells_of, cells_under, class_known}
+use Rattle.mk_laws.proofs.Vocabulary.{class_made, class_words_of, cond-false, cond-true, d_of, eq-eqb, eqb-true, false}
+use Rattle.mk_laws.proofs.Vocabulary.{fewer_bits, flight_of, g_of, has_bit, has_operands, head_step, header_at}
+use Rattle.mk_laws.proofs.Vocabulary.{header_in, header_made, header_of, header_shows, if◌then◌else◌, inl, inr}
+use Rattle.mk_laws.proofs.Vocabulary.{is_heap_address, is_marked_first, is_phase, is_small_object, is_undecided_new}
+use Rattle.mk_laws.proofs.Vocabulary.{is_unmapped_header, large_cells, large_count, large_words, later_cells, le-leb}
+use Rattle.mk_laws.proofs.Vocabulary.{length, ltb-true, made_shows, nat_le, nat_lt, not, not-true, object_made}
+use Rattle.mk_laws.proofs.Vocabulary.{or_cases, p_of, page_at_address, pages_made, part_cells, part_head, part_not_free}
+use Rattle.mk_laws.proofs.Vocabulary.{part_words, phase_of, place_now, placed_now, q_of, r_of, refl, slice_index}
+use Rattle.mk_laws.proofs.Vocabulary.{small_cells, small_pages, small_words, subst, sym, true, true≢false}
+use Rattle.mk_laws.proofs.Vocabulary.{undecided_new, unmapped_header, unmapped_is_unmapped, words_made, words_under, ℕ}
+use Rattle.mk_laws.proofs.Vocabulary.{◌&&◌, ◌*◌, ◌+◌, ◌-◌, ◌<◌, ◌==◌, ◌^◌, ◌||◌, ◌∙◌, ◌≡◌, ◌⊎◌}
+use Rattle.mk_laws.proofs.Basics.{Known, Meets, either_phase, new_holds}
 use Rattle.mk_geom.specs.Addresses.{cell_under, word_at_address}
-use Rattle.mk_geom.proofs.ClassTable.{cell_ends, some_cells}
+use Rattle.mk_geom.proofs.ClassTable.{some_cells}
 use Rattle.mk_core.specs.declared.events.Step.TheVariants as step
 use Rattle.mk_core.specs.Calls.{has_type}
 use Rattle.mk_core.specs.NewPlaces.{bits_made}
-use Rattle.mk_core.proofs.Sizes.{small_cells, large_cells, small_pages, small_words, large_words, class_known}
-use Rattle.mk_core.proofs.Sizes.{large_count}
-use Rattle.mk_core.proofs.ObjectHeaders.{made_shows, header_shows, part_head, part_not_free, part_cells, part_words}
-use Rattle.mk_core.proofs.ObjectHeaders.{later_cells, same_cells, same_words, unmapped_is_unmapped}
-use Rattle.mk_core.proofs.PlacesNow.{NewAtTurn, undecided_new, placed_now}
+use Rattle.mk_core.proofs.ObjectHeaders.{same_cells, same_words}
+use Rattle.mk_core.proofs.PlacesNow.{NewAtTurn}
 use Rattle.mk_core.proofs.PointedPages.{lies_under, found_under}
 use Rattle.mk_core.proofs.ServingSteps.{Carves}
-use Rattle.mk_core.proofs.PageSteps.{Unmaps, HeadStep, ItCarves, ItUnmaps, ItEmpties, head_step}
-use Rattle.mk_core.proofs.WordBits.{without_none, fewer_bits}
-use Rattle.mk_laws.proofs.Actors.{Meets}
-use Rattle.mk_laws.proofs.Known.{Known}
-use Rattle.mk_laws.proofs.NewPlace.{new_holds}
-use Rattle.mk_laws.specs.Guard.{HeaderGoesOn, IsMarking}
-use Rattle.mk_laws.specs.Kept.{PlaceIsBare, RunHasObject, GuardPremises}
-use Rattle.mk_laws.proofs.Phases.{either_phase}
+use Rattle.mk_core.proofs.PageSteps.{Unmaps}
+use Rattle.mk_core.proofs.WordBits.{without_none}
+use Rattle.mk_laws.specs.Kept.{PlaceIsBare, RunHasObject}
 use Rattle.mk_laws.proofs.Headers.{HeadFinds, Carved, Unmapped}
 
 -- What an address on a page of a run points into: cell 0 of its first page.

@@ -1,15 +1,12 @@
 -- Who steps: the turn's holder, or a seat whose step no gate, phase or word of the turn's is asked for.
-use Rattle.std.proofs.Common.{ap, false, refl, sym, true, ℕ, ◌∙◌, ◌≡◌}
-use Rattle.mk_laws.proofs.Vocabulary.{Caller, Config, Flight, Holds, Marker, Moment, Seat, Step, flight_of}
-use Rattle.mk_laws.proofs.Vocabulary.{group_of, has_gates, has_phase, holder_may, is_of_turn}
+use Rattle.mk_laws.proofs.Vocabulary.{Caller, Config, Flight, Holds, Marker, Moment, Seat, Step, ap, false, group_of}
+use Rattle.mk_laws.proofs.Vocabulary.{has_gates, has_phase, holder_may, is_of_turn, refl, sym, true, true≢false, ℕ, ◌∙◌}
+use Rattle.mk_laws.proofs.Vocabulary.{◌≡◌}
+use Rattle.mk_laws.proofs.Basics.{Actor, AsHolder, AsMarker, HoldsTurn, InCallOf, Orderly, is_holders, not_astray}
+use Rattle.mk_laws.proofs.Basics.{view_of}
 use Rattle.mk_core.specs.declared.events.Group.TheVariants as group
 use Rattle.mk_core.specs.declared.events.Step.TheVariants as step
-use Rattle.std.proofs.lemmas.Bool.{true≢false}
-use Rattle.mk_laws.proofs.Actors.{Actor, AsHolder, AsMarker, CallTakes, HostTakes, InCallOf, is_holders}
-use Rattle.mk_laws.proofs.Orderly.{Orderly}
-use Rattle.mk_laws.proofs.OrderlyLists.{not_astray}
 use Rattle.mk_laws.proofs.Standings.{in_turn_told, is_standing_under_turn}
-use Rattle.mk_laws.proofs.Views.{HoldsTurn, view_of}
 
 -- who holds the turn by what the protocol reads holds it by its call
 pub holds_is : (c : Config) (m : Moment) (seat : Seat) → Orderly c (view_of m) → HoldsTurn c (view_of m) seat
@@ -36,9 +33,8 @@ pub acts_as_holder : (c : Config) (m : Moment) (seat : Seat) (x : Step) → Acto
     → HoldsTurn c (view_of m) seat
 acts_as_holder c m seat x (InCallOf k _ lt g) is = absurd (true≢false (sym is ∙ calls_kind x g))
 acts_as_holder c m seat x (AsMarker k _ lt g) is = absurd (true≢false (sym is ∙ markers_kind x g))
-acts_as_holder c m seat x (CallTakes k o lt idle take) is = cc
-acts_as_holder c m seat x (HostTakes free) is = cc
 acts_as_holder c m seat x (AsHolder _ _ t n) is = t
+acts_as_holder c m seat x _ is = cc
 
 -- What is asked of the holder alone is asked of no other.
 pub record AsksNothing (c : Config) (m : Moment) (s : Seat) (f : Flight) (n : ℕ) (x : Step) : Type 0 where

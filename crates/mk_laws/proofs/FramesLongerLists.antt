@@ -1,10 +1,9 @@
 -- The law on longer lists.
-use Rattle.std.proofs.Common.{List, ap, refl, ◌++◌, ◌∷◌, ◌≡◌, []}
-use Rattle.mk_laws.proofs.Vocabulary.{AreOfOthers, Config, Event, IsHistory, IsTidy, TalliesAreTidy, left}
+use Rattle.mk_laws.proofs.Vocabulary.{AreOfOthers, Config, Event, IsHistory, IsTidy, List, TalliesAreTidy, [], ap, left}
+use Rattle.mk_laws.proofs.Vocabulary.{refl, ◌++◌, ◌∷◌, ◌≡◌}
+use Rattle.mk_laws.proofs.Basics.{actor_of, is_holders}
 use Rattle.mk_core.specs.declared.events.Step.TheVariants as step
 use Rattle.mk_core.specs.LongerLists.{LongerListsGoOn}
-use Rattle.mk_laws.proofs.Actors.{is_holders}
-use Rattle.mk_laws.proofs.OrderlyLists.{actor_of}
 use Rattle.mk_laws.proofs.Reaching.{events_reach_the_table, others_leave_accesses}
 use Rattle.mk_laws.proofs.DecidesStill.{still_admitted, still_decides}
 use Rattle.mk_laws.proofs.EnabledStill.{enabled_still, left_to}

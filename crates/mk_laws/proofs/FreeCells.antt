@@ -1,27 +1,20 @@
 -- The words of a cell in which no unreleased allocation stands, and those after a page's cells, are of none.
-use Rattle.std.proofs.Common.{◌≡◌, ◌≢◌, ◌⊎◌, ℕ, zero, suc, ◌+◌, ◌-◌, ◌*◌, ◌/◌, ◌%◌, ◌<◌, ◌≤◌, Bool, true, refl, sym}
-use Rattle.std.proofs.Common.{◌∙◌, ap, subst, inl, inr, arith, le_refl}
-use Rattle.std.specs.Prelude.{not, ◌==◌, slice_index, Option, Some, None}
-use Rattle.std.proofs.lemmas.Bool.{and_from, cases_eq, cases_order, eq-eqb}
-use Rattle.std.proofs.lemmas.Nat.{mul-le}
-use Rattle.mk_laws.proofs.Vocabulary.{BeginsAtCell, Block, Cell, Config, Free, Header, IsSized, IsTaken, Later}
-use Rattle.mk_laws.proofs.Vocabulary.{LeafBlock, LeafRun, NeverState, Object, OfBlock, OfLater, OfLeafBlock}
-use Rattle.mk_laws.proofs.Vocabulary.{OfLeafRun, OfRun, PlacedAllocation, Run, ShowsPart, Words, World, cell_words}
-use Rattle.mk_laws.proofs.Vocabulary.{cells_of, cells_under, class_made, class_words_of, first_word, header_at}
-use Rattle.mk_laws.proofs.Vocabulary.{header_in, heads_run, is_small_object, object_placed, pages_made, phase_of}
-use Rattle.mk_laws.proofs.Vocabulary.{placed_at, words_are_zero, words_made, words_under}
-use Rattle.mk_geom.proofs.ClassTable.{cell_ends}
-use Rattle.mk_core.proofs.AllBelow.{all_below_more_is, all_below_zero_is}
-use Rattle.mk_core.proofs.ObjectHeaders.{header_shows, later_cells, part_not_free, part_words, shown_later}
-use Rattle.mk_core.proofs.Sizes.{small_cells, small_words}
-use Rattle.mk_core.proofs.StandingAllocations.{run_begins, typed_size}
-use Rattle.mk_laws.specs.LayoutScene.{run_count}
-use Rattle.mk_laws.proofs.StandingClaims.{ends_on_pages}
-use Rattle.mk_laws.proofs.KnownWorlds.{KnownWorld}
-use Rattle.mk_laws.specs.Invariant.{Invariant}
-use Rattle.mk_laws.specs.Theorems.{OfHistories}
+use Rattle.std.proofs.Common.{le_refl}
+use Rattle.std.proofs.lemmas.Bool.{cases_order}
+use Rattle.mk_laws.proofs.Vocabulary.{BeginsAtCell, Block, Bool, Cell, Config, Free, Header, Invariant, IsSized}
+use Rattle.mk_laws.proofs.Vocabulary.{IsTaken, Later, LeafBlock, LeafRun, Leaves, NeverState, None, Object, OfBlock}
+use Rattle.mk_laws.proofs.Vocabulary.{OfHistories, OfLater, OfLeafBlock, OfLeafRun, OfRun, Option, PlacedAllocation}
+use Rattle.mk_laws.proofs.Vocabulary.{Run, ShowsPart, Some, Words, World, all_below_more_is, all_below_zero_is}
+use Rattle.mk_laws.proofs.Vocabulary.{and_from, ap, arith, cases_eq, cell_ends, cell_words, cells_of, cells_under}
+use Rattle.mk_laws.proofs.Vocabulary.{class_made, class_words_of, eq-eqb, first_word, header_at, header_in}
+use Rattle.mk_laws.proofs.Vocabulary.{header_shows, heads_run, inl, inr, is_small_object, later_cells, mul-le, not}
+use Rattle.mk_laws.proofs.Vocabulary.{object_placed, pages_made, part_not_free, part_words, phase_of, placed_at, refl}
+use Rattle.mk_laws.proofs.Vocabulary.{run_begins, run_count, shown_later, slice_index, small_cells, small_words, subst}
+use Rattle.mk_laws.proofs.Vocabulary.{suc, sym, true, typed_size, words_are_zero, words_made, words_under, zero, ℕ, ◌%◌}
+use Rattle.mk_laws.proofs.Vocabulary.{◌*◌, ◌+◌, ◌-◌, ◌/◌, ◌<◌, ◌==◌, ◌∙◌, ◌≡◌, ◌≢◌, ◌≤◌, ◌⊎◌}
+use Rattle.mk_laws.proofs.Basics.{KnownWorld, ends_on_pages}
 use Rattle.mk_laws.proofs.ForImages.{standing}
-use Rattle.mk_laws.specs.FreeWords.{FreeCellsAreZero, Leaves, WordsBehindCellsAreZero, words_in_cells}
+use Rattle.mk_laws.specs.FreeWords.{FreeCellsAreZero, WordsBehindCellsAreZero, words_in_cells}
 use Rattle.mk_laws.proofs.FreeWords.{IsOfOne, of_one, of_worlds}
 
 -- A number is in one of equal parts alone.

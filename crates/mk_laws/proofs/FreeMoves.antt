@@ -1,27 +1,20 @@
 -- What a Free frees, and the answer Double.
-use Rattle.std.proofs.Common.{◌≡◌, ◌≢◌, ℕ, ◌+◌, Bool, true, false, List, map, sym, ap, subst, ◌∙◌, inl, inr, arith}
-use Rattle.std.specs.Prelude.{slice_set, ◌==◌, not, nat_lt, if◌then◌else◌, Option, Some, None}
-use Rattle.std.proofs.lemmas.Bool.{false≢true, cases_Bool, cases_eq, and_parts, and_from, eqb-true, eq-eqb, not-true}
-use Rattle.std.proofs.lemmas.List.{set-get_or}
-use Rattle.mk_laws.proofs.Vocabulary.{Cell, Config, Flight, IsSound, NeverAllocation, NeverState, Null, Num, Op}
-use Rattle.mk_laws.proofs.Vocabulary.{PlacedAllocation, Ptr, Value, Words, World, address_of, after_free}
-use Rattle.mk_laws.proofs.Vocabulary.{allocation_at, bases_of, cell_of_allocation, first_word}
-use Rattle.mk_laws.proofs.Vocabulary.{freed_where_it_stands, image_of, is_freed, is_released_cell, is_run_cell}
-use Rattle.mk_laws.proofs.Vocabulary.{no_allocation, placed_at, pointed_cell, stands_in, with_freed as never_freed}
+use Rattle.mk_laws.proofs.Vocabulary.{Bool, Cell, Config, Flight, ImagePremises, IsSafe, IsSound, List, Mirrors}
+use Rattle.mk_laws.proofs.Vocabulary.{NeverAllocation, NeverState, None, Null, Num, Op, Option, PlacedAllocation, Ptr}
+use Rattle.mk_laws.proofs.Vocabulary.{Some, Value, Words, World, address_of, after_free, allocation_at, and_from}
+use Rattle.mk_laws.proofs.Vocabulary.{and_parts, ap, arith, bases_of, cases_Bool, cases_eq, cell_of_allocation}
+use Rattle.mk_laws.proofs.Vocabulary.{changed_at, eq-eqb, eqb-true, false, false≢true, first_word, flight_among}
+use Rattle.mk_laws.proofs.Vocabulary.{freed_leaves, freed_released, freed_where_it_stands, if◌then◌else◌, image_of}
+use Rattle.mk_laws.proofs.Vocabulary.{image_scene_of, inl, inr, is_freed, is_past_probe, is_put, is_released_cell}
+use Rattle.mk_laws.proofs.Vocabulary.{is_run_cell, map, nat_lt, no_allocation, not, not-true, placed_at, pointed_cell}
+use Rattle.mk_laws.proofs.Vocabulary.{set-get_or, slice_set, stands_in, subst, sym, true, with_freed as never_freed, ℕ}
+use Rattle.mk_laws.proofs.Vocabulary.{◌+◌, ◌==◌, ◌∙◌, ◌≡◌, ◌≢◌}
+use Rattle.mk_laws.proofs.Basics.{Frees, KnownWorld, Move, Ready, Stands, base_at, exists_placed, goes_bare}
+use Rattle.mk_laws.proofs.Basics.{pointed_word, words_fit}
 use Rattle.mk_never.specs.declared.operations.Reply.TheVariants as reply
 use Rattle.mk_never.specs.NeverHeap.{free_reply}
-use Rattle.mk_laws.specs.Images.{image_scene_of, flight_among, is_put, is_past_probe}
-use Rattle.mk_laws.specs.SafeSets.{IsSafe}
-use Rattle.mk_laws.proofs.ImagesStands.{Stands}
-use Rattle.mk_laws.proofs.KnownWorlds.{KnownWorld}
-use Rattle.mk_laws.specs.Mirrors.{Mirrors}
-use Rattle.mk_laws.specs.ImagePremises.{ImagePremises}
-use Rattle.mk_laws.proofs.ImagesMoves.{is_bare, Move, Decides, Frees}
-use Rattle.mk_laws.proofs.ImagesKept.{base_at, exists_placed}
-use Rattle.mk_laws.proofs.Ready.{Ready, pointed_word}
-use Rattle.mk_laws.proofs.Refusals.{goes_bare}
-use Rattle.mk_laws.proofs.ImagesBefore.{words_fit, words_are, first_in}
-use Rattle.mk_core.proofs.ChangedAllocations.{changed_at, freed_leaves, freed_released}
+use Rattle.mk_laws.proofs.ImagesMoves.{is_bare, Decides}
+use Rattle.mk_laws.proofs.ImagesBefore.{words_are, first_in}
 use Rattle.mk_laws.proofs.ImagesKeptPlaces.{same_places}
 
 abbrev is_freed_in : Words → Option Cell → Bool
@@ -34,10 +27,13 @@ is_released_in w None = false
 
 module _ (c : Config) (w : World) (n : NeverState) (known : KnownWorld c w) (mirrors : Mirrors c w n) (safe : ℕ
     → Bool) (ready : Ready c.globals safe (image_scene_of w) n) (st : Stands c w.now.words w.allocations) where
+  abbrev placed : ℕ → PlacedAllocation
+  placed i = placed_at w.allocations i
+
   -- the cell that a value points into
   pub pointer_cell : (a t o p : ℕ) → IsSound n (Ptr a t o) → IsSafe safe (Ptr a t o)
       → p ≡ image_of (bases_of w.allocations) (Ptr a t o)
-      → pointed_cell c.pages w.now.words.pages p ≡ Some (cell_of_allocation c (placed_at w.allocations a))
+      → pointed_cell c.pages w.now.words.pages p ≡ Some (cell_of_allocation c (placed a))
   pointer_cell a t o p sound is e =
       let u = ready.set.unreleased a is in
       let inside = pointed_word c.globals safe (image_scene_of w) n ready a t o sound in
@@ -46,8 +42,8 @@ module _ (c : Config) (w : World) (n : NeverState) (known : KnownWorld c w) (mir
       ∙ st.cell a o u (omega arith)
 
   -- an allocation with the same first word is the same
-  same_first : (a b : ℕ) → (placed_at w.allocations a).released ≡ false → (placed_at w.allocations b).released ≡ false
-      → (placed_at w.allocations b).base ≡ (placed_at w.allocations a).base → b ≡ a
+  same_first : (a b : ℕ) → (placed a).released ≡ false → (placed b).released ≡ false
+      → (placed b).base ≡ (placed a).base → b ≡ a
   same_first a b ua ub e = elim (cases_eq b a) [ inl x ↦ x | inr ne ↦ absurd (st.apart b a ub ua ne e) ]
 
   pub free_by : (others : ImagePremises c w) (k : ℕ) (o : Op) (f : Flight) (p : ℕ) (cell : Cell) (v : Value)
@@ -68,11 +64,11 @@ module _ (c : Config) (w : World) (n : NeverState) (known : KnownWorld c w) (mir
       let u = ready.set.unreleased a is in
       let lt = exists_placed w.allocations a u in
       let here = pointer_cell a t x p sound is e in
-      let cells : Some cell ≡ Some (cell_of_allocation c (placed_at w.allocations a)) = sym points ∙ here in
-      let first : first_word w.now.words cell ≡ (placed_at w.allocations a).base = ap (first_in w.now.words) cells
+      let cells : Some cell ≡ Some (cell_of_allocation c (placed a)) = sym points ∙ here in
+      let first : first_word w.now.words cell ≡ (placed a).base = ap (first_in w.now.words) cells
       ∙ st.first a u in
       let leaves = freed_leaves w.now.words (Some cell) in
-      let its : (placed_at w.allocations a).freed ≡ false = elim (cases_Bool (placed_at w.allocations a).freed) [
+      let its : (placed a).freed ≡ false = elim (cases_Bool (placed a).freed) [
         | inl yes_freed ↦
             let y : false ≡ true = sym not_freed ∙ ap (is_freed_in w.now.words) cells
             ∙ others.shown a u yes_freed in absurd (cc)
@@ -82,33 +78,33 @@ module _ (c : Config) (w : World) (n : NeverState) (known : KnownWorld c w) (mir
             (same_places (freed_where_it_stands w.now.words (Some cell)) w.allocations leaves)
             (λ b. ap (λ (y : PlacedAllocation). y.released)
             (changed_at (freed_where_it_stands w.now.words (Some cell)) w.allocations b leaves.none)
-            ∙ freed_released w.now.words (Some cell) (placed_at w.allocations b))
+            ∙ freed_released w.now.words (Some cell) (placed b))
             sound.0
             (λ b ne2. ap (λ (y : PlacedAllocation). y.freed)
             (changed_at (freed_where_it_stands w.now.words (Some cell)) w.allocations b leaves.none)
-            ∙ ap (λ t. (if t then record (placed_at w.allocations b) { freed = true; fresh = true }
-            else placed_at w.allocations b).freed) (apart_from b a cell u first ne2))
+            ∙ ap (λ t. (if t then record (placed b) { freed = true; fresh = true }
+            else placed b).freed) (apart_from b a cell u first ne2))
             (ap (λ (y : PlacedAllocation). y.freed)
             (changed_at (freed_where_it_stands w.now.words (Some cell)) w.allocations a leaves.none)
-            ∙ ap (λ t. (if t then record (placed_at w.allocations a) { freed = true; fresh = true }
-            else placed_at w.allocations a).freed)
-            (and_from (not (placed_at w.allocations a).released)
-            ((placed_at w.allocations a).base == first_word w.now.words cell) (ap not u)
-            (eq-eqb (placed_at w.allocations a).base (first_word w.now.words cell) (sym first))))
+            ∙ ap (λ t. (if t then record (placed a) { freed = true; fresh = true }
+            else placed a).freed)
+            (and_from (not (placed a).released)
+            ((placed a).base == first_word w.now.words cell) (ap not u)
+            (eq-eqb (placed a).base (first_word w.now.words cell) (sym first))))
             (λ un. quiet (ap (is_run_cell w.now.words) cells
             ∙ st.run a u (ap (λ l. nat_lt 32 l) (sym (words_are c w n known mirrors a lt)) ∙ un))),
         ap (λ b. if b then reply.Double else reply.Done) (sym (mirrors.twins.freed a lt) ∙ its),
       )
     where
-      apart_from : (b a : ℕ) (cell : Cell) → (placed_at w.allocations a).released ≡ false
-          → first_word w.now.words cell ≡ (placed_at w.allocations a).base → b ≢ a
-          → stands_in w.now.words cell (placed_at w.allocations b) ≡ false
-      apart_from b a cell ua first ne = elim (cases_Bool (stands_in w.now.words cell (placed_at w.allocations b))) [
+      apart_from : (b a : ℕ) (cell : Cell) → (placed a).released ≡ false
+          → first_word w.now.words cell ≡ (placed a).base → b ≢ a
+          → stands_in w.now.words cell (placed b) ≡ false
+      apart_from b a cell ua first ne = elim (cases_Bool (stands_in w.now.words cell (placed b))) [
         | inl h ↦
-            let parts = and_parts (not (placed_at w.allocations b).released)
-            ((placed_at w.allocations b).base == first_word w.now.words cell) h in
-            absurd (st.apart b a (not-true (placed_at w.allocations b).released parts.0) ua ne
-            (eqb-true (placed_at w.allocations b).base (first_word w.now.words cell) parts.1 ∙ first))
+            let parts = and_parts (not (placed b).released)
+            ((placed b).base == first_word w.now.words cell) h in
+            absurd (st.apart b a (not-true (placed b).released parts.0) ua ne
+            (eqb-true (placed b).base (first_word w.now.words cell) parts.1 ∙ first))
         | inr h ↦ h
       ]
 
@@ -128,10 +124,10 @@ module _ (c : Config) (w : World) (n : NeverState) (known : KnownWorld c w) (mir
       let u = ready.set.unreleased a is in
       let lt = exists_placed w.allocations a u in
       let here = pointer_cell a t x p sound is e in
-      let cells : Some cell ≡ Some (cell_of_allocation c (placed_at w.allocations a)) = sym points ∙ here in
-      let first : first_word w.now.words cell ≡ (placed_at w.allocations a).base = ap (first_in w.now.words) cells
+      let cells : Some cell ≡ Some (cell_of_allocation c (placed a)) = sym points ∙ here in
+      let first : first_word w.now.words cell ≡ (placed a).base = ap (first_in w.now.words) cells
       ∙ st.first a u in
-      let its : (placed_at w.allocations a).freed ≡ true = elim (others.freed cell is_free) [
+      let its : (placed a).freed ≡ true = elim (others.freed cell is_free) [
         | inl at ↦ its_own a at.number u at.unreleased at.freed (sym (st.first at.number at.unreleased)
             ∙ ap (first_word w.now.words) at.cell ∙ first)
         | inr released ↦ absurd (false≢true (sym (others.kept a u) ∙ ap (is_released_in w.now.words) (sym cells)
@@ -144,11 +140,11 @@ module _ (c : Config) (w : World) (n : NeverState) (known : KnownWorld c w) (mir
         ap (λ b. if b then reply.Double else reply.Done) never,
       )
     where
-      its_own : (a b : ℕ) → (placed_at w.allocations a).released ≡ false → (placed_at w.allocations b).released ≡ false
-          → (placed_at w.allocations b).freed ≡ true
-          → (placed_at w.allocations b).base ≡ (placed_at w.allocations a).base
-          → (placed_at w.allocations a).freed ≡ true
-      its_own a b ua ub fb e = ap (λ i. (placed_at w.allocations i).freed) (sym (same_first a b ua ub e)) ∙ fb
+      its_own : (a b : ℕ) → (placed a).released ≡ false → (placed b).released ≡ false
+          → (placed b).freed ≡ true
+          → (placed b).base ≡ (placed a).base
+          → (placed a).freed ≡ true
+      its_own a b ua ub fb e = ap (λ i. (placed i).freed) (sym (same_first a b ua ub e)) ∙ fb
 
       same_never : (a : ℕ) → (allocation_at n a).freed ≡ true → never_freed n a ≡ n
       same_never a h =

@@ -1,21 +1,14 @@
 -- A page without a header has nothing.
-use Rattle.std.proofs.Common.{◌≡◌, ◌≢◌, ℕ, ◌+◌, ◌-◌, ◌/◌, true, refl, ◌∙◌, ap, inl, inr, arith}
-use Rattle.std.specs.Prelude.{slice_index}
-use Rattle.std.proofs.lemmas.Bool.{cases_eq}
-use Rattle.mk_laws.proofs.Vocabulary.{Config, NeverState, PlacedAllocation, World, cells_under, has_bit, header_at}
-use Rattle.mk_laws.proofs.Vocabulary.{header_in, header_of, is_phase, left, never_behind, object_placed, placed_at}
-use Rattle.mk_laws.proofs.Vocabulary.{storage_words, words_made}
-use Rattle.mk_laws.specs.Terrain.{claim_of, object_now, layout_scene_of}
-use Rattle.mk_laws.specs.Ground.{ground_of}
-use Rattle.mk_laws.proofs.LayoutReadings.{claimed_some, free_unused, zero_where_none}
-use Rattle.mk_laws.proofs.StandingClaims.{ends_on_pages}
-use Rattle.mk_laws.proofs.KnownWorlds.{KnownWorld, known_world}
-use Rattle.mk_laws.specs.Invariant.{Invariant}
-use Rattle.mk_laws.specs.Theorems.{OfHistories}
+use Rattle.mk_laws.proofs.Vocabulary.{Config, HasAllocation, Invariant, Leaves, NeverState, OfHistories}
+use Rattle.mk_laws.proofs.Vocabulary.{PlacedAllocation, World, ap, arith, cases_eq, cells_under, claim_of, ground_of}
+use Rattle.mk_laws.proofs.Vocabulary.{has_bit, header_at, header_in, header_of, inl, inr, is_phase, layout_scene_of}
+use Rattle.mk_laws.proofs.Vocabulary.{left, never_behind, object_now, object_placed, placed_at, refl, slice_index}
+use Rattle.mk_laws.proofs.Vocabulary.{storage_words, true, words_made, ℕ, ◌+◌, ◌-◌, ◌/◌, ◌∙◌, ◌≡◌, ◌≢◌}
+use Rattle.mk_laws.proofs.Basics.{KnownWorld, claimed_some, ends_on_pages, known_world, zero_where_none}
+use Rattle.mk_laws.proofs.LayoutReadings.{free_unused}
 use Rattle.mk_laws.proofs.ForImages.{shown_claim, standing}
 use Rattle.mk_laws.proofs.InvariantHistories.{histories_keep_the_invariant}
-use Rattle.mk_laws.specs.FreePages.{DirtyPagesHaveAllocations, FreePagesHaveNothing, HasAllocation, HasNothing}
-use Rattle.mk_laws.specs.FreeWords.{Leaves}
+use Rattle.mk_laws.specs.FreePages.{DirtyPagesHaveAllocations, FreePagesHaveNothing, HasNothing}
 use Rattle.mk_laws.proofs.DirtyPages.{dirty_stands}
 
 module _ (c : Config) (w : World) (n : NeverState) (known : KnownWorld c w) (all : Invariant c w n) where

@@ -1,9 +1,8 @@
 -- Storage of which no other has a word counts as free.
-use Rattle.std.proofs.Common.{List, ap, arith, false, inl, inr, true, ℕ, ◌*◌, ◌+◌, ◌≤◌, ◌≡◌}
-use Rattle.std.specs.Prelude.{Contains, Option, ◌==◌}
-use Rattle.std.proofs.lemmas.Bool.{cases_Bool, cases_lt, eqb-true}
-use Rattle.mk_geom.specs.Storages.{IsRun, Storage, is_cell_taken, is_small, stands_on, use_by}
-use Rattle.mk_geom.specs.StorageWords.{IsWordOf}
+use Rattle.std.specs.Prelude.{Contains}
+use Rattle.mk_laws.proofs.Vocabulary.{IsWordOf, List, Storage, arith, cases_Bool, cases_lt, eqb-true, false, inl, inr}
+use Rattle.mk_laws.proofs.Vocabulary.{is_small, stands_on, true, ℕ, ◌*◌, ◌+◌, ◌==◌, ◌≡◌, ◌≤◌}
+use Rattle.mk_geom.specs.Storages.{IsRun, is_cell_taken}
 use Rattle.mk_geom.proofs.ListSearch.{find_cases, list_any_found}
 use Rattle.mk_geom.proofs.Standing.{stands_parts}
 use Rattle.mk_laws.specs.Precision.{CountsAsFree}
@@ -17,7 +16,7 @@ module _ (ss : List Storage) (s : Storage) (some : 1 ≤ s.words) (run : is_smal
       let found = list_any_found (λ (t : Storage). t.first == 64 * page + k * words) ss taken in
       let t : Storage = found.0 in
       let inside = found.1 in
-      let first = eqb-true t.first (64 * page + k * words) found.2 in
+      let first = eqb-true t.first _ found.2 in
       let size = others t inside in
       apart t inside s.first (omega arith, omega arith) (omega arith, omega arith)
 
@@ -50,6 +49,6 @@ module _ (ss : List Storage) (s : Storage) (some : 1 ≤ s.words) (run : is_smal
         ];
         pages = λ large page own. elim (find_cases (stands_on page) ss) [
           | inl found ↦ absurd (none_stands page found.0 large own found.2 found.3)
-          | inr none ↦ ap (λ (x : Option Storage). use_by ss page x) none.0
+          | inr none ↦ rw none.0
         ];
       }

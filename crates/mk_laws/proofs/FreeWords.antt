@@ -1,26 +1,18 @@
 -- While the phase isn't releasing, a word that isn't 0 is one of an unreleased allocation.
-use Rattle.std.proofs.Common.{◌≡◌, ◌≢◌, ℕ, ◌+◌, ◌-◌, ◌*◌, ◌/◌, ◌%◌, ◌<◌, ◌≤◌, true, false, sym, ◌∙◌, ap, inl, inr}
-use Rattle.std.proofs.Common.{arith}
-use Rattle.std.specs.Prelude.{◌==◌, nat_le, nat_lt, slice_index, Option, Some}
-use Rattle.std.proofs.lemmas.Bool.{and_parts, cases_eq, eqb-true, leb-true, ltb-true}
-use Rattle.mk_laws.proofs.Vocabulary.{Config, IsWordOf, NeverState, Object, PlacedAllocation, RunPages, Words}
-use Rattle.mk_laws.proofs.Vocabulary.{World, is_run_gone, is_run_unmapped, left, never_behind, object_placed}
-use Rattle.mk_laws.proofs.Vocabulary.{pages_made, phase_of, placed_at, storage_of, storage_words, words_are_zero}
+use Rattle.mk_laws.proofs.Vocabulary.{Config, Invariant, IsFreedWord, IsWordOf, IsWordOfMapped, Leaves, MayHold}
+use Rattle.mk_laws.proofs.Vocabulary.{NeverState, Object, OfFreedRun, OfHistories, OfMapped, OfReleased, Option}
+use Rattle.mk_laws.proofs.Vocabulary.{PlacedAllocation, RunPages, Some, Words, World, all_below-at, and_parts, ap}
+use Rattle.mk_laws.proofs.Vocabulary.{arith, cases_eq, eqb-true, false, inl, inr, is_run_gone, is_run_unmapped}
+use Rattle.mk_laws.proofs.Vocabulary.{large_words, leb-true, left, ltb-true, nat_le, nat_lt, never_behind}
+use Rattle.mk_laws.proofs.Vocabulary.{object_placed, pages_made, phase_of, placed_at, run_begins, run_of_allocation}
+use Rattle.mk_laws.proofs.Vocabulary.{slice_index, storage_of, storage_words, sym, true, words_are_zero, zero_scene_of}
+use Rattle.mk_laws.proofs.Vocabulary.{ℕ, ◌%◌, ◌*◌, ◌+◌, ◌-◌, ◌/◌, ◌<◌, ◌==◌, ◌∙◌, ◌≡◌, ◌≢◌, ◌≤◌}
+use Rattle.mk_laws.proofs.Basics.{KnownWorld, known_world, mapped_stays, none_released}
 use Rattle.mk_core.specs.Cells.{is_in_run}
-use Rattle.mk_core.proofs.AllBelow.{all_below-at}
-use Rattle.mk_core.proofs.Sizes.{large_words}
-use Rattle.mk_core.proofs.StandingAllocations.{run_begins}
-use Rattle.mk_laws.specs.ImagePremises.{run_of_allocation}
-use Rattle.mk_laws.proofs.KnownWorlds.{KnownWorld, known_world}
-use Rattle.mk_laws.specs.Zeros.{IsFreedWord, IsWordOfMapped, MayHold, OfFreedRun, OfMapped, OfReleased, zero_scene_of}
-use Rattle.mk_laws.proofs.ChangedScenes.{none_released}
-use Rattle.mk_laws.proofs.MappedWords.{mapped_stays}
-use Rattle.mk_laws.specs.Invariant.{Invariant}
-use Rattle.mk_laws.specs.Theorems.{OfHistories}
 use Rattle.mk_laws.proofs.ForImages.{standing}
 use Rattle.mk_laws.proofs.InvariantHistories.{histories_keep_the_invariant}
 use Rattle.mk_laws.proofs.InvariantJoined.{told_to_images}
-use Rattle.mk_laws.specs.FreeWords.{Leaves, UnmappedWordsAreZero, WordsOfNoneAreZero}
+use Rattle.mk_laws.specs.FreeWords.{UnmappedWordsAreZero, WordsOfNoneAreZero}
 use Rattle.mk_laws.proofs.ReadingsStands.{not_releasing}
 
 -- the unreleased allocation that has the word

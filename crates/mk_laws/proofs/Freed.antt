@@ -1,26 +1,19 @@
 -- `quar` (a) on the terrain: an object is freed, and the run that a call freed is gone.
-use Rattle.std.proofs.Common.{Bool, ap, arith, false, inl, inr, length, map, refl, subst, sym, true, ℕ, ◌+◌, ◌/◌, ◌<◌}
-use Rattle.std.proofs.Common.{◌∙◌, ◌≡◌, ◌⊎◌}
-use Rattle.std.specs.Prelude.{None, Option, Some, if◌then◌else◌, not, ◌&&◌, ◌==◌}
-use Rattle.std.proofs.lemmas.Bool.{cases_Bool, cond-true, eq-eqb, eqb-true, not-true, true≢false}
 use Rattle.std.proofs.lemmas.List.{map-id}
-use Rattle.mk_laws.proofs.Vocabulary.{Cell, Config, Header, IsSized, IsWithinLimits, Object, OfBlock, OfLater}
-use Rattle.mk_laws.proofs.Vocabulary.{OfLeafBlock, OfLeafRun, OfRun, PlacedAllocation, RunPages, ShowsPart, Words}
-use Rattle.mk_laws.proofs.Vocabulary.{World, cell_of_allocation, cells_made, cells_under, freed_where_it_stands}
-use Rattle.mk_laws.proofs.Vocabulary.{header_at, header_in, is_run_unmapped, is_small_object, object_placed}
-use Rattle.mk_laws.proofs.Vocabulary.{pages_made, placed_at, run_headed, run_of_cell, stands, stands_in}
-use Rattle.mk_laws.proofs.Vocabulary.{unmapped_header}
-use Rattle.mk_core.proofs.AllBelow.{all_below-at}
-use Rattle.mk_core.proofs.CellsOfAllocations.{stands_in_its_cell, stands_in_no_other}
-use Rattle.mk_core.proofs.ChangedAllocations.{freed_leaves, freed_released}
-use Rattle.mk_core.proofs.ObjectHeaders.{part_cells}
-use Rattle.mk_core.proofs.Sizes.{pages_some}
-use Rattle.mk_core.proofs.SmallCycles.{small}
-use Rattle.mk_core.proofs.StandingAllocations.{first_page_shows}
-use Rattle.mk_laws.specs.LayoutScene.{Among, Claim, HasHeader, IsShown, IsUnmappedHeaderOf}
-use Rattle.mk_laws.specs.Ground.{ground_of}
-use Rattle.mk_laws.specs.Terrain.{IsCellOf, IsClaimedRun, RunStands, claim_of, claims_of, claims_on, is_unmapping}
-use Rattle.mk_laws.specs.Terrain.{mode_of, layout_scene_of}
+use Rattle.mk_laws.proofs.Vocabulary.{Among, Bool, Cell, Claim, Config, HasHeader, Header, IsClaimedRun, IsShown}
+use Rattle.mk_laws.proofs.Vocabulary.{IsSized, IsWithinLimits, None, Object, OfBlock, OfLater, OfLeafBlock, OfLeafRun}
+use Rattle.mk_laws.proofs.Vocabulary.{OfRun, Option, PlacedAllocation, RunPages, RunStands, ShowsPart, Some, Words}
+use Rattle.mk_laws.proofs.Vocabulary.{World, all_below-at, ap, arith, cases_Bool, cell_of_allocation, cells_made}
+use Rattle.mk_laws.proofs.Vocabulary.{cells_under, claim_of, claims_of, claims_on, cond-true, eq-eqb, eqb-true, false}
+use Rattle.mk_laws.proofs.Vocabulary.{first_page_shows, freed_leaves, freed_released, freed_where_it_stands, ground_of}
+use Rattle.mk_laws.proofs.Vocabulary.{header_at, header_in, if◌then◌else◌, inl, inr, is_run_unmapped, is_small_object}
+use Rattle.mk_laws.proofs.Vocabulary.{is_unmapping, layout_scene_of, length, map, mode_of, not, not-true, object_placed}
+use Rattle.mk_laws.proofs.Vocabulary.{pages_made, pages_some, part_cells, placed_at, refl, run_headed, run_of_cell}
+use Rattle.mk_laws.proofs.Vocabulary.{small, stands, stands_in, stands_in_its_cell, subst, sym, true, true≢false}
+use Rattle.mk_laws.proofs.Vocabulary.{unmapped_header, ℕ, ◌&&◌, ◌+◌, ◌/◌, ◌<◌, ◌==◌, ◌∙◌, ◌≡◌, ◌⊎◌}
+use Rattle.mk_core.proofs.CellsOfAllocations.{stands_in_no_other}
+use Rattle.mk_laws.specs.LayoutScene.{IsUnmappedHeaderOf}
+use Rattle.mk_laws.specs.Terrain.{IsCellOf}
 use Rattle.mk_laws.proofs.Claims.{LeavesCells, changed_among, claim_among}
 use Rattle.mk_laws.proofs.Modes.{Remodes, remoded}
 use Rattle.mk_laws.proofs.LayoutReadings.{one_claim}
@@ -86,120 +79,123 @@ standing_cell c o w cell len own st i u h =
         let x : Claim = claim_of c w.now.seats.holding.freed (placed_at w.allocations i) in
         st.scene.shown x (own_claim c o (ground_of w) x (claim_among c w.now.seats.holding.freed w.allocations i u))
 
-pub freed_terrain : (c : Config) (o : Object) (w : World) (cell : Cell) → IsWithinLimits c
-    → length w.now.words.pages ≡ c.pages → w.now.seats.holding.freed ≡ None
-    → IsCellOf c w.allocations cell → Laid c o false w (ground_of w) → Laid c o false w (record (ground_of w) {
-      run = run_of_cell w.now.words (Some cell);
-      allocations = map (freed_where_it_stands w.now.words (Some cell)) w.allocations;
-    })
-freed_terrain c o w cell limits len none own st =
-    by (cases_Bool (is_small_object (object_placed c (placed_at w.allocations own.number))))
-  where
-    a : PlacedAllocation
-    a = placed_at w.allocations own.number
+module _ (c : Config) (o : Object) (w : World) (cell : Cell) (limits : IsWithinLimits c)
+    (len : length w.now.words.pages ≡ c.pages) (none : w.now.seats.holding.freed ≡ None)
+    (own : IsCellOf c w.allocations cell) (st : Laid c o false w (ground_of w)) where
+  abbrev a : PlacedAllocation
+  a = placed_at w.allocations own.number
 
-    stand : (i : ℕ) → (placed_at w.allocations i).released ≡ false
-        → IsStanding c w.now.words (placed_at w.allocations i)
-    stand = all_stand c o false w len st
+  abbrev frees : PlacedAllocation → PlacedAllocation
+  frees = freed_where_it_stands w.now.words (Some cell)
 
-    among : (i : ℕ) → (placed_at w.allocations i).released ≡ false
-        → Among (claim_of c w.now.seats.holding.freed (placed_at w.allocations i)) (claims_on c o (ground_of w))
-    among i u = own_claim c o (ground_of w) _ (claim_among c w.now.seats.holding.freed w.allocations i u)
+  abbrev Behind : Type 0
+  Behind =
+      Laid c o false w
+      (record (ground_of w) { run = run_of_cell w.now.words (Some cell); allocations = map frees w.allocations })
 
-    sized : IsSized (object_placed c (placed_at w.allocations own.number))
-    sized = (st.scene.shown (claim_of c w.now.seats.holding.freed (placed_at w.allocations own.number))
-        (among own.number own.unreleased)).sized
+  stand : (i : ℕ) → (placed_at w.allocations i).released ≡ false
+      → IsStanding c w.now.words (placed_at w.allocations i)
+  stand = all_stand c o false w len st
 
-    page : (placed_at w.allocations own.number).base / 64 ≡ cell.page
-    page = ap (λ (x : Cell). x.page) own.is
+  among : (i : ℕ) → (placed_at w.allocations i).released ≡ false
+      → Among (claim_of c w.now.seats.holding.freed (placed_at w.allocations i)) (claims_on c o (ground_of w))
+  among i u = own_claim c o (ground_of w) _ (claim_among c w.now.seats.holding.freed w.allocations i u)
 
-    part : ShowsPart (object_placed c (placed_at w.allocations own.number)) 0 (header_in w.now.words cell.page)
-    part =
-        rw page at (first_page_shows c w.now.words (placed_at w.allocations own.number) sized
-        (stand own.number own.unreleased).headers)
+  sized : IsSized (object_placed c a)
+  sized = (st.scene.shown (claim_of c w.now.seats.holding.freed a)
+      (among own.number own.unreleased)).sized
 
-    cell_of : (i : ℕ) → (placed_at w.allocations i).released ≡ false
-        → stands_in w.now.words cell (placed_at w.allocations i) ≡ true
-        → cell_of_allocation c (placed_at w.allocations i) ≡ cell
-    cell_of = standing_cell c o w cell len own st
+  page : a.base / 64 ≡ cell.page
+  page = ap (λ (x : Cell). x.page) own.is
 
-    keeps : (b : PlacedAllocation) → b.released ≡ false
-        → (freed_where_it_stands w.now.words (Some cell) b).released ≡ false
-    keeps b u = freed_released w.now.words (Some cell) b ∙ u
+  part : ShowsPart (object_placed c a) 0 (header_in w.now.words cell.page)
+  part =
+      rw page at (first_page_shows c w.now.words a sized
+      (stand own.number own.unreleased).headers)
 
-    modes : (run : Option RunPages) → ((i : ℕ) → (placed_at w.allocations i).released ≡ false
-        → stands_in w.now.words cell (placed_at w.allocations i) ≡ true
-        → is_small_object (object_placed c (placed_at w.allocations i)) ≡ false
-        → is_unmapping run ((placed_at w.allocations i).base / 64) ≡ true)
-        → Remodes c (ground_of w) run (freed_where_it_stands w.now.words (Some cell))
-    modes run going =
-        record {
-          leaves = freeing_leaves w.now.words (Some cell);
-          keeps = keeps;
-          headers = λ i u d ld has.
-              at (placed_at w.allocations i) d (header_at w.now.words ((placed_at w.allocations i).base / 64 + d))
-              (stands_in w.now.words cell (placed_at w.allocations i)) refl (going i u) (rw none at has);
-        }
-      where
-        at : (a : PlacedAllocation) (d h : ℕ) (b : Bool) → stands_in w.now.words cell a ≡ b
-            → (stands_in w.now.words cell a ≡ true → is_small_object (object_placed c a) ≡ false
-            → is_unmapping run (a.base / 64) ≡ true) → HasHeader (claim_of c None a).mode (object_placed c a) d h
-            → HasHeader (claim_of c run (if b then record a { freed = true; fresh = true } else a)).mode
-            (object_placed c a) d h
-        at a d h true is go has =
-            moves a.freed true (not (is_small_object (object_placed c a))) (is_unmapping run (a.base / 64))
-            (object_placed c a) d h (λ e. refl) (λ e f l. go is (not-true (is_small_object (object_placed c a)) l)) has
-        at a d h false is go has =
-            moves a.freed a.freed (not (is_small_object (object_placed c a))) (is_unmapping run (a.base / 64))
-            (object_placed c a) d h (λ e. e) (λ e f l. absurd (true≢false (sym f ∙ e))) has
+  cell_of : (i : ℕ) → (placed_at w.allocations i).released ≡ false
+      → stands_in w.now.words cell (placed_at w.allocations i) ≡ true
+      → cell_of_allocation c (placed_at w.allocations i) ≡ cell
+  cell_of = standing_cell c o w cell len own st
 
-    by : (is_small_object (object_placed c (placed_at w.allocations own.number)) ≡ true)
-        ⊎ (is_small_object (object_placed c (placed_at w.allocations own.number)) ≡ false)
-        → Laid c o false w (record (ground_of w) {
-          run = run_of_cell w.now.words (Some cell);
-          allocations = map (freed_where_it_stands w.now.words (Some cell)) w.allocations;
-        })
-    by (inl small) =
-        rw (run_small (object_placed c a) (header_in w.now.words cell.page) cell.page part small)
-        (remoded c o false w.now.words.marks (ground_of w) None (freed_where_it_stands w.now.words (Some cell)) st
-        (modes None (λ i u h large.
-        let there = cell_of i u h in
-        let one =
-        one_claim (claims_on c o (ground_of w)) (claim_of c w.now.seats.holding.freed (placed_at w.allocations i))
-        (claim_of c w.now.seats.holding.freed a) st.scene.apart (among i u) (among own.number own.unreleased)
-        (ap (λ (x : Cell). x.page) (there ∙ sym own.is), ap (λ (x : Cell). x.index) (there ∙ sym own.is)) in
-        absurd (true≢false (sym small ∙ ap (λ (z : Claim). is_small_object z.object) (sym one) ∙ large)))) tt)
-    by (inr large) =
-        let run : RunPages = record { page = cell.page; count = pages_made (object_placed c a) } in
-        let is_run = run_large (object_placed c a) (header_in w.now.words cell.page) cell.page part large in
-        rw is_run
-        (remoded c o false w.now.words.marks (ground_of w) (Some run) (freed_where_it_stands w.now.words (Some cell)) st
-        (modes (Some run) (λ i u h l. eq-eqb cell.page ((placed_at w.allocations i).base / 64)
-        (sym (ap (λ (x : Cell). x.page) (cell_of i u h))))) (claimed_run run refl refl large))
-      where
-        claimed_run : (run : RunPages) → run.page ≡ cell.page
-            → run.count ≡ pages_made (object_placed c (placed_at w.allocations own.number))
-            → is_small_object (object_placed c (placed_at w.allocations own.number)) ≡ false
-            → IsClaimedRun (claims_of c (Some run) (map (freed_where_it_stands w.now.words (Some cell)) w.allocations))
-            run
-        claimed_run run at_page count large =
-            let s = stand own.number own.unreleased in
-            let in_cell : stands_in w.now.words cell a ≡ true =
-            rw (← own.is) (stands_in_its_cell c w.now.words a limits s.stands s.headers) in
-            let freed : PlacedAllocation = record a { freed = true; fresh = true } in
-            let same : freed_where_it_stands w.now.words (Some cell) a ≡ freed =
-            cond-true (stands_in w.now.words cell a) freed a in_cell in
-            record {
-              claim = claim_of c (Some run) freed;
-              among =
-                  rw same at
-                  (changed_among c (Some run) (freed_where_it_stands w.now.words (Some cell)) w.allocations own.number
-                  (freeing_leaves w.now.words (Some cell)) (keeps a own.unreleased));
-              page = page ∙ sym at_page;
-              count = sym count;
-              large = large;
-              mode = rw large (rw (eq-eqb run.page (a.base / 64) (at_page ∙ sym page)));
-            }
+  keeps : (b : PlacedAllocation) → b.released ≡ false
+      → (frees b).released ≡ false
+  keeps b u = freed_released w.now.words (Some cell) b ∙ u
+
+  modes : (run : Option RunPages) → ((i : ℕ) → (placed_at w.allocations i).released ≡ false
+      → stands_in w.now.words cell (placed_at w.allocations i) ≡ true
+      → is_small_object (object_placed c (placed_at w.allocations i)) ≡ false
+      → is_unmapping run ((placed_at w.allocations i).base / 64) ≡ true)
+      → Remodes c (ground_of w) run frees
+  modes run going =
+      record {
+        leaves = freeing_leaves w.now.words (Some cell);
+        keeps = keeps;
+        headers = λ i u d ld has.
+            at (placed_at w.allocations i) d (header_at w.now.words ((placed_at w.allocations i).base / 64 + d))
+            (stands_in w.now.words cell (placed_at w.allocations i)) refl (going i u) (rw none at has);
+      }
+    where
+      at : (a : PlacedAllocation) (d h : ℕ) (b : Bool) → stands_in w.now.words cell a ≡ b
+          → (stands_in w.now.words cell a ≡ true → is_small_object (object_placed c a) ≡ false
+          → is_unmapping run (a.base / 64) ≡ true) → HasHeader (claim_of c None a).mode (object_placed c a) d h
+          → HasHeader (claim_of c run (if b then record a { freed = true; fresh = true } else a)).mode
+          (object_placed c a) d h
+      at a d h true is go has =
+          moves a.freed true (not (is_small_object (object_placed c a))) (is_unmapping run (a.base / 64))
+          (object_placed c a) d h (λ e. refl) (λ e f l. go is (not-true (is_small_object (object_placed c a)) l)) has
+      at a d h false is go has =
+          moves a.freed a.freed (not (is_small_object (object_placed c a))) (is_unmapping run (a.base / 64))
+          (object_placed c a) d h (λ e. e) (λ e f l. absurd (true≢false (sym f ∙ e))) has
+
+  by : (is_small_object (object_placed c a) ≡ true)
+      ⊎ (is_small_object (object_placed c a) ≡ false)
+      → Behind
+  by (inl small) =
+      rw (run_small (object_placed c a) (header_in w.now.words cell.page) cell.page part small)
+      (remoded c o false w.now.words.marks (ground_of w) None frees st
+      (modes None (λ i u h large.
+      let there = cell_of i u h in
+      let one =
+      one_claim (claims_on c o (ground_of w)) (claim_of c w.now.seats.holding.freed (placed_at w.allocations i))
+      (claim_of c w.now.seats.holding.freed a) st.scene.apart (among i u) (among own.number own.unreleased)
+      (ap (λ (x : Cell). x.page) (there ∙ sym own.is), ap (λ (x : Cell). x.index) (there ∙ sym own.is)) in
+      absurd (true≢false (sym small ∙ ap (λ (z : Claim). is_small_object z.object) (sym one) ∙ large)))) tt)
+  by (inr large) =
+      let run : RunPages = record { page = cell.page; count = pages_made (object_placed c a) } in
+      let is_run = run_large (object_placed c a) (header_in w.now.words cell.page) cell.page part large in
+      rw is_run
+      (remoded c o false w.now.words.marks (ground_of w) (Some run) frees st
+      (modes (Some run) (λ i u h l. eq-eqb cell.page ((placed_at w.allocations i).base / 64)
+      (sym (ap (λ (x : Cell). x.page) (cell_of i u h))))) (claimed_run run refl refl large))
+    where
+      claimed_run : (run : RunPages) → run.page ≡ cell.page
+          → run.count ≡ pages_made (object_placed c a)
+          → is_small_object (object_placed c a) ≡ false
+          → IsClaimedRun (claims_of c (Some run) (map frees w.allocations))
+          run
+      claimed_run run at_page count large =
+          let s = stand own.number own.unreleased in
+          let in_cell : stands_in w.now.words cell a ≡ true =
+          rw (← own.is) (stands_in_its_cell c w.now.words a limits s.stands s.headers) in
+          let freed : PlacedAllocation = record a { freed = true; fresh = true } in
+          let same : freed_where_it_stands w.now.words (Some cell) a ≡ freed =
+          cond-true (stands_in w.now.words cell a) freed a in_cell in
+          record {
+            claim = claim_of c (Some run) freed;
+            among =
+                rw same at
+                (changed_among c (Some run) frees w.allocations own.number
+                (freeing_leaves w.now.words (Some cell)) (keeps a own.unreleased));
+            page = page ∙ sym at_page;
+            count = sym count;
+            large = large;
+            mode = rw large (rw (eq-eqb run.page (a.base / 64) (at_page ∙ sym page)));
+          }
+
+  pub freed_terrain : Behind
+  freed_terrain =
+      by (cases_Bool (is_small_object (object_placed c a)))
 
 -- The run is unmapped, and the call that freed it ends.
 pub gone_terrain : (c : Config) (o : Object) (releasing : Bool) (w : World)

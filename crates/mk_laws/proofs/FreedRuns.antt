@@ -1,55 +1,38 @@
 -- The run that a Free unmaps is what its register points to.
-use Rattle.std.proofs.Common.{◌≡◌, ◌≢◌, ◌⊎◌, ℕ, ◌+◌, ◌*◌, ◌/◌, ◌%◌, ◌<◌, Bool, true, false, length, refl, sym, ap}
-use Rattle.std.proofs.Common.{subst, ◌∙◌, inl, inr, arith}
-use Rattle.std.specs.Prelude.{slice_index, slice_index_or, slice_set, ◌&&◌, not, if◌then◌else◌, Option, Some, None}
-use Rattle.std.proofs.lemmas.Bool.{cases_Bool, cases_eq, cases_lt, ltb-true, false≢true}
-use Rattle.std.proofs.lemmas.List.{get_or-set_same, get_or-set_other, get_or_append_left, length-map, get_or_past}
-use Rattle.mk_laws.proofs.Vocabulary.{Answer, AreAdmitted, Caller, Cell, Config, Event, Flight, Header, Holding}
-use Rattle.mk_laws.proofs.Vocabulary.{Host, IsSound, LeafRun, Marker, Moment, NeverState, Null, Num, Op}
-use Rattle.mk_laws.proofs.Vocabulary.{PlacedAllocation, Progress, Ptr, Run, RunPages, Seat, Stage, Step, Value}
-use Rattle.mk_laws.proofs.Vocabulary.{Word, Words, World, after_calls, after_free, answer_decided, asked, at_rest}
-use Rattle.mk_laws.proofs.Vocabulary.{bases_of, call_decided, cell_freed, cell_of_allocation, comes_next, decided}
-use Rattle.mk_laws.proofs.Vocabulary.{entry_of, flight_of, found, header_in, heads_run, image_of, is_phase}
-use Rattle.mk_laws.proofs.Vocabulary.{is_small_object, is_undecided_free, nothing_done, object_placed, or_else}
-use Rattle.mk_laws.proofs.Vocabulary.{p_of, placed_at, pointed_cell, progress, progress_freed, register_at}
-use Rattle.mk_laws.proofs.Vocabulary.{run_headed, run_of_cell, sees_double, still, world_behind}
+use Rattle.mk_laws.proofs.Vocabulary.{Answer, AreAdmitted, Bool, Caller, CarriesOwn, Cell, Config, Event, Flight}
+use Rattle.mk_laws.proofs.Vocabulary.{Header, Holding, Host, ImagePremises, IsSafe, IsSound, LeafRun, Marker, Mirrors}
+use Rattle.mk_laws.proofs.Vocabulary.{Moment, NeverState, None, Null, Num, Op, Option, PlacedAllocation, Ptr, Run}
+use Rattle.mk_laws.proofs.Vocabulary.{RunPages, Seat, Some, Stage, Step, Value, Word, Words, World, admitted_keep}
+use Rattle.mk_laws.proofs.Vocabulary.{after_calls, after_free, ap, arith, asked, at_rest, bases_of, call_decided}
+use Rattle.mk_laws.proofs.Vocabulary.{cases_Bool, cases_eq, cases_lt, cell_freed, cell_of_allocation, decided, entry_of}
+use Rattle.mk_laws.proofs.Vocabulary.{false, false≢true, first_page_shows, flight_of, found, freed_cell}
+use Rattle.mk_laws.proofs.Vocabulary.{get_or-set_other, get_or-set_same, get_or_append_left, get_or_past, header_in}
+use Rattle.mk_laws.proofs.Vocabulary.{heads_run, if◌then◌else◌, image_of, image_scene_of, inl, inr, is_decided_free}
+use Rattle.mk_laws.proofs.Vocabulary.{is_phase, is_small_object, is_undecided_free, length, length-map, ltb-true, not}
+use Rattle.mk_laws.proofs.Vocabulary.{nothing_done, object_placed, or_else, p_of, placed_at, pointed_cell, progress}
+use Rattle.mk_laws.proofs.Vocabulary.{progress_freed, refl, register_at, run_begins, run_headed, run_of_cell}
+use Rattle.mk_laws.proofs.Vocabulary.{sees_double, set_by, slice_index_or, slice_set, small_heads_none, still, subst}
+use Rattle.mk_laws.proofs.Vocabulary.{sym, true, typed_size, world_behind, ℕ, ◌%◌, ◌&&◌, ◌*◌, ◌+◌, ◌/◌, ◌<◌, ◌∙◌, ◌≡◌}
+use Rattle.mk_laws.proofs.Vocabulary.{◌≢◌, ◌⊎◌}
+use Rattle.mk_laws.proofs.Basics.{HoldsTurn, InCall, KnownWorld, Meets, Ready, Stands, View, actor_of, base_at, flight}
+use Rattle.mk_laws.proofs.Basics.{flight_in, not_astray, ready_of, standing, stands_of, turn_of, view_of}
 use Rattle.mk_never.specs.declared.operations.Op.TheVariants as op
 use Rattle.mk_never.specs.Laws.{AreNotBy}
-use Rattle.mk_never.proofs.Registers.{admitted_keep}
-use Rattle.mk_never.proofs.Edits.{set_by}
 use Rattle.mk_core.specs.declared.events.Answer.TheVariants as answer
 use Rattle.mk_core.specs.declared.events.Word.TheVariants as word
 use Rattle.mk_core.specs.declared.events.Step.TheVariants as step
 use Rattle.mk_core.specs.declared.seats.Stage.TheVariants as stage
 use Rattle.mk_core.specs.Order.{is_of_any_holder}
 use Rattle.mk_core.specs.Effects.{holding_behind}
-use Rattle.mk_core.proofs.PlacesNow.{freed_cell}
-use Rattle.mk_core.proofs.ObjectHeaders.{small_heads_none}
-use Rattle.mk_core.proofs.StandingAllocations.{typed_size, run_begins, first_page_shows}
-use Rattle.mk_laws.specs.Protocol.{is_decided_free}
-use Rattle.mk_laws.proofs.Standings.{Standing, Resting, InCall, UnderTurn, standing}
-use Rattle.mk_laws.proofs.Views.{View, view_of, flight_in, HoldsTurn}
-use Rattle.mk_laws.proofs.ProtocolMoves.{Move as ProtocolMove, Stays, Enters, GoesOn, Leaves, Takes, Gives, Works}
-use Rattle.mk_laws.proofs.ProtocolMoves.{Holds}
-use Rattle.mk_laws.proofs.ProtocolMoves.{Opens, Phases, Attends, Quits, Scans}
-use Rattle.mk_laws.proofs.Orderly.{turn_of}
-use Rattle.mk_laws.proofs.Actors.{Meets}
-use Rattle.mk_laws.proofs.OrderlyLists.{not_astray, actor_of}
+use Rattle.mk_laws.proofs.Standings.{Standing, Resting, UnderTurn}
+use Rattle.mk_laws.proofs.ProtocolMoves.{Move as ProtocolMove, Enters, GoesOn, Leaves, Takes, Gives, Works, Holds}
+use Rattle.mk_laws.proofs.ProtocolMoves.{Opens, Phases}
 use Rattle.mk_laws.proofs.Stages.{turns_stand}
 use Rattle.mk_laws.proofs.NextSteps.{of_turn}
 use Rattle.mk_laws.proofs.Sorts.{moves}
-use Rattle.mk_laws.specs.Images.{image_scene_of, CarriesOwn}
-use Rattle.mk_laws.specs.SafeSets.{IsSafe}
-use Rattle.mk_laws.specs.ImagePremises.{ImagePremises}
-use Rattle.mk_laws.specs.Mirrors.{Mirrors, PointsAtRun, OwnsFreedRun}
-use Rattle.mk_laws.proofs.KnownWorlds.{KnownWorld}
+use Rattle.mk_laws.specs.Mirrors.{PointsAtRun, OwnsFreedRun}
 use Rattle.mk_laws.proofs.Bases.{IsLonger}
-use Rattle.mk_laws.proofs.ImagesKept.{base_at}
 use Rattle.mk_laws.proofs.ImagesFreeing.{decided_free_stands, decided_free_gives, frees_run}
-use Rattle.mk_laws.proofs.ImagesStands.{Stands, stands_of}
-use Rattle.mk_laws.proofs.Ready.{Ready}
-use Rattle.mk_laws.proofs.ImagesBefore.{ready_of}
-use Rattle.mk_laws.proofs.RegMoves.{flight}
 use Rattle.mk_laws.proofs.FreeMoves.{pointer_cell}
 use Rattle.mk_laws.proofs.CallSorts.{literal}
 
@@ -136,25 +119,11 @@ none_seen w _ = refl
 
 give_still : (c : Config) (m : Moment) (o : Op) (q p r l n : ℕ) (x : Step) → is_of_any_holder x ≡ true → gives x ≡ false
     → progress c m (flight stage.Give o q p r l) n x ≡ still (flight stage.Give o q p r l)
-give_still c m o q p r l n (step.Enter y) h g = absurd (false≢true h)
-give_still c m o q p r l n step.Leave h g = absurd (false≢true h)
-give_still c m o q p r l n step.Reg h g = absurd (false≢true h)
-give_still c m o q p r l n step.Probe h g = absurd (false≢true h)
-give_still c m o q p r l n step.Read h g = absurd (false≢true h)
-give_still c m o q p r l n step.Write h g = absurd (false≢true h)
-give_still c m o q p r l n step.Cas h g = absurd (false≢true h)
-give_still c m o q p r l n step.Getg h g = absurd (false≢true h)
-give_still c m o q p r l n step.Setg h g = absurd (false≢true h)
-give_still c m o q p r l n step.Dirty h g = absurd (false≢true h)
-give_still c m o q p r l n (step.Take y) h g = absurd (false≢true h)
-give_still c m o q p r l n step.Grant h g = absurd (false≢true h)
-give_still c m o q p r l n step.Full h g = absurd (false≢true h)
-give_still c m o q p r l n step.Give h g = absurd (false≢true (sym g))
 give_still c m o q p r l n (step.Quar y v) h g = none_freed_at _ _
 give_still c m o q p r l n (step.Look x) h g =
     let f = flight stage.Give o q p r l in
     ap (λ (b : Bool). if b then decided f answer.Double else still f) (none_seen m.words x)
-give_still c m o q p r l n _ h g = refl
+give_still c m o q p r l n _ h g = cc
 
 no_run : (w : Words) (b : Bool) (run : RunPages) → run_of_cell w (if b && false then None else None) ≡ Some run → ⊥
 no_run w true run e = cc
@@ -169,13 +138,11 @@ headed : (h : Option Header) (page : ℕ) (run : RunPages) → run_headed h page
     → (run.page ≡ page) × (heads_run h ≡ true)
 headed (Some (Run count mapped)) page run e = (sym (ap page_in e), refl)
 headed (Some (LeafRun count)) page run e = (sym (ap page_in e), refl)
-headed None page run e = cc
-headed (Some _) page run e = cc
+headed _ page run e = cc
 
 free_keeps : (n : NeverState) (v : Value) (k r : ℕ) → register_at (after_free n v) k r ≡ register_at n k r
 free_keeps n Null k r = refl
-free_keeps n (Num m) k r = refl
-free_keeps n (Ptr a t o) k r = refl
+free_keeps n _ k r = cc
 
 pub not_by : (j k : ℕ) (o : Op) (a : Option Answer) → j ≢ k → AreNotBy k (asked (entry_of j o a))
 not_by j k o None ne = tt

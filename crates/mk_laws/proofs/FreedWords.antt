@@ -1,19 +1,16 @@
 -- Words of what a call frees: a run's become those of the run that it unmaps, and they are 0 once that is gone.
-use Rattle.std.proofs.Common.{◌≡◌, ◌⊎◌, ℕ, ◌+◌, ◌-◌, ◌*◌, ◌/◌, ◌<◌, ◌≤◌, Bool, true, false, refl, sym, ◌∙◌, ap, subst}
-use Rattle.std.proofs.Common.{map, inl, inr, arith}
-use Rattle.std.specs.Prelude.{◌==◌, nat_le, nat_lt, slice_index, Option, Some, None, if◌then◌else◌}
-use Rattle.std.proofs.lemmas.Bool.{and_parts, and_from, cases_Bool, eqb-true, leb-true, ltb-true, le-leb, lt-ltb}
-use Rattle.mk_laws.proofs.Vocabulary.{Cell, Config, IsWithinLimits, PlacedAllocation, RunPages, ShowsPart, Storage}
-use Rattle.mk_laws.proofs.Vocabulary.{Words, World, cell_of_allocation, freed_where_it_stands, header_in, is_mapped}
-use Rattle.mk_laws.proofs.Vocabulary.{is_run_gone, is_run_unmapped, is_small_object, object_placed, pages_made}
-use Rattle.mk_laws.proofs.Vocabulary.{placed_at, run_of_cell, stands_in, storage_words, words_are_zero}
-use Rattle.mk_core.proofs.AllBelow.{all_below-at}
-use Rattle.mk_core.proofs.ChangedAllocations.{freed_leaves, freed_storage}
-use Rattle.mk_core.proofs.Sizes.{large_words}
-use Rattle.mk_core.proofs.StandingAllocations.{typed_size, first_page_shows, run_begins}
+use Rattle.mk_laws.proofs.Vocabulary.{Bool, Cell, Config, IsFreedWord, IsWithinLimits, IsWordOfMapped, None, Option}
+use Rattle.mk_laws.proofs.Vocabulary.{PlacedAllocation, RunPages, ShowsPart, Some, Storage, Words, World, all_below-at}
+use Rattle.mk_laws.proofs.Vocabulary.{and_from, and_parts, ap, arith, cases_Bool, cell_of_allocation, eqb-true, false}
+use Rattle.mk_laws.proofs.Vocabulary.{first_page_shows, freed_leaves, freed_where_it_stands, header_in, if◌then◌else◌}
+use Rattle.mk_laws.proofs.Vocabulary.{inl, inr, is_mapped, is_run_gone, is_run_unmapped, is_small_object, large_words}
+use Rattle.mk_laws.proofs.Vocabulary.{le-leb, leb-true, lt-ltb, ltb-true, map, nat_le, nat_lt, object_placed}
+use Rattle.mk_laws.proofs.Vocabulary.{pages_made, placed_at, refl, run_begins, run_of_cell, slice_index, stands_in}
+use Rattle.mk_laws.proofs.Vocabulary.{storage_words, subst, sym, true, typed_size, words_are_zero, ℕ, ◌*◌, ◌+◌, ◌-◌}
+use Rattle.mk_laws.proofs.Vocabulary.{◌/◌, ◌<◌, ◌==◌, ◌∙◌, ◌≡◌, ◌≤◌, ◌⊎◌}
+use Rattle.mk_laws.proofs.Basics.{IsStanding}
+use Rattle.mk_core.proofs.ChangedAllocations.{freed_storage}
 use Rattle.mk_laws.proofs.Freed.{run_large}
-use Rattle.mk_laws.proofs.StandingClaims.{IsStanding}
-use Rattle.mk_laws.specs.Zeros.{IsWordOfMapped, IsFreedWord}
 use Rattle.mk_laws.proofs.MappedWords.{word_of_changed}
 
 -- `give`: the run's words are 0

@@ -1,34 +1,23 @@
 -- The count of fresh words that is kept beside the table is that of the allocations, after each kind of event.
-use Rattle.std.proofs.Common.{◌≡◌, ◌≢◌, ℕ, ◌+◌, ◌-◌, ◌<◌, ◌^◌, Bool, true, false, List, map, length, refl, sym, ◌∙◌, ap}
-use Rattle.std.proofs.Common.{subst, arith, inl, inr}
-use Rattle.std.specs.Prelude.{None, Option, Some, min, not, slice_index, ◌&&◌, ◌||◌, ◌==◌, if◌then◌else◌}
-use Rattle.std.proofs.lemmas.Bool.{and_parts, cases_lt, cond-true, false_from_ne_true, not-true, true≢false}
-use Rattle.std.proofs.lemmas.List.{get_or_past}
-use Rattle.mk_laws.proofs.Vocabulary.{Cell, Config, Header, Object, PlacedAllocation, Seat, ShowsPart, Step, World}
-use Rattle.mk_laws.proofs.Vocabulary.{cell_freed, cell_of_allocation, first_word, flight_of, freed_where_it_stands}
-use Rattle.mk_laws.proofs.Vocabulary.{fresh_words_of, granted, has_bit, header_in, heads_run, in_a_word, is_large}
-use Rattle.mk_laws.proofs.Vocabulary.{is_phase, is_small_object, kinds_of, never_granted, object_placed, placed_at}
-use Rattle.mk_laws.proofs.Vocabulary.{stands_in, storage_words, with_released, words_made, words_under}
+use Rattle.std.specs.Prelude.{min}
+use Rattle.mk_laws.proofs.Vocabulary.{Bool, Cell, Config, Header, KeepsSnapshot, List, None, Object, Option}
+use Rattle.mk_laws.proofs.Vocabulary.{PlacedAllocation, Seat, ShowsPart, Some, StandsInOrder, Step, World, and_parts}
+use Rattle.mk_laws.proofs.Vocabulary.{ap, arith, cases_lt, cell_freed, cell_of_allocation, changed_at, claims_of}
+use Rattle.mk_laws.proofs.Vocabulary.{claims_placed, cond-true, false, false_from_ne_true, first_page_shows, first_word}
+use Rattle.mk_laws.proofs.Vocabulary.{flight_of, freed_cell, freed_where_it_stands, fresh_words_of, get_or_past}
+use Rattle.mk_laws.proofs.Vocabulary.{granted, ground_of, has_bit, header_in, heads_run, if◌then◌else◌, in_a_word, inl}
+use Rattle.mk_laws.proofs.Vocabulary.{inr, is_large, is_phase, is_small_object, kinds_of, large_is_not_small, length}
+use Rattle.mk_laws.proofs.Vocabulary.{map, never_granted, none_freed, not, not-true, object_now, object_placed}
+use Rattle.mk_laws.proofs.Vocabulary.{part_words, placed_at, refl, released_leaves, slice_index, small_heads_none}
+use Rattle.mk_laws.proofs.Vocabulary.{stands_in, storage_words, subst, sym, true, true≢false, with_released, words_made}
+use Rattle.mk_laws.proofs.Vocabulary.{words_under, ℕ, ◌&&◌, ◌+◌, ◌-◌, ◌<◌, ◌==◌, ◌^◌, ◌||◌, ◌∙◌, ◌≡◌, ◌≢◌}
+use Rattle.mk_laws.proofs.Basics.{Before, Laid, Meets, WorldBehind, all_stand, apart_left}
 use Rattle.mk_core.specs.declared.events.Step.TheVariants as step
 use Rattle.mk_core.specs.Effects.{words_freed}
-use Rattle.mk_core.proofs.ChangedAllocations.{changed_at, none_freed, released_leaves}
-use Rattle.mk_core.proofs.ObjectHeaders.{part_heads_run, part_words, small_heads_none}
-use Rattle.mk_core.proofs.PlacesNow.{freed_cell}
-use Rattle.mk_core.proofs.Sizes.{large_is_not_small}
-use Rattle.mk_core.proofs.StandingAllocations.{first_page_shows}
-use Rattle.mk_laws.proofs.Actors.{Meets}
-use Rattle.mk_laws.proofs.OthersMoves.{WorldBehind}
-use Rattle.mk_laws.specs.Ground.{ground_of}
-use Rattle.mk_laws.specs.LayoutLaws.{StandsInOrder}
-use Rattle.mk_laws.specs.Quarantine.{KeepsSnapshot}
-use Rattle.mk_laws.specs.Terrain.{claims_of, claims_placed, object_now}
-use Rattle.mk_laws.proofs.LayoutBefore.{Before}
-use Rattle.mk_laws.proofs.LayoutJoined.{apart_left}
+use Rattle.mk_core.proofs.ObjectHeaders.{part_heads_run}
 use Rattle.mk_laws.proofs.OneCell.{numbers_apart}
 use Rattle.mk_laws.proofs.QuarantineByKind.{frees_here, shown_at}
 use Rattle.mk_laws.proofs.QuarantineChanges.{FreesHere}
-use Rattle.mk_laws.proofs.Released.{all_stand}
-use Rattle.mk_laws.proofs.Serving.{Laid}
 use Rattle.mk_laws.proofs.SnapshotKinds.{snapshot_behind}
 use Rattle.mk_laws.proofs.FreshWords.{CountsAsBefore, fresh_kept, fresh_more, fresh_part, fresh_pushed, no_part}
 use Rattle.mk_laws.proofs.FreshWords.{none_fresh, stale_part}

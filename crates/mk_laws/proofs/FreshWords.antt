@@ -1,12 +1,10 @@
 -- The words of fresh allocations, as a sum over all.
-use Rattle.std.proofs.Common.{◌≡◌, ◌≢◌, ℕ, zero, suc, ◌+◌, ◌<◌, Bool, true, false, List, ◌∷◌, ◌++◌, map, length, refl}
-use Rattle.std.proofs.Common.{[]}
-use Rattle.std.proofs.Common.{sym, ◌∙◌, ap, arith}
-use Rattle.std.specs.Prelude.{◌&&◌, if◌then◌else◌, filter, sum_by}
+use Rattle.std.specs.Prelude.{filter, sum_by}
 use Rattle.std.proofs.lemmas.List.Sums.{sum_by-cons}
 use Rattle.std.proofs.Math.Bool.{and-false}
-use Rattle.mk_laws.proofs.Vocabulary.{Config, PlacedAllocation, fresh_words_of, is_mapped, no_longer_fresh}
-use Rattle.mk_laws.proofs.Vocabulary.{placed_at, storage_words}
+use Rattle.mk_laws.proofs.Vocabulary.{Bool, Config, List, PlacedAllocation, [], ap, arith, false, fresh_words_of}
+use Rattle.mk_laws.proofs.Vocabulary.{if◌then◌else◌, is_mapped, length, map, no_longer_fresh, placed_at, refl}
+use Rattle.mk_laws.proofs.Vocabulary.{storage_words, suc, sym, true, zero, ℕ, ◌&&◌, ◌++◌, ◌+◌, ◌<◌, ◌∙◌, ◌∷◌, ◌≡◌, ◌≢◌}
 
 -- what one allocation counts
 abbrev pub fresh_part : Config → PlacedAllocation → ℕ

@@ -1,10 +1,7 @@
 -- The gates that a step of the turn's holder asks for are as it asks, whatever others did since.
-use Rattle.std.proofs.Common.{List, ap, refl, true, ℕ, ◌∙◌, ◌≡◌}
-use Rattle.std.specs.Prelude.{not, slice_index, ◌||◌, ◌==◌}
-use Rattle.std.proofs.lemmas.Bool.{eq-eqb, eqb-false, eqb-true, ne_eqb, not-true}
-use Rattle.mk_laws.proofs.Vocabulary.{Config, Flight, Page, Seat, Steady, Step, TurnIsLeft, World, has_gates}
-use Rattle.mk_laws.proofs.Vocabulary.{header_of, is_held, is_number_of, is_phase, is_run_cell, is_unmapped_header}
-use Rattle.mk_laws.proofs.Vocabulary.{others_are_held, phase_of, target}
+use Rattle.mk_laws.proofs.Vocabulary.{Config, Flight, Seat, Steady, Step, TurnIsLeft, World, ap, eq-eqb, eqb-false}
+use Rattle.mk_laws.proofs.Vocabulary.{eqb-true, has_gates, is_held, is_number_of, is_phase, is_run_cell, ne_eqb, not}
+use Rattle.mk_laws.proofs.Vocabulary.{not-true, others_are_held, phase_of, target, true, ℕ, ◌||◌, ◌∙◌, ◌≡◌}
 use Rattle.mk_core.specs.declared.events.Step.TheVariants as step
 use Rattle.mk_core.specs.declared.events.Word.TheVariants as word
 use Rattle.mk_core.specs.Moments.{none_is_held}
@@ -60,5 +57,4 @@ module _ (c : Config) (w v : World) (kept : TurnIsLeft w v) where
   gates_on s f (step.Undirty p) h = two_or s h
   gates_on s f (step.Black p n) h = others_on s h
   gates_on s f (step.Unblack p) h = two_or s h
-  gates_on s f (step.Look _) h = refl
-  gates_on s f _ h = refl
+  gates_on s f _ h = cc

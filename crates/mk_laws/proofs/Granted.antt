@@ -1,15 +1,11 @@
 -- `grant` on the terrain: what is granted is the claim of its place.
-use Rattle.std.proofs.Common.{Bool, List, append-nil, false, inl, inr, length, refl, suc, sym, true, zero, ℕ, ◌++◌, ◌/◌}
-use Rattle.std.proofs.Common.{[]}
-use Rattle.std.proofs.Common.{◌<◌, ◌∙◌, ◌∷◌, ◌≡◌, ◌⊎◌}
-use Rattle.std.specs.Prelude.{None, Option, Some, if◌then◌else◌}
-use Rattle.std.proofs.lemmas.Bool.{cond-false, true≢false}
-use Rattle.mk_laws.proofs.Vocabulary.{BeginsAtCell, Config, Granted, Place, PlacedAllocation, RunPages, Used}
-use Rattle.mk_laws.proofs.Vocabulary.{base_made, cell_of_allocation, object_placed, placed_at}
+use Rattle.mk_laws.proofs.Vocabulary.{BeginsAtCell, Bool, Config, Granted, Ground, HasLayout, IsLaidOn, IsShown, List}
+use Rattle.mk_laws.proofs.Vocabulary.{NoPlot, None, Option, Place, PlacedAllocation, RunPages, RunStands, Some, Used}
+use Rattle.mk_laws.proofs.Vocabulary.{[], append-nil, base_made, cell_of_allocation, claim_of, claims_of, cond-false}
+use Rattle.mk_laws.proofs.Vocabulary.{false, if◌then◌else◌, inl, inr, layout_scene_of, length, object_placed}
+use Rattle.mk_laws.proofs.Vocabulary.{place_claim, placed_at, refl, suc, sym, true, true≢false, zero, ℕ, ◌++◌, ◌/◌, ◌<◌}
+use Rattle.mk_laws.proofs.Vocabulary.{◌∙◌, ◌∷◌, ◌≡◌, ◌⊎◌}
 use Rattle.mk_core.proofs.StandingAllocations.{made_begins}
-use Rattle.mk_laws.specs.LayoutScene.{IsLaidOn, IsShown, NoPlot}
-use Rattle.mk_laws.specs.Ground.{Ground}
-use Rattle.mk_laws.specs.Terrain.{HasLayout, RunStands, claim_of, claims_of, place_claim, layout_scene_of}
 use Rattle.mk_laws.proofs.LayoutJoined.{among_back, among_front}
 use Rattle.mk_laws.proofs.StandingClaims.{place_index}
 
@@ -33,9 +29,8 @@ pushed_any (x ∷ xs) a (suc i) = pushed_any xs a i
 -- One that was there is.
 pub still_at : (xs : List PlacedAllocation) (a : PlacedAllocation) (i : ℕ) → (placed_at xs i).released ≡ false
     → placed_at (xs ++ a ∷ []) i ≡ placed_at xs i
-still_at [] a i u = absurd (true≢false u)
-still_at (x ∷ xs) a zero u = refl
 still_at (x ∷ xs) a (suc i) u = still_at xs a i u
+still_at _ a _ u = cc
 
 pub pushed_claims : (c : Config) (run : Option RunPages) (xs : List PlacedAllocation) (a : PlacedAllocation)
     → a.released ≡ false → claims_of c run (xs ++ a ∷ []) ≡ claims_of c run xs ++ claim_of c run a ∷ []

@@ -1,36 +1,17 @@
 -- The allocation that a grant adds is touched: its caller's register points to it at the moment after.
-use Rattle.std.proofs.Common.{Bool, ap, arith, false, length, subst, sym, true, ℕ, ◌%◌, ◌*◌, ◌+◌, ◌/◌, ◌<◌, ◌^◌, ◌∙◌}
-use Rattle.std.proofs.Common.{◌≡◌}
-use Rattle.std.specs.Prelude.{slice_index, slice_index_or, ◌&&◌}
-use Rattle.std.proofs.lemmas.Bool.{ltb-true}
-use Rattle.std.proofs.lemmas.List.{get_or-set_same}
-use Rattle.mk_never.specs.declared.values.Value.TheVariants.{Null}
-use Rattle.mk_never.specs.NeverHeap.{NeverState}
-use Rattle.mk_geom.specs.Addresses.{address_of}
-use Rattle.mk_geom.specs.StorageWords.{PointsInto}
+use Rattle.mk_laws.proofs.Vocabulary.{Bool, Caller, Config, Flight, Host, Marker, NeverState, Null, PlacedAllocation}
+use Rattle.mk_laws.proofs.Vocabulary.{PointsInto, Seat, Step, World, address_of, ap, arith, at_rest, bases_of, d_of}
+use Rattle.mk_laws.proofs.Vocabulary.{false, flight_among, flight_of, get_or-set_same, granted, granted_base, image_of}
+use Rattle.mk_laws.proofs.Vocabulary.{length, ltb-true, object_placed, placed_at, shown, slice_index, slice_index_or}
+use Rattle.mk_laws.proofs.Vocabulary.{storage_of, subst, sym, true, words_within, ℕ, ◌%◌, ◌&&◌, ◌*◌, ◌+◌, ◌/◌, ◌<◌, ◌^◌}
+use Rattle.mk_laws.proofs.Vocabulary.{◌∙◌, ◌≡◌}
+use Rattle.mk_laws.proofs.Basics.{Came, IsNew, Stayed, WorldBehind}
 use Rattle.mk_geom.proofs.PointedCells.{address_points_into}
-use Rattle.mk_core.specs.Accesses.{granted_base}
-use Rattle.mk_core.specs.Allocations.{PlacedAllocation, granted, placed_at, storage_of}
-use Rattle.mk_core.specs.Calls.{at_rest, d_of}
-use Rattle.mk_core.specs.History.{World, bases_of}
-use Rattle.mk_core.specs.Image.{image_of}
-use Rattle.mk_core.specs.Moments.{flight_of}
-use Rattle.mk_core.specs.Order.{host_has_turn}
-use Rattle.mk_core.specs.declared.config.Config.{Config}
-use Rattle.mk_core.specs.declared.events.Seat.{Seat}
-use Rattle.mk_core.specs.declared.events.Seat.TheVariants.{Caller, Host, Marker}
-use Rattle.mk_core.specs.declared.events.Step.{Step}
 use Rattle.mk_core.specs.declared.events.Step.TheVariants as step
-use Rattle.mk_core.specs.declared.seats.Flight.{Flight}
 use Rattle.mk_core.specs.declared.seats.Stage.TheVariants as stage
 use Rattle.mk_core.proofs.ChangedAllocations.{granted_at}
 use Rattle.mk_core.proofs.RegisterAccesses.{register_is_small}
-use Rattle.mk_core.proofs.Sizes.{words_within}
-use Rattle.mk_core.specs.StandingAllocations.{object_placed}
-use Rattle.mk_laws.proofs.OthersMoves.{WorldBehind}
-use Rattle.mk_laws.specs.Images.{flight_among, shown}
 use Rattle.mk_laws.proofs.Precise.{PointsOnlyInto, Steps, came_behind, points_before}
-use Rattle.mk_laws.proofs.AllocationSteps.{Came, IsNew, Stayed}
 use Rattle.mk_laws.proofs.Worlds.{sized, stands}
 
 -- a register that a call has and doesn't owe
@@ -41,8 +22,7 @@ granted_points : (c : Config) (w : World) (n : NeverState) (k : ℕ) (after : Ne
     → Steps c w n (Caller k) step.Grant after T
     → (placed_at (WorldBehind c w (Caller k) step.Grant).allocations (length w.allocations)).released ≡ false
     → T (length w.allocations)
-granted_points c w n k after T s u =
-    s.there.registers (8 * k + d) i (u, subst (λ v. PointsInto v (storage_of c a)) (sym image) into)
+granted_points c w n k after T s u = s.there.registers (8 * k + d) i (u, rw image into)
   where
     v : World
     v = WorldBehind c w (Caller k) step.Grant
@@ -75,12 +55,12 @@ granted_points c w n k after T s u =
     word =
         let few = s.before.known.now.small in
         let count = s.before.known.lengths.registers in
-        get_or-set_same w.now.words.registers (8 * k + d) (address_of base % 2 ^ 64) 0 (omega (arith, there, d_small))
+        get_or-set_same w.now.words.registers (8 * k + d) _ 0 (omega (arith, there, d_small))
 
     fits : address_of base % 2 ^ 64 ≡ address_of base
     fits =
         let within = (stands c v after s.behind i u).within in
-        let at : a.base ≡ base = ap (λ (x : PlacedAllocation). x.base) is in
+        let at : a.base ≡ base = rw is in
         let pages = s.before.known.limits.pages in
         omega arith
 
@@ -92,17 +72,14 @@ granted_points c w n k after T s u =
     image : image_of (bases_of v.allocations) (slice_index_or after.registers (8 * k + d) Null) ≡ address_of base
     image =
         let own : (8 * k + d) / 8 ≡ k = let lt = d_small in omega arith in
-        let stage : (flight_among v.now.seats.flights ((8 * k + d) / 8)).stage ≡ stage.Give =
-        ap (λ j. (flight_among v.now.seats.flights j).stage) own ∙ ap (λ (x : Flight). x.stage) flight in
+        let stage : (flight_among v.now.seats.flights ((8 * k + d) / 8)).stage ≡ stage.Give = rw own (rw flight) in
         sym (s.behind.all.mirrors.images.registers (8 * k + d))
-        ∙ given (flight_among v.now.seats.flights ((8 * k + d) / 8)) d ((8 * k + d) % 8)
-        (slice_index v.now.words.registers (8 * k + d)) stage
-        ∙ word ∙ fits
+        ∙ given (flight_among v.now.seats.flights ((8 * k + d) / 8)) d ((8 * k + d) % 8) _ stage ∙ word ∙ fits
 
     into : PointsInto (address_of base) (storage_of c a)
     into =
         let some = (words_within (object_placed c a) (sized c v after s.behind i u)).0 in
-        let at : a.base ≡ base = ap (λ (x : PlacedAllocation). x.base) is in
+        let at : a.base ≡ base = rw is in
         subst (λ y. PointsInto (address_of y) (storage_of c a)) at
         ((address_points_into a.base (storage_of c a)).1 (omega arith, omega arith))
 
@@ -114,7 +91,7 @@ new_is_touched c w n (Caller k) step.Grant after T i s is at u =
     subst T (sym at) (granted_points c w n k after T s
     (subst (λ j. (placed_at (WorldBehind c w (Caller k) step.Grant).allocations j).released ≡ false) at u))
 new_is_touched c w n (Marker k) step.Grant after T i s is at u = let kind = s.meets.kind in cc
-new_is_touched c w n Host step.Grant after T i s is at u = absurd (no_host (host_has_turn c w.now) s.meets.order)
+new_is_touched c w n Host step.Grant after T i s is at u = absurd (no_host _ s.meets.order)
   where
     no_host : (b : Bool) → (b && false) ≡ true → ⊥
     no_host true e = cc
@@ -131,7 +108,6 @@ points_behind c w n seat x after T v s only b points = by (came_behind c w seat 
     by (Stayed was same) =
         only b (
           was,
-          points_before c (placed_at w.allocations b)
-              (placed_at (WorldBehind c w seat x).allocations b) v same points.1,
+          points_before c _ _ v same points.1,
         )
     by (IsNew grant at) = new_is_touched c w n seat x after T b s grant at points.0

@@ -1,22 +1,19 @@
 -- What an event may do to what stands on the pages and to the quarantine, by the conditions under which it does so.
-use Rattle.std.proofs.Common.{◌≡◌, ◌≢◌, ◌⊎◌, ℕ, ◌/◌, ◌%◌, ◌^◌, ◌≤◌, Bool, true, false, List, [], ◌∷◌, ◌++◌, map, refl}
-use Rattle.std.proofs.Common.{sym, subst, inl, inr}
-use Rattle.std.specs.Prelude.{Option, Some, None, slice_set, not, ◌&&◌, ◌||◌, ◌==◌, if◌then◌else◌}
-use Rattle.std.proofs.lemmas.Bool.{not-true, eqb-true, eqb-false, and_parts, or_cases}
-use Rattle.mk_laws.proofs.Vocabulary.{Access, Caller, Cell, Config, Flight, Granted, Host, Load, Marker, Moment}
-use Rattle.mk_laws.proofs.Vocabulary.{Named, Op, Page, PlacedAllocation, Placing, RunPages, Seat, Step, Store}
-use Rattle.mk_laws.proofs.Vocabulary.{Tally, Unplaced, Words, World, accessed, caller_number, carves, cell_freed}
-use Rattle.mk_laws.proofs.Vocabulary.{chosen, empties, flight_of, freed_where_it_stands, frees, gives_back, granted}
-use Rattle.mk_laws.proofs.Vocabulary.{header_at, is_phase, is_undecided_new, is_used_once, marks_place}
-use Rattle.mk_laws.proofs.Vocabulary.{no_longer_fresh, nothing_done, object_made, or_else, phase_of, place_now}
-use Rattle.mk_laws.proofs.Vocabulary.{reg_access, register_met, run_of_cell, taken, takes_cell, tally_word, target}
-use Rattle.mk_laws.proofs.Vocabulary.{unmaps, used_at, with_released}
+use Rattle.mk_laws.proofs.Vocabulary.{Access, Bool, Caller, Cell, Config, Flight, Granted, Ground, List, Load, Moment}
+use Rattle.mk_laws.proofs.Vocabulary.{Named, None, Op, Option, Page, Seat, Some, Step, Store, Tally, Unplaced, Words}
+use Rattle.mk_laws.proofs.Vocabulary.{World, [], accessed, and_parts, caller_number, carves, cell_freed, chosen}
+use Rattle.mk_laws.proofs.Vocabulary.{empties, eqb-false, eqb-true, false, flight_of, freed_where_it_stands, frees}
+use Rattle.mk_laws.proofs.Vocabulary.{gives_back, granted, ground_of, header_at, if◌then◌else◌, inl, inr, is_phase}
+use Rattle.mk_laws.proofs.Vocabulary.{is_undecided_new, is_used_once, map, marks_place, no_longer_fresh, not, not-true}
+use Rattle.mk_laws.proofs.Vocabulary.{nothing_done, object_made, or_cases, or_else, phase_of, place_now, refl}
+use Rattle.mk_laws.proofs.Vocabulary.{reg_access, register_met, run_of_cell, slice_set, taken, takes_cell, tally_word}
+use Rattle.mk_laws.proofs.Vocabulary.{target, true, unmaps, used_at, with_released, ℕ, ◌%◌, ◌&&◌, ◌++◌, ◌/◌, ◌==◌, ◌^◌}
+use Rattle.mk_laws.proofs.Vocabulary.{◌||◌, ◌∷◌, ◌≡◌, ◌≢◌, ◌≤◌, ◌⊎◌}
 use Rattle.mk_core.specs.declared.events.Tally.TheVariants as tally
 use Rattle.mk_core.specs.declared.events.Word.TheVariants as word
 use Rattle.mk_core.specs.declared.events.Step.TheVariants as step
 use Rattle.mk_core.specs.declared.seats.Stage.TheVariants as stage
 use Rattle.mk_core.specs.TurnConditions.{may_give, may_head, may_use, may_quarantine, takes_snapshot, drops}
-use Rattle.mk_laws.specs.Ground.{Ground, ground_of}
 use Rattle.mk_laws.proofs.Asked.{give_phase}
 use Rattle.mk_laws.proofs.NextSteps.{at_take, at_no_take}
 use Rattle.mk_laws.proofs.Actors.{Meets, grants_new}

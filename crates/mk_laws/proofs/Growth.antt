@@ -1,11 +1,9 @@
 -- Bits are added to a word of a list, and no bit is cleared.
-use Rattle.std.proofs.Common.{◌≡◌, ℕ, ◌≤◌, true, List, length, sym, ◌∙◌, ap, inl, inr, arith}
-use Rattle.std.specs.Prelude.{slice_index, slice_set, bit_or, max}
-use Rattle.std.specs.Int.{bit_at}
-use Rattle.std.proofs.lemmas.Bool.{cases_eq, cases_lt, eqb-true, eq-eqb}
-use Rattle.std.proofs.lemmas.List.{get_or-set_same, get_or-set_other, set_past}
+use Rattle.std.specs.Prelude.{max}
 use Rattle.std.proofs.lemmas.Nat.Bits.{bit_at_or}
-use Rattle.mk_laws.proofs.Vocabulary.{OnlyGrow, has_bit}
+use Rattle.mk_laws.proofs.Vocabulary.{List, OnlyGrow, ap, arith, bit_at, bit_or, cases_eq, cases_lt, eq-eqb, eqb-true}
+use Rattle.mk_laws.proofs.Vocabulary.{get_or-set_other, get_or-set_same, has_bit, inl, inr, length, set_past}
+use Rattle.mk_laws.proofs.Vocabulary.{slice_index, slice_set, sym, true, ℕ, ◌∙◌, ◌≡◌, ◌≤◌}
 
 more : (a b k : ℕ) → has_bit a k ≡ true → has_bit (bit_or a b) k ≡ true
 more a b k is =

@@ -1,16 +1,13 @@
 -- What stands while a cycle marks and stops, after every enabled list.
-use Rattle.std.proofs.Common.{◌≡◌, ◌⊎◌, ℕ, List, ◌∷◌, inl, inr, arith, []}
-use Rattle.std.proofs.lemmas.Bool.{eqb-true}
-use Rattle.mk_laws.proofs.Vocabulary.{AreEnabledFrom, AreOfPages, Config, Event, IsWithinLimits, World, access}
-use Rattle.mk_laws.proofs.Vocabulary.{first_moment, first_world, left, left_from, phase_of, word_accessed}
-use Rattle.mk_laws.proofs.Vocabulary.{world_behind}
+use Rattle.mk_laws.proofs.Vocabulary.{AreEnabledFrom, AreOfPages, Config, Event, GuardPremisesFrom, IsWithinLimits}
+use Rattle.mk_laws.proofs.Vocabulary.{List, World, [], access, accessed_lengths, arith, enabled_meets, eqb-true}
+use Rattle.mk_laws.proofs.Vocabulary.{first_moment, first_world, histories_keep_lengths, inl, inr, left, left_from}
+use Rattle.mk_laws.proofs.Vocabulary.{phase_of, word_accessed, world_behind, zero_lengths, ℕ, ◌∷◌, ◌≡◌, ◌⊎◌}
+use Rattle.mk_laws.proofs.Basics.{Known, known_at_first, known_behind, known_left}
 use Rattle.mk_core.specs.declared.events.Step.TheVariants as step
-use Rattle.mk_core.proofs.Conditions.{enabled_meets}
-use Rattle.mk_core.proofs.Lengths.{histories_keep_lengths, zero_lengths, accessed_lengths}
-use Rattle.mk_laws.proofs.Known.{Known, known_behind, known_at_first, known_left}
 use Rattle.mk_laws.specs.Guard.{MarksStand}
-use Rattle.mk_laws.specs.Kept.{GuardPremisesFrom, GuardPremisesAtFirst, EventsKeepTheMarks, MarksStandBehindLists}
-use Rattle.mk_laws.specs.Kept.{CloseFindsMarksClosed, StoppedMarksAreClosed, MarkingGuards}
+use Rattle.mk_laws.specs.Kept.{GuardPremisesAtFirst, EventsKeepTheMarks, MarksStandBehindLists, CloseFindsMarksClosed}
+use Rattle.mk_laws.specs.Kept.{StoppedMarksAreClosed, MarkingGuards}
 use Rattle.mk_laws.proofs.Closing.{closed}
 use Rattle.mk_laws.proofs.ClosedAllocations.{closed_allocations}
 use Rattle.mk_laws.proofs.GuardOneEvent.{marks_behind}

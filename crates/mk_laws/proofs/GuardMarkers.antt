@@ -1,24 +1,17 @@
 -- What the markers are in the middle of stands after an event that keeps what is guarded.
-use Rattle.std.proofs.Common.{◌≡◌, ℕ, ◌<◌, Bool, true, false, List, refl, sym, ap, subst, arith}
-use Rattle.std.specs.Prelude.{Option, Some, None, is_none, is_some, slice_index, slice_set, bit_or, ◌&&◌, ◌==◌}
-use Rattle.std.specs.Prelude.{if◌then◌else◌}
-use Rattle.std.proofs.lemmas.Bool.{and_parts}
-use Rattle.mk_laws.proofs.Vocabulary.{AreOfPages, Caller, Cell, Config, Host, Marker, MarkerState, Moment, Scan}
-use Rattle.mk_laws.proofs.Vocabulary.{Seat, SeenHeader, Step, Word, behind_mlook, cell_at, cell_seen, found}
-use Rattle.mk_laws.proofs.Vocabulary.{has_bit, has_next_word, has_seen_cell, header_at, is_attending, marker_behind}
-use Rattle.mk_laws.proofs.Vocabulary.{marker_of, next_word, page_at_address, seen_bit, seen_page}
+use Rattle.mk_laws.proofs.Vocabulary.{AreOfPages, Bool, Caller, Cell, Config, Host, List, Marker, MarkerStands}
+use Rattle.mk_laws.proofs.Vocabulary.{MarkerState, Moment, None, Option, Seat, SeenHeader, Some, Step, Word, and_parts}
+use Rattle.mk_laws.proofs.Vocabulary.{arith, behind_mlook, bit_or, cell_at, cell_seen, false, found, header_at}
+use Rattle.mk_laws.proofs.Vocabulary.{if◌then◌else◌, is_attending, is_none, is_some, marker_behind, marker_of}
+use Rattle.mk_laws.proofs.Vocabulary.{page_at_address, refl, slice_index, slice_set, sym, true, ℕ, ◌<◌, ◌==◌, ◌≡◌}
+use Rattle.mk_laws.proofs.Basics.{Behind, Keeps, Meets, marker_set}
 use Rattle.mk_core.specs.declared.events.Step.TheVariants as step
 use Rattle.mk_core.specs.declared.events.Word.TheVariants as word
 use Rattle.mk_core.specs.declared.seats.Presence.TheVariants.{Out}
-use Rattle.mk_core.specs.Bits.{bit_for}
 use Rattle.mk_core.specs.MarkerConditions.{is_markers_word}
 use Rattle.mk_core.proofs.PointedPages.{cell_within}
 use Rattle.mk_core.proofs.WordBits.{bit_for_has, bits_added}
-use Rattle.mk_laws.proofs.Actors.{Meets}
-use Rattle.mk_laws.proofs.SameWords.{Behind}
-use Rattle.mk_laws.proofs.ProtocolMarkers.{marker_set}
-use Rattle.mk_laws.specs.Guard.{MarkerStands}
-use Rattle.mk_laws.proofs.KeptGuard.{Keeps, marker_kept}
+use Rattle.mk_laws.proofs.KeptGuard.{marker_kept}
 use Rattle.mk_laws.proofs.Scans.{look_stands, unseen_stands, unscanning_stands, idle_stands, claim_stands, load_stands}
 use Rattle.mk_laws.proofs.Scans.{mark_stands, seen_well}
 
@@ -40,8 +33,6 @@ seen_cell c x own = by x.seen x.hand refl refl own
   where
     by : (seen : Option SeenHeader) (hand : Option ℕ) → x.seen ≡ seen → x.hand ≡ hand
         → is_some (cell_seen c seen hand) ≡ true → Seen c x
-    by None hand es eh own = cc
-    by (Some q) None es eh own = cc
     by (Some q) (Some value) es eh own = at (q.page == page_at_address value) refl _ refl own
       where
         at : (b : Bool) → (q.page == page_at_address value) ≡ b → (y : Option Cell) → cell_at c.pages q.header value ≡ y
@@ -59,6 +50,7 @@ seen_cell c x own = by x.seen x.hand refl refl own
               page = n.0;
               index = n.1;
             }
+    by _ _ es eh own = cc
 
 looks : (c : Config) (m : Moment) (x : Word) (y : MarkerState) (f : ℕ)
     → ((p : ℕ) → x ≡ word.Head p → f ≡ header_at m.words p) → MarkerStands c m y

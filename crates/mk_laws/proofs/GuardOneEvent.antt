@@ -1,25 +1,16 @@
 -- One event, whatever it is: what stands while a cycle marks and stops, stands after it.
-use Rattle.std.proofs.Common.{◌≡◌, ◌⊎◌, ℕ, ◌≤◌, true, false, refl, sym, ◌∙◌, subst, inl, inr, arith}
-use Rattle.std.specs.Prelude.{slice_index, ◌&&◌, ◌==◌}
-use Rattle.std.proofs.lemmas.Bool.{cases_lt, true≢false, eqb-true, and_parts}
-use Rattle.std.proofs.lemmas.List.{get_or_past}
-use Rattle.mk_laws.proofs.Vocabulary.{AreOfPages, BlackIsGuarded, Caller, Config, Host, IsWithinLimits, Marker}
-use Rattle.mk_laws.proofs.Vocabulary.{MarkerState, Moment, Seat, Step, World, all_below, has_clean_page, header_at}
-use Rattle.mk_laws.proofs.Vocabulary.{is_attending, marker_of, phase_of}
+use Rattle.mk_laws.proofs.Vocabulary.{AreOfPages, BlackIsGuarded, Caller, Config, GuardPremises, Host, IsMarking}
+use Rattle.mk_laws.proofs.Vocabulary.{IsWithinLimits, Marker, MarkerStands, MarkerState, Moment, Seat, Step, World}
+use Rattle.mk_laws.proofs.Vocabulary.{all_below, all_below-at, and_parts, arith, cases_lt, eqb-true, false, get_or_past}
+use Rattle.mk_laws.proofs.Vocabulary.{has_clean_page, header_at, inl, inr, is_attending, marker_of, no_bit, phase_of}
+use Rattle.mk_laws.proofs.Vocabulary.{refl, slice_index, subst, sym, true, true≢false, ℕ, ◌==◌, ◌∙◌, ◌≡◌, ◌≤◌, ◌⊎◌}
+use Rattle.mk_laws.proofs.Basics.{Behind, Keeps, Known, Meets, headers_kind, is_head, over_phase, wells_from}
 use Rattle.mk_core.specs.declared.events.Step.TheVariants as step
-use Rattle.mk_core.proofs.AllBelow.{all_below-at}
-use Rattle.mk_core.proofs.WordBits.{no_bit}
-use Rattle.mk_laws.proofs.Actors.{Meets}
 use Rattle.mk_laws.proofs.Asked.{none_at}
-use Rattle.mk_laws.proofs.SameWords.{Behind}
-use Rattle.mk_laws.proofs.Known.{Known}
-use Rattle.mk_laws.specs.Guard.{MarkerStands, Guard, IsMarking, MarksStand}
-use Rattle.mk_laws.specs.Kept.{GuardPremises}
-use Rattle.mk_laws.proofs.Phases.{is_phase_step, phase_stays, over_phase}
-use Rattle.mk_laws.proofs.Wells.{wells_from}
-use Rattle.mk_laws.proofs.KeptGuard.{Keeps, goes_equal, black_kept}
-use Rattle.mk_laws.proofs.Changes.{heap_kind, dirty_kind, owed_kind, headers_kind, marks_kind, blacks_kind, is_head}
-use Rattle.mk_laws.proofs.Changes.{is_undirty, is_blackening}
+use Rattle.mk_laws.specs.Guard.{Guard, MarksStand}
+use Rattle.mk_laws.proofs.Phases.{is_phase_step, phase_stays}
+use Rattle.mk_laws.proofs.KeptGuard.{goes_equal, black_kept}
+use Rattle.mk_laws.proofs.Changes.{heap_kind, dirty_kind, owed_kind, marks_kind, blacks_kind, is_undirty, is_blackening}
 use Rattle.mk_laws.proofs.FoundHeaders.{head_finds}
 use Rattle.mk_laws.proofs.Headers.{head_keeps, no_new_cells}
 use Rattle.mk_laws.proofs.GuardMarkers.{markers_stand}

@@ -1,32 +1,22 @@
 -- From `close` to `release` the marks stay closed: nothing changes but words that are wiped.
-use Rattle.std.proofs.Common.{◌≡◌, ◌⊎◌, ℕ, ◌+◌, ◌*◌, ◌<◌, true, false, List, length, refl, sym, ◌∙◌, ap, subst, inl}
-use Rattle.std.proofs.Common.{inr, arith}
-use Rattle.std.specs.Prelude.{slice_index, slice_set, ◌==◌, ◌||◌}
-use Rattle.std.proofs.lemmas.Bool.{cases_Bool, cases_eq, cases_lt, true≢false, ltb-true, eqb-true, or_cases}
-use Rattle.std.proofs.lemmas.List.{get_or-set_same, get_or-set_other, set_past}
-use Rattle.mk_laws.proofs.Vocabulary.{Caller, Config, Flight, Host, Marker, Moment, Named, Seat, Stage, Step, Store}
-use Rattle.mk_laws.proofs.Vocabulary.{Tally, Words, accessed, cells_under, first_word, flight_of, group_of, has_bit}
-use Rattle.mk_laws.proofs.Vocabulary.{has_no_pointers, header_at, header_of, is_open_to, marker_of, phase_of}
-use Rattle.mk_laws.proofs.Vocabulary.{points_well, reg_access, register_met, word_points_well, words_under}
+use Rattle.mk_laws.proofs.Vocabulary.{Caller, CellsAreClosed, Config, Flight, Host, Marker, Moment, Named, Seat, Stage}
+use Rattle.mk_laws.proofs.Vocabulary.{Step, Tally, Words, accessed, ap, arith, cases_Bool, cases_eq, cases_lt, eqb-true}
+use Rattle.mk_laws.proofs.Vocabulary.{false, first_word, flight_of, get_or-set_other, get_or-set_same, group_of}
+use Rattle.mk_laws.proofs.Vocabulary.{header_at, inl, inr, is_open_to, length, ltb-true, marker_of, or_cases, phase_of}
+use Rattle.mk_laws.proofs.Vocabulary.{points_well, refl, reg_access, register_met, set_past, slice_index, subst, sym}
+use Rattle.mk_laws.proofs.Vocabulary.{true, true≢false, word_points_well, ℕ, ◌<◌, ◌==◌, ◌||◌, ◌∙◌, ◌≡◌, ◌⊎◌}
+use Rattle.mk_laws.proofs.Basics.{Behind, InCall, Known, Meets, Table, at_its_stage, at_reg, calls_stand, either_phase}
+use Rattle.mk_laws.proofs.Basics.{headers_kind, is_call_stage, is_head, not_astray, reg_table, shows_at, tally_table}
+use Rattle.mk_laws.proofs.Basics.{view_of, wells_from}
 use Rattle.mk_core.specs.declared.events.Word.TheVariants as word
 use Rattle.mk_core.specs.declared.events.Group.{Group}
 use Rattle.mk_core.specs.declared.events.Group.TheVariants as group
 use Rattle.mk_core.specs.declared.events.Step.TheVariants as step
 use Rattle.mk_core.specs.declared.seats.Stage.TheVariants as stage
-use Rattle.mk_laws.proofs.Standings.{InCall}
-use Rattle.mk_laws.proofs.Stages.{is_call_stage, is_reg_stage, calls_stand}
-use Rattle.mk_laws.proofs.NextSteps.{stage_of, has_stage_of_its_own, at_its_stage, at_reg}
-use Rattle.mk_laws.proofs.Views.{view_of}
-use Rattle.mk_laws.proofs.Orderly.{shows_at}
-use Rattle.mk_laws.proofs.Actors.{Meets}
-use Rattle.mk_laws.proofs.SameWords.{Behind}
-use Rattle.mk_laws.proofs.OrderlyLists.{not_astray}
-use Rattle.mk_laws.proofs.Known.{Known}
+use Rattle.mk_laws.proofs.Stages.{is_reg_stage}
+use Rattle.mk_laws.proofs.NextSteps.{stage_of, has_stage_of_its_own}
 use Rattle.mk_laws.proofs.IdleMarkers.{work_attends}
-use Rattle.mk_laws.specs.Guard.{CellsAreClosed}
-use Rattle.mk_laws.proofs.Phases.{either_phase}
-use Rattle.mk_laws.proofs.Wells.{well_is, is_well, bare_word_well, wells_from}
-use Rattle.mk_laws.proofs.Changes.{Table, reg_table, tally_table, is_head, headers_kind}
+use Rattle.mk_laws.proofs.Wells.{well_is, is_well, bare_word_well}
 use Rattle.mk_core.proofs.RegisterAccesses.{tally_leaves_registers}
 
 -- what leaves closed marks closed
@@ -71,13 +61,6 @@ no_call c m k known three lt at =
 
 of_callers : (x : Step) → has_stage_of_its_own x ≡ true → group_of x ≡ group.Callers
 of_callers step.Leave own = refl
-of_callers step.Probe own = refl
-of_callers step.Read own = refl
-of_callers step.Write own = refl
-of_callers step.Cas own = refl
-of_callers step.Getg own = refl
-of_callers step.Setg own = refl
-of_callers step.Dirty own = refl
 of_callers _ own = cc
 
 no_step : (c : Config) (m : Moment) (seat : Seat) (x : Step) → Known c m → phase_of m.words ≡ 3 → Meets c m seat x
@@ -94,10 +77,6 @@ no_step c m Host x known three h own at =
 load_alone : (w : Words) (k r : ℕ) (f : Flight) (s : Stage) → is_reg_stage s ≡ true → is_call_stage s ≡ false
     → (accessed w (Named (word.Reg k r)) (reg_access f s)).registers ≡ w.registers
 load_alone w k r f stage.LoadP reg out = refl
-load_alone w k r f stage.LoadQ reg out = cc
-load_alone w k r f stage.LoadR reg out = cc
-load_alone w k r f stage.Store reg out = cc
-load_alone w k r f stage.Put reg out = cc
 load_alone w k r f _ reg out = cc
 
 reg_still : (c : Config) (m : Moment) (seat : Seat) → Known c m → phase_of m.words ≡ 3 → Meets c m seat step.Reg

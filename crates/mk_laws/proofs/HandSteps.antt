@@ -1,50 +1,25 @@
 -- What the turn holder's hand holds is touched: a root's image, or a word of a marked cell that is scanned.
-use Rattle.std.proofs.Common.{Bool, ap, arith, false, inl, inr, refl, subst, sym, true, ℕ, ◌%◌, ◌*◌, ◌+◌, ◌/◌, ◌≤◌, ◌∙◌}
-use Rattle.std.proofs.Common.{◌≡◌, ◌≢◌, ◌⊎◌}
-use Rattle.std.specs.Prelude.{None, Option, Some, if◌then◌else◌, nat_lt, option_and_then, slice_index, slice_index_or}
-use Rattle.std.specs.Prelude.{◌&&◌, ◌==◌}
-use Rattle.std.proofs.lemmas.Bool.{and_parts, eqb-true, ltb-true, or_cases}
-use Rattle.std.proofs.lemmas.Option.{same_Some}
-use Rattle.mk_never.specs.declared.operations.Op.{Op}
-use Rattle.mk_never.specs.declared.values.Value.TheVariants.{Null}
-use Rattle.mk_never.specs.NeverHeap.{NeverState}
-use Rattle.mk_geom.specs.Addresses.{address_of}
-use Rattle.mk_geom.specs.PageUses.{or_else}
-use Rattle.mk_geom.specs.declared.addresses.Cell.{Cell}
-use Rattle.mk_core.specs.Accesses.{found}
-use Rattle.mk_core.specs.Allocations.{PlacedAllocation, cell_of_allocation, placed_at}
-use Rattle.mk_core.specs.Cells.{has_no_pointers, header_in, is_marked, pointed_cell}
-use Rattle.mk_core.specs.Cycles.{is_unmarked}
+use Rattle.std.specs.Prelude.{option_and_then}
+use Rattle.mk_laws.proofs.Vocabulary.{Bool, Caller, Cell, Config, Hand, Moment, NeverState, None, Null, Op, Option}
+use Rattle.mk_laws.proofs.Vocabulary.{PlacedAllocation, Placing, Seat, Some, Stage, Step, Word, Words, World}
+use Rattle.mk_laws.proofs.Vocabulary.{address_of, and_parts, ap, arith, bases_of, cell_of_allocation, comes_next}
+use Rattle.mk_laws.proofs.Vocabulary.{eqb-true, false, flight_of, found, has_no_pointers, header_in, if◌then◌else◌}
+use Rattle.mk_laws.proofs.Vocabulary.{image_of, inl, inr, is_marked, is_number_of, is_put, is_unmarked, ltb-true}
+use Rattle.mk_laws.proofs.Vocabulary.{nat_lt, nothing_done, or_cases, or_else, placed_at, pointed_cell, refl}
+use Rattle.mk_laws.proofs.Vocabulary.{register_word, same_Some, slice_index, slice_index_or, subst, sym, true}
+use Rattle.mk_laws.proofs.Vocabulary.{word_points, ℕ, ◌%◌, ◌&&◌, ◌*◌, ◌+◌, ◌/◌, ◌==◌, ◌∙◌, ◌≡◌, ◌≢◌, ◌≤◌, ◌⊎◌}
+use Rattle.mk_laws.proofs.Basics.{Behind, Meets, WorldBehind, view_of}
 use Rattle.mk_core.specs.Effects.{hand_given, hand_of_cell, is_in_stop, is_mapped_cell}
-use Rattle.mk_core.specs.History.{World, bases_of}
-use Rattle.mk_core.specs.Image.{image_of}
-use Rattle.mk_core.specs.Moments.{Moment, flight_of, is_held, is_number_of, nothing_done}
-use Rattle.mk_core.specs.Order.{comes_next}
-use Rattle.mk_core.specs.Touched.{PointsIntoAllocation}
-use Rattle.mk_core.specs.Words.{Words, register_word}
-use Rattle.mk_core.specs.declared.config.Config.{Config}
-use Rattle.mk_core.specs.declared.events.Seat.{Seat}
-use Rattle.mk_core.specs.declared.events.Seat.TheVariants.{Caller, Host, Marker}
-use Rattle.mk_core.specs.declared.events.Step.{Step}
 use Rattle.mk_core.specs.declared.events.Step.TheVariants as step
-use Rattle.mk_core.specs.declared.events.Word.{Word}
 use Rattle.mk_core.specs.declared.events.Word.TheVariants as word
-use Rattle.mk_core.specs.declared.seats.Flight.{Flight}
-use Rattle.mk_core.specs.declared.seats.Hand.{Hand}
-use Rattle.mk_core.specs.declared.seats.Placing.{Placing}
 use Rattle.mk_core.specs.declared.seats.Source.TheVariants.{Marked, Root, Unmarked}
-use Rattle.mk_core.specs.declared.seats.Stage.{Stage}
 use Rattle.mk_core.specs.declared.seats.Stage.TheVariants as stage
-use Rattle.mk_core.proofs.PointedAllocations.{word_points}
-use Rattle.mk_laws.proofs.Actors.{Meets}
-use Rattle.mk_laws.proofs.OthersMoves.{WorldBehind}
-use Rattle.mk_laws.proofs.SameWords.{Behind}
-use Rattle.mk_laws.proofs.Views.{view_of}
-use Rattle.mk_laws.specs.Images.{is_put, shown}
+use Rattle.mk_laws.proofs.Pairs.{shows_plain}
 use Rattle.mk_laws.proofs.ImagesHeldGates.{held_idle}
 use Rattle.mk_laws.proofs.Granting.{points_behind}
 use Rattle.mk_laws.proofs.Precise.{IsPrecise, PointsOnlyInto, Steps}
 use Rattle.mk_laws.proofs.Worlds.{Told, headers, held, not_leaf, stands}
+use Rattle.mk_core.specs.Touched.{PointsIntoAllocation}
 
 -- any other step leaves the hand, or drops it
 
@@ -52,15 +27,13 @@ abbrev pub is_look : Step → Bool
 is_look (step.Look y) = true
 is_look _ = false
 
-take_drops : (m : Moment) (b : Bool)
-    → ((if b then nothing_done else m.seats.holding).hand ≡ m.seats.holding.hand)
+take_drops : (m : Moment) (b : Bool) → ((if b then nothing_done else m.seats.holding).hand ≡ m.seats.holding.hand)
     ⊎ ((if b then nothing_done else m.seats.holding).hand ≡ None)
 take_drops m true = inr refl
 take_drops m false = inl refl
 
 pub hand_kept : (c : Config) (m : Moment) (seat : Seat) (x : Step) → is_look x ≡ false
-    → ((Behind c m seat x).seats.holding.hand ≡ m.seats.holding.hand)
-    ⊎ ((Behind c m seat x).seats.holding.hand ≡ None)
+    → ((Behind c m seat x).seats.holding.hand ≡ m.seats.holding.hand) ⊎ ((Behind c m seat x).seats.holding.hand ≡ None)
 hand_kept c m seat (step.Look y) out = cc
 hand_kept c m seat (step.Take o) out = take_drops m (m.words.turn == 0)
 hand_kept c m seat step.Give out = inr refl
@@ -73,45 +46,35 @@ look_stage : (s : Stage) (o : Op) (y : Word) → comes_next s o (step.Look y) �
 look_stage stage.Put o y h = cc
 look_stage _ o y h = refl
 
-unowed : (f : Flight) (r x : ℕ) → is_put f.stage ≡ false → shown f r x ≡ x
-unowed f r x out = by f.stage out
-  where
-    by : (s : Stage) → is_put s ≡ false → shown (record f { stage = s }) r x ≡ x
-    by stage.Put out = cc
-    by _ out = refl
-
 idle_owes_none : (s : Stage) → s ≡ stage.Idle → is_put s ≡ false
 idle_owes_none s is = ap is_put is
 
 module _ (c : Config) (w : World) (n : NeverState) (t : Told c w n) where
   looked_owes_none : (seat : Seat) (j r : ℕ) → Meets c w.now seat (step.Look (word.Reg j r))
       → is_put (flight_of w.now (Caller j)).stage ≡ false
-  looked_owes_none seat j r h = elim (or_cases (is_number_of seat j) (is_held w.now.words j) h.gates) [
+  looked_owes_none seat j r h = elim (or_cases (is_number_of seat j) _ h.gates) [
     | inl own ↦ by seat own h
     | inr gate ↦
         let lt = ltb-true j c.callers (and_parts (nat_lt j c.callers) (nat_lt r 8) h.range).0 in
-        idle_owes_none (flight_of w.now (Caller j)).stage
-        (held_idle c (view_of w.now) j t.known.now.orderly lt (eqb-true (slice_index w.now.words.gates j) 2 gate))
+        idle_owes_none _ (held_idle c (view_of w.now) j t.known.now.orderly lt (eqb-true _ 2 gate))
   ]
     where
       by : (seat : Seat) → is_number_of seat j ≡ true → Meets c w.now seat (step.Look (word.Reg j r))
           → is_put (flight_of w.now (Caller j)).stage ≡ false
       by (Caller k) own h =
           let same : k ≡ j = eqb-true k j own in
-          subst (λ i. is_put (flight_of w.now (Caller i)).stage ≡ false) same
-          (look_stage (flight_of w.now (Caller k)).stage (flight_of w.now (Caller k)).op (word.Reg j r) h.order)
-      by (Marker k) own h = cc
-      by Host own h = cc
+          rw same at (look_stage _ _ (word.Reg j r) h.order)
+      by _ own h = cc
 
   register_image : (seat : Seat) (j r : ℕ) → Meets c w.now seat (step.Look (word.Reg j r))
-      → register_word w.now.words j r
-      ≡ image_of (bases_of w.allocations) (slice_index_or n.registers (8 * j + r) Null)
+      → register_word w.now.words j r ≡ image_of (bases_of w.allocations) (slice_index_or n.registers (8 * j + r) Null)
   register_image seat j r h =
       let lt = ltb-true r 8 (and_parts (nat_lt j c.callers) (nat_lt r 8) h.range).1 in
       let own : (8 * j + r) / 8 ≡ j = omega arith in
       let free : is_put (flight_of w.now (Caller ((8 * j + r) / 8))).stage ≡ false =
       subst (λ i. is_put (flight_of w.now (Caller i)).stage ≡ false) (sym own) (looked_owes_none seat j r h) in
-      sym (unowed (flight_of w.now (Caller ((8 * j + r) / 8))) ((8 * j + r) % 8) (register_word w.now.words j r) free)
+      sym (shows_plain (flight_of w.now (Caller ((8 * j + r) / 8))) ((8 * j + r) % 8) (register_word w.now.words j r)
+      free)
       ∙ t.all.mirrors.images.registers (8 * j + r)
 
 -- A heap word gives a hand of a marked cell that is scanned, but for a sweeping one.
@@ -121,19 +84,14 @@ record IsOfMarked (w : Words) (cell : Cell) (value : ℕ) (h : Hand) : Type 0 wh
   holds : h.value ≡ value
 
 cell_hand : (w : Words) (stop : Bool) (placing : Placing) (cell : Cell) (value : ℕ) (h : Hand)
-    → hand_of_cell w stop placing cell value ≡ Some h
-    → is_unmarked h.source ≡ false → IsOfMarked w cell value h
+    → hand_of_cell w stop placing cell value ≡ Some h → is_unmarked h.source ≡ false → IsOfMarked w cell value h
 cell_hand w stop placing cell value h is out =
-    by (has_no_pointers (header_in w cell.page)) (is_marked w cell)
-    (stop && is_mapped_cell w placing cell) refl refl is
+    by (has_no_pointers (header_in w cell.page)) (is_marked w cell) (stop && is_mapped_cell w placing cell) refl refl is
   where
-    by : (a b d : Bool) → has_no_pointers (header_in w cell.page) ≡ a → is_marked w cell ≡ b
-        → (if a then None
-        else if b
+    by : (a b d : Bool) → has_no_pointers (header_in w cell.page) ≡ a → is_marked w cell ≡ b → (if a then None else if b
         then Some (record { value = value; source = Marked })
         else if d then Some (record { value = value; source = Unmarked }) else None) ≡ Some h
         → IsOfMarked w cell value h
-    by true b d ea eb is = cc
     by false true d ea eb is =
         let e : record { value = value; source = Marked } ≡ h = same_Some _ _ is in
         record { scanned = ea; marked = eb; holds = sym (ap (λ (y : Hand). y.value) e) }
@@ -141,12 +99,11 @@ cell_hand w stop placing cell value h is out =
         let e : record { value = value; source = Unmarked } ≡ h = same_Some _ _ is in
         let bad : true ≡ false = ap (λ (y : Hand). is_unmarked y.source) e ∙ out in
         cc
-    by false false false ea eb is = cc
+    by _ _ _ ea eb is = cc
 
 module _ (c : Config) (w : World) (n : NeverState) (T : ℕ → Type 0) (precise : IsPrecise c w T) where
   -- a word of a marked cell that is scanned
-  heap_hand : (seat : Seat) (x : ℕ) (after : NeverState) (h : Hand)
-      → Steps c w n seat (step.Look (word.Heap x)) after T
+  heap_hand : (seat : Seat) (x : ℕ) (after : NeverState) (h : Hand) → Steps c w n seat (step.Look (word.Heap x)) after T
       → hand_given c w.now seat (word.Heap x) (slice_index w.now.words.heap x) ≡ Some h → is_unmarked h.source ≡ false
       → PointsOnlyInto c w.allocations T h.value
   heap_hand seat x after h s is out = by (pointed_cell c.pages w.now.words.pages (address_of x)) refl is
@@ -183,19 +140,15 @@ module _ (c : Config) (w : World) (n : NeverState) (T : ℕ → Type 0) (precise
       → Some (record { value = value; source = Root }) ≡ Some h → PointsOnlyInto c w.allocations T h.value
   root_hand value h only is =
       let e : record { value = value; source = Root } ≡ h = same_Some _ _ is in
-      subst (λ v. PointsOnlyInto c w.allocations T v) (ap (λ (y : Hand). y.value) e) only
+      rw (ap (λ (y : Hand). y.value) e) at only
 
   -- what a look gives
   look_hand : (seat : Seat) (y : Word) (after : NeverState) (h : Hand) → Steps c w n seat (step.Look y) after T
       → hand_given c w.now seat y (found c w.now (record { seat = seat; step = step.Look y })) ≡ Some h
-      → is_unmarked h.source ≡ false
-      → PointsOnlyInto c w.allocations T h.value
+      → is_unmarked h.source ≡ false → PointsOnlyInto c w.allocations T h.value
   look_hand seat (word.Reg j r) after h s is out =
-      root_hand (register_word w.now.words j r) h
-      (subst (λ v. PointsOnlyInto c w.allocations T v) (sym (register_image c w n s.before seat j r s.meets))
-      (s.here.registers (8 * j + r))) is
-  look_hand seat (word.Global g) after h s is out =
-      root_hand (slice_index w.now.words.globals g) h (s.here.globals g) is
+      root_hand _ h (rw (register_image c w n s.before seat j r s.meets) (s.here.registers (8 * j + r))) is
+  look_hand seat (word.Global g) after h s is out = root_hand _ h (s.here.globals g) is
   look_hand seat (word.Heap x) after h s is out = heap_hand seat x after h s is out
   look_hand seat _ after h s is out = cc
 

@@ -1,18 +1,15 @@
 -- What an event may do to headers while a call of another seat is in flight outside the turn: it unmaps no page.
-use Rattle.std.proofs.Common.{◌≡◌, ◌≢◌, ℕ, ◌<◌, true, false, List, length, refl, sym, ◌∙◌, ap, subst, inl, inr, arith}
-use Rattle.std.specs.Prelude.{slice_index, slice_index_or, slice_set, not, ◌||◌}
-use Rattle.std.proofs.lemmas.Bool.{cases_eq, cases_lt, not-true, eqb-true, or_cases}
-use Rattle.std.proofs.lemmas.List.{get_or-set_same, get_or-set_other, set_past}
-use Rattle.mk_laws.proofs.Vocabulary.{Access, Caller, Config, Host, Load, Marker, Moment, Named, Page, Seat, Step}
-use Rattle.mk_laws.proofs.Vocabulary.{Store, Tally, Words, accessed, caller_number, flight_of, free_page, header_at}
-use Rattle.mk_laws.proofs.Vocabulary.{header_in, header_of, is_held, is_number_of, is_unmapped_header}
-use Rattle.mk_laws.proofs.Vocabulary.{others_are_held, reg_access, register_met, tally_word, used_at}
+use Rattle.mk_laws.proofs.Vocabulary.{Access, Caller, Config, List, Load, Moment, Named, Page, Seat, Step, Store, Tally}
+use Rattle.mk_laws.proofs.Vocabulary.{Words, accessed, all_below-at, ap, arith, caller_number, cases_eq, cases_lt}
+use Rattle.mk_laws.proofs.Vocabulary.{eqb-true, false, flight_of, free_page, get_or-set_other, get_or-set_same}
+use Rattle.mk_laws.proofs.Vocabulary.{header_at, header_in, header_of, inl, inr, is_held, is_number_of}
+use Rattle.mk_laws.proofs.Vocabulary.{is_unmapped_header, length, not, not-true, or_cases, others_are_held, refl}
+use Rattle.mk_laws.proofs.Vocabulary.{reg_access, register_met, set_past, slice_index, slice_index_or, slice_set}
+use Rattle.mk_laws.proofs.Vocabulary.{tally_word, true, used_at, ℕ, ◌<◌, ◌||◌, ◌∙◌, ◌≡◌, ◌≢◌}
+use Rattle.mk_laws.proofs.Basics.{Behind, Meets}
 use Rattle.mk_core.specs.declared.events.Tally.TheVariants as tally
 use Rattle.mk_core.specs.declared.events.Word.TheVariants as word
 use Rattle.mk_core.specs.declared.events.Step.TheVariants as step
-use Rattle.mk_core.proofs.AllBelow.{all_below-at}
-use Rattle.mk_laws.proofs.Actors.{Meets}
-use Rattle.mk_laws.proofs.SameWords.{Behind}
 
 -- what becomes of the pages
 pub data HeaderStep (w : Words) : List Page → Type 0 where
@@ -46,8 +43,7 @@ not_unmapped c w seat k v lt ne one h =
   where
     seat_is : (seat : Seat) (k : ℕ) → is_number_of seat k ≡ true → seat ≡ Caller k
     seat_is (Caller j) k h = ap (λ i. Caller i) (eqb-true j k h)
-    seat_is (Marker j) k h = cc
-    seat_is Host k h = cc
+    seat_is _ k h = cc
 
 pub header_step : (c : Config) (m : Moment) (seat : Seat) (x : Step) (k : ℕ) → Meets c m seat x → k < c.callers
     → seat ≢ Caller k → slice_index m.words.gates k ≡ 1

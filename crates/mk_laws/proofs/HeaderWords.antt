@@ -1,32 +1,21 @@
 -- Each page has a header word, after each event.
-use Rattle.std.proofs.Common.{List, arith, inl, inr, refl, subst, sym, true, ℕ, ◌-◌, ◌<◌, ◌≡◌}
-use Rattle.std.specs.Prelude.{IsSome, Option}
-use Rattle.std.proofs.lemmas.Bool.{cases_eq}
-use Rattle.mk_laws.proofs.Vocabulary.{Config, Header, IsHeaderWord, Object, OfBlock, OfLater, OfLeafBlock}
-use Rattle.mk_laws.proofs.Vocabulary.{OfLeafRun, OfRun, Page, RunPages, Seat, ShowsPart, Step, World, flight_of}
-use Rattle.mk_laws.proofs.Vocabulary.{header_made, header_of, object_made, pages_made, seat_exists, unmapped_header}
+use Rattle.std.specs.Prelude.{IsSome}
+use Rattle.mk_laws.proofs.Vocabulary.{Config, HeadStep, Header, IsClaimedRun, IsHeaderWord, ItCarves, ItEmpties}
+use Rattle.mk_laws.proofs.Vocabulary.{ItUnmaps, LayoutStands, List, Object, OfBlock, Option, Page, RunPages, RunStands}
+use Rattle.mk_laws.proofs.Vocabulary.{Seat, ShowsPart, Step, World, arith, cases_eq, claims_of, flight_of, ground_of}
+use Rattle.mk_laws.proofs.Vocabulary.{head_step, header_made, header_of, header_on, inl, inr, made_shows, object_made}
+use Rattle.mk_laws.proofs.Vocabulary.{object_now, pages_made, placed_now, refl, seat_exists, subst, sym, true}
+use Rattle.mk_laws.proofs.Vocabulary.{unmapped_header, ℕ, ◌-◌, ◌<◌, ◌≡◌}
+use Rattle.mk_laws.proofs.Basics.{Before, Meets, WorldBehind, headed_other, made_sized, own_claim, page_within}
+use Rattle.mk_laws.proofs.Basics.{reg_leaves_ground, tally_ground, used_header}
 use Rattle.mk_core.specs.declared.events.Step.TheVariants as step
-use Rattle.mk_core.proofs.ObjectHeaders.{made_shows, unmapped_shows}
-use Rattle.mk_core.proofs.PageSteps.{HeadStep, ItCarves, ItEmpties, ItUnmaps, head_step}
-use Rattle.mk_core.proofs.PlacesNow.{placed_now}
-use Rattle.mk_laws.proofs.Actors.{Meets}
-use Rattle.mk_laws.proofs.Ground.{tally_ground}
-use Rattle.mk_laws.proofs.OthersMoves.{WorldBehind}
+use Rattle.mk_core.proofs.ObjectHeaders.{unmapped_shows}
 use Rattle.mk_laws.specs.Room.{HasHeaderWords}
-use Rattle.mk_laws.specs.LayoutScene.{header_on}
-use Rattle.mk_laws.specs.Ground.{ground_of}
-use Rattle.mk_laws.specs.Terrain.{IsClaimedRun, LayoutStands, RunStands, claims_of, object_now}
-use Rattle.mk_laws.proofs.LayoutBefore.{Before, page_within, reg_leaves_ground}
-use Rattle.mk_laws.proofs.LayoutHolders.{made_sized}
-use Rattle.mk_laws.proofs.PageSets.{headed_here, headed_other, used_header}
-use Rattle.mk_laws.proofs.Serving.{own_claim}
+use Rattle.mk_laws.proofs.PageSets.{headed_here}
 
 part_is : (o : Object) (d : ℕ) (x : Option Header) → ShowsPart o d x → IsSome x
 part_is o d x (OfBlock f s l) = refl
-part_is o d x (OfLeafBlock f s l) = refl
-part_is o d x (OfRun m f s l) = refl
-part_is o d x (OfLeafRun f s l) = refl
-part_is o d x (OfLater m f s) = refl
+part_is o d x _ = cc
 
 -- the header that a `head` stores
 stored_word : (c : Config) (w : World) (seat : Seat) (p n : ℕ) → Before c w → seat_exists c seat ≡ true

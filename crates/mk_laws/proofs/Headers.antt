@@ -1,19 +1,14 @@
 -- A `head` while a cycle marks, from what it finds: headers go on, and what points well goes on doing so.
-use Rattle.std.proofs.Common.{◌≡◌, ◌≢◌, ℕ, ◌+◌, ◌*◌, ◌<◌, Bool, true, false, refl, sym, ◌∙◌, ap, subst, inl, inr, arith}
-use Rattle.std.specs.Prelude.{Some, None, slice_index, slice_index_or, slice_set, if◌then◌else◌}
-use Rattle.std.proofs.lemmas.Option.{none-some}
-use Rattle.std.proofs.lemmas.Bool.{cases_eq, ltb-true}
-use Rattle.std.proofs.lemmas.List.{get_or-set_same, get_or-set_other}
-use Rattle.mk_laws.proofs.Vocabulary.{AreOfPages, Cell, Config, IsGuarded, Moment, Page, Seat, Step, Words, cell_at}
-use Rattle.mk_laws.proofs.Vocabulary.{cells_under, free_page, header_at, header_in, header_of, is_heap_address}
-use Rattle.mk_laws.proofs.Vocabulary.{is_marked, page_at_address, used_at, words_under}
+use Rattle.mk_laws.proofs.Vocabulary.{AreOfPages, Bool, Cell, Config, HeaderGoesOn, IsGuarded, Moment, None, Page, Seat}
+use Rattle.mk_laws.proofs.Vocabulary.{Some, Step, Words, ap, arith, cases_eq, cell_at, cells_under, false, free_page}
+use Rattle.mk_laws.proofs.Vocabulary.{get_or-set_other, get_or-set_same, header_at, header_in, header_of, if◌then◌else◌}
+use Rattle.mk_laws.proofs.Vocabulary.{inl, inr, is_heap_address, is_marked, ltb-true, none-some, page_at_address, refl}
+use Rattle.mk_laws.proofs.Vocabulary.{slice_index, slice_index_or, slice_set, subst, sym, true, used_at, words_under, ℕ}
+use Rattle.mk_laws.proofs.Vocabulary.{◌*◌, ◌+◌, ◌<◌, ◌∙◌, ◌≡◌, ◌≢◌}
+use Rattle.mk_laws.proofs.Basics.{Behind, Meets, headers_kind, is_head}
 use Rattle.mk_core.specs.declared.events.Step.TheVariants as step
-use Rattle.mk_laws.proofs.Actors.{Meets}
-use Rattle.mk_laws.proofs.SameWords.{Behind}
-use Rattle.mk_laws.specs.Guard.{HeaderGoesOn}
 use Rattle.mk_laws.proofs.Wells.{IsWell, bare_guarded}
 use Rattle.mk_laws.proofs.KeptGuard.{NewCellsAreGuarded, goes_same}
-use Rattle.mk_laws.proofs.Changes.{is_head, headers_kind}
 
 -- It finds no header on its page, marked cells and words 0; or it unmaps, which shows the same.
 pub data HeadFinds (pages : ℕ) (w : Words) (p header : ℕ) : Type 0 where

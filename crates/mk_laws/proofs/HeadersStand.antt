@@ -1,41 +1,38 @@
 -- Where nothing is on its way, the headers and used words are those of the unreleased storage.
-use Rattle.std.proofs.Common.{Bool, Contains, List, ap, arith, false, get_or, inl, inr, length, pow-suc, refl, subst}
-use Rattle.std.proofs.Common.{[]}
-use Rattle.std.proofs.Common.{suc, sym, true, zero, ℕ, ◌%◌, ◌*◌, ◌+◌, ◌-◌, ◌/◌, ◌<◌, ◌^◌, ◌∙◌, ◌∷◌, ◌≡◌, ◌≤◌, ◌⊎◌}
-use Rattle.std.specs.Prelude.{None, not, slice_index_or, ◌&&◌}
-use Rattle.std.proofs.lemmas.Bool.{cases_Bool, cases_eq, cases_lt, false_from_ne_true, true≢false}
+use Rattle.std.proofs.Common.{Contains, pow-suc}
 use Rattle.std.proofs.lemmas.List.{get_or_default}
 use Rattle.std.proofs.lemmas.List.Elements.{Contains-get_or}
 use Rattle.std.proofs.lemmas.Nat.Bits.{bit_at_above, bit_at_lowest, same_from_bits}
-use Rattle.std.specs.Int.{bit_at}
-use Rattle.mk_laws.proofs.Vocabulary.{Config, Header, Object, PlacedAllocation, ShowsPart, Storage, Words}
-use Rattle.mk_laws.proofs.Vocabulary.{block_header, cell_of_allocation, cells_of, cells_under, class_made}
-use Rattle.mk_laws.proofs.Vocabulary.{class_words_of, free_page, has_bit, header_at, header_made, is_mapped}
-use Rattle.mk_laws.proofs.Vocabulary.{is_small_object, kinds_of, object_placed, pages_made, placed_at, run_header}
-use Rattle.mk_laws.proofs.Vocabulary.{stands, stands_on, storage_of, storage_words, taken, unreleased_storage}
-use Rattle.mk_laws.proofs.Vocabulary.{used_at, word_of}
+use Rattle.mk_laws.proofs.Vocabulary.{Bool, Claim, Config, HasHeader, Header, IsClaimed, IsShown, List, None, Object}
+use Rattle.mk_laws.proofs.Vocabulary.{PlacedAllocation, ShowsPart, Storage, Words, [], ap, arith, bit_at, block_header}
+use Rattle.mk_laws.proofs.Vocabulary.{cases_Bool, cases_eq, cases_lt, cell_ends, cell_of_allocation, cells_of}
+use Rattle.mk_laws.proofs.Vocabulary.{cells_under, claim_of, claims_of, class_known, class_made, class_words_of, false}
+use Rattle.mk_laws.proofs.Vocabulary.{false_from_ne_true, free_page, get_or, has_bit, header_at, header_made, inl, inr}
+use Rattle.mk_laws.proofs.Vocabulary.{is_mapped, is_released_in, is_small_object, kinds_of, large_cells}
+use Rattle.mk_laws.proofs.Vocabulary.{large_is_not_small, large_words, later_cells, length, mode_of, not, object_placed}
+use Rattle.mk_laws.proofs.Vocabulary.{pages_made, pages_some, placed_at, refl, run_begins, run_header, shows_on}
+use Rattle.mk_laws.proofs.Vocabulary.{slice_index_or, small, small_cells, small_pages, small_words}
+use Rattle.mk_laws.proofs.Vocabulary.{standing_has_storage, stands, stands_on, storage_is_of, storage_of, storage_words}
+use Rattle.mk_laws.proofs.Vocabulary.{subst, suc, sym, taken, true, true≢false, unreleased_storage, used_at, word_of}
+use Rattle.mk_laws.proofs.Vocabulary.{words_within, zero, ℕ, ◌%◌, ◌&&◌, ◌*◌, ◌+◌, ◌-◌, ◌/◌, ◌<◌, ◌^◌, ◌∙◌, ◌∷◌, ◌≡◌}
+use Rattle.mk_laws.proofs.Vocabulary.{◌≤◌, ◌⊎◌}
+use Rattle.mk_laws.proofs.Basics.{claim_among, claimed, claimed_some}
 use Rattle.mk_geom.specs.Storages.{AreLaidOut, PagesStandFor, block_page, class_of_storage, first_page, is_cell_taken}
 use Rattle.mk_geom.specs.Storages.{run_page, run_used, taken_cells, used_word, words_of_storages}
-use Rattle.mk_geom.proofs.ClassTable.{cell_ends, class_words_within}
+use Rattle.mk_geom.proofs.ClassTable.{class_words_within}
 use Rattle.mk_geom.proofs.Standing.{class_of_words, stands_from}
 use Rattle.mk_geom.proofs.StoredWords.{words_at, words_by_large, words_by_small, words_free}
 use Rattle.mk_geom.proofs.TakenCells.{cell_taken_by, cell_taken_from, get_or-taken_cells, length-taken_cells}
 use Rattle.mk_geom.proofs.TakenCells.{same_from_both, same_index}
 use Rattle.mk_geom.proofs.UsedWords.{bit_at-used_word}
-use Rattle.mk_core.proofs.ObjectHeaders.{large_header, later_cells, small_header}
-use Rattle.mk_core.proofs.Sizes.{class_known, large_cells, large_is_not_small, large_words, pages_some, small_cells}
-use Rattle.mk_core.proofs.Sizes.{small_pages, small_words, words_within}
-use Rattle.mk_core.proofs.SmallCycles.{small}
-use Rattle.mk_core.proofs.StandingAllocations.{run_begins, standing_has_storage}
-use Rattle.mk_core.proofs.UnreleasedStorage.{has_its_storage, storage_is_of}
+use Rattle.mk_core.proofs.ObjectHeaders.{large_header, small_header}
+use Rattle.mk_core.proofs.UnreleasedStorage.{has_its_storage}
 use Rattle.mk_core.proofs.WordBits.{bit_is_none, bit_is_one}
-use Rattle.mk_laws.specs.LayoutScene.{Claim, HasHeader, IsClaimed, IsShown, is_released_in, shows_on}
-use Rattle.mk_laws.specs.Terrain.{claim_of, claims_of, mode_of}
 use Rattle.mk_laws.proofs.Apart.{Rests, index_is, lie_apart, lie_in_pairs, on_its_pages, quiet_scene, same_block}
 use Rattle.mk_laws.proofs.Apart.{shown_of, small_is, standing_of}
-use Rattle.mk_laws.proofs.Claims.{claim_among, claim_is}
+use Rattle.mk_laws.proofs.Claims.{claim_is}
 use Rattle.mk_laws.proofs.OnClaims.{IsOn, on_claim}
-use Rattle.mk_laws.proofs.LayoutReadings.{cellless_unused, claimed, claimed_some, free_unused}
+use Rattle.mk_laws.proofs.LayoutReadings.{cellless_unused, free_unused}
 use Rattle.mk_laws.proofs.StandingClaims.{large_index}
 use Rattle.mk_laws.proofs.Unmapping.{cells_at_claim, shares_run}
 
@@ -64,8 +61,7 @@ one_bit n low only = same_from_bits n 1 (λ k. elim (cases_eq k 0) [
 
 unmapped_run : (count : ℕ) (leaf : Bool) (d : ℕ) → run_header count false false d ≡ run_header count false leaf d
 unmapped_run count true zero = refl
-unmapped_run count false zero = refl
-unmapped_run count leaf (suc d) = refl
+unmapped_run count _ _ = cc
 
 -- the header word of a large claim's page, mapped where the allocation isn't freed
 run_word : (o : Object) (freed : Bool) (d h : ℕ) → is_small_object o ≡ false
@@ -77,60 +73,6 @@ run_word o false d h large has = has ∙ large_header o d large
 mapped_is : (c : Config) (a : PlacedAllocation) → a.released ≡ false → is_small_object (object_placed c a) ≡ false
     → is_mapped c a ≡ not (a.freed && true)
 mapped_is c a u large = rw u (rw (large_is_not_small (kinds_of c.types a.ty) ∙ ap not large))
-
-run_words : (c : Config) (w : Words) (xs : List PlacedAllocation) (i d p : ℕ) → Rests c w xs
-    → (placed_at xs i).released ≡ false
-    → is_small_object (object_placed c (placed_at xs i)) ≡ false → d < pages_made (object_placed c (placed_at xs i))
-    → (placed_at xs i).base / 64 + d ≡ p
-    → slice_index_or w.pages p free_page ≡ words_of_storages (unreleased_storage c xs) p
-run_words c w xs i d p r u large ld at =
-    let a : PlacedAllocation = placed_at xs i in
-    let o : Object = object_placed c a in
-    let s : Storage = storage_of c a in
-    let first = (run_begins o a.base large (r.cells i u).begins).1 in
-    let words : storage_words c a ≡ 64 * pages_made o = large_words o large in
-    let count : s.words / 64 ≡ pages_made o = omega arith in
-    let distance : p - first_page s ≡ d = omega arith in
-    let stands : stands_on p s ≡ true = stands_from p s (omega arith) (omega arith) in
-    page_is ∙ rw (← count) (rw (← (mapped_is c a u large)) (rw (← distance)
-    (sym (words_by_large p (unreleased_storage c xs) s (small_is c a (shown_of c w xs i r u).sized ∙ large))
-    ∙ sym (words_at (length w.pages) p (unreleased_storage c xs) s (laid_out c w xs r) (has_its_storage c xs i u)
-    stands))))
-  where
-    shown : IsShown w.pages (claim_of c None (placed_at xs i))
-    shown = shown_of c w xs i r u
-
-    header : header_at w p
-        ≡ word_of (run_header (pages_made (object_placed c (placed_at xs i))) (not ((placed_at xs i).freed && true))
-        (object_placed c (placed_at xs i)).leaf d)
-    header =
-        run_word (object_placed c (placed_at xs i)) (placed_at xs i).freed d (header_at w p) large (rw large at
-        (subst (λ q. HasHeader (claim_of c None (placed_at xs i)).mode (object_placed c (placed_at xs i)) d
-        (header_at w q)) at (shown.headers d ld)))
-
-    used_by : (e : ℕ) → d ≡ e → used_at w p ≡ run_used e
-    used_by zero z =
-        let first : (placed_at xs i).base / 64 ≡ p = omega arith in
-        let cells : cells_under (shows_on w.pages p) ≡ 1 =
-        rw (← first) (cells_at_claim (quiet_scene c w xs) (claim_of c None (placed_at xs i)) shown
-        ∙ large_cells (object_placed c (placed_at xs i)) large) in
-        let low : (cell_of_allocation c (placed_at xs i)).index ≡ 0 =
-        large_index c (placed_at xs i) shown.sized large in
-        one_bit (used_at w p) (rw (← first)
-        (ap (λ k. has_bit (used_at w ((placed_at xs i).base / 64)) k) (sym low) ∙ shown.used))
-        (λ k h. let t = (r.laid.used p k h).0 in omega arith)
-    used_by (suc e) z =
-        cellless_unused (quiet_scene c w xs) p r.laid
-        (later_cells (object_placed c (placed_at xs i)) d (shows_on w.pages p)
-        (subst (λ q. ShowsPart (object_placed c (placed_at xs i)) d (shows_on w.pages q)) at
-        (claimed w.pages (claim_of c None (placed_at xs i)) d shown ld)) (omega arith))
-
-    page_is : slice_index_or w.pages p free_page
-        ≡ run_page (pages_made (object_placed c (placed_at xs i))) (not ((placed_at xs i).freed && true))
-        (object_placed c (placed_at xs i)).leaf d
-    page_is = ap (λ h. record { header = h; used = used_at w p }) header ∙ rw (used_by d refl)
-
--- Pages of a block.
 
 same_bits : (n m k : ℕ) → has_bit n k ≡ has_bit m k → bit_at n k ≡ bit_at m k
 same_bits n m k e = elim (cases_Bool (has_bit n k)) [
@@ -182,118 +124,172 @@ block_shown c w xs i r u s =
     made true o h has = has
     made false o h has = has
 
-block_words : (c : Config) (w : Words) (xs : List PlacedAllocation) (i p : ℕ) → Rests c w xs
-    → (placed_at xs i).released ≡ false
-    → is_small_object (object_placed c (placed_at xs i)) ≡ true → (placed_at xs i).base / 64 ≡ p
-    → slice_index_or w.pages p free_page ≡ words_of_storages (unreleased_storage c xs) p
-block_words c w xs i p r u small at =
-    let a : PlacedAllocation = placed_at xs i in
-    let o : Object = object_placed c a in
-    let s : Storage = storage_of c a in
-    let sized = (shown_of c w xs i r u).sized in
-    let some : 1 ≤ storage_words c a = (words_within o sized).0 in
-    let stands : stands_on p s ≡ true = stands_from p s (omega arith) (omega arith) in
-    let class : class_of_storage s ≡ class_made o =
-    class_of_words s (class_made o) (class_known o sized small).0 (small_words o small) in
-    ap (λ h. record { header = h; used = used_at w p }) (ap (λ q. header_at w q) (sym at)
-    ∙ block_shown c w xs i r u small)
-    ∙ ap (λ v. record { header = word_of (block_header (class_made o) o.leaf); used = v }) used
-    ∙ ap (λ k. block_page k o.leaf (used_word (taken_cells (unreleased_storage c xs) p k))) (sym class)
-    ∙ sym (words_by_small p (unreleased_storage c xs) s (small_is c a sized ∙ small))
-    ∙ sym (words_at (length w.pages) p (unreleased_storage c xs) s (laid_out c w xs r) (has_its_storage c xs i u)
-    stands)
-  where
-    k : ℕ
-    k = class_made (object_placed c (placed_at xs i))
+module _ (c : Config) (w : Words) (xs : List PlacedAllocation) (i p : ℕ) (r : Rests c w xs)
+    (u : (placed_at xs i).released ≡ false) where
+  abbrev a : PlacedAllocation
+  a = placed_at xs i
 
-    known : class_made (object_placed c (placed_at xs i)) < 8
-    known = (class_known (object_placed c (placed_at xs i)) (shown_of c w xs i r u).sized small).0
+  abbrev o : Object
+  o = object_placed c a
 
-    cells : cells_under (shows_on w.pages p) ≡ cells_of (class_made (object_placed c (placed_at xs i)))
-    cells =
-        ap (λ q. cells_under (shows_on w.pages q)) (sym at)
-        ∙ cells_at_claim (quiet_scene c w xs) (claim_of c None (placed_at xs i)) (shown_of c w xs i r u)
-        ∙ small_cells (object_placed c (placed_at xs i)) small
+  abbrev class : ℕ
+  class = class_made o
 
-    -- where a small object of the class begins
-    begins_at : (j : ℕ) → (v : (placed_at xs j).released ≡ false)
-        → is_small_object (object_placed c (placed_at xs j)) ≡ true
-        → class_made (object_placed c (placed_at xs j)) ≡ class_made (object_placed c (placed_at xs i))
-        → (placed_at xs j).base % 64
-        ≡ (cell_of_allocation c (placed_at xs j)).index * class_words_of (class_made (object_placed c (placed_at xs i)))
-    begins_at j v s same =
-        let b = (r.cells j v).begins in
-        let o : Object = object_placed c (placed_at xs j) in
-        b.first ∙ ap (λ n. b.index * n) (small_words o s ∙ ap (λ m. class_words_of m) same)
-        ∙ ap (λ n. n * class_words_of (class_made (object_placed c (placed_at xs i))))
-        (sym (index_is c (placed_at xs j) (shown_of c w xs j r v).sized b))
+  abbrev PageStands : Type 0
+  PageStands = slice_index_or w.pages p free_page ≡ words_of_storages (unreleased_storage c xs) p
 
-    -- whose cell it is
-    there : (n : ℕ) → n < cells_of (class_made (object_placed c (placed_at xs i))) → has_bit (used_at w p) n ≡ true
-        → is_cell_taken (unreleased_storage c xs) p (class_words_of (class_made (object_placed c (placed_at xs i)))) n
-        ≡ true
-    there n ln h = by (r.laid.used p n h).1
-      where
-        by : IsClaimed (claims_of c None xs) p n ⊎ (is_released_in false w.snapshot w.marks p n ≡ true)
-            → is_cell_taken (unreleased_storage c xs) p (class_words_of (class_made (object_placed c (placed_at xs i))))
-            n ≡ true
-        by (inr x) = absurd (true≢false (sym x))
-        by (inl x) =
-            let y = claim_is c None xs x.claim x.among in
-            let j : ℕ = y.number in
-            let page : (placed_at xs j).base / 64 ≡ p = ap (λ (z : Claim). z.page) (sym y.is) ∙ x.page in
-            let index : (cell_of_allocation c (placed_at xs j)).index ≡ n = ap (λ (z : Claim). z.index) (sym y.is)
-            ∙ x.index in
-            let same = alike_at c w xs i j p r u y.unreleased small at page in
-            let first : (placed_at xs j).base % 64
-            ≡ n * class_words_of (class_made (object_placed c (placed_at xs i))) =
-            begins_at j y.unreleased same.0 same.1
-            ∙ ap (λ m. m * class_words_of (class_made (object_placed c (placed_at xs i)))) index in
-            cell_taken_from p (class_words_of (class_made (object_placed c (placed_at xs i)))) n
-            (unreleased_storage c xs) (storage_of c (placed_at xs j))
-            (has_its_storage c xs j y.unreleased) (omega arith)
+  -- Pages of a run.
+  run_words : (d : ℕ) → is_small_object o ≡ false → d < pages_made o → a.base / 64 + d ≡ p → PageStands
+  run_words d large ld at =
+      let s : Storage = storage_of c a in
+      let first = (run_begins o a.base large (r.cells i u).begins).1 in
+      let words : storage_words c a ≡ 64 * pages_made o = large_words o large in
+      let count : s.words / 64 ≡ pages_made o = omega arith in
+      let distance : p - first_page s ≡ d = omega arith in
+      let stands : stands_on p s ≡ true = stands_from p s (omega arith) (omega arith) in
+      page_is ∙ rw (← count) (rw (← (mapped_is c a u large)) (rw (← distance)
+      (sym (words_by_large p (unreleased_storage c xs) s (small_is c a (shown_of c w xs i r u).sized ∙ large))
+      ∙ sym (words_at (length w.pages) p (unreleased_storage c xs) s (laid_out c w xs r) (has_its_storage c xs i u)
+      stands))))
+    where
+      shown : IsShown w.pages (claim_of c None a)
+      shown = shown_of c w xs i r u
 
-    back : (n : ℕ) → n < cells_of (class_made (object_placed c (placed_at xs i)))
-        → is_cell_taken (unreleased_storage c xs) p (class_words_of (class_made (object_placed c (placed_at xs i)))) n
-        ≡ true → has_bit (used_at w p) n ≡ true
-    back n ln taken =
-        let k : ℕ = class_words_of (class_made (object_placed c (placed_at xs i))) in
-        let t = cell_taken_by (length w.pages) p (class_made (object_placed c (placed_at xs i))) n
-        (unreleased_storage c xs) known ln (laid_out c w xs r).each taken in
-        let h = storage_is_of c xs t.0 t.1 in
-        let j : ℕ = h.number in
-        let base : (placed_at xs j).base ≡ 64 * p + n * k = ap (λ (s : Storage). s.first) (sym h.storage) ∙ t.2 in
-        let ends : n * k + k ≤ 64 = cell_ends n k ln in
-        let some = (class_words_within (class_made (object_placed c (placed_at xs i))) known).0 in
-        let page : (placed_at xs j).base / 64 ≡ p = omega arith in
-        let same = alike_at c w xs i j p r u h.unreleased small at page in
-        let first = begins_at j h.unreleased same.0 same.1 in
-        let is_n : (cell_of_allocation c (placed_at xs j)).index ≡ n =
-        same_index k (cell_of_allocation c (placed_at xs j)).index n (omega arith) (sym first
-        ∙ (let rest : (placed_at xs j).base % 64 ≡ n * k = omega arith in rest)) in
-        ap (λ q. has_bit (used_at w q) n) (sym page)
-        ∙ ap (λ m. has_bit (used_at w ((placed_at xs j).base / 64)) m) (sym is_n)
-        ∙ (shown_of c w xs j r h.unreleased).used
+      header : header_at w p
+          ≡ word_of (run_header (pages_made o) (not (a.freed && true))
+          o.leaf d)
+      header =
+          run_word o a.freed d (header_at w p) large (rw large at
+          (subst (λ q. HasHeader (claim_of c None a).mode o d
+          (header_at w q)) at (shown.headers d ld)))
 
-    used : used_at w p ≡ used_word
-        (taken_cells (unreleased_storage c xs) p (class_made (object_placed c (placed_at xs i))))
-    used =
-        let k : ℕ = class_made (object_placed c (placed_at xs i)) in
-        let taken : List Bool = taken_cells (unreleased_storage c xs) p k in
-        let long : length taken ≡ cells_of k = length-taken_cells (unreleased_storage c xs) p k in
-        same_from_bits (used_at w p) (used_word taken)
-        (λ n. elim (cases_lt n (cells_of k)) [
-          | inl ln ↦
-              same_bits (used_at w p) (used_word taken) n
-              (same_from_both _ _ (there n ln) (back n ln)
-              ∙ sym (get_or-taken_cells (unreleased_storage c xs) p k n false ln)
-              ∙ sym (bit_at-used_word taken n false (omega arith)))
-          | inr past ↦
-              let none : has_bit (used_at w p) n ≡ false =
-              false_from_ne_true (has_bit (used_at w p) n)
-              (λ h. let t = (r.laid.used p n h).0 in let m = cells in omega arith) in
-              bit_is_none (used_at w p) n none ∙ sym (used_past taken n (omega arith))
-        ])
+      used_by : (e : ℕ) → d ≡ e → used_at w p ≡ run_used e
+      used_by zero z =
+          let first : a.base / 64 ≡ p = omega arith in
+          let cells : cells_under (shows_on w.pages p) ≡ 1 =
+          rw (← first) (cells_at_claim (quiet_scene c w xs) (claim_of c None a) shown
+          ∙ large_cells o large) in
+          let low : (cell_of_allocation c a).index ≡ 0 =
+          large_index c a shown.sized large in
+          one_bit (used_at w p) (rw (← first)
+          (ap (λ k. has_bit (used_at w (a.base / 64)) k) (sym low) ∙ shown.used))
+          (λ k h. let t = (r.laid.used p k h).0 in omega arith)
+      used_by (suc e) z =
+          cellless_unused (quiet_scene c w xs) p r.laid
+          (later_cells o d (shows_on w.pages p)
+          (subst (λ q. ShowsPart o d (shows_on w.pages q)) at
+          (claimed w.pages (claim_of c None a) d shown ld)) (omega arith))
+
+      page_is : slice_index_or w.pages p free_page
+          ≡ run_page (pages_made o) (not (a.freed && true))
+          o.leaf d
+      page_is = ap (λ h. record { header = h; used = used_at w p }) header ∙ rw (used_by d refl)
+
+  -- Pages of a block.
+  block_words : is_small_object o ≡ true → a.base / 64 ≡ p → PageStands
+  block_words small at =
+      let s : Storage = storage_of c a in
+      let sized = (shown_of c w xs i r u).sized in
+      let some : 1 ≤ storage_words c a = (words_within o sized).0 in
+      let stands : stands_on p s ≡ true = stands_from p s (omega arith) (omega arith) in
+      let same : class_of_storage s ≡ class =
+      class_of_words s class (class_known o sized small).0 (small_words o small) in
+      ap (λ h. record { header = h; used = used_at w p }) (ap (λ q. header_at w q) (sym at)
+      ∙ block_shown c w xs i r u small)
+      ∙ ap (λ v. record { header = word_of (block_header class o.leaf); used = v }) used
+      ∙ ap (λ m. block_page m o.leaf (used_word (taken_cells (unreleased_storage c xs) p m))) (sym same)
+      ∙ sym (words_by_small p (unreleased_storage c xs) s (small_is c a sized ∙ small))
+      ∙ sym (words_at (length w.pages) p (unreleased_storage c xs) s (laid_out c w xs r) (has_its_storage c xs i u)
+      stands)
+    where
+      known : class < 8
+      known = (class_known o (shown_of c w xs i r u).sized small).0
+
+      cells : cells_under (shows_on w.pages p) ≡ cells_of class
+      cells =
+          ap (λ q. cells_under (shows_on w.pages q)) (sym at)
+          ∙ cells_at_claim (quiet_scene c w xs) (claim_of c None a) (shown_of c w xs i r u)
+          ∙ small_cells o small
+
+      -- where a small object of the class begins
+      begins_at : (j : ℕ) → (v : (placed_at xs j).released ≡ false)
+          → is_small_object (object_placed c (placed_at xs j)) ≡ true
+          → class_made (object_placed c (placed_at xs j)) ≡ class
+          → (placed_at xs j).base % 64
+          ≡ (cell_of_allocation c (placed_at xs j)).index * class_words_of class
+      begins_at j v s same =
+          let b = (r.cells j v).begins in
+          let o : Object = object_placed c (placed_at xs j) in
+          b.first ∙ ap (λ n. b.index * n) (small_words o s ∙ ap (λ m. class_words_of m) same)
+          ∙ ap (λ n. n * class_words_of class)
+          (sym (index_is c (placed_at xs j) (shown_of c w xs j r v).sized b))
+
+      -- whose cell it is
+      there : (n : ℕ) → n < cells_of class → has_bit (used_at w p) n ≡ true
+          → is_cell_taken (unreleased_storage c xs) p (class_words_of class) n
+          ≡ true
+      there n ln h = by (r.laid.used p n h).1
+        where
+          by : IsClaimed (claims_of c None xs) p n ⊎ (is_released_in false w.snapshot w.marks p n ≡ true)
+              → is_cell_taken (unreleased_storage c xs) p (class_words_of class)
+              n ≡ true
+          by (inr x) = absurd (true≢false (sym x))
+          by (inl x) =
+              let y = claim_is c None xs x.claim x.among in
+              let j : ℕ = y.number in
+              let page : (placed_at xs j).base / 64 ≡ p = ap (λ (z : Claim). z.page) (sym y.is) ∙ x.page in
+              let index : (cell_of_allocation c (placed_at xs j)).index ≡ n = ap (λ (z : Claim). z.index) (sym y.is)
+              ∙ x.index in
+              let same = alike_at c w xs i j p r u y.unreleased small at page in
+              let first : (placed_at xs j).base % 64
+              ≡ n * class_words_of class =
+              begins_at j y.unreleased same.0 same.1
+              ∙ ap (λ m. m * class_words_of class) index in
+              cell_taken_from p (class_words_of class) n
+              (unreleased_storage c xs) (storage_of c (placed_at xs j))
+              (has_its_storage c xs j y.unreleased) (omega arith)
+
+      back : (n : ℕ) → n < cells_of class
+          → is_cell_taken (unreleased_storage c xs) p (class_words_of class) n
+          ≡ true → has_bit (used_at w p) n ≡ true
+      back n ln taken =
+          let k : ℕ = class_words_of class in
+          let t = cell_taken_by (length w.pages) p class n
+          (unreleased_storage c xs) known ln (laid_out c w xs r).each taken in
+          let h = storage_is_of c xs t.0 t.1 in
+          let j : ℕ = h.number in
+          let base : (placed_at xs j).base ≡ 64 * p + n * k = ap (λ (s : Storage). s.first) (sym h.storage) ∙ t.2 in
+          let ends : n * k + k ≤ 64 = cell_ends n k ln in
+          let some = (class_words_within class known).0 in
+          let page : (placed_at xs j).base / 64 ≡ p = omega arith in
+          let same = alike_at c w xs i j p r u h.unreleased small at page in
+          let first = begins_at j h.unreleased same.0 same.1 in
+          let is_n : (cell_of_allocation c (placed_at xs j)).index ≡ n =
+          same_index k (cell_of_allocation c (placed_at xs j)).index n (omega arith) (sym first
+          ∙ (let rest : (placed_at xs j).base % 64 ≡ n * k = omega arith in rest)) in
+          ap (λ q. has_bit (used_at w q) n) (sym page)
+          ∙ ap (λ m. has_bit (used_at w ((placed_at xs j).base / 64)) m) (sym is_n)
+          ∙ (shown_of c w xs j r h.unreleased).used
+
+      used : used_at w p ≡ used_word
+          (taken_cells (unreleased_storage c xs) p class)
+      used =
+          let k : ℕ = class in
+          let taken : List Bool = taken_cells (unreleased_storage c xs) p k in
+          let long : length taken ≡ cells_of k = length-taken_cells (unreleased_storage c xs) p k in
+          same_from_bits (used_at w p) (used_word taken)
+          (λ n. elim (cases_lt n (cells_of k)) [
+            | inl ln ↦
+                same_bits (used_at w p) (used_word taken) n
+                (same_from_both _ _ (there n ln) (back n ln)
+                ∙ sym (get_or-taken_cells (unreleased_storage c xs) p k n false ln)
+                ∙ sym (bit_at-used_word taken n false (omega arith)))
+            | inr past ↦
+                let none : has_bit (used_at w p) n ≡ false =
+                false_from_ne_true (has_bit (used_at w p) n)
+                (λ h. let t = (r.laid.used p n h).0 in let m = cells in omega arith) in
+                bit_is_none (used_at w p) n none ∙ sym (used_past taken n (omega arith))
+          ])
 
 -- All pages.
 
@@ -319,7 +315,7 @@ on_page c w xs p r on =
     ∙ on.at in
     elim (cases_Bool (is_small_object o)) [
       | inl s ↦ let one = small_pages o s in block_words c w xs y.number p r y.unreleased s (omega arith)
-      | inr l ↦ run_words c w xs y.number on.distance p r y.unreleased l near at
+      | inr l ↦ run_words c w xs y.number p r y.unreleased on.distance l near at
     ]
 
 pub pages_stand : (c : Config) (w : Words) (xs : List PlacedAllocation) → Rests c w xs

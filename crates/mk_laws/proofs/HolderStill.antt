@@ -1,17 +1,16 @@
 -- What a step of the turn's holder asks of the words still holds, whatever others did since.
-use Rattle.std.proofs.Common.{Bool, List, ap, arith, refl, sym, true, ℕ, ◌+◌, ◌-◌, ◌/◌, ◌%◌, ◌^◌, ◌∙◌, ◌≡◌, ◌≢◌, inl}
-use Rattle.std.proofs.Common.{inr}
-use Rattle.std.specs.Prelude.{Option, if◌then◌else◌, not, slice_index, ◌&&◌, ◌||◌, ◌==◌, bit_and}
-use Rattle.std.proofs.lemmas.Bool.{and_parts, cases_Bool, eqb-true, or_left, or_right}
-use Rattle.mk_laws.proofs.Vocabulary.{Cell, Config, Flight, Holding, Object, Page, Place, Seat, Steady, Step}
-use Rattle.mk_laws.proofs.Vocabulary.{TurnIsLeft, Words, World, Written, address_of, all_below, carves, empties}
-use Rattle.mk_laws.proofs.Vocabulary.{frees, gives_back, has_closed_page, has_gates, has_phase, head_page}
-use Rattle.mk_laws.proofs.Vocabulary.{header_at, header_made, held_by_pages, holder_may, is_decided}
-use Rattle.mk_laws.proofs.Vocabulary.{is_left_unmarked, is_marked_first, is_next_header, is_phase, is_released_cell}
-use Rattle.mk_laws.proofs.Vocabulary.{is_run_gone, is_some_and, is_used_once, marks_place, may_answer_full, may_end}
-use Rattle.mk_laws.proofs.Vocabulary.{may_turn_black, none_attends, object_made, others_are_held, pages_made}
-use Rattle.mk_laws.proofs.Vocabulary.{phase_of, place_now, pointed_cell, quarantine_word, roots_point_well}
-use Rattle.mk_laws.proofs.Vocabulary.{takes_cell, target, unmaps, used_at, without}
+use Rattle.std.specs.Prelude.{bit_and}
+use Rattle.mk_laws.proofs.Vocabulary.{Bool, Cell, Config, Flight, Holding, List, Object, Option, Page, Place, Seat}
+use Rattle.mk_laws.proofs.Vocabulary.{Steady, Step, TurnIsLeft, Words, World, Written, all_below, and_parts, ap, arith}
+use Rattle.mk_laws.proofs.Vocabulary.{carves, cases_Bool, empties, eqb-true, frees, gives_back, has_closed_page}
+use Rattle.mk_laws.proofs.Vocabulary.{has_gates, has_phase, head_page, header_at, header_made, held_by_pages}
+use Rattle.mk_laws.proofs.Vocabulary.{holder_may, if◌then◌else◌, inl, inr, is_decided, is_left_unmarked}
+use Rattle.mk_laws.proofs.Vocabulary.{is_marked_first, is_next_header, is_phase, is_released_cell, is_run_gone}
+use Rattle.mk_laws.proofs.Vocabulary.{is_some_and, is_used_once, marks_place, may_answer_full, may_end, may_turn_black}
+use Rattle.mk_laws.proofs.Vocabulary.{none_attends, not, object_made, or_left, or_right, others_are_held, pages_made}
+use Rattle.mk_laws.proofs.Vocabulary.{phase_of, place_now, quarantine_word, refl, roots_point_well, slice_index, sym}
+use Rattle.mk_laws.proofs.Vocabulary.{takes_cell, target, true, unmaps, used_at, ℕ, ◌%◌, ◌&&◌, ◌+◌, ◌-◌, ◌/◌, ◌==◌, ◌^◌}
+use Rattle.mk_laws.proofs.Vocabulary.{◌||◌, ◌∙◌, ◌≡◌, ◌≢◌}
 use Rattle.mk_core.specs.declared.events.Step.TheVariants as step
 use Rattle.mk_core.specs.Cells.{are_left_unmarked}
 use Rattle.mk_core.specs.Frames.{written_of}

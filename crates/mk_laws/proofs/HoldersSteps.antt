@@ -1,11 +1,11 @@
 -- How a step of the turn's holder serves its call.
-use Rattle.std.proofs.Common.{List, ◌≡◌, Bool, true, false, refl, ap}
-use Rattle.std.specs.Prelude.{ℕ, Option, Some, None, is_some, ◌&&◌, not, if◌then◌else◌}
-use Rattle.mk_laws.proofs.Vocabulary.{Cell, Config, Flight, Granted, Hand, Holding, Moment, Object, OwnCycle, Page}
-use Rattle.mk_laws.proofs.Vocabulary.{Place, Placing, Unplaced, Word, Words, cell_freed, chosen, decided, frees}
-use Rattle.mk_laws.proofs.Vocabulary.{is_phase, is_undecided_free, is_undecided_new, may_answer_full, object_made}
-use Rattle.mk_laws.proofs.Vocabulary.{or_else, place_by_placing, place_now, pointed_cell, progress_freed}
-use Rattle.mk_laws.proofs.Vocabulary.{run_of_cell, sees_double, still, taken, target}
+use Rattle.std.specs.Prelude.{ℕ}
+use Rattle.mk_laws.proofs.Vocabulary.{Bool, Cell, Config, Flight, Hand, Holding, List, Moment, None, Object, Option}
+use Rattle.mk_laws.proofs.Vocabulary.{OwnCycle, Page, Place, Placing, Some, Unplaced, Word, Words, cell_freed, chosen}
+use Rattle.mk_laws.proofs.Vocabulary.{decided, false, frees, if◌then◌else◌, is_phase, is_some, is_undecided_free}
+use Rattle.mk_laws.proofs.Vocabulary.{is_undecided_new, may_answer_full, not, object_made, or_else, place_by_placing}
+use Rattle.mk_laws.proofs.Vocabulary.{place_now, pointed_cell, progress_freed, refl, run_of_cell, sees_double, still}
+use Rattle.mk_laws.proofs.Vocabulary.{taken, target, true, ◌&&◌, ◌≡◌}
 use Rattle.mk_core.specs.declared.events.Answer.TheVariants as answer
 use Rattle.mk_core.specs.declared.events.Word.TheVariants as word
 use Rattle.mk_laws.specs.Protocol.{is_granted}
@@ -56,10 +56,8 @@ chosen_none Unplaced = refl
 chosen_none _ = refl
 
 granted_chosen : (p : Placing) (place : Option Place) → is_granted (chosen p place) ≡ true → is_granted p ≡ true
-granted_chosen Unplaced (Some place) h = cc
 granted_chosen Unplaced None h = h
-granted_chosen Granted place h = refl
-granted_chosen _ place h = cc
+granted_chosen _ _ h = cc
 
 pub chooses : (c : Config) (m : Moment) (f : Flight)
     → Service f m.seats.holding f

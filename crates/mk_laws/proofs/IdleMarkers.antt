@@ -1,12 +1,10 @@
 -- A marker that doesn't attend is in the middle of nothing, and stays so.
-use Rattle.std.proofs.Common.{◌≡◌, ℕ, Bool, true, false, refl, sym, ◌∙◌, ap, inl, inr}
-use Rattle.std.specs.Prelude.{Option, Some, None, is_none, is_some, ◌&&◌}
-use Rattle.std.proofs.lemmas.Bool.{cases_Bool, and_parts}
-use Rattle.mk_laws.proofs.Vocabulary.{Config, SeenHeader, Step, Word, behind_mlook, cell_seen, has_next_word}
-use Rattle.mk_laws.proofs.Vocabulary.{has_seen_cell, is_attending, is_scanned, marker_behind, marker_may}
+use Rattle.mk_laws.proofs.Vocabulary.{Bool, Config, MarkerState as Marker, None, Option, SeenHeader, Some, Step, Word}
+use Rattle.mk_laws.proofs.Vocabulary.{and_parts, ap, behind_mlook, cases_Bool, cell_seen, false, has_next_word}
+use Rattle.mk_laws.proofs.Vocabulary.{has_seen_cell, inl, inr, is_attending, is_none, is_scanned, is_some}
+use Rattle.mk_laws.proofs.Vocabulary.{marker_behind, marker_may, refl, sym, true, ℕ, ◌&&◌, ◌∙◌, ◌≡◌}
 use Rattle.mk_core.specs.declared.events.Step.TheVariants as step
 use Rattle.mk_core.specs.declared.events.Word.TheVariants as word
-use Rattle.mk_core.specs.declared.seats.Marker.{Marker}
 use Rattle.mk_core.specs.MarkerConditions.{is_markers_word}
 use Rattle.mk_laws.proofs.ProtocolMoves.{IdlesOutside}
 
@@ -68,10 +66,6 @@ look_stays c n _ x = refl
 pub work_stays : (c : Config) (n : ℕ) (s : Step) (x : Marker) → is_work s ≡ true
     → (marker_behind c n s x).presence ≡ x.presence
 work_stays c n (step.Mlook w) x k = look_stays c n w x
-work_stays c n (step.Claim p i) x k = refl
-work_stays c n step.Mload x k = refl
-work_stays c n step.Mmark x k = refl
-work_stays c n step.Mblack x k = refl
 work_stays c n _ x k = cc
 
 pub work_idles : (c : Config) (n : ℕ) (s : Step) (x : Marker) → marker_may c x s ≡ true → is_work s ≡ true

@@ -1,19 +1,13 @@
 -- What a step of a caller needs, from the groups.
-use Rattle.std.proofs.Common.{[], ◌≡◌, ◌≢◌, ℕ, ◌+◌, ◌/◌, ◌<◌, ◌≤◌, Bool, true, false, List, length, sym, ap, subst, ◌∙◌}
-use Rattle.std.proofs.Common.{inl, inr, arith}
-use Rattle.std.specs.Prelude.{nat_lt, ◌&&◌, Option, Some, None}
-use Rattle.std.proofs.lemmas.Bool.{cases_Bool}
-use Rattle.mk_laws.proofs.Vocabulary.{Cell, Config, Flight, IsTypedAllocation, Kind, NeverState, Words, World}
-use Rattle.mk_laws.proofs.Vocabulary.{address_of, allocation_at, cell_of_allocation, first_word, header_at}
-use Rattle.mk_laws.proofs.Vocabulary.{header_in, is_large, is_unmapped, is_unmapped_header, kinds_of, placed_at}
-use Rattle.mk_laws.proofs.Vocabulary.{pointed_cell, storage_words, words_of}
+use Rattle.mk_laws.proofs.Vocabulary.{Bool, Cell, Config, Flight, IsSafeSet, IsTypedAllocation, List, Mirrors}
+use Rattle.mk_laws.proofs.Vocabulary.{NeverState, None, Option, PlacedAllocation, Some, Words, World, [], address_of}
+use Rattle.mk_laws.proofs.Vocabulary.{allocation_at, ap, arith, cases_Bool, cell_of_allocation, false, first_word}
+use Rattle.mk_laws.proofs.Vocabulary.{flight_among, header_at, header_in, image_scene_of, inl, inr, is_unmapped}
+use Rattle.mk_laws.proofs.Vocabulary.{is_unmapped_header, kinds_of, length, placed_at, pointed_cell, storage_holds}
+use Rattle.mk_laws.proofs.Vocabulary.{storage_words, subst, sym, true, words_of, ℕ, ◌+◌, ◌/◌, ◌<◌, ◌∙◌, ◌≡◌, ◌≢◌, ◌≤◌}
 use Rattle.mk_laws.proofs.Operands.{HaveOperands, operands_of}
-use Rattle.mk_laws.specs.Images.{image_scene_of, flight_among}
-use Rattle.mk_laws.specs.SafeSets.{IsSafeSet}
 use Rattle.mk_laws.proofs.ImagesStands.{Stands, is_gone}
-use Rattle.mk_core.proofs.StandingAllocations.{storage_holds}
 use Rattle.mk_laws.proofs.KnownWorlds.{KnownWorld}
-use Rattle.mk_laws.specs.Mirrors.{Mirrors}
 use Rattle.mk_laws.proofs.ImagesKept.{AreApart, AreSmall, exists_placed}
 use Rattle.mk_laws.proofs.Ready.{Ready}
 use Rattle.mk_laws.proofs.Reached.{PagesShow}
@@ -26,37 +20,40 @@ first_in w (Some cell) = first_word w cell
 first_in w None = 0
 
 module _ (c : Config) (w : World) (n : NeverState) (known : KnownWorld c w) (mirrors : Mirrors c w n) where
+  abbrev placed : ℕ → PlacedAllocation
+  placed i = placed_at w.allocations i
+
   -- an allocation of the heap that never reuses storage has the words of its type
   pub words_are : (a : ℕ) → a < length w.allocations
-      → length (words_of n a) ≡ length (kinds_of c.types (placed_at w.allocations a).ty)
+      → length (words_of n a) ≡ length (kinds_of c.types (placed a).ty)
   words_are a lt =
       let count = mirrors.twins.count in
       let typed : IsTypedAllocation n (allocation_at n a) = mirrors.typed.allocations a (omega arith) in
       typed.size ∙ rw mirrors.types (rw (← (mirrors.twins.ty a lt)))
 
-  pub type_is : (a : ℕ) → a < length w.allocations → (placed_at w.allocations a).ty < length c.types
+  pub type_is : (a : ℕ) → a < length w.allocations → (placed a).ty < length c.types
   type_is a lt =
       let count = mirrors.twins.count in
       let typed : IsTypedAllocation n (allocation_at n a) = mirrors.typed.allocations a (omega arith) in
       rw mirrors.types at (subst (λ ty. ty < length n.types) (sym (mirrors.twins.ty a lt)) typed.ty)
 
   pub words_fit : (a : ℕ) → a < length w.allocations
-      → length (words_of n a) ≤ storage_words c (placed_at w.allocations a)
+      → length (words_of n a) ≤ storage_words c (placed a)
   words_fit a lt =
-      let holds = (storage_holds c (placed_at w.allocations a) known.limits (type_is a lt)).0 in
+      let holds = (storage_holds c (placed a) known.limits (type_is a lt)).0 in
       omega (arith, words_are a lt)
 
   pub unmapped_is : (a : ℕ) → a < length w.allocations
-      → is_unmapped (allocation_at n a) ≡ is_gone c (placed_at w.allocations a)
+      → is_unmapped (allocation_at n a) ≡ is_gone c (placed a)
   unmapped_is a lt = rw (← (mirrors.twins.freed a lt)) (rw (words_are a lt))
 
-  pub storages_apart : Stands c w.now.words w.allocations → (a b i j : ℕ) → (placed_at w.allocations a).released ≡ false
-      → (placed_at w.allocations b).released ≡ false
-      → i < storage_words c (placed_at w.allocations a) → j < storage_words c (placed_at w.allocations b) → a ≢ b
-      → (placed_at w.allocations a).base + i ≢ (placed_at w.allocations b).base + j
+  pub storages_apart : Stands c w.now.words w.allocations → (a b i j : ℕ) → (placed a).released ≡ false
+      → (placed b).released ≡ false
+      → i < storage_words c (placed a) → j < storage_words c (placed b) → a ≢ b
+      → (placed a).base + i ≢ (placed b).base + j
   storages_apart st a b i j ua ub li lj ne e =
-      let cells : Some (cell_of_allocation c (placed_at w.allocations a))
-      ≡ Some (cell_of_allocation c (placed_at w.allocations b)) =
+      let cells : Some (cell_of_allocation c (placed a))
+      ≡ Some (cell_of_allocation c (placed b)) =
       sym (st.cell a i ua li) ∙ ap (λ x. pointed_cell c.pages w.now.words.pages (address_of x)) e ∙ st.cell b j ub lj in
       st.apart a b ua ub ne (sym (st.first a ua) ∙ ap (first_in w.now.words) cells ∙ st.first b ub)
 
@@ -84,14 +81,14 @@ module _ (c : Config) (w : World) (n : NeverState) (known : KnownWorld c w) (mir
 
   -- headers say what is unmapped
   pub pages_show : Stands c w.now.words w.allocations
-      → ((a i : ℕ) → (placed_at w.allocations a).released ≡ false → is_gone c (placed_at w.allocations a) ≡ true
-      → i < storage_words c (placed_at w.allocations a)
-      → is_unmapped_header (header_in w.now.words (((placed_at w.allocations a).base + i) / 64)) ≡ true)
+      → ((a i : ℕ) → (placed a).released ≡ false → is_gone c (placed a) ≡ true
+      → i < storage_words c (placed a)
+      → is_unmapped_header (header_in w.now.words (((placed a).base + i) / 64)) ≡ true)
       → PagesShow (header_at w.now.words) (image_scene_of w) n
   pages_show st un a i u li =
       let lt = exists_placed w.allocations a u in
       let f = words_fit a lt in
-      elim (cases_Bool (is_gone c (placed_at w.allocations a))) [
+      elim (cases_Bool (is_gone c (placed a))) [
         | inl e ↦ un a i u e (omega arith) ∙ sym e ∙ sym (unmapped_is a lt)
         | inr e ↦ st.mapped a i u e (omega arith) ∙ sym e ∙ sym (unmapped_is a lt)
       ]

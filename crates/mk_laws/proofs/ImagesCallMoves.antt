@@ -1,32 +1,28 @@
 -- The other kinds of a caller's call lead to what the images allow.
-use Rattle.std.proofs.Common.{◌≡◌, ℕ, ◌+◌, ◌-◌, ◌*◌, ◌/◌, ◌<◌, Bool, true, false, List, ◌++◌, length, refl, sym, ap}
-use Rattle.std.proofs.Common.{subst, ◌∙◌}
-use Rattle.std.specs.Prelude.{slice_index, slice_set, ◌==◌, Some, None, if◌then◌else◌}
-use Rattle.std.proofs.lemmas.List.{set-get_or}
-use Rattle.std.proofs.lemmas.Bool.{false≢true, true≢false}
-use Rattle.mk_laws.proofs.Vocabulary.{AccessIsAdmitted, Done, Flight, IsAdmitted, IsNumber, IsPointer, IsSound}
-use Rattle.mk_laws.proofs.Vocabulary.{Kind, Meets, NeverState, Null, Num, Op, Ptr, Stage, Unmapped, Value}
-use Rattle.mk_laws.proofs.Vocabulary.{allocation_at, answer_of, bases_of, bit, d_of, g_of, global_at, header_of}
-use Rattle.mk_laws.proofs.Vocabulary.{i_of, image_of, is_same, is_unmapped, is_unmapped_header, number_of, one_if}
-use Rattle.mk_laws.proofs.Vocabulary.{onward, placed_at, progress_read, q_of, refused, register_at, stage_behind}
-use Rattle.mk_laws.proofs.Vocabulary.{steps_of, target_of, with_register, with_word, word_at, words_of}
+use Rattle.mk_laws.proofs.Vocabulary.{AccessIsAdmitted, Bool, CarriesOwn, Done, Flight, ImageScene, IsAdmitted}
+use Rattle.mk_laws.proofs.Vocabulary.{IsNumber, IsPointer, IsSafe, IsSound, Kind, List, Meets, NeverState, Num, Op}
+use Rattle.mk_laws.proofs.Vocabulary.{ProbedOwn, Ptr, Some, Stage, Unmapped, Value, allocation_at, answer_of, ap}
+use Rattle.mk_laws.proofs.Vocabulary.{bases_of, bit, d_of, false, false≢true, flight_among, g_of, global_at, has_p}
+use Rattle.mk_laws.proofs.Vocabulary.{has_r, has_some_p, header_of, i_of, if◌then◌else◌, image_of, is_put, is_same}
+use Rattle.mk_laws.proofs.Vocabulary.{is_unmapped, is_unmapped_header, length, number_of, one_if, onward, placed_at}
+use Rattle.mk_laws.proofs.Vocabulary.{progress_read, q_of, refl, register_at, set-get_or, slice_index, slice_set}
+use Rattle.mk_laws.proofs.Vocabulary.{stage_behind, steps_of, subst, sym, true, true≢false, with_word, word_at}
+use Rattle.mk_laws.proofs.Vocabulary.{words_of, ℕ, ◌*◌, ◌++◌, ◌+◌, ◌-◌, ◌/◌, ◌<◌, ◌==◌, ◌∙◌, ◌≡◌}
+use Rattle.mk_laws.proofs.Basics.{Move, PagesShow, Ready, Writes, either_leads, flight, goes_bare, is_astray}
+use Rattle.mk_laws.proofs.Basics.{standing_at}
 use Rattle.mk_never.specs.declared.operations.Op.TheVariants as op
 use Rattle.mk_never.specs.declared.operations.Reply.TheVariants.{Num as Number, Val}
-use Rattle.mk_never.specs.NeverHeap.{reply_at, left_at}
+use Rattle.mk_never.specs.NeverHeap.{reply_at}
 use Rattle.mk_core.specs.declared.events.Answer.TheVariants as answer
 use Rattle.mk_core.specs.declared.seats.Stage.TheVariants as stage
 use Rattle.mk_core.specs.Calls.{progress_cas, progress_getg, value_written}
 use Rattle.mk_core.specs.Effects.{progress_probe}
-use Rattle.mk_laws.proofs.Standings.{standing_at, is_astray}
-use Rattle.mk_laws.specs.Images.{has_p, has_some_p, has_r, ImageScene, flight_among, is_put, CarriesOwn, ProbedOwn}
-use Rattle.mk_laws.specs.SafeSets.{IsSafe}
-use Rattle.mk_laws.proofs.ImagesMoves.{Move, Decides, Owes, Shares, Writes}
-use Rattle.mk_laws.proofs.Ready.{Ready, image_test, bit_is, LeadsBy, either_leads, one_right}
-use Rattle.mk_laws.proofs.Refusals.{accesses, refuses, goes_bare, decides_nothing}
+use Rattle.mk_laws.proofs.ImagesMoves.{Decides, Owes, Shares}
+use Rattle.mk_laws.proofs.Ready.{image_test, bit_is, LeadsBy, one_right}
+use Rattle.mk_laws.proofs.Refusals.{accesses, refuses, decides_nothing}
 use Rattle.mk_never.proofs.Soundness.{suited_is_sound}
-use Rattle.mk_laws.proofs.Reached.{PagesShow, Reaches, reaches, unmapped_target, mapped_met, suits, sound_more}
-use Rattle.mk_laws.proofs.Reached.{of_number}
-use Rattle.mk_laws.proofs.RegMoves.{flight, flies_on}
+use Rattle.mk_laws.proofs.Reached.{Reaches, reaches, unmapped_target, mapped_met, suits, sound_more, of_number}
+use Rattle.mk_laws.proofs.RegMoves.{flies_on}
 
 -- the access of an operation, at whatever kind of word
 meets_some : (n : NeverState) (v : Value) (i : ℕ) (P : Kind → Type 0) → Meets n v i P → Meets n v i (λ kind. Unit {0})
@@ -61,6 +57,9 @@ at_probe _ h = absurd (true≢false h)
 
 module _ (listed : List ℕ) (safe : ℕ → Bool) (s : ImageScene) (n : NeverState) (k : ℕ) (h : Ready listed safe s n)
     (there : k < length s.flights) (long : 8 * k + 7 < length n.registers) where
+  abbrev bases : List ℕ
+  bases = bases_of s.allocations
+
   own_sound : (r : ℕ) → IsSound n (register_at n k r)
   own_sound r = h.typed.registers (8 * k + r)
 
@@ -71,7 +70,7 @@ module _ (listed : List ℕ) (safe : ℕ → Bool) (s : ImageScene) (n : NeverSt
   pub probe_leads : (header : ℕ → ℕ) → PagesShow header s n → (o : Op) (q p r l x : ℕ)
       → flight_among s.flights k ≡ flight stage.Probe o q p r l → d_of o < 8
       → is_astray (standing_at stage.Probe o) ≡ false
-      → CarriesOwn (bases_of s.allocations) n k (flight stage.Probe o q p r l)
+      → CarriesOwn bases n k (flight stage.Probe o q p r l)
       → x ≡ header (((q - 65536) / 8 + i_of o) / 64)
       → (is_unmapped_header (header_of x) ≡ true → IsAdmitted listed n k o)
       → LeadsBy safe s n k o s (progress_probe (flight stage.Probe o q p r l) x)
@@ -97,7 +96,7 @@ module _ (listed : List ℕ) (safe : ℕ → Bool) (s : ImageScene) (n : NeverSt
 
   pub read_leads : (o : Op) (q p r l x : ℕ) → flight_among s.flights k ≡ flight stage.Read o q p r l → d_of o < 8
       → is_astray (standing_at stage.Read o) ≡ false
-      → CarriesOwn (bases_of s.allocations) n k (flight stage.Read o q p r l)
+      → CarriesOwn bases n k (flight stage.Read o q p r l)
       → ProbedOwn n k (flight stage.Read o q p r l) → x ≡ slice_index s.heap ((q - 65536) / 8 + i_of o)
       → IsAdmitted listed n k o
       → LeadsBy safe s n k o s (progress_read (flight stage.Read o q p r l) o x)
@@ -114,7 +113,7 @@ module _ (listed : List ℕ) (safe : ℕ → Bool) (s : ImageScene) (n : NeverSt
       let to = reaches listed safe s n h (register_at n k q') q i IsPointer (car.q refl) (car.some_q refl)
       (own_sound q') (own_safe q') (pro refl) ad.access in
       let word = word_at n to.number to.place in
-      let value : x ≡ image_of (bases_of s.allocations) word = e ∙ ap (slice_index s.heap) to.word
+      let value : x ≡ image_of bases word = e ∙ ap (slice_index s.heap) to.word
       ∙ h.images.heap to.number to.place to.unreleased to.mapped to.inside in
       let sound = suited_is_sound n word _ to.kind (suits listed safe s n h to.number to.place to.exists to.inside) in (
         rw to.target (Owes k (flight stage.Put (op.GetPtr d q' i) q p r x) word there long (rw is) refl ld value
@@ -124,7 +123,6 @@ module _ (listed : List ℕ) (safe : ℕ → Bool) (s : ImageScene) (n : NeverSt
             ∙ ap (λ t. answer_of (bases_of s.allocations ++ more) (reply_at t (λ a w. Val (word_at n a w))))
             (sym to.target)),
       )
-  read_leads (op.New d ty full) q p r l x is ld a car pro e ad = cc
   read_leads _ q p r l x is ld a car pro e ad = cc
 
   decides : (f : Flight) (st : Stage) (o : Op) (q p r l : ℕ) → flight_among s.flights k ≡ flight st o q p r l
@@ -138,7 +136,7 @@ module _ (listed : List ℕ) (safe : ℕ → Bool) (s : ImageScene) (n : NeverSt
 
   pub write_leads : (o : Op) (q p r l : ℕ) → flight_among s.flights k ≡ flight stage.Write o q p r l
       → is_astray (standing_at stage.Write o) ≡ false
-      → CarriesOwn (bases_of s.allocations) n k (flight stage.Write o q p r l)
+      → CarriesOwn bases n k (flight stage.Write o q p r l)
       → ProbedOwn n k (flight stage.Write o q p r l) → IsAdmitted listed n k o
       → LeadsBy safe s n k o
       (record s { heap = slice_set s.heap ((q - 65536) / 8 + i_of o) (value_written (flight stage.Write o q p r l) o) })
@@ -163,13 +161,12 @@ module _ (listed : List ℕ) (safe : ℕ → Bool) (s : ImageScene) (n : NeverSt
         λ more. one_right _ answer.Done n k (op.SetPtr q' i p')
             (ap (λ t. answer_of (bases_of s.allocations ++ more) (reply_at t (λ a w. Done))) (sym to.target)),
       )
-  write_leads (op.New d ty full) q p r l is a car pro ad = cc
   write_leads _ q p r l is a car pro ad = cc
 
   cas_by : (b : Bool) (o : Op) (q p r l r' a i w x : ℕ) → w ≡ (placed_at s.allocations a).base + i
       → x ≡ slice_index s.heap w → (placed_at s.allocations a).released ≡ false
       → is_unmapped (allocation_at n a) ≡ false
-      → i < length (words_of n a) → r ≡ image_of (bases_of s.allocations) (register_at n k r')
+      → i < length (words_of n a) → r ≡ image_of bases (register_at n k r')
       → Decides s n k (flight stage.Dirty o q p r l)
       → Move safe s n (record s {
         heap = slice_set s.heap w (if b then r else x);
@@ -184,7 +181,7 @@ module _ (listed : List ℕ) (safe : ℕ → Bool) (s : ImageScene) (n : NeverSt
 
   -- A compare and exchange reaches a word, and compares its value to that of its caller's register p.
   pub cas_compares : (q' i p' r' q p r l x : ℕ)
-      → CarriesOwn (bases_of s.allocations) n k (flight stage.Cas (op.CasPtr q' i p' r') q p r l)
+      → CarriesOwn bases n k (flight stage.Cas (op.CasPtr q' i p' r') q p r l)
       → ProbedOwn n k (flight stage.Cas (op.CasPtr q' i p' r') q p r l)
       → x ≡ slice_index s.heap ((q - 65536) / 8 + i) → IsAdmitted listed n k (op.CasPtr q' i p' r')
       → (to : Reaches safe s n (register_at n k q') q i IsPointer)
@@ -193,7 +190,7 @@ module _ (listed : List ℕ) (safe : ℕ → Bool) (s : ImageScene) (n : NeverSt
       let to = reaches listed safe s n h (register_at n k q') q i IsPointer (car.q refl) (car.some_q refl)
       (own_sound q') (own_safe q') (pro refl) ad.access in
       let word = word_at n to.number to.place in
-      let value : x ≡ image_of (bases_of s.allocations) word = e ∙ ap (slice_index s.heap) to.word
+      let value : x ≡ image_of bases word = e ∙ ap (slice_index s.heap) to.word
       ∙ h.images.heap to.number to.place to.unreleased to.mapped to.inside in
       let sound = suited_is_sound n word _ to.kind (suits listed safe s n h to.number to.place to.exists to.inside) in (
         to,
@@ -203,7 +200,7 @@ module _ (listed : List ℕ) (safe : ℕ → Bool) (s : ImageScene) (n : NeverSt
 
   pub cas_leads : (o : Op) (q p r l x : ℕ) → flight_among s.flights k ≡ flight stage.Cas o q p r l
       → is_astray (standing_at stage.Cas o) ≡ false
-      → CarriesOwn (bases_of s.allocations) n k (flight stage.Cas o q p r l)
+      → CarriesOwn bases n k (flight stage.Cas o q p r l)
       → ProbedOwn n k (flight stage.Cas o q p r l) → x ≡ slice_index s.heap ((q - 65536) / 8 + i_of o)
       → IsAdmitted listed n k o
       → LeadsBy safe s n k o (record s { heap = slice_set s.heap ((q - 65536) / 8 + i_of o) (if x == p then r else x) })
@@ -225,7 +222,6 @@ module _ (listed : List ℕ) (safe : ℕ → Bool) (s : ImageScene) (n : NeverSt
             (ap answer.Num (bit_is _) ∙ ap (λ t. answer_of (bases_of s.allocations ++ more)
             (reply_at t (λ a w. Number (bit (is_same (word_at n a w) (register_at n k p')))))) (sym to.target))),
       )
-  cas_leads (op.New d ty full) q p r l x is a car pro e ad = cc
   cas_leads _ q p r l x is a car pro e ad = cc
 
   pub getg_leads : (o : Op) (q p r l x : ℕ) → flight_among s.flights k ≡ flight stage.Getg o q p r l → d_of o < 8
@@ -233,18 +229,17 @@ module _ (listed : List ℕ) (safe : ℕ → Bool) (s : ImageScene) (n : NeverSt
       → x ≡ slice_index s.globals (g_of o)
       → LeadsBy safe s n k o s (progress_getg (flight stage.Getg o q p r l) x)
   getg_leads (op.GetGlobal d g) q p r l x is ld a e =
-      let value : x ≡ image_of (bases_of s.allocations) (global_at n g) = e ∙ h.images.globals g in (
+      let value : x ≡ image_of bases (global_at n g) = e ∙ h.images.globals g in (
         Owes k (flight stage.Put (op.GetGlobal d g) q p r x) (global_at n g) there long
             (rw is) refl ld value (h.set.globals g),
         λ more. one_right _ (answer.Word x) n k (op.GetGlobal d g)
             (ap answer.Word (value ∙ sound_more listed safe s n h (global_at n g) more (h.typed.globals g))),
       )
-  getg_leads (op.New d ty full) q p r l x is ld a e = cc
   getg_leads _ q p r l x is ld a e = cc
 
   pub setg_leads : (o : Op) (q p r l : ℕ) → flight_among s.flights k ≡ flight stage.Setg o q p r l
       → is_astray (standing_at stage.Setg o) ≡ false
-      → CarriesOwn (bases_of s.allocations) n k (flight stage.Setg o q p r l)
+      → CarriesOwn bases n k (flight stage.Setg o q p r l)
       → g_of o < length s.globals → g_of o < length n.globals
       → LeadsBy safe s n k o (record s { globals = slice_set s.globals (g_of o) p })
       (onward (flight stage.Setg o q p r l) (Some answer.Done))
@@ -253,5 +248,4 @@ module _ (listed : List ℕ) (safe : ℕ → Bool) (s : ImageScene) (n : NeverSt
         (record { there = there; registers = long; was = rw is; bare = refl }) lg ln (car.p refl) (own_safe p'),
     λ more. refl,
   )
-  setg_leads (op.New d ty full) q p r l is a car lg ln = cc
   setg_leads _ q p r l is a car lg ln = cc

@@ -1,14 +1,11 @@
 -- Only a Free that is decided unmaps a run, and that call holds the turn.
-use Rattle.std.proofs.Common.{◌≡◌, ◌≢◌, ℕ, ◌-◌, true, refl, ap, subst}
-use Rattle.std.specs.Prelude.{Option, Some, is_some}
-use Rattle.mk_laws.proofs.Vocabulary.{Caller, Config, Flight, Moment, Op, RunPages, Stage, flight_of, is_new_at}
-use Rattle.mk_laws.proofs.Vocabulary.{is_undecided_new}
+use Rattle.mk_laws.proofs.Vocabulary.{Caller, Config, Moment, Op, RunPages, Some, Stage, flight_of, is_decided_free}
+use Rattle.mk_laws.proofs.Vocabulary.{is_decided_free_at, is_new_at, is_undecided_new, refl, true, ℕ, ◌-◌, ◌≡◌, ◌≢◌}
+use Rattle.mk_laws.proofs.Basics.{HoldsTurn, Orderly, flight_in, standing_at, view_of}
 use Rattle.mk_never.specs.declared.operations.Op.TheVariants as op
 use Rattle.mk_core.specs.declared.seats.Stage.TheVariants as stage
-use Rattle.mk_laws.specs.Protocol.{is_decided_free_at, is_decided_free}
-use Rattle.mk_laws.proofs.Standings.{UnderTurn, standing_at}
-use Rattle.mk_laws.proofs.Views.{view_of, flight_in, HoldsTurn}
-use Rattle.mk_laws.proofs.Orderly.{Orderly, holders_flight}
+use Rattle.mk_laws.proofs.Standings.{UnderTurn}
+use Rattle.mk_laws.proofs.Orderly.{holders_flight}
 
 pub decided_free_stands : (s : Stage) (o : Op) → is_decided_free_at s o ≡ true → standing_at s o ≡ UnderTurn
 decided_free_stands stage.Give (op.Free p) h = refl

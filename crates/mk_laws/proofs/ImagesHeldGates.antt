@@ -1,19 +1,14 @@
 -- A caller whose gate is held is between calls.
-use Rattle.std.proofs.Common.{◌≡◌, ◌≢◌, ℕ, ◌<◌, Bool, true, false, refl, sym, ap, inl, inr, arith}
-use Rattle.std.proofs.lemmas.Bool.{cases_lt}
-use Rattle.std.proofs.lemmas.List.{get_or_past}
-use Rattle.mk_laws.proofs.Vocabulary.{Config, Flight, Op, Stage, at_rest, is_under_turn}
+use Rattle.mk_laws.proofs.Vocabulary.{Bool, Config, Op, Stage, arith, at_rest, cases_lt, get_or_past, inl, inr}
+use Rattle.mk_laws.proofs.Vocabulary.{is_under_turn, refl, sym, true, ℕ, ◌<◌, ◌≡◌, ◌≢◌}
+use Rattle.mk_laws.proofs.Basics.{Orderly, View, flight_in, gate_in, standing_at}
 use Rattle.mk_core.specs.declared.seats.Stage.TheVariants as stage
 use Rattle.mk_laws.specs.Protocol.{has_stage}
-use Rattle.mk_laws.proofs.Standings.{Standing, Resting, InCall, UnderTurn, Astray, standing_in, standing_at}
-use Rattle.mk_laws.proofs.Standings.{standing, Shows}
-use Rattle.mk_laws.proofs.Views.{View, flight_in, gate_in}
-use Rattle.mk_laws.proofs.Orderly.{Orderly}
+use Rattle.mk_laws.proofs.Standings.{Standing, Resting, Astray, standing_in, Shows}
 
 never_rests : (b u : Bool) → standing_in b u ≡ Resting → ⊥
 never_rests true true h = cc
-never_rests true false h = cc
-never_rests false u h = cc
+never_rests _ _ h = cc
 
 pub resting_idle : (o : Op) (s : Stage) → standing_at s o ≡ Resting → s ≡ stage.Idle
 resting_idle o stage.Idle h = refl

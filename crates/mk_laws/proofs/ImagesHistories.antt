@@ -1,27 +1,21 @@
 -- All histories: the answers are the images of the replies, and what is reached isn't released.
-use Rattle.std.proofs.Common.{◌≡◌, ℕ, ◌*◌, ◌/◌, ◌%◌, Bool, true, false, List, [], ◌∷◌, ◌++◌, replicate, refl, sym, ap}
-use Rattle.std.proofs.Common.{subst, ◌∙◌, append-nil, append_assoc, arith}
-use Rattle.std.specs.Prelude.{slice_index, slice_index_or}
-use Rattle.std.proofs.lemmas.List.{map-append, length-replicate}
-use Rattle.mk_laws.proofs.Vocabulary.{Answer, AreAdmitted, AreEnabled, AreEnabledFrom, Call, Config, Decided, Event}
-use Rattle.mk_laws.proofs.Vocabulary.{Flight, IsEnabled, IsHistory, IsWithinLimits, NeverState, Null, Num, Ptr}
-use Rattle.mk_laws.proofs.Vocabulary.{Value, World, after_calls, answer_of, answered, answers_of, asked, at_rest}
-use Rattle.mk_laws.proofs.Vocabulary.{bases_of, call_decided, calls_from, first_world, image_of, left, left_from}
-use Rattle.mk_laws.proofs.Vocabulary.{never_behind, replies_of, world_behind}
+use Rattle.std.proofs.lemmas.List.{length-replicate}
+use Rattle.mk_laws.proofs.Vocabulary.{Answer, AreAdmitted, AreEnabled, AreEnabledFrom, Bool, Call, Config, Decided}
+use Rattle.mk_laws.proofs.Vocabulary.{Event, ImagePremises, ImagePremisesAlong, IsHistory, IsSafe, IsWithinLimits, List}
+use Rattle.mk_laws.proofs.Vocabulary.{Mirrors, NeverState, Null, Ptr, Value, World, [], after_calls, answer_of}
+use Rattle.mk_laws.proofs.Vocabulary.{answered, answers_of, ap, append-nil, append_assoc, arith, asked, at_rest}
+use Rattle.mk_laws.proofs.Vocabulary.{bases_of, call_decided, calls_from, false, first_world, image_of, left, left_from}
+use Rattle.mk_laws.proofs.Vocabulary.{left_more, map-append, never_behind, refl, replies_of, sym, true, world_behind, ℕ}
+use Rattle.mk_laws.proofs.Vocabulary.{◌*◌, ◌++◌, ◌/◌, ◌∙◌, ◌∷◌, ◌≡◌}
+use Rattle.mk_laws.proofs.Basics.{KnownWorld, at_first, known_world}
 use Rattle.mk_never.specs.Reach.{LeadsTo}
 use Rattle.mk_never.proofs.TypedCalls.{start_is_typed}
 use Rattle.mk_never.proofs.Parts.{after_append, replies_append, admitted_split}
 use Rattle.mk_never.proofs.Reached.{reached_is_in}
 use Rattle.mk_core.specs.History.{never_first}
-use Rattle.mk_core.proofs.Histories.{left_more, enabled_more}
-use Rattle.mk_laws.proofs.OrderlyLists.{at_first}
-use Rattle.mk_laws.specs.Images.{shown, CarriesOwn, ProbedOwn}
-use Rattle.mk_laws.specs.SafeSets.{IsSafe, HasSafeSet}
-use Rattle.mk_laws.specs.ImagePremises.{ImagePremises}
-use Rattle.mk_laws.specs.Mirrors.{Mirrors}
-use Rattle.mk_laws.specs.Laws.{ImagePremisesAlong, HistoriesRefineNever, HistoriesMirrorNever, ReachedIsUnreleased}
-use Rattle.mk_laws.specs.Laws.{HistoriesTellOthers}
-use Rattle.mk_laws.proofs.KnownWorlds.{KnownWorld, known_world}
+use Rattle.mk_core.proofs.Histories.{enabled_more}
+use Rattle.mk_laws.specs.SafeSets.{HasSafeSet}
+use Rattle.mk_laws.specs.Laws.{HistoriesRefineNever, HistoriesMirrorNever, ReachedIsUnreleased, HistoriesTellOthers}
 use Rattle.mk_laws.proofs.Pairs.{bare_carries}
 use Rattle.mk_laws.proofs.ImagesOneEvent.{Follows, one_event}
 use Rattle.mk_laws.proofs.Saying.{images_say}

@@ -1,23 +1,22 @@
 -- The images are kept by each move.
-use Rattle.std.proofs.Common.{◌≡◌, ◌≢◌, ℕ, zero, suc, ◌+◌, ◌*◌, ◌/◌, ◌%◌, ◌<◌, Bool, true, false, List, [], ◌∷◌, ◌++◌}
-use Rattle.std.proofs.Common.{length, map, get_or, refl, sym, ap, subst, ◌∙◌, inl, inr, arith, length-set}
 use Rattle.std.proofs.Common.{length-append}
-use Rattle.std.specs.Prelude.{slice_index, slice_index_or, slice_set, ◌&&◌, nat_lt}
-use Rattle.std.proofs.lemmas.Bool.{cases_eq, cases_lt, cases_Bool, and_right}
-use Rattle.std.proofs.lemmas.List.{get_or-set_same, get_or-set_other, get_or_append_left, get_or_at, get_or_past}
-use Rattle.std.proofs.lemmas.List.{map-append, length-map}
+use Rattle.std.proofs.lemmas.List.{get_or_at}
 use Rattle.std.proofs.Math.ListN.{get_or-map as get_or-map-default}
-use Rattle.mk_laws.proofs.Vocabulary.{Flight, IsSound, IsTyped, IsTypedAllocation, Kind, NeverAllocation}
-use Rattle.mk_laws.proofs.Vocabulary.{NeverState, Null, Num, Number, PlacedAllocation, Ptr, Stage, Suits, To, Value}
-use Rattle.mk_laws.proofs.Vocabulary.{address_of, allocation_at, at_rest, bases_of, d_of, global_at, i_of, image_of}
-use Rattle.mk_laws.proofs.Vocabulary.{is_large, is_unmapped, kind_in, kinds_of, never_granted, no_allocation, p_of}
-use Rattle.mk_laws.proofs.Vocabulary.{placed_at, q_of, r_of, register_at, with_freed, with_global, with_new}
-use Rattle.mk_laws.proofs.Vocabulary.{with_register, with_word, word_at, words_of}
+use Rattle.mk_laws.proofs.Vocabulary.{Bool, Carries, CarriesOwn, Flight, ImageScene, IsMet, IsSound, IsTyped}
+use Rattle.mk_laws.proofs.Vocabulary.{IsTypedAllocation, Kind, List, NeverAllocation, NeverState, Null, Num, Number}
+use Rattle.mk_laws.proofs.Vocabulary.{PlacedAllocation, ProbedOwn, Ptr, Stage, Suits, To, Value, [], address_of}
+use Rattle.mk_laws.proofs.Vocabulary.{allocation_at, and_right, ap, arith, at_rest, bases_of, cases_Bool, cases_eq}
+use Rattle.mk_laws.proofs.Vocabulary.{cases_lt, d_of, false, flight_among, get_or, get_or-set_other, get_or-set_same}
+use Rattle.mk_laws.proofs.Vocabulary.{get_or_append_left, get_or_past, image_of, inl, inr, is_large, is_past_probe}
+use Rattle.mk_laws.proofs.Vocabulary.{is_put, is_unmapped, kind_in, kinds_of, length, length-map, length-set, map}
+use Rattle.mk_laws.proofs.Vocabulary.{map-append, never_granted, no_allocation, p_of, placed_at, q_of, r_of, refl}
+use Rattle.mk_laws.proofs.Vocabulary.{register_at, set_by, shown, slice_index, slice_index_or, slice_set, subst, suc}
+use Rattle.mk_laws.proofs.Vocabulary.{sym, true, with_freed, with_global, with_new, with_register, with_word, word_at}
+use Rattle.mk_laws.proofs.Vocabulary.{words_of, zero, ℕ, ◌%◌, ◌*◌, ◌++◌, ◌+◌, ◌/◌, ◌<◌, ◌∙◌, ◌∷◌, ◌≡◌, ◌≢◌}
 use Rattle.mk_never.specs.Types.{zero_of, zero_words}
-use Rattle.mk_never.proofs.Edits.{set_by, exists}
+use Rattle.mk_never.proofs.Edits.{exists}
 use Rattle.mk_core.specs.declared.seats.Stage.TheVariants as stage
-use Rattle.mk_laws.specs.Images.{ImageScene, flight_among, is_put, shown, is_past_probe, Carries, CarriesOwn, IsMet}
-use Rattle.mk_laws.specs.Images.{ProbedOwn, AreImages}
+use Rattle.mk_laws.specs.Images.{AreImages}
 use Rattle.mk_laws.proofs.ImagesMoves.{is_bare, Decides, Move, Rests, Flies, Owes, Pays, Stores, Shares, Writes, Wipes}
 use Rattle.mk_laws.proofs.ImagesMoves.{Grants, Frees, Renews, Releases}
 use Rattle.mk_laws.proofs.Pairs.{set_both, bare_carries, put_carries, bare_unprobed, shows_plain, shows_owed}
@@ -110,17 +109,20 @@ put_past : (s : Stage) → s ≡ stage.Put → is_past_probe s ≡ false
 put_past s e = ap is_past_probe e
 
 module _ (s : ImageScene) (n : NeverState) (h : AreImages s n) (small : AreSmall s.flights) where
+  abbrev bases : List ℕ
+  bases = bases_of s.allocations
+
   flies : (k : ℕ) (f : Flight) → ((r x : ℕ) → shown f r x ≡ shown (flight_among s.flights k) r x)
-      → CarriesOwn (bases_of s.allocations) n k f → ProbedOwn n k f
+      → CarriesOwn bases n k f → ProbedOwn n k f
       → AreImages (record s { flights = slice_set s.flights k f }) n
   flies k f same carries probed =
       record {
         registers = λ i. set_by (λ (x : Flight). shown x (i % 8) (slice_index s.registers i)
-            ≡ image_of (bases_of s.allocations) (slice_index_or n.registers i Null)) s.flights k (i / 8) f at_rest
+            ≡ image_of bases (slice_index_or n.registers i Null)) s.flights k (i / 8) f at_rest
             (λ e. same (i % 8) _ ∙ rw (← e) (h.registers i)) (h.registers i);
         globals = h.globals;
         heap = h.heap;
-        carried = λ j. set_by (λ (x : Flight). CarriesOwn (bases_of s.allocations) n j x) s.flights k j f at_rest
+        carried = λ j. set_by (λ (x : Flight). CarriesOwn bases n j x) s.flights k j f at_rest
             (λ e. rw e carries) (h.carried j);
         probed = λ j. set_by (λ (x : Flight). ProbedOwn n j x) s.flights k j f at_rest (λ e. rw e probed) (h.probed j);
       }
@@ -128,31 +130,31 @@ module _ (s : ImageScene) (n : NeverState) (h : AreImages s n) (small : AreSmall
   owes_one : (k : ℕ) (f : Flight) (v : Value) → k < length s.flights → 8 * k + 7 < length n.registers
       → is_put (flight_among s.flights k).stage ≡ false → f.stage ≡ stage.Put
       → d_of f.op < 8
-      → f.loaded ≡ image_of (bases_of s.allocations) v
+      → f.loaded ≡ image_of bases v
       → AreImages (record s { flights = slice_set s.flights k f }) (with_register n k (d_of f.op) v)
   owes_one k f v there long was put ld is =
       record {
         registers = registers_from _ s.flights k f s.registers _ there
             (λ r lr. elim (cases_eq r (d_of f.op)) [
               | inl e ↦ subst (λ j. shown f j (slice_index s.registers (8 * k + j))
-                  ≡ image_of (bases_of s.allocations)
+                  ≡ image_of bases
                   (slice_index_or (slice_set n.registers (8 * k + d_of f.op) v) (8 * k + j) Null)) (sym e)
                   (shows_owed f _ put ∙ is
-                  ∙ ap (image_of (bases_of s.allocations))
+                  ∙ ap (image_of bases)
                   (sym (get_or-set_same n.registers (8 * k + d_of f.op) v Null (omega arith))))
               | inr ne ↦ shows_other f r _ put (λ e. ne (sym e)) ∙ own_plain s n h k r lr was
-                  ∙ ap (image_of (bases_of s.allocations))
+                  ∙ ap (image_of bases)
                   (sym (get_or-set_other n.registers (8 * k + d_of f.op) (8 * k + r) v Null
                   (λ e. absurd (ne (omega arith)))))
             ])
             (λ i ne. h.registers i
-            ∙ ap (image_of (bases_of s.allocations))
+            ∙ ap (image_of bases)
             (sym (get_or-set_other n.registers (8 * k + d_of f.op) i v Null (λ e. absurd (ne (omega arith))))));
         globals = h.globals;
         heap = h.heap;
         carried = others_carry _ _ s.flights k f n (with_register n k (d_of f.op) v) there small
             (λ a b d. put_carries _ f a b d put)
-            (λ j r ne lr. ap (image_of (bases_of s.allocations)) (other_register n k (d_of f.op) j r v ld lr ne))
+            (λ j r ne lr. ap (image_of bases) (other_register n k (d_of f.op) j r v ld lr ne))
             h.carried;
         probed = others_probed s.flights k f n (with_register n k (d_of f.op) v) there small (put_past f.stage put)
             (λ j r ne lr. other_register n k (d_of f.op) j r v ld lr ne)
@@ -174,7 +176,7 @@ module _ (s : ImageScene) (n : NeverState) (h : AreImages s n) (small : AreSmall
             (λ r lr. elim (cases_eq r (d_of old.op)) [
               | inl e ↦ subst (λ j. shown f j
                   (slice_index (slice_set s.registers (8 * k + d_of old.op) old.loaded) (8 * k + j))
-                  ≡ image_of (bases_of s.allocations) (slice_index_or n.registers (8 * k + j) Null)) (sym e)
+                  ≡ image_of bases (slice_index_or n.registers (8 * k + j) Null)) (sym e)
                   (shows_plain f _ _ (bare_owes_nothing f.stage bare)
                   ∙ get_or-set_same s.registers (8 * k + d_of old.op) old.loaded 0 (omega arith)
                   ∙ sym (shows_owed old _ put) ∙ own_shown s n h k (d_of old.op) ld)
@@ -195,7 +197,7 @@ module _ (s : ImageScene) (n : NeverState) (h : AreImages s n) (small : AreSmall
       }
 
   stores : (k d x : ℕ) (f : Flight) (v : Value) → Decides s n k f → 8 * k + 7 < length s.registers → d < 8
-      → x ≡ image_of (bases_of s.allocations) v
+      → x ≡ image_of bases v
       → AreImages (record s { flights = slice_set s.flights k f; registers = slice_set s.registers (8 * k + d) x })
       (with_register n k d v)
   stores k d x f v at long ld is =
@@ -203,17 +205,17 @@ module _ (s : ImageScene) (n : NeverState) (h : AreImages s n) (small : AreSmall
       record {
         registers = registers_from _ s.flights k f _ _ at.there
             (λ r lr. shows_plain f _ _ (bare_owes_nothing f.stage at.bare)
-            ∙ set_both (λ y u. y ≡ image_of (bases_of s.allocations) u) s.registers n.registers (8 * k + d)
+            ∙ set_both (λ y u. y ≡ image_of bases u) s.registers n.registers (8 * k + d)
             (8 * k + r) x 0 v Null (omega arith) (omega arith) (λ e. is) (λ ne. own_plain s n h k r lr at.was))
             (λ i ne. ap (shown (flight_among s.flights (i / 8)) (i % 8))
             (get_or-set_other s.registers (8 * k + d) i x 0 (λ e. absurd (ne (omega arith))))
-            ∙ h.registers i ∙ ap (image_of (bases_of s.allocations))
+            ∙ h.registers i ∙ ap (image_of bases)
             (sym (get_or-set_other n.registers (8 * k + d) i v Null (λ e. absurd (ne (omega arith))))));
         globals = h.globals;
         heap = h.heap;
         carried = others_carry _ _ s.flights k f n (with_register n k d v) at.there small
             (λ a b d. bare_carries _ f a b d at.bare)
-            (λ j r ne lr. ap (image_of (bases_of s.allocations)) (other_register n k d j r v ld lr ne)) h.carried;
+            (λ j r ne lr. ap (image_of bases) (other_register n k d j r v ld lr ne)) h.carried;
         probed = others_probed s.flights k f n (with_register n k d v) at.there small (bare_unprobed f.stage at.bare)
             (λ j r ne lr. other_register n k d j r v ld lr ne)
             (λ j ne past v' i m. met_same n (with_register n k d v) v' i (λ a. refl) (λ a u. u) m) h.probed;
@@ -222,20 +224,20 @@ module _ (s : ImageScene) (n : NeverState) (h : AreImages s n) (small : AreSmall
   -- the registers of all, where the flight goes on with nothing owed
   plain_registers : (k : ℕ) (f : Flight) → Decides s n k f → (i : ℕ)
       → shown (flight_among (slice_set s.flights k f) (i / 8)) (i % 8) (slice_index s.registers i)
-      ≡ image_of (bases_of s.allocations) (slice_index_or n.registers i Null)
+      ≡ image_of bases (slice_index_or n.registers i Null)
   plain_registers k f at =
       registers_from _ s.flights k f s.registers n.registers at.there
       (λ r lr. shows_plain f _ _ (bare_owes_nothing f.stage at.bare)
       ∙ own_plain s n h k r lr at.was) (λ i ne. h.registers i)
 
   shares : (k g x : ℕ) (f : Flight) (v : Value) → Decides s n k f → g < length s.globals → g < length n.globals
-      → x ≡ image_of (bases_of s.allocations) v
+      → x ≡ image_of bases v
       → AreImages (record s { flights = slice_set s.flights k f; globals = slice_set s.globals g x })
       (with_global n g v)
   shares k g x f v at lg ln is =
       record {
         registers = plain_registers k f at;
-        globals = λ i. set_both (λ y u. y ≡ image_of (bases_of s.allocations) u) s.globals n.globals g i x 0 v Null lg
+        globals = λ i. set_both (λ y u. y ≡ image_of bases u) s.globals n.globals g i x 0 v Null lg
             ln (λ e. is) (λ ne. h.globals i);
         heap = h.heap;
         carried = others_carry _ _ s.flights k f n (with_global n g v) at.there small

@@ -1,8 +1,6 @@
 -- Allocations that change one by one, and stay at their places.
-use Rattle.std.proofs.Common.{◌≡◌, List, [], ◌∷◌, map, refl, ap, ◌∙◌}
-use Rattle.std.proofs.lemmas.List.{length-map}
-use Rattle.mk_laws.proofs.Vocabulary.{PlacedAllocation, bases_of, placed_at}
-use Rattle.mk_core.proofs.ChangedAllocations.{LeavesPlaces, changed_at}
+use Rattle.mk_laws.proofs.Vocabulary.{LeavesPlaces, List, PlacedAllocation, [], bases_of, changed_at, length-map, map}
+use Rattle.mk_laws.proofs.Vocabulary.{placed_at, refl, ◌∷◌, ◌≡◌}
 use Rattle.mk_laws.proofs.ImagesMoves.{SamePlaces}
 
 same_bases : (change : PlacedAllocation → PlacedAllocation) (xs : List PlacedAllocation) → LeavesPlaces change

@@ -1,12 +1,12 @@
 -- The moves of the images: what an event may do to what they read.
-use Rattle.std.proofs.Common.{List, [], ◌∷◌, ◌++◌, ◌≡◌, ◌≢◌, ℕ, ◌+◌, ◌*◌, ◌<◌, true, false, length}
-use Rattle.std.specs.Prelude.{slice_set, slice_index, Bool}
-use Rattle.mk_laws.proofs.Vocabulary.{Flight, NeverState, PlacedAllocation, Ptr, Stage, Value, address_of}
-use Rattle.mk_laws.proofs.Vocabulary.{allocation_at, bases_of, d_of, image_of, is_unmapped, kinds_of, placed_at}
-use Rattle.mk_laws.proofs.Vocabulary.{with_freed, with_global, with_new, with_register, with_word, words_of}
+use Rattle.std.specs.Prelude.{Bool}
+use Rattle.mk_laws.proofs.Vocabulary.{CarriesOwn, Flight, ImageScene, IsSafe, IsSafeSet, List, NeverState}
+use Rattle.mk_laws.proofs.Vocabulary.{PlacedAllocation, ProbedOwn, Ptr, Stage, Value, [], address_of, allocation_at}
+use Rattle.mk_laws.proofs.Vocabulary.{bases_of, d_of, false, flight_among, image_of, is_past_probe, is_put, is_unmapped}
+use Rattle.mk_laws.proofs.Vocabulary.{kinds_of, length, placed_at, shown, slice_index, slice_set, true, with_freed}
+use Rattle.mk_laws.proofs.Vocabulary.{with_global, with_new, with_register, with_word, words_of, ℕ, ◌*◌, ◌++◌, ◌+◌, ◌<◌}
+use Rattle.mk_laws.proofs.Vocabulary.{◌∷◌, ◌≡◌, ◌≢◌}
 use Rattle.mk_core.specs.declared.seats.Stage.TheVariants as stage
-use Rattle.mk_laws.specs.Images.{ImageScene, flight_among, is_put, shown, CarriesOwn, ProbedOwn, is_past_probe}
-use Rattle.mk_laws.specs.SafeSets.{IsSafe, IsSafeSet}
 
 -- nothing is carried, and nothing owed
 abbrev pub is_bare : Stage → Bool

@@ -1,20 +1,14 @@
 -- One event: the world mirrors the heap that never reuses storage after it, and the answer that it decides is right.
-use Rattle.std.proofs.Common.{◌≡◌, ℕ, List, ◌++◌, ◌∙◌}
-use Rattle.mk_laws.proofs.Vocabulary.{AreAdmitted, Config, Continues, Event, IsEnabled, NeverState, World, answered}
-use Rattle.mk_laws.proofs.Vocabulary.{answers_of, asked, bases_of, call_decided, replies_of, world_behind}
+use Rattle.mk_laws.proofs.Vocabulary.{AreAdmitted, Config, Continues, Event, ImagePremises, IsEnabled, List, Mirrors}
+use Rattle.mk_laws.proofs.Vocabulary.{NeverState, World, answered, answers_of, asked, bases_of, call_decided}
+use Rattle.mk_laws.proofs.Vocabulary.{enabled_meets, image_scene_of, replies_of, world_behind, ℕ, ◌++◌, ◌∙◌, ◌≡◌}
+use Rattle.mk_laws.proofs.Basics.{KnownWorld, ready_of, stands_of}
 use Rattle.mk_never.proofs.Later.{calls_stay}
 use Rattle.mk_never.proofs.TypedCalls.{calls_keep}
-use Rattle.mk_core.proofs.Conditions.{enabled_meets}
-use Rattle.mk_laws.specs.Images.{image_scene_of}
-use Rattle.mk_laws.specs.ImagePremises.{ImagePremises}
-use Rattle.mk_laws.specs.Mirrors.{Mirrors}
-use Rattle.mk_laws.proofs.KnownWorlds.{KnownWorld}
 use Rattle.mk_laws.proofs.Bases.{IsLonger, bases_grow}
 use Rattle.mk_laws.proofs.FreedRuns.{never_after, freed_run_stays}
 use Rattle.mk_laws.proofs.ImagesKept.{images_kept}
 use Rattle.mk_laws.proofs.SafeKept.{safe_kept, twins_kept}
-use Rattle.mk_laws.proofs.ImagesStands.{stands_of}
-use Rattle.mk_laws.proofs.ImagesBefore.{ready_of}
 use Rattle.mk_laws.proofs.EventSorts.{goes}
 
 -- what an event leaves, and that what it decides is right, where more is granted later too

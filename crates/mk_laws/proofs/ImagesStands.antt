@@ -1,20 +1,17 @@
 -- What stands where, as lookups show it.
-use Rattle.std.proofs.Common.{◌≡◌, ◌≢◌, ℕ, ◌+◌, ◌*◌, ◌/◌, ◌<◌, ◌≤◌, Bool, true, false, List, sym, ap, subst, ◌∙◌, inl}
-use Rattle.std.proofs.Common.{inr, arith}
-use Rattle.std.specs.Prelude.{◌&&◌, ◌==◌, not, Option, Some, None}
-use Rattle.std.proofs.lemmas.Bool.{cases_Bool, and_parts, and_from, eqb-true, eq-eqb, not-true, true≢false}
-use Rattle.mk_laws.proofs.Vocabulary.{BeginsAtCell, Config, IsSized, IsWithinLimits, PlacedAllocation, RunPages}
-use Rattle.mk_laws.proofs.Vocabulary.{Words, World, address_of, cell_of_allocation, first_word, header_at}
-use Rattle.mk_laws.proofs.Vocabulary.{header_in, header_of, heads_run, is_large, is_mapped, is_run_gone}
-use Rattle.mk_laws.proofs.Vocabulary.{is_run_unmapped, is_small_object, is_unmapped_header, kinds_of, object_placed}
-use Rattle.mk_laws.proofs.Vocabulary.{pages_made, placed_at, pointed_cell, stands, storage_words, unmapped_header}
-use Rattle.mk_laws.proofs.Vocabulary.{words_are_zero}
-use Rattle.mk_core.proofs.AllBelow.{all_below-at}
-use Rattle.mk_core.proofs.Sizes.{large_is_not_small, small_pages, large_words, large_count}
-use Rattle.mk_core.proofs.ObjectHeaders.{part_heads_run, made_is_mapped, unmapped_is_unmapped}
-use Rattle.mk_core.proofs.StandingAllocations.{typed_size, cell_ends_within, run_begins, first_page_shows, cells_begin}
-use Rattle.mk_core.proofs.PointedAllocations.{word_points}
-use Rattle.mk_laws.specs.ImagePremises.{run_of_allocation, IsLaidOut, ImagePremises}
+use Rattle.mk_laws.proofs.Vocabulary.{BeginsAtCell, Bool, Config, ImagePremises, IsSized, IsWithinLimits, List, None}
+use Rattle.mk_laws.proofs.Vocabulary.{Option, PlacedAllocation, RunPages, Some, Words, World, address_of, all_below-at}
+use Rattle.mk_laws.proofs.Vocabulary.{and_from, and_parts, ap, arith, cases_Bool, cell_of_allocation, cells_begin}
+use Rattle.mk_laws.proofs.Vocabulary.{eq-eqb, eqb-true, false, first_page_shows, first_word, header_at, header_in}
+use Rattle.mk_laws.proofs.Vocabulary.{header_of, heads_run, inl, inr, is_large, is_mapped, is_run_gone, is_small_object}
+use Rattle.mk_laws.proofs.Vocabulary.{is_unmapped_header, kinds_of, large_count, large_is_not_small, large_words}
+use Rattle.mk_laws.proofs.Vocabulary.{made_is_mapped, not, not-true, object_placed, pages_made, placed_at, pointed_cell}
+use Rattle.mk_laws.proofs.Vocabulary.{run_begins, run_of_allocation, small_pages, stands, storage_words, sym, true}
+use Rattle.mk_laws.proofs.Vocabulary.{true≢false, typed_size, unmapped_header, unmapped_is_unmapped, word_points, ℕ}
+use Rattle.mk_laws.proofs.Vocabulary.{◌&&◌, ◌*◌, ◌+◌, ◌/◌, ◌<◌, ◌==◌, ◌∙◌, ◌≡◌, ◌≢◌, ◌≤◌}
+use Rattle.mk_core.proofs.ObjectHeaders.{part_heads_run}
+use Rattle.mk_core.proofs.StandingAllocations.{cell_ends_within}
+use Rattle.mk_laws.specs.ImagePremises.{IsLaidOut}
 
 -- A large allocation that was freed is unmapped.
 abbrev pub is_gone : Config → PlacedAllocation → Bool

@@ -1,21 +1,13 @@
 -- Runs, places and scans lie in the heap, after every enabled list.
-use Rattle.std.proofs.Common.{◌≡◌, ℕ, ◌<◌, true, List, [], ◌∷◌, refl, sym, subst}
-use Rattle.std.specs.Prelude.{nat_lt}
-use Rattle.std.proofs.lemmas.Bool.{ltb-true, and_parts}
-use Rattle.mk_laws.proofs.Vocabulary.{AreEnabled, AreEnabledFrom, AreOfPages, Caller, Config, Event, Host}
-use Rattle.mk_laws.proofs.Vocabulary.{IsWithinLimits, Marker, MarkerState, Moment, Page, Seat, Step, World, access}
-use Rattle.mk_laws.proofs.Vocabulary.{first_moment, first_world, flight_of, found, free_page, is_in_range, left}
-use Rattle.mk_laws.proofs.Vocabulary.{left_from, marker_behind, marker_of, outside, word_accessed, world_behind}
+use Rattle.mk_laws.proofs.Vocabulary.{AreEnabled, AreEnabledFrom, AreOfPages, Config, Event, IsWithinLimits, List}
+use Rattle.mk_laws.proofs.Vocabulary.{Marker, MarkerState, Moment, Seat, Step, World, [], access, accessed_lengths}
+use Rattle.mk_laws.proofs.Vocabulary.{and_parts, enabled_meets, first_moment, first_world, flight_of, found, free_page}
+use Rattle.mk_laws.proofs.Vocabulary.{ground_of, is_in_range, left, left_from, ltb-true, marker_behind, marker_of}
+use Rattle.mk_laws.proofs.Vocabulary.{nat_lt, outside, refl, true, word_accessed, world_behind, zero_lengths, ℕ, ◌<◌}
+use Rattle.mk_laws.proofs.Vocabulary.{◌∷◌, ◌≡◌}
+use Rattle.mk_laws.proofs.Basics.{Known, Meets, WorldBehind, at_first, known_at_first, known_behind, marker_set}
 use Rattle.mk_core.specs.declared.events.Step.TheVariants as step
 use Rattle.mk_core.specs.declared.events.Word.TheVariants as word
-use Rattle.mk_core.proofs.Conditions.{enabled_meets}
-use Rattle.mk_core.proofs.Lengths.{zero_lengths, accessed_lengths}
-use Rattle.mk_laws.proofs.ProtocolMarkers.{marker_set}
-use Rattle.mk_laws.proofs.Actors.{Meets}
-use Rattle.mk_laws.proofs.OrderlyLists.{at_first}
-use Rattle.mk_laws.proofs.Known.{Known, known_behind, known_at_first}
-use Rattle.mk_laws.proofs.OthersMoves.{WorldBehind}
-use Rattle.mk_laws.specs.Ground.{ground_of}
 use Rattle.mk_laws.proofs.Ground.{ground_step}
 use Rattle.mk_laws.proofs.NewPlace.{PlacesFit, place_fits_now, places_behind}
 use Rattle.mk_laws.proofs.RunsInHeap.{RunFits, RunsFit, runs_behind}

@@ -1,10 +1,8 @@
 -- What holds before any event and is kept by one event of a history holds of every history.
-use Rattle.std.proofs.Common.{◌≡◌, List, ◌∷◌, ◌++◌, sym, append-nil, append_assoc, subst, []}
-use Rattle.mk_laws.proofs.Vocabulary.{AreEnabledFrom, Config, Event, IsHistory, left}
-use Rattle.mk_core.proofs.Conditions.{enabled_meets}
-use Rattle.mk_core.proofs.HistoryParts.{earlier_part_is_history, enabled_in_parts}
+use Rattle.mk_laws.proofs.Vocabulary.{AreEnabledFrom, Config, Event, IsHistory, List, OfHistories, [], append-nil}
+use Rattle.mk_laws.proofs.Vocabulary.{append_assoc, earlier_part_is_history, enabled_in_parts, enabled_meets, left}
+use Rattle.mk_laws.proofs.Vocabulary.{subst, sym, ◌++◌, ◌∷◌, ◌≡◌}
 use Rattle.mk_laws.proofs.Actors.{Meets}
-use Rattle.mk_laws.specs.Theorems.{OfHistories}
 
 -- The events before one of a history are a history, after which it meets the conditions.
 pub before_it : (c : Config) (es before : List Event) (e : Event) (behind : List Event) → IsHistory c es

@@ -1,14 +1,11 @@
 -- The groups joined: what each is told in one world, and one event.
-use Rattle.std.proofs.lemmas.Bool.{eqb-true}
-use Rattle.mk_laws.proofs.Vocabulary.{AreAdmitted, Config, Event, IsEnabled, NeverState, World, asked, call_decided}
-use Rattle.mk_laws.proofs.Vocabulary.{phase_of, world_behind}
-use Rattle.mk_core.proofs.Conditions.{enabled_meets}
-use Rattle.mk_laws.specs.LayoutLaws.{LayoutPremises}
+use Rattle.mk_laws.proofs.Vocabulary.{AreAdmitted, Config, Event, ImagesSay, Invariant, IsEnabled, LayoutPremises}
+use Rattle.mk_laws.proofs.Vocabulary.{NeverState, World, asked, call_decided, enabled_meets, eqb-true, phase_of}
+use Rattle.mk_laws.proofs.Vocabulary.{world_behind}
+use Rattle.mk_laws.proofs.Basics.{KnownWorld}
 use Rattle.mk_laws.proofs.LayoutHistories.{order_behind}
-use Rattle.mk_laws.specs.ImagesSay.{ImagesSay}
 use Rattle.mk_laws.specs.ImagePremises as images
 use Rattle.mk_laws.proofs.FreedRuns.{never_after}
-use Rattle.mk_laws.proofs.KnownWorlds.{KnownWorld}
 use Rattle.mk_laws.proofs.ImagesOneEvent.{one_event}
 use Rattle.mk_laws.proofs.Saying.{images_say}
 use Rattle.mk_laws.specs.Kept as guard
@@ -16,7 +13,6 @@ use Rattle.mk_laws.proofs.GuardHistories.{stopped_marks_are_closed}
 use Rattle.mk_laws.proofs.GuardOneEvent.{marks_behind}
 use Rattle.mk_laws.specs.ZeroLaws as zeros
 use Rattle.mk_laws.proofs.ZerosHistories.{zeros_behind}
-use Rattle.mk_laws.specs.Invariant.{Invariant}
 use Rattle.mk_laws.proofs.RunGates.{run_gates_behind}
 use Rattle.mk_laws.proofs.TellGuard.{guard_in}
 use Rattle.mk_laws.proofs.TellImages.{images_tell_the_zeros}

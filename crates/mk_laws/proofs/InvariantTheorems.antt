@@ -1,21 +1,18 @@
 -- The theorems, from the invariant after each front of a history.
-use Rattle.std.proofs.Common.{List, subst, sym, ◌++◌, ◌∙◌, ◌∷◌, ◌≡◌}
-use Rattle.std.specs.Prelude.{Some}
-use Rattle.mk_laws.proofs.Vocabulary.{AreEnabledFrom, Config, Event, IsHistory, cell_of_allocation, left, placed_at}
+use Rattle.mk_laws.proofs.Vocabulary.{AreEnabledFrom, Config, Event, ImagePremisesAlong, IsHistory, List, OfHistories}
+use Rattle.mk_laws.proofs.Vocabulary.{Some, cell_of_allocation, earlier_part_is_history, enabled_in_parts, left}
+use Rattle.mk_laws.proofs.Vocabulary.{placed_at, subst, sym, word_points, ◌++◌, ◌∙◌, ◌∷◌, ◌≡◌}
+use Rattle.mk_laws.proofs.Basics.{KnownWorld, known_world}
 use Rattle.mk_core.specs.declared.events.Step.TheVariants as step
 use Rattle.mk_core.specs.Exchanges.{ExchangesCompareValues}
 use Rattle.mk_core.specs.History.{RefinesNever}
-use Rattle.mk_core.proofs.HistoryParts.{earlier_part_is_history, enabled_in_parts}
-use Rattle.mk_core.proofs.PointedAllocations.{word_points}
 use Rattle.mk_laws.proofs.Settled.{first_fit_is_the_place, headers_stand, unreleased_are_apart, unreleased_stand}
-use Rattle.mk_laws.specs.Laws.{ImagePremisesAlong}
 use Rattle.mk_laws.proofs.Exchanges.{histories_compare}
 use Rattle.mk_laws.proofs.ImagesHistories.{histories_refine, reached_is_unreleased}
-use Rattle.mk_laws.proofs.KnownWorlds.{KnownWorld, known_world}
 use Rattle.mk_laws.proofs.GuardHistories.{close_finds_marks_closed, marking_guards, stopped_marks_are_closed}
 use Rattle.mk_laws.specs.Theorems.{AllocationsAreDisjoint, AllocationsStand, ClosesFindMarksClosed}
 use Rattle.mk_laws.specs.Theorems.{FirstFitFindsThePlace, GuardsBlackCells, KeepsTheReach, MarksStayClosed}
-use Rattle.mk_laws.specs.Theorems.{OfHistories, PagesShowTheStorage}
+use Rattle.mk_laws.specs.Theorems.{PagesShowTheStorage}
 use Rattle.mk_laws.proofs.InvariantHistories.{histories_keep_the_invariant}
 use Rattle.mk_laws.proofs.InvariantJoined.{told_to_guard, told_to_images}
 

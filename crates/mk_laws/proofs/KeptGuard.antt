@@ -1,13 +1,11 @@
 -- What a change must leave for words to stay guarded, and for scans to stand.
-use Rattle.std.proofs.Common.{◌≡◌, ◌≢◌, ◌⊎◌, ℕ, ◌+◌, ◌*◌, ◌/◌, ◌<◌, ◌≤◌, Bool, true, false, refl, sym, ◌∙◌, ap, subst}
-use Rattle.std.proofs.Common.{inl, inr, arith}
-use Rattle.std.specs.Prelude.{Option, Some, slice_index}
-use Rattle.std.proofs.lemmas.Bool.{true≢false, cases_eq}
-use Rattle.mk_laws.proofs.Vocabulary.{BlackIsGuarded, Cell, Config, DirtyIsOwed, IsGuarded, Moment, OnlyGrow}
-use Rattle.mk_laws.proofs.Vocabulary.{OwesDirty, PageIsDirty, PointsWell, Scan, Words, cells_under, first_word}
-use Rattle.mk_laws.proofs.Vocabulary.{has_bit, has_no_pointers, header_at, header_in, header_of, words_under}
-use Rattle.mk_core.specs.declared.seats.Marker.{Marker}
-use Rattle.mk_laws.specs.Guard.{HeaderGoesOn, cell_scanned, ScanStands, MarkerStands}
+use Rattle.mk_laws.proofs.Vocabulary.{BlackIsGuarded, Bool, Cell, Config, DirtyIsOwed, HeaderGoesOn, IsGuarded}
+use Rattle.mk_laws.proofs.Vocabulary.{MarkerStands, MarkerState as Marker, Moment, OnlyGrow, Option, OwesDirty}
+use Rattle.mk_laws.proofs.Vocabulary.{PageIsDirty, PointsWell, Scan, ScanStands, Some, Words, arith, cases_eq}
+use Rattle.mk_laws.proofs.Vocabulary.{cells_under, false, first_word, has_bit, has_no_pointers, header_at, header_in}
+use Rattle.mk_laws.proofs.Vocabulary.{header_of, inl, inr, refl, slice_index, sym, true, true≢false, words_under, ℕ}
+use Rattle.mk_laws.proofs.Vocabulary.{◌*◌, ◌+◌, ◌/◌, ◌<◌, ◌∙◌, ◌≡◌, ◌≢◌, ◌⊎◌}
+use Rattle.mk_laws.specs.Guard.{cell_scanned}
 use Rattle.mk_laws.proofs.Wells.{IsWell, is_well, well_guarded}
 
 pub goes_same : (pages a : ℕ) → HeaderGoesOn pages a a

@@ -1,10 +1,9 @@
 -- All that is known of a moment after an enabled list, of whatever calls.
-use Rattle.std.proofs.Common.{◌≡◌, ◌≤◌, true, List, [], ◌∷◌, refl, sym, ◌∙◌, subst}
-use Rattle.mk_laws.proofs.Vocabulary.{AreEnabled, AreEnabledFrom, Caller, Config, Event, Flight, Holds, Host}
-use Rattle.mk_laws.proofs.Vocabulary.{IsEnabled, IsWithinLimits, Marker, Moment, Seat, World, at_rest, first_moment}
-use Rattle.mk_laws.proofs.Vocabulary.{first_world, flight_of, has_operands, left, left_from, world_behind}
+use Rattle.mk_laws.proofs.Vocabulary.{AreEnabled, AreEnabledFrom, Caller, Config, Event, Holds, IsEnabled}
+use Rattle.mk_laws.proofs.Vocabulary.{IsWithinLimits, List, Moment, Seat, World, [], at_rest, enabled_meets}
+use Rattle.mk_laws.proofs.Vocabulary.{first_moment, first_world, flight_of, left, left_from, refl, world_behind, ◌∙◌}
+use Rattle.mk_laws.proofs.Vocabulary.{◌∷◌, ◌≤◌}
 use Rattle.mk_core.specs.Effects.{moment_behind}
-use Rattle.mk_core.proofs.Conditions.{enabled_meets}
 use Rattle.mk_laws.proofs.Standings.{in_turn_told, under_turn_is, standing}
 use Rattle.mk_laws.proofs.Views.{view_of, HoldsTurn}
 use Rattle.mk_laws.proofs.Orderly.{Orderly}

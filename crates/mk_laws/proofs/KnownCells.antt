@@ -1,29 +1,20 @@
 -- Each freed bit is that of a cell of its page, after each event.
-use Rattle.std.proofs.Common.{List, ap, arith, false, inl, inr, length, refl, sym, true, ℕ, ◌%◌, ◌-◌, ◌/◌, ◌<◌, ◌^◌}
-use Rattle.std.proofs.Common.{◌∙◌, ◌≡◌}
-use Rattle.std.specs.Prelude.{Option, Some, not, slice_index, slice_set}
-use Rattle.std.proofs.lemmas.Bool.{and_parts, cases_Bool, cases_eq, ltb-true, true≢false}
-use Rattle.mk_laws.proofs.Vocabulary.{Cell, Config, Flight, Header, Later, Page, PlacedAllocation, Seat, Step}
-use Rattle.mk_laws.proofs.Vocabulary.{World, cell_of_allocation, cells_made, cells_under, flight_of, has_bit}
-use Rattle.mk_laws.proofs.Vocabulary.{head_page_under, header_in, is_phase, object_placed, placed_at}
+use Rattle.mk_laws.proofs.Vocabulary.{Cell, Config, Empties, Flight, HeadStep, Header, IsQuarantined, ItCarves, ItDrops}
+use Rattle.mk_laws.proofs.Vocabulary.{ItEmpties, ItFrees, ItTakesSnapshot, ItUnmaps, Later, LayoutStands, List, Option}
+use Rattle.mk_laws.proofs.Vocabulary.{Page, PlacedAllocation, QuarantineStep, Seat, Some, Step, World, and_parts, ap}
+use Rattle.mk_laws.proofs.Vocabulary.{arith, cases_Bool, cases_eq, cell_of_allocation, cells_made, cells_under}
+use Rattle.mk_laws.proofs.Vocabulary.{claim_of, false, flight_of, ground_of, has_bit, has_bit_without, head_page_under}
+use Rattle.mk_laws.proofs.Vocabulary.{head_step, header_in, inl, inr, is_phase, layout_scene_of, length, ltb-true, not}
+use Rattle.mk_laws.proofs.Vocabulary.{object_now, object_placed, placed_at, quarantine_step, refl, shows_on}
+use Rattle.mk_laws.proofs.Vocabulary.{slice_index, slice_set, sym, true, true≢false, ℕ, ◌%◌, ◌-◌, ◌/◌, ◌<◌, ◌^◌, ◌∙◌}
+use Rattle.mk_laws.proofs.Vocabulary.{◌≡◌}
+use Rattle.mk_laws.proofs.Basics.{Before, Meets, WorldBehind, bit_cases, headed_other, is_releasing_behind, none_set}
+use Rattle.mk_laws.proofs.Basics.{page_within, reg_leaves_ground, tally_ground, used_header, with_header_on}
 use Rattle.mk_core.specs.declared.events.Step.TheVariants as step
-use Rattle.mk_core.proofs.BitsWithout.{has_bit_without}
-use Rattle.mk_core.proofs.PageSteps.{Empties, HeadStep, ItCarves, ItDrops, ItEmpties, ItFrees, ItTakesSnapshot}
-use Rattle.mk_core.proofs.PageSteps.{ItUnmaps, QuarantineStep, head_step, quarantine_step}
-use Rattle.mk_laws.proofs.Actors.{Meets}
-use Rattle.mk_laws.proofs.Ground.{tally_ground}
-use Rattle.mk_laws.proofs.OthersMoves.{WorldBehind}
-use Rattle.mk_laws.specs.Quarantine.{FreedCellsAreKnown, IsQuarantined}
-use Rattle.mk_laws.specs.LayoutScene.{shows_on}
-use Rattle.mk_laws.specs.Ground.{ground_of}
-use Rattle.mk_laws.specs.Terrain.{LayoutStands, claim_of, object_now, layout_scene_of}
-use Rattle.mk_laws.proofs.LayoutBefore.{Before, is_releasing_behind, page_within, reg_leaves_ground}
+use Rattle.mk_laws.specs.Quarantine.{FreedCellsAreKnown}
 use Rattle.mk_laws.proofs.Behind.{phase_kind}
 use Rattle.mk_laws.proofs.LayoutByKind.{off_at}
-use Rattle.mk_laws.proofs.PageSets.{headed_other, used_header, with_header_on}
 use Rattle.mk_laws.proofs.QuarantineByKind.{shown_at}
-use Rattle.mk_laws.proofs.QuarantineSteps.{bit_cases}
-use Rattle.mk_laws.proofs.LayoutReadings.{none_set}
 use Rattle.mk_laws.proofs.Unmapping.{cells_at_claim}
 
 -- While the phase isn't releasing, a freed bit is that of an allocation's cell, which its page has.

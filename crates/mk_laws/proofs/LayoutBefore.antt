@@ -1,18 +1,13 @@
 -- What is known of a world before an event, and what is to show after it.
-use Rattle.std.proofs.Common.{Bool, arith, false, length, true, ℕ, ◌<◌, ◌≡◌}
-use Rattle.std.specs.Prelude.{nat_lt}
-use Rattle.std.proofs.lemmas.Bool.{ltb-true}
-use Rattle.mk_laws.proofs.Vocabulary.{AreOfPages, Config, Flight, IsWithinLimits, Seat, Step, World, caller_number}
-use Rattle.mk_laws.proofs.Vocabulary.{flight_of, is_phase, reg_access, register_met}
+use Rattle.mk_laws.proofs.Vocabulary.{Among, AreOfPages, Bool, Claim, Config, Flight, Ground, IsWithinLimits}
+use Rattle.mk_laws.proofs.Vocabulary.{LayoutPremises, Seat, Step, World, arith, caller_number, claims_on, false}
+use Rattle.mk_laws.proofs.Vocabulary.{flight_of, ground_of, is_phase, is_released_in, length, ltb-true, nat_lt}
+use Rattle.mk_laws.proofs.Vocabulary.{object_now, reg_access, register_met, true, ℕ, ◌<◌, ◌≡◌}
 use Rattle.mk_core.specs.declared.events.Step.TheVariants as step
 use Rattle.mk_laws.proofs.Ground.{KeepsGround, reg_ground}
 use Rattle.mk_laws.proofs.Known.{Known}
 use Rattle.mk_laws.proofs.OthersMoves.{WorldBehind}
 use Rattle.mk_laws.proofs.SameWords.{reg_keeps, Keeps}
-use Rattle.mk_laws.specs.LayoutLaws.{LayoutPremises}
-use Rattle.mk_laws.specs.LayoutScene.{Among, Claim, is_released_in}
-use Rattle.mk_laws.specs.Ground.{Ground, ground_of}
-use Rattle.mk_laws.specs.Terrain.{claims_on, object_now}
 use Rattle.mk_laws.proofs.Serving.{Laid}
 
 -- all that is known of the world before

@@ -1,35 +1,28 @@
 -- What each kind of event makes of the terrain.
-use Rattle.std.proofs.Common.{Bool, List, ap, arith, false, map, refl, sym, true, ℕ, ◌*◌, ◌++◌, ◌∙◌, ◌∷◌, ◌≡◌, ◌≢◌, []}
-use Rattle.std.specs.Prelude.{None, Option, Some, if◌then◌else◌, not, slice_index, ◌&&◌, ◌==◌}
-use Rattle.std.proofs.lemmas.Bool.{and_parts, and_right, eqb-true, false_from_ne_true, ne_eqb, true≢false}
-use Rattle.mk_laws.proofs.Vocabulary.{Chosen, Config, Flight, Granted, Object, Op, PlacedAllocation, Placing}
-use Rattle.mk_laws.proofs.Vocabulary.{RunPages, Seat, Step, Unplaced, Used, Words, World, chosen, decided}
-use Rattle.mk_laws.proofs.Vocabulary.{flight_of, granted, has_bit, header_at, held_by_pages, is_decided, is_phase}
-use Rattle.mk_laws.proofs.Vocabulary.{is_run_gone, is_run_unmapped, is_undecided_new, is_used_once, marks_place}
-use Rattle.mk_laws.proofs.Vocabulary.{may_end, no_longer_fresh, nothing_done, object_made, object_placed, phase_of}
-use Rattle.mk_laws.proofs.Vocabulary.{place_now, with_released, words_are_zero}
+use Rattle.mk_laws.proofs.Vocabulary.{Bool, Config, Flight, Granted, Ground, HasLayout, LayoutScene, LayoutStands, List}
+use Rattle.mk_laws.proofs.Vocabulary.{None, Object, Op, Option, PlacedAllocation, Placing, RunPages, Seat, Some, Step}
+use Rattle.mk_laws.proofs.Vocabulary.{Unplaced, Used, Words, World, [], and_parts, and_right, ap, arith, chosen}
+use Rattle.mk_laws.proofs.Vocabulary.{claims_of, decided, eqb-true, false, false_from_ne_true, flight_of, fresh_leaves}
+use Rattle.mk_laws.proofs.Vocabulary.{granted, granted_base_is, granted_object, granted_type, ground_of, has_bit}
+use Rattle.mk_laws.proofs.Vocabulary.{has_place, header_at, held_by_pages, if◌then◌else◌, is_decided, is_phase}
+use Rattle.mk_laws.proofs.Vocabulary.{is_run_gone, is_run_unmapped, is_undecided_new, is_used_once, layout_scene_of}
+use Rattle.mk_laws.proofs.Vocabulary.{map, marks_is, marks_place, may_end, ne_eqb, no_longer_fresh, not, nothing_done}
+use Rattle.mk_laws.proofs.Vocabulary.{object_made, object_now, object_placed, phase_of, place_now, placed_now, refl}
+use Rattle.mk_laws.proofs.Vocabulary.{slice_index, sym, true, true≢false, undecided_new, with_released, words_are_zero}
+use Rattle.mk_laws.proofs.Vocabulary.{ℕ, ◌&&◌, ◌*◌, ◌++◌, ◌==◌, ◌∙◌, ◌∷◌, ◌≡◌, ◌≢◌}
+use Rattle.mk_laws.proofs.Basics.{Before, Laid, LeavesCells, Meets, WorldBehind, first_header, gone_terrain, grants_new}
+use Rattle.mk_laws.proofs.Basics.{holding_object, made_sized, new_has_turn, placed_undecided, reg_leaves_ground}
+use Rattle.mk_laws.proofs.Basics.{tally_ground}
 use Rattle.mk_core.specs.declared.events.Step.TheVariants as step
-use Rattle.mk_core.proofs.ChangedAllocations.{fresh_leaves}
-use Rattle.mk_core.proofs.GrantedAllocations.{granted_base_is, granted_object, granted_type}
-use Rattle.mk_core.proofs.PlacesNow.{placed_now, undecided_new}
-use Rattle.mk_core.proofs.ServingSteps.{marks_is}
-use Rattle.mk_laws.specs.Protocol.{has_place}
-use Rattle.mk_laws.proofs.Actors.{Meets, grants_new}
-use Rattle.mk_laws.proofs.Ground.{KeepsGround, tally_ground}
-use Rattle.mk_laws.proofs.OthersMoves.{WorldBehind}
-use Rattle.mk_laws.specs.LayoutScene.{LayoutScene}
-use Rattle.mk_laws.specs.Ground.{Ground, ground_of}
-use Rattle.mk_laws.specs.Terrain.{HasLayout, LayoutStands, claims_of, object_now, layout_scene_of}
-use Rattle.mk_laws.proofs.LayoutBefore.{Before, LaidBehind, LaidNow, reg_leaves_ground}
-use Rattle.mk_laws.proofs.Claims.{LeavesCells, cells_behind}
+use Rattle.mk_laws.proofs.Ground.{KeepsGround}
+use Rattle.mk_laws.proofs.LayoutBefore.{LaidBehind, LaidNow}
+use Rattle.mk_laws.proofs.Claims.{cells_behind}
 use Rattle.mk_laws.proofs.Dropped.{ended}
-use Rattle.mk_laws.proofs.Freed.{gone_terrain}
 use Rattle.mk_laws.proofs.Granted.{granted_terrain}
-use Rattle.mk_laws.proofs.LayoutHolders.{first_header, giver_has_turn, holding_object, made_sized, new_has_turn}
-use Rattle.mk_laws.proofs.LayoutHolders.{placed_undecided, seat_operands}
+use Rattle.mk_laws.proofs.LayoutHolders.{giver_has_turn, seat_operands}
 use Rattle.mk_laws.proofs.LayoutPageKinds.{head_kind, quar_kind, used_kind}
 use Rattle.mk_laws.proofs.Released.{released_terrain}
-use Rattle.mk_laws.proofs.Serving.{Laid, mark_places}
+use Rattle.mk_laws.proofs.Serving.{mark_places}
 
 -- `grant`
 grant_kind : (c : Config) (w : World) (seat : Seat) → Before c w → Meets c w.now seat step.Grant → LayoutStands c w
@@ -47,9 +40,6 @@ grant_kind c w seat b h laid = by w.now.seats.holding.placing refl h.holder
           placing = Granted;
           allocations = w.allocations ++ granted c w.now (flight_of w.now seat) ∷ [];
         })
-    by Unplaced is k = cc
-    by (Chosen place) is k = cc
-    by Granted is k = cc
     by (Used place) is k =
         let f : Flight = flight_of w.now seat in
         let a : PlacedAllocation = granted c w.now f in
@@ -63,6 +53,7 @@ grant_kind c w seat b h laid = by w.now.seats.holding.placing refl h.holder
           freed = refl;
           unreleased = refl;
         }) (rw own at laid))
+    by _ is k = cc
 
 -- `mark`
 mark_kind : (c : Config) (w : World) (seat : Seat) (p n : ℕ) → Before c w → Meets c w.now seat (step.Mark p n)
@@ -118,8 +109,6 @@ placeless c o other releasing marks t placing is none st = by placing is none (r
     by : (placing : Placing) → t.placing ≡ placing → has_place placing ≡ false
         → HasLayout c o releasing marks (record t { placing = placing })
         → HasLayout c other releasing marks t × HasLayout c other releasing marks (record t { placing = Unplaced })
-    by (Chosen place) is none s = cc
-    by (Used place) is none s = cc
     by Unplaced is none s =
         let x : HasLayout c other releasing marks (record t { placing = Unplaced }) =
         record { scene = s.scene; gone = s.gone; first = tt; cells = s.cells } in
@@ -130,6 +119,7 @@ placeless c o other releasing marks t placing is none st = by placing is none (r
           rw is x,
           record { scene = s.scene; gone = s.gone; first = tt; cells = s.cells },
         )
+    by _ is none s = cc
 
 -- `give`: the seat has decided, so it has no place, and its run is gone
 undecided_waits : (f : Flight) → is_undecided_new f ≡ true → is_decided f.stage ≡ true → ⊥

@@ -1,34 +1,25 @@
 -- All is in order after every list of enabled events.
-use Rattle.std.proofs.Common.{Bool, List, ap, arith, false, refl, subst, sym, true, ℕ, ◌∙◌, ◌∷◌, ◌≡◌, []}
-use Rattle.std.specs.Prelude.{Some, replicate, slice_index, slice_index_or}
-use Rattle.std.proofs.lemmas.Bool.{true≢false}
-use Rattle.mk_laws.proofs.Vocabulary.{AreEnabledFrom, AreOfPages, Config, Event, IsEnabled, IsHeaderWord}
-use Rattle.mk_laws.proofs.Vocabulary.{IsWithinLimits, Later, Page, Seat, Step, World, access, first_world}
-use Rattle.mk_laws.proofs.Vocabulary.{free_page, header_of, heads_run, is_phase, left, left_from, word_accessed}
-use Rattle.mk_laws.proofs.Vocabulary.{world_behind}
-use Rattle.mk_core.proofs.Conditions.{enabled_meets}
+use Rattle.std.specs.Prelude.{replicate}
+use Rattle.mk_laws.proofs.Vocabulary.{AreEnabledFrom, AreOfPages, Bool, Config, Event, HasQuarantine, IsEnabled}
+use Rattle.mk_laws.proofs.Vocabulary.{IsHeaderWord, IsQuarantined, IsWithinLimits, Later, LayoutPremises}
+use Rattle.mk_laws.proofs.Vocabulary.{LayoutPremisesFrom, LayoutStands, List, NoPlot, Page, Seat, Some, StandsInOrder}
+use Rattle.mk_laws.proofs.Vocabulary.{Step, World, [], access, accessed_lengths, ap, arith, enabled_meets, false}
+use Rattle.mk_laws.proofs.Vocabulary.{first_world, free_page, ground_of, header_of, heads_run, histories_keep_lengths}
+use Rattle.mk_laws.proofs.Vocabulary.{is_phase, left, left_from, object_now, refl, slice_index, slice_index_or, subst}
+use Rattle.mk_laws.proofs.Vocabulary.{sym, true, true≢false, word_accessed, world_behind, zero_lengths, ℕ, ◌∙◌, ◌∷◌}
+use Rattle.mk_laws.proofs.Vocabulary.{◌≡◌}
+use Rattle.mk_laws.proofs.Basics.{Before, Known, Meets, WorldBehind, at_first, is_releasing_behind, known_at_first}
+use Rattle.mk_laws.proofs.Basics.{known_behind, known_left, none_set}
 use Rattle.mk_core.proofs.EvaluatedHistories.{enabled}
-use Rattle.mk_core.proofs.Lengths.{accessed_lengths, histories_keep_lengths, zero_lengths}
-use Rattle.mk_laws.proofs.Actors.{Meets}
-use Rattle.mk_laws.proofs.Known.{Known, known_at_first, known_behind, known_left}
-use Rattle.mk_laws.proofs.OthersMoves.{WorldBehind}
-use Rattle.mk_laws.proofs.OrderlyLists.{at_first}
 use Rattle.mk_laws.specs.LayoutLaws.{EventsKeepTheLayout, LayoutHasFewResidentPages, HistoriesAreLaidOut}
-use Rattle.mk_laws.specs.LayoutLaws.{LayoutPremises}
-use Rattle.mk_laws.specs.LayoutLaws.{LayoutPremisesFrom, LayoutHasHeaderWords, StandsInOrder}
-use Rattle.mk_laws.specs.Quarantine.{HasQuarantine, IsQuarantined}
+use Rattle.mk_laws.specs.LayoutLaws.{LayoutHasHeaderWords}
 use Rattle.mk_laws.specs.Room.{is_taken_page}
-use Rattle.mk_laws.specs.LayoutScene.{NoPlot}
-use Rattle.mk_laws.specs.Ground.{ground_of}
-use Rattle.mk_laws.specs.Terrain.{LayoutStands, object_now}
-use Rattle.mk_laws.proofs.LayoutBefore.{Before, is_releasing_behind}
 use Rattle.mk_laws.proofs.Behind.{layout_behind, phase_kind, releasing_marks}
 use Rattle.mk_laws.proofs.Counts.{count_none}
 use Rattle.mk_laws.proofs.HeaderWords.{words_behind}
 use Rattle.mk_laws.proofs.KnownCells.{cells_known_behind}
 use Rattle.mk_laws.proofs.QuarantineByKind.{quarantine_by_kind}
 use Rattle.mk_laws.proofs.QuarantineSteps.{none_released, unmarked}
-use Rattle.mk_laws.proofs.LayoutReadings.{none_set}
 use Rattle.mk_laws.proofs.ResidentPages.{resident_few}
 use Rattle.mk_laws.proofs.Rooms.{room_behind}
 use Rattle.mk_laws.proofs.SnapshotKinds.{snapshot_behind}

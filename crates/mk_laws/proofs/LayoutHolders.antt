@@ -1,18 +1,15 @@
 -- Who serves: the holder of the turn, its object, and how far it is.
-use Rattle.std.proofs.Common.{arith, false, refl, sym, true, ◌-◌, ◌∙◌, ◌≡◌, ◌≢◌}
-use Rattle.std.specs.Prelude.{None, Option, Some}
-use Rattle.std.proofs.lemmas.Bool.{ltb-true}
-use Rattle.mk_laws.proofs.Vocabulary.{Caller, Config, IsSized, IsWithinLimits, Moment, Object, Op, RunPages, Seat}
-use Rattle.mk_laws.proofs.Vocabulary.{Stage, Step, flight_of, group_of, has_operands, header_made, is_free_at}
-use Rattle.mk_laws.proofs.Vocabulary.{is_undecided_free, is_undecided_new, object_made, seat_exists}
+use Rattle.mk_laws.proofs.Vocabulary.{Caller, Config, IsSized, IsWithinLimits, Moment, None, Object, Op, Option}
+use Rattle.mk_laws.proofs.Vocabulary.{RunPages, Seat, Some, Stage, Step, arith, false, flight_of, group_of}
+use Rattle.mk_laws.proofs.Vocabulary.{has_operands, has_place, header_made, is_decided_free_at, is_free_at}
+use Rattle.mk_laws.proofs.Vocabulary.{is_undecided_free, is_undecided_new, ltb-true, made_shows, object_made}
+use Rattle.mk_laws.proofs.Vocabulary.{object_now, pages_some, part_not_free, refl, seat_exists, sym, true, ◌-◌, ◌∙◌}
+use Rattle.mk_laws.proofs.Vocabulary.{◌≡◌, ◌≢◌}
 use Rattle.mk_never.specs.declared.operations.Op.TheVariants as op
 use Rattle.mk_core.specs.declared.events.Group.TheVariants as group
 use Rattle.mk_core.specs.declared.events.Step.TheVariants as step
 use Rattle.mk_core.specs.declared.seats.Stage.TheVariants as stage
 use Rattle.mk_core.proofs.GrantedAllocations.{new_sized}
-use Rattle.mk_core.proofs.ObjectHeaders.{made_shows, part_not_free}
-use Rattle.mk_core.proofs.Sizes.{pages_some}
-use Rattle.mk_laws.specs.Protocol.{has_place, is_decided_free_at}
 use Rattle.mk_laws.proofs.Actors.{Actor, AsHolder, AsMarker, CallTakes, HostTakes, InCallOf, Meets}
 use Rattle.mk_laws.proofs.Known.{Known}
 use Rattle.mk_laws.proofs.NextSteps.{is_take}
@@ -21,7 +18,6 @@ use Rattle.mk_laws.proofs.OrderlyLists.{actor_of}
 use Rattle.mk_laws.proofs.Stages.{new_stands}
 use Rattle.mk_laws.proofs.Standings.{UnderTurn, standing_at}
 use Rattle.mk_laws.proofs.Views.{HoldsTurn, flight_is, view_of}
-use Rattle.mk_laws.specs.Terrain.{object_now}
 
 -- A seat with an undecided New or Free holds the turn.
 free_stands : (s : Stage) (o : Op) → is_free_at s o ≡ true → standing_at s o ≡ UnderTurn

@@ -1,6 +1,5 @@
 -- Lists of claims that are joined.
-use Rattle.std.proofs.Common.{List, inl, inr, refl, ◌++◌, ◌∷◌, ◌⊎◌, []}
-use Rattle.mk_laws.specs.LayoutScene.{Among, AreApart, Claim, IsOfOneCell}
+use Rattle.mk_laws.proofs.Vocabulary.{Among, AreApart, Claim, IsOfOneCell, List, [], inl, inr, refl, ◌++◌, ◌∷◌, ◌⊎◌}
 
 pub among_front : (xs ys : List Claim) (x : Claim) → Among x xs → Among x (xs ++ ys)
 among_front [] ys x i = absurd i

@@ -1,27 +1,20 @@
 -- What the steps that store a page's words make of the terrain: `head`, `used`, `quar`.
-use Rattle.std.proofs.Common.{Bool, arith, false, length, map, refl, sym, true, ℕ, ◌%◌, ◌/◌, ◌<◌, ◌^◌, ◌≡◌}
-use Rattle.std.specs.Prelude.{None, Option, Some, if◌then◌else◌, slice_set}
-use Rattle.std.proofs.lemmas.Bool.{eqb-true, ne_eqb}
-use Rattle.mk_laws.proofs.Vocabulary.{Cell, Config, Flight, Place, Placing, Seat, Unplaced, Used, World, cell_freed}
-use Rattle.mk_laws.proofs.Vocabulary.{chosen, flight_of, freed_where_it_stands, is_phase, object_made, or_else}
-use Rattle.mk_laws.proofs.Vocabulary.{phase_of, place_now, run_of_cell, seat_exists, taken}
+use Rattle.mk_laws.proofs.Vocabulary.{Bool, Cell, Config, Flight, Ground, HeadStep, ItCarves, ItDrops, ItEmpties}
+use Rattle.mk_laws.proofs.Vocabulary.{ItFrees, ItGivesBack, ItTakes, ItTakesSnapshot, ItUnmaps, LayoutStands, None}
+use Rattle.mk_laws.proofs.Vocabulary.{Option, Place, Placing, QuarantineStep, Seat, Some, Unplaced, Used, UsedStep}
+use Rattle.mk_laws.proofs.Vocabulary.{World, arith, cell_freed, chosen, eqb-true, false, flight_of, freed_cell}
+use Rattle.mk_laws.proofs.Vocabulary.{freed_where_it_stands, ground_of, head_step, if◌then◌else◌, is_phase, length, map}
+use Rattle.mk_laws.proofs.Vocabulary.{ne_eqb, none_freed, object_made, object_now, or_else, phase_of, place_now}
+use Rattle.mk_laws.proofs.Vocabulary.{placed_now, quarantine_step, refl, run_of_cell, seat_exists, slice_set, sym}
+use Rattle.mk_laws.proofs.Vocabulary.{taken, true, undecided_free, undecided_new, used_step, ℕ, ◌%◌, ◌/◌, ◌<◌, ◌^◌, ◌≡◌}
+use Rattle.mk_laws.proofs.Basics.{Before, Laid, Meets, WorldBehind, first_header, free_has_turn, holding_object}
+use Rattle.mk_laws.proofs.Basics.{made_sized, new_has_turn, no_run, none_on_its_way, page_within, with_header_on}
+use Rattle.mk_laws.proofs.Basics.{with_used_on}
 use Rattle.mk_core.specs.declared.events.Step.TheVariants as step
-use Rattle.mk_core.proofs.ChangedAllocations.{none_freed}
-use Rattle.mk_core.proofs.PageSteps.{HeadStep, ItCarves, ItDrops, ItEmpties, ItFrees, ItGivesBack, ItTakes}
-use Rattle.mk_core.proofs.PageSteps.{ItTakesSnapshot, ItUnmaps, QuarantineStep, UsedStep, head_step, quarantine_step}
-use Rattle.mk_core.proofs.PageSteps.{used_step}
-use Rattle.mk_core.proofs.PlacesNow.{freed_cell, placed_now, undecided_free, undecided_new}
-use Rattle.mk_laws.proofs.Actors.{Meets}
-use Rattle.mk_laws.proofs.OthersMoves.{WorldBehind}
-use Rattle.mk_laws.specs.Ground.{Ground, ground_of}
-use Rattle.mk_laws.specs.Terrain.{LayoutStands, object_now}
-use Rattle.mk_laws.proofs.LayoutBefore.{Before, LaidNow, page_within}
+use Rattle.mk_laws.proofs.LayoutBefore.{LaidNow}
 use Rattle.mk_laws.proofs.Dropped.{dropped, refreed, unreleasing}
 use Rattle.mk_laws.proofs.Freed.{freed_terrain}
-use Rattle.mk_laws.proofs.LayoutHolders.{first_header, free_has_turn, holding_object, made_sized, new_has_turn, no_run}
-use Rattle.mk_laws.proofs.LayoutHolders.{none_on_its_way}
-use Rattle.mk_laws.proofs.PageSets.{with_header_on, with_used_on}
-use Rattle.mk_laws.proofs.Serving.{Laid, head_carves, head_empties, head_unmaps, used_gives_back, used_takes}
+use Rattle.mk_laws.proofs.Serving.{head_carves, head_empties, head_unmaps, used_gives_back, used_takes}
 use Rattle.mk_laws.proofs.Ground.{with_quarantine}
 
 -- `head`

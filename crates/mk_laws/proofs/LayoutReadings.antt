@@ -1,11 +1,11 @@
 -- What a laid out scene says of one page.
-use Rattle.std.proofs.Common.{List, arith, inl, inr, sym, true, ℕ, ◌+◌, ◌<◌, ◌∙◌, ◌∷◌, ◌≡◌, ◌≢◌, []}
-use Rattle.std.proofs.lemmas.Bool.{false_from_ne_true, true≢false}
-use Rattle.mk_laws.proofs.Vocabulary.{IsHeaderOf, Object, Page, ShowsPart, cells_under, has_bit, pages_made}
-use Rattle.mk_core.proofs.ObjectHeaders.{header_shows, part_head, part_not_free}
-use Rattle.mk_core.proofs.WordBits.{no_bit, zero_from_bits}
-use Rattle.mk_laws.specs.LayoutScene.{Among, AreApart, Claim, HasHeader, IsLaidOn, IsOfOneCell, IsShown, Mapped, Mode}
-use Rattle.mk_laws.specs.LayoutScene.{LayoutScene, Unmapped, Unmapping, head_on, header_on, shows_on, used_on}
+use Rattle.mk_laws.proofs.Vocabulary.{Among, AreApart, Claim, HasHeader, IsHeaderOf, IsLaidOn, IsOfOneCell, IsShown}
+use Rattle.mk_laws.proofs.Vocabulary.{LayoutScene, List, Mapped, Mode, Object, Page, ShowsPart, Unmapping, [], arith}
+use Rattle.mk_laws.proofs.Vocabulary.{cells_under, false_from_ne_true, has_bit, head_on, header_on, header_shows, inl}
+use Rattle.mk_laws.proofs.Vocabulary.{inr, no_bit, pages_made, part_head, part_not_free, shows_on, sym, true}
+use Rattle.mk_laws.proofs.Vocabulary.{true≢false, used_on, ℕ, ◌+◌, ◌<◌, ◌∙◌, ◌∷◌, ◌≡◌, ◌≢◌}
+use Rattle.mk_core.proofs.WordBits.{zero_from_bits}
+use Rattle.mk_laws.specs.LayoutScene.{Unmapped}
 
 -- a word with no bit is 0, and 0 has none
 pub zero_where_none : (n : ℕ) → ((k : ℕ) → has_bit n k ≡ true → ⊥) → n ≡ 0

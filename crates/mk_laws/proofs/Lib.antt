@@ -209,3 +209,4 @@ pub mod UnmappedRuns
 pub mod UnsetWords
 pub mod AppliedPlacement
 pub mod Promises
+pub mod Basics

@@ -1,16 +1,13 @@
 -- Cycles and turns in lists that go on.
-use Rattle.std.proofs.Common.{◌≡◌, Bool, false, List, ◌∷◌, ◌++◌, sym, ◌∙◌, ap, append_assoc, []}
-use Rattle.std.specs.Prelude.{◌&&◌}
-use Rattle.mk_laws.proofs.Vocabulary.{Config, Event, Seat, TurnOf, World, first_world, left, left_from}
-use Rattle.mk_laws.proofs.Vocabulary.{world_behind}
+use Rattle.mk_laws.proofs.Vocabulary.{Bool, Config, Event, List, Seat, TurnOf, World, [], ap, append_assoc, false}
+use Rattle.mk_laws.proofs.Vocabulary.{first_world, left, left_append, left_from, sym, world_behind, ◌&&◌, ◌++◌, ◌∙◌}
+use Rattle.mk_laws.proofs.Vocabulary.{◌∷◌, ◌≡◌}
 use Rattle.mk_core.specs.declared.events.Step.TheVariants as step
 use Rattle.mk_core.specs.Cycles.{is_give}
 use Rattle.mk_core.specs.Growing.{is_same_seat}
 use Rattle.mk_core.specs.Placement.{FirstServed, NoneServesFrom, event_serves}
-use Rattle.mk_core.proofs.Histories.{left_append}
 pub use Rattle.mk_laws.proofs.ProtocolLongerLists.{longer_at, longer_cycle, longer_marking, longer_next}
-pub use Rattle.mk_laws.proofs.ProtocolLongerLists.{longer_releasing}
-pub use Rattle.mk_laws.proofs.ProtocolLongerLists.{next_at_end, none_more}
+pub use Rattle.mk_laws.proofs.ProtocolLongerLists.{longer_releasing, next_at_end, none_more}
 
 -- The event gives the seat's turn back.
 abbrev pub gives_turn : Seat → Event → Bool

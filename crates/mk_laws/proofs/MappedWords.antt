@@ -1,17 +1,14 @@
 -- Words of mapped allocations, after a change of the allocations.
-use Rattle.std.proofs.Common.{◌≡◌, ℕ, ◌+◌, ◌<◌, ◌≤◌, Bool, true, false, List, ◌∷◌, ◌++◌, length, map, sym, ◌∙◌, ap, []}
-use Rattle.std.proofs.Common.{subst, inl, inr, arith}
-use Rattle.std.specs.Prelude.{not, ◌&&◌}
-use Rattle.std.proofs.lemmas.Bool.{and_parts, and_from, not-true, cases_lt, true≢false}
-use Rattle.std.proofs.lemmas.List.{get_or_past}
-use Rattle.mk_laws.proofs.Vocabulary.{Config, HasItsHeaders, IsWithinLimits, IsWordOf, PlacedAllocation}
-use Rattle.mk_laws.proofs.Vocabulary.{StandsOnHeap, Words, cell_of_allocation, is_large, is_left_unmarked}
-use Rattle.mk_laws.proofs.Vocabulary.{is_mapped, kinds_of, never_granted, no_longer_fresh, placed_at, storage_of}
-use Rattle.mk_laws.proofs.Vocabulary.{storage_words, with_released, words_made}
+use Rattle.mk_laws.proofs.Vocabulary.{Bool, Config, HasItsHeaders, IsWithinLimits, IsWordOf, IsWordOfMapped}
+use Rattle.mk_laws.proofs.Vocabulary.{LeavesPlaces, List, PlacedAllocation, StandsOnHeap, Words, [], and_from}
+use Rattle.mk_laws.proofs.Vocabulary.{and_parts, ap, arith, cases_lt, cell_of_allocation, changed_at, false}
+use Rattle.mk_laws.proofs.Vocabulary.{fresh_leaves, get_or_past, inl, inr, is_large, is_left_unmarked, is_mapped}
+use Rattle.mk_laws.proofs.Vocabulary.{kinds_of, length, map, never_granted, no_longer_fresh, not, not-true, placed_at}
+use Rattle.mk_laws.proofs.Vocabulary.{released_leaves, released_where_left, storage_of, storage_words, subst, sym, true}
+use Rattle.mk_laws.proofs.Vocabulary.{true≢false, with_released, words_made, ℕ, ◌&&◌, ◌++◌, ◌+◌, ◌<◌, ◌∙◌, ◌∷◌, ◌≡◌}
+use Rattle.mk_laws.proofs.Vocabulary.{◌≤◌}
 use Rattle.mk_core.specs.NewPlaces.{object_of}
-use Rattle.mk_core.proofs.ChangedAllocations.{LeavesPlaces, changed_at, earlier_at, fresh_leaves, released_leaves}
-use Rattle.mk_core.proofs.PointedAllocations.{released_where_left}
-use Rattle.mk_laws.specs.Zeros.{IsWordOfMapped}
+use Rattle.mk_core.proofs.ChangedAllocations.{earlier_at}
 
 -- A mapped allocation isn't released, so it is there.
 pub mapped_stays : (c : Config) (a : PlacedAllocation) → is_mapped c a ≡ true → a.released ≡ false

@@ -1,45 +1,18 @@
 -- What a step marks is touched: what the holder's hand or a marker's points into, or a cell without an allocation.
-use Rattle.std.proofs.Common.{Bool, List, ap, arith, false, inl, inr, refl, subst, sym, true, ℕ, ◌/◌, ◌^◌, ◌∙◌, ◌≡◌}
-use Rattle.std.proofs.Common.{◌≢◌}
-use Rattle.std.specs.Prelude.{None, Option, Some, if◌then◌else◌, is_some, not, slice_index, ◌&&◌, ◌==◌, ◌||◌}
-use Rattle.std.proofs.lemmas.Bool.{and_parts, cases_Bool, eqb-true}
-use Rattle.mk_never.specs.NeverHeap.{NeverState}
-use Rattle.mk_geom.specs.Addresses.{cell_at, page_at_address}
-use Rattle.mk_geom.specs.declared.addresses.Cell.{Cell}
-use Rattle.mk_geom.specs.declared.pages.Place.{Place}
-use Rattle.mk_core.specs.Accesses.{seen_bit, seen_page}
-use Rattle.mk_core.specs.Allocations.{PlacedAllocation, cell_of_allocation, placed_at}
-use Rattle.mk_core.specs.Bits.{has_bit}
-use Rattle.mk_core.specs.Bounded.{is_some_and}
-use Rattle.mk_core.specs.Cells.{is_marked, pointed_cell}
-use Rattle.mk_core.specs.Cycles.{is_unmarked}
-use Rattle.mk_core.specs.History.{World}
-use Rattle.mk_core.specs.MarkerConditions.{cell_seen}
-use Rattle.mk_core.specs.Moments.{Moment, flight_of, marker_of}
-use Rattle.mk_core.specs.NewPlaces.{object_made}
-use Rattle.mk_core.specs.StandingAllocations.{object_placed}
-use Rattle.mk_core.specs.StopConditions.{is_bit_of, marks_by_hand, marks_place}
-use Rattle.mk_core.specs.TurnConditions.{place_now}
-use Rattle.mk_core.specs.Words.{Words, header_at, phase_of}
-use Rattle.mk_core.specs.declared.config.Config.{Config}
-use Rattle.mk_core.specs.declared.events.Seat.{Seat}
-use Rattle.mk_core.specs.declared.events.Seat.TheVariants.{Caller, Host, Marker}
-use Rattle.mk_core.specs.declared.events.Step.{Step}
+use Rattle.mk_laws.proofs.Vocabulary.{Bool, Caller, Cell, Config, Hand, Host, Marker, MarkerStands, MarkerState, Moment}
+use Rattle.mk_laws.proofs.Vocabulary.{NeverState, None, Object, Option, Place, PlacedAllocation, Seat, SeenHeader, Some}
+use Rattle.mk_laws.proofs.Vocabulary.{Step, Words, World, and_parts, ap, arith, bit, cases_Bool, cell_at}
+use Rattle.mk_laws.proofs.Vocabulary.{cell_of_allocation, cell_seen, eqb-true, false, first_page_shows, flight_of}
+use Rattle.mk_laws.proofs.Vocabulary.{has_bit, header_at, if◌then◌else◌, inl, inr, is_marked, is_some, is_some_and}
+use Rattle.mk_laws.proofs.Vocabulary.{is_unmarked, marker_of, marks_place, not, object_made, object_placed}
+use Rattle.mk_laws.proofs.Vocabulary.{page_at_address, part_not_free, place_now, placed_at, pointed_cell, refl}
+use Rattle.mk_laws.proofs.Vocabulary.{seen_bit, seen_page, shown, slice_index, subst, sym, true, zero, ℕ, ◌&&◌, ◌/◌}
+use Rattle.mk_laws.proofs.Vocabulary.{◌==◌, ◌^◌, ◌||◌, ◌∙◌, ◌≡◌, ◌≢◌}
+use Rattle.mk_laws.proofs.Basics.{Behind, Came, IsNew, Stayed, Table, WorldBehind, reg_table, same_cell, tally_table}
+use Rattle.mk_core.specs.StopConditions.{is_bit_of, marks_by_hand}
 use Rattle.mk_core.specs.declared.events.Step.TheVariants as step
-use Rattle.mk_core.specs.declared.seats.Hand.{Hand}
-use Rattle.mk_core.specs.declared.seats.Marker.{Marker as MarkerState}
-use Rattle.mk_core.specs.declared.seats.Object.{Object}
-use Rattle.mk_core.specs.declared.seats.SeenHeader.{SeenHeader}
-use Rattle.mk_core.proofs.ObjectHeaders.{part_not_free}
 use Rattle.mk_core.proofs.ServingSteps.{place_marked}
-use Rattle.mk_core.proofs.StandingAllocations.{first_page_shows}
 use Rattle.mk_core.proofs.WordBits.{bit_of_cell, bit_of_power, more_bits}
-use Rattle.mk_laws.proofs.OthersMoves.{WorldBehind}
-use Rattle.mk_laws.proofs.SameWords.{Behind}
-use Rattle.mk_laws.proofs.Claims.{same_cell}
-use Rattle.mk_laws.specs.Guard.{MarkerStands}
-use Rattle.mk_laws.proofs.Changes.{Table, reg_table, tally_table}
-use Rattle.mk_laws.proofs.AllocationSteps.{Came, IsNew, Stayed}
 use Rattle.mk_laws.proofs.Granting.{new_is_touched}
 use Rattle.mk_laws.proofs.Precise.{IsPrecise, Steps, came_behind}
 use Rattle.mk_laws.proofs.Worlds.{Told, comes_back, headers, sized}
@@ -55,19 +28,14 @@ pub marks_same : (c : Config) (m : Moment) (seat : Seat) (x : Step) → is_of_ma
     → (Behind c m seat x).words.marks ≡ m.words.marks
 marks_same c m seat step.Reg out = ap (λ (t : Table). t.marks) (reg_table c m seat)
 marks_same c m seat (step.Tally n v) out = ap (λ (t : Table). t.marks) (tally_table m.words n v)
-marks_same c m seat (step.Clear p) out = cc
-marks_same c m seat (step.Mark p v) out = cc
-marks_same c m seat step.Mmark out = cc
-marks_same c m seat _ out = refl
+marks_same c m seat _ out = cc
 
 -- A cell of an unreleased allocation has a header on its page.
 has_header : (c : Config) (w : World) (n : NeverState) (b : ℕ) → Told c w n
-    → (placed_at w.allocations b).released ≡ false
-    → header_at w.now.words ((placed_at w.allocations b).base / 64) ≢ 0
+    → (placed_at w.allocations b).released ≡ false → header_at w.now.words ((placed_at w.allocations b).base / 64) ≢ 0
 has_header c w n b t u =
     let a : PlacedAllocation = placed_at w.allocations b in
-    part_not_free (object_placed c a) 0 (header_at w.now.words (a.base / 64))
-    (first_page_shows c w.now.words a (sized c w n t b u) (headers c w n t b u))
+    part_not_free (object_placed c a) 0 _ (first_page_shows c w.now.words a (sized c w n t b u) (headers c w n t b u))
 
 -- `mark` by the hand
 
@@ -75,12 +43,11 @@ hand_cell : (cell : Option Cell) (page value k : ℕ) → is_bit_of cell page va
     → cell ≡ Some (record { page = page; index = k })
 hand_cell None page value k h bit = cc
 hand_cell (Some x) page value k h bit =
-    let parts = and_parts (page == x.page) (value == 2 ^ x.index) h in
+    let parts = and_parts (page == x.page) _ h in
     let at : page ≡ x.page = eqb-true page x.page parts.0 in
     let one : value ≡ 2 ^ x.index = eqb-true value (2 ^ x.index) parts.1 in
-    let same : k ≡ x.index = bit_of_power x.index k (subst (λ y. has_bit y k ≡ true) one bit) in
-    ap (λ (p : ℕ). Some (record { page = p; index = x.index })) (sym at)
-    ∙ ap (λ (i : ℕ). Some (record { page = page; index = i })) (sym same)
+    let same : k ≡ x.index = bit_of_power x.index k (rw one at bit) in
+    rw (← at) (rw (← same))
 
 -- A hand that marks, and doesn't sweep
 record MarksWith (w : Words) (pages : ℕ) (hand : Option Hand) (page value : ℕ) : Type 0 where
@@ -99,7 +66,7 @@ hand_marks w pages (Some x) page value h unswept =
       holds = x;
       there = refl;
       unswept = unswept;
-      cell = λ k bit. hand_cell (pointed_cell pages w.pages x.value) page value k h bit;
+      cell = λ k bit. hand_cell _ page value k h bit;
     }
 
 left_holds : (a b : Bool) → (a || b) ≡ true → b ≡ false → a ≡ true
@@ -108,8 +75,7 @@ left_holds false b h none = cc
 
 left_fails : (a b : Bool) → (a && not b) ≡ false → b ≡ false → a ≡ false
 left_fails true true h none = cc
-left_fails true false h none = cc
-left_fails false b h none = refl
+left_fails _ _ h none = cc
 
 -- a place that is marked has no header yet
 place_is_free : (w : Words) (o : Object) (place : Option Place) (page value : ℕ)
@@ -133,13 +99,9 @@ seen_marks c m x k stand bit own = by x.seen x.hand refl refl own bit
     by : (seen : Option SeenHeader) (hand : Option ℕ) → x.seen ≡ seen → x.hand ≡ hand
         → is_some (cell_seen c seen hand) ≡ true
         → has_bit (seen_bit (cell_seen c seen hand)) k ≡ true → MarksSeen c m.words x k
-    by None hand es eh own bit = cc
-    by (Some q) None es eh own bit = cc
-    by (Some q) (Some value) es eh own bit =
-        at (q.page == page_at_address value) refl (cell_at c.pages q.header value) refl own bit
+    by (Some q) (Some value) es eh own bit = at (q.page == page_at_address value) refl _ refl own bit
       where
-        at : (b : Bool) → (q.page == page_at_address value) ≡ b → (y : Option Cell)
-            → cell_at c.pages q.header value ≡ y
+        at : (b : Bool) → (q.page == page_at_address value) ≡ b → (y : Option Cell) → cell_at c.pages q.header value ≡ y
             → is_some (if b then y else None) ≡ true → has_bit (seen_bit (if b then y else None)) k ≡ true
             → MarksSeen c m.words x k
         at false e y is own bit = cc
@@ -147,21 +109,17 @@ seen_marks c m x k stand bit own = by x.seen x.hand refl refl own bit
         at true e (Some y) is own bit =
             let same : k ≡ y.index = bit_of_cell y.index k bit in
             let shown : cell_seen c x.seen x.hand ≡ Some y =
-            ap (λ (z : Option SeenHeader). cell_seen c z x.hand) es ∙ ap (λ (z : Option ℕ). cell_seen c (Some q) z) eh
-            ∙ ap (λ (z : Bool). if z then cell_at c.pages q.header value else None) e ∙ is in
-            let page : seen_page (cell_seen c x.seen x.hand) ≡ y.page = ap (λ (z : Option Cell). seen_page z) shown in
+            rw es (rw eh (rw e is)) in
+            let page : seen_page (cell_seen c x.seen x.hand) ≡ y.page = rw shown in
             let now = (stand.seen q es).cell value y is in
             record {
               value = value;
               there = eh;
               cell =
                   ap (λ p. cell_at c.pages (header_at m.words p) value)
-                  (sym (eqb-true q.page (page_at_address value) e))
-                  ∙ now
-                  ∙ ap (λ (p : ℕ). Some (record { page = p; index = y.index })) (sym page)
-                  ∙ ap (λ (i : ℕ). Some (record { page = seen_page (cell_seen c x.seen x.hand); index = i }))
-                  (sym same);
+                  (sym (eqb-true q.page (page_at_address value) e)) ∙ now ∙ rw (← page) (rw (← same));
             }
+    by _ _ es eh own bit = cc
 
 module _ (c : Config) (w : World) (n : NeverState) (T : ℕ → Type 0) (precise : IsPrecise c w T) where
   -- Whatever of it stands there, a cell that is marked is touched.
@@ -179,17 +137,13 @@ module _ (c : Config) (w : World) (n : NeverState) (T : ℕ → Type 0) (precise
         | inl old ↦ precise.marked b u old
         | inr new ↦ elim (cases_Bool (marks_place w.now.words o place p v)) [
           | inl placed ↦
-              absurd (has_header c w n b s.before u
-              (ap (λ q. header_at w.now.words q) new.0 ∙ place_is_free w.now.words o place p v placed))
+              absurd (has_header c w n b s.before u (rw new.0 (place_is_free w.now.words o place p v placed)))
           | inr unplaced ↦
               let hand : Option Hand = w.now.seats.holding.hand in
-              let h = hand_marks w.now.words c.pages hand p v
-              (left_holds (marks_by_hand c.pages w.now.words hand p v)
-              (marks_place w.now.words o place p v) s.meets.holder unplaced)
-              (left_fails (is_some_and (λ (y : Hand). is_unmarked y.source) hand)
-              (marks_place w.now.words o place p v) s.unswept unplaced) in
+              let h = hand_marks w.now.words c.pages hand p v (left_holds _ _ s.meets.holder unplaced)
+              (left_fails (is_some_and (λ (y : Hand). is_unmarked y.source) hand) _ s.unswept unplaced) in
               let at : pointed_cell c.pages w.now.words.pages h.holds.value ≡ Some cell =
-              h.cell cell.index new.1 ∙ ap (λ (q : ℕ). Some (record { page = q; index = cell.index })) (sym new.0) in
+              h.cell cell.index new.1 ∙ rw (← new.0) in
               precise.hand h.holds h.there h.unswept b (u, comes_back c w n s.before s.early b h.holds.value u at)
         ]
       ]
@@ -204,15 +158,13 @@ module _ (c : Config) (w : World) (n : NeverState) (T : ℕ → Type 0) (precise
       place = place_now c w.now (flight_of w.now seat)
 
   mmark_step : (j : ℕ) (after : NeverState) → MarkerStands c w.now (marker_of w.now j)
-      → Steps c w n (Marker j) step.Mmark after T
-      → MarksTouched (Marker j) step.Mmark
+      → Steps c w n (Marker j) step.Mmark after T → MarksTouched (Marker j) step.Mmark
   mmark_step j after stand s b u bit =
       elim (more_bits w.now.words.marks (seen_page y) (seen_bit y) cell.page cell.index bit) [
         | inl old ↦ precise.marked b u old
         | inr new ↦
             let m = seen_marks c w.now (marker_of w.now j) cell.index stand new.1 s.meets.marker in
-            let at : pointed_cell c.pages w.now.words.pages m.value ≡ Some cell =
-            m.cell ∙ ap (λ (q : ℕ). Some (record { page = q; index = cell.index })) (sym new.0) in
+            let at : pointed_cell c.pages w.now.words.pages m.value ≡ Some cell = m.cell ∙ rw (← new.0) in
             (precise.markers j).hand m.value m.there b (u, comes_back c w n s.before s.early b m.value u at)
       ]
     where
@@ -223,22 +175,18 @@ module _ (c : Config) (w : World) (n : NeverState) (T : ℕ → Type 0) (precise
       y = cell_seen c (marker_of w.now j).seen (marker_of w.now j).hand
 
   marks_touched : (seat : Seat) (x : Step) (after : NeverState) → ((j : ℕ) → MarkerStands c w.now (marker_of w.now j))
-      → Steps c w n seat x after T
-      → MarksTouched seat x
+      → Steps c w n seat x after T → MarksTouched seat x
   marks_touched seat (step.Mark p v) after stand s b u bit = mark_step seat p v after s b u bit
   marks_touched (Marker j) step.Mmark after stand s b u bit = mmark_step j after (stand j) s b u bit
   marks_touched (Caller j) step.Mmark after stand s b u bit = let kind = s.meets.kind in cc
   marks_touched Host step.Mmark after stand s b u bit = let kind = s.meets.kind in cc
   marks_touched seat (step.Clear p) after stand s b u bit =
-      let zero = eqb-true (phase_of w.now.words) 0 s.meets.phase in
+      let zero = eqb-true _ 0 s.meets.phase in
       elim s.early [ inl e ↦ absurd (omega arith) | inr e ↦ absurd (omega arith) ]
   marks_touched seat x after stand s b u bit = rest x refl b u bit
     where
       rest : (x : Step) → is_of_marks x ≡ false → MarksTouched seat x
-      rest x out b u bit = precise.marked b u
-          (subst (λ (ys : List ℕ). has_bit (slice_index ys (cell_of_allocation c (placed_at w.allocations b)).page)
-          (cell_of_allocation c (placed_at w.allocations b)).index ≡ true)
-          (marks_same c w.now seat x out) bit)
+      rest x out b u bit = precise.marked b u (rw (marks_same c w.now seat x out) at bit)
 
   pub marked_behind : (seat : Seat) (x : Step) (after : NeverState)
       → ((j : ℕ) → MarkerStands c w.now (marker_of w.now j)) → Steps c w n seat x after T

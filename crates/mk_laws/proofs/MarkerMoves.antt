@@ -1,8 +1,8 @@
 -- Each step of a marker's is a move.
-use Rattle.std.proofs.Common.{◌≡◌, ℕ, ◌%◌, ◌<◌, Bool, true, false, refl, sym, ◌∙◌, ap, inl, inr}
-use Rattle.std.specs.Prelude.{None, ◌==◌, if◌then◌else◌}
-use Rattle.std.proofs.lemmas.Bool.{cases_Bool, not_from_true, eqb-true}
-use Rattle.mk_laws.proofs.Vocabulary.{Config, Marker, Moment, Step, group_of, is_attending, is_in, marker_of}
+use Rattle.std.proofs.lemmas.Bool.{not_from_true}
+use Rattle.mk_laws.proofs.Vocabulary.{Bool, Config, Marker, Moment, None, Step, ap, cases_Bool, eqb-true, false}
+use Rattle.mk_laws.proofs.Vocabulary.{group_of, if◌then◌else◌, inl, inr, is_attending, is_in, marker_of, refl, sym}
+use Rattle.mk_laws.proofs.Vocabulary.{true, ℕ, ◌%◌, ◌<◌, ◌==◌, ◌∙◌, ◌≡◌}
 use Rattle.mk_core.specs.declared.events.Group.TheVariants as group
 use Rattle.mk_core.specs.declared.events.Step.TheVariants as step
 use Rattle.mk_core.specs.declared.seats.Presence.TheVariants.{Visiting, Attending}

@@ -1,37 +1,18 @@
 -- What a marker holds is touched, and what it scans has no leaf, after each step.
-use Rattle.std.proofs.Common.{Bool, ap, arith, false, inl, inr, refl, subst, sym, true, ℕ, ◌+◌, ◌<◌, ◌≤◌, ◌∙◌, ◌≡◌, ◌≢◌}
-use Rattle.std.specs.Prelude.{None, Option, Some, if◌then◌else◌, is_none, nat_lt, slice_index, ◌&&◌, ◌==◌}
-use Rattle.std.proofs.lemmas.Bool.{and_parts, eqb-true, ltb-true}
-use Rattle.std.proofs.lemmas.Option.{none-some, same_Some}
-use Rattle.mk_never.specs.NeverHeap.{NeverState}
-use Rattle.mk_geom.specs.Addresses.{cell_at, is_heap_address, page_at_address}
-use Rattle.mk_geom.specs.Headers.{header_of}
-use Rattle.mk_geom.specs.declared.addresses.Cell.{Cell}
-use Rattle.mk_core.specs.Accesses.{found, next_word}
-use Rattle.mk_core.specs.Allocations.{PlacedAllocation, cell_of_allocation, placed_at, storage_of}
-use Rattle.mk_core.specs.Bits.{has_bit}
-use Rattle.mk_core.specs.Cells.{cell_words, cells_under, first_word, has_no_pointers, header_in, is_marked, words_under}
-use Rattle.mk_core.specs.Effects.{behind_mlook, hand_behind_look, marker_behind, open_hand, scan_begun, scan_claimed}
-use Rattle.mk_core.specs.Effects.{scan_onward}
-use Rattle.mk_core.specs.History.{World}
-use Rattle.mk_core.specs.MarkerConditions.{has_next_word, has_seen_cell}
-use Rattle.mk_core.specs.Moments.{marker_of}
-use Rattle.mk_core.specs.StopConditions.{is_attending}
-use Rattle.mk_core.specs.Words.{header_at}
-use Rattle.mk_core.specs.declared.config.Config.{Config}
-use Rattle.mk_core.specs.declared.events.Seat.{Seat}
-use Rattle.mk_core.specs.declared.events.Seat.TheVariants.{Caller, Host, Marker}
-use Rattle.mk_core.specs.declared.events.Step.{Step}
+use Rattle.mk_laws.proofs.Vocabulary.{Bool, Caller, Cell, Config, Host, IsIdle, Marker, MarkerStands, MarkerState}
+use Rattle.mk_laws.proofs.Vocabulary.{NeverState, None, Option, PlacedAllocation, Scan, ScanStands, Seat, SeenHeader}
+use Rattle.mk_laws.proofs.Vocabulary.{Some, Step, Word, World, and_parts, ap, arith, behind_mlook, cell_at}
+use Rattle.mk_laws.proofs.Vocabulary.{cell_of_allocation, cell_words, cells_under, eqb-true, false, first_word, found}
+use Rattle.mk_laws.proofs.Vocabulary.{has_bit, has_next_word, has_no_pointers, has_seen_cell, header_at, header_in}
+use Rattle.mk_laws.proofs.Vocabulary.{header_of, if◌then◌else◌, inl, inr, is_heap_address, is_marked, is_none, ltb-true}
+use Rattle.mk_laws.proofs.Vocabulary.{marker_behind, marker_of, nat_lt, next_word, none-some, page_at_address}
+use Rattle.mk_laws.proofs.Vocabulary.{placed_at, refl, same_Some, scan_begun, scan_claimed, scan_onward, slice_index}
+use Rattle.mk_laws.proofs.Vocabulary.{storage_of, subst, sym, true, ℕ, ◌&&◌, ◌+◌, ◌<◌, ◌==◌, ◌∙◌, ◌≡◌, ◌≢◌, ◌≤◌}
+use Rattle.mk_laws.proofs.Basics.{WorldBehind, marker_set}
+use Rattle.mk_core.specs.Effects.{hand_behind_look, open_hand}
 use Rattle.mk_core.specs.declared.events.Step.TheVariants as step
-use Rattle.mk_core.specs.declared.events.Word.{Word}
 use Rattle.mk_core.specs.declared.events.Word.TheVariants as word
-use Rattle.mk_core.specs.declared.seats.Marker.{Marker as MarkerState}
-use Rattle.mk_core.specs.declared.seats.Scan.{Scan}
-use Rattle.mk_core.specs.declared.seats.SeenHeader.{SeenHeader}
-use Rattle.mk_laws.specs.Protocol.{IsIdle}
-use Rattle.mk_laws.proofs.ProtocolMarkers.{marker_set}
-use Rattle.mk_laws.proofs.OthersMoves.{WorldBehind}
-use Rattle.mk_laws.specs.Guard.{EndsItsCell, MarkerStands, ScanStands, cell_scanned}
+use Rattle.mk_laws.specs.Guard.{EndsItsCell, cell_scanned}
 use Rattle.mk_laws.proofs.Granting.{points_behind}
 use Rattle.mk_laws.proofs.NoLeaves.{no_leaf_behind, scanned_has_none}
 use Rattle.mk_laws.proofs.Precise.{HasNoLeaf, IsPrecise, MarkerIsPrecise, PointsOnlyInto, PrecisionScene, Steps}
@@ -116,17 +97,16 @@ claim_precise c w T y p k marks own m =
     by (Some z) own none s is lt = marked (has_bit marks k) is
       where
         parts : ((z.page == p) ≡ true) × (nat_lt k (cells_under (header_of z.header)) ≡ true)
-        parts = and_parts (z.page == p) (nat_lt k (cells_under (header_of z.header))) own
+        parts = and_parts (z.page == p) _ own
 
         some : cells_under (header_of z.header) ≢ 0
-        some e = let within = ltb-true k (cells_under (header_of z.header)) parts.1 in absurd (omega arith)
+        some e = let within = ltb-true k _ parts.1 in absurd (omega arith)
 
         scanned : (b : Bool) → has_no_pointers (header_of z.header) ≡ b
             → (scan_begun p k z.header).next < (scan_begun p k z.header).end
             → has_no_pointers (header_of z.header) ≡ false
         scanned true e less =
-            let end : (scan_begun p k z.header).end ≡ (scan_begun p k z.header).next + 0 =
-            ap (λ b. (scan_begun p k z.header).next + (if b then 0 else words_under (header_of z.header))) e in
+            let end : (scan_begun p k z.header).end ≡ (scan_begun p k z.header).next + 0 = rw e in
             absurd (omega arith)
         scanned false e less = e
 
@@ -137,16 +117,14 @@ claim_precise c w T y p k marks own m =
             let e : scan_begun p k z.header ≡ s = same_Some _ _ is in
             let less : (scan_begun p k z.header).next < (scan_begun p k z.header).end =
             subst (λ (q : Scan). q.next < q.end) (sym e) lt in
-            subst (λ (q : Scan). HasNoLeaf c (precision_scene_of w) q.page) e
-            (subst (λ q. HasNoLeaf c (precision_scene_of w) q) (eqb-true z.page p parts.0)
+            subst (λ (q : Scan). HasNoLeaf c (precision_scene_of w) q.page) e (rw (eqb-true z.page p parts.0) at
             (none z refl some (scanned (has_no_pointers (header_of z.header)) refl less)))
 
 -- `mload`: a word of a marked cell that isn't leaf
 loaded_points : (c : Config) (w : World) (n : NeverState) (seat : Seat) (x : Step) (after : NeverState)
     (T : ℕ → Type 0) (hand : Option ℕ) (z : Scan)
     → Steps c w n seat x after T → IsPrecise c w T → ScanStands c w.now hand z → z.next < z.end
-    → HasNoLeaf c (precision_scene_of w) z.page
-    → PointsOnlyInto c w.allocations T (slice_index w.now.words.heap z.next)
+    → HasNoLeaf c (precision_scene_of w) z.page → PointsOnlyInto c w.allocations T (slice_index w.now.words.heap z.next)
 loaded_points c w n seat x after T hand z s precise st less none b points =
     s.here.words o.number z.next touched (o.unreleased, leaf, o.word) b points
   where
@@ -180,8 +158,7 @@ loaded_points c w n seat x after T hand z s precise st less none b points =
 load_precise : (c : Config) (w : World) (n : NeverState) (seat : Seat) (x : Step) (after : NeverState)
     (T : ℕ → Type 0) (y : MarkerState)
     → Steps c w n seat x after T → IsPrecise c w T → MarkerStands c w.now y → has_next_word y.scan ≡ true
-    → MarkerIsPrecise c (precision_scene_of w) T y
-    → MarkerIsPrecise c (precision_scene_of w) T
+    → MarkerIsPrecise c (precision_scene_of w) T y → MarkerIsPrecise c (precision_scene_of w) T
     (record y { scan = scan_onward y.scan; hand = open_hand c (slice_index w.now.words.heap (next_word y.scan)) })
 load_precise c w n seat x after T y s precise stand more m =
     record {
@@ -220,25 +197,21 @@ load_precise c w n seat x after T y s precise stand more m =
 
 -- a marker's own step, seen from before it
 own_marker : (c : Config) (w : World) (n : NeverState) (k : ℕ) (x : Step) (after : NeverState) (T : ℕ → Type 0)
-    → Steps c w n (Marker k) x after T → IsPrecise c w T
-    → MarkerStands c w.now (marker_of w.now k)
+    → Steps c w n (Marker k) x after T → IsPrecise c w T → MarkerStands c w.now (marker_of w.now k)
     → MarkerIsPrecise c (precision_scene_of (WorldBehind c w (Marker k) x)) T
     (marker_behind c (found c w.now (record { seat = Marker k; step = x })) x (marker_of w.now k))
 own_marker c w n k step.Attend after T s precise stand =
-    idle_is_precise c (precision_scene_of (WorldBehind c w (Marker k) step.Attend)) T _
-    (record { scan = refl; hand = refl; seen = refl })
+    idle_is_precise c _ T _ (record { scan = refl; hand = refl; seen = refl })
 own_marker c w n k step.Quit after T s precise stand =
-    idle_is_precise c (precision_scene_of (WorldBehind c w (Marker k) step.Quit)) T _
-    (record { scan = refl; hand = refl; seen = refl })
+    idle_is_precise c _ T _ (record { scan = refl; hand = refl; seen = refl })
 own_marker c w n k (step.Mlook x) after T s precise stand =
     looks c w n T (marker_of w.now k) x (found c w.now (record { seat = Marker k; step = step.Mlook x })) s.before
-    (λ p e. ap (λ (y : Word). found c w.now (record { seat = Marker k; step = step.Mlook y })) e) (precise.markers k)
+    (λ p e. rw e) (precise.markers k)
 own_marker c w n k (step.Claim p i) after T s precise stand =
-    let a = and_parts (is_attending (marker_of w.now k).presence && is_none (marker_of w.now k).scan)
-    (has_seen_cell (marker_of w.now k).seen p i) s.meets.marker in
+    let a = and_parts _ _ s.meets.marker in
     claim_precise c w T (marker_of w.now k) p i _ a.1 (precise.markers k)
 own_marker c w n k step.Mload after T s precise stand =
-    let a = and_parts (has_next_word (marker_of w.now k).scan) (is_none (marker_of w.now k).hand) s.meets.marker in
+    let a = and_parts _ _ s.meets.marker in
     load_precise c w n (Marker k) step.Mload after T (marker_of w.now k) s precise stand a.0 (precise.markers k)
 own_marker c w n k step.Mmark after T s precise stand =
     let m = precise.markers k in

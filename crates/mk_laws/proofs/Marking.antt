@@ -1,26 +1,15 @@
 -- Along the marking of a cycle without a sweeping mark, all that is marked or held is touched.
-use Rattle.std.proofs.Common.{List, [], ap, append-nil, append_assoc, false, refl, subst, sym, ℕ, ◌++◌, ◌∙◌, ◌∷◌, ◌≡◌}
-use Rattle.std.proofs.Common.{inl, arith}
-use Rattle.std.proofs.lemmas.Bool.{eqb-true}
-use Rattle.std.specs.List.{list_any}
-use Rattle.mk_core.specs.Cycles.{Marking, NoneSweepsFrom, before_close, is_begin, is_close, is_release, sweeps, through}
-use Rattle.mk_core.specs.History.{AreEnabledFrom, IsHistory, World, first_world, left, never_behind, world_behind}
-use Rattle.mk_core.specs.Moments.{flight_of}
+use Rattle.mk_laws.proofs.Vocabulary.{AreEnabledFrom, Config, Event, IsHistory, IsMarking, List, Marking, Step, World}
+use Rattle.mk_laws.proofs.Vocabulary.{[], ap, append-nil, append_assoc, arith, before_close, earlier_part_is_history}
+use Rattle.mk_laws.proofs.Vocabulary.{enabled_in_parts, enabled_meets, eqb-true, false, first_world, flight_of, inl}
+use Rattle.mk_laws.proofs.Vocabulary.{is_begin, is_close, is_release, left, left_more, list_any, never_behind, or_from}
+use Rattle.mk_laws.proofs.Vocabulary.{or_parts, phase_of, refl, subst, sym, through, world_behind, ℕ, ◌++◌, ◌∙◌, ◌∷◌}
+use Rattle.mk_laws.proofs.Vocabulary.{◌≡◌}
+use Rattle.mk_laws.proofs.Basics.{Meets, WorldBehind, begin_is, known_world}
+use Rattle.mk_core.specs.Cycles.{NoneSweepsFrom, sweeps}
 use Rattle.mk_core.specs.Touched.{IsTouched, LeadsToMoment, by_global, by_register, by_word}
-use Rattle.mk_core.specs.Words.{phase_of}
-use Rattle.mk_core.specs.declared.config.Config.{Config}
-use Rattle.mk_core.specs.declared.events.Event.{Event}
-use Rattle.mk_core.specs.declared.events.Step.{Step}
 use Rattle.mk_core.specs.declared.events.Step.TheVariants as step
-use Rattle.mk_core.proofs.Conditions.{enabled_meets}
-use Rattle.mk_core.proofs.Histories.{left_more}
-use Rattle.mk_core.proofs.HistoryParts.{earlier_part_is_history, enabled_in_parts}
-use Rattle.mk_laws.proofs.Actors.{Meets}
-use Rattle.mk_laws.proofs.OthersMoves.{WorldBehind}
-use Rattle.mk_laws.specs.Guard.{IsMarking}
-use Rattle.mk_laws.proofs.KnownWorlds.{known_world}
 use Rattle.mk_laws.proofs.InvariantHistories.{histories_keep_the_invariant}
-use Rattle.mk_laws.proofs.PrecisionStepKinds.{begin_is, both_fail, neither}
 use Rattle.mk_laws.proofs.OneStep.{precise_begun, precise_behind}
 use Rattle.mk_laws.proofs.PhaseSteps.{marking_goes_on}
 use Rattle.mk_laws.proofs.Precise.{IsClosedIn, IsPrecise, Steps}
@@ -73,21 +62,18 @@ moment_behind c es k front e h here there other unswept at =
     let s : Steps c w (never_behind c front) e.seat e.step (never_behind c (front ++ e ∷ [])) (IsTouched c k) =
     record {
       before = told c front at.history;
-      behind = subst (λ (v : World). Told c v (never_behind c (front ++ e ∷ []))) m.left (told c (front ++ e ∷ []) h);
+      behind = rw m.left at (told c (front ++ e ∷ []) h);
       meets = m.meets;
       early = at.early;
       unswept = unswept;
       here = closed_at c es k front here;
-      there = subst (λ (v : World). IsClosedIn c v (never_behind c (front ++ e ∷ [])) (IsTouched c k)) m.left
-          (closed_at c es k (front ++ e ∷ []) there);
+      there = rw m.left at (closed_at c es k (front ++ e ∷ []) there);
     } in
     let on = marking_goes_on c w.now e.seat e.step at.early m.meets other in
     record {
       history = h;
-      early = subst (λ (v : World). IsMarking v.now.words) (sym m.left) on.early;
-      precise = subst (λ (v : World). IsPrecise c v (IsTouched c k)) (sym m.left)
-          (precise_behind c w (never_behind c front) e.seat e.step (never_behind c (front ++ e ∷ []))
-          (IsTouched c k) s at.precise);
+      early = rw m.left on.early;
+      precise = rw m.left (precise_behind c w (never_behind c front) e.seat e.step _ (IsTouched c k) s at.precise);
     }
 
 -- what stands at the end of the marking, and that no `begin` and no `release` came since
@@ -97,8 +83,7 @@ pub record Marked (c : Config) {es : List Event} (k : Marking es) (rest : List E
   pub released : list_any (λ (e : Event). is_release e.step) rest ≡ false
 
 along : (c : Config) (es : List Event) (k : Marking es) (done rest : List Event) → k.close.at.before ≡ done ++ rest
-    → IsHistory c (through k.begin ++ (done ++ rest))
-    → list_any (λ (e : Event). is_close e.step) rest ≡ false
+    → IsHistory c (through k.begin ++ (done ++ rest)) → list_any (λ (e : Event). is_close e.step) rest ≡ false
     → NoneSweepsFrom c (left c (through k.begin ++ done)) rest
     → AtMoment c (IsTouched c k) (through k.begin ++ done) → Marked c k rest
 unfolding NoneSweepsFrom
@@ -114,28 +99,24 @@ along c es k done (e ∷ rest) is h none unswept at =
     let front : List Event = first ++ done in
     let split : done ++ e ∷ rest ≡ (done ++ e ∷ []) ++ rest = sym (append_assoc done (e ∷ []) rest) in
     let longer : front ++ e ∷ [] ≡ first ++ (done ++ e ∷ []) = append_assoc first done (e ∷ []) in
-    let whole : IsHistory c (first ++ ((done ++ e ∷ []) ++ rest)) =
-    subst (λ (xs : List Event). IsHistory c (first ++ xs)) split h in
+    let whole : IsHistory c (first ++ ((done ++ e ∷ []) ++ rest)) = rw split at h in
     let next : IsHistory c (front ++ e ∷ []) =
-    subst (λ (xs : List Event). IsHistory c xs) (sym longer)
-    (earlier_part_is_history c (first ++ (done ++ e ∷ [])) rest
-    (subst (λ (xs : List Event). IsHistory c xs) (sym (append_assoc first (done ++ e ∷ []) rest)) whole)) in
+    rw longer (earlier_part_is_history c (first ++ (done ++ e ∷ [])) rest
+    (rw (append_assoc first (done ++ e ∷ []) rest) whole)) in
     let here : LeadsToMoment k front = record { done = done; to_come = e ∷ rest; of_the_cycle = is; is = refl } in
     let there : LeadsToMoment k (front ++ e ∷ []) =
     record { done = done ++ e ∷ []; to_come = rest; of_the_cycle = is ∙ split; is = longer } in
-    let parts = neither (is_close e.step) (list_any (λ (x : Event). is_close x.step) rest) none in
+    let parts = or_parts (is_close e.step) (list_any (λ (x : Event). is_close x.step) rest) none in
     let m = one_more c front e next in
     let behind = moment_behind c es k front e next here there parts.0 unswept.0 at in
-    let left_is : world_behind c (left c front) e ≡ left c (first ++ (done ++ e ∷ [])) =
-    sym m.left ∙ ap (λ (xs : List Event). left c xs) longer in
-    let end = along c es k (done ++ e ∷ []) rest (is ∙ split) whole parts.1
-    (subst (λ (v : World). NoneSweepsFrom c v rest) left_is unswept.1)
-    (subst (λ (xs : List Event). AtMoment c (IsTouched c k) xs) longer behind) in
+    let left_is : world_behind c (left c front) e ≡ left c (first ++ (done ++ e ∷ [])) = sym m.left ∙ rw longer in
+    let end = along c es k (done ++ e ∷ []) rest (is ∙ split) whole parts.1 (rw left_is at unswept.1)
+    (rw longer at behind) in
     let on = marking_goes_on c (left c front).now e.seat e.step at.early m.meets parts.0 in
     record {
       at = end.at;
-      begun = both_fail (is_begin e.step) (list_any (λ (x : Event). is_begin x.step) rest) on.begun end.begun;
-      released = both_fail (is_release e.step)
+      begun = or_from (is_begin e.step) (list_any (λ (x : Event). is_begin x.step) rest) on.begun end.begun;
+      released = or_from (is_release e.step)
           (list_any (λ (x : Event). is_release x.step) rest) on.released end.released;
     }
 
@@ -154,19 +135,15 @@ at_begin c es k h =
     record {
       history = h;
       early = subst (λ (v : World). IsMarking v.now.words) left_is (inl (omega arith));
-      precise = subst (λ (v : World). IsPrecise c v (IsTouched c k)) left_is
-          (precise_begun c w e.seat (IsTouched c k)
+      precise = subst (λ (v : World). IsPrecise c v (IsTouched c k)) left_is (precise_begun c w e.seat (IsTouched c k)
           (known_world c k.begin.before m.history.within_limits m.history.enabled) meets);
     }
 
 -- At the `close` all that is marked is touched.
 pub marked_at_close : (c : Config) (es : List Event) (k : Marking es) → IsHistory c (before_close k)
-    → NoneSweepsFrom c (left c (through k.begin)) k.close.at.before
-    → Marked c k k.close.at.before
+    → NoneSweepsFrom c (left c (through k.begin)) k.close.at.before → Marked c k k.close.at.before
 marked_at_close c es k h unswept =
     let first : List Event = through k.begin in
     let start : first ++ [] ≡ first = append-nil first in
     let began : IsHistory c first = earlier_part_is_history c first k.close.at.before h in
-    along c es k [] k.close.at.before refl h k.close.none_before
-    (subst (λ (xs : List Event). NoneSweepsFrom c (left c xs) k.close.at.before) (sym start) unswept)
-    (subst (λ (xs : List Event). AtMoment c (IsTouched c k) xs) (sym start) (at_begin c es k began))
+    along c es k [] k.close.at.before refl h k.close.none_before (rw start unswept) (rw start (at_begin c es k began))

@@ -1,11 +1,8 @@
 -- Allocations whose claims change at most how far they are unmapped.
-use Rattle.std.proofs.Common.{Bool, List, ap, false, inl, inr, map, sym, ℕ, ◌++◌, ◌+◌, ◌/◌, ◌<◌, ◌∙◌, ◌≡◌}
-use Rattle.std.specs.Prelude.{Option}
-use Rattle.mk_laws.proofs.Vocabulary.{Config, Object, PlacedAllocation, RunPages, object_placed, pages_made}
-use Rattle.mk_laws.proofs.Vocabulary.{placed_at, stands}
-use Rattle.mk_laws.specs.LayoutScene.{Among, Claim, HasHeader, Mode, header_on}
-use Rattle.mk_laws.specs.Ground.{Ground}
-use Rattle.mk_laws.specs.Terrain.{HasLayout, RunStands, claim_of, claims_of, claims_placed, layout_scene_of}
+use Rattle.mk_laws.proofs.Vocabulary.{Among, Bool, Claim, Config, Ground, HasHeader, HasLayout, List, Mode, Object}
+use Rattle.mk_laws.proofs.Vocabulary.{Option, PlacedAllocation, RunPages, RunStands, ap, claim_of, claims_of}
+use Rattle.mk_laws.proofs.Vocabulary.{claims_placed, false, header_on, inl, inr, layout_scene_of, map, object_placed}
+use Rattle.mk_laws.proofs.Vocabulary.{pages_made, placed_at, stands, sym, ℕ, ◌++◌, ◌+◌, ◌/◌, ◌<◌, ◌∙◌, ◌≡◌}
 use Rattle.mk_laws.proofs.Claims.{LeavesCells, apart_behind, cells_behind, changed_among, claim_among, claim_is}
 use Rattle.mk_laws.proofs.Claims.{was_claim}
 use Rattle.mk_laws.proofs.LayoutJoined.{among_back, among_front, among_parts, apart_across, apart_joined, apart_left}

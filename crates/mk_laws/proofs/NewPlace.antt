@@ -1,19 +1,17 @@
 -- The place of an undecided New lies in the heap.
-use Rattle.std.proofs.Common.{◌≡◌, ◌⊎◌, ℕ, ◌+◌, ◌<◌, ◌≤◌, Bool, true, false, List, length, refl, sym, ◌∙◌, ap, subst}
-use Rattle.std.proofs.Common.{inl, inr}
-use Rattle.std.specs.Prelude.{Option, Some, None, slice_index_or, slice_set, if◌then◌else◌}
-use Rattle.std.proofs.lemmas.Bool.{cases_eq, cases_lt, ltb-true, leb-false}
-use Rattle.std.proofs.lemmas.List.{get_or-set_same, get_or-set_other, set_past}
-use Rattle.mk_laws.proofs.Vocabulary.{Caller, Chosen, Config, Flight, Granted, Holding, Host, Marker, Moment}
-use Rattle.mk_laws.proofs.Vocabulary.{Object, Op, Page, Place, Placing, Seat, Step, Unplaced, Used, World, at_rest}
-use Rattle.mk_laws.proofs.Vocabulary.{chosen, flight_of, is_new_at, is_small_object, is_undecided_new, object_made}
-use Rattle.mk_laws.proofs.Vocabulary.{place_by_placing, place_now, place_on_pages, run_pages_of, taken}
+use Rattle.std.proofs.lemmas.Bool.{leb-false}
+use Rattle.mk_laws.proofs.Vocabulary.{Bool, Caller, Chosen, Config, Flight, Granted, Ground, Holding, List, Moment}
+use Rattle.mk_laws.proofs.Vocabulary.{None, Object, Op, Option, Page, Place, Placing, Seat, Some, Step, Unplaced, Used}
+use Rattle.mk_laws.proofs.Vocabulary.{World, ap, at_rest, cases_eq, cases_lt, chosen, false, flight_of}
+use Rattle.mk_laws.proofs.Vocabulary.{get_or-set_other, get_or-set_same, if◌then◌else◌, inl, inr, is_new_at}
+use Rattle.mk_laws.proofs.Vocabulary.{is_small_object, is_undecided_new, length, ltb-true, object_made}
+use Rattle.mk_laws.proofs.Vocabulary.{place_by_placing, place_now, place_on_pages, refl, run_pages_of, set_past}
+use Rattle.mk_laws.proofs.Vocabulary.{slice_index_or, slice_set, sym, taken, true, ℕ, ◌+◌, ◌<◌, ◌∙◌, ◌≡◌, ◌≤◌, ◌⊎◌}
 use Rattle.mk_geom.proofs.FirstFit.{run_place_is}
 use Rattle.mk_core.specs.declared.seats.Stage.TheVariants as stage
 use Rattle.mk_laws.proofs.Standings.{InCall, UnderTurn, standing}
 use Rattle.mk_laws.proofs.Stages.{new_stands}
-use Rattle.mk_laws.proofs.Services.{Service, Goes, Loads, Places as PlacesNew, Fills, Grants as GrantsNew}
-use Rattle.mk_laws.proofs.Services.{Frees as FreesRun}
+use Rattle.mk_laws.proofs.Services.{Service, Goes, Loads, Places as PlacesNew}
 use Rattle.mk_laws.proofs.Views.{View, view_of, flight_in, flight_at, flights_with, HoldsTurn}
 use Rattle.mk_laws.proofs.ProtocolMoves.{Move, Enters, GoesOn, Leaves, Takes, Gives as GivesTurn, Works}
 use Rattle.mk_laws.proofs.Orderly.{same_holder}
@@ -21,7 +19,6 @@ use Rattle.mk_laws.proofs.Actors.{Meets}
 use Rattle.mk_laws.proofs.OrderlyLists.{event_moves}
 use Rattle.mk_laws.proofs.Known.{Known}
 use Rattle.mk_laws.proofs.OthersMoves.{WorldBehind}
-use Rattle.mk_laws.specs.Ground.{Ground}
 use Rattle.mk_laws.proofs.Ground.{GroundStep, Starts, Gives, Carves, Unmaps, TakesCell, Grants, Places, ground_step}
 
 abbrev pub held_place : Placing → Option Place
@@ -141,8 +138,7 @@ new_was c v seat n j (Works f i t s) new = inl (by seat t s new)
         → slice_index_or (flights_with v.flights s f) j at_rest ≡ flight_in v j
     by (Caller k) t s new = set_new v.flights k j f (service_new (slice_index_or v.flights k at_rest) v.holding f i s)
         new
-    by (Marker k) t s new = absurd t
-    by Host t s new = refl
+    by _ t s new = cc
 new_was c v seat n j _ new = inl refl
 
 -- the seat of an undecided New holds the turn

@@ -1,8 +1,6 @@
 -- Which stage of a call each step comes at.
-use Rattle.std.proofs.Common.{◌≡◌, Bool, true, false, refl}
-use Rattle.std.specs.Prelude.{Some, None}
-use Rattle.std.proofs.lemmas.Bool.{not-true}
-use Rattle.mk_laws.proofs.Vocabulary.{Op, Stage, Step, comes_next, group_of, is_under_turn}
+use Rattle.mk_laws.proofs.Vocabulary.{Bool, None, Op, Some, Stage, Step, comes_next, false, group_of, is_under_turn}
+use Rattle.mk_laws.proofs.Vocabulary.{not-true, refl, true, ◌≡◌}
 use Rattle.mk_never.specs.declared.operations.Op.TheVariants as op
 use Rattle.mk_core.specs.declared.events.Step.TheVariants as step
 use Rattle.mk_core.specs.declared.events.Group.TheVariants as group
@@ -87,5 +85,4 @@ at_take _ o next h = cc
 
 pub at_no_take : (s : Stage) (o : Op) → comes_next s o (step.Take None) ≡ true → ⊥
 at_no_take stage.Turn o h = let e = (deciding_kind o (step.Take None) h).1 in cc
-at_no_take stage.Idle o h = cc
 at_no_take _ o h = cc

@@ -1,20 +1,10 @@
 -- Allocations after events that grant none: what is unreleased was so before, and each keeps its place.
-use Rattle.std.proofs.Common.{List, [], ap, append-nil, append_assoc, false, refl, subst, sym, ℕ, ◌++◌, ◌<◌, ◌∙◌, ◌∷◌}
-use Rattle.std.proofs.Common.{◌≡◌, length}
-use Rattle.std.proofs.lemmas.Bool.{true≢false}
-use Rattle.mk_core.specs.Allocations.{PlacedAllocation, placed_at}
-use Rattle.mk_core.specs.Cycles.{is_release}
-use Rattle.mk_core.specs.History.{IsHistory, World, left, world_behind}
-use Rattle.mk_core.specs.Moments.{flight_of}
-use Rattle.mk_core.specs.declared.config.Config.{Config}
-use Rattle.mk_core.specs.declared.events.Event.{Event}
-use Rattle.mk_core.specs.declared.events.Seat.{Seat}
-use Rattle.mk_core.specs.declared.events.Step.{Step}
-use Rattle.mk_laws.proofs.OthersMoves.{WorldBehind}
-use Rattle.mk_laws.proofs.AllocationSteps.{AreOfOne, Came, GoesOn, IsNew, Stayed, allocation_step, goes_on}
-use Rattle.mk_laws.proofs.AllocationSteps.{of_one_joined}
+use Rattle.mk_laws.proofs.Vocabulary.{Config, Event, IsHistory, List, PlacedAllocation, Seat, Step, World, [], ap}
+use Rattle.mk_laws.proofs.Vocabulary.{append-nil, append_assoc, false, flight_of, is_release, left, length, placed_at}
+use Rattle.mk_laws.proofs.Vocabulary.{refl, subst, sym, true≢false, world_behind, ℕ, ◌++◌, ◌<◌, ◌∙◌, ◌∷◌, ◌≡◌}
+use Rattle.mk_laws.proofs.Basics.{Came, IsNew, Stayed, WorldBehind, is_grant}
+use Rattle.mk_laws.proofs.AllocationSteps.{AreOfOne, GoesOn, allocation_step, goes_on, of_one_joined}
 use Rattle.mk_laws.proofs.Marking.{one_more}
-use Rattle.mk_laws.proofs.PrecisionStepKinds.{is_grant}
 use Rattle.mk_laws.proofs.Precise.{came_behind}
 use Rattle.mk_laws.proofs.Stretches.{None_of, along_without}
 
@@ -62,16 +52,14 @@ pub record IsKept (w : World) (i : ℕ) : Type 0 where
 
 -- It stays so after events that aren't a `release`.
 pub kept_along : (c : Config) (start rest : List Event) (i : ℕ) → IsHistory c (start ++ rest)
-    → None_of is_release rest → IsKept (left c start) i
-    → IsKept (left c (start ++ rest)) i
+    → None_of is_release rest → IsKept (left c start) i → IsKept (left c (start ++ rest)) i
 kept_along c start rest i h none kept =
     along_without c is_release (λ (more : List Event). IsKept (left c (start ++ more)) i) start [] rest
     (λ more e g other at. next more e g other at) h none
     (subst (λ (xs : List Event). IsKept (left c xs) i) (sym (append-nil start)) kept)
   where
     next : (more : List Event) (e : Event) → IsHistory c ((start ++ more) ++ e ∷ []) → is_release e.step ≡ false
-        → IsKept (left c (start ++ more)) i
-        → IsKept (left c (start ++ (more ++ e ∷ []))) i
+        → IsKept (left c (start ++ more)) i → IsKept (left c (start ++ (more ++ e ∷ []))) i
     next more e g other at =
         let w : World = left c (start ++ more) in
         let m = one_more c (start ++ more) e g in

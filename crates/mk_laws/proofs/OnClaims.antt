@@ -1,14 +1,10 @@
 -- Where nothing is on its way, each page with a header is one of a claim's.
-use Rattle.std.proofs.Common.{Bool, arith, false, inl, inr, refl, suc, sym, true, zero, ℕ, ◌+◌, ◌-◌, ◌<◌, ◌∙◌, ◌≡◌, ◌≢◌}
-use Rattle.std.proofs.Common.{◌⊎◌}
-use Rattle.std.specs.Prelude.{Option, Some}
-use Rattle.std.proofs.lemmas.Bool.{cases_Bool, cases_eq, true≢false}
-use Rattle.mk_laws.proofs.Vocabulary.{Header, Later, ShowsPart, cells_under, found, has_bit, head_page_under}
-use Rattle.mk_laws.proofs.Vocabulary.{is_small_object, pages_made}
-use Rattle.mk_core.proofs.Sizes.{pages_some}
-use Rattle.mk_laws.specs.LayoutScene.{Among, Claim, IsClaimed, IsLaidOn, NoPlot, LayoutScene, head_on, header_on}
-use Rattle.mk_laws.specs.LayoutScene.{is_released_on, run_count, shows_on, used_on}
-use Rattle.mk_laws.proofs.LayoutReadings.{claimed, zero_where_none}
+use Rattle.mk_laws.proofs.Vocabulary.{Among, Bool, Claim, Header, IsClaimed, IsLaidOn, Later, LayoutScene, NoPlot}
+use Rattle.mk_laws.proofs.Vocabulary.{Option, ShowsPart, Some, arith, cases_Bool, cases_eq, cells_under, false, found}
+use Rattle.mk_laws.proofs.Vocabulary.{has_bit, head_on, head_page_under, header_on, inl, inr, is_released_on}
+use Rattle.mk_laws.proofs.Vocabulary.{is_small_object, pages_made, pages_some, refl, run_count, shows_on, suc, sym}
+use Rattle.mk_laws.proofs.Vocabulary.{true, true≢false, used_on, zero, ℕ, ◌+◌, ◌-◌, ◌<◌, ◌∙◌, ◌≡◌, ◌≢◌, ◌⊎◌}
+use Rattle.mk_laws.proofs.Basics.{claimed, zero_where_none}
 use Rattle.mk_laws.proofs.RunCounts.{part_count, small_count}
 
 -- a bit below a bound, or none

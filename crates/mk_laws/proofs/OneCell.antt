@@ -1,10 +1,7 @@
 -- Unreleased allocations of one cell are one.
-use Rattle.std.proofs.Common.{List, ap, false, inl, inr, refl, suc, sym, true, zero, ℕ, ◌∙◌, ◌∷◌, ◌≡◌, ◌⊎◌, []}
-use Rattle.std.specs.Prelude.{Option}
-use Rattle.std.proofs.lemmas.Bool.{cases_Bool, true≢false}
-use Rattle.mk_laws.proofs.Vocabulary.{Config, PlacedAllocation, RunPages, placed_at}
-use Rattle.mk_laws.specs.LayoutScene.{AreApart, IsOfOneCell}
-use Rattle.mk_laws.specs.Terrain.{claim_of, claims_of}
+use Rattle.mk_laws.proofs.Vocabulary.{AreApart, Config, IsOfOneCell, List, Option, PlacedAllocation, RunPages, [], ap}
+use Rattle.mk_laws.proofs.Vocabulary.{cases_Bool, claim_of, claims_of, false, inl, inr, placed_at, refl, suc, sym, true}
+use Rattle.mk_laws.proofs.Vocabulary.{true≢false, zero, ℕ, ◌∙◌, ◌∷◌, ◌≡◌, ◌⊎◌}
 use Rattle.mk_laws.proofs.Claims.{claim_among, front, gone_front}
 
 -- No two numbers have one cell.

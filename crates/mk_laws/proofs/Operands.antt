@@ -1,12 +1,11 @@
 -- The operands of each call in flight are in range.
-use Rattle.std.proofs.Common.{◌≡◌, ℕ, ◌<◌, Bool, true, false, List, length, refl, sym, ◌∙◌, ap, subst, inl, inr}
-use Rattle.std.specs.Prelude.{Option, Some, None, slice_index_or, slice_set, if◌then◌else◌, ◌==◌, ◌&&◌, nat_lt}
-use Rattle.std.proofs.lemmas.Bool.{cases_eq, cases_lt, ltb-true, and_parts}
-use Rattle.std.proofs.lemmas.List.{get_or-set_same, get_or-set_other, set_past}
-use Rattle.mk_laws.proofs.Vocabulary.{Caller, Cell, Config, Flight, Host, Marker, Moment, Op, Progress, Seat, Stage}
-use Rattle.mk_laws.proofs.Vocabulary.{Step, at_rest, cell_freed, d_of, flight_of, found, g_of, has_operands}
-use Rattle.mk_laws.proofs.Vocabulary.{is_in_range, p_of, progress, progress_freed, progress_p, progress_q}
-use Rattle.mk_laws.proofs.Vocabulary.{progress_read, progress_reg, q_of, r_of, register_met}
+use Rattle.mk_laws.proofs.Vocabulary.{Bool, Caller, Cell, Config, Flight, List, Moment, None, Op, Option, Progress}
+use Rattle.mk_laws.proofs.Vocabulary.{Seat, Some, Stage, Step, and_parts, ap, at_rest, cases_eq, cases_lt, cell_freed}
+use Rattle.mk_laws.proofs.Vocabulary.{d_of, false, flight_of, found, g_of, get_or-set_other, get_or-set_same}
+use Rattle.mk_laws.proofs.Vocabulary.{has_operands, if◌then◌else◌, inl, inr, is_in_range, length, ltb-true, nat_lt}
+use Rattle.mk_laws.proofs.Vocabulary.{p_of, progress, progress_freed, progress_p, progress_q, progress_read}
+use Rattle.mk_laws.proofs.Vocabulary.{progress_reg, q_of, r_of, refl, register_met, set_past, slice_index_or, slice_set}
+use Rattle.mk_laws.proofs.Vocabulary.{true, ℕ, ◌&&◌, ◌<◌, ◌==◌, ◌∙◌, ◌≡◌}
 use Rattle.mk_never.specs.declared.operations.Op.TheVariants as op
 use Rattle.mk_core.specs.declared.events.Step.TheVariants as step
 use Rattle.mk_core.specs.declared.seats.Stage.TheVariants as stage

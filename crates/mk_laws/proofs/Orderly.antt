@@ -1,9 +1,8 @@
 -- All is in order: what each move keeps, by what the protocol reads.
-use Rattle.std.proofs.Common.{◌≡◌, ◌≢◌, ◌⊎◌, ℕ, ◌+◌, ◌-◌, ◌*◌, ◌%◌, ◌<◌, ◌≤◌, true, length, refl, sym, ap, subst, arith}
-use Rattle.std.proofs.lemmas.List.{get_or_past}
 use Rattle.std.proofs.lemmas.List.Sums.{count_by-le-length}
-use Rattle.mk_laws.proofs.Vocabulary.{Caller, Config, Flight, Host, Marker, Seat, at_rest, holder_number}
-use Rattle.mk_laws.proofs.Vocabulary.{is_attending, is_in, nothing_done}
+use Rattle.mk_laws.proofs.Vocabulary.{Caller, Config, Flight, Host, Marker, Seat, ap, arith, at_rest, get_or_past}
+use Rattle.mk_laws.proofs.Vocabulary.{holder_number, is_attending, is_in, length, nothing_done, refl, true, ℕ, ◌%◌, ◌*◌}
+use Rattle.mk_laws.proofs.Vocabulary.{◌+◌, ◌-◌, ◌<◌, ◌≡◌, ◌≢◌, ◌≤◌, ◌⊎◌}
 use Rattle.mk_laws.proofs.Standings.{Standing, Resting, UnderTurn, standing, Shows}
 use Rattle.mk_laws.proofs.Services.{Served}
 use Rattle.mk_laws.proofs.Views.{View, flight_in, gate_in, marker_in, flight_at, HoldsTurn}

@@ -1,13 +1,9 @@
 -- All is in order after every enabled list.
-use Rattle.std.proofs.Common.{◌≡◌, ℕ, ◌<◌, ◌≤◌, true, false, List, [], ◌∷◌, refl, sym, ◌∙◌, ap, subst, inl, inr, arith}
-use Rattle.std.specs.Prelude.{replicate, slice_index, slice_index_or}
-use Rattle.std.proofs.lemmas.Bool.{cases_lt}
-use Rattle.std.proofs.lemmas.List.{length-replicate, get_or-replicate, get_or_past}
-use Rattle.mk_laws.proofs.Vocabulary.{AreEnabledFrom, Caller, Config, Event, Flight, Moment, Seat, Step, World}
-use Rattle.mk_laws.proofs.Vocabulary.{at_rest, first_moment, flight_of, is_attending, left_from, outside}
-use Rattle.mk_laws.proofs.Vocabulary.{world_behind}
-use Rattle.mk_core.specs.declared.seats.Marker.{Marker}
-use Rattle.mk_core.proofs.Conditions.{enabled_meets}
+use Rattle.std.specs.Prelude.{replicate}
+use Rattle.std.proofs.lemmas.List.{length-replicate, get_or-replicate}
+use Rattle.mk_laws.proofs.Vocabulary.{Caller, Config, MarkerState as Marker, Moment, Seat, Step, ap, arith, at_rest}
+use Rattle.mk_laws.proofs.Vocabulary.{cases_lt, false, first_moment, flight_of, get_or_past, inl, inr, is_attending}
+use Rattle.mk_laws.proofs.Vocabulary.{outside, refl, slice_index_or, subst, sym, true, ℕ, ◌<◌, ◌∙◌, ◌≡◌, ◌≤◌}
 use Rattle.mk_laws.proofs.Standings.{Resting, standing, is_astray, Shows, shown_not_astray}
 use Rattle.mk_laws.proofs.Services.{nothing_served}
 use Rattle.mk_laws.proofs.Views.{view_of, gate_in}

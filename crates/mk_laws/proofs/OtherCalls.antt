@@ -1,14 +1,11 @@
 -- The calls that events of others decide: none is a seat's own, so they leave its registers in the heap that never
 -- reuses storage.
-use Rattle.std.proofs.Common.{List, ap, subst, sym, ℕ, ◌++◌, ◌∷◌, ◌≢◌, []}
-use Rattle.std.proofs.lemmas.List.{map-append}
 use Rattle.mk_laws.proofs.Vocabulary.{AreOfOthers, Call, Caller, Config, Continues, Decided, Event, IsHistory}
-use Rattle.mk_laws.proofs.Vocabulary.{KeepsRegisters, NeverState, Seat, Step, World, answer_decided, asked}
-use Rattle.mk_laws.proofs.Vocabulary.{call_decided, calls_from, flight_of, left, never_behind, world_behind}
+use Rattle.mk_laws.proofs.Vocabulary.{KeepsRegisters, List, Seat, Step, World, [], admitted_in_parts, admitted_keep}
+use Rattle.mk_laws.proofs.Vocabulary.{answer_decided, asked, call_decided, calls_from, left, map-append, never_behind}
+use Rattle.mk_laws.proofs.Vocabulary.{never_in_parts, subst, sym, world_behind, ℕ, ◌++◌, ◌∷◌, ◌≢◌}
 use Rattle.mk_never.specs.Laws.{AreNotBy}
 use Rattle.mk_never.proofs.Later.{calls_stay}
-use Rattle.mk_never.proofs.Registers.{admitted_keep}
-use Rattle.mk_core.proofs.HistoryParts.{admitted_in_parts, never_in_parts}
 use Rattle.mk_laws.proofs.ProtocolFrames.{other_seat}
 use Rattle.mk_laws.proofs.FreedRuns.{not_by}
 

@@ -1,20 +1,20 @@
 -- While a seat holds the turn, no other ends a cycle, and none is answered Full.
-use Rattle.std.proofs.Common.{◌≡◌, ℕ, ◌+◌, Bool, true, false, List, ◌++◌, refl, ◌∙◌, ap}
-use Rattle.std.specs.Prelude.{Option, Some, None, count_by, cond, if◌then◌else◌, ◌==◌}
-use Rattle.std.proofs.lemmas.List.{map-append}
+use Rattle.std.specs.Prelude.{count_by}
 use Rattle.std.proofs.lemmas.List.Sums.{sum_by-append}
-use Rattle.mk_laws.proofs.Vocabulary.{Answer, Caller, Config, Decided, Flight, Moment, Op, Progress, Seat, Stage}
-use Rattle.mk_laws.proofs.Vocabulary.{Step, answer_decided, answered, begun, entry_of, flight_of, found, group_of}
-use Rattle.mk_laws.proofs.Vocabulary.{header_of, is_end, is_some_and, is_unmapped_header, onward, progress}
-use Rattle.mk_laws.proofs.Vocabulary.{progress_p, progress_q, progress_read, progress_reg, refused, still}
+use Rattle.mk_laws.proofs.Vocabulary.{Answer, Bool, Caller, Config, Decided, Flight, List, Moment, None, Op, Option}
+use Rattle.mk_laws.proofs.Vocabulary.{Progress, Seat, Some, Stage, Step, answer_decided, answered, begun, cond}
+use Rattle.mk_laws.proofs.Vocabulary.{entry_of, false, flight_of, found, group_of, header_of, if◌then◌else◌, is_end}
+use Rattle.mk_laws.proofs.Vocabulary.{is_some_and, is_unmapped_header, map-append, onward, progress, progress_p}
+use Rattle.mk_laws.proofs.Vocabulary.{progress_q, progress_read, progress_reg, refl, refused, still, true, ℕ, ◌++◌, ◌+◌}
+use Rattle.mk_laws.proofs.Vocabulary.{◌==◌, ◌≡◌}
+use Rattle.mk_laws.proofs.Basics.{Actor, AsHolder, AsMarker, HoldsTurn, InCallOf, view_of}
 use Rattle.mk_never.specs.declared.operations.Op.TheVariants as op
 use Rattle.mk_core.specs.declared.events.Answer.TheVariants as answer
 use Rattle.mk_core.specs.declared.events.Group.TheVariants as group
 use Rattle.mk_core.specs.declared.events.Step.TheVariants as step
 use Rattle.mk_core.specs.declared.seats.Stage.TheVariants as stage
 use Rattle.mk_core.specs.Counts.{is_full_answer}
-use Rattle.mk_laws.proofs.Views.{view_of, HoldsTurn}
-use Rattle.mk_laws.proofs.Actors.{Actor, InCallOf, AsMarker, CallTakes, HostTakes, AsHolder}
+use Rattle.mk_laws.proofs.Actors.{CallTakes, HostTakes}
 
 abbrev pub answers_full : Option Answer → Bool
 answers_full a = is_some_and is_full_answer a
@@ -30,9 +30,8 @@ q_answer f (op.Same p q) n = refl
 q_answer f _ n = either_answer (n == 0) _ _ refl refl
 
 p_answer : (f : Flight) (o : Op) (n : ℕ) → answers_full (progress_p f o n).answer ≡ false
-p_answer f (op.IsNull p) n = refl
 p_answer f (op.Free p) n = either_answer (n == 0) _ _ refl refl
-p_answer f _ n = refl
+p_answer f _ n = cc
 
 reg_answer : (f : Flight) (s : Stage) (n : ℕ) → answers_full (progress_reg f s n).answer ≡ false
 reg_answer f stage.LoadQ n = q_answer f f.op n
@@ -47,16 +46,10 @@ call_answer : (c : Config) (m : Moment) (f : Flight) (n : ℕ) (x : Step) → gr
     → answers_full (progress c m f n x).answer ≡ false
 call_answer c m f n (step.Enter o) g = either_answer (n == 0) (record { flight = begun o; answer = None })
     (still f) refl refl
-call_answer c m f n step.Leave g = refl
 call_answer c m f n step.Reg g = reg_answer f f.stage n
 call_answer c m f n step.Probe g = either_answer (is_unmapped_header (header_of n)) (refused f answer.Fault)
     (onward f None) refl refl
 call_answer c m f n step.Read g = read_answer f f.op n
-call_answer c m f n step.Write g = refl
-call_answer c m f n step.Cas g = refl
-call_answer c m f n step.Getg g = refl
-call_answer c m f n step.Setg g = refl
-call_answer c m f n step.Dirty g = refl
 call_answer c m f n _ g = cc
 
 call_no_end : (x : Step) → group_of x ≡ group.Callers → is_end x ≡ false

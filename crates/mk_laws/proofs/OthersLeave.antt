@@ -1,23 +1,18 @@
 -- Events of others take no header back while a marker attends, and what points well still does.
-use Rattle.std.proofs.Common.{◌≡◌, List, ◌∷◌, ◌++◌, false, refl, ◌∙◌, sym, ap, subst, []}
-use Rattle.mk_laws.proofs.Vocabulary.{AreEnabledFrom, AreOfOthers, AreOfPages, Config, Event, IsWithinLimits}
-use Rattle.mk_laws.proofs.Vocabulary.{Marker, Moment, Page, Seat, Steady, Step, World, access, cell_at, first_world}
-use Rattle.mk_laws.proofs.Vocabulary.{free_page, left, left_from, word_accessed, world_behind}
-use Rattle.std.specs.Prelude.{slice_index_or, Some}
+use Rattle.mk_laws.proofs.Vocabulary.{AreEnabledFrom, AreOfOthers, AreOfPages, Config, Event, GuardPremises}
+use Rattle.mk_laws.proofs.Vocabulary.{GuardPremisesFrom, IsMarking, IsWithinLimits, List, Marker, Moment, Page, Seat}
+use Rattle.mk_laws.proofs.Vocabulary.{Steady, Step, World, [], access, accessed_lengths, ap, enabled_meets}
+use Rattle.mk_laws.proofs.Vocabulary.{enabled_parts, false, first_world, free_page, histories_keep_lengths, left}
+use Rattle.mk_laws.proofs.Vocabulary.{left_append, left_from, refl, slice_index_or, sym, word_accessed, world_behind}
+use Rattle.mk_laws.proofs.Vocabulary.{◌++◌, ◌∙◌, ◌∷◌, ◌≡◌}
+use Rattle.mk_laws.proofs.Basics.{Known, Meets, WorldBehind, headers_kind, is_head, known_behind, known_left}
+use Rattle.mk_laws.proofs.Basics.{wells_from}
 use Rattle.mk_core.specs.declared.events.Step.TheVariants as step
 use Rattle.mk_core.specs.Frames.{Attends, HeadersAreLeft}
-use Rattle.mk_core.proofs.Conditions.{enabled_meets}
-use Rattle.mk_core.proofs.Lengths.{histories_keep_lengths, accessed_lengths}
-use Rattle.mk_core.proofs.Histories.{left_append, enabled_parts}
-use Rattle.mk_laws.proofs.Actors.{Meets}
-use Rattle.mk_laws.proofs.OthersMoves.{WorldBehind}
-use Rattle.mk_laws.proofs.Known.{Known, known_behind, known_left}
 use Rattle.mk_laws.proofs.ProtocolFrames.{left_after, still_attends, other_seat, others_leave}
-use Rattle.mk_laws.specs.Guard.{IsMarking}
-use Rattle.mk_laws.specs.Kept.{GuardPremises, GuardPremisesFrom}
 use Rattle.mk_laws.specs.Left.{OthersLeaveHeaders, OthersLeaveWells}
-use Rattle.mk_laws.proofs.Wells.{well_is, is_well, wells_from}
-use Rattle.mk_laws.proofs.Changes.{is_head, headers_kind, marks_kind}
+use Rattle.mk_laws.proofs.Wells.{well_is, is_well}
+use Rattle.mk_laws.proofs.Changes.{marks_kind}
 use Rattle.mk_laws.proofs.Headers.{head_keeps}
 use Rattle.mk_laws.proofs.FoundHeaders.{head_finds}
 

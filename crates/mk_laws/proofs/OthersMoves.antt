@@ -1,13 +1,10 @@
 -- What an event may do whose seat doesn't hold the turn, while another holds it.
-use Rattle.std.proofs.Common.{◌≡◌, ◌≢◌, ℕ, ◌+◌, ◌-◌, ◌*◌, ◌%◌, ◌^◌, ◌<◌, ◌≤◌, Bool, true, false, List, refl, sym, ◌∙◌}
-use Rattle.std.proofs.Common.{ap, subst, inl, inr, arith}
-use Rattle.std.specs.Prelude.{Some, None, slice_index, slice_set, bit_or, if◌then◌else◌}
-use Rattle.std.proofs.lemmas.Bool.{cases_eq, eq-eqb, ne_eqb}
-use Rattle.std.proofs.lemmas.List.{set-get_or}
-use Rattle.mk_laws.proofs.Vocabulary.{Caller, Config, Flight, Host, Marker, MarkerState, Moment, Named, Op, Seat}
-use Rattle.mk_laws.proofs.Vocabulary.{Stage, Step, Words, World, accessed, at_rest, begun, flight_of, found}
-use Rattle.mk_laws.proofs.Vocabulary.{group_of, is_attending, is_in, marker_of, nothing_done, outside, reg_access}
-use Rattle.mk_laws.proofs.Vocabulary.{register_met, still, world_behind}
+use Rattle.mk_laws.proofs.Vocabulary.{Bool, Caller, Config, Flight, Host, Marker, MarkerState, Moment, Named, None, Op}
+use Rattle.mk_laws.proofs.Vocabulary.{Seat, Some, Stage, Step, Words, World, accessed, ap, arith, at_rest, begun}
+use Rattle.mk_laws.proofs.Vocabulary.{bit_or, cases_eq, eq-eqb, false, flight_of, found, group_of, if◌then◌else◌, inl}
+use Rattle.mk_laws.proofs.Vocabulary.{inr, is_attending, is_in, marker_of, ne_eqb, outside, refl, reg_access}
+use Rattle.mk_laws.proofs.Vocabulary.{register_met, set-get_or, slice_index, slice_set, still, sym, true, world_behind}
+use Rattle.mk_laws.proofs.Vocabulary.{ℕ, ◌%◌, ◌*◌, ◌+◌, ◌-◌, ◌<◌, ◌^◌, ◌∙◌, ◌≡◌, ◌≢◌, ◌≤◌}
 use Rattle.mk_core.specs.declared.events.Group.TheVariants as group
 use Rattle.mk_core.specs.declared.events.Word.TheVariants as word
 use Rattle.mk_core.specs.declared.events.Step.TheVariants as step
@@ -220,6 +217,5 @@ free_move c w seat x known free takes h = by seat x (actor_of c w.now seat x kno
     by : (seat : Seat) (x : Step) → Actor c w.now seat x → is_take x ≡ false → Meets c w.now seat x → Outs c w seat x
     by seat x (InCallOf k _ lt g) takes h = call_out c w k x known (λ t. none (Caller k) t) lt g h
     by seat x (AsMarker k _ lt g) takes h = marker_out c w k x known lt g h
-    by seat x (CallTakes k o lt idle is) takes h = absurd (cc)
-    by seat x (HostTakes free) takes h = absurd (cc)
     by seat x (AsHolder _ _ t n) takes h = absurd (none seat t)
+    by seat x _ takes h = cc

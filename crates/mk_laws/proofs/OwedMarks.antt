@@ -1,19 +1,17 @@
 -- Which steps bring a call to where it owes a dirty mark: a store and an exchange.
-use Rattle.std.proofs.Common.{◌≡◌, ◌⊎◌, ℕ, Bool, true, false, refl, sym, ◌∙◌, ap, inl, inr}
-use Rattle.std.specs.Prelude.{Option, Some, None, ◌==◌, if◌then◌else◌}
-use Rattle.std.proofs.lemmas.Bool.{true≢false}
-use Rattle.mk_laws.proofs.Vocabulary.{Answer, Cell, Config, Flight, Moment, Op, Stage, Step, begun, cell_freed}
-use Rattle.mk_laws.proofs.Vocabulary.{comes_next, decided, header_of, is_unmapped_header, onward, page_met}
-use Rattle.mk_laws.proofs.Vocabulary.{progress, progress_freed, progress_p, progress_q, progress_read, progress_reg}
-use Rattle.mk_laws.proofs.Vocabulary.{refused, sees_double, stage_behind, stage_refused, steps_of, still, target}
+use Rattle.mk_laws.proofs.Vocabulary.{Answer, Bool, Cell, Config, Flight, Moment, None, Op, Option, Some, Stage, Step}
+use Rattle.mk_laws.proofs.Vocabulary.{ap, begun, cell_freed, comes_next, decided, false, header_of, if◌then◌else◌, inl}
+use Rattle.mk_laws.proofs.Vocabulary.{inr, is_heap_store, is_unmapped_header, onward, page_met, progress}
+use Rattle.mk_laws.proofs.Vocabulary.{progress_freed, progress_p, progress_q, progress_read, progress_reg, refl}
+use Rattle.mk_laws.proofs.Vocabulary.{refused, sees_double, stage_behind, stage_refused, steps_of, still, sym, target}
+use Rattle.mk_laws.proofs.Vocabulary.{true, true≢false, ℕ, ◌==◌, ◌∙◌, ◌≡◌, ◌⊎◌}
+use Rattle.mk_laws.proofs.Basics.{at_its_stage, at_reg}
 use Rattle.mk_never.specs.declared.operations.Op.TheVariants as op
 use Rattle.mk_core.specs.declared.events.Answer.TheVariants as answer
 use Rattle.mk_core.specs.declared.events.Step.TheVariants as step
 use Rattle.mk_core.specs.declared.seats.Stage.TheVariants as stage
 use Rattle.mk_core.specs.Calls.{first_of}
-use Rattle.mk_laws.proofs.NextSteps.{at_its_stage, at_reg}
 use Rattle.mk_laws.proofs.Stages.{is_reg_stage}
-use Rattle.mk_laws.specs.ZeroLaws.{is_heap_store}
 
 -- the call has its store, or its exchange, next
 abbrev is_storing : Stage → Bool
@@ -33,13 +31,11 @@ first_not_dirty _ h = cc
 
 refusal_not_dirty : (o : Op) → stage_refused o ≡ stage.Dirty → ⊥
 refusal_not_dirty (op.GetPtr d q i) h = cc
-refusal_not_dirty (op.Lea d q i) h = cc
 refusal_not_dirty _ h = cc
 
 reg_is_no_store : (s : Stage) → is_reg_stage s ≡ true → is_storing s ≡ false
 reg_is_no_store stage.Write h = cc
-reg_is_no_store stage.Cas h = cc
-reg_is_no_store _ h = refl
+reg_is_no_store _ h = cc
 
 onward_not_dirty : (f : Flight) → is_storing f.stage ≡ false → stage_behind f.stage (steps_of f.op) ≡ stage.Dirty → ⊥
 onward_not_dirty f off h = true≢false (sym (behind_is_dirty f.op f.stage h) ∙ off)
@@ -78,8 +74,7 @@ reg_stays f stage.LoadQ n off h = absurd (q_not_dirty f f.op n off h)
 reg_stays f stage.LoadP n off h = absurd (p_not_dirty f f.op n off h)
 reg_stays f stage.LoadR n off h = absurd (onward_not_dirty (record f { r = n }) off h)
 reg_stays f stage.Store n off h = absurd (onward_not_dirty f off h)
-reg_stays f stage.Put n off h = cc
-reg_stays f _ n off h = refl
+reg_stays f _ n off h = cc
 
 begins_stays : (b : Bool) (f : Flight) (o : Op)
     → (if b then record { flight = begun o; answer = None } else still f).flight.stage ≡ stage.Dirty

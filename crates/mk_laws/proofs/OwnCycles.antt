@@ -1,22 +1,15 @@
 -- The cycle that the turn's holder has begun, and how far it is.
-use Rattle.std.proofs.Common.{◌≡◌, ◌⊎◌, ℕ, ◌%◌, Bool, true, false, List, ◌∷◌, ◌++◌, refl, sym, ◌∙◌, ap, arith, inl, inr}
-use Rattle.std.proofs.Common.{[]}
-use Rattle.std.proofs.Common.{subst}
-use Rattle.std.specs.Prelude.{⊤, Option, ◌==◌, if◌then◌else◌}
-use Rattle.std.proofs.lemmas.Bool.{eqb-true}
-use Rattle.std.specs.List.{list_any}
-use Rattle.mk_laws.proofs.Vocabulary.{At, Config, Cycle, Event, Holding, Marking, Op, OwnCycle, Releasing, Seat}
-use Rattle.mk_laws.proofs.Vocabulary.{Step, World, is_begin, is_close, is_end, is_release, nothing_done, phase_of}
+use Rattle.std.specs.Prelude.{⊤}
+use Rattle.mk_laws.proofs.Vocabulary.{At, Bool, Config, Cycle, Event, Holding, List, Marking, Op, Option, OwnCycle}
+use Rattle.mk_laws.proofs.Vocabulary.{Releasing, Seat, Step, World, [], ap, arith, eqb-true, false, if◌then◌else◌, inl}
+use Rattle.mk_laws.proofs.Vocabulary.{inr, is_begin, is_close, is_end, is_release, list_any, nothing_done, phase_of}
+use Rattle.mk_laws.proofs.Vocabulary.{refl, subst, sym, true, ℕ, ◌%◌, ◌++◌, ◌==◌, ◌∙◌, ◌∷◌, ◌≡◌, ◌⊎◌}
+use Rattle.mk_laws.proofs.Basics.{Meets, WorldBehind, reg_leaves, tally_keeps}
 use Rattle.mk_core.specs.declared.events.Step.TheVariants as step
 use Rattle.mk_core.specs.declared.seats.OwnCycle.TheVariants.{Begun, Ended, NotBegun}
 use Rattle.mk_core.specs.Effects.{cycle_ended}
-use Rattle.mk_laws.proofs.Actors.{Meets}
-use Rattle.mk_laws.proofs.OthersMoves.{WorldBehind}
-use Rattle.mk_laws.proofs.SameWords.{tally_keeps}
-use Rattle.mk_laws.proofs.LayoutBefore.{reg_leaves}
 use Rattle.mk_laws.proofs.Behind.{over_phase}
-use Rattle.mk_laws.proofs.Longer.{longer_at, longer_cycle, longer_marking, longer_releasing, next_at_end}
-use Rattle.mk_laws.proofs.Longer.{none_more}
+use Rattle.mk_laws.proofs.Longer.{longer_at, longer_cycle, longer_marking, longer_releasing, next_at_end, none_more}
 
 -- some event of the kind
 abbrev pub some_of : (Step → Bool) → List Event → Bool

@@ -1,10 +1,6 @@
 -- Pages of which one gets another header or used word.
-use Rattle.std.proofs.Common.{List, ap, inl, inr, length, ℕ, ◌<◌, ◌∙◌, ◌≡◌, ◌≢◌}
-use Rattle.std.specs.Prelude.{slice_set}
-use Rattle.std.proofs.lemmas.Bool.{cases_eq}
-use Rattle.std.proofs.lemmas.List.{get_or-set_other, get_or-set_same}
-use Rattle.mk_laws.proofs.Vocabulary.{Page, free_page}
-use Rattle.mk_laws.specs.LayoutScene.{header_on, used_on}
+use Rattle.mk_laws.proofs.Vocabulary.{List, Page, ap, cases_eq, free_page, get_or-set_other, get_or-set_same, header_on}
+use Rattle.mk_laws.proofs.Vocabulary.{inl, inr, length, slice_set, used_on, ℕ, ◌<◌, ◌∙◌, ◌≡◌, ◌≢◌}
 
 abbrev pub with_header_on : List Page → ℕ → ℕ → List Page
 with_header_on pages p n = slice_set pages p (record { header = n; used = used_on pages p })

@@ -1,14 +1,12 @@
 -- Two lists that are changed at one place together, and facts on images under changes of what they read.
-use Rattle.std.proofs.Common.{◌≡◌, ◌≢◌, ℕ, ◌+◌, ◌<◌, true, false, List, ◌++◌, length, get_or, set, refl, sym, ap, subst}
-use Rattle.std.proofs.Common.{◌∙◌, inl, inr, arith}
-use Rattle.std.specs.Prelude.{if◌then◌else◌}
-use Rattle.std.proofs.lemmas.Bool.{cases_eq, eq-eqb, ne_eqb}
-use Rattle.std.proofs.lemmas.List.{get_or-set_same, get_or-set_other, get_or_append_left}
-use Rattle.mk_laws.proofs.Vocabulary.{Flight, IsSound, NeverState, Null, Num, Op, Ptr, Stage, Value, address_of}
-use Rattle.mk_laws.proofs.Vocabulary.{allocation_at, d_of, image_of, is_unmapped, words_of}
+use Rattle.std.proofs.Common.{set}
+use Rattle.mk_laws.proofs.Vocabulary.{Carries, Flight, IsMet, IsSound, List, NeverState, Op, Ptr, Stage, Value}
+use Rattle.mk_laws.proofs.Vocabulary.{address_of, allocation_at, ap, arith, cases_eq, d_of, eq-eqb, false, get_or}
+use Rattle.mk_laws.proofs.Vocabulary.{get_or-set_other, get_or-set_same, get_or_append_left, has_p, has_r, has_some_p}
+use Rattle.mk_laws.proofs.Vocabulary.{image_of, inl, inr, is_past_probe, is_put, is_unmapped, length, ne_eqb, refl}
+use Rattle.mk_laws.proofs.Vocabulary.{shown, sym, true, words_of, ℕ, ◌++◌, ◌+◌, ◌<◌, ◌∙◌, ◌≡◌, ◌≢◌}
 use Rattle.mk_core.specs.declared.seats.Stage.TheVariants as stage
-use Rattle.mk_laws.specs.Images.{has_q, has_some_q, has_p, has_some_p, has_r, is_put, owes, shown, is_past_probe}
-use Rattle.mk_laws.specs.Images.{Carries, IsMet}
+use Rattle.mk_laws.specs.Images.{has_q, has_some_q, owes}
 use Rattle.mk_laws.proofs.ImagesMoves.{is_bare}
 
 pub set_both : {A B : Type 0} (P : A → B → Type 0) (xs : List A) (ys : List B) (k i : ℕ) (x dx : A) (y dy : B)

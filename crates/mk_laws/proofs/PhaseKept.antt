@@ -1,6 +1,6 @@
 -- What a step of the phase leaves.
-use Rattle.std.proofs.Common.{◌≡◌, ◌≢◌, ◌⊎◌, ℕ, ◌+◌, ◌*◌, ◌%◌, ◌<◌, ◌≤◌, true, false, sym, ◌∙◌, inl, inr, arith}
-use Rattle.mk_laws.proofs.Vocabulary.{Config, Seat, is_attending}
+use Rattle.mk_laws.proofs.Vocabulary.{Config, Seat, arith, false, inl, inr, is_attending, sym, true, ℕ, ◌%◌, ◌*◌, ◌+◌}
+use Rattle.mk_laws.proofs.Vocabulary.{◌<◌, ◌∙◌, ◌≡◌, ◌≢◌, ◌≤◌, ◌⊎◌}
 use Rattle.mk_laws.proofs.Views.{View, gate_in, marker_in, HoldsTurn}
 use Rattle.mk_laws.proofs.ProtocolMoves.{PhaseStep, Begins, Wants, Closes, Releases, Ends, Stops}
 use Rattle.mk_laws.proofs.ProtocolMarkers.{count_in, up_one, down_four, up_five}

@@ -1,18 +1,10 @@
 -- The phase along a cycle: it marks up to the `close`, and stays where it is up to the `release` and the `end`.
-use Rattle.std.proofs.Common.{arith, false, inl, inr, refl, sym, ℕ, ◌∙◌, ◌≡◌, ◌≤◌, ◌⊎◌}
-use Rattle.std.proofs.lemmas.Bool.{eqb-true, true≢false}
-use Rattle.mk_core.specs.Cycles.{is_begin, is_close, is_end, is_release}
-use Rattle.mk_core.specs.Moments.{Moment}
-use Rattle.mk_core.specs.Words.{phase_of}
-use Rattle.mk_core.specs.declared.config.Config.{Config}
-use Rattle.mk_core.specs.declared.events.Seat.{Seat}
-use Rattle.mk_core.specs.declared.events.Step.{Step}
+use Rattle.mk_laws.proofs.Vocabulary.{Config, IsMarking, Moment, Seat, Step, arith, eqb-true, false, inl, inr, is_begin}
+use Rattle.mk_laws.proofs.Vocabulary.{is_close, is_end, is_release, phase_of, refl, sym, true≢false, ℕ, ◌∙◌, ◌≡◌, ◌≤◌}
+use Rattle.mk_laws.proofs.Vocabulary.{◌⊎◌}
+use Rattle.mk_laws.proofs.Basics.{Behind, Meets, either_phase, is_grant, over_phase}
 use Rattle.mk_core.specs.declared.events.Step.TheVariants as step
-use Rattle.mk_laws.proofs.Actors.{Meets}
-use Rattle.mk_laws.proofs.SameWords.{Behind}
-use Rattle.mk_laws.specs.Guard.{IsMarking}
-use Rattle.mk_laws.proofs.PrecisionStepKinds.{is_grant}
-use Rattle.mk_laws.proofs.Phases.{either_phase, is_phase_step, over_phase, phase_stays}
+use Rattle.mk_laws.proofs.Phases.{is_phase_step, phase_stays}
 
 none_begins : (x : Step) → is_phase_step x ≡ false → is_begin x ≡ false
 none_begins step.Begin stays = cc
@@ -84,11 +76,9 @@ waits c m seat x p late at h out past = rest x refl refl
         record { phase = phase_stays c m seat x stays ∙ at; begun = none_begins x stays; granted = other }
 
 pub stopped_waits : (c : Config) (m : Moment) (seat : Seat) (x : Step) → phase_of m.words ≡ 3 → Meets c m seat x
-    → is_release x ≡ false
-    → Waits c m seat x 3
+    → is_release x ≡ false → Waits c m seat x 3
 stopped_waits c m seat x at h other = waits c m seat x 3 (omega arith) at h (λ e. other) (λ e. absurd (omega arith))
 
 pub releasing_waits : (c : Config) (m : Moment) (seat : Seat) (x : Step) → phase_of m.words ≡ 4 → Meets c m seat x
-    → is_end x ≡ false
-    → Waits c m seat x 4
+    → is_end x ≡ false → Waits c m seat x 4
 releasing_waits c m seat x at h other = waits c m seat x 4 (omega arith) at h (λ e. absurd (omega arith)) (λ e. other)

@@ -1,8 +1,7 @@
 -- The phase that a condition names, and the phase after a step.
-use Rattle.std.proofs.Common.{◌≡◌, ◌⊎◌, ℕ, ◌%◌, Bool, true, false, refl, ap, inl, inr, arith}
-use Rattle.std.specs.Prelude.{◌||◌, ◌==◌}
-use Rattle.std.proofs.lemmas.Bool.{eqb-true, and_parts, or_cases}
-use Rattle.mk_laws.proofs.Vocabulary.{Config, Moment, Seat, Step, host_has_turn, is_phase, phase_of}
+use Rattle.mk_laws.proofs.Vocabulary.{Bool, Config, Moment, Seat, Step, and_parts, ap, arith, eqb-true, false}
+use Rattle.mk_laws.proofs.Vocabulary.{host_has_turn, inl, inr, is_phase, or_cases, phase_of, true, ℕ, ◌%◌, ◌==◌, ◌||◌}
+use Rattle.mk_laws.proofs.Vocabulary.{◌≡◌, ◌⊎◌}
 use Rattle.mk_core.specs.declared.events.Step.TheVariants as step
 use Rattle.mk_laws.proofs.Actors.{Meets}
 use Rattle.mk_laws.proofs.SameWords.{Behind}
@@ -29,15 +28,9 @@ pub phase_stays : (c : Config) (m : Moment) (seat : Seat) (x : Step) → is_phas
     → phase_of (Behind c m seat x).words ≡ phase_of m.words
 phase_stays c m seat step.Reg no_change = ap (λ (t : Table). t.phase % 8) (reg_table c m seat)
 phase_stays c m seat (step.Tally n v) no_change = ap (λ (t : Table). t.phase % 8) (tally_table m.words n v)
-phase_stays c m seat step.Begin no_change = cc
-phase_stays c m seat step.Want no_change = cc
-phase_stays c m seat step.Close no_change = cc
-phase_stays c m seat step.Release no_change = cc
-phase_stays c m seat step.End no_change = cc
-phase_stays c m seat step.Over no_change = cc
 phase_stays c m seat step.Attend no_change = omega arith
 phase_stays c m seat step.Quit no_change = omega arith
-phase_stays c m seat _ no_change = refl
+phase_stays c m seat _ no_change = cc
 
 pub over_phase : (c : Config) (m : Moment) (seat : Seat) → Meets c m seat step.Over → phase_of m.words ≡ 0
 over_phase c m seat h = eqb-true (phase_of m.words) 0 (and_parts (host_has_turn c m) (is_phase m.words 0) h.holder).1

@@ -1,20 +1,17 @@
 -- Where the objects of all histories are granted, and when a New is full.
-use Rattle.std.proofs.Common.{◌≡◌, ℕ, ◌<◌, true, false, List, ◌∷◌, ◌++◌, refl, sym, ◌∙◌, ap, subst, arith}
-use Rattle.std.specs.Prelude.{IsSome, None, Option, Some, is_none}
-use Rattle.std.proofs.lemmas.Bool.{eqb-true, ne_eqb, true≢false}
-use Rattle.mk_laws.proofs.Vocabulary.{Caller, Config, Event, Holding, IsHistory, Moment, Object, OwnCycle, Page}
-use Rattle.mk_laws.proofs.Vocabulary.{Place, Placing, Seat, Step, Unplaced, Used, World, flight_of, granted_base}
-use Rattle.mk_laws.proofs.Vocabulary.{is_phase, is_undecided_new, is_used_once, left, may_answer_full, phase_of}
-use Rattle.mk_laws.proofs.Vocabulary.{place_on_pages}
+use Rattle.std.specs.Prelude.{IsSome}
+use Rattle.mk_laws.proofs.Vocabulary.{Caller, Config, Event, Holding, IsHistory, List, Moment, None, Object}
+use Rattle.mk_laws.proofs.Vocabulary.{OfHistories, Option, OwnCycle, Page, Place, Placing, Seat, Some, Step, Unplaced}
+use Rattle.mk_laws.proofs.Vocabulary.{Used, World, ap, arith, eqb-true, false, flight_of, granted_base, is_none}
+use Rattle.mk_laws.proofs.Vocabulary.{is_phase, is_undecided_new, is_used_once, left, may_answer_full, ne_eqb, phase_of}
+use Rattle.mk_laws.proofs.Vocabulary.{place_on_pages, refl, subst, sym, true, true≢false, ℕ, ◌++◌, ◌<◌, ◌∙◌, ◌∷◌, ◌≡◌}
+use Rattle.mk_laws.proofs.Basics.{Meets, before_it, grants_new, held_place, new_holds}
 use Rattle.mk_core.specs.declared.events.Step.TheVariants as step
 use Rattle.mk_core.specs.declared.seats.OwnCycle.TheVariants.{Ended}
 use Rattle.mk_core.specs.Placement.{FullsFitNowhere, GrantsStandAtTheirPlaces, FindsNoPlace, StandsAtItsPlace}
 use Rattle.mk_core.specs.Placement.{object_at}
-use Rattle.mk_laws.proofs.Actors.{Meets, fills_new, grants_new}
-use Rattle.mk_laws.proofs.NewPlace.{held_place, new_holds}
-use Rattle.mk_laws.specs.Theorems.{OfHistories}
+use Rattle.mk_laws.proofs.Actors.{fills_new}
 use Rattle.mk_laws.proofs.InvariantTheorems.{first_fit_finds_the_place}
-use Rattle.mk_laws.proofs.Induction.{before_it}
 use Rattle.mk_laws.proofs.OwnCycles.{HasCycle}
 use Rattle.mk_laws.proofs.Tracked.{HasPlace, news_are_tracked, unplaced_settles}
 use Rattle.mk_laws.proofs.Undecided.{HasNew}

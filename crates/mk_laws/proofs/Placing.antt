@@ -1,16 +1,14 @@
 -- The steps of a New: its place is chosen, its pages get their headers one by one, and its cell is taken.
-use Rattle.std.proofs.Common.{Bool, List, ap, arith, false, inl, inr, length, length-set, refl, subst, sym, true, ℕ, []}
-use Rattle.std.proofs.Common.{◌++◌, ◌+◌, ◌-◌, ◌<◌, ◌^◌, ◌∙◌, ◌∷◌, ◌≡◌, ◌≢◌, ◌≤◌, ◌⊎◌}
-use Rattle.std.specs.Prelude.{Some}
-use Rattle.std.proofs.lemmas.Bool.{cases_eq, true≢false}
-use Rattle.mk_laws.proofs.Vocabulary.{IsSized, Later, Object, ShowsPart, cells_made, cells_under, has_bit}
-use Rattle.mk_laws.proofs.Vocabulary.{header_made, header_of, pages_made, stands}
-use Rattle.mk_core.proofs.ObjectHeaders.{made_shows, part_cells, shown_later}
-use Rattle.mk_core.proofs.Sizes.{pages_some}
+use Rattle.mk_laws.proofs.Vocabulary.{Among, AreApart, Bool, Claim, HasItsHead, InPlot, IsClaimed, IsLaidOn}
+use Rattle.mk_laws.proofs.Vocabulary.{IsOfOneCell, IsPlotShown, IsShown, IsSized, Later, LayoutScene, List, Mapped}
+use Rattle.mk_laws.proofs.Vocabulary.{NoPlot, Object, Page, Plotted, ShowsPart, Some, [], ap, arith, cases_eq}
+use Rattle.mk_laws.proofs.Vocabulary.{cells_made, cells_under, false, has_bit, head_on, header_made, header_of}
+use Rattle.mk_laws.proofs.Vocabulary.{header_on, inl, inr, is_released_on, length, length-set, made_shows, pages_made}
+use Rattle.mk_laws.proofs.Vocabulary.{pages_some, part_cells, refl, run_count, shown_later, shows_on, stands, subst}
+use Rattle.mk_laws.proofs.Vocabulary.{sym, true, true≢false, used_on, ℕ, ◌++◌, ◌+◌, ◌-◌, ◌<◌, ◌^◌, ◌∙◌, ◌∷◌, ◌≡◌, ◌≢◌}
+use Rattle.mk_laws.proofs.Vocabulary.{◌≤◌, ◌⊎◌}
 use Rattle.mk_core.proofs.WordBits.{added_here, added_other}
-use Rattle.mk_laws.specs.LayoutScene.{Among, AreApart, Claim, HasItsHead, InPlot, IsClaimed, IsLaidOn, IsOfOneCell}
-use Rattle.mk_laws.specs.LayoutScene.{IsPlotShown, IsShown, IsTakenCell, Mapped, NoPlot, Plotted, LayoutScene}
-use Rattle.mk_laws.specs.LayoutScene.{head_on, header_on, is_released_on, run_count, shows_on, used_on}
+use Rattle.mk_laws.specs.LayoutScene.{IsTakenCell}
 use Rattle.mk_laws.proofs.PageSets.{headed_here, headed_other, headed_used, used_header, used_here, used_other}
 use Rattle.mk_laws.proofs.PageSets.{with_header_on, with_used_on}
 use Rattle.mk_laws.proofs.LayoutReadings.{claimed_head, claimed_some, free_unused, none_set, zero_where_none}
@@ -188,136 +186,140 @@ apart_push (z ∷ zs) x apart new = (
   apart_push zs x apart.1 (λ y i. new y (inr i)),
 )
 
-pub layout_taken : (s : LayoutScene) (x : Claim) (n : ℕ) → IsLaidOn s → Takes s x n → IsLaidOn (Taken s x n)
-layout_taken s x n laid t =
-    record {
-      shown = λ y among. elim (among_push s.claims x y among) [
-        | inl was ↦ grown y (laid.shown y was)
-        | inr e ↦ rw e own
-      ];
-      apart =
-          apart_push s.claims x laid.apart
-          (λ y i same. true≢false (sym (laid.shown y i).used ∙ rw same.0
-          (rw same.1 t.unset)));
-      used = used;
-      plot = tt;
-      occupied = λ q some empty. elim
-          (laid.occupied q (λ z. some (used_header s.pages x.page n q lt ∙ z)) (unused q empty)) [
-            | inl on ↦ inl on
-            | inr here ↦ absurd (full q (t.plot q here) empty)
-          ];
-      later = λ q d m is.
-          let l = laid.later q d m (rw (← (used_header s.pages x.page n q lt)) is) in (
-            l.0,
-            rw (used_header s.pages x.page n (q - d) lt) l.1,
-          );
-    }
-  where
-    some_pages : 1 ≤ pages_made x.object
-    some_pages = pages_some x.object t.sized
+module _ (s : LayoutScene) (x : Claim) (n : ℕ) (laid : IsLaidOn s) (t : Takes s x n) where
+  abbrev after : List Page
+  after = with_used_on s.pages x.page n
 
-    lt : x.page < length s.pages
-    lt = let w = t.within in let o = some_pages in omega arith
+  some_pages : 1 ≤ pages_made x.object
+  some_pages = pages_some x.object t.sized
 
-    len : length (with_used_on s.pages x.page n) ≡ length s.pages
-    len = length-set s.pages x.page (record { header = header_on s.pages x.page; used = n })
+  lt : x.page < length s.pages
+  lt = let w = t.within in let o = some_pages in omega arith
 
-    here_set : has_bit (used_on (with_used_on s.pages x.page n) x.page) x.index ≡ true
-    here_set = rw (used_here s.pages x.page n lt ∙ t.value)
-        (added_here (used_on s.pages x.page) x.index t.unset)
+  len : length after ≡ length s.pages
+  len = length-set s.pages x.page (record { header = header_on s.pages x.page; used = n })
 
-    same_bit : (q k : ℕ) → (q ≡ x.page → k ≢ x.index)
-        → has_bit (used_on (with_used_on s.pages x.page n) q) k ≡ has_bit (used_on s.pages q) k
-    same_bit q k other = elim (cases_eq q x.page) [
-      | inr ne ↦ rw (used_other s.pages x.page n q ne)
-      | inl e ↦ rw e
-          (rw (used_here s.pages x.page n lt ∙ t.value)
-          (added_other (used_on s.pages x.page) x.index k t.unset (other e)
-          ∙ rw (← e)))
-    ]
+  here_set : has_bit (used_on after x.page) x.index ≡ true
+  here_set = rw (used_here s.pages x.page n lt ∙ t.value)
+      (added_here (used_on s.pages x.page) x.index t.unset)
 
-    grow : (q k : ℕ) → has_bit (used_on s.pages q) k ≡ true
-        → has_bit (used_on (with_used_on s.pages x.page n) q) k ≡ true
-    grow q k h = same_bit q k (λ e ek. true≢false (sym h ∙ rw e
-        (rw ek t.unset))) ∙ h
+  same_bit : (q k : ℕ) → (q ≡ x.page → k ≢ x.index)
+      → has_bit (used_on after q) k ≡ has_bit (used_on s.pages q) k
+  same_bit q k other = elim (cases_eq q x.page) [
+    | inr ne ↦ rw (used_other s.pages x.page n q ne)
+    | inl e ↦ rw e
+        (rw (used_here s.pages x.page n lt ∙ t.value)
+        (added_other (used_on s.pages x.page) x.index k t.unset (other e)
+        ∙ rw (← e)))
+  ]
 
-    grown : (y : Claim) → IsShown s.pages y → IsShown (with_used_on s.pages x.page n) y
-    grown y was =
-        record {
-          sized = was.sized;
-          known = was.known;
-          within = let l = len in let w = was.within in omega arith;
-          headers = λ d ld. rw (used_header s.pages x.page n (y.page + d) lt) (was.headers d ld);
-          used = grow y.page y.index was.used;
-        }
+  grow : (q k : ℕ) → has_bit (used_on s.pages q) k ≡ true
+      → has_bit (used_on after q) k ≡ true
+  grow q k h = same_bit q k (λ e ek. true≢false (sym h ∙ rw e
+      (rw ek t.unset))) ∙ h
 
-    own : IsShown (with_used_on s.pages x.page n) x
-    own =
-        record {
-          sized = t.sized;
-          known = t.index;
-          within = let l = len in let w = t.within in omega arith;
-          headers =
-              λ d ld. rw t.mapped
-              (used_header s.pages x.page n (x.page + d) lt ∙ t.headers d ld);
-          used = here_set;
-        }
+  grown : (y : Claim) → IsShown s.pages y → IsShown after y
+  grown y was =
+      record {
+        sized = was.sized;
+        known = was.known;
+        within = let l = len in let w = was.within in omega arith;
+        headers = λ d ld. rw (used_header s.pages x.page n (y.page + d) lt) (was.headers d ld);
+        used = grow y.page y.index was.used;
+      }
 
-    cells_here : cells_under (shows_on s.pages x.page) ≡ cells_made x.object
-    cells_here =
-        let zero : x.page + 0 ≡ x.page = omega arith in
-        let o = some_pages in
-        rw (← zero)
-        (rw (t.headers 0 (omega arith))
-        (part_cells x.object (header_of (header_made x.object 0)) (made_shows x.object 0 t.sized (omega arith))))
+  own : IsShown after x
+  own =
+      record {
+        sized = t.sized;
+        known = t.index;
+        within = let l = len in let w = t.within in omega arith;
+        headers =
+            λ d ld. rw t.mapped
+            (used_header s.pages x.page n (x.page + d) lt ∙ t.headers d ld);
+        used = here_set;
+      }
 
-    used : (p k : ℕ) → has_bit (used_on (with_used_on s.pages x.page n) p) k ≡ true → IsTakenCell (Taken s x n) p k
-    used p k h = elim (both (cases_eq p x.page) (cases_eq k x.index)) [
-      | inl at ↦
-          let inside = t.index in
-          let cells = cells_here in (
-            rw (ap (λ h. cells_under (header_of h)) (used_header s.pages x.page n p lt)
-                ∙ ap (λ i. cells_under (shows_on s.pages i)) at.0 ∙ cells)
-                (let e = at.1 in omega arith),
-            inl (record { claim = x; among = among_last s.claims x; page = sym at.0; index = sym at.1 }),
-          )
-      | inr other ↦
-          let was = laid.used p k (sym (same_bit p k other) ∙ h) in (
-            rw (ap (λ h. cells_under (header_of h)) (used_header s.pages x.page n p lt)) was.0,
-            owner p k was.1,
-          )
-    ]
-      where
-        both : (p ≡ x.page) ⊎ (p ≢ x.page) → (k ≡ x.index) ⊎ (k ≢ x.index)
-            → ((p ≡ x.page) × (k ≡ x.index)) ⊎ (p ≡ x.page → k ≢ x.index)
-        both (inl ep) (inl ek) = inl (ep, ek)
-        both (inl ep) (inr nk) = inr (λ e. nk)
-        both (inr np) any = inr (λ e. absurd (np e))
+  cells_here : cells_under (shows_on s.pages x.page) ≡ cells_made x.object
+  cells_here =
+      let zero : x.page + 0 ≡ x.page = omega arith in
+      let o = some_pages in
+      rw (← zero)
+      (rw (t.headers 0 (omega arith))
+      (part_cells x.object (header_of (header_made x.object 0)) (made_shows x.object 0 t.sized (omega arith))))
 
-        owner : (p k : ℕ) → IsClaimed s.claims p k ⊎ (is_released_on s p k ≡ true)
-            → IsClaimed (s.claims ++ x ∷ []) p k ⊎ (is_released_on s p k ≡ true)
-        owner p k (inr r) = inr r
-        owner p k (inl o) = inl
-            (record { claim = o.claim; among = among_left s.claims x o.claim o.among; page = o.page; index = o.index })
+  used : (p k : ℕ) → has_bit (used_on after p) k ≡ true → IsTakenCell (Taken s x n) p k
+  used p k h = elim (both (cases_eq p x.page) (cases_eq k x.index)) [
+    | inl at ↦
+        let inside = t.index in
+        let cells = cells_here in (
+          rw (ap (λ h. cells_under (header_of h)) (used_header s.pages x.page n p lt)
+              ∙ ap (λ i. cells_under (shows_on s.pages i)) at.0 ∙ cells)
+              (let e = at.1 in omega arith),
+          inl (record { claim = x; among = among_last s.claims x; page = sym at.0; index = sym at.1 }),
+        )
+    | inr other ↦
+        let was = laid.used p k (sym (same_bit p k other) ∙ h) in (
+          rw (ap (λ h. cells_under (header_of h)) (used_header s.pages x.page n p lt)) was.0,
+          owner p k was.1,
+        )
+  ]
+    where
+      both : (p ≡ x.page) ⊎ (p ≢ x.page) → (k ≡ x.index) ⊎ (k ≢ x.index)
+          → ((p ≡ x.page) × (k ≡ x.index)) ⊎ (p ≡ x.page → k ≢ x.index)
+      both (inl ep) (inl ek) = inl (ep, ek)
+      both (inl ep) (inr nk) = inr (λ e. nk)
+      both (inr np) any = inr (λ e. absurd (np e))
 
-    unused : (q : ℕ) → used_on (with_used_on s.pages x.page n) (head_on (with_used_on s.pages x.page n) q) ≡ 0
-        → used_on s.pages (head_on s.pages q) ≡ 0
-    unused q empty =
-        let head : head_on (with_used_on s.pages x.page n) q ≡ head_on s.pages q =
-        rw (used_header s.pages x.page n q lt) in
-        zero_where_none (used_on s.pages (head_on s.pages q))
-        (λ k h. none_set (used_on (with_used_on s.pages x.page n) (head_on s.pages q)) k
-        (rw (← head) empty) (grow (head_on s.pages q) k h))
+      owner : (p k : ℕ) → IsClaimed s.claims p k ⊎ (is_released_on s p k ≡ true)
+          → IsClaimed (s.claims ++ x ∷ []) p k ⊎ (is_released_on s p k ≡ true)
+      owner p k (inr r) = inr r
+      owner p k (inl o) = inl
+          (record { claim = o.claim; among = among_left s.claims x o.claim o.among; page = o.page; index = o.index })
 
-    -- a page of the place has its head's bit now
-    full : (q : ℕ) → InPlot (Plotted x.page x.object) q
-        → used_on (with_used_on s.pages x.page n) (head_on (with_used_on s.pages x.page n) q) ≡ 0 → ⊥
-    full q here empty =
-        let low = here.0 in
-        let high = here.1 in
-        let at : x.page + (q - x.page) ≡ q = omega arith in
-        let head : head_on (with_used_on s.pages x.page n) q ≡ x.page =
-        rw (← at)
-        (claimed_head (with_used_on s.pages x.page n) x (q - x.page) own (omega arith)) in
-        none_set (used_on (with_used_on s.pages x.page n) x.page) x.index
-        (ap (λ i. used_on (with_used_on s.pages x.page n) i) (sym head) ∙ empty) here_set
+  unused : (q : ℕ) → used_on after (head_on after q) ≡ 0
+      → used_on s.pages (head_on s.pages q) ≡ 0
+  unused q empty =
+      let head : head_on after q ≡ head_on s.pages q =
+      rw (used_header s.pages x.page n q lt) in
+      zero_where_none (used_on s.pages (head_on s.pages q))
+      (λ k h. none_set (used_on after (head_on s.pages q)) k
+      (rw (← head) empty) (grow (head_on s.pages q) k h))
+
+  -- a page of the place has its head's bit now
+  full : (q : ℕ) → InPlot (Plotted x.page x.object) q
+      → used_on after (head_on after q) ≡ 0 → ⊥
+  full q here empty =
+      let low = here.0 in
+      let high = here.1 in
+      let at : x.page + (q - x.page) ≡ q = omega arith in
+      let head : head_on after q ≡ x.page =
+      rw (← at)
+      (claimed_head after x (q - x.page) own (omega arith)) in
+      none_set (used_on after x.page) x.index
+      (ap (λ i. used_on after i) (sym head) ∙ empty) here_set
+
+  pub layout_taken : IsLaidOn (Taken s x n)
+  layout_taken =
+      record {
+        shown = λ y among. elim (among_push s.claims x y among) [
+          | inl was ↦ grown y (laid.shown y was)
+          | inr e ↦ rw e own
+        ];
+        apart =
+            apart_push s.claims x laid.apart
+            (λ y i same. true≢false (sym (laid.shown y i).used ∙ rw same.0
+            (rw same.1 t.unset)));
+        used = used;
+        plot = tt;
+        occupied = λ q some empty. elim
+            (laid.occupied q (λ z. some (used_header s.pages x.page n q lt ∙ z)) (unused q empty)) [
+              | inl on ↦ inl on
+              | inr here ↦ absurd (full q (t.plot q here) empty)
+            ];
+        later = λ q d m is.
+            let l = laid.later q d m (rw (← (used_header s.pages x.page n q lt)) is) in (
+              l.0,
+              rw (used_header s.pages x.page n (q - d) lt) l.1,
+            );
+      }

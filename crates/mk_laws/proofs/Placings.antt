@@ -1,27 +1,23 @@
 -- What each event makes of the place that a New holds.
-use Rattle.std.proofs.Common.{◌≡◌, ◌≢◌, ℕ, ◌<◌, Bool, true, false, refl, sym, ◌∙◌, ap, subst, inl, inr, arith}
-use Rattle.std.specs.Prelude.{Option, Some, None, ◌&&◌, ◌||◌, ◌==◌, not, if◌then◌else◌}
-use Rattle.std.proofs.lemmas.Bool.{and_parts, cases_eq, eqb-true, false_from_ne_true, ne_eqb, or_cases, true≢false}
-use Rattle.std.proofs.lemmas.List.{get_or-set_same}
 use Rattle.std.proofs.Math.Bool.{and-false}
-use Rattle.mk_laws.proofs.Vocabulary.{Caller, Chosen, Config, Flight, Holding, Host, Marker, Moment, Object, Place}
-use Rattle.mk_laws.proofs.Vocabulary.{Placing, RunPages, Seat, Step, Unplaced, Used, World, at_rest, carves, chosen}
-use Rattle.mk_laws.proofs.Vocabulary.{flight_of, found, is_phase, is_undecided_new, is_used_once, marks_place}
-use Rattle.mk_laws.proofs.Vocabulary.{object_made, phase_of, place_by_placing, place_now, place_on_pages, progress}
-use Rattle.mk_laws.proofs.Vocabulary.{taken, takes_cell, unmaps}
+use Rattle.mk_laws.proofs.Vocabulary.{AsChosen, AsUsed, Bool, ByFit, Caller, Chosen, Config, Flight, Holding, Host}
+use Rattle.mk_laws.proofs.Vocabulary.{IsPlaced, Marker, Moment, None, Object, Option, Place, Placing, RunPages, Seat}
+use Rattle.mk_laws.proofs.Vocabulary.{Some, Step, Unplaced, Used, World, and_parts, ap, arith, at_rest, carves}
+use Rattle.mk_laws.proofs.Vocabulary.{cases_eq, chosen, eqb-true, false, false_from_ne_true, flight_of, found}
+use Rattle.mk_laws.proofs.Vocabulary.{get_or-set_same, if◌then◌else◌, inl, inr, is_phase, is_undecided_new}
+use Rattle.mk_laws.proofs.Vocabulary.{is_used_once, marks_is, marks_place, ne_eqb, not, object_made, or_cases, phase_of}
+use Rattle.mk_laws.proofs.Vocabulary.{place_by_placing, place_now, place_on_pages, placed_now, progress, refl, subst}
+use Rattle.mk_laws.proofs.Vocabulary.{sym, taken, takes_cell, true, true≢false, undecided_new, unmaps, ℕ, ◌&&◌, ◌<◌}
+use Rattle.mk_laws.proofs.Vocabulary.{◌==◌, ◌||◌, ◌∙◌, ◌≡◌, ◌≢◌}
+use Rattle.mk_laws.proofs.Basics.{HoldsTurn, Known, Meets, WorldBehind, at_no_take, held_place, new_has_turn}
+use Rattle.mk_laws.proofs.Basics.{none_on_its_way, same_holder, turn_of, view_of}
 use Rattle.mk_core.specs.declared.events.Step.TheVariants as step
 use Rattle.mk_core.specs.declared.seats.Stage.TheVariants as stage
 use Rattle.mk_core.specs.Placement.{serves}
-use Rattle.mk_core.proofs.PlacesNow.{AsChosen, AsUsed, ByFit, IsPlaced, placed_now, undecided_new}
-use Rattle.mk_core.proofs.ServingSteps.{carves_is, marks_is, takes_is}
-use Rattle.mk_laws.proofs.Actors.{Meets}
-use Rattle.mk_laws.proofs.Known.{Known}
-use Rattle.mk_laws.proofs.NewPlace.{held_place, give_no_new}
-use Rattle.mk_laws.proofs.NextSteps.{at_no_take, at_take}
-use Rattle.mk_laws.proofs.OthersMoves.{WorldBehind, others_move}
-use Rattle.mk_laws.proofs.Orderly.{same_holder, turn_of}
-use Rattle.mk_laws.proofs.Views.{HoldsTurn, view_of}
-use Rattle.mk_laws.proofs.LayoutHolders.{new_has_turn, none_on_its_way}
+use Rattle.mk_core.proofs.ServingSteps.{carves_is, takes_is}
+use Rattle.mk_laws.proofs.NewPlace.{give_no_new}
+use Rattle.mk_laws.proofs.NextSteps.{at_take}
+use Rattle.mk_laws.proofs.OthersMoves.{others_move}
 use Rattle.mk_laws.proofs.Undecided.{HasNew, new_holds_turn, new_object}
 use Rattle.mk_laws.proofs.TurnFrame.{holding_out}
 

@@ -1,34 +1,15 @@
 -- What stands while a cycle without a sweeping mark marks: all that is marked, and all that a hand holds, is touched.
-use Rattle.std.proofs.Common.{List, ap, arith, false, true, ℕ, ◌+◌, ◌/◌, ◌<◌, ◌≤◌, ◌≡◌, ◌≢◌}
-use Rattle.std.specs.Prelude.{Some, slice_index, slice_index_or}
-use Rattle.mk_never.specs.declared.values.Value.TheVariants.{Null}
-use Rattle.mk_never.specs.NeverHeap.{NeverState}
+use Rattle.mk_laws.proofs.Vocabulary.{Config, Hand, IsMarking, IsWordOf, List, MarkerState as Marker, NeverState, Null}
+use Rattle.mk_laws.proofs.Vocabulary.{Page, PlacedAllocation, PointsInto, Scan, Seat, SeenHeader, Some, Step, World}
+use Rattle.mk_laws.proofs.Vocabulary.{arith, bases_of, cell_of_allocation, cells_under, false, flight_of}
+use Rattle.mk_laws.proofs.Vocabulary.{has_no_pointers, header_of, image_of, is_leaf_header, is_marked, is_unmarked}
+use Rattle.mk_laws.proofs.Vocabulary.{marker_of, placed_at, shows_on, slice_index, slice_index_or, storage_of}
+use Rattle.mk_laws.proofs.Vocabulary.{storage_words, true, ℕ, ◌+◌, ◌/◌, ◌<◌, ◌≡◌, ◌≢◌, ◌≤◌}
+use Rattle.mk_laws.proofs.Basics.{Came, Meets, WorldBehind}
 use Rattle.mk_geom.specs.Addresses.{heap_word_at}
-use Rattle.mk_geom.specs.Headers.{header_of}
-use Rattle.mk_geom.specs.StorageWords.{IsWordOf, PointsInto}
-use Rattle.mk_core.specs.Allocations.{PlacedAllocation, cell_of_allocation, placed_at, storage_of, storage_words}
-use Rattle.mk_core.specs.Cells.{cells_under, has_no_pointers, is_leaf_header, is_marked}
-use Rattle.mk_core.specs.Cycles.{is_unmarked, sweeps}
-use Rattle.mk_core.specs.History.{World, bases_of}
-use Rattle.mk_core.specs.Image.{image_of}
-use Rattle.mk_core.specs.Moments.{flight_of, marker_of}
-use Rattle.mk_core.specs.NewPlaces.{object_of}
-use Rattle.mk_core.specs.ObjectHeaders.{words_made}
+use Rattle.mk_core.specs.Cycles.{sweeps}
 use Rattle.mk_core.specs.Touched.{IsWordOfAllocation}
-use Rattle.mk_core.specs.declared.config.Config.{Config}
-use Rattle.mk_core.specs.declared.events.Seat.{Seat}
-use Rattle.mk_core.specs.declared.events.Step.{Step}
-use Rattle.mk_core.specs.declared.seats.Hand.{Hand}
-use Rattle.mk_core.specs.declared.seats.Marker.{Marker}
-use Rattle.mk_core.specs.declared.seats.Scan.{Scan}
-use Rattle.mk_core.specs.declared.seats.SeenHeader.{SeenHeader}
-use Rattle.mk_never.specs.Types.{kinds_of}
-use Rattle.mk_geom.specs.declared.pages.Page.{Page}
-use Rattle.mk_laws.specs.LayoutScene.{shows_on}
-use Rattle.mk_laws.proofs.Actors.{Meets}
-use Rattle.mk_laws.proofs.OthersMoves.{WorldBehind}
-use Rattle.mk_laws.specs.Guard.{IsMarking}
-use Rattle.mk_laws.proofs.AllocationSteps.{AreOfOne, Came, allocation_step, came}
+use Rattle.mk_laws.proofs.AllocationSteps.{AreOfOne, allocation_step, came}
 use Rattle.mk_laws.proofs.Worlds.{Told}
 
 -- The value points into no unreleased allocation but the set's.
@@ -86,10 +67,10 @@ pub record Steps (c : Config) (w : World) (n : NeverState) (seat : Seat) (x : St
 
 -- An allocation keeps its words.
 pub same_words : (c : Config) (a b : PlacedAllocation) → AreOfOne a b → storage_words c b ≡ storage_words c a
-same_words c a b e = ap (λ t. words_made (object_of (kinds_of c.types t))) e.ty
+same_words c a b e = rw e.ty
 
 pub same_leaf : (c : Config) (a b : PlacedAllocation) → AreOfOne a b → (storage_of c b).leaf ≡ (storage_of c a).leaf
-same_leaf c a b e = ap (λ t. (object_of (kinds_of c.types t)).leaf) e.ty
+same_leaf c a b e = rw e.ty
 
 pub same_word : (c : Config) (a b : PlacedAllocation) (x : ℕ) → AreOfOne a b → IsWordOf (storage_of c b) x
     → IsWordOf (storage_of c a) x

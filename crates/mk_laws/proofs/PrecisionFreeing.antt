@@ -1,31 +1,23 @@
 -- After a cycle's `end` what its `release` released counts as free: no unreleased storage has a word of it.
-use Rattle.std.proofs.Common.{List, [], ap, append-nil, append_assoc, arith, false, refl, subst, sym, ℕ, ◌%◌, ◌++◌, ◌≤◌}
-use Rattle.std.proofs.Common.{◌∙◌, ◌∷◌, ◌≡◌}
-use Rattle.std.specs.Prelude.{Contains, not}
-use Rattle.std.proofs.lemmas.Bool.{and_parts, not-true, true≢false}
-use Rattle.std.specs.List.{list_any}
-use Rattle.mk_geom.specs.Storages.{IsRun, IsStorage, Storage, is_small}
-use Rattle.mk_geom.specs.StorageWords.{IsWordOf}
+use Rattle.std.specs.Prelude.{Contains}
+use Rattle.mk_laws.proofs.Vocabulary.{Config, Cycle, Event, IsHistory, IsStorage, IsWordOf, List, OfHistories}
+use Rattle.mk_laws.proofs.Vocabulary.{PlacedAllocation, Releasing, Step, Storage, World, [], and_parts, ap, append-nil}
+use Rattle.mk_laws.proofs.Vocabulary.{append_assoc, arith, before_release, earlier_part_is_history, false, is_end}
+use Rattle.mk_laws.proofs.Vocabulary.{is_release, is_small, left, list_any, not, not-true, or_from, phase_of, placed_at}
+use Rattle.mk_laws.proofs.Vocabulary.{refl, standing_has_storage, storage_is_of, storage_of, storage_words, subst, sym}
+use Rattle.mk_laws.proofs.Vocabulary.{through_release, true≢false, unreleased_storage, world_behind, ℕ, ◌%◌, ◌++◌, ◌∙◌}
+use Rattle.mk_laws.proofs.Vocabulary.{◌∷◌, ◌≡◌, ◌≤◌}
+use Rattle.mk_laws.proofs.Basics.{WorldBehind, begin_is, is_grant, release_is}
+use Rattle.mk_geom.specs.Storages.{IsRun}
 use Rattle.mk_geom.proofs.Standing.{has_words, large_is_run}
-use Rattle.mk_core.specs.Allocations.{PlacedAllocation, placed_at, storage_of, storage_words, unreleased_storage}
-use Rattle.mk_core.specs.Cycles.{Cycle, Releasing, before_begin, before_end, before_release, is_end, is_release}
-use Rattle.mk_core.specs.History.{IsHistory, World, left, world_behind}
-use Rattle.mk_core.specs.Words.{phase_of}
-use Rattle.mk_core.specs.declared.config.Config.{Config}
-use Rattle.mk_core.specs.declared.events.Event.{Event}
-use Rattle.mk_core.specs.declared.events.Step.{Step}
+use Rattle.mk_core.specs.Cycles.{before_begin, before_end}
 use Rattle.mk_core.specs.declared.events.Step.TheVariants as step
-use Rattle.mk_core.proofs.HistoryParts.{earlier_part_is_history}
-use Rattle.mk_core.proofs.StandingAllocations.{standing_has_storage}
-use Rattle.mk_core.proofs.UnreleasedStorage.{storage_is_of}
-use Rattle.mk_laws.proofs.OthersMoves.{WorldBehind}
-use Rattle.mk_laws.specs.Theorems.{OfHistories}
 use Rattle.mk_laws.proofs.InvariantTheorems.{allocations_are_disjoint}
-use Rattle.mk_laws.specs.Precision.{FreesTheUntouched, through_end, through_release}
+use Rattle.mk_laws.specs.Precision.{FreesTheUntouched, through_end}
 use Rattle.mk_laws.proofs.AllocationSteps.{is_there}
 use Rattle.mk_laws.proofs.FreeStorage.{counts_as_free}
 use Rattle.mk_laws.proofs.Marking.{one_more, told}
-use Rattle.mk_laws.proofs.PrecisionStepKinds.{begin_is, both_fail, end_is, is_grant, release_is}
+use Rattle.mk_laws.proofs.ProtocolStepKinds.{end_is}
 use Rattle.mk_laws.proofs.OlderAllocations.{AreOlder, IsKept, kept_along, older_behind, older_joined, older_same}
 use Rattle.mk_laws.proofs.PhaseSteps.{releasing_waits}
 use Rattle.mk_laws.proofs.Precise.{same_word, same_words}
@@ -39,8 +31,7 @@ record WhileReleasing (c : Config) (start more : List Event) : Type 0 where
   older : AreOlder (left c start).allocations (left c (start ++ more)).allocations
 
 releasing_goes_on : (c : Config) (start more : List Event) (e : Event) → IsHistory c ((start ++ more) ++ e ∷ [])
-    → is_end e.step ≡ false → WhileReleasing c start more
-    → WhileReleasing c start (more ++ e ∷ [])
+    → is_end e.step ≡ false → WhileReleasing c start more → WhileReleasing c start (more ++ e ∷ [])
 releasing_goes_on c start more e h other at =
     let m = one_more c (start ++ more) e h in
     let w : World = left c (start ++ more) in
@@ -110,11 +101,9 @@ kept_to_release c es k i h at u =
     let e : Event = k.release.at.event in
     let releasing = history_through c es (before_release k) k.release.at.behind e h (at_release k) in
     let whole = earlier_part_is_history c (before_release k) (e ∷ []) releasing in
-    subst (λ (xs : List Event). IsKept (left c xs) i) (sym b.is)
-    (kept_along c b.before (b.event ∷ b.behind) i (subst (λ (xs : List Event). IsHistory c xs) b.is whole)
-    (both_fail (is_release b.event.step) (list_any (λ (x : Event). is_release x.step) b.behind)
-    (ap is_release (begin_is b.event.step b.of_kind)) at.released)
-    (record { there = is_there (left c b.before).allocations i u; unreleased = u }))
+    rw b.is (kept_along c b.before (b.event ∷ b.behind) i (rw b.is at whole)
+    (or_from _ (list_any (λ (x : Event). is_release x.step) b.behind)
+    (ap is_release (begin_is b.event.step b.of_kind)) at.released) (record { there = is_there _ i u; unreleased = u }))
 
 pub frees_the_untouched : OfHistories FreesTheUntouched
 frees_the_untouched c es h k unswept i quarantined untouched =

@@ -1,29 +1,19 @@
 -- A run that a `probe` finds unmapped stays so: the call's own register points into its allocation.
-use Rattle.std.proofs.Common.{Bool, ap, arith, false, inl, inr, length, refl, subst, sym, true, ℕ, ◌+◌, ◌*◌, ◌<◌, ◌∙◌}
-use Rattle.std.proofs.Common.{◌≡◌}
-use Rattle.std.specs.Prelude.{if◌then◌else◌, nat_lt}
-use Rattle.std.proofs.lemmas.Bool.{and_from, and_parts, cases_Bool, true≢false}
-use Rattle.mk_laws.proofs.Vocabulary.{AccessIsAdmitted, Caller, Config, Continues, Flight, IsAdmitted, IsSound}
-use Rattle.mk_laws.proofs.Vocabulary.{Meets, NeverState, Op, Ptr, Stage, Unmapped, Value, WordOf, World}
-use Rattle.mk_laws.proofs.Vocabulary.{allocation_at, bases_of, flight_of, header_at, header_in, i_of, is_large}
-use Rattle.mk_laws.proofs.Vocabulary.{is_run_gone, is_unmapped, is_unmapped_header, page_met, q_of, register_at}
-use Rattle.mk_laws.proofs.Vocabulary.{target_of, words_of}
+use Rattle.mk_laws.proofs.Vocabulary.{AccessIsAdmitted, Bool, Caller, CarriesOwn, Config, Continues, Flight}
+use Rattle.mk_laws.proofs.Vocabulary.{ImagePremises, Invariant, IsAdmitted, IsMet, IsSound, Meets, NeverState, Op, Ptr}
+use Rattle.mk_laws.proofs.Vocabulary.{Stage, Unmapped, Value, WordOf, World, allocation_at, and_from, and_parts, ap}
+use Rattle.mk_laws.proofs.Vocabulary.{arith, bases_of, cases_Bool, false, flight_of, header_at, header_in, i_of}
+use Rattle.mk_laws.proofs.Vocabulary.{if◌then◌else◌, image_scene_of, inl, inr, is_large, is_run_gone, is_unmapped}
+use Rattle.mk_laws.proofs.Vocabulary.{is_unmapped_header, length, page_met, q_of, refl, register_at, subst, sym}
+use Rattle.mk_laws.proofs.Vocabulary.{target_of, true, true≢false, words_of, ℕ, ◌*◌, ◌+◌, ◌<◌, ◌∙◌, ◌≡◌}
+use Rattle.mk_laws.proofs.Basics.{InCall, KnownWorld, PagesShow, Ready, Stands, calls_stand, flight, is_astray}
+use Rattle.mk_laws.proofs.Basics.{is_call_stage, not_astray, ready_of, shows_at, standing, standing_at, stands_of}
+use Rattle.mk_laws.proofs.Basics.{view_of}
 use Rattle.mk_core.specs.declared.seats.Stage.TheVariants as stage
-use Rattle.mk_laws.proofs.Orderly.{shows_at}
-use Rattle.mk_laws.proofs.OrderlyLists.{not_astray}
-use Rattle.mk_laws.proofs.Stages.{calls_stand, is_call_stage}
-use Rattle.mk_laws.proofs.Standings.{InCall, is_astray, standing, standing_at}
-use Rattle.mk_laws.proofs.Views.{view_of}
-use Rattle.mk_laws.specs.Images.{CarriesOwn, IsMet, image_scene_of}
-use Rattle.mk_laws.specs.ImagePremises.{ImagePremises}
-use Rattle.mk_laws.proofs.ImagesBefore.{pages_show, ready_of}
+use Rattle.mk_laws.proofs.ImagesBefore.{pages_show}
 use Rattle.mk_laws.proofs.CallSorts.{literal}
-use Rattle.mk_laws.proofs.KnownWorlds.{KnownWorld}
-use Rattle.mk_laws.proofs.Reached.{PagesShow, mapped_met, unmapped_target}
-use Rattle.mk_laws.proofs.Ready.{Ready}
-use Rattle.mk_laws.proofs.RegMoves.{flight}
-use Rattle.mk_laws.proofs.ImagesStands.{Stands, gone_shows, stands_of}
-use Rattle.mk_laws.specs.Invariant.{Invariant}
+use Rattle.mk_laws.proofs.Reached.{mapped_met, unmapped_target}
+use Rattle.mk_laws.proofs.ImagesStands.{gone_shows}
 use Rattle.mk_laws.proofs.InvariantJoined.{told_to_images}
 use Rattle.mk_laws.proofs.ImagesCallMoves.{access_meets, at_probe}
 

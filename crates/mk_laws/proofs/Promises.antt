@@ -1,11 +1,6 @@
 -- All promises, from the theorems.
 use Rattle.std.specs.Prelude.{List}
-use Rattle.std.proofs.Common.{subst}
-use Rattle.mk_core.specs.declared.config.Config.{Config}
-use Rattle.mk_core.specs.declared.events.Event.{Event}
-use Rattle.mk_core.specs.History.{IsHistory}
-use Rattle.mk_core.proofs.HistoryParts.{earlier_part_is_history}
-use Rattle.mk_laws.specs.Theorems.{OfHistories}
+use Rattle.mk_laws.proofs.Vocabulary.{Config, Event, IsHistory, OfHistories, earlier_part_is_history, subst}
 use Rattle.mk_laws.proofs.Quarantines.{few_pages_are_resident}
 use Rattle.mk_laws.proofs.InvariantTheorems as invariant
 use Rattle.mk_laws.proofs.Tallies.{tallies_are_exact_at_gives}

@@ -1,19 +1,17 @@
 -- Each step of a call outside the turn, and `reg`, is a move.
-use Rattle.std.proofs.Common.{◌≡◌, ℕ, ◌<◌, Bool, true, false, List, refl, sym, ◌∙◌, ap, subst, inl, inr}
-use Rattle.std.specs.Prelude.{None, slice_index, slice_set, if◌then◌else◌}
-use Rattle.std.proofs.lemmas.Bool.{cases_eq, eq-eqb, ne_eqb}
-use Rattle.std.proofs.lemmas.List.{set-get_or}
-use Rattle.mk_laws.proofs.Vocabulary.{Caller, Config, Event, Flight, Moment, Op, Stage, Step, access, accessed}
-use Rattle.mk_laws.proofs.Vocabulary.{at_rest, begun, flight_of, found, group_of, header_of, is_under_turn}
-use Rattle.mk_laws.proofs.Vocabulary.{is_unmapped_header, onward, progress_reg, refused, reg_access, register_met}
-use Rattle.mk_laws.proofs.Vocabulary.{stage_behind, steps_of, still, word_accessed}
+use Rattle.mk_laws.proofs.Vocabulary.{Bool, Caller, Config, Event, Flight, List, Moment, None, Op, Step, access}
+use Rattle.mk_laws.proofs.Vocabulary.{accessed, ap, at_rest, begun, cases_eq, eq-eqb, false, flight_of, found, group_of}
+use Rattle.mk_laws.proofs.Vocabulary.{header_of, if◌then◌else◌, inl, inr, is_under_turn, is_unmapped_header, ne_eqb}
+use Rattle.mk_laws.proofs.Vocabulary.{onward, progress_reg, refl, refused, reg_access, register_met, set-get_or}
+use Rattle.mk_laws.proofs.Vocabulary.{slice_index, slice_set, stage_behind, steps_of, still, sym, true, word_accessed}
+use Rattle.mk_laws.proofs.Vocabulary.{ℕ, ◌<◌, ◌∙◌, ◌≡◌}
 use Rattle.mk_core.specs.declared.events.Answer.TheVariants as answer
 use Rattle.mk_core.specs.declared.events.Group.TheVariants as group
 use Rattle.mk_core.specs.declared.events.Step.TheVariants as step
 use Rattle.mk_laws.proofs.Standings.{Standing, Resting, InCall, UnderTurn, Astray, standing_at, standing, is_astray}
 use Rattle.mk_laws.proofs.Stages.{is_call_stage, is_reg_stage, goes_on, calls_stand, onward_stands, refused_stands}
-use Rattle.mk_laws.proofs.Stages.{regs_work, loads_under_turn, begun_in_call, read_stands, either_stands}
-use Rattle.mk_laws.proofs.Stages.{reg_stands, reg_no_new}
+use Rattle.mk_laws.proofs.Stages.{regs_work, loads_under_turn, begun_in_call, read_stands, either_stands, reg_stands}
+use Rattle.mk_laws.proofs.Stages.{reg_no_new}
 use Rattle.mk_laws.proofs.NextSteps.{stage_of, has_stage_of_its_own, at_its_stage, at_reg, at_enter}
 use Rattle.mk_laws.proofs.Services.{Loads}
 use Rattle.mk_laws.proofs.Views.{View, view_of, flight_in, gate_in}

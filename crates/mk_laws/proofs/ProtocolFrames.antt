@@ -1,34 +1,28 @@
 -- The frame law: what the events of other seats leave, for one event and for many.
-use Rattle.std.proofs.Common.{◌≡◌, ◌≢◌, ◌⊎◌, ℕ, ◌<◌, ◌≤◌, true, false, List, [], ◌∷◌, ◌++◌, refl, sym, ◌∙◌, ap, subst}
-use Rattle.std.proofs.Common.{inl, inr, arith}
-use Rattle.std.specs.Prelude.{slice_index, slice_set, ◌||◌, ◌==◌, ◌/◌, cond}
-use Rattle.std.proofs.lemmas.Bool.{cases_lt, eq-eqb}
-use Rattle.std.proofs.lemmas.List.{get_or-set_other, get_or_past}
+use Rattle.std.specs.Prelude.{◌/◌}
 use Rattle.std.proofs.lemmas.List.Sums.{sum_by-append}
-use Rattle.mk_laws.proofs.Vocabulary.{AreEnabledFrom, AreOfOthers, Caller, Config, Decided, Event, Flight, Holds}
-use Rattle.mk_laws.proofs.Vocabulary.{Host, IsInCall, IsLeft, Marker, MarkerState, Moment, OnlyGrow, Seat, Steady}
-use Rattle.mk_laws.proofs.Vocabulary.{Step, TurnIsLeft, Words, World, Written, all_below, answer_decided, at_rest}
-use Rattle.mk_laws.proofs.Vocabulary.{call_decided, caller_number, calls, calls_from, ends, first_world, flight_of}
-use Rattle.mk_laws.proofs.Vocabulary.{header_in, holder_number, is_attending, is_end, is_in, is_number_of}
-use Rattle.mk_laws.proofs.Vocabulary.{is_one_of, is_unmapped_header, left, left_from, marker_at, others_are_held}
-use Rattle.mk_laws.proofs.Vocabulary.{outside, phase_of, world_behind}
+use Rattle.mk_laws.proofs.Vocabulary.{AreEnabledFrom, AreOfOthers, Caller, Config, Event, Flight, Holds, Host, IsInCall}
+use Rattle.mk_laws.proofs.Vocabulary.{IsLeft, List, Marker, MarkerState, Moment, OnlyGrow, Protocol, Seat, Steady, Step}
+use Rattle.mk_laws.proofs.Vocabulary.{TurnIsLeft, Words, World, Written, [], all_below, answer_decided, ap, arith}
+use Rattle.mk_laws.proofs.Vocabulary.{at_rest, call_decided, caller_number, calls, calls_from, cases_lt, cond}
+use Rattle.mk_laws.proofs.Vocabulary.{enabled_meets, enabled_parts, ends, eq-eqb, false, first_world, flight_of}
+use Rattle.mk_laws.proofs.Vocabulary.{get_or-set_other, get_or_past, header_in, holder_number, inl, inr, is_attending}
+use Rattle.mk_laws.proofs.Vocabulary.{is_end, is_in, is_number_of, is_one_of, is_unmapped_header, left, left_append}
+use Rattle.mk_laws.proofs.Vocabulary.{left_from, marker_at, others_are_held, outside, phase_of, refl, slice_index}
+use Rattle.mk_laws.proofs.Vocabulary.{slice_set, sym, true, world_behind, ℕ, ◌++◌, ◌<◌, ◌==◌, ◌||◌, ◌∙◌, ◌∷◌, ◌≡◌, ◌≢◌}
+use Rattle.mk_laws.proofs.Vocabulary.{◌≤◌, ◌⊎◌}
+use Rattle.mk_laws.proofs.Basics.{Known, Meets, WorldBehind, actor_of, in_call_told, known_behind, known_left}
+use Rattle.mk_laws.proofs.Basics.{not_astray, others_held, same_holder, standing, turn_of, view_of}
 use Rattle.mk_core.specs.Growing.{is_same_seat}
-use Rattle.mk_core.specs.Readings.{is_in_call, is_in_turn}
+use Rattle.mk_core.specs.Readings.{is_in_call}
 use Rattle.mk_core.specs.Frames.{Attends, IsIn, HoldsAll, OwnIsLeft, written_of, CountsAreLeft, ScanIsLeft, OthersLeave}
-use Rattle.mk_core.proofs.Conditions.{enabled_meets}
-use Rattle.mk_core.proofs.Histories.{left_append, enabled_parts, calls_append}
-use Rattle.mk_laws.specs.Protocol.{Protocol}
-use Rattle.mk_laws.proofs.Standings.{in_call_told, in_call_is, standing}
-use Rattle.mk_laws.proofs.Views.{view_of}
-use Rattle.mk_laws.proofs.Orderly.{turn_of, same_holder}
-use Rattle.mk_laws.proofs.Asked.{others_held}
-use Rattle.mk_laws.proofs.Actors.{Meets}
-use Rattle.mk_laws.proofs.OrderlyLists.{not_astray, actor_of}
+use Rattle.mk_core.proofs.Histories.{calls_append}
+use Rattle.mk_laws.proofs.Standings.{in_call_is}
 use Rattle.mk_laws.proofs.Protocols.{protocol_of}
 use Rattle.mk_laws.proofs.ProtocolReadings.{in_counts}
-use Rattle.mk_laws.proofs.Known.{Known, known_behind, known_left, holds_turn}
-use Rattle.mk_laws.proofs.OthersMoves.{with_words_seats, WorldBehind, OthersMove, Waits, Calls, Marks, MarkerWrite}
-use Rattle.mk_laws.proofs.OthersMoves.{ComesIn, gate_one, others_move}
+use Rattle.mk_laws.proofs.Known.{holds_turn}
+use Rattle.mk_laws.proofs.OthersMoves.{with_words_seats, OthersMove, Waits, Calls, Marks, MarkerWrite, ComesIn}
+use Rattle.mk_laws.proofs.OthersMoves.{gate_one, others_move}
 use Rattle.mk_laws.proofs.Growth.{grows_same, grows_joined}
 use Rattle.mk_laws.proofs.TurnFrame.{holding_out, turn_after, turn_same, turn_joined}
 use Rattle.mk_laws.proofs.RegisterSteps.{register_step, others_registers}
@@ -41,16 +35,12 @@ use Rattle.mk_laws.proofs.OthersCounts.{counts_nothing, fulls_of, entry_fulls, f
 others_flight : (c : Config) (w : World) (seat s : Seat) (x : Step) → seat ≢ s
     → flight_of (WorldBehind c w seat x).now s ≡ flight_of w.now s
 others_flight c w (Caller j) (Caller k) x ne = get_or-set_other w.now.seats.flights j k _ at_rest (λ e. ne (rw (← e)))
-others_flight c w (Marker j) (Caller k) x ne = refl
-others_flight c w Host (Caller k) x ne = refl
-others_flight c w seat _ x ne = refl
+others_flight c w _ _ x ne = cc
 
 others_marker : (c : Config) (w : World) (seat s : Seat) (x : Step) → seat ≢ s
     → marker_at (WorldBehind c w seat x).now s ≡ marker_at w.now s
 others_marker c w (Marker j) (Marker k) x ne = get_or-set_other w.now.seats.markers j k _ outside (λ e. ne (rw (← e)))
-others_marker c w (Caller j) (Marker k) x ne = refl
-others_marker c w Host (Marker k) x ne = refl
-others_marker c w seat _ x ne = refl
+others_marker c w _ _ x ne = cc
 
 -- A seat that holds the turn holds it still, after an event of another.
 others_out : (c : Config) (w : World) (seat s : Seat) (x : Step) → Known c w.now → Meets c w.now seat x → seat ≢ s

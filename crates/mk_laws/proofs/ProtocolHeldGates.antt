@@ -1,15 +1,12 @@
 -- A gate is 2 exactly where the last event that changed it is a `hold`.
-use Rattle.std.proofs.Common.{◌≡◌, ◌≢◌, ◌↔◌, ℕ, Bool, true, false, List, [], ◌∷◌, length, refl, sym, ◌∙◌, ap, subst}
-use Rattle.std.proofs.Common.{inl, inr}
-use Rattle.std.specs.Prelude.{not, ◌==◌, if◌then◌else◌, slice_index, slice_set}
-use Rattle.std.proofs.lemmas.Bool.{cases_eq, cases_lt, not-true, eqb-true, eqb-false, eq-eqb, ne_eqb}
-use Rattle.std.proofs.lemmas.List.{get_or-set_same, get_or-set_other, set_past}
-use Rattle.mk_laws.proofs.Vocabulary.{Config, Event, Moment, Seat, Step, World, caller_number, first_world}
-use Rattle.mk_laws.proofs.Vocabulary.{flight_of, left, left_from, reg_access, register_met, world_behind}
+use Rattle.mk_laws.proofs.Vocabulary.{Bool, Config, Event, List, Moment, Seat, Step, World, [], ap, caller_number}
+use Rattle.mk_laws.proofs.Vocabulary.{cases_eq, cases_lt, eq-eqb, eqb-false, eqb-true, false, first_world, flight_of}
+use Rattle.mk_laws.proofs.Vocabulary.{get_or-set_other, get_or-set_same, if◌then◌else◌, inl, inr, left, left_from}
+use Rattle.mk_laws.proofs.Vocabulary.{length, ne_eqb, not, not-true, refl, reg_access, register_met, set_past}
+use Rattle.mk_laws.proofs.Vocabulary.{slice_index, slice_set, sym, true, world_behind, ℕ, ◌==◌, ◌↔◌, ◌∙◌, ◌∷◌, ◌≡◌, ◌≢◌}
+use Rattle.mk_laws.proofs.Basics.{Behind, at_first, reg_keeps, tally_keeps}
 use Rattle.mk_core.specs.declared.events.Step.TheVariants as step
 use Rattle.mk_core.specs.HeldGates.{is_hold_of, changes_gate, is_gate_held_from, is_gate_held}
-use Rattle.mk_laws.proofs.SameWords.{Behind, reg_keeps, tally_keeps}
-use Rattle.mk_laws.proofs.OrderlyLists.{at_first}
 
 -- a gate that changes has the value that was set
 unchanged : (gs : List ℕ) (i : ℕ) → not (slice_index gs i == slice_index gs i) ≡ true → ⊥

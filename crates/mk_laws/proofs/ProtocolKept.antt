@@ -1,13 +1,10 @@
 -- Each move keeps all in order.
-use Rattle.std.proofs.Common.{◌≡◌, ◌≢◌, ◌⊎◌, ℕ, ◌+◌, ◌-◌, ◌*◌, ◌%◌, ◌^◌, ◌<◌, ◌≤◌, true, List, length, length-set, refl}
-use Rattle.std.proofs.Common.{sym, ◌∙◌, ap, subst, inl, inr, arith}
-use Rattle.std.specs.Prelude.{slice_index, slice_index_or, slice_set}
-use Rattle.std.proofs.lemmas.Bool.{cases_eq}
-use Rattle.std.proofs.lemmas.List.{get_or-set_same, get_or-set_other}
-use Rattle.mk_laws.proofs.Vocabulary.{Caller, Config, Flight, Holding, Host, Marker, MarkerState, Presence, Seat}
-use Rattle.mk_laws.proofs.Vocabulary.{at_rest, holder_number, is_attending, outside}
-use Rattle.mk_laws.proofs.Standings.{Standing, Resting, InCall, standing, Shows, shows_taken, shows_given}
-use Rattle.mk_laws.proofs.Standings.{shows_held, shows_opened}
+use Rattle.mk_laws.proofs.Vocabulary.{Caller, Config, Flight, Holding, Host, List, Marker, MarkerState, Seat, ap, arith}
+use Rattle.mk_laws.proofs.Vocabulary.{at_rest, cases_eq, get_or-set_other, get_or-set_same, holder_number, inl, inr}
+use Rattle.mk_laws.proofs.Vocabulary.{is_attending, length, length-set, outside, refl, slice_index, slice_index_or}
+use Rattle.mk_laws.proofs.Vocabulary.{slice_set, sym, true, ℕ, ◌%◌, ◌*◌, ◌+◌, ◌-◌, ◌<◌, ◌^◌, ◌∙◌, ◌≡◌, ◌≢◌, ◌≤◌, ◌⊎◌}
+use Rattle.mk_laws.proofs.Standings.{Resting, InCall, standing, Shows, shows_taken, shows_given, shows_held}
+use Rattle.mk_laws.proofs.Standings.{shows_opened}
 use Rattle.mk_laws.proofs.Services.{Served, Service, Goes, service_stands, service_rests, served_on, nothing_served}
 use Rattle.mk_laws.proofs.Views.{View, flight_in, gate_in, marker_in, flight_at, flights_with, HoldsTurn}
 use Rattle.mk_laws.proofs.ProtocolMoves.{IdlesOutside, Move, Stays, Enters, GoesOn, Leaves, Takes, Gives, Works, Holds}
@@ -15,8 +12,8 @@ use Rattle.mk_laws.proofs.ProtocolMoves.{Opens, Phases, Attends, Quits, Scans}
 use Rattle.mk_laws.proofs.Shown.{AllShow, all_but_flight, all_but_gate, all_but_both, all_but_seat, length_with}
 use Rattle.mk_laws.proofs.ProtocolMarkers.{count_in, counted_same, counted_more, counted_less, marker_set, up_eight}
 use Rattle.mk_laws.proofs.ProtocolMarkers.{down_eight}
-use Rattle.mk_laws.proofs.Orderly.{Orderly, shows_at, turn_of, holders_flight, holder_shows, giver_shows}
-use Rattle.mk_laws.proofs.Orderly.{taker_shows, taker_number, few_in}
+use Rattle.mk_laws.proofs.Orderly.{Orderly, shows_at, turn_of, holders_flight, holder_shows, giver_shows, taker_shows}
+use Rattle.mk_laws.proofs.Orderly.{taker_number, few_in}
 use Rattle.mk_laws.proofs.PhaseKept.{phase_kept}
 
 flights_kept : (c : Config) (v : View) (seat : Seat) (f : Flight) → Orderly c v

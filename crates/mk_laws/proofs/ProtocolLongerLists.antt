@@ -1,9 +1,6 @@
 -- Cycles in lists that go on.
-use Rattle.std.proofs.Common.{◌≡◌, Bool, true, false, List, [], ◌∷◌, ◌++◌, refl, ◌∙◌, ap, append_assoc}
-use Rattle.std.specs.Prelude.{◌||◌}
-use Rattle.std.specs.List.{list_any}
-use Rattle.std.proofs.lemmas.List.Folds.{list_any-append}
-use Rattle.mk_laws.proofs.Vocabulary.{At, Cycle, Event, Marking, Releasing, Step}
+use Rattle.mk_laws.proofs.Vocabulary.{At, Bool, Cycle, Event, List, Marking, Releasing, Step, [], ap, append_assoc}
+use Rattle.mk_laws.proofs.Vocabulary.{false, list_any, list_any-append, refl, true, ◌++◌, ◌||◌, ◌∙◌, ◌∷◌, ◌≡◌}
 use Rattle.mk_core.specs.Cycles.{Next}
 
 -- a list without an event that passes the test, and one event more that doesn't

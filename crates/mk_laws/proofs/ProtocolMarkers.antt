@@ -1,12 +1,9 @@
 -- The markers that are in, and the numbers of the phase word.
-use Rattle.std.proofs.Common.{◌≡◌, ℕ, ◌+◌, ◌-◌, ◌*◌, ◌%◌, ◌^◌, ◌<◌, ◌≤◌, true, false, List, length, refl, sym, ◌∙◌, ap}
-use Rattle.std.proofs.Common.{subst, inl, inr, arith}
-use Rattle.std.specs.Prelude.{slice_index_or, slice_set, not, cond, count_by}
-use Rattle.std.proofs.lemmas.Bool.{cases_eq, cases_lt}
-use Rattle.std.proofs.lemmas.List.{get_or-set_same, get_or-set_other, set_past}
+use Rattle.std.specs.Prelude.{count_by}
 use Rattle.std.proofs.lemmas.List.Sums.{sum_by-set}
-use Rattle.mk_laws.proofs.Vocabulary.{MarkerState, Presence, is_in, outside}
-use Rattle.mk_core.specs.MarkerConditions.{is_out}
+use Rattle.mk_laws.proofs.Vocabulary.{List, MarkerState, ap, arith, cases_eq, cases_lt, cond, false, get_or-set_other}
+use Rattle.mk_laws.proofs.Vocabulary.{get_or-set_same, inl, inr, is_in, length, outside, refl, set_past, slice_index_or}
+use Rattle.mk_laws.proofs.Vocabulary.{slice_set, true, ℕ, ◌%◌, ◌*◌, ◌+◌, ◌-◌, ◌<◌, ◌^◌, ◌∙◌, ◌≡◌, ◌≤◌}
 
 -- where the markers that are in are counted
 abbrev pub count_in : List MarkerState → ℕ

@@ -1,9 +1,7 @@
 -- The moves of the protocol: what an event may do to what it reads.
-use Rattle.std.proofs.Common.{◌≡◌, ◌≢◌, ◌⊎◌, ℕ, ◌+◌, ◌-◌, ◌%◌, ◌^◌, ◌<◌, ◌≤◌, true, false}
-use Rattle.std.specs.Prelude.{slice_set}
-use Rattle.mk_laws.proofs.Vocabulary.{Caller, Config, Flight, Holding, Host, Marker, MarkerState, Seat, at_rest}
-use Rattle.mk_laws.proofs.Vocabulary.{holder_number, is_attending, is_in, nothing_done, outside}
-use Rattle.mk_laws.specs.Protocol.{IsIdle}
+use Rattle.mk_laws.proofs.Vocabulary.{Caller, Config, Flight, Holding, Host, IsIdle, Marker, MarkerState, Seat, at_rest}
+use Rattle.mk_laws.proofs.Vocabulary.{false, holder_number, is_attending, is_in, nothing_done, outside, slice_set, true}
+use Rattle.mk_laws.proofs.Vocabulary.{ℕ, ◌%◌, ◌+◌, ◌-◌, ◌<◌, ◌^◌, ◌≡◌, ◌≢◌, ◌≤◌, ◌⊎◌}
 use Rattle.mk_laws.proofs.Standings.{Resting, InCall, UnderTurn, standing}
 use Rattle.mk_laws.proofs.Services.{Service}
 use Rattle.mk_laws.proofs.Views.{View, flight_in, gate_in, marker_in, flight_at, flights_with, HoldsTurn}

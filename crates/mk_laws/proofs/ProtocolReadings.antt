@@ -1,15 +1,11 @@
 -- What a look at the turn, at a gate and at the phase says.
-use Rattle.std.proofs.Common.{◌≡◌, ℕ, ◌-◌, ◌/◌, ◌<◌, ◌≤◌, true, false, List, length, refl, sym, ◌∙◌, ap, inl, inr}
-use Rattle.std.proofs.Common.{arith}
-use Rattle.std.specs.Prelude.{not}
-use Rattle.std.proofs.lemmas.Bool.{cases_Bool, cases_eq, cases_lt}
-use Rattle.std.proofs.lemmas.List.{get_or_past}
-use Rattle.mk_laws.proofs.Vocabulary.{Caller, Config, Event, Holds, Host, Marker, MarkerState, Moment, Presence}
-use Rattle.mk_laws.proofs.Vocabulary.{Seat, is_attending, is_in, left, marker_of, outside}
+use Rattle.mk_laws.proofs.Vocabulary.{Caller, Config, Event, Holds, Host, List, Marker, MarkerState, Moment, Presence}
+use Rattle.mk_laws.proofs.Vocabulary.{Protocol, Seat, ap, arith, cases_Bool, cases_eq, cases_lt, false, get_or_past}
+use Rattle.mk_laws.proofs.Vocabulary.{inl, inr, is_attending, is_in, left, length, marker_of, not, outside, refl, sym}
+use Rattle.mk_laws.proofs.Vocabulary.{true, ℕ, ◌-◌, ◌/◌, ◌<◌, ◌∙◌, ◌≡◌, ◌≤◌}
 use Rattle.mk_core.specs.declared.seats.Presence.TheVariants.{Attending}
 use Rattle.mk_core.specs.MarkerConditions.{is_out}
 use Rattle.mk_core.specs.Readings.{TurnTells, GateTells, PhaseTells}
-use Rattle.mk_laws.specs.Protocol.{Protocol}
 use Rattle.mk_laws.specs.HolderReadings.{WordsTell}
 use Rattle.mk_laws.proofs.ProtocolMarkers.{count_in-at}
 use Rattle.mk_laws.proofs.ProtocolHeldGates.{gates_tell_holds}

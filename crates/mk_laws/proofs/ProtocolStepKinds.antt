@@ -1,8 +1,6 @@
 -- The kinds of step that a cycle names.
-use Rattle.std.proofs.Common.{◌≡◌, Bool, true, false, refl}
-use Rattle.mk_laws.proofs.Vocabulary.{Step, is_begin, is_close, is_release}
+use Rattle.mk_laws.proofs.Vocabulary.{Bool, Step, false, is_begin, is_close, is_end, is_release, refl, true, ◌≡◌}
 use Rattle.mk_core.specs.declared.events.Step.TheVariants as step
-use Rattle.mk_core.specs.Cycles.{is_end}
 
 abbrev pub is_grant : Step → Bool
 is_grant step.Grant = true

@@ -1,19 +1,12 @@
 -- The protocol holds after every enabled list.
-use Rattle.std.proofs.Common.{◌≡◌, ◌≢◌, ◌↔◌, ℕ, ◌+◌, ◌-◌, ◌<◌, ◌≤◌, Bool, true, false, refl, sym, ◌∙◌, ap, inl, inr}
-use Rattle.std.proofs.Common.{arith}
-use Rattle.std.specs.Prelude.{Option, is_some}
-use Rattle.std.proofs.lemmas.Bool.{cases_lt}
-use Rattle.std.proofs.lemmas.List.{get_or_past}
-use Rattle.mk_laws.proofs.Vocabulary.{Caller, Config, Flight, Moment, RunPages, at_rest, flight_of}
-use Rattle.mk_laws.proofs.Vocabulary.{is_undecided_new, left}
-use Rattle.mk_laws.specs.Protocol.{is_decided_new, is_decided_free, SomeCaller, Protocol, ListsKeepTheProtocol}
-use Rattle.mk_laws.proofs.Standings.{standing, is_standing_in_call, shows_turn, shows_gate, in_call_told}
-use Rattle.mk_laws.proofs.Standings.{in_turn_told, stage_told}
-use Rattle.mk_laws.proofs.Views.{view_of, flight_in, gate_in}
-use Rattle.mk_laws.proofs.Orderly.{Orderly}
-use Rattle.mk_laws.proofs.OrderlyLists.{not_astray}
+use Rattle.mk_laws.proofs.Vocabulary.{Bool, Caller, Config, Flight, Moment, Protocol, ap, arith, at_rest, cases_lt}
+use Rattle.mk_laws.proofs.Vocabulary.{false, flight_of, get_or_past, inl, inr, is_decided_free, is_undecided_new, left}
+use Rattle.mk_laws.proofs.Vocabulary.{refl, sym, true, ℕ, ◌+◌, ◌-◌, ◌<◌, ◌↔◌, ◌∙◌, ◌≡◌, ◌≢◌, ◌≤◌}
+use Rattle.mk_laws.proofs.Basics.{Known, Orderly, flight_in, gate_in, in_call_told, known_left, not_astray, standing}
+use Rattle.mk_laws.proofs.Basics.{view_of}
+use Rattle.mk_laws.specs.Protocol.{is_decided_new, SomeCaller, ListsKeepTheProtocol}
+use Rattle.mk_laws.proofs.Standings.{is_standing_in_call, shows_turn, shows_gate, in_turn_told, stage_told}
 use Rattle.mk_laws.proofs.Operands.{HaveOperands}
-use Rattle.mk_laws.proofs.Known.{Known, known_left}
 
 -- what is in order is as the protocol says
 

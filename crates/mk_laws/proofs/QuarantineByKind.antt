@@ -1,44 +1,31 @@
 -- What each kind of event makes of the quarantine.
-use Rattle.std.proofs.Common.{Bool, List, ap, arith, false, inl, inr, length, refl, sym, true, ℕ, ◌%◌, ◌/◌, ◌<◌, ◌^◌}
-use Rattle.std.proofs.Common.{◌∙◌, ◌≡◌}
-use Rattle.std.specs.Prelude.{None, Option, Some, if◌then◌else◌, not, slice_index, slice_set, ◌&&◌, ◌==◌, ◌||◌}
-use Rattle.std.proofs.lemmas.Bool.{and_from, cases_lt, cond-true, eqb-true, false_from_ne_true, ltb-true, or_cases}
-use Rattle.std.proofs.lemmas.Bool.{true≢false}
-use Rattle.std.proofs.lemmas.List.{get_or_past, set-get_or}
+use Rattle.mk_laws.proofs.Vocabulary.{Bool, Cell, Claim, Config, Flight, Ground, HasQuarantine, IsQuarantined, IsShown}
+use Rattle.mk_laws.proofs.Vocabulary.{ItDrops, ItFrees, ItGivesBack, ItTakes, ItTakesSnapshot, LayoutStands, List, None}
+use Rattle.mk_laws.proofs.Vocabulary.{Option, Page, Place, PlacedAllocation, Placing, QuarantineStep, Seat, Some, Step}
+use Rattle.mk_laws.proofs.Vocabulary.{Unplaced, Used, UsedStep, Words, World, and_from, ap, arith, cases_lt, cell_freed}
+use Rattle.mk_laws.proofs.Vocabulary.{cell_of_allocation, chosen, claim_of, cond-true, eqb-true, false}
+use Rattle.mk_laws.proofs.Vocabulary.{false_from_ne_true, flight_of, found, freed_cell, frees, get_or_past, granted}
+use Rattle.mk_laws.proofs.Vocabulary.{ground_of, has_place, if◌then◌else◌, inl, inr, is_phase, is_released_in}
+use Rattle.mk_laws.proofs.Vocabulary.{is_undecided_free, is_undecided_new, length, ltb-true, marks_place, may_end}
+use Rattle.mk_laws.proofs.Vocabulary.{none_freed, not, nothing_done, object_made, object_now, object_placed, or_cases}
+use Rattle.mk_laws.proofs.Vocabulary.{or_else, phase_of, place_now, placed_at, quarantine_step, refl, run_of_cell}
+use Rattle.mk_laws.proofs.Vocabulary.{set-get_or, slice_index, slice_set, stands_in, stands_in_its_cell, sym, taken}
+use Rattle.mk_laws.proofs.Vocabulary.{target, true, true≢false, undecided_free, undecided_new, used_step, ℕ, ◌%◌, ◌&&◌}
+use Rattle.mk_laws.proofs.Vocabulary.{◌/◌, ◌<◌, ◌==◌, ◌^◌, ◌||◌, ◌∙◌, ◌≡◌}
+use Rattle.mk_laws.proofs.Basics.{Before, Laid, Meets, WorldBehind, all_stand, claim_among, free_has_turn}
+use Rattle.mk_laws.proofs.Basics.{is_releasing_behind, none_set, own_claim, placed_undecided, reg_leaves_ground}
+use Rattle.mk_laws.proofs.Basics.{tally_ground}
 use Rattle.mk_never.specs.declared.operations.Op.TheVariants as op
-use Rattle.mk_laws.proofs.Vocabulary.{Cell, Config, Flight, Page, Place, PlacedAllocation, Placing, Seat, Step}
-use Rattle.mk_laws.proofs.Vocabulary.{Unplaced, Used, Words, World, cell_freed, cell_of_allocation, chosen}
-use Rattle.mk_laws.proofs.Vocabulary.{flight_of, found, frees, granted, is_phase, is_undecided_free}
-use Rattle.mk_laws.proofs.Vocabulary.{is_undecided_new, marks_place, may_end, nothing_done, object_made}
-use Rattle.mk_laws.proofs.Vocabulary.{object_placed, or_else, phase_of, place_now, placed_at, run_of_cell}
-use Rattle.mk_laws.proofs.Vocabulary.{stands_in, taken, target}
 use Rattle.mk_core.specs.declared.events.Step.TheVariants as step
-use Rattle.mk_core.proofs.CellsOfAllocations.{stands_in_its_cell}
-use Rattle.mk_core.proofs.ChangedAllocations.{none_freed}
 use Rattle.mk_core.proofs.EvaluatedPlaces.{full}
-use Rattle.mk_core.proofs.PageSteps.{ItDrops, ItFrees, ItGivesBack, ItTakes, ItTakesSnapshot, QuarantineStep, UsedStep}
-use Rattle.mk_core.proofs.PageSteps.{quarantine_step, used_step}
-use Rattle.mk_core.proofs.PlacesNow.{FreesCell, chosen_used, freed_cell, undecided_free, undecided_new}
-use Rattle.mk_laws.specs.Protocol.{has_place}
-use Rattle.mk_laws.proofs.Actors.{Meets}
-use Rattle.mk_laws.proofs.Ground.{KeepsGround, tally_ground, with_quarantine}
-use Rattle.mk_laws.proofs.OthersMoves.{WorldBehind}
-use Rattle.mk_laws.specs.Quarantine.{HasQuarantine, IsQuarantined}
-use Rattle.mk_laws.specs.LayoutScene.{Claim, IsShown, is_released_in}
-use Rattle.mk_laws.specs.Ground.{Ground, ground_of}
-use Rattle.mk_laws.specs.Terrain.{LayoutStands, claim_of, object_now}
-use Rattle.mk_laws.proofs.LayoutBefore.{Before, is_releasing_behind, reg_leaves_ground}
+use Rattle.mk_core.proofs.PlacesNow.{FreesCell, chosen_used}
+use Rattle.mk_laws.proofs.Ground.{KeepsGround, with_quarantine}
 use Rattle.mk_laws.proofs.LayoutByKind.{off_at}
-use Rattle.mk_laws.proofs.Claims.{claim_among}
 use Rattle.mk_laws.proofs.Dropped.{settled_page}
 use Rattle.mk_laws.proofs.Freed.{standing_cell}
-use Rattle.mk_laws.proofs.LayoutHolders.{free_has_turn, placed_undecided}
 use Rattle.mk_laws.proofs.LayoutPageKinds.{with_halves}
 use Rattle.mk_laws.proofs.QuarantineChanges.{FreesHere, begin_kept, free_kept, grant_kept, index_small, release_kept}
 use Rattle.mk_laws.proofs.QuarantineSteps.{drop_kept, end_kept, released_bits, replaced, snapshot_kept, take_kept}
-use Rattle.mk_laws.proofs.LayoutReadings.{none_set}
-use Rattle.mk_laws.proofs.Released.{all_stand}
-use Rattle.mk_laws.proofs.Serving.{Laid, own_claim}
 
 abbrev pub QuarantinedAs : Config → Bool → World → Ground → Type 0
 QuarantinedAs c releasing w t = HasQuarantine c releasing w.now.words.marks t

@@ -1,31 +1,24 @@
 -- The quarantine after the steps that change allocations: `release`, `quar` (a), `grant`, `begin`.
-use Rattle.std.proofs.Common.{Bool, List, ap, arith, false, inl, inr, length, map, pow-suc, refl, suc, sym, true, ℕ, []}
-use Rattle.std.proofs.Common.{◌%◌, ◌*◌, ◌++◌, ◌+◌, ◌/◌, ◌<◌, ◌^◌, ◌∙◌, ◌∷◌, ◌≡◌, ◌≤◌, ◌⊎◌}
-use Rattle.std.specs.Prelude.{Option, Some, if◌then◌else◌, slice_index, slice_set}
+use Rattle.std.proofs.Common.{pow-suc}
 use Rattle.std.proofs.Math.Pow.{pow_mono}
-use Rattle.std.proofs.lemmas.Bool.{cases_Bool, cases_eq, cond-true, true≢false}
-use Rattle.std.proofs.lemmas.Nat.{mul-le, or_lt}
-use Rattle.mk_laws.proofs.Vocabulary.{Cell, Config, Granted, IsSized, IsWithinLimits, Object, PlacedAllocation}
-use Rattle.mk_laws.proofs.Vocabulary.{Placing, RunPages, Words, World, cell_of_allocation, cells_made, class_made}
-use Rattle.mk_laws.proofs.Vocabulary.{class_words_of, freed_where_it_stands, has_bit, is_small_object}
-use Rattle.mk_laws.proofs.Vocabulary.{no_longer_fresh, placed_at, quarantine_word, stands_in, with_released}
-use Rattle.mk_geom.proofs.ClassTable.{cell_ends, class_words_within}
-use Rattle.mk_core.proofs.ChangedAllocations.{changed_at, freed_released}
-use Rattle.mk_core.proofs.Sizes.{class_known, large_cells, small_cells}
-use Rattle.mk_core.proofs.SmallCycles.{small}
+use Rattle.std.proofs.lemmas.Nat.{or_lt}
+use Rattle.mk_laws.proofs.Vocabulary.{Bool, Cell, Config, Granted, Ground, HasQuarantine, IsFreedCell, IsSized}
+use Rattle.mk_laws.proofs.Vocabulary.{IsWithinLimits, List, Object, Option, PlacedAllocation, Placing, RunPages, Some}
+use Rattle.mk_laws.proofs.Vocabulary.{Words, World, [], ap, arith, cases_Bool, cases_eq, cell_ends, cell_of_allocation}
+use Rattle.mk_laws.proofs.Vocabulary.{cells_made, changed_at, class_known, class_made, class_words_of, cond-true, false}
+use Rattle.mk_laws.proofs.Vocabulary.{freed_released, freed_where_it_stands, ground_of, has_bit, has_place}
+use Rattle.mk_laws.proofs.Vocabulary.{if◌then◌else◌, inl, inr, is_released_in, is_small_object, large_cells, length}
+use Rattle.mk_laws.proofs.Vocabulary.{map, mul-le, no_longer_fresh, placed_at, quarantine_word, refl, slice_index}
+use Rattle.mk_laws.proofs.Vocabulary.{slice_set, small, small_cells, stands_in, suc, sym, true, true≢false}
+use Rattle.mk_laws.proofs.Vocabulary.{with_released, ℕ, ◌%◌, ◌*◌, ◌++◌, ◌+◌, ◌/◌, ◌<◌, ◌^◌, ◌∙◌, ◌∷◌, ◌≡◌, ◌≤◌, ◌⊎◌}
+use Rattle.mk_laws.proofs.Basics.{IsStanding, LeavesCells, bit_cases, freeing_leaves, releasing_leaves, same_cell}
+use Rattle.mk_geom.proofs.ClassTable.{class_words_within}
 use Rattle.mk_core.proofs.WordBits.{added_here, added_other, sum_is_or}
-use Rattle.mk_laws.specs.Protocol.{has_place}
-use Rattle.mk_laws.specs.Quarantine.{HasQuarantine, IsFreedCell}
-use Rattle.mk_laws.specs.LayoutScene.{is_released_in}
-use Rattle.mk_laws.specs.Ground.{Ground, ground_of}
 use Rattle.mk_laws.specs.Terrain.{IsCellOf}
 use Rattle.mk_laws.proofs.LayoutByKind.{fresh_cells}
-use Rattle.mk_laws.proofs.Claims.{LeavesCells, same_cell}
-use Rattle.mk_laws.proofs.Freed.{freeing_leaves}
 use Rattle.mk_laws.proofs.Granted.{pushed_at, still_at}
-use Rattle.mk_laws.proofs.QuarantineSteps.{bit_cases, least_set}
-use Rattle.mk_laws.proofs.Released.{left_is, releasing_leaves}
-use Rattle.mk_laws.proofs.StandingClaims.{IsStanding}
+use Rattle.mk_laws.proofs.QuarantineSteps.{least_set}
+use Rattle.mk_laws.proofs.Released.{left_is}
 
 -- A freed cell after a change that leaves its allocation unreleased, and freed.
 pub freed_behind : (c : Config) (g : PlacedAllocation → PlacedAllocation) (xs : List PlacedAllocation) (p k : ℕ)

@@ -1,21 +1,17 @@
 -- The quarantine after each kind of step.
-use Rattle.std.proofs.Common.{Bool, List, ap, arith, bit_and, false, inl, inr, length, min, refl, sym, true, ℕ, ◌-◌}
-use Rattle.std.proofs.Common.{◌<◌, ◌^◌, ◌∙◌, ◌≡◌, ◌≢◌, ◌≤◌, ◌⊎◌}
-use Rattle.std.specs.Prelude.{Option, not, slice_index, slice_set, ◌&&◌}
-use Rattle.std.proofs.lemmas.Bool.{and_parts, cases_Bool, cases_eq, false_from_ne_true, not-true, true≢false, and_right}
-use Rattle.std.proofs.lemmas.List.{get_or-set_other, get_or-set_same}
+use Rattle.std.proofs.Common.{bit_and, min}
 use Rattle.std.proofs.lemmas.Nat.{and_le_r}
 use Rattle.std.proofs.lemmas.Nat.Bits.{bit_at_and, same_from_bits}
-use Rattle.std.specs.Int.{bit_at}
-use Rattle.mk_laws.proofs.Vocabulary.{Cell, Chosen, Config, Granted, Object, Page, Place, Placing, RunPages}
-use Rattle.mk_laws.proofs.Vocabulary.{Unplaced, Used, World, cell_of_allocation, has_bit, placed_at, without}
-use Rattle.mk_core.proofs.BitsWithout.{has_bit_without}
-use Rattle.mk_core.proofs.PageSteps.{Drops, left_bits}
-use Rattle.mk_core.proofs.WordBits.{fewer_bits, rest_bits}
-use Rattle.mk_laws.specs.Quarantine.{HasQuarantine, IsFreedCell}
-use Rattle.mk_laws.specs.LayoutScene.{Among, Claim, is_released_in, used_on}
-use Rattle.mk_laws.specs.Ground.{Ground, ground_of}
-use Rattle.mk_laws.specs.Terrain.{claims_of, claims_on, claims_placed}
+use Rattle.mk_laws.proofs.Vocabulary.{Among, Bool, Cell, Chosen, Claim, Config, Drops, Granted, Ground, HasQuarantine}
+use Rattle.mk_laws.proofs.Vocabulary.{IsFreedCell, List, Object, Option, Page, Place, Placing, RunPages, Unplaced, Used}
+use Rattle.mk_laws.proofs.Vocabulary.{World, and_parts, and_right, ap, arith, bit_at, cases_Bool, cases_eq}
+use Rattle.mk_laws.proofs.Vocabulary.{cell_of_allocation, claims_of, claims_on, claims_placed, false}
+use Rattle.mk_laws.proofs.Vocabulary.{false_from_ne_true, fewer_bits, get_or-set_other, get_or-set_same, ground_of}
+use Rattle.mk_laws.proofs.Vocabulary.{has_bit, has_bit_without, inl, inr, is_released_in, length, not, not-true}
+use Rattle.mk_laws.proofs.Vocabulary.{placed_at, refl, slice_index, slice_set, sym, true, true≢false, used_on, without}
+use Rattle.mk_laws.proofs.Vocabulary.{ℕ, ◌&&◌, ◌-◌, ◌<◌, ◌^◌, ◌∙◌, ◌≡◌, ◌≢◌, ◌≤◌, ◌⊎◌}
+use Rattle.mk_core.proofs.PageSteps.{left_bits}
+use Rattle.mk_core.proofs.WordBits.{rest_bits}
 use Rattle.mk_laws.proofs.Claims.{claim_is}
 use Rattle.mk_laws.proofs.LayoutJoined.{among_parts}
 
@@ -71,137 +67,138 @@ released_bits snapshot marks p k r =
     (parts.0, not-true (has_bit (slice_index marks p) k) parts.1)
 
 -- `quar` (c): on one page some released bits go, of both halves
-pub drop_kept : (c : Config) (w : World) (p f n : ℕ) → p < length w.now.words.freed → p < length w.now.words.snapshot
-    → HasQuarantine c true w.now.words.marks (ground_of w) → Drops w.now.words p f n
-    → HasQuarantine c true w.now.words.marks
-    (record (ground_of w) { freed = slice_set w.now.words.freed p f; snapshot = slice_set w.now.words.snapshot p n })
-drop_kept c w p f n lf ls q d =
-    record {
-      small = λ i. (
-        least_set w.now.words.freed p f i lf f_small (q.small i).0,
-        least_set w.now.words.snapshot p n i ls n_small (q.small i).1,
-      );
-      within = within;
-      owned = owned;
-      shown = λ i u x. stays (cell_of_allocation c (placed_at w.allocations i)).page
-          (cell_of_allocation c (placed_at w.allocations i)).index (q.shown i u x) (q.kept refl i u);
-      taken = λ place is. elim (bit_cases w.now.words.freed p f place.page place.index lf) [
-        | inl here ↦ here.1 ∙ false_from_ne_true (has_bit f place.index) (λ x.
-            true≢false (sym (was_freed place.index x)
-            ∙ rw (← here.0) (q.taken place is)))
-        | inr other ↦ other.1 ∙ q.taken place is
-      ];
-      kept = λ on i u.
-          let x : Cell = cell_of_allocation c (placed_at w.allocations i) in
-          false_from_ne_true (is_released_in true (slice_set w.now.words.snapshot p n) w.now.words.marks x.page x.index)
-          (λ r.
-          let bits = released_bits (slice_set w.now.words.snapshot p n) w.now.words.marks x.page x.index r in
-          true≢false
-          (sym (and_both (has_bit (slice_index w.now.words.snapshot x.page) x.index)
-          (has_bit (slice_index w.now.words.marks x.page) x.index) (was_snap x.page x.index bits.0) bits.1)
-          ∙ q.kept refl i u));
-    }
-  where
-    rest : ℕ
-    rest = slice_index w.now.words.snapshot p - n
+module _ (c : Config) (w : World) (p f n : ℕ) (lf : p < length w.now.words.freed)
+    (ls : p < length w.now.words.snapshot) (q : HasQuarantine c true w.now.words.marks (ground_of w))
+    (d : Drops w.now.words p f n) where
+  abbrev rest : ℕ
+  rest = slice_index w.now.words.snapshot p - n
 
-    n_small : n < 2 ^ 32
-    n_small = let s = (q.small p).1 in let le = and_le_r n (slice_index w.now.words.snapshot p) in let is =
-        d.fewer in omega arith
+  n_small : n < 2 ^ 32
+  n_small = let s = (q.small p).1 in let le = and_le_r n (slice_index w.now.words.snapshot p) in let is =
+      d.fewer in omega arith
 
-    f_small : f < 2 ^ 32
-    f_small = let s = (q.small p).0 in let is = d.is in let le =
-        without_le (slice_index w.now.words.freed p) (slice_index w.now.words.snapshot p - n) in omega arith
+  f_small : f < 2 ^ 32
+  f_small = let s = (q.small p).0 in let is = d.is in let le =
+      without_le (slice_index w.now.words.freed p) rest in omega arith
 
-    f_bit : (k : ℕ) → has_bit f k
-        ≡ (has_bit (slice_index w.now.words.freed p) k && not (has_bit (slice_index w.now.words.snapshot p - n) k))
-    f_bit k = rw d.is
-        (has_bit_without (slice_index w.now.words.freed p) (slice_index w.now.words.snapshot p - n) k)
+  f_bit : (k : ℕ) → has_bit f k
+      ≡ (has_bit (slice_index w.now.words.freed p) k && not (has_bit rest k))
+  f_bit k = rw d.is
+      (has_bit_without (slice_index w.now.words.freed p) rest k)
 
-    was_freed : (k : ℕ) → has_bit f k ≡ true → has_bit (slice_index w.now.words.freed p) k ≡ true
-    was_freed k x = (and_parts (has_bit (slice_index w.now.words.freed p) k)
-        (not (has_bit (slice_index w.now.words.snapshot p - n) k)) (sym (f_bit k) ∙ x)).0
+  was_freed : (k : ℕ) → has_bit f k ≡ true → has_bit (slice_index w.now.words.freed p) k ≡ true
+  was_freed k x = (and_parts (has_bit (slice_index w.now.words.freed p) k)
+      (not (has_bit rest k)) (sym (f_bit k) ∙ x)).0
 
-    was_snap : (i k : ℕ) → has_bit (slice_index (slice_set w.now.words.snapshot p n) i) k ≡ true
-        → has_bit (slice_index w.now.words.snapshot i) k ≡ true
-    was_snap i k x = elim (bit_cases w.now.words.snapshot p n i k ls) [
-      | inr other ↦ sym other.1 ∙ x
-      | inl here ↦ rw here.0
-          (fewer_bits n (slice_index w.now.words.snapshot p) k d.fewer (sym here.1 ∙ x))
-    ]
+  was_snap : (i k : ℕ) → has_bit (slice_index (slice_set w.now.words.snapshot p n) i) k ≡ true
+      → has_bit (slice_index w.now.words.snapshot i) k ≡ true
+  was_snap i k x = elim (bit_cases w.now.words.snapshot p n i k ls) [
+    | inr other ↦ sym other.1 ∙ x
+    | inl here ↦ rw here.0
+        (fewer_bits n (slice_index w.now.words.snapshot p) k d.fewer (sym here.1 ∙ x))
+  ]
 
-    within : (i k : ℕ) → has_bit (slice_index (slice_set w.now.words.snapshot p n) i) k ≡ true
-        → has_bit (slice_index (slice_set w.now.words.freed p f) i) k ≡ true
-    within i k x = elim (bit_cases w.now.words.freed p f i k lf) [
-      | inr other ↦ other.1 ∙ q.within i k (was_snap i k x)
-      | inl here ↦
-          let bit : has_bit n k ≡ true = elim (bit_cases w.now.words.snapshot p n i k ls) [
-            | inl h ↦ sym h.1
-                ∙ x
-            | inr o ↦ absurd (o.0 here.0)
-          ] in
-          let out = rest_bit n (slice_index w.now.words.snapshot p) k d.fewer
-          ∙ and_right (has_bit (slice_index w.now.words.snapshot p) k) _ (ap not bit) in
-          let was = ap (λ j. has_bit (slice_index w.now.words.freed j) k) (sym here.0)
-          ∙ q.within i k (was_snap i k x) in
-          here.1 ∙ f_bit k ∙ and_both (has_bit (slice_index w.now.words.freed p) k)
-          (has_bit (slice_index w.now.words.snapshot p - n) k) was out
-    ]
-
-    -- what isn't released stays freed
-    stays : (i k : ℕ) → has_bit (slice_index w.now.words.freed i) k ≡ true
-        → is_released_in true w.now.words.snapshot w.now.words.marks i k ≡ false
-        → has_bit (slice_index (slice_set w.now.words.freed p f) i) k ≡ true
-    stays i k x out = elim (bit_cases w.now.words.freed p f i k lf) [
-      | inr other ↦ other.1 ∙ x
-      | inl here ↦
-          let was = ap (λ j. has_bit (slice_index w.now.words.freed j) k) (sym here.0) ∙ x in
-          let none = false_from_ne_true (has_bit (slice_index w.now.words.snapshot p - n) k) (λ r.
-          let bits = left_bits w.now.words p (slice_index w.now.words.snapshot p - n) k d.left r in
-          true≢false (sym (and_both (has_bit (slice_index w.now.words.snapshot p) k)
-          (has_bit (slice_index w.now.words.marks p) k) bits.0 bits.1)
-          ∙ rw (← here.0) out)) in
-          here.1 ∙ f_bit k ∙ and_both (has_bit (slice_index w.now.words.freed p) k)
-          (has_bit (slice_index w.now.words.snapshot p - n) k) was none
-    ]
-
-    -- what is still freed and was released is released still
-    still_released : (i k : ℕ) → has_bit (slice_index (slice_set w.now.words.freed p f) i) k ≡ true
-        → has_bit (slice_index w.now.words.snapshot i) k ≡ true
-        → has_bit (slice_index (slice_set w.now.words.snapshot p n) i) k ≡ true
-    still_released i k x was = elim (bit_cases w.now.words.snapshot p n i k ls) [
-      | inr other ↦ other.1 ∙ was
-      | inl here ↦
-          let bit : has_bit f k ≡ true = elim (bit_cases w.now.words.freed p f i k lf) [
-            | inl h ↦ sym h.1
-                ∙ x
-            | inr o ↦ absurd (o.0 here.0)
-          ] in
-          let out = (and_parts (has_bit (slice_index w.now.words.freed p) k)
-          (not (has_bit (slice_index w.now.words.snapshot p - n) k)) (sym (f_bit k) ∙ bit)).1 in
-          let there = ap (λ j. has_bit (slice_index w.now.words.snapshot j) k) (sym here.0) ∙ was in
-          here.1 ∙ elim (cases_Bool (has_bit n k)) [
-            | inl is ↦ is
-            | inr gone ↦ absurd (true≢false (sym (rest_bits n (slice_index w.now.words.snapshot p) k d.fewer there gone)
-                ∙ not-true (has_bit (slice_index w.now.words.snapshot p - n) k) out))
-          ]
-    ]
-
-    owned : (i k : ℕ) → has_bit (slice_index (slice_set w.now.words.freed p f) i) k ≡ true
-        → IsFreedCell c w.allocations i k
-        ⊎ (is_released_in true (slice_set w.now.words.snapshot p n) w.now.words.marks i k ≡ true)
-    owned i k x =
-        let was : has_bit (slice_index w.now.words.freed i) k ≡ true = elim (bit_cases w.now.words.freed p f i k lf) [
-          | inl here ↦ rw here.0 (was_freed k (sym here.1 ∙ x))
-          | inr other ↦ sym other.1 ∙ x
+  within : (i k : ℕ) → has_bit (slice_index (slice_set w.now.words.snapshot p n) i) k ≡ true
+      → has_bit (slice_index (slice_set w.now.words.freed p f) i) k ≡ true
+  within i k x = elim (bit_cases w.now.words.freed p f i k lf) [
+    | inr other ↦ other.1 ∙ q.within i k (was_snap i k x)
+    | inl here ↦
+        let bit : has_bit n k ≡ true = elim (bit_cases w.now.words.snapshot p n i k ls) [
+          | inl h ↦ sym h.1
+              ∙ x
+          | inr o ↦ absurd (o.0 here.0)
         ] in
-        elim (q.owned i k was) [
-          | inl o ↦ inl o
-          | inr r ↦
-              let bits = released_bits w.now.words.snapshot w.now.words.marks i k r in
-              inr (and_both (has_bit (slice_index (slice_set w.now.words.snapshot p n) i) k)
-              (has_bit (slice_index w.now.words.marks i) k) (still_released i k x bits.0) bits.1)
+        let out = rest_bit n (slice_index w.now.words.snapshot p) k d.fewer
+        ∙ and_right (has_bit (slice_index w.now.words.snapshot p) k) _ (ap not bit) in
+        let was = ap (λ j. has_bit (slice_index w.now.words.freed j) k) (sym here.0)
+        ∙ q.within i k (was_snap i k x) in
+        here.1 ∙ f_bit k ∙ and_both (has_bit (slice_index w.now.words.freed p) k)
+        (has_bit rest k) was out
+  ]
+
+  -- what isn't released stays freed
+  stays : (i k : ℕ) → has_bit (slice_index w.now.words.freed i) k ≡ true
+      → is_released_in true w.now.words.snapshot w.now.words.marks i k ≡ false
+      → has_bit (slice_index (slice_set w.now.words.freed p f) i) k ≡ true
+  stays i k x out = elim (bit_cases w.now.words.freed p f i k lf) [
+    | inr other ↦ other.1 ∙ x
+    | inl here ↦
+        let was = ap (λ j. has_bit (slice_index w.now.words.freed j) k) (sym here.0) ∙ x in
+        let none = false_from_ne_true (has_bit rest k) (λ r.
+        let bits = left_bits w.now.words p rest k d.left r in
+        true≢false (sym (and_both (has_bit (slice_index w.now.words.snapshot p) k)
+        (has_bit (slice_index w.now.words.marks p) k) bits.0 bits.1)
+        ∙ rw (← here.0) out)) in
+        here.1 ∙ f_bit k ∙ and_both (has_bit (slice_index w.now.words.freed p) k)
+        (has_bit rest k) was none
+  ]
+
+  -- what is still freed and was released is released still
+  still_released : (i k : ℕ) → has_bit (slice_index (slice_set w.now.words.freed p f) i) k ≡ true
+      → has_bit (slice_index w.now.words.snapshot i) k ≡ true
+      → has_bit (slice_index (slice_set w.now.words.snapshot p n) i) k ≡ true
+  still_released i k x was = elim (bit_cases w.now.words.snapshot p n i k ls) [
+    | inr other ↦ other.1 ∙ was
+    | inl here ↦
+        let bit : has_bit f k ≡ true = elim (bit_cases w.now.words.freed p f i k lf) [
+          | inl h ↦ sym h.1
+              ∙ x
+          | inr o ↦ absurd (o.0 here.0)
+        ] in
+        let out = (and_parts (has_bit (slice_index w.now.words.freed p) k)
+        (not (has_bit rest k)) (sym (f_bit k) ∙ bit)).1 in
+        let there = ap (λ j. has_bit (slice_index w.now.words.snapshot j) k) (sym here.0) ∙ was in
+        here.1 ∙ elim (cases_Bool (has_bit n k)) [
+          | inl is ↦ is
+          | inr gone ↦ absurd (true≢false (sym (rest_bits n (slice_index w.now.words.snapshot p) k d.fewer there gone)
+              ∙ not-true (has_bit rest k) out))
         ]
+  ]
+
+  owned : (i k : ℕ) → has_bit (slice_index (slice_set w.now.words.freed p f) i) k ≡ true
+      → IsFreedCell c w.allocations i k
+      ⊎ (is_released_in true (slice_set w.now.words.snapshot p n) w.now.words.marks i k ≡ true)
+  owned i k x =
+      let was : has_bit (slice_index w.now.words.freed i) k ≡ true = elim (bit_cases w.now.words.freed p f i k lf) [
+        | inl here ↦ rw here.0 (was_freed k (sym here.1 ∙ x))
+        | inr other ↦ sym other.1 ∙ x
+      ] in
+      elim (q.owned i k was) [
+        | inl o ↦ inl o
+        | inr r ↦
+            let bits = released_bits w.now.words.snapshot w.now.words.marks i k r in
+            inr (and_both (has_bit (slice_index (slice_set w.now.words.snapshot p n) i) k)
+            (has_bit (slice_index w.now.words.marks i) k) (still_released i k x bits.0) bits.1)
+      ]
+
+  pub drop_kept : HasQuarantine c true w.now.words.marks
+      (record (ground_of w) { freed = slice_set w.now.words.freed p f; snapshot = slice_set w.now.words.snapshot p n })
+  drop_kept =
+      record {
+        small = λ i. (
+          least_set w.now.words.freed p f i lf f_small (q.small i).0,
+          least_set w.now.words.snapshot p n i ls n_small (q.small i).1,
+        );
+        within = within;
+        owned = owned;
+        shown = λ i u x. stays (cell_of_allocation c (placed_at w.allocations i)).page
+            (cell_of_allocation c (placed_at w.allocations i)).index (q.shown i u x) (q.kept refl i u);
+        taken = λ place is. elim (bit_cases w.now.words.freed p f place.page place.index lf) [
+          | inl here ↦ here.1 ∙ false_from_ne_true (has_bit f place.index) (λ x.
+              true≢false (sym (was_freed place.index x)
+              ∙ rw (← here.0) (q.taken place is)))
+          | inr other ↦ other.1 ∙ q.taken place is
+        ];
+        kept = λ on i u.
+            let x : Cell = cell_of_allocation c (placed_at w.allocations i) in
+            false_from_ne_true
+            (is_released_in true (slice_set w.now.words.snapshot p n) w.now.words.marks x.page x.index) (λ r.
+            let bits = released_bits (slice_set w.now.words.snapshot p n) w.now.words.marks x.page x.index r in
+            true≢false
+            (sym (and_both (has_bit (slice_index w.now.words.snapshot x.page) x.index)
+            (has_bit (slice_index w.now.words.marks x.page) x.index) (was_snap x.page x.index bits.0) bits.1)
+            ∙ q.kept refl i u));
+      }
 
 -- `quar` (b): the freed cells are the snapshot
 pub snapshot_kept : (c : Config) (marks : List ℕ) (t : Ground) (p : ℕ) → p < length t.snapshot

@@ -1,13 +1,11 @@
 -- What the layout and the quarantine say of all histories.
-use Rattle.std.proofs.Common.{List, append_assoc, subst, sym, ◌++◌, ◌∷◌, ◌≡◌, []}
-use Rattle.mk_laws.proofs.Vocabulary.{Config, Event, IsHistory, World, left, left_from}
-use Rattle.mk_core.proofs.HistoryParts.{earlier_part_is_history, left_in_parts}
-use Rattle.mk_core.proofs.Lengths.{histories_keep_lengths}
-use Rattle.mk_laws.specs.LayoutLaws.{LayoutPremisesFrom}
+use Rattle.mk_laws.proofs.Vocabulary.{Config, Event, IsHistory, LayoutPremisesFrom, List, OfHistories, World, []}
+use Rattle.mk_laws.proofs.Vocabulary.{append_assoc, earlier_part_is_history, histories_keep_lengths, left, left_from}
+use Rattle.mk_laws.proofs.Vocabulary.{left_in_parts, subst, sym, ◌++◌, ◌∷◌, ◌≡◌}
+use Rattle.mk_laws.proofs.Basics.{known_world}
 use Rattle.mk_laws.proofs.CycleSnapshots.{snapshots_are_of_cycles}
 use Rattle.mk_laws.proofs.ResidentPages.{resident_few}
-use Rattle.mk_laws.proofs.KnownWorlds.{known_world}
-use Rattle.mk_laws.specs.Theorems.{FewPagesAreResident, OfHistories, PagesHaveHeaderWords, SnapshotIsTheCycles}
+use Rattle.mk_laws.specs.Theorems.{FewPagesAreResident, PagesHaveHeaderWords, SnapshotIsTheCycles}
 use Rattle.mk_laws.proofs.InvariantHistories.{histories_keep_the_invariant}
 use Rattle.mk_laws.proofs.InvariantJoined.{told_to_layout}
 

@@ -1,15 +1,10 @@
 -- The word that an access reaches: one of a mapped allocation.
-use Rattle.std.proofs.Common.{◌≡◌, ◌≢◌, ℕ, ◌+◌, ◌-◌, ◌/◌, ◌<◌, Bool, true, false, List, ◌++◌, length, refl, sym, ap}
-use Rattle.std.proofs.Common.{◌∙◌, arith}
-use Rattle.std.specs.Prelude.{if◌then◌else◌}
-use Rattle.std.proofs.lemmas.Bool.{false≢true}
-use Rattle.std.proofs.lemmas.List.{length-map}
-use Rattle.mk_laws.proofs.Vocabulary.{IsNumber, IsSound, IsTypedAllocation, Kind, Meets, NeverState, Null, Num}
-use Rattle.mk_laws.proofs.Vocabulary.{Number, PlacedAllocation, Ptr, Suits, To, Unmapped, Value, WordOf}
-use Rattle.mk_laws.proofs.Vocabulary.{allocation_at, bases_of, header_of, image_of, is_unmapped, is_unmapped_header}
-use Rattle.mk_laws.proofs.Vocabulary.{kind_in, number_of, placed_at, target_of, word_at, words_of}
-use Rattle.mk_laws.specs.Images.{ImageScene, IsMet}
-use Rattle.mk_laws.specs.SafeSets.{IsSafe}
+use Rattle.mk_laws.proofs.Vocabulary.{Bool, ImageScene, IsMet, IsNumber, IsSafe, IsSound, IsTypedAllocation, Kind, List}
+use Rattle.mk_laws.proofs.Vocabulary.{Meets, NeverState, Null, Num, Number, PlacedAllocation, Ptr, Suits, To, Unmapped}
+use Rattle.mk_laws.proofs.Vocabulary.{Value, WordOf, allocation_at, ap, arith, bases_of, false, false≢true, header_of}
+use Rattle.mk_laws.proofs.Vocabulary.{image_of, is_unmapped, is_unmapped_header, kind_in, length, length-map, number_of}
+use Rattle.mk_laws.proofs.Vocabulary.{placed_at, refl, sym, target_of, true, word_at, words_of, ℕ, ◌++◌, ◌+◌, ◌-◌, ◌/◌}
+use Rattle.mk_laws.proofs.Vocabulary.{◌<◌, ◌∙◌, ◌≡◌, ◌≢◌}
 use Rattle.mk_laws.proofs.Pairs.{image_more}
 use Rattle.mk_laws.proofs.ImagesKept.{base_at}
 use Rattle.mk_laws.proofs.Ready.{Ready}

@@ -1,12 +1,12 @@
 -- Which word an enabled event reaches, and how.
-use Rattle.std.proofs.Common.{◌≡◌, ℕ, ◌*◌, ◌<◌, ◌≤◌, Bool, true, false, ◌++◌, refl, sym, ◌∙◌, ap, subst, arith}
-use Rattle.std.specs.Prelude.{nat_le, nat_lt, not, is_none, ◌&&◌}
-use Rattle.std.proofs.lemmas.Bool.{ltb-true, and_parts}
-use Rattle.mk_laws.proofs.Vocabulary.{Caller, Config, Flight, Holding, Holds, Host, Marker, MarkerState, Moment}
-use Rattle.mk_laws.proofs.Vocabulary.{Placing, Seat, Step, Tally, Word, access, caller_number, flight_of}
-use Rattle.mk_laws.proofs.Vocabulary.{has_next_word, holder_number, is_number_of, is_scanned, is_undecided_new}
-use Rattle.mk_laws.proofs.Vocabulary.{left, marker_at, outside, page_met, seat_exists, tally_word, word_accessed}
-use Rattle.mk_laws.proofs.Vocabulary.{Op, Stage, is_new_at, is_under_turn, word_met}
+use Rattle.mk_laws.proofs.Vocabulary.{Bool, Caller, Config, Flight, Holding, Holds, Host, Marker, MarkerState, Moment}
+use Rattle.mk_laws.proofs.Vocabulary.{Op, Placing, Seat, Stage, Step, Tally, Word, access, and_parts, ap, arith}
+use Rattle.mk_laws.proofs.Vocabulary.{caller_number, enabled_meets, false, flight_of, has_next_word, holder_number}
+use Rattle.mk_laws.proofs.Vocabulary.{is_new_at, is_none, is_number_of, is_scanned, is_under_turn, left, ltb-true}
+use Rattle.mk_laws.proofs.Vocabulary.{marker_at, nat_le, nat_lt, not, outside, page_met, refl, seat_exists, tally_word}
+use Rattle.mk_laws.proofs.Vocabulary.{true, word_accessed, word_met, ℕ, ◌&&◌, ◌*◌, ◌++◌, ◌<◌, ◌∙◌, ◌≡◌, ◌≤◌}
+use Rattle.mk_laws.proofs.Basics.{Known, Meets, grants_new, is_grant, known_left, new_holds, operands_of}
+use Rattle.mk_laws.proofs.Basics.{register_small}
 use Rattle.mk_never.specs.declared.operations.Op.TheVariants as op
 use Rattle.mk_core.specs.declared.seats.Stage.TheVariants as stage
 use Rattle.mk_core.specs.Readings.{is_idle}
@@ -16,16 +16,11 @@ use Rattle.mk_core.specs.declared.events.Word.TheVariants as word
 use Rattle.mk_core.specs.Layout.{NamesWord, IsOfTable}
 use Rattle.mk_core.specs.Ranges.{is_word, is_word_met}
 use Rattle.mk_core.specs.Accesses.{word_reached, access_by}
-use Rattle.mk_core.proofs.Conditions.{enabled_meets}
 use Rattle.mk_laws.specs.Reaching.{EventsReachTheTable, OthersLeaveAccesses}
-use Rattle.mk_laws.proofs.Actors.{Meets, grants_new}
-use Rattle.mk_laws.proofs.Operands.{Operands, operands_of, register_small}
-use Rattle.mk_laws.proofs.Known.{Known, known_left}
-use Rattle.mk_laws.proofs.NewPlace.{new_holds}
+use Rattle.mk_laws.proofs.Operands.{Operands}
 use Rattle.mk_laws.proofs.ScansInHeap.{MarkerFits, nothing_fits, next_in_heap, scan_page_in_heap, seen_page_in_heap}
 use Rattle.mk_laws.proofs.InHeap.{InHeap, in_heap_left}
 use Rattle.mk_laws.proofs.ProtocolFrames.{others_leave}
-use Rattle.mk_laws.proofs.ProtocolStepKinds.{is_grant}
 
 -- what is known of a seat
 

@@ -1,14 +1,11 @@
 -- An unreleased allocation keeps its place, and stays unreleased, up to a `release`.
-use Rattle.std.proofs.Common.{◌≡◌, ℕ, false, List, ◌∷◌, map, refl, ◌∙◌, ap, []}
-use Rattle.std.specs.List.{list_any}
-use Rattle.std.proofs.lemmas.Bool.{or_parts}
-use Rattle.mk_laws.proofs.Vocabulary.{Config, Event, PlacedAllocation, Seat, Step, World, cell_freed}
-use Rattle.mk_laws.proofs.Vocabulary.{cell_of_allocation, flight_of, freed_where_it_stands, granted, is_release}
-use Rattle.mk_laws.proofs.Vocabulary.{left_from, no_longer_fresh, placed_at, world_behind}
+use Rattle.mk_laws.proofs.Vocabulary.{Config, Event, LeavesPlaces, List, PlacedAllocation, Seat, Step, World, [], ap}
+use Rattle.mk_laws.proofs.Vocabulary.{cell_freed, cell_of_allocation, changed_at, false, flight_of, freed_leaves}
+use Rattle.mk_laws.proofs.Vocabulary.{freed_released, freed_where_it_stands, fresh_leaves, granted, is_release}
+use Rattle.mk_laws.proofs.Vocabulary.{left_from, list_any, map, no_longer_fresh, or_parts, placed_at, refl}
+use Rattle.mk_laws.proofs.Vocabulary.{world_behind, ℕ, ◌∙◌, ◌∷◌, ◌≡◌}
+use Rattle.mk_laws.proofs.Basics.{WorldBehind, same_cell}
 use Rattle.mk_core.specs.declared.events.Step.TheVariants as step
-use Rattle.mk_core.proofs.ChangedAllocations.{LeavesPlaces, changed_at, freed_leaves, freed_released, fresh_leaves}
-use Rattle.mk_laws.proofs.OthersMoves.{WorldBehind}
-use Rattle.mk_laws.proofs.Claims.{same_cell}
 use Rattle.mk_laws.proofs.Granted.{still_at}
 
 pub record StaysPut (a b : PlacedAllocation) : Type 0 where

@@ -1,19 +1,14 @@
 -- What headers and freed bits say of the allocations, after each history.
-use Rattle.std.proofs.Common.{◌≡◌, ◌≢◌, ◌⊎◌, ℕ, ◌<◌, ◌≤◌, Bool, true, false, refl, sym, ◌∙◌, ap, inl, inr, arith}
-use Rattle.std.specs.Prelude.{Option, Some, ◌-◌, ◌==◌, not}
-use Rattle.std.proofs.lemmas.Bool.{and_parts, ne_eqb, not-true, true≢false}
-use Rattle.mk_laws.proofs.Vocabulary.{Cell, Config, Header, IsTaken, LeafRun, NeverState, PlacedAllocation, Run}
-use Rattle.mk_laws.proofs.Vocabulary.{RunPages, World, cell_of_allocation, first_word, header_in, is_freed}
-use Rattle.mk_laws.proofs.Vocabulary.{is_phase, left, never_behind, phase_of, placed_at, run_headed, stands_in}
+use Rattle.std.specs.Prelude.{◌-◌}
+use Rattle.mk_laws.proofs.Vocabulary.{Bool, Cell, Config, HasItsHead, Header, Invariant, IsFreedCell, IsTaken, LeafRun}
+use Rattle.mk_laws.proofs.Vocabulary.{NeverState, OfHistories, Option, PlacedAllocation, Run, RunPages, Some, World}
+use Rattle.mk_laws.proofs.Vocabulary.{and_parts, ap, arith, cell_of_allocation, false, first_word, header_in, inl, inr}
+use Rattle.mk_laws.proofs.Vocabulary.{is_freed, is_phase, is_released_in, left, ne_eqb, never_behind, not, not-true}
+use Rattle.mk_laws.proofs.Vocabulary.{phase_of, placed_at, refl, run_count, run_headed, stands_in, stands_in_its_cell}
+use Rattle.mk_laws.proofs.Vocabulary.{sym, true, true≢false, typed_size, ℕ, ◌<◌, ◌==◌, ◌∙◌, ◌≡◌, ◌≢◌, ◌≤◌, ◌⊎◌}
+use Rattle.mk_laws.proofs.Basics.{KnownWorld, known_world}
 use Rattle.mk_core.specs.Readings.{WordsTellWhatStands}
-use Rattle.mk_core.proofs.CellsOfAllocations.{stands_in_its_cell}
 use Rattle.mk_core.proofs.PointedAllocations.{taken_cell_is}
-use Rattle.mk_core.proofs.StandingAllocations.{typed_size}
-use Rattle.mk_laws.specs.Quarantine.{IsFreedCell}
-use Rattle.mk_laws.specs.LayoutScene.{HasItsHead, is_released_in, run_count}
-use Rattle.mk_laws.proofs.KnownWorlds.{KnownWorld, known_world}
-use Rattle.mk_laws.specs.Invariant.{Invariant}
-use Rattle.mk_laws.specs.Theorems.{OfHistories}
 use Rattle.mk_laws.proofs.ForImages.{standing}
 use Rattle.mk_laws.proofs.InvariantHistories.{histories_keep_the_invariant}
 use Rattle.mk_laws.specs.WordReadings.{HeadersAndQuarantineTell}

@@ -1,17 +1,15 @@
 -- What a step of a caller needs of the state before: images tell values apart.
-use Rattle.std.proofs.Common.{◌≡◌, ℕ, ◌+◌, ◌^◌, ◌<◌, Bool, true, false, List, [], ◌∷◌, ◌++◌, length, refl, sym, ap}
-use Rattle.std.proofs.Common.{subst, ◌∙◌, inl, inr, arith}
-use Rattle.std.specs.Prelude.{slice_set, ◌==◌, Option, Some, if◌then◌else◌}
-use Rattle.std.proofs.lemmas.Bool.{cases_eq, cases_Bool, eq-eqb, ne_eqb}
-use Rattle.mk_laws.proofs.Vocabulary.{Answer, IsSound, IsTyped, IsTypedAllocation, NeverState, Null, Num, Op}
-use Rattle.mk_laws.proofs.Vocabulary.{Progress, Ptr, Value, after_calls, allocation_at, answer_of, answered}
-use Rattle.mk_laws.proofs.Vocabulary.{answers_of, asked, bases_of, bit, entry_of, flagged, image_of, is_same}
-use Rattle.mk_laws.proofs.Vocabulary.{kinds_of, one_if, placed_at, replies_of, words_of}
+use Rattle.mk_laws.proofs.Vocabulary.{Answer, Bool, ImageScene, IsSafe, IsSafeSet, IsSound, IsTyped, IsTypedAllocation}
+use Rattle.mk_laws.proofs.Vocabulary.{List, NeverState, Null, Num, Op, Option, Progress, Ptr, Some, Value, []}
+use Rattle.mk_laws.proofs.Vocabulary.{after_calls, allocation_at, answer_of, answered, answers_of, ap, arith, asked}
+use Rattle.mk_laws.proofs.Vocabulary.{bases_of, bit, cases_Bool, cases_eq, entry_of, eq-eqb, false, flagged}
+use Rattle.mk_laws.proofs.Vocabulary.{if◌then◌else◌, image_of, inl, inr, is_same, kinds_of, length, ne_eqb, one_if}
+use Rattle.mk_laws.proofs.Vocabulary.{placed_at, refl, replies_of, slice_set, sym, true, words_of, ℕ, ◌++◌, ◌+◌, ◌<◌}
+use Rattle.mk_laws.proofs.Vocabulary.{◌==◌, ◌^◌, ◌∙◌, ◌∷◌, ◌≡◌}
 use Rattle.mk_never.specs.NeverHeap.{reply_of}
 use Rattle.mk_never.proofs.Soundness.{place_is_inside}
 use Rattle.mk_never.proofs.Sameness.{equal_from_same, same_from_equal}
-use Rattle.mk_laws.specs.Images.{ImageScene, AreImages}
-use Rattle.mk_laws.specs.SafeSets.{IsSafe, IsSafeSet}
+use Rattle.mk_laws.specs.Images.{AreImages}
 use Rattle.mk_laws.proofs.ImagesMoves.{Move}
 use Rattle.mk_laws.proofs.ImagesKept.{AreApart, AreSmall, base_at}
 

@@ -1,10 +1,9 @@
 -- A call that is decided and changes nothing, or is refused.
-use Rattle.std.proofs.Common.{◌≡◌, ℕ, ◌+◌, ◌*◌, ◌<◌, Bool, true, false, List, ◌++◌, length, refl, sym, ap, subst, ◌∙◌}
-use Rattle.std.proofs.Common.{arith}
-use Rattle.std.specs.Prelude.{slice_set, Some, if◌then◌else◌}
-use Rattle.mk_laws.proofs.Vocabulary.{Answer, Done, Flight, NeverState, Null, Num, Op, Stage, Unmapped, WordOf}
-use Rattle.mk_laws.proofs.Vocabulary.{answer_of, bases_of, bit, d_of, flagged, i_of, is_same, number_of, q_of}
-use Rattle.mk_laws.proofs.Vocabulary.{register_at, stage_refused, target_of, with_register, with_word, word_at}
+use Rattle.mk_laws.proofs.Vocabulary.{Answer, Bool, Done, Flight, ImageScene, List, NeverState, Null, Num, Op, Some}
+use Rattle.mk_laws.proofs.Vocabulary.{Stage, WordOf, answer_of, ap, arith, bases_of, bit, d_of, false, flagged}
+use Rattle.mk_laws.proofs.Vocabulary.{flight_among, i_of, if◌then◌else◌, is_put, is_same, length, number_of, q_of, refl}
+use Rattle.mk_laws.proofs.Vocabulary.{register_at, slice_set, stage_refused, subst, sym, target_of, true, with_register}
+use Rattle.mk_laws.proofs.Vocabulary.{with_word, word_at, ℕ, ◌*◌, ◌++◌, ◌+◌, ◌<◌, ◌∙◌, ◌≡◌}
 use Rattle.mk_never.specs.declared.operations.Op.TheVariants as op
 use Rattle.mk_never.specs.declared.operations.Reply.{Reply}
 use Rattle.mk_never.specs.declared.operations.Reply.TheVariants.{Num as Number, Val}
@@ -12,7 +11,6 @@ use Rattle.mk_never.specs.declared.values.Target.{Target}
 use Rattle.mk_never.specs.declared.values.Target.TheVariants.{Nothing}
 use Rattle.mk_never.specs.NeverHeap.{reply_at, left_at, reply_of, after_op}
 use Rattle.mk_core.specs.declared.seats.Stage.TheVariants as stage
-use Rattle.mk_laws.specs.Images.{ImageScene, flight_among, is_put}
 use Rattle.mk_laws.proofs.ImagesMoves.{is_bare, Move, Flies, Owes}
 use Rattle.mk_laws.proofs.Pairs.{bare_carries, bare_unprobed, shows_plain, bare_owes_nothing}
 use Rattle.mk_laws.proofs.Ready.{Leads, one_right}
@@ -71,8 +69,7 @@ refused_reply x t at e none = rw e (by t none)
   where
     by : (t : Target) → is_word t ≡ false → reply_at t at ≡ reply_at t (λ a w. Done)
     by Nothing none = refl
-    by Unmapped none = refl
-    by (WordOf a i) none = cc
+    by _ none = cc
 
 refused_left : (x t : Target) (left : NeverState) (at : ℕ → ℕ → NeverState) → x ≡ t → is_word t ≡ false
     → left_at x left at ≡ left
@@ -80,8 +77,7 @@ refused_left x t left at e none = rw e (by t none)
   where
     by : (t : Target) → is_word t ≡ false → left_at t left at ≡ left
     by Nothing none = refl
-    by Unmapped none = refl
-    by (WordOf a i) none = cc
+    by _ none = cc
 
 abbrev flight : Stage → Op → ℕ → ℕ → ℕ → ℕ → Flight
 flight st o q p r l = record { stage = st; op = o; q = q; p = p; r = r; loaded = l }
@@ -118,5 +114,4 @@ refuses safe s n k (op.GetPtr d q' i) q p r a t is there long was ld none e answ
     owes_null safe s n k d (op.GetPtr d q' i) _ a refl there long was refl refl ld refl (refused_left _ t _
     (λ a w. with_register n k d (word_at n a w)) e none) (λ bs. answer bs ∙ ap (answer_of bs)
     (sym (refused_reply _ t (λ a w. Val (word_at n a w)) e none)))
-refuses safe s n k (op.New d' ty full) q p r a t is there long was ld none e answer = cc
 refuses safe s n k _ q p r a t is there long was ld none e answer = cc

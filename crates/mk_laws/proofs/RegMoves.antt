@@ -1,13 +1,12 @@
 -- `reg` leads to what the images allow, at each stage.
-use Rattle.std.proofs.Common.{◌≡◌, ◌≢◌, ℕ, ◌+◌, ◌*◌, ◌%◌, ◌^◌, ◌<◌, Bool, true, false, List, ◌++◌, length, refl, sym}
-use Rattle.std.proofs.Common.{ap, subst, ◌∙◌, arith}
-use Rattle.std.specs.Prelude.{if◌then◌else◌, slice_set, ◌==◌, Some, None}
-use Rattle.std.proofs.lemmas.Bool.{false≢true, eqb-true, eqb-false}
-use Rattle.mk_laws.proofs.Vocabulary.{AreAdmitted, Done, Flight, IsAdmitted, IsSound, Meets, NeverState, Null, Num}
-use Rattle.mk_laws.proofs.Vocabulary.{Op, Ptr, Stage, Value, after_free, answer_of, asked, bases_of, d_of, entry_of}
-use Rattle.mk_laws.proofs.Vocabulary.{i_of, image_of, is_same, one_if, onward, p_of, progress_p, progress_q}
-use Rattle.mk_laws.proofs.Vocabulary.{progress_reg, q_of, r_of, refused, register_at, register_met, stage_behind}
-use Rattle.mk_laws.proofs.Vocabulary.{steps_of, target_of, with_register}
+use Rattle.mk_laws.proofs.Vocabulary.{AreAdmitted, Bool, Carries, CarriesOwn, Done, Flight, ImageScene, IsAdmitted}
+use Rattle.mk_laws.proofs.Vocabulary.{IsSafe, IsSound, List, Meets, NeverState, None, Null, Num, Op, ProbedOwn, Ptr}
+use Rattle.mk_laws.proofs.Vocabulary.{Some, Stage, Value, answer_of, ap, arith, asked, bases_of, d_of, entry_of}
+use Rattle.mk_laws.proofs.Vocabulary.{eqb-false, eqb-true, false, false≢true, flight_among, has_p, has_r, has_some_p}
+use Rattle.mk_laws.proofs.Vocabulary.{if◌then◌else◌, image_of, is_past_probe, is_put, is_same, length, one_if, onward}
+use Rattle.mk_laws.proofs.Vocabulary.{p_of, progress_p, progress_q, progress_reg, q_of, r_of, refl, refused}
+use Rattle.mk_laws.proofs.Vocabulary.{register_at, register_met, slice_set, stage_behind, steps_of, subst, sym, true, ℕ}
+use Rattle.mk_laws.proofs.Vocabulary.{◌%◌, ◌*◌, ◌++◌, ◌+◌, ◌<◌, ◌==◌, ◌^◌, ◌∙◌, ◌≡◌, ◌≢◌}
 use Rattle.mk_never.specs.declared.operations.Op.TheVariants as op
 use Rattle.mk_never.specs.declared.values.Target.TheVariants.{Nothing}
 use Rattle.mk_never.specs.NeverHeap.{free_reply, lea_reply, moved_on}
@@ -16,9 +15,6 @@ use Rattle.mk_core.specs.declared.seats.Stage.TheVariants as stage
 use Rattle.mk_core.specs.Calls.{value_for}
 use Rattle.mk_laws.proofs.Standings.{standing_at, is_astray}
 use Rattle.mk_laws.proofs.Stages.{is_reg_stage}
-use Rattle.mk_laws.specs.Images.{is_past_probe, ImageScene, flight_among, is_put, has_p, has_some_p, has_r, Carries}
-use Rattle.mk_laws.specs.Images.{CarriesOwn, ProbedOwn}
-use Rattle.mk_laws.specs.SafeSets.{IsSafe}
 use Rattle.mk_laws.proofs.ImagesMoves.{Move, Flies, Pays, Stores}
 use Rattle.mk_laws.proofs.Pairs.{shows_plain}
 use Rattle.mk_laws.proofs.ImagesKept.{base_at}
@@ -85,14 +81,17 @@ lea_value listed safe s n h (Ptr a t o) x i sound is e ne meets =
 module _ (listed : List ℕ) (safe : ℕ → Bool) (s : ImageScene) (n : NeverState) (k : ℕ) (h : Ready listed safe s n)
     (there : k < length s.flights) (long : 8 * k + 7 < length n.registers) (longs : 8 * k + 7 < length s.registers)
   where
-    null_at : (q x : ℕ) → x ≡ image_of (bases_of s.allocations) (register_at n k q) → (x == 0) ≡ true
+    abbrev bases : List ℕ
+    bases = bases_of s.allocations
+
+    null_at : (q x : ℕ) → x ≡ image_of bases (register_at n k q) → (x == 0) ≡ true
         → register_at n k q ≡ Null
     null_at q x e z = image_zero n _ (register_at n k q) (h.typed.registers (8 * k + q)) (sym e ∙ eqb-true x 0 z)
 
     -- an access loads its pointer, or is refused
     load_q : (o : Op) (q p r l x : ℕ) → accesses o ≡ true → flight_among s.flights k ≡ flight stage.LoadQ o q p r l
         → d_of o < 8
-        → x ≡ image_of (bases_of s.allocations) (register_at n k (q_of o))
+        → x ≡ image_of bases (register_at n k (q_of o))
         → LeadsBy safe s n k o s (if x == 0 then refused (flight stage.LoadQ o x p r l) answer.Null
         else onward (flight stage.LoadQ o x p r l) None)
     load_q o q p r l x access is ld e =
@@ -107,8 +106,8 @@ module _ (listed : List ℕ) (safe : ℕ → Bool) (s : ImageScene) (n : NeverSt
 
     reg_q : (o : Op) (q p r l x : ℕ) → flight_among s.flights k ≡ flight stage.LoadQ o q p r l → d_of o < 8
         → is_astray (standing_at stage.LoadQ o) ≡ false
-        → CarriesOwn (bases_of s.allocations) n k (flight stage.LoadQ o q p r l)
-        → x ≡ image_of (bases_of s.allocations) (register_at n k (q_of o))
+        → CarriesOwn bases n k (flight stage.LoadQ o q p r l)
+        → x ≡ image_of bases (register_at n k (q_of o))
         → LeadsBy safe s n k o s (progress_q (flight stage.LoadQ o q p r l) o x)
     reg_q (op.GetNum q' i) q p r l x is ld a car e = load_q (op.GetNum q' i) q p r l x refl is ld e
     reg_q (op.SetNum q' i m) q p r l x is ld a car e = load_q (op.SetNum q' i m) q p r l x refl is ld e
@@ -128,19 +127,18 @@ module _ (listed : List ℕ) (safe : ℕ → Bool) (s : ImageScene) (n : NeverSt
     reg_q (op.Same p' q') q p r l x is ld a car e =
         let u = register_at n k p' in
         let v = register_at n k q' in
-        let ep : p ≡ image_of (bases_of s.allocations) u = car.p refl in
+        let ep : p ≡ image_of bases u = car.p refl in
         let tests : (p == x) ≡ is_same u v =
         rw ep (rw e (image_test listed safe s n h u v (h.typed.registers (8 * k + p')) (h.typed.registers (8 * k + q'))
         (h.set.registers (8 * k + p')) (h.set.registers (8 * k + q')))) in
         decides_nothing safe s n k (op.Same p' q') _ (answer.Num (one_if (p == x))) refl (rw is) refl refl
         (λ bs. rw tests (ap answer.Num (bit_is (is_same u v))))
-    reg_q (op.New d ty full) q p r l x is ld a car e = cc
     reg_q _ q p r l x is ld a car e = cc
 
     reg_p : (o : Op) (q p r l x : ℕ) → flight_among s.flights k ≡ flight stage.LoadP o q p r l
         → is_astray (standing_at stage.LoadP o) ≡ false
-        → CarriesOwn (bases_of s.allocations) n k (flight stage.LoadP o q p r l)
-        → x ≡ image_of (bases_of s.allocations) (register_at n k (p_of o))
+        → CarriesOwn bases n k (flight stage.LoadP o q p r l)
+        → x ≡ image_of bases (register_at n k (p_of o))
         → LeadsBy safe s n k o s (progress_p (flight stage.LoadP o q p r l) o x)
     reg_p (op.SetPtr q' i p') q p r l x is a car e =
         flies_on safe s n k (op.SetPtr q' i p') _ (rw is) refl
@@ -169,13 +167,12 @@ module _ (listed : List ℕ) (safe : ℕ → Bool) (s : ImageScene) (n : NeverSt
         (λ bs. ap (λ v. answer_of bs (free_reply n v)) (sym (null_at p' x e z))))
         (λ nz. flies_on safe s n k (op.Free p') _ was refl
         (record { q = λ y. cc; some_q = λ y. cc; p = λ y. e; some_p = λ y. eqb-false x 0 nz; r = λ y. cc }) (λ y. cc))
-    reg_p (op.New d ty full) q p r l x is a car e = cc
     reg_p _ q p r l x is a car e = cc
 
     reg_r : (o : Op) (q p r l x : ℕ) → flight_among s.flights k ≡ flight stage.LoadR o q p r l
         → is_astray (standing_at stage.LoadR o) ≡ false
-        → CarriesOwn (bases_of s.allocations) n k (flight stage.LoadR o q p r l)
-        → x ≡ image_of (bases_of s.allocations) (register_at n k (r_of o))
+        → CarriesOwn bases n k (flight stage.LoadR o q p r l)
+        → x ≡ image_of bases (register_at n k (r_of o))
         → LeadsBy safe s n k o s (onward (record (flight stage.LoadR o q p r l) { r = x }) None)
     reg_r (op.CasPtr q' i p' r') q p r l x is a car e =
         flies_on safe s n k (op.CasPtr q' i p' r') (flight stage.Probe (op.CasPtr q' i p' r') q p x l) (rw is) refl
@@ -186,12 +183,11 @@ module _ (listed : List ℕ) (safe : ℕ → Bool) (s : ImageScene) (n : NeverSt
           some_p = λ y. cc;
           r = λ y. e;
         }) (λ y. cc)
-    reg_r (op.New d ty full) q p r l x is a car e = cc
     reg_r _ q p r l x is a car e = cc
 
     reg_store : (o : Op) (q p r l : ℕ) → flight_among s.flights k ≡ flight stage.Store o q p r l → d_of o < 8
         → is_astray (standing_at stage.Store o) ≡ false
-        → CarriesOwn (bases_of s.allocations) n k (flight stage.Store o q p r l)
+        → CarriesOwn bases n k (flight stage.Store o q p r l)
         → AreAdmitted listed n (asked (entry_of k o (Some answer.Done)))
         → LeadsBy safe s n k o
         (record s { registers = slice_set s.registers (8 * k + d_of o) (value_for (flight stage.Store o q p r l) o) })
@@ -219,7 +215,6 @@ module _ (listed : List ℕ) (safe : ℕ → Bool) (s : ImageScene) (n : NeverSt
           (record { there = there; registers = long; was = rw is; bare = refl }) longs ld refl tt,
       λ more. refl,
     )
-    reg_store (op.New d ty full) q p r l is ld a car ad = cc
     reg_store _ q p r l is ld a car ad = cc
 
     reg_put : (o : Op) (q p r l : ℕ) → flight_among s.flights k ≡ flight stage.Put o q p r l → d_of o < 8

@@ -1,16 +1,12 @@
 -- What an event may do to registers: each caller's are its own.
-use Rattle.std.proofs.Common.{◌≡◌, ◌≢◌, ℕ, ◌+◌, ◌*◌, ◌<◌, List, refl, sym, ap, subst, arith}
-use Rattle.std.specs.Prelude.{slice_index, slice_set}
-use Rattle.std.proofs.lemmas.List.{get_or-set_other}
-use Rattle.mk_laws.proofs.Vocabulary.{Caller, Config, Flight, Host, Marker, Moment, Named, Seat, Stage, Step, Store}
-use Rattle.mk_laws.proofs.Vocabulary.{Tally, Words, accessed, d_of, flight_of, reg_access, register_met, tally_word}
-use Rattle.mk_core.specs.declared.events.Tally.TheVariants as tally
+use Rattle.mk_laws.proofs.Vocabulary.{Caller, Config, Flight, Host, List, Marker, Moment, Named, Seat, Stage, Step}
+use Rattle.mk_laws.proofs.Vocabulary.{Store, Tally, Words, accessed, arith, d_of, flight_of, get_or-set_other, refl}
+use Rattle.mk_laws.proofs.Vocabulary.{reg_access, register_met, slice_index, slice_set, ℕ, ◌*◌, ◌+◌, ◌<◌, ◌≡◌, ◌≢◌}
+use Rattle.mk_laws.proofs.Basics.{Behind, Meets, grants_new, operands_of, register_small}
 use Rattle.mk_core.specs.declared.events.Word.TheVariants as word
 use Rattle.mk_core.specs.declared.events.Step.TheVariants as step
 use Rattle.mk_core.specs.declared.seats.Stage.TheVariants as stage
-use Rattle.mk_laws.proofs.Actors.{Meets, grants_new}
-use Rattle.mk_laws.proofs.SameWords.{Behind}
-use Rattle.mk_laws.proofs.Operands.{HaveOperands, Operands, operands_of, register_small}
+use Rattle.mk_laws.proofs.Operands.{HaveOperands, Operands}
 use Rattle.mk_core.proofs.RegisterAccesses.{tally_leaves_registers}
 
 pub data RegisterStep (w : Words) : Seat → List ℕ → Type 0 where

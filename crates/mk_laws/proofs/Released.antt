@@ -1,19 +1,12 @@
 -- `release` on the terrain: an allocation is released exactly where its cell is left unmarked.
-use Rattle.std.proofs.Common.{Bool, List, arith, false, inl, inr, length, map, refl, sym, true, ℕ, ◌++◌, ◌/◌, ◌∙◌, ◌≡◌}
-use Rattle.std.proofs.Common.{◌⊎◌}
-use Rattle.std.specs.Prelude.{None, Option, Some, slice_index, ◌||◌}
-use Rattle.std.proofs.lemmas.Bool.{cases_Bool, true≢false}
-use Rattle.mk_laws.proofs.Vocabulary.{Config, IsWithinLimits, Object, PlacedAllocation, RunPages, Words, World}
-use Rattle.mk_laws.proofs.Vocabulary.{address_of, cell_of_allocation, is_left_unmarked, is_some_and, placed_at}
-use Rattle.mk_laws.proofs.Vocabulary.{pointed_cell, with_released}
-use Rattle.mk_core.proofs.BitsWithout.{has_bit_without}
-use Rattle.mk_core.proofs.ChangedAllocations.{released_leaves}
-use Rattle.mk_core.proofs.PointedAllocations.{released_where_left}
-use Rattle.mk_core.proofs.Sizes.{large_cells}
+use Rattle.mk_laws.proofs.Vocabulary.{Among, Bool, Claim, Config, IsWithinLimits, List, None, Object, Option}
+use Rattle.mk_laws.proofs.Vocabulary.{PlacedAllocation, RunPages, RunStands, Some, Words, World, address_of, arith}
+use Rattle.mk_laws.proofs.Vocabulary.{cases_Bool, cell_of_allocation, claim_of, claims_of, claims_placed, false}
+use Rattle.mk_laws.proofs.Vocabulary.{ground_of, has_bit_without, inl, inr, is_left_unmarked, is_released_in}
+use Rattle.mk_laws.proofs.Vocabulary.{is_some_and, large_cells, layout_scene_of, length, map, placed_at, pointed_cell}
+use Rattle.mk_laws.proofs.Vocabulary.{refl, released_leaves, released_where_left, slice_index, sym, true, true≢false}
+use Rattle.mk_laws.proofs.Vocabulary.{with_released, ℕ, ◌++◌, ◌/◌, ◌||◌, ◌∙◌, ◌≡◌, ◌⊎◌}
 use Rattle.mk_laws.proofs.ProtocolKept.{kept}
-use Rattle.mk_laws.specs.LayoutScene.{Among, Claim, is_released_in}
-use Rattle.mk_laws.specs.Ground.{ground_of}
-use Rattle.mk_laws.specs.Terrain.{RunStands, claim_of, claims_of, claims_placed, layout_scene_of}
 use Rattle.mk_laws.proofs.Claims.{LeavesCells, apart_behind, cells_behind, changed_among, claim_among, claim_is}
 use Rattle.mk_laws.proofs.Claims.{was_claim}
 use Rattle.mk_laws.proofs.LayoutJoined.{among_back, among_front, among_parts, apart_across, apart_joined, apart_left}

@@ -1,14 +1,10 @@
 -- Each `release` of a history is that of a cycle.
-use Rattle.std.proofs.Common.{◌≡◌, ℕ, true, false, List, ◌∷◌, ◌++◌, refl, sym, ◌∙◌, ap, subst, arith, append_assoc, []}
-use Rattle.std.proofs.Common.{append-nil}
-use Rattle.std.specs.List.{list_any}
-use Rattle.mk_laws.proofs.Vocabulary.{AreEnabledFrom, At, Config, Event, IsHistory, Marking, Releasing, Seat, Step}
-use Rattle.mk_laws.proofs.Vocabulary.{World, before_release, first_world, is_begin, is_close, is_release, left}
-use Rattle.mk_laws.proofs.Vocabulary.{left_from, phase_of, world_behind}
+use Rattle.mk_laws.proofs.Vocabulary.{AreEnabledFrom, At, Config, Event, IsHistory, List, Marking, OfHistories}
+use Rattle.mk_laws.proofs.Vocabulary.{Releasing, Seat, Step, World, [], ap, append-nil, append_assoc, arith}
+use Rattle.mk_laws.proofs.Vocabulary.{before_release, earlier_part_is_history, enabled_in_parts, false, first_world}
+use Rattle.mk_laws.proofs.Vocabulary.{is_begin, is_close, is_release, left, left_from, left_more, list_any, phase_of}
+use Rattle.mk_laws.proofs.Vocabulary.{refl, subst, sym, true, world_behind, ℕ, ◌++◌, ◌∙◌, ◌∷◌, ◌≡◌}
 use Rattle.mk_core.specs.declared.events.Step.TheVariants as step
-use Rattle.mk_core.proofs.Histories.{left_more}
-use Rattle.mk_core.proofs.HistoryParts.{earlier_part_is_history, enabled_in_parts}
-use Rattle.mk_laws.specs.Theorems.{OfHistories}
 use Rattle.mk_laws.specs.Releases.{ReleasesAreOfCycles}
 use Rattle.mk_laws.proofs.CyclePhases.{AsksPhase, IsMarking, moves_phase, phase_behind}
 use Rattle.mk_laws.proofs.Releases.{up_to_release}

@@ -1,21 +1,17 @@
 -- Words of released cells, after the steps of releasing.
-use Rattle.std.proofs.Common.{◌≡◌, ◌≢◌, ℕ, ◌+◌, ◌-◌, ◌*◌, ◌<◌, ◌≤◌, Bool, true, false, List, refl, sym, ◌∙◌, ap, inl}
-use Rattle.std.proofs.Common.{inr, arith}
-use Rattle.std.specs.Prelude.{not, ◌==◌, slice_index, slice_set, Option, Some}
-use Rattle.std.proofs.lemmas.Bool.{and_parts, and_from, cases_Bool, eqb-true, true≢false}
-use Rattle.mk_never.proofs.Edits.{set_by}
-use Rattle.mk_laws.proofs.Vocabulary.{Cell, Config, Header, Later, Page, World, address_of, cell_at, cell_words}
-use Rattle.mk_laws.proofs.Vocabulary.{first_word, free_page, has_bit, head_page, head_page_under, header_at}
-use Rattle.mk_laws.proofs.Vocabulary.{header_in, header_of, page_at_address, pointed_cell, used_at, without}
-use Rattle.mk_laws.proofs.Vocabulary.{words_under}
-use Rattle.mk_core.proofs.AllBelow.{all_below-at}
-use Rattle.mk_core.proofs.BitsWithout.{has_bit_without}
-use Rattle.mk_core.proofs.PageSteps.{Empties, GivesBack, Drops, wiped_cell}
+use Rattle.mk_laws.proofs.Vocabulary.{Bool, Cell, Config, Drops, Empties, GivesBack, Header, IsReleasedWord, Later}
+use Rattle.mk_laws.proofs.Vocabulary.{List, Option, Page, Some, World, address_of, all_below-at, and_from, and_parts}
+use Rattle.mk_laws.proofs.Vocabulary.{ap, arith, cases_Bool, cell_at, cell_words, eqb-true, false, first_word}
+use Rattle.mk_laws.proofs.Vocabulary.{free_page, has_bit, has_bit_without, head_page, head_page_under, header_at}
+use Rattle.mk_laws.proofs.Vocabulary.{header_in, header_of, header_on, inl, inr, is_released_there, not}
+use Rattle.mk_laws.proofs.Vocabulary.{page_at_address, pointed_cell, refl, set_by, shows_on, slice_index, slice_set}
+use Rattle.mk_laws.proofs.Vocabulary.{sym, true, true≢false, used_at, used_on, without, words_under, zero_scene_with, ℕ}
+use Rattle.mk_laws.proofs.Vocabulary.{◌*◌, ◌+◌, ◌-◌, ◌<◌, ◌==◌, ◌∙◌, ◌≡◌, ◌≢◌, ◌≤◌}
+use Rattle.mk_laws.proofs.Basics.{none_set}
+use Rattle.mk_core.proofs.PageSteps.{wiped_cell}
 use Rattle.mk_core.proofs.PointedPages.{pointed_head}
 use Rattle.mk_core.proofs.WordBits.{rest_bits}
-use Rattle.mk_laws.specs.LayoutScene.{shows_on, header_on, used_on}
-use Rattle.mk_laws.proofs.LayoutReadings.{none_set}
-use Rattle.mk_laws.specs.Zeros.{zero_scene_with, is_released_there, first_word_on, IsReleasedWord}
+use Rattle.mk_laws.specs.Zeros.{first_word_on}
 
 -- Where the pages keep the header of the word's page and that of the cell's, and the cell its used bit, it stays one.
 kept_word : (c : Config) (old new : List Page) (is_gone : Cell → Bool) (n : ℕ) (r : IsReleasedWord c old is_gone n)

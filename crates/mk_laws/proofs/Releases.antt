@@ -1,26 +1,18 @@
 -- What a cycle's `release` releases.
-use Rattle.std.proofs.Common.{◌≡◌, ℕ, Bool, true, false, List, ◌∷◌, ◌++◌, map, refl, sym, ◌∙◌, ap, subst, arith, []}
-use Rattle.std.proofs.Common.{append_assoc}
-use Rattle.std.specs.Prelude.{◌||◌, ◌&&◌, ◌↔◌, not, slice_index}
-use Rattle.std.specs.List.{list_any}
-use Rattle.std.proofs.lemmas.Bool.{and_from, and_parts, not-true}
-use Rattle.std.proofs.lemmas.List.Folds.{list_any-append}
-use Rattle.mk_laws.proofs.Vocabulary.{AreEnabledFrom, At, Caller, Cell, Config, Decided, Event, Host, IsHistory}
-use Rattle.mk_laws.proofs.Vocabulary.{Marker, Moment, NeverState, PlacedAllocation, Releasing, Seat, Step, World}
-use Rattle.mk_laws.proofs.Vocabulary.{after_calls, asked, before_release, call_decided, calls_from}
-use Rattle.mk_laws.proofs.Vocabulary.{cell_of_allocation, flight_of, is_begin, is_close, is_marked, is_quarantined}
-use Rattle.mk_laws.proofs.Vocabulary.{is_release, left, left_from, never_behind, phase_of, placed_at, with_released}
-use Rattle.mk_laws.proofs.Vocabulary.{world_behind}
+use Rattle.std.specs.Prelude.{◌↔◌}
+use Rattle.mk_laws.proofs.Vocabulary.{AreEnabledFrom, At, Bool, Caller, Cell, Config, Decided, Event, IsHistory, List}
+use Rattle.mk_laws.proofs.Vocabulary.{Moment, NeverState, OfHistories, PlacedAllocation, Releasing, Seat, Step, World}
+use Rattle.mk_laws.proofs.Vocabulary.{[], after_calls, and_from, and_parts, ap, append_assoc, arith, asked}
+use Rattle.mk_laws.proofs.Vocabulary.{before_release, call_decided, calls_from, cell_of_allocation, changed_at}
+use Rattle.mk_laws.proofs.Vocabulary.{earlier_part_is_history, enabled_in_parts, enabled_parts, false, flight_of}
+use Rattle.mk_laws.proofs.Vocabulary.{has_bit_of, has_bit_without, is_begin, is_close, is_marked, is_quarantined}
+use Rattle.mk_laws.proofs.Vocabulary.{is_release, left, left_from, left_in_parts, list_any, list_any-append, map}
+use Rattle.mk_laws.proofs.Vocabulary.{never_behind, never_in_parts, not, not-true, phase_of, placed_at, refl}
+use Rattle.mk_laws.proofs.Vocabulary.{released_leaves, released_where_left, slice_index, subst, sym, true}
+use Rattle.mk_laws.proofs.Vocabulary.{with_released, world_behind, ℕ, ◌&&◌, ◌++◌, ◌||◌, ◌∙◌, ◌∷◌, ◌≡◌}
 use Rattle.mk_never.specs.Reach.{IsReachable}
 use Rattle.mk_core.specs.declared.events.Step.TheVariants as step
 use Rattle.mk_core.specs.Allocations.{allocations_by}
-use Rattle.mk_core.proofs.BitsWithout.{has_bit_without}
-use Rattle.mk_core.proofs.ChangedAllocations.{changed_at, released_leaves}
-use Rattle.mk_core.proofs.Histories.{enabled_parts}
-use Rattle.mk_core.proofs.HistoryParts.{earlier_part_is_history, enabled_in_parts, left_in_parts, never_in_parts}
-use Rattle.mk_core.proofs.PointedAllocations.{released_where_left}
-use Rattle.mk_laws.specs.Quarantine.{has_bit_of}
-use Rattle.mk_laws.specs.Theorems.{OfHistories}
 use Rattle.mk_laws.proofs.Quarantines.{snapshot_is_the_cycles}
 use Rattle.mk_laws.proofs.InvariantTheorems.{allocations_stand, reach_is_kept}
 use Rattle.mk_laws.specs.Releases.{NoOthersRelease, ReleasesAreExact, ReleasesNoneReached, allocation_before}
@@ -72,8 +64,7 @@ none_decided c m e is = ap (λ (x : Step). call_decided c m (record { seat = e.s
   where
     by : (seat : Seat) → call_decided c m (record { seat = seat; step = step.Release }) ≡ []
     by (Caller k) = refl
-    by (Marker k) = refl
-    by Host = refl
+    by _ = cc
 
 never_stays : (c : Config) (es : List Event) (e : Event) → is_release e.step ≡ true
     → never_behind c (es ++ e ∷ []) ≡ never_behind c es

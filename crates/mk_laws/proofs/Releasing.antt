@@ -1,15 +1,11 @@
 -- The steps that release: `release`, cells given back, pages freed in any order, and `end`.
-use Rattle.std.proofs.Common.{Bool, List, ap, arith, false, inl, inr, length, length-set, refl, sym, true, ℕ, ◌+◌, ◌-◌}
-use Rattle.std.proofs.Common.{◌<◌, ◌∙◌, ◌≡◌, ◌≢◌, ◌⊎◌}
-use Rattle.std.specs.Prelude.{Option, Some}
-use Rattle.std.proofs.lemmas.Bool.{cases_Bool, cases_eq, cases_lt, true≢false}
-use Rattle.std.proofs.lemmas.List.{get_or_past}
-use Rattle.mk_laws.proofs.Vocabulary.{Header, Later, Page, cells_under, ends, free_page, has_bit, head_page_under}
-use Rattle.mk_laws.proofs.Vocabulary.{header_of, pages_made, stands}
+use Rattle.mk_laws.proofs.Vocabulary.{Among, AreApart, Bool, Claim, Header, IsClaimed, IsLaidOn, IsShown, Later}
+use Rattle.mk_laws.proofs.Vocabulary.{LayoutScene, List, NoPlot, Option, Page, Plot, PlotStands, Plotted, Some, ap}
+use Rattle.mk_laws.proofs.Vocabulary.{arith, cases_Bool, cases_eq, cases_lt, cells_under, ends, false, free_page}
+use Rattle.mk_laws.proofs.Vocabulary.{get_or_past, has_bit, head_on, head_page_under, header_of, header_on, inl, inr}
+use Rattle.mk_laws.proofs.Vocabulary.{is_released_in, is_released_on, length, length-set, pages_made, refl, shows_on}
+use Rattle.mk_laws.proofs.Vocabulary.{stands, sym, true, true≢false, used_on, ℕ, ◌+◌, ◌-◌, ◌<◌, ◌∙◌, ◌≡◌, ◌≢◌, ◌⊎◌}
 use Rattle.mk_laws.proofs.ProtocolKept.{kept}
-use Rattle.mk_laws.specs.LayoutScene.{Among, AreApart, Claim, IsClaimed, IsLaidOn, IsShown, NoPlot, Plot, PlotStands}
-use Rattle.mk_laws.specs.LayoutScene.{Plotted, LayoutScene, head_on, header_on, is_released_in, is_released_on}
-use Rattle.mk_laws.specs.LayoutScene.{shows_on, used_on}
 use Rattle.mk_laws.proofs.PageSets.{headed_here, headed_other, headed_used, used_header, used_here, used_other}
 use Rattle.mk_laws.proofs.PageSets.{with_header_on, with_used_on}
 use Rattle.mk_laws.proofs.LayoutReadings.{cellless_unused, claimed_used, free_unused, none_set, zero_where_none}

@@ -1,19 +1,16 @@
 -- How many pages are resident or in a plot, where few change.
-use Rattle.std.proofs.Common.{Bool, List, ap, arith, false, inl, inr, length, refl, sym, true, ℕ, ◌<◌, ◌∙◌, ◌≡◌, ◌≢◌}
-use Rattle.std.proofs.Common.{◌≤◌}
-use Rattle.std.specs.Prelude.{None, Option, Some}
-use Rattle.std.proofs.lemmas.Bool.{cases_eq, cases_lt, or_cases, true≢false, or_left, or_right}
-use Rattle.std.proofs.lemmas.List.{get_or-set_other, get_or-set_same, set_past}
-use Rattle.mk_laws.proofs.Vocabulary.{Block, Config, Free, Header, Later, LeafBlock, LeafRun, Object, Page, Placing}
-use Rattle.mk_laws.proofs.Vocabulary.{Run, World, free_page, header_of, is_resident_page, is_unmapped_header}
-use Rattle.mk_laws.proofs.Vocabulary.{resident_pages, use_under, uses_of_pages}
+use Rattle.mk_laws.proofs.Vocabulary.{Block, Bool, Config, Free, Header, Later, LeafBlock, LeafRun, List, NoPlot, None}
+use Rattle.mk_laws.proofs.Vocabulary.{Object, Option, Page, Placing, Plot, Run, Some, World, ap, arith, cases_eq}
+use Rattle.mk_laws.proofs.Vocabulary.{cases_lt, count_below, false, free_page, get_or-set_other, get_or-set_same}
+use Rattle.mk_laws.proofs.Vocabulary.{header_of, header_on, inl, inr, is_resident_page, is_unmapped_header, length}
+use Rattle.mk_laws.proofs.Vocabulary.{object_now, or_cases, or_left, or_right, plot_of, refl, resident_pages, set_past}
+use Rattle.mk_laws.proofs.Vocabulary.{shows_on, sym, true, true≢false, use_under, used_on, uses_of_pages, ℕ, ◌<◌, ◌∙◌}
+use Rattle.mk_laws.proofs.Vocabulary.{◌≡◌, ◌≢◌, ◌≤◌}
+use Rattle.mk_laws.proofs.Basics.{with_header_on, with_used_on}
 use Rattle.mk_geom.specs.PageWords.{use_of_page}
 use Rattle.mk_geom.specs.StorageWords.{page_in}
-use Rattle.mk_laws.specs.Room.{HasRoom, count_below, in_plot, is_taken_page}
-use Rattle.mk_laws.specs.LayoutScene.{NoPlot, Plot, header_on, shows_on, used_on}
-use Rattle.mk_laws.specs.Terrain.{object_now, plot_of}
+use Rattle.mk_laws.specs.Room.{HasRoom, in_plot, is_taken_page}
 use Rattle.mk_laws.proofs.Counts.{count_fewer, count_list}
-use Rattle.mk_laws.proofs.PageSets.{with_header_on, with_used_on}
 use Rattle.mk_books.proofs.PlaceLemmas.{count_by-map}
 
 abbrev pub RoomOn : Config → Object → List Page → Placing → Type 0

@@ -1,38 +1,28 @@
 -- No more pages are resident than may be, after each event.
-use Rattle.std.proofs.Common.{Bool, List, ap, arith, false, inl, inr, length, refl, subst, sym, true, ℕ, ◌+◌, ◌-◌, ◌<◌}
-use Rattle.std.proofs.Common.{◌∙◌, ◌≡◌}
-use Rattle.std.specs.Prelude.{None, Option, Some, if◌then◌else◌, nat_le, nat_lt, ◌==◌}
-use Rattle.std.proofs.lemmas.Bool.{and_from, cases_Bool, cases_eq, le-leb, lt-ltb, or_left, or_right}
-use Rattle.mk_laws.proofs.Vocabulary.{Chosen, Config, Granted, IsSized, Object, Page, Place, Placing, RunPages}
-use Rattle.mk_laws.proofs.Vocabulary.{Seat, Step, Unplaced, Used, World, chosen, flight_of, found, header_at}
-use Rattle.mk_laws.proofs.Vocabulary.{header_made, header_of, is_phase, is_resident_page, is_unmapped_header}
-use Rattle.mk_laws.proofs.Vocabulary.{marks_place, nothing_done, object_made, pages_made, place_now, resident_pages}
-use Rattle.mk_laws.proofs.Vocabulary.{seat_exists, taken, use_under, uses_of_pages}
+use Rattle.mk_laws.proofs.Vocabulary.{Among, AsChosen, AsUsed, Bool, ByFit, Chosen, Config, Granted, HeadStep}
+use Rattle.mk_laws.proofs.Vocabulary.{IsClaimedRun, IsNextHeader, IsPlaced, IsSized, ItCarves, ItEmpties, ItUnmaps}
+use Rattle.mk_laws.proofs.Vocabulary.{LayoutStands, List, NoPlot, None, Object, Option, Page, Place, Placing, Plotted}
+use Rattle.mk_laws.proofs.Vocabulary.{RunPages, RunStands, Seat, Some, Step, Unplaced, Used, World, and_from, ap, arith}
+use Rattle.mk_laws.proofs.Vocabulary.{cases_Bool, cases_eq, chosen, claims_of, claims_placed, count_below, false}
+use Rattle.mk_laws.proofs.Vocabulary.{flight_of, found, ground_of, has_place, head_step, header_at, header_made}
+use Rattle.mk_laws.proofs.Vocabulary.{header_of, if◌then◌else◌, inl, inr, is_phase, is_resident_page}
+use Rattle.mk_laws.proofs.Vocabulary.{is_unmapped_header, large_count, le-leb, length, lt-ltb, marks_is, marks_place}
+use Rattle.mk_laws.proofs.Vocabulary.{nat_le, nat_lt, nothing_done, object_made, object_now, or_left, or_right}
+use Rattle.mk_laws.proofs.Vocabulary.{pages_made, place_claim, place_now, placed_now, plot_of, refl, resident_pages}
+use Rattle.mk_laws.proofs.Vocabulary.{seat_exists, small_pages, subst, sym, taken, true, undecided_new}
+use Rattle.mk_laws.proofs.Vocabulary.{unmapped_is_unmapped, use_under, used_on, uses_of_pages, ℕ, ◌+◌, ◌-◌, ◌<◌, ◌==◌}
+use Rattle.mk_laws.proofs.Vocabulary.{◌∙◌, ◌≡◌}
+use Rattle.mk_laws.proofs.Basics.{Before, Laid, Meets, WorldBehind, first_header, holding_object, made_sized}
+use Rattle.mk_laws.proofs.Basics.{new_has_turn, no_run, own_claim, page_within, placed_claim, reg_leaves_ground}
+use Rattle.mk_laws.proofs.Basics.{tally_ground, with_header_on, with_used_on}
 use Rattle.mk_core.specs.declared.events.Step.TheVariants as step
-use Rattle.mk_core.proofs.ObjectHeaders.{unmapped_is_unmapped}
-use Rattle.mk_core.proofs.PageSteps.{HeadStep, ItCarves, ItEmpties, ItUnmaps, head_step}
-use Rattle.mk_core.proofs.PlacesNow.{AsChosen, AsUsed, ByFit, IsPlaced, placed_now, undecided_new}
-use Rattle.mk_core.proofs.ServingSteps.{IsNextHeader, marks_is}
-use Rattle.mk_core.proofs.Sizes.{large_count, small_pages}
-use Rattle.mk_laws.specs.Protocol.{has_place}
-use Rattle.mk_laws.proofs.Actors.{Meets}
-use Rattle.mk_laws.proofs.Ground.{tally_ground}
-use Rattle.mk_laws.proofs.OthersMoves.{WorldBehind}
-use Rattle.mk_laws.specs.Room.{HasRoom, count_below, in_plot}
-use Rattle.mk_laws.specs.LayoutScene.{Among, NoPlot, Plotted, used_on}
-use Rattle.mk_laws.specs.Ground.{ground_of}
-use Rattle.mk_laws.specs.Terrain.{IsClaimedRun, LayoutStands, RunStands, claims_of, claims_placed, object_now}
-use Rattle.mk_laws.specs.Terrain.{place_claim, plot_of}
-use Rattle.mk_laws.proofs.LayoutBefore.{Before, page_within, reg_leaves_ground}
+use Rattle.mk_laws.specs.Room.{HasRoom, in_plot}
 use Rattle.mk_laws.proofs.Behind.{object_kind}
 use Rattle.mk_laws.proofs.Counts.{count_range}
 use Rattle.mk_laws.proofs.Fits.{FitsOnFreePages, fits}
-use Rattle.mk_laws.proofs.LayoutHolders.{first_header, holding_object, made_sized, new_has_turn, no_run}
 use Rattle.mk_laws.proofs.LayoutPageKinds.{none_chosen}
-use Rattle.mk_laws.proofs.PageSets.{with_header_on, with_used_on}
 use Rattle.mk_laws.proofs.ResidentPages.{RoomOn, is_resident, resident_count, resident_gone, resident_other}
 use Rattle.mk_laws.proofs.ResidentPages.{resident_used, room_same, room_unplaced, unmapped_use}
-use Rattle.mk_laws.proofs.Serving.{Laid, own_claim, placed_claim}
 
 -- The place is chosen, where this many pages are free.
 chosen_room : (c : Config) (o : Object) (pages : List Page) (place : Place) → length pages ≡ c.pages
@@ -229,8 +219,7 @@ room_by_kind c w seat _ b h laid room = room
 
 no_plot : (o : Object) (placing : Placing) → has_place placing ≡ false → plot_of o placing ≡ NoPlot
 no_plot o (Chosen place) none = cc
-no_plot o (Used place) none = cc
-no_plot o _ none = refl
+no_plot o _ none = cc
 
 pub room_behind : (c : Config) (w : World) (seat : Seat) (x : Step) → Before c w → Meets c w.now seat x
     → LayoutStands c w

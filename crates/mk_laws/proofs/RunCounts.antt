@@ -1,10 +1,7 @@
 -- How many pages the run has that a header of an object heads.
-use Rattle.std.proofs.Common.{◌≡◌, ℕ, ◌≤◌, true, false, refl, sym, ◌∙◌, inl, inr, arith}
-use Rattle.std.specs.Prelude.{Option}
-use Rattle.std.proofs.lemmas.Bool.{cases_eq, true≢false}
-use Rattle.mk_laws.proofs.Vocabulary.{Header, Object, OfBlock, OfLater, OfLeafBlock, OfLeafRun, OfRun, ShowsPart}
-use Rattle.mk_laws.proofs.Vocabulary.{is_small_object, pages_made}
-use Rattle.mk_laws.specs.LayoutScene.{run_count}
+use Rattle.mk_laws.proofs.Vocabulary.{Header, Object, OfBlock, OfLater, OfLeafBlock, OfLeafRun, OfRun, Option}
+use Rattle.mk_laws.proofs.Vocabulary.{ShowsPart, arith, cases_eq, false, inl, inr, is_small_object, pages_made, refl}
+use Rattle.mk_laws.proofs.Vocabulary.{run_count, sym, true, true≢false, ℕ, ◌∙◌, ◌≡◌, ◌≤◌}
 
 -- the head of a large object's run has its pages,
 pub part_count : (o : Object) (x : Option Header) → ShowsPart o 0 x → is_small_object o ≡ false

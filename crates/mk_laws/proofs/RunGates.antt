@@ -1,24 +1,14 @@
 -- While a run isn't unmapped and wiped, the gates of all but the turn's holder are held: after one event.
-use Rattle.std.proofs.Common.{Bool, ap, false, inl, inr, refl, subst, sym, true, ℕ, ◌+◌, ◌<◌, ◌∙◌, ◌≡◌, ◌≢◌}
-use Rattle.std.specs.Prelude.{None, Option, Some, if◌then◌else◌, not, slice_index, ◌||◌, ◌==◌}
-use Rattle.std.proofs.lemmas.Bool.{cases_Bool, true≢false}
-use Rattle.mk_laws.proofs.Vocabulary.{Cell, Config, Header, LeafRun, Moment, Run, RunPages, Seat, Step, Words}
-use Rattle.mk_laws.proofs.Vocabulary.{World, caller_number, cell_freed, flight_of, header_in, heads_run}
-use Rattle.mk_laws.proofs.Vocabulary.{holder_number, is_run_cell, is_run_gone, nothing_done, or_else}
-use Rattle.mk_laws.proofs.Vocabulary.{others_are_held, reg_access, register_met, run_headed, run_of_cell, target}
-use Rattle.mk_laws.proofs.Vocabulary.{word_met}
+use Rattle.mk_laws.proofs.Vocabulary.{Bool, Cell, Config, Header, IsWordOfMapped, LayoutStands, Moment, None, Option}
+use Rattle.mk_laws.proofs.Vocabulary.{Run, RunPages, Seat, Some, Step, Words, World, ap, caller_number, cases_Bool}
+use Rattle.mk_laws.proofs.Vocabulary.{cell_freed, false, flight_of, freed_cell, header_in, heads_run, holder_number}
+use Rattle.mk_laws.proofs.Vocabulary.{if◌then◌else◌, inl, inr, is_heap_store, is_run_cell, is_run_gone, not}
+use Rattle.mk_laws.proofs.Vocabulary.{nothing_done, or_else, others_are_held, refl, reg_access, register_met}
+use Rattle.mk_laws.proofs.Vocabulary.{run_headed, run_of_cell, slice_index, subst, sym, target, true, true≢false}
+use Rattle.mk_laws.proofs.Vocabulary.{word_met, ℕ, ◌+◌, ◌<◌, ◌==◌, ◌||◌, ◌∙◌, ◌≡◌, ◌≢◌}
+use Rattle.mk_laws.proofs.Basics.{Behind, KnownWorld, Meets, free_has_turn, others_held, reg_keeps, tally_keeps}
+use Rattle.mk_laws.proofs.Basics.{turn_of, view_of}
 use Rattle.mk_core.specs.declared.events.Step.TheVariants as step
-use Rattle.mk_core.proofs.PlacesNow.{freed_cell}
-use Rattle.mk_laws.proofs.Actors.{Meets}
-use Rattle.mk_laws.proofs.Asked.{others_held}
-use Rattle.mk_laws.proofs.Orderly.{turn_of}
-use Rattle.mk_laws.proofs.SameWords.{Behind, reg_keeps, tally_keeps}
-use Rattle.mk_laws.proofs.Views.{view_of}
-use Rattle.mk_laws.specs.Terrain.{LayoutStands}
-use Rattle.mk_laws.proofs.LayoutHolders.{free_has_turn}
-use Rattle.mk_laws.proofs.KnownWorlds.{KnownWorld}
-use Rattle.mk_laws.specs.ZeroLaws.{is_heap_store}
-use Rattle.mk_laws.specs.Zeros.{IsWordOfMapped}
 use Rattle.mk_laws.specs.RunGates.{HoldsRunGates}
 use Rattle.mk_laws.proofs.RunWords.{gone_behind}
 use Rattle.mk_laws.proofs.SetGates.{OthersHeld, gates_stay, is_open}
@@ -33,25 +23,19 @@ moves_run _ = false
 freed_kind : (c : Config) (m : Moment) (seat : Seat) (x : Step) → moves_run x ≡ false
     → (Behind c m seat x).seats.holding.freed ≡ m.seats.holding.freed
 freed_kind c m seat (step.Take o) out = cc
-freed_kind c m seat step.Give out = cc
-freed_kind c m seat (step.Quar p n) out = cc
-freed_kind c m seat _ out = refl
+freed_kind c m seat _ out = cc
 
 turn_kind : (c : Config) (m : Moment) (seat : Seat) (x : Step) → moves_run x ≡ false
     → (Behind c m seat x).words.turn ≡ m.words.turn
-turn_kind c m seat (step.Take o) out = cc
-turn_kind c m seat step.Give out = cc
-turn_kind c m seat (step.Quar p n) out = cc
 turn_kind c m seat step.Reg out =
     (reg_keeps m.words (caller_number seat) (register_met (flight_of m seat) (flight_of m seat).stage)
     (reg_access (flight_of m seat) (flight_of m seat).stage)).turn
 turn_kind c m seat (step.Tally n v) out = (tally_keeps m.words n v).turn
-turn_kind c m seat _ out = refl
+turn_kind c m seat _ out = cc
 
 -- A cell that heads a run is a run's.
 heads : (x : Option Header) (p : ℕ) (r : RunPages) → run_headed x p ≡ Some r → heads_run x ≡ true
 heads (Some (Run count mapped)) p r is = refl
-heads (Some (LeafRun count)) p r is = refl
 heads _ p r is = cc
 
 some_run : (w : Words) (cell : Option Cell) (r : RunPages) → run_of_cell w cell ≡ Some r

@@ -1,34 +1,20 @@
 -- A run that is unmapped and wiped stays so, up to the `give` of its call.
-use Rattle.std.proofs.Common.{Bool, ap, arith, false, inl, inr, length, refl, subst, suc, sym, true, zero, ℕ, ◌*◌, ◌+◌}
-use Rattle.std.proofs.Common.{◌-◌, ◌/◌, ◌<◌, ◌∙◌, ◌≡◌, ◌≢◌}
-use Rattle.std.specs.Prelude.{List, Option, Some, slice_index, slice_set, ◌&&◌}
-use Rattle.std.proofs.lemmas.Bool.{and_parts, cases_eq, cases_lt, eq-eqb, eqb-true, true≢false}
-use Rattle.std.proofs.lemmas.List.{get_or-set_other, get_or-set_same, set_past}
-use Rattle.mk_laws.proofs.Vocabulary.{Config, Page, PlacedAllocation, RunPages, Seat, Step, Words, World, all_below}
-use Rattle.mk_laws.proofs.Vocabulary.{flight_of, free_page, head_page, header_at, header_of, is_run_gone}
-use Rattle.mk_laws.proofs.Vocabulary.{is_run_unmapped, is_unmapped_header, object_placed, pages_made, placed_at}
-use Rattle.mk_laws.proofs.Vocabulary.{stands, unmapped_header, used_at, word_met, words_are_zero}
+use Rattle.std.specs.Prelude.{List}
+use Rattle.mk_laws.proofs.Vocabulary.{Bool, Config, HeadStep, IsNextHeader, IsWordOfMapped, ItCarves, ItEmpties}
+use Rattle.mk_laws.proofs.Vocabulary.{ItUnmaps, LayoutStands, Option, Page, PlacedAllocation, RunPages, Seat, Some}
+use Rattle.mk_laws.proofs.Vocabulary.{Step, Words, World, all_below, all_below-at, all_below_more_is, all_below_zero_is}
+use Rattle.mk_laws.proofs.Vocabulary.{and_parts, ap, arith, cases_eq, cases_lt, eq-eqb, eqb-true, false, flight_of}
+use Rattle.mk_laws.proofs.Vocabulary.{free_page, get_or-set_other, get_or-set_same, ground_of, head_page, head_step}
+use Rattle.mk_laws.proofs.Vocabulary.{header_at, header_of, inl, inr, is_heap_store, is_run_gone, is_run_unmapped}
+use Rattle.mk_laws.proofs.Vocabulary.{is_unmapped_header, large_count, length, made_is_mapped, object_now}
+use Rattle.mk_laws.proofs.Vocabulary.{object_placed, pages_made, placed_at, placed_now, refl, set_past, slice_index}
+use Rattle.mk_laws.proofs.Vocabulary.{slice_set, stands, subst, suc, sym, true, true≢false, typed_size, undecided_new}
+use Rattle.mk_laws.proofs.Vocabulary.{unmapped_header, unmapped_is_unmapped, used_at, word_met, words_are_zero, zero, ℕ}
+use Rattle.mk_laws.proofs.Vocabulary.{◌&&◌, ◌*◌, ◌+◌, ◌-◌, ◌/◌, ◌<◌, ◌∙◌, ◌≡◌, ◌≢◌}
+use Rattle.mk_laws.proofs.Basics.{Behind, KnownWorld, Meets, Table, ends_on_pages, headers_kind, is_head, mapped_stays}
+use Rattle.mk_laws.proofs.Basics.{new_has_turn, no_run, own_claim, reg_table, tally_table}
 use Rattle.mk_core.specs.declared.events.Step.TheVariants as step
-use Rattle.mk_core.proofs.AllBelow.{all_below-at, all_below_more_is, all_below_zero_is}
-use Rattle.mk_core.proofs.ObjectHeaders.{made_is_mapped, unmapped_is_unmapped}
-use Rattle.mk_core.proofs.PageSteps.{HeadStep, ItCarves, ItEmpties, ItUnmaps, head_step}
-use Rattle.mk_core.proofs.PlacesNow.{placed_now, undecided_new}
-use Rattle.mk_core.proofs.ServingSteps.{IsNextHeader}
-use Rattle.mk_core.proofs.Sizes.{large_count}
-use Rattle.mk_core.proofs.StandingAllocations.{typed_size}
-use Rattle.mk_laws.proofs.Actors.{Meets}
-use Rattle.mk_laws.proofs.SameWords.{Behind}
-use Rattle.mk_laws.specs.Ground.{ground_of}
-use Rattle.mk_laws.specs.Terrain.{LayoutStands, object_now}
-use Rattle.mk_laws.proofs.LayoutHolders.{new_has_turn, no_run}
 use Rattle.mk_laws.proofs.LayoutReadings.{claimed_used}
-use Rattle.mk_laws.proofs.Serving.{own_claim}
-use Rattle.mk_laws.proofs.StandingClaims.{ends_on_pages}
-use Rattle.mk_laws.proofs.KnownWorlds.{KnownWorld}
-use Rattle.mk_laws.proofs.Changes.{Table, headers_kind, is_head, reg_table, tally_table}
-use Rattle.mk_laws.specs.ZeroLaws.{is_heap_store}
-use Rattle.mk_laws.specs.Zeros.{IsWordOfMapped}
-use Rattle.mk_laws.proofs.MappedWords.{mapped_stays}
 use Rattle.mk_laws.proofs.ForImages.{laid_out, run_of}
 
 all_below_from : (n : ℕ) (test : ℕ → Bool) → ((k : ℕ) → k < n → test k ≡ true) → all_below n test ≡ true

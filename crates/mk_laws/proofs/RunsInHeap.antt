@@ -1,20 +1,17 @@
 -- A mapped run that a header shows lies in the heap.
-use Rattle.std.proofs.Common.{◌≡◌, ◌≢◌, ℕ, zero, suc, ◌+◌, ◌-◌, ◌*◌, ◌<◌, ◌≤◌, Bool, true, false, List, refl, sym, ◌∙◌}
-use Rattle.std.proofs.Common.{subst, inl, inr, arith}
-use Rattle.std.specs.Prelude.{Option, Some, None, unwrap_or, nat_le, nat_lt, not, ◌==◌, ◌&&◌, if◌then◌else◌}
-use Rattle.std.specs.Prelude.{slice_index_or, slice_set}
-use Rattle.std.proofs.lemmas.Bool.{cases_eq, eqb-true, leb-true, and_parts}
-use Rattle.std.proofs.lemmas.List.{get_or-set_other}
-use Rattle.mk_laws.proofs.Vocabulary.{Config, Flight, Object, Page, Place, Run, RunPages, Words, World, all_below}
-use Rattle.mk_laws.proofs.Vocabulary.{block_header, carves, class_made, empties, free_page, header_at, header_made}
-use Rattle.mk_laws.proofs.Vocabulary.{header_of, is_marked_first, is_next_header, is_small_object, object_made}
-use Rattle.mk_laws.proofs.Vocabulary.{pages_made, place_now, run_header, run_pages_of, stands, unmapped_header}
-use Rattle.mk_laws.proofs.Vocabulary.{unmaps, used_at, word_of}
+use Rattle.std.specs.Prelude.{unwrap_or}
+use Rattle.mk_laws.proofs.Vocabulary.{Bool, Config, Flight, Ground, List, None, Object, Option, Page, Place, Run}
+use Rattle.mk_laws.proofs.Vocabulary.{RunPages, Some, Words, World, all_below, and_parts, arith, block_header, carves}
+use Rattle.mk_laws.proofs.Vocabulary.{cases_eq, class_made, empties, eqb-true, false, free_page, get_or-set_other}
+use Rattle.mk_laws.proofs.Vocabulary.{header_at, header_made, header_of, if◌then◌else◌, inl, inr, is_marked_first}
+use Rattle.mk_laws.proofs.Vocabulary.{is_next_header, is_small_object, leb-true, nat_le, nat_lt, not, object_made}
+use Rattle.mk_laws.proofs.Vocabulary.{pages_made, place_now, refl, run_header, run_pages_of, slice_index_or, slice_set}
+use Rattle.mk_laws.proofs.Vocabulary.{stands, suc, true, unmapped_header, unmaps, used_at, word_of, zero, ℕ, ◌&&◌, ◌*◌}
+use Rattle.mk_laws.proofs.Vocabulary.{◌+◌, ◌-◌, ◌<◌, ◌==◌, ◌∙◌, ◌≡◌, ◌≢◌, ◌≤◌}
 use Rattle.mk_geom.specs.Classes.{class_for}
 use Rattle.mk_geom.proofs.HeaderLemmas.{word_of-header_of}
 use Rattle.mk_geom.proofs.ClassTable.{class_for-some}
 use Rattle.mk_laws.proofs.HeaderSteps.{page_set, used_set}
-use Rattle.mk_laws.specs.Ground.{Ground}
 use Rattle.mk_laws.proofs.Ground.{GroundStep, Carves, Unmaps, Empties, TakesCell, GivesBack}
 use Rattle.mk_laws.proofs.NewPlace.{PlaceFits}
 

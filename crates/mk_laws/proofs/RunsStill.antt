@@ -1,28 +1,17 @@
 -- What others leave to the turn's holder of the heap's words: those that lie in no mapped allocation, and the run that
 -- it has unmapped and wiped.
-use Rattle.std.proofs.Common.{Bool, List, ap, false, inl, inr, refl, subst, sym, true, ℕ, ◌++◌, ◌∙◌, ◌∷◌, ◌≡◌, []}
-use Rattle.std.proofs.lemmas.Bool.{cases_Bool}
-use Rattle.std.specs.Prelude.{None, Option, Some, slice_index}
-use Rattle.std.proofs.lemmas.List.{get_or-set_other}
-use Rattle.mk_laws.proofs.Vocabulary.{AreOfOthers, Config, Event, Holding, Holds, IsHistory, PlacedAllocation}
-use Rattle.mk_laws.proofs.Vocabulary.{RunPages, Seat, Steady, Step, World, flight_of, is_one_of, is_run_gone, left}
-use Rattle.mk_laws.proofs.Vocabulary.{word_met}
+use Rattle.mk_laws.proofs.Vocabulary.{AreOfOthers, Bool, Config, Event, Holding, Holds, IsHistory, IsWordOfMapped}
+use Rattle.mk_laws.proofs.Vocabulary.{LayoutStands, List, None, Option, RunPages, Seat, Some, Steady, Step, World, []}
+use Rattle.mk_laws.proofs.Vocabulary.{ap, cases_Bool, false, flight_of, get_or-set_other, inl, inr, is_heap_store}
+use Rattle.mk_laws.proofs.Vocabulary.{is_one_of, is_run_gone, left, refl, slice_index, true, word_met, ℕ, ◌++◌, ◌∙◌}
+use Rattle.mk_laws.proofs.Vocabulary.{◌∷◌, ◌≡◌}
+use Rattle.mk_laws.proofs.Basics.{HoldsTurn, KnownWorld, Meets, Table, WorldBehind, actor_of, along_others, is_holders}
+use Rattle.mk_laws.proofs.Basics.{reg_table, same_holder, tally_table, view_of}
 use Rattle.mk_core.specs.declared.events.Step.TheVariants as step
-use Rattle.mk_laws.proofs.Actors.{Meets, is_holders}
 use Rattle.mk_laws.proofs.ProtocolFrames.{left_after, other_seat}
 use Rattle.mk_laws.proofs.Known.{holds_turn}
-use Rattle.mk_laws.proofs.Orderly.{same_holder}
-use Rattle.mk_laws.proofs.OrderlyLists.{actor_of}
-use Rattle.mk_laws.proofs.OthersMoves.{WorldBehind}
-use Rattle.mk_laws.proofs.Views.{HoldsTurn, view_of}
-use Rattle.mk_laws.proofs.Changes.{Table, reg_table, tally_table}
-use Rattle.mk_laws.proofs.KnownWorlds.{KnownWorld}
-use Rattle.mk_laws.specs.Terrain.{LayoutStands}
-use Rattle.mk_laws.specs.ZeroLaws.{is_heap_store}
-use Rattle.mk_laws.specs.Zeros.{IsWordOfMapped}
 use Rattle.mk_laws.proofs.InvariantJoined.{told_to_zeros}
 use Rattle.mk_laws.proofs.RunWords.{gone_behind}
-use Rattle.mk_laws.proofs.Grown.{along_others}
 use Rattle.mk_laws.proofs.FramesHolders.{acts_as_holder}
 use Rattle.mk_laws.proofs.LastEvents.{comes_last, stands}
 
@@ -47,8 +36,7 @@ heap_after c w seat step.Write no_wipe stored n none =
     get_or-set_other w.now.words.heap _ n _ 0 (λ e. none (rw e (stored refl)))
 heap_after c w seat step.Cas no_wipe stored n none =
     get_or-set_other w.now.words.heap _ n _ 0 (λ e. none (rw e (stored refl)))
-heap_after c w seat (step.Wipe i) no_wipe stored n none = cc
-heap_after c w seat _ no_wipe stored n none = refl
+heap_after c w seat _ no_wipe stored n none = cc
 
 gone_after : (c : Config) (w : World) (seat : Seat) (x : Step) (freed : Option RunPages) → KnownWorld c w
     → LayoutStands c w → w.now.seats.holding.freed ≡ freed

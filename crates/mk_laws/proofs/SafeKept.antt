@@ -1,23 +1,19 @@
 -- There is a safe set after each move, and the two lists of allocations still go together.
-use Rattle.std.proofs.Common.{◌≡◌, ◌≢◌, ℕ, zero, suc, ◌+◌, ◌*◌, ◌<◌, Bool, true, false, List, [], ◌∷◌, ◌++◌, length}
-use Rattle.std.proofs.Common.{map, get_or, refl, sym, ap, subst, ◌∙◌, inl, inr, arith, length-set, length-append}
-use Rattle.std.specs.Prelude.{slice_index_or, slice_set, ◌||◌, ◌==◌}
-use Rattle.std.proofs.lemmas.Bool.{cases_eq, eq-eqb, or_cases, eqb-true, or_left, or_right}
-use Rattle.std.proofs.lemmas.List.{get_or-set_same, get_or-set_other}
-use Rattle.mk_laws.proofs.Vocabulary.{Kind, NeverAllocation, NeverState, Null, Num, Number, PlacedAllocation, Ptr}
-use Rattle.mk_laws.proofs.Vocabulary.{To, Value, allocation_at, is_unmapped, kinds_of, no_allocation, placed_at}
-use Rattle.mk_laws.proofs.Vocabulary.{with_freed, with_global, with_new, with_register, with_word, word_at}
-use Rattle.mk_laws.proofs.Vocabulary.{words_of}
+use Rattle.std.proofs.Common.{length-append}
+use Rattle.mk_laws.proofs.Vocabulary.{Bool, ImageScene, IsSafe, IsSafeSet, Kind, List, NeverAllocation, NeverState}
+use Rattle.mk_laws.proofs.Vocabulary.{Null, Number, PlacedAllocation, Ptr, To, Value, [], allocation_at, ap, arith}
+use Rattle.mk_laws.proofs.Vocabulary.{cases_eq, eq-eqb, eqb-true, get_or, get_or-set_other, get_or-set_same, inl, inr}
+use Rattle.mk_laws.proofs.Vocabulary.{kinds_of, length, length-set, map, no_allocation, or_cases, or_left, or_right}
+use Rattle.mk_laws.proofs.Vocabulary.{placed_at, refl, set_by, slice_index_or, slice_set, subst, suc, sym, true}
+use Rattle.mk_laws.proofs.Vocabulary.{with_freed, with_global, with_new, with_register, with_word, words_of, zero, ℕ}
+use Rattle.mk_laws.proofs.Vocabulary.{◌*◌, ◌++◌, ◌+◌, ◌<◌, ◌==◌, ◌||◌, ◌∙◌, ◌∷◌, ◌≡◌, ◌≢◌}
+use Rattle.mk_laws.proofs.Basics.{Frees, Grants, Move, Releases, Renews, Writes}
 use Rattle.mk_never.specs.Types.{zero_of}
-use Rattle.mk_never.proofs.Edits.{set_by}
-use Rattle.mk_laws.specs.Images.{ImageScene, AreTwins}
-use Rattle.mk_laws.specs.SafeSets.{IsSafe, IsSafeSet, HasSafeSet}
-use Rattle.mk_laws.proofs.ImagesMoves.{SamePlaces, Move, Rests, Flies, Owes, Pays, Stores, Shares, Writes, Wipes}
-use Rattle.mk_laws.proofs.ImagesMoves.{Grants}
-use Rattle.mk_laws.proofs.ImagesMoves.{Frees, Renews, Releases}
+use Rattle.mk_laws.specs.Images.{AreTwins}
+use Rattle.mk_laws.specs.SafeSets.{HasSafeSet}
+use Rattle.mk_laws.proofs.ImagesMoves.{SamePlaces, Owes, Stores, Shares}
 use Rattle.mk_laws.proofs.ImagesKept.{freed_words, freed_was, written_alike, old_never, new_never, old_placed}
-use Rattle.mk_laws.proofs.ImagesKept.{new_placed}
-use Rattle.mk_laws.proofs.ImagesKept.{new_words, fresh_one}
+use Rattle.mk_laws.proofs.ImagesKept.{new_placed, new_words, fresh_one}
 
 wider : (safe : ℕ → Bool) (m : ℕ) (v : Value) → IsSafe safe v → IsSafe (λ a. safe a || (a == m)) v
 wider safe m (Ptr a t o) h = or_left (safe a) (a == m) h

@@ -1,7 +1,6 @@
 -- The moment after an event, and steps that leave the words of the protocol as they are.
-use Rattle.std.proofs.Common.{◌≡◌, ℕ, List, refl, sym, subst}
-use Rattle.mk_laws.proofs.Vocabulary.{Access, Config, Flight, Holding, Load, MarkerState, Moment, Named, Seat, Step}
-use Rattle.mk_laws.proofs.Vocabulary.{Store, Tally, Words, accessed, found, tally_word}
+use Rattle.mk_laws.proofs.Vocabulary.{Access, Config, Flight, Holding, List, Load, MarkerState, Moment, Named, Seat}
+use Rattle.mk_laws.proofs.Vocabulary.{Step, Store, Tally, Words, accessed, found, refl, tally_word, ℕ, ◌≡◌}
 use Rattle.mk_core.specs.declared.events.Tally.TheVariants as tally
 use Rattle.mk_core.specs.declared.events.Word.TheVariants as word
 use Rattle.mk_core.specs.Effects.{moment_behind}

@@ -1,37 +1,24 @@
 -- What the images tell the other groups.
-use Rattle.std.proofs.Common.{◌≡◌, ◌≢◌, ◌⊎◌, ℕ, ◌+◌, ◌-◌, ◌*◌, ◌/◌, true, false, refl, sym, ap, subst, ◌∙◌, inl, inr}
-use Rattle.std.proofs.Common.{arith}
-use Rattle.std.specs.Prelude.{◌&&◌, not, Option, Some}
-use Rattle.std.proofs.lemmas.Bool.{cases_eq, ltb-true, false≢true}
-use Rattle.mk_laws.proofs.Vocabulary.{AreAdmitted, Caller, Cell, Config, Flight, Host, IsAdmitted, IsNumber}
-use Rattle.mk_laws.proofs.Vocabulary.{IsPointer, IsSound, Kind, Marker, MeetsAll, NeverState, Null, Num, Op, Ptr}
-use Rattle.mk_laws.proofs.Vocabulary.{RunPages, Seat, Stage, Step, Value, World, asked, bases_of, call_decided}
-use Rattle.mk_laws.proofs.Vocabulary.{cell_of_allocation, flight_of, i_of, image_of, is_marked, is_none_or}
-use Rattle.mk_laws.proofs.Vocabulary.{is_undecided_free, object_placed, p_of, phase_of, placed_at, pointed_cell}
-use Rattle.mk_laws.proofs.Vocabulary.{register_at, target, word_met}
+use Rattle.mk_laws.proofs.Vocabulary.{AreAdmitted, Caller, CarriesOwn, Cell, Config, ImagePremises, ImagesSay}
+use Rattle.mk_laws.proofs.Vocabulary.{IsAdmitted, IsNumber, IsPointer, IsSafe, IsSound, Kind, MeetsAll, Mirrors}
+use Rattle.mk_laws.proofs.Vocabulary.{NeverState, Null, Num, Op, Option, ProbedOwn, Ptr, RunPages, Seat, Some, Stage}
+use Rattle.mk_laws.proofs.Vocabulary.{Step, Value, World, ap, arith, asked, bases_of, call_decided, cases_eq}
+use Rattle.mk_laws.proofs.Vocabulary.{cell_of_allocation, enabled_meets, false, false≢true, flight_of, i_of, image_of}
+use Rattle.mk_laws.proofs.Vocabulary.{image_scene_of, inl, inr, is_marked, is_none_or, is_put, is_undecided_free}
+use Rattle.mk_laws.proofs.Vocabulary.{ltb-true, not, object_placed, p_of, phase_of, placed_at, pointed_cell, refl}
+use Rattle.mk_laws.proofs.Vocabulary.{register_at, run_begins, subst, sym, target, true, typed_size, word_met, ℕ, ◌*◌}
+use Rattle.mk_laws.proofs.Vocabulary.{◌+◌, ◌-◌, ◌/◌, ◌∙◌, ◌≡◌, ◌≢◌, ◌⊎◌}
+use Rattle.mk_laws.proofs.Basics.{KnownWorld, Ready, Stands, at_its_stage, exists_placed, flight, is_astray}
+use Rattle.mk_laws.proofs.Basics.{is_call_stage, not_astray, ready_of, standing_at, stands_of, unmapped_is, words_fit}
 use Rattle.mk_never.specs.declared.operations.Op.TheVariants as op
 use Rattle.mk_core.specs.declared.events.Step.TheVariants as step
 use Rattle.mk_core.specs.declared.seats.Stage.TheVariants as stage
-use Rattle.mk_core.proofs.Conditions.{enabled_meets}
 use Rattle.mk_core.proofs.PlacesNow.{target_is}
-use Rattle.mk_core.proofs.StandingAllocations.{typed_size, run_begins, run_cell}
-use Rattle.mk_laws.proofs.Standings.{standing_at, is_astray}
-use Rattle.mk_laws.proofs.Stages.{is_call_stage}
-use Rattle.mk_laws.proofs.NextSteps.{at_its_stage}
-use Rattle.mk_laws.proofs.OrderlyLists.{not_astray}
+use Rattle.mk_core.proofs.StandingAllocations.{run_cell}
 use Rattle.mk_laws.proofs.Protocols.{protocol_of}
-use Rattle.mk_laws.specs.Images.{image_scene_of, is_put, CarriesOwn, ProbedOwn}
-use Rattle.mk_laws.specs.SafeSets.{IsSafe}
-use Rattle.mk_laws.specs.ImagePremises.{ImagePremises}
-use Rattle.mk_laws.specs.Mirrors.{Mirrors}
-use Rattle.mk_laws.specs.ImagesSay.{IsCellOfUnreleased, IsMappedWord, ImagesSay}
-use Rattle.mk_laws.proofs.KnownWorlds.{KnownWorld}
-use Rattle.mk_laws.proofs.ImagesKept.{own_plain, exists_placed}
-use Rattle.mk_laws.proofs.ImagesStands.{Stands, stands_of, is_gone}
-use Rattle.mk_laws.proofs.Ready.{Ready}
+use Rattle.mk_laws.specs.ImagesSay.{IsCellOfUnreleased, IsMappedWord}
+use Rattle.mk_laws.proofs.ImagesKept.{own_plain}
 use Rattle.mk_laws.proofs.Reached.{Reaches, reaches}
-use Rattle.mk_laws.proofs.ImagesBefore.{words_fit, unmapped_is, ready_of}
-use Rattle.mk_laws.proofs.RegMoves.{flight}
 use Rattle.mk_laws.proofs.ImagesFreeing.{decided_free_gives}
 use Rattle.mk_laws.proofs.FreeMoves.{pointer_cell}
 use Rattle.mk_laws.proofs.CallSorts.{call_outside, admitted_call, literal}
@@ -142,7 +129,6 @@ module _ (c : Config) (w : World) (n : NeverState) (known : KnownWorld c w) (oth
       reached_word k i q _ IsPointer
       (reaches c.globals mirrors.safe.0 (image_scene_of w) n ready (register_at n k q') q i IsPointer (car.q refl)
       (car.some_q refl) (own_sound k q') (own_safe k q') (pro refl) ad.access)
-  write_word k (op.New d ty full) q p r l a car pro ad = cc
   write_word k _ q p r l a car pro ad = cc
 
   cas_word : (k : ℕ) (o : Op) (q p r l : ℕ) → is_astray (standing_at stage.Cas o) ≡ false
@@ -153,7 +139,6 @@ module _ (c : Config) (w : World) (n : NeverState) (known : KnownWorld c w) (oth
       reached_word k i q _ IsPointer
       (reaches c.globals mirrors.safe.0 (image_scene_of w) n ready (register_at n k q') q i IsPointer (car.q refl)
       (car.some_q refl) (own_sound k q') (own_safe k q') (pro refl) ad.access)
-  cas_word k (op.New d ty full) q p r l a car pro ad = cc
   cas_word k _ q p r l a car pro ad = cc
 
   stored_word : (k : ℕ) (x : Step) → (x ≡ step.Write) ⊎ (x ≡ step.Cas)

@@ -1,27 +1,14 @@
 -- A scanned word that isn't 0 is one of the unreleased allocation of the cell.
-use Rattle.std.proofs.Common.{Bool, ap, arith, false, inl, inr, refl, subst, sym, true, ℕ, ◌*◌, ◌+◌, ◌-◌, ◌/◌, ◌<◌, ◌≤◌}
-use Rattle.std.proofs.Common.{◌∙◌, ◌≡◌, ◌≢◌}
-use Rattle.std.specs.Prelude.{None, Option, Some, if◌then◌else◌}
-use Rattle.std.proofs.lemmas.Option.{none-some}
-use Rattle.std.proofs.lemmas.Bool.{cases_eq, cases_lt}
-use Rattle.std.proofs.lemmas.Nat.{mul-le}
-use Rattle.mk_never.specs.NeverHeap.{NeverState}
-use Rattle.mk_geom.specs.Addresses.{address_of, cell_at, head_page_under, is_heap_address, page_at_address}
-use Rattle.mk_geom.specs.StorageWords.{IsWordOf}
-use Rattle.mk_geom.specs.declared.addresses.Cell.{Cell}
-use Rattle.mk_geom.specs.declared.headers.Header.{Header}
-use Rattle.mk_geom.specs.declared.headers.Header.TheVariants.{Block, Free, Later, LeafBlock, LeafRun, Run}
-use Rattle.mk_geom.proofs.ClassTable.{cell_ends}
-use Rattle.mk_core.specs.Allocations.{PlacedAllocation, cell_of_allocation, placed_at, storage_of, storage_words}
-use Rattle.mk_core.specs.Cells.{cells_under, head_page, header_in, heads_run, pointed_cell, words_under}
-use Rattle.mk_core.specs.History.{World}
-use Rattle.mk_core.specs.Words.{header_at}
-use Rattle.mk_core.specs.declared.config.Config.{Config}
-use Rattle.mk_core.proofs.PointedAllocations.{word_points}
+use Rattle.mk_laws.proofs.Vocabulary.{Block, Cell, Config, Free, Header, IsWordOf, Later, LeafBlock, LeafRun}
+use Rattle.mk_laws.proofs.Vocabulary.{NeverState, None, Option, PlacedAllocation, Run, Some, World, address_of, ap}
+use Rattle.mk_laws.proofs.Vocabulary.{arith, cases_eq, cases_lt, cell_at, cell_ends, cell_of_allocation, cells_begin}
+use Rattle.mk_laws.proofs.Vocabulary.{cells_under, false, head_page, head_page_under, header_at, header_in, heads_run}
+use Rattle.mk_laws.proofs.Vocabulary.{inl, inr, mul-le, page_at_address, placed_at, pointed_cell, refl, run_count}
+use Rattle.mk_laws.proofs.Vocabulary.{storage_of, storage_words, sym, true, word_points, words_under, ℕ, ◌*◌, ◌+◌, ◌-◌}
+use Rattle.mk_laws.proofs.Vocabulary.{◌/◌, ◌<◌, ◌∙◌, ◌≡◌, ◌≢◌, ◌≤◌}
 use Rattle.mk_core.proofs.PointedPages.{pointed_head}
-use Rattle.mk_core.proofs.StandingAllocations.{cells_begin}
-use Rattle.mk_laws.specs.LayoutScene.{run_count}
 use Rattle.mk_laws.proofs.Worlds.{Told, headers, stands}
+use Rattle.mk_laws.proofs.Headers.{free_shows}
 
 -- A number lies in one of the pieces of a length.
 one_piece : (size k j y : ℕ) → k * size ≤ y → y < k * size + size → j * size ≤ y → y < j * size + size → k ≡ j
@@ -40,26 +27,23 @@ one_piece size k j y from to from2 to2 = elim (cases_lt k j) [
 
 -- A page that has a header and a word of a cell names the cell's page.
 scanned_head : (c : Config) (w : World) (n : NeverState) (p k x : ℕ) → Told c w n
-    → k < cells_under (header_in w.now.words p)
-    → 64 * p + k * words_under (header_in w.now.words p) ≤ x
+    → k < cells_under (header_in w.now.words p) → 64 * p + k * words_under (header_in w.now.words p) ≤ x
     → x < 64 * p + k * words_under (header_in w.now.words p) + words_under (header_in w.now.words p)
     → header_at w.now.words (x / 64) ≢ 0 → head_page w.now.words (x / 64) ≡ p
 scanned_head c w n p k x t known from to some = by (header_in w.now.words p) refl known from to
   where
     here : (o : Option Header) → header_in w.now.words p ≡ o → head_page_under o p ≡ p → x / 64 ≡ p
         → head_page w.now.words (x / 64) ≡ p
-    here o is own at = ap (λ q. head_page w.now.words q) at ∙ ap (λ (y : Option Header). head_page_under y p) is ∙ own
+    here o is own at = ap (λ q. head_page w.now.words q) at ∙ rw is own
 
     later : (o : Option Header) (d : ℕ) → header_in w.now.words p ≡ o → heads_run o ≡ true → 1 ≤ d → d < run_count o
-        → x / 64 ≡ p + d
-        → head_page w.now.words (x / 64) ≡ p
+        → x / 64 ≡ p + d → head_page w.now.words (x / 64) ≡ p
     later o d is heads one lt at =
         let whole = t.all.order.runs p (ap heads_run is ∙ heads) in
-        elim (whole.later d one (subst (λ (y : Option Header). d < run_count y) (sym is) lt)) [
+        elim (whole.later d one (rw is lt)) [
           | inl shows ↦
               let back : head_page_under (Some (Later d shows.0)) (p + d) ≡ p = omega arith in
-              ap (λ q. head_page w.now.words q) at ∙ ap (λ (y : Option Header). head_page_under y (p + d)) shows.1
-              ∙ back
+              ap (λ q. head_page w.now.words q) at ∙ rw shows.1 back
           | inr free ↦ absurd (some (ap (λ q. header_at w.now.words q) at ∙ free.0))
         ]
 
@@ -69,7 +53,7 @@ scanned_head c w n p k x t known from to some = by (header_in w.now.words p) ref
         → head_page w.now.words (x / 64) ≡ p
     on_run o count is own heads pages lt lo hi =
         let zero : k ≡ 0 = omega arith in
-        let none : k * (64 * count) ≡ 0 = ap (λ j. j * (64 * count)) zero ∙ omega arith in
+        let none : k * (64 * count) ≡ 0 = rw zero (omega arith) in
         let low : 64 * p ≤ x = omega arith in
         let high : x < 64 * p + 64 * count = omega arith in
         elim (cases_eq (x / 64) p) [
@@ -78,8 +62,7 @@ scanned_head c w n p k x t known from to some = by (header_in w.now.words p) ref
         ]
 
     by : (o : Option Header) → header_in w.now.words p ≡ o → k < cells_under o → 64 * p + k * words_under o ≤ x
-        → x < 64 * p + k * words_under o + words_under o
-        → head_page w.now.words (x / 64) ≡ p
+        → x < 64 * p + k * words_under o + words_under o → head_page w.now.words (x / 64) ≡ p
     by None is lt lo hi = absurd (omega arith)
     by (Some Free) is lt lo hi = absurd (omega arith)
     by (Some (Later distance mapped)) is lt lo hi = absurd (omega arith)
@@ -87,17 +70,10 @@ scanned_head c w n p k x t known from to some = by (header_in w.now.words p) ref
         let ends = cell_ends k _ lt in here (Some (Block class)) is refl (omega arith)
     by (Some (LeafBlock class)) is lt lo hi =
         let ends = cell_ends k _ lt in here (Some (LeafBlock class)) is refl (omega arith)
-    by (Some (Run count mapped)) is lt lo hi = on_run (Some (Run count mapped)) count is refl refl refl lt lo hi
-    by (Some (LeafRun count)) is lt lo hi = on_run (Some (LeafRun count)) count is refl refl refl lt lo hi
+    by (Some (Run count mapped)) is lt lo hi = on_run _ count is refl refl refl lt lo hi
+    by (Some (LeafRun count)) is lt lo hi = on_run _ count is refl refl refl lt lo hi
 
 -- What points somewhere is on a page with a header.
-free_shows : (pages v : ℕ) (y : Cell) → cell_at pages 0 v ≡ Some y → ⊥
-free_shows pages v y is = by (is_heap_address pages v) is
-  where
-    by : (b : Bool) → (if b then None else None) ≡ Some y → ⊥
-    by true is = none-some _ is
-    by false is = none-some _ is
-
 pointed_some : (c : Config) (w : World) (v : ℕ) (y : Cell) → pointed_cell c.pages w.now.words.pages v ≡ Some y
     → header_at w.now.words (page_at_address v) ≢ 0
 unfolding pointed_cell
@@ -105,8 +81,7 @@ pointed_some c w v y is z = free_shows c.pages v y (ap (λ h. cell_at c.pages h 
 
 -- The allocation that has a word of the cell is the cell's.
 pub scanned_cell : (c : Config) (w : World) (n : NeverState) (p k x a : ℕ) → Told c w n
-    → k < cells_under (header_in w.now.words p)
-    → 64 * p + k * words_under (header_in w.now.words p) ≤ x
+    → k < cells_under (header_in w.now.words p) → 64 * p + k * words_under (header_in w.now.words p) ≤ x
     → x < 64 * p + k * words_under (header_in w.now.words p) + words_under (header_in w.now.words p)
     → (placed_at w.allocations a).released ≡ false → IsWordOf (storage_of c (placed_at w.allocations a)) x
     → cell_of_allocation c (placed_at w.allocations a) ≡ record { page = p; index = k }

@@ -1,17 +1,14 @@
 -- What a marker's own step makes of its scan, its hand and the header that it has seen, in the words as they are.
-use Rattle.std.proofs.Common.{◌≡◌, ◌≢◌, ◌⊎◌, ℕ, ◌+◌, ◌*◌, ◌<◌, ◌≤◌, Bool, true, false, refl, sym, ◌∙◌, ap, subst, inl}
-use Rattle.std.proofs.Common.{inr, arith}
-use Rattle.std.specs.Prelude.{Option, Some, None, slice_index, nat_lt, ◌==◌, not, if◌then◌else◌}
-use Rattle.std.proofs.lemmas.Option.{none-some, same_Some}
-use Rattle.std.proofs.lemmas.Bool.{cases_eq, cases_lt, true≢false, eqb-true, and_parts, ltb-true, lt-ltb}
-use Rattle.mk_laws.proofs.Vocabulary.{Cell, Config, IsGuarded, Moment, Presence, Scan, SeenHeader, Words, cell_at}
-use Rattle.mk_laws.proofs.Vocabulary.{cell_seen, cells_under, has_bit, has_next_word, has_no_pointers}
-use Rattle.mk_laws.proofs.Vocabulary.{has_seen_cell, header_at, header_in, header_of, is_heap_address, is_marked}
-use Rattle.mk_laws.proofs.Vocabulary.{is_scanned, page_at_address, scan_begun, scan_claimed, scan_onward}
-use Rattle.mk_laws.proofs.Vocabulary.{words_under}
-use Rattle.mk_core.specs.declared.seats.Marker.{Marker}
+use Rattle.mk_laws.proofs.Vocabulary.{Bool, Cell, Config, HeaderGoesOn, IsGuarded, MarkerStands, MarkerState as Marker}
+use Rattle.mk_laws.proofs.Vocabulary.{Moment, None, Option, Presence, Scan, ScanStands, SeenHeader, Some, Words}
+use Rattle.mk_laws.proofs.Vocabulary.{and_parts, ap, arith, cases_eq, cases_lt, cell_at, cell_seen, cells_under}
+use Rattle.mk_laws.proofs.Vocabulary.{eqb-true, false, has_bit, has_next_word, has_no_pointers, has_seen_cell}
+use Rattle.mk_laws.proofs.Vocabulary.{header_at, header_in, header_of, if◌then◌else◌, inl, inr, is_heap_address}
+use Rattle.mk_laws.proofs.Vocabulary.{is_marked, is_scanned, lt-ltb, ltb-true, nat_lt, none-some, not, page_at_address}
+use Rattle.mk_laws.proofs.Vocabulary.{refl, same_Some, scan_begun, scan_claimed, scan_onward, slice_index, subst, sym}
+use Rattle.mk_laws.proofs.Vocabulary.{true, true≢false, words_under, ℕ, ◌*◌, ◌+◌, ◌<◌, ◌==◌, ◌∙◌, ◌≡◌, ◌≢◌, ◌≤◌, ◌⊎◌}
 use Rattle.mk_core.specs.Effects.{open_hand, hand_behind_look}
-use Rattle.mk_laws.specs.Guard.{HeaderGoesOn, EndsItsCell, ScanStands, MarkerStands}
+use Rattle.mk_laws.specs.Guard.{EndsItsCell}
 use Rattle.mk_laws.proofs.Wells.{IsWell, well_guarded}
 use Rattle.mk_laws.proofs.KeptGuard.{goes_same}
 

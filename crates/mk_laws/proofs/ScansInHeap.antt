@@ -1,17 +1,14 @@
 -- What a marker scans lies in the heap.
-use Rattle.std.proofs.Common.{◌≡◌, ℕ, ◌+◌, ◌*◌, ◌<◌, ◌≤◌, Bool, true, false, refl, sym, ◌∙◌, ap, subst, arith}
-use Rattle.std.specs.Prelude.{Option, Some, None, is_some, is_none, nat_lt, ◌==◌, ◌&&◌, if◌then◌else◌}
-use Rattle.std.proofs.lemmas.Bool.{eqb-true, ltb-true, and_parts}
-use Rattle.mk_laws.proofs.Vocabulary.{Block, Cell, Config, Free, Header, Later, LeafBlock, LeafRun, Run, Scan}
-use Rattle.mk_laws.proofs.Vocabulary.{SeenHeader, Step, Word, behind_mlook, cell_at, cell_seen, cells_under}
-use Rattle.mk_laws.proofs.Vocabulary.{class_words_of, has_bit, has_next_word, has_no_pointers, has_seen_cell}
-use Rattle.mk_laws.proofs.Vocabulary.{header_of, is_attending, is_scanned, marker_behind, marker_may, next_word}
-use Rattle.mk_laws.proofs.Vocabulary.{page_at_address, scan_begun, scan_claimed, scan_onward, scan_page, seen_page}
-use Rattle.mk_laws.proofs.Vocabulary.{words_under}
-use Rattle.mk_geom.proofs.ClassTable.{cell_ends}
+use Rattle.mk_laws.proofs.Vocabulary.{Block, Bool, Cell, Config, Header, LeafBlock, LeafRun, MarkerState as Marker}
+use Rattle.mk_laws.proofs.Vocabulary.{None, Option, Run, Scan, SeenHeader, Some, Step, Word, and_parts, arith}
+use Rattle.mk_laws.proofs.Vocabulary.{behind_mlook, cell_at, cell_ends, cell_seen, cells_under, class_words_of}
+use Rattle.mk_laws.proofs.Vocabulary.{eqb-true, false, has_bit, has_next_word, has_no_pointers, has_seen_cell}
+use Rattle.mk_laws.proofs.Vocabulary.{header_of, if◌then◌else◌, is_attending, is_none, is_scanned, is_some, ltb-true}
+use Rattle.mk_laws.proofs.Vocabulary.{marker_behind, marker_may, nat_lt, next_word, page_at_address, refl, scan_begun}
+use Rattle.mk_laws.proofs.Vocabulary.{scan_claimed, scan_onward, scan_page, seen_page, subst, sym, true, words_under, ℕ}
+use Rattle.mk_laws.proofs.Vocabulary.{◌&&◌, ◌*◌, ◌+◌, ◌<◌, ◌==◌, ◌∙◌, ◌≡◌, ◌≤◌}
 use Rattle.mk_core.specs.declared.events.Step.TheVariants as step
 use Rattle.mk_core.specs.declared.events.Word.TheVariants as word
-use Rattle.mk_core.specs.declared.seats.Marker.{Marker}
 use Rattle.mk_laws.proofs.RunsInHeap.{RunFits}
 use Rattle.mk_core.proofs.PointedPages.{cell_within}
 
@@ -159,5 +156,4 @@ seen_page_in_heap c (Some s) (Some value) h =
     by true (Some cell) e h = (cell_within c.pages s.header value cell e).0
     by true None e h = cc
     by false cell e h = cc
-seen_page_in_heap c (Some s) None h = cc
-seen_page_in_heap c None hand h = cc
+seen_page_in_heap c _ _ h = cc

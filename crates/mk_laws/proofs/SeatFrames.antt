@@ -1,10 +1,7 @@
 -- The frame law of histories: what the events of others leave where all calls are admitted.
-use Rattle.std.proofs.Common.{List, append_assoc, subst, sym, ◌++◌, ◌∷◌, ◌≡◌, []}
-use Rattle.mk_laws.proofs.Vocabulary.{AreOfOthers, Config, Event, Holds, IsHistory, IsInCall, Seat, World, left}
-use Rattle.mk_laws.proofs.Vocabulary.{never_behind}
+use Rattle.mk_laws.proofs.Vocabulary.{AreOfOthers, Config, Event, GuardPremisesFrom, Holds, IsHistory, List, Seat, []}
+use Rattle.mk_laws.proofs.Vocabulary.{append_assoc, earlier_part_is_history, left, never_behind, sym, ◌++◌, ◌∷◌, ◌≡◌}
 use Rattle.mk_core.specs.Frames.{AdmittedOthersLeave, HeapIsLeft}
-use Rattle.mk_core.proofs.HistoryParts.{earlier_part_is_history}
-use Rattle.mk_laws.specs.Kept.{GuardPremisesFrom}
 use Rattle.mk_laws.proofs.OthersLeave.{others_leave_headers, others_leave_wells}
 use Rattle.mk_laws.proofs.InvariantJoined.{told_to_guard}
 use Rattle.mk_laws.proofs.CallsStill.{held_registers, never_stands_still}

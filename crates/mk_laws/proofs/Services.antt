@@ -1,11 +1,10 @@
 -- What the turn's holder has done in its call: where a New is, and what a Free has freed.
-use Rattle.std.proofs.Common.{◌≡◌, true, false, refl, sym, ◌∙◌, ap}
-use Rattle.std.specs.Prelude.{Option, None, is_some}
-use Rattle.mk_laws.proofs.Vocabulary.{Flight, Granted, Holding, Op, Placing, RunPages, Stage, Unplaced, is_free_at}
-use Rattle.mk_laws.proofs.Vocabulary.{is_new_at, is_undecided_free, is_undecided_new}
+use Rattle.mk_laws.proofs.Vocabulary.{Flight, Granted, Holding, None, Op, Option, Placing, RunPages, Stage, Unplaced}
+use Rattle.mk_laws.proofs.Vocabulary.{ap, false, has_place, is_decided_free_at, is_free_at, is_new_at, is_some}
+use Rattle.mk_laws.proofs.Vocabulary.{is_undecided_free, is_undecided_new, refl, sym, true, ◌∙◌, ◌≡◌}
 use Rattle.mk_never.specs.declared.operations.Op.TheVariants as op
 use Rattle.mk_core.specs.declared.seats.Stage.TheVariants as stage
-use Rattle.mk_laws.specs.Protocol.{has_place, is_granted, is_decided_new_at, is_decided_free_at}
+use Rattle.mk_laws.specs.Protocol.{is_granted, is_decided_new_at}
 use Rattle.mk_laws.proofs.Standings.{UnderTurn, standing}
 use Rattle.mk_laws.proofs.Stages.{gives_stand}
 

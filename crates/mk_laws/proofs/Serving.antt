@@ -1,20 +1,16 @@
 -- The steps of a New and of a Free on the terrain: `head`, `used`, `mark`.
-use Rattle.std.proofs.Common.{Bool, List, ap, append-nil, arith, false, inl, inr, length, refl, subst, sym, true, ℕ, []}
-use Rattle.std.proofs.Common.{◌++◌, ◌+◌, ◌-◌, ◌<◌, ◌∙◌, ◌∷◌, ◌≡◌, ◌≢◌, ◌≤◌}
-use Rattle.std.specs.Prelude.{Option, Some, not}
-use Rattle.mk_laws.proofs.Vocabulary.{Chosen, Config, Granted, IsSized, Object, Place, Placing, RunPages, Unplaced}
-use Rattle.mk_laws.proofs.Vocabulary.{Used, World, cells_made, chosen, header_at, header_made, is_used_once}
-use Rattle.mk_laws.proofs.Vocabulary.{pages_made, unmapped_header, used_at}
-use Rattle.mk_core.proofs.PageSteps.{Empties, GivesBack, Unmaps}
-use Rattle.mk_core.proofs.PlacesNow.{AsChosen, AsUsed, ByFit, IsPlaced}
-use Rattle.mk_core.proofs.ServingSteps.{IsCellTaken, IsNextHeader}
-use Rattle.mk_core.proofs.Sizes.{cells_some, pages_some, small_pages}
-use Rattle.mk_core.proofs.WordBits.{fewer_bits}
-use Rattle.mk_laws.specs.LayoutScene.{Among, Claim, InPlot, IsLaidOn, IsPlotShown, Plotted, LayoutScene}
-use Rattle.mk_laws.specs.LayoutScene.{is_released_in}
-use Rattle.mk_laws.specs.Ground.{Ground, ground_of}
-use Rattle.mk_laws.specs.Terrain.{HasLayout, IsClaimedRun, RunStands, claims_of, claims_on, claims_placed}
-use Rattle.mk_laws.specs.Terrain.{place_claim, plot_of, layout_scene_of}
+use Rattle.mk_laws.proofs.Vocabulary.{Among, AsChosen, AsUsed, Bool, ByFit, Chosen, Claim, Config, Empties, GivesBack}
+use Rattle.mk_laws.proofs.Vocabulary.{Granted, Ground, HasLayout, InPlot, IsClaimedRun, IsLaidOn, IsNextHeader}
+use Rattle.mk_laws.proofs.Vocabulary.{IsPlaced, IsPlotShown, IsSized, LayoutScene, List, Object, Option, Place, Placing}
+use Rattle.mk_laws.proofs.Vocabulary.{Plotted, RunPages, RunStands, Some, Unplaced, Used, World, [], ap, append-nil}
+use Rattle.mk_laws.proofs.Vocabulary.{arith, cells_made, chosen, claims_of, claims_on, claims_placed, false, fewer_bits}
+use Rattle.mk_laws.proofs.Vocabulary.{ground_of, header_at, header_made, inl, inr, is_released_in, is_used_once}
+use Rattle.mk_laws.proofs.Vocabulary.{layout_scene_of, length, not, pages_made, pages_some, place_claim, plot_of, refl}
+use Rattle.mk_laws.proofs.Vocabulary.{small_pages, subst, sym, true, unmapped_header, used_at, ℕ, ◌++◌, ◌+◌, ◌-◌, ◌<◌}
+use Rattle.mk_laws.proofs.Vocabulary.{◌∙◌, ◌∷◌, ◌≡◌, ◌≢◌, ◌≤◌}
+use Rattle.mk_core.proofs.PageSteps.{Unmaps}
+use Rattle.mk_core.proofs.ServingSteps.{IsCellTaken}
+use Rattle.mk_core.proofs.Sizes.{cells_some}
 use Rattle.mk_laws.proofs.Fits.{FitsOnFreePages, fits}
 use Rattle.mk_laws.proofs.LayoutJoined.{among_back, among_front}
 use Rattle.mk_laws.proofs.PageSets.{with_header_on, with_used_on}

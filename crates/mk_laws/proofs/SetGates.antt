@@ -1,17 +1,12 @@
 -- Gates that are held stay so after any step but `open`.
-use Rattle.std.proofs.Common.{List, ap, false, inl, inr, length, refl, subst, sym, true, ℕ, ◌+◌, ◌<◌, ◌∙◌, ◌≡◌, ◌≢◌}
-use Rattle.std.specs.Prelude.{Bool, if◌then◌else◌, slice_index, slice_set, ◌==◌}
-use Rattle.std.proofs.lemmas.Bool.{cases_eq, cases_lt}
-use Rattle.std.proofs.lemmas.List.{get_or-set_other, get_or-set_same, set_past}
-use Rattle.mk_laws.proofs.Vocabulary.{Caller, Config, Host, Marker, Moment, Seat, Step, caller_number, flight_of}
-use Rattle.mk_laws.proofs.Vocabulary.{reg_access, register_met}
+use Rattle.std.specs.Prelude.{Bool}
+use Rattle.mk_laws.proofs.Vocabulary.{Caller, Config, Host, List, Marker, Moment, Seat, Step, ap, caller_number}
+use Rattle.mk_laws.proofs.Vocabulary.{cases_eq, cases_lt, false, flight_of, get_or-set_other, get_or-set_same}
+use Rattle.mk_laws.proofs.Vocabulary.{if◌then◌else◌, inl, inr, length, refl, reg_access, register_met, set_past}
+use Rattle.mk_laws.proofs.Vocabulary.{slice_index, slice_set, subst, sym, true, ℕ, ◌+◌, ◌<◌, ◌==◌, ◌∙◌, ◌≡◌, ◌≢◌}
+use Rattle.mk_laws.proofs.Basics.{Behind, Known, Meets, at_its_stage, reg_keeps, tally_keeps, view_of}
 use Rattle.mk_core.specs.declared.events.Step.TheVariants as step
 use Rattle.mk_core.specs.declared.seats.Stage.TheVariants as stage
-use Rattle.mk_laws.proofs.Actors.{Meets}
-use Rattle.mk_laws.proofs.Known.{Known}
-use Rattle.mk_laws.proofs.NextSteps.{at_its_stage}
-use Rattle.mk_laws.proofs.SameWords.{Behind, reg_keeps, tally_keeps}
-use Rattle.mk_laws.proofs.Views.{view_of}
 use Rattle.mk_laws.proofs.ImagesHeldGates.{held_idle}
 
 abbrev pub is_open : Step → Bool

@@ -1,27 +1,18 @@
 -- What a laid out world says of its allocations; where nothing is on its way, its pages stand for the unreleased
 -- storage.
-use Rattle.std.proofs.Common.{ap, append-nil, false, length, refl, sym, true, ◌*◌, ◌++◌, ◌∙◌, ◌≡◌}
-use Rattle.std.specs.Prelude.{None, Option, Some}
-use Rattle.std.proofs.lemmas.Bool.{and_parts}
-use Rattle.mk_laws.proofs.Vocabulary.{Cell, Chosen, Config, Granted, IsWithinLimits, PlacedAllocation, Placing}
-use Rattle.mk_laws.proofs.Vocabulary.{RunPages, Unplaced, Used, Words, World, is_phase, is_run_gone}
-use Rattle.mk_laws.proofs.Vocabulary.{is_run_unmapped, left, placed_at, unreleased_storage, words_are_zero}
+use Rattle.mk_laws.proofs.Vocabulary.{Cell, Claim, Config, Granted, IsSettled, IsWithinLimits, LayoutStands, NoPlot}
+use Rattle.mk_laws.proofs.Vocabulary.{None, Option, PlacedAllocation, Placing, RunPages, Some, Unplaced, Words, World}
+use Rattle.mk_laws.proofs.Vocabulary.{and_parts, ap, append-nil, claim_of, claims_of, claims_placed, false, ground_of}
+use Rattle.mk_laws.proofs.Vocabulary.{has_place, histories_keep_lengths, is_phase, is_run_gone, is_run_unmapped, left}
+use Rattle.mk_laws.proofs.Vocabulary.{length, object_now, placed_at, plot_of, refl, sym, true, unreleased_storage}
+use Rattle.mk_laws.proofs.Vocabulary.{words_are_zero, ◌*◌, ◌++◌, ◌∙◌, ◌≡◌}
+use Rattle.mk_laws.proofs.Basics.{Laid, all_stand, apart_left, claim_among, gone_terrain, own_claim}
 use Rattle.mk_geom.proofs.Bridge.{same_places}
-use Rattle.mk_core.proofs.Lengths.{histories_keep_lengths}
-use Rattle.mk_laws.specs.Protocol.{has_place}
-use Rattle.mk_laws.specs.LayoutScene.{Claim, NoPlot}
-use Rattle.mk_laws.specs.SettledPages.{FirstFitIsThePlace, HeadersStand, IsSettled, UnreleasedAreApart}
-use Rattle.mk_laws.specs.SettledPages.{UnreleasedStand, is_freed_unmapped}
-use Rattle.mk_laws.specs.Ground.{ground_of}
-use Rattle.mk_laws.specs.Terrain.{LayoutStands, claim_of, claims_of, claims_placed, object_now, plot_of}
+use Rattle.mk_laws.specs.SettledPages.{FirstFitIsThePlace, HeadersStand, UnreleasedAreApart, UnreleasedStand}
+use Rattle.mk_laws.specs.SettledPages.{is_freed_unmapped}
 use Rattle.mk_laws.proofs.Apart.{Rests}
-use Rattle.mk_laws.proofs.Claims.{claim_among}
-use Rattle.mk_laws.proofs.Freed.{gone_terrain}
 use Rattle.mk_laws.proofs.HeadersStand.{pages_stand}
-use Rattle.mk_laws.proofs.LayoutJoined.{apart_left}
 use Rattle.mk_laws.proofs.OneCell.{numbers_apart}
-use Rattle.mk_laws.proofs.Released.{all_stand}
-use Rattle.mk_laws.proofs.Serving.{Laid, own_claim}
 
 pub unreleased_stand : UnreleasedStand
 unreleased_stand c es limits laid i u =
@@ -81,8 +72,7 @@ settled_rests c w limits len laid s = by w.now.seats.holding.placing refl s.plac
         → Rests c w.now.words w.allocations
     by Unplaced is out = rests Unplaced (at Unplaced is) refl (append-nil (claims_of c None w.allocations))
     by Granted is out = rests Granted (at Granted is) refl (append-nil (claims_of c None w.allocations))
-    by (Chosen place) is out = cc
-    by (Used place) is out = cc
+    by _ is out = cc
 
 pub headers_stand : HeadersStand
 headers_stand c es limits laid s =

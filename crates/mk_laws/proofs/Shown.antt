@@ -1,9 +1,7 @@
 -- What all callers show, after a change of a gate or of a call.
-use Rattle.std.proofs.Common.{◌≡◌, ◌≢◌, ℕ, ◌<◌, List, length, length-set, refl, sym, subst, inl, inr, arith}
-use Rattle.std.specs.Prelude.{slice_index, slice_index_or, slice_set}
-use Rattle.std.proofs.lemmas.Bool.{cases_eq}
-use Rattle.std.proofs.lemmas.List.{get_or-set_same, get_or-set_other}
-use Rattle.mk_laws.proofs.Vocabulary.{Caller, Config, Flight, Host, Marker, Seat, at_rest, holder_number}
+use Rattle.mk_laws.proofs.Vocabulary.{Caller, Config, Flight, List, Seat, arith, at_rest, cases_eq, get_or-set_other}
+use Rattle.mk_laws.proofs.Vocabulary.{get_or-set_same, holder_number, inl, inr, length, length-set, refl, slice_index}
+use Rattle.mk_laws.proofs.Vocabulary.{slice_index_or, slice_set, sym, ℕ, ◌<◌, ◌≡◌, ◌≢◌}
 use Rattle.mk_laws.proofs.Standings.{Standing, standing, Shows}
 use Rattle.mk_laws.proofs.Views.{flights_with}
 

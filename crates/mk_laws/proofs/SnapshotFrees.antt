@@ -1,27 +1,19 @@
 -- What is fresh and what is in the snapshot, after a `quar`.
-use Rattle.std.proofs.Common.{Bool, List, ap, arith, false, inl, inr, length, map, refl, sym, true, ℕ, ◌%◌, ◌/◌, ◌<◌}
-use Rattle.std.proofs.Common.{◌^◌, ◌∙◌, ◌≡◌, ◌⊎◌}
-use Rattle.std.specs.Prelude.{None, Option, Some, if◌then◌else◌, not, slice_index, slice_set, ◌&&◌, ◌==◌}
-use Rattle.std.proofs.lemmas.Bool.{and_parts, cases_Bool, eqb-true, false_from_ne_true, ltb-true, not-true, true≢false}
-use Rattle.std.proofs.lemmas.List.{set-get_or}
-use Rattle.mk_laws.proofs.Vocabulary.{Cell, Config, Flight, PlacedAllocation, Seat, World, cell_freed}
-use Rattle.mk_laws.proofs.Vocabulary.{cell_of_allocation, first_word, flight_of, freed_where_it_stands, has_bit}
-use Rattle.mk_laws.proofs.Vocabulary.{is_phase, phase_of, placed_at, stands_in}
+use Rattle.mk_laws.proofs.Vocabulary.{Bool, Cell, Config, Drops, Flight, Ground, HasQuarantine, IsQuarantined, ItDrops}
+use Rattle.mk_laws.proofs.Vocabulary.{ItFrees, ItTakesSnapshot, KeepsSnapshot, LayoutStands, List, None, Option}
+use Rattle.mk_laws.proofs.Vocabulary.{PlacedAllocation, QuarantineStep, Seat, Some, World, and_parts, ap, arith}
+use Rattle.mk_laws.proofs.Vocabulary.{cases_Bool, cell_freed, cell_of_allocation, changed_at, eqb-true, false}
+use Rattle.mk_laws.proofs.Vocabulary.{false_from_ne_true, fewer_bits, first_word, flight_of, freed_cell, freed_leaves}
+use Rattle.mk_laws.proofs.Vocabulary.{freed_where_it_stands, ground_of, has_bit, has_bit_of, if◌then◌else◌, inl, inr}
+use Rattle.mk_laws.proofs.Vocabulary.{is_cycling, is_phase, length, ltb-true, map, none_freed, not, not-true, phase_of}
+use Rattle.mk_laws.proofs.Vocabulary.{placed_at, quarantine_step, refl, set-get_or, slice_index, slice_set, stands_in}
+use Rattle.mk_laws.proofs.Vocabulary.{sym, true, true≢false, ℕ, ◌%◌, ◌&&◌, ◌/◌, ◌<◌, ◌==◌, ◌^◌, ◌∙◌, ◌≡◌, ◌⊎◌}
+use Rattle.mk_laws.proofs.Basics.{Before, LeavesCells, Meets, bit_cases, freeing_leaves}
 use Rattle.mk_core.specs.declared.events.Step.TheVariants as step
-use Rattle.mk_core.proofs.ChangedAllocations.{changed_at, freed_leaves, none_freed}
-use Rattle.mk_core.proofs.PageSteps.{Drops, ItDrops, ItFrees, ItTakesSnapshot, QuarantineStep, quarantine_step}
-use Rattle.mk_core.proofs.PlacesNow.{freed_cell}
-use Rattle.mk_core.proofs.WordBits.{fewer_bits}
-use Rattle.mk_laws.proofs.Actors.{Meets}
-use Rattle.mk_laws.specs.Quarantine.{HasQuarantine, HasSnapshot, IsQuarantined, KeepsSnapshot, has_bit_of, is_cycling}
-use Rattle.mk_laws.specs.Ground.{Ground, ground_of}
-use Rattle.mk_laws.specs.Terrain.{LayoutStands}
-use Rattle.mk_laws.proofs.LayoutBefore.{Before}
-use Rattle.mk_laws.proofs.Claims.{LeavesCells}
-use Rattle.mk_laws.proofs.Freed.{freeing_leaves}
+use Rattle.mk_laws.specs.Quarantine.{HasSnapshot}
 use Rattle.mk_laws.proofs.QuarantineByKind.{frees_here, frees_some}
 use Rattle.mk_laws.proofs.QuarantineChanges.{FreesHere, before_change, free_halves}
-use Rattle.mk_laws.proofs.QuarantineSteps.{and_both, bit_cases}
+use Rattle.mk_laws.proofs.QuarantineSteps.{and_both}
 
 -- the snapshot's bit of an allocation whose freed bit isn't set
 pub unset_in_snapshot : (c : Config) (releasing : Bool) (marks : List ℕ) (t : Ground) (p k : ℕ)

@@ -1,38 +1,25 @@
 -- What is fresh and what is in the snapshot, after each kind of event.
-use Rattle.std.proofs.Common.{Bool, ap, arith, false, inl, inr, length, map, refl, sym, true, ℕ, ◌++◌, ◌+◌, ◌/◌, ◌<◌}
-use Rattle.std.proofs.Common.{[]}
-use Rattle.std.proofs.Common.{◌∙◌, ◌∷◌, ◌≡◌, ◌≤◌, ◌⊎◌}
-use Rattle.std.specs.Prelude.{not, slice_index, ◌&&◌, ◌==◌}
-use Rattle.std.proofs.lemmas.Bool.{and_parts, cases_Bool, eqb-true, false_from_ne_true, true≢false}
-use Rattle.mk_laws.proofs.Vocabulary.{Cell, Chosen, Config, Flight, Granted, Object, PlacedAllocation, Placing}
-use Rattle.mk_laws.proofs.Vocabulary.{Seat, Step, Unplaced, Used, World, all_below, cell_of_allocation, flight_of}
-use Rattle.mk_laws.proofs.Vocabulary.{granted, has_bit, has_clean_page, is_phase, is_undecided_new, is_used_once}
-use Rattle.mk_laws.proofs.Vocabulary.{no_longer_fresh, object_placed, pages_made, phase_of, placed_at}
-use Rattle.mk_laws.proofs.Vocabulary.{with_released}
+use Rattle.mk_laws.proofs.Vocabulary.{Among, Bool, Cell, Config, Flight, IsQuarantined, KeepsSnapshot, LayoutStands}
+use Rattle.mk_laws.proofs.Vocabulary.{Object, PlacedAllocation, Placing, Seat, Step, Used, World, [], all_below}
+use Rattle.mk_laws.proofs.Vocabulary.{all_below-at, and_parts, ap, arith, cases_Bool, cell_of_allocation, changed_at}
+use Rattle.mk_laws.proofs.Vocabulary.{claims_of, claims_placed, eqb-true, false, false_from_ne_true, flight_of, granted}
+use Rattle.mk_laws.proofs.Vocabulary.{granted_base_is, granted_object, ground_of, has_bit, has_bit_of, has_clean_page}
+use Rattle.mk_laws.proofs.Vocabulary.{inl, inr, is_cycling, is_phase, is_undecided_new, is_used_once, length, map}
+use Rattle.mk_laws.proofs.Vocabulary.{no_longer_fresh, not, object_now, object_placed, pages_made, pages_some, phase_of}
+use Rattle.mk_laws.proofs.Vocabulary.{place_claim, placed_at, refl, released_leaves, slice_index, sym, true, true≢false}
+use Rattle.mk_laws.proofs.Vocabulary.{with_released, ℕ, ◌&&◌, ◌++◌, ◌+◌, ◌/◌, ◌<◌, ◌==◌, ◌∙◌, ◌∷◌, ◌≡◌, ◌≤◌, ◌⊎◌}
+use Rattle.mk_laws.proofs.Basics.{Before, Meets, WorldBehind, all_stand, apart_left, grants_new, holding_object}
+use Rattle.mk_laws.proofs.Basics.{new_has_turn, placed_claim, reg_leaves_ground, releasing_leaves, tally_ground}
 use Rattle.mk_core.specs.StopConditions.{may_begin}
 use Rattle.mk_core.specs.declared.events.Step.TheVariants as step
-use Rattle.mk_core.proofs.AllBelow.{all_below-at}
-use Rattle.mk_core.proofs.ChangedAllocations.{changed_at, released_leaves}
-use Rattle.mk_core.proofs.GrantedAllocations.{granted_base_is, granted_object}
-use Rattle.mk_core.proofs.Sizes.{pages_some}
-use Rattle.mk_laws.proofs.Actors.{Meets, grants_new}
-use Rattle.mk_laws.proofs.Ground.{tally_ground}
-use Rattle.mk_laws.proofs.OthersMoves.{WorldBehind}
-use Rattle.mk_laws.specs.Quarantine.{HasSnapshot, IsQuarantined, KeepsSnapshot, has_bit_of, is_cycling}
-use Rattle.mk_laws.specs.LayoutScene.{Among}
-use Rattle.mk_laws.specs.Ground.{ground_of}
-use Rattle.mk_laws.specs.Terrain.{LayoutStands, claims_of, claims_placed, object_now, place_claim}
-use Rattle.mk_laws.proofs.LayoutBefore.{Before, reg_leaves_ground}
+use Rattle.mk_laws.specs.Quarantine.{HasSnapshot}
 use Rattle.mk_laws.proofs.LayoutByKind.{fresh_cells, off_at}
 use Rattle.mk_laws.proofs.Cycling.{cycle_kind, is_cycling_behind}
 use Rattle.mk_laws.proofs.Granted.{pushed_any, pushed_at}
-use Rattle.mk_laws.proofs.LayoutHolders.{holding_object, new_has_turn}
-use Rattle.mk_laws.proofs.LayoutJoined.{apart_left}
 use Rattle.mk_laws.proofs.OneCell.{numbers_apart}
 use Rattle.mk_laws.proofs.QuarantineByKind.{shown_at}
 use Rattle.mk_laws.proofs.QuarantineChanges.{before_change}
-use Rattle.mk_laws.proofs.Released.{all_stand, left_is, releasing_leaves}
-use Rattle.mk_laws.proofs.Serving.{placed_claim}
+use Rattle.mk_laws.proofs.Released.{left_is}
 use Rattle.mk_laws.proofs.SnapshotFrees.{snapshot_of_quar, unset_in_snapshot}
 use Rattle.mk_laws.proofs.StandingClaims.{place_index}
 
@@ -118,9 +105,6 @@ grant_kind c w seat b h laid q s =
 
     outside : (placing : Placing) → w.now.seats.holding.placing ≡ placing → is_used_once placing ≡ true
         → has_bit_of c w.now.words.snapshot (granted c w.now (flight_of w.now seat)) ≡ false
-    outside Unplaced is k = cc
-    outside (Chosen place) is k = cc
-    outside Granted is k = cc
     outside (Used place) is k =
         let f : Flight = flight_of w.now seat in
         let o : Object = object_placed c a in
@@ -136,6 +120,7 @@ grant_kind c w seat b h laid q s =
         rw cell.0 (rw cell.1
         (unset_in_snapshot c (is_phase w.now.words 4) w.now.words.marks (ground_of w) place.page place.index q
         (q.taken place is)))
+    outside _ is k = cc
 
 -- `release`: what is fresh isn't released
 release_kind : (c : Config) (w : World) → Before c w → is_phase w.now.words 3 ≡ true → LayoutStands c w

@@ -1,17 +1,14 @@
 -- From a `begin` up to its `release` the snapshot bits are those of the allocations that were in quarantine then.
-use Rattle.std.proofs.Common.{◌≡◌, ◌≢◌, ℕ, Bool, true, false, List, ◌∷◌, ◌++◌, refl, sym, ◌∙◌, ap, subst, arith, []}
-use Rattle.std.specs.Prelude.{◌||◌, nat_le, not}
-use Rattle.std.specs.List.{list_any}
-use Rattle.std.proofs.lemmas.Bool.{and_from, and_parts, le-leb, not-true, or_parts}
-use Rattle.mk_laws.proofs.Vocabulary.{AreEnabledFrom, At, Cell, Config, Event, IsHistory, PlacedAllocation, Step}
-use Rattle.mk_laws.proofs.Vocabulary.{World, cell_of_allocation, is_begin, is_quarantined, is_release, left}
-use Rattle.mk_laws.proofs.Vocabulary.{left_from, never_behind, phase_of, placed_at, world_behind}
+use Rattle.mk_laws.proofs.Vocabulary.{AreEnabledFrom, At, Bool, Cell, Config, Event, IsFreedCell, IsHistory}
+use Rattle.mk_laws.proofs.Vocabulary.{KeepsTheInvariant, List, OfHistories, PlacedAllocation, Step, World, [], and_from}
+use Rattle.mk_laws.proofs.Vocabulary.{and_parts, ap, arith, cell_of_allocation, enabled_in_parts, false, has_bit_of}
+use Rattle.mk_laws.proofs.Vocabulary.{is_begin, is_cycling, is_quarantined, is_release, le-leb, left, left_from}
+use Rattle.mk_laws.proofs.Vocabulary.{left_in_parts, list_any, nat_le, never_behind, not, not-true, or_parts, phase_of}
+use Rattle.mk_laws.proofs.Vocabulary.{placed_at, refl, subst, sym, true, world_behind, ℕ, ◌++◌, ◌||◌, ◌∙◌, ◌∷◌, ◌≡◌}
+use Rattle.mk_laws.proofs.Vocabulary.{◌≢◌}
+use Rattle.mk_laws.proofs.Basics.{known_world}
 use Rattle.mk_core.specs.Cells.{is_in_snapshot}
 use Rattle.mk_core.specs.Readings.{SnapshotTells, SnapshotsTell}
-use Rattle.mk_core.proofs.HistoryParts.{enabled_in_parts, left_in_parts}
-use Rattle.mk_laws.proofs.KnownWorlds.{known_world}
-use Rattle.mk_laws.specs.Quarantine.{IsFreedCell, has_bit_of, is_cycling}
-use Rattle.mk_laws.specs.Theorems.{KeepsTheInvariant, OfHistories}
 use Rattle.mk_laws.proofs.InvariantHistories.{histories_keep_the_invariant}
 use Rattle.mk_laws.proofs.Quarantines.{snapshot_is_the_cycles}
 use Rattle.mk_laws.proofs.CyclePhases.{IsUnreleased, NoneIsReleased, begin_is, moves_phase, none_is_released}
@@ -74,7 +71,7 @@ module _ (c : Config) (es : List Event) (h : IsHistory c es) (begin : At is_begi
   since : left c es ≡ left_from c (left c begin.before) (begin.event ∷ begin.behind)
   since = at_event c es is_begin begin
 
-  phase : IsUnreleased (phase_of (left c es).now.words)
+  phase : IsUnreleased (phase_of w.now.words)
   unfolding left_from
   phase =
       let on = enabled_at c es is_begin begin h in

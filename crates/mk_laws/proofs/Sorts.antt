@@ -1,15 +1,14 @@
 -- Each enabled event is one of the moves of the protocol.
-use Rattle.std.proofs.Common.{◌≡◌, ◌≢◌, ℕ, ◌+◌, ◌<◌, Bool, true, false, List, refl, sym, ap, subst, inl, inr}
-use Rattle.std.specs.Prelude.{Some, None, slice_index, slice_set, ◌==◌, if◌then◌else◌}
-use Rattle.std.proofs.lemmas.Bool.{cases_eq, not-true, eqb-true, eqb-false, eq-eqb, ne_eqb, and_parts}
-use Rattle.std.proofs.lemmas.List.{set-get_or}
-use Rattle.mk_laws.proofs.Vocabulary.{Caller, Config, Flight, Holding, Host, Marker, Moment, Named, Op, Seat, Stage}
-use Rattle.mk_laws.proofs.Vocabulary.{Step, Store, accessed, at_rest, begun, chosen, flight_of, holder_number}
-use Rattle.mk_laws.proofs.Vocabulary.{host_has_turn, is_phase, is_under_turn, marks_place, nothing_done}
-use Rattle.mk_laws.proofs.Vocabulary.{object_made, phase_of, place_now, progress, still, taken, tally_word}
+use Rattle.mk_laws.proofs.Vocabulary.{Bool, Caller, Config, Flight, Holding, Host, Marker, Moment, Named, None, Op}
+use Rattle.mk_laws.proofs.Vocabulary.{Seat, Some, Step, Store, accessed, and_parts, at_rest, begun, cases_eq, chosen}
+use Rattle.mk_laws.proofs.Vocabulary.{eq-eqb, eqb-false, eqb-true, false, flight_of, holder_number, host_has_turn}
+use Rattle.mk_laws.proofs.Vocabulary.{if◌then◌else◌, inl, inr, is_phase, is_under_turn, marks_place, ne_eqb, not-true}
+use Rattle.mk_laws.proofs.Vocabulary.{nothing_done, object_made, phase_of, place_now, progress, refl, set-get_or}
+use Rattle.mk_laws.proofs.Vocabulary.{slice_index, slice_set, still, subst, sym, taken, tally_word, true, ℕ, ◌+◌, ◌<◌}
+use Rattle.mk_laws.proofs.Vocabulary.{◌==◌, ◌≡◌, ◌≢◌}
 use Rattle.mk_core.specs.declared.events.Step.TheVariants as step
 use Rattle.mk_core.specs.declared.seats.Stage.TheVariants as stage
-use Rattle.mk_laws.proofs.Standings.{standing_at, standing, is_astray}
+use Rattle.mk_laws.proofs.Standings.{standing, is_astray}
 use Rattle.mk_laws.proofs.Stages.{begun_under_turn}
 use Rattle.mk_laws.proofs.Services.{Service, Goes, Fills, Grants}
 use Rattle.mk_laws.proofs.Views.{View, view_of, flight_in, flights_with, flight_is, HoldsTurn}

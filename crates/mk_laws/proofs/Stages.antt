@@ -1,9 +1,7 @@
 -- How the stages of a call follow one another.
-use Rattle.std.proofs.Common.{◌≡◌, ℕ, Bool, true, false, refl}
-use Rattle.std.specs.Prelude.{if◌then◌else◌, ◌==◌}
-use Rattle.mk_laws.proofs.Vocabulary.{Flight, Op, Progress, Stage, begun, is_new_at, is_undecided_new}
-use Rattle.mk_laws.proofs.Vocabulary.{is_under_turn, progress_read, progress_reg, stage_behind, stage_refused}
-use Rattle.mk_laws.proofs.Vocabulary.{steps_of}
+use Rattle.mk_laws.proofs.Vocabulary.{Bool, Flight, Op, Progress, Stage, begun, false, if◌then◌else◌, is_new_at}
+use Rattle.mk_laws.proofs.Vocabulary.{is_undecided_new, is_under_turn, progress_read, progress_reg, refl, stage_behind}
+use Rattle.mk_laws.proofs.Vocabulary.{stage_refused, steps_of, true, ℕ, ◌==◌, ◌≡◌}
 use Rattle.mk_never.specs.declared.operations.Op.TheVariants as op
 use Rattle.mk_core.specs.declared.seats.Stage.TheVariants as stage
 use Rattle.mk_laws.proofs.Standings.{Standing, Resting, InCall, UnderTurn, standing_at, standing, is_astray}

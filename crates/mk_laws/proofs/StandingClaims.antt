@@ -1,16 +1,11 @@
 -- An unreleased allocation whose claim is shown stands on the heap with its headers.
-use Rattle.std.proofs.Common.{ap, arith, false, inl, inr, length, refl, ℕ, ◌*◌, ◌+◌, ◌/◌, ◌<◌, ◌∙◌, ◌≡◌, ◌≤◌}
-use Rattle.std.specs.Prelude.{Option}
-use Rattle.std.proofs.lemmas.Bool.{cases_Bool}
-use Rattle.mk_laws.proofs.Vocabulary.{BeginsAtCell, Cell, Config, HasItsHeaders, IsSized, Object, Place}
-use Rattle.mk_laws.proofs.Vocabulary.{PlacedAllocation, RunPages, StandsOnHeap, Words, base_made}
-use Rattle.mk_laws.proofs.Vocabulary.{cell_of_allocation, cells_made, header_at, is_small_object, object_placed}
-use Rattle.mk_laws.proofs.Vocabulary.{pages_made, storage_words, words_made}
-use Rattle.mk_core.proofs.Sizes.{large_words, small_pages}
-use Rattle.mk_core.proofs.SmallCycles.{small}
-use Rattle.mk_core.proofs.StandingAllocations.{cell_ends_within, made_begins, placed_cell, run_begins, run_cell}
-use Rattle.mk_laws.specs.LayoutScene.{IsShown}
-use Rattle.mk_laws.specs.Terrain.{IsAtCell, claim_of}
+use Rattle.mk_laws.proofs.Vocabulary.{BeginsAtCell, Cell, Config, HasItsHeaders, IsAtCell, IsShown, IsSized, Object}
+use Rattle.mk_laws.proofs.Vocabulary.{Option, Place, PlacedAllocation, RunPages, StandsOnHeap, Words, ap, arith}
+use Rattle.mk_laws.proofs.Vocabulary.{base_made, cases_Bool, cell_of_allocation, cells_made, claim_of, false, header_at}
+use Rattle.mk_laws.proofs.Vocabulary.{inl, inr, is_small_object, large_words, length, object_placed, pages_made, refl}
+use Rattle.mk_laws.proofs.Vocabulary.{run_begins, small, small_pages, storage_words, words_made, ℕ, ◌*◌, ◌+◌, ◌/◌, ◌<◌}
+use Rattle.mk_laws.proofs.Vocabulary.{◌∙◌, ◌≡◌, ◌≤◌}
+use Rattle.mk_core.proofs.StandingAllocations.{cell_ends_within, made_begins, placed_cell, run_cell}
 use Rattle.mk_laws.proofs.LayoutReadings.{header_of_mode}
 
 -- The words of an object end with its pages.

@@ -1,7 +1,6 @@
 -- Where a caller stands, and what the turn word and its gate show of it.
-use Rattle.std.proofs.Common.{◌≡◌, ◌≢◌, ◌↔◌, ℕ, ◌+◌, ◌≤◌, Bool, true, false, refl, arith}
-use Rattle.std.specs.Prelude.{◌&&◌, not}
-use Rattle.mk_laws.proofs.Vocabulary.{Flight, Op, Stage, is_under_turn}
+use Rattle.mk_laws.proofs.Vocabulary.{Bool, Flight, Op, Stage, arith, false, is_under_turn, not, refl, true, ℕ, ◌&&◌}
+use Rattle.mk_laws.proofs.Vocabulary.{◌+◌, ◌↔◌, ◌≡◌, ◌≢◌, ◌≤◌}
 use Rattle.mk_core.specs.declared.seats.Stage.TheVariants as stage
 use Rattle.mk_core.specs.Readings.{is_idle}
 use Rattle.mk_laws.specs.Protocol.{has_stage}
@@ -50,8 +49,7 @@ shown_not_astray t g k _ h = refl
 in_call_by : (b u : Bool) → is_astray (standing_in b u) ≡ false
     → is_standing_in_call (standing_in b u) ≡ (true && not u)
 in_call_by true true h = refl
-in_call_by true false h = refl
-in_call_by false u h = cc
+in_call_by _ _ h = cc
 
 pub in_call_told : (s : Stage) (o : Op) → is_astray (standing_at s o) ≡ false
     → is_standing_in_call (standing_at s o) ≡ (not (is_idle s) && not (is_under_turn o))
@@ -60,8 +58,7 @@ in_call_told s o h = in_call_by (has_stage o s) (is_under_turn o) h
 
 in_turn_by : (b u : Bool) → is_astray (standing_in b u) ≡ false → is_standing_under_turn (standing_in b u) ≡ (true && u)
 in_turn_by true true h = refl
-in_turn_by true false h = refl
-in_turn_by false u h = cc
+in_turn_by _ _ h = cc
 
 pub in_turn_told : (s : Stage) (o : Op) → is_astray (standing_at s o) ≡ false
     → is_standing_under_turn (standing_at s o) ≡ (not (is_idle s) && is_under_turn o)

@@ -1,40 +1,32 @@
 -- What the tallies count: before each `give`, and where nobody holds the turn.
-use Rattle.std.proofs.Common.{◌≡◌, ◌≤◌, ◌⊎◌, ℕ, ◌+◌, Bool, true, false, List, ◌∷◌, ◌++◌, refl, sym, ◌∙◌, ap, []}
-use Rattle.std.proofs.Common.{append_assoc, subst, arith, inl, inr}
-use Rattle.std.specs.Prelude.{cond, ◌&&◌, ◌==◌}
-use Rattle.std.proofs.lemmas.Bool.{and_parts, eqb-true, false_from_ne_true, ne_eqb, true≢false}
 use Rattle.std.proofs.lemmas.List.Sums.{sum_by_push}
+use Rattle.mk_laws.proofs.Vocabulary.{Bool, Config, Decided, Event, Flight, IsHistory, IsSettled, IsTidy, List, Moment}
+use Rattle.mk_laws.proofs.Vocabulary.{OfHistories, PlacedAllocation, Seat, Stage, Step, TalliesAreTidy, Words, World}
+use Rattle.mk_laws.proofs.Vocabulary.{[], and_parts, answer_decided, ap, append_assoc, arith, call_decided}
+use Rattle.mk_laws.proofs.Vocabulary.{caller_number, calls, calls_from, cond, ends, eqb-true, false, false_from_ne_true}
+use Rattle.mk_laws.proofs.Vocabulary.{first_world, flight_of, fresh_words_of, has_place, held_by_pages}
+use Rattle.mk_laws.proofs.Vocabulary.{histories_keep_lengths, in_a_word, inl, inr, is_decided, is_end, is_run_gone}
+use Rattle.mk_laws.proofs.Vocabulary.{is_undecided_new, left, left_from, left_more, ne_eqb, phase_of, refl, subst, sym}
+use Rattle.mk_laws.proofs.Vocabulary.{true, true≢false, undecided_new, unreleased_storage, world_behind, ℕ, ◌&&◌, ◌++◌}
+use Rattle.mk_laws.proofs.Vocabulary.{◌+◌, ◌==◌, ◌∙◌, ◌∷◌, ◌≡◌, ◌≤◌, ◌⊎◌}
+use Rattle.mk_laws.proofs.Basics.{Before, KeptByEvents, Known, Meets, before_it, holds_of_histories, known_left}
+use Rattle.mk_laws.proofs.Basics.{known_world, placed_undecided}
 use Rattle.mk_geom.proofs.HeldWords.{pages_hold_mapped_words}
-use Rattle.mk_laws.proofs.Vocabulary.{Config, Decided, Event, Flight, IsHistory, IsTidy, Moment, PlacedAllocation}
-use Rattle.mk_laws.proofs.Vocabulary.{Seat, Stage, Step, TalliesAreTidy, Words, World, answer_decided, call_decided}
-use Rattle.mk_laws.proofs.Vocabulary.{caller_number, calls, calls_from, ends, first_world, flight_of}
-use Rattle.mk_laws.proofs.Vocabulary.{fresh_words_of, held_by_pages, in_a_word, is_decided, is_end, is_run_gone}
-use Rattle.mk_laws.proofs.Vocabulary.{is_undecided_new, left, left_from, phase_of, unreleased_storage, world_behind}
 use Rattle.mk_core.specs.declared.events.Step.TheVariants as step
 use Rattle.mk_core.specs.Allocations.{held_by_allocations}
 use Rattle.mk_core.specs.Counts.{TalliesAreExact, full_answers, releases}
 use Rattle.mk_core.specs.Readings.{TalliesTell}
-use Rattle.mk_core.proofs.Histories.{calls_more, left_more}
-use Rattle.mk_core.proofs.Lengths.{histories_keep_lengths}
-use Rattle.mk_core.proofs.PlacesNow.{undecided_new}
-use Rattle.mk_laws.specs.Protocol.{has_place}
-use Rattle.mk_laws.proofs.Actors.{Meets}
+use Rattle.mk_core.proofs.Histories.{calls_more}
 use Rattle.mk_laws.proofs.Asked.{give_phase}
-use Rattle.mk_laws.proofs.Known.{Known, known_left}
 use Rattle.mk_laws.proofs.OthersCounts.{entry_fulls, fulls_append, fulls_of}
-use Rattle.mk_laws.specs.SettledPages.{IsSettled}
 use Rattle.mk_laws.proofs.Settled.{gone_is_unmapped}
-use Rattle.mk_laws.proofs.LayoutBefore.{Before}
 use Rattle.mk_laws.proofs.LayoutHistories.{known_before}
-use Rattle.mk_laws.proofs.LayoutHolders.{giver_has_turn, placed_undecided}
-use Rattle.mk_laws.proofs.KnownWorlds.{known_world}
-use Rattle.mk_laws.specs.Theorems.{OfHistories}
+use Rattle.mk_laws.proofs.LayoutHolders.{giver_has_turn}
 use Rattle.mk_laws.proofs.InvariantHistories.{histories_keep_the_invariant}
 use Rattle.mk_laws.proofs.InvariantJoined.{told_to_layout}
 use Rattle.mk_laws.proofs.InvariantTheorems.{pages_show_the_storage}
 use Rattle.mk_laws.specs.ExactTallies.{TalliesAreExactAtGives}
 use Rattle.mk_laws.proofs.FreshSteps.{FreshTold, fresh_told_behind}
-use Rattle.mk_laws.proofs.Induction.{KeptByEvents, before_it, holds_of_histories}
 use Rattle.mk_laws.proofs.TallySteps.{CountsNothing, Gives, Leaves, Takes, TurnStep, give_counts_nothing}
 use Rattle.mk_laws.proofs.TallySteps.{others_count_nothing, turn_step}
 

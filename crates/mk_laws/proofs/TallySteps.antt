@@ -1,20 +1,13 @@
 -- What events leave to the tallies, and to the allocations that they count.
-use Rattle.std.proofs.Common.{◌≡◌, ◌≢◌, ℕ, ◌+◌, Bool, true, false, refl, ◌∙◌, ap, arith}
-use Rattle.std.specs.Prelude.{◌==◌, if◌then◌else◌}
-use Rattle.mk_laws.proofs.Vocabulary.{Caller, Config, Event, Flight, Host, Marker, Moment, Seat, Step, World}
-use Rattle.mk_laws.proofs.Vocabulary.{answer_decided, caller_number, flight_of, group_of, holder_number, is_end}
-use Rattle.mk_laws.proofs.Vocabulary.{is_of_turn, reg_access, register_met, world_behind}
+use Rattle.mk_laws.proofs.Vocabulary.{Bool, Caller, Config, Event, Flight, Moment, Seat, Step, World, answer_decided}
+use Rattle.mk_laws.proofs.Vocabulary.{ap, arith, caller_number, false, flight_of, group_of, holder_number}
+use Rattle.mk_laws.proofs.Vocabulary.{if◌then◌else◌, is_end, is_of_turn, refl, reg_access, register_met, true}
+use Rattle.mk_laws.proofs.Vocabulary.{world_behind, ℕ, ◌+◌, ◌==◌, ◌∙◌, ◌≡◌, ◌≢◌}
+use Rattle.mk_laws.proofs.Basics.{Actor, AsHolder, AsMarker, HoldsTurn, InCallOf, Known, Meets, WorldBehind, actor_of}
+use Rattle.mk_laws.proofs.Basics.{reg_leaves, tally_keeps, turn_of, view_of}
 use Rattle.mk_core.specs.declared.events.Step.TheVariants as step
 use Rattle.mk_core.proofs.RegisterAccesses.{LeavesTallies, register_leaves_tallies}
-use Rattle.mk_laws.proofs.Actors.{Actor, AsHolder, AsMarker, InCallOf, Meets}
-use Rattle.mk_laws.proofs.Known.{Known}
-use Rattle.mk_laws.proofs.Orderly.{turn_of}
-use Rattle.mk_laws.proofs.OrderlyLists.{actor_of}
 use Rattle.mk_laws.proofs.OthersCounts.{answers_full, counts_nothing}
-use Rattle.mk_laws.proofs.OthersMoves.{WorldBehind}
-use Rattle.mk_laws.proofs.SameWords.{tally_keeps}
-use Rattle.mk_laws.proofs.Views.{HoldsTurn, view_of}
-use Rattle.mk_laws.proofs.LayoutBefore.{reg_leaves}
 
 -- The step changes no tally, and no allocation.
 abbrev pub counts_alike : Step → Bool
@@ -71,11 +64,7 @@ turn_step c w seat _ = Leaves refl
 
 of_no_turn : (x : Step) → is_of_turn (group_of x) ≡ false → counts_alike x ≡ true
 of_no_turn (step.Tally n v) g = cc
-of_no_turn (step.Quar p n) g = cc
-of_no_turn step.Grant g = cc
-of_no_turn step.Begin g = cc
-of_no_turn step.Release g = cc
-of_no_turn _ g = refl
+of_no_turn _ g = cc
 
 outside_alike : (c : Config) (m : Moment) (seat : Seat) (x : Step) → (HoldsTurn c (view_of m) seat → ⊥)
     → Actor c m seat x → counts_alike x ≡ true
@@ -87,8 +76,7 @@ outside_alike c m seat x out _ = refl
 give_answers : (c : Config) (m : Moment) (seat : Seat)
     → answers_full (answer_decided c m (record { seat = seat; step = step.Give })) ≡ false
 give_answers c m (Caller k) = refl
-give_answers c m (Marker k) = refl
-give_answers c m Host = refl
+give_answers c m _ = cc
 
 -- the event counts nothing: no tally changes and no allocation, no cycle ends, and no call is answered Full
 pub record CountsNothing (c : Config) (w : World) (e : Event) : Type 0 where

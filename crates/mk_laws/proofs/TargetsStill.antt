@@ -1,32 +1,24 @@
 -- An allocation to which a caller's register leads stays unreleased, where it is, and in a call of the caller mapped.
-use Rattle.std.proofs.Common.{List, append-nil, append_assoc, ap, arith, false, inl, inr, length, refl, subst, sym, []}
-use Rattle.std.proofs.Common.{true, ℕ, ◌++◌, ◌*◌, ◌+◌, ◌/◌, ◌<◌, ◌∙◌, ◌∷◌, ◌≡◌}
-use Rattle.std.specs.Prelude.{not, slice_index}
-use Rattle.std.proofs.lemmas.Bool.{and_from, and_parts, cases_lt, not-true, false≢true}
-use Rattle.std.proofs.lemmas.List.{get_or_append_left, get_or_past, length-map}
-use Rattle.mk_laws.proofs.Vocabulary.{AreOfOthers, Caller, Config, Event, Flight, IsHistory, IsInCall, IsSound}
-use Rattle.mk_laws.proofs.Vocabulary.{Moment, NeverState, Null, Num, PlacedAllocation, Ptr, Seat, Value, World}
-use Rattle.mk_laws.proofs.Vocabulary.{at_rest, bases_of, flight_of, header_at, header_in, is_mapped}
-use Rattle.mk_laws.proofs.Vocabulary.{is_unmapped_header, left, never_behind, placed_at, register_at}
+use Rattle.mk_laws.proofs.Vocabulary.{AreOfOthers, Caller, Config, Event, Flight, IsHistory, IsInCall, IsSound, List}
+use Rattle.mk_laws.proofs.Vocabulary.{Moment, NeverState, Null, Num, PlacedAllocation, Ptr, Seat, Value, World, []}
+use Rattle.mk_laws.proofs.Vocabulary.{and_from, and_parts, ap, append-nil, append_assoc, arith, at_rest, bases_of}
+use Rattle.mk_laws.proofs.Vocabulary.{cases_lt, earlier_part_is_history, false, false≢true, flight_of}
+use Rattle.mk_laws.proofs.Vocabulary.{get_or_append_left, get_or_past, header_at, header_in, image_scene_of, inl, inr}
+use Rattle.mk_laws.proofs.Vocabulary.{is_mapped, is_unmapped_header, left, length, length-map, never_behind, not}
+use Rattle.mk_laws.proofs.Vocabulary.{not-true, placed_at, refl, register_at, sym, true, ℕ, ◌*◌, ◌++◌, ◌+◌, ◌/◌, ◌<◌}
+use Rattle.mk_laws.proofs.Vocabulary.{◌∙◌, ◌∷◌, ◌≡◌}
+use Rattle.mk_laws.proofs.Basics.{InCall, Known, PagesShow, along_others, base_at, exists_placed, in_call_told}
+use Rattle.mk_laws.proofs.Basics.{not_astray, pointed_word, standing, unmapped_is}
 use Rattle.mk_never.specs.Reach.{LeadsTo, by_register}
 use Rattle.mk_core.specs.Frames.{TargetsAreLeft}
 use Rattle.mk_core.specs.Readings.{is_in_call}
-use Rattle.mk_core.proofs.HistoryParts.{earlier_part_is_history}
 use Rattle.mk_laws.proofs.ProtocolFrames.{others_leave}
-use Rattle.mk_laws.proofs.Known.{Known}
-use Rattle.mk_laws.proofs.OrderlyLists.{not_astray}
-use Rattle.mk_laws.proofs.Standings.{InCall, in_call_is, in_call_told, standing}
-use Rattle.mk_laws.specs.Images.{image_scene_of}
+use Rattle.mk_laws.proofs.Standings.{in_call_is}
 use Rattle.mk_laws.proofs.Bases.{IsLonger}
-use Rattle.mk_laws.proofs.ImagesBefore.{unmapped_is}
-use Rattle.mk_laws.proofs.ImagesKept.{base_at, exists_placed}
 use Rattle.mk_laws.proofs.ImagesOneEvent.{one_event}
-use Rattle.mk_laws.proofs.Ready.{pointed_word}
-use Rattle.mk_laws.proofs.Reached.{PagesShow}
 use Rattle.mk_laws.proofs.ImagesStands.{is_gone}
 use Rattle.mk_laws.proofs.InvariantJoined.{told_to_images}
 use Rattle.mk_laws.proofs.InvariantTheorems.{reach_is_kept}
-use Rattle.mk_laws.proofs.Grown.{along_others}
 use Rattle.mk_laws.proofs.LastEvents.{Stands, comes_last, stands}
 use Rattle.mk_laws.proofs.OtherCalls.{registers_are_left}
 use Rattle.mk_laws.proofs.ProbesStill.{pages_tell, ready}

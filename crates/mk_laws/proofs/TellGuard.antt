@@ -1,39 +1,27 @@
 -- What the layout and the zero words tell the guard.
-use Rattle.std.proofs.Common.{◌≡◌, ◌≢◌, ◌⊎◌, ℕ, ◌+◌, ◌-◌, ◌*◌, ◌/◌, ◌<◌, ◌≤◌, Bool, true, false, refl, sym, ◌∙◌, ap}
-use Rattle.std.proofs.Common.{subst, inl, inr, arith}
-use Rattle.std.specs.Prelude.{not, ◌&&◌, ◌==◌, slice_index, Option, Some}
-use Rattle.std.proofs.lemmas.Bool.{and_parts, not-true, cases_eq, cases_lt, lt-ltb, ne_eqb, true≢false, false≢true}
-use Rattle.std.proofs.lemmas.List.{get_or_past}
-use Rattle.mk_laws.proofs.Vocabulary.{AreOfPages, Caller, Chosen, Config, Flight, Granted, Header, IsHeaderOf}
-use Rattle.mk_laws.proofs.Vocabulary.{IsSized, Moment, Object, OfLeafRun, OfRun, Place, PlacedAllocation, Placing}
-use Rattle.mk_laws.proofs.Vocabulary.{Run, RunPages, Seat, ShowsPart, Unplaced, Used, World, at_rest, cells_under}
-use Rattle.mk_laws.proofs.Vocabulary.{flight_of, head_page, head_page_under, header_made, header_of, heads_run}
-use Rattle.mk_laws.proofs.Vocabulary.{is_large, is_mapped, is_phase, is_small_object, is_undecided_new, kinds_of}
-use Rattle.mk_laws.proofs.Vocabulary.{left, object_made, object_placed, pages_made, phase_of, placed_at}
-use Rattle.mk_laws.proofs.Vocabulary.{seat_exists}
-use Rattle.mk_core.proofs.ObjectHeaders.{made_shows, part_head}
-use Rattle.mk_core.proofs.PlacesNow.{IsPlaced, ByFit, AsChosen, AsUsed, placed_now}
-use Rattle.mk_core.proofs.Sizes.{large_is_not_small, pages_some, small_pages}
-use Rattle.mk_laws.proofs.Known.{Known}
-use Rattle.mk_laws.specs.LayoutScene.{Claim, Among, Mode, Mapped, Plot, NoPlot, Plotted, PlotStands, InPlot}
-use Rattle.mk_laws.specs.LayoutScene.{HasHeader, IsClaimed, IsPlotShown, header_on, used_on, shows_on, head_on}
-use Rattle.mk_laws.specs.LayoutScene.{run_count}
-use Rattle.mk_laws.specs.Ground.{ground_of}
-use Rattle.mk_laws.specs.Terrain.{LayoutStands, RunStands, IsClaimedRun, claims_of, claims_on, claims_placed}
-use Rattle.mk_laws.specs.Terrain.{place_claim, is_unmapping, mode_of, plot_of, object_now}
+use Rattle.mk_laws.proofs.Vocabulary.{Among, AreOfPages, AsChosen, AsUsed, Bool, ByFit, Caller, Chosen, Claim, Config}
+use Rattle.mk_laws.proofs.Vocabulary.{Flight, Granted, GuardPremises, HasHeader, HasZeros, Header, InPlot, IsClaimed}
+use Rattle.mk_laws.proofs.Vocabulary.{IsClaimedRun, IsHeaderOf, IsMarking, IsPlaced, IsPlotShown, IsSized, LayoutStands}
+use Rattle.mk_laws.proofs.Vocabulary.{Mapped, Mode, Moment, NoPlot, Object, OfLeafRun, OfRun, Option, Place}
+use Rattle.mk_laws.proofs.Vocabulary.{PlacedAllocation, Placing, Plot, PlotStands, Plotted, Run, RunPages, RunStands}
+use Rattle.mk_laws.proofs.Vocabulary.{Seat, ShowsPart, Some, Unplaced, Used, World, and_parts, ap, arith, at_rest}
+use Rattle.mk_laws.proofs.Vocabulary.{cases_eq, cases_lt, cells_under, claims_of, claims_on, claims_placed, false}
+use Rattle.mk_laws.proofs.Vocabulary.{false≢true, flight_of, get_or_past, ground_of, head_on, head_page}
+use Rattle.mk_laws.proofs.Vocabulary.{head_page_under, header_made, header_of, header_on, heads_run, inl, inr, is_large}
+use Rattle.mk_laws.proofs.Vocabulary.{is_mapped, is_phase, is_small_object, is_undecided_new, is_unmapping, kinds_of}
+use Rattle.mk_laws.proofs.Vocabulary.{large_is_not_small, left, lt-ltb, made_shows, mode_of, ne_eqb, not, not-true}
+use Rattle.mk_laws.proofs.Vocabulary.{object_made, object_now, object_placed, pages_made, pages_some, part_head}
+use Rattle.mk_laws.proofs.Vocabulary.{phase_of, place_claim, placed_at, placed_now, plot_of, refl, run_count}
+use Rattle.mk_laws.proofs.Vocabulary.{seat_exists, shows_on, slice_index, small_pages, subst, sym, true, true≢false}
+use Rattle.mk_laws.proofs.Vocabulary.{used_on, ℕ, ◌&&◌, ◌*◌, ◌+◌, ◌-◌, ◌/◌, ◌<◌, ◌==◌, ◌∙◌, ◌≡◌, ◌≢◌, ◌≤◌, ◌⊎◌}
+use Rattle.mk_laws.proofs.Basics.{Known, KnownWorld, Laid, all_stand, claimed, first_header, holding_object}
+use Rattle.mk_laws.proofs.Basics.{known_world, made_sized, mapped_stays, new_has_turn, placed_claim, zero_where_none}
 use Rattle.mk_laws.proofs.Fits.{fits}
-use Rattle.mk_laws.proofs.LayoutHolders.{new_has_turn, holding_object, made_sized, first_header}
 use Rattle.mk_laws.proofs.OnClaims.{find_bit}
 use Rattle.mk_laws.proofs.QuarantineByKind.{shown_at}
-use Rattle.mk_laws.proofs.LayoutReadings.{zero_where_none, header_of_mode, claimed, claimed_head}
-use Rattle.mk_laws.proofs.Released.{all_stand}
-use Rattle.mk_laws.proofs.Serving.{Laid, placed_claim}
-use Rattle.mk_laws.specs.Guard.{IsMarking}
-use Rattle.mk_laws.specs.Kept.{GuardPremises, PlaceIsBare, RunHasObject, LaterPagesAreKnown, StandsMapped}
-use Rattle.mk_laws.proofs.KnownWorlds.{KnownWorld, known_world}
-use Rattle.mk_laws.specs.Zeros.{HasZeros}
+use Rattle.mk_laws.proofs.LayoutReadings.{header_of_mode, claimed_head}
+use Rattle.mk_laws.specs.Kept.{PlaceIsBare, RunHasObject, LaterPagesAreKnown, StandsMapped}
 use Rattle.mk_laws.specs.ZerosTell.{ZerosTellTheGuard}
-use Rattle.mk_laws.proofs.MappedWords.{mapped_stays}
 use Rattle.mk_laws.proofs.BarePages.{Unreleasing, shown_there, bare_page, plot_page}
 
 -- The pages of a run after its head

@@ -1,16 +1,11 @@
 -- What the zero words tell the images, and the images them.
-use Rattle.std.proofs.Common.{◌≡◌, ℕ, true, refl, inl, inr}
-use Rattle.std.proofs.lemmas.Bool.{false≢true}
-use Rattle.mk_laws.proofs.Vocabulary.{AreAdmitted, Caller, Config, Host, IsEnabled, Marker, NeverState, Seat, Step}
-use Rattle.mk_laws.proofs.Vocabulary.{World, asked, call_decided, flight_of, word_met}
+use Rattle.mk_laws.proofs.Vocabulary.{AreAdmitted, Caller, Config, Host, ImagesSay, IsEnabled, IsWordOfMapped, Marker}
+use Rattle.mk_laws.proofs.Vocabulary.{MayHold, MayHoldWords, NeverState, OfFreedRun, OfMapped, OfReleased, Seat, Step}
+use Rattle.mk_laws.proofs.Vocabulary.{World, asked, call_decided, enabled_meets, false≢true, flight_of, inl, inr}
+use Rattle.mk_laws.proofs.Vocabulary.{is_heap_store, refl, true, word_met, zero_scene_of, ℕ, ◌≡◌}
 use Rattle.mk_core.specs.declared.events.Step.TheVariants as step
-use Rattle.mk_core.proofs.Conditions.{enabled_meets}
-use Rattle.mk_laws.specs.ImagePremises.{MayHoldWords}
 use Rattle.mk_laws.specs.ImagePremises as images
-use Rattle.mk_laws.specs.ImagesSay.{ImagesSay}
 use Rattle.mk_laws.specs.ImagesSay as said
-use Rattle.mk_laws.specs.Zeros.{zero_scene_of, IsWordOfMapped, MayHold, OfMapped, OfReleased, OfFreedRun}
-use Rattle.mk_laws.specs.ZeroLaws.{is_heap_store}
 use Rattle.mk_laws.specs.ZerosTell.{ZerosTellTheImages, ImagesTellTheZeros}
 
 pub zeros_tell_the_images : ZerosTellTheImages

@@ -1,13 +1,10 @@
 -- Tests that still hold where their parts do.
-use Rattle.std.proofs.Common.{Bool, List, ◌∷◌, ap, arith, false, inl, inr, refl, suc, sym, true, zero, ℕ, ◌<◌, ◌∙◌, ◌≡◌}
-use Rattle.std.proofs.Common.{[]}
-use Rattle.std.specs.Prelude.{None, Option, Some, if◌then◌else◌, not, slice_index_or, ◌&&◌, ◌||◌, ◌==◌}
-use Rattle.std.proofs.lemmas.Bool.{and_from, and_parts, cases_Bool, eq-eqb, eqb-true, true≢false}
-use Rattle.mk_core.specs.declared.seats.Marker.{Marker}
-use Rattle.mk_laws.proofs.Vocabulary.{all_below, has_bit, is_attending, is_some_and, none_attends, outside, without}
-use Rattle.mk_core.proofs.AllBelow.{all_below-at}
-use Rattle.mk_core.proofs.BitsWithout.{has_bit_without}
-use Rattle.mk_core.proofs.WordBits.{no_bit, zero_from_bits}
+use Rattle.mk_laws.proofs.Vocabulary.{Bool, List, MarkerState as Marker, None, Option, Some, [], all_below}
+use Rattle.mk_laws.proofs.Vocabulary.{all_below-at, and_from, and_parts, ap, arith, cases_Bool, eq-eqb, eqb-true, false}
+use Rattle.mk_laws.proofs.Vocabulary.{has_bit, has_bit_without, if◌then◌else◌, inl, inr, is_attending, is_some_and}
+use Rattle.mk_laws.proofs.Vocabulary.{no_bit, none_attends, not, outside, refl, slice_index_or, suc, sym, true}
+use Rattle.mk_laws.proofs.Vocabulary.{true≢false, without, zero, ℕ, ◌&&◌, ◌<◌, ◌==◌, ◌||◌, ◌∙◌, ◌∷◌, ◌≡◌}
+use Rattle.mk_core.proofs.WordBits.{zero_from_bits}
 
 pub or_on : (a b x y : Bool) → (a ≡ true → x ≡ true) → (b ≡ true → y ≡ true) → (a || b) ≡ true → (x || y) ≡ true
 or_on true b x y f g h = ap (λ t. t || y) (f refl)

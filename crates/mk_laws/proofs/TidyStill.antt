@@ -1,7 +1,7 @@
 -- A `give` that keeps a tidy list tidy does so after what others did since: they leave the tallies, and what these
 -- count.
-use Rattle.std.proofs.Common.{List, ap, refl, subst, sym, ◌++◌, ◌∙◌, ◌∷◌, ◌≡◌, []}
-use Rattle.mk_laws.proofs.Vocabulary.{Config, Event, IsTidy, Steady, TalliesAreTidy, TurnIsLeft, in_a_word, left}
+use Rattle.mk_laws.proofs.Vocabulary.{Config, Event, IsTidy, List, Steady, TalliesAreTidy, TurnIsLeft, [], ap}
+use Rattle.mk_laws.proofs.Vocabulary.{in_a_word, left, refl, sym, ◌++◌, ◌∙◌, ◌∷◌, ◌≡◌}
 use Rattle.mk_core.specs.declared.events.Step.TheVariants as step
 use Rattle.mk_core.specs.Counts.{releases}
 use Rattle.mk_core.specs.Frames.{CountsAreLeft}

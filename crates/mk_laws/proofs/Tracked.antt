@@ -1,29 +1,19 @@
 -- What is said of a turn while its New is undecided, after every history.
-use Rattle.std.proofs.Common.{◌≡◌, ℕ, ◌<◌, true, false, List, ◌∷◌, ◌++◌, refl, sym, ◌∙◌, ap, subst, arith, []}
-use Rattle.std.specs.Prelude.{None, Option, Some, ◌&&◌, ◌==◌}
-use Rattle.std.proofs.lemmas.Bool.{and_parts, eqb-true, false_from_ne_true, true≢false}
-use Rattle.std.proofs.lemmas.List.{get_or-set_same}
-use Rattle.mk_laws.proofs.Vocabulary.{Caller, Config, Event, Flight, Holding, IsHistory, Object, Place, Placing}
-use Rattle.mk_laws.proofs.Vocabulary.{RunPages, Seat, Step, TurnOf, Unplaced, World, at_rest, first_world}
-use Rattle.mk_laws.proofs.Vocabulary.{flight_of, is_phase, is_undecided_new, left, left_from, object_made, phase_of}
-use Rattle.mk_laws.proofs.Vocabulary.{place_on_pages, world_behind}
+use Rattle.mk_laws.proofs.Vocabulary.{Caller, Config, Event, Flight, Holding, IsHistory, IsSettled, List, None, Object}
+use Rattle.mk_laws.proofs.Vocabulary.{OfHistories, Option, Place, Placing, RunPages, Seat, Some, Step, TurnOf, Unplaced}
+use Rattle.mk_laws.proofs.Vocabulary.{World, [], and_parts, ap, arith, at_rest, eqb-true, false, false_from_ne_true}
+use Rattle.mk_laws.proofs.Vocabulary.{first_world, flight_of, get_or-set_same, has_place, is_phase, is_undecided_new}
+use Rattle.mk_laws.proofs.Vocabulary.{left, left_from, left_more, object_made, phase_of, place_on_pages, refl, subst}
+use Rattle.mk_laws.proofs.Vocabulary.{sym, true, true≢false, undecided_new, world_behind, ℕ, ◌&&◌, ◌++◌, ◌<◌, ◌==◌, ◌∙◌}
+use Rattle.mk_laws.proofs.Vocabulary.{◌∷◌, ◌≡◌}
+use Rattle.mk_laws.proofs.Basics.{KeptByEvents, Known, Meets, WorldBehind, at_first, before_it, held_place}
+use Rattle.mk_laws.proofs.Basics.{holds_of_histories, known_left, none_on_its_way}
 use Rattle.mk_core.specs.declared.events.Step.TheVariants as step
 use Rattle.mk_core.specs.Allocations.{place_among_allocations}
 use Rattle.mk_core.specs.Cycles.{is_give}
 use Rattle.mk_core.specs.Placement.{FirstServed, NoneServesFrom, before_served, event_serves, place_after}
-use Rattle.mk_core.proofs.Histories.{left_more}
-use Rattle.mk_core.proofs.PlacesNow.{undecided_new}
-use Rattle.mk_laws.specs.Protocol.{has_place}
-use Rattle.mk_laws.proofs.Actors.{Meets}
-use Rattle.mk_laws.proofs.Known.{Known, known_left}
-use Rattle.mk_laws.proofs.NewPlace.{held_place}
-use Rattle.mk_laws.proofs.OrderlyLists.{at_first}
-use Rattle.mk_laws.proofs.OthersMoves.{WorldBehind}
-use Rattle.mk_laws.specs.SettledPages.{IsSettled, is_freed_unmapped}
-use Rattle.mk_laws.proofs.LayoutHolders.{none_on_its_way}
-use Rattle.mk_laws.specs.Theorems.{OfHistories}
+use Rattle.mk_laws.specs.SettledPages.{is_freed_unmapped}
 use Rattle.mk_laws.proofs.InvariantTheorems.{first_fit_finds_the_place}
-use Rattle.mk_laws.proofs.Induction.{KeptByEvents, before_it, holds_of_histories}
 use Rattle.mk_laws.proofs.Longer.{gives_turn, left_in_turn, longer_first, longer_turn, none_serves_more, taken}
 use Rattle.mk_laws.proofs.OwnCycles.{HasCycle, cycle_more, cycle_step}
 use Rattle.mk_laws.proofs.Placings.{Fixes, GoesOn, PlacingStep, Stays, places_at}

@@ -1,20 +1,16 @@
 -- What an event of another seat leaves to the turn's holder.
-use Rattle.std.proofs.Common.{◌≡◌, ◌≢◌, ℕ, ◌+◌, ◌-◌, ◌*◌, ◌%◌, ◌^◌, ◌<◌, ◌≤◌, true, false, List, length, refl, sym, ◌∙◌}
-use Rattle.std.proofs.Common.{ap, inl, inr, arith}
-use Rattle.std.specs.Prelude.{slice_index, slice_set}
-use Rattle.std.proofs.lemmas.Bool.{cases_eq, cases_lt, cases_Bool}
-use Rattle.std.proofs.lemmas.List.{get_or-set_same, get_or-set_other, set_past}
-use Rattle.mk_laws.proofs.Vocabulary.{Caller, Config, Flight, MarkerState, Moment, OnlyGrow, Seat, Steady}
-use Rattle.mk_laws.proofs.Vocabulary.{TurnIsLeft, Words, World, at_rest, flight_of, is_attending, marker_of}
-use Rattle.mk_laws.proofs.Vocabulary.{phase_of, register_word}
+use Rattle.mk_laws.proofs.Vocabulary.{Caller, Config, Flight, List, MarkerState, Moment, OnlyGrow, Seat, Steady}
+use Rattle.mk_laws.proofs.Vocabulary.{TurnIsLeft, Words, World, ap, arith, at_rest, cases_Bool, cases_eq, cases_lt}
+use Rattle.mk_laws.proofs.Vocabulary.{false, flight_of, get_or-set_other, get_or-set_same, inl, inr, is_attending}
+use Rattle.mk_laws.proofs.Vocabulary.{length, marker_of, phase_of, refl, register_word, set_past, slice_index}
+use Rattle.mk_laws.proofs.Vocabulary.{slice_set, sym, true, ℕ, ◌%◌, ◌*◌, ◌+◌, ◌-◌, ◌<◌, ◌^◌, ◌∙◌, ◌≡◌, ◌≢◌, ◌≤◌}
+use Rattle.mk_laws.proofs.Basics.{Known, marker_set}
 use Rattle.mk_core.specs.Readings.{NoneAttends}
 use Rattle.mk_core.specs.Frames.{steady_of}
-use Rattle.mk_laws.proofs.ProtocolMarkers.{marker_set}
 use Rattle.mk_laws.proofs.Growth.{grows_same, grows_joined, grows_more}
-use Rattle.mk_laws.proofs.Known.{Known}
 use Rattle.mk_laws.proofs.OthersMoves.{with_words_seats, CallWrite, CallLoads, SetsGate, SetsRegister, SetsDirty}
-use Rattle.mk_laws.proofs.OthersMoves.{MarkerWrite, MarkerLoads, ComesIn, GoesOut, AddsMarks, AddsBlacks}
-use Rattle.mk_laws.proofs.OthersMoves.{OthersMove, Waits, Calls, Marks}
+use Rattle.mk_laws.proofs.OthersMoves.{MarkerWrite, MarkerLoads, ComesIn, GoesOut, AddsMarks, AddsBlacks, OthersMove}
+use Rattle.mk_laws.proofs.OthersMoves.{Waits, Calls, Marks}
 
 -- the phase
 up : (p : ℕ) → ((p + 8) % 2 ^ 64) % 8 ≡ p % 8

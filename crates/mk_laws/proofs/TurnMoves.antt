@@ -1,15 +1,17 @@
 -- Each step that the turn's holder takes leads to what the images allow.
-use Rattle.std.proofs.Common.{◌≡◌, ◌≢◌, ℕ, ◌+◌, ◌*◌, ◌%◌, ◌^◌, ◌<◌, Bool, true, false, List, [], ◌∷◌, ◌++◌, length, map}
-use Rattle.std.proofs.Common.{refl, sym, ap, subst, ◌∙◌, arith}
-use Rattle.std.specs.Prelude.{slice_set, ◌==◌, Option, Some, None}
-use Rattle.std.proofs.lemmas.Bool.{and_parts, false≢true}
-use Rattle.mk_laws.proofs.Vocabulary.{Caller, Cell, Config, Flight, Kind, NeverState, Op, PlacedAllocation, Placing}
-use Rattle.mk_laws.proofs.Vocabulary.{Ptr, Stage, Used, Word, Words, World, address_of, answer_of, base_made}
-use Rattle.mk_laws.proofs.Vocabulary.{bases_of, cell_freed, comes_next, d_of, decided, flight_of}
-use Rattle.mk_laws.proofs.Vocabulary.{freed_where_it_stands, granted_base, has_operands, is_freed, is_run_cell}
-use Rattle.mk_laws.proofs.Vocabulary.{is_undecided_free, is_undecided_new, is_used_once, kinds_of, object_made}
-use Rattle.mk_laws.proofs.Vocabulary.{phase_of, pointed_cell, progress_freed, register_at, sees_double, still}
-use Rattle.mk_laws.proofs.Vocabulary.{target, with_new, with_register}
+use Rattle.mk_laws.proofs.Vocabulary.{Bool, Caller, CarriesOwn, Cell, Config, Flight, ImagePremises, IsPlaceOfNone}
+use Rattle.mk_laws.proofs.Vocabulary.{Kind, List, Mirrors, NeverState, None, Op, Option, PlacedAllocation, Placing, Ptr}
+use Rattle.mk_laws.proofs.Vocabulary.{Some, Stage, Used, Word, Words, World, [], address_of, and_parts, answer_of, ap}
+use Rattle.mk_laws.proofs.Vocabulary.{arith, base_made, bases_of, cell_freed, comes_next, d_of, decided, false}
+use Rattle.mk_laws.proofs.Vocabulary.{false≢true, flight_among, flight_of, freed_cell, freed_where_it_stands}
+use Rattle.mk_laws.proofs.Vocabulary.{granted_base, granted_type, has_operands, image_scene_of, is_freed, is_past_probe}
+use Rattle.mk_laws.proofs.Vocabulary.{is_put, is_run_cell, is_undecided_free, is_undecided_new, is_used_once, kinds_of}
+use Rattle.mk_laws.proofs.Vocabulary.{length, map, none_freed, object_made, phase_of, pointed_cell, progress_freed}
+use Rattle.mk_laws.proofs.Vocabulary.{refl, register_at, sees_double, slice_set, still, storage_holds, subst, sym}
+use Rattle.mk_laws.proofs.Vocabulary.{target, true, with_new, with_register, ℕ, ◌%◌, ◌*◌, ◌++◌, ◌+◌, ◌<◌, ◌==◌, ◌^◌}
+use Rattle.mk_laws.proofs.Vocabulary.{◌∙◌, ◌∷◌, ◌≡◌, ◌≢◌}
+use Rattle.mk_laws.proofs.Basics.{Grants, HoldsTurn, KnownWorld, Leads, Move, Ready, Stands, either_leads, flight}
+use Rattle.mk_laws.proofs.Basics.{goes_bare, operands_of, view_of}
 use Rattle.mk_never.specs.declared.operations.Op.TheVariants as op
 use Rattle.mk_core.specs.declared.events.Answer.TheVariants as answer
 use Rattle.mk_core.specs.declared.events.Word.TheVariants as word
@@ -17,24 +19,11 @@ use Rattle.mk_core.specs.declared.events.Step.TheVariants as step
 use Rattle.mk_core.specs.declared.seats.Stage.TheVariants as stage
 use Rattle.mk_core.specs.Allocations.{type_made}
 use Rattle.mk_core.specs.Effects.{progress_look}
-use Rattle.mk_core.proofs.PlacesNow.{target_is, freed_cell}
-use Rattle.mk_core.proofs.ChangedAllocations.{none_freed}
-use Rattle.mk_core.proofs.StandingAllocations.{storage_holds}
-use Rattle.mk_core.proofs.GrantedAllocations.{granted_type}
+use Rattle.mk_core.proofs.PlacesNow.{target_is}
 use Rattle.mk_laws.proofs.ImagesFreeing.{new_frees_none}
-use Rattle.mk_laws.proofs.Views.{view_of, HoldsTurn}
-use Rattle.mk_laws.proofs.Operands.{operands_of}
-use Rattle.mk_laws.specs.ImagePremises.{IsPlaceOfNone, ImagePremises}
 use Rattle.mk_laws.proofs.ImagesKept.{fresh_one}
 use Rattle.mk_laws.proofs.GrantMoves.{fills_cell, place_is_zero}
-use Rattle.mk_laws.specs.Images.{image_scene_of, flight_among, is_put, is_past_probe, CarriesOwn}
-use Rattle.mk_laws.proofs.KnownWorlds.{KnownWorld}
-use Rattle.mk_laws.specs.Mirrors.{Mirrors}
-use Rattle.mk_laws.proofs.ImagesStands.{Stands}
-use Rattle.mk_laws.proofs.ImagesMoves.{Move, Grants}
-use Rattle.mk_laws.proofs.Ready.{Ready, Leads, either_leads, one_right}
-use Rattle.mk_laws.proofs.Refusals.{goes_bare}
-use Rattle.mk_laws.proofs.RegMoves.{flight}
+use Rattle.mk_laws.proofs.Ready.{one_right}
 use Rattle.mk_laws.proofs.FreeMoves.{free_by, double_by}
 use Rattle.mk_laws.proofs.CallSorts.{stays, own_registers, own_words, there_is}
 
@@ -99,8 +88,7 @@ module _ (c : Config) (w : World) (n : NeverState) (known : KnownWorld c w) (mir
             in omega arith))),
         λ more. refl,
       )
-  grant_by stage.Turn (op.New d ty full) q p r l _ is next used placed hold phase operands = absurd (false≢true used)
-  grant_by _ _ q p r l _ is next used placed hold phase operands = absurd (false≢true next)
+  grant_by _ _ q p r l _ is next used placed hold phase operands = cc
 
   pub full_by : (s : Stage) (o : Op) (q p r l : ℕ) → flight_among w.now.seats.flights k ≡ flight s o q p r l
       → comes_next s o step.Full ≡ true

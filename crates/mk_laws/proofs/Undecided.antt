@@ -1,22 +1,15 @@
 -- Where an undecided New comes from: its call was so before the event, or the event is its `take`.
-use Rattle.std.proofs.Common.{◌≡◌, ◌⊎◌, ℕ, ◌+◌, ◌<◌, Bool, true, List, length, refl, sym, ◌∙◌, ap, subst, arith, inl}
-use Rattle.std.proofs.Common.{inr}
-use Rattle.std.specs.Prelude.{Option, Some, None, if◌then◌else◌, slice_index_or, slice_set}
-use Rattle.std.proofs.lemmas.Bool.{cases_eq, cases_lt, eq-eqb}
-use Rattle.std.proofs.lemmas.List.{get_or-set_other, get_or-set_same, set_past}
-use Rattle.mk_laws.proofs.Vocabulary.{Caller, Config, Flight, Object, Op, Seat, Step, World, at_rest, flight_of}
-use Rattle.mk_laws.proofs.Vocabulary.{is_undecided_new, nothing_done, object_made}
+use Rattle.mk_laws.proofs.Vocabulary.{Bool, Caller, Config, Flight, List, None, Object, Op, Option, Seat, Some, Step}
+use Rattle.mk_laws.proofs.Vocabulary.{World, ap, arith, at_rest, cases_eq, cases_lt, eq-eqb, flight_of}
+use Rattle.mk_laws.proofs.Vocabulary.{get_or-set_other, get_or-set_same, if◌then◌else◌, inl, inr, is_undecided_new}
+use Rattle.mk_laws.proofs.Vocabulary.{length, nothing_done, object_made, refl, set_past, slice_index_or, slice_set}
+use Rattle.mk_laws.proofs.Vocabulary.{subst, sym, true, ℕ, ◌+◌, ◌<◌, ◌∙◌, ◌≡◌, ◌⊎◌}
+use Rattle.mk_laws.proofs.Basics.{HoldsTurn, Known, Meets, View, WorldBehind, at_no_take, flight_in, reg_leaves}
+use Rattle.mk_laws.proofs.Basics.{tally_keeps, view_of}
 use Rattle.mk_core.specs.declared.events.Step.TheVariants as step
-use Rattle.mk_laws.proofs.Actors.{Meets}
-use Rattle.mk_laws.proofs.Known.{Known}
 use Rattle.mk_laws.proofs.ProtocolMoves.{Move, Enters, GoesOn, Gives, Leaves, Stays, Takes, Works}
-use Rattle.mk_laws.proofs.NextSteps.{at_no_take}
 use Rattle.mk_laws.proofs.OrderlyLists.{event_moves}
-use Rattle.mk_laws.proofs.OthersMoves.{WorldBehind}
-use Rattle.mk_laws.proofs.SameWords.{tally_keeps}
 use Rattle.mk_laws.proofs.Stages.{new_stands}
-use Rattle.mk_laws.proofs.Views.{HoldsTurn, View, flight_in, view_of}
-use Rattle.mk_laws.proofs.LayoutBefore.{reg_leaves}
 use Rattle.mk_laws.proofs.NewPlace.{call_no_new, service_new}
 
 -- The caller has an undecided New,

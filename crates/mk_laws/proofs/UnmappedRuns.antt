@@ -1,35 +1,19 @@
 -- The pages of a freed large allocation aren't resident, until they get other headers.
-use Rattle.std.proofs.Common.{◌≡◌, ℕ, ◌+◌, ◌-◌, ◌*◌, ◌/◌, ◌<◌, Bool, true, false, List, ◌∷◌, length, refl, sym, ◌∙◌, ap}
-use Rattle.std.proofs.Common.{[]}
-use Rattle.std.proofs.Common.{subst, inl, inr, arith}
-use Rattle.std.specs.Prelude.{◌&&◌, ◌==◌, not, Option, Some, None}
-use Rattle.std.specs.List.{list_any}
-use Rattle.std.proofs.lemmas.Bool.{and_from, and_parts, cases_Bool, cases_eq, cases_lt, eq-eqb, eqb-true}
-use Rattle.std.proofs.lemmas.Bool.{false_from_ne_true, ne_eqb, not-true, or_parts, true≢false}
-use Rattle.std.proofs.lemmas.List.{set_past}
-use Rattle.mk_laws.proofs.Vocabulary.{Config, Event, IsHistory, Moment, NeverState, Object, Page, PlacedAllocation}
-use Rattle.mk_laws.proofs.Vocabulary.{RunPages, Seat, Step, World, first_world, header_at, header_of, is_phase}
-use Rattle.mk_laws.proofs.Vocabulary.{is_resident_page, is_small_object, is_unmapped_header, left, left_from}
-use Rattle.mk_laws.proofs.Vocabulary.{never_behind, object_placed, pages_made, placed_at, storage_words}
-use Rattle.mk_laws.proofs.Vocabulary.{unmapped_header, use_under, world_behind}
+use Rattle.mk_laws.proofs.Vocabulary.{Bool, Config, Event, HasHeader, Invariant, IsHistory, IsShown, List, Moment}
+use Rattle.mk_laws.proofs.Vocabulary.{NeverState, None, Object, OfHistories, Option, Page, PlacedAllocation, RunPages}
+use Rattle.mk_laws.proofs.Vocabulary.{Seat, Some, Step, World, [], and_from, and_parts, ap, arith, cases_Bool, cases_eq}
+use Rattle.mk_laws.proofs.Vocabulary.{cases_lt, claim_of, earlier_part_is_history, eq-eqb, eqb-true, false}
+use Rattle.mk_laws.proofs.Vocabulary.{false_from_ne_true, first_world, ground_of, header_at, header_of, inl, inr}
+use Rattle.mk_laws.proofs.Vocabulary.{is_phase, is_resident_page, is_small_object, is_unmapped_header, is_unmapping}
+use Rattle.mk_laws.proofs.Vocabulary.{large_count, large_words, left, left_append, left_from, length, list_any, mode_of}
+use Rattle.mk_laws.proofs.Vocabulary.{ne_eqb, never_behind, not, not-true, object_now, object_placed, or_parts}
+use Rattle.mk_laws.proofs.Vocabulary.{pages_made, placed_at, refl, run_begins, set_past, storage_words, subst, sym}
+use Rattle.mk_laws.proofs.Vocabulary.{true, true≢false, unmapped_header, unmapped_is_unmapped, use_under, used_on}
+use Rattle.mk_laws.proofs.Vocabulary.{world_behind, ℕ, ◌&&◌, ◌*◌, ◌+◌, ◌-◌, ◌/◌, ◌<◌, ◌==◌, ◌∙◌, ◌∷◌, ◌≡◌}
+use Rattle.mk_laws.proofs.Basics.{Behind, KnownWorld, Laid, Table, claim_among, gone_terrain, known_world, own_claim}
+use Rattle.mk_laws.proofs.Basics.{reg_table, tally_table}
 use Rattle.mk_core.specs.declared.events.Step.TheVariants as step
-use Rattle.mk_core.proofs.Histories.{left_append}
-use Rattle.mk_core.proofs.HistoryParts.{earlier_part_is_history}
-use Rattle.mk_core.proofs.ObjectHeaders.{unmapped_is_unmapped}
-use Rattle.mk_core.proofs.Sizes.{large_count, large_words}
-use Rattle.mk_core.proofs.StandingAllocations.{run_begins}
-use Rattle.mk_laws.specs.Ground.{ground_of}
-use Rattle.mk_laws.proofs.SameWords.{Behind}
-use Rattle.mk_laws.proofs.Changes.{Table, reg_table, tally_table}
-use Rattle.mk_laws.specs.LayoutScene.{HasHeader, IsShown, used_on}
-use Rattle.mk_laws.specs.Terrain.{claim_of, is_unmapping, mode_of, object_now}
-use Rattle.mk_laws.proofs.Claims.{claim_among}
-use Rattle.mk_laws.proofs.Freed.{gone_terrain}
 use Rattle.mk_laws.proofs.ResidentPages.{is_resident, resident_gone, resident_other, resident_used, unmapped_use}
-use Rattle.mk_laws.proofs.Serving.{Laid, own_claim}
-use Rattle.mk_laws.proofs.KnownWorlds.{KnownWorld, known_world}
-use Rattle.mk_laws.specs.Invariant.{Invariant}
-use Rattle.mk_laws.specs.Theorems.{OfHistories}
 use Rattle.mk_laws.proofs.ForImages.{gone_is, shown_claim, standing}
 use Rattle.mk_laws.proofs.InvariantHistories.{histories_keep_the_invariant}
 use Rattle.mk_laws.specs.UnmappedRuns.{IsOfUnmappedRun, UnmappedRunsTakeNoMemory, gives_header, is_resident_in}
@@ -83,8 +67,7 @@ stays_along c w (e ∷ es) p none out =
 unmapped_mode : (x going : Bool) (o : Object) (d h : ℕ) → x ≡ true → going ≡ false → HasHeader (mode_of x going) o d h
     → h ≡ unmapped_header (pages_made o) d
 unmapped_mode true false o d h is out has = has.1
-unmapped_mode true true o d h is out has = cc
-unmapped_mode false going o d h is out has = cc
+unmapped_mode _ _ o d h is out has = cc
 
 not_false : (b : Bool) → not b ≡ false → b ≡ true
 not_false true h = refl
@@ -96,20 +79,19 @@ module _ (c : Config) (w : World) (n : NeverState) (known : KnownWorld c w) (all
   a = placed_at w.allocations x.number
 
   abbrev o : Object
-  o = object_placed c (placed_at w.allocations x.number)
+  o = object_placed c a
 
-  gone : ((placed_at w.allocations x.number).freed && not (is_small_object (object_placed c
-      (placed_at w.allocations x.number)))) ≡ true
+  gone : (a.freed && not (is_small_object o)) ≡ true
   gone = not_false (a.freed && not (is_small_object o)) (sym (gone_is c a x.unreleased) ∙ x.freed)
 
-  large : is_small_object (object_placed c (placed_at w.allocations x.number)) ≡ false
+  large : is_small_object o ≡ false
   large = not-true (is_small_object o) (and_parts a.freed (not (is_small_object o)) gone).1
 
   -- how far the page is after the first one
   record OnRun : Type 0 where
     distance : ℕ
-    near : distance < pages_made (object_placed c (placed_at w.allocations x.number))
-    there : (placed_at w.allocations x.number).base / 64 + distance ≡ p
+    near : distance < pages_made o
+    there : a.base / 64 + distance ≡ p
 
   on_run : OnRun
   on_run =
@@ -119,12 +101,12 @@ module _ (c : Config) (w : World) (n : NeverState) (known : KnownWorld c w) (all
       let page = x.page in
       record { distance = p - a.base / 64; near = omega arith; there = omega arith }
 
-  sized_shown : IsShown w.now.words.pages (claim_of c w.now.seats.holding.freed (placed_at w.allocations x.number))
+  sized_shown : IsShown w.now.words.pages (claim_of c w.now.seats.holding.freed a)
   sized_shown = shown_claim c w known all.order.laid x.number x.unreleased
 
   -- by the call under way, or by an earlier one
   header_there : header_at w.now.words p
-      ≡ unmapped_header (pages_made (object_placed c (placed_at w.allocations x.number))) on_run.distance
+      ≡ unmapped_header (pages_made o) on_run.distance
   header_there = elim (cases_Bool (is_unmapping w.now.seats.holding.freed (a.base / 64))) [
     | inr other ↦ by w.now.seats.holding.freed other (sized_shown.headers on_run.distance on_run.near)
     | inl going ↦
@@ -138,17 +120,17 @@ module _ (c : Config) (w : World) (n : NeverState) (known : KnownWorld c w) (all
   ]
     where
       page_of_run : (freed : Option RunPages) (run : RunPages) → freed ≡ Some run
-          → is_unmapping freed ((placed_at w.allocations x.number).base / 64) ≡ true
-          → run.page ≡ (placed_at w.allocations x.number).base / 64
+          → is_unmapping freed (a.base / 64) ≡ true
+          → run.page ≡ a.base / 64
       page_of_run freed run is going =
           eqb-true run.page (a.base / 64) (ap (λ (y : Option RunPages). is_unmapping y (a.base / 64)) (sym is) ∙ going)
 
-      by : (freed : Option RunPages) → is_unmapping freed ((placed_at w.allocations x.number).base / 64) ≡ false
-          → HasHeader (claim_of c freed (placed_at w.allocations x.number)).mode
-          (object_placed c (placed_at w.allocations x.number)) on_run.distance
-          (header_at w.now.words ((placed_at w.allocations x.number).base / 64 + on_run.distance))
+      by : (freed : Option RunPages) → is_unmapping freed (a.base / 64) ≡ false
+          → HasHeader (claim_of c freed a).mode
+          o on_run.distance
+          (header_at w.now.words (a.base / 64 + on_run.distance))
           → header_at w.now.words p
-          ≡ unmapped_header (pages_made (object_placed c (placed_at w.allocations x.number))) on_run.distance
+          ≡ unmapped_header (pages_made o) on_run.distance
       by freed other has =
           ap (λ q. header_at w.now.words q) (sym on_run.there)
           ∙ unmapped_mode (a.freed && not (is_small_object o)) _ o on_run.distance _ gone other has

@@ -1,16 +1,12 @@
 -- The steps that unmap a run: it is freed, its pages get their headers, and the call that freed it ends.
-use Rattle.std.proofs.Common.{Bool, List, ap, arith, false, inl, inr, length, length-set, sym, true, ℕ, ◌+◌, ◌-◌, ◌<◌}
-use Rattle.std.proofs.Common.{◌∙◌, ◌≡◌, ◌≢◌, ◌⊎◌}
-use Rattle.std.specs.Prelude.{Some}
-use Rattle.std.proofs.lemmas.Bool.{cases_eq}
-use Rattle.mk_laws.proofs.Vocabulary.{Later, Object, ShowsPart, cells_made, cells_under, header_made, header_of}
-use Rattle.mk_laws.proofs.Vocabulary.{is_small_object, pages_made, stands, unmapped_header}
-use Rattle.mk_core.proofs.ObjectHeaders.{later_part, made_shows, part_cells, part_head, same_cells, shown_later}
-use Rattle.mk_core.proofs.ObjectHeaders.{unmapped_shows}
-use Rattle.mk_core.proofs.Sizes.{large_cells, pages_some}
-use Rattle.mk_laws.specs.LayoutScene.{Among, AreApart, Claim, HasHeader, HasItsHead, IsClaimed, IsLaidOn, IsOfOneCell}
-use Rattle.mk_laws.specs.LayoutScene.{IsPlotShown, IsShown, Mode, NoPlot, Plot, PlotStands, Plotted, LayoutScene}
-use Rattle.mk_laws.specs.LayoutScene.{Unmapping, head_on, header_on, is_released_on, run_count, shows_on, used_on}
+use Rattle.mk_laws.proofs.Vocabulary.{Among, AreApart, Bool, Claim, HasHeader, HasItsHead, IsClaimed, IsLaidOn}
+use Rattle.mk_laws.proofs.Vocabulary.{IsOfOneCell, IsPlotShown, IsShown, Later, LayoutScene, List, Mode, NoPlot, Object}
+use Rattle.mk_laws.proofs.Vocabulary.{Page, Plot, PlotStands, Plotted, ShowsPart, Some, Unmapping, ap, arith, cases_eq}
+use Rattle.mk_laws.proofs.Vocabulary.{cells_made, cells_under, false, head_on, header_made, header_of, header_on, inl}
+use Rattle.mk_laws.proofs.Vocabulary.{inr, is_released_on, is_small_object, large_cells, length, length-set, made_shows}
+use Rattle.mk_laws.proofs.Vocabulary.{pages_made, pages_some, part_cells, part_head, run_count, shown_later, shows_on}
+use Rattle.mk_laws.proofs.Vocabulary.{stands, sym, true, unmapped_header, used_on, ℕ, ◌+◌, ◌-◌, ◌<◌, ◌∙◌, ◌≡◌, ◌≢◌, ◌⊎◌}
+use Rattle.mk_core.proofs.ObjectHeaders.{later_part, same_cells, unmapped_shows}
 use Rattle.mk_laws.proofs.PageSets.{headed_here, headed_other, headed_used, with_header_on}
 use Rattle.mk_laws.proofs.LayoutReadings.{claimed, claimed_head, claimed_some, none_set, one_claim}
 use Rattle.mk_laws.proofs.Releasing.{head_of_other, shown_beside}
@@ -62,175 +58,179 @@ apart_of_plot s x d first e o laid ix ld plot le at =
 abbrev pub PageUnmapped : LayoutScene → Claim → ℕ → LayoutScene
 PageUnmapped s x d = record s { pages = with_header_on s.pages (x.page + d) (unmapped_header (pages_made x.object) d) }
 
-pub layout_page_unmapped : (s : LayoutScene) (x : Claim) (d : ℕ) → IsLaidOn s → Among x s.claims → x.mode ≡ Unmapping
-    → is_small_object x.object ≡ false → d < pages_made x.object → IsLaidOn (PageUnmapped s x d)
-layout_page_unmapped s x d laid ix mode large ld =
-    record {
-      shown = λ y iy. elim (same_or_not y x) [
-        | inl same ↦ let e =
-            one_claim s.claims y x laid.apart iy ix same in rw e own
-        | inr other ↦ shown_beside s.pages p n y lt (laid.shown y iy)
-            (λ e le at. let is = shares_run s x y d e laid ix iy large ld le at in other
-            (rw is, rw is))
-      ];
-      apart = laid.apart;
-      used = λ q k h. let t = laid.used q k (rw (← (headed_used s.pages p n q lt))
-          h) in (rw (cells q) t.0, t.1);
-      plot = plot s.plot laid.plot;
-      occupied =
-          λ q some empty. laid.occupied q (was_some q some)
-          (rw (← (head q))
-          (sym (headed_used s.pages p n (head_on (with_header_on s.pages p n) q) lt) ∙ empty));
-      later = λ q e m is. elim (cases_eq q p) [
-        | inl same ↦ own_later q e m same is
-        | inr ne ↦ kept q e m (laid.later q e m (rw (← (headed_other s.pages p n q ne)) is))
-      ];
-    }
-  where
-    p : ℕ
-    p = x.page + d
+module _ (s : LayoutScene) (x : Claim) (d : ℕ) (laid : IsLaidOn s) (ix : Among x s.claims)
+    (mode : x.mode ≡ Unmapping) (large : is_small_object x.object ≡ false) (ld : d < pages_made x.object) where
+  abbrev p : ℕ
+  p = x.page + d
 
-    n : ℕ
-    n = unmapped_header (pages_made x.object) d
+  abbrev n : ℕ
+  n = unmapped_header (pages_made x.object) d
 
-    same_or_not : (y x : Claim) → IsOfOneCell y x ⊎ (IsOfOneCell y x → ⊥)
-    same_or_not y x = elim (cases_eq y.page x.page) [
-      | inl ep ↦ elim (cases_eq y.index x.index) [ inl ei ↦ inl (ep, ei) | inr ni ↦ inr (λ same. ni same.1) ]
-      | inr np ↦ inr (λ same. np same.0)
-    ]
+  abbrev after : List Page
+  after = with_header_on s.pages p n
 
-    sx : IsShown s.pages x
-    sx = laid.shown x ix
+  same_or_not : (y x : Claim) → IsOfOneCell y x ⊎ (IsOfOneCell y x → ⊥)
+  same_or_not y x = elim (cases_eq y.page x.page) [
+    | inl ep ↦ elim (cases_eq y.index x.index) [ inl ei ↦ inl (ep, ei) | inr ni ↦ inr (λ same. ni same.1) ]
+    | inr np ↦ inr (λ same. np same.0)
+  ]
 
-    lt : x.page + d < length s.pages
-    lt = let w = sx.within in let l = ld in omega arith
+  sx : IsShown s.pages x
+  sx = laid.shown x ix
 
-    len : length (with_header_on s.pages (x.page + d) (unmapped_header (pages_made x.object) d)) ≡ length s.pages
-    len = length-set s.pages (x.page + d)
-        (record { header = unmapped_header (pages_made x.object) d; used = used_on s.pages (x.page + d) })
+  lt : x.page + d < length s.pages
+  lt = let w = sx.within in let l = ld in omega arith
 
-    old : ShowsPart x.object d (shows_on s.pages (x.page + d))
-    old = claimed s.pages x d sx ld
+  len : length after ≡ length s.pages
+  len = length-set s.pages p
+      (record { header = unmapped_header (pages_made x.object) d; used = used_on s.pages p })
 
-    new : ShowsPart x.object d (header_of (unmapped_header (pages_made x.object) d))
-    new = unmapped_shows x.object d sx.sized ld large
+  old : ShowsPart x.object d (shows_on s.pages p)
+  old = claimed s.pages x d sx ld
 
-    here : header_on (with_header_on s.pages (x.page + d) (unmapped_header (pages_made x.object) d)) (x.page + d)
-        ≡ unmapped_header (pages_made x.object) d
-    here = headed_here s.pages (x.page + d) (unmapped_header (pages_made x.object) d) lt
+  new : ShowsPart x.object d (header_of n)
+  new = unmapped_shows x.object d sx.sized ld large
 
-    header_of_run : (e : ℕ) → e < pages_made x.object
-        → HasHeader Unmapping x.object e
-        (header_on (with_header_on s.pages (x.page + d) (unmapped_header (pages_made x.object) d)) (x.page + e))
-    header_of_run e le = elim (cases_eq e d) [
-      | inl same ↦ inr (
-        large,
-        rw same (here ∙ rw (← same)),
-      )
-      | inr ne ↦ rw (headed_other s.pages (x.page + d) (unmapped_header (pages_made x.object) d) (x.page + e)
-          (λ is. ne (omega arith)))
-          (rw mode at (sx.headers e le))
-    ]
+  here : header_on after p
+      ≡ unmapped_header (pages_made x.object) d
+  here = headed_here s.pages p n lt
 
-    own : IsShown (with_header_on s.pages (x.page + d) (unmapped_header (pages_made x.object) d)) x
-    own =
-        record {
-          sized = sx.sized;
-          known = sx.known;
-          within = let l = len in let w = sx.within in omega arith;
-          headers =
-              λ e le. rw mode
-              (header_of_run e le);
-          used = rw (headed_used s.pages (x.page + d) (unmapped_header (pages_made x.object) d) x.page lt) sx.used;
-        }
-
-    cells : (q : ℕ) → cells_under
-        (shows_on (with_header_on s.pages (x.page + d) (unmapped_header (pages_made x.object) d)) q)
-        ≡ cells_under (shows_on s.pages q)
-    cells q = elim (cases_eq q (x.page + d)) [
-      | inl e ↦
-          rw e
-          (rw here
-          (same_cells x.object d (header_of (unmapped_header (pages_made x.object) d)) (shows_on s.pages (x.page + d))
-          new old ∙ rw (← e)))
-      | inr ne ↦ rw (headed_other s.pages (x.page + d) (unmapped_header (pages_made x.object) d) q ne)
-    ]
-
-    counts : (q : ℕ) → run_count
-        (shows_on (with_header_on s.pages (x.page + d) (unmapped_header (pages_made x.object) d)) q)
-        ≡ run_count (shows_on s.pages q)
-    counts q = elim (cases_eq q (x.page + d)) [
-      | inl e ↦
-          rw e (rw here
-          (same_count x.object d (header_of (unmapped_header (pages_made x.object) d)) (shows_on s.pages (x.page + d))
-          new old large
-          ∙ rw (← e)))
-      | inr ne ↦ rw (headed_other s.pages (x.page + d) (unmapped_header (pages_made x.object) d) q ne)
-    ]
-
-    head : (q : ℕ) → head_on (with_header_on s.pages (x.page + d) (unmapped_header (pages_made x.object) d)) q
-        ≡ head_on s.pages q
-    head q = elim (cases_eq q (x.page + d)) [
-      | inl e ↦
-          rw e
-          (rw here
-          (part_head x.object d x.page (header_of (unmapped_header (pages_made x.object) d)) new
-          ∙ sym (part_head x.object d x.page (shows_on s.pages (x.page + d)) old)
-          ∙ rw (← e)))
-      | inr ne ↦ head_of_other s.pages (x.page + d) (unmapped_header (pages_made x.object) d) q ne
-    ]
-
-    was_some : (q : ℕ) → header_on (with_header_on s.pages (x.page + d) (unmapped_header (pages_made x.object) d)) q ≢ 0
-        → header_on s.pages q ≢ 0
-    was_some q some z = elim (cases_eq q (x.page + d)) [
-      | inl e ↦ claimed_some s.pages x d sx ld (rw (← e) z)
-      | inr ne ↦ some (headed_other s.pages (x.page + d) (unmapped_header (pages_made x.object) d) q ne ∙ z)
-    ]
-
-    plot : (plot : Plot) → PlotStands s.pages plot
-        → PlotStands (with_header_on s.pages (x.page + d) (unmapped_header (pages_made x.object) d)) plot
-    plot NoPlot stands = stands
-    plot (Plotted first o) stands =
-        record {
-          sized = stands.sized;
-          within = let l = len in let w = stands.within in omega arith;
-          headers =
-              λ e le. rw (headed_other s.pages (x.page + d) (unmapped_header (pages_made x.object) d) (first + e)
-              (apart_of_plot s x d first e o laid ix ld stands le))
-              (stands.headers e le);
-          used = λ e le. headed_used s.pages (x.page + d) (unmapped_header (pages_made x.object) d) (first + e) lt
-              ∙ stands.used e le;
-        }
-
-    -- the page that a later page names keeps its count, and isn't freed
-    kept : (q e : ℕ) (m : Bool) → HasItsHead s.pages s.releasing q e
-        → HasItsHead (with_header_on s.pages (x.page + d) (unmapped_header (pages_made x.object) d)) s.releasing q e
-    kept q e m l = (
-      l.0,
-      elim l.1 [
-        | inl less ↦ inl (rw (counts (q - e)) less)
-        | inr lost ↦ elim (cases_eq (q - e) (x.page + d)) [
-          | inl at ↦ absurd (claimed_some s.pages x d sx ld (rw (← at) lost.1))
-          | inr ne ↦ inr (
-            lost.0,
-            headed_other s.pages (x.page + d) (unmapped_header (pages_made x.object) d) (q - e) ne
-                ∙ lost.1,
-          )
-        ]
-      ],
+  header_of_run : (e : ℕ) → e < pages_made x.object
+      → HasHeader Unmapping x.object e
+      (header_on after (x.page + e))
+  header_of_run e le = elim (cases_eq e d) [
+    | inl same ↦ inr (
+      large,
+      rw same (here ∙ rw (← same)),
     )
+    | inr ne ↦ rw (headed_other s.pages p n (x.page + e)
+        (λ is. ne (omega arith)))
+        (rw mode at (sx.headers e le))
+  ]
 
-    own_later : (q e : ℕ) (m : Bool) → q ≡ x.page + d
-        → shows_on (with_header_on s.pages (x.page + d) (unmapped_header (pages_made x.object) d)) q ≡ Some (Later e m)
-        → HasItsHead (with_header_on s.pages (x.page + d) (unmapped_header (pages_made x.object) d)) s.releasing q e
-    own_later q e m same is =
-        let at =
-        shown_later x.object d e m (header_of (unmapped_header (pages_made x.object) d)) new (ap header_of (sym here)
-        ∙ ap (λ i. shows_on (with_header_on s.pages (x.page + d) (unmapped_header (pages_made x.object) d)) i)
-        (sym same) ∙ is) in
-        let was = later_part x.object d (shows_on s.pages (x.page + d)) old at.1 in
-        kept q e m (laid.later q e was.0 (ap (λ i. shows_on s.pages i) same ∙ was.1
-        ∙ ap (λ i. Some (Later i was.0)) (sym at.0)))
+  own : IsShown after x
+  own =
+      record {
+        sized = sx.sized;
+        known = sx.known;
+        within = let l = len in let w = sx.within in omega arith;
+        headers =
+            λ e le. rw mode
+            (header_of_run e le);
+        used = rw (headed_used s.pages p n x.page lt) sx.used;
+      }
+
+  cells : (q : ℕ) → cells_under
+      (shows_on after q)
+      ≡ cells_under (shows_on s.pages q)
+  cells q = elim (cases_eq q p) [
+    | inl e ↦
+        rw e
+        (rw here
+        (same_cells x.object d (header_of n) (shows_on s.pages p)
+        new old ∙ rw (← e)))
+    | inr ne ↦ rw (headed_other s.pages p n q ne)
+  ]
+
+  counts : (q : ℕ) → run_count
+      (shows_on after q)
+      ≡ run_count (shows_on s.pages q)
+  counts q = elim (cases_eq q p) [
+    | inl e ↦
+        rw e (rw here
+        (same_count x.object d (header_of n) (shows_on s.pages p)
+        new old large
+        ∙ rw (← e)))
+    | inr ne ↦ rw (headed_other s.pages p n q ne)
+  ]
+
+  head : (q : ℕ) → head_on after q
+      ≡ head_on s.pages q
+  head q = elim (cases_eq q p) [
+    | inl e ↦
+        rw e
+        (rw here
+        (part_head x.object d x.page (header_of n) new
+        ∙ sym (part_head x.object d x.page (shows_on s.pages p) old)
+        ∙ rw (← e)))
+    | inr ne ↦ head_of_other s.pages p n q ne
+  ]
+
+  was_some : (q : ℕ) → header_on after q ≢ 0
+      → header_on s.pages q ≢ 0
+  was_some q some z = elim (cases_eq q p) [
+    | inl e ↦ claimed_some s.pages x d sx ld (rw (← e) z)
+    | inr ne ↦ some (headed_other s.pages p n q ne ∙ z)
+  ]
+
+  plot : (plot : Plot) → PlotStands s.pages plot
+      → PlotStands after plot
+  plot NoPlot stands = stands
+  plot (Plotted first o) stands =
+      record {
+        sized = stands.sized;
+        within = let l = len in let w = stands.within in omega arith;
+        headers =
+            λ e le. rw (headed_other s.pages p n (first + e)
+            (apart_of_plot s x d first e o laid ix ld stands le))
+            (stands.headers e le);
+        used = λ e le. headed_used s.pages p n (first + e) lt
+            ∙ stands.used e le;
+      }
+
+  -- the page that a later page names keeps its count, and isn't freed
+  kept : (q e : ℕ) (m : Bool) → HasItsHead s.pages s.releasing q e
+      → HasItsHead after s.releasing q e
+  kept q e m l = (
+    l.0,
+    elim l.1 [
+      | inl less ↦ inl (rw (counts (q - e)) less)
+      | inr lost ↦ elim (cases_eq (q - e) p) [
+        | inl at ↦ absurd (claimed_some s.pages x d sx ld (rw (← at) lost.1))
+        | inr ne ↦ inr (
+          lost.0,
+          headed_other s.pages p n (q - e) ne
+              ∙ lost.1,
+        )
+      ]
+    ],
+  )
+
+  own_later : (q e : ℕ) (m : Bool) → q ≡ x.page + d
+      → shows_on after q ≡ Some (Later e m)
+      → HasItsHead after s.releasing q e
+  own_later q e m same is =
+      let at =
+      shown_later x.object d e m (header_of n) new (ap header_of (sym here)
+      ∙ ap (λ i. shows_on after i)
+      (sym same) ∙ is) in
+      let was = later_part x.object d (shows_on s.pages p) old at.1 in
+      kept q e m (laid.later q e was.0 (ap (λ i. shows_on s.pages i) same ∙ was.1
+      ∙ ap (λ i. Some (Later i was.0)) (sym at.0)))
+
+  pub layout_page_unmapped : IsLaidOn (PageUnmapped s x d)
+  layout_page_unmapped =
+      record {
+        shown = λ y iy. elim (same_or_not y x) [
+          | inl same ↦ let e =
+              one_claim s.claims y x laid.apart iy ix same in rw e own
+          | inr other ↦ shown_beside s.pages p n y lt (laid.shown y iy)
+              (λ e le at. let is = shares_run s x y d e laid ix iy large ld le at in other
+              (rw is, rw is))
+        ];
+        apart = laid.apart;
+        used = λ q k h. let t = laid.used q k (rw (← (headed_used s.pages p n q lt))
+            h) in (rw (cells q) t.0, t.1);
+        plot = plot s.plot laid.plot;
+        occupied =
+            λ q some empty. laid.occupied q (was_some q some)
+            (rw (← (head q))
+            (sym (headed_used s.pages p n (head_on after q) lt) ∙ empty));
+        later = λ q e m is. elim (cases_eq q p) [
+          | inl same ↦ own_later q e m same is
+          | inr ne ↦ kept q e m (laid.later q e m (rw (← (headed_other s.pages p n q ne)) is))
+        ];
+      }
 
 -- Claims that change how far they are unmapped, where the headers stand for that.
 pub record Changes (s : LayoutScene) (claims : List Claim) : Type 0 where

@@ -1,23 +1,13 @@
 -- Registers of no caller, and globals that nobody has stored to.
-use Rattle.std.proofs.Common.{◌≡◌, ℕ, ◌+◌, ◌*◌, ◌/◌, ◌%◌, Bool, true, false, List, ◌∷◌, ◌++◌, refl, sym, ◌∙◌, ap, arith}
-use Rattle.std.proofs.Common.{[]}
-use Rattle.std.proofs.Common.{append_assoc}
-use Rattle.std.specs.Prelude.{slice_index}
-use Rattle.std.proofs.lemmas.List.{get_or-set_other, get_or_past}
-use Rattle.mk_laws.proofs.Vocabulary.{Config, Event, Flight, Moment, NeverState, Null, Seat, Step, Value, World}
-use Rattle.mk_laws.proofs.Vocabulary.{at_rest, bases_of, first_world, flight_of, g_of, image_of, left, left_from}
+use Rattle.mk_laws.proofs.Vocabulary.{Bool, Config, Event, Flight, Invariant, Leaves, List, Moment, NeverState, Null}
+use Rattle.mk_laws.proofs.Vocabulary.{OfHistories, Seat, Step, Value, World, [], ap, append_assoc, arith, at_rest}
+use Rattle.mk_laws.proofs.Vocabulary.{bases_of, false, first_world, flight_of, g_of, get_or-set_other, get_or_past}
+use Rattle.mk_laws.proofs.Vocabulary.{image_of, left, left_from, left_more, refl, shown, slice_index, sym, true, ℕ, ◌%◌}
+use Rattle.mk_laws.proofs.Vocabulary.{◌*◌, ◌++◌, ◌+◌, ◌/◌, ◌∙◌, ◌∷◌, ◌≡◌}
+use Rattle.mk_laws.proofs.Basics.{Behind, KeptByEvents, KnownWorld, Table, at_first, holds_of_histories, reg_table}
+use Rattle.mk_laws.proofs.Basics.{tally_table}
 use Rattle.mk_core.specs.declared.events.Seat.TheVariants as seat
 use Rattle.mk_core.specs.declared.events.Step.TheVariants as step
-use Rattle.mk_core.proofs.Histories.{left_more}
-use Rattle.mk_laws.proofs.OrderlyLists.{at_first}
-use Rattle.mk_laws.proofs.SameWords.{Behind}
-use Rattle.mk_laws.proofs.Changes.{Table, reg_table, tally_table}
-use Rattle.mk_laws.specs.Images.{shown}
-use Rattle.mk_laws.proofs.KnownWorlds.{KnownWorld}
-use Rattle.mk_laws.specs.Invariant.{Invariant}
-use Rattle.mk_laws.specs.Theorems.{OfHistories}
-use Rattle.mk_laws.proofs.Induction.{KeptByEvents, holds_of_histories}
-use Rattle.mk_laws.specs.FreeWords.{Leaves}
 use Rattle.mk_laws.specs.UnsetWords.{IsNeverSet, RegistersOfNoCallerAreZero, UnsetGlobalsAreZero}
 use Rattle.mk_laws.proofs.FreeWords.{of_worlds}
 
@@ -47,8 +37,7 @@ globals_stay : (c : Config) (m : Moment) (seat : Seat) (x : Step) → is_setg x 
     → (Behind c m seat x).words.globals ≡ m.words.globals
 globals_stay c m seat step.Reg out = ap (λ (t : Table). t.globals) (reg_table c m seat)
 globals_stay c m seat (step.Tally n v) out = ap (λ (t : Table). t.globals) (tally_table m.words n v)
-globals_stay c m seat step.Setg out = cc
-globals_stay c m seat _ out = refl
+globals_stay c m seat _ out = cc
 
 one_more : (c : Config) (es : List Event) (seat : Seat) (x : Step) (g : ℕ)
     → IsNeverSet c (es ++ record { seat = seat; step = x } ∷ []) g → slice_index (left c es).now.words.globals g ≡ 0

@@ -1,8 +1,7 @@
 -- What the protocol reads of a moment, and who holds the turn by it.
-use Rattle.std.proofs.Common.{◌≡◌, ℕ, ◌+◌, ◌<◌, List, refl}
-use Rattle.std.specs.Prelude.{slice_index, slice_index_or, slice_set}
-use Rattle.mk_laws.proofs.Vocabulary.{Caller, Config, Flight, Holding, Host, Marker, MarkerState, Moment, Seat}
-use Rattle.mk_laws.proofs.Vocabulary.{at_rest, flight_of, outside}
+use Rattle.mk_laws.proofs.Vocabulary.{Caller, Config, Flight, Holding, Host, List, Marker, MarkerState, Moment, Seat}
+use Rattle.mk_laws.proofs.Vocabulary.{at_rest, flight_of, outside, refl, slice_index, slice_index_or, slice_set, ℕ, ◌+◌}
+use Rattle.mk_laws.proofs.Vocabulary.{◌<◌, ◌≡◌}
 use Rattle.mk_laws.proofs.Standings.{UnderTurn, standing}
 
 pub record View : Type 0 where
@@ -44,8 +43,7 @@ flights_with fs _ f = fs
 
 pub flight_is : (m : Moment) (seat : Seat) → flight_of m seat ≡ flight_at m.seats.flights seat
 flight_is m (Caller k) = refl
-flight_is m (Marker k) = refl
-flight_is m Host = refl
+flight_is m _ = cc
 
 -- the seat holds the turn
 abbrev pub HoldsTurn : Config → View → Seat → Type 0

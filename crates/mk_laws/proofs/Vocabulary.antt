@@ -1,4 +1,20 @@
 -- The words of the heap and of its steps, for all that is proved of them: a proof imports them from here.
+pub use Rattle.std.proofs.Common.{Bool, List, [], ap, append-nil, append_assoc, arith, drop, false, get_or, inl, inr}
+pub use Rattle.std.proofs.Common.{length, length-set, map, refl, subst, suc, sym, take, true, zero, ℕ, ◌%◌, ◌*◌, ◌++◌}
+pub use Rattle.std.proofs.Common.{◌+◌, ◌-◌, ◌/◌, ◌<◌, ◌^◌, ◌↔◌, ◌∙◌, ◌∷◌, ◌≡◌, ◌≢◌, ◌≤◌, ◌⊎◌}
+pub use Rattle.std.proofs.lemmas.Bool.{and_from, and_parts, and_right, cases_Bool, cases_eq, cases_lt, cond-false}
+pub use Rattle.std.proofs.lemmas.Bool.{cond-true, eq-eqb, eqb-false, eqb-true, false_from_ne_true, false≢true, le-leb}
+pub use Rattle.std.proofs.lemmas.Bool.{leb-true, lt-ltb, ltb-true, ne_eqb, not-true, or_cases, or_from, or_left}
+pub use Rattle.std.proofs.lemmas.Bool.{or_parts, or_right, true≢false}
+pub use Rattle.std.proofs.lemmas.List.{get_or-set_other, get_or-set_same, get_or_append_left, get_or_past, length-map}
+pub use Rattle.std.proofs.lemmas.List.{map-append, set-get_or, set_past}
+pub use Rattle.std.proofs.lemmas.List.Folds.{list_any-append}
+pub use Rattle.std.proofs.lemmas.Nat.{mul-le}
+pub use Rattle.std.proofs.lemmas.Option.{none-some, same_Some}
+pub use Rattle.std.specs.Int.{bit_at}
+pub use Rattle.std.specs.List.{list_any}
+pub use Rattle.std.specs.Prelude.{None, Option, Some, bit_or, cond, if◌then◌else◌, is_none, is_some, nat_le, nat_lt}
+pub use Rattle.std.specs.Prelude.{not, slice_index, slice_index_or, slice_set, ◌&&◌, ◌==◌, ◌||◌}
 pub use Rattle.mk_geom.specs.declared.addresses.Cell.{Cell}
 pub use Rattle.mk_geom.specs.declared.headers.Header.{Header}
 pub use Rattle.mk_geom.specs.declared.headers.Header.TheVariants.{Block, Free, Later, LeafBlock, LeafRun, Run}
@@ -11,6 +27,7 @@ pub use Rattle.mk_geom.specs.PageUses.{is_resident_page, or_else, resident_pages
 pub use Rattle.mk_geom.specs.PageWords.{use_under, uses_of_pages}
 pub use Rattle.mk_geom.specs.StorageWords.{IsWordOf, PointsInto}
 pub use Rattle.mk_geom.specs.Storages.{IsStorage, Storage, block_header, free_page, is_small, run_header, stands_on}
+pub use Rattle.mk_geom.proofs.ClassTable.{cell_ends}
 pub use Rattle.mk_never.specs.declared.operations.Op.{Op}
 pub use Rattle.mk_never.specs.declared.operations.Reply.TheVariants.{Done}
 pub use Rattle.mk_never.specs.declared.types.Kind.{Kind}
@@ -26,6 +43,8 @@ pub use Rattle.mk_never.specs.NeverHeap.{register_at, replies_of, target_of, wit
 pub use Rattle.mk_never.specs.NeverHeap.{with_register, with_word, word_at, words_of}
 pub use Rattle.mk_never.specs.Typed.{IsSound, IsTyped, IsTypedAllocation, Suits, kind_in}
 pub use Rattle.mk_never.specs.Types.{is_large, kinds_of}
+pub use Rattle.mk_never.proofs.Edits.{set_by}
+pub use Rattle.mk_never.proofs.Registers.{admitted_keep}
 pub use Rattle.mk_core.specs.declared.accesses.Access.{Access}
 pub use Rattle.mk_core.specs.declared.accesses.Access.TheVariants.{Load, Store}
 pub use Rattle.mk_core.specs.declared.accesses.TableWord.TheVariants.{Named}
@@ -107,3 +126,71 @@ pub use Rattle.mk_core.specs.TurnConditions.{carves, cell_freed, empties, frees,
 pub use Rattle.mk_core.specs.TurnConditions.{is_marked_first, is_used_once, may_answer_full, place_now, takes_cell}
 pub use Rattle.mk_core.specs.TurnConditions.{unmaps}
 pub use Rattle.mk_core.specs.Words.{Words, accessed, header_at, phase_of, quarantine_word, register_word, used_at}
+pub use Rattle.mk_core.proofs.AllBelow.{all_below-at, all_below_more_is, all_below_zero_is}
+pub use Rattle.mk_core.proofs.BitsWithout.{has_bit_without}
+pub use Rattle.mk_core.proofs.CellsOfAllocations.{stands_in_its_cell}
+pub use Rattle.mk_core.proofs.ChangedAllocations.{LeavesPlaces, changed_at, freed_leaves, freed_released, fresh_leaves}
+pub use Rattle.mk_core.proofs.ChangedAllocations.{none_freed, released_leaves}
+pub use Rattle.mk_core.proofs.Conditions.{enabled_meets}
+pub use Rattle.mk_core.proofs.EvaluatedLarge.{large_is_history}
+unfoldable pub use Rattle.mk_core.proofs.EventsAt.{event_number}
+pub use Rattle.mk_core.proofs.GrantedAllocations.{granted_base_is, granted_object, granted_type}
+pub use Rattle.mk_core.proofs.Histories.{enabled_parts, left_append, left_more}
+pub use Rattle.mk_core.proofs.HistoryParts.{admitted_in_parts, earlier_part_is_history, enabled_in_parts, left_in_parts}
+pub use Rattle.mk_core.proofs.HistoryParts.{never_in_parts}
+unfoldable pub use Rattle.mk_core.proofs.LargeSchedule.{large_freed, three_pages}
+pub use Rattle.mk_core.proofs.Lengths.{accessed_lengths, histories_keep_lengths, zero_lengths}
+pub use Rattle.mk_core.proofs.ObjectHeaders.{header_shows, later_cells, made_is_mapped, made_shows, part_cells}
+pub use Rattle.mk_core.proofs.ObjectHeaders.{part_has_no_pointers, part_head, part_not_free, part_words, shown_later}
+pub use Rattle.mk_core.proofs.ObjectHeaders.{small_heads_none, unmapped_is_unmapped}
+pub use Rattle.mk_core.proofs.PageSteps.{Drops, Empties, GivesBack, HeadStep, ItCarves, ItDrops, ItEmpties, ItFrees}
+pub use Rattle.mk_core.proofs.PageSteps.{ItGivesBack, ItTakes, ItTakesSnapshot, ItUnmaps, QuarantineStep, UsedStep}
+pub use Rattle.mk_core.proofs.PageSteps.{head_step, quarantine_step, used_step}
+pub use Rattle.mk_core.proofs.PlacesNow.{AsChosen, AsUsed, ByFit, IsPlaced, freed_cell, placed_now, undecided_free}
+pub use Rattle.mk_core.proofs.PlacesNow.{undecided_new}
+pub use Rattle.mk_core.proofs.PointedAllocations.{released_where_left, word_points}
+unfoldable pub use Rattle.mk_core.proofs.Schedules.{by, c0, one_page}
+pub use Rattle.mk_core.proofs.ServingSteps.{IsNextHeader, marks_is}
+pub use Rattle.mk_core.proofs.Sizes.{class_known, large_cells, large_count, large_is_not_small, large_words, pages_some}
+pub use Rattle.mk_core.proofs.Sizes.{small_cells, small_pages, small_words, words_within}
+pub use Rattle.mk_core.proofs.SmallCycles.{small, stopped_cycle}
+unfoldable pub use Rattle.mk_core.proofs.SmallCycles.{begun_in_stop, marked_in_stop, three_objects}
+pub use Rattle.mk_core.proofs.SmallHistories.{stopped_is_history}
+pub use Rattle.mk_core.proofs.StandingAllocations.{cells_begin, first_page_shows, run_begins, standing_has_storage}
+pub use Rattle.mk_core.proofs.StandingAllocations.{storage_holds, typed_size}
+pub use Rattle.mk_core.proofs.UnreleasedStorage.{storage_is_of}
+pub use Rattle.mk_core.proofs.WordBits.{fewer_bits, no_bit}
+pub use Rattle.mk_laws.specs.FreePages.{HasAllocation}
+pub use Rattle.mk_laws.specs.FreeWords.{Leaves}
+pub use Rattle.mk_laws.specs.Ground.{Ground, ground_of}
+pub use Rattle.mk_laws.specs.Guard.{CellsAreClosed, HeaderGoesOn, IsMarking, MarkerStands, ScanStands}
+pub use Rattle.mk_laws.specs.ImagePremises.{ImagePremises, IsPlaceOfNone, MayHoldWords, run_of_allocation}
+pub use Rattle.mk_laws.specs.Images.{Carries, CarriesOwn, ImageScene, IsMet, ProbedOwn, flight_among, has_p, has_r}
+pub use Rattle.mk_laws.specs.Images.{has_some_p, image_scene_of, is_past_probe, is_put, shown}
+pub use Rattle.mk_laws.specs.ImagesSay.{ImagesSay}
+pub use Rattle.mk_laws.specs.Invariant.{Invariant}
+pub use Rattle.mk_laws.specs.Kept.{GuardPremises}
+unfoldable pub use Rattle.mk_laws.specs.Kept.{GuardPremisesFrom}
+pub use Rattle.mk_laws.specs.Laws.{ImagePremisesAlong}
+pub use Rattle.mk_laws.specs.LayoutLaws.{LayoutPremises, StandsInOrder}
+unfoldable pub use Rattle.mk_laws.specs.LayoutLaws.{LayoutPremisesFrom}
+pub use Rattle.mk_laws.specs.LayoutScene.{Among, AreApart, Claim, HasHeader, HasItsHead, InPlot, IsClaimed, IsLaidOn}
+pub use Rattle.mk_laws.specs.LayoutScene.{IsOfOneCell, IsPlotShown, IsShown, LayoutScene, Mapped, Mode, NoPlot, Plot}
+pub use Rattle.mk_laws.specs.LayoutScene.{PlotStands, Plotted, Unmapping, head_on, header_on, is_released_in}
+pub use Rattle.mk_laws.specs.LayoutScene.{is_released_on, run_count, shows_on, used_on}
+pub use Rattle.mk_laws.specs.Mirrors.{Mirrors}
+pub use Rattle.mk_laws.specs.Precision.{through_release}
+pub use Rattle.mk_laws.specs.Protocol.{IsIdle, Protocol, has_place, is_decided_free, is_decided_free_at}
+pub use Rattle.mk_laws.specs.Quarantine.{HasQuarantine, IsFreedCell, IsQuarantined, KeepsSnapshot, has_bit_of}
+pub use Rattle.mk_laws.specs.Quarantine.{is_cycling}
+unfoldable pub use Rattle.mk_laws.specs.Room.{count_below}
+pub use Rattle.mk_laws.specs.SafeSets.{IsSafe, IsSafeSet}
+pub use Rattle.mk_laws.specs.SettledPages.{IsSettled}
+pub use Rattle.mk_laws.specs.Terrain.{HasLayout, IsAtCell, IsClaimedRun, LayoutStands, RunStands, claim_of, claims_of}
+pub use Rattle.mk_laws.specs.Terrain.{claims_on, claims_placed, is_unmapping, layout_scene_of, mode_of, object_now}
+pub use Rattle.mk_laws.specs.Terrain.{place_claim, plot_of}
+pub use Rattle.mk_laws.specs.Theorems.{KeepsTheInvariant, OfHistories}
+pub use Rattle.mk_laws.specs.ZeroLaws.{is_heap_store}
+pub use Rattle.mk_laws.specs.Zeros.{HasZeros, IsFreedWord, IsReleasedWord, IsWordOfMapped, MayHold, OfFreedRun}
+pub use Rattle.mk_laws.specs.Zeros.{OfMapped, OfReleased, OthersAreZero, ZeroScene, is_released_there, zero_scene_of}
+pub use Rattle.mk_laws.specs.Zeros.{zero_scene_with}

@@ -1,38 +1,28 @@
 -- Runs are whole, after each event.
-use Rattle.std.proofs.Common.{Bool, List, ap, arith, false, inl, inr, length, length-set, refl, subst, sym, true, ℕ}
-use Rattle.std.proofs.Common.{◌+◌, ◌-◌, ◌<◌, ◌∙◌, ◌≡◌, ◌≢◌, ◌⊎◌}
-use Rattle.std.specs.Prelude.{Option, Some}
-use Rattle.std.proofs.lemmas.Bool.{cases_Bool, cases_eq, true≢false}
-use Rattle.mk_laws.proofs.Vocabulary.{Config, Flight, Header, Later, LeafRun, Object, Page, Run, Seat, ShowsPart}
-use Rattle.mk_laws.proofs.Vocabulary.{Step, Words, World, cells_under, flight_of, head_page, head_page_under}
-use Rattle.mk_laws.proofs.Vocabulary.{header_made, header_of, heads_run, is_phase, is_small_object, pages_made}
-use Rattle.mk_laws.proofs.Vocabulary.{stands}
+use Rattle.mk_laws.proofs.Vocabulary.{Among, Bool, Claim, Config, Empties, Flight, GivesBack, HeadStep, Header, InPlot}
+use Rattle.mk_laws.proofs.Vocabulary.{IsLaidOn, ItCarves, ItEmpties, ItGivesBack, ItTakes, ItUnmaps, Later, LayoutScene}
+use Rattle.mk_laws.proofs.Vocabulary.{LayoutStands, List, NoPlot, Object, Option, Page, Plot, PlotStands, Plotted, Run}
+use Rattle.mk_laws.proofs.Vocabulary.{Seat, ShowsPart, Some, Step, UsedStep, Words, World, ap, arith, cases_Bool}
+use Rattle.mk_laws.proofs.Vocabulary.{cases_eq, cells_under, false, fewer_bits, flight_of, ground_of, head_on}
+use Rattle.mk_laws.proofs.Vocabulary.{head_page, head_page_under, head_step, header_made, header_of, header_on}
+use Rattle.mk_laws.proofs.Vocabulary.{heads_run, inl, inr, is_phase, is_small_object, layout_scene_of, length}
+use Rattle.mk_laws.proofs.Vocabulary.{length-set, made_shows, object_now, pages_made, pages_some, plot_of, refl}
+use Rattle.mk_laws.proofs.Vocabulary.{run_count, shows_on, small_heads_none, stands, subst, sym, true, true≢false}
+use Rattle.mk_laws.proofs.Vocabulary.{used_on, used_step, ℕ, ◌+◌, ◌-◌, ◌<◌, ◌∙◌, ◌≡◌, ◌≢◌, ◌⊎◌}
+use Rattle.mk_laws.proofs.Basics.{Before, Meets, WorldBehind, claimed, headed_other, is_releasing_behind, none_set}
+use Rattle.mk_laws.proofs.Basics.{page_within, reg_leaves_ground, tally_ground, used_header, with_header_on}
+use Rattle.mk_laws.proofs.Basics.{with_used_on, zero_where_none}
 use Rattle.mk_core.specs.declared.events.Step.TheVariants as step
-use Rattle.mk_core.proofs.ObjectHeaders.{later_part, made_shows, small_heads_none}
-use Rattle.mk_core.proofs.PageSteps.{Empties, GivesBack, HeadStep, ItCarves, ItEmpties, ItGivesBack, ItTakes, ItUnmaps}
-use Rattle.mk_core.proofs.PageSteps.{UsedStep, head_step, used_step}
-use Rattle.mk_core.proofs.Sizes.{pages_some}
-use Rattle.mk_core.proofs.WordBits.{fewer_bits}
-use Rattle.mk_laws.proofs.Actors.{Meets}
-use Rattle.mk_laws.proofs.Ground.{tally_ground}
-use Rattle.mk_laws.proofs.OthersMoves.{WorldBehind}
-use Rattle.mk_laws.specs.LayoutScene.{Among, Claim, InPlot, IsLaidOn, NoPlot, Plot, PlotStands, Plotted, LayoutScene}
-use Rattle.mk_laws.specs.LayoutScene.{head_on, header_on, run_count, shows_on, used_on}
-use Rattle.mk_laws.specs.Ground.{ground_of}
-use Rattle.mk_laws.specs.Terrain.{LayoutStands, object_now, plot_of, layout_scene_of}
+use Rattle.mk_core.proofs.ObjectHeaders.{later_part}
 use Rattle.mk_laws.specs.WholeRuns.{HasLaterPage, HaveWholeRuns, RunIsWhole, RunsAreWhole}
-use Rattle.mk_laws.proofs.LayoutBefore.{Before, is_releasing_behind, page_within, reg_leaves_ground}
 use Rattle.mk_laws.proofs.Behind.{phase_kind}
 use Rattle.mk_laws.proofs.OnClaims.{find_bit}
-use Rattle.mk_laws.proofs.PageSets.{headed_here, headed_other, headed_used, used_header, used_here, used_other}
-use Rattle.mk_laws.proofs.PageSets.{with_header_on, with_used_on}
-use Rattle.mk_laws.proofs.LayoutReadings.{claimed, none_set, zero_where_none}
+use Rattle.mk_laws.proofs.PageSets.{headed_here, headed_used, used_here, used_other}
 use Rattle.mk_laws.proofs.RunCounts.{part_count}
 
 -- what heads a run is its own head
 own_head : (x : Option Header) (p : ℕ) → heads_run x ≡ true → head_page_under x p ≡ p
 own_head (Some (Run n m)) p h = refl
-own_head (Some (LeafRun n)) p h = refl
 own_head _ p h = cc
 
 -- and shows an object's first page

@@ -1,29 +1,20 @@
 -- The words of released cells are in no mapped allocation: what is wiped stays so.
-use Rattle.std.proofs.Common.{Bool, List, ap, arith, false, inl, inr, refl, subst, sym, true, ℕ, ◌*◌, ◌+◌, ◌-◌, ◌/◌}
-use Rattle.std.proofs.Common.{◌%◌, ◌<◌, ◌∙◌, ◌≡◌, ◌≢◌}
-use Rattle.std.specs.Prelude.{None, Option, Some, if◌then◌else◌, nat_le, nat_lt, not, slice_index, ◌||◌, ◌==◌}
 use Rattle.std.proofs.lemmas.Nat.{div-mul-add}
-use Rattle.std.proofs.lemmas.Bool.{and_from, cases_Bool, cases_eq, or_left, or_right, true≢false}
-use Rattle.mk_laws.proofs.Vocabulary.{Block, Cell, Config, Free, Header, Later, LeafBlock, LeafRun, NeverState}
-use Rattle.mk_laws.proofs.Vocabulary.{Page, PlacedAllocation, Run, Words, World, address_of, cell_of_allocation}
-use Rattle.mk_laws.proofs.Vocabulary.{cell_words, cells_of, cells_under, class_words_of, first_word, gives_back}
-use Rattle.mk_laws.proofs.Vocabulary.{has_bit, header_at, header_in, heads_run, is_phase, is_released_cell}
-use Rattle.mk_laws.proofs.Vocabulary.{page_at_address, placed_at, pointed_cell, used_at, words_are_zero}
-use Rattle.mk_laws.proofs.Vocabulary.{words_under}
+use Rattle.mk_laws.proofs.Vocabulary.{Block, Bool, Cell, Config, Free, Header, Invariant, IsWordOfMapped, Later}
+use Rattle.mk_laws.proofs.Vocabulary.{LeafBlock, LeafRun, List, NeverState, None, Option, Page, PlacedAllocation, Run}
+use Rattle.mk_laws.proofs.Vocabulary.{Some, Words, World, address_of, and_from, ap, arith, cases_Bool, cases_eq}
+use Rattle.mk_laws.proofs.Vocabulary.{cell_ends, cell_words, cells_of, cells_under, class_words_of, false, first_word}
+use Rattle.mk_laws.proofs.Vocabulary.{gives_back, has_bit, has_bit_without, header_at, header_in, heads_run}
+use Rattle.mk_laws.proofs.Vocabulary.{if◌then◌else◌, inl, inr, is_phase, is_released_cell, nat_le, nat_lt, no_bit, not}
+use Rattle.mk_laws.proofs.Vocabulary.{or_left, or_right, page_at_address, placed_at, pointed_cell, refl, run_count}
+use Rattle.mk_laws.proofs.Vocabulary.{slice_index, sym, true, true≢false, used_at, word_points, words_are_zero}
+use Rattle.mk_laws.proofs.Vocabulary.{words_under, ℕ, ◌%◌, ◌*◌, ◌+◌, ◌-◌, ◌/◌, ◌<◌, ◌==◌, ◌||◌, ◌∙◌, ◌≡◌, ◌≢◌}
+use Rattle.mk_laws.proofs.Basics.{KnownWorld, mapped_stays}
 use Rattle.mk_geom.specs.Addresses.{cell_of_block, cell_under, word_at_address}
-use Rattle.mk_geom.proofs.ClassTable.{cell_ends}
 use Rattle.mk_core.specs.TurnConditions.{are_wiped}
-use Rattle.mk_core.proofs.BitsWithout.{has_bit_without}
 use Rattle.mk_core.proofs.PageSteps.{gives_back_is, left_bits}
-use Rattle.mk_core.proofs.PointedAllocations.{word_points}
 use Rattle.mk_core.proofs.PointedPages.{found_under}
-use Rattle.mk_core.proofs.WordBits.{no_bit}
-use Rattle.mk_laws.specs.LayoutScene.{run_count}
 use Rattle.mk_laws.specs.WholeRuns.{RunsAreWhole}
-use Rattle.mk_laws.proofs.KnownWorlds.{KnownWorld}
-use Rattle.mk_laws.specs.Zeros.{IsWordOfMapped}
-use Rattle.mk_laws.proofs.MappedWords.{mapped_stays}
-use Rattle.mk_laws.specs.Invariant.{Invariant}
 use Rattle.mk_laws.proofs.ForImages.{laid_out}
 use Rattle.mk_laws.proofs.InvariantJoined.{told_to_images}
 use Rattle.mk_laws.proofs.Tests.{all_below_on}
@@ -61,7 +52,6 @@ block_word class page k i y inside is =
 own_run : (h : Header) (page word : ℕ) (y : Cell) → heads_run (Some h) ≡ true → cell_under h page word ≡ Some y
     → y ≡ record { page = page; index = 0 }
 own_run (Run count mapped) page word y r is = cc
-own_run (LeafRun count) page word y r is = cc
 own_run _ page word y r is = cc
 
 later_run : (d : ℕ) (mapped : Bool) (page word : ℕ) (y : Cell) → cell_under (Later d mapped) page word ≡ Some y

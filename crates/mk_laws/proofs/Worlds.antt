@@ -1,40 +1,23 @@
 -- What is known of a world of a history, and what values and words in it point into.
-use Rattle.std.proofs.Common.{ap, arith, false, inl, inr, subst, sym, true, ℕ, ◌-◌, ◌/◌, ◌<◌, ◌∙◌, ◌≡◌, ◌≢◌, ◌⊎◌, ◌*◌}
-use Rattle.std.specs.Prelude.{Option, Some, nat_le, nat_lt, slice_index}
-use Rattle.std.proofs.lemmas.Bool.{and_parts, eqb-true, leb-true, ltb-true}
-use Rattle.mk_never.specs.NeverHeap.{NeverState}
-use Rattle.mk_geom.specs.Addresses.{head_page_under, page_at_address}
-use Rattle.mk_geom.specs.Storages.{IsStorage, stands_on}
-use Rattle.mk_geom.specs.StorageWords.{IsWordOf, PointsInto}
-use Rattle.mk_geom.specs.declared.headers.Header.{Header}
-use Rattle.mk_geom.specs.declared.headers.Header.TheVariants.{Block, Free, Later, LeafBlock, LeafRun, Run}
+use Rattle.mk_laws.proofs.Vocabulary.{Block, Config, Free, HasItsHeaders, Header, Invariant, IsMarking, IsSized}
+use Rattle.mk_laws.proofs.Vocabulary.{IsStorage, IsWordOf, Later, LeafBlock, LeafRun, MayHoldWords, NeverState, Object}
+use Rattle.mk_laws.proofs.Vocabulary.{OfBlock, OfLater, OfLeafBlock, OfLeafRun, OfRun, Option, PlacedAllocation}
+use Rattle.mk_laws.proofs.Vocabulary.{PointsInto, Run, RunPages, ShowsPart, Some, StandsOnHeap, World, and_parts, ap}
+use Rattle.mk_laws.proofs.Vocabulary.{arith, cell_of_allocation, eqb-true, false, first_page_shows, has_no_pointers}
+use Rattle.mk_laws.proofs.Vocabulary.{head_page_under, header_in, inl, inr, is_left_unmarked, is_phase, is_small_object}
+use Rattle.mk_laws.proofs.Vocabulary.{large_words, leb-true, ltb-true, nat_le, nat_lt, object_placed, or_parts}
+use Rattle.mk_laws.proofs.Vocabulary.{page_at_address, pages_made, part_has_no_pointers, phase_of, placed_at}
+use Rattle.mk_laws.proofs.Vocabulary.{pointed_cell, run_begins, run_count, shown, slice_index, small}
+use Rattle.mk_laws.proofs.Vocabulary.{standing_has_storage, stands_on, storage_of, storage_words, subst, sym, true}
+use Rattle.mk_laws.proofs.Vocabulary.{typed_size, ℕ, ◌*◌, ◌-◌, ◌/◌, ◌<◌, ◌∙◌, ◌≡◌, ◌≢◌, ◌⊎◌}
+use Rattle.mk_laws.proofs.Basics.{KnownWorld, mapped_stays}
 use Rattle.mk_geom.proofs.Standing.{stands_at_first, stands_from}
-use Rattle.mk_core.specs.Allocations.{PlacedAllocation, cell_of_allocation, placed_at, storage_of, storage_words}
-use Rattle.mk_core.specs.Cells.{has_no_pointers, header_in, is_left_unmarked, is_unmapped_header, pointed_cell}
-use Rattle.mk_core.specs.History.{World}
-use Rattle.mk_core.specs.NewPlaces.{is_small_object, pages_made}
-use Rattle.mk_core.specs.Moments.{is_phase}
-use Rattle.mk_core.specs.ObjectHeaders.{IsSized, OfBlock, OfLater, OfLeafBlock, OfLeafRun, OfRun, ShowsPart}
-use Rattle.mk_core.specs.StandingAllocations.{HasItsHeaders, StandsOnHeap, object_placed}
-use Rattle.mk_core.specs.Words.{phase_of}
-use Rattle.mk_core.specs.declared.config.Config.{Config}
-use Rattle.mk_core.specs.declared.seats.Object.{Object}
-use Rattle.mk_core.specs.declared.seats.RunPages.{RunPages}
-use Rattle.mk_core.proofs.ObjectHeaders.{part_has_no_pointers}
 use Rattle.mk_core.proofs.PointedAllocations.{pointers_come_back}
 use Rattle.mk_core.proofs.PointedPages.{PointsTo, points_to}
-use Rattle.mk_core.proofs.Sizes.{large_words}
-use Rattle.mk_core.proofs.StandingAllocations.{first_page_shows, pointers_hit, run_begins, standing_has_storage}
-use Rattle.mk_core.proofs.StandingAllocations.{typed_size}
-use Rattle.mk_laws.specs.LayoutScene.{run_count}
+use Rattle.mk_core.proofs.StandingAllocations.{pointers_hit}
 use Rattle.mk_laws.specs.ImagePremises as images
-use Rattle.mk_laws.specs.ImagePremises.{MayHoldWords, OfFreedRun, OfMapped, OfReleased}
-use Rattle.mk_laws.proofs.KnownWorlds.{KnownWorld}
-use Rattle.mk_laws.specs.Guard.{IsMarking}
-use Rattle.mk_laws.proofs.MappedWords.{mapped_stays}
-use Rattle.mk_laws.specs.Invariant.{Invariant}
+use Rattle.mk_laws.specs.ImagePremises.{OfFreedRun, OfMapped, OfReleased}
 use Rattle.mk_laws.proofs.InvariantJoined.{told_to_images}
-use Rattle.mk_laws.proofs.PrecisionStepKinds.{neither}
 
 -- all that is known of it
 pub record Told (c : Config) (w : World) (n : NeverState) : Type 0 where
@@ -61,42 +44,44 @@ part_count o x d (OfLeafRun first large leaf) lt = (large, lt)
 part_count o x d (OfLater mapped some large) lt = absurd (omega arith)
 
 module _ (c : Config) (w : World) (n : NeverState) (t : Told c w n) where
+  abbrev placed : ℕ → PlacedAllocation
+  placed i = placed_at w.allocations i
+
   others : images.ImagePremises c w
   others = told_to_images c w n t.known t.all
 
-  pub stands : (b : ℕ) → (placed_at w.allocations b).released ≡ false → StandsOnHeap c (placed_at w.allocations b)
+  pub stands : (b : ℕ) → (placed b).released ≡ false → StandsOnHeap c (placed b)
   stands b u = (others.laid_out b u).stands
 
-  pub headers : (b : ℕ) → (placed_at w.allocations b).released ≡ false
-      → HasItsHeaders c w.now.words (placed_at w.allocations b)
+  pub headers : (b : ℕ) → (placed b).released ≡ false
+      → HasItsHeaders c w.now.words (placed b)
   headers b u = (others.laid_out b u).headers
 
-  pub sized : (b : ℕ) → (placed_at w.allocations b).released ≡ false
-      → IsSized (object_placed c (placed_at w.allocations b))
-  sized b u = typed_size c (placed_at w.allocations b) t.known.limits (stands b u).typed
+  pub sized : (b : ℕ) → (placed b).released ≡ false
+      → IsSized (object_placed c (placed b))
+  sized b u = typed_size c (placed b) t.known.limits (stands b u).typed
 
   -- What points into an allocation's storage points into its cell,
-  pub hits : (b v : ℕ) → (placed_at w.allocations b).released ≡ false
-      → PointsInto v (storage_of c (placed_at w.allocations b))
-      → pointed_cell c.pages w.now.words.pages v ≡ Some (cell_of_allocation c (placed_at w.allocations b))
-  hits b v u into =
-      pointers_hit c w.now.words (placed_at w.allocations b) t.known.limits (stands b u) (headers b u) v into
+  pub hits : (b v : ℕ) → (placed b).released ≡ false
+      → PointsInto v (storage_of c (placed b))
+      → pointed_cell c.pages w.now.words.pages v ≡ Some (cell_of_allocation c (placed b))
+  hits b v u into = pointers_hit c w.now.words _ t.known.limits (stands b u) (headers b u) v into
 
-  first_part : (b : ℕ) → (placed_at w.allocations b).released ≡ false
-      → ShowsPart (object_placed c (placed_at w.allocations b)) 0
-      (header_in w.now.words ((placed_at w.allocations b).base / 64))
-  first_part b u = first_page_shows c w.now.words (placed_at w.allocations b) (sized b u) (headers b u)
+  first_part : (b : ℕ) → (placed b).released ≡ false
+      → ShowsPart (object_placed c (placed b)) 0
+      (header_in w.now.words ((placed b).base / 64))
+  first_part b u = first_page_shows c w.now.words (placed b) (sized b u) (headers b u)
 
   -- and back.
-  pub comes_back : IsMarking w.now.words → (b v : ℕ) → (placed_at w.allocations b).released ≡ false
-      → pointed_cell c.pages w.now.words.pages v ≡ Some (cell_of_allocation c (placed_at w.allocations b))
-      → PointsInto v (storage_of c (placed_at w.allocations b))
+  pub comes_back : IsMarking w.now.words → (b v : ℕ) → (placed b).released ≡ false
+      → pointed_cell c.pages w.now.words.pages v ≡ Some (cell_of_allocation c (placed b))
+      → PointsInto v (storage_of c (placed b))
   comes_back early b v u is =
       pointers_come_back c w.now.words a t.known.limits (stands b u) (headers b u) v
       (by to.header to.shown to.lies.head) is
     where
       a : PlacedAllocation
-      a = placed_at w.allocations b
+      a = placed b
 
       storage : IsStorage c.pages (storage_of c a)
       storage = standing_has_storage c a t.known.limits (stands b u)
@@ -134,13 +119,13 @@ module _ (c : Config) (w : World) (n : NeverState) (t : Told c w n) where
           ]
 
   -- Where its page's header is scanned, an allocation isn't leaf.
-  pub not_leaf : (a : ℕ) → (placed_at w.allocations a).released ≡ false
-      → has_no_pointers (header_in w.now.words ((placed_at w.allocations a).base / 64)) ≡ false
-      → (storage_of c (placed_at w.allocations a)).leaf ≡ false
+  pub not_leaf : (a : ℕ) → (placed a).released ≡ false
+      → has_no_pointers (header_in w.now.words ((placed a).base / 64)) ≡ false
+      → (storage_of c (placed a)).leaf ≡ false
   not_leaf a u scanned =
-      let o : Object = object_placed c (placed_at w.allocations a) in
-      let x : Option Header = header_in w.now.words ((placed_at w.allocations a).base / 64) in
-      (neither o.leaf (is_unmapped_header x) (sym (part_has_no_pointers o x (first_part a u)) ∙ scanned)).0
+      let o : Object = object_placed c (placed a) in
+      let x : Option Header = header_in w.now.words ((placed a).base / 64) in
+      (or_parts o.leaf _ (sym (part_has_no_pointers o x (first_part a u)) ∙ scanned)).0
 
   -- A word that isn't 0 is held, while a cycle marks.
   pub held : IsMarking w.now.words → (x : ℕ) → slice_index w.now.words.heap x ≢ 0 → IsHeld c w x
@@ -148,13 +133,13 @@ module _ (c : Config) (w : World) (n : NeverState) (t : Told c w n) where
     where
       by : MayHoldWords c w x → IsHeld c w x
       by (OfMapped i mapped word) =
-          record { number = i; unreleased = mapped_stays c (placed_at w.allocations i) mapped; word = word }
+          record { number = i; unreleased = mapped_stays c (placed i) mapped; word = word }
       by (OfReleased cell pointed released) =
           let four = (and_parts (is_phase w.now.words 4) (is_left_unmarked w.now.words cell) released).0 in
           absurd (not_four (phase_of w.now.words) early (eqb-true (phase_of w.now.words) 4 four))
       by (OfFreedRun run there inside) =
           let f = others.freed_run run there in
-          let a : PlacedAllocation = placed_at w.allocations f.number in
+          let a : PlacedAllocation = placed f.number in
           let page : run.page ≡ a.base / 64 = ap (λ (r : RunPages). r.page) f.is in
           let count : run.count ≡ pages_made (object_placed c a) = ap (λ (r : RunPages). r.count) f.is in
           let parts = and_parts (nat_le run.page (x / 64)) (nat_lt (x / 64 - run.page) run.count) inside in

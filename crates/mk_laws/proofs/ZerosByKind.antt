@@ -1,31 +1,23 @@
 -- What each kind of event makes of the words that may hold values.
-use Rattle.std.proofs.Common.{◌≡◌, ℕ, Bool, true, false, List, ◌∷◌, ◌++◌, map, refl, sym, ◌∙◌, subst, inl, inr, arith}
-use Rattle.std.proofs.Common.{[]}
-use Rattle.std.specs.Prelude.{◌&&◌, ◌==◌, slice_index, None, if◌then◌else◌}
-use Rattle.std.proofs.lemmas.Bool.{and_parts, cases_Bool, eqb-true, true≢false}
-use Rattle.mk_laws.proofs.Vocabulary.{Config, Holding, PlacedAllocation, Seat, Step, World, address_of}
-use Rattle.mk_laws.proofs.Vocabulary.{caller_number, cell_of_allocation, flight_of, granted, held_by_pages}
-use Rattle.mk_laws.proofs.Vocabulary.{is_decided, is_left_unmarked, is_phase, is_run_gone, may_end, nothing_done}
-use Rattle.mk_laws.proofs.Vocabulary.{object_placed, placed_at, reg_access, register_met, with_released, word_met}
+use Rattle.mk_laws.proofs.Vocabulary.{Bool, Config, HasZeros, Holding, IsReleasedWord, IsWordOfMapped, List, MayHold}
+use Rattle.mk_laws.proofs.Vocabulary.{None, OfFreedRun, OfMapped, OfReleased, OthersAreZero, PlacedAllocation, Seat}
+use Rattle.mk_laws.proofs.Vocabulary.{Step, World, ZeroScene, [], address_of, and_parts, arith, caller_number}
+use Rattle.mk_laws.proofs.Vocabulary.{cases_Bool, cell_of_allocation, cells_begin, eqb-true, false, flight_of, granted}
+use Rattle.mk_laws.proofs.Vocabulary.{has_bit_without, head_step, held_by_pages, if◌then◌else◌, inl, inr, is_decided}
+use Rattle.mk_laws.proofs.Vocabulary.{is_left_unmarked, is_phase, is_released_there, is_run_gone, map, may_end}
+use Rattle.mk_laws.proofs.Vocabulary.{nothing_done, object_placed, placed_at, quarantine_step, refl, reg_access}
+use Rattle.mk_laws.proofs.Vocabulary.{register_met, slice_index, subst, sym, true, true≢false, used_step, with_released}
+use Rattle.mk_laws.proofs.Vocabulary.{word_met, word_points, zero_scene_with, ℕ, ◌&&◌, ◌++◌, ◌==◌, ◌∙◌, ◌∷◌, ◌≡◌}
+use Rattle.mk_laws.proofs.Basics.{Meets, WorldBehind, changed_words, is_releasing_behind, mapped_stays}
 use Rattle.mk_core.specs.declared.events.Step.TheVariants as step
-use Rattle.mk_core.proofs.BitsWithout.{has_bit_without}
-use Rattle.mk_core.proofs.PageSteps.{head_step, used_step, quarantine_step}
-use Rattle.mk_core.proofs.PointedAllocations.{word_points}
 use Rattle.mk_core.proofs.PointedPages.{pointed_within}
-use Rattle.mk_core.proofs.StandingAllocations.{cells_begin}
-use Rattle.mk_laws.proofs.Actors.{Meets}
-use Rattle.mk_laws.proofs.OthersMoves.{WorldBehind}
-use Rattle.mk_laws.proofs.LayoutBefore.{is_releasing_behind}
 use Rattle.mk_laws.proofs.LayoutByKind.{off_at}
 use Rattle.mk_laws.proofs.Dropped.{settled_page}
 use Rattle.mk_laws.proofs.QuarantineByKind.{shown_at}
 use Rattle.mk_laws.proofs.QuarantineChanges.{index_small}
-use Rattle.mk_laws.specs.Zeros.{is_released_there, ZeroScene, zero_scene_with, IsWordOfMapped, IsReleasedWord, MayHold}
-use Rattle.mk_laws.specs.Zeros.{OfMapped, OfReleased, OfFreedRun, OthersAreZero, HasZeros}
-use Rattle.mk_laws.proofs.MappedWords.{mapped_stays, word_of_longer, word_of_fresh, word_of_unreleased}
+use Rattle.mk_laws.proofs.MappedWords.{word_of_longer, word_of_fresh, word_of_unreleased}
 use Rattle.mk_laws.proofs.FreedWords.{gone_word}
-use Rattle.mk_laws.proofs.ChangedScenes.{Before, here, standing, changed_words, early_words, stored_words, wiped_words}
-use Rattle.mk_laws.proofs.ChangedScenes.{kept_heap}
+use Rattle.mk_laws.proofs.ChangedScenes.{Before, here, standing, early_words, stored_words, wiped_words, kept_heap}
 use Rattle.mk_laws.proofs.ZerosPageKinds.{head_kind, used_kind, quar_kind}
 use Rattle.mk_core.proofs.RegisterAccesses.{register_leaves, tally_leaves}
 

@@ -1,23 +1,16 @@
 -- Only words that may hold values aren't 0, after every list of enabled events.
-use Rattle.std.proofs.Common.{◌≡◌, ℕ, ◌*◌, Bool, true, false, List, ◌∷◌, refl, sym, ◌∙◌, ap, subst, []}
-use Rattle.std.specs.Prelude.{Some, None}
-use Rattle.std.proofs.lemmas.Bool.{true≢false}
-use Rattle.mk_laws.proofs.Vocabulary.{AreEnabledFrom, AreOfPages, Caller, Config, Event, Host, IsEnabled}
-use Rattle.mk_laws.proofs.Vocabulary.{IsWithinLimits, Marker, Seat, World, access, at_rest, first_moment}
-use Rattle.mk_laws.proofs.Vocabulary.{first_world, flight_of, is_phase, left, left_from, target, word_accessed}
-use Rattle.mk_laws.proofs.Vocabulary.{world_behind}
+use Rattle.mk_laws.proofs.Vocabulary.{AreEnabledFrom, AreOfPages, Bool, Caller, Config, Event, HasZeros, IsEnabled}
+use Rattle.mk_laws.proofs.Vocabulary.{IsWithinLimits, List, None, OfFreedRun, OfMapped, OthersAreZero, Seat, Some}
+use Rattle.mk_laws.proofs.Vocabulary.{World, [], access, accessed_lengths, ap, at_rest, enabled_meets, false}
+use Rattle.mk_laws.proofs.Vocabulary.{first_moment, first_world, flight_of, histories_keep_lengths, is_heap_store}
+use Rattle.mk_laws.proofs.Vocabulary.{is_phase, left, left_from, refl, subst, sym, target, true, true≢false}
+use Rattle.mk_laws.proofs.Vocabulary.{word_accessed, world_behind, zero_lengths, zero_scene_with, ℕ, ◌*◌, ◌∙◌, ◌∷◌, ◌≡◌}
+use Rattle.mk_laws.proofs.Basics.{Known, at_first, changed_words, is_releasing_behind, known_at_first, known_behind}
+use Rattle.mk_laws.proofs.Basics.{known_left, none_released}
 use Rattle.mk_laws.specs.LayoutLaws as layout
 use Rattle.mk_laws.proofs.LayoutHistories.{histories_are_laid_out}
-use Rattle.mk_core.proofs.Conditions.{enabled_meets}
-use Rattle.mk_core.proofs.Lengths.{histories_keep_lengths, zero_lengths, accessed_lengths}
-use Rattle.mk_laws.proofs.Known.{Known, known_behind, known_at_first, known_left}
-use Rattle.mk_laws.proofs.OrderlyLists.{at_first}
-use Rattle.mk_laws.proofs.LayoutBefore.{is_releasing_behind}
 use Rattle.mk_laws.proofs.Behind.{phase_kind, releasing_marks}
-use Rattle.mk_laws.specs.Zeros.{zero_scene_with, OfMapped, OfFreedRun, OthersAreZero, HasZeros}
-use Rattle.mk_laws.specs.ZeroLaws.{ZeroPremises, ZeroPremisesFrom, is_heap_store, EventsKeepTheZeros}
-use Rattle.mk_laws.specs.ZeroLaws.{ZerosStandBehindLists}
-use Rattle.mk_laws.proofs.ChangedScenes.{none_released, changed_words}
+use Rattle.mk_laws.specs.ZeroLaws.{ZeroPremises, ZeroPremisesFrom, EventsKeepTheZeros, ZerosStandBehindLists}
 use Rattle.mk_laws.proofs.ZerosByKind.{by_kind}
 
 -- While no cell is released, marks say nothing.
@@ -79,5 +72,4 @@ others_at_first c e limits still =
   where
     no_target : (seat : Seat) → target c.pages (first_moment c).words (flight_of (first_moment c) seat) ≡ None
     no_target (Caller k) = ap (target c.pages (first_moment c).words) (at_first c.callers k at_rest)
-    no_target (Marker k) = refl
-    no_target Host = refl
+    no_target _ = cc

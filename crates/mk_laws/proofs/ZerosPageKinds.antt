@@ -1,27 +1,20 @@
 -- Steps on the pages: `head`, `used` and `quar`.
-use Rattle.std.proofs.Common.{◌≡◌, ◌≢◌, ℕ, ◌/◌, ◌%◌, ◌^◌, Bool, true, false, List, map, refl, sym, ◌∙◌, ap, subst, inl}
-use Rattle.std.proofs.Common.{inr, arith}
-use Rattle.std.specs.Prelude.{not, ◌&&◌, slice_index, slice_set, Option, Some, None, if◌then◌else◌}
-use Rattle.mk_laws.proofs.Vocabulary.{Cell, Config, Flight, Page, RunPages, Seat, World, cell_freed, flight_of}
-use Rattle.mk_laws.proofs.Vocabulary.{freed_where_it_stands, frees, header_at, is_phase, or_else, placed_at}
-use Rattle.mk_laws.proofs.Vocabulary.{run_of_cell, target, used_at}
+use Rattle.mk_laws.proofs.Vocabulary.{Bool, Cell, Config, Flight, HasZeros, HeadStep, IsFreedWord, IsReleasedWord}
+use Rattle.mk_laws.proofs.Vocabulary.{IsWordOfMapped, ItCarves, ItDrops, ItEmpties, ItFrees, ItGivesBack, ItTakes}
+use Rattle.mk_laws.proofs.Vocabulary.{ItTakesSnapshot, ItUnmaps, List, MayHold, None, OfFreedRun, OfMapped, OfReleased}
+use Rattle.mk_laws.proofs.Vocabulary.{Option, OthersAreZero, Page, QuarantineStep, RunPages, Seat, Some, UsedStep}
+use Rattle.mk_laws.proofs.Vocabulary.{World, ZeroScene, ap, arith, cell_freed, false, flight_of, freed_cell}
+use Rattle.mk_laws.proofs.Vocabulary.{freed_where_it_stands, frees, ground_of, header_at, if◌then◌else◌, inl, inr}
+use Rattle.mk_laws.proofs.Vocabulary.{is_phase, is_released_there, map, not, object_now, or_else, placed_at, refl}
+use Rattle.mk_laws.proofs.Vocabulary.{run_of_cell, slice_index, slice_set, subst, sym, target, true, undecided_free}
+use Rattle.mk_laws.proofs.Vocabulary.{used_at, zero_scene_with, ℕ, ◌%◌, ◌&&◌, ◌/◌, ◌^◌, ◌∙◌, ◌≡◌, ◌≢◌}
+use Rattle.mk_laws.proofs.Basics.{Laid, Meets, changed_words, free_has_turn, mapped_stays, none_on_its_way}
 use Rattle.mk_core.specs.declared.events.Step.TheVariants as step
-use Rattle.mk_core.proofs.PageSteps.{HeadStep, ItCarves, ItUnmaps, ItEmpties, UsedStep, ItTakes, ItGivesBack}
-use Rattle.mk_core.proofs.PageSteps.{QuarantineStep, ItFrees, ItTakesSnapshot, ItDrops}
-use Rattle.mk_core.proofs.PlacesNow.{freed_cell, undecided_free}
-use Rattle.mk_laws.proofs.Actors.{Meets}
-use Rattle.mk_laws.specs.Ground.{ground_of}
-use Rattle.mk_laws.specs.Terrain.{object_now}
 use Rattle.mk_laws.proofs.LayoutByKind.{off_at}
 use Rattle.mk_laws.proofs.Freed.{standing_cell}
-use Rattle.mk_laws.proofs.LayoutHolders.{free_has_turn, none_on_its_way}
-use Rattle.mk_laws.proofs.Serving.{Laid}
-use Rattle.mk_laws.specs.Zeros.{is_released_there, ZeroScene, zero_scene_with, IsWordOfMapped, IsReleasedWord}
-use Rattle.mk_laws.specs.Zeros.{IsFreedWord, MayHold, OfMapped, OfReleased, OfFreedRun, OthersAreZero, HasZeros}
-use Rattle.mk_laws.proofs.MappedWords.{mapped_stays}
 use Rattle.mk_laws.proofs.ReleasedWords.{emptied_word, unwiped_word, dropped_word}
 use Rattle.mk_laws.proofs.FreedWords.{word_where_none_is_freed, word_of_freed}
-use Rattle.mk_laws.proofs.ChangedScenes.{Before, here, standing, changed_words, early_words}
+use Rattle.mk_laws.proofs.ChangedScenes.{Before, here, standing, early_words}
 
 -- `head` and `used`
 abbrev with_pages : World → List Page → ZeroScene
