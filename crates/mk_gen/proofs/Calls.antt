@@ -4,12 +4,11 @@ use Rattle.std.proofs.Common.{refl, ap, ◌∙◌, sym, subst, arith, if◌then�
 use Rattle.std.specs.Prelude.{⊤, is_some}
 use Rattle.std.proofs.lemmas.Bool.{false≢true}
 use Rattle.std.proofs.lemmas.List.{length_push}
+use Rattle.mk_gen.proofs.Vocabulary.{Item, blocks_from}
 use Rattle.mk_never.specs.declared.operations.Op.{Op}
 use Rattle.mk_core.specs.declared.events.Answer.{Answer}
-use Rattle.mk_script.specs.declared.items.Item.{Item}
 use Rattle.mk_script.specs.declared.items.Item.TheVariants.{Getn, Print, Else}
-use Rattle.mk_check.specs.Blocks.{Blocks, Done, Line, Rounds, Choice, followed_by, is_end_of_block, blocks_from}
-use Rattle.mk_check.specs.Blocks.{ScriptText}
+use Rattle.mk_check.specs.Blocks.{Blocks, Done, Line, Rounds, Choice, followed_by, is_end_of_block, ScriptText}
 use Rattle.mk_check.specs.Feed.{Scope, Fed, op_of, run_line, run_rounds, run, with_answer, note, take_answer}
 use Rattle.mk_check.specs.Feed.{take_answers, fed_before_lines, fed_before_answers, feed_script, has_ended}
 
@@ -65,17 +64,17 @@ calls_of-done (Rounds rounds body rest) done = absurd (false≢true done)
 calls_of-done (Choice number first second rest) done = absurd (false≢true done)
 
 -- a part runs, and what stands after it
-left_then : (n : ℕ) (before fed : Fed) (go : Fed → Fed) (rest : Blocks) → IsLeft n before fed → HasNoIf rest
+left_then : {n : ℕ} {before fed : Fed} (go : Fed → Fed) (rest : Blocks) → IsLeft n before fed → HasNoIf rest
     → ((f : Fed) → IsLeft (calls_of rest) f (go f)) → (test : Bool) → is_end_of_block fed.left ≡ test
     → IsLeft (n + calls_of rest) before (if test then go fed else record fed { left = followed_by fed.left rest })
-left_then n before fed go rest is plain goes true done =
+left_then {fed} go rest is plain goes true done =
     let behind = goes fed in
     record {
       ops = behind.ops ∙ is.ops;
       calls_are = omega (arith, behind.calls_are, is.calls_are, calls_of-done fed.left done);
       plain = behind.plain;
     }
-left_then n before fed go rest is plain goes false done =
+left_then {fed} go rest is plain goes false done =
     record {
       ops = is.ops;
       calls_are = calls_of-followed_by fed.left rest ∙ ap (λ calls. calls + calls_of rest) is.calls_are;
@@ -95,8 +94,7 @@ module _ (scope : Scope) where
       let behind : (f : Fed) → IsLeft (more * calls_of body + 0) f (run_rounds more body go f) =
       λ f. recounted (omega arith) (rounds_left more body go plain goes f) in
       recounted (omega arith)
-      (left_then (calls_of body) fed (go fed) (run_rounds more body go) (Rounds more body Done) (goes fed)
-      (plain, tt) behind
+      (left_then (run_rounds more body go) (Rounds more body Done) (goes fed) (plain, tt) behind
       (is_end_of_block (go fed).left) refl)
 
   line_keeps : (fed : Fed) (item : Item) → (run_line scope fed item).ops ≡ fed.ops
@@ -121,7 +119,7 @@ module _ (scope : Scope) where
       (is_some (op_of scope fed item)) (asks scope fed item)
   run_left (Rounds rounds body rest) plain fed =
       let all = run_rounds rounds body (run scope body) fed in
-      left_then (rounds * calls_of body) fed all (run scope rest) rest
+      left_then (run scope rest) rest
       (rounds_left rounds body (run scope body) plain.0 (run_left body plain.0) fed) plain.1
       (run_left rest plain.1) (is_end_of_block all.left) refl
   run_left (Choice number first second rest) plain fed = absurd plain

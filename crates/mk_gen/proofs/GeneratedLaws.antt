@@ -2,17 +2,15 @@
 use Rattle.std.proofs.Common.{◌≡◌, ℕ, zero, suc, ◌+◌, ◌*◌, ◌≤◌, List, [], ◌∷◌, map, refl, ap, ◌∙◌, sym, subst, arith}
 use Rattle.std.proofs.Common.{Ok}
 use Rattle.std.specs.Prelude.{replicate}
+use Rattle.mk_gen.proofs.Vocabulary.{Item, Number, blocks_from, count_of_numbers, generated_text, program_of}
+use Rattle.mk_gen.proofs.Vocabulary.{script_body, turns_of}
 use Rattle.mk_never.specs.declared.types.Kind.TheVariants.{Num, To}
-use Rattle.mk_script.specs.declared.items.Item.{Item}
-use Rattle.mk_script.specs.declared.items.TypeWord.TheVariants.{Number}
-use Rattle.mk_script.specs.Grammar.{program_of}
-use Rattle.mk_check.specs.Blocks.{blocks_from, script_of}
+use Rattle.mk_check.specs.Blocks.{script_of}
 use Rattle.mk_check.specs.Lengths.{length_of}
 use Rattle.mk_check.specs.Declarations.{kind_of}
 use Rattle.mk_check.specs.Feeding.{script_scope}
 use Rattle.mk_check.specs.Laws.{IsChecked, IsScript}
-use Rattle.mk_gen.specs.Generated.{node, buf, script_body, count_of_numbers, turns_of, generated_program}
-use Rattle.mk_gen.specs.GeneratedText.{generated_text}
+use Rattle.mk_gen.specs.Generated.{node, buf, generated_program}
 use Rattle.mk_gen.specs.Laws.{DeclaresNodes, MakesTurns}
 use Rattle.mk_gen.proofs.Calls.{calls_of, HasNoIf, ended_calls}
 use Rattle.mk_gen.proofs.ReadText.{program_of-generated_text}
@@ -64,8 +62,7 @@ body_makes_turns program k line turns number place starts is =
     let plain = subst HasNoIf (sym blocks) (body_has_no_if line turns number place) in
     record {
       instructions = ap length_of blocks ∙ body_instructions line turns number place;
-      calls = λ answers ended.
-          ended_calls (script_scope program k) script answers plain ended
+      calls = λ answers ended. ended_calls (script_scope program k) script answers plain ended
           ∙ ap calls_of blocks ∙ body_calls line turns number place;
     }
 

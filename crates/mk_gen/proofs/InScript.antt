@@ -5,16 +5,15 @@ use Rattle.std.specs.List.{list_all}
 use Rattle.std.proofs.lemmas.List.Folds.{list_any-append}
 use Rattle.std.proofs.lemmas.List.Sums.{fold-append}
 use Rattle.std.proofs.lemmas.Bool.{false≢true, and_parts, or_right}
-use Rattle.mk_script.specs.declared.items.Item.{Item}
-use Rattle.mk_script.specs.declared.items.Item.TheVariants.{TypeLine, Global, Script, Ptr, Num, Repeat, If}
+use Rattle.mk_gen.proofs.Vocabulary.{Item, Script, checked_item, line_item, this_script, words_of_line}
+use Rattle.mk_script.specs.declared.items.Item.TheVariants.{TypeLine, Global, Ptr, Num, Repeat, If}
 use Rattle.mk_script.specs.declared.keywords.Keyword.{Keyword}
 use Rattle.mk_script.specs.declared.keywords.Keyword.TheVariants as keyword
 use Rattle.mk_script.specs.declared.faults.Which.TheVariants as which
-use Rattle.mk_script.specs.Words.{words_of_line}
 use Rattle.mk_script.specs.Keywords.{keyword_of}
-use Rattle.mk_script.specs.Scopes.{pointer_names, number_names, is_script, this_script, open_behind, open_blocks}
+use Rattle.mk_script.specs.Scopes.{pointer_names, number_names, is_script, open_behind, open_blocks}
 use Rattle.mk_script.specs.Lines.{has_script, is_among, register_names, at_most, is_placed, placed_item, other_line}
-use Rattle.mk_script.specs.Lines.{line_item, is_twice, limit_fault, checked_item}
+use Rattle.mk_script.specs.Lines.{is_twice, limit_fault}
 use Rattle.mk_check.specs.Lookups.{lines_behind}
 use Rattle.mk_check.proofs.LookupLemmas.{this_script-push}
 use Rattle.mk_gen.proofs.ReadLines.{IsRead, AreRead}
@@ -33,17 +32,15 @@ is_inside (Global name ty) = false
 is_inside (Script name) = false
 is_inside item = true
 
-has_script-push : (items : List Item) (item : Item) → has_script items ≡ true
-    → has_script (items ++ item ∷ []) ≡ true
+has_script-push : (items : List Item) (item : Item) → has_script items ≡ true → has_script (items ++ item ∷ []) ≡ true
 has_script-push items item has = list_any-append is_script items (item ∷ []) ∙ rw has refl
 
 open_blocks-push : (items : List Item) (item : Item)
     → open_blocks (items ++ item ∷ []) ≡ open_behind (open_blocks items) item
 open_blocks-push items item = fold-append open_behind [] items (item ∷ [])
 
-pub alike_push : (a b : List Item) (item : Item) → AreAlike a b
-    → AreAlike (a ++ item ∷ []) (b ++ item ∷ [])
-alike_push a b item alike = record {
+pub alike_push : {a b : List Item} (item : Item) → AreAlike a b → AreAlike (a ++ item ∷ []) (b ++ item ∷ [])
+alike_push {a} {b} item alike = record {
   script = has_script-push a item alike.script;
   script' = has_script-push b item alike.script';
   lines = this_script-push a item ∙ ap (λ lines. lines_behind lines item) alike.lines ∙ sym (this_script-push b item);
@@ -115,13 +112,13 @@ module _ (a b : List Item) (alike : AreAlike a b) where
     is_short = is.is_short;
   }
 
-pub AreRead-alike : (lines : List (List ℕ)) (items a b : List Item) → AreAlike a b → list_all is_inside items ≡ true
+pub AreRead-alike : (lines : List (List ℕ)) (items : List Item) {a b : List Item} → AreAlike a b → list_all is_inside items ≡ true
     → AreRead a lines items → AreRead b lines items
-AreRead-alike [] [] a b alike inside are = tt
-AreRead-alike [] (item ∷ items) a b alike inside are = absurd are
-AreRead-alike (line ∷ lines) [] a b alike inside are = absurd are
-AreRead-alike (line ∷ lines) (item ∷ items) a b alike inside are =
+AreRead-alike [] [] alike inside are = tt
+AreRead-alike [] (item ∷ items) alike inside are = absurd are
+AreRead-alike (line ∷ lines) [] alike inside are = absurd are
+AreRead-alike (line ∷ lines) (item ∷ items) {a} {b} alike inside are =
     let each = and_parts _ _ inside in (
       read_alike a b alike line item each.0 are.0,
-      AreRead-alike lines items (a ++ item ∷ []) (b ++ item ∷ []) (alike_push a b item alike) each.1 are.1,
+      AreRead-alike lines items (alike_push item alike) each.1 are.1,
     )

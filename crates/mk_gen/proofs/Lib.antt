@@ -1,3 +1,4 @@
+pub mod Vocabulary
 pub mod Accepted
 pub mod Calls
 pub mod GeneratedLaws

@@ -8,18 +8,13 @@ use Rattle.std.proofs.lemmas.List.{append-nil, length-append}
 use Rattle.std.proofs.lemmas.List.Elements.{All-weaker}
 use Rattle.std.proofs.lemmas.List.Sums.{AllPass-from_list_all}
 use Rattle.std.proofs.lemmas.Bool.{and_parts, not-true, leb-true}
+use Rattle.mk_gen.proofs.Vocabulary.{Item, Script, body_lines, checked_item, line_item, script_body, words_of_line}
 use lib.Chars.{codes}
 use Rattle.mk_core.proofs.EventsAt.{◌and◌}
-use Rattle.mk_script.specs.declared.items.Item.{Item}
-use Rattle.mk_script.specs.declared.items.Item.TheVariants.{Script}
-use Rattle.mk_script.specs.Words.{words_of_line}
 use Rattle.mk_script.specs.Spaced.{joined_words}
-use Rattle.mk_script.specs.Lines.{line_item, checked_item}
 use Rattle.mk_script.specs.Operands.{item_from}
 use Rattle.mk_script.proofs.LineWords.{is_word-decimal, AreWords, words_of-joined, without_newline}
 use Rattle.mk_script.proofs.PrintedForms.{read_number}
-use Rattle.mk_gen.specs.Generated.{script_body}
-use Rattle.mk_gen.specs.GeneratedText.{body_lines}
 use Rattle.mk_gen.proofs.ReadLines.{IsRead, AreRead}
 
 -- at most 40 bytes, without a newline
@@ -67,13 +62,10 @@ body_is_read turns number place t a i =
     and plain refl refl refl
     and plain refl refl refl
     and plain refl refl refl
-    and by_words (codes "repeat" ∷ decimal turns ∷ [])
-    (ends_with (codes "repeat ") (decimal turns))
-    (refl, (is_word-decimal turns t, tt))
-    (read_number turns t _ refl) refl (omega (arith, length-decimal turns t))
+    and by_words (codes "repeat" ∷ decimal turns ∷ []) (ends_with (codes "repeat ") (decimal turns))
+    (refl, (is_word-decimal turns t, tt)) (read_number turns t _ refl) refl (omega (arith, length-decimal turns t))
     and plain refl refl refl
-    and by_words (codes "const" ∷ codes "n" ∷ decimal number ∷ [])
-    (ends_with (codes "const n ") (decimal number))
+    and by_words (codes "const" ∷ codes "n" ∷ decimal number ∷ []) (ends_with (codes "const n ") (decimal number))
     (refl, (refl, (is_word-decimal number a, tt)))
     (read_number number a _ refl) refl (omega (arith, length-decimal number a))
     and plain refl refl refl
@@ -82,10 +74,8 @@ body_is_read turns number place t a i =
     and plain refl refl refl
     and plain refl refl refl
     and plain refl refl refl
-    and by_words (codes "setn" ∷ codes "b" ∷ decimal place ∷ codes "n" ∷ [])
-    refl
-    (refl, (refl, (is_word-decimal place i, (refl, tt))))
-    (read_number place i _ refl) refl
+    and by_words (codes "setn" ∷ codes "b" ∷ decimal place ∷ codes "n" ∷ []) refl
+    (refl, (refl, (is_word-decimal place i, (refl, tt)))) (read_number place i _ refl) refl
     (omega (arith, length-decimal place i, length-append (decimal place) (codes " n")))
     and plain refl refl refl
     and plain refl refl refl

@@ -4,16 +4,16 @@ use Rattle.std.specs.Prelude.{replicate}
 use Rattle.std.specs.Fmt.{decimal}
 use Rattle.std.proofs.lemmas.Bool.{le-leb, cond-true}
 use Rattle.std.proofs.lemmas.List.{append-nil, length-replicate}
+use Rattle.mk_gen.proofs.Vocabulary.{Number, declaration_lines, declarations}
 use lib.Chars.{codes}
 use Rattle.mk_core.proofs.EventsAt.{◌and◌}
-use Rattle.mk_script.specs.declared.items.TypeWord.TheVariants.{Number, Pointer}
+use Rattle.mk_script.specs.declared.items.TypeWord.TheVariants.{Pointer}
 use Rattle.mk_script.specs.declared.items.Item.TheVariants.{Heap, TypeLine}
 use Rattle.mk_script.specs.Operands.{field_of, item_from}
 use Rattle.mk_script.proofs.PrintedNumbers.{number_of_word-decimal}
 use Rattle.mk_script.proofs.LineWords.{is_solid-decimal, is_word-append}
 use Rattle.mk_check.specs.Typing.{base_of}
-use Rattle.mk_gen.specs.Generated.{node, declarations}
-use Rattle.mk_gen.specs.GeneratedText.{declaration_lines}
+use Rattle.mk_gen.specs.Generated.{node}
 use Rattle.mk_gen.proofs.ReadLines.{AreRead}
 use Rattle.mk_gen.proofs.ReadBody.{by_words, plain, length-decimal}
 

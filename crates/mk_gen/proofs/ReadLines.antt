@@ -5,12 +5,11 @@ use Rattle.std.specs.List.{All, slice_split}
 use Rattle.std.proofs.lemmas.List.{append-nil}
 use Rattle.std.proofs.lemmas.List.Splits.{slice_split_at}
 use Rattle.std.proofs.lemmas.Bool.{false≢true, leb-true, le-leb, cond-true}
-use Rattle.mk_script.specs.declared.items.Item.{Item}
-use Rattle.mk_script.specs.Words.{lines_of, words_of_line, without_empty_last}
-use Rattle.mk_script.specs.Lines.{line_item, checked_item, line_of}
-use Rattle.mk_script.specs.Grammar.{at_end, go_on, items_behind, items_of_lines, program_of}
+use Rattle.mk_gen.proofs.Vocabulary.{Item, checked_item, line_item, program_of, text_of_lines, words_of_line}
+use Rattle.mk_script.specs.Words.{lines_of, without_empty_last}
+use Rattle.mk_script.specs.Lines.{line_of}
+use Rattle.mk_script.specs.Grammar.{at_end, go_on, items_behind, items_of_lines}
 use Rattle.mk_script.proofs.Said.{then_again}
-use Rattle.mk_gen.specs.GeneratedText.{text_of_lines}
 
 -- a line of at most 40 bytes, without a newline, which is read as the item
 pub record IsRead (before : List Item) (line : List ℕ) (item : Item) : Type 0 where
@@ -62,9 +61,9 @@ length-text (line ∷ lines) before (item ∷ items) are =
     let behind = length-text lines (before ++ item ∷ []) items are.1 in
     omega (arith, length-append line (10 ∷ text_of_lines lines), are.0.is_short, behind)
 
-is_line : (before : List Item) (line : List ℕ) (item : Item) → IsRead before line item
+is_line : {before : List Item} {line : List ℕ} {item : Item} → IsRead before line item
     → line_of before (words_of_line line) ≡ Ok item
-is_line before line item is =
+is_line {before} {line} {item} is =
     then_again (line_item before (words_of_line line)) (checked_item before) item (Ok item) is.says is.passes
 
 items_are : (lines : List (List ℕ)) (before items : List Item) → AreRead before lines items
@@ -74,9 +73,8 @@ items_are [] before (item ∷ items) are end = absurd are
 items_are (line ∷ lines) before [] are end = absurd are
 items_are (line ∷ lines) before (item ∷ items) are end =
     let same = append_assoc before (item ∷ []) items in
-    ap (λ r. go_on (length before + 1) r (λ x. items_behind lines (before ++ x ∷ []))) (is_line before line item are.0)
-    ∙ items_are lines (before ++ item ∷ []) items are.1 (subst (λ b. at_end b ≡ Ok b) (sym same) end)
-    ∙ ap Ok same
+    ap (λ r. go_on (length before + 1) r (λ x. items_behind lines (before ++ x ∷ []))) (is_line are.0)
+    ∙ items_are lines (before ++ item ∷ []) items are.1 (subst (λ b. at_end b ≡ Ok b) (sym same) end) ∙ ap Ok same
 
 -- a text of 1 to 1,000 lines that are read
 pub program_of-lines : (lines : List (List ℕ)) (items : List Item) → AreRead [] lines items → at_end items ≡ Ok items

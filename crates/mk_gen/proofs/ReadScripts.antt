@@ -5,20 +5,17 @@ use Rattle.std.proofs.Math.Nat.{mod-lt}
 use Rattle.std.proofs.lemmas.Bool.{false≢true, and_parts, not-true, leb-true}
 use Rattle.std.proofs.lemmas.List.{append-nil}
 use Rattle.std.proofs.lemmas.List.Sums.{fold-append}
+use Rattle.mk_gen.proofs.Vocabulary.{Item, Script, body_lines, draw, line_item, lines_of_scripts, next_state}
+use Rattle.mk_gen.proofs.Vocabulary.{script_body, scripts}
 use lib.Chars.{codes}
 use Rattle.mk_core.proofs.EventsAt.{◌and◌}
-use Rattle.mk_script.specs.declared.items.Item.{Item}
-use Rattle.mk_script.specs.declared.items.Item.TheVariants.{Script}
 use Rattle.mk_script.specs.Names.{is_name}
 use Rattle.mk_script.specs.Operands.{item_from}
 use Rattle.mk_script.specs.ScopeOf.{has_lines}
 use Rattle.mk_script.specs.Scopes.{script_names, open_behind, open_blocks}
-use Rattle.mk_script.specs.Lines.{line_item, is_among}
+use Rattle.mk_script.specs.Lines.{is_among}
 use Rattle.mk_script.proofs.Said.{is_word-name}
 use Rattle.mk_script.proofs.PrintedForms.{read_name}
-use Rattle.mk_gen.specs.Draws.{next_state, draw}
-use Rattle.mk_gen.specs.Generated.{script_body, scripts}
-use Rattle.mk_gen.specs.GeneratedText.{body_lines, lines_of_scripts}
 use Rattle.mk_gen.proofs.ReadLines.{IsRead, AreRead, AreRead-append}
 use Rattle.mk_gen.proofs.InScript.{alike_at_first, AreRead-alike}
 use Rattle.mk_gen.proofs.ReadBody.{by_words, body_is_read}
@@ -44,19 +41,15 @@ script_says [] name some named = absurd (false≢true some)
 script_says (first ∷ before) name some named = read_name name named _ refl
 
 -- a script's first line
-first_is_read : (before : List Item) (names : List (List ℕ)) (name : List ℕ) → AreReady before names
-    → may_begin names name ≡ true
-    → IsRead before (codes "script " ++ name) (Script name)
-first_is_read before names name ready may =
+first_is_read : {before : List Item} {names : List (List ℕ)} (name : List ℕ) → AreReady before names
+    → may_begin names name ≡ true → IsRead before (codes "script " ++ name) (Script name)
+first_is_read {before} name ready may =
     let parts = and_parts _ _ may in
     let begins = and_parts _ _ parts.0 in
     let short : length name ≤ 16 = leb-true _ _ (and_parts _ _ (and_parts _ _ (and_parts _ _ begins.0).0).0).1 in
-    by_words (codes "script" ∷ name ∷ [])
-    (ap (λ word. codes "script " ++ word) (sym (append-nil name)))
-    (refl, (is_word-name name begins.0, tt))
-    (script_says before name ready.some begins.0)
-    (rw (ready.names_are, not-true _ begins.1, parts.1, ready.closed) refl)
-    (omega (arith, short))
+    by_words (codes "script" ∷ name ∷ []) (ap (λ word. codes "script " ++ word) (sym (append-nil name)))
+    (refl, (is_word-name name begins.0, tt)) (script_says before name ready.some begins.0)
+    (rw (ready.names_are, not-true _ begins.1, parts.1, ready.closed) refl) (omega (arith, short))
 
 script_names-append : (items behind : List Item)
     → script_names (items ++ behind) ≡ script_names items ++ script_names behind
@@ -85,9 +78,8 @@ module _ (turns number place : ℕ) where
       → AreReady before names → may_begin names name ≡ true
       → AreRead before ((codes "script " ++ name) ∷ body_lines turns number place) (script_items name)
   script_is_read t a i before names name ready may =
-      first_is_read before names name ready may
+      first_is_read name ready may
       and AreRead-alike (body_lines turns number place) (script_body turns number place)
-      (Script [] ∷ []) (before ++ Script name ∷ [])
       (alike_at_first before name) refl (body_is_read turns number place t a i)
 
 pub draw-lt : (x m : ℕ) → 0 < m → draw x m < m
@@ -95,8 +87,7 @@ draw-lt x m some = mod-lt (x / 2 ^ 33) some
 
 module _ (turns numbers : ℕ) (t : turns < 2 ^ 64) (some : 0 < numbers) (few : numbers ≤ 100) where
   pub scripts_are_read : (x : ℕ) (names before_names : List (List ℕ)) (before : List Item)
-      → AreReady before before_names
-      → MayBegin before_names names
+      → AreReady before before_names → MayBegin before_names names
       → AreRead before (lines_of_scripts turns numbers x names) (scripts turns numbers x names)
   scripts_are_read x [] before_names before ready may = tt
   scripts_are_read x (name ∷ names) before_names before ready may =

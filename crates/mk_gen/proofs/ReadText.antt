@@ -1,10 +1,10 @@
 -- The generated text is a text of the generated program.
 use Rattle.std.proofs.Common.{◌≡◌, ℕ, ◌<◌, ◌≤◌, ◌^◌, List, [], ◌++◌, refl, arith, Ok}
-use Rattle.mk_script.specs.declared.items.Item.{Item}
-use Rattle.mk_script.specs.Grammar.{at_end, program_of}
-use Rattle.mk_gen.specs.Draws.{next_state}
-use Rattle.mk_gen.specs.Generated.{all_names, declarations, scripts, count_of_numbers, turns_of, generated_program}
-use Rattle.mk_gen.specs.GeneratedText.{declaration_lines, lines_of_scripts, generated_lines, generated_text}
+use Rattle.mk_gen.proofs.Vocabulary.{Item, all_names, count_of_numbers, declaration_lines, declarations}
+use Rattle.mk_gen.proofs.Vocabulary.{lines_of_scripts, next_state, program_of, scripts, turns_of}
+use Rattle.mk_script.specs.Grammar.{at_end}
+use Rattle.mk_gen.specs.Generated.{generated_program}
+use Rattle.mk_gen.specs.GeneratedText.{generated_lines, generated_text}
 use Rattle.mk_gen.proofs.ReadLines.{AreRead, AreRead-append, program_of-lines}
 use Rattle.mk_gen.proofs.ReadDeclarations.{declarations_are_read}
 use Rattle.mk_gen.proofs.ReadScripts.{AreReady, draw-lt, scripts_are_read}
@@ -29,8 +29,7 @@ module _ (turns numbers x : ℕ) where
   unfolding lines items
   lines_are_read small some few =
       AreRead-append (declaration_lines numbers) (lines_of_scripts turns numbers x all_names) []
-      (declarations numbers) (scripts turns numbers x all_names)
-      (declarations_are_read numbers some few)
+      (declarations numbers) (scripts turns numbers x all_names) (declarations_are_read numbers some few)
       (scripts_are_read turns numbers small (omega (arith, some)) few x all_names [] (declarations numbers)
       (declarations_are_ready numbers) (refl, (refl, (refl, (refl, tt)))))
 
@@ -45,7 +44,5 @@ unfolding generated_program generated_text lines items
 program_of-generated_text start count most =
     program_of-lines (generated_lines start count) (generated_program start count)
     (lines_are_read (turns_of count) (count_of_numbers start) (next_state start) (omega (arith, most))
-    (numbers_some start) (numbers_few start))
-    (ends (turns_of count) (count_of_numbers start) (next_state start))
-    refl
+    (numbers_some start) (numbers_few start)) (ends (turns_of count) (count_of_numbers start) (next_state start)) refl
     refl

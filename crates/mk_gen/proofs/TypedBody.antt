@@ -3,10 +3,8 @@ use Rattle.std.proofs.Common.{◌≡◌, ℕ, ◌+◌, ◌<◌, List, [], ◌++�
 use Rattle.std.specs.Prelude.{replicate, slice_get}
 use Rattle.std.proofs.lemmas.List.{length-replicate, get_or-replicate}
 use Rattle.std.proofs.lemmas.Option.{slice_get_read}
+use Rattle.mk_gen.proofs.Vocabulary.{Item, Number, declarations, script_body}
 use Rattle.mk_core.proofs.EventsAt.{◌and◌}
-use Rattle.mk_script.specs.declared.items.Item.{Item}
-use Rattle.mk_script.specs.declared.items.TypeWord.TheVariants.{Number}
-use Rattle.mk_gen.specs.Generated.{declarations, script_body}
 use Rattle.mk_gen.proofs.TypedLines.{typed, AreTyped}
 
 slice_get-replicate : {A : Type 0} (n i : ℕ) (x : A) → i < n → slice_get (replicate n x) i ≡ Some x

@@ -2,17 +2,13 @@
 use Rattle.std.proofs.Common.{◌≡◌, ℕ, zero, suc, ◌+◌, ◌<◌, ◌≤◌, List, [], ◌∷◌, ◌++◌, refl, arith, None}
 use Rattle.std.specs.Prelude.{replicate}
 use Rattle.std.proofs.lemmas.Bool.{le-leb}
-use Rattle.mk_script.specs.declared.items.Item.{Item}
-use Rattle.mk_script.specs.declared.items.Item.TheVariants.{Script}
-use Rattle.mk_script.specs.declared.items.TypeWord.TheVariants.{Number}
-use Rattle.mk_script.specs.Scopes.{this_script}
-use Rattle.mk_check.specs.Blocks.{before_next_script, blocks_from}
+use Rattle.mk_gen.proofs.Vocabulary.{Item, Number, Script, all_names, blocks_from, count_of_numbers, declarations, draw}
+use Rattle.mk_gen.proofs.Vocabulary.{next_state, script_body, scripts, this_script, turns_of}
+use Rattle.mk_check.specs.Blocks.{before_next_script}
 use Rattle.mk_check.specs.Lengths.{length_of}
 use Rattle.mk_check.specs.Typing.{Around, length_fault, pointers_fault, offsets_fault, typing_fault, fault_from}
 use Rattle.mk_check.specs.Typing.{IsWellTyped}
 use Rattle.mk_check.proofs.LookupLemmas.{this_script-push}
-use Rattle.mk_gen.specs.Draws.{next_state, draw}
-use Rattle.mk_gen.specs.Generated.{all_names, declarations, script_body, scripts, count_of_numbers, turns_of}
 use Rattle.mk_gen.specs.Generated.{generated_program}
 use Rattle.mk_gen.proofs.ReadScripts.{draw-lt}
 use Rattle.mk_gen.proofs.ReadText.{numbers_some}
@@ -34,8 +30,7 @@ length_fault-none count small = rw (le-leb count 1000000 small) refl
 
 -- the first line of a script
 first_is_typed : (a : Around) (line turns number place : ℕ) (more : List Item) (name : List ℕ) → turns ≤ 62500
-    → before_next_script more ≡ []
-    → typing_fault a line (script_body turns number place ++ more) (Script name) ≡ None
+    → before_next_script more ≡ [] → typing_fault a line (script_body turns number place ++ more) (Script name) ≡ None
 first_is_typed a line turns number place more name few none =
     let short : length_of (blocks_from (line + 1) (script_body turns number place)) ≤ 1000000 =
     omega (arith, body_is_short (line + 1) turns number place few) in

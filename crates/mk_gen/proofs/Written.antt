@@ -2,11 +2,11 @@
 use Rattle.std.proofs.Common.{◌≡◌, ℕ, ◌+◌, ◌<◌, length, get_or, drop, map, Bor, List, [], ◌∷◌, ◌++◌, refl, ap, ◌∙◌, sym}
 use Rattle.std.proofs.Common.{append_assoc}
 use Rattle.std.proofs.lemmas.List.{get_or-map}
+use Rattle.mk_gen.proofs.Vocabulary.{all_names, body_lines, count_of_numbers, declaration_lines, draw, lines_of_scripts}
+use Rattle.mk_gen.proofs.Vocabulary.{next_state, text_of_lines, turns_of}
 use lib.Chars.{codes}
 use Rattle.mk_script.proofs.Spacing.{drop_next}
-use Rattle.mk_gen.specs.Draws.{next_state, draw}
-use Rattle.mk_gen.specs.Generated.{all_names, count_of_numbers, turns_of}
-use Rattle.mk_gen.specs.GeneratedText.{declaration_lines, body_lines, lines_of_scripts, text_of_lines, generated_text}
+use Rattle.mk_gen.specs.GeneratedText.{generated_text}
 
 pub text_of_lines-append : (lines more : List (List ℕ))
     → text_of_lines (lines ++ more) ≡ text_of_lines lines ++ text_of_lines more
@@ -17,8 +17,7 @@ text_of_lines-append (line ∷ lines) more =
 
 -- The lines before the first script are written, and all scripts are left.
 pub all_scripts_left : (start count numbers x : ℕ) (text : List ℕ) → numbers ≡ count_of_numbers start → x
-    ≡ next_state start
-    → text ≡ text_of_lines (declaration_lines numbers)
+    ≡ next_state start → text ≡ text_of_lines (declaration_lines numbers)
     → text ++ text_of_lines (lines_of_scripts (turns_of count) numbers x all_names) ≡ generated_text start count
 unfolding generated_text
 all_scripts_left start count numbers x text are is written =
@@ -29,8 +28,7 @@ all_scripts_left start count numbers x text are is written =
 pub one_script_more : (turns numbers x number y place z i : ℕ) (names : List (List ℕ))
     (name before after whole : List ℕ)
     → number ≡ draw (next_state x) 1000 → y ≡ next_state x → place ≡ draw (next_state y) numbers → z ≡ next_state y
-    → i < length names
-    → before ++ text_of_lines (lines_of_scripts turns numbers x (drop i names)) ≡ whole
+    → i < length names → before ++ text_of_lines (lines_of_scripts turns numbers x (drop i names)) ≡ whole
     → after ≡ before ++ text_of_lines ((codes "script " ++ name) ∷ body_lines turns number place)
     → name ≡ get_or names i name
     → after ++ text_of_lines (lines_of_scripts turns numbers z (drop (i + 1) names)) ≡ whole
@@ -40,10 +38,8 @@ one_script_more turns numbers x number y place z i names name before after whole
     let script = (codes "script " ++ name) ∷ body_lines turns number place in
     let left : script ++ rest ≡ lines_of_scripts turns numbers x (drop i names) =
     rw (drop_next names i name inside named, drawn, drawn', is', is) refl in
-    ap (λ text. text ++ text_of_lines rest) more
-    ∙ append_assoc before (text_of_lines script) (text_of_lines rest)
-    ∙ ap (λ text. before ++ text) (sym (text_of_lines-append script rest) ∙ ap text_of_lines left)
-    ∙ was
+    ap (λ text. text ++ text_of_lines rest) more ∙ append_assoc before (text_of_lines script) (text_of_lines rest)
+    ∙ ap (λ text. before ++ text) (sym (text_of_lines-append script rest) ∙ ap text_of_lines left) ∙ was
 
 -- a name that is read after its reference
 pub name_read : (names : List (Bor (List ℕ))) (i : ℕ) (other : Bor (List ℕ)) → i < length names

@@ -1,62 +1,47 @@
 -- The history that a schedule makes of a checked program asks for nothing that isn't admitted, so it is a history of
 -- the program's heap, and keeps all promises.
-use Rattle.std.proofs.Common.{◌≡◌, ◌≢◌, ℕ, eq-eqb, ◌+◌, ◌<◌, ◌≤◌, Bool, true, false, List, [], ◌∷◌, ◌++◌, length, take}
-use Rattle.std.proofs.Common.{map, get_or, set, replicate, refl, sym, ◌∙◌, ap, subst, append-nil, append_assoc, arith}
-use Rattle.std.proofs.Common.{inl, inr}
+use Rattle.std.proofs.Common.{◌≡◌, ◌≢◌, ℕ, eq-eqb, ◌+◌, ◌<◌, Bool, true, false, List, [], ◌∷◌, ◌++◌, length, map}
+use Rattle.std.proofs.Common.{get_or, refl, sym, ◌∙◌, ap, subst, append-nil, append_assoc, arith, inl, inr}
 use Rattle.std.specs.Prelude.{Option, Some, None, if◌then◌else◌, ◌==◌, ◌&&◌, filter, All}
 use Rattle.std.proofs.lemmas.Bool.{cases_eq, ltb-true}
 use Rattle.std.proofs.lemmas.Bool.Decides.{nat_tests}
 use Rattle.std.proofs.lemmas.List.{map-append, length-append, get_or-replicate, get_or-set_same, get_or-set_other}
 use Rattle.std.proofs.lemmas.List.Elements.{filter-append, All-nil, All-push}
 use Rattle.std.proofs.lemmas.List.Sums.{sum_by_push}
-use Rattle.mk_never.specs.declared.operations.Op.{Op}
+use Rattle.mk_replay.proofs.Vocabulary.{Answer, AreEnabled, Caller, Config, Decided, Entry, Event, Flight, Form, Item}
+use Rattle.mk_replay.proofs.Vocabulary.{Moment, Op, Stage, Step, answer_decided, answers_given, asked, at_rest, calls}
+use Rattle.mk_replay.proofs.Vocabulary.{comes_next, config_of, ends_call, entry_of, event_of_entry, first_world}
+use Rattle.mk_replay.proofs.Vocabulary.{flight_of, history_of, is_same_seat, left, progress}
 use Rattle.mk_never.specs.declared.operations.Op.TheVariants as op
-use Rattle.mk_script.specs.declared.items.Item.{Item}
 use Rattle.mk_script.specs.Scopes.{script_names}
 use Rattle.mk_script.proofs.PassedLines.{is_whole}
-use Rattle.mk_core.specs.declared.config.Config.{Config}
-use Rattle.mk_core.specs.declared.events.Answer.{Answer}
-use Rattle.mk_core.specs.declared.events.Event.{Event}
 use Rattle.mk_core.specs.declared.events.Seat.{Seat}
-use Rattle.mk_core.specs.declared.events.Seat.TheVariants.{Caller, Marker, Host}
-use Rattle.mk_core.specs.declared.events.Step.{Step}
+use Rattle.mk_core.specs.declared.events.Seat.TheVariants.{Marker, Host}
 use Rattle.mk_core.specs.declared.events.Step.TheVariants as step
-use Rattle.mk_core.specs.declared.seats.Flight.{Flight}
-use Rattle.mk_core.specs.declared.seats.Stage.{Stage}
 use Rattle.mk_core.specs.declared.seats.Stage.TheVariants as stage
-use Rattle.mk_core.specs.Accesses.{caller_number, found}
-use Rattle.mk_core.specs.Calls.{at_rest}
-use Rattle.mk_core.specs.Decided.{Decided, asked, entry_of}
-use Rattle.mk_core.specs.Effects.{progress, flights_behind, answer_decided}
-use Rattle.mk_core.specs.Enabled.{IsEnabled}
-use Rattle.mk_core.specs.Growing.{is_same_seat}
-use Rattle.mk_core.specs.History.{World, first_world, left_from, left, AreEnabled, call_decided, calls_from, calls}
-use Rattle.mk_core.specs.History.{IsHistory}
-use Rattle.mk_core.specs.Moments.{Moment, flight_of}
-use Rattle.mk_core.specs.Order.{comes_next, is_in_order}
+use Rattle.mk_core.specs.Accesses.{found}
+use Rattle.mk_core.specs.Effects.{flights_behind}
+use Rattle.mk_core.specs.History.{World, left_from, call_decided, calls_from, IsHistory}
+use Rattle.mk_core.specs.Order.{is_in_order}
 use Rattle.mk_core.proofs.Conditions.{enabled_meets}
 use Rattle.mk_core.proofs.Histories.{left_more, enabled_parts, last_enabled, calls_more}
-use Rattle.mk_check.specs.Declarations.{config_of}
 use Rattle.mk_check.specs.Feeding.{next_op}
 use Rattle.mk_check.specs.Laws.{IsChecked, IsScript}
-use Rattle.mk_check.specs.Output.{ends_call, ends_call_of, ended_calls, answers_among, answers_given}
+use Rattle.mk_check.specs.Output.{ends_call_of, ended_calls, answers_among}
 use Rattle.mk_check.proofs.AdmittedScripts.{first_are_noted, scripts_are_admitted}
 use Rattle.mk_check.proofs.ConfigLemmas.{config_within}
 use Rattle.mk_check.proofs.GivenAnswers.{as_list, counted, serves}
 use Rattle.mk_laws.specs.Promises.{KeepsAllPromises}
 use Rattle.mk_laws.proofs.Promises.{histories_keep_all_promises}
-use Rattle.mk_replay.specs.declared.schedule.Entry.{Entry}
-use Rattle.mk_replay.specs.declared.schedule.Form.{Form}
 use Rattle.mk_replay.specs.declared.schedule.Form.TheVariants as form
-use Rattle.mk_replay.specs.Replays.{next_op_for, step_of, event_of_entry, history_from, history_of}
+use Rattle.mk_replay.specs.Replays.{next_op_for, step_of, history_from}
 use Rattle.mk_replay.proofs.AskedCalls.{Asks, BeginsAsAsked, Waits, same_asks, own_step, others_step, waits}
 
 -- What one event more makes of a caller's answers, and of the count of its calls that ended.
 
 among_more : (k : ℕ) (xs ys : List Decided) → answers_among k (xs ++ ys) ≡ answers_among k xs ++ answers_among k ys
 among_more k xs ys =
-    ap (λ (zs : List Decided). map (λ (x : Decided). x.answer) zs)
-    (filter-append (λ (x : Decided). x.caller == k) xs ys)
+    ap (map (λ (x : Decided). x.answer)) (filter-append (λ (x : Decided). x.caller == k) xs ys)
     ∙ map-append (λ (x : Decided). x.answer) (filter (λ (x : Decided). x.caller == k) xs)
     (filter (λ (x : Decided). x.caller == k) ys)
 
@@ -124,8 +109,7 @@ pub record AreAsked (program : List Item) (es : List Event) : Type 0 where
 
 -- Where a step decides that isn't its call's last one, no answer waited.
 once_decided : (n i : ℕ) (before behind : List Answer) (a : Option Answer) (b : Answer) → Waits n before
-    → Waits i behind
-    → i ≡ n → behind ≡ before ++ as_list a → a ≡ Some b → length before ≡ n
+    → Waits i behind → i ≡ n → behind ≡ before ++ as_list a → a ≡ Some b → length before ≡ n
 once_decided n i before behind (Some a) b was is same more e =
     let size = ap length more ∙ length-append before (a ∷ []) in
     let least = was.0 in
@@ -141,11 +125,9 @@ module _ (program : List Item) (es : List Event) where
   m = (left (config_of program 8) es).now
 
   asked_behind : (e : Event) → asked (calls c (es ++ e ∷ [])) ≡ asked (calls c es) ++ asked (call_decided c m e)
-  asked_behind e = ap (λ (xs : List Decided). asked xs) (calls_more c (first_world c) es e)
-      ∙ asked_more (calls c es) (call_decided c m e)
+  asked_behind e = ap asked (calls_more c (first_world c) es e) ∙ asked_more (calls c es) (call_decided c m e)
 
-  flight_behind : (e : Event) (k : ℕ)
-      → flight_of (left c (es ++ e ∷ [])).now (Caller k)
+  flight_behind : (e : Event) (k : ℕ) → flight_of (left c (es ++ e ∷ [])).now (Caller k)
       ≡ get_or (flights_behind c m e.seat (found c m e) e.step) k at_rest
   flight_behind e k = ap (λ (w : World). flight_of w.now (Caller k)) (left_more c (first_world c) es e)
 
@@ -201,7 +183,7 @@ module _ (program : List Item) (es : List Event) where
       same_asks program k (flight_of m (Caller k)) _ n _ all _ (asked (calls c es)) _
       (flight_behind e k ∙ ap (λ (fs : List Flight). get_or fs k at_rest) still)
       (ended_more es e k ∙ ap (λ (b : Bool). counted n (b && ends_call e.step)) other)
-      (ap (answers_among k) same) (ap (λ (xs : List Decided). asked xs) same) h
+      (ap (answers_among k) same) (ap asked same) h
 
   push_caller : (j : ℕ) (o : Op) (a : Option Answer) → IsScript program j
       → All (λ call. IsScript program call.caller) (asked (calls c es))
@@ -228,9 +210,8 @@ module _ (program : List Item) (es : List Event) where
             (push_caller j (flight_of m (Caller j)).op (answer_decided c m e) (ltb-true j c.callers meets.seat)
             h.callers);
         each = λ k is. elim (cases_eq j k) [
-          | inl same ↦ subst (λ (i : ℕ). AsksBehind program (es ++ e ∷ []) i) same
-              (own_more j s enabled (begins j refl)
-              (subst (λ (i : ℕ). AsksBehind program es i) (sym same) (h.each k is)))
+          | inl same ↦ subst (AsksBehind program (es ++ e ∷ [])) same
+              (own_more j s enabled (begins j refl) (subst (AsksBehind program es) (sym same) (h.each k is)))
           | inr other ↦ others_more j k s other (h.each k is)
         ];
       }
@@ -284,8 +265,7 @@ asked_along program es (x ∷ xs) enabled h =
     let c = config_of program 8 in
     let next = es ++ event_of_entry program es x ∷ [] in
     let later = goes_on program next xs in
-    let front = (enabled_parts c (first_world c) next later.more
-    (subst (λ (all : List Event). AreEnabled c all) later.are enabled)).0 in
+    let front = (enabled_parts c (first_world c) next later.more (subst (AreEnabled c) later.are enabled)).0 in
     asked_along program next xs enabled (entry_more program es x front h)
 
 none_asked : (program : List Item) → AreAsked program []
@@ -300,10 +280,10 @@ none_asked program = record {
 }
 
 -- The history of a checked program's schedule, where its events are enabled, is one of the program's heap.
-pub schedule_is_history : (program : List Item) (schedule : List Entry) → IsChecked program
+pub schedule_is_history : {program : List Item} (schedule : List Entry) → IsChecked program
     → AreEnabled (config_of program 8) (history_of program schedule)
     → IsHistory (config_of program 8) (history_of program schedule)
-schedule_is_history program schedule checked enabled =
+schedule_is_history {program} schedule checked enabled =
     let c = config_of program 8 in
     let es = history_of program schedule in
     let h = asked_along program [] schedule enabled (none_asked program) in
@@ -323,4 +303,4 @@ pub schedule_keeps_all_promises : (program : List Item) (schedule : List Entry) 
     → KeepsAllPromises (config_of program 8) (history_of program schedule)
 schedule_keeps_all_promises program schedule checked enabled =
     histories_keep_all_promises (config_of program 8) (history_of program schedule)
-    (schedule_is_history program schedule checked enabled)
+    (schedule_is_history schedule checked enabled)

@@ -3,31 +3,21 @@ use Rattle.std.proofs.Common.{◌≡◌, ◌≢◌, ℕ, ◌+◌, ◌≤◌, Boo
 use Rattle.std.proofs.Common.{◌∙◌, ap, subst, append-nil, arith}
 use Rattle.std.specs.Prelude.{⊤, Option, Some, None, if◌then◌else◌, ◌==◌}
 use Rattle.std.proofs.lemmas.List.{length-append, take_all}
-use Rattle.mk_never.specs.declared.operations.Op.{Op}
+use Rattle.mk_replay.proofs.Vocabulary.{Answer, AreEnabled, Caller, Config, Event, Flight, Item, Moment, Op, Stage}
+use Rattle.mk_replay.proofs.Vocabulary.{Step, asked, at_rest, calls, comes_next, ends_call, entry_of, flight_of, left}
+use Rattle.mk_replay.proofs.Vocabulary.{progress}
 use Rattle.mk_never.specs.declared.operations.Op.TheVariants as op
 use Rattle.mk_never.specs.NeverHeap.{Call}
 use Rattle.mk_geom.specs.declared.addresses.Cell.{Cell}
-use Rattle.mk_script.specs.declared.items.Item.{Item}
-use Rattle.mk_core.specs.declared.config.Config.{Config}
-use Rattle.mk_core.specs.declared.events.Answer.{Answer}
-use Rattle.mk_core.specs.declared.events.Event.{Event}
-use Rattle.mk_core.specs.declared.events.Seat.TheVariants.{Caller}
-use Rattle.mk_core.specs.declared.events.Step.{Step}
 use Rattle.mk_core.specs.declared.events.Step.TheVariants as step
-use Rattle.mk_core.specs.declared.seats.Stage.{Stage}
 use Rattle.mk_core.specs.declared.seats.Stage.TheVariants as stage
-use Rattle.mk_core.specs.declared.seats.Flight.{Flight}
 use Rattle.mk_core.specs.declared.seats.Progress.{Progress}
-use Rattle.mk_core.specs.Calls.{at_rest, begun, still, progress_q, progress_p, progress_reg, progress_read}
-use Rattle.mk_core.specs.Decided.{asked, entry_of}
-use Rattle.mk_core.specs.Effects.{progress, progress_freed}
-use Rattle.mk_core.specs.History.{left, AreEnabled, calls}
-use Rattle.mk_core.specs.Moments.{Moment, flight_of}
-use Rattle.mk_core.specs.Order.{comes_next}
+use Rattle.mk_core.specs.Calls.{begun, still, progress_q, progress_p, progress_reg, progress_read}
+use Rattle.mk_core.specs.Effects.{progress_freed}
 use Rattle.mk_core.specs.TurnConditions.{cell_freed}
 use Rattle.mk_check.specs.Feeding.{next_op}
 use Rattle.mk_check.specs.Laws.{AreNotedBy}
-use Rattle.mk_check.specs.Output.{ends_call, ended_calls, answers_among}
+use Rattle.mk_check.specs.Output.{ended_calls, answers_among}
 use Rattle.mk_check.proofs.AdmittedScripts.{answers_are_noted, others_are_ignored}
 use Rattle.mk_check.proofs.GivenAnswers.{as_list, counted, Serves, serves}
 
@@ -134,8 +124,7 @@ module _ (program : List Item) (k : ℕ) (f : Flight) (n : ℕ) (answers : List 
       → Asks program k new i (answers ++ []) (calls ++ [])
   quiet new i next =
       same_asks program k new new i i answers (answers ++ []) calls (calls ++ []) refl refl (append-nil answers)
-      (append-nil calls)
-      (record { noted = h.noted; next = next })
+      (append-nil calls) (record { noted = h.noted; next = next })
 
   -- after one that isn't its call's first or last one
   decides : (new : Flight) (a : Option Answer) → new.op ≡ f.op → f.stage ≢ stage.Idle
@@ -145,7 +134,7 @@ module _ (program : List Item) (k : ℕ) (f : Flight) (n : ℕ) (answers : List 
     noted = answers_are_noted program k answers calls h.noted f.op a (h.next (once a refl) busy);
     next = λ e. (let few = once a refl in let more = length-append answers (a ∷ []) in absurd (omega arith));
   }
-  decides new None same busy once = quiet new n (λ few _. h.next few busy ∙ ap (λ (o : Op). Some o) (sym same))
+  decides new None same busy once = quiet new n (λ few _. h.next few busy ∙ ap Some (sym same))
 
   -- what one of the caller's own steps leaves
   abbrev pub OwnAsks : ℕ → Progress → Type 0

@@ -2,10 +2,9 @@
 use Rattle.std.proofs.Common.{◌≡◌, ◌≢◌, ℕ, ◌+◌, ◌<◌, ◌≤◌, List, ◌∷◌, ◌++◌, length, get_or, drop, Bor, Ok, Err, Result}
 use Rattle.std.proofs.Common.{refl, ap, sym, ◌∙◌, append_assoc, arith}
 use Rattle.std.proofs.lemmas.List.{append-nil, at_drop_more, at_drop_all}
+use Rattle.mk_replay.proofs.Vocabulary.{Entry, texts_of}
 use Rattle.mk_script.specs.declared.faults.TextStop.{TextStop}
 use Rattle.mk_script.specs.declared.faults.TextStop.TheVariants.{NoMemory}
-use Rattle.mk_script.specs.Words.{texts_of}
-use Rattle.mk_replay.specs.declared.schedule.Entry.{Entry}
 use Rattle.mk_replay.specs.declared.lines.LineStop.{LineStop}
 use Rattle.mk_replay.specs.declared.lines.LineStop.TheVariants as linestop
 use Rattle.mk_replay.specs.Entries.{AddsEntries, IsStopOf}
@@ -18,12 +17,12 @@ behind_both : (first line : ℕ) (before events : List Entry) (later : Result (L
 behind_both first line before events (Ok later) = ap (λ all. Ok all) (sym (append_assoc before events later))
 behind_both first line before events (Err fault) = refl
 
-read_more : (first line : ℕ) (before behind : List Entry) (text : List ℕ) (texts : List (List ℕ))
+read_more : (first line : ℕ) {before behind : List Entry} (text : List ℕ) (texts : List (List ℕ))
     → AddsEntries (entries_of_line line text) before behind
     → go_on first (Ok behind) (entries_of_lines (line + 1) texts)
     ≡ go_on first (Ok before) (entries_of_lines line (text ∷ texts))
 unfolding entries_of_lines
-read_more first line before behind text texts read =
+read_more first line {before} text texts read =
     let later = entries_of_lines (line + 1) texts in
     ap (λ events. go_on first (Ok events) later) read.added
     ∙ sym (ap (λ found. go_on first (Ok before) (go_on line found later)) read.are
@@ -38,15 +37,14 @@ read_none first line before text texts (linestop.Text fault) found memory =
 read_none first line before text texts linestop.NoMemory found memory = absurd (memory refl)
 
 -- the same, along the lines of a text
-pub step : (lines : List (Bor (List ℕ))) (i first : ℕ) (before behind : List Entry) (d : Bor (List ℕ))
-    → i < length lines
-    → AddsEntries (entries_of_line (first + i) (get_or lines i d).now) before behind
+pub step : (lines : List (Bor (List ℕ))) (i first : ℕ) {before behind : List Entry} (d : Bor (List ℕ))
+    → i < length lines → AddsEntries (entries_of_line (first + i) (get_or lines i d).now) before behind
     → go_on first (Ok behind) (entries_of_lines (first + (i + 1)) (texts_of (drop (i + 1) lines)))
     ≡ go_on first (Ok before) (entries_of_lines (first + i) (texts_of (drop i lines)))
-step lines i first before behind d inside read =
+step lines i first {before} {behind} d inside read =
     let next : first + (i + 1) ≡ first + i + 1 = omega arith in
     ap (λ line. go_on first (Ok behind) (entries_of_lines line (texts_of (drop (i + 1) lines)))) next
-    ∙ read_more first (first + i) before behind (get_or lines i d).now (texts_of (drop (i + 1) lines)) read
+    ∙ read_more first (first + i) (get_or lines i d).now (texts_of (drop (i + 1) lines)) read
     ∙ sym (at_drop_more (λ left. go_on first (Ok before) (entries_of_lines (first + i) (texts_of left))) lines i d
     inside)
 

@@ -3,9 +3,9 @@ use Rattle.std.proofs.Common.{◌≡◌, ℕ, ◌+◌, ◌<◌, List, [], ◌∷
 use Rattle.std.proofs.Common.{sym, ◌∙◌, arith}
 use Rattle.std.specs.declared.result.Result.{Result}
 use Rattle.std.proofs.lemmas.List.{take_more, map-append}
+use Rattle.mk_replay.proofs.Vocabulary.{Form, texts_of}
 use Rattle.mk_script.specs.declared.faults.TextKind.{TextKind}
-use Rattle.mk_script.specs.Words.{texts_of, words_of_line}
-use Rattle.mk_replay.specs.declared.schedule.Form.{Form}
+use Rattle.mk_script.specs.Words.{words_of_line}
 use Rattle.mk_replay.specs.Forms.{worse_fault, both, form_of}
 use Rattle.mk_replay.specs.Schedules.{forms_of}
 use Rattle.mk_replay.specs.Entries.{with_form}
@@ -39,9 +39,7 @@ forms_of-push (first ∷ pieces) last =
 
 -- the same, along the pieces of a line
 pub goes_on : (first : List (List ℕ)) (pieces : List (Bor (List ℕ))) (i : ℕ) (d : Bor (List ℕ)) (words : List (List ℕ))
-    (before after : Result (List Form) TextKind)
-    → i < length pieces
-    → words ≡ words_of_line (get_or pieces i d).now
+    (before after : Result (List Form) TextKind) → i < length pieces → words ≡ words_of_line (get_or pieces i d).now
     → forms_of (first ∷ map words_of_line (texts_of (take i pieces))) ≡ before
     → after ≡ with_form before (form_of words)
     → forms_of (first ∷ map words_of_line (texts_of (take (i + 1) pieces))) ≡ after
@@ -53,5 +51,4 @@ goes_on first pieces i d words before after inside words_are so_far is =
     ∙ ap (λ all. forms_of (first ∷ all)) (map-append words_of_line (texts_of (take i pieces)) (piece.now ∷ []))
     ∙ forms_of-push (first ∷ map words_of_line (texts_of (take i pieces))) (words_of_line piece.now)
     ∙ ap (λ forms. with_form forms (form_of (words_of_line piece.now))) so_far
-    ∙ ap (λ last. with_form before (form_of last)) (sym words_are)
-    ∙ sym is
+    ∙ ap (λ last. with_form before (form_of last)) (sym words_are) ∙ sym is

@@ -1,3 +1,4 @@
+pub mod Vocabulary
 pub mod ServedMore
 pub mod RunLaws
 pub mod UnderWay

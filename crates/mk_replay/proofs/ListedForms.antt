@@ -1,24 +1,23 @@
 -- A form that is listed by its name, with words after it that aren't numbers.
-use Rattle.std.proofs.Common.{◌≡◌, ℕ, List, [], ◌∷◌, Bool, true, false, refl, ap, ◌∙◌, Option, Some, None, Ok, Err}
-use Rattle.std.proofs.Common.{map, ok_or}
+use Rattle.std.proofs.Common.{◌≡◌, ℕ, List, [], ◌∷◌, Bool, true, false, refl, ap, ◌∙◌, Option, Some, None, Ok, Err, map}
+use Rattle.std.proofs.Common.{ok_or}
 use Rattle.std.specs.Prelude.{if◌then◌else◌}
 use Rattle.std.specs.Option.{option_map}
 use Rattle.std.specs.Result.{IsErrAnd}
 use Rattle.std.specs.declared.result.Result.{Result}
 use Rattle.std.specs.Str.{bytes_eq}
+use Rattle.mk_replay.proofs.Vocabulary.{Form, value_among}
 use lib.Chars.{codes}
 use Rattle.mk_script.specs.declared.faults.TextKind.{TextKind}
 use Rattle.mk_script.specs.declared.faults.TextKind.TheVariants as kind
 use Rattle.mk_script.specs.Names.{number_of_word}
 use Rattle.mk_replay.specs.declared.forms.FormOfNumbers.{FormOfNumbers}
 use Rattle.mk_replay.specs.declared.forms.FormOfNumbers.TheVariants.{Head, Used, Quar, Mark, Black, Claim}
-use Rattle.mk_replay.specs.declared.schedule.Form.{Form}
-use Rattle.mk_replay.specs.Forms.{value_among, both, number, forms_of_numbers, two_operands}
+use Rattle.mk_replay.specs.Forms.{both, number, forms_of_numbers, two_operands}
 use Rattle.mk_replay.specs.Numbered.{form_of_numbers}
 
 by_test : {A B : Type 0} (b : Bool) (f : A → B) (x : A) (rest : Option A) (others : Option B)
-    → others ≡ option_map f rest
-    → (if b then Some (f x) else others) ≡ option_map f (if b then Some x else rest)
+    → others ≡ option_map f rest → (if b then Some (f x) else others) ≡ option_map f (if b then Some x else rest)
 by_test true f x rest others same = refl
 by_test false f x rest others same = same
 

@@ -4,9 +4,10 @@ use Rattle.std.proofs.Common.{length-drop}
 use Rattle.std.proofs.lemmas.List.{take_all}
 use Rattle.std.proofs.lemmas.Bool.{le-leb, cond-true}
 use Rattle.std.specs.List.{take-map, drop-map}
-use Rattle.mk_script.specs.Words.{lines_of, texts_of}
+use Rattle.mk_replay.proofs.Vocabulary.{text_length, texts_of}
+use Rattle.mk_script.specs.Words.{lines_of}
 use Rattle.mk_script.specs.Grammar.{items_of_lines, program_of}
-use Rattle.mk_replay.specs.Reading.{text_length, StandsAt}
+use Rattle.mk_replay.specs.Reading.{StandsAt}
 use Rattle.mk_replay.specs.Schedules.{entries_of_lines, script_lines, schedule_lines, schedule_behind, with_schedule}
 use Rattle.mk_replay.specs.Schedules.{replay_of_lines, replay_of}
 use Rattle.mk_replay.proofs.ScriptPart.{lines_before}
@@ -26,12 +27,11 @@ dropped : (lines : List (Bor (List ℕ))) (text : List ℕ) (count : ℕ) → te
     → texts_of (take (length lines - count) (drop count lines)) ≡ drop count (lines_of text)
 dropped lines text count are =
     ap texts_of (take_all (length lines - count) (drop count lines) (omega (arith, length-drop count lines)))
-    ∙ sym (drop-map (λ line. line.now) count lines)
-    ∙ ap (drop count) are
+    ∙ sym (drop-map (λ line. line.now) count lines) ∙ ap (drop count) are
 
-pub script_within : (lines : List (Bor (List ℕ))) (text : List ℕ) (place : ℕ) → texts_of lines ≡ lines_of text
+pub script_within : (lines : List (Bor (List ℕ))) (text : List ℕ) {place : ℕ} → texts_of lines ≡ lines_of text
     → StandsAt (lines_of text) place → text_length (texts_of (take place lines)) ≤ length text
-script_within lines text place are stands =
+script_within lines text {place} are stands =
     omega (arith, (lines_before place text stands.inside).within, ap text_length (taken lines text place are))
 
 -- the program is that of the bytes before the schedule line
@@ -42,22 +42,21 @@ program_before text place short stands =
     not_too_long (take size text) (omega (arith, length-take size text))
     ∙ ap items_of_lines ((lines_before place text stands.inside).lines ∙ sym stands.before)
 
-entries_behind : (lines : List (List ℕ)) (place : ℕ) → StandsAt lines place
+entries_behind : {lines : List (List ℕ)} {place : ℕ} → StandsAt lines place
     → schedule_behind (length (script_lines lines)) (schedule_lines lines)
     ≡ entries_of_lines (place + 2) (drop (place + 1) lines)
-entries_behind lines place stands =
+entries_behind {lines} {place} stands =
     let count : length (script_lines lines) ≡ place =
     omega (arith, ap length stands.before, length-take place lines, stands.inside) in
     ap (schedule_behind (length (script_lines lines))) stands.behind
     ∙ ap (λ n. entries_of_lines (n + 2) (drop (place + 1) lines)) count
 
 -- A text is read as its bytes before the schedule line and as the lines after it.
-pub two_parts : (lines : List (Bor (List ℕ))) (text : List ℕ) (place end : ℕ) → length text ≤ 1048576
-    → texts_of lines ≡ lines_of text → StandsAt (lines_of text) place
-    → end ≡ text_length (texts_of (take place lines))
+pub two_parts : (lines : List (Bor (List ℕ))) (text : List ℕ) {place : ℕ} (end : ℕ) → length text ≤ 1048576
+    → texts_of lines ≡ lines_of text → StandsAt (lines_of text) place → end ≡ text_length (texts_of (take place lines))
     → replay_of text ≡ with_schedule (program_of (take end text))
     (entries_of_lines (place + 2) (texts_of (take (length lines - (place + 1)) (drop (place + 1) lines))))
-two_parts lines text place end short are stands ends =
+two_parts lines text {place} end short are stands ends =
     let end_is : end ≡ text_length (take place (lines_of text)) = ends ∙ ap text_length (taken lines text place are) in
     replay_short text short
     ∙ ap (λ program. with_schedule program
@@ -65,5 +64,5 @@ two_parts lines text place end short are stands ends =
     (sym (program_before text place short stands))
     ∙ ap (λ size. with_schedule (program_of (take size text))
     (schedule_behind (length (script_lines (lines_of text))) (schedule_lines (lines_of text)))) (sym end_is)
-    ∙ ap (with_schedule (program_of (take end text))) (entries_behind (lines_of text) place stands
+    ∙ ap (with_schedule (program_of (take end text))) (entries_behind stands
     ∙ ap (entries_of_lines (place + 2)) (sym (dropped lines text (place + 1) are)))

@@ -71,27 +71,23 @@ long (byte ∷ next ∷ rest) is = omega arith
 
 -- the end of a piece
 pub ends : (text : List ℕ) (i : ℕ) → i < length text → is_cut (drop i text) ≡ true
-    → pieces_of text ≡ glue (take i text) (pieces_of (drop i text))
-    → IsEndOfPiece text i
+    → pieces_of text ≡ glue (take i text) (pieces_of (drop i text)) → IsEndOfPiece text i
 ends text i inside is so_far =
     let room = long (drop i text) is in
     record {
       inside = omega (arith, room, length-drop i text);
       pieces =
-          so_far
-          ∙ ap (glue (take i text)) (cut (drop i text) is)
+          so_far ∙ ap (glue (take i text)) (cut (drop i text) is)
           ∙ ap (λ front. front ∷ pieces_of (drop 2 (drop i text))) (append-nil (take i text))
           ∙ ap (λ rest. take i text ∷ pieces_of rest) (drop-drop 2 i text);
     }
 
 -- a line with no cut
-pub no_end : (text : List ℕ) (i : ℕ) → length text ≤ i
-    → pieces_of text ≡ glue (take i text) (pieces_of (drop i text))
+pub no_end : (text : List ℕ) (i : ℕ) → length text ≤ i → pieces_of text ≡ glue (take i text) (pieces_of (drop i text))
     → pieces_of text ≡ text ∷ []
 unfolding pieces_of
 no_end text i whole so_far =
-    so_far
-    ∙ ap (λ rest. glue (take i text) (pieces_of rest)) (drop_all i text whole)
+    so_far ∙ ap (λ rest. glue (take i text) (pieces_of rest)) (drop_all i text whole)
     ∙ ap (λ front. front ∷ []) (append-nil (take i text) ∙ take_all i text whole)
 
 -- the test for a cut
@@ -101,8 +97,7 @@ compared (byte ∷ []) = grind (arith, nat_tests)
 compared (byte ∷ next ∷ rest) = grind (arith, nat_tests)
 
 pub tested : (text needle : List ℕ) (i : ℕ) (result : Bool) → needle ≡ 59 ∷ 32 ∷ []
-    → result ≡ starts_with nat_eq (take (length text - i) (drop i text)) needle
-    → is_cut (drop i text) ≡ result
+    → result ≡ starts_with nat_eq (take (length text - i) (drop i text)) needle → is_cut (drop i text) ≡ result
 tested text needle i result needle_is is =
     compared (drop i text)
     ∙ sym (is ∙ ap (starts_with nat_eq (take (length text - i) (drop i text))) needle_is

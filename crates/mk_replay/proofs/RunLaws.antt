@@ -6,20 +6,14 @@ use Rattle.std.proofs.lemmas.Bool.{cases_eq}
 use Rattle.std.proofs.lemmas.Bool.Decides.{nat_tests}
 use Rattle.std.proofs.lemmas.List.{append_cancel_left, length-append, get_or_default, get_or_push, get_or_append_left}
 use Rattle.std.proofs.lemmas.List.{get_or-set_same, get_or-set_other}
-use Rattle.mk_never.specs.declared.operations.Op.{Op}
-use Rattle.mk_script.specs.declared.items.Item.{Item}
+use Rattle.std.specs.Option.{option_or}
+use Rattle.mk_replay.proofs.Vocabulary.{Answer, AreEnabled, AreFirstTexts, ArePlayersOf, Config, Decided, Entry, Event}
+use Rattle.mk_replay.proofs.Vocabulary.{IsPlayerOf, Item, Op, TakesStep, answer_decided, calls, config_of, ends_call}
+use Rattle.mk_replay.proofs.Vocabulary.{entry_of, event_of_entry, first_world, flight_of, is_same_seat, left, served_to}
 use Rattle.mk_check.specs.Feed.{Fed, feed, has_ended, take_answer}
 use Rattle.mk_check.specs.Feeding.{FeedState, script_scope, FeedStandsFor, TakesAnswer as FeedTakesAnswer}
 use Rattle.mk_check.proofs.FeedLaws.{feed_push, feed_push-ended}
-use Rattle.mk_core.specs.declared.config.Config.{Config}
-use Rattle.mk_core.specs.declared.events.Answer.{Answer}
-use Rattle.mk_core.specs.declared.events.Event.{Event}
-use Rattle.mk_core.specs.declared.events.Seat.{Seat}
 use Rattle.mk_core.specs.declared.events.Seat.TheVariants as seat
-use Rattle.mk_core.specs.Moments.{flight_of}
-use Rattle.mk_core.specs.Effects.{answer_decided}
-use Rattle.mk_core.specs.Decided.{Decided, entry_of}
-use Rattle.mk_core.specs.History.{first_world, left, AreEnabled, calls}
 use Rattle.mk_core.proofs.Histories.{calls_more, last_enabled}
 use Rattle.mk_check.specs.declared.text.Text.{Text}
 use Rattle.mk_core.specs.Order.{seat_exists}
@@ -29,20 +23,14 @@ use Rattle.mk_core.specs.Standing.{CoreState, CoreStandsFor}
 use Rattle.mk_core.proofs.Conditions.{enabled_meets}
 use Rattle.mk_replay.specs.declared.players.Player.{Player}
 use Rattle.mk_replay.specs.declared.replaying.Run.{Run}
-use Rattle.mk_replay.specs.declared.schedule.Entry.{Entry}
-use Rattle.mk_check.specs.Declarations.{config_of}
-use Rattle.mk_check.specs.Output.{ends_call}
-use Rattle.mk_core.specs.Growing.{is_same_seat}
-use Rattle.std.specs.Option.{option_or}
-use Rattle.mk_replay.specs.Replays.{event_of_entry, IsReplayedText, AreFirstTexts}
-use Rattle.mk_replay.specs.Players.{Served, served_by, served_to, IsFed, IsPlayerOf, ArePlayersOf, PlayerTakesAnswer}
-use Rattle.mk_replay.specs.Players.{TakesStep, TakeEvent, IsRunAfter, TakesEntry}
+use Rattle.mk_replay.specs.Replays.{IsReplayedText}
+use Rattle.mk_replay.specs.Players.{Served, served_by, IsFed, PlayerTakesAnswer, TakeEvent, IsRunAfter, TakesEntry}
 use Rattle.mk_replay.proofs.ServedMore.{served_more, served_first}
 
 -- A feed that waits takes the answer.
-pub fed_more : (program : List Item) (k : ℕ) (old new : FeedState) (answers : List Answer) (a : Answer)
+pub fed_more : {program : List Item} {k : ℕ} {old : FeedState} (new : FeedState) {answers : List Answer} (a : Answer)
     → FeedTakesAnswer old a new → IsFed program k old answers → IsFed program k new (answers ++ a ∷ [])
-fed_more program k old new answers a takes h = record {
+fed_more {program} {k} new {answers} a takes h = record {
   taken = h.taken ++ a ∷ [];
   stands = takes program k h.taken h.stands;
   same = feed_push program k h.taken a
@@ -51,14 +39,13 @@ fed_more program k old new answers a takes h = record {
 }
 
 -- One that has ended stays as it is.
-pub fed_ended : (program : List Item) (k : ℕ) (s : FeedState) (answers : List Answer) (a : Answer)
+pub fed_ended : {program : List Item} {k : ℕ} {s : FeedState} {answers : List Answer} (a : Answer)
     → ((taken : List Answer) → FeedStandsFor program k s taken → has_ended (feed program k taken) ≡ true)
     → IsFed program k s answers → IsFed program k s (answers ++ a ∷ [])
-fed_ended program k s answers a ended h = record {
+fed_ended {program} {k} {answers} a ended h = record {
   taken = h.taken;
   stands = h.stands;
-  same = h.same ∙ sym (feed_push-ended program k answers a (ap (λ (f : Fed). has_ended f) (sym h.same)
-      ∙ ended h.taken h.stands));
+  same = h.same ∙ sym (feed_push-ended program k answers a (ap has_ended (sym h.same) ∙ ended h.taken h.stands));
 }
 
 first_answer : List Decided → Option Answer
@@ -89,46 +76,43 @@ mine : (players : List Player) (j : ℕ) (old new : Player) (e : Event) (a : Opt
     → (program : List Item) (d : Player) (x : Served) → IsPlayerOf program j x (get_or players j d)
     → IsPlayerOf program j (served_by j e a x) (get_or (set players j new) j d)
 mine players j old new e a lt at is takes program d x h =
-    let mine : is_same_seat (seat.Caller j) e.seat ≡ true = ap (λ (s : Seat). is_same_seat (seat.Caller j) s) is
-    ∙ is_same j in
+    let mine : is_same_seat (seat.Caller j) e.seat ≡ true = ap (is_same_seat (seat.Caller j)) is ∙ is_same j in
     let here : get_or players j d ≡ old = get_or_default players j d old lt ∙ sym at in
-    rw (mine, get_or-set_same players j new d lt)
-    (takes program j x (subst (λ (p : Player). IsPlayerOf program j x p) here h))
+    rw (mine, get_or-set_same players j new d lt) (takes program j x (subst (IsPlayerOf program j x) here h))
 
 others : (players : List Player) (j : ℕ) (new : Player) (e : Event) (a : Option Answer) → e.seat ≡ seat.Caller j
-    → (program : List Item) (k : ℕ) (d : Player) (x : Served) → j ≢ k → IsPlayerOf program k x (get_or players k d)
+    → {program : List Item} {k : ℕ} (d : Player) {x : Served} → j ≢ k → IsPlayerOf program k x (get_or players k d)
     → IsPlayerOf program k (served_by k e a x) (get_or (set players j new) k d)
-others players j new e a is program k d x other h =
-    let not_mine : is_same_seat (seat.Caller k) e.seat ≡ false = ap (λ (s : Seat). is_same_seat (seat.Caller k) s) is
+others players j new e a is {k} d other h =
+    let not_mine : is_same_seat (seat.Caller k) e.seat ≡ false = ap (is_same_seat (seat.Caller k)) is
     ∙ is_other j k other in
     rw (not_mine, get_or-set_other players j k new d (λ same. other (sym same))) h
 
 -- One player takes a step of its caller.
 pub one_takes : (players : List Player) (j : ℕ) (old new : Player) (e : Event) (a : Option Answer)
     → j < length players → old ≡ slice_index_or players j old → e.seat ≡ seat.Caller j
-    → TakesStep (ends_call e.step) a old new
-    → TakeEvent e a players (slice_set players j new)
+    → TakesStep (ends_call e.step) a old new → TakeEvent e a players (slice_set players j new)
 one_takes players j old new e a lt at is takes = λ program k d x less h.
     elim (cases_eq j k) [
       | inl same ↦ subst (λ (i : ℕ). IsPlayerOf program i (served_by i e a x) (get_or (set players j new) i d)) same
           (mine players j old new e a lt at is takes program d x
           (subst (λ (i : ℕ). IsPlayerOf program i x (get_or players i d)) (sym same) h))
-      | inr other ↦ others players j new e a is program k d x other h
+      | inr other ↦ others players j new e a is d other h
     ]
 
 -- At a call's last step the answer that was kept, or is decided there, is given.
 pub last_takes : (old new : Player) (decided : Option Answer) (a : Answer) → option_or decided old.kept ≡ Some a
     → PlayerTakesAnswer a (record old { kept = None }) new → TakesStep true decided old new
 last_takes old new decided a is takes = λ program k x h.
-    let given : option_or decided x.kept ≡ Some a = ap (λ (o : Option Answer). option_or decided o) (sym h.kept) ∙ is in
+    let given : option_or decided x.kept ≡ Some a = ap (option_or decided) (sym h.kept) ∙ is in
     rw given (takes program k (record { answers = x.answers; kept = None })
     (record { fed = h.fed; kept = refl; ops = h.ops; refused = h.refused }))
 
 -- One player more.
-pub players_push : (program : List Item) (players : List Player) (p : Player) → ArePlayersOf program [] players
+pub players_push : {program : List Item} (players : List Player) {p : Player} → ArePlayersOf program [] players
     → IsPlayerOf program (length players) (record { answers = []; kept = None }) p
     → ArePlayersOf program [] (players ++ p ∷ [])
-players_push program players p h new = λ k d less.
+players_push {program} players {p} h new = λ k d less.
     let total = length-append players (p ∷ []) in
     elim (cases_eq k (length players)) [
       | inl e ↦ rw (get_or_push players p d k (sym e))
@@ -140,10 +124,10 @@ players_push program players p h new = λ k d less.
     ]
 
 -- One text more.
-pub texts_push : (program : List Item) (es : List Event) (texts : List Text) (t : Text) → AreFirstTexts program es texts
+pub texts_push : {program : List Item} {es : List Event} (texts : List Text) (t : Text) → AreFirstTexts program es texts
     → IsReplayedText program es (length texts) t.bytes.items t.ops t.refused → AreFirstTexts program es (texts
     ++ t ∷ [])
-texts_push program es texts t h new = λ k d less.
+texts_push {program} {es} texts t h new = λ k d less.
     let total = length-append texts (t ∷ []) in
     elim (cases_eq k (length texts)) [
       | inl e ↦ rw (get_or_push texts t d k (sym e))
@@ -164,22 +148,20 @@ players_more program es e a players new count enabled is takes h = λ k d less.
     (takes program k d (served_to c es k) lt (h k d lt))
 
 -- A run goes on after an event of the core.
-pub run_goes : (program : List Item) (es : List Event) (x : Entry) (old new : Run) (core : CoreState) (e : Event)
+pub run_goes : {program : List Item} {es : List Event} (x : Entry) {old : Run} (new : Run) {core : CoreState} (e : Event)
     (a : Option Answer)
     → IsRunAfter program es old → (IsTrue (seat_exists (config_of program 8) x.seat) → e ≡ event_of_entry program es x)
-    → e.seat ≡ x.seat
-    → core.config ≡ old.core.config → CoreStandsFor core (es ++ e ∷ [])
+    → e.seat ≡ x.seat → core.config ≡ old.core.config → CoreStandsFor core (es ++ e ∷ [])
     → calls old.core.config (es ++ e ∷ [])
     ≡ calls old.core.config es ++ entry_of (caller_number e.seat) (flight_of (left old.core.config es).now e.seat).op a
     → new.core ≡ core → length new.players.items ≡ length old.players.items
-    → TakeEvent e a old.players.items new.players.items
-    → TakesEntry program es x new
-run_goes program es x old new core e a h event seat same stands answers keeps count takes =
+    → TakeEvent e a old.players.items new.players.items → TakesEntry program es x new
+run_goes {program} {es} x {old} new {core} e a h event seat same stands answers keeps count takes =
     let c = config_of program 8 in
     let config : core.config ≡ c = same ∙ h.config in
     let all : AreEnabled c (es ++ e ∷ []) = subst (λ (k : Config). AreEnabled k (es ++ e ∷ [])) config stands.enabled in
     let enabled : IsEnabled c (left c es).now e = last_enabled c (first_world c) es e all in
-    let is : e ≡ event_of_entry program es x = event (ap (λ (s : Seat). seat_exists c s) (sym seat)
+    let is : e ≡ event_of_entry program es x = event (ap (seat_exists c) (sym seat)
     ∙ (enabled_meets c (left c es).now e enabled).seat) in
     let decided : a ≡ answer_decided c (left c es).now e =
     answer_is c es e (caller_number e.seat) (flight_of (left c es).now e.seat).op a

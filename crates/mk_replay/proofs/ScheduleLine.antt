@@ -2,8 +2,9 @@
 use Rattle.std.proofs.Common.{◌≡◌, ℕ, suc, ◌+◌, Bool, true, false, cond, List, [], ◌∷◌, drop, Some, None, refl, ap, sym}
 use Rattle.std.proofs.Common.{subst, ◌∙◌, arith}
 use Rattle.std.specs.List.{position_from}
+use Rattle.mk_replay.proofs.Vocabulary.{is_schedule_line}
 use Rattle.mk_replay.specs.Reading.{StandsAt, HasNone}
-use Rattle.mk_replay.specs.Schedules.{is_schedule_line, script_lines, schedule_lines}
+use Rattle.mk_replay.specs.Schedules.{script_lines, schedule_lines}
 
 -- where it is found, counted from a number on
 record IsFound (lines : List (List ℕ)) (from found : ℕ) : Type 0 where
@@ -15,10 +16,10 @@ here : (line : List ℕ) (lines : List (List ℕ)) → is_schedule_line line ≡
 unfolding script_lines schedule_lines
 here line lines is = record { inside = omega arith; before = rw is refl; behind = rw is refl }
 
-later : (line : List ℕ) (lines : List (List ℕ)) (place : ℕ) → is_schedule_line line ≡ false → StandsAt lines place
+later : (line : List ℕ) {lines : List (List ℕ)} {place : ℕ} → is_schedule_line line ≡ false → StandsAt lines place
     → StandsAt (line ∷ lines) (suc place)
 unfolding script_lines schedule_lines
-later line lines place is first =
+later line {lines} {place} is first =
     let one_more : suc (place + 1) ≡ suc place + 1 = omega arith in
     record {
       inside = omega (arith, first.inside);
@@ -35,11 +36,7 @@ found_by line lines from found true is behind e =
     record { place = 0; counts = omega arith; first = here line lines is }
 found_by line lines from found false is behind e =
     let rest = behind e in
-    record {
-      place = suc rest.place;
-      counts = omega (arith, rest.counts);
-      first = later line lines rest.place is rest.first;
-    }
+    record { place = suc rest.place; counts = omega (arith, rest.counts); first = later line is rest.first }
 
 found_from : (lines : List (List ℕ)) (from found : ℕ) → position_from is_schedule_line from lines ≡ Some found
     → IsFound lines from found

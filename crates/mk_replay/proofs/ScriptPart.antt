@@ -6,8 +6,8 @@ use Rattle.std.proofs.lemmas.List.Splits.{slice_split_at, slice_split_none, leng
 use Rattle.std.proofs.lemmas.List.Sums.{split_at_first, fails_before_first, passes_at_first}
 use Rattle.std.proofs.lemmas.Bool.{cases_lt}
 use Rattle.std.proofs.lemmas.Grind.{common_steps}
+use Rattle.mk_replay.proofs.Vocabulary.{text_length}
 use Rattle.mk_script.specs.Words.{without_empty_last, lines_of}
-use Rattle.mk_replay.specs.Reading.{text_length}
 
 abbrev is_newline : ℕ → Bool
 is_newline byte = byte == 10
@@ -66,8 +66,7 @@ cut line newline text before without is inner = record {
   within = omega (arith, inner.within, length-append line (newline ∷ text));
   lines =
       ap lines_of (take_line line newline text (text_length before))
-      ∙ lines_of_line line newline (take (text_length before) text) without is
-      ∙ ap (λ rest. line ∷ rest) inner.lines;
+      ∙ lines_of_line line newline (take (text_length before) text) without is ∙ ap (λ rest. line ∷ rest) inner.lines;
 }
 
 at_most_one : (is_empty : Bool) (line : List ℕ) → length (if is_empty then [] else line ∷ []) ≤ 1

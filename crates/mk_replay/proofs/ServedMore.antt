@@ -1,16 +1,12 @@
 -- What a caller was served, with one event more.
 use Rattle.std.proofs.Common.{◌≡◌, ℕ, Bool, true, false, List, [], ◌∷◌, ◌++◌, refl, ◌∙◌, append-nil}
 use Rattle.std.specs.Prelude.{Option, None, if◌then◌else◌}
-use Rattle.mk_core.specs.declared.config.Config.{Config}
-use Rattle.mk_core.specs.declared.events.Event.{Event}
-use Rattle.mk_core.specs.declared.events.Answer.{Answer}
-use Rattle.mk_core.specs.declared.events.Seat.TheVariants.{Caller}
-use Rattle.mk_core.specs.Effects.{answer_decided}
-use Rattle.mk_core.specs.Growing.{is_same_seat}
-use Rattle.mk_core.specs.History.{left, AreEnabled, calls_from}
-use Rattle.mk_check.specs.Output.{ends_call, answers_given, answer_waiting}
+use Rattle.mk_replay.proofs.Vocabulary.{Answer, AreEnabled, Caller, Config, Event, answer_decided, answers_given}
+use Rattle.mk_replay.proofs.Vocabulary.{ends_call, is_same_seat, left, served_to}
+use Rattle.mk_core.specs.History.{calls_from}
+use Rattle.mk_check.specs.Output.{answer_waiting}
 use Rattle.mk_check.proofs.GivenAnswers.{given_by, waiting_by, given_more, waiting_more}
-use Rattle.mk_replay.specs.Players.{Served, served_behind, served_by, served_to}
+use Rattle.mk_replay.specs.Players.{Served, served_behind, served_by}
 
 both_by : (b b' : Bool) (decided : Option Answer) (xs answers : List Answer) (was kept : Option Answer)
     → answers ≡ xs ++ given_by b b' decided was → kept ≡ waiting_by b b' decided was
@@ -24,8 +20,7 @@ pub served_more : (c : Config) (es : List Event) (k : ℕ) (e : Event) → AreEn
     → served_to c (es ++ e ∷ []) k ≡ served_by k e (answer_decided c (left c es).now e) (served_to c es k)
 served_more c es k e h =
     both_by (is_same_seat (Caller k) e.seat) (ends_call e.step) (answer_decided c (left c es).now e)
-    (answers_given c es k) _ (answer_waiting c es k) _
-    (given_more c es e k h) (waiting_more c es e k h)
+    (answers_given c es k) _ (answer_waiting c es k) _ (given_more c es e k h) (waiting_more c es e k h)
 
 pub served_first : (c : Config) (k : ℕ) → ◌≡◌ {A = Served} (served_to c [] k) (record { answers = []; kept = None })
 unfolding calls_from

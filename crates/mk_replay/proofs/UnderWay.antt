@@ -6,25 +6,20 @@ use Rattle.std.proofs.lemmas.Bool.Decides.{nat_tests}
 use Rattle.std.proofs.lemmas.List.{length-append}
 use Rattle.std.proofs.Math.ListN.{drop_of_length-le}
 use Rattle.std.proofs.lemmas.List.Sums.{count_by-le-length}
-use Rattle.mk_script.specs.declared.items.Item.{Item}
-use Rattle.mk_core.specs.declared.config.Config.{Config}
-use Rattle.mk_core.specs.declared.events.Event.{Event}
-use Rattle.mk_core.specs.History.{AreEnabled}
+use Rattle.mk_replay.proofs.Vocabulary.{AreEnabled, Config, Entry, Event, Item, answers_given, config_of}
+use Rattle.mk_replay.proofs.Vocabulary.{event_of_entry, history_of}
 use Rattle.mk_replay.specs.declared.replaying.Run.{Run}
 use Rattle.mk_replay.specs.declared.replaying.ReplayStop.{ReplayStop}
 use Rattle.mk_replay.specs.declared.replaying.ReplayStop.TheVariants.{NotEnabled}
-use Rattle.mk_replay.specs.declared.schedule.Entry.{Entry}
-use Rattle.mk_replay.specs.Replays.{event_of_entry, failing_entry, history_from, history_of, refusal_from, refusal_of}
+use Rattle.mk_replay.specs.Replays.{failing_entry, history_from, refusal_from, refusal_of}
 use Rattle.mk_replay.specs.Players.{EachHasRoom, IsRunAfter, TakesEntry, IsNotEnabled, IsUnderWay}
 use Rattle.mk_check.specs.Feed.{is_refusal}
-use Rattle.mk_check.specs.Declarations.{config_of}
-use Rattle.mk_check.specs.Output.{answers_given}
 use Rattle.mk_check.proofs.GivenAnswers.{few_answers}
 
 -- There are fewer answers than the counts can hold.
-pub room_of : (program : List Item) (schedule : List Entry) (n : ℕ) (run : Run) → IsUnderWay program schedule n run
+pub room_of : {program : List Item} {schedule : List Entry} {n : ℕ} {run : Run} → IsUnderWay program schedule n run
     → n < 18446744073709551615 → EachHasRoom run.players.items
-room_of program schedule n run h few = λ k d less.
+room_of {program} h few = λ k d less.
     let p = h.is_run.players k d less in
     let answers = answers_given (config_of program 8) h.events k in
     let so_few : length answers ≤ length h.events = few_answers (config_of program 8) h.events k in
@@ -69,11 +64,10 @@ item_at schedule entries n d same lt =
     let less : n < length schedule = subst (λ (xs : List Entry). n < length xs) same lt in
     rw (same, add-one) (drop-cons schedule n d less)
 
-pub next_under_way : (program : List Item) (schedule entries : List Entry) (n : ℕ) (old new : Run) (d : Entry)
+pub next_under_way : {program : List Item} {schedule : List Entry} (entries : List Entry) {n : ℕ} {old new : Run} (d : Entry)
     → entries ≡ schedule → n < length entries → (h : IsUnderWay program schedule n old)
-    → TakesEntry program h.events (get_or entries n d) new
-    → IsUnderWay program schedule (n + 1) new
-next_under_way program schedule entries n old new d same lt h t =
+    → TakesEntry program h.events (get_or entries n d) new → IsUnderWay program schedule (n + 1) new
+next_under_way {program} {schedule} entries {n} d same lt h t =
     let x = get_or entries n d in
     let at = item_at schedule entries n d same lt in
     record {
@@ -87,26 +81,24 @@ next_under_way program schedule entries n old new d same lt h t =
           ∙ (ap (history_from program h.events) (sym at) ∙ h.history);
     }
 
-pub refused_here : (program : List Item) (schedule entries : List Entry) (n : ℕ) (run : Run) (d : Entry)
-    (stop : ReplayStop)
-    → entries ≡ schedule → n < length entries → (h : IsUnderWay program schedule n run)
-    → IsNotEnabled program h.events (get_or entries n d) stop
-    → refusal_of program schedule ≡ Some stop
-refused_here program schedule entries n run d stop same lt h t =
+pub refused_here : {program : List Item} {schedule : List Entry} (entries : List Entry) {n : ℕ} {run : Run} (d : Entry)
+    {stop : ReplayStop} → entries ≡ schedule → n < length entries → (h : IsUnderWay program schedule n run)
+    → IsNotEnabled program h.events (get_or entries n d) stop → refusal_of program schedule ≡ Some stop
+refused_here {program} {schedule} entries {n} d same lt h t =
     let x = get_or entries n d in
     let condition = t.condition in
     let no : (failing_entry program h.events x == 0) ≡ false = grind (arith, nat_tests) in
     sym h.refusal ∙ (ap (refusal_from program h.events) (item_at schedule entries n d same lt)
-    ∙ (refusal_here program h.events x (drop (n + 1) schedule) no ∙ ap (λ (s : ReplayStop). Some s) (sym t.says)))
+    ∙ (refusal_here program h.events x (drop (n + 1) schedule) no ∙ ap Some (sym t.says)))
 
 pub record IsOver (program : List Item) (schedule : List Entry) (run : Run) : Type 0 where
   pub is_run : IsRunAfter program (history_of program schedule) run
   pub refusal : refusal_of program schedule ≡ None
   pub enabled : AreEnabled (config_of program 8) (history_of program schedule)
 
-pub over : (program : List Item) (schedule entries : List Entry) (n : ℕ) (run : Run)
+pub over : {program : List Item} {schedule : List Entry} (entries : List Entry) {n : ℕ} {run : Run}
     → entries ≡ schedule → length entries ≤ n → IsUnderWay program schedule n run → IsOver program schedule run
-over program schedule entries n run same le h =
+over {program} {schedule} entries {n} {run} same le h =
     let none : drop n schedule ≡ [] = drop_of_length-le schedule (subst (λ (xs : List Entry). length xs ≤ n) same le) in
     let all : h.events ≡ history_of program schedule = sym (history_none program h.events)
     ∙ (ap (history_from program h.events) (sym none) ∙ h.history) in

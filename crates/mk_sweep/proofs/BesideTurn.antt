@@ -5,28 +5,18 @@ use Rattle.std.proofs.Common.{inl, inr, arith}
 use Rattle.std.specs.Prelude.{⊤, slice_index}
 use Rattle.std.specs.List.{list_any}
 use Rattle.std.proofs.lemmas.Bool.{cases_Bool, false_from_ne_true, true≢false}
-use Rattle.mk_geom.specs.declared.addresses.Cell.{Cell}
-use Rattle.mk_core.specs.declared.config.Config.{Config}
-use Rattle.mk_core.specs.declared.events.Event.{Event}
-use Rattle.mk_core.specs.declared.events.Seat.{Seat}
-use Rattle.mk_core.specs.declared.events.Seat.TheVariants.{Caller, Host, Marker}
-use Rattle.mk_core.specs.declared.events.Step.{Step}
-use Rattle.mk_core.specs.Bits.{has_bit}
-use Rattle.mk_core.specs.Cells.{is_marked}
+use Rattle.mk_sweep.proofs.Vocabulary.{Caller, Cell, Config, Event, HasMarkers, Holds, Host, Marker, Moment, Seat}
+use Rattle.mk_sweep.proofs.Vocabulary.{Steady, Step, Words, World, has_bit, is_marked, world_behind}
 use Rattle.mk_core.specs.Enabled.{IsEnabled}
-use Rattle.mk_core.specs.Frames.{Steady}
 use Rattle.mk_core.specs.Growing.{is_one_of, is_same_seat}
-use Rattle.mk_core.specs.History.{AreEnabledFrom, World, left_from, world_behind}
-use Rattle.mk_core.specs.Moments.{Moment, holder_number}
-use Rattle.mk_core.specs.Readings.{Holds}
-use Rattle.mk_core.specs.Words.{Words}
+use Rattle.mk_core.specs.History.{AreEnabledFrom, left_from}
+use Rattle.mk_core.specs.Moments.{holder_number}
 use Rattle.mk_core.proofs.Conditions.{enabled_meets}
 use Rattle.mk_laws.proofs.Actors.{is_holders}
 use Rattle.mk_laws.proofs.Known.{Known, holds_turn, known_behind}
 use Rattle.mk_laws.proofs.Orderly.{same_holder, turn_of}
 use Rattle.mk_laws.proofs.OrderlyLists.{actor_of}
-use Rattle.mk_laws.proofs.OthersMoves.{CallLoads, CallWrite, Calls, Marks, OthersMove, Waits, WorldBehind}
-use Rattle.mk_laws.proofs.OthersMoves.{others_move}
+use Rattle.mk_laws.proofs.OthersMoves.{CallLoads, CallWrite, Calls, Marks, OthersMove, Waits, WorldBehind, others_move}
 use Rattle.mk_laws.proofs.Protocols.{protocol_of}
 use Rattle.mk_laws.proofs.TurnFrame.{turn_after}
 use Rattle.mk_laws.proofs.Views.{HoldsTurn, view_of}
@@ -36,7 +26,6 @@ use Rattle.mk_laws.proofs.Stretches.{None_of}
 use Rattle.mk_words.proofs.Seats.{not_both, same_self}
 use Rattle.mk_turns.specs.Doing.{AreOwnOrOfOthers}
 use Rattle.mk_tracing.specs.Tracing.{OwnStepsKeep}
-use Rattle.mk_sweep.specs.SweepCycle.{HasMarkers}
 use Rattle.mk_sweep.specs.Unswept.{LeaveUnmarked, OthersLeaveUnmarked}
 
 -- The turn word names a seat that may hold the turn, so it does.
@@ -51,17 +40,17 @@ holder_may_hold c m (Caller k) h = h.0
 holder_may_hold c m (Marker k) h = h
 holder_may_hold c m Host h = tt
 
-holds_by_name : (c : Config) (m : Moment) (s : Seat) → Known c m → MayHold c s
+holds_by_name : {c : Config} {m : Moment} (s : Seat) → Known c m → MayHold c s
     → m.words.turn ≡ 1 + holder_number c s → Holds c m s
-holds_by_name c m (Caller k) known may is = (may, ((protocol_of c m known).holder k may).0 is)
-holds_by_name c m (Marker k) known may is = absurd may
-holds_by_name c m Host known may is = is
+holds_by_name {c} {m} (Caller k) known may is = (may, ((protocol_of c m known).holder k may).0 is)
+holds_by_name (Marker k) known may is = absurd may
+holds_by_name Host known may is = is
 
 -- A step that leaves the turn word leaves the turn to its holder.
-pub holds_still : (c : Config) (s : Seat) (w v : World) → Known c w.now → Known c v.now
+pub holds_still : {c : Config} (s : Seat) (w v : World) → Known c w.now → Known c v.now
     → v.now.words.turn ≡ w.now.words.turn → Holds c w.now s → Holds c v.now s
-holds_still c s w v known next same h =
-    holds_by_name c v.now s next (holder_may_hold c w.now s h)
+holds_still {c} s w v known next same h =
+    holds_by_name s next (holder_may_hold c w.now s h)
     (same ∙ turn_of c (view_of w.now) s known.orderly (holds_turn c w.now s known.orderly h))
 
 -- one event of another seat
@@ -71,15 +60,15 @@ record IsBeside (c : Config) (w : World) (e : Event) : Type 0 where
   turn : (world_behind c w e).now.words.turn ≡ w.now.words.turn
   kind : is_holders e.step ≡ false
 
-call_marks : (k : ℕ) (w x : Words) → CallWrite k w x → x.marks ≡ w.marks
-call_marks k w x CallLoads = refl
-call_marks k w x _ = refl
+call_marks : {k : ℕ} {w x : Words} → CallWrite k w x → x.marks ≡ w.marks
+call_marks CallLoads = refl
+call_marks _ = refl
 
-move_marks : (c : Config) (w : World) (seat : Seat) (v : World) → OthersMove c w seat v
+move_marks : {c : Config} {w : World} {seat : Seat} {v : World} → OthersMove c w seat v
     → ((k : ℕ) → seat ≡ Marker k → k < 8 → ⊥) → v.now.words.marks ≡ w.now.words.marks
-move_marks c w seat v Waits none = refl
-move_marks c w seat v (Calls {k} f {x} lt le write) none = call_marks k w.now.words x write
-move_marks c w seat v (Marks {k} y {x} lt write) none = absurd (none k refl lt)
+move_marks Waits none = refl
+move_marks (Calls f lt le write) none = call_marks write
+move_marks (Marks {k} y lt write) none = absurd (none k refl lt)
 
 one_beside : (c : Config) (s : Seat) (seats : List Seat) (w : World) (e : Event) → HasMarkers seats → Known c w.now
     → IsEnabled c w.now e → Holds c w.now s → is_one_of seats e.seat ≡ false → is_same_seat s e.seat ≡ false
@@ -93,7 +82,7 @@ one_beside c s seats w e markers known on holds out other =
     (sym (same_holder c (view_of w.now) e.seat s known.orderly h t)) (same_self s)) ∙ other) in
     let move = others_move c w e.seat e.step known (λ z. absurd (omega arith)) free meets in
     record {
-      marks = move_marks c w e.seat (WorldBehind c w e.seat e.step) move
+      marks = move_marks move
           (λ k is lt. not_both seats (Marker k) (subst (λ (x : Seat). is_one_of seats x ≡ false) is out)
           (markers k lt));
       turn = ap (λ (x : Steady). x.turn) (turn_after c w e.seat (WorldBehind c w e.seat e.step) known move).steady;
@@ -151,15 +140,14 @@ module _ (kinds : Step → Bool) (leave : LeaveTheTurn kinds) (c : Config) (s : 
       let rest = along (world_behind c w e) es (record {
         markers = part.markers;
         known = next;
-        holds = holds_still c s w (world_behind c w e) part.known next turn part.holds;
+        holds = holds_still s w (world_behind c w e) part.known next turn part.holds;
         on = part.on.1;
         of_seats = part.of_seats.1;
         own = part.own.1;
       }) in
       record { beside = (other, rest.beside); holds = rest.holds }
 
-  pub still_holds : (w : World) (es : List Event) → PartOfTurn kinds c s seats w es
-      → Holds c (left_from c w es).now s
+  pub still_holds : (w : World) (es : List Event) → PartOfTurn kinds c s seats w es → Holds c (left_from c w es).now s
   still_holds w es part = (along w es part).holds
 
   -- A holder's kind of step that isn't one of these isn't in the part.
@@ -172,10 +160,8 @@ module _ (kinds : Step → Bool) (leave : LeaveTheTurn kinds) (c : Config) (s : 
       both_fail (kind e.step) (list_any (λ (x : Event). kind x.step) es)
       (elim (cases_Bool (is_same_seat s e.seat)) [
         | inl h ↦ out e.step (own.0 h)
-        | inr h ↦ false_from_ne_true (kind e.step)
-            (λ is. true≢false (sym (of_holders e.step is) ∙ (beside.0 h).kind))
-      ])
-      (none_in kind of_holders out (world_behind c w e) es beside.1 own.1)
+        | inr h ↦ false_from_ne_true (kind e.step) (λ is. true≢false (sym (of_holders e.step is) ∙ (beside.0 h).kind))
+      ]) (none_in kind of_holders out (world_behind c w e) es beside.1 own.1)
 
   pub none_of_kind : (kind : Step → Bool) → ((x : Step) → kind x ≡ true → is_holders x ≡ true)
       → ((x : Step) → kinds x ≡ true → kind x ≡ false) → (w : World) (es : List Event)
@@ -228,8 +214,7 @@ pub left_unmarked_by : (c : Config) (cell : Cell) (w : World) (es : List Event) 
     → is_marked w.now.words cell ≡ false → is_marked (left_from c w es).now.words cell ≡ false
 unfolding LeaveUnmarked left_from
 left_unmarked_by c cell w [] leave was = was
-left_unmarked_by c cell w (e ∷ es) leave was =
-    left_unmarked_by c cell (world_behind c w e) es leave.1 (leave.0 was)
+left_unmarked_by c cell w (e ∷ es) leave was = left_unmarked_by c cell (world_behind c w e) es leave.1 (leave.0 was)
 
 pub leave_first : (c : Config) (cell : Cell) (w : World) (e : Event) (es : List Event)
     → (is_marked w.now.words cell ≡ false → is_marked (world_behind c w e).now.words cell ≡ false)

@@ -3,31 +3,25 @@ use Rattle.std.proofs.Common.{◌≡◌, ◌∙◌, ℕ, ◌+◌, ◌^◌, ◌<�
 use Rattle.std.proofs.Common.{inr, arith}
 use Rattle.std.specs.Prelude.{slice_index, ◌&&◌, ◌||◌, nat_lt}
 use Rattle.std.proofs.lemmas.Bool.{and_from, cases_lt, lt-ltb}
-use Rattle.mk_geom.specs.declared.addresses.Cell.{Cell}
-use Rattle.mk_core.specs.declared.config.Config.{Config}
-use Rattle.mk_core.specs.Bits.{has_bit}
-use Rattle.mk_core.specs.Cells.{cell_words, cells_under, first_word, has_no_pointers, header_in, is_marked}
-use Rattle.mk_core.specs.Cells.{word_points_well, words_point_well}
+use Rattle.mk_sweep.proofs.Vocabulary.{BlacksMore, Cell, CellsAreClosed, Config, PageIsBlack, PassState, Words}
+use Rattle.mk_sweep.proofs.Vocabulary.{cell_words, cells_under, first_word, has_bit, has_no_pointers, header_in}
+use Rattle.mk_sweep.proofs.Vocabulary.{is_marked, still_words, word_points_well}
+use Rattle.mk_core.specs.Cells.{words_point_well}
 use Rattle.mk_core.specs.StopConditions.{may_turn_black}
-use Rattle.mk_core.specs.Words.{Words}
 use Rattle.mk_core.proofs.Lengths.{histories_keep_lengths}
 use Rattle.mk_core.proofs.WordBits.{bit_for_has, bit_for_small, bits_added, bits_stay}
-use Rattle.mk_laws.specs.Guard.{CellsAreClosed}
 use Rattle.mk_laws.proofs.Tests.{all_below_from}
-use Rattle.mk_words.specs.States.{PassState}
 use Rattle.mk_tracing.specs.Grays.{is_black, with_blacks}
-use Rattle.mk_tracing.specs.Stops.{still_words}
-use Rattle.mk_sweep.specs.Sweeping.{BlacksMore, PageIsBlack}
 
 -- a record with the black words of another
 abbrev blackened_as : Words → List ℕ → Words
 blackened_as w bs = record w { blacks = bs }
 
 pub blacks_same : (w v : Words) → v ≡ w → BlacksMore w v
-blacks_same w v e = subst (λ (x : Words). BlacksMore w x) (sym e) (record { is = refl; grow = λ p k h. h })
+blacks_same w v e = subst (BlacksMore w) (sym e) (record { is = refl; grow = λ p k h. h })
 
-pub blacks_then : (u v w : Words) → BlacksMore u v → BlacksMore v w → BlacksMore u w
-blacks_then u v w one two =
+pub blacks_then : {u v w : Words} → BlacksMore u v → BlacksMore v w → BlacksMore u w
+blacks_then {w} one two =
     record {
       is = two.is ∙ ap (λ (x : Words). blackened_as x w.blacks) one.is;
       grow = λ p k h. two.grow p k (one.grow p k h);
@@ -35,10 +29,7 @@ blacks_then u v w one two =
 
 pub blacks_added : (w v : Words) (page bits : ℕ) → v ≡ with_blacks page bits w → BlacksMore w v
 blacks_added w v page bits e =
-    subst (λ (x : Words). BlacksMore w x) (sym e) (record {
-      is = refl;
-      grow = λ p k h. bits_stay w.blacks page bits p k h;
-    })
+    subst (BlacksMore w) (sym e) (record { is = refl; grow = λ p k h. bits_stay w.blacks page bits p k h })
 
 pub blacks_length : (p : PassState) → length (still_words p).blacks ≡ p.table.config.pages
 blacks_length p = (histories_keep_lengths p.table.config p.seen).blacks
@@ -46,30 +37,29 @@ blacks_length p = (histories_keep_lengths p.table.config p.seen).blacks
 pub black_now : (w v : Words) (cell : Cell) → cell.page < length w.blacks → cell.index < 64
     → v ≡ with_blacks cell.page (2 ^ cell.index) w → is_black v cell ≡ true
 black_now w v cell lt small e =
-    ap (λ (x : Words). is_black x cell) e
-    ∙ bits_added w.blacks cell.page (2 ^ cell.index) cell.index lt
+    ap (λ (x : Words). is_black x cell) e ∙ bits_added w.blacks cell.page (2 ^ cell.index) cell.index lt
     (subst (λ n. has_bit n cell.index ≡ true) (bit_for_small cell.index small) (bit_for_has cell.index small))
 
 -- What is closed stays closed, and black pages black.
 
-pub closed_kept : (c : Config) (w v : Words) → BlacksMore w v → CellsAreClosed c w → CellsAreClosed c v
-closed_kept c w v more closed =
-    subst (λ (x : Words). CellsAreClosed c x) (sym more.is) (record {
+pub closed_kept : {c : Config} {w v : Words} → BlacksMore w v → CellsAreClosed c w → CellsAreClosed c v
+closed_kept {c} more closed =
+    subst (CellsAreClosed c) (sym more.is) (record {
       registers = closed.registers;
       globals = closed.globals;
       words = closed.words;
     })
 
-pub page_stays_black : (w v : Words) (p : ℕ) → BlacksMore w v → PageIsBlack w p → PageIsBlack v p
-page_stays_black w v p more black k lt marked =
+pub page_stays_black : {w v : Words} (p : ℕ) → BlacksMore w v → PageIsBlack w p → PageIsBlack v p
+page_stays_black p more black k lt marked =
     more.grow p k (black k (subst (λ n. k < n) (ap (λ (x : Words). cells_under (header_in x p)) more.is) lt)
     (sym (ap (λ (x : Words). has_bit (slice_index x.marks p) k) more.is) ∙ marked))
 
 -- A marked cell may turn black where the marks are closed.
-pub may_turn : (c : Config) (w : Words) (cell : Cell) → CellsAreClosed c w
+pub may_turn : {c : Config} {w : Words} (cell : Cell) → CellsAreClosed c w
     → cell.index < cells_under (header_in w cell.page) → is_marked w cell ≡ true → may_turn_black c.pages w cell ≡ true
 unfolding may_turn_black
-may_turn c w cell closed known marked =
+may_turn {c} {w} cell closed known marked =
     and_from (nat_lt cell.index (cells_under (header_in w cell.page)) && is_marked w cell) _
     (and_from (nat_lt cell.index (cells_under (header_in w cell.page))) (is_marked w cell)
     (lt-ltb cell.index (cells_under (header_in w cell.page)) known) marked)

@@ -2,28 +2,20 @@
 use Rattle.std.proofs.Common.{◌≡◌, ◌∙◌, ℕ, ◌+◌, ◌<◌, Bool, true, false, List, refl, sym, ap, subst, arith}
 use Rattle.std.specs.Prelude.{◌==◌, slice_index}
 use Rattle.std.proofs.lemmas.Bool.{eqb-true}
-use Rattle.mk_geom.specs.declared.addresses.Cell.{Cell}
-use Rattle.mk_core.specs.declared.config.Config.{Config}
-use Rattle.mk_core.specs.declared.events.Event.{Event}
-use Rattle.mk_core.specs.Cells.{cell_words, cells_under, first_word, has_no_pointers, header_in, is_used, points_well}
-use Rattle.mk_core.specs.Cells.{word_points_well}
-use Rattle.mk_core.specs.History.{IsHistory, left}
-use Rattle.mk_core.specs.Words.{Words}
+use Rattle.mk_sweep.proofs.Vocabulary.{BlacksMore, Cell, CellsAreClosed, Config, Event, IsHistory, IsScannedWord}
+use Rattle.mk_sweep.proofs.Vocabulary.{IsSettled, MarksMore, PointWell, TurnState, Words, WordsState, cell_words}
+use Rattle.mk_sweep.proofs.Vocabulary.{cells_under, first_word, has_no_pointers, header_in, left, now_of, points_well}
+use Rattle.mk_sweep.proofs.Vocabulary.{still_words, word_points_well, words_below, world_of}
+use Rattle.mk_core.specs.Cells.{is_used}
 use Rattle.mk_core.proofs.AllBelow.{all_below-at}
-use Rattle.mk_laws.specs.Guard.{CellsAreClosed}
-use Rattle.mk_laws.specs.SettledPages.{IsSettled}
-use Rattle.mk_words.specs.States.{TurnState, WordsState, now_of, world_of}
-use Rattle.mk_tracing.specs.Grays.{MarksMore, RootsPointWell}
-use Rattle.mk_tracing.specs.Stops.{still_words}
+use Rattle.mk_tracing.specs.Grays.{RootsPointWell}
 use Rattle.mk_tracing.proofs.MoreMarks.{well_more, well_none, zero_none}
-use Rattle.mk_sweep.specs.Swept.{IsScannedWord}
-use Rattle.mk_sweep.specs.Sweeping.{BlacksMore, PointWell, words_below}
 use Rattle.mk_sweep.proofs.CountedWords.{some_there}
 use Rattle.mk_sweep.proofs.EachOnce.{looked_at_once}
 use Rattle.mk_sweep.proofs.ScannedCells.{unused_is_zero, used_word}
 
-pub roots_stay : (pages : ℕ) (w v : Words) → MarksMore w v → RootsPointWell pages w → RootsPointWell pages v
-roots_stay pages w v more roots =
+pub roots_stay : {pages : ℕ} {w v : Words} → MarksMore w v → RootsPointWell pages w → RootsPointWell pages v
+roots_stay {pages} {w} {v} more roots =
     record {
       registers = λ i. ap (λ (y : Words). points_well pages v (slice_index y.registers i)) more.is
           ∙ well_more pages w v (slice_index w.registers i) more (roots.registers i);
@@ -68,8 +60,8 @@ module _ (c : Config) (es : List Event) (h : IsHistory c es) (settled : IsSettle
 
 -- The phase is another.
 
-pub closed_still : (c : Config) (w : Words) → CellsAreClosed c w → CellsAreClosed c (record w { phase = 0 })
-closed_still c w closed =
+pub closed_still : {c : Config} {w : Words} → CellsAreClosed c w → CellsAreClosed c (record w { phase = 0 })
+closed_still closed =
     record { registers = closed.registers; globals = closed.globals; words = closed.words }
 
 pub roots_now : (pages : ℕ) (w : Words) → RootsPointWell pages (record w { phase = 0 }) → RootsPointWell pages w
@@ -77,8 +69,7 @@ roots_now pages w roots = record { registers = roots.registers; globals = roots.
 
 pub closed_behind : (words : WordsState) (t u : TurnState) → words ≡ u.pass.table
     → IsHistory u.pass.table.config u.pass.seen → IsSettled (world_of u.pass)
-    → MarksMore (still_words t.pass) (still_words u.pass)
-    → RootsPointWell words.config.pages (still_words t.pass)
+    → MarksMore (still_words t.pass) (still_words u.pass) → RootsPointWell words.config.pages (still_words t.pass)
     → PointWell words.config.pages (still_words u.pass) (words_below (still_words t.pass) words.config.pages)
     → CellsAreClosed words.config (still_words u.pass)
 closed_behind words t u table history settled more roots well =
@@ -90,14 +81,11 @@ closed_behind words t u table history settled more roots well =
     (subst (λ ns. PointWell words.config.pages w ns) same well) in
     let roots_there : RootsPointWell u.pass.table.config.pages w =
     subst (λ (x : WordsState). RootsPointWell x.config.pages w) table
-    (roots_now words.config.pages w
-    (roots_stay words.config.pages (still_words t.pass) (still_words u.pass) more roots)) in
+    (roots_now words.config.pages w (roots_stay more roots)) in
     subst (λ (x : WordsState). CellsAreClosed x.config (still_words u.pass)) (sym table)
-    (closed_still u.pass.table.config w
-    (cells_closed u.pass.table.config u.pass.seen history settled well_there roots_there))
+    (closed_still (cells_closed u.pass.table.config u.pass.seen history settled well_there roots_there))
 
 -- Black bits leave what points well.
-pub well_when_black : (pages : ℕ) (w v : Words) (ns : List ℕ) → BlacksMore w v → PointWell pages w ns
+pub well_when_black : (pages : ℕ) {w v : Words} (ns : List ℕ) → BlacksMore w v → PointWell pages w ns
     → PointWell pages v ns
-well_when_black pages w v ns more well n inside =
-    ap (λ (y : Words). word_points_well pages y n) more.is ∙ well n inside
+well_when_black pages ns more well n inside = ap (λ (y : Words). word_points_well pages y n) more.is ∙ well n inside

@@ -9,12 +9,10 @@ use Rattle.std.proofs.lemmas.Bool.{lt-ltb, ltb-true, ne_eqb, true≢false}
 use Rattle.std.proofs.lemmas.List.FromFn.{length-range_with_len}
 use Rattle.std.proofs.lemmas.List.Sums.{sum_by-append, sum_by-cons}
 use Rattle.std.proofs.lemmas.Nat.{mul-le}
-use Rattle.mk_core.specs.Bits.{has_bit}
-use Rattle.mk_core.specs.Cells.{cells_under, has_no_pointers, header_in, words_under}
-use Rattle.mk_core.specs.Words.{Words, used_at}
+use Rattle.mk_sweep.proofs.Vocabulary.{Words, cells_under, has_bit, has_no_pointers, header_in, used_at, words_below}
+use Rattle.mk_sweep.proofs.Vocabulary.{words_if, words_of_cells, words_on, words_under}
 use Rattle.mk_cycle.specs.ReleasedPages.{sum_below}
 use Rattle.mk_cycle.proofs.SumsBelow.{counted_by_key, sum_same}
-use Rattle.mk_sweep.specs.Sweeping.{words_below, words_if, words_of_cells, words_on}
 
 -- how often it stands there
 abbrev pub times : ℕ → List ℕ → ℕ
@@ -188,8 +186,8 @@ page_found w page n some = by (has_no_pointers (header_in w page)) refl
               (λ z. some (ap (λ (b : Bool). times n (on b)) scanned ∙ z));
         }
 
-pub page_once : (w : Words) (page n : ℕ) → HasOnPage w page n → times n (words_on w page) ≡ 1
-page_once w page n x =
+pub page_once : {w : Words} {page n : ℕ} → HasOnPage w page n → times n (words_on w page) ≡ 1
+page_once {w} {page} {n} x =
     ap (λ (b : Bool). times n (if b then []
     else words_of_cells page (words_under (header_in w page)) (used_at w page) (cells_under (header_in w page))))
     x.scanned
@@ -207,18 +205,18 @@ pages_found w (suc k) n some = elim (cases_eq (times n (words_on w k)) 0) [
       (x.0, omega arith, x.2)
 ]
 
-pub pages_once : (w : Words) (pages page n : ℕ) → page < pages → HasOnPage w page n
+pub pages_once : {w : Words} (pages : ℕ) {page n : ℕ} → page < pages → HasOnPage w page n
     → ((other : ℕ) → HasOnPage w other n → other ≡ page) → times n (words_below w pages) ≡ 1
-pages_once w zero page n lt x alone = absurd (omega arith)
-pages_once w (suc k) page n lt x alone =
+pages_once zero lt x alone = absurd (omega arith)
+pages_once {w} (suc k) {page} {n} lt x alone =
     let both = times_in_both n (words_below w k) (words_on w k) in
     elim (cases_eq page k) [
       | inl last ↦
-          let here : times n (words_on w k) ≡ 1 = subst (λ p. times n (words_on w p) ≡ 1) last (page_once w page n x) in
+          let here : times n (words_on w k) ≡ 1 = subst (λ p. times n (words_on w p) ≡ 1) last (page_once x) in
           let before = none_before last in
           omega arith
       | inr early ↦
-          let before = pages_once w k page n (omega arith) x alone in
+          let before = pages_once k (omega arith) x alone in
           let here = none_here early in
           omega arith
     ]
@@ -278,8 +276,7 @@ module _ {X : Type 0} (t : X → Bool) (first words : X → ℕ) where
       ∙ ap (λ k. cond (t x && is_in_range (first x) (words x) n) 1 0 + k) (times_in_all n xs)
       ∙ sym (sum_by-cons (λ y. cond (t y && is_in_range (first y) (words y) n) 1 0) x xs)
     where
-      by : (b : Bool) → times n (words_if b (first x) (words x))
-          ≡ cond (b && is_in_range (first x) (words x) n) 1 0
+      by : (b : Bool) → times n (words_if b (first x) (words x)) ≡ cond (b && is_in_range (first x) (words x) n) 1 0
       by true = times_in_range (first x) (words x) n
       by false = refl
 

@@ -2,21 +2,16 @@
 use Rattle.std.proofs.Common.{◌≡◌, ◌∙◌, Bool, true, List, [], ◌∷◌, ◌++◌, refl, sym, ap, append-nil, append_assoc}
 use Rattle.std.proofs.lemmas.Bool.{and_parts}
 use Rattle.std.proofs.lemmas.List.{append_cancel_left}
-use Rattle.mk_core.specs.declared.config.Config.{Config}
-use Rattle.mk_core.specs.declared.events.Event.{Event}
-use Rattle.mk_core.specs.declared.events.Step.{Step}
+use Rattle.mk_sweep.proofs.Vocabulary.{Config, Event, Has, Moment, PassState, Step, event_of, heap_looks}
 use Rattle.mk_core.specs.declared.events.Step.TheVariants as step
 use Rattle.mk_core.specs.declared.events.Word.TheVariants as word
 use Rattle.mk_core.specs.Growing.{Finding, own_from}
-use Rattle.mk_core.specs.Moments.{Moment}
-use Rattle.mk_words.specs.Seats.{Has}
-use Rattle.mk_words.specs.States.{PassState, event_of}
 use Rattle.mk_words.specs.Steps.{Makes}
 use Rattle.mk_turns.specs.Doing.{Does, are_of, done_in}
 use Rattle.mk_turns.proofs.Doing.{done_in_parts}
 use Rattle.mk_tracing.specs.Tracing.{is_waiting}
 use Rattle.mk_tracing.proofs.Parts.{done_by_one}
-use Rattle.mk_sweep.specs.Sweeping.{heap_looks, word_looked_at, words_looked_at}
+use Rattle.mk_sweep.specs.Sweeping.{word_looked_at, words_looked_at}
 
 looked_at_in_parts : (xs ys : List Finding) → words_looked_at (xs ++ ys) ≡ words_looked_at xs ++ words_looked_at ys
 looked_at_in_parts [] ys = refl
@@ -25,24 +20,23 @@ looked_at_in_parts (x ∷ xs) ys =
     ∙ sym (append_assoc (word_looked_at x.event.step) (words_looked_at xs) (words_looked_at ys))
 
 -- what is done from one pass to another is one list of events, whichever kinds are allowed
-done_is : (kinds : Step → Bool) (p q : PassState) (d : Does kinds p q) (es : List Event)
+done_is : {kinds : Step → Bool} {p q : PassState} (d : Does kinds p q) (es : List Event)
     → q ≡ record p { seen = p.seen ++ es } → d.more ≡ es
-done_is kinds p q d es is = append_cancel_left p.seen d.more es (ap (λ (x : PassState). x.seen) (sym d.is ∙ is))
+done_is {p} d es is = append_cancel_left p.seen d.more es (ap (λ (x : PassState). x.seen) (sym d.is ∙ is))
 
 none_done : (p : PassState) → words_looked_at (done_in p []) ≡ []
 unfolding own_from
 none_done p = refl
 
-pub looks_of_nothing : (kinds : Step → Bool) (p : PassState) (d : Does kinds p p) → heap_looks d ≡ []
-looks_of_nothing kinds p d =
+pub looks_of_nothing : {kinds : Step → Bool} {p : PassState} (d : Does kinds p p) → heap_looks d ≡ []
+looks_of_nothing {p} d =
     ap (λ (es : List Event). words_looked_at (done_in p es))
-    (done_is kinds p p d [] (sym (ap (λ (es : List Event). record p { seen = es }) (append-nil p.seen))))
-    ∙ none_done p
+    (done_is d [] (sym (ap (λ (es : List Event). record p { seen = es }) (append-nil p.seen)))) ∙ none_done p
 
-pub looks_in_parts : (kinds more both : Step → Bool) (p q r : PassState) (d : Does kinds p q) (e : Does more q r)
+pub looks_in_parts : {kinds more both : Step → Bool} {p q r : PassState} (d : Does kinds p q) (e : Does more q r)
     (f : Does both p r) → heap_looks f ≡ heap_looks d ++ heap_looks e
-looks_in_parts kinds more both p q r d e f =
-    ap (λ (es : List Event). words_looked_at (done_in p es)) (done_is both p r f (d.more ++ e.more) whole)
+looks_in_parts {p} {r} d e f =
+    ap (λ (es : List Event). words_looked_at (done_in p es)) (done_is f (d.more ++ e.more) whole)
     ∙ ap words_looked_at (done_in_parts p d.more e.more)
     ∙ looked_at_in_parts (done_in p d.more) (done_in (record p { seen = p.seen ++ d.more }) e.more)
     ∙ ap (λ (x : PassState). heap_looks d ++ words_looked_at (done_in x e.more)) (sym d.is)
@@ -58,12 +52,11 @@ no_rule c m s = ⊥
 no_kind : Step → Bool
 no_kind s = true
 
-pub looks_of_step : (kinds : Step → Bool) (p q : PassState) (s : Step) (m : Makes p s q) (d : Does kinds p q)
+pub looks_of_step : {kinds : Step → Bool} {p q : PassState} {s : Step} (m : Makes p s q) (d : Does kinds p q)
     → Has p.seats p.seat → heap_looks d ≡ word_looked_at s
-looks_of_step kinds p q s m d has =
-    ap (λ (es : List Event). words_looked_at (done_in p es)) (done_is kinds p q d (m.others ++ event_of p s ∷ []) is)
-    ∙ ap words_looked_at (done_by_one kinds no_rule no_kind p q s m has)
-    ∙ append-nil (word_looked_at s)
+looks_of_step {kinds} {p} {q} {s} m d has =
+    ap (λ (es : List Event). words_looked_at (done_in p es)) (done_is d (m.others ++ event_of p s ∷ []) is)
+    ∙ ap words_looked_at (done_by_one kinds no_rule no_kind p q s m has) ∙ append-nil (word_looked_at s)
   where
     is : q ≡ record p { seen = p.seen ++ (m.others ++ event_of p s ∷ []) }
     is = m.is ∙ ap (λ (es : List Event). record p { seen = es }) (append_assoc p.seen m.others (event_of p s ∷ []))
@@ -80,5 +73,5 @@ none_waited (x ∷ xs) h =
     let parts = and_parts (is_waiting x.event.step) (are_of is_waiting xs) h in
     ap (λ ns. ns ++ words_looked_at xs) (none_waiting x.event.step parts.0) ∙ none_waited xs parts.1
 
-pub looks_of_waiting : (p q : PassState) (d : Does is_waiting p q) → heap_looks d ≡ []
-looks_of_waiting p q d = none_waited (done_in p d.more) d.of_kinds
+pub looks_of_waiting : {p q : PassState} (d : Does is_waiting p q) → heap_looks d ≡ []
+looks_of_waiting {p} d = none_waited (done_in p d.more) d.of_kinds

@@ -4,21 +4,15 @@ use Rattle.std.proofs.Common.{◌≡◌, ◌≢◌, ◌∙◌, ℕ, ◌+◌, ◌
 use Rattle.std.proofs.Common.{sym, ap, inl, inr, arith}
 use Rattle.std.specs.Prelude.{◌&&◌, not}
 use Rattle.std.proofs.lemmas.Bool.{and_from, and_parts, cases_eq, true≢false}
-use Rattle.mk_geom.specs.declared.addresses.Cell.{Cell}
-use Rattle.mk_core.specs.declared.config.Config.{Config}
-use Rattle.mk_core.specs.declared.events.Event.{Event}
-use Rattle.mk_core.specs.Allocations.{PlacedAllocation, cell_of_allocation, is_mapped, never_granted, placed_at}
-use Rattle.mk_core.specs.Allocations.{storage_of, storage_words}
-use Rattle.mk_core.specs.Cells.{cell_words, first_word, header_in, words_under}
+use Rattle.mk_sweep.proofs.Vocabulary.{Cell, Config, Event, IsHistory, IsScannedWord, IsSettled, PlacedAllocation}
+use Rattle.mk_sweep.proofs.Vocabulary.{Words, cell_of_allocation, cell_words, first_word, header_in, is_mapped, left}
+use Rattle.mk_sweep.proofs.Vocabulary.{placed_at, storage_of, storage_words, words_below, words_under}
+use Rattle.mk_core.specs.Allocations.{never_granted}
 use Rattle.mk_core.specs.ClosedMarks.{is_scanned_allocation}
-use Rattle.mk_core.specs.History.{IsHistory, left}
-use Rattle.mk_core.specs.Words.{Words}
-use Rattle.mk_laws.specs.SettledPages.{IsSettled}
 use Rattle.mk_laws.proofs.MappedWords.{mapped_stays}
 use Rattle.mk_laws.proofs.InvariantTheorems.{allocations_are_disjoint, allocations_stand}
 use Rattle.mk_cycle.proofs.SumsBelow.{one_if_any}
-use Rattle.mk_sweep.specs.Swept.{IsScannedWord, scanned_words}
-use Rattle.mk_sweep.specs.Sweeping.{words_below}
+use Rattle.mk_sweep.specs.Swept.{scanned_words}
 use Rattle.mk_sweep.proofs.CountedWords.{HasOnPage, all_words, in_range_from, in_range_is, is_in_range, length_of_all}
 use Rattle.mk_sweep.proofs.CountedWords.{pages_found, pages_once, same_length, times, times_in_all}
 use Rattle.mk_sweep.proofs.ScannedCells.{scanned_stands, used_cell}
@@ -37,17 +31,15 @@ module _ (c : Config) (es : List Event) (h : IsHistory c es) (settled : IsSettle
       mapped_stays c a (and_parts (is_mapped c a) (not (storage_of c a).leaf) is).0
 
   -- the allocation of a scanned word, where its page's cells show the word
-  pub of_page : (page n : ℕ) → HasOnPage (left c es).now.words page n
-      → (x : IsScannedWord c (left c es).allocations n)
+  pub of_page : (page n : ℕ) → HasOnPage (left c es).now.words page n → (x : IsScannedWord c (left c es).allocations n)
       × ((cell_of_allocation c (placed_at (left c es).allocations x.number)).page ≡ page)
   of_page page n x =
       let o = used_cell c es h settled page x.cell.index x.cell.bit x.scanned in
       let a : PlacedAllocation = placed_at xs o.number in
       let st = scanned_stands c es h settled o.number o.scanned in
       let first : 64 * page + x.cell.index * words_under (header_in w page) ≡ a.base =
-      sym (ap (λ (y : Cell). first_word w y) o.is) ∙ st.first in
-      let words : words_under (header_in w page) ≡ storage_words c a =
-      sym (ap (λ (y : Cell). cell_words w y) o.is) ∙ st.words in
+      sym (ap (first_word w) o.is) ∙ st.first in
+      let words : words_under (header_in w page) ≡ storage_words c a = sym (ap (cell_words w) o.is) ∙ st.words in
       let low = x.cell.from in
       let high = x.cell.to in (
         record { number = o.number; scanned = o.scanned; word = (omega arith, omega arith) },
@@ -77,13 +69,12 @@ module _ (c : Config) (es : List Event) (h : IsHistory c es) (settled : IsSettle
   one_allocation : (n : ℕ) → (x y : IsScannedWord c (left c es).allocations n) → x.number ≡ y.number
   one_allocation n x y =
       allocations_are_disjoint c es h x.number y.number n (unreleased x.number x.scanned) (unreleased y.number
-      y.scanned)
-      x.word y.word
+      y.scanned) x.word y.word
 
   pub looked_at_once : (n : ℕ) → IsScannedWord c (left c es).allocations n
       → times n (words_below (left c es).now.words c.pages) ≡ 1
   looked_at_once n x =
-      pages_once w c.pages (cell_of_allocation c (placed_at xs x.number)).page n
+      pages_once c.pages
       (scanned_stands c es h settled x.number x.scanned).page (on_page n x) (λ other there.
       let y = of_page other n there in
       sym y.1 ∙ ap (λ i. (cell_of_allocation c (placed_at xs i)).page) (one_allocation n y.0 x))
@@ -112,8 +103,7 @@ module _ (c : Config) (es : List Event) (h : IsHistory c es) (settled : IsSettle
 
   scanned_word : (n i : ℕ) → (is_scanned_allocation c (placed_at (left c es).allocations i)
       && is_in_range (placed_at (left c es).allocations i).base (storage_words c (placed_at (left c es).allocations
-      i)) n)
-      ≡ true → IsScannedWord c (left c es).allocations n
+      i)) n) ≡ true → IsScannedWord c (left c es).allocations n
   scanned_word n i is =
       let a : PlacedAllocation = placed_at xs i in
       let parts = and_parts (is_scanned_allocation c a) (is_in_range a.base (storage_words c a) n) is in
@@ -137,9 +127,7 @@ module _ (c : Config) (es : List Event) (h : IsHistory c es) (settled : IsSettle
           x.number,
           and_from (is_scanned_allocation c a) (is_in_range a.base (storage_words c a) n) x.scanned
               (in_range_from a.base (storage_words c a) n x.word.0 x.word.1),
-        ))
-        (λ i there. refl)
-        (λ i j b d. one_allocation n (scanned_word n i b) (scanned_word n j d)))
+        )) (λ i there. refl) (λ i j b d. one_allocation n (scanned_word n i b) (scanned_word n j d)))
   ]
 
   pub as_many : length (words_below (left c es).now.words c.pages) ≡ scanned_words c (left c es).allocations

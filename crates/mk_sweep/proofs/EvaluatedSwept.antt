@@ -4,16 +4,15 @@ use Rattle.std.proofs.Common.{◌≡◌, ℕ, zero, suc, Bool, true, false, List
 use Rattle.std.specs.Prelude.{◌&&◌, slice_index}
 use Rattle.std.specs.List.{list_all}
 use Rattle.std.proofs.lemmas.Bool.{and_parts, false≢true, leb-true, ltb-true}
+use Rattle.mk_sweep.proofs.Vocabulary.{Config, Event, InGlobal, InRegister, InWord, IsSwept, IsSweptValue, World, left}
+use Rattle.mk_sweep.proofs.Vocabulary.{placed_at}
 use Rattle.mk_never.specs.declared.operations.Op.TheVariants as op
-use Rattle.mk_core.specs.declared.config.Config.{Config}
-use Rattle.mk_core.specs.declared.events.Event.{Event}
 use Rattle.mk_core.specs.declared.events.Step.TheVariants as step
 use Rattle.mk_core.specs.declared.events.Tally.TheVariants as tally
 use Rattle.mk_core.specs.declared.events.Word.TheVariants as word
-use Rattle.mk_core.specs.Allocations.{placed_at}
 use Rattle.mk_core.specs.Bounded.{all_below}
 use Rattle.mk_core.specs.Cells.{pointed_cell}
-use Rattle.mk_core.specs.History.{World, left, left_from}
+use Rattle.mk_core.specs.History.{left_from}
 use Rattle.mk_core.specs.StopConditions.{may_turn_black}
 use Rattle.mk_core.proofs.EvaluatedReach.{below_two}
 use Rattle.mk_core.proofs.ListTests.{list_all-at, numbered_all}
@@ -21,7 +20,6 @@ use Rattle.mk_core.proofs.Schedules.{by, c0, fault, first_fault, host, pointer_p
 use Rattle.mk_core.proofs.MoreSchedules.{exchanged}
 use Rattle.mk_core.proofs.SmallCycles.{begun_in_stop, by_host, marked_in_stop, small, three_objects}
 use Rattle.mk_core.proofs.TouchedTests.{is_into_members, points_into}
-use Rattle.mk_sweep.specs.Swept.{IsSwept, IsSweptValue, InGlobal, InRegister, InWord}
 
 -- Whatever these words point into is a member of the set: as a test.
 abbrev pub all_into : Config → World → (ℕ → Bool) → List ℕ → Bool
@@ -138,8 +136,7 @@ first_is_not_swept_unreached swept =
     false≢true (swept_by_test pointer_page unreached is_second unreached_into_second 0 swept)
 
 -- The cycle releases the first, and keeps the second.
-pub only_the_first_is_released :
-    ((placed_at (left pointer_page released_unswept).allocations 0).released ≡ true)
+pub only_the_first_is_released : ((placed_at (left pointer_page released_unswept).allocations 0).released ≡ true)
     × ((placed_at (left pointer_page released_unswept).allocations 1).released ≡ false)
 unfolding left_from by c0 host all_below pointed_cell pointer_page exchanged two_unreached swept_in_stop
     released_unswept

@@ -1,27 +1,21 @@
 -- What the law of engines asks on entry, and what a stop keeps of it.
 use Rattle.std.proofs.Common.{◌≡◌, ◌∙◌, Bool, true, false, List, refl, ap}
 use Rattle.std.specs.Prelude.{not, ◌&&◌, slice_index_or}
+use Rattle.mk_sweep.proofs.Vocabulary.{Caller, Config, Holds, Host, IsHistory, Marker, Moment, PassState, Seat, Steady}
+use Rattle.mk_sweep.proofs.Vocabulary.{Untouched, Words, flight_of, now_of, untouched_of, world_of}
 use Rattle.mk_never.specs.declared.operations.Op.{Op}
 use Rattle.mk_never.specs.declared.operations.Op.TheVariants as op
-use Rattle.mk_core.specs.declared.config.Config.{Config}
-use Rattle.mk_core.specs.declared.events.Seat.{Seat}
-use Rattle.mk_core.specs.declared.events.Seat.TheVariants.{Caller, Marker, Host}
 use Rattle.mk_core.specs.declared.seats.Flight.{Flight}
 use Rattle.mk_core.specs.declared.seats.Stage.{Stage}
 use Rattle.mk_core.specs.declared.seats.Stage.TheVariants as stage
 use Rattle.mk_core.specs.Calls.{at_rest, is_under_turn}
-use Rattle.mk_core.specs.Frames.{Steady, CountsAreLeft}
-use Rattle.mk_core.specs.History.{IsHistory}
-use Rattle.mk_core.specs.Moments.{Moment, flight_of}
+use Rattle.mk_core.specs.Frames.{CountsAreLeft}
 use Rattle.mk_core.specs.NewPlaces.{is_run_gone}
 use Rattle.mk_laws.specs.SettledPages.{is_freed_unmapped}
-use Rattle.mk_core.specs.Readings.{Holds, is_idle}
-use Rattle.mk_core.specs.Words.{Words}
+use Rattle.mk_core.specs.Readings.{is_idle}
 use Rattle.mk_laws.specs.Protocol.{Protocol, has_stage}
 use Rattle.mk_laws.proofs.Protocols.{lists_keep_the_protocol}
-use Rattle.mk_words.specs.States.{PassState, world_of, now_of}
 use Rattle.mk_tracing.specs.Stops.{HolderIsLoaded, is_loaded, is_loaded_at}
-use Rattle.mk_tracing.specs.Tracing.{Untouched, untouched_of}
 use Rattle.mk_cycle.specs.EngineLaw.{IsFreeForCycle, is_pending_free, is_pending_free_at}
 use Rattle.mk_cycle.specs.TurnKeeps.{Done, IsGone, LeavesTurn, but_phase}
 
@@ -39,18 +33,18 @@ loaded_at x o has turn decided = absurd (never (not (is_idle x)) turn)
     never true e = cc
     never false e = cc
 
-loaded_of : (c : Config) (m : Moment) (seat : Seat) → Protocol c m → Holds c m seat
+loaded_of : {c : Config} {m : Moment} (seat : Seat) → Protocol c m → Holds c m seat
     → is_pending_free (flight_of m seat) ≡ false → is_loaded seat (flight_of m seat) ≡ true
-loaded_of c m (Caller k) p holds decided =
+loaded_of {m} (Caller k) p holds decided =
     loaded_at (flight_of m (Caller k)).stage (flight_of m (Caller k)).op (p.stage k holds.0) holds.1 decided
-loaded_of c m (Marker k) p holds decided = refl
-loaded_of c m Host p holds decided = refl
+loaded_of (Marker k) p holds decided = refl
+loaded_of Host p holds decided = refl
 
 pub ready_of : (p : PassState) → IsHistory p.table.config p.seen → Holds p.table.config (now_of p) p.seat
     → IsFreeForCycle p → HolderIsLoaded p
 ready_of p history holds free =
     let protocol = lists_keep_the_protocol p.table.config p.seen history.within_limits history.enabled in
-    record { loaded = loaded_of p.table.config (now_of p) p.seat protocol holds free.decided }
+    record { loaded = loaded_of p.seat protocol holds free.decided }
 
 -- What a stop leaves alone is as it was.
 module _ (p q : PassState) (pass : q ≡ record p { seen = q.seen })
@@ -71,7 +65,7 @@ module _ (p q : PassState) (pass : q ≡ record p { seen = q.seen })
 
   pub gone_kept : IsGone p → IsGone q
   unfolding gone_as
-  gone_kept gone = ap (λ (x : Untouched). gone_as (now_of q).words x) same ∙ gone
+  gone_kept gone = ap (gone_as (now_of q).words) same ∙ gone
 
   unmapped_as : Words → Untouched → Bool
   unmapped_as w x = is_freed_unmapped (record w { pages = x.pages }) x.freed_run
@@ -79,7 +73,7 @@ module _ (p q : PassState) (pass : q ≡ record p { seen = q.seen })
   pub unmapped_kept : is_freed_unmapped (now_of p).words (now_of p).seats.holding.freed ≡ true
       → is_freed_unmapped (now_of q).words (now_of q).seats.holding.freed ≡ true
   unfolding unmapped_as
-  unmapped_kept unmapped = ap (λ (x : Untouched). unmapped_as (now_of q).words x) same ∙ unmapped
+  unmapped_kept unmapped = ap (unmapped_as (now_of q).words) same ∙ unmapped
 
   steady_as : Untouched → Steady
   steady_as x =

@@ -1,3 +1,4 @@
+pub mod Vocabulary
 pub mod Blacks
 pub mod Closed
 pub mod CountedWords

@@ -1,30 +1,23 @@
 -- Where nothing is on its way, the used cells of scanned pages are those of the mapped allocations that aren't leaf.
-use Rattle.std.proofs.Common.{◌≡◌, ◌≢◌, ◌⊎◌, ◌∙◌, ℕ, ◌+◌, ◌*◌, ◌/◌, ◌<◌, Bool, true, false, List, ◌++◌, refl, sym, ap}
-use Rattle.std.proofs.Common.{subst, inl, inr, arith, append-nil}
-use Rattle.std.specs.Prelude.{◌||◌, ◌&&◌, ◌==◌, not, Option, None, Some}
+use Rattle.std.proofs.Common.{◌≡◌, ◌≢◌, ◌⊎◌, ◌∙◌, ℕ, ◌+◌, ◌/◌, ◌<◌, Bool, true, false, List, ◌++◌, refl, sym, ap, subst}
+use Rattle.std.proofs.Common.{inl, inr, arith, append-nil}
+use Rattle.std.specs.Prelude.{◌||◌, ◌&&◌, ◌==◌, not, None}
 use Rattle.std.proofs.lemmas.Bool.{and_from, and_parts, eq-eqb, not-true, true≢false}
+use Rattle.mk_sweep.proofs.Vocabulary.{Cell, Config, Event, IsHistory, IsScannedWord, IsSettled, PlacedAllocation}
+use Rattle.mk_sweep.proofs.Vocabulary.{World, cell_of_allocation, cell_words, cells_under, first_word, has_bit}
+use Rattle.mk_sweep.proofs.Vocabulary.{has_no_pointers, header_at, header_in, header_of, is_mapped, is_phase, left}
+use Rattle.mk_sweep.proofs.Vocabulary.{never_behind, phase_of, placed_at, storage_of, storage_words, used_at}
 use Rattle.mk_never.specs.Types.{is_large, kinds_of}
-use Rattle.mk_geom.specs.declared.addresses.Cell.{Cell}
-use Rattle.mk_geom.specs.Headers.{header_of}
 use Rattle.mk_geom.specs.StorageWords.{IsWordOf}
-use Rattle.mk_core.specs.declared.config.Config.{Config}
-use Rattle.mk_core.specs.declared.events.Event.{Event}
 use Rattle.mk_core.specs.declared.seats.Object.{Object}
 use Rattle.mk_core.specs.declared.seats.Placing.{Placing}
 use Rattle.mk_core.specs.declared.seats.Placing.TheVariants.{Chosen, Granted, Unplaced, Used}
-use Rattle.mk_core.specs.Allocations.{PlacedAllocation, cell_of_allocation, is_mapped, placed_at, storage_of}
-use Rattle.mk_core.specs.Allocations.{storage_words}
-use Rattle.mk_core.specs.Bits.{has_bit}
-use Rattle.mk_core.specs.Cells.{cell_words, cells_under, first_word, has_no_pointers, header_in, heads_run, is_freed}
-use Rattle.mk_core.specs.Cells.{is_unmapped_header, is_used, words_are_zero}
+use Rattle.mk_core.specs.Cells.{heads_run, is_freed, is_unmapped_header, is_used, words_are_zero}
 use Rattle.mk_core.specs.ClosedMarks.{is_scanned_allocation}
 use Rattle.mk_core.specs.Effects.{is_mapped_cell, is_ungranted}
-use Rattle.mk_core.specs.History.{World, IsHistory, left, never_behind}
-use Rattle.mk_core.specs.Moments.{is_phase}
 use Rattle.mk_core.specs.NewPlaces.{header_made, is_small_object, pages_made}
 use Rattle.mk_core.specs.ObjectHeaders.{IsSized, ShowsPart}
 use Rattle.mk_core.specs.StandingAllocations.{object_placed}
-use Rattle.mk_core.specs.Words.{header_at, phase_of, used_at}
 use Rattle.mk_core.proofs.ObjectHeaders.{part_has_no_pointers, small_heads_none, unmapped_is_unmapped, made_is_mapped}
 use Rattle.mk_core.proofs.PointedAllocations.{cell_word_is_its_own, taken_cell_is}
 use Rattle.mk_core.proofs.Sizes.{large_count, large_is_not_small, pages_some, words_within}
@@ -33,13 +26,12 @@ use Rattle.mk_laws.specs.Ground.{ground_of}
 use Rattle.mk_laws.specs.Protocol.{has_place}
 use Rattle.mk_laws.specs.LayoutScene.{Among, Claim, HasHeader, IsClaimed, IsShown, Mode, Unmapped, header_on}
 use Rattle.mk_laws.specs.LayoutScene.{is_released_in}
-use Rattle.mk_laws.specs.SettledPages.{IsSettled, StandsUsed}
-use Rattle.mk_laws.proofs.Settled.{unmapped_run}
+use Rattle.mk_laws.specs.SettledPages.{StandsUsed}
+use Rattle.mk_laws.proofs.Settled.{unmapped_run, unreleased_are_apart}
 use Rattle.mk_laws.specs.Terrain.{IsCellOf, claim_of, claims_of, claims_on, claims_placed, mode_of, object_now}
 use Rattle.mk_laws.proofs.Claims.{claim_among, claim_is}
 use Rattle.mk_laws.proofs.Freed.{gone_terrain}
 use Rattle.mk_laws.proofs.Serving.{Laid, own_claim}
-use Rattle.mk_laws.proofs.Settled.{unreleased_are_apart}
 use Rattle.mk_laws.proofs.KnownWorlds.{KnownWorld, known_world}
 use Rattle.mk_laws.proofs.MappedWords.{mapped_stays}
 use Rattle.mk_laws.proofs.TellGuard.{guard_in}
@@ -48,7 +40,6 @@ use Rattle.mk_laws.proofs.InvariantHistories.{histories_keep_the_invariant}
 use Rattle.mk_laws.proofs.InvariantTheorems.{allocations_stand}
 use Rattle.mk_laws.proofs.FreeCells.{free_cells_are_zero}
 use Rattle.mk_laws.proofs.ReadingsStands.{freed_cell}
-use Rattle.mk_sweep.specs.Swept.{IsScannedWord}
 
 -- the mapped allocation that isn't leaf and has this cell
 pub record OfScanned (c : Config) (xs : List PlacedAllocation) (cell : Cell) : Type 0 where
@@ -71,10 +62,9 @@ neither false b h = (refl, h)
 
 -- No New has a place, so the claims are those of allocations.
 unplaced_claims : (c : Config) (o : Object) (placing : Placing) (xs : List Claim) (x : Claim) → has_place placing ≡
-    false
-    → Among x (xs ++ claims_placed o placing) → Among x xs
-unplaced_claims c o Unplaced xs x none among = subst (λ (ys : List Claim). Among x ys) (append-nil xs) among
-unplaced_claims c o Granted xs x none among = subst (λ (ys : List Claim). Among x ys) (append-nil xs) among
+    false → Among x (xs ++ claims_placed o placing) → Among x xs
+unplaced_claims c o Unplaced xs x none among = subst (Among x) (append-nil xs) among
+unplaced_claims c o Granted xs x none among = subst (Among x) (append-nil xs) among
 unplaced_claims c o (Chosen place) xs x none among = absurd (true≢false none)
 unplaced_claims c o (Used place) xs x none among = absurd (true≢false none)
 
@@ -191,8 +181,7 @@ module _ (c : Config) (es : List Event) (h : IsHistory c es) (settled : IsSettle
       let page : a.base / 64 ≡ p = ap (λ (y : Cell). y.page) x.is in
       let sort = neither (object_placed c a).leaf (is_unmapped_header (header_in w.now.words (a.base / 64)))
       (sym (part_has_no_pointers (object_placed c a) (header_in w.now.words (a.base / 64)) (first_part x.number
-      x.unreleased))
-      ∙ ap (λ q. has_no_pointers (header_in w.now.words q)) page ∙ scanned) in
+      x.unreleased)) ∙ ap (λ q. has_no_pointers (header_in w.now.words q)) page ∙ scanned) in
       record {
         number = x.number;
         scanned = and_from (is_mapped c a) (not (storage_of c a).leaf)
@@ -257,20 +246,17 @@ module _ (c : Config) (es : List Event) (h : IsHistory c es) (settled : IsSettle
       let parts = and_parts (is_mapped c a) (not (storage_of c a).leaf) is in
       let u = mapped_stays c a parts.0 in
       and_from (is_used w.now.words cell && not (heads_run (header_in w.now.words cell.page) && is_freed
-      w.now.words cell))
-      (not (is_ungranted w.now.seats.holding.placing cell))
+      w.now.words cell)) (not (is_ungranted w.now.seats.holding.placing cell))
       (and_from (is_used w.now.words cell) (not (heads_run (header_in w.now.words cell.page) && is_freed
       w.now.words cell))
       (stands i u).used (ap not (by u parts.0 (heads_run (header_in w.now.words cell.page)) refl
-      (is_freed w.now.words cell) refl)))
-      (ap not (none_ungranted w.now.seats.holding.placing cell settled.placing))
+      (is_freed w.now.words cell) refl))) (ap not (none_ungranted w.now.seats.holding.placing cell settled.placing))
     where
       a : PlacedAllocation
       a = placed_at xs i
 
       freed_there : (placed_at xs i).released ≡ false → is_freed w.now.words (cell_of_allocation c (placed_at xs
-          i)) ≡ true
-          → (placed_at xs i).freed ≡ true
+          i)) ≡ true → (placed_at xs i).freed ≡ true
       freed_there u bit =
           let o = freed_cell c w (never_behind c es) known all quiet (cell_of_allocation c (placed_at xs i)) bit in
           let same = unreleased_are_apart c es all.order.laid o.number i o.unreleased u o.cell in
@@ -282,8 +268,7 @@ module _ (c : Config) (es : List Event) (h : IsHistory c es) (settled : IsSettle
           → (heads_run (header_in w.now.words (cell_of_allocation c (placed_at xs i)).page)
           && is_freed w.now.words (cell_of_allocation c (placed_at xs i))) ≡ false
       by u mapped false e d f = ap (λ x. x && is_freed w.now.words (cell_of_allocation c (placed_at xs i))) e
-      by u mapped true e false f =
-          ap (λ x. x && is_freed w.now.words (cell_of_allocation c (placed_at xs i))) e ∙ f
+      by u mapped true e false f = ap (λ x. x && is_freed w.now.words (cell_of_allocation c (placed_at xs i))) e ∙ f
       by u mapped true e true f =
           let kept = (and_parts (not a.released) (not (a.freed && is_large (kinds_of c.types a.ty))) mapped).1 in
           let small : is_large (kinds_of c.types a.ty) ≡ false =
@@ -302,11 +287,10 @@ module _ (c : Config) (es : List Event) (h : IsHistory c es) (settled : IsSettle
   pub unused_is_zero : (cell : Cell) → cell.index < cells_under (header_in (left c es).now.words cell.page)
       → is_used (left c es).now.words cell ≡ false
       → words_are_zero (left c es).now.words (first_word (left c es).now.words cell) (cell_words (left c
-      es).now.words cell)
-      ≡ true
+      es).now.words cell) ≡ true
   unused_is_zero cell in_range none =
       free_cells_are_zero c es h quiet cell in_range (λ t.
       let a : PlacedAllocation = placed_at xs t.number in
       let u = not-true a.released (and_parts (not a.released) (a.base == first_word w.now.words cell) t.stands).0 in
       let own = taken_cell_is c w cell t (sized t.number u) (stands t.number u).headers in
-      true≢false (sym (stands t.number u).used ∙ ap (λ (y : Cell). is_used w.now.words y) own.1 ∙ none))
+      true≢false (sym (stands t.number u).used ∙ ap (is_used w.now.words) own.1 ∙ none))

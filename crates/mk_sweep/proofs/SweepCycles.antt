@@ -1,25 +1,17 @@
 -- A whole cycle with one sweep releases what isn't swept, where the seats of all markers are in the pass of the turn.
-use Rattle.std.proofs.Common.{◌≡◌, ℕ, Bool, true, false, List, [], ◌∷◌, ◌++◌, refl, sym, ◌∙◌, ap, subst}
-use Rattle.std.proofs.Common.{append_assoc}
+use Rattle.std.proofs.Common.{◌≡◌, ℕ, Bool, true, false, List, [], ◌∷◌, ◌++◌, refl, sym, ◌∙◌, ap, subst, append_assoc}
 use Rattle.std.specs.Prelude.{not, slice_index}
 use Rattle.std.proofs.lemmas.Bool.{and_parts, false_from_ne_true, not-true}
-use Rattle.mk_geom.specs.declared.addresses.Cell.{Cell}
-use Rattle.mk_core.specs.declared.config.Config.{Config}
-use Rattle.mk_core.specs.declared.events.Event.{Event}
-use Rattle.mk_core.specs.declared.events.Seat.{Seat}
-use Rattle.mk_core.specs.declared.events.Step.{Step}
+use Rattle.mk_sweep.proofs.Vocabulary.{AreOfOthers, Cell, Config, Event, Has, HasMarkers, Holds, InGlobal, InRegister}
+use Rattle.mk_sweep.proofs.Vocabulary.{InWord, IsEnabledTo, IsHistory, IsScannedWord, IsSwept, IsSweptValue, PassState}
+use Rattle.mk_sweep.proofs.Vocabulary.{PlacedAllocation, Seat, Steady, Step, Sweeps, Untouched, World, before_release}
+use Rattle.mk_sweep.proofs.Vocabulary.{cell_of_allocation, is_marked, is_tracing, left, others_are_held, phase_of}
+use Rattle.mk_sweep.proofs.Vocabulary.{placed_at, untouched_of}
 use Rattle.mk_core.specs.declared.events.Step.TheVariants as step
-use Rattle.mk_core.specs.Allocations.{PlacedAllocation, cell_of_allocation, placed_at}
-use Rattle.mk_core.specs.Cells.{is_marked}
-use Rattle.mk_core.specs.Cycles.{Releasing, IsInSnapshot, before_close, before_release, is_close}
-use Rattle.mk_core.specs.Cycles.{is_release}
-use Rattle.mk_core.specs.Frames.{IsLeft, Steady, Written, written_of}
-use Rattle.mk_core.specs.Growing.{AreOfOthers}
-use Rattle.mk_core.specs.History.{IsHistory, World, left, left_from}
-use Rattle.mk_core.specs.Moments.{others_are_held}
-use Rattle.mk_core.specs.Readings.{Holds}
+use Rattle.mk_core.specs.Cycles.{Releasing, IsInSnapshot, before_close, is_close, is_release}
+use Rattle.mk_core.specs.Frames.{IsLeft, Written, written_of}
+use Rattle.mk_core.specs.History.{left_from}
 use Rattle.mk_core.specs.Touched.{PointsIntoAllocation}
-use Rattle.mk_core.specs.Words.{phase_of}
 use Rattle.mk_core.proofs.Conditions.{enabled_meets}
 use Rattle.mk_core.proofs.HistoryParts.{earlier_part_is_history, enabled_in_parts, left_in_parts}
 use Rattle.mk_laws.proofs.Actors.{is_holders}
@@ -36,19 +28,12 @@ use Rattle.mk_laws.proofs.Stretches.{None_of, none_joined}
 use Rattle.mk_laws.specs.Releases.{allocation_behind}
 use Rattle.mk_laws.proofs.CyclePhases.{phase_moves}
 use Rattle.mk_laws.proofs.ReadingsKeptPlaces.{StaysPut, keeps_cell, put_step, stays_put}
-use Rattle.mk_words.specs.Seats.{Has}
-use Rattle.mk_words.specs.States.{PassState}
-use Rattle.mk_words.specs.Steps.{IsEnabledTo}
 use Rattle.mk_words.proofs.Seats.{others_own}
 use Rattle.mk_turns.proofs.Doing.{others_are_so}
 use Rattle.mk_cycle.specs.Holding.{HoldsGates}
 use Rattle.mk_cycle.specs.Kinds.{holds_gates}
 use Rattle.mk_cycle.proofs.GivingAll.{held_phase}
-use Rattle.mk_tracing.specs.Tracing.{Untouched, is_tracing, untouched_of}
 use Rattle.mk_tracing.proofs.Parts.{kinds_keep, others_keep}
-use Rattle.mk_sweep.specs.SweepCycle.{HasMarkers}
-use Rattle.mk_sweep.specs.Swept.{InGlobal, InRegister, InWord, IsScannedWord, IsSwept, IsSweptValue}
-use Rattle.mk_sweep.specs.Sweeps.{Sweeps}
 use Rattle.mk_sweep.specs.Unswept.{LeaveUnmarked, OthersLeaveUnmarked}
 use Rattle.mk_sweep.proofs.BesideTurn.{IsOf, LeaveTheMarks, LeaveTheTurn, PartOfTurn, holds_still, leave_first}
 use Rattle.mk_sweep.proofs.BesideTurn.{leave_in_parts, left_unmarked_by, none_marks, none_of_kind, others_mark_none}
@@ -57,24 +42,24 @@ use Rattle.mk_sweep.proofs.UnsweptReleased.{unswept_is_released}
 
 -- What is swept in one world is swept in another with the same values and allocations.
 
-value_alike : (c : Config) (w v : World) (u : ℕ) → v.now.words.registers ≡ w.now.words.registers
+value_alike : {c : Config} {w : World} (v : World) {u : ℕ} → v.now.words.registers ≡ w.now.words.registers
     → v.now.words.globals ≡ w.now.words.globals → v.now.words.heap ≡ w.now.words.heap
     → v.allocations ≡ w.allocations → IsSweptValue c w u → IsSweptValue c v u
-value_alike c w v u registers globals heap allocations (InRegister i is) =
+value_alike v registers globals heap allocations (InRegister i is) =
     InRegister i (ap (λ (xs : List ℕ). slice_index xs i) registers ∙ is)
-value_alike c w v u registers globals heap allocations (InGlobal g is) =
+value_alike v registers globals heap allocations (InGlobal g is) =
     InGlobal g (ap (λ (xs : List ℕ). slice_index xs g) globals ∙ is)
-value_alike c w v u registers globals heap allocations (InWord n scanned is) =
+value_alike {c} v registers globals heap allocations (InWord n scanned is) =
     InWord n (subst (λ (xs : List PlacedAllocation). IsScannedWord c xs n) (sym allocations) scanned)
     (ap (λ (xs : List ℕ). slice_index xs n) heap ∙ is)
 
-swept_alike : (c : Config) (w v : World) (i : ℕ) → v.now.words.registers ≡ w.now.words.registers
+swept_alike : {c : Config} {w : World} (v : World) {i : ℕ} → v.now.words.registers ≡ w.now.words.registers
     → v.now.words.globals ≡ w.now.words.globals → v.now.words.heap ≡ w.now.words.heap
     → v.allocations ≡ w.allocations → IsSwept c w i → IsSwept c v i
-swept_alike c w v i registers globals heap allocations x =
+swept_alike {c} {w} v {i} registers globals heap allocations x =
     record {
       value = x.value;
-      found = value_alike c w v x.value registers globals heap allocations x.found;
+      found = value_alike v registers globals heap allocations x.found;
       points = subst (λ (xs : List PlacedAllocation). PointsIntoAllocation c (record w { allocations = xs }) x.value i)
           (sym allocations) x.points;
     }
@@ -189,22 +174,18 @@ module _ (p : PassState) (looks : ℕ) (es : List Event) (has : Has p.seats p.se
 
   whole : es ≡ closed ++ (k.stopped ++ release ∷ k.rest)
   whole =
-      k.is
-      ∙ sym (append_assoc k.swept k.waited (close ∷ (k.stopped ++ release ∷ k.rest)))
+      k.is ∙ sym (append_assoc k.swept k.waited (close ∷ (k.stopped ++ release ∷ k.rest)))
       ∙ sym (append_assoc closing (close ∷ []) (k.stopped ++ release ∷ k.rest))
 
   -- all of them are histories
 
   closed_history : IsHistory c closed
-  closed_history =
-      earlier_part_is_history c closed (k.stopped ++ release ∷ k.rest)
-      (subst (λ (xs : List Event). IsHistory c xs) whole history)
+  closed_history = earlier_part_is_history c closed (k.stopped ++ release ∷ k.rest) (subst (IsHistory c) whole history)
 
   stopped_history : IsHistory c (closed ++ k.stopped)
   stopped_history =
       earlier_part_is_history c (closed ++ k.stopped) (release ∷ k.rest)
-      (subst (λ (xs : List Event). IsHistory c xs)
-      (whole ∙ sym (append_assoc closed k.stopped (release ∷ k.rest))) history)
+      (subst (IsHistory c) (whole ∙ sym (append_assoc closed k.stopped (release ∷ k.rest))) history)
 
   closing_history : IsHistory c closing
   closing_history = earlier_part_is_history c closing (close ∷ []) closed_history
@@ -213,13 +194,13 @@ module _ (p : PassState) (looks : ℕ) (es : List Event) (has : Has p.seats p.se
   swept_history = earlier_part_is_history c k.swept k.waited closing_history
 
   sweeping_history : IsHistory c (k.held ++ sweeping)
-  sweeping_history = subst (λ (xs : List Event). IsHistory c xs) swept_is swept_history
+  sweeping_history = subst (IsHistory c) swept_is swept_history
 
   held_history : IsHistory c k.held
   held_history = earlier_part_is_history c k.held sweeping sweeping_history
 
   holding_history : IsHistory c (start ++ holding)
-  holding_history = subst (λ (xs : List Event). IsHistory c xs) held_is held_history
+  holding_history = subst (IsHistory c) held_is held_history
 
   start_history : IsHistory c start
   start_history = earlier_part_is_history c start holding holding_history
@@ -239,12 +220,11 @@ module _ (p : PassState) (looks : ℕ) (es : List Event) (has : Has p.seats p.se
   front_holds =
       let there = known k.front last_begin.before in
       holds_is c first.now s there.orderly
-      (acts_as_holder c first.now s step.Begin
-      (actor_of c first.now s step.Begin there.orderly last_begin.meets) refl)
+      (acts_as_holder c first.now s step.Begin (actor_of c first.now s step.Begin there.orderly last_begin.meets) refl)
 
   start_holds : Holds c (left c start).now s
   start_holds =
-      holds_still c s first (left c start) (known k.front last_begin.before) (known start start_history)
+      holds_still s first (left c start) (known k.front last_begin.before) (known start start_history)
       (ap (λ (w : World). w.now.words.turn) last_begin.leaves) front_holds
 
   -- the parts of the turn
@@ -257,12 +237,11 @@ module _ (p : PassState) (looks : ℕ) (es : List Event) (has : Has p.seats p.se
         holds = start_holds;
         on = ((enabled_in_parts c start holding).0 holding_history.enabled).1;
         of_seats = k.holds.does.own_or_others;
-        own = kinds_keep holds_gates (IsOf holds_gates) c s (left c start) holding (λ m x is. is)
-            k.holds.does.of_kinds;
+        own = kinds_keep holds_gates (IsOf holds_gates) c s (left c start) holding (λ m x is. is) k.holds.does.of_kinds;
       }
 
   held_world : left c k.held ≡ left_from c (left c start) holding
-  held_world = ap (λ (xs : List Event). left c xs) held_is ∙ left_in_parts c start holding
+  held_world = ap (left c) held_is ∙ left_in_parts c start holding
 
   held_holds : Holds c (left c k.held).now s
   held_holds =
@@ -283,8 +262,7 @@ module _ (p : PassState) (looks : ℕ) (es : List Event) (has : Has p.seats p.se
 
   swept_holds : Holds c (left c k.swept).now s
   swept_holds =
-      subst (λ (w : World). Holds c w.now s)
-      (sym (ap (λ (xs : List Event). left c xs) swept_is ∙ left_in_parts c k.held sweeping))
+      subst (λ (w : World). Holds c w.now s) (sym (ap (left c) swept_is ∙ left_in_parts c k.held sweeping))
       (still_holds is_tracing tracing_leaves_turn c s p.seats (left c k.held) sweeping sweeping_part)
 
   -- a part in which the holder does nothing
@@ -313,7 +291,7 @@ module _ (p : PassState) (looks : ℕ) (es : List Event) (has : Has p.seats p.se
 
   closed_holds : Holds c (left c closed).now s
   closed_holds =
-      holds_still c s (left c closing) (left c closed) (known closing closing_history) (known closed closed_history)
+      holds_still s (left c closing) (left c closed) (known closing closing_history) (known closed closed_history)
       (ap (λ (w : World). w.now.words.turn) last_close.leaves) closing_holds
 
   stopped_part : PartOfTurn no_kind c s p.seats (left c closed) k.stopped
@@ -356,8 +334,7 @@ module _ (p : PassState) (looks : ℕ) (es : List Event) (has : Has p.seats p.se
 
   pub begin_is : es ≡ k.front ++ begin ∷ (marking ++ close ∷ (k.stopped ++ release ∷ k.rest))
   begin_is =
-      whole
-      ∙ append_assoc closing (close ∷ []) (k.stopped ++ release ∷ k.rest)
+      whole ∙ append_assoc closing (close ∷ []) (k.stopped ++ release ∷ k.rest)
       ∙ ap (λ (xs : List Event). xs ++ close ∷ (k.stopped ++ release ∷ k.rest)) closing_is
       ∙ append_assoc start marking (close ∷ (k.stopped ++ release ∷ k.rest))
       ∙ append_assoc k.front (begin ∷ []) (marking ++ close ∷ (k.stopped ++ release ∷ k.rest))
@@ -412,7 +389,7 @@ module _ (p : PassState) (looks : ℕ) (es : List Event) (has : Has p.seats p.se
   swept_at_close : (i : ℕ) → IsSwept c (left c k.held) i → IsSwept c (left c (before_close cycle.marking)) i
   swept_at_close i x =
       subst (λ (xs : List Event). IsSwept c (left c xs) i) closing_is
-      (swept_alike c (left c k.held) (left c closing) i
+      (swept_alike (left c closing)
       (ap (λ (y : Written). y.registers) written ∙ ap (λ (u : Untouched). u.registers) untouched)
       (ap (λ (y : Written). y.globals) written ∙ ap (λ (u : Untouched). u.globals) untouched)
       (ap (λ (y : Written). y.heap) written ∙ ap (λ (u : Untouched). u.heap) untouched)

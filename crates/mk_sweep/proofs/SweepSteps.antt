@@ -3,11 +3,14 @@ use Rattle.std.proofs.Common.{◌≡◌, ◌∙◌, ℕ, ◌+◌, ◌*◌, ◌^�
 use Rattle.std.proofs.Common.{option_and_then, refl, sym, ap, subst, arith, append-nil}
 use Rattle.std.specs.Prelude.{Some, None, slice_index, if◌then◌else◌, ◌&&◌, not}
 use Rattle.std.proofs.lemmas.Bool.{and_from, and_parts, eq-eqb, lt-ltb, ne_eqb}
-use Rattle.mk_geom.specs.declared.addresses.Cell.{Cell}
+use Rattle.mk_sweep.proofs.Vocabulary.{Acts, Cell, Config, Has, InGlobal, InRegister, InWord, IsEnabledTo, IsHistory}
+use Rattle.mk_sweep.proofs.Vocabulary.{IsScannedWord, IsSettled, IsSweptValue, Moment, PassState, PlacedAllocation}
+use Rattle.mk_sweep.proofs.Vocabulary.{Step, SweepsBy, SweepsOn, TurnState, Untouched, Words, WordsState, World}
+use Rattle.mk_sweep.proofs.Vocabulary.{cell_of_allocation, event_of, has_no_pointers, header_in, heap_looks, is_mapped}
+use Rattle.mk_sweep.proofs.Vocabulary.{is_marked, is_phase, now_of, others_are_held, phase_of, placed_at, pointed_cell}
+use Rattle.mk_sweep.proofs.Vocabulary.{still_words, storage_of, untouched_of, world_of}
 use Rattle.mk_geom.specs.Addresses.{address_of}
 use Rattle.mk_geom.specs.PageUses.{or_else}
-use Rattle.mk_core.specs.declared.config.Config.{Config}
-use Rattle.mk_core.specs.declared.events.Step.{Step}
 use Rattle.mk_core.specs.declared.events.Step.TheVariants as step
 use Rattle.mk_core.specs.declared.events.Word.{Word}
 use Rattle.mk_core.specs.declared.events.Word.TheVariants as word
@@ -15,33 +18,26 @@ use Rattle.mk_core.specs.declared.seats.Hand.{Hand}
 use Rattle.mk_core.specs.declared.seats.Holding.{Holding}
 use Rattle.mk_core.specs.declared.seats.Source.TheVariants.{Marked, Unmarked}
 use Rattle.mk_core.specs.Accesses.{found}
-use Rattle.mk_core.specs.Allocations.{PlacedAllocation, cell_of_allocation, is_mapped, placed_at, storage_of}
-use Rattle.mk_core.specs.Cells.{has_no_pointers, header_in, is_marked, pointed_cell}
 use Rattle.mk_core.specs.Effects.{hand_given, hand_of_cell, is_in_stop, is_mapped_cell}
 use Rattle.mk_core.specs.Frames.{HoldsAll}
-use Rattle.mk_core.specs.History.{World, IsHistory}
-use Rattle.mk_core.specs.Moments.{Moment, is_phase, others_are_held}
 use Rattle.mk_core.specs.Ranges.{is_word}
-use Rattle.mk_core.specs.Words.{Words, named_word, phase_of}
+use Rattle.mk_core.specs.Words.{named_word}
 use Rattle.mk_core.proofs.PointedAllocations.{word_points}
 use Rattle.mk_core.proofs.PointedPages.{pointed_within}
 use Rattle.mk_laws.proofs.InvariantTheorems.{allocations_stand}
-use Rattle.mk_laws.specs.SettledPages.{IsSettled}
 use Rattle.mk_laws.specs.Protocol.{has_place}
 use Rattle.mk_laws.proofs.MappedWords.{mapped_stays}
-use Rattle.mk_words.specs.Seats.{Has}
-use Rattle.mk_words.specs.States.{PassState, TurnState, WordsState, now_of, world_of, event_of}
-use Rattle.mk_words.specs.Steps.{Finds, IsEnabledTo}
-use Rattle.mk_words.specs.TurnSteps.{Acts, world_at}
-use Rattle.mk_tracing.specs.Stops.{IsWanted, hand_of, is_page_word, is_root, still_words}
-use Rattle.mk_tracing.specs.Tracing.{Traces, Untouched, is_marking, untouched_of}
+use Rattle.mk_words.specs.Steps.{Finds}
+use Rattle.mk_words.specs.TurnSteps.{world_at}
+use Rattle.mk_tracing.specs.Stops.{IsWanted, hand_of, is_page_word, is_root}
+use Rattle.mk_tracing.specs.Tracing.{Traces, is_marking}
 use Rattle.mk_tracing.proofs.MaySteps.{may_mark_by_hand, marks_by}
 use Rattle.mk_tracing.proofs.Parts.{traces_alike, traces_nothing, traces_then}
 use Rattle.mk_tracing.proofs.Steps.{found_there, step_untouched}
 use Rattle.mk_tracing.proofs.Stilled.{but_phase, found_now, hand_now, is_stopped_step, phase_there, root_hand}
 use Rattle.mk_tracing.proofs.Stilled.{still_wanted, stopped_traces, words_there}
-use Rattle.mk_sweep.specs.Swept.{IsScannedWord, IsSweptCell, IsSweptValue, InGlobal, InRegister, InWord, SweepsBy}
-use Rattle.mk_sweep.specs.Sweeping.{HasInHand, IsReachedCell, IsSweeping, SweepsOn, heap_looks, word_looked_at}
+use Rattle.mk_sweep.specs.Swept.{IsSweptCell}
+use Rattle.mk_sweep.specs.Sweeping.{HasInHand, IsReachedCell, IsSweeping, word_looked_at}
 use Rattle.mk_sweep.proofs.Done.{looks_in_parts, looks_of_nothing, looks_of_step}
 use Rattle.mk_sweep.proofs.ScannedCells.{mapped_cell, scanned_stands}
 use Rattle.mk_sweep.proofs.Kept.{unmapped_kept}
@@ -78,16 +74,10 @@ pub sweeps_from : (t : TurnState) → IsSweeping t.pass → SweepsOn t t []
 sweeps_from t sweeping =
     let traces : Traces is_marking (SweepsBy (world_of t.pass)) t.pass t.pass =
     traces_nothing is_marking (SweepsBy (world_of t.pass)) t.pass in
-    record {
-      table = refl;
-      op = refl;
-      sweeping = sweeping;
-      traces = traces;
-      looked = looks_of_nothing is_marking t.pass traces.does;
-    }
+    record { table = refl; op = refl; sweeping = sweeping; traces = traces; looked = looks_of_nothing traces.does }
 
-pub sweeps_then : (t u v : TurnState) (ns ms : List ℕ) → SweepsOn t u ns → SweepsOn u v ms → SweepsOn t v (ns ++ ms)
-sweeps_then t u v ns ms one two =
+pub sweeps_then : {t u v : TurnState} {ns ms : List ℕ} → SweepsOn t u ns → SweepsOn u v ms → SweepsOn t v (ns ++ ms)
+sweeps_then {t} {u} {v} {ns} one two =
     let next : Traces is_marking (SweepsBy (world_of t.pass)) u.pass v.pass =
     traces_alike is_marking (SweepsBy (world_of u.pass)) (SweepsBy (world_of t.pass)) u.pass v.pass
     (rule_alike u.pass.table.config (world_of u.pass) (world_of t.pass) one.traces.untouched) two.traces in
@@ -98,23 +88,21 @@ sweeps_then t u v ns ms one two =
       sweeping = two.sweeping;
       traces = traces;
       looked =
-          looks_in_parts is_marking is_marking is_marking t.pass u.pass v.pass one.traces.does two.traces.does
-          traces.does
+          looks_in_parts one.traces.does two.traces.does traces.does
           ∙ ap (λ xs. xs ++ heap_looks two.traces.does) one.looked ∙ ap (λ xs. ns ++ xs) two.looked;
     }
 
 -- A part that looks at no heap word, before or after.
 
-pub quiet_then : (t u v : TurnState) (ms : List ℕ) → SweepsOn t u [] → SweepsOn u v ms → SweepsOn t v ms
-quiet_then t u v ms one two = sweeps_then t u v [] ms one two
+pub quiet_then : {t u v : TurnState} {ms : List ℕ} → SweepsOn t u [] → SweepsOn u v ms → SweepsOn t v ms
+quiet_then one two = sweeps_then one two
 
-pub then_quiet : (t u v : TurnState) (ns : List ℕ) → SweepsOn t u ns → SweepsOn u v [] → SweepsOn t v ns
-then_quiet t u v ns one two = subst (λ xs. SweepsOn t v xs) (append-nil ns) (sweeps_then t u v ns [] one two)
+pub then_quiet : {t u v : TurnState} {ns : List ℕ} → SweepsOn t u ns → SweepsOn u v [] → SweepsOn t v ns
+then_quiet {t} {v} {ns} one two = subst (λ xs. SweepsOn t v xs) (append-nil ns) (sweeps_then one two)
 
 -- Nothing is on its way after it.
 pub settled_kept : (p q : PassState) → q ≡ record p { seen = q.seen } → untouched_of (world_of q) ≡ untouched_of
-    (world_of p)
-    → phase_of (now_of q).words ≡ 2 → IsSettled (world_of p) → IsSettled (world_of q)
+    (world_of p) → phase_of (now_of q).words ≡ 2 → IsSettled (world_of p) → IsSettled (world_of q)
 settled_kept p q pass same two settled =
     record {
       releasing = ne_eqb (phase_of (now_of q).words) 4 (λ e. omega arith);
@@ -141,7 +129,7 @@ module _ (t u : TurnState) (sweeping : IsSweeping t.pass)
               traces.untouched wanted.phase sweeping.settled;
         };
         traces = traces;
-        looked = looks_of_step is_marking t.pass u.pass s a.makes traces.does own;
+        looked = looks_of_step a.makes traces.does own;
       }
 
   pub on_plain : (x : Word) → Acts t.pass (step.Look x) u.pass → is_page_word x ≡ true → SweepsOn t u []
@@ -181,9 +169,9 @@ module _ (t u : TurnState) (sweeping : IsSweeping t.pass)
   on_undirty page a = sweeps_by_step (step.Undirty page) a refl refl tt
 
 -- The hand stays, through looks that leave it.
-pub hand_kept : (t u : TurnState) (ns : List ℕ) (n : ℕ) → SweepsOn t u ns → hand_of u.pass ≡ hand_of t.pass
+pub hand_kept : {t u : TurnState} {ns : List ℕ} {n : ℕ} → SweepsOn t u ns → hand_of u.pass ≡ hand_of t.pass
     → HasInHand t.pass n → HasInHand u.pass n
-hand_kept t u ns n on same h =
+hand_kept {t} {u} {n} on same h =
     record {
       hand = h.hand;
       is = same ∙ h.is;
@@ -193,23 +181,22 @@ hand_kept t u ns n on same h =
           (value_alike t.pass.table.config (world_of t.pass) (world_of u.pass) (sym on.traces.untouched) n h.found);
     }
 
-pub reached_within : (p : PassState) (cell : Cell) → IsReachedCell p cell
+pub reached_within : {p : PassState} {cell : Cell} → IsReachedCell p cell
     → (cell.page < p.table.config.pages) × (cell.index < 64)
-reached_within p cell r = pointed_within p.table.config.pages (still_words p) r.value cell r.points
+reached_within {p} {cell} r = pointed_within p.table.config.pages (still_words p) r.value cell r.points
 
-pub may_mark_reached : (p : PassState) (cell : Cell) → IsWanted p → HoldsAll p.table.config (now_of p) p.seat
+pub may_mark_reached : {p : PassState} {cell : Cell} → IsWanted p → HoldsAll p.table.config (now_of p) p.seat
     → IsReachedCell p cell → IsEnabledTo p (step.Mark cell.page (2 ^ cell.index))
-may_mark_reached p cell wanted all r =
+may_mark_reached {p} {cell} wanted all r =
     may_mark_by_hand p wanted all cell
     (marks_by p.table.config.pages (now_of p).words (hand_of p) r.value cell r.in_hand.hand r.in_hand.is r.in_hand.value
-    r.points)
-    (reached_within p cell r).0
+    r.points) (reached_within r).0
 
 -- what a look at a root gives, and one at a scanned word
 
-pub root_in_hand : (p q : PassState) → IsWanted p → HoldsAll p.table.config (now_of p) p.seat → (x : Word)
+pub root_in_hand : {p q : PassState} → IsWanted p → HoldsAll p.table.config (now_of p) p.seat → (x : Word)
     → (a : Acts p (step.Look x) q) (n : ℕ) → Finds p (step.Look x) n q → is_root x ≡ true → HasInHand q n
-root_in_hand p q wanted all x a n finds root =
+root_in_hand {p} {q} wanted all x a n finds root =
     let h = root_hand p q wanted all x a n finds root in
     record { hand = h.hand; is = h.is; value = h.value; found = by x root (found_there p q x n finds) }
   where
@@ -240,8 +227,7 @@ module _ (p q : PassState) (sweeping : IsSweeping p) (all : HoldsAll p.table.con
       let mapped = (and_parts (is_mapped p.table.config a) (not (storage_of p.table.config a).leaf)
       scanned.scanned).0 in
       let st = allocations_stand p.table.config p.seen history scanned.number (mapped_stays p.table.config a mapped) in
-      lt-ltb n (64 * p.table.config.pages)
-      (let end = st.stands.within in let high = scanned.word.1 in omega arith)
+      lt-ltb n (64 * p.table.config.pages) (let end = st.stands.within in let high = scanned.word.1 in omega arith)
 
   module _ (acts : Acts p (step.Look (word.Heap n)) q) where
     abbrev m : Moment
@@ -252,9 +238,7 @@ module _ (p q : PassState) (sweeping : IsSweeping p) (all : HoldsAll p.table.con
 
     abbrev gives : Bool → Bool → Bool → ℕ → Option Hand
     gives bare marked mapped value =
-        if bare then None
-        else if marked
-        then Some (record { value = value; source = Marked })
+        if bare then None else if marked then Some (record { value = value; source = Marked })
         else if mapped then Some (record { value = value; source = Unmarked }) else None
 
     pointed_now : pointed_cell p.table.config.pages (world_at acts.makes).now.words.pages (address_of n)
@@ -288,8 +272,8 @@ module _ (p q : PassState) (sweeping : IsSweeping p) (all : HoldsAll p.table.con
         to_cell : hand_given p.table.config (world_at acts.makes).now p.seat (word.Heap n) value
             ≡ gives false (is_marked m.words cell) true value
         to_cell =
-            ap (λ (o : Option Cell). option_and_then (λ (x : Cell). hand_of_cell m.words
-            (is_in_stop p.table.config.callers m.words p.seat) m.seats.holding.placing x value) o) pointed_now
+            ap (option_and_then (λ (x : Cell). hand_of_cell m.words
+            (is_in_stop p.table.config.callers m.words p.seat) m.seats.holding.placing x value)) pointed_now
             ∙ ap (λ (b : Bool). gives b (is_marked m.words cell) (is_in_stop p.table.config.callers m.words p.seat
             && is_mapped_cell m.words m.seats.holding.placing cell) value) bare_now
             ∙ ap (λ (b : Bool). gives false (is_marked m.words cell) b value) mapped_now
@@ -316,6 +300,5 @@ module _ (p q : PassState) (sweeping : IsSweeping p) (all : HoldsAll p.table.con
           value = g.2 ∙ found_now p q sweeping.wanted all (word.Heap n) acts k finds;
           found = InWord n
               (subst (λ (x : WordsState). IsScannedWord x.config (world_of q).allocations n)
-              (sym (ap (λ (x : PassState). x.table) acts.makes.is)) there)
-              (found_there p q (word.Heap n) k finds);
+              (sym (ap (λ (x : PassState). x.table) acts.makes.is)) there) (found_there p q (word.Heap n) k finds);
         }

@@ -4,26 +4,22 @@ use Rattle.std.proofs.Common.{sym, ap, subst, arith}
 use Rattle.std.specs.Prelude.{slice_index}
 use Rattle.std.proofs.lemmas.Bool.{ne_eqb}
 use Rattle.std.proofs.lemmas.List.Sums.{sum_by-cons}
-use Rattle.mk_core.specs.declared.config.Config.{Config}
-use Rattle.mk_core.specs.declared.events.Step.{Step}
+use Rattle.mk_sweep.proofs.Vocabulary.{CellsAreClosed, Config, InGlobal, InRegister, InWord, IsHistory, IsScannedWord}
+use Rattle.mk_sweep.proofs.Vocabulary.{IsSwept, IsSweptValue, Moment, PageIsBlack, PassState, PlacedAllocation}
+use Rattle.mk_sweep.proofs.Vocabulary.{PointWell, Step, Sweeps, SweepsBy, SweepsOn, TurnState, Untouched, WordsState}
+use Rattle.mk_sweep.proofs.Vocabulary.{World, heap_looks, is_tracing, now_of, phase_of, placed_at, points_well}
+use Rattle.mk_sweep.proofs.Vocabulary.{still_words, words_below, world_of}
 use Rattle.mk_core.specs.declared.events.Step.TheVariants as step
 use Rattle.mk_core.specs.declared.events.Word.TheVariants as word
-use Rattle.mk_core.specs.Allocations.{PlacedAllocation, placed_at}
-use Rattle.mk_core.specs.Cells.{points_well}
 use Rattle.mk_core.specs.ClosedMarks.{is_marked_allocation}
 use Rattle.mk_core.specs.Frames.{HoldsAll}
 use Rattle.mk_core.specs.Growing.{Finding}
-use Rattle.mk_core.specs.History.{World, IsHistory}
-use Rattle.mk_core.specs.Moments.{Moment}
-use Rattle.mk_core.specs.Words.{phase_of}
 use Rattle.mk_core.proofs.PointedAllocations.{marked_where_its_cell_is, points_well_where_marked}
-use Rattle.mk_laws.specs.Guard.{CellsAreClosed}
 use Rattle.mk_laws.proofs.InvariantTheorems.{allocations_stand}
-use Rattle.mk_words.specs.States.{PassState, TurnState, WordsState, now_of, world_of}
 use Rattle.mk_turns.specs.Doing.{Does, done_in}
 use Rattle.mk_tracing.specs.Grays.{TracesReached}
-use Rattle.mk_tracing.specs.Stops.{IsWanted, still_words}
-use Rattle.mk_tracing.specs.Tracing.{Counted, Untouched, is_marking, is_tracing, is_waiting, is_want}
+use Rattle.mk_tracing.specs.Stops.{IsWanted}
+use Rattle.mk_tracing.specs.Tracing.{Counted, is_marking, is_waiting, is_want}
 use Rattle.mk_tracing.proofs.Closes.{marks_closed_now, may_close_now}
 use Rattle.mk_laws.proofs.Settled.{gone_is_unmapped}
 use Rattle.mk_tracing.proofs.NoGrays.{no_gray}
@@ -34,10 +30,8 @@ use Rattle.mk_cycle.specs.Kinds.{begins_marking, closes_marks, is_want as is_wis
 use Rattle.mk_cycle.specs.TurnKeeps.{unchanged as all_of_it}
 use Rattle.mk_cycle.proofs.KeptInParts.{keeps_at_once}
 use Rattle.mk_turns.proofs.Doing.{does_nothing}
-use Rattle.mk_sweep.specs.Swept.{IsScannedWord, IsSwept, IsSweptValue, InGlobal, InRegister, InWord, SweepsBy}
 use Rattle.mk_sweep.specs.Swept.{scanned_words}
-use Rattle.mk_sweep.specs.Sweeping.{IsSweeping, PageIsBlack, PointWell, SweepsOn, heap_looks, words_below}
-use Rattle.mk_sweep.specs.Sweeps.{Sweeps}
+use Rattle.mk_sweep.specs.Sweeping.{IsSweeping}
 use Rattle.mk_sweep.proofs.CountedWords.{some_there, times}
 use Rattle.mk_sweep.proofs.Done.{looks_in_parts, looks_of_waiting}
 use Rattle.mk_sweep.proofs.EachOnce.{as_many, looked_at_once, never_twice}
@@ -82,9 +76,9 @@ waits w c m (step.Mark p v) h = cc
 waits w c m _ h = tt
 
 -- After the wait the sweep may begin.
-pub sweeping_behind : (p q : PassState) → Counted is_waiting TracesReached is_want p q 1 → IsWanted q
+pub sweeping_behind : {p q : PassState} → Counted is_waiting TracesReached is_want p q 1 → IsWanted q
     → IsFreeForCycle p → phase_of (now_of p).words ≡ 1 → IsSweeping q
-sweeping_behind p q waited wanted free one =
+sweeping_behind {p} {q} waited wanted free one =
     record {
       wanted = wanted;
       settled = settled_kept p q
@@ -113,9 +107,8 @@ module _ (p : PassState) (t u : TurnState) (n : ℕ) (waited : Counted is_waitin
 
   words_of_all : heap_looks whole.traces.does ≡ words_below (still_words t.pass) t.pass.table.config.pages
   words_of_all =
-      looks_in_parts is_waiting is_marking is_tracing p t.pass u.pass waited.traces.does on.traces.does
-      whole.traces.does
-      ∙ ap (λ ns. ns ++ heap_looks on.traces.does) (looks_of_waiting p t.pass waited.traces.does) ∙ on.looked
+      looks_in_parts waited.traces.does on.traces.does whole.traces.does
+      ∙ ap (λ ns. ns ++ heap_looks on.traces.does) (looks_of_waiting waited.traces.does) ∙ on.looked
 
   table : t.pass.table ≡ p.table
   table = ap (λ (x : PassState). x.table) waited.traces.does.is
@@ -160,8 +153,7 @@ module _ (p : PassState) (t u : TurnState) (n : ℕ) (waited : Counted is_waitin
       let st = allocations_stand c u.pass.seen history i x.points.0 in
       marked_where_its_cell_is c (now_of u.pass).words a history.within_limits st.stands st.headers
       ∙ sym (points_well_where_marked c (now_of u.pass).words a history.within_limits st.stands st.headers x.value
-      x.points.1)
-      ∙ value_well x.value x.found
+      x.points.1) ∙ value_well x.value x.found
 
   pub sweeps : n ≡ length (words_below (still_words t.pass) t.pass.table.config.pages) → Sweeps p u.pass n
   sweeps is =
@@ -171,7 +163,7 @@ module _ (p : PassState) (t u : TurnState) (n : ℕ) (waited : Counted is_waitin
             (never_twice t.pass.table.config t.pass.seen early sweeping.settled k);
         each = λ k x. ap (λ ns. times k ns) words_of_all
             ∙ looked_at_once t.pass.table.config t.pass.seen early sweeping.settled k (scanned_there k x);
-        counted = is ∙ sym (ap (λ (ns : List ℕ). length ns) words_of_all);
+        counted = is ∙ sym (ap length words_of_all);
         words = is ∙ all_words_are;
         swept = swept_is_marked;
       }

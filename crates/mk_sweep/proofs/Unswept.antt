@@ -2,27 +2,20 @@
 use Rattle.std.proofs.Common.{◌≡◌, ◌∙◌, ℕ, true, false, List, [], ◌∷◌, sym, ap, subst, inl, inr}
 use Rattle.std.specs.Prelude.{slice_index, slice_set, bit_or}
 use Rattle.std.proofs.lemmas.Bool.{cases_Bool, false_from_ne_true, true≢false}
-use Rattle.mk_geom.specs.declared.addresses.Cell.{Cell}
-use Rattle.mk_core.specs.declared.config.Config.{Config}
-use Rattle.mk_core.specs.declared.events.Event.{Event}
-use Rattle.mk_core.specs.declared.events.Seat.{Seat}
-use Rattle.mk_core.specs.declared.events.Step.{Step}
+use Rattle.mk_sweep.proofs.Vocabulary.{Cell, Config, Event, Moment, PassState, Seat, Step, SweepsBy, World}
+use Rattle.mk_sweep.proofs.Vocabulary.{cell_of_allocation, has_bit, is_marked, is_tracing, never_behind, placed_at}
+use Rattle.mk_sweep.proofs.Vocabulary.{world_behind, world_of}
 use Rattle.mk_core.specs.declared.events.Step.TheVariants as step
-use Rattle.mk_core.specs.Allocations.{cell_of_allocation, placed_at}
-use Rattle.mk_core.specs.Bits.{has_bit}
-use Rattle.mk_core.specs.Cells.{is_marked}
 use Rattle.mk_core.specs.Growing.{is_same_seat}
-use Rattle.mk_core.specs.History.{World, left_from, never_behind, world_behind}
-use Rattle.mk_core.specs.Moments.{Moment}
+use Rattle.mk_core.specs.History.{left_from}
 use Rattle.mk_core.proofs.HistoryParts.{left_in_parts}
 use Rattle.mk_core.proofs.WordBits.{bit_of_power, more_bits}
 use Rattle.mk_laws.proofs.KnownWorlds.{known_world}
 use Rattle.mk_laws.proofs.InvariantHistories.{histories_keep_the_invariant}
 use Rattle.mk_laws.proofs.Worlds.{comes_back}
-use Rattle.mk_words.specs.States.{PassState, world_of}
-use Rattle.mk_tracing.specs.Tracing.{OwnStepsKeep, is_tracing}
+use Rattle.mk_tracing.specs.Tracing.{OwnStepsKeep}
 use Rattle.mk_tracing.proofs.Parts.{kinds_keep}
-use Rattle.mk_sweep.specs.Swept.{IsSweptCell, MarksSwept, SweepsBy}
+use Rattle.mk_sweep.specs.Swept.{IsSweptCell, MarksSwept}
 use Rattle.mk_sweep.specs.Unswept.{OthersLeaveUnmarked, UnsweptStaysUnmarked}
 
 -- an own step is a tracing one
@@ -30,10 +23,10 @@ abbrev IsTracing : Config → Moment → Step → Type 0
 IsTracing c m s = is_tracing s ≡ true
 
 -- A mark of a swept cell leaves one unmarked that isn't swept.
-mark_leaves : (c : Config) (v : World) (marks : List ℕ) (page value : ℕ) (cell : Cell) → MarksSwept c v page value
+mark_leaves : {c : Config} {v : World} (marks : List ℕ) {page value : ℕ} (cell : Cell) → MarksSwept c v page value
     → (IsSweptCell c v cell → ⊥) → has_bit (slice_index marks cell.page) cell.index ≡ false
     → has_bit (slice_index (slice_set marks page (bit_or (slice_index marks page) value)) cell.page) cell.index ≡ false
-mark_leaves c v marks page value cell swept out was = false_from_ne_true _ (λ is.
+mark_leaves {c} {v} marks {page} {value} cell swept out was = false_from_ne_true _ (λ is.
     elim (more_bits marks page value cell.page cell.index is) [
       | inl before ↦ true≢false (sym before ∙ was)
       | inr now ↦
@@ -41,13 +34,13 @@ mark_leaves c v marks page value cell swept out was = false_from_ne_true _ (λ i
           let same : record { page = page; index = swept.index } ≡ cell =
           ap (λ (k : ℕ). record { page = k; index = swept.index }) (sym now.0)
           ∙ ap (λ (k : ℕ). record { page = cell.page; index = k }) (sym index) in
-          out (subst (λ (x : Cell). IsSweptCell c v x) same swept.swept)
+          out (subst (IsSweptCell c v) same swept.swept)
     ])
 
 step_leaves : (c : Config) (v w : World) (seat : Seat) (cell : Cell) (s : Step) → is_tracing s ≡ true
     → SweepsBy v c w.now s → (IsSweptCell c v cell → ⊥) → is_marked w.now.words cell ≡ false
     → is_marked (world_behind c w (record { seat = seat; step = s })).now.words cell ≡ false
-step_leaves c v w seat cell (step.Mark p k) kind rule out was = mark_leaves c v w.now.words.marks p k cell rule out was
+step_leaves c v w seat cell (step.Mark p k) kind rule out was = mark_leaves w.now.words.marks cell rule out was
 step_leaves c v w seat cell (step.Look x) kind rule out was = was
 step_leaves c v w seat cell step.Want kind rule out was = was
 step_leaves c v w seat cell (step.Undirty p) kind rule out was = was
@@ -75,8 +68,7 @@ unswept_stays_unmarked p q n s i history one unreleased out was others =
     let d = s.traces.does in
     let cell : Cell = cell_of_allocation c (placed_at w.allocations i) in
     let behind = list_leaves c w w p.seat cell d.more
-    (kinds_keep is_tracing IsTracing c p.seat w d.more (λ m x kind. kind) d.of_kinds)
-    s.traces.keeps others
+    (kinds_keep is_tracing IsTracing c p.seat w d.more (λ m x kind. kind) d.of_kinds) s.traces.keeps others
     (λ x. out (record {
       value = x.value;
       found = x.found;

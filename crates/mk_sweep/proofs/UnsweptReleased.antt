@@ -1,15 +1,11 @@
 -- What a sweep doesn't mark is released by its cycle.
 use Rattle.std.proofs.Common.{◌≡◌, ◌∙◌, ◌<◌, ℕ, false, refl, List, [], ◌∷◌, ◌++◌, length, sym, ap, subst, inl, inr}
 use Rattle.std.proofs.lemmas.Bool.{cases_Bool, true≢false}
-use Rattle.mk_geom.specs.declared.addresses.Cell.{Cell}
+use Rattle.mk_sweep.proofs.Vocabulary.{Config, Event, PassState, PlacedAllocation, Untouched, WordsState, World}
+use Rattle.mk_sweep.proofs.Vocabulary.{before_release, cell_of_allocation, flight_of, is_marked, left, placed_at}
+use Rattle.mk_sweep.proofs.Vocabulary.{storage_of, world_behind, world_of}
 use Rattle.mk_geom.specs.StorageWords.{cell_of_storage}
-use Rattle.mk_core.specs.declared.config.Config.{Config}
-use Rattle.mk_core.specs.declared.events.Event.{Event}
-use Rattle.mk_core.specs.Allocations.{PlacedAllocation, cell_of_allocation, placed_at, storage_of}
-use Rattle.mk_core.specs.Cells.{is_marked}
-use Rattle.mk_core.specs.Cycles.{before_release}
-use Rattle.mk_core.specs.History.{World, left, left_from, world_behind}
-use Rattle.mk_core.specs.Moments.{flight_of}
+use Rattle.mk_core.specs.History.{left_from}
 use Rattle.mk_core.proofs.HistoryParts.{left_in_parts}
 use Rattle.mk_laws.specs.Releases.{allocation_before, allocation_behind}
 use Rattle.mk_laws.proofs.Releases.{releases_are_exact}
@@ -18,8 +14,6 @@ use Rattle.mk_laws.proofs.Marking.{More, one_more}
 use Rattle.mk_laws.proofs.OlderAllocations.{AreOlder, older_behind}
 use Rattle.mk_laws.proofs.PrecisionStepKinds.{is_grant, release_is}
 use Rattle.mk_laws.proofs.Stretches.{at_release, history_through}
-use Rattle.mk_words.specs.States.{PassState, WordsState, world_of}
-use Rattle.mk_tracing.specs.Tracing.{Untouched}
 use Rattle.mk_sweep.specs.Unswept.{LeaveUnmarked, UnsweptIsReleased}
 use Rattle.mk_sweep.proofs.Unswept.{unswept_stays_unmarked}
 
@@ -58,8 +52,7 @@ unswept_is_released p q n s es r rest i history seen is one snapshot unreleased 
       ]
       | inr kept ↦ (releases_are_exact c es history r i kept).1 (
         snapshot,
-        ap (λ (cell : Cell). is_marked (left c (before_release r)).now.words cell)
-            (same_cell c a (allocation_before c r i) before.same)
+        ap (is_marked (left c (before_release r)).now.words) (same_cell c a (allocation_before c r i) before.same)
             ∙ before.unmarked,
       )
     ]
@@ -101,7 +94,6 @@ unswept_is_released p q n s es r rest i history seen is one snapshot unreleased 
 
     before : StandsUnmarked c a i (left c (before_release r))
     before =
-        subst (λ (w : World). StandsUnmarked c a i w)
-        (sym (ap (λ (xs : List Event). left c xs) is ∙ left_in_parts c q.seen rest
-        ∙ ap (λ (w : World). left_from c w rest) (sym same_world)))
+        subst (StandsUnmarked c a i)
+        (sym (ap (left c) is ∙ left_in_parts c q.seen rest ∙ ap (λ (w : World). left_from c w rest) (sym same_world)))
         (stands_along c a i (world_of q) rest leave swept)

@@ -1,29 +1,22 @@
 -- The parts of a whole cycle, read off what beginning and finishing it ensure.
 use Rattle.std.proofs.Common.{◌≡◌, List, [], ◌∷◌, ◌++◌, ◌∙◌, ap, subst, append-nil, append_assoc}
-use Rattle.mk_core.specs.declared.events.Event.{Event}
-use Rattle.mk_core.specs.declared.events.Step.TheVariants as step
-use Rattle.mk_core.specs.Growing.{AreOfOthers}
-use Rattle.mk_core.specs.History.{IsHistory}
 use Rattle.std.specs.Prelude.{ℕ}
-use Rattle.mk_words.specs.Seats.{Has}
-use Rattle.mk_words.specs.States.{PassState, event_of}
-use Rattle.mk_words.specs.Steps.{IsEnabledTo}
+use Rattle.mk_sweep.proofs.Vocabulary.{AreOfOthers, Event, Has, HasMarkers, IsEnabledTo, IsHistory, PassState, Sweeps}
+use Rattle.mk_sweep.proofs.Vocabulary.{event_of}
+use Rattle.mk_core.specs.declared.events.Step.TheVariants as step
 use Rattle.mk_turns.proofs.Sweeping.{only_seen_by}
 use Rattle.mk_cycle.specs.Begun.{DoesNothing, IsBegunLast}
 use Rattle.mk_cycle.specs.Closing.{IsClosedBy}
 use Rattle.mk_cycle.specs.Holding.{HoldsGates}
 use Rattle.mk_cycle.specs.Releasing.{MakesRelease}
-use Rattle.mk_sweep.specs.SweepCycle.{HasMarkers, ReleasesUnswept}
-use Rattle.mk_sweep.specs.Sweeps.{Sweeps}
+use Rattle.mk_sweep.specs.SweepCycle.{ReleasesUnswept}
 use Rattle.mk_sweep.proofs.SweepCycles.{SweepParts, cycle, is_released_by_it}
 
 stretches : {X : Type 0} (xs ws zs rest : List X) (b r : X)
     → ((((xs ++ ws) ++ b ∷ []) ++ zs) ++ r ∷ []) ++ rest ≡ xs ++ (ws ++ b ∷ (zs ++ r ∷ rest))
 stretches xs ws zs rest b r =
-    append_assoc (((xs ++ ws) ++ b ∷ []) ++ zs) (r ∷ []) rest
-    ∙ append_assoc ((xs ++ ws) ++ b ∷ []) zs (r ∷ rest)
-    ∙ append_assoc (xs ++ ws) (b ∷ []) (zs ++ r ∷ rest)
-    ∙ append_assoc xs ws (b ∷ (zs ++ r ∷ rest))
+    append_assoc (((xs ++ ws) ++ b ∷ []) ++ zs) (r ∷ []) rest ∙ append_assoc ((xs ++ ws) ++ b ∷ []) zs (r ∷ rest)
+    ∙ append_assoc (xs ++ ws) (b ∷ []) (zs ++ r ∷ rest) ∙ append_assoc xs ws (b ∷ (zs ++ r ∷ rest))
 
 module _ (p b q : PassState) (looks : ℕ) (same : b ≡ record p { seen = b.seen })
     (last : IsBegunLast DoesNothing p b) (closed : IsClosedBy (λ x y. Sweeps x y looks) b q) where
@@ -48,8 +41,7 @@ module _ (p b q : PassState) (looks : ℕ) (same : b ≡ record p { seen = b.see
 
   start_is : b ≡ record p { seen = front ++ begin ∷ [] }
   start_is =
-      same
-      ∙ ap (λ (xs : List Event). record p { seen = xs })
+      same ∙ ap (λ (xs : List Event). record p { seen = xs })
       (last.part.is ∙ ap (λ (xs : List Event). last.begun.seen ++ xs) last.part.part
       ∙ append-nil last.begun.seen ∙ ap (λ (x : PassState). x.seen) begun_is)
 
@@ -60,8 +52,7 @@ module _ (p b q : PassState) (looks : ℕ) (same : b ≡ record p { seen = b.see
   makes = closed.makes
 
   closing_is : makes.closing ≡ record p { seen = makes.closing.seen }
-  closing_is =
-      makes.marks.keeps.call.pass ∙ ap (λ (x : PassState). record x { seen = makes.closing.seen }) held_is
+  closing_is = makes.marks.keeps.call.pass ∙ ap (λ (x : PassState). record x { seen = makes.closing.seen }) held_is
 
   closed_is : makes.closed ≡ record p { seen = makes.closed.seen }
   closed_is =
@@ -76,15 +67,12 @@ module _ (p b q : PassState) (looks : ℕ) (same : b ≡ record p { seen = b.see
 
   seen_is : q.seen ≡ makes.closing.seen ++ (waited ++ close ∷ (stopped ++ release ∷ closed.rest))
   seen_is =
-      closed.is
-      ∙ ap (λ (x : PassState). x.seen ++ closed.rest) makes.release.is
+      closed.is ∙ ap (λ (x : PassState). x.seen ++ closed.rest) makes.release.is
       ∙ ap (λ (x : PassState). ((makes.closed.seen ++ stopped) ++ event_of x step.Release ∷ []) ++ closed.rest)
-      closed_is
-      ∙ ap (λ (x : PassState). ((x.seen ++ stopped) ++ release ∷ []) ++ closed.rest) makes.close.is
+      closed_is ∙ ap (λ (x : PassState). ((x.seen ++ stopped) ++ release ∷ []) ++ closed.rest) makes.close.is
       ∙ ap (λ (x : PassState).
       ((((makes.closing.seen ++ waited) ++ event_of x step.Close ∷ []) ++ stopped) ++ release ∷ []) ++ closed.rest)
-      closing_is
-      ∙ stretches makes.closing.seen waited stopped closed.rest close release
+      closing_is ∙ stretches makes.closing.seen waited stopped closed.rest close release
 
   abbrev parts : SweepParts p looks q.seen
   parts =
@@ -96,7 +84,7 @@ module _ (p b q : PassState) (looks : ℕ) (same : b ≡ record p { seen = b.see
         stopped = stopped;
         rest = closed.rest;
         holds = subst (λ (x : PassState). HoldsGates x (record p { seen = closed.held.seen })) start_is
-            (subst (λ (x : PassState). HoldsGates b x) held_is closed.holds);
+            (subst (HoldsGates b) held_is closed.holds);
         sweeps = subst (λ (x : PassState). Sweeps x (record p { seen = makes.closing.seen }) looks) held_is
             (subst (λ (x : PassState). Sweeps closed.held x looks) closing_is closed.part);
         may_close = subst (λ (x : PassState). IsEnabledTo x step.Close) closing_is makes.marks.close;
@@ -105,8 +93,7 @@ module _ (p b q : PassState) (looks : ℕ) (same : b ≡ record p { seen = b.see
         is = seen_is;
       }
 
-  pub releases_unswept : Has p.seats p.seat → HasMarkers p.seats → IsHistory p.table.config q.seen
-      → ReleasesUnswept p q
+  pub releases_unswept : Has p.seats p.seat → HasMarkers p.seats → IsHistory p.table.config q.seen → ReleasesUnswept p q
   releases_unswept own markers history =
       record {
         cycle = cycle p looks q.seen own markers history parts;

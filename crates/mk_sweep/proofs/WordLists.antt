@@ -4,17 +4,13 @@ use Rattle.std.proofs.Common.{inl, inr, arith}
 use Rattle.std.specs.Prelude.{Option, Some, slice_index, if◌then◌else◌}
 use Rattle.std.specs.List.{range_with_len}
 use Rattle.std.proofs.lemmas.List.Elements.{Contains-append_cases, Contains-push_cases}
+use Rattle.mk_sweep.proofs.Vocabulary.{MarksMore, PointWell, Words, cells_under, has_bit, has_no_pointers, head_page}
+use Rattle.mk_sweep.proofs.Vocabulary.{header_at, header_in, header_of, points_well, used_at, word_points_well}
+use Rattle.mk_sweep.proofs.Vocabulary.{words_below, words_if, words_of_cells, words_on, words_under}
 use Rattle.mk_geom.specs.declared.headers.Header.{Header}
 use Rattle.mk_geom.specs.declared.headers.Header.TheVariants.{Later}
 use Rattle.mk_geom.specs.Addresses.{head_page_under}
-use Rattle.mk_geom.specs.Headers.{header_of}
-use Rattle.mk_core.specs.Bits.{has_bit}
-use Rattle.mk_core.specs.Cells.{cells_under, has_no_pointers, head_page, header_in, points_well, word_points_well}
-use Rattle.mk_core.specs.Cells.{words_under}
-use Rattle.mk_core.specs.Words.{Words, header_at, used_at}
-use Rattle.mk_tracing.specs.Grays.{MarksMore}
 use Rattle.mk_tracing.proofs.MoreMarks.{well_more}
-use Rattle.mk_sweep.specs.Sweeping.{PointWell, words_below, words_if, words_of_cells, words_on}
 
 -- The head of a page's run doesn't lie after it.
 
@@ -64,32 +60,31 @@ words_of_bare w p bare =
     (cells_under (header_in w p))) bare)
 
 -- Marks leave which words these are.
-pub words_kept : (w v : Words) (p : ℕ) → MarksMore w v → words_on v p ≡ words_on w p
-words_kept w v p more = ap (λ (y : Words). words_on y p) more.is
+pub words_kept : {w v : Words} (p : ℕ) → MarksMore w v → words_on v p ≡ words_on w p
+words_kept p more = ap (λ (y : Words). words_on y p) more.is
 
 -- What points well goes on doing so.
 
 pub none_well : (pages : ℕ) (w : Words) → PointWell pages w []
 none_well pages w n (k, lt, is) = absurd (omega arith)
 
-pub still_well : (pages : ℕ) (w v : Words) (ns : List ℕ) → MarksMore w v → PointWell pages w ns → PointWell pages v ns
-still_well pages w v ns more well n inside =
+pub still_well : (pages : ℕ) {w v : Words} (ns : List ℕ) → MarksMore w v → PointWell pages w ns → PointWell pages v ns
+still_well pages {w} {v} ns more well n inside =
     ap (λ (y : Words). points_well pages v (slice_index y.heap n)) more.is
     ∙ well_more pages w v (slice_index w.heap n) more (well n inside)
 
-pub both_well : (pages : ℕ) (w v : Words) (ns ms : List ℕ) → MarksMore w v → PointWell pages w ns
+pub both_well : (pages : ℕ) {w v : Words} (ns ms : List ℕ) → MarksMore w v → PointWell pages w ns
     → PointWell pages v ms → PointWell pages v (ns ++ ms)
-both_well pages w v ns ms more one two n inside = elim (Contains-append_cases ns ms n inside) [
-  | inl early ↦ still_well pages w v ns more one n early
+both_well pages {w} {v} ns ms more one two n inside = elim (Contains-append_cases ns ms n inside) [
+  | inl early ↦ still_well pages ns more one n early
   | inr late ↦ two n late
 ]
 
-pub one_well : (pages : ℕ) (w v : Words) (ns : List ℕ) (m value : ℕ) → MarksMore w v → PointWell pages w ns
+pub one_well : (pages : ℕ) {w v : Words} (ns : List ℕ) (m value : ℕ) → MarksMore w v → PointWell pages w ns
     → value ≡ slice_index w.heap m → points_well pages v value ≡ true → PointWell pages v (ns ++ m ∷ [])
-one_well pages w v ns m value more one is well n inside = elim (Contains-push_cases ns m n inside) [
-  | inl early ↦ still_well pages w v ns more one n early
-  | inr at ↦
-      ap (λ k. word_points_well pages v k) (sym at)
+one_well pages {v} ns m value more one is well n inside = elim (Contains-push_cases ns m n inside) [
+  | inl early ↦ still_well pages ns more one n early
+  | inr at ↦ ap (λ k. word_points_well pages v k) (sym at)
       ∙ ap (λ (y : Words). points_well pages v (slice_index y.heap m)) more.is
       ∙ ap (λ u. points_well pages v u) (sym is) ∙ well
 ]

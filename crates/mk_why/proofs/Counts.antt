@@ -11,8 +11,7 @@ use Rattle.mk_why.specs.States.{WhyState}
 -- How many entries of a table there are, with one more, and with none.
 
 pub more_counted : {A : Type 0} → (xs : List (Option A)) (i : ℕ) (x : A) → i < length xs
-    → is_some (slice_index_or xs i None) ≡ false
-    → count_by is_some (slice_set xs i (Some x)) ≡ count_by is_some xs + 1
+    → is_some (slice_index_or xs i None) ≡ false → count_by is_some (slice_set xs i (Some x)) ≡ count_by is_some xs + 1
 more_counted {A} xs i x lt none =
     let e : count_by is_some (slice_set xs i (Some x)) + cond {A = ℕ} (is_some (slice_index_or xs i None)) 1 0
     ≡ count_by is_some xs + 1 = sum_by-set (λ (y : Option A). cond (is_some y) 1 0) xs i (Some x) None lt in

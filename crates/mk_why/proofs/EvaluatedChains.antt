@@ -1,19 +1,17 @@
 -- Why objects are kept at the closes of two small cycles: by a register, by a chain of one link, and by no chain.
 use Rattle.std.proofs.Common.{◌≡◌, ◌+◌, ◌*◌, ℕ, zero, Bool, true, false, List, [], ◌∷◌, Some, None, refl, arith, subst}
 use Rattle.std.proofs.lemmas.Bool.{false≢true, leb-true, ltb-true}
-use Rattle.mk_core.specs.declared.config.Config.{Config}
+use Rattle.mk_why.proofs.Vocabulary.{Config, Global, IsWhy, Register, Root, World, word_of_root}
 use Rattle.mk_core.specs.Bounded.{all_below}
 use Rattle.mk_core.specs.Cells.{pointed_cell}
-use Rattle.mk_core.specs.History.{World, left_from}
+use Rattle.mk_core.specs.History.{left_from}
 use Rattle.mk_core.proofs.ListTests.{list_all-at, numbered_all}
 use Rattle.mk_core.proofs.MoreSchedules.{exchanged}
 use Rattle.mk_core.proofs.Schedules.{by, c0, host, pointer_page}
 use Rattle.mk_core.proofs.SmallCycles.{begun_in_stop, marked_in_stop, small, three_objects}
 use Rattle.mk_core.proofs.TouchedTests.{is_into_members, points_into}
 use Rattle.mk_sweep.proofs.EvaluatedSwept.{all_into, stopped, swept_in_stop, two_unreached, unreached}
-use Rattle.mk_why.specs.declared.kept.Root.{Root}
-use Rattle.mk_why.specs.declared.kept.Root.TheVariants.{Register, Global}
-use Rattle.mk_why.specs.Chains.{IsChain, IsWhy, NoneIsShorter, word_of_root}
+use Rattle.mk_why.specs.Chains.{IsChain, NoneIsShorter}
 
 -- Where what roots point into are members of a set, so is what each chain begins with.
 module _ (c : Config) (w : World) (S : ℕ → Bool) (registers : all_into c w S w.now.words.registers ≡ true)
@@ -97,7 +95,6 @@ globals_into_nothing = refl
 pub why_second_floats : IsWhy pointer_page unreached 1 None []
 why_second_floats = (
   refl,
-  λ root links chain.
-      false≢true
+  λ root links chain. false≢true
       (begins_in pointer_page unreached nothing registers_into_nothing globals_into_nothing root links 1 chain),
 )

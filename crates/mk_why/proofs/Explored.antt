@@ -2,23 +2,15 @@
 use Rattle.std.proofs.Common.{◌≡◌, ◌∙◌, ℕ, ◌+◌, ◌*◌, true, List, refl, sym, ap, subst, ◌<◌, ◌≤◌, [], ◌∷◌, arith, length}
 use Rattle.std.specs.Prelude.{Option, slice_index, nat_lt}
 use Rattle.std.proofs.lemmas.Bool.{and_from, lt-ltb}
+use Rattle.mk_why.proofs.Vocabulary.{AreWays, Config, FindsMore, Found, Global, IsFound, IsFoundThrough, IsNoted}
+use Rattle.mk_why.proofs.Vocabulary.{IsSearch, IsSearched, IsWay, LinksLead, PointsIntoAllocation, Register, Root}
+use Rattle.mk_why.proofs.Vocabulary.{Tables, View, Words, base_at, entry_at, is_scanned_allocation, is_still_word}
+use Rattle.mk_why.proofs.Vocabulary.{is_word, links_in, links_of, named_word, placed_at, storage_of, word_of_root}
+use Rattle.mk_why.proofs.Vocabulary.{world_in}
 use Rattle.mk_geom.specs.StorageWords.{IsWordOf}
-use Rattle.mk_core.specs.declared.config.Config.{Config}
-use Rattle.mk_core.specs.Touched.{PointsIntoAllocation}
-use Rattle.mk_core.specs.Allocations.{placed_at, storage_of}
-use Rattle.mk_core.specs.ClosedMarks.{is_scanned_allocation}
-use Rattle.mk_core.specs.Ranges.{is_word}
-use Rattle.mk_core.specs.Words.{Words, named_word}
 use borrow.Author.Count.{below_more}
-use Rattle.mk_why.specs.declared.found.Found.{Found}
-use Rattle.mk_why.specs.Searching.{IsFoundAt, IsFoundThrough, IsNoted, IsOnward, IsWay, IsFoundWithin, PointsAtBase}
-use Rattle.mk_why.specs.Searching.{root_word, AreWays, FindsMore, IsSearched, IsExplored, IsFound, IsSearch, entry_at}
-use Rattle.mk_why.specs.Searching.{links_in, links_of}
-use Rattle.mk_why.specs.Stops.{View, base_at, world_in, is_still_word}
-use Rattle.mk_why.specs.declared.kept.Root.{Root}
-use Rattle.mk_why.specs.declared.kept.Root.TheVariants.{Global, Register}
-use Rattle.mk_why.specs.Chains.{IsRoot, word_of_root, LinksLead}
-use Rattle.mk_why.specs.declared.tables.Tables.{Tables}
+use Rattle.mk_why.specs.Searching.{IsFoundAt, IsOnward, IsFoundWithin, PointsAtBase, root_word, IsExplored}
+use Rattle.mk_why.specs.Chains.{IsRoot}
 use Rattle.mk_why.proofs.Searches.{Stays, links_stay, noted_stays, same_links}
 
 -- Ways to what values point into.
@@ -29,10 +21,10 @@ HasScanned c v base n =
     (a : ℕ) × (base_at v a ≡ base) × (is_scanned_allocation c (placed_at v.allocations a) ≡ true)
     × IsWordOf (storage_of c (placed_at v.allocations a)) n
 
-pub onward_way : (c : Config) (v : View) (found : List (Option Found)) (base n links b : ℕ) → HasScanned c v base n
+pub onward_way : (c : Config) (v : View) {found : List (Option Found)} {base : ℕ} (n : ℕ) {links : ℕ} (b : ℕ) → HasScanned c v base n
     → IsFoundThrough found base links → (value : ℕ) → value ≡ slice_index v.words.heap n
     → PointsIntoAllocation c (world_in v) value b → IsOnward c v found (65536 + 8 * n) base (links + 1) b
-onward_way c v found base n links b x through value is points =
+onward_way c v n b x through value is points =
     record {
       number = x.0;
       begins = x.1;
@@ -49,18 +41,17 @@ onward_way c v found base n links b x through value is points =
     }
 
 -- A way to whatever a value points into leads to what begins at the base.
-pub found_by : (c : Config) (v : View) (found : List (Option Found)) (value base : ℕ) (f : Found)
+pub found_by : {c : Config} {v : View} (found : List (Option Found)) {value base : ℕ} (f : Found)
     → PointsAtBase c v value base
     → ((b : ℕ) → PointsIntoAllocation c (world_in v) value b → IsWay c v found f.way f.links b)
     → IsFoundAt c v found base f
-found_by c v found value base f x way =
+found_by found f x way =
     record { number = x.number; unreleased = x.points.0; is = x.is; way = way x.number x.points }
 
 -- Where that was found, so was whatever the value points into.
-pub noted_by : (c : Config) (v : View) (found : List (Option Found)) (value base limit : ℕ)
-    → PointsAtBase c v value base
-    → IsFoundWithin found base limit → IsNoted c v found value limit
-noted_by c v found value base limit x within b points =
+pub noted_by : {c : Config} {v : View} {found : List (Option Found)} {value base limit : ℕ}
+    → PointsAtBase c v value base → IsFoundWithin found base limit → IsNoted c v found value limit
+noted_by {v} {found} {limit} x within b points =
     subst (λ n. IsFoundWithin found n limit) (sym (ap (base_at v) (x.only b points) ∙ x.is)) within
 
 -- Roots as words that are looked at.
@@ -84,7 +75,7 @@ root_named w (Global global) = refl
 done_stays : (c : Config) (v : View) (found more : List (Option Found)) → Stays found more → (base : ℕ)
     → IsFound found base → IsSearched c v found base → IsSearched c v more base
 done_stays c v found more stays base x done a n begins scanned word =
-    subst (λ k. IsNoted c v more (slice_index v.words.heap n) (k + 1)) (sym (same_links found more stays base x))
+    subst (λ k. IsNoted c v more (slice_index v.words.heap n) (k + 1)) (sym (same_links more stays x))
     (noted_stays c v found more stays (slice_index v.words.heap n) (links_in (entry_at found base) + 1)
     (done a n begins scanned word))
 
@@ -102,7 +93,7 @@ module _ (c : Config) (v : View) (r s : Tables) (place limit : ℕ) (known : pla
 
   pub near_next : place + 1 < s.count → (i : ℕ) → i < s.count → links_of s i ≤ links_of s (place + 1) + 1
   near_next next i few =
-      let same = links_stay r s grows place known (search.entries place known) in
+      let same = links_stay grows place known (search.entries place known) in
       let up = behind.rising place (place + 1) (omega arith) next in
       let low = behind.below i few in
       omega arith

@@ -1,3 +1,4 @@
+pub mod Vocabulary
 mod Counts
 mod EvaluatedChains
 mod Explored

@@ -4,16 +4,13 @@ use Rattle.std.proofs.Common.{inl, inr, arith, length}
 use Rattle.std.specs.Prelude.{Option, None, Some, ◌&&◌, not, slice_index, slice_set}
 use Rattle.std.proofs.lemmas.Bool.{and_from, and_parts, cases_eq, cases_lt, not-true, true≢false}
 use Rattle.std.proofs.lemmas.List.{get_or-set_other, get_or-set_same, length-set}
-use Rattle.mk_geom.specs.declared.addresses.Cell.{Cell}
-use Rattle.mk_geom.specs.Headers.{header_of}
-use Rattle.mk_core.specs.declared.config.Config.{Config}
-use Rattle.mk_core.specs.Allocations.{PlacedAllocation, cell_of_allocation, placed_at, storage_words}
-use Rattle.mk_core.specs.Bits.{has_bit}
-use Rattle.mk_core.specs.Cells.{cell_words, cells_under, first_word, header_in, is_marked, words_under}
+use Rattle.mk_why.proofs.Vocabulary.{AreOfKept, Cell, Config, IsHistory, IsListed, IsStill, ListsOn, PassState}
+use Rattle.mk_why.proofs.Vocabulary.{PlacedAllocation, Storage, Tables, View, WordsState, base_at, cell_of_allocation}
+use Rattle.mk_why.proofs.Vocabulary.{entry_at, first_word, has_bit, header_at, header_in, header_of, is_kept}
+use Rattle.mk_why.proofs.Vocabulary.{never_behind, now_of, object_placed, placed_at, storage_words, view_by}
+use Rattle.mk_why.proofs.Vocabulary.{words_under, world_in, world_of}
+use Rattle.mk_core.specs.Cells.{cell_words, cells_under, is_marked}
 use Rattle.mk_core.specs.ClosedMarks.{is_marked_allocation}
-use Rattle.mk_core.specs.History.{IsHistory, never_behind}
-use Rattle.mk_core.specs.StandingAllocations.{object_placed}
-use Rattle.mk_core.specs.Words.{header_at}
 use Rattle.mk_core.proofs.PointedAllocations.{marked_where_its_cell_is}
 use Rattle.mk_core.proofs.Sizes.{words_within}
 use Rattle.mk_core.proofs.StandingAllocations.{cell_is_known, cells_begin, typed_size}
@@ -24,14 +21,8 @@ use Rattle.mk_laws.specs.Invariant.{Invariant}
 use Rattle.mk_laws.proofs.InvariantHistories.{histories_keep_the_invariant}
 use Rattle.mk_laws.proofs.InvariantTheorems.{allocations_stand}
 use Rattle.mk_laws.proofs.ReadingsStands.{freed_cell}
-use Rattle.mk_words.specs.States.{PassState, WordsState, now_of, world_of}
 use Rattle.mk_cycle.specs.FinishCycle.{is_in_snapshot_of_cycle}
-use Rattle.mk_why.specs.declared.found.Storage.{Storage}
-use Rattle.mk_why.specs.declared.tables.Tables.{Tables}
-use Rattle.mk_why.specs.Chains.{is_kept}
-use Rattle.mk_why.specs.Listing.{AreOfKept, IsKeptAt, IsListed, ListsOn}
-use Rattle.mk_why.specs.Searching.{entry_at}
-use Rattle.mk_why.specs.Stops.{IsStill, View, base_at, view_by, world_in}
+use Rattle.mk_why.specs.Listing.{IsKeptAt}
 
 -- The cell, of this many words, is that of a kept allocation.
 pub record IsKeptCell (c : Config) (v : View) (cell : Cell) (size : ℕ) : Type 0 where
@@ -63,8 +54,7 @@ module _ (p : PassState) (history : IsHistory p.table.config p.seen) (still : Is
   stands b u = allocations_stand c p.seen history b u
 
   -- an unreleased allocation's cell is in the snapshot where it is of the cycle's
-  snapshot_of : (b : ℕ) → (placed_at (world_of p).allocations b).released ≡ false
-      → has_bit
+  snapshot_of : (b : ℕ) → (placed_at (world_of p).allocations b).released ≡ false → has_bit
       (slice_index (now_of p).words.snapshot
       (cell_of_allocation p.table.config (placed_at (world_of p).allocations b)).page)
       (cell_of_allocation p.table.config (placed_at (world_of p).allocations b)).index
@@ -78,8 +68,7 @@ module _ (p : PassState) (history : IsHistory p.table.config p.seen) (still : Is
       let st = stands b u in
       marked_where_its_cell_is c (now_of p).words (a b) history.within_limits st.stands st.headers
 
-  pub kept_cell : (cell : Cell)
-      → has_bit (slice_index (now_of p).words.snapshot cell.page) cell.index ≡ true
+  pub kept_cell : (cell : Cell) → has_bit (slice_index (now_of p).words.snapshot cell.page) cell.index ≡ true
       → has_bit (slice_index (now_of p).words.marks cell.page) cell.index ≡ true
       → IsKeptCell p.table.config (view_by p) cell (words_under (header_in (now_of p).words cell.page))
   kept_cell cell in_snapshot marked =
@@ -98,8 +87,7 @@ module _ (p : PassState) (history : IsHistory p.table.config p.seen) (still : Is
       (and_from x.freed (not x.released) parts.0 (ap not f.unreleased)) parts.1 in
       let has_mark : is_marked_allocation c (now_of p).words x ≡ true = marked_of b f.unreleased
       ∙ ap (is_marked (now_of p).words) f.cell ∙ marked in
-      let is : x.base ≡ first_word (now_of p).words cell =
-      sym begins.0 ∙ ap (first_word (now_of p).words) f.cell in
+      let is : x.base ≡ first_word (now_of p).words cell = sym begins.0 ∙ ap (first_word (now_of p).words) f.cell in
       let words : cell_words (now_of p).words cell ≡ storage_words c x =
       sym (ap (cell_words (now_of p).words) f.cell) ∙ begins.1 in
       record {
@@ -194,8 +182,8 @@ module _ (p : PassState) (history : IsHistory p.table.config p.seen) (still : Is
 pub lists_nothing : (c : Config) (v : View) (r : Tables) → AreOfKept c v r.kept.items → ListsOn c v r r
 lists_nothing c v r of_kept = record { size = refl; of_kept = of_kept; stays = λ base x. x; found = refl }
 
-pub lists_then : (c : Config) (v : View) (r s x : Tables) → ListsOn c v r s → ListsOn c v s x → ListsOn c v r x
-lists_then c v r s x one two =
+pub lists_then : {c : Config} {v : View} {r s x : Tables} → ListsOn c v r s → ListsOn c v s x → ListsOn c v r x
+lists_then one two =
     record {
       size = two.size ∙ one.size;
       of_kept = two.of_kept;
@@ -233,7 +221,7 @@ module _ (c : Config) (v : View) (r s : Tables) (cell : Cell) (size : ℕ) (of_k
   sets_cell =
       record {
         on = record {
-          size = ap (λ (xs : List (Option Storage)). length xs) set ∙ length-set r.kept.items base (Some storage);
+          size = ap length set ∙ length-set r.kept.items base (Some storage);
           of_kept = of_all;
           stays = stays;
           found = found;
@@ -246,7 +234,7 @@ module _ (c : Config) (v : View) (r s : Tables) (cell : Cell) (size : ℕ) (of_k
         | inl e ↦
             let both : Some x ≡ Some storage = sym is ∙ ap (λ n. entry_at s.kept.items n) e ∙ there in
             let same : x ≡ storage = cc in
-            subst (λ (y : Storage). IsKeptAt c v k y) (sym same)
+            subst (IsKeptAt c v k) (sym same)
             (record {
               number = kept.number;
               is = kept.is ∙ sym e;
@@ -268,8 +256,7 @@ module _ (c : Config) (v : View) (r s : Tables) (cell : Cell) (size : ℕ) (of_k
 pub lists_cell : (c : Config) (v : View) (r s : Tables) (cell : Cell) (size : ℕ) (in_snapshot marked : Bool)
     → AreOfKept c v r.kept.items → length r.kept.items ≡ 64 * c.pages
     → (in_snapshot ≡ true → marked ≡ true → IsKeptCell c v cell size) → s.found ≡ r.found
-    → (in_snapshot ≡ true → marked ≡ true → s.kept.items ≡ slice_set r.kept.items
-    (64 * cell.page + cell.index * size)
+    → (in_snapshot ≡ true → marked ≡ true → s.kept.items ≡ slice_set r.kept.items (64 * cell.page + cell.index * size)
     (Some (record { address = 65536 + 8 * (64 * cell.page + cell.index * size); words = size })))
     → (in_snapshot ≡ false → s ≡ r) → (marked ≡ false → s ≡ r)
     → ListsCell c v r s (64 * cell.page + cell.index * size) in_snapshot marked
@@ -278,17 +265,17 @@ lists_cell c v r s cell size true true of_kept all kept found set outside unmark
     sets_cell c v r s cell size of_kept (let low = x.within in omega arith) x found (set refl refl)
 lists_cell c v r s cell size false marked of_kept all kept found set outside unmarked =
     record {
-      on = subst (λ (y : Tables). ListsOn c v r y) (sym (outside refl)) (lists_nothing c v r of_kept);
+      on = subst (ListsOn c v r) (sym (outside refl)) (lists_nothing c v r of_kept);
       listed = λ one two. absurd (true≢false (sym one));
     }
 lists_cell c v r s cell size true false of_kept all kept found set outside unmarked =
     record {
-      on = subst (λ (y : Tables). ListsOn c v r y) (sym (unmarked refl)) (lists_nothing c v r of_kept);
+      on = subst (ListsOn c v r) (sym (unmarked refl)) (lists_nothing c v r of_kept);
       listed = λ one two. absurd (true≢false (sym two));
     }
 
-pub cells_more : (c : Config) (v : View) (r s : Tables) (page size count snapshot marks index : ℕ)
-    (in_snapshot marked : Bool) → in_snapshot ≡ has_bit snapshot index → marked ≡ has_bit marks index
+pub cells_more : {c : Config} {v : View} {r s : Tables} (page size count snapshot marks index : ℕ)
+    {in_snapshot marked : Bool} → in_snapshot ≡ has_bit snapshot index → marked ≡ has_bit marks index
     → ((b : ℕ) → is_kept c (world_in v) b ≡ true → (cell_of_allocation c (placed_at v.allocations b)).page ≡ page
     → HasKeptCell c v b page size count snapshot marks)
     → ((b : ℕ) → is_kept c (world_in v) b ≡ true → (cell_of_allocation c (placed_at v.allocations b)).page ≡ page
@@ -296,8 +283,7 @@ pub cells_more : (c : Config) (v : View) (r s : Tables) (page size count snapsho
     → ListsCell c v r s (64 * page + index * size) in_snapshot marked
     → (b : ℕ) → is_kept c (world_in v) b ≡ true → (cell_of_allocation c (placed_at v.allocations b)).page ≡ page
     → (cell_of_allocation c (placed_at v.allocations b)).index < index + 1 → IsListed s.kept.items (base_at v b)
-cells_more c v r s page size count snapshot marks index in_snapshot marked is_in is_marked has before one b kept at_page
-    lt =
+cells_more {c} {v} {s} page size count snapshot marks index is_in is_marked has before one b kept at_page lt =
     elim (cases_lt (cell_of_allocation c (placed_at v.allocations b)).index index) [
       | inl low ↦ one.on.stays (base_at v b) (before b kept at_page low)
       | inr high ↦
@@ -345,14 +331,14 @@ pub none_listed : (c : Config) (v : View) (kept : List (Option Storage)) → ((b
     → AreOfKept c v kept
 none_listed c v kept none base s is = let e = none base in absurd cc
 
-pub pages_more : (c : Config) (v : View) (r s : Tables) (page : ℕ) → ListsOn c v r s
+pub pages_more : {c : Config} {v : View} {r s : Tables} (page : ℕ) → ListsOn c v r s
     → ((b : ℕ) → is_kept c (world_in v) b ≡ true → (cell_of_allocation c (placed_at v.allocations b)).page < page
     → IsListed r.kept.items (base_at v b))
     → ((b : ℕ) → is_kept c (world_in v) b ≡ true → (cell_of_allocation c (placed_at v.allocations b)).page ≡ page
     → IsListed s.kept.items (base_at v b))
     → (b : ℕ) → is_kept c (world_in v) b ≡ true → (cell_of_allocation c (placed_at v.allocations b)).page < page + 1
     → IsListed s.kept.items (base_at v b)
-pages_more c v r s page on before here b kept lt =
+pages_more {c} {v} page on before here b kept lt =
     elim (cases_lt (cell_of_allocation c (placed_at v.allocations b)).page page) [
       | inl low ↦ on.stays (base_at v b) (before b kept low)
       | inr high ↦ here b kept (omega arith)

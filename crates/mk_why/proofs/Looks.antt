@@ -5,7 +5,9 @@ use Rattle.std.specs.Prelude.{slice_index_or, ◌&&◌, not}
 use Rattle.std.proofs.lemmas.Bool.{and_from, and_parts, eq-eqb, not-true, true≢false}
 use Rattle.std.proofs.lemmas.List.{append_cancel_left}
 use Rattle.std.proofs.lemmas.List.Sums.{sum_by-append, sum_by-cons}
-use Rattle.mk_core.specs.declared.config.Config.{Config}
+use Rattle.mk_why.proofs.Vocabulary.{Config, Event, IsHistory, IsStill, LooksOn, PassState, TurnState, View, Words}
+use Rattle.mk_why.proofs.Vocabulary.{World, is_still_word, is_word, left, named_word, now_of, others_are_held, phase_of}
+use Rattle.mk_why.proofs.Vocabulary.{view_by, view_of}
 use Rattle.mk_core.specs.declared.events.Seat.{Seat}
 use Rattle.mk_core.specs.declared.events.Seat.TheVariants.{Caller, Host, Marker}
 use Rattle.mk_core.specs.declared.events.Step.{Step}
@@ -16,17 +18,13 @@ use Rattle.mk_core.specs.declared.seats.Marker.{Marker as MarkerState}
 use Rattle.mk_core.specs.Effects.{markers_behind}
 use Rattle.mk_core.specs.Accesses.{found}
 use Rattle.mk_core.specs.Frames.{Steady, TurnIsLeft, Written, steady_of, written_of}
-use Rattle.mk_core.specs.History.{World, IsHistory, left}
-use Rattle.mk_core.specs.Moments.{Moment, others_are_held, outside}
-use Rattle.mk_core.specs.Ranges.{is_word}
+use Rattle.mk_core.specs.Moments.{Moment, outside}
 use Rattle.mk_core.specs.Readings.{Holds, NoneAttends}
 use Rattle.mk_core.specs.StopConditions.{is_attending, has_closed_page, none_attends, roots_point_well}
-use Rattle.mk_core.specs.Words.{Words, named_word, phase_of}
-use Rattle.mk_core.specs.declared.events.Event.{Event}
 use Rattle.mk_core.specs.Bounded.{all_below}
 use Rattle.mk_core.specs.Growing.{AreOfOthers, Finding}
 use Rattle.mk_core.proofs.Conditions.{enabled_meets}
-use Rattle.mk_words.specs.States.{PassState, TurnState, event_of, now_of, world_of}
+use Rattle.mk_words.specs.States.{event_of}
 use Rattle.mk_words.specs.Steps.{Finds, IsAdmittedTo, IsEnabledTo}
 use Rattle.mk_words.specs.TurnSteps.{Acts, world_at}
 use Rattle.mk_turns.proofs.Doing.{does_nothing, does_step, does_then, done_in_parts}
@@ -47,7 +45,7 @@ use Rattle.mk_turns.proofs.Sweeping.{does_sweep, sweeps_then}
 use Rattle.mk_tracing.proofs.Closes.{marks_closed_now}
 use Rattle.mk_cycle.specs.EngineLaw.{ClosesMarks, IsFreeForCycle}
 use Rattle.mk_cycle.specs.Kinds.{closes_marks, is_want}
-use Rattle.mk_why.specs.Stops.{IsStill, LooksOn, View, is_look, is_still_word, view_by, view_of}
+use Rattle.mk_why.specs.Stops.{is_look}
 
 -- Looks leave the view as it is, and so does what others do in the stop.
 
@@ -77,15 +75,15 @@ view_from s y marks blacks =
     }
 
 -- What leaves the holder its own in the stop leaves the view.
-pub view_left : (w v : World) → TurnIsLeft w v → written_of v ≡ written_of w → phase_of w.now.words ≡ 2
+pub view_left : {w v : World} → TurnIsLeft w v → written_of v ≡ written_of w → phase_of w.now.words ≡ 2
     → NoneAttends w.now → view_of v ≡ view_of w
 unfolding view_from
-view_left w v turn written two none =
+view_left {w} {v} turn written two none =
     let there = turn.stopped two none in
     ap (λ (x : Steady). view_from x (written_of v) v.now.words.marks v.now.words.blacks) turn.steady
     ∙ ap (λ (y : Written). view_from (steady_of w) y v.now.words.marks v.now.words.blacks) written
     ∙ ap (λ (xs : List ℕ). view_from (steady_of w) (written_of w) xs v.now.words.blacks) there.1
-    ∙ ap (λ (xs : List ℕ). view_from (steady_of w) (written_of w) w.now.words.marks xs) there.2
+    ∙ ap (view_from (steady_of w) (written_of w) w.now.words.marks) there.2
 
 markers_stay : (c : Config) (m : Moment) (seat : Seat) (n : ℕ) (s : Step) (l : Moment) → Holds c l seat
     → markers_behind c m seat n s ≡ m.seats.markers
@@ -96,15 +94,13 @@ markers_stay c m Host n s l holds = refl
 abbrev NoneOf : List MarkerState → Type 0
 NoneOf xs = (k : ℕ) → is_attending (slice_index_or xs k outside).presence ≡ false
 
-still_name : (w : Words) (x : Word) → is_still_word x ≡ true
-    → named_word (record w { phase = 0 }) x ≡ named_word w x
+still_name : (w : Words) (x : Word) → is_still_word x ≡ true → named_word (record w { phase = 0 }) x ≡ named_word w x
 still_name w word.Phase h = cc
 still_name w _ h = refl
 
 -- Any word may be looked at.
 module _ (p : PassState) (turn : InTurn p) (gates : others_are_held p.table.config.callers (now_of p).words p.seat
-    ≡ true)
-    (still : IsStill p) where
+    ≡ true) (still : IsStill p) where
   pub wanted_now : IsWanted p
   wanted_now = record { ready = ready_of p turn.history turn.holds still.free; phase = still.wanted; none = still.none }
 
@@ -119,9 +115,7 @@ module _ (t u : TurnState) (x : Word) (a : Acts t.pass (step.Look x) u.pass) (tu
     (gates : others_are_held t.pass.table.config.callers (now_of t.pass).words t.pass.seat ≡ true)
     (history : IsHistory u.pass.table.config u.pass.seen) (still : IsStill t.pass) where
   view_behind : view_by u.pass ≡ view_by t.pass
-  view_behind =
-      ap view_of a.world
-      ∙ view_left (world_of t.pass) (world_at a.makes) a.turn (a.stop (turn.holds, gates)) still.wanted still.none
+  view_behind = ap view_of a.world ∙ view_left a.turn (a.stop (turn.holds, gates)) still.wanted still.none
 
   keeps : LeavesTurn but_phase t.pass u.pass
   keeps = calm_keeps t.pass (step.Look x) u.pass a turn history refl still.free but_phase refl
@@ -169,8 +163,8 @@ looks_at_nothing t still =
       still = still;
     }
 
-pub looks_then : (t u v : TurnState) → LooksOn t u → LooksOn u v → LooksOn t v
-looks_then t u v one two =
+pub looks_then : {t u v : TurnState} → LooksOn t u → LooksOn u v → LooksOn t v
+looks_then {t} {u} {v} one two =
     record {
       table = two.table ∙ one.table;
       op = two.op ∙ one.op;
@@ -213,8 +207,8 @@ closes_by p on =
     let first = and_parts (none_attends m.seats.markers) (all_below c.pages (has_closed_page m.words)) parts.0 in
     record { none = first.0; pages = first.1; roots = parts.1 }
 
-pub still_closed : (p q : PassState) → ClosesMarks p q → IsFreeForCycle p → IsStill q
-still_closed p q law free =
+pub still_closed : {p q : PassState} → ClosesMarks p q → IsFreeForCycle p → IsStill q
+still_closed {p} {q} law free =
     record {
       free = free_then p q law.keeps.call free;
       wanted = law.phase;
@@ -248,8 +242,7 @@ look_closes (x ∷ xs) h =
     by (step.Look y) e = refl
     by _ e = cc
 
-none_wished : (xs : List Finding) → are_of is_look xs ≡ true
-    → count_by (λ (x : Finding). is_want x.event.step) xs ≡ 0
+none_wished : (xs : List Finding) → are_of is_look xs ≡ true → count_by (λ (x : Finding). is_want x.event.step) xs ≡ 0
 none_wished [] h = refl
 none_wished (x ∷ xs) h =
     let parts = and_parts (is_look x.event.step) (are_of is_look xs) h in
@@ -266,11 +259,10 @@ none_wished (x ∷ xs) h =
     by _ e = cc
 
 -- what is done is counted in parts
-counts_then : (kind kinds more both : Step → Bool) (p q r : PassState) (d : Does kinds p q) (e : Does more q r)
+counts_then : (kind : Step → Bool) {kinds more both : Step → Bool} {p q r : PassState} (d : Does kinds p q) (e : Does more q r)
     (f : Does both p r) → count_done kind f ≡ count_done kind d + count_done kind e
-counts_then kind kinds more both p q r d e f =
-    ap (λ (es : List Event). count_by test (done_in p es)) is
-    ∙ ap (λ (xs : List Finding). count_by test xs) (done_in_parts p d.more e.more)
+counts_then kind {p} {r} d e f =
+    ap (λ (es : List Event). count_by test (done_in p es)) is ∙ ap (count_by test) (done_in_parts p d.more e.more)
     ∙ sum_by-append (λ (x : Finding). cond (kind x.event.step) 1 0) (done_in p d.more)
     (done_in (record p { seen = p.seen ++ d.more }) e.more)
     ∙ ap (λ (x : PassState). count_done kind d + count_by test (done_in x e.more)) (sym d.is)
@@ -311,7 +303,7 @@ module _ (p : PassState) (t u : TurnState) (law : ClosesMarks p t.pass) (on : Lo
       let does = does_then closes_marks p t.pass u.pass law.does look_does in
       let none : count_done is_want on.does ≡ 0 = none_wished (done_in t.pass on.does.more) on.does.of_kinds in
       let one = law.one_want in
-      let both = counts_then is_want closes_marks is_look closes_marks p t.pass u.pass law.does on.does does in
+      let both = counts_then is_want law.does on.does does in
       record {
         does = does;
         one_want = omega arith;
@@ -325,11 +317,10 @@ look_marks : HaveNoMark is_look
 look_marks (step.Mark p v) h = absurd (true≢false (sym h))
 look_marks s h = refl
 
-pub sweepless_kept : (p : PassState) (t u : TurnState) → ClosesMarks p t.pass → LooksOn t u
+pub sweepless_kept : {p : PassState} {t u : TurnState} → ClosesMarks p t.pass → LooksOn t u
     → SweepsNothing p t.pass → SweepsNothing p u.pass
-sweepless_kept p t u law on one =
-    sweeps_then p t.pass u.pass law.keeps.call.pass one
-    (does_sweep is_look t.pass u.pass look_marks on.does)
+sweepless_kept {p} {t} {u} law on one =
+    sweeps_then p t.pass u.pass law.keeps.call.pass one (does_sweep is_look t.pass u.pass look_marks on.does)
 
 -- What others do leaves the view.
 pub others_still : (p : PassState) → InTurn p
@@ -339,5 +330,4 @@ pub others_still : (p : PassState) → InTurn p
 others_still p turn gates still others of_others history =
     let x = others_leave p.table.config p.seen others p.seat history.within_limits history.enabled
     (others_own p.seats p.seat others turn.own of_others) in
-    view_left (world_of p) (left p.table.config (p.seen ++ others)) (x.turn turn.holds).0
-    (x.stop (turn.holds, gates)) still.wanted still.none
+    view_left (x.turn turn.holds).0 (x.stop (turn.holds, gates)) still.wanted still.none

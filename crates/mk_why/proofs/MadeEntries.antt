@@ -10,23 +10,19 @@ use Rattle.std.proofs.lemmas.Bool.{and_parts, cases_lt, lt-ltb, not-true, true�
 use Rattle.std.proofs.lemmas.List.{get_or_read_under, length-append, length-map, length-reverse, map-append}
 use Rattle.std.proofs.lemmas.List.{reverse-append}
 use Rattle.std.proofs.lemmas.List.Elements.{Contains-append_left, Contains-push, Contains-push_cases}
-use Rattle.mk_core.specs.declared.config.Config.{Config}
-use Rattle.mk_core.specs.Allocations.{PlacedAllocation, is_mapped, placed_at, storage_of}
-use Rattle.mk_core.specs.ClosedMarks.{is_marked_allocation, is_scanned_allocation}
+use Rattle.mk_why.proofs.Vocabulary.{AreEntriesBelow, AreWays, BeginApart, Config, Found, IsLedBack, IsTold, IsWay}
+use Rattle.mk_why.proofs.Vocabulary.{IsWhy, Link, LinksLead, PlacedAllocation, Root, Start, Storage, View, base_at}
+use Rattle.mk_why.proofs.Vocabulary.{entry_at, is_kept, is_mapped, is_scanned_allocation, placed_at, storage_of}
+use Rattle.mk_why.proofs.Vocabulary.{world_in}
+use Rattle.mk_core.specs.ClosedMarks.{is_marked_allocation}
 use Rattle.mk_laws.proofs.MappedWords.{mapped_stays}
 use Rattle.mk_cycle.specs.FinishCycle.{is_in_snapshot_of_cycle}
-use Rattle.mk_why.specs.declared.found.Found.{Found}
-use Rattle.mk_why.specs.declared.found.Storage.{Storage}
 use Rattle.mk_why.specs.declared.found.Way.{Way}
-use Rattle.mk_why.specs.declared.found.Way.TheVariants.{Link, Start}
 use Rattle.mk_why.specs.declared.kept.Kept.{Kept}
-use Rattle.mk_why.specs.declared.kept.Root.{Root}
-use Rattle.mk_why.specs.Chains.{IsEntryOf, IsWhy, LinksLead, is_kept}
-use Rattle.mk_why.specs.Entries.{AreEntriesBelow, IsLed, IsLedBack, IsMadeOf, IsOneMore, IsToldWhy, IsWayOf, back_to}
-use Rattle.mk_why.specs.Entries.{root_of, step_back}
-use Rattle.mk_why.specs.Listing.{IsKeptAt, IsTold}
-use Rattle.mk_why.specs.Searching.{BeginApart, AreWays, IsOnward, IsWay, entry_at}
-use Rattle.mk_why.specs.Stops.{View, base_at, world_in}
+use Rattle.mk_why.specs.Chains.{IsEntryOf}
+use Rattle.mk_why.specs.Entries.{IsLed, IsMadeOf, IsOneMore, IsToldWhy, IsWayOf, back_to, root_of, step_back}
+use Rattle.mk_why.specs.Listing.{IsKeptAt}
+use Rattle.mk_why.specs.Searching.{IsOnward}
 
 -- what is read of a table
 pub read_at : {A : Type 0} → (xs : List (Option A)) (i : ℕ) (o : Option A) → o ≡ slice_index_or xs i o → i < length xs
@@ -108,8 +104,7 @@ module _ (c : Config) (v : View) (found : List (Option Found)) (ways : AreWays c
 
   ends_by : (way : Way) (links : ℕ) (pushed : List ℕ) (b count x : ℕ) → IsWay c v found way links x
       → LinksLead c (world_in v) x (reverse pushed) b → length pushed + links ≡ count
-      → step_back found (record { way = way; links = links }) ≡ None
-      → IsLed c v b count (root_of way) (reverse pushed)
+      → step_back found (record { way = way; links = links }) ≡ None → IsLed c v b count (root_of way) (reverse pushed)
   ends_by (Start root) links pushed b count x way leads sum is =
       record {
         start = root;
@@ -124,8 +119,7 @@ module _ (c : Config) (v : View) (found : List (Option Found)) (ways : AreWays c
 
   pub led_to_root : (f : Found) (pushed : List ℕ) (b count : ℕ) → IsLedBack c v found f pushed b count
       → step_back found f ≡ None → IsLed c v b count (root_of f.way) (reverse pushed)
-  led_to_root f pushed b count led is =
-      ends_by f.way f.links pushed b count led.number led.way led.leads led.sum is
+  led_to_root f pushed b count led is = ends_by f.way f.links pushed b count led.number led.way led.leads led.sum is
 
 -- Numbers that rise go on rising after a greater one.
 
@@ -190,8 +184,7 @@ module _ (c : Config) (v : View) (found : List (Option Found)) (kept : List (Opt
       )
 
   way_by : (b : ℕ) → (placed_at v.allocations b).released ≡ false → (o : Option Found)
-      → entry_at found (base_at v b) ≡ o
-      → IsWayOf c v found b o
+      → entry_at found (base_at v b) ≡ o → IsWayOf c v found b o
   way_by b u None is = tt
   way_by b u (Some f) is =
       let x = told.explored.ways (base_at v b) f is in
@@ -292,13 +285,12 @@ no_entries c v =
       each = λ b kept lt. absurd (omega arith);
     }
 
-pub entries_more : (c : Config) (v : View) (found : List (Option Found)) (kept : List (Option Storage))
-    → IsTold c found kept v → (base : ℕ) (es fs : List Kept) → (entry_at kept base ≡ None → fs ≡ es)
+pub entries_more : {c : Config} {v : View} {found : List (Option Found)} {kept : List (Option Storage)}
+    → IsTold c found kept v → {base : ℕ} {es : List Kept} (fs : List Kept) → (entry_at kept base ≡ None → fs ≡ es)
     → ((s : Storage) → entry_at kept base ≡ Some s → IsOneMore found s (entry_at found base) es fs)
     → AreEntriesBelow c v base es → AreEntriesBelow c v (base + 1) fs
-entries_more c v found kept told base es fs same more x = by (entry_at kept base) refl
+entries_more {c} {v} {found} {kept} told {base} {es} fs same more x = by (entry_at kept base) refl
   where
     by : (o : Option Storage) → entry_at kept base ≡ o → AreEntriesBelow c v (base + 1) fs
-    by None is =
-        subst (AreEntriesBelow c v (base + 1)) (sym (same is)) (entries_none c v found kept told base es is x)
+    by None is = subst (AreEntriesBelow c v (base + 1)) (sym (same is)) (entries_none c v found kept told base es is x)
     by (Some s) is = entries_some c v found kept told base es fs s is (more s is) x

@@ -2,19 +2,13 @@
 use Rattle.std.proofs.Common.{◌≡◌, ◌∙◌, ℕ, ◌+◌, ◌*◌, ◌/◌, ◌<◌, ◌≤◌, true, false, sym, ap, subst, inr, arith}
 use Rattle.std.specs.Prelude.{Option, None, Some, not}
 use Rattle.std.proofs.lemmas.Bool.{ne_eqb, true≢false, and_parts}
-use Rattle.mk_geom.specs.declared.addresses.Cell.{Cell}
-use Rattle.mk_core.specs.declared.config.Config.{Config}
-use Rattle.mk_core.specs.Allocations.{PlacedAllocation, cell_of_allocation, placed_at, storage_of, storage_words}
-use Rattle.mk_core.specs.Allocations.{is_mapped}
-use Rattle.mk_core.specs.Cells.{first_word, has_no_pointers, header_in, is_used, pointed_cell, words_under}
-use Rattle.mk_core.specs.ClosedMarks.{is_scanned_allocation}
-use Rattle.mk_core.specs.History.{World, IsHistory, never_behind}
-use Rattle.mk_core.specs.Touched.{PointsIntoAllocation}
-use Rattle.mk_core.specs.StandingAllocations.{object_placed}
-use Rattle.mk_core.specs.Bits.{has_bit}
-use Rattle.mk_core.specs.Words.{header_at, phase_of, used_at}
+use Rattle.mk_why.proofs.Vocabulary.{BeginApart, Cell, Config, IsFirstWord, IsHistory, IsStill, PassState}
+use Rattle.mk_why.proofs.Vocabulary.{PlacedAllocation, PointsIntoAllocation, WordsState, World, base_at}
+use Rattle.mk_why.proofs.Vocabulary.{cell_of_allocation, first_word, has_bit, header_at, header_in, header_of}
+use Rattle.mk_why.proofs.Vocabulary.{is_mapped, is_scanned_allocation, never_behind, now_of, object_placed, phase_of}
+use Rattle.mk_why.proofs.Vocabulary.{placed_at, storage_of, storage_words, used_at, view_by, words_under, world_of}
+use Rattle.mk_core.specs.Cells.{has_no_pointers, is_used, pointed_cell}
 use Rattle.mk_core.proofs.PointedPages.{pointed_within}
-use Rattle.mk_geom.specs.Headers.{header_of}
 use Rattle.mk_core.proofs.Sizes.{words_within}
 use Rattle.mk_core.proofs.StandingAllocations.{cells_begin, typed_size}
 use Rattle.mk_laws.specs.SettledPages.{IsSettled, StandsUsed}
@@ -23,11 +17,9 @@ use Rattle.mk_laws.proofs.KnownWorlds.{known_world}
 use Rattle.mk_laws.proofs.InvariantHistories.{histories_keep_the_invariant}
 use Rattle.mk_laws.proofs.InvariantTheorems.{allocations_are_disjoint, allocations_stand}
 use Rattle.mk_laws.proofs.Worlds.{Told, comes_back, hits}
-use Rattle.mk_words.specs.States.{PassState, WordsState, now_of, world_of}
 use Rattle.mk_sweep.proofs.ScannedCells.{scanned_stands, used_cell, used_is_taken}
 use Rattle.mk_laws.proofs.MappedWords.{mapped_stays}
-use Rattle.mk_why.specs.Searching.{BeginApart, AreScannedFrom, IsFirstWord, IsBasePointed, PointsAtBase}
-use Rattle.mk_why.specs.Stops.{IsStill, base_at, view_by}
+use Rattle.mk_why.specs.Searching.{AreScannedFrom, IsBasePointed, PointsAtBase}
 
 module _ (p : PassState) (history : IsHistory p.table.config p.seen) (still : IsStill p) where
   abbrev c : Config
@@ -68,16 +60,14 @@ module _ (p : PassState) (history : IsHistory p.table.config p.seen) (still : Is
       → (b : ℕ) → PointsIntoAllocation p.table.config (world_of p) value b → ⊥
   none_pointed value none b points = let some = into_cell value b points in cc
 
-  same_cell : (value b : ℕ) (cell : Cell)
-      → pointed_cell p.table.config.pages (now_of p).words.pages value ≡ Some cell
+  same_cell : (value b : ℕ) (cell : Cell) → pointed_cell p.table.config.pages (now_of p).words.pages value ≡ Some cell
       → PointsIntoAllocation p.table.config (world_of p) value b
       → cell_of_allocation p.table.config (placed_at (world_of p).allocations b) ≡ cell
   same_cell value b cell is points = let some = into_cell value b points in cc
 
   pub unused_pointed : (value : ℕ) (cell : Cell)
       → pointed_cell p.table.config.pages (now_of p).words.pages value ≡ Some cell
-      → is_used (now_of p).words cell ≡ false
-      → (b : ℕ) → PointsIntoAllocation p.table.config (world_of p) value b → ⊥
+      → is_used (now_of p).words cell ≡ false → (b : ℕ) → PointsIntoAllocation p.table.config (world_of p) value b → ⊥
   unused_pointed value cell is unused b points =
       true≢false (sym (stands b points.0).used ∙ ap (is_used (now_of p).words) (same_cell value b cell is points)
       ∙ unused)
@@ -95,7 +85,7 @@ module _ (p : PassState) (history : IsHistory p.table.config p.seen) (still : Is
         points = (
           x.unreleased,
           comes_back c w (never_behind c p.seen) told (inr still.wanted) x.number value x.unreleased
-              (is ∙ ap (λ (y : Cell). Some y) (sym x.is)),
+              (is ∙ ap Some (sym x.is)),
         );
         is = sym begins.0 ∙ ap (first_word (now_of p).words) x.is;
         only = λ b points. unreleased_are_apart c p.seen

@@ -5,24 +5,13 @@ use Rattle.std.specs.Prelude.{Option, None, Some, count_by, is_some, slice_index
 use Rattle.std.proofs.lemmas.Bool.{cases_lt}
 use Rattle.std.proofs.lemmas.List.{get_or_past, get_or_read_under}
 use Rattle.std.proofs.lemmas.List.Sums.{count_by-le-length}
-use Rattle.mk_core.specs.declared.config.Config.{Config}
-use Rattle.mk_core.specs.Allocations.{placed_at, storage_words}
-use Rattle.mk_core.specs.ClosedMarks.{is_scanned_allocation}
-use Rattle.mk_core.specs.History.{World}
-use Rattle.mk_core.specs.Touched.{PointsIntoAllocation}
-use Rattle.mk_core.specs.Words.{Words}
-use Rattle.mk_why.specs.declared.found.Found.{Found}
-use Rattle.mk_why.specs.declared.tables.Tables.{Tables}
-use Rattle.mk_why.specs.Searching.{IsFirstWord, IsSearched, IsFoundThrough, IsNoted, IsSearch, entry_at, links_in}
-use Rattle.mk_why.specs.Searching.{links_of}
-use Rattle.mk_why.specs.Stops.{View, base_at, view_of, world_in}
-use Rattle.mk_why.specs.declared.found.Storage.{Storage}
+use Rattle.mk_why.proofs.Vocabulary.{AreEntriesBelow, Config, Found, Global, IsFirstWord, IsFoundThrough, IsNoted}
+use Rattle.mk_why.proofs.Vocabulary.{IsSearch, IsSearched, IsTold, IsWhy, LinksLead, PointsIntoAllocation, Register}
+use Rattle.mk_why.proofs.Vocabulary.{Root, Storage, Tables, View, Words, World, base_at, entry_at}
+use Rattle.mk_why.proofs.Vocabulary.{is_scanned_allocation, links_in, links_of, placed_at, storage_words, view_of}
+use Rattle.mk_why.proofs.Vocabulary.{word_of_root, world_in}
 use Rattle.mk_why.specs.declared.kept.Kept.{Kept}
-use Rattle.mk_why.specs.declared.kept.Root.{Root}
-use Rattle.mk_why.specs.declared.kept.Root.TheVariants.{Global, Register}
-use Rattle.mk_why.specs.Chains.{AreKept, IsChain, IsEntryOf, IsLink, IsWhy, LinksLead, word_of_root}
-use Rattle.mk_why.specs.Entries.{AreEntriesBelow}
-use Rattle.mk_why.specs.Listing.{IsTold}
+use Rattle.mk_why.specs.Chains.{AreKept, IsChain, IsEntryOf, IsLink}
 
 -- What is done after the scan of an allocation's words.
 
@@ -34,13 +23,13 @@ within_table {A} xs i x is = elim (cases_lt i (length xs)) [
   | inr past ↦ let none : slice_index_or xs i None ≡ None = get_or_past xs i None past in absurd cc
 ]
 
-pub done_from : (c : Config) (v : View) (found : List (Option Found)) (base size links : ℕ)
+pub done_from : (c : Config) (v : View) {found : List (Option Found)} {base : ℕ} (size : ℕ) {links : ℕ}
     → IsFoundThrough found base links
     → ((b : ℕ) → base_at v b ≡ base → is_scanned_allocation c (placed_at v.allocations b) ≡ true
     → size ≡ storage_words c (placed_at v.allocations b))
     → ((i : ℕ) → i < size → IsNoted c v found (slice_index v.words.heap (base + i)) (links + 1))
     → IsSearched c v found base
-done_from c v found base size links through whole noted a n begins scanned word =
+done_from c v {found} {base} size {links} through whole noted a n begins scanned word =
     let all = whole a begins scanned in
     let low = word.0 in
     let high = word.1 in
@@ -149,20 +138,13 @@ module _ (c : Config) (w : World) where
         leads = leads_in links x.first b x.leads;
       }
 
-  why_out : (b : ℕ) (o : Option Root) (links : List ℕ) → IsWhy c (world_in (view_of w)) b o links
-      → IsWhy c w b o links
-  why_out b (Some root) links x =
-      (chain_out root links b x.0, λ r ls chain. x.1 r ls (chain_in r ls b chain))
+  why_out : (b : ℕ) (o : Option Root) (links : List ℕ) → IsWhy c (world_in (view_of w)) b o links → IsWhy c w b o links
+  why_out b (Some root) links x = (chain_out root links b x.0, λ r ls chain. x.1 r ls (chain_in r ls b chain))
   why_out b None links x = (x.0, λ r ls chain. x.1 r ls (chain_in r ls b chain))
 
   entry_out : (entry : Kept) (b : ℕ) → IsEntryOf c (world_in (view_of w)) entry b → IsEntryOf c w entry b
   entry_out entry b x =
-      record {
-        kept = x.kept;
-        address = x.address;
-        words = x.words;
-        why = why_out b entry.root entry.links.items x.why;
-      }
+      record { kept = x.kept; address = x.address; words = x.words; why = why_out b entry.root entry.links.items x.why }
 
   pub kept_of : (found : List (Option Found)) (kept : List (Option Storage)) (entries : List Kept)
       → IsTold c found kept (view_of w) → AreEntriesBelow c (view_of w) (length kept) entries → AreKept c w entries

@@ -2,18 +2,14 @@
 use Rattle.std.proofs.Common.{◌≡◌, ◌≢◌, ◌⊎◌, ◌∙◌, ℕ, ◌+◌, ◌*◌, ◌<◌, ◌≤◌, true, false, List, refl, sym, ap, subst, inl}
 use Rattle.std.proofs.Common.{inr, arith, length}
 use Rattle.std.specs.Prelude.{Option, None, Some, is_some, slice_index, slice_set}
-use borrow.Author.Count.{below_more}
 use Rattle.std.proofs.lemmas.Bool.{cases_Bool, cases_eq, cases_lt, true≢false}
 use Rattle.std.proofs.lemmas.List.{get_or-set_other, get_or-set_same, length-set}
-use Rattle.mk_core.specs.declared.config.Config.{Config}
-use Rattle.mk_words.specs.States.{TurnState}
-use Rattle.mk_why.specs.declared.found.Found.{Found}
+use Rattle.mk_why.proofs.Vocabulary.{AreWays, Config, FindsMore, Found, IsFound, IsFoundThrough, IsNoted, IsSearch}
+use Rattle.mk_why.proofs.Vocabulary.{IsStill, IsWay, Link, LooksOn, SearchesOn, Start, Tables, TurnState, View}
+use Rattle.mk_why.proofs.Vocabulary.{entry_at, links_in, links_of, view_by}
+use borrow.Author.Count.{below_more}
 use Rattle.mk_why.specs.declared.found.Way.{Way}
-use Rattle.mk_why.specs.declared.found.Way.TheVariants.{Link, Start}
-use Rattle.mk_why.specs.declared.tables.Tables.{Tables}
-use Rattle.mk_why.specs.Searching.{AreWays, FindsMore, IsFound, IsFoundAt, IsFoundThrough, IsNoted, IsQueued, IsSearch}
-use Rattle.mk_why.specs.Searching.{IsWay, IsFoundWithin, SearchesOn, entry_at, links_in, links_of}
-use Rattle.mk_why.specs.Stops.{IsStill, LooksOn, View, base_at, view_by}
+use Rattle.mk_why.specs.Searching.{IsFoundAt, IsQueued, IsFoundWithin}
 use Rattle.mk_why.proofs.Looks.{looks_at_nothing, looks_then}
 
 abbrev pub Stays : List (Option Found) → List (Option Found) → Type 0
@@ -44,78 +40,74 @@ found_stays c v found more stays base f x =
       way = way_stays c v found more stays f.way f.links x.number x.way;
     }
 
-pub within_stays : (found more : List (Option Found)) → Stays found more → (base limit : ℕ)
+pub within_stays : {found : List (Option Found)} (more : List (Option Found)) → Stays found more → {base limit : ℕ}
     → IsFoundWithin found base limit → IsFoundWithin more base limit
-within_stays found more stays base limit x =
+within_stays more stays {base} x =
     record { entry = x.entry; there = stays base x.entry x.there; near = x.near }
 
 pub noted_stays : (c : Config) (v : View) (found more : List (Option Found)) → Stays found more → (value limit : ℕ)
     → IsNoted c v found value limit → IsNoted c v more value limit
-noted_stays c v found more stays value limit x b points =
-    within_stays found more stays (base_at v b) limit (x b points)
+noted_stays c v found more stays value limit x b points = within_stays more stays (x b points)
 
 pub through_stays : (found more : List (Option Found)) → Stays found more → (base links : ℕ)
     → IsFoundThrough found base links → IsFoundThrough more base links
 through_stays found more stays base links x =
     record { entry = x.entry; there = stays base x.entry x.there; through = x.through }
 
-pub same_links : (found more : List (Option Found)) → Stays found more → (base : ℕ) → IsFound found base
+pub same_links : {found : List (Option Found)} (more : List (Option Found)) → Stays found more → {base : ℕ} → IsFound found base
     → links_in (entry_at more base) ≡ links_in (entry_at found base)
-same_links found more stays base x =
-    ap links_in (stays base x.entry x.there) ∙ sym (ap links_in x.there)
+same_links more stays {base} x = ap links_in (stays base x.entry x.there) ∙ sym (ap links_in x.there)
 
-pub links_stay : (r s : Tables) → FindsMore r s → (i : ℕ) → i < r.count
+pub links_stay : {r s : Tables} → FindsMore r s → (i : ℕ) → i < r.count
     → IsFound r.found.items (slice_index r.queue.items i) → links_of s i ≡ links_of r i
-links_stay r s g i lt x =
-    ap (λ n. links_in (entry_at s.found.items n)) (g.same i lt)
-    ∙ same_links r.found.items s.found.items g.stays (slice_index r.queue.items i) x
+links_stay {s} g i lt x =
+    ap (λ n. links_in (entry_at s.found.items n)) (g.same i lt) ∙ same_links s.found.items g.stays x
 
 -- It grows by nothing, and by one part after another.
 
 pub grows_nothing : (r : Tables) → FindsMore r r
 grows_nothing r = record { stays = λ base f h. h; same = λ i lt. refl; further = omega arith }
 
-pub grows_then : (r s x : Tables) → FindsMore r s → FindsMore s x → FindsMore r x
-grows_then r s x one two =
+pub grows_then : {r s x : Tables} → FindsMore r s → FindsMore s x → FindsMore r x
+grows_then one two =
     record {
       stays = λ base f h. two.stays base f (one.stays base f h);
       same = λ i lt. two.same i (let more = one.further in omega arith) ∙ one.same i lt;
       further = let a = one.further in let b = two.further in omega arith;
     }
 
-pub searches_nothing : (c : Config) (t : TurnState) (r : Tables) (limit : ℕ) → IsStill t.pass
+pub searches_nothing : {c : Config} (t : TurnState) {r : Tables} {limit : ℕ} → IsStill t.pass
     → IsSearch c (view_by t.pass) r limit → SearchesOn c t t r r limit
-searches_nothing c t r limit still search =
+searches_nothing t {r} still search =
     record { on = looks_at_nothing t still; search = search; grows = grows_nothing r }
 
-pub searches_then : (c : Config) (t u v : TurnState) (r s x : Tables) (limit : ℕ) → SearchesOn c t u r s limit
+pub searches_then : {c : Config} {t u v : TurnState} {r s x : Tables} {limit : ℕ} → SearchesOn c t u r s limit
     → SearchesOn c u v s x limit → SearchesOn c t v r x limit
-searches_then c t u v r s x limit one two =
+searches_then {c} {x} {limit} one two =
     record {
-      on = looks_then t u v one.on two.on;
+      on = looks_then one.on two.on;
       search = subst (λ (y : View). IsSearch c y x limit) one.on.view two.search;
-      grows = grows_then r s x one.grows two.grows;
+      grows = grows_then one.grows two.grows;
     }
 
 -- Looks before a part leave it.
-pub looks_search : (c : Config) (t u v : TurnState) (r s : Tables) (limit : ℕ) → LooksOn t u
+pub looks_search : {c : Config} {t u v : TurnState} {r s : Tables} {limit : ℕ} → LooksOn t u
     → SearchesOn c u v r s limit → SearchesOn c t v r s limit
-looks_search c t u v r s limit on two =
+looks_search {c} {s} {limit} on two =
     record {
-      on = looks_then t u v on two.on;
+      on = looks_then on two.on;
       search = subst (λ (y : View). IsSearch c y s limit) on.view two.search;
       grows = two.grows;
     }
 
-pub view_search : (c : Config) (t u : TurnState) (r : Tables) (limit : ℕ) → LooksOn t u
+pub view_search : {c : Config} {t u : TurnState} {r : Tables} {limit : ℕ} → LooksOn t u
     → IsSearch c (view_by t.pass) r limit → IsSearch c (view_by u.pass) r limit
-view_search c t u r limit on search = subst (λ (y : View). IsSearch c y r limit) (sym on.view) search
+view_search {c} {r} {limit} on search = subst (λ (y : View). IsSearch c y r limit) (sym on.view) search
 
-pub part_noted : (c : Config) (t u : TurnState) (found : List (Option Found)) (value : View → ℕ) (limit : ℕ)
+pub part_noted : (c : Config) {t u : TurnState} (found : List (Option Found)) (value : View → ℕ) (limit : ℕ)
     → LooksOn t u → IsNoted c (view_by u.pass) found (value (view_by u.pass)) limit
     → IsNoted c (view_by t.pass) found (value (view_by t.pass)) limit
-part_noted c t u found value limit on noted =
-    subst (λ (y : View). IsNoted c y found (value y) limit) on.view noted
+part_noted c found value limit on noted = subst (λ (y : View). IsNoted c y found (value y) limit) on.view noted
 
 -- what values point into, one value more
 pub more_noted : (c : Config) (v : View) (found more : List (Option Found)) → Stays found more → (value : ℕ → ℕ)
@@ -126,9 +118,9 @@ more_noted c v found more stays value limit i before here =
     (λ k lt. noted_stays c v found more stays (value k) limit (before k lt)) here
 
 -- Another limit.
-pub limit_of : (c : Config) (v : View) (r : Tables) (limit more : ℕ) → IsSearch c v r limit
+pub limit_of : {c : Config} {v : View} {r : Tables} {limit : ℕ} (more : ℕ) → IsSearch c v r limit
     → ((i : ℕ) → i < r.count → links_of r i ≤ more) → IsSearch c v r more
-limit_of c v r limit more search below =
+limit_of more search below =
     record {
       size = search.size;
       ways = search.ways;
@@ -154,14 +146,12 @@ module _ (c : Config) (v : View) (r s : Tables) (base : ℕ) (f : Found) (search
       ap (λ (xs : List (Option Found)). entry_at xs k) found ∙ get_or-set_other r.found.items base k (Some f) None ne
 
   not_there : (k : ℕ) (g : Found) → entry_at r.found.items k ≡ Some g → k ≢ base
-  not_there k g h e =
-      true≢false (ap is_some (sym h) ∙ ap (λ n. is_some (entry_at r.found.items n)) e ∙ none)
+  not_there k g h e = true≢false (ap is_some (sym h) ∙ ap (λ n. is_some (entry_at r.found.items n)) e ∙ none)
 
   last : slice_index s.queue.items r.count ≡ base
   last =
-      ap (λ (xs : List ℕ). slice_index xs r.count) queue
-      ∙ get_or-set_same r.queue.items r.count base 0
-      (let size = ap (λ (xs : List ℕ). length xs) queue ∙ length-set r.queue.items r.count base in omega arith)
+      ap (λ (xs : List ℕ). slice_index xs r.count) queue ∙ get_or-set_same r.queue.items r.count base 0
+      (let size = ap length queue ∙ length-set r.queue.items r.count base in omega arith)
 
   earlier : (i : ℕ) → i < r.count → slice_index s.queue.items i ≡ slice_index r.queue.items i
   earlier i few =
@@ -170,14 +160,10 @@ module _ (c : Config) (v : View) (r s : Tables) (base : ℕ) (f : Found) (search
 
   pub note_grows : FindsMore r s
   note_grows =
-      record {
-        stays = λ k g h. elsewhere k (not_there k g h) ∙ h;
-        same = earlier;
-        further = omega arith;
-      }
+      record { stays = λ k g h. elsewhere k (not_there k g h) ∙ h; same = earlier; further = omega arith }
 
   links_before : (i : ℕ) → i < r.count → links_of s i ≡ links_of r i
-  links_before i few = links_stay r s note_grows i few (search.entries i few)
+  links_before i few = links_stay note_grows i few (search.entries i few)
 
   links_last : links_of s r.count ≡ f.links
   links_last = ap (λ n. links_in (entry_at s.found.items n)) last ∙ ap links_in there
@@ -198,7 +184,7 @@ module _ (c : Config) (v : View) (r s : Tables) (base : ℕ) (f : Found) (search
   note_search : f.links ≤ r.count → IsFoundAt c v r.found.items base f → IsSearch c v s f.links
   note_search shallow way =
       record {
-        size = ap (λ (xs : List (Option Found)). length xs) found ∙ length_set ∙ search.size;
+        size = ap length found ∙ length_set ∙ search.size;
         ways = ways;
         entries = entries;
         queued = queued;
@@ -215,11 +201,10 @@ module _ (c : Config) (v : View) (r s : Tables) (base : ℕ) (f : Found) (search
         | inl e ↦
             let both : Some g ≡ Some f = sym h ∙ ap (λ n. entry_at s.found.items n) e ∙ there in
             let same : g ≡ f = cc in
-            subst (λ (y : Found). IsFoundAt c v s.found.items k y) (sym same)
+            subst (IsFoundAt c v s.found.items k) (sym same)
             (subst (λ n. IsFoundAt c v s.found.items n f) (sym e)
             (found_stays c v r.found.items s.found.items note_grows.stays base f way))
-        | inr ne ↦
-            found_stays c v r.found.items s.found.items note_grows.stays k g
+        | inr ne ↦ found_stays c v r.found.items s.found.items note_grows.stays k g
             (search.ways k g (sym (elsewhere k ne) ∙ h))
       ]
 
@@ -236,8 +221,7 @@ module _ (c : Config) (v : View) (r s : Tables) (base : ℕ) (f : Found) (search
             record {
               entry = f;
               there = ap (λ n. entry_at s.found.items (slice_index s.queue.items n)) e
-                  ∙ ap (λ n. entry_at s.found.items n) last
-                  ∙ there;
+                  ∙ ap (λ n. entry_at s.found.items n) last ∙ there;
             }
       ]
 
@@ -281,16 +265,15 @@ pub record Notes (c : Config) (v : View) (r s : Tables) (base limit : ℕ) : Typ
   pub grows : FindsMore r s
   pub within : IsFoundWithin s.found.items base limit
 
-pub notes : (c : Config) (v : View) (r s : Tables) (base : ℕ) (f : Found) → IsSearch c v r f.links
+pub notes : {c : Config} {v : View} {r : Tables} (s : Tables) {base : ℕ} {f : Found} → IsSearch c v r f.links
     → base < length r.found.items → (is_some (entry_at r.found.items base) ≡ true → s ≡ r)
     → (is_some (entry_at r.found.items base) ≡ false → s.found.items ≡ slice_set r.found.items base (Some f))
     → (is_some (entry_at r.found.items base) ≡ false → s.queue.items ≡ slice_set r.queue.items r.count base)
     → (is_some (entry_at r.found.items base) ≡ false → s.count ≡ r.count + 1) → s.count ≤ length s.queue.items
     → f.links ≤ r.count → IsFoundAt c v r.found.items base f → Notes c v r s base f.links
-notes c v r s base f search lt known noted last more room shallow way =
+notes {c} {v} {r} s {base} {f} search lt known noted last more room shallow way =
     elim (cases_Bool (is_some (entry_at r.found.items base))) [
-      | inl there ↦
-          subst (λ (x : Tables). Notes c v r x base f.links) (sym (known there))
+      | inl there ↦ subst (λ (x : Tables). Notes c v r x base f.links) (sym (known there))
           (record {
             search = search;
             grows = grows_nothing r;

@@ -1,12 +1,8 @@
 -- What chains lead to is swept, link by link.
 use Rattle.std.proofs.Common.{ℕ, ◌+◌, ◌*◌, List, [], ◌∷◌, refl, subst}
 use Rattle.std.specs.Prelude.{slice_index}
-use Rattle.mk_core.specs.declared.config.Config.{Config}
-use Rattle.mk_core.specs.History.{World}
+use Rattle.mk_why.proofs.Vocabulary.{Config, Global, LinksLead, Register, Root, World, word_of_root}
 use Rattle.mk_sweep.specs.Swept.{IsSwept, IsSweptValue, InGlobal, InRegister, InWord}
-use Rattle.mk_why.specs.declared.kept.Root.{Root}
-use Rattle.mk_why.specs.declared.kept.Root.TheVariants.{Global, Register}
-use Rattle.mk_why.specs.Chains.{LinksLead, word_of_root}
 use Rattle.mk_why.specs.SweptChains.{ChainsAreSwept}
 
 root_swept : (c : Config) (w : World) (root : Root) → IsSweptValue c w (word_of_root w.now.words root)

@@ -1,33 +1,25 @@
 -- What is told after the looks, whatever others do.
 use Rattle.std.proofs.Common.{◌≡◌, ◌∙◌, ℕ, true, List, [], ◌++◌, sym, ap, subst, append-nil}
 use Rattle.std.specs.Prelude.{Option}
-use Rattle.mk_core.specs.declared.config.Config.{Config}
-use Rattle.mk_core.specs.declared.events.Event.{Event}
+use Rattle.mk_why.proofs.Vocabulary.{AreOfKept, BeginApart, Config, Event, Found, IsHistory, IsListed, IsTold, ListsOn}
+use Rattle.mk_why.proofs.Vocabulary.{LooksOn, PassState, Storage, Tables, TurnState, View, WordsState, World, base_at}
+use Rattle.mk_why.proofs.Vocabulary.{is_kept, left, now_of, others_are_held, view_by, view_of, world_in, world_of}
 use Rattle.mk_core.specs.Growing.{AreOfOthers}
-use Rattle.mk_core.specs.History.{IsHistory, World, left}
-use Rattle.mk_core.specs.Moments.{others_are_held}
-use Rattle.mk_words.specs.States.{PassState, TurnState, WordsState, now_of, world_of}
 use Rattle.mk_cycle.specs.Telling.{IsToldOf}
 use Rattle.mk_cycle.specs.TurnKeeps.{InTurn}
-use Rattle.mk_why.specs.declared.found.Found.{Found}
-use Rattle.mk_why.specs.declared.found.Storage.{Storage}
-use Rattle.mk_why.specs.declared.tables.Tables.{Tables}
-use Rattle.mk_why.specs.Chains.{is_kept}
-use Rattle.mk_why.specs.Listing.{AreOfKept, IsListed, IsTold, ListsOn}
-use Rattle.mk_why.specs.Searching.{BeginApart, IsExplored}
-use Rattle.mk_why.specs.Stops.{IsToldBefore, LooksOn, View, base_at, view_by, view_of, world_in}
+use Rattle.mk_why.specs.Searching.{IsExplored}
+use Rattle.mk_why.specs.Stops.{IsToldBefore}
 use Rattle.mk_why.proofs.Looks.{others_still}
 
 -- the two tables, of the view after the engine's marks
-pub told_by : (k : Config) (t u : TurnState) (a b d : Tables) → LooksOn t u
+pub told_by : {k : Config} {t u : TurnState} (a : Tables) {b d : Tables} → LooksOn t u
     → IsExplored k (view_by t.pass) a.found.items → BeginApart (view_by t.pass) → b.found ≡ a.found
     → ListsOn k (view_by u.pass) b d
     → ((n : ℕ) → is_kept k (world_in (view_by u.pass)) n ≡ true → IsListed d.kept.items (base_at (view_by u.pass) n))
     → IsTold k d.found.items d.kept.items (view_by t.pass)
-told_by k t u a b d on explored apart same lists each =
+told_by {k} {t} a {d} on explored apart same lists each =
     record {
-      explored = subst (λ (xs : List (Option Found)). IsExplored k (view_by t.pass) xs)
-          (sym (ap (λ x. x.items) (lists.found ∙ same))) explored;
+      explored = subst (IsExplored k (view_by t.pass)) (sym (ap (λ x. x.items) (lists.found ∙ same))) explored;
       apart = apart;
       of_kept = subst (λ (v : View). AreOfKept k v d.kept.items) on.view lists.of_kept;
       each = subst (λ (v : View). (n : ℕ) → is_kept k (world_in v) n ≡ true → IsListed d.kept.items (base_at v n))
@@ -43,8 +35,7 @@ told_now : (tells : Config → World → Type 0) (p : PassState) → IsHistory p
     → tells p.table.config (world_of p)
 told_now tells p history told =
     subst (λ (es : List Event). tells p.table.config (left p.table.config es)) (append-nil p.seen)
-    (told [] (nothing_of_others p)
-    (subst (λ (es : List Event). IsHistory p.table.config es) (sym (append-nil p.seen)) history))
+    (told [] (nothing_of_others p) (subst (IsHistory p.table.config) (sym (append-nil p.seen)) history))
 
 module _ (tells : Config → World → Type 0) (k : WordsState) (t u : TurnState) (on : LooksOn t u)
     (history : IsHistory t.pass.table.config t.pass.seen) (told : IsToldOf tells t.pass) (same : t.pass.table ≡ k)
@@ -63,5 +54,5 @@ module _ (tells : Config → World → Type 0) (k : WordsState) (t u : TurnState
       let second : IsTold c found kept (view_by t.pass) =
       subst (λ (x : WordsState). IsTold x.config found kept (view_by t.pass)) (sym table) tables in (
         record { before = world_of t.pass; told = first; view = view },
-        subst (λ (v : View). IsTold c found kept v) (sym view) second,
+        subst (IsTold c found kept) (sym view) second,
       )

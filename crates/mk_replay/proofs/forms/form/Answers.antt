@@ -1,8 +1,8 @@
 use Rattle.std.proofs.Common.{◌≡◌, ◌≤◌, ◌-◌, ℕ, List, [], ◌∷◌, length, get_or, take, drop, Bor, ap, refl, sym, ◌∙◌}
 use Rattle.std.proofs.Common.{arith}
 use Rattle.std.proofs.lemmas.List.{take_all, length-drop}
-use Rattle.mk_script.specs.Words.{texts_of}
-use Rattle.mk_replay.specs.Forms.{form_of, with_table_word, value_among, forms_of_word}
+use Rattle.mk_replay.proofs.Vocabulary.{texts_of, value_among}
+use Rattle.mk_replay.specs.Forms.{form_of, with_table_word, forms_of_word}
 use Rattle.mk_replay.proofs.forms.form.Goals as goal
 
 -- more than three words
@@ -20,8 +20,7 @@ looks : (words : List (Bor (List ℕ))) (d : Bor (List ℕ)) → 4 ≤ length wo
     (texts_of (take (length words - 1) (drop 1 words))) ≡ form_of (texts_of words)
 looks words d more =
     ap (λ left. with_table_word (value_among forms_of_word (get_or words 0 d).now) (texts_of left))
-    (take_all (length words - 1) (drop 1 words) (omega (arith, length-drop 1 words)))
-    ∙ sym (many words d more)
+    (take_all (length words - 1) (drop 1 words) (omega (arith, length-drop 1 words))) ∙ sym (many words d more)
 
 pub returns-in-len1-up : goal.returns-in-len1-up
 returns-in-len1-up c = c.look.ensures ∙ looks c.args.words.now _ c.in-len1-up.len_at_least

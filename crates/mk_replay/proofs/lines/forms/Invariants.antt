@@ -1,5 +1,6 @@
 use Rattle.std.proofs.Common.{◌≡◌, ◌∷◌, map, take}
-use Rattle.mk_script.specs.Words.{texts_of, words_of_line}
+use Rattle.mk_replay.proofs.Vocabulary.{texts_of}
+use Rattle.mk_script.specs.Words.{words_of_line}
 use Rattle.mk_replay.specs.Schedules.{forms_of}
 use Rattle.mk_replay.specs.Entries.{forms_so_far}
 use Rattle.mk_replay.proofs.lines.forms.Given as goal

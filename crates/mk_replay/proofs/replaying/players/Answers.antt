@@ -1,7 +1,6 @@
-use Rattle.std.proofs.Common.{List, [], ℕ, sym, subst, rules}
+use Rattle.std.proofs.Common.{[], ℕ, sym, subst, rules}
 use Rattle.std.specs.Prelude.{None}
-use Rattle.mk_replay.specs.declared.players.Player.{Player}
-use Rattle.mk_replay.specs.Players.{IsPlayerOf, ArePlayersOf}
+use Rattle.mk_replay.proofs.Vocabulary.{ArePlayersOf, IsPlayerOf}
 use Rattle.mk_replay.proofs.RunLaws.{players_push}
 use Rattle.mk_replay.proofs.replaying.players.Goals as goal
 
@@ -9,9 +8,8 @@ pub loop-script-preserved : goal.loop-script-preserved
 loop-script-preserved c = record {
   count = search rules;
   players =
-      subst (λ (xs : List Player). ArePlayersOf c.args.program.now [] xs) (sym c.in_ok-push.ensures.items)
-      (players_push c.args.program.now c.loop-script.players.items c.in_ok-player.player c.loop-script.invariant.players
+      subst (ArePlayersOf c.args.program.now []) (sym c.in_ok-push.ensures.items)
+      (players_push c.loop-script.players.items c.loop-script.invariant.players
       (subst (λ (i : ℕ). IsPlayerOf c.args.program.now i (record { answers = []; kept = None }) c.in_ok-player.player)
-      (sym c.loop-script.invariant.count)
-      c.in_ok-player.ensures));
+      (sym c.loop-script.invariant.count) c.in_ok-player.ensures));
 }

@@ -1,9 +1,10 @@
 use Rattle.std.proofs.Common.{◌≡◌, ◌≢◌, ◌<◌, Ok, Err, Result, sym, subst, rules}
 use Rattle.std.specs.Prelude.{Some}
 use Rattle.std.specs.Result.{IfErr, IsErrAnd}
+use Rattle.mk_replay.proofs.Vocabulary.{history_of}
 use Rattle.mk_replay.specs.declared.replaying.ReplayStop.TheVariants.{NoMemory}
 use Rattle.mk_check.specs.Laws.{IsChecked}
-use Rattle.mk_replay.specs.Replays.{refusal_of, history_of}
+use Rattle.mk_replay.specs.Replays.{refusal_of}
 use Rattle.mk_replay.proofs.UnderWay.{room_of, next_under_way, refused_here, over}
 use Rattle.mk_replay.proofs.AdmittedSchedules.{schedule_is_history, schedule_keeps_all_promises}
 use Rattle.mk_replay.proofs.replaying.replay.Goals as goal
@@ -17,16 +18,14 @@ handed_on (Err handed) stop P is told = subst P (sym is) told
 pub step-requires : goal.step-requires
 step-requires c =
     let few : c.loop-entry.entry-index < 18446744073709551615 = search rules in
-    room_of c.args.program.now c.args.schedule.now c.loop-entry.entry-index c.loop-entry.run c.loop-entry.invariant few
+    room_of c.loop-entry.invariant few
 
 pub returns-in_err-step-clause-not_enabled : goal.returns-in_err-step-clause-not_enabled
 returns-in_err-step-clause-not_enabled c =
     let h = c.loop-entry.invariant in
     let stop = c.in_err-step.field-0.0 in
     let refused : stop ≢ NoMemory → refusal_of c.args.program.now c.args.schedule.now ≡ Some stop =
-    λ ne. refused_here c.args.program.now c.args.schedule.now c.entries-entry-items.result.now c.loop-entry.entry-index
-    c.loop-entry.run _ stop
-    c.entries-entry-items.ensures c.loop-entry-test.true h
+    λ ne. refused_here c.entries-entry-items.result.now _ c.entries-entry-items.ensures c.loop-entry-test.true h
     (c.in_err-step.ensures.stop c.args.program.now h.events h.is_run ne) in
     handed_on c.from_residual-in_err-step.result stop
     (λ stop'. stop' ≢ NoMemory
@@ -35,28 +34,23 @@ returns-in_err-step-clause-not_enabled c =
 pub loop-entry-preserved : goal.loop-entry-preserved
 loop-entry-preserved c =
     let h = c.loop-entry.invariant in
-    next_under_way c.args.program.now c.args.schedule.now c.entries-entry-items.result.now c.loop-entry.entry-index
-    c.loop-entry.run c.step.new.self _
-    c.entries-entry-items.ensures c.loop-entry-test.true h
+    next_under_way c.entries-entry-items.result.now _ c.entries-entry-items.ensures c.loop-entry-test.true h
     (c.in_ok-step.ensures.ok c.args.program.now h.events h.is_run)
 
 pub returns-clause-enabled : goal.returns-clause-enabled
 returns-clause-enabled c =
-    (over c.args.program.now c.args.schedule.now c.entries-entry-items.result.now c.loop-entry.entry-index
-    c.loop-entry.run
+    (over c.entries-entry-items.result.now
     c.entries-entry-items.ensures c.loop-entry-test.false c.loop-entry.invariant).refusal
 
 pub returns-clause-history : goal.returns-clause-history
 returns-clause-history c =
-    (over c.args.program.now c.args.schedule.now c.entries-entry-items.result.now c.loop-entry.entry-index
-    c.loop-entry.run
+    (over c.entries-entry-items.result.now
     c.entries-entry-items.ensures c.loop-entry-test.false c.loop-entry.invariant).enabled
 
 pub returns-clause-texts : goal.returns-clause-texts
 returns-clause-texts c =
     c.in_ok-texts.ensures c.args.program.now (history_of c.args.program.now c.args.schedule.now)
-    (over c.args.program.now c.args.schedule.now c.entries-entry-items.result.now c.loop-entry.entry-index
-    c.loop-entry.run
+    (over c.entries-entry-items.result.now
     c.entries-entry-items.ensures c.loop-entry-test.false c.loop-entry.invariant).is_run
 
 -- The scripts of a checked program ask for nothing that isn't admitted.
@@ -66,9 +60,8 @@ returns-clause-admitted c =
     let known = c.program-well_typed.ensures in
     let checked : IsChecked c.args.program.now =
     record { well_typed = known.well_typed; of_some_text = known.of_some_text } in
-    (schedule_is_history c.args.program.now c.args.schedule.now checked
-    (over c.args.program.now c.args.schedule.now c.entries-entry-items.result.now c.loop-entry.entry-index
-    c.loop-entry.run
+    (schedule_is_history c.args.schedule.now checked
+    (over c.entries-entry-items.result.now
     c.entries-entry-items.ensures c.loop-entry-test.false c.loop-entry.invariant).enabled).admitted
 
 pub returns-clause-promises : goal.returns-clause-promises
@@ -77,6 +70,5 @@ returns-clause-promises c =
     let checked : IsChecked c.args.program.now =
     record { well_typed = known.well_typed; of_some_text = known.of_some_text } in
     schedule_keeps_all_promises c.args.program.now c.args.schedule.now checked
-    (over c.args.program.now c.args.schedule.now c.entries-entry-items.result.now c.loop-entry.entry-index
-    c.loop-entry.run
+    (over c.entries-entry-items.result.now
     c.entries-entry-items.ensures c.loop-entry-test.false c.loop-entry.invariant).enabled

@@ -6,8 +6,7 @@ use Rattle.mk_replay.proofs.schedule_parsing.entries.Goals as goal
 
 pub loop-index-preserved : goal.loop-index-preserved
 loop-index-preserved c =
-    step c.args.lines.now c.loop-index.index c.args.first c.loop-index.entries.items c.line_entries.new.entries.items _
-    c.loop-index-test.true c.in_default.ensures
+    step c.args.lines.now c.loop-index.index c.args.first _ c.loop-index-test.true c.in_default.ensures
     ∙ c.loop-index.invariant
 
 pub returns-in-Err-clause-fault : goal.returns-in-Err-clause-fault
@@ -16,8 +15,7 @@ returns-in-Err-clause-fault c = λ memory.
     let memory' : stop_at (c.args.first + c.loop-index.index) c.in-Err.stop ≢ NoMemory = λ e. memory (is ∙ e) in
     sym c.loop-index.invariant
     ∙ stops c.args.lines.now c.loop-index.index c.args.first c.loop-index.entries.items _ c.in-Err.stop
-    c.loop-index-test.true c.in-Err.ensures memory'
-    ∙ ap Err (sym is)
+    c.loop-index-test.true c.in-Err.ensures memory' ∙ ap Err (sym is)
 
 pub returns-clause-entries : goal.returns-clause-entries
 returns-clause-entries c =

@@ -1,7 +1,6 @@
 use Rattle.std.proofs.Common.{◌≡◌, drop}
 use Rattle.std.specs.List.{position_from}
-use Rattle.mk_script.specs.Words.{texts_of}
-use Rattle.mk_replay.specs.Schedules.{is_schedule_line}
+use Rattle.mk_replay.proofs.Vocabulary.{is_schedule_line, texts_of}
 use Rattle.mk_replay.proofs.schedule_parsing.schedule_place.Given as goal
 
 -- the lines that are left decide

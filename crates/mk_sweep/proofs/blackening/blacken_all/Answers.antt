@@ -1,6 +1,5 @@
-use Rattle.std.proofs.Common.{ℕ, [], refl, arith}
-use Rattle.mk_tracing.specs.Stops.{still_words}
-use Rattle.mk_sweep.specs.Sweeping.{PageIsBlack}
+use Rattle.std.proofs.Common.{refl, arith}
+use Rattle.mk_sweep.proofs.Vocabulary.{PageIsBlack, still_words}
 use Rattle.mk_sweep.proofs.Blacks.{blacks_same, blacks_then, cells_then, closed_kept, page_stays_black}
 use Rattle.mk_sweep.proofs.SweepSteps.{quiet_then, sweeps_from}
 use Rattle.mk_sweep.proofs.blackening.blacken_all.Goals as goal
@@ -15,20 +14,16 @@ loop-page-init c =
     }
 
 pub blacken_page-requires-clause-closed : goal.blacken_page-requires-clause-closed
-blacken_page-requires-clause-closed c =
-    closed_kept c.args.words.now.config (still_words c.args.stop.now.pass) (still_words c.loop-page.stop.pass)
-    c.loop-page.invariant.more c.requires.closed
+blacken_page-requires-clause-closed c = closed_kept c.loop-page.invariant.more c.requires.closed
 
 pub loop-page-preserved : goal.loop-page-preserved
 loop-page-preserved c =
-    let w = still_words c.args.stop.now.pass in
     let v = still_words c.loop-page.stop.pass in
     let x = still_words c.blacken_page.new.stop.pass in
     record {
-      on = quiet_then c.args.stop.now c.loop-page.stop c.blacken_page.new.stop [] c.loop-page.invariant.on
-          c.blacken_page.ensures.on;
-      more = blacks_then w v x c.loop-page.invariant.more c.blacken_page.ensures.more;
-      black = cells_then (λ (p : ℕ). PageIsBlack v p) (λ (p : ℕ). PageIsBlack x p) c.loop-page.page
-          (λ p was. page_stays_black v x p c.blacken_page.ensures.more was) c.loop-page.invariant.black
+      on = quiet_then c.loop-page.invariant.on c.blacken_page.ensures.on;
+      more = blacks_then c.loop-page.invariant.more c.blacken_page.ensures.more;
+      black = cells_then (PageIsBlack v) (PageIsBlack x) c.loop-page.page
+          (λ p was. page_stays_black p c.blacken_page.ensures.more was) c.loop-page.invariant.black
           c.blacken_page.ensures.black;
     }

@@ -1,9 +1,6 @@
-use Rattle.std.proofs.Common.{◌≡◌, ◌∙◌, ◌<◌, [], true, refl, ap, subst, sym, arith}
+use Rattle.std.proofs.Common.{◌≡◌, ◌∙◌, ◌<◌, true, refl, ap, subst, sym, arith}
 use Rattle.std.specs.Prelude.{slice_index}
-use Rattle.mk_core.specs.Bits.{has_bit}
-use Rattle.mk_core.specs.Cells.{cells_under, header_in}
-use Rattle.mk_core.specs.Words.{Words}
-use Rattle.mk_tracing.specs.Stops.{still_words}
+use Rattle.mk_sweep.proofs.Vocabulary.{Words, cells_under, has_bit, header_in, still_words}
 use Rattle.mk_sweep.proofs.Blacks.{blacks_same, blacks_then, cells_then, closed_kept, may_turn}
 use Rattle.mk_sweep.proofs.SweepSteps.{quiet_then, sweeps_from}
 use Rattle.mk_sweep.proofs.blackening.blacken_cells.Goals as goal
@@ -19,11 +16,8 @@ loop-index-init c =
 
 pub blacken_if_marked-requires-clause-turns : goal.blacken_if_marked-requires-clause-turns
 blacken_if_marked-requires-clause-turns c marked =
-    let w = still_words c.args.stop.now.pass in
-    let v = still_words c.loop-index.stop.pass in
     let more = c.loop-index.invariant.more in
-    may_turn c.args.words.now.config v (record { page = c.args.page; index = c.loop-index.index })
-    (closed_kept c.args.words.now.config w v more c.requires.closed)
+    may_turn (record { page = c.args.page; index = c.loop-index.index }) (closed_kept more c.requires.closed)
     (subst (λ n. c.loop-index.index < n)
     (c.requires.count ∙ sym (ap (λ (x : Words). cells_under (header_in x c.args.page)) more.is)) (omega arith))
     (ap (λ (x : Words). has_bit (slice_index x.marks c.args.page) c.loop-index.index) more.is
@@ -31,19 +25,15 @@ blacken_if_marked-requires-clause-turns c marked =
 
 pub loop-index-preserved : goal.loop-index-preserved
 loop-index-preserved c =
-    let w = still_words c.args.stop.now.pass in
     let v = still_words c.loop-index.stop.pass in
     let x = still_words c.blacken_if_marked.new.stop.pass in
     record {
-      on = quiet_then c.args.stop.now c.loop-index.stop c.blacken_if_marked.new.stop [] c.loop-index.invariant.on
-          c.blacken_if_marked.ensures.on;
-      more = blacks_then w v x c.loop-index.invariant.more c.blacken_if_marked.ensures.more;
-      black = cells_then
-          (λ k. has_bit c.args.marks k ≡ true → has_bit (slice_index v.blacks c.args.page) k ≡ true)
+      on = quiet_then c.loop-index.invariant.on c.blacken_if_marked.ensures.on;
+      more = blacks_then c.loop-index.invariant.more c.blacken_if_marked.ensures.more;
+      black = cells_then (λ k. has_bit c.args.marks k ≡ true → has_bit (slice_index v.blacks c.args.page) k ≡ true)
           (λ k. has_bit c.args.marks k ≡ true → has_bit (slice_index x.blacks c.args.page) k ≡ true)
           c.loop-index.index (λ k was h. c.blacken_if_marked.ensures.more.grow c.args.page k (was h))
-          c.loop-index.invariant.black
-          (λ h. c.blacken_if_marked.ensures.black (c.has_bit.ensures ∙ h));
+          c.loop-index.invariant.black (λ h. c.blacken_if_marked.ensures.black (c.has_bit.ensures ∙ h));
     }
 
 pub returns-clause-black : goal.returns-clause-black

@@ -1,8 +1,6 @@
 use Rattle.std.proofs.Common.{◌≡◌, ℕ, ◌<◌, [], true}
 use Rattle.std.specs.Prelude.{slice_index}
-use Rattle.mk_core.specs.Bits.{has_bit}
-use Rattle.mk_tracing.specs.Stops.{still_words}
-use Rattle.mk_sweep.specs.Sweeping.{BlacksMore, SweepsOn}
+use Rattle.mk_sweep.proofs.Vocabulary.{BlacksMore, SweepsOn, has_bit, still_words}
 use Rattle.mk_sweep.proofs.blackening.blacken_cells.Given as goal
 
 abbrev pub invariant-loop-index : goal.invariant-loop-index

@@ -1,6 +1,5 @@
 use Rattle.std.proofs.Common.{◌<◌, refl, subst, sym, arith}
-use Rattle.mk_words.specs.States.{WordsState}
-use Rattle.mk_tracing.specs.Stops.{still_words}
+use Rattle.mk_sweep.proofs.Vocabulary.{WordsState, still_words}
 use Rattle.mk_sweep.proofs.Blacks.{black_now, blacks_added, blacks_length, blacks_same}
 use Rattle.mk_sweep.proofs.SweepSteps.{sweeps_from}
 use Rattle.mk_sweep.proofs.blackening.blacken_if_marked.Goals as goal

@@ -1,10 +1,6 @@
-use Rattle.std.proofs.Common.{◌∙◌, [], ap, subst, sym}
-use Rattle.mk_geom.specs.Headers.{header_of}
-use Rattle.mk_core.specs.Cells.{cells_under, header_in}
-use Rattle.mk_core.specs.Words.{Words}
-use Rattle.mk_laws.specs.Guard.{CellsAreClosed}
-use Rattle.mk_tracing.specs.Stops.{still_words}
-use Rattle.mk_sweep.specs.Sweeping.{BlacksMore}
+use Rattle.std.proofs.Common.{◌∙◌, ap, subst, sym}
+use Rattle.mk_sweep.proofs.Vocabulary.{BlacksMore, CellsAreClosed, Words, cells_under, header_in, header_of}
+use Rattle.mk_sweep.proofs.Vocabulary.{still_words}
 use Rattle.mk_sweep.proofs.SweepSteps.{quiet_then}
 use Rattle.mk_sweep.proofs.blackening.blacken_page.Goals as goal
 
@@ -16,14 +12,12 @@ blacken_cells-requires-clause-count c =
 
 pub blacken_cells-requires-clause-closed : goal.blacken_cells-requires-clause-closed
 blacken_cells-requires-clause-closed c =
-    subst (λ (x : Words). CellsAreClosed c.args.words.now.config x)
+    subst (CellsAreClosed c.args.words.now.config)
     (sym (c.look_at-marks.ensures.words ∙ c.look_at-header.ensures.words)) c.requires.closed
 
 pub returns-clause-on : goal.returns-clause-on
 returns-clause-on c =
-    quiet_then c.args.stop.now c.look_at-marks.new.stop c.blacken_cells.new.stop []
-    (quiet_then c.args.stop.now c.look_at-header.new.stop c.look_at-marks.new.stop [] c.look_at-header.ensures.on
-    c.look_at-marks.ensures.on) c.blacken_cells.ensures.on
+    quiet_then (quiet_then c.look_at-header.ensures.on c.look_at-marks.ensures.on) c.blacken_cells.ensures.on
 
 pub returns-clause-more : goal.returns-clause-more
 returns-clause-more c =

@@ -1,6 +1,6 @@
-use Rattle.std.proofs.Common.{◌≡◌, [], refl, arith}
+use Rattle.std.proofs.Common.{◌≡◌, refl, arith}
 use Rattle.std.specs.Prelude.{slice_index}
-use Rattle.mk_tracing.specs.Stops.{still_words}
+use Rattle.mk_sweep.proofs.Vocabulary.{still_words}
 use Rattle.mk_tracing.proofs.Clearing.{black_cleared, blacks_cleared, blacks_same, blacks_then, pages_then}
 use Rattle.mk_sweep.proofs.SweepSteps.{quiet_then, sweeps_from}
 use Rattle.mk_sweep.proofs.clearing.unblack_all.Goals as goal
@@ -19,10 +19,8 @@ loop-page-preserved c =
     let x = still_words c.unblack_page.new.stop.pass in
     let fewer = blacks_cleared v x c.loop-page.page c.unblack_page.ensures.words in
     record {
-      on = quiet_then c.args.stop.now c.loop-page.stop c.unblack_page.new.stop [] c.loop-page.invariant.on
-          c.unblack_page.ensures.on;
+      on = quiet_then c.loop-page.invariant.on c.unblack_page.ensures.on;
       fewer = blacks_then w v x c.loop-page.invariant.fewer fewer;
       none = pages_then (λ p. slice_index v.blacks p ≡ 0) (λ p. slice_index x.blacks p ≡ 0) c.loop-page.page
-          fewer.fewer c.loop-page.invariant.none
-          (black_cleared v x c.loop-page.page c.unblack_page.ensures.words);
+          fewer.fewer c.loop-page.invariant.none (black_cleared v x c.loop-page.page c.unblack_page.ensures.words);
     }

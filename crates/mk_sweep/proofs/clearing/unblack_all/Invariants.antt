@@ -1,9 +1,7 @@
-use Rattle.std.proofs.Common.{[]}
-use Rattle.mk_sweep.specs.Sweeping.{SweepsOn}
-use Rattle.std.proofs.Common.{ℕ, ◌<◌, ◌≡◌}
+use Rattle.std.proofs.Common.{[], ℕ, ◌<◌, ◌≡◌}
 use Rattle.std.specs.Prelude.{slice_index}
+use Rattle.mk_sweep.proofs.Vocabulary.{SweepsOn, still_words}
 use Rattle.mk_tracing.specs.Grays.{BlacksFewer}
-use Rattle.mk_tracing.specs.Stops.{still_words}
 use Rattle.mk_sweep.proofs.clearing.unblack_all.Given as goal
 
 abbrev pub invariant-loop-page : goal.invariant-loop-page

@@ -1,8 +1,6 @@
-use Rattle.std.proofs.Common.{◌≡◌, ◌∙◌, [], refl, ap, arith}
+use Rattle.std.proofs.Common.{◌≡◌, ◌∙◌, refl, ap, arith}
 use Rattle.std.specs.Prelude.{slice_index}
-use Rattle.mk_core.specs.Cells.{head_page}
-use Rattle.mk_core.specs.Words.{Words}
-use Rattle.mk_tracing.specs.Stops.{still_words}
+use Rattle.mk_sweep.proofs.Vocabulary.{Words, head_page, still_words}
 use Rattle.mk_tracing.proofs.Clearing.{dirt_cleared, dirty_cleared, dirty_same, dirty_then, pages_then}
 use Rattle.mk_sweep.proofs.SweepSteps.{quiet_then, sweeps_from}
 use Rattle.mk_sweep.proofs.WordLists.{head_is_near}
@@ -34,10 +32,8 @@ loop-page-preserved c =
     let x = still_words c.undirty_page.new.stop.pass in
     let fewer = dirty_cleared v x c.loop-page.page c.undirty_page.ensures.words in
     record {
-      on = quiet_then c.args.stop.now c.loop-page.stop c.undirty_page.new.stop [] c.loop-page.invariant.on
-          c.undirty_page.ensures.on;
+      on = quiet_then c.loop-page.invariant.on c.undirty_page.ensures.on;
       fewer = dirty_then w v x c.loop-page.invariant.fewer fewer;
       clean = pages_then (λ p. slice_index v.dirty p ≡ 0) (λ p. slice_index x.dirty p ≡ 0) c.loop-page.page
-          fewer.fewer c.loop-page.invariant.clean
-          (dirt_cleared v x c.loop-page.page c.undirty_page.ensures.words);
+          fewer.fewer c.loop-page.invariant.clean (dirt_cleared v x c.loop-page.page c.undirty_page.ensures.words);
     }

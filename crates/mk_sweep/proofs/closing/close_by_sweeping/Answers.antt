@@ -1,9 +1,7 @@
 use Rattle.std.proofs.Common.{◌≡◌, ◌∙◌, ◌<◌, ℕ, length, ap, subst, sym}
 use Rattle.std.specs.Prelude.{slice_index}
-use Rattle.mk_laws.specs.Guard.{CellsAreClosed}
-use Rattle.mk_words.specs.States.{TurnState, WordsState}
-use Rattle.mk_tracing.specs.Stops.{still_words}
-use Rattle.mk_sweep.specs.Sweeping.{PageIsBlack, PointWell, SweepsOn, words_below}
+use Rattle.mk_sweep.proofs.Vocabulary.{CellsAreClosed, PageIsBlack, PointWell, SweepsOn, TurnState, WordsState}
+use Rattle.mk_sweep.proofs.Vocabulary.{still_words, words_below}
 use Rattle.mk_sweep.proofs.Kept.{ready_of}
 use Rattle.mk_sweep.proofs.SweptMarks.{closes, sweeping_behind, sweeps}
 use Rattle.mk_sweep.proofs.closing.close_by_sweeping.Goals as goal
@@ -14,15 +12,14 @@ want_and_wait-requires-clause-ready g c =
 
 pub sweep_in_stop-looks-requires-clause-sweeping : goal.sweep_in_stop-looks-requires-clause-sweeping
 sweep_in_stop-looks-requires-clause-sweeping g c =
-    sweeping_behind c.args.stop.now.pass c.want_and_wait.new.stop.pass c.want_and_wait.ensures.traces
-    c.want_and_wait.ensures.wanted c.requires.free c.requires.marking
+    sweeping_behind c.want_and_wait.ensures.traces c.want_and_wait.ensures.wanted c.requires.free c.requires.marking
 
 -- What is known by the table of the words, by that of the passes.
 
-swept_on : (words : WordsState) (t u : TurnState) → t.pass.table ≡ words
+swept_on : (words : WordsState) {t u : TurnState} → t.pass.table ≡ words
     → SweepsOn t u (words_below (still_words t.pass) words.config.pages)
     → SweepsOn t u (words_below (still_words t.pass) t.pass.table.config.pages)
-swept_on words t u table on =
+swept_on words {t} {u} table on =
     subst (λ (x : WordsState). SweepsOn t u (words_below (still_words t.pass) x.config.pages)) (sym table) on
 
 closed_on : (words : WordsState) (u : TurnState) → u.pass.table ≡ words
@@ -48,11 +45,11 @@ returns-clause-law g c =
     let u = c.sweep_in_stop-looks.new.stop in
     let before : t.pass.table ≡ words = c.want_and_wait.ensures.table ∙ c.requires.one_table in
     let behind : u.pass.table ≡ words = c.sweep_in_stop-looks.ensures.on.table ∙ before in
-    let sweeping = sweeping_behind p t.pass c.want_and_wait.ensures.traces
+    let sweeping = sweeping_behind c.want_and_wait.ensures.traces
     c.want_and_wait.ensures.wanted c.requires.free c.requires.marking in
     closes p t u c.sweep_in_stop-looks.result c.want_and_wait.ensures.traces sweeping
     c.is_in_order-2.ensures.history c.is_in_order-3.ensures.history
-    (swept_on words t u before c.sweep_in_stop-looks.ensures.on)
+    (swept_on words before c.sweep_in_stop-looks.ensures.on)
     (closed_on words u behind c.sweep_in_stop-looks.ensures.closed)
     (well_on words t u before behind c.sweep_in_stop-looks.ensures.well)
     (c.is_in_order-3.ensures.turn.holds, c.is_in_order-3.ensures.gates)
@@ -69,11 +66,11 @@ returns-clause-sweeps g c =
     let u = c.sweep_in_stop-looks.new.stop in
     let before : t.pass.table ≡ words = c.want_and_wait.ensures.table ∙ c.requires.one_table in
     let behind : u.pass.table ≡ words = c.sweep_in_stop-looks.ensures.on.table ∙ before in
-    let sweeping = sweeping_behind p t.pass c.want_and_wait.ensures.traces
+    let sweeping = sweeping_behind c.want_and_wait.ensures.traces
     c.want_and_wait.ensures.wanted c.requires.free c.requires.marking in
     sweeps p t u c.sweep_in_stop-looks.result c.want_and_wait.ensures.traces sweeping
     c.is_in_order-2.ensures.history c.is_in_order-3.ensures.history
-    (swept_on words t u before c.sweep_in_stop-looks.ensures.on)
+    (swept_on words before c.sweep_in_stop-looks.ensures.on)
     (closed_on words u behind c.sweep_in_stop-looks.ensures.closed)
     (well_on words t u before behind c.sweep_in_stop-looks.ensures.well)
     (c.sweep_in_stop-looks.ensures.looks

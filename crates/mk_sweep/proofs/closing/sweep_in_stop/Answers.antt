@@ -1,8 +1,6 @@
-use Rattle.std.proofs.Common.{◌∙◌, ℕ, List, [], length, ap, subst, sym}
+use Rattle.std.proofs.Common.{◌∙◌, ℕ, List, length, ap, subst, sym}
 use Rattle.std.specs.Prelude.{slice_index}
-use Rattle.mk_core.specs.Words.{Words}
-use Rattle.mk_tracing.specs.Stops.{still_words}
-use Rattle.mk_sweep.specs.Sweeping.{PointWell, SweepsOn, words_below}
+use Rattle.mk_sweep.proofs.Vocabulary.{PointWell, SweepsOn, Words, still_words, words_below}
 use Rattle.mk_sweep.proofs.Blacks.{closed_kept}
 use Rattle.mk_sweep.proofs.Closed.{closed_behind, well_when_black}
 use Rattle.mk_sweep.proofs.SweepSteps.{quiet_then, then_quiet}
@@ -20,22 +18,17 @@ pub returns-clause-on : goal.returns-clause-on
 returns-clause-on c =
     let pages : ℕ = c.args.words.now.config.pages in
     let ns : List ℕ = words_below (still_words c.mark_roots.new.stop.pass) pages in
-    let early = quiet_then c.args.stop.now c.undirty_all.new.stop c.mark_roots.new.stop []
-    (quiet_then c.args.stop.now c.unblack_all.new.stop c.undirty_all.new.stop [] c.unblack_all.ensures.on
-    c.undirty_all.ensures.on) c.mark_roots.ensures.on in
+    let early = quiet_then (quiet_then c.unblack_all.ensures.on c.undirty_all.ensures.on) c.mark_roots.ensures.on in
     subst (λ ms. SweepsOn c.args.stop.now c.blacken_all.new.stop ms)
     (ap (λ (x : Words). words_below x pages) c.mark_roots.ensures.more.is
     ∙ ap (λ (x : Words). words_below x pages) c.undirty_all.ensures.fewer.is
     ∙ ap (λ (x : Words). words_below x pages) c.unblack_all.ensures.fewer.is)
-    (then_quiet c.args.stop.now c.sweep_pages-looks.new.stop c.blacken_all.new.stop ns
-    (quiet_then c.args.stop.now c.mark_roots.new.stop c.sweep_pages-looks.new.stop ns early
-    c.sweep_pages-looks.ensures.on) c.blacken_all.ensures.on)
+    (then_quiet (quiet_then early c.sweep_pages-looks.ensures.on) c.blacken_all.ensures.on)
 
 pub returns-clause-looks : goal.returns-clause-looks
 returns-clause-looks c =
     let pages : ℕ = c.args.words.now.config.pages in
-    c.sweep_pages-looks.ensures.looks
-    ∙ ap (λ (x : Words). length (words_below x pages)) c.mark_roots.ensures.more.is
+    c.sweep_pages-looks.ensures.looks ∙ ap (λ (x : Words). length (words_below x pages)) c.mark_roots.ensures.more.is
     ∙ ap (λ (x : Words). length (words_below x pages)) c.undirty_all.ensures.fewer.is
     ∙ ap (λ (x : Words). length (words_below x pages)) c.unblack_all.ensures.fewer.is
 
@@ -43,13 +36,11 @@ pub returns-clause-clean : goal.returns-clause-clean
 returns-clause-clean c p lt =
     ap (λ (x : Words). slice_index x.dirty p) c.blacken_all.ensures.more.is
     ∙ ap (λ (x : Words). slice_index x.dirty p) c.sweep_pages-looks.ensures.more.is
-    ∙ ap (λ (x : Words). slice_index x.dirty p) c.mark_roots.ensures.more.is
-    ∙ c.undirty_all.ensures.clean p lt
+    ∙ ap (λ (x : Words). slice_index x.dirty p) c.mark_roots.ensures.more.is ∙ c.undirty_all.ensures.clean p lt
 
 pub returns-clause-closed : goal.returns-clause-closed
 returns-clause-closed c =
-    closed_kept c.args.words.now.config (still_words c.sweep_pages-looks.new.stop.pass)
-    (still_words c.blacken_all.new.stop.pass) c.blacken_all.ensures.more
+    closed_kept c.blacken_all.ensures.more
     (closed_behind c.args.words.now c.mark_roots.new.stop c.sweep_pages-looks.new.stop
     (sym (c.sweep_pages-looks.ensures.on.table ∙ c.mark_roots.ensures.on.table ∙ c.undirty_all.ensures.on.table
     ∙ c.unblack_all.ensures.on.table ∙ c.requires.one_table))
@@ -59,8 +50,7 @@ returns-clause-closed c =
 pub returns-clause-well : goal.returns-clause-well
 returns-clause-well c =
     let pages : ℕ = c.args.words.now.config.pages in
-    well_when_black pages (still_words c.sweep_pages-looks.new.stop.pass) (still_words c.blacken_all.new.stop.pass)
-    (words_below (still_words c.args.stop.now.pass) pages) c.blacken_all.ensures.more
+    well_when_black pages (words_below (still_words c.args.stop.now.pass) pages) c.blacken_all.ensures.more
     (subst (λ ns. PointWell pages (still_words c.sweep_pages-looks.new.stop.pass) ns)
     (ap (λ (x : Words). words_below x pages) c.mark_roots.ensures.more.is
     ∙ ap (λ (x : Words). words_below x pages) c.undirty_all.ensures.fewer.is

@@ -1,7 +1,5 @@
 use Rattle.std.proofs.Common.{ap, subst, ◌∙◌}
-use Rattle.mk_core.specs.declared.config.Config.{Config}
-use Rattle.mk_core.specs.History.{IsHistory}
-use Rattle.mk_words.specs.States.{PassState}
+use Rattle.mk_sweep.proofs.Vocabulary.{Config, IsHistory, PassState}
 use Rattle.mk_sweep.proofs.WholeCycles.{releases_unswept}
 use Rattle.mk_sweep.proofs.cycles.sweep_cycle.Goals as goal
 

@@ -1,11 +1,9 @@
 use Rattle.std.proofs.Common.{◌≡◌, ℕ, true, refl, subst, arith}
 use Rattle.std.specs.Prelude.{slice_index}
+use Rattle.mk_sweep.proofs.Vocabulary.{points_well, still_words}
 use Rattle.mk_core.specs.declared.events.Word.TheVariants as word
-use Rattle.mk_core.specs.Cells.{points_well}
-use Rattle.mk_tracing.specs.Stops.{still_words}
 use Rattle.mk_tracing.proofs.MoreMarks.{more_same, more_then}
 use Rattle.mk_tracing.proofs.RootMarks.{values_then, root_kept}
-use Rattle.std.proofs.Common.{[]}
 use Rattle.mk_sweep.proofs.SweepSteps.{sweeps_from, quiet_then}
 use Rattle.mk_sweep.proofs.roots.mark_globals.Goals as goal
 
@@ -25,8 +23,7 @@ loop-global-preserved c =
     let x = still_words c.mark_root.new.stop.pass in
     let pages : ℕ = c.args.words.now.config.pages in
     record {
-      on = quiet_then c.args.stop.now c.loop-global.stop c.mark_root.new.stop [] c.loop-global.invariant.on
-          c.mark_root.ensures.on;
+      on = quiet_then c.loop-global.invariant.on c.mark_root.ensures.on;
       more = more_then w v x c.loop-global.invariant.more c.mark_root.ensures.more;
       well = values_then pages v x (λ g. slice_index w.globals g) c.loop-global.global c.mark_root.ensures.more
           c.loop-global.invariant.well

@@ -1,10 +1,6 @@
-use Rattle.std.proofs.Common.{[]}
-use Rattle.mk_sweep.specs.Sweeping.{SweepsOn}
-use Rattle.std.proofs.Common.{◌≡◌, ℕ, ◌<◌, true}
+use Rattle.std.proofs.Common.{[], ◌≡◌, ℕ, ◌<◌, true}
 use Rattle.std.specs.Prelude.{slice_index}
-use Rattle.mk_core.specs.Cells.{points_well}
-use Rattle.mk_tracing.specs.Grays.{MarksMore}
-use Rattle.mk_tracing.specs.Stops.{still_words}
+use Rattle.mk_sweep.proofs.Vocabulary.{MarksMore, SweepsOn, points_well, still_words}
 use Rattle.mk_sweep.proofs.roots.mark_globals.Given as goal
 
 abbrev pub invariant-loop-global : goal.invariant-loop-global

@@ -1,11 +1,8 @@
 use Rattle.std.proofs.Common.{◌≡◌, ℕ, true, refl, subst, arith}
+use Rattle.mk_sweep.proofs.Vocabulary.{points_well, register_word, still_words}
 use Rattle.mk_core.specs.declared.events.Word.TheVariants as word
-use Rattle.mk_core.specs.Cells.{points_well}
-use Rattle.mk_core.specs.Words.{register_word}
-use Rattle.mk_tracing.specs.Stops.{still_words}
 use Rattle.mk_tracing.proofs.MoreMarks.{more_same, more_then}
 use Rattle.mk_tracing.proofs.RootMarks.{values_then, root_kept}
-use Rattle.std.proofs.Common.{[]}
 use Rattle.mk_sweep.proofs.SweepSteps.{sweeps_from, quiet_then}
 use Rattle.mk_sweep.proofs.roots.mark_registers.Goals as goal
 
@@ -25,8 +22,7 @@ loop-caller-preserved c =
     let x = still_words c.mark_registers_of.new.stop.pass in
     let pages : ℕ = c.args.words.now.config.pages in
     record {
-      on = quiet_then c.args.stop.now c.loop-caller.stop c.mark_registers_of.new.stop [] c.loop-caller.invariant.on
-          c.mark_registers_of.ensures.on;
+      on = quiet_then c.loop-caller.invariant.on c.mark_registers_of.ensures.on;
       more = more_then w v x c.loop-caller.invariant.more c.mark_registers_of.ensures.more;
       well = λ k lt r lr.
           values_then pages v x (λ j. register_word w j r) c.loop-caller.caller c.mark_registers_of.ensures.more

@@ -1,8 +1,6 @@
-use Rattle.std.proofs.Common.{[]}
-use Rattle.mk_sweep.specs.Sweeping.{SweepsOn}
-use Rattle.std.proofs.Common.{ℕ, ◌<◌}
-use Rattle.mk_tracing.specs.Grays.{RegistersAreWell, MarksMore}
-use Rattle.mk_tracing.specs.Stops.{still_words}
+use Rattle.std.proofs.Common.{[], ℕ, ◌<◌}
+use Rattle.mk_sweep.proofs.Vocabulary.{MarksMore, SweepsOn, still_words}
+use Rattle.mk_tracing.specs.Grays.{RegistersAreWell}
 use Rattle.mk_sweep.proofs.roots.mark_registers.Given as goal
 
 abbrev pub invariant-loop-caller : goal.invariant-loop-caller

@@ -1,20 +1,13 @@
 use Rattle.std.proofs.Common.{◌<◌, ◌≡◌, ℕ, true, ap, sym, subst}
 use Rattle.std.specs.Prelude.{slice_index}
-use Rattle.mk_core.specs.Cells.{points_well}
-use Rattle.mk_core.specs.Words.{Words, register_word}
-use Rattle.mk_words.specs.States.{WordsState}
-use Rattle.mk_tracing.specs.Grays.{MarksMore}
-use Rattle.mk_tracing.specs.Stops.{still_words}
+use Rattle.mk_sweep.proofs.Vocabulary.{MarksMore, Words, WordsState, points_well, register_word, still_words}
 use Rattle.mk_tracing.proofs.MoreMarks.{more_then, well_more}
 use Rattle.mk_tracing.proofs.RootMarks.{roots_well}
-use Rattle.std.proofs.Common.{[]}
 use Rattle.mk_sweep.proofs.SweepSteps.{quiet_then}
 use Rattle.mk_sweep.proofs.roots.mark_roots.Goals as goal
 
 pub returns-clause-on : goal.returns-clause-on
-returns-clause-on c =
-    quiet_then c.args.stop.now c.mark_registers.new.stop c.mark_globals.new.stop [] c.mark_registers.ensures.on
-    c.mark_globals.ensures.on
+returns-clause-on c = quiet_then c.mark_registers.ensures.on c.mark_globals.ensures.on
 
 pub returns-clause-roots : goal.returns-clause-roots
 returns-clause-roots c =

@@ -1,10 +1,7 @@
 use Rattle.std.proofs.Common.{subst, sym, ◌≡◌, ◌<◌, ◌^◌, true}
+use Rattle.mk_sweep.proofs.Vocabulary.{Acts, IsEnabledTo, WordsState, still_words}
 use Rattle.mk_core.specs.declared.events.Step.TheVariants as step
 use Rattle.mk_core.specs.StopConditions.{may_turn_black}
-use Rattle.mk_words.specs.States.{WordsState}
-use Rattle.mk_words.specs.Steps.{IsEnabledTo}
-use Rattle.mk_words.specs.TurnSteps.{Acts}
-use Rattle.mk_tracing.specs.Stops.{still_words}
 use Rattle.mk_tracing.proofs.MaySteps.{may_black_cell}
 use Rattle.mk_tracing.proofs.Stilled.{black_words}
 use Rattle.mk_sweep.proofs.SweepSteps.{on_black}

@@ -1,6 +1,6 @@
 use Rattle.std.proofs.Common.{subst, sym, ◌≡◌, true}
+use Rattle.mk_sweep.proofs.Vocabulary.{WordsState}
 use Rattle.mk_core.specs.Ranges.{is_word}
-use Rattle.mk_words.specs.States.{WordsState}
 use Rattle.mk_tracing.proofs.MaySteps.{may_look}
 use Rattle.mk_sweep.proofs.SweepSteps.{on_root, root_in_hand}
 use Rattle.mk_sweep.proofs.stepping.look_at_root.Goals as goal
@@ -10,9 +10,7 @@ look-requires-clause-enabled c =
     may_look c.args.stop.now.pass c.requires.sweeping.wanted (
       c.is_in_order.ensures.turn.holds,
       c.is_in_order.ensures.gates,
-    )
-    c.args.x
-    (subst (λ (t : WordsState). is_word t.config c.args.x ≡ true) (sym c.requires.one_table) c.requires.word)
+    ) c.args.x (subst (λ (t : WordsState). is_word t.config c.args.x ≡ true) (sym c.requires.one_table) c.requires.word)
 
 pub returns-clause-on : goal.returns-clause-on
 returns-clause-on c =
@@ -22,6 +20,6 @@ returns-clause-on c =
 
 pub returns-clause-hand : goal.returns-clause-hand
 returns-clause-hand c =
-    root_in_hand c.args.stop.now.pass c.look.new.self.pass c.requires.sweeping.wanted
+    root_in_hand c.requires.sweeping.wanted
     (c.is_in_order.ensures.turn.holds, c.is_in_order.ensures.gates) c.args.x c.look.ensures.acts c.look.result
     c.look.ensures.finds c.requires.root

@@ -1,9 +1,8 @@
 use Rattle.std.proofs.Common.{refl, subst, sym}
+use Rattle.mk_sweep.proofs.Vocabulary.{IsScannedWord, WordsState, world_of}
 use Rattle.mk_core.specs.declared.events.Word.TheVariants as word
-use Rattle.mk_words.specs.States.{WordsState, world_of}
 use Rattle.mk_tracing.proofs.MaySteps.{may_look}
 use Rattle.mk_tracing.proofs.Stilled.{look_finds}
-use Rattle.mk_sweep.specs.Swept.{IsScannedWord}
 use Rattle.mk_sweep.proofs.SweepSteps.{on_word, word_in_hand, word_named}
 use Rattle.mk_sweep.proofs.stepping.look_at_word.Goals as goal
 
@@ -33,8 +32,7 @@ returns-clause-hand c =
     word_in_hand p c.look.new.self.pass c.requires.sweeping
     (c.is_in_order.ensures.turn.holds, c.is_in_order.ensures.gates) c.is_in_order.ensures.history c.args.word
     (subst (λ (t : WordsState). IsScannedWord t.config (world_of p).allocations c.args.word)
-    (sym c.requires.one_table) c.requires.scanned)
-    c.look.ensures.acts c.look.result c.look.ensures.finds
+    (sym c.requires.one_table) c.requires.scanned) c.look.ensures.acts c.look.result c.look.ensures.finds
 
 pub returns-clause-found : goal.returns-clause-found
 returns-clause-found c =

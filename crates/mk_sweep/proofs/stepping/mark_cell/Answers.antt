@@ -1,18 +1,17 @@
 use Rattle.std.proofs.Common.{subst, sym, ◌^◌}
+use Rattle.mk_sweep.proofs.Vocabulary.{Acts, IsEnabledTo}
 use Rattle.mk_core.specs.declared.events.Step.TheVariants as step
-use Rattle.mk_words.specs.Steps.{IsEnabledTo}
-use Rattle.mk_words.specs.TurnSteps.{Acts}
 use Rattle.mk_tracing.proofs.Stilled.{mark_words}
 use Rattle.mk_sweep.proofs.SweepSteps.{may_mark_reached, on_mark, reached_within}
 use Rattle.mk_sweep.proofs.stepping.mark_cell.Goals as goal
 
 pub bit-requires : goal.bit-requires
-bit-requires c = (reached_within c.args.stop.now.pass c.args.cell c.requires.reached).1
+bit-requires c = (reached_within c.requires.reached).1
 
 pub mark-requires-clause-enabled : goal.mark-requires-clause-enabled
 mark-requires-clause-enabled c =
     subst (λ v. IsEnabledTo c.args.stop.now.pass (step.Mark c.args.cell.page v)) (sym c.bit.ensures)
-    (may_mark_reached c.args.stop.now.pass c.args.cell c.requires.sweeping.wanted
+    (may_mark_reached c.requires.sweeping.wanted
     (c.is_in_order.ensures.turn.holds, c.is_in_order.ensures.gates) c.requires.reached)
 
 pub returns-clause-on : goal.returns-clause-on

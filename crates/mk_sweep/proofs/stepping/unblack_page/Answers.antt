@@ -1,5 +1,5 @@
 use Rattle.std.proofs.Common.{subst, sym, ◌<◌}
-use Rattle.mk_words.specs.States.{WordsState}
+use Rattle.mk_sweep.proofs.Vocabulary.{WordsState}
 use Rattle.mk_tracing.proofs.MaySteps.{may_unblack_page}
 use Rattle.mk_tracing.proofs.Stilled.{unblack_words}
 use Rattle.mk_sweep.proofs.SweepSteps.{on_unblack}
@@ -10,8 +10,7 @@ unblack-requires-clause-enabled c =
     may_unblack_page c.args.stop.now.pass c.requires.sweeping.wanted (
       c.is_in_order.ensures.turn.holds,
       c.is_in_order.ensures.gates,
-    ) c.args.page
-    (subst (λ (t : WordsState). c.args.page < t.config.pages) (sym c.requires.one_table) c.requires.page)
+    ) c.args.page (subst (λ (t : WordsState). c.args.page < t.config.pages) (sym c.requires.one_table) c.requires.page)
 
 pub returns-clause-on : goal.returns-clause-on
 returns-clause-on c =

@@ -1,5 +1,5 @@
 use Rattle.std.proofs.Common.{subst, sym, ◌<◌}
-use Rattle.mk_words.specs.States.{WordsState}
+use Rattle.mk_sweep.proofs.Vocabulary.{WordsState}
 use Rattle.mk_tracing.proofs.MaySteps.{may_undirty_page}
 use Rattle.mk_tracing.proofs.Stilled.{undirty_words}
 use Rattle.mk_sweep.proofs.SweepSteps.{on_undirty}

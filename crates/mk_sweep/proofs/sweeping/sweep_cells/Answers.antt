@@ -1,13 +1,8 @@
 use Rattle.std.proofs.Common.{◌≡◌, ◌∙◌, ◌+◌, ◌*◌, ◌<◌, ℕ, Bool, List, ◌++◌, length, refl, ap, subst, sym, arith}
 use Rattle.std.proofs.Common.{length-append}
-use Rattle.mk_geom.specs.Headers.{header_of}
-use Rattle.mk_core.specs.Bits.{has_bit}
-use Rattle.mk_core.specs.Cells.{header_in, words_under}
-use Rattle.mk_words.specs.States.{WordsState, world_of}
-use Rattle.mk_tracing.specs.Stops.{still_words}
+use Rattle.mk_sweep.proofs.Vocabulary.{IsScannedWord, PointWell, SweepsOn, WordsState, has_bit, header_in, header_of}
+use Rattle.mk_sweep.proofs.Vocabulary.{still_words, words_if, words_of_cells, words_under, world_of}
 use Rattle.mk_tracing.proofs.MoreMarks.{more_same, more_then}
-use Rattle.mk_sweep.specs.Swept.{IsScannedWord}
-use Rattle.mk_sweep.specs.Sweeping.{PointWell, SweepsOn, words_if, words_of_cells}
 use Rattle.mk_sweep.proofs.ScannedCells.{used_word}
 use Rattle.mk_sweep.proofs.SweepSteps.{sweeps_from, sweeps_then, word_alike}
 use Rattle.mk_sweep.proofs.WordLists.{both_well, cell_more, none_well, words_of_scanned}
@@ -31,8 +26,7 @@ sweep_if_used-looks-requires-clause-scanned c used i lt =
     let size : words_under (header_in w c.args.page) ≡ c.words_under-size.result =
     sym (c.words_under-size.ensures.exact ∙ ap (λ h. words_under (header_of h)) c.requires.header) in
     let word = used_word p.table.config p.seen c.is_in_order.ensures.history c.requires.sweeping.settled c.args.page
-    c.loop-index.index i
-    (ap (λ n. has_bit n c.loop-index.index) (sym c.requires.used) ∙ sym c.has_bit.ensures ∙ used)
+    c.loop-index.index i (ap (λ n. has_bit n c.loop-index.index) (sym c.requires.used) ∙ sym c.has_bit.ensures ∙ used)
     c.requires.scanned (subst (λ k. i < k) (sym size) lt) in
     let sized : IsScannedWord p.table.config (world_of p).allocations
     (64 * c.args.page + c.loop-index.index * c.words_under-size.result + i) =
@@ -63,17 +57,15 @@ loop-index-preserved c =
     c.sweep_if_used-looks.ensures.well in
     record {
       on = subst (λ ns. SweepsOn c.args.stop.now c.sweep_if_used-looks.new.stop ns) more
-          (sweeps_then c.args.stop.now c.loop-index.stop c.sweep_if_used-looks.new.stop before here
-          c.loop-index.invariant.on on);
+          (sweeps_then c.loop-index.invariant.on on);
       more = more_then w v x c.loop-index.invariant.more c.sweep_if_used-looks.ensures.more;
       well = subst (λ ns. PointWell c.args.words.now.config.pages x ns) more
-          (both_well c.args.words.now.config.pages v x before here c.sweep_if_used-looks.ensures.more
+          (both_well c.args.words.now.config.pages before here c.sweep_if_used-looks.ensures.more
           c.loop-index.invariant.well well);
       looks =
-          ap (λ k. k + c.sweep_if_used-looks.result) c.loop-index.invariant.looks
-          ∙ ap (λ k. length before + k)
+          ap (λ k. k + c.sweep_if_used-looks.result) c.loop-index.invariant.looks ∙ ap (λ k. length before + k)
           (c.sweep_if_used-looks.ensures.looks ∙ ap (λ (b : Bool). length (if_used b)) c.has_bit.ensures)
-          ∙ sym (length-append before here) ∙ ap (λ (ns : List ℕ). length ns) more;
+          ∙ sym (length-append before here) ∙ ap length more;
       few =
           let so_far = c.loop-index.invariant.few in
           let here_few = c.sweep_if_used-looks.ensures.few in
@@ -110,8 +102,7 @@ returns-clause-looks c =
     let end = c.loop-index-test.false in
     let at : c.loop-index.index ≡ c.cells_under-index-end.result = let most = c.loop-index.auto.index-end in omega
     arith in
-    c.loop-index.invariant.looks
-    ∙ ap (λ (ns : List ℕ). length ns)
+    c.loop-index.invariant.looks ∙ ap length
     (ap (λ k. words_of_cells c.args.page c.words_under-size.result c.args.used k) at
     ∙ words_of_scanned (still_words c.args.stop.now.pass) c.args.page c.args.header c.args.used
     c.words_under-size.result

@@ -1,8 +1,7 @@
 use Rattle.std.proofs.Common.{◌∙◌, Bool, ap, refl, subst, sym, length}
 use Rattle.std.proofs.lemmas.List.FromFn.{length-range_with_len}
-use Rattle.mk_tracing.specs.Stops.{still_words}
+use Rattle.mk_sweep.proofs.Vocabulary.{PointWell, SweepsOn, still_words, words_if}
 use Rattle.mk_tracing.proofs.MoreMarks.{more_same}
-use Rattle.mk_sweep.specs.Sweeping.{PointWell, SweepsOn, words_if}
 use Rattle.mk_sweep.proofs.SweepSteps.{sweeps_from}
 use Rattle.mk_sweep.proofs.WordLists.{none_well}
 use Rattle.mk_sweep.proofs.sweeping.sweep_if_used.Goals as goal

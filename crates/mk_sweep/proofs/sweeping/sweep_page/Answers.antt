@@ -1,11 +1,7 @@
-use Rattle.std.proofs.Common.{◌∙◌, ℕ, List, [], length, ap, subst, sym}
-use Rattle.mk_geom.specs.Headers.{header_of}
-use Rattle.mk_core.specs.Cells.{has_no_pointers, header_in}
-use Rattle.mk_core.specs.Words.{Words, header_at, used_at}
-use Rattle.mk_tracing.specs.Grays.{MarksMore}
-use Rattle.mk_tracing.specs.Stops.{still_words}
+use Rattle.std.proofs.Common.{◌∙◌, ℕ, List, length, ap, subst, sym}
+use Rattle.mk_sweep.proofs.Vocabulary.{MarksMore, PointWell, SweepsOn, Words, has_no_pointers, header_at, header_in}
+use Rattle.mk_sweep.proofs.Vocabulary.{header_of, still_words, used_at, words_on}
 use Rattle.mk_tracing.proofs.MoreMarks.{more_same}
-use Rattle.mk_sweep.specs.Sweeping.{PointWell, SweepsOn, words_on}
 use Rattle.mk_sweep.proofs.SweepSteps.{quiet_then}
 use Rattle.mk_sweep.proofs.WordLists.{none_well, words_of_bare}
 use Rattle.mk_sweep.proofs.sweeping.sweep_page.Goals as goal
@@ -27,12 +23,11 @@ returns-then-has_no_pointers-clause-well c =
     subst (λ ns. PointWell c.args.words.now.config.pages (still_words c.look_at-header.new.stop.pass) ns)
     (words_of_bare (still_words c.args.stop.now.pass) c.args.page
     (ap (λ h. has_no_pointers (header_of h)) (sym c.look_at-header.ensures.found) ∙ sym c.has_no_pointers.ensures
-    ∙ c.if-has_no_pointers.true))
-    (none_well c.args.words.now.config.pages (still_words c.look_at-header.new.stop.pass))
+    ∙ c.if-has_no_pointers.true)) (none_well c.args.words.now.config.pages (still_words c.look_at-header.new.stop.pass))
 
 pub returns-then-has_no_pointers-clause-looks : goal.returns-then-has_no_pointers-clause-looks
 returns-then-has_no_pointers-clause-looks c =
-    ap (λ (ns : List ℕ). length ns)
+    ap length
     (words_of_bare (still_words c.args.stop.now.pass) c.args.page
     (ap (λ h. has_no_pointers (header_of h)) (sym c.look_at-header.ensures.found) ∙ sym c.has_no_pointers.ensures
     ∙ c.if-has_no_pointers.true))
@@ -58,9 +53,7 @@ returns-clause-on c =
     let same = c.look_at-used.ensures.words ∙ c.look_at-header.ensures.words in
     let ns : List ℕ = words_on (still_words c.look_at-used.new.stop.pass) c.args.page in
     subst (λ ms. SweepsOn c.args.stop.now c.sweep_cells.new.stop ms) (ap (λ (x : Words). words_on x c.args.page) same)
-    (quiet_then c.args.stop.now c.look_at-used.new.stop c.sweep_cells.new.stop ns
-    (quiet_then c.args.stop.now c.look_at-header.new.stop c.look_at-used.new.stop [] c.look_at-header.ensures.on
-    c.look_at-used.ensures.on) c.sweep_cells.ensures.on)
+    (quiet_then (quiet_then c.look_at-header.ensures.on c.look_at-used.ensures.on) c.sweep_cells.ensures.on)
 
 pub returns-clause-more : goal.returns-clause-more
 returns-clause-more c =

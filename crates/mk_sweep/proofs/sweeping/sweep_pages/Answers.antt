@@ -1,7 +1,6 @@
 use Rattle.std.proofs.Common.{◌≡◌, ◌∙◌, ◌+◌, ℕ, List, ◌++◌, length, refl, ap, subst, sym, arith, length-append}
-use Rattle.mk_tracing.specs.Stops.{still_words}
+use Rattle.mk_sweep.proofs.Vocabulary.{PointWell, SweepsOn, still_words, words_below, words_on}
 use Rattle.mk_tracing.proofs.MoreMarks.{more_same, more_then}
-use Rattle.mk_sweep.specs.Sweeping.{PointWell, SweepsOn, words_below, words_on}
 use Rattle.mk_sweep.proofs.SweepSteps.{sweeps_from, sweeps_then}
 use Rattle.mk_sweep.proofs.WordLists.{both_well, none_well, page_more, words_kept}
 use Rattle.mk_sweep.proofs.sweeping.sweep_pages.Goals as goal
@@ -24,23 +23,20 @@ loop-page-preserved c =
     let x = still_words c.sweep_page-looks.new.stop.pass in
     let before : List ℕ = words_below w c.loop-page.page in
     let here : List ℕ = words_on w c.loop-page.page in
-    let same : words_on v c.loop-page.page ≡ here = words_kept w v c.loop-page.page c.loop-page.invariant.more in
+    let same : words_on v c.loop-page.page ≡ here = words_kept c.loop-page.page c.loop-page.invariant.more in
     let more : before ++ here ≡ words_below w (c.loop-page.page + 1) = page_more w c.loop-page.page in
     record {
       on = subst (λ ns. SweepsOn c.args.stop.now c.sweep_page-looks.new.stop ns) more
-          (sweeps_then c.args.stop.now c.loop-page.stop c.sweep_page-looks.new.stop before here
-          c.loop-page.invariant.on
+          (sweeps_then c.loop-page.invariant.on
           (subst (λ ns. SweepsOn c.loop-page.stop c.sweep_page-looks.new.stop ns) same c.sweep_page-looks.ensures.on));
       more = more_then w v x c.loop-page.invariant.more c.sweep_page-looks.ensures.more;
       well = subst (λ ns. PointWell c.args.words.now.config.pages x ns) more
-          (both_well c.args.words.now.config.pages v x before here c.sweep_page-looks.ensures.more
+          (both_well c.args.words.now.config.pages before here c.sweep_page-looks.ensures.more
           c.loop-page.invariant.well
           (subst (λ ns. PointWell c.args.words.now.config.pages x ns) same c.sweep_page-looks.ensures.well));
       looks =
-          ap (λ k. k + c.sweep_page-looks.result) c.loop-page.invariant.looks
-          ∙ ap (λ k. length before + k)
-          (c.sweep_page-looks.ensures.looks ∙ ap (λ (ns : List ℕ). length ns) same)
-          ∙ sym (length-append before here) ∙ ap (λ (ns : List ℕ). length ns) more;
+          ap (λ k. k + c.sweep_page-looks.result) c.loop-page.invariant.looks ∙ ap (λ k. length before + k)
+          (c.sweep_page-looks.ensures.looks ∙ ap length same) ∙ sym (length-append before here) ∙ ap length more;
       few =
           let so_far = c.loop-page.invariant.few in
           let here_few = c.sweep_page-looks.ensures.few in

@@ -1,11 +1,7 @@
-use Rattle.std.proofs.Common.{◌≡◌, ◌+◌, ℕ, List, [], ◌∷◌, refl, subst, sym, arith}
+use Rattle.std.proofs.Common.{◌≡◌, ◌+◌, ℕ, List, refl, subst, sym, arith}
 use Rattle.std.specs.List.{range_with_len}
-use Rattle.mk_core.specs.Words.{Words}
-use Rattle.mk_words.specs.States.{world_of}
-use Rattle.mk_tracing.specs.Grays.{MarksMore}
-use Rattle.mk_tracing.specs.Stops.{still_words}
+use Rattle.mk_sweep.proofs.Vocabulary.{MarksMore, PointWell, SweepsOn, Words, still_words, world_of}
 use Rattle.mk_tracing.proofs.MoreMarks.{more_same, more_then}
-use Rattle.mk_sweep.specs.Sweeping.{PointWell, SweepsOn}
 use Rattle.mk_sweep.proofs.SweepSteps.{sweeps_from, sweeps_then, then_quiet, word_alike}
 use Rattle.mk_sweep.proofs.WordLists.{none_well, one_well, word_more}
 use Rattle.mk_sweep.proofs.sweeping.sweep_words.Goals as goal
@@ -35,14 +31,13 @@ loop-i-preserved c =
     let before : List ℕ = range_with_len c.args.first c.loop-i.i in
     let more : MarksMore v x = subst (λ (y : Words). MarksMore y x) c.look_at_word-value.ensures.words
     c.mark_value.ensures.more in
-    let one = then_quiet c.loop-i.stop c.look_at_word-value.new.stop c.mark_value.new.stop (n ∷ [])
-    c.look_at_word-value.ensures.on c.mark_value.ensures.on in
+    let one = then_quiet c.look_at_word-value.ensures.on c.mark_value.ensures.on in
     record {
       on = subst (λ ns. SweepsOn c.args.stop.now c.mark_value.new.stop ns) (word_more c.args.first c.loop-i.i)
-          (sweeps_then c.args.stop.now c.loop-i.stop c.mark_value.new.stop before (n ∷ []) c.loop-i.invariant.on one);
+          (sweeps_then c.loop-i.invariant.on one);
       more = more_then w v x c.loop-i.invariant.more more;
       well = subst (λ ns. PointWell pages x ns) (word_more c.args.first c.loop-i.i)
-          (one_well pages v x before n c.look_at_word-value.result more c.loop-i.invariant.well
+          (one_well pages before n c.look_at_word-value.result more c.loop-i.invariant.well
           c.look_at_word-value.ensures.found c.mark_value.ensures.well);
     }
 
@@ -57,5 +52,4 @@ returns-clause-well c =
     let end = c.loop-i-test.false in
     let at : c.loop-i.i ≡ c.args.size = omega arith in
     subst (λ k. PointWell c.args.words.now.config.pages (still_words c.loop-i.stop.pass) (range_with_len
-    c.args.first k))
-    at c.loop-i.invariant.well
+    c.args.first k)) at c.loop-i.invariant.well

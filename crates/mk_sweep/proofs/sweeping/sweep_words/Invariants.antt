@@ -1,7 +1,5 @@
 use Rattle.std.specs.List.{range_with_len}
-use Rattle.mk_tracing.specs.Grays.{MarksMore}
-use Rattle.mk_tracing.specs.Stops.{still_words}
-use Rattle.mk_sweep.specs.Sweeping.{PointWell, SweepsOn}
+use Rattle.mk_sweep.proofs.Vocabulary.{MarksMore, PointWell, SweepsOn, still_words}
 use Rattle.mk_sweep.proofs.sweeping.sweep_words.Given as goal
 
 abbrev pub invariant-loop-i : goal.invariant-loop-i

@@ -1,7 +1,6 @@
 use Rattle.std.proofs.Common.{◌≡◌, ◌∙◌, false, ap, sym, subst}
+use Rattle.mk_sweep.proofs.Vocabulary.{header_at, still_words}
 use Rattle.mk_geom.specs.Addresses.{cell_at, is_heap_address}
-use Rattle.mk_core.specs.Words.{header_at}
-use Rattle.mk_tracing.specs.Stops.{still_words}
 use Rattle.mk_tracing.proofs.MoreMarks.{outside_none, found_by_header}
 use Rattle.mk_sweep.proofs.SweepSteps.{sweeps_from}
 use Rattle.mk_sweep.proofs.values.cell_pointed.Goals as goal

@@ -1,12 +1,8 @@
 use Rattle.std.proofs.Common.{◌≡◌, ◌∙◌, ap, sym, ℕ}
 use Rattle.std.specs.Prelude.{Some}
-use Rattle.mk_core.specs.Cells.{pointed_cell}
-use Rattle.mk_core.specs.Words.{Words}
+use Rattle.mk_sweep.proofs.Vocabulary.{Words, WordsState, pointed_cell, still_words}
 use Rattle.mk_core.proofs.PointedPages.{pointed_within}
-use Rattle.mk_words.specs.States.{WordsState}
-use Rattle.mk_tracing.specs.Stops.{still_words}
 use Rattle.mk_tracing.proofs.MoreMarks.{then_more, then_well, marks_length}
-use Rattle.std.proofs.Common.{[]}
 use Rattle.mk_sweep.proofs.SweepSteps.{hand_kept, quiet_then}
 use Rattle.mk_sweep.proofs.values.mark_value.Goals as goal
 
@@ -16,8 +12,7 @@ is_marked-requires-clause-page c =
     (sym c.in-Some.ensures.points)).0
 
 pub returns-then-is_marked-clause-on : goal.returns-then-is_marked-clause-on
-returns-then-is_marked-clause-on c = quiet_then c.args.stop.now c.cell_pointed.new.stop c.is_marked.new.stop []
-    c.cell_pointed.ensures.on c.is_marked.ensures.on
+returns-then-is_marked-clause-on c = quiet_then c.cell_pointed.ensures.on c.is_marked.ensures.on
 
 pub mark_cell-requires-clause-reached : goal.mark_cell-requires-clause-reached
 mark_cell-requires-clause-reached c =
@@ -31,9 +26,7 @@ mark_cell-requires-clause-reached c =
     let points : pointed_cell pages (still_words p).pages c.args.value ≡ Some cell = sym c.in-Some.ensures.points in
     record {
       value = c.args.value;
-      in_hand = hand_kept c.args.stop.now c.is_marked.new.stop [] c.args.value
-          (quiet_then c.args.stop.now c.cell_pointed.new.stop c.is_marked.new.stop [] c.cell_pointed.ensures.on
-          c.is_marked.ensures.on)
+      in_hand = hand_kept (quiet_then c.cell_pointed.ensures.on c.is_marked.ensures.on)
           (c.is_marked.ensures.hand ∙ c.cell_pointed.ensures.hand) c.requires.hand;
       points =
           ap (λ (t : WordsState). pointed_cell t.config.pages (still_words q).pages c.args.value) table
@@ -41,10 +34,7 @@ mark_cell-requires-clause-reached c =
     }
 
 pub returns-clause-on : goal.returns-clause-on
-returns-clause-on c =
-    quiet_then c.args.stop.now c.is_marked.new.stop c.mark_cell.new.stop []
-    (quiet_then c.args.stop.now c.cell_pointed.new.stop c.is_marked.new.stop [] c.cell_pointed.ensures.on
-    c.is_marked.ensures.on) c.mark_cell.ensures.on
+returns-clause-on c = quiet_then (quiet_then c.cell_pointed.ensures.on c.is_marked.ensures.on) c.mark_cell.ensures.on
 
 pub returns-clause-more : goal.returns-clause-more
 returns-clause-more c =

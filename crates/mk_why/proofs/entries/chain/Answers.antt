@@ -1,7 +1,7 @@
 use Rattle.std.proofs.Common.{◌∙◌, ℕ, List, sym, subst}
 use Rattle.std.specs.Prelude.{Option}
-use Rattle.mk_why.specs.declared.kept.Root.{Root}
-use Rattle.mk_why.specs.Entries.{IsLed, IsLedBack, root_of}
+use Rattle.mk_why.proofs.Vocabulary.{IsLedBack, Root}
+use Rattle.mk_why.specs.Entries.{IsLed, root_of}
 use Rattle.mk_why.proofs.MadeEntries.{led_first, led_more, led_to_root}
 use Rattle.mk_why.proofs.entries.chain.Goals as goal
 
@@ -25,8 +25,7 @@ loop-link-preserved c = record {
 pub returns : goal.returns
 returns c k v b ways apart way =
     subst (λ (o : Option Root). IsLed k v b c.args.found.links o c.reverse.new.self.items) (sym c.root_of.ensures)
-    (subst (λ (ls : List ℕ). IsLed k v b c.args.found.links (root_of c.loop-link.current.way) ls)
-    (sym c.reverse.ensures.items)
+    (subst (IsLed k v b c.args.found.links (root_of c.loop-link.current.way)) (sym c.reverse.ensures.items)
     (led_to_root k v c.args.tables.now.found.items ways apart c.loop-link.current c.loop-link.links.items b
     c.args.found.links (c.loop-link.invariant.led k v b ways apart way)
     (sym c.step_back.ensures.exact ∙ c.in_default.is)))

@@ -1,8 +1,5 @@
 use Rattle.std.proofs.Common.{ℕ}
-use Rattle.mk_core.specs.declared.config.Config.{Config}
-use Rattle.mk_why.specs.Entries.{IsLedBack}
-use Rattle.mk_why.specs.Searching.{BeginApart, AreWays, IsWay}
-use Rattle.mk_why.specs.Stops.{View}
+use Rattle.mk_why.proofs.Vocabulary.{AreWays, BeginApart, Config, IsLedBack, IsWay, View}
 use Rattle.mk_why.proofs.entries.chain.Given as goal
 
 abbrev pub invariant-loop-link : goal.invariant-loop-link

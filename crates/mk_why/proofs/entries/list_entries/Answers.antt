@@ -1,5 +1,5 @@
 use Rattle.std.proofs.Common.{◌≡◌, ◌∙◌, length, ap, arith, subst, sym}
-use Rattle.mk_why.specs.Entries.{AreEntriesBelow}
+use Rattle.mk_why.proofs.Vocabulary.{AreEntriesBelow}
 use Rattle.mk_why.proofs.MadeEntries.{entries_more, no_entries}
 use Rattle.mk_why.proofs.entries.list_entries.Goals as goal
 
@@ -11,8 +11,7 @@ loop-base-init c = record {
 
 pub loop-base-preserved : goal.loop-base-preserved
 loop-base-preserved c = record {
-  below = λ k v told. entries_more k v c.args.tables.now.found.items c.args.tables.now.kept.items told
-      c.loop-base.base c.loop-base.entries.items c.push_entry.new.entries.items
+  below = λ k v told. entries_more told c.push_entry.new.entries.items
       (λ none. ap (λ entries. entries.items) (c.in_ok-push_entry.ensures.none none))
       c.in_ok-push_entry.ensures.more (c.loop-base.invariant.below k v told);
   none = λ none. ap (λ entries. entries.items) (c.in_ok-push_entry.ensures.none (none c.loop-base.base))

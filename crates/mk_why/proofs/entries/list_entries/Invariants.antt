@@ -1,10 +1,6 @@
 use Rattle.std.proofs.Common.{◌≡◌, ℕ, []}
 use Rattle.std.specs.Prelude.{None}
-use Rattle.mk_core.specs.declared.config.Config.{Config}
-use Rattle.mk_why.specs.Entries.{AreEntriesBelow}
-use Rattle.mk_why.specs.Listing.{IsTold}
-use Rattle.mk_why.specs.Searching.{entry_at}
-use Rattle.mk_why.specs.Stops.{View}
+use Rattle.mk_why.proofs.Vocabulary.{AreEntriesBelow, Config, IsTold, View, entry_at}
 use Rattle.mk_why.proofs.entries.list_entries.Given as goal
 
 abbrev pub invariant-loop-base : goal.invariant-loop-base

@@ -1,9 +1,7 @@
 use Rattle.std.proofs.Common.{◌≡◌, ◌∙◌, ◌<◌, length, arith, sym, subst}
 use Rattle.std.specs.Prelude.{Option, Some}
-use Rattle.mk_why.specs.declared.found.Found.{Found}
-use Rattle.mk_why.specs.declared.found.Storage.{Storage}
+use Rattle.mk_why.proofs.Vocabulary.{Found, Storage, entry_at}
 use Rattle.mk_why.specs.Entries.{IsMadeOf}
-use Rattle.mk_why.specs.Searching.{entry_at}
 use Rattle.mk_why.proofs.MadeEntries.{read_at}
 use Rattle.mk_why.proofs.entries.push_entry.Goals as goal
 
@@ -22,6 +20,5 @@ returns-clause-more c s is =
       entry = c.in_ok-kept.kept;
       is = c.in_ok-append.ensures;
       made = subst (λ (x : Storage). IsMadeOf found x (entry_at found c.args.base) c.in_ok-kept.kept) (sym same)
-          (subst (λ (o : Option Found). IsMadeOf found c.in-Some.storage o c.in_ok-kept.kept) way
-          c.in_ok-kept.ensures);
+          (subst (λ (o : Option Found). IsMadeOf found c.in-Some.storage o c.in_ok-kept.kept) way c.in_ok-kept.ensures);
     }

@@ -1,5 +1,5 @@
 use Rattle.std.proofs.Common.{◌∙◌, ℕ, sym, arith}
-use Rattle.mk_why.specs.Stops.{view_by}
+use Rattle.mk_why.proofs.Vocabulary.{view_by}
 use Rattle.mk_why.proofs.Lists.{cells_more, has_kept_at, kept_at, lists_cell, lists_nothing, lists_then}
 use Rattle.mk_why.proofs.listing.list_cells.Goals as goal
 
@@ -26,7 +26,6 @@ loop-index-preserved c =
     let r = c.loop-index.tables in
     let s = c.list_cell.new.tables in
     let index : ℕ = c.loop-index.index in
-    let size : ℕ = c.words_under-size.result in
     let one = lists_cell k v r s (record { page = c.args.page; index = c.loop-index.index }) c.words_under-size.result
     c.has_bit.result c.has_bit-in-loop-index.result c.loop-index.invariant.on.of_kept
     (c.loop-index.invariant.on.size ∙ c.requires.size)
@@ -37,10 +36,9 @@ loop-index-preserved c =
     (sym c.has_bit-in-loop-index.ensures ∙ marked))
     c.list_cell.ensures.found c.list_cell.ensures.kept c.list_cell.ensures.outside c.list_cell.ensures.unmarked in
     record {
-      on = lists_then k v c.args.tables.now r s c.loop-index.invariant.on one.on;
-      listed = cells_more k v r s c.args.page c.words_under-size.result _ c.args.snapshot c.args.marks
-          c.loop-index.index c.has_bit.result c.has_bit-in-loop-index.result c.has_bit.ensures
-          c.has_bit-in-loop-index.ensures
+      on = lists_then c.loop-index.invariant.on one.on;
+      listed = cells_more c.args.page c.words_under-size.result _ c.args.snapshot c.args.marks
+          c.loop-index.index c.has_bit.ensures c.has_bit-in-loop-index.ensures
           (has_kept_at c.args.stop.now.pass c.is_in_order.ensures.history c.requires.still c.args.words.now
           c.requires.one_table c.args.page c.args.header c.args.snapshot c.args.marks c.words_under-size.result
           c.requires.header c.requires.snapshot c.requires.marks c.words_under-size.ensures.exact)

@@ -1,8 +1,6 @@
 use Rattle.std.proofs.Common.{◌≡◌, ◌∙◌, ℕ, true, sym, subst, arith}
-use Rattle.mk_core.specs.Allocations.{cell_of_allocation, placed_at}
-use Rattle.mk_why.specs.Chains.{is_kept}
-use Rattle.mk_why.specs.Listing.{AreOfKept, IsListed, ListsOn}
-use Rattle.mk_why.specs.Stops.{View, base_at, view_by, world_in}
+use Rattle.mk_why.proofs.Vocabulary.{AreOfKept, IsListed, ListsOn, View, base_at, cell_of_allocation, is_kept}
+use Rattle.mk_why.proofs.Vocabulary.{placed_at, view_by, world_in}
 use Rattle.mk_why.proofs.Lists.{kept_page, lists_nothing, lists_then, none_listed, pages_more}
 use Rattle.mk_why.proofs.Looks.{looks_at_nothing, looks_then}
 use Rattle.mk_why.proofs.listing.list_kept.Goals as goal
@@ -11,8 +9,7 @@ pub loop-page-init : goal.loop-page-init
 loop-page-init c = record {
   looks = looks_at_nothing c.args.stop.now c.requires.still;
   on = lists_nothing c.args.words.now.config (view_by c.args.stop.now.pass) c.args.tables.now
-      (none_listed c.args.words.now.config (view_by c.args.stop.now.pass) c.args.tables.now.kept.items
-      c.requires.none);
+      (none_listed c.args.words.now.config (view_by c.args.stop.now.pass) c.args.tables.now.kept.items c.requires.none);
   listed = λ b kept lt. absurd (omega arith);
 }
 
@@ -33,9 +30,9 @@ loop-page-preserved c =
     let on : ListsOn k v c.loop-page.tables s =
     subst (λ (y : View). ListsOn k y c.loop-page.tables s) x.looks.view c.list_page.ensures.on in
     record {
-      looks = looks_then c.args.stop.now c.loop-page.stop c.list_page.new.stop x.looks c.list_page.ensures.looks;
-      on = lists_then k v c.args.tables.now c.loop-page.tables s x.on on;
-      listed = pages_more k v c.loop-page.tables s c.loop-page.page on x.listed
+      looks = looks_then x.looks c.list_page.ensures.looks;
+      on = lists_then x.on on;
+      listed = pages_more c.loop-page.page on x.listed
           (subst (λ (y : View). (b : ℕ) → is_kept k (world_in y) b ≡ true
           → (cell_of_allocation k (placed_at y.allocations b)).page ≡ c.loop-page.page
           → IsListed s.kept.items (base_at y b)) x.looks.view c.list_page.ensures.listed);

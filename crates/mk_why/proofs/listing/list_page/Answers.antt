@@ -1,10 +1,7 @@
 use Rattle.std.proofs.Common.{◌≡◌, ◌∙◌, ℕ, ◌+◌, ◌*◌, ◌^◌, true, ap, sym, subst}
 use Rattle.std.specs.Prelude.{slice_index}
-use Rattle.mk_core.specs.Allocations.{cell_of_allocation, placed_at}
-use Rattle.mk_core.specs.Words.{header_at}
-use Rattle.mk_why.specs.Chains.{is_kept}
-use Rattle.mk_why.specs.Listing.{AreOfKept, IsListed, ListsOn}
-use Rattle.mk_why.specs.Stops.{View, base_at, world_in}
+use Rattle.mk_why.proofs.Vocabulary.{AreOfKept, IsListed, ListsOn, View, base_at, cell_of_allocation, header_at}
+use Rattle.mk_why.proofs.Vocabulary.{is_kept, placed_at, world_in}
 use Rattle.mk_why.proofs.Lists.{snapshot_read}
 use Rattle.mk_why.proofs.Looks.{looks_then}
 use Rattle.mk_why.proofs.listing.list_page.Goals as goal
@@ -22,8 +19,7 @@ list_cells-requires-clause-snapshot c =
     snapshot_read c.args.stop.now.pass c.is_in_order.ensures.history c.args.page c.look_at-quarantine.result
     (c.look_at-quarantine.ensures.found
     ∙ ap (λ (v : View). slice_index v.words.freed c.args.page + 2 ^ 32 * slice_index v.words.snapshot c.args.page)
-    c.look_at-header.ensures.on.view)
-    ∙ sym (ap (λ (v : View). slice_index v.words.snapshot c.args.page) same)
+    c.look_at-header.ensures.on.view) ∙ sym (ap (λ (v : View). slice_index v.words.snapshot c.args.page) same)
 
 pub list_cells-requires-clause-marks : goal.list_cells-requires-clause-marks
 list_cells-requires-clause-marks c =
@@ -34,14 +30,11 @@ pub list_cells-requires-clause-of_kept : goal.list_cells-requires-clause-of_kept
 list_cells-requires-clause-of_kept c =
     let same = c.look_at-marks.ensures.on.view ∙ c.look_at-quarantine.ensures.on.view
     ∙ c.look_at-header.ensures.on.view in
-    subst (λ (v : View). AreOfKept c.args.words.now.config v c.args.tables.now.kept.items) (sym same)
-    c.requires.of_kept
+    subst (λ (v : View). AreOfKept c.args.words.now.config v c.args.tables.now.kept.items) (sym same) c.requires.of_kept
 
 pub returns-clause-looks : goal.returns-clause-looks
 returns-clause-looks c =
-    looks_then c.args.stop.now c.look_at-quarantine.new.stop c.look_at-marks.new.stop
-    (looks_then c.args.stop.now c.look_at-header.new.stop c.look_at-quarantine.new.stop c.look_at-header.ensures.on
-    c.look_at-quarantine.ensures.on) c.look_at-marks.ensures.on
+    looks_then (looks_then c.look_at-header.ensures.on c.look_at-quarantine.ensures.on) c.look_at-marks.ensures.on
 
 pub returns-clause-on : goal.returns-clause-on
 returns-clause-on c =

@@ -1,5 +1,4 @@
 use Rattle.std.proofs.Common.{arith}
-use Rattle.mk_why.specs.Stops.{view_by}
 use Rattle.mk_why.proofs.Pointed.{begins_at}
 use Rattle.mk_why.proofs.Searches.{grows_nothing, notes}
 use Rattle.mk_why.proofs.Explored.{found_by, noted_by}
@@ -25,28 +24,22 @@ note-requires c =
 
 pub returns-clause-on : goal.returns-clause-on
 returns-clause-on c =
-    let k = c.args.words.now.config in
-    let v = view_by c.args.stop.now.pass in
     let x = c.in-Some.ensures.points in
     let low = begins_at c.args.stop.now.pass c.is_in_order.ensures.history c.requires.still c.args.words.now
     c.requires.one_table c.in-Some.base (record { number = x.number; unreleased = x.points.0; is = x.is }) in
     let size = c.requires.search.size in
-    let n = notes k v c.args.tables.now c.note.new.self c.in-Some.base c.args.found c.requires.search (omega arith)
+    let n = notes c.note.new.self c.requires.search (omega arith)
     c.note.ensures.known c.note.ensures.noted c.note.ensures.last c.note.ensures.more c.note.ensures.room
-    c.requires.shallow
-    (found_by k v c.args.tables.now.found.items c.args.value c.in-Some.base c.args.found x c.requires.way) in
+    c.requires.shallow (found_by c.args.tables.now.found.items c.args.found x c.requires.way) in
     record { on = c.base_pointed.ensures.on; search = n.search; grows = n.grows }
 
 pub returns-clause-noted : goal.returns-clause-noted
 returns-clause-noted c =
-    let k = c.args.words.now.config in
-    let v = view_by c.args.stop.now.pass in
     let x = c.in-Some.ensures.points in
     let low = begins_at c.args.stop.now.pass c.is_in_order.ensures.history c.requires.still c.args.words.now
     c.requires.one_table c.in-Some.base (record { number = x.number; unreleased = x.points.0; is = x.is }) in
     let size = c.requires.search.size in
-    let n = notes k v c.args.tables.now c.note.new.self c.in-Some.base c.args.found c.requires.search (omega arith)
+    let n = notes c.note.new.self c.requires.search (omega arith)
     c.note.ensures.known c.note.ensures.noted c.note.ensures.last c.note.ensures.more c.note.ensures.room
-    c.requires.shallow
-    (found_by k v c.args.tables.now.found.items c.args.value c.in-Some.base c.args.found x c.requires.way) in
-    noted_by k v c.note.new.self.found.items c.args.value c.in-Some.base c.args.found.links x n.within
+    c.requires.shallow (found_by c.args.tables.now.found.items c.args.found x c.requires.way) in
+    noted_by x n.within

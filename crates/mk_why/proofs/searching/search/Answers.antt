@@ -1,8 +1,6 @@
 use Rattle.std.proofs.Common.{ℕ, ◌<◌, subst}
-use Rattle.mk_why.specs.declared.kept.Root.TheVariants.{Global, Register}
-use Rattle.mk_why.specs.Chains.{word_of_root}
-use Rattle.mk_why.specs.Searching.{AreWays, IsSearched, IsFound, IsNoted}
-use Rattle.mk_why.specs.Stops.{View, view_by}
+use Rattle.mk_why.proofs.Vocabulary.{AreWays, Global, IsFound, IsNoted, IsSearched, Register, View, view_by}
+use Rattle.mk_why.proofs.Vocabulary.{word_of_root}
 use Rattle.mk_why.proofs.Explored.{explored, roots_noted}
 use Rattle.mk_why.proofs.Looks.{looks_then}
 use Rattle.mk_why.proofs.Searches.{empty_search, noted_stays, part_noted, view_search}
@@ -15,29 +13,21 @@ search_registers-requires-clause-search c =
 
 pub search_globals-requires-clause-search : goal.search_globals-requires-clause-search
 search_globals-requires-clause-search c =
-    view_search c.args.words.now.config c.args.stop.now c.search_registers.new.stop c.search_registers.new.tables 0
-    c.search_registers.ensures.on.on c.search_registers.ensures.on.search
+    view_search c.search_registers.ensures.on.on c.search_registers.ensures.on.search
 
 pub search_queue-requires-clause-search : goal.search_queue-requires-clause-search
-search_queue-requires-clause-search c =
-    view_search c.args.words.now.config c.search_registers.new.stop c.search_globals.new.stop
-    c.search_globals.new.tables 0 c.search_globals.ensures.on.on c.search_globals.ensures.on.search
+search_queue-requires-clause-search c = view_search c.search_globals.ensures.on.on c.search_globals.ensures.on.search
 
 pub returns-clause-on : goal.returns-clause-on
 returns-clause-on c =
-    looks_then c.args.stop.now c.search_globals.new.stop c.search_queue.new.stop
-    (looks_then c.args.stop.now c.search_registers.new.stop c.search_globals.new.stop
-    c.search_registers.ensures.on.on c.search_globals.ensures.on.on) c.search_queue.ensures.on
+    looks_then (looks_then c.search_registers.ensures.on.on c.search_globals.ensures.on.on) c.search_queue.ensures.on
 
 pub returns-clause-explored : goal.returns-clause-explored
 returns-clause-explored c =
     let k = c.args.words.now.config in
     let v = view_by c.args.stop.now.pass in
-    let t = c.args.stop.now in
-    let g = c.search_globals.new.stop in
     let found = c.search_queue.new.tables.found.items in
-    let on = looks_then t c.search_registers.new.stop g c.search_registers.ensures.on.on
-    c.search_globals.ensures.on.on in
+    let on = looks_then c.search_registers.ensures.on.on c.search_globals.ensures.on.on in
     let registers : (caller : ℕ) → caller < k.callers → (register : ℕ) → register < 8
     → IsNoted k v found (word_of_root v.words (Register caller register)) 0 = λ caller lt register few.
     noted_stays k v c.search_globals.new.tables.found.items found c.search_queue.ensures.grows.stays
@@ -46,10 +36,9 @@ returns-clause-explored c =
     c.search_globals.ensures.on.grows.stays (word_of_root v.words (Register caller register)) 0
     (c.search_registers.ensures.noted caller lt register few)) in
     let globals : (global : ℕ) → global < 64 → IsNoted k v found (word_of_root v.words (Global global)) 0 =
-    λ global lt.
-    noted_stays k v c.search_globals.new.tables.found.items found c.search_queue.ensures.grows.stays
+    λ global lt. noted_stays k v c.search_globals.new.tables.found.items found c.search_queue.ensures.grows.stays
     (word_of_root v.words (Global global)) 0
-    (part_noted k t c.search_registers.new.stop c.search_globals.new.tables.found.items
+    (part_noted k c.search_globals.new.tables.found.items
     (λ y. word_of_root y.words (Global global)) 0 c.search_registers.ensures.on.on
     (c.search_globals.ensures.noted global lt)) in
     let done : (base : ℕ) → IsFound found base → IsSearched k v found base = λ base x.

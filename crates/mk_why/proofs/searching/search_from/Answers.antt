@@ -1,7 +1,7 @@
 use Rattle.std.proofs.Common.{◌≡◌, ◌+◌, ◌<◌, refl, sym, subst, arith, length}
 use Rattle.std.specs.Prelude.{Some, slice_index}
-use Rattle.mk_why.specs.Searching.{AreScannedFrom, IsFirstWord, IsSearched, IsSearch, SearchesOn, entry_at, links_of}
-use Rattle.mk_why.specs.Stops.{View, view_by}
+use Rattle.mk_why.proofs.Vocabulary.{IsFirstWord, IsSearch, IsSearched, SearchesOn, View, entry_at, links_of, view_by}
+use Rattle.mk_why.specs.Searching.{AreScannedFrom}
 use Rattle.mk_why.proofs.Scans.{done_from, entry_read, links_there, one_more_fits, queue_read, queued_base}
 use Rattle.mk_why.proofs.Scans.{queued_within}
 use Rattle.mk_why.proofs.Searches.{looks_search, part_noted, through_stays, view_search}
@@ -10,8 +10,7 @@ use Rattle.mk_why.proofs.searching.search_from.Goals.{After-index-base, In-Some}
 
 -- the base at this place of the queue
 base : (c : After-index-base) → c.index-base.result.now ≡ slice_index c.args.tables.now.queue.items c.args.place
-base c =
-    queue_read c.args.tables.now c.args.place c.index-base.result.now c.index-base.ensures c.requires.place
+base c = queue_read c.args.tables.now c.args.place c.index-base.result.now c.index-base.ensures c.requires.place
 
 low : (c : After-index-base) → c.index-base.result.now < length c.args.tables.now.found.items
 low c =
@@ -61,8 +60,7 @@ search_words-requires-clause-search c =
     let x = goal.at.search_words-requires-clause-search c in
     let k = c.args.words.now.config in
     let r = c.args.tables.now in
-    view_search k c.args.stop.now c.scanned_size-size.new.stop r (c.in-Some.found.links + 1)
-    c.scanned_size-size.ensures.on
+    view_search c.scanned_size-size.ensures.on
     (subst (λ n. IsSearch k (view_by c.args.stop.now.pass) r (n + 1))
     (links x.In-Some (base x.After-index-base) (there x.In-Some (low x.After-index-base))) c.requires.search)
 
@@ -81,8 +79,7 @@ returns-clause-on c =
     let r = c.args.tables.now in
     subst (λ n. SearchesOn k c.args.stop.now c.search_words.new.stop r c.search_words.new.tables (n + 1))
     (sym (links x.In-Some (base x.After-index-base) (there x.In-Some (low x.After-index-base))))
-    (looks_search k c.args.stop.now c.scanned_size-size.new.stop c.search_words.new.stop r c.search_words.new.tables
-    (c.in-Some.found.links + 1) c.scanned_size-size.ensures.on c.search_words.ensures.on)
+    (looks_search c.scanned_size-size.ensures.on c.search_words.ensures.on)
 
 pub returns-clause-done : goal.returns-clause-done
 returns-clause-done c =
@@ -93,10 +90,10 @@ returns-clause-done c =
     let there = there x.In-Some (low x.After-index-base) in
     let found = c.search_words.new.tables.found.items in
     subst (λ n. IsSearched k v found n) (base x.After-index-base)
-    (done_from k v found c.index-base.result.now c.scanned_size-size.result c.in-Some.found.links
+    (done_from k v c.scanned_size-size.result
     (through_stays r.found.items found c.search_words.ensures.on.grows.stays c.index-base.result.now
     c.in-Some.found.links (record { entry = c.in-Some.found; there = there; through = refl }))
     c.scanned_size-size.ensures.whole
-    (λ i lt. part_noted k c.args.stop.now c.scanned_size-size.new.stop found
+    (λ i lt. part_noted k found
     (λ y. slice_index y.words.heap (c.index-base.result.now + i)) (c.in-Some.found.links + 1)
     c.scanned_size-size.ensures.on (c.search_words.ensures.noted i lt)))

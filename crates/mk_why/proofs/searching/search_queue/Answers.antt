@@ -1,7 +1,6 @@
 use Rattle.std.proofs.Common.{ℕ, ◌+◌, ◌<◌, subst, arith}
 use Rattle.std.specs.Prelude.{slice_index}
-use Rattle.mk_why.specs.Searching.{IsSearched, IsSearch, links_of}
-use Rattle.mk_why.specs.Stops.{View, view_by}
+use Rattle.mk_why.proofs.Vocabulary.{IsSearch, IsSearched, View, links_of, view_by}
 use Rattle.mk_why.proofs.Explored.{all_done, done_more, near_next}
 use Rattle.mk_why.proofs.Looks.{looks_at_nothing, looks_then}
 use Rattle.mk_why.proofs.Searches.{grows_nothing, grows_then, limit_of, view_search}
@@ -19,12 +18,9 @@ loop-place-init c = record {
 
 pub search_from-requires-clause-search : goal.search_from-requires-clause-search
 search_from-requires-clause-search c =
-    let k = c.args.words.now.config in
     let x = c.loop-place.invariant in
-    view_search k c.args.stop.now c.loop-place.stop c.loop-place.tables
-    (links_of c.loop-place.tables c.loop-place.place + 1) x.on
-    (limit_of k (view_by c.args.stop.now.pass) c.loop-place.tables x.limit
-    (links_of c.loop-place.tables c.loop-place.place + 1) x.search (x.near c.loop-place-test.true))
+    view_search x.on
+    (limit_of (links_of c.loop-place.tables c.loop-place.place + 1) x.search (x.near c.loop-place-test.true))
 
 pub loop-place-preserved : goal.loop-place-preserved
 loop-place-preserved c =
@@ -41,10 +37,10 @@ loop-place-preserved c =
     subst (λ (y : View). IsSearched k y s.found.items (slice_index r.queue.items place)) x.on.view
     c.search_from.ensures.done in
     record {
-      on = looks_then c.args.stop.now c.loop-place.stop c.search_from.new.stop x.on c.search_from.ensures.on.on;
+      on = looks_then x.on c.search_from.ensures.on.on;
       limit = links_of r place + 1;
       search = behind;
-      grows = grows_then c.args.tables.now r s x.grows c.search_from.ensures.on.grows;
+      grows = grows_then x.grows c.search_from.ensures.on.grows;
       near = near_next k v r s place x.limit known x.search behind c.search_from.ensures.on.grows;
       done = done_more k v r s place x.limit known x.search behind c.search_from.ensures.on.grows x.done here;
     }

@@ -1,7 +1,6 @@
 use Rattle.std.proofs.Common.{ℕ, ◌+◌, ◌-◌, ◌*◌, ◌<◌, ◌≤◌}
 use Rattle.std.specs.Prelude.{slice_index}
-use Rattle.mk_why.specs.Searching.{FindsMore, IsSearched, IsSearch, links_of}
-use Rattle.mk_why.specs.Stops.{LooksOn, view_by}
+use Rattle.mk_why.proofs.Vocabulary.{FindsMore, IsSearch, IsSearched, LooksOn, links_of, view_by}
 use Rattle.mk_why.proofs.searching.search_queue.Given as goal
 
 abbrev pub invariant-loop-place : goal.invariant-loop-place

@@ -1,22 +1,18 @@
 use Rattle.std.proofs.Common.{ℕ, ◌<◌, arith}
+use Rattle.mk_why.proofs.Vocabulary.{IsNoted, Register, view_by, word_of_root}
 use borrow.Author.Count.{below_more}
-use Rattle.mk_why.specs.declared.kept.Root.TheVariants.{Register}
-use Rattle.mk_why.specs.Chains.{word_of_root}
-use Rattle.mk_why.specs.Searching.{IsNoted}
-use Rattle.mk_why.specs.Stops.{view_by}
 use Rattle.mk_why.proofs.Searches.{noted_stays, part_noted, searches_nothing, searches_then, view_search}
 use Rattle.mk_why.proofs.searching.search_registers.Goals as goal
 
 pub loop-caller-init : goal.loop-caller-init
 loop-caller-init c = record {
-  on = searches_nothing c.args.words.now.config c.args.stop.now c.args.tables.now 0 c.requires.still c.requires.search;
+  on = searches_nothing c.args.stop.now c.requires.still c.requires.search;
   noted = λ caller lt. absurd (omega arith);
 }
 
 pub search_registers_of-requires-clause-search : goal.search_registers_of-requires-clause-search
 search_registers_of-requires-clause-search c =
-    view_search c.args.words.now.config c.args.stop.now c.loop-caller.stop c.loop-caller.tables 0
-    c.loop-caller.invariant.on.on c.loop-caller.invariant.on.search
+    view_search c.loop-caller.invariant.on.on c.loop-caller.invariant.on.search
 
 pub loop-caller-preserved : goal.loop-caller-preserved
 loop-caller-preserved c =
@@ -24,16 +20,13 @@ loop-caller-preserved c =
     let v = view_by c.args.stop.now.pass in
     let more = c.search_registers_of.new.tables.found.items in
     record {
-      on = searches_then k c.args.stop.now c.loop-caller.stop c.search_registers_of.new.stop c.args.tables.now
-          c.loop-caller.tables c.search_registers_of.new.tables 0 c.loop-caller.invariant.on
-          c.search_registers_of.ensures.on;
+      on = searches_then c.loop-caller.invariant.on c.search_registers_of.ensures.on;
       noted =
           below_more (λ j. (r : ℕ) → r < 8 → IsNoted k v more (word_of_root v.words (Register j r)) 0)
           c.loop-caller.caller
           (λ j lt r few. noted_stays k v c.loop-caller.tables.found.items more
           c.search_registers_of.ensures.on.grows.stays (word_of_root v.words (Register j r)) 0
           (c.loop-caller.invariant.noted j lt r few))
-          (λ r few. part_noted k c.args.stop.now c.loop-caller.stop more
-          (λ y. word_of_root y.words (Register c.loop-caller.caller r)) 0
+          (λ r few. part_noted k more (λ y. word_of_root y.words (Register c.loop-caller.caller r)) 0
           c.loop-caller.invariant.on.on (c.search_registers_of.ensures.noted r few));
     }

@@ -1,8 +1,5 @@
 use Rattle.std.proofs.Common.{ℕ, ◌<◌}
-use Rattle.mk_why.specs.declared.kept.Root.TheVariants.{Register}
-use Rattle.mk_why.specs.Chains.{word_of_root}
-use Rattle.mk_why.specs.Searching.{IsNoted, SearchesOn}
-use Rattle.mk_why.specs.Stops.{view_by}
+use Rattle.mk_why.proofs.Vocabulary.{IsNoted, Register, SearchesOn, view_by, word_of_root}
 use Rattle.mk_why.proofs.searching.search_registers.Given as goal
 
 abbrev pub invariant-loop-caller : goal.invariant-loop-caller

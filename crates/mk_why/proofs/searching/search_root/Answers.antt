@@ -1,37 +1,27 @@
 use Rattle.std.proofs.Common.{◌≡◌, ◌∙◌, refl, sym, ap, subst}
-use Rattle.mk_core.specs.declared.events.Word.{Word}
-use Rattle.mk_core.specs.Ranges.{is_word}
-use Rattle.mk_core.specs.Touched.{PointsIntoAllocation}
-use Rattle.mk_core.specs.Words.{named_word}
-use Rattle.mk_why.specs.Chains.{word_of_root}
-use Rattle.mk_why.specs.Searching.{IsNoted, IsWay}
-use Rattle.mk_why.specs.declared.found.Way.TheVariants.{Start}
-use Rattle.mk_why.specs.Stops.{View, is_still_word, view_by, world_in}
+use Rattle.mk_why.proofs.Vocabulary.{IsNoted, IsWay, PointsIntoAllocation, Start, View, is_still_word, is_word}
+use Rattle.mk_why.proofs.Vocabulary.{named_word, view_by, word_of_root, world_in}
 use Rattle.mk_why.proofs.Explored.{root_is_still, root_is_word, root_named}
 use Rattle.mk_why.proofs.Searches.{looks_search, part_noted, view_search}
 use Rattle.mk_why.proofs.searching.search_root.Goals as goal
 
 pub look_at-value-requires-clause-word : goal.look_at-value-requires-clause-word
 look_at-value-requires-clause-word c =
-    ap (λ (x : Word). is_word c.args.words.now.config x) c.root_word.ensures
+    ap (is_word c.args.words.now.config) c.root_word.ensures
     ∙ root_is_word c.args.words.now.config c.args.root c.requires.root
 
 pub look_at-value-requires-clause-name : goal.look_at-value-requires-clause-name
-look_at-value-requires-clause-name c =
-    ap (λ (x : Word). is_still_word x) c.root_word.ensures ∙ root_is_still c.args.root
+look_at-value-requires-clause-name c = ap is_still_word c.root_word.ensures ∙ root_is_still c.args.root
 
 pub note_value-requires-clause-search : goal.note_value-requires-clause-search
-note_value-requires-clause-search c =
-    view_search c.args.words.now.config c.args.stop.now c.look_at-value.new.stop c.args.tables.now 0
-    c.look_at-value.ensures.on c.requires.search
+note_value-requires-clause-search c = view_search c.look_at-value.ensures.on c.requires.search
 
 pub note_value-requires-clause-way : goal.note_value-requires-clause-way
 note_value-requires-clause-way c b points =
     let k = c.args.words.now.config in
     let v = view_by c.args.stop.now.pass in
     let value : c.look_at-value.result ≡ word_of_root v.words c.args.root =
-    c.look_at-value.ensures.found ∙ ap (λ (x : Word). named_word v.words x) c.root_word.ensures
-    ∙ root_named v.words c.args.root in
+    c.look_at-value.ensures.found ∙ ap (named_word v.words) c.root_word.ensures ∙ root_named v.words c.args.root in
     subst (λ (y : View). IsWay k y c.args.tables.now.found.items (Start c.args.root) 0 b)
     (sym c.look_at-value.ensures.on.view) (
       refl,
@@ -42,17 +32,14 @@ note_value-requires-clause-way c b points =
     )
 
 pub returns-clause-on : goal.returns-clause-on
-returns-clause-on c =
-    looks_search c.args.words.now.config c.args.stop.now c.look_at-value.new.stop c.note_value.new.stop
-    c.args.tables.now c.note_value.new.tables 0 c.look_at-value.ensures.on c.note_value.ensures.on
+returns-clause-on c = looks_search c.look_at-value.ensures.on c.note_value.ensures.on
 
 pub returns-clause-noted : goal.returns-clause-noted
 returns-clause-noted c =
     let k = c.args.words.now.config in
     let v = view_by c.args.stop.now.pass in
     let value : c.look_at-value.result ≡ word_of_root v.words c.args.root =
-    c.look_at-value.ensures.found ∙ ap (λ (x : Word). named_word v.words x) c.root_word.ensures
-    ∙ root_named v.words c.args.root in
+    c.look_at-value.ensures.found ∙ ap (named_word v.words) c.root_word.ensures ∙ root_named v.words c.args.root in
     subst (λ u. IsNoted k v c.note_value.new.tables.found.items u 0) value
-    (part_noted k c.args.stop.now c.look_at-value.new.stop c.note_value.new.tables.found.items
+    (part_noted k c.note_value.new.tables.found.items
     (λ y. c.look_at-value.result) 0 c.look_at-value.ensures.on c.note_value.ensures.noted)

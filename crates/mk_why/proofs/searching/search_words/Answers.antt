@@ -1,9 +1,6 @@
 use Rattle.std.proofs.Common.{◌≡◌, ◌∙◌, ◌+◌, ◌*◌, sym, ap, subst, arith}
 use Rattle.std.specs.Prelude.{slice_index}
-use Rattle.mk_why.specs.Searching.{IsNoted, IsWay}
-use Rattle.mk_why.specs.declared.found.Way.TheVariants.{Link}
-use Rattle.mk_core.specs.Touched.{PointsIntoAllocation}
-use Rattle.mk_why.specs.Stops.{View, view_by, world_in}
+use Rattle.mk_why.proofs.Vocabulary.{IsNoted, IsWay, Link, PointsIntoAllocation, View, view_by, world_in}
 use Rattle.mk_why.proofs.Looks.{looks_then}
 use Rattle.mk_why.proofs.Searches.{looks_search, more_noted, part_noted, searches_nothing, searches_then, through_stays}
 use Rattle.mk_why.proofs.Searches.{view_search}
@@ -12,17 +9,13 @@ use Rattle.mk_why.proofs.searching.search_words.Goals as goal
 
 pub loop-i-init : goal.loop-i-init
 loop-i-init c = record {
-  on = searches_nothing c.args.words.now.config c.args.stop.now c.args.tables.now (c.args.links + 1) c.requires.still
-      c.requires.search;
+  on = searches_nothing c.args.stop.now c.requires.still c.requires.search;
   noted = λ i lt. absurd (omega arith);
 }
 
 pub note_value-requires-clause-search : goal.note_value-requires-clause-search
 note_value-requires-clause-search c =
-    view_search c.args.words.now.config c.loop-i.stop c.look_at-value.new.stop c.loop-i.tables (c.args.links + 1)
-    c.look_at-value.ensures.on
-    (view_search c.args.words.now.config c.args.stop.now c.loop-i.stop c.loop-i.tables (c.args.links + 1)
-    c.loop-i.invariant.on.on c.loop-i.invariant.on.search)
+    view_search c.look_at-value.ensures.on (view_search c.loop-i.invariant.on.on c.loop-i.invariant.on.search)
 
 pub note_value-requires-clause-way : goal.note_value-requires-clause-way
 note_value-requires-clause-way c b points =
@@ -34,8 +27,7 @@ note_value-requires-clause-way c b points =
     ∙ ap (λ (y : View). slice_index y.words.heap (c.args.base + c.loop-i.i)) c.loop-i.invariant.on.on.view in
     subst (λ (y : View). IsWay k y c.loop-i.tables.found.items
     (Link (65536 + 8 * (c.args.base + c.loop-i.i)) c.args.base) (c.args.links + 1) b) (sym same)
-    (onward_way k v c.loop-i.tables.found.items c.args.base (c.args.base + c.loop-i.i) c.args.links b
-    (c.requires.scanned c.loop-i.i (omega arith))
+    (onward_way k v (c.args.base + c.loop-i.i) b (c.requires.scanned c.loop-i.i (omega arith))
     (through_stays c.args.tables.now.found.items c.loop-i.tables.found.items c.loop-i.invariant.on.grows.stays
     c.args.base c.args.links c.requires.found) c.look_at-value.result value
     (subst (λ (y : View). PointsIntoAllocation k (world_in y) c.look_at-value.result b) same points))
@@ -49,14 +41,11 @@ loop-i-preserved c =
     c.look_at-value.ensures.found
     ∙ ap (λ (y : View). slice_index y.words.heap (c.args.base + c.loop-i.i)) c.loop-i.invariant.on.on.view in
     record {
-      on = searches_then k c.args.stop.now c.loop-i.stop c.note_value.new.stop c.args.tables.now c.loop-i.tables
-          c.note_value.new.tables (c.args.links + 1) c.loop-i.invariant.on
-          (looks_search k c.loop-i.stop c.look_at-value.new.stop c.note_value.new.stop c.loop-i.tables
-          c.note_value.new.tables (c.args.links + 1) c.look_at-value.ensures.on c.note_value.ensures.on);
+      on = searches_then c.loop-i.invariant.on (looks_search c.look_at-value.ensures.on c.note_value.ensures.on);
       noted = more_noted k v c.loop-i.tables.found.items found c.note_value.ensures.on.grows.stays
           (λ i. slice_index v.words.heap (c.args.base + i)) (c.args.links + 1) c.loop-i.i c.loop-i.invariant.noted
           (subst (λ u. IsNoted k v found u (c.args.links + 1)) value
-          (part_noted k c.args.stop.now c.look_at-value.new.stop found (λ y. c.look_at-value.result)
-          (c.args.links + 1) (looks_then c.args.stop.now c.loop-i.stop c.look_at-value.new.stop
+          (part_noted k found (λ y. c.look_at-value.result)
+          (c.args.links + 1) (looks_then
           c.loop-i.invariant.on.on c.look_at-value.ensures.on) c.note_value.ensures.noted));
     }

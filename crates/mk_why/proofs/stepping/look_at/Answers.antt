@@ -1,6 +1,5 @@
 use Rattle.std.proofs.Common.{◌≡◌, true, subst, sym}
-use Rattle.mk_core.specs.Ranges.{is_word}
-use Rattle.mk_words.specs.States.{WordsState}
+use Rattle.mk_why.proofs.Vocabulary.{WordsState, is_word}
 use Rattle.mk_cycle.proofs.Allowed.{in_turn}
 use Rattle.mk_why.proofs.Looks.{look_admitted, look_enabled, look_finds, look_on}
 use Rattle.mk_why.proofs.stepping.look_at.Goals as goal

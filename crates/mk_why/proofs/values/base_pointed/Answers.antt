@@ -1,8 +1,7 @@
 use Rattle.std.proofs.Common.{◌∙◌, ◌*◌, ◌≤◌, ap, arith, sym}
 use Rattle.std.proofs.lemmas.Bool.{lt-ltb}
 use Rattle.std.proofs.Math.Nat.{mul-le-mul}
-use Rattle.mk_core.specs.Words.{header_at, used_at}
-use Rattle.mk_why.specs.Stops.{View}
+use Rattle.mk_why.proofs.Vocabulary.{View, header_at, used_at}
 use Rattle.mk_why.proofs.Looks.{looks_then}
 use Rattle.mk_why.proofs.Pointed.{cell_within, none_at, none_at_unused, some_at_used}
 use Rattle.mk_why.proofs.values.base_pointed.Goals as goal
@@ -27,9 +26,7 @@ look_at-header-requires-clause-word c =
     c.in-Some.cell c.in-Some.ensures.points).0
 
 pub returns-then-not-has_bit-clause-on : goal.returns-then-not-has_bit-clause-on
-returns-then-not-has_bit-clause-on c =
-    looks_then c.args.stop.now c.cell_pointed.new.stop c.look_at-used.new.stop c.cell_pointed.ensures.on
-    c.look_at-used.ensures.on
+returns-then-not-has_bit-clause-on c = looks_then c.cell_pointed.ensures.on c.look_at-used.ensures.on
 
 pub returns-then-not-has_bit-clause-points : goal.returns-then-not-has_bit-clause-points
 returns-then-not-has_bit-clause-points c =
@@ -72,9 +69,7 @@ overflow_add-result c =
 
 pub returns-clause-on : goal.returns-clause-on
 returns-clause-on c =
-    looks_then c.args.stop.now c.look_at-used.new.stop c.look_at-header.new.stop
-    (looks_then c.args.stop.now c.cell_pointed.new.stop c.look_at-used.new.stop c.cell_pointed.ensures.on
-    c.look_at-used.ensures.on) c.look_at-header.ensures.on
+    looks_then (looks_then c.cell_pointed.ensures.on c.look_at-used.ensures.on) c.look_at-header.ensures.on
 
 pub returns-clause-points : goal.returns-clause-points
 returns-clause-points c =

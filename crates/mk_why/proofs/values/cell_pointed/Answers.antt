@@ -1,8 +1,7 @@
 use Rattle.std.proofs.Common.{◌≡◌, ◌∙◌, false, ap, sym, subst}
+use Rattle.mk_why.proofs.Vocabulary.{header_at, view_by}
 use Rattle.mk_geom.specs.Addresses.{cell_at, is_heap_address}
-use Rattle.mk_core.specs.Words.{header_at}
 use Rattle.mk_tracing.proofs.MoreMarks.{outside_none, found_by_header}
-use Rattle.mk_why.specs.Stops.{view_by}
 use Rattle.mk_why.proofs.Looks.{looks_at_nothing}
 use Rattle.mk_why.proofs.values.cell_pointed.Goals as goal
 

@@ -1,7 +1,8 @@
 use Rattle.std.proofs.Common.{◌≡◌, true, Bool, Some, None, sym, ◌∙◌, subst}
 use Rattle.std.proofs.lemmas.Result.{IfOk-weaker}
 use Rattle.std.specs.Option.{option_or}
-use Rattle.mk_replay.specs.Players.{PlayerTakesAnswer, TakesStep}
+use Rattle.mk_replay.proofs.Vocabulary.{TakesStep}
+use Rattle.mk_replay.specs.Players.{PlayerTakesAnswer}
 use Rattle.mk_replay.proofs.RunLaws.{last_takes}
 use Rattle.mk_replay.proofs.players.Player.follow.Goals as goal
 

@@ -1,6 +1,7 @@
 use Rattle.std.proofs.Common.{◌<◌, length, Bool, slice_set, subst, rules}
 use Rattle.std.proofs.lemmas.Result.{IfOk-weaker}
-use Rattle.mk_replay.specs.Players.{TakesStep, TakeEvent}
+use Rattle.mk_replay.proofs.Vocabulary.{TakesStep}
+use Rattle.mk_replay.specs.Players.{TakeEvent}
 use Rattle.mk_replay.proofs.RunLaws.{one_takes}
 use Rattle.mk_replay.proofs.replaying.Run.follow.Goals as goal
 

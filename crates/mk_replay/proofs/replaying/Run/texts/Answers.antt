@@ -1,9 +1,6 @@
-use Rattle.std.proofs.Common.{◌≡◌, List, ◌<◌, length, get_or, ℕ, sym, subst, rules}
-use Rattle.mk_check.specs.declared.text.Text.{Text}
-use Rattle.mk_replay.specs.declared.players.Player.{Player}
-use Rattle.mk_check.specs.Declarations.{config_of}
-use Rattle.mk_replay.specs.Replays.{IsReplayedText, AreFirstTexts}
-use Rattle.mk_replay.specs.Players.{served_to, IsPlayerOf}
+use Rattle.std.proofs.Common.{◌≡◌, ◌<◌, length, get_or, ℕ, sym, subst, rules}
+use Rattle.mk_replay.proofs.Vocabulary.{AreFirstTexts, IsPlayerOf, config_of, served_to}
+use Rattle.mk_replay.specs.Replays.{IsReplayedText}
 use Rattle.mk_replay.proofs.RunLaws.{texts_push}
 use Rattle.mk_replay.proofs.replaying.Run.texts.Goals as goal
 
@@ -17,11 +14,10 @@ loop-player-preserved c = record {
       let p = c.player-item.result in
       let within : n < length players = search rules in
       let item : get_or players n p ≡ p = search rules in
-      let is = subst (λ (x : Player). IsPlayerOf program n (served_to (config_of program 8) es n) x) item
-      (h n p within) in
+      let is = subst (IsPlayerOf program n (served_to (config_of program 8) es n)) item (h n p within) in
       let t = c.in_ok-text.ensures program es n is in
-      subst (λ (xs : List Text). AreFirstTexts program es xs) (sym c.in_ok-push.ensures.items)
-      (texts_push program es texts c.in_ok-text.text (c.loop-player.invariant.texts program es h)
+      subst (AreFirstTexts program es) (sym c.in_ok-push.ensures.items)
+      (texts_push texts c.in_ok-text.text (c.loop-player.invariant.texts program es h)
       (subst (λ (i : ℕ). IsReplayedText program es i c.in_ok-text.text.bytes.items c.in_ok-text.text.ops
       c.in_ok-text.text.refused) (sym c.loop-player.invariant.count) t));
 }

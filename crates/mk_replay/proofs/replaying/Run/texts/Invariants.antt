@@ -1,8 +1,5 @@
 use Rattle.std.proofs.Common.{◌≡◌, List, length}
-use Rattle.mk_script.specs.declared.items.Item.{Item}
-use Rattle.mk_core.specs.declared.events.Event.{Event}
-use Rattle.mk_replay.specs.Replays.{AreFirstTexts}
-use Rattle.mk_replay.specs.Players.{ArePlayersOf}
+use Rattle.mk_replay.proofs.Vocabulary.{AreFirstTexts, ArePlayersOf, Event, Item}
 use Rattle.mk_replay.proofs.replaying.Run.texts.Given as goal
 
 abbrev pub invariant-loop-player : goal.invariant-loop-player

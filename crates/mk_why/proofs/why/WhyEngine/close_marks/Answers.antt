@@ -1,5 +1,5 @@
 use Rattle.std.proofs.Common.{◌∙◌, ap, arith}
-use Rattle.mk_words.specs.States.{PassState}
+use Rattle.mk_why.proofs.Vocabulary.{PassState}
 use Rattle.mk_cycle.proofs.Allowed.{in_turn}
 use Rattle.mk_why.proofs.Looks.{law_kept, still_closed, sweepless_kept, looks_then}
 use Rattle.mk_why.proofs.Pointed.{apart}
@@ -14,8 +14,7 @@ close_marks-requires-clause-made_for g c =
     (omega arith)).0
 
 pub search-requires-clause-still : goal.search-requires-clause-still
-search-requires-clause-still g c =
-    still_closed c.args.stop.now.pass c.close_marks.new.stop.pass c.close_marks.ensures.law c.requires.free
+search-requires-clause-still g c = still_closed c.close_marks.ensures.law c.requires.free
 
 pub search-requires-clause-one_table : goal.search-requires-clause-one_table
 search-requires-clause-one_table g c =
@@ -39,29 +38,25 @@ returns-clause-op g c = c.list_kept.ensures.looks.op ∙ c.search.ensures.on.op 
 pub returns-clause-law : goal.returns-clause-law
 returns-clause-law g c =
     law_kept c.args.stop.now.pass c.close_marks.new.stop c.list_kept.new.stop c.close_marks.ensures.law
-    (looks_then c.close_marks.new.stop c.search.new.stop c.list_kept.new.stop c.search.ensures.on
-    c.list_kept.ensures.looks)
+    (looks_then c.search.ensures.on c.list_kept.ensures.looks)
     (in_turn _ _ c.is_in_order-2.ensures.own c.is_in_order-2.ensures.turn c.is_in_order-2.ensures.history)
     c.is_in_order-2.ensures.gates
 
 pub returns-clause-reached : goal.returns-clause-reached
 returns-clause-reached g c none =
-    sweepless_kept c.args.stop.now.pass c.close_marks.new.stop c.list_kept.new.stop c.close_marks.ensures.law
-    (looks_then c.close_marks.new.stop c.search.new.stop c.list_kept.new.stop c.search.ensures.on
-    c.list_kept.ensures.looks)
-    (c.close_marks.ensures.reached none)
+    sweepless_kept c.close_marks.ensures.law
+    (looks_then c.search.ensures.on c.list_kept.ensures.looks) (c.close_marks.ensures.reached none)
 
 pub returns-clause-told : goal.returns-clause-told
 returns-clause-told g c =
     let k = c.args.words.now in
     let t = c.close_marks.new.stop in
-    let u = c.search.new.stop in
     let r = c.list_kept.new.stop in
-    let still = still_closed c.args.stop.now.pass t.pass c.close_marks.ensures.law c.requires.free in
-    let tables = told_by k.config t u c.search.new.tables c.forget_kept.new.self c.list_kept.new.tables
+    let still = still_closed c.close_marks.ensures.law c.requires.free in
+    let tables = told_by c.search.new.tables
     c.search.ensures.on c.search.ensures.explored (apart t.pass c.is_in_order.ensures.history still)
     c.forget_kept.ensures.found c.list_kept.ensures.on c.list_kept.ensures.each in
-    told_of _ k t r (looks_then t u r c.search.ensures.on c.list_kept.ensures.looks)
+    told_of _ k t r (looks_then c.search.ensures.on c.list_kept.ensures.looks)
     c.is_in_order.ensures.history c.close_marks.ensures.told
     (ap (λ (p : PassState). p.table) c.close_marks.ensures.law.keeps.call.pass ∙ c.requires.one_table)
     c.list_kept.new.tables.found.items c.list_kept.new.tables.kept.items tables
@@ -73,6 +68,5 @@ returns-clause-closed g c =
     record {
       inner = c.close_marks.new.stop.pass;
       part = c.close_marks.ensures.closed;
-      looks = (looks_then c.close_marks.new.stop c.search.new.stop c.list_kept.new.stop c.search.ensures.on
-          c.list_kept.ensures.looks).does;
+      looks = (looks_then c.search.ensures.on c.list_kept.ensures.looks).does;
     }
