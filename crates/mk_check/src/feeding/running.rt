@@ -139,10 +139,10 @@ impl Running {
 
     /// The operation that an instruction asks for.
     #[inline(always)]
-    pub fn asked(&self, instruction: Instruction) -> Option<Op>
-        ensures { result ≡ steps.op_asked self.now.numbers instruction }
+    pub fn asked(&self, instruction: &Instruction) -> Option<Op>
+        ensures { result ≡ steps.op_asked self.now.numbers instruction.now }
     {
-        match instruction {
+        match *instruction {
             Instruction::New { d, ty } => Some(Op::New { d, ty, full: false }),
             Instruction::Free { p } => Some(Op::Free { p }),
             Instruction::GetPtr { d, q, i } => Some(Op::GetPtr { d, q, i }),
@@ -318,7 +318,7 @@ impl Running {
                 next,
                 ..
             } => {
-                if self.asked(instruction).is_some() {
+                if self.asked(&instruction).is_some() {
                     return Ok(false);
                 }
                 self.at = next;

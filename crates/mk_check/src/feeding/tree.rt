@@ -177,6 +177,16 @@ impl Tree {
         self.spots[at].node
     }
 
+    /// The same, to be read in place.
+    #[inline(always)]
+    pub fn node_in_place(&self, at: usize) -> &Node
+        requires { at < length self.now }
+        ensures value { result.now ≡ node_at self.now at }
+        ensures tree { IsTree self.now }
+    {
+        &self.spots[at].node
+    }
+
     /// Whether the node is a line that asks for an operation, which doesn't depend on the number registers.
     #[inline(always)]
     pub fn asks(&self, at: usize) -> bool

@@ -33,7 +33,7 @@ impl Running {
     /// Takes the number that is answered and goes on, where an operation or the end of a round comes next. Returns
     /// whether that is so.
     #[inline(always)]
-    fn take_number_at_once(
+    pub fn take_number_at_once(
         &mut self,
         tree: &Tree,
         sequel: Sequel,
@@ -47,26 +47,24 @@ impl Running {
         ensures taken { IsTrue result → TakesAtOnce tree.now next instruction (answer.Num value) self.old self.new }
         ensures refused { result ≡ false → self.new ≡ self.old }
     {
-        match sequel {
-            Sequel::KeptThenAsks { number } => {
-                self.set(number, value);
-                self.at = next;
-                true
-            }
-            Sequel::KeptThenEnds { number } => {
-                let begun = self.begin_round(tree);
-                if begun {
-                    self.set(number, value);
-                }
-                begun
-            }
-            _ => false,
+        if let Sequel::KeptThenAsks { number } = sequel {
+            self.set(number, value);
+            self.at = next;
+            return true;
         }
+        let Sequel::KeptThenEnds { number } = sequel else {
+            return false;
+        };
+        let begun = self.begin_round(tree);
+        if begun {
+            self.set(number, value);
+        }
+        begun
     }
 
     /// The same with an answer that is no number.
     #[inline(always)]
-    fn go_on_at_once(
+    pub fn go_on_at_once(
         &mut self,
         tree: &Tree,
         sequel: Sequel,
@@ -81,42 +79,13 @@ impl Running {
         ensures taken { IsTrue result → TakesAtOnce tree.now next instruction answer self.old self.new }
         ensures refused { result ≡ false → self.new ≡ self.old }
     {
-        match sequel {
-            Sequel::Asks => {
-                self.at = next;
-                true
-            }
-            Sequel::Ends => self.begin_round(tree),
-            _ => false,
+        if let Sequel::Asks = sequel {
+            self.at = next;
+            return true;
         }
-    }
-
-    /// Takes an answer and goes on, where an operation or the end of a round comes next. Returns whether that is so.
-    #[inline(always)]
-    pub fn take_at_once(
-        &mut self,
-        tree: &Tree,
-        sequel: Sequel,
-        next: usize,
-        instruction: Instruction,
-        answer: Answer,
-    ) -> bool
-        requires tree { IsTree tree.now }
-        requires within { PlaceIsWithin (length tree.now) (record self.old { at = next }) }
-        requires sequel { sequel ≡ sequel_before (node_at tree.now next) instruction }
-        ensures taken { IsTrue result → TakesAtOnce tree.now next instruction answer self.old self.new }
-        ensures refused { result ≡ false → self.new ≡ self.old }
-    {
-        match answer {
-            Answer::Num(value) => self.take_number_at_once(tree, sequel, next, instruction, value),
-            Answer::Done | Answer::Word(_) => self.go_on_at_once(
-                tree,
-                sequel,
-                next,
-                instruction,
-                answer,
-            ),
-            _ => false,
+        if let Sequel::Ends = sequel {
+            return self.begin_round(tree);
         }
+        false
     }
 }

@@ -8,8 +8,8 @@ use Rattle.mk_check.specs.Trees.{IsTree, Place, node_at}
 use Rattle.mk_check.specs.Feeding.{FeedState, IsFeed, IsWaiting, TakesAnswer, op_in, op_of_node, work_left}
 use Rattle.mk_check.proofs.AtOnce.{StopsBehind, feeds_at_once, nearer_at_once, stops_at_once, takes_at_once}
 use Rattle.mk_check.proofs.Stands.{op_of_others, waits_for_answer}
-use Rattle.mk_check.proofs.feeding.Feed.answer_at_once.Goals as goal
-use Rattle.mk_check.proofs.feeding.Feed.answer_at_once.Goals.{After-take_at_once}
+use Rattle.mk_check.proofs.feeding.Feed.go_on_at_once.Goals as goal
+use Rattle.mk_check.proofs.feeding.Feed.go_on_at_once.Goals.{After-go_on_at_once}
 
 pub unreachable-requires : goal.unreachable-requires
 unreachable-requires c =
@@ -21,24 +21,24 @@ unreachable-requires c =
     ∙ (ap (op_of_node c.self.inside.running.numbers)
     (sym (c.node.ensures.value ∙ ap (node_at nodes) c.at-at.ensures))
     ∙ op_of_others c.self.inside.running.numbers c.node.result c.in_default.not-Line) in
-    let some = waits_for_answer c.args.self.now tree is c.requires in
+    let some = waits_for_answer c.args.self.now tree is c.requires.waiting in
     let never : false ≡ true = sym (ap (λ (o : Option Op). is_some o) none) ∙ some in
     absurd cc
 
-here : (c : After-take_at_once) → node_at c.self.inside.tree c.self.inside.running.at
+here : (c : After-go_on_at_once) → node_at c.self.inside.tree c.self.inside.running.at
     ≡ node.Line c.in-Line.line c.in-Line.instruction c.in-Line.next
 here c = ap (node_at c.self.inside.tree) (sym c.at-at.ensures) ∙ sym c.in-Line.ensures.value
 
-behind : (c : After-take_at_once) → c.take_at_once.result ≡ true
-    → StopsBehind c.self.inside.tree c.self.inside.running c.args.answer c.take_at_once.new.self
+behind : (c : After-go_on_at_once) → c.go_on_at_once.result ≡ true
+    → StopsBehind c.self.inside.tree c.self.inside.running c.args.answer c.go_on_at_once.new.self
 behind c t =
-    let taken = c.take_at_once.ensures.taken t in
-    stops_at_once c.self.inside.tree c.self.inside.running c.take_at_once.new.self c.in-Line.line c.in-Line.instruction
+    let taken = c.go_on_at_once.ensures.taken t in
+    stops_at_once c.self.inside.tree c.self.inside.running c.go_on_at_once.new.self c.in-Line.line c.in-Line.instruction
     c.in-Line.next c.args.answer c.in-Line.ensures.tree c.self.invariant.stop.within (here c) taken.silent taken.stopped
 
-waiting : (c : After-take_at_once)
+waiting : (c : After-go_on_at_once)
     → IsWaiting (record { nodes = c.self.inside.tree; place = c.self.inside.running })
-waiting c = subst (λ (s : FeedState). IsWaiting s) (sym c.self.view_is) c.requires
+waiting c = subst (λ (s : FeedState). IsWaiting s) (sym c.self.view_is) c.requires.waiting
 
 -- whether it took the answer or not
 feeds : (s : FeedState) (t : Place) (taken : Bool) → (taken ≡ true → IsFeed (record { nodes = s.nodes; place = t }))
@@ -50,26 +50,26 @@ feeds s t false takes stays is =
 pub invariant_of-self : goal.invariant_of-self
 invariant_of-self c =
     let s : FeedState = record { nodes = c.self.inside.tree; place = c.self.inside.running } in
-    let g = (goal.at.invariant_of-self c).After-take_at_once in
-    feeds s c.take_at_once.new.self c.take_at_once.result
-    (λ t. feeds_at_once s c.take_at_once.new.self c.args.answer c.in-Line.line c.in-Line.instruction c.in-Line.next
-    c.in-Line.ensures.tree c.self.invariant (waiting g) (here g) (behind g t)) c.take_at_once.ensures.refused
+    let g = (goal.at.invariant_of-self c).After-go_on_at_once in
+    feeds s c.go_on_at_once.new.self c.go_on_at_once.result
+    (λ t. feeds_at_once s c.go_on_at_once.new.self c.args.answer c.in-Line.line c.in-Line.instruction c.in-Line.next
+    c.in-Line.ensures.tree c.self.invariant (waiting g) (here g) (behind g t)) c.go_on_at_once.ensures.refused
     c.self.invariant
 
 pub returns-clause-taken : goal.returns-clause-taken
 returns-clause-taken c =
     let s : FeedState = record { nodes = c.self.inside.tree; place = c.self.inside.running } in
-    let after : FeedState = record { nodes = c.self.inside.tree; place = c.take_at_once.new.self } in
-    let g = (goal.at.returns-clause-taken c).After-take_at_once in
+    let after : FeedState = record { nodes = c.self.inside.tree; place = c.go_on_at_once.new.self } in
+    let g = (goal.at.returns-clause-taken c).After-go_on_at_once in
     λ t. subst (λ (x : FeedState). TakesAnswer x c.args.answer after) c.self.view_is
-    (takes_at_once s c.take_at_once.new.self c.args.answer c.in-Line.line c.in-Line.instruction c.in-Line.next
+    (takes_at_once s c.go_on_at_once.new.self c.args.answer c.in-Line.line c.in-Line.instruction c.in-Line.next
     c.in-Line.ensures.tree c.self.invariant (waiting g) (here g) (behind g t))
 
 pub returns-clause-nearer : goal.returns-clause-nearer
 returns-clause-nearer c =
     let s : FeedState = record { nodes = c.self.inside.tree; place = c.self.inside.running } in
-    let after : FeedState = record { nodes = c.self.inside.tree; place = c.take_at_once.new.self } in
-    let g = (goal.at.returns-clause-nearer c).After-take_at_once in
+    let after : FeedState = record { nodes = c.self.inside.tree; place = c.go_on_at_once.new.self } in
+    let g = (goal.at.returns-clause-nearer c).After-go_on_at_once in
     λ t. subst (λ (x : FeedState). work_left after < work_left x) c.self.view_is
-    (nearer_at_once s c.take_at_once.new.self c.args.answer c.in-Line.line c.in-Line.instruction c.in-Line.next
+    (nearer_at_once s c.go_on_at_once.new.self c.args.answer c.in-Line.line c.in-Line.instruction c.in-Line.next
     c.in-Line.ensures.tree c.self.invariant (waiting g) (here g) (behind g t))
