@@ -27,11 +27,12 @@ use Rattle.mk_core.proofs.Conditions.{enabled_meets}
 use Rattle.mk_core.proofs.HistoryParts.{earlier_part_is_history}
 use Rattle.mk_core.proofs.Lengths.{histories_keep_lengths}
 use Rattle.mk_laws.proofs.SameWords.{Behind}
+use Rattle.mk_words.specs.declared.homes.Carried.{Carried}
 use Rattle.mk_words.specs.PageMaps.{HasNoMarks, IsMapOf, IsNextUncleaned, is_told}
 use Rattle.mk_words.specs.Seats.{Has}
 use Rattle.mk_words.specs.States.{PassState, now_of, event_of}
 use Rattle.mk_words.specs.Steps.{IsEnabledTo}
-use Rattle.mk_words.specs.TurnSteps.{world_at, Acts}
+use Rattle.mk_words.specs.TurnSteps.{world_at, Acts, IsTurnWithMap}
 use Rattle.mk_words.proofs.FreeTurns.{map_left, map_stays, page_words}
 use Rattle.mk_words.proofs.Seats.{others_own}
 use Rattle.mk_words.proofs.TakenCells.{may_take_cell}
@@ -256,6 +257,11 @@ shows_mark p page v q t old new told shows =
 -- What a map shows it shows by another name too.
 pub shows_that : (w : Words) (map same : KnownPages) → same ≡ map → IsMapOf map w → IsMapOf same w
 shows_that w map same is shows = subst (λ (m : KnownPages). IsMapOf m w) (sym is) shows
+
+-- What is carried with a turn is carried by another name too.
+pub as_carried : (p : PassState) (carried same : Carried) → same ≡ carried
+    → IsTurnWithMap p carried.op carried.cell carried.map → IsTurnWithMap p same.op same.cell same.map
+as_carried p carried same is turn = subst (λ (k : Carried). IsTurnWithMap p k.op k.cell k.map) (sym is) turn
 
 -- The map has all pages of the heap.
 

@@ -1,14 +1,36 @@
-//! Where the page map lies while nobody has the turn.
-ghost use Rattle.std.specs.Prelude.{◌≡◌, ◌<◌, length};
+//! Where the page map lies while nobody has the turn, and what is carried with the turn.
+ghost use Rattle.std.specs.Prelude.{◌≡◌, ◌<◌, None, length};
 
+use mk_geom::Cell;
+use mk_never::Op;
 use mk_page_map::PageMap;
 use std::marker::Model;
 
-/// The table's only slot. While nobody has the turn the page map lies in it, and else nothing. The map is behind a
-/// pointer, so that a turn is moved in few words.
+/// What is carried with the turn: the map of the heap's pages, the operation that the turn is for, and the cell that
+/// its New has taken. It is behind a pointer, so that a turn is moved in few words.
+#[derive(Drop)]
+pub struct Carried {
+    pub(crate) map: PageMap,
+    pub(crate) op: Option<Op>,
+    pub(crate) cell: Option<Cell>,
+}
+
+impl Carried {
+    /// A turn begins for this operation, and no cell is taken.
+    #[inline(always)]
+    pub(crate) fn begin(&mut self, op: Option<Op>)
+        ensures { self.new ≡ record { map = self.old.map; op = op; cell = None } }
+    {
+        self.op = op;
+        self.cell = None;
+    }
+}
+
+/// The table's only slot. While nobody has the turn the page map lies in it, with the rest of what the next turn is to
+/// carry, and else nothing.
 #[derive(Drop)]
 pub struct MapHome {
-    pub(crate) map: Option<Box<PageMap>>,
+    pub(crate) carried: Option<Box<Carried>>,
 }
 
 impl Model for MapHome {
@@ -18,18 +40,18 @@ impl Model for MapHome {
 
     ghost use Rattle.mk_words.specs.PageMaps.{map_in};
 
-    ghost view = { λ h. map_in (λ map. map.value) h.map };
+    ghost view = { λ h. map_in (λ carried. carried.value.map) h.carried };
 }
 
 impl MapHome {
-    /// Hands out the map that lies there.
+    /// Hands out the map that lies there, with what lies beside it.
     #[inline(always)]
-    pub(crate) fn into_map(self) -> Box<PageMap>
+    pub(crate) fn into_carried(self) -> Box<Carried>
         requires { 0 < length self.pages }
-        ensures { result.value ≡ self }
+        ensures { result.value.map ≡ self }
     {
-        match self.map {
-            Some(map) => map,
+        match self.carried {
+            Some(carried) => carried,
             None => unreachable!(),
         }
     }

@@ -17,7 +17,7 @@ impl Turn {
     pub fn first_free(&self) -> Option<u64>
         ensures { result ≡ first_where is_free_page (uses_of_pages (now_of self.now.pass).words.pages) }
     {
-        self.map.first_free()
+        self.carried.map.first_free()
     }
 
     /// The first page of the lowest range of this many free pages.
@@ -25,7 +25,7 @@ impl Turn {
         requires { 1 ≤ count }
         ensures { result ≡ range_start count (uses_of_pages (now_of self.now.pass).words.pages) }
     {
-        self.map.first_range(count)
+        self.carried.map.first_range(count)
     }
 
     /// The lowest block of a class and sort that has a free cell.
@@ -33,14 +33,14 @@ impl Turn {
         requires { class < 8 }
         ensures { result ≡ first_where (has_free_cell class leaf) (uses_of_pages (now_of self.now.pass).words.pages) }
     {
-        self.map.first_block(class, leaf)
+        self.carried.map.first_block(class, leaf)
     }
 
     /// The lowest page that isn't free, of those from this one on.
     pub fn next_in_use(&self, from: u64) -> Option<u64>
         ensures { IsNext (is_in_use (now_of self.now.pass).words.pages) from self.now.pass.table.config.pages result }
     {
-        self.map.next_in_use(from)
+        self.carried.map.next_in_use(from)
     }
 
     /// The lowest page that has freed cells, of those from this one on.
@@ -48,7 +48,7 @@ impl Turn {
         ensures { IsNext (has_freed_cells (now_of self.now.pass).words.freed) from self.now.pass.table.config.pages
             result }
     {
-        self.map.next_quarantined(from)
+        self.carried.map.next_quarantined(from)
     }
 
     /// The lowest page whose freed cells aren't those of its snapshot, of those from this one on.
@@ -56,14 +56,14 @@ impl Turn {
         ensures { IsNext (has_other_cells (now_of self.now.pass).words.freed (now_of self.now.pass).words.snapshot) from
             self.now.pass.table.config.pages result }
     {
-        self.map.next_differing(from)
+        self.carried.map.next_differing(from)
     }
 
     /// The next page, from this one on, that may be marked, though it has no header.
     pub fn next_uncleaned(&self, from: u64) -> Option<u64>
         ensures { IsNextUncleaned (now_of self.now.pass).words from self.now.pass.table.config.pages result }
     {
-        self.map.next_uncleaned(from)
+        self.carried.map.next_uncleaned(from)
     }
 
     /// Nothing of this page is marked or black. The map knows it from now on, so that `next_uncleaned` leaves it out.
@@ -72,14 +72,14 @@ impl Turn {
         requires none { HasNoMarks (now_of self.old.pass).words page }
         ensures same { self.new ≡ self.old }
     {
-        self.map.cleaned(page);
+        self.carried.map.cleaned(page);
     }
 
     /// How many pages are resident.
     pub fn resident(&self) -> u64
         ensures { result ≡ resident_pages (uses_of_pages (now_of self.now.pass).words.pages) }
     {
-        self.map.resident()
+        self.carried.map.resident()
     }
 
     /// The header and used word of a page.
@@ -87,7 +87,7 @@ impl Turn {
         requires { page < self.now.pass.table.config.pages }
         ensures { result ≡ page_of (now_of self.now.pass).words page }
     {
-        self.map.page(page)
+        self.carried.map.page(page)
     }
 }
 

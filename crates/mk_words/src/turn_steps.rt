@@ -68,7 +68,7 @@ impl Turn {
     {
         let head = TableWord::Named(Word::Head(page));
         self.pass.perform(words, Step::Head { page, value: v }, head, Access::Store(v));
-        self.map.header_stored(page, v);
+        self.carried.map.header_stored(page, v);
     }
 
     /// Stores a page's quarantine word.
@@ -81,7 +81,7 @@ impl Turn {
     {
         let quar = TableWord::Named(Word::Quar(page));
         self.pass.perform(words, Step::Quar { page, value: v }, quar, Access::Store(v));
-        self.map.quarantine_stored(page, v % (1 << 32), v >> 32);
+        self.carried.map.quarantine_stored(page, v % (1 << 32), v >> 32);
     }
 
     /// Clears a page's marks.
@@ -109,7 +109,7 @@ impl Turn {
         let mark = TableWord::Named(Word::Mark(page));
         self.pass
             .perform(words, Step::Mark { page, value: v }, mark, Access::Or(v));
-        self.map.marked(page);
+        self.carried.map.marked(page);
     }
 
     /// Wipes a heap word.
@@ -200,8 +200,9 @@ impl Turn {
             TableWord::Named(Word::Used(page)),
             v,
         );
-        self.cell = cell_behind(page, v, found, self.cell);
-        self.map.used_stored(page, v);
+        let carried = &mut *self.carried;
+        carried.cell = cell_behind(page, v, found, carried.cell);
+        carried.map.used_stored(page, v);
     }
 
     /// Loads the register of an undecided Free.
@@ -233,8 +234,8 @@ impl Turn {
         ensures op { self.new.op ≡ self.old.op }
         ensures acts { Acts self.old.pass step.Grant self.new.pass }
     {
-        let op = self.op;
-        let cell = self.cell;
+        let carried = &*self.carried;
+        let (op, cell) = (carried.op, carried.cell);
         self.pass.is_in_order();
         let register = TableWord::Named(Word::Reg {
             caller: self.pass.caller(),

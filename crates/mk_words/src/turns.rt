@@ -11,22 +11,19 @@ ghost use Rattle.mk_words.specs.States.{now_of, call_of, event_of};
 ghost use Rattle.mk_words.specs.Steps.{IsEnabledTo, May, Makes, Finds, Tells};
 ghost use Rattle.mk_words.specs.TurnSteps.{IsTurn, IsFresh, turn_stays, Acts};
 
+use crate::homes::Carried;
 use crate::passes::Pass;
 use crate::tokens::TurnToken;
 use crate::words::Words;
 use mk_core::{Access, Seat, Step, TableWord};
-use mk_geom::Cell;
 use mk_never::Op;
-use mk_page_map::PageMap;
 use std::marker::Model;
 
 /// The turn of a table, with the pass of the seat that has it, and the map of the heap's pages, which travels with it.
 #[derive(Drop)]
 pub struct Turn {
     pub(crate) pass: TurnToken,
-    pub(crate) op: Option<Op>,
-    pub(crate) cell: Option<Cell>,
-    pub(crate) map: Box<PageMap>,
+    pub(crate) carried: Box<Carried>,
 }
 
 impl Model for Turn {
@@ -36,9 +33,9 @@ impl Model for Turn {
 
     ghost use Rattle.mk_words.specs.TurnSteps.{IsTurnWithMap};
 
-    ghost view = { λ t. record { pass = t.pass; op = t.op } };
+    ghost view = { λ t. record { pass = t.pass; op = t.carried.value.op } };
 
-    ghost invariant = { λ t. IsTurnWithMap t.pass t.op t.cell t.map.value };
+    ghost invariant = { λ t. IsTurnWithMap t.pass t.carried.value.op t.carried.value.cell t.carried.value.map };
 }
 
 /// Another seat has the turn, by its number: a caller's own, or for the host the number of callers.
@@ -65,14 +62,10 @@ impl Pass {
         let Pass { own } = self;
         own.is_in_order();
         match own.take(words, op) {
-            Ok((pass, map)) => {
+            Ok((pass, mut carried)) => {
                 pass.is_in_order();
-                Ok(Turn {
-                    pass,
-                    op,
-                    cell: None,
-                    map,
-                })
+                carried.begin(op);
+                Ok(Turn { pass, carried })
             }
             Err((own, found)) => {
                 own.is_in_order();
@@ -94,7 +87,7 @@ impl Turn {
     pub fn op(&self) -> Option<Op>
         ensures { result ≡ self.now.op }
     {
-        self.op
+        self.carried.op
     }
 
     /// What holds of every turn. It does nothing.
@@ -136,9 +129,9 @@ impl Turn {
         ensures acts { Acts self.pass step.Give result }
         ensures rests { call_of result ≡ at_rest }
     {
-        let Turn { pass, map, .. } = self;
+        let Turn { pass, carried } = self;
         pass.is_in_order();
-        let own = pass.give(words, map);
+        let own = pass.give(words, carried);
         own.is_in_order();
         Pass { own }
     }

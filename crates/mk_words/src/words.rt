@@ -9,7 +9,7 @@ ghost use Rattle.mk_words.specs.States.{now_of};
 ghost use Rattle.mk_words.specs.Finals.{history_of, config_of, HasTallies};
 
 use crate::finals::{Final, freed_bits, last_word};
-use crate::homes::MapHome;
+use crate::homes::{Carried, MapHome};
 use crate::indexes::{count_of_words, index_of};
 use crate::passes::Pass;
 use crate::rule::{OneHistory, View};
@@ -101,9 +101,16 @@ impl Words {
         let zeros = zeros(alloc, count_of_words(config.pages))?;
         let copy = config.try_clone(alloc)?;
         let pages = PageMap::new(alloc, config.pages)?;
-        let map = Box::new(alloc, pages)?;
+        let first = Carried {
+            map: pages,
+            op: None,
+            cell: None,
+        };
+        let carried = Box::new(alloc, first)?;
         let mut slots = Vec::new(alloc);
-        slots.push(MapHome { map: Some(map) })?;
+        slots.push(MapHome {
+            carried: Some(carried),
+        })?;
         match Table::new(alloc, zeros.as_slice(), slots, config) {
             Ok((table, token)) => Ok((
                 Words {

@@ -1,4 +1,6 @@
-use Rattle.std.proofs.Common.{sym, refl, arith}
+use Rattle.std.proofs.Common.{sym, refl, ap, arith}
+use Rattle.mk_words.specs.declared.homes.Carried.{Carried}
+use Rattle.mk_words.proofs.MapSteps.{as_carried, shows_that}
 use Rattle.mk_words.proofs.TurnSteps.{takes, take_finds, takes_fresh, fresh_knows, take_counts, take_waits}
 use Rattle.mk_words.proofs.passes.Pass.try_take.Goals as goal
 
@@ -6,14 +8,15 @@ pub invariant_of-result : goal.invariant_of-result
 invariant_of-result c =
     let h = c.in-Ok in
     let p = c.self.inside.own in
-    record {
+    as_carried h.pass _ _ c.begin.ensures
+    (record {
       turn =
           takes p c.args.op 0 h.pass h.ensures.taken c.is_in_order.ensures.own c.is_in_order-in-Ok.ensures.history refl;
       knows = fresh_knows h.pass c.args.op
           (takes_fresh p c.args.op 0 h.pass h.ensures.taken c.is_in_order.ensures.own
           c.is_in_order-in-Ok.ensures.history refl);
-      shows = h.ensures.map;
-    }
+      shows = shows_that _ _ _ (ap (λ (k : Carried). k.map) c.deref_mut.ensures.value) h.ensures.map;
+    })
 
 pub returns-in-Ok-clause-made : goal.returns-in-Ok-clause-made
 returns-in-Ok-clause-made c =

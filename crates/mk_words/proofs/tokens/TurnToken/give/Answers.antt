@@ -37,10 +37,10 @@ same_pass c =
     c.exchange-empty.new.seat.me c.self.inside.seat c.args.self c.exchange-empty.ensures.0
     (ap (λ (m : Mine). m.0) c.exchange-empty.ensures.3) c.self.view_is
 
-slot_then : (c : After-exchange-empty) → c.exchange-empty.new.seat.me.1 ≡ (0, c.args.map.value) ∷ []
+slot_then : (c : After-exchange-empty) → c.exchange-empty.new.seat.me.1 ≡ (0, c.args.carried.value.map) ∷ []
 slot_then c =
     ap (λ (m : Mine). m.1) c.exchange-empty.ensures.3
-    ∙ ap (λ (l : List (ℕ × KnownPages)). (0, c.args.map.value) ∷ rest l) c.self.invariant.slot.1
+    ∙ ap (λ (l : List (ℕ × KnownPages)). (0, c.args.carried.value.map) ∷ rest l) c.self.invariant.slot.1
 
 pub give_as-requires-clause-order : goal.give_as-requires-clause-order
 give_as-requires-clause-order c = order_then (goal.at.give_as-requires-clause-order c).After-exchange-empty
@@ -64,9 +64,9 @@ give_as-requires-clause-holds c =
 
 pub give_as-requires-clause-slot : goal.give_as-requires-clause-slot
 give_as-requires-clause-slot c = (
-  c.args.map.value,
+  c.args.carried.value.map,
   slot_then (goal.at.give_as-requires-clause-slot c).After-exchange-empty,
-  subst (λ (r : PassState). IsMapOf c.args.map.value (now_of r).words) (sym (same_pass
+  subst (λ (r : PassState). IsMapOf c.args.carried.value.map (now_of r).words) (sym (same_pass
       (goal.at.give_as-requires-clause-slot c).After-exchange-empty))
       c.requires.map,
 )

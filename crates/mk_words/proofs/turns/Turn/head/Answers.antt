@@ -6,38 +6,39 @@ use Rattle.mk_words.specs.Steps.{IsEnabledTo}
 use Rattle.mk_words.specs.TurnSteps.{Acts}
 use Rattle.mk_words.proofs.TurnSteps.{still_turn, acts}
 use Rattle.mk_words.proofs.TakenCells.{knows_still}
-use Rattle.mk_words.proofs.MapSteps.{head_known, shows_head, shows_that}
+use Rattle.mk_words.proofs.MapSteps.{head_known, shows_head, as_carried}
 use Rattle.mk_words.proofs.turns.Turn.head.Goals as goal
 
 pub header_stored-requires : goal.header_stored-requires
 header_stored-requires c =
     let t = c.self.inside in
-    head_known t.pass c.args.page c.args.v c.deref_mut.result.now
+    head_known t.pass c.args.page c.args.v c.deref_mut.result.now.map
     (subst (λ (v : TurnState). IsEnabledTo v.pass (step.Head c.args.page c.args.v)) (sym c.self.view_is)
-    c.requires.enabled) (shows_that _ _ _ c.deref_mut.ensures.value c.self.invariant.shows)
+    c.requires.enabled) (as_carried _ _ _ c.deref_mut.ensures.value c.self.invariant).shows
 
 pub invariant_of-self : goal.invariant_of-self
 invariant_of-self c =
     let f = c.perform in
     let t = c.self.inside in
+    let held = as_carried _ _ _ c.deref_mut.ensures.value c.self.invariant in
     let s : Step = step.Head c.args.page c.args.v in
     let a = acts t.pass s f.new.self f.ensures.told.makes f.ensures.own f.ensures.history c.self.invariant.turn.holds in
     record {
-      turn = still_turn t.pass s f.new.self f.ensures.told.makes f.ensures.own f.ensures.history t.op refl
-          c.self.invariant.turn;
-      knows = knows_still t.pass s f.new.self a t.cell refl refl c.self.invariant.knows;
+      turn = still_turn t.pass s f.new.self f.ensures.told.makes f.ensures.own f.ensures.history c.deref_mut.result.now.op refl
+          held.turn;
+      knows = knows_still t.pass s f.new.self a c.deref_mut.result.now.cell refl refl held.knows;
       shows = shows_head t.pass c.args.page c.args.v f.new.self
           (record { acts = a; own = f.ensures.own; history = f.ensures.history; holds = c.self.invariant.turn.holds })
-          c.deref_mut.result.now c.header_stored.new.self
+          c.deref_mut.result.now.map c.header_stored.new.self
           (record {
             shows = c.header_stored.ensures.shows;
             freed = c.header_stored.ensures.freed;
             others = c.header_stored.ensures.others;
           })
-          (head_known t.pass c.args.page c.args.v c.deref_mut.result.now
+          (head_known t.pass c.args.page c.args.v c.deref_mut.result.now.map
           (subst (λ (v : TurnState). IsEnabledTo v.pass (step.Head c.args.page c.args.v)) (sym c.self.view_is)
-          c.requires.enabled) (shows_that _ _ _ c.deref_mut.ensures.value c.self.invariant.shows))
-          (shows_that _ _ _ c.deref_mut.ensures.value c.self.invariant.shows);
+          c.requires.enabled) held.shows)
+          held.shows;
     }
 
 pub returns-clause-acts : goal.returns-clause-acts

@@ -16,12 +16,12 @@ invariant_of-self c =
     let s : Step = step.Look c.args.x in
     let a = acts t.pass s f.new.self f.ensures.told.makes f.ensures.own f.ensures.history c.self.invariant.turn.holds in
     record {
-      turn = still_turn t.pass s f.new.self f.ensures.told.makes f.ensures.own f.ensures.history t.op refl
+      turn = still_turn t.pass s f.new.self f.ensures.told.makes f.ensures.own f.ensures.history t.carried.value.op refl
           c.self.invariant.turn;
-      knows = knows_still t.pass s f.new.self a t.cell refl refl c.self.invariant.knows;
+      knows = knows_still t.pass s f.new.self a t.carried.value.cell refl refl c.self.invariant.knows;
       shows = shows_still t.pass s f.new.self
           (record { acts = a; own = f.ensures.own; history = f.ensures.history; holds = c.self.invariant.turn.holds })
-          t.map.value refl c.self.invariant.shows;
+          t.carried.value.map refl c.self.invariant.shows;
     }
 
 pub returns-clause-acts : goal.returns-clause-acts

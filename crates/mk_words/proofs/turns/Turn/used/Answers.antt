@@ -6,28 +6,29 @@ use Rattle.mk_words.specs.TurnSteps.{Acts, KnowsCell}
 use Rattle.mk_words.proofs.TurnSteps.{acts, still_turn}
 use Rattle.mk_words.specs.Steps.{IsEnabledTo}
 use Rattle.mk_words.proofs.TakenCells.{used_turn}
-use Rattle.mk_words.proofs.MapSteps.{used_known, shows_used, shows_that}
+use Rattle.mk_words.proofs.MapSteps.{used_known, shows_used, as_carried}
 use Rattle.mk_words.proofs.turns.Turn.used.Goals as goal
 
 pub used_stored-requires : goal.used_stored-requires
 used_stored-requires c =
     let t = c.self.inside in
-    used_known t.pass c.args.page c.args.v c.deref_mut.result.now
+    used_known t.pass c.args.page c.args.v c.deref_mut-carried.result.now.map
     (subst (λ (v : TurnState). IsEnabledTo v.pass (step.Used c.args.page c.args.v)) (sym c.self.view_is)
-    c.requires.enabled) (shows_that _ _ _ c.deref_mut.ensures.value c.self.invariant.shows)
+    c.requires.enabled) (as_carried _ _ _ c.deref_mut-carried.ensures.value c.self.invariant).shows
 
 pub invariant_of-self : goal.invariant_of-self
 invariant_of-self c =
     let t = c.self.inside in
+    let held = as_carried _ _ _ c.deref_mut-carried.ensures.value c.self.invariant in
     let f = c.replace-found in
     let s = step.Used c.args.page c.args.v in
     let makes = f.ensures.finds.makes in
     record {
-      turn = still_turn t.pass s f.new.self makes f.ensures.own f.ensures.history t.op refl c.self.invariant.turn;
-      knows = subst (λ (cell : Option Cell). KnowsCell f.new.self cell) (sym c.cell_behind-self-inside.ensures)
-          (used_turn t.pass c.args.page c.args.v f.result f.new.self makes f.ensures.own f.ensures.history t.cell
+      turn = still_turn t.pass s f.new.self makes f.ensures.own f.ensures.history c.deref_mut-carried.result.now.op refl held.turn;
+      knows = subst (λ (cell : Option Cell). KnowsCell f.new.self cell) (sym c.cell_behind-carried.ensures)
+          (used_turn t.pass c.args.page c.args.v f.result f.new.self makes f.ensures.own f.ensures.history c.deref_mut-carried.result.now.cell
           c.self.invariant.turn.holds f.ensures.finds.finds c.ranges.v.fits
-          c.self.invariant.knows);
+          held.knows);
       shows = shows_used t.pass c.args.page c.args.v f.new.self
           (record {
             acts = acts t.pass s f.new.self makes f.ensures.own f.ensures.history c.self.invariant.turn.holds;
@@ -35,12 +36,12 @@ invariant_of-self c =
             history = f.ensures.history;
             holds = c.self.invariant.turn.holds;
           })
-          c.deref_mut.result.now c.used_stored.new.self
+          c.deref_mut-carried.result.now.map c.used_stored.new.self
           (record { shows = c.used_stored.ensures.shows; uncleaned = c.used_stored.ensures.uncleaned })
-          (used_known t.pass c.args.page c.args.v c.deref_mut.result.now
+          (used_known t.pass c.args.page c.args.v c.deref_mut-carried.result.now.map
           (subst (λ (v : TurnState). IsEnabledTo v.pass (step.Used c.args.page c.args.v)) (sym c.self.view_is)
-          c.requires.enabled) (shows_that _ _ _ c.deref_mut.ensures.value c.self.invariant.shows))
-          (shows_that _ _ _ c.deref_mut.ensures.value c.self.invariant.shows);
+          c.requires.enabled) held.shows)
+          held.shows;
     }
 
 pub returns-clause-acts : goal.returns-clause-acts
