@@ -15,3 +15,4 @@ pub mod FreePages
 pub mod Closes
 pub mod DirtyWords
 pub mod ScannedWords
+pub mod PointedCells

@@ -1,7 +1,8 @@
 -- Gray cells, which are marked and not black, and what steps in the stop keep to.
 use Rattle.std.specs.Prelude.{◌≡◌, ◌≢◌, ◌⊎◌, ℕ, ◌+◌, ◌<◌, ◌≤◌, Bool, true, false, ⊤, slice_index, slice_set, bit_or}
-use Rattle.std.specs.Prelude.{bit_and, ◌^◌, Some}
+use Rattle.std.specs.Prelude.{bit_and, ◌^◌, Option, Some, if◌then◌else◌}
 use Rattle.mk_geom.specs.declared.addresses.Cell.{Cell}
+use Rattle.mk_geom.specs.declared.headers.Header.{Header}
 use Rattle.mk_core.specs.declared.config.Config.{Config}
 use Rattle.mk_core.specs.declared.events.Step.{Step}
 use Rattle.mk_core.specs.declared.events.Step.TheVariants as step
@@ -12,7 +13,7 @@ use Rattle.mk_core.specs.Bits.{has_bit, without}
 use Rattle.mk_core.specs.Bounded.{is_some_and}
 use Rattle.mk_core.specs.Words.{Words, header_at, register_word}
 use Rattle.mk_core.specs.Cells.{header_in, head_page, cells_under, cell_bits, first_word, cell_words, is_marked}
-use Rattle.mk_core.specs.Cells.{has_no_pointers, pointed_cell, points_well}
+use Rattle.mk_core.specs.Cells.{has_no_pointers, pointed_cell, points_well, words_under}
 use Rattle.mk_core.specs.Cycles.{is_unmarked, sweeps}
 use Rattle.mk_core.specs.Frames.{OnlyGrow}
 use Rattle.mk_core.specs.Moments.{Moment}
@@ -30,6 +31,10 @@ pub record IsGray (pages : ℕ) (w : Words) (cell : Cell) : Type 0 where
   pub index : cell.index < cells_under (header_in w cell.page)
   pub marked : is_marked w cell ≡ true
   pub not_black : is_black w cell ≡ false
+
+-- how many words of a cell under the header are scanned
+abbrev pub words_scanned : Option Header → ℕ
+words_scanned x = if has_no_pointers x then 0 else words_under x
 
 -- A gray cell of this many words, which are to be scanned.
 pub record IsDue (pages : ℕ) (w : Words) (cell : Cell) (size : ℕ) : Type 0 where

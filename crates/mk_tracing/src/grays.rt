@@ -7,17 +7,11 @@ ghost use Rattle.mk_tracing.specs.Grays.{HasNoGray, IsGrayUnder, MarksOn};
 ghost use Rattle.mk_tracing.specs.Stops.{IsWanted, still_words};
 
 use crate::stepping::{look_among, look_at, next_in_use};
+use crate::noted::{Noted, words_scanned};
 use crate::worklist::Worklist;
 use mk_core::{Word, cells_under, has_bit};
 use mk_geom::Cell;
 use mk_words::{Stopped, Words};
-
-/// A gray cell, and the header word of its page.
-#[derive(Clone, Copy)]
-pub(crate) struct Gray {
-    pub(crate) cell: Cell,
-    pub(crate) header: u64,
-}
 
 /// The first of these cells that is under the header word.
 fn first_of(cells: u64, header: u64) -> Option<u64>
@@ -33,7 +27,7 @@ fn first_of(cells: u64, header: u64) -> Option<u64>
 /// The first gray cell of a page on which these cells are marked. The black word is looked at, and the header only
 /// where a marked cell isn't black.
 #[inline(never)]
-fn gray_among(words: &Words, stop: &mut Stopped, page: u64, marks: u64) -> Option<Gray>
+fn gray_among(words: &Words, stop: &mut Stopped, page: u64, marks: u64) -> Option<Noted>
     requires one_table { stop.old.pass.table ≡ words.now }
     requires wanted { IsWanted stop.old.pass }
     requires page { page < words.now.config.pages }
@@ -53,13 +47,16 @@ fn gray_among(words: &Words, stop: &mut Stopped, page: u64, marks: u64) -> Optio
     let Some(index) = first_of(grays, header) else {
         return None;
     };
-    let cell = Cell { page, index };
-    Some(Gray { cell, header })
+    Some(Noted {
+        cell: Cell { page, index },
+        header,
+        words: words_scanned(header),
+    })
 }
 
 /// The first gray cell of a page. Where no cell is marked, no more is looked at.
 #[inline(always)]
-fn gray_on(words: &Words, stop: &mut Stopped, pages: u64, page: u64) -> Option<Gray>
+fn gray_on(words: &Words, stop: &mut Stopped, pages: u64, page: u64) -> Option<Noted>
     requires one_table { stop.old.pass.table ≡ words.now }
     requires pages { pages ≡ words.now.config.pages }
     requires wanted { IsWanted stop.old.pass }
@@ -78,7 +75,7 @@ fn gray_on(words: &Words, stop: &mut Stopped, pages: u64, page: u64) -> Option<G
 }
 
 /// The first gray cell from a page on, up to another. It goes from page in use to page in use: a free page has no cell.
-fn gray_between(words: &Words, stop: &mut Stopped, from: u64, to: u64) -> Option<Gray>
+fn gray_between(words: &Words, stop: &mut Stopped, from: u64, to: u64) -> Option<Noted>
     requires one_table { stop.old.pass.table ≡ words.now }
     requires wanted { IsWanted stop.old.pass }
     requires to { to ≤ words.now.config.pages }
@@ -103,32 +100,30 @@ fn gray_between(words: &Words, stop: &mut Stopped, from: u64, to: u64) -> Option
     None
 }
 
-/// A cell that was noted, if it is gray.
+/// Whether a cell that was noted is gray, and under the same header word.
 #[inline(always)]
-fn gray_still(words: &Words, stop: &mut Stopped, cell: Cell) -> Option<Gray>
+fn is_gray(words: &Words, stop: &mut Stopped, noted: Noted) -> bool
     requires one_table { stop.old.pass.table ≡ words.now }
     requires wanted { IsWanted stop.old.pass }
     ensures on { MarksOn stop.old stop.new }
     ensures words { still_words stop.new.pass ≡ still_words stop.old.pass }
-    ensures gray { IfSome result
-        (λ gray. IsGrayUnder words.now.config.pages (still_words stop.old.pass) gray.cell gray.header) }
+    ensures gray { result ≡ true
+        → IsGrayUnder words.now.config.pages (still_words stop.old.pass) noted.cell noted.header }
 {
     let pages = words.pages();
-    if cell.page >= pages {
-        return None;
+    let Cell { page, index } = noted.cell;
+    if page >= pages {
+        return false;
     }
-    let header = look_among(words, stop, pages, Word::Head(cell.page));
-    let marks = look_among(words, stop, pages, Word::Mark(cell.page));
-    let blacks = look_among(words, stop, pages, Word::Black(cell.page));
-    if cell.index < cells_under(header) && has_bit(marks, cell.index) && !has_bit(blacks, cell.index) {
-        Some(Gray { cell, header })
-    } else {
-        None
-    }
+    let header = look_among(words, stop, pages, Word::Head(page));
+    let marks = look_among(words, stop, pages, Word::Mark(page));
+    let blacks = look_among(words, stop, pages, Word::Black(page));
+    let grays = marks - (marks & blacks);
+    header == noted.header && has_bit(grays, index)
 }
 
 /// The gray cell that was noted last.
-fn gray_noted(words: &Words, stop: &mut Stopped, work: &mut Worklist) -> Option<Gray>
+fn gray_noted(words: &Words, stop: &mut Stopped, work: &mut Worklist) -> Option<Noted>
     requires one_table { stop.old.pass.table ≡ words.now }
     requires wanted { IsWanted stop.old.pass }
     ensures on { MarksOn stop.old stop.new }
@@ -136,17 +131,16 @@ fn gray_noted(words: &Words, stop: &mut Stopped, work: &mut Worklist) -> Option<
     ensures gray { IfSome result
         (λ gray. IsGrayUnder words.now.config.pages (still_words stop.old.pass) gray.cell gray.header) }
 {
-    while let Some(cell) = work.pop() {
-        let found = gray_still(words, stop, cell);
-        if let Some(gray) = found {
-            return Some(gray);
+    while let Some(noted) = work.pop() {
+        if is_gray(words, stop, noted) {
+            return Some(noted);
         }
     }
     None
 }
 
 /// A gray cell, from the page on where the last one was found. None where no page has any.
-fn gray_somewhere(words: &Words, stop: &mut Stopped, from: u64) -> Option<Gray>
+fn gray_somewhere(words: &Words, stop: &mut Stopped, from: u64) -> Option<Noted>
     requires one_table { stop.old.pass.table ≡ words.now }
     requires wanted { IsWanted stop.old.pass }
     ensures on { MarksOn stop.old stop.new }
@@ -164,7 +158,7 @@ fn gray_somewhere(words: &Words, stop: &mut Stopped, from: u64) -> Option<Gray>
 }
 
 /// A gray cell: one that was noted, or else one that is found page by page. None where no page has any.
-pub(crate) fn next_gray(words: &Words, stop: &mut Stopped, work: &mut Worklist) -> Option<Gray>
+pub(crate) fn next_gray(words: &Words, stop: &mut Stopped, work: &mut Worklist) -> Option<Noted>
     requires one_table { stop.old.pass.table ≡ words.now }
     requires wanted { IsWanted stop.old.pass }
     ensures on { MarksOn stop.old stop.new }

@@ -9,6 +9,7 @@ mod closing;
 mod dirty;
 mod grays;
 mod laws;
+mod noted;
 mod noting;
 mod roots;
 mod scanning;

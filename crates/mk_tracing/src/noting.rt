@@ -1,31 +1,99 @@
 //! Marks by the values of words, each noted for the scan that is due then.
-ghost use Rattle.std.specs.Prelude.{◌≡◌, ◌≢◌, true};
+ghost use Rattle.std.specs.Prelude.{◌≡◌, ◌≢◌, ◌<◌, true};
 ghost use Rattle.mk_core.specs.Cells.{points_well};
+ghost use Rattle.mk_core.specs.Words.{header_at};
+ghost use Rattle.mk_geom.specs.Addresses.{is_heap_address, page_at_address};
 ghost use Rattle.mk_tracing.specs.Grays.{IsInHand, MarksMore, MarksOn};
 ghost use Rattle.mk_tracing.specs.Stops.{IsWanted, still_words};
 
-use crate::values::mark_value;
+use crate::noted::Noted;
+use crate::stepping::look_among;
+use crate::values::mark_white;
 use crate::worklist::Worklist;
-use mk_geom::heap_page;
+use mk_core::Word;
+use mk_geom::{Cell, PAGE_WORDS, WORD_BYTES, heap_page, lookup};
 use mk_words::{Stopped, Words};
 
-/// Marks what the hand points into, and notes it.
-#[inline(never)]
-fn mark_pointed(words: &Words, stop: &mut Stopped, work: &mut Worklist, value: u64)
+/// The header words of blocks for objects with pointers: 1, and the class.
+const LAST_BLOCK: u64 = 8;
+
+/// Notes a marked cell, by the header word of its page.
+fn note(words: &Words, stop: &mut Stopped, work: &mut Worklist, pages: u64, cell: Cell)
     requires one_table { stop.old.pass.table ≡ words.now }
+    requires pages { pages ≡ words.now.config.pages }
+    requires wanted { IsWanted stop.old.pass }
+    requires page { cell.page < words.now.config.pages }
+    ensures on { MarksOn stop.old stop.new }
+    ensures words { still_words stop.new.pass ≡ still_words stop.old.pass }
+{
+    let header = look_among(words, stop, pages, Word::Head(cell.page));
+    if let Some(noted) = Noted::under(header, cell) {
+        work.push(noted);
+    }
+}
+
+/// Marks what the hand points into, whatever its page is by this header word, and notes it.
+#[inline(never)]
+fn mark_under(
+    words: &Words,
+    stop: &mut Stopped,
+    work: &mut Worklist,
+    pages: u64,
+    header: u64,
+    value: u64,
+)
+    requires one_table { stop.old.pass.table ≡ words.now }
+    requires pages { pages ≡ words.now.config.pages }
     requires wanted { IsWanted stop.old.pass }
     requires hand { value ≢ 0 → IsInHand stop.old.pass value }
+    requires header { header ≡ header_at (still_words stop.old.pass) (page_at_address value) }
     ensures on { MarksOn stop.old stop.new }
     ensures more { MarksMore (still_words stop.old.pass) (still_words stop.new.pass) }
     ensures well { points_well words.now.config.pages (still_words stop.new.pass) value ≡ true }
 {
-    let marked = mark_value(words, stop, value);
-    if let Some(cell) = marked {
-        work.push(cell);
+    let Some(cell) = lookup(pages, header, value) else {
+        return;
+    };
+    if mark_white(words, stop, pages, cell) {
+        note(words, stop, work, pages, cell);
     }
 }
 
-/// The same, in a heap of this many pages. Most values are no addresses of the heap, and are passed over at once.
+/// Marks what the hand points into, in this page, and notes it. Most pages are blocks for objects with pointers.
+#[inline(never)]
+fn mark_pointed(
+    words: &Words,
+    stop: &mut Stopped,
+    work: &mut Worklist,
+    pages: u64,
+    page: u64,
+    value: u64,
+)
+    requires one_table { stop.old.pass.table ≡ words.now }
+    requires pages { pages ≡ words.now.config.pages }
+    requires wanted { IsWanted stop.old.pass }
+    requires hand { value ≢ 0 → IsInHand stop.old.pass value }
+    requires page { page ≡ page_at_address value }
+    requires within { page < pages }
+    requires inside { is_heap_address pages value ≡ true }
+    ensures on { MarksOn stop.old stop.new }
+    ensures more { MarksMore (still_words stop.old.pass) (still_words stop.new.pass) }
+    ensures well { points_well words.now.config.pages (still_words stop.new.pass) value ≡ true }
+{
+    let header = look_among(words, stop, pages, Word::Head(page));
+    if header == 0 || header > LAST_BLOCK {
+        mark_under(words, stop, work, pages, header, value);
+        return;
+    }
+    let Some(noted) = Noted::in_block(header - 1, page, value / WORD_BYTES % PAGE_WORDS) else {
+        return;
+    };
+    if mark_white(words, stop, pages, noted.cell) {
+        work.push(noted);
+    }
+}
+
+/// The same, for any value in a heap of this many pages. Most are no addresses of the heap, and are passed over at once.
 #[inline(always)]
 pub(crate) fn mark_and_note(
     words: &Words,
@@ -42,8 +110,8 @@ pub(crate) fn mark_and_note(
     ensures more { MarksMore (still_words stop.old.pass) (still_words stop.new.pass) }
     ensures well { points_well words.now.config.pages (still_words stop.new.pass) value ≡ true }
 {
-    let Some(_) = heap_page(pages, value) else {
+    let Some(page) = heap_page(pages, value) else {
         return;
     };
-    mark_pointed(words, stop, work, value);
+    mark_pointed(words, stop, work, pages, page, value);
 }

@@ -44,6 +44,7 @@ fn are_before_heap(
 }
 
 /// Looks at the words of a gray cell from one on, up to another. What one points into is marked before the next.
+#[inline(always)]
 fn scan_words(
     words: &Words,
     stop: &mut Stopped,
@@ -70,7 +71,32 @@ fn scan_words(
     }
 }
 
+/// Looks at each of a group of words of a gray cell, from this one on, and marks what it points into. It isn't inlined,
+/// since few groups need it.
+#[inline(never)]
+fn scan_each(
+    words: &Words,
+    stop: &mut Stopped,
+    work: &mut Worklist,
+    pages: u64,
+    cell: Cell,
+    size: u64,
+    first: u64,
+)
+    requires one_table { stop.old.pass.table ≡ words.now }
+    requires pages { pages ≡ words.now.config.pages }
+    requires wanted { IsWanted stop.old.pass }
+    requires due { IsDue words.now.config.pages (still_words stop.old.pass) cell size }
+    requires group { first + 8 ≤ size }
+    ensures on { MarksOn stop.old stop.new }
+    ensures more { MarksMore (still_words stop.old.pass) (still_words stop.new.pass) }
+    ensures well { (i : ℕ) → i < 8 → WordIsWell words.now.config stop.old.pass stop.new.pass cell (first + i) }
+{
+    scan_words(words, stop, work, pages, cell, size, first, first + GROUP);
+}
+
 /// Looks at a group of words of a gray cell, from this one on, and marks what they point into.
+#[inline(always)]
 fn scan_group(
     words: &Words,
     stop: &mut Stopped,
@@ -92,7 +118,7 @@ fn scan_group(
     if are_before_heap(words, stop, pages, cell, size, first) {
         return;
     }
-    scan_words(words, stop, work, pages, cell, size, first, first + GROUP);
+    scan_each(words, stop, work, pages, cell, size, first);
 }
 
 /// Looks at each word of a gray cell, of this many, and marks what it points into.

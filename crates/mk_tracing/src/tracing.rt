@@ -4,16 +4,16 @@ ghost use Rattle.mk_core.specs.StopConditions.{may_turn_black};
 ghost use Rattle.mk_tracing.specs.Grays.{BlackensOne, ColoursMore, HasNoGray, IsGrayUnder, MarksMore, MarksOn};
 ghost use Rattle.mk_tracing.specs.Stops.{IsWanted, still_words};
 
-use crate::grays::{Gray, next_gray};
+use crate::grays::next_gray;
+use crate::noted::Noted;
 use crate::scanning::scan;
 use crate::stepping::blacken_cell;
 use crate::worklist::Worklist;
-use mk_core::{has_no_pointers, words_under};
 use mk_words::{Stopped, Words};
 
 /// Scans a gray cell, if it may have pointers.
 #[inline(always)]
-fn scan_if_due(words: &Words, stop: &mut Stopped, work: &mut Worklist, gray: Gray)
+fn scan_if_due(words: &Words, stop: &mut Stopped, work: &mut Worklist, gray: Noted)
     requires one_table { stop.old.pass.table ≡ words.now }
     requires wanted { IsWanted stop.old.pass }
     requires gray { IsGrayUnder words.now.config.pages (still_words stop.old.pass) gray.cell gray.header }
@@ -21,14 +21,14 @@ fn scan_if_due(words: &Words, stop: &mut Stopped, work: &mut Worklist, gray: Gra
     ensures more { MarksMore (still_words stop.old.pass) (still_words stop.new.pass) }
     ensures turns { may_turn_black words.now.config.pages (still_words stop.new.pass) gray.cell ≡ true }
 {
-    if has_no_pointers(gray.header) {
+    if gray.words == 0 {
         return;
     }
-    scan(words, stop, work, gray.cell, words_under(gray.header));
+    scan(words, stop, work, gray.cell, gray.words);
 }
 
 /// Scans a gray cell, if it may have pointers, and blackens it.
-fn blacken(words: &Words, stop: &mut Stopped, work: &mut Worklist, gray: Gray)
+fn blacken(words: &Words, stop: &mut Stopped, work: &mut Worklist, gray: Noted)
     requires one_table { stop.old.pass.table ≡ words.now }
     requires wanted { IsWanted stop.old.pass }
     requires gray { IsGrayUnder words.now.config.pages (still_words stop.old.pass) gray.cell gray.header }

@@ -1,7 +1,7 @@
 //! Cells that were marked and are still to be scanned.
 ghost use Rattle.std.specs.Prelude.{◌≤◌, ◌<◌, IfSome, vec_len};
 
-use mk_geom::Cell;
+use crate::noted::Noted;
 use mk_never::NoMemory;
 use std::alloc::Global;
 
@@ -10,7 +10,7 @@ use std::alloc::Global;
 /// one.
 #[derive(Drop)]
 pub struct Worklist {
-    cells: Vec<Cell>,
+    cells: Vec<Noted>,
     count: usize,
     pub(crate) page: u64,
     ghost within: { count ≤ vec_len cells },
@@ -22,7 +22,7 @@ impl Worklist {
         requires { pages ≤ 4096 }
     {
         let room = 64 + 8 * pages as usize;
-        let nothing = Cell { page: 0, index: 0 };
+        let nothing = Noted::nothing();
         let cells = Vec::from_elem(alloc, nothing, room)?;
         Ok(Worklist {
             cells,
@@ -32,16 +32,16 @@ impl Worklist {
     }
 
     /// Notes a cell, if there is room.
-    pub(crate) fn push(&mut self, cell: Cell) {
+    pub(crate) fn push(&mut self, noted: Noted) {
         if self.count < self.cells.len() {
-            self.cells[self.count] = cell;
+            self.cells[self.count] = noted;
             self.count += 1;
         }
     }
 
     /// The cell that was noted last, which the list then has no more.
-    pub(crate) fn pop(&mut self) -> Option<Cell>
-        ensures { IfSome result (λ cell. self.new.count < self.old.count) }
+    pub(crate) fn pop(&mut self) -> Option<Noted>
+        ensures { IfSome result (λ noted. self.new.count < self.old.count) }
     {
         if self.count == 0 {
             return None;

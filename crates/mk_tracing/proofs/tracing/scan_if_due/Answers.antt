@@ -1,34 +1,38 @@
-use Rattle.std.proofs.Common.{◌∙◌, refl, ap, sym, inl, inr}
+use Rattle.std.proofs.Common.{◌≡◌, ◌∙◌, ◌⊎◌, ◌<◌, ℕ, Bool, true, false, refl, ap, sym, subst, inl, inr, arith}
+use Rattle.std.specs.Prelude.{if◌then◌else◌}
+use Rattle.mk_geom.specs.declared.addresses.Cell.{Cell}
 use Rattle.mk_geom.specs.Headers.{header_of}
-use Rattle.mk_core.specs.Cells.{has_no_pointers, words_under}
+use Rattle.mk_core.specs.Cells.{cell_words, has_no_pointers, header_in, words_point_well}
+use Rattle.mk_core.specs.Words.{Words}
+use Rattle.mk_tracing.specs.Grays.{words_scanned}
 use Rattle.mk_tracing.specs.Stops.{still_words}
-use Rattle.mk_tracing.proofs.Blackened.{gray_turns}
+use Rattle.mk_tracing.proofs.Blackened.{gray_turns, scan_done}
 use Rattle.mk_tracing.proofs.MoreMarks.{more_same}
 use Rattle.mk_tracing.proofs.StopSteps.{on_from}
 use Rattle.mk_tracing.proofs.tracing.scan_if_due.Goals as goal
 
-pub returns-then-has_no_pointers-clause-on : goal.returns-then-has_no_pointers-clause-on
-returns-then-has_no_pointers-clause-on c = on_from c.args.stop.now c.requires.wanted
+-- Where no word of a cell is scanned, it has no pointers, or no words.
+none_scanned : (pages : ℕ) (w : Words) (cell : Cell) → words_scanned (header_in w cell.page) ≡ 0
+    → (has_no_pointers (header_in w cell.page) ≡ true) ⊎ (words_point_well pages w cell ≡ true)
+none_scanned pages w cell none = by (has_no_pointers (header_in w cell.page)) refl none
+  where
+    by : (b : Bool) → has_no_pointers (header_in w cell.page) ≡ b → (if b then 0 else cell_words w cell) ≡ 0
+        → (has_no_pointers (header_in w cell.page) ≡ true) ⊎ (words_point_well pages w cell ≡ true)
+    by true is e = inl is
+    by false is e =
+        inr (scan_done pages w w cell (more_same w w refl)
+        (λ j lt. absurd (let bad : j < 0 = subst (λ n. j < n) e lt in omega arith)))
 
-pub returns-then-has_no_pointers-clause-more : goal.returns-then-has_no_pointers-clause-more
-returns-then-has_no_pointers-clause-more c =
-    more_same (still_words c.args.stop.now.pass) (still_words c.args.stop.now.pass) refl
+pub returns-then-gray-eq0-clause-on : goal.returns-then-gray-eq0-clause-on
+returns-then-gray-eq0-clause-on c = on_from c.args.stop.now c.requires.wanted
 
-pub returns-then-has_no_pointers-clause-turns : goal.returns-then-has_no_pointers-clause-turns
-returns-then-has_no_pointers-clause-turns c =
+pub returns-then-gray-eq0-clause-turns : goal.returns-then-gray-eq0-clause-turns
+returns-then-gray-eq0-clause-turns c =
+    let pages : ℕ = c.args.words.now.config.pages in
     let w = still_words c.args.stop.now.pass in
-    gray_turns c.args.words.now.config.pages w w c.args.gray.cell c.requires.gray.gray (more_same w w refl)
-    (inl (ap (λ h. has_no_pointers (header_of h)) (sym c.requires.gray.word) ∙ sym c.has_no_pointers.ensures
-    ∙ c.if-has_no_pointers.true))
-
-pub scan-requires-clause-due : goal.scan-requires-clause-due
-scan-requires-clause-due c =
-    record {
-      gray = c.requires.gray.gray;
-      scanned = ap (λ h. has_no_pointers (header_of h)) (sym c.requires.gray.word) ∙ sym c.has_no_pointers.ensures
-          ∙ c.if-has_no_pointers.false;
-      words = c.words_under.ensures.exact ∙ ap (λ h. words_under (header_of h)) c.requires.gray.word;
-    }
+    gray_turns pages w w c.args.gray.cell c.requires.gray.gray (more_same w w refl)
+    (none_scanned pages w c.args.gray.cell
+    (ap (λ h. words_scanned (header_of h)) (sym c.requires.gray.word) ∙ sym c.args.gray.scanned ∙ c.if-gray-eq0.true))
 
 pub returns-clause-turns : goal.returns-clause-turns
 returns-clause-turns c =

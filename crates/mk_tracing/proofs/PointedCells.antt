@@ -1,0 +1,85 @@
+-- The cell into which the hand points, and its marks.
+use Rattle.std.proofs.Common.{◌≡◌, ◌≢◌, ℕ, ◌+◌, ◌-◌, ◌*◌, ◌/◌, ◌%◌, ◌<◌, true, sym, ◌∙◌, ap}
+use Rattle.std.proofs.Common.{arith, option_and_then, nat_le, nat_lt, ◌≤◌}
+use Rattle.std.proofs.lemmas.Bool.{and_parts, leb-true}
+use Rattle.std.specs.Prelude.{Bool, Option, Some, None, if◌then◌else◌}
+use Rattle.mk_geom.specs.declared.addresses.Cell.{Cell}
+use Rattle.mk_geom.specs.declared.headers.Header.{Header}
+use Rattle.mk_geom.specs.declared.headers.Header.TheVariants.{Block}
+use Rattle.mk_geom.specs.Addresses.{cell_at, cell_of_block, cell_under, is_heap_address, page_at_address, word_at_address}
+use Rattle.mk_geom.specs.Headers.{header_of}
+use Rattle.mk_geom.proofs.HeaderLemmas.{header_of-word_of}
+use Rattle.mk_core.specs.Cells.{is_marked, pointed_cell, points_well}
+use Rattle.mk_core.specs.Words.{Words, header_at}
+use Rattle.mk_words.specs.States.{PassState, WordsState}
+use Rattle.mk_tracing.specs.Grays.{HandPointsInto, IsInHand, MarksMore}
+use Rattle.mk_tracing.specs.Stops.{hand_of, still_words}
+use Rattle.mk_tracing.proofs.MoreMarks.{found_by_header, hand_kept, some_not_zero, well_none, well_some}
+
+-- The hand points into the cell that its value points into.
+pub hand_points : (p : PassState) (t : WordsState) (value : ℕ) (cell : Cell) → p.table ≡ t
+    → (value ≢ 0 → IsInHand p value) → pointed_cell t.config.pages (still_words p).pages value ≡ Some cell
+    → HandPointsInto p cell
+hand_points p t value cell table hand points = record {
+  value = value;
+  in_hand = hand (some_not_zero t.config.pages (still_words p).pages value cell points);
+  points = ap (λ (x : WordsState). pointed_cell x.config.pages (still_words p).pages value) table ∙ points;
+}
+
+-- It goes on doing so through looks that leave the hand and the words.
+pub points_on : (p q : PassState) (cell : Cell) → q.table ≡ p.table → still_words q ≡ still_words p
+    → hand_of q ≡ hand_of p → HandPointsInto p cell → HandPointsInto q cell
+points_on p q cell table words hand r = record {
+  value = r.value;
+  in_hand = hand_kept p q r.value hand r.in_hand;
+  points =
+      ap (λ (t : WordsState). pointed_cell t.config.pages (still_words q).pages r.value) table
+      ∙ ap (λ (w : Words). pointed_cell p.table.config.pages w.pages r.value) words ∙ r.points;
+}
+
+-- A value that points into a cell that is marked after marks points well, and one that points into nothing.
+
+pub well_marked : (pages : ℕ) (w x : Words) (u : ℕ) (cell : Cell) → MarksMore w x
+    → pointed_cell pages w.pages u ≡ Some cell → is_marked x cell ≡ true → points_well pages x u ≡ true
+well_marked pages w x u cell more points marked =
+    well_some pages x u cell (ap (λ (y : Words). pointed_cell pages y.pages u) more.is ∙ points) marked
+
+pub well_nowhere : (pages : ℕ) (w x : Words) (u : ℕ) → x ≡ w → pointed_cell pages w.pages u ≡ None
+    → points_well pages x u ≡ true
+well_nowhere pages w x u same none =
+    well_none pages x u (ap (λ (y : Words). pointed_cell pages y.pages u) same ∙ none)
+
+-- What a value points into by the header word that is there.
+pub pointed_under : (pages : ℕ) (w : Words) (u header : ℕ) → header ≡ header_at w (page_at_address u)
+    → cell_at pages header u ≡ pointed_cell pages w.pages u
+pointed_under pages w u header is = ap (λ h. cell_at pages h u) is ∙ found_by_header pages w u
+
+-- A block's header word, 1 and the class.
+pub block_header : (class : ℕ) → class < 8 → header_of (1 + class) ≡ Some (Block class)
+block_header class known = header_of-word_of (Block class) known
+
+inside_far : (pages u : ℕ) → is_heap_address pages u ≡ true → 65536 ≤ u
+inside_far pages u inside = leb-true 65536 u (and_parts (nat_le 65536 u) (nat_lt u (65536 + 512 * pages)) inside).0
+
+-- What a value points into, in a block of this class.
+pub pointed_in_block : (pages : ℕ) (w : Words) (u class : ℕ) → class < 8 → is_heap_address pages u ≡ true
+    → 1 + class ≡ header_at w (page_at_address u)
+    → cell_of_block class (page_at_address u) (u / 8 % 64) ≡ pointed_cell pages w.pages u
+pointed_in_block pages w u class known inside is =
+    let find : Option Header → Option Cell = λ (o : Option Header). option_and_then
+    (λ h. cell_under h (page_at_address u) (word_at_address u)) o in
+    let far = inside_far pages u inside in
+    let word : u / 8 % 64 ≡ word_at_address u = omega arith in
+    ap (λ n. cell_of_block class (page_at_address u) n) word
+    ∙ sym (ap (λ (b : Bool). if b then find (header_of (1 + class)) else None) inside
+    ∙ ap find (block_header class known))
+    ∙ pointed_under pages w u (1 + class) is
+
+-- The same, by the page and its header word as they were found.
+pub pointed_here : (pages : ℕ) (w : Words) (u page header : ℕ) → page ≡ page_at_address u
+    → is_heap_address pages u ≡ true → header ≡ header_at w page → 0 < header → header ≤ 8
+    → cell_of_block (header - 1) page (u / 8 % 64) ≡ pointed_cell pages w.pages u
+pointed_here pages w u page header at inside is some few =
+    let word : 1 + (header - 1) ≡ header = omega arith in
+    ap (λ n. cell_of_block (header - 1) n (u / 8 % 64)) at
+    ∙ pointed_in_block pages w u (header - 1) (omega arith) inside (word ∙ is ∙ ap (λ n. header_at w n) at)

@@ -1,0 +1,63 @@
+use Rattle.std.proofs.Common.{◌≡◌, ◌∙◌, sym, subst, arith}
+use Rattle.std.specs.Prelude.{Some, None}
+use Rattle.mk_core.specs.Cells.{pointed_cell}
+use Rattle.mk_core.specs.Words.{Words}
+use Rattle.mk_tracing.specs.Grays.{MarksMore}
+use Rattle.mk_tracing.specs.Stops.{still_words}
+use Rattle.mk_tracing.proofs.PointedCells.{hand_points, pointed_here, points_on, well_marked, well_nowhere}
+use Rattle.mk_tracing.proofs.StopSteps.{on_then}
+use Rattle.mk_tracing.proofs.noting.mark_pointed.Goals as goal
+
+pub returns-then-header-eq0-clause-on : goal.returns-then-header-eq0-clause-on
+returns-then-header-eq0-clause-on c = on_then c.args.stop.now c.look_among-header.new.stop c.mark_under.new.stop
+    c.look_among-header.ensures.on c.mark_under.ensures.on
+
+pub returns-in_default-clause-well : goal.returns-in_default-clause-well
+returns-in_default-clause-well c =
+    let w = still_words c.args.stop.now.pass in
+    well_nowhere c.args.words.now.config.pages w (still_words c.look_among-header.new.stop.pass) c.args.value
+    c.look_among-header.ensures.words
+    (subst (λ n. pointed_cell n w.pages c.args.value ≡ None) c.requires.pages
+    (sym (pointed_here c.args.pages w c.args.value c.args.page c.look_among-header.result c.requires.page
+    c.requires.inside c.look_among-header.ensures.found (omega arith) (omega arith)) ∙ c.in_default.ensures.none))
+
+pub mark_white-requires-clause-reached : goal.mark_white-requires-clause-reached
+mark_white-requires-clause-reached c =
+    let p = c.args.stop.now.pass in
+    let w = still_words p in
+    let look = c.look_among-header in
+    points_on p look.new.stop.pass c.in-Some.noted.cell look.ensures.on.table look.ensures.words look.ensures.hand
+    (hand_points p c.args.words.now c.args.value c.in-Some.noted.cell c.requires.one_table c.requires.hand
+    (subst (λ n. pointed_cell n w.pages c.args.value ≡ Some c.in-Some.noted.cell) c.requires.pages
+    (sym (pointed_here c.args.pages w c.args.value c.args.page look.result c.requires.page c.requires.inside
+    look.ensures.found (omega arith) (omega arith)) ∙ c.in-Some.ensures.some)))
+
+pub returns-then-mark_white-clause-on : goal.returns-then-mark_white-clause-on
+returns-then-mark_white-clause-on c = on_then c.args.stop.now c.look_among-header.new.stop c.mark_white.new.stop
+    c.look_among-header.ensures.on c.mark_white.ensures.on
+
+pub returns-then-mark_white-clause-well : goal.returns-then-mark_white-clause-well
+returns-then-mark_white-clause-well c =
+    let w = still_words c.args.stop.now.pass in
+    let x = still_words c.mark_white.new.stop.pass in
+    let look = c.look_among-header in
+    well_marked c.args.words.now.config.pages w x c.args.value c.in-Some.noted.cell
+    (subst (λ (y : Words). MarksMore y x) look.ensures.words c.mark_white.ensures.more)
+    (subst (λ n. pointed_cell n w.pages c.args.value ≡ Some c.in-Some.noted.cell) c.requires.pages
+    (sym (pointed_here c.args.pages w c.args.value c.args.page look.result c.requires.page c.requires.inside
+    look.ensures.found (omega arith) (omega arith)) ∙ c.in-Some.ensures.some)) c.mark_white.ensures.marked
+
+pub returns-else-mark_white-clause-on : goal.returns-else-mark_white-clause-on
+returns-else-mark_white-clause-on c = on_then c.args.stop.now c.look_among-header.new.stop c.mark_white.new.stop
+    c.look_among-header.ensures.on c.mark_white.ensures.on
+
+pub returns-else-mark_white-clause-well : goal.returns-else-mark_white-clause-well
+returns-else-mark_white-clause-well c =
+    let w = still_words c.args.stop.now.pass in
+    let x = still_words c.mark_white.new.stop.pass in
+    let look = c.look_among-header in
+    well_marked c.args.words.now.config.pages w x c.args.value c.in-Some.noted.cell
+    (subst (λ (y : Words). MarksMore y x) look.ensures.words c.mark_white.ensures.more)
+    (subst (λ n. pointed_cell n w.pages c.args.value ≡ Some c.in-Some.noted.cell) c.requires.pages
+    (sym (pointed_here c.args.pages w c.args.value c.args.page look.result c.requires.page c.requires.inside
+    look.ensures.found (omega arith) (omega arith)) ∙ c.in-Some.ensures.some)) c.mark_white.ensures.marked

@@ -1,0 +1,78 @@
+//! What is noted of a marked cell: what follows from its page's header word alone, which is asked once.
+ghost use Rattle.std.specs.Prelude.{◌≡◌, ◌<◌, ◌+◌, Some, None, IfSome, IfNone};
+ghost use Rattle.mk_core.specs.Cells.{cells_under};
+ghost use Rattle.mk_geom.specs.Addresses.{cell_of_block};
+ghost use Rattle.mk_geom.specs.Headers.{header_of};
+ghost use Rattle.mk_tracing.specs.Grays.{words_scanned};
+
+use mk_core::{cells_under, has_no_pointers, words_under};
+use mk_geom::{Cell, class_words};
+
+/// Where the cells of a block end in their page, by class. What comes after them is the block's tail.
+const CELLS_END: [u64; 8] = [64, 64, 60, 64, 60, 64, 48, 64];
+
+/// A cell, a header word under which its page has it, and how many of its words are scanned then.
+#[derive(Clone, Copy)]
+pub(crate) struct Noted {
+    pub(crate) cell: Cell,
+    pub(crate) header: u64,
+    pub(crate) words: u64,
+    ghost known: { cell.index < cells_under (header_of header) },
+    ghost scanned: { words ≡ words_scanned (header_of header) },
+}
+
+/// How many words of a cell under the header word are scanned.
+pub(crate) fn words_scanned(header: u64) -> u64
+    ensures { result ≡ words_scanned (header_of header) }
+{
+    if has_no_pointers(header) {
+        0
+    } else {
+        words_under(header)
+    }
+}
+
+impl Noted {
+    /// A first cell of a block, for room that nothing is noted in yet.
+    pub(crate) fn nothing() -> Noted {
+        Noted {
+            cell: Cell { page: 0, index: 0 },
+            header: 1,
+            words: 2,
+        }
+    }
+
+    /// The cell of a page, if there is one of its index under the header word.
+    pub(crate) fn under(header: u64, cell: Cell) -> Option<Noted>
+        ensures { IfSome result (λ noted. noted.cell ≡ cell) }
+    {
+        if cell.index >= cells_under(header) {
+            return None;
+        }
+        let words = words_scanned(header);
+        Some(Noted { cell, header, words })
+    }
+
+    /// The cell that has a word of a page, which is a block of this class for objects with pointers. None where the
+    /// word is in the block's tail.
+    #[inline(always)]
+    pub(crate) fn in_block(class: u64, page: u64, word: u64) -> Option<Noted>
+        requires { class < 8 }
+        ensures some { IfSome result (λ noted. cell_of_block class page word ≡ Some noted.cell) }
+        ensures none { IfNone result (cell_of_block class page word ≡ None) }
+    {
+        if word >= CELLS_END[class as usize] {
+            return None;
+        }
+        let words = class_words(class);
+        let cell = Cell {
+            page,
+            index: word / words,
+        };
+        Some(Noted {
+            cell,
+            header: 1 + class,
+            words,
+        })
+    }
+}
