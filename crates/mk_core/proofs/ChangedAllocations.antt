@@ -1,13 +1,13 @@
 -- Allocations that change one by one, and stay at their places.
-use Rattle.std.proofs.Common.{◌≡◌, ℕ, ◌+◌, ◌*◌, ◌/◌, ◌<◌, ◌≤◌, Bool, true, false, List, [], ◌∷◌, ◌++◌, map, length}
+use Rattle.std.proofs.Common.{◌≡◌, ℕ, ◌+◌, ◌/◌, ◌<◌, Bool, true, false, List, [], ◌∷◌, ◌++◌, map, length}
 use Rattle.std.proofs.Common.{get_or, refl, sym, ap, subst, ◌∙◌, ◌&&◌, not, if◌then◌else◌, Option, Some, None}
 use Rattle.std.proofs.Math.Bool.{and-false}
 use Rattle.std.proofs.Math.ListN.{get_or-map as get_or-map-default}
 use Rattle.std.proofs.Math.Seq.{get_or-append_seam}
 use Rattle.std.proofs.lemmas.List.{get_or_append_left}
-use Rattle.mk_core.proofs.Vocabulary.{BeginsAtCell, Cell, Config, HasItsHeaders, header_at, is_small_object, IsHeaderOf}
+use Rattle.mk_core.proofs.Vocabulary.{Cell, Config, HasItsHeaders, header_at, is_small_object, IsHeaderOf}
 use Rattle.mk_core.proofs.Vocabulary.{kinds_of, never_granted, object_placed, pages_made, placed_at, PlacedAllocation}
-use Rattle.mk_core.proofs.Vocabulary.{stands_in, StandsOnHeap, storage_of, Words, words_made}
+use Rattle.mk_core.proofs.Vocabulary.{stands_in, storage_of, Words}
 use Rattle.mk_never.specs.Types.{is_large}
 use Rattle.mk_core.specs.NewPlaces.{object_of}
 use Rattle.mk_core.specs.Allocations.{freed_where_it_stands, with_released, no_longer_fresh, unreleased_storage}
@@ -94,19 +94,6 @@ none_freed w (a ∷ xs) = ap (λ (ys : List PlacedAllocation). a ∷ ys) (none_f
 pub fresh_storage : (c : Config) (xs : List PlacedAllocation)
     → unreleased_storage c (map no_longer_fresh xs) ≡ unreleased_storage c xs
 fresh_storage c xs = unreleased_kept c no_longer_fresh (λ a. refl) (λ a unreleased. refl) xs
-
--- An allocation of the same type and base stands as the other does.
-pub same_stands : (c : Config) (a b : PlacedAllocation) → b.base ≡ a.base → b.ty ≡ a.ty → b.released ≡ false
-    → StandsOnHeap c a → StandsOnHeap c b
-same_stands c a b base ty unreleased st =
-    record {
-      typed = subst (λ t. t < length c.types) (sym ty) st.typed;
-      unreleased = unreleased;
-      begins = subst (λ n. BeginsAtCell (object_placed c b) n) (sym base)
-          (subst (λ t. BeginsAtCell (object_of (kinds_of c.types t)) a.base) (sym ty) st.begins);
-      within = subst (λ n. n + words_made (object_placed c b) ≤ 64 * c.pages) (sym base)
-          (subst (λ t. a.base + words_made (object_of (kinds_of c.types t)) ≤ 64 * c.pages) (sym ty) st.within);
-    }
 
 pub same_headers : (c : Config) (w : Words) (a b : PlacedAllocation) → b.base ≡ a.base → b.ty ≡ a.ty
     → HasItsHeaders c w a → HasItsHeaders c w b

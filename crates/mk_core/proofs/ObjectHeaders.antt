@@ -1,7 +1,7 @@
 -- What the header of each page of an object shows.
 use Rattle.std.proofs.Common.{◌≡◌, ◌≢◌, ℕ, zero, suc, ◌+◌, ◌<◌, ◌≤◌, Bool, true, false, refl, sym, ◌∙◌, ap, subst, inl}
 use Rattle.std.proofs.Common.{inr, arith, ◌&&◌, ◌||◌, Option, Some}
-use Rattle.std.proofs.lemmas.Bool.{cases_Bool, cases_eq, true≢false, cond-true, cond-false}
+use Rattle.std.proofs.lemmas.Bool.{cases_Bool, true≢false, cond-true, cond-false}
 use Rattle.mk_core.proofs.Vocabulary.{Block, cells_made, cells_under, class_made, Free, Header, header_made}
 use Rattle.mk_core.proofs.Vocabulary.{is_small_object, IsHeaderOf, IsSized, Later, LeafBlock, LeafRun, Object}
 use Rattle.mk_core.proofs.Vocabulary.{pages_made, Run, unmapped_header, words_made, words_under}
@@ -100,10 +100,7 @@ shows_free _ = false
 
 not_free : (o : Object) (distance : ℕ) (x : Option Header) → ShowsPart o distance x → shows_free x ≡ false
 not_free o distance x (OfBlock first small leaf) = refl
-not_free o distance x (OfLeafBlock first small leaf) = refl
-not_free o distance x (OfRun mapped first large leaf) = refl
-not_free o distance x (OfLeafRun first large leaf) = refl
-not_free o distance x (OfLater mapped some large) = refl
+not_free o distance x _ = refl
 
 pub part_not_free : (o : Object) (distance header : ℕ) → ShowsPart o distance (header_of header) → header ≢ 0
 part_not_free o distance header part is =
@@ -123,6 +120,14 @@ part_words o x (OfLeafBlock first small leaf) = sym (small_words o small)
 part_words o x (OfRun mapped first large leaf) = sym (large_words o large)
 part_words o x (OfLeafRun first large leaf) = sym (large_words o large)
 part_words o x (OfLater mapped some large) = absurd (omega arith)
+
+-- what two headers of one page of an object have alike, where it is so of first pages and of later ones
+same_under : (f : Option Header → ℕ) (n : ℕ) (o : Object) → ((x : Option Header) → ShowsPart o 0 x → f x ≡ n)
+    → ((distance : ℕ) (x : Option Header) → ShowsPart o distance x → 1 ≤ distance → f x ≡ 0)
+    → (distance : ℕ) (x y : Option Header) → ShowsPart o distance x → ShowsPart o distance y → f x ≡ f y
+same_under f n o first later zero x y px py = first x px ∙ sym (first y py)
+same_under f n o first later (suc d) x y px py =
+    later (suc d) x px (omega arith) ∙ sym (later (suc d) y py (omega arith))
 
 -- and none at a later one.
 pub later_part : (o : Object) (distance : ℕ) (x : Option Header) → ShowsPart o distance x → 1 ≤ distance
@@ -188,21 +193,11 @@ first_part o x part = (part_cells o x part, part_words o x part, part_has_no_poi
 -- Two headers of one page of an object have the same cells and words.
 pub same_cells : (o : Object) (distance : ℕ) (x y : Option Header) → ShowsPart o distance x → ShowsPart o distance y
     → cells_under x ≡ cells_under y
-same_cells o distance x y px py = elim (cases_eq distance 0) [
-  | inl first ↦
-      part_cells o x (subst (λ d. ShowsPart o d x) first px)
-      ∙ sym (part_cells o y (subst (λ d. ShowsPart o d y) first py))
-  | inr ne ↦ later_cells o distance x px (omega arith) ∙ sym (later_cells o distance y py (omega arith))
-]
+same_cells o = same_under cells_under (cells_made o) o (part_cells o) (later_cells o)
 
 pub same_words : (o : Object) (distance : ℕ) (x y : Option Header) → ShowsPart o distance x → ShowsPart o distance y
     → words_under x ≡ words_under y
-same_words o distance x y px py = elim (cases_eq distance 0) [
-  | inl first ↦
-      part_words o x (subst (λ d. ShowsPart o d x) first px)
-      ∙ sym (part_words o y (subst (λ d. ShowsPart o d y) first py))
-  | inr ne ↦ later_words o distance x px (omega arith) ∙ sym (later_words o distance y py (omega arith))
-]
+same_words o = same_under words_under (words_made o) o (part_words o) (later_words o)
 
 -- Which headers are unmapped.
 block_mapped : (class : ℕ) (leaf : Bool) → class < 8

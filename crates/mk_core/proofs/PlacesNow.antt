@@ -82,15 +82,6 @@ placed_now c m f place h =
       placed = placed_in c.resident m.words.pages (object_made c f.op) m.seats.holding.placing place parts.1;
     }
 
--- what a step makes of a placing
-pub chosen_is : (placing : Placing) (o : Option Place) (place : Place) → chosen placing o ≡ Chosen place
-    → ((placing ≡ Unplaced) × (o ≡ Some place)) ⊎ (placing ≡ Chosen place)
-chosen_is Unplaced (Some x) place h = inl (refl, cc)
-chosen_is Unplaced None place h = cc
-chosen_is (Chosen x) o place h = inr h
-chosen_is (Used x) o place h = cc
-chosen_is Granted o place h = cc
-
 pub chosen_used : (placing : Placing) (o : Option Place) (place : Place) → chosen placing o ≡ Used place
     → placing ≡ Used place
 chosen_used Unplaced (Some x) place h = cc
@@ -103,11 +94,6 @@ pub taken_is : (placing : Placing) (o : Option Place) (place : Place) → taken 
     → (o ≡ Some place) ⊎ ((o ≡ None) × (placing ≡ Used place))
 taken_is placing (Some x) place h = inl cc
 taken_is placing None place h = inr (refl, h)
-
-pub taken_chosen : (placing : Placing) (o : Option Place) (place : Place) → taken placing o ≡ Chosen place
-    → (o ≡ None) × (placing ≡ Chosen place)
-taken_chosen placing (Some x) place h = cc
-taken_chosen placing None place h = (refl, h)
 
 -- The target of an undecided Free is what its register points into.
 pub record IsTarget (pages : ℕ) (w : Words) (f : Flight) (cell : Cell) : Type 0 where

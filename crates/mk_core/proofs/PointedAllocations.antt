@@ -118,9 +118,7 @@ pub cell_word_is_its_own : (c : Config) (w : Words) (a : PlacedAllocation) → I
     → IsWordOf (storage_of c a) (first_word w (cell_of_storage (storage_of c a)) + i)
 cell_word_is_its_own c w a limits st has i lt =
     let cells = cells_begin c w a limits st has in
-    let first = cells.0 in
-    let words = cells.1 in
-    (omega arith, omega arith)
+    omega (arith, cells.0, cells.1)
 
 -- A cell that is taken is that of the allocation that stands in it.
 pub taken_cell_is : (c : Config) (w : World) (cell : Cell) (taken : IsTaken w cell)

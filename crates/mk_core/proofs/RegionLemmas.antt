@@ -97,56 +97,6 @@ begins pages w h =
     let m = h.marks in let b = h.blacks in let d = h.dirty in let n = h.heap in
     omega arith
 
--- the word at k of region j, whose index is i
-at : (w : Words) (j k i n : ℕ) → before (regions w) j ≡ n → i ≡ n + k → k < length (region (regions w) j)
-    → slice_index (in_order w) i ≡ slice_index (region (regions w) j) k
-at w j k i n b e lt = ap (λ x. slice_index (in_order w) x) (e ∙ ap (λ x. x + k) (sym b)) ∙ joined_at (regions w) j k lt
-
--- a change of it
-set_at : (w : Words) (j k i n v : ℕ) → before (regions w) j ≡ n → i ≡ n + k → k < length (region (regions w) j)
-    → joined (slice_set (regions w) j (slice_set (region (regions w) j) k v)) ≡ slice_set (in_order w) i v
-set_at w j k i n v b e lt = sym (ap (λ x. slice_set (in_order w) x v) (e ∙ ap (λ x. x + k) (sym b))
-    ∙ joined_set (regions w) j k v lt)
-
-named_stands : (pages : ℕ) (w : Words) (x : Word) → AreOfPages pages w → Begins pages w → IsOfTable pages (Named x)
-    → slice_index (in_order w) (index_of pages (Named x)) ≡ word_in w (Named x)
-named_stands pages w (word.Gate j) h b t =
-    let l : length (spread 16 1 15 w.gates) ≡ 256 = length_spread 16 1 15 w.gates h.gates in
-    at w 6 (16 * j) (48 + 16 * j) 48 b.gates refl (omega arith) ∙ word_at 16 w.gates j h.gates t
-named_stands pages w (word.Reg c r) h b t =
-    let l : length (spread 16 8 8 w.registers) ≡ 256 = length_spread 16 8 8 w.registers h.registers in let lc =
-    t.0 in let lr = t.1 in
-    at w 7 (16 * c + r) (304 + 16 * c + r) 304 b.registers (omega arith) (omega arith)
-    ∙ spread_at 16 8 8 w.registers c r h.registers lc lr
-named_stands pages w (word.Global g) h b t = let l = h.globals in at w 8 g (560 + g) 560 b.globals refl (omega arith)
-named_stands pages w (word.Head p) h b t =
-    let l = h.pages in let m = length-map w.pages (λ (page : Page). page.header) in
-    at w 10 p (640 + p) 640 b.headers refl (omega arith)
-    ∙ get_or-map (λ (page : Page). page.header) w.pages p free_page 0 (omega arith)
-named_stands pages w (word.Used p) h b t =
-    let l = h.pages in let m = length-map w.pages (λ (page : Page). page.used) in
-    at w 11 p (640 + pages + p) (640 + pages) b.used refl (omega arith)
-    ∙ get_or-map (λ (page : Page). page.used) w.pages p free_page 0 (omega arith)
-named_stands pages w (word.Quar p) h b t =
-    let l = h.freed in let s = h.snapshot in let q = quarantine_length w.freed w.snapshot (h.freed ∙ sym h.snapshot) in
-    at w 12 p (640 + 2 * pages + p) (640 + 2 * pages) b.quarantine refl (omega arith)
-    ∙ quarantine_at w.freed w.snapshot p (h.freed ∙ sym h.snapshot) (omega arith)
-named_stands pages w (word.Mark p) h b t = let l =
-    h.marks in at w 13 p (640 + 3 * pages + p) (640 + 3 * pages) b.marks refl (omega arith)
-named_stands pages w (word.Black p) h b t = let l =
-    h.blacks in at w 14 p (640 + 4 * pages + p) (640 + 4 * pages) b.blacks refl (omega arith)
-named_stands pages w (word.Dirty p) h b t =
-    let l = h.dirty in let s = length_words w.dirty in
-    at w 16 (16 * p) (656 + 5 * pages + 16 * p) (656 + 5 * pages) b.dirty refl (omega arith)
-    ∙ word_at (length w.dirty) w.dirty p refl (omega arith)
-named_stands pages w (word.Heap n) h b t = let l =
-    h.heap in at w 17 n (656 + 21 * pages + n) (656 + 21 * pages) b.heap refl (omega arith)
-named_stands pages w _ h b t = refl
-
-pub words_stand : WordsStandAtTheirIndexes
-words_stand pages w Turn h t = refl
-words_stand pages w (Named x) h t = named_stands pages w x h (begins pages w h) t
-
 -- the list with another region j
 abbrev put : Words → ℕ → List ℕ → List ℕ
 put w j xs = joined (slice_set (regions w) j xs)
@@ -170,58 +120,107 @@ used_kept ps p v = map-set_same (λ (page : Page). page.used) ps p
 quarantine_whole : (v : ℕ) → quarantine_word (v % 2 ^ 32) (v / 2 ^ 32) ≡ v
 quarantine_whole v = mod-add-div v (2 ^ 32)
 
-named_changes : (pages : ℕ) (w : Words) (x : Word) (v : ℕ) → AreOfPages pages w → Begins pages w
-    → IsOfTable pages (Named x)
-    → in_order (with_word_in w (Named x) v) ≡ slice_set (in_order w) (index_of pages (Named x)) v
-named_changes pages w (word.Gate j) v h b t =
-    let l : length (spread 16 1 15 w.gates) ≡ 256 = length_spread 16 1 15 w.gates h.gates in
-    ap (λ xs. put w 6 xs) (word_set 16 w.gates j v h.gates t)
-    ∙ set_at w 6 (16 * j) (48 + 16 * j) 48 v b.gates refl (omega arith)
-named_changes pages w (word.Reg c r) v h b t =
-    let l : length (spread 16 8 8 w.registers) ≡ 256 = length_spread 16 8 8 w.registers h.registers in let lc =
-    t.0 in let lr = t.1 in
-    ap (λ xs. put w 7 xs) (sym (spread_set 16 8 8 w.registers c r v h.registers lc lr))
-    ∙ set_at w 7 (16 * c + r) (304 + 16 * c + r) 304 v b.registers (omega arith) (omega arith)
-named_changes pages w (word.Global g) v h b t = let l =
-    h.globals in set_at w 8 g (560 + g) 560 v b.globals refl (omega arith)
-named_changes pages w (word.Head p) v h b t =
-    let l = h.pages in let m = length-map w.pages (λ (page : Page). page.header) in
-    let changed = slice_set w.pages p (record { header = v; used = (slice_index_or w.pages p free_page).used }) in
-    ap (λ us. joined (slice_set (slice_set (regions w) 10 (map (λ (page : Page). page.header) changed)) 11 us))
-    (used_kept w.pages p v)
-    ∙ ap (λ hs. put w 10 hs)
-    (map-set (λ (page : Page). page.header) w.pages p
-    (record { header = v; used = (slice_index_or w.pages p free_page).used }))
-    ∙ set_at w 10 p (640 + p) 640 v b.headers refl (omega arith)
-named_changes pages w (word.Used p) v h b t =
-    let l = h.pages in let m = length-map w.pages (λ (page : Page). page.used) in
-    let changed = slice_set w.pages p (record { header = (slice_index_or w.pages p free_page).header; used = v }) in
-    ap (λ hs. joined (slice_set (slice_set (regions w) 10 hs) 11 (map (λ (page : Page). page.used) changed)))
-    (headers_kept w.pages p v)
-    ∙ ap (λ us. put w 11 us)
-    (map-set (λ (page : Page). page.used) w.pages p
-    (record { header = (slice_index_or w.pages p free_page).header; used = v }))
-    ∙ set_at w 11 p (640 + pages + p) (640 + pages) v b.used refl (omega arith)
-named_changes pages w (word.Quar p) v h b t =
-    let l = h.freed in let s = h.snapshot in let q = quarantine_length w.freed w.snapshot (h.freed ∙ sym h.snapshot) in
-    ap (λ xs. put w 12 xs) (quarantine_set w.freed w.snapshot p (v % 2 ^ 32) (v / 2 ^ 32) (h.freed ∙ sym h.snapshot))
-    ∙ ap (λ x. put w 12 (slice_set (quarantine_words w.freed w.snapshot) p x)) (quarantine_whole v)
-    ∙ set_at w 12 p (640 + 2 * pages + p) (640 + 2 * pages) v b.quarantine refl (omega arith)
-named_changes pages w (word.Mark p) v h b t = let l =
-    h.marks in set_at w 13 p (640 + 3 * pages + p) (640 + 3 * pages) v b.marks refl (omega arith)
-named_changes pages w (word.Black p) v h b t = let l =
-    h.blacks in set_at w 14 p (640 + 4 * pages + p) (640 + 4 * pages) v b.blacks refl (omega arith)
-named_changes pages w (word.Dirty p) v h b t =
-    let l = h.dirty in let s = length_words w.dirty in
-    ap (λ xs. put w 16 xs) (words_set w.dirty p v (omega arith))
-    ∙ set_at w 16 (16 * p) (656 + 5 * pages + 16 * p) (656 + 5 * pages) v b.dirty refl (omega arith)
-named_changes pages w (word.Heap n) v h b t = let l =
-    h.heap in set_at w 17 n (656 + 21 * pages + n) (656 + 21 * pages) v b.heap refl (omega arith)
-named_changes pages w _ v h b t = refl
+-- the word at index i is the one at k of region j
+record IsPlaceOf (w : Words) (i j k : ℕ) : Type 0 where
+  index : i ≡ before (regions w) j + k
+  within : k < length (region (regions w) j)
+
+at : (w : Words) (i j k : ℕ) → IsPlaceOf w i j k → slice_index (in_order w) i ≡ slice_index (region (regions w) j) k
+at w i j k is = ap (λ x. slice_index (in_order w) x) is.index ∙ joined_at (regions w) j k is.within
+
+-- a change of it
+set_at : (w : Words) (i j k v : ℕ) → IsPlaceOf w i j k
+    → joined (slice_set (regions w) j (slice_set (region (regions w) j) k v)) ≡ slice_set (in_order w) i v
+set_at w i j k v is = sym (ap (λ x. slice_set (in_order w) x v) is.index ∙ joined_set (regions w) j k v is.within)
+
+module _ (pages : ℕ) (w : Words) (h : AreOfPages pages w) (b : Begins pages w) where
+  gate_place : (j : ℕ) → j < 16 → IsPlaceOf w (48 + 16 * j) 6 (16 * j)
+  gate_place j t = omega (arith, length_spread 16 1 15 w.gates h.gates)
+
+  register_place : (c r : ℕ) → c < 16 → r < 8 → IsPlaceOf w (304 + 16 * c + r) 7 (16 * c + r)
+  register_place c r lc lr = omega (arith, length_spread 16 8 8 w.registers h.registers)
+
+  global_place : (g : ℕ) → g < 64 → IsPlaceOf w (560 + g) 8 g
+  global_place g t = omega arith
+
+  head_place : (p : ℕ) → p < pages → IsPlaceOf w (640 + p) 10 p
+  head_place p t = omega (arith, length-map w.pages (λ (page : Page). page.header))
+
+  used_place : (p : ℕ) → p < pages → IsPlaceOf w (640 + pages + p) 11 p
+  used_place p t = omega (arith, length-map w.pages (λ (page : Page). page.used))
+
+  quarantine_place : (p : ℕ) → p < pages → IsPlaceOf w (640 + 2 * pages + p) 12 p
+  quarantine_place p t = omega (arith, quarantine_length w.freed w.snapshot (h.freed ∙ sym h.snapshot))
+
+  mark_place : (p : ℕ) → p < pages → IsPlaceOf w (640 + 3 * pages + p) 13 p
+  mark_place p t = omega arith
+
+  black_place : (p : ℕ) → p < pages → IsPlaceOf w (640 + 4 * pages + p) 14 p
+  black_place p t = omega arith
+
+  dirty_place : (p : ℕ) → p < pages → IsPlaceOf w (656 + 5 * pages + 16 * p) 16 (16 * p)
+  dirty_place p t = omega (arith, length_words w.dirty)
+
+  heap_place : (n : ℕ) → n < 64 * pages → IsPlaceOf w (656 + 21 * pages + n) 17 n
+  heap_place n t = omega arith
+
+  named_stands : (x : Word) → IsOfTable pages (Named x)
+      → slice_index (in_order w) (index_of pages (Named x)) ≡ word_in w (Named x)
+  named_stands (word.Gate j) t = at w _ 6 (16 * j) (gate_place j t) ∙ word_at 16 w.gates j h.gates t
+  named_stands (word.Reg c r) t = at w _ 7 (16 * c + r) (register_place c r t.0 t.1)
+      ∙ spread_at 16 8 8 w.registers c r h.registers t.0 t.1
+  named_stands (word.Global g) t = at w _ 8 g (global_place g t)
+  named_stands (word.Head p) t = at w _ 10 p (head_place p t)
+      ∙ get_or-map (λ (page : Page). page.header) w.pages p free_page 0 (omega arith)
+  named_stands (word.Used p) t = at w _ 11 p (used_place p t)
+      ∙ get_or-map (λ (page : Page). page.used) w.pages p free_page 0 (omega arith)
+  named_stands (word.Quar p) t = at w _ 12 p (quarantine_place p t)
+      ∙ quarantine_at w.freed w.snapshot p (h.freed ∙ sym h.snapshot) (omega arith)
+  named_stands (word.Mark p) t = at w _ 13 p (mark_place p t)
+  named_stands (word.Black p) t = at w _ 14 p (black_place p t)
+  named_stands (word.Dirty p) t = at w _ 16 (16 * p) (dirty_place p t)
+      ∙ word_at (length w.dirty) w.dirty p refl (omega arith)
+  named_stands (word.Heap n) t = at w _ 17 n (heap_place n t)
+  named_stands _ t = refl
+
+  named_changes : (x : Word) (v : ℕ) → IsOfTable pages (Named x)
+      → in_order (with_word_in w (Named x) v) ≡ slice_set (in_order w) (index_of pages (Named x)) v
+  named_changes (word.Gate j) v t =
+      ap (λ xs. put w 6 xs) (word_set 16 w.gates j v h.gates t) ∙ set_at w _ 6 (16 * j) v (gate_place j t)
+  named_changes (word.Reg c r) v t =
+      ap (λ xs. put w 7 xs) (sym (spread_set 16 8 8 w.registers c r v h.registers t.0 t.1))
+      ∙ set_at w _ 7 (16 * c + r) v (register_place c r t.0 t.1)
+  named_changes (word.Global g) v t = set_at w _ 8 g v (global_place g t)
+  named_changes (word.Head p) v t =
+      let page : Page = record { header = v; used = (slice_index_or w.pages p free_page).used } in
+      let headers = map (λ (x : Page). x.header) (slice_set w.pages p page) in
+      ap (λ us. joined (slice_set (slice_set (regions w) 10 headers) 11 us)) (used_kept w.pages p v)
+      ∙ ap (λ hs. put w 10 hs) (map-set (λ (x : Page). x.header) w.pages p page)
+      ∙ set_at w _ 10 p v (head_place p t)
+  named_changes (word.Used p) v t =
+      let page : Page = record { header = (slice_index_or w.pages p free_page).header; used = v } in
+      let used = map (λ (x : Page). x.used) (slice_set w.pages p page) in
+      ap (λ hs. joined (slice_set (slice_set (regions w) 10 hs) 11 used)) (headers_kept w.pages p v)
+      ∙ ap (λ us. put w 11 us) (map-set (λ (x : Page). x.used) w.pages p page)
+      ∙ set_at w _ 11 p v (used_place p t)
+  named_changes (word.Quar p) v t =
+      ap (λ xs. put w 12 xs) (quarantine_set w.freed w.snapshot p (v % 2 ^ 32) (v / 2 ^ 32) (h.freed ∙ sym h.snapshot))
+      ∙ ap (λ x. put w 12 (slice_set (quarantine_words w.freed w.snapshot) p x)) (quarantine_whole v)
+      ∙ set_at w _ 12 p v (quarantine_place p t)
+  named_changes (word.Mark p) v t = set_at w _ 13 p v (mark_place p t)
+  named_changes (word.Black p) v t = set_at w _ 14 p v (black_place p t)
+  named_changes (word.Dirty p) v t = ap (λ xs. put w 16 xs) (words_set w.dirty p v (omega arith))
+      ∙ set_at w _ 16 (16 * p) v (dirty_place p t)
+  named_changes (word.Heap n) v t = set_at w _ 17 n v (heap_place n t)
+  named_changes _ v t = refl
+
+pub words_stand : WordsStandAtTheirIndexes
+words_stand pages w Turn h t = refl
+words_stand pages w (Named x) h t = named_stands pages w h (begins pages w h) x t
 
 pub words_change : ChangesStandAtTheirIndexes
 words_change pages w Turn v h t = refl
-words_change pages w (Named x) v h t = named_changes pages w x v h (begins pages w h) t
+words_change pages w (Named x) v h t = named_changes pages w h (begins pages w h) x v t
 
 length_joined : (xss : List (List ℕ)) → length (joined xss) ≡ before xss (length xss)
 length_joined [] = refl

@@ -33,12 +33,7 @@ pub record LeavesTallies (w v : Words) : Type 0 where
   pub released : v.released ≡ w.released
   pub full : v.full ≡ w.full
 
--- An access to a register changes the registers alone,
-pub register_changes : (w : Words) (k r : ℕ) (a : Access)
-    → accessed w (Named (word.Reg k r)) a ≡ record w { registers = (accessed w (Named (word.Reg k r)) a).registers }
-register_changes w k r Load = refl
-register_changes w k r _ = refl
-
+-- An access to a register leaves all but the registers,
 pub register_leaves : (w : Words) (k r : ℕ) (a : Access) → LeavesTable w (accessed w (Named (word.Reg k r)) a)
 register_leaves w k r Load = search rules
 register_leaves w k r _ = search rules

@@ -2,15 +2,14 @@
 use Rattle.std.proofs.Common.{◌≡◌, ◌≢◌, ℕ, ◌+◌, ◌-◌, ◌<◌, ◌≤◌, ◌^◌, true, false, refl}
 use Rattle.std.specs.Prelude.{not, ◌==◌, nat_lt, Option, Some, None}
 use Rattle.std.proofs.lemmas.Bool.{and_parts, eqb-true, eqb-false, leb-true, ltb-true, not-true}
-use Rattle.mk_core.proofs.Vocabulary.{Config, Flight, has_bit, header_at, header_made, is_phase, Moment, Object}
-use Rattle.mk_core.proofs.Vocabulary.{object_made, pages_made, Place, place_now, stands, Step, Words}
+use Rattle.mk_core.proofs.Vocabulary.{has_bit, header_at, header_made, is_phase, Object}
+use Rattle.mk_core.proofs.Vocabulary.{pages_made, Place, stands, Words}
 use Rattle.mk_core.specs.declared.events.Step.TheVariants as step
 use Rattle.mk_core.specs.Words.{used_at}
 use Rattle.mk_core.specs.Bounded.{all_below}
 use Rattle.mk_core.specs.NewPlaces.{bits_made, is_next_header}
 use Rattle.mk_core.specs.TurnConditions.{carves, takes_cell, is_marked_first}
 use Rattle.mk_core.specs.StopConditions.{marks_place}
-use Rattle.mk_core.specs.Placement.{serves}
 use Rattle.mk_core.proofs.AllBelow.{all_below-at}
 
 -- the first page of this many that hasn't the header that is wanted there, and that header
@@ -120,25 +119,3 @@ pub marks_is : (w : Words) (o : Object) (found : Option Place) (page value : ℕ
 marks_is w o None page value h = cc
 marks_is w o (Some place) page value h =
     record { place = place; there = refl; marked = place_marked w o place page value h }
-
--- A step that serves a New is one of these.
-pub data ServesBy (c : Config) (m : Moment) (f : Flight) : Step → Type 0 where
-  ByHeader : (page value : ℕ) → is_phase m.words 4 ≡ false
-      → Carves m.words (object_made c f.op) (place_now c m f) page value → ServesBy c m f (step.Head page value)
-  ByCell : (page value : ℕ) → is_phase m.words 4 ≡ false
-      → TakesCell m.words (object_made c f.op) (place_now c m f) page value → ServesBy c m f (step.Used page value)
-  ByMark : (page value : ℕ) → MarksPlace m.words (object_made c f.op) (place_now c m f) page value
-      → ServesBy c m f (step.Mark page value)
-
-pub serves_by : (c : Config) (m : Moment) (f : Flight) (s : Step) → serves c m f s ≡ true → ServesBy c m f s
-serves_by c m f (step.Head page value) h =
-    let a = and_parts _ _ h in
-    ByHeader page value (not-true _ a.0)
-    (carves_is m.words (object_made c f.op) (place_now c m f) page value a.1)
-serves_by c m f (step.Used page value) h =
-    let a = and_parts _ _ h in
-    ByCell page value (not-true _ a.0)
-    (takes_is m.words (object_made c f.op) (place_now c m f) page value a.1)
-serves_by c m f (step.Mark page value) h =
-    ByMark page value (marks_is m.words (object_made c f.op) (place_now c m f) page value h)
-serves_by c m f _ h = cc

@@ -76,11 +76,7 @@ class_known o sized small =
 
 -- a large one has a run of 1 to 64 pages
 pub large_count : (o : Object) → IsSized o → is_small_object o ≡ false → (1 ≤ pages_made o) × (pages_made o ≤ 64)
-large_count o sized large =
-    let e = large_pages o large in
-    let some = sized.0 in
-    let most = sized.1 in
-    (omega arith, omega arith)
+large_count o sized large = omega (arith, large_pages o large, sized.0, sized.1)
 
 pub pages_some : (o : Object) → IsSized o → 1 ≤ pages_made o
 pages_some o sized = elim (cases_Bool (is_small_object o)) [
@@ -90,26 +86,18 @@ pages_some o sized = elim (cases_Bool (is_small_object o)) [
 
 pub cells_some : (o : Object) → IsSized o → 1 ≤ cells_made o
 cells_some o sized = elim (cases_Bool (is_small_object o)) [
-  | inl small ↦
-      let e = small_cells o small in
-      let some = some_cells (class_made o) (class_known o sized small).0 in
-      omega arith
+  | inl small ↦ omega (arith, small_cells o small, some_cells (class_made o) (class_known o sized small).0)
   | inr large ↦ let e = large_cells o large in omega arith
 ]
 
 -- A small object's storage has at most 32 words, and a large one's 64 or more;
 pub small_words_within : (o : Object) → IsSized o → is_small_object o ≡ true → (1 ≤ words_made o) × (words_made o ≤ 32)
 small_words_within o sized small =
-    let e = small_words o small in
-    let range = class_words_within (class_made o) (class_known o sized small).0 in
-    (omega arith, omega arith)
+    omega (arith, small_words o small, class_words_within (class_made o) (class_known o sized small).0)
 
 pub large_words_within : (o : Object) → IsSized o → is_small_object o ≡ false
     → (64 ≤ words_made o) × (words_made o ≤ 4096)
-large_words_within o sized large =
-    let e = large_words o large in
-    let count = large_count o sized large in
-    (omega arith, omega arith)
+large_words_within o sized large = omega (arith, large_words o large, large_count o sized large)
 
 -- it is as small as the object,
 pub words_are_small : (o : Object) → IsSized o → nat_le (words_made o) 32 ≡ is_small_object o
@@ -128,12 +116,6 @@ words_within o sized = elim (cases_Bool (is_small_object o)) [
 -- and the object fits into it.
 pub words_hold : (o : Object) → IsSized o → o.words ≤ words_made o
 words_hold o sized = elim (cases_Bool (is_small_object o)) [
-  | inl small ↦
-      let e = small_words o small in
-      let holds = (class_known o sized small).1 in
-      omega arith
-  | inr large ↦
-      let e = large_words o large in
-      let pages = large_pages o large in
-      omega arith
+  | inl small ↦ omega (arith, small_words o small, (class_known o sized small).1)
+  | inr large ↦ omega (arith, large_words o large, large_pages o large)
 ]

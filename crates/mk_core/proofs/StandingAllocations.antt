@@ -14,7 +14,7 @@ use Rattle.mk_geom.specs.Storages.{stands_on, run_header, IsCell, IsRun, IsStora
 use Rattle.mk_geom.specs.StorageWords.{ShowsStorage}
 use Rattle.mk_geom.proofs.ClassTable.{cell_ends, class_words_within}
 use Rattle.mk_geom.proofs.Standing.{stands_parts}
-use Rattle.mk_geom.proofs.PointedCells.{cell_from_first, small_cell_of, large_cell_of, cell_first, stands_at_address}
+use Rattle.mk_geom.proofs.PointedCells.{cell_from_first, large_cell_of, cell_first, stands_at_address}
 use Rattle.mk_geom.proofs.PointedCells.{shows_cell, shows_run, points_into_cell}
 use Rattle.mk_core.specs.Cells.{pointed_cell}
 use Rattle.mk_core.specs.ObjectHeaders.{ShowsPart}
@@ -79,35 +79,24 @@ made_begins o place sized known = elim (cases_Bool (is_small_object o)) [
 ]
 
 -- the cell of its storage
-pub placed_cell : (c : Config) (a : PlacedAllocation) → IsSized (object_placed c a)
-    → (b : BeginsAtCell (object_placed c a) a.base)
-    → cell_of_storage (storage_of c a) ≡ record { page = a.base / 64; index = b.index }
-placed_cell c a sized b = elim (cases_Bool (is_small_object (object_placed c a))) [
-  | inl small ↦
-      let first = b.first in
-      let ends = cell_ends_within (object_placed c a) a.base sized small b in
-      let some = (words_within (object_placed c a) sized).0 in
-      cell_from_first (storage_of c a) (a.base / 64) b.index (words_are_small (object_placed c a) sized
-      ∙ small) some ends (omega arith)
-  | inr large ↦
-      let zero = (run_begins (object_placed c a) a.base large b).0 in
-      large_cell_of (storage_of c a) (words_are_small (object_placed c a) sized ∙ large)
-      ∙ ap (λ (n : ℕ). record { page = a.base / 64; index = n }) (sym zero)
-]
+module _ (c : Config) (a : PlacedAllocation) (sized : IsSized (object_placed c a)) where
+  abbrev o : Object
+  o = object_placed c a
 
--- by the class of the object
-pub class_cell : (c : Config) (a : PlacedAllocation) → IsSized (object_placed c a)
-    → is_small_object (object_placed c a) ≡ true
-    → cell_of_storage (storage_of c a)
-    ≡ record { page = a.base / 64; index = a.base % 64 / class_words_of (class_made (object_placed c a)) }
-class_cell c a sized small =
-    small_cell_of (storage_of c a) (words_are_small (object_placed c a) sized ∙ small)
-    ∙ ap (λ (n : ℕ). record { page = a.base / 64; index = a.base % 64 / n }) (small_words (object_placed c a) small)
+  pub placed_cell : (b : BeginsAtCell o a.base)
+      → cell_of_storage (storage_of c a) ≡ record { page = a.base / 64; index = b.index }
+  placed_cell b = elim (cases_Bool (is_small_object o)) [
+    | inl small ↦
+        let first = b.first in
+        cell_from_first (storage_of c a) (a.base / 64) b.index (words_are_small o sized ∙ small)
+        (words_within o sized).0 (cell_ends_within o a.base sized small b) (omega arith)
+    | inr large ↦
+        large_cell_of (storage_of c a) (words_are_small o sized ∙ large)
+        ∙ ap (λ (n : ℕ). record { page = a.base / 64; index = n }) (sym (run_begins o a.base large b).0)
+  ]
 
-pub run_cell : (c : Config) (a : PlacedAllocation) → IsSized (object_placed c a)
-    → is_small_object (object_placed c a) ≡ false
-    → cell_of_storage (storage_of c a) ≡ record { page = a.base / 64; index = 0 }
-run_cell c a sized large = large_cell_of (storage_of c a) (words_are_small (object_placed c a) sized ∙ large)
+  pub run_cell : is_small_object o ≡ false → cell_of_storage (storage_of c a) ≡ record { page = a.base / 64; index = 0 }
+  run_cell large = large_cell_of (storage_of c a) (words_are_small o sized ∙ large)
 
 -- An unreleased small allocation is mapped.
 small_is_mapped : (c : Config) (a : PlacedAllocation) → a.released ≡ false → is_small_object (object_placed c a) ≡ true
@@ -125,22 +114,24 @@ standing_has_storage c a limits st = by (cases_Bool (is_small_object (object_pla
 
     cell : is_small_object (object_placed c a) ≡ true → IsCell (storage_of c a)
     cell small =
+        let words = small_words (object_placed c a) small in
         record {
           class = class_made (object_placed c a);
           index = st.begins.index;
           known = (class_known (object_placed c a) sized small).0;
-          words = small_words (object_placed c a) small;
+          words = words;
           within = subst (λ n. st.begins.index < n) (small_cells (object_placed c a) small) st.begins.known;
-          first = st.begins.first ∙ ap (λ n. st.begins.index * n) (small_words (object_placed c a) small);
+          first = st.begins.first ∙ ap (λ n. st.begins.index * n) words;
           mapped = small_is_mapped c a st.unreleased small;
         }
 
     run : is_small_object (object_placed c a) ≡ false → IsRun (storage_of c a)
     run large =
+        let count = large_count (object_placed c a) sized large in
         record {
           pages = pages_made (object_placed c a);
-          some = (large_count (object_placed c a) sized large).0;
-          most = (large_count (object_placed c a) sized large).1;
+          some = count.0;
+          most = count.1;
           words = large_words (object_placed c a) large;
           first = (run_begins (object_placed c a) a.base large st.begins).1;
         }
@@ -157,32 +148,37 @@ unmapped_run count zero true = refl
 unmapped_run count zero false = refl
 unmapped_run count (suc distance) leaf = refl
 
+-- what a header of its shows
+module _ (c : Config) (a : PlacedAllocation) (sized : IsSized (object_placed c a))
+    (b : BeginsAtCell (object_placed c a) a.base) (distance header : ℕ) where
+  abbrev its : Object
+  its = object_placed c a
+
+  large_shows : (mapped : Bool) → distance < pages_made its → is_small_object its ≡ false
+      → header ≡ word_of (run_header (pages_made its) mapped its.leaf distance)
+      → ShowsStorage (storage_of c a) (a.base / 64 + distance) header
+  large_shows mapped near large is =
+      let first = (run_begins its a.base large b).1 in
+      shows_run (storage_of c a) header (a.base / 64) (pages_made its) distance mapped (omega arith)
+      (large_words its large) (large_count its sized large).0 is
+
+  shows : distance < pages_made its → (is_small_object its ≡ true) ⊎ (is_small_object its ≡ false)
+      → IsHeaderOf its distance header
+      → ShowsStorage (storage_of c a) (a.base / 64 + distance) header
+  shows near (inl small) (inl made) =
+      shows_cell (storage_of c a) (a.base / 64 + distance) header (class_made its) (class_known its sized small).0
+      (small_words its small) (made ∙ small_header its distance small)
+  shows near (inl small) (inr unmapped) = absurd (true≢false (sym small ∙ unmapped.0))
+  shows near (inr large) (inl made) = large_shows true near large (made ∙ large_header its distance large)
+  shows near (inr large) (inr unmapped) =
+      large_shows false near large (unmapped.1 ∙ unmapped_run (pages_made its) distance its.leaf)
+
 pub header_shows_storage : (c : Config) (a : PlacedAllocation) (distance header : ℕ) → IsSized (object_placed c a)
     → BeginsAtCell (object_placed c a) a.base → distance < pages_made (object_placed c a)
     → IsHeaderOf (object_placed c a) distance header
     → ShowsStorage (storage_of c a) (a.base / 64 + distance) header
-header_shows_storage c a distance header sized b near has = by (cases_Bool (is_small_object (object_placed c a))) has
-  where
-    large_shows : (mapped : Bool) → is_small_object (object_placed c a) ≡ false
-        → header ≡ word_of (run_header (pages_made (object_placed c a)) mapped (object_placed c a).leaf distance)
-        → ShowsStorage (storage_of c a) (a.base / 64 + distance) header
-    large_shows mapped large is =
-        let first = (run_begins (object_placed c a) a.base large b).1 in
-        shows_run (storage_of c a) header (a.base / 64) (pages_made (object_placed c a)) distance mapped (omega arith)
-        (large_words (object_placed c a) large) (large_count (object_placed c a) sized large).0 is
-
-    by : (is_small_object (object_placed c a) ≡ true) ⊎ (is_small_object (object_placed c a) ≡ false)
-        → IsHeaderOf (object_placed c a) distance header
-        → ShowsStorage (storage_of c a) (a.base / 64 + distance) header
-    by (inl small) (inl made) =
-        shows_cell (storage_of c a) (a.base / 64 + distance) header (class_made (object_placed c a))
-        (class_known (object_placed c a) sized small).0
-        (small_words (object_placed c a) small) (made ∙ small_header (object_placed c a) distance small)
-    by (inl small) (inr unmapped) = absurd (true≢false (sym small ∙ unmapped.0))
-    by (inr large) (inl made) = large_shows true large (made ∙ large_header (object_placed c a) distance large)
-    by (inr large) (inr unmapped) =
-        large_shows false large (unmapped.1
-        ∙ unmapped_run (pages_made (object_placed c a)) distance (object_placed c a).leaf)
+header_shows_storage c a distance header sized b near has =
+    shows c a sized b distance header near (cases_Bool (is_small_object (object_placed c a))) has
 
 -- how far after its first a page of its storage is
 page_near : (c : Config) (a : PlacedAllocation) (page : ℕ) → IsSized (object_placed c a)
@@ -192,16 +188,10 @@ page_near : (c : Config) (a : PlacedAllocation) (page : ℕ) → IsSized (object
 page_near c a page sized b stands =
     let parts = stands_parts page (storage_of c a) stands in
     let words = words_within (object_placed c a) sized in
-    elim (cases_Bool (is_small_object (object_placed c a))) [
-      | inl small ↦
-          let one = small_pages (object_placed c a) small in
-          let ends = cell_ends_within (object_placed c a) a.base sized small b in
-          let first = b.first in
-          (parts.0, omega arith)
-      | inr large ↦
-          let is = large_words (object_placed c a) large in
-          let first = (run_begins (object_placed c a) a.base large b).1 in
-          (parts.0, omega arith)
+    let o = object_placed c a in let first = b.first in
+    elim (cases_Bool (is_small_object o)) [
+      | inl small ↦ (parts.0, omega (arith, small_pages o small, cell_ends_within o a.base sized small b))
+      | inr large ↦ (parts.0, omega (arith, large_words o large, run_begins o a.base large b))
     ]
 
 pub headers_show_storage : HeadersShowStorage
@@ -247,6 +237,4 @@ pub cell_is_known : (c : Config) (w : Words) (a : PlacedAllocation) → IsSized 
 cell_is_known c w a sized b has =
     let is : (cell_of_storage (storage_of c a)).index ≡ b.index =
     ap (λ (k : Cell). k.index) (placed_cell c a sized b) in
-    let cells = part_cells (object_placed c a) _ (first_page_shows c w a sized has) in
-    let known = b.known in
-    omega arith
+    omega (arith, part_cells (object_placed c a) _ (first_page_shows c w a sized has), b.known)

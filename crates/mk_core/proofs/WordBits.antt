@@ -17,10 +17,7 @@ pub bit_is_one : (n k : ℕ) → has_bit n k ≡ true → bit_at n k ≡ 1
 bit_is_one n k h = eqb-true (bit_at n k) 1 h
 
 pub bit_is_none : (n k : ℕ) → has_bit n k ≡ false → bit_at n k ≡ 0
-bit_is_none n k h = by (bit_at n k) (bit_at-lt n k) (eqb-false (bit_at n k) 1 h)
-  where
-    by : (b : ℕ) → b < 2 → (b ≡ 1 → ⊥) → b ≡ 0
-    by b lt ne = omega arith
+bit_is_none n k h = let lt = bit_at-lt n k in let ne = eqb-false (bit_at n k) 1 h in omega arith
 
 has_from : (n k : ℕ) → bit_at n k ≡ 1 → has_bit n k ≡ true
 has_from n k e = eq-eqb (bit_at n k) 1 e
@@ -47,30 +44,24 @@ added_here n k unset =
 
 pub added_other : (n k i : ℕ) → has_bit n k ≡ false → i ≢ k → has_bit (n + 2 ^ k) i ≡ has_bit n i
 added_other n k i unset ne =
-    ap (λ b. b == 1) (sum_bits n k i unset ∙ ap (λ b. max (bit_at n i) b) (bit_at-pow_other k i ne) ∙ most (bit_at n i))
-  where
-    most : (b : ℕ) → max b 0 ≡ b
-    most b = omega arith
+    ap (λ b. b == 1) (sum_bits n k i unset ∙ ap (λ b. max (bit_at n i) b) (bit_at-pow_other k i ne) ∙ omega arith)
 
 -- The bits of one word are all of another's.
 pub fewer_bits : (n m k : ℕ) → bit_and n m ≡ n → has_bit n k ≡ true → has_bit m k ≡ true
 fewer_bits n m k sub h =
-    has_from m k (by (bit_at n k) (bit_at m k) (bit_at-lt m k) (bit_is_one n k h) (sym (bit_at_and n m k)
-    ∙ ap (λ x. bit_at x k) sub))
-  where
-    by : (a b : ℕ) → b < 2 → a ≡ 1 → min a b ≡ a → b ≡ 1
-    by a b lt one e = omega arith
+    let one = bit_is_one n k h in
+    let both : min (bit_at n k) (bit_at m k) ≡ bit_at n k = sym (bit_at_and n m k) ∙ ap (λ x. bit_at x k) sub in
+    has_from m k (omega (arith, bit_at-lt m k))
 
 pub without_none : (n m : ℕ) → without n m ≡ 0 → bit_and n m ≡ n
 without_none n m z = let le = and_le_l n m in omega arith
 
 pub no_common : (n m k : ℕ) → bit_and n m ≡ 0 → has_bit n k ≡ true → has_bit m k ≡ false
 no_common n m k z h =
-    ne_eqb (bit_at m k) 1 (λ e. by (bit_at n k) (bit_at m k) (bit_is_one n k h) e (sym (bit_at_and n m k)
-    ∙ ap (λ x. bit_at x k) z ∙ bit_at-zero k))
-  where
-    by : (a b : ℕ) → a ≡ 1 → b ≡ 1 → min a b ≡ 0 → ⊥
-    by a b one e z = omega arith
+    let one = bit_is_one n k h in
+    let none : min (bit_at n k) (bit_at m k) ≡ 0 =
+    sym (bit_at_and n m k) ∙ ap (λ x. bit_at x k) z ∙ bit_at-zero k in
+    ne_eqb (bit_at m k) 1 (λ e. omega arith)
 
 -- the bits that go, where some of a word's stay
 pub rest_is : (n m : ℕ) → bit_and n m ≡ n → m - n ≡ bit_xor m n
@@ -104,11 +95,8 @@ rest_is n m sub = let sum : n + bit_xor m n ≡ m = sym (or_disjoint n (bit_xor 
 
 pub rest_bits : (n m k : ℕ) → bit_and n m ≡ n → has_bit m k ≡ true → has_bit n k ≡ false → has_bit (m - n) k ≡ true
 rest_bits n m k sub h out =
-    has_from (m - n) k (ap (λ x. bit_at x k) (rest_is n m sub) ∙ bit_at_xor m n k
-    ∙ by (bit_at m k) (bit_at n k) (bit_is_one m k h) (bit_is_none n k out))
-  where
-    by : (a b : ℕ) → a ≡ 1 → b ≡ 0 → (a + b) % 2 ≡ 1
-    by a b one z = omega arith
+    let one = bit_is_one m k h in let none = bit_is_none n k out in
+    has_from (m - n) k (ap (λ x. bit_at x k) (rest_is n m sub) ∙ bit_at_xor m n k ∙ omega arith)
 
 -- The bit that stands for a cell is its alone.
 pub bit_for_small : (k : ℕ) → k < 64 → bit_for k ≡ 2 ^ k
@@ -139,26 +127,19 @@ bit_of_cell k i is = elim (cases_lt k 64) [
 pub has_bit_or : (n m i : ℕ) → has_bit (bit_or n m) i ≡ true → (has_bit n i ≡ true) ⊎ (has_bit m i ≡ true)
 has_bit_or n m i is = elim (cases_Bool (has_bit n i)) [
   | inl h ↦ inl h
-  | inr out ↦ inr (has_from m i (by (bit_at n i) (bit_at m i) (bit_is_none n i out) (sym (bit_at_or n m i)
-      ∙ bit_is_one (bit_or n m) i is)))
+  | inr out ↦
+      let none = bit_is_none n i out in
+      let some : max (bit_at n i) (bit_at m i) ≡ 1 = sym (bit_at_or n m i) ∙ bit_is_one (bit_or n m) i is in
+      inr (has_from m i (omega arith))
 ]
-  where
-    by : (a b : ℕ) → a ≡ 0 → max a b ≡ 1 → b ≡ 1
-    by a b z e = omega arith
 
 pub has_bit_or_left : (n m i : ℕ) → has_bit n i ≡ true → has_bit (bit_or n m) i ≡ true
-has_bit_or_left n m i h = has_from (bit_or n m) i (bit_at_or n m i
-    ∙ by (bit_at n i) (bit_at m i) (bit_at-lt m i) (bit_is_one n i h))
-  where
-    by : (a b : ℕ) → b < 2 → a ≡ 1 → max a b ≡ 1
-    by a b lt one = omega arith
+has_bit_or_left n m i h = let one = bit_is_one n i h in
+    has_from (bit_or n m) i (bit_at_or n m i ∙ omega (arith, bit_at-lt m i))
 
 pub has_bit_or_right : (n m i : ℕ) → has_bit m i ≡ true → has_bit (bit_or n m) i ≡ true
-has_bit_or_right n m i h = has_from (bit_or n m) i (bit_at_or n m i
-    ∙ by (bit_at n i) (bit_at m i) (bit_at-lt n i) (bit_is_one m i h))
-  where
-    by : (a b : ℕ) → a < 2 → b ≡ 1 → max a b ≡ 1
-    by a b lt one = omega arith
+has_bit_or_right n m i h = let one = bit_is_one m i h in
+    has_from (bit_or n m) i (bit_at_or n m i ∙ omega (arith, bit_at-lt n i))
 
 pub bit_for_has : (k : ℕ) → k < 64 → has_bit (bit_for k) k ≡ true
 bit_for_has k lt = has_from (bit_for k) k (ap (λ n. bit_at n k) (bit_for_small k lt) ∙ bit_at-pow_same k)

@@ -1,34 +1,30 @@
-//! What a step makes of the call in flight, of what the turn's holder has done, of a marker, and of the
-//! count of fresh words.
-ghost use Rattle.std.specs.Prelude.{◌≡◌, ◌<◌, ◌%◌, ◌==◌, if◌then◌else◌, IsTrue};
-ghost use Rattle.mk_geom.specs.Addresses.{page_at_address};
-ghost use Rattle.mk_geom.specs.Addresses.{address_of};
+//! What a step makes of the call in flight, of what the turn's holder has done, and of the count of fresh
+//! words.
+ghost use Rattle.std.specs.Prelude.{◌≡◌, ◌<◌, IsTrue};
 ghost use Rattle.mk_core.specs.Calls.{at_rest};
-ghost use Rattle.mk_core.specs.Cells.{pointed_cell};
 ghost use Rattle.mk_core.specs.Ranges.{is_in_range};
 ghost use Rattle.mk_core.specs.NewPlaces.{object_made, target};
 ghost use Rattle.mk_core.specs.TurnConditions.{place_now, cell_freed};
 ghost use Rattle.mk_core.specs.StopConditions.{marks_place};
 ghost use Rattle.mk_core.specs.Moments.{marker_of, is_phase};
-ghost use Rattle.mk_core.specs.MarkerConditions.{has_next_word};
 ghost use Rattle.mk_core.specs.Enabled.{marker_may};
 ghost use Rattle.mk_core.specs.Effects.{decided, begins_where_free, progress_probe, sees_double, progress_look};
 ghost use Rattle.mk_core.specs.Effects.{progress_freed, progress, is_ungranted, is_mapped_cell, hand_of_cell};
 ghost use Rattle.mk_core.specs.Effects.{is_in_stop, hand_given, chosen, taken, run_of_cell, cycle_ended};
-ghost use Rattle.mk_core.specs.Effects.{holding_behind, open_hand, hand_behind_look, behind_mlook, scan_begun};
-ghost use Rattle.mk_core.specs.Effects.{scan_claimed, scan_onward, marker_behind, words_freed, fresh_behind};
+ghost use Rattle.mk_core.specs.Effects.{holding_behind, marker_behind, words_freed, fresh_behind};
 
 use crate::calls::{
     begun, onward, progress_cas, progress_getg, progress_read, progress_reg, refused, still,
 };
-use crate::cells::{has_bit, has_no_pointers, heads_run, is_unmapped, run_headed, words_under};
-use crate::machine::{AT_REST, Core, NOTHING_DONE, OUTSIDE};
+use crate::cells::{has_no_pointers, heads_run, is_unmapped, run_headed, words_under};
+use crate::machine::{AT_REST, Core, NOTHING_DONE};
+use crate::scans::marker_behind;
 use crate::seats::Progress;
 use crate::{
-    Answer, Flight, Hand, Holding, Marker, OwnCycle, Phase, Placing, Presence, RunPages, Scan,
-    Seat, SeenHeader, Source, Stage, Step, Word,
+    Answer, Flight, Hand, Holding, Marker, OwnCycle, Phase, Placing, RunPages, Seat, Source, Stage,
+    Step, Word,
 };
-use mk_geom::{Cell, HEAP_START, PAGE_BYTES, PAGE_WORDS, Place, lookup, page_at};
+use mk_geom::{Cell, Place};
 use mk_never::Op;
 
 /// A decided answer, after which `give` comes.
@@ -104,57 +100,6 @@ fn cycle_ended(cycle: OwnCycle) -> OwnCycle
     match cycle {
         OwnCycle::Begun => OwnCycle::Ended,
         _ => cycle,
-    }
-}
-
-/// The scan of a cell under the header word that was seen: no word of it, where it isn't scanned.
-fn scan_begun(page: u64, index: u64, header: u64) -> Scan
-    requires page { page < 4096 }
-    requires index { index < 32 }
-    ensures { result ≡ scan_begun page index header }
-{
-    let words = words_under(header);
-    let next = PAGE_WORDS * page + index * words;
-    Scan {
-        page,
-        index,
-        next,
-        end: next + if has_no_pointers(header) { 0 } else { words },
-    }
-}
-
-/// The scan that a claim begins, where it finds these marks: of a marked cell, under the header that the
-/// last look showed.
-fn scan_claimed(page: u64, index: u64, marks: u64, seen: Option<SeenHeader>) -> Option<Scan>
-    requires page { page < 4096 }
-    requires index { index < 32 }
-    ensures { result ≡ scan_claimed page index marks seen }
-{
-    match seen {
-        Some(seen) if has_bit(marks, index) => Some(scan_begun(page, index, seen.header)),
-        _ => None,
-    }
-}
-
-/// The scan after the load of its next word.
-fn scan_onward(scan: Option<Scan>) -> Option<Scan>
-    requires { IsTrue (has_next_word scan) }
-    ensures { result ≡ scan_onward scan }
-{
-    scan.map(|scan| Scan {
-        next: scan.next + 1,
-        ..scan
-    })
-}
-
-/// A marker that finds the phase marking attends, and another visits.
-fn presence_behind_attend(found: u64) -> Presence
-    ensures { result ≡ (if found % 8 == 1 then Presence.Attending else Presence.Visiting) }
-{
-    if Phase::Marking.is_in(found) {
-        Presence::Attending
-    } else {
-        Presence::Visiting
     }
 }
 
@@ -351,46 +296,6 @@ impl Core {
         run_headed(self.table.header(cell.page), cell.page)
     }
 
-    /// A value outside the heap isn't an open hand.
-    fn open_hand(&self, value: u64) -> Option<u64>
-        ensures { result ≡ open_hand self.now.config value }
-    {
-        self.is_within_limits();
-        let end = HEAP_START + PAGE_BYTES * self.config.pages;
-        (HEAP_START..end).contains(&value).then_some(value)
-    }
-
-    /// An open hand after a look at the header of a page: closed, where that shows nothing there.
-    fn hand_behind_look(&self, page: u64, header: u64, hand: Option<u64>) -> Option<u64>
-        ensures { result ≡ hand_behind_look self.now.config page header hand }
-    {
-        let value = hand?;
-        if page == page_at(value) && lookup(self.config.pages, header, value).is_none() {
-            None
-        } else {
-            Some(value)
-        }
-    }
-
-    fn behind_mlook(&self, found: u64, word: Word, marker: Marker) -> Marker
-        ensures { result ≡ behind_mlook self.now.config found word marker }
-    {
-        match word {
-            Word::Head(page) => Marker {
-                hand: self.hand_behind_look(page, found, marker.hand),
-                seen: Some(SeenHeader {
-                    page,
-                    header: found,
-                }),
-                ..marker
-            },
-            _ => Marker {
-                seen: None,
-                ..marker
-            },
-        }
-    }
-
     /// What the marker of this number is at after its step.
     pub(crate) fn marker_behind(&self, number: u64, found: u64, step: Step) -> Marker
         requires range { IsTrue (is_in_range self.now.config (Seat.Marker number) at_rest step) }
@@ -398,33 +303,7 @@ impl Core {
         ensures { result ≡ marker_behind self.now.config found step (marker_of self.now.now number) }
     {
         self.is_within_limits();
-        let marker = self.marker(number);
-        match step {
-            Step::Attend => Marker {
-                presence: presence_behind_attend(found),
-                ..OUTSIDE
-            },
-            Step::Quit => OUTSIDE,
-            Step::Mlook(word) => self.behind_mlook(found, word, marker),
-            Step::Claim { page, cell } => Marker {
-                scan: scan_claimed(page, cell, found, marker.seen),
-                ..marker
-            },
-            Step::Mload => Marker {
-                scan: scan_onward(marker.scan),
-                hand: self.open_hand(found),
-                ..marker
-            },
-            Step::Mmark => Marker {
-                hand: None,
-                ..marker
-            },
-            Step::Mblack => Marker {
-                scan: None,
-                ..marker
-            },
-            _ => marker,
-        }
+        marker_behind(&self.config, found, step, self.marker(number))
     }
 
     /// The storage that an object freed by a `quar` leaves: that of a small one, since a run is no longer

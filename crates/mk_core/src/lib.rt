@@ -20,6 +20,7 @@ mod phases;
 mod placing;
 mod ranges;
 mod reaching;
+mod scans;
 mod seats;
 mod stepping;
 mod stop_conditions;
@@ -40,6 +41,7 @@ pub use history_laws::{
 pub use laws::{line_groups_stand_apart, words_are_one_list, words_have_indexes_of_their_own};
 pub use machine::Core;
 pub use phases::{Phase, markers_in, phase_bits};
+pub use scans::{cell_seen, marker_behind};
 pub use seats::{
     Flight, Hand, Holding, Marker, OwnCycle, Placing, Presence, RunPages, Scan, SeenHeader, Source,
     Stage,

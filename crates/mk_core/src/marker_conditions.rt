@@ -1,15 +1,15 @@
 //! What a marker may do, and when the host may end all: the own conditions of the markers' kinds of step
 //! and of `over`.
 ghost use Rattle.std.specs.Prelude.{◌≡◌};
-ghost use Rattle.mk_core.specs.MarkerConditions.{is_out, is_markers_word, has_seen_cell, cell_seen, has_next_word};
+ghost use Rattle.mk_core.specs.MarkerConditions.{is_out, is_markers_word, has_seen_cell, has_next_word};
 ghost use Rattle.mk_core.specs.MarkerConditions.{is_scanned, may_mlook, may_claim, may_mload, may_mmark, may_mblack};
 ghost use Rattle.mk_core.specs.MarkerConditions.{may_end_all};
 ghost use Rattle.mk_core.specs.Enabled.{marker_may};
 
 use crate::cells::cells_under;
+use crate::scans::cell_seen;
 use crate::stop_conditions::is_attending;
 use crate::{Core, Marker, Phase, Presence, Scan, SeenHeader, Step, Word};
-use mk_geom::{Cell, lookup, page_at};
 
 fn is_out(presence: Presence) -> bool
     ensures { result ≡ is_out presence }
@@ -68,19 +68,6 @@ fn may_claim(marker: Marker, page: u64, cell: u64) -> bool
 }
 
 impl Core {
-    /// The cell into which a marker's open hand points, by the header that it has seen of its page.
-    pub(crate) fn cell_seen(&self, marker: Marker) -> Option<Cell>
-        ensures { result ≡ cell_seen self.now.config marker.seen marker.hand }
-    {
-        let seen = marker.seen?;
-        let value = marker.hand?;
-        if seen.page == page_at(value) {
-            lookup(self.config.pages, seen.header, value)
-        } else {
-            None
-        }
-    }
-
     /// Whether the marker's step meets its kind's own condition.
     pub(crate) fn marker_may(&self, marker: Marker, step: Step) -> bool
         ensures { result ≡ marker_may self.now.config marker step }
@@ -91,7 +78,7 @@ impl Core {
             Step::Mlook(word) => may_mlook(marker, word),
             Step::Claim { page, cell } => may_claim(marker, page, cell),
             Step::Mload => has_next_word(marker.scan) && marker.hand.is_none(),
-            Step::Mmark => self.cell_seen(marker).is_some(),
+            Step::Mmark => cell_seen(&self.config, marker).is_some(),
             Step::Mblack => is_scanned(marker.scan) && marker.hand.is_none(),
             Step::Enter(_)
             | Step::Leave

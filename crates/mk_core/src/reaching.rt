@@ -19,6 +19,7 @@ use crate::calls::{
 use crate::cells::bit_for;
 use crate::machine::OUTSIDE;
 use crate::placing::base_made;
+use crate::scans::cell_seen;
 use crate::{
     Access, Core, Event, Flight, Marker, Placing, Scan, Seat, Stage, Step, TableWord, Tally, Word,
 };
@@ -184,7 +185,7 @@ impl Core {
             Step::Quar { page, .. } => Word::Quar(page),
             Step::Clear(page) | Step::Mark { page, .. } => Word::Mark(page),
             Step::Claim { page, .. } => Word::Mark(page),
-            Step::Mmark => Word::Mark(seen_page(self.cell_seen(marker))),
+            Step::Mmark => Word::Mark(seen_page(cell_seen(&self.config, marker))),
             Step::Black { page, .. } | Step::Unblack(page) => Word::Black(page),
             Step::Mblack => Word::Black(scan_page(marker.scan)),
             Step::Dirty => Word::Dirty(page_met(flight)),
@@ -227,7 +228,7 @@ impl Core {
             | Step::Quar { value, .. }
             | Step::Tally { value, .. } => Access::Store(value),
             Step::Mark { value, .. } | Step::Black { value, .. } => Access::Or(value),
-            Step::Mmark => Access::Or(seen_bit(self.cell_seen(marker))),
+            Step::Mmark => Access::Or(seen_bit(cell_seen(&self.config, marker))),
             Step::Mblack => Access::Or(scan_bit(marker.scan)),
             Step::Begin | Step::Close | Step::Release | Step::Want => Access::Add(1),
             Step::Over => Access::Add(5),

@@ -13,9 +13,8 @@ use Rattle.mk_geom.specs.PageUses.{PageUse, Cells, PartOfRun, place_on_uses, cen
 use Rattle.mk_geom.specs.PageWords.{bits_of, use_under, use_of_page, uses_of_pages, HaveHeaderWords}
 use Rattle.mk_geom.specs.Storages.{Storage, is_small, first_page, stands_on, class_of_storage, taken_cells, use_by}
 use Rattle.mk_geom.specs.Storages.{use_of_storages, uses_of_storages, place_among_storages, census_of, block_header}
-use Rattle.mk_geom.specs.Storages.{run_header}
-use Rattle.mk_geom.specs.Storages.{run_used, free_page, block_page, run_page, used_word, words_by, words_of_storages}
-use Rattle.mk_geom.specs.Storages.{IsRun, IsStorage, AreLaidOut, PagesStandFor}
+use Rattle.mk_geom.specs.Storages.{run_header, run_used, free_page, block_page, run_page, used_word, words_by}
+use Rattle.mk_geom.specs.Storages.{words_of_storages, IsRun, IsStorage, AreLaidOut, PagesStandFor}
 use Rattle.mk_geom.proofs.HeaderLemmas.{header_of-word_of}
 use Rattle.mk_geom.proofs.ListSearch.{find_cases}
 use Rattle.mk_geom.proofs.Standing.{small_is_cell, large_is_run, class_of_cell, stands_parts}

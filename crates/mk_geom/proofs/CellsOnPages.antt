@@ -137,8 +137,7 @@ word_in_cell : (word index words : ℕ) → 1 ≤ words → word / words ≡ ind
 word_in_cell word index words some is =
     let split : index * words + word % words ≡ word = ap (λ (n : ℕ). n * words + word % words) (sym is)
     ∙ div-add-mod' word words in
-    let rest = mod_below word words some in
-    (omega arith, omega arith)
+    omega (arith, mod_below word words some)
 
 -- a storage that shares a page with a small one is small, and has as many words
 like_small : {s t : Storage} → (s ≡ t) ⊎ AreAlike s t → is_small t ≡ true → (is_small s ≡ true) × (s.words ≡ t.words)

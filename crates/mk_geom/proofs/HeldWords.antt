@@ -197,10 +197,7 @@ module _ (n : ℕ) (s : Storage) (xs : List Storage) (laid : AreLaidOut n (s ∷
     some_words = let range = class_words_within (class_of_storage s) class_known in omega arith
 
     first_is : s.first ≡ 64 * page + cell.index * class_words_of (class_of_storage s)
-    first_is =
-        let at = cell_stands_at s page cell stands in
-        let offset = first_in_page s cell in
-        omega arith
+    first_is = omega (arith, cell_stands_at s page cell stands, first_in_page s cell)
 
     was_free : is_cell_taken xs page (class_words_of (class_of_storage s)) cell.index ≡ false
     was_free = false_from_ne_true _ (λ taken.

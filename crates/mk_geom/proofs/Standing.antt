@@ -57,10 +57,7 @@ pub stands_at_first : (n : ℕ) (s : Storage) (page : ℕ) → IsStorage n s →
 stands_at_first n s page is at = stands_from page s (omega arith) (omega (arith, has_words n s is))
 
 pub cell_stands_at : (s : Storage) (page : ℕ) → IsCell s → stands_on page s ≡ true → s.first / 64 ≡ page
-cell_stands_at s page cell stands =
-    let parts = stands_parts page s stands in
-    let within = cell_within s cell in
-    omega arith
+cell_stands_at s page cell stands = omega (arith, stands_parts page s stands, cell_within s cell)
 
 -- what two storages that share a page have in common
 pub record AreAlike (s t : Storage) : Type 0 where
