@@ -1,20 +1,80 @@
 -- Each move keeps all in order.
 use Rattle.mk_laws.proofs.Vocabulary.{Caller, Config, Flight, Holding, Host, List, Marker, MarkerState, Seat, ap, arith}
-use Rattle.mk_laws.proofs.Vocabulary.{at_rest, cases_eq, get_or-set_other, get_or-set_same, holder_number, inl, inr}
-use Rattle.mk_laws.proofs.Vocabulary.{is_attending, length, length-set, outside, refl, slice_index, slice_index_or}
+use Rattle.mk_laws.proofs.Vocabulary.{at_rest, cases_eq, false, get_or-set_other, get_or-set_same, holder_number, inl}
+use Rattle.mk_laws.proofs.Vocabulary.{inr, is_attending, length, length-set, outside, refl, slice_index, slice_index_or}
 use Rattle.mk_laws.proofs.Vocabulary.{slice_set, sym, true, ℕ, ◌%◌, ◌*◌, ◌+◌, ◌-◌, ◌<◌, ◌^◌, ◌∙◌, ◌≡◌, ◌≢◌, ◌≤◌, ◌⊎◌}
+use Rattle.mk_laws.proofs.Views.{View, gate_in, marker_in, HoldsTurn, flight_in, flight_at, flights_with}
+use Rattle.mk_laws.proofs.ProtocolMoves.{PhaseStep, Begins, Wants, Closes, Releases, Ends, Stops, IdlesOutside, Move}
+use Rattle.mk_laws.proofs.ProtocolMoves.{Stays, Enters, GoesOn, Leaves, Takes, Gives, Works, Holds, Opens, Phases}
+use Rattle.mk_laws.proofs.ProtocolMoves.{Attends, Quits, Scans}
+use Rattle.mk_laws.proofs.ProtocolMarkers.{count_in, up_one, down_four, up_five, counted_same, counted_more}
+use Rattle.mk_laws.proofs.ProtocolMarkers.{counted_less, marker_set, up_eight, down_eight}
+use Rattle.mk_laws.proofs.Orderly.{Orderly, turn_of, few_in, AllShow, all_but_flight, all_but_gate, all_but_both}
+use Rattle.mk_laws.proofs.Orderly.{all_but_seat, length_with, shows_at, holders_flight, holder_shows, giver_shows}
+use Rattle.mk_laws.proofs.Orderly.{taker_shows, taker_number}
 use Rattle.mk_laws.proofs.Standings.{Resting, InCall, standing, Shows, shows_taken, shows_given, shows_held}
 use Rattle.mk_laws.proofs.Standings.{shows_opened}
 use Rattle.mk_laws.proofs.Services.{Served, Service, Goes, service_stands, service_rests, served_on, nothing_served}
-use Rattle.mk_laws.proofs.Views.{View, flight_in, gate_in, marker_in, flight_at, flights_with, HoldsTurn}
-use Rattle.mk_laws.proofs.ProtocolMoves.{IdlesOutside, Move, Stays, Enters, GoesOn, Leaves, Takes, Gives, Works, Holds}
-use Rattle.mk_laws.proofs.ProtocolMoves.{Opens, Phases, Attends, Quits, Scans}
-use Rattle.mk_laws.proofs.Shown.{AllShow, all_but_flight, all_but_gate, all_but_both, all_but_seat, length_with}
-use Rattle.mk_laws.proofs.ProtocolMarkers.{count_in, counted_same, counted_more, counted_less, marker_set, up_eight}
-use Rattle.mk_laws.proofs.ProtocolMarkers.{down_eight}
-use Rattle.mk_laws.proofs.Orderly.{Orderly, shows_at, turn_of, holders_flight, holder_shows, giver_shows, taker_shows}
-use Rattle.mk_laws.proofs.Orderly.{taker_number, few_in}
-use Rattle.mk_laws.proofs.PhaseKept.{phase_kept}
+
+-- What a step of the phase leaves.
+
+pub record PhaseKept (c : Config) (v : View) (p : ℕ) : Type 0 where
+  pub phase : p ≡ p % 8 + 8 * count_in v.markers
+  pub low : p % 8 ≤ 5
+  pub stopped : p % 8 ≡ 3 → (k : ℕ) → k < c.callers → v.turn ≢ 1 + k → gate_in v k ≡ 2
+  pub attends : (k : ℕ) → is_attending (marker_in v k).presence ≡ true → (p % 8 ≡ 1) ⊎ (p % 8 ≡ 2)
+
+pub phase_kept : (c : Config) (v : View) (seat : Seat) (p : ℕ) → Orderly c v → HoldsTurn c v seat → PhaseStep c v seat p
+    → PhaseKept c v p
+phase_kept c v seat p h t (Begins z) =
+    let n = up_one v.phase (count_in v.markers) (v.phase % 8) h.phase h.low (few_in c v h) (omega arith) in
+    record {
+      phase = omega (arith, n.0, n.1);
+      low = omega (arith, n.0);
+      stopped = λ e. absurd (omega (arith, n.0));
+      attends = λ k a. elim (h.attends k a) [ inl e ↦ absurd (omega arith) | inr e ↦ absurd (omega arith) ];
+    }
+phase_kept c v seat p h t (Wants z) =
+    let n = up_one v.phase (count_in v.markers) (v.phase % 8) h.phase h.low (few_in c v h) (omega arith) in
+    record {
+      phase = omega (arith, n.0, n.1);
+      low = omega (arith, n.0);
+      stopped = λ e. absurd (omega (arith, n.0));
+      attends = λ k a. inr (omega (arith, n.0));
+    }
+phase_kept c v seat p h t (Closes z held none) =
+    let n = up_one v.phase (count_in v.markers) (v.phase % 8) h.phase h.low (few_in c v h) (omega arith) in
+    let turn = turn_of c v seat h t in
+    record {
+      phase = omega (arith, n.0, n.1);
+      low = omega (arith, n.0);
+      stopped = λ e k lt ne. held k lt (λ is. ne (omega arith));
+      attends = λ k a. let f : true ≡ false = sym a ∙ none k in cc;
+    }
+phase_kept c v seat p h t (Releases z) =
+    let n = up_one v.phase (count_in v.markers) (v.phase % 8) h.phase h.low (few_in c v h) (omega arith) in
+    record {
+      phase = omega (arith, n.0, n.1);
+      low = omega (arith, n.0);
+      stopped = λ e. absurd (omega (arith, n.0));
+      attends = λ k a. elim (h.attends k a) [ inl e ↦ absurd (omega arith) | inr e ↦ absurd (omega arith) ];
+    }
+phase_kept c v seat p h t (Ends z) =
+    let n = down_four v.phase (count_in v.markers) (v.phase % 8) h.phase (few_in c v h) z in
+    record {
+      phase = omega (arith, n.0, n.1);
+      low = omega (arith, n.0);
+      stopped = λ e. absurd (omega (arith, n.0));
+      attends = λ k a. elim (h.attends k a) [ inl e ↦ absurd (omega arith) | inr e ↦ absurd (omega arith) ];
+    }
+phase_kept c v seat p h t (Stops z) =
+    let n = up_five v.phase (count_in v.markers) (v.phase % 8) h.phase (few_in c v h) z in
+    record {
+      phase = omega (arith, n.0, n.1);
+      low = omega (arith, n.0);
+      stopped = λ e. absurd (omega (arith, n.0));
+      attends = λ k a. elim (h.attends k a) [ inl e ↦ absurd (omega arith) | inr e ↦ absurd (omega arith) ];
+    }
 
 flights_kept : (c : Config) (v : View) (seat : Seat) (f : Flight) → Orderly c v
     → length (flights_with v.flights seat f) ≡ c.callers
@@ -32,8 +92,7 @@ others_served c v k f h ne = elim (cases_eq v.turn 0) [
 works_served : (c : Config) (v : View) (seat : Seat) (f : Flight) (i : Holding) → Orderly c v → HoldsTurn c v seat
     → Service (flight_at v.flights seat) v.holding f i
     → Served (slice_index_or (flights_with v.flights seat f) (v.turn - 1) at_rest) i
-works_served c v seat f i h t s =
-    rw (behind c v seat f i h t s) (served_on (flight_at v.flights seat) v.holding f i
+works_served c v seat f i h t s = rw (behind c v seat f i h t s) (served_on (flight_at v.flights seat) v.holding f i
     (rw (holders_flight c v seat h t) at h.served) s)
   where
     behind : (c : Config) (v : View) (seat : Seat) (f : Flight) (i : Holding) → Orderly c v → HoldsTurn c v seat
@@ -50,15 +109,13 @@ works_served c v seat f i h t s =
 works_shown : (c : Config) (v : View) (seat : Seat) (f : Flight) (i : Holding) → Orderly c v → HoldsTurn c v seat
     → Service (flight_at v.flights seat) v.holding f i
     → AllShow c.callers v.turn v.gates (flights_with v.flights seat f)
-works_shown c v seat f i h t s =
-    all_but_seat c v.turn seat v.gates v.flights f
+works_shown c v seat f i h t s = all_but_seat c v.turn seat v.gates v.flights f
     (holder_shows c v seat f h t (λ is. service_stands (flight_at v.flights seat) v.holding f i is s))
     (λ b lb ne. h.each b lb)
 
 -- a gate of another is set
 gate_shown : (c : Config) (v : View) (j x : ℕ) → c.callers ≤ 16 → Orderly c v → j < c.callers
-    → Shows v.turn x j (standing (flight_in v j))
-    → AllShow c.callers v.turn (slice_set v.gates j x) v.flights
+    → Shows v.turn x j (standing (flight_in v j)) → AllShow c.callers v.turn (slice_set v.gates j x) v.flights
 gate_shown c v j x small h lj s = all_but_gate c.callers v.turn j x v.gates v.flights (omega (arith, h.gates)) s
     (λ b lb nb. h.each b lb)
 
@@ -108,8 +165,7 @@ kept c v seat n small h (GoesOn {k} f lt was is) =
       gates = h.gates;
       markers = h.markers;
       turn = h.turn;
-      each =
-          all_but_flight c.callers v.turn k v.gates v.flights f (omega (arith, h.flights))
+      each = all_but_flight c.callers v.turn k v.gates v.flights f (omega (arith, h.flights))
           (rw is s) (λ b lb ne. h.each b lb);
       served = others_served c v k f h s.1;
       free = h.free;
@@ -128,10 +184,8 @@ kept c v seat n small h (Leaves {k} lt was) =
       gates = length-set v.gates k 0 ∙ h.gates;
       markers = h.markers;
       turn = h.turn;
-      each =
-          all_but_both c.callers v.turn k 0 v.gates v.flights at_rest (omega (arith, h.gates))
-          (omega (arith, h.flights))
-          (λ e. absurd (omega arith), omega arith, λ e. refl, s.1) h.each;
+      each = all_but_both c.callers v.turn k 0 v.gates v.flights at_rest (omega (arith, h.gates))
+          (omega (arith, h.flights)) (λ e. absurd (omega arith), omega arith, λ e. refl, s.1) h.each;
       served = others_served c v k at_rest h s.1;
       free = h.free;
       phase = h.phase;
