@@ -19,16 +19,14 @@ module _ (globals : List ℕ) (n m : NeverState) (k : ℕ) (on : Continues n m) 
     where
       kind : slice_index_or (kinds_of n.types (allocation_at n a).ty) (o + i) Number
           ≡ slice_index_or (kinds_of m.types (allocation_at m a).ty) (o + i) Number
-      kind =
-          ap (λ (types : List (List Kind)). slice_index_or (kinds_of types (allocation_at n a).ty)
+      kind = ap (λ (types : List (List Kind)). slice_index_or (kinds_of types (allocation_at n a).ty)
           (o + i) Number) (sym on.types)
           ∙ ap (λ ty. slice_index_or (kinds_of m.types ty) (o + i) Number) (sym (on.ty a sound.0))
   meets_value _ i P sound h = tt
 
   pub meets_register : (q i : ℕ) (P : Kind → Type 0) → q < 8 → Meets n (register_at n k q) i P
       → Meets m (register_at m k q) i P
-  meets_register q i P lt h =
-      rw (own q lt) (meets_value (register_at n k q) i P (typed.registers (8 * k + q)) h)
+  meets_register q i P lt h = rw (own q lt) (meets_value (register_at n k q) i P (typed.registers (8 * k + q)) h)
 
   access_on : (o : Op) → OperandsAreInRange n o → AccessIsAdmitted n k o → AccessIsAdmitted m k o
   access_on (op.GetNum q i) r h = meets_register q i IsNumber r h
@@ -41,10 +39,8 @@ module _ (globals : List ℕ) (n m : NeverState) (k : ℕ) (on : Continues n m) 
 
   store_on : (o : Op) → OperandsAreInRange n o → StoreIsAdmitted globals n k o → StoreIsAdmitted globals m k o
   store_on (op.Free p) r h = subst IsBase (sym (own p r)) h
-  store_on (op.SetPtr q i p) r h =
-      rw (own p r.1) (meets_register q i _ r.0 h)
-  store_on (op.CasPtr q i p s) r h =
-      rw (own p r.1) (rw (own s r.2)
+  store_on (op.SetPtr q i p) r h = rw (own p r.1) (meets_register q i _ r.0 h)
+  store_on (op.CasPtr q i p s) r h = rw (own p r.1) (rw (own s r.2)
       (meets_register q i (λ kind. IsOfKind (register_at n k p) kind × IsOfKind (register_at n k s) kind) r.0 h))
   store_on (op.SetGlobal g p) r h = rw (own p r.1) h
   store_on _ r h = tt

@@ -42,14 +42,13 @@ allocation_step c m f (step.Quar p v) xs =
     })
 allocation_step c m f step.Begin xs =
     Changes no_longer_fresh (record { places = fresh_leaves; was = λ a u. u; stays = λ other a u. u })
-allocation_step c m f step.Release xs =
-    Changes (with_released c m.words) (record {
-      places = released_leaves c m.words;
-      was = λ a u.
-          let cell : Option Cell = pointed_cell c.pages m.words.pages (address_of a.base) in
-          (or_parts a.released _ u).0;
-      stays = λ other a u. absurd (true≢false other);
-    })
+allocation_step c m f step.Release xs = Changes (with_released c m.words) (record {
+  places = released_leaves c m.words;
+  was = λ a u.
+      let cell : Option Cell = pointed_cell c.pages m.words.pages (address_of a.base) in
+      (or_parts a.released _ u).0;
+  stays = λ other a u. absurd (true≢false other);
+})
 allocation_step c m f _ xs = Leaves
 
 -- of one place and type

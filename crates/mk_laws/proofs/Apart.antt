@@ -128,10 +128,8 @@ module _ (c : Config) (w : Words) (xs : List PlacedAllocation) (i j : ℕ) (r : 
   bb = (r.cells j v).begins
 
   -- where they share no page
-  far : ((d e : ℕ) → d < pages_made (object_placed c a)
-      → e < pages_made (object_placed c b)
-      → a.base / 64 + d ≢ b.base / 64 + e)
-      → LieApart (storage_of c a) (storage_of c b)
+  far : ((d e : ℕ) → d < pages_made (object_placed c a) → e < pages_made (object_placed c b)
+      → a.base / 64 + d ≢ b.base / 64 + e) → LieApart (storage_of c a) (storage_of c b)
   far none =
       let pa = pages_some (object_placed c a) sa.sized in
       let pb = pages_some (object_placed c b) sb.sized in
@@ -161,10 +159,8 @@ module _ (c : Config) (w : Words) (xs : List PlacedAllocation) (i j : ℕ) (r : 
       }
 
   -- two cells of one page
-  near : is_small_object (object_placed c a) ≡ true
-      → is_small_object (object_placed c b) ≡ true
-      → a.base / 64 ≡ b.base / 64
-      → LieApart (storage_of c a) (storage_of c b)
+  near : is_small_object (object_placed c a) ≡ true → is_small_object (object_placed c b) ≡ true
+      → a.base / 64 ≡ b.base / 64 → LieApart (storage_of c a) (storage_of c b)
   near small_a small_b page =
       let same = same_block c w xs i j r u v small_a small_b page in
       let k : ℕ = class_words_of (class_made (object_placed c b)) in
@@ -181,16 +177,13 @@ module _ (c : Config) (w : Words) (xs : List PlacedAllocation) (i j : ℕ) (r : 
         alike = λ p ha hb. (small_is c a sa.sized ∙ small_a, small_is c b sb.sized ∙ small_b, wa ∙ sym wb, same.1);
       }
 
-  by : (x : Bool) → is_small_object (object_placed c a) ≡ x → (y : Bool)
-      → is_small_object (object_placed c b) ≡ y
+  by : (x : Bool) → is_small_object (object_placed c a) ≡ x → (y : Bool) → is_small_object (object_placed c b) ≡ y
       → LieApart (storage_of c a) (storage_of c b)
-  by false l y is =
-      far (λ d e ld le at.
+  by false l y is = far (λ d e ld le at.
       let same = shares_run (quiet_scene c w xs) (claim_of c None a) (claim_of c None b) d e r.laid
       (claim_among c None xs i u) (claim_among c None xs j v) l ld le (sym at) in
       other (ap (λ (z : Claim). z.page) (sym same), ap (λ (z : Claim). z.index) (sym same)))
-  by true s false l =
-      far (λ d e ld le at.
+  by true s false l = far (λ d e ld le at.
       let same = shares_run (quiet_scene c w xs) (claim_of c None b) (claim_of c None a) e d r.laid
       (claim_among c None xs j v) (claim_among c None xs i u) l le ld at in
       other (ap (λ (z : Claim). z.page) same, ap (λ (z : Claim). z.index) same))
@@ -201,9 +194,7 @@ module _ (c : Config) (w : Words) (xs : List PlacedAllocation) (i j : ℕ) (r : 
   ]
 
   pub lie_apart : LieApart (storage_of c a) (storage_of c b)
-  lie_apart =
-      by (is_small_object (object_placed c a)) refl (is_small_object (object_placed c b))
-      refl
+  lie_apart = by (is_small_object (object_placed c a)) refl (is_small_object (object_placed c b)) refl
 
 swapped : (s t : Storage) → LieApart s t → LieApart t s
 swapped s t l =

@@ -23,8 +23,7 @@ marked_dirty = earlier_part_is_history three_pages (take 12 large_freed) (drop 1
 
 pub object_is_there : HasAllocation three_pages (left three_pages (take 12 large_freed)) 1
 unfolding by c0 all_below pointed_cell three_pages large_freed left_from
-object_is_there =
-    pages.dirty_pages_have_allocations three_pages (take 12 large_freed) marked_dirty 1
+object_is_there = pages.dirty_pages_have_allocations three_pages (take 12 large_freed) marked_dirty 1
     (λ z. let no : ◌≡◌ {A = ℕ} 1 0 = z in absurd (omega arith))
 
 -- Both pages are given back in the cycle: the dirty word of the second is 0 then, as its header is.

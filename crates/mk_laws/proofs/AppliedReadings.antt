@@ -100,14 +100,12 @@ bit_is_of_a_quarantined_one = told.is third_cell refl
 
 pub first_is_released : (allocation_behind one_page first_cycle.releasing 0).released ≡ true
 unfolding by c0 host all_below pointed_cell one_page freed_after_begin left_from event_number at_number first_cycle
-first_is_released =
-    (releases_are_exact one_page freed_after_begin freed_is_history first_cycle.releasing 0 refl).1
+first_is_released = (releases_are_exact one_page freed_after_begin freed_is_history first_cycle.releasing 0 refl).1
     (in_first_snapshot, refl)
 
 pub second_is_not_released : (allocation_behind one_page first_cycle.releasing 1).released ≡ true → ⊥
 unfolding by c0 host all_below pointed_cell one_page freed_after_begin left_from event_number at_number first_cycle
-second_is_not_released gone =
-    not_in_first_snapshot
+second_is_not_released gone = not_in_first_snapshot
     ((releases_are_exact one_page freed_after_begin freed_is_history first_cycle.releasing 1 refl).0 gone).0
 
 -- The other schedule's keeps a freed object to which a word leads: it is marked, and it is reached.
@@ -115,15 +113,13 @@ second_is_not_released gone =
 pub marked_is_not_released : (allocation_behind pointer_page cycle_of_blackened.releasing 2).released ≡ true → ⊥
 unfolding by c0 m0 host all_below pointed_cell may_turn_black pointer_page blackened_before_the_move left_from
     event_number at_number cycle_of_blackened
-marked_is_not_released gone =
-    false≢true
+marked_is_not_released gone = false≢true
     (sym ((releases_are_exact pointer_page blackened_before_the_move blackened_is_history cycle_of_blackened.releasing 2
     refl).0 gone).1)
 
 pub reached_is_not_released : (allocation_behind pointer_page cycle_of_blackened.releasing 2).released ≡ false
 unfolding by c0 m0 host all_below pointed_cell may_turn_black pointer_page blackened_before_the_move left_from
-    calls_from
-    event_number at_number cycle_of_blackened
+    calls_from event_number at_number cycle_of_blackened
 reached_is_not_released =
     releases_none_reached pointer_page blackened_before_the_move blackened_is_history cycle_of_blackened.releasing 2
     (by_word 0 0 2 (by_register 0 0 refl) (refl, refl))
@@ -131,15 +127,13 @@ reached_is_not_released =
 -- The `begin` of that cycle releases none.
 pub begin_releases_none : (placed_at (left one_page (take 16 freed_after_begin)).allocations 0).released ≡ false
 unfolding by c0 host all_below pointed_cell one_page freed_after_begin left_from
-begin_releases_none =
-    no_others_release one_page freed_after_begin freed_is_history (take 15 freed_after_begin)
+begin_releases_none = no_others_release one_page freed_after_begin freed_is_history (take 15 freed_after_begin)
     (drop 16 freed_after_begin) (record { seat = c0; step = step.Begin }) refl refl 0 refl
 
 -- Each `release` has its cycle.
 pub release_has_its_cycle : (r : Releasing freed_after_begin) × (before_release r ≡ take 32 freed_after_begin)
 unfolding by c0 host freed_after_begin
-release_has_its_cycle =
-    releases_are_of_cycles one_page freed_after_begin freed_is_history (take 32 freed_after_begin)
+release_has_its_cycle = releases_are_of_cycles one_page freed_after_begin freed_is_history (take 32 freed_after_begin)
     (drop 33 freed_after_begin) seat.Host refl
 
 -- Words that are 0: those of the cell that was given back,

@@ -33,8 +33,7 @@ use Rattle.mk_laws.proofs.InvariantTheorems as theorems
 
 -- The invariant after the first of two lists goes on to the second by one event.
 pub invariant_by_one_event : KeepsTheInvariant pointer_page (before_the_sweep ++ sweeping_mark ∷ [])
-invariant_by_one_event =
-    events_keep_the_invariant pointer_page before_the_sweep sweeping_mark swept_is_history
+invariant_by_one_event = events_keep_the_invariant pointer_page before_the_sweep sweeping_mark swept_is_history
     (histories_keep_the_invariant pointer_page before_the_sweep
     (earlier_part_is_history pointer_page before_the_sweep (sweeping_mark ∷ []) swept_is_history))
 
@@ -124,8 +123,7 @@ page_told_by_storage =
 -- and no place among them, told by the words.
 pub no_place_told_by_words : place_among_allocations one_page 32 true full.allocations ≡ None
 unfolding by c0 all_below pointed_cell may_turn_black one_page full_then_reused left_from
-no_place_told_by_words =
-    sym (theorems.first_fit_finds_the_place one_page full_then_reused full_is_history
+no_place_told_by_words = sym (theorems.first_fit_finds_the_place one_page full_then_reused full_is_history
     (record { words = 32; leaf = true }) full_is_settled)
 
 -- A large object's pages are unmapped and its words aren't wiped yet. Its run is shown as unmapped, and the next object
@@ -149,8 +147,7 @@ unmapped_is_settled = record { releasing = refl; placing = refl; unmapped = refl
 pub head_told_by_storage : words_of_storages (unreleased_storage three_pages unmapped.allocations) 0
     ≡ record { header = 43; used = 1 }
 unfolding by c0 all_below pointed_cell may_turn_black three_pages large_freed left_from
-head_told_by_storage =
-    sym ((theorems.pages_show_the_storage three_pages (take 19 large_freed) unmapped_is_history
+head_told_by_storage = sym ((theorems.pages_show_the_storage three_pages (take 19 large_freed) unmapped_is_history
     unmapped_is_settled).words 0 free_page (ltb-true 0 3 refl))
 
 pub place_behind_told_by_words : place_among_allocations three_pages 64 true unmapped.allocations
@@ -171,8 +168,7 @@ beside_begins =
 
 written_is_guarded : IsGuarded small beside.now 0
 unfolding left_from all_below pointed_cell written_beside three_objects
-written_is_guarded =
-    theorems.black_cells_are_guarded small written_beside beside_begins (inl refl) 0 0 0
+written_is_guarded = theorems.black_cells_are_guarded small written_beside beside_begins (inl refl) 0 0 0
     (ltb-true 0 32 refl) refl refl (ltb-true 0 2 refl)
 
 owed_by_one : IsGuarded small beside.now 0 → (k : ℕ) × OwesDirty beside.now k 0
@@ -217,16 +213,12 @@ begun_since : IsHistory one_page (take 31 freed_after_begin)
 unfolding by c0 host freed_after_begin
 begun_since = earlier_part_is_history one_page (take 31 freed_after_begin) (drop 31 freed_after_begin) freed_is_history
 
-pub first_in_snapshot : has_bit_of one_page marking.now.words.snapshot
-    (placed_at marking.allocations 0) ≡ true
+pub first_in_snapshot : has_bit_of one_page marking.now.words.snapshot (placed_at marking.allocations 0) ≡ true
 unfolding by c0 host all_below pointed_cell one_page freed_after_begin left_from event_number at_number
-first_in_snapshot =
-    quarantines.snapshot_is_the_cycles one_page (take 31 freed_after_begin) begun_since
+first_in_snapshot = quarantines.snapshot_is_the_cycles one_page (take 31 freed_after_begin) begun_since
     (at_number is_begin 15 (take 31 freed_after_begin) refl refl) refl refl 0 refl
 
-pub second_outside_snapshot : has_bit_of one_page marking.now.words.snapshot
-    (placed_at marking.allocations 1) ≡ false
+pub second_outside_snapshot : has_bit_of one_page marking.now.words.snapshot (placed_at marking.allocations 1) ≡ false
 unfolding by c0 host all_below pointed_cell one_page freed_after_begin left_from event_number at_number
-second_outside_snapshot =
-    quarantines.snapshot_is_the_cycles one_page (take 31 freed_after_begin) begun_since
+second_outside_snapshot = quarantines.snapshot_is_the_cycles one_page (take 31 freed_after_begin) begun_since
     (at_number is_begin 15 (take 31 freed_after_begin) refl refl) refl refl 1 refl

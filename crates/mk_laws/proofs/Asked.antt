@@ -12,8 +12,7 @@ use Rattle.mk_laws.proofs.ProtocolMoves.{OthersAreHeld}
 
 pub none_held : (c : Config) (w : Words) → none_is_held c.callers w ≡ true → (j : ℕ) → j < c.callers
     → slice_index w.gates j ≢ 2
-none_held c w h j lt =
-    eqb-false (slice_index w.gates j) 2
+none_held c w h j lt = eqb-false (slice_index w.gates j) 2
     (not-true (is_held w j) (all_below-at c.callers j (λ i. not (is_held w i)) h lt))
 
 number_is : (c : Config) (seat : Seat) (j : ℕ) → is_number_of seat j ≡ true → holder_number c seat ≡ j
@@ -22,8 +21,7 @@ number_is c _ j h = cc
 
 pub others_held : (c : Config) (m : Moment) (seat : Seat) → others_are_held c.callers m.words seat ≡ true
     → OthersAreHeld c (view_of m) seat
-others_held c m seat h j lt ne =
-    elim (or_cases (is_number_of seat j) (is_held m.words j)
+others_held c m seat h j lt ne = elim (or_cases (is_number_of seat j) (is_held m.words j)
     (all_below-at c.callers j (λ i. is_number_of seat i || is_held m.words i) h lt)) [
       | inl own ↦ absurd (ne (number_is c seat j own))
       | inr held ↦ eqb-true (slice_index m.words.gates j) 2 held
@@ -58,7 +56,6 @@ none_at (x ∷ xs) zero h =
 none_at (x ∷ xs) (suc k) h = none_at xs k (and_parts (not (is_attending x.presence)) (none_attends xs) h).1
 
 pub closing_alone : (c : Config) (m : Moment) → may_close c m ≡ true → none_attends m.seats.markers ≡ true
-closing_alone c m h =
-    (and_parts (none_attends m.seats.markers) (all_below c.pages (has_closed_page m.words))
+closing_alone c m h = (and_parts (none_attends m.seats.markers) (all_below c.pages (has_closed_page m.words))
     (and_parts (none_attends m.seats.markers && all_below c.pages (has_closed_page m.words))
     (roots_point_well c.pages m.words) h).0).0

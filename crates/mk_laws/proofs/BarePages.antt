@@ -96,8 +96,7 @@ plot_page c w first o distance n q plot lt at = elim (plot.headers distance lt) 
         subst (λ h. ShowsPart o distance (header_of h)) (sym made) (made_shows o distance plot.sized lt) in
         let some = pages_some o plot.sized in
         let zero : first + 0 ≡ first = omega arith in
-        let page : x.claim.page ≡ first =
-        sym (claimed_head w.now.words.pages x.claim x.distance shown x.near)
+        let page : x.claim.page ≡ first = sym (claimed_head w.now.words.pages x.claim x.distance shown x.near)
         ∙ ap (λ p. head_on w.now.words.pages p) (x.at ∙ at)
         ∙ part_head o distance first (shows_on w.now.words.pages (first + distance)) part in
         none_set (used_on w.now.words.pages x.claim.page) x.claim.index

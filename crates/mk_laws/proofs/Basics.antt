@@ -19,7 +19,7 @@ pub use Rattle.mk_laws.proofs.KnownWorlds.{KnownWorld, known_world}
 pub use Rattle.mk_laws.proofs.LayoutBefore.{Before, is_releasing_behind, page_within, reg_leaves, reg_leaves_ground}
 pub use Rattle.mk_laws.proofs.LayoutHolders.{first_header, free_has_turn, holding_object, made_sized, new_has_turn}
 pub use Rattle.mk_laws.proofs.LayoutHolders.{no_run, none_on_its_way, placed_undecided}
-pub use Rattle.mk_laws.proofs.LayoutJoined.{apart_left}
+pub use Rattle.mk_laws.proofs.Serving.{apart_left, Laid, own_claim, placed_claim}
 pub use Rattle.mk_laws.proofs.LayoutReadings.{claimed, claimed_some, none_set, zero_where_none}
 pub use Rattle.mk_laws.proofs.MappedWords.{mapped_stays}
 pub use Rattle.mk_laws.proofs.NewPlace.{held_place, new_holds}
@@ -28,7 +28,7 @@ pub use Rattle.mk_laws.proofs.Operands.{operands_of, register_small}
 pub use Rattle.mk_laws.proofs.Orderly.{Orderly, same_holder, shows_at, turn_of}
 pub use Rattle.mk_laws.proofs.OrderlyLists.{actor_of, at_first, not_astray}
 pub use Rattle.mk_laws.proofs.OthersMoves.{WorldBehind}
-pub use Rattle.mk_laws.proofs.PageSets.{headed_other, used_header, with_header_on, with_used_on}
+pub use Rattle.mk_laws.proofs.Releasing.{headed_other, used_header, with_header_on, with_used_on}
 pub use Rattle.mk_laws.proofs.Phases.{either_phase, over_phase}
 pub use Rattle.mk_laws.proofs.ProtocolMarkers.{marker_set}
 pub use Rattle.mk_laws.proofs.ProtocolStepKinds.{begin_is, is_grant, release_is}
@@ -39,7 +39,6 @@ pub use Rattle.mk_laws.proofs.Refusals.{goes_bare}
 pub use Rattle.mk_laws.proofs.RegMoves.{flight}
 pub use Rattle.mk_laws.proofs.Released.{all_stand, releasing_leaves}
 pub use Rattle.mk_laws.proofs.SameWords.{Behind, reg_keeps, tally_keeps}
-pub use Rattle.mk_laws.proofs.Serving.{Laid, own_claim, placed_claim}
 pub use Rattle.mk_laws.proofs.Stages.{calls_stand, is_call_stage}
 pub use Rattle.mk_laws.proofs.StandingClaims.{IsStanding, ends_on_pages}
 pub use Rattle.mk_laws.proofs.Standings.{InCall, in_call_told, is_astray, standing, standing_at}

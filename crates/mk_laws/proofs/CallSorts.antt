@@ -23,8 +23,7 @@ use Rattle.mk_laws.proofs.RegMoves.{flies_on, registers_behind, reg_leads}
 use Rattle.mk_laws.proofs.ImagesCallMoves.{probe_leads, read_leads, write_leads, cas_leads, getg_leads, setg_leads}
 
 abbrev pub LeadsAt : Config → World → NeverState → (ℕ → Bool) → ℕ → Step → Type 0
-LeadsAt c w n safe k x =
-    Leads safe (image_scene_of w) n k (flight_of w.now (Caller k)).op
+LeadsAt c w n safe k x = Leads safe (image_scene_of w) n k (flight_of w.now (Caller k)).op
     (image_scene_of (world_behind c w (record { seat = Caller k; step = x })))
     (answer_decided c w.now (record { seat = Caller k; step = x }))
 
@@ -58,8 +57,7 @@ call_outside (op.Free p) stage.Idle h a = cc
 call_outside _ _ h a = cc
 
 pub admitted_call : (listed : List ℕ) (n : NeverState) (k : ℕ) (o : Op) (a : Answer) → is_under_turn o ≡ false
-    → AreAdmitted listed n (asked (entry_of k o (Some a)))
-    → IsAdmitted listed n k o
+    → AreAdmitted listed n (asked (entry_of k o (Some a))) → IsAdmitted listed n k o
 admitted_call listed n k o a out ad = rw (flag_is o a out) at ad.0
 
 read_admitted : (listed : List ℕ) (n : NeverState) (k : ℕ) (f : Flight) (o : Op) (x : ℕ) → is_under_turn o ≡ false
@@ -126,19 +124,16 @@ module _ (c : Config) (w : World) (n : NeverState) (known : KnownWorld c w) (mir
   -- a call that begins, or doesn't
   pub begins : (k : ℕ) (o next : Op) (x : ℕ) → is_put (flight_of w.now (Caller k)).stage ≡ false
       → LeadsBy safe (image_scene_of w) n k o (image_scene_of w) (begins_where_free (flight_of w.now (Caller k)) next x)
-  begins k o next x was =
-      either_leads safe (image_scene_of w) n k o (image_scene_of w) (x == 0) (record {
-        flight = begun next;
-        answer =
-            None;
-      }) _ (λ z. flies_on safe (image_scene_of w) n k o (begun next) was (begun_not_put next) (begun_carries _ next n k)
+  begins k o next x was = either_leads safe (image_scene_of w) n k o (image_scene_of w) (x == 0) (record {
+    flight = begun next;
+    answer = None;
+  }) _ (λ z. flies_on safe (image_scene_of w) n k o (begun next) was (begun_not_put next) (begun_carries _ next n k)
       (λ past. let y : false ≡ true = sym (begun_unprobed next) ∙ past in cc))
       (λ z. flies_on safe (image_scene_of w) n k o (flight_of w.now (Caller k)) was was (ready.images.carried k)
       (ready.images.probed k))
 
   -- a call that stays where it is
-  pub stays : (k : ℕ) (o : Op)
-      → Leads safe (image_scene_of w) n k o
+  pub stays : (k : ℕ) (o : Op) → Leads safe (image_scene_of w) n k o
       (record (image_scene_of w) { flights = slice_set w.now.seats.flights k (flight_of w.now (Caller k)) }) None
   stays k o = (
     Flies k (flight_of w.now (Caller k)) (λ r x. refl) (ready.images.carried k) (ready.images.probed k),
@@ -146,10 +141,8 @@ module _ (c : Config) (w : World) (n : NeverState) (known : KnownWorld c w) (mir
   )
 
   pub bare_on : (k : ℕ) (o : Op) (f : Flight) → is_put (flight_of w.now (Caller k)).stage ≡ false
-      → is_bare f.stage ≡ true
-      → Leads safe (image_scene_of w) n k o (record (image_scene_of w) {
-        flights =
-            slice_set w.now.seats.flights k f;
+      → is_bare f.stage ≡ true → Leads safe (image_scene_of w) n k o (record (image_scene_of w) {
+        flights = slice_set w.now.seats.flights k f;
       }) None
   bare_on k o f was bare = (goes_bare safe (image_scene_of w) n k f was bare, λ more. refl)
 
@@ -163,8 +156,7 @@ module _ (c : Config) (w : World) (n : NeverState) (known : KnownWorld c w) (mir
       begins k f.op o _ (ap is_put (at_enter f.stage f.op o h.order).0)
 
   pub leave_leads : (k : ℕ) → Meets c w k step.Leave → LeadsAt c w n safe k step.Leave
-  leave_leads k h = let f =
-      flight_of w.now (Caller k) in bare_on k f.op at_rest
+  leave_leads k h = let f = flight_of w.now (Caller k) in bare_on k f.op at_rest
       (stage_put k stage.Leave (at_its_stage f.stage f.op step.Leave refl h.order) refl) refl
 
   pub dirty_leads : (k : ℕ) → Meets c w k step.Dirty → LeadsAt c w n safe k step.Dirty

@@ -29,8 +29,7 @@ standing c w seat x i b u =
 -- While the phase isn't releasing no cell is released.
 pub none_released : (c : Config) (s : ZeroScene) (n : ℕ) → s.releasing ≡ false
     → IsReleasedWord c s.pages (is_released_there s) n → ⊥
-none_released c s n off r =
-    true≢false (sym (and_parts s.releasing
+none_released c s n off r = true≢false (sym (and_parts s.releasing
     (has_bit (without (slice_index s.snapshot r.cell.page) (slice_index s.marks r.cell.page)) r.cell.index)
     r.released).0 ∙ off)
 
@@ -71,8 +70,7 @@ stored_words c s j v m z n some =
 -- `wipe`
 pub wiped_words : (c : Config) (s : ZeroScene) (j : ℕ) → OthersAreZero c s
     → OthersAreZero c (record s { heap = slice_set s.heap j 0 })
-wiped_words c s j z =
-    changed_words c s (record s { heap = slice_set s.heap j 0 }) z
+wiped_words c s j z = changed_words c s (record s { heap = slice_set s.heap j 0 }) z
     (λ n. set_by (λ x. x ≢ 0 → slice_index s.heap n ≢ 0) s.heap j n 0 0 (λ e ne. absurd (ne refl)) (λ ne. ne))
     (λ n m. OfMapped m) (λ n some r. OfReleased r) (λ n some f. OfFreedRun f)
 

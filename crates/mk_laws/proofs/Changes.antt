@@ -52,8 +52,7 @@ tally_table w tally.Held v = refl
 tally_table w _ v = refl
 
 pub reg_table : (c : Config) (m : Moment) (seat : Seat) → table_of (Behind c m seat step.Reg).words ≡ table_of m.words
-reg_table c m seat =
-    register_table m.words (caller_number seat) _ _
+reg_table c m seat = register_table m.words (caller_number seat) _ _
 
 -- A call that has written, or exchanged, owes the dirty word after it.
 
@@ -77,10 +76,7 @@ stored c m k x n y f lt heap flights at same = elim (cases_eq y (word_met (fligh
   | inl e ↦
       let is : flight_of (Behind c m (Caller k) x) (Caller k) ≡ f = rw flights
       (get_or-set_same m.seats.flights k f at_rest lt) in
-      inr (DirtyIsOwed k (
-        rw is at,
-        rw is (rw (same ∙ sym e)),
-      ))
+      inr (DirtyIsOwed k (rw is at, rw is (rw (same ∙ sym e))))
   | inr ne ↦ inl (rw heap (get_or-set_other m.words.heap _ y n 0 ne))
 ]
 
@@ -192,8 +188,7 @@ headers_kind c m seat (step.Tally n v) u p =
     ap (λ (t : Table). (slice_index_or t.pages p free_page).header) (tally_table m.words n v)
 headers_kind c m seat (step.Used q n) u p = elim (cases_eq p q) [
   | inl e ↦ elim (cases_lt q (length m.words.pages)) [
-    | inl lt ↦
-        rw e (ap (λ (y : Page). y.header)
+    | inl lt ↦ rw e (ap (λ (y : Page). y.header)
         (get_or-set_same m.words.pages q (record { header = header_at m.words q; used = n }) free_page lt) ∙ rw (← e))
     | inr past ↦ rw (set_past m.words.pages q (record { header = header_at m.words q; used = n }) past)
   ]

@@ -124,10 +124,7 @@ apart_behind c old new g (a ∷ xs) leaves apart =
 pub at_cell : (c : Config) (a b : PlacedAllocation) → b.base ≡ a.base → b.ty ≡ a.ty → IsAtCell c a → IsAtCell c b
 at_cell c a b base ty at =
     let same : object_placed c b ≡ object_placed c a = rw ty in
-    record {
-      typed = rw ty at.typed;
-      begins = rw same (rw base at.begins);
-    }
+    record { typed = rw ty at.typed; begins = rw same (rw base at.begins) }
 
 pub cells_behind : (c : Config) (g : PlacedAllocation → PlacedAllocation) (xs : List PlacedAllocation) → LeavesCells g
     → ((i : ℕ) → (placed_at xs i).released ≡ false → IsAtCell c (placed_at xs i))

@@ -59,10 +59,7 @@ record ClosedPage (w : Words) (p : ℕ) : Type 0 where
 closed_page : (w : Words) (p : ℕ) → has_closed_page w p ≡ true → ClosedPage w p
 closed_page w p h =
     let parts = and_parts _ _ h in
-    record {
-      black = eqb-true _ 0 parts.0;
-      clean = eqb-true _ 0 parts.1;
-    }
+    record { black = eqb-true _ 0 parts.0; clean = eqb-true _ 0 parts.1 }
 
 black_bit : (w : Words) (p k : ℕ) → ClosedPage w p → k < cells_under (header_in w p)
     → has_bit (slice_index w.marks p) k ≡ true → has_bit (slice_index w.blacks p) k ≡ true

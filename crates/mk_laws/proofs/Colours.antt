@@ -40,29 +40,23 @@ pub data ColourStep (c : Config) (m : Moment) (seat : Seat) : Colours → Type 0
   ClearsMarks : (p : ℕ) → phase_of m.words ≡ 0
       → ColourStep c m seat (record (colours_of m) { marks = slice_set m.words.marks p 0 })
   AddsMarks : (p bits : ℕ) → (phase_of m.words ≡ 1) ⊎ (phase_of m.words ≡ 2)
-      → may_mark c m (flight_of m seat) p bits ≡ true
-      → ColourStep c m seat
+      → may_mark c m (flight_of m seat) p bits ≡ true → ColourStep c m seat
       (record (colours_of m) { marks = slice_set m.words.marks p (bit_or (slice_index m.words.marks p) bits) })
   MarksSeen : (p bits : ℕ) → is_some (cell_seen c (marker_at m seat).seen (marker_at m seat).hand) ≡ true
       → seen_page (cell_seen c (marker_at m seat).seen (marker_at m seat).hand) ≡ p
-      → seen_bit (cell_seen c (marker_at m seat).seen (marker_at m seat).hand) ≡ bits
-      → ColourStep c m seat
+      → seen_bit (cell_seen c (marker_at m seat).seen (marker_at m seat).hand) ≡ bits → ColourStep c m seat
       (record (colours_of m) { marks = slice_set m.words.marks p (bit_or (slice_index m.words.marks p) bits) })
-  Blackens : (p bits : ℕ) → phase_of m.words ≡ 2 → may_black c m p bits ≡ true
-      → ColourStep c m seat
+  Blackens : (p bits : ℕ) → phase_of m.words ≡ 2 → may_black c m p bits ≡ true → ColourStep c m seat
       (record (colours_of m) { blacks = slice_set m.words.blacks p (bit_or (slice_index m.words.blacks p) bits) })
   BlackensScanned : (p bits : ℕ) → may_mblack (marker_at m seat) ≡ true → scan_page (marker_at m seat).scan ≡ p
-      → scan_bit (marker_at m seat).scan ≡ bits
-      → ColourStep c m seat
+      → scan_bit (marker_at m seat).scan ≡ bits → ColourStep c m seat
       (record (colours_of m) { blacks = slice_set m.words.blacks p (bit_or (slice_index m.words.blacks p) bits) })
   Whitens : (p : ℕ) → IsQuiet m → ColourStep c m seat (record (colours_of m) { blacks = slice_set m.words.blacks p 0 })
   Dirties : ColourStep c m seat
       (record (colours_of m) { dirty = slice_set m.words.dirty (page_met (flight_of m seat)) 1 })
   Cleans : (p : ℕ) → IsQuiet m → may_undirty m p ≡ true
       → ColourStep c m seat (record (colours_of m) { dirty = slice_set m.words.dirty p 0 })
-  TakesHand : (x : Word)
-      → ColourStep c m seat
-      (colours_with m.words
+  TakesHand : (x : Word) → ColourStep c m seat (colours_with m.words
       (or_else (hand_given c m seat x (found c m (record { seat = seat; step = step.Look x }))) m.seats.holding.hand))
   DropsHand : ColourStep c m seat (record (colours_of m) { hand = None })
 
@@ -126,8 +120,7 @@ colour_step c m seat (step.Black p v) h = Blackens p v (eqb-true (phase_of m.wor
 colour_step c m seat step.Mblack h = BlackensScanned _ _ h.marker refl refl
 colour_step c m seat (step.Unblack p) h =
     Whitens p (quiet m true h.phase (rw (← (and_true (none_attends m.seats.markers))) h.holder))
-colour_step c m seat (step.Undirty p) h =
-    Cleans p (quiet m (is_blank m p) h.phase
+colour_step c m seat (step.Undirty p) h = Cleans p (quiet m (is_blank m p) h.phase
     (rw (← (and_moved (none_attends m.seats.markers) (slice_index m.words.blacks p == 0)
     (slice_index m.words.blacks (head_page m.words p) == 0))) h.holder)) h.holder
 colour_step c m seat _ h = Leaves
@@ -138,10 +131,9 @@ quiet_ends : (m : Moment) (k : ℕ) → (phase_of m.words ≡ 1) ⊎ (phase_of m
 quiet_ends m k early a (inl z) = elim early [ inl e ↦ absurd (omega arith) | inr e ↦ absurd (omega arith) ]
 quiet_ends m k early a (inr none) = let f : true ≡ false = sym a ∙ none_at m.seats.markers k none.1 in cc
 
-pub attending_grows : (c : Config) (m : Moment) (seat : Seat) (y : Colours) (k : ℕ)
-    → (phase_of m.words ≡ 1) ⊎ (phase_of m.words ≡ 2)
-    → is_attending (marker_of m k).presence ≡ true
-    → ColourStep c m seat y → OnlyGrow m.words.marks y.marks × OnlyGrow m.words.blacks y.blacks
+pub attending_grows : (c : Config) (m : Moment) (seat : Seat) (y : Colours) (k : ℕ) → (phase_of m.words ≡ 1)
+    ⊎ (phase_of m.words ≡ 2) → is_attending (marker_of m k).presence ≡ true → ColourStep c m seat y
+    → OnlyGrow m.words.marks y.marks × OnlyGrow m.words.blacks y.blacks
 attending_grows c m seat y k early a (AddsMarks p bits e h) =
     (grows_more m.words.marks p bits, grows_same m.words.blacks)
 attending_grows c m seat y k early a (MarksSeen p bits s e f) =

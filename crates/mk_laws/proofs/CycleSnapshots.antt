@@ -45,8 +45,7 @@ freed_flags : (c : Config) (w : World) (cell : Cell) (n i : ℕ) → FreesHere c
     ≡ is_freed_before (placed_at w.allocations i)
 freed_flags c w cell n i x q u true is =
     let a : PlacedAllocation = placed_at w.allocations i in
-    let unfreed = false_from_ne_true a.freed (λ f.
-    true≢false (sym (q.shown i u f)
+    let unfreed = false_from_ne_true a.freed (λ f. true≢false (sym (q.shown i u f)
     ∙ ap (λ (y : Cell). has_bit (slice_index w.now.words.freed y.page) y.index) (x.others i u is) ∙ x.unset)) in
     ap (λ b. is_freed_before (if b then record a { freed = true; fresh = true } else a)) is ∙ sym (rw unfreed)
 freed_flags c w cell n i x q u false is =
@@ -67,8 +66,7 @@ quar_flags c w seat p n i b h laid q u = by (cell_freed c.pages w.now.words (fli
         Stays (rw (← same) u) (rw same)
     by (Some cell) is =
         let same : (WorldBehind c w seat (step.Quar p n)).allocations
-        ≡ map (freed_where_it_stands w.now.words (Some cell)) w.allocations =
-        rw is in
+        ≡ map (freed_where_it_stands w.now.words (Some cell)) w.allocations = rw is in
         let frees = frees_here c w seat p n cell b h laid
         (freed_cell c.pages w.now.words (flight_of w.now seat) p n cell is) in
         let x = before_change c (freed_where_it_stands w.now.words (Some cell)) w.allocations i
@@ -94,8 +92,7 @@ flags_step c w seat _ i b h laid q out u = Stays u refl
 -- allocations are never lost
 longer : (c : Config) (w : World) (seat : Seat) (x : Step)
     → length w.allocations ≤ length (WorldBehind c w seat x).allocations
-longer c w seat (step.Quar p n) = let e =
-    length-map w.allocations
+longer c w seat (step.Quar p n) = let e = length-map w.allocations
     (freed_where_it_stands w.now.words (cell_freed c.pages w.now.words (flight_of w.now seat) p n)) in omega arith
 longer c w seat step.Begin = let e = length-map w.allocations no_longer_fresh in omega arith
 longer c w seat step.Grant = omega (arith, length-append w.allocations (granted c w.now (flight_of w.now seat) ∷ []))

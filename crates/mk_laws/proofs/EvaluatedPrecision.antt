@@ -54,8 +54,7 @@ third_is_released =
     releases_the_untouched small stopped_cycle stopped_is_history releasing marking_has_none 2 third_is_in_snapshot
     third_is_untouched
 
-third_counts_as_free :
-    CountsAsFree (unreleased_storage small (left small (through_end cycle)).allocations)
+third_counts_as_free : CountsAsFree (unreleased_storage small (left small (through_end cycle)).allocations)
     (storage_of small (placed_at (left small (through_end cycle)).allocations 2))
 third_counts_as_free =
     frees_the_untouched small stopped_cycle stopped_is_history cycle marking_has_none 2 third_is_in_snapshot

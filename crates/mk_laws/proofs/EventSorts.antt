@@ -1,16 +1,30 @@
 -- Each enabled and admitted event leads to what the images allow.
 use Rattle.mk_laws.proofs.Vocabulary.{AreAdmitted, Bool, Caller, Cell, Config, Event, Host, ImagePremises, ImageScene}
-use Rattle.mk_laws.proofs.Vocabulary.{Marker, MeetsAll, Mirrors, Named, NeverState, None, Option, Seat, Some, Stage}
-use Rattle.mk_laws.proofs.Vocabulary.{Step, Store, Tally, World, accessed, answer_decided, ap, arith, asked, at_rest}
-use Rattle.mk_laws.proofs.Vocabulary.{call_decided, caller_number, cases_Bool, cases_eq, cases_lt, changed_at, eqb-true}
-use Rattle.mk_laws.proofs.Vocabulary.{false, false≢true, flight_among, flight_of, fresh_leaves, get_or_past}
-use Rattle.mk_laws.proofs.Vocabulary.{if◌then◌else◌, image_scene_of, inl, inr, is_open_to, is_past_probe, is_put}
-use Rattle.mk_laws.proofs.Vocabulary.{is_run_cell, is_run_gone, ltb-true, map, no_longer_fresh, none_freed, not}
-use Rattle.mk_laws.proofs.Vocabulary.{or_cases, others_are_held, refl, set-get_or, slice_set, subst, sym, tally_word}
-use Rattle.mk_laws.proofs.Vocabulary.{target, true, world_behind, ℕ, ◌&&◌, ◌<◌, ◌==◌, ◌||◌, ◌∙◌, ◌≡◌, ◌≢◌}
-use Rattle.mk_laws.proofs.Basics.{InCall, KnownWorld, Leads, Move, Ready, Renews, Stands, at_its_stage, at_no_take}
-use Rattle.mk_laws.proofs.Basics.{calls_stand, gate_in, grants_new, is_astray, is_call_stage, not_astray, others_held}
-use Rattle.mk_laws.proofs.Basics.{standing, view_of}
+use Rattle.mk_laws.proofs.Vocabulary.{IsSafe, IsSafeSet, IsSound, IsTypedAllocation, Kind, List, Marker, MarksAreClosed}
+use Rattle.mk_laws.proofs.Vocabulary.{MeetsAll, Mirrors, Named, NeverState, None, Null, Num, Number, Option}
+use Rattle.mk_laws.proofs.Vocabulary.{PlacedAllocation, Ptr, Seat, Some, Stage, Step, Store, Suits, Tally, To, Value}
+use Rattle.mk_laws.proofs.Vocabulary.{World, accessed, address_of, allocation_at, and_from, and_parts, and_right}
+use Rattle.mk_laws.proofs.Vocabulary.{answer_decided, ap, arith, asked, at_rest, bases_of, call_decided, caller_number}
+use Rattle.mk_laws.proofs.Vocabulary.{cases_Bool, cases_eq, cases_lt, cell_of_allocation, changed_at, eqb-true, false}
+use Rattle.mk_laws.proofs.Vocabulary.{false≢true, flight_among, flight_of, fresh_leaves, get_or_past, global_at}
+use Rattle.mk_laws.proofs.Vocabulary.{has_bit, has_bit_without, if◌then◌else◌, image_of, image_scene_of, inl, inr}
+use Rattle.mk_laws.proofs.Vocabulary.{is_left_unmarked, is_marked, is_none_or, is_open_to, is_past_probe, is_put}
+use Rattle.mk_laws.proofs.Vocabulary.{is_run_cell, is_run_gone, is_some_and, is_unmapped, kinds_of, length, ltb-true}
+use Rattle.mk_laws.proofs.Vocabulary.{map, no_longer_fresh, none_freed, not, or_cases, or_parts, others_are_held}
+use Rattle.mk_laws.proofs.Vocabulary.{placed_at, pointed_cell, points_well, refl, released_leaves, set-get_or}
+use Rattle.mk_laws.proofs.Vocabulary.{slice_index, slice_index_or, slice_set, storage_holds, storage_words, subst, sym}
+use Rattle.mk_laws.proofs.Vocabulary.{tally_word, target, true, with_released, word_at, words_of, world_behind, ℕ, ◌%◌}
+use Rattle.mk_laws.proofs.Vocabulary.{◌&&◌, ◌+◌, ◌/◌, ◌<◌, ◌==◌, ◌||◌, ◌∙◌, ◌≡◌, ◌≢◌}
+use Rattle.mk_laws.proofs.Basics.{InCall, KnownWorld, Leads, Move, Ready, Releases, Renews, Stands, at_its_stage}
+use Rattle.mk_laws.proofs.Basics.{at_no_take, base_at, calls_stand, exists_placed, gate_in, grants_new, is_astray}
+use Rattle.mk_laws.proofs.Basics.{is_call_stage, not_astray, others_held, pointed_word, standing, unmapped_is, view_of}
+use Rattle.mk_laws.proofs.Basics.{words_fit}
+use Rattle.mk_never.specs.Types.{is_number, is_leaf}
+use Rattle.mk_core.proofs.ListTests.{list_all-at}
+use Rattle.mk_core.specs.ClosedMarks.{is_marked_allocation, is_scanned_allocation}
+use Rattle.mk_laws.proofs.Pairs.{shows_plain}
+use Rattle.mk_laws.proofs.ImagesBefore.{type_is, pages_show}
+use Rattle.mk_laws.proofs.FreeMoves.{same_places}
 use Rattle.mk_core.specs.declared.events.Group.TheVariants as group
 use Rattle.mk_core.specs.declared.events.Step.TheVariants as step
 use Rattle.mk_core.specs.declared.events.Tally.TheVariants as tally
@@ -18,17 +32,134 @@ use Rattle.mk_core.specs.declared.seats.Stage.TheVariants as stage
 use Rattle.mk_laws.proofs.Standings.{Shows}
 use Rattle.mk_laws.proofs.Stages.{is_turn_stage, new_stands}
 use Rattle.mk_laws.proofs.NextSteps.{of_turn, at_take}
-use Rattle.mk_laws.proofs.ImagesKeptPlaces.{same_places}
 use Rattle.mk_laws.proofs.ImagesStands.{gone_shows}
 use Rattle.mk_laws.proofs.ImagesMoves.{Rests, Wipes}
-use Rattle.mk_laws.proofs.ImagesBefore.{pages_show}
 use Rattle.mk_laws.proofs.ImagesHeldGates.{others_idle}
 use Rattle.mk_laws.proofs.GrantMoves.{wiped_outside}
-use Rattle.mk_laws.proofs.ReleaseMoves.{releases}
 use Rattle.mk_laws.proofs.CallSorts.{begins, bare_on, enter_leads, leave_leads, dirty_leads, reg_leads_at}
 use Rattle.mk_laws.proofs.CallSorts.{probe_leads_at, read_leads_at, write_leads_at, cas_leads_at, getg_leads_at}
 use Rattle.mk_laws.proofs.CallSorts.{setg_leads_at}
 use Rattle.mk_laws.proofs.TurnMoves.{grant_by, full_by, quar_by, look_by}
+
+-- A release cuts the safe set to the marked allocations.
+
+is_number_kind : (kind : Kind) → is_number kind ≡ true → kind ≡ Number
+is_number_kind Number h = refl
+is_number_kind (To t o) h = cc
+
+module _ (c : Config) (w : World) (n : NeverState) (known : KnownWorld c w) (mirrors : Mirrors c w n) (safe : ℕ
+    → Bool) (ready : Ready c.globals safe (image_scene_of w) n) (st : Stands c w.now.words w.allocations)
+    (marks : MarksAreClosed c w) (plain : (j : ℕ) → is_put (flight_among w.now.seats.flights j).stage ≡ false) where
+  abbrev placed : ℕ → PlacedAllocation
+  placed i = placed_at w.allocations i
+
+  abbrev cut : ℕ → Bool
+  cut a = safe a && is_marked w.now.words (cell_of_allocation c (placed a))
+
+  value_cut : (v : Value) → IsSound n v → IsSafe safe v
+      → points_well c.pages w.now.words (image_of (bases_of w.allocations) v) ≡ true → IsSafe cut v
+  value_cut (Ptr a t o) sound is well =
+      let u = ready.set.unreleased a is in
+      let lt = exists_placed w.allocations a u in
+      let word = pointed_word c.globals safe (image_scene_of w) n ready a t o sound in
+      let fits = words_fit c w n known mirrors a lt in
+      let cell = ap (λ b. pointed_cell c.pages w.now.words.pages (address_of (b + o))) (base_at w.allocations a)
+      ∙ st.cell a o u (omega arith) in
+      and_from (safe a) _ is (ap (λ (x : Option Cell). is_none_or (is_marked w.now.words) x) (sym cell) ∙ well)
+  value_cut _ sound is well = tt
+
+  -- a root that is the image of a value
+  root_cut : (x : ℕ) (v : Value) → points_well c.pages w.now.words x ≡ true → x ≡ image_of (bases_of w.allocations) v
+      → IsSound n v → IsSafe safe v → IsSafe cut v
+  root_cut x v well e sound is = value_cut v sound is (rw e at well)
+
+  some_words : (a : ℕ) → (placed a).released ≡ false → 0 < storage_words c (placed a)
+  some_words a u =
+      let lt = exists_placed w.allocations a u in
+      let holds = storage_holds c (placed a) known.limits (type_is c w n known mirrors a lt) in
+      holds.1.0
+
+  base_cell_is : (a : ℕ) → (placed a).released ≡ false
+      → pointed_cell c.pages w.now.words.pages (address_of (placed a).base) ≡ Some (cell_of_allocation c (placed a))
+  base_cell_is a u =
+      let same : address_of (placed a).base ≡ address_of ((placed a).base + 0) = omega arith in
+      ap (pointed_cell c.pages w.now.words.pages) same ∙ st.cell a 0 u (some_words a u)
+
+  word_cut : (a i : ℕ) → safe a ≡ true → is_marked w.now.words (cell_of_allocation c (placed a)) ≡ true
+      → is_unmapped (allocation_at n a) ≡ false → IsSafe cut (word_at n a i)
+  word_cut a i sa marked mapped = elim (cases_lt i (length (words_of n a))) [
+    | inr le ↦ rw (get_or_past (words_of n a) i Null le) tt
+    | inl li ↦
+        let u = ready.set.unreleased a sa in
+        let lt = exists_placed w.allocations a u in
+        let count = mirrors.twins.count in
+        let typed : IsTypedAllocation n (allocation_at n a) = mirrors.typed.allocations a (omega arith) in
+        let un = sym (unmapped_is c w n known mirrors a lt) ∙ mapped in
+        elim (cases_Bool (is_leaf (kinds_of c.types (placed a).ty))) [
+          | inl leaf ↦ number_cut (word_at n a i) _ (typed.words i li) (is_number_kind _ (rw mirrors.types
+              (rw (mirrors.twins.ty a lt) at
+              (list_all-at is_number (kinds_of c.types (placed a).ty) Number leaf refl i))))
+          | inr pointers ↦
+              let fits = words_fit c w n known mirrors a lt in
+              let scanned : is_scanned_allocation c (placed a) ≡ true = rw u (rw un (ap not pointers)) in
+              let is_marked_here : is_marked_allocation c w.now.words (placed a) ≡ true =
+              rw (base_cell_is a u) marked in
+              let well = marks.words a ((placed a).base + i) scanned is_marked_here (omega arith, omega arith) in
+              suited_cut (word_at n a i) _ (typed.words i li) (ready.set.closed a i sa mapped)
+              (rw (ready.images.heap a i u mapped li) at well)
+        ]
+  ]
+    where
+      number_cut : (v : Value) (kind : Kind) → Suits n v kind → kind ≡ Number → IsSafe cut v
+      number_cut v (To t o) s e = cc
+      number_cut (Num m) Number s e = tt
+      number_cut Null Number s e = tt
+      number_cut (Ptr a t o) Number s e = absurd s
+
+      suited_cut : (v : Value) (kind : Kind) → Suits n v kind → IsSafe safe v
+          → points_well c.pages w.now.words (image_of (bases_of w.allocations) v) ≡ true → IsSafe cut v
+      suited_cut (Num m) Number s is well = tt
+      suited_cut Null Number s is well = tt
+      suited_cut (Ptr a t o) Number s is well = absurd s
+      suited_cut v (To t o) s is well = value_cut v s.0 is well
+
+  abbrev cut_allocations : List PlacedAllocation
+  cut_allocations = map (with_released c w.now.words) w.allocations
+
+  cut_safe : IsSafeSet cut cut_allocations n
+  cut_safe =
+      record {
+        registers = λ k. root_cut (slice_index w.now.words.registers k) (slice_index_or n.registers k Null)
+            (marks.registers k)
+            (sym (shows_plain (flight_among w.now.seats.flights (k / 8)) (k % 8) (slice_index w.now.words.registers k)
+            (plain (k / 8))) ∙ ready.images.registers k) (mirrors.typed.registers k) (ready.set.registers k);
+        globals = λ g. root_cut (slice_index w.now.words.globals g) (global_at n g) (marks.globals g)
+            (ready.images.globals g) (mirrors.typed.globals g) (ready.set.globals g);
+        closed = λ a i ka mapped. let parts =
+            and_parts (safe a) (is_marked w.now.words (cell_of_allocation c (placed a))) ka in word_cut
+            a i parts.0 parts.1 mapped;
+        unreleased = λ a ka.
+            let parts = and_parts (safe a) (is_marked w.now.words (cell_of_allocation c (placed a))) ka
+            in
+            let u = ready.set.unreleased a parts.0 in
+            let x = placed a in
+            let cell = cell_of_allocation c x in
+            ap (λ (y : PlacedAllocation). y.released) (changed_at (with_released c w.now.words) w.allocations a refl)
+            ∙ ap (λ b. b || is_some_and (is_left_unmarked w.now.words)
+            (pointed_cell c.pages w.now.words.pages (address_of x.base))) u
+            ∙ ap (λ (y : Option Cell). is_some_and (is_left_unmarked w.now.words) y) (base_cell_is a u)
+            ∙ has_bit_without (slice_index w.now.words.snapshot cell.page) (slice_index w.now.words.marks cell.page)
+            cell.index ∙ and_right (has_bit (slice_index w.now.words.snapshot cell.page) cell.index)
+            (not (is_marked w.now.words cell)) (ap not parts.1);
+      }
+
+  pub releases : Move safe (image_scene_of w) n
+      (record (image_scene_of w) { allocations = map (with_released c w.now.words) w.allocations }) n
+  releases = Releases cut_allocations
+      (same_places (with_released c w.now.words) w.allocations (released_leaves c w.now.words)) (λ a u. (or_parts _ _
+      (ap (λ (y : PlacedAllocation). y.released)
+      (sym (changed_at (with_released c w.now.words) w.allocations a refl)) ∙ u)).0)
+      (λ a. rw (changed_at _ w.allocations a refl)) cut cut_safe
 
 -- what an event leads to, and that what it decides is right
 abbrev pub Goes : Config → World → NeverState → (ℕ → Bool) → Event → Type 0
@@ -63,14 +194,13 @@ turn_plain _ h = refl
 idle_plain : (s : Stage) → s ≡ stage.Idle → is_put s ≡ false
 idle_plain s e = ap is_put e
 
-tally_scene : (w : World) (t : Tally) (v : ℕ)
-    → image_scene_of w ≡ record {
-      registers = (accessed w.now.words (Named (tally_word t)) (Store v)).registers;
-      globals = (accessed w.now.words (Named (tally_word t)) (Store v)).globals;
-      heap = (accessed w.now.words (Named (tally_word t)) (Store v)).heap;
-      flights = w.now.seats.flights;
-      allocations = w.allocations;
-    }
+tally_scene : (w : World) (t : Tally) (v : ℕ) → image_scene_of w ≡ record {
+  registers = (accessed w.now.words (Named (tally_word t)) (Store v)).registers;
+  globals = (accessed w.now.words (Named (tally_word t)) (Store v)).globals;
+  heap = (accessed w.now.words (Named (tally_word t)) (Store v)).heap;
+  flights = w.now.seats.flights;
+  allocations = w.allocations;
+}
 tally_scene w tally.Held v = refl
 tally_scene w _ v = refl
 
@@ -125,10 +255,7 @@ module _ (c : Config) (w : World) (n : NeverState) (known : KnownWorld c w) (mir
   still_leads : (k : ℕ) (t : ImageScene) → Move safe (image_scene_of w) n t n → t.flights ≡ w.now.seats.flights
       → Leads safe (image_scene_of w) n k (flight_of w.now (Caller k)).op
       (record t { flights = slice_set w.now.seats.flights k (flight_of w.now (Caller k)) }) None
-  still_leads k t m e = (
-    rw (e ∙ sym (set-get_or w.now.seats.flights k at_rest)) at m,
-    λ more. refl,
-  )
+  still_leads k t m e = (rw (e ∙ sym (set-get_or w.now.seats.flights k at_rest)) at m, λ more. refl)
 
   astray_not : (k : ℕ) → k < c.callers → is_astray (standing (flight_of w.now (Caller k))) ≡ false
   astray_not k lt = not_astray c w.now known.now.orderly k lt
@@ -224,10 +351,7 @@ module _ (c : Config) (w : World) (n : NeverState) (known : KnownWorld c w) (mir
       no_holder : (b : Bool) → (b && false) ≡ true → ⊥
       no_holder true e = false≢true e
       no_holder false e = false≢true e
-  host_goes (step.Quar p v) h = (
-    rw (none_target _) (rw (none_freed w.now.words w.allocations) Rests),
-    λ more. refl,
-  )
+  host_goes (step.Quar p v) h = (rw (none_target _) (rw (none_freed w.now.words w.allocations) Rests), λ more. refl)
   host_goes x h = (still_moves Host x refl h, λ more. refl)
 
   marker_goes : (k : ℕ) (x : Step) → MeetsOf c w (Marker k) x → Goes c w n safe (record { seat = Marker k; step = x })

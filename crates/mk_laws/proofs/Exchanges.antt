@@ -19,10 +19,7 @@ use Rattle.mk_laws.proofs.CallSorts.{admitted_call, there_is, own_registers}
 use Rattle.mk_laws.proofs.ImagesHistories.{say_along, histories_mirror}
 
 told : (b : Bool) (u v : Value) → b ≡ is_same u v → (Some (answer.Num (one_if b)) ≡ Some (answer.Num 1)) ↔ (u ≡ v)
-told b u v is = (
-  λ e. equal_from_same u v (sym is ∙ one b e),
-  λ e. rw (is ∙ same_from_equal u v e),
-)
+told b u v is = (λ e. equal_from_same u v (sym is ∙ one b e), λ e. rw (is ∙ same_from_equal u v e))
   where
     one : (b : Bool) → Some (answer.Num (one_if b)) ≡ Some (answer.Num 1) → b ≡ true
     one true e = refl
@@ -40,11 +37,9 @@ record Compares (c : Config) (w : World) (n : NeverState) (k q i p : ℕ) : Type
   pub answered : (answer_decided c w.now (cas_of k) ≡ Some (answer.Num 1))
       ↔ (word_at n number place ≡ register_at n k p)
 
-compares_values : (c : Config) (w : World) (n : NeverState) (k q i p r : ℕ) → KnownWorld c w
-    → ImagePremises c w → Mirrors c w n → MeetsAll c w.now (cas_of k)
-    → (flight_of w.now (Caller k)).op ≡ op.CasPtr q i p r
-    → AreAdmitted c.globals n (asked (call_decided c w.now (cas_of k)))
-    → Compares c w n k q i p
+compares_values : (c : Config) (w : World) (n : NeverState) (k q i p r : ℕ) → KnownWorld c w → ImagePremises c w
+    → Mirrors c w n → MeetsAll c w.now (cas_of k) → (flight_of w.now (Caller k)).op ≡ op.CasPtr q i p r
+    → AreAdmitted c.globals n (asked (call_decided c w.now (cas_of k))) → Compares c w n k q i p
 compares_values c w n k q i p r known others mirrors h is ad =
     let f = flight_of w.now (Caller k) in
     let x = slice_index w.now.words.heap (word_met f) in
@@ -54,8 +49,7 @@ compares_values c w n k q i p r known others mirrors h is ad =
     let st = at_its_stage f.stage f.op step.Cas refl h.order in
     let o = op.CasPtr q i p r in
     let lit : f ≡ flight stage.Cas o f.q f.p f.r f.loaded = ap (λ s. flight s f.op f.q f.p f.r f.loaded) st ∙ rw is in
-    let admitted : IsAdmitted c.globals n k o =
-    rw is at (admitted_call c.globals n k f.op _ (ap is_under_turn is) ad)
+    let admitted : IsAdmitted c.globals n k o = rw is at (admitted_call c.globals n k f.op _ (ap is_under_turn is) ad)
     in
     let compared = cas_compares c.globals safe.0 (image_scene_of w) n k ready
     (there_is c w n known mirrors safe.0 ready k lt)
@@ -81,9 +75,4 @@ histories_compare c es h others before behind k q i p r whole is =
     (known_world c before earlier.within_limits earlier.enabled)
     (say before (cas_of k ∷ behind) refl) mirrors (enabled_meets c (left c before).now (cas_of k) on) is
     (admitted.0, tt) in
-    record {
-      number = compares.number;
-      place = compares.place;
-      target = compares.target;
-      answered = compares.answered;
-    }
+    record { number = compares.number; place = compares.place; target = compares.target; answered = compares.answered }

@@ -42,18 +42,16 @@ taken_from : (h u class index : ℕ) (leaf : Bool) (x : Option Header) → heade
     → MayTakeCell class leaf index (use_under x u)
     → (h ≡ 0) ⊎ ((h ≡ word_of (block_header class leaf)) × (index < cells_of class))
 taken_from h u class index leaf (Some Free) is may = inl (zero_word h is)
-taken_from h u class index leaf (Some (Block k)) is may =
-    inr (
-      sym (word_of-header_of h (Block k) is).1 ∙ rw may.0 (ap (λ b. word_of (block_header class b)) may.1),
-      rw (length-bits_of (cells_of k) u
-          ∙ ap cells_of may.0) at (slice_get_within (bits_of (cells_of k) u) index false may.2),
-    )
-taken_from h u class index leaf (Some (LeafBlock k)) is may =
-    inr (
-      sym (word_of-header_of h (LeafBlock k) is).1 ∙ rw may.0 (ap (λ b. word_of (block_header class b)) may.1),
-      rw (length-bits_of (cells_of k) u
-          ∙ ap cells_of may.0) at (slice_get_within (bits_of (cells_of k) u) index false may.2),
-    )
+taken_from h u class index leaf (Some (Block k)) is may = inr (
+  sym (word_of-header_of h (Block k) is).1 ∙ rw may.0 (ap (λ b. word_of (block_header class b)) may.1),
+  rw (length-bits_of (cells_of k) u
+      ∙ ap cells_of may.0) at (slice_get_within (bits_of (cells_of k) u) index false may.2),
+)
+taken_from h u class index leaf (Some (LeafBlock k)) is may = inr (
+  sym (word_of-header_of h (LeafBlock k) is).1 ∙ rw may.0 (ap (λ b. word_of (block_header class b)) may.1),
+  rw (length-bits_of (cells_of k) u
+      ∙ ap cells_of may.0) at (slice_get_within (bits_of (cells_of k) u) index false may.2),
+)
 taken_from h u class index leaf _ is may = absurd may
 
 free_use : (h u : ℕ) → h ≡ 0 → is_free_page (use_under (header_of h) u) ≡ true
@@ -73,8 +71,7 @@ fits limit pages o place sized at = elim (cases_Bool (is_small_object o)) [ inl 
           room = omega arith;
           index = is.index;
           within = omega arith;
-          free = λ d lt.
-              free_header (header_on pages (place.page + d)) (shows_on pages (place.page + d))
+          free = λ d lt. free_header (header_on pages (place.page + d)) (shows_on pages (place.page + d))
               (used_on pages (place.page + d)) refl
               (is.free.free (place.page + d) free_page (omega arith) (omega arith));
         }

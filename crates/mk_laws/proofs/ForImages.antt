@@ -18,9 +18,8 @@ use Rattle.mk_core.proofs.GrantedAllocations.{placed_headers, placed_stands}
 use Rattle.mk_core.proofs.PointedAllocations.{base_points}
 use Rattle.mk_laws.proofs.Claims.{claim_among, claim_is}
 use Rattle.mk_laws.proofs.LayoutHolders.{holding_object, new_has_turn, seat_operands}
-use Rattle.mk_laws.proofs.LayoutJoined.{apart_across, apart_left}
+use Rattle.mk_laws.proofs.Serving.{apart_across, apart_left, own_claim, placed_claim}
 use Rattle.mk_laws.proofs.Released.{all_stand}
-use Rattle.mk_laws.proofs.Serving.{own_claim, placed_claim}
 use Rattle.mk_laws.proofs.OneCell.{numbers_apart}
 use Rattle.mk_laws.proofs.StandingClaims.{IsStanding, place_index}
 use Rattle.mk_laws.proofs.Unmapping.{shares_run}
@@ -33,8 +32,7 @@ use Rattle.mk_laws.proofs.TellImages.{zeros_tell_the_images}
 -- A large allocation that is freed isn't mapped.
 pub gone_is : (c : Config) (a : PlacedAllocation) → a.released ≡ false
     → is_mapped c a ≡ not (a.freed && not (is_small_object (object_placed c a)))
-gone_is c a u =
-    ap (λ b. not b && not (a.freed && is_large (kinds_of c.types a.ty))) u
+gone_is c a u = ap (λ b. not b && not (a.freed && is_large (kinds_of c.types a.ty))) u
     ∙ ap (λ b. not (a.freed && b)) (large_is_not_small (kinds_of c.types a.ty))
 
 mode_mapped : (x going : Bool) (o : Object) (d h : ℕ) → not x ≡ true → HasHeader (mode_of x going) o d h
@@ -73,11 +71,9 @@ module _ (c : Config) (w : World) (known : KnownWorld c w) (laid : LayoutStands 
       → IsShown w.now.words.pages (claim_of c run (placed_at xs i))
   shown_claim i u =
       let x : Claim = claim_of c run (placed_at xs i) in
-      laid.scene.shown x (own_claim c (object_now c w.now) (ground_of w) x
-      (claim_among c run xs i u))
+      laid.scene.shown x (own_claim c (object_now c w.now) (ground_of w) x (claim_among c run xs i u))
 
-  pub standing : (i : ℕ) → (placed_at xs i).released ≡ false
-      → IsStanding c w.now.words (placed_at xs i)
+  pub standing : (i : ℕ) → (placed_at xs i).released ≡ false → IsStanding c w.now.words (placed_at xs i)
   standing i u = all_stand c (object_now c w.now) (is_phase w.now.words 4) w known.lengths.pages laid i u
 
   bases_apart : (i j : ℕ) → (placed_at xs i).released ≡ false → (placed_at xs j).released ≡ false
@@ -87,22 +83,17 @@ module _ (c : Config) (w : World) (known : KnownWorld c w) (laid : LayoutStands 
       let sj = standing j v in
       let one = base_points c w.now.words (placed_at xs i) known.limits si.stands si.headers in
       let two = base_points c w.now.words (placed_at xs j) known.limits sj.stands sj.headers in
-      let both : Some (cell_of_allocation c (placed_at xs i))
-      ≡ Some (cell_of_allocation c (placed_at xs j)) =
-      sym one ∙ ap (λ n. pointed_cell c.pages w.now.words.pages (address_of n)) same ∙ two in
-      let cells : cell_of_allocation c (placed_at xs i) ≡ cell_of_allocation c (placed_at xs j) =
-      cc in
-      ne (numbers_apart c run xs i j
-      (apart_left (claims_of c run xs)
+      let both : Some (cell_of_allocation c (placed_at xs i)) ≡ Some (cell_of_allocation c (placed_at xs j)) = sym one
+      ∙ ap (λ n. pointed_cell c.pages w.now.words.pages (address_of n)) same ∙ two in
+      let cells : cell_of_allocation c (placed_at xs i) ≡ cell_of_allocation c (placed_at xs j) = cc in
+      ne (numbers_apart c run xs i j (apart_left (claims_of c run xs)
       (claims_placed (object_now c w.now) w.now.seats.holding.placing) laid.scene.apart) u v
       (ap (λ (x : Cell). x.page) cells, ap (λ (x : Cell). x.index) cells))
 
   -- The run that the call frees
 
-  pub run_of : (r : RunPages) → run ≡ Some r
-      → IsClaimedRun (claims_of c run xs) r
-  run_of r e = subst (λ (x : Option RunPages). RunStands (claims_of c run xs) x) e
-      laid.gone
+  pub run_of : (r : RunPages) → run ≡ Some r → IsClaimedRun (claims_of c run xs) r
+  run_of r e = subst (λ (x : Option RunPages). RunStands (claims_of c run xs) x) e laid.gone
 
   freed_run : (r : RunPages) → run ≡ Some r → IsFreedRun c w r
   freed_run r e =
@@ -124,14 +115,11 @@ module _ (c : Config) (w : World) (known : KnownWorld c w) (laid : LayoutStands 
             ∙ ap (λ k. record { page = a.base / 64; count = k }) count;
       }
 
-  not_going : (i : ℕ) → (placed_at xs i).released ≡ false
-      → is_small_object (object_placed c (placed_at xs i)) ≡ false
-      → run ≢ Some (run_of_allocation c (placed_at xs i))
-      → is_unmapping run ((placed_at xs i).base / 64) ≡ false
+  not_going : (i : ℕ) → (placed_at xs i).released ≡ false → is_small_object (object_placed c (placed_at xs i)) ≡ false
+      → run ≢ Some (run_of_allocation c (placed_at xs i)) → is_unmapping run ((placed_at xs i).base / 64) ≡ false
   not_going i u large other = by run refl
     where
-      by : (r : Option RunPages) → run ≡ r
-          → is_unmapping r ((placed_at xs i).base / 64) ≡ false
+      by : (r : Option RunPages) → run ≡ r → is_unmapping r ((placed_at xs i).base / 64) ≡ false
       by None e = refl
       by (Some r) e = elim (cases_Bool (r.page == (placed_at xs i).base / 64)) [
         | inr out ↦ out
@@ -139,24 +127,21 @@ module _ (c : Config) (w : World) (known : KnownWorld c w) (laid : LayoutStands 
             let a : PlacedAllocation = placed_at xs i in
             let x = run_of r e in
             let there = eqb-true r.page (a.base / 64) here in
-            let mine = own_claim c (object_now c w.now) (ground_of w) (claim_of c run a)
-            (claim_among c run xs i u) in
+            let mine = own_claim c (object_now c w.now) (ground_of w) (claim_of c run a) (claim_among c run xs i u) in
             let his = own_claim c (object_now c w.now) (ground_of w) x.claim x.among in
             let some = pages_some (object_placed c a) (shown_claim i u).sized in
             let some2 = pages_some x.claim.object (laid.scene.shown x.claim his).sized in
             let page = x.page in
             let same : x.claim ≡ claim_of c run a =
             shares_run (layout_scene_of c (object_now c w.now) (is_phase w.now.words 4) w.now.words.marks (ground_of w))
-            (claim_of c run a) x.claim 0 0 laid.scene mine his large
-            (omega arith) (omega arith) (omega arith) in
+            (claim_of c run a) x.claim 0 0 laid.scene mine his large (omega arith) (omega arith) (omega arith) in
             let count : r.count ≡ pages_made (object_placed c a) = sym x.count
             ∙ ap (λ (y : Claim). pages_made y.object) same in
             absurd (other (e ∙ ap (λ (y : RunPages). Some y) (ap (λ p. record { page = p; count = r.count }) there
             ∙ ap (λ k. record { page = a.base / 64; count = k }) count)))
       ]
 
-  pub laid_out : (i : ℕ) → (placed_at xs i).released ≡ false
-      → images.IsLaidOut c w.now.words run (placed_at xs i)
+  pub laid_out : (i : ℕ) → (placed_at xs i).released ≡ false → images.IsLaidOut c w.now.words run (placed_at xs i)
   laid_out i u =
       let a : PlacedAllocation = placed_at xs i in
       let s = standing i u in
@@ -189,11 +174,10 @@ module _ (c : Config) (w : World) (known : KnownWorld c w) (laid : LayoutStands 
 
   -- No unreleased allocation begins where another one would stand whose cell is the place's.
   place_alone : (b : PlacedAllocation) (place : Place) → b.ty < length c.types → b.released ≡ false
-      → b.base ≡ base_made (object_placed c b) place
-      → place.index < cells_made (object_placed c b) → place.page + pages_made (object_placed c b) ≤ c.pages
-      → place_stands w.now.words (object_placed c b) place ≡ true
-      → w.now.seats.holding.placing ≡ Used place → (i : ℕ) → (placed_at xs i).released ≡ false
-      → (placed_at xs i).base ≢ base_made (object_placed c b) place
+      → b.base ≡ base_made (object_placed c b) place → place.index < cells_made (object_placed c b)
+      → place.page + pages_made (object_placed c b) ≤ c.pages
+      → place_stands w.now.words (object_placed c b) place ≡ true → w.now.seats.holding.placing ≡ Used place → (i : ℕ)
+      → (placed_at xs i).released ≡ false → (placed_at xs i).base ≢ base_made (object_placed c b) place
   place_alone b place typed v base cell pages stand is i u same =
       let a : PlacedAllocation = placed_at xs i in
       let s = standing i u in
@@ -211,8 +195,7 @@ module _ (c : Config) (w : World) (known : KnownWorld c w) (laid : LayoutStands 
       (sym is) (inl refl) in
       let page : a.base / 64 ≡ place.page = ap (λ (x : Cell). x.page) cells ∙ at.0 in
       let index : (cell_of_allocation c a).index ≡ place.index = ap (λ (x : Cell). x.index) cells ∙ at.1 in
-      apart_across (claims_of c run xs)
-      (claims_placed (object_now c w.now) w.now.seats.holding.placing)
+      apart_across (claims_of c run xs) (claims_placed (object_now c w.now) w.now.seats.holding.placing)
       (claim_of c run a) (place_claim (object_now c w.now) place) laid.scene.apart
       (claim_among c run xs i u) among (page, index)
 
@@ -265,15 +248,13 @@ module _ (c : Config) (w : World) (known : KnownWorld c w) (laid : LayoutStands 
           | inl f ↦ inl (record { number = f.number; unreleased = f.unreleased; freed = f.freed; cell = f.cell })
           | inr r ↦ inr (released_is w cell ∙ r)
         ];
-        kept = λ i u. released_is w (cell_of_allocation c (placed_at xs i))
-            ∙ kept_at i u (is_phase w.now.words 4) refl;
+        kept = λ i u. released_is w (cell_of_allocation c (placed_at xs i)) ∙ kept_at i u (is_phase w.now.words 4) refl;
         zero_words = zeros_tell_the_images c w zeros;
         marks = marks;
       }
     where
       kept_at : (i : ℕ) → (placed_at xs i).released ≡ false → (b : Bool) → is_phase w.now.words 4 ≡ b
-          → is_released_in b w.now.words.snapshot w.now.words.marks
-          (cell_of_allocation c (placed_at xs i)).page
+          → is_released_in b w.now.words.snapshot w.now.words.marks (cell_of_allocation c (placed_at xs i)).page
           (cell_of_allocation c (placed_at xs i)).index ≡ false
       kept_at i u true e = q.kept e i u
       kept_at i u false e = refl

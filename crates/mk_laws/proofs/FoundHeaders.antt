@@ -77,8 +77,7 @@ unmapped_goes pages before after distance o large b a unmapped =
 
 unmaps_find : (c : Config) (w : Words) (freed : Option RunPages) (p n : ℕ)
     → ((run : RunPages) → freed ≡ Some run → RunHasObject w run) → Unmaps w freed p n → HeadFinds c.pages w p n
-unmaps_find c w freed p n runs u =
-    Unmapped (part_not_free o.object distance n after)
+unmaps_find c w freed p n runs u = Unmapped (part_not_free o.object distance n after)
     (unmapped_goes c.pages (header_at w p) n distance o.object o.large before after unmapped)
     (λ v y on is. run_cell_at c.pages (header_at w p) v distance o.object before o.large
     ∙ sym (run_cell_at c.pages n v distance o.object after o.large) ∙ is)
@@ -100,8 +99,7 @@ unmaps_find c w freed p n runs u =
     here = let le = u.next.from in omega arith
 
     before : ShowsPart o.object (p - u.run.page) (header_of (header_at w p))
-    before =
-        header_shows o.object (p - u.run.page) (header_at w p) o.sized within
+    before = header_shows o.object (p - u.run.page) (header_at w p) o.sized within
         (rw here at (o.headers (p - u.run.page) near))
 
     is : n ≡ unmapped_header (pages_made o.object) (p - u.run.page)
@@ -157,10 +155,7 @@ made_cell pages o first distance value x sized lt on is = (page, index)
         let class = small_cells o small in
         let some = some_cells (class_made o) (class_known o sized small).0 in
         let lies = lies_under under.0 (page_at_address value) (word_at_address value) x under.2 in
-        elim lies.known [
-          | inl none ↦ absurd (omega arith)
-          | inr known ↦ omega arith
-        ]
+        elim lies.known [ inl none ↦ absurd (omega arith) | inr known ↦ omega arith ]
 
     run_index : (b : Bool) → (if b then run_cell distance (page_at_address value) else None) ≡ Some x → x.index ≡ 0
     run_index false e = cc
@@ -184,12 +179,10 @@ made_cell pages o first distance value x sized lt on is = (page, index)
 
 first_marked : (w : Words) (o : Object) (place : Place) (k : ℕ) → is_phase w 1 ≡ true → is_marked_first w o place ≡ true
     → k < cells_made o → has_bit (slice_index w.marks place.page) k ≡ true
-first_marked w o place k one first lt =
-    elim (or_cases (not (is_phase w 1)) _ first) [
-      | inl out ↦ absurd (true≢false (sym one ∙ not-true (is_phase w 1) out))
-      | inr none ↦
-          fewer_bits (bits_made o) _ k (without_none (bits_made o) _ (eqb-true _ 0 none)) (made_bit o k lt)
-    ]
+first_marked w o place k one first lt = elim (or_cases (not (is_phase w 1)) _ first) [
+  | inl out ↦ absurd (true≢false (sym one ∙ not-true (is_phase w 1) out))
+  | inr none ↦ fewer_bits (bits_made o) _ k (without_none (bits_made o) _ (eqb-true _ 0 none)) (made_bit o k lt)
+]
 
 -- Its words are those of its pages.
 word_within : (o : Object) (k i : ℕ) → IsSized o → k < cells_made o → i < words_made o
@@ -212,8 +205,7 @@ word_within o k i sized lk li = elim (cases_Bool (is_small_object o)) [
 
 carves_find : (c : Config) (w : Words) (o : Object) (found : Option Place) (p n : ℕ) → IsSized o → is_phase w 1 ≡ true
     → ((place : Place) → found ≡ Some place → PlaceIsBare w o place) → Carves w o found p n → HeadFinds c.pages w p n
-carves_find c w o found p n sized one bare k =
-    Carved free (λ v x on is.
+carves_find c w o found p n sized one bare k = Carved free (λ v x on is.
     let cell = made_cell c.pages o k.place.page (p - k.place.page) v x sized near (on
     ∙ sym here) (subst (λ a. cell_at c.pages a v ≡ Some x) k.next.is is) in
     subst (λ q. has_bit (slice_index w.marks q) x.index ≡ true) (sym cell.0)
@@ -270,8 +262,7 @@ new_sized c f limits operands new = by f.op (undecided_new f new) operands
         let typed = (and_parts
         (nat_lt (q_of o) 8 && nat_lt (p_of o) 8 && nat_lt (r_of o) 8 && nat_lt (d_of o) 8 && nat_lt (g_of o) 64)
         (has_type c o) operands).1 in
-        subst (λ (x : Op). IsSized (object_made c x)) (sym at.op)
-        (limits.types at.ty []
+        subst (λ (x : Op). IsSized (object_made c x)) (sym at.op) (limits.types at.ty []
         (ltb-true at.ty (length c.types) (subst (λ (x : Op). has_type c x ≡ true) at.op typed))).0
 
 -- While a cycle marks, a `head` comes before the stop is wanted.

@@ -11,10 +11,7 @@ use Rattle.mk_laws.proofs.Standings.{in_turn_told, is_standing_under_turn}
 -- who holds the turn by what the protocol reads holds it by its call
 pub holds_is : (c : Config) (m : Moment) (seat : Seat) → Orderly c (view_of m) → HoldsTurn c (view_of m) seat
     → Holds c m seat
-holds_is c m (Caller k) o t = (
-  t.0,
-  sym (in_turn_told _ _ (not_astray c m o k t.0)) ∙ ap is_standing_under_turn t.1,
-)
+holds_is c m (Caller k) o t = (t.0, sym (in_turn_told _ _ (not_astray c m o k t.0)) ∙ ap is_standing_under_turn t.1)
 holds_is c m _ o t = t
 
 -- A holder's kind of step is the holder's.

@@ -1,15 +1,215 @@
 -- The law on longer lists.
-use Rattle.mk_laws.proofs.Vocabulary.{AreOfOthers, Config, Event, IsHistory, IsTidy, List, TalliesAreTidy, [], ap, left}
-use Rattle.mk_laws.proofs.Vocabulary.{refl, ◌++◌, ◌∷◌, ◌≡◌}
-use Rattle.mk_laws.proofs.Basics.{actor_of, is_holders}
+use Rattle.mk_laws.proofs.Vocabulary.{AreAdmitted, AreOfOthers, Bool, Caller, Config, Event, Flight, Holds, IsEnabled}
+use Rattle.mk_laws.proofs.Vocabulary.{IsHistory, IsInCall, IsLeft, IsTidy, List, None, Seat, Some, Steady, Step}
+use Rattle.mk_laws.proofs.Vocabulary.{TalliesAreTidy, TurnIsLeft, Word, Words, World, [], answer_decided, ap, asked}
+use Rattle.mk_laws.proofs.Vocabulary.{call_decided, cases_Bool, cell_freed, enabled_meets, entry_of, flight_of, found}
+use Rattle.mk_laws.proofs.Vocabulary.{frees, header_in, header_of, if◌then◌else◌, in_a_word, inl, inr, is_some}
+use Rattle.mk_laws.proofs.Vocabulary.{is_unmapped_header, left, ltb-true, never_behind, not, onward, page_met, progress}
+use Rattle.mk_laws.proofs.Vocabulary.{q_of, refl, refused, sees_double, subst, sym, target, true, word_accessed, ℕ}
+use Rattle.mk_laws.proofs.Vocabulary.{◌&&◌, ◌++◌, ◌<◌, ◌==◌, ◌∙◌, ◌∷◌, ◌≡◌}
+use Rattle.mk_laws.proofs.Basics.{InCall, Meets, actor_of, at_its_stage, calls_stand, in_call_told, is_call_stage}
+use Rattle.mk_laws.proofs.Basics.{is_holders, not_astray, operands_of, register_small, standing}
+use Rattle.mk_core.specs.declared.events.Answer.TheVariants as answer
 use Rattle.mk_core.specs.declared.events.Step.TheVariants as step
-use Rattle.mk_core.specs.LongerLists.{LongerListsGoOn}
-use Rattle.mk_laws.proofs.Reaching.{events_reach_the_table, others_leave_accesses}
-use Rattle.mk_laws.proofs.DecidesStill.{still_admitted, still_decides}
-use Rattle.mk_laws.proofs.EnabledStill.{enabled_still, left_to}
+use Rattle.mk_core.specs.declared.seats.Stage.TheVariants as stage
+use Rattle.mk_laws.proofs.Reaching.{others_leave_accesses, events_reach_the_table}
+use Rattle.mk_laws.proofs.Standings.{is_standing_in_call}
+use Rattle.mk_laws.proofs.CallSorts.{admitted_call, call_outside}
+use Rattle.mk_laws.proofs.AdmittedStill.{call_on}
+use Rattle.mk_laws.proofs.AskedStill.{asked_the_same}
+use Rattle.mk_laws.proofs.EnabledStill.{before, left_to, enabled_still}
 use Rattle.mk_laws.proofs.FramesHolders.{acts_as_holder, holds_is}
-use Rattle.mk_laws.proofs.LastEvents.{comes_last, goes_on_by, stands}
-use Rattle.mk_laws.proofs.TidyStill.{tallies_on, tidy_by_last}
+use Rattle.mk_laws.proofs.LastEvents.{Stands, stands, comes_last, goes_on_by}
+use Rattle.mk_laws.proofs.OtherCalls.{never_continues, registers_are_left}
+use Rattle.mk_laws.proofs.ProbesStill.{probe_still}
+use Rattle.mk_core.specs.Counts.{releases}
+use Rattle.mk_core.specs.Frames.{CountsAreLeft}
+use Rattle.mk_core.specs.LongerLists.{LongerListsGoOn}
+
+-- The call that an event decides after a list, it decides after what others did since, and it is admitted there.
+
+-- The word that a `probe` finds is a header of a page that the call meets.
+abbrev probed : Words → Flight → Bool
+probed x f = is_unmapped_header (header_in x (page_met f))
+
+-- one event of a caller, in words that say which event it is
+abbrev of_caller : ℕ → Step → Event
+of_caller k x = record { seat = Caller k; step = x }
+
+module _ (c : Config) (es more : List Event) (k : ℕ) (x : Step) (h : IsHistory c (es ++ more))
+    (others : AreOfOthers (Caller k ∷ []) more)
+    (on : IsEnabled c (left c es).now (record { seat = Caller k; step = x }))
+    (admitted : AreAdmitted c.globals (never_behind c es)
+    (asked (call_decided c (left c es).now (record { seat = Caller k; step = x })))) where
+  abbrev w : World
+  w = left c es
+
+  abbrev v : World
+  v = left c (es ++ more)
+
+  abbrev f : Flight
+  f = flight_of w.now (Caller k)
+
+  here : Stands c es
+  here = stands c es (before c es more (of_caller k x) h others)
+
+  there : Stands c (es ++ more)
+  there = stands c (es ++ more) h
+
+  kept : IsLeft c (Caller k) es (es ++ more)
+  kept = left_to c es more (of_caller k x) h others
+
+  meets : Meets c w.now (Caller k) x
+  meets = enabled_meets c w.now (of_caller k x) on
+
+  lt : k < c.callers
+  lt = ltb-true k c.callers meets.seat
+
+  holding : is_holders x ≡ true → Holds c w.now (Caller k)
+  holding is = holds_is c w.now (Caller k) here.known.now.orderly (acts_as_holder c w.now (Caller k) x
+      (actor_of c w.now (Caller k) x here.known.now.orderly meets) is)
+
+  same_word : word_accessed c v.now (of_caller k x) ≡ word_accessed c w.now (of_caller k x)
+  same_word = (others_leave_accesses c es more (of_caller k x) h.within_limits h.enabled others on).word
+
+  -- An own register shows what it did.
+  finds_register : x ≡ step.Reg → found c v.now (of_caller k x) ≡ found c w.now (of_caller k x)
+  finds_register is = rw same_word (rw is (kept.own.registers k _ refl
+      (register_small f f.stage (operands_of c f.op (here.known.now.operands k)))))
+
+  -- A page shows the call whether it is unmapped, as it did.
+
+  at_probe : x ≡ step.Probe → f.stage ≡ stage.Probe
+  at_probe is = at_its_stage f.stage f.op step.Probe refl (rw is at meets).order
+
+  in_call : x ≡ step.Probe → standing f ≡ InCall
+  in_call is = calls_stand f.stage f.op (ap is_call_stage (at_probe is))
+      (not_astray c w.now here.known.now.orderly k lt)
+
+  is_in : x ≡ step.Probe → IsInCall w.now (Caller k)
+  is_in is = sym (in_call_told f.stage f.op (not_astray c w.now here.known.now.orderly k lt))
+      ∙ ap is_standing_in_call (in_call is)
+
+  pub probes_the_same : x ≡ step.Probe → probed v.now.words f ≡ probed w.now.words f
+  probes_the_same is = elim (cases_Bool (probed w.now.words f)) [
+    | inr mapped ↦ (kept.in_call k refl (is_in is)).mapped (page_met f) mapped ∙ sym mapped
+    | inl unmapped ↦
+        let out = call_outside f.op f.stage (ap is_call_stage (at_probe is))
+        (not_astray c w.now here.known.now.orderly k lt) in
+        let decides : AreAdmitted c.globals (never_behind c es) (asked (entry_of k f.op (Some answer.Fault))) =
+        subst (λ (b : Bool). AreAdmitted c.globals (never_behind c es)
+        (asked (entry_of k f.op (if b then refused f answer.Fault else onward f None).answer))) unmapped
+        (subst (λ (s : Step). AreAdmitted c.globals (never_behind c es) (asked (call_decided c w.now (of_caller k s))))
+        is admitted) in
+        let register =
+        registers_are_left c es more k h others (q_of f.op) (operands_of c f.op (here.known.now.operands k)).q in
+        probe_still c w v (never_behind c es) (never_behind c (es ++ more)) here.known there.known here.all there.all k
+        lt kept.own.flight (at_probe is)
+        (never_continues c es more) register (admitted_call c.globals (never_behind c es) k f.op answer.Fault out
+        decides) unmapped ∙ sym unmapped
+  ]
+
+  finds_header : x ≡ step.Probe → is_unmapped_header (header_of (found c v.now (of_caller k x)))
+      ≡ is_unmapped_header (header_of (found c w.now (of_caller k x)))
+  finds_header is = rw same_word (rw is (probes_the_same is))
+
+  -- The turn's holder sees the same freed bits and target.
+
+  sees_freed : (y : Word) → x ≡ step.Look y
+      → sees_double v.now.words (target c.pages v.now.words f) y ≡ sees_double w.now.words
+      (target c.pages w.now.words f) y
+  sees_freed y is = ap (λ (s : Steady). sees_double (record w.now.words { pages = s.pages; freed = s.freed })
+      (target c.pages (record w.now.words { pages = s.pages; freed = s.freed }) f) y)
+      (kept.turn (holding (ap is_holders is))).0.steady
+
+  frees_the_same : (p n : ℕ) → x ≡ step.Quar p n
+      → cell_freed c.pages v.now.words f p n ≡ cell_freed c.pages w.now.words f p n
+  frees_the_same p n is = ap (λ (s : Steady). if not (s.phase == 4)
+      && frees (record w.now.words { pages = s.pages; freed = s.freed; snapshot = s.snapshot })
+      (target c.pages (record w.now.words { pages = s.pages; freed = s.freed; snapshot = s.snapshot }) f) p n
+      then target c.pages (record w.now.words { pages = s.pages; freed = s.freed; snapshot = s.snapshot }) f else None)
+      (kept.turn (holding (ap is_holders is))).0.steady
+
+  pub caller_asks_the_same : asked (call_decided c v.now (of_caller k x)) ≡ asked (call_decided c w.now (of_caller k x))
+  caller_asks_the_same =
+      ap (λ (g : Flight). asked (entry_of k g.op (progress c v.now g (found c v.now (of_caller k x)) x).answer))
+      kept.own.flight
+      ∙ asked_the_same c w.now v.now k f (found c w.now (of_caller k x)) (found c v.now (of_caller k x)) x
+      (record { reg = finds_register; probe = finds_header; look = sees_freed; quar = frees_the_same })
+
+  pub caller_is_admitted : AreAdmitted c.globals (never_behind c (es ++ more))
+      (asked (call_decided c v.now (of_caller k x)))
+  caller_is_admitted = rw caller_asks_the_same (call_on c.globals (never_behind c es) _ k (never_continues c es more)
+      (registers_are_left c es more k h others) here.all.mirrors.typed f.op _ admitted)
+
+  -- whether a `probe` decides
+  pub caller_decides_the_same : x ≡ step.Probe
+      → is_some (answer_decided c v.now (of_caller k x)) ≡ is_some (answer_decided c w.now (of_caller k x))
+  caller_decides_the_same is = subst (λ (s : Step). is_some (answer_decided c v.now (of_caller k s))
+      ≡ is_some (answer_decided c w.now (of_caller k s))) (sym is)
+      (ap (λ (g : Flight). is_some (if probed v.now.words g then refused g answer.Fault else onward g
+      None).answer) kept.own.flight
+      ∙ ap (λ (b : Bool). is_some (if b then refused f answer.Fault else onward f None).answer) (probes_the_same is))
+
+pub still_admitted : (c : Config) (es more : List Event) (seat : Seat) (x : Step) → IsHistory c (es ++ more)
+    → AreOfOthers (seat ∷ []) more → IsEnabled c (left c es).now (record { seat = seat; step = x })
+    → AreAdmitted c.globals (never_behind c es)
+    (asked (call_decided c (left c es).now (record { seat = seat; step = x })))
+    → AreAdmitted c.globals (never_behind c (es ++ more))
+    (asked (call_decided c (left c (es ++ more)).now (record { seat = seat; step = x })))
+still_admitted c es more (Caller k) x h others on admitted = caller_is_admitted c es more k x h others on admitted
+still_admitted c es more _ x h others on admitted = tt
+
+pub still_decides : (c : Config) (es more : List Event) (seat : Seat) (x : Step) → IsHistory c (es ++ more)
+    → AreOfOthers (seat ∷ []) more → IsEnabled c (left c es).now (record { seat = seat; step = x })
+    → AreAdmitted c.globals (never_behind c es)
+    (asked (call_decided c (left c es).now (record { seat = seat; step = x }))) → x ≡ step.Probe
+    → is_some (answer_decided c (left c (es ++ more)).now (record { seat = seat; step = x }))
+    ≡ is_some (answer_decided c (left c es).now (record { seat = seat; step = x }))
+still_decides c es more (Caller k) x h others on admitted is =
+    caller_decides_the_same c es more k x h others on admitted is
+still_decides c es more _ x h others on admitted is = refl
+
+-- A `give` that keeps a tidy list tidy does so after what others did since: they leave the tallies, and what these
+-- count.
+
+-- The event in the middle is the last, or stands before it.
+
+data SplitsLast (xs : List Event) (e : Event) (ys : List Event) (x : Event) : Type 0 where
+  AtLast : ys ≡ xs → x ≡ e → SplitsLast xs e ys x
+  Before : (zs : List Event) → xs ≡ ys ++ x ∷ zs → SplitsLast xs e ys x
+
+one_longer : (a b : Event) (xs : List Event) (e : Event) (ys : List Event) (x : Event) → a ≡ b → SplitsLast xs e ys x
+    → SplitsLast (a ∷ xs) e (b ∷ ys) x
+one_longer a b xs e ys x same (AtLast all is) = AtLast (cc) is
+one_longer a b xs e ys x same (Before zs is) = Before zs (cc)
+
+splits_last : (xs : List Event) (e : Event) (ys : List Event) (x : Event) (zs : List Event)
+    → xs ++ e ∷ [] ≡ ys ++ x ∷ zs → SplitsLast xs e ys x
+splits_last [] e [] x zs is = AtLast refl (cc)
+splits_last [] e (y ∷ []) x zs is = cc
+splits_last [] e (y ∷ z ∷ ys) x zs is = cc
+splits_last (a ∷ xs) e [] x zs is = Before xs (cc)
+splits_last (a ∷ xs) e (y ∷ ys) x zs is = one_longer a y xs e ys x (cc) (splits_last xs e ys x zs (cc))
+
+pub tallies_on : (c : Config) (es fs : List Event) → TurnIsLeft (left c es) (left c fs) → CountsAreLeft c es fs
+    → TalliesAreTidy c es → TalliesAreTidy c fs
+tallies_on c es fs kept counts tidy =
+    record {
+      cycles = ap (λ (s : Steady). s.cycles) kept.steady ∙ tidy.cycles ∙ ap in_a_word (sym counts.ends);
+      released = ap (λ (s : Steady). s.released) kept.steady ∙ tidy.released
+          ∙ ap (λ (s : Steady). in_a_word (releases s.allocations)) (sym kept.steady);
+      full = ap (λ (s : Steady). s.full) kept.steady ∙ tidy.full ∙ ap in_a_word (sym counts.fulls);
+    }
+
+-- The tallies are as they should be before each `give` of the longer list, and before the event where it is one.
+pub tidy_by_last : (c : Config) (xs : List Event) (e : Event) → IsTidy c xs → (e.step ≡ step.Give → TalliesAreTidy c xs)
+    → IsTidy c (xs ++ e ∷ [])
+tidy_by_last c xs e tidy last before x behind is give = by (splits_last xs e before x behind is)
+  where
+    by : SplitsLast xs e before x → TalliesAreTidy c before
+    by (AtLast all it) = rw all (last (rw (← it) give))
+    by (Before zs at) = tidy before x zs at give
 
 -- A `give` finds the tallies as its seat has found them.
 give_finds : (c : Config) (es more : List Event) (e : Event) → IsHistory c (es ++ e ∷ []) → IsHistory c (es ++ more)

@@ -63,8 +63,7 @@ begins_there w o base n p k x at known low high = elim (cases_eq x.distance 0) [
       ≡ cells_under (header_in w (n / 64)) = ap (λ q. cells_under (header_in w q)) (sym at) in
       absurd (omega arith)
   | inl first ↦
-      let words : words_under (header_in w p) ≡ words_made o =
-      ap (λ q. words_under (header_in w q)) (sym at)
+      let words : words_under (header_in w p) ≡ words_made o = ap (λ q. words_under (header_in w q)) (sym at)
       ∙ part_words o (header_in w (n / 64)) (subst (λ d. ShowsPart o d (header_in w (n / 64))) first x.part) in
       let page = x.page in
       let from = x.from in
@@ -176,9 +175,8 @@ module _ (c : Config) (w : World) (n : NeverState) (known : KnownWorld c w) (all
 
   -- So a word of a cell that isn't 0 says that the cell is taken.
   pub cell_of_word : phase_of w.now.words ≢ 4 → (cell : Cell)
-      → cell.index < cells_under (header_in w.now.words cell.page)
-      → (i : ℕ) → i < cell_words w.now.words cell → slice_index w.now.words.heap (first_word w.now.words cell + i) ≢ 0
-      → IsTaken w cell
+      → cell.index < cells_under (header_in w.now.words cell.page) → (i : ℕ) → i < cell_words w.now.words cell
+      → slice_index w.now.words.heap (first_word w.now.words cell + i) ≢ 0 → IsTaken w cell
   cell_of_word quiet cell lt i near some =
       let x : ℕ = first_word w.now.words cell + i in
       let one = of_one c w n known all quiet x some in

@@ -1,21 +1,36 @@
 -- What a Free frees, and the answer Double.
-use Rattle.mk_laws.proofs.Vocabulary.{Bool, Cell, Config, Flight, ImagePremises, IsSafe, IsSound, List, Mirrors}
-use Rattle.mk_laws.proofs.Vocabulary.{NeverAllocation, NeverState, None, Null, Num, Op, Option, PlacedAllocation, Ptr}
-use Rattle.mk_laws.proofs.Vocabulary.{Some, Value, Words, World, address_of, after_free, allocation_at, and_from}
-use Rattle.mk_laws.proofs.Vocabulary.{and_parts, ap, arith, bases_of, cases_Bool, cases_eq, cell_of_allocation}
-use Rattle.mk_laws.proofs.Vocabulary.{changed_at, eq-eqb, eqb-true, false, false≢true, first_word, flight_among}
-use Rattle.mk_laws.proofs.Vocabulary.{freed_leaves, freed_released, freed_where_it_stands, if◌then◌else◌, image_of}
-use Rattle.mk_laws.proofs.Vocabulary.{image_scene_of, inl, inr, is_freed, is_past_probe, is_put, is_released_cell}
-use Rattle.mk_laws.proofs.Vocabulary.{is_run_cell, map, nat_lt, no_allocation, not, not-true, placed_at, pointed_cell}
-use Rattle.mk_laws.proofs.Vocabulary.{set-get_or, slice_set, stands_in, subst, sym, true, with_freed as never_freed, ℕ}
-use Rattle.mk_laws.proofs.Vocabulary.{◌+◌, ◌==◌, ◌∙◌, ◌≡◌, ◌≢◌}
+use Rattle.mk_laws.proofs.Vocabulary.{Bool, Cell, Config, Flight, ImagePremises, IsSafe, IsSound, LeavesPlaces, List}
+use Rattle.mk_laws.proofs.Vocabulary.{Mirrors, NeverAllocation, NeverState, None, Null, Num, Op, Option}
+use Rattle.mk_laws.proofs.Vocabulary.{PlacedAllocation, Ptr, Some, Value, Words, World, [], address_of, after_free}
+use Rattle.mk_laws.proofs.Vocabulary.{allocation_at, and_from, and_parts, ap, arith, bases_of, cases_Bool, cases_eq}
+use Rattle.mk_laws.proofs.Vocabulary.{cell_of_allocation, changed_at, eq-eqb, eqb-true, false, false≢true, first_word}
+use Rattle.mk_laws.proofs.Vocabulary.{flight_among, freed_leaves, freed_released, freed_where_it_stands, if◌then◌else◌}
+use Rattle.mk_laws.proofs.Vocabulary.{image_of, image_scene_of, inl, inr, is_freed, is_past_probe, is_put}
+use Rattle.mk_laws.proofs.Vocabulary.{is_released_cell, is_run_cell, length-map, map, nat_lt, no_allocation, not}
+use Rattle.mk_laws.proofs.Vocabulary.{not-true, placed_at, pointed_cell, refl, set-get_or, slice_set, stands_in, subst}
+use Rattle.mk_laws.proofs.Vocabulary.{sym, true, with_freed as never_freed, ℕ, ◌+◌, ◌==◌, ◌∙◌, ◌∷◌, ◌≡◌, ◌≢◌}
 use Rattle.mk_laws.proofs.Basics.{Frees, KnownWorld, Move, Ready, Stands, base_at, exists_placed, goes_bare}
 use Rattle.mk_laws.proofs.Basics.{pointed_word, words_fit}
+use Rattle.mk_laws.proofs.ImagesMoves.{SamePlaces, is_bare, Decides}
 use Rattle.mk_never.specs.declared.operations.Reply.TheVariants as reply
 use Rattle.mk_never.specs.NeverHeap.{free_reply}
-use Rattle.mk_laws.proofs.ImagesMoves.{is_bare, Decides}
 use Rattle.mk_laws.proofs.ImagesBefore.{words_are, first_in}
-use Rattle.mk_laws.proofs.ImagesKeptPlaces.{same_places}
+
+-- Allocations that change one by one, and stay at their places.
+
+same_bases : (change : PlacedAllocation → PlacedAllocation) (xs : List PlacedAllocation) → LeavesPlaces change
+    → bases_of (map change xs) ≡ bases_of xs
+same_bases change [] h = refl
+same_bases change (a ∷ xs) h = rw (h.base a) (rw (same_bases change xs h))
+
+pub same_places : (change : PlacedAllocation → PlacedAllocation) (xs : List PlacedAllocation) → LeavesPlaces change
+    → SamePlaces xs (map change xs)
+same_places change xs h =
+    record {
+      bases = same_bases change xs h;
+      count = length-map xs change;
+      each = λ i. rw (changed_at change xs i h.none) (h.ty (placed_at xs i));
+    }
 
 abbrev is_freed_in : Words → Option Cell → Bool
 is_freed_in w (Some cell) = is_freed w cell
@@ -47,17 +62,14 @@ module _ (c : Config) (w : World) (n : NeverState) (known : KnownWorld c w) (mir
   same_first a b ua ub e = elim (cases_eq b a) [ inl x ↦ x | inr ne ↦ absurd (st.apart b a ub ua ne e) ]
 
   pub free_by : (others : ImagePremises c w) (k : ℕ) (o : Op) (f : Flight) (p : ℕ) (cell : Cell) (v : Value)
-      → Decides (image_scene_of w) n k f → IsSound n v → IsSafe safe v
-      → p ≡ image_of (bases_of w.allocations) v → p ≢ 0
+      → Decides (image_scene_of w) n k f → IsSound n v → IsSafe safe v → p ≡ image_of (bases_of w.allocations) v → p ≢ 0
       → pointed_cell c.pages w.now.words.pages p ≡ Some cell → is_freed w.now.words cell ≡ false
       → (is_run_cell w.now.words (Some cell) ≡ true → (j : ℕ) → j ≢ k
-      → is_past_probe (flight_among w.now.seats.flights j).stage ≡ false)
-      → Move safe (image_scene_of w) n
+      → is_past_probe (flight_among w.now.seats.flights j).stage ≡ false) → Move safe (image_scene_of w) n
       (record (image_scene_of w) {
         flights = slice_set w.now.seats.flights k f;
         allocations = map (freed_where_it_stands w.now.words (Some cell)) w.allocations;
-      }) (after_free n v)
-      × (free_reply n v ≡ reply.Done)
+      }) (after_free n v) × (free_reply n v ≡ reply.Done)
   free_by others k o f p cell Null at sound is e ne points not_freed quiet = absurd (ne e)
   free_by others k o f p cell (Num m) at sound is e ne points not_freed quiet = absurd sound
   free_by others k o f p cell (Ptr a t x) at sound is e ne points not_freed quiet =
@@ -65,8 +77,7 @@ module _ (c : Config) (w : World) (n : NeverState) (known : KnownWorld c w) (mir
       let lt = exists_placed w.allocations a u in
       let here = pointer_cell a t x p sound is e in
       let cells : Some cell ≡ Some (cell_of_allocation c (placed a)) = sym points ∙ here in
-      let first : first_word w.now.words cell ≡ (placed a).base = ap (first_in w.now.words) cells
-      ∙ st.first a u in
+      let first : first_word w.now.words cell ≡ (placed a).base = ap (first_in w.now.words) cells ∙ st.first a u in
       let leaves = freed_leaves w.now.words (Some cell) in
       let its : (placed a).freed ≡ false = elim (cases_Bool (placed a).freed) [
         | inl yes_freed ↦
@@ -78,46 +89,36 @@ module _ (c : Config) (w : World) (n : NeverState) (known : KnownWorld c w) (mir
             (same_places (freed_where_it_stands w.now.words (Some cell)) w.allocations leaves)
             (λ b. ap (λ (y : PlacedAllocation). y.released)
             (changed_at (freed_where_it_stands w.now.words (Some cell)) w.allocations b leaves.none)
-            ∙ freed_released w.now.words (Some cell) (placed b))
-            sound.0
+            ∙ freed_released w.now.words (Some cell) (placed b)) sound.0
             (λ b ne2. ap (λ (y : PlacedAllocation). y.freed)
             (changed_at (freed_where_it_stands w.now.words (Some cell)) w.allocations b leaves.none)
             ∙ ap (λ t. (if t then record (placed b) { freed = true; fresh = true }
-            else placed b).freed) (apart_from b a cell u first ne2))
-            (ap (λ (y : PlacedAllocation). y.freed)
+            else placed b).freed) (apart_from b a cell u first ne2)) (ap (λ (y : PlacedAllocation). y.freed)
             (changed_at (freed_where_it_stands w.now.words (Some cell)) w.allocations a leaves.none)
-            ∙ ap (λ t. (if t then record (placed a) { freed = true; fresh = true }
-            else placed a).freed)
-            (and_from (not (placed a).released)
-            ((placed a).base == first_word w.now.words cell) (ap not u)
+            ∙ ap (λ t. (if t then record (placed a) { freed = true; fresh = true } else placed a).freed)
+            (and_from (not (placed a).released) ((placed a).base == first_word w.now.words cell) (ap not u)
             (eq-eqb (placed a).base (first_word w.now.words cell) (sym first))))
             (λ un. quiet (ap (is_run_cell w.now.words) cells
             ∙ st.run a u (ap (λ l. nat_lt 32 l) (sym (words_are c w n known mirrors a lt)) ∙ un))),
         ap (λ b. if b then reply.Double else reply.Done) (sym (mirrors.twins.freed a lt) ∙ its),
       )
     where
-      apart_from : (b a : ℕ) (cell : Cell) → (placed a).released ≡ false
-          → first_word w.now.words cell ≡ (placed a).base → b ≢ a
-          → stands_in w.now.words cell (placed b) ≡ false
+      apart_from : (b a : ℕ) (cell : Cell) → (placed a).released ≡ false → first_word w.now.words cell ≡ (placed a).base
+          → b ≢ a → stands_in w.now.words cell (placed b) ≡ false
       apart_from b a cell ua first ne = elim (cases_Bool (stands_in w.now.words cell (placed b))) [
         | inl h ↦
-            let parts = and_parts (not (placed b).released)
-            ((placed b).base == first_word w.now.words cell) h in
+            let parts = and_parts (not (placed b).released) ((placed b).base == first_word w.now.words cell) h in
             absurd (st.apart b a (not-true (placed b).released parts.0) ua ne
             (eqb-true (placed b).base (first_word w.now.words cell) parts.1 ∙ first))
         | inr h ↦ h
       ]
 
   pub double_by : (others : ImagePremises c w) (k : ℕ) (f : Flight) (p : ℕ) (cell : Cell) (v : Value)
-      → is_put (flight_among w.now.seats.flights k).stage ≡ false
-      → is_bare f.stage ≡ true → IsSound n v → IsSafe safe v
+      → is_put (flight_among w.now.seats.flights k).stage ≡ false → is_bare f.stage ≡ true → IsSound n v → IsSafe safe v
       → p ≡ image_of (bases_of w.allocations) v → p ≢ 0 → pointed_cell c.pages w.now.words.pages p ≡ Some cell
-      → is_freed w.now.words cell ≡ true
-      → Move safe (image_scene_of w) n (record (image_scene_of w) {
-        flights =
-            slice_set w.now.seats.flights k f;
-      }) (after_free n v)
-      × (free_reply n v ≡ reply.Double)
+      → is_freed w.now.words cell ≡ true → Move safe (image_scene_of w) n (record (image_scene_of w) {
+        flights = slice_set w.now.seats.flights k f;
+      }) (after_free n v) × (free_reply n v ≡ reply.Double)
   double_by others k f p cell Null was bare sound is e ne points is_free = absurd (ne e)
   double_by others k f p cell (Num m) was bare sound is e ne points is_free = absurd sound
   double_by others k f p cell (Ptr a t x) was bare sound is e ne points is_free =
@@ -125,8 +126,7 @@ module _ (c : Config) (w : World) (n : NeverState) (known : KnownWorld c w) (mir
       let lt = exists_placed w.allocations a u in
       let here = pointer_cell a t x p sound is e in
       let cells : Some cell ≡ Some (cell_of_allocation c (placed a)) = sym points ∙ here in
-      let first : first_word w.now.words cell ≡ (placed a).base = ap (first_in w.now.words) cells
-      ∙ st.first a u in
+      let first : first_word w.now.words cell ≡ (placed a).base = ap (first_in w.now.words) cells ∙ st.first a u in
       let its : (placed a).freed ≡ true = elim (others.freed cell is_free) [
         | inl at ↦ its_own a at.number u at.unreleased at.freed (sym (st.first at.number at.unreleased)
             ∙ ap (first_word w.now.words) at.cell ∙ first)
@@ -140,10 +140,8 @@ module _ (c : Config) (w : World) (n : NeverState) (known : KnownWorld c w) (mir
         ap (λ b. if b then reply.Double else reply.Done) never,
       )
     where
-      its_own : (a b : ℕ) → (placed a).released ≡ false → (placed b).released ≡ false
-          → (placed b).freed ≡ true
-          → (placed b).base ≡ (placed a).base
-          → (placed a).freed ≡ true
+      its_own : (a b : ℕ) → (placed a).released ≡ false → (placed b).released ≡ false → (placed b).freed ≡ true
+          → (placed b).base ≡ (placed a).base → (placed a).freed ≡ true
       its_own a b ua ub fb e = ap (λ i. (placed i).freed) (sym (same_first a b ua ub e)) ∙ fb
 
       same_never : (a : ℕ) → (allocation_at n a).freed ≡ true → never_freed n a ≡ n

@@ -38,8 +38,7 @@ module _ (c : Config) (w : World) (n : NeverState) (known : KnownWorld c w) (all
   free_page : DirtyPagesHaveAllocations c w → (p : ℕ) → header_at w.now.words p ≡ 0 → HasNothing w.now.words p
   free_page dirty p z =
       record {
-        used =
-            free_unused (layout_scene_of c (object_now c w.now) (is_phase w.now.words 4) w.now.words.marks
+        used = free_unused (layout_scene_of c (object_now c w.now) (is_phase w.now.words 4) w.now.words.marks
             (ground_of w)) p all.order.laid.scene z;
         freed = zero_where_none (slice_index w.now.words.freed p) (none_freed p z);
         snapshot = zero_where_none (slice_index w.now.words.snapshot p)

@@ -106,8 +106,7 @@ module _ (c : Config) (w : World) (n : NeverState) (known : KnownWorld c w) (all
 pub of_worlds : {claim : Config → World → Type 0}
     → ((c : Config) (w : World) (n : NeverState) → KnownWorld c w → Invariant c w n → claim c w)
     → OfHistories (Leaves claim)
-of_worlds {claim} known c es h =
-    known c (left c es) (never_behind c es) (known_world c es h.within_limits h.enabled)
+of_worlds {claim} known c es h = known c (left c es) (never_behind c es) (known_world c es h.within_limits h.enabled)
     (histories_keep_the_invariant c es h)
 
 pub words_of_none_are_zero : OfHistories (Leaves WordsOfNoneAreZero)

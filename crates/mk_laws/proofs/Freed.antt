@@ -55,16 +55,14 @@ freeing_leaves w cell = record { places = freed_leaves w cell; released = λ a h
 
 -- What stands in the cell of an unreleased allocation has that cell.
 pub standing_cell : (c : Config) (o : Object) (w : World) (cell : Cell) → length w.now.words.pages ≡ c.pages
-    → IsCellOf c w.allocations cell → Laid c o false w (ground_of w)
-    → (i : ℕ) → (placed_at w.allocations i).released ≡ false
-    → stands_in w.now.words cell (placed_at w.allocations i) ≡ true
+    → IsCellOf c w.allocations cell → Laid c o false w (ground_of w) → (i : ℕ)
+    → (placed_at w.allocations i).released ≡ false → stands_in w.now.words cell (placed_at w.allocations i) ≡ true
     → cell_of_allocation c (placed_at w.allocations i) ≡ cell
 standing_cell c o w cell len own st i u h =
     let x = shown own.number own.unreleased in
     let a : PlacedAllocation = placed_at w.allocations own.number in
     let page : a.base / 64 ≡ cell.page = ap (λ (y : Cell). y.page) own.is in
-    let part : ShowsPart (object_placed c a) 0 (header_in w.now.words cell.page) =
-    rw page at
+    let part : ShowsPart (object_placed c a) 0 (header_in w.now.words cell.page) = rw page at
     (first_page_shows c w.now.words a x.sized (all_stand c o false w len st own.number own.unreleased).headers) in
     let cells = part_cells (object_placed c a) (header_in w.now.words cell.page) part in
     let index : (cell_of_allocation c a).index ≡ cell.index = ap (λ (y : Cell). y.index) own.is in
@@ -89,12 +87,10 @@ module _ (c : Config) (o : Object) (w : World) (cell : Cell) (limits : IsWithinL
   frees = freed_where_it_stands w.now.words (Some cell)
 
   abbrev Behind : Type 0
-  Behind =
-      Laid c o false w
+  Behind = Laid c o false w
       (record (ground_of w) { run = run_of_cell w.now.words (Some cell); allocations = map frees w.allocations })
 
-  stand : (i : ℕ) → (placed_at w.allocations i).released ≡ false
-      → IsStanding c w.now.words (placed_at w.allocations i)
+  stand : (i : ℕ) → (placed_at w.allocations i).released ≡ false → IsStanding c w.now.words (placed_at w.allocations i)
   stand = all_stand c o false w len st
 
   among : (i : ℕ) → (placed_at w.allocations i).released ≡ false
@@ -102,31 +98,26 @@ module _ (c : Config) (o : Object) (w : World) (cell : Cell) (limits : IsWithinL
   among i u = own_claim c o (ground_of w) _ (claim_among c w.now.seats.holding.freed w.allocations i u)
 
   sized : IsSized (object_placed c a)
-  sized = (st.scene.shown (claim_of c w.now.seats.holding.freed a)
-      (among own.number own.unreleased)).sized
+  sized = (st.scene.shown (claim_of c w.now.seats.holding.freed a) (among own.number own.unreleased)).sized
 
   page : a.base / 64 ≡ cell.page
   page = ap (λ (x : Cell). x.page) own.is
 
   part : ShowsPart (object_placed c a) 0 (header_in w.now.words cell.page)
-  part =
-      rw page at (first_page_shows c w.now.words a sized
-      (stand own.number own.unreleased).headers)
+  part = rw page at (first_page_shows c w.now.words a sized (stand own.number own.unreleased).headers)
 
   cell_of : (i : ℕ) → (placed_at w.allocations i).released ≡ false
       → stands_in w.now.words cell (placed_at w.allocations i) ≡ true
       → cell_of_allocation c (placed_at w.allocations i) ≡ cell
   cell_of = standing_cell c o w cell len own st
 
-  keeps : (b : PlacedAllocation) → b.released ≡ false
-      → (frees b).released ≡ false
+  keeps : (b : PlacedAllocation) → b.released ≡ false → (frees b).released ≡ false
   keeps b u = freed_released w.now.words (Some cell) b ∙ u
 
   modes : (run : Option RunPages) → ((i : ℕ) → (placed_at w.allocations i).released ≡ false
       → stands_in w.now.words cell (placed_at w.allocations i) ≡ true
       → is_small_object (object_placed c (placed_at w.allocations i)) ≡ false
-      → is_unmapping run ((placed_at w.allocations i).base / 64) ≡ true)
-      → Remodes c (ground_of w) run frees
+      → is_unmapping run ((placed_at w.allocations i).base / 64) ≡ true) → Remodes c (ground_of w) run frees
   modes run going =
       record {
         leaves = freeing_leaves w.now.words (Some cell);
@@ -148,13 +139,9 @@ module _ (c : Config) (o : Object) (w : World) (cell : Cell) (limits : IsWithinL
           moves a.freed a.freed (not (is_small_object (object_placed c a))) (is_unmapping run (a.base / 64))
           (object_placed c a) d h (λ e. e) (λ e f l. absurd (true≢false (sym f ∙ e))) has
 
-  by : (is_small_object (object_placed c a) ≡ true)
-      ⊎ (is_small_object (object_placed c a) ≡ false)
-      → Behind
-  by (inl small) =
-      rw (run_small (object_placed c a) (header_in w.now.words cell.page) cell.page part small)
-      (remoded c o false w.now.words.marks (ground_of w) None frees st
-      (modes None (λ i u h large.
+  by : (is_small_object (object_placed c a) ≡ true) ⊎ (is_small_object (object_placed c a) ≡ false) → Behind
+  by (inl small) = rw (run_small (object_placed c a) (header_in w.now.words cell.page) cell.page part small)
+      (remoded c o false w.now.words.marks (ground_of w) None frees st (modes None (λ i u h large.
       let there = cell_of i u h in
       let one =
       one_claim (claims_on c o (ground_of w)) (claim_of c w.now.seats.holding.freed (placed_at w.allocations i))
@@ -164,16 +151,13 @@ module _ (c : Config) (o : Object) (w : World) (cell : Cell) (limits : IsWithinL
   by (inr large) =
       let run : RunPages = record { page = cell.page; count = pages_made (object_placed c a) } in
       let is_run = run_large (object_placed c a) (header_in w.now.words cell.page) cell.page part large in
-      rw is_run
-      (remoded c o false w.now.words.marks (ground_of w) (Some run) frees st
+      rw is_run (remoded c o false w.now.words.marks (ground_of w) (Some run) frees st
       (modes (Some run) (λ i u h l. eq-eqb cell.page ((placed_at w.allocations i).base / 64)
       (sym (ap (λ (x : Cell). x.page) (cell_of i u h))))) (claimed_run run refl refl large))
     where
-      claimed_run : (run : RunPages) → run.page ≡ cell.page
-          → run.count ≡ pages_made (object_placed c a)
+      claimed_run : (run : RunPages) → run.page ≡ cell.page → run.count ≡ pages_made (object_placed c a)
           → is_small_object (object_placed c a) ≡ false
-          → IsClaimedRun (claims_of c (Some run) (map frees w.allocations))
-          run
+          → IsClaimedRun (claims_of c (Some run) (map frees w.allocations)) run
       claimed_run run at_page count large =
           let s = stand own.number own.unreleased in
           let in_cell : stands_in w.now.words cell a ≡ true =
@@ -183,9 +167,7 @@ module _ (c : Config) (o : Object) (w : World) (cell : Cell) (limits : IsWithinL
           cond-true (stands_in w.now.words cell a) freed a in_cell in
           record {
             claim = claim_of c (Some run) freed;
-            among =
-                rw same at
-                (changed_among c (Some run) frees w.allocations own.number
+            among = rw same at (changed_among c (Some run) frees w.allocations own.number
                 (freeing_leaves w.now.words (Some cell)) (keeps a own.unreleased));
             page = page ∙ sym at_page;
             count = sym count;
@@ -194,8 +176,7 @@ module _ (c : Config) (o : Object) (w : World) (cell : Cell) (limits : IsWithinL
           }
 
   pub freed_terrain : Behind
-  freed_terrain =
-      by (cases_Bool (is_small_object (object_placed c a)))
+  freed_terrain = by (cases_Bool (is_small_object (object_placed c a)))
 
 -- The run is unmapped, and the call that freed it ends.
 pub gone_terrain : (c : Config) (o : Object) (releasing : Bool) (w : World)
@@ -241,8 +222,7 @@ gone_terrain c o releasing w unmapped st =
         let sx = st.scene.shown x.claim ix in
         let some = pages_some x.claim.object sx.sized in
         let xp = x.page in
-        let one =
-        shares_run (layout_scene_of c o releasing w.now.words.marks (ground_of w))
+        let one = shares_run (layout_scene_of c o releasing w.now.words.marks (ground_of w))
         (claim_of c w.now.seats.holding.freed a)
         x.claim 0 0 st.scene ia ix large (omega arith) (omega arith) (omega arith) in
         let count : pages_made ob ≡ run.count = ap (λ (z : Claim). pages_made z.object) (sym one) ∙ x.count in

@@ -71,11 +71,10 @@ was_freed : (c : Config) (w : World) (seat : Seat) (f : Flight) (x : Step) (run 
     → freed_behind c w seat f x ≡ Some run → WasFreed c w f run x
 was_freed c w seat f (step.Take o) run e = Before (take_freed _ w.now.seats.holding run e) refl
 was_freed c w seat f step.Give run e = cc
-was_freed c w seat f (step.Quar p v) run e =
-    elim (else_freed _ w.now.seats.holding.freed run e) [
-      | inl new ↦ Now p v new
-      | inr old ↦ Before old refl
-    ]
+was_freed c w seat f (step.Quar p v) run e = elim (else_freed _ w.now.seats.holding.freed run e) [
+  | inl new ↦ Now p v new
+  | inr old ↦ Before old refl
+]
 was_freed c w seat f _ run e = Before e refl
 
 -- Who is under the turn after a step of its own was so, where somebody had the turn.
@@ -89,13 +88,11 @@ holds_now c v seat k e hold = by (rw e at hold)
 
 set_under : (v : View) (j k : ℕ) (f : Flight) (s : Standing) → standing f ≡ s → s ≢ UnderTurn
     → standing (slice_index_or (slice_set v.flights j f) k at_rest) ≡ UnderTurn → standing (flight_in v k) ≡ UnderTurn
-set_under v j k f s is ne =
-    set_by (λ (x : Flight). standing x ≡ UnderTurn
+set_under v j k f s is ne = set_by (λ (x : Flight). standing x ≡ UnderTurn
     → standing (flight_in v k) ≡ UnderTurn) v.flights j k f at_rest (λ e h. absurd (ne (sym is ∙ h))) (λ h. h)
 
 was_under : (c : Config) (v : View) (seat : Seat) (u : View) (k : ℕ) → ProtocolMove c v seat u → seat ≡ Caller k
-    → v.turn ≢ 0
-    → standing (flight_in u k) ≡ UnderTurn → standing (flight_in v k) ≡ UnderTurn
+    → v.turn ≢ 0 → standing (flight_in u k) ≡ UnderTurn → standing (flight_in v k) ≡ UnderTurn
 was_under c v seat u k (Enters {k = j} f a b d g) e t h = set_under v j k f InCall g (λ x. cc) h
 was_under c v seat u k (GoesOn {k = j} f a b d) e t h = set_under v j k f InCall d (λ x. cc) h
 was_under c v seat u k (Leaves {k = j} a b) e t h = set_under v j k at_rest Resting refl (λ x. cc) h
@@ -182,8 +179,7 @@ module _ (c : Config) (w : World) (n : NeverState) (known : KnownWorld c w) (oth
 
   -- the target of a Free that is a run
   run_target : (k r : ℕ) (v : Value) (p : ℕ) (cell : Cell) (run : RunPages) → register_at n k r ≡ v → IsSound n v
-      → IsSafe mirrors.safe.0 v
-      → p ≡ image_of (bases_of w.allocations) v → p ≢ 0
+      → IsSafe mirrors.safe.0 v → p ≡ image_of (bases_of w.allocations) v → p ≢ 0
       → pointed_cell c.pages w.now.words.pages p ≡ Some cell → run_of_cell w.now.words (Some cell) ≡ Some run
       → PointsAtRun w n k r run
   run_target k r Null p cell run is sound s e ne points heads = absurd (ne e)
@@ -198,16 +194,14 @@ module _ (c : Config) (w : World) (n : NeverState) (known : KnownWorld c w) (oth
       let its = headed (header_in w.now.words (x.base / 64)) (x.base / 64) run (ap (run_of_cell w.now.words) (sym cells)
       ∙ heads) in
       let start : x.base % 64 ≡ 0 = elim (cases_Bool (is_small_object (object_placed c x))) [
-        | inl small ↦ absurd
-            (false≢true (sym (small_heads_none (object_placed c x) 0 _
+        | inl small ↦ absurd (false≢true (sym (small_heads_none (object_placed c x) 0 _
             (first_page_shows c w.now.words x sized h.headers) small).0 ∙ its.1))
         | inr large ↦ (run_begins (object_placed c x) x.base large h.stands.begins).1
       ] in
       record { number = a; ty = t; offset = o; is = is; base = omega (arith, its.0) }
 
   new_by : (k : ℕ) (s : Stage) (o : Op) (q p r l : ℕ) (cell : Cell) (run : RunPages)
-      → is_undecided_free (flight s o q p r l) ≡ true
-      → pointed_cell c.pages w.now.words.pages p ≡ Some cell
+      → is_undecided_free (flight s o q p r l) ≡ true → pointed_cell c.pages w.now.words.pages p ≡ Some cell
       → run_of_cell w.now.words (Some cell) ≡ Some run → CarriesOwn (bases_of w.allocations) n k (flight s o q p r l)
       → PointsAtRun w n k (p_of o) run
       × (register_at (after_calls n (asked (entry_of k o (Some answer.Done)))) k (p_of o) ≡ register_at n k (p_of o))
@@ -224,8 +218,7 @@ module _ (c : Config) (w : World) (n : NeverState) (known : KnownWorld c w) (oth
 
   -- what the group says after the step of a seat
   abbrev OwnsBehind : Seat → Step → RunPages → ℕ → Type 0
-  OwnsBehind seat x run k =
-      is_decided_free (flight_of (world_behind c w (event_of seat x)).now (Caller k)) ≡ true
+  OwnsBehind seat x run k = is_decided_free (flight_of (world_behind c w (event_of seat x)).now (Caller k)) ≡ true
       → PointsAtRun (world_behind c w (event_of seat x)) (never_after c w n (event_of seat x)) k
       (p_of (flight_of (world_behind c w (event_of seat x)).now (Caller k)).op) run
 
@@ -234,8 +227,7 @@ module _ (c : Config) (w : World) (n : NeverState) (known : KnownWorld c w) (oth
 
   -- the holder's own step, where the run was freed before
   own_old : (k : ℕ) (x : Step) (run : RunPages) → Meets c w.now (Caller k) x → GrowsBehind (Caller k) x
-      → w.now.seats.holding.freed ≡ Some run → gives x ≡ false
-      → OwnsBehind (Caller k) x run k
+      → w.now.seats.holding.freed ≡ Some run → gives x ≡ false → OwnsBehind (Caller k) x run k
   own_old k x run h grows old g free =
       let e = event_of (Caller k) x in
       let lt = ltb-true k c.callers h.seat in
@@ -354,6 +346,5 @@ module _ (c : Config) (w : World) (n : NeverState) (known : KnownWorld c w) (oth
 pub freed_run_stays : (c : Config) (w : World) (n : NeverState) (e : Event) → KnownWorld c w → ImagePremises c w
     → Mirrors c w n → Meets c w.now e.seat e.step
     → IsLonger (bases_of w.allocations) (bases_of (world_behind c w e).allocations)
-    → AreAdmitted c.globals n (asked (call_decided c w.now e))
-    → OwnsFreedRun (world_behind c w e) (never_after c w n e)
+    → AreAdmitted c.globals n (asked (call_decided c w.now e)) → OwnsFreedRun (world_behind c w e) (never_after c w n e)
 freed_run_stays c w n e known others mirrors h grows ad = owns c w n known others mirrors e.seat e.step h grows ad

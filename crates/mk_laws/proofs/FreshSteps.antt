@@ -112,8 +112,7 @@ module _ (c : Config) (w : World) (cell : Cell) (n : ℕ) (b : Before c w) (off 
 
   fresh_freed : fresh_words_of c (map (freed_where_it_stands w.now.words (Some cell)) w.allocations)
       ≡ fresh_words_of c w.allocations + words_freed w.now.words (Some cell)
-  fresh_freed =
-      fresh_more c (freed_where_it_stands w.now.words (Some cell)) w.allocations x.own.number
+  fresh_freed = fresh_more c (freed_where_it_stands w.now.words (Some cell)) w.allocations x.own.number
       (words_freed w.now.words (Some cell)) within
       (λ i ne. others_count i ne (stands_in w.now.words cell (placed_at w.allocations i)) refl) own_counts
 
@@ -132,8 +131,7 @@ quar_told c w seat p n b h order told = by (cell_freed c.pages w.now.words (flig
     by : (cell : Option Cell) → cell_freed c.pages w.now.words (flight_of w.now seat) p n ≡ cell
         → min (w.now.fresh_words + words_freed w.now.words cell) (2 ^ 64 - 1)
         ≡ in_a_word (fresh_words_of c (map (freed_where_it_stands w.now.words cell) w.allocations))
-    by None is =
-        none_added w.now.fresh_words (fresh_words_of c w.allocations) told
+    by None is = none_added w.now.fresh_words (fresh_words_of c w.allocations) told
         ∙ ap (λ (ys : List PlacedAllocation). in_a_word (fresh_words_of c ys))
         (sym (none_freed w.now.words w.allocations))
     by (Some cell) is =

@@ -18,13 +18,11 @@ module _ (c : Config) (w v : World) (kept : TurnIsLeft w v) where
   held_on j h = eq-eqb _ 2 (kept.held_gates j (eqb-true _ 2 h))
 
   free_on : (j : ℕ) → not (is_held w.now.words j) ≡ true → not (is_held v.now.words j) ≡ true
-  free_on j h =
-      ap not (ne_eqb _ 2 (kept.other_gates j (eqb-false _ 2 (not-true _ h))))
+  free_on j h = ap not (ne_eqb _ 2 (kept.other_gates j (eqb-false _ 2 (not-true _ h))))
 
   pub others_on : (s : Seat) → others_are_held c.callers w.now.words s ≡ true
       → others_are_held c.callers v.now.words s ≡ true
-  others_on s h =
-      all_below_on c.callers (λ j. is_number_of s j || is_held w.now.words j)
+  others_on s h = all_below_on c.callers (λ j. is_number_of s j || is_held w.now.words j)
       (λ j. is_number_of s j || is_held v.now.words j) (λ j lt. or_on (is_number_of s j) _ (is_number_of s j)
       _ (λ e. e) (held_on j)) h
 
@@ -38,17 +36,14 @@ module _ (c : Config) (w v : World) (kept : TurnIsLeft w v) where
 
   two_or : (s : Seat) → (not (is_phase w.now.words 2) || others_are_held c.callers w.now.words s) ≡ true
       → (not (is_phase v.now.words 2) || others_are_held c.callers v.now.words s) ≡ true
-  two_or s h =
-      or_on _ _ _ _ (λ e. rw phase_same e) (others_on s) h
+  two_or s h = or_on _ _ _ _ (λ e. rw phase_same e) (others_on s) h
 
   pub gates_on : (s : Seat) (f : Flight) (x : Step) → has_gates c w.now.words s f x ≡ true
       → has_gates c v.now.words s f x ≡ true
   gates_on s f step.Give h = none_on h
   gates_on s f (step.Look (word.Reg j r)) h = or_on (is_number_of s j) _ (is_number_of s j) _ (λ e. e) (held_on j) h
-  gates_on s f (step.Head p n) h =
-      or_on _ _ _ _ (λ e. e) (others_on s) h
-  gates_on s f (step.Quar p n) h =
-      or_on _ _ _ _ (λ e. ap not (run_cell_same f) ∙ e) (others_on s) h
+  gates_on s f (step.Head p n) h = or_on _ _ _ _ (λ e. e) (others_on s) h
+  gates_on s f (step.Quar p n) h = or_on _ _ _ _ (λ e. ap not (run_cell_same f) ∙ e) (others_on s) h
   gates_on s f (step.Hold j) h = free_on j h
   gates_on s f (step.Open j) h = held_on j h
   gates_on s f step.Close h = others_on s h

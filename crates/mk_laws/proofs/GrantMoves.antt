@@ -26,9 +26,8 @@ pub record FillsCell (c : Config) (w : Words) (a : PlacedAllocation) : Type 0 wh
   pub inside : a.base + storage_words c a ≤ 64 * c.pages
 
 pub fills_cell : (c : Config) (w : World) (a : PlacedAllocation) (place : Place) → KnownWorld c w
-    → a.ty < length c.types → a.released ≡ false
-    → a.base ≡ base_made (object_placed c a) place → IsPlaceOfNone c w (object_placed c a) place
-    → FillsCell c w.now.words a
+    → a.ty < length c.types → a.released ≡ false → a.base ≡ base_made (object_placed c a) place
+    → IsPlaceOfNone c w (object_placed c a) place → FillsCell c w.now.words a
 fills_cell c w a place known typed unreleased base h =
     let st = placed_stands c a place known.limits typed unreleased base h.index h.pages in
     let has = placed_headers c w.now.words a place known.limits typed base h.index h.stands in
@@ -42,10 +41,9 @@ module _ (c : Config) (w : World) (n : NeverState) (known : KnownWorld c w) (mir
     (others : ImagePremises c w) (st : Stands c w.now.words w.allocations) where
   -- the words of a place that is granted, while no run is freed
   pub place_is_zero : (a : PlacedAllocation) (place : Place) → ((run : RunPages) → w.now.seats.holding.freed ≢ Some run)
-      → phase_of w.now.words ≢ 4
-      → a.base ≡ base_made (object_placed c a) place → IsPlaceOfNone c w (object_placed c a) place
-      → FillsCell c w.now.words a
-      → (i : ℕ) → i < storage_words c a → slice_index w.now.words.heap (a.base + i) ≡ 0
+      → phase_of w.now.words ≢ 4 → a.base ≡ base_made (object_placed c a) place
+      → IsPlaceOfNone c w (object_placed c a) place → FillsCell c w.now.words a → (i : ℕ) → i < storage_words c a
+      → slice_index w.now.words.heap (a.base + i) ≡ 0
   place_is_zero a place no_run phase base h fills i lt = elim (cases_eq (slice_index w.now.words.heap (a.base + i)) 0) [
     | inl z ↦ z
     | inr ne ↦ absurd (by (others.zero_words (a.base + i) ne))
@@ -64,22 +62,19 @@ module _ (c : Config) (w : World) (n : NeverState) (known : KnownWorld c w) (mir
           unreleased_of : (r g : Bool) → (not r && not g) ≡ true → r ≡ false
           unreleased_of false g e = refl
           unreleased_of true g e = cc
-      by (OfReleased cell p r) =
-          phase (eqb-true (phase_of w.now.words) 4
+      by (OfReleased cell p r) = phase (eqb-true (phase_of w.now.words) 4
           (and_parts (is_phase w.now.words 4) (is_left_unmarked w.now.words cell) r).0)
       by (OfFreedRun run e is) = no_run run e
 
   -- a word that is wiped
   pub wiped_outside : (x : ℕ) → may_wipe c w.now x ≡ true → (a i : ℕ) → (placed_at w.allocations a).released ≡ false
-      → is_unmapped (allocation_at n a) ≡ false
-      → i < length (words_of n a) → (placed_at w.allocations a).base + i ≢ x
+      → is_unmapped (allocation_at n a) ≡ false → i < length (words_of n a) → (placed_at w.allocations a).base + i ≢ x
   wiped_outside x h a i u m li e =
       let lt = exists_placed w.allocations a u in
       let fits = words_fit c w n known mirrors a lt in
       let un = sym (unmapped_is c w n known mirrors a lt) ∙ m in
       let cell : pointed_cell c.pages w.now.words.pages (address_of x)
-      ≡ Some (cell_of_allocation c (placed_at w.allocations a)) =
-      rw (← e) (st.cell a i u (omega arith)) in
+      ≡ Some (cell_of_allocation c (placed_at w.allocations a)) = rw (← e) (st.cell a i u (omega arith)) in
       let mapped : is_unmapped_header (header_in w.now.words (x / 64)) ≡ false =
       rw (← e) (st.mapped a i u un (omega arith)) in
       elim (or_cases (is_some_and (is_released_cell w.now.words) (pointed_cell c.pages w.now.words.pages
@@ -104,8 +99,7 @@ module _ (c : Config) (w : World) (n : NeverState) (known : KnownWorld c w) (mir
           let low = leb-true run.page (x / 64) inside.0 in
           let high = ltb-true (x / 64 - run.page) run.count inside.1 in
           let word : header_at w.now.words (run.page + (x / 64 - run.page))
-          ≡ unmapped_header run.count (x / 64 - run.page) =
-          eqb-true _ _ (all_below-at run.count (x / 64 - run.page)
+          ≡ unmapped_header run.count (x / 64 - run.page) = eqb-true _ _ (all_below-at run.count (x / 64 - run.page)
           (stands w.now.words run.page (unmapped_header run.count)) parts.1 high) in
           let place : x / 64 ≡ run.page + (x / 64 - run.page) = omega arith in
           ap (λ p. is_unmapped_header (header_in w.now.words p)) place ∙ ap (λ y. is_unmapped_header (header_of y)) word

@@ -6,7 +6,7 @@ use Rattle.mk_laws.proofs.Vocabulary.{false, if◌then◌else◌, inl, inr, layo
 use Rattle.mk_laws.proofs.Vocabulary.{place_claim, placed_at, refl, suc, sym, true, true≢false, zero, ℕ, ◌++◌, ◌/◌, ◌<◌}
 use Rattle.mk_laws.proofs.Vocabulary.{◌∙◌, ◌∷◌, ◌≡◌, ◌⊎◌}
 use Rattle.mk_core.proofs.StandingAllocations.{made_begins}
-use Rattle.mk_laws.proofs.LayoutJoined.{among_back, among_front}
+use Rattle.mk_laws.proofs.Serving.{among_back, among_front}
 use Rattle.mk_laws.proofs.StandingClaims.{place_index}
 
 -- An allocation after a `grant` is one from before, or the new one.
@@ -89,8 +89,7 @@ granted_terrain c releasing marks t place a used is st =
 
     claims : claims_of c t.run t.allocations ++ place_claim (object_placed c a) place ∷ []
         ≡ claims_of c t.run (t.allocations ++ a ∷ []) ++ []
-    claims =
-        rw (← claim) (sym (pushed_claims c t.run t.allocations a is.unreleased)
+    claims = rw (← claim) (sym (pushed_claims c t.run t.allocations a is.unreleased)
         ∙ sym (append-nil (claims_of c t.run (t.allocations ++ a ∷ []))))
 
     gone : (r : Option RunPages) → RunStands (claims_of c t.run t.allocations) r
@@ -99,8 +98,7 @@ granted_terrain c releasing marks t place a used is st =
     gone (Some r) x =
         record {
           claim = x.claim;
-          among =
-              rw (pushed_claims c t.run t.allocations a is.unreleased)
+          among = rw (pushed_claims c t.run t.allocations a is.unreleased)
               (among_front (claims_of c t.run t.allocations) (claim_of c t.run a ∷ []) x.claim x.among);
           page = x.page;
           count = x.count;

@@ -65,8 +65,7 @@ granted_points c w n k after T s u = s.there.registers (8 * k + d) i (u, rw imag
         omega arith
 
     flight : flight_among v.now.seats.flights k ≡ record f { stage = stage.Give }
-    flight =
-        get_or-set_same w.now.seats.flights k (record f { stage = stage.Give }) at_rest
+    flight = get_or-set_same w.now.seats.flights k (record f { stage = stage.Give }) at_rest
         (let count = s.before.known.now.orderly.flights in omega (arith, there))
 
     image : image_of (bases_of v.allocations) (slice_index_or after.registers (8 * k + d) Null) ≡ address_of base
@@ -84,11 +83,9 @@ granted_points c w n k after T s u = s.there.registers (8 * k + d) i (u, rw imag
         ((address_points_into a.base (storage_of c a)).1 (omega arith, omega arith))
 
 pub new_is_touched : (c : Config) (w : World) (n : NeverState) (seat : Seat) (x : Step) (after : NeverState)
-    (T : ℕ → Type 0) (i : ℕ) → Steps c w n seat x after T
-    → x ≡ step.Grant → i ≡ length w.allocations → (placed_at (WorldBehind c w seat x).allocations i).released ≡ false
-    → T i
-new_is_touched c w n (Caller k) step.Grant after T i s is at u =
-    subst T (sym at) (granted_points c w n k after T s
+    (T : ℕ → Type 0) (i : ℕ) → Steps c w n seat x after T → x ≡ step.Grant → i ≡ length w.allocations
+    → (placed_at (WorldBehind c w seat x).allocations i).released ≡ false → T i
+new_is_touched c w n (Caller k) step.Grant after T i s is at u = subst T (sym at) (granted_points c w n k after T s
     (subst (λ j. (placed_at (WorldBehind c w (Caller k) step.Grant).allocations j).released ≡ false) at u))
 new_is_touched c w n (Marker k) step.Grant after T i s is at u = let kind = s.meets.kind in cc
 new_is_touched c w n Host step.Grant after T i s is at u = absurd (no_host _ s.meets.order)
@@ -105,9 +102,5 @@ pub points_behind : (c : Config) (w : World) (n : NeverState) (seat : Seat) (x :
 points_behind c w n seat x after T v s only b points = by (came_behind c w seat x b points.0)
   where
     by : Came w.allocations (WorldBehind c w seat x).allocations x b → T b
-    by (Stayed was same) =
-        only b (
-          was,
-          points_before c _ _ v same points.1,
-        )
+    by (Stayed was same) = only b (was, points_before c _ _ v same points.1)
     by (IsNew grant at) = new_is_touched c w n seat x after T b s grant at points.0

@@ -54,8 +54,7 @@ used_up c w f p n b =
 abbrev pub marked : Config → World → Flight → Bool → Ground
 marked c w f b =
     record (ground_of w) {
-      placing = if b then chosen w.now.seats.holding.placing (place_now c w.now f)
-          else w.now.seats.holding.placing;
+      placing = if b then chosen w.now.seats.holding.placing (place_now c w.now f) else w.now.seats.holding.placing;
     }
 
 abbrev pub begun_by : World → Bool → Ground
@@ -73,8 +72,7 @@ pub data GroundStep (c : Config) (w : World) (f : Flight) : Ground → Type 0 wh
   Gives : may_give w.now f ≡ true → (phase_of w.now.words ≤ 1) ⊎ (phase_of w.now.words ≡ 5)
       → GroundStep c w f (record (ground_of w) { placing = Unplaced; run = None })
   Carves : (p n : ℕ) → carves w.now.words (object_made c f.op) (place_now c w.now f) p n ≡ true
-      → phase_of w.now.words ≢ 4
-      → GroundStep c w f (record (ground_of w) {
+      → phase_of w.now.words ≢ 4 → GroundStep c w f (record (ground_of w) {
         pages = with_header w.now.words p n;
         placing = chosen w.now.seats.holding.placing (place_now c w.now f);
       })
@@ -94,12 +92,10 @@ pub data GroundStep (c : Config) (w : World) (f : Flight) : Ground → Type 0 wh
   GivesBack : (p n : ℕ) → gives_back w.now.words p n ≡ true → phase_of w.now.words ≡ 4
       → GroundStep c w f (record (ground_of w) { pages = with_used w.now.words p n })
   Frees : (p n : ℕ) (cell : Option Cell) → cell_freed c.pages w.now.words f p n ≡ cell
-      → frees w.now.words (target c.pages w.now.words f) p n ≡ true
-      → phase_of w.now.words ≢ 4
+      → frees w.now.words (target c.pages w.now.words f) p n ≡ true → phase_of w.now.words ≢ 4
       → GroundStep c w f (with_quarantine w p n cell)
   Snapshots : (p n : ℕ) (cell : Option Cell) → cell_freed c.pages w.now.words f p n ≡ cell
-      → takes_snapshot w.now.words p n ≡ true
-      → GroundStep c w f (with_quarantine w p n cell)
+      → takes_snapshot w.now.words p n ≡ true → GroundStep c w f (with_quarantine w p n cell)
   Drops : (p n : ℕ) (cell : Option Cell) → cell_freed c.pages w.now.words f p n ≡ cell
       → drops w.now.words p (n % 2 ^ 32) (n / 2 ^ 32) ≡ true → phase_of w.now.words ≡ 4
       → GroundStep c w f (with_quarantine w p n cell)
@@ -131,8 +127,7 @@ reg_ground w k r _ = record { pages = refl; freed = refl; snapshot = refl }
 
 rests : (c : Config) (w : World) (f : Flight) (x : Words) → KeepsGround w.now.words x
     → GroundStep c w f (record (ground_of w) { pages = x.pages; freed = x.freed; snapshot = x.snapshot })
-rests c w f x g =
-    rw g.pages (rw g.freed (rw g.snapshot Rests))
+rests c w f x g = rw g.pages (rw g.freed (rw g.snapshot Rests))
 
 -- the kinds that go by the phase
 
@@ -149,11 +144,10 @@ head_step c w f p n h = by (is_phase w.now.words 4) refl h
     by : (b : Bool) → is_phase w.now.words 4 ≡ b → (if b then empties w.now.words p n else carved || unmapped) ≡ true
         → GroundStep c w f (headed c w f p n b)
     by true e k = Empties p n k (eqb-true (phase_of w.now.words) 4 e)
-    by false e k =
-        elim (or_cases carved unmapped k) [
-          | inl a ↦ Carves p n a (eqb-false (phase_of w.now.words) 4 e)
-          | inr a ↦ Unmaps p n a (eqb-false (phase_of w.now.words) 4 e)
-        ]
+    by false e k = elim (or_cases carved unmapped k) [
+      | inl a ↦ Carves p n a (eqb-false (phase_of w.now.words) 4 e)
+      | inr a ↦ Unmaps p n a (eqb-false (phase_of w.now.words) 4 e)
+    ]
 
 used_step : (c : Config) (w : World) (f : Flight) (p n : ℕ) → may_use c w.now f p n ≡ true
     → GroundStep c w f (used_up c w f p n (is_phase w.now.words 4))
@@ -203,8 +197,7 @@ take_step : (c : Config) (w : World) (f : Flight) → f.stage ≡ stage.Idle
     → GroundStep c w f (begun_by w (w.now.words.turn == 0))
 take_step c w f idle = by (w.now.words.turn == 0) refl
   where
-    by : (b : Bool) → (w.now.words.turn == 0) ≡ b
-        → GroundStep c w f (begun_by w b)
+    by : (b : Bool) → (w.now.words.turn == 0) ≡ b → GroundStep c w f (begun_by w b)
     by true e = Starts (eqb-true w.now.words.turn 0 e) idle
     by false e = Rests
 
@@ -220,8 +213,7 @@ pub ground_step : (c : Config) (w : World) (seat : Seat) (x : Step) → Meets c 
     → GroundStep c w (flight_of w.now seat) (ground_of (WorldBehind c w seat x))
 ground_step c w seat (step.Take o) h = take_step c w (flight_of w.now seat) (taker_idle c w.now seat o h)
 ground_step c w seat step.Give h = Gives h.holder (give_phase (phase_of w.now.words) h.phase)
-ground_step c w seat step.Reg h =
-    rests c w (flight_of w.now seat) _
+ground_step c w seat step.Reg h = rests c w (flight_of w.now seat) _
     (reg_ground w.now.words (caller_number seat) (register_met (flight_of w.now seat) (flight_of w.now seat).stage)
     (reg_access (flight_of w.now seat) (flight_of w.now seat).stage))
 ground_step c w seat (step.Tally n v) h = rests c w (flight_of w.now seat) _ (tally_ground w.now.words n v)

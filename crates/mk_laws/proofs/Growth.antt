@@ -20,8 +20,7 @@ grows_joined xs ys zs a b p k is = b p k (a p k is)
 pub grows_more : (xs : List ℕ) (q bits : ℕ) → OnlyGrow xs (slice_set xs q (bit_or (slice_index xs q) bits))
 grows_more xs q bits p k is = elim (cases_eq p q) [
   | inl e ↦ elim (cases_lt q (length xs)) [
-    | inl lt ↦
-        rw (ap (λ i. slice_index (slice_set xs q (bit_or (slice_index xs q) bits)) i) e
+    | inl lt ↦ rw (ap (λ i. slice_index (slice_set xs q (bit_or (slice_index xs q) bits)) i) e
         ∙ get_or-set_same xs q (bit_or (slice_index xs q) bits) 0 lt) (more (slice_index xs q) bits k (sym (rw e) ∙ is))
     | inr past ↦ rw (set_past xs q (bit_or (slice_index xs q) bits) past) is
   ]

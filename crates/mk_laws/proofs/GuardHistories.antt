@@ -1,16 +1,70 @@
 -- What stands while a cycle marks and stops, after every enabled list.
-use Rattle.mk_laws.proofs.Vocabulary.{AreEnabledFrom, AreOfPages, Config, Event, GuardPremisesFrom, IsWithinLimits}
-use Rattle.mk_laws.proofs.Vocabulary.{List, World, [], access, accessed_lengths, arith, enabled_meets, eqb-true}
-use Rattle.mk_laws.proofs.Vocabulary.{first_moment, first_world, histories_keep_lengths, inl, inr, left, left_from}
-use Rattle.mk_laws.proofs.Vocabulary.{phase_of, word_accessed, world_behind, zero_lengths, ℕ, ◌∷◌, ◌≡◌, ◌⊎◌}
+use Rattle.mk_laws.proofs.Vocabulary.{AreEnabledFrom, AreOfPages, CellsAreClosed, Config, Event, GuardPremisesFrom}
+use Rattle.mk_laws.proofs.Vocabulary.{HasItsHeaders, IsWithinLimits, IsWordOf, List, MarksAreClosed, PlacedAllocation}
+use Rattle.mk_laws.proofs.Vocabulary.{Words, World, [], access, accessed_lengths, and_parts, arith, cell_words}
+use Rattle.mk_laws.proofs.Vocabulary.{cells_begin, enabled_meets, eqb-true, false, first_moment, first_page_shows}
+use Rattle.mk_laws.proofs.Vocabulary.{first_word, first_world, has_no_pointers, header_at, header_in, header_made}
+use Rattle.mk_laws.proofs.Vocabulary.{histories_keep_lengths, inl, inr, is_mapped, left, left_from, made_is_mapped}
+use Rattle.mk_laws.proofs.Vocabulary.{not-true, object_placed, pages_some, part_has_no_pointers, phase_of, placed_at}
+use Rattle.mk_laws.proofs.Vocabulary.{storage_of, storage_words, subst, sym, true, typed_size, word_accessed}
+use Rattle.mk_laws.proofs.Vocabulary.{word_points_well, world_behind, zero_lengths, ℕ, ◌+◌, ◌-◌, ◌/◌, ◌∙◌, ◌∷◌, ◌≡◌}
+use Rattle.mk_laws.proofs.Vocabulary.{◌⊎◌}
 use Rattle.mk_laws.proofs.Basics.{Known, known_at_first, known_behind, known_left}
+use Rattle.mk_geom.specs.StorageWords.{cell_of_storage}
+use Rattle.mk_core.specs.ClosedMarks.{is_marked_allocation}
+use Rattle.mk_core.proofs.StandingAllocations.{cell_is_known}
+use Rattle.mk_core.proofs.PointedAllocations.{marked_where_its_cell_is}
+use Rattle.mk_laws.specs.Kept.{StandsMapped, GuardPremisesAtFirst, EventsKeepTheMarks, MarksStandBehindLists}
+use Rattle.mk_laws.specs.Kept.{CloseFindsMarksClosed, StoppedMarksAreClosed, MarkingGuards}
 use Rattle.mk_core.specs.declared.events.Step.TheVariants as step
 use Rattle.mk_laws.specs.Guard.{MarksStand}
-use Rattle.mk_laws.specs.Kept.{GuardPremisesAtFirst, EventsKeepTheMarks, MarksStandBehindLists, CloseFindsMarksClosed}
-use Rattle.mk_laws.specs.Kept.{StoppedMarksAreClosed, MarkingGuards}
 use Rattle.mk_laws.proofs.Closing.{closed}
-use Rattle.mk_laws.proofs.ClosedAllocations.{closed_allocations}
 use Rattle.mk_laws.proofs.GuardOneEvent.{marks_behind}
+
+-- Where cells are closed, so are the allocations that stand there.
+
+has_headers : (c : Config) (w : Words) (a : PlacedAllocation) → StandsMapped c w a → HasItsHeaders c w a
+has_headers c w a st distance lt = inl (st.headers distance lt)
+
+-- Its cell is scanned, where it isn't leaf.
+is_scanned_cell : (c : Config) (w : Words) (a : PlacedAllocation) → IsWithinLimits c → StandsMapped c w a
+    → (storage_of c a).leaf ≡ false → has_no_pointers (header_in w (a.base / 64)) ≡ false
+is_scanned_cell c w a limits st leaf =
+    let sized = typed_size c a limits st.stands.typed in
+    let first = pages_some (object_placed c a) sized in
+    let here : a.base / 64 + 0 ≡ a.base / 64 = omega arith in
+    let made : header_at w (a.base / 64) ≡ header_made (object_placed c a) 0 = rw here at (st.headers 0 first) in
+    part_has_no_pointers (object_placed c a) _ (first_page_shows c w a sized (has_headers c w a st)) ∙ rw leaf
+    (rw made (made_is_mapped (object_placed c a) 0 sized first))
+
+closed_word : (c : Config) (w : Words) (a : PlacedAllocation) → IsWithinLimits c → StandsMapped c w a
+    → CellsAreClosed c w → (storage_of c a).leaf ≡ false
+    → is_marked_allocation c w a ≡ true → (n : ℕ) → IsWordOf (storage_of c a) n → word_points_well c.pages w n ≡ true
+closed_word c w a limits st closed leaf marked n inside =
+    let has = has_headers c w a st in
+    let sized = typed_size c a limits st.stands.typed in
+    let cells = cells_begin c w a limits st.stands has in
+    let first : first_word w (cell_of_storage (storage_of c a)) ≡ a.base = cells.0 in
+    let words : cell_words w (cell_of_storage (storage_of c a)) ≡ storage_words c a = cells.1 in
+    let low = inside.0 in
+    let high = inside.1 in
+    let at : first_word w (cell_of_storage (storage_of c a)) + (n - a.base) ≡ n = omega arith in
+    subst (λ i. word_points_well c.pages w i ≡ true) at
+    (closed.words _ (n - a.base) (cell_is_known c w a sized st.stands.begins has)
+    (sym (marked_where_its_cell_is c w a limits st.stands has)
+    ∙ marked) (is_scanned_cell c w a limits st leaf) (omega arith))
+
+pub closed_allocations : (c : Config) (w : World) → IsWithinLimits c
+    → ((i : ℕ) → is_mapped c (placed_at w.allocations i) ≡ true
+    → StandsMapped c w.now.words (placed_at w.allocations i)) → CellsAreClosed c w.now.words → MarksAreClosed c w
+closed_allocations c w limits stand closed =
+    record {
+      registers = closed.registers;
+      globals = closed.globals;
+      words = λ i n scanned marked inside.
+          let parts = and_parts _ _ scanned in
+          closed_word c w.now.words _ limits (stand i parts.0) closed (not-true _ parts.1) marked n inside;
+    }
 
 pub events_keep_the_marks : EventsKeepTheMarks
 events_keep_the_marks c es e limits on enabled say g =
@@ -29,8 +83,7 @@ marks_from : (c : Config) (w : World) (es : List Event) → IsWithinLimits c →
     → GuardPremisesFrom c w es → MarksStand c w.now → MarksStand c (left_from c w es).now
 unfolding left_from AreEnabledFrom GuardPremisesFrom
 marks_from c w [] limits len known on say g = g
-marks_from c w (e ∷ es) limits len known on say g =
-    marks_from c (world_behind c w e) es limits
+marks_from c w (e ∷ es) limits len known on say g = marks_from c (world_behind c w e) es limits
     (accessed_lengths c.pages w.now.words (word_accessed c w.now e) (access c w.now e) len)
     (known_behind c w.now e known on.0) on.1 say.1
     (marks_behind c w e.seat e.step limits known len say.0 (enabled_meets c w.now e on.0) g)
@@ -51,11 +104,10 @@ pub stopped_marks_are_closed : StoppedMarksAreClosed
 stopped_marks_are_closed c w limits say g three = closed_allocations c w limits say.mapped (g.closed three)
 
 pub marking_guards : MarkingGuards
-marking_guards c m g early =
-    (g.guarded (elim early [
-      | inl e ↦ inl (eqb-true (phase_of m.words) 1 e)
-      | inr e ↦ inr (eqb-true (phase_of m.words) 2 e)
-    ])).black
+marking_guards c m g early = (g.guarded (elim early [
+  | inl e ↦ inl (eqb-true (phase_of m.words) 1 e)
+  | inr e ↦ inr (eqb-true (phase_of m.words) 2 e)
+])).black
 
 pub others_at_first : GuardPremisesAtFirst
 others_at_first c =

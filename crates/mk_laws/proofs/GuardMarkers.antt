@@ -42,14 +42,7 @@ seen_cell c x own = by x.seen x.hand refl refl own
         at true e (Some y) is own =
             let n = cell_within c.pages q.header value y is in
             let there : cell_seen c (Some q) (Some value) ≡ Some y = rw (e, is) in
-            record {
-              value = value;
-              cell = y;
-              hand = eh;
-              is = rw es (rw eh there);
-              page = n.0;
-              index = n.1;
-            }
+            record { value = value; cell = y; hand = eh; is = rw es (rw eh there); page = n.0; index = n.1 }
     by _ _ es eh own = cc
 
 looks : (c : Config) (m : Moment) (x : Word) (y : MarkerState) (f : ℕ)
@@ -103,8 +96,7 @@ markers_stand c m (Caller k) x len h keeps before j at =
     marker_kept c m (Behind c m (Caller k) x) (marker_of m j) keeps (before j at)
 markers_stand c m Host x len h keeps before j at =
     marker_kept c m (Behind c m Host x) (marker_of m j) keeps (before j at)
-markers_stand c m (Marker k) x len h keeps before j at =
-    marker_set m.seats.markers k j
+markers_stand c m (Marker k) x len h keeps before j at = marker_set m.seats.markers k j
     (marker_behind c (found c m (record { seat = Marker k; step = x })) x (marker_of m k))
     (λ (y : MarkerState). is_attending y.presence ≡ true → MarkerStands c (Behind c m (Marker k) x) y)
     (λ lt own. own_marker c m k x len h keeps (before k) own)

@@ -43,10 +43,7 @@ stays_closed c w v same h =
         well_is c v value (wells_from c w v same.headers (λ p k bit. rw same.marks bit) value (is_well c w value is))
 
     word : (n : ℕ) → word_points_well c.pages w n ≡ true → word_points_well c.pages v n ≡ true
-    word n is = elim (same.heap n) [
-      | inl e ↦ rw e (over _ is)
-      | inr z ↦ well_is c v _ (bare_word_well c v _ z)
-    ]
+    word n is = elim (same.heap n) [ inl e ↦ rw e (over _ is) | inr z ↦ well_is c v _ (bare_word_well c v _ z) ]
 
 -- At this phase no caller is in a call outside the turn.
 
@@ -83,8 +80,7 @@ reg_still : (c : Config) (m : Moment) (seat : Seat) → Known c m → phase_of m
     → (Behind c m seat step.Reg).words.registers ≡ m.words.registers
 reg_still c m (Caller k) known three h = elim (cases_Bool (is_call_stage (flight_of m (Caller k)).stage)) [
   | inl at ↦ absurd (no_call c m k known three (ltb-true k c.callers h.seat) at)
-  | inr out ↦
-      load_alone m.words k (register_met (flight_of m (Caller k)) (flight_of m (Caller k)).stage)
+  | inr out ↦ load_alone m.words k (register_met (flight_of m (Caller k)) (flight_of m (Caller k)).stage)
       (flight_of m (Caller k)) (flight_of m (Caller k)).stage
       (at_reg (flight_of m (Caller k)).stage (flight_of m (Caller k)).op h.order) out
 ]

@@ -28,8 +28,7 @@ reg_pages w k r _ = refl
 
 -- One of the other gates isn't held, so no page is unmapped.
 not_unmapped : (c : Config) (w : Words) (seat : Seat) (k v : ℕ) → k < c.callers → seat ≢ Caller k
-    → slice_index w.gates k ≡ 1
-    → (not (is_unmapped_header (header_of v)) || others_are_held c.callers w seat) ≡ true
+    → slice_index w.gates k ≡ 1 → (not (is_unmapped_header (header_of v)) || others_are_held c.callers w seat) ≡ true
     → is_unmapped_header (header_of v) ≡ false
 not_unmapped c w seat k v lt ne one h =
     elim (or_cases (not (is_unmapped_header (header_of v))) (others_are_held c.callers w seat) h) [
@@ -46,8 +45,7 @@ not_unmapped c w seat k v lt ne one h =
     seat_is _ k h = cc
 
 pub header_step : (c : Config) (m : Moment) (seat : Seat) (x : Step) (k : ℕ) → Meets c m seat x → k < c.callers
-    → seat ≢ Caller k → slice_index m.words.gates k ≡ 1
-    → HeaderStep m.words (Behind c m seat x).words.pages
+    → seat ≢ Caller k → slice_index m.words.gates k ≡ 1 → HeaderStep m.words (Behind c m seat x).words.pages
 header_step c m seat (step.Head p v) k h lt ne one = SetsHeader p v (not_unmapped c m.words seat k v lt ne one h.gates)
 header_step c m seat (step.Used p v) k h lt ne one = SetsUsed p v
 header_step c m seat (step.Tally n v) k h lt ne one = rw (tally_pages m.words n v) KeepsPages
@@ -58,8 +56,7 @@ header_step c m seat _ k h lt ne one = KeepsPages
 
 -- a page's header after a change of one page
 pub page_set : (ps : List Page) (p q : ℕ) (x : Page) → (P : ℕ → Type 0) → (p < length ps → P x.header)
-    → P (slice_index_or ps q free_page).header
-    → P (slice_index_or (slice_set ps p x) q free_page).header
+    → P (slice_index_or ps q free_page).header → P (slice_index_or (slice_set ps p x) q free_page).header
 page_set ps p q x P mine other = elim (cases_eq q p) [
   | inl e ↦ elim (cases_lt p (length ps)) [
     | inl lt ↦ rw (ap (λ j. slice_index_or (slice_set ps p x) j free_page) e

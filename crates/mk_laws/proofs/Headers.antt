@@ -12,17 +12,13 @@ use Rattle.mk_laws.proofs.KeptGuard.{NewCellsAreGuarded, goes_same}
 
 -- It finds no header on its page, marked cells and words 0; or it unmaps, which shows the same.
 pub data HeadFinds (pages : ℕ) (w : Words) (p header : ℕ) : Type 0 where
-  Carved : header_at w p ≡ 0
-      → ((value : ℕ) (x : Cell) → page_at_address value ≡ p → cell_at pages header value ≡ Some x
-      → is_marked w x ≡ true)
-      → ((k i : ℕ) → k < cells_under (header_of header) → i < words_under (header_of header)
-      → slice_index w.heap (64 * p + k * words_under (header_of header) + i) ≡ 0)
-      → HeadFinds pages w p header
+  Carved : header_at w p ≡ 0 → ((value : ℕ) (x : Cell) → page_at_address value ≡ p → cell_at pages header value ≡ Some x
+      → is_marked w x ≡ true) → ((k i : ℕ) → k < cells_under (header_of header) → i < words_under (header_of header)
+      → slice_index w.heap (64 * p + k * words_under (header_of header) + i) ≡ 0) → HeadFinds pages w p header
   Unmapped : header ≢ 0 → HeaderGoesOn pages (header_at w p) header
       → ((value : ℕ) (x : Cell) → page_at_address value ≡ p → cell_at pages header value ≡ Some x
       → cell_at pages (header_at w p) value ≡ Some x)
-      → (cells_under (header_in w p) ≡ 0 → cells_under (header_of header) ≡ 0)
-      → HeadFinds pages w p header
+      → (cells_under (header_in w p) ≡ 0 → cells_under (header_of header) ≡ 0) → HeadFinds pages w p header
 
 pub free_shows : (pages v : ℕ) (y : Cell) → cell_at pages 0 v ≡ Some y → ⊥
 free_shows pages v y is = by (is_heap_address pages v) is
@@ -65,8 +61,7 @@ head_keeps c m seat p n len h finds =
             (goes_same c.pages (header_at m.words q))
       ];
       new = λ q k i none lt li. elim (cases_eq q p) [
-        | inl e ↦
-            made finds q k i e (subst (λ j. cells_under (header_in m.words j) ≡ 0) e none)
+        | inl e ↦ made finds q k i e (subst (λ j. cells_under (header_in m.words j) ≡ 0) e none)
             (subst (λ a. k < cells_under (header_of a)) (here q e) lt)
             (subst (λ a. i < words_under (header_of a)) (here q e) li)
         | inr ne ↦ let bad : k < 0 = subst (λ a. k < a) (ap (λ a. cells_under (header_of a)) (other q ne)

@@ -155,34 +155,23 @@ module _ (c : Config) (w : Words) (xs : List PlacedAllocation) (i p : ℕ) (r : 
       shown : IsShown w.pages (claim_of c None a)
       shown = shown_of c w xs i r u
 
-      header : header_at w p
-          ≡ word_of (run_header (pages_made o) (not (a.freed && true))
-          o.leaf d)
-      header =
-          run_word o a.freed d (header_at w p) large (rw large at
-          (subst (λ q. HasHeader (claim_of c None a).mode o d
-          (header_at w q)) at (shown.headers d ld)))
+      header : header_at w p ≡ word_of (run_header (pages_made o) (not (a.freed && true)) o.leaf d)
+      header = run_word o a.freed d (header_at w p) large (rw large at
+          (subst (λ q. HasHeader (claim_of c None a).mode o d (header_at w q)) at (shown.headers d ld)))
 
       used_by : (e : ℕ) → d ≡ e → used_at w p ≡ run_used e
       used_by zero z =
           let first : a.base / 64 ≡ p = omega arith in
           let cells : cells_under (shows_on w.pages p) ≡ 1 =
-          rw (← first) (cells_at_claim (quiet_scene c w xs) (claim_of c None a) shown
-          ∙ large_cells o large) in
-          let low : (cell_of_allocation c a).index ≡ 0 =
-          large_index c a shown.sized large in
-          one_bit (used_at w p) (rw (← first)
-          (ap (λ k. has_bit (used_at w (a.base / 64)) k) (sym low) ∙ shown.used))
+          rw (← first) (cells_at_claim (quiet_scene c w xs) (claim_of c None a) shown ∙ large_cells o large) in
+          let low : (cell_of_allocation c a).index ≡ 0 = large_index c a shown.sized large in
+          one_bit (used_at w p) (rw (← first) (ap (λ k. has_bit (used_at w (a.base / 64)) k) (sym low) ∙ shown.used))
           (λ k h. let t = (r.laid.used p k h).0 in omega arith)
-      used_by (suc e) z =
-          cellless_unused (quiet_scene c w xs) p r.laid
-          (later_cells o d (shows_on w.pages p)
+      used_by (suc e) z = cellless_unused (quiet_scene c w xs) p r.laid (later_cells o d (shows_on w.pages p)
           (subst (λ q. ShowsPart o d (shows_on w.pages q)) at
           (claimed w.pages (claim_of c None a) d shown ld)) (omega arith))
 
-      page_is : slice_index_or w.pages p free_page
-          ≡ run_page (pages_made o) (not (a.freed && true))
-          o.leaf d
+      page_is : slice_index_or w.pages p free_page ≡ run_page (pages_made o) (not (a.freed && true)) o.leaf d
       page_is = ap (λ h. record { header = h; used = used_at w p }) header ∙ rw (used_by d refl)
 
   -- Pages of a block.
@@ -206,33 +195,27 @@ module _ (c : Config) (w : Words) (xs : List PlacedAllocation) (i p : ℕ) (r : 
       known = (class_known o (shown_of c w xs i r u).sized small).0
 
       cells : cells_under (shows_on w.pages p) ≡ cells_of class
-      cells =
-          ap (λ q. cells_under (shows_on w.pages q)) (sym at)
-          ∙ cells_at_claim (quiet_scene c w xs) (claim_of c None a) (shown_of c w xs i r u)
-          ∙ small_cells o small
+      cells = ap (λ q. cells_under (shows_on w.pages q)) (sym at)
+          ∙ cells_at_claim (quiet_scene c w xs) (claim_of c None a) (shown_of c w xs i r u) ∙ small_cells o small
 
       -- where a small object of the class begins
       begins_at : (j : ℕ) → (v : (placed_at xs j).released ≡ false)
           → is_small_object (object_placed c (placed_at xs j)) ≡ true
-          → class_made (object_placed c (placed_at xs j)) ≡ class
-          → (placed_at xs j).base % 64
+          → class_made (object_placed c (placed_at xs j)) ≡ class → (placed_at xs j).base % 64
           ≡ (cell_of_allocation c (placed_at xs j)).index * class_words_of class
       begins_at j v s same =
           let b = (r.cells j v).begins in
           let o : Object = object_placed c (placed_at xs j) in
           b.first ∙ ap (λ n. b.index * n) (small_words o s ∙ ap (λ m. class_words_of m) same)
-          ∙ ap (λ n. n * class_words_of class)
-          (sym (index_is c (placed_at xs j) (shown_of c w xs j r v).sized b))
+          ∙ ap (λ n. n * class_words_of class) (sym (index_is c (placed_at xs j) (shown_of c w xs j r v).sized b))
 
       -- whose cell it is
       there : (n : ℕ) → n < cells_of class → has_bit (used_at w p) n ≡ true
-          → is_cell_taken (unreleased_storage c xs) p (class_words_of class) n
-          ≡ true
+          → is_cell_taken (unreleased_storage c xs) p (class_words_of class) n ≡ true
       there n ln h = by (r.laid.used p n h).1
         where
           by : IsClaimed (claims_of c None xs) p n ⊎ (is_released_in false w.snapshot w.marks p n ≡ true)
-              → is_cell_taken (unreleased_storage c xs) p (class_words_of class)
-              n ≡ true
+              → is_cell_taken (unreleased_storage c xs) p (class_words_of class) n ≡ true
           by (inr x) = absurd (true≢false (sym x))
           by (inl x) =
               let y = claim_is c None xs x.claim x.among in
@@ -241,17 +224,13 @@ module _ (c : Config) (w : Words) (xs : List PlacedAllocation) (i p : ℕ) (r : 
               let index : (cell_of_allocation c (placed_at xs j)).index ≡ n = ap (λ (z : Claim). z.index) (sym y.is)
               ∙ x.index in
               let same = alike_at c w xs i j p r u y.unreleased small at page in
-              let first : (placed_at xs j).base % 64
-              ≡ n * class_words_of class =
-              begins_at j y.unreleased same.0 same.1
+              let first : (placed_at xs j).base % 64 ≡ n * class_words_of class = begins_at j y.unreleased same.0 same.1
               ∙ ap (λ m. m * class_words_of class) index in
-              cell_taken_from p (class_words_of class) n
-              (unreleased_storage c xs) (storage_of c (placed_at xs j))
+              cell_taken_from p (class_words_of class) n (unreleased_storage c xs) (storage_of c (placed_at xs j))
               (has_its_storage c xs j y.unreleased) (omega arith)
 
-      back : (n : ℕ) → n < cells_of class
-          → is_cell_taken (unreleased_storage c xs) p (class_words_of class) n
-          ≡ true → has_bit (used_at w p) n ≡ true
+      back : (n : ℕ) → n < cells_of class → is_cell_taken (unreleased_storage c xs) p (class_words_of class) n ≡ true
+          → has_bit (used_at w p) n ≡ true
       back n ln taken =
           let k : ℕ = class_words_of class in
           let t = cell_taken_by (length w.pages) p class n
@@ -271,22 +250,17 @@ module _ (c : Config) (w : Words) (xs : List PlacedAllocation) (i p : ℕ) (r : 
           ∙ ap (λ m. has_bit (used_at w ((placed_at xs j).base / 64)) m) (sym is_n)
           ∙ (shown_of c w xs j r h.unreleased).used
 
-      used : used_at w p ≡ used_word
-          (taken_cells (unreleased_storage c xs) p class)
+      used : used_at w p ≡ used_word (taken_cells (unreleased_storage c xs) p class)
       used =
           let k : ℕ = class in
           let taken : List Bool = taken_cells (unreleased_storage c xs) p k in
           let long : length taken ≡ cells_of k = length-taken_cells (unreleased_storage c xs) p k in
-          same_from_bits (used_at w p) (used_word taken)
-          (λ n. elim (cases_lt n (cells_of k)) [
-            | inl ln ↦
-                same_bits (used_at w p) (used_word taken) n
-                (same_from_both _ _ (there n ln) (back n ln)
+          same_from_bits (used_at w p) (used_word taken) (λ n. elim (cases_lt n (cells_of k)) [
+            | inl ln ↦ same_bits (used_at w p) (used_word taken) n (same_from_both _ _ (there n ln) (back n ln)
                 ∙ sym (get_or-taken_cells (unreleased_storage c xs) p k n false ln)
                 ∙ sym (bit_at-used_word taken n false (omega arith)))
             | inr past ↦
-                let none : has_bit (used_at w p) n ≡ false =
-                false_from_ne_true (has_bit (used_at w p) n)
+                let none : has_bit (used_at w p) n ≡ false = false_from_ne_true (has_bit (used_at w p) n)
                 (λ h. let t = (r.laid.used p n h).0 in let m = cells in omega arith) in
                 bit_is_none (used_at w p) n none ∙ sym (used_past taken n (omega arith))
           ])
@@ -324,9 +298,8 @@ pages_stand c w xs r =
     record {
       laid_out = laid_out c w xs r;
       words = λ p d lt. get_or_default w.pages p d free_page lt ∙ elim (cases_eq (header_at w p) 0) [
-        | inl z ↦
-            ap (λ h. record { header = h; used = used_at w p }) z ∙ rw (free_unused (quiet_scene c w xs) p r.laid z)
-            (sym (words_free p (unreleased_storage c xs)
+        | inl z ↦ ap (λ h. record { header = h; used = used_at w p }) z
+            ∙ rw (free_unused (quiet_scene c w xs) p r.laid z) (sym (words_free p (unreleased_storage c xs)
             (λ s inside. false_from_ne_true (stands_on p s) (λ stands. nothing_there c w xs p r z s inside stands))))
         | inr some ↦ on_page c w xs p r (on_claim (quiet_scene c w xs) p r.laid refl refl some)
       ];

@@ -48,8 +48,7 @@ module _ (c : Config) (w v : World) (kept : TurnIsLeft w v) (own : v.now.seats.h
   quiet_at_4 four = (quiet 4 (eqb-true (phase_of a) 4 four) (λ e. absurd (omega arith)) (λ e. absurd (omega arith))).0
 
   place_same : (f : Flight) → place_now c v.now f ≡ place_now c w.now f
-  place_same f =
-      rw own (rw pages)
+  place_same f = rw own (rw pages)
 
   -- `head`
 
@@ -99,14 +98,12 @@ module _ (c : Config) (w v : World) (kept : TurnIsLeft w v) (own : v.now.seats.h
   gives_unmarked x p n = (bit_and n (used_at x p) == n) && are_left_unmarked x p (used_at x p - n)
 
   unmarked_same : (p n : ℕ) → b.marks ≡ a.marks → gives_unmarked b p n ≡ gives_unmarked a p n
-  unmarked_same p n marks =
-      ap (λ (ms : List ℕ). gives_unmarked (record b { marks = ms }) p n) marks
+  unmarked_same p n marks = ap (λ (ms : List ℕ). gives_unmarked (record b { marks = ms }) p n) marks
       ∙ ap (λ (s : Steady). gives_unmarked (record a { pages = s.pages; snapshot = s.snapshot }) p n) kept.steady
 
   takes_same : (f : Flight) (p n : ℕ) → takes_cell b (object_made c f.op) (place_now c v.now f) p n
       ≡ takes_cell a (object_made c f.op) (place_now c w.now f) p n
-  takes_same f p n =
-      rw (place_same f) (rw pages)
+  takes_same f p n = rw (place_same f) (rw pages)
 
   used_on : (f : Flight) (p n : ℕ)
       → (is_phase a 4 ≡ true → gives_back a p n ≡ true → are_wiped b p (used_at b p - n) ≡ true)
@@ -122,14 +119,12 @@ module _ (c : Config) (w v : World) (kept : TurnIsLeft w v) (own : v.now.seats.h
   -- `quar`
 
   drops_same : (p f n : ℕ) → b.marks ≡ a.marks → drops b p f n ≡ drops a p f n
-  drops_same p f n marks =
-      ap (λ (ms : List ℕ). drops (record b { marks = ms }) p f n) marks
+  drops_same p f n marks = ap (λ (ms : List ℕ). drops (record b { marks = ms }) p f n) marks
       ∙ ap (λ (s : Steady). drops (record a { pages = s.pages; freed = s.freed; snapshot = s.snapshot }) p f n)
       kept.steady
 
   frees_same : (f : Flight) (p n : ℕ) → frees b (target c.pages b f) p n ≡ frees a (target c.pages a f) p n
-  frees_same f p n =
-      ap (λ (s : Steady). frees (record a { pages = s.pages; freed = s.freed; snapshot = s.snapshot })
+  frees_same f p n = ap (λ (s : Steady). frees (record a { pages = s.pages; freed = s.freed; snapshot = s.snapshot })
       (target c.pages (record a { pages = s.pages; freed = s.freed; snapshot = s.snapshot }) f) p n) kept.steady
 
   snapshot_same : (p n : ℕ) → takes_snapshot b p n ≡ takes_snapshot a p n
@@ -168,19 +163,16 @@ module _ (c : Config) (w v : World) (kept : TurnIsLeft w v) (own : v.now.seats.h
       ∙ h
 
   gone_run_same : (n : ℕ) → is_in_gone_run b v.now.seats.holding.freed n ≡ is_in_gone_run a w.now.seats.holding.freed n
-  gone_run_same n =
-      rw own (rw pages)
+  gone_run_same n = rw own (rw pages)
 
   wipe_on : (n : ℕ) → may_wipe c w.now n ≡ true → may_wipe c v.now n ≡ true
-  wipe_on n h =
-      or_on _ _ _ _ (λ e. rw pages (some_on (is_released_cell a) (is_released_cell b) _ released_on e))
+  wipe_on n h = or_on _ _ _ _ (λ e. rw pages (some_on (is_released_cell a) (is_released_cell b) _ released_on e))
       (λ e. gone_run_same n ∙ e) h
 
   full_same : (f : Flight) → may_answer_full c.resident b.pages (object_made c f.op)
       v.now.seats.holding.placing v.now.seats.holding.cycle
       ≡ may_answer_full c.resident a.pages (object_made c f.op) w.now.seats.holding.placing w.now.seats.holding.cycle
-  full_same f =
-      rw pages (rw own)
+  full_same f = rw pages (rw own)
 
   give_on : (f : Flight) → (is_run_gone a w.now.seats.holding.freed ≡ true
       → is_run_gone b w.now.seats.holding.freed ≡ true) → may_give w.now f ≡ true → may_give v.now f ≡ true
@@ -274,8 +266,7 @@ module _ (c : Config) (w v : World) (kept : TurnIsLeft w v) (own : v.now.seats.h
   unblack_on : may_unblack w.now ≡ true → may_unblack v.now ≡ true
   unblack_on h = elim (cases_Bool (is_phase a 2)) [
     | inr off ↦ or_left (not (is_phase b 2)) _ (ap not (phase_is 2 ∙ off))
-    | inl on ↦
-        or_right (not (is_phase b 2)) _
+    | inl on ↦ or_right (not (is_phase b 2)) _
         (none_on (eqb-true (phase_of a) 2 on) (ap (λ t. not t || none_attends w.now.seats.markers) (sym on) ∙ h))
   ]
 

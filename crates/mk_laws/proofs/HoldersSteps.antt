@@ -20,8 +20,7 @@ where_some false x h = cc
 
 pub placed_new : (c : Config) (m : Moment) (f : Flight) (place : Place) → place_now c m f ≡ Some place
     → is_undecided_new f ≡ true
-placed_new c m f place e =
-    (where_some (is_undecided_new f) (place_by_placing c.resident m.words.pages
+placed_new c m f place e = (where_some (is_undecided_new f) (place_by_placing c.resident m.words.pages
     (object_made c f.op) m.seats.holding.placing) (rw e)).0
 
 pub target_free : (pages : ℕ) (w : Words) (f : Flight) → is_some (target pages w f) ≡ true → is_undecided_free f ≡ true
@@ -59,8 +58,7 @@ granted_chosen : (p : Placing) (place : Option Place) → is_granted (chosen p p
 granted_chosen Unplaced None h = h
 granted_chosen _ _ h = cc
 
-pub chooses : (c : Config) (m : Moment) (f : Flight)
-    → Service f m.seats.holding f
+pub chooses : (c : Config) (m : Moment) (f : Flight) → Service f m.seats.holding f
     (record m.seats.holding { placing = chosen m.seats.holding.placing (place_now c m f) })
 chooses c m f = by (place_now c m f) refl
   where
@@ -79,8 +77,7 @@ takes c m f = by (place_now c m f) refl
     by None e = Goes _ refl refl
 
 pub either_place : (f : Flight) (h : Holding) (b : Bool) (p q : Placing) → Service f h f (record h { placing = p })
-    → Service f h f (record h { placing = q })
-    → Service f h f (record h { placing = if b then p else q })
+    → Service f h f (record h { placing = q }) → Service f h f (record h { placing = if b then p else q })
 either_place f h true p q x y = x
 either_place f h false p q x y = y
 

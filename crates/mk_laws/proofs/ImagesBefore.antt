@@ -24,8 +24,7 @@ module _ (c : Config) (w : World) (n : NeverState) (known : KnownWorld c w) (mir
   placed i = placed_at w.allocations i
 
   -- an allocation of the heap that never reuses storage has the words of its type
-  pub words_are : (a : ℕ) → a < length w.allocations
-      → length (words_of n a) ≡ length (kinds_of c.types (placed a).ty)
+  pub words_are : (a : ℕ) → a < length w.allocations → length (words_of n a) ≡ length (kinds_of c.types (placed a).ty)
   words_are a lt =
       let count = mirrors.twins.count in
       let typed : IsTypedAllocation n (allocation_at n a) = mirrors.typed.allocations a (omega arith) in
@@ -37,23 +36,19 @@ module _ (c : Config) (w : World) (n : NeverState) (known : KnownWorld c w) (mir
       let typed : IsTypedAllocation n (allocation_at n a) = mirrors.typed.allocations a (omega arith) in
       rw mirrors.types at (subst (λ ty. ty < length n.types) (sym (mirrors.twins.ty a lt)) typed.ty)
 
-  pub words_fit : (a : ℕ) → a < length w.allocations
-      → length (words_of n a) ≤ storage_words c (placed a)
+  pub words_fit : (a : ℕ) → a < length w.allocations → length (words_of n a) ≤ storage_words c (placed a)
   words_fit a lt =
       let holds = (storage_holds c (placed a) known.limits (type_is a lt)).0 in
       omega (arith, words_are a lt)
 
-  pub unmapped_is : (a : ℕ) → a < length w.allocations
-      → is_unmapped (allocation_at n a) ≡ is_gone c (placed a)
+  pub unmapped_is : (a : ℕ) → a < length w.allocations → is_unmapped (allocation_at n a) ≡ is_gone c (placed a)
   unmapped_is a lt = rw (← (mirrors.twins.freed a lt)) (rw (words_are a lt))
 
   pub storages_apart : Stands c w.now.words w.allocations → (a b i j : ℕ) → (placed a).released ≡ false
-      → (placed b).released ≡ false
-      → i < storage_words c (placed a) → j < storage_words c (placed b) → a ≢ b
+      → (placed b).released ≡ false → i < storage_words c (placed a) → j < storage_words c (placed b) → a ≢ b
       → (placed a).base + i ≢ (placed b).base + j
   storages_apart st a b i j ua ub li lj ne e =
-      let cells : Some (cell_of_allocation c (placed a))
-      ≡ Some (cell_of_allocation c (placed b)) =
+      let cells : Some (cell_of_allocation c (placed a)) ≡ Some (cell_of_allocation c (placed b)) =
       sym (st.cell a i ua li) ∙ ap (λ x. pointed_cell c.pages w.now.words.pages (address_of x)) e ∙ st.cell b j ub lj in
       st.apart a b ua ub ne (sym (st.first a ua) ∙ ap (first_in w.now.words) cells ∙ st.first b ub)
 
@@ -81,8 +76,7 @@ module _ (c : Config) (w : World) (n : NeverState) (known : KnownWorld c w) (mir
 
   -- headers say what is unmapped
   pub pages_show : Stands c w.now.words w.allocations
-      → ((a i : ℕ) → (placed a).released ≡ false → is_gone c (placed a) ≡ true
-      → i < storage_words c (placed a)
+      → ((a i : ℕ) → (placed a).released ≡ false → is_gone c (placed a) ≡ true → i < storage_words c (placed a)
       → is_unmapped_header (header_in w.now.words (((placed a).base + i) / 64)) ≡ true)
       → PagesShow (header_at w.now.words) (image_scene_of w) n
   pages_show st un a i u li =

@@ -69,8 +69,7 @@ module _ (listed : List ℕ) (safe : ℕ → Bool) (s : ImageScene) (n : NeverSt
   -- an access goes on where its page is mapped, and is refused where it isn't
   pub probe_leads : (header : ℕ → ℕ) → PagesShow header s n → (o : Op) (q p r l x : ℕ)
       → flight_among s.flights k ≡ flight stage.Probe o q p r l → d_of o < 8
-      → is_astray (standing_at stage.Probe o) ≡ false
-      → CarriesOwn bases n k (flight stage.Probe o q p r l)
+      → is_astray (standing_at stage.Probe o) ≡ false → CarriesOwn bases n k (flight stage.Probe o q p r l)
       → x ≡ header (((q - 65536) / 8 + i_of o) / 64)
       → (is_unmapped_header (header_of x) ≡ true → IsAdmitted listed n k o)
       → LeadsBy safe s n k o s (progress_probe (flight stage.Probe o q p r l) x)
@@ -95,11 +94,9 @@ module _ (listed : List ℕ) (safe : ℕ → Bool) (s : ImageScene) (n : NeverSt
       (own_safe (q_of o)) (unmapped ∙ u)))
 
   pub read_leads : (o : Op) (q p r l x : ℕ) → flight_among s.flights k ≡ flight stage.Read o q p r l → d_of o < 8
-      → is_astray (standing_at stage.Read o) ≡ false
-      → CarriesOwn bases n k (flight stage.Read o q p r l)
+      → is_astray (standing_at stage.Read o) ≡ false → CarriesOwn bases n k (flight stage.Read o q p r l)
       → ProbedOwn n k (flight stage.Read o q p r l) → x ≡ slice_index s.heap ((q - 65536) / 8 + i_of o)
-      → IsAdmitted listed n k o
-      → LeadsBy safe s n k o s (progress_read (flight stage.Read o q p r l) o x)
+      → IsAdmitted listed n k o → LeadsBy safe s n k o s (progress_read (flight stage.Read o q p r l) o x)
   read_leads (op.GetNum q' i) q p r l x is ld a car pro e ad =
       let to = reaches listed safe s n h (register_at n k q') q i IsNumber (car.q refl) (car.some_q refl) (own_sound q')
       (own_safe q') (pro refl) ad.access in
@@ -127,18 +124,11 @@ module _ (listed : List ℕ) (safe : ℕ → Bool) (s : ImageScene) (n : NeverSt
 
   decides : (f : Flight) (st : Stage) (o : Op) (q p r l : ℕ) → flight_among s.flights k ≡ flight st o q p r l
       → is_put st ≡ false → Decides s n k (flight stage.Dirty o q p r l)
-  decides f st o q p r l is np = record {
-    there = there;
-    registers = long;
-    was = rw is np;
-    bare = refl;
-  }
+  decides f st o q p r l is np = record { there = there; registers = long; was = rw is np; bare = refl }
 
   pub write_leads : (o : Op) (q p r l : ℕ) → flight_among s.flights k ≡ flight stage.Write o q p r l
-      → is_astray (standing_at stage.Write o) ≡ false
-      → CarriesOwn bases n k (flight stage.Write o q p r l)
-      → ProbedOwn n k (flight stage.Write o q p r l) → IsAdmitted listed n k o
-      → LeadsBy safe s n k o
+      → is_astray (standing_at stage.Write o) ≡ false → CarriesOwn bases n k (flight stage.Write o q p r l)
+      → ProbedOwn n k (flight stage.Write o q p r l) → IsAdmitted listed n k o → LeadsBy safe s n k o
       (record s { heap = slice_set s.heap ((q - 65536) / 8 + i_of o) (value_written (flight stage.Write o q p r l) o) })
       (onward (flight stage.Write o q p r l) (Some answer.Done))
   write_leads (op.SetNum q' i m) q p r l is a car pro ad =
@@ -165,14 +155,11 @@ module _ (listed : List ℕ) (safe : ℕ → Bool) (s : ImageScene) (n : NeverSt
 
   cas_by : (b : Bool) (o : Op) (q p r l r' a i w x : ℕ) → w ≡ (placed_at s.allocations a).base + i
       → x ≡ slice_index s.heap w → (placed_at s.allocations a).released ≡ false
-      → is_unmapped (allocation_at n a) ≡ false
-      → i < length (words_of n a) → r ≡ image_of bases (register_at n k r')
-      → Decides s n k (flight stage.Dirty o q p r l)
-      → Move safe s n (record s {
+      → is_unmapped (allocation_at n a) ≡ false → i < length (words_of n a) → r ≡ image_of bases (register_at n k r')
+      → Decides s n k (flight stage.Dirty o q p r l) → Move safe s n (record s {
         heap = slice_set s.heap w (if b then r else x);
         flights = slice_set s.flights k (flight stage.Dirty o q p r l);
-      }) (if b then with_word n a i (register_at n k r')
-      else n)
+      }) (if b then with_word n a i (register_at n k r') else n)
   cas_by true o q p r l r' a i w x ew ex u m inside er at =
       rw ew (Writes k a i r (flight stage.Dirty o q p r l) (register_at n k r') at u m inside (h.bound a i u inside) er
       (own_safe r'))
@@ -180,11 +167,9 @@ module _ (listed : List ℕ) (safe : ℕ → Bool) (s : ImageScene) (n : NeverSt
       rw (ap (slice_set s.heap w) ex ∙ set-get_or s.heap w 0) (goes_bare safe s n k _ at.was refl)
 
   -- A compare and exchange reaches a word, and compares its value to that of its caller's register p.
-  pub cas_compares : (q' i p' r' q p r l x : ℕ)
-      → CarriesOwn bases n k (flight stage.Cas (op.CasPtr q' i p' r') q p r l)
-      → ProbedOwn n k (flight stage.Cas (op.CasPtr q' i p' r') q p r l)
-      → x ≡ slice_index s.heap ((q - 65536) / 8 + i) → IsAdmitted listed n k (op.CasPtr q' i p' r')
-      → (to : Reaches safe s n (register_at n k q') q i IsPointer)
+  pub cas_compares : (q' i p' r' q p r l x : ℕ) → CarriesOwn bases n k (flight stage.Cas (op.CasPtr q' i p' r') q p r l)
+      → ProbedOwn n k (flight stage.Cas (op.CasPtr q' i p' r') q p r l) → x ≡ slice_index s.heap ((q - 65536) / 8 + i)
+      → IsAdmitted listed n k (op.CasPtr q' i p' r') → (to : Reaches safe s n (register_at n k q') q i IsPointer)
       × ((x == p) ≡ is_same (word_at n to.number to.place) (register_at n k p'))
   cas_compares q' i p' r' q p r l x car pro e ad =
       let to = reaches listed safe s n h (register_at n k q') q i IsPointer (car.q refl) (car.some_q refl)
@@ -199,8 +184,7 @@ module _ (listed : List ℕ) (safe : ℕ → Bool) (s : ImageScene) (n : NeverSt
       )
 
   pub cas_leads : (o : Op) (q p r l x : ℕ) → flight_among s.flights k ≡ flight stage.Cas o q p r l
-      → is_astray (standing_at stage.Cas o) ≡ false
-      → CarriesOwn bases n k (flight stage.Cas o q p r l)
+      → is_astray (standing_at stage.Cas o) ≡ false → CarriesOwn bases n k (flight stage.Cas o q p r l)
       → ProbedOwn n k (flight stage.Cas o q p r l) → x ≡ slice_index s.heap ((q - 65536) / 8 + i_of o)
       → IsAdmitted listed n k o
       → LeadsBy safe s n k o (record s { heap = slice_set s.heap ((q - 65536) / 8 + i_of o) (if x == p then r else x) })
@@ -225,8 +209,7 @@ module _ (listed : List ℕ) (safe : ℕ → Bool) (s : ImageScene) (n : NeverSt
   cas_leads _ q p r l x is a car pro e ad = cc
 
   pub getg_leads : (o : Op) (q p r l x : ℕ) → flight_among s.flights k ≡ flight stage.Getg o q p r l → d_of o < 8
-      → is_astray (standing_at stage.Getg o) ≡ false
-      → x ≡ slice_index s.globals (g_of o)
+      → is_astray (standing_at stage.Getg o) ≡ false → x ≡ slice_index s.globals (g_of o)
       → LeadsBy safe s n k o s (progress_getg (flight stage.Getg o q p r l) x)
   getg_leads (op.GetGlobal d g) q p r l x is ld a e =
       let value : x ≡ image_of bases (global_at n g) = e ∙ h.images.globals g in (
@@ -238,8 +221,7 @@ module _ (listed : List ℕ) (safe : ℕ → Bool) (s : ImageScene) (n : NeverSt
   getg_leads _ q p r l x is ld a e = cc
 
   pub setg_leads : (o : Op) (q p r l : ℕ) → flight_among s.flights k ≡ flight stage.Setg o q p r l
-      → is_astray (standing_at stage.Setg o) ≡ false
-      → CarriesOwn bases n k (flight stage.Setg o q p r l)
+      → is_astray (standing_at stage.Setg o) ≡ false → CarriesOwn bases n k (flight stage.Setg o q p r l)
       → g_of o < length s.globals → g_of o < length n.globals
       → LeadsBy safe s n k o (record s { globals = slice_set s.globals (g_of o) p })
       (onward (flight stage.Setg o q p r l) (Some answer.Done))

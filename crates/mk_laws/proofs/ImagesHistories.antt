@@ -39,17 +39,14 @@ joined_right : (bs : List ℕ) (n : NeverState) (xs ys : List Decided)
     → answered xs ≡ answers_of bs (replies_of n (asked xs))
     → answered ys ≡ answers_of bs (replies_of (after_calls n (asked xs)) (asked ys))
     → answered (xs ++ ys) ≡ answers_of bs (replies_of n (asked (xs ++ ys)))
-joined_right bs n xs ys hx hy =
-    map-append answer_in xs ys ∙ rw hx (rw hy (sym (map-append (answer_of bs) _ _)
+joined_right bs n xs ys hx hy = map-append answer_in xs ys ∙ rw hx (rw hy (sym (map-append (answer_of bs) _ _)
     ∙ ap (answers_of bs) (sym (replies_append n (asked xs) (asked ys))
     ∙ ap (replies_of n) (sym (map-append call_of xs ys)))))
 
 -- The list is in two parts: the events that are done, and those that come.
 follows_from : (c : Config) (whole done es : List Event) (w : World) (n : NeverState) → IsWithinLimits c
-    → w ≡ left c done → AreEnabled c done → AreEnabledFrom c w es
-    → done ++ es ≡ whole → ImagePremisesAlong c whole → Mirrors c w n
-    → AreAdmitted c.globals n (asked (calls_from c w es))
-    → FollowsAll c w n es
+    → w ≡ left c done → AreEnabled c done → AreEnabledFrom c w es → done ++ es ≡ whole → ImagePremisesAlong c whole
+    → Mirrors c w n → AreAdmitted c.globals n (asked (calls_from c w es)) → FollowsAll c w n es
 unfolding left_from AreEnabledFrom calls_from
 follows_from c whole done [] w n limits is was on e others mirrors ad =
     record { mirrors = mirrors; bases = record { more = []; is = sym (append-nil _) }; right = refl }
@@ -133,8 +130,7 @@ others_behind : (c : Config) (es : List Event) → ImagePremisesAlong c es → I
 others_behind c es others = others es [] (append-nil es)
 
 pub histories_tell : HistoriesTellOthers
-histories_tell c es h others =
-    images_say c (left c es) (never_behind c es) (known_world c es h.within_limits h.enabled)
+histories_tell c es h others = images_say c (left c es) (never_behind c es) (known_world c es h.within_limits h.enabled)
     (others_behind c es others) (histories_mirror c es h others)
 
 -- What is reached is in a safe set.
@@ -145,11 +141,9 @@ safe_leads safe _ number is leads = absurd leads
 pub reached_is_unreleased : ReachedIsUnreleased
 reached_is_unreleased c es h others number reached =
     let set = (histories_mirror c es h others).safe in
-    set.1.unreleased number
-    (reached_is_in (never_behind c es) (λ a. set.0 a ≡ true)
+    set.1.unreleased number (reached_is_in (never_behind c es) (λ a. set.0 a ≡ true)
     record {
       registers = λ r a leads. safe_leads set.0 _ a (set.1.registers r) leads;
       globals = λ g a leads. safe_leads set.0 _ a (set.1.globals g) leads;
       words = λ from place a is leads. safe_leads set.0 _ a (set.1.closed from place is leads.0) leads.1;
-    }
-    number reached)
+    } number reached)

@@ -29,15 +29,13 @@ AreSmall fs = (j : ℕ) → (q_of (flight_among fs j).op < 8) × (p_of (flight_a
 
 -- words of two mapped allocations are apart
 abbrev pub AreApart : List PlacedAllocation → NeverState → Type 0
-AreApart xs n =
-    (a b i j : ℕ) → (placed_at xs a).released ≡ false → (placed_at xs b).released ≡ false → i < length (words_of n a)
-    → j < length (words_of n b)
-    → a ≢ b → (placed_at xs a).base + i ≢ (placed_at xs b).base + j
+AreApart xs n = (a b i j : ℕ) → (placed_at xs a).released ≡ false → (placed_at xs b).released ≡ false
+    → i < length (words_of n a) → j < length (words_of n b) → a ≢ b
+    → (placed_at xs a).base + i ≢ (placed_at xs b).base + j
 
 -- of each allocation the length and whether it is unmapped are the same
 abbrev pub AreAlike : NeverState → NeverState → Type 0
-AreAlike n m = (a : ℕ)
-    → (length (words_of m a) ≡ length (words_of n a))
+AreAlike n m = (a : ℕ) → (length (words_of m a) ≡ length (words_of n a))
     × (is_unmapped (allocation_at m a) ≡ is_unmapped (allocation_at n a))
 
 -- the registers, where one flight is set, from the caller's own and the others
@@ -84,11 +82,10 @@ others_carry bs cs fs k f n m there small own same h j = elim (cases_eq j k) [
 ]
 
 others_probed : (fs : List Flight) (k : ℕ) (f : Flight) (n m : NeverState) → k < length fs → AreSmall fs
-    → is_past_probe f.stage ≡ false
-    → ((j r : ℕ) → j ≢ k → r < 8 → register_at m j r ≡ register_at n j r)
+    → is_past_probe f.stage ≡ false → ((j r : ℕ) → j ≢ k → r < 8 → register_at m j r ≡ register_at n j r)
     → ((j : ℕ) → j ≢ k → is_past_probe (flight_among fs j).stage ≡ true → (v : Value) (i : ℕ) → IsMet n v i
-    → IsMet m v i)
-    → ((j : ℕ) → ProbedOwn n j (flight_among fs j)) → (j : ℕ) → ProbedOwn m j (flight_among (slice_set fs k f) j)
+    → IsMet m v i) → ((j : ℕ) → ProbedOwn n j (flight_among fs j)) → (j : ℕ)
+    → ProbedOwn m j (flight_among (slice_set fs k f) j)
 others_probed fs k f n m there small own same meets h j = elim (cases_eq j k) [
   | inl e ↦ rw (ap (λ i. flight_among (slice_set fs k f) i) e ∙ get_or-set_same fs k f at_rest there)
       (λ past. let x : false ≡ true = sym own ∙ past in cc)
@@ -113,8 +110,7 @@ module _ (s : ImageScene) (n : NeverState) (h : AreImages s n) (small : AreSmall
   bases = bases_of s.allocations
 
   flies : (k : ℕ) (f : Flight) → ((r x : ℕ) → shown f r x ≡ shown (flight_among s.flights k) r x)
-      → CarriesOwn bases n k f → ProbedOwn n k f
-      → AreImages (record s { flights = slice_set s.flights k f }) n
+      → CarriesOwn bases n k f → ProbedOwn n k f → AreImages (record s { flights = slice_set s.flights k f }) n
   flies k f same carries probed =
       record {
         registers = λ i. set_by (λ (x : Flight). shown x (i % 8) (slice_index s.registers i)
@@ -128,42 +124,33 @@ module _ (s : ImageScene) (n : NeverState) (h : AreImages s n) (small : AreSmall
       }
 
   owes_one : (k : ℕ) (f : Flight) (v : Value) → k < length s.flights → 8 * k + 7 < length n.registers
-      → is_put (flight_among s.flights k).stage ≡ false → f.stage ≡ stage.Put
-      → d_of f.op < 8
+      → is_put (flight_among s.flights k).stage ≡ false → f.stage ≡ stage.Put → d_of f.op < 8
       → f.loaded ≡ image_of bases v
       → AreImages (record s { flights = slice_set s.flights k f }) (with_register n k (d_of f.op) v)
   owes_one k f v there long was put ld is =
       record {
-        registers = registers_from _ s.flights k f s.registers _ there
-            (λ r lr. elim (cases_eq r (d_of f.op)) [
-              | inl e ↦ subst (λ j. shown f j (slice_index s.registers (8 * k + j))
-                  ≡ image_of bases
-                  (slice_index_or (slice_set n.registers (8 * k + d_of f.op) v) (8 * k + j) Null)) (sym e)
-                  (shows_owed f _ put ∙ is
-                  ∙ ap (image_of bases)
-                  (sym (get_or-set_same n.registers (8 * k + d_of f.op) v Null (omega arith))))
-              | inr ne ↦ shows_other f r _ put (λ e. ne (sym e)) ∙ own_plain s n h k r lr was
-                  ∙ ap (image_of bases)
-                  (sym (get_or-set_other n.registers (8 * k + d_of f.op) (8 * k + r) v Null
-                  (λ e. absurd (ne (omega arith)))))
-            ])
-            (λ i ne. h.registers i
-            ∙ ap (image_of bases)
+        registers = registers_from _ s.flights k f s.registers _ there (λ r lr. elim (cases_eq r (d_of f.op)) [
+          | inl e ↦ subst (λ j. shown f j (slice_index s.registers (8 * k + j)) ≡ image_of bases
+              (slice_index_or (slice_set n.registers (8 * k + d_of f.op) v) (8 * k + j) Null)) (sym e)
+              (shows_owed f _ put ∙ is ∙ ap (image_of bases)
+              (sym (get_or-set_same n.registers (8 * k + d_of f.op) v Null (omega arith))))
+          | inr ne ↦ shows_other f r _ put (λ e. ne (sym e)) ∙ own_plain s n h k r lr was ∙ ap (image_of bases)
+              (sym (get_or-set_other n.registers (8 * k + d_of f.op) (8 * k + r) v Null
+              (λ e. absurd (ne (omega arith)))))
+        ]) (λ i ne. h.registers i ∙ ap (image_of bases)
             (sym (get_or-set_other n.registers (8 * k + d_of f.op) i v Null (λ e. absurd (ne (omega arith))))));
         globals = h.globals;
         heap = h.heap;
         carried = others_carry _ _ s.flights k f n (with_register n k (d_of f.op) v) there small
             (λ a b d. put_carries _ f a b d put)
-            (λ j r ne lr. ap (image_of bases) (other_register n k (d_of f.op) j r v ld lr ne))
-            h.carried;
+            (λ j r ne lr. ap (image_of bases) (other_register n k (d_of f.op) j r v ld lr ne)) h.carried;
         probed = others_probed s.flights k f n (with_register n k (d_of f.op) v) there small (put_past f.stage put)
             (λ j r ne lr. other_register n k (d_of f.op) j r v ld lr ne)
             (λ j ne past v' i m. met_same n (with_register n k (d_of f.op) v) v' i (λ a. refl) (λ a u. u) m) h.probed;
       }
 
   pays : (k : ℕ) (f : Flight) → k < length s.flights → 8 * k + 7 < length s.registers
-      → (flight_among s.flights k).stage ≡ stage.Put → d_of (flight_among s.flights k).op < 8
-      → is_bare f.stage ≡ true
+      → (flight_among s.flights k).stage ≡ stage.Put → d_of (flight_among s.flights k).op < 8 → is_bare f.stage ≡ true
       → AreImages (record s {
         flights = slice_set s.flights k f;
         registers = slice_set s.registers (8 * k + d_of (flight_among s.flights k).op)
@@ -172,20 +159,18 @@ module _ (s : ImageScene) (n : NeverState) (h : AreImages s n) (small : AreSmall
   pays k f there long put ld bare =
       let old = flight_among s.flights k in
       record {
-        registers = registers_from _ s.flights k f _ n.registers there
-            (λ r lr. elim (cases_eq r (d_of old.op)) [
-              | inl e ↦ subst (λ j. shown f j
-                  (slice_index (slice_set s.registers (8 * k + d_of old.op) old.loaded) (8 * k + j))
-                  ≡ image_of bases (slice_index_or n.registers (8 * k + j) Null)) (sym e)
-                  (shows_plain f _ _ (bare_owes_nothing f.stage bare)
-                  ∙ get_or-set_same s.registers (8 * k + d_of old.op) old.loaded 0 (omega arith)
-                  ∙ sym (shows_owed old _ put) ∙ own_shown s n h k (d_of old.op) ld)
-              | inr ne ↦ shows_plain f _ _ (bare_owes_nothing f.stage bare)
-                  ∙ get_or-set_other s.registers (8 * k + d_of old.op) (8 * k + r) old.loaded 0
-                  (λ e. absurd (ne (omega arith)))
-                  ∙ sym (shows_other old r _ put (λ e. ne (sym e))) ∙ own_shown s n h k r lr
-            ])
-            (λ i ne. ap (shown (flight_among s.flights (i / 8)) (i % 8))
+        registers = registers_from _ s.flights k f _ n.registers there (λ r lr. elim (cases_eq r (d_of old.op)) [
+          | inl e ↦ subst (λ j. shown f j
+              (slice_index (slice_set s.registers (8 * k + d_of old.op) old.loaded) (8 * k + j))
+              ≡ image_of bases (slice_index_or n.registers (8 * k + j) Null)) (sym e)
+              (shows_plain f _ _ (bare_owes_nothing f.stage bare)
+              ∙ get_or-set_same s.registers (8 * k + d_of old.op) old.loaded 0 (omega arith)
+              ∙ sym (shows_owed old _ put) ∙ own_shown s n h k (d_of old.op) ld)
+          | inr ne ↦ shows_plain f _ _ (bare_owes_nothing f.stage bare)
+              ∙ get_or-set_other s.registers (8 * k + d_of old.op) (8 * k + r) old.loaded 0
+              (λ e. absurd (ne (omega arith)))
+              ∙ sym (shows_other old r _ put (λ e. ne (sym e))) ∙ own_shown s n h k r lr
+        ]) (λ i ne. ap (shown (flight_among s.flights (i / 8)) (i % 8))
             (get_or-set_other s.registers (8 * k + d_of old.op) i old.loaded 0 (λ e. absurd (ne (omega arith))))
             ∙ h.registers i);
         globals = h.globals;
@@ -225,8 +210,7 @@ module _ (s : ImageScene) (n : NeverState) (h : AreImages s n) (small : AreSmall
   plain_registers : (k : ℕ) (f : Flight) → Decides s n k f → (i : ℕ)
       → shown (flight_among (slice_set s.flights k f) (i / 8)) (i % 8) (slice_index s.registers i)
       ≡ image_of bases (slice_index_or n.registers i Null)
-  plain_registers k f at =
-      registers_from _ s.flights k f s.registers n.registers at.there
+  plain_registers k f at = registers_from _ s.flights k f s.registers n.registers at.there
       (λ r lr. shows_plain f _ _ (bare_owes_nothing f.stage at.bare)
       ∙ own_plain s n h k r lr at.was) (λ i ne. h.registers i)
 
@@ -247,8 +231,7 @@ module _ (s : ImageScene) (n : NeverState) (h : AreImages s n) (small : AreSmall
             h.probed;
       }
 
-  wipes : (x : ℕ)
-      → ((a i : ℕ) → (placed_at s.allocations a).released ≡ false → is_unmapped (allocation_at n a) ≡ false
+  wipes : (x : ℕ) → ((a i : ℕ) → (placed_at s.allocations a).released ≡ false → is_unmapped (allocation_at n a) ≡ false
       → i < length (words_of n a) → (placed_at s.allocations a).base + i ≢ x)
       → AreImages (record s { heap = slice_set s.heap x 0 }) n
   wipes x out =
@@ -262,8 +245,7 @@ module _ (s : ImageScene) (n : NeverState) (h : AreImages s n) (small : AreSmall
 
 -- a store to a word
 pub written_alike : (n : NeverState) (a i : ℕ) (v : Value) → AreAlike n (with_word n a i v)
-written_alike n a i v b =
-    set_by (λ (x : NeverAllocation). (length x.words ≡ length (words_of n b))
+written_alike n a i v b = set_by (λ (x : NeverAllocation). (length x.words ≡ length (words_of n b))
     × (is_unmapped x ≡ is_unmapped (allocation_at n b))) n.allocations a b
     (record (allocation_at n a) { words = slice_set (words_of n a) i v }) no_allocation (λ e. (
       length-set (words_of n a) i v ∙ rw (← e),
@@ -271,23 +253,18 @@ written_alike n a i v b =
     )) (refl, refl)
 
 word_same : (n : NeverState) (a i : ℕ) (v : Value) → i < length (words_of n a) → word_at (with_word n a i v) a i ≡ v
-word_same n a i v lt =
-    ap (λ (x : NeverAllocation). slice_index_or x.words i Null)
+word_same n a i v lt = ap (λ (x : NeverAllocation). slice_index_or x.words i Null)
     (get_or-set_same n.allocations a (record (allocation_at n a) { words = slice_set (words_of n a) i v })
-    no_allocation (exists n a i lt))
-    ∙ get_or-set_same (words_of n a) i v Null lt
+    no_allocation (exists n a i lt)) ∙ get_or-set_same (words_of n a) i v Null lt
 
 word_other : (n : NeverState) (a i j : ℕ) (v : Value) → i < length (words_of n a) → j ≢ i
     → word_at (with_word n a i v) a j ≡ word_at n a j
-word_other n a i j v lt ne =
-    ap (λ (x : NeverAllocation). slice_index_or x.words j Null)
+word_other n a i j v lt ne = ap (λ (x : NeverAllocation). slice_index_or x.words j Null)
     (get_or-set_same n.allocations a (record (allocation_at n a) { words = slice_set (words_of n a) i v })
-    no_allocation (exists n a i lt))
-    ∙ get_or-set_other (words_of n a) i j v Null ne
+    no_allocation (exists n a i lt)) ∙ get_or-set_other (words_of n a) i j v Null ne
 
 word_elsewhere : (n : NeverState) (a i b j : ℕ) (v : Value) → b ≢ a → word_at (with_word n a i v) b j ≡ word_at n b j
-word_elsewhere n a i b j v ne =
-    ap (λ (x : NeverAllocation). slice_index_or x.words j Null)
+word_elsewhere n a i b j v ne = ap (λ (x : NeverAllocation). slice_index_or x.words j Null)
     (get_or-set_other n.allocations a b (record (allocation_at n a) { words = slice_set (words_of n a) i v })
     no_allocation ne)
 
@@ -309,21 +286,17 @@ module _ (s : ImageScene) (n : NeverState) (h : AreImages s n) (small : AreSmall
             let mb' : is_unmapped (allocation_at n b) ≡ false = sym (alike b).1 ∙ mb in
             elim (cases_eq b a) [
               | inl e ↦ elim (cases_eq j i) [
-                | inl e2 ↦
-                    ap (slice_index (slice_set s.heap ((placed_at s.allocations a).base + i) x))
+                | inl e2 ↦ ap (slice_index (slice_set s.heap ((placed_at s.allocations a).base + i) x))
                     (ap (λ y. (placed_at s.allocations y).base + j) e
                     ∙ ap (λ y. (placed_at s.allocations a).base + y) e2)
                     ∙ get_or-set_same s.heap ((placed_at s.allocations a).base + i) x 0 inside ∙ is
                     ∙ ap (image_of (bases_of s.allocations))
                     (sym (ap (λ y. word_at (with_word n a i v) y j) e ∙ ap (word_at (with_word n a i v) a) e2
                     ∙ word_same n a i v li))
-                | inr ne2 ↦
-                    get_or-set_other s.heap ((placed_at s.allocations a).base + i)
+                | inr ne2 ↦ get_or-set_other s.heap ((placed_at s.allocations a).base + i)
                     ((placed_at s.allocations b).base + j) x 0
-                    (λ z. let y = ap (λ y. (placed_at s.allocations y).base) e in absurd
-                    (ne2 (omega (arith, y, z))))
-                    ∙ h.heap b j ub mb' lj'
-                    ∙ ap (image_of (bases_of s.allocations))
+                    (λ z. let y = ap (λ y. (placed_at s.allocations y).base) e in absurd (ne2 (omega (arith, y, z))))
+                    ∙ h.heap b j ub mb' lj' ∙ ap (image_of (bases_of s.allocations))
                     (sym (ap (λ y. word_at (with_word n a i v) y j) e ∙ word_other n a i j v li ne2
                     ∙ ap (λ y. word_at n y j) (sym e)))
               ]
@@ -371,8 +344,7 @@ freed_was n a b = set_by (λ (x : NeverAllocation). is_unmapped x ≡ false
     no_allocation (λ e u. rw e (and_right _ (is_large (words_of n a)) u)) (λ u. u)
 
 freed_is : (n : NeverState) (a b : ℕ) → is_unmapped (record (allocation_at n a) { freed = true }) ≡ false
-    → is_unmapped (allocation_at n b) ≡ false
-    → is_unmapped (allocation_at (with_freed n a) b) ≡ false
+    → is_unmapped (allocation_at n b) ≡ false → is_unmapped (allocation_at (with_freed n a) b) ≡ false
 freed_is n a b s u = set_by (λ (x : NeverAllocation). is_unmapped x ≡ false) n.allocations a b
     (record (allocation_at n a) { freed = true }) no_allocation (λ e. s) u
 
@@ -399,10 +371,8 @@ module _ (s : ImageScene) (n : NeverState) (h : AreImages s n) (small : AreSmall
 
 -- a new allocation
 image_grown : (n : NeverState) (xs : List PlacedAllocation) (y : PlacedAllocation) (v : Value)
-    → length xs ≡ length n.allocations → IsSound n v
-    → image_of (bases_of (xs ++ y ∷ [])) v ≡ image_of (bases_of xs) v
-image_grown n xs y v e s =
-    rw (map-append (λ (x : PlacedAllocation). x.base) xs (y ∷ []))
+    → length xs ≡ length n.allocations → IsSound n v → image_of (bases_of (xs ++ y ∷ [])) v ≡ image_of (bases_of xs) v
+image_grown n xs y v e s = rw (map-append (λ (x : PlacedAllocation). x.base) xs (y ∷ []))
     (image_more n (bases_of xs) (y.base ∷ []) v (length-map xs (λ (x : PlacedAllocation). x.base) ∙ e) s)
 
 suits_grown : (n : NeverState) (xs : List PlacedAllocation) (y : PlacedAllocation) (v : Value) (kind : Kind)
@@ -476,8 +446,7 @@ exists_placed xs a h = elim (cases_lt a (length xs)) [
 module _ (globals : List ℕ) (s : ImageScene) (n : NeverState) (h : AreImages s n) (small : AreSmall s.flights)
     (typed : IsTyped globals n) (same : length s.allocations ≡ length n.allocations) where
   grants : (k d base ty : ℕ) (f : Flight) → Decides s n k f → 8 * k + 7 < length s.registers → d < 8
-      → ((i : ℕ) → i < length (kinds_of n.types ty) → slice_index s.heap (base + i) ≡ 0)
-      → AreImages (record s {
+      → ((i : ℕ) → i < length (kinds_of n.types ty) → slice_index s.heap (base + i) ≡ 0) → AreImages (record s {
         flights = slice_set s.flights k f;
         registers = slice_set s.registers (8 * k + d) (address_of base);
         allocations = s.allocations ++ fresh_one base ty ∷ [];
@@ -534,8 +503,7 @@ module _ (globals : List ℕ) (s : ImageScene) (n : NeverState) (h : AreImages s
 
 -- each move
 pub images_kept : (globals : List ℕ) (safe : ℕ → Bool) (s t : ImageScene) (n m : NeverState) → AreImages s n
-    → AreSmall s.flights → IsTyped globals n
-    → length s.allocations ≡ length n.allocations → AreApart s.allocations n
+    → AreSmall s.flights → IsTyped globals n → length s.allocations ≡ length n.allocations → AreApart s.allocations n
     → Move safe s n t m → AreImages t m
 images_kept globals safe s t n m h small typed same apart Rests = h
 images_kept globals safe s t n m h small typed same apart (Flies k f e c p) = flies s n h small k f e c p

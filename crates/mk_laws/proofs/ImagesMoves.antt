@@ -43,13 +43,11 @@ pub data Move (safe : ℕ → Bool) (s : ImageScene) (n : NeverState) : ImageSce
       → CarriesOwn (bases_of s.allocations) n k f → ProbedOwn n k f
       → Move safe s n (record s { flights = slice_set s.flights k f }) n
   Owes : (k : ℕ) (f : Flight) (v : Value) → k < length s.flights → 8 * k + 7 < length n.registers
-      → is_put (flight_among s.flights k).stage ≡ false → f.stage ≡ stage.Put
-      → d_of f.op < 8
+      → is_put (flight_among s.flights k).stage ≡ false → f.stage ≡ stage.Put → d_of f.op < 8
       → f.loaded ≡ image_of (bases_of s.allocations) v → IsSafe safe v
       → Move safe s n (record s { flights = slice_set s.flights k f }) (with_register n k (d_of f.op) v)
   Pays : (k : ℕ) (f : Flight) → k < length s.flights → 8 * k + 7 < length s.registers
-      → (flight_among s.flights k).stage ≡ stage.Put → d_of (flight_among s.flights k).op < 8
-      → is_bare f.stage ≡ true
+      → (flight_among s.flights k).stage ≡ stage.Put → d_of (flight_among s.flights k).op < 8 → is_bare f.stage ≡ true
       → Move safe s n (record s {
         flights = slice_set s.flights k f;
         registers = slice_set s.registers (8 * k + d_of (flight_among s.flights k).op)
@@ -64,20 +62,17 @@ pub data Move (safe : ℕ → Bool) (s : ImageScene) (n : NeverState) : ImageSce
       → Move safe s n (record s { flights = slice_set s.flights k f; globals = slice_set s.globals g x })
       (with_global n g v)
   Writes : (k a i x : ℕ) (f : Flight) (v : Value) → Decides s n k f → (placed_at s.allocations a).released ≡ false
-      → is_unmapped (allocation_at n a) ≡ false
-      → i < length (words_of n a)
+      → is_unmapped (allocation_at n a) ≡ false → i < length (words_of n a)
       → (placed_at s.allocations a).base + i < length s.heap → x ≡ image_of (bases_of s.allocations) v → IsSafe safe v
       → Move safe s n (record s {
         flights = slice_set s.flights k f;
         heap = slice_set s.heap ((placed_at s.allocations a).base + i) x;
       }) (with_word n a i v)
-  Wipes : (x : ℕ)
-      → ((a i : ℕ) → (placed_at s.allocations a).released ≡ false → is_unmapped (allocation_at n a) ≡ false
+  Wipes : (x : ℕ) → ((a i : ℕ) → (placed_at s.allocations a).released ≡ false → is_unmapped (allocation_at n a) ≡ false
       → i < length (words_of n a) → (placed_at s.allocations a).base + i ≢ x)
       → Move safe s n (record s { heap = slice_set s.heap x 0 }) n
   Grants : (k d base ty : ℕ) (f : Flight) → Decides s n k f → 8 * k + 7 < length s.registers → d < 8
-      → ((i : ℕ) → i < length (kinds_of n.types ty) → slice_index s.heap (base + i) ≡ 0)
-      → Move safe s n (record s {
+      → ((i : ℕ) → i < length (kinds_of n.types ty) → slice_index s.heap (base + i) ≡ 0) → Move safe s n (record s {
         flights = slice_set s.flights k f;
         registers = slice_set s.registers (8 * k + d) (address_of base);
         allocations = s.allocations ++ record { base = base; ty = ty; freed = false; fresh = false; released = false }

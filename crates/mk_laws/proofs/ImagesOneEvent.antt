@@ -1,28 +1,224 @@
 -- One event: the world mirrors the heap that never reuses storage after it, and the answer that it decides is right.
-use Rattle.mk_laws.proofs.Vocabulary.{AreAdmitted, Config, Continues, Event, ImagePremises, IsEnabled, List, Mirrors}
-use Rattle.mk_laws.proofs.Vocabulary.{NeverState, World, answered, answers_of, asked, bases_of, call_decided}
-use Rattle.mk_laws.proofs.Vocabulary.{enabled_meets, image_scene_of, replies_of, world_behind, ℕ, ◌++◌, ◌∙◌, ◌≡◌}
-use Rattle.mk_laws.proofs.Basics.{KnownWorld, ready_of, stands_of}
+use Rattle.std.proofs.Common.{length-append}
+use Rattle.mk_laws.proofs.Vocabulary.{AreAdmitted, Bool, Config, Continues, Event, ImagePremises, ImageScene, IsEnabled}
+use Rattle.mk_laws.proofs.Vocabulary.{IsSafe, IsSafeSet, Kind, List, Mirrors, NeverAllocation, NeverState, Null, Number}
+use Rattle.mk_laws.proofs.Vocabulary.{PlacedAllocation, Ptr, To, Value, World, [], allocation_at, answered, answers_of}
+use Rattle.mk_laws.proofs.Vocabulary.{ap, arith, asked, bases_of, call_decided, cases_eq, enabled_meets, eq-eqb}
+use Rattle.mk_laws.proofs.Vocabulary.{eqb-true, get_or, get_or-set_other, get_or-set_same, image_scene_of, inl, inr}
+use Rattle.mk_laws.proofs.Vocabulary.{kinds_of, length, length-set, map, no_allocation, or_cases, or_left, or_right}
+use Rattle.mk_laws.proofs.Vocabulary.{placed_at, refl, replies_of, set_by, slice_index_or, slice_set, subst, suc, sym}
+use Rattle.mk_laws.proofs.Vocabulary.{true, with_freed, with_global, with_new, with_register, with_word, words_of}
+use Rattle.mk_laws.proofs.Vocabulary.{world_behind, zero, ℕ, ◌*◌, ◌++◌, ◌+◌, ◌<◌, ◌==◌, ◌||◌, ◌∙◌, ◌∷◌, ◌≡◌, ◌≢◌}
+use Rattle.mk_laws.proofs.Basics.{Frees, Grants, KnownWorld, Move, Releases, Renews, Writes, ready_of, stands_of}
+use Rattle.mk_never.specs.Types.{zero_of}
+use Rattle.mk_laws.specs.Images.{AreTwins}
+use Rattle.mk_laws.specs.SafeSets.{HasSafeSet}
+use Rattle.mk_laws.proofs.ImagesMoves.{SamePlaces, Owes, Stores, Shares}
+use Rattle.mk_laws.proofs.ImagesKept.{freed_words, freed_was, written_alike, old_never, new_never, old_placed}
+use Rattle.mk_laws.proofs.ImagesKept.{new_placed, new_words, fresh_one, images_kept}
 use Rattle.mk_never.proofs.Later.{calls_stay}
 use Rattle.mk_never.proofs.TypedCalls.{calls_keep}
 use Rattle.mk_laws.proofs.Bases.{IsLonger, bases_grow}
 use Rattle.mk_laws.proofs.FreedRuns.{never_after, freed_run_stays}
-use Rattle.mk_laws.proofs.ImagesKept.{images_kept}
-use Rattle.mk_laws.proofs.SafeKept.{safe_kept, twins_kept}
 use Rattle.mk_laws.proofs.EventSorts.{goes}
+
+-- There is a safe set after each move, and the two lists of allocations still go together.
+
+wider : (safe : ℕ → Bool) (m : ℕ) (v : Value) → IsSafe safe v → IsSafe (λ a. safe a || (a == m)) v
+wider safe m (Ptr a t o) h = or_left (safe a) (a == m) h
+wider safe m _ h = tt
+
+zero_safe : (safe : ℕ → Bool) (kinds : List Kind) (i : ℕ) → IsSafe safe (get_or (map zero_of kinds) i Null)
+zero_safe safe [] i = tt
+zero_safe safe (Number ∷ kinds) zero = tt
+zero_safe safe (To t o ∷ kinds) zero = tt
+zero_safe safe (kind ∷ kinds) (suc i) = zero_safe safe kinds i
+
+module _ (safe : ℕ → Bool) (s : ImageScene) (n : NeverState) (h : IsSafeSet safe s.allocations n) where
+  of_register : (k d : ℕ) (v : Value) → IsSafe safe v → IsSafeSet safe s.allocations (with_register n k d v)
+  of_register k d v is =
+      record {
+        registers = λ i. set_by (λ x. IsSafe safe x) n.registers (8 * k + d) i v Null (λ e. is) (h.registers i);
+        globals = h.globals;
+        closed = h.closed;
+        unreleased = h.unreleased;
+      }
+
+  of_global : (g : ℕ) (v : Value) → IsSafe safe v → IsSafeSet safe s.allocations (with_global n g v)
+  of_global g v is =
+      record {
+        registers = h.registers;
+        globals = λ i. set_by (λ x. IsSafe safe x) n.globals g i v Null (λ e. is) (h.globals i);
+        closed = h.closed;
+        unreleased = h.unreleased;
+      }
+
+  of_word : (a i : ℕ) (v : Value) → IsSafe safe v → IsSafeSet safe s.allocations (with_word n a i v)
+  of_word a i v is =
+      record {
+        registers = h.registers;
+        globals = h.globals;
+        closed = λ b j sb mb.
+            let was = h.closed b j sb (sym (written_alike n a i v b).1 ∙ mb) in
+            set_by (λ (x : NeverAllocation). IsSafe safe (slice_index_or x.words j Null)) n.allocations a b
+            (record (allocation_at n a) { words = slice_set (words_of n a) i v }) no_allocation
+            (λ e. set_by (λ x. IsSafe safe x) (words_of n a) i j v Null (λ e2. is) (rw e at was)) was;
+        unreleased = h.unreleased;
+      }
+
+  of_freed : (a : ℕ) (xs : List PlacedAllocation)
+      → ((b : ℕ) → (placed_at xs b).released ≡ (placed_at s.allocations b).released)
+      → IsSafeSet safe xs (with_freed n a)
+  of_freed a xs same =
+      record {
+        registers = h.registers;
+        globals = h.globals;
+        closed = λ b j sb mb. rw (freed_words n a b) (h.closed b j sb (freed_was n a b mb));
+        unreleased = λ b sb. same b ∙ h.unreleased b sb;
+      }
+
+  of_same : (xs : List PlacedAllocation) → ((b : ℕ) → (placed_at xs b).released ≡ (placed_at s.allocations b).released)
+      → IsSafeSet safe xs n
+  of_same xs same = record {
+    registers = h.registers;
+    globals = h.globals;
+    closed = h.closed;
+    unreleased = λ b sb. same b ∙ h.unreleased b sb;
+  }
+
+  of_new : (k d base ty : ℕ) → length s.allocations ≡ length n.allocations
+      → IsSafeSet (λ a. safe a || (a == length n.allocations)) (s.allocations ++ fresh_one base ty ∷ [])
+      (with_register (with_new n ty) k d (Ptr (length n.allocations) ty 0))
+  of_new k d base ty same =
+      let m = length n.allocations in
+      record {
+        registers = λ i. set_by (λ x. IsSafe (λ a. safe a || (a == m)) x) n.registers (8 * k + d) i (Ptr m ty 0) Null
+            (λ e. or_right (safe m) (m == m) (eq-eqb m m refl)) (wider safe m _ (h.registers i));
+        globals = λ g. wider safe m _ (h.globals g);
+        closed = λ b j sb mb. elim (cases_eq b m) [
+          | inl e ↦ subst (λ (x : NeverAllocation). IsSafe (λ a. safe a || (a == m)) (slice_index_or x.words j Null))
+              (sym (ap (allocation_at (with_new n ty)) e ∙ new_never n ty)) (zero_safe _ (kinds_of n.types ty) j)
+          | inr ne ↦
+              let na = old_never n ty b ne in
+              subst (λ (x : NeverAllocation). IsSafe (λ a. safe a || (a == m)) (slice_index_or x.words j Null)) (sym na)
+              (wider safe m _ (h.closed b j (old b ne sb) (sym (rw na) ∙ mb)))
+        ];
+        unreleased = λ b sb. elim (cases_eq b m) [
+          | inl e ↦ ap (λ (x : PlacedAllocation). x.released)
+              (ap (placed_at (s.allocations ++ fresh_one base ty ∷ [])) (e ∙ sym same)
+              ∙ new_placed s.allocations (fresh_one base ty))
+          | inr ne ↦ rw (old_placed s.allocations (fresh_one base ty) b (λ e. ne (e ∙ same)))
+              (h.unreleased b (old b ne sb))
+        ];
+      }
+    where
+      old : (b : ℕ) → b ≢ length n.allocations → (safe b || (b == length n.allocations)) ≡ true → safe b ≡ true
+      old b ne sb = elim (or_cases (safe b) (b == length n.allocations) sb) [
+        | inl x ↦ x
+        | inr x ↦ absurd (ne (eqb-true b (length n.allocations) x))
+      ]
+
+pub safe_kept : (safe : ℕ → Bool) (s t : ImageScene) (n m : NeverState) → IsSafeSet safe s.allocations n
+    → length s.allocations ≡ length n.allocations → Move safe s n t m → HasSafeSet t.allocations m
+safe_kept safe s t n m h same (Owes k f v a b c d e g i) = (safe, of_register safe s n h k _ v i)
+safe_kept safe s t n m h same (Stores k d x f v a b c e g) = (safe, of_register safe s n h k d v g)
+safe_kept safe s t n m h same (Shares k g x f v a b c d e) = (safe, of_global safe s n h g v e)
+safe_kept safe s t n m h same (Writes k a i x f v at u mm li inside is sv) = (safe, of_word safe s n h a i v sv)
+safe_kept safe s t n m h same (Grants k d base ty f at long ld z) =
+    (λ a. safe a || (a == length n.allocations), of_new safe s n h k d base ty same)
+safe_kept safe s t n m h same (Frees k a f xs at places released there others is quiet) =
+    (safe, of_freed safe s n h a xs released)
+safe_kept safe s t n m h same (Renews xs places released freed) = (safe, of_same safe s n h xs released)
+safe_kept safe s t n m h same (Releases xs places released freed kept cut) = (kept, cut)
+safe_kept safe s t n m h same _ = (safe, h)
+
+-- the two lists of allocations
+twins_changed : (xs : List PlacedAllocation) (n : NeverState) (a : ℕ) (x : NeverAllocation)
+    → x.ty ≡ (allocation_at n a).ty → x.freed ≡ (allocation_at n a).freed
+    → AreTwins xs n → AreTwins xs (record n { allocations = slice_set n.allocations a x })
+twins_changed xs n a x et ef h =
+    record {
+      count = h.count ∙ sym (length-set n.allocations a x);
+      ty = λ b lt. h.ty b lt
+          ∙ set_by (λ (y : NeverAllocation). (allocation_at n b).ty ≡ y.ty) n.allocations a b x no_allocation
+          (λ e. rw e (sym et)) refl;
+      freed = λ b lt. h.freed b lt
+          ∙ set_by (λ (y : NeverAllocation). (allocation_at n b).freed ≡ y.freed) n.allocations a b x no_allocation
+          (λ e. rw e (sym ef)) refl;
+    }
+
+twins_same : (xs ys : List PlacedAllocation) (n : NeverState) → SamePlaces xs ys
+    → ((a : ℕ) → (placed_at ys a).freed ≡ (placed_at xs a).freed) → AreTwins xs n → AreTwins ys n
+twins_same xs ys n p f h =
+    record {
+      count = p.count ∙ h.count;
+      ty = λ b lt. p.each b ∙ h.ty b (let e = p.count in omega (arith, e));
+      freed = λ b lt. f b ∙ h.freed b (let e = p.count in omega (arith, e));
+    }
+
+twins_freed : (xs ys : List PlacedAllocation) (n : NeverState) (a : ℕ) → SamePlaces xs ys → a < length n.allocations
+    → ((b : ℕ) → b ≢ a → (placed_at ys b).freed ≡ (placed_at xs b).freed) → (placed_at ys a).freed ≡ true
+    → AreTwins xs n → AreTwins ys (with_freed n a)
+twins_freed xs ys n a p la others is h =
+    let new = record (allocation_at n a) { freed = true } in
+    record {
+      count = p.count ∙ h.count ∙ sym (length-set n.allocations a new);
+      ty = λ b lt. p.each b ∙ h.ty b (let e = p.count in omega (arith, e))
+          ∙ set_by (λ (y : NeverAllocation). (allocation_at n b).ty ≡ y.ty) n.allocations a b new no_allocation
+          (λ e. rw e) refl;
+      freed = λ b lt. elim (cases_eq b a) [
+        | inl e ↦ ap (λ j. (placed_at ys j).freed) e ∙ is ∙ sym (ap (λ j. (allocation_at (with_freed n a) j).freed) e
+            ∙ rw (get_or-set_same n.allocations a new no_allocation la))
+        | inr ne ↦ others b ne ∙ h.freed b (let e = p.count in omega (arith, e))
+            ∙ sym (rw (get_or-set_other n.allocations a b new no_allocation ne))
+      ];
+    }
+
+twins_new : (xs : List PlacedAllocation) (n : NeverState) (base ty : ℕ) → AreTwins xs n
+    → AreTwins (xs ++ fresh_one base ty ∷ []) (with_new n ty)
+twins_new xs n base ty h =
+    let y = fresh_one base ty in
+    let same = h.count in
+    let longer = length-append xs (y ∷ []) in
+    record {
+      count = length-append xs (y ∷ []) ∙ rw same (sym (length-append n.allocations (new_words n ty ∷ [])));
+      ty = λ b lt. elim (cases_eq b (length xs)) [
+        | inl e ↦ ap (λ (x : PlacedAllocation). x.ty) (ap (placed_at (xs ++ y ∷ [])) e ∙ new_placed xs y)
+            ∙ sym (rw (ap (allocation_at (with_new n ty)) (e ∙ same) ∙ new_never n ty))
+        | inr ne ↦ rw (old_placed xs y b ne) (h.ty b (omega arith)
+            ∙ sym (rw (old_never n ty b (λ e. ne (e ∙ sym same)))))
+      ];
+      freed = λ b lt. elim (cases_eq b (length xs)) [
+        | inl e ↦ ap (λ (x : PlacedAllocation). x.freed) (ap (placed_at (xs ++ y ∷ [])) e ∙ new_placed xs y)
+            ∙ sym (rw (ap (allocation_at (with_new n ty)) (e ∙ same) ∙ new_never n ty))
+        | inr ne ↦ rw (old_placed xs y b ne) (h.freed b (omega arith)
+            ∙ sym (rw (old_never n ty b (λ e. ne (e ∙ sym same)))))
+      ];
+    }
+
+pub twins_kept : (safe : ℕ → Bool) (s t : ImageScene) (n m : NeverState) → AreTwins s.allocations n → Move safe s n t m
+    → AreTwins t.allocations m
+twins_kept safe s t n m h (Owes k f v a b c d e g i) = record { count = h.count; ty = h.ty; freed = h.freed }
+twins_kept safe s t n m h (Stores k d x f v a b c e g) = record { count = h.count; ty = h.ty; freed = h.freed }
+twins_kept safe s t n m h (Shares k g x f v a b c d e) = record { count = h.count; ty = h.ty; freed = h.freed }
+twins_kept safe s t n m h (Writes k a i x f v at u mm li inside is sv) = twins_changed s.allocations n a _ refl refl h
+twins_kept safe s t n m h (Grants k d base ty f at long ld z) = let g =
+    twins_new s.allocations n base ty h in record { count = g.count; ty = g.ty; freed = g.freed }
+twins_kept safe s t n m h (Frees k a f xs at places released there others is quiet) =
+    twins_freed s.allocations xs n a places there others is h
+twins_kept safe s t n m h (Renews xs places released freed) = twins_same s.allocations xs n places freed h
+twins_kept safe s t n m h (Releases xs places released freed kept cut) = twins_same s.allocations xs n places freed h
+twins_kept safe s t n m h _ = h
 
 -- what an event leaves, and that what it decides is right, where more is granted later too
 pub record Follows (c : Config) (w : World) (n : NeverState) (e : Event) : Type 0 where
   pub mirrors : Mirrors c (world_behind c w e) (never_after c w n e)
   pub bases : IsLonger (bases_of w.allocations) (bases_of (world_behind c w e).allocations)
-  pub right : (later : List ℕ)
-      → answered (call_decided c w.now e)
+  pub right : (later : List ℕ) → answered (call_decided c w.now e)
       ≡ answers_of (bases_of (world_behind c w e).allocations ++ later) (replies_of n (asked (call_decided c w.now e)))
 
 pub one_event : (c : Config) (w : World) (n : NeverState) (e : Event) → KnownWorld c w → ImagePremises c w
-    → Mirrors c w n
-    → IsEnabled c w.now e
-    → AreAdmitted c.globals n (asked (call_decided c w.now e)) → Follows c w n e
+    → Mirrors c w n → IsEnabled c w.now e → AreAdmitted c.globals n (asked (call_decided c w.now e)) → Follows c w n e
 one_event c w n e known others mirrors on ad =
     let safe = mirrors.safe in
     let st = stands_of c w known.limits others in
@@ -38,8 +234,7 @@ one_event c w n e known others mirrors on ad =
         global_count = stays.globals ∙ mirrors.global_count;
         typed = calls_keep c.globals n (asked (call_decided c w.now e)) mirrors.typed ad;
         twins = twins_kept safe.0 (image_scene_of w) (image_scene_of (world_behind c w e)) n
-            (never_after c w n e) mirrors.twins
-            leads.0;
+            (never_after c w n e) mirrors.twins leads.0;
         images = images_kept c.globals safe.0 (image_scene_of w) (image_scene_of (world_behind c w e)) n
             (never_after c w n e) mirrors.images ready.small mirrors.typed mirrors.twins.count ready.apart leads.0;
         freed_run = freed_run_stays c w n e known others mirrors (enabled_meets c w.now e on) grows ad;

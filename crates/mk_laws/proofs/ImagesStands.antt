@@ -41,8 +41,7 @@ pub record PageOfWord (c : Config) (a : PlacedAllocation) (i : ℕ) : Type 0 whe
   pub near : distance < pages_made (object_placed c a)
 
 pub page_of_word : (c : Config) (a : PlacedAllocation) (i : ℕ) → IsSized (object_placed c a)
-    → BeginsAtCell (object_placed c a) a.base → i < storage_words c a
-    → PageOfWord c a i
+    → BeginsAtCell (object_placed c a) a.base → i < storage_words c a → PageOfWord c a i
 page_of_word c a i sized b lt = elim (cases_Bool (is_small_object (object_placed c a))) [
   | inl small ↦
       let one = small_pages (object_placed c a) small in
@@ -76,8 +75,7 @@ stands_of c w limits others =
           let h = others.laid_out a u in
           let sized = typed_size c (placed_at w.allocations a) limits h.stands.typed in
           let at = page_of_word c (placed_at w.allocations a) i sized h.stands.begins lt in
-          ap (λ p. is_unmapped_header (header_in w.now.words p)) at.page
-          ∙ ap (λ x. is_unmapped_header (header_of x))
+          ap (λ p. is_unmapped_header (header_in w.now.words p)) at.page ∙ ap (λ x. is_unmapped_header (header_of x))
           (h.mapped (mapped_is c (placed_at w.allocations a) u ∙ ap not un) at.distance at.near)
           ∙ made_is_mapped (object_placed c (placed_at w.allocations a)) at.distance sized at.near;
       run = λ a u large.
@@ -99,14 +97,12 @@ count_in (Some run) = run.count
 count_in None = 0
 
 other_run : (r s : RunPages) → ((r.page == s.page) && (r.count == s.count)) ≡ false → Some r ≢ Some s
-other_run r s e is =
-    true≢false
+other_run r s e is = true≢false
     (sym (and_from (r.page == s.page) (r.count == s.count) (eq-eqb r.page s.page (ap page_in is))
     (eq-eqb r.count s.count (ap count_in is))) ∙ e)
 
 gone_headers : (c : Config) (w : Words) (freed : Option RunPages) (a : PlacedAllocation) → IsLaidOut c w freed a
-    → is_mapped c a ≡ false → is_run_gone w freed ≡ true
-    → (distance : ℕ) → distance < pages_made (object_placed c a)
+    → is_mapped c a ≡ false → is_run_gone w freed ≡ true → (distance : ℕ) → distance < pages_made (object_placed c a)
     → header_at w (a.base / 64 + distance) ≡ unmapped_header (pages_made (object_placed c a)) distance
 gone_headers c w None a h un gone distance near = h.unmapped un (λ e. cc) distance near
 gone_headers c w (Some run) a h un gone distance near =
@@ -131,7 +127,5 @@ gone_shows c w limits others gone a i u un lt =
     let sized = typed_size c x limits h.stands.typed in
     let at = page_of_word c x i sized h.stands.begins lt in
     let large = large_object c x (and_parts x.freed (is_large (kinds_of c.types x.ty)) un).1 in
-    rw at.page
-    (rw (gone_headers c w.now.words w.now.seats.holding.freed x h (mapped_is c x u ∙ ap not un) gone
-    at.distance at.near)
-    (unmapped_is_unmapped _ at.distance (large_count (object_placed c x) sized large) at.near))
+    rw at.page (rw (gone_headers c w.now.words w.now.seats.holding.freed x h (mapped_is c x u ∙ ap not un) gone
+    at.distance at.near) (unmapped_is_unmapped _ at.distance (large_count (object_placed c x) sized large) at.near))

@@ -48,8 +48,7 @@ in_heap_behind c w seat x known in_heap h =
     let e : Event = record { seat = seat; step = x } in
     record {
       lengths = accessed_lengths c.pages w.now.words (word_accessed c w.now e) (access c w.now e) in_heap.lengths;
-      runs =
-          runs_behind c w (flight_of w.now seat) (ground_of (WorldBehind c w seat x))
+      runs = runs_behind c w (flight_of w.now seat) (ground_of (WorldBehind c w seat x))
           (λ place now. place_fits_now c w.now seat x place in_heap.lengths.pages in_heap.places h now) in_heap.runs
           (ground_step c w seat x h);
       places = places_behind c w seat x known in_heap.lengths.pages in_heap.places h;
@@ -60,8 +59,7 @@ in_heap_from : (c : Config) (w : World) (es : List Event) → Known c w.now → 
     → InHeap c (left_from c w es).now
 unfolding left_from AreEnabledFrom
 in_heap_from c w [] known in_heap on = in_heap
-in_heap_from c w (e ∷ es) known in_heap on =
-    in_heap_from c (world_behind c w e) es (known_behind c w.now e known on.0)
+in_heap_from c w (e ∷ es) known in_heap on = in_heap_from c (world_behind c w e) es (known_behind c w.now e known on.0)
     (in_heap_behind c w e.seat e.step known in_heap (enabled_meets c w.now e on.0)) on.1
 
 in_heap_at_first : (c : Config) → InHeap c (first_moment c)

@@ -44,6 +44,5 @@ events_keep_the_invariant c es e h all =
 
 pub histories_keep_the_invariant : OfHistories KeepsTheInvariant
 unfolding left_from calls_from
-histories_keep_the_invariant =
-    holds_of_histories KeepsTheInvariant (λ c. invariant_at_first c)
+histories_keep_the_invariant = holds_of_histories KeepsTheInvariant (λ c. invariant_at_first c)
     (λ c es e h all. events_keep_the_invariant c es e h all)

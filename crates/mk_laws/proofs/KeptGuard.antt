@@ -37,8 +37,7 @@ pub record Keeps (c : Config) (m n : Moment) : Type 0 where
 
 -- The words of cells that a header makes are guarded.
 abbrev pub NewCellsAreGuarded : Config → Moment → Moment → Type 0
-NewCellsAreGuarded c m n =
-    (p k i : ℕ) → cells_under (header_in m.words p) ≡ 0 → k < cells_under (header_in n.words p)
+NewCellsAreGuarded c m n = (p k i : ℕ) → cells_under (header_in m.words p) ≡ 0 → k < cells_under (header_in n.words p)
     → i < words_under (header_in n.words p) → IsGuarded c n (64 * p + k * words_under (header_in n.words p) + i)
 
 pub guards : (c : Config) (m n : Moment) → Keeps c m n → (x : ℕ) → IsGuarded c m x → IsGuarded c n x
@@ -51,14 +50,10 @@ guards c m n k x (DirtyIsOwed j owes) =
     elim (k.owed j (x / 64) owes) [ inl o ↦ DirtyIsOwed j o | inr d ↦ PageIsDirty d ]
 
 -- a word that equals the hand, or is guarded
-pub passes : (c : Config) (m n : Moment) (hand : Option ℕ) → Keeps c m n → (x : ℕ)
-    → IsGuarded c m x ⊎ (hand ≡ Some (slice_index m.words.heap x))
-    → IsGuarded c n x ⊎ (hand ≡ Some (slice_index n.words.heap x))
+pub passes : (c : Config) (m n : Moment) (hand : Option ℕ) → Keeps c m n → (x : ℕ) → IsGuarded c m x
+    ⊎ (hand ≡ Some (slice_index m.words.heap x)) → IsGuarded c n x ⊎ (hand ≡ Some (slice_index n.words.heap x))
 passes c m n hand k x (inl g) = inl (guards c m n k x g)
-passes c m n hand k x (inr e) = elim (k.heap x) [
-  | inl same ↦ inr (e ∙ rw (← same))
-  | inr g ↦ inl g
-]
+passes c m n hand k x (inr e) = elim (k.heap x) [ inl same ↦ inr (e ∙ rw (← same)) | inr g ↦ inl g ]
 
 not_true : (b : Bool) → (b ≡ true → ⊥) → b ≡ false
 not_true false h = refl

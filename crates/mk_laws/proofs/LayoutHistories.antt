@@ -1,29 +1,179 @@
 -- All is in order after every list of enabled events.
-use Rattle.std.specs.Prelude.{replicate}
-use Rattle.mk_laws.proofs.Vocabulary.{AreEnabledFrom, AreOfPages, Bool, Config, Event, HasQuarantine, IsEnabled}
-use Rattle.mk_laws.proofs.Vocabulary.{IsHeaderWord, IsQuarantined, IsWithinLimits, Later, LayoutPremises}
-use Rattle.mk_laws.proofs.Vocabulary.{LayoutPremisesFrom, LayoutStands, List, NoPlot, Page, Seat, Some, StandsInOrder}
-use Rattle.mk_laws.proofs.Vocabulary.{Step, World, [], access, accessed_lengths, ap, arith, enabled_meets, false}
-use Rattle.mk_laws.proofs.Vocabulary.{first_world, free_page, ground_of, header_of, heads_run, histories_keep_lengths}
-use Rattle.mk_laws.proofs.Vocabulary.{is_phase, left, left_from, object_now, refl, slice_index, slice_index_or, subst}
-use Rattle.mk_laws.proofs.Vocabulary.{sym, true, true≢false, word_accessed, world_behind, zero_lengths, ℕ, ◌∙◌, ◌∷◌}
-use Rattle.mk_laws.proofs.Vocabulary.{◌≡◌}
-use Rattle.mk_laws.proofs.Basics.{Before, Known, Meets, WorldBehind, at_first, is_releasing_behind, known_at_first}
-use Rattle.mk_laws.proofs.Basics.{known_behind, known_left, none_set}
+use Rattle.std.specs.Prelude.{IsSome, replicate}
+use Rattle.mk_laws.proofs.Vocabulary.{AreEnabledFrom, AreOfPages, Bool, Cell, Config, Empties, Event, Flight}
+use Rattle.mk_laws.proofs.Vocabulary.{HasQuarantine, HeadStep, Header, IsClaimedRun, IsEnabled, IsHeaderWord}
+use Rattle.mk_laws.proofs.Vocabulary.{IsQuarantined, IsWithinLimits, ItCarves, ItDrops, ItEmpties, ItFrees}
+use Rattle.mk_laws.proofs.Vocabulary.{ItTakesSnapshot, ItUnmaps, Later, LayoutPremises, LayoutPremisesFrom}
+use Rattle.mk_laws.proofs.Vocabulary.{LayoutStands, List, NoPlot, Object, OfBlock, Option, Page, PlacedAllocation}
+use Rattle.mk_laws.proofs.Vocabulary.{QuarantineStep, RunPages, RunStands, Seat, ShowsPart, Some, StandsInOrder, Step}
+use Rattle.mk_laws.proofs.Vocabulary.{World, [], access, accessed_lengths, and_parts, ap, arith, cases_Bool, cases_eq}
+use Rattle.mk_laws.proofs.Vocabulary.{cell_of_allocation, cells_made, cells_under, claim_of, claims_of, enabled_meets}
+use Rattle.mk_laws.proofs.Vocabulary.{false, first_world, flight_of, free_page, ground_of, has_bit, has_bit_without}
+use Rattle.mk_laws.proofs.Vocabulary.{head_page_under, head_step, header_in, header_made, header_of, header_on}
+use Rattle.mk_laws.proofs.Vocabulary.{heads_run, histories_keep_lengths, inl, inr, is_phase, layout_scene_of, left}
+use Rattle.mk_laws.proofs.Vocabulary.{left_from, length, ltb-true, made_shows, not, object_made, object_now}
+use Rattle.mk_laws.proofs.Vocabulary.{object_placed, pages_made, placed_at, placed_now, quarantine_step, refl}
+use Rattle.mk_laws.proofs.Vocabulary.{seat_exists, shows_on, slice_index, slice_index_or, slice_set, subst, sym, true}
+use Rattle.mk_laws.proofs.Vocabulary.{true≢false, unmapped_header, word_accessed, world_behind, zero_lengths, ℕ, ◌%◌}
+use Rattle.mk_laws.proofs.Vocabulary.{◌-◌, ◌/◌, ◌<◌, ◌^◌, ◌∙◌, ◌∷◌, ◌≡◌}
+use Rattle.mk_laws.proofs.Basics.{Before, Known, Meets, WorldBehind, at_first, bit_cases, headed_other}
+use Rattle.mk_laws.proofs.Basics.{is_releasing_behind, known_at_first, known_behind, known_left, made_sized, none_set}
+use Rattle.mk_laws.proofs.Basics.{own_claim, page_within, reg_leaves_ground, tally_ground, used_header, with_header_on}
+use Rattle.mk_core.specs.declared.events.Step.TheVariants as step
+use Rattle.mk_laws.specs.Quarantine.{FreedCellsAreKnown}
+use Rattle.mk_laws.proofs.Behind.{phase_kind, layout_behind, releasing_marks}
+use Rattle.mk_laws.proofs.LayoutByKind.{off_at}
+use Rattle.mk_laws.proofs.QuarantineByKind.{shown_at, quarantine_by_kind}
+use Rattle.mk_laws.proofs.Unmapping.{cells_at_claim}
+use Rattle.mk_core.proofs.ObjectHeaders.{unmapped_shows}
+use Rattle.mk_laws.specs.Room.{HasHeaderWords, is_taken_page}
+use Rattle.mk_laws.proofs.Releasing.{headed_here}
 use Rattle.mk_core.proofs.EvaluatedHistories.{enabled}
 use Rattle.mk_laws.specs.LayoutLaws.{EventsKeepTheLayout, LayoutHasFewResidentPages, HistoriesAreLaidOut}
 use Rattle.mk_laws.specs.LayoutLaws.{LayoutHasHeaderWords}
-use Rattle.mk_laws.specs.Room.{is_taken_page}
-use Rattle.mk_laws.proofs.Behind.{layout_behind, phase_kind, releasing_marks}
-use Rattle.mk_laws.proofs.Counts.{count_none}
-use Rattle.mk_laws.proofs.HeaderWords.{words_behind}
-use Rattle.mk_laws.proofs.KnownCells.{cells_known_behind}
-use Rattle.mk_laws.proofs.QuarantineByKind.{quarantine_by_kind}
+use Rattle.mk_laws.proofs.ResidentPages.{count_none, resident_few}
 use Rattle.mk_laws.proofs.QuarantineSteps.{none_released, unmarked}
-use Rattle.mk_laws.proofs.ResidentPages.{resident_few}
 use Rattle.mk_laws.proofs.Rooms.{room_behind}
 use Rattle.mk_laws.proofs.SnapshotKinds.{snapshot_behind}
 use Rattle.mk_laws.proofs.WholeRuns.{whole_behind}
+
+-- Each freed bit is that of a cell of its page, after each event.
+
+-- While the phase isn't releasing, a freed bit is that of an allocation's cell, which its page has.
+known_quiet : (c : Config) (w : World) → is_phase w.now.words 4 ≡ false → LayoutStands c w → IsQuarantined c w
+    → FreedCellsAreKnown w
+known_quiet c w off laid q p k h = elim (q.owned p k h) [
+  | inr r ↦ absurd (true≢false (sym r ∙ rw off))
+  | inl o ↦
+      let a : PlacedAllocation = placed_at w.allocations o.number in
+      let shown = shown_at c w o.number laid o.unreleased in
+      let cells = cells_at_claim
+      (layout_scene_of c (object_now c w.now) (is_phase w.now.words 4) w.now.words.marks (ground_of w))
+      (claim_of c w.now.seats.holding.freed a) shown in
+      let page : a.base / 64 ≡ p = ap (λ (x : Cell). x.page) o.cell in
+      let index : (cell_of_allocation c a).index ≡ k = ap (λ (x : Cell). x.index) o.cell in
+      let lt : (cell_of_allocation c a).index < cells_made (object_placed c a) = shown.known in
+      let here : cells_under (header_in w.now.words p) ≡ cells_made (object_placed c a) = rw (← page) cells in
+      omega arith
+]
+
+-- `head` (d): a page that is emptied has no freed cell
+emptied : (w : World) (p n : ℕ) → p < length w.now.words.pages → Empties w.now.words p n → FreedCellsAreKnown w
+    → (q k : ℕ) → has_bit (slice_index w.now.words.freed q) k ≡ true
+    → k < cells_under (shows_on (with_header_on w.now.words.pages p n) q)
+emptied w p n lt x known q k h = elim (cases_eq q p) [
+  | inr ne ↦ rw (headed_other w.now.words.pages p n q ne) (known q k h)
+  | inl e ↦ absurd (none (header_in w.now.words p) refl (rw (← e) h) x.unfreed)
+]
+  where
+    none : (y : Option Header) → header_in w.now.words p ≡ y → has_bit (slice_index w.now.words.freed p) k ≡ true
+        → slice_index w.now.words.freed (head_page_under (header_in w.now.words p) p) ≡ 0 → ⊥
+    none (Some (Later d m)) is bit z = let lt = known p k bit in let cells = ap (λ y. cells_under y) is in omega arith
+    none y is bit z = by y is bit (ap (λ x. slice_index w.now.words.freed (head_page_under x p)) (sym is) ∙ z)
+      where
+        by : (y : Option Header) → header_in w.now.words p ≡ y → has_bit (slice_index w.now.words.freed p) k ≡ true
+            → slice_index w.now.words.freed (head_page_under y p) ≡ 0 → ⊥
+        by (Some (Later d m)) is bit z = let lt = known p k bit in let cells = ap (λ y. cells_under y) is in omega arith
+        by _ is bit z = none_set (slice_index w.now.words.freed p) k z bit
+
+abbrev KnownOn : List Page → List ℕ → Type 0
+KnownOn pages freed = (p k : ℕ) → has_bit (slice_index freed p) k ≡ true → k < cells_under (shows_on pages p)
+
+head_kind : (c : Config) (w : World) (f : Flight) (p n : ℕ) → p < length w.now.words.pages
+    → is_phase w.now.words 4 ≡ true → HeadStep c w.now f p n → FreedCellsAreKnown w
+    → KnownOn (with_header_on w.now.words.pages p n) w.now.words.freed
+head_kind c w f p n lt four (ItCarves off x) known = absurd (true≢false (sym four ∙ off))
+head_kind c w f p n lt four (ItUnmaps off x) known = absurd (true≢false (sym four ∙ off))
+head_kind c w f p n lt four (ItEmpties on x) known = emptied w p n lt x known
+
+quar_kind : (c : Config) (w : World) (f : Flight) (p n : ℕ) → p < length w.now.words.freed
+    → is_phase w.now.words 4 ≡ true → QuarantineStep c w.now f p n → FreedCellsAreKnown w
+    → KnownOn w.now.words.pages (slice_set w.now.words.freed p (n % 2 ^ 32))
+quar_kind c w f p n lf four (ItFrees off x) known = absurd (true≢false (sym four ∙ off))
+quar_kind c w f p n lf four (ItTakesSnapshot x) known =
+    absurd (true≢false (sym four ∙ off_at w 0 x.phase (λ e. absurd (omega arith))))
+quar_kind c w f p n lf four (ItDrops on x) known = λ q k h. elim (bit_cases w.now.words.freed p (n % 2 ^ 32) q k lf) [
+  | inr other ↦ known q k (sym other.1 ∙ h)
+  | inl here ↦
+      let rest : ℕ = slice_index w.now.words.snapshot p - n / 2 ^ 32 in
+      let bit = ap (λ v. has_bit v k) (sym x.is) ∙ sym here.1 ∙ h in
+      let was = (and_parts (has_bit (slice_index w.now.words.freed p) k) (not (has_bit rest k))
+      (sym (has_bit_without (slice_index w.now.words.freed p) rest k) ∙ bit)).0 in
+      known q k (rw here.0 was)
+]
+
+-- what each kind does while the phase is releasing, and where it becomes so
+known_by_kind : (c : Config) (w : World) (seat : Seat) (x : Step) → Before c w → Meets c w.now seat x
+    → is_releasing_behind x (is_phase w.now.words 4) ≡ true → FreedCellsAreKnown w
+    → KnownOn (WorldBehind c w seat x).now.words.pages (WorldBehind c w seat x).now.words.freed
+known_by_kind c w seat (step.Head p n) b h on known =
+    head_kind c w (flight_of w.now seat) p n (page_within c w p b h.range) on
+    (head_step c w.now (flight_of w.now seat) p n h.holder) known
+known_by_kind c w seat (step.Used p n) b h on known =
+    λ q k bit. rw (used_header w.now.words.pages p n q (page_within c w p b h.range)) (known q k bit)
+known_by_kind c w seat (step.Quar p n) b h on known = quar_kind c w (flight_of w.now seat) p n
+    (let lt = ltb-true p c.pages h.range in let len = b.lengths.freed in omega arith) on
+    (quarantine_step c w.now (flight_of w.now seat) p n h.holder) known
+known_by_kind c w seat step.Reg b h on known =
+    let g = reg_leaves_ground c w seat in
+    rw g.pages (rw g.freed known)
+known_by_kind c w seat (step.Tally n v) b h on known =
+    let g = tally_ground w.now.words n v in
+    rw g.pages (rw g.freed known)
+known_by_kind c w seat _ b h on known = known
+
+pub cells_known_behind : (c : Config) (w : World) (seat : Seat) (x : Step) → Before c w → Meets c w.now seat x
+    → FreedCellsAreKnown w → LayoutStands c (WorldBehind c w seat x) → IsQuarantined c (WorldBehind c w seat x)
+    → FreedCellsAreKnown (WorldBehind c w seat x)
+cells_known_behind c w seat x b h known laid q = elim (cases_Bool (is_releasing_behind x (is_phase w.now.words 4))) [
+  | inl on ↦ known_by_kind c w seat x b h on known
+  | inr off ↦ known_quiet c (WorldBehind c w seat x) (phase_kind c w seat x h ∙ off) laid q
+]
+
+-- Each page has a header word, after each event.
+
+part_is : (o : Object) (d : ℕ) (x : Option Header) → ShowsPart o d x → IsSome x
+part_is o d x (OfBlock f s l) = refl
+part_is o d x _ = cc
+
+-- the header that a `head` stores
+stored_word : (c : Config) (w : World) (seat : Seat) (p n : ℕ) → Before c w → seat_exists c seat ≡ true
+    → LayoutStands c w → HeadStep c w.now (flight_of w.now seat) p n → IsHeaderWord n
+stored_word c w seat p n b there laid (ItCarves off x) =
+    let placed = placed_now c w.now (flight_of w.now seat) x.place x.there in
+    let sized = made_sized c w.now seat b.limits b.known placed.new in
+    let o : Object = object_made c (flight_of w.now seat).op in
+    rw x.next.is (part_is o (p - x.place.page) (header_of (header_made o (p - x.place.page)))
+    (made_shows o (p - x.place.page) sized x.next.near))
+stored_word c w seat p n b there laid (ItUnmaps off x) =
+    let r : IsClaimedRun (claims_of c w.now.seats.holding.freed w.allocations) x.run =
+    subst (λ (y : Option RunPages). RunStands (claims_of c w.now.seats.holding.freed w.allocations) y) x.there laid.gone
+    in
+    let o : Object = r.claim.object in
+    let sized = (laid.scene.shown r.claim (own_claim c (object_now c w.now) (ground_of w) r.claim r.among)).sized in
+    let near : p - x.run.page < pages_made o = (let count = r.count in let lt = x.next.near in omega arith) in
+    let value : unmapped_header (pages_made o) (p - x.run.page) ≡ n = rw r.count (sym x.next.is) in
+    rw value at (part_is o (p - x.run.page) (header_of (unmapped_header (pages_made o) (p - x.run.page)))
+    (unmapped_shows o (p - x.run.page) sized near r.large))
+stored_word c w seat p n b there laid (ItEmpties on x) = rw x.is refl
+
+abbrev HaveWords : List Page → Type 0
+HaveWords pages = (p : ℕ) → IsHeaderWord (header_on pages p)
+
+pub words_behind : (c : Config) (w : World) (seat : Seat) (x : Step) → Before c w → Meets c w.now seat x
+    → LayoutStands c w → HasHeaderWords w → HasHeaderWords (WorldBehind c w seat x)
+words_behind c w seat (step.Head p n) b h laid words = λ q. elim (cases_eq q p) [
+  | inl e ↦ rw e (rw (headed_here w.now.words.pages p n (page_within c w p b h.range))
+      (stored_word c w seat p n b h.seat laid (head_step c w.now (flight_of w.now seat) p n h.holder)))
+  | inr ne ↦ rw (headed_other w.now.words.pages p n q ne) (words q)
+]
+words_behind c w seat (step.Used p n) b h laid words =
+    λ q. rw (used_header w.now.words.pages p n q (page_within c w p b h.range)) (words q)
+words_behind c w seat step.Reg b h laid words =
+    subst (λ (ps : List Page). HaveWords ps) (sym (reg_leaves_ground c w seat).pages) words
+words_behind c w seat (step.Tally n v) b h laid words =
+    subst (λ (ps : List Page). HaveWords ps) (sym (tally_ground w.now.words n v).pages) words
+words_behind c w seat _ b h laid words = words
 
 laid_at_first : (c : Config) → LayoutStands c (first_world c)
 laid_at_first c =
@@ -134,8 +284,7 @@ order_from : (c : Config) (w : World) (es : List Event) → IsWithinLimits c →
     → StandsInOrder c w → StandsInOrder c (left_from c w es)
 unfolding left_from AreEnabledFrom LayoutPremisesFrom
 order_from c w [] limits lengths known on others both = both
-order_from c w (e ∷ es) limits lengths known on others both =
-    order_from c (world_behind c w e) es limits
+order_from c w (e ∷ es) limits lengths known on others both = order_from c (world_behind c w e) es limits
     (accessed_lengths c.pages w.now.words (word_accessed c w.now e) (access c w.now e) lengths)
     (known_behind c w.now e known on.0) on.1 others.1 (order_behind c w e limits lengths known on.0 others.0 both)
 

@@ -62,12 +62,7 @@ hand_marks : (w : Words) (pages : ℕ) (hand : Option Hand) (page value : ℕ)
     → is_some_and (λ (h : Hand). is_unmarked h.source) hand ≡ false → MarksWith w pages hand page value
 hand_marks w pages None page value h unswept = cc
 hand_marks w pages (Some x) page value h unswept =
-    record {
-      holds = x;
-      there = refl;
-      unswept = unswept;
-      cell = λ k bit. hand_cell _ page value k h bit;
-    }
+    record { holds = x; there = refl; unswept = unswept; cell = λ k bit. hand_cell _ page value k h bit }
 
 left_holds : (a b : Bool) → (a || b) ≡ true → b ≡ false → a ≡ true
 left_holds true b h none = refl
@@ -87,8 +82,7 @@ place_is_free w o (Some x) page value h = (place_marked w o x page value h).free
 record MarksSeen (c : Config) (w : Words) (x : MarkerState) (k : ℕ) : Type 0 where
   value : ℕ
   there : x.hand ≡ Some value
-  cell : pointed_cell c.pages w.pages value
-      ≡ Some (record { page = seen_page (cell_seen c x.seen x.hand); index = k })
+  cell : pointed_cell c.pages w.pages value ≡ Some (record { page = seen_page (cell_seen c x.seen x.hand); index = k })
 
 seen_marks : (c : Config) (m : Moment) (x : MarkerState) (k : ℕ) → MarkerStands c m x
     → has_bit (seen_bit (cell_seen c x.seen x.hand)) k ≡ true
@@ -108,15 +102,13 @@ seen_marks c m x k stand bit own = by x.seen x.hand refl refl own bit
         at true e None is own bit = cc
         at true e (Some y) is own bit =
             let same : k ≡ y.index = bit_of_cell y.index k bit in
-            let shown : cell_seen c x.seen x.hand ≡ Some y =
-            rw es (rw eh (rw e is)) in
+            let shown : cell_seen c x.seen x.hand ≡ Some y = rw es (rw eh (rw e is)) in
             let page : seen_page (cell_seen c x.seen x.hand) ≡ y.page = rw shown in
             let now = (stand.seen q es).cell value y is in
             record {
               value = value;
               there = eh;
-              cell =
-                  ap (λ p. cell_at c.pages (header_at m.words p) value)
+              cell = ap (λ p. cell_at c.pages (header_at m.words p) value)
                   (sym (eqb-true q.page (page_at_address value) e)) ∙ now ∙ rw (← page) (rw (← same));
             }
     by _ _ es eh own bit = cc
@@ -124,29 +116,27 @@ seen_marks c m x k stand bit own = by x.seen x.hand refl refl own bit
 module _ (c : Config) (w : World) (n : NeverState) (T : ℕ → Type 0) (precise : IsPrecise c w T) where
   -- Whatever of it stands there, a cell that is marked is touched.
   abbrev MarksTouched : Seat → Step → Type 0
-  MarksTouched seat x =
-      (b : ℕ) → (placed_at w.allocations b).released ≡ false
+  MarksTouched seat x = (b : ℕ) → (placed_at w.allocations b).released ≡ false
       → has_bit (slice_index (WorldBehind c w seat x).now.words.marks
       (cell_of_allocation c (placed_at w.allocations b)).page)
       (cell_of_allocation c (placed_at w.allocations b)).index ≡ true → T b
 
   mark_step : (seat : Seat) (p v : ℕ) (after : NeverState) → Steps c w n seat (step.Mark p v) after T
       → MarksTouched seat (step.Mark p v)
-  mark_step seat p v after s b u bit =
-      elim (more_bits w.now.words.marks p v cell.page cell.index bit) [
-        | inl old ↦ precise.marked b u old
-        | inr new ↦ elim (cases_Bool (marks_place w.now.words o place p v)) [
-          | inl placed ↦
-              absurd (has_header c w n b s.before u (rw new.0 (place_is_free w.now.words o place p v placed)))
-          | inr unplaced ↦
-              let hand : Option Hand = w.now.seats.holding.hand in
-              let h = hand_marks w.now.words c.pages hand p v (left_holds _ _ s.meets.holder unplaced)
-              (left_fails (is_some_and (λ (y : Hand). is_unmarked y.source) hand) _ s.unswept unplaced) in
-              let at : pointed_cell c.pages w.now.words.pages h.holds.value ≡ Some cell =
-              h.cell cell.index new.1 ∙ rw (← new.0) in
-              precise.hand h.holds h.there h.unswept b (u, comes_back c w n s.before s.early b h.holds.value u at)
-        ]
-      ]
+  mark_step seat p v after s b u bit = elim (more_bits w.now.words.marks p v cell.page cell.index bit) [
+    | inl old ↦ precise.marked b u old
+    | inr new ↦ elim (cases_Bool (marks_place w.now.words o place p v)) [
+      | inl placed ↦
+          absurd (has_header c w n b s.before u (rw new.0 (place_is_free w.now.words o place p v placed)))
+      | inr unplaced ↦
+          let hand : Option Hand = w.now.seats.holding.hand in
+          let h = hand_marks w.now.words c.pages hand p v (left_holds _ _ s.meets.holder unplaced)
+          (left_fails (is_some_and (λ (y : Hand). is_unmarked y.source) hand) _ s.unswept unplaced) in
+          let at : pointed_cell c.pages w.now.words.pages h.holds.value ≡ Some cell =
+          h.cell cell.index new.1 ∙ rw (← new.0) in
+          precise.hand h.holds h.there h.unswept b (u, comes_back c w n s.before s.early b h.holds.value u at)
+    ]
+  ]
     where
       cell : Cell
       cell = cell_of_allocation c (placed_at w.allocations b)
@@ -200,7 +190,6 @@ module _ (c : Config) (w : World) (n : NeverState) (T : ℕ → Type 0) (precise
 
       by : Came w.allocations (WorldBehind c w seat x).allocations x b → T b
       by (IsNew grant at) = new_is_touched c w n seat x after T b s grant at u
-      by (Stayed was same) =
-          marks_touched seat x after stand s b was
+      by (Stayed was same) = marks_touched seat x after stand s b was
           (subst (λ (y : Cell). is_marked (WorldBehind c w seat x).now.words y ≡ true)
           (same_cell c (placed_at w.allocations b) a same.base same.ty) marked)

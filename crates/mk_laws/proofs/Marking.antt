@@ -52,9 +52,8 @@ closed_at c es k front at =
 
 -- one event of the marking
 moment_behind : (c : Config) (es : List Event) (k : Marking es) (front : List Event) (e : Event)
-    → IsHistory c (front ++ e ∷ []) → LeadsToMoment k front
-    → LeadsToMoment k (front ++ e ∷ []) → is_close e.step ≡ false
-    → sweeps c (left c front).now (flight_of (left c front).now e.seat) e.step ≡ false
+    → IsHistory c (front ++ e ∷ []) → LeadsToMoment k front → LeadsToMoment k (front ++ e ∷ [])
+    → is_close e.step ≡ false → sweeps c (left c front).now (flight_of (left c front).now e.seat) e.step ≡ false
     → AtMoment c (IsTouched c k) front → AtMoment c (IsTouched c k) (front ++ e ∷ [])
 moment_behind c es k front e h here there other unswept at =
     let m = one_more c front e h in
@@ -100,8 +99,7 @@ along c es k done (e ∷ rest) is h none unswept at =
     let split : done ++ e ∷ rest ≡ (done ++ e ∷ []) ++ rest = sym (append_assoc done (e ∷ []) rest) in
     let longer : front ++ e ∷ [] ≡ first ++ (done ++ e ∷ []) = append_assoc first done (e ∷ []) in
     let whole : IsHistory c (first ++ ((done ++ e ∷ []) ++ rest)) = rw split at h in
-    let next : IsHistory c (front ++ e ∷ []) =
-    rw longer (earlier_part_is_history c (first ++ (done ++ e ∷ [])) rest
+    let next : IsHistory c (front ++ e ∷ []) = rw longer (earlier_part_is_history c (first ++ (done ++ e ∷ [])) rest
     (rw (append_assoc first (done ++ e ∷ []) rest) whole)) in
     let here : LeadsToMoment k front = record { done = done; to_come = e ∷ rest; of_the_cycle = is; is = refl } in
     let there : LeadsToMoment k (front ++ e ∷ []) =

@@ -5,9 +5,8 @@ use Rattle.mk_laws.proofs.Vocabulary.{claims_placed, false, header_on, inl, inr,
 use Rattle.mk_laws.proofs.Vocabulary.{pages_made, placed_at, stands, sym, ℕ, ◌++◌, ◌+◌, ◌/◌, ◌<◌, ◌∙◌, ◌≡◌}
 use Rattle.mk_laws.proofs.Claims.{LeavesCells, apart_behind, cells_behind, changed_among, claim_among, claim_is}
 use Rattle.mk_laws.proofs.Claims.{was_claim}
-use Rattle.mk_laws.proofs.LayoutJoined.{among_back, among_front, among_parts, apart_across, apart_joined, apart_left}
-use Rattle.mk_laws.proofs.LayoutJoined.{apart_right}
-use Rattle.mk_laws.proofs.Serving.{own_claim, placed_claim}
+use Rattle.mk_laws.proofs.Serving.{among_back, among_front, among_parts, apart_across, apart_joined, apart_left}
+use Rattle.mk_laws.proofs.Serving.{apart_right, own_claim, placed_claim}
 use Rattle.mk_laws.proofs.Unmapping.{layout_changed}
 
 pub record Remodes (c : Config) (t : Ground) (run : Option RunPages) (g : PlacedAllocation

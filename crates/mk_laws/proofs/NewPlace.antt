@@ -32,10 +32,8 @@ PlaceFits c o place = is_small_object (object_made c o) ≡ false
     → place.page + run_pages_of (object_made c o).words ≤ c.pages
 
 abbrev pub PlacesFit : Config → Moment → Type 0
-PlacesFit c m =
-    (k : ℕ) → k < c.callers → is_undecided_new (flight_of m (Caller k)) ≡ true → (place : Place)
-    → held_place m.seats.holding.placing ≡ Some place
-    → PlaceFits c (flight_of m (Caller k)).op place
+PlacesFit c m = (k : ℕ) → k < c.callers → is_undecided_new (flight_of m (Caller k)) ≡ true → (place : Place)
+    → held_place m.seats.holding.placing ≡ Some place → PlaceFits c (flight_of m (Caller k)).op place
 
 -- the place of first fit does, and so that of the step
 
@@ -60,8 +58,7 @@ now_is c m f place e = by (is_undecided_new f) refl e
   where
     by : (b : Bool) → is_undecided_new f ≡ b
         → (if b then place_by_placing c.resident m.words.pages (object_made c f.op) m.seats.holding.placing else None)
-        ≡ Some place
-        → (is_undecided_new f ≡ true)
+        ≡ Some place → (is_undecided_new f ≡ true)
         × (place_by_placing c.resident m.words.pages (object_made c f.op) m.seats.holding.placing ≡ Some place)
     by true is h = (is, h)
     by false is h = cc
@@ -80,8 +77,7 @@ taken_held p (Some y) x h = inr h
 taken_held p None x h = inl h
 
 ground_place : (c : Config) (w : World) (f : Flight) (g : Ground) (x : Place) → GroundStep c w f g
-    → held_place g.placing ≡ Some x
-    → (held_place w.now.seats.holding.placing ≡ Some x) ⊎ (place_now c w.now f ≡ Some x)
+    → held_place g.placing ≡ Some x → (held_place w.now.seats.holding.placing ≡ Some x) ⊎ (place_now c w.now f ≡ Some x)
 ground_place c w f g x (Starts z idle) h = cc
 ground_place c w f g x (Gives own at) h = cc
 ground_place c w f g x (Carves p n own at) h = chosen_held w.now.seats.holding.placing (place_now c w.now f) x h
@@ -123,8 +119,7 @@ service_new f h g i (PlacesNew _ was p q) new = refl
 service_new f h g i _ new = absurd (give_no_new f.op new)
 
 pub new_was : (c : Config) (v : View) (seat : Seat) (n : View) (j : ℕ) → Move c v seat n
-    → is_undecided_new (flight_in n j) ≡ true
-    → (flight_in n j ≡ flight_in v j) ⊎ (held_place n.holding.placing ≡ None)
+    → is_undecided_new (flight_in n j) ≡ true → (flight_in n j ≡ flight_in v j) ⊎ (held_place n.holding.placing ≡ None)
 new_was c v seat n j (Enters {k} f lt z was is) new =
     inl (set_new v.flights k j f (λ x. absurd (call_no_new f is x)) new)
 new_was c v seat n j (GoesOn {k} f lt was is) new = inl (set_new v.flights k j f (λ x. absurd (call_no_new f is x)) new)
@@ -143,15 +138,13 @@ new_was c v seat n j _ new = inl refl
 
 -- the seat of an undecided New holds the turn
 pub new_holds : (c : Config) (m : Moment) (seat : Seat) (x : Step) → Meets c m seat x
-    → is_undecided_new (flight_of m seat) ≡ true
-    → (k : ℕ) × (k < c.callers) × (seat ≡ Caller k)
+    → is_undecided_new (flight_of m seat) ≡ true → (k : ℕ) × (k < c.callers) × (seat ≡ Caller k)
 new_holds c m (Caller k) x h new = (k, ltb-true k c.callers h.seat, refl)
 new_holds c m _ x h new = cc
 
 -- the place of a step
 pub place_fits_now : (c : Config) (m : Moment) (seat : Seat) (x : Step) (place : Place) → length m.words.pages ≡ c.pages
-    → PlacesFit c m
-    → Meets c m seat x → place_now c m (flight_of m seat) ≡ Some place
+    → PlacesFit c m → Meets c m seat x → place_now c m (flight_of m seat) ≡ Some place
     → PlaceFits c (flight_of m seat).op place
 place_fits_now c m seat x place count fits h now =
     let is = now_is c m (flight_of m seat) place now in

@@ -20,8 +20,7 @@ pub scanned_has_none : (c : Config) (w : World) (n : NeverState) (p : ℕ) → T
     → has_no_pointers (header_in w.now.words p) ≡ false → HasNoLeaf c (precision_scene_of w) p
 scanned_has_none c w n p t scanned =
     record {
-      header =
-          (or_parts _ _ scanned).0;
+      header = (or_parts _ _ scanned).0;
       allocations = λ a u at. not_leaf c w n t a u (ap (λ q. has_no_pointers (header_in w.now.words q)) at ∙ scanned);
     }
 
@@ -97,14 +96,11 @@ module _ (c : Config) (w : World) (n : NeverState) (seat : Seat) (x : Step) (aft
             let lt = ltb-true q c.pages h.range in
             let at : header_at (WorldBehind c w seat (step.Head q v)).now.words p ≡ v =
             ap (λ i. (slice_index_or (slice_set w.now.words.pages q (stored q v)) i free_page).header) e
-            ∙ ap (λ (y : Page). y.header)
-            (get_or-set_same w.now.words.pages q (stored q v) free_page
+            ∙ ap (λ (y : Page). y.header) (get_or-set_same w.now.words.pages q (stored q v) free_page
             (omega (arith, lt, s.before.known.lengths.pages))) in
-            ap (λ y. is_leaf_header (header_of y)) at
-            ∙ stored_no_leaf c w n seat q v s.before s.early h
+            ap (λ y. is_leaf_header (header_of y)) at ∙ stored_no_leaf c w n seat q v s.before s.early h
             (subst (λ i. cells_under (header_in w.now.words i) ≢ 0) e cells)
-        | inr ne ↦
-            ap (λ (y : Page). is_leaf_header (header_of y.header))
+        | inr ne ↦ ap (λ (y : Page). is_leaf_header (header_of y.header))
             (get_or-set_other w.now.words.pages q p (stored q v) free_page ne) ∙ none
       ]
       by y is h = rest y refl
@@ -126,13 +122,10 @@ module _ (c : Config) (w : World) (n : NeverState) (seat : Seat) (x : Step) (aft
 
       by : (a : ℕ) → (placed_at v.allocations a).released ≡ false → (placed_at v.allocations a).base / 64 ≡ p
           → Came w.allocations v.allocations x a → (storage_of c (placed_at v.allocations a)).leaf ≡ false
-      by a u at (Stayed was same) =
-          same_leaf c _ _ same ∙ none.allocations a was (rw (← same.base) at)
-      by a u at (IsNew grant is) =
-          mapped_not_leaf c v after a s.behind u (new_is_mapped a grant is)
+      by a u at (Stayed was same) = same_leaf c _ _ same ∙ none.allocations a was (rw (← same.base) at)
+      by a u at (IsNew grant is) = mapped_not_leaf c v after a s.behind u (new_is_mapped a grant is)
           (ap (λ q. is_leaf_header (header_in v.now.words q)) at ∙ header_behind p cells none.header)
         where
           new_is_mapped : (a : ℕ) → x ≡ step.Grant → a ≡ length w.allocations
               → is_mapped c (placed_at v.allocations a) ≡ true
-          new_is_mapped a grant is =
-              rw is (rw grant (rw (granted_at w.allocations _)))
+          new_is_mapped a grant is = rw is (rw grant (rw (granted_at w.allocations _)))

@@ -27,8 +27,7 @@ older_joined xs ys zs a b =
 
 goes_on_behind : (c : Config) (w : World) (seat : Seat) (x : Step) (i : ℕ) → i < length w.allocations
     → GoesOn w.allocations (WorldBehind c w seat x).allocations x i
-goes_on_behind c w seat x i lt =
-    goes_on w.allocations (WorldBehind c w seat x).allocations x i
+goes_on_behind c w seat x i lt = goes_on w.allocations (WorldBehind c w seat x).allocations x i
     (allocation_step c w.now (flight_of w.now seat) x w.allocations) lt
 
 pub older_behind : (c : Config) (w : World) (seat : Seat) (x : Step) → is_grant x ≡ false

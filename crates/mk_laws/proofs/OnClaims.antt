@@ -5,7 +5,7 @@ use Rattle.mk_laws.proofs.Vocabulary.{has_bit, head_on, head_page_under, header_
 use Rattle.mk_laws.proofs.Vocabulary.{is_small_object, pages_made, pages_some, refl, run_count, shows_on, suc, sym}
 use Rattle.mk_laws.proofs.Vocabulary.{true, true≢false, used_on, zero, ℕ, ◌+◌, ◌-◌, ◌<◌, ◌∙◌, ◌≡◌, ◌≢◌, ◌⊎◌}
 use Rattle.mk_laws.proofs.Basics.{claimed, zero_where_none}
-use Rattle.mk_laws.proofs.RunCounts.{part_count, small_count}
+use Rattle.mk_laws.proofs.Unmapping.{part_count, small_count}
 
 -- a bit below a bound, or none
 pub find_bit : (n bound : ℕ) → ((k : ℕ) × (has_bit n k ≡ true)) ⊎ ((k : ℕ) → k < bound → has_bit n k ≡ false)
@@ -14,10 +14,7 @@ find_bit n (suc b) = elim (cases_Bool (has_bit n b)) [
   | inl is ↦ inl (b, is)
   | inr out ↦ elim (find_bit n b) [
     | inl found ↦ inl found
-    | inr none ↦ inr (λ k lt. elim (cases_eq k b) [
-      | inl e ↦ rw e out
-      | inr ne ↦ none k (omega arith)
-    ])
+    | inr none ↦ inr (λ k lt. elim (cases_eq k b) [ inl e ↦ rw e out | inr ne ↦ none k (omega arith) ])
   ]
 ]
 
@@ -41,10 +38,7 @@ on_claim sc p laid none off some =
           let empty : used_on sc.pages (head_on sc.pages p) ≡ 0 =
           zero_where_none (used_on sc.pages (head_on sc.pages p))
           (λ k h. let t = laid.used (head_on sc.pages p) k h in true≢false (sym h ∙ no_bits k t.0)) in
-          absurd (elim (laid.occupied p some empty) [
-            | inl on ↦ true≢false (sym on ∙ off)
-            | inr here ↦ rw none at here
-          ])
+          absurd (elim (laid.occupied p some empty) [ inl on ↦ true≢false (sym on ∙ off) | inr here ↦ rw none at here ])
       | inl (k, bit) ↦ owned k ((laid.used (head_on sc.pages p) k bit).1)
     ]
   where
@@ -71,8 +65,7 @@ on_claim sc p laid none off some =
 
     owned : (k : ℕ) → IsClaimed sc.claims (head_on sc.pages p) k ⊎ (is_released_on sc (head_on sc.pages p) k ≡ true)
         → IsOn sc p
-    owned k (inr r) = absurd
-        (true≢false (sym r ∙ rw off))
+    owned k (inr r) = absurd (true≢false (sym r ∙ rw off))
     owned k (inl o) = elim (head_cases (shows_on sc.pages p) p) [
       | inl own ↦
           let page = o.page in

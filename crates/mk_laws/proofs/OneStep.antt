@@ -1,15 +1,182 @@
 -- One step of a cycle, whatever it is: after `begin` nothing is marked or held, and each step keeps it touched.
-use Rattle.mk_laws.proofs.Vocabulary.{Caller, Cell, Config, Host, IsIdle, Marker, MarkerStands, MarkerState, Moment}
-use Rattle.mk_laws.proofs.Vocabulary.{NeverState, Seat, Step, World, all_below, all_below-at, and_parts, arith}
-use Rattle.mk_laws.proofs.Vocabulary.{cases_Bool, cases_lt, cell_of_allocation, eqb-true, get_or_past, has_clean_page}
-use Rattle.mk_laws.proofs.Vocabulary.{inl, inr, is_attending, marker_of, no_bit, none-some, placed_at, slice_index, sym}
-use Rattle.mk_laws.proofs.Vocabulary.{true, true≢false, ℕ, ◌∙◌, ◌≡◌}
-use Rattle.mk_laws.proofs.Basics.{KnownWorld, Meets, WorldBehind}
+use Rattle.std.specs.Prelude.{option_and_then}
+use Rattle.mk_laws.proofs.Vocabulary.{Bool, Caller, Cell, Config, Hand, Host, IsIdle, Marker, MarkerStands, MarkerState}
+use Rattle.mk_laws.proofs.Vocabulary.{Moment, NeverState, None, Null, Op, Option, PlacedAllocation, Placing, Seat, Some}
+use Rattle.mk_laws.proofs.Vocabulary.{Stage, Step, Word, Words, World, address_of, all_below, all_below-at, and_parts}
+use Rattle.mk_laws.proofs.Vocabulary.{ap, arith, bases_of, cases_Bool, cases_lt, cell_of_allocation, comes_next}
+use Rattle.mk_laws.proofs.Vocabulary.{eqb-true, false, flight_of, found, get_or_past, has_clean_page, has_no_pointers}
+use Rattle.mk_laws.proofs.Vocabulary.{header_in, if◌then◌else◌, image_of, inl, inr, is_attending, is_marked}
+use Rattle.mk_laws.proofs.Vocabulary.{is_number_of, is_put, is_unmarked, ltb-true, marker_of, nat_lt, no_bit, none-some}
+use Rattle.mk_laws.proofs.Vocabulary.{nothing_done, or_cases, or_else, placed_at, pointed_cell, refl, register_word}
+use Rattle.mk_laws.proofs.Vocabulary.{same_Some, slice_index, slice_index_or, subst, sym, true, true≢false, word_points}
+use Rattle.mk_laws.proofs.Vocabulary.{ℕ, ◌%◌, ◌&&◌, ◌*◌, ◌+◌, ◌/◌, ◌==◌, ◌∙◌, ◌≡◌, ◌≢◌, ◌≤◌, ◌⊎◌}
+use Rattle.mk_laws.proofs.Basics.{Behind, KnownWorld, Meets, WorldBehind, view_of}
+use Rattle.mk_core.specs.Effects.{hand_given, hand_of_cell, is_in_stop, is_mapped_cell}
 use Rattle.mk_core.specs.declared.events.Step.TheVariants as step
-use Rattle.mk_laws.proofs.HandSteps.{hand_behind}
+use Rattle.mk_core.specs.declared.events.Word.TheVariants as word
+use Rattle.mk_core.specs.declared.seats.Source.TheVariants.{Marked, Root, Unmarked}
+use Rattle.mk_core.specs.declared.seats.Stage.TheVariants as stage
+use Rattle.mk_laws.proofs.Pairs.{shows_plain}
+use Rattle.mk_laws.proofs.ImagesHeldGates.{held_idle}
+use Rattle.mk_laws.proofs.Granting.{points_behind}
+use Rattle.mk_laws.proofs.Precise.{IsPrecise, PointsOnlyInto, Steps, MarkerIsPrecise, PrecisionScene}
+use Rattle.mk_laws.proofs.Precise.{precision_scene_of}
+use Rattle.mk_laws.proofs.Worlds.{Told, headers, held, not_leaf, stands}
+use Rattle.mk_core.specs.Touched.{PointsIntoAllocation}
 use Rattle.mk_laws.proofs.MarkSteps.{marked_behind}
 use Rattle.mk_laws.proofs.MarkerSteps.{idle_is_precise, markers_behind}
-use Rattle.mk_laws.proofs.Precise.{IsPrecise, MarkerIsPrecise, PrecisionScene, Steps, precision_scene_of}
+
+-- What the turn holder's hand holds is touched: a root's image, or a word of a marked cell that is scanned.
+
+-- any other step leaves the hand, or drops it
+
+abbrev pub is_look : Step → Bool
+is_look (step.Look y) = true
+is_look _ = false
+
+take_drops : (m : Moment) (b : Bool) → ((if b then nothing_done else m.seats.holding).hand ≡ m.seats.holding.hand)
+    ⊎ ((if b then nothing_done else m.seats.holding).hand ≡ None)
+take_drops m true = inr refl
+take_drops m false = inl refl
+
+pub hand_kept : (c : Config) (m : Moment) (seat : Seat) (x : Step) → is_look x ≡ false
+    → ((Behind c m seat x).seats.holding.hand ≡ m.seats.holding.hand) ⊎ ((Behind c m seat x).seats.holding.hand ≡ None)
+hand_kept c m seat (step.Look y) out = cc
+hand_kept c m seat (step.Take o) out = take_drops m (m.words.turn == 0)
+hand_kept c m seat step.Give out = inr refl
+hand_kept c m seat step.Begin out = inr refl
+hand_kept c m seat _ out = inl refl
+
+-- Registers that a look may reach are images: their caller owes out register.
+
+look_stage : (s : Stage) (o : Op) (y : Word) → comes_next s o (step.Look y) ≡ true → is_put s ≡ false
+look_stage stage.Put o y h = cc
+look_stage _ o y h = refl
+
+idle_owes_none : (s : Stage) → s ≡ stage.Idle → is_put s ≡ false
+idle_owes_none s is = ap is_put is
+
+module _ (c : Config) (w : World) (n : NeverState) (t : Told c w n) where
+  looked_owes_none : (seat : Seat) (j r : ℕ) → Meets c w.now seat (step.Look (word.Reg j r))
+      → is_put (flight_of w.now (Caller j)).stage ≡ false
+  looked_owes_none seat j r h = elim (or_cases (is_number_of seat j) _ h.gates) [
+    | inl own ↦ by seat own h
+    | inr gate ↦
+        let lt = ltb-true j c.callers (and_parts (nat_lt j c.callers) (nat_lt r 8) h.range).0 in
+        idle_owes_none _ (held_idle c (view_of w.now) j t.known.now.orderly lt (eqb-true _ 2 gate))
+  ]
+    where
+      by : (seat : Seat) → is_number_of seat j ≡ true → Meets c w.now seat (step.Look (word.Reg j r))
+          → is_put (flight_of w.now (Caller j)).stage ≡ false
+      by (Caller k) own h =
+          let same : k ≡ j = eqb-true k j own in
+          rw same at (look_stage _ _ (word.Reg j r) h.order)
+      by _ own h = cc
+
+  register_image : (seat : Seat) (j r : ℕ) → Meets c w.now seat (step.Look (word.Reg j r))
+      → register_word w.now.words j r ≡ image_of (bases_of w.allocations) (slice_index_or n.registers (8 * j + r) Null)
+  register_image seat j r h =
+      let lt = ltb-true r 8 (and_parts (nat_lt j c.callers) (nat_lt r 8) h.range).1 in
+      let own : (8 * j + r) / 8 ≡ j = omega arith in
+      let free : is_put (flight_of w.now (Caller ((8 * j + r) / 8))).stage ≡ false =
+      subst (λ i. is_put (flight_of w.now (Caller i)).stage ≡ false) (sym own) (looked_owes_none seat j r h) in
+      sym (shows_plain (flight_of w.now (Caller ((8 * j + r) / 8))) ((8 * j + r) % 8) (register_word w.now.words j r)
+      free) ∙ t.all.mirrors.images.registers (8 * j + r)
+
+-- A heap word gives a hand of a marked cell that is scanned, but for a sweeping one.
+record IsOfMarked (w : Words) (cell : Cell) (value : ℕ) (h : Hand) : Type 0 where
+  scanned : has_no_pointers (header_in w cell.page) ≡ false
+  marked : is_marked w cell ≡ true
+  holds : h.value ≡ value
+
+cell_hand : (w : Words) (stop : Bool) (placing : Placing) (cell : Cell) (value : ℕ) (h : Hand)
+    → hand_of_cell w stop placing cell value ≡ Some h → is_unmarked h.source ≡ false → IsOfMarked w cell value h
+cell_hand w stop placing cell value h is out =
+    by (has_no_pointers (header_in w cell.page)) (is_marked w cell) (stop && is_mapped_cell w placing cell) refl refl is
+  where
+    by : (a b d : Bool) → has_no_pointers (header_in w cell.page) ≡ a → is_marked w cell ≡ b → (if a then None else if b
+        then Some (record { value = value; source = Marked })
+        else if d then Some (record { value = value; source = Unmarked }) else None) ≡ Some h
+        → IsOfMarked w cell value h
+    by false true d ea eb is =
+        let e : record { value = value; source = Marked } ≡ h = same_Some _ _ is in
+        record { scanned = ea; marked = eb; holds = sym (ap (λ (y : Hand). y.value) e) }
+    by false false true ea eb is =
+        let e : record { value = value; source = Unmarked } ≡ h = same_Some _ _ is in
+        let bad : true ≡ false = ap (λ (y : Hand). is_unmarked y.source) e ∙ out in
+        cc
+    by _ _ _ ea eb is = cc
+
+module _ (c : Config) (w : World) (n : NeverState) (T : ℕ → Type 0) (precise : IsPrecise c w T) where
+  -- a word of a marked cell that is scanned
+  heap_hand : (seat : Seat) (x : ℕ) (after : NeverState) (h : Hand) → Steps c w n seat (step.Look (word.Heap x)) after T
+      → hand_given c w.now seat (word.Heap x) (slice_index w.now.words.heap x) ≡ Some h → is_unmarked h.source ≡ false
+      → PointsOnlyInto c w.allocations T h.value
+  heap_hand seat x after h s is out = by (pointed_cell c.pages w.now.words.pages (address_of x)) refl is
+    where
+      stop : Bool
+      stop = is_in_stop c.callers w.now.words seat
+
+      by : (cell : Option Cell) → pointed_cell c.pages w.now.words.pages (address_of x) ≡ cell
+          → option_and_then (λ (y : Cell). hand_of_cell w.now.words stop w.now.seats.holding.placing y
+          (slice_index w.now.words.heap x)) cell ≡ Some h → PointsOnlyInto c w.allocations T h.value
+      by None at is = cc
+      by (Some cell) at is =
+          let k = cell_hand w.now.words stop w.now.seats.holding.placing cell
+          (slice_index w.now.words.heap x) h is out in
+          λ b points.
+          let low : 65536 ≤ h.value = points.1.0 in
+          let value = k.holds in
+          let some : slice_index w.now.words.heap x ≢ 0 = λ z. absurd (omega arith) in
+          let o = held c w n s.before s.early x some in
+          let a : PlacedAllocation = placed_at w.allocations o.number in
+          let same : cell_of_allocation c a ≡ cell =
+          same_Some _ _ (sym (word_points c w.now.words a s.before.known.limits
+          (stands c w n s.before o.number o.unreleased)
+          (headers c w n s.before o.number o.unreleased) x o.word) ∙ at) in
+          let touched = precise.marked o.number o.unreleased
+          (subst (λ (y : Cell). is_marked w.now.words y ≡ true) (sym same) k.marked) in
+          let leaf = not_leaf c w n s.before o.number o.unreleased
+          (ap (λ (y : Cell). has_no_pointers (header_in w.now.words y.page)) same ∙ k.scanned) in
+          s.here.words o.number x touched (o.unreleased, leaf, o.word) b
+          (subst (λ v. PointsIntoAllocation c w v b) value points)
+
+  root_hand : (value : ℕ) (h : Hand) → PointsOnlyInto c w.allocations T value
+      → Some (record { value = value; source = Root }) ≡ Some h → PointsOnlyInto c w.allocations T h.value
+  root_hand value h only is =
+      let e : record { value = value; source = Root } ≡ h = same_Some _ _ is in
+      rw (ap (λ (y : Hand). y.value) e) at only
+
+  -- what a look gives
+  look_hand : (seat : Seat) (y : Word) (after : NeverState) (h : Hand) → Steps c w n seat (step.Look y) after T
+      → hand_given c w.now seat y (found c w.now (record { seat = seat; step = step.Look y })) ≡ Some h
+      → is_unmarked h.source ≡ false → PointsOnlyInto c w.allocations T h.value
+  look_hand seat (word.Reg j r) after h s is out =
+      root_hand _ h (rw (register_image c w n s.before seat j r s.meets) (s.here.registers (8 * j + r))) is
+  look_hand seat (word.Global g) after h s is out = root_hand _ h (s.here.globals g) is
+  look_hand seat (word.Heap x) after h s is out = heap_hand seat x after h s is out
+  look_hand seat _ after h s is out = cc
+
+  pub hand_behind : (seat : Seat) (x : Step) (after : NeverState) → Steps c w n seat x after T → (h : Hand)
+      → (WorldBehind c w seat x).now.seats.holding.hand ≡ Some h → is_unmarked h.source ≡ false
+      → PointsOnlyInto c (WorldBehind c w seat x).allocations T h.value
+  hand_behind seat (step.Look y) after s h is out =
+      by (hand_given c w.now seat y (found c w.now (record { seat = seat; step = step.Look y }))) refl is
+    where
+      by : (given : Option Hand)
+          → hand_given c w.now seat y (found c w.now (record { seat = seat; step = step.Look y })) ≡ given
+          → or_else given w.now.seats.holding.hand ≡ Some h → PointsOnlyInto c w.allocations T h.value
+      by None e is = precise.hand h is out
+      by (Some k) e is = look_hand seat y after h s (e ∙ is) out
+  hand_behind seat x after s h is out = rest x refl s is
+    where
+      rest : (x : Step) → is_look x ≡ false → Steps c w n seat x after T
+          → (WorldBehind c w seat x).now.seats.holding.hand ≡ Some h
+          → PointsOnlyInto c (WorldBehind c w seat x).allocations T h.value
+      rest x other s is = elim (hand_kept c w.now seat x other) [
+        | inl same ↦ points_behind c w n seat x after T h.value s (precise.hand h (sym same ∙ is) out)
+        | inr none ↦ let bad : ◌≡◌ {A = Option Hand} None (Some h) = sym none ∙ is in cc
+      ]
 
 -- What markers are in the middle of stands, whether they attend or not.
 

@@ -69,12 +69,10 @@ checked c old new h Same = h
 checked c old new h (Checked x) = x
 
 set_operands : (c : Config) (fs : List Flight) (k : ℕ) (f : Flight) → HaveOperands c fs
-    → OpStep c (slice_index_or fs k at_rest).op f.op
-    → HaveOperands c (slice_set fs k f)
+    → OpStep c (slice_index_or fs k at_rest).op f.op → HaveOperands c (slice_set fs k f)
 set_operands c fs k f h s b = elim (cases_eq b k) [
   | inl e ↦ elim (cases_lt k (length fs)) [
-    | inl lt ↦
-        rw (ap (λ j. slice_index_or (slice_set fs k f) j at_rest) e ∙ get_or-set_same fs k f at_rest lt)
+    | inl lt ↦ rw (ap (λ j. slice_index_or (slice_set fs k f) j at_rest) e ∙ get_or-set_same fs k f at_rest lt)
         (checked c (slice_index_or fs k at_rest).op f.op (h k) s)
     | inr le ↦ rw (set_past fs k f le) (h b)
   ]
@@ -82,10 +80,8 @@ set_operands c fs k f h s b = elim (cases_eq b k) [
 ]
 
 pub operands_behind : (c : Config) (m : Moment) (seat : Seat) (x : Step) → HaveOperands c m.seats.flights
-    → Meets c m seat x
-    → HaveOperands c (Behind c m seat x).seats.flights
-operands_behind c m (Caller k) x h on =
-    set_operands c m.seats.flights k _ h
+    → Meets c m seat x → HaveOperands c (Behind c m seat x).seats.flights
+operands_behind c m (Caller k) x h on = set_operands c m.seats.flights k _ h
     (op_step c m (Caller k) (flight_of m (Caller k)) (found c m (record { seat = Caller k; step = x })) x on.range)
 operands_behind c m _ x h on = h
 

@@ -1,14 +1,65 @@
 -- All is in order: what each move keeps, by what the protocol reads.
 use Rattle.std.proofs.lemmas.List.Sums.{count_by-le-length}
-use Rattle.mk_laws.proofs.Vocabulary.{Caller, Config, Flight, Host, Marker, Seat, ap, arith, at_rest, get_or_past}
-use Rattle.mk_laws.proofs.Vocabulary.{holder_number, is_attending, is_in, length, nothing_done, refl, true, ℕ, ◌%◌, ◌*◌}
-use Rattle.mk_laws.proofs.Vocabulary.{◌+◌, ◌-◌, ◌<◌, ◌≡◌, ◌≢◌, ◌≤◌, ◌⊎◌}
-use Rattle.mk_laws.proofs.Standings.{Standing, Resting, UnderTurn, standing, Shows}
+use Rattle.mk_laws.proofs.Vocabulary.{Caller, Config, Flight, Host, List, Marker, Seat, ap, arith, at_rest, cases_eq}
+use Rattle.mk_laws.proofs.Vocabulary.{get_or-set_other, get_or-set_same, get_or_past, holder_number, inl, inr}
+use Rattle.mk_laws.proofs.Vocabulary.{is_attending, is_in, length, length-set, nothing_done, refl, slice_index}
+use Rattle.mk_laws.proofs.Vocabulary.{slice_index_or, slice_set, sym, true, ℕ, ◌%◌, ◌*◌, ◌+◌, ◌-◌, ◌<◌, ◌≡◌, ◌≢◌, ◌≤◌}
+use Rattle.mk_laws.proofs.Vocabulary.{◌⊎◌}
+use Rattle.mk_laws.proofs.Standings.{Standing, standing, Shows, Resting, UnderTurn}
+use Rattle.mk_laws.proofs.Views.{flights_with, View, flight_in, gate_in, marker_in, flight_at, HoldsTurn}
 use Rattle.mk_laws.proofs.Services.{Served}
-use Rattle.mk_laws.proofs.Views.{View, flight_in, gate_in, marker_in, flight_at, HoldsTurn}
 use Rattle.mk_laws.proofs.ProtocolMoves.{MayTake, IdlesOutside}
-use Rattle.mk_laws.proofs.Shown.{OwnShows}
 use Rattle.mk_laws.proofs.ProtocolMarkers.{count_in}
+
+-- What all callers show, after a change of a gate or of a call.
+
+-- all callers, by their gates and flights
+abbrev pub AllShow : ℕ → ℕ → List ℕ → List Flight → Type 0
+AllShow n t gs fs = (b : ℕ) → b < n → Shows t (slice_index gs b) b (standing (slice_index_or fs b at_rest))
+
+-- one flight is set
+pub all_but_flight : (n t k : ℕ) (gs : List ℕ) (fs : List Flight) (f : Flight) → k < length fs
+    → Shows t (slice_index gs k) k (standing f)
+    → ((b : ℕ) → b < n → k ≢ b → Shows t (slice_index gs b) b (standing (slice_index_or fs b at_rest)))
+    → AllShow n t gs (slice_set fs k f)
+all_but_flight n t k gs fs f lt mine others b lb = elim (cases_eq b k) [
+  | inl e ↦ rw e (rw (get_or-set_same fs k f at_rest lt) mine)
+  | inr ne ↦ rw (get_or-set_other fs k b f at_rest ne) (others b lb (λ e. ne (sym e)))
+]
+
+-- one gate is set
+pub all_but_gate : (n t k x : ℕ) (gs : List ℕ) (fs : List Flight) → k < length gs
+    → Shows t x k (standing (slice_index_or fs k at_rest))
+    → ((b : ℕ) → b < n → k ≢ b → Shows t (slice_index gs b) b (standing (slice_index_or fs b at_rest)))
+    → AllShow n t (slice_set gs k x) fs
+all_but_gate n t k x gs fs lt mine others b lb = elim (cases_eq b k) [
+  | inl e ↦ rw e (rw (get_or-set_same gs k x 0 lt) mine)
+  | inr ne ↦ rw (get_or-set_other gs k b x 0 ne) (others b lb (λ e. ne (sym e)))
+]
+
+-- what the seat itself is to show after its step
+abbrev pub OwnShows : Config → List Flight → ℕ → List ℕ → Seat → Standing → Type 0
+OwnShows c fs t gs (Caller k) s = (k < length fs) × Shows t (slice_index gs k) k s
+OwnShows c fs t gs _ s = Unit {0}
+
+-- the flight of the seat is set
+pub all_but_seat : (c : Config) (t : ℕ) (seat : Seat) (gs : List ℕ) (fs : List Flight) (f : Flight)
+    → OwnShows c fs t gs seat (standing f) → ((b : ℕ) → b < c.callers → holder_number c seat ≢ b
+    → Shows t (slice_index gs b) b (standing (slice_index_or fs b at_rest)))
+    → AllShow c.callers t gs (flights_with fs seat f)
+all_but_seat c t (Caller k) gs fs f mine others = all_but_flight c.callers t k gs fs f mine.0 mine.1 others
+all_but_seat c t _ gs fs f mine others = λ b lb. others b lb (λ e. absurd (omega arith))
+
+pub length_with : (fs : List Flight) (seat : Seat) (f : Flight) → length (flights_with fs seat f) ≡ length fs
+length_with fs (Caller k) f = length-set fs k f
+length_with fs _ f = refl
+
+-- a caller's gate and flight are set
+pub all_but_both : (n t k x : ℕ) (gs : List ℕ) (fs : List Flight) (f : Flight) → k < length gs → k < length fs
+    → Shows t x k (standing f) → AllShow n t gs fs → AllShow n t (slice_set gs k x) (slice_set fs k f)
+all_but_both n t k x gs fs f lg lf mine all =
+    all_but_flight n t k (slice_set gs k x) fs f lf (rw (get_or-set_same gs k x 0 lg) mine)
+    (λ b lb ne. rw (get_or-set_other gs k b x 0 (λ e. ne (sym e))) (all b lb))
 
 pub record Orderly (c : Config) (v : View) : Type 0 where
   pub flights : length v.flights ≡ c.callers
@@ -72,10 +123,7 @@ holders_flight c v Host h t =
 pub holder_shows : (c : Config) (v : View) (seat : Seat) (f : Flight) → Orderly c v → HoldsTurn c v seat
     → (standing (flight_at v.flights seat) ≡ UnderTurn → standing f ≡ UnderTurn)
     → OwnShows c v.flights v.turn v.gates seat (standing f)
-holder_shows c v (Caller k) f h t is = (
-  rw h.flights t.0,
-  rw (is t.1) (shows_at c v k UnderTurn h t.0 t.1),
-)
+holder_shows c v (Caller k) f h t is = (rw h.flights t.0, rw (is t.1) (shows_at c v k UnderTurn h t.0 t.1))
 holder_shows c v _ f h t is = tt
 
 pub giver_shows : (c : Config) (v : View) (seat : Seat) → Orderly c v → HoldsTurn c v seat
@@ -91,10 +139,7 @@ giver_shows c v _ h t = tt
 pub taker_shows : (c : Config) (v : View) (seat : Seat) (f : Flight) → Orderly c v → v.turn ≡ 0 → MayTake c v seat f
     → OwnShows c v.flights (1 + holder_number c seat) v.gates seat (standing f)
 taker_shows c v (Caller k) f h z t =
-    let s = shows_at c v k Resting h t.0 t.1 in (
-      rw h.flights t.0,
-      rw t.2 (s.2 z, refl),
-    )
+    let s = shows_at c v k Resting h t.0 t.1 in (rw h.flights t.0, rw t.2 (s.2 z, refl))
 taker_shows c v _ f h z t = tt
 
 pub taker_number : (c : Config) (v : View) (seat : Seat) (f : Flight) → MayTake c v seat f

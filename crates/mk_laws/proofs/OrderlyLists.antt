@@ -32,8 +32,7 @@ event_moves c m seat x o h = moves c m seat x (not_astray c m o) (actor_of c m s
 -- one event, and many
 
 pub orderly_behind : (c : Config) (m : Moment) (seat : Seat) (x : Step) → c.callers ≤ 16 → Orderly c (view_of m)
-    → Meets c m seat x
-    → Orderly c (view_of (Behind c m seat x))
+    → Meets c m seat x → Orderly c (view_of (Behind c m seat x))
 orderly_behind c m seat x small o h =
     kept c (view_of m) seat (view_of (Behind c m seat x)) small o (event_moves c m seat x o h)
 

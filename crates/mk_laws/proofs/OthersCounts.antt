@@ -85,6 +85,5 @@ entry_fulls k o (Some answer.Full) h = cc
 entry_fulls k o _ h = refl
 
 pub fulls_append : (xs ys : List Decided) → fulls_of (xs ++ ys) ≡ fulls_of xs + fulls_of ys
-fulls_append xs ys =
-    rw (map-append (λ (d : Decided). d.answer) xs ys)
+fulls_append xs ys = rw (map-append (λ (d : Decided). d.answer) xs ys)
     (sum_by-append (λ (a : Answer). cond {A = ℕ} (is_full_answer a) 1 0) (answered xs) (answered ys))

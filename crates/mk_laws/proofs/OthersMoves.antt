@@ -17,7 +17,7 @@ use Rattle.mk_laws.proofs.Views.{view_of, HoldsTurn}
 use Rattle.mk_laws.proofs.Orderly.{shows_at, turn_of}
 use Rattle.mk_laws.proofs.Actors.{Meets, Actor, InCallOf, AsMarker, CallTakes, HostTakes, AsHolder}
 use Rattle.mk_laws.proofs.IdleMarkers.{work_attends, look_stays}
-use Rattle.mk_laws.proofs.MarkerMoves.{attends_at}
+use Rattle.mk_laws.proofs.Sorts.{attends_at}
 use Rattle.mk_laws.proofs.ProtocolMarkers.{count_in-at}
 use Rattle.mk_laws.proofs.OrderlyLists.{not_astray, actor_of}
 use Rattle.mk_laws.proofs.Operands.{Operands, operands_of, register_small}
@@ -47,23 +47,19 @@ pub data MarkerWrite (k : ℕ) (m : Moment) : MarkerState → Words → Type 0 w
   GoesOut : {y : MarkerState} → is_attending y.presence ≡ false → 8 ≤ m.words.phase
       → MarkerWrite k m y (record m.words { phase = (m.words.phase + (2 ^ 64 - 8)) % 2 ^ 64 })
   AddsMarks : {y : MarkerState} (p bits : ℕ) → is_attending (marker_of m k).presence ≡ true
-      → y.presence ≡ (marker_of m k).presence
-      → MarkerWrite k m y (record m.words
+      → y.presence ≡ (marker_of m k).presence → MarkerWrite k m y (record m.words
       { marks = slice_set m.words.marks p (bit_or (slice_index m.words.marks p) bits) })
   AddsBlacks : {y : MarkerState} (p bits : ℕ) → is_attending (marker_of m k).presence ≡ true
-      → y.presence ≡ (marker_of m k).presence
-      → MarkerWrite k m y (record m.words
+      → y.presence ≡ (marker_of m k).presence → MarkerWrite k m y (record m.words
       { blacks = slice_set m.words.blacks p (bit_or (slice_index m.words.blacks p) bits) })
 
 -- all of it
 pub data OthersMove (c : Config) (w : World) : Seat → World → Type 0 where
   Waits : {seat : Seat} → OthersMove c w seat w
   Calls : {k : ℕ} (f : Flight) {x : Words} → k < c.callers → slice_index w.now.words.gates k ≤ 1
-      → CallWrite k w.now.words x
-      → OthersMove c w (Caller k)
+      → CallWrite k w.now.words x → OthersMove c w (Caller k)
       (with_words_seats w x (record w.now.seats { flights = slice_set w.now.seats.flights k f }))
-  Marks : {k : ℕ} (y : MarkerState) {x : Words} → k < 8 → MarkerWrite k w.now y x
-      → OthersMove c w (Marker k)
+  Marks : {k : ℕ} (y : MarkerState) {x : Words} → k < 8 → MarkerWrite k w.now y x → OthersMove c w (Marker k)
       (with_words_seats w x (record w.now.seats { markers = slice_set w.now.seats.markers k y }))
 
 abbrev pub WorldBehind : Config → World → Seat → Step → World
@@ -76,9 +72,7 @@ abbrev finds : Config → World → Seat → Step → ℕ
 finds c w seat x = found c w.now (record { seat = seat; step = x })
 
 -- nothing is changed
-waits_flight : (c : Config) (w : World) (k : ℕ)
-    → OthersMove c w (Caller k)
-    (with_words_seats w w.now.words
+waits_flight : (c : Config) (w : World) (k : ℕ) → OthersMove c w (Caller k) (with_words_seats w w.now.words
     (record w.now.seats { flights = slice_set w.now.seats.flights k (flight_of w.now (Caller k)) }))
 waits_flight c w k = rw (set-get_or w.now.seats.flights k at_rest) Waits
 
@@ -88,8 +82,7 @@ begun_if b o f = (if b then record { flight = begun o; answer = None } else stil
 
 -- `enter`, where the gate is 0, and where it is held
 abbrev entered : World → ℕ → Op → Bool → World
-entered w k o b =
-    with_words_seats w (record w.now.words
+entered w k o b = with_words_seats w (record w.now.words
     { gates = slice_set w.now.words.gates k (if b then 1 else slice_index w.now.words.gates k) })
     (record w.now.seats { flights = slice_set w.now.seats.flights k (begun_if b o (flight_of w.now (Caller k))) })
 
@@ -115,9 +108,7 @@ pub gate_one : (c : Config) (m : Moment) (k : ℕ) → Known c m → k < c.calle
 gate_one c m k h lt is = (shows_at c (view_of m) k InCall h.orderly lt is).0
 
 in_call : (c : Config) (m : Moment) (k : ℕ) (x : Step) → Known c m → k < c.callers → Meets c m (Caller k) x
-    → has_stage_of_its_own x ≡ true
-    → is_call_stage (stage_of x) ≡ true
-    → slice_index m.words.gates k ≤ 1
+    → has_stage_of_its_own x ≡ true → is_call_stage (stage_of x) ≡ true → slice_index m.words.gates k ≤ 1
 in_call c m k x known lt h own is =
     let f = flight_of m (Caller k) in
     let g = gate_one c m k known lt
@@ -127,8 +118,7 @@ in_call c m k x known lt h own is =
 
 -- `reg` is in a call outside the turn, unless its seat holds the turn
 reg_in_call : (c : Config) (m : Moment) (k : ℕ) → Known c m → k < c.callers
-    → is_reg_stage (flight_of m (Caller k)).stage ≡ true
-    → (HoldsTurn c (view_of m) (Caller k) → ⊥)
+    → is_reg_stage (flight_of m (Caller k)).stage ≡ true → (HoldsTurn c (view_of m) (Caller k) → ⊥)
     → slice_index m.words.gates k ≤ 1
 reg_in_call c m k known lt is free = let g =
     gate_one c m k known lt (by (standing (flight_of m (Caller k))) refl) in omega arith
@@ -146,9 +136,7 @@ reg_write w k f stage.Put o = SetsRegister (register_met f stage.Put) _ (registe
 reg_write w k f _ o = CallLoads
 
 call_out : (c : Config) (w : World) (k : ℕ) (x : Step) → Known c w.now → (HoldsTurn c (view_of w.now) (Caller k) → ⊥)
-    → k < c.callers
-    → group_of x ≡ group.Callers → Meets c w.now (Caller k) x
-    → Outs c w (Caller k) x
+    → k < c.callers → group_of x ≡ group.Callers → Meets c w.now (Caller k) x → Outs c w (Caller k) x
 call_out c w k (step.Enter o) known out lt g h = enter_out c w k o lt
 call_out c w k step.Leave known out lt g h =
     Calls _ lt (in_call c w.now k step.Leave known lt h refl refl) (SetsGate 0 (omega arith))
@@ -193,8 +181,7 @@ marker_out c w k _ known lt g h = cc
 
 -- any seat that doesn't hold the turn
 pub others_move : (c : Config) (w : World) (seat : Seat) (x : Step) → Known c w.now → w.now.words.turn ≢ 0
-    → (HoldsTurn c (view_of w.now) seat → ⊥) → Meets c w.now seat x
-    → OthersMove c w seat (WorldBehind c w seat x)
+    → (HoldsTurn c (view_of w.now) seat → ⊥) → Meets c w.now seat x → OthersMove c w seat (WorldBehind c w seat x)
 others_move c w seat x known held out h = by seat x (actor_of c w.now seat x known.orderly h) out h
   where
     by : (seat : Seat) (x : Step) → Actor c w.now seat x → (HoldsTurn c (view_of w.now) seat → ⊥) → Meets c w.now seat x
@@ -207,8 +194,7 @@ others_move c w seat x known held out h = by seat x (actor_of c w.now seat x kno
 
 -- While nobody holds the turn: any step but a take.
 pub free_move : (c : Config) (w : World) (seat : Seat) (x : Step) → Known c w.now → w.now.words.turn ≡ 0
-    → is_take x ≡ false → Meets c w.now seat x
-    → OthersMove c w seat (WorldBehind c w seat x)
+    → is_take x ≡ false → Meets c w.now seat x → OthersMove c w seat (WorldBehind c w seat x)
 free_move c w seat x known free takes h = by seat x (actor_of c w.now seat x known.orderly h) takes h
   where
     none : (seat : Seat) → HoldsTurn c (view_of w.now) seat → ⊥

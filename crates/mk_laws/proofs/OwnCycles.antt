@@ -90,11 +90,9 @@ module _ (es : List Event) (e : Event) (phase now : ℕ) where
   on_way off same (Marks at begin none) =
       Marks (elim at [ inl one ↦ inl (same ∙ one) | inr two ↦ inr (same ∙ two) ]) (longer_at (e ∷ []) begin)
       (none_more (λ (x : Event). is_close x.step) begin.behind e none off.close)
-  on_way off same (Stops at k none) =
-      Stops (same ∙ at) (longer_marking (e ∷ []) k)
+  on_way off same (Stops at k none) = Stops (same ∙ at) (longer_marking (e ∷ []) k)
       (none_more (λ (x : Event). is_release x.step) k.close.at.behind e none off.release)
-  on_way off same (Releases at k none) =
-      Releases (same ∙ at) (longer_releasing (e ∷ []) k)
+  on_way off same (Releases at k none) = Releases (same ∙ at) (longer_releasing (e ∷ []) k)
       (none_more (λ (x : Event). is_end x.step) k.release.at.behind e none off.end)
 
   wants : is_close e.step ≡ false → phase ≡ 1 → now ≡ 2 → UnderWay es phase → UnderWay (es ++ e ∷ []) now
@@ -112,8 +110,7 @@ module _ (es : List Event) (e : Event) (phase now : ℕ) where
   frees : is_release e.step ≡ true → phase ≡ 3 → now ≡ 4 → UnderWay es phase → UnderWay (es ++ e ∷ []) now
   frees is three four (Marks at begin none) =
       elim at [ inl one ↦ absurd (omega arith) | inr two ↦ absurd (omega arith) ]
-  frees is three four (Stops at k none) =
-      Releases four
+  frees is three four (Stops at k none) = Releases four
       (record { marking = longer_marking (e ∷ []) k; release = next_at_end k.close.at.behind e none is }) refl
   frees is three four (Releases at k none) = absurd (omega arith)
 

@@ -10,8 +10,7 @@ use Rattle.mk_laws.specs.Images.{has_q, has_some_q, owes}
 use Rattle.mk_laws.proofs.ImagesMoves.{is_bare}
 
 pub set_both : {A B : Type 0} (P : A → B → Type 0) (xs : List A) (ys : List B) (k i : ℕ) (x dx : A) (y dy : B)
-    → k < length xs → k < length ys
-    → (i ≡ k → P x y) → (i ≢ k → P (get_or xs i dx) (get_or ys i dy))
+    → k < length xs → k < length ys → (i ≡ k → P x y) → (i ≢ k → P (get_or xs i dx) (get_or ys i dy))
     → P (get_or (set xs k x) i dx) (get_or (set ys k y) i dy)
 set_both P xs ys k i x dx y dy lx ly new old = elim (cases_eq i k) [
   | inl e ↦ rw e (rw (get_or-set_same xs k x dx lx) (rw (get_or-set_same ys k y dy ly) (new e)))
@@ -30,9 +29,8 @@ bare_carries bs f a b d h =
       r = λ e. let x : false ≡ true = sym n.4 ∙ e in cc;
     }
   where
-    none : (s : Stage) (o : Op) → is_bare s ≡ true
-        → (has_q s o ≡ false) × (has_some_q s o ≡ false) × (has_p s o ≡ false) × (has_some_p s o ≡ false)
-        × (has_r s o ≡ false)
+    none : (s : Stage) (o : Op) → is_bare s ≡ true → (has_q s o ≡ false) × (has_some_q s o ≡ false)
+        × (has_p s o ≡ false) × (has_some_p s o ≡ false) × (has_r s o ≡ false)
     none stage.Idle o h = (refl, refl, refl, refl, refl)
     none stage.Getg o h = (refl, refl, refl, refl, refl)
     none stage.Dirty o h = (refl, refl, refl, refl, refl)
@@ -75,23 +73,20 @@ bare_owes_nothing _ h = refl
 -- images with one more base
 pub image_more : (n : NeverState) (bs more : List ℕ) (v : Value) → length bs ≡ length n.allocations → IsSound n v
     → image_of (bs ++ more) v ≡ image_of bs v
-image_more n bs more (Ptr a t o) e s =
-    ap (λ x. address_of (x + o))
+image_more n bs more (Ptr a t o) e s = ap (λ x. address_of (x + o))
     (get_or_append_left bs more 0 a (let lt : a < length n.allocations = s.0 in omega (arith, e)))
 image_more n bs more _ e s = refl
 
 -- what is carried, where the values are others with the same images
 pub carries_same : (bs cs : List ℕ) (f : Flight) (a b d a2 b2 d2 : Value) → image_of cs a2 ≡ image_of bs a
-    → image_of cs b2 ≡ image_of bs b → image_of cs d2 ≡ image_of bs d
-    → Carries bs f a b d → Carries cs f a2 b2 d2
+    → image_of cs b2 ≡ image_of bs b → image_of cs d2 ≡ image_of bs d → Carries bs f a b d → Carries cs f a2 b2 d2
 carries_same bs cs f a b d a2 b2 d2 ea eb ed h =
     record {
       q = λ e. h.q e ∙ sym ea;
       some_q = h.some_q;
       p = λ e. h.p e ∙ sym eb;
       some_p = h.some_p;
-      r = λ e. h.r e
-          ∙ sym ed;
+      r = λ e. h.r e ∙ sym ed;
     }
 
 -- an access that is met, where lengths and what is unmapped are the same

@@ -9,11 +9,10 @@ use Rattle.mk_laws.proofs.Vocabulary.{sym, true, true≢false, used_on, ℕ, ◌
 use Rattle.mk_laws.proofs.Vocabulary.{◌≤◌, ◌⊎◌}
 use Rattle.mk_core.proofs.WordBits.{added_here, added_other}
 use Rattle.mk_laws.specs.LayoutScene.{IsTakenCell}
-use Rattle.mk_laws.proofs.PageSets.{headed_here, headed_other, headed_used, used_header, used_here, used_other}
-use Rattle.mk_laws.proofs.PageSets.{with_header_on, with_used_on}
+use Rattle.mk_laws.proofs.Releasing.{headed_here, headed_other, headed_used, used_header, used_here, used_other}
+use Rattle.mk_laws.proofs.Releasing.{with_header_on, with_used_on, head_of_other, shown_beside}
 use Rattle.mk_laws.proofs.LayoutReadings.{claimed_head, claimed_some, free_unused, none_set, zero_where_none}
-use Rattle.mk_laws.proofs.Releasing.{head_of_other, shown_beside}
-use Rattle.mk_laws.proofs.RunCounts.{part_count}
+use Rattle.mk_laws.proofs.Unmapping.{part_count}
 
 -- the place is chosen: its pages are free
 abbrev pub ChosenAt : LayoutScene → ℕ → Object → LayoutScene
@@ -115,9 +114,8 @@ layout_carved s first o d laid plotted off next =
         → has_bit (used_on s.pages q) k ≡ true
     old q k h = rw (← (headed_used s.pages (first + d) (header_made o d) q lt)) h
 
-    not_headed : (e : ℕ)
-        → (e < run_count (shows_on s.pages (first + d))) ⊎ ((s.releasing ≡ true) × (header_on s.pages (first + d) ≡ 0))
-        → ⊥
+    not_headed : (e : ℕ) → (e < run_count (shows_on s.pages (first + d)))
+        ⊎ ((s.releasing ≡ true) × (header_on s.pages (first + d) ≡ 0)) → ⊥
     not_headed e (inl less) = let none : run_count (shows_on s.pages (first + d)) ≡ 0 = rw was in omega arith
     not_headed e (inr on) = true≢false (sym on.0 ∙ off)
 
@@ -128,8 +126,7 @@ layout_carved s first o d laid plotted off next =
         → shows_on (with_header_on s.pages (first + d) (header_made o d)) q ≡ Some (Later e m)
         → HasItsHead (with_header_on s.pages (first + d) (header_made o d)) s.releasing q e
     headed_later q e m same is =
-        let at =
-        shown_later o d e m (header_of (header_made o d)) part
+        let at = shown_later o d e m (header_of (header_made o d)) part
         (rw (← (headed_here s.pages (first + d) (header_made o d) lt))
         (ap (λ i. shows_on (with_header_on s.pages (first + d) (header_made o d)) i) (sym same) ∙ is)) in
         let e_is : e ≡ d = at.0 in
@@ -200,23 +197,17 @@ module _ (s : LayoutScene) (x : Claim) (n : ℕ) (laid : IsLaidOn s) (t : Takes 
   len = length-set s.pages x.page (record { header = header_on s.pages x.page; used = n })
 
   here_set : has_bit (used_on after x.page) x.index ≡ true
-  here_set = rw (used_here s.pages x.page n lt ∙ t.value)
-      (added_here (used_on s.pages x.page) x.index t.unset)
+  here_set = rw (used_here s.pages x.page n lt ∙ t.value) (added_here (used_on s.pages x.page) x.index t.unset)
 
-  same_bit : (q k : ℕ) → (q ≡ x.page → k ≢ x.index)
-      → has_bit (used_on after q) k ≡ has_bit (used_on s.pages q) k
+  same_bit : (q k : ℕ) → (q ≡ x.page → k ≢ x.index) → has_bit (used_on after q) k ≡ has_bit (used_on s.pages q) k
   same_bit q k other = elim (cases_eq q x.page) [
     | inr ne ↦ rw (used_other s.pages x.page n q ne)
-    | inl e ↦ rw e
-        (rw (used_here s.pages x.page n lt ∙ t.value)
-        (added_other (used_on s.pages x.page) x.index k t.unset (other e)
-        ∙ rw (← e)))
+    | inl e ↦ rw e (rw (used_here s.pages x.page n lt ∙ t.value)
+        (added_other (used_on s.pages x.page) x.index k t.unset (other e) ∙ rw (← e)))
   ]
 
-  grow : (q k : ℕ) → has_bit (used_on s.pages q) k ≡ true
-      → has_bit (used_on after q) k ≡ true
-  grow q k h = same_bit q k (λ e ek. true≢false (sym h ∙ rw e
-      (rw ek t.unset))) ∙ h
+  grow : (q k : ℕ) → has_bit (used_on s.pages q) k ≡ true → has_bit (used_on after q) k ≡ true
+  grow q k h = same_bit q k (λ e ek. true≢false (sym h ∙ rw e (rw ek t.unset))) ∙ h
 
   grown : (y : Claim) → IsShown s.pages y → IsShown after y
   grown y was =
@@ -234,9 +225,7 @@ module _ (s : LayoutScene) (x : Claim) (n : ℕ) (laid : IsLaidOn s) (t : Takes 
         sized = t.sized;
         known = t.index;
         within = let l = len in let w = t.within in omega arith;
-        headers =
-            λ d ld. rw t.mapped
-            (used_header s.pages x.page n (x.page + d) lt ∙ t.headers d ld);
+        headers = λ d ld. rw t.mapped (used_header s.pages x.page n (x.page + d) lt ∙ t.headers d ld);
         used = here_set;
       }
 
@@ -244,8 +233,7 @@ module _ (s : LayoutScene) (x : Claim) (n : ℕ) (laid : IsLaidOn s) (t : Takes 
   cells_here =
       let zero : x.page + 0 ≡ x.page = omega arith in
       let o = some_pages in
-      rw (← zero)
-      (rw (t.headers 0 (omega arith))
+      rw (← zero) (rw (t.headers 0 (omega arith))
       (part_cells x.object (header_of (header_made x.object 0)) (made_shows x.object 0 t.sized (omega arith))))
 
   used : (p k : ℕ) → has_bit (used_on after p) k ≡ true → IsTakenCell (Taken s x n) p k
@@ -254,8 +242,7 @@ module _ (s : LayoutScene) (x : Claim) (n : ℕ) (laid : IsLaidOn s) (t : Takes 
         let inside = t.index in
         let cells = cells_here in (
           rw (ap (λ h. cells_under (header_of h)) (used_header s.pages x.page n p lt)
-              ∙ ap (λ i. cells_under (shows_on s.pages i)) at.0 ∙ cells)
-              (let e = at.1 in omega arith),
+              ∙ ap (λ i. cells_under (shows_on s.pages i)) at.0 ∙ cells) (let e = at.1 in omega arith),
           inl (record { claim = x; among = among_last s.claims x; page = sym at.0; index = sym at.1 }),
         )
     | inr other ↦
@@ -277,27 +264,20 @@ module _ (s : LayoutScene) (x : Claim) (n : ℕ) (laid : IsLaidOn s) (t : Takes 
       owner p k (inl o) = inl
           (record { claim = o.claim; among = among_left s.claims x o.claim o.among; page = o.page; index = o.index })
 
-  unused : (q : ℕ) → used_on after (head_on after q) ≡ 0
-      → used_on s.pages (head_on s.pages q) ≡ 0
+  unused : (q : ℕ) → used_on after (head_on after q) ≡ 0 → used_on s.pages (head_on s.pages q) ≡ 0
   unused q empty =
-      let head : head_on after q ≡ head_on s.pages q =
-      rw (used_header s.pages x.page n q lt) in
-      zero_where_none (used_on s.pages (head_on s.pages q))
-      (λ k h. none_set (used_on after (head_on s.pages q)) k
+      let head : head_on after q ≡ head_on s.pages q = rw (used_header s.pages x.page n q lt) in
+      zero_where_none (used_on s.pages (head_on s.pages q)) (λ k h. none_set (used_on after (head_on s.pages q)) k
       (rw (← head) empty) (grow (head_on s.pages q) k h))
 
   -- a page of the place has its head's bit now
-  full : (q : ℕ) → InPlot (Plotted x.page x.object) q
-      → used_on after (head_on after q) ≡ 0 → ⊥
+  full : (q : ℕ) → InPlot (Plotted x.page x.object) q → used_on after (head_on after q) ≡ 0 → ⊥
   full q here empty =
       let low = here.0 in
       let high = here.1 in
       let at : x.page + (q - x.page) ≡ q = omega arith in
-      let head : head_on after q ≡ x.page =
-      rw (← at)
-      (claimed_head after x (q - x.page) own (omega arith)) in
-      none_set (used_on after x.page) x.index
-      (ap (λ i. used_on after i) (sym head) ∙ empty) here_set
+      let head : head_on after q ≡ x.page = rw (← at) (claimed_head after x (q - x.page) own (omega arith)) in
+      none_set (used_on after x.page) x.index (ap (λ i. used_on after i) (sym head) ∙ empty) here_set
 
   pub layout_taken : IsLaidOn (Taken s x n)
   layout_taken =
@@ -306,9 +286,7 @@ module _ (s : LayoutScene) (x : Claim) (n : ℕ) (laid : IsLaidOn s) (t : Takes 
           | inl was ↦ grown y (laid.shown y was)
           | inr e ↦ rw e own
         ];
-        apart =
-            apart_push s.claims x laid.apart
-            (λ y i same. true≢false (sym (laid.shown y i).used ∙ rw same.0
+        apart = apart_push s.claims x laid.apart (λ y i same. true≢false (sym (laid.shown y i).used ∙ rw same.0
             (rw same.1 t.unset)));
         used = used;
         plot = tt;

@@ -37,16 +37,13 @@ none_to_serve : (c : Config) (m : Moment) (f : Flight) (x : Step) → is_undecid
 none_to_serve c m f x out = by x
   where
     none : place_now c m f ≡ None
-    none =
-        ap (λ b. if b then place_by_placing c.resident m.words.pages
+    none = ap (λ b. if b then place_by_placing c.resident m.words.pages
         (object_made c f.op) m.seats.holding.placing else None) out
 
     by : (x : Step) → serves c m f x ≡ false
-    by (step.Head p n) =
-        ap (λ (x : Option Place). not (is_phase m.words 4) && carves_at c m f p n x) none
+    by (step.Head p n) = ap (λ (x : Option Place). not (is_phase m.words 4) && carves_at c m f p n x) none
         ∙ and-false (not (is_phase m.words 4))
-    by (step.Used p n) =
-        ap (λ (x : Option Place). not (is_phase m.words 4) && takes_at c m f p n x) none
+    by (step.Used p n) = ap (λ (x : Option Place). not (is_phase m.words 4) && takes_at c m f p n x) none
         ∙ and-false (not (is_phase m.words 4))
     by (step.Mark p n) = ap (λ (x : Option Place). marks_at c m f p n x) none
     by _ = refl
@@ -166,8 +163,7 @@ own_places c w k _ known h new stays = Stays refl refl
 
 -- And each event, whatever the seat, while a caller has an undecided New.
 abbrev pub PlacesAt : Config → World → Seat → Step → ℕ → Type 0
-PlacesAt c w seat x k =
-    PlacingStep c w.now (new_object c w k) (serves c w.now (flight_of w.now seat) x)
+PlacesAt c w seat x k = PlacingStep c w.now (new_object c w k) (serves c w.now (flight_of w.now seat) x)
     (held_place w.now.seats.holding.placing) (held_place (WorldBehind c w seat x).now.seats.holding.placing)
 
 others_places : (c : Config) (w : World) (seat : Seat) (x : Step) (k : ℕ) → Known c w.now → Meets c w.now seat x
@@ -202,8 +198,7 @@ places_at c w seat x k known h lt was new = by seat h new
     by (Marker j) h new = others_places c w (Marker j) x k known h holds (λ e. cc)
     by Host h new = others_places c w Host x k known h holds (λ e. cc)
     by (Caller j) h new = elim (cases_eq k j) [
-      | inl same ↦
-          subst
+      | inl same ↦ subst
           (λ i. Meets c w.now (Caller i) x → HasNew (WorldBehind c w (Caller i) x) k → PlacesAt c w (Caller i) x k)
           same own h new
       | inr ne ↦ others_places c w (Caller j) x k known h holds (λ (e : Caller j ≡ Caller k). ne cc)

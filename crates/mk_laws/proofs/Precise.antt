@@ -44,8 +44,7 @@ pub record MarkerIsPrecise (c : Config) (s : PrecisionScene) (T : ℕ → Type 0
   pub hand : (v : ℕ) → x.hand ≡ Some v → PointsOnlyInto c s.allocations T v
   pub scan : (z : Scan) → x.scan ≡ Some z → z.next < z.end → HasNoLeaf c s z.page
   pub seen : (z : SeenHeader) → x.seen ≡ Some z → cells_under (header_of z.header) ≢ 0
-      → has_no_pointers (header_of z.header) ≡ false
-      → HasNoLeaf c s z.page
+      → has_no_pointers (header_of z.header) ≡ false → HasNoLeaf c s z.page
 
 pub record IsPrecise (c : Config) (w : World) (T : ℕ → Type 0) : Type 0 where
   pub marked : (b : ℕ) → (placed_at w.allocations b).released ≡ false
@@ -89,6 +88,5 @@ points_before c a b v e into = (into.0, same_word c a b (heap_word_at v) e into.
 pub came_behind : (c : Config) (w : World) (seat : Seat) (x : Step) (i : ℕ)
     → (placed_at (WorldBehind c w seat x).allocations i).released ≡ false
     → Came w.allocations (WorldBehind c w seat x).allocations x i
-came_behind c w seat x i u =
-    came w.allocations (WorldBehind c w seat x).allocations x i
+came_behind c w seat x i u = came w.allocations (WorldBehind c w seat x).allocations x i
     (allocation_step c w.now (flight_of w.now seat) x w.allocations) u

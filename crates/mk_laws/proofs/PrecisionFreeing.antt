@@ -2,20 +2,21 @@
 use Rattle.std.specs.Prelude.{Contains}
 use Rattle.mk_laws.proofs.Vocabulary.{Config, Cycle, Event, IsHistory, IsStorage, IsWordOf, List, OfHistories}
 use Rattle.mk_laws.proofs.Vocabulary.{PlacedAllocation, Releasing, Step, Storage, World, [], and_parts, ap, append-nil}
-use Rattle.mk_laws.proofs.Vocabulary.{append_assoc, arith, before_release, earlier_part_is_history, false, is_end}
-use Rattle.mk_laws.proofs.Vocabulary.{is_release, is_small, left, list_any, not, not-true, or_from, phase_of, placed_at}
-use Rattle.mk_laws.proofs.Vocabulary.{refl, standing_has_storage, storage_is_of, storage_of, storage_words, subst, sym}
-use Rattle.mk_laws.proofs.Vocabulary.{through_release, true≢false, unreleased_storage, world_behind, ℕ, ◌%◌, ◌++◌, ◌∙◌}
-use Rattle.mk_laws.proofs.Vocabulary.{◌∷◌, ◌≡◌, ◌≤◌}
+use Rattle.mk_laws.proofs.Vocabulary.{append_assoc, arith, before_release, cases_Bool, cases_lt}
+use Rattle.mk_laws.proofs.Vocabulary.{earlier_part_is_history, eqb-true, false, inl, inr, is_end, is_release, is_small}
+use Rattle.mk_laws.proofs.Vocabulary.{left, list_any, not, not-true, or_from, phase_of, placed_at, refl}
+use Rattle.mk_laws.proofs.Vocabulary.{standing_has_storage, stands_on, storage_is_of, storage_of, storage_words, subst}
+use Rattle.mk_laws.proofs.Vocabulary.{sym, through_release, true, true≢false, unreleased_storage, world_behind, ℕ, ◌%◌}
+use Rattle.mk_laws.proofs.Vocabulary.{◌*◌, ◌++◌, ◌+◌, ◌==◌, ◌∙◌, ◌∷◌, ◌≡◌, ◌≤◌}
 use Rattle.mk_laws.proofs.Basics.{WorldBehind, begin_is, is_grant, release_is}
-use Rattle.mk_geom.specs.Storages.{IsRun}
-use Rattle.mk_geom.proofs.Standing.{has_words, large_is_run}
+use Rattle.mk_geom.specs.Storages.{IsRun, is_cell_taken}
+use Rattle.mk_geom.proofs.ListSearch.{find_cases, list_any_found}
+use Rattle.mk_geom.proofs.Standing.{stands_parts, has_words, large_is_run}
+use Rattle.mk_laws.specs.Precision.{CountsAsFree, FreesTheUntouched, through_end}
 use Rattle.mk_core.specs.Cycles.{before_begin, before_end}
 use Rattle.mk_core.specs.declared.events.Step.TheVariants as step
 use Rattle.mk_laws.proofs.InvariantTheorems.{allocations_are_disjoint}
-use Rattle.mk_laws.specs.Precision.{FreesTheUntouched, through_end}
 use Rattle.mk_laws.proofs.AllocationSteps.{is_there}
-use Rattle.mk_laws.proofs.FreeStorage.{counts_as_free}
 use Rattle.mk_laws.proofs.Marking.{one_more, told}
 use Rattle.mk_laws.proofs.ProtocolStepKinds.{end_is}
 use Rattle.mk_laws.proofs.OlderAllocations.{AreOlder, IsKept, kept_along, older_behind, older_joined, older_same}
@@ -24,6 +25,54 @@ use Rattle.mk_laws.proofs.Precise.{same_word, same_words}
 use Rattle.mk_laws.proofs.PrecisionStopped.{AtRelease, at_the_release, last_begin, releases_the_untouched}
 use Rattle.mk_laws.proofs.Stretches.{along_without, at_end, at_release, history_through}
 use Rattle.mk_laws.proofs.Worlds.{stands}
+
+-- Storage of which no other has a word counts as free.
+
+module _ (ss : List Storage) (s : Storage) (some : 1 ≤ s.words) (run : is_small s ≡ false → IsRun s)
+    (others : (t : Storage) → Contains ss t → 1 ≤ t.words)
+    (apart : (t : Storage) → Contains ss t → (n : ℕ) → IsWordOf s n → IsWordOf t n → ⊥) where
+  -- none begins at its first word
+  none_begins : (page words k : ℕ) → s.first ≡ 64 * page + k * words → is_cell_taken ss page words k ≡ true → ⊥
+  none_begins page words k at taken =
+      let found = list_any_found (λ (t : Storage). t.first == 64 * page + k * words) ss taken in
+      let t : Storage = found.0 in
+      let inside = found.1 in
+      let first = eqb-true t.first _ found.2 in
+      let size = others t inside in
+      apart t inside s.first (omega arith, omega arith) (omega arith, omega arith)
+
+  -- a run's pages have no other's word
+  none_stands : (page : ℕ) (t : Storage) → is_small s ≡ false → stands_on page s ≡ true → Contains ss t
+      → stands_on page t ≡ true → ⊥
+  none_stands page t large own inside stands =
+      let r = run large in
+      let words = r.words in
+      let begins = r.first in
+      let mine = stands_parts page s own in
+      let its = stands_parts page t stands in
+      let from = mine.0 in
+      let to = mine.1 in
+      let low = its.0 in
+      let high = its.1 in
+      let size = others t inside in
+      elim (cases_lt t.first (64 * page)) [
+        | inl lt ↦ apart t inside (64 * page) (omega arith, omega arith) (omega arith, omega arith)
+        | inr le ↦ apart t inside t.first (omega arith, omega arith) (omega arith, omega arith)
+      ]
+
+  pub counts_as_free : CountsAsFree ss s
+  counts_as_free =
+      record {
+        apart = apart;
+        cell = λ page words k at. elim (cases_Bool (is_cell_taken ss page words k)) [
+          | inl taken ↦ absurd (none_begins page words k at taken)
+          | inr free ↦ free
+        ];
+        pages = λ large page own. elim (find_cases (stands_on page) ss) [
+          | inl found ↦ absurd (none_stands page found.0 large own found.2 found.3)
+          | inr none ↦ rw none.0
+        ];
+      }
 
 -- what stands this many events after the `release`
 record WhileReleasing (c : Config) (start more : List Event) : Type 0 where
@@ -68,8 +117,7 @@ released c es k h at =
     subst (λ (v : World). phase_of v.now.words ≡ 4) left_is (omega arith) in
     let same : start ++ more ≡ before_end k = append_assoc front (e ∷ []) more in
     let ending = history_through c es (before_end k) k.end.at.behind k.end.at.event h (at_end k) in
-    let whole : IsHistory c (start ++ more) =
-    subst (λ (xs : List Event). IsHistory c xs) (sym same)
+    let whole : IsHistory c (start ++ more) = subst (λ (xs : List Event). IsHistory c xs) (sym same)
     (earlier_part_is_history c (before_end k) (k.end.at.event ∷ []) ending) in
     let first : WhileReleasing c start [] =
     record {
@@ -128,8 +176,7 @@ frees_the_untouched c es h k unswept i quarantined untouched =
     ss = unreleased_storage c zs
 
     before : IsHistory c (before_release r)
-    before =
-        earlier_part_is_history c (before_release r) (r.release.at.event ∷ [])
+    before = earlier_part_is_history c (before_release r) (r.release.at.event ∷ [])
         (history_through c es (before_release r) r.release.at.behind r.release.at.event h (at_release r))
 
     done : Released c k
@@ -145,8 +192,7 @@ frees_the_untouched c es h k unswept i quarantined untouched =
 
     -- an allocation that was unreleased before the `release` has its storage still
     storage : (j : ℕ) → (placed_at xs j).released ≡ false → IsStorage c.pages (storage_of c (placed_at xs j))
-    storage j u =
-        standing_has_storage c (placed_at xs j) h.within_limits
+    storage j u = standing_has_storage c (placed_at xs j) h.within_limits
         (stands c (left c (before_release r)) _ (told c (before_release r) before) j u)
 
     size : (j : ℕ) → (placed_at xs j).released ≡ false → 1 ≤ storage_words c (placed_at zs j)

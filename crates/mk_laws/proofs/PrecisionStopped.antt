@@ -24,8 +24,7 @@ use Rattle.mk_laws.proofs.Worlds.{headers, stands}
 
 -- All that is marked is of the set.
 abbrev pub IsMarkedOnly : Config → World → (ℕ → Type 0) → Type 0
-IsMarkedOnly c w T =
-    (b : ℕ) → (placed_at w.allocations b).released ≡ false → is_marked w.now.words
+IsMarkedOnly c w T = (b : ℕ) → (placed_at w.allocations b).released ≡ false → is_marked w.now.words
     (cell_of_allocation c (placed_at w.allocations b)) ≡ true → T b
 
 -- what stands this many events after the `close`

@@ -101,9 +101,8 @@ module _ (c : Config) (w : World) (n : NeverState) (known : KnownWorld c w) (all
       (car.q refl) (car.some_q refl) (own_sound k (q_of o)) (all.mirrors.safe.1.registers (8 * k + q_of o)) u
 
 pub probe_still : (c : Config) (w v : World) (n m : NeverState) (kw : KnownWorld c w) (kv : KnownWorld c v)
-    (aw : Invariant c w n) (av : Invariant c v m) (k : ℕ)
-    → k < c.callers → flight_of v.now (Caller k) ≡ flight_of w.now (Caller k)
-    → (flight_of w.now (Caller k)).stage ≡ stage.Probe
+    (aw : Invariant c w n) (av : Invariant c v m) (k : ℕ) → k < c.callers
+    → flight_of v.now (Caller k) ≡ flight_of w.now (Caller k) → (flight_of w.now (Caller k)).stage ≡ stage.Probe
     → Continues n m → register_at m k (q_of (flight_of w.now (Caller k)).op)
     ≡ register_at n k (q_of (flight_of w.now (Caller k)).op) → IsAdmitted c.globals n k (flight_of w.now (Caller k)).op
     → is_unmapped_header (header_in w.now.words (page_met (flight_of w.now (Caller k)))) ≡ true

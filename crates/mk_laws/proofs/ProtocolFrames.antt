@@ -2,17 +2,24 @@
 use Rattle.std.specs.Prelude.{◌/◌}
 use Rattle.std.proofs.lemmas.List.Sums.{sum_by-append}
 use Rattle.mk_laws.proofs.Vocabulary.{AreEnabledFrom, AreOfOthers, Caller, Config, Event, Flight, Holds, Host, IsInCall}
-use Rattle.mk_laws.proofs.Vocabulary.{IsLeft, List, Marker, MarkerState, Moment, OnlyGrow, Protocol, Seat, Steady, Step}
-use Rattle.mk_laws.proofs.Vocabulary.{TurnIsLeft, Words, World, Written, [], all_below, answer_decided, ap, arith}
-use Rattle.mk_laws.proofs.Vocabulary.{at_rest, call_decided, caller_number, calls, calls_from, cases_lt, cond}
-use Rattle.mk_laws.proofs.Vocabulary.{enabled_meets, enabled_parts, ends, eq-eqb, false, first_world, flight_of}
-use Rattle.mk_laws.proofs.Vocabulary.{get_or-set_other, get_or_past, header_in, holder_number, inl, inr, is_attending}
-use Rattle.mk_laws.proofs.Vocabulary.{is_end, is_in, is_number_of, is_one_of, is_unmapped_header, left, left_append}
-use Rattle.mk_laws.proofs.Vocabulary.{left_from, marker_at, others_are_held, outside, phase_of, refl, slice_index}
-use Rattle.mk_laws.proofs.Vocabulary.{slice_set, sym, true, world_behind, ℕ, ◌++◌, ◌<◌, ◌==◌, ◌||◌, ◌∙◌, ◌∷◌, ◌≡◌, ◌≢◌}
-use Rattle.mk_laws.proofs.Vocabulary.{◌≤◌, ◌⊎◌}
-use Rattle.mk_laws.proofs.Basics.{Known, Meets, WorldBehind, actor_of, in_call_told, known_behind, known_left}
-use Rattle.mk_laws.proofs.Basics.{not_astray, others_held, same_holder, standing, turn_of, view_of}
+use Rattle.mk_laws.proofs.Vocabulary.{IsLeft, List, Marker, MarkerState, Moment, Named, OnlyGrow, Protocol, Seat, Stage}
+use Rattle.mk_laws.proofs.Vocabulary.{Steady, Step, Store, Tally, TurnIsLeft, Words, World, Written, [], accessed}
+use Rattle.mk_laws.proofs.Vocabulary.{all_below, answer_decided, ap, arith, at_rest, call_decided, caller_number, calls}
+use Rattle.mk_laws.proofs.Vocabulary.{calls_from, cases_lt, cond, d_of, enabled_meets, enabled_parts, ends, eq-eqb}
+use Rattle.mk_laws.proofs.Vocabulary.{false, first_world, flight_of, get_or-set_other, get_or_past, header_in}
+use Rattle.mk_laws.proofs.Vocabulary.{holder_number, inl, inr, is_attending, is_end, is_in, is_number_of, is_one_of}
+use Rattle.mk_laws.proofs.Vocabulary.{is_unmapped_header, left, left_append, left_from, marker_at, others_are_held}
+use Rattle.mk_laws.proofs.Vocabulary.{outside, phase_of, refl, reg_access, register_met, slice_index, slice_set, sym}
+use Rattle.mk_laws.proofs.Vocabulary.{true, world_behind, ℕ, ◌*◌, ◌++◌, ◌+◌, ◌<◌, ◌==◌, ◌||◌, ◌∙◌, ◌∷◌, ◌≡◌, ◌≢◌, ◌≤◌}
+use Rattle.mk_laws.proofs.Vocabulary.{◌⊎◌}
+use Rattle.mk_laws.proofs.Basics.{Behind, Known, Meets, WorldBehind, actor_of, grants_new, in_call_told, known_behind}
+use Rattle.mk_laws.proofs.Basics.{known_left, not_astray, operands_of, others_held, register_small, same_holder}
+use Rattle.mk_laws.proofs.Basics.{standing, turn_of, view_of}
+use Rattle.mk_core.specs.declared.events.Word.TheVariants as word
+use Rattle.mk_core.specs.declared.events.Step.TheVariants as step
+use Rattle.mk_core.specs.declared.seats.Stage.TheVariants as stage
+use Rattle.mk_laws.proofs.Operands.{HaveOperands, Operands}
+use Rattle.mk_core.proofs.RegisterAccesses.{tally_leaves_registers}
 use Rattle.mk_core.specs.Growing.{is_same_seat}
 use Rattle.mk_core.specs.Readings.{is_in_call}
 use Rattle.mk_core.specs.Frames.{Attends, IsIn, HoldsAll, OwnIsLeft, written_of, CountsAreLeft, ScanIsLeft, OthersLeave}
@@ -25,10 +32,41 @@ use Rattle.mk_laws.proofs.OthersMoves.{with_words_seats, OthersMove, Waits, Call
 use Rattle.mk_laws.proofs.OthersMoves.{gate_one, others_move}
 use Rattle.mk_laws.proofs.Growth.{grows_same, grows_joined}
 use Rattle.mk_laws.proofs.TurnFrame.{holding_out, turn_after, turn_same, turn_joined}
-use Rattle.mk_laws.proofs.RegisterSteps.{register_step, others_registers}
 use Rattle.mk_laws.proofs.HeaderSteps.{header_step, stays_mapped}
 use Rattle.mk_laws.proofs.Colours.{colours_of, colour_step, attending_grows}
 use Rattle.mk_laws.proofs.OthersCounts.{counts_nothing, fulls_of, entry_fulls, fulls_append}
+
+-- What an event may do to registers: each caller's are its own.
+
+pub data RegisterStep (w : Words) : Seat → List ℕ → Type 0 where
+  KeepsRegisters : {seat : Seat} → RegisterStep w seat w.registers
+  SetsOwn : {k : ℕ} (r v : ℕ) → r < 8 → RegisterStep w (Caller k) (slice_set w.registers (8 * k + r) v)
+
+reg_registers : (w : Words) (k : ℕ) (f : Flight) (s : Stage) → Operands f.op
+    → RegisterStep w (Caller k) (accessed w (Named (word.Reg k (register_met f s))) (reg_access f s)).registers
+reg_registers w k f stage.Store o = SetsOwn (register_met f stage.Store) _ (register_small f stage.Store o)
+reg_registers w k f stage.Put o = SetsOwn (register_met f stage.Put) _ (register_small f stage.Put o)
+reg_registers w k f _ o = KeepsRegisters
+
+pub register_step : (c : Config) (m : Moment) (seat : Seat) (x : Step) → HaveOperands c m.seats.flights
+    → Meets c m seat x → RegisterStep m.words seat (Behind c m seat x).words.registers
+register_step c m (Caller k) step.Reg ops h =
+    reg_registers m.words k (flight_of m (Caller k)) (flight_of m (Caller k)).stage
+    (operands_of c (flight_of m (Caller k)).op (ops k))
+register_step c m (Marker k) step.Reg ops h = let kind = h.kind in cc
+register_step c m Host step.Reg ops h = let kind = h.kind in cc
+register_step c m (Caller k) step.Grant ops h =
+    SetsOwn (d_of (flight_of m (Caller k)).op) _ (operands_of c (flight_of m (Caller k)).op (ops k)).d
+register_step c m (Marker k) step.Grant ops h = let kind = h.kind in cc
+register_step c m Host step.Grant ops h = let new = grants_new c m Host h in cc
+register_step c m seat (step.Tally n v) ops h = rw (tally_leaves_registers m.words n v) KeepsRegisters
+register_step c m seat _ ops h = KeepsRegisters
+
+pub others_registers : (w : Words) (seat : Seat) (rs : List ℕ) (k r : ℕ) → RegisterStep w seat rs → seat ≢ Caller k
+    → r < 8 → slice_index rs (8 * k + r) ≡ slice_index w.registers (8 * k + r)
+others_registers w seat rs k r KeepsRegisters ne lt = refl
+others_registers w seat rs k r (SetsOwn {k = j} s v ls) ne lt =
+    get_or-set_other w.registers (8 * j + s) (8 * k + r) v 0 (λ e. ne (rw (let same : j ≡ k = omega arith in same)))
 
 -- the call of another caller, and another marker
 
@@ -44,8 +82,7 @@ others_marker c w _ _ x ne = cc
 
 -- A seat that holds the turn holds it still, after an event of another.
 others_out : (c : Config) (w : World) (seat s : Seat) (x : Step) → Known c w.now → Meets c w.now seat x → seat ≢ s
-    → Holds c w.now s
-    → OthersMove c w seat (WorldBehind c w seat x)
+    → Holds c w.now s → OthersMove c w seat (WorldBehind c w seat x)
 others_out c w seat s x known h ne holds =
     let t = holds_turn c w.now s known.orderly holds in
     let turn = turn_of c (view_of w.now) s known.orderly t in
@@ -96,15 +133,13 @@ in_call_gate c m k known is = elim (cases_lt k c.callers) [
             (in_call_is (standing f) (in_call_told f.stage f.op (not_astray c m known.orderly k lt) ∙ is)),
       )
   | inr past ↦
-      let f : false ≡ true =
-      ap (λ (g : Flight). is_in_call g)
+      let f : false ≡ true = ap (λ (g : Flight). is_in_call g)
       (sym (get_or_past m.seats.flights k at_rest (omega (arith, known.orderly.flights)))) ∙ is in
       cc
 ]
 
 mapped_after : (c : Config) (w : World) (seat s : Seat) (x : Step) → Known c w.now → Meets c w.now seat x → seat ≢ s
-    → IsInCall w.now s
-    → (p : ℕ) → is_unmapped_header (header_in w.now.words p) ≡ false
+    → IsInCall w.now s → (p : ℕ) → is_unmapped_header (header_in w.now.words p) ≡ false
     → is_unmapped_header (header_in (WorldBehind c w seat x).now.words p) ≡ false
 mapped_after c w seat (Caller k) x known h ne call p is =
     let g = in_call_gate c w.now k known call in
@@ -132,8 +167,7 @@ stop_out c w seat s v (Marks {k} y {x} lt write) ne holds all =
     marks_leave w k y (slice_set w.now.seats.markers k y) x write
 
 scan_after : (c : Config) (w : World) (seat s : Seat) (x : Step) → Known c w.now → Meets c w.now seat x
-    → Attends w.now s
-    → OnlyGrow w.now.words.marks (WorldBehind c w seat x).now.words.marks
+    → Attends w.now s → OnlyGrow w.now.words.marks (WorldBehind c w seat x).now.words.marks
     × OnlyGrow w.now.words.blacks (WorldBehind c w seat x).now.words.blacks
 scan_after c w seat (Marker k) x known h a =
     attending_grows c w.now seat (colours_of (WorldBehind c w seat x).now) k (known.orderly.attends k a) a
@@ -220,8 +254,7 @@ pub left_later : (c : Config) (s : Seat) (w : World) (es : List Event) → Known
     → AreOfOthers (s ∷ []) es → Left c s w (left_from c w es)
 unfolding left_from AreEnabledFrom AreOfOthers
 left_later c s w [] k on others = left_same c s w
-left_later c s w (e ∷ es) k on others =
-    left_joined c s w (world_behind c w e) (left_from c (world_behind c w e) es)
+left_later c s w (e ∷ es) k on others = left_joined c s w (world_behind c w e) (left_from c (world_behind c w e) es)
     (left_after c w e.seat s e.step k (enabled_meets c w.now e on.0) (other_seat s e.seat others.0))
     (left_later c s (world_behind c w e) es (known_behind c w.now e k on.0) on.1 others.1)
 
@@ -232,8 +265,7 @@ record CountsNothing (c : Config) (w : World) (es : List Event) : Type 0 where
   none_full : fulls_of (calls_from c w es) ≡ 0
 
 counts_later : (c : Config) (s : Seat) (w : World) (es : List Event) → Known c w.now → AreEnabledFrom c w es
-    → AreOfOthers (s ∷ []) es
-    → Holds c w.now s → CountsNothing c w es
+    → AreOfOthers (s ∷ []) es → Holds c w.now s → CountsNothing c w es
 unfolding calls_from AreEnabledFrom AreOfOthers
 counts_later c s w [] k on others holds = record { none_ends = refl; none_full = refl }
 counts_later c s w (e ∷ es) k on others holds =
@@ -259,8 +291,7 @@ counts_left c es more h =
     record {
       ends = sum_by-append (λ (x : Event). cond {A = ℕ} (is_end x.step) 1 0) es more
           ∙ (let r = h.none_ends in omega arith);
-      fulls =
-          rw (calls_append c (first_world c) es more) (fulls_append (calls c es) (calls_from c (left c es) more)
+      fulls = rw (calls_append c (first_world c) es more) (fulls_append (calls c es) (calls_from c (left c es) more)
           ∙ (let r = h.none_full in omega arith));
     }
 
@@ -288,8 +319,7 @@ is_left c s es more l known counts =
     record {
       own = l.own;
       in_call = λ k is call. record {
-        gate =
-            (in_call_gate c (left c (es ++ more)).now k known (rw is at
+        gate = (in_call_gate c (left c (es ++ more)).now k known (rw is at
             (still_calls c s (left c es) (left c (es ++ more)) l.own call))).1;
         mapped = l.mapped call;
       };

@@ -48,8 +48,7 @@ exchanged n g ne = by (g == 0) ne
 
 exchange_told : (gs : List ℕ) (j n i : ℕ)
     → not (slice_index (slice_set gs j (if slice_index gs j == 0 then n else slice_index gs j)) i == slice_index gs i)
-    ≡ true
-    → (i ≡ j) × (slice_index (slice_set gs j (if slice_index gs j == 0 then n else slice_index gs j)) i ≡ n)
+    ≡ true → (i ≡ j) × (slice_index (slice_set gs j (if slice_index gs j == 0 then n else slice_index gs j)) i ≡ n)
 exchange_told gs j n i h =
     let x = changed gs j (if slice_index gs j == 0 then n else slice_index gs j) i h in
     (x.same, x.now ∙ exchanged n (slice_index gs j) x.other)
@@ -64,12 +63,10 @@ gate_told c m seat (step.Hold j) i h =
     ap (λ y. y == 2) e.1 ∙ sym (eq-eqb i j e.0)
 gate_told c m seat (step.Open j) i h = set_told m.words.gates j 0 i refl h
 gate_told c m seat step.Reg i h =
-    let same =
-    (reg_keeps m.words (caller_number seat) (register_met (flight_of m seat) (flight_of m seat).stage)
+    let same = (reg_keeps m.words (caller_number seat) (register_met (flight_of m seat) (flight_of m seat).stage)
     (reg_access (flight_of m seat) (flight_of m seat).stage)).gates in
     absurd (unchanged m.words.gates i (rw same at h))
-gate_told c m seat (step.Tally n v) i h =
-    absurd (unchanged m.words.gates i (rw (tally_keeps m.words n v).gates at h))
+gate_told c m seat (step.Tally n v) i h = absurd (unchanged m.words.gates i (rw (tally_keeps m.words n v).gates at h))
 gate_told c m seat _ i h = absurd (unchanged m.words.gates i h)
 
 -- one event, and many

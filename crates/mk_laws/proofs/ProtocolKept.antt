@@ -1,20 +1,81 @@
 -- Each move keeps all in order.
 use Rattle.mk_laws.proofs.Vocabulary.{Caller, Config, Flight, Holding, Host, List, Marker, MarkerState, Seat, ap, arith}
-use Rattle.mk_laws.proofs.Vocabulary.{at_rest, cases_eq, get_or-set_other, get_or-set_same, holder_number, inl, inr}
-use Rattle.mk_laws.proofs.Vocabulary.{is_attending, length, length-set, outside, refl, slice_index, slice_index_or}
-use Rattle.mk_laws.proofs.Vocabulary.{slice_set, sym, true, ℕ, ◌%◌, ◌*◌, ◌+◌, ◌-◌, ◌<◌, ◌^◌, ◌∙◌, ◌≡◌, ◌≢◌, ◌≤◌, ◌⊎◌}
+use Rattle.mk_laws.proofs.Vocabulary.{at_rest, cases_eq, false, get_or-set_other, get_or-set_same, holder_number, inl}
+use Rattle.mk_laws.proofs.Vocabulary.{inr, is_attending, length, length-set, nothing_done, outside, refl, slice_index}
+use Rattle.mk_laws.proofs.Vocabulary.{slice_index_or, slice_set, sym, true, ℕ, ◌%◌, ◌*◌, ◌+◌, ◌-◌, ◌<◌, ◌^◌, ◌∙◌, ◌≡◌}
+use Rattle.mk_laws.proofs.Vocabulary.{◌≢◌, ◌≤◌, ◌⊎◌}
+use Rattle.mk_laws.proofs.Views.{View, gate_in, marker_in, HoldsTurn, flight_in, flight_at, flights_with}
+use Rattle.mk_laws.proofs.ProtocolMoves.{PhaseStep, Begins, Wants, Closes, Releases, Ends, Stops, IdlesOutside, Move}
+use Rattle.mk_laws.proofs.ProtocolMoves.{Stays, Enters, GoesOn, Leaves, Takes, Gives, Works, Holds, Opens, Phases}
+use Rattle.mk_laws.proofs.ProtocolMoves.{Attends, Quits, Scans}
+use Rattle.mk_laws.proofs.ProtocolMarkers.{count_in, up_one, down_four, up_five, counted_same, counted_more}
+use Rattle.mk_laws.proofs.ProtocolMarkers.{counted_less, marker_set, up_eight, down_eight}
+use Rattle.mk_laws.proofs.Orderly.{Orderly, turn_of, few_in, AllShow, all_but_flight, all_but_gate, all_but_both}
+use Rattle.mk_laws.proofs.Orderly.{all_but_seat, length_with, shows_at, holders_flight, holder_shows, giver_shows}
+use Rattle.mk_laws.proofs.Orderly.{taker_shows, taker_number}
 use Rattle.mk_laws.proofs.Standings.{Resting, InCall, standing, Shows, shows_taken, shows_given, shows_held}
 use Rattle.mk_laws.proofs.Standings.{shows_opened}
 use Rattle.mk_laws.proofs.Services.{Served, Service, Goes, service_stands, service_rests, served_on, nothing_served}
-use Rattle.mk_laws.proofs.Views.{View, flight_in, gate_in, marker_in, flight_at, flights_with, HoldsTurn}
-use Rattle.mk_laws.proofs.ProtocolMoves.{IdlesOutside, Move, Stays, Enters, GoesOn, Leaves, Takes, Gives, Works, Holds}
-use Rattle.mk_laws.proofs.ProtocolMoves.{Opens, Phases, Attends, Quits, Scans}
-use Rattle.mk_laws.proofs.Shown.{AllShow, all_but_flight, all_but_gate, all_but_both, all_but_seat, length_with}
-use Rattle.mk_laws.proofs.ProtocolMarkers.{count_in, counted_same, counted_more, counted_less, marker_set, up_eight}
-use Rattle.mk_laws.proofs.ProtocolMarkers.{down_eight}
-use Rattle.mk_laws.proofs.Orderly.{Orderly, shows_at, turn_of, holders_flight, holder_shows, giver_shows, taker_shows}
-use Rattle.mk_laws.proofs.Orderly.{taker_number, few_in}
-use Rattle.mk_laws.proofs.PhaseKept.{phase_kept}
+
+-- What a step of the phase leaves.
+
+pub record PhaseKept (c : Config) (v : View) (p : ℕ) : Type 0 where
+  pub phase : p ≡ p % 8 + 8 * count_in v.markers
+  pub low : p % 8 ≤ 5
+  pub stopped : p % 8 ≡ 3 → (k : ℕ) → k < c.callers → v.turn ≢ 1 + k → gate_in v k ≡ 2
+  pub attends : (k : ℕ) → is_attending (marker_in v k).presence ≡ true → (p % 8 ≡ 1) ⊎ (p % 8 ≡ 2)
+
+pub phase_kept : (c : Config) (v : View) (seat : Seat) (p : ℕ) → Orderly c v → HoldsTurn c v seat → PhaseStep c v seat p
+    → PhaseKept c v p
+phase_kept c v seat p h t (Begins z) =
+    let n = up_one v.phase (count_in v.markers) (v.phase % 8) h.phase h.low (few_in c v h) (omega arith) in
+    record {
+      phase = omega (arith, n.0, n.1);
+      low = omega (arith, n.0);
+      stopped = λ e. absurd (omega (arith, n.0));
+      attends = λ k a. elim (h.attends k a) [ inl e ↦ absurd (omega arith) | inr e ↦ absurd (omega arith) ];
+    }
+phase_kept c v seat p h t (Wants z) =
+    let n = up_one v.phase (count_in v.markers) (v.phase % 8) h.phase h.low (few_in c v h) (omega arith) in
+    record {
+      phase = omega (arith, n.0, n.1);
+      low = omega (arith, n.0);
+      stopped = λ e. absurd (omega (arith, n.0));
+      attends = λ k a. inr (omega (arith, n.0));
+    }
+phase_kept c v seat p h t (Closes z held none) =
+    let n = up_one v.phase (count_in v.markers) (v.phase % 8) h.phase h.low (few_in c v h) (omega arith) in
+    let turn = turn_of c v seat h t in
+    record {
+      phase = omega (arith, n.0, n.1);
+      low = omega (arith, n.0);
+      stopped = λ e k lt ne. held k lt (λ is. ne (omega arith));
+      attends = λ k a. let f : true ≡ false = sym a ∙ none k in cc;
+    }
+phase_kept c v seat p h t (Releases z) =
+    let n = up_one v.phase (count_in v.markers) (v.phase % 8) h.phase h.low (few_in c v h) (omega arith) in
+    record {
+      phase = omega (arith, n.0, n.1);
+      low = omega (arith, n.0);
+      stopped = λ e. absurd (omega (arith, n.0));
+      attends = λ k a. elim (h.attends k a) [ inl e ↦ absurd (omega arith) | inr e ↦ absurd (omega arith) ];
+    }
+phase_kept c v seat p h t (Ends z) =
+    let n = down_four v.phase (count_in v.markers) (v.phase % 8) h.phase (few_in c v h) z in
+    record {
+      phase = omega (arith, n.0, n.1);
+      low = omega (arith, n.0);
+      stopped = λ e. absurd (omega (arith, n.0));
+      attends = λ k a. elim (h.attends k a) [ inl e ↦ absurd (omega arith) | inr e ↦ absurd (omega arith) ];
+    }
+phase_kept c v seat p h t (Stops z) =
+    let n = up_five v.phase (count_in v.markers) (v.phase % 8) h.phase (few_in c v h) z in
+    record {
+      phase = omega (arith, n.0, n.1);
+      low = omega (arith, n.0);
+      stopped = λ e. absurd (omega (arith, n.0));
+      attends = λ k a. elim (h.attends k a) [ inl e ↦ absurd (omega arith) | inr e ↦ absurd (omega arith) ];
+    }
 
 flights_kept : (c : Config) (v : View) (seat : Seat) (f : Flight) → Orderly c v
     → length (flights_with v.flights seat f) ≡ c.callers
@@ -32,8 +93,7 @@ others_served c v k f h ne = elim (cases_eq v.turn 0) [
 works_served : (c : Config) (v : View) (seat : Seat) (f : Flight) (i : Holding) → Orderly c v → HoldsTurn c v seat
     → Service (flight_at v.flights seat) v.holding f i
     → Served (slice_index_or (flights_with v.flights seat f) (v.turn - 1) at_rest) i
-works_served c v seat f i h t s =
-    rw (behind c v seat f i h t s) (served_on (flight_at v.flights seat) v.holding f i
+works_served c v seat f i h t s = rw (behind c v seat f i h t s) (served_on (flight_at v.flights seat) v.holding f i
     (rw (holders_flight c v seat h t) at h.served) s)
   where
     behind : (c : Config) (v : View) (seat : Seat) (f : Flight) (i : Holding) → Orderly c v → HoldsTurn c v seat
@@ -50,15 +110,13 @@ works_served c v seat f i h t s =
 works_shown : (c : Config) (v : View) (seat : Seat) (f : Flight) (i : Holding) → Orderly c v → HoldsTurn c v seat
     → Service (flight_at v.flights seat) v.holding f i
     → AllShow c.callers v.turn v.gates (flights_with v.flights seat f)
-works_shown c v seat f i h t s =
-    all_but_seat c v.turn seat v.gates v.flights f
+works_shown c v seat f i h t s = all_but_seat c v.turn seat v.gates v.flights f
     (holder_shows c v seat f h t (λ is. service_stands (flight_at v.flights seat) v.holding f i is s))
     (λ b lb ne. h.each b lb)
 
 -- a gate of another is set
 gate_shown : (c : Config) (v : View) (j x : ℕ) → c.callers ≤ 16 → Orderly c v → j < c.callers
-    → Shows v.turn x j (standing (flight_in v j))
-    → AllShow c.callers v.turn (slice_set v.gates j x) v.flights
+    → Shows v.turn x j (standing (flight_in v j)) → AllShow c.callers v.turn (slice_set v.gates j x) v.flights
 gate_shown c v j x small h lj s = all_but_gate c.callers v.turn j x v.gates v.flights (omega (arith, h.gates)) s
     (λ b lb nb. h.each b lb)
 
@@ -79,68 +137,73 @@ attends_set v p k x own others e b a =
     rw e (marker_set v.markers k b x (λ (y : MarkerState). is_attending y.presence ≡ true
     → (v.phase % 8 ≡ 1) ⊎ (v.phase % 8 ≡ 2)) (λ lk. own) (others b) a)
 
+-- where the turn, the phase and the markers stay
+seats_kept : (c : Config) (v : View) (fs : List Flight) (gs : List ℕ) (i : Holding) → Orderly c v
+    → length fs ≡ c.callers → length gs ≡ 16 → AllShow c.callers v.turn gs fs
+    → Served (slice_index_or fs (v.turn - 1) at_rest) i → (v.turn ≡ 0 → i ≡ nothing_done)
+    → (v.phase % 8 ≡ 3 → (k : ℕ) → k < c.callers → v.turn ≢ 1 + k → slice_index gs k ≡ 2)
+    → Orderly c (record v { flights = fs; gates = gs; holding = i })
+seats_kept c v fs gs i h flights gates each served free stopped =
+    record {
+      flights = flights;
+      gates = gates;
+      markers = h.markers;
+      turn = h.turn;
+      each = each;
+      served = served;
+      free = free;
+      phase = h.phase;
+      low = h.low;
+      cycle = h.cycle;
+      stopped = stopped;
+      attends = h.attends;
+      idle = h.idle;
+    }
+
+-- where the markers change, and how many of them are in, but not how far the phase is
+markers_kept : (c : Config) (v : View) (k : ℕ) (x : MarkerState) (p : ℕ) → Orderly c v → p % 8 ≡ v.phase % 8
+    → p ≡ v.phase % 8 + 8 * count_in (slice_set v.markers k x)
+    → (is_attending x.presence ≡ true → (v.phase % 8 ≡ 1) ⊎ (v.phase % 8 ≡ 2)) → (k < length v.markers → IdlesOutside x)
+    → Orderly c (record v { phase = p; markers = slice_set v.markers k x })
+markers_kept c v k x p h same count own idle =
+    record {
+      flights = h.flights;
+      gates = h.gates;
+      markers = length-set v.markers k x ∙ h.markers;
+      turn = h.turn;
+      each = h.each;
+      served = h.served;
+      free = h.free;
+      phase = omega (arith, count, same);
+      low = omega (arith, same, h.low);
+      cycle = λ a b. h.cycle (omega (arith, same)) (omega (arith, same));
+      stopped = λ e. h.stopped (omega (arith, same));
+      attends = attends_set v (p % 8) k x own h.attends same;
+      idle = λ b. marker_set v.markers k b x (λ (y : MarkerState). IdlesOutside y) idle (h.idle b);
+    }
+
 pub kept : (c : Config) (v : View) (seat : Seat) (n : View) → c.callers ≤ 16 → Orderly c v → Move c v seat n
     → Orderly c n
 kept c v seat n small h Stays = h
 kept c v seat n small h (Enters {k} f lt free was is) =
     let s = shows_at c v k Resting h lt was in
     let g : gate_in v k ≡ 0 = free in
-    record {
-      flights = length-set v.flights k f ∙ h.flights;
-      gates = length-set v.gates k 1 ∙ h.gates;
-      markers = h.markers;
-      turn = h.turn;
-      each = all_but_both c.callers v.turn k 1 v.gates v.flights f (omega (arith, h.gates)) (omega (arith, h.flights))
-          (rw is (refl, s.3)) h.each;
-      served = others_served c v k f h s.3;
-      free = h.free;
-      phase = h.phase;
-      low = h.low;
-      cycle = h.cycle;
-      stopped = λ e b lb ne. absurd (omega (arith, g, h.stopped e k lt s.3));
-      attends = h.attends;
-      idle = h.idle;
-    }
+    seats_kept c v _ _ v.holding h (length-set v.flights k f ∙ h.flights) (length-set v.gates k 1 ∙ h.gates)
+    (all_but_both c.callers v.turn k 1 v.gates v.flights f (omega (arith, h.gates)) (omega (arith, h.flights))
+    (rw is (refl, s.3)) h.each)
+    (others_served c v k f h s.3) h.free (λ e b lb ne. absurd (omega (arith, g, h.stopped e k lt s.3)))
 kept c v seat n small h (GoesOn {k} f lt was is) =
     let s = shows_at c v k InCall h lt was in
-    record {
-      flights = length-set v.flights k f ∙ h.flights;
-      gates = h.gates;
-      markers = h.markers;
-      turn = h.turn;
-      each =
-          all_but_flight c.callers v.turn k v.gates v.flights f (omega (arith, h.flights))
-          (rw is s) (λ b lb ne. h.each b lb);
-      served = others_served c v k f h s.1;
-      free = h.free;
-      phase = h.phase;
-      low = h.low;
-      cycle = h.cycle;
-      stopped = h.stopped;
-      attends = h.attends;
-      idle = h.idle;
-    }
+    seats_kept c v _ v.gates v.holding h (length-set v.flights k f ∙ h.flights) h.gates
+    (all_but_flight c.callers v.turn k v.gates v.flights f (omega (arith, h.flights)) (rw is s)
+    (λ b lb ne. h.each b lb)) (others_served c v k f h s.1) h.free h.stopped
 kept c v seat n small h (Leaves {k} lt was) =
     let s = shows_at c v k InCall h lt was in
     let g : gate_in v k ≡ 1 = s.0 in
-    record {
-      flights = length-set v.flights k at_rest ∙ h.flights;
-      gates = length-set v.gates k 0 ∙ h.gates;
-      markers = h.markers;
-      turn = h.turn;
-      each =
-          all_but_both c.callers v.turn k 0 v.gates v.flights at_rest (omega (arith, h.gates))
-          (omega (arith, h.flights))
-          (λ e. absurd (omega arith), omega arith, λ e. refl, s.1) h.each;
-      served = others_served c v k at_rest h s.1;
-      free = h.free;
-      phase = h.phase;
-      low = h.low;
-      cycle = h.cycle;
-      stopped = λ e b lb ne. absurd (omega (arith, g, h.stopped e k lt s.1));
-      attends = h.attends;
-      idle = h.idle;
-    }
+    seats_kept c v _ _ v.holding h (length-set v.flights k at_rest ∙ h.flights) (length-set v.gates k 0 ∙ h.gates)
+    (all_but_both c.callers v.turn k 0 v.gates v.flights at_rest (omega (arith, h.gates)) (omega (arith, h.flights))
+    (λ e. absurd (omega arith), omega arith, λ e. refl, s.1) h.each)
+    (others_served c v k at_rest h s.1) h.free (λ e b lb ne. absurd (omega (arith, g, h.stopped e k lt s.1)))
 kept c v seat n small h (Takes f z may) =
     record {
       flights = flights_kept c v seat f h;
@@ -180,59 +243,19 @@ kept c v seat n small h (Gives t none at) =
     }
 kept c v seat n small h (Works f i t s) =
     let turn = turn_of c v seat h t in
-    record {
-      flights = flights_kept c v seat f h;
-      gates = h.gates;
-      markers = h.markers;
-      turn = h.turn;
-      each = works_shown c v seat f i h t s;
-      served = works_served c v seat f i h t s;
-      free = λ e. absurd (omega arith);
-      phase = h.phase;
-      low = h.low;
-      cycle = h.cycle;
-      stopped = h.stopped;
-      attends = h.attends;
-      idle = h.idle;
-    }
+    seats_kept c v _ v.gates i h (flights_kept c v seat f h) h.gates (works_shown c v seat f i h t s)
+    (works_served c v seat f i h t s) (λ e. absurd (omega arith)) h.stopped
 kept c v seat n small h (Holds j t lj ne was) =
     let turn = turn_of c v seat h t in
-    record {
-      flights = h.flights;
-      gates = length-set v.gates j 2 ∙ h.gates;
-      markers = h.markers;
-      turn = h.turn;
-      each =
-          gate_shown c v j 2 small h lj (shows_held v.turn j (holder_number c seat) (standing (flight_in v j)) ne turn
-          (rw was at (h.each j lj)));
-      served = h.served;
-      free = λ e. absurd (omega arith);
-      phase = h.phase;
-      low = h.low;
-      cycle = h.cycle;
-      stopped = λ e k lk nk. held_or v.gates j k (omega (arith, h.gates)) (λ _. h.stopped e k lk nk);
-      attends = h.attends;
-      idle = h.idle;
-    }
+    seats_kept c v v.flights _ v.holding h h.flights (length-set v.gates j 2 ∙ h.gates)
+    (gate_shown c v j 2 small h lj (shows_held v.turn j (holder_number c seat) (standing (flight_in v j)) ne turn
+    (rw was at (h.each j lj))))
+    h.served h.free (λ e k lk nk. held_or v.gates j k (omega (arith, h.gates)) (λ _. h.stopped e k lk nk))
 kept c v seat n small h (Opens j t lj ne was open3) =
     let turn = turn_of c v seat h t in
-    record {
-      flights = h.flights;
-      gates = length-set v.gates j 0 ∙ h.gates;
-      markers = h.markers;
-      turn = h.turn;
-      each =
-          gate_shown c v j 0 small h lj (shows_opened v.turn j (holder_number c seat) (standing (flight_in v j)) ne turn
-          (rw was at (h.each j lj)));
-      served = h.served;
-      free = λ e. absurd (omega arith);
-      phase = h.phase;
-      low = h.low;
-      cycle = h.cycle;
-      stopped = λ e. absurd (open3 e);
-      attends = h.attends;
-      idle = h.idle;
-    }
+    seats_kept c v v.flights _ v.holding h h.flights (length-set v.gates j 0 ∙ h.gates)
+    (gate_shown c v j 0 small h lj (shows_opened v.turn j (holder_number c seat) (standing (flight_in v j)) ne turn
+    (rw was at (h.each j lj)))) h.served h.free (λ e. absurd (open3 e))
 kept c v seat n small h (Phases i {n = p} t same_place same_run step) =
     let turn = turn_of c v seat h t in
     let k = phase_kept c v seat p h t step in
@@ -255,55 +278,14 @@ kept c v seat n small h (Phases i {n = p} t same_place same_run step) =
 kept c v seat n small h (Attends {k} x lt was is at idle) =
     let more = counted_more v.markers k x (omega (arith, h.markers)) was is in
     let up = up_eight v.phase (count_in v.markers) (v.phase % 8) h.phase h.low (few_in c v h) in
-    record {
-      flights = h.flights;
-      gates = h.gates;
-      markers = length-set v.markers k x ∙ h.markers;
-      turn = h.turn;
-      each = h.each;
-      served = h.served;
-      free = h.free;
-      phase = omega (arith, up.0, up.1, more);
-      low = omega (arith, up.0, h.low);
-      cycle = λ a b. h.cycle (omega (arith, up.0)) (omega (arith, up.0));
-      stopped = λ e. h.stopped (omega (arith, up.0));
-      attends = attends_set v (((v.phase + 8) % 2 ^ 64) % 8) k x (λ y. inl (at y)) h.attends up.0;
-      idle = λ b. marker_set v.markers k b x (λ (y : MarkerState). IdlesOutside y) (λ lk _. idle) (h.idle b);
-    }
+    markers_kept c v k x _ h up.0 (omega (arith, up.1, more)) (λ y. inl (at y)) (λ lk _. idle)
 kept c v seat n small h (Quits {k} lt was) =
     let less = counted_less v.markers k outside (omega (arith, h.markers)) was refl in
     let down = down_eight v.phase (count_in v.markers) (count_in (slice_set v.markers k outside))
     (v.phase % 8) h.phase h.low (few_in c v h) less in
-    record {
-      flights = h.flights;
-      gates = h.gates;
-      markers = length-set v.markers k outside ∙ h.markers;
-      turn = h.turn;
-      each = h.each;
-      served = h.served;
-      free = h.free;
-      phase = omega (arith, down.0, down.1);
-      low = omega (arith, down.0, h.low);
-      cycle = λ a b. h.cycle (omega (arith, down.0)) (omega (arith, down.0));
-      stopped = λ e. h.stopped (omega (arith, down.0));
-      attends = attends_set v (((v.phase + (2 ^ 64 - 8)) % 2 ^ 64) % 8) k outside (λ y. cc) h.attends down.0;
-      idle = λ b. marker_set v.markers k b outside (λ (y : MarkerState). IdlesOutside y)
-          (λ lk _. record { scan = refl; hand = refl; seen = refl }) (h.idle b);
-    }
+    markers_kept c v k outside _ h down.0 (omega (arith, down.1)) (λ y. cc)
+    (λ lk _. record { scan = refl; hand = refl; seen = refl })
 kept c v seat n small h (Scans {k} x lt same idle) =
     let less = counted_same v.markers k x (omega (arith, h.markers)) same in
-    record {
-      flights = h.flights;
-      gates = h.gates;
-      markers = length-set v.markers k x ∙ h.markers;
-      turn = h.turn;
-      each = h.each;
-      served = h.served;
-      free = h.free;
-      phase = h.phase ∙ ap (λ n. v.phase % 8 + 8 * n) (sym less);
-      low = h.low;
-      cycle = h.cycle;
-      stopped = h.stopped;
-      attends = attends_set v (v.phase % 8) k x (λ y. h.attends k (rw (← same) y)) h.attends refl;
-      idle = λ b. marker_set v.markers k b x (λ (y : MarkerState). IdlesOutside y) (λ lk. idle (h.idle k)) (h.idle b);
-    }
+    markers_kept c v k x v.phase h refl (h.phase ∙ ap (λ n. v.phase % 8 + 8 * n) (sym less))
+    (λ y. h.attends k (rw (← same) y)) (λ lk. idle (h.idle k))

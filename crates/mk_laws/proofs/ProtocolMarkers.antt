@@ -15,16 +15,14 @@ counted : (xs : List MarkerState) (k : ℕ) (x : MarkerState) → k < length xs
 counted xs k x lt = sum_by-set (λ (y : MarkerState). cond {A = ℕ} (is_in y) 1 0) xs k x outside lt
 
 pub counted_same : (xs : List MarkerState) (k : ℕ) (x : MarkerState) → k < length xs
-    → x.presence ≡ (slice_index_or xs k outside).presence
-    → count_in (slice_set xs k x) ≡ count_in xs
+    → x.presence ≡ (slice_index_or xs k outside).presence → count_in (slice_set xs k x) ≡ count_in xs
 counted_same xs k x lt same =
     let s = counted xs k x lt in
     let e : cond {A = ℕ} (is_in x) 1 0 ≡ cond {A = ℕ} (is_in (slice_index_or xs k outside)) 1 0 = rw same in
     omega arith
 
 pub counted_more : (xs : List MarkerState) (k : ℕ) (x : MarkerState) → k < length xs
-    → is_in (slice_index_or xs k outside) ≡ false → is_in x ≡ true
-    → count_in (slice_set xs k x) ≡ count_in xs + 1
+    → is_in (slice_index_or xs k outside) ≡ false → is_in x ≡ true → count_in (slice_set xs k x) ≡ count_in xs + 1
 counted_more xs k x lt was is =
     let s = counted xs k x lt in
     let a : cond {A = ℕ} (is_in (slice_index_or xs k outside)) 1 0 ≡ 0 = rw was in
@@ -32,8 +30,7 @@ counted_more xs k x lt was is =
     omega arith
 
 pub counted_less : (xs : List MarkerState) (k : ℕ) (x : MarkerState) → k < length xs
-    → is_in (slice_index_or xs k outside) ≡ true → is_in x ≡ false
-    → count_in (slice_set xs k x) + 1 ≡ count_in xs
+    → is_in (slice_index_or xs k outside) ≡ true → is_in x ≡ false → count_in (slice_set xs k x) + 1 ≡ count_in xs
 counted_less xs k x lt was is =
     let s = counted xs k x lt in
     let a : cond {A = ℕ} (is_in (slice_index_or xs k outside)) 1 0 ≡ 1 = rw was in
@@ -47,8 +44,7 @@ count_in-at xs k lt is = let e = counted_less xs k outside lt is refl in omega a
 
 -- a marker after a change of one
 pub marker_set : (xs : List MarkerState) (k b : ℕ) (x : MarkerState) → (P : MarkerState → Type 0)
-    → (k < length xs → P x) → P (slice_index_or xs b outside)
-    → P (slice_index_or (slice_set xs k x) b outside)
+    → (k < length xs → P x) → P (slice_index_or xs b outside) → P (slice_index_or (slice_set xs k x) b outside)
 marker_set xs k b x P mine other = elim (cases_eq b k) [
   | inl e ↦ elim (cases_lt k (length xs)) [
     | inl lt ↦ rw (ap (λ j. slice_index_or (slice_set xs k x) j outside) e

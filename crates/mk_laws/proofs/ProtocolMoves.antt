@@ -40,12 +40,11 @@ pub data Move (c : Config) (v : View) : Seat → View → Type 0 where
       → Move c v (Caller k) (record v { flights = slice_set v.flights k f })
   Leaves : {k : ℕ} → k < c.callers → standing (flight_in v k) ≡ InCall
       → Move c v (Caller k) (record v { gates = slice_set v.gates k 0; flights = slice_set v.flights k at_rest })
-  Takes : {seat : Seat} (f : Flight) → v.turn ≡ 0 → MayTake c v seat f
-      → Move c v seat (record v {
-        flights = flights_with v.flights seat f;
-        turn = 1 + holder_number c seat;
-        holding = nothing_done;
-      })
+  Takes : {seat : Seat} (f : Flight) → v.turn ≡ 0 → MayTake c v seat f → Move c v seat (record v {
+    flights = flights_with v.flights seat f;
+    turn = 1 + holder_number c seat;
+    holding = nothing_done;
+  })
   Gives : {seat : Seat} → HoldsTurn c v seat → ((j : ℕ) → j < c.callers → gate_in v j ≢ 2)
       → (v.phase % 8 ≤ 1) ⊎ (v.phase % 8 ≡ 5)
       → Move c v seat (record v { flights = flights_with v.flights seat at_rest; turn = 0; holding = nothing_done })
@@ -55,16 +54,13 @@ pub data Move (c : Config) (v : View) : Seat → View → Type 0 where
   Holds : {seat : Seat} (j : ℕ) → HoldsTurn c v seat → j < c.callers → holder_number c seat ≢ j → gate_in v j ≡ 0
       → Move c v seat (record v { gates = slice_set v.gates j 2 })
   Opens : {seat : Seat} (j : ℕ) → HoldsTurn c v seat → j < c.callers → holder_number c seat ≢ j → gate_in v j ≡ 2
-      → v.phase % 8 ≢ 3
-      → Move c v seat (record v { gates = slice_set v.gates j 0 })
+      → v.phase % 8 ≢ 3 → Move c v seat (record v { gates = slice_set v.gates j 0 })
   Phases : {seat : Seat} (h : Holding) {n : ℕ} → HoldsTurn c v seat → h.placing ≡ v.holding.placing
-      → h.freed ≡ v.holding.freed
-      → PhaseStep c v seat n → Move c v seat (record v { phase = n; holding = h })
+      → h.freed ≡ v.holding.freed → PhaseStep c v seat n → Move c v seat (record v { phase = n; holding = h })
   Attends : {k : ℕ} (x : MarkerState) → k < 8 → is_in (marker_in v k) ≡ false → is_in x ≡ true
       → (is_attending x.presence ≡ true → v.phase % 8 ≡ 1)
       → IsIdle x → Move c v (Marker k) (record v { phase = (v.phase + 8) % 2 ^ 64; markers = slice_set v.markers k x })
-  Quits : {k : ℕ} → k < 8 → is_in (marker_in v k) ≡ true
-      → Move c v (Marker k)
+  Quits : {k : ℕ} → k < 8 → is_in (marker_in v k) ≡ true → Move c v (Marker k)
       (record v { phase = (v.phase + (2 ^ 64 - 8)) % 2 ^ 64; markers = slice_set v.markers k outside })
   Scans : {k : ℕ} (x : MarkerState) → k < 8 → x.presence ≡ (marker_in v k).presence
       → (IdlesOutside (marker_in v k) → IdlesOutside x)

@@ -20,10 +20,9 @@ use Rattle.mk_core.specs.declared.events.Step.TheVariants as step
 use Rattle.mk_core.proofs.EvaluatedPlaces.{full}
 use Rattle.mk_core.proofs.PlacesNow.{FreesCell, chosen_used}
 use Rattle.mk_laws.proofs.Ground.{KeepsGround, with_quarantine}
-use Rattle.mk_laws.proofs.LayoutByKind.{off_at}
+use Rattle.mk_laws.proofs.LayoutByKind.{off_at, with_halves}
 use Rattle.mk_laws.proofs.Dropped.{settled_page}
 use Rattle.mk_laws.proofs.Freed.{standing_cell}
-use Rattle.mk_laws.proofs.LayoutPageKinds.{with_halves}
 use Rattle.mk_laws.proofs.QuarantineChanges.{FreesHere, begin_kept, free_kept, grant_kept, index_small, release_kept}
 use Rattle.mk_laws.proofs.QuarantineSteps.{drop_kept, end_kept, released_bits, replaced, snapshot_kept, take_kept}
 
@@ -124,8 +123,7 @@ quar_kept c w seat p n b h laid q = by (cell_freed c.pages w.now.words (flight_o
 
     by : (cell : Option Cell) → cell_freed c.pages w.now.words (flight_of w.now seat) p n ≡ cell
         → QuarantinedNow c w (with_quarantine w p n cell)
-    by None is =
-        rw (none_freed w.now.words w.allocations)
+    by None is = rw (none_freed w.now.words w.allocations)
         (quar_none c w (flight_of w.now seat) p n lf ls is (quarantine_step c w.now (flight_of w.now seat) p n h.holder)
         q)
     by (Some cell) is =
@@ -141,11 +139,10 @@ head_from true placing found place e = e
 head_from false placing found place e = chosen_used placing found place e
 
 abbrev UsedAs : Config → World → List Page → Bool → Option Place → Type 0
-UsedAs c w pages four found =
-    QuarantinedAs c four w (record (ground_of w) {
-      pages = pages;
-      placing = if four then w.now.seats.holding.placing else taken w.now.seats.holding.placing found;
-    })
+UsedAs c w pages four found = QuarantinedAs c four w (record (ground_of w) {
+  pages = pages;
+  placing = if four then w.now.seats.holding.placing else taken w.now.seats.holding.placing found;
+})
 
 used_kept : (c : Config) (w : World) (seat : Seat) (p n : ℕ) (pages : List Page) → LayoutStands c w → IsQuarantined c w
     → UsedStep c w.now (flight_of w.now seat) p n
@@ -201,8 +198,7 @@ quarantine_by_kind c w seat (step.Take o) b h laid q = by (w.now.words.turn == 0
 quarantine_by_kind c w seat step.Give b h laid q =
     replaced c (is_phase w.now.words 4) w.now.words.marks (ground_of w) w.now.words.pages Unplaced None
     (λ place e. cc) q
-quarantine_by_kind c w seat step.Reg b h laid q =
-    kept_ground c w _ (reg_leaves_ground c w seat) q
+quarantine_by_kind c w seat step.Reg b h laid q = kept_ground c w _ (reg_leaves_ground c w seat) q
 quarantine_by_kind c w seat (step.Tally n v) b h laid q = kept_ground c w _ (tally_ground w.now.words n v) q
 quarantine_by_kind c w seat (step.Head p n) b h laid q =
     replaced c (is_phase w.now.words 4) w.now.words.marks (ground_of w) _ _ w.now.seats.holding.freed

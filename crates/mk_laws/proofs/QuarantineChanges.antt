@@ -22,9 +22,8 @@ use Rattle.mk_laws.proofs.Released.{left_is}
 
 -- A freed cell after a change that leaves its allocation unreleased, and freed.
 pub freed_behind : (c : Config) (g : PlacedAllocation → PlacedAllocation) (xs : List PlacedAllocation) (p k : ℕ)
-    → LeavesCells g → (o : IsFreedCell c xs p k)
-    → (g (placed_at xs o.number)).released ≡ false → (g (placed_at xs o.number)).freed ≡ true
-    → IsFreedCell c (map g xs) p k
+    → LeavesCells g → (o : IsFreedCell c xs p k) → (g (placed_at xs o.number)).released ≡ false
+    → (g (placed_at xs o.number)).freed ≡ true → IsFreedCell c (map g xs) p k
 freed_behind c g xs p k leaves o u f =
     let a : PlacedAllocation = placed_at xs o.number in
     let at = changed_at g xs o.number leaves.places.none in
@@ -269,8 +268,7 @@ free_kept c w cell run n x q =
 
     still : (i k : ℕ) → IsFreedCell c w.allocations i k
         → IsFreedCell c (map (freed_where_it_stands w.now.words (Some cell)) w.allocations) i k
-    still i k o =
-        freed_behind c (freed_where_it_stands w.now.words (Some cell)) w.allocations i k leaves o
+    still i k o = freed_behind c (freed_where_it_stands w.now.words (Some cell)) w.allocations i k leaves o
         (freed_released w.now.words (Some cell) (placed_at w.allocations o.number)
         ∙ o.unreleased) (freed_stays w.now.words cell (placed_at w.allocations o.number) o.freed)
 
@@ -298,8 +296,7 @@ free_kept c w cell run n x q =
     owned i k h = elim (bit_cases w.now.words.freed cell.page (n % 2 ^ 32) i k x.page) [
       | inr other ↦ inl (was i k (sym other.1 ∙ h))
       | inl here ↦ elim (cases_eq k cell.index) [
-        | inl e ↦
-            inl (rw e (rw here.0 new))
+        | inl e ↦ inl (rw e (rw here.0 new))
         | inr ne ↦
             inl (was i k (rw here.0 (sym (added_other (slice_index w.now.words.freed cell.page) cell.index k x.unset ne)
             ∙ rw (← low) (sym here.1 ∙ h))))

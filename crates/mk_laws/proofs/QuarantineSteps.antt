@@ -13,7 +13,7 @@ use Rattle.mk_laws.proofs.Vocabulary.{ℕ, ◌&&◌, ◌-◌, ◌<◌, ◌^◌, 
 use Rattle.mk_core.proofs.PageSteps.{left_bits}
 use Rattle.mk_core.proofs.WordBits.{rest_bits}
 use Rattle.mk_laws.proofs.Claims.{claim_is}
-use Rattle.mk_laws.proofs.LayoutJoined.{among_parts}
+use Rattle.mk_laws.proofs.Serving.{among_parts}
 
 -- the bits of a word that another hasn't, where the other's are all its own
 rest_bit : (n m k : ℕ) → bit_and n m ≡ n → has_bit (m - n) k ≡ (has_bit m k && not (has_bit n k))
@@ -81,21 +81,17 @@ module _ (c : Config) (w : World) (p f n : ℕ) (lf : p < length w.now.words.fre
   f_small = let s = (q.small p).0 in let is = d.is in let le =
       without_le (slice_index w.now.words.freed p) rest in omega arith
 
-  f_bit : (k : ℕ) → has_bit f k
-      ≡ (has_bit (slice_index w.now.words.freed p) k && not (has_bit rest k))
-  f_bit k = rw d.is
-      (has_bit_without (slice_index w.now.words.freed p) rest k)
+  f_bit : (k : ℕ) → has_bit f k ≡ (has_bit (slice_index w.now.words.freed p) k && not (has_bit rest k))
+  f_bit k = rw d.is (has_bit_without (slice_index w.now.words.freed p) rest k)
 
   was_freed : (k : ℕ) → has_bit f k ≡ true → has_bit (slice_index w.now.words.freed p) k ≡ true
-  was_freed k x = (and_parts (has_bit (slice_index w.now.words.freed p) k)
-      (not (has_bit rest k)) (sym (f_bit k) ∙ x)).0
+  was_freed k x = (and_parts (has_bit (slice_index w.now.words.freed p) k) (not (has_bit rest k)) (sym (f_bit k) ∙ x)).0
 
   was_snap : (i k : ℕ) → has_bit (slice_index (slice_set w.now.words.snapshot p n) i) k ≡ true
       → has_bit (slice_index w.now.words.snapshot i) k ≡ true
   was_snap i k x = elim (bit_cases w.now.words.snapshot p n i k ls) [
     | inr other ↦ sym other.1 ∙ x
-    | inl here ↦ rw here.0
-        (fewer_bits n (slice_index w.now.words.snapshot p) k d.fewer (sym here.1 ∙ x))
+    | inl here ↦ rw here.0 (fewer_bits n (slice_index w.now.words.snapshot p) k d.fewer (sym here.1 ∙ x))
   ]
 
   within : (i k : ℕ) → has_bit (slice_index (slice_set w.now.words.snapshot p n) i) k ≡ true
@@ -104,16 +100,13 @@ module _ (c : Config) (w : World) (p f n : ℕ) (lf : p < length w.now.words.fre
     | inr other ↦ other.1 ∙ q.within i k (was_snap i k x)
     | inl here ↦
         let bit : has_bit n k ≡ true = elim (bit_cases w.now.words.snapshot p n i k ls) [
-          | inl h ↦ sym h.1
-              ∙ x
+          | inl h ↦ sym h.1 ∙ x
           | inr o ↦ absurd (o.0 here.0)
         ] in
         let out = rest_bit n (slice_index w.now.words.snapshot p) k d.fewer
         ∙ and_right (has_bit (slice_index w.now.words.snapshot p) k) _ (ap not bit) in
-        let was = ap (λ j. has_bit (slice_index w.now.words.freed j) k) (sym here.0)
-        ∙ q.within i k (was_snap i k x) in
-        here.1 ∙ f_bit k ∙ and_both (has_bit (slice_index w.now.words.freed p) k)
-        (has_bit rest k) was out
+        let was = ap (λ j. has_bit (slice_index w.now.words.freed j) k) (sym here.0) ∙ q.within i k (was_snap i k x) in
+        here.1 ∙ f_bit k ∙ and_both (has_bit (slice_index w.now.words.freed p) k) (has_bit rest k) was out
   ]
 
   -- what isn't released stays freed
@@ -127,10 +120,8 @@ module _ (c : Config) (w : World) (p f n : ℕ) (lf : p < length w.now.words.fre
         let none = false_from_ne_true (has_bit rest k) (λ r.
         let bits = left_bits w.now.words p rest k d.left r in
         true≢false (sym (and_both (has_bit (slice_index w.now.words.snapshot p) k)
-        (has_bit (slice_index w.now.words.marks p) k) bits.0 bits.1)
-        ∙ rw (← here.0) out)) in
-        here.1 ∙ f_bit k ∙ and_both (has_bit (slice_index w.now.words.freed p) k)
-        (has_bit rest k) was none
+        (has_bit (slice_index w.now.words.marks p) k) bits.0 bits.1) ∙ rw (← here.0) out)) in
+        here.1 ∙ f_bit k ∙ and_both (has_bit (slice_index w.now.words.freed p) k) (has_bit rest k) was none
   ]
 
   -- what is still freed and was released is released still
@@ -141,8 +132,7 @@ module _ (c : Config) (w : World) (p f n : ℕ) (lf : p < length w.now.words.fre
     | inr other ↦ other.1 ∙ was
     | inl here ↦
         let bit : has_bit f k ≡ true = elim (bit_cases w.now.words.freed p f i k lf) [
-          | inl h ↦ sym h.1
-              ∙ x
+          | inl h ↦ sym h.1 ∙ x
           | inr o ↦ absurd (o.0 here.0)
         ] in
         let out = (and_parts (has_bit (slice_index w.now.words.freed p) k)
@@ -185,8 +175,7 @@ module _ (c : Config) (w : World) (p f n : ℕ) (lf : p < length w.now.words.fre
             (cell_of_allocation c (placed_at w.allocations i)).index (q.shown i u x) (q.kept refl i u);
         taken = λ place is. elim (bit_cases w.now.words.freed p f place.page place.index lf) [
           | inl here ↦ here.1 ∙ false_from_ne_true (has_bit f place.index) (λ x.
-              true≢false (sym (was_freed place.index x)
-              ∙ rw (← here.0) (q.taken place is)))
+              true≢false (sym (was_freed place.index x) ∙ rw (← here.0) (q.taken place is)))
           | inr other ↦ other.1 ∙ q.taken place is
         ];
         kept = λ on i u.
@@ -194,8 +183,7 @@ module _ (c : Config) (w : World) (p f n : ℕ) (lf : p < length w.now.words.fre
             false_from_ne_true
             (is_released_in true (slice_set w.now.words.snapshot p n) w.now.words.marks x.page x.index) (λ r.
             let bits = released_bits (slice_set w.now.words.snapshot p n) w.now.words.marks x.page x.index r in
-            true≢false
-            (sym (and_both (has_bit (slice_index w.now.words.snapshot x.page) x.index)
+            true≢false (sym (and_both (has_bit (slice_index w.now.words.snapshot x.page) x.index)
             (has_bit (slice_index w.now.words.marks x.page) x.index) (was_snap x.page x.index bits.0) bits.1)
             ∙ q.kept refl i u));
       }
@@ -272,8 +260,7 @@ take_kept c marks t pages place used unset q =
       within = q.within;
       owned = q.owned;
       shown = q.shown;
-      taken = λ found is. let e : place ≡ found =
-          cc in rw e at clear;
+      taken = λ found is. let e : place ≡ found = cc in rw e at clear;
       kept = q.kept;
     }
   where

@@ -25,8 +25,7 @@ pub record Reaches (safe : ℕ → Bool) (s : ImageScene) (n : NeverState) (v : 
 
 -- where a header of a page says that it is unmapped
 abbrev pub PagesShow : (ℕ → ℕ) → ImageScene → NeverState → Type 0
-PagesShow header s n =
-    (a i : ℕ) → (placed_at s.allocations a).released ≡ false → i < length (words_of n a)
+PagesShow header s n = (a i : ℕ) → (placed_at s.allocations a).released ≡ false → i < length (words_of n a)
     → is_unmapped_header (header_of (header (((placed_at s.allocations a).base + i) / 64)))
     ≡ is_unmapped (allocation_at n a)
 
@@ -36,8 +35,7 @@ module _ (listed : List ℕ) (safe : ℕ → Bool) (s : ImageScene) (n : NeverSt
   word_is a t o q i e = let b = base_at s.allocations a in omega arith
 
   pub reaches : (v : Value) (q i : ℕ) (P : Kind → Type 0) → q ≡ image_of (bases_of s.allocations) v → q ≢ 0
-      → IsSound n v → IsSafe safe v → IsMet n v i → Meets n v i P
-      → Reaches safe s n v q i P
+      → IsSound n v → IsSafe safe v → IsMet n v i → Meets n v i P → Reaches safe s n v q i P
   reaches Null q i P e ne sound is met meets = absurd (ne e)
   reaches (Num m) q i P e ne sound is met meets = absurd sound
   reaches (Ptr a t o) q i P e ne sound is met meets =
@@ -57,8 +55,7 @@ module _ (listed : List ℕ) (safe : ℕ → Bool) (s : ImageScene) (n : NeverSt
 
   -- what `probe` says
   pub unmapped_target : (header : ℕ → ℕ) → PagesShow header s n → (v : Value) (q i : ℕ) (P : Kind → Type 0)
-      → q ≡ image_of (bases_of s.allocations) v → q ≢ 0 → IsSound n v
-      → IsSafe safe v → Meets n v i P
+      → q ≡ image_of (bases_of s.allocations) v → q ≢ 0 → IsSound n v → IsSafe safe v → Meets n v i P
       → is_unmapped_header (header_of (header (((q - 65536) / 8 + i) / 64))) ≡ true → target_of n v i ≡ Unmapped
   unmapped_target header show Null q i P e ne sound is meets u = absurd (ne e)
   unmapped_target header show (Num m) q i P e ne sound is meets u = absurd sound
@@ -70,8 +67,7 @@ module _ (listed : List ℕ) (safe : ℕ → Bool) (s : ImageScene) (n : NeverSt
   pub mapped_met : (header : ℕ → ℕ) → PagesShow header s n → (v : Value) (q i : ℕ)
       → q ≡ image_of (bases_of s.allocations) v → q ≢ 0 → IsSound n v → IsSafe safe v
       → is_unmapped_header (header_of (header (((q - 65536) / 8 + i) / 64))) ≡ false → IsMet n v i
-  mapped_met header show (Ptr a t o) q i e ne sound is u = λ inside.
-      sym (show a (o + i) (h.set.unreleased a is) inside)
+  mapped_met header show (Ptr a t o) q i e ne sound is u = λ inside. sym (show a (o + i) (h.set.unreleased a is) inside)
       ∙ ap (λ x. is_unmapped_header (header_of (header (x / 64)))) (sym (word_is a t o q i e)) ∙ u
   mapped_met header show _ q i e ne sound is u = tt
 

@@ -102,13 +102,11 @@ reaches c m seat (step.Unblack p) known heap h = ltb-true p c.pages h.range
 reaches c m seat (step.Mlook w) known heap h = looked_at c w known.small h.range
 reaches c m seat (step.Claim p i) known heap h =
     ltb-true p c.pages (and_parts (nat_lt p c.pages) (nat_lt i 32) h.range).0
-reaches c m seat step.Mload known heap h =
-    next_in_heap c (marker_at m seat).scan
+reaches c m seat step.Mload known heap h = next_in_heap c (marker_at m seat).scan
     (and_parts (has_next_word (marker_at m seat).scan) (is_none (marker_at m seat).hand) h.marker).0
     (seat_marker c m seat heap).end
 reaches c m seat step.Mmark known heap h = seen_page_in_heap c (marker_at m seat).seen (marker_at m seat).hand h.marker
-reaches c m seat step.Mblack known heap h =
-    scan_page_in_heap c (marker_at m seat).scan
+reaches c m seat step.Mblack known heap h = scan_page_in_heap c (marker_at m seat).scan
     (and_parts (is_scanned (marker_at m seat).scan) (is_none (marker_at m seat).hand) h.marker).0
     (seat_marker c m seat heap).page
 reaches c m seat _ known heap h = tt
@@ -134,17 +132,12 @@ granter_holds : (c : Config) (m : Moment) (seat : Seat) → Meets c m seat step.
 granter_holds c m seat h =
     let new = grants_new c m seat h in
     let own = new_holds c m seat step.Grant h new in
-    rw own.2 (
-      own.1,
-      new_in_turn (flight_of m (Caller own.0)).stage (flight_of m (Caller own.0)).op (rw own.2 at new),
-    )
+    rw own.2 (own.1, new_in_turn (flight_of m (Caller own.0)).stage (flight_of m (Caller own.0)).op (rw own.2 at new))
 
 same_access : (c : Config) (m n : Moment) (seat : Seat) (x : Step) → flight_of n seat ≡ flight_of m seat
-    → marker_at n seat ≡ marker_at m seat
-    → (is_grant x ≡ true → n.seats.holding ≡ m.seats.holding)
+    → marker_at n seat ≡ marker_at m seat → (is_grant x ≡ true → n.seats.holding ≡ m.seats.holding)
     → access c n (record { seat = seat; step = x }) ≡ access c m (record { seat = seat; step = x })
-same_access c m n seat x flight marker holding =
-    rw flight
+same_access c m n seat x flight marker holding = rw flight
     (ap (λ (y : MarkerState). access_by c (holder_number c seat) (flight_of m seat) n.seats.holding.placing y x) marker
     ∙ by (is_grant x) refl)
   where
@@ -163,8 +156,7 @@ others_leave_accesses c es more e limits on others now =
       word = rw l.flight
           (ap (λ (y : MarkerState). word_reached c (caller_number e.seat) (flight_of (left c es).now e.seat) y e.step)
           l.marker);
-      access =
-          same_access c (left c es).now (left c (es ++ more)).now e.seat e.step l.flight l.marker
+      access = same_access c (left c es).now (left c (es ++ more)).now e.seat e.step l.flight l.marker
           (λ g. (l.holding (granting e.step g (enabled_meets c (left c es).now e now))).1);
     }
   where

@@ -78,8 +78,7 @@ module _ (c : Config) (w : World) (n : NeverState) (known : KnownWorld c w) (all
         later = λ quiet p distance mapped is. later_page quiet p distance
             (all.order.laid.scene.later p distance mapped is);
         freed = λ quiet cell bit. taken_freed cell bit (freed_cell quiet cell bit);
-        quarantined = λ cell t freed.
-            ap (λ (x : Cell). is_freed w.now.words x) (sym (taken cell t).1)
+        quarantined = λ cell t freed. ap (λ (x : Cell). is_freed w.now.words x) (sym (taken cell t).1)
             ∙ all.order.quarantined.shown t.number (taken cell t).0 freed;
       }
 

@@ -40,8 +40,7 @@ image_zero n bs (Num m) s e = absurd s
 image_zero n bs (Ptr a t o) s e = absurd (omega arith)
 
 pub image_same : (listed : List ℕ) (safe : ℕ → Bool) (s : ImageScene) (n : NeverState) → Ready listed safe s n
-    → (u v : Value) → IsSound n u → IsSound n v → IsSafe safe u
-    → IsSafe safe v
+    → (u v : Value) → IsSound n u → IsSound n v → IsSafe safe u → IsSafe safe v
     → image_of (bases_of s.allocations) u ≡ image_of (bases_of s.allocations) v → u ≡ v
 image_same listed safe s n h Null v su sv fu fv e = sym (image_zero n _ v sv (sym e))
 image_same listed safe s n h (Num m) v su sv fu fv e = absurd su
@@ -62,8 +61,7 @@ image_same listed safe s n h (Ptr a t o) (Ptr b u i) su sv fu fv e =
     ]
 
 pub image_test : (listed : List ℕ) (safe : ℕ → Bool) (s : ImageScene) (n : NeverState) → Ready listed safe s n
-    → (u v : Value) → IsSound n u → IsSound n v → IsSafe safe u
-    → IsSafe safe v
+    → (u v : Value) → IsSound n u → IsSound n v → IsSafe safe u → IsSafe safe v
     → (image_of (bases_of s.allocations) u == image_of (bases_of s.allocations) v) ≡ is_same u v
 image_test listed safe s n h u v su sv fu fv = elim (cases_Bool (is_same u v)) [
   | inl e ↦ eq-eqb _ _ (ap (image_of (bases_of s.allocations)) (equal_from_same u v e)) ∙ sym e
@@ -78,8 +76,7 @@ bit_is false = refl
 
 -- what an event leads to, and that the answer that it decides is right
 abbrev pub Leads : (ℕ → Bool) → ImageScene → NeverState → ℕ → Op → ImageScene → Option Answer → Type 0
-Leads safe s n k o t a =
-    Move safe s n t (after_calls n (asked (entry_of k o a)))
+Leads safe s n k o t a = Move safe s n t (after_calls n (asked (entry_of k o a)))
     × ((more : List ℕ) → answered (entry_of k o a)
     ≡ answers_of (bases_of t.allocations ++ more) (replies_of n (asked (entry_of k o a))))
 
@@ -87,8 +84,7 @@ abbrev pub LeadsBy : (ℕ → Bool) → ImageScene → NeverState → ℕ → Op
 LeadsBy safe s n k o t p = Leads safe s n k o (record t { flights = slice_set s.flights k p.flight }) p.answer
 
 pub either_leads : (safe : ℕ → Bool) (s : ImageScene) (n : NeverState) (k : ℕ) (o : Op) (t : ImageScene) (b : Bool)
-    (p q : Progress) → (b ≡ true → LeadsBy safe s n k o t p)
-    → (b ≡ false → LeadsBy safe s n k o t q)
+    (p q : Progress) → (b ≡ true → LeadsBy safe s n k o t p) → (b ≡ false → LeadsBy safe s n k o t q)
     → LeadsBy safe s n k o t (if b then p else q)
 either_leads safe s n k o t true p q hp hq = hp refl
 either_leads safe s n k o t false p q hp hq = hq refl

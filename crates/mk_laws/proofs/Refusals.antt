@@ -31,15 +31,13 @@ is_word _ = false
 pub goes_bare : (safe : ℕ → Bool) (s : ImageScene) (n : NeverState) (k : ℕ) (f : Flight)
     → is_put (flight_among s.flights k).stage ≡ false → is_bare f.stage ≡ true
     → Move safe s n (record s { flights = slice_set s.flights k f }) n
-goes_bare safe s n k f was bare =
-    Flies k f (λ r x. shows_plain f r x (bare_owes_nothing f.stage bare)
+goes_bare safe s n k f was bare = Flies k f (λ r x. shows_plain f r x (bare_owes_nothing f.stage bare)
     ∙ sym (shows_plain (flight_among s.flights k) r x was)) (bare_carries _ f _ _ _ bare)
     (λ past. let x : false ≡ true = sym (bare_unprobed f.stage bare) ∙ past in cc)
 
 -- a decided call that leaves the heap as it is
 pub decides_nothing : (safe : ℕ → Bool) (s : ImageScene) (n : NeverState) (k : ℕ) (o : Op) (f : Flight) (a : Answer)
-    → flagged o a ≡ o
-    → is_put (flight_among s.flights k).stage ≡ false → is_bare f.stage ≡ true → after_op n k o ≡ n
+    → flagged o a ≡ o → is_put (flight_among s.flights k).stage ≡ false → is_bare f.stage ≡ true → after_op n k o ≡ n
     → ((bs : List ℕ) → a ≡ answer_of bs (reply_of n k o))
     → Leads safe s n k o (record s { flights = slice_set s.flights k f }) (Some a)
 decides_nothing safe s n k o f a flag was bare stays is = (
@@ -51,10 +49,9 @@ decides_nothing safe s n k o f a flag was bare stays is = (
 
 -- a refused call whose register becomes null, which is still to be stored
 pub owes_null : (safe : ℕ → Bool) (s : ImageScene) (n : NeverState) (k d : ℕ) (o : Op) (f : Flight) (a : Answer)
-    → flagged o a ≡ o → k < length s.flights
-    → 8 * k + 7 < length n.registers → is_put (flight_among s.flights k).stage ≡ false
-    → f.stage ≡ stage.Put → d_of f.op ≡ d → d < 8 → f.loaded ≡ 0 → after_op n k o ≡ with_register n k d Null
-    → ((bs : List ℕ) → a ≡ answer_of bs (reply_of n k o))
+    → flagged o a ≡ o → k < length s.flights → 8 * k + 7 < length n.registers
+    → is_put (flight_among s.flights k).stage ≡ false → f.stage ≡ stage.Put → d_of f.op ≡ d → d < 8 → f.loaded ≡ 0
+    → after_op n k o ≡ with_register n k d Null → ((bs : List ℕ) → a ≡ answer_of bs (reply_of n k o))
     → Leads safe s n k o (record s { flights = slice_set s.flights k f }) (Some a)
 owes_null safe s n k d o f a flag there long was put isd ld zero stays is = (
   rw (ap (after_op n k) flag ∙ stays ∙ ap (λ x. with_register n k x Null) (sym isd))
@@ -84,15 +81,11 @@ flight st o q p r l = record { stage = st; op = o; q = q; p = p; r = r; loaded =
 
 -- an access that reaches none word
 pub refuses : (safe : ℕ → Bool) (s : ImageScene) (n : NeverState) (k : ℕ) (o : Op) (q p r : ℕ) (a : Answer) (t : Target)
-    → accesses o ≡ true → k < length s.flights
-    → 8 * k + 7 < length n.registers
+    → accesses o ≡ true → k < length s.flights → 8 * k + 7 < length n.registers
     → is_put (flight_among s.flights k).stage ≡ false → d_of o < 8 → is_word t ≡ false
     → target_of n (register_at n k (q_of o)) (i_of o) ≡ t
-    → ((bs : List ℕ) → a ≡ answer_of bs (reply_at t (λ a w. Done)))
-    → Leads safe s n k o
-    (record s {
-      flights = slice_set s.flights k
-          (record { stage = stage_refused o; op = o; q = q; p = p; r = r; loaded = 0 });
+    → ((bs : List ℕ) → a ≡ answer_of bs (reply_at t (λ a w. Done))) → Leads safe s n k o (record s {
+      flights = slice_set s.flights k (record { stage = stage_refused o; op = o; q = q; p = p; r = r; loaded = 0 });
     }) (Some a)
 refuses safe s n k (op.GetNum q' i) q p r a t is there long was ld none e answer =
     decides_nothing safe s n k (op.GetNum q' i) _ a refl was refl refl (λ bs. answer bs ∙ ap (answer_of bs)

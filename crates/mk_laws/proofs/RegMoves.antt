@@ -26,13 +26,11 @@ flight st o q p r l = record { stage = st; op = o; q = q; p = p; r = r; loaded =
 
 -- only q is carried
 carries_q : (bs : List ℕ) (f : Flight) (a b d : Value) → f.q ≡ image_of bs a → f.q ≢ 0 → has_p f.stage f.op ≡ false
-    → has_some_p f.stage f.op ≡ false
-    → has_r f.stage f.op ≡ false → Carries bs f a b d
+    → has_some_p f.stage f.op ≡ false → has_r f.stage f.op ≡ false → Carries bs f a b d
 carries_q bs f a b d e ne p sp r = record {
   q = λ x. e;
   some_q = λ x. ne;
-  p = λ x. let y : false ≡ true = sym p
-      ∙ x in cc;
+  p = λ x. let y : false ≡ true = sym p ∙ x in cc;
   some_p = λ x. let y : false ≡ true = sym sp ∙ x in cc;
   r = λ x. let y : false ≡ true = sym r ∙ x in cc;
 }
@@ -65,8 +63,7 @@ flies_on safe s n k o f was is carries probed = (
 
 -- a pointer i words on
 lea_value : (listed : List ℕ) (safe : ℕ → Bool) (s : ImageScene) (n : NeverState) → Ready listed safe s n
-    → (v : Value) (x i : ℕ) → IsSound n v → IsSafe safe v
-    → x ≡ image_of (bases_of s.allocations) v → x ≢ 0
+    → (v : Value) (x i : ℕ) → IsSound n v → IsSafe safe v → x ≡ image_of (bases_of s.allocations) v → x ≢ 0
     → Meets n v i (λ kind. Unit {0}) → ((x + 8 * i) % 2 ^ 64 ≡ image_of (bases_of s.allocations) (moved_on v i))
     × IsSafe safe (moved_on v i) × (lea_reply v ≡ Done)
 lea_value listed safe s n h Null x i sound is e ne meets = absurd (ne e)
@@ -84,14 +81,12 @@ module _ (listed : List ℕ) (safe : ℕ → Bool) (s : ImageScene) (n : NeverSt
     abbrev bases : List ℕ
     bases = bases_of s.allocations
 
-    null_at : (q x : ℕ) → x ≡ image_of bases (register_at n k q) → (x == 0) ≡ true
-        → register_at n k q ≡ Null
+    null_at : (q x : ℕ) → x ≡ image_of bases (register_at n k q) → (x == 0) ≡ true → register_at n k q ≡ Null
     null_at q x e z = image_zero n _ (register_at n k q) (h.typed.registers (8 * k + q)) (sym e ∙ eqb-true x 0 z)
 
     -- an access loads its pointer, or is refused
     load_q : (o : Op) (q p r l x : ℕ) → accesses o ≡ true → flight_among s.flights k ≡ flight stage.LoadQ o q p r l
-        → d_of o < 8
-        → x ≡ image_of bases (register_at n k (q_of o))
+        → d_of o < 8 → x ≡ image_of bases (register_at n k (q_of o))
         → LeadsBy safe s n k o s (if x == 0 then refused (flight stage.LoadQ o x p r l) answer.Null
         else onward (flight stage.LoadQ o x p r l) None)
     load_q o q p r l x access is ld e =
@@ -105,8 +100,7 @@ module _ (listed : List ℕ) (safe : ℕ → Bool) (s : ImageScene) (n : NeverSt
         (λ y. absurd (false≢true (sym next.probed ∙ y))))
 
     reg_q : (o : Op) (q p r l x : ℕ) → flight_among s.flights k ≡ flight stage.LoadQ o q p r l → d_of o < 8
-        → is_astray (standing_at stage.LoadQ o) ≡ false
-        → CarriesOwn bases n k (flight stage.LoadQ o q p r l)
+        → is_astray (standing_at stage.LoadQ o) ≡ false → CarriesOwn bases n k (flight stage.LoadQ o q p r l)
         → x ≡ image_of bases (register_at n k (q_of o))
         → LeadsBy safe s n k o s (progress_q (flight stage.LoadQ o q p r l) o x)
     reg_q (op.GetNum q' i) q p r l x is ld a car e = load_q (op.GetNum q' i) q p r l x refl is ld e
@@ -121,8 +115,7 @@ module _ (listed : List ℕ) (safe : ℕ → Bool) (s : ImageScene) (n : NeverSt
         (rw (null_at q' x e z)) (λ bs. ap (λ v. answer_of bs (lea_reply v)) (sym (null_at q' x e z))))
         (λ nz. flies_on safe s n k (op.Lea d q' i) _ was refl
         (carries_q _ _ _ _ _ e (eqb-false x 0 nz) refl refl refl) (λ y. cc))
-    reg_q (op.Move d q') q p r l x is ld a car e =
-        flies_on safe s n k (op.Move d q') _ (rw is) refl
+    reg_q (op.Move d q') q p r l x is ld a car e = flies_on safe s n k (op.Move d q') _ (rw is) refl
         (record { q = λ y. e; some_q = λ y. cc; p = λ y. cc; some_p = λ y. cc; r = λ y. cc }) (λ y. cc)
     reg_q (op.Same p' q') q p r l x is ld a car e =
         let u = register_at n k p' in
@@ -136,23 +129,18 @@ module _ (listed : List ℕ) (safe : ℕ → Bool) (s : ImageScene) (n : NeverSt
     reg_q _ q p r l x is ld a car e = cc
 
     reg_p : (o : Op) (q p r l x : ℕ) → flight_among s.flights k ≡ flight stage.LoadP o q p r l
-        → is_astray (standing_at stage.LoadP o) ≡ false
-        → CarriesOwn bases n k (flight stage.LoadP o q p r l)
+        → is_astray (standing_at stage.LoadP o) ≡ false → CarriesOwn bases n k (flight stage.LoadP o q p r l)
         → x ≡ image_of bases (register_at n k (p_of o))
         → LeadsBy safe s n k o s (progress_p (flight stage.LoadP o q p r l) o x)
-    reg_p (op.SetPtr q' i p') q p r l x is a car e =
-        flies_on safe s n k (op.SetPtr q' i p') _ (rw is) refl
+    reg_p (op.SetPtr q' i p') q p r l x is a car e = flies_on safe s n k (op.SetPtr q' i p') _ (rw is) refl
         (record { q = λ y. car.q refl; some_q = λ y. car.some_q refl; p = λ y. e; some_p = λ y. cc; r = λ y. cc })
         (λ y. cc)
-    reg_p (op.CasPtr q' i p' r') q p r l x is a car e =
-        flies_on safe s n k (op.CasPtr q' i p' r') _ (rw is) refl
+    reg_p (op.CasPtr q' i p' r') q p r l x is a car e = flies_on safe s n k (op.CasPtr q' i p' r') _ (rw is) refl
         (record { q = λ y. car.q refl; some_q = λ y. car.some_q refl; p = λ y. e; some_p = λ y. cc; r = λ y. cc })
         (λ y. cc)
-    reg_p (op.SetGlobal g p') q p r l x is a car e =
-        flies_on safe s n k (op.SetGlobal g p') _ (rw is) refl
+    reg_p (op.SetGlobal g p') q p r l x is a car e = flies_on safe s n k (op.SetGlobal g p') _ (rw is) refl
         (record { q = λ y. cc; some_q = λ y. cc; p = λ y. e; some_p = λ y. cc; r = λ y. cc }) (λ y. cc)
-    reg_p (op.Same p' q') q p r l x is a car e =
-        flies_on safe s n k (op.Same p' q') _ (rw is) refl
+    reg_p (op.Same p' q') q p r l x is a car e = flies_on safe s n k (op.Same p' q') _ (rw is) refl
         (record { q = λ y. cc; some_q = λ y. cc; p = λ y. e; some_p = λ y. cc; r = λ y. cc }) (λ y. cc)
     reg_p (op.IsNull p') q p r l x is a car e =
         let v = register_at n k p' in
@@ -170,8 +158,7 @@ module _ (listed : List ℕ) (safe : ℕ → Bool) (s : ImageScene) (n : NeverSt
     reg_p _ q p r l x is a car e = cc
 
     reg_r : (o : Op) (q p r l x : ℕ) → flight_among s.flights k ≡ flight stage.LoadR o q p r l
-        → is_astray (standing_at stage.LoadR o) ≡ false
-        → CarriesOwn bases n k (flight stage.LoadR o q p r l)
+        → is_astray (standing_at stage.LoadR o) ≡ false → CarriesOwn bases n k (flight stage.LoadR o q p r l)
         → x ≡ image_of bases (register_at n k (r_of o))
         → LeadsBy safe s n k o s (onward (record (flight stage.LoadR o q p r l) { r = x }) None)
     reg_r (op.CasPtr q' i p' r') q p r l x is a car e =
@@ -186,10 +173,8 @@ module _ (listed : List ℕ) (safe : ℕ → Bool) (s : ImageScene) (n : NeverSt
     reg_r _ q p r l x is a car e = cc
 
     reg_store : (o : Op) (q p r l : ℕ) → flight_among s.flights k ≡ flight stage.Store o q p r l → d_of o < 8
-        → is_astray (standing_at stage.Store o) ≡ false
-        → CarriesOwn bases n k (flight stage.Store o q p r l)
-        → AreAdmitted listed n (asked (entry_of k o (Some answer.Done)))
-        → LeadsBy safe s n k o
+        → is_astray (standing_at stage.Store o) ≡ false → CarriesOwn bases n k (flight stage.Store o q p r l)
+        → AreAdmitted listed n (asked (entry_of k o (Some answer.Done))) → LeadsBy safe s n k o
         (record s { registers = slice_set s.registers (8 * k + d_of o) (value_for (flight stage.Store o q p r l) o) })
         (onward (flight stage.Store o q p r l) (Some answer.Done))
     reg_store (op.Lea d q' i) q p r l is ld a car ad =
@@ -218,8 +203,7 @@ module _ (listed : List ℕ) (safe : ℕ → Bool) (s : ImageScene) (n : NeverSt
     reg_store _ q p r l is ld a car ad = cc
 
     reg_put : (o : Op) (q p r l : ℕ) → flight_among s.flights k ≡ flight stage.Put o q p r l → d_of o < 8
-        → Leads safe s n k o
-        (record s {
+        → Leads safe s n k o (record s {
           registers = slice_set s.registers (8 * k + d_of o) l;
           flights = slice_set s.flights k (flight stage.Leave o q p r l);
         }) None
@@ -238,12 +222,10 @@ registers_behind xs k f stage.Put = slice_set xs (8 * k + d_of f.op) f.loaded
 registers_behind xs k f _ = xs
 
 pub reg_leads : (listed : List ℕ) (safe : ℕ → Bool) (s : ImageScene) (n : NeverState) (k : ℕ) → Ready listed safe s n
-    → k < length s.flights → 8 * k + 7 < length n.registers
-    → 8 * k + 7 < length s.registers
+    → k < length s.flights → 8 * k + 7 < length n.registers → 8 * k + 7 < length s.registers
     → (st : Stage) (o : Op) (q p r l x : ℕ) → flight_among s.flights k ≡ flight st o q p r l → d_of o < 8
     → is_reg_stage st ≡ true → is_astray (standing_at st o) ≡ false
-    → CarriesOwn (bases_of s.allocations) n k (flight st o q p r l)
-    → (is_put st ≡ false
+    → CarriesOwn (bases_of s.allocations) n k (flight st o q p r l) → (is_put st ≡ false
     → x ≡ image_of (bases_of s.allocations) (register_at n k (register_met (flight st o q p r l) st)))
     → AreAdmitted listed n (asked (entry_of k o (progress_reg (flight st o q p r l) st x).answer))
     → LeadsBy safe s n k o (record s { registers = registers_behind s.registers k (flight st o q p r l) st })

@@ -9,10 +9,9 @@ use Rattle.mk_laws.proofs.Vocabulary.{with_released, ℕ, ◌++◌, ◌/◌, ◌
 use Rattle.mk_laws.proofs.ProtocolKept.{kept}
 use Rattle.mk_laws.proofs.Claims.{LeavesCells, apart_behind, cells_behind, changed_among, claim_among, claim_is}
 use Rattle.mk_laws.proofs.Claims.{was_claim}
-use Rattle.mk_laws.proofs.LayoutJoined.{among_back, among_front, among_parts, apart_across, apart_joined, apart_left}
-use Rattle.mk_laws.proofs.LayoutJoined.{apart_right}
+use Rattle.mk_laws.proofs.Serving.{among_back, among_front, among_parts, apart_across, apart_joined, apart_left}
+use Rattle.mk_laws.proofs.Serving.{apart_right, Laid, own_claim, placed_claim}
 use Rattle.mk_laws.proofs.Releasing.{layout_released}
-use Rattle.mk_laws.proofs.Serving.{Laid, own_claim, placed_claim}
 use Rattle.mk_laws.proofs.StandingClaims.{IsStanding, stands_there}
 
 -- The unreleased allocations stand on the heap, with their headers.
@@ -42,8 +41,7 @@ releasing_leaves c w =
 pub left_is : (c : Config) (w : Words) (a : PlacedAllocation) → IsWithinLimits c → IsStanding c w a
     → (with_released c w a).released
     ≡ is_released_in true w.snapshot w.marks (a.base / 64) (cell_of_allocation c a).index
-left_is c w a limits st =
-    released_where_left c w a limits st.stands st.headers
+left_is c w a limits st = released_where_left c w a limits st.stands st.headers
     ∙ has_bit_without (slice_index w.snapshot (a.base / 64)) (slice_index w.marks (a.base / 64))
     (cell_of_allocation c a).index
 
@@ -57,8 +55,7 @@ goes c run w xs x limits stand i =
     let a : PlacedAllocation = placed_at xs n.number in
     let left = left_is c w a limits (stand n.number n.unreleased) in
     elim (cases_Bool (with_released c w a).released) [
-      | inr u ↦
-          inl (rw n.is (changed_among c run (with_released c w) xs n.number (releasing_leaves c w) u))
+      | inr u ↦ inl (rw n.is (changed_among c run (with_released c w) xs n.number (releasing_leaves c w) u))
       | inl r ↦ inr (rw n.is (sym left ∙ r))
     ]
 

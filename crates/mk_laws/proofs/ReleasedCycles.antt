@@ -8,7 +8,7 @@ use Rattle.mk_core.specs.declared.events.Step.TheVariants as step
 use Rattle.mk_laws.specs.Releases.{ReleasesAreOfCycles}
 use Rattle.mk_laws.proofs.CyclePhases.{AsksPhase, IsMarking, moves_phase, phase_behind}
 use Rattle.mk_laws.proofs.Releases.{up_to_release}
-use Rattle.mk_laws.proofs.ProtocolLongerLists.{at_end, longer_at, longer_marking, none_more}
+use Rattle.mk_laws.proofs.Longer.{at_end, longer_at, longer_marking, none_more}
 
 -- While marking, a cycle is begun and not closed; where marks are closed, it isn't released.
 
@@ -77,10 +77,7 @@ so_far seat step.End p es asks k =
 so_far seat step.Over p es asks k =
     record { begun = λ n. let most = n.most in absurd (omega arith); closed = λ e. absurd (omega arith) }
 so_far seat _ p es asks k =
-    record {
-      begun = λ m. begun_longer es _ refl (k.begun m);
-      closed = λ e. closed_longer es _ refl (k.closed e);
-    }
+    record { begun = λ m. begun_longer es _ refl (k.begun m); closed = λ e. closed_longer es _ refl (k.closed e) }
 
 -- after each enabled list
 along : (c : Config) (done es : List Event) → AreEnabledFrom c (left c done) es
@@ -107,8 +104,7 @@ cycle_so_far c es h = along c [] es h.enabled (first c)
 
 front_is : {es : List Event} (k : Marking es)
     → ((k.begin.before ++ k.begin.event ∷ []) ++ k.close.at.before) ++ k.close.at.event ∷ k.close.at.behind ≡ es
-front_is {es} k =
-    up_to_release k.begin.before k.close.at.before k.close.at.behind k.begin.event k.close.at.event
+front_is {es} k = up_to_release k.begin.before k.close.at.before k.close.at.behind k.begin.event k.close.at.event
     ∙ ap (λ (xs : List Event). k.begin.before ++ k.begin.event ∷ xs) (sym k.close.at.is) ∙ sym k.begin.is
 
 pub releases_are_of_cycles : OfHistories ReleasesAreOfCycles

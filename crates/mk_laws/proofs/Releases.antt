@@ -29,9 +29,8 @@ up_to_release xs ys zs b x = append_assoc (xs ++ b ∷ []) ys (x ∷ zs) ∙ app
 
 with_rest : {X : Type 0} (xs ys zs rest : List X) (b x : X)
     → (((xs ++ b ∷ []) ++ ys) ++ x ∷ zs) ++ rest ≡ xs ++ b ∷ (ys ++ x ∷ (zs ++ rest))
-with_rest {X} xs ys zs rest b x =
-    ap (λ (all : List X). all ++ rest) (up_to_release xs ys zs b x) ∙ append_assoc xs (b ∷ (ys ++ x ∷ zs)) rest
-    ∙ ap (λ (more : List X). xs ++ b ∷ more) (append_assoc ys (x ∷ zs) rest)
+with_rest {X} xs ys zs rest b x = ap (λ (all : List X). all ++ rest) (up_to_release xs ys zs b x)
+    ∙ append_assoc xs (b ∷ (ys ++ x ∷ zs)) rest ∙ ap (λ (more : List X). xs ++ b ∷ more) (append_assoc ys (x ∷ zs) rest)
 
 -- No other cycle begins between a `begin` and its `release`.
 none_begins : (c : Config) (w : World) (b x : Event) (ys zs : List Event) → AreEnabledFrom c w (b ∷ (ys ++ x ∷ zs))
@@ -91,8 +90,7 @@ module _ (c : Config) (es : List Event) (h : IsHistory c es) (r : Releasing es) 
   w = left c front
 
   es_is : es ≡ front ++ last.event ∷ last.behind
-  es_is =
-      begin.is ∙ ap (λ (xs : List Event). begin.before ++ begin.event ∷ xs)
+  es_is = begin.is ∙ ap (λ (xs : List Event). begin.before ++ begin.event ∷ xs)
       (close.is ∙ ap (λ (xs : List Event). close.before ++ close.event ∷ xs) last.is)
       ∙ sym (with_rest begin.before close.before last.before (last.event ∷ last.behind) begin.event close.event)
 
@@ -103,8 +101,7 @@ module _ (c : Config) (es : List Event) (h : IsHistory c es) (r : Releasing es) 
   before_is_history = earlier_part_is_history c front (last.event ∷ last.behind) whole
 
   behind_is_history : IsHistory c (front ++ last.event ∷ [])
-  behind_is_history =
-      earlier_part_is_history c (front ++ last.event ∷ []) last.behind
+  behind_is_history = earlier_part_is_history c (front ++ last.event ∷ []) last.behind
       (subst (λ (xs : List Event). IsHistory c xs) (sym (append_assoc front (last.event ∷ []) last.behind)) whole)
 
   -- the `begin`, in the list up to the `release`
@@ -119,8 +116,7 @@ module _ (c : Config) (es : List Event) (h : IsHistory c es) (r : Releasing es) 
       }
 
   no_other : list_any (λ (e : Event). is_begin e.step) begin_at.behind ≡ false
-  no_other =
-      none_begins c (left c begin.before) begin.event close.event close.before last.before
+  no_other = none_begins c (left c begin.before) begin.event close.event close.before last.before
       (enabled_at c front is_begin begin_at before_is_history)
       begin.of_kind r.marking.close.none_before close.of_kind r.release.none_before
 
@@ -178,8 +174,7 @@ module _ (c : Config) (es : List Event) (h : IsHistory c es) (r : Releasing es) 
 
   pub none_reached : (number : ℕ) → IsReachable (never_behind c front) number
       → (allocation_behind c r number).released ≡ false
-  none_reached number reached =
-      reach_is_kept c (front ++ last.event ∷ []) behind_is_history number
+  none_reached number reached = reach_is_kept c (front ++ last.event ∷ []) behind_is_history number
       (subst (λ (n : NeverState). IsReachable n number) (sym (never_stays c front last.event last.of_kind)) reached)
 
 pub releases_are_exact : OfHistories ReleasesAreExact

@@ -2,13 +2,55 @@
 use Rattle.mk_laws.proofs.Vocabulary.{Among, AreApart, Bool, Claim, Header, IsClaimed, IsLaidOn, IsShown, Later}
 use Rattle.mk_laws.proofs.Vocabulary.{LayoutScene, List, NoPlot, Option, Page, Plot, PlotStands, Plotted, Some, ap}
 use Rattle.mk_laws.proofs.Vocabulary.{arith, cases_Bool, cases_eq, cases_lt, cells_under, ends, false, free_page}
-use Rattle.mk_laws.proofs.Vocabulary.{get_or_past, has_bit, head_on, head_page_under, header_of, header_on, inl, inr}
-use Rattle.mk_laws.proofs.Vocabulary.{is_released_in, is_released_on, length, length-set, pages_made, refl, shows_on}
-use Rattle.mk_laws.proofs.Vocabulary.{stands, sym, true, true≢false, used_on, ℕ, ◌+◌, ◌-◌, ◌<◌, ◌∙◌, ◌≡◌, ◌≢◌, ◌⊎◌}
+use Rattle.mk_laws.proofs.Vocabulary.{get_or-set_other, get_or-set_same, get_or_past, has_bit, head_on, head_page_under}
+use Rattle.mk_laws.proofs.Vocabulary.{header_of, header_on, inl, inr, is_released_in, is_released_on, length}
+use Rattle.mk_laws.proofs.Vocabulary.{length-set, pages_made, refl, shows_on, slice_set, stands, sym, true, true≢false}
+use Rattle.mk_laws.proofs.Vocabulary.{used_on, ℕ, ◌+◌, ◌-◌, ◌<◌, ◌∙◌, ◌≡◌, ◌≢◌, ◌⊎◌}
 use Rattle.mk_laws.proofs.ProtocolKept.{kept}
-use Rattle.mk_laws.proofs.PageSets.{headed_here, headed_other, headed_used, used_header, used_here, used_other}
-use Rattle.mk_laws.proofs.PageSets.{with_header_on, with_used_on}
 use Rattle.mk_laws.proofs.LayoutReadings.{cellless_unused, claimed_used, free_unused, none_set, zero_where_none}
+
+-- Pages of which one gets another header or used word.
+
+abbrev pub with_header_on : List Page → ℕ → ℕ → List Page
+with_header_on pages p n = slice_set pages p (record { header = n; used = used_on pages p })
+
+abbrev pub with_used_on : List Page → ℕ → ℕ → List Page
+with_used_on pages p n = slice_set pages p (record { header = header_on pages p; used = n })
+
+pub headed_here : (pages : List Page) (p n : ℕ) → p < length pages → header_on (with_header_on pages p n) p ≡ n
+headed_here pages p n lt =
+    ap (λ (x : Page). x.header) (get_or-set_same pages p (record { header = n; used = used_on pages p }) free_page lt)
+
+pub headed_other : (pages : List Page) (p n q : ℕ) → q ≢ p → header_on (with_header_on pages p n) q ≡ header_on pages q
+headed_other pages p n q ne = ap (λ (x : Page). x.header)
+    (get_or-set_other pages p q (record { header = n; used = used_on pages p }) free_page ne)
+
+pub headed_used : (pages : List Page) (p n q : ℕ) → p < length pages
+    → used_on (with_header_on pages p n) q ≡ used_on pages q
+headed_used pages p n q lt = elim (cases_eq q p) [
+  | inl e ↦ rw e
+      (ap (λ (x : Page). x.used) (get_or-set_same pages p (record { header = n; used = used_on pages p }) free_page lt)
+      ∙ rw (← e))
+  | inr ne ↦ ap (λ (x : Page). x.used)
+      (get_or-set_other pages p q (record { header = n; used = used_on pages p }) free_page ne)
+]
+
+pub used_here : (pages : List Page) (p n : ℕ) → p < length pages → used_on (with_used_on pages p n) p ≡ n
+used_here pages p n lt =
+    ap (λ (x : Page). x.used) (get_or-set_same pages p (record { header = header_on pages p; used = n }) free_page lt)
+
+pub used_other : (pages : List Page) (p n q : ℕ) → q ≢ p → used_on (with_used_on pages p n) q ≡ used_on pages q
+used_other pages p n q ne = ap (λ (x : Page). x.used)
+    (get_or-set_other pages p q (record { header = header_on pages p; used = n }) free_page ne)
+
+pub used_header : (pages : List Page) (p n q : ℕ) → p < length pages
+    → header_on (with_used_on pages p n) q ≡ header_on pages q
+used_header pages p n q lt = elim (cases_eq q p) [
+  | inl e ↦ rw e (ap (λ (x : Page). x.header)
+      (get_or-set_same pages p (record { header = header_on pages p; used = n }) free_page lt) ∙ rw (← e))
+  | inr ne ↦ ap (λ (x : Page). x.header)
+      (get_or-set_other pages p q (record { header = header_on pages p; used = n }) free_page ne)
+]
 
 -- a page with nothing on it is on no claim's pages
 unclaimed : (s : LayoutScene) (p : ℕ) → IsLaidOn s → used_on s.pages (head_on s.pages p) ≡ 0 → (x : Claim)
@@ -58,13 +100,11 @@ layout_emptied s p laid lt on z =
       shown = λ x among. shown_beside s.pages p 0 x lt (laid.shown x among) (unclaimed s p laid z x among);
       apart = laid.apart;
       used = λ q k h. elim (cases_eq q p) [
-        | inl e ↦ absurd (none_set (used_on s.pages p) k unused (rw (← e)
-            (old q k h)))
-        | inr ne ↦ let t = laid.used q k
-            (old q k h) in (
-              rw (ap (λ h. cells_under (header_of h)) (sym (headed_other s.pages p 0 q ne))) at t.0,
-              t.1,
-            )
+        | inl e ↦ absurd (none_set (used_on s.pages p) k unused (rw (← e) (old q k h)))
+        | inr ne ↦ let t = laid.used q k (old q k h) in (
+          rw (ap (λ h. cells_under (header_of h)) (sym (headed_other s.pages p 0 q ne))) at t.0,
+          t.1,
+        )
       ];
       plot = plot_emptied s.pages p s.plot lt laid.plot;
       occupied = λ q some empty. inl on;
@@ -111,8 +151,7 @@ layout_given_back s p n laid lt on gives kept =
     record {
       shown = λ x among. shown x among (laid.shown x among);
       apart = laid.apart;
-      used = λ q k h. let t =
-          laid.used q k (fewer q k h)
+      used = λ q k h. let t = laid.used q k (fewer q k h)
           in (rw (ap (λ h. cells_under (header_of h)) (sym (used_header s.pages p n q lt))) at t.0, t.1);
       plot = plot s.plot laid.plot;
       occupied = λ q some empty. inl on;
@@ -160,8 +199,7 @@ layout_given_back s p n laid lt on gives kept =
           sized = stands.sized;
           within = let l = len in let w = stands.within in omega arith;
           headers = λ d ld. rw (used_header s.pages p n (first + d) lt) (stands.headers d ld);
-          used =
-              λ d ld. zero_where_none (used_on (with_used_on s.pages p n) (first + d))
+          used = λ d ld. zero_where_none (used_on (with_used_on s.pages p n) (first + d))
               (λ k h. none_set (used_on s.pages (first + d)) k (stands.used d ld) (fewer (first + d) k h));
         }
 
@@ -184,11 +222,10 @@ layout_released s claims laid off r =
       used = λ p k h. let t = laid.used p k h in (t.0, by p k t.1);
       plot = laid.plot;
       occupied = λ p some empty. inl refl;
-      later = λ p d m is. let l =
-          laid.later p d m is in (
-            l.0,
-            elim l.1 [ inl head ↦ inl head | inr lost ↦ absurd (true≢false (sym lost.0 ∙ off)) ],
-          );
+      later = λ p d m is. let l = laid.later p d m is in (
+        l.0,
+        elim l.1 [ inl head ↦ inl head | inr lost ↦ absurd (true≢false (sym lost.0 ∙ off)) ],
+      );
     }
   where
     by : (p k : ℕ) → IsClaimed s.claims p k ⊎ (is_released_on s p k ≡ true)
@@ -215,11 +252,10 @@ layout_ended s laid ends =
       used = λ p k h. let t = laid.used p k h in (t.0, inl (by p k h t.1));
       plot = laid.plot;
       occupied = λ p some empty. absurd (ends.settled p (inside p some) some empty);
-      later = λ p d m is. let l =
-          laid.later p d m is in (
-            l.0,
-            inl (elim l.1 [ inl head ↦ head | inr lost ↦ absurd (headless p d m is lost.1) ]),
-          );
+      later = λ p d m is. let l = laid.later p d m is in (
+        l.0,
+        inl (elim l.1 [ inl head ↦ head | inr lost ↦ absurd (headless p d m is lost.1) ]),
+      );
     }
   where
     inside : (p : ℕ) → header_on s.pages p ≢ 0 → p < length s.pages
@@ -229,12 +265,11 @@ layout_ended s laid ends =
     ]
 
     with_bit : (p k : ℕ) → has_bit (used_on s.pages p) k ≡ true → p < length s.pages
-    with_bit p k h =
-        elim (cases_lt p (length s.pages)) [
-          | inl lt ↦ lt
-          | inr ge ↦ absurd (none_set (used_on s.pages p) k
-              (ap (λ (x : Page). x.used) (get_or_past s.pages p free_page ge)) h)
-        ]
+    with_bit p k h = elim (cases_lt p (length s.pages)) [
+      | inl lt ↦ lt
+      | inr ge ↦ absurd (none_set (used_on s.pages p) k
+          (ap (λ (x : Page). x.used) (get_or_past s.pages p free_page ge)) h)
+    ]
 
     by : (p k : ℕ) → has_bit (used_on s.pages p) k ≡ true → IsClaimed s.claims p k ⊎ (is_released_on s p k ≡ true)
         → IsClaimed s.claims p k

@@ -18,11 +18,10 @@ use Rattle.mk_laws.proofs.Basics.{tally_ground, with_header_on, with_used_on}
 use Rattle.mk_core.specs.declared.events.Step.TheVariants as step
 use Rattle.mk_laws.specs.Room.{HasRoom, in_plot}
 use Rattle.mk_laws.proofs.Behind.{object_kind}
-use Rattle.mk_laws.proofs.Counts.{count_range}
+use Rattle.mk_laws.proofs.ResidentPages.{count_range, RoomOn, is_resident, resident_count, resident_gone}
+use Rattle.mk_laws.proofs.ResidentPages.{resident_other, resident_used, room_same, room_unplaced, unmapped_use}
 use Rattle.mk_laws.proofs.Fits.{FitsOnFreePages, fits}
-use Rattle.mk_laws.proofs.LayoutPageKinds.{none_chosen}
-use Rattle.mk_laws.proofs.ResidentPages.{RoomOn, is_resident, resident_count, resident_gone, resident_other}
-use Rattle.mk_laws.proofs.ResidentPages.{resident_used, room_same, room_unplaced, unmapped_use}
+use Rattle.mk_laws.proofs.LayoutByKind.{none_chosen}
 
 -- The place is chosen, where this many pages are free.
 chosen_room : (c : Config) (o : Object) (pages : List Page) (place : Place) → length pages ≡ c.pages
@@ -123,15 +122,13 @@ head_room c w seat p n b there lt laid room (ItUnmaps off x) =
         let placed = placed_now c w.now (flight_of w.now seat) place at in
         let turn = new_has_turn c w.now seat there placed.new in
         absurd (no_run c w.now seat b.known turn (undecided_new (flight_of w.now seat) placed.new).stage x.run x.there)
-    by None at =
-        subst (λ (y : Placing). RoomOn c (object_now c w.now) (with_header_on w.now.words.pages p n) y)
+    by None at = subst (λ (y : Placing). RoomOn c (object_now c w.now) (with_header_on w.now.words.pages p n) y)
         (sym (none_chosen w.now.seats.holding.placing))
         (room_same c (object_now c w.now) w.now.words.pages (with_header_on w.now.words.pages p n)
         w.now.seats.holding.placing (λ q lq r. or_left (is_resident w.now.words.pages q)
         (in_plot (plot_of (object_now c w.now) w.now.seats.holding.placing) q)
         (resident_gone w.now.words.pages p n q lt out r)) room)
-head_room c w seat p n b there lt laid room (ItEmpties on x) =
-    subst (λ four. HeadRoom c w seat p n four) (sym on)
+head_room c w seat p n b there lt laid room (ItEmpties on x) = subst (λ four. HeadRoom c w seat p n four) (sym on)
     (room_same c (object_now c w.now) w.now.words.pages (with_header_on w.now.words.pages p n)
     w.now.seats.holding.placing (λ q lq r. or_left (is_resident w.now.words.pages q)
     (in_plot (plot_of (object_now c w.now) w.now.seats.holding.placing) q) (resident_gone w.now.words.pages p n q lt
@@ -172,8 +169,7 @@ used_room : (c : Config) (w : World) (p n : ℕ) (four : Bool) (found : Option P
 used_room c w p n four found room = by four found
   where
     same : RoomOn c (object_now c w.now) (with_used_on w.now.words.pages p n) w.now.seats.holding.placing
-    same =
-        room_same c (object_now c w.now) w.now.words.pages (with_used_on w.now.words.pages p n)
+    same = room_same c (object_now c w.now) w.now.words.pages (with_used_on w.now.words.pages p n)
         w.now.seats.holding.placing (λ q lt r. or_left (is_resident w.now.words.pages q)
         (in_plot (plot_of (object_now c w.now) w.now.seats.holding.placing) q)
         (resident_used w.now.words.pages p n q r)) room
@@ -211,8 +207,7 @@ room_by_kind c w seat (step.Used p n) b h laid room =
 room_by_kind c w seat step.Grant b h laid room =
     room_unplaced c (object_now c w.now) (object_now c w.now) w.now.words.pages w.now.words.pages
     w.now.seats.holding.placing Granted refl (λ q lt r. r) room
-room_by_kind c w seat (step.Mark p n) b h laid room =
-    mark_room c w seat p n b h.seat room
+room_by_kind c w seat (step.Mark p n) b h laid room = mark_room c w seat p n b h.seat room
     (marks_place w.now.words (object_made c (flight_of w.now seat).op) (place_now c w.now (flight_of w.now seat)) p
     n) refl
 room_by_kind c w seat _ b h laid room = room
@@ -222,15 +217,13 @@ no_plot o (Chosen place) none = cc
 no_plot o _ none = cc
 
 pub room_behind : (c : Config) (w : World) (seat : Seat) (x : Step) → Before c w → Meets c w.now seat x
-    → LayoutStands c w
-    → HasRoom c w → HasRoom c (WorldBehind c w seat x)
+    → LayoutStands c w → HasRoom c w → HasRoom c (WorldBehind c w seat x)
 room_behind c w seat x b h laid room =
     let v : World = WorldBehind c w seat x in
     let kind = room_by_kind c w seat x b h laid room in
     elim (cases_Bool (has_place v.now.seats.holding.placing)) [
       | inl has ↦ rw (object_kind c w seat x b.known h has) kind
-      | inr none ↦
-          room_unplaced c (object_now c w.now) (object_now c v.now) v.now.words.pages v.now.words.pages
+      | inr none ↦ room_unplaced c (object_now c w.now) (object_now c v.now) v.now.words.pages v.now.words.pages
           v.now.seats.holding.placing v.now.seats.holding.placing
           (no_plot (object_now c v.now) v.now.seats.holding.placing none) (λ q lt r. r) kind
     ]

@@ -19,8 +19,7 @@ use Rattle.mk_laws.proofs.ForImages.{laid_out, run_of}
 
 all_below_from : (n : ℕ) (test : ℕ → Bool) → ((k : ℕ) → k < n → test k ≡ true) → all_below n test ≡ true
 all_below_from zero test h = all_below_zero_is test
-all_below_from (suc n) test h =
-    subst (λ k. all_below k test ≡ true) (omega arith)
+all_below_from (suc n) test h = subst (λ k. all_below k test ≡ true) (omega arith)
     (all_below_more_is n test (all_below_from n test (λ k lt. h k (omega arith))) (h n (omega arith)))
 
 gone_from : (v : Words) (r : RunPages) → ((d : ℕ) → d < r.count → header_at v (r.page + d) ≡ unmapped_header r.count d)
@@ -36,8 +35,7 @@ module _ (c : Config) (w : World) (known : KnownWorld c w) (laid : LayoutStands 
     (is : w.now.seats.holding.freed ≡ Some r)
     (gone : is_run_gone w.now.words w.now.seats.holding.freed ≡ true) where
   gone_parts : (is_run_unmapped w.now.words r ≡ true) × (words_are_zero w.now.words (64 * r.page) (64 * r.count) ≡ true)
-  gone_parts =
-      and_parts (is_run_unmapped w.now.words r) (words_are_zero w.now.words (64 * r.page) (64 * r.count))
+  gone_parts = and_parts (is_run_unmapped w.now.words r) (words_are_zero w.now.words (64 * r.page) (64 * r.count))
       (ap (λ (x : Option RunPages). is_run_gone w.now.words x) (sym is) ∙ gone)
 
   headers_gone : (d : ℕ) → d < r.count → header_at w.now.words (r.page + d) ≡ unmapped_header r.count d
@@ -100,8 +98,7 @@ module _ (c : Config) (w : World) (known : KnownWorld c w) (laid : LayoutStands 
 
   headers_behind : (seat : Seat) (x : Step) → Meets c w.now seat x → (d : ℕ) → d < r.count
       → header_at (Behind c w.now seat x).words (r.page + d) ≡ unmapped_header r.count d
-  headers_behind seat (step.Head p n) h d lt =
-      ap (λ (y : Page). y.header)
+  headers_behind seat (step.Head p n) h d lt = ap (λ (y : Page). y.header)
       (get_or-set_other w.now.words.pages p (r.page + d) (record { header = n; used = used_at w.now.words p })
       free_page (head_elsewhere seat p n h d lt)) ∙ headers_gone d lt
   headers_behind seat x h d lt = rest x refl

@@ -53,10 +53,9 @@ made_shown : (o : Object) (distance count : ℕ) → 9 + 16 * count ≡ header_m
     → (is_small_object o ≡ false) × (distance ≡ 0) × (count ≡ run_pages_of o.words)
 made_shown o distance count e = by (is_small_object o) refl e
   where
-    by : (b : Bool) → is_small_object o ≡ b
-        → 9 + 16 * count ≡ (if b then word_of (block_header (class_made o) o.leaf)
-        else word_of (run_header (run_pages_of o.words) true o.leaf distance))
-        → (is_small_object o ≡ false) × (distance ≡ 0) × (count ≡ run_pages_of o.words)
+    by : (b : Bool) → is_small_object o ≡ b → 9 + 16 * count ≡ (if b then word_of (block_header (class_made o) o.leaf)
+        else word_of (run_header (run_pages_of o.words) true o.leaf distance)) → (is_small_object o ≡ false)
+        × (distance ≡ 0) × (count ≡ run_pages_of o.words)
     by true is h = absurd (block_apart (class_made o) count o.leaf (class_small o.words) h)
     by false is h = let r = run_shown (run_pages_of o.words) count distance true o.leaf h in (is, r.1, r.2)
 
@@ -70,8 +69,7 @@ pub next_is : (w : Words) (first count : ℕ) (wanted : ℕ → ℕ) (page value
 next_is w first count wanted page value h =
     let last = and_parts
     (nat_le first page && nat_lt (page - first) count && not (header_at w page == wanted (page - first))
-    && all_below (page - first) (stands w first wanted))
-    (value == wanted (page - first)) h in
+    && all_below (page - first) (stands w first wanted)) (value == wanted (page - first)) h in
     let three = and_parts
     (nat_le first page && nat_lt (page - first) count && not (header_at w page == wanted (page - first)))
     (all_below (page - first) (stands w first wanted)) last.0 in
@@ -134,11 +132,9 @@ header_set c ps p n u fits all q = elim (cases_eq q p) [
 pub runs_behind : (c : Config) (w : World) (f : Flight) (g : Ground)
     → ((x : Place) → place_now c w.now f ≡ Some x → PlaceFits c f.op x)
     → RunsFit c w.now.words.pages → GroundStep c w f g → RunsFit c g.pages
-runs_behind c w f g fits all (Carves p n own at) =
-    header_set c w.now.words.pages p n (used_at w.now.words p)
+runs_behind c w f g fits all (Carves p n own at) = header_set c w.now.words.pages p n (used_at w.now.words p)
     (carved_fits c w.now.words f (place_now c w.now f) p n fits own) all
-runs_behind c w f g fits all (Unmaps p n own at) =
-    header_set c w.now.words.pages p n (used_at w.now.words p)
+runs_behind c w f g fits all (Unmaps p n own at) = header_set c w.now.words.pages p n (used_at w.now.words p)
     (unmapped_fits c w.now.words w.now.seats.holding.freed p n own) all
 runs_behind c w f g fits all (Empties p n own at) =
     header_set c w.now.words.pages p n (used_at w.now.words p) (emptied_fits c w.now.words p n own) all

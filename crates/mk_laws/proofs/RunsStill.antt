@@ -100,7 +100,6 @@ finds_one c s es e h other holds =
 
 pub holder_finds : (c : Config) (s : Seat) (es more : List Event) → IsHistory c (es ++ more) → AreOfOthers (s ∷ []) more
     → Holds c (left c es).now s → HolderFinds c s (left c es) (left c (es ++ more))
-holder_finds c s es more h others =
-    along_others c (s ∷ []) (Finds c s)
+holder_finds c s es more h others = along_others c (s ∷ []) (Finds c s)
     (λ xs holds. record { holds = holds; holding = refl; allocations = refl; gone = λ e. e; outside = λ n none. refl })
     (λ xs ys zs. finds_joined c s (left c xs) (left c ys) (left c zs)) (finds_one c s) es more h others

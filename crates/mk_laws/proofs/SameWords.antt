@@ -32,16 +32,14 @@ tally_keeps w _ v = record { turn = refl; phase = refl; gates = refl }
 
 -- a move, where the words of the protocol are the same
 pub with_words : (c : Config) (v : View) (seat : Seat) (w x : Words) (fs : List Flight) (h : Holding)
-    (ms : List MarkerState) → Keeps w x
-    → Move c v seat (record {
+    (ms : List MarkerState) → Keeps w x → Move c v seat (record {
       turn = w.turn;
       phase = w.phase;
       gates = w.gates;
       flights = fs;
       holding = h;
       markers = ms;
-    })
-    → Move c v seat (record {
+    }) → Move c v seat (record {
       turn = x.turn;
       phase = x.phase;
       gates = x.gates;
@@ -49,5 +47,4 @@ pub with_words : (c : Config) (v : View) (seat : Seat) (w x : Words) (fs : List 
       holding = h;
       markers = ms;
     })
-with_words c v seat w x fs h ms same move =
-    rw same.turn (rw same.phase (rw same.gates move))
+with_words c v seat w x fs h ms same move = rw same.turn (rw same.phase (rw same.gates move))

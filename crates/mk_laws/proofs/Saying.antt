@@ -111,22 +111,16 @@ module _ (c : Config) (w : World) (n : NeverState) (known : KnownWorld c w) (oth
       let gone = sym (unmapped_is c w n known mirrors to.number lt) ∙ to.mapped in
       let word = to.word in
       let inside = to.inside in
-      record {
-        number = to.number;
-        mapped = rw to.unreleased (ap not gone);
-        word = (omega arith, omega arith);
-      }
+      record { number = to.number; mapped = rw to.unreleased (ap not gone); word = (omega arith, omega arith) }
 
   write_word : (k : ℕ) (o : Op) (q p r l : ℕ) → is_astray (standing_at stage.Write o) ≡ false
       → CarriesOwn (bases_of w.allocations) n k (flight stage.Write o q p r l)
       → ProbedOwn n k (flight stage.Write o q p r l)
       → IsAdmitted c.globals n k o → IsMappedWord c w ((q - 65536) / 8 + i_of o)
-  write_word k (op.SetNum q' i m) q p r l a car pro ad =
-      reached_word k i q _ IsNumber
+  write_word k (op.SetNum q' i m) q p r l a car pro ad = reached_word k i q _ IsNumber
       (reaches c.globals mirrors.safe.0 (image_scene_of w) n ready (register_at n k q') q i IsNumber (car.q refl)
       (car.some_q refl) (own_sound k q') (own_safe k q') (pro refl) ad.access)
-  write_word k (op.SetPtr q' i p') q p r l a car pro ad =
-      reached_word k i q _ IsPointer
+  write_word k (op.SetPtr q' i p') q p r l a car pro ad = reached_word k i q _ IsPointer
       (reaches c.globals mirrors.safe.0 (image_scene_of w) n ready (register_at n k q') q i IsPointer (car.q refl)
       (car.some_q refl) (own_sound k q') (own_safe k q') (pro refl) ad.access)
   write_word k _ q p r l a car pro ad = cc
@@ -135,8 +129,7 @@ module _ (c : Config) (w : World) (n : NeverState) (known : KnownWorld c w) (oth
       → CarriesOwn (bases_of w.allocations) n k (flight stage.Cas o q p r l)
       → ProbedOwn n k (flight stage.Cas o q p r l)
       → IsAdmitted c.globals n k o → IsMappedWord c w ((q - 65536) / 8 + i_of o)
-  cas_word k (op.CasPtr q' i p' r') q p r l a car pro ad =
-      reached_word k i q _ IsPointer
+  cas_word k (op.CasPtr q' i p' r') q p r l a car pro ad = reached_word k i q _ IsPointer
       (reaches c.globals mirrors.safe.0 (image_scene_of w) n ready (register_at n k q') q i IsPointer (car.q refl)
       (car.some_q refl) (own_sound k q') (own_safe k q') (pro refl) ad.access)
   cas_word k _ q p r l a car pro ad = cc

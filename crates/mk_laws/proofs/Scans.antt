@@ -44,9 +44,8 @@ look_passes c m p (Some value) n (inr e) =
     by (p == page_at_address value) (cell_at c.pages (header_at m.words p) value) refl refl
   where
     by : (b : Bool) (x : Option Cell) → (p == page_at_address value) ≡ b
-        → cell_at c.pages (header_at m.words p) value ≡ x
-        → IsGuarded c m n ⊎ (hand_behind_look c p (header_at m.words p) (Some value)
-        ≡ Some (slice_index m.words.heap n))
+        → cell_at c.pages (header_at m.words p) value ≡ x → IsGuarded c m n
+        ⊎ (hand_behind_look c p (header_at m.words p) (Some value) ≡ Some (slice_index m.words.heap n))
     by true None at none =
         let there = ap (λ q. cell_at c.pages (header_at m.words q) value) (eqb-true p (page_at_address value) at) in
         let nothing : IsWell c m.words value = λ y is. absurd (none-some _ (sym none ∙ there ∙ is)) in
@@ -63,10 +62,8 @@ pub look_stands : (c : Config) (m : Moment) (p : ℕ) (x : Marker) → MarkerSta
 look_stands c m p x h =
     record {
       scan = λ s is. other_hand c m x.hand _ s (h.scan s is) (look_passes c m p x.hand);
-      seen =
-          λ s is. subst (λ (z : SeenHeader). HeaderGoesOn c.pages z.header (header_at m.words z.page))
-          (same_Some _ _ is)
-          (goes_same c.pages (header_at m.words p));
+      seen = λ s is. subst (λ (z : SeenHeader). HeaderGoesOn c.pages z.header (header_at m.words z.page))
+          (same_Some _ _ is) (goes_same c.pages (header_at m.words p));
     }
 
 pub unseen_stands : (c : Config) (m : Moment) (x : Marker) → MarkerStands c m x
@@ -104,8 +101,7 @@ begun_stands c m hand p k header lt is go =
     ends : (b : Bool) → has_no_pointers (header_of header) ≡ b → EndsItsCell m.words (record (scan_begun p k header)
         { end = 64 * p + k * words_under (header_of header) + (if b then 0 else words_under (header_of header)) })
     ends true e = inr (omega (arith, first), go.unscanned some e)
-    ends false e =
-        inl (rw (← first) (rw (← (go.words some))))
+    ends false e = inl (rw (← first) (rw (← (go.words some))))
 
 pub claim_stands : (c : Config) (m : Moment) (x : Marker) (p k : ℕ) → has_seen_cell x.seen p k ≡ true
     → MarkerStands c m x → MarkerStands c m (record x { scan = scan_claimed p k (slice_index m.words.marks p) x.seen })
@@ -131,9 +127,8 @@ pub load_stands : (c : Config) (m : Moment) (x : Marker) (next : ℕ) → has_ne
     → MarkerStands c m (record x { scan = scan_onward x.scan; hand = open_hand c (slice_index m.words.heap next) })
 load_stands c m x next more none at h = record { scan = λ s is. by x.scan more at h.scan s is; seen = h.seen }
   where
-    loaded : (n : ℕ) (b : Bool) → is_heap_address c.pages (slice_index m.words.heap n) ≡ b
-        → IsGuarded c m n ⊎ ((if b then Some (slice_index m.words.heap n) else None)
-        ≡ Some (slice_index m.words.heap n))
+    loaded : (n : ℕ) (b : Bool) → is_heap_address c.pages (slice_index m.words.heap n) ≡ b → IsGuarded c m n
+        ⊎ ((if b then Some (slice_index m.words.heap n) else None) ≡ Some (slice_index m.words.heap n))
     loaded n true e = inr refl
     loaded n false e = inl (well_guarded c m n (outside_well c m.words (slice_index m.words.heap n) e))
 
@@ -151,8 +146,7 @@ load_stands c m x next more none at h = record { scan = λ s is. by x.scan more 
           next = omega arith;
           end = st.end;
           passed = λ f n le l. elim (cases_eq n z.next) [
-            | inl e ↦
-                rw (e ∙ is) (loaded next _ refl)
+            | inl e ↦ rw (e ∙ is) (loaded next _ refl)
             | inr ne ↦ inl (old n (st.passed f n le (omega arith)))
           ];
         }

@@ -120,14 +120,12 @@ looks c n _ x fits h = record { seen = λ s e. cc; page = h.page; end = h.end }
 
 -- where a marker steps that finds n
 pub marker_fits_behind : (c : Config) (n : ℕ) (s : Step) (x : Marker)
-    → ((p : ℕ) → s ≡ step.Mlook (word.Head p) → RunFits c p n)
-    → ((p i : ℕ) → s ≡ step.Claim p i → p < c.pages)
+    → ((p : ℕ) → s ≡ step.Mlook (word.Head p) → RunFits c p n) → ((p i : ℕ) → s ≡ step.Claim p i → p < c.pages)
     → marker_may c x s ≡ true → MarkerFits c x → MarkerFits c (marker_behind c n s x)
 marker_fits_behind c n step.Attend x looked claimed m h = nothing_fits c _ refl refl
 marker_fits_behind c n step.Quit x looked claimed m h = nothing_fits c _ refl refl
 marker_fits_behind c n (step.Mlook w) x looked claimed m h = looks c n w x (λ p e. looked p (rw e)) h
-marker_fits_behind c n (step.Claim p i) x looked claimed m h =
-    claims c p i n x (claimed p i refl)
+marker_fits_behind c n (step.Claim p i) x looked claimed m h = claims c p i n x (claimed p i refl)
     (and_parts (is_attending x.presence && is_none x.scan) (has_seen_cell x.seen p i) m).1 h
 marker_fits_behind c n step.Mload x looked claimed m h = loads c _ x h
 marker_fits_behind c n step.Mmark x looked claimed m h = record { seen = h.seen; page = h.page; end = h.end }

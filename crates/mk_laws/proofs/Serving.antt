@@ -1,22 +1,61 @@
 -- The steps of a New and of a Free on the terrain: `head`, `used`, `mark`.
-use Rattle.mk_laws.proofs.Vocabulary.{Among, AsChosen, AsUsed, Bool, ByFit, Chosen, Claim, Config, Empties, GivesBack}
-use Rattle.mk_laws.proofs.Vocabulary.{Granted, Ground, HasLayout, InPlot, IsClaimedRun, IsLaidOn, IsNextHeader}
-use Rattle.mk_laws.proofs.Vocabulary.{IsPlaced, IsPlotShown, IsSized, LayoutScene, List, Object, Option, Place, Placing}
-use Rattle.mk_laws.proofs.Vocabulary.{Plotted, RunPages, RunStands, Some, Unplaced, Used, World, [], ap, append-nil}
-use Rattle.mk_laws.proofs.Vocabulary.{arith, cells_made, chosen, claims_of, claims_on, claims_placed, false, fewer_bits}
-use Rattle.mk_laws.proofs.Vocabulary.{ground_of, header_at, header_made, inl, inr, is_released_in, is_used_once}
-use Rattle.mk_laws.proofs.Vocabulary.{layout_scene_of, length, not, pages_made, pages_some, place_claim, plot_of, refl}
-use Rattle.mk_laws.proofs.Vocabulary.{small_pages, subst, sym, true, unmapped_header, used_at, ℕ, ◌++◌, ◌+◌, ◌-◌, ◌<◌}
-use Rattle.mk_laws.proofs.Vocabulary.{◌∙◌, ◌∷◌, ◌≡◌, ◌≢◌, ◌≤◌}
+use Rattle.mk_laws.proofs.Vocabulary.{Among, AreApart, AsChosen, AsUsed, Bool, ByFit, Chosen, Claim, Config, Empties}
+use Rattle.mk_laws.proofs.Vocabulary.{GivesBack, Granted, Ground, HasLayout, InPlot, IsClaimedRun, IsLaidOn}
+use Rattle.mk_laws.proofs.Vocabulary.{IsNextHeader, IsOfOneCell, IsPlaced, IsPlotShown, IsSized, LayoutScene, List}
+use Rattle.mk_laws.proofs.Vocabulary.{Object, Option, Place, Placing, Plotted, RunPages, RunStands, Some, Unplaced}
+use Rattle.mk_laws.proofs.Vocabulary.{Used, World, [], ap, append-nil, arith, cells_made, chosen, claims_of, claims_on}
+use Rattle.mk_laws.proofs.Vocabulary.{claims_placed, false, fewer_bits, ground_of, header_at, header_made, inl, inr}
+use Rattle.mk_laws.proofs.Vocabulary.{is_released_in, is_used_once, layout_scene_of, length, not, pages_made}
+use Rattle.mk_laws.proofs.Vocabulary.{pages_some, place_claim, plot_of, refl, small_pages, subst, sym, true}
+use Rattle.mk_laws.proofs.Vocabulary.{unmapped_header, used_at, ℕ, ◌++◌, ◌+◌, ◌-◌, ◌<◌, ◌∙◌, ◌∷◌, ◌≡◌, ◌≢◌, ◌≤◌, ◌⊎◌}
 use Rattle.mk_core.proofs.PageSteps.{Unmaps}
 use Rattle.mk_core.proofs.ServingSteps.{IsCellTaken}
 use Rattle.mk_core.proofs.Sizes.{cells_some}
 use Rattle.mk_laws.proofs.Fits.{FitsOnFreePages, fits}
-use Rattle.mk_laws.proofs.LayoutJoined.{among_back, among_front}
-use Rattle.mk_laws.proofs.PageSets.{with_header_on, with_used_on}
+use Rattle.mk_laws.proofs.Releasing.{with_header_on, with_used_on, layout_emptied, layout_given_back}
 use Rattle.mk_laws.proofs.Placing.{layout_carved, layout_chosen, layout_taken}
-use Rattle.mk_laws.proofs.Releasing.{layout_emptied, layout_given_back}
 use Rattle.mk_laws.proofs.Unmapping.{layout_page_unmapped}
+
+-- Lists of claims that are joined.
+
+pub among_front : (xs ys : List Claim) (x : Claim) → Among x xs → Among x (xs ++ ys)
+among_front [] ys x i = absurd i
+among_front (z ∷ zs) ys x (inl e) = inl e
+among_front (z ∷ zs) ys x (inr i) = inr (among_front zs ys x i)
+
+pub among_back : (xs ys : List Claim) (x : Claim) → Among x ys → Among x (xs ++ ys)
+among_back [] ys x i = i
+among_back (z ∷ zs) ys x i = inr (among_back zs ys x i)
+
+pub among_parts : (xs ys : List Claim) (x : Claim) → Among x (xs ++ ys) → Among x xs ⊎ Among x ys
+among_parts [] ys x i = inr i
+among_parts (z ∷ zs) ys x (inl e) = inl (inl e)
+among_parts (z ∷ zs) ys x (inr i) = elim (among_parts zs ys x i) [ inl j ↦ inl (inr j) | inr j ↦ inr j ]
+
+pub apart_left : (xs ys : List Claim) → AreApart (xs ++ ys) → AreApart xs
+apart_left [] ys apart = tt
+apart_left (z ∷ zs) ys apart = (λ y i. apart.0 y (among_front zs ys y i), apart_left zs ys apart.1)
+
+pub apart_right : (xs ys : List Claim) → AreApart (xs ++ ys) → AreApart ys
+apart_right [] ys apart = apart
+apart_right (z ∷ zs) ys apart = apart_right zs ys apart.1
+
+pub apart_across : (xs ys : List Claim) (x y : Claim) → AreApart (xs ++ ys) → Among x xs → Among y ys → IsOfOneCell x y
+    → ⊥
+apart_across [] ys x y apart ix iy same = ix
+apart_across (z ∷ zs) ys x y apart (inl e) iy same = apart.0 y (among_back zs ys y iy) (
+  rw (← e) same.0,
+  rw (← e) same.1,
+)
+apart_across (z ∷ zs) ys x y apart (inr i) iy same = apart_across zs ys x y apart.1 i iy same
+
+pub apart_joined : (xs ys : List Claim) → AreApart xs → AreApart ys
+    → ((x y : Claim) → Among x xs → Among y ys → IsOfOneCell x y → ⊥) → AreApart (xs ++ ys)
+apart_joined [] ys ax ay across = ay
+apart_joined (z ∷ zs) ys ax ay across = (
+  λ y i same. elim (among_parts zs ys y i) [ inl j ↦ ax.0 y j same | inr j ↦ across z y (inl refl) j same ],
+  apart_joined zs ys ax.1 ay (λ x y ix. across x y (inr ix)),
+)
 
 -- a terrain that is laid out, with the marks of this world
 abbrev pub Laid : Config → Object → Bool → World → Ground → Type 0
@@ -83,8 +122,7 @@ chosen_free c o releasing w place st is sized fit =
     let was = placed_as c o releasing w (ground_of w) Unplaced is st in
     record {
       scene = layout_chosen (layout_scene_of c o releasing w.now.words.marks (record (ground_of w) {
-        placing =
-            Unplaced;
+        placing = Unplaced;
       })) place.page o was.scene refl sized fit.within fit.free;
       gone = st.gone;
       first = fit.index;
@@ -184,8 +222,7 @@ taken_at c o releasing w placing place p n st none next sized index within plot 
     let s : LayoutScene = layout_scene_of c o releasing w.now.words.marks (ground_of w) in
     let was : IsLaidOn (record s { claims = xs ++ []; plot = plot_of o placing }) = rw none at st.scene in
     record {
-      scene =
-          rw next.at (rw (no_claims xs (place_claim o place)) at
+      scene = rw next.at (rw (no_claims xs (place_claim o place)) at
           (layout_taken (record s { claims = xs ++ []; plot = plot_of o placing }) (place_claim o place) n was (record {
             sized = sized;
             mapped = refl;

@@ -57,12 +57,7 @@ settled_rests c w limits len laid s = by w.now.seats.holding.placing refl s.plac
         → claims_of c None w.allocations ++ claims_placed (object_now c w.now) placing ≡ claims_of c None w.allocations
         → Rests c w.now.words w.allocations
     rests placing st plot claims =
-        record {
-          limits = limits;
-          lengths = len;
-          laid = rw claims at (rw plot at st.scene);
-          cells = st.cells;
-        }
+        record { limits = limits; lengths = len; laid = rw claims at (rw plot at st.scene); cells = st.cells }
 
     at : (placing : Placing) → w.now.seats.holding.placing ≡ placing
         → Laid c (object_now c w.now) false w (record (ground_of w) { run = None; placing = placing })
@@ -75,8 +70,7 @@ settled_rests c w limits len laid s = by w.now.seats.holding.placing refl s.plac
     by _ is out = cc
 
 pub headers_stand : HeadersStand
-headers_stand c es limits laid s =
-    pages_stand c (left c es).now.words (left c es).allocations
+headers_stand c es limits laid s = pages_stand c (left c es).now.words (left c es).allocations
     (settled_rests c (left c es) limits (histories_keep_lengths c es).pages laid s)
 
 pub first_fit_is_the_place : FirstFitIsThePlace

@@ -1,27 +1,210 @@
 -- What is fresh and what is in the snapshot, after each kind of event.
-use Rattle.mk_laws.proofs.Vocabulary.{Among, Bool, Cell, Config, Flight, IsQuarantined, KeepsSnapshot, LayoutStands}
-use Rattle.mk_laws.proofs.Vocabulary.{Object, PlacedAllocation, Placing, Seat, Step, Used, World, [], all_below}
-use Rattle.mk_laws.proofs.Vocabulary.{all_below-at, and_parts, ap, arith, cases_Bool, cell_of_allocation, changed_at}
-use Rattle.mk_laws.proofs.Vocabulary.{claims_of, claims_placed, eqb-true, false, false_from_ne_true, flight_of, granted}
-use Rattle.mk_laws.proofs.Vocabulary.{granted_base_is, granted_object, ground_of, has_bit, has_bit_of, has_clean_page}
-use Rattle.mk_laws.proofs.Vocabulary.{inl, inr, is_cycling, is_phase, is_undecided_new, is_used_once, length, map}
-use Rattle.mk_laws.proofs.Vocabulary.{no_longer_fresh, not, object_now, object_placed, pages_made, pages_some, phase_of}
-use Rattle.mk_laws.proofs.Vocabulary.{place_claim, placed_at, refl, released_leaves, slice_index, sym, true, true≢false}
-use Rattle.mk_laws.proofs.Vocabulary.{with_released, ℕ, ◌&&◌, ◌++◌, ◌+◌, ◌/◌, ◌<◌, ◌==◌, ◌∙◌, ◌∷◌, ◌≡◌, ◌≤◌, ◌⊎◌}
-use Rattle.mk_laws.proofs.Basics.{Before, Meets, WorldBehind, all_stand, apart_left, grants_new, holding_object}
-use Rattle.mk_laws.proofs.Basics.{new_has_turn, placed_claim, reg_leaves_ground, releasing_leaves, tally_ground}
-use Rattle.mk_core.specs.StopConditions.{may_begin}
+use Rattle.mk_laws.proofs.Vocabulary.{Among, Bool, Cell, Config, Drops, Flight, Ground, HasQuarantine, IsQuarantined}
+use Rattle.mk_laws.proofs.Vocabulary.{ItDrops, ItFrees, ItTakesSnapshot, KeepsSnapshot, LayoutStands, List, None}
+use Rattle.mk_laws.proofs.Vocabulary.{Object, Option, PlacedAllocation, Placing, QuarantineStep, Seat, Some, Step, Used}
+use Rattle.mk_laws.proofs.Vocabulary.{World, [], all_below, all_below-at, and_parts, ap, arith, cases_Bool, cell_freed}
+use Rattle.mk_laws.proofs.Vocabulary.{cell_of_allocation, changed_at, claims_of, claims_placed, eqb-true, false}
+use Rattle.mk_laws.proofs.Vocabulary.{false_from_ne_true, fewer_bits, first_word, flight_of, freed_cell, freed_leaves}
+use Rattle.mk_laws.proofs.Vocabulary.{freed_where_it_stands, granted, granted_base_is, granted_object, ground_of}
+use Rattle.mk_laws.proofs.Vocabulary.{has_bit, has_bit_of, has_clean_page, if◌then◌else◌, inl, inr, is_cycling}
+use Rattle.mk_laws.proofs.Vocabulary.{is_phase, is_undecided_new, is_used_once, length, ltb-true, map, no_longer_fresh}
+use Rattle.mk_laws.proofs.Vocabulary.{none_freed, not, not-true, object_now, object_placed, pages_made, pages_some}
+use Rattle.mk_laws.proofs.Vocabulary.{phase_of, place_claim, placed_at, quarantine_step, refl, released_leaves}
+use Rattle.mk_laws.proofs.Vocabulary.{set-get_or, slice_index, slice_set, stands_in, sym, true, true≢false}
+use Rattle.mk_laws.proofs.Vocabulary.{with_released, ℕ, ◌%◌, ◌&&◌, ◌++◌, ◌+◌, ◌-◌, ◌/◌, ◌<◌, ◌==◌, ◌^◌, ◌∙◌, ◌∷◌, ◌≡◌}
+use Rattle.mk_laws.proofs.Vocabulary.{◌≤◌, ◌⊎◌}
+use Rattle.mk_laws.proofs.Basics.{Before, LeavesCells, Meets, WorldBehind, all_stand, apart_left, bit_cases}
+use Rattle.mk_laws.proofs.Basics.{freeing_leaves, grants_new, holding_object, new_has_turn, placed_claim, reg_leaves}
+use Rattle.mk_laws.proofs.Basics.{reg_leaves_ground, releasing_leaves, tally_ground, tally_keeps}
 use Rattle.mk_core.specs.declared.events.Step.TheVariants as step
 use Rattle.mk_laws.specs.Quarantine.{HasSnapshot}
+use Rattle.mk_laws.proofs.QuarantineByKind.{frees_here, frees_some, shown_at}
+use Rattle.mk_laws.proofs.QuarantineChanges.{FreesHere, before_change, free_halves}
+use Rattle.mk_laws.proofs.QuarantineSteps.{and_both}
+use Rattle.mk_laws.proofs.Behind.{over_phase}
+use Rattle.mk_core.specs.StopConditions.{may_begin}
 use Rattle.mk_laws.proofs.LayoutByKind.{fresh_cells, off_at}
-use Rattle.mk_laws.proofs.Cycling.{cycle_kind, is_cycling_behind}
 use Rattle.mk_laws.proofs.Granted.{pushed_any, pushed_at}
 use Rattle.mk_laws.proofs.OneCell.{numbers_apart}
-use Rattle.mk_laws.proofs.QuarantineByKind.{shown_at}
-use Rattle.mk_laws.proofs.QuarantineChanges.{before_change}
 use Rattle.mk_laws.proofs.Released.{left_is}
-use Rattle.mk_laws.proofs.SnapshotFrees.{snapshot_of_quar, unset_in_snapshot}
 use Rattle.mk_laws.proofs.StandingClaims.{place_index}
+
+-- What is fresh and what is in the snapshot, after a `quar`.
+
+-- the snapshot's bit of an allocation whose freed bit isn't set
+pub unset_in_snapshot : (c : Config) (releasing : Bool) (marks : List ℕ) (t : Ground) (p k : ℕ)
+    → HasQuarantine c releasing marks t → has_bit (slice_index t.freed p) k ≡ false
+    → has_bit (slice_index t.snapshot p) k ≡ false
+unset_in_snapshot c releasing marks t p k q out =
+    false_from_ne_true (has_bit (slice_index t.snapshot p) k) (λ h. true≢false (sym (q.within p k h) ∙ out))
+
+-- `quar` (c): no unreleased allocation's bit goes
+dropped_bits : (c : Config) (w : World) (p f n i : ℕ) → p < length w.now.words.snapshot
+    → HasQuarantine c true w.now.words.marks (ground_of w) → Drops w.now.words p f n
+    → (placed_at w.allocations i).released ≡ false
+    → has_bit_of c (slice_set w.now.words.snapshot p n) (placed_at w.allocations i)
+    ≡ has_bit_of c w.now.words.snapshot (placed_at w.allocations i)
+dropped_bits c w p f n i ls q d u = elim (bit_cases w.now.words.snapshot p n x.page x.index ls) [
+  | inr other ↦ other.1
+  | inl here ↦ here.1 ∙ same here.0 (cases_Bool (has_bit n x.index))
+      (cases_Bool (has_bit (slice_index w.now.words.snapshot x.page) x.index))
+]
+  where
+    x : Cell
+    x = cell_of_allocation c (placed_at w.allocations i)
+
+    same : (cell_of_allocation c (placed_at w.allocations i)).page ≡ p
+        → (has_bit n (cell_of_allocation c (placed_at w.allocations i)).index ≡ true)
+        ⊎ (has_bit n (cell_of_allocation c (placed_at w.allocations i)).index ≡ false)
+        → (has_bit_of c w.now.words.snapshot (placed_at w.allocations i) ≡ true)
+        ⊎ (has_bit_of c w.now.words.snapshot (placed_at w.allocations i) ≡ false)
+        → has_bit n (cell_of_allocation c (placed_at w.allocations i)).index
+        ≡ has_bit_of c w.now.words.snapshot (placed_at w.allocations i)
+    same at (inl a) (inl b) = a ∙ sym b
+    same at (inr a) (inr b) = a ∙ sym b
+    same at (inl a) (inr b) =
+        let was = fewer_bits n (slice_index w.now.words.snapshot p) x.index d.fewer a in
+        absurd (true≢false (sym (ap (λ j. has_bit (slice_index w.now.words.snapshot j) x.index) at ∙ was) ∙ b))
+    same at (inr a) (inl b) =
+        let lost = d.gone x.index (rw (← at) b) a in
+        let released = and_both (has_bit (slice_index w.now.words.snapshot x.page) x.index)
+        (has_bit (slice_index w.now.words.marks x.page) x.index) b
+        (ap (λ j. has_bit (slice_index w.now.words.marks j) x.index) at ∙ lost.0) in
+        absurd (true≢false (sym released ∙ q.kept refl i u))
+
+cycling_at : (w : World) (n : ℕ) → is_phase w.now.words n ≡ true → is_cycling n ≡ false
+    → is_cycling (phase_of w.now.words) ≡ true → ⊥
+cycling_at w n at none on = true≢false (sym on ∙ rw (eqb-true (phase_of w.now.words) n at) none)
+
+quar_none : (c : Config) (w : World) (f : Flight) (p n : ℕ) → p < length w.now.words.snapshot
+    → cell_freed c.pages w.now.words f p n ≡ None → QuarantineStep c w.now f p n → IsQuarantined c w → KeepsSnapshot c w
+    → HasSnapshot c (is_cycling (phase_of w.now.words)) (slice_set w.now.words.snapshot p (n / 2 ^ 32)) w.allocations
+quar_none c w f p n ls none (ItFrees off x) q s = absurd (frees_some c.pages w.now.words f p n off x none)
+quar_none c w f p n ls none (ItTakesSnapshot x) q s =
+    record { fresh = s.fresh; quarantined = λ on. absurd (cycling_at w 0 x.phase refl on) }
+quar_none c w f p n ls none (ItDrops four x) q s =
+    record {
+      fresh = s.fresh;
+      quarantined = λ on i u.
+          dropped_bits c w p (n % 2 ^ 32) (n / 2 ^ 32) i ls (rw four at q) x u ∙ s.quarantined on i u;
+    }
+
+quar_frees : (c : Config) (w : World) (cell : Cell) (n : ℕ) → FreesHere c w cell n
+    → HasQuarantine c false w.now.words.marks (ground_of w) → KeepsSnapshot c w
+    → HasSnapshot c (is_cycling (phase_of w.now.words)) (slice_set w.now.words.snapshot cell.page (n / 2 ^ 32))
+    (map (freed_where_it_stands w.now.words (Some cell)) w.allocations)
+quar_frees c w cell n x q s = rw same (record {
+  fresh = λ i f. fresh i (stands_in w.now.words cell (placed_at w.allocations i)) refl f;
+  quarantined = λ on i u.
+      let b = before_change c (freed_where_it_stands w.now.words (Some cell)) w.allocations i leaves u in
+      ap (λ (y : Cell). has_bit (slice_index w.now.words.snapshot y.page) y.index) b.cell
+      ∙ bit on i b.was (stands_in w.now.words cell (placed_at w.allocations i)) refl ∙ sym (rw (at i));
+})
+  where
+    leaves : LeavesCells (freed_where_it_stands w.now.words (Some cell))
+    leaves = freeing_leaves w.now.words (Some cell)
+
+    same : slice_set w.now.words.snapshot cell.page (n / 2 ^ 32) ≡ w.now.words.snapshot
+    same = rw (free_halves c w cell n x q).1 (set-get_or w.now.words.snapshot cell.page 0)
+
+    at : (i : ℕ) → placed_at (map (freed_where_it_stands w.now.words (Some cell)) w.allocations) i
+        ≡ freed_where_it_stands w.now.words (Some cell) (placed_at w.allocations i)
+    at i = changed_at (freed_where_it_stands w.now.words (Some cell)) w.allocations i
+        (freed_leaves w.now.words (Some cell)).none
+
+    fresh_by : (b : Bool) (a : PlacedAllocation) → (b ≡ true → a.released ≡ false)
+        → (a.fresh ≡ true → (a.freed ≡ true) × (a.released ≡ false))
+        → (if b then record a { freed = true; fresh = true } else a).fresh ≡ true
+        → ((if b then record a { freed = true; fresh = true } else a).freed ≡ true)
+        × ((if b then record a { freed = true; fresh = true } else a).released ≡ false)
+    fresh_by true a u was f = (refl, u refl)
+    fresh_by false a u was f = was f
+
+    fresh : (i : ℕ) (b : Bool) → stands_in w.now.words cell (placed_at w.allocations i) ≡ b
+        → (placed_at (map (freed_where_it_stands w.now.words (Some cell)) w.allocations) i).fresh ≡ true
+        → ((placed_at (map (freed_where_it_stands w.now.words (Some cell)) w.allocations) i).freed ≡ true)
+        × ((placed_at (map (freed_where_it_stands w.now.words (Some cell)) w.allocations) i).released ≡ false)
+    fresh i b is f =
+        let a : PlacedAllocation = placed_at w.allocations i in
+        let r = fresh_by (stands_in w.now.words cell a) a
+        (λ e. not-true a.released (and_parts (not a.released) (a.base == first_word w.now.words cell) e).0) (s.fresh i)
+        (rw (← (at i)) f) in
+        (rw (at i) r.0, rw (at i) r.1)
+
+    bit : is_cycling (phase_of w.now.words) ≡ true → (i : ℕ) → (placed_at w.allocations i).released ≡ false → (b : Bool)
+        → stands_in w.now.words cell (placed_at w.allocations i) ≡ b
+        → has_bit_of c w.now.words.snapshot (placed_at w.allocations i)
+        ≡ ((freed_where_it_stands w.now.words (Some cell) (placed_at w.allocations i)).freed
+        && not (freed_where_it_stands w.now.words (Some cell) (placed_at w.allocations i)).fresh)
+    bit on i u true is =
+        let a : PlacedAllocation = placed_at w.allocations i in
+        ap (λ (y : Cell). has_bit (slice_index w.now.words.snapshot y.page) y.index) (x.others i u is)
+        ∙ unset_in_snapshot c false w.now.words.marks (ground_of w) cell.page cell.index q x.unset ∙ sym (rw is)
+    bit on i u false is =
+        let a : PlacedAllocation = placed_at w.allocations i in
+        s.quarantined on i u ∙ sym (rw is)
+
+pub snapshot_of_quar : (c : Config) (w : World) (seat : Seat) (p n : ℕ) → Before c w
+    → Meets c w.now seat (step.Quar p n) → LayoutStands c w → IsQuarantined c w → KeepsSnapshot c w
+    → HasSnapshot c (is_cycling (phase_of w.now.words)) (slice_set w.now.words.snapshot p (n / 2 ^ 32))
+    (map (freed_where_it_stands w.now.words (cell_freed c.pages w.now.words (flight_of w.now seat) p n)) w.allocations)
+snapshot_of_quar c w seat p n b h laid q s = by (cell_freed c.pages w.now.words (flight_of w.now seat) p n) refl
+  where
+    ls : p < length w.now.words.snapshot
+    ls = let lt = ltb-true p c.pages h.range in let len = b.lengths.snapshot in omega arith
+
+    by : (cell : Option Cell) → cell_freed c.pages w.now.words (flight_of w.now seat) p n ≡ cell
+        → HasSnapshot c (is_cycling (phase_of w.now.words)) (slice_set w.now.words.snapshot p (n / 2 ^ 32))
+        (map (freed_where_it_stands w.now.words cell) w.allocations)
+    by None is = rw (none_freed w.now.words w.allocations)
+        (quar_none c w (flight_of w.now seat) p n ls is (quarantine_step c w.now (flight_of w.now seat) p n h.holder) q
+        s)
+    by (Some cell) is =
+        let x = freed_cell c.pages w.now.words (flight_of w.now seat) p n cell is in
+        rw x.page (quar_frees c w cell n (frees_here c w seat p n cell b h laid x) (rw x.phase at q) s)
+
+-- Whether the phase is one of a cycle's, after each kind of event.
+
+-- whether the phase is one of a cycle's after a step
+abbrev pub is_cycling_behind : Step → Bool → Bool
+is_cycling_behind step.Begin b = true
+is_cycling_behind step.End b = false
+is_cycling_behind _ b = b
+
+to_phase : (n m p q : ℕ) → n % 8 ≡ p → m % 8 ≡ q → is_cycling p ≡ is_cycling q → is_cycling (n % 8) ≡ is_cycling (m % 8)
+to_phase n m p q en em same = rw en (same ∙ sym (rw em))
+
+pub cycle_kind : (c : Config) (w : World) (seat : Seat) (x : Step) → Meets c w.now seat x
+    → is_cycling (phase_of (WorldBehind c w seat x).now.words) ≡ is_cycling_behind x (is_cycling (phase_of w.now.words))
+cycle_kind c w seat step.Reg h = ap (λ n. is_cycling (n % 8)) (reg_leaves c w seat).phase
+cycle_kind c w seat (step.Tally n v) h = ap (λ m. is_cycling (m % 8)) (tally_keeps w.now.words n v).phase
+cycle_kind c w seat step.Begin h =
+    let e = eqb-true (w.now.words.phase % 8) 0 h.phase in
+    let f : (w.now.words.phase + 1) % 2 ^ 64 % 8 ≡ 1 = omega arith in
+    ap (λ k. is_cycling k) f
+cycle_kind c w seat step.Want h =
+    let e = eqb-true (w.now.words.phase % 8) 1 h.phase in
+    to_phase ((w.now.words.phase + 1) % 2 ^ 64) w.now.words.phase 2 1 (omega arith) e refl
+cycle_kind c w seat step.Close h =
+    let e = eqb-true (w.now.words.phase % 8) 2 h.phase in
+    to_phase ((w.now.words.phase + 1) % 2 ^ 64) w.now.words.phase 3 2 (omega arith) e refl
+cycle_kind c w seat step.Release h =
+    let e = eqb-true (w.now.words.phase % 8) 3 h.phase in
+    to_phase ((w.now.words.phase + 1) % 2 ^ 64) w.now.words.phase 4 3 (omega arith) e refl
+cycle_kind c w seat step.End h =
+    let e = eqb-true (w.now.words.phase % 8) 4 h.phase in
+    let f : (w.now.words.phase + (2 ^ 64 - 4)) % 2 ^ 64 % 8 ≡ 0 = omega arith in
+    ap (λ k. is_cycling k) f
+cycle_kind c w seat step.Attend h =
+    let f : (w.now.words.phase + 8) % 2 ^ 64 % 8 ≡ w.now.words.phase % 8 = omega arith in
+    ap (λ k. is_cycling k) f
+cycle_kind c w seat step.Quit h =
+    let f : (w.now.words.phase + (2 ^ 64 - 8)) % 2 ^ 64 % 8 ≡ w.now.words.phase % 8 = omega arith in
+    ap (λ k. is_cycling k) f
+cycle_kind c w seat step.Over h =
+    let e = over_phase c w seat h in
+    to_phase ((w.now.words.phase + 5) % 2 ^ 64) w.now.words.phase 5 0 (omega arith) e refl
+cycle_kind c w seat _ h = refl
 
 -- `begin`: what is freed is in the snapshot, and nothing is fresh
 begin_kind : (c : Config) (w : World) → Before c w → is_phase w.now.words 0 ≡ true
@@ -66,8 +249,7 @@ begin_kind c w b quiet own laid q =
         (λ h. elim (q.owned x.page x.index (q.within x.page x.index h)) [
           | inr r ↦ true≢false (sym r ∙ rw (off_at w 0 quiet (λ e. absurd (omega arith))))
           | inl o ↦
-              let one =
-              numbers_apart c w.now.seats.holding.freed w.allocations o.number i
+              let one = numbers_apart c w.now.seats.holding.freed w.allocations o.number i
               (apart_left (claims_of c w.now.seats.holding.freed w.allocations)
               (claims_placed (object_now c w.now) w.now.seats.holding.placing) laid.scene.apart)
               o.unreleased u (ap (λ (y : Cell). y.page) o.cell, ap (λ (y : Cell). y.index) o.cell) in
@@ -87,11 +269,9 @@ grant_kind c w seat b h laid q s =
         | inr new ↦ absurd (true≢false (sym f ∙ rw new))
       ];
       quarantined = λ on i u. elim (pushed_at w.allocations a i u) [
-        | inl old ↦
-            ap (λ (x : PlacedAllocation). has_bit_of c w.now.words.snapshot x) old.1 ∙ s.quarantined on i old.0
+        | inl old ↦ ap (λ (x : PlacedAllocation). has_bit_of c w.now.words.snapshot x) old.1 ∙ s.quarantined on i old.0
             ∙ sym (ap (λ (x : PlacedAllocation). x.freed && not x.fresh) old.1)
-        | inr new ↦
-            ap (λ (x : PlacedAllocation). has_bit_of c w.now.words.snapshot x) new
+        | inr new ↦ ap (λ (x : PlacedAllocation). has_bit_of c w.now.words.snapshot x) new
             ∙ outside w.now.seats.holding.placing refl h.holder
             ∙ sym (ap (λ (x : PlacedAllocation). x.freed && not x.fresh) new)
       ];
@@ -113,8 +293,7 @@ grant_kind c w seat b h laid q s =
         ∙ sym made in
         let base = granted_base_is c f w.now.seats.holding.placing place is ∙ rw (← made) in
         let there : Among (place_claim o place) (claims_placed o w.now.seats.holding.placing) = rw is (inl refl) in
-        let shown =
-        (rw own at laid).scene.shown
+        let shown = (rw own at laid).scene.shown
         (place_claim o place) (placed_claim c o (ground_of w) (place_claim o place) there) in
         let cell = place_index c a place shown.sized base shown.known in
         rw cell.0 (rw cell.1
@@ -124,8 +303,7 @@ grant_kind c w seat b h laid q s =
 
 -- `release`: what is fresh isn't released
 release_kind : (c : Config) (w : World) → Before c w → is_phase w.now.words 3 ≡ true → LayoutStands c w
-    → KeepsSnapshot c w
-    → HasSnapshot c (is_cycling (phase_of w.now.words)) w.now.words.snapshot
+    → KeepsSnapshot c w → HasSnapshot c (is_cycling (phase_of w.now.words)) w.now.words.snapshot
     (map (with_released c w.now.words) w.allocations)
 release_kind c w b three laid s =
     record {

@@ -92,8 +92,7 @@ module _ (c : Config) (es : List Event) (h : IsHistory c es) (begin : At is_begi
 
   snapshot_is : (i : ℕ) → (placed_at w.allocations i).released ≡ false
       → has_bit_of c w.now.words.snapshot (placed_at w.allocations i) ≡ is_quarantined (placed_at olds i)
-  snapshot_is =
-      snapshot_is_the_cycles c es h begin (either_kind begin.behind none).0
+  snapshot_is = snapshot_is_the_cycles c es h begin (either_kind begin.behind none).0
       (unreleased_cycles (phase_of w.now.words) phase).0
 
   put_quarantined : (i : ℕ) → is_quarantined (placed_at olds i) ≡ true
@@ -116,8 +115,7 @@ module _ (c : Config) (es : List Event) (h : IsHistory c es) (begin : At is_begi
   pub told : SnapshotTells c begin
   told =
       record {
-        has = λ i q.
-            ap (λ (x : Cell). is_in_snapshot w.now.words x) (sym (same_cell i q))
+        has = λ i q. ap (λ (x : Cell). is_in_snapshot w.now.words x) (sym (same_cell i q))
             ∙ snapshot_is i (put_quarantined i q).unreleased ∙ q;
         is = λ cell bit.
             let known = known_world c es h.within_limits h.enabled in

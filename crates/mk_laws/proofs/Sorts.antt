@@ -1,26 +1,169 @@
 -- Each enabled event is one of the moves of the protocol.
-use Rattle.mk_laws.proofs.Vocabulary.{Bool, Caller, Config, Flight, Holding, Host, Marker, Moment, Named, None, Op}
-use Rattle.mk_laws.proofs.Vocabulary.{Seat, Some, Step, Store, accessed, and_parts, at_rest, begun, cases_eq, chosen}
-use Rattle.mk_laws.proofs.Vocabulary.{eq-eqb, eqb-false, eqb-true, false, flight_of, holder_number, host_has_turn}
-use Rattle.mk_laws.proofs.Vocabulary.{if◌then◌else◌, inl, inr, is_phase, is_under_turn, marks_place, ne_eqb, not-true}
-use Rattle.mk_laws.proofs.Vocabulary.{nothing_done, object_made, phase_of, place_now, progress, refl, set-get_or}
-use Rattle.mk_laws.proofs.Vocabulary.{slice_index, slice_set, still, subst, sym, taken, tally_word, true, ℕ, ◌+◌, ◌<◌}
-use Rattle.mk_laws.proofs.Vocabulary.{◌==◌, ◌≡◌, ◌≢◌}
+use Rattle.std.proofs.lemmas.Bool.{not_from_true}
+use Rattle.mk_laws.proofs.Vocabulary.{Bool, Caller, Config, Event, Flight, Holding, Host, List, Marker, Moment, Named}
+use Rattle.mk_laws.proofs.Vocabulary.{None, Op, Seat, Some, Step, Store, access, accessed, and_parts, ap, at_rest}
+use Rattle.mk_laws.proofs.Vocabulary.{begun, cases_Bool, cases_eq, chosen, eq-eqb, eqb-false, eqb-true, false}
+use Rattle.mk_laws.proofs.Vocabulary.{flight_of, found, group_of, header_of, holder_number, host_has_turn}
+use Rattle.mk_laws.proofs.Vocabulary.{if◌then◌else◌, inl, inr, is_attending, is_in, is_phase, is_under_turn}
+use Rattle.mk_laws.proofs.Vocabulary.{is_unmapped_header, marker_of, marks_place, ne_eqb, not-true, nothing_done}
+use Rattle.mk_laws.proofs.Vocabulary.{object_made, onward, phase_of, place_now, progress, progress_reg, refl, refused}
+use Rattle.mk_laws.proofs.Vocabulary.{reg_access, register_met, set-get_or, slice_index, slice_set, stage_behind}
+use Rattle.mk_laws.proofs.Vocabulary.{steps_of, still, subst, sym, taken, tally_word, true, word_accessed, ℕ, ◌%◌, ◌+◌}
+use Rattle.mk_laws.proofs.Vocabulary.{◌<◌, ◌==◌, ◌∙◌, ◌≡◌, ◌≢◌}
+use Rattle.mk_core.specs.declared.events.Answer.TheVariants as answer
+use Rattle.mk_core.specs.declared.events.Group.TheVariants as group
 use Rattle.mk_core.specs.declared.events.Step.TheVariants as step
-use Rattle.mk_core.specs.declared.seats.Stage.TheVariants as stage
-use Rattle.mk_laws.proofs.Standings.{standing, is_astray}
-use Rattle.mk_laws.proofs.Stages.{begun_under_turn}
-use Rattle.mk_laws.proofs.Services.{Service, Goes, Fills, Grants}
-use Rattle.mk_laws.proofs.Views.{View, view_of, flight_in, flights_with, flight_is, HoldsTurn}
-use Rattle.mk_laws.proofs.ProtocolMoves.{Begins, Wants, Closes, Releases, Ends, Stops, Move, Stays, Takes, Gives, Works}
-use Rattle.mk_laws.proofs.ProtocolMoves.{Holds, Opens, Phases}
-use Rattle.mk_laws.proofs.Asked.{none_held, others_held, other_caller, give_phase, none_at, closing_alone}
+use Rattle.mk_laws.proofs.Standings.{Standing, Resting, InCall, UnderTurn, Astray, standing_at, standing, is_astray}
+use Rattle.mk_laws.proofs.Stages.{is_call_stage, is_reg_stage, goes_on, calls_stand, onward_stands, refused_stands}
+use Rattle.mk_laws.proofs.Stages.{regs_work, loads_under_turn, begun_in_call, read_stands, either_stands, reg_stands}
+use Rattle.mk_laws.proofs.Stages.{reg_no_new, begun_under_turn}
+use Rattle.mk_laws.proofs.NextSteps.{stage_of, has_stage_of_its_own, at_its_stage, at_reg, at_enter}
+use Rattle.mk_laws.proofs.Services.{Loads, Service, Goes, Fills, Grants}
+use Rattle.mk_laws.proofs.Views.{View, view_of, flight_in, gate_in, flights_with, flight_is, HoldsTurn}
+use Rattle.mk_laws.proofs.ProtocolMoves.{Move, Stays, Enters, GoesOn, Leaves, Works, Attends, Quits, Scans, Begins}
+use Rattle.mk_laws.proofs.ProtocolMoves.{Wants, Closes, Releases, Ends, Stops, Takes, Gives, Holds, Opens, Phases}
 use Rattle.mk_laws.proofs.Actors.{Meets, is_holders, Actor, InCallOf, AsMarker, CallTakes, HostTakes, AsHolder}
 use Rattle.mk_laws.proofs.Actors.{grants_new, fills_new}
+use Rattle.mk_laws.proofs.SameWords.{Moves, finds, reg_keeps, with_words, Behind, tally_keeps}
+use Rattle.mk_core.specs.declared.seats.Presence.TheVariants.{Visiting, Attending}
+use Rattle.mk_laws.proofs.IdleMarkers.{work_stays, work_idles}
+use Rattle.mk_core.specs.declared.seats.Stage.TheVariants as stage
+use Rattle.mk_laws.proofs.Asked.{none_held, others_held, other_caller, give_phase, none_at, closing_alone}
 use Rattle.mk_laws.proofs.HoldersSteps.{looks, chooses, takes, either_place, quarantines, full_unplaced}
-use Rattle.mk_laws.proofs.SameWords.{Behind, Moves, finds, tally_keeps, with_words}
-use Rattle.mk_laws.proofs.ProtocolCallMoves.{same_flight, call_moves}
-use Rattle.mk_laws.proofs.MarkerMoves.{marker_moves}
+
+-- Each step of a call outside the turn, and `reg`, is a move.
+
+-- a change of nothing
+
+pub same_flight : (v : View) (k : ℕ) → record v { flights = slice_set v.flights k (flight_in v k) } ≡ v
+same_flight v k = rw (set-get_or v.flights k at_rest)
+
+same_both : (v : View) (k : ℕ)
+    → record v { gates = slice_set v.gates k (gate_in v k); flights = slice_set v.flights k (flight_in v k) } ≡ v
+same_both v k =
+    rw (set-get_or v.flights k at_rest) (ap (λ (gs : List ℕ). record v { gates = gs }) (set-get_or v.gates k 0))
+
+-- a caller in its call
+
+abbrev entered : View → ℕ → Op → Bool → View
+entered v k o b =
+    record v {
+      gates = slice_set v.gates k (if b then 1 else gate_in v k);
+      flights = slice_set v.flights k
+          ((if b then record { flight = begun o; answer = None } else still (flight_in v k)).flight);
+    }
+
+enter_move : (c : Config) (m : Moment) (k : ℕ) (o : Op) → k < c.callers → standing (flight_of m (Caller k)) ≡ Resting
+    → is_under_turn o ≡ false → Moves c m (Caller k) (step.Enter o)
+enter_move c m k o lt was out = elim (cases_eq (slice_index m.words.gates k) 0) [
+  | inl z ↦ rw (eq-eqb (slice_index m.words.gates k) 0 z) (Enters (begun o) lt z was (begun_in_call o out))
+  | inr ne ↦ rw (ne_eqb (slice_index m.words.gates k) 0 ne) (rw (same_both (view_of m) k) Stays)
+]
+
+-- `reg`, in a call outside the turn or of a Free
+reg_move : (c : Config) (m : Moment) (k : ℕ) → k < c.callers → is_reg_stage (flight_of m (Caller k)).stage ≡ true
+    → is_astray (standing (flight_of m (Caller k))) ≡ false → Moves c m (Caller k) step.Reg
+reg_move c m k lt is a = with_words c (view_of m) (Caller k) m.words (accessed m.words (word_accessed c m e)
+    (access c m e)) _ m.seats.holding m.seats.markers
+    (reg_keeps m.words k (register_met f f.stage) (reg_access f f.stage))
+    (by (standing f) refl (reg_stands f.stage f.op f.q f.p f.r f.loaded (found c m e) is a))
+  where
+    e : Event
+    e = record { seat = Caller k; step = step.Reg }
+
+    f : Flight
+    f = flight_of m (Caller k)
+
+    g : Flight
+    g = (progress_reg (flight_of m (Caller k)) (flight_of m (Caller k)).stage
+        (found c m (record { seat = Caller k; step = step.Reg }))).flight
+
+    by : (s : Standing) → standing (flight_of m (Caller k)) ≡ s → standing g ≡ standing (flight_of m (Caller k))
+        → Move c (view_of m) (Caller k) (record (view_of m) { flights = slice_set m.seats.flights k g })
+    by Resting was same = absurd (regs_work (flight_of m (Caller k)).stage (flight_of m (Caller k)).op is was)
+    by InCall was same = GoesOn g lt was (same ∙ was)
+    by UnderTurn was same = Works g m.seats.holding (lt, was) (Loads g (loads_under_turn f.stage f.op is was) (same
+        ∙ was) (reg_no_new f.stage f.op f.q f.p f.r f.loaded (found c m e) is was))
+    by Astray was same = let y : true ≡ false = ap is_astray (sym was) ∙ a in cc
+
+-- the other steps of a call
+on : (c : Config) (m : Moment) (k : ℕ) (x : Step) → Meets c m (Caller k) x → has_stage_of_its_own x ≡ true
+    → is_call_stage (stage_of x) ≡ true → is_astray (standing (flight_of m (Caller k))) ≡ false
+    → standing (flight_of m (Caller k)) ≡ InCall
+on c m k x h own is a =
+    let f = flight_of m (Caller k) in
+    calls_stand f.stage f.op (ap is_call_stage (at_its_stage f.stage f.op x own h.order) ∙ is) a
+
+onward_from : (c : Config) (m : Moment) (k : ℕ) (x : Step) → Meets c m (Caller k) x → has_stage_of_its_own x ≡ true
+    → goes_on (stage_of x) ≡ true → standing (flight_of m (Caller k)) ≡ InCall
+    → standing_at (stage_behind (flight_of m (Caller k)).stage (steps_of (flight_of m (Caller k)).op))
+    (flight_of m (Caller k)).op ≡ InCall
+onward_from c m k x h own is was =
+    let f = flight_of m (Caller k) in
+    onward_stands f.stage f.op was (ap goes_on (at_its_stage f.stage f.op x own h.order) ∙ is)
+
+pub call_moves : (c : Config) (m : Moment) (k : ℕ) (x : Step) → k < c.callers → group_of x ≡ group.Callers
+    → is_astray (standing (flight_of m (Caller k))) ≡ false → Meets c m (Caller k) x → Moves c m (Caller k) x
+call_moves c m k (step.Enter o) lt g a h =
+    let s = at_enter (flight_of m (Caller k)).stage (flight_of m (Caller k)).op o h.order in
+    enter_move c m k o lt (rw s.0) s.1
+call_moves c m k step.Leave lt g a h = Leaves lt (on c m k step.Leave h refl refl a)
+call_moves c m k step.Reg lt g a h =
+    reg_move c m k lt (at_reg (flight_of m (Caller k)).stage (flight_of m (Caller k)).op h.order) a
+call_moves c m k step.Probe lt g a h =
+    let f = flight_of m (Caller k) in
+    let was = on c m k step.Probe h refl refl a in
+    GoesOn _ lt was
+    (either_stands (is_unmapped_header (header_of (finds c m (Caller k) step.Probe))) (refused f answer.Fault)
+    (onward f None) InCall (refused_stands f.stage f.op was) (onward_from c m k step.Probe h refl refl was))
+call_moves c m k step.Read lt g a h =
+    let f = flight_of m (Caller k) in
+    let was = on c m k step.Read h refl refl a in
+    GoesOn _ lt was (read_stands f f.op (finds c m (Caller k) step.Read) ∙ onward_from c m k step.Read h refl refl was)
+call_moves c m k step.Write lt g a h = let was =
+    on c m k step.Write h refl refl a in GoesOn _ lt was (onward_from c m k step.Write h refl refl was)
+call_moves c m k step.Cas lt g a h = let was =
+    on c m k step.Cas h refl refl a in GoesOn _ lt was (onward_from c m k step.Cas h refl refl was)
+call_moves c m k step.Getg lt g a h = let was =
+    on c m k step.Getg h refl refl a in GoesOn _ lt was (onward_from c m k step.Getg h refl refl was)
+call_moves c m k step.Setg lt g a h = let was =
+    on c m k step.Setg h refl refl a in GoesOn _ lt was (onward_from c m k step.Setg h refl refl was)
+call_moves c m k step.Dirty lt g a h = let was =
+    on c m k step.Dirty h refl refl a in GoesOn _ lt was (onward_from c m k step.Dirty h refl refl was)
+call_moves c m k _ lt g a h = cc
+
+-- Each step of a marker's is a move.
+
+attends_in : (b : Bool)
+    → is_in (record { presence = if b then Attending else Visiting; scan = None; hand = None; seen = None }) ≡ true
+attends_in true = refl
+attends_in false = refl
+
+pub attends_at : (n : ℕ) → is_attending (if n % 8 == 1 then Attending else Visiting) ≡ true → n % 8 ≡ 1
+attends_at n h = elim (cases_Bool (n % 8 == 1)) [
+  | inl e ↦ eqb-true (n % 8) 1 e
+  | inr e ↦ let f : false ≡ true = ap (λ (b : Bool). is_attending (if b then Attending else Visiting)) (sym e) ∙ h in cc
+]
+
+pub marker_moves : (c : Config) (m : Moment) (k : ℕ) (x : Step) → k < 8 → group_of x ≡ group.Markers
+    → Meets c m (Marker k) x → Moves c m (Marker k) x
+marker_moves c m k step.Attend lt g h =
+    Attends _ lt (not_from_true _ h.marker) (attends_in (m.words.phase % 8 == 1)) (attends_at m.words.phase)
+    (record { scan = refl; hand = refl; seen = refl })
+marker_moves c m k step.Quit lt g h = Quits lt h.marker
+marker_moves c m k (step.Mlook w) lt g h =
+    Scans _ lt (work_stays c (finds c m (Marker k) (step.Mlook w)) (step.Mlook w) (marker_of m k) refl)
+    (work_idles c (finds c m (Marker k) (step.Mlook w)) (step.Mlook w) (marker_of m k) h.marker refl)
+marker_moves c m k (step.Claim p i) lt g h =
+    Scans _ lt refl (work_idles c (finds c m (Marker k) (step.Claim p i)) (step.Claim p i) (marker_of m k) h.marker
+    refl)
+marker_moves c m k step.Mload lt g h =
+    Scans _ lt refl (work_idles c (finds c m (Marker k) step.Mload) step.Mload (marker_of m k) h.marker refl)
+marker_moves c m k step.Mmark lt g h =
+    Scans _ lt refl (work_idles c (finds c m (Marker k) step.Mmark) step.Mmark (marker_of m k) h.marker refl)
+marker_moves c m k step.Mblack lt g h =
+    Scans _ lt refl (work_idles c (finds c m (Marker k) step.Mblack) step.Mblack (marker_of m k) h.marker refl)
+marker_moves c m k _ lt g h = cc
 
 -- who takes the turn
 
@@ -34,25 +177,18 @@ taken_by v k o b =
     }
 
 pub call_takes : (c : Config) (m : Moment) (k : ℕ) (o : Op) → k < c.callers
-    → (flight_of m (Caller k)).stage ≡ stage.Idle → is_under_turn o ≡ true
-    → Moves c m (Caller k) (step.Take (Some o))
+    → (flight_of m (Caller k)).stage ≡ stage.Idle → is_under_turn o ≡ true → Moves c m (Caller k) (step.Take (Some o))
 call_takes c m k o lt idle is = elim (cases_eq m.words.turn 0) [
   | inl z ↦
       subst (λ (b : Bool). Move c (view_of m) (Caller k) (taken_by (view_of m) k o b)) (sym (eq-eqb m.words.turn 0 z))
-      (Takes (begun o) z (
-        lt,
-        rw idle,
-        begun_under_turn o is,
-      ))
-  | inr ne ↦
-      rw (ne_eqb m.words.turn 0 ne) (rw (same_flight (view_of m) k) Stays)
+      (Takes (begun o) z (lt, rw idle, begun_under_turn o is))
+  | inr ne ↦ rw (ne_eqb m.words.turn 0 ne) (rw (same_flight (view_of m) k) Stays)
 ]
 
 abbrev taken_by_host : Config → View → Bool → View
 taken_by_host c v b = record v {
   turn = if b then 1 + c.callers else v.turn;
-  holding = if b then nothing_done
-      else v.holding;
+  holding = if b then nothing_done else v.holding;
 }
 
 pub host_takes : (c : Config) (m : Moment) → Moves c m Host (step.Take None)
@@ -68,8 +204,7 @@ abbrev with_call : Moment → Seat → Flight → View → View
 with_call m seat f v = record v { flights = flights_with m.seats.flights seat f; markers = m.seats.markers }
 
 abbrev HolderMoves : Config → Moment → Seat → Step → Type 0
-HolderMoves c m seat x =
-    Move c (view_of m) seat
+HolderMoves c m seat x = Move c (view_of m) seat
     (with_call m seat (progress c m (flight_of m seat) (finds c m seat x) x).flight (view_of (Behind c m seat x)))
 
 from_seat : (c : Config) (m : Moment) (seat : Seat) (x : Step) → HoldsTurn c (view_of m) seat → HolderMoves c m seat x
@@ -98,17 +233,12 @@ stays_at c m seat v move = rw (same_call m seat) move
 
 -- a gate that is 0 or 1 is held or not
 hold_move : (c : Config) (m : Moment) (seat : Seat) (j : ℕ) → HoldsTurn c (view_of m) seat → j < c.callers
-    → holder_number c seat ≢ j
-    → Move c (view_of m) seat
-    (record (view_of m) {
-      gates = slice_set m.words.gates j (if slice_index m.words.gates j == 0 then 2
-          else slice_index m.words.gates j);
+    → holder_number c seat ≢ j → Move c (view_of m) seat (record (view_of m) {
+      gates = slice_set m.words.gates j (if slice_index m.words.gates j == 0 then 2 else slice_index m.words.gates j);
     })
 hold_move c m seat j t lj ne = elim (cases_eq (slice_index m.words.gates j) 0) [
-  | inl z ↦
-      rw (eq-eqb (slice_index m.words.gates j) 0 z) (Holds j t lj ne z)
-  | inr nz ↦
-      rw (ne_eqb (slice_index m.words.gates j) 0 nz) (rw (set-get_or m.words.gates j 0) Stays)
+  | inl z ↦ rw (eq-eqb (slice_index m.words.gates j) 0 z) (Holds j t lj ne z)
+  | inr nz ↦ rw (ne_eqb (slice_index m.words.gates j) 0 nz) (rw (set-get_or m.words.gates j 0) Stays)
 ]
 
 by_kind : (c : Config) (m : Moment) (seat : Seat) (x : Step) → HoldsTurn c (view_of m) seat → is_holders x ≡ true
@@ -116,13 +246,11 @@ by_kind : (c : Config) (m : Moment) (seat : Seat) (x : Step) → HoldsTurn c (vi
 by_kind c m seat step.Give t n h = Gives t (none_held c m.words h.gates) (give_phase (phase_of m.words) h.phase)
 by_kind c m seat (step.Look w) t n h =
     works c m seat _ _ t (looks c.pages m.words (flight_of m seat) m.seats.holding w _)
-by_kind c m seat (step.Head p v) t n h =
-    works c m seat _ _ t
+by_kind c m seat (step.Head p v) t n h = works c m seat _ _ t
     (either_place (flight_of m seat) m.seats.holding (is_phase m.words 4) m.seats.holding.placing
     (chosen m.seats.holding.placing (place_now c m (flight_of m seat)))
     (Goes m.seats.holding refl refl) (chooses c m (flight_of m seat)))
-by_kind c m seat (step.Used p v) t n h =
-    works c m seat _ _ t
+by_kind c m seat (step.Used p v) t n h = works c m seat _ _ t
     (either_place (flight_of m seat) m.seats.holding (is_phase m.words 4) m.seats.holding.placing
     (taken m.seats.holding.placing (place_now c m (flight_of m seat)))
     (Goes m.seats.holding refl refl) (takes c m (flight_of m seat)))
@@ -131,8 +259,7 @@ by_kind c m seat (step.Quar p v) t n h =
 by_kind c m seat step.Grant t n h = works c m seat _ _ t (Grants (grants_new c m seat h))
 by_kind c m seat (step.Tally n v) t _ h =
     with_words c (view_of m) seat m.words (accessed m.words (Named (tally_word n)) (Store v)) _ m.seats.holding
-    m.seats.markers
-    (tally_keeps m.words n v) (works_on c m seat t)
+    m.seats.markers (tally_keeps m.words n v) (works_on c m seat t)
 by_kind c m seat (step.Hold j) t n h =
     let o = other_caller c seat j h.range in stays_at c m seat (view_of (Behind c m seat (step.Hold j)))
     (hold_move c m seat j t o.0 o.1)
@@ -142,41 +269,29 @@ by_kind c m seat (step.Open j) t n h =
     (Opens j t o.0 o.1 (eqb-true (slice_index m.words.gates j) 2 h.gates)
     (eqb-false (phase_of m.words) 3 (not-true (phase_of m.words == 3) h.phase)))
 by_kind c m seat (step.Clear p) t n h = works_on c m seat t
-by_kind c m seat (step.Mark p v) t n h =
-    works c m seat _ _ t
-    (either_place (flight_of m seat) m.seats.holding
+by_kind c m seat (step.Mark p v) t n h = works c m seat _ _ t (either_place (flight_of m seat) m.seats.holding
     (marks_place m.words (object_made c (flight_of m seat).op) (place_now c m (flight_of m seat)) p v)
     (chosen m.seats.holding.placing (place_now c m (flight_of m seat))) m.seats.holding.placing
     (chooses c m (flight_of m seat)) (Goes m.seats.holding refl refl))
 by_kind c m seat (step.Wipe i) t n h = works_on c m seat t
-by_kind c m seat step.Full t n h =
-    works c m seat _ _ t
-    (Fills (fills_new c m seat h)
+by_kind c m seat step.Full t n h = works c m seat _ _ t (Fills (fills_new c m seat h)
     (full_unplaced c.resident m.words.pages (object_made c (flight_of m seat).op) m.seats.holding.placing
     m.seats.holding.cycle h.holder))
-by_kind c m seat step.Begin t n h =
-    stays_at c m seat (view_of (Behind c m seat step.Begin))
+by_kind c m seat step.Begin t n h = stays_at c m seat (view_of (Behind c m seat step.Begin))
     (Phases _ t refl refl (Begins (eqb-true (phase_of m.words) 0 h.phase)))
-by_kind c m seat step.Close t n h =
-    stays_at c m seat (view_of (Behind c m seat step.Close))
-    (Phases _ t refl refl
+by_kind c m seat step.Close t n h = stays_at c m seat (view_of (Behind c m seat step.Close)) (Phases _ t refl refl
     (Closes (eqb-true (phase_of m.words) 2 h.phase) (others_held c m seat h.gates)
     (λ i. none_at m.seats.markers i (closing_alone c m h.holder))))
-by_kind c m seat step.Release t n h =
-    stays_at c m seat (view_of (Behind c m seat step.Release))
+by_kind c m seat step.Release t n h = stays_at c m seat (view_of (Behind c m seat step.Release))
     (Phases _ t refl refl (Releases (eqb-true (phase_of m.words) 3 h.phase)))
-by_kind c m seat step.End t n h =
-    stays_at c m seat (view_of (Behind c m seat step.End))
+by_kind c m seat step.End t n h = stays_at c m seat (view_of (Behind c m seat step.End))
     (Phases _ t refl refl (Ends (eqb-true (phase_of m.words) 4 h.phase)))
-by_kind c m seat step.Want t n h =
-    stays_at c m seat (view_of (Behind c m seat step.Want))
+by_kind c m seat step.Want t n h = stays_at c m seat (view_of (Behind c m seat step.Want))
     (Phases _ t refl refl (Wants (eqb-true (phase_of m.words) 1 h.phase)))
 by_kind c m seat (step.Undirty p) t n h = works_on c m seat t
 by_kind c m seat (step.Black p v) t n h = works_on c m seat t
 by_kind c m seat (step.Unblack p) t n h = works_on c m seat t
-by_kind c m seat step.Over t n h =
-    stays_at c m seat (view_of (Behind c m seat step.Over))
-    (Phases _ t refl refl
+by_kind c m seat step.Over t n h = stays_at c m seat (view_of (Behind c m seat step.Over)) (Phases _ t refl refl
     (Stops (eqb-true (phase_of m.words) 0 (and_parts (host_has_turn c m) (is_phase m.words 0) h.holder).1)))
 by_kind c m seat _ t n h = cc
 

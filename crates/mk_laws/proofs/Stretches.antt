@@ -11,8 +11,7 @@ None_of kind es = list_any (λ (e : Event). kind e.step) es ≡ false
 
 pub none_joined : (kind : Step → Bool) (xs ys : List Event) → None_of kind xs → None_of kind ys
     → None_of kind (xs ++ ys)
-none_joined kind xs ys a b =
-    list_any-append (λ (e : Event). kind e.step) xs ys
+none_joined kind xs ys a b = list_any-append (λ (e : Event). kind e.step) xs ys
     ∙ or_from (list_any (λ (e : Event). kind e.step) xs) (list_any (λ (e : Event). kind e.step) ys) a b
 
 -- One event is passed, up to the next.
@@ -28,13 +27,11 @@ at_close {es} k =
 
 pub at_release : {es : List Event} (k : Releasing es)
     → es ≡ before_release k ++ k.release.at.event ∷ k.release.at.behind
-at_release {es} k =
-    next_part es _ k.release.at.before k.release.at.behind
+at_release {es} k = next_part es _ k.release.at.before k.release.at.behind
     k.marking.close.at.event k.release.at.event k.marking.close.at.behind (at_close k.marking) k.release.at.is
 
 pub at_end : {es : List Event} (k : Cycle es) → es ≡ before_end k ++ k.end.at.event ∷ k.end.at.behind
-at_end {es} k =
-    next_part es _ k.end.at.before k.end.at.behind
+at_end {es} k = next_part es _ k.end.at.before k.end.at.behind
     k.releasing.release.at.event k.end.at.event k.releasing.release.at.behind (at_release k.releasing) k.end.at.is
 
 -- The part through an event of a history is one.

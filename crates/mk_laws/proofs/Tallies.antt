@@ -154,8 +154,7 @@ module _ (c : Config) (es : List Event) (e : Event) (nothing : CountsNothing c (
 
 -- the earlier part of a tidy list is tidy
 tidy_before : (c : Config) (es : List Event) (e : Event) → IsTidy c (es ++ e ∷ []) → IsTidy c es
-tidy_before c es e tidy before g behind is gives =
-    tidy before g (behind ++ e ∷ [])
+tidy_before c es e tidy before g behind is gives = tidy before g (behind ++ e ∷ [])
     (ap (λ (xs : List Event). xs ++ e ∷ []) is ∙ append_assoc before (g ∷ behind) (e ∷ [])) gives
 
 abbrev ExactAndTidy : Config → List Event → Type 0

@@ -40,8 +40,7 @@ later_pages c w q p count distance is some lt = elim (cases_eq (used_on w.now.wo
     | inr here ↦ by_plot (plot_of (object_now c w.now) w.now.seats.holding.placing) q.laid.scene.plot here
   ]
   | inr used ↦ elim (find_bit (used_on w.now.words.pages p) (cells_under (shows_on w.now.words.pages p))) [
-    | inr none ↦
-        absurd (used (zero_where_none (used_on w.now.words.pages p)
+    | inr none ↦ absurd (used (zero_where_none (used_on w.now.words.pages p)
         (λ k h. let t = q.laid.scene.used p k h in true≢false (sym h ∙ none k t.0))))
     | inl (k, bit) ↦ elim ((q.laid.scene.used p k bit).1) [
       | inl claimed ↦ inl (by_claim k claimed)
@@ -87,8 +86,7 @@ later_pages c w q p count distance is some lt = elim (cases_eq (used_on w.now.wo
               let same : first ≡ p = omega arith in
               let near : distance < pages_made o = omega arith in
               elim (plot.headers distance near) [
-                | inl free ↦ inr (λ i li.
-                    bare_page c w (p + distance) (64 * (p + distance) + i) q
+                | inl free ↦ inr (λ i li. bare_page c w (p + distance) (64 * (p + distance) + i) q
                     (ap (λ j. header_on w.now.words.pages (j + distance)) (sym same) ∙ free) (omega arith))
                 | inr later ↦
                     let behind : ShowsPart o distance (shows_on w.now.words.pages (p + distance)) =
@@ -177,8 +175,7 @@ run_has_object c w run q is =
       sized = shown.sized;
       large = x.large;
       count = x.count;
-      headers = λ d lt.
-          subst (λ p. IsHeaderOf x.claim.object d (header_on w.now.words.pages (p + d))) x.page
+      headers = λ d lt. subst (λ p. IsHeaderOf x.claim.object d (header_on w.now.words.pages (p + d))) x.page
           (header_of_mode x.claim.mode x.claim.object d (header_on w.now.words.pages (x.claim.page + d))
           (shown.headers d (omega arith)));
     }

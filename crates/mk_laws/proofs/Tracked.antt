@@ -42,8 +42,7 @@ NewsAreTracked c es = (k : ℕ) → k < c.callers → HasNew (left c es) k → T
 -- The event gives no turn back of a caller whose New is undecided after it.
 gives_off : (c : Config) (w : World) (seat : Seat) (x : Step) (k : ℕ) → Known c w.now → k < c.callers
     → HasNew (WorldBehind c w seat x) k → gives_turn (Caller k) (record { seat = seat; step = x }) ≡ false
-gives_off c w (Caller j) x k known lt new =
-    false_from_ne_true ((k == j) && is_give x)
+gives_off c w (Caller j) x k known lt new = false_from_ne_true ((k == j) && is_give x)
     (λ is. let both = and_parts (k == j) (is_give x) is in by j x (eqb-true k j both.0) both.1 new)
   where
     by : (j : ℕ) (x : Step) → k ≡ j → is_give x ≡ true → HasNew (WorldBehind c w (Caller j) x) k → ⊥
@@ -117,11 +116,9 @@ module _ (c : Config) (es : List Event) (e : Event) (k : ℕ) (o : Object) (t : 
   place_more : (was now : Option Place) → PlacingStep c (left c es).now o (event_serves c (left c es) e) was now
       → FitsHere c es o → HasPlace c (Caller k) t o was → HasPlace c (Caller k) (longer_turn t e on) o now
   place_more was now (Stays none same) fit has = to_place now was same (stays none was has)
-  place_more was now (Fixes place is off at found empty there) fit has =
-      to_place now (Some place) there
+  place_more was now (Fixes place is off at found empty there) fit has = to_place now (Some place) there
       (fixes place is (fit place off at found) (subst (λ (p : Option Place). HasPlace c (Caller k) t o p) empty has))
-  place_more was now (GoesOn place here there) fit has =
-      to_place now (Some place) there
+  place_more was now (GoesOn place here there) fit has = to_place now (Some place) there
       (goes_on place (subst (λ (p : Option Place). HasPlace c (Caller k) t o p) here has))
 
 -- One event: the `take` of the New, or one after it.
@@ -159,8 +156,7 @@ tracked_behind c es seat x k (IsTaken o own take free begun) all h meets lt new 
 tracked_behind c es seat x k (WasNew same) all h meets lt new =
     record {
       turn = longer_turn t.turn e on;
-      placed =
-          subst
+      placed = subst
           (λ (y : Object). HasPlace c (Caller k) (longer_turn t.turn e on) y (held_place v.now.seats.holding.placing))
           (ap (λ (f : Flight). object_made c f.op) (sym same))
           (place_more c es e k o t.turn on _ _ (places_at c w seat x k known meets lt was new)

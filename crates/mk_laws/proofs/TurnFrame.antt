@@ -79,15 +79,13 @@ same_written m k y x (ComesIn a) = (refl, refl, refl, refl, refl)
 same_written m k y x _ = (refl, refl, refl, refl, refl)
 
 held_out : (c : Config) (w : World) (seat : Seat) (v : World) → OthersMove c w seat v → (j : ℕ)
-    → slice_index w.now.words.gates j ≡ 2
-    → slice_index v.now.words.gates j ≡ 2
+    → slice_index w.now.words.gates j ≡ 2 → slice_index v.now.words.gates j ≡ 2
 held_out c w seat v Waits j is = is
 held_out c w seat v (Calls {k} f {x} lt le write) j is = held_call k w.now.words x j le write is
 held_out c w seat v (Marks {k} y {x} lt write) j is = rw (same_written w.now k y x write).0 is
 
 free_out : (c : Config) (w : World) (seat : Seat) (v : World) → OthersMove c w seat v → (j : ℕ)
-    → slice_index w.now.words.gates j ≢ 2
-    → slice_index v.now.words.gates j ≢ 2
+    → slice_index w.now.words.gates j ≢ 2 → slice_index v.now.words.gates j ≢ 2
 free_out c w seat v Waits j is = is
 free_out c w seat v (Calls {k} f {x} lt le write) j is = free_call k w.now.words x j write is
 free_out c w seat v (Marks {k} y {x} lt write) j is = λ two. is (rw (← (same_written w.now k y x write).0) two)
@@ -98,8 +96,7 @@ not_that : (gs : List ℕ) (k j : ℕ) → slice_index gs k ≤ 1 → slice_inde
 not_that gs k j le is e = let g : slice_index gs j ≡ slice_index gs k = rw e in absurd (omega arith)
 
 callers_out : (c : Config) (w : World) (seat : Seat) (v : World) → OthersMove c w seat v → (j : ℕ)
-    → slice_index w.now.words.gates j ≡ 2
-    → flight_of v.now (Caller j) ≡ flight_of w.now (Caller j)
+    → slice_index w.now.words.gates j ≡ 2 → flight_of v.now (Caller j) ≡ flight_of w.now (Caller j)
 callers_out c w seat v (Calls {k} f {x} lt le write) j is =
     get_or-set_other w.now.seats.flights k j f at_rest (not_that w.now.words.gates k j le is)
 callers_out c w seat v _ j is = refl
@@ -111,8 +108,7 @@ registers_call k w x j r (SetsRegister s v ls) lt ne =
 registers_call k w x j r _ lt ne = refl
 
 registers_out : (c : Config) (w : World) (seat : Seat) (v : World) → OthersMove c w seat v → (j r : ℕ) → r < 8
-    → slice_index w.now.words.gates j ≡ 2
-    → register_word v.now.words j r ≡ register_word w.now.words j r
+    → slice_index w.now.words.gates j ≡ 2 → register_word v.now.words j r ≡ register_word w.now.words j r
 registers_out c w seat v Waits j r lt is = refl
 registers_out c w seat v (Calls {k} f {x} lk le write) j r lt is =
     registers_call k w.now.words x j r write lt (not_that w.now.words.gates k j le is)
@@ -126,8 +122,7 @@ marked_call k w x _ = (refl, refl)
 
 -- a marker that attends is in the way
 marked_mark : (m : Moment) (k : ℕ) (y : MarkerState) (x : Words) → MarkerWrite k m y x
-    → (is_attending (marker_of m k).presence ≡ true → ⊥)
-    → (x.marks ≡ m.words.marks) × (x.blacks ≡ m.words.blacks)
+    → (is_attending (marker_of m k).presence ≡ true → ⊥) → (x.marks ≡ m.words.marks) × (x.blacks ≡ m.words.blacks)
 marked_mark m k y x (AddsMarks p bits a s) none = absurd (none a)
 marked_mark m k y x (AddsBlacks p bits a s) none = absurd (none a)
 marked_mark m k y x _ none = (refl, refl)
@@ -194,8 +189,7 @@ dirty_call k w x p (SetsDirty q) is = elim (cases_eq p q) [
 dirty_call k w x p _ is = is
 
 dirty_out : (c : Config) (w : World) (seat : Seat) (v : World) → OthersMove c w seat v → (p : ℕ)
-    → slice_index w.now.words.dirty p ≢ 0
-    → slice_index v.now.words.dirty p ≢ 0
+    → slice_index w.now.words.dirty p ≢ 0 → slice_index v.now.words.dirty p ≢ 0
 dirty_out c w seat v Waits p is = is
 dirty_out c w seat v (Calls {k} f {x} lt le write) p is = dirty_call k w.now.words x p write is
 dirty_out c w seat v (Marks {k} y {x} lt write) p is = λ z. is (rw (← (same_written w.now k y x write).3) z)

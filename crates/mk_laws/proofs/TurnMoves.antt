@@ -44,11 +44,9 @@ module _ (c : Config) (w : World) (n : NeverState) (known : KnownWorld c w) (mir
     → Bool) (ready : Ready c.globals safe (image_scene_of w) n) (st : Stands c w.now.words w.allocations)
     (k : ℕ) (lt : k < c.callers) where
   pub grant_by : (s : Stage) (o : Op) (q p r l : ℕ) (placing : Placing)
-      → flight_of w.now (Caller k) ≡ flight s o q p r l → comes_next s o step.Grant ≡ true
-      → is_used_once placing ≡ true
+      → flight_of w.now (Caller k) ≡ flight s o q p r l → comes_next s o step.Grant ≡ true → is_used_once placing ≡ true
       → w.now.seats.holding.placing ≡ placing → HoldsTurn c (view_of w.now) (Caller k) → phase_of w.now.words ≢ 4
-      → has_operands c o ≡ true
-      → Leads safe (image_scene_of w) n k o (record {
+      → has_operands c o ≡ true → Leads safe (image_scene_of w) n k o (record {
         registers = slice_set w.now.words.registers (8 * k + d_of o)
             (address_of (granted_base c (flight s o q p r l) placing) % 2 ^ 64);
         globals = w.now.words.globals;
@@ -91,8 +89,7 @@ module _ (c : Config) (w : World) (n : NeverState) (known : KnownWorld c w) (mir
   grant_by _ _ q p r l _ is next used placed hold phase operands = cc
 
   pub full_by : (s : Stage) (o : Op) (q p r l : ℕ) → flight_among w.now.seats.flights k ≡ flight s o q p r l
-      → comes_next s o step.Full ≡ true
-      → Leads safe (image_scene_of w) n k o
+      → comes_next s o step.Full ≡ true → Leads safe (image_scene_of w) n k o
       (record (image_scene_of w) { flights = slice_set w.now.seats.flights k (flight stage.Give o q p r l) })
       (Some answer.Full)
   full_by stage.Turn (op.New d ty full) q p r l is next = (
@@ -102,26 +99,22 @@ module _ (c : Config) (w : World) (n : NeverState) (known : KnownWorld c w) (mir
   full_by _ _ q p r l is next = absurd (false≢true next)
 
   freed_by : (s : Stage) (o : Op) (q p r l : ℕ) (cell : Cell) → flight_among w.now.seats.flights k ≡ flight s o q p r l
-      → is_undecided_free (flight s o q p r l) ≡ true
-      → pointed_cell c.pages w.now.words.pages p ≡ Some cell → is_freed w.now.words cell ≡ false
-      → (is_run_cell w.now.words (Some cell) ≡ true → (j : ℕ) → j ≢ k
+      → is_undecided_free (flight s o q p r l) ≡ true → pointed_cell c.pages w.now.words.pages p ≡ Some cell
+      → is_freed w.now.words cell ≡ false → (is_run_cell w.now.words (Some cell) ≡ true → (j : ℕ) → j ≢ k
       → is_past_probe (flight_among w.now.seats.flights j).stage ≡ false)
-      → CarriesOwn (bases_of w.allocations) n k (flight s o q p r l)
-      → Leads safe (image_scene_of w) n k o
+      → CarriesOwn (bases_of w.allocations) n k (flight s o q p r l) → Leads safe (image_scene_of w) n k o
       (record (image_scene_of w) {
         flights = slice_set w.now.seats.flights k (flight stage.Give o q p r l);
         allocations = map (freed_where_it_stands w.now.words (Some cell)) w.allocations;
       }) (Some answer.Done)
   freed_by stage.Turn (op.Free p') q p r l cell is undecided points fresh quiet car =
       let f = flight stage.Give (op.Free p') q p r l in
-      let free = free_by c w n known mirrors safe ready st others k (op.Free p') f p cell (register_at n k p')
-      (record {
+      let free = free_by c w n known mirrors safe ready st others k (op.Free p') f p cell (register_at n k p') (record {
         there = there_is c w n known mirrors safe ready k lt;
         registers = own_registers c w n known mirrors safe ready k lt;
         was = ap (λ (g : Flight). is_put g.stage) is;
         bare = refl;
-      })
-      (mirrors.typed.registers (8 * k + p')) (ready.set.registers (8 * k + p')) (car.p refl) (car.some_p refl) points
+      }) (mirrors.typed.registers (8 * k + p')) (ready.set.registers (8 * k + p')) (car.p refl) (car.some_p refl) points
       fresh quiet in (
         free.0,
         λ more. one_right (bases_of (map (freed_where_it_stands w.now.words (Some cell)) w.allocations) ++ more)
@@ -132,9 +125,8 @@ module _ (c : Config) (w : World) (n : NeverState) (known : KnownWorld c w) (mir
   freed_by _ _ q p r l cell is undecided points fresh quiet car = absurd (false≢true undecided)
 
   twice_by : (s : Stage) (o : Op) (q p r l : ℕ) (cell : Cell) → flight_among w.now.seats.flights k ≡ flight s o q p r l
-      → is_undecided_free (flight s o q p r l) ≡ true
-      → pointed_cell c.pages w.now.words.pages p ≡ Some cell → is_freed w.now.words cell ≡ true
-      → CarriesOwn (bases_of w.allocations) n k (flight s o q p r l)
+      → is_undecided_free (flight s o q p r l) ≡ true → pointed_cell c.pages w.now.words.pages p ≡ Some cell
+      → is_freed w.now.words cell ≡ true → CarriesOwn (bases_of w.allocations) n k (flight s o q p r l)
       → Leads safe (image_scene_of w) n k o
       (record (image_scene_of w) { flights = slice_set w.now.seats.flights k (flight stage.Give o q p r l) })
       (Some answer.Double)
@@ -154,17 +146,14 @@ module _ (c : Config) (w : World) (n : NeverState) (known : KnownWorld c w) (mir
   pub quar_by : (f : Flight) (p v : ℕ) (x : Option Cell) → flight_among w.now.seats.flights k ≡ f
       → cell_freed c.pages w.now.words f p v ≡ x
       → (is_run_cell w.now.words (target c.pages w.now.words f) ≡ true → (j : ℕ) → j ≢ k
-      → is_past_probe (flight_among w.now.seats.flights j).stage ≡ false)
-      → Leads safe (image_scene_of w) n k f.op
+      → is_past_probe (flight_among w.now.seats.flights j).stage ≡ false) → Leads safe (image_scene_of w) n k f.op
       (record (image_scene_of w) {
         flights = slice_set w.now.seats.flights k (progress_freed f x).flight;
         allocations = map (freed_where_it_stands w.now.words x) w.allocations;
       }) (progress_freed f x).answer
-  quar_by f p v None is e quiet =
-      subst (λ (xs : List PlacedAllocation). Leads safe (image_scene_of w) n k f.op
+  quar_by f p v None is e quiet = subst (λ (xs : List PlacedAllocation). Leads safe (image_scene_of w) n k f.op
       (record (image_scene_of w) { flights = slice_set w.now.seats.flights k f; allocations = xs }) None)
-      (sym (none_freed w.now.words w.allocations))
-      (subst (λ (g : Flight). Leads safe (image_scene_of w) n k g.op
+      (sym (none_freed w.now.words w.allocations)) (subst (λ (g : Flight). Leads safe (image_scene_of w) n k g.op
       (record (image_scene_of w) { flights = slice_set w.now.seats.flights k g }) None) is
       (stays c w n known mirrors safe ready k (flight_among w.now.seats.flights k).op))
   quar_by f p v (Some cell) is e quiet =
@@ -178,11 +167,8 @@ module _ (c : Config) (w : World) (n : NeverState) (known : KnownWorld c w) (mir
       → Leads safe (image_scene_of w) n k f.op
       (record (image_scene_of w) { flights = slice_set w.now.seats.flights k (progress_look c w.now.words f x).flight })
       (progress_look c w.now.words f x).answer
-  look_by f x is =
-      either_leads safe (image_scene_of w) n k f.op (image_scene_of w) (sees_double w.now.words
-      (target c.pages w.now.words f) x)
-      (decided f answer.Double) (still f)
-      (λ sees.
+  look_by f x is = either_leads safe (image_scene_of w) n k f.op (image_scene_of w) (sees_double w.now.words
+      (target c.pages w.now.words f) x) (decided f answer.Double) (still f) (λ sees.
       let t = sees_freed w.now.words (target c.pages w.now.words f) x sees in
       let points = target_is c.pages w.now.words f t.cell t.is in
       twice_by f.stage f.op f.q f.p f.r f.loaded t.cell is points.free points.pointed t.freed

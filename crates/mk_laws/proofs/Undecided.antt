@@ -89,8 +89,7 @@ own_came c w k x known h new =
 
     taken : (o : Option Op) → w.now.words.turn ≡ 0 → Meets c w.now (Caller k) (step.Take o)
         → NewCame c w (Caller k) (step.Take o) k
-    taken (Some o) free h =
-        IsTaken o refl refl free
+    taken (Some o) free h = IsTaken o refl refl free
         (ap (λ (b : Bool). if b then nothing_done else w.now.seats.holding) (eq-eqb w.now.words.turn 0 free))
     taken None free h = absurd (at_no_take (flight_of w.now (Caller k)).stage (flight_of w.now (Caller k)).op h.order)
 

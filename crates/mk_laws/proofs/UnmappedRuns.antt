@@ -43,11 +43,9 @@ stays_out c m seat (step.Head q n) p none out =
     was resident = elim (cases_eq p q) [
       | inr ne ↦ resident_other m.words.pages q n p ne resident
       | inl e ↦ elim (cases_lt q (length m.words.pages)) [
-        | inl lt ↦
-            resident_gone m.words.pages q n p lt
+        | inl lt ↦ resident_gone m.words.pages q n p lt
             (ap (λ v. is_resident_page (use_under (header_of v) (used_on m.words.pages q))) (zero_there e)) resident
-        | inr past ↦
-            ap (λ (ps : List Page). is_resident ps p)
+        | inr past ↦ ap (λ (ps : List Page). is_resident ps p)
             (sym (set_past m.words.pages q (record { header = n; used = used_on m.words.pages q }) past)) ∙ resident
       ]
     ]
@@ -105,8 +103,7 @@ module _ (c : Config) (w : World) (n : NeverState) (known : KnownWorld c w) (all
   sized_shown = shown_claim c w known all.order.laid x.number x.unreleased
 
   -- by the call under way, or by an earlier one
-  header_there : header_at w.now.words p
-      ≡ unmapped_header (pages_made o) on_run.distance
+  header_there : header_at w.now.words p ≡ unmapped_header (pages_made o) on_run.distance
   header_there = elim (cases_Bool (is_unmapping w.now.seats.holding.freed (a.base / 64))) [
     | inr other ↦ by w.now.seats.holding.freed other (sized_shown.headers on_run.distance on_run.near)
     | inl going ↦
@@ -120,24 +117,18 @@ module _ (c : Config) (w : World) (n : NeverState) (known : KnownWorld c w) (all
   ]
     where
       page_of_run : (freed : Option RunPages) (run : RunPages) → freed ≡ Some run
-          → is_unmapping freed (a.base / 64) ≡ true
-          → run.page ≡ a.base / 64
+          → is_unmapping freed (a.base / 64) ≡ true → run.page ≡ a.base / 64
       page_of_run freed run is going =
           eqb-true run.page (a.base / 64) (ap (λ (y : Option RunPages). is_unmapping y (a.base / 64)) (sym is) ∙ going)
 
-      by : (freed : Option RunPages) → is_unmapping freed (a.base / 64) ≡ false
-          → HasHeader (claim_of c freed a).mode
-          o on_run.distance
-          (header_at w.now.words (a.base / 64 + on_run.distance))
-          → header_at w.now.words p
+      by : (freed : Option RunPages) → is_unmapping freed (a.base / 64) ≡ false → HasHeader (claim_of c freed a).mode
+          o on_run.distance (header_at w.now.words (a.base / 64 + on_run.distance)) → header_at w.now.words p
           ≡ unmapped_header (pages_made o) on_run.distance
-      by freed other has =
-          ap (λ q. header_at w.now.words q) (sym on_run.there)
+      by freed other has = ap (λ q. header_at w.now.words q) (sym on_run.there)
           ∙ unmapped_mode (a.freed && not (is_small_object o)) _ o on_run.distance _ gone other has
 
   not_resident : is_resident_in w p ≡ false
-  not_resident =
-      unmapped_use (header_of (header_at w.now.words p)) (used_on w.now.words.pages p)
+  not_resident = unmapped_use (header_of (header_at w.now.words p)) (used_on w.now.words.pages p)
       (ap (λ h. is_unmapped_header (header_of h)) header_there
       ∙ unmapped_is_unmapped (pages_made o) on_run.distance (large_count o sized_shown.sized large) on_run.near)
 

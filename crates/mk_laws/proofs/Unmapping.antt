@@ -1,16 +1,47 @@
 -- The steps that unmap a run: it is freed, its pages get their headers, and the call that freed it ends.
-use Rattle.mk_laws.proofs.Vocabulary.{Among, AreApart, Bool, Claim, HasHeader, HasItsHead, IsClaimed, IsLaidOn}
+use Rattle.mk_laws.proofs.Vocabulary.{Among, AreApart, Bool, Claim, HasHeader, HasItsHead, Header, IsClaimed, IsLaidOn}
 use Rattle.mk_laws.proofs.Vocabulary.{IsOfOneCell, IsPlotShown, IsShown, Later, LayoutScene, List, Mode, NoPlot, Object}
-use Rattle.mk_laws.proofs.Vocabulary.{Page, Plot, PlotStands, Plotted, ShowsPart, Some, Unmapping, ap, arith, cases_eq}
-use Rattle.mk_laws.proofs.Vocabulary.{cells_made, cells_under, false, head_on, header_made, header_of, header_on, inl}
-use Rattle.mk_laws.proofs.Vocabulary.{inr, is_released_on, is_small_object, large_cells, length, length-set, made_shows}
-use Rattle.mk_laws.proofs.Vocabulary.{pages_made, pages_some, part_cells, part_head, run_count, shown_later, shows_on}
-use Rattle.mk_laws.proofs.Vocabulary.{stands, sym, true, unmapped_header, used_on, ℕ, ◌+◌, ◌-◌, ◌<◌, ◌∙◌, ◌≡◌, ◌≢◌, ◌⊎◌}
+use Rattle.mk_laws.proofs.Vocabulary.{OfBlock, OfLater, OfLeafBlock, OfLeafRun, OfRun, Option, Page, Plot, PlotStands}
+use Rattle.mk_laws.proofs.Vocabulary.{Plotted, ShowsPart, Some, Unmapping, ap, arith, cases_eq, cells_made, cells_under}
+use Rattle.mk_laws.proofs.Vocabulary.{false, head_on, header_made, header_of, header_on, inl, inr, is_released_on}
+use Rattle.mk_laws.proofs.Vocabulary.{is_small_object, large_cells, length, length-set, made_shows, pages_made}
+use Rattle.mk_laws.proofs.Vocabulary.{pages_some, part_cells, part_head, refl, run_count, shown_later, shows_on, stands}
+use Rattle.mk_laws.proofs.Vocabulary.{sym, true, true≢false, unmapped_header, used_on, ℕ, ◌+◌, ◌-◌, ◌<◌, ◌∙◌, ◌≡◌, ◌≢◌}
+use Rattle.mk_laws.proofs.Vocabulary.{◌≤◌, ◌⊎◌}
 use Rattle.mk_core.proofs.ObjectHeaders.{later_part, same_cells, unmapped_shows}
-use Rattle.mk_laws.proofs.PageSets.{headed_here, headed_other, headed_used, with_header_on}
+use Rattle.mk_laws.proofs.Releasing.{headed_here, headed_other, headed_used, with_header_on, head_of_other}
+use Rattle.mk_laws.proofs.Releasing.{shown_beside}
 use Rattle.mk_laws.proofs.LayoutReadings.{claimed, claimed_head, claimed_some, none_set, one_claim}
-use Rattle.mk_laws.proofs.Releasing.{head_of_other, shown_beside}
-use Rattle.mk_laws.proofs.RunCounts.{same_count}
+
+-- How many pages the run has that a header of an object heads.
+
+-- the head of a large object's run has its pages,
+pub part_count : (o : Object) (x : Option Header) → ShowsPart o 0 x → is_small_object o ≡ false
+    → run_count x ≡ pages_made o
+part_count o x (OfBlock first small leaf) large = absurd (true≢false (sym small ∙ large))
+part_count o x (OfLeafBlock first small leaf) large = absurd (true≢false (sym small ∙ large))
+part_count o x (OfLater mapped some l) large = absurd (omega arith)
+part_count o x _ large = refl
+
+-- and no other page of an object has any.
+later_count : (o : Object) (distance : ℕ) (x : Option Header) → ShowsPart o distance x → 1 ≤ distance → run_count x ≡ 0
+later_count o distance x (OfBlock first small leaf) some = absurd (omega arith)
+later_count o distance x (OfLeafBlock first small leaf) some = absurd (omega arith)
+later_count o distance x (OfRun mapped first l leaf) some = absurd (omega arith)
+later_count o distance x (OfLeafRun first l leaf) some = absurd (omega arith)
+later_count o distance x (OfLater mapped far l) some = refl
+
+pub small_count : (o : Object) (x : Option Header) → ShowsPart o 0 x → is_small_object o ≡ true → run_count x ≡ 0
+small_count o x (OfRun mapped first l leaf) is = absurd (true≢false (sym is ∙ l))
+small_count o x (OfLeafRun first l leaf) is = absurd (true≢false (sym is ∙ l))
+small_count o x _ is = refl
+
+pub same_count : (o : Object) (distance : ℕ) (x y : Option Header) → ShowsPart o distance x → ShowsPart o distance y
+    → is_small_object o ≡ false → run_count x ≡ run_count y
+same_count o distance x y px py large = elim (cases_eq distance 0) [
+  | inl z ↦ part_count o x (rw z at px) large ∙ sym (part_count o y (rw z at py) large)
+  | inr ne ↦ later_count o distance x px (omega arith) ∙ sym (later_count o distance y py (omega arith))
+]
 
 -- a claim's cells are those under its first page's header
 pub cells_at_claim : (s : LayoutScene) (x : Claim) → IsShown s.pages x
@@ -82,8 +113,7 @@ module _ (s : LayoutScene) (x : Claim) (d : ℕ) (laid : IsLaidOn s) (ix : Among
   lt = let w = sx.within in let l = ld in omega arith
 
   len : length after ≡ length s.pages
-  len = length-set s.pages p
-      (record { header = unmapped_header (pages_made x.object) d; used = used_on s.pages p })
+  len = length-set s.pages p (record { header = unmapped_header (pages_made x.object) d; used = used_on s.pages p })
 
   old : ShowsPart x.object d (shows_on s.pages p)
   old = claimed s.pages x d sx ld
@@ -91,21 +121,13 @@ module _ (s : LayoutScene) (x : Claim) (d : ℕ) (laid : IsLaidOn s) (ix : Among
   new : ShowsPart x.object d (header_of n)
   new = unmapped_shows x.object d sx.sized ld large
 
-  here : header_on after p
-      ≡ unmapped_header (pages_made x.object) d
+  here : header_on after p ≡ unmapped_header (pages_made x.object) d
   here = headed_here s.pages p n lt
 
-  header_of_run : (e : ℕ) → e < pages_made x.object
-      → HasHeader Unmapping x.object e
-      (header_on after (x.page + e))
+  header_of_run : (e : ℕ) → e < pages_made x.object → HasHeader Unmapping x.object e (header_on after (x.page + e))
   header_of_run e le = elim (cases_eq e d) [
-    | inl same ↦ inr (
-      large,
-      rw same (here ∙ rw (← same)),
-    )
-    | inr ne ↦ rw (headed_other s.pages p n (x.page + e)
-        (λ is. ne (omega arith)))
-        (rw mode at (sx.headers e le))
+    | inl same ↦ inr (large, rw same (here ∙ rw (← same)))
+    | inr ne ↦ rw (headed_other s.pages p n (x.page + e) (λ is. ne (omega arith))) (rw mode at (sx.headers e le))
   ]
 
   own : IsShown after x
@@ -114,95 +136,63 @@ module _ (s : LayoutScene) (x : Claim) (d : ℕ) (laid : IsLaidOn s) (ix : Among
         sized = sx.sized;
         known = sx.known;
         within = let l = len in let w = sx.within in omega arith;
-        headers =
-            λ e le. rw mode
-            (header_of_run e le);
+        headers = λ e le. rw mode (header_of_run e le);
         used = rw (headed_used s.pages p n x.page lt) sx.used;
       }
 
-  cells : (q : ℕ) → cells_under
-      (shows_on after q)
-      ≡ cells_under (shows_on s.pages q)
+  cells : (q : ℕ) → cells_under (shows_on after q) ≡ cells_under (shows_on s.pages q)
   cells q = elim (cases_eq q p) [
-    | inl e ↦
-        rw e
-        (rw here
-        (same_cells x.object d (header_of n) (shows_on s.pages p)
-        new old ∙ rw (← e)))
+    | inl e ↦ rw e (rw here (same_cells x.object d (header_of n) (shows_on s.pages p) new old ∙ rw (← e)))
     | inr ne ↦ rw (headed_other s.pages p n q ne)
   ]
 
-  counts : (q : ℕ) → run_count
-      (shows_on after q)
-      ≡ run_count (shows_on s.pages q)
+  counts : (q : ℕ) → run_count (shows_on after q) ≡ run_count (shows_on s.pages q)
   counts q = elim (cases_eq q p) [
-    | inl e ↦
-        rw e (rw here
-        (same_count x.object d (header_of n) (shows_on s.pages p)
-        new old large
-        ∙ rw (← e)))
+    | inl e ↦ rw e (rw here (same_count x.object d (header_of n) (shows_on s.pages p) new old large ∙ rw (← e)))
     | inr ne ↦ rw (headed_other s.pages p n q ne)
   ]
 
-  head : (q : ℕ) → head_on after q
-      ≡ head_on s.pages q
+  head : (q : ℕ) → head_on after q ≡ head_on s.pages q
   head q = elim (cases_eq q p) [
-    | inl e ↦
-        rw e
-        (rw here
-        (part_head x.object d x.page (header_of n) new
-        ∙ sym (part_head x.object d x.page (shows_on s.pages p) old)
-        ∙ rw (← e)))
+    | inl e ↦ rw e (rw here (part_head x.object d x.page (header_of n) new
+        ∙ sym (part_head x.object d x.page (shows_on s.pages p) old) ∙ rw (← e)))
     | inr ne ↦ head_of_other s.pages p n q ne
   ]
 
-  was_some : (q : ℕ) → header_on after q ≢ 0
-      → header_on s.pages q ≢ 0
+  was_some : (q : ℕ) → header_on after q ≢ 0 → header_on s.pages q ≢ 0
   was_some q some z = elim (cases_eq q p) [
     | inl e ↦ claimed_some s.pages x d sx ld (rw (← e) z)
     | inr ne ↦ some (headed_other s.pages p n q ne ∙ z)
   ]
 
-  plot : (plot : Plot) → PlotStands s.pages plot
-      → PlotStands after plot
+  plot : (plot : Plot) → PlotStands s.pages plot → PlotStands after plot
   plot NoPlot stands = stands
   plot (Plotted first o) stands =
       record {
         sized = stands.sized;
         within = let l = len in let w = stands.within in omega arith;
-        headers =
-            λ e le. rw (headed_other s.pages p n (first + e)
-            (apart_of_plot s x d first e o laid ix ld stands le))
+        headers = λ e le. rw (headed_other s.pages p n (first + e) (apart_of_plot s x d first e o laid ix ld stands le))
             (stands.headers e le);
-        used = λ e le. headed_used s.pages p n (first + e) lt
-            ∙ stands.used e le;
+        used = λ e le. headed_used s.pages p n (first + e) lt ∙ stands.used e le;
       }
 
   -- the page that a later page names keeps its count, and isn't freed
-  kept : (q e : ℕ) (m : Bool) → HasItsHead s.pages s.releasing q e
-      → HasItsHead after s.releasing q e
+  kept : (q e : ℕ) (m : Bool) → HasItsHead s.pages s.releasing q e → HasItsHead after s.releasing q e
   kept q e m l = (
     l.0,
     elim l.1 [
       | inl less ↦ inl (rw (counts (q - e)) less)
       | inr lost ↦ elim (cases_eq (q - e) p) [
         | inl at ↦ absurd (claimed_some s.pages x d sx ld (rw (← at) lost.1))
-        | inr ne ↦ inr (
-          lost.0,
-          headed_other s.pages p n (q - e) ne
-              ∙ lost.1,
-        )
+        | inr ne ↦ inr (lost.0, headed_other s.pages p n (q - e) ne ∙ lost.1)
       ]
     ],
   )
 
-  own_later : (q e : ℕ) (m : Bool) → q ≡ x.page + d
-      → shows_on after q ≡ Some (Later e m)
+  own_later : (q e : ℕ) (m : Bool) → q ≡ x.page + d → shows_on after q ≡ Some (Later e m)
       → HasItsHead after s.releasing q e
   own_later q e m same is =
-      let at =
-      shown_later x.object d e m (header_of n) new (ap header_of (sym here)
-      ∙ ap (λ i. shows_on after i)
+      let at = shown_later x.object d e m (header_of n) new (ap header_of (sym here) ∙ ap (λ i. shows_on after i)
       (sym same) ∙ is) in
       let was = later_part x.object d (shows_on s.pages p) old at.1 in
       kept q e m (laid.later q e was.0 (ap (λ i. shows_on s.pages i) same ∙ was.1
@@ -212,19 +202,14 @@ module _ (s : LayoutScene) (x : Claim) (d : ℕ) (laid : IsLaidOn s) (ix : Among
   layout_page_unmapped =
       record {
         shown = λ y iy. elim (same_or_not y x) [
-          | inl same ↦ let e =
-              one_claim s.claims y x laid.apart iy ix same in rw e own
+          | inl same ↦ let e = one_claim s.claims y x laid.apart iy ix same in rw e own
           | inr other ↦ shown_beside s.pages p n y lt (laid.shown y iy)
-              (λ e le at. let is = shares_run s x y d e laid ix iy large ld le at in other
-              (rw is, rw is))
+              (λ e le at. let is = shares_run s x y d e laid ix iy large ld le at in other (rw is, rw is))
         ];
         apart = laid.apart;
-        used = λ q k h. let t = laid.used q k (rw (← (headed_used s.pages p n q lt))
-            h) in (rw (cells q) t.0, t.1);
+        used = λ q k h. let t = laid.used q k (rw (← (headed_used s.pages p n q lt)) h) in (rw (cells q) t.0, t.1);
         plot = plot s.plot laid.plot;
-        occupied =
-            λ q some empty. laid.occupied q (was_some q some)
-            (rw (← (head q))
+        occupied = λ q some empty. laid.occupied q (was_some q some) (rw (← (head q))
             (sym (headed_used s.pages p n (head_on after q) lt) ∙ empty));
         later = λ q e m is. elim (cases_eq q p) [
           | inl same ↦ own_later q e m same is
@@ -244,15 +229,13 @@ pub layout_changed : (s : LayoutScene) (claims : List Claim) → IsLaidOn s → 
     → IsLaidOn (record s { claims = claims })
 layout_changed s claims laid ch =
     record {
-      shown =
-          λ y iy. let was =
-          laid.shown (record y { mode = (ch.from y iy).0 }) (ch.from y iy).1 in record {
-            sized = was.sized;
-            known = was.known;
-            within = was.within;
-            headers = ch.headers y iy;
-            used = was.used;
-          };
+      shown = λ y iy. let was = laid.shown (record y { mode = (ch.from y iy).0 }) (ch.from y iy).1 in record {
+        sized = was.sized;
+        known = was.known;
+        within = was.within;
+        headers = ch.headers y iy;
+        used = was.used;
+      };
       apart = ch.apart;
       used = λ p k h. let t = laid.used p k h in (t.0, owner p k t.1);
       plot = laid.plot;
@@ -263,6 +246,5 @@ layout_changed s claims laid ch =
     owner : (p k : ℕ) → IsClaimed s.claims p k ⊎ (is_released_on s p k ≡ true)
         → IsClaimed claims p k ⊎ (is_released_on s p k ≡ true)
     owner p k (inr r) = inr r
-    owner p k (inl o) = let t =
-        ch.to o.claim o.among in inl
+    owner p k (inl o) = let t = ch.to o.claim o.among in inl
         (record { claim = record o.claim { mode = t.0 }; among = t.1; page = o.page; index = o.index })

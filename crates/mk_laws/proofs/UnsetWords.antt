@@ -54,8 +54,7 @@ first_unset c g never = at_first 64 g 0
 
 kept : KeptByEvents UnsetGlobalsAreZero
 kept c es e h unset g never =
-    let before : IsNeverSet c es g =
-    λ front rest seat is. never front (rest ++ e ∷ []) seat
+    let before : IsNeverSet c es g = λ front rest seat is. never front (rest ++ e ∷ []) seat
     (ap (λ (xs : List Event). xs ++ e ∷ []) is ∙ append_assoc front (record { seat = seat; step = step.Setg } ∷ rest)
     (e ∷ [])) in
     ap (λ (w : World). slice_index w.now.words.globals g) (left_more c (first_world c) es e)

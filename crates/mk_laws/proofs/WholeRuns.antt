@@ -17,8 +17,8 @@ use Rattle.mk_core.proofs.ObjectHeaders.{later_part}
 use Rattle.mk_laws.specs.WholeRuns.{HasLaterPage, HaveWholeRuns, RunIsWhole, RunsAreWhole}
 use Rattle.mk_laws.proofs.Behind.{phase_kind}
 use Rattle.mk_laws.proofs.OnClaims.{find_bit}
-use Rattle.mk_laws.proofs.PageSets.{headed_here, headed_used, used_here, used_other}
-use Rattle.mk_laws.proofs.RunCounts.{part_count}
+use Rattle.mk_laws.proofs.Releasing.{headed_here, headed_used, used_here, used_other}
+use Rattle.mk_laws.proofs.Unmapping.{part_count}
 
 -- what heads a run is its own head
 own_head : (x : Option Header) (p : ℕ) → heads_run x ≡ true → head_page_under x p ≡ p
@@ -95,11 +95,7 @@ plotted_run s (Plotted first o) p is stands here h =
           later = λ d some_d lt.
               let near : d < pages_made o = omega arith in
               elim (stands.headers d near) [
-                | inl z ↦ inr (
-                  rw page z,
-                  rw (← zero) (stands.used 0 (omega arith)),
-                  inr here,
-                )
+                | inl z ↦ inr (rw page z, rw (← zero) (stands.used 0 (omega arith)), inr here)
                 | inr m ↦
                     later_at s.pages s.releasing (Plotted first o) p first d (header_of (header_made o d)) (sym page)
                     (rw m) (later_part o d (header_of (header_made o d)) (made_shows o d stands.sized near) some_d)
@@ -143,8 +139,7 @@ replotted pages plot other before whole p h =
 emptied : (w : Words) (plot : Plot) (p n : ℕ) → p < length w.pages → Empties w p n → HaveWholeRuns w.pages true plot
     → HaveWholeRuns (with_header_on w.pages p n) true plot
 emptied w plot p n lt x whole q h = elim (cases_eq q p) [
-  | inl e ↦
-      absurd (true≢false (sym h ∙ rw e (rw (headed_here w.pages p n lt) (rw x.is))))
+  | inl e ↦ absurd (true≢false (sym h ∙ rw e (rw (headed_here w.pages p n lt) (rw x.is))))
   | inr ne ↦ other ne
 ]
   where
@@ -168,12 +163,11 @@ emptied w plot p n lt x whole q h = elim (cases_eq q p) [
           headed_used w.pages p n q lt ∙ free.1,
           free.2,
         )
-        page d (inl at) (inr free) =
-            inr (
-              ap (λ i. header_on (with_header_on w.pages p n) i) at ∙ headed_here w.pages p n lt ∙ x.is,
-              headed_used w.pages p n q lt ∙ free.1,
-              free.2,
-            )
+        page d (inl at) (inr free) = inr (
+          ap (λ i. header_on (with_header_on w.pages p n) i) at ∙ headed_here w.pages p n lt ∙ x.is,
+          headed_used w.pages p n q lt ∙ free.1,
+          free.2,
+        )
         page d (inl at) (inl is) =
             let head : head_page w p ≡ q = rw (← at) (rw is.1 (let back : q + d - d ≡ q = omega arith in back)) in
             inr (
@@ -196,8 +190,7 @@ given_back w plot p n lt x whole q h =
     still : used_on w.pages q ≡ 0 → used_on (with_used_on w.pages p n) q ≡ 0
     still z = elim (cases_eq q p) [
       | inr ne ↦ used_other w.pages p n q ne ∙ z
-      | inl e ↦
-          rw e (used_here w.pages p n lt ∙ zero_where_none n (λ k bit. none_set (used_on w.pages p) k (rw (← e)
+      | inl e ↦ rw e (used_here w.pages p n lt ∙ zero_where_none n (λ k bit. none_set (used_on w.pages p) k (rw (← e)
           z) (fewer_bits n (used_on w.pages p) k x.fewer bit)))
     ]
 
@@ -238,8 +231,7 @@ whole_behind c w seat x b h whole laid =
     let v : World = WorldBehind c w seat x in
     let plot : Plot = plot_of (object_now c v.now) v.now.seats.holding.placing in
     elim (cases_Bool (is_releasing_behind x (is_phase w.now.words 4))) [
-      | inl on ↦
-          rw (phase_kind c w seat x h ∙ on) (whole_by_kind c w seat x plot b h on
+      | inl on ↦ rw (phase_kind c w seat x h ∙ on) (whole_by_kind c w seat x plot b h on
           (replotted w.now.words.pages (plot_of (object_now c w.now) w.now.seats.holding.placing) plot
           (is_phase w.now.words 4) whole))
       | inr off ↦ whole_quiet (layout_scene_of c (object_now c v.now) (is_phase v.now.words 4) v.now.words.marks

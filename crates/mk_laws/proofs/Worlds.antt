@@ -53,22 +53,18 @@ module _ (c : Config) (w : World) (n : NeverState) (t : Told c w n) where
   pub stands : (b : ℕ) → (placed b).released ≡ false → StandsOnHeap c (placed b)
   stands b u = (others.laid_out b u).stands
 
-  pub headers : (b : ℕ) → (placed b).released ≡ false
-      → HasItsHeaders c w.now.words (placed b)
+  pub headers : (b : ℕ) → (placed b).released ≡ false → HasItsHeaders c w.now.words (placed b)
   headers b u = (others.laid_out b u).headers
 
-  pub sized : (b : ℕ) → (placed b).released ≡ false
-      → IsSized (object_placed c (placed b))
+  pub sized : (b : ℕ) → (placed b).released ≡ false → IsSized (object_placed c (placed b))
   sized b u = typed_size c (placed b) t.known.limits (stands b u).typed
 
   -- What points into an allocation's storage points into its cell,
-  pub hits : (b v : ℕ) → (placed b).released ≡ false
-      → PointsInto v (storage_of c (placed b))
+  pub hits : (b v : ℕ) → (placed b).released ≡ false → PointsInto v (storage_of c (placed b))
       → pointed_cell c.pages w.now.words.pages v ≡ Some (cell_of_allocation c (placed b))
   hits b v u into = pointers_hit c w.now.words _ t.known.limits (stands b u) (headers b u) v into
 
-  first_part : (b : ℕ) → (placed b).released ≡ false
-      → ShowsPart (object_placed c (placed b)) 0
+  first_part : (b : ℕ) → (placed b).released ≡ false → ShowsPart (object_placed c (placed b)) 0
       (header_in w.now.words ((placed b).base / 64))
   first_part b u = first_page_shows c w.now.words (placed b) (sized b u) (headers b u)
 
@@ -76,8 +72,7 @@ module _ (c : Config) (w : World) (n : NeverState) (t : Told c w n) where
   pub comes_back : IsMarking w.now.words → (b v : ℕ) → (placed b).released ≡ false
       → pointed_cell c.pages w.now.words.pages v ≡ Some (cell_of_allocation c (placed b))
       → PointsInto v (storage_of c (placed b))
-  comes_back early b v u is =
-      pointers_come_back c w.now.words a t.known.limits (stands b u) (headers b u) v
+  comes_back early b v u is = pointers_come_back c w.now.words a t.known.limits (stands b u) (headers b u) v
       (by to.header to.shown to.lies.head) is
     where
       a : PlacedAllocation
@@ -120,8 +115,7 @@ module _ (c : Config) (w : World) (n : NeverState) (t : Told c w n) where
 
   -- Where its page's header is scanned, an allocation isn't leaf.
   pub not_leaf : (a : ℕ) → (placed a).released ≡ false
-      → has_no_pointers (header_in w.now.words ((placed a).base / 64)) ≡ false
-      → (storage_of c (placed a)).leaf ≡ false
+      → has_no_pointers (header_in w.now.words ((placed a).base / 64)) ≡ false → (storage_of c (placed a)).leaf ≡ false
   not_leaf a u scanned =
       let o : Object = object_placed c (placed a) in
       let x : Option Header = header_in w.now.words ((placed a).base / 64) in

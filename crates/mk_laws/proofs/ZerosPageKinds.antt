@@ -1,20 +1,242 @@
 -- Steps on the pages: `head`, `used` and `quar`.
-use Rattle.mk_laws.proofs.Vocabulary.{Bool, Cell, Config, Flight, HasZeros, HeadStep, IsFreedWord, IsReleasedWord}
-use Rattle.mk_laws.proofs.Vocabulary.{IsWordOfMapped, ItCarves, ItDrops, ItEmpties, ItFrees, ItGivesBack, ItTakes}
-use Rattle.mk_laws.proofs.Vocabulary.{ItTakesSnapshot, ItUnmaps, List, MayHold, None, OfFreedRun, OfMapped, OfReleased}
-use Rattle.mk_laws.proofs.Vocabulary.{Option, OthersAreZero, Page, QuarantineStep, RunPages, Seat, Some, UsedStep}
-use Rattle.mk_laws.proofs.Vocabulary.{World, ZeroScene, ap, arith, cell_freed, false, flight_of, freed_cell}
-use Rattle.mk_laws.proofs.Vocabulary.{freed_where_it_stands, frees, ground_of, header_at, if◌then◌else◌, inl, inr}
-use Rattle.mk_laws.proofs.Vocabulary.{is_phase, is_released_there, map, not, object_now, or_else, placed_at, refl}
-use Rattle.mk_laws.proofs.Vocabulary.{run_of_cell, slice_index, slice_set, subst, sym, target, true, undecided_free}
-use Rattle.mk_laws.proofs.Vocabulary.{used_at, zero_scene_with, ℕ, ◌%◌, ◌&&◌, ◌/◌, ◌^◌, ◌∙◌, ◌≡◌, ◌≢◌}
-use Rattle.mk_laws.proofs.Basics.{Laid, Meets, changed_words, free_has_turn, mapped_stays, none_on_its_way}
+use Rattle.mk_laws.proofs.Vocabulary.{Bool, Cell, Config, Drops, Empties, Flight, GivesBack, HasZeros, HeadStep, Header}
+use Rattle.mk_laws.proofs.Vocabulary.{IsFreedWord, IsReleasedWord, IsWithinLimits, IsWordOfMapped, ItCarves, ItDrops}
+use Rattle.mk_laws.proofs.Vocabulary.{ItEmpties, ItFrees, ItGivesBack, ItTakes, ItTakesSnapshot, ItUnmaps, Later, List}
+use Rattle.mk_laws.proofs.Vocabulary.{MayHold, None, OfFreedRun, OfMapped, OfReleased, Option, OthersAreZero, Page}
+use Rattle.mk_laws.proofs.Vocabulary.{PlacedAllocation, QuarantineStep, RunPages, Seat, ShowsPart, Some, Storage}
+use Rattle.mk_laws.proofs.Vocabulary.{UsedStep, Words, World, ZeroScene, address_of, all_below-at, and_from, and_parts}
+use Rattle.mk_laws.proofs.Vocabulary.{ap, arith, cases_Bool, cell_at, cell_freed, cell_of_allocation, cell_words}
+use Rattle.mk_laws.proofs.Vocabulary.{eqb-true, false, first_page_shows, first_word, flight_of, free_page, freed_cell}
+use Rattle.mk_laws.proofs.Vocabulary.{freed_leaves, freed_where_it_stands, frees, ground_of, has_bit, has_bit_without}
+use Rattle.mk_laws.proofs.Vocabulary.{head_page, head_page_under, header_at, header_in, header_of, header_on}
+use Rattle.mk_laws.proofs.Vocabulary.{if◌then◌else◌, inl, inr, is_mapped, is_phase, is_released_there, is_run_gone}
+use Rattle.mk_laws.proofs.Vocabulary.{is_run_unmapped, is_small_object, large_words, le-leb, leb-true, lt-ltb, ltb-true}
+use Rattle.mk_laws.proofs.Vocabulary.{map, nat_le, nat_lt, not, object_now, object_placed, or_else, page_at_address}
+use Rattle.mk_laws.proofs.Vocabulary.{pages_made, placed_at, pointed_cell, refl, run_begins, run_of_cell, set_by}
+use Rattle.mk_laws.proofs.Vocabulary.{shows_on, slice_index, slice_set, stands_in, storage_words, subst, sym, target}
+use Rattle.mk_laws.proofs.Vocabulary.{true, true≢false, typed_size, undecided_free, used_at, used_on, without}
+use Rattle.mk_laws.proofs.Vocabulary.{words_are_zero, words_under, zero_scene_with, ℕ, ◌%◌, ◌&&◌, ◌*◌, ◌+◌, ◌-◌, ◌/◌}
+use Rattle.mk_laws.proofs.Vocabulary.{◌<◌, ◌==◌, ◌^◌, ◌∙◌, ◌≡◌, ◌≢◌, ◌≤◌, ◌⊎◌}
+use Rattle.mk_laws.proofs.Basics.{IsStanding, Laid, Meets, changed_words, free_has_turn, mapped_stays, none_on_its_way}
+use Rattle.mk_laws.proofs.Basics.{none_set}
+use Rattle.mk_core.proofs.PageSteps.{wiped_cell}
+use Rattle.mk_core.proofs.PointedPages.{pointed_head}
+use Rattle.mk_core.proofs.WordBits.{rest_bits}
+use Rattle.mk_laws.specs.Zeros.{first_word_on}
+use Rattle.mk_core.proofs.ChangedAllocations.{freed_storage}
+use Rattle.mk_laws.proofs.Freed.{run_large, standing_cell}
+use Rattle.mk_laws.proofs.MappedWords.{word_of_changed}
 use Rattle.mk_core.specs.declared.events.Step.TheVariants as step
 use Rattle.mk_laws.proofs.LayoutByKind.{off_at}
-use Rattle.mk_laws.proofs.Freed.{standing_cell}
-use Rattle.mk_laws.proofs.ReleasedWords.{emptied_word, unwiped_word, dropped_word}
-use Rattle.mk_laws.proofs.FreedWords.{word_where_none_is_freed, word_of_freed}
 use Rattle.mk_laws.proofs.ChangedScenes.{Before, here, standing, early_words}
+
+-- Words of released cells, after the steps of releasing.
+
+-- Where the pages keep the header of the word's page and that of the cell's, and the cell its used bit, it stays one.
+kept_word : (c : Config) (old new : List Page) (is_gone : Cell → Bool) (n : ℕ) (r : IsReleasedWord c old is_gone n)
+    → header_on new (page_at_address (address_of n)) ≡ header_on old (page_at_address (address_of n))
+    → header_on new r.cell.page ≡ header_on old r.cell.page → has_bit (used_on new r.cell.page) r.cell.index ≡ true
+    → IsReleasedWord c new is_gone n
+unfolding pointed_cell
+kept_word c old new is_gone n r here there used =
+    let words : words_under (shows_on new r.cell.page) ≡ words_under (shows_on old r.cell.page) =
+    ap (λ h. words_under (header_of h)) there in
+    let first : first_word_on new r.cell ≡ first_word_on old r.cell =
+    ap (λ k. 64 * r.cell.page + r.cell.index * k) words in
+    let from = r.from in
+    let to = r.to in
+    record {
+      cell = r.cell;
+      small = r.small;
+      released = r.released;
+      used = used;
+      pointed = ap (λ h. cell_at c.pages h (address_of n)) here ∙ r.pointed;
+      from = omega arith;
+      to = omega arith;
+    }
+
+-- a page with a cell is its own head
+own_head : (x : Option Header) (p k i : ℕ) → i < k + words_under x → k ≤ i → head_page_under x p ≡ p
+own_head (Some (Later distance mapped)) p k i lt le = absurd (omega arith)
+own_head _ p k i lt le = refl
+
+-- `head` (d): a page whose head page has no used cell is free
+pub emptied_word : (c : Config) (w : World) (is_gone : Cell → Bool) (p v n : ℕ) → Empties w.now.words p v
+    → IsReleasedWord c w.now.words.pages is_gone n
+    → IsReleasedWord c (slice_set w.now.words.pages p (record { header = v; used = used_at w.now.words p })) is_gone n
+emptied_word c w is_gone p v n h r =
+    kept_word c w.now.words.pages (slice_set w.now.words.pages p (record { header = v; used = used_at w.now.words p }))
+    is_gone n r (same (page_at_address (address_of n)) not_here) (same r.cell.page not_there)
+    (set_by (λ (x : Page). has_bit x.used r.cell.index ≡ true) w.now.words.pages p r.cell.page _ free_page
+    (λ e. ap (λ q. has_bit (used_at w.now.words q) r.cell.index) (sym e) ∙ r.used) r.used)
+  where
+    same : (q : ℕ) → q ≢ p
+        → header_on (slice_set w.now.words.pages p (record { header = v; used = used_at w.now.words p })) q
+        ≡ header_on w.now.words.pages q
+    same q ne = set_by (λ (x : Page). x.header ≡ header_on w.now.words.pages q) w.now.words.pages p q _ free_page
+        (λ e. absurd (ne e)) refl
+
+    unused : head_page w.now.words p ≡ r.cell.page → ⊥
+    unused e = none_set (used_at w.now.words r.cell.page) r.cell.index (ap (λ q. used_at w.now.words q) (sym e)
+        ∙ h.unused) r.used
+
+    not_here : page_at_address (address_of n) ≢ p
+    not_here e = unused (ap (λ q. head_page w.now.words q) (sym e)
+        ∙ sym (pointed_head c.pages w.now.words (address_of n) r.cell r.pointed))
+
+    not_there : r.cell.page ≢ p
+    not_there e = unused (ap (λ q. head_page w.now.words q) (sym e)
+        ∙ own_head (header_in w.now.words r.cell.page) r.cell.page (first_word_on w.now.words.pages r.cell) n r.to
+        r.from)
+
+-- A used word's step leaves all headers.
+pub same_headers : (pages : List Page) (p v q : ℕ)
+    → header_on (slice_set pages p (record { header = header_on pages p; used = v })) q ≡ header_on pages q
+same_headers pages p v q =
+    set_by (λ (x : Page). x.header ≡ header_on pages q) pages p q _ free_page (λ e. ap (λ i. header_on pages i) (sym e))
+    refl
+
+-- `used` (b): the words of a cell that is given back are 0
+pub unwiped_word : (c : Config) (w : World) (is_gone : Cell → Bool) (p v n : ℕ) → GivesBack w.now.words p v
+    → slice_index w.now.words.heap n ≢ 0 → IsReleasedWord c w.now.words.pages is_gone n
+    → IsReleasedWord c (slice_set w.now.words.pages p (record { header = header_at w.now.words p; used = v })) is_gone n
+unwiped_word c w is_gone p v n h some r = kept_word c w.now.words.pages
+    (slice_set w.now.words.pages p (record { header = header_at w.now.words p; used = v })) is_gone n r
+    (same_headers w.now.words.pages p v (page_at_address (address_of n)))
+    (same_headers w.now.words.pages p v r.cell.page)
+    (set_by (λ (x : Page). has_bit x.used r.cell.index ≡ true) w.now.words.pages p r.cell.page _ free_page still r.used)
+  where
+    wiped : r.cell.page ≡ p → has_bit v r.cell.index ≡ false → ⊥
+    wiped e out =
+        let bit : has_bit (used_at w.now.words p) r.cell.index ≡ true =
+        ap (λ q. has_bit (used_at w.now.words q) r.cell.index) (sym e) ∙ r.used in
+        let gone = rest_bits v (used_at w.now.words p) r.cell.index h.fewer bit out in
+        let zero = wiped_cell w.now.words p (used_at w.now.words p - v) r.cell.index h.wiped r.small gone in
+        let cell : Cell = record { page = p; index = r.cell.index } in
+        let first : first_word w.now.words cell ≡ first_word_on w.now.words.pages r.cell =
+        ap (λ q. first_word w.now.words (record { page = q; index = r.cell.index })) (sym e) in
+        let words : cell_words w.now.words cell ≡ words_under (shows_on w.now.words.pages r.cell.page) =
+        ap (λ q. words_under (header_in w.now.words q)) (sym e) in
+        let from = r.from in
+        let to = r.to in
+        let at : first_word w.now.words cell + (n - first_word w.now.words cell) ≡ n = omega arith in
+        some (ap (λ i. slice_index w.now.words.heap i) (sym at)
+        ∙ eqb-true (slice_index w.now.words.heap (first_word w.now.words cell + (n - first_word w.now.words cell))) 0
+        (all_below-at (cell_words w.now.words cell) (n - first_word w.now.words cell)
+        (λ i. slice_index w.now.words.heap (first_word w.now.words cell + i) == 0) zero (omega arith)))
+
+    still : r.cell.page ≡ p → has_bit v r.cell.index ≡ true
+    still e = elim (cases_Bool (has_bit v r.cell.index)) [ inl in_it ↦ in_it | inr out ↦ absurd (wiped e out) ]
+
+-- `quar` (c): only cells that aren't used leave the snapshot
+pub dropped_word : (c : Config) (w : World) (p f v n : ℕ) → Drops w.now.words p f v
+    → IsReleasedWord c w.now.words.pages (is_released_there (zero_scene_with true w.now.words.marks w)) n
+    → IsReleasedWord c w.now.words.pages (is_released_there (record (zero_scene_with true w.now.words.marks w) {
+      snapshot = slice_set w.now.words.snapshot p v;
+    })) n
+dropped_word c w p f v n h r =
+    record {
+      cell = r.cell;
+      small = r.small;
+      released = set_by (λ x. has_bit (without x (slice_index w.now.words.marks r.cell.page)) r.cell.index ≡ true)
+          w.now.words.snapshot p r.cell.page v 0 still r.released;
+      used = r.used;
+      pointed = r.pointed;
+      from = r.from;
+      to = r.to;
+    }
+  where
+    bits : (has_bit (slice_index w.now.words.snapshot r.cell.page) r.cell.index ≡ true)
+        × (not (has_bit (slice_index w.now.words.marks r.cell.page) r.cell.index) ≡ true)
+    bits = and_parts (has_bit (slice_index w.now.words.snapshot r.cell.page) r.cell.index)
+        (not (has_bit (slice_index w.now.words.marks r.cell.page) r.cell.index))
+        (sym (has_bit_without (slice_index w.now.words.snapshot r.cell.page) (slice_index w.now.words.marks r.cell.page)
+        r.cell.index) ∙ r.released)
+
+    still : r.cell.page ≡ p → has_bit (without v (slice_index w.now.words.marks r.cell.page)) r.cell.index ≡ true
+    still e = has_bit_without v (slice_index w.now.words.marks r.cell.page) r.cell.index
+        ∙ and_from (has_bit v r.cell.index) (not (has_bit (slice_index w.now.words.marks r.cell.page) r.cell.index))
+        kept bits.1
+      where
+        kept : has_bit v r.cell.index ≡ true
+        kept = elim (cases_Bool (has_bit v r.cell.index)) [
+          | inl in_it ↦ in_it
+          | inr out ↦
+              let gone = h.gone r.cell.index
+              (ap (λ q. has_bit (slice_index w.now.words.snapshot q) r.cell.index) (sym e) ∙ bits.0) out in
+              absurd (true≢false (sym r.used ∙ ap (λ q. has_bit (used_at w.now.words q) r.cell.index) e ∙ gone.1))
+        ]
+
+-- Words of what a call frees: a run's become those of the run that it unmaps, and they are 0 once that is gone.
+
+-- `give`: the run's words are 0
+pub gone_word : (w : Words) (freed : Option RunPages) (n : ℕ) → is_run_gone w freed ≡ true → IsFreedWord freed n
+    → slice_index w.heap n ≡ 0
+gone_word w freed n gone f =
+    let run : RunPages = f.run in
+    let there : is_run_gone w (Some run) ≡ true = ap (λ (x : Option RunPages). is_run_gone w x) (sym f.there) ∙ gone in
+    let zero = (and_parts (is_run_unmapped w run) (words_are_zero w (64 * run.page) (64 * run.count)) there).1 in
+    let parts = and_parts (nat_le run.page (n / 64)) (nat_lt (n / 64 - run.page) run.count) f.word in
+    let from = leb-true run.page (n / 64) parts.0 in
+    let to = ltb-true (n / 64 - run.page) run.count parts.1 in
+    let at : 64 * run.page + (n - 64 * run.page) ≡ n = omega arith in
+    ap (λ i. slice_index w.heap i) (sym at) ∙ eqb-true (slice_index w.heap (64 * run.page + (n - 64 * run.page))) 0
+    (all_below-at (64 * run.count) (n - 64 * run.page) (λ i. slice_index w.heap (64 * run.page + i) == 0) zero
+    (omega arith))
+
+-- `quar` (a), where no cell is freed
+pub word_where_none_is_freed : (c : Config) (w : World) (n : ℕ) → IsWordOfMapped c w.allocations n
+    → IsWordOfMapped c (map (freed_where_it_stands w.now.words None) w.allocations) n
+word_where_none_is_freed c w n m = word_of_changed c (freed_where_it_stands w.now.words None) w.allocations n
+    (freed_leaves w.now.words None) m m.mapped
+
+-- and where one is
+pub word_of_freed : (c : Config) (w : World) (cell : Cell) (n : ℕ) → IsWithinLimits c
+    → (m : IsWordOfMapped c w.allocations n) → IsStanding c w.now.words (placed_at w.allocations m.number)
+    → (stands_in w.now.words cell (placed_at w.allocations m.number) ≡ true
+    → cell_of_allocation c (placed_at w.allocations m.number) ≡ cell)
+    → IsWordOfMapped c (map (freed_where_it_stands w.now.words (Some cell)) w.allocations) n
+    ⊎ IsFreedWord (run_of_cell w.now.words (Some cell)) n
+word_of_freed c w cell n limits m st in_cell = by (stands_in w.now.words cell a) refl
+  where
+    a : PlacedAllocation
+    a = placed_at w.allocations m.number
+
+    changed : is_mapped c (freed_where_it_stands w.now.words (Some cell) a) ≡ true
+        → IsWordOfMapped c (map (freed_where_it_stands w.now.words (Some cell)) w.allocations) n
+    changed stays = word_of_changed c (freed_where_it_stands w.now.words (Some cell)) w.allocations n
+        (freed_leaves w.now.words (Some cell)) m stays
+
+    in_run : cell_of_allocation c a ≡ cell → is_small_object (object_placed c a) ≡ false
+        → IsFreedWord (run_of_cell w.now.words (Some cell)) n
+    in_run is large =
+        let sized = typed_size c a limits st.stands.typed in
+        let page : a.base / 64 ≡ cell.page = ap (λ (x : Cell). x.page) is in
+        let part : ShowsPart (object_placed c a) 0 (header_in w.now.words cell.page) =
+        subst (λ p. ShowsPart (object_placed c a) 0 (header_in w.now.words p)) page
+        (first_page_shows c w.now.words a sized st.headers) in
+        let first = (run_begins (object_placed c a) a.base large st.stands.begins).1 in
+        let words : storage_words c a ≡ 64 * pages_made (object_placed c a) = large_words (object_placed c a) large in
+        let from : a.base ≤ n = m.word.0 in
+        let to : n < a.base + storage_words c a = m.word.1 in
+        record {
+          run = record { page = cell.page; count = pages_made (object_placed c a) };
+          there = run_large (object_placed c a) (header_in w.now.words cell.page) cell.page part large;
+          word = and_from (nat_le cell.page (n / 64)) (nat_lt (n / 64 - cell.page) (pages_made (object_placed c a)))
+              (le-leb cell.page (n / 64) (omega arith))
+              (lt-ltb (n / 64 - cell.page) (pages_made (object_placed c a)) (omega arith));
+        }
+
+    by : (b : Bool) → stands_in w.now.words cell a ≡ b
+        → IsWordOfMapped c (map (freed_where_it_stands w.now.words (Some cell)) w.allocations) n
+        ⊎ IsFreedWord (run_of_cell w.now.words (Some cell)) n
+    by false is = inl (changed (ap (λ b. is_mapped c (if b then record a { freed = true; fresh = true } else a)) is
+        ∙ m.mapped))
+    by true is = elim (cases_Bool (is_small_object (object_placed c a))) [
+      | inl small ↦ inl (changed (ap (λ (s : Storage). s.mapped) (freed_storage c w.now.words (Some cell) a small)
+          ∙ m.mapped))
+      | inr large ↦ inr (in_run (in_cell is) large)
+    ]
 
 -- `head` and `used`
 abbrev with_pages : World → List Page → ZeroScene
@@ -28,8 +250,7 @@ other_pages c w pages off z = early_words c w (with_pages w pages) off z (λ n n
 late_pages : (c : Config) (w : World) (pages : List Page) → HasZeros c w
     → ((n : ℕ) → slice_index w.now.words.heap n ≢ 0 → IsReleasedWord c w.now.words.pages (is_released_there (here w)) n
     → IsReleasedWord c pages (is_released_there (here w)) n) → OthersAreZero c (with_pages w pages)
-late_pages c w pages z keeps =
-    changed_words c (here w) (with_pages w pages) z (λ n ne. ne) (λ n m. OfMapped m)
+late_pages c w pages z keeps = changed_words c (here w) (with_pages w pages) z (λ n ne. ne) (λ n m. OfMapped m)
     (λ n some r. OfReleased (keeps n some r)) (λ n some f. OfFreedRun f)
 
 pub head_kind : (c : Config) (w : World) (f : Flight) (p v : ℕ) → HasZeros c w → HeadStep c w.now f p v
