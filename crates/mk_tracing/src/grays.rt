@@ -1,15 +1,15 @@
 //! The search for gray cells: marked, and not black.
 ghost use Rattle.std.specs.Prelude.{◌≡◌, ℕ, ◌<◌, ◌≤◌, true, false, IfSome, IfNone, slice_index};
 ghost use Rattle.mk_geom.specs.Headers.{header_of};
-ghost use Rattle.mk_core.specs.Bits.{has_bit};
+ghost use Rattle.mk_core.specs.Bits.{has_bit, without};
 ghost use Rattle.mk_core.specs.Cells.{cells_under};
 ghost use Rattle.mk_tracing.specs.Grays.{HasNoGray, IsGrayUnder, MarksOn};
 ghost use Rattle.mk_tracing.specs.Stops.{IsWanted, still_words};
 
-use crate::stepping::{look_among, look_at, next_in_use};
 use crate::noted::{Noted, words_scanned};
+use crate::stepping::{look_among, next_in_use};
 use crate::worklist::Worklist;
-use mk_core::{Word, cells_under, has_bit};
+use mk_core::{Word, cells_under, has_bit, without};
 use mk_geom::Cell;
 use mk_words::{Stopped, Words};
 
@@ -24,27 +24,32 @@ fn first_of(cells: u64, header: u64) -> Option<u64>
     (index < cells_under(header)).then_some(index)
 }
 
-/// The first gray cell of a page on which these cells are marked. The black word is looked at, and the header only
-/// where a marked cell isn't black.
+/// The first gray cell of a page on which these cells are marked, and these black, not all of the same. It isn't
+/// inlined, since few pages have one when they are searched.
 #[inline(never)]
-fn gray_among(words: &Words, stop: &mut Stopped, page: u64, marks: u64) -> Option<Noted>
+fn gray_among(
+    words: &Words,
+    stop: &mut Stopped,
+    pages: u64,
+    page: u64,
+    marks: u64,
+    blacks: u64,
+) -> Option<Noted>
     requires one_table { stop.old.pass.table ≡ words.now }
+    requires pages { pages ≡ words.now.config.pages }
     requires wanted { IsWanted stop.old.pass }
     requires page { page < words.now.config.pages }
     requires marks { marks ≡ slice_index (still_words stop.old.pass).marks page }
+    requires blacks { blacks ≡ slice_index (still_words stop.old.pass).blacks page }
+    requires some { 0 < without marks blacks }
     ensures on { MarksOn stop.old stop.new }
     ensures words { still_words stop.new.pass ≡ still_words stop.old.pass }
     ensures gray { IfSome result
         (λ gray. IsGrayUnder words.now.config.pages (still_words stop.old.pass) gray.cell gray.header) }
     ensures none { IfNone result (HasNoGray (still_words stop.old.pass) page) }
 {
-    let blacks = look_at(words, stop, Word::Black(page));
-    let grays = marks - (marks & blacks);
-    if grays == 0 {
-        return None;
-    }
-    let header = look_at(words, stop, Word::Head(page));
-    let Some(index) = first_of(grays, header) else {
+    let header = look_among(words, stop, pages, Word::Head(page));
+    let Some(index) = first_of(without(marks, blacks), header) else {
         return None;
     };
     Some(Noted {
@@ -54,7 +59,8 @@ fn gray_among(words: &Words, stop: &mut Stopped, page: u64, marks: u64) -> Optio
     })
 }
 
-/// The first gray cell of a page. Where no cell is marked, no more is looked at.
+/// The first gray cell of a page. Its black word is looked at only where a cell is marked, and its header only where
+/// one of these isn't black.
 #[inline(always)]
 fn gray_on(words: &Words, stop: &mut Stopped, pages: u64, page: u64) -> Option<Noted>
     requires one_table { stop.old.pass.table ≡ words.now }
@@ -71,7 +77,11 @@ fn gray_on(words: &Words, stop: &mut Stopped, pages: u64, page: u64) -> Option<N
     if marks == 0 {
         return None;
     }
-    gray_among(words, stop, page, marks)
+    let blacks = look_among(words, stop, pages, Word::Black(page));
+    if without(marks, blacks) == 0 {
+        return None;
+    }
+    gray_among(words, stop, pages, page, marks, blacks)
 }
 
 /// The first gray cell from a page on, up to another. It goes from page in use to page in use: a free page has no cell.
@@ -118,8 +128,7 @@ fn is_gray(words: &Words, stop: &mut Stopped, noted: Noted) -> bool
     let header = look_among(words, stop, pages, Word::Head(page));
     let marks = look_among(words, stop, pages, Word::Mark(page));
     let blacks = look_among(words, stop, pages, Word::Black(page));
-    let grays = marks - (marks & blacks);
-    header == noted.header && has_bit(grays, index)
+    header == noted.header && has_bit(without(marks, blacks), index)
 }
 
 /// The gray cell that was noted last.

@@ -50,7 +50,11 @@ impl Noted {
             return None;
         }
         let words = words_scanned(header);
-        Some(Noted { cell, header, words })
+        Some(Noted {
+            cell,
+            header,
+            words,
+        })
     }
 
     /// The cell that has a word of a page, which is a block of this class for objects with pointers. None where the

@@ -1,5 +1,6 @@
-use Rattle.std.proofs.Common.{◌≡◌, ◌∙◌, ◌<◌, ℕ, ap, sym, arith}
+use Rattle.std.proofs.Common.{subst, ◌≡◌, ◌∙◌, ◌<◌, ℕ, true, ap, sym, arith}
 use Rattle.std.specs.Prelude.{slice_index}
+use Rattle.mk_core.specs.Bits.{has_bit}
 use Rattle.mk_core.specs.Words.{Words, header_at}
 use Rattle.mk_words.specs.States.{TurnState}
 use Rattle.mk_tracing.specs.Grays.{MarksOn}
@@ -38,6 +39,7 @@ returns-then-header-noted-clause-gray c is =
           (c.look_among-blacks.ensures.found
           ∙ ap (λ (y : Words). slice_index y.blacks page)
           (c.look_among-marks.ensures.words ∙ c.look_among-header.ensures.words))
-          c.args.noted.known (sym c.has_bit.ensures ∙ is);
+          c.args.noted.known
+          (subst (λ n. has_bit n c.args.noted.cell.index ≡ true) c.without.ensures (sym c.has_bit.ensures ∙ is));
       word = word;
     }
