@@ -1,6 +1,5 @@
 -- The command that the getters read is the one of what was given.
-use Rattle.std.proofs.Common.{◌≡◌, ◌∙◌, Bool, true, false, Option, Some, ap}
-use Rattle.std.proofs.Common.{option_and_then}
+use Rattle.std.proofs.Common.{◌≡◌, ◌∙◌, Bool, true, false, Option, Some, ap, option_and_then}
 use lib.Chars.{codes}
 use Rattle.clap.specs.Values.{bool_text}
 use Rattle.clap.specs.Walk.{Text, rows_of}

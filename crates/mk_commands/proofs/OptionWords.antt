@@ -1,13 +1,12 @@
 -- A word more that is an option.
-use Rattle.std.proofs.Common.{◌≡◌, ◌∙◌, ◌++◌, Bool, true, false, List, [], ◌∷◌, Option, Some}
-use Rattle.std.proofs.Common.{None, is_some, refl, sym, ap, subst, if◌then◌else◌, option_and_then}
+use Rattle.std.proofs.Common.{◌≡◌, ◌∙◌, ◌++◌, Bool, true, false, List, [], ◌∷◌, Option, Some, None, is_some, refl, sym}
+use Rattle.std.proofs.Common.{ap, subst, if◌then◌else◌, option_and_then}
 use Rattle.std.specs.Str.{bytes_eq}
 use Rattle.std.proofs.lemmas.Slice.Eq.{bytes_eq-Decides}
 use lib.Chars.{codes}
 use Rattle.clap.specs.Lexer.{long_of}
-use Rattle.clap.specs.Walk.{Held, Row, Text, Walk, idle, option, next}
-use Rattle.clap.specs.Walk.{arg_by_long, has_row, long_word, settled_rows, with_values}
-use Rattle.clap.specs.Walk.{without}
+use Rattle.clap.specs.Walk.{Held, Row, Text, Walk, idle, option, next, arg_by_long, has_row, long_word, settled_rows}
+use Rattle.clap.specs.Walk.{with_values, without}
 use Rattle.clap.specs.Kinds.{Kinds}
 use Rattle.clap.specs.Faults.{long_fault, settle_fault}
 use Rattle.clap.specs.declared.error.kind.ErrorKind.TheVariants as kind
@@ -19,11 +18,9 @@ use Rattle.mk_commands.specs.Given.{given_said, with_words}
 use Rattle.mk_commands.specs.Told.{flag_name}
 use Rattle.mk_commands.proofs.Lexing.{no_value, said_long}
 use Rattle.mk_commands.proofs.Rows.{row, values_set}
-use Rattle.mk_commands.proofs.Walking.{long_is}
-use Rattle.mk_commands.proofs.Walking.{goes_on, word_stops, rules, standing}
-use Rattle.mk_commands.proofs.Walking.{holding, position_of}
-use Rattle.mk_commands.proofs.Standing.{Holds, has_markers, has_the_flag, holds_markers, holds_flag}
-use Rattle.mk_commands.proofs.Standing.{waits, IsAt, TellsAs, More, moved}
+use Rattle.mk_commands.proofs.Walking.{long_is, word_stops, rules, standing, holding, position_of}
+use Rattle.mk_commands.proofs.Standing.{Holds, has_markers, has_the_flag, holds_markers, holds_flag, waits, IsAt, More}
+use Rattle.mk_commands.proofs.Standing.{TellsAs, passes_on}
 
 -- ---- a word with a name
 
@@ -169,11 +166,8 @@ module _ (form : Form) (name word : Text) (words : List Text) (rows : List Row) 
         → u.numbers ≡ ns → u.ended ≡ false → IsAt b form u left q → Free (Some u)
     long_passes id v l b u left q passes met un ue at =
         let kinds = long_is form name word id v idle (position_of ns) (holding rows p) e l in
-        let step = goes_on form name (standing rows p idle (position_of ns) false) word words (holding left q)
-        (next (waits b)) refl
-        (kinds.0 ∙ met) (kinds.1 ∙ passes) refl in
-        moved form name (standing rows p idle (position_of ns) false) _ (word ∷ words) words _ step
-        (more b u left q ns false un ue at)
+        passes_on form name (standing rows p idle (position_of ns) false) word words (holding left q) (next (waits b)) _
+        refl (kinds.0 ∙ met) (kinds.1 ∙ passes) refl (more b u left q ns false un ue at)
 
     abbrev left : List Row
     left = settled_rows (rules form) p rows

@@ -1,23 +1,21 @@
 -- Where the walk of clap stands, with what its rows hold, and a word more that is a number.
-use Rattle.std.proofs.Common.{◌≡◌, ◌∙◌, ◌++◌, Bool, true, false, ◌||◌, List, [], ◌∷◌, Option, Some}
-use Rattle.std.proofs.Common.{None, is_some, refl, sym, ap, subst, if◌then◌else◌, option_and_then}
+use Rattle.std.proofs.Common.{◌≡◌, ◌∙◌, ◌++◌, Bool, true, false, ◌||◌, List, [], ◌∷◌, Option, Some, None, is_some, refl}
+use Rattle.std.proofs.Common.{sym, ap, subst, if◌then◌else◌, option_and_then}
 use lib.Chars.{codes}
-use Rattle.clap.specs.Walk.{Row, Text, Waiting, Walk, idle, option, value, after_step}
-use Rattle.clap.specs.Walk.{has_row, is_pending, settled_rows}
-use Rattle.clap.specs.Walk.{word_met}
-use Rattle.clap.specs.Faults.{settle_fault, word_fault}
+use Rattle.clap.specs.Walk.{Row, Text, Waiting, Walk, idle, option, value, after_step, has_row, is_pending, Held, Step}
+use Rattle.clap.specs.Walk.{settled_rows, word_met}
+use Rattle.clap.specs.Faults.{settle_fault, step_fault, word_fault}
 use Rattle.clap.specs.declared.builder.value_parser.Reading.{Reading}
 use Rattle.clap.specs.declared.builder.value_parser.Reading.TheVariants.{AsWritten}
 use Rattle.clap.specs.declared.parser.matches.ValueSource.TheVariants.{CommandLine}
 use Rattle.mk_commands.specs.Commands.{start_of, count_of}
-use Rattle.mk_commands.specs.Given.{Form, runs, gens, bare, Flag, sweep_flag, why_flag, said, takes_markers}
-use Rattle.mk_commands.specs.Given.{Numbers, no_number, one_number, two_numbers, Given, has_flag, set_flag}
-use Rattle.mk_commands.specs.Given.{with_number, given_said, given_awaited, given_with_word, with_words}
+use Rattle.mk_commands.specs.Given.{Form, runs, gens, bare, Flag, sweep_flag, why_flag, said, takes_markers, Numbers}
+use Rattle.mk_commands.specs.Given.{no_number, one_number, two_numbers, Given, has_flag, set_flag, with_number}
+use Rattle.mk_commands.specs.Given.{given_said, given_awaited, given_with_word, with_words}
 use Rattle.mk_commands.specs.Told.{flag_name}
 use Rattle.mk_commands.proofs.Rows.{entry, row, has_entry, values_set, entry_other, entry_same}
-use Rattle.mk_commands.proofs.Walking.{goes_on, step_stops, shape, rules, standing}
-use Rattle.mk_commands.proofs.Walking.{holding, rest_fault, rest_rows, position_of, start_filled, count_filled}
-use Rattle.mk_commands.proofs.Walking.{and_false}
+use Rattle.mk_commands.proofs.Walking.{goes_on, step_stops, shape, rules, standing, holding, rest_fault, rest_rows}
+use Rattle.mk_commands.proofs.Walking.{position_of, start_filled, count_filled, and_false}
 
 -- ---- what the rows hold
 
@@ -142,12 +140,18 @@ More form name words = (b : Bool) (t : Given) (rows : List Row) (p : Option (Tex
     → t.numbers ≡ ns → t.ended ≡ tr → IsAt b form t rows p
     → TellsAs form name (standing rows p (waits b) (position_of ns) tr) words (with_words form words t)
 
-pub moved : (form : Form) (name : Text) (w v : Walk) (words left : List Text) (o : Option Given)
-    → (rest_fault form name v left ≡ rest_fault form name w words) × (rest_rows form v left ≡ rest_rows form w words)
-    → TellsAs form name v left o → TellsAs form name w words o
-moved form name w v words left None step h = λ e. h (step.0 ∙ e)
-moved form name w v words left (Some t) step h =
-    (sym step.0 ∙ h.0, subst (λ (rows : List Row). Holds rows t) step.1 h.1)
+-- a word that passes: what comes after it tells the same
+pub passes_on : (form : Form) (name : Text) (w : Walk) (word : Text) (words : List Text) (h : Held) (step : Step)
+    (o : Option Given) → w.stopped ≡ None
+    → word_met (rules form) [] w.is_trailing w.waiting w.position word w.held ≡ (h, step)
+    → word_fault (shape form name) [] w.is_trailing w.waiting word w.held ≡ []
+    → step_fault (shape form name) w.position h step ≡ []
+    → TellsAs form name (after_step (rules form) word w h step) words o → TellsAs form name w (word ∷ words) o
+passes_on form name w word words h step None s met passes fits tells =
+    λ e. tells ((goes_on form name w word words h step s met passes fits).0 ∙ e)
+passes_on form name w word words h step (Some t) s met passes fits tells =
+    let on = goes_on form name w word words h step s met passes fits in
+    (sym on.0 ∙ tells.0, subst (λ (rows : List Row). Holds rows t) on.1 tells.1)
 
 -- the next word is told so
 pub if_true : (b : Bool) (x y : Option Given) → b ≡ true → (if b then x else y) ≡ x
@@ -194,29 +198,27 @@ number_tells gens name word words t rows p no_number tr is en i met passes more 
     let left = settled_rows (rules gens) p rows in
     let u : Given = record t { numbers = one_number word } in
     let fresh : has_row (codes "start") left ≡ false = has_start left t i.1 ∙ ap (λ ns. is_some (start_of ns)) is in
-    let step = goes_on gens name (standing rows p idle 1 tr) word words (holding rows p) value refl met passes
-    (rw (and_false (is_pending start_filled p)) i.0) in
     let after : after_step (rules gens) word (standing rows p idle 1 tr) (holding rows p) value
     ≡ standing left (Some (codes "start", word ∷ [])) idle 2 tr =
     rw (and_false (is_pending start_filled p), or_off tr) refl in
     let held : Holds (settled_rows (rules gens) (Some (codes "start", word ∷ [])) left) u =
     subst (λ (r : List Row). Holds r u) (sym (values_set (codes "start") AsWritten CommandLine (word ∷ []) left fresh))
     (holds_start left t i.1 is word) in
-    rw is (moved gens name (standing rows p idle 1 tr) _ (word ∷ words) words _ step
+    rw is (passes_on gens name (standing rows p idle 1 tr) word words (holding rows p) value _ refl met passes
+    (rw (and_false (is_pending start_filled p)) i.0)
     (subst (λ (w : Walk). TellsAs gens name w words (with_words gens words u)) (sym after)
     (more false u left (Some (codes "start", word ∷ [])) (one_number word) tr refl en (rw fresh refl, held, i.2))))
 number_tells gens name word words t rows p (one_number a) tr is en i met passes more =
     let left = settled_rows (rules gens) p rows in
     let u : Given = record t { numbers = two_numbers a word } in
     let fresh : has_row (codes "count") left ≡ false = has_count left t i.1 ∙ ap (λ ns. is_some (count_of ns)) is in
-    let step = goes_on gens name (standing rows p idle 2 tr) word words (holding rows p) value refl met passes
-    (rw (and_false (is_pending count_filled p)) i.0) in
     let after : after_step (rules gens) word (standing rows p idle 2 tr) (holding rows p) value
     ≡ standing left (Some (codes "count", word ∷ [])) idle 3 tr =
     rw (and_false (is_pending count_filled p), or_off tr) refl in
     let held : Holds (settled_rows (rules gens) (Some (codes "count", word ∷ [])) left) u =
     subst (λ (r : List Row). Holds r u) (sym (values_set (codes "count") AsWritten CommandLine (word ∷ []) left fresh))
     (holds_count left t i.1 a is word) in
-    rw is (moved gens name (standing rows p idle 2 tr) _ (word ∷ words) words _ step
+    rw is (passes_on gens name (standing rows p idle 2 tr) word words (holding rows p) value _ refl met passes
+    (rw (and_false (is_pending count_filled p)) i.0)
     (subst (λ (w : Walk). TellsAs gens name w words (with_words gens words u)) (sym after)
     (more false u left (Some (codes "count", word ∷ [])) (two_numbers a word) tr refl en (rw fresh refl, held, i.2))))

@@ -1,16 +1,16 @@
 -- What clap takes and finds, of a whole command line.
-use Rattle.std.proofs.Common.{◌≡◌, ◌≢◌, ◌∙◌, Bool, true, false, ◌||◌, List, [], ◌∷◌, Option, Some, None}
-use Rattle.std.proofs.Common.{is_some, refl, sym, ap, subst, if◌then◌else◌, option_and_then, option_map, slice_get}
-use Rattle.std.proofs.Common.{drop, fold, MatchOption}
+use Rattle.std.proofs.Common.{◌≡◌, ◌≢◌, ◌∙◌, Bool, true, false, ◌||◌, List, [], ◌∷◌, Option, Some, None, is_some, refl}
+use Rattle.std.proofs.Common.{sym, ap, subst, if◌then◌else◌, option_and_then, option_map, slice_get, drop, fold}
+use Rattle.std.proofs.Common.{MatchOption}
 use Rattle.std.specs.Str.{bytes_eq}
 use lib.Chars.{codes}
 use Rattle.clap.specs.Values.{bool_text, read_as}
-use Rattle.clap.specs.Walk.{Row, Rule, Text, first_of, has_row, nothing_held, idle}
-use Rattle.clap.specs.Walk.{one_of, with_default, with_values}
+use Rattle.clap.specs.Walk.{Row, Rule, Text, first_of, has_row, nothing_held, idle, one_of, with_default, with_values}
+use Rattle.clap.specs.Walk.{rows_of}
 use Rattle.clap.specs.Simple.{App, built, matches_of}
 use Rattle.clap.specs.Kinds.{Kinds, or_else}
 use Rattle.clap.specs.Faults.{check_fault, default_fault, defaults_fault, fault_of, given_default_fault}
-use Rattle.clap.specs.Faults.{is_simple_and_free, settle_fault}
+use Rattle.clap.specs.Faults.{settle_fault}
 use Rattle.clap.specs.declared.builder.value_parser.Reading.{Reading}
 use Rattle.clap.specs.declared.builder.value_parser.Reading.TheVariants.{AsWritten}
 use Rattle.clap.specs.declared.parser.matches.ValueSource.TheVariants.{DefaultValue}
@@ -18,21 +18,15 @@ use Rattle.clap.proofs.FaultLemmas.{leaf_fault}
 use Rattle.mk_commands.specs.Commands.{start_of, count_of}
 use Rattle.mk_commands.specs.Given.{Form, runs, gens, bare, Given, nothing_given, no_number, given_by}
 use Rattle.mk_commands.specs.Told.{app_named, HasGiven}
-use Rattle.clap.specs.Walk.{rows_of}
 use Rattle.clap.specs.Matches.{found_of}
 use Rattle.clap.specs.declared.parser.matches.ArgMatches.{ArgMatches}
 use Rattle.mk_commands.specs.declared.commands.Command.{Command}
 use Rattle.mk_commands.proofs.Rows.{entry, row, has_entry, values_added, entry_other, entry_same, first_of_entry}
 use Rattle.mk_commands.proofs.Rows.{one_of_entry}
-use Rattle.mk_commands.proofs.Walking.{shape, rules, standing, rest_fault, rest_rows, flag_filled}
-use Rattle.mk_commands.proofs.Walking.{markers_filled, start_filled, count_filled}
+use Rattle.mk_commands.proofs.Walking.{shape, rules, standing, rest_fault, rest_rows, flag_filled, markers_filled}
+use Rattle.mk_commands.proofs.Walking.{start_filled, count_filled}
 use Rattle.mk_commands.proofs.Standing.{Holds, TellsAs, as_entry, flag_entry}
 use Rattle.mk_commands.proofs.Tells.{tells}
-
-pub simple_and_free : (form : Form) (name : Text) → is_simple_and_free (app_named form name) ≡ true
-simple_and_free runs name = refl
-simple_and_free gens name = refl
-simple_and_free bare name = refl
 
 -- ---- the values that stand where a flag wasn't given
 

@@ -1,11 +1,10 @@
 -- What clap takes and finds is what the words say.
-use Rattle.std.proofs.Common.{◌≡◌, ◌∙◌, Bool, true, false, List, [], ◌∷◌, Option, Some}
-use Rattle.std.proofs.Common.{None, is_some, refl, sym, ap, subst, inl, inr, if◌then◌else◌, option_and_then}
+use Rattle.std.proofs.Common.{◌≡◌, ◌∙◌, Bool, true, false, List, [], ◌∷◌, Option, Some, None, is_some, refl, sym, ap}
+use Rattle.std.proofs.Common.{subst, inl, inr, if◌then◌else◌, option_and_then}
 use Rattle.std.specs.Str.{bytes_eq}
 use lib.Chars.{codes}
-use Rattle.clap.specs.Walk.{Row, Text, idle, option, next, trailing}
-use Rattle.clap.specs.Walk.{arg_by_long, has_row, plain_word, settled_rows, with_values}
-use Rattle.clap.specs.Walk.{without}
+use Rattle.clap.specs.Walk.{Row, Text, idle, option, next, trailing, arg_by_long, has_row, plain_word, settled_rows}
+use Rattle.clap.specs.Walk.{with_values, without}
 use Rattle.clap.specs.Faults.{settle_fault, walk_fault}
 use Rattle.clap.specs.declared.error.kind.ErrorKind.TheVariants as kind
 use Rattle.clap.specs.declared.builder.value_parser.Reading.TheVariants.{AsWritten}
@@ -16,12 +15,10 @@ use Rattle.mk_commands.specs.Given.{given_awaited, given_with_word, with_words}
 use Rattle.mk_commands.proofs.Lexing.{no_value, said_long, says_long, says_dashed}
 use Rattle.mk_commands.proofs.Rows.{values_set}
 use Rattle.mk_commands.proofs.Walking.{View, is_ends, is_long, is_bundle, is_odd, is_plain, view, PassesBy}
-use Rattle.mk_commands.proofs.Walking.{plain_passes, odd_passes, long_is, bundle_is, bundle_stops}
-use Rattle.mk_commands.proofs.Walking.{long_stops, lost, goes_on, word_stops, rules, standing}
-use Rattle.mk_commands.proofs.Walking.{holding, position_of}
-use Rattle.mk_commands.proofs.Standing.{Holds, has_markers, holds_markers, IsAt}
-use Rattle.mk_commands.proofs.Standing.{TellsAs, More, moved, if_true, if_false, told_awaiting, told_ended}
-use Rattle.mk_commands.proofs.Standing.{told_free, number_tells}
+use Rattle.mk_commands.proofs.Walking.{plain_passes, odd_passes, long_is, bundle_is, bundle_stops, long_stops, lost}
+use Rattle.mk_commands.proofs.Walking.{word_stops, rules, standing, holding, position_of}
+use Rattle.mk_commands.proofs.Standing.{Holds, has_markers, holds_markers, IsAt, TellsAs, More, passes_on, if_true}
+use Rattle.mk_commands.proofs.Standing.{if_false, told_awaiting, told_ended, told_free, number_tells}
 use Rattle.mk_commands.proofs.OptionWords.{conflict_if, some_markers, is_none, Free, at_value, Awaiting, long_go}
 
 -- ---- a word where no number is awaited
@@ -49,11 +46,9 @@ free_tells form name word words t rows p ns false is en i more = on_view (view w
 
     on_view : View word → Free form name word words rows p ns (given_with_word form t word)
     on_view (is_ends e) =
-        let step = goes_on form name (standing rows p idle (position_of ns) false) word words (holding rows p)
-        (trailing (position_of ns)) refl
-        (rw e refl) (rw e refl) refl in
         by_said ends (rw e refl)
-        (moved form name (standing rows p idle (position_of ns) false) _ (word ∷ words) words _ step
+        (passes_on form name (standing rows p idle (position_of ns) false) word words (holding rows p)
+        (trailing (position_of ns)) _ refl (rw e refl) (rw e refl) refl
         (more false (record t { ended = true }) rows p ns true is refl i))
     on_view (is_long id v e l) =
         by_said (said_long id v) (says_long word id v e l)
@@ -123,24 +118,24 @@ awaiting_tells form name word words t rows ns is h a en k more = on_view (view w
         → Awaiting form name word words rows ns (given_with_word form t word)
     by_told o s g = subst (Awaiting form name word words rows ns) (sym (told_awaiting form t word a ∙ s)) g
 
+    -- the number is held, and the walk goes on from there
+    takes_number : PassesBy form name word → (o : Option Given)
+        → TellsAs form name (standing rows (Some (codes "markers", word ∷ [])) idle (position_of ns) false) words o
+        → TellsAs form name (at_value rows ns) (word ∷ words) o
+    takes_number by o =
+        passes_on form name (at_value rows ns) word words (holding rows (Some (codes "markers", word ∷ []))) (next idle) o
+        refl (by.met (option (codes "markers")) (position_of ns) rows (Some (codes "markers", []))
+        ∙ awaited_met form k word rows)
+        (by.passes (option (codes "markers")) rows (Some (codes "markers", []))) refl
+
     by_markers : PassesBy form name word → (b : Bool) → is_some t.markers ≡ b
         → Awaiting form name word words rows ns (with_markers t word)
     by_markers by true has =
-        let step = goes_on form name (at_value rows ns) word words (holding rows (Some (codes "markers", word ∷ [])))
-        (next idle) refl
-        (by.met (option (codes "markers")) (position_of ns) rows (Some (codes "markers", []))
-        ∙ awaited_met form k word rows)
-        (by.passes (option (codes "markers")) rows (Some (codes "markers", []))) refl in
         let kinds = awaited form k rows true (has_markers rows t h ∙ has) word in
-        subst (Awaiting form name word words rows ns) (sym (some_markers t word true has)) (λ e.
-        lost form name words rows (Some (codes "markers", word ∷ [])) idle ns false
-        (λ g. let bad : kind.ArgumentConflict ∷ [] ≡ [] = sym kinds ∙ g in cc) (inr refl) (step.0 ∙ e))
+        subst (Awaiting form name word words rows ns) (sym (some_markers t word true has)) (takes_number by None
+        (lost form name words rows (Some (codes "markers", word ∷ [])) idle ns false
+        (λ g. let bad : kind.ArgumentConflict ∷ [] ≡ [] = sym kinds ∙ g in cc) (inr refl)))
     by_markers by false has =
-        let step = goes_on form name (at_value rows ns) word words (holding rows (Some (codes "markers", word ∷ [])))
-        (next idle) refl
-        (by.met (option (codes "markers")) (position_of ns) rows (Some (codes "markers", []))
-        ∙ awaited_met form k word rows)
-        (by.passes (option (codes "markers")) rows (Some (codes "markers", []))) refl in
         let fresh = has_markers rows t h ∙ has in
         let u : Given = record t { markers = Some word; awaits = false } in
         let held : Holds (settled_rows (rules form) (Some (codes "markers", word ∷ [])) rows) u =
@@ -148,8 +143,7 @@ awaiting_tells form name word words t rows ns is h a en k more = on_view (view w
         (sym (awaited_rows form k word rows
         ∙ values_set (codes "markers") AsWritten CommandLine (word ∷ []) rows fresh))
         (holds_markers rows t h (is_none t.markers has) word false) in
-        subst (Awaiting form name word words rows ns) (sym (some_markers t word false has))
-        (moved form name (at_value rows ns) _ (word ∷ words) words _ step
+        subst (Awaiting form name word words rows ns) (sym (some_markers t word false has)) (takes_number by _
         (more false u rows (Some (codes "markers", word ∷ [])) ns false is en
         (awaited form k rows false fresh word, held, refl)))
 
@@ -159,12 +153,11 @@ awaiting_tells form name word words t rows ns is h a en k more = on_view (view w
 
     on_view : View word → Awaiting form name word words rows ns (given_with_word form t word)
     on_view (is_ends e) =
-        let step = goes_on form name (at_value rows ns) word words (holding rows (Some (codes "markers", [])))
-        (trailing (position_of ns)) refl
-        (rw e refl) (rw e refl) refl in
         by_told None (rw e refl)
-        (λ g. lost form name words rows (Some (codes "markers", [])) (option (codes "markers")) ns true
-        (none_awaited form k rows) (inl refl) (step.0 ∙ g))
+        (passes_on form name (at_value rows ns) word words (holding rows (Some (codes "markers", [])))
+        (trailing (position_of ns)) None refl (rw e refl) (rw e refl) refl
+        (lost form name words rows (Some (codes "markers", [])) (option (codes "markers")) ns true
+        (none_awaited form k rows) (inl refl)))
     on_view (is_long id v e l) =
         let kinds = long_is form name word id v (option (codes "markers")) (position_of ns)
         (holding rows (Some (codes "markers", []))) e l in

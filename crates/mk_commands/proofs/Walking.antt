@@ -1,19 +1,16 @@
 -- The walk of clap over the words, word by word.
-use Rattle.std.proofs.Common.{◌≡◌, ◌⊎◌, ◌∙◌, ℕ, Bool, true, false, ◌&&◌, List, [], ◌∷◌, Option, Some}
-use Rattle.std.proofs.Common.{None, refl, sym, ap, subst, inl, inr}
-use Rattle.std.proofs.Common.{slice_get, length, fold, drop, encode_utf8}
+use Rattle.std.proofs.Common.{◌≡◌, ◌⊎◌, ◌∙◌, ℕ, Bool, true, false, ◌&&◌, List, [], ◌∷◌, Option, Some, None, refl, sym}
+use Rattle.std.proofs.Common.{ap, subst, inl, inr, slice_get, length, fold, drop, encode_utf8}
 use Rattle.std.specs.Str.{bytes_eq, chars}
 use lib.Chars.{codes}
 use Rattle.clap.specs.Lexer.{long_of, short_of}
-use Rattle.clap.specs.Walk.{Held, Row, Rule, Step, Text, Waiting, Walk, idle, option, trailing, value}
-use Rattle.clap.specs.Walk.{plain as no_flag, after_step, arg_by_long}
-use Rattle.clap.specs.Walk.{is_pending, settled_rows}
-use Rattle.clap.specs.Walk.{takes_values, walked, word_met, plain_word, long_word, positional}
-use Rattle.clap.specs.Walk.{subcommand_met, arg_by_short}
+use Rattle.clap.specs.Walk.{Held, Row, Rule, Step, Text, Waiting, Walk, idle, option, trailing, value, plain as no_flag}
+use Rattle.clap.specs.Walk.{after_step, arg_by_long, is_pending, settled_rows, takes_values, walked, word_met}
+use Rattle.clap.specs.Walk.{plain_word, long_word, positional, subcommand_met, arg_by_short}
 use Rattle.clap.specs.Simple.{Shape, built, filled, filled_from, with_index}
 use Rattle.clap.specs.Kinds.{Kinds, or_else}
-use Rattle.clap.specs.Faults.{bundle_fault, flags_fault, long_fault, settle_fault}
-use Rattle.clap.specs.Faults.{step_fault, turn_fault, walk_fault, word_fault, short_fault}
+use Rattle.clap.specs.Faults.{bundle_fault, flags_fault, long_fault, settle_fault, step_fault, turn_fault, walk_fault}
+use Rattle.clap.specs.Faults.{word_fault, short_fault}
 use Rattle.clap.specs.declared.error.kind.ErrorKind.TheVariants as kind
 use Rattle.clap.proofs.FaultLemmas.{fault_ends}
 use Rattle.clap.proofs.WalkLemmas.{bundle_ends}

@@ -2,7 +2,7 @@
 use Rattle.std.proofs.Common.{◌≡◌, ℕ, zero, suc, ◌+◌, ◌<◌, Bool, true, false, ◌&&◌, refl, sym, ◌∙◌, ap, inl, inr, arith}
 use Rattle.std.proofs.Common.{add-one}
 use Rattle.std.proofs.lemmas.Bool.{cases_eq}
-use Rattle.mk_core.specs.Bounded.{all_below}
+use Rattle.mk_core.proofs.Vocabulary.{all_below}
 
 and_left : (a b : Bool) → (a && b) ≡ true → (a ≡ true) × (b ≡ true)
 and_left true true h = (refl, refl)

@@ -1,7 +1,7 @@
 -- Tests of each number below a sum.
 use Rattle.std.proofs.Common.{◌≡◌, ℕ, zero, suc, ◌+◌, ◌-◌, ◌≤◌, Bool, false, ◌&&◌, refl, sym, ◌∙◌, ap, arith, add-suc}
 use Rattle.std.proofs.Math.Bool.{and_assoc, and-false, and-true}
-use Rattle.mk_core.specs.Bounded.{all_below}
+use Rattle.mk_core.proofs.Vocabulary.{all_below}
 
 -- this many, and this many after them
 pub all_below-add : (a b : ℕ) (test : ℕ → Bool)

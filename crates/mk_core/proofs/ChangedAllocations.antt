@@ -5,12 +5,12 @@ use Rattle.std.proofs.Math.Bool.{and-false}
 use Rattle.std.proofs.Math.ListN.{get_or-map as get_or-map-default}
 use Rattle.std.proofs.Math.Seq.{get_or-append_seam}
 use Rattle.std.proofs.lemmas.List.{get_or_append_left}
-use Rattle.mk_core.proofs.Vocabulary.{Cell, Config, HasItsHeaders, header_at, is_small_object, IsHeaderOf}
-use Rattle.mk_core.proofs.Vocabulary.{kinds_of, never_granted, object_placed, pages_made, placed_at, PlacedAllocation}
-use Rattle.mk_core.proofs.Vocabulary.{stands_in, storage_of, Words}
+use Rattle.mk_core.proofs.Vocabulary.{Cell, Config, HasItsHeaders, header_at, is_small_object, IsHeaderOf, kinds_of}
+use Rattle.mk_core.proofs.Vocabulary.{never_granted, object_placed, pages_made, placed_at, PlacedAllocation, stands_in}
+use Rattle.mk_core.proofs.Vocabulary.{storage_of, unreleased_storage, Words}
 use Rattle.mk_never.specs.Types.{is_large}
 use Rattle.mk_core.specs.NewPlaces.{object_of}
-use Rattle.mk_core.specs.Allocations.{freed_where_it_stands, with_released, no_longer_fresh, unreleased_storage}
+use Rattle.mk_core.specs.Allocations.{freed_where_it_stands, with_released, no_longer_fresh}
 use Rattle.mk_core.proofs.Sizes.{large_is_not_small}
 use Rattle.mk_core.proofs.UnreleasedStorage.{unreleased_kept}
 

@@ -1,13 +1,11 @@
 -- What the calls of the schedules are answered, here and by the heap that never reuses storage.
 use Rattle.std.proofs.Common.{◌≡◌, [], ◌∷◌, ◌++◌, replicate, refl}
-use Rattle.mk_core.proofs.Vocabulary.{answered, asked, calls, never_first, Ptr}
+use Rattle.mk_core.proofs.Vocabulary.{all_below, answered, asked, calls, calls_from, left_from, may_turn_black}
+use Rattle.mk_core.proofs.Vocabulary.{never_first, pointed_cell, Ptr}
 use Rattle.mk_never.specs.declared.operations.Reply.TheVariants as reply
 use Rattle.mk_never.specs.NeverHeap.{replies_of}
 use Rattle.mk_core.specs.declared.events.Answer.TheVariants as answer
-use Rattle.mk_core.specs.Bounded.{all_below}
-use Rattle.mk_core.specs.Cells.{pointed_cell}
-use Rattle.mk_core.specs.StopConditions.{may_turn_black}
-use Rattle.mk_core.specs.History.{left_from, calls_from, RefinesNever}
+use Rattle.mk_core.specs.History.{RefinesNever}
 use Rattle.mk_core.proofs.Schedules.{by, c0, m0, host, one_page, pointer_page, freed_after_begin}
 use Rattle.mk_core.proofs.Schedules.{blackened_before_the_move}
 use Rattle.mk_core.proofs.MoreSchedules.{two_pages, full_then_reused, a_quarter_and_all, granted_while_marking}

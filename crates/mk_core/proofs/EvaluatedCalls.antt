@@ -2,16 +2,12 @@
 use Rattle.std.proofs.Common.{◌≡◌, true, false, List, [], ◌∷◌, ◌++◌, take, None, refl, sym, subst}
 use Rattle.std.proofs.lemmas.Bool.{false≢true}
 use Rattle.std.proofs.lemmas.List.{append_cancel_left}
-use Rattle.mk_core.proofs.Vocabulary.{Event}
+use Rattle.mk_core.proofs.Vocabulary.{all_below, AreOfOthers, Event, left_from, may_turn_black, pointed_cell}
 use Rattle.mk_never.specs.declared.operations.Op.TheVariants as op
 use Rattle.mk_core.specs.declared.events.Word.TheVariants as word
 use Rattle.mk_core.specs.declared.events.Step.TheVariants as step
-use Rattle.mk_core.specs.Bounded.{all_below}
-use Rattle.mk_core.specs.Cells.{pointed_cell}
-use Rattle.mk_core.specs.StopConditions.{may_turn_black}
-use Rattle.mk_core.specs.History.{left_from}
 use Rattle.mk_core.specs.HeldGates.{is_gate_held_from, is_gate_held}
-use Rattle.mk_core.specs.Growing.{AreOfOthers, Grows, own_from, in_this_call}
+use Rattle.mk_core.specs.Growing.{Grows, own_from, in_this_call}
 use Rattle.mk_core.proofs.EventsAt.{events_from}
 use Rattle.mk_core.proofs.Schedules.{by, c0, m0, host, fault, first_fault, one_page, pointer_page, freed_after_begin}
 use Rattle.mk_core.proofs.Schedules.{blackened_before_the_move}

@@ -1,14 +1,11 @@
 -- What the schedules leave, counted: allocations, held and fresh words, tallies, and frees that are due.
 use Rattle.std.proofs.Common.{◌≡◌, ℕ, ◌<◌, true, false, List, [], ◌∷◌, take, drop, refl, ap, arith}
 use Rattle.std.proofs.lemmas.Bool.{false≢true}
-use Rattle.mk_core.proofs.Vocabulary.{Event, is_give, left}
+use Rattle.mk_core.proofs.Vocabulary.{all_below, calls_from, Event, is_give, left, left_from, may_turn_black}
+use Rattle.mk_core.proofs.Vocabulary.{pointed_cell, unreleased_storage}
 use Rattle.mk_core.specs.declared.events.Step.TheVariants as step
-use Rattle.mk_core.specs.Bounded.{all_below}
-use Rattle.mk_core.specs.Cells.{pointed_cell}
-use Rattle.mk_core.specs.StopConditions.{may_turn_black}
-use Rattle.mk_core.specs.Allocations.{unreleased_storage, held_by_allocations, fresh_words_of}
+use Rattle.mk_core.specs.Allocations.{held_by_allocations, fresh_words_of}
 use Rattle.mk_core.specs.Counts.{ends, releases, full_answers, TalliesAreTidy, IsTidy, TalliesAreExact, IsDue}
-use Rattle.mk_core.specs.History.{left_from, calls_from}
 use Rattle.mk_core.proofs.EventsAt.{◌and◌, event_number, AtEach, Also, at_each}
 use Rattle.mk_core.proofs.Schedules.{by, c0, m0, host, one_page, pointer_page, freed_after_begin}
 use Rattle.mk_core.proofs.Schedules.{blackened_before_the_move}

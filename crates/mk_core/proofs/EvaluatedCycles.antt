@@ -1,12 +1,8 @@
 -- Cycles in the schedules: their parts, their snapshots, and which marks sweep.
 use Rattle.std.proofs.Common.{◌≡◌, Bool, true, false, ◌||◌, List, [], ◌∷◌, refl, sym}
 use Rattle.std.proofs.lemmas.Bool.{false≢true}
-use Rattle.mk_core.proofs.Vocabulary.{Config, Event, flight_of, is_begin, is_close, is_end, is_release, left, placed_at}
-use Rattle.mk_core.proofs.Vocabulary.{World, world_behind}
-use Rattle.mk_core.specs.Bounded.{all_below}
-use Rattle.mk_core.specs.Cells.{pointed_cell}
-use Rattle.mk_core.specs.StopConditions.{may_turn_black}
-use Rattle.mk_core.specs.History.{left_from}
+use Rattle.mk_core.proofs.Vocabulary.{all_below, Config, Event, flight_of, is_begin, is_close, is_end, is_release, left}
+use Rattle.mk_core.proofs.Vocabulary.{left_from, may_turn_black, placed_at, pointed_cell, World, world_behind}
 use Rattle.mk_core.specs.Cycles.{Cycle, IsInSnapshot, sweeps, NoneSweepsFrom, NoneSweeps}
 use Rattle.mk_core.proofs.EventsAt.{event_number, at_number, next_of, cycle_of}
 use Rattle.mk_core.proofs.Schedules.{by, c0, m0, host, one_page, pointer_page, freed_after_begin}

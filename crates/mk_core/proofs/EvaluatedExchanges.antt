@@ -1,19 +1,17 @@
 -- The two exchanges of a schedule compare what the heap that never reuses storage compares.
 use Rattle.std.proofs.Common.{◌≡◌, ◌↔◌, ℕ, Bool, true, false, List, [], take, Some, refl, sym, ◌∙◌, ap, subst, arith}
 use Rattle.std.proofs.lemmas.Bool.{false≢true}
-use Rattle.mk_core.proofs.Vocabulary.{Config, Event, flight_of, left, never_behind, Null, Op, Ptr, Step, Value}
+use Rattle.mk_core.proofs.Vocabulary.{all_below, calls_from, Config, Event, flight_of, left, left_from, never_behind}
+use Rattle.mk_core.proofs.Vocabulary.{Null, Op, pointed_cell, Ptr, Step, Value}
 use Rattle.mk_never.specs.declared.values.Target.TheVariants.{WordOf}
 use Rattle.mk_never.specs.declared.operations.Op.TheVariants as op
 use Rattle.mk_never.specs.NeverHeap.{register_at, word_at, target_of}
 use Rattle.mk_core.specs.declared.events.Answer.TheVariants as answer
 use Rattle.mk_core.specs.declared.events.Seat.TheVariants.{Caller}
 use Rattle.mk_core.specs.declared.events.Step.TheVariants as step
-use Rattle.mk_core.specs.Bounded.{all_below}
-use Rattle.mk_core.specs.Cells.{pointed_cell}
 use Rattle.mk_core.specs.Calls.{q_of, i_of, p_of}
 use Rattle.mk_core.specs.Accesses.{caller_number}
 use Rattle.mk_core.specs.Effects.{answer_decided}
-use Rattle.mk_core.specs.History.{left_from, calls_from}
 use Rattle.mk_core.specs.Exchanges.{ComparesValues, ExchangesCompareValues}
 use Rattle.mk_core.proofs.EventsAt.{AtEach, Also, at_each}
 use Rattle.mk_core.proofs.Schedules.{by, c0, pointer_page}

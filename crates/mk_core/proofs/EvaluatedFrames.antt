@@ -2,14 +2,10 @@
 -- the host in its turn, while a caller tries to enter and a marker visits. An event of its own may leave less.
 use Rattle.std.proofs.Common.{List, [], ◌∷◌, ◌++◌, None, refl, ap}
 use Rattle.std.proofs.lemmas.Bool.{false≢true, eqb-false, ltb-true}
-use Rattle.mk_core.proofs.Vocabulary.{Event, left}
+use Rattle.mk_core.proofs.Vocabulary.{all_below, AreOfOthers, calls_from, Event, left, left_from, pointed_cell}
 use Rattle.mk_never.specs.declared.operations.Op.TheVariants as op
 use Rattle.mk_core.specs.declared.events.Seat.TheVariants as seat
 use Rattle.mk_core.specs.declared.events.Step.TheVariants as step
-use Rattle.mk_core.specs.Bounded.{all_below}
-use Rattle.mk_core.specs.Cells.{pointed_cell}
-use Rattle.mk_core.specs.History.{left_from, calls_from}
-use Rattle.mk_core.specs.Growing.{AreOfOthers}
 use Rattle.mk_core.specs.LongerLists.{IsStillTheSame}
 use Rattle.mk_core.specs.Frames.{OwnIsLeft, CallIsLeft, TurnIsLeft, CountsAreLeft, IsLeft, Steady}
 use Rattle.mk_core.proofs.SmallCycles.{by_caller, by_marker, by_host, small, three_objects, begun_in_stop}

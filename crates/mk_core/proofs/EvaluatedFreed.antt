@@ -3,12 +3,10 @@ use Rattle.std.proofs.Common.{◌≡◌, ℕ, zero, suc, ◌+◌, ◌*◌, ◌<�
 use Rattle.std.proofs.Common.{ap₂, subst, inl, inr, arith, ◌==◌}
 use Rattle.std.proofs.lemmas.Bool.{false≢true, cases_eq, eqb-true, eqb-false, ltb-true}
 use Rattle.std.proofs.lemmas.Nat.Bits.{bit_at-zero, bit_at-pow_other}
-use Rattle.mk_core.proofs.Vocabulary.{Cell, cells_under, first_moment, has_bit, header_at, header_in, Later, left}
-use Rattle.mk_core.proofs.Vocabulary.{placed_at, stands_in, World, zero_words_of}
+use Rattle.mk_core.proofs.Vocabulary.{all_below, Cell, cells_under, first_moment, has_bit, header_at, header_in, Later}
+use Rattle.mk_core.proofs.Vocabulary.{left, left_from, placed_at, pointed_cell, stands_in, World, zero_words_of}
 use Rattle.mk_geom.specs.Headers.{IsHeaderWord}
-use Rattle.mk_core.specs.Bounded.{all_below}
-use Rattle.mk_core.specs.Cells.{pointed_cell, is_freed}
-use Rattle.mk_core.specs.History.{left_from}
+use Rattle.mk_core.specs.Cells.{is_freed}
 use Rattle.mk_core.specs.Readings.{IsTaken, WordsTellWhatStands}
 use Rattle.mk_core.proofs.SmallCycles.{small, three_objects}
 

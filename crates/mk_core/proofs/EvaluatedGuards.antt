@@ -3,12 +3,10 @@
 use Rattle.std.proofs.Common.{◌≡◌, ℕ, ◌<◌, ◌+◌, ◌*◌, ◌/◌, zero, suc, true, false, [], ◌∷◌, ◌++◌, replicate, slice_index}
 use Rattle.std.proofs.Common.{refl, inl, arith}
 use Rattle.std.proofs.lemmas.Bool.{false≢true, ltb-true}
-use Rattle.mk_core.proofs.Vocabulary.{first_moment, left, Moment, points_well, word_points_well, zero_words_of}
+use Rattle.mk_core.proofs.Vocabulary.{all_below, first_moment, left, left_from, Moment, pointed_cell, points_well}
+use Rattle.mk_core.proofs.Vocabulary.{word_points_well, zero_words_of}
 use Rattle.mk_geom.specs.Addresses.{address_of}
-use Rattle.mk_core.specs.Bounded.{all_below}
-use Rattle.mk_core.specs.Cells.{pointed_cell}
 use Rattle.mk_core.specs.ClosedMarks.{OwesDirty, IsGuarded, PointsWell, PageIsDirty, DirtyIsOwed, MarkingIsGuarded}
-use Rattle.mk_core.specs.History.{left_from}
 use Rattle.mk_core.proofs.ListTests.{list_all-at}
 use Rattle.mk_core.proofs.SmallCycles.{small, three_objects, page_dirtied, written_beside, marked_beside}
 

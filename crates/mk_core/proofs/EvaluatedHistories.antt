@@ -3,16 +3,14 @@ use Rattle.std.proofs.Common.{◌≡◌, ℕ, ◌+◌, ◌<◌, ◌≤◌, le_re
 use Rattle.std.proofs.Common.{refl, List, [], ◌∷◌, ◌++◌, length, replicate, drop, Option, Some, None, All}
 use Rattle.std.proofs.lemmas.List.{length-replicate}
 use Rattle.std.proofs.lemmas.List.Elements.{All-nil, All-cons, All-replicate}
-use Rattle.mk_core.proofs.Vocabulary.{Config, Event, failing, first_world, IsHistory, IsWithinLimits, NeverState, Op}
-use Rattle.mk_core.proofs.Vocabulary.{To, World, world_behind}
+use Rattle.mk_core.proofs.Vocabulary.{all_below, AreEnabledFrom, calls_from, Config, Event, failing, first_world}
+use Rattle.mk_core.proofs.Vocabulary.{IsHistory, IsWithinLimits, left_from, may_turn_black, NeverState, Op}
+use Rattle.mk_core.proofs.Vocabulary.{pointed_cell, To, World, world_behind}
 use Rattle.mk_never.specs.declared.types.Kind.{Kind}
 use Rattle.mk_never.specs.declared.types.Kind.TheVariants.{Num}
 use Rattle.mk_never.specs.Admitted.{IsAdmitted, IsCaller, OperandsAreInRange, AccessIsAdmitted, StoreIsAdmitted}
 use Rattle.mk_core.specs.Config.{IsBetween, IsAmong, IsTypeAmong}
-use Rattle.mk_core.specs.History.{left_from, calls_from, AreEnabledFrom, AreEnabled, CallsAreAdmitted}
-use Rattle.mk_core.specs.Bounded.{all_below}
-use Rattle.mk_core.specs.Cells.{pointed_cell}
-use Rattle.mk_core.specs.StopConditions.{may_turn_black}
+use Rattle.mk_core.specs.History.{AreEnabled, CallsAreAdmitted}
 use Rattle.mk_core.proofs.Schedules.{by, c0, m0, host, fault, first_fault, one_page, pointer_page, freed_after_begin}
 use Rattle.mk_core.proofs.Schedules.{blackened_before_the_move, no_fault_freed, no_fault_blackened}
 use Rattle.mk_core.proofs.MoreSchedules.{two_pages, full_then_reused, a_quarter_and_all, granted_while_marking}

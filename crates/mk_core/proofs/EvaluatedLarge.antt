@@ -1,19 +1,17 @@
 -- The schedule of a large object, evaluated: answers, counts, places and what is due.
 use Rattle.std.proofs.Common.{◌≡◌, ◌<◌, arith, true, false, List, [], ◌∷◌, replicate, take, Some, refl, ap}
 use Rattle.std.proofs.lemmas.Bool.{false≢true}
-use Rattle.mk_core.proofs.Vocabulary.{answered, calls, Event, is_give, IsHistory, IsWithinLimits, left}
-use Rattle.mk_core.proofs.Vocabulary.{StandsAtItsPlace}
+use Rattle.mk_core.proofs.Vocabulary.{all_below, answered, calls, calls_from, Event, is_give, IsHistory, IsWithinLimits}
+use Rattle.mk_core.proofs.Vocabulary.{left, left_from, NoneServesFrom, pointed_cell, StandsAtItsPlace}
+use Rattle.mk_core.proofs.Vocabulary.{unreleased_storage}
 use Rattle.mk_never.specs.declared.types.Kind.TheVariants.{Num}
 use Rattle.mk_never.specs.declared.operations.Op.TheVariants as op
 use Rattle.mk_core.specs.declared.events.Answer.TheVariants as answer
 use Rattle.mk_core.specs.declared.events.Step.TheVariants as step
-use Rattle.mk_core.specs.Bounded.{all_below}
-use Rattle.mk_core.specs.Cells.{pointed_cell}
-use Rattle.mk_core.specs.Allocations.{unreleased_storage, held_by_allocations, fresh_words_of, place_among_allocations}
+use Rattle.mk_core.specs.Allocations.{held_by_allocations, fresh_words_of, place_among_allocations}
 use Rattle.mk_core.specs.Allocations.{FitsAmongAllocations}
-use Rattle.mk_core.specs.History.{left_from, calls_from, CallsAreAdmitted, RefinesNever}
+use Rattle.mk_core.specs.History.{CallsAreAdmitted, RefinesNever}
 use Rattle.mk_core.specs.Counts.{TalliesAreTidy, IsTidy, IsDue}
-use Rattle.mk_core.specs.Placement.{NoneServesFrom}
 use Rattle.mk_core.proofs.EventsAt.{◌and◌, event_number, turn_number, served, stands_at, AtEach, Also, at_each}
 use Rattle.mk_core.proofs.Schedules.{by, c0}
 use Rattle.mk_core.proofs.LargeSchedule.{three_pages, large_freed, no_fault_large}

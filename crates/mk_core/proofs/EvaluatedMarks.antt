@@ -2,12 +2,9 @@
 -- `close`.
 use Rattle.std.proofs.Common.{[], ◌∷◌, ◌++◌, refl}
 use Rattle.std.proofs.lemmas.Bool.{false≢true, leb-true, ltb-true}
-use Rattle.mk_core.proofs.Vocabulary.{left}
+use Rattle.mk_core.proofs.Vocabulary.{all_below, left, left_from, pointed_cell}
 use Rattle.mk_core.specs.declared.events.Step.TheVariants as step
-use Rattle.mk_core.specs.Bounded.{all_below}
-use Rattle.mk_core.specs.Cells.{pointed_cell}
 use Rattle.mk_core.specs.ClosedMarks.{MarksAreClosed}
-use Rattle.mk_core.specs.History.{left_from}
 use Rattle.mk_core.proofs.ListTests.{numbered_all}
 use Rattle.mk_core.proofs.MarkTests.{marks_closed_by_test}
 use Rattle.mk_core.proofs.SmallCycles.{by_host, small, three_objects, begun_in_stop, marked_in_stop, written_beside}

@@ -1,15 +1,13 @@
 -- Places in the schedules: what fits, where each object is granted, and where a New is refused.
 use Rattle.std.proofs.Common.{◌≡◌, Bool, true, false, List, [], take, Some, refl, ap}
 use Rattle.std.proofs.lemmas.Bool.{false≢true}
-use Rattle.mk_core.proofs.Vocabulary.{Event, is_begin, is_close, is_end, is_release, left, StandsAtItsPlace, Step}
+use Rattle.mk_core.proofs.Vocabulary.{all_below, Event, is_begin, is_close, is_end, is_release, left, left_from}
+use Rattle.mk_core.proofs.Vocabulary.{may_turn_black, NoneServesFrom, pointed_cell, StandsAtItsPlace, Step}
+use Rattle.mk_core.proofs.Vocabulary.{unreleased_storage}
 use Rattle.mk_never.specs.declared.operations.Op.TheVariants as op
 use Rattle.mk_core.specs.declared.events.Step.TheVariants as step
-use Rattle.mk_core.specs.Bounded.{all_below}
-use Rattle.mk_core.specs.Cells.{pointed_cell}
-use Rattle.mk_core.specs.StopConditions.{may_turn_black}
-use Rattle.mk_core.specs.Allocations.{unreleased_storage, place_among_allocations, FitsAmongAllocations}
-use Rattle.mk_core.specs.History.{left_from}
-use Rattle.mk_core.specs.Placement.{NoneServesFrom, GrantsStandAtTheirPlaces, FindsNoPlace, FullsFitNowhere}
+use Rattle.mk_core.specs.Allocations.{place_among_allocations, FitsAmongAllocations}
+use Rattle.mk_core.specs.Placement.{GrantsStandAtTheirPlaces, FindsNoPlace, FullsFitNowhere}
 use Rattle.mk_core.proofs.EventsAt.{◌and◌, event_number, at_number, next_of, cycle_of, turn_number, served}
 use Rattle.mk_core.proofs.EventsAt.{stands_at, AtEach, Also, at_each}
 use Rattle.mk_core.proofs.Schedules.{by, c0, host, one_page, freed_after_begin}

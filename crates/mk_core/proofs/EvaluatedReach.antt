@@ -3,14 +3,12 @@ use Rattle.std.proofs.Common.{◌≡◌, ℕ, zero, suc, Bool, true, false, not,
 use Rattle.std.proofs.Common.{ap, subst}
 use Rattle.std.specs.List.{list_all}
 use Rattle.std.proofs.lemmas.Bool.{and_parts, false≢true}
-use Rattle.mk_core.proofs.Vocabulary.{never_behind, NeverState, Null, Ptr, Value}
+use Rattle.mk_core.proofs.Vocabulary.{all_below, calls_from, left_from, never_behind, NeverState, Null, pointed_cell}
+use Rattle.mk_core.proofs.Vocabulary.{Ptr, Value}
 use Rattle.mk_never.specs.declared.values.Value.TheVariants.{Num}
 use Rattle.mk_never.specs.NeverHeap.{Allocation, no_allocation, allocation_at, word_at, is_unmapped}
 use Rattle.mk_never.specs.Reach.{LeadsTo, IsReachable, by_register, by_word, IsClosedUnderPointers}
 use Rattle.mk_never.proofs.Reached.{reached_is_in}
-use Rattle.mk_core.specs.Bounded.{all_below}
-use Rattle.mk_core.specs.Cells.{pointed_cell}
-use Rattle.mk_core.specs.History.{left_from, calls_from}
 use Rattle.mk_core.proofs.ListTests.{implied, list_all-at, numbered_all, numbered_all-at}
 use Rattle.mk_core.proofs.SmallCycles.{small, three_objects, begun_in_stop}
 

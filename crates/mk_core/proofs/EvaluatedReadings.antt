@@ -3,16 +3,14 @@
 use Rattle.std.proofs.Common.{◌≡◌, ◌↔◌, ℕ, zero, suc, ◌+◌, ◌<◌, ◌≤◌, true, false, not, List, [], ◌∷◌, ◌++◌, slice_index}
 use Rattle.std.proofs.Common.{Some, refl, sym, ◌∙◌, arith}
 use Rattle.std.proofs.lemmas.Bool.{false≢true, eqb-false, not-true, leb-true, ltb-true}
-use Rattle.mk_core.proofs.Vocabulary.{Event, first_moment, flight_of, left, Moment, Seat, zero_words_of}
+use Rattle.mk_core.proofs.Vocabulary.{all_below, Event, first_moment, flight_of, left, left_from, Moment, pointed_cell}
+use Rattle.mk_core.proofs.Vocabulary.{Seat, zero_words_of}
 use Rattle.mk_never.specs.declared.operations.Op.TheVariants as op
 use Rattle.mk_core.specs.declared.events.Seat.TheVariants as seat
 use Rattle.mk_core.specs.declared.events.Step.TheVariants as step
 use Rattle.mk_core.specs.declared.seats.Marker.{Marker}
-use Rattle.mk_core.specs.Bounded.{all_below}
-use Rattle.mk_core.specs.Cells.{pointed_cell}
 use Rattle.mk_core.specs.StopConditions.{is_attending, none_attends}
 use Rattle.mk_core.specs.Moments.{outside}
-use Rattle.mk_core.specs.History.{left_from}
 use Rattle.mk_core.specs.HeldGates.{is_gate_held_from}
 use Rattle.mk_core.specs.Readings.{is_in_turn, Holds, NoneAttends, TurnTells, GateTells, PhaseTells}
 use Rattle.mk_core.specs.Readings.{WordsTellWhoHoldsWhat}

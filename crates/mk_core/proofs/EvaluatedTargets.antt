@@ -3,16 +3,13 @@
 use Rattle.std.proofs.Common.{◌≡◌, ℕ, zero, suc, ◌+◌, ◌*◌, true, false, List, [], ◌∷◌, ◌++◌, slice_index, refl, subst}
 use Rattle.std.proofs.Common.{inl}
 use Rattle.std.proofs.lemmas.Bool.{false≢true, leb-true, ltb-true}
-use Rattle.mk_core.proofs.Vocabulary.{Event, IsWordOf, left, never_behind, Null, placed_at, storage_of}
+use Rattle.mk_core.proofs.Vocabulary.{all_below, AreOfOthers, calls_from, Event, IsWordOf, left, left_from}
+use Rattle.mk_core.proofs.Vocabulary.{never_behind, Null, placed_at, pointed_cell, storage_of}
 use Rattle.mk_never.specs.Reach.{LeadsTo}
 use Rattle.mk_never.specs.NeverHeap.{register_at}
 use Rattle.mk_core.specs.declared.events.Seat.TheVariants as seat
 use Rattle.mk_core.specs.declared.events.Step.TheVariants as step
-use Rattle.mk_core.specs.Bounded.{all_below}
-use Rattle.mk_core.specs.Cells.{pointed_cell}
 use Rattle.mk_core.specs.Allocations.{is_mapped}
-use Rattle.mk_core.specs.History.{left_from, calls_from}
-use Rattle.mk_core.specs.Growing.{AreOfOthers}
 use Rattle.mk_core.specs.Readings.{Holds}
 use Rattle.mk_core.specs.Frames.{OwnIsLeft, ScanIsLeft, IsLeft, TargetsAreLeft, HeapIsLeft, HeadersAreLeft}
 use Rattle.mk_core.specs.Frames.{IsLeftByAdmitted}

@@ -3,13 +3,11 @@
 use Rattle.std.proofs.Common.{◌≡◌, true, false, [], ◌∷◌, ◌++◌, refl, sym, append-nil}
 use Rattle.std.specs.List.{list_any}
 use Rattle.std.proofs.lemmas.Bool.{false≢true, leb-true, ltb-true}
-use Rattle.mk_core.proofs.Vocabulary.{Event, is_close, IsClosedAlong, Marking}
+use Rattle.mk_core.proofs.Vocabulary.{all_below, calls_from, Event, is_close, IsClosedAlong, left_from, Marking}
+use Rattle.mk_core.proofs.Vocabulary.{pointed_cell}
 use Rattle.mk_core.specs.declared.events.Seat.TheVariants as seat
 use Rattle.mk_core.specs.declared.events.Tally.TheVariants as tally
 use Rattle.mk_core.specs.declared.events.Step.TheVariants as step
-use Rattle.mk_core.specs.Bounded.{all_below}
-use Rattle.mk_core.specs.Cells.{pointed_cell}
-use Rattle.mk_core.specs.History.{left_from, calls_from}
 use Rattle.mk_core.specs.Cycles.{through, IsInSnapshot}
 use Rattle.mk_core.specs.Touched.{LeadsToMoment, IsTouched, by_register, by_word}
 use Rattle.mk_core.proofs.Touched.{touched_is_least}

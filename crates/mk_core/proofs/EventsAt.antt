@@ -4,12 +4,12 @@ use Rattle.std.proofs.Common.{append-nil, append_assoc}
 use Rattle.std.specs.Prelude.{⊤, slice_index_or}
 use Rattle.std.specs.List.{list_any}
 use Rattle.mk_core.proofs.Vocabulary.{base_made, Config, Event, flight_of, is_begin, is_close, is_end, is_give}
-use Rattle.mk_core.proofs.Vocabulary.{is_release, left, Op, Place, Seat, StandsAtItsPlace, Step}
+use Rattle.mk_core.proofs.Vocabulary.{is_release, left, NoneServesFrom, Op, Place, Seat, StandsAtItsPlace, Step}
 use Rattle.mk_core.specs.declared.events.Seat.TheVariants as seat
 use Rattle.mk_core.specs.declared.events.Step.TheVariants as step
 use Rattle.mk_core.specs.Growing.{is_same_seat}
 use Rattle.mk_core.specs.Accesses.{granted_base}
-use Rattle.mk_core.specs.Placement.{NoneServesFrom, event_serves, FirstServed, before_served, object_at, place_after}
+use Rattle.mk_core.specs.Placement.{event_serves, FirstServed, before_served, object_at, place_after}
 use Rattle.mk_core.specs.Cycles.{At, Next, Cycle, TurnOf}
 
 -- a proof of the first, and one of the others

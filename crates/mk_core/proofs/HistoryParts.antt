@@ -1,12 +1,11 @@
 -- Histories in two parts: their calls, and what these leave in the heap that never reuses storage.
 use Rattle.std.proofs.Common.{◌≡◌, List, ◌++◌, sym, ◌∙◌, ap, subst}
 use Rattle.std.proofs.lemmas.List.{map-append}
-use Rattle.mk_core.proofs.Vocabulary.{asked, calls, Config, Event, first_world, left, never_first}
+use Rattle.mk_core.proofs.Vocabulary.{asked, calls, calls_from, Config, Event, first_world, left, never_first}
 use Rattle.mk_never.specs.NeverHeap.{Call, after_calls, replies_of}
 use Rattle.mk_never.specs.Admitted.{AreAdmitted}
 use Rattle.mk_never.proofs.Parts.{after_append, replies_append, admitted_append}
 use Rattle.mk_core.specs.Decided.{Decided}
-use Rattle.mk_core.specs.History.{calls_from}
 use Rattle.mk_core.specs.HistoryLaws.{LeftInParts, EnabledInParts, CallsInParts, NeverInParts, NeverRepliesInParts}
 use Rattle.mk_core.specs.HistoryLaws.{CallsAreAdmittedInParts, EarlierPartIsHistory}
 use Rattle.mk_core.proofs.Histories.{left_append, enabled_append, enabled_parts, calls_append}

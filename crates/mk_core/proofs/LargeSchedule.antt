@@ -1,13 +1,11 @@
 -- A schedule of an object of two pages: it is freed, so that its pages are unmapped, and its pages are taken again.
 use Rattle.std.proofs.Common.{◌≡◌, false, List, [], ◌∷◌, ◌++◌, replicate, Some, None, refl}
-use Rattle.mk_core.proofs.Vocabulary.{Config, Event}
+use Rattle.mk_core.proofs.Vocabulary.{all_below, Config, Event, pointed_cell}
 use Rattle.mk_never.specs.declared.types.Kind.TheVariants.{Num}
 use Rattle.mk_never.specs.declared.operations.Op.TheVariants as op
 use Rattle.mk_core.specs.declared.events.Word.TheVariants as word
 use Rattle.mk_core.specs.declared.events.Tally.TheVariants as tally
 use Rattle.mk_core.specs.declared.events.Step.TheVariants as step
-use Rattle.mk_core.specs.Bounded.{all_below}
-use Rattle.mk_core.specs.Cells.{pointed_cell}
 use Rattle.mk_core.proofs.Schedules.{by, c0, fault, first_fault}
 
 -- two callers, of which the second makes no call

@@ -1,15 +1,14 @@
 -- Each region of the words keeps its length.
 use Rattle.std.proofs.Common.{ℕ, ◌+◌, ◌*◌, List, [], ◌∷◌, length-set, refl, arith}
 use Rattle.std.proofs.lemmas.List.{length-replicate}
-use Rattle.mk_core.proofs.Vocabulary.{Access, Config, Event, first_world, left, Load, Named, Page, Store, TableWord}
-use Rattle.mk_core.proofs.Vocabulary.{Turn, Word, Words, World, world_behind, zero_words_of}
+use Rattle.mk_core.proofs.Vocabulary.{Access, Config, Event, first_world, left, left_from, Load, Named, Page, Store}
+use Rattle.mk_core.proofs.Vocabulary.{TableWord, Turn, Word, Words, World, world_behind, zero_words_of}
 use Rattle.mk_geom.specs.Storages.{free_page}
 use Rattle.mk_core.specs.declared.events.Word.TheVariants as word
 use Rattle.mk_core.specs.declared.accesses.Access.TheVariants.{Exchange, Or, Add, Sub}
 use Rattle.mk_core.specs.Words.{with_named, with_word_in, word_in, becomes, accessed}
 use Rattle.mk_core.specs.Layout.{AreOfPages}
 use Rattle.mk_core.specs.Accesses.{word_accessed, access}
-use Rattle.mk_core.specs.History.{left_from}
 
 pub zero_lengths : (count : ℕ) → AreOfPages count (zero_words_of count)
 zero_lengths count =

@@ -3,9 +3,8 @@ use Rattle.std.proofs.Common.{◌≡◌, ℕ, ◌+◌, Bool, true, not, ◌&&◌
 use Rattle.std.specs.List.{list_all}
 use Rattle.std.proofs.Math.Bool.{or-true}
 use Rattle.std.proofs.lemmas.Bool.{and_parts, and_from, le-leb, lt-ltb}
-use Rattle.mk_core.proofs.Vocabulary.{Config, IsWordOf, never_granted, placed_at, PlacedAllocation, points_well}
-use Rattle.mk_core.proofs.Vocabulary.{Storage, storage_of, Words, World}
-use Rattle.mk_core.specs.Cells.{pointed_cell}
+use Rattle.mk_core.proofs.Vocabulary.{Config, IsWordOf, never_granted, placed_at, PlacedAllocation, pointed_cell}
+use Rattle.mk_core.proofs.Vocabulary.{points_well, Storage, storage_of, Words, World}
 use Rattle.mk_core.specs.ClosedMarks.{MarksAreClosed, is_marked_allocation, is_scanned_allocation}
 use Rattle.mk_core.proofs.ListTests.{implied, list_all-at, numbered_all, numbered_all-at}
 

@@ -1,15 +1,12 @@
 -- Small schedules, each for one thing: a refusal and what makes room, a free that isn't due, a New while
 -- a cycle marks, exchanges, a sweeping mark.
 use Rattle.std.proofs.Common.{◌≡◌, false, List, [], ◌∷◌, ◌++◌, replicate, Some, None, refl}
-use Rattle.mk_core.proofs.Vocabulary.{Config, Event}
+use Rattle.mk_core.proofs.Vocabulary.{all_below, Config, Event, may_turn_black, pointed_cell}
 use Rattle.mk_never.specs.declared.types.Kind.TheVariants.{Num}
 use Rattle.mk_never.specs.declared.operations.Op.TheVariants as op
 use Rattle.mk_core.specs.declared.events.Word.TheVariants as word
 use Rattle.mk_core.specs.declared.events.Tally.TheVariants as tally
 use Rattle.mk_core.specs.declared.events.Step.TheVariants as step
-use Rattle.mk_core.specs.Bounded.{all_below}
-use Rattle.mk_core.specs.Cells.{pointed_cell}
-use Rattle.mk_core.specs.StopConditions.{may_turn_black}
 use Rattle.mk_core.proofs.Schedules.{by, c0, host, fault, first_fault, one_page, pointer_page}
 
 -- Two objects fill the page. One is freed, but a register still points to it, so a New is refused after a cycle of its

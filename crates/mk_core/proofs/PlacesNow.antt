@@ -3,13 +3,13 @@ use Rattle.std.proofs.Common.{◌≡◌, ℕ, ◌+◌, ◌^◌, Bool, true, fals
 use Rattle.std.proofs.Common.{Option, Some, None, slice_index, if◌then◌else◌, List}
 use Rattle.std.proofs.lemmas.Bool.{and_parts, eqb-true, not-true}
 use Rattle.mk_core.proofs.Vocabulary.{Cell, Config, Flight, is_phase, Moment, Object, object_made, Op, Page, Place}
-use Rattle.mk_core.proofs.Vocabulary.{place_now, quarantine_word, Words}
+use Rattle.mk_core.proofs.Vocabulary.{place_now, pointed_cell, quarantine_word, Words}
 use Rattle.mk_never.specs.declared.operations.Op.TheVariants as op
 use Rattle.mk_core.specs.declared.seats.Stage.{Stage}
 use Rattle.mk_core.specs.declared.seats.Stage.TheVariants as stage
 use Rattle.mk_core.specs.declared.seats.Placing.{Placing}
 use Rattle.mk_core.specs.declared.seats.Placing.TheVariants.{Unplaced, Chosen, Used, Granted}
-use Rattle.mk_core.specs.Cells.{pointed_cell, is_freed}
+use Rattle.mk_core.specs.Cells.{is_freed}
 use Rattle.mk_core.specs.NewPlaces.{place_on_pages, place_by_placing, is_new_at, is_free_at, is_undecided_new}
 use Rattle.mk_core.specs.NewPlaces.{is_undecided_free, target}
 use Rattle.mk_core.specs.TurnConditions.{frees, cell_freed}

@@ -5,8 +5,8 @@ use Rattle.std.proofs.Math.Nat.{div-mul-le_self, lt-div-mul-add}
 use Rattle.std.proofs.lemmas.Bool.{cases_Bool}
 use Rattle.mk_core.proofs.Vocabulary.{Cell, cell_of_storage, cell_words, cells_of, class_words_of, Config, first_word}
 use Rattle.mk_core.proofs.Vocabulary.{HasItsHeaders, header_at, IsSized, IsWithinLimits, IsWordOf, object_placed}
-use Rattle.mk_core.proofs.Vocabulary.{page_at_address, placed_at, PlacedAllocation, points_well, StandsOnHeap, Storage}
-use Rattle.mk_core.proofs.Vocabulary.{storage_of, Words, World}
+use Rattle.mk_core.proofs.Vocabulary.{page_at_address, placed_at, PlacedAllocation, pointed_cell, points_well}
+use Rattle.mk_core.proofs.Vocabulary.{StandsOnHeap, Storage, storage_of, Words, World}
 use Rattle.mk_geom.specs.Addresses.{address_of, word_at_address, cell_of_block, cell_at}
 use Rattle.mk_geom.specs.Storages.{is_small, stands_on, class_of_storage, IsStorage}
 use Rattle.mk_geom.specs.StorageWords.{PointsInto, ShowsStorage}
@@ -14,7 +14,7 @@ use Rattle.mk_geom.proofs.Standing.{small_is_cell, large_is_run, has_words, cell
 use Rattle.mk_geom.proofs.PointedCells.{small_lookup, cell_index, class_has_words, small_cell_of, address_points_into}
 use Rattle.mk_geom.proofs.CellsOnPages.{is_address}
 use Rattle.mk_core.specs.Bounded.{is_some_and, is_none_or}
-use Rattle.mk_core.specs.Cells.{pointed_cell, is_marked, is_left_unmarked}
+use Rattle.mk_core.specs.Cells.{is_marked, is_left_unmarked}
 use Rattle.mk_core.specs.Allocations.{with_released}
 use Rattle.mk_core.specs.ClosedMarks.{is_marked_allocation}
 use Rattle.mk_core.specs.Readings.{IsTaken}

@@ -4,12 +4,12 @@ use Rattle.std.proofs.Common.{arith, option_and_then, Option, Some, None, nat_le
 use Rattle.std.proofs.Math.Nat.{div-le_self, div-lt_iff_lt-mul}
 use Rattle.std.proofs.lemmas.Bool.{cases_eq, ltb-true}
 use Rattle.mk_core.proofs.Vocabulary.{Block, Cell, cells_of, cells_under, class_words_of, Free, Header, header_at}
-use Rattle.mk_core.proofs.Vocabulary.{header_in, Later, LeafBlock, LeafRun, page_at_address, Run, Words}
+use Rattle.mk_core.proofs.Vocabulary.{header_in, Later, LeafBlock, LeafRun, page_at_address, pointed_cell, Run, Words}
 use Rattle.mk_geom.specs.Addresses.{is_heap_address, word_at_address, cell_of_block, head_page_under, run_of_page}
 use Rattle.mk_geom.specs.Addresses.{cell_under, cell_at}
 use Rattle.mk_geom.specs.Headers.{header_of}
 use Rattle.mk_geom.proofs.CellsOnPages.{is_address}
-use Rattle.mk_core.specs.Cells.{head_page, pointed_cell}
+use Rattle.mk_core.specs.Cells.{head_page}
 
 -- It lies on the head page of the value's page, and is one of the 64 that a page has at most, and of those that the
 -- value's page has, if it has cells.

@@ -1,8 +1,8 @@
 -- Schedules as checked examples of the definitions.
 use Rattle.std.proofs.Common.{◌≡◌, ℕ, false, List, [], ◌∷◌, ◌++◌, map, replicate, Option, Some, None, refl}
 use Rattle.std.specs.Prelude.{◌+◌, if◌then◌else◌, ◌==◌}
-use Rattle.mk_core.proofs.Vocabulary.{answered, calls, Config, Event, failing, first_world, Seat, Step, To, World}
-use Rattle.mk_core.proofs.Vocabulary.{world_behind}
+use Rattle.mk_core.proofs.Vocabulary.{all_below, answered, calls, calls_from, Config, Event, failing, first_world}
+use Rattle.mk_core.proofs.Vocabulary.{left_from, may_turn_black, pointed_cell, Seat, Step, To, World, world_behind}
 use Rattle.mk_never.specs.declared.types.Kind.TheVariants.{Num}
 use Rattle.mk_never.specs.declared.operations.Op.TheVariants as op
 use Rattle.mk_core.specs.declared.events.Seat.TheVariants as seat
@@ -10,10 +10,6 @@ use Rattle.mk_core.specs.declared.events.Word.TheVariants as word
 use Rattle.mk_core.specs.declared.events.Tally.TheVariants as tally
 use Rattle.mk_core.specs.declared.events.Step.TheVariants as step
 use Rattle.mk_core.specs.declared.events.Answer.TheVariants as answer
-use Rattle.mk_core.specs.Bounded.{all_below}
-use Rattle.mk_core.specs.Cells.{pointed_cell}
-use Rattle.mk_core.specs.StopConditions.{may_turn_black}
-use Rattle.mk_core.specs.History.{left_from, calls_from}
 
 unfoldable pub by : Seat → List Step → List Event
 by s steps = map (λ (x : Step). record { seat = s; step = x }) steps

@@ -2,11 +2,10 @@
 use Rattle.std.proofs.Common.{◌≡◌, ◌≢◌, ℕ, ◌+◌, ◌-◌, ◌<◌, ◌≤◌, ◌^◌, true, false, refl}
 use Rattle.std.specs.Prelude.{not, ◌==◌, nat_lt, Option, Some, None}
 use Rattle.std.proofs.lemmas.Bool.{and_parts, eqb-true, eqb-false, leb-true, ltb-true, not-true}
-use Rattle.mk_core.proofs.Vocabulary.{has_bit, header_at, header_made, is_phase, Object}
-use Rattle.mk_core.proofs.Vocabulary.{pages_made, Place, stands, Words}
+use Rattle.mk_core.proofs.Vocabulary.{all_below, has_bit, header_at, header_made, is_phase, Object, pages_made, Place}
+use Rattle.mk_core.proofs.Vocabulary.{stands, Words}
 use Rattle.mk_core.specs.declared.events.Step.TheVariants as step
 use Rattle.mk_core.specs.Words.{used_at}
-use Rattle.mk_core.specs.Bounded.{all_below}
 use Rattle.mk_core.specs.NewPlaces.{bits_made, is_next_header}
 use Rattle.mk_core.specs.TurnConditions.{carves, takes_cell, is_marked_first}
 use Rattle.mk_core.specs.StopConditions.{marks_place}

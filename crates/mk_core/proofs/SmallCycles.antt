@@ -1,16 +1,14 @@
 -- Two lists of a small heap along a cycle, as checked examples of the definitions: in one the caller is stopped from
 -- before the `begin` on, and in the other it writes beside a marker.
 use Rattle.std.proofs.Common.{◌≡◌, Bool, true, false, ◌&&◌, List, [], ◌∷◌, ◌++◌, map, Some, None, refl, ◌==◌}
-use Rattle.mk_core.proofs.Vocabulary.{Config, Event, failing, first_world, Seat, Step, To, World, world_behind}
+use Rattle.mk_core.proofs.Vocabulary.{all_below, Config, Event, failing, first_world, may_turn_black, pointed_cell}
+use Rattle.mk_core.proofs.Vocabulary.{Seat, Step, To, World, world_behind}
 use Rattle.mk_never.specs.declared.types.Kind.TheVariants.{Num}
 use Rattle.mk_never.specs.declared.operations.Op.TheVariants as op
 use Rattle.mk_core.specs.declared.events.Seat.TheVariants as seat
 use Rattle.mk_core.specs.declared.events.Word.TheVariants as word
 use Rattle.mk_core.specs.declared.events.Tally.TheVariants as tally
 use Rattle.mk_core.specs.declared.events.Step.TheVariants as step
-use Rattle.mk_core.specs.Bounded.{all_below}
-use Rattle.mk_core.specs.Cells.{pointed_cell}
-use Rattle.mk_core.specs.StopConditions.{may_turn_black}
 
 abbrev pub by : Seat → List Step → List Event
 by s steps = map (λ (x : Step). record { seat = s; step = x }) steps

@@ -2,16 +2,14 @@
 use Rattle.std.proofs.Common.{◌≡◌, ℕ, true, false, List, [], ◌∷◌, ◌++◌, ◌<◌, All, refl, sym, subst, arith}
 use Rattle.std.proofs.lemmas.Bool.{and_parts, eqb-true, leb-true, ltb-true}
 use Rattle.std.proofs.lemmas.List.Elements.{All-nil, All-cons}
-use Rattle.mk_core.proofs.Vocabulary.{asked, calls, Config, Event, first_world, IsHistory, IsWithinLimits, never_first}
-use Rattle.mk_core.proofs.Vocabulary.{To, World, world_behind}
+use Rattle.mk_core.proofs.Vocabulary.{all_below, AreEnabledFrom, asked, calls, calls_from, Config, Event, first_world}
+use Rattle.mk_core.proofs.Vocabulary.{IsHistory, IsWithinLimits, left_from, never_first, pointed_cell, To, World}
+use Rattle.mk_core.proofs.Vocabulary.{world_behind}
 use Rattle.mk_never.specs.declared.types.Kind.TheVariants.{Num}
 use Rattle.mk_never.specs.declared.operations.Op.TheVariants as op
 use Rattle.mk_never.specs.NeverHeap.{Call}
 use Rattle.mk_never.specs.Admitted.{AreAdmitted}
 use Rattle.mk_core.specs.Config.{IsAmong, IsTypeAmong}
-use Rattle.mk_core.specs.Bounded.{all_below}
-use Rattle.mk_core.specs.Cells.{pointed_cell}
-use Rattle.mk_core.specs.History.{left_from, calls_from, AreEnabledFrom}
 use Rattle.mk_core.proofs.EventsAt.{◌and◌}
 use Rattle.mk_core.proofs.EvaluatedHistories.{admitted}
 use Rattle.mk_core.proofs.SmallCycles.{small, all_enabled, stopped_are_enabled, beside_are_enabled}

@@ -6,8 +6,8 @@ use Rattle.std.proofs.Math.Bool.{and-false}
 use Rattle.mk_core.proofs.Vocabulary.{base_made, BeginsAtCell, Cell, cell_of_storage, cells_made, cells_of, cells_under}
 use Rattle.mk_core.proofs.Vocabulary.{class_made, class_words_of, Config, HasItsHeaders, header_at, header_in}
 use Rattle.mk_core.proofs.Vocabulary.{is_small_object, IsHeaderOf, IsSized, IsWithinLimits, kinds_of, Object}
-use Rattle.mk_core.proofs.Vocabulary.{object_placed, page_at_address, pages_made, Place, PlacedAllocation, storage_of}
-use Rattle.mk_core.proofs.Vocabulary.{unmapped_header, Words, words_made, words_under}
+use Rattle.mk_core.proofs.Vocabulary.{object_placed, page_at_address, pages_made, Place, PlacedAllocation, pointed_cell}
+use Rattle.mk_core.proofs.Vocabulary.{storage_of, unmapped_header, Words, words_made, words_under}
 use Rattle.mk_never.specs.Types.{is_large}
 use Rattle.mk_geom.specs.Headers.{word_of}
 use Rattle.mk_geom.specs.Storages.{stands_on, run_header, IsCell, IsRun, IsStorage}
@@ -16,7 +16,6 @@ use Rattle.mk_geom.proofs.ClassTable.{cell_ends, class_words_within}
 use Rattle.mk_geom.proofs.Standing.{stands_parts}
 use Rattle.mk_geom.proofs.PointedCells.{cell_from_first, large_cell_of, cell_first, stands_at_address}
 use Rattle.mk_geom.proofs.PointedCells.{shows_cell, shows_run, points_into_cell}
-use Rattle.mk_core.specs.Cells.{pointed_cell}
 use Rattle.mk_core.specs.ObjectHeaders.{ShowsPart}
 use Rattle.mk_core.specs.Allocations.{is_mapped, storage_words}
 use Rattle.mk_core.specs.StandingAllocations.{StorageHoldsObjects, StandingHasStorage, HeadersShowStorage}

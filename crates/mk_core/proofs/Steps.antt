@@ -1,14 +1,14 @@
 -- What a step says of the histories for which the core stood.
 use Rattle.std.proofs.Common.{◌≡◌, ◌↔◌, ◌≤◌, List, [], ◌∷◌, ◌++◌, Option, Result, Ok, Err, MatchResult, IsOk, IfOk}
 use Rattle.std.proofs.Common.{OnOk, refl, sym, ◌∙◌, ap, subst, arith}
-use Rattle.mk_core.proofs.Vocabulary.{calls, Config, CoreState, Event, failing, first_moment, first_world, flight_of}
-use Rattle.mk_core.proofs.Vocabulary.{IsEnabled, left, Moment, World}
+use Rattle.mk_core.proofs.Vocabulary.{AreEnabledFrom, calls, Config, CoreState, Event, failing, first_moment}
+use Rattle.mk_core.proofs.Vocabulary.{first_world, flight_of, IsEnabled, left, left_from, Moment, World}
 use Rattle.mk_never.specs.declared.never_heap.NoMemory.{NoMemory}
 use Rattle.mk_core.specs.declared.events.Answer.{Answer}
 use Rattle.mk_core.specs.declared.events.NotEnabled.{NotEnabled}
 use Rattle.mk_core.specs.Accesses.{caller_number}
 use Rattle.mk_core.specs.Effects.{moment_behind, answer_decided}
-use Rattle.mk_core.specs.History.{left_from, AreEnabledFrom, AreEnabled}
+use Rattle.mk_core.specs.History.{AreEnabled}
 use Rattle.mk_core.specs.Decided.{entry_of}
 use Rattle.mk_core.specs.Standing.{CoreStandsFor}
 use Rattle.mk_core.proofs.Histories.{left_more, enabled_more, last_enabled, calls_more}

@@ -2,8 +2,7 @@
 use Rattle.std.proofs.Common.{◌≡◌, ℕ, zero, suc, true, false, List, [], ◌∷◌, ◌++◌, map, refl, sym, ◌∙◌, ap, subst, inl}
 use Rattle.std.proofs.Common.{inr, arith, Contains}
 use Rattle.std.proofs.lemmas.Bool.{cases_Bool, true≢false, cond-true, cond-false}
-use Rattle.mk_core.proofs.Vocabulary.{Config, placed_at, PlacedAllocation, Storage, storage_of}
-use Rattle.mk_core.specs.Allocations.{unreleased_storage}
+use Rattle.mk_core.proofs.Vocabulary.{Config, placed_at, PlacedAllocation, Storage, storage_of, unreleased_storage}
 use Rattle.mk_core.specs.StandingAllocations.{HasStorage, UnreleasedStorageIsOfAllocations, UnreleasedStorageInParts}
 
 -- one allocation more at the front

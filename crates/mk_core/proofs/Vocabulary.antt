@@ -1,21 +1,28 @@
 -- The words of the heap and of its steps, for what is proved of them here: a proof imports them from here.
 pub use Rattle.mk_core.specs.Allocations.{PlacedAllocation, never_granted, placed_at, stands_in, storage_of}
+unfoldable pub use Rattle.mk_core.specs.Allocations.{unreleased_storage}
 pub use Rattle.mk_core.specs.Bits.{has_bit}
+unfoldable pub use Rattle.mk_core.specs.Bounded.{all_below}
 pub use Rattle.mk_core.specs.Cells.{cell_words, cells_under, first_word, header_in, points_well, word_points_well}
 pub use Rattle.mk_core.specs.Cells.{words_are_zero, words_under}
+unfoldable pub use Rattle.mk_core.specs.Cells.{pointed_cell}
 pub use Rattle.mk_core.specs.Config.{IsWithinLimits}
 pub use Rattle.mk_core.specs.Cycles.{Marking, is_begin, is_close, is_end, is_give, is_release}
 pub use Rattle.mk_core.specs.Decided.{answered, asked}
 pub use Rattle.mk_core.specs.Enabled.{IsEnabled, failing}
+unfoldable pub use Rattle.mk_core.specs.Growing.{AreOfOthers}
 pub use Rattle.mk_core.specs.History.{IsHistory, World, calls, first_world, left, never_behind, never_first}
 pub use Rattle.mk_core.specs.History.{world_behind}
+unfoldable pub use Rattle.mk_core.specs.History.{AreEnabledFrom, calls_from, left_from}
 pub use Rattle.mk_core.specs.Moments.{Moment, first_moment, flight_of, is_phase}
 pub use Rattle.mk_core.specs.NewPlaces.{base_made, class_made, header_made, is_small_object, object_made, pages_made}
 pub use Rattle.mk_core.specs.NewPlaces.{stands, unmapped_header}
 pub use Rattle.mk_core.specs.ObjectHeaders.{IsHeaderOf, IsSized, cells_made, words_made}
 pub use Rattle.mk_core.specs.Placement.{StandsAtItsPlace}
+unfoldable pub use Rattle.mk_core.specs.Placement.{NoneServesFrom}
 pub use Rattle.mk_core.specs.Standing.{CoreState}
 pub use Rattle.mk_core.specs.StandingAllocations.{BeginsAtCell, HasItsHeaders, StandsOnHeap, object_placed}
+unfoldable pub use Rattle.mk_core.specs.StopConditions.{may_turn_black}
 pub use Rattle.mk_core.specs.Touched.{IsClosedAlong}
 pub use Rattle.mk_core.specs.TurnConditions.{place_now}
 pub use Rattle.mk_core.specs.Words.{Words, header_at, quarantine_word, zero_words_of}

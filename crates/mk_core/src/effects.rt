@@ -1,6 +1,6 @@
 //! What a step makes of the call in flight, of what the turn's holder has done, and of the count of fresh
 //! words.
-ghost use Rattle.std.specs.Prelude.{◌≡◌, ◌<◌, IsTrue};
+ghost use Rattle.std.specs.Prelude.{◌≡◌, if◌then◌else◌, IsTrue};
 ghost use Rattle.mk_core.specs.Calls.{at_rest};
 ghost use Rattle.mk_core.specs.Ranges.{is_in_range};
 ghost use Rattle.mk_core.specs.NewPlaces.{object_made, target};

@@ -1,6 +1,6 @@
 -- A word is looked for among the keywords of its length alone.
-use Rattle.std.proofs.Common.{◌≡◌, ℕ, ◌≢◌, ◌==◌, Bool, true, false, List, [], ◌∷◌, length, filter, None, refl, ap, sym}
-use Rattle.std.proofs.Common.{◌∙◌, ⊎_elim, eq-eqb, ne_eqb, if◌then◌else◌, Some}
+use Rattle.std.proofs.Common.{◌≡◌, ℕ, ◌≢◌, ◌==◌, Bool, true, false, List, [], ◌∷◌, length, filter, refl, ap, sym}
+use Rattle.std.proofs.Common.{◌∙◌, ⊎_elim, eq-eqb, if◌then◌else◌, Some}
 use Rattle.std.specs.Str.{bytes_eq}
 use Rattle.std.proofs.lemmas.Bool.{cases_Bool, false≢true}
 use Rattle.std.proofs.lemmas.Slice.Eq.{bytes_eq-Decides}
@@ -34,13 +34,3 @@ pub of_length : (word : List ℕ) (count : ℕ) (table : List (List ℕ × Keywo
 of_length word count table is are =
     ap (λ entries. keyword_among entries word) (sym are)
     ∙ ap (λ n. keyword_among (filter (λ entry. length entry.0 == n) keywords) word) (sym is) ∙ same_length word keywords
-
-pub of_no_length : (word : List ℕ) → length word ≢ 2 → length word ≢ 3 → length word ≢ 4 → length word ≢ 5
-    → length word ≢ 6 → keyword_of word ≡ None
-of_no_length word two three four five six =
-    let two' : (2 == length word) ≡ false = ne_eqb 2 (length word) (λ e. two (sym e)) in
-    let three' : (3 == length word) ≡ false = ne_eqb 3 (length word) (λ e. three (sym e)) in
-    let four' : (4 == length word) ≡ false = ne_eqb 4 (length word) (λ e. four (sym e)) in
-    let five' : (5 == length word) ≡ false = ne_eqb 5 (length word) (λ e. five (sym e)) in
-    let six' : (6 == length word) ≡ false = ne_eqb 6 (length word) (λ e. six (sym e)) in
-    sym (same_length word keywords) ∙ rw (two', three', four', five', six') refl

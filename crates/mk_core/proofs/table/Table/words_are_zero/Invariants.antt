@@ -1,5 +1,5 @@
 use Rattle.std.proofs.Common.{◌≡◌, ◌+◌, true, slice_index, ◌==◌}
-use Rattle.mk_core.specs.Bounded.{all_below}
+use Rattle.mk_core.proofs.Vocabulary.{all_below}
 use Rattle.mk_core.proofs.table.Table.words_are_zero.Given as goal
 
 abbrev pub invariant-loop-i : goal.invariant-loop-i
