@@ -17,9 +17,8 @@ use Rattle.mk_laws.specs.Terrain.{IsCellOf}
 use Rattle.mk_laws.proofs.Claims.{LeavesCells, changed_among, claim_among}
 use Rattle.mk_laws.proofs.Modes.{Remodes, remoded}
 use Rattle.mk_laws.proofs.LayoutReadings.{one_claim}
-use Rattle.mk_laws.proofs.Released.{all_stand}
+use Rattle.mk_laws.proofs.Released.{all_stand, IsStanding}
 use Rattle.mk_laws.proofs.Serving.{Laid, own_claim}
-use Rattle.mk_laws.proofs.StandingClaims.{IsStanding}
 use Rattle.mk_laws.proofs.Unmapping.{shares_run}
 
 -- the run that the header of an object's first page heads

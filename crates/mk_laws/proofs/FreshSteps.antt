@@ -15,7 +15,7 @@ use Rattle.mk_laws.proofs.Basics.{Before, Laid, Meets, WorldBehind, all_stand, a
 use Rattle.mk_core.specs.declared.events.Step.TheVariants as step
 use Rattle.mk_core.specs.Effects.{words_freed}
 use Rattle.mk_core.proofs.ObjectHeaders.{part_heads_run}
-use Rattle.mk_laws.proofs.OneCell.{numbers_apart}
+use Rattle.mk_laws.proofs.ForImages.{numbers_apart}
 use Rattle.mk_laws.proofs.QuarantineByKind.{frees_here, shown_at}
 use Rattle.mk_laws.proofs.QuarantineChanges.{FreesHere}
 use Rattle.mk_laws.proofs.SnapshotKinds.{snapshot_behind}

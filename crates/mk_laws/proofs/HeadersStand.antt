@@ -31,9 +31,9 @@ use Rattle.mk_core.proofs.WordBits.{bit_is_none, bit_is_one}
 use Rattle.mk_laws.proofs.Apart.{Rests, index_is, lie_apart, lie_in_pairs, on_its_pages, quiet_scene, same_block}
 use Rattle.mk_laws.proofs.Apart.{shown_of, small_is, standing_of}
 use Rattle.mk_laws.proofs.Claims.{claim_is}
-use Rattle.mk_laws.proofs.OnClaims.{IsOn, on_claim}
+use Rattle.mk_laws.proofs.WholeRuns.{IsOn, on_claim}
 use Rattle.mk_laws.proofs.LayoutReadings.{cellless_unused, free_unused}
-use Rattle.mk_laws.proofs.StandingClaims.{large_index}
+use Rattle.mk_laws.proofs.Released.{large_index}
 use Rattle.mk_laws.proofs.Unmapping.{cells_at_claim, shares_run}
 
 pub laid_out : (c : Config) (w : Words) (xs : List PlacedAllocation) → Rests c w xs

@@ -20,7 +20,7 @@ use Rattle.mk_core.specs.Effects.{hand_behind_look, open_hand}
 use Rattle.mk_core.specs.declared.events.Step.TheVariants as step
 use Rattle.mk_core.specs.declared.events.Word.TheVariants as word
 use Rattle.mk_laws.specs.Guard.{EndsItsCell, cell_scanned}
-use Rattle.mk_laws.proofs.Granting.{points_behind}
+use Rattle.mk_laws.proofs.MarkSteps.{points_behind}
 use Rattle.mk_laws.proofs.NoLeaves.{no_leaf_behind, scanned_has_none}
 use Rattle.mk_laws.proofs.Precise.{HasNoLeaf, IsPrecise, MarkerIsPrecise, PointsOnlyInto, PrecisionScene, Steps}
 use Rattle.mk_laws.proofs.Precise.{precision_scene_of}

@@ -18,12 +18,11 @@ use Rattle.mk_core.specs.declared.seats.Source.TheVariants.{Marked, Root, Unmark
 use Rattle.mk_core.specs.declared.seats.Stage.TheVariants as stage
 use Rattle.mk_laws.proofs.Pairs.{shows_plain}
 use Rattle.mk_laws.proofs.ImagesHeldGates.{held_idle}
-use Rattle.mk_laws.proofs.Granting.{points_behind}
+use Rattle.mk_laws.proofs.MarkSteps.{points_behind, marked_behind}
 use Rattle.mk_laws.proofs.Precise.{IsPrecise, PointsOnlyInto, Steps, MarkerIsPrecise, PrecisionScene}
 use Rattle.mk_laws.proofs.Precise.{precision_scene_of}
 use Rattle.mk_laws.proofs.Worlds.{Told, headers, held, not_leaf, stands}
 use Rattle.mk_core.specs.Touched.{PointsIntoAllocation}
-use Rattle.mk_laws.proofs.MarkSteps.{marked_behind}
 use Rattle.mk_laws.proofs.MarkerSteps.{idle_is_precise, markers_behind}
 
 -- What the turn holder's hand holds is touched: a root's image, or a word of a marked cell that is scanned.

@@ -18,7 +18,7 @@ use Rattle.mk_laws.proofs.Basics.{standing, turn_of, view_of}
 use Rattle.mk_core.specs.declared.events.Word.TheVariants as word
 use Rattle.mk_core.specs.declared.events.Step.TheVariants as step
 use Rattle.mk_core.specs.declared.seats.Stage.TheVariants as stage
-use Rattle.mk_laws.proofs.Operands.{HaveOperands, Operands}
+use Rattle.mk_laws.proofs.Known.{HaveOperands, Operands, holds_turn}
 use Rattle.mk_core.proofs.RegisterAccesses.{tally_leaves_registers}
 use Rattle.mk_core.specs.Growing.{is_same_seat}
 use Rattle.mk_core.specs.Readings.{is_in_call}
@@ -27,7 +27,6 @@ use Rattle.mk_core.proofs.Histories.{calls_append}
 use Rattle.mk_laws.proofs.Standings.{in_call_is}
 use Rattle.mk_laws.proofs.Protocols.{protocol_of}
 use Rattle.mk_laws.proofs.ProtocolReadings.{in_counts}
-use Rattle.mk_laws.proofs.Known.{holds_turn}
 use Rattle.mk_laws.proofs.OthersMoves.{with_words_seats, OthersMove, Waits, Calls, Marks, MarkerWrite, ComesIn}
 use Rattle.mk_laws.proofs.OthersMoves.{gate_one, others_move}
 use Rattle.mk_laws.proofs.Growth.{grows_same, grows_joined}

@@ -25,9 +25,8 @@ use Rattle.mk_laws.proofs.Behind.{over_phase}
 use Rattle.mk_core.specs.StopConditions.{may_begin}
 use Rattle.mk_laws.proofs.LayoutByKind.{fresh_cells, off_at}
 use Rattle.mk_laws.proofs.Granted.{pushed_any, pushed_at}
-use Rattle.mk_laws.proofs.OneCell.{numbers_apart}
-use Rattle.mk_laws.proofs.Released.{left_is}
-use Rattle.mk_laws.proofs.StandingClaims.{place_index}
+use Rattle.mk_laws.proofs.ForImages.{numbers_apart}
+use Rattle.mk_laws.proofs.Released.{left_is, place_index}
 
 -- What is fresh and what is in the snapshot, after a `quar`.
 

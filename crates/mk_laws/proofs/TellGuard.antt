@@ -17,7 +17,7 @@ use Rattle.mk_laws.proofs.Vocabulary.{used_on, ℕ, ◌&&◌, ◌*◌, ◌+◌, 
 use Rattle.mk_laws.proofs.Basics.{Known, KnownWorld, Laid, all_stand, claimed, first_header, holding_object}
 use Rattle.mk_laws.proofs.Basics.{known_world, made_sized, mapped_stays, new_has_turn, placed_claim, zero_where_none}
 use Rattle.mk_laws.proofs.Fits.{fits}
-use Rattle.mk_laws.proofs.OnClaims.{find_bit}
+use Rattle.mk_laws.proofs.WholeRuns.{find_bit}
 use Rattle.mk_laws.proofs.QuarantineByKind.{shown_at}
 use Rattle.mk_laws.proofs.LayoutReadings.{header_of_mode, claimed_head}
 use Rattle.mk_laws.specs.Kept.{PlaceIsBare, RunHasObject, LaterPagesAreKnown, StandsMapped}
