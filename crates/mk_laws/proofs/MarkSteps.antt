@@ -218,28 +218,23 @@ module _ (c : Config) (w : World) (n : NeverState) (T : ℕ → Type 0) (precise
 
   mark_step : (seat : Seat) (p v : ℕ) (after : NeverState) → Steps c w n seat (step.Mark p v) after T
       → MarksTouched seat (step.Mark p v)
-  mark_step seat p v after s b u bit = elim (more_bits w.now.words.marks p v cell.page cell.index bit) [
-    | inl old ↦ precise.marked b u old
-    | inr new ↦ elim (cases_Bool (marks_place w.now.words o place p v)) [
-      | inl placed ↦ absurd (has_header c w n b s.before u (rw new.0 (place_is_free w.now.words o place p v placed)))
-      | inr unplaced ↦
-          let hand : Option Hand = w.now.seats.holding.hand in
-          let h = hand_marks w.now.words c.pages hand p v (left_holds _ _ s.meets.holder unplaced)
-          (left_fails (is_some_and (λ (y : Hand). is_unmarked y.source) hand) _ s.unswept unplaced) in
-          let at : pointed_cell c.pages w.now.words.pages h.holds.value ≡ Some cell =
-          h.cell cell.index new.1 ∙ rw (← new.0) in
-          precise.hand h.holds h.there h.unswept b (u, comes_back c w n s.before s.early b h.holds.value u at)
-    ]
-  ]
-    where
-      cell : Cell
-      cell = cell_of_allocation c (placed_at w.allocations b)
-
-      o : Object
-      o = object_made c (flight_of w.now seat).op
-
-      place : Option Place
-      place = place_now c w.now (flight_of w.now seat)
+  mark_step seat p v after s b u bit =
+      let cell : Cell = cell_of_allocation c (placed_at w.allocations b) in
+      let o : Object = object_made c (flight_of w.now seat).op in
+      let place : Option Place = place_now c w.now (flight_of w.now seat) in
+      elim (more_bits w.now.words.marks p v cell.page cell.index bit) [
+        | inl old ↦ precise.marked b u old
+        | inr new ↦ elim (cases_Bool (marks_place w.now.words o place p v)) [
+          | inl placed ↦ absurd (has_header c w n b s.before u (rw new.0 (place_is_free w.now.words o place p v placed)))
+          | inr unplaced ↦
+              let hand : Option Hand = w.now.seats.holding.hand in
+              let h = hand_marks w.now.words c.pages hand p v (left_holds _ _ s.meets.holder unplaced)
+              (left_fails (is_some_and (λ (y : Hand). is_unmarked y.source) hand) _ s.unswept unplaced) in
+              let at : pointed_cell c.pages w.now.words.pages h.holds.value ≡ Some cell =
+              h.cell cell.index new.1 ∙ rw (← new.0) in
+              precise.hand h.holds h.there h.unswept b (u, comes_back c w n s.before s.early b h.holds.value u at)
+        ]
+      ]
 
   mmark_step : (j : ℕ) (after : NeverState) → MarkerStands c w.now (marker_of w.now j)
       → Steps c w n (Marker j) step.Mmark after T → MarksTouched (Marker j) step.Mmark

@@ -119,6 +119,9 @@ pub released_terrain : (c : Config) (o : Object) (w : World) → IsWithinLimits 
     → is_released_in true w.now.words.snapshot w.now.words.marks run.page 0 ≡ false)
     → Laid c o true w (record (ground_of w) { allocations = map (with_released c w.now.words) w.allocations })
 released_terrain c o w limits len st kept =
+    let ys : List PlacedAllocation = map (with_released c w.now.words) w.allocations in
+    let own : List Claim = claims_of c w.now.seats.holding.freed w.allocations in
+    let placed : List Claim = claims_placed o w.now.seats.holding.placing in
     record {
       scene = layout_released (layout_scene_of c o false w.now.words.marks (ground_of w))
           (claims_of c w.now.seats.holding.freed ys ++ placed) st.scene refl (record {
@@ -142,15 +145,6 @@ released_terrain c o w limits len st kept =
       cells = cells_behind c (with_released c w.now.words) w.allocations (releasing_leaves c w.now.words) st.cells;
     }
   where
-    ys : List PlacedAllocation
-    ys = map (with_released c w.now.words) w.allocations
-
-    own : List Claim
-    own = claims_of c w.now.seats.holding.freed w.allocations
-
-    placed : List Claim
-    placed = claims_placed o w.now.seats.holding.placing
-
     was : (x : Claim) → Among x
         (claims_of c w.now.seats.holding.freed (map (with_released c w.now.words) w.allocations))
         → Among x (claims_of c w.now.seats.holding.freed w.allocations)

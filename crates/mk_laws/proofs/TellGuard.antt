@@ -34,24 +34,23 @@ run_part o distance count mapped x (OfLeafRun first large leaf) is = (first, sym
 run_part o distance count mapped x _ is = absurd (false≢true (ap heads_run is))
 
 pub later_pages : (c : Config) (w : World) → Unreleasing c w → LaterPagesAreKnown w.now.words
-later_pages c w q p count distance is some lt = elim (cases_eq (used_on w.now.words.pages p) 0) [
-  | inl empty ↦ elim (q.laid.scene.occupied p headed (ap (λ i. used_on w.now.words.pages i) own ∙ empty)) [
-    | inl on ↦ absurd (false≢true on)
-    | inr here ↦ by_plot (plot_of (object_now c w.now) w.now.seats.holding.placing) q.laid.scene.plot here
-  ]
-  | inr used ↦ elim (find_bit (used_on w.now.words.pages p) (cells_under (shows_on w.now.words.pages p))) [
-    | inr none ↦ absurd (used (zero_where_none (used_on w.now.words.pages p)
-        (λ k h. let t = q.laid.scene.used p k h in true≢false (sym h ∙ none k t.0))))
-    | inl (k, bit) ↦ elim ((q.laid.scene.used p k bit).1) [
-      | inl claimed ↦ inl (by_claim k claimed)
-      | inr released ↦ absurd (false≢true released)
+later_pages c w q p count distance is some lt =
+    let own : head_on w.now.words.pages p ≡ p = ap (λ (x : Option Header). head_page_under x p) is in
+    elim (cases_eq (used_on w.now.words.pages p) 0) [
+      | inl empty ↦ elim (q.laid.scene.occupied p headed (ap (λ i. used_on w.now.words.pages i) own ∙ empty)) [
+        | inl on ↦ absurd (false≢true on)
+        | inr here ↦ by_plot (plot_of (object_now c w.now) w.now.seats.holding.placing) q.laid.scene.plot here
+      ]
+      | inr used ↦ elim (find_bit (used_on w.now.words.pages p) (cells_under (shows_on w.now.words.pages p))) [
+        | inr none ↦ absurd (used (zero_where_none (used_on w.now.words.pages p)
+            (λ k h. let t = q.laid.scene.used p k h in true≢false (sym h ∙ none k t.0))))
+        | inl (k, bit) ↦ elim ((q.laid.scene.used p k bit).1) [
+          | inl claimed ↦ inl (by_claim k claimed)
+          | inr released ↦ absurd (false≢true released)
+        ]
+      ]
     ]
-  ]
-]
   where
-    own : head_on w.now.words.pages p ≡ p
-    own = ap (λ (x : Option Header). head_page_under x p) is
-
     headed : header_on w.now.words.pages p ≢ 0
     headed z = true≢false (sym (ap heads_run is) ∙ ap (λ h. heads_run (header_of h)) z)
 
