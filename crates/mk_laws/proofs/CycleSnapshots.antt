@@ -179,9 +179,8 @@ after : (c : Config) (w : World) (e : Event) (behind : List Event) → Along c w
     → Tells w.allocations (left_from c w (e ∷ behind)) × StandsInOrder c (left_from c w (e ∷ behind))
 unfolding left_from
 after c w e behind a is none =
-    let n = along_next c w e behind a in
     let t : Tells w.allocations (world_behind c w e) = rw (begin_is e.step is) (tells_at_begin c w e.seat) in
-    tells_from c w.allocations (world_behind c w e) behind n.2 none t
+    tells_from c w.allocations (world_behind c w e) behind (along_next c w e behind a).2 none t
 
 pub snapshots_are_of_cycles : SnapshotsAreOfCycles
 snapshots_are_of_cycles c es limits on others begin none cycling i u =

@@ -211,9 +211,8 @@ module _ (c : Config) (w : World) (known : KnownWorld c w) (laid : LayoutStands 
   place_alone b place typed v base cell pages stand is i u same =
       let a : PlacedAllocation = placed_at xs i in
       let s = standing i u in
-      let stands = placed_stands c b place known.limits typed v base cell pages in
       let one = base_points c w.now.words a known.limits s.stands s.headers in
-      let two = base_points c w.now.words b known.limits stands
+      let two = base_points c w.now.words b known.limits (placed_stands c b place known.limits typed v base cell pages)
       (placed_headers c w.now.words b place known.limits typed base cell stand) in
       let both : Some (cell_of_allocation c a) ≡ Some (cell_of_allocation c b) =
       sym one ∙ ap (λ n. pointed_cell c.pages w.now.words.pages (address_of n)) (same ∙ sym base) ∙ two in

@@ -70,9 +70,7 @@ granted_terrain c releasing marks t place a used is st =
     was = rw used at st.scene
 
     shown : IsShown t.pages (place_claim (object_placed c a) place)
-    shown =
-        let s = was in
-        s.shown (place_claim (object_placed c a) place)
+    shown = was.shown (place_claim (object_placed c a) place)
         (among_back (claims_of c t.run t.allocations) (place_claim (object_placed c a) place ∷ [])
         (place_claim (object_placed c a) place) (inl refl))
 

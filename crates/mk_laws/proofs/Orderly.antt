@@ -201,8 +201,7 @@ holder_shows c v _ f h t is = tt
 pub giver_shows : (c : Config) (v : View) (seat : Seat) → Orderly c v → HoldsTurn c v seat
     → OwnShows c v.flights 0 v.gates seat Resting
 giver_shows c v (Caller k) h t =
-    let s = shows_at c v k UnderTurn h t.0 t.1 in
-    let g : gate_in v k ≡ 0 = s.0 in (
+    let g : gate_in v k ≡ 0 = (shows_at c v k UnderTurn h t.0 t.1).0 in (
       rw h.flights t.0,
       (λ e. absurd (omega arith), omega arith, λ e. g, λ e. absurd (omega arith)),
     )

@@ -273,9 +273,8 @@ counts_later c s w (e ∷ es) k on others holds =
     let t = holds_turn c w.now s k.orderly holds in
     let now = counts_nothing c w.now e.seat e.step (λ out. ne (same_holder c (view_of w.now) e.seat s k.orderly out t))
     (actor_of c w.now e.seat e.step k.orderly h) in
-    let one = left_after c w e.seat s e.step k h ne in
     let rest = counts_later c s (world_behind c w e) es (known_behind c w.now e k on.0) on.1 others.1
-    (one.own.holding holds).0 in
+    ((left_after c w e.seat s e.step k h ne).own.holding holds).0 in
     let first : cond {A = ℕ} (is_end e.step) 1 0 ≡ 0 = rw now.0 in
     let entry = entry_fulls (caller_number e.seat) (flight_of w.now e.seat).op (answer_decided c w.now e) now.1 in
     record {

@@ -69,8 +69,7 @@ lea_value : (listed : List ℕ) (safe : ℕ → Bool) (s : ImageScene) (n : Neve
 lea_value listed safe s n h Null x i sound is e ne meets = absurd (ne e)
 lea_value listed safe s n h (Num m) x i sound is e ne meets = absurd sound
 lea_value listed safe s n h (Ptr a t o) x i sound is e ne meets =
-    let u = h.set.unreleased a is in
-    let b = h.bound a (o + i) u meets.0 in
+    let b = h.bound a (o + i) (h.set.unreleased a is) meets.0 in
     let ba = base_at s.allocations a in
     let room = h.room in
     (omega arith, is, refl)

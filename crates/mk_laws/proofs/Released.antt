@@ -108,10 +108,9 @@ pub goes : (c : Config) (run : Option RunPages) (w : Words) (xs : List PlacedAll
 goes c run w xs x limits stand i =
     let n = claim_is c run xs x i in
     let a : PlacedAllocation = placed_at xs n.number in
-    let left = left_is c w a limits (stand n.number n.unreleased) in
     elim (cases_Bool (with_released c w a).released) [
       | inr u ↦ inl (rw n.is (changed_among c run (with_released c w) xs n.number (releasing_leaves c w) u))
-      | inl r ↦ inr (rw n.is (sym left ∙ r))
+      | inl r ↦ inr (rw n.is (sym (left_is c w a limits (stand n.number n.unreleased)) ∙ r))
     ]
 
 pub released_terrain : (c : Config) (o : Object) (w : World) → IsWithinLimits c → length w.now.words.pages ≡ c.pages

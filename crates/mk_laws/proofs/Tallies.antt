@@ -76,11 +76,10 @@ exact_at_give c es seat h meets =
     let a = and_parts (is_decided f.stage && gone && held) (m.words.fresh == m.fresh_words) meets.holder in
     let b = and_parts (is_decided f.stage && gone) held a.0 in
     let d = and_parts (is_decided f.stage) gone b.0 in
-    let holds = giver_has_turn c m seat known meets in
     let settled : IsSettled (left c es) = record {
       releasing = giving (phase_of m.words) (give_phase (phase_of m.words) meets.phase);
       placing = false_from_ne_true (has_place m.seats.holding.placing)
-          (λ has. decided_no_new f d.0 (placed_undecided c m seat known holds has));
+          (λ has. decided_no_new f d.0 (placed_undecided c m seat known (giver_has_turn c m seat known meets) has));
       unmapped = gone_is_unmapped m.words m.seats.holding.freed d.1;
     } in
     let shown = pages_show_the_storage c es h settled in

@@ -184,7 +184,6 @@ mapped_stands : (c : Config) (w : World) (i : ℕ) → AreOfPages c.pages w.now.
 mapped_stands c w i lengths laid mapped =
     let a : PlacedAllocation = placed_at w.allocations i in
     let u = mapped_stays c a mapped in
-    let shown = shown_at c w i laid u in
     let going : Bool = is_unmapping w.now.seats.holding.freed (a.base / 64) in
     let unmapped : (a.freed && is_large (kinds_of c.types a.ty)) ≡ false =
     not-true (a.freed && is_large (kinds_of c.types a.ty))
@@ -196,7 +195,7 @@ mapped_stands c w i lengths laid mapped =
       stands = (all_stand c (object_now c w.now) (is_phase w.now.words 4) w lengths.pages laid i u).stands;
       headers = λ d lt. subst
           (λ (x : Mode). HasHeader x (object_placed c a) d (header_on w.now.words.pages (a.base / 64 + d))) mode
-          (shown.headers d lt);
+          ((shown_at c w i laid u).headers d lt);
     }
 
 -- All of it

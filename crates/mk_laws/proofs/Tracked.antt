@@ -60,9 +60,8 @@ pub unplaced_settles : (c : Config) (es : List Event) (k : ℕ) → IsHistory c 
     → IsSettled (left c es)
 unplaced_settles c es k h lt new off at =
     let w : World = left c es in
-    let undecided = undecided_new (flight_of w.now (Caller k)) new in
     let none = none_on_its_way c w.now (Caller k) (known_left c es h.within_limits h.enabled)
-    (new_holds_turn c w k lt new) undecided.stage in
+    (new_holds_turn c w k lt new) (undecided_new (flight_of w.now (Caller k)) new).stage in
     record {
       releasing = off;
       placing = ap (λ (p : Placing). has_place p) at;
