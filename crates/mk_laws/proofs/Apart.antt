@@ -19,7 +19,7 @@ use Rattle.mk_core.proofs.Sizes.{words_are_small}
 use Rattle.mk_core.proofs.StandingAllocations.{placed_cell}
 use Rattle.mk_core.proofs.UnreleasedStorage.{released_front, unreleased_front}
 use Rattle.mk_laws.proofs.Claims.{front, gone_front}
-use Rattle.mk_laws.proofs.StandingClaims.{stands_there}
+use Rattle.mk_laws.proofs.Released.{stands_there}
 use Rattle.mk_laws.proofs.Unmapping.{shares_run}
 
 -- a scene in which nothing is on its way: no place, no run, no released cell

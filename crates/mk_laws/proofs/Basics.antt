@@ -14,7 +14,7 @@ pub use Rattle.mk_laws.proofs.ImagesMoves.{Frees, Grants, Move, Releases, Renews
 pub use Rattle.mk_laws.proofs.ImagesStands.{Stands, stands_of}
 pub use Rattle.mk_laws.proofs.Induction.{KeptByEvents, before_it, holds_of_histories}
 pub use Rattle.mk_laws.proofs.KeptGuard.{Keeps}
-pub use Rattle.mk_laws.proofs.Known.{Known, known_at_first, known_behind, known_left}
+pub use Rattle.mk_laws.proofs.Known.{Known, known_at_first, known_behind, known_left, operands_of, register_small}
 pub use Rattle.mk_laws.proofs.KnownWorlds.{KnownWorld, known_world}
 pub use Rattle.mk_laws.proofs.LayoutBefore.{Before, is_releasing_behind, page_within, reg_leaves, reg_leaves_ground}
 pub use Rattle.mk_laws.proofs.LayoutHolders.{first_header, free_has_turn, holding_object, made_sized, new_has_turn}
@@ -24,23 +24,20 @@ pub use Rattle.mk_laws.proofs.LayoutReadings.{claimed, claimed_some, none_set, z
 pub use Rattle.mk_laws.proofs.MappedWords.{mapped_stays}
 pub use Rattle.mk_laws.proofs.NewPlace.{held_place, new_holds}
 pub use Rattle.mk_laws.proofs.NextSteps.{at_its_stage, at_no_take, at_reg}
-pub use Rattle.mk_laws.proofs.Operands.{operands_of, register_small}
-pub use Rattle.mk_laws.proofs.Orderly.{Orderly, same_holder, shows_at, turn_of}
+pub use Rattle.mk_laws.proofs.Orderly.{Orderly, same_holder, shows_at, turn_of, marker_set}
 pub use Rattle.mk_laws.proofs.OrderlyLists.{actor_of, at_first, not_astray}
 pub use Rattle.mk_laws.proofs.OthersMoves.{WorldBehind}
 pub use Rattle.mk_laws.proofs.Releasing.{headed_other, used_header, with_header_on, with_used_on}
 pub use Rattle.mk_laws.proofs.Phases.{either_phase, over_phase}
-pub use Rattle.mk_laws.proofs.ProtocolMarkers.{marker_set}
 pub use Rattle.mk_laws.proofs.ProtocolStepKinds.{begin_is, is_grant, release_is}
 pub use Rattle.mk_laws.proofs.QuarantineSteps.{bit_cases}
 pub use Rattle.mk_laws.proofs.Reached.{PagesShow}
 pub use Rattle.mk_laws.proofs.Ready.{Leads, Ready, either_leads, pointed_word}
 pub use Rattle.mk_laws.proofs.Refusals.{goes_bare}
 pub use Rattle.mk_laws.proofs.RegMoves.{flight}
-pub use Rattle.mk_laws.proofs.Released.{all_stand, releasing_leaves}
+pub use Rattle.mk_laws.proofs.Released.{all_stand, releasing_leaves, IsStanding, ends_on_pages}
 pub use Rattle.mk_laws.proofs.SameWords.{Behind, reg_keeps, tally_keeps}
 pub use Rattle.mk_laws.proofs.Stages.{calls_stand, is_call_stage}
-pub use Rattle.mk_laws.proofs.StandingClaims.{IsStanding, ends_on_pages}
 pub use Rattle.mk_laws.proofs.Standings.{InCall, in_call_told, is_astray, standing, standing_at}
 pub use Rattle.mk_laws.proofs.Views.{HoldsTurn, View, flight_in, gate_in, view_of}
 pub use Rattle.mk_laws.proofs.Wells.{wells_from}

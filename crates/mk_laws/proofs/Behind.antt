@@ -113,13 +113,12 @@ pub object_kind : (c : Config) (w : World) (seat : Seat) (x : Step) → Known c 
     → object_now c (WorldBehind c w seat x).now ≡ object_now c w.now
 object_kind c w seat x known h has =
     let v : World = WorldBehind c w seat x in
-    let turn = turn_kind c w seat x h has in
     let k : ℕ = v.now.words.turn - 1 in
     let orderly = orderly_behind c w.now seat x known.small known.orderly h in
     let new = orderly.served.placed has in
     let move = moves c w.now seat x (not_astray c w.now known.orderly) (actor_of c w.now seat x known.orderly h) h in
     elim (new_was c (view_of w.now) seat (view_of v.now) k move new) [
-      | inl same ↦ rw same (rw turn)
+      | inl same ↦ rw same (rw (turn_kind c w seat x h has))
       | inr none ↦ absurd (held_none v.now.seats.holding.placing has none)
     ]
 
@@ -128,10 +127,9 @@ pub layout_behind : (c : Config) (w : World) (seat : Seat) (x : Step) → Before
     → LayoutStands c w → LayoutStands c (WorldBehind c w seat x)
 layout_behind c w seat x b h laid =
     let v : World = WorldBehind c w seat x in
-    let kind = by_kind c w seat x b h laid in
     let phase = phase_kind c w seat x h in
     let marked : HasLayout c (object_now c w.now) (is_phase v.now.words 4) v.now.words.marks (ground_of v) =
-    rw phase (marks (is_releasing_behind x (is_phase w.now.words 4)) refl kind) in
+    rw phase (marks (is_releasing_behind x (is_phase w.now.words 4)) refl (by_kind c w seat x b h laid)) in
     elim (cases_Bool (has_place v.now.seats.holding.placing)) [
       | inl has ↦ rw (object_kind c w seat x b.known h has) marked
       | inr none ↦ (placeless c (object_now c w.now) (object_now c v.now) (is_phase v.now.words 4) v.now.words.marks

@@ -162,9 +162,8 @@ module _ (c : Config) (w : World) (n : NeverState) (known : KnownWorld c w) (mir
   pub dirty_leads : (k : ℕ) → Meets c w k step.Dirty → LeadsAt c w n safe k step.Dirty
   dirty_leads k h =
       let f = flight_of w.now (Caller k) in
-      let lt = ltb-true k c.callers h.seat in
       let e = literal f stage.Dirty (at_its_stage f.stage f.op step.Dirty refl h.order) in
-      rw e (dirty_by f.op f.q f.p f.r f.loaded (rw e at (own_astray k lt)) (rw e))
+      rw e (dirty_by f.op f.q f.p f.r f.loaded (rw e at (own_astray k (ltb-true k c.callers h.seat))) (rw e))
     where
       dirty_by : (o : Op) (q p r l : ℕ) → is_astray (standing_at stage.Dirty o) ≡ false
           → is_put (flight_of w.now (Caller k)).stage ≡ false → Leads safe (image_scene_of w) n k o
@@ -262,8 +261,7 @@ module _ (c : Config) (w : World) (n : NeverState) (known : KnownWorld c w) (mir
       let f = flight_of w.now (Caller k) in
       let lt = ltb-true k c.callers h.seat in
       let e = literal f stage.Setg (at_its_stage f.stage f.op step.Setg refl h.order) in
-      let parts = operands_of c f.op (known.now.operands k) in
-      let small = parts.g in
+      let small = (operands_of c f.op (known.now.operands k)).g in
       let lg = known.lengths.globals in
       let ln = mirrors.global_count in
       rw e (setg_leads c.globals safe (image_scene_of w) n k ready (there_is k lt)

@@ -5,8 +5,7 @@ use Rattle.mk_laws.proofs.Vocabulary.{Page, Seat, Step, Words, World, ZeroScene,
 use Rattle.mk_laws.proofs.Vocabulary.{is_released_there, object_now, placed_at, refl, set_by, slice_index, slice_set}
 use Rattle.mk_laws.proofs.Vocabulary.{subst, sym, true≢false, without, zero_scene_with, ℕ, ◌∙◌, ◌≡◌, ◌≢◌}
 use Rattle.mk_laws.proofs.Known.{Known}
-use Rattle.mk_laws.proofs.Released.{all_stand}
-use Rattle.mk_laws.proofs.StandingClaims.{IsStanding}
+use Rattle.mk_laws.proofs.Released.{all_stand, IsStanding}
 use Rattle.mk_laws.specs.ZeroLaws.{ZeroPremises}
 use Rattle.mk_core.proofs.RegisterAccesses.{LeavesTable}
 

@@ -7,9 +7,9 @@ use Rattle.mk_laws.proofs.Vocabulary.{accessed_lengths, ap, arith, cell_freed, e
 use Rattle.mk_laws.proofs.Vocabulary.{first_world, flight_of, freed_cell, freed_where_it_stands, get_or_past, granted}
 use Rattle.mk_laws.proofs.Vocabulary.{has_bit, if◌then◌else◌, inl, inr, is_begin, is_quarantined, left, left_append}
 use Rattle.mk_laws.proofs.Vocabulary.{left_from, length, length-map, list_any, map, never_granted, no_longer_fresh}
-use Rattle.mk_laws.proofs.Vocabulary.{none_freed, not, placed_at, refl, slice_index, stands_in, suc, sym, true}
-use Rattle.mk_laws.proofs.Vocabulary.{true≢false, with_released, word_accessed, world_behind, zero, zero_lengths, ℕ}
-use Rattle.mk_laws.proofs.Vocabulary.{◌&&◌, ◌++◌, ◌||◌, ◌∙◌, ◌∷◌, ◌≡◌, ◌≤◌, ◌⊎◌}
+use Rattle.mk_laws.proofs.Vocabulary.{none_freed, not, or_parts, placed_at, refl, slice_index, stands_in, suc, sym}
+use Rattle.mk_laws.proofs.Vocabulary.{true, true≢false, with_released, word_accessed, world_behind, zero, zero_lengths}
+use Rattle.mk_laws.proofs.Vocabulary.{ℕ, ◌&&◌, ◌++◌, ◌∙◌, ◌∷◌, ◌≡◌, ◌≤◌, ◌⊎◌}
 use Rattle.mk_laws.proofs.Basics.{Before, Known, Meets, WorldBehind, begin_is, freeing_leaves, known_at_first}
 use Rattle.mk_laws.proofs.Basics.{known_behind, releasing_leaves}
 use Rattle.mk_core.specs.declared.events.Step.TheVariants as step
@@ -167,10 +167,6 @@ tells_from c xs w (e ∷ es) a none t =
     let parts = or_parts (is_begin e.step) (list_any (λ (x : Event). is_begin x.step) es) none in
     tells_from c xs (world_behind c w e) es n.2 parts.1
     (tells_behind c xs w e.seat e.step n.0 n.1 a.order.laid a.order.quarantined parts.0 t)
-  where
-    or_parts : (a b : Bool) → (a || b) ≡ false → (a ≡ false) × (b ≡ false)
-    or_parts false b h = (refl, h)
-    or_parts true b h = cc
 
 -- what is along a list is along its later part
 along_parts : (c : Config) (w : World) (xs ys : List Event) → Along c w (xs ++ ys) → Along c (left_from c w xs) ys
@@ -183,9 +179,8 @@ after : (c : Config) (w : World) (e : Event) (behind : List Event) → Along c w
     → Tells w.allocations (left_from c w (e ∷ behind)) × StandsInOrder c (left_from c w (e ∷ behind))
 unfolding left_from
 after c w e behind a is none =
-    let n = along_next c w e behind a in
     let t : Tells w.allocations (world_behind c w e) = rw (begin_is e.step is) (tells_at_begin c w e.seat) in
-    tells_from c w.allocations (world_behind c w e) behind n.2 none t
+    tells_from c w.allocations (world_behind c w e) behind (along_next c w e behind a).2 none t
 
 pub snapshots_are_of_cycles : SnapshotsAreOfCycles
 snapshots_are_of_cycles c es limits on others begin none cycling i u =

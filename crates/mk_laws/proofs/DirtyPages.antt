@@ -349,8 +349,7 @@ first_stands c =
     record {
       dirty = λ p some. absurd (some (at_first c.pages p 0));
       owed = λ k at.
-          let rest = at_first c.callers k at_rest in
-          let bad : stage.Idle ≡ stage.Dirty = sym (ap (λ (f : Flight). f.stage) rest) ∙ at in
+          let bad : stage.Idle ≡ stage.Dirty = sym (ap (λ (f : Flight). f.stage) (at_first c.callers k at_rest)) ∙ at in
           absurd (true≢false (let y : true ≡ false = cc in y));
       clean = λ three p. at_first c.pages p 0;
     }
@@ -364,12 +363,11 @@ stores_told c es e h =
     let xs : List Decided = call_decided c (left c es).now e ++ [] in
     let one : asked xs ≡ asked (call_decided c (left c es).now e) =
     ap (λ (ys : List Decided). asked ys) (append-nil (call_decided c (left c es).now e)) in
-    let on = ((enabled_in_parts c es (e ∷ [])).0 h.enabled).1.0 in
     let admitted : AreAdmitted c.globals (never_behind c es) (asked (call_decided c (left c es).now e)) =
     subst (λ (ys : List Call). AreAdmitted c.globals (never_behind c es) ys) one
     ((admitted_in_parts c es (e ∷ [])).0 h.admitted).1 in
     (told_to_zeros c (left c es) (never_behind c es) (known_world c es before.within_limits before.enabled)
-    (histories_keep_the_invariant c es before) e on admitted).stored
+    (histories_keep_the_invariant c es before) e (((enabled_in_parts c es (e ∷ [])).0 h.enabled).1.0) admitted).stored
 
 kept : KeptByEvents Stands
 kept c es e h d =

@@ -60,9 +60,8 @@ module _ (c : Config) (w : World) (n : NeverState) (known : KnownWorld c w) (mir
       → points_well c.pages w.now.words (image_of (bases_of w.allocations) v) ≡ true → IsSafe cut v
   value_cut (Ptr a t o) sound is well =
       let u = ready.set.unreleased a is in
-      let lt = exists_placed w.allocations a u in
       let word = pointed_word c.globals safe (image_scene_of w) n ready a t o sound in
-      let fits = words_fit c w n known mirrors a lt in
+      let fits = words_fit c w n known mirrors a (exists_placed w.allocations a u) in
       let cell = ap (λ b. pointed_cell c.pages w.now.words.pages (address_of (b + o))) (base_at w.allocations a)
       ∙ st.cell a o u (omega arith) in
       and_from (safe a) _ is (ap (λ (x : Option Cell). is_none_or (is_marked w.now.words) x) (sym cell) ∙ well)

@@ -1,33 +1,63 @@
 -- What the layout, the quarantine and the rest say to the images.
-use Rattle.mk_laws.proofs.Vocabulary.{Among, Bool, Caller, Cell, Claim, Config, Flight, HasHeader, HasZeros}
-use Rattle.mk_laws.proofs.Vocabulary.{ImagePremises, IsClaimedRun, IsPlaceOfNone, IsQuarantined, IsShown, LayoutStands}
-use Rattle.mk_laws.proofs.Vocabulary.{List, MarksAreClosed, None, Object, Option, Place, PlacedAllocation, Placing}
-use Rattle.mk_laws.proofs.Vocabulary.{RunPages, RunStands, Some, Unmapping, Used, World, address_of, all_below}
-use Rattle.mk_laws.proofs.Vocabulary.{all_below_more_is, all_below_zero_is, and_parts, ap, arith, base_made, cases_Bool}
-use Rattle.mk_laws.proofs.Vocabulary.{cell_of_allocation, cells_made, claim_of, claims_of, claims_placed, eq-eqb}
-use Rattle.mk_laws.proofs.Vocabulary.{eqb-true, false, flight_of, granted, granted_base_is, granted_object}
+use Rattle.mk_laws.proofs.Vocabulary.{Among, AreApart, Bool, Caller, Cell, Claim, Config, Flight, HasHeader, HasZeros}
+use Rattle.mk_laws.proofs.Vocabulary.{ImagePremises, IsClaimedRun, IsOfOneCell, IsPlaceOfNone, IsQuarantined, IsShown}
+use Rattle.mk_laws.proofs.Vocabulary.{LayoutStands, List, MarksAreClosed, None, Object, Option, Place, PlacedAllocation}
+use Rattle.mk_laws.proofs.Vocabulary.{Placing, RunPages, RunStands, Some, Unmapping, Used, World, [], address_of}
+use Rattle.mk_laws.proofs.Vocabulary.{all_below, all_below_more_is, all_below_zero_is, and_parts, ap, arith, base_made}
+use Rattle.mk_laws.proofs.Vocabulary.{cases_Bool, cell_of_allocation, cells_made, claim_of, claims_of, claims_placed}
+use Rattle.mk_laws.proofs.Vocabulary.{eq-eqb, eqb-true, false, flight_of, granted, granted_base_is, granted_object}
 use Rattle.mk_laws.proofs.Vocabulary.{granted_type, ground_of, has_bit_without, header_at, header_made, inl, inr}
 use Rattle.mk_laws.proofs.Vocabulary.{is_large, is_mapped, is_phase, is_released_cell, is_released_in, is_small_object}
 use Rattle.mk_laws.proofs.Vocabulary.{is_undecided_new, is_unmapping, kinds_of, large_is_not_small, layout_scene_of}
 use Rattle.mk_laws.proofs.Vocabulary.{length, lt-ltb, mode_of, not, object_made, object_now, object_placed, pages_made}
 use Rattle.mk_laws.proofs.Vocabulary.{pages_some, phase_of, place_claim, placed_at, pointed_cell, refl}
-use Rattle.mk_laws.proofs.Vocabulary.{run_of_allocation, slice_index, stands, subst, suc, sym, true, typed_size}
-use Rattle.mk_laws.proofs.Vocabulary.{unmapped_header, zero, ℕ, ◌&&◌, ◌+◌, ◌/◌, ◌<◌, ◌==◌, ◌∙◌, ◌≡◌, ◌≢◌, ◌≤◌}
+use Rattle.mk_laws.proofs.Vocabulary.{run_of_allocation, slice_index, stands, subst, suc, sym, true, true≢false}
+use Rattle.mk_laws.proofs.Vocabulary.{typed_size, unmapped_header, zero, ℕ, ◌&&◌, ◌+◌, ◌/◌, ◌<◌, ◌==◌, ◌∙◌, ◌∷◌, ◌≡◌}
+use Rattle.mk_laws.proofs.Vocabulary.{◌≢◌, ◌≤◌, ◌⊎◌}
+use Rattle.mk_laws.proofs.Claims.{claim_among, front, gone_front, claim_is}
 use Rattle.mk_core.specs.NewPlaces.{place_stands}
 use Rattle.mk_core.proofs.GrantedAllocations.{placed_headers, placed_stands}
 use Rattle.mk_core.proofs.PointedAllocations.{base_points}
-use Rattle.mk_laws.proofs.Claims.{claim_among, claim_is}
 use Rattle.mk_laws.proofs.LayoutHolders.{holding_object, new_has_turn, seat_operands}
 use Rattle.mk_laws.proofs.Serving.{apart_across, apart_left, own_claim, placed_claim}
-use Rattle.mk_laws.proofs.Released.{all_stand}
-use Rattle.mk_laws.proofs.OneCell.{numbers_apart}
-use Rattle.mk_laws.proofs.StandingClaims.{IsStanding, place_index}
+use Rattle.mk_laws.proofs.Released.{all_stand, IsStanding, place_index}
 use Rattle.mk_laws.proofs.Unmapping.{shares_run}
 use Rattle.mk_laws.specs.ImagePremises.{IsFreedRun}
 use Rattle.mk_laws.specs.ImagePremises as images
 use Rattle.mk_laws.proofs.KnownWorlds.{KnownWorld}
 use Rattle.mk_laws.specs.RunGates.{HoldsRunGates}
 use Rattle.mk_laws.proofs.TellImages.{zeros_tell_the_images}
+
+-- Unreleased allocations of one cell are one.
+
+-- No two numbers have one cell.
+pub numbers_apart : (c : Config) (run : Option RunPages) (xs : List PlacedAllocation) (i j : ℕ)
+    → AreApart (claims_of c run xs) → (placed_at xs i).released ≡ false → (placed_at xs j).released ≡ false
+    → IsOfOneCell (claim_of c run (placed_at xs i)) (claim_of c run (placed_at xs j)) → i ≡ j
+numbers_apart c run [] i j apart u v same = absurd (true≢false u)
+numbers_apart c run (x ∷ xs) i j apart u v same =
+    by (cases_Bool x.released) i j u v same (λ rest m n. numbers_apart c run xs m n rest)
+  where
+    by : (x.released ≡ true) ⊎ (x.released ≡ false) → (i j : ℕ) → (placed_at (x ∷ xs) i).released ≡ false
+        → (placed_at (x ∷ xs) j).released ≡ false
+        → IsOfOneCell (claim_of c run (placed_at (x ∷ xs) i)) (claim_of c run (placed_at (x ∷ xs) j))
+        → (AreApart (claims_of c run xs) → (m n : ℕ) → (placed_at xs m).released ≡ false
+        → (placed_at xs n).released ≡ false
+        → IsOfOneCell (claim_of c run (placed_at xs m)) (claim_of c run (placed_at xs n)) → m ≡ n) → i ≡ j
+    by gone zero zero u v same rest = refl
+    by (inl r) zero (suc n) u v same rest = absurd (true≢false (sym r ∙ u))
+    by (inl r) (suc m) zero u v same rest = absurd (true≢false (sym r ∙ v))
+    by (inl r) (suc m) (suc n) u v same rest =
+        ap (λ k. suc k) (rest (rw (gone_front c run x xs r) at apart) m n u v same)
+    by (inr t) zero (suc n) u v same rest =
+        let ap2 : AreApart (claim_of c run x ∷ claims_of c run xs) = rw (front c run x xs t) at apart in
+        absurd (ap2.0 (claim_of c run (placed_at xs n)) (claim_among c run xs n v) same)
+    by (inr t) (suc m) zero u v same rest =
+        let ap2 : AreApart (claim_of c run x ∷ claims_of c run xs) = rw (front c run x xs t) at apart in
+        absurd (ap2.0 (claim_of c run (placed_at xs m)) (claim_among c run xs m u) (sym same.0, sym same.1))
+    by (inr t) (suc m) (suc n) u v same rest =
+        let ap2 : AreApart (claim_of c run x ∷ claims_of c run xs) = rw (front c run x xs t) at apart in
+        rw (rest ap2.1 m n u v same)
 
 -- A large allocation that is freed isn't mapped.
 pub gone_is : (c : Config) (a : PlacedAllocation) → a.released ≡ false
@@ -181,9 +211,8 @@ module _ (c : Config) (w : World) (known : KnownWorld c w) (laid : LayoutStands 
   place_alone b place typed v base cell pages stand is i u same =
       let a : PlacedAllocation = placed_at xs i in
       let s = standing i u in
-      let stands = placed_stands c b place known.limits typed v base cell pages in
       let one = base_points c w.now.words a known.limits s.stands s.headers in
-      let two = base_points c w.now.words b known.limits stands
+      let two = base_points c w.now.words b known.limits (placed_stands c b place known.limits typed v base cell pages)
       (placed_headers c w.now.words b place known.limits typed base cell stand) in
       let both : Some (cell_of_allocation c a) ≡ Some (cell_of_allocation c b) =
       sym one ∙ ap (λ n. pointed_cell c.pages w.now.words.pages (address_of n)) (same ∙ sym base) ∙ two in

@@ -77,7 +77,9 @@ unmapped_goes pages before after distance o large b a unmapped =
 
 unmaps_find : (c : Config) (w : Words) (freed : Option RunPages) (p n : ℕ)
     → ((run : RunPages) → freed ≡ Some run → RunHasObject w run) → Unmaps w freed p n → HeadFinds c.pages w p n
-unmaps_find c w freed p n runs u = Unmapped (part_not_free o.object distance n after)
+unmaps_find c w freed p n runs u =
+    let distance : ℕ = p - u.run.page in
+    Unmapped (part_not_free o.object distance n after)
     (unmapped_goes c.pages (header_at w p) n distance o.object o.large before after unmapped)
     (λ v y on is. run_cell_at c.pages (header_at w p) v distance o.object before o.large
     ∙ sym (run_cell_at c.pages n v distance o.object after o.large) ∙ is)
@@ -85,9 +87,6 @@ unmaps_find c w freed p n runs u = Unmapped (part_not_free o.object distance n a
   where
     o : RunHasObject w u.run
     o = runs u.run u.there
-
-    distance : ℕ
-    distance = p - u.run.page
 
     near : p - u.run.page < u.run.count
     near = u.next.near

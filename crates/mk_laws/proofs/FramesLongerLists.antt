@@ -1,22 +1,24 @@
 -- The law on longer lists.
-use Rattle.mk_laws.proofs.Vocabulary.{AreAdmitted, AreOfOthers, Bool, Caller, Config, Event, Flight, Holds, IsEnabled}
-use Rattle.mk_laws.proofs.Vocabulary.{IsHistory, IsInCall, IsLeft, IsTidy, List, None, Seat, Some, Steady, Step}
-use Rattle.mk_laws.proofs.Vocabulary.{TalliesAreTidy, TurnIsLeft, Word, Words, World, [], answer_decided, ap, asked}
-use Rattle.mk_laws.proofs.Vocabulary.{call_decided, cases_Bool, cell_freed, enabled_meets, entry_of, flight_of, found}
-use Rattle.mk_laws.proofs.Vocabulary.{frees, header_in, header_of, if◌then◌else◌, in_a_word, inl, inr, is_some}
-use Rattle.mk_laws.proofs.Vocabulary.{is_unmapped_header, left, ltb-true, never_behind, not, onward, page_met, progress}
-use Rattle.mk_laws.proofs.Vocabulary.{q_of, refl, refused, sees_double, subst, sym, target, true, word_accessed, ℕ}
-use Rattle.mk_laws.proofs.Vocabulary.{◌&&◌, ◌++◌, ◌<◌, ◌==◌, ◌∙◌, ◌∷◌, ◌≡◌}
+use Rattle.mk_laws.proofs.Vocabulary.{Answer, AreAdmitted, AreOfOthers, Bool, Caller, Cell, Config, Event, Flight}
+use Rattle.mk_laws.proofs.Vocabulary.{Holds, IsEnabled, IsHistory, IsInCall, IsLeft, IsTidy, List, Moment, None, Op}
+use Rattle.mk_laws.proofs.Vocabulary.{Option, Seat, Some, Steady, Step, TalliesAreTidy, TurnIsLeft, Word, Words, World}
+use Rattle.mk_laws.proofs.Vocabulary.{[], answer_decided, ap, asked, begun, call_decided, cases_Bool, cell_freed}
+use Rattle.mk_laws.proofs.Vocabulary.{decided, enabled_meets, entry_of, false, flight_of, found, frees, header_in}
+use Rattle.mk_laws.proofs.Vocabulary.{header_of, if◌then◌else◌, in_a_word, inl, inr, is_some, is_unmapped_header, left}
+use Rattle.mk_laws.proofs.Vocabulary.{ltb-true, never_behind, not, onward, page_met, progress, progress_freed}
+use Rattle.mk_laws.proofs.Vocabulary.{progress_read, progress_reg, q_of, refl, refused, sees_double, still, subst, sym}
+use Rattle.mk_laws.proofs.Vocabulary.{target, true, word_accessed, ℕ, ◌&&◌, ◌++◌, ◌<◌, ◌==◌, ◌∙◌, ◌∷◌, ◌≡◌}
 use Rattle.mk_laws.proofs.Basics.{InCall, Meets, actor_of, at_its_stage, calls_stand, in_call_told, is_call_stage}
 use Rattle.mk_laws.proofs.Basics.{is_holders, not_astray, operands_of, register_small, standing}
+use Rattle.mk_never.specs.declared.operations.Op.TheVariants as op
 use Rattle.mk_core.specs.declared.events.Answer.TheVariants as answer
 use Rattle.mk_core.specs.declared.events.Step.TheVariants as step
+use Rattle.mk_core.specs.Effects.{begins_where_free}
 use Rattle.mk_core.specs.declared.seats.Stage.TheVariants as stage
 use Rattle.mk_laws.proofs.Reaching.{others_leave_accesses, events_reach_the_table}
 use Rattle.mk_laws.proofs.Standings.{is_standing_in_call}
 use Rattle.mk_laws.proofs.CallSorts.{admitted_call, call_outside}
 use Rattle.mk_laws.proofs.AdmittedStill.{call_on}
-use Rattle.mk_laws.proofs.AskedStill.{asked_the_same}
 use Rattle.mk_laws.proofs.EnabledStill.{before, left_to, enabled_still}
 use Rattle.mk_laws.proofs.FramesHolders.{acts_as_holder, holds_is}
 use Rattle.mk_laws.proofs.LastEvents.{Stands, stands, comes_last, goes_on_by}
@@ -25,6 +27,60 @@ use Rattle.mk_laws.proofs.ProbesStill.{probe_still}
 use Rattle.mk_core.specs.Counts.{releases}
 use Rattle.mk_core.specs.Frames.{CountsAreLeft}
 use Rattle.mk_core.specs.LongerLists.{LongerListsGoOn}
+
+-- What a step asks of the heap that never reuses storage it asks after a longer list too: what it finds may differ,
+-- and so the answer, but not whether it decides, nor what for.
+
+-- What two moments have in common where the answer reads it: an own register, whether a page is unmapped, the target.
+pub record SeesTheSame (c : Config) (m n : Moment) (f : Flight) (found find : ℕ) (x : Step) : Type 0 where
+  pub reg : x ≡ step.Reg → find ≡ found
+  pub probe : x ≡ step.Probe → is_unmapped_header (header_of find) ≡ is_unmapped_header (header_of found)
+  pub look : (y : Word) → x ≡ step.Look y
+      → sees_double n.words (target c.pages n.words f) y ≡ sees_double m.words (target c.pages m.words f) y
+  pub quar : (p v : ℕ) → x ≡ step.Quar p v → cell_freed c.pages n.words f p v ≡ cell_freed c.pages m.words f p v
+
+pub begins_nothing : (f : Flight) (o : Op) (n : ℕ) → (begins_where_free f o n).answer ≡ None
+begins_nothing f o n = by (n == 0)
+  where
+    by : (b : Bool) → (if b then record { flight = begun o; answer = None } else still f).answer ≡ None
+    by true = refl
+    by false = refl
+
+numbered : (k : ℕ) (o : Op) (x y : ℕ)
+    → asked (entry_of k o (Some (answer.Num x))) ≡ asked (entry_of k o (Some (answer.Num y)))
+numbered k (op.New d ty full) x y = refl
+numbered k _ x y = refl
+
+worded : (k : ℕ) (o : Op) (x y : ℕ)
+    → asked (entry_of k o (Some (answer.Word x))) ≡ asked (entry_of k o (Some (answer.Word y)))
+worded k (op.New d ty full) x y = refl
+worded k _ x y = refl
+
+read_asked : (k : ℕ) (f : Flight) (o : Op) (x y : ℕ)
+    → asked (entry_of k o (progress_read f o x).answer) ≡ asked (entry_of k o (progress_read f o y).answer)
+read_asked k f (op.GetPtr d q i) x y = refl
+read_asked k f _ x y = cc
+
+pub asked_the_same : (c : Config) (m n : Moment) (k : ℕ) (f : Flight) (found find : ℕ) (x : Step)
+    → SeesTheSame c m n f found find x
+    → asked (entry_of k f.op (progress c n f find x).answer) ≡ asked (entry_of k f.op (progress c m f found x).answer)
+asked_the_same c m n k f found find (step.Enter o) s =
+    ap (λ (a : Option Answer). asked (entry_of k f.op a)) (begins_nothing f o find ∙ sym (begins_nothing f o found))
+asked_the_same c m n k f found find (step.Take (Some o)) s =
+    ap (λ (a : Option Answer). asked (entry_of k f.op a)) (begins_nothing f o find ∙ sym (begins_nothing f o found))
+asked_the_same c m n k f found find step.Reg s =
+    ap (λ i. asked (entry_of k f.op (progress_reg f f.stage i).answer)) (s.reg refl)
+asked_the_same c m n k f found find step.Probe s =
+    ap (λ (b : Bool). asked (entry_of k f.op (if b then refused f answer.Fault else onward f None).answer))
+    (s.probe refl)
+asked_the_same c m n k f found find step.Read s = read_asked k f f.op find found
+asked_the_same c m n k f found find step.Cas s = numbered k f.op _ _
+asked_the_same c m n k f found find step.Getg s = worded k f.op find found
+asked_the_same c m n k f found find (step.Look y) s =
+    ap (λ (b : Bool). asked (entry_of k f.op (if b then decided f answer.Double else still f).answer)) (s.look y refl)
+asked_the_same c m n k f found find (step.Quar p v) s =
+    ap (λ (o : Option Cell). asked (entry_of k f.op (progress_freed f o).answer)) (s.quar p v refl)
+asked_the_same c m n k f found find _ s = refl
 
 -- The call that an event decides after a list, it decides after what others did since, and it is admitted there.
 

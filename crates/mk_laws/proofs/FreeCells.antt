@@ -167,9 +167,8 @@ module _ (c : Config) (w : World) (n : NeverState) (known : KnownWorld c w) (all
             (omega arith)
         | inr far ↦
             let later = (all.order.runs cell.page heads).later (i / 64) (omega arith) (omega arith) in
-            let page = is_free_or_later later in
             let base_is = run_begins_there w.now.words o base x cell.page (i / 64) on (omega arith)
-            (omega arith) page in
+            (omega arith) (is_free_or_later later) in
             omega arith
       ]
 

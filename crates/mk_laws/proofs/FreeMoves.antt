@@ -75,8 +75,7 @@ module _ (c : Config) (w : World) (n : NeverState) (known : KnownWorld c w) (mir
   free_by others k o f p cell (Ptr a t x) at sound is e ne points not_freed quiet =
       let u = ready.set.unreleased a is in
       let lt = exists_placed w.allocations a u in
-      let here = pointer_cell a t x p sound is e in
-      let cells : Some cell ≡ Some (cell_of_allocation c (placed a)) = sym points ∙ here in
+      let cells : Some cell ≡ Some (cell_of_allocation c (placed a)) = sym points ∙ (pointer_cell a t x p sound is e) in
       let first : first_word w.now.words cell ≡ (placed a).base = ap (first_in w.now.words) cells ∙ st.first a u in
       let leaves = freed_leaves w.now.words (Some cell) in
       let its : (placed a).freed ≡ false = elim (cases_Bool (placed a).freed) [
@@ -124,8 +123,7 @@ module _ (c : Config) (w : World) (n : NeverState) (known : KnownWorld c w) (mir
   double_by others k f p cell (Ptr a t x) was bare sound is e ne points is_free =
       let u = ready.set.unreleased a is in
       let lt = exists_placed w.allocations a u in
-      let here = pointer_cell a t x p sound is e in
-      let cells : Some cell ≡ Some (cell_of_allocation c (placed a)) = sym points ∙ here in
+      let cells : Some cell ≡ Some (cell_of_allocation c (placed a)) = sym points ∙ (pointer_cell a t x p sound is e) in
       let first : first_word w.now.words cell ≡ (placed a).base = ap (first_in w.now.words) cells ∙ st.first a u in
       let its : (placed a).freed ≡ true = elim (others.freed cell is_free) [
         | inl at ↦ its_own a at.number u at.unreleased at.freed (sym (st.first at.number at.unreleased)

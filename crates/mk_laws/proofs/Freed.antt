@@ -17,9 +17,8 @@ use Rattle.mk_laws.specs.Terrain.{IsCellOf}
 use Rattle.mk_laws.proofs.Claims.{LeavesCells, changed_among, claim_among}
 use Rattle.mk_laws.proofs.Modes.{Remodes, remoded}
 use Rattle.mk_laws.proofs.LayoutReadings.{one_claim}
-use Rattle.mk_laws.proofs.Released.{all_stand}
+use Rattle.mk_laws.proofs.Released.{all_stand, IsStanding}
 use Rattle.mk_laws.proofs.Serving.{Laid, own_claim}
-use Rattle.mk_laws.proofs.StandingClaims.{IsStanding}
 use Rattle.mk_laws.proofs.Unmapping.{shares_run}
 
 -- the run that the header of an object's first page heads
@@ -219,8 +218,7 @@ gone_terrain c o releasing w unmapped st =
         let ix = own_claim c o (ground_of w) x.claim x.among in
         let ia = own_claim c o (ground_of w) (claim_of c w.now.seats.holding.freed a)
         (claim_among c w.now.seats.holding.freed w.allocations i u) in
-        let sx = st.scene.shown x.claim ix in
-        let some = pages_some x.claim.object sx.sized in
+        let some = pages_some x.claim.object (st.scene.shown x.claim ix).sized in
         let xp = x.page in
         let one = shares_run (layout_scene_of c o releasing w.now.words.marks (ground_of w))
         (claim_of c w.now.seats.holding.freed a)

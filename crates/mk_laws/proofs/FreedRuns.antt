@@ -8,23 +8,25 @@ use Rattle.mk_laws.proofs.Vocabulary.{cases_Bool, cases_eq, cases_lt, cell_freed
 use Rattle.mk_laws.proofs.Vocabulary.{false, false≢true, first_page_shows, flight_of, found, freed_cell}
 use Rattle.mk_laws.proofs.Vocabulary.{get_or-set_other, get_or-set_same, get_or_append_left, get_or_past, header_in}
 use Rattle.mk_laws.proofs.Vocabulary.{heads_run, if◌then◌else◌, image_of, image_scene_of, inl, inr, is_decided_free}
-use Rattle.mk_laws.proofs.Vocabulary.{is_phase, is_small_object, is_undecided_free, length, length-map, ltb-true, not}
-use Rattle.mk_laws.proofs.Vocabulary.{nothing_done, object_placed, or_else, p_of, placed_at, pointed_cell, progress}
-use Rattle.mk_laws.proofs.Vocabulary.{progress_freed, refl, register_at, run_begins, run_headed, run_of_cell}
-use Rattle.mk_laws.proofs.Vocabulary.{sees_double, set_by, slice_index_or, slice_set, small_heads_none, still, subst}
-use Rattle.mk_laws.proofs.Vocabulary.{sym, true, typed_size, world_behind, ℕ, ◌%◌, ◌&&◌, ◌*◌, ◌+◌, ◌/◌, ◌<◌, ◌∙◌, ◌≡◌}
-use Rattle.mk_laws.proofs.Vocabulary.{◌≢◌, ◌⊎◌}
-use Rattle.mk_laws.proofs.Basics.{HoldsTurn, InCall, KnownWorld, Meets, Ready, Stands, View, actor_of, base_at, flight}
-use Rattle.mk_laws.proofs.Basics.{flight_in, not_astray, ready_of, standing, stands_of, turn_of, view_of}
+use Rattle.mk_laws.proofs.Vocabulary.{is_decided_free_at, is_new_at, is_phase, is_small_object, is_undecided_free}
+use Rattle.mk_laws.proofs.Vocabulary.{is_undecided_new, length, length-map, ltb-true, not, nothing_done, object_placed}
+use Rattle.mk_laws.proofs.Vocabulary.{or_else, p_of, placed_at, pointed_cell, progress, progress_freed, refl}
+use Rattle.mk_laws.proofs.Vocabulary.{register_at, run_begins, run_headed, run_of_cell, sees_double, set_by}
+use Rattle.mk_laws.proofs.Vocabulary.{slice_index_or, slice_set, small_heads_none, still, subst, sym, true, typed_size}
+use Rattle.mk_laws.proofs.Vocabulary.{world_behind, ℕ, ◌%◌, ◌&&◌, ◌*◌, ◌+◌, ◌-◌, ◌/◌, ◌<◌, ◌∙◌, ◌≡◌, ◌≢◌, ◌⊎◌}
+use Rattle.mk_laws.proofs.Basics.{HoldsTurn, InCall, KnownWorld, Meets, Orderly, Ready, Stands, View, actor_of, base_at}
+use Rattle.mk_laws.proofs.Basics.{flight, flight_in, not_astray, ready_of, standing, standing_at, stands_of, turn_of}
+use Rattle.mk_laws.proofs.Basics.{view_of}
 use Rattle.mk_never.specs.declared.operations.Op.TheVariants as op
+use Rattle.mk_core.specs.declared.seats.Stage.TheVariants as stage
+use Rattle.mk_laws.proofs.Standings.{UnderTurn, Standing, Resting}
+use Rattle.mk_laws.proofs.Orderly.{holders_flight}
 use Rattle.mk_never.specs.Laws.{AreNotBy}
 use Rattle.mk_core.specs.declared.events.Answer.TheVariants as answer
 use Rattle.mk_core.specs.declared.events.Word.TheVariants as word
 use Rattle.mk_core.specs.declared.events.Step.TheVariants as step
-use Rattle.mk_core.specs.declared.seats.Stage.TheVariants as stage
 use Rattle.mk_core.specs.Order.{is_of_any_holder}
 use Rattle.mk_core.specs.Effects.{holding_behind}
-use Rattle.mk_laws.proofs.Standings.{Standing, Resting, UnderTurn}
 use Rattle.mk_laws.proofs.ProtocolMoves.{Move as ProtocolMove, Enters, GoesOn, Leaves, Takes, Gives, Works, Holds}
 use Rattle.mk_laws.proofs.ProtocolMoves.{Opens, Phases}
 use Rattle.mk_laws.proofs.Stages.{turns_stand}
@@ -32,9 +34,35 @@ use Rattle.mk_laws.proofs.NextSteps.{of_turn}
 use Rattle.mk_laws.proofs.Sorts.{moves}
 use Rattle.mk_laws.specs.Mirrors.{PointsAtRun, OwnsFreedRun}
 use Rattle.mk_laws.proofs.Bases.{IsLonger}
-use Rattle.mk_laws.proofs.ImagesFreeing.{decided_free_stands, decided_free_gives, frees_run}
 use Rattle.mk_laws.proofs.FreeMoves.{pointer_cell}
 use Rattle.mk_laws.proofs.CallSorts.{literal}
+
+-- Only a Free that is decided unmaps a run, and that call holds the turn.
+
+pub decided_free_stands : (s : Stage) (o : Op) → is_decided_free_at s o ≡ true → standing_at s o ≡ UnderTurn
+decided_free_stands stage.Give (op.Free p) h = refl
+decided_free_stands _ _ h = cc
+
+pub decided_free_gives : (s : Stage) (o : Op) → is_decided_free_at s o ≡ true → s ≡ stage.Give
+decided_free_gives stage.Give o h = refl
+decided_free_gives _ _ h = cc
+
+new_is_undecided : (s : Stage) (o : Op) → is_new_at s o ≡ true → is_decided_free_at s o ≡ true → ⊥
+new_is_undecided stage.Give (op.Free p) new free = cc
+new_is_undecided _ _ new free = cc
+
+pub frees_run : (c : Config) (m : Moment) (k : ℕ) (run : RunPages) → Orderly c (view_of m)
+    → HoldsTurn c (view_of m) (Caller k) → m.seats.holding.freed ≡ Some run
+    → is_decided_free (flight_of m (Caller k)) ≡ true
+frees_run c m k run o hold e =
+    let freed : is_decided_free (flight_in (view_of m) (m.words.turn - 1)) ≡ true = o.served.freed (rw e) in
+    rw (holders_flight c (view_of m) (Caller k) o hold) at freed
+
+-- While a New is undecided no run is freed.
+pub new_frees_none : (c : Config) (m : Moment) (k : ℕ) (run : RunPages) → Orderly c (view_of m)
+    → HoldsTurn c (view_of m) (Caller k)
+    → is_undecided_new (flight_of m (Caller k)) ≡ true → m.seats.holding.freed ≢ Some run
+new_frees_none c m k run o hold new e = new_is_undecided _ _ new (frees_run c m k run o hold e)
 
 -- the heap that never reuses storage, after an event
 abbrev pub never_after : Config → World → NeverState → Event → NeverState

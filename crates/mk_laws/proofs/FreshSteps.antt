@@ -15,7 +15,7 @@ use Rattle.mk_laws.proofs.Basics.{Before, Laid, Meets, WorldBehind, all_stand, a
 use Rattle.mk_core.specs.declared.events.Step.TheVariants as step
 use Rattle.mk_core.specs.Effects.{words_freed}
 use Rattle.mk_core.proofs.ObjectHeaders.{part_heads_run}
-use Rattle.mk_laws.proofs.OneCell.{numbers_apart}
+use Rattle.mk_laws.proofs.ForImages.{numbers_apart}
 use Rattle.mk_laws.proofs.QuarantineByKind.{frees_here, shown_at}
 use Rattle.mk_laws.proofs.QuarantineChanges.{FreesHere}
 use Rattle.mk_laws.proofs.SnapshotKinds.{snapshot_behind}
@@ -73,16 +73,14 @@ module _ (c : Config) (w : World) (cell : Cell) (n : ℕ) (b : Before c w) (off 
   part =
       let laid : Laid c (object_now c w.now) false w (ground_of w) =
       subst (λ four. Laid c (object_now c w.now) four w (ground_of w)) off order.laid in
-      let shown = shown_at c w x.own.number order.laid x.own.unreleased in
       let stands = all_stand c (object_now c w.now) false w b.lengths.pages laid x.own.number x.own.unreleased in
       subst (λ p. ShowsPart (object_placed c own) 0 (header_in w.now.words p)) (ap (λ (y : Cell). y.page) x.own.is)
-      (first_page_shows c w.now.words own shown.sized stands.headers)
+      (first_page_shows c w.now.words own (shown_at c w x.own.number order.laid x.own.unreleased).sized stands.headers)
 
   unfreed : own.freed ≡ false
   unfreed = false_from_ne_true own.freed (λ f.
-      let bit = order.quarantined.shown x.own.number x.own.unreleased f in
       let same = ap (λ (y : Cell). has_bit (slice_index w.now.words.freed y.page) y.index) x.own.is in
-      true≢false (sym bit ∙ same ∙ x.unset))
+      true≢false (sym (order.quarantined.shown x.own.number x.own.unreleased f) ∙ same ∙ x.unset))
 
   stale : own.fresh ≡ false
   stale = false_from_ne_true own.fresh (λ f. true≢false (sym (order.snapshot.fresh x.own.number f).0 ∙ unfreed))

@@ -72,11 +72,10 @@ module _ (c : Config) (w : World) (n : NeverState) (known : KnownWorld c w) (mir
   wiped_outside x h a i u m li e =
       let lt = exists_placed w.allocations a u in
       let fits = words_fit c w n known mirrors a lt in
-      let un = sym (unmapped_is c w n known mirrors a lt) ∙ m in
       let cell : pointed_cell c.pages w.now.words.pages (address_of x)
       ≡ Some (cell_of_allocation c (placed_at w.allocations a)) = rw (← e) (st.cell a i u (omega arith)) in
       let mapped : is_unmapped_header (header_in w.now.words (x / 64)) ≡ false =
-      rw (← e) (st.mapped a i u un (omega arith)) in
+      rw (← e) (st.mapped a i u (sym (unmapped_is c w n known mirrors a lt) ∙ m) (omega arith)) in
       elim (or_cases (is_some_and (is_released_cell w.now.words) (pointed_cell c.pages w.now.words.pages
       (address_of x))) (is_in_gone_run w.now.words w.now.seats.holding.freed x) h) [
         | inl r ↦ absurd (false≢true (sym (others.kept a u)

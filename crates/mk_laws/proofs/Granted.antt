@@ -7,7 +7,7 @@ use Rattle.mk_laws.proofs.Vocabulary.{place_claim, placed_at, refl, suc, sym, tr
 use Rattle.mk_laws.proofs.Vocabulary.{◌∙◌, ◌∷◌, ◌≡◌, ◌⊎◌}
 use Rattle.mk_core.proofs.StandingAllocations.{made_begins}
 use Rattle.mk_laws.proofs.Serving.{among_back, among_front}
-use Rattle.mk_laws.proofs.StandingClaims.{place_index}
+use Rattle.mk_laws.proofs.Released.{place_index}
 
 -- An allocation after a `grant` is one from before, or the new one.
 pub pushed_at : (xs : List PlacedAllocation) (a : PlacedAllocation) (i : ℕ)
@@ -70,9 +70,7 @@ granted_terrain c releasing marks t place a used is st =
     was = rw used at st.scene
 
     shown : IsShown t.pages (place_claim (object_placed c a) place)
-    shown =
-        let s = was in
-        s.shown (place_claim (object_placed c a) place)
+    shown = was.shown (place_claim (object_placed c a) place)
         (among_back (claims_of c t.run t.allocations) (place_claim (object_placed c a) place ∷ [])
         (place_claim (object_placed c a) place) (inl refl))
 

@@ -42,7 +42,6 @@ closed_word : (c : Config) (w : Words) (a : PlacedAllocation) → IsWithinLimits
     → is_marked_allocation c w a ≡ true → (n : ℕ) → IsWordOf (storage_of c a) n → word_points_well c.pages w n ≡ true
 closed_word c w a limits st closed leaf marked n inside =
     let has = has_headers c w a st in
-    let sized = typed_size c a limits st.stands.typed in
     let cells = cells_begin c w a limits st.stands has in
     let first : first_word w (cell_of_storage (storage_of c a)) ≡ a.base = cells.0 in
     let words : cell_words w (cell_of_storage (storage_of c a)) ≡ storage_words c a = cells.1 in
@@ -50,7 +49,7 @@ closed_word c w a limits st closed leaf marked n inside =
     let high = inside.1 in
     let at : first_word w (cell_of_storage (storage_of c a)) + (n - a.base) ≡ n = omega arith in
     subst (λ i. word_points_well c.pages w i ≡ true) at
-    (closed.words _ (n - a.base) (cell_is_known c w a sized st.stands.begins has)
+    (closed.words _ (n - a.base) (cell_is_known c w a (typed_size c a limits st.stands.typed) st.stands.begins has)
     (sym (marked_where_its_cell_is c w a limits st.stands has)
     ∙ marked) (is_scanned_cell c w a limits st leaf) (omega arith))
 
@@ -95,10 +94,9 @@ marks_stand_behind_lists c es limits on say =
 pub close_finds_marks_closed : CloseFindsMarksClosed
 close_finds_marks_closed c es seat limits on enabled say g =
     let h = enabled_meets c (left c es).now (record { seat = seat; step = step.Close }) enabled in
-    let two = eqb-true _ 2 h.phase in
     closed_allocations c (left c es) limits say.mapped
     (closed c (left c es).now seat (known_left c es limits on) (histories_keep_lengths c es) h
-    (g.guarded (inr two)).black)
+    (g.guarded (inr (eqb-true _ 2 h.phase))).black)
 
 pub stopped_marks_are_closed : StoppedMarksAreClosed
 stopped_marks_are_closed c w limits say g three = closed_allocations c w limits say.mapped (g.closed three)

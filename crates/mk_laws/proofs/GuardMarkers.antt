@@ -65,12 +65,10 @@ own_marker : (c : Config) (m : Moment) (k : ℕ) (x : Step) → AreOfPages c.pag
 own_marker c m k step.Attend len h keeps before at = idle_stands c _ _
 own_marker c m k step.Quit len h keeps before at = idle_stands c _ Out
 own_marker c m k (step.Mlook x) len h keeps before at =
-    let own = (and_parts _ (is_markers_word x) h.marker).0 in
     marker_kept c m _ _ keeps (looks c m x (marker_of m k) (found c m (record { seat = Marker k; step = step.Mlook x }))
-    (λ p e. rw e) (before own))
+    (λ p e. rw e) (before ((and_parts _ (is_markers_word x) h.marker).0)))
 own_marker c m k (step.Claim p i) len h keeps before at =
-    let a = and_parts _ _ h.marker in
-    marker_kept c m _ _ keeps (claim_stands c m (marker_of m k) p i a.1 (before at))
+    marker_kept c m _ _ keeps (claim_stands c m (marker_of m k) p i (and_parts _ _ h.marker).1 (before at))
 own_marker c m k step.Mload len h keeps before at =
     let a = and_parts _ _ h.marker in
     marker_kept c m _ _ keeps (load_stands c m (marker_of m k) _ a.0 (nothing_is (marker_of m k).hand a.1)

@@ -137,8 +137,7 @@ undirties c m seat q early h = by (is_phase m.words 2) (stop_wanted m early h.ph
     by false e own = absurd (true≢false (sym e))
     by true e own =
         let a = and_parts _ _ own in
-        let b = and_parts _ _ a.0 in
-        record { none = b.0; head = eqb-true _ 0 a.1 }
+        record { none = (and_parts _ _ a.0).0; head = eqb-true _ 0 a.1 }
 
 pub undirty_kind : (c : Config) (w : World) (seat : Seat) (q : ℕ) → AreOfPages c.pages w.now.words
     → IsMarking w.now.words → GuardPremises c w → Meets c w.now seat (step.Undirty q)
@@ -148,10 +147,9 @@ undirty_kind c w seat q len early say h black p k i lt is scanned li =
       | inl z ↦ bare_guarded c _ _ z
       | inr some ↦ elim (cases_eq ((64 * p + k * words_under (header_in w.now.words p) + i) / 64) q) [
         | inl e ↦
-            let u = undirties c w.now seat q early h in
             let head : head_page w.now.words q ≡ p =
             rw e at (covered_word w.now.words p k i (say.later early) lt scanned li some) in
-            absurd (true≢false (sym is ∙ no_bit _ k (rw (← head) u.head)))
+            absurd (true≢false (sym is ∙ no_bit _ k (rw (← head) (undirties c w.now seat q early h).head)))
         | inr ne ↦ by (black p k i lt is scanned li) ne
       ]
     ]
@@ -230,11 +228,9 @@ markers_behind : (c : Config) (w : World) (seat : Seat) (x : Step) → IsWithinL
 markers_behind c w seat (step.Head p n) limits known len early say h g j at =
     markers_stand c w.now seat (step.Head p n) len h (keeps_head c w seat p n limits known len early say h) g.markers j
     at
-markers_behind c w seat (step.Undirty q) limits known len early say h g j at =
-    let u = undirties c w.now seat q early h in
-    absurd (true≢false (sym
+markers_behind c w seat (step.Undirty q) limits known len early say h g j at = absurd (true≢false (sym
     (subst (λ (y : MarkerState). is_attending y.presence ≡ true) (same_markers c w.now seat q j h) at)
-    ∙ none_at w.now.seats.markers j u.none))
+    ∙ none_at w.now.seats.markers j (undirties c w.now seat q early h).none))
 markers_behind c w seat x limits known len early say h g j at = rest x h refl refl at
   where
     rest : (x : Step) → Meets c w.now seat x → is_head x ≡ false → is_undirty x ≡ false
@@ -267,8 +263,7 @@ begun c m seat known len h =
     white : (p : ℕ) → slice_index m.words.blacks p ≡ 0
     white p = elim (cases_lt p c.pages) [
       | inl lt ↦
-          let clean = all_below-at c.pages p _ own lt in
-          let a = and_parts _ _ clean in
+          let a = and_parts _ _ (all_below-at c.pages p _ own lt) in
           eqb-true _ 0 (and_parts _ _ a.0).1
       | inr past ↦ get_or_past m.words.blacks p 0 (omega (arith, len.blacks))
     ]

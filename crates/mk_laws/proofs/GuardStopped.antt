@@ -50,8 +50,7 @@ stays_closed c w v same h =
 no_call : (c : Config) (m : Moment) (k : ℕ) → Known c m → phase_of m.words ≡ 3 → k < c.callers
     → is_call_stage (flight_of m (Caller k)).stage ≡ true → ⊥
 no_call c m k known three lt at =
-    let stands = calls_stand _ _ at (not_astray c m known.orderly k lt) in
-    let s = shows_at c (view_of m) k InCall known.orderly lt stands in
+    let s = shows_at c (view_of m) k InCall known.orderly lt (calls_stand _ _ at (not_astray c m known.orderly k lt)) in
     let one = s.0 in
     let two = known.orderly.stopped three k lt s.1 in
     absurd (omega arith)

@@ -70,12 +70,10 @@ head_keeps c m seat p n len h finds =
     }
   where
     here : (q : ℕ) → q ≡ p → header_at (Behind c m seat (step.Head p n)).words q ≡ n
-    here q e =
-        let lt = ltb-true p c.pages h.range in
-        ap (λ j. (slice_index_or (slice_set m.words.pages p (record { header = n; used = used_at m.words p })) j
+    here q e = ap (λ j. (slice_index_or (slice_set m.words.pages p (record { header = n; used = used_at m.words p })) j
         free_page).header) e ∙ ap (λ (y : Page). y.header)
         (get_or-set_same m.words.pages p (record { header = n; used = used_at m.words p }) free_page
-        (omega (arith, lt, len.pages)))
+        (omega (arith, ltb-true p c.pages h.range, len.pages)))
 
     other : (q : ℕ) → q ≢ p → header_at (Behind c m seat (step.Head p n)).words q ≡ header_at m.words q
     other q ne = ap (λ (y : Page). y.header)

@@ -31,9 +31,9 @@ use Rattle.mk_core.proofs.WordBits.{bit_is_none, bit_is_one}
 use Rattle.mk_laws.proofs.Apart.{Rests, index_is, lie_apart, lie_in_pairs, on_its_pages, quiet_scene, same_block}
 use Rattle.mk_laws.proofs.Apart.{shown_of, small_is, standing_of}
 use Rattle.mk_laws.proofs.Claims.{claim_is}
-use Rattle.mk_laws.proofs.OnClaims.{IsOn, on_claim}
+use Rattle.mk_laws.proofs.WholeRuns.{IsOn, on_claim}
 use Rattle.mk_laws.proofs.LayoutReadings.{cellless_unused, free_unused}
-use Rattle.mk_laws.proofs.StandingClaims.{large_index}
+use Rattle.mk_laws.proofs.Released.{large_index}
 use Rattle.mk_laws.proofs.Unmapping.{cells_at_claim, shares_run}
 
 pub laid_out : (c : Config) (w : Words) (xs : List PlacedAllocation) → Rests c w xs
@@ -113,11 +113,10 @@ block_shown : (c : Config) (w : Words) (xs : List PlacedAllocation) (i : ℕ) �
 block_shown c w xs i r u s =
     let a : PlacedAllocation = placed_at xs i in
     let o : Object = object_placed c a in
-    let shown = shown_of c w xs i r u in
     let one = small_pages o s in
     let zero : a.base / 64 + 0 ≡ a.base / 64 = omega arith in
     let has : HasHeader (mode_of (a.freed && false) false) o 0 (header_at w (a.base / 64)) =
-    rw s at (rw zero at (shown.headers 0 (omega arith))) in
+    rw s at (rw zero at ((shown_of c w xs i r u).headers 0 (omega arith))) in
     made a.freed o (header_at w (a.base / 64)) has ∙ small_header o 0 s
   where
     made : (b : Bool) (o : Object) (h : ℕ) → HasHeader (mode_of (b && false) false) o 0 h → h ≡ header_made o 0

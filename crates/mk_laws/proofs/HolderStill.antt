@@ -236,10 +236,9 @@ module _ (c : Config) (w v : World) (kept : TurnIsLeft w v) (own : v.now.seats.h
   black_on p n two written h =
       let none = (and_parts (none_attends w.now.seats.markers)
       (not (all_below 32 (λ k. not (blackens c.pages a p n k)))) h).0 in
-      let q = stopped two none in
       ap (λ (t : Bool). t && not (all_below 32 (λ k. not (blackens c.pages b p n k)))) (none_on two none ∙ sym none)
       ∙ ap (λ (ms : List ℕ). none_attends w.now.seats.markers && not (all_below 32
-      (λ k. not (blackens c.pages (record b { marks = ms }) p n k)))) q.0
+      (λ k. not (blackens c.pages (record b { marks = ms }) p n k)))) (stopped two none).0
       ∙ ap (λ (x : Written). none_attends w.now.seats.markers && not (all_below 32
       (λ k. not (blackens c.pages (record b { marks = a.marks; heap = x.heap }) p n k)))) written
       ∙ ap (λ (ps : List Page). may_black c (record w.now { words = record a { pages = ps } }) p n) pages ∙ h
@@ -254,11 +253,10 @@ module _ (c : Config) (w v : World) (kept : TurnIsLeft w v) (own : v.now.seats.h
         let parts = and_parts (none_attends w.now.seats.markers && (slice_index a.blacks p == 0))
         (slice_index a.blacks (head_page a p) == 0) all in
         let none = (and_parts (none_attends w.now.seats.markers) (slice_index a.blacks p == 0) parts.0).0 in
-        let q = stopped two none in
         or_right (not (is_phase b 2)) _
         (ap (λ (t : Bool). t && (slice_index b.blacks p == 0) && (slice_index b.blacks (head_page b p) == 0))
         (none_on two none ∙ sym none) ∙ ap (λ (bs : List ℕ). none_attends w.now.seats.markers && (slice_index bs p == 0)
-        && (slice_index bs (head_page b p) == 0)) q.1
+        && (slice_index bs (head_page b p) == 0)) (stopped two none).1
         ∙ ap (λ (ps : List Page). none_attends w.now.seats.markers && (slice_index a.blacks p == 0)
         && (slice_index a.blacks (head_page (record a { pages = ps }) p) == 0)) pages ∙ all)
   ]

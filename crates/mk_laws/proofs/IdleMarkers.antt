@@ -31,9 +31,8 @@ seen_attends : (c : Config) (x : Marker) → IdlesOutside x → is_some (cell_se
 seen_attends c x h s = elim (cases_Bool (is_attending x.presence)) [
   | inl e ↦ e
   | inr e ↦
-      let i = h e in
       let f : false ≡ true = sym (none_seen c x.seen)
-      ∙ ap (λ (v : Option ℕ). is_some (cell_seen c x.seen v)) (sym i.hand) ∙ s in
+      ∙ ap (λ (v : Option ℕ). is_some (cell_seen c x.seen v)) (sym (h e).hand) ∙ s in
       cc
 ]
 
@@ -70,6 +69,5 @@ work_stays c n _ x k = cc
 pub work_idles : (c : Config) (n : ℕ) (s : Step) (x : Marker) → marker_may c x s ≡ true → is_work s ≡ true
     → IdlesOutside x → IdlesOutside (marker_behind c n s x)
 work_idles c n s x m k h e =
-    let a = work_attends c x s h m k in
-    let f : true ≡ false = sym a ∙ ap is_attending (sym (work_stays c n s x k)) ∙ e in
+    let f : true ≡ false = sym (work_attends c x s h m k) ∙ ap is_attending (sym (work_stays c n s x k)) ∙ e in
     cc

@@ -5,7 +5,7 @@ use Rattle.mk_laws.proofs.Vocabulary.{allocation_at, ap, arith, cases_Bool, cell
 use Rattle.mk_laws.proofs.Vocabulary.{flight_among, header_at, header_in, image_scene_of, inl, inr, is_unmapped}
 use Rattle.mk_laws.proofs.Vocabulary.{is_unmapped_header, kinds_of, length, placed_at, pointed_cell, storage_holds}
 use Rattle.mk_laws.proofs.Vocabulary.{storage_words, subst, sym, true, words_of, ℕ, ◌+◌, ◌/◌, ◌<◌, ◌∙◌, ◌≡◌, ◌≢◌, ◌≤◌}
-use Rattle.mk_laws.proofs.Operands.{HaveOperands, operands_of}
+use Rattle.mk_laws.proofs.Known.{HaveOperands, operands_of}
 use Rattle.mk_laws.proofs.ImagesStands.{Stands, is_gone}
 use Rattle.mk_laws.proofs.KnownWorlds.{KnownWorld}
 use Rattle.mk_laws.proofs.ImagesKept.{AreApart, AreSmall, exists_placed}

@@ -76,7 +76,6 @@ module _ (listed : List ℕ) (safe : ℕ → Bool) (s : ImageScene) (n : NeverSt
   probe_leads header show o q p r l x is ld a car e ad =
       let was = ap (λ (f : Flight). is_put f.stage) is in
       let table = at_probe o a in
-      let next = flight (stage_behind stage.Probe (steps_of o)) o q p r l in
       let v = register_at n k (q_of o) in
       let unmapped = ap (λ y. is_unmapped_header (header_of y)) (sym e) in
       either_leads safe s n k o s _ _ _
@@ -84,7 +83,7 @@ module _ (listed : List ℕ) (safe : ℕ → Bool) (s : ImageScene) (n : NeverSt
       (unmapped_target listed safe s n h header show v q (i_of o) (λ kind. Unit {0}) (car.q refl) (car.some_q refl)
       (own_sound (q_of o)) (own_safe (q_of o))
       (access_meets n k o table.access (ad u).access) (unmapped ∙ u)) (λ bs. refl))
-      (λ u. flies_on safe s n k o next was table.put (record {
+      (λ u. flies_on safe s n k o (flight (stage_behind stage.Probe (steps_of o)) o q p r l) was table.put (record {
         q = λ y. car.q refl;
         some_q = λ y. car.some_q refl;
         p = λ y. car.p (sym table.p ∙ y);

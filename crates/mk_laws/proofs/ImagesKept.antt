@@ -501,28 +501,22 @@ module _ (globals : List ℕ) (s : ImageScene) (n : NeverState) (h : AreImages s
             (λ a u. u) (meets_new n ty w i m)) h.probed;
       }
 
--- each move
-pub images_kept : (globals : List ℕ) (safe : ℕ → Bool) (s t : ImageScene) (n m : NeverState) → AreImages s n
-    → AreSmall s.flights → IsTyped globals n → length s.allocations ≡ length n.allocations → AreApart s.allocations n
-    → Move safe s n t m → AreImages t m
-images_kept globals safe s t n m h small typed same apart Rests = h
-images_kept globals safe s t n m h small typed same apart (Flies k f e c p) = flies s n h small k f e c p
-images_kept globals safe s t n m h small typed same apart (Owes k f v a b c d e g i) =
-    owes_one s n h small k f v a b c d e g
-images_kept globals safe s t n m h small typed same apart (Pays k f a b c d e) = pays s n h small k f a b c d e
-images_kept globals safe s t n m h small typed same apart (Stores k d x f v a b c e g) =
-    stores s n h small k d x f v a b c e
-images_kept globals safe s t n m h small typed same apart (Shares k g x f v a b c d e) =
-    shares s n h small k g x f v a b c d
-images_kept globals safe s t n m h small typed same apart (Writes k a i x f v at u mm li inside is sv) =
-    writes s n h small apart k a i x f v at u li inside is
-images_kept globals safe s t n m h small typed same apart (Wipes x out) = wipes s n h small x out
-images_kept globals safe s t n m h small typed same apart (Grants k d base ty f at long ld z) =
-    grants globals s n h small typed same k d base ty f at long ld z
-images_kept globals safe s t n m h small typed same apart (Frees k a f xs at places released there others is quiet) =
-    rebased (record s { flights = slice_set s.flights k f }) (with_freed n a) (frees s n h small k a f at quiet) xs
-    places.bases (λ b u. sym (released b) ∙ u)
-images_kept globals safe s t n m h small typed same apart (Renews xs places released freed) =
-    rebased s n h xs places.bases (λ b u. sym (released b) ∙ u)
-images_kept globals safe s t n m h small typed same apart (Releases xs places released freed kept cut) =
-    rebased s n h xs places.bases released
+  -- each move
+  pub images_kept : (safe : ℕ → Bool) (t : ImageScene) (m : NeverState) → AreApart s.allocations n → Move safe s n t m
+      → AreImages t m
+  images_kept safe t m apart Rests = h
+  images_kept safe t m apart (Flies k f e c p) = flies s n h small k f e c p
+  images_kept safe t m apart (Owes k f v a b c d e g i) = owes_one s n h small k f v a b c d e g
+  images_kept safe t m apart (Pays k f a b c d e) = pays s n h small k f a b c d e
+  images_kept safe t m apart (Stores k d x f v a b c e g) = stores s n h small k d x f v a b c e
+  images_kept safe t m apart (Shares k g x f v a b c d e) = shares s n h small k g x f v a b c d
+  images_kept safe t m apart (Writes k a i x f v at u mm li inside is sv) =
+      writes s n h small apart k a i x f v at u li inside is
+  images_kept safe t m apart (Wipes x out) = wipes s n h small x out
+  images_kept safe t m apart (Grants k d base ty f at long ld z) = grants k d base ty f at long ld z
+  images_kept safe t m apart (Frees k a f xs at places released there others is quiet) =
+      rebased (record s { flights = slice_set s.flights k f }) (with_freed n a) (frees s n h small k a f at quiet) xs
+      places.bases (λ b u. sym (released b) ∙ u)
+  images_kept safe t m apart (Renews xs places released freed) =
+      rebased s n h xs places.bases (λ b u. sym (released b) ∙ u)
+  images_kept safe t m apart (Releases xs places released freed kept cut) = rebased s n h xs places.bases released

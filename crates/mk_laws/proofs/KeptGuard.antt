@@ -1,8 +1,8 @@
 -- What a change must leave for words to stay guarded, and for scans to stand.
-use Rattle.mk_laws.proofs.Vocabulary.{BlackIsGuarded, Bool, Cell, Config, DirtyIsOwed, HeaderGoesOn, IsGuarded}
-use Rattle.mk_laws.proofs.Vocabulary.{MarkerStands, MarkerState as Marker, Moment, OnlyGrow, Option, OwesDirty}
-use Rattle.mk_laws.proofs.Vocabulary.{PageIsDirty, PointsWell, Scan, ScanStands, Some, Words, arith, cases_eq}
-use Rattle.mk_laws.proofs.Vocabulary.{cells_under, false, first_word, has_bit, has_no_pointers, header_at, header_in}
+use Rattle.mk_laws.proofs.Vocabulary.{BlackIsGuarded, Cell, Config, DirtyIsOwed, HeaderGoesOn, IsGuarded, MarkerStands}
+use Rattle.mk_laws.proofs.Vocabulary.{MarkerState as Marker, Moment, OnlyGrow, Option, OwesDirty, PageIsDirty}
+use Rattle.mk_laws.proofs.Vocabulary.{PointsWell, Scan, ScanStands, Some, Words, arith, cases_eq, cells_under, false}
+use Rattle.mk_laws.proofs.Vocabulary.{false_from_ne_true, first_word, has_bit, has_no_pointers, header_at, header_in}
 use Rattle.mk_laws.proofs.Vocabulary.{header_of, inl, inr, refl, slice_index, sym, true, true≢false, words_under, ℕ}
 use Rattle.mk_laws.proofs.Vocabulary.{◌*◌, ◌+◌, ◌/◌, ◌<◌, ◌∙◌, ◌≡◌, ◌≢◌, ◌⊎◌}
 use Rattle.mk_laws.specs.Guard.{cell_scanned}
@@ -55,14 +55,10 @@ pub passes : (c : Config) (m n : Moment) (hand : Option ℕ) → Keeps c m n →
 passes c m n hand k x (inl g) = inl (guards c m n k x g)
 passes c m n hand k x (inr e) = elim (k.heap x) [ inl same ↦ inr (e ∙ rw (← same)) | inr g ↦ inl g ]
 
-not_true : (b : Bool) → (b ≡ true → ⊥) → b ≡ false
-not_true false h = refl
-not_true true h = absurd (h refl)
-
 -- what is scanned after was scanned before
 pub scanned_before : (pages a b : ℕ) → HeaderGoesOn pages a b → cells_under (header_of a) ≢ 0
     → has_no_pointers (header_of b) ≡ false → has_no_pointers (header_of a) ≡ false
-scanned_before pages a b g some f = not_true _ (λ t. true≢false (sym (g.unscanned some t) ∙ f))
+scanned_before pages a b g some f = false_from_ne_true _ (λ t. true≢false (sym (g.unscanned some t) ∙ f))
 
 pub first_goes : (pages : ℕ) (w v : Words) (cell : Cell)
     → HeaderGoesOn pages (header_at w cell.page) (header_at v cell.page)

@@ -1,14 +1,130 @@
 -- All that is known of a moment after an enabled list, of whatever calls.
-use Rattle.mk_laws.proofs.Vocabulary.{AreEnabled, AreEnabledFrom, Caller, Config, Event, Holds, IsEnabled}
-use Rattle.mk_laws.proofs.Vocabulary.{IsWithinLimits, List, Moment, Seat, World, [], at_rest, enabled_meets}
-use Rattle.mk_laws.proofs.Vocabulary.{first_moment, first_world, flight_of, left, left_from, refl, world_behind, ◌∙◌}
-use Rattle.mk_laws.proofs.Vocabulary.{◌∷◌, ◌≤◌}
+use Rattle.mk_laws.proofs.Vocabulary.{AreEnabled, AreEnabledFrom, Bool, Caller, Cell, Config, Event, Flight, Holds}
+use Rattle.mk_laws.proofs.Vocabulary.{IsEnabled, IsWithinLimits, List, Moment, None, Op, Option, Progress, Seat, Some}
+use Rattle.mk_laws.proofs.Vocabulary.{Stage, Step, World, [], and_parts, ap, at_rest, cases_eq, cases_lt, cell_freed}
+use Rattle.mk_laws.proofs.Vocabulary.{d_of, enabled_meets, false, first_moment, first_world, flight_of, found, g_of}
+use Rattle.mk_laws.proofs.Vocabulary.{get_or-set_other, get_or-set_same, has_operands, if◌then◌else◌, inl, inr}
+use Rattle.mk_laws.proofs.Vocabulary.{is_in_range, left, left_from, length, ltb-true, nat_lt, p_of, progress}
+use Rattle.mk_laws.proofs.Vocabulary.{progress_freed, progress_p, progress_q, progress_read, progress_reg, q_of, r_of}
+use Rattle.mk_laws.proofs.Vocabulary.{refl, register_met, set_past, slice_index_or, slice_set, true, world_behind, ℕ}
+use Rattle.mk_laws.proofs.Vocabulary.{◌&&◌, ◌<◌, ◌==◌, ◌∙◌, ◌∷◌, ◌≡◌, ◌≤◌}
+use Rattle.mk_never.specs.declared.operations.Op.TheVariants as op
+use Rattle.mk_core.specs.declared.events.Step.TheVariants as step
+use Rattle.mk_core.specs.declared.seats.Stage.TheVariants as stage
+use Rattle.mk_core.specs.Calls.{has_type}
+use Rattle.mk_laws.proofs.Actors.{Meets}
+use Rattle.mk_laws.proofs.SameWords.{Behind}
 use Rattle.mk_core.specs.Effects.{moment_behind}
 use Rattle.mk_laws.proofs.Standings.{in_turn_told, under_turn_is, standing}
 use Rattle.mk_laws.proofs.Views.{view_of, HoldsTurn}
 use Rattle.mk_laws.proofs.Orderly.{Orderly}
 use Rattle.mk_laws.proofs.OrderlyLists.{not_astray, orderly_behind, orderly_at_first, at_first}
-use Rattle.mk_laws.proofs.Operands.{HaveOperands, operands_behind}
+
+-- The operands of each call in flight are in range.
+
+-- what a step makes of the operation in flight
+pub data OpStep (c : Config) (old : Op) : Op → Type 0 where
+  Same : OpStep c old old
+  Checked : {new : Op} → has_operands c new ≡ true → OpStep c old new
+
+either_op : (c : Config) (old : Op) (b : Bool) (p q : Progress) → OpStep c old p.flight.op → OpStep c old q.flight.op
+    → OpStep c old (if b then p else q).flight.op
+either_op c old true p q hp hq = hp
+either_op c old false p q hp hq = hq
+
+q_op : (c : Config) (f : Flight) (o : Op) (x : ℕ) → OpStep c f.op (progress_q f o x).flight.op
+q_op c f (op.Move d q) x = Same
+q_op c f (op.Same p q) x = Same
+q_op c f _ x = either_op c f.op (x == 0) _ _ Same Same
+
+p_op : (c : Config) (f : Flight) (o : Op) (x : ℕ) → OpStep c f.op (progress_p f o x).flight.op
+p_op c f (op.IsNull p) x = Same
+p_op c f (op.Free p) x = either_op c f.op (x == 0) _ _ Same Same
+p_op c f _ x = Same
+
+reg_op : (c : Config) (f : Flight) (s : Stage) (x : ℕ) → OpStep c f.op (progress_reg f s x).flight.op
+reg_op c f stage.LoadQ x = q_op c f f.op x
+reg_op c f stage.LoadP x = p_op c f f.op x
+reg_op c f _ x = Same
+
+read_op : (c : Config) (f : Flight) (o : Op) (x : ℕ) → OpStep c f.op (progress_read f o x).flight.op
+read_op c f (op.GetPtr d q i) x = Same
+read_op c f _ x = Same
+
+freed_op : (c : Config) (f : Flight) (x : Option Cell) → OpStep c f.op (progress_freed f x).flight.op
+freed_op c f (Some cell) = Same
+freed_op c f None = Same
+
+-- all kinds
+op_step : (c : Config) (m : Moment) (seat : Seat) (f : Flight) (n : ℕ) (x : Step) → is_in_range c seat f x ≡ true
+    → OpStep c f.op (progress c m f n x).flight.op
+op_step c m seat f n (step.Enter o) h = either_op c f.op (n == 0) _ _ (Checked h) Same
+op_step c m seat f n (step.Take (Some o)) h = either_op c f.op (n == 0) _ _ (Checked h) Same
+op_step c m seat f n (step.Take None) h = Same
+op_step c m seat f n step.Leave h = Checked refl
+op_step c m seat f n step.Give h = Checked refl
+op_step c m seat f n step.Reg h = reg_op c f f.stage n
+op_step c m seat f n step.Probe h = either_op c f.op _ _ _ Same Same
+op_step c m seat f n step.Read h = read_op c f f.op n
+op_step c m seat f n (step.Look x) h = either_op c f.op _ _ _ Same Same
+op_step c m seat f n (step.Quar p v) h = freed_op c f (cell_freed c.pages m.words f p v)
+op_step c m seat f n _ h = Same
+
+abbrev pub HaveOperands : Config → List Flight → Type 0
+HaveOperands c fs = (k : ℕ) → has_operands c (slice_index_or fs k at_rest).op ≡ true
+
+checked : (c : Config) (old new : Op) → has_operands c old ≡ true → OpStep c old new → has_operands c new ≡ true
+checked c old new h Same = h
+checked c old new h (Checked x) = x
+
+set_operands : (c : Config) (fs : List Flight) (k : ℕ) (f : Flight) → HaveOperands c fs
+    → OpStep c (slice_index_or fs k at_rest).op f.op → HaveOperands c (slice_set fs k f)
+set_operands c fs k f h s b = elim (cases_eq b k) [
+  | inl e ↦ elim (cases_lt k (length fs)) [
+    | inl lt ↦ rw (ap (λ j. slice_index_or (slice_set fs k f) j at_rest) e ∙ get_or-set_same fs k f at_rest lt)
+        (checked c (slice_index_or fs k at_rest).op f.op (h k) s)
+    | inr le ↦ rw (set_past fs k f le) (h b)
+  ]
+  | inr ne ↦ rw (get_or-set_other fs k b f at_rest ne) (h b)
+]
+
+pub operands_behind : (c : Config) (m : Moment) (seat : Seat) (x : Step) → HaveOperands c m.seats.flights
+    → Meets c m seat x → HaveOperands c (Behind c m seat x).seats.flights
+operands_behind c m (Caller k) x h on = set_operands c m.seats.flights k _ h
+    (op_step c m (Caller k) (flight_of m (Caller k)) (found c m (record { seat = Caller k; step = x })) x on.range)
+operands_behind c m _ x h on = h
+
+-- the registers and the global of a call
+pub record Operands (o : Op) : Type 0 where
+  pub q : q_of o < 8
+  pub p : p_of o < 8
+  pub r : r_of o < 8
+  pub d : d_of o < 8
+  pub g : g_of o < 64
+
+pub operands_of : (c : Config) (o : Op) → has_operands c o ≡ true → Operands o
+operands_of c o h =
+    let a = and_parts (nat_lt (q_of o) 8 && nat_lt (p_of o) 8 && nat_lt (r_of o) 8 && nat_lt (d_of o) 8
+    && nat_lt (g_of o) 64) (has_type c o) h in
+    let g = and_parts (nat_lt (q_of o) 8 && nat_lt (p_of o) 8 && nat_lt (r_of o) 8 && nat_lt (d_of o) 8)
+    (nat_lt (g_of o) 64) a.0 in
+    let d = and_parts (nat_lt (q_of o) 8 && nat_lt (p_of o) 8 && nat_lt (r_of o) 8) (nat_lt (d_of o) 8) g.0 in
+    let r = and_parts (nat_lt (q_of o) 8 && nat_lt (p_of o) 8) (nat_lt (r_of o) 8) d.0 in
+    let p = and_parts (nat_lt (q_of o) 8) (nat_lt (p_of o) 8) r.0 in
+    record {
+      q = ltb-true (q_of o) 8 p.0;
+      p = ltb-true (p_of o) 8 p.1;
+      r = ltb-true (r_of o) 8 r.1;
+      d = ltb-true (d_of o) 8 d.1;
+      g = ltb-true (g_of o) 64 g.1;
+    }
+
+-- the register that a `reg` step meets is one of the eight
+pub register_small : (f : Flight) (s : Stage) → Operands f.op → register_met f s < 8
+register_small f stage.LoadQ h = h.q
+register_small f stage.LoadP h = h.p
+register_small f stage.LoadR h = h.r
+register_small f _ h = h.d
 
 pub record Known (c : Config) (m : Moment) : Type 0 where
   pub small : c.callers ≤ 16

@@ -47,8 +47,7 @@ head_by : (c : Config) (w : World) (seat : Seat) (p n : ℕ) → Before c w → 
     → HeadBehind c w p n (is_phase w.now.words 4) (place_now c w.now (flight_of w.now seat))
 head_by c w seat p n b there lt laid (ItCarves off x) =
     let placed = placed_now c w.now (flight_of w.now seat) x.place x.there in
-    let turn = new_has_turn c w.now seat there placed.new in
-    let own = holding_object c w.now seat b.known turn in
+    let own = holding_object c w.now seat b.known (new_has_turn c w.now seat there placed.new) in
     let was = rw off at laid in
     rw off (rw x.there (rw own (head_carves c (object_made c (flight_of w.now seat).op) w x.place p n (rw own at was)
     (made_sized c w.now seat b.limits b.known placed.new) placed.placed x.next)))
@@ -81,8 +80,7 @@ used_by : (c : Config) (w : World) (seat : Seat) (p n : ℕ) → Before c w → 
     → UsedBehind c w p n (is_phase w.now.words 4) (place_now c w.now (flight_of w.now seat))
 used_by c w seat p n b there lt laid (ItTakes off once x) =
     let placed = placed_now c w.now (flight_of w.now seat) x.place x.there in
-    let turn = new_has_turn c w.now seat there placed.new in
-    let own = holding_object c w.now seat b.known turn in
+    let own = holding_object c w.now seat b.known (new_has_turn c w.now seat there placed.new) in
     let sized = made_sized c w.now seat b.limits b.known placed.new in
     let was = rw off at laid in
     rw off (rw x.there (rw own (used_takes c (object_made c (flight_of w.now seat).op) false w x.place p n

@@ -141,10 +141,9 @@ stored_word : (c : Config) (w : World) (seat : Seat) (p n : ℕ) → Before c w 
     → LayoutStands c w → HeadStep c w.now (flight_of w.now seat) p n → IsHeaderWord n
 stored_word c w seat p n b there laid (ItCarves off x) =
     let placed = placed_now c w.now (flight_of w.now seat) x.place x.there in
-    let sized = made_sized c w.now seat b.limits b.known placed.new in
     let o : Object = object_made c (flight_of w.now seat).op in
     rw x.next.is (part_is o (p - x.place.page) (header_of (header_made o (p - x.place.page)))
-    (made_shows o (p - x.place.page) sized x.next.near))
+    (made_shows o (p - x.place.page) (made_sized c w.now seat b.limits b.known placed.new) x.next.near))
 stored_word c w seat p n b there laid (ItUnmaps off x) =
     let r : IsClaimedRun (claims_of c w.now.seats.holding.freed w.allocations) x.run =
     subst (λ (y : Option RunPages). RunStands (claims_of c w.now.seats.holding.freed w.allocations) y) x.there laid.gone

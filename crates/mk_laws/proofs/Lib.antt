@@ -6,16 +6,13 @@ pub mod Ground
 pub mod Growth
 pub mod HeaderSteps
 pub mod ProtocolHeldGates
-pub mod HoldersSteps
 pub mod IdleMarkers
 pub mod InHeap
 pub mod ProtocolKept
 pub mod Known
-pub mod ProtocolMarkers
 pub mod ProtocolMoves
 pub mod NewPlace
 pub mod NextSteps
-pub mod Operands
 pub mod Orderly
 pub mod OrderlyLists
 pub mod OthersCounts
@@ -70,7 +67,6 @@ pub mod ImagesHistories
 pub mod FirstWorlds
 pub mod Exchanges
 pub mod Bases
-pub mod ImagesFreeing
 pub mod FreedRuns
 pub mod Saying
 pub mod LayoutReadings
@@ -79,7 +75,6 @@ pub mod Placing
 pub mod Unmapping
 pub mod Claims
 pub mod Fits
-pub mod StandingClaims
 pub mod Serving
 pub mod Released
 pub mod Dropped
@@ -93,7 +88,6 @@ pub mod Behind
 pub mod QuarantineSteps
 pub mod QuarantineChanges
 pub mod QuarantineByKind
-pub mod OneCell
 pub mod SnapshotKinds
 pub mod ResidentPages
 pub mod Rooms
@@ -101,7 +95,6 @@ pub mod WholeRuns
 pub mod LayoutHistories
 pub mod CycleSnapshots
 pub mod Apart
-pub mod OnClaims
 pub mod HeadersStand
 pub mod Settled
 pub mod MappedWords
@@ -124,7 +117,6 @@ pub mod LastEvents
 pub mod OtherCalls
 pub mod Tests
 pub mod AdmittedStill
-pub mod AskedStill
 pub mod GatesStill
 pub mod HolderStill
 pub mod RunsStill
@@ -147,7 +139,6 @@ pub mod PrecisionStepKinds
 pub mod AllocationSteps
 pub mod Worlds
 pub mod Precise
-pub mod Granting
 pub mod MarkSteps
 pub mod NoLeaves
 pub mod MarkerSteps

@@ -1,21 +1,116 @@
 -- What a step marks is touched: what the holder's hand or a marker's points into, or a cell without an allocation.
-use Rattle.mk_laws.proofs.Vocabulary.{Bool, Caller, Cell, Config, Hand, Host, Marker, MarkerStands, MarkerState, Moment}
-use Rattle.mk_laws.proofs.Vocabulary.{NeverState, None, Object, Option, Place, PlacedAllocation, Seat, SeenHeader, Some}
-use Rattle.mk_laws.proofs.Vocabulary.{Step, Words, World, and_parts, ap, arith, bit, cases_Bool, cell_at}
-use Rattle.mk_laws.proofs.Vocabulary.{cell_of_allocation, cell_seen, eqb-true, false, first_page_shows, flight_of}
-use Rattle.mk_laws.proofs.Vocabulary.{has_bit, header_at, if◌then◌else◌, inl, inr, is_marked, is_some, is_some_and}
-use Rattle.mk_laws.proofs.Vocabulary.{is_unmarked, marker_of, marks_place, not, object_made, object_placed}
+use Rattle.mk_laws.proofs.Vocabulary.{Bool, Caller, Cell, Config, Flight, Hand, Host, Marker, MarkerStands, MarkerState}
+use Rattle.mk_laws.proofs.Vocabulary.{Moment, NeverState, None, Null, Object, Option, Place, PlacedAllocation}
+use Rattle.mk_laws.proofs.Vocabulary.{PointsInto, Seat, SeenHeader, Some, Step, Words, World, address_of, and_parts, ap}
+use Rattle.mk_laws.proofs.Vocabulary.{arith, at_rest, bases_of, bit, cases_Bool, cell_at, cell_of_allocation, cell_seen}
+use Rattle.mk_laws.proofs.Vocabulary.{d_of, eqb-true, false, false≢true, first_page_shows, flight_among, flight_of}
+use Rattle.mk_laws.proofs.Vocabulary.{get_or-set_same, granted, granted_base, has_bit, header_at, if◌then◌else◌}
+use Rattle.mk_laws.proofs.Vocabulary.{image_of, inl, inr, is_marked, is_some, is_some_and, is_unmarked, length}
+use Rattle.mk_laws.proofs.Vocabulary.{ltb-true, marker_of, marks_place, not, object_made, object_placed}
 use Rattle.mk_laws.proofs.Vocabulary.{page_at_address, part_not_free, place_now, placed_at, pointed_cell, refl}
-use Rattle.mk_laws.proofs.Vocabulary.{seen_bit, seen_page, shown, slice_index, subst, sym, true, zero, ℕ, ◌&&◌, ◌/◌}
-use Rattle.mk_laws.proofs.Vocabulary.{◌==◌, ◌^◌, ◌||◌, ◌∙◌, ◌≡◌, ◌≢◌}
+use Rattle.mk_laws.proofs.Vocabulary.{seen_bit, seen_page, shown, slice_index, slice_index_or, storage_of, subst, sym}
+use Rattle.mk_laws.proofs.Vocabulary.{true, words_within, zero, ℕ, ◌%◌, ◌&&◌, ◌*◌, ◌+◌, ◌/◌, ◌<◌, ◌==◌, ◌^◌, ◌||◌, ◌∙◌}
+use Rattle.mk_laws.proofs.Vocabulary.{◌≡◌, ◌≢◌}
 use Rattle.mk_laws.proofs.Basics.{Behind, Came, IsNew, Stayed, Table, WorldBehind, reg_table, same_cell, tally_table}
-use Rattle.mk_core.specs.StopConditions.{is_bit_of, marks_by_hand}
+use Rattle.mk_geom.proofs.PointedCells.{address_points_into}
 use Rattle.mk_core.specs.declared.events.Step.TheVariants as step
+use Rattle.mk_core.specs.declared.seats.Stage.TheVariants as stage
+use Rattle.mk_core.proofs.ChangedAllocations.{granted_at}
+use Rattle.mk_core.proofs.RegisterAccesses.{register_is_small}
+use Rattle.mk_laws.proofs.Precise.{PointsOnlyInto, Steps, came_behind, points_before, IsPrecise}
+use Rattle.mk_laws.proofs.Worlds.{sized, stands, Told, comes_back, headers}
+use Rattle.mk_core.specs.StopConditions.{is_bit_of, marks_by_hand}
 use Rattle.mk_core.proofs.ServingSteps.{place_marked}
 use Rattle.mk_core.proofs.WordBits.{bit_of_cell, bit_of_power, more_bits}
-use Rattle.mk_laws.proofs.Granting.{new_is_touched}
-use Rattle.mk_laws.proofs.Precise.{IsPrecise, Steps, came_behind}
-use Rattle.mk_laws.proofs.Worlds.{Told, comes_back, headers, sized}
+
+-- The allocation that a grant adds is touched: its caller's register points to it at the moment after.
+
+-- a register that a call has and doesn't owe
+given : (f : Flight) (d r x : ℕ) → f.stage ≡ stage.Give → shown f r x ≡ x
+given f d r x at = ap (λ s. shown (record f { stage = s }) r x) at
+
+granted_points : (c : Config) (w : World) (n : NeverState) (k : ℕ) (after : NeverState) (T : ℕ → Type 0)
+    → Steps c w n (Caller k) step.Grant after T
+    → (placed_at (WorldBehind c w (Caller k) step.Grant).allocations (length w.allocations)).released ≡ false
+    → T (length w.allocations)
+granted_points c w n k after T s u = s.there.registers (8 * k + d) i (u, rw image into)
+  where
+    v : World
+    v = WorldBehind c w (Caller k) step.Grant
+
+    i : ℕ
+    i = length w.allocations
+
+    a : PlacedAllocation
+    a = placed_at v.allocations i
+
+    f : Flight
+    f = flight_of w.now (Caller k)
+
+    d : ℕ
+    d = d_of f.op
+
+    d_small : d < 8
+    d_small = register_is_small c f stage.Put (s.before.known.now.operands k)
+
+    there : k < c.callers
+    there = ltb-true k c.callers s.meets.seat
+
+    base : ℕ
+    base = granted_base c f w.now.seats.holding.placing
+
+    is : a ≡ granted c w.now f
+    is = granted_at w.allocations (granted c w.now f)
+
+    word : slice_index v.now.words.registers (8 * k + d) ≡ address_of base % 2 ^ 64
+    word =
+        let few = s.before.known.now.small in
+        let count = s.before.known.lengths.registers in
+        get_or-set_same w.now.words.registers (8 * k + d) _ 0 (omega (arith, there, d_small))
+
+    fits : address_of base % 2 ^ 64 ≡ address_of base
+    fits =
+        let within = (stands c v after s.behind i u).within in
+        let at : a.base ≡ base = rw is in
+        let pages = s.before.known.limits.pages in
+        omega arith
+
+    flight : flight_among v.now.seats.flights k ≡ record f { stage = stage.Give }
+    flight = get_or-set_same w.now.seats.flights k (record f { stage = stage.Give }) at_rest
+        (let count = s.before.known.now.orderly.flights in omega (arith, there))
+
+    image : image_of (bases_of v.allocations) (slice_index_or after.registers (8 * k + d) Null) ≡ address_of base
+    image =
+        let own : (8 * k + d) / 8 ≡ k = let lt = d_small in omega arith in
+        let stage : (flight_among v.now.seats.flights ((8 * k + d) / 8)).stage ≡ stage.Give = rw own (rw flight) in
+        sym (s.behind.all.mirrors.images.registers (8 * k + d))
+        ∙ given (flight_among v.now.seats.flights ((8 * k + d) / 8)) d ((8 * k + d) % 8) _ stage ∙ word ∙ fits
+
+    into : PointsInto (address_of base) (storage_of c a)
+    into =
+        let some = (words_within (object_placed c a) (sized c v after s.behind i u)).0 in
+        let at : a.base ≡ base = rw is in
+        subst (λ y. PointsInto (address_of y) (storage_of c a)) at
+        ((address_points_into a.base (storage_of c a)).1 (omega arith, omega arith))
+
+pub new_is_touched : (c : Config) (w : World) (n : NeverState) (seat : Seat) (x : Step) (after : NeverState)
+    (T : ℕ → Type 0) (i : ℕ) → Steps c w n seat x after T → x ≡ step.Grant → i ≡ length w.allocations
+    → (placed_at (WorldBehind c w seat x).allocations i).released ≡ false → T i
+new_is_touched c w n (Caller k) step.Grant after T i s is at u = subst T (sym at) (granted_points c w n k after T s
+    (subst (λ j. (placed_at (WorldBehind c w (Caller k) step.Grant).allocations j).released ≡ false) at u))
+new_is_touched c w n (Marker k) step.Grant after T i s is at u = let kind = s.meets.kind in cc
+new_is_touched c w n Host step.Grant after T i s is at u = absurd (false≢true (and_parts _ false s.meets.order).1)
+new_is_touched c w n seat _ after T i s is at u = cc
+
+-- What pointed into members alone still does after a step.
+pub points_behind : (c : Config) (w : World) (n : NeverState) (seat : Seat) (x : Step) (after : NeverState)
+    (T : ℕ → Type 0) (v : ℕ) → Steps c w n seat x after T
+    → PointsOnlyInto c w.allocations T v → PointsOnlyInto c (WorldBehind c w seat x).allocations T v
+points_behind c w n seat x after T v s only b points = by (came_behind c w seat x b points.0)
+  where
+    by : Came w.allocations (WorldBehind c w seat x).allocations x b → T b
+    by (Stayed was same) = only b (was, points_before c _ _ v same points.1)
+    by (IsNew grant at) = new_is_touched c w n seat x after T b s grant at points.0
 
 -- three kinds change marks
 abbrev pub is_of_marks : Step → Bool
@@ -123,29 +218,23 @@ module _ (c : Config) (w : World) (n : NeverState) (T : ℕ → Type 0) (precise
 
   mark_step : (seat : Seat) (p v : ℕ) (after : NeverState) → Steps c w n seat (step.Mark p v) after T
       → MarksTouched seat (step.Mark p v)
-  mark_step seat p v after s b u bit = elim (more_bits w.now.words.marks p v cell.page cell.index bit) [
-    | inl old ↦ precise.marked b u old
-    | inr new ↦ elim (cases_Bool (marks_place w.now.words o place p v)) [
-      | inl placed ↦
-          absurd (has_header c w n b s.before u (rw new.0 (place_is_free w.now.words o place p v placed)))
-      | inr unplaced ↦
-          let hand : Option Hand = w.now.seats.holding.hand in
-          let h = hand_marks w.now.words c.pages hand p v (left_holds _ _ s.meets.holder unplaced)
-          (left_fails (is_some_and (λ (y : Hand). is_unmarked y.source) hand) _ s.unswept unplaced) in
-          let at : pointed_cell c.pages w.now.words.pages h.holds.value ≡ Some cell =
-          h.cell cell.index new.1 ∙ rw (← new.0) in
-          precise.hand h.holds h.there h.unswept b (u, comes_back c w n s.before s.early b h.holds.value u at)
-    ]
-  ]
-    where
-      cell : Cell
-      cell = cell_of_allocation c (placed_at w.allocations b)
-
-      o : Object
-      o = object_made c (flight_of w.now seat).op
-
-      place : Option Place
-      place = place_now c w.now (flight_of w.now seat)
+  mark_step seat p v after s b u bit =
+      let cell : Cell = cell_of_allocation c (placed_at w.allocations b) in
+      let o : Object = object_made c (flight_of w.now seat).op in
+      let place : Option Place = place_now c w.now (flight_of w.now seat) in
+      elim (more_bits w.now.words.marks p v cell.page cell.index bit) [
+        | inl old ↦ precise.marked b u old
+        | inr new ↦ elim (cases_Bool (marks_place w.now.words o place p v)) [
+          | inl placed ↦ absurd (has_header c w n b s.before u (rw new.0 (place_is_free w.now.words o place p v placed)))
+          | inr unplaced ↦
+              let hand : Option Hand = w.now.seats.holding.hand in
+              let h = hand_marks w.now.words c.pages hand p v (left_holds _ _ s.meets.holder unplaced)
+              (left_fails (is_some_and (λ (y : Hand). is_unmarked y.source) hand) _ s.unswept unplaced) in
+              let at : pointed_cell c.pages w.now.words.pages h.holds.value ≡ Some cell =
+              h.cell cell.index new.1 ∙ rw (← new.0) in
+              precise.hand h.holds h.there h.unswept b (u, comes_back c w n s.before s.early b h.holds.value u at)
+        ]
+      ]
 
   mmark_step : (j : ℕ) (after : NeverState) → MarkerStands c w.now (marker_of w.now j)
       → Steps c w n (Marker j) step.Mmark after T → MarksTouched (Marker j) step.Mmark

@@ -20,7 +20,7 @@ use Rattle.mk_core.specs.Effects.{hand_behind_look, open_hand}
 use Rattle.mk_core.specs.declared.events.Step.TheVariants as step
 use Rattle.mk_core.specs.declared.events.Word.TheVariants as word
 use Rattle.mk_laws.specs.Guard.{EndsItsCell, cell_scanned}
-use Rattle.mk_laws.proofs.Granting.{points_behind}
+use Rattle.mk_laws.proofs.MarkSteps.{points_behind}
 use Rattle.mk_laws.proofs.NoLeaves.{no_leaf_behind, scanned_has_none}
 use Rattle.mk_laws.proofs.Precise.{HasNoLeaf, IsPrecise, MarkerIsPrecise, PointsOnlyInto, PrecisionScene, Steps}
 use Rattle.mk_laws.proofs.Precise.{precision_scene_of}
@@ -52,14 +52,12 @@ scanned_head c w n p k x t known from to some = by (header_in w.now.words p) ref
 
     later : (o : Option Header) (d : ℕ) → header_in w.now.words p ≡ o → heads_run o ≡ true → 1 ≤ d → d < run_count o
         → x / 64 ≡ p + d → head_page w.now.words (x / 64) ≡ p
-    later o d is heads one lt at =
-        let whole = t.all.order.runs p (ap heads_run is ∙ heads) in
-        elim (whole.later d one (rw is lt)) [
-          | inl shows ↦
-              let back : head_page_under (Some (Later d shows.0)) (p + d) ≡ p = omega arith in
-              ap (λ q. head_page w.now.words q) at ∙ rw shows.1 back
-          | inr free ↦ absurd (some (ap (λ q. header_at w.now.words q) at ∙ free.0))
-        ]
+    later o d is heads one lt at = elim ((t.all.order.runs p (ap heads_run is ∙ heads)).later d one (rw is lt)) [
+      | inl shows ↦
+          let back : head_page_under (Some (Later d shows.0)) (p + d) ≡ p = omega arith in
+          ap (λ q. head_page w.now.words q) at ∙ rw shows.1 back
+      | inr free ↦ absurd (some (ap (λ q. header_at w.now.words q) at ∙ free.0))
+    ]
 
     on_run : (o : Option Header) (count : ℕ) → header_in w.now.words p ≡ o → head_page_under o p ≡ p
         → heads_run o ≡ true → run_count o ≡ count → k < 1 → 64 * p + k * (64 * count) ≤ x
@@ -314,8 +312,7 @@ own_marker c w n k (step.Mlook x) after T s precise stand =
     looks c w n T (marker_of w.now k) x (found c w.now (record { seat = Marker k; step = step.Mlook x })) s.before
     (λ p e. rw e) (precise.markers k)
 own_marker c w n k (step.Claim p i) after T s precise stand =
-    let a = and_parts _ _ s.meets.marker in
-    claim_precise c w T (marker_of w.now k) p i _ a.1 (precise.markers k)
+    claim_precise c w T (marker_of w.now k) p i _ (and_parts _ _ s.meets.marker).1 (precise.markers k)
 own_marker c w n k step.Mload after T s precise stand =
     let a = and_parts _ _ s.meets.marker in
     load_precise c w n (Marker k) step.Mload after T (marker_of w.now k) s precise stand a.0 (precise.markers k)

@@ -68,10 +68,9 @@ moment_behind c es k front e h here there other unswept at =
       here = closed_at c es k front here;
       there = rw m.left at (closed_at c es k (front ++ e ∷ []) there);
     } in
-    let on = marking_goes_on c w.now e.seat e.step at.early m.meets other in
     record {
       history = h;
-      early = rw m.left on.early;
+      early = rw m.left (marking_goes_on c w.now e.seat e.step at.early m.meets other).early;
       precise = rw m.left (precise_behind c w (never_behind c front) e.seat e.step _ (IsTouched c k) s at.precise);
     }
 

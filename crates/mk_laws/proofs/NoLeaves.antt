@@ -93,11 +93,10 @@ module _ (c : Config) (w : World) (n : NeverState) (seat : Seat) (x : Step) (aft
           → is_leaf_header (header_in (WorldBehind c w seat y).now.words p) ≡ false
       by (step.Head q v) is h = elim (cases_eq p q) [
         | inl e ↦
-            let lt = ltb-true q c.pages h.range in
             let at : header_at (WorldBehind c w seat (step.Head q v)).now.words p ≡ v =
             ap (λ i. (slice_index_or (slice_set w.now.words.pages q (stored q v)) i free_page).header) e
             ∙ ap (λ (y : Page). y.header) (get_or-set_same w.now.words.pages q (stored q v) free_page
-            (omega (arith, lt, s.before.known.lengths.pages))) in
+            (omega (arith, ltb-true q c.pages h.range, s.before.known.lengths.pages))) in
             ap (λ y. is_leaf_header (header_of y)) at ∙ stored_no_leaf c w n seat q v s.before s.early h
             (subst (λ i. cells_under (header_in w.now.words i) ≢ 0) e cells)
         | inr ne ↦ ap (λ (y : Page). is_leaf_header (header_of y.header))

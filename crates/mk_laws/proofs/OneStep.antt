@@ -18,12 +18,11 @@ use Rattle.mk_core.specs.declared.seats.Source.TheVariants.{Marked, Root, Unmark
 use Rattle.mk_core.specs.declared.seats.Stage.TheVariants as stage
 use Rattle.mk_laws.proofs.Pairs.{shows_plain}
 use Rattle.mk_laws.proofs.ImagesHeldGates.{held_idle}
-use Rattle.mk_laws.proofs.Granting.{points_behind}
+use Rattle.mk_laws.proofs.MarkSteps.{points_behind, marked_behind}
 use Rattle.mk_laws.proofs.Precise.{IsPrecise, PointsOnlyInto, Steps, MarkerIsPrecise, PrecisionScene}
 use Rattle.mk_laws.proofs.Precise.{precision_scene_of}
 use Rattle.mk_laws.proofs.Worlds.{Told, headers, held, not_leaf, stands}
 use Rattle.mk_core.specs.Touched.{PointsIntoAllocation}
-use Rattle.mk_laws.proofs.MarkSteps.{marked_behind}
 use Rattle.mk_laws.proofs.MarkerSteps.{idle_is_precise, markers_behind}
 
 -- What the turn holder's hand holds is touched: a root's image, or a word of a marked cell that is scanned.
@@ -126,7 +125,6 @@ module _ (c : Config) (w : World) (n : NeverState) (T : ℕ → Type 0) (precise
           (slice_index w.now.words.heap x) h is out in
           λ b points.
           let low : 65536 ≤ h.value = points.1.0 in
-          let value = k.holds in
           let some : slice_index w.now.words.heap x ≢ 0 = λ z. absurd (omega arith) in
           let o = held c w n s.before s.early x some in
           let a : PlacedAllocation = placed_at w.allocations o.number in
@@ -139,7 +137,7 @@ module _ (c : Config) (w : World) (n : NeverState) (T : ℕ → Type 0) (precise
           let leaf = not_leaf c w n s.before o.number o.unreleased
           (ap (λ (y : Cell). has_no_pointers (header_in w.now.words y.page)) same ∙ k.scanned) in
           s.here.words o.number x touched (o.unreleased, leaf, o.word) b
-          (subst (λ v. PointsIntoAllocation c w v b) value points)
+          (subst (λ v. PointsIntoAllocation c w v b) k.holds points)
 
   root_hand : (value : ℕ) (h : Hand) → PointsOnlyInto c w.allocations T value
       → Some (record { value = value; source = Root }) ≡ Some h → PointsOnlyInto c w.allocations T h.value
@@ -222,8 +220,7 @@ precise_begun c w seat T known h =
     unmarked : (p : ℕ) → slice_index w.now.words.marks p ≡ 0
     unmarked p = elim (cases_lt p c.pages) [
       | inl lt ↦
-          let clean = all_below-at c.pages p _ own lt in
-          let a = and_parts _ _ clean in
+          let a = and_parts _ _ (all_below-at c.pages p _ own lt) in
           eqb-true _ 0 (and_parts _ _ a.0).0
       | inr past ↦ get_or_past w.now.words.marks p 0 (omega (arith, known.lengths.marks))
     ]

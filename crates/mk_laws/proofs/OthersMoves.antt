@@ -14,14 +14,12 @@ use Rattle.mk_laws.proofs.Standings.{Standing, Resting, InCall, UnderTurn, Astra
 use Rattle.mk_laws.proofs.Stages.{is_call_stage, is_reg_stage, calls_stand, regs_work}
 use Rattle.mk_laws.proofs.NextSteps.{stage_of, has_stage_of_its_own, at_its_stage, at_reg, is_take}
 use Rattle.mk_laws.proofs.Views.{view_of, HoldsTurn}
-use Rattle.mk_laws.proofs.Orderly.{shows_at, turn_of}
+use Rattle.mk_laws.proofs.Orderly.{shows_at, turn_of, count_in-at}
 use Rattle.mk_laws.proofs.Actors.{Meets, Actor, InCallOf, AsMarker, CallTakes, HostTakes, AsHolder}
 use Rattle.mk_laws.proofs.IdleMarkers.{work_attends, look_stays}
 use Rattle.mk_laws.proofs.Sorts.{attends_at}
-use Rattle.mk_laws.proofs.ProtocolMarkers.{count_in-at}
 use Rattle.mk_laws.proofs.OrderlyLists.{not_astray, actor_of}
-use Rattle.mk_laws.proofs.Operands.{Operands, operands_of, register_small}
-use Rattle.mk_laws.proofs.Known.{Known}
+use Rattle.mk_laws.proofs.Known.{Operands, operands_of, register_small, Known}
 
 -- the words and the seats of a world are others
 abbrev pub with_words_seats : World → Words → Seats → World

@@ -51,6 +51,8 @@ pub record Carves (s : LayoutScene) (first : ℕ) (o : Object) (d : ℕ) : Type 
 pub layout_carved : (s : LayoutScene) (first : ℕ) (o : Object) (d : ℕ) → IsLaidOn s → s.plot ≡ Plotted first o
     → s.releasing ≡ false → Carves s first o d → IsLaidOn (Carved s first o d)
 layout_carved s first o d laid plotted off next =
+    let p : ℕ = first + d in
+    let n : ℕ = header_made o d in
     record {
       shown = λ x among. shown_beside s.pages p n x lt (laid.shown x among)
           (λ e le at. claimed_some s.pages x e (laid.shown x among) le (ap (λ q. header_on s.pages q) at ∙ was));
@@ -95,12 +97,6 @@ layout_carved s first o d laid plotted off next =
       ];
     }
   where
-    p : ℕ
-    p = first + d
-
-    n : ℕ
-    n = header_made o d
-
     plot : IsPlotShown s.pages first o
     plot = rw plotted at laid.plot
 

@@ -107,11 +107,10 @@ released c es k h at =
     let w : World = left c front in
     let more : List Event = k.end.at.before in
     let start : List Event = through_release k.releasing in
-    let is = release_is e.step k.releasing.release.at.of_kind in
     let releasing = history_through c es front k.releasing.release.at.behind e h (at_release k.releasing) in
     let m = one_more c front e releasing in
     let left_is : WorldBehind c w e.seat step.Release ≡ left c start =
-    ap (λ (x : Step). WorldBehind c w e.seat x) (sym is) ∙ sym m.left in
+    ap (λ (x : Step). WorldBehind c w e.seat x) (sym (release_is e.step k.releasing.release.at.of_kind)) ∙ sym m.left in
     let three = at.phase in
     let four : phase_of (left c start).now.words ≡ 4 =
     subst (λ (v : World). phase_of v.now.words ≡ 4) left_is (omega arith) in

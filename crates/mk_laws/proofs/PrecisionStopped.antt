@@ -51,8 +51,7 @@ stop_behind c w seat x T known three h other marked b u is = by (came_behind c w
     by : Came w.allocations (WorldBehind c w seat x).allocations x b → T b
     by (IsNew grant at) = absurd (not_granted x (stopped_waits c w.now seat x three h other).granted grant)
     by (Stayed was same) =
-        let still = (leaves_closed c w.now seat x known three h).marks in
-        let here : is_marked w.now.words cell ≡ true = rw still at is in
+        let here : is_marked w.now.words cell ≡ true = rw ((leaves_closed c w.now seat x known three h).marks) at is in
         marked b was (subst (λ (y : Cell). is_marked w.now.words y ≡ true)
         (same_cell c (placed_at w.allocations b) a same.base same.ty) here)
 
@@ -159,9 +158,8 @@ keeps_only_the_touched c es h k unswept i quarantined unreleased =
     let releasing = history_through c es (before_release k) k.release.at.behind e h (at_release k) in
     let m = one_more c (before_release k) e releasing in
     let at = at_the_release c es k h unswept in
-    let is = release_is e.step k.release.at.of_kind in
     let left_is : left c (through_release k) ≡ WorldBehind c w e.seat step.Release =
-    m.left ∙ ap (λ (x : Step). WorldBehind c w e.seat x) is in
+    m.left ∙ ap (λ (x : Step). WorldBehind c w e.seat x) (release_is e.step k.release.at.of_kind) in
     let now : (with_released c w.now.words a).released ≡ false =
     ap (λ (x : PlacedAllocation). x.released) (sym (changed_at (with_released c w.now.words) w.allocations i refl))
     ∙ ap (λ (v : World). (placed_at v.allocations i).released) (sym left_is) ∙ unreleased in

@@ -108,6 +108,8 @@ pub probe_still : (c : Config) (w v : World) (n m : NeverState) (kw : KnownWorld
     → is_unmapped_header (header_in w.now.words (page_met (flight_of w.now (Caller k)))) ≡ true
     → is_unmapped_header (header_in v.now.words (page_met (flight_of w.now (Caller k)))) ≡ true
 probe_still c w v n m kw kv aw av k lt same at on own admitted u =
+    let lit : f ≡ flight stage.Probe f.op f.q f.p f.r f.loaded = literal f stage.Probe at in
+    let in_call : standing f ≡ InCall = calls_stand f.stage f.op (ap is_call_stage at) astray in
     elim (cases_Bool (is_unmapped_header (header_in v.now.words (page_met f)))) [
       | inl is ↦ is
       | inr mapped ↦
@@ -120,14 +122,8 @@ probe_still c w v n m kw kv aw av k lt same at on own admitted u =
     f : Flight
     f = flight_of w.now (Caller k)
 
-    lit : f ≡ flight stage.Probe f.op f.q f.p f.r f.loaded
-    lit = literal f stage.Probe at
-
     astray : is_astray (standing f) ≡ false
     astray = not_astray c w.now kw.now.orderly k lt
-
-    in_call : standing f ≡ InCall
-    in_call = calls_stand f.stage f.op (ap is_call_stage at) astray
 
     meets : Meets n (register_at n k (q_of f.op)) (i_of f.op) (λ kind. Unit {0})
     meets = probe_meets n k f.op (subst (λ (s : Stage). is_astray (standing_at s f.op)

@@ -18,7 +18,7 @@ use Rattle.mk_laws.proofs.Basics.{standing, turn_of, view_of}
 use Rattle.mk_core.specs.declared.events.Word.TheVariants as word
 use Rattle.mk_core.specs.declared.events.Step.TheVariants as step
 use Rattle.mk_core.specs.declared.seats.Stage.TheVariants as stage
-use Rattle.mk_laws.proofs.Operands.{HaveOperands, Operands}
+use Rattle.mk_laws.proofs.Known.{HaveOperands, Operands, holds_turn}
 use Rattle.mk_core.proofs.RegisterAccesses.{tally_leaves_registers}
 use Rattle.mk_core.specs.Growing.{is_same_seat}
 use Rattle.mk_core.specs.Readings.{is_in_call}
@@ -27,7 +27,6 @@ use Rattle.mk_core.proofs.Histories.{calls_append}
 use Rattle.mk_laws.proofs.Standings.{in_call_is}
 use Rattle.mk_laws.proofs.Protocols.{protocol_of}
 use Rattle.mk_laws.proofs.ProtocolReadings.{in_counts}
-use Rattle.mk_laws.proofs.Known.{holds_turn}
 use Rattle.mk_laws.proofs.OthersMoves.{with_words_seats, OthersMove, Waits, Calls, Marks, MarkerWrite, ComesIn}
 use Rattle.mk_laws.proofs.OthersMoves.{gate_one, others_move}
 use Rattle.mk_laws.proofs.Growth.{grows_same, grows_joined}
@@ -274,9 +273,8 @@ counts_later c s w (e ∷ es) k on others holds =
     let t = holds_turn c w.now s k.orderly holds in
     let now = counts_nothing c w.now e.seat e.step (λ out. ne (same_holder c (view_of w.now) e.seat s k.orderly out t))
     (actor_of c w.now e.seat e.step k.orderly h) in
-    let one = left_after c w e.seat s e.step k h ne in
     let rest = counts_later c s (world_behind c w e) es (known_behind c w.now e k on.0) on.1 others.1
-    (one.own.holding holds).0 in
+    ((left_after c w e.seat s e.step k h ne).own.holding holds).0 in
     let first : cond {A = ℕ} (is_end e.step) 1 0 ≡ 0 = rw now.0 in
     let entry = entry_fulls (caller_number e.seat) (flight_of w.now e.seat).op (answer_decided c w.now e) now.1 in
     record {

@@ -2,17 +2,16 @@
 use Rattle.mk_laws.proofs.Vocabulary.{Caller, Config, Flight, Holding, Host, List, Marker, MarkerState, Seat, ap, arith}
 use Rattle.mk_laws.proofs.Vocabulary.{at_rest, cases_eq, false, get_or-set_other, get_or-set_same, holder_number, inl}
 use Rattle.mk_laws.proofs.Vocabulary.{inr, is_attending, length, length-set, nothing_done, outside, refl, slice_index}
-use Rattle.mk_laws.proofs.Vocabulary.{slice_index_or, slice_set, sym, true, ℕ, ◌%◌, ◌*◌, ◌+◌, ◌-◌, ◌<◌, ◌^◌, ◌∙◌, ◌≡◌}
-use Rattle.mk_laws.proofs.Vocabulary.{◌≢◌, ◌≤◌, ◌⊎◌}
+use Rattle.mk_laws.proofs.Vocabulary.{slice_index_or, slice_set, sym, true, ℕ, ◌%◌, ◌*◌, ◌+◌, ◌-◌, ◌<◌, ◌∙◌, ◌≡◌, ◌≢◌}
+use Rattle.mk_laws.proofs.Vocabulary.{◌≤◌, ◌⊎◌}
 use Rattle.mk_laws.proofs.Views.{View, gate_in, marker_in, HoldsTurn, flight_in, flight_at, flights_with}
 use Rattle.mk_laws.proofs.ProtocolMoves.{PhaseStep, Begins, Wants, Closes, Releases, Ends, Stops, IdlesOutside, Move}
 use Rattle.mk_laws.proofs.ProtocolMoves.{Stays, Enters, GoesOn, Leaves, Takes, Gives, Works, Holds, Opens, Phases}
 use Rattle.mk_laws.proofs.ProtocolMoves.{Attends, Quits, Scans}
-use Rattle.mk_laws.proofs.ProtocolMarkers.{count_in, up_one, down_four, up_five, counted_same, counted_more}
-use Rattle.mk_laws.proofs.ProtocolMarkers.{counted_less, marker_set, up_eight, down_eight}
-use Rattle.mk_laws.proofs.Orderly.{Orderly, turn_of, few_in, AllShow, all_but_flight, all_but_gate, all_but_both}
-use Rattle.mk_laws.proofs.Orderly.{all_but_seat, length_with, shows_at, holders_flight, holder_shows, giver_shows}
-use Rattle.mk_laws.proofs.Orderly.{taker_shows, taker_number}
+use Rattle.mk_laws.proofs.Orderly.{count_in, up_one, down_four, up_five, counted_same, counted_more, counted_less}
+use Rattle.mk_laws.proofs.Orderly.{marker_set, up_eight, down_eight, Orderly, turn_of, few_in, AllShow, all_but_flight}
+use Rattle.mk_laws.proofs.Orderly.{all_but_gate, all_but_both, all_but_seat, length_with, shows_at, holders_flight}
+use Rattle.mk_laws.proofs.Orderly.{holder_shows, giver_shows, taker_shows, taker_number}
 use Rattle.mk_laws.proofs.Standings.{Resting, InCall, standing, Shows, shows_taken, shows_given, shows_held}
 use Rattle.mk_laws.proofs.Standings.{shows_opened}
 use Rattle.mk_laws.proofs.Services.{Served, Service, Goes, service_stands, service_rests, served_on, nothing_served}

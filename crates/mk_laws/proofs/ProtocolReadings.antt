@@ -7,7 +7,7 @@ use Rattle.mk_core.specs.declared.seats.Presence.TheVariants.{Attending}
 use Rattle.mk_core.specs.MarkerConditions.{is_out}
 use Rattle.mk_core.specs.Readings.{TurnTells, GateTells, PhaseTells}
 use Rattle.mk_laws.specs.HolderReadings.{WordsTell}
-use Rattle.mk_laws.proofs.ProtocolMarkers.{count_in-at}
+use Rattle.mk_laws.proofs.Orderly.{count_in-at}
 use Rattle.mk_laws.proofs.ProtocolHeldGates.{gates_tell_holds}
 use Rattle.mk_laws.proofs.Protocols.{lists_keep_the_protocol}
 

@@ -6,7 +6,7 @@ use Rattle.mk_laws.proofs.Basics.{Known, Orderly, flight_in, gate_in, in_call_to
 use Rattle.mk_laws.proofs.Basics.{view_of}
 use Rattle.mk_laws.specs.Protocol.{is_decided_new, SomeCaller, ListsKeepTheProtocol}
 use Rattle.mk_laws.proofs.Standings.{is_standing_in_call, shows_turn, shows_gate, in_turn_told, stage_told}
-use Rattle.mk_laws.proofs.Operands.{HaveOperands}
+use Rattle.mk_laws.proofs.Known.{HaveOperands}
 
 -- what is in order is as the protocol says
 

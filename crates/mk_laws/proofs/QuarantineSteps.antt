@@ -17,7 +17,9 @@ use Rattle.mk_laws.proofs.Serving.{among_parts}
 
 -- the bits of a word that another hasn't, where the other's are all its own
 rest_bit : (n m k : ℕ) → bit_and n m ≡ n → has_bit (m - n) k ≡ (has_bit m k && not (has_bit n k))
-rest_bit n m k sub = rw same (has_bit_without m n k)
+rest_bit n m k sub =
+    let same : m - n ≡ without m n = ap (λ x. m - x) (sym turned) in
+    rw same (has_bit_without m n k)
   where
     least : (a b : ℕ) → min a b ≡ min b a
     least a b = omega arith
@@ -25,9 +27,6 @@ rest_bit n m k sub = rw same (has_bit_without m n k)
     turned : bit_and m n ≡ n
     turned = same_from_bits (bit_and m n) (bit_and n m) (λ i. bit_at_and m n i ∙ least (bit_at m i) (bit_at n i)
         ∙ sym (bit_at_and n m i)) ∙ sub
-
-    same : m - n ≡ without m n
-    same = ap (λ x. m - x) (sym turned)
 
 pub and_both : (a b : Bool) → a ≡ true → b ≡ false → (a && not b) ≡ true
 and_both a b x y = rw x (ap not y)

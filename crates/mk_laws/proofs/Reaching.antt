@@ -17,7 +17,7 @@ use Rattle.mk_core.specs.Layout.{NamesWord, IsOfTable}
 use Rattle.mk_core.specs.Ranges.{is_word, is_word_met}
 use Rattle.mk_core.specs.Accesses.{word_reached, access_by}
 use Rattle.mk_laws.specs.Reaching.{EventsReachTheTable, OthersLeaveAccesses}
-use Rattle.mk_laws.proofs.Operands.{Operands}
+use Rattle.mk_laws.proofs.Known.{Operands}
 use Rattle.mk_laws.proofs.ScansInHeap.{MarkerFits, nothing_fits, next_in_heap, scan_page_in_heap, seen_page_in_heap}
 use Rattle.mk_laws.proofs.InHeap.{InHeap, in_heap_left}
 use Rattle.mk_laws.proofs.ProtocolFrames.{others_leave}

@@ -69,11 +69,16 @@ lea_value : (listed : List ℕ) (safe : ℕ → Bool) (s : ImageScene) (n : Neve
 lea_value listed safe s n h Null x i sound is e ne meets = absurd (ne e)
 lea_value listed safe s n h (Num m) x i sound is e ne meets = absurd sound
 lea_value listed safe s n h (Ptr a t o) x i sound is e ne meets =
-    let u = h.set.unreleased a is in
-    let b = h.bound a (o + i) u meets.0 in
+    let b = h.bound a (o + i) (h.set.unreleased a is) meets.0 in
     let ba = base_at s.allocations a in
     let room = h.room in
     (omega arith, is, refl)
+
+-- the registers after `reg`
+abbrev pub registers_behind : List ℕ → ℕ → Flight → Stage → List ℕ
+registers_behind xs k f stage.Store = slice_set xs (8 * k + d_of f.op) (value_for f f.op)
+registers_behind xs k f stage.Put = slice_set xs (8 * k + d_of f.op) f.loaded
+registers_behind xs k f _ = xs
 
 module _ (listed : List ℕ) (safe : ℕ → Bool) (s : ImageScene) (n : NeverState) (k : ℕ) (h : Ready listed safe s n)
     (there : k < length s.flights) (long : 8 * k + 7 < length n.registers) (longs : 8 * k + 7 < length s.registers)
@@ -215,29 +220,15 @@ module _ (listed : List ℕ) (safe : ℕ → Bool) (s : ImageScene) (n : NeverSt
       λ more. refl,
     )
 
--- the registers after `reg`
-abbrev pub registers_behind : List ℕ → ℕ → Flight → Stage → List ℕ
-registers_behind xs k f stage.Store = slice_set xs (8 * k + d_of f.op) (value_for f f.op)
-registers_behind xs k f stage.Put = slice_set xs (8 * k + d_of f.op) f.loaded
-registers_behind xs k f _ = xs
-
-pub reg_leads : (listed : List ℕ) (safe : ℕ → Bool) (s : ImageScene) (n : NeverState) (k : ℕ) → Ready listed safe s n
-    → k < length s.flights → 8 * k + 7 < length n.registers → 8 * k + 7 < length s.registers
-    → (st : Stage) (o : Op) (q p r l x : ℕ) → flight_among s.flights k ≡ flight st o q p r l → d_of o < 8
-    → is_reg_stage st ≡ true → is_astray (standing_at st o) ≡ false
-    → CarriesOwn (bases_of s.allocations) n k (flight st o q p r l) → (is_put st ≡ false
-    → x ≡ image_of (bases_of s.allocations) (register_at n k (register_met (flight st o q p r l) st)))
-    → AreAdmitted listed n (asked (entry_of k o (progress_reg (flight st o q p r l) st x).answer))
-    → LeadsBy safe s n k o (record s { registers = registers_behind s.registers k (flight st o q p r l) st })
-    (progress_reg (flight st o q p r l) st x)
-reg_leads listed safe s n k h there long longs stage.LoadQ o q p r l x is ld rs a car e ad =
-    reg_q listed safe s n k h there long longs o q p r l x is ld a car (e refl)
-reg_leads listed safe s n k h there long longs stage.LoadP o q p r l x is ld rs a car e ad =
-    reg_p listed safe s n k h there long longs o q p r l x is a car (e refl)
-reg_leads listed safe s n k h there long longs stage.LoadR o q p r l x is ld rs a car e ad =
-    reg_r listed safe s n k h there long longs o q p r l x is a car (e refl)
-reg_leads listed safe s n k h there long longs stage.Store o q p r l x is ld rs a car e ad =
-    reg_store listed safe s n k h there long longs o q p r l is ld a car ad
-reg_leads listed safe s n k h there long longs stage.Put o q p r l x is ld rs a car e ad =
-    reg_put listed safe s n k h there long longs o q p r l is ld
-reg_leads listed safe s n k h there long longs _ o q p r l x is ld rs a car e ad = cc
+    pub reg_leads : (st : Stage) (o : Op) (q p r l x : ℕ) → flight_among s.flights k ≡ flight st o q p r l → d_of o < 8
+        → is_reg_stage st ≡ true → is_astray (standing_at st o) ≡ false → CarriesOwn bases n k (flight st o q p r l)
+        → (is_put st ≡ false → x ≡ image_of bases (register_at n k (register_met (flight st o q p r l) st)))
+        → AreAdmitted listed n (asked (entry_of k o (progress_reg (flight st o q p r l) st x).answer))
+        → LeadsBy safe s n k o (record s { registers = registers_behind s.registers k (flight st o q p r l) st })
+        (progress_reg (flight st o q p r l) st x)
+    reg_leads stage.LoadQ o q p r l x is ld rs a car e ad = reg_q o q p r l x is ld a car (e refl)
+    reg_leads stage.LoadP o q p r l x is ld rs a car e ad = reg_p o q p r l x is a car (e refl)
+    reg_leads stage.LoadR o q p r l x is ld rs a car e ad = reg_r o q p r l x is a car (e refl)
+    reg_leads stage.Store o q p r l x is ld rs a car e ad = reg_store o q p r l is ld a car ad
+    reg_leads stage.Put o q p r l x is ld rs a car e ad = reg_put o q p r l is ld
+    reg_leads _ o q p r l x is ld rs a car e ad = cc

@@ -1,18 +1,77 @@
 -- `release` on the terrain: an allocation is released exactly where its cell is left unmarked.
-use Rattle.mk_laws.proofs.Vocabulary.{Among, Bool, Claim, Config, IsWithinLimits, List, None, Object, Option}
-use Rattle.mk_laws.proofs.Vocabulary.{PlacedAllocation, RunPages, RunStands, Some, Words, World, address_of, arith}
-use Rattle.mk_laws.proofs.Vocabulary.{cases_Bool, cell_of_allocation, claim_of, claims_of, claims_placed, false}
-use Rattle.mk_laws.proofs.Vocabulary.{ground_of, has_bit_without, inl, inr, is_left_unmarked, is_released_in}
-use Rattle.mk_laws.proofs.Vocabulary.{is_some_and, large_cells, layout_scene_of, length, map, placed_at, pointed_cell}
-use Rattle.mk_laws.proofs.Vocabulary.{refl, released_leaves, released_where_left, slice_index, sym, true, true≢false}
-use Rattle.mk_laws.proofs.Vocabulary.{with_released, ℕ, ◌++◌, ◌/◌, ◌||◌, ◌∙◌, ◌≡◌, ◌⊎◌}
+use Rattle.mk_laws.proofs.Vocabulary.{Among, BeginsAtCell, Bool, Cell, Claim, Config, HasItsHeaders, IsAtCell, IsShown}
+use Rattle.mk_laws.proofs.Vocabulary.{IsSized, IsWithinLimits, List, None, Object, Option, Place, PlacedAllocation}
+use Rattle.mk_laws.proofs.Vocabulary.{RunPages, RunStands, Some, StandsOnHeap, Words, World, address_of, ap, arith}
+use Rattle.mk_laws.proofs.Vocabulary.{base_made, cases_Bool, cell_of_allocation, cells_made, claim_of, claims_of}
+use Rattle.mk_laws.proofs.Vocabulary.{claims_placed, false, ground_of, has_bit_without, header_at, inl, inr}
+use Rattle.mk_laws.proofs.Vocabulary.{is_left_unmarked, is_released_in, is_small_object, is_some_and, large_cells}
+use Rattle.mk_laws.proofs.Vocabulary.{large_words, layout_scene_of, length, map, object_placed, or_parts, pages_made}
+use Rattle.mk_laws.proofs.Vocabulary.{placed_at, pointed_cell, refl, released_leaves, released_where_left, run_begins}
+use Rattle.mk_laws.proofs.Vocabulary.{slice_index, small, small_pages, storage_words, sym, true, true≢false}
+use Rattle.mk_laws.proofs.Vocabulary.{with_released, words_made, ℕ, ◌*◌, ◌++◌, ◌+◌, ◌/◌, ◌<◌, ◌∙◌, ◌≡◌, ◌≤◌, ◌⊎◌}
+use Rattle.mk_core.proofs.StandingAllocations.{cell_ends_within, made_begins, placed_cell, run_cell}
+use Rattle.mk_laws.proofs.LayoutReadings.{header_of_mode}
 use Rattle.mk_laws.proofs.ProtocolKept.{kept}
 use Rattle.mk_laws.proofs.Claims.{LeavesCells, apart_behind, cells_behind, changed_among, claim_among, claim_is}
 use Rattle.mk_laws.proofs.Claims.{was_claim}
 use Rattle.mk_laws.proofs.Serving.{among_back, among_front, among_parts, apart_across, apart_joined, apart_left}
 use Rattle.mk_laws.proofs.Serving.{apart_right, Laid, own_claim, placed_claim}
 use Rattle.mk_laws.proofs.Releasing.{layout_released}
-use Rattle.mk_laws.proofs.StandingClaims.{IsStanding, stands_there}
+
+-- An unreleased allocation whose claim is shown stands on the heap with its headers.
+
+-- The words of an object end with its pages.
+pub ends_on_pages : (o : Object) (base : ℕ) → IsSized o → BeginsAtCell o base
+    → base + words_made o ≤ 64 * (base / 64 + pages_made o)
+ends_on_pages o base sized b = elim (cases_Bool (is_small_object o)) [
+  | inl small ↦
+      let ends = cell_ends_within o base sized small b in
+      let one = small_pages o small in
+      let first = b.first in
+      omega arith
+  | inr large ↦
+      let words = large_words o large in
+      let first = (run_begins o base large b).1 in
+      omega arith
+]
+
+-- what mk_core asks of an allocation
+pub record IsStanding (c : Config) (w : Words) (a : PlacedAllocation) : Type 0 where
+  pub stands : StandsOnHeap c a
+  pub headers : HasItsHeaders c w a
+
+pub stands_there : (c : Config) (run : Option RunPages) (w : Words) (a : PlacedAllocation) → length w.pages ≡ c.pages
+    → IsShown w.pages (claim_of c run a) → a.released ≡ false → IsAtCell c a → IsStanding c w a
+stands_there c run w a len shown u at =
+    record {
+      stands = record {
+        typed = at.typed;
+        unreleased = u;
+        begins = at.begins;
+        within =
+            let ends = ends_on_pages (object_placed c a) a.base shown.sized at.begins in
+            let inside : a.base / 64 + pages_made (object_placed c a) ≤ length w.pages = shown.within in
+            let words : storage_words c a ≡ words_made (object_placed c a) = refl in
+            omega arith;
+      };
+      headers = λ d lt. header_of_mode (claim_of c run a).mode (object_placed c a) d (header_at w (a.base / 64 + d))
+          (shown.headers d lt);
+    }
+
+-- The index of its cell, where it is large.
+pub large_index : (c : Config) (a : PlacedAllocation) → IsSized (object_placed c a)
+    → is_small_object (object_placed c a) ≡ false → (cell_of_allocation c a).index ≡ 0
+large_index c a sized large = ap (λ (x : Cell). x.index) (run_cell c a sized large)
+
+-- Its cell has the place's page and index, where it has the place's base.
+pub place_index : (c : Config) (a : PlacedAllocation) (place : Place) → IsSized (object_placed c a)
+    → a.base ≡ base_made (object_placed c a) place → place.index < cells_made (object_placed c a)
+    → (a.base / 64 ≡ place.page) × ((cell_of_allocation c a).index ≡ place.index)
+place_index c a place sized base lt =
+    let made = made_begins (object_placed c a) place sized lt in
+    let begins : BeginsAtCell (object_placed c a) a.base =
+    record { index = made.0.index; known = made.0.known; first = rw base made.0.first } in
+    (rw base made.2, ap (λ (x : Cell). x.index) (placed_cell c a sized begins) ∙ made.1)
 
 -- The unreleased allocations stand on the heap, with their headers.
 pub all_stand : (c : Config) (o : Object) (releasing : Bool) (w : World) → length w.now.words.pages ≡ c.pages
@@ -29,13 +88,9 @@ pub releasing_leaves : (c : Config) (w : Words) → LeavesCells (with_released c
 releasing_leaves c w =
     record {
       places = released_leaves c w;
-      released = λ a h. by a.released
-          (is_some_and (is_left_unmarked w) (pointed_cell c.pages w.pages (address_of a.base))) h;
+      released = λ a h. (or_parts a.released
+          (is_some_and (is_left_unmarked w) (pointed_cell c.pages w.pages (address_of a.base))) h).0;
     }
-  where
-    by : (x y : Bool) → (x || y) ≡ false → x ≡ false
-    by true y h = cc
-    by false y h = refl
 
 -- whether a release of the allocation's cell releases it
 pub left_is : (c : Config) (w : Words) (a : PlacedAllocation) → IsWithinLimits c → IsStanding c w a
@@ -53,10 +108,9 @@ pub goes : (c : Config) (run : Option RunPages) (w : Words) (xs : List PlacedAll
 goes c run w xs x limits stand i =
     let n = claim_is c run xs x i in
     let a : PlacedAllocation = placed_at xs n.number in
-    let left = left_is c w a limits (stand n.number n.unreleased) in
     elim (cases_Bool (with_released c w a).released) [
       | inr u ↦ inl (rw n.is (changed_among c run (with_released c w) xs n.number (releasing_leaves c w) u))
-      | inl r ↦ inr (rw n.is (sym left ∙ r))
+      | inl r ↦ inr (rw n.is (sym (left_is c w a limits (stand n.number n.unreleased)) ∙ r))
     ]
 
 pub released_terrain : (c : Config) (o : Object) (w : World) → IsWithinLimits c → length w.now.words.pages ≡ c.pages
@@ -64,6 +118,9 @@ pub released_terrain : (c : Config) (o : Object) (w : World) → IsWithinLimits 
     → is_released_in true w.now.words.snapshot w.now.words.marks run.page 0 ≡ false)
     → Laid c o true w (record (ground_of w) { allocations = map (with_released c w.now.words) w.allocations })
 released_terrain c o w limits len st kept =
+    let ys : List PlacedAllocation = map (with_released c w.now.words) w.allocations in
+    let own : List Claim = claims_of c w.now.seats.holding.freed w.allocations in
+    let placed : List Claim = claims_placed o w.now.seats.holding.placing in
     record {
       scene = layout_released (layout_scene_of c o false w.now.words.marks (ground_of w))
           (claims_of c w.now.seats.holding.freed ys ++ placed) st.scene refl (record {
@@ -87,15 +144,6 @@ released_terrain c o w limits len st kept =
       cells = cells_behind c (with_released c w.now.words) w.allocations (releasing_leaves c w.now.words) st.cells;
     }
   where
-    ys : List PlacedAllocation
-    ys = map (with_released c w.now.words) w.allocations
-
-    own : List Claim
-    own = claims_of c w.now.seats.holding.freed w.allocations
-
-    placed : List Claim
-    placed = claims_placed o w.now.seats.holding.placing
-
     was : (x : Claim) → Among x
         (claims_of c w.now.seats.holding.freed (map (with_released c w.now.words) w.allocations))
         → Among x (claims_of c w.now.seats.holding.freed w.allocations)

@@ -96,6 +96,7 @@ plot_emptied pages p (Plotted first o) lt stands =
 pub layout_emptied : (s : LayoutScene) (p : ℕ) → IsLaidOn s → p < length s.pages → s.releasing ≡ true
     → used_on s.pages (head_on s.pages p) ≡ 0 → IsLaidOn (Emptied s p)
 layout_emptied s p laid lt on z =
+    let unused : used_on s.pages p ≡ 0 = unused_by (shows_on s.pages p) refl z in
     record {
       shown = λ x among. shown_beside s.pages p 0 x lt (laid.shown x among) (unclaimed s p laid z x among);
       apart = laid.apart;
@@ -129,9 +130,6 @@ layout_emptied s p laid lt on z =
         → used_on s.pages p ≡ 0
     unused_by (Some (Later d m)) is z = cellless_unused s p laid (ap cells_under is)
     unused_by _ is z = z
-
-    unused : used_on s.pages p ≡ 0
-    unused = unused_by (shows_on s.pages p) refl z
 
     not_later : (m : Bool) (d : ℕ) → shows_on (with_header_on s.pages p 0) p ≡ Some (Later d m) → ⊥
     not_later m d is = let e : header_of 0 ≡ Some (Later d m) = ap header_of (sym (headed_here s.pages p 0 lt))

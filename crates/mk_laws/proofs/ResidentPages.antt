@@ -78,13 +78,12 @@ count_front (suc n) test = let rest = count_front n test in omega arith
 -- the count of the elements of a list that pass
 pub count_list : {A : Type 0} (xs : List A) (d : A) (test : A → Bool)
     → count_below (length xs) (λ p. test (slice_index_or xs p d)) ≡ count_by test xs
-count_list xs d test = is_count_by (λ ys. count_below (length ys) (λ p. test (slice_index_or ys p d))) test none
+count_list xs d test =
+    let none : count_below 0 (λ p. test d) ≡ 0 = no_numbers (λ p. test d) in
+    is_count_by (λ ys. count_below (length ys) (λ p. test (slice_index_or ys p d))) test none
     (λ x ys. count_front (length ys) (λ p. test (slice_index_or (x ∷ ys) p d))
     ∙ by (test x) (count_below (length ys) (λ p. test (slice_index_or ys p d)))) xs
   where
-    none : count_below 0 (λ p. test d) ≡ 0
-    none = no_numbers (λ p. test d)
-
     by : (b : Bool) (n : ℕ) → (if b then 1 else 0) + n ≡ cond b (1 + n) n
     by true n = refl
     by false n = omega arith

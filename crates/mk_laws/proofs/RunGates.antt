@@ -49,10 +49,9 @@ gates_stay c m (Caller j) step.Leave known h out k lt held = set_gate m.words.ga
   where
     own : k ≡ j → ◌≡◌ {A = ℕ} 0 2
     own e =
-        let idle = held_idle c (view_of m) k known.orderly lt held in
         let at = at_its_stage (flight_of m (Caller j)).stage (flight_of m (Caller j)).op step.Leave refl h.order in
         let here : (flight_of m (Caller j)).stage ≡ stage.Idle =
-        subst (λ i. (flight_of m (Caller i)).stage ≡ stage.Idle) e idle in
+        subst (λ i. (flight_of m (Caller i)).stage ≡ stage.Idle) e (held_idle c (view_of m) k known.orderly lt held) in
         cc
 gates_stay c m (Marker j) step.Leave known h out k lt held = let kind = h.kind in cc
 gates_stay c m Host step.Leave known h out k lt held = let kind = h.kind in cc

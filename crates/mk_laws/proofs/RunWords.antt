@@ -75,8 +75,7 @@ module _ (c : Config) (w : World) (known : KnownWorld c w) (laid : LayoutStands 
   not_mapped : (i : ℕ) → i < 64 * r.count → IsWordOfMapped c w.allocations (64 * r.page + i) → ⊥
   not_mapped i lt m =
       let a : PlacedAllocation = placed_at w.allocations m.number in
-      let u = mapped_stays c a m.mapped in
-      let l = laid_out c w known laid m.number u in
+      let l = laid_out c w known laid m.number (mapped_stays c a m.mapped) in
       let sized = typed_size c a known.limits l.stands.typed in
       let end = ends_on_pages (object_placed c a) a.base sized l.stands.begins in
       let from = m.word.0 in

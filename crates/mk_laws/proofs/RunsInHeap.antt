@@ -106,11 +106,7 @@ emptied_fits c w p n h = λ count shows.
     absurd (omega arith)
   where
     value_zero : empties w p n ≡ true → (n == 0) ≡ true
-    value_zero h = first_of_four (n == 0) _ _ _ h
-      where
-        first_of_four : (a b d e : Bool) → (a && b && d && e) ≡ true → a ≡ true
-        first_of_four true b d e h = refl
-        first_of_four false b d e h = cc
+    value_zero h = (and_parts (n == 0) _ (and_parts _ _ (and_parts _ _ h).0).0).0
 
 -- one page's header is set, or none
 

@@ -81,7 +81,6 @@ finds_one c s es e h other holds =
     let ne = other_seat s e.seat other in
     let own = left_after c w e.seat s e.step st.known.now last.meets ne in
     let stored = (told_to_zeros c w _ st.known st.all e last.on last.admitted).stored in
-    let turn = own.turn holds in
     let out : HoldsTurn c (view_of w.now) e.seat → ⊥ =
     λ t. ne (same_holder c (view_of w.now) e.seat s st.known.now.orderly t
     (holds_turn c w.now s st.known.now.orderly holds)) in
@@ -93,7 +92,7 @@ finds_one c s es e h other holds =
     rw last.leaves (record {
       holds = (own.own.holding holds).0;
       holding = (own.own.holding holds).1;
-      allocations = ap (λ (y : Steady). y.allocations) turn.steady;
+      allocations = ap (λ (y : Steady). y.allocations) (own.turn holds).steady;
       gone = gone_after c w e.seat e.step w.now.seats.holding.freed st.known st.all.order.laid refl last.meets stored;
       outside = heap_after c w e.seat e.step no_wipe stored;
     })

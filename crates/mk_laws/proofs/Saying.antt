@@ -19,7 +19,7 @@ use Rattle.mk_laws.proofs.Protocols.{protocol_of}
 use Rattle.mk_laws.specs.ImagesSay.{IsCellOfUnreleased, IsMappedWord}
 use Rattle.mk_laws.proofs.ImagesKept.{own_plain}
 use Rattle.mk_laws.proofs.Reached.{Reaches, reaches}
-use Rattle.mk_laws.proofs.ImagesFreeing.{decided_free_gives}
+use Rattle.mk_laws.proofs.FreedRuns.{decided_free_gives}
 use Rattle.mk_laws.proofs.FreeMoves.{pointer_cell}
 use Rattle.mk_laws.proofs.CallSorts.{call_outside, admitted_call, literal}
 

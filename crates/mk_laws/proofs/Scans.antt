@@ -186,9 +186,8 @@ seen_well c m x cell value is at h marked =
         here false e at = absurd (none-some _ at)
         here true e at =
             let now = (goes seen refl).cell value cell at in
-            let page = eqb-true seen.page _ e in
             let there : cell_at c.pages (header_at m.words (page_at_address value)) value ≡ Some cell
-            = rw page at now in
+            = rw (eqb-true seen.page _ e) at now in
             λ y is. rw (same_Some _ _ (sym there ∙ is)) at marked
 
 -- `mblack`: the scan is at its end, and no hand is open
@@ -199,9 +198,8 @@ scanned_guarded c m x st done f i lt = elim st.end [
   | inr e ↦ absurd (true≢false (sym e.1 ∙ f))
   | inl e ↦
       let le = past (nat_lt x.next x.end) refl done in
-      let next = st.next in
       by (64 * x.page + x.index * words_under (header_in m.words x.page) + i) (st.passed f _ (omega arith)
-      (omega (arith, le, next, e, lt)))
+      (omega (arith, le, st.next, e, lt)))
 ]
   where
     past : (b : Bool) → nat_lt x.next x.end ≡ b → not b ≡ true → x.end ≤ x.next

@@ -29,7 +29,7 @@ use Rattle.mk_core.specs.declared.events.Step.TheVariants as step
 use Rattle.mk_core.specs.declared.seats.Stage.TheVariants as stage
 use Rattle.mk_laws.proofs.FreedRuns.{never_after}
 use Rattle.mk_laws.proofs.ImagesHeldGates.{held_idle}
-use Rattle.mk_laws.proofs.AskedStill.{begins_nothing}
+use Rattle.mk_laws.proofs.FramesLongerLists.{begins_nothing}
 use Rattle.mk_laws.proofs.OthersLeave.{others_leave_headers, others_leave_wells}
 use Rattle.mk_laws.proofs.RunsStill.{holder_finds}
 

@@ -90,18 +90,16 @@ served_on f h g i s (Loads _ at stands no_new) =
 served_on f h g i s (Places _ new p q) =
     record { placed = λ e. new; granted = λ e. s.granted (p e); freed = λ e. s.freed (ap is_some (sym q) ∙ e) }
 served_on f h g i s (Fills new p) =
-    let none = new_gives_none f.stage f.op new in
     record {
       placed = λ e. let x : false ≡ true = ap has_place (sym p) ∙ e in cc;
       granted = λ e. new_decided f.stage f.op new;
-      freed = λ e. let x : true ≡ false = sym (s.freed e) ∙ none.1 in cc;
+      freed = λ e. let x : true ≡ false = sym (s.freed e) ∙ (new_gives_none f.stage f.op new).1 in cc;
     }
 served_on f h g i s (Grants new) =
-    let none = new_gives_none f.stage f.op new in
     record {
       placed = λ e. cc;
       granted = λ e. new_decided f.stage f.op new;
-      freed = λ e. let x : true ≡ false = sym (s.freed e) ∙ none.1 in cc;
+      freed = λ e. let x : true ≡ false = sym (s.freed e) ∙ (new_gives_none f.stage f.op new).1 in cc;
     }
 served_on f h g i s (Frees _ free p) =
     let none = free_gives_none f.stage f.op free in

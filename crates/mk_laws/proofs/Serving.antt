@@ -98,11 +98,10 @@ head_unmaps c o releasing w p n st h =
     in
     let next = h.next in
     let page = x.page in
-    let count = x.count in
     let near = next.near in
     let low = next.from in
     let at : x.claim.page + (p - h.run.page) ≡ p = omega arith in
-    let value : unmapped_header (pages_made x.claim.object) (p - h.run.page) ≡ n = rw count (sym next.is) in
+    let value : unmapped_header (pages_made x.claim.object) (p - h.run.page) ≡ n = rw x.count (sym next.is) in
     record {
       scene = subst (λ q. IsLaidOn (layout_scene_of c o releasing w.now.words.marks
           (record (ground_of w) { pages = with_header_on w.now.words.pages q n }))) at (rw value at
@@ -119,11 +118,10 @@ chosen_free : (c : Config) (o : Object) (releasing : Bool) (w : World) (place : 
     → FitsOnFreePages c.resident w.now.words.pages o place
     → Laid c o releasing w (record (ground_of w) { placing = Chosen place })
 chosen_free c o releasing w place st is sized fit =
-    let was = placed_as c o releasing w (ground_of w) Unplaced is st in
     record {
       scene = layout_chosen (layout_scene_of c o releasing w.now.words.marks (record (ground_of w) {
         placing = Unplaced;
-      })) place.page o was.scene refl sized fit.within fit.free;
+      })) place.page o (placed_as c o releasing w (ground_of w) Unplaced is st).scene refl sized fit.within fit.free;
       gone = st.gone;
       first = fit.index;
       cells = st.cells;

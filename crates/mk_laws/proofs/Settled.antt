@@ -12,7 +12,7 @@ use Rattle.mk_laws.specs.SettledPages.{FirstFitIsThePlace, HeadersStand, Unrelea
 use Rattle.mk_laws.specs.SettledPages.{is_freed_unmapped}
 use Rattle.mk_laws.proofs.Apart.{Rests}
 use Rattle.mk_laws.proofs.HeadersStand.{pages_stand}
-use Rattle.mk_laws.proofs.OneCell.{numbers_apart}
+use Rattle.mk_laws.proofs.ForImages.{numbers_apart}
 
 pub unreleased_stand : UnreleasedStand
 unreleased_stand c es limits laid i u =

@@ -25,9 +25,8 @@ use Rattle.mk_laws.proofs.Behind.{over_phase}
 use Rattle.mk_core.specs.StopConditions.{may_begin}
 use Rattle.mk_laws.proofs.LayoutByKind.{fresh_cells, off_at}
 use Rattle.mk_laws.proofs.Granted.{pushed_any, pushed_at}
-use Rattle.mk_laws.proofs.OneCell.{numbers_apart}
-use Rattle.mk_laws.proofs.Released.{left_is}
-use Rattle.mk_laws.proofs.StandingClaims.{place_index}
+use Rattle.mk_laws.proofs.ForImages.{numbers_apart}
+use Rattle.mk_laws.proofs.Released.{left_is, place_index}
 
 -- What is fresh and what is in the snapshot, after a `quar`.
 
@@ -93,17 +92,16 @@ quar_frees : (c : Config) (w : World) (cell : Cell) (n : ℕ) → FreesHere c w 
     → HasQuarantine c false w.now.words.marks (ground_of w) → KeepsSnapshot c w
     → HasSnapshot c (is_cycling (phase_of w.now.words)) (slice_set w.now.words.snapshot cell.page (n / 2 ^ 32))
     (map (freed_where_it_stands w.now.words (Some cell)) w.allocations)
-quar_frees c w cell n x q s = rw same (record {
-  fresh = λ i f. fresh i (stands_in w.now.words cell (placed_at w.allocations i)) refl f;
-  quarantined = λ on i u.
-      let b = before_change c (freed_where_it_stands w.now.words (Some cell)) w.allocations i leaves u in
-      ap (λ (y : Cell). has_bit (slice_index w.now.words.snapshot y.page) y.index) b.cell
-      ∙ bit on i b.was (stands_in w.now.words cell (placed_at w.allocations i)) refl ∙ sym (rw (at i));
-})
+quar_frees c w cell n x q s =
+    let leaves : LeavesCells (freed_where_it_stands w.now.words (Some cell)) = freeing_leaves w.now.words (Some cell) in
+    rw same (record {
+      fresh = λ i f. fresh i (stands_in w.now.words cell (placed_at w.allocations i)) refl f;
+      quarantined = λ on i u.
+          let b = before_change c (freed_where_it_stands w.now.words (Some cell)) w.allocations i leaves u in
+          ap (λ (y : Cell). has_bit (slice_index w.now.words.snapshot y.page) y.index) b.cell
+          ∙ bit on i b.was (stands_in w.now.words cell (placed_at w.allocations i)) refl ∙ sym (rw (at i));
+    })
   where
-    leaves : LeavesCells (freed_where_it_stands w.now.words (Some cell))
-    leaves = freeing_leaves w.now.words (Some cell)
-
     same : slice_set w.now.words.snapshot cell.page (n / 2 ^ 32) ≡ w.now.words.snapshot
     same = rw (free_halves c w cell n x q).1 (set-get_or w.now.words.snapshot cell.page 0)
 

@@ -31,9 +31,8 @@ enabled_at c es kind at h =
 -- An unreleased phase is one of a cycle's.
 pub unreleased_cycles : (p : ℕ) → IsUnreleased p → (is_cycling p ≡ true) × (p ≢ 4)
 unreleased_cycles p u =
-    let least = u.least in
     let most = u.most in
-    (and_from (nat_le 1 p) (nat_le p 4) (le-leb 1 p least) (le-leb p 4 (omega arith)), λ e. absurd (omega arith))
+    (and_from (nat_le 1 p) (nat_le p 4) (le-leb 1 p u.least) (le-leb p 4 (omega arith)), λ e. absurd (omega arith))
 
 -- what stands after a `begin` where nothing was released since
 pub begun_world : (c : Config) (w : World) (e : Event) (es : List Event) → AreEnabledFrom c w (e ∷ es)

@@ -68,14 +68,18 @@ giving phase (inr over) = ne_eqb phase 4 (λ four. omega arith)
 exact_at_give : (c : Config) (es : List Event) (seat : Seat) → IsHistory c es → Meets c (left c es).now seat step.Give
     → TalliesAreExact c es
 exact_at_give c es seat h meets =
+    let m : Moment = (left c es).now in
+    let f : Flight = flight_of m seat in
+    let known : Known c m = known_left c es h.within_limits h.enabled in
+    let gone : Bool = is_run_gone m.words m.seats.holding.freed in
+    let held : Bool = m.words.held == held_by_pages m.words in
     let a = and_parts (is_decided f.stage && gone && held) (m.words.fresh == m.fresh_words) meets.holder in
     let b = and_parts (is_decided f.stage && gone) held a.0 in
     let d = and_parts (is_decided f.stage) gone b.0 in
-    let holds = giver_has_turn c m seat known meets in
     let settled : IsSettled (left c es) = record {
       releasing = giving (phase_of m.words) (give_phase (phase_of m.words) meets.phase);
       placing = false_from_ne_true (has_place m.seats.holding.placing)
-          (λ has. decided_no_new f d.0 (placed_undecided c m seat known holds has));
+          (λ has. decided_no_new f d.0 (placed_undecided c m seat known (giver_has_turn c m seat known meets) has));
       unmapped = gone_is_unmapped m.words m.seats.holding.freed d.1;
     } in
     let shown = pages_show_the_storage c es h settled in
@@ -84,21 +88,6 @@ exact_at_give c es seat h meets =
           ∙ pages_hold_mapped_words m.words.pages (unreleased_storage c (left c es).allocations) shown;
       fresh = eqb-true m.words.fresh m.fresh_words a.1 ∙ fresh_is_told c es h;
     }
-  where
-    m : Moment
-    m = (left c es).now
-
-    f : Flight
-    f = flight_of m seat
-
-    known : Known c m
-    known = known_left c es h.within_limits h.enabled
-
-    gone : Bool
-    gone = is_run_gone m.words m.seats.holding.freed
-
-    held : Bool
-    held = m.words.held == held_by_pages m.words
 
 pub tallies_are_exact_at_gives : OfHistories TalliesAreExactAtGives
 tallies_are_exact_at_gives c es h before e behind is gives =

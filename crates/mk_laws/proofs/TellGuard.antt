@@ -17,7 +17,7 @@ use Rattle.mk_laws.proofs.Vocabulary.{used_on, ℕ, ◌&&◌, ◌*◌, ◌+◌, 
 use Rattle.mk_laws.proofs.Basics.{Known, KnownWorld, Laid, all_stand, claimed, first_header, holding_object}
 use Rattle.mk_laws.proofs.Basics.{known_world, made_sized, mapped_stays, new_has_turn, placed_claim, zero_where_none}
 use Rattle.mk_laws.proofs.Fits.{fits}
-use Rattle.mk_laws.proofs.OnClaims.{find_bit}
+use Rattle.mk_laws.proofs.WholeRuns.{find_bit}
 use Rattle.mk_laws.proofs.QuarantineByKind.{shown_at}
 use Rattle.mk_laws.proofs.LayoutReadings.{header_of_mode, claimed_head}
 use Rattle.mk_laws.specs.Kept.{PlaceIsBare, RunHasObject, LaterPagesAreKnown, StandsMapped}
@@ -34,24 +34,23 @@ run_part o distance count mapped x (OfLeafRun first large leaf) is = (first, sym
 run_part o distance count mapped x _ is = absurd (false≢true (ap heads_run is))
 
 pub later_pages : (c : Config) (w : World) → Unreleasing c w → LaterPagesAreKnown w.now.words
-later_pages c w q p count distance is some lt = elim (cases_eq (used_on w.now.words.pages p) 0) [
-  | inl empty ↦ elim (q.laid.scene.occupied p headed (ap (λ i. used_on w.now.words.pages i) own ∙ empty)) [
-    | inl on ↦ absurd (false≢true on)
-    | inr here ↦ by_plot (plot_of (object_now c w.now) w.now.seats.holding.placing) q.laid.scene.plot here
-  ]
-  | inr used ↦ elim (find_bit (used_on w.now.words.pages p) (cells_under (shows_on w.now.words.pages p))) [
-    | inr none ↦ absurd (used (zero_where_none (used_on w.now.words.pages p)
-        (λ k h. let t = q.laid.scene.used p k h in true≢false (sym h ∙ none k t.0))))
-    | inl (k, bit) ↦ elim ((q.laid.scene.used p k bit).1) [
-      | inl claimed ↦ inl (by_claim k claimed)
-      | inr released ↦ absurd (false≢true released)
+later_pages c w q p count distance is some lt =
+    let own : head_on w.now.words.pages p ≡ p = ap (λ (x : Option Header). head_page_under x p) is in
+    elim (cases_eq (used_on w.now.words.pages p) 0) [
+      | inl empty ↦ elim (q.laid.scene.occupied p headed (ap (λ i. used_on w.now.words.pages i) own ∙ empty)) [
+        | inl on ↦ absurd (false≢true on)
+        | inr here ↦ by_plot (plot_of (object_now c w.now) w.now.seats.holding.placing) q.laid.scene.plot here
+      ]
+      | inr used ↦ elim (find_bit (used_on w.now.words.pages p) (cells_under (shows_on w.now.words.pages p))) [
+        | inr none ↦ absurd (used (zero_where_none (used_on w.now.words.pages p)
+            (λ k h. let t = q.laid.scene.used p k h in true≢false (sym h ∙ none k t.0))))
+        | inl (k, bit) ↦ elim ((q.laid.scene.used p k bit).1) [
+          | inl claimed ↦ inl (by_claim k claimed)
+          | inr released ↦ absurd (false≢true released)
+        ]
+      ]
     ]
-  ]
-]
   where
-    own : head_on w.now.words.pages p ≡ p
-    own = ap (λ (x : Option Header). head_page_under x p) is
-
     headed : header_on w.now.words.pages p ≢ 0
     headed z = true≢false (sym (ap heads_run is) ∙ ap (λ h. heads_run (header_of h)) z)
 
@@ -185,7 +184,6 @@ mapped_stands : (c : Config) (w : World) (i : ℕ) → AreOfPages c.pages w.now.
 mapped_stands c w i lengths laid mapped =
     let a : PlacedAllocation = placed_at w.allocations i in
     let u = mapped_stays c a mapped in
-    let shown = shown_at c w i laid u in
     let going : Bool = is_unmapping w.now.seats.holding.freed (a.base / 64) in
     let unmapped : (a.freed && is_large (kinds_of c.types a.ty)) ≡ false =
     not-true (a.freed && is_large (kinds_of c.types a.ty))
@@ -197,7 +195,7 @@ mapped_stands c w i lengths laid mapped =
       stands = (all_stand c (object_now c w.now) (is_phase w.now.words 4) w lengths.pages laid i u).stands;
       headers = λ d lt. subst
           (λ (x : Mode). HasHeader x (object_placed c a) d (header_on w.now.words.pages (a.base / 64 + d))) mode
-          (shown.headers d lt);
+          ((shown_at c w i laid u).headers d lt);
     }
 
 -- All of it

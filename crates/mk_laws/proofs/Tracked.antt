@@ -60,9 +60,8 @@ pub unplaced_settles : (c : Config) (es : List Event) (k : ℕ) → IsHistory c 
     → IsSettled (left c es)
 unplaced_settles c es k h lt new off at =
     let w : World = left c es in
-    let undecided = undecided_new (flight_of w.now (Caller k)) new in
     let none = none_on_its_way c w.now (Caller k) (known_left c es h.within_limits h.enabled)
-    (new_holds_turn c w k lt new) undecided.stage in
+    (new_holds_turn c w k lt new) (undecided_new (flight_of w.now (Caller k)) new).stage in
     record {
       releasing = off;
       placing = ap (λ (p : Placing). has_place p) at;
@@ -132,6 +131,7 @@ tracked_behind : (c : Config) (es : List Event) (seat : Seat) (x : Step) (k : �
     → HasNew (WorldBehind c (left c es) seat x) k → TrackedBehind c es seat x k
 unfolding NoneServesFrom
 tracked_behind c es seat x k (IsTaken o own take free begun) all h meets lt new =
+    let v : World = WorldBehind c (left c es) seat x in
     record {
       turn = turn;
       placed =
@@ -139,9 +139,6 @@ tracked_behind c es seat x k (IsTaken o own take free begun) all h meets lt new 
       cycle = subst (λ (y : Holding). HasCycle [] y.cycle (phase_of v.now.words)) (sym begun) tt;
     }
   where
-    v : World
-    v = WorldBehind c (left c es) seat x
-
     turn : TurnOf c (Caller k) (es ++ record { seat = seat; step = x } ∷ [])
     turn =
         record {
@@ -154,6 +151,11 @@ tracked_behind c es seat x k (IsTaken o own take free begun) all h meets lt new 
           goes_on = refl;
         }
 tracked_behind c es seat x k (WasNew same) all h meets lt new =
+    let was : HasNew (left c es) k = ap (λ (f : Flight). is_undecided_new f) (sym same) ∙ new in
+    let w : World = left c es in
+    let v : World = WorldBehind c (left c es) seat x in
+    let o : Object = new_object c (left c es) k in
+    let t : Tracked c es (left c es) k = all k lt was in
     record {
       turn = longer_turn t.turn e on;
       placed = subst
@@ -166,26 +168,11 @@ tracked_behind c es seat x k (WasNew same) all h meets lt new =
           t.cycle;
     }
   where
-    w : World
-    w = left c es
-
-    v : World
-    v = WorldBehind c (left c es) seat x
-
     e : Event
     e = record { seat = seat; step = x }
 
-    o : Object
-    o = new_object c (left c es) k
-
     known : Known c (left c es).now
     known = known_left c es h.within_limits h.enabled
-
-    was : HasNew (left c es) k
-    was = ap (λ (f : Flight). is_undecided_new f) (sym same) ∙ new
-
-    t : Tracked c es (left c es) k
-    t = all k lt was
 
     on : gives_turn (Caller k) (record { seat = seat; step = x }) ≡ false
     on = gives_off c (left c es) seat x k known lt new

@@ -20,7 +20,7 @@ use Rattle.mk_core.specs.declared.seats.Stage.TheVariants as stage
 use Rattle.mk_core.specs.Allocations.{type_made}
 use Rattle.mk_core.specs.Effects.{progress_look}
 use Rattle.mk_core.proofs.PlacesNow.{target_is}
-use Rattle.mk_laws.proofs.ImagesFreeing.{new_frees_none}
+use Rattle.mk_laws.proofs.FreedRuns.{new_frees_none}
 use Rattle.mk_laws.proofs.ImagesKept.{fresh_one}
 use Rattle.mk_laws.proofs.GrantMoves.{fills_cell, place_is_zero}
 use Rattle.mk_laws.proofs.Ready.{one_right}

@@ -76,6 +76,7 @@ pub data NewCame (c : Config) (w : World) (seat : Seat) (x : Step) (k : ℕ) : T
 own_came : (c : Config) (w : World) (k : ℕ) (x : Step) → Known c w.now → Meets c w.now (Caller k) x
     → HasNew (WorldBehind c w (Caller k) x) k → NewCame c w (Caller k) x k
 own_came c w k x known h new =
+    let v : World = WorldBehind c w (Caller k) x in
     elim (came c (view_of w.now) k (view_of v.now) (event_moves c w.now (Caller k) x known.orderly h) new) [
       | inl same ↦ WasNew same
       | inr free ↦
@@ -84,9 +85,6 @@ own_came c w k x known h new =
           (taken take.op free.0 (subst (λ (y : Step). Meets c w.now (Caller k) y) take.is h))
     ]
   where
-    v : World
-    v = WorldBehind c w (Caller k) x
-
     taken : (o : Option Op) → w.now.words.turn ≡ 0 → Meets c w.now (Caller k) (step.Take o)
         → NewCame c w (Caller k) (step.Take o) k
     taken (Some o) free h = IsTaken o refl refl free

@@ -1,24 +1,93 @@
 -- Runs are whole, after each event.
 use Rattle.mk_laws.proofs.Vocabulary.{Among, Bool, Claim, Config, Empties, Flight, GivesBack, HeadStep, Header, InPlot}
-use Rattle.mk_laws.proofs.Vocabulary.{IsLaidOn, ItCarves, ItEmpties, ItGivesBack, ItTakes, ItUnmaps, Later, LayoutScene}
-use Rattle.mk_laws.proofs.Vocabulary.{LayoutStands, List, NoPlot, Object, Option, Page, Plot, PlotStands, Plotted, Run}
-use Rattle.mk_laws.proofs.Vocabulary.{Seat, ShowsPart, Some, Step, UsedStep, Words, World, ap, arith, cases_Bool}
-use Rattle.mk_laws.proofs.Vocabulary.{cases_eq, cells_under, false, fewer_bits, flight_of, ground_of, head_on}
-use Rattle.mk_laws.proofs.Vocabulary.{head_page, head_page_under, head_step, header_made, header_of, header_on}
-use Rattle.mk_laws.proofs.Vocabulary.{heads_run, inl, inr, is_phase, is_small_object, layout_scene_of, length}
-use Rattle.mk_laws.proofs.Vocabulary.{length-set, made_shows, object_now, pages_made, pages_some, plot_of, refl}
-use Rattle.mk_laws.proofs.Vocabulary.{run_count, shows_on, small_heads_none, stands, subst, sym, true, true≢false}
-use Rattle.mk_laws.proofs.Vocabulary.{used_on, used_step, ℕ, ◌+◌, ◌-◌, ◌<◌, ◌∙◌, ◌≡◌, ◌≢◌, ◌⊎◌}
+use Rattle.mk_laws.proofs.Vocabulary.{IsClaimed, IsLaidOn, ItCarves, ItEmpties, ItGivesBack, ItTakes, ItUnmaps, Later}
+use Rattle.mk_laws.proofs.Vocabulary.{LayoutScene, LayoutStands, List, NoPlot, Object, Option, Page, Plot, PlotStands}
+use Rattle.mk_laws.proofs.Vocabulary.{Plotted, Run, Seat, ShowsPart, Some, Step, UsedStep, Words, World, ap, arith}
+use Rattle.mk_laws.proofs.Vocabulary.{cases_Bool, cases_eq, cells_under, false, fewer_bits, flight_of, found, ground_of}
+use Rattle.mk_laws.proofs.Vocabulary.{has_bit, head_on, head_page, head_page_under, head_step, header_made, header_of}
+use Rattle.mk_laws.proofs.Vocabulary.{header_on, heads_run, inl, inr, is_phase, is_released_on, is_small_object}
+use Rattle.mk_laws.proofs.Vocabulary.{layout_scene_of, length, length-set, made_shows, object_now, pages_made}
+use Rattle.mk_laws.proofs.Vocabulary.{pages_some, plot_of, refl, run_count, shows_on, small_heads_none, stands, subst}
+use Rattle.mk_laws.proofs.Vocabulary.{suc, sym, true, true≢false, used_on, used_step, zero, ℕ, ◌+◌, ◌-◌, ◌<◌, ◌∙◌, ◌≡◌}
+use Rattle.mk_laws.proofs.Vocabulary.{◌≢◌, ◌⊎◌}
 use Rattle.mk_laws.proofs.Basics.{Before, Meets, WorldBehind, claimed, headed_other, is_releasing_behind, none_set}
 use Rattle.mk_laws.proofs.Basics.{page_within, reg_leaves_ground, tally_ground, used_header, with_header_on}
 use Rattle.mk_laws.proofs.Basics.{with_used_on, zero_where_none}
+use Rattle.mk_laws.proofs.Unmapping.{part_count, small_count}
 use Rattle.mk_core.specs.declared.events.Step.TheVariants as step
 use Rattle.mk_core.proofs.ObjectHeaders.{later_part}
 use Rattle.mk_laws.specs.WholeRuns.{HasLaterPage, HaveWholeRuns, RunIsWhole, RunsAreWhole}
 use Rattle.mk_laws.proofs.Behind.{phase_kind}
-use Rattle.mk_laws.proofs.OnClaims.{find_bit}
 use Rattle.mk_laws.proofs.Releasing.{headed_here, headed_used, used_here, used_other}
-use Rattle.mk_laws.proofs.Unmapping.{part_count}
+
+-- Where nothing is on its way, each page with a header is one of a claim's.
+
+-- a bit below a bound, or none
+pub find_bit : (n bound : ℕ) → ((k : ℕ) × (has_bit n k ≡ true)) ⊎ ((k : ℕ) → k < bound → has_bit n k ≡ false)
+find_bit n zero = inr (λ k lt. absurd (omega arith))
+find_bit n (suc b) = elim (cases_Bool (has_bit n b)) [
+  | inl is ↦ inl (b, is)
+  | inr out ↦ elim (find_bit n b) [
+    | inl found ↦ inl found
+    | inr none ↦ inr (λ k lt. elim (cases_eq k b) [ inl e ↦ rw e out | inr ne ↦ none k (omega arith) ])
+  ]
+]
+
+head_cases : (x : Option Header) (p : ℕ) → (head_page_under x p ≡ p) ⊎ ((d : ℕ) × ((m : Bool) × (x ≡ Some (Later d m))))
+head_cases (Some (Later d m)) p = inr (d, (m, refl))
+head_cases _ p = inl refl
+
+-- the page is one of a claim's
+pub record IsOn (sc : LayoutScene) (p : ℕ) : Type 0 where
+  pub claim : Claim
+  pub among : Among claim sc.claims
+  pub distance : ℕ
+  pub near : distance < pages_made claim.object
+  pub at : claim.page + distance ≡ p
+
+pub on_claim : (sc : LayoutScene) (p : ℕ) → IsLaidOn sc → sc.plot ≡ NoPlot → sc.releasing ≡ false
+    → header_on sc.pages p ≢ 0 → IsOn sc p
+on_claim sc p laid none off some =
+    elim (find_bit (used_on sc.pages (head_on sc.pages p)) (cells_under (shows_on sc.pages (head_on sc.pages p)))) [
+      | inr no_bits ↦
+          let empty : used_on sc.pages (head_on sc.pages p) ≡ 0 =
+          zero_where_none (used_on sc.pages (head_on sc.pages p))
+          (λ k h. let t = laid.used (head_on sc.pages p) k h in true≢false (sym h ∙ no_bits k t.0)) in
+          absurd (elim (laid.occupied p some empty) [ inl on ↦ true≢false (sym on ∙ off) | inr here ↦ rw none at here ])
+      | inl (k, bit) ↦ owned k ((laid.used (head_on sc.pages p) k bit).1)
+    ]
+  where
+    -- from its head, where the page is a later one
+    later : (x : Claim) → Among x sc.claims → x.page ≡ head_on sc.pages p → (d : ℕ) (m : Bool)
+        → shows_on sc.pages p ≡ Some (Later d m) → IsOn sc p
+    later x ix page d m is =
+        let l = laid.later p d m is in
+        let low = l.0 in
+        let shown = laid.shown x ix in
+        let back : x.page ≡ p - d = page ∙ rw is in
+        let zero : x.page + 0 ≡ p - d = omega arith in
+        let some = pages_some x.object shown.sized in
+        let part : ShowsPart x.object 0 (shows_on sc.pages (p - d)) =
+        rw zero at (claimed sc.pages x 0 shown (omega arith)) in
+        let less : d < run_count (shows_on sc.pages (p - d)) =
+        elim l.1 [ inl less ↦ less | inr lost ↦ absurd (true≢false (sym lost.0 ∙ off)) ] in
+        elim (cases_Bool (is_small_object x.object)) [
+          | inl s ↦ let none = small_count x.object (shows_on sc.pages (p - d)) part s in absurd (omega arith)
+          | inr large ↦
+              let count = part_count x.object (shows_on sc.pages (p - d)) part large in
+              record { claim = x; among = ix; distance = d; near = omega arith; at = omega arith }
+        ]
+
+    owned : (k : ℕ) → IsClaimed sc.claims (head_on sc.pages p) k ⊎ (is_released_on sc (head_on sc.pages p) k ≡ true)
+        → IsOn sc p
+    owned k (inr r) = absurd (true≢false (sym r ∙ rw off))
+    owned k (inl o) = elim (head_cases (shows_on sc.pages p) p) [
+      | inl own ↦
+          let page = o.page in
+          let some = pages_some o.claim.object (laid.shown o.claim o.among).sized in
+          record { claim = o.claim; among = o.among; distance = 0; near = omega arith; at = omega arith }
+      | inr (d, (m, is)) ↦ later o.claim o.among o.page d m is
+    ]
 
 -- what heads a run is its own head
 own_head : (x : Option Header) (p : ℕ) → heads_run x ≡ true → head_page_under x p ≡ p
@@ -53,8 +122,7 @@ claimed_run s x p laid ix page h =
     let some = pages_some x.object shown.sized in
     let zero : x.page + 0 ≡ p = omega arith in
     let part : ShowsPart x.object 0 (shows_on s.pages p) = rw zero at (claimed s.pages x 0 shown (omega arith)) in
-    let large = heads_large x.object (shows_on s.pages p) part h in
-    let count = part_count x.object (shows_on s.pages p) part large in
+    let count = part_count x.object (shows_on s.pages p) part (heads_large x.object (shows_on s.pages p) part h) in
     let within = shown.within in
     record {
       within = omega arith;
@@ -85,8 +153,7 @@ plotted_run s (Plotted first o) p is stands here h =
         let none = heads_first o (p - first) (shows_on s.pages p) part h in
         let page : p ≡ first = omega arith in
         let front : ShowsPart o 0 (shows_on s.pages p) = rw none at part in
-        let large = heads_large o (shows_on s.pages p) front h in
-        let count = part_count o (shows_on s.pages p) front large in
+        let count = part_count o (shows_on s.pages p) front (heads_large o (shows_on s.pages p) front h) in
         let within = stands.within in
         let zero : first + 0 ≡ p = omega arith in
         let some = pages_some o stands.sized in

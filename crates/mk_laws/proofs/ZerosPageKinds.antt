@@ -210,11 +210,10 @@ word_of_freed c w cell n limits m st in_cell = by (stands_in w.now.words cell a)
     in_run : cell_of_allocation c a ≡ cell → is_small_object (object_placed c a) ≡ false
         → IsFreedWord (run_of_cell w.now.words (Some cell)) n
     in_run is large =
-        let sized = typed_size c a limits st.stands.typed in
         let page : a.base / 64 ≡ cell.page = ap (λ (x : Cell). x.page) is in
         let part : ShowsPart (object_placed c a) 0 (header_in w.now.words cell.page) =
         subst (λ p. ShowsPart (object_placed c a) 0 (header_in w.now.words p)) page
-        (first_page_shows c w.now.words a sized st.headers) in
+        (first_page_shows c w.now.words a (typed_size c a limits st.stands.typed) st.headers) in
         let first = (run_begins (object_placed c a) a.base large st.stands.begins).1 in
         let words : storage_words c a ≡ 64 * pages_made (object_placed c a) = large_words (object_placed c a) large in
         let from : a.base ≤ n = m.word.0 in
