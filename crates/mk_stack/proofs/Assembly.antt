@@ -1,18 +1,8 @@
 -- One step of a caller: what has to be shown of it, and the invariant after it.
-use Rattle.std.proofs.Common.{◌≡◌, ◌≢◌, ℕ, ◌+◌, ◌<◌, List, sym, ◌∙◌, ap}
-use Rattle.std.proofs.Common.{Some, None, Option, arith, add-zero}
-use Rattle.mk_never.specs.declared.operations.Op.{Op}
-use Rattle.mk_never.specs.NeverHeap.{NeverState, register_at, bit}
-use Rattle.mk_stack.specs.declared.jobs.Job.{Job}
-use Rattle.mk_stack.specs.declared.jobs.Job.TheVariants.{Push, Pop}
-use Rattle.mk_stack.specs.declared.jobs.Done.{Done}
-use Rattle.mk_stack.specs.Jobs.{Replied}
-use Rattle.mk_stack.specs.declared.points.Point.{Point}
-use Rattle.mk_stack.specs.declared.points.Point.TheVariants.{Founding, Placing, Founded, Starting, Checking, Making}
-use Rattle.mk_stack.specs.declared.points.Point.TheVariants.{Filling, Looking, Linking}
-use Rattle.mk_stack.specs.declared.points.Point.TheVariants.{Publishing}
-use Rattle.mk_stack.specs.Orders.{Ordered, left_by}
-use Rattle.mk_stack.specs.Laws.{numbers_in, freed_by}
+use Rattle.std.proofs.Common.{◌≡◌, ◌≢◌, ℕ, ◌+◌, ◌<◌, List, sym, ◌∙◌, ap, Some, None, Option, arith, add-zero}
+use Rattle.mk_stack.proofs.Vocabulary.{Checking, Done, Filling, Founded, Founding, Job, Linking, Looking, Making}
+use Rattle.mk_stack.proofs.Vocabulary.{NeverState, Op, Ordered, Placing, Point, Pop, Publishing, Push, Replied}
+use Rattle.mk_stack.proofs.Vocabulary.{Starting, bit, freed_by, left_by, numbers_in, register_at}
 use Rattle.mk_stack.proofs.Roles.{Role, Private, Taken, is_gone, put, put_by}
 use Rattle.mk_stack.proofs.Invariant.{Core, Local, IsHeld, IsPushing, IsFreeing, Work, Inv}
 use Rattle.mk_stack.proofs.Frames.{Leaves, local_stays}
@@ -62,10 +52,10 @@ pub record Stepped (callers : ℕ) (n : NeverState) (role : ℕ → Role) (nodes
   pub frees : (a : ℕ) → bit (is_gone (role_now a)) ≡ bit (is_gone (role a)) + freed_by a n c o
 
 -- How its own nodes stay known to a caller
-pub held_on : (n m : NeverState) (r : Role) (c a : ℕ) (s next : Point) → IsHeld n r c a s
+pub held_on : {n : NeverState} (m : NeverState) {r : Role} {c a : ℕ} {s : Point} (next : Point) → IsHeld n r c a s
     → (IsPushing s → IsPushing next × (register_at m c 1 ≡ register_at n c 1))
     → (IsFreeing s → IsFreeing next × (register_at m c 2 ≡ register_at n c 2)) → IsHeld m r c a next
-held_on n m r c a s next held pushing freeing =
+held_on m next held pushing freeing =
     record {
       pushing = λ e. let old = held.pushing e in let on = pushing old.0 in (on.0, on.1 ∙ old.1);
       freeing = λ e. let old = held.freeing e in let on = freeing old.0 in (on.0, on.1 ∙ old.1);
@@ -76,32 +66,28 @@ pub record HeldBefore (k : ℕ) (r r' : Role) : Type 0 where
   pub pushing : r' ≡ Private k → r ≡ Private k
   pub freeing : r' ≡ Taken k → r ≡ Taken k
 
-held_stays : (n m : NeverState) (r r' : Role) (k a : ℕ) (s : Point) → IsHeld n r k a s → HeldBefore k r r'
+held_stays : {n : NeverState} (m : NeverState) {r r' : Role} {k a : ℕ} {s : Point} → IsHeld n r k a s
+    → HeldBefore k r r'
     → ((x : ℕ) → x < 8 → register_at m k x ≡ register_at n k x) → IsHeld m r' k a s
-held_stays n m r r' k a s held before registers =
+held_stays m held before registers =
     record {
       pushing = λ e. let old = held.pushing (before.pushing e) in (old.0, registers 1 (omega arith) ∙ old.1);
       freeing = λ e. let old = held.freeing (before.freeing e) in (old.0, registers 2 (omega arith) ∙ old.1);
     }
 
-module _ (callers : ℕ) (n : NeverState) (top : Option ℕ) (role : ℕ → Role) (nodes : List ℕ) (W : ℕ → Work)
+module _ {callers : ℕ} {n : NeverState} {top : Option ℕ} {role : ℕ → Role} {nodes : List ℕ} {W : ℕ → Work}
     (inv : Inv callers n top role nodes W) (c : ℕ) where
   pub assemble : (m : NeverState) (top' : Option ℕ) (role' : ℕ → Role) (nodes' : List ℕ) (w : Work)
-      → Core callers m top' role' nodes'
-      → ((k : ℕ) → k ≢ c → Leaves n top role m top' role' k)
-      → ((k a : ℕ) → k ≢ c → HeldBefore k (role a) (role' a))
-      → Local m top' role' c w.point w.decided
-      → ((a : ℕ) → IsHeld m (role' a) c a w.point)
-      → Inv callers m top' role' nodes' (put W c w)
+      → Core callers m top' role' nodes' → ((k : ℕ) → k ≢ c → Leaves n top role m top' role' k)
+      → ((k a : ℕ) → k ≢ c → HeldBefore k (role a) (role' a)) → Local m top' role' c w.point w.decided
+      → ((a : ℕ) → IsHeld m (role' a) c a w.point) → Inv callers m top' role' nodes' (put W c w)
   assemble m top' role' nodes' w core leaves before local held =
       record {
         core = core;
         local = put_by (λ (k : ℕ) (x : Work). Local m top' role' k x.point x.decided) W c w local
             (λ k other. local_stays n top role m top' role' k (leaves k other) (W k).point (W k).decided (inv.local k));
         held = λ k a. put_by (λ (j : ℕ) (x : Work). IsHeld m (role' a) j a x.point) W c w (held a)
-            (λ j other. held_stays n m (role a) (role' a) j a (W j).point (inv.held j a) (before j a other)
-            (leaves j other).registers)
-            k;
+            (λ j other. held_stays m (inv.held j a) (before j a other) (leaves j other).registers) k;
       }
 
 -- Where no role changes, nothing is freed,

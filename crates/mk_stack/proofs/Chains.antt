@@ -1,9 +1,7 @@
 -- Chains of nodes: where their words stay, they stay, and have the same numbers.
 use Rattle.std.proofs.Common.{◌≡◌, ◌≢◌, ℕ, List, [], ◌∷◌, refl, sym, ◌∙◌, ap, ap₂, subst, inl, inr, Some, None, Option}
-use Rattle.mk_never.specs.declared.values.Value.{Value}
-use Rattle.mk_never.specs.declared.values.Value.TheVariants.{Null}
-use Rattle.mk_never.specs.NeverHeap.{NeverState, global_at, word_at, number_of}
-use Rattle.mk_stack.specs.Laws.{IsOneOf, numbers_in, AreLinked, uppermost}
+use Rattle.mk_stack.proofs.Vocabulary.{IsOneOf, NeverState, Null, Value, global_at, number_of, numbers_in, word_at}
+use Rattle.mk_stack.specs.Laws.{AreLinked, uppermost}
 use Rattle.mk_stack.proofs.Roles.{Role, Base, Stacked}
 use Rattle.mk_stack.proofs.Invariant.{IsNotAmong, IsChain, HasChain}
 
@@ -50,14 +48,12 @@ numbers_stay n m role v (a ∷ nodes) stays chain =
 pub all_numbers_stay : (n m : NeverState) (top : Option ℕ) (role : ℕ → Role) (nodes : List ℕ)
     → ((a : ℕ) → role a ≡ Stacked → word_at m a 0 ≡ word_at n a 0)
     → HasChain n top role nodes → numbers_in m nodes ≡ numbers_in n nodes
-all_numbers_stay n m None role nodes stays chain =
-    ap (λ (l : List ℕ). numbers_in m l) chain.1 ∙ sym (ap (λ (l : List ℕ). numbers_in n l) chain.1)
+all_numbers_stay n m None role nodes stays chain = ap (numbers_in m) chain.1 ∙ sym (ap (numbers_in n) chain.1)
 all_numbers_stay n m (Some t) role nodes stays chain = numbers_stay n m role (word_at n t 0) nodes stays chain.2
 
 -- The chain stays where the global, the top's word and the nodes' links do.
 pub has_chain_stays : (n m : NeverState) (top : Option ℕ) (role role' : ℕ → Role) (nodes : List ℕ)
-    → global_at m 0 ≡ global_at n 0
-    → ((t : ℕ) → role t ≡ Base → (role' t ≡ Base) × (word_at m t 0 ≡ word_at n t 0))
+    → global_at m 0 ≡ global_at n 0 → ((t : ℕ) → role t ≡ Base → (role' t ≡ Base) × (word_at m t 0 ≡ word_at n t 0))
     → ((a : ℕ) → IsOneOf a nodes → role a ≡ Stacked → NodeStays n m role' a)
     → HasChain n top role nodes → HasChain m top role' nodes
 has_chain_stays n m None role role' nodes global base stays chain = (global ∙ chain.0, chain.1)
@@ -77,8 +73,7 @@ linked n role v (a ∷ nodes) chain = (chain.0, linked n role (word_at n a 1) no
 pub stack_is_linked : (n : NeverState) (top : Option ℕ) (role : ℕ → Role) (nodes : List ℕ) → HasChain n top role nodes
     → AreLinked n (uppermost n (global_at n 0)) nodes
 stack_is_linked n None role nodes chain =
-    subst (λ (v : Value). AreLinked n (uppermost n v) nodes) (sym chain.0)
-    (subst (λ (l : List ℕ). AreLinked n Null l) (sym chain.1) refl)
+    subst (λ (v : Value). AreLinked n (uppermost n v) nodes) (sym chain.0) (subst (AreLinked n Null) (sym chain.1) refl)
 stack_is_linked n (Some t) role nodes chain =
     subst (λ (v : Value). AreLinked n (uppermost n v) nodes) (sym chain.0) (linked n role (word_at n t 0) nodes chain.2)
 
@@ -91,6 +86,5 @@ stacked_role n role v (b ∷ nodes) a chain (inr one) = stacked_role n role (wor
 
 pub on_stack_role : (n : NeverState) (top : Option ℕ) (role : ℕ → Role) (nodes : List ℕ) (a : ℕ)
     → HasChain n top role nodes → IsOneOf a nodes → role a ≡ Stacked
-on_stack_role n None role nodes a chain one =
-    absurd (let none : IsOneOf a [] = subst (λ (l : List ℕ). IsOneOf a l) chain.1 one in none)
+on_stack_role n None role nodes a chain one = absurd (let none : IsOneOf a [] = subst (IsOneOf a) chain.1 one in none)
 on_stack_role n (Some t) role nodes a chain one = stacked_role n role (word_at n t 0) nodes a chain.2 one

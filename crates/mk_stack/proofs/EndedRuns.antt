@@ -1,39 +1,29 @@
 -- All that happened on a stack: the founding, the jobs, the reading, and the end, with markers beside them.
-use Rattle.std.proofs.Common.{◌≡◌, ℕ, ◌+◌, ◌<◌, ◌≤◌, true, false, List, [], ◌∷◌, ◌++◌, length, refl, sym}
-use Rattle.std.proofs.Common.{◌∙◌, ap, subst, arith, ⊎_elim}
+use Rattle.std.proofs.Common.{◌≡◌, ℕ, ◌+◌, ◌<◌, ◌≤◌, true, false, List, [], ◌∷◌, ◌++◌, length, refl, sym, ◌∙◌, ap}
+use Rattle.std.proofs.Common.{subst, arith, ⊎_elim}
 use Rattle.std.specs.Prelude.{Result, Ok, Err, IfOk}
+use Rattle.mk_stack.proofs.Vocabulary.{AreOfOthers, Caller, CallerState, Dones, Founded, Founding, GoesToPoint, Grows}
+use Rattle.mk_stack.proofs.Vocabulary.{Has, HasHandedOut, HasStackTypes, HaveDone, Host, HostState, IsHistory, Jobs}
+use Rattle.mk_stack.proofs.Vocabulary.{Joined, Leads, PassState, ReadsStack, Replied, Seat, WordsState, at_home}
+use Rattle.mk_stack.proofs.Vocabulary.{pass_for, replied_to, with_joined}
 use Rattle.mk_never.specs.declared.never_heap.NoMemory.{NoMemory}
-use Rattle.mk_core.specs.declared.config.Config.{Config}
-use Rattle.mk_core.specs.declared.events.Event.{Event}
-use Rattle.mk_core.specs.declared.events.Seat.{Seat}
-use Rattle.mk_core.specs.declared.events.Seat.TheVariants.{Caller, Marker, Host}
-use Rattle.mk_core.specs.Growing.{AreOfOthers, Grows, is_same_seat}
-use Rattle.mk_core.specs.History.{IsHistory}
+use Rattle.mk_core.specs.declared.events.Seat.TheVariants.{Marker}
+use Rattle.mk_core.specs.Growing.{is_same_seat}
 use Rattle.mk_core.specs.declared.seats.Presence.{Presence}
 use Rattle.mk_core.specs.declared.seats.Presence.TheVariants.{Attending, Out, Visiting}
 use Rattle.mk_core.specs.MarkerConditions.{is_out}
 use Rattle.mk_core.specs.StopConditions.{is_attending}
 use Rattle.mk_core.proofs.HistoryParts.{earlier_part_is_history}
-use Rattle.mk_words.specs.Seats.{Has}
 use Rattle.mk_words.specs.Markers.{marker_in}
-use Rattle.mk_words.specs.States.{WordsState, PassState}
 use Rattle.mk_words.proofs.Seats.{has_first, has_left, has_right, others_own, without_keeps}
-use Rattle.mk_caller.specs.States.{CallerState, at_home}
-use Rattle.mk_heap.specs.Hosts.{HostState, pass_for, with_joined, with_marker_made, with_seen}
+use Rattle.mk_heap.specs.Hosts.{with_marker_made, with_seen}
 use Rattle.mk_marker.specs.Markers.{attends}
 use Rattle.mk_heap.specs.Ending.{CallersAreJoined, SaysOver}
 use Rattle.mk_heap.proofs.MovedHosts.{MovesOn}
 use Rattle.mk_run.proofs.LastTurns.{over_moves}
 use Rattle.mk_run.proofs.MarkersBeside.{first_marker}
-use Rattle.mk_stack.specs.declared.job_lists.Dones.{Dones}
-use Rattle.mk_stack.specs.declared.job_lists.Jobs.{Jobs}
-use Rattle.mk_stack.specs.declared.joining.Joined.{Joined}
-use Rattle.mk_stack.specs.declared.points.Point.TheVariants.{Founding, Founded}
 use Rattle.mk_stack.specs.declared.working.Ended.{Ended}
-use Rattle.mk_stack.specs.Joining.{HasHandedOut, HaveEnded, HaveFoundedAndWorked, IsReader, ReadsStack}
-use Rattle.mk_stack.specs.JobLists.{HaveDone}
-use Rattle.mk_stack.specs.Passes.{GoesToPoint, HasStackTypes, replied_to}
-use Rattle.mk_stack.specs.Jobs.{Leads, Replied}
+use Rattle.mk_stack.specs.Joining.{HaveEnded, HaveFoundedAndWorked, IsReader}
 use Rattle.mk_stack.specs.StackRuns.{IsStackRun}
 use Rattle.mk_stack.proofs.JoinedJobs.{next_unasked, same_or_later}
 use Rattle.mk_stack.proofs.Readers.{by_reader, callers_home, host_home, its_replies, same_callers, same_markers}
@@ -80,21 +70,19 @@ module _ (w : WordsState) (markers : ℕ) (lists : List Jobs) (joined : Joined) 
   grown = ap (λ (p : PassState). p.seen) moves.is
 
   read_history : IsHistory w.config g.pass.seen
-  read_history =
-      earlier_part_is_history w.config g.pass.seen moves.more
-      (subst (λ (l : List Event). IsHistory w.config l) grown last_history)
+  read_history = earlier_part_is_history w.config g.pass.seen moves.more (subst (IsHistory w.config) grown last_history)
 
   still : (k : ℕ) → k < w.config.callers → AreOfOthers (Caller k ∷ []) moves.more
   still k lt =
       moves.leaves (Caller k) (callers_home h g reads k (home k lt))
-      (ap (λ (s : Seat). is_same_seat (Caller k) s) (same_seat h g reads ∙ did.worked.seat))
+      (ap (is_same_seat (Caller k)) (same_seat h g reads ∙ did.worked.seat))
 
   runs : (all : List Dones) (numbers : List ℕ)
       → HaveDone w.config h.pass.seen did.founding 0 lists all → ReadsStack w.config h numbers g
       → IsStackRun w.config i.pass.seen lists all numbers
   runs all numbers done read =
-      run_stands w.config g.pass.seen moves.more i.pass.seen lists all numbers grown last_history still
-      (is_stack_run w.config h.pass.seen reads.own.more g.pass.seen did.founding lists all numbers read.all
+      run_stands moves.more grown last_history still
+      (is_stack_run h.pass.seen reads.own.more did.founding lists all numbers read.all
       reads.own.is read_history types did.founds count done (by_reader h g reads w.config read_history home)
       (its_replies h g reads w.config read_history home numbers read) read.leads read.reads)
 
@@ -107,8 +95,7 @@ module _ (w : WordsState) (markers : ℕ) (lists : List Jobs) (joined : Joined) 
         count =
             (let now = ap (λ (x : HostState). x.callers) is ∙ same_callers h g reads in
             let then = did.worked.count in omega (arith, now, then));
-        callers = λ k lt.
-            subst (λ (x : HostState). Has x.pass.seats (Caller k)) (sym is)
+        callers = λ k lt. subst (λ (x : HostState). Has x.pass.seats (Caller k)) (sym is)
             (callers_home h g reads k (home k (omega (arith, lt, count))));
         markers = λ j le lt.
             (let now = ap (λ (x : HostState). x.markers) is ∙ same_markers h g reads ∙ did.worked.same_markers in
@@ -123,18 +110,17 @@ module _ (w : WordsState) (markers : ℕ) (lists : List Jobs) (joined : Joined) 
       })
 
 -- What the operations of the first caller lead to, before its jobs
-pub founds_stack : (w : WordsState) (markers : ℕ) (h : HostState) (s : CallerState) (q r : PassState)
+pub founds_stack : {w : WordsState} {markers : ℕ} {h : HostState} (s : CallerState) {q : PassState} (r : PassState)
     → HasHandedOut w markers 0 h → s ≡ at_home (pass_for h (Caller h.callers)) → GoesToPoint s.pass Founding q Founded
     → r ≡ q → Leads Founding (replied_to r) Founded
-founds_stack w markers h s q r made is goes same =
+founds_stack s r made is goes same =
     subst (λ (l : List Replied). Leads Founding l Founded)
-    (sym (ap (λ (p : PassState). replied_to p) same ∙ goes.did
-    ∙ ap (λ (l : List Replied). l ++ goes.all) (next_unasked w markers 0 h s made is))) goes.leads
+    (sym (ap replied_to same ∙ goes.did ∙ ap (λ (l : List Replied). l ++ goes.all) (next_unasked s made is))) goes.leads
 
 -- After the reading all callers are joined.
-pub callers_are_joined : (w : WordsState) (markers : ℕ) (lists : List Jobs) (joined : Joined) (g : HostState)
+pub callers_are_joined : {w : WordsState} {markers : ℕ} {lists : List Jobs} {joined : Joined} {g : HostState}
     → HaveFoundedAndWorked w markers lists joined → IsReader joined.host g → CallersAreJoined g
-callers_are_joined w markers lists joined g did reads k lt =
+callers_are_joined {joined} {g} did reads k lt =
     let now = same_callers joined.host g reads in
     let then = did.worked.count in
     callers_home joined.host g reads k (did.worked.seats k (omega arith) (omega (arith, lt, now, then)))
@@ -146,15 +132,15 @@ not_attending Out e = refl
 not_attending Attending e = absurd (cc)
 not_attending Visiting e = absurd (cc)
 
-pub is_not_attending : (w : WordsState) (j : ℕ) (h : HostState) (m : PassState) → HasHandedOut w j 0 h → j < 8
+pub is_not_attending : {w : WordsState} {j : ℕ} {h : HostState} (m : PassState) → HasHandedOut w j 0 h → j < 8
     → m ≡ pass_for h (Marker h.markers) → attends m ≡ false
-is_not_attending w j h m made few is =
+is_not_attending {w} {j} {h} m made few is =
     let marker = first_marker w j h m m made.table made.seen made.same_markers few is refl in
     not_attending (marker_in m).presence marker.out
 
-pub marker_made : (w : WordsState) (j : ℕ) (h : HostState) → HasHandedOut w j 0 h
+pub marker_made : {w : WordsState} {j : ℕ} {h : HostState} → HasHandedOut w j 0 h
     → HasHandedOut w (j + 1) 0 (with_marker_made h)
-marker_made w j h made = record {
+marker_made {h} made = record {
   table = made.table;
   seat = made.seat;
   own = without_keeps (Marker h.markers) h.pass.seats Host refl made.own;
@@ -164,13 +150,13 @@ marker_made w j h made = record {
 }
 
 -- One marker more is joined.
-pub marker_joined : (w : WordsState) (j : ℕ) (lists : List Jobs) (p : PassState) (before after : Ended)
+pub marker_joined : {w : WordsState} (j : ℕ) {lists : List Jobs} (p : PassState) {before : Ended} (after : Ended)
     → length lists ≡ w.config.callers → p.seats ≡ Marker j ∷ [] → HaveEnded w (j + 1) lists before
     → after.host ≡ with_joined before.host p after.host.pass.seen
     → Grows before.host.pass.seats before.host.pass.seen after.host.pass.seen
     → IsHistory after.host.pass.table.config after.host.pass.seen → after.dones ≡ before.dones
     → after.left ≡ before.left → HaveEnded w j lists after
-marker_joined w j lists p before after all alone ended is grows history dones left =
+marker_joined {w} j {lists} p {before} after all alone ended is grows history dones left =
     let h = before.host in
     let fs = after.host.pass.seen in
     let seats : after.host.pass.seats ≡ h.pass.seats ++ p.seats = ap (λ (x : HostState). x.pass.seats) is in
@@ -185,17 +171,14 @@ marker_joined w j lists p before after all alone ended is grows history dones le
       table = table;
       own = subst (λ (l : List Seat). Has l Host) (sym seats) (has_left h.pass.seats p.seats Host ended.own);
       count = ap (λ (x : HostState). x.callers) is ∙ ended.count;
-      callers = λ k lt.
-          subst (λ (l : List Seat). Has l (Caller k)) (sym seats)
+      callers = λ k lt. subst (λ (l : List Seat). Has l (Caller k)) (sym seats)
           (has_left h.pass.seats p.seats (Caller k) (ended.callers k lt));
-      markers = λ i le lt.
-          subst (λ (l : List Seat). Has l (Marker i)) (sym seats)
+      markers = λ i le lt. subst (λ (l : List Seat). Has l (Marker i)) (sym seats)
           (⊎_elim
           (λ (e : i ≡ j). has_right h.pass.seats p.seats (Marker i)
           (subst (λ (n : ℕ). Has p.seats (Marker n)) (sym e) mine))
           (λ (later : j + 1 ≤ i). has_left h.pass.seats p.seats (Marker i)
-          (ended.markers i later (omega (arith, lt, count))))
-          (same_or_later j i le));
+          (ended.markers i later (omega (arith, lt, count)))) (same_or_later j i le));
       run =
           subst (λ x. IfOk x (λ all. IfOk after.left (λ left. IsStackRun w.config fs lists all.items left.items)))
           (sym dones)
@@ -203,6 +186,5 @@ marker_joined w j lists p before after all alone ended is grows history dones le
           (sym left)
           (still_ok (λ all left. IsStackRun w.config h.pass.seen lists all.items left.items)
           (λ all left. IsStackRun w.config fs lists all.items left.items) before.dones before.left
-          (λ all left run. run_stands w.config h.pass.seen grows.more fs lists all.items left.items grows.is last
-          others run) ended.run));
+          (λ all left run. run_stands grows.more grows.is last others run) ended.run));
     }

@@ -1,17 +1,10 @@
 -- A caller exchanges the uppermost node, or frees the node that it took.
-use Rattle.std.proofs.Common.{◌≡◌, ◌≢◌, ℕ, ◌+◌, ◌<◌, ◌≤◌, List, length, length-set}
-use Rattle.std.proofs.Common.{refl, sym, ◌∙◌, ap, subst, arith, Some, None, Option, inl, inr}
+use Rattle.std.proofs.Common.{◌≡◌, ◌≢◌, ℕ, ◌+◌, ◌<◌, ◌≤◌, List, length, length-set, refl, sym, ◌∙◌, ap, subst, arith}
+use Rattle.std.proofs.Common.{Some, None, Option, inl, inr}
 use Rattle.std.specs.Prelude.{◌⊎◌}
 use Rattle.std.proofs.lemmas.Bool.{cases_eq}
-use Rattle.mk_never.specs.declared.operations.Op.{Op}
-use Rattle.mk_never.specs.declared.values.Value.{Value}
-use Rattle.mk_never.specs.NeverHeap.{NeverState, with_word, words_of, allocation_at}
-use Rattle.mk_never.specs.NeverHeap.{bit}
-use Rattle.mk_stack.specs.declared.jobs.Done.{Done}
-use Rattle.mk_stack.specs.Jobs.{Replied}
-use Rattle.mk_stack.specs.declared.points.Point.{Point}
-use Rattle.mk_stack.specs.Orders.{Ordered}
-use Rattle.mk_stack.specs.Laws.{numbers_in, freed_by, IsOneOf}
+use Rattle.mk_stack.proofs.Vocabulary.{Done, IsOneOf, NeverState, Op, Ordered, Point, Replied, Value, allocation_at}
+use Rattle.mk_stack.proofs.Vocabulary.{bit, freed_by, numbers_in, with_word, words_of}
 use Rattle.mk_stack.proofs.Heaps.{other_words, written_size, written_flag, written_type}
 use Rattle.mk_stack.proofs.Roles.{Role, Unborn, Base, Private, Stacked, Taken, RoleKeeps, IsPublished, same_role}
 use Rattle.mk_stack.proofs.Roles.{size_of, is_gone, put, put_by}
@@ -19,8 +12,7 @@ use Rattle.mk_stack.proofs.Invariant.{Core, HasChain, Local, IsHeld, Work, Inv}
 use Rattle.mk_stack.proofs.Frames.{Leaves}
 use Rattle.mk_stack.proofs.Assembly.{Decides, IsLeft, moved, Stepped, assemble, HeldBefore, none_freed_there}
 use Rattle.mk_stack.proofs.Writes.{base_private, base_stacked, base_taken, private_stacked, taken_stacked}
-use Rattle.mk_stack.proofs.Writes.{unborn_private}
-use Rattle.mk_stack.proofs.Writes.{unborn_stacked, unborn_taken, private_taken, same_taken, granted}
+use Rattle.mk_stack.proofs.Writes.{unborn_private, unborn_stacked, unborn_taken, private_taken, same_taken, granted}
 
 -- What another caller held before, where one role is now that of a node on the stack, or of this caller
 pub put_before : (role : ℕ → Role) (b : ℕ) (r : Role) (k a : ℕ) → (r ≡ Private k → ⊥) → (r ≡ Taken k → ⊥)
@@ -28,8 +20,7 @@ pub put_before : (role : ℕ → Role) (b : ℕ) (r : Role) (k a : ℕ) → (r �
 put_before role b r k a private taken =
     put_by (λ (x : ℕ) (y : Role). HeldBefore k (role x) y) role b r
     (record { pushing = λ e. absurd (private e); freeing = λ e. absurd (taken e) })
-    (λ x other. record { pushing = λ e. e; freeing = λ e. e })
-    a
+    (λ x other. record { pushing = λ e. e; freeing = λ e. e }) a
 
 -- Roles that others rely on, where one role changes
 pub roles_put : (role : ℕ → Role) (b : ℕ) (r : Role) (k : ℕ) (Same : ℕ → Type 0) → RoleKeeps k (role b) r (Same b)
@@ -39,7 +30,7 @@ roles_put role b r k Same here there a =
     put_by (λ (x : ℕ) (y : Role). RoleKeeps k (role x) y (Same x)) role b r here there a
 
 -- The word of the top is exchanged, and node a gets another role: it goes on the stack, or leaves it.
-module _ (callers : ℕ) (n : NeverState) (top : Option ℕ) (role : ℕ → Role) (nodes : List ℕ) (W : ℕ → Work)
+module _ {callers : ℕ} {n : NeverState} {top : Option ℕ} {role : ℕ → Role} {nodes : List ℕ} {W : ℕ → Work}
     (inv : Inv callers n top role nodes W) (c t a : ℕ) (v : Value) (r : Role) (is : top ≡ Some t)
     (is_base : role t ≡ Base)
     (nodelike : (role a ≡ Private c) × (r ≡ Stacked) ⊎ (role a ≡ Stacked) × (r ≡ Taken c)) where
@@ -69,7 +60,7 @@ module _ (callers : ℕ) (n : NeverState) (top : Option ℕ) (role : ℕ → Rol
           (λ same. absurd (other (sym same)))
       by (inr h) =
           subst (λ (x : Role). RoleKeeps k x r (words_of m a ≡ words_of n a)) (sym h.0)
-          (subst (λ (x : Role). IsPublished x) (sym h.1) tt, words_stay a node_is_no_top)
+          (subst IsPublished (sym h.1) tt, words_stay a node_is_no_top)
 
   keeps_there : (k b : ℕ) → RoleKeeps k (role b) (role b) (words_of m b ≡ words_of n b)
   keeps_there k b = by (cases_eq b t)
@@ -129,7 +120,7 @@ module _ (callers : ℕ) (n : NeverState) (top : Option ℕ) (role : ℕ → Rol
   exchange_core nodes' stacked chain =
       let core : Core callers n top role nodes = inv.core in
       let count : length m.allocations ≡ length n.allocations = length-set n.allocations t _ in
-      let there : a < length n.allocations = granted callers n top role nodes a core alike.4 in
+      let there : a < length n.allocations = granted a core alike.4 in
       record {
         node_type = core.node_type;
         top_type = core.top_type;
@@ -138,25 +129,20 @@ module _ (callers : ℕ) (n : NeverState) (top : Option ℕ) (role : ℕ → Rol
         unborn = put_by (λ (b : ℕ) (x : Role). length m.allocations ≤ b → x ≡ Unborn) role a r
             (λ ge. absurd (omega (arith, count, there, ge)))
             (λ b ne ge. core.unborn b (subst (λ (l : ℕ). l ≤ b) count ge));
-        born = put_by (λ (b : ℕ) (x : Role). b < length m.allocations → x ≢ Unborn) role a r
-            (λ lt e. alike.2 (sym e))
+        born = put_by (λ (b : ℕ) (x : Role). b < length m.allocations → x ≢ Unborn) role a r (λ lt e. alike.2 (sym e))
             (λ b ne lt. core.born b (subst (λ (l : ℕ). b < l) count lt));
         size = put_by (λ (b : ℕ) (x : Role). length (words_of m b) ≡ size_of x) role a r
-            (written_size n t 0 a v ∙ core.size a ∙ sym alike.0)
-            (λ b ne. written_size n t 0 b v ∙ core.size b);
+            (written_size n t 0 a v ∙ core.size a ∙ sym alike.0) (λ b ne. written_size n t 0 b v ∙ core.size b);
         freed = put_by (λ (b : ℕ) (x : Role). (allocation_at m b).freed ≡ is_gone x) role a r
-            (written_flag n t 0 a v ∙ core.freed a ∙ sym alike.1)
-            (λ b ne. written_flag n t 0 b v ∙ core.freed b);
-        base = put_by (λ (b : ℕ) (x : Role). x ≡ Base → (allocation_at m b).ty ≡ 1) role a r
-            (λ e. absurd (alike.3 e))
+            (written_flag n t 0 a v ∙ core.freed a ∙ sym alike.1) (λ b ne. written_flag n t 0 b v ∙ core.freed b);
+        base = put_by (λ (b : ℕ) (x : Role). x ≡ Base → (allocation_at m b).ty ≡ 1) role a r (λ e. absurd (alike.3 e))
             (λ b ne e. written_type n t 0 b v ∙ core.base b e);
         stacked = stacked;
         chain = chain;
       }
 
   pub by_exchange : (nodes' : List ℕ) (s : Point) (o : Op) (next : Point) (rest : List Replied) (u u' : Option Done)
-      (d : Option Ordered)
-      → ((b : ℕ) → now b ≡ Stacked → IsOneOf b nodes') → HasChain m top now nodes'
+      (d : Option Ordered) → ((b : ℕ) → now b ≡ Stacked → IsOneOf b nodes') → HasChain m top now nodes'
       → Local m top now c next u' → ((b : ℕ) → IsHeld m (now b) c b next)
       → IsLeft d (numbers_in n nodes) (numbers_in m nodes') → Decides c s u d u' → ((b : ℕ) → freed_by b n c o ≡ 0)
       → Stepped callers n role nodes W c s u o next rest m
@@ -167,7 +153,7 @@ module _ (callers : ℕ) (n : NeverState) (top : Option ℕ) (role : ℕ → Rol
         nodes_now = nodes';
         decided = u';
         decision = d;
-        inv = assemble callers n top role nodes W inv c m top now nodes' (moved (W c) next u' rest)
+        inv = assemble inv c m top now nodes' (moved (W c) next u' rest)
             (exchange_core nodes' stacked chain) exchange_leaves (λ k b other. before k b other) local held;
         left = left;
         decides = decides;

@@ -1,18 +1,10 @@
 -- What a step of one caller leaves of what holds of another.
 use Rattle.std.proofs.Common.{◌≡◌, ℕ, ◌<◌, List, sym, ◌∙◌, ap, inl, inr, Some, None, Option, arith, get_or}
 use Rattle.std.specs.Prelude.{◌⊎◌}
-use Rattle.mk_never.specs.declared.values.Value.{Value}
-use Rattle.mk_never.specs.declared.values.Value.TheVariants.{Null}
-use Rattle.mk_never.specs.NeverHeap.{NeverState, register_at, words_of, word_at, number_of}
-use Rattle.mk_stack.specs.declared.jobs.Done.{Done}
-use Rattle.mk_stack.specs.declared.jobs.Done.TheVariants.{Popped, Empty}
-use Rattle.mk_stack.specs.declared.jobs.Job.{Job}
-use Rattle.mk_stack.specs.Jobs.{done_without}
-use Rattle.mk_stack.specs.declared.points.Point.{Point}
-use Rattle.mk_stack.specs.declared.points.Point.TheVariants.{Founding, Placing, Founded, Starting, Checking, Making}
-use Rattle.mk_stack.specs.declared.points.Point.TheVariants.{Filling, Looking, Linking}
-use Rattle.mk_stack.specs.declared.points.Point.TheVariants.{Publishing, Peeking, Testing, Following, Taking, Freeing}
-use Rattle.mk_stack.specs.declared.points.Point.TheVariants.{Reading, Ended}
+use Rattle.mk_stack.proofs.Vocabulary.{Checking, Done, Empty, Ended, Filling, Following, Founded, Founding, Freeing}
+use Rattle.mk_stack.proofs.Vocabulary.{Job, Linking, Looking, Making, NeverState, Null, Peeking, Placing, Point, Popped}
+use Rattle.mk_stack.proofs.Vocabulary.{Publishing, Reading, Starting, Taking, Testing, Value, done_without, number_of}
+use Rattle.mk_stack.proofs.Vocabulary.{register_at, word_at, words_of}
 use Rattle.mk_stack.proofs.Roles.{Role, Base, RoleKeeps, private_keeps, taken_keeps, published_keeps}
 use Rattle.mk_stack.proofs.Invariant.{HasTop, HasOwn, HasFilled, HasLinked, HasSeen, HasFollowed, HasTaken, HasFreed}
 use Rattle.mk_stack.proofs.Invariant.{HasBase, Local}
@@ -34,11 +26,7 @@ module _ (n : NeverState) (top : Option ℕ) (role : ℕ → Role) (m : NeverSta
 
   top_stays : HasTop n top k → HasTop m top' k
   top_stays h =
-      record {
-        t = h.t;
-        is = leaves.same_top h.t h.is;
-        register = leaves.registers 0 (omega arith) ∙ h.register;
-      }
+      record { t = h.t; is = leaves.same_top h.t h.is; register = leaves.registers 0 (omega arith) ∙ h.register }
 
   own_stays : HasOwn n role k → HasOwn m role' k
   own_stays h =
@@ -117,8 +105,7 @@ module _ (n : NeverState) (top : Option ℕ) (role : ℕ → Role) (m : NeverSta
   checked_stays j u (inl h) = inl (leaves.registers 0 (omega arith) ∙ h.0, h.1)
   checked_stays j u (inr h) = inr (h.0, top_stays h.1)
 
-  tested_stays : (u : Option Done)
-      → ((register_at n k 2 ≡ Null) × (u ≡ Some Empty)) ⊎ ((u ≡ None) × HasSeen n role k)
+  tested_stays : (u : Option Done) → ((register_at n k 2 ≡ Null) × (u ≡ Some Empty)) ⊎ ((u ≡ None) × HasSeen n role k)
       → ((register_at m k 2 ≡ Null) × (u ≡ Some Empty)) ⊎ ((u ≡ None) × HasSeen m role' k)
   tested_stays u (inl h) = inl (leaves.registers 2 (omega arith) ∙ h.0, h.1)
   tested_stays u (inr h) = inr (h.0, seen_stays h.1)

@@ -1,16 +1,9 @@
 -- A pop frees the node that it took.
-use Rattle.std.proofs.Common.{◌≡◌, ◌≢◌, ℕ, ◌+◌, ◌<◌, ◌≤◌, List, length, length-set}
-use Rattle.std.proofs.Common.{get_or, refl, sym, ◌∙◌, ap, subst, arith, Some, None, Option}
-use Rattle.mk_never.specs.declared.operations.Op.{Op}
-use Rattle.mk_never.specs.declared.values.Value.{Value}
-use Rattle.mk_never.specs.declared.values.Value.TheVariants.{Null, Ptr}
-use Rattle.mk_never.specs.NeverHeap.{NeverState, register_at, with_freed, word_at, words_of, allocation_at, number_of}
-use Rattle.mk_never.specs.NeverHeap.{bit}
-use Rattle.mk_stack.specs.declared.jobs.Done.{Done}
-use Rattle.mk_stack.specs.declared.jobs.Done.TheVariants.{Popped}
-use Rattle.mk_stack.specs.Jobs.{Replied}
-use Rattle.mk_stack.specs.declared.points.Point.TheVariants.{Freeing, Reading}
-use Rattle.mk_stack.specs.Laws.{freed_by, IsOneOf}
+use Rattle.std.proofs.Common.{◌≡◌, ◌≢◌, ℕ, ◌+◌, ◌<◌, ◌≤◌, List, length, length-set, get_or, refl, sym, ◌∙◌, ap, subst}
+use Rattle.std.proofs.Common.{arith, Some, None, Option}
+use Rattle.mk_stack.proofs.Vocabulary.{Done, Freeing, IsOneOf, NeverState, Null, Op, Popped, Ptr, Reading, Replied}
+use Rattle.mk_stack.proofs.Vocabulary.{Value, allocation_at, bit, freed_by, number_of, register_at, with_freed, word_at}
+use Rattle.mk_stack.proofs.Vocabulary.{words_of}
 use Rattle.mk_stack.proofs.Heaps.{freed_words, freed_type, freed_flag, other_flag}
 use Rattle.mk_stack.proofs.Roles.{Role, Unborn, Base, Private, Stacked, Taken, Freed, RoleKeeps, IsPublished, same_role}
 use Rattle.mk_stack.proofs.Roles.{size_of, is_gone, put, put_by, put_same, put_other}
@@ -36,7 +29,7 @@ freed_base e = cc
 freed_unborn : Freed ≡ Unborn → ⊥
 freed_unborn e = cc
 
-module _ (callers : ℕ) (n : NeverState) (top : Option ℕ) (role : ℕ → Role) (nodes : List ℕ) (W : ℕ → Work)
+module _ {callers : ℕ} {n : NeverState} {top : Option ℕ} {role : ℕ → Role} {nodes : List ℕ} {W : ℕ → Work}
     (inv : Inv callers n top role nodes W) (c : ℕ) (u : Option Done) (own : HasTaken n role c u)
     (held : (b : ℕ) → IsHeld n (role b) c b Freeing) where
   abbrev a : ℕ
@@ -52,7 +45,7 @@ module _ (callers : ℕ) (n : NeverState) (top : Option ℕ) (role : ℕ → Rol
   word b i = ap (λ (ws : List Value). get_or ws i Null) (freed_words n a b)
 
   there : a < length n.allocations
-  there = granted callers n top role nodes a inv.core (λ e. unborn_taken c (e ∙ own.has))
+  there = granted a inv.core (λ e. unborn_taken c (e ∙ own.has))
 
   free_leaves : (k : ℕ) → k ≢ c → Leaves n top role m top now k
   free_leaves k other =
@@ -71,13 +64,11 @@ module _ (callers : ℕ) (n : NeverState) (top : Option ℕ) (role : ℕ → Rol
       }
 
   still_other : (b : ℕ) (r : Role) → role b ≡ r → (r ≡ Taken c → ⊥) → now b ≡ r
-  still_other b r is differs =
-      put_other role a Freed b (λ same. differs (sym is ∙ ap role same ∙ own.has)) ∙ is
+  still_other b r is differs = put_other role a Freed b (λ same. differs (sym is ∙ ap role same ∙ own.has)) ∙ is
 
   free_chain : HasChain m top now nodes
   free_chain =
-      has_chain_stays n m top role now nodes refl
-      (λ t e. (still_other t Base e (base_taken c), word t 0))
+      has_chain_stays n m top role now nodes refl (λ t e. (still_other t Base e (base_taken c), word t 0))
       (λ b one e. record { role_now = still_other b Stacked e (λ same. taken_stacked c (sym same)); link = word b 1 })
       inv.core.chain
 
@@ -94,11 +85,10 @@ module _ (callers : ℕ) (n : NeverState) (top : Option ℕ) (role : ℕ → Rol
             (λ ge. absurd (omega (arith, count, there, ge)))
             (λ b ne ge. core.unborn b (subst (λ (l : ℕ). l ≤ b) count ge));
         born = put_by (λ (b : ℕ) (x : Role). b < length m.allocations → x ≢ Unborn) role a Freed
-            (λ lt e. freed_unborn e)
-            (λ b ne lt. core.born b (subst (λ (l : ℕ). b < l) count lt));
+            (λ lt e. freed_unborn e) (λ b ne lt. core.born b (subst (λ (l : ℕ). b < l) count lt));
         size = put_by (λ (b : ℕ) (x : Role). length (words_of m b) ≡ size_of x) role a Freed
-            (ap (λ (ws : List Value). length ws) (freed_words n a a) ∙ core.size a ∙ ap size_of own.has)
-            (λ b ne. ap (λ (ws : List Value). length ws) (freed_words n a b) ∙ core.size b);
+            (ap length (freed_words n a a) ∙ core.size a ∙ ap size_of own.has)
+            (λ b ne. ap length (freed_words n a b) ∙ core.size b);
         freed = put_by (λ (b : ℕ) (x : Role). (allocation_at m b).freed ≡ is_gone x) role a Freed
             (freed_flag n a there) (λ b ne. other_flag n a b ne ∙ core.freed b);
         base = put_by (λ (b : ℕ) (x : Role). x ≡ Base → (allocation_at m b).ty ≡ 1) role a Freed
@@ -113,7 +103,7 @@ module _ (callers : ℕ) (n : NeverState) (top : Option ℕ) (role : ℕ → Rol
       record {
         a = a;
         register = own.register;
-        has = subst (λ (r : Role). IsPublished r) (sym (put_same role a Freed)) tt;
+        has = subst IsPublished (sym (put_same role a Freed)) tt;
         owes = own.owes ∙ ap (λ (z : Value). Some (Popped (number_of z))) (sym (word a 0));
       }
 
@@ -121,13 +111,9 @@ module _ (callers : ℕ) (n : NeverState) (top : Option ℕ) (role : ℕ → Rol
   no_longer b =
       record {
         pushing = put_by (λ (z : ℕ) (r : Role). r ≡ Private c → ⊥ × (register_at m c 1 ≡ Ptr z 0 0)) role a Freed
-            (λ e. absurd (freed_private c e))
-            (λ z ne e. absurd ((held z).pushing e).0)
-            b;
+            (λ e. absurd (freed_private c e)) (λ z ne e. absurd ((held z).pushing e).0) b;
         freeing = put_by (λ (z : ℕ) (r : Role). r ≡ Taken c → ⊥ × (register_at m c 2 ≡ Ptr z 0 0)) role a Freed
-            (λ e. absurd (freed_taken c e))
-            (λ z ne e. absurd (ne (same_node z ((held z).freeing e).1)))
-            b;
+            (λ e. absurd (freed_taken c e)) (λ z ne e. absurd (ne (same_node z ((held z).freeing e).1))) b;
       }
     where
       same : (z b : ℕ) → Ptr z 0 0 ≡ Ptr b 0 0 → z ≡ b
@@ -146,15 +132,12 @@ module _ (callers : ℕ) (n : NeverState) (top : Option ℕ) (role : ℕ → Rol
         nodes_now = nodes;
         decided = u;
         decision = None;
-        inv = assemble callers n top role nodes W inv c m top now nodes (moved (W c) Reading u rest) free_core
-            free_leaves
-            (λ k b other. put_before role a Freed k b (λ e. freed_private k e) (λ e. freed_taken k e))
-            freed no_longer;
+        inv = assemble inv c m top now nodes (moved (W c) Reading u rest) free_core free_leaves
+            (λ k b other. put_before role a Freed k b (λ e. freed_private k e) (λ e. freed_taken k e)) freed no_longer;
         left = all_numbers_stay n m top role nodes (λ b e. word b 0) inv.core.chain;
         decides = nothing;
         frees = put_by (λ (b : ℕ) (x : Role). bit (is_gone x) ≡ bit (is_gone (role b)) + freed_by b n c o) role a Freed
-            (sym (ap (λ (r : Role). bit (is_gone r) + freed_by a n c o) own.has ∙ one_more))
-            (λ b ne. none_more b ne);
+            (sym (ap (λ (r : Role). bit (is_gone r) + freed_by a n c o) own.has ∙ one_more)) (λ b ne. none_more b ne);
       }
     where
       one_more : 0 + freed_by a n c o ≡ 1

@@ -1,20 +1,13 @@
 -- A New adds an allocation that no one else has: the top, or a node of the caller's own.
-use Rattle.std.proofs.Common.{◌≡◌, ◌≢◌, ℕ, ◌+◌, ◌*◌, ◌<◌, ◌≤◌, false, List, [], length, length-set}
-use Rattle.std.proofs.Common.{get_or, refl, sym, ◌∙◌, ap, subst, arith, None, Option}
+use Rattle.std.proofs.Common.{◌≡◌, ◌≢◌, ℕ, ◌+◌, ◌*◌, ◌<◌, ◌≤◌, false, List, [], length, length-set, get_or, refl, sym}
+use Rattle.std.proofs.Common.{◌∙◌, ap, subst, arith, None, Option}
 use Rattle.std.proofs.lemmas.List.{get_or_at, length_push}
-use Rattle.mk_never.specs.declared.operations.Op.{Op}
-use Rattle.mk_never.specs.declared.values.Value.{Value}
-use Rattle.mk_never.specs.declared.values.Value.TheVariants.{Null, Ptr}
-use Rattle.mk_never.specs.Types.{kinds_of, zero_words}
-use Rattle.mk_never.specs.NeverHeap.{NeverState, Allocation, no_allocation, with_register, with_new, word_at}
-use Rattle.mk_never.specs.NeverHeap.{words_of, allocation_at, bit}
-use Rattle.mk_stack.specs.declared.jobs.Done.{Done}
-use Rattle.mk_stack.specs.Jobs.{Replied}
-use Rattle.mk_stack.specs.declared.points.Point.{Point}
-use Rattle.mk_stack.specs.Laws.{freed_by, IsOneOf}
+use Rattle.mk_stack.proofs.Vocabulary.{Allocation, Done, IsOneOf, NeverState, Null, Op, Point, Ptr, Replied, Value}
+use Rattle.mk_stack.proofs.Vocabulary.{allocation_at, bit, freed_by, kinds_of, no_allocation, with_new, with_register}
+use Rattle.mk_stack.proofs.Vocabulary.{word_at, words_of, zero_words}
 use Rattle.mk_stack.proofs.Heaps.{register_of_other, other_allocation}
-use Rattle.mk_stack.proofs.Roles.{Role, Unborn, Base, Private, Stacked, Taken, RoleKeeps, same_role}
-use Rattle.mk_stack.proofs.Roles.{size_of, is_gone, put, put_by, put_other}
+use Rattle.mk_stack.proofs.Roles.{Role, Unborn, Base, Private, Stacked, Taken, RoleKeeps, same_role, size_of, is_gone}
+use Rattle.mk_stack.proofs.Roles.{put, put_by, put_other}
 use Rattle.mk_stack.proofs.Invariant.{Core, HasChain, Local, IsHeld, Work, Inv}
 use Rattle.mk_stack.proofs.Frames.{Leaves}
 use Rattle.mk_stack.proofs.Chains.{has_chain_stays, all_numbers_stay}
@@ -32,7 +25,7 @@ pub record IsNewRole (n : NeverState) (c ty : ℕ) (r : Role) : Type 0 where
   pub of_caller : (k : ℕ) → k ≢ c → r ≢ Private k
   pub not_taken : (k : ℕ) → r ≢ Taken k
 
-module _ (callers : ℕ) (n : NeverState) (top : Option ℕ) (role : ℕ → Role) (nodes : List ℕ) (W : ℕ → Work)
+module _ {callers : ℕ} {n : NeverState} {top : Option ℕ} {role : ℕ → Role} {nodes : List ℕ} {W : ℕ → Work}
     (inv : Inv callers n top role nodes W) (c d ty : ℕ) (r : Role) (below : d < 8) (fits : IsNewRole n c ty r) where
   abbrev a : ℕ
   a = length n.allocations
@@ -83,8 +76,7 @@ module _ (callers : ℕ) (n : NeverState) (top : Option ℕ) (role : ℕ → Rol
       (λ b one e. record {
         role_now = still b Stacked e unborn_stacked;
         link = word b 1 (not_new b Stacked e unborn_stacked);
-      })
-      inv.core.chain
+      }) inv.core.chain
 
   count : length m.allocations ≡ a + 1
   count = length_push n.allocations _
@@ -98,10 +90,8 @@ module _ (callers : ℕ) (n : NeverState) (top : Option ℕ) (role : ℕ → Rol
         registers = length-set n.registers (8 * c + d) (Ptr a ty 0) ∙ core.registers;
         globals = core.globals;
         unborn = put_by (λ (b : ℕ) (x : Role). length m.allocations ≤ b → x ≡ Unborn) role a r
-            (λ ge. absurd (omega (arith, count, ge)))
-            (λ b ne ge. core.unborn b (omega (arith, count, ge)));
-        born = put_by (λ (b : ℕ) (x : Role). b < length m.allocations → x ≢ Unborn) role a r
-            (λ lt e. fits.born e)
+            (λ ge. absurd (omega (arith, count, ge))) (λ b ne ge. core.unborn b (omega (arith, count, ge)));
+        born = put_by (λ (b : ℕ) (x : Role). b < length m.allocations → x ≢ Unborn) role a r (λ lt e. fits.born e)
             (λ b ne lt. core.born b (omega (arith, count, lt, ne)));
         size = put_by (λ (b : ℕ) (x : Role). length (words_of m b) ≡ size_of x) role a r
             (ap (λ (x : Allocation). length x.words) made ∙ fits.size)
@@ -127,14 +117,11 @@ module _ (callers : ℕ) (n : NeverState) (top : Option ℕ) (role : ℕ → Rol
         nodes_now = nodes;
         decided = u;
         decision = None;
-        inv = assemble callers n top role nodes W inv c m top now nodes (moved
-            (W c) next u rest) grant_core grant_leaves
-            (λ k b ne. put_before role a r k b (fits.of_caller k ne) (fits.not_taken k))
-            local held;
+        inv = assemble inv c m top now nodes (moved (W c) next u rest) grant_core grant_leaves
+            (λ k b ne. put_before role a r k b (fits.of_caller k ne) (fits.not_taken k)) local held;
         left = all_numbers_stay n m top role nodes (λ b e. word b 0
             (not_new b Stacked e unborn_stacked)) inv.core.chain;
         decides = nothing;
-        frees = λ b.
-            none_freed_there role a r (fits.not_gone ∙ sym (ap is_gone was)) b
+        frees = λ b. none_freed_there role a r (fits.not_gone ∙ sym (ap is_gone was)) b
             ∙ ap (λ (x : ℕ). bit (is_gone (role b)) + x) (sym (frees b));
       }

@@ -1,23 +1,19 @@
 -- What single operations leave of a heap of small objects, and what they reply.
-use Rattle.std.proofs.Common.{◌≡◌, ◌≢◌, ℕ, zero, suc, ◌+◌, ◌*◌, ◌<◌, ◌≤◌, Bool, true, false, if◌then◌else◌}
-use Rattle.std.proofs.Common.{List, [], ◌∷◌, ◌++◌, length, get_or, set, length-set, refl, sym, ◌∙◌, ap, arith}
+use Rattle.std.proofs.Common.{◌≡◌, ◌≢◌, ℕ, zero, suc, ◌+◌, ◌*◌, ◌<◌, ◌≤◌, Bool, true, false, if◌then◌else◌, List, []}
+use Rattle.std.proofs.Common.{◌∷◌, ◌++◌, length, get_or, set, length-set, refl, sym, ◌∙◌, ap, arith}
 use Rattle.std.proofs.lemmas.Bool.{le-ltb, and_right}
 use Rattle.std.proofs.lemmas.List.{get_or-set_same, get_or-set_other}
-use Rattle.mk_never.specs.declared.values.Target.TheVariants.{Unmapped, WordOf}
-use Rattle.mk_never.specs.declared.values.Value.{Value}
-use Rattle.mk_never.specs.declared.values.Value.TheVariants.{Null, Ptr}
+use Rattle.mk_stack.proofs.Vocabulary.{Allocation, NeverState, Null, Ptr, Unmapped, Value, WordOf, allocation_at}
+use Rattle.mk_stack.proofs.Vocabulary.{is_unmapped, no_allocation, register_at, target_of, with_freed, with_new}
+use Rattle.mk_stack.proofs.Vocabulary.{with_register, with_word, word_at, words_of}
 use Rattle.mk_never.specs.Types.{is_large}
-use Rattle.mk_never.specs.NeverHeap.{NeverState, Allocation, no_allocation, register_at, allocation_at, words_of}
-use Rattle.mk_never.specs.NeverHeap.{word_at}
-use Rattle.mk_never.specs.NeverHeap.{with_register, with_word, with_freed, with_new, target_of, is_unmapped}
 use Rattle.mk_never.proofs.Edits.{set_by}
 
 -- An access through a pointer to a small object gets to its word.
 small_is_mapped : (a : Allocation) → length a.words ≤ 2 → is_unmapped a ≡ false
 small_is_mapped a small = and_right a.freed (is_large a.words) (le-ltb 32 (length a.words) (omega arith))
 
-pub reaches : (n : NeverState) (k q a ty offset i : ℕ) → register_at n k q ≡ Ptr a ty offset
-    → length (words_of n a) ≤ 2
+pub reaches : (n : NeverState) (k q a ty offset i : ℕ) → register_at n k q ≡ Ptr a ty offset → length (words_of n a) ≤ 2
     → target_of n (register_at n k q) i ≡ WordOf a (offset + i)
 reaches n k q a ty offset i is small =
     ap (λ (v : Value). target_of n v i) is
@@ -31,8 +27,7 @@ set_register n k d v there = get_or-set_same n.registers (8 * k + d) v Null ther
 
 pub other_register : (n : NeverState) (k d r : ℕ) (v : Value) → r ≢ d
     → register_at (with_register n k d v) k r ≡ register_at n k r
-other_register n k d r v other =
-    get_or-set_other n.registers (8 * k + d) (8 * k + r) v Null (λ e. other (omega arith))
+other_register n k d r v other = get_or-set_other n.registers (8 * k + d) (8 * k + r) v Null (λ e. other (omega arith))
 
 pub register_of_other : (n : NeverState) (c d k r : ℕ) (v : Value) → k ≢ c → d < 8 → r < 8
     → register_at (with_register n c d v) k r ≡ register_at n k r
@@ -61,8 +56,7 @@ pub written_size : (n : NeverState) (a w b : ℕ) (v : Value)
     → length (words_of (with_word n a w v) b) ≡ length (words_of n b)
 written_size n a w b v =
     set_by (λ (x : Allocation). length x.words ≡ length (words_of n b)) n.allocations a b _ no_allocation
-    (λ e. length-set-of e)
-    refl
+    (λ e. length-set-of e) refl
   where
     length-set-of : b ≡ a → length (set (words_of n a) w v) ≡ length (words_of n b)
     length-set-of e = omega (arith, length-set (words_of n a) w v, ap (λ (x : ℕ). length (words_of n x)) e)
@@ -84,22 +78,19 @@ written_type n a w b v =
 pub freed_words : (n : NeverState) (a b : ℕ) → words_of (with_freed n a) b ≡ words_of n b
 freed_words n a b =
     set_by (λ (x : Allocation). x.words ≡ words_of n b) n.allocations a b _ no_allocation
-    (λ e. ap (λ (x : ℕ). words_of n x) (sym e)) refl
+    (λ e. ap (words_of n) (sym e)) refl
 
 pub freed_type : (n : NeverState) (a b : ℕ) → (allocation_at (with_freed n a) b).ty ≡ (allocation_at n b).ty
 freed_type n a b =
     set_by (λ (x : Allocation). x.ty ≡ (allocation_at n b).ty) n.allocations a b _ no_allocation
     (λ e. ap (λ (x : ℕ). (allocation_at n x).ty) (sym e)) refl
 
-pub freed_flag : (n : NeverState) (a : ℕ) → a < length n.allocations
-    → (allocation_at (with_freed n a) a).freed ≡ true
-freed_flag n a there =
-    ap (λ (x : Allocation). x.freed) (get_or-set_same n.allocations a _ no_allocation there)
+pub freed_flag : (n : NeverState) (a : ℕ) → a < length n.allocations → (allocation_at (with_freed n a) a).freed ≡ true
+freed_flag n a there = ap (λ (x : Allocation). x.freed) (get_or-set_same n.allocations a _ no_allocation there)
 
 pub other_flag : (n : NeverState) (a b : ℕ) → b ≢ a
     → (allocation_at (with_freed n a) b).freed ≡ (allocation_at n b).freed
-other_flag n a b other =
-    ap (λ (x : Allocation). x.freed) (get_or-set_other n.allocations a b _ no_allocation other)
+other_flag n a b other = ap (λ (x : Allocation). x.freed) (get_or-set_other n.allocations a b _ no_allocation other)
 
 -- What a New leaves: all allocations before its own.
 pub other_allocation : (n : NeverState) (ty b : ℕ) → b ≢ length n.allocations

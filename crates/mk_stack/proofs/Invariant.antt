@@ -1,19 +1,11 @@
 -- What holds of a stack at every place of an interleaving.
 use Rattle.std.proofs.Common.{◌≡◌, ◌≢◌, ℕ, ◌*◌, ◌<◌, ◌≤◌, List, [], ◌∷◌, length, Some, None, Option}
 use Rattle.std.specs.Prelude.{◌⊎◌}
-use Rattle.mk_never.specs.declared.values.Value.{Value}
-use Rattle.mk_never.specs.declared.values.Value.TheVariants.{Null, Ptr}
-use Rattle.mk_never.specs.Types.{kinds_of}
-use Rattle.mk_never.specs.NeverHeap.{NeverState, register_at, global_at, allocation_at, words_of, word_at, number_of}
-use Rattle.mk_stack.specs.declared.jobs.Done.{Done}
-use Rattle.mk_stack.specs.declared.jobs.Done.TheVariants.{Popped, Empty}
-use Rattle.mk_stack.specs.Jobs.{Replied, JobRun, done_without, node_kinds, top_kinds}
-use Rattle.mk_stack.specs.declared.points.Point.{Point}
-use Rattle.mk_stack.specs.declared.points.Point.TheVariants.{Founding, Placing, Founded, Starting, Checking, Making}
-use Rattle.mk_stack.specs.declared.points.Point.TheVariants.{Filling, Looking, Linking}
-use Rattle.mk_stack.specs.declared.points.Point.TheVariants.{Publishing, Peeking, Testing, Following, Taking, Freeing}
-use Rattle.mk_stack.specs.declared.points.Point.TheVariants.{Reading, Ended}
-use Rattle.mk_stack.specs.Laws.{IsOneOf}
+use Rattle.mk_stack.proofs.Vocabulary.{Checking, Done, Empty, Ended, Filling, Following, Founded, Founding, Freeing}
+use Rattle.mk_stack.proofs.Vocabulary.{IsOneOf, JobRun, Linking, Looking, Making, NeverState, Null, Peeking, Placing}
+use Rattle.mk_stack.proofs.Vocabulary.{Point, Popped, Ptr, Publishing, Reading, Replied, Starting, Taking, Testing}
+use Rattle.mk_stack.proofs.Vocabulary.{Value, allocation_at, done_without, global_at, kinds_of, node_kinds, number_of}
+use Rattle.mk_stack.proofs.Vocabulary.{register_at, top_kinds, word_at, words_of}
 use Rattle.mk_stack.proofs.Roles.{Role, Base, Private, Stacked, Taken, Unborn, size_of, is_gone, IsPublished}
 
 abbrev pub IsNotAmong : ℕ → List ℕ → Type 0
@@ -29,8 +21,7 @@ IsChain n role v (a ∷ nodes) =
 -- There is no top yet, or global 0 points to it and it has the chain.
 abbrev pub HasChain : NeverState → Option ℕ → (ℕ → Role) → List ℕ → Type 0
 HasChain n None role nodes = (global_at n 0 ≡ Null) × (nodes ≡ [])
-HasChain n (Some t) role nodes =
-    (global_at n 0 ≡ Ptr t 1 0) × (role t ≡ Base) × IsChain n role (word_at n t 0) nodes
+HasChain n (Some t) role nodes = (global_at n 0 ≡ Ptr t 1 0) × (role t ≡ Base) × IsChain n role (word_at n t 0) nodes
 
 -- what no caller's point says
 pub record Core (callers : ℕ) (n : NeverState) (top : Option ℕ) (role : ℕ → Role) (nodes : List ℕ) : Type 0 where

@@ -2,14 +2,11 @@
 use Rattle.std.proofs.Common.{◌≡◌, ℕ, ◌<◌, ◌+◌, List, [], ◌∷◌, ◌++◌, length, get_or, take, refl, sym, ◌∙◌, ap, subst}
 use Rattle.std.proofs.Common.{append-nil}
 use Rattle.std.proofs.lemmas.List.{take_more}
-use Rattle.mk_words.specs.States.{PassState}
-use Rattle.mk_stack.specs.declared.jobs.Job.{Job}
-use Rattle.mk_stack.specs.declared.jobs.Done.{Done}
+use Rattle.mk_stack.proofs.Vocabulary.{AreJobRuns, DoesJobs, Done, Job, JobRun, PassState, replied_to}
 use Rattle.mk_stack.specs.Histories.{AddsJob}
-use Rattle.mk_stack.specs.Interleavings.{AreJobRuns}
-use Rattle.mk_stack.specs.Jobs.{JobRun, IsJobRun}
-use Rattle.mk_stack.specs.JobLists.{DoesJobs, jobs_of, dones_of}
-use Rattle.mk_stack.specs.Passes.{DoesJob, replied_to}
+use Rattle.mk_stack.specs.Jobs.{IsJobRun}
+use Rattle.mk_stack.specs.JobLists.{jobs_of, dones_of}
+use Rattle.mk_stack.specs.Passes.{DoesJob}
 use Rattle.mk_stack.proofs.StackHistories.{jobs_add_up}
 
 pub does_none : (p : PassState) → DoesJobs p [] [] p
@@ -37,9 +34,9 @@ one_done_more (x ∷ rs) r = ap (λ (l : List Done). x.done ∷ l) (one_done_mor
 both : {X : Type 0} (xs ys : List X) (x y : X) → xs ≡ ys → x ≡ y → xs ++ x ∷ [] ≡ ys ++ y ∷ []
 both xs ys x y same last = ap (λ l. l ++ x ∷ []) same ∙ ap (λ z. ys ++ z ∷ []) last
 
-pub does_more : (p q r : PassState) (jobs : List Job) (dones : List Done) (job : Job) (done : Done)
+pub does_more : {p q : PassState} (r : PassState) {jobs : List Job} {dones : List Done} (job : Job) (done : Done)
     → DoesJobs p jobs dones q → DoesJob q job done r → DoesJobs p (jobs ++ job ∷ []) (dones ++ done ∷ []) r
-does_more p q r jobs dones job done before does =
+does_more {p} {q} r {jobs} {dones} job done before does =
     let more : AddsJob (replied_to p) before.runs job done r =
     jobs_add_up q r job done (replied_to p) before.runs before.did does in
     record {
@@ -56,9 +53,9 @@ does_more p q r jobs dones job done before does =
     }
 
 -- the same, along a list of jobs
-pub does_next : (p q r : PassState) (jobs : List Job) (i : ℕ) (dones : List Done) (d : Job) (done : Done)
+pub does_next : {p q : PassState} (r : PassState) (jobs : List Job) (i : ℕ) {dones : List Done} (d : Job) (done : Done)
     → i < length jobs → DoesJobs p (take i jobs) dones q → DoesJob q (get_or jobs i d) done r
     → DoesJobs p (take (i + 1) jobs) (dones ++ done ∷ []) r
-does_next p q r jobs i dones d done within before does =
+does_next {p} r jobs i {dones} d done within before does =
     subst (λ (js : List Job). DoesJobs p js (dones ++ done ∷ []) r) (sym (take_more jobs i d within))
-    (does_more p q r (take i jobs) dones (get_or jobs i d) done before does)
+    (does_more r (get_or jobs i d) done before does)

@@ -3,59 +3,46 @@ use Rattle.std.proofs.Common.{◌≡◌, ◌≢◌, ◌⊎◌, ℕ, ◌+◌, ◌
 use Rattle.std.proofs.Common.{arith, inl, inr, ⊎_elim, append-nil}
 use Rattle.std.specs.Prelude.{Result, Ok, Err, IfOk, OnOk, IsOk}
 use Rattle.std.proofs.lemmas.Bool.{cases_eq}
+use Rattle.mk_stack.proofs.Vocabulary.{Caller, CallerState, Config, Decided, DoesJobs, Done, Dones, Event, Grows, Has}
+use Rattle.mk_stack.proofs.Vocabulary.{HasHandedOut, HaveDone, HaveWorked, Host, HostState, Job, Jobs, Joined}
+use Rattle.mk_stack.proofs.Vocabulary.{PassState, Replied, Seat, WordsState, after_calls, all_of, asked, at_home}
+use Rattle.mk_stack.proofs.Vocabulary.{caller_of_pass, calls, left, never_first, own_replied, pass_for, replied_in}
+use Rattle.mk_stack.proofs.Vocabulary.{replied_to, with_joined}
 use Rattle.mk_never.specs.declared.never_heap.NoMemory.{NoMemory}
-use Rattle.mk_core.specs.declared.config.Config.{Config}
-use Rattle.mk_core.specs.declared.events.Event.{Event}
-use Rattle.mk_core.specs.declared.events.Seat.{Seat}
-use Rattle.mk_core.specs.declared.events.Seat.TheVariants.{Caller, Host}
-use Rattle.mk_core.specs.Decided.{Decided, asked}
-use Rattle.mk_core.specs.Growing.{Grows}
-use Rattle.mk_core.specs.History.{calls, calls_from, left, never_first}
+use Rattle.mk_core.specs.History.{calls_from}
 use Rattle.mk_core.proofs.HistoryParts.{calls_in_parts}
-use Rattle.mk_never.specs.NeverHeap.{after_calls}
-use Rattle.mk_words.specs.Seats.{Has, has_over}
-use Rattle.mk_words.specs.States.{WordsState, PassState}
+use Rattle.mk_words.specs.Seats.{has_over}
 use Rattle.mk_words.proofs.Seats.{has_first, has_left, has_right, others_own, without_keeps}
-use Rattle.mk_caller.specs.States.{CallerState, at_home, caller_of_pass, IsIdleCaller}
-use Rattle.mk_heap.specs.Hosts.{HostState, pass_for, with_caller_made, with_joined}
-use Rattle.mk_stack.specs.declared.job_lists.Dones.{Dones}
-use Rattle.mk_stack.specs.declared.job_lists.Jobs.{Jobs}
-use Rattle.mk_stack.specs.declared.jobs.Done.{Done}
-use Rattle.mk_stack.specs.declared.jobs.Job.{Job}
-use Rattle.mk_stack.specs.declared.joining.Joined.{Joined}
+use Rattle.mk_caller.specs.States.{IsIdleCaller}
+use Rattle.mk_heap.specs.Hosts.{with_caller_made}
 use Rattle.mk_stack.specs.declared.joining.Worked.{Worked}
-use Rattle.mk_stack.specs.Interleavings.{own_replied}
-use Rattle.mk_stack.specs.JobLists.{DoesJobs, HasDone, HaveDone}
-use Rattle.mk_stack.specs.Jobs.{Replied, all_of}
-use Rattle.mk_stack.specs.Joining.{HasHandedOut, HasWorked, HaveWorked, IsBetweenJobs}
-use Rattle.mk_stack.specs.Passes.{replied_in, replied_to}
+use Rattle.mk_stack.specs.JobLists.{HasDone}
+use Rattle.mk_stack.specs.Joining.{HasWorked, IsBetweenJobs}
 use Rattle.mk_stack.proofs.OwnCalls.{none_of}
 use Rattle.mk_stack.proofs.Replies.{asked_in_two, none_replied, own_in_parts}
 
 -- What a caller did stands where the list goes on by events of others.
 
-pub still_replied : (c : Config) (k : ℕ) (es fs : List Event) → Grows (Caller k ∷ []) es fs
+pub still_replied : (c : Config) (k : ℕ) {es fs : List Event} → Grows (Caller k ∷ []) es fs
     → replied_in c k fs ≡ replied_in c k es
-still_replied c k es fs g =
+still_replied c k {es} g =
     let n = never_first c in
     let xs = calls c es in
     let later = calls_from c (left c es) g.more in
-    ap (λ (l : List Event). replied_in c k l) g.is
-    ∙ ap (λ (l : List Decided). own_replied k n (asked l)) (calls_in_parts c es g.more)
-    ∙ ap (λ l. own_replied k n l) (asked_in_two xs later)
-    ∙ own_in_parts k n (asked xs) (asked later)
+    ap (replied_in c k) g.is ∙ ap (λ (l : List Decided). own_replied k n (asked l)) (calls_in_parts c es g.more)
+    ∙ ap (λ l. own_replied k n l) (asked_in_two xs later) ∙ own_in_parts k n (asked xs) (asked later)
     ∙ ap (λ (l : List Replied). own_replied k n (asked xs) ++ l)
     (none_replied k (after_calls n (asked xs)) later (none_of c k es g.more g.of_others))
     ∙ append-nil (own_replied k n (asked xs))
 
-still_done : (c : Config) (es fs : List Event) (first : List Replied) (k : ℕ) (jobs : List Job) (dones : List Done)
+still_done : {c : Config} {es fs : List Event} {first : List Replied} {k : ℕ} {jobs : List Job} {dones : List Done}
     → Grows (Caller k ∷ []) es fs → HasDone c es first k jobs dones → HasDone c fs first k jobs dones
-still_done c es fs first k jobs dones g h = record {
+still_done {c} {k} g h = record {
   runs = h.runs;
   are_runs = h.are_runs;
   same_jobs = h.same_jobs;
   same_dones = h.same_dones;
-  own = still_replied c k es fs g ∙ h.own;
+  own = still_replied c k g ∙ h.own;
 }
 
 pub still_have : (c : Config) (es fs : List Event) (first : List Replied) (k : ℕ) (lists : List Jobs) (all : List Dones)
@@ -65,7 +52,7 @@ still_have c es fs first k [] [] g h = tt
 still_have c es fs first k [] (d ∷ ds) g h = absurd h
 still_have c es fs first k (x ∷ xs) [] g h = absurd h
 still_have c es fs first k (x ∷ xs) (d ∷ ds) g h = (
-  still_done c es fs first k x.list.items d.list.items (g k (omega arith) (omega arith)) h.0,
+  still_done (g k (omega arith) (omega arith)) h.0,
   still_have c es fs [] (k + 1) xs ds (λ j le lt. g j (omega arith) (omega arith)) h.1,
 )
 
@@ -76,15 +63,13 @@ unfolding calls_from
 no_reply c k = refl
 
 pub unasked : (p : PassState) → p.seen ≡ [] → replied_to p ≡ []
-unasked p is =
-    ap (λ (l : List Event). replied_in p.table.config (caller_of_pass p) l) is
-    ∙ no_reply p.table.config (caller_of_pass p)
+unasked p is = ap (replied_in p.table.config (caller_of_pass p)) is ∙ no_reply p.table.config (caller_of_pass p)
 
 -- The host makes the next caller.
 
-pub next_made : (w : WordsState) (markers n : ℕ) (h : HostState) → HasHandedOut w markers n h
+pub next_made : {w : WordsState} {markers n : ℕ} {h : HostState} → HasHandedOut w markers n h
     → HasHandedOut w markers (n + 1) (with_caller_made h)
-next_made w markers n h made = record {
+next_made {h} made = record {
   table = made.table;
   seat = made.seat;
   own = without_keeps (Caller h.callers) h.pass.seats Host refl made.own;
@@ -93,20 +78,20 @@ next_made w markers n h made = record {
   same_markers = made.same_markers;
 }
 
-pub is_ready : (w : WordsState) (k : ℕ) (p q : PassState) → IsBetweenJobs w k p → q ≡ record p { seen = q.seen }
+pub is_ready : {w : WordsState} {k : ℕ} {p q : PassState} → IsBetweenJobs w k p → q ≡ record p { seen = q.seen }
     → IsIdleCaller q → IsBetweenJobs w k q
-is_ready w k p q ready is idle = record {
+is_ready ready is idle = record {
   table = ap (λ (r : PassState). r.table) is ∙ ready.table;
   seat = ap (λ (r : PassState). r.seat) is ∙ ready.seat;
   alone = ap (λ (r : PassState). r.seats) is ∙ ready.alone;
   idle = idle;
 }
 
-pub next_ready : (w : WordsState) (markers n : ℕ) (h : HostState) (s : CallerState) → HasHandedOut w markers n h
+pub next_ready : {w : WordsState} {markers n : ℕ} {h : HostState} (s : CallerState) → HasHandedOut w markers n h
     → s ≡ at_home (pass_for h (Caller h.callers)) → IsIdleCaller s.pass → IsBetweenJobs w n s.pass
-next_ready w markers n h s made is idle =
+next_ready {n} {h} s made is idle =
     let next : s.pass ≡ pass_for h (Caller h.callers) = ap (λ (r : CallerState). r.pass) is in
-    let seat : Caller h.callers ≡ Caller n = ap (λ (j : ℕ). Caller j) made.count in
+    let seat : Caller h.callers ≡ Caller n = ap Caller made.count in
     record {
       table = ap (λ (r : PassState). r.table) next ∙ made.table;
       seat = ap (λ (r : PassState). r.seat) next ∙ seat;
@@ -114,19 +99,18 @@ next_ready w markers n h s made is idle =
       idle = idle;
     }
 
-pub next_unasked : (w : WordsState) (markers n : ℕ) (h : HostState) (s : CallerState) → HasHandedOut w markers n h
+pub next_unasked : {w : WordsState} {markers n : ℕ} {h : HostState} (s : CallerState) → HasHandedOut w markers n h
     → s ≡ at_home (pass_for h (Caller h.callers)) → replied_to s.pass ≡ []
-next_unasked w markers n h s made is = unasked s.pass (ap (λ (r : CallerState). r.pass.seen) is ∙ made.seen)
+next_unasked s made is = unasked s.pass (ap (λ (r : CallerState). r.pass.seen) is ∙ made.seen)
 
 -- A caller did its jobs.
 
-pub done_by : (w : WordsState) (k : ℕ) (p q : PassState) (jobs : List Job) (dones : List Done) → IsBetweenJobs w k p
+pub done_by : {w : WordsState} {k : ℕ} {p q : PassState} {jobs : List Job} {dones : List Done} → IsBetweenJobs w k p
     → DoesJobs p jobs dones q → HasDone w.config q.seen (replied_to p) k jobs dones
-done_by w k p q jobs dones ready does =
+done_by {w} {k} {p} {q} ready does =
     let table : q.table ≡ w = ap (λ (r : PassState). r.table) does.is ∙ ready.table in
     let number : caller_of_pass q ≡ k =
-    ap (λ (r : PassState). caller_of_pass r) does.is
-    ∙ ap (λ (s : Seat). caller_of_pass (record p { seat = s })) ready.seat in
+    ap caller_of_pass does.is ∙ ap (λ (s : Seat). caller_of_pass (record p { seat = s })) ready.seat in
     record {
       runs = does.runs;
       are_runs = does.are_runs;
@@ -137,11 +121,12 @@ done_by w k p q jobs dones ready does =
           (subst (λ (j : ℕ). replied_in q.table.config j q.seen ≡ replied_to p ++ all_of does.runs) number does.did);
     }
 
-pub all_done_by : (w : WordsState) (k : ℕ) (p q : PassState) (jobs : List Job) (dones : Result Dones NoMemory)
+pub all_done_by : {w : WordsState} {k : ℕ} {p : PassState} (q : PassState) (jobs : List Job)
+    (dones : Result Dones NoMemory)
     → IsBetweenJobs w k p → IfOk dones (λ ds. DoesJobs p jobs ds.list.items q)
     → IfOk dones (λ ds. HasDone w.config q.seen (replied_to p) k jobs ds.list.items)
-all_done_by w k p q jobs (Ok ds) ready does = done_by w k p q jobs ds.list.items ready does
-all_done_by w k p q jobs (Err e) ready does = tt
+all_done_by q jobs (Ok ds) ready does = done_by ready does
+all_done_by q jobs (Err e) ready does = tt
 
 pub no_lists : (lists : List Jobs) → length lists ≡ 0 → lists ≡ []
 no_lists [] e = refl
@@ -151,18 +136,18 @@ no_lists (x ∷ xs) e = absurd (omega (arith, e))
 
 none_done : {V : Type 0} (items : V → List Dones) (c : Config) (es : List Event) (first : List Replied) (k : ℕ)
     (all : Result V NoMemory) → IfOk all (λ a. items a ≡ []) → IfOk all (λ a. HaveDone c es first k [] (items a))
-none_done items c es first k (Ok a) is = subst (λ (l : List Dones). HaveDone c es first k [] l) (sym is) tt
+none_done items c es first k (Ok a) is = subst (HaveDone c es first k []) (sym is) tt
 none_done items c es first k (Err e) is = tt
 
-pub none_joined : (w : WordsState) (markers n : ℕ) (joined : Joined) → HasHandedOut w markers n joined.host
+pub none_joined : {w : WordsState} {markers n : ℕ} (joined : Joined) → HasHandedOut w markers n joined.host
     → IfOk joined.dones (λ all. all.items ≡ []) → HaveWorked w markers [] n [] joined
-none_joined w markers n joined made none = record {
+none_joined {w} {n} joined made none = record {
   table = made.table;
   seat = made.seat;
   own = made.own;
   count = made.count ∙ omega arith;
   seats = λ j le lt. absurd (omega arith);
-  before_over = ap (λ (l : List Event). has_over l) made.seen;
+  before_over = ap has_over made.seen;
   same_markers = made.same_markers;
   done = none_done (λ all. all.items) w.config joined.host.pass.seen [] n joined.dones none;
 }
@@ -174,35 +159,34 @@ same_or_later k j le = by (cases_eq j k)
     by (inl e) = inl e
     by (inr ne) = inr (omega arith)
 
-dones_joined : {V : Type 0} (items : V → List Dones) (c : Config) (es ds fs : List Event) (before : List Replied)
+dones_joined : {V : Type 0} (items : V → List Dones) (c : Config) (es : List Event) {ds fs : List Event}
+    (before : List Replied)
     (k : ℕ) (jobs : Jobs) (lists : List Jobs) (first : Result Dones NoMemory) (others all : Result V NoMemory)
-    → Grows (Caller k ∷ []) ds fs
-    → ((j : ℕ) → k + 1 ≤ j → j < k + 1 + length lists → Grows (Caller j ∷ []) es fs)
+    → Grows (Caller k ∷ []) ds fs → ((j : ℕ) → k + 1 ≤ j → j < k + 1 + length lists → Grows (Caller j ∷ []) es fs)
     → OnOk all (IsOk first) → OnOk all (IsOk others)
     → IfOk all (λ a. IfOk first (λ x. IfOk others (λ xs. items a ≡ x ∷ items xs)))
     → IfOk first (λ x. HasDone c ds before k jobs.list.items x.list.items)
     → IfOk others (λ xs. HaveDone c es [] (k + 1) lists (items xs))
     → IfOk all (λ a. HaveDone c fs before k (jobs ∷ lists) (items a))
-dones_joined items c es ds fs before k jobs lists first others (Err e) mine theirs a b is h i = tt
-dones_joined items c es ds fs before k jobs lists (Err x) others (Ok all) mine theirs a b is h i = cc
-dones_joined items c es ds fs before k jobs lists (Ok x) (Err y) (Ok all) mine theirs a b is h i = cc
-dones_joined items c es ds fs before k jobs lists (Ok x) (Ok xs) (Ok all) mine theirs a b is h i =
-    subst (λ (l : List Dones). HaveDone c fs before k (jobs ∷ lists) l) (sym is) (
-      still_done c ds fs before k jobs.list.items x.list.items mine h,
+dones_joined items c es before k jobs lists first others (Err e) mine theirs a b is h i = tt
+dones_joined items c es before k jobs lists (Err x) others (Ok all) mine theirs a b is h i = cc
+dones_joined items c es before k jobs lists (Ok x) (Err y) (Ok all) mine theirs a b is h i = cc
+dones_joined items c es {fs} before k jobs lists (Ok x) (Ok xs) (Ok all) mine theirs a b is h i =
+    subst (HaveDone c fs before k (jobs ∷ lists)) (sym is) (
+      still_done mine h,
       still_have c es fs [] (k + 1) lists (items xs) theirs i,
     )
 
-pub one_joined : (w : WordsState) (markers : ℕ) (first : List Replied) (k : ℕ) (jobs : Jobs) (others : List Jobs)
-    (worked : Worked) (joined all : Joined) → HasWorked w first k jobs.list.items worked
-    → HaveWorked w markers [] (k + 1) others joined
-    → all.host ≡ with_joined joined.host worked.pass all.host.pass.seen
+pub one_joined : {w : WordsState} {markers : ℕ} {first : List Replied} {k : ℕ} (jobs : Jobs) {others : List Jobs}
+    {worked : Worked} {joined : Joined} (all : Joined) → HasWorked w first k jobs.list.items worked
+    → HaveWorked w markers [] (k + 1) others joined → all.host ≡ with_joined joined.host worked.pass all.host.pass.seen
     → Grows joined.host.pass.seats joined.host.pass.seen all.host.pass.seen
     → Grows worked.pass.seats worked.pass.seen all.host.pass.seen
     → has_over all.host.pass.seen ≡ has_over joined.host.pass.seen
     → OnOk all.dones (IsOk worked.dones) → OnOk all.dones (IsOk joined.dones)
     → IfOk all.dones (λ a. IfOk worked.dones (λ x. IfOk joined.dones (λ xs. a.items ≡ x ∷ xs.items)))
     → HaveWorked w markers first k (jobs ∷ others) all
-one_joined w markers first k jobs others worked joined all one rest is own came overs a b items =
+one_joined {w} {first} {k} jobs {others} {worked} {joined} all one rest is own came overs a b items =
     let p = worked.pass in
     let h = joined.host in
     let fs = all.host.pass.seen in
@@ -215,8 +199,7 @@ one_joined w markers first k jobs others worked joined all one rest is own came 
       of_others = others_own h.pass.seats (Caller j) own.more (rest.seats j le lt) own.of_others;
     } in
     let has : (j : ℕ) → k ≤ j → j < k + length (jobs ∷ others) → Has (h.pass.seats ++ p.seats) (Caller j) =
-    λ j le lt.
-    ⊎_elim
+    λ j le lt. ⊎_elim
     (λ (e : j ≡ k). has_right h.pass.seats p.seats (Caller j)
     (subst (λ (seats : List Seat). Has seats (Caller j)) (sym one.ready.alone)
     (subst (λ (i : ℕ). Has (Caller i ∷ []) (Caller j)) e (has_first (Caller j) []))))
@@ -232,34 +215,35 @@ one_joined w markers first k jobs others worked joined all one rest is own came 
       before_over = overs ∙ rest.before_over;
       same_markers = ap (λ (x : HostState). x.markers) is ∙ rest.same_markers;
       done =
-          dones_joined (λ all. all.items) w.config h.pass.seen p.seen fs first k jobs others worked.dones joined.dones
+          dones_joined (λ all. all.items) w.config h.pass.seen first k jobs others worked.dones joined.dones
           all.dones mine theirs a b items one.done rest.done;
     }
 
 -- The work of a caller's thread
-pub has_worked : (w : WordsState) (k : ℕ) (p : PassState) (s : CallerState) (q r : PassState) (jobs : List Job)
+pub has_worked : {w : WordsState} {k : ℕ} {p : PassState} (s : CallerState) {q : PassState} (r : PassState)
+    (jobs : List Job)
     (dones : Result Dones NoMemory) → IsBetweenJobs w k p → s ≡ at_home p → q ≡ record s.pass { seen = q.seen }
     → IfOk dones (λ ds. DoesJobs s.pass jobs ds.list.items q) → r ≡ q → IsIdleCaller q
     → HasWorked w (replied_to p) k jobs (record { pass = r; dones = dones })
-has_worked w k p s q r jobs dones ready home is does same idle =
+has_worked {w} {k} {p} s {q} r jobs dones ready home is does same idle =
     let first : s.pass ≡ p = ap (λ (x : CallerState). x.pass) home in
     let goes : q ≡ record p { seen = q.seen } = is ∙ ap (λ (x : PassState). record x { seen = q.seen }) first in
     let all : IfOk dones (λ ds. DoesJobs p jobs ds.list.items q) =
     subst (λ (x : PassState). IfOk dones (λ ds. DoesJobs x jobs ds.list.items q)) first does in
     subst (λ (x : PassState). HasWorked w (replied_to p) k jobs (record { pass = x; dones = dones })) (sym same)
-    (record { ready = is_ready w k p q ready goes idle; done = all_done_by w k p q jobs dones ready all })
+    (record { ready = is_ready ready goes idle; done = all_done_by q jobs dones ready all })
 
 -- What a caller's jobs ask for
 
-pub ready_exists : (w : WordsState) (k : ℕ) (p : PassState) (s : CallerState) → IsBetweenJobs w k p → s ≡ at_home p
+pub ready_exists : {w : WordsState} {k : ℕ} {p : PassState} (s : CallerState) → IsBetweenJobs w k p → s ≡ at_home p
     → k < w.config.callers → caller_of_pass s.pass < s.pass.table.config.callers
-ready_exists w k p s ready home lt =
+ready_exists {w} {p} s ready home lt =
     subst (λ (x : CallerState). caller_of_pass x.pass < x.pass.table.config.callers) (sym home)
     (subst (λ (v : WordsState). caller_of_pass p < v.config.callers) (sym ready.table)
     (subst (λ (x : Seat). caller_of_pass (record p { seat = x }) < w.config.callers) (sym ready.seat) lt))
 
-pub ready_alone : (w : WordsState) (k : ℕ) (p : PassState) (s : CallerState) → IsBetweenJobs w k p → s ≡ at_home p
+pub ready_alone : {w : WordsState} {k : ℕ} {p : PassState} (s : CallerState) → IsBetweenJobs w k p → s ≡ at_home p
     → s.pass.seats ≡ s.pass.seat ∷ []
-ready_alone w k p s ready home =
+ready_alone s ready home =
     subst (λ (x : CallerState). x.pass.seats ≡ x.pass.seat ∷ []) (sym home)
     (ready.alone ∙ ap (λ (x : Seat). x ∷ []) (sym ready.seat))

@@ -1,3 +1,4 @@
+pub mod Vocabulary
 pub mod Heaps
 pub mod Roles
 pub mod Invariant
@@ -23,6 +24,7 @@ pub mod Linearizable
 pub mod Replies
 pub mod NodeKinds
 pub mod ReplyForms
+pub mod AtPoints
 pub mod Advances
 pub mod RefusedAccesses
 pub mod Going

@@ -1,16 +1,14 @@
 -- From the first operation on: the order of all jobs, and what becomes of their nodes.
-use Rattle.std.proofs.Common.{◌≡◌, ℕ, zero, suc, ◌+◌, ◌*◌, ◌<◌, ◌≤◌, List, [], length}
-use Rattle.std.proofs.Common.{take, drop, refl, sym, ◌∙◌, ap, arith, None, inl, inr}
+use Rattle.std.proofs.Common.{◌≡◌, ℕ, zero, suc, ◌+◌, ◌*◌, ◌<◌, ◌≤◌, List, [], length, take, drop, refl, sym, ◌∙◌, ap}
+use Rattle.std.proofs.Common.{arith, None, inl, inr}
 use Rattle.std.specs.Prelude.{◌⊎◌}
 use Rattle.std.proofs.lemmas.Bool.{cases_lt}
 use Rattle.std.proofs.lemmas.List.{length-replicate}
-use Rattle.mk_never.specs.declared.types.Kind.{Kind}
-use Rattle.mk_never.specs.declared.values.Value.TheVariants.{Null}
-use Rattle.mk_never.specs.NeverHeap.{NeverState, Call, start_of, allocation_at, after_calls, bit}
-use Rattle.mk_stack.specs.Jobs.{Replied, JobRun}
-use Rattle.mk_stack.specs.declared.points.Point.TheVariants.{Founding, Founded}
-use Rattle.mk_stack.specs.Interleavings.{IsInterleaved, jobs_of_first, order_of, own_decisions, AreDecidedOnce}
-use Rattle.mk_stack.specs.Laws.{IsLinearized, LeaksNothing, IsExplained, StacksAreLinearizable, IsOneOf, times_freed}
+use Rattle.mk_stack.proofs.Vocabulary.{AreDecidedOnce, Call, Founded, Founding, IsOneOf, JobRun, Kind, NeverState, Null}
+use Rattle.mk_stack.proofs.Vocabulary.{Replied, after_calls, allocation_at, bit, order_of, own_decisions}
+use Rattle.mk_never.specs.NeverHeap.{start_of}
+use Rattle.mk_stack.specs.Interleavings.{IsInterleaved, jobs_of_first}
+use Rattle.mk_stack.specs.Laws.{IsLinearized, LeaksNothing, IsExplained, StacksAreLinearizable, times_freed}
 use Rattle.mk_stack.proofs.Roles.{Role, Unborn, Base, Private, Stacked, Taken, Freed, is_gone}
 use Rattle.mk_stack.proofs.Invariant.{Core, Local, Work, Inv}
 use Rattle.mk_stack.proofs.Chains.{stack_is_linked, on_stack_role}

@@ -1,18 +1,15 @@
 -- What callers still have to do, what is still to be decided of it, and what one operation more makes of that.
-use Rattle.std.proofs.Common.{◌≡◌, ◌≢◌, ℕ, ◌+◌, Bool, List, [], ◌∷◌, ◌++◌}
-use Rattle.std.proofs.Common.{length, take, drop, refl, sym, ◌∙◌, ap, subst, arith, Some, None, Option}
+use Rattle.std.proofs.Common.{◌≡◌, ◌≢◌, ℕ, ◌+◌, Bool, List, [], ◌∷◌, ◌++◌, length, take, drop, refl, sym, ◌∙◌, ap}
+use Rattle.std.proofs.Common.{subst, arith, Some, None, Option}
 use Rattle.std.specs.Prelude.{if◌then◌else◌, option_and_then}
 use Rattle.std.proofs.lemmas.Bool.{eq-eqb, ne_eqb}
-use Rattle.mk_never.specs.declared.operations.Op.{Op}
-use Rattle.mk_never.specs.NeverHeap.{NeverState, Call, reply_of, after_op, after_calls, replies_of, bit}
-use Rattle.mk_stack.specs.declared.jobs.Job.{Job}
-use Rattle.mk_stack.specs.declared.jobs.Done.{Done}
-use Rattle.mk_stack.specs.Jobs.{Replied, JobRun, Leads, IsJobRun, all_of}
-use Rattle.mk_stack.specs.declared.points.Point.{Point}
-use Rattle.mk_stack.specs.declared.points.Point.TheVariants.{Founded, Starting, Ended}
-use Rattle.mk_stack.specs.Orders.{Ordered, left_by_all}
-use Rattle.mk_stack.specs.Interleavings.{own_replied, AreJobRuns, order_of, own_decisions, AreDecidedOnce}
-use Rattle.mk_stack.specs.Laws.{numbers_in, times_freed, NoneIsDouble}
+use Rattle.mk_stack.proofs.Vocabulary.{AreDecidedOnce, AreJobRuns, Call, Done, Ended, Founded, Job, JobRun, Leads}
+use Rattle.mk_stack.proofs.Vocabulary.{NeverState, Op, Ordered, Point, Replied, Starting, after_calls, after_op, all_of}
+use Rattle.mk_stack.proofs.Vocabulary.{bit, numbers_in, order_of, own_decisions, own_replied, reply_of}
+use Rattle.mk_never.specs.NeverHeap.{replies_of}
+use Rattle.mk_stack.specs.Jobs.{IsJobRun}
+use Rattle.mk_stack.specs.Orders.{left_by_all}
+use Rattle.mk_stack.specs.Laws.{times_freed, NoneIsDouble}
 use Rattle.mk_stack.proofs.Roles.{Role, Private, Taken, is_gone}
 use Rattle.mk_stack.proofs.Invariant.{Core, Local, IsPushing, IsFreeing, Work, Inv}
 use Rattle.mk_stack.proofs.Assembly.{Decides, nothing, settles, IsLeft, IsOfJob, job_at}
@@ -87,8 +84,7 @@ settled n top role k s u _ goal is local = absurd goal
 pub begins : (r : JobRun) → IsJobRun r → r.all ≡ [] → ⊥
 begins r run none =
     let same : Starting r.job ≡ Ended r.done = subst (λ (xs : List Replied). Leads (Starting r.job) xs
-    (Ended r.done)) none
-    run in starts same
+    (Ended r.done)) none run in starts same
   where
     starts : Starting r.job ≡ Ended r.done → ⊥
     starts e = cc
@@ -109,7 +105,7 @@ no_jobs_left [] runs e = refl
 no_jobs_left (r ∷ rs) runs e = absurd (begins r runs.0 (nothing_left r.all (all_of rs) (sym e)).0)
 
 -- Where all is done
-module _ (callers : ℕ) (n : NeverState) (top : Option ℕ) (role : ℕ → Role) (nodes : List ℕ) (W : ℕ → Work)
+module _ {callers : ℕ} {n : NeverState} {top : Option ℕ} {role : ℕ → Role} {nodes : List ℕ} {W : ℕ → Work}
     (inv : Inv callers n top role nodes W) (work : (k : ℕ) → IsWork n [] k (W k)) where
   at_goal : (k : ℕ) → (W k).point ≡ (W k).goal
   at_goal k =
@@ -138,9 +134,9 @@ module _ (callers : ℕ) (n : NeverState) (top : Option ℕ) (role : ℕ → Rol
         nodes_end = nodes;
         core = inv.core;
         pushed = λ k a e. goal_pushes_nothing (W k).goal (work k).goal
-            (subst (λ (p : Point). IsPushing p) (at_goal k) ((inv.held k a).pushing e).0);
+            (subst IsPushing (at_goal k) ((inv.held k a).pushing e).0);
         taken = λ k a e. goal_frees_nothing (W k).goal (work k).goal
-            (subst (λ (p : Point). IsFreeing p) (at_goal k) ((inv.held k a).freeing e).0);
+            (subst IsFreeing (at_goal k) ((inv.held k a).freeing e).0);
         decisions = [];
         one_each = refl;
         explained = refl;
@@ -151,20 +147,17 @@ module _ (callers : ℕ) (n : NeverState) (top : Option ℕ) (role : ℕ → Rol
 
 -- A caller's own operations, and those of others
 
-pub mine : (c : ℕ) (o : Op) (n : NeverState) (xs : List Call)
-    → own_replied c n (record { caller = c; op = o } ∷ xs)
+pub mine : (c : ℕ) (o : Op) (n : NeverState) (xs : List Call) → own_replied c n (record { caller = c; op = o } ∷ xs)
     ≡ record { op = o; reply = reply_of n c o } ∷ own_replied c (after_op n c o) xs
 mine c o n xs =
     ap (λ (b : Bool). if b then record { op = o; reply = reply_of n c o } ∷ own_replied c (after_op n c o) xs
-    else own_replied c (after_op n c o) xs)
-    (eq-eqb c c refl)
+    else own_replied c (after_op n c o) xs) (eq-eqb c c refl)
 
 pub of_other : (k c : ℕ) (o : Op) (n : NeverState) (xs : List Call) → k ≢ c
     → own_replied k n (record { caller = c; op = o } ∷ xs) ≡ own_replied k (after_op n c o) xs
 of_other k c o n xs other =
     ap (λ (b : Bool). if b then record { op = o; reply = reply_of n c o } ∷ own_replied k (after_op n c o) xs
-    else own_replied k (after_op n c o) xs)
-    (ne_eqb c k (λ e. other (sym e)))
+    else own_replied k (after_op n c o) xs) (ne_eqb c k (λ e. other (sym e)))
 
 pub my_decision : (c : ℕ) (o : Op) (xs : List Call) (d : Option Ordered) (ds : List (Option Ordered))
     → own_decisions c (record { caller = c; op = o } ∷ xs) (d ∷ ds) ≡ d ∷ own_decisions c xs ds
@@ -181,21 +174,19 @@ pub explained_more : (d : Option Ordered) (xs ys : List ℕ) (zs : List ℕ) (ds
     → left_by_all ys (order_of ds) ≡ Some zs → left_by_all xs (order_of (d ∷ ds)) ≡ Some zs
 explained_more None xs ys zs ds left rest = ap (λ (l : List ℕ). left_by_all l (order_of ds)) (sym left) ∙ rest
 explained_more (Some e) xs ys zs ds left rest =
-    ap (λ (o : Option (List ℕ)). option_and_then (λ (l : List ℕ). left_by_all l (order_of ds)) o) left ∙ rest
+    ap (option_and_then (λ (l : List ℕ). left_by_all l (order_of ds))) left ∙ rest
 
 -- The same is owed after a step that decides nothing,
 pub owed_same : (c : ℕ) (s next : Point) (u : Option Done) (g : Point) → (u ≡ None → job_at next ≡ job_at s)
     → owed c next u g ≡ owed c s u g
-owed_same c s next None (Ended d) same =
-    ap (λ (j : Job). record { caller = c; job = j; done = d } ∷ []) (same refl)
+owed_same c s next None (Ended d) same = ap (λ (j : Job). record { caller = c; job = j; done = d } ∷ []) (same refl)
 owed_same c s next (Some y) (Ended d) same = refl
 owed_same c s next None _ same = refl
 owed_same c s next (Some y) _ same = refl
 
 -- and nothing after one that decides the job.
 pub record IsOnceMore (c : ℕ) (s : Point) (u : Option Done) (d : Option Ordered) (g : Point) (ds : List
-    (Option Ordered))
-    : Type 0 where
+    (Option Ordered)) : Type 0 where
   pub agrees : Agrees u g
   pub first : order_of (d ∷ ds) ≡ owed c s u g
 
@@ -211,8 +202,7 @@ once_more c s next u d u' g ds (nothing {u = x}) same goal of_job agrees first =
 once_more c s next u d u' (Ended e) ds (settles {d = y} h) same goal of_job agrees first =
     record {
       agrees = tt;
-      first = ap (λ (l : List Ordered). entry c s y ∷ l) first
-          ∙ ap (λ (z : Done). entry c s z ∷ []) agrees;
+      first = ap (λ (l : List Ordered). entry c s y ∷ l) first ∙ ap (λ (z : Done). entry c s z ∷ []) agrees;
     }
 once_more c s next u d u' Founded ds (settles {d = y} h) same goal of_job agrees first = absurd (of_job h refl)
 once_more c s next u d u' _ ds (settles {d = y} h) same goal of_job agrees first = absurd goal

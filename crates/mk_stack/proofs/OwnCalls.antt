@@ -1,20 +1,13 @@
 -- Calls of a history, by the callers that made them.
-use Rattle.std.proofs.Common.{◌≡◌, ◌≢◌, ◌⊎◌, ℕ, ◌<◌, Bool, true, false, List, [], ◌∷◌, ◌++◌, refl, sym, ◌∙◌, ap}
-use Rattle.std.proofs.Common.{inl, inr, append-nil}
+use Rattle.std.proofs.Common.{◌≡◌, ◌≢◌, ◌⊎◌, ℕ, ◌<◌, Bool, true, false, List, [], ◌∷◌, ◌++◌, refl, sym, ◌∙◌, ap, inl}
+use Rattle.std.proofs.Common.{inr, append-nil}
 use Rattle.std.specs.Prelude.{◌==◌, if◌then◌else◌}
 use Rattle.std.proofs.lemmas.Bool.{cases_eq, eq-eqb}
 use Rattle.std.proofs.lemmas.List.{append_cancel_left}
-use Rattle.mk_core.specs.declared.config.Config.{Config}
-use Rattle.mk_core.specs.declared.events.Event.{Event}
-use Rattle.mk_core.specs.declared.events.Seat.TheVariants.{Caller}
-use Rattle.mk_core.specs.Decided.{Decided, asked}
-use Rattle.mk_core.specs.Growing.{AreOfOthers}
-use Rattle.mk_core.specs.History.{calls, calls_from, left}
+use Rattle.mk_stack.proofs.Vocabulary.{AreAllBy, AreBelow, AreOfOthers, Call, Caller, Config, Decided, Event, asked}
+use Rattle.mk_stack.proofs.Vocabulary.{calls, calls_from, left}
 use Rattle.mk_core.proofs.HistoryParts.{calls_in_parts}
-use Rattle.mk_never.specs.NeverHeap.{Call}
 use Rattle.mk_caller.proofs.OwnSteps.{by_append, calls_by, others_add_none}
-use Rattle.mk_stack.specs.Interleavings.{AreBelow}
-use Rattle.mk_stack.specs.Walks.{AreAllBy}
 
 -- Events of others decide no call of a caller.
 pub none_of : (c : Config) (k : ℕ) (es more : List Event) → AreOfOthers (Caller k ∷ []) more
@@ -23,9 +16,7 @@ none_of c k es more others =
     let xs = calls c es in
     let later = calls_from c (left c es) more in
     append_cancel_left (calls_by k xs) (calls_by k later) []
-    (sym (by_append k xs later)
-    ∙ ap (λ (l : List Decided). calls_by k l) (sym (calls_in_parts c es more))
-    ∙ others_add_none c k es more others
+    (sym (by_append k xs later) ∙ ap (calls_by k) (sym (calls_in_parts c es more)) ∙ others_add_none c k es more others
     ∙ sym (append-nil (calls_by k xs)))
 
 cons_is_not_nil : (x : Decided) (xs : List Decided) → x ∷ xs ≡ [] → ⊥
@@ -53,8 +44,7 @@ all_by callers j (x ∷ xs) below none = (
   where
     by : ((x.caller ≡ j) ⊎ (x.caller ≢ j)) → x.caller ≡ j
     by (inl e) = e
-    by (inr ne) =
-        absurd (cons_is_not_nil x (calls_by x.caller xs) (sym (its_own x xs) ∙ none x.caller below.0 ne))
+    by (inr ne) = absurd (cons_is_not_nil x (calls_by x.caller xs) (sym (its_own x xs) ∙ none x.caller below.0 ne))
 
 pub no_calls : (callers : ℕ) (xs : List Decided) → AreBelow callers (asked xs)
     → ((k : ℕ) → k < callers → calls_by k xs ≡ []) → xs ≡ []

@@ -1,41 +1,28 @@
 -- The steps of a pop.
-use Rattle.std.proofs.Common.{◌≡◌, ◌≢◌, ℕ, ◌<◌, Bool, List, [], ◌∷◌}
-use Rattle.std.proofs.Common.{refl, sym, ◌∙◌, ap, subst, arith, Some, None, Option, inl, inr}
+use Rattle.std.proofs.Common.{◌≡◌, ◌≢◌, ℕ, ◌<◌, Bool, List, [], ◌∷◌, refl, sym, ◌∙◌, ap, subst, arith, Some, None}
+use Rattle.std.proofs.Common.{Option, inl, inr}
 use Rattle.std.specs.Prelude.{◌⊎◌, if◌then◌else◌}
 use Rattle.std.proofs.lemmas.Bool.{eq-eqb, ne_eqb}
-use Rattle.mk_never.specs.declared.operations.Op.{Op}
+use Rattle.mk_stack.proofs.Vocabulary.{Done, Empty, Ended, Following, Freeing, NeverState, Null, Op, Peeking, Point}
+use Rattle.mk_stack.proofs.Vocabulary.{Pop, Popped, Ptr, Reading, Replied, Reply, Taking, Target, Testing, Value}
+use Rattle.mk_stack.proofs.Vocabulary.{after_free, after_op, freed_by, left_at, left_by, number_of, numbers_in}
+use Rattle.mk_stack.proofs.Vocabulary.{register_at, reply_at, reply_of, with_register, with_word, word_at}
 use Rattle.mk_never.specs.declared.operations.Op.TheVariants as op
-use Rattle.mk_never.specs.declared.operations.Reply.{Reply}
 use Rattle.mk_never.specs.declared.operations.Reply.TheVariants as reply
-use Rattle.mk_never.specs.declared.values.Target.{Target}
-use Rattle.mk_never.specs.declared.values.Value.{Value}
-use Rattle.mk_never.specs.declared.values.Value.TheVariants.{Null, Ptr}
-use Rattle.mk_never.specs.NeverHeap.{NeverState, register_at, word_at}
-use Rattle.mk_never.specs.NeverHeap.{with_register, with_word, number_of}
-use Rattle.mk_never.specs.NeverHeap.{reply_at, left_at, free_reply, after_free, reply_of, after_op}
-use Rattle.mk_stack.specs.declared.jobs.Job.TheVariants.{Pop}
-use Rattle.mk_stack.specs.declared.jobs.Done.{Done}
-use Rattle.mk_stack.specs.declared.jobs.Done.TheVariants.{Popped, Empty}
-use Rattle.mk_stack.specs.Jobs.{Replied}
-use Rattle.mk_stack.specs.declared.points.Point.{Point}
-use Rattle.mk_stack.specs.declared.points.Point.TheVariants.{Peeking, Testing, Following, Taking, Freeing}
-use Rattle.mk_stack.specs.declared.points.Point.TheVariants.{Reading, Ended}
-use Rattle.mk_stack.specs.Orders.{left_by}
-use Rattle.mk_stack.specs.Laws.{numbers_in, freed_by, is_pointer_to, is_done}
+use Rattle.mk_never.specs.NeverHeap.{free_reply}
+use Rattle.mk_stack.specs.Laws.{is_pointer_to, is_done}
 use Rattle.mk_stack.proofs.Heaps.{other_register}
 use Rattle.mk_stack.proofs.Roles.{Role, IsPublished, is_gone}
-use Rattle.mk_stack.proofs.Invariant.{IsChain, Local, IsHeld, Work, Inv}
-use Rattle.mk_stack.proofs.Invariant.{HasSeen, HasTaken}
+use Rattle.mk_stack.proofs.Invariant.{IsChain, Local, IsHeld, Work, Inv, HasSeen, HasTaken}
 use Rattle.mk_stack.proofs.Assembly.{Stepped, nothing, settles}
 use Rattle.mk_stack.proofs.Registered.{by_nothing, by_register}
 use Rattle.mk_stack.proofs.Popping.{by_pop}
 use Rattle.mk_stack.proofs.Freeing.{by_free}
-use Rattle.mk_stack.proofs.StepParts.{ptr_is_not_null, num_is}
-use Rattle.mk_stack.proofs.StepParts.{ptr_is}
-use Rattle.mk_stack.proofs.StepParts.{gets, register_set, idle, top_role, undecided, without_left}
-use Rattle.mk_stack.proofs.StepParts.{null_is_null, other_is_not, keeps_top, exchanged_from, exchanges, leaves_all}
+use Rattle.mk_stack.proofs.StepParts.{ptr_is_not_null, num_is, ptr_is, gets, register_set, idle, top_role, undecided}
+use Rattle.mk_stack.proofs.StepParts.{without_left, null_is_null, other_is_not, keeps_top, exchanged_from, exchanges}
+use Rattle.mk_stack.proofs.StepParts.{leaves_all}
 
-module _ (callers : ℕ) (n : NeverState) (top : Option ℕ) (role : ℕ → Role) (nodes : List ℕ) (W : ℕ → Work)
+module _ {callers : ℕ} {n : NeverState} {top : Option ℕ} {role : ℕ → Role} {nodes : List ℕ} {W : ℕ → Work}
     (inv : Inv callers n top role nodes W) (c : ℕ) (exists : c < callers) where
   abbrev Goal : Point → Option Done → Op → Point → List Replied → NeverState → Type 0
   Goal s u o next rest m = Stepped callers n role nodes W c s u o next rest m
@@ -46,80 +33,67 @@ module _ (callers : ℕ) (n : NeverState) (top : Option ℕ) (role : ℕ → Rol
   -- A pop
 
   pub empty_left : (xs : List ℕ) → xs ≡ [] → left_by xs Pop Empty ≡ Some xs
-  empty_left xs e = without_left callers n top role nodes W inv c exists Pop xs e
+  empty_left xs e = without_left inv c exists Pop xs e
 
   pub peek_steps : (u : Option Done) (rest : List Replied) → Local n top role c Peeking u → Held Peeking
       → Goal Peeking u (op.GetPtr 2 0 0) Testing rest (after_op n c (op.GetPtr 2 0 0))
   peek_steps u rest local held =
-      subst (λ (m : NeverState). Goal Peeking u (op.GetPtr 2 0 0) Testing rest m)
+      subst (Goal Peeking u (op.GetPtr 2 0 0) Testing rest)
       (sym (ap (λ (t : Target). left_at t (with_register n c 2 Null) (λ a w. with_register n c 2 (word_at n a w)))
-      (gets callers n top role nodes W inv c exists 0 local.1.t 1 0 local.1.register)))
-      (by nodes refl (top_role callers n top role nodes W inv c exists local.1.t local.1.is).2)
+      (gets inv c exists 0 local.1.t 1 0 local.1.register)))
+      (by nodes refl (top_role inv c exists local.1.t local.1.is).2)
     where
       by : (l : List ℕ) → nodes ≡ l → IsChain n role (word_at n local.1.t 0) l
           → Goal Peeking u (op.GetPtr 2 0 0) Testing rest (with_register n c 2 (word_at n local.1.t 0))
       by [] e chain =
-          by_register callers n top role nodes W inv c 2 (word_at n local.1.t 0) (omega arith) Peeking u
+          by_register inv c 2 (word_at n local.1.t 0) (omega arith) Peeking u
           (op.GetPtr 2 0 0) Testing rest (Some Empty) (Some (record { caller = c; job = Pop; done = Empty })) (
-            keeps_top callers n top role nodes W inv c exists (with_register n c 2 (word_at n local.1.t 0))
+            keeps_top inv c exists (with_register n c 2 (word_at n local.1.t 0))
                 (other_register n c 2 0 (word_at n local.1.t 0) (omega arith)) local.1,
-            inl (
-              register_set callers n top role nodes W inv c exists 2 (word_at n local.1.t 0) (omega arith)
-                  ∙ chain,
-              refl,
-            ),
-          )
-          (idle callers n top role nodes W inv c exists (with_register n c 2
-          (word_at n local.1.t 0)) Peeking Testing (λ p. p) (λ f. f) held)
-          (empty_left (numbers_in n nodes) (ap (λ (l : List ℕ). numbers_in n l) e))
-          (undecided callers n top role nodes W inv c exists Peeking u _ Empty local.0 (settles tt)) (λ b. refl)
+            inl (register_set inv c exists 2 (word_at n local.1.t 0) (omega arith) ∙ chain, refl),
+          ) (idle inv c exists (with_register n c 2 (word_at n local.1.t 0)) Peeking Testing (λ p. p) (λ f. f) held)
+          (empty_left (numbers_in n nodes) (ap (numbers_in n) e))
+          (undecided inv c exists Peeking u _ Empty local.0 (settles tt)) (λ b. refl)
       by (a ∷ l) e chain =
-          by_register callers n top role nodes W inv c 2 (word_at n local.1.t 0) (omega arith) Peeking u
+          by_register inv c 2 (word_at n local.1.t 0) (omega arith) Peeking u
           (op.GetPtr 2 0 0) Testing rest u None (
-            keeps_top callers n top role nodes W inv c exists (with_register n c 2 (word_at n local.1.t 0))
+            keeps_top inv c exists (with_register n c 2 (word_at n local.1.t 0))
                 (other_register n c 2 0 (word_at n local.1.t 0) (omega arith)) local.1,
             inr (
               local.0,
               record {
                 a = a;
-                register = register_set callers n top role nodes W inv c exists 2 (word_at n local.1.t 0)
-                    (omega arith) ∙ chain.0;
-                has = subst (λ (r : Role). IsPublished r) (sym chain.1) tt;
+                register = register_set inv c exists 2 (word_at n local.1.t 0) (omega arith) ∙ chain.0;
+                has = subst IsPublished (sym chain.1) tt;
               },
             ),
           )
-          (idle callers n top role nodes W inv c exists (with_register n c 2
-          (word_at n local.1.t 0)) Peeking Testing (λ p. p) (λ f. f) held) refl nothing
-          (λ b. refl)
+          (idle inv c exists (with_register n c 2
+          (word_at n local.1.t 0)) Peeking Testing (λ p. p) (λ f. f) held) refl nothing (λ b. refl)
 
-  pub missed : (u : Option Done)
-      → ((register_at n c 2 ≡ Null) × (u ≡ Some Empty)) ⊎ ((u ≡ None) × HasSeen n role c)
+  pub missed : (u : Option Done) → ((register_at n c 2 ≡ Null) × (u ≡ Some Empty)) ⊎ ((u ≡ None) × HasSeen n role c)
       → reply_of n c (op.IsNull 2) ≡ reply.Num 1 → u ≡ Some Empty
   missed u (inl h) said = h.1
-  missed u (inr h) said = absurd (ptr_is_not_null h.1.a 0 (sym h.1.register
-      ∙ null_is_null callers n top role nodes W inv c exists 2 said))
+  missed u (inr h) said = absurd (ptr_is_not_null h.1.a 0 (sym h.1.register ∙ null_is_null inv c exists 2 said))
 
-  pub met : (u : Option Done)
-      → ((register_at n c 2 ≡ Null) × (u ≡ Some Empty)) ⊎ ((u ≡ None) × HasSeen n role c)
+  pub met : (u : Option Done) → ((register_at n c 2 ≡ Null) × (u ≡ Some Empty)) ⊎ ((u ≡ None) × HasSeen n role c)
       → reply_of n c (op.IsNull 2) ≡ reply.Num 0 → (u ≡ None) × HasSeen n role c
-  met u (inl h) said = absurd (other_is_not callers n top role nodes W inv c exists 2 said h.0)
+  met u (inl h) said = absurd (other_is_not inv c exists 2 said h.0)
   met u (inr h) said = h
 
   pub miss_steps : (u : Option Done) (rest : List Replied) → Local n top role c Testing u → Held Testing
       → reply_of n c (op.IsNull 2) ≡ reply.Num 1 → Goal Testing u (op.IsNull 2) (Ended Empty) rest n
   miss_steps u rest local held said =
-      by_nothing callers n top role nodes W inv c Testing u (op.IsNull 2) (Ended Empty) rest u None
-      (missed u local.1 said) (idle callers n top role nodes W inv c exists n Testing (Ended Empty) (λ p. p)
+      by_nothing inv c Testing u (op.IsNull 2) (Ended Empty) rest u None
+      (missed u local.1 said) (idle inv c exists n Testing (Ended Empty) (λ p. p)
       (λ f. f) held) refl nothing (λ b. refl)
 
   pub meet_steps : (u : Option Done) (rest : List Replied) → Local n top role c Testing u → Held Testing
       → reply_of n c (op.IsNull 2) ≡ reply.Num 0 → Goal Testing u (op.IsNull 2) Following rest n
   meet_steps u rest local held said =
       let seen = met u local.1 said in
-      by_nothing callers n top role nodes W inv c Testing u (op.IsNull 2) Following rest u None
-      (seen.0, local.0, seen.1)
-      (idle callers n top role nodes W inv c exists n Testing Following (λ p. p) (λ f. f) held) refl nothing
-      (λ b. refl)
+      by_nothing inv c Testing u (op.IsNull 2) Following rest u None (seen.0, local.0, seen.1)
+      (idle inv c exists n Testing Following (λ p. p) (λ f. f) held) refl nothing (λ b. refl)
 
   pub follow_steps : (u : Option Done) (rest : List Replied) → Local n top role c Following u → Held Following
       → Goal Following u (op.GetPtr 3 2 1) Taking rest (after_op n c (op.GetPtr 3 2 1))
@@ -127,36 +101,33 @@ module _ (callers : ℕ) (n : NeverState) (top : Option ℕ) (role : ℕ → Rol
       let seen : HasSeen n role c = local.2 in
       let v : Value = word_at n seen.a 1 in
       let m : NeverState = with_register n c 3 v in
-      subst (λ (m : NeverState). Goal Following u (op.GetPtr 3 2 1) Taking rest m)
+      subst (Goal Following u (op.GetPtr 3 2 1) Taking rest)
       (sym (ap (λ (t : Target). left_at t (with_register n c 3 Null) (λ a w. with_register n c 3 (word_at n a w)))
-      (gets callers n top role nodes W inv c exists 2 seen.a 0 1 seen.register)))
-      (by_register callers n top role nodes W inv c 3 v (omega arith) Following u
+      (gets inv c exists 2 seen.a 0 1 seen.register)))
+      (by_register inv c 3 v (omega arith) Following u
       (op.GetPtr 3 2 1) Taking rest u None (
         local.0,
-        keeps_top callers n top role nodes W inv c exists m (other_register n c 3 0 v (omega arith)) local.1,
+        keeps_top inv c exists m (other_register n c 3 0 v (omega arith)) local.1,
         record {
           a = seen.a;
           register = other_register n c 3 2 v (omega arith) ∙ seen.register;
           has = seen.has;
-          next = register_set callers n top role nodes W inv c exists 3 v (omega arith);
+          next = register_set inv c exists 3 v (omega arith);
         },
-      )
-      (idle callers n top role nodes W inv c exists m Following Taking (λ p. p) (λ f. f) held) refl nothing
-      (λ b. refl))
+      ) (idle inv c exists m Following Taking (λ p. p) (λ f. f) held) refl nothing (λ b. refl))
 
   pub unlink_steps : (u : Option Done) (rest : List Replied) → Local n top role c Taking u → Held Taking
       → reply_of n c (op.CasPtr 0 0 2 3) ≡ reply.Num 1
       → Goal Taking u (op.CasPtr 0 0 2 3) Freeing rest (after_op n c (op.CasPtr 0 0 2 3))
   unlink_steps u rest local held said =
-      subst (λ (m : NeverState). Goal Taking u (op.CasPtr 0 0 2 3) Freeing rest m) (sym
-      (exchanges callers n top role nodes W inv c exists local.1 3 said))
+      subst (Goal Taking u (op.CasPtr 0 0 2 3) Freeing rest) (sym (exchanges inv c exists local.1 3 said))
       (subst
       (λ (y : Option Done). Goal Taking y (op.CasPtr 0 0 2 3) Freeing rest
       (with_word n local.1.t 0 (register_at n c 3)))
-      (sym local.0) (by nodes refl (top_role callers n top role nodes W inv c exists local.1.t local.1.is).2))
+      (sym local.0) (by nodes refl (top_role inv c exists local.1.t local.1.is).2))
     where
       uppermost_is : word_at n local.1.t 0 ≡ Ptr local.2.a 0 0
-      uppermost_is = exchanged_from callers n top role nodes W inv c exists local.1 3 said ∙ local.2.register
+      uppermost_is = exchanged_from inv c exists local.1 3 said ∙ local.2.register
 
       by : (l : List ℕ) → nodes ≡ l → IsChain n role (word_at n local.1.t 0) l
           → Goal Taking None (op.CasPtr 0 0 2 3) Freeing rest (with_word n local.1.t 0 (register_at n c 3))
@@ -165,52 +136,43 @@ module _ (callers : ℕ) (n : NeverState) (top : Option ℕ) (role : ℕ → Rol
           let same : local.2.a ≡ b = ptr_is local.2.a b 0 0 (sym uppermost_is ∙ chain.0) in
           subst
           (λ (xs : List ℕ). Stepped callers n role xs W c Taking None (op.CasPtr 0 0 2 3) Freeing rest
-          (with_word n local.1.t 0 (register_at n c 3)))
-          (sym e)
-          (by_pop callers n top role b l W (subst (λ (xs : List ℕ). Inv callers n top role xs W) e inv) c local.1.t
-          (register_at n c 3) local.1.is
-          (local.2.register ∙ ap (λ (x : ℕ). Ptr x 0 0) same)
+          (with_word n local.1.t 0 (register_at n c 3))) (sym e)
+          (by_pop (subst (λ (xs : List ℕ). Inv callers n top role xs W) e inv) c local.1.t
+          (register_at n c 3) local.1.is (local.2.register ∙ ap (λ (x : ℕ). Ptr x 0 0) same)
           (local.2.next ∙ ap (λ (x : ℕ). word_at n x 1) same) held (op.CasPtr 0 0 2 3) rest (λ x. refl))
 
   pub pop_again_steps : (u : Option Done) (rest : List Replied) → Local n top role c Taking u → Held Taking
       → reply_of n c (op.CasPtr 0 0 2 3) ≡ reply.Num 0
       → Goal Taking u (op.CasPtr 0 0 2 3) Peeking rest (after_op n c (op.CasPtr 0 0 2 3))
   pop_again_steps u rest local held said =
-      subst (λ (m : NeverState). Goal Taking u (op.CasPtr 0 0 2 3) Peeking rest m) (sym
-      (leaves_all callers n top role nodes W inv c exists local.1 3 said))
-      (by_nothing callers n top role nodes W inv c Taking u (op.CasPtr 0 0 2 3) Peeking rest u None
-      (local.0, local.1) (idle callers n top role nodes W inv c exists n Taking Peeking (λ p. p)
-      (λ f. f) held) refl nothing (λ b. refl))
+      subst (Goal Taking u (op.CasPtr 0 0 2 3) Peeking rest) (sym (leaves_all inv c exists local.1 3 said))
+      (by_nothing inv c Taking u (op.CasPtr 0 0 2 3) Peeking rest u None
+      (local.0, local.1) (idle inv c exists n Taking Peeking (λ p. p) (λ f. f) held) refl nothing (λ b. refl))
 
   -- The Free of a node that was taken is done: no one else frees it.
   module _ (u : Option Done) (own : HasTaken n role c u) where
     pub free_replies : reply_of n c (op.Free 2) ≡ reply.Done
     free_replies =
-        ap (λ (v : Value). free_reply n v) own.register
+        ap (free_reply n) own.register
         ∙ ap (λ (b : Bool). if b then reply.Double else reply.Done) (inv.core.freed own.a ∙ ap is_gone own.has)
 
     freed_once : freed_by own.a n c (op.Free 2) ≡ 1
     freed_once =
         ap (λ (v : Value). if is_pointer_to own.a v then (if is_done (reply_of n c (op.Free 2)) then 1 else 0) else 0)
-        own.register
-        ∙ ap (λ (b : Bool). if b then (if is_done (reply_of n c (op.Free 2)) then 1 else 0) else 0)
-        (eq-eqb own.a own.a refl)
-        ∙ ap (λ (r : Reply). if is_done r then 1 else 0) free_replies
+        own.register ∙ ap (λ (b : Bool). if b then (if is_done (reply_of n c (op.Free 2)) then 1 else 0) else 0)
+        (eq-eqb own.a own.a refl) ∙ ap (λ (r : Reply). if is_done r then 1 else 0) free_replies
 
     other_not_freed : (b : ℕ) → b ≢ own.a → freed_by b n c (op.Free 2) ≡ 0
     other_not_freed b ne =
         ap (λ (v : Value). if is_pointer_to b v then (if is_done (reply_of n c (op.Free 2)) then 1 else 0) else 0)
-        own.register
-        ∙ ap (λ (t : Bool). if t then (if is_done (reply_of n c (op.Free 2)) then 1 else 0) else 0)
+        own.register ∙ ap (λ (t : Bool). if t then (if is_done (reply_of n c (op.Free 2)) then 1 else 0) else 0)
         (ne_eqb own.a b (λ e. ne (sym e)))
 
   pub free_steps : (u : Option Done) (rest : List Replied) → Local n top role c Freeing u → Held Freeing
       → Goal Freeing u (op.Free 2) Reading rest (after_op n c (op.Free 2))
   free_steps u rest local held =
-      subst (λ (m : NeverState). Goal Freeing u (op.Free 2) Reading rest m)
-      (sym (ap (λ (v : Value). after_free n v) local.register))
-      (by_free callers n top role nodes W inv c u local held (op.Free 2) rest (freed_once u local)
-      (other_not_freed u local))
+      subst (Goal Freeing u (op.Free 2) Reading rest) (sym (ap (after_free n) local.register))
+      (by_free inv c u local held (op.Free 2) rest (freed_once u local) (other_not_freed u local))
 
   pub read_steps : (x : ℕ) (u : Option Done) (rest : List Replied) → Local n top role c Reading u → Held Reading
       → reply_of n c (op.GetNum 2 0) ≡ reply.Num x → Goal Reading u (op.GetNum 2 0) (Ended (Popped x)) rest n
@@ -218,9 +180,7 @@ module _ (callers : ℕ) (n : NeverState) (top : Option ℕ) (role : ℕ → Rol
       let number : number_of (word_at n local.a 0) ≡ x =
       num_is _ x
       (sym (ap (λ (t : Target). reply_at t (λ a w. reply.Num (number_of (word_at n a w))))
-      (gets callers n top role nodes W inv c exists 2 local.a 0 0 local.register))
-      ∙ said) in
-      by_nothing callers n top role nodes W inv c Reading u (op.GetNum 2 0) (Ended (Popped x)) rest u None
+      (gets inv c exists 2 local.a 0 0 local.register)) ∙ said) in
+      by_nothing inv c Reading u (op.GetNum 2 0) (Ended (Popped x)) rest u None
       (local.owes ∙ ap (λ (y : ℕ). Some (Popped y)) number)
-      (idle callers n top role nodes W inv c exists n Reading (Ended (Popped x)) (λ p. p) (λ f. f) held)
-      refl nothing (λ b. refl)
+      (idle inv c exists n Reading (Ended (Popped x)) (λ p. p) (λ f. f) held) refl nothing (λ b. refl)

@@ -1,16 +1,9 @@
 -- A pop takes the uppermost node off the stack.
-use Rattle.std.proofs.Common.{◌≡◌, ◌≢◌, ℕ, Bool, cond, List, ◌∷◌, length, get_or, refl}
-use Rattle.std.proofs.Common.{sym, ◌∙◌, ap, subst, arith, Some, None, Option, inl, inr}
+use Rattle.std.proofs.Common.{◌≡◌, ◌≢◌, ℕ, Bool, cond, List, ◌∷◌, length, get_or, refl, sym, ◌∙◌, ap, subst, arith}
+use Rattle.std.proofs.Common.{Some, None, Option, inl, inr}
 use Rattle.std.proofs.lemmas.Bool.{eq-eqb}
-use Rattle.mk_never.specs.declared.operations.Op.{Op}
-use Rattle.mk_never.specs.declared.values.Value.{Value}
-use Rattle.mk_never.specs.declared.values.Value.TheVariants.{Null, Ptr}
-use Rattle.mk_never.specs.NeverHeap.{NeverState, register_at, with_word, word_at, words_of, number_of}
-use Rattle.mk_stack.specs.declared.jobs.Job.TheVariants.{Pop}
-use Rattle.mk_stack.specs.declared.jobs.Done.TheVariants.{Popped}
-use Rattle.mk_stack.specs.Jobs.{Replied}
-use Rattle.mk_stack.specs.declared.points.Point.TheVariants.{Taking, Freeing}
-use Rattle.mk_stack.specs.Laws.{numbers_in, freed_by, IsOneOf}
+use Rattle.mk_stack.proofs.Vocabulary.{Freeing, IsOneOf, NeverState, Null, Op, Pop, Popped, Ptr, Replied, Taking, Value}
+use Rattle.mk_stack.proofs.Vocabulary.{freed_by, number_of, numbers_in, register_at, with_word, word_at, words_of}
 use Rattle.mk_stack.proofs.Heaps.{written}
 use Rattle.mk_stack.proofs.Roles.{Role, Private, Stacked, Taken, put, put_by, put_same, put_other, size_of}
 use Rattle.mk_stack.proofs.Invariant.{HasChain, IsChain, IsHeld, HasTaken, Work, Inv}
@@ -19,7 +12,7 @@ use Rattle.mk_stack.proofs.Assembly.{Stepped, settles}
 use Rattle.mk_stack.proofs.Writes.{base_stacked, taken_stacked, private_taken, unborn_base, granted}
 use Rattle.mk_stack.proofs.Exchanges.{by_exchange, node_is_no_top, words_stay}
 
-module _ (callers : ℕ) (n : NeverState) (top : Option ℕ) (role : ℕ → Role) (a : ℕ) (nodes : List ℕ) (W : ℕ → Work)
+module _ {callers : ℕ} {n : NeverState} {top : Option ℕ} {role : ℕ → Role} {a : ℕ} {nodes : List ℕ} {W : ℕ → Work}
     (inv : Inv callers n top role (a ∷ nodes) W) (c t : ℕ) (v : Value) (is : top ≡ Some t)
     (register : register_at n c 2 ≡ Ptr a 0 0) (next_is : v ≡ word_at n a 1)
     (held : (b : ℕ) → IsHeld n (role b) c b Taking) where
@@ -33,11 +26,10 @@ module _ (callers : ℕ) (n : NeverState) (top : Option ℕ) (role : ℕ → Rol
   chain = subst (λ (y : Option ℕ). HasChain n y role (a ∷ nodes)) is inv.core.chain
 
   apart : a ≢ t
-  apart =
-      node_is_no_top callers n top role (a ∷ nodes) W inv c t a v (Taken c) is chain.1 (inr (chain.2.1, refl))
+  apart = node_is_no_top inv c t a v (Taken c) is chain.1 (inr (chain.2.1, refl))
 
   words : (b : ℕ) → b ≢ t → words_of m b ≡ words_of n b
-  words = words_stay callers n top role (a ∷ nodes) W inv c t a v (Taken c) is chain.1 (inr (chain.2.1, refl))
+  words = words_stay inv c t a v (Taken c) is chain.1 (inr (chain.2.1, refl))
 
   word : (b i : ℕ) → b ≢ t → word_at m b i ≡ word_at n b i
   word b i ne = ap (λ (ws : List Value). get_or ws i Null) (words b ne)
@@ -48,9 +40,7 @@ module _ (callers : ℕ) (n : NeverState) (top : Option ℕ) (role : ℕ → Rol
   top_word : word_at m t 0 ≡ v
   top_word =
       let one : length (words_of n t) ≡ 1 = inv.core.size t ∙ ap size_of chain.1 in
-      written n t 0 v
-      (granted callers n top role (a ∷ nodes) t inv.core (λ e. unborn_base (e ∙ chain.1)))
-      (omega (arith, one))
+      written n t 0 v (granted t inv.core (λ e. unborn_base (e ∙ chain.1))) (omega (arith, one))
 
   popped_chain : HasChain m top now nodes
   popped_chain =
@@ -62,13 +52,11 @@ module _ (callers : ℕ) (n : NeverState) (top : Option ℕ) (role : ℕ → Rol
             (λ b one e. record {
               role_now = put_other role a (Taken c) b (not_one_of a b nodes chain.2.2 one) ∙ e;
               link = word b 1 (no_top b e);
-            })
-            chain.2.3),
+            }) chain.2.3),
       )
 
   popped_numbers : numbers_in m nodes ≡ numbers_in n nodes
-  popped_numbers =
-      numbers_stay n m role (word_at n a 1) nodes (λ b e. word b 0 (no_top b e)) chain.2.3
+  popped_numbers = numbers_stay n m role (word_at n a 1) nodes (λ b e. word b 0 (no_top b e)) chain.2.3
 
   abbrev y : ℕ
   y = number_of (word_at n a 0)
@@ -86,14 +74,9 @@ module _ (callers : ℕ) (n : NeverState) (top : Option ℕ) (role : ℕ → Rol
   now_held b =
       record {
         pushing = put_by (λ (z : ℕ) (r : Role). r ≡ Private c → ⊥ × (register_at m c 1 ≡ Ptr z 0 0)) role a (Taken c)
-            (λ e. absurd (private_taken c c (sym e)))
-            (λ z ne e. absurd ((held z).pushing e).0)
-            b;
+            (λ e. absurd (private_taken c c (sym e))) (λ z ne e. absurd ((held z).pushing e).0) b;
         freeing = put_by (λ (z : ℕ) (r : Role). r ≡ Taken c → Unit {0} × (register_at m c 2 ≡ Ptr z 0 0)) role a
-            (Taken c)
-            (λ e. (tt, register))
-            (λ z ne e. absurd ((held z).freeing e).0)
-            b;
+            (Taken c) (λ e. (tt, register)) (λ z ne e. absurd ((held z).freeing e).0) b;
       }
 
   only_below : (b : ℕ) → b ≢ a → IsOneOf b (a ∷ nodes) → IsOneOf b nodes
@@ -103,12 +86,9 @@ module _ (callers : ℕ) (n : NeverState) (top : Option ℕ) (role : ℕ → Rol
   pub by_pop : (o : Op) (rest : List Replied) → ((b : ℕ) → freed_by b n c o ≡ 0)
       → Stepped callers n role (a ∷ nodes) W c Taking None o Freeing rest m
   by_pop o rest frees =
-      by_exchange callers n top role (a ∷ nodes) W inv c t a v (Taken c) is chain.1 (inr (chain.2.1, refl))
-      nodes Taking o Freeing rest None (Some (Popped y))
-      (Some (record { caller = c; job = Pop; done = Popped y }))
-      (put_by (λ (b : ℕ) (r : Role). r ≡ Stacked → IsOneOf b nodes) role a (Taken c)
-      (λ e. absurd (taken_stacked c e))
-      (λ b ne e. only_below b ne (inv.core.stacked b e)))
-      popped_chain taken now_held
+      by_exchange inv c t a v (Taken c) is chain.1 (inr (chain.2.1, refl))
+      nodes Taking o Freeing rest None (Some (Popped y)) (Some (record { caller = c; job = Pop; done = Popped y }))
+      (put_by (λ (b : ℕ) (r : Role). r ≡ Stacked → IsOneOf b nodes) role a (Taken c) (λ e. absurd (taken_stacked c e))
+      (λ b ne e. only_below b ne (inv.core.stacked b e))) popped_chain taken now_held
       (ap (λ (b : Bool). cond b (Some (numbers_in n nodes)) None) (eq-eqb y y refl) ∙ ap Some (sym popped_numbers))
       (settles tt) frees

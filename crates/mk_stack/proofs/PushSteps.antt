@@ -1,41 +1,26 @@
 -- The steps of a push.
-use Rattle.std.proofs.Common.{◌≡◌, ℕ, ◌<◌, true, false, List, length}
-use Rattle.std.proofs.Common.{refl, sym, ◌∙◌, ap, subst, arith, Some, None, Option}
-use Rattle.mk_never.specs.declared.operations.Op.{Op}
+use Rattle.std.proofs.Common.{◌≡◌, ℕ, ◌<◌, true, false, List, length, refl, sym, ◌∙◌, ap, subst, arith, Some, None}
+use Rattle.std.proofs.Common.{Option}
+use Rattle.mk_stack.proofs.Vocabulary.{Done, Ended, Filling, Full, Kind, Linking, Looking, Making, NeverState, Null}
+use Rattle.mk_stack.proofs.Vocabulary.{Num, Op, Point, Ptr, Publishing, Push, Pushed, Replied, Target, Value, after_op}
+use Rattle.mk_stack.proofs.Vocabulary.{left_at, number_of, register_at, reply_of, with_new, with_register, with_word}
+use Rattle.mk_stack.proofs.Vocabulary.{word_at, words_of, zero_words}
 use Rattle.mk_never.specs.declared.operations.Op.TheVariants as op
 use Rattle.mk_never.specs.declared.operations.Reply.TheVariants as reply
-use Rattle.mk_never.specs.declared.types.Kind.{Kind}
-use Rattle.mk_never.specs.declared.values.Target.{Target}
-use Rattle.mk_never.specs.declared.values.Value.{Value}
-use Rattle.mk_never.specs.declared.values.Value.TheVariants.{Null, Num, Ptr}
-use Rattle.mk_never.specs.Types.{zero_words}
-use Rattle.mk_never.specs.NeverHeap.{NeverState, register_at, words_of, word_at}
-use Rattle.mk_never.specs.NeverHeap.{with_register, with_word, with_new, number_of}
-use Rattle.mk_never.specs.NeverHeap.{left_at, reply_of, after_op}
-use Rattle.mk_stack.specs.declared.jobs.Job.TheVariants.{Push}
-use Rattle.mk_stack.specs.declared.jobs.Done.{Done}
-use Rattle.mk_stack.specs.declared.jobs.Done.TheVariants.{Pushed, Full}
-use Rattle.mk_stack.specs.Jobs.{Replied}
-use Rattle.mk_stack.specs.declared.points.Point.{Point}
-use Rattle.mk_stack.specs.declared.points.Point.TheVariants.{Making}
-use Rattle.mk_stack.specs.declared.points.Point.TheVariants.{Filling, Looking, Linking}
-use Rattle.mk_stack.specs.declared.points.Point.TheVariants.{Publishing}
-use Rattle.mk_stack.specs.declared.points.Point.TheVariants.{Ended}
 use Rattle.mk_stack.proofs.Heaps.{set_register, other_register, written, other_word}
-use Rattle.mk_stack.proofs.Roles.{Role, Private, size_of}
-use Rattle.mk_stack.proofs.Roles.{put_same}
-use Rattle.mk_stack.proofs.Invariant.{Local, IsHeld, IsPushing, IsFreeing, Work, Inv, HasTop}
-use Rattle.mk_stack.proofs.Invariant.{HasOwn, HasFilled, HasLinked}
+use Rattle.mk_stack.proofs.Roles.{Role, Private, size_of, put_same}
+use Rattle.mk_stack.proofs.Invariant.{Local, IsHeld, IsPushing, IsFreeing, Work, Inv, HasTop, HasOwn, HasFilled}
+use Rattle.mk_stack.proofs.Invariant.{HasLinked}
 use Rattle.mk_stack.proofs.Assembly.{Stepped, nothing, settles, held_on}
 use Rattle.mk_stack.proofs.Registered.{by_nothing, by_register}
-use Rattle.mk_stack.proofs.Writes.{by_write, granted, unborn_private, private_stacked}
-use Rattle.mk_stack.proofs.Writes.{base_private, private_taken, same_private}
+use Rattle.mk_stack.proofs.Writes.{by_write, granted, unborn_private, private_stacked, base_private, private_taken}
+use Rattle.mk_stack.proofs.Writes.{same_private}
 use Rattle.mk_stack.proofs.Pushing.{by_push}
 use Rattle.mk_stack.proofs.Grants.{IsNewRole, by_grant}
-use Rattle.mk_stack.proofs.StepParts.{there, gets, idle, put_held, undecided}
-use Rattle.mk_stack.proofs.StepParts.{keeps_top, exchanged_from, exchanges, leaves_all}
+use Rattle.mk_stack.proofs.StepParts.{there, gets, idle, put_held, undecided, keeps_top, exchanged_from, exchanges}
+use Rattle.mk_stack.proofs.StepParts.{leaves_all}
 
-module _ (callers : ℕ) (n : NeverState) (top : Option ℕ) (role : ℕ → Role) (nodes : List ℕ) (W : ℕ → Work)
+module _ {callers : ℕ} {n : NeverState} {top : Option ℕ} {role : ℕ → Role} {nodes : List ℕ} {W : ℕ → Work}
     (inv : Inv callers n top role nodes W) (c : ℕ) (exists : c < callers) where
   abbrev Goal : Point → Option Done → Op → Point → List Replied → NeverState → Type 0
   Goal s u o next rest m = Stepped callers n role nodes W c s u o next rest m
@@ -63,30 +48,28 @@ module _ (callers : ℕ) (n : NeverState) (top : Option ℕ) (role : ℕ → Rol
       let a = length n.allocations in
       let m : NeverState = with_register (with_new n 0) c 1 (Ptr a 0 0) in
       let set : register_at m c 1 ≡ Ptr a 0 0 = set_register (with_new n 0) c 1 (Ptr a 0 0)
-      (there callers n top role nodes W inv c exists 1 (omega arith)) in
-      by_grant callers n top role nodes W inv c 1 0 (Private c) (omega arith) node_fits (Making x) u
+      (there inv c exists 1 (omega arith)) in
+      by_grant inv c 1 0 (Private c) (omega arith) node_fits (Making x) u
       (op.New 1 0 false) (Filling x) rest (
         local.0,
-        keeps_top callers n top role nodes W inv c exists m (other_register (with_new n 0) c 1 0 (Ptr a 0 0)
-            (omega arith)) local.1,
+        keeps_top inv c exists m (other_register (with_new n 0) c 1 0 (Ptr a 0 0) (omega arith)) local.1,
         record { a = a; register = set; has = put_same role a (Private c) },
       )
-      (put_held callers n top role nodes W inv c exists m a (Private c) (Filling x)
+      (put_held inv c exists m a (Private c) (Filling x)
       (record { pushing = λ e. (tt, set); freeing = λ e. absurd (private_taken c c e) })
-      (idle callers n top role nodes W inv c exists m (Making x) (Filling x) (λ p. p) (λ f. f) held))
-      (λ b. refl)
+      (idle inv c exists m (Making x) (Filling x) (λ p. p) (λ f. f) held)) (λ b. refl)
 
   pub fail_steps : (x : ℕ) (u : Option Done) (rest : List Replied) → Local n top role c (Making x) u → Held (Making x)
       → Goal (Making x) u (op.New 1 0 true) (Ended Full) rest n
   fail_steps x u rest local held =
-      by_nothing callers n top role nodes W inv c (Making x) u (op.New 1 0 true) (Ended Full) rest (Some Full)
+      by_nothing inv c (Making x) u (op.New 1 0 true) (Ended Full) rest (Some Full)
       (Some (record { caller = c; job = Push x; done = Full })) refl
-      (idle callers n top role nodes W inv c exists n (Making x) (Ended Full) (λ p. p) (λ f. f) held) refl
-      (undecided callers n top role nodes W inv c exists (Making x) u _ Full local.0 (settles tt)) (λ b. refl)
+      (idle inv c exists n (Making x) (Ended Full) (λ p. p) (λ f. f) held) refl
+      (undecided inv c exists (Making x) u _ Full local.0 (settles tt)) (λ b. refl)
 
   -- a node of the caller's own was granted, and has two words
   pub own_exists : (a : ℕ) → role a ≡ Private c → a < length n.allocations
-  own_exists a is = granted callers n top role nodes a inv.core (λ e. unborn_private c (e ∙ is))
+  own_exists a is = granted a inv.core (λ e. unborn_private c (e ∙ is))
 
   pub own_size : (a : ℕ) → role a ≡ Private c → length (words_of n a) ≡ 2
   own_size a is = inv.core.size a ∙ ap size_of is
@@ -94,21 +77,20 @@ module _ (callers : ℕ) (n : NeverState) (top : Option ℕ) (role : ℕ → Rol
   -- where the caller still has its node after it
   pub on_push : (m : NeverState) (s next : Point) → IsPushing next → (IsFreeing s → ⊥)
       → register_at m c 1 ≡ register_at n c 1 → Held s → (b : ℕ) → IsHeld m (role b) c b next
-  on_push m s next pushes frees same held b =
-      held_on n m (role b) c b s next (held b) (λ p. (pushes, same)) (λ f. absurd (frees f))
+  on_push m s next pushes frees same held b = held_on m next (held b) (λ p. (pushes, same)) (λ f. absurd (frees f))
 
   pub fill_steps : (x : ℕ) (u : Option Done) (rest : List Replied) → Local n top role c (Filling x) u → Held (Filling x)
       → Goal (Filling x) u (op.SetNum 1 0 x) (Looking x) rest (after_op n c (op.SetNum 1 0 x))
   fill_steps x u rest local held =
       let own : HasOwn n role c = local.2 in
       let m : NeverState = with_word n own.a 0 (Num x) in
-      subst (λ (m : NeverState). Goal (Filling x) u (op.SetNum 1 0 x) (Looking x) rest m)
+      subst (Goal (Filling x) u (op.SetNum 1 0 x) (Looking x) rest)
       (sym (ap (λ (t : Target). left_at t n (λ a w. with_word n a w (Num x)))
-      (gets callers n top role nodes W inv c exists 1 own.a 0 0 own.register)))
-      (by_write callers n top role nodes W inv c own.a 0 (Num x) own.has (Filling x) u (op.SetNum 1 0 x) (Looking x)
+      (gets inv c exists 1 own.a 0 0 own.register)))
+      (by_write inv c own.a 0 (Num x) own.has (Filling x) u (op.SetNum 1 0 x) (Looking x)
       rest (
         local.0,
-        keeps_top callers n top role nodes W inv c exists m refl local.1,
+        keeps_top inv c exists m refl local.1,
         record {
           a = own.a;
           register = own.register;
@@ -116,8 +98,7 @@ module _ (callers : ℕ) (n : NeverState) (top : Option ℕ) (role : ℕ → Rol
           number = ap number_of (written n own.a 0 (Num x) (own_exists own.a own.has)
               (omega (arith, own_size own.a own.has)));
         },
-      )
-      (on_push m (Filling x) (Looking x) tt (λ f. f) refl held) (λ b. refl))
+      ) (on_push m (Filling x) (Looking x) tt (λ f. f) refl held) (λ b. refl))
 
   pub look_steps : (x : ℕ) (u : Option Done) (rest : List Replied) → Local n top role c (Looking x) u → Held (Looking x)
       → Goal (Looking x) u (op.GetPtr 2 0 0) (Linking x) rest (after_op n c (op.GetPtr 2 0 0))
@@ -126,21 +107,20 @@ module _ (callers : ℕ) (n : NeverState) (top : Option ℕ) (role : ℕ → Rol
       let own : HasFilled n role c x = local.2 in
       let v : Value = word_at n h.t 0 in
       let m : NeverState = with_register n c 2 v in
-      subst (λ (m : NeverState). Goal (Looking x) u (op.GetPtr 2 0 0) (Linking x) rest m)
+      subst (Goal (Looking x) u (op.GetPtr 2 0 0) (Linking x) rest)
       (sym (ap (λ (t : Target). left_at t (with_register n c 2 Null) (λ a w. with_register n c 2 (word_at n a w)))
-      (gets callers n top role nodes W inv c exists 0 h.t 1 0 h.register)))
-      (by_register callers n top role nodes W inv c 2 v (omega arith) (Looking x) u (op.GetPtr 2 0 0) (Linking x) rest
+      (gets inv c exists 0 h.t 1 0 h.register)))
+      (by_register inv c 2 v (omega arith) (Looking x) u (op.GetPtr 2 0 0) (Linking x) rest
       u None (
         local.0,
-        keeps_top callers n top role nodes W inv c exists m (other_register n c 2 0 v (omega arith)) h,
+        keeps_top inv c exists m (other_register n c 2 0 v (omega arith)) h,
         record {
           a = own.a;
           register = other_register n c 2 1 v (omega arith) ∙ own.register;
           has = own.has;
           number = own.number;
         },
-      )
-      (on_push m (Looking x) (Linking x) tt (λ f. f) (other_register n c 2 1 v (omega arith)) held) refl nothing
+      ) (on_push m (Looking x) (Linking x) tt (λ f. f) (other_register n c 2 1 v (omega arith)) held) refl nothing
       (λ b. refl))
 
   pub link_steps : (x : ℕ) (u : Option Done) (rest : List Replied) → Local n top role c (Linking x) u → Held (Linking x)
@@ -149,13 +129,13 @@ module _ (callers : ℕ) (n : NeverState) (top : Option ℕ) (role : ℕ → Rol
       let own : HasFilled n role c x = local.2 in
       let v : Value = register_at n c 2 in
       let m : NeverState = with_word n own.a 1 v in
-      subst (λ (m : NeverState). Goal (Linking x) u (op.SetPtr 1 1 2) (Publishing x) rest m)
+      subst (Goal (Linking x) u (op.SetPtr 1 1 2) (Publishing x) rest)
       (sym (ap (λ (t : Target). left_at t n (λ a w. with_word n a w (register_at n c 2)))
-      (gets callers n top role nodes W inv c exists 1 own.a 0 1 own.register)))
-      (by_write callers n top role nodes W inv c own.a 1 v own.has (Linking x) u (op.SetPtr 1 1 2) (Publishing x)
+      (gets inv c exists 1 own.a 0 1 own.register)))
+      (by_write inv c own.a 1 v own.has (Linking x) u (op.SetPtr 1 1 2) (Publishing x)
       rest (
         local.0,
-        keeps_top callers n top role nodes W inv c exists m refl local.1,
+        keeps_top inv c exists m refl local.1,
         record {
           a = own.a;
           register = own.register;
@@ -163,8 +143,7 @@ module _ (callers : ℕ) (n : NeverState) (top : Option ℕ) (role : ℕ → Rol
           number = ap number_of (other_word n own.a 1 0 v (own_exists own.a own.has) (omega arith)) ∙ own.number;
           link = written n own.a 1 v (own_exists own.a own.has) (omega (arith, own_size own.a own.has));
         },
-      )
-      (on_push m (Linking x) (Publishing x) tt (λ f. f) refl held) (λ b. refl))
+      ) (on_push m (Linking x) (Publishing x) tt (λ f. f) refl held) (λ b. refl))
 
   pub publish_steps : (x : ℕ) (u : Option Done) (rest : List Replied) → Local n top role c (Publishing x) u
       → Held (Publishing x) → reply_of n c (op.CasPtr 0 0 2 1) ≡ reply.Num 1
@@ -172,24 +151,19 @@ module _ (callers : ℕ) (n : NeverState) (top : Option ℕ) (role : ℕ → Rol
   publish_steps x u rest local held said =
       let h : HasTop n top c = local.1 in
       let own : HasLinked n role c x = local.2 in
-      subst (λ (m : NeverState). Goal (Publishing x) u (op.CasPtr 0 0 2 1) (Ended Pushed) rest m)
-      (sym (exchanges callers n top role nodes W inv c exists h 1 said
-      ∙ ap (λ (v : Value). with_word n h.t 0 v) own.register))
+      subst (Goal (Publishing x) u (op.CasPtr 0 0 2 1) (Ended Pushed) rest)
+      (sym (exchanges inv c exists h 1 said ∙ ap (with_word n h.t 0) own.register))
       (subst
       (λ (y : Option Done). Goal (Publishing x) y (op.CasPtr 0 0 2 1) (Ended Pushed) rest
-      (with_word n h.t 0 (Ptr own.a 0 0)))
-      (sym local.0)
-      (by_push callers n top role nodes W inv c h.t x h.is own
-      (exchanged_from callers n top role nodes W inv c exists h 1 said) held (op.CasPtr 0 0 2 1) rest
-      (λ b. refl)))
+      (with_word n h.t 0 (Ptr own.a 0 0))) (sym local.0)
+      (by_push inv c h.t x h.is own (exchanged_from inv c exists h 1 said) held (op.CasPtr 0 0 2 1) rest (λ b. refl)))
 
   pub push_again_steps : (x : ℕ) (u : Option Done) (rest : List Replied) → Local n top role c (Publishing x) u
       → Held (Publishing x) → reply_of n c (op.CasPtr 0 0 2 1) ≡ reply.Num 0
       → Goal (Publishing x) u (op.CasPtr 0 0 2 1) (Looking x) rest (after_op n c (op.CasPtr 0 0 2 1))
   push_again_steps x u rest local held said =
       let own : HasLinked n role c x = local.2 in
-      subst (λ (m : NeverState). Goal (Publishing x) u (op.CasPtr 0 0 2 1) (Looking x) rest m)
-      (sym (leaves_all callers n top role nodes W inv c exists local.1 1 said))
-      (by_nothing callers n top role nodes W inv c (Publishing x) u (op.CasPtr 0 0 2 1) (Looking x) rest u None
+      subst (Goal (Publishing x) u (op.CasPtr 0 0 2 1) (Looking x) rest) (sym (leaves_all inv c exists local.1 1 said))
+      (by_nothing inv c (Publishing x) u (op.CasPtr 0 0 2 1) (Looking x) rest u None
       (local.0, local.1, record { a = own.a; register = own.register; has = own.has; number = own.number })
       (on_push n (Publishing x) (Looking x) tt (λ f. f) refl held) refl nothing (λ b. refl))

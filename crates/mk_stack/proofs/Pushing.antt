@@ -1,15 +1,9 @@
 -- A push publishes its node: it is the uppermost one from there on.
-use Rattle.std.proofs.Common.{◌≡◌, ◌≢◌, ℕ, List, ◌∷◌, length, get_or, refl, sym}
-use Rattle.std.proofs.Common.{◌∙◌, ap, ap₂, subst, arith, Some, None, Option, inl, inr}
-use Rattle.mk_never.specs.declared.operations.Op.{Op}
-use Rattle.mk_never.specs.declared.values.Value.{Value}
-use Rattle.mk_never.specs.declared.values.Value.TheVariants.{Null, Ptr}
-use Rattle.mk_never.specs.NeverHeap.{NeverState, register_at, with_word, word_at, words_of, number_of}
-use Rattle.mk_stack.specs.declared.jobs.Job.TheVariants.{Push}
-use Rattle.mk_stack.specs.declared.jobs.Done.TheVariants.{Pushed}
-use Rattle.mk_stack.specs.Jobs.{Replied}
-use Rattle.mk_stack.specs.declared.points.Point.TheVariants.{Publishing, Ended}
-use Rattle.mk_stack.specs.Laws.{numbers_in, freed_by, IsOneOf}
+use Rattle.std.proofs.Common.{◌≡◌, ◌≢◌, ℕ, List, ◌∷◌, length, get_or, refl, sym, ◌∙◌, ap, ap₂, subst, arith, Some, None}
+use Rattle.std.proofs.Common.{Option, inl, inr}
+use Rattle.mk_stack.proofs.Vocabulary.{Ended, IsOneOf, NeverState, Null, Op, Ptr, Publishing, Push, Pushed, Replied}
+use Rattle.mk_stack.proofs.Vocabulary.{Value, freed_by, number_of, numbers_in, register_at, with_word, word_at}
+use Rattle.mk_stack.proofs.Vocabulary.{words_of}
 use Rattle.mk_stack.proofs.Heaps.{written}
 use Rattle.mk_stack.proofs.Roles.{Role, Private, Stacked, Taken, put, put_by, put_same, put_other, size_of}
 use Rattle.mk_stack.proofs.Invariant.{HasChain, IsChain, IsHeld, HasLinked, Work, Inv}
@@ -18,10 +12,9 @@ use Rattle.mk_stack.proofs.Assembly.{Stepped, settles}
 use Rattle.mk_stack.proofs.Writes.{base_stacked, private_stacked, taken_stacked, unborn_base, granted}
 use Rattle.mk_stack.proofs.Exchanges.{by_exchange, node_is_no_top, words_stay}
 
-module _ (callers : ℕ) (n : NeverState) (top : Option ℕ) (role : ℕ → Role) (nodes : List ℕ) (W : ℕ → Work)
+module _ {callers : ℕ} {n : NeverState} {top : Option ℕ} {role : ℕ → Role} {nodes : List ℕ} {W : ℕ → Work}
     (inv : Inv callers n top role nodes W) (c t x : ℕ) (is : top ≡ Some t) (own : HasLinked n role c x)
-    (there : word_at n t 0 ≡ register_at n c 2)
-    (held : (b : ℕ) → IsHeld n (role b) c b (Publishing x)) where
+    (there : word_at n t 0 ≡ register_at n c 2) (held : (b : ℕ) → IsHeld n (role b) c b (Publishing x)) where
   abbrev a : ℕ
   a = own.a
 
@@ -35,11 +28,10 @@ module _ (callers : ℕ) (n : NeverState) (top : Option ℕ) (role : ℕ → Rol
   chain = subst (λ (y : Option ℕ). HasChain n y role nodes) is inv.core.chain
 
   apart : a ≢ t
-  apart =
-      node_is_no_top callers n top role nodes W inv c t a (Ptr a 0 0) Stacked is chain.1 (inl (own.has, refl))
+  apart = node_is_no_top inv c t a (Ptr a 0 0) Stacked is chain.1 (inl (own.has, refl))
 
   words : (b : ℕ) → b ≢ t → words_of m b ≡ words_of n b
-  words = words_stay callers n top role nodes W inv c t a (Ptr a 0 0) Stacked is chain.1 (inl (own.has, refl))
+  words = words_stay inv c t a (Ptr a 0 0) Stacked is chain.1 (inl (own.has, refl))
 
   word : (b i : ℕ) → b ≢ t → word_at m b i ≡ word_at n b i
   word b i ne = ap (λ (ws : List Value). get_or ws i Null) (words b ne)
@@ -50,9 +42,7 @@ module _ (callers : ℕ) (n : NeverState) (top : Option ℕ) (role : ℕ → Rol
   top_word : word_at m t 0 ≡ Ptr a 0 0
   top_word =
       let one : length (words_of n t) ≡ 1 = inv.core.size t ∙ ap size_of chain.1 in
-      written n t 0 (Ptr a 0 0)
-      (granted callers n top role nodes t inv.core (λ e. unborn_base (e ∙ chain.1)))
-      (omega (arith, one))
+      written n t 0 (Ptr a 0 0) (granted t inv.core (λ e. unborn_base (e ∙ chain.1))) (omega (arith, one))
 
   below : IsChain m now (word_at m a 1) nodes
   below =
@@ -61,8 +51,7 @@ module _ (callers : ℕ) (n : NeverState) (top : Option ℕ) (role : ℕ → Rol
       (λ b one e. record {
         role_now = put_other role a Stacked b (λ same. private_stacked c (sym own.has ∙ sym (ap role same) ∙ e)) ∙ e;
         link = word b 1 (no_top b e);
-      })
-      chain.2)
+      }) chain.2)
 
   pushed_chain : HasChain m top now (a ∷ nodes)
   pushed_chain =
@@ -86,13 +75,9 @@ module _ (callers : ℕ) (n : NeverState) (top : Option ℕ) (role : ℕ → Rol
   no_longer b =
       record {
         pushing = put_by (λ (y : ℕ) (r : Role). r ≡ Private c → ⊥ × (register_at m c 1 ≡ Ptr y 0 0)) role a Stacked
-            (λ e. absurd (private_stacked c (sym e)))
-            (λ y ne e. absurd (ne (same_node y ((held y).pushing e).1)))
-            b;
+            (λ e. absurd (private_stacked c (sym e))) (λ y ne e. absurd (ne (same_node y ((held y).pushing e).1))) b;
         freeing = put_by (λ (y : ℕ) (r : Role). r ≡ Taken c → ⊥ × (register_at m c 2 ≡ Ptr y 0 0)) role a Stacked
-            (λ e. absurd (taken_stacked c (sym e)))
-            (λ y ne e. absurd ((held y).freeing e).0)
-            b;
+            (λ e. absurd (taken_stacked c (sym e))) (λ y ne e. absurd ((held y).freeing e).0) b;
       }
     where
       same_node : (y : ℕ) → register_at n c 1 ≡ Ptr y 0 0 → y ≡ a
@@ -104,7 +89,7 @@ module _ (callers : ℕ) (n : NeverState) (top : Option ℕ) (role : ℕ → Rol
   pub by_push : (o : Op) (rest : List Replied) → ((b : ℕ) → freed_by b n c o ≡ 0)
       → Stepped callers n role nodes W c (Publishing x) None o (Ended Pushed) rest m
   by_push o rest frees =
-      by_exchange callers n top role nodes W inv c t a (Ptr a 0 0) Stacked is chain.1 (inl (own.has, refl))
+      by_exchange inv c t a (Ptr a 0 0) Stacked is chain.1 (inl (own.has, refl))
       (a ∷ nodes) (Publishing x) o (Ended Pushed) rest None (Some Pushed)
       (Some (record { caller = c; job = Push x; done = Pushed }))
       (put_by (λ (b : ℕ) (r : Role). r ≡ Stacked → IsOneOf b (a ∷ nodes)) role a Stacked (λ e. inl refl)

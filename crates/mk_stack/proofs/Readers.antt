@@ -1,37 +1,28 @@
 -- The first caller reads what is left on the stack, when all callers are joined, and is joined again.
-use Rattle.std.proofs.Common.{◌≡◌, ◌≢◌, ℕ, ◌<◌, List, [], ◌∷◌, ◌++◌, refl, sym, ◌∙◌}
-use Rattle.std.proofs.Common.{ap, subst, ⊎_elim}
+use Rattle.std.proofs.Common.{◌≡◌, ◌≢◌, ℕ, ◌<◌, List, [], ◌∷◌, ◌++◌, refl, sym, ◌∙◌, ap, subst, ⊎_elim}
 use Rattle.std.proofs.lemmas.Bool.{cases_eq, ne_eqb}
 use Rattle.std.proofs.lemmas.List.{append_cancel_left}
-use Rattle.mk_core.specs.declared.config.Config.{Config}
-use Rattle.mk_core.specs.declared.events.Event.{Event}
-use Rattle.mk_core.specs.declared.events.Seat.{Seat}
-use Rattle.mk_core.specs.declared.events.Seat.TheVariants.{Caller, Host}
-use Rattle.mk_core.specs.Decided.{Decided, asked}
-use Rattle.mk_core.specs.Growing.{Grows}
-use Rattle.mk_core.specs.History.{IsHistory, calls, calls_from, left, never_behind, never_first}
+use Rattle.mk_stack.proofs.Vocabulary.{AreAllBy, AreBelow, Caller, CallerState, Config, Decided, Event, Grows, Has}
+use Rattle.mk_stack.proofs.Vocabulary.{HasWalked, Host, HostState, IsHistory, PassState, ReadsStack, Seat, WordsState}
+use Rattle.mk_stack.proofs.Vocabulary.{asked, at_home, caller_of_pass, calls, calls_from, left, never_behind}
+use Rattle.mk_stack.proofs.Vocabulary.{never_first, own_replied, pass_for, replied_in, with_joined}
 use Rattle.mk_core.proofs.HistoryParts.{calls_in_parts}
-use Rattle.mk_never.specs.NeverHeap.{Call}
-use Rattle.mk_words.specs.Seats.{Has, has_over, without_seat}
-use Rattle.mk_words.specs.States.{WordsState, PassState}
+use Rattle.mk_words.specs.Seats.{has_over, without_seat}
 use Rattle.mk_words.proofs.Seats.{has_first, has_left, has_right, others_own, without_keeps}
-use Rattle.mk_caller.specs.States.{CallerState, at_home, caller_of_pass}
-use Rattle.mk_heap.specs.Hosts.{HostState, pass_for, with_caller_out, with_joined}
+use Rattle.mk_heap.specs.Hosts.{with_caller_out}
 use Rattle.mk_stack.specs.declared.walking.WalkPoint.TheVariants as walk
-use Rattle.mk_stack.specs.Interleavings.{AreBelow, own_replied}
-use Rattle.mk_stack.specs.Joining.{IsReader, ReadsStack}
-use Rattle.mk_stack.specs.Passes.{replied_in}
-use Rattle.mk_stack.specs.Walks.{AreAllBy, HasWalked}
+use Rattle.mk_stack.specs.Joining.{IsReader}
 use Rattle.mk_stack.proofs.JoinedJobs.{still_replied}
 use Rattle.mk_stack.proofs.OwnCalls.{all_by, below_later, none_of}
 use Rattle.mk_stack.proofs.Replies.{asked_in_two, own_in_parts}
 use Rattle.mk_stack.proofs.StackHistories.{callers_are_below}
 
 -- the reader's walk, when it is joined
-pub reads_stack : (w : WordsState) (h g : HostState) (s : CallerState) (q r : PassState) (numbers : List ℕ)
+pub reads_stack : (w : WordsState) (h g : HostState) (s : CallerState) {q : PassState} (r : PassState)
+    {numbers : List ℕ}
     → h.pass.table ≡ w → s ≡ at_home (pass_for h (Caller 0)) → HasWalked s.pass numbers q walk.Ended → r ≡ q
     → Grows r.seats r.seen g.pass.seen → ReadsStack w.config h numbers g
-reads_stack w h g s q r numbers table home walked same came =
+reads_stack w h g s {q} r {numbers} table home walked same came =
     let p : PassState = pass_for h (Caller 0) in
     let first : s.pass ≡ p = ap (λ (x : CallerState). x.pass) home in
     let from : HasWalked p numbers q walk.Ended =
@@ -48,7 +39,7 @@ reads_stack w h g s q r numbers table home walked same came =
       leads = from.leads;
       reads = from.reads;
       did =
-          still_replied w.config 0 q.seen g.pass.seen own
+          still_replied w.config 0 own
           ∙ subst (λ (v : WordsState). replied_in v.config 0 q.seen
           ≡ replied_in v.config 0 h.pass.seen ++ from.all) table did;
     }
@@ -60,8 +51,7 @@ pub is_reader : (h g k : HostState) (s : CallerState) (q r : PassState) → g �
 is_reader h g k s q r out home is same joined own overs =
     let first : s.pass ≡ pass_for h (Caller 0) = ap (λ (x : CallerState). x.pass) home in
     let seats : r.seats ≡ Caller 0 ∷ [] =
-    ap (λ (x : PassState). x.seats) same ∙ ap (λ (x : PassState). x.seats) is
-    ∙ ap (λ (x : PassState). x.seats) first in
+    ap (λ (x : PassState). x.seats) same ∙ ap (λ (x : PassState). x.seats) is ∙ ap (λ (x : PassState). x.seats) first in
     record {
       pass = r;
       alone = seats;
@@ -104,8 +94,7 @@ module _ (h g : HostState) (reader : IsReader h g) where
       (⊎_elim
       (λ (e : k ≡ 0). has_right (without_seat (Caller 0) h.pass.seats) (Caller 0 ∷ []) (Caller k)
       (subst (λ (j : ℕ). Has (Caller 0 ∷ []) (Caller j)) (sym e) (has_first (Caller 0) [])))
-      (λ (ne : k ≢ 0). has_left (without_seat (Caller 0) h.pass.seats) (Caller 0 ∷ []) (Caller k)
-      (other_home k ne has))
+      (λ (ne : k ≢ 0). has_left (without_seat (Caller 0) h.pass.seats) (Caller 0 ∷ []) (Caller k) (other_home k ne has))
       (cases_eq k 0))
 
   -- All calls since then are the reader's.
@@ -117,14 +106,13 @@ module _ (h g : HostState) (reader : IsReader h g) where
     split : asked (calls c g.pass.seen) ≡ asked (calls c h.pass.seen) ++ asked later
     split =
         ap (λ (l : List Event). asked (calls c l)) reader.own.is
-        ∙ ap (λ (l : List Decided). asked l) (calls_in_parts c h.pass.seen reader.own.more)
-        ∙ asked_in_two (calls c h.pass.seen) later
+        ∙ ap asked (calls_in_parts c h.pass.seen reader.own.more) ∙ asked_in_two (calls c h.pass.seen) later
 
     pub by_reader : AreAllBy 0 (asked later)
     by_reader =
         all_by c.callers 0 later
         (below_later c.callers (asked (calls c h.pass.seen)) (asked later)
-        (subst (λ (l : List Call). AreBelow c.callers l) split (callers_are_below c g.pass.seen history)))
+        (subst (AreBelow c.callers) split (callers_are_below history)))
         (λ k lt ne. none_of c k h.pass.seen reader.own.more
         (others_own (without_seat (Caller 0) h.pass.seats) (Caller k) reader.own.more (other_home k ne (home k lt))
         reader.own.of_others))
@@ -135,5 +123,4 @@ module _ (h g : HostState) (reader : IsReader h g) where
         append_cancel_left (replied_in c 0 h.pass.seen)
         (own_replied 0 (never_behind c h.pass.seen) (asked later)) reads.all
         (sym (own_in_parts 0 (never_first c) (asked (calls c h.pass.seen)) (asked later))
-        ∙ ap (λ (l : List Call). own_replied 0 (never_first c) l) (sym split)
-        ∙ reads.did)
+        ∙ ap (own_replied 0 (never_first c)) (sym split) ∙ reads.did)

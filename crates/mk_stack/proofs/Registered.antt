@@ -1,16 +1,9 @@
 -- Steps that leave all allocations: a register that is set, a global, or nothing.
 use Rattle.std.proofs.Common.{◌≡◌, ◌≢◌, ℕ, ◌+◌, ◌*◌, ◌<◌, List, [], length, length-set, refl, sym, ◌∙◌, subst, arith}
 use Rattle.std.proofs.Common.{Some, None, Option}
-use Rattle.mk_never.specs.declared.operations.Op.{Op}
-use Rattle.mk_never.specs.declared.values.Value.{Value}
-use Rattle.mk_never.specs.declared.values.Value.TheVariants.{Null, Ptr}
-use Rattle.mk_never.specs.NeverHeap.{NeverState, with_register, with_global, word_at}
 use Rattle.std.proofs.lemmas.List.{get_or-set_same}
-use Rattle.mk_stack.specs.declared.jobs.Done.{Done}
-use Rattle.mk_stack.specs.Jobs.{Replied}
-use Rattle.mk_stack.specs.declared.points.Point.{Point}
-use Rattle.mk_stack.specs.Orders.{Ordered}
-use Rattle.mk_stack.specs.Laws.{numbers_in, freed_by}
+use Rattle.mk_stack.proofs.Vocabulary.{Done, NeverState, Null, Op, Ordered, Point, Ptr, Replied, Value, freed_by}
+use Rattle.mk_stack.proofs.Vocabulary.{numbers_in, with_global, with_register, word_at}
 use Rattle.mk_stack.proofs.Heaps.{register_of_other}
 use Rattle.mk_stack.proofs.Roles.{Role, Base, same_role}
 use Rattle.mk_stack.proofs.Invariant.{Core, HasChain, IsChain, Local, IsHeld, Work, Inv}
@@ -21,7 +14,7 @@ use Rattle.mk_stack.proofs.Assembly.{Decides, nothing, IsLeft, moved, Stepped, a
 none_some : (x : ℕ) → None ≡ Some x → ⊥
 none_some x same = cc
 
-module _ (callers : ℕ) (n : NeverState) (top : Option ℕ) (role : ℕ → Role) (nodes : List ℕ) (W : ℕ → Work)
+module _ {callers : ℕ} {n : NeverState} {top : Option ℕ} {role : ℕ → Role} {nodes : List ℕ} {W : ℕ → Work}
     (inv : Inv callers n top role nodes W) (c : ℕ) where
   nothing_leaves : (k : ℕ) → Leaves n top role n top role k
   nothing_leaves k =
@@ -35,8 +28,7 @@ module _ (callers : ℕ) (n : NeverState) (top : Option ℕ) (role : ℕ → Rol
 
   -- A step that leaves the heap as it was
   pub by_nothing : (s : Point) (u : Option Done) (o : Op) (next : Point) (rest : List Replied) (u' : Option Done)
-      (d : Option Ordered)
-      → Local n top role c next u' → ((a : ℕ) → IsHeld n (role a) c a next)
+      (d : Option Ordered) → Local n top role c next u' → ((a : ℕ) → IsHeld n (role a) c a next)
       → IsLeft d (numbers_in n nodes) (numbers_in n nodes) → Decides c s u d u' → ((a : ℕ) → freed_by a n c o ≡ 0)
       → Stepped callers n role nodes W c s u o next rest n
   by_nothing s u o next rest u' d local held left decides frees =
@@ -46,7 +38,7 @@ module _ (callers : ℕ) (n : NeverState) (top : Option ℕ) (role : ℕ → Rol
         nodes_now = nodes;
         decided = u';
         decision = d;
-        inv = assemble callers n top role nodes W inv c n top role nodes (moved (W c) next u' rest) inv.core
+        inv = assemble inv c n top role nodes (moved (W c) next u' rest) inv.core
             (λ k other. nothing_leaves k) (λ k a other. same_before k (role a)) local held;
         left = left;
         decides = decides;
@@ -71,8 +63,7 @@ module _ (callers : ℕ) (n : NeverState) (top : Option ℕ) (role : ℕ → Rol
     register_chain : HasChain m top role nodes
     register_chain =
         has_chain_stays n m top role role nodes refl (λ t e. (e, refl))
-        (λ a one e. record { role_now = e; link = refl })
-        inv.core.chain
+        (λ a one e. record { role_now = e; link = refl }) inv.core.chain
 
     register_core : Core callers m top role nodes
     register_core =
@@ -95,8 +86,7 @@ module _ (callers : ℕ) (n : NeverState) (top : Option ℕ) (role : ℕ → Rol
     register_numbers = all_numbers_stay n m top role nodes (λ a e. refl) inv.core.chain
 
     pub by_register : (s : Point) (u : Option Done) (o : Op) (next : Point) (rest : List Replied) (u' : Option Done)
-        (e : Option Ordered)
-        → Local m top role c next u' → ((a : ℕ) → IsHeld m (role a) c a next)
+        (e : Option Ordered) → Local m top role c next u' → ((a : ℕ) → IsHeld m (role a) c a next)
         → IsLeft e (numbers_in n nodes) (numbers_in n nodes) → Decides c s u e u' → ((a : ℕ) → freed_by a n c o ≡ 0)
         → Stepped callers n role nodes W c s u o next rest m
     by_register s u o next rest u' e local held left decides frees =
@@ -106,9 +96,9 @@ module _ (callers : ℕ) (n : NeverState) (top : Option ℕ) (role : ℕ → Rol
           nodes_now = nodes;
           decided = u';
           decision = e;
-          inv = assemble callers n top role nodes W inv c m top role nodes (moved (W c) next u' rest) register_core
+          inv = assemble inv c m top role nodes (moved (W c) next u' rest) register_core
               register_leaves (λ k a other. same_before k (role a)) local held;
-          left = subst (λ (l : List ℕ). IsLeft e (numbers_in n nodes) l) (sym register_numbers) left;
+          left = subst (IsLeft e (numbers_in n nodes)) (sym register_numbers) left;
           decides = decides;
           frees = λ a. omega (arith, frees a);
         }
@@ -151,13 +141,12 @@ module _ (callers : ℕ) (n : NeverState) (top : Option ℕ) (role : ℕ → Rol
             get_or-set_same n.globals 0 (Ptr t 1 0) Null
                 (let all : length n.globals ≡ 64 = core.globals in omega arith),
             is_base,
-            subst (λ (l : List ℕ). IsChain g role (word_at g t 0) l) (sym nil) empty,
+            subst (IsChain g role (word_at g t 0)) (sym nil) empty,
           );
         }
 
     pub by_global : (s : Point) (u : Option Done) (o : Op) (next : Point) (rest : List Replied)
-        → Local g (Some t) role c next u → ((a : ℕ) → IsHeld g (role a) c a next)
-        → ((a : ℕ) → freed_by a n c o ≡ 0)
+        → Local g (Some t) role c next u → ((a : ℕ) → IsHeld g (role a) c a next) → ((a : ℕ) → freed_by a n c o ≡ 0)
         → Stepped callers n role nodes W c s u o next rest g
     by_global s u o next rest local held frees =
         record {
@@ -166,7 +155,7 @@ module _ (callers : ℕ) (n : NeverState) (top : Option ℕ) (role : ℕ → Rol
           nodes_now = nodes;
           decided = u;
           decision = None;
-          inv = assemble callers n top role nodes W inv c g (Some t) role nodes (moved (W c) next u rest) global_core
+          inv = assemble inv c g (Some t) role nodes (moved (W c) next u rest) global_core
               global_leaves (λ k a other. same_before k (role a)) local held;
           left = all_numbers_stay n g top role nodes (λ a e. refl) inv.core.chain;
           decides = nothing;

@@ -1,37 +1,29 @@
 -- One call of a caller, as one more operation with its reply.
 use Rattle.std.proofs.Common.{◌≡◌, ℕ, ◌<◌, Bool, true, false, List, [], ◌∷◌, ◌++◌, length, length-append, refl, sym}
-use Rattle.std.proofs.Common.{◌∙◌}
-use Rattle.std.proofs.Common.{ap, subst, append-nil, append_assoc, arith}
+use Rattle.std.proofs.Common.{◌∙◌, ap, subst, append-nil, append_assoc, arith}
 use Rattle.std.specs.Prelude.{◌==◌, if◌then◌else◌}
 use Rattle.std.proofs.lemmas.Bool.{eq-eqb}
 use Rattle.std.proofs.lemmas.List.{map-append}
-use Rattle.mk_never.specs.declared.operations.Op.{Op}
-use Rattle.mk_never.specs.Admitted.{AreAdmitted, IsCaller}
+use Rattle.mk_stack.proofs.Vocabulary.{Answer, AreAdmitted, Call, Called, Config, Decided, Event, IsHistory, IsTyped}
+use Rattle.mk_stack.proofs.Vocabulary.{NeverState, Op, PassState, Replied, Stays, after_calls, after_op, answer_of}
+use Rattle.mk_stack.proofs.Vocabulary.{asked, caller_of_pass, calls, calls_from, flagged, left, never_behind}
+use Rattle.mk_stack.proofs.Vocabulary.{never_first, never_of, own_replied, register_at, replied_in, replied_to}
+use Rattle.mk_stack.proofs.Vocabulary.{reply_of, value_of}
+use Rattle.mk_never.specs.Admitted.{IsCaller}
 use Rattle.mk_never.specs.Laws.{KeepsRegisters}
-use Rattle.mk_never.specs.NeverHeap.{NeverState, Call, register_at, reply_of, after_op, after_calls}
-use Rattle.mk_never.specs.Typed.{IsTyped}
-use Rattle.mk_core.specs.declared.config.Config.{Config}
-use Rattle.mk_core.specs.declared.events.Answer.{Answer}
-use Rattle.mk_core.specs.declared.events.Event.{Event}
 use Rattle.mk_core.specs.declared.events.Step.TheVariants as step
-use Rattle.mk_core.specs.Decided.{Decided, asked, flagged}
-use Rattle.mk_core.specs.History.{IsHistory, bases_of, call_decided, calls, calls_from, first_world, left, never_behind}
-use Rattle.mk_core.specs.History.{never_first}
-use Rattle.mk_core.specs.Image.{answer_of}
+use Rattle.mk_core.specs.History.{bases_of, call_decided, first_world}
 use Rattle.mk_core.proofs.Histories.{calls_more}
 use Rattle.mk_core.proofs.HistoryParts.{calls_in_parts, earlier_part_is_history}
 use Rattle.mk_laws.proofs.LastEvents.{comes_last, stands}
-use Rattle.mk_words.specs.States.{PassState, event_of}
-use Rattle.mk_caller.specs.States.{never_of, caller_of_pass, value_of}
-use Rattle.mk_caller.specs.Called.{Called, IsDecidedIn, own_calls}
-use Rattle.mk_caller.specs.Causes.{FindsGateHeld}
+use Rattle.mk_words.specs.States.{event_of}
+use Rattle.mk_caller.specs.Called.{IsDecidedIn, Says, own_calls}
+use Rattle.mk_caller.specs.Causes.{FindsGateHeld, IsRefused}
+use Rattle.mk_caller.specs.declared.refusals.Refusal.{Refusal}
+use Rattle.mk_caller.specs.declared.refusals.Refusal.TheVariants.{Held}
 use Rattle.mk_caller.proofs.OwnSteps.{by_append, calls_by}
 use Rattle.mk_alloc.specs.TurnCalls.{CalledInTurn}
 use Rattle.mk_alloc.proofs.Decisions.{same_last}
-use Rattle.mk_stack.specs.Jobs.{Replied}
-use Rattle.mk_stack.specs.Interleavings.{own_replied}
-use Rattle.mk_stack.specs.Passes.{replied_in, replied_to}
-use Rattle.mk_stack.specs.Advancing.{Stays}
 
 -- A caller's operations in two parts
 
@@ -123,8 +115,7 @@ module _ (p : PassState) (o : Op) (a : Answer) (more : List Event) (once : flagg
       ∙ sym (append_assoc before (decided.event ∷ []) decided.behind)
 
   through_history : IsHistory c through
-  through_history =
-      earlier_part_is_history c through decided.behind (subst (λ (l : List Event). IsHistory c l) cut history)
+  through_history = earlier_part_is_history c through decided.behind (subst (IsHistory c) cut history)
 
   before_history : IsHistory c before
   before_history = earlier_part_is_history c before (decided.event ∷ []) through_history
@@ -142,14 +133,12 @@ module _ (p : PassState) (o : Op) (a : Answer) (more : List Event) (once : flagg
 
   calls_through : calls c through ≡ (calls c p.seen ++ earlier) ++ x ∷ []
   calls_through =
-      calls_more c (first_world c) before decided.event
-      ∙ ap (λ (l : List Decided). calls c before ++ l) decides
+      calls_more c (first_world c) before decided.event ∙ ap (λ (l : List Decided). calls c before ++ l) decides
       ∙ ap (λ (l : List Decided). l ++ x ∷ []) calls_before
 
   calls_all : calls c (p.seen ++ more) ≡ ((calls c p.seen ++ earlier) ++ x ∷ []) ++ later
   calls_all =
-      ap (λ (l : List Event). calls c l) cut ∙ calls_in_parts c through decided.behind
-      ∙ ap (λ (l : List Decided). l ++ later) calls_through
+      ap (calls c) cut ∙ calls_in_parts c through decided.behind ∙ ap (λ (l : List Decided). l ++ later) calls_through
 
   one_is : calls_by k (x ∷ []) ≡ x ∷ []
   one_is = ap (λ (b : Bool). if b then x ∷ [] else []) (eq-eqb k k refl)
@@ -162,16 +151,14 @@ module _ (p : PassState) (o : Op) (a : Answer) (more : List Event) (once : flagg
       (ap (λ (l : List Decided). (own_calls p p.seen ++ calls_by k earlier) ++ l) (sym one_is)
       ∙ ap (λ (l : List Decided). l ++ calls_by k (x ∷ [])) (sym (by_append k (calls c p.seen) earlier))
       ∙ sym (by_append k (calls c p.seen ++ earlier) (x ∷ [])))
-      ∙ sym (by_append k ((calls c p.seen ++ earlier) ++ x ∷ []) later)
-      ∙ ap (λ (l : List Decided). calls_by k l) (sym calls_all) ∙ entry)
+      ∙ sym (by_append k ((calls c p.seen ++ earlier) ++ x ∷ []) later) ∙ ap (calls_by k) (sym calls_all) ∙ entry)
 
   own_before : replied_in c k before ≡ replied_in c k p.seen
   own_before =
       ap (λ (l : List Decided). own_replied k n0 (asked l)) calls_before
-      ∙ ap (λ (l : List Call). own_replied k n0 l) (asked_in_two (calls c p.seen) earlier)
+      ∙ ap (own_replied k n0) (asked_in_two (calls c p.seen) earlier)
       ∙ own_in_parts k n0 (asked (calls c p.seen)) (asked earlier)
-      ∙ ap (λ (l : List Replied). replied_in c k p.seen ++ l)
-      (none_replied k (never_behind c p.seen) earlier none.0)
+      ∙ ap (λ (l : List Replied). replied_in c k p.seen ++ l) (none_replied k (never_behind c p.seen) earlier none.0)
       ∙ append-nil (replied_in c k p.seen)
 
   abbrev here : Replied
@@ -184,12 +171,12 @@ module _ (p : PassState) (o : Op) (a : Answer) (more : List Event) (once : flagg
   own_all =
       ap (λ (l : List Decided). own_replied k n0 (asked l)) calls_all
       ∙ ap (λ (l : List Decided). own_replied k n0 (asked ((l ++ x ∷ []) ++ later))) (sym calls_before)
-      ∙ ap (λ (l : List Call). own_replied k n0 l) (asked_in_two (calls c before ++ x ∷ []) later)
+      ∙ ap (own_replied k n0) (asked_in_two (calls c before ++ x ∷ []) later)
       ∙ own_in_parts k n0 (asked (calls c before ++ x ∷ [])) (asked later)
       ∙ ap (λ (l : List Replied). own_replied k n0 (asked (calls c before ++ x ∷ [])) ++ l)
       (none_replied k (after_calls n0 (asked (calls c before ++ x ∷ []))) later none.1)
       ∙ append-nil (own_replied k n0 (asked (calls c before ++ x ∷ [])))
-      ∙ ap (λ (l : List Call). own_replied k n0 l) (asked_in_two (calls c before) (x ∷ []))
+      ∙ ap (own_replied k n0) (asked_in_two (calls c before) (x ∷ []))
       ∙ own_in_parts k n0 (asked (calls c before)) (asked (x ∷ []))
       ∙ ap (λ (l : List Replied). replied_in c k before ++ l) own_one
       ∙ ap (λ (l : List Replied). l ++ here ∷ []) own_before
@@ -211,29 +198,27 @@ module _ (p : PassState) (o : Op) (a : Answer) (more : List Event) (once : flagg
         did = own_all;
       }
 
-pub from_called : (p q : PassState) (o : Op) (a : Answer) → flagged o a ≡ o → IsHistory q.table.config q.seen
-    → Called p o a q → Happens p o a q
-from_called p q o a once history h =
-    subst (λ (r : PassState). Happens p o a r) (sym h.is)
+pub from_called : {p q : PassState} {o : Op} {a : Answer} → Called p o a q → flagged o a ≡ o
+    → IsHistory q.table.config q.seen → Happens p o a q
+from_called {p} {q} {o} {a} h once history =
+    subst (Happens p o a) (sym h.is)
     (happens p o a h.more once (subst (λ (r : PassState). IsHistory r.table.config r.seen) h.is history)
     (h.entry ∙ ap (λ (y : Op). own_calls p p.seen
-    ++ record { caller = caller_of_pass p; op = y; answer = a } ∷ []) once)
-    h.decided)
+    ++ record { caller = caller_of_pass p; op = y; answer = a } ∷ []) once) h.decided)
 
-pub from_turn : (on : Bool) (p q : PassState) (o : Op) (a : Answer) → flagged (flagged o a) a ≡ flagged o a
-    → IsHistory q.table.config q.seen → CalledInTurn on p o a q → Happens p (flagged o a) a q
-from_turn on p q o a once history h =
-    subst (λ (r : PassState). Happens p (flagged o a) a r) (sym h.is)
+pub from_turn : {on : Bool} {p q : PassState} {o : Op} {a : Answer} → CalledInTurn on p o a q
+    → flagged (flagged o a) a ≡ flagged o a → IsHistory q.table.config q.seen → Happens p (flagged o a) a q
+from_turn {on} {p} {q} {o} {a} h once history =
+    subst (Happens p (flagged o a) a) (sym h.is)
     (happens p (flagged o a) a h.more once (subst (λ (r : PassState). IsHistory r.table.config r.seen) h.is history)
     h.entry h.decided)
 
 -- A caller that found its gate held asked nothing.
-pub stays_held : (p q : PassState) (o : Op) → FindsGateHeld p o q → Stays p q
-stays_held p q o f =
+pub stays_held : {p q : PassState} {o : Op} → FindsGateHeld p o q → Stays p q
+stays_held {p} {q} {o} f =
     let more : List Event = f.finds.makes.others ++ event_of p (step.Enter o) ∷ [] in
     let is : q ≡ record p { seen = p.seen ++ more } =
-    f.finds.makes.is
-    ∙ ap (λ (l : List Event). record p { seen = l })
+    f.finds.makes.is ∙ ap (λ (l : List Event). record p { seen = l })
     (append_assoc p.seen f.finds.makes.others (event_of p (step.Enter o) ∷ [])) in
     record {
       is = is ∙ ap (λ (r : PassState). record p { seen = r.seen }) (sym is);
@@ -250,11 +235,17 @@ stays_held p q o f =
         let later : List Decided = calls_from c (left c p.seen) more in
         let nothing : calls_by k later ≡ [] =
         same_last (own_calls p p.seen) (calls_by k later) []
-        (sym (by_append k (calls c p.seen) later)
-        ∙ ap (λ (l : List Decided). calls_by k l) (sym (calls_in_parts c p.seen more))
+        (sym (by_append k (calls c p.seen) later) ∙ ap (calls_by k) (sym (calls_in_parts c p.seen more))
         ∙ same ∙ sym (append-nil (own_calls p p.seen))) in
         ap (λ (l : List Decided). own_replied k (never_first c) (asked l)) (calls_in_parts c p.seen more)
-        ∙ ap (λ (l : List Call). own_replied k (never_first c) l) (asked_in_two (calls c p.seen) later)
+        ∙ ap (own_replied k (never_first c)) (asked_in_two (calls c p.seen) later)
         ∙ own_in_parts k (never_first c) (asked (calls c p.seen)) (asked later)
         ∙ ap (λ (l : List Replied). replied_to p ++ l) (none_replied k (never_behind c p.seen) later nothing)
         ∙ append-nil (replied_to p)
+
+pub stays_refused : {p q : PassState} (o : Op) (e : Refusal) → e ≡ Held → IsRefused p o e q → Stays p q
+stays_refused {p} {q} o e is refused = stays_held (subst (λ (x : Refusal). IsRefused p o x q) is refused)
+
+-- what was said, as the arm has it
+pub says_so : {p q : PassState} {o : Op} {said b : Bool} → said ≡ b → Says p o said q → Says p o b q
+says_so {p} {q} {o} is says = subst (λ (x : Bool). Says p o x q) is says

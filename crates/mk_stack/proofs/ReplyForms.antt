@@ -1,10 +1,8 @@
 -- The replies of which answers are the images.
 use Rattle.std.proofs.Common.{◌≡◌, ℕ, List, refl}
-use Rattle.mk_never.specs.declared.operations.Reply.{Reply}
+use Rattle.mk_stack.proofs.Vocabulary.{Reply, Value, answer_of}
 use Rattle.mk_never.specs.declared.operations.Reply.TheVariants as reply
-use Rattle.mk_never.specs.declared.values.Value.{Value}
 use Rattle.mk_core.specs.declared.events.Answer.TheVariants as answer
-use Rattle.mk_core.specs.Image.{answer_of}
 
 -- the replies of which these are the images
 

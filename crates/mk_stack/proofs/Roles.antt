@@ -90,8 +90,7 @@ pub put_other : {A : Type 0} (f : ℕ → A) (a : ℕ) (x : A) (b : ℕ) → b �
 put_other f a x b other = ap (λ (t : Bool). cond t x (f b)) (ne_eqb b a other)
 
 -- what holds of the new value there and of the old ones elsewhere
-pub put_by : {A : Type 0} (P : ℕ → A → Type 0) (f : ℕ → A) (a : ℕ) (x : A) → P a x
-    → ((b : ℕ) → b ≢ a → P b (f b))
+pub put_by : {A : Type 0} (P : ℕ → A → Type 0) (f : ℕ → A) (a : ℕ) (x : A) → P a x → ((b : ℕ) → b ≢ a → P b (f b))
     → (b : ℕ) → P b (put f a x b)
 put_by P f a x here there b = by (b == a) refl
   where

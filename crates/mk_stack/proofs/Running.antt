@@ -1,23 +1,18 @@
 -- All operations, one after the other: the invariant, the order, and that each job is decided once.
-use Rattle.std.proofs.Common.{◌≡◌, ◌≢◌, ℕ, suc, ◌<◌, List, [], ◌∷◌, ◌++◌}
-use Rattle.std.proofs.Common.{length, take, drop, refl, sym, ◌∙◌, ap, subst, arith, None, Option, inl, inr}
+use Rattle.std.proofs.Common.{◌≡◌, ◌≢◌, ℕ, suc, ◌<◌, List, [], ◌∷◌, ◌++◌, length, take, drop, refl, sym, ◌∙◌, ap, subst}
+use Rattle.std.proofs.Common.{arith, None, Option, inl, inr}
 use Rattle.std.specs.Prelude.{◌⊎◌}
 use Rattle.std.proofs.lemmas.Bool.{cases_eq}
-use Rattle.mk_never.specs.declared.operations.Op.{Op}
-use Rattle.mk_never.specs.NeverHeap.{NeverState, Call, reply_of, after_op, after_calls}
-use Rattle.mk_stack.specs.Jobs.{Replied, JobRun, Asks, Leads, all_of}
-use Rattle.mk_stack.specs.declared.points.Point.{Point}
-use Rattle.mk_stack.specs.declared.points.Point.TheVariants.{Founded, Starting, Ended}
-use Rattle.mk_stack.specs.Orders.{Ordered}
-use Rattle.mk_stack.specs.Interleavings.{own_replied, AreJobRuns, AreBelow, order_of, own_decisions, AreDecidedOnce}
-use Rattle.mk_stack.specs.Laws.{numbers_in}
+use Rattle.mk_stack.proofs.Vocabulary.{AreBelow, AreDecidedOnce, AreJobRuns, Asks, Call, Ended, Founded, JobRun, Leads}
+use Rattle.mk_stack.proofs.Vocabulary.{NeverState, Op, Ordered, Replied, Starting, after_calls, after_op, all_of}
+use Rattle.mk_stack.proofs.Vocabulary.{numbers_in, order_of, own_decisions, own_replied, reply_of}
 use Rattle.mk_stack.proofs.Roles.{Role, put, put_by, put_same, put_other}
 use Rattle.mk_stack.proofs.Invariant.{Local, IsHeld, IsPushing, IsFreeing, Work, Inv}
 use Rattle.mk_stack.proofs.Assembly.{Stepped, IsOfJob, moved}
 use Rattle.mk_stack.proofs.Stepping.{steps, single}
 use Rattle.mk_stack.proofs.JobGoals.{goal_pushes_nothing, goal_frees_nothing, no_founding, same_job}
-use Rattle.mk_stack.proofs.Owing.{IsWork, owed, IsOnce, Ran, settled, begins, all_done}
-use Rattle.mk_stack.proofs.Owing.{mine, of_other, my_decision, decision_of_other, explained_more, once_more}
+use Rattle.mk_stack.proofs.Owing.{IsWork, owed, IsOnce, Ran, settled, begins, all_done, mine, of_other, my_decision}
+use Rattle.mk_stack.proofs.Owing.{decision_of_other, explained_more, once_more}
 
 cons_head : (a b : Replied) (xs ys : List Replied) → a ∷ xs ≡ b ∷ ys → a ≡ b
 cons_head a b xs ys e = cc
@@ -35,7 +30,7 @@ RunsOn callers n calls =
     (top : Option ℕ) (role : ℕ → Role) (nodes : List ℕ) (W : ℕ → Work) → Inv callers n top role nodes W
     → ((k : ℕ) → IsWork n calls k (W k)) → Ran callers n role nodes W calls
 
-module _ (callers : ℕ) (n : NeverState) (top : Option ℕ) (role : ℕ → Role) (nodes : List ℕ) (W : ℕ → Work)
+module _ {callers : ℕ} {n : NeverState} {top : Option ℕ} {role : ℕ → Role} {nodes : List ℕ} {W : ℕ → Work}
     (inv : Inv callers n top role nodes W) (c : ℕ) (o : Op) (xs : List Call) (exists : c < callers)
     (works : (k : ℕ) → IsWork n (record { caller = c; op = o } ∷ xs) k (W k)) where
   abbrev m : NeverState
@@ -59,7 +54,7 @@ module _ (callers : ℕ) (n : NeverState) (top : Option ℕ) (role : ℕ → Rol
 
     stepped : Stepped callers n role nodes W c (W c).point (W c).decided o leads.0 ys m
     stepped =
-        steps callers n top role nodes W inv c exists (W c).point o (reply_of n c o) leads.0 asks (W c).decided ys
+        steps inv c exists (W c).point o (reply_of n c o) leads.0 asks (W c).decided ys
         (inv.local c) (λ a. inv.held c a) refl
 
     abbrev w : Work
@@ -87,9 +82,7 @@ module _ (callers : ℕ) (n : NeverState) (top : Option ℕ) (role : ℕ → Rol
         (stepped.inv.local c)
 
     no_founder : IsOfJob (W c).point → (W c).goal ≢ Founded
-    no_founder job is =
-        no_founding (W c).point (W c).rest job (subst (λ (g : Point). Leads (W c).point (W c).rest g) is
-        (works c).leads)
+    no_founder job is = no_founding (W c).point (W c).rest job (subst (Leads (W c).point (W c).rest) is (works c).leads)
 
     module _ (ran : Ran callers m stepped.role_now stepped.nodes_now (put W c w) xs) where
       abbrev decisions : List (Option Ordered)
@@ -103,19 +96,15 @@ module _ (callers : ℕ) (n : NeverState) (top : Option ℕ) (role : ℕ → Rol
           let after : IsOnce c w own = subst (λ (v : Work). IsOnce c v own) (put_same W c w) (ran.once c) in
           let more =
           once_more c (W c).point leads.0 (W c).decided stepped.decision stepped.decided (W c).goal (take
-          (length ys) own)
-          stepped.decides
-          (same_job (W c).point o (reply_of n c o) leads.0 asks m stepped.top_now stepped.role_now c stepped.decided
-          local_now)
+          (length ys) own) stepped.decides
+          (same_job asks m stepped.top_now stepped.role_now c stepped.decided local_now)
           (works c).goal no_founder after.agrees after.first in
-          subst (λ (ds : List (Option Ordered)). IsOnce c (W c) ds)
-          (sym (my_decision c o xs stepped.decision ran.decisions))
+          subst (IsOnce c (W c)) (sym (my_decision c o xs stepped.decision ran.decisions))
           (record {
             agrees = more.agrees;
             first = subst
                 (λ (r : List Replied). order_of (take (length r) (stepped.decision ∷ own))
-                ≡ owed c (W c).point (W c).decided (W c).goal)
-                (sym rest_is) more.first;
+                ≡ owed c (W c).point (W c).decided (W c).goal) (sym rest_is) more.first;
             later = subst
                 (λ (r : List Replied). AreDecidedOnce c (W c).later (drop (length r) (stepped.decision ∷ own)))
                 (sym rest_is) after.later;
@@ -123,16 +112,14 @@ module _ (callers : ℕ) (n : NeverState) (top : Option ℕ) (role : ℕ → Rol
 
       other_once : (k : ℕ) → k ≢ c → IsOnce k (W k) (own_decisions k (x ∷ xs) decisions)
       other_once k other =
-          subst (λ (ds : List (Option Ordered)). IsOnce k (W k) ds)
-          (sym (decision_of_other k c o xs stepped.decision ran.decisions other))
+          subst (IsOnce k (W k)) (sym (decision_of_other k c o xs stepped.decision ran.decisions other))
           (subst (λ (v : Work). IsOnce k v (own_decisions k xs ran.decisions)) (put_other W c w k other) (ran.once k))
 
       all_once : (k : ℕ) → IsOnce k (W k) (own_decisions k (x ∷ xs) decisions)
       all_once k = by (cases_eq k c)
         where
           by : (k ≡ c) ⊎ (k ≡ c → ⊥) → IsOnce k (W k) (own_decisions k (x ∷ xs) decisions)
-          by (inl e) =
-              subst (λ (j : ℕ). IsOnce j (W j) (own_decisions j (x ∷ xs) decisions)) (sym e) mine_once
+          by (inl e) = subst (λ (j : ℕ). IsOnce j (W j) (own_decisions j (x ∷ xs) decisions)) (sym e) mine_once
           by (inr other) = other_once k other
 
       ran_on : Ran callers n role nodes W (x ∷ xs)
@@ -145,21 +132,19 @@ module _ (callers : ℕ) (n : NeverState) (top : Option ℕ) (role : ℕ → Rol
             pushed = ran.pushed;
             taken = ran.taken;
             decisions = decisions;
-            one_each = ap (λ (i : ℕ). suc i) ran.one_each;
+            one_each = ap suc ran.one_each;
             explained = explained_more stepped.decision (numbers_in n nodes) (numbers_in m stepped.nodes_now)
                 (numbers_in (after_calls m xs) ran.nodes_end) ran.decisions stepped.left ran.explained;
             once = all_once;
             frees = λ a. omega (arith, stepped.frees a, ran.frees a);
             single = (
-              single callers n top role nodes W inv c exists (W c).point o (reply_of n c o) leads.0 asks
-                  (W c).decided (inv.local c) refl,
+              single inv c exists (W c).point o (reply_of n c o) leads.0 asks (W c).decided (inv.local c) refl,
               ran.single,
             );
           }
 
     goes_on : RunsOn callers m xs → Ran callers n role nodes W (x ∷ xs)
-    goes_on run =
-        ran_on (run stepped.top_now stepped.role_now stepped.nodes_now (put W c w) stepped.inv works_on)
+    goes_on run = ran_on (run stepped.top_now stepped.role_now stepped.nodes_now (put W c w) stepped.inv works_on)
 
   -- The caller begins its next job.
   module _ (nil : (W c).rest ≡ []) (r : JobRun) (rs : List JobRun) (later_is : (W c).later ≡ r ∷ rs) where
@@ -178,28 +163,25 @@ module _ (callers : ℕ) (n : NeverState) (top : Option ℕ) (role : ℕ → Rol
           held = λ k a. put_by (λ (j : ℕ) (v : Work). IsHeld n (role a) j a v.point) W c fresh
               (record {
                 pushing = λ e. absurd (goal_pushes_nothing (W c).goal (works c).goal
-                    (subst (λ (p : Point). IsPushing p) at_end ((inv.held c a).pushing e).0));
+                    (subst IsPushing at_end ((inv.held c a).pushing e).0));
                 freeing = λ e. absurd (goal_frees_nothing (W c).goal (works c).goal
-                    (subst (λ (p : Point). IsFreeing p) at_end ((inv.held c a).freeing e).0));
-              })
-              (λ j other. inv.held j a) k;
+                    (subst IsFreeing at_end ((inv.held c a).freeing e).0));
+              }) (λ j other. inv.held j a) k;
         }
 
     runs : AreJobRuns (r ∷ rs)
-    runs = subst (λ (l : List JobRun). AreJobRuns l) later_is (works c).later
+    runs = subst AreJobRuns later_is (works c).later
 
     begun_works : (k : ℕ) → IsWork n (x ∷ xs) k (put W c fresh k)
     begun_works =
         put_by (λ (k : ℕ) (v : Work). IsWork n (x ∷ xs) k v) W c fresh
         (record {
           own =
-              (works c).own ∙ ap (λ (l : List Replied). l ++ all_of (W c).later) nil
-              ∙ ap (λ (l : List JobRun). all_of l) later_is;
+              (works c).own ∙ ap (λ (l : List Replied). l ++ all_of (W c).later) nil ∙ ap all_of later_is;
           leads = runs.0;
           goal = tt;
           later = runs.1;
-        })
-        (λ k other. works k)
+        }) (λ k other. works k)
 
     begun_once : (ds : List (Option Ordered)) → IsOnce c fresh ds → IsOnce c (W c) ds
     begun_once ds once =
@@ -240,50 +222,41 @@ module _ (callers : ℕ) (n : NeverState) (top : Option ℕ) (role : ℕ → Rol
 
 -- A caller that is between jobs, and has none left, asks nothing.
 none_is_asked : (c : ℕ) (o : Op) (n : NeverState) (xs : List Call) (rest : List Replied) (later : List JobRun)
-    → rest ≡ [] → later ≡ []
-    → own_replied c n (record { caller = c; op = o } ∷ xs) ≡ rest ++ all_of later → ⊥
+    → rest ≡ [] → later ≡ [] → own_replied c n (record { caller = c; op = o } ∷ xs) ≡ rest ++ all_of later → ⊥
 none_is_asked c o n xs rest later nil none own =
     let empty : own_replied c n (record { caller = c; op = o } ∷ xs) ≡ [] =
-    own ∙ ap (λ (l : List Replied). l ++ all_of later) nil ∙ ap (λ (l : List JobRun). all_of l) none in
+    own ∙ ap (λ (l : List Replied). l ++ all_of later) nil ∙ ap all_of none in
     cons_nil _ (own_replied c (after_op n c o) xs) (sym (mine c o n xs) ∙ empty)
   where
     cons_nil : (y : Replied) (ys : List Replied) → y ∷ ys ≡ [] → ⊥
     cons_nil y ys e = cc
 
 -- The first operation of a list, where all later ones are known
-run_more : (callers : ℕ) (n : NeverState) (top : Option ℕ) (role : ℕ → Role) (nodes : List ℕ) (W : ℕ → Work)
+run_more : {callers : ℕ} {n : NeverState} {top : Option ℕ} {role : ℕ → Role} {nodes : List ℕ} {W : ℕ → Work}
     → Inv callers n top role nodes W → (c : ℕ) (o : Op) (xs : List Call) → c < callers
     → ((k : ℕ) → IsWork n (record { caller = c; op = o } ∷ xs) k (W k)) → RunsOn callers (after_op n c o) xs
     → Ran callers n role nodes W (record { caller = c; op = o } ∷ xs)
-run_more callers n top role nodes W inv c o xs exists works run = by (W c).rest refl
+run_more {callers} {n} {role} {nodes} {W} inv c o xs exists works run = by (W c).rest refl
   where
     open_next : (W c).rest ≡ [] → (rs : List JobRun) → (W c).later ≡ rs
         → Ran callers n role nodes W (record { caller = c; op = o } ∷ xs)
     open_next nil [] is = absurd (none_is_asked c o n xs (W c).rest (W c).later nil is (works c).own)
-    open_next nil (r ∷ rs) is =
-        began callers n top role nodes W inv c o xs exists works nil r rs is (begin r.all refl)
+    open_next nil (r ∷ rs) is = began inv c o xs exists works nil r rs is (begin r.all refl)
       where
         begin : (l : List Replied) → r.all ≡ l
-            → Ran callers n role nodes
-            (put W c (next_work r rs))
-            (record { caller = c; op = o } ∷ xs)
-        begin [] e = absurd (begins r (runs callers n top role nodes W inv c o xs exists works nil r rs is).0 e)
+            → Ran callers n role nodes (put W c (next_work r rs)) (record { caller = c; op = o } ∷ xs)
+        begin [] e = absurd (begins r (runs inv c o xs exists works nil r rs is).0 e)
         begin (y ∷ ys) e =
-            goes_on callers n top role nodes
-            (put W c (next_work r rs))
-            (begun_inv callers n top role nodes W inv c o xs exists works nil r rs is) c o xs exists
-            (begun_works callers n top role nodes W inv c o xs exists works nil r rs is) y ys
-            (ap (λ (v : Work). v.rest) (put_same W c
-            (next_work r rs)) ∙ e)
-            run
+            goes_on (begun_inv inv c o xs exists works nil r rs is) c o xs exists
+            (begun_works inv c o xs exists works nil r rs is) y ys
+            (ap (λ (v : Work). v.rest) (put_same W c (next_work r rs)) ∙ e) run
 
     by : (l : List Replied) → (W c).rest ≡ l → Ran callers n role nodes W (record { caller = c; op = o } ∷ xs)
     by [] e = open_next e (W c).later refl
-    by (y ∷ ys) e = goes_on callers n top role nodes W inv c o xs exists works y ys e run
+    by (y ∷ ys) e = goes_on inv c o xs exists works y ys e run
 
 -- All operations
 pub run_all : (callers : ℕ) (n : NeverState) (calls : List Call) → AreBelow callers calls → RunsOn callers n calls
-run_all callers n [] below top role nodes W inv works = all_done callers n top role nodes W inv works
+run_all callers n [] below top role nodes W inv works = all_done inv works
 run_all callers n (x ∷ xs) below top role nodes W inv works =
-    run_more callers n top role nodes W inv x.caller x.op xs below.0 works
-    (run_all callers (after_op n x.caller x.op) xs below.1)
+    run_more inv x.caller x.op xs below.0 works (run_all callers (after_op n x.caller x.op) xs below.1)

@@ -1,11 +1,8 @@
 -- The heap of a stack is within the limits, and has the types of a stack.
 use Rattle.std.proofs.Common.{ℕ, ◌<◌, ◌≤◌, List, [], ◌∷◌, length, refl, arith}
 use Rattle.std.proofs.lemmas.List.Elements.{All-cons, All-nil}
-use Rattle.mk_never.specs.declared.types.Kind.{Kind}
-use Rattle.mk_never.specs.declared.types.Kind.TheVariants.{Num as Number, To}
+use Rattle.mk_stack.proofs.Vocabulary.{HasStackTypes, Kind, Number, To, node_kinds, top_kinds}
 use Rattle.mk_core.specs.Config.{IsAmong, IsBetween, IsTypeAmong, IsWithinLimits}
-use Rattle.mk_stack.specs.Jobs.{node_kinds, top_kinds}
-use Rattle.mk_stack.specs.Passes.{HasStackTypes}
 use Rattle.mk_stack.specs.StackRuns.{stack_config}
 
 -- the types
@@ -30,8 +27,7 @@ is_within_limits pages resident callers markers p r c m =
           (All-cons (IsTypeAmong both) top_kinds [] (
             (omega arith, omega arith),
             All-cons (IsAmong both) (To 0 0) [] (omega arith, omega arith) (All-nil (IsAmong both)),
-          )
-          (All-nil (IsTypeAmong both)));
+          ) (All-nil (IsTypeAmong both)));
       globals = All-cons (λ (ty : ℕ). ty < length both) 1 [] (omega arith) (All-nil (λ (ty : ℕ). ty < length both));
     }
 

@@ -1,19 +1,11 @@
 -- The jobs of a history, from the law over the heap that never reuses storage.
 use Rattle.std.proofs.Common.{◌≡◌, ℕ, ◌+◌, ◌*◌, ◌<◌, List, [], ◌∷◌, ◌++◌, length, refl, sym, ◌∙◌, ap, append_assoc}
-use Rattle.std.proofs.Common.{append-nil}
-use Rattle.std.proofs.Common.{arith}
+use Rattle.std.proofs.Common.{append-nil, arith}
 use Rattle.std.proofs.lemmas.List.{length-replicate}
-use Rattle.mk_never.specs.Admitted.{AreAdmitted}
-use Rattle.mk_never.specs.NeverHeap.{NeverState, Call, after_op}
-use Rattle.mk_never.specs.declared.values.Value.TheVariants.{Null}
+use Rattle.mk_stack.proofs.Vocabulary.{AreAdmitted, AreBelow, Call, Config, Event, IsHistory, JobRun, NeverState, Null}
+use Rattle.mk_stack.proofs.Vocabulary.{Replied, after_op, all_of, asked, calls, never_first}
 use Rattle.mk_never.proofs.Later.{op_stays}
-use Rattle.mk_core.specs.declared.config.Config.{Config}
-use Rattle.mk_core.specs.declared.events.Event.{Event}
-use Rattle.mk_core.specs.Decided.{asked}
-use Rattle.mk_core.specs.History.{IsHistory, calls, never_first}
 use Rattle.mk_stack.specs.Histories.{JobsAddUp, JobsInHistoriesAreLinearizable}
-use Rattle.mk_stack.specs.Interleavings.{AreBelow}
-use Rattle.mk_stack.specs.Jobs.{JobRun, Replied, all_of}
 use Rattle.mk_stack.proofs.Linearizable.{stacks_are_linearizable}
 
 -- Admitted calls are of callers that exist.
@@ -26,8 +18,8 @@ are_below globals n callers (x ∷ xs) count admitted =
       are_below globals (after_op n x.caller x.op) callers xs ((op_stays n x.caller x.op).registers ∙ count) admitted.1,
     )
 
-pub callers_are_below : (c : Config) (es : List Event) → IsHistory c es → AreBelow c.callers (asked (calls c es))
-callers_are_below c es h =
+pub callers_are_below : {c : Config} {es : List Event} → IsHistory c es → AreBelow c.callers (asked (calls c es))
+callers_are_below {c} {es} h =
     are_below c.globals (never_first c) c.callers (asked (calls c es)) (length-replicate (8 * c.callers) Null)
     h.admitted
 
@@ -40,7 +32,7 @@ jobs_in_histories_are_linearizable c es founding runs h jobs =
       founds = jobs.founds;
       jobs = jobs.jobs;
       own = jobs.own;
-      exist = callers_are_below c es h;
+      exist = callers_are_below h;
     })
 
 all_in_parts : (rs ss : List JobRun) → all_of (rs ++ ss) ≡ all_of rs ++ all_of ss
@@ -57,9 +49,7 @@ jobs_add_up p q job done first rs before does =
       same_job = refl;
       same_done = refl;
       did =
-          does.did
-          ∙ ap (λ (l : List Replied). l ++ does.all) before
-          ∙ append_assoc first (all_of rs) does.all
+          does.did ∙ ap (λ (l : List Replied). l ++ does.all) before ∙ append_assoc first (all_of rs) does.all
           ∙ ap (λ (l : List Replied). first ++ l)
           (ap (λ (l : List Replied). all_of rs ++ l) (sym (append-nil does.all))
           ∙ sym (all_in_parts rs (record { job = job; done = done; all = does.all } ∷ [])));

@@ -1,28 +1,19 @@
 -- Lists of jobs that callers did are the jobs of a history, and so are explained.
-use Rattle.std.proofs.Common.{◌≡◌, ℕ, zero, suc, ◌+◌, ◌*◌, ◌<◌, ◌≤◌, List, [], ◌∷◌, ◌++◌, length, refl, sym}
-use Rattle.std.proofs.Common.{◌∙◌, ap, subst, arith, append-nil}
+use Rattle.std.proofs.Common.{◌≡◌, ℕ, zero, suc, ◌+◌, ◌*◌, ◌<◌, ◌≤◌, List, [], ◌∷◌, ◌++◌, length, refl, sym, ◌∙◌, ap}
+use Rattle.std.proofs.Common.{subst, arith, append-nil}
 use Rattle.std.specs.Prelude.{◌==◌, if◌then◌else◌, Bool, true, false, slice_get, Some}
 use Rattle.std.proofs.lemmas.Bool.{ne_eqb}
-use Rattle.mk_never.specs.NeverHeap.{NeverState, Call, after_op, reply_of}
-use Rattle.mk_core.specs.declared.config.Config.{Config}
-use Rattle.mk_core.specs.declared.events.Event.{Event}
-use Rattle.mk_core.specs.declared.events.Seat.TheVariants.{Caller}
-use Rattle.mk_core.specs.Decided.{Decided, asked}
-use Rattle.mk_core.specs.Growing.{AreOfOthers}
-use Rattle.mk_core.specs.History.{IsHistory, calls, calls_from, left, never_behind, never_first}
+use Rattle.mk_stack.proofs.Vocabulary.{AreAllBy, AreBelow, AreJobRuns, AreOfOthers, Call, Caller, Config, Decided}
+use Rattle.mk_stack.proofs.Vocabulary.{Dones, Event, Founded, Founding, HasStackTypes, HaveDone, IsHistory, JobRun}
+use Rattle.mk_stack.proofs.Vocabulary.{Jobs, Leads, LeadsDown, NeverState, Replied, after_op, all_of, asked, calls}
+use Rattle.mk_stack.proofs.Vocabulary.{calls_from, left, never_behind, never_first, numbers_read, own_replied}
+use Rattle.mk_stack.proofs.Vocabulary.{replied_in, reply_of}
 use Rattle.mk_core.proofs.HistoryParts.{calls_in_parts, earlier_part_is_history}
 use Rattle.mk_laws.proofs.LastEvents.{stands}
-use Rattle.mk_stack.specs.declared.job_lists.Dones.{Dones}
-use Rattle.mk_stack.specs.declared.job_lists.Jobs.{Jobs}
-use Rattle.mk_stack.specs.declared.points.Point.TheVariants.{Founding, Founded}
 use Rattle.mk_stack.specs.declared.walking.WalkPoint.TheVariants as walk
-use Rattle.mk_stack.specs.Interleavings.{AreBelow, AreJobRuns, IsInterleaved, jobs_of_first, own_replied}
-use Rattle.mk_stack.specs.JobLists.{HaveDone}
-use Rattle.mk_stack.specs.Jobs.{Leads, Replied, JobRun, all_of}
+use Rattle.mk_stack.specs.Interleavings.{IsInterleaved, jobs_of_first}
 use Rattle.mk_stack.specs.Laws.{IsExplained}
-use Rattle.mk_stack.specs.Passes.{HasStackTypes, replied_in}
 use Rattle.mk_stack.specs.StackRuns.{AreRunsOf, IsStackRun}
-use Rattle.mk_stack.specs.Walks.{AreAllBy, LeadsDown, numbers_read}
 use Rattle.mk_stack.proofs.Linearizable.{stacks_are_linearizable}
 use Rattle.mk_stack.proofs.OwnCalls.{below_later, no_calls, none_of}
 use Rattle.mk_stack.proofs.Replies.{asked_in_two}
@@ -99,11 +90,9 @@ module _ (c : Config) (es : List Event) where
       unasked_beyond (k + suc i) c.callers (never_first c) (asked (calls c es)) below (omega arith)
   own_at below first k [] (d ∷ ds) h none count i = absurd h
   own_at below first k (x ∷ xs) [] h none count i = absurd h
-  own_at below first k (x ∷ xs) (d ∷ ds) h none count zero =
-      ap (λ (j : ℕ). replied_in c j es) (omega arith) ∙ h.0.own
+  own_at below first k (x ∷ xs) (d ∷ ds) h none count zero = ap (λ (j : ℕ). replied_in c j es) (omega arith) ∙ h.0.own
   own_at below first k (x ∷ xs) (d ∷ ds) h none count (suc i) =
-      ap (λ (j : ℕ). replied_in c j es) (omega arith)
-      ∙ own_at below [] (k + 1) xs ds h.1 (λ e. refl) (omega arith) i
+      ap (λ (j : ℕ). replied_in c j es) (omega arith) ∙ own_at below [] (k + 1) xs ds h.1 (λ e. refl) (omega arith) i
       ∙ ap (λ (l : List Replied). l ++ all_of (runs_at [] (k + 1) xs ds h.1 i)) (no_first i)
     where
       no_first : (i : ℕ) → jobs_of_first i [] ≡ []
@@ -111,16 +100,15 @@ module _ (c : Config) (es : List Event) where
       no_first (suc i) = refl
 
 -- All of it, where the calls after those of the jobs are a walk of the first caller.
-pub is_stack_run : (c : Config) (es more fs : List Event) (founding : List Replied) (lists : List Jobs)
+pub is_stack_run : {c : Config} (es more : List Event) {fs : List Event} (founding : List Replied) (lists : List Jobs)
     (all : List Dones) (left_on : List ℕ) (walked : List Replied) → fs ≡ es ++ more → IsHistory c fs → HasStackTypes c
     → Leads Founding founding Founded → length lists ≡ c.callers → HaveDone c es founding 0 lists all
     → AreAllBy 0 (asked (calls_from c (left c es) more))
     → own_replied 0 (never_behind c es) (asked (calls_from c (left c es) more)) ≡ walked
     → LeadsDown walk.Starting walked walk.Ended → numbers_read walked ≡ left_on → IsStackRun c fs lists all left_on
-is_stack_run c es more fs founding lists all left_on walked is history types founds count h by_first own leads reads =
-    let jobs_history : IsHistory c es =
-    earlier_part_is_history c es more (subst (λ (l : List Event). IsHistory c l) is history) in
-    let below = callers_are_below c es jobs_history in
+is_stack_run {c} es more founding lists all left_on walked is history types founds count h by_first own leads reads =
+    let jobs_history : IsHistory c es = earlier_part_is_history c es more (subst (IsHistory c) is history) in
+    let below = callers_are_below jobs_history in
     let later : List Call = asked (calls_from c (left c es) more) in
     let runs = runs_at c es founding 0 lists all h in
     let least : 1 ≤ c.callers = history.within_limits.callers.0 in
@@ -147,30 +135,29 @@ is_stack_run c es more fs founding lists all left_on walked is history types fou
       jobs = asked (calls c es);
       looks = later;
       all_calls =
-          ap (λ (l : List Event). asked (calls c l)) is
-          ∙ ap (λ (l : List Decided). asked l) (calls_in_parts c es more)
+          ap (λ (l : List Event). asked (calls c l)) is ∙ ap asked (calls_in_parts c es more)
           ∙ asked_in_two (calls c es) (calls_from c (left c es) more);
       only_looks = read.0;
       one_each = as_many c es founding 0 lists all h;
       are = same_at c es founding 0 lists all h;
       interleaved = interleaved;
       explained = explained;
-      is_left = sym read.1 ∙ ap (λ (l : List Replied). numbers_read l) own ∙ reads;
+      is_left = sym read.1 ∙ ap numbers_read own ∙ reads;
     }
 
 -- It stands where the history goes on without a call.
-pub run_stands : (c : Config) (es more fs : List Event) (lists : List Jobs) (all : List Dones) (left_on : List ℕ)
+pub run_stands : {c : Config} {es : List Event} (more : List Event) {fs : List Event} {lists : List Jobs}
+    {all : List Dones} {left_on : List ℕ}
     → fs ≡ es ++ more → IsHistory c fs → ((k : ℕ) → k < c.callers → AreOfOthers (Caller k ∷ []) more)
     → IsStackRun c es lists all left_on → IsStackRun c fs lists all left_on
-run_stands c es more fs lists all left_on is history others run =
+run_stands {c} {es} more {fs} is history others run =
     let later : List Decided = calls_from c (left c es) more in
     let split : asked (calls c fs) ≡ asked (calls c es) ++ asked later =
-    ap (λ (l : List Event). asked (calls c l)) is
-    ∙ ap (λ (l : List Decided). asked l) (calls_in_parts c es more)
+    ap (λ (l : List Event). asked (calls c l)) is ∙ ap asked (calls_in_parts c es more)
     ∙ asked_in_two (calls c es) later in
     let below : AreBelow c.callers (asked later) =
     below_later c.callers (asked (calls c es)) (asked later)
-    (subst (λ (l : List Call). AreBelow c.callers l) split (callers_are_below c fs history)) in
+    (subst (AreBelow c.callers) split (callers_are_below history)) in
     let none : later ≡ [] = no_calls c.callers later below (λ k lt. none_of c k es more (others k lt)) in
     record {
       founding = run.founding;

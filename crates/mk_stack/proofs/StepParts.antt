@@ -1,29 +1,17 @@
 -- What the steps of all points share.
-use Rattle.std.proofs.Common.{◌≡◌, ◌≢◌, ℕ, ◌+◌, ◌*◌, ◌<◌, ◌≤◌, Bool, true, false, cond, List, [], length}
-use Rattle.std.proofs.Common.{refl, sym, ◌∙◌, ap, subst, arith, Some, None, Option}
+use Rattle.std.proofs.Common.{◌≡◌, ◌≢◌, ℕ, ◌+◌, ◌*◌, ◌<◌, ◌≤◌, Bool, true, false, cond, List, [], length, refl, sym}
+use Rattle.std.proofs.Common.{◌∙◌, ap, subst, arith, Some, None, Option}
 use Rattle.std.specs.Prelude.{if◌then◌else◌}
 use Rattle.std.proofs.lemmas.Bool.{false≢true}
-use Rattle.mk_never.specs.declared.operations.Op.{Op}
+use Rattle.mk_stack.proofs.Vocabulary.{Done, Empty, Job, NeverState, Null, Op, Ordered, Point, Pop, Ptr, Push, Replied}
+use Rattle.mk_stack.proofs.Vocabulary.{Target, Value, WordOf, after_op, bit, done_without, is_same, left_at, left_by}
+use Rattle.mk_stack.proofs.Vocabulary.{register_at, reply_at, reply_of, target_of, with_register, with_word, word_at}
+use Rattle.mk_stack.proofs.Vocabulary.{words_of}
 use Rattle.mk_never.specs.declared.operations.Op.TheVariants as op
 use Rattle.mk_never.specs.declared.operations.Reply.TheVariants as reply
-use Rattle.mk_never.specs.declared.values.Target.{Target}
-use Rattle.mk_never.specs.declared.values.Target.TheVariants.{WordOf}
-use Rattle.mk_never.specs.declared.values.Value.{Value}
-use Rattle.mk_never.specs.declared.values.Value.TheVariants.{Null, Ptr}
-use Rattle.mk_never.specs.NeverHeap.{NeverState, register_at, words_of, word_at}
-use Rattle.mk_never.specs.NeverHeap.{with_register, with_word, is_same, bit}
-use Rattle.mk_never.specs.NeverHeap.{target_of, reply_at, left_at, reply_of, after_op}
 use Rattle.mk_never.proofs.Sameness.{equal_from_same, same_from_equal}
-use Rattle.mk_stack.specs.declared.jobs.Job.{Job}
-use Rattle.mk_stack.specs.declared.jobs.Job.TheVariants.{Push, Pop}
-use Rattle.mk_stack.specs.declared.jobs.Done.{Done}
-use Rattle.mk_stack.specs.declared.jobs.Done.TheVariants.{Empty}
-use Rattle.mk_stack.specs.Jobs.{Replied, done_without}
-use Rattle.mk_stack.specs.declared.points.Point.{Point}
-use Rattle.mk_stack.specs.Orders.{Ordered, left_by}
 use Rattle.mk_stack.proofs.Heaps.{reaches, set_register}
-use Rattle.mk_stack.proofs.Roles.{Role, Unborn, Base, Private, Stacked, Taken, Freed, size_of}
-use Rattle.mk_stack.proofs.Roles.{put, put_by}
+use Rattle.mk_stack.proofs.Roles.{Role, Unborn, Base, Private, Stacked, Taken, Freed, size_of, put, put_by}
 use Rattle.mk_stack.proofs.Invariant.{HasChain, IsHeld, IsPushing, IsFreeing, Work, Inv, HasTop}
 use Rattle.mk_stack.proofs.Assembly.{Stepped, Decides, held_on}
 
@@ -59,7 +47,7 @@ small Stacked = omega arith
 small (Taken k) = omega arith
 small Freed = omega arith
 
-module _ (callers : ℕ) (n : NeverState) (top : Option ℕ) (role : ℕ → Role) (nodes : List ℕ) (W : ℕ → Work)
+module _ {callers : ℕ} {n : NeverState} {top : Option ℕ} {role : ℕ → Role} {nodes : List ℕ} {W : ℕ → Work}
     (inv : Inv callers n top role nodes W) (c : ℕ) (exists : c < callers) where
   abbrev Goal : Point → Option Done → Op → Point → List Replied → NeverState → Type 0
   Goal s u o next rest m = Stepped callers n role nodes W c s u o next rest m
@@ -83,8 +71,7 @@ module _ (callers : ℕ) (n : NeverState) (top : Option ℕ) (role : ℕ → Rol
   -- Where a caller has no node of its own, before and after
   pub idle : (m : NeverState) (s next : Point) → (IsPushing s → ⊥) → (IsFreeing s → ⊥) → Held s
       → (a : ℕ) → IsHeld m (role a) c a next
-  idle m s next pushes frees held a =
-      held_on n m (role a) c a s next (held a) (λ p. absurd (pushes p)) (λ f. absurd (frees f))
+  idle m s next pushes frees held a = held_on m next (held a) (λ p. absurd (pushes p)) (λ f. absurd (frees f))
 
   pub top_role : (t : ℕ) → top ≡ Some t → HasChain n (Some t) role nodes
   top_role t is = subst (λ (x : Option ℕ). HasChain n x role nodes) is inv.core.chain
@@ -124,8 +111,7 @@ module _ (callers : ℕ) (n : NeverState) (top : Option ℕ) (role : ℕ → Rol
     same_is m said =
         num_is _ m
         (sym (ap (λ (t : Target). reply_at t (λ a w. reply.Num (bit (is_same (word_at n a w) (register_at n c 2)))))
-        (gets 0 h.t 1 0 h.register))
-        ∙ said)
+        (gets 0 h.t 1 0 h.register)) ∙ said)
 
     pub exchanged_from : reply_of n c (op.CasPtr 0 0 2 r) ≡ reply.Num 1 → word_at n h.t 0 ≡ register_at n c 2
     exchanged_from said = equal_from_same _ _ (bit_is_one _ (same_is 1 said))
@@ -135,8 +121,7 @@ module _ (callers : ℕ) (n : NeverState) (top : Option ℕ) (role : ℕ → Rol
     after_exchange b is =
         ap (λ (t : Target). left_at t n
         (λ a w. if is_same (word_at n a w) (register_at n c 2) then with_word n a w (register_at n c r) else n))
-        (gets 0 h.t 1 0 h.register)
-        ∙ ap (λ (x : Bool). cond x (with_word n h.t 0 (register_at n c r)) n) is
+        (gets 0 h.t 1 0 h.register) ∙ ap (λ (x : Bool). cond x (with_word n h.t 0 (register_at n c r)) n) is
 
     pub exchanges : reply_of n c (op.CasPtr 0 0 2 r) ≡ reply.Num 1
         → after_op n c (op.CasPtr 0 0 2 r) ≡ with_word n h.t 0 (register_at n c r)

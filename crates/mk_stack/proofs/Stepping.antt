@@ -1,33 +1,24 @@
 -- Each operation of a caller keeps the invariant, and decides its job where it should.
-use Rattle.std.proofs.Common.{◌≡◌, ℕ, ◌<◌, true, List}
-use Rattle.std.proofs.Common.{refl, sym, ◌∙◌, None, Option}
-use Rattle.mk_never.specs.declared.operations.Op.{Op}
+use Rattle.std.proofs.Common.{◌≡◌, ℕ, ◌<◌, true, List, refl, sym, ◌∙◌, None, Option}
+use Rattle.mk_stack.proofs.Vocabulary.{Asks, Done, Founded, Founding, NeverState, Op, Point, Replied, Reply, after_op}
+use Rattle.mk_stack.proofs.Vocabulary.{clear, fail, fill, find_no_room, follow, found, free, free_again, go_pop}
+use Rattle.mk_stack.proofs.Vocabulary.{go_push, lack, link, look, make, meet, miss, peek, place, pop_again, publish}
+use Rattle.mk_stack.proofs.Vocabulary.{push_again, read, reply_of, start, unlink}
 use Rattle.mk_never.specs.declared.operations.Op.TheVariants as op
-use Rattle.mk_never.specs.declared.operations.Reply.{Reply}
 use Rattle.mk_never.specs.declared.operations.Reply.TheVariants as reply
-use Rattle.mk_never.specs.NeverHeap.{NeverState}
-use Rattle.mk_never.specs.NeverHeap.{reply_of, after_op}
-use Rattle.mk_stack.specs.declared.jobs.Done.{Done}
-use Rattle.mk_stack.specs.Jobs.{Replied, Asks}
-use Rattle.mk_stack.specs.declared.points.Point.{Point}
-use Rattle.mk_stack.specs.declared.points.Point.TheVariants.{Founding, Founded}
-use Rattle.mk_stack.specs.Jobs.{found, find_no_room, place, start, lack, go_push, go_pop, make, fail, fill, look, link}
-use Rattle.mk_stack.specs.Jobs.{publish, push_again, peek, miss, meet, follow, unlink, pop_again, free, free_again}
-use Rattle.mk_stack.specs.Jobs.{read, clear}
 use Rattle.mk_stack.proofs.Roles.{Role}
 use Rattle.mk_stack.proofs.Invariant.{Local, IsHeld, Work, Inv}
 use Rattle.mk_stack.proofs.Assembly.{Stepped, nothing}
 use Rattle.mk_stack.proofs.Registered.{by_nothing}
-use Rattle.mk_stack.proofs.StepParts.{done_is_not_double}
-use Rattle.mk_stack.proofs.StepParts.{idle}
+use Rattle.mk_stack.proofs.StepParts.{done_is_not_double, idle}
 use Rattle.mk_stack.proofs.BeginSteps.{found_steps, place_steps, start_steps, lack_steps, go_push_steps, go_pop_steps}
 use Rattle.mk_stack.proofs.BeginSteps.{clear_steps}
 use Rattle.mk_stack.proofs.PushSteps.{make_steps, fail_steps, fill_steps, look_steps, link_steps, publish_steps}
 use Rattle.mk_stack.proofs.PushSteps.{push_again_steps}
-use Rattle.mk_stack.proofs.PopSteps.{peek_steps, miss_steps, meet_steps, follow_steps, unlink_steps}
-use Rattle.mk_stack.proofs.PopSteps.{pop_again_steps, free_steps, read_steps, free_replies}
+use Rattle.mk_stack.proofs.PopSteps.{peek_steps, miss_steps, meet_steps, follow_steps, unlink_steps, pop_again_steps}
+use Rattle.mk_stack.proofs.PopSteps.{free_steps, read_steps, free_replies}
 
-module _ (callers : ℕ) (n : NeverState) (top : Option ℕ) (role : ℕ → Role) (nodes : List ℕ) (W : ℕ → Work)
+module _ {callers : ℕ} {n : NeverState} {top : Option ℕ} {role : ℕ → Role} {nodes : List ℕ} {W : ℕ → Work}
     (inv : Inv callers n top role nodes W) (c : ℕ) (exists : c < callers) where
   abbrev Goal : Point → Option Done → Op → Point → List Replied → NeverState → Type 0
   Goal s u o next rest m = Stepped callers n role nodes W c s u o next rest m
@@ -39,53 +30,32 @@ module _ (callers : ℕ) (n : NeverState) (top : Option ℕ) (role : ℕ → Rol
   pub steps : (s : Point) (o : Op) (r : Reply) (next : Point) → Asks s o r next → (u : Option Done)
       (rest : List Replied)
       → Local n top role c s u → Held s → reply_of n c o ≡ r → Goal s u o next rest (after_op n c o)
-  steps s o r next found u rest local held said = found_steps callers n top role nodes W inv c exists u rest local held
+  steps s o r next found u rest local held said = found_steps inv c exists u rest local held
   steps s o r next find_no_room u rest local held said =
-      by_nothing callers n top role nodes W inv c Founding u (op.New 0 1 true) Founded rest u None tt
-      (idle callers n top role nodes W inv c exists n Founding Founded (λ p. p) (λ f. f) held) refl nothing
-      (λ b. refl)
-  steps s o r next place u rest local held said = place_steps callers n top role nodes W inv c exists u rest local held
-  steps s o r next (start {j} {v}) u rest local held said =
-      start_steps callers n top role nodes W inv c exists j u rest local held
-  steps s o r next (lack {j}) u rest local held said =
-      lack_steps callers n top role nodes W inv c exists j u rest local held said
-  steps s o r next (go_push {n =
-      x}) u rest local held said = go_push_steps callers n top role nodes W inv c exists x u rest local held said
-  steps s o r next go_pop u rest local held said =
-      go_pop_steps callers n top role nodes W inv c exists u rest local held said
-  steps s o r next (make {n =
-      x}) u rest local held said = make_steps callers n top role nodes W inv c exists x u rest local held
-  steps s o r next (fail {n =
-      x}) u rest local held said = fail_steps callers n top role nodes W inv c exists x u rest local held
-  steps s o r next (fill {n =
-      x}) u rest local held said = fill_steps callers n top role nodes W inv c exists x u rest local held
-  steps s o r next (look {n =
-      x} {v}) u rest local held said = look_steps callers n top role nodes W inv c exists x u rest local held
-  steps s o r next (link {n =
-      x}) u rest local held said = link_steps callers n top role nodes W inv c exists x u rest local held
-  steps s o r next (publish {n =
-      x}) u rest local held said = publish_steps callers n top role nodes W inv c exists x u rest local held said
-  steps s o r next (push_again {n =
-      x}) u rest local held said = push_again_steps callers n top role nodes W inv c exists x u rest local held said
-  steps s o r next (peek {v}) u rest local held said =
-      peek_steps callers n top role nodes W inv c exists u rest local held
-  steps s o r next miss u rest local held said =
-      miss_steps callers n top role nodes W inv c exists u rest local held said
-  steps s o r next meet u rest local held said =
-      meet_steps callers n top role nodes W inv c exists u rest local held said
-  steps s o r next (follow {v}) u rest local held said =
-      follow_steps callers n top role nodes W inv c exists u rest local held
-  steps s o r next unlink u rest local held said =
-      unlink_steps callers n top role nodes W inv c exists u rest local held said
-  steps s o r next pop_again u rest local held said =
-      pop_again_steps callers n top role nodes W inv c exists u rest local held said
-  steps s o r next free u rest local held said = free_steps callers n top role nodes W inv c exists u rest local held
-  steps s o r next free_again u rest local held said =
-      free_steps callers n top role nodes W inv c exists u rest local held
-  steps s o r next (read {n =
-      x}) u rest local held said = read_steps callers n top role nodes W inv c exists x u rest local held said
-  steps s o r next (clear {d = y} {r = x} lt) u rest local held said =
-      clear_steps callers n top role nodes W inv c exists y x lt u rest local held
+      by_nothing inv c Founding u (op.New 0 1 true) Founded rest u None tt
+      (idle inv c exists n Founding Founded (λ p. p) (λ f. f) held) refl nothing (λ b. refl)
+  steps s o r next place u rest local held said = place_steps inv c exists u rest local held
+  steps s o r next (start {j} {v}) u rest local held said = start_steps inv c exists j u rest local held
+  steps s o r next (lack {j}) u rest local held said = lack_steps inv c exists j u rest local held said
+  steps s o r next (go_push {n = x}) u rest local held said = go_push_steps inv c exists x u rest local held said
+  steps s o r next go_pop u rest local held said = go_pop_steps inv c exists u rest local held said
+  steps s o r next (make {n = x}) u rest local held said = make_steps inv c exists x u rest local held
+  steps s o r next (fail {n = x}) u rest local held said = fail_steps inv c exists x u rest local held
+  steps s o r next (fill {n = x}) u rest local held said = fill_steps inv c exists x u rest local held
+  steps s o r next (look {n = x} {v}) u rest local held said = look_steps inv c exists x u rest local held
+  steps s o r next (link {n = x}) u rest local held said = link_steps inv c exists x u rest local held
+  steps s o r next (publish {n = x}) u rest local held said = publish_steps inv c exists x u rest local held said
+  steps s o r next (push_again {n = x}) u rest local held said = push_again_steps inv c exists x u rest local held said
+  steps s o r next (peek {v}) u rest local held said = peek_steps inv c exists u rest local held
+  steps s o r next miss u rest local held said = miss_steps inv c exists u rest local held said
+  steps s o r next meet u rest local held said = meet_steps inv c exists u rest local held said
+  steps s o r next (follow {v}) u rest local held said = follow_steps inv c exists u rest local held
+  steps s o r next unlink u rest local held said = unlink_steps inv c exists u rest local held said
+  steps s o r next pop_again u rest local held said = pop_again_steps inv c exists u rest local held said
+  steps s o r next free u rest local held said = free_steps inv c exists u rest local held
+  steps s o r next free_again u rest local held said = free_steps inv c exists u rest local held
+  steps s o r next (read {n = x}) u rest local held said = read_steps inv c exists x u rest local held said
+  steps s o r next (clear {d = y} {r = x} lt) u rest local held said = clear_steps inv c exists y x lt u rest local held
 
   -- No Free is answered Double.
   pub single : (s : Point) (o : Op) (r : Reply) (next : Point) → Asks s o r next → (u : Option Done)
@@ -112,6 +82,6 @@ module _ (callers : ℕ) (n : NeverState) (top : Option ℕ) (role : ℕ → Rol
   single s o r next pop_again u local said double = cc
   single s o r next free u local said double = cc
   single s o r next free_again u local said double =
-      done_is_not_double (sym (free_replies callers n top role nodes W inv c exists u local) ∙ double)
+      done_is_not_double (sym (free_replies inv c exists u local) ∙ double)
   single s o r next (read {n = x}) u local said double = cc
   single s o r next (clear {d = y} {r = x} lt) u local said double = cc

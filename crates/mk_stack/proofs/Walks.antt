@@ -1,28 +1,20 @@
 -- What a walk down a stack reads is what is on it.
-use Rattle.std.proofs.Common.{◌≡◌, ◌≢◌, ℕ, ◌+◌, ◌*◌, ◌<◌, Bool, true, false, List, [], ◌∷◌, ◌++◌, length}
-use Rattle.std.proofs.Common.{refl, sym, ◌∙◌, ap, subst, arith}
+use Rattle.std.proofs.Common.{◌≡◌, ◌≢◌, ℕ, ◌+◌, ◌*◌, ◌<◌, Bool, true, false, List, [], ◌∷◌, ◌++◌, length, refl, sym}
+use Rattle.std.proofs.Common.{◌∙◌, ap, subst, arith}
 use Rattle.std.specs.Prelude.{if◌then◌else◌, map}
 use Rattle.std.proofs.lemmas.Bool.{eq-eqb}
 use Rattle.std.proofs.lemmas.List.{length-set}
-use Rattle.mk_never.specs.declared.operations.Op.{Op}
+use Rattle.mk_stack.proofs.Vocabulary.{Allocation, AreAllBy, Call, LeadsDown, NeverState, Null, Num, Op, Ptr, Replied}
+use Rattle.mk_stack.proofs.Vocabulary.{Reply, Target, Unmapped, Value, WordOf, after_op, allocation_at, bit, global_at}
+use Rattle.mk_stack.proofs.Vocabulary.{is_same, is_unmapped, left_at, number_of, numbers_in, numbers_read, own_replied}
+use Rattle.mk_stack.proofs.Vocabulary.{register_at, reply_at, reply_of, target_of, with_register, word_at}
 use Rattle.mk_never.specs.declared.operations.Op.TheVariants as op
-use Rattle.mk_never.specs.declared.operations.Reply.{Reply}
 use Rattle.mk_never.specs.declared.operations.Reply.TheVariants as reply
-use Rattle.mk_never.specs.declared.values.Target.{Target}
-use Rattle.mk_never.specs.declared.values.Target.TheVariants.{Unmapped, WordOf}
-use Rattle.mk_never.specs.declared.values.Value.{Value}
-use Rattle.mk_never.specs.declared.values.Value.TheVariants.{Null, Num, Ptr}
-use Rattle.mk_never.specs.NeverHeap.{NeverState, Allocation, Call, register_at, global_at, allocation_at, word_at}
-use Rattle.mk_never.specs.NeverHeap.{with_register, target_of, is_unmapped, reply_at, left_at, reply_of, after_op}
-use Rattle.mk_never.specs.NeverHeap.{number_of, is_same, bit}
 use Rattle.mk_stack.specs.declared.walking.WalkPoint.{WalkPoint}
 use Rattle.mk_stack.specs.declared.walking.WalkPoint.TheVariants as walk
-use Rattle.mk_stack.specs.Interleavings.{own_replied}
-use Rattle.mk_stack.specs.Jobs.{Replied}
-use Rattle.mk_stack.specs.Laws.{AreLinked, uppermost, numbers_in}
+use Rattle.mk_stack.specs.Laws.{AreLinked, uppermost}
 use Rattle.mk_stack.specs.Looks.{IsLook, AreLooks}
-use Rattle.mk_stack.specs.Walks.{Walks, start, lack, go, peek, stop, meet, read, descend}
-use Rattle.mk_stack.specs.Walks.{LeadsDown, number_told, number_read, numbers_read, AreAllBy}
+use Rattle.mk_stack.specs.Walks.{Walks, start, lack, go, peek, stop, meet, read, descend, number_told, number_read}
 use Rattle.mk_stack.specs.Walks.{WalksReadTheStack}
 use Rattle.mk_stack.proofs.Heaps.{set_register}
 
@@ -46,55 +38,54 @@ by_one k j n o xs e =
 own_is_each : (k : ℕ) (n : NeverState) (xs : List Call) → AreAllBy k xs → own_replied k n xs ≡ each k n (ops_of xs)
 own_is_each k n [] all = refl
 own_is_each k n (x ∷ xs) all =
-    by_one k x.caller n x.op xs all.0
-    ∙ ap (λ (l : List Replied). record { op = x.op; reply = reply_of n k x.op } ∷ l)
+    by_one k x.caller n x.op xs all.0 ∙ ap (λ (l : List Replied). record { op = x.op; reply = reply_of n k x.op } ∷ l)
     (own_is_each k (after_op n k x.op) xs all.1)
 
 -- What is asked at each point
 
 by_starting : (P : Op → Reply → WalkPoint → Type 0) → ((v : Value) → P (op.GetGlobal 0 0) (reply.Val v) walk.Checking)
-    → (o : Op) (r : Reply) (t : WalkPoint) → Walks walk.Starting o r t → P o r t
-by_starting P a o r t (start {v}) = a v
+    → {o : Op} {r : Reply} {t : WalkPoint} → Walks walk.Starting o r t → P o r t
+by_starting P a (start {v}) = a v
 
 by_checking : (P : Op → Reply → WalkPoint → Type 0) → P (op.IsNull 0) (reply.Num 1) walk.Ended
-    → P (op.IsNull 0) (reply.Num 0) walk.Peeking → (o : Op) (r : Reply) (t : WalkPoint) → Walks walk.Checking o r t
+    → P (op.IsNull 0) (reply.Num 0) walk.Peeking → {o : Op} {r : Reply} {t : WalkPoint} → Walks walk.Checking o r t
     → P o r t
-by_checking P a b o r t lack = a
-by_checking P a b o r t go = b
+by_checking P a b lack = a
+by_checking P a b go = b
 
 by_peeking : (P : Op → Reply → WalkPoint → Type 0) → ((v : Value) → P (op.GetPtr 2 0 0) (reply.Val v) walk.Testing)
-    → (o : Op) (r : Reply) (t : WalkPoint) → Walks walk.Peeking o r t → P o r t
-by_peeking P a o r t (peek {v}) = a v
+    → {o : Op} {r : Reply} {t : WalkPoint} → Walks walk.Peeking o r t → P o r t
+by_peeking P a (peek {v}) = a v
 
 by_testing : (P : Op → Reply → WalkPoint → Type 0) → P (op.IsNull 2) (reply.Num 1) walk.Ended
-    → P (op.IsNull 2) (reply.Num 0) walk.Reading → (o : Op) (r : Reply) (t : WalkPoint) → Walks walk.Testing o r t
+    → P (op.IsNull 2) (reply.Num 0) walk.Reading → {o : Op} {r : Reply} {t : WalkPoint} → Walks walk.Testing o r t
     → P o r t
-by_testing P a b o r t stop = a
-by_testing P a b o r t meet = b
+by_testing P a b stop = a
+by_testing P a b meet = b
 
 by_reading : (P : Op → Reply → WalkPoint → Type 0) → ((x : ℕ) → P (op.GetNum 2 0) (reply.Num x) walk.Descending)
-    → (o : Op) (r : Reply) (t : WalkPoint) → Walks walk.Reading o r t → P o r t
-by_reading P a o r t (read {n = x}) = a x
+    → {o : Op} {r : Reply} {t : WalkPoint} → Walks walk.Reading o r t → P o r t
+by_reading P a (read {n = x}) = a x
 
 by_descending : (P : Op → Reply → WalkPoint → Type 0) → ((v : Value) → P (op.GetPtr 2 2 1) (reply.Val v) walk.Testing)
-    → (o : Op) (r : Reply) (t : WalkPoint) → Walks walk.Descending o r t → P o r t
-by_descending P a o r t (descend {v}) = a v
+    → {o : Op} {r : Reply} {t : WalkPoint} → Walks walk.Descending o r t → P o r t
+by_descending P a (descend {v}) = a v
 
-not_from_end : (s : WalkPoint) (o : Op) (r : Reply) (t : WalkPoint) → Walks s o r t → s ≡ walk.Ended → ⊥
-not_from_end s o r t (start {v}) e = cc
-not_from_end s o r t lack e = cc
-not_from_end s o r t go e = cc
-not_from_end s o r t (peek {v}) e = cc
-not_from_end s o r t stop e = cc
-not_from_end s o r t meet e = cc
-not_from_end s o r t (read {n = x}) e = cc
-not_from_end s o r t (descend {v}) e = cc
+not_from_end : {s : WalkPoint} {o : Op} {r : Reply} {t : WalkPoint} → Walks s o r t → s ≡ walk.Ended → ⊥
+not_from_end (start) e = cc
+not_from_end lack e = cc
+not_from_end go e = cc
+not_from_end (peek) e = cc
+not_from_end stop e = cc
+not_from_end meet e = cc
+not_from_end (read {n = x}) e = cc
+not_from_end (descend) e = cc
 
 -- Behind its end a walk asks nothing.
 at_end : (k : ℕ) (m : NeverState) (os : List Op) (t : WalkPoint) → LeadsDown walk.Ended (each k m os) t
     → numbers_read (each k m os) ≡ []
 at_end k m [] t leads = refl
-at_end k m (o ∷ os) t leads = absurd (not_from_end walk.Ended o (reply_of m k o) leads.0 leads.1 refl)
+at_end k m (o ∷ os) t leads = absurd (not_from_end leads.1 refl)
 
 -- A load that was answered found its word.
 
@@ -147,8 +138,7 @@ module _ (n : NeverState) (k : ℕ) where
       → number_read o (reply_of m k o) ++ numbers_read (each k (after_op m k o) os) ≡ told
 
   next_register : (m : NeverState) (a : ℕ) → 8 * k + 7 < length m.registers → register_at m k 2 ≡ Ptr a 0 0
-      → is_unmapped (allocation_at m a) ≡ false
-      → after_op m k (op.GetPtr 2 2 1) ≡ with_register m k 2 (word_at m a 1)
+      → is_unmapped (allocation_at m a) ≡ false → after_op m k (op.GetPtr 2 2 1) ≡ with_register m k 2 (word_at m a 1)
   next_register m a room is there =
       ap (λ (t : Target). left_at t (with_register m k 2 Null) (λ a w. with_register m k 2 (word_at m a w)))
       (ap (λ (v : Value). target_of m v 1) is ∙ target m a 0 0 1 there)
@@ -168,13 +158,12 @@ module _ (n : NeverState) (k : ℕ) where
       none : walk.Descending ≡ walk.Ended → ⊥
       none e = cc
   descends a nodes goes m (o ∷ os) ready there leads =
-      by_descending (Asked m os (numbers_in n nodes)) (λ v said rest.
-      goes (after_op m k (op.GetPtr 2 2 1)) os
+      by_descending (Asked m os (numbers_in n nodes)) (λ v said rest. goes (after_op m k (op.GetPtr 2 2 1)) os
       (subst (λ (s : NeverState). Ready s (word_at n a 1)) (sym (next_register m a ready.1 ready.2 there)) (
         ready.0,
         omega (arith, ready.1, length-set m.registers (8 * k + 2) (word_at m a 1)),
         set_register m k 2 (word_at m a 1) (omega (arith, ready.1)) ∙ same_word n m a 1 ready.0,
-      )) rest) o (reply_of m k o) leads.0 leads.1 refl leads.2
+      )) rest) leads.1 refl leads.2
 
   reads : (a : ℕ) (nodes : List ℕ) → Goes (word_at n a 1) nodes → (m : NeverState) (os : List Op)
       → Ready m (Ptr a 0 0) → LeadsDown walk.Reading (each k m os) walk.Ended
@@ -190,13 +179,12 @@ module _ (n : NeverState) (k : ℕ) where
       ap (λ (v : Value). reply_at (target_of m v 0) at) (sym ready.2) ∙ said in
       let there = mapped m a 0 0 0 at (reply.Num x) told (num_is_no_fault x) in
       let number : number_of (word_at n a 0) ≡ x =
-      ap number_of (sym (same_word n m a 0 ready.0))
-      ∙ num_is (number_of (word_at m a 0)) x
+      ap number_of (sym (same_word n m a 0 ready.0)) ∙ num_is (number_of (word_at m a 0)) x
       (sym (ap (λ (t : Target). reply_at t at) (target m a 0 0 0 there)) ∙ told) in
       ap (λ (r : Reply). number_told r ++ numbers_read (each k m os)) said
       ∙ ap (λ (y : ℕ). y ∷ numbers_read (each k m os)) (sym number)
-      ∙ ap (λ (l : List ℕ). number_of (word_at n a 0) ∷ l) (descends a nodes goes m os ready there rest))
-      o (reply_of m k o) leads.0 leads.1 refl leads.2
+      ∙ ap (λ (l : List ℕ). number_of (word_at n a 0) ∷ l) (descends a nodes goes m os ready there rest)) leads.1 refl
+      leads.2
 
   down : (v : Value) (nodes : List ℕ) → AreLinked n v nodes → Goes v nodes
   down v nodes linked m [] ready leads = absurd (none leads)
@@ -205,14 +193,13 @@ module _ (n : NeverState) (k : ℕ) where
       none e = cc
   down v [] linked m (o ∷ os) ready leads =
       by_testing (Asked m os []) (λ said rest. at_end k m os walk.Ended rest)
-      (λ said rest. absurd (differ 0 1 (omega arith) (sym (says_null m k 2 0 Null (ready.2 ∙ linked) said))))
-      o (reply_of m k o) leads.0 leads.1 refl leads.2
+      (λ said rest. absurd (differ 0 1 (omega arith) (sym (says_null m k 2 0 Null (ready.2 ∙ linked) said)))) leads.1
+      refl leads.2
   down v (a ∷ nodes) linked m (o ∷ os) ready leads =
       by_testing (Asked m os (numbers_in n (a ∷ nodes)))
       (λ said rest. absurd (differ 0 1 (omega arith) (says_null m k 2 1 (Ptr a 0 0) (ready.2 ∙ linked.0) said)))
       (λ said rest. reads a nodes (down (word_at n a 1) nodes linked.1) m os
-      (ready.0, ready.1, ready.2 ∙ linked.0) rest)
-      o (reply_of m k o) leads.0 leads.1 refl leads.2
+      (ready.0, ready.1, ready.2 ∙ linked.0) rest) leads.1 refl leads.2
 
   -- the first part of a walk, if this is the top, or null
 
@@ -234,8 +221,7 @@ module _ (n : NeverState) (k : ℕ) where
       let after : after_op m k (op.GetPtr 2 0 0) ≡ with_register m k 2 (word_at m t (i + 0)) =
       ap (λ (u : Target). left_at u (with_register m k 2 Null) (λ a w. with_register m k 2 (word_at m a w)))
       (ap (λ (u : Value). target_of m u 0) top.2 ∙ target m t ty i 0 there) in
-      let same : word_at m t (i + 0) ≡ word_at n t i =
-      same_word n m t (i + 0) top.0 ∙ ap (λ (j : ℕ). word_at n t j) (omega arith) in
+      let same : word_at m t (i + 0) ≡ word_at n t i = same_word n m t (i + 0) top.0 ∙ ap (word_at n t) (omega arith) in
       down (word_at n t i) nodes linked (after_op m k (op.GetPtr 2 0 0)) os
       (subst (λ (s : NeverState). Ready s (word_at n t i)) (sym after) (
         top.0,
@@ -250,8 +236,7 @@ module _ (n : NeverState) (k : ℕ) where
       none : walk.Peeking ≡ walk.Ended → ⊥
       none e = cc
   peeks v nodes linked m (o ∷ os) top leads =
-      by_peeking (Asked m os (numbers_in n nodes)) (loads v nodes linked m os top)
-      o (reply_of m k o) leads.0 leads.1 refl leads.2
+      by_peeking (Asked m os (numbers_in n nodes)) (loads v nodes linked m os top) leads.1 refl leads.2
 
   lacks : (v : Value) (nodes : List ℕ) → AreLinked n (uppermost n v) nodes → (m : NeverState) (os : List Op)
       → HasTop m v → Asked m os (numbers_in n nodes) (op.IsNull 0) (reply.Num 1) walk.Ended
@@ -270,7 +255,7 @@ module _ (n : NeverState) (k : ℕ) where
       none e = cc
   checks v nodes linked m (o ∷ os) top leads =
       by_checking (Asked m os (numbers_in n nodes)) (lacks v nodes linked m os top)
-      (λ said rest. peeks v nodes linked m os top rest) o (reply_of m k o) leads.0 leads.1 refl leads.2
+      (λ said rest. peeks v nodes linked m os top rest) leads.1 refl leads.2
 
   starts : (nodes : List ℕ) → AreLinked n (uppermost n (global_at n 0)) nodes → 8 * k + 7 < length n.registers
       → (os : List Op) → LeadsDown walk.Starting (each k n os) walk.Ended
@@ -285,27 +270,24 @@ module _ (n : NeverState) (k : ℕ) where
         refl,
         omega (arith, room, length-set n.registers (8 * k + 0) (global_at n 0)),
         set_register n k 0 (global_at n 0) (omega (arith, room)),
-      ) rest) o (reply_of n k o) leads.0 leads.1 refl leads.2
+      ) rest) leads.1 refl leads.2
 
 -- A walk changes nothing.
 
-is_look : (s : WalkPoint) (o : Op) (r : Reply) (t : WalkPoint) → Walks s o r t → IsLook o
-is_look s o r t (start {v}) = tt
-is_look s o r t lack = tt
-is_look s o r t go = tt
-is_look s o r t (peek {v}) = tt
-is_look s o r t stop = tt
-is_look s o r t meet = tt
-is_look s o r t (read {n = x}) = tt
-is_look s o r t (descend {v}) = tt
+is_look : {s : WalkPoint} {o : Op} {r : Reply} {t : WalkPoint} → Walks s o r t → IsLook o
+is_look (start) = tt
+is_look lack = tt
+is_look go = tt
+is_look (peek) = tt
+is_look stop = tt
+is_look meet = tt
+is_look (read {n = x}) = tt
+is_look (descend) = tt
 
 are_looks : (k : ℕ) (m : NeverState) (s t : WalkPoint) (xs : List Call) → LeadsDown s (each k m (ops_of xs)) t
     → AreLooks xs
 are_looks k m s t [] leads = tt
-are_looks k m s t (x ∷ xs) leads = (
-  is_look s x.op (reply_of m k x.op) leads.0 leads.1,
-  are_looks k (after_op m k x.op) leads.0 t xs leads.2,
-)
+are_looks k m s t (x ∷ xs) leads = (is_look leads.1, are_looks k (after_op m k x.op) leads.0 t xs leads.2)
 
 pub walks_read_the_stack : WalksReadTheStack
 walks_read_the_stack n k xs nodes room all linked leads =

@@ -3,14 +3,8 @@ use Rattle.std.proofs.Common.{◌≡◌, ◌≢◌, ℕ, ◌<◌, ◌≤◌, Lis
 use Rattle.std.proofs.Common.{None, Option, inl, inr}
 use Rattle.std.specs.Prelude.{◌⊎◌}
 use Rattle.std.proofs.lemmas.Bool.{cases_eq, cases_lt}
-use Rattle.mk_never.specs.declared.operations.Op.{Op}
-use Rattle.mk_never.specs.declared.values.Value.{Value}
-use Rattle.mk_never.specs.declared.values.Value.TheVariants.{Null}
-use Rattle.mk_never.specs.NeverHeap.{NeverState, with_word, word_at, words_of}
-use Rattle.mk_stack.specs.declared.jobs.Done.{Done}
-use Rattle.mk_stack.specs.Jobs.{Replied}
-use Rattle.mk_stack.specs.declared.points.Point.{Point}
-use Rattle.mk_stack.specs.Laws.{freed_by}
+use Rattle.mk_stack.proofs.Vocabulary.{Done, NeverState, Null, Op, Point, Replied, Value, freed_by, with_word, word_at}
+use Rattle.mk_stack.proofs.Vocabulary.{words_of}
 use Rattle.mk_stack.proofs.Heaps.{other_words, written_size, written_flag, written_type}
 use Rattle.mk_stack.proofs.Roles.{Role, Unborn, Base, Private, Stacked, Taken, RoleKeeps, same_role}
 use Rattle.mk_stack.proofs.Invariant.{Core, HasChain, Local, IsHeld, Work, Inv}
@@ -57,15 +51,15 @@ pub same_taken : (k j : ℕ) → Taken k ≡ Taken j → k ≡ j
 same_taken k j e = cc
 
 -- What has a role of a granted allocation was granted.
-pub granted : (callers : ℕ) (n : NeverState) (top : Option ℕ) (role : ℕ → Role) (nodes : List ℕ) (a : ℕ)
+pub granted : {callers : ℕ} {n : NeverState} {top : Option ℕ} {role : ℕ → Role} {nodes : List ℕ} (a : ℕ)
     → Core callers n top role nodes → (Unborn ≡ role a → ⊥) → a < length n.allocations
-granted callers n top role nodes a core is = by (cases_lt a (length n.allocations))
+granted {n} {role} a core is = by (cases_lt a (length n.allocations))
   where
     by : (a < length n.allocations) ⊎ (length n.allocations ≤ a) → a < length n.allocations
     by (inl lt) = lt
     by (inr ge) = absurd (is (sym (core.unborn a ge)))
 
-module _ (callers : ℕ) (n : NeverState) (top : Option ℕ) (role : ℕ → Role) (nodes : List ℕ) (W : ℕ → Work)
+module _ {callers : ℕ} {n : NeverState} {top : Option ℕ} {role : ℕ → Role} {nodes : List ℕ} {W : ℕ → Work}
     (inv : Inv callers n top role nodes W) (c a i : ℕ) (v : Value) (own : role a ≡ Private c) where
   abbrev m : NeverState
   m = with_word n a i v
@@ -98,8 +92,7 @@ module _ (callers : ℕ) (n : NeverState) (top : Option ℕ) (role : ℕ → Rol
 
   write_chain : HasChain m top role nodes
   write_chain =
-      has_chain_stays n m top role role nodes refl
-      (λ t e. (e, word_stays t 0 Base e (base_private c)))
+      has_chain_stays n m top role role nodes refl (λ t e. (e, word_stays t 0 Base e (base_private c)))
       (λ b one e. record { role_now = e; link = word_stays b 1 Stacked e (λ same. private_stacked c (sym same)) })
       inv.core.chain
 
@@ -133,7 +126,7 @@ module _ (callers : ℕ) (n : NeverState) (top : Option ℕ) (role : ℕ → Rol
         nodes_now = nodes;
         decided = u;
         decision = None;
-        inv = assemble callers n top role nodes W inv c m top role nodes (moved (W c) next u rest) write_core
+        inv = assemble inv c m top role nodes (moved (W c) next u rest) write_core
             write_leaves (λ k b other. same_before k (role b)) local held;
         left = all_numbers_stay n m top role nodes
             (λ b e. word_stays b 0 Stacked e (λ same. private_stacked c (sym same))) inv.core.chain;

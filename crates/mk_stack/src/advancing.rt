@@ -1,11 +1,9 @@
 //! One operation of a job at a time, as the points of a job have it.
-ghost use Rattle.std.specs.Prelude.{◌≡◌, ◌<◌, ◌∷◌, [], length, IfOk, OnOk, OnErr, true};
-ghost use Rattle.mk_caller.specs.States.{caller_of_pass};
+ghost use Rattle.std.specs.Prelude.{◌≡◌, ◌<◌, length, IfOk, OnOk, OnErr, true};
 ghost use Rattle.mk_caller.specs.declared.refusals.Refusal.TheVariants as refusal;
 ghost use Rattle.mk_stack.specs.declared.points.Point.TheVariants as point;
-ghost use Rattle.mk_stack.specs.Advancing.{Advances, IsAtPoint, IsGoal, Stays, StaysEnded};
+ghost use Rattle.mk_stack.specs.Advancing.{Advances, IsAtPoint, IsGoal, IsReady, IsReadyForTurn, Stays, StaysEnded};
 ghost use Rattle.mk_stack.specs.Jobs.{done_without};
-ghost use Rattle.mk_stack.specs.Passes.{HasStackTypes};
 
 use crate::jobs::{Done, Job};
 use crate::points::Point;
@@ -52,6 +50,7 @@ fn done_without(job: Job) -> Done
 /// The one refusal of an access to a node or a top.
 pub(crate) fn held(cause: Refusal) -> Held
     requires { cause ≡ refusal.Held }
+    ensures { cause ≡ refusal.Held }
 {
     match cause {
         Refusal::Held => Held,
@@ -61,9 +60,7 @@ pub(crate) fn held(cause: Refusal) -> Held
 
 /// Stores the top in its global.
 fn place_top(caller: &mut Caller) -> Result<Point, Held>
-    requires home { caller.old.home ≡ true }
-    requires exists { caller_of_pass caller.old.pass < caller.old.pass.table.config.callers }
-    requires types { HasStackTypes caller.old.pass.table.config }
+    requires ready { IsReady caller.old }
     requires holds { IsAtPoint caller.old.pass point.Placing }
     ensures home { caller.new.home ≡ true }
     ensures advances { IfOk result (Advances caller.old.pass point.Placing caller.new.pass) }
@@ -80,9 +77,7 @@ fn place_top(caller: &mut Caller) -> Result<Point, Held>
 
 /// Loads the top from its global.
 pub(crate) fn load_top(caller: &mut Caller, job: Job) -> Result<Point, Held>
-    requires home { caller.old.home ≡ true }
-    requires exists { caller_of_pass caller.old.pass < caller.old.pass.table.config.callers }
-    requires types { HasStackTypes caller.old.pass.table.config }
+    requires ready { IsReady caller.old }
     requires holds { IsAtPoint caller.old.pass (point.Starting job) }
     ensures home { caller.new.home ≡ true }
     ensures advances { IfOk result (Advances caller.old.pass (point.Starting job) caller.new.pass) }
@@ -99,9 +94,7 @@ pub(crate) fn load_top(caller: &mut Caller, job: Job) -> Result<Point, Held>
 
 /// Looks whether there is a top.
 pub(crate) fn check_top(caller: &mut Caller, job: Job) -> Result<Point, Held>
-    requires home { caller.old.home ≡ true }
-    requires exists { caller_of_pass caller.old.pass < caller.old.pass.table.config.callers }
-    requires types { HasStackTypes caller.old.pass.table.config }
+    requires ready { IsReady caller.old }
     requires holds { IsAtPoint caller.old.pass (point.Checking job) }
     ensures home { caller.new.home ≡ true }
     ensures advances { IfOk result (Advances caller.old.pass (point.Checking job) caller.new.pass) }
@@ -122,9 +115,7 @@ pub(crate) fn check_top(caller: &mut Caller, job: Job) -> Result<Point, Held>
 
 /// Stores its number in the node that is pushed.
 fn fill(caller: &mut Caller, n: u64) -> Result<Point, Held>
-    requires home { caller.old.home ≡ true }
-    requires exists { caller_of_pass caller.old.pass < caller.old.pass.table.config.callers }
-    requires types { HasStackTypes caller.old.pass.table.config }
+    requires ready { IsReady caller.old }
     requires holds { IsAtPoint caller.old.pass (point.Filling n) }
     ensures home { caller.new.home ≡ true }
     ensures advances { IfOk result (Advances caller.old.pass (point.Filling n) caller.new.pass) }
@@ -141,9 +132,7 @@ fn fill(caller: &mut Caller, n: u64) -> Result<Point, Held>
 
 /// Loads the uppermost node, or null.
 fn look(caller: &mut Caller, n: u64) -> Result<Point, Held>
-    requires home { caller.old.home ≡ true }
-    requires exists { caller_of_pass caller.old.pass < caller.old.pass.table.config.callers }
-    requires types { HasStackTypes caller.old.pass.table.config }
+    requires ready { IsReady caller.old }
     requires holds { IsAtPoint caller.old.pass (point.Looking n) }
     ensures home { caller.new.home ≡ true }
     ensures advances { IfOk result (Advances caller.old.pass (point.Looking n) caller.new.pass) }
@@ -160,9 +149,7 @@ fn look(caller: &mut Caller, n: u64) -> Result<Point, Held>
 
 /// Links the node to the uppermost one.
 fn link(caller: &mut Caller, n: u64) -> Result<Point, Held>
-    requires home { caller.old.home ≡ true }
-    requires exists { caller_of_pass caller.old.pass < caller.old.pass.table.config.callers }
-    requires types { HasStackTypes caller.old.pass.table.config }
+    requires ready { IsReady caller.old }
     requires holds { IsAtPoint caller.old.pass (point.Linking n) }
     ensures home { caller.new.home ≡ true }
     ensures advances { IfOk result (Advances caller.old.pass (point.Linking n) caller.new.pass) }
@@ -179,9 +166,7 @@ fn link(caller: &mut Caller, n: u64) -> Result<Point, Held>
 
 /// Exchanges the uppermost node for the new one, where it is still that which was loaded.
 fn publish(caller: &mut Caller, n: u64) -> Result<Point, Held>
-    requires home { caller.old.home ≡ true }
-    requires exists { caller_of_pass caller.old.pass < caller.old.pass.table.config.callers }
-    requires types { HasStackTypes caller.old.pass.table.config }
+    requires ready { IsReady caller.old }
     requires holds { IsAtPoint caller.old.pass (point.Publishing n) }
     ensures home { caller.new.home ≡ true }
     ensures advances { IfOk result (Advances caller.old.pass (point.Publishing n) caller.new.pass) }
@@ -199,9 +184,7 @@ fn publish(caller: &mut Caller, n: u64) -> Result<Point, Held>
 
 /// Loads the uppermost node, or null.
 pub(crate) fn peek(caller: &mut Caller) -> Result<Point, Held>
-    requires home { caller.old.home ≡ true }
-    requires exists { caller_of_pass caller.old.pass < caller.old.pass.table.config.callers }
-    requires types { HasStackTypes caller.old.pass.table.config }
+    requires ready { IsReady caller.old }
     requires holds { IsAtPoint caller.old.pass point.Peeking }
     ensures home { caller.new.home ≡ true }
     ensures advances { IfOk result (Advances caller.old.pass point.Peeking caller.new.pass) }
@@ -218,9 +201,7 @@ pub(crate) fn peek(caller: &mut Caller) -> Result<Point, Held>
 
 /// Looks whether there is an uppermost node.
 pub(crate) fn test(caller: &mut Caller) -> Result<Point, Held>
-    requires home { caller.old.home ≡ true }
-    requires exists { caller_of_pass caller.old.pass < caller.old.pass.table.config.callers }
-    requires types { HasStackTypes caller.old.pass.table.config }
+    requires ready { IsReady caller.old }
     requires holds { IsAtPoint caller.old.pass point.Testing }
     ensures home { caller.new.home ≡ true }
     ensures advances { IfOk result (Advances caller.old.pass point.Testing caller.new.pass) }
@@ -238,9 +219,7 @@ pub(crate) fn test(caller: &mut Caller) -> Result<Point, Held>
 
 /// Loads the node below.
 fn follow(caller: &mut Caller) -> Result<Point, Held>
-    requires home { caller.old.home ≡ true }
-    requires exists { caller_of_pass caller.old.pass < caller.old.pass.table.config.callers }
-    requires types { HasStackTypes caller.old.pass.table.config }
+    requires ready { IsReady caller.old }
     requires holds { IsAtPoint caller.old.pass point.Following }
     ensures home { caller.new.home ≡ true }
     ensures advances { IfOk result (Advances caller.old.pass point.Following caller.new.pass) }
@@ -257,9 +236,7 @@ fn follow(caller: &mut Caller) -> Result<Point, Held>
 
 /// Exchanges the uppermost node for the one below, where it is still that which was loaded.
 fn unlink(caller: &mut Caller) -> Result<Point, Held>
-    requires home { caller.old.home ≡ true }
-    requires exists { caller_of_pass caller.old.pass < caller.old.pass.table.config.callers }
-    requires types { HasStackTypes caller.old.pass.table.config }
+    requires ready { IsReady caller.old }
     requires holds { IsAtPoint caller.old.pass point.Taking }
     ensures home { caller.new.home ≡ true }
     ensures advances { IfOk result (Advances caller.old.pass point.Taking caller.new.pass) }
@@ -277,9 +254,7 @@ fn unlink(caller: &mut Caller) -> Result<Point, Held>
 
 /// Loads the number of the node that was taken, and is freed by now.
 fn read(caller: &mut Caller) -> Result<Point, Held>
-    requires home { caller.old.home ≡ true }
-    requires exists { caller_of_pass caller.old.pass < caller.old.pass.table.config.callers }
-    requires types { HasStackTypes caller.old.pass.table.config }
+    requires ready { IsReady caller.old }
     requires holds { IsAtPoint caller.old.pass point.Reading }
     ensures home { caller.new.home ≡ true }
     ensures advances { IfOk result (Advances caller.old.pass point.Reading caller.new.pass) }
@@ -296,9 +271,7 @@ fn read(caller: &mut Caller) -> Result<Point, Held>
 
 /// Sets a register to null, when the job has ended.
 pub(crate) fn clear(caller: &mut Caller, register: u8) -> Result<(), Held>
-    requires home { caller.old.home ≡ true }
-    requires exists { caller_of_pass caller.old.pass < caller.old.pass.table.config.callers }
-    requires types { HasStackTypes caller.old.pass.table.config }
+    requires ready { IsReady caller.old }
     requires register { register < 8 }
     ensures home { caller.new.home ≡ true }
     ensures ended { OnOk result (StaysEnded caller.old.pass caller.new.pass) }
@@ -319,12 +292,7 @@ fn found<E: Engine, R: Threads + Wait + Sync>(
     caller: &mut Caller,
     bench: &mut Bench<E>,
 ) -> Point
-    requires home { caller.old.home ≡ true }
-    requires exists { caller_of_pass caller.old.pass < caller.old.pass.table.config.callers }
-    requires alone { caller.old.pass.seats ≡ caller.old.pass.seat ∷ [] }
-    requires types { HasStackTypes caller.old.pass.table.config }
-    requires made_for { E.made_for bench.old.engine ≡ caller.old.pass.table.config.pages }
-    requires book { length bench.old.book ≡ caller.old.pass.table.config.pages }
+    requires ready { IsReadyForTurn caller.old (E.made_for bench.old.engine) (length bench.old.book) }
     requires holds { IsAtPoint caller.old.pass point.Founding }
     ensures home { caller.new.home ≡ true }
     ensures made_for { E.made_for bench.new.engine ≡ E.made_for bench.old.engine }
@@ -346,12 +314,7 @@ fn make<E: Engine, R: Threads + Wait + Sync>(
     bench: &mut Bench<E>,
     n: u64,
 ) -> Point
-    requires home { caller.old.home ≡ true }
-    requires exists { caller_of_pass caller.old.pass < caller.old.pass.table.config.callers }
-    requires alone { caller.old.pass.seats ≡ caller.old.pass.seat ∷ [] }
-    requires types { HasStackTypes caller.old.pass.table.config }
-    requires made_for { E.made_for bench.old.engine ≡ caller.old.pass.table.config.pages }
-    requires book { length bench.old.book ≡ caller.old.pass.table.config.pages }
+    requires ready { IsReadyForTurn caller.old (E.made_for bench.old.engine) (length bench.old.book) }
     requires holds { IsAtPoint caller.old.pass (point.Making n) }
     ensures home { caller.new.home ≡ true }
     ensures made_for { E.made_for bench.new.engine ≡ E.made_for bench.old.engine }
@@ -372,12 +335,7 @@ fn free<E: Engine, R: Threads + Wait + Sync>(
     caller: &mut Caller,
     bench: &mut Bench<E>,
 ) -> Point
-    requires home { caller.old.home ≡ true }
-    requires exists { caller_of_pass caller.old.pass < caller.old.pass.table.config.callers }
-    requires alone { caller.old.pass.seats ≡ caller.old.pass.seat ∷ [] }
-    requires types { HasStackTypes caller.old.pass.table.config }
-    requires made_for { E.made_for bench.old.engine ≡ caller.old.pass.table.config.pages }
-    requires book { length bench.old.book ≡ caller.old.pass.table.config.pages }
+    requires ready { IsReadyForTurn caller.old (E.made_for bench.old.engine) (length bench.old.book) }
     requires holds { IsAtPoint caller.old.pass point.Freeing }
     ensures home { caller.new.home ≡ true }
     ensures made_for { E.made_for bench.new.engine ≡ E.made_for bench.old.engine }
@@ -399,12 +357,7 @@ pub(crate) fn advance<E: Engine, R: Threads + Wait + Sync>(
     bench: &mut Bench<E>,
     point: Point,
 ) -> Result<Point, Held>
-    requires home { caller.old.home ≡ true }
-    requires exists { caller_of_pass caller.old.pass < caller.old.pass.table.config.callers }
-    requires alone { caller.old.pass.seats ≡ caller.old.pass.seat ∷ [] }
-    requires types { HasStackTypes caller.old.pass.table.config }
-    requires made_for { E.made_for bench.old.engine ≡ caller.old.pass.table.config.pages }
-    requires book { length bench.old.book ≡ caller.old.pass.table.config.pages }
+    requires ready { IsReadyForTurn caller.old (E.made_for bench.old.engine) (length bench.old.book) }
     requires holds { IsAtPoint caller.old.pass point }
     requires goes_on { IsGoal point → ⊥ }
     ensures home { caller.new.home ≡ true }

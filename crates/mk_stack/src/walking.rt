@@ -2,7 +2,7 @@
 ghost use Rattle.std.specs.Prelude.{◌≡◌, ◌<◌, [], IfOk, OnErr, true, false};
 ghost use Rattle.mk_caller.specs.States.{caller_of_pass};
 ghost use Rattle.mk_stack.specs.declared.walking.WalkPoint.TheVariants as walk;
-ghost use Rattle.mk_stack.specs.Advancing.{Stays};
+ghost use Rattle.mk_stack.specs.Advancing.{IsReady, Stays};
 ghost use Rattle.mk_stack.specs.Passes.{HasStackTypes};
 ghost use Rattle.mk_stack.specs.Walks.{HasWalked, HoldsDown, StepsDown, next_of, numbers_found, walk_point};
 
@@ -66,9 +66,7 @@ fn walk_point(point: Point) -> WalkPoint
 
 /// Loads the number of a node, which stays on the stack.
 fn read_number(caller: &mut Caller) -> Result<Found, Held>
-    requires home { caller.old.home ≡ true }
-    requires exists { caller_of_pass caller.old.pass < caller.old.pass.table.config.callers }
-    requires types { HasStackTypes caller.old.pass.table.config }
+    requires ready { IsReady caller.old }
     requires holds { HoldsDown caller.old.pass walk.Reading }
     ensures home { caller.new.home ≡ true }
     ensures steps { IfOk result (λ found.
@@ -86,9 +84,7 @@ fn read_number(caller: &mut Caller) -> Result<Found, Held>
 
 /// Loads the node below in place of the node.
 fn descend(caller: &mut Caller) -> Result<Found, Held>
-    requires home { caller.old.home ≡ true }
-    requires exists { caller_of_pass caller.old.pass < caller.old.pass.table.config.callers }
-    requires types { HasStackTypes caller.old.pass.table.config }
+    requires ready { IsReady caller.old }
     requires holds { HoldsDown caller.old.pass walk.Descending }
     ensures home { caller.new.home ≡ true }
     ensures steps { IfOk result (λ found.
@@ -114,9 +110,7 @@ fn go_on(next: Point) -> Found
 
 /// The operation of a point of a walk, and what it finds; or the gate was held, and nothing was asked.
 fn go_down(caller: &mut Caller, point: WalkPoint) -> Result<Found, Held>
-    requires home { caller.old.home ≡ true }
-    requires exists { caller_of_pass caller.old.pass < caller.old.pass.table.config.callers }
-    requires types { HasStackTypes caller.old.pass.table.config }
+    requires ready { IsReady caller.old }
     requires holds { HoldsDown caller.old.pass point }
     requires goes_on { point ≡ walk.Ended → ⊥ }
     ensures home { caller.new.home ≡ true }

@@ -1,17 +1,12 @@
-use Rattle.mk_words.specs.States.{PassState}
 use Rattle.mk_stack.proofs.Advances.{free_advances, free_again_advances}
 use Rattle.mk_stack.proofs.advancing.free.Goals as goal
 
 pub returns-in-Ok-clause-advances : goal.returns-in-Ok-clause-advances
 returns-in-Ok-clause-advances g c =
-    let p : PassState = c.args.caller.now.pass in
-    let q : PassState = c.free_object-freed.new.caller.pass in
-    free_advances p q c.requires.types c.is_idle.ensures.history g.E.Engine.on c.requires.holds
+    free_advances _ _ c.requires.ready.ready.types c.is_idle.ensures.history g.E.Engine.on c.requires.holds
     c.in-Ok.ensures.freed.called
 
 pub returns-in-Err-clause-advances : goal.returns-in-Err-clause-advances
 returns-in-Err-clause-advances g c =
-    let p : PassState = c.args.caller.now.pass in
-    let q : PassState = c.free_object-freed.new.caller.pass in
-    free_again_advances p q c.requires.types c.is_idle.ensures.history g.E.Engine.on c.requires.holds
+    free_again_advances _ _ c.requires.ready.ready.types c.is_idle.ensures.history g.E.Engine.on c.requires.holds
     c.in-Err.ensures.double.called

@@ -1,25 +1,15 @@
-use Rattle.mk_never.specs.declared.operations.Op.TheVariants as op
-use Rattle.mk_words.specs.States.{PassState}
-use Rattle.mk_caller.specs.States.{never_of, caller_of_pass}
 use Rattle.mk_stack.proofs.NodeKinds.{may_place}
-use Rattle.mk_stack.proofs.Advances.{pass_state, place_advances}
+use Rattle.mk_stack.proofs.Advances.{place_advances, ready_state}
 use Rattle.mk_stack.proofs.Replies.{stays_held}
 use Rattle.mk_stack.proofs.advancing.place_top.Goals as goal
 
 pub set_global-placed-requires-clause-admitted : goal.set_global-placed-requires-clause-admitted
 set_global-placed-requires-clause-admitted c =
-    let p : PassState = c.args.caller.now.pass in
-    may_place p.table.config.globals (never_of p) (caller_of_pass p)
-    (pass_state p c.requires.types c.requires.exists c.is_idle.ensures.history) c.requires.holds
+    may_place (ready_state c.requires.ready c.is_idle.ensures.history) c.requires.holds
 
 pub returns-in-Ok-clause-advances : goal.returns-in-Ok-clause-advances
 returns-in-Ok-clause-advances c =
-    let p : PassState = c.args.caller.now.pass in
-    let q : PassState = c.set_global-placed.new.self.pass in
-    place_advances p q c.requires.types c.is_idle-2.ensures.history c.in-Ok.ensures.called
+    place_advances _ _ c.requires.ready.types c.is_idle-2.ensures.history c.in-Ok.ensures.called
 
 pub returns-in-Err-clause-held : goal.returns-in-Err-clause-held
-returns-in-Err-clause-held c =
-    let p : PassState = c.args.caller.now.pass in
-    let q : PassState = c.set_global-placed.new.self.pass in
-    stays_held p q (op.SetGlobal 0 0) c.in-Err.ensures.held
+returns-in-Err-clause-held c = stays_held c.in-Err.ensures.held

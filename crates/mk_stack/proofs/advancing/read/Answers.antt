@@ -1,38 +1,22 @@
-use Rattle.std.proofs.Common.{subst}
 use Rattle.mk_never.specs.declared.operations.Op.TheVariants as op
-use Rattle.mk_words.specs.States.{PassState}
-use Rattle.mk_caller.specs.States.{never_of, caller_of_pass}
-use Rattle.mk_caller.specs.declared.refusals.Refusal.{Refusal}
-use Rattle.mk_caller.specs.Causes.{IsRefused}
 use Rattle.mk_stack.proofs.NodeKinds.{may_read}
-use Rattle.mk_stack.proofs.Advances.{pass_state, read_advances}
+use Rattle.mk_stack.proofs.Advances.{read_advances, ready_state}
 use Rattle.mk_stack.proofs.RefusedAccesses.{read_held}
-use Rattle.mk_stack.proofs.Replies.{stays_held}
+use Rattle.mk_stack.proofs.Replies.{stays_refused}
 use Rattle.mk_stack.proofs.advancing.read.Goals as goal
 
 pub get_num-read-requires-clause-admitted : goal.get_num-read-requires-clause-admitted
 get_num-read-requires-clause-admitted c =
-    let p : PassState = c.args.caller.now.pass in
-    may_read p.table.config.globals (never_of p) (caller_of_pass p)
-    (pass_state p c.requires.types c.requires.exists c.is_idle.ensures.history) c.requires.holds
+    may_read (ready_state c.requires.ready c.is_idle.ensures.history) c.requires.holds
 
 pub held-requires : goal.held-requires
 held-requires c =
-    let p : PassState = c.args.caller.now.pass in
-    let q : PassState = c.get_num-read.new.self.pass in
-    read_held p q c.requires.types c.is_idle-2.ensures.history c.in-Err.cause c.requires.holds c.in-Err.ensures.refused
+    read_held _ _ c.requires.ready.types c.is_idle-2.ensures.history c.in-Err.cause c.requires.holds
+    c.in-Err.ensures.refused
 
 pub returns-in-Ok-clause-advances : goal.returns-in-Ok-clause-advances
 returns-in-Ok-clause-advances c =
-    let p : PassState = c.args.caller.now.pass in
-    let q : PassState = c.get_num-read.new.self.pass in
-    read_advances p q c.requires.types c.is_idle-2.ensures.history c.in-Ok.n c.in-Ok.ensures.called
+    read_advances _ _ c.requires.ready.types c.is_idle-2.ensures.history c.in-Ok.n c.in-Ok.ensures.called
 
 pub returns-in-Err-clause-held : goal.returns-in-Err-clause-held
-returns-in-Err-clause-held c =
-    let p : PassState = c.args.caller.now.pass in
-    let q : PassState = c.get_num-read.new.self.pass in
-    stays_held p q (op.GetNum 2 0)
-    (subst (λ (e : Refusal). IsRefused p (op.GetNum 2 0) e q)
-    (read_held p q c.requires.types c.is_idle-2.ensures.history c.in-Err.cause c.requires.holds
-    c.in-Err.ensures.refused) c.in-Err.ensures.refused)
+returns-in-Err-clause-held c = stays_refused (op.GetNum 2 0) c.in-Err.cause c.held.ensures c.in-Err.ensures.refused

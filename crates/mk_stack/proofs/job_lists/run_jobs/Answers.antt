@@ -1,6 +1,5 @@
 use Rattle.std.proofs.Common.{◌∙◌, List, sym, subst, take, ◌+◌}
-use Rattle.mk_stack.specs.declared.jobs.Done.{Done}
-use Rattle.mk_stack.specs.JobLists.{DoesJobs}
+use Rattle.mk_stack.proofs.Vocabulary.{DoesJobs, Done}
 use Rattle.mk_stack.proofs.JobLists.{does_next}
 use Rattle.mk_stack.proofs.job_lists.run_jobs.Goals as goal
 
@@ -14,8 +13,7 @@ loop-index-preserved g c =
       book = c.do_job-done.ensures.book ∙ old.invariant.book;
       does =
           subst (λ (dones : List Done). DoesJobs c.args.caller.now.pass (take (old.index + 1) c.args.jobs.now) dones
-          new)
-          (sym c.in_ok-push.ensures.items)
-          (does_next c.args.caller.now.pass old.caller.pass new c.args.jobs.now old.index old.list.items _
+          new) (sym c.in_ok-push.ensures.items)
+          (does_next new c.args.jobs.now old.index _
           c.do_job-done.result c.loop-index-test.true old.invariant.does c.do_job-done.ensures.does);
     }

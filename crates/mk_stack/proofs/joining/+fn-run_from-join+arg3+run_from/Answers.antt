@@ -1,15 +1,10 @@
 use Rattle.std.proofs.Common.{◌≡◌, ◌∙◌, ◌+◌, ◌<◌, List, [], length, sym, ap, subst, arith, rules}
-use denote.Exit.{no}
-use denote.Param.Send.{arg_send, param_send}
 use Rattle.std.specs.Prelude.{Ok, Some}
 use Rattle.std.proofs.lemmas.List.Elements.{All-pop}
-use Rattle.mk_heap.specs.Hosts.{HostState}
-use Rattle.mk_words.specs.States.{PassState}
-use Rattle.mk_stack.specs.declared.job_lists.Jobs.{Jobs}
-use Rattle.mk_stack.specs.declared.joining.Joined.{Joined}
-use Rattle.mk_stack.specs.Jobs.{Replied}
-use Rattle.mk_stack.specs.Joining.{HasHandedOut, HaveWorked, IsBetweenJobs}
-use Rattle.mk_stack.specs.Passes.{replied_to}
+use Rattle.mk_stack.proofs.Vocabulary.{HasHandedOut, HaveWorked, HostState, Jobs, Joined, Replied, replied_to}
+use denote.Exit.{no}
+use denote.Param.Send.{arg_send, param_send}
+use Rattle.mk_stack.specs.Joining.{IsBetweenJobs}
 use Rattle.mk_stack.proofs.JoinedJobs.{next_made, next_ready, next_unasked, no_lists, none_joined}
 use Rattle.mk_stack.proofs.joining.+fn-run_from-join+arg3+run_from.Goals as goal
 
@@ -18,19 +13,15 @@ join-worked-requires-after_bounds g t c κs within =
     let w = c.args.heap.now in
     let k = c.args.k in
     let rest = c.pop.new.self.items in
-    let host = c.args.host in
     let parts = c.in-Some.ensures.cases in
     let next : HasHandedOut w c.args.host.markers (k + 1 + 1) c.caller.new.self =
-    subst (λ (h : HostState). HasHandedOut w c.args.host.markers (k + 1 + 1) h) (sym c.caller.ensures.host)
-    (next_made w c.args.host.markers (k + 1) host c.requires.host) in
+    subst (HasHandedOut w c.args.host.markers (k + 1 + 1)) (sym c.caller.ensures.host) (next_made c.requires.host) in
     let ready : IsBetweenJobs w (k + 1) c.finish-next.result =
-    subst (λ (p : PassState). IsBetweenJobs w (k + 1) p) (sym c.finish-next.ensures.pass)
-    (next_ready w c.args.host.markers (k + 1) host c.caller.result c.requires.host c.caller.ensures.caller
-    c.finish-next.ensures.idle) in
+    subst (IsBetweenJobs w (k + 1)) (sym c.finish-next.ensures.pass)
+    (next_ready c.caller.result c.requires.host c.caller.ensures.caller c.finish-next.ensures.idle) in
     let begun : replied_to c.finish-next.result ≡ [] =
-    ap (λ (p : PassState). replied_to p) c.finish-next.ensures.pass
-    ∙ next_unasked w c.args.host.markers (k + 1) host c.caller.result c.requires.host c.caller.ensures.caller in
-    let longer = ap (λ (l : List Jobs). length l) parts.0 in
+    ap replied_to c.finish-next.ensures.pass ∙ next_unasked c.caller.result c.requires.host c.caller.ensures.caller in
+    let longer = ap length parts.0 in
     let all : k + 1 + length c.in-Some.others.now ≡ w.config.callers = omega (arith, longer, c.requires.lists) in
     let exists : k < w.config.callers = omega (arith, all) in
     let enough : 1 + length rest ≡ length c.in-Some.others.now =
@@ -76,10 +67,8 @@ pub returns : goal.returns
 returns g t c =
     let w = c.args.heap.now in
     let k = c.args.k in
-    let host = c.args.host in
     let begun : replied_to c.finish-next.result ≡ [] =
-    ap (λ (p : PassState). replied_to p) c.finish-next.ensures.pass
-    ∙ next_unasked w c.args.host.markers (k + 1) host c.caller.result c.requires.host c.caller.ensures.caller in
+    ap replied_to c.finish-next.ensures.pass ∙ next_unasked c.caller.result c.requires.host c.caller.ensures.caller in
     let markers = c.args.host.markers in
     let joined : HaveWorked w markers (replied_to c.finish-next.result) (k + 1) c.in-Some.others.now
     c.join-worked.result.1 =
@@ -103,13 +92,13 @@ returns-in_default-pop g t c =
     let markers = c.args.host.markers in
     let first = replied_to c.args.pass in
     let parts = c.in-Some.ensures.cases in
-    let longer = ap (λ (l : List Jobs). length l) parts.0 in
+    let longer = ap length parts.0 in
     let none : c.in-Some.others.now ≡ [] =
     no_lists c.in-Some.others.now (omega (arith, longer, c.requires.benches, c.in_default-pop.ensures.cases)) in
     let joined : Joined = record { host = c.args.host; dones = Ok c.new.result } in
     let alone : HaveWorked w markers [] (k + 1) c.in-Some.others.now joined =
     subst (λ (l : List Jobs). HaveWorked w markers [] (k + 1) l joined) (sym none)
-    (none_joined w markers (k + 1) joined c.requires.host c.new.ensures.items) in
+    (none_joined joined c.requires.host c.new.ensures.items) in
     record {
       joined =
           subst (λ (lists : List Jobs). HaveWorked w markers first k lists c.join_worked.result) (sym parts.0)

@@ -1,7 +1,6 @@
 use Rattle.std.proofs.Common.{List, subst}
 use Rattle.std.specs.Prelude.{IfOk}
-use Rattle.mk_stack.specs.declared.jobs.Job.{Job}
-use Rattle.mk_stack.specs.JobLists.{DoesJobs}
+use Rattle.mk_stack.proofs.Vocabulary.{DoesJobs, Job}
 use Rattle.mk_stack.proofs.JoinedJobs.{has_worked, ready_alone, ready_exists}
 use Rattle.mk_stack.proofs.joining.work_alone.Goals as goal
 
@@ -10,17 +9,16 @@ new-caller-requires-clause-idle g c = c.requires.pass.idle
 
 pub run_jobs-dones-requires-clause-exists : goal.run_jobs-dones-requires-clause-exists
 run_jobs-dones-requires-clause-exists g c κs within =
-    ready_exists c.args.heap.now c.args.k c.args.pass c.new-caller.result c.requires.pass c.new-caller.ensures
-    c.requires.exists
+    ready_exists c.new-caller.result c.requires.pass c.new-caller.ensures c.requires.exists
 
 pub run_jobs-dones-requires-clause-alone : goal.run_jobs-dones-requires-clause-alone
 run_jobs-dones-requires-clause-alone g c κs within =
-    ready_alone c.args.heap.now c.args.k c.args.pass c.new-caller.result c.requires.pass c.new-caller.ensures
+    ready_alone c.new-caller.result c.requires.pass c.new-caller.ensures
 
 pub returns : goal.returns
 returns g c = record {
   worked =
-      has_worked c.args.heap.now c.args.k c.args.pass c.new-caller.result c.run_jobs-dones.new.caller.pass
+      has_worked c.new-caller.result
       c.finish.result c.args.jobs.now.list.items c.run_jobs-dones.result c.requires.pass c.new-caller.ensures
       c.run_jobs-dones.ensures.pass
       (subst (λ (jobs : List Job). IfOk c.run_jobs-dones.result (λ ds. DoesJobs c.new-caller.result.pass jobs

@@ -1,19 +1,14 @@
 use Rattle.std.proofs.Common.{◌+◌, ◌-◌, ◌<◌, sym, subst, arith, rules}
-use Rattle.mk_heap.specs.Hosts.{HostState}
+use Rattle.mk_stack.proofs.Vocabulary.{HasHandedOut}
 use Rattle.mk_run.specs.Marking.{IsMarkersPass}
 use Rattle.mk_run.proofs.MarkersBeside.{first_marker}
-use Rattle.mk_stack.specs.Joining.{HasHandedOut}
 use Rattle.mk_stack.proofs.EndedRuns.{is_not_attending, marker_made}
 use Rattle.mk_stack.proofs.marking.+fn-work_beside-join+arg3+work_beside.Goals as goal
 
 pub finish-pass-requires : goal.finish-pass-requires
 finish-pass-requires g t c =
     let few : c.args.number < 8 = omega (arith, c.requires.few_markers, c.if-number-markers.false) in
-    record {
-      out =
-          is_not_attending c.args.heap.now c.args.number c.args.host c.marker.result c.requires.host few
-          c.marker.ensures.marker;
-    }
+    record { out = is_not_attending c.marker.result c.requires.host few c.marker.ensures.marker }
 
 pub join-pass-requires-after_bounds : goal.join-pass-requires-after_bounds
 join-pass-requires-after_bounds g t c κs within =
@@ -25,8 +20,7 @@ join-pass-requires-after_bounds g t c κs within =
     first_marker w number c.args.host c.marker.result c.finish-pass.result c.requires.host.table c.requires.host.seen
     c.requires.host.same_markers few c.marker.ensures.marker c.finish-pass.ensures.pass in
     let made : HasHandedOut w (number + 1) 0 c.marker.new.self =
-    subst (λ (h : HostState). HasHandedOut w (number + 1) 0 h) (sym c.marker.ensures.host)
-    (marker_made w number c.args.host c.requires.host) in
+    subst (HasHandedOut w (number + 1) 0) (sym c.marker.ensures.host) (marker_made c.requires.host) in
     let fewer : c.args.markers - (number + 1) < t = omega (arith, c.decreases) in
     search rules
 

@@ -1,9 +1,5 @@
 use Rattle.std.proofs.Common.{subst}
-use Rattle.mk_words.specs.States.{PassState}
-use Rattle.mk_stack.specs.declared.jobs.Done.{Done}
-use Rattle.mk_stack.specs.declared.points.Point.{Point}
-use Rattle.mk_stack.specs.declared.points.Point.TheVariants.{Ended, Starting}
-use Rattle.mk_stack.specs.Passes.{GoesToPoint}
+use Rattle.mk_stack.proofs.Vocabulary.{Done, GoesToPoint, PassState, Starting}
 use Rattle.mk_stack.proofs.Going.{goes_through}
 use Rattle.mk_stack.proofs.JobGoals.{fit_as, job_ends}
 use Rattle.mk_stack.proofs.stacks.do_job.Goals as goal
@@ -18,15 +14,11 @@ pub returns-clause-does : goal.returns-clause-does
 returns-clause-does g c =
     let p : PassState = c.args.caller.now.pass in
     let q : PassState = c.go.new.caller.pass in
-    let r : PassState = c.forget.new.caller.pass in
-    let t : PassState = c.forget-2.new.caller.pass in
     let d : Done = c.in-Ended.done in
-    goes_through p q t (Starting c.args.job) (Ended d) (Ended d)
-    (subst (λ (x : Point). GoesToPoint p (Starting c.args.job) q x) c.in-Ended.is c.go.ensures.goes)
-    (goes_through q r t (Ended d) (Ended d) (Ended d) (c.forget.ensures.ended d) (c.forget-2.ensures.ended d))
+    goes_through (subst (GoesToPoint p (Starting c.args.job) q) c.in-Ended.is c.go.ensures.goes)
+    (goes_through (c.forget.ensures.ended d) (c.forget-2.ensures.ended d))
 
 pub returns-clause-fit : goal.returns-clause-fit
 returns-clause-fit g c =
     let goes = c.go.ensures.goes in
-    fit_as c.args.job c.go.result c.in-Ended.done
-    (job_ends c.args.job goes.all c.go.result c.go.ensures.goal goes.leads) c.in-Ended.is
+    fit_as c.in-Ended.done (job_ends c.args.job goes.all c.go.result c.go.ensures.goal goes.leads) c.in-Ended.is

@@ -1,30 +1,27 @@
-use Rattle.mk_words.specs.States.{PassState}
-use Rattle.mk_stack.specs.declared.jobs.Done.TheVariants.{Empty}
-use Rattle.mk_stack.specs.declared.points.Point.TheVariants.{Ended}
-use Rattle.mk_stack.proofs.Going.{goes_held, goes_through, seen_then}
+use Rattle.mk_stack.proofs.Vocabulary.{Empty}
+use Rattle.mk_stack.proofs.Going.{goes_held, goes_through, ready_on, seen_then}
 use Rattle.mk_stack.proofs.stacks.forget.Goals as goal
 
 pub returns-in-Ok-clause-ended : goal.returns-in-Ok-clause-ended
-returns-in-Ok-clause-ended g c d =
-    let p : PassState = c.args.caller.now.pass in
-    let q : PassState = c.tries.caller.pass in
-    let r : PassState = c.clear.new.caller.pass in
-    goes_through p q r (Ended d) (Ended d) (Ended d) (c.tries.invariant.ended d) (c.in-Ok.ensures.ended d)
+returns-in-Ok-clause-ended g c d = goes_through (c.tries.invariant.ended d) (c.in-Ok.ensures.ended d)
 
 pub returns-in-Ok-clause-pass : goal.returns-in-Ok-clause-pass
 returns-in-Ok-clause-pass g c =
-    let p : PassState = c.args.caller.now.pass in
-    let q : PassState = c.tries.caller.pass in
-    let r : PassState = c.clear.new.caller.pass in
-    seen_then p q r c.tries.invariant.is (c.in-Ok.ensures.ended Empty).is
+    seen_then c.args.caller.now.pass c.tries.caller.pass c.clear.new.caller.pass c.tries.invariant.is
+    (c.in-Ok.ensures.ended Empty).is
 
 pub tries-preserved : goal.tries-preserved
 tries-preserved g c =
-    let p : PassState = c.args.caller.now.pass in
-    let q : PassState = c.tries.caller.pass in
-    let r : PassState = c.clear.new.caller.pass in
     record {
       home = c.clear.ensures.home;
-      ended = λ d. goes_held p q r (Ended d) (Ended d) (c.tries.invariant.ended d) c.in-Err.ensures.held;
-      is = seen_then p q r c.tries.invariant.is c.in-Err.ensures.held.is;
+      ended = λ d. goes_held _ (c.tries.invariant.ended d) c.in-Err.ensures.held;
+      is =
+          seen_then c.args.caller.now.pass c.tries.caller.pass c.clear.new.caller.pass c.tries.invariant.is
+          c.in-Err.ensures.held.is;
     }
+
+pub clear-requires-clause-ready : goal.clear-requires-clause-ready
+clear-requires-clause-ready g c =
+    ready_on c.args.caller.now c.tries.caller
+    (record { home = c.requires.home; exists = c.requires.exists; types = c.requires.types })
+    c.tries.invariant.home c.tries.invariant.is

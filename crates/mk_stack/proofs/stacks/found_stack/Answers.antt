@@ -1,12 +1,10 @@
 use Rattle.std.proofs.Common.{subst}
-use Rattle.mk_stack.specs.declared.points.Point.{Point}
-use Rattle.mk_stack.specs.declared.points.Point.TheVariants.{Founding}
-use Rattle.mk_stack.specs.Passes.{GoesToPoint}
+use Rattle.mk_stack.proofs.Vocabulary.{Founding, GoesToPoint}
 use Rattle.mk_stack.proofs.JobGoals.{founding_ends}
 use Rattle.mk_stack.proofs.stacks.found_stack.Goals as goal
 
 pub returns-clause-founds : goal.returns-clause-founds
 returns-clause-founds g c =
     let goes = c.go-founded.ensures.goes in
-    subst (λ (t : Point). GoesToPoint c.args.caller.now.pass Founding c.go-founded.new.caller.pass t)
+    subst (GoesToPoint c.args.caller.now.pass Founding c.go-founded.new.caller.pass)
     (founding_ends goes.all c.go-founded.result c.go-founded.ensures.goal goes.leads) goes

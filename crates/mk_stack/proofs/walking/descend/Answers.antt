@@ -1,39 +1,24 @@
-use Rattle.std.proofs.Common.{subst}
+use Rattle.std.proofs.Common.{arith}
 use Rattle.mk_never.specs.declared.operations.Op.TheVariants as op
-use Rattle.mk_words.specs.States.{PassState}
-use Rattle.mk_caller.specs.States.{never_of, caller_of_pass}
-use Rattle.mk_caller.specs.declared.refusals.Refusal.{Refusal}
-use Rattle.mk_caller.specs.Causes.{IsRefused}
-use Rattle.mk_stack.proofs.Advances.{pass_state}
+use Rattle.mk_stack.proofs.WalkSteps.{descends_walk}
+use Rattle.mk_stack.proofs.NodeKinds.{may_follow}
+use Rattle.mk_stack.proofs.Advances.{ready_state}
 use Rattle.mk_stack.proofs.RefusedAccesses.{link_load_held}
-use Rattle.mk_stack.proofs.Replies.{stays_held}
-use Rattle.mk_stack.proofs.WalkSteps.{descends_walk, may_descend}
+use Rattle.mk_stack.proofs.Replies.{stays_refused}
 use Rattle.mk_stack.proofs.walking.descend.Goals as goal
 
 pub get_ptr-loaded-requires-clause-admitted : goal.get_ptr-loaded-requires-clause-admitted
 get_ptr-loaded-requires-clause-admitted c =
-    let p : PassState = c.args.caller.now.pass in
-    may_descend p.table.config.globals (never_of p) (caller_of_pass p)
-    (pass_state p c.requires.types c.requires.exists c.is_idle.ensures.history) c.requires.holds.1
+    may_follow (ready_state c.requires.ready c.is_idle.ensures.history) 2 (omega arith) c.requires.holds.1
 
 pub held-requires : goal.held-requires
 held-requires c =
-    let p : PassState = c.args.caller.now.pass in
-    let q : PassState = c.get_ptr-loaded.new.self.pass in
-    link_load_held p q c.requires.types c.is_idle-2.ensures.history 2 c.in-Err.cause c.requires.holds.1
+    link_load_held _ _ c.requires.ready.types c.is_idle-2.ensures.history 2 c.in-Err.cause c.requires.holds.1
     c.in-Err.ensures.refused
 
 pub returns-in-Ok-clause-steps : goal.returns-in-Ok-clause-steps
 returns-in-Ok-clause-steps c =
-    let p : PassState = c.args.caller.now.pass in
-    let q : PassState = c.get_ptr-loaded.new.self.pass in
-    descends_walk p q c.requires.types c.is_idle-2.ensures.history c.requires.holds c.in-Ok.ensures.called
+    descends_walk _ _ c.requires.ready.types c.is_idle-2.ensures.history c.requires.holds c.in-Ok.ensures.called
 
 pub returns-in-Err-clause-held : goal.returns-in-Err-clause-held
-returns-in-Err-clause-held c =
-    let p : PassState = c.args.caller.now.pass in
-    let q : PassState = c.get_ptr-loaded.new.self.pass in
-    stays_held p q (op.GetPtr 2 2 1)
-    (subst (λ (e : Refusal). IsRefused p (op.GetPtr 2 2 1) e q)
-    (link_load_held p q c.requires.types c.is_idle-2.ensures.history 2 c.in-Err.cause c.requires.holds.1
-    c.in-Err.ensures.refused) c.in-Err.ensures.refused)
+returns-in-Err-clause-held c = stays_refused (op.GetPtr 2 2 1) c.in-Err.cause c.held.ensures c.in-Err.ensures.refused

@@ -1,9 +1,9 @@
 use Rattle.std.proofs.Common.{ℕ, List, [], ◌∷◌, ◌++◌, subst, sym, append-nil}
-use Rattle.mk_words.specs.States.{PassState}
+use Rattle.mk_stack.proofs.Vocabulary.{HasWalked, HoldsDown, PassState}
 use Rattle.mk_stack.specs.declared.walking.Found.{Found}
-use Rattle.mk_stack.specs.declared.walking.WalkPoint.{WalkPoint}
 use Rattle.mk_stack.specs.declared.walking.WalkPoint.TheVariants as walk
-use Rattle.mk_stack.specs.Walks.{HasWalked, HoldsDown, StepsDown, next_of, numbers_found}
+use Rattle.mk_stack.specs.Walks.{StepsDown, next_of, numbers_found}
+use Rattle.mk_stack.proofs.Going.{ready_on}
 use Rattle.mk_stack.proofs.WalkSteps.{walked_more}
 use Rattle.mk_stack.proofs.walking.read_stack.Goals as goal
 
@@ -18,10 +18,10 @@ points-preserved-in-Ok-To g c =
     record {
       home = c.go_down.ensures.home;
       walked =
-          subst (λ (t : WalkPoint). HasWalked p c.points.left.items r t) (sym c.in-Ok-To.next-is)
+          subst (HasWalked p c.points.left.items r) (sym c.in-Ok-To.next-is)
           (subst (λ (l : List ℕ). HasWalked p l r c.in-Ok-To.next) (append-nil c.points.left.items)
-          (walked_more p q r c.points.left.items [] c.points.point c.in-Ok-To.next c.points.invariant.walked steps));
-      holds = subst (λ (t : WalkPoint). HoldsDown r t) (sym c.in-Ok-To.next-is) steps.holds;
+          (walked_more c.points.invariant.walked steps));
+      holds = subst (HoldsDown r) (sym c.in-Ok-To.next-is) steps.holds;
     }
 
 pub points-preserved-in-Ok-Number : goal.points-preserved-in-Ok-Number
@@ -37,7 +37,12 @@ points-preserved-in-Ok-Number g c =
       walked =
           subst (λ (l : List ℕ). HasWalked p l r walk.Descending) (sym c.in_ok-push-in-Ok-Number.ensures.items)
           (subst (λ (n : ℕ). HasWalked p (c.points.left.items ++ n ∷ []) r walk.Descending) (sym c.in-Ok-Number.n-is)
-          (walked_more p q r c.points.left.items (c.in-Ok-Number.n ∷ []) c.points.point walk.Descending
-          c.points.invariant.walked steps));
+          (walked_more c.points.invariant.walked steps));
       holds = steps.holds;
     }
+
+pub go_down-requires-clause-ready : goal.go_down-requires-clause-ready
+go_down-requires-clause-ready g c =
+    ready_on c.args.caller.now c.points.caller
+    (record { home = c.requires.home; exists = c.requires.exists; types = c.requires.types })
+    c.points.invariant.home c.points.invariant.walked.is

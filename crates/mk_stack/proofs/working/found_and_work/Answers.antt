@@ -1,7 +1,5 @@
 use Rattle.std.proofs.Common.{sym, subst}
-use Rattle.mk_heap.specs.Hosts.{HostState}
-use Rattle.mk_stack.specs.Joining.{HasHandedOut, HaveWorked}
-use Rattle.mk_stack.specs.Passes.{replied_to}
+use Rattle.mk_stack.proofs.Vocabulary.{HasHandedOut, HaveWorked, HostState, replied_to}
 use Rattle.mk_stack.proofs.EndedRuns.{founds_stack}
 use Rattle.mk_stack.proofs.JoinedJobs.{next_made}
 use Rattle.mk_stack.proofs.working.found_and_work.Goals as goal
@@ -9,15 +7,14 @@ use Rattle.mk_stack.proofs.working.found_and_work.Goals as goal
 pub run_from-requires-clause-host : goal.run_from-requires-clause-host
 run_from-requires-clause-host g c κs within =
     subst (λ (h : HostState). HasHandedOut c.args.heap.now h.markers 1 h) (sym c.caller-first.ensures.host)
-    (next_made c.args.heap.now c.args.host.markers 0 c.args.host c.requires.host)
+    (next_made c.requires.host)
 
 pub returns : goal.returns
 returns g c = record {
   worked = record {
     founding = replied_to c.finish-pass.result;
     founds =
-        founds_stack c.args.heap.now c.args.host.markers c.args.host c.caller-first.result
-        c.found_stack.new.caller.pass c.finish-pass.result c.requires.host c.caller-first.ensures.caller
+        founds_stack c.caller-first.result c.finish-pass.result c.requires.host c.caller-first.ensures.caller
         c.found_stack.ensures.founds c.finish-pass.ensures.pass;
     worked =
         subst (λ (h : HostState). HaveWorked c.args.heap.now h.markers (replied_to c.finish-pass.result) 0

@@ -1,6 +1,5 @@
 use Rattle.std.proofs.lemmas.Result.{IfOk-weaker}
-use Rattle.mk_stack.specs.Joining.{ReadsStack}
-use Rattle.mk_stack.specs.Walks.{HasWalked}
+use Rattle.mk_stack.proofs.Vocabulary.{HasWalked, ReadsStack}
 use Rattle.mk_stack.specs.declared.walking.WalkPoint.TheVariants as walk
 use Rattle.mk_stack.proofs.Readers.{is_reader, reads_stack}
 use Rattle.mk_stack.proofs.working.read_left.Goals as goal
@@ -20,6 +19,6 @@ returns-clause-reads g c =
     let q = c.read_stack-left.new.caller.pass in
     IfOk-weaker c.read_stack-left.result (λ left. HasWalked s.pass left.items q walk.Ended)
     (λ left. ReadsStack w.config h left.items c.join_caller.new.self)
-    (λ left walked. reads_stack w h c.join_caller.new.self s q c.finish.result left.items c.requires.one_table
+    (λ left walked. reads_stack w h c.join_caller.new.self s c.finish.result c.requires.one_table
     c.caller_again-reader.ensures.caller walked c.finish.ensures.pass c.join_caller.ensures.came)
     c.read_stack-left.ensures.walked

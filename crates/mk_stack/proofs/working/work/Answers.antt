@@ -4,8 +4,7 @@ use Rattle.mk_stack.proofs.working.work.Goals as goal
 
 pub over-requires-clause-joined : goal.over-requires-clause-joined
 over-requires-clause-joined g c κs within =
-    callers_are_joined c.args.heap.now c.args.host.markers c.args.lists.now c.found_and_work-host.result
-    c.read_left-left.new.host c.found_and_work-host.ensures.worked c.read_left-left.ensures.reader
+    callers_are_joined c.found_and_work-host.ensures.worked c.read_left-left.ensures.reader
 
 pub returns : goal.returns
 returns g c = record {
@@ -13,10 +12,6 @@ returns g c = record {
       have_ended c.args.heap.now c.args.host.markers c.args.lists.now c.found_and_work-host.result
       c.read_left-left.new.host c.over.new.self c.requires.types c.requires.lists c.found_and_work-host.ensures.worked
       c.read_left-left.ensures.reader c.over.ensures.over c.over.ensures.host c.is_in_order.ensures.history
-      (record {
-        host = c.over.new.self;
-        dones = c.found_and_work-host.result.dones;
-        left = c.read_left-left.result;
-      })
+      (record { host = c.over.new.self; dones = c.found_and_work-host.result.dones; left = c.read_left-left.result })
       refl refl c.read_left-left.ensures.reads;
 }
