@@ -4,6 +4,7 @@ mod HostTurns
 mod JoinedScripts
 mod LaterLists
 pub mod MarkersBeside
+mod AskedOps
 mod NotedCalls
 mod ScriptCalls
 mod WholeRuns

@@ -20,7 +20,7 @@ use Rattle.mk_alloc.specs.Laws.{OwnAreExact}
 use Rattle.mk_alloc.specs.TurnCalls.{CalledInTurn}
 use Rattle.mk_script.specs.declared.items.Item.{Item}
 use Rattle.mk_check.specs.Feed.{is_refusal}
-use Rattle.mk_check.specs.Feeding.{FeedStandsFor}
+use Rattle.mk_check.specs.Feeding.{FeedState, FeedStandsFor, StandsForSome, next_op}
 use Rattle.mk_run.specs.declared.scripts.Script.{Script}
 use Rattle.mk_run.specs.Running.{answers_in, FollowsScript}
 
@@ -61,6 +61,26 @@ pub record MakesNoCall (on : Bool) (p q : PassState) : Type 0 where
   pub entries : own_calls p q.seen ≡ own_calls p p.seen
   pub exact : OwnAreExact on p → OwnAreExact on q
   pub beside : StaysBeside p q
+
+-- The caller found its gate held at this operation, which takes no turn, and made no call.
+pub record IsHeldUp (p : PassState) (o : Op) (q : PassState) : Type 0 where
+  pub beside : is_under_turn o ≡ false
+  pub none : (on : Bool) → MakesNoCall on p q
+
+-- A script that is fed asks for this operation.
+pub record AsksFor (s : FeedState) (o : Op) : Type 0 where
+  pub some : StandsForSome s
+  pub next :
+      (program : List Item) (k : ℕ) (answers : List Answer) → FeedStandsFor program k s answers
+      → next_op program k answers ≡ Some o
+
+-- It asks for some operation, which takes no turn, and is admitted whenever the caller's calls are still those that
+-- they are now.
+pub record AsksBesideTurns (s : FeedState) (p : PassState) : Type 0 where
+  pub op : Op
+  pub asks : AsksFor s op
+  pub beside : is_under_turn op ≡ false
+  pub admitted : IsAdmittedByOwnCalls p op
 
 -- A New that isn't known to be full
 abbrev pub unflagged : Op → Op

@@ -1,15 +1,18 @@
 //! The operations of a script, each with its answer.
 ghost use Rattle.std.specs.Prelude.{◌≡◌, ◌<◌, ◌∷◌, [], length, IfOk, IfErr, OnErr, true, false, Bool};
 ghost use Rattle.mk_core.specs.Calls.{is_under_turn};
+ghost use Rattle.mk_never.specs.declared.operations.Op.{Op};
 ghost use Rattle.mk_caller.specs.Causes.{FindsGateHeld, IsRefused};
 ghost use Rattle.mk_caller.specs.Moves.{is_access};
 ghost use Rattle.mk_caller.specs.States.{caller_of_pass, Admits};
 ghost use Rattle.mk_turns.specs.Sweeping.{SweepsNothing};
 ghost use Rattle.mk_cycle.specs.Begun.{EachIsBegun};
-ghost use Rattle.mk_run.specs.Scripts.{IsCalled, IsAdmittedByOwnCalls, Answers};
+ghost use Rattle.mk_run.specs.Scripts.{IsCalled, IsAdmittedByOwnCalls, IsHeldUp, Answers};
+ghost use Rattle.mk_run.specs.Scripts.{AsksFor, AsksBesideTurns};
 
 use mk_alloc::{free_object, new_object};
 use mk_caller::{Caller, Refusal};
+use mk_check::Feed;
 use mk_core::Answer;
 use mk_cycle::{Bench, Engine};
 use mk_never::Op;
@@ -115,7 +118,47 @@ fn call_until_open<R: Wait>(rt: &R, caller: &mut Caller, op: Op) -> Answer
     unreachable!()
 }
 
-/// Carries out an operation, and returns its answer. Which pointer was loaded isn't reported.
+/// Carries out an operation, and returns its answer; none where its gate is held. Which pointer was loaded isn't
+/// reported.
+#[inline(always)]
+fn answer_now<E: Engine, R: Threads + Wait + Sync>(
+    rt: &R,
+    caller: &mut Caller,
+    bench: &mut Bench<E>,
+    op: Op,
+) -> Result<Answer, Held>
+    requires home { caller.old.home ≡ true }
+    requires exists { caller_of_pass caller.old.pass < caller.old.pass.table.config.callers }
+    requires alone { caller.old.pass.seats ≡ caller.old.pass.seat ∷ [] }
+    requires admitted { IsAdmittedByOwnCalls caller.old.pass op }
+    requires made_for { E.made_for bench.old.engine ≡ caller.old.pass.table.config.pages }
+    requires book { length bench.old.book ≡ caller.old.pass.table.config.pages }
+    ensures home { caller.new.home ≡ true }
+    ensures made_for { E.made_for bench.new.engine ≡ E.made_for bench.old.engine }
+    ensures book { length bench.new.book ≡ length bench.old.book }
+    ensures answers { IfOk result (λ told. Answers E.on caller.old.pass op told caller.new.pass) }
+    ensures held { OnErr result (IsHeldUp caller.old.pass op caller.new.pass) }
+    ensures reached { E.sweeps ≡ false → SweepsNothing caller.old.pass caller.new.pass }
+    ensures begun { EachIsBegun E.begins caller.old.pass caller.new.pass }
+{
+    caller.is_idle();
+    match op {
+        Op::New { d, ty, .. } => match new_object(rt, caller, bench, d, ty) {
+            Ok(()) => Ok(Answer::Done),
+            Err(_) => Ok(Answer::Full),
+        },
+        Op::Free { p } => match free_object(rt, caller, bench, p) {
+            Ok(_) => Ok(Answer::Done),
+            Err(_) => Ok(Answer::Double),
+        },
+        _ => match call(caller, op) {
+            Ok(told) => Ok(told),
+            Err(held) => Err(held),
+        },
+    }
+}
+
+/// The same, tried again while the gate is held.
 #[inline(always)]
 pub fn answer_to<E: Engine, R: Threads + Wait + Sync>(
     rt: &R,
@@ -136,19 +179,54 @@ pub fn answer_to<E: Engine, R: Threads + Wait + Sync>(
     ensures reached { E.sweeps ≡ false → SweepsNothing caller.old.pass caller.new.pass }
     ensures begun { EachIsBegun E.begins caller.old.pass caller.new.pass }
 {
-    caller.is_idle();
-    match op {
-        Op::New { d, ty, .. } => match new_object(rt, caller, bench, d, ty) {
-            Ok(()) => Answer::Done,
-            Err(_) => Answer::Full,
-        },
-        Op::Free { p } => match free_object(rt, caller, bench, p) {
-            Ok(_) => Answer::Done,
-            Err(_) => Answer::Double,
-        },
-        _ => match call(caller, op) {
-            Ok(told) => told,
-            Err(_) => call_until_open(rt, caller, op),
-        },
+    match answer_now(rt, caller, bench, op) {
+        Ok(told) => told,
+        Err(_) => call_until_open(rt, caller, op),
+    }
+}
+
+/// Carries out the operation that a script asks for, once its gate is open.
+#[cold]
+#[inline(never)]
+fn answer_when_open<R: Wait>(rt: &R, caller: &mut Caller, feed: &Feed) -> Answer
+    requires home { caller.old.home ≡ true }
+    requires exists { caller_of_pass caller.old.pass < caller.old.pass.table.config.callers }
+    requires asks { AsksBesideTurns feed.now caller.old.pass }
+    ensures home { caller.new.home ≡ true }
+    ensures answers { (op : Op) (on : Bool) → AsksFor feed.now op
+        → Answers on caller.old.pass op result caller.new.pass }
+    ensures reached { SweepsNothing caller.old.pass caller.new.pass }
+{
+    let Some(op) = feed.op() else { unreachable!() };
+    call_until_open(rt, caller, op)
+}
+
+/// Carries out the operation that a script asks for. Where the gate is held the script is asked again, so that the
+/// operation need not be kept for that.
+#[inline(always)]
+pub(crate) fn answer_asked<E: Engine, R: Threads + Wait + Sync>(
+    rt: &R,
+    caller: &mut Caller,
+    bench: &mut Bench<E>,
+    feed: &Feed,
+    op: Op,
+) -> Answer
+    requires home { caller.old.home ≡ true }
+    requires exists { caller_of_pass caller.old.pass < caller.old.pass.table.config.callers }
+    requires alone { caller.old.pass.seats ≡ caller.old.pass.seat ∷ [] }
+    requires asks { AsksFor feed.now op }
+    requires admitted { IsAdmittedByOwnCalls caller.old.pass op }
+    requires made_for { E.made_for bench.old.engine ≡ caller.old.pass.table.config.pages }
+    requires book { length bench.old.book ≡ caller.old.pass.table.config.pages }
+    ensures home { caller.new.home ≡ true }
+    ensures made_for { E.made_for bench.new.engine ≡ E.made_for bench.old.engine }
+    ensures book { length bench.new.book ≡ length bench.old.book }
+    ensures answers { Answers E.on caller.old.pass op result caller.new.pass }
+    ensures reached { E.sweeps ≡ false → SweepsNothing caller.old.pass caller.new.pass }
+    ensures begun { EachIsBegun E.begins caller.old.pass caller.new.pass }
+{
+    match answer_now(rt, caller, bench, op) {
+        Ok(told) => told,
+        Err(_) => answer_when_open(rt, caller, feed),
     }
 }

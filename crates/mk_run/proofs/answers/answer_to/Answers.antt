@@ -1,88 +1,42 @@
-use Rattle.std.proofs.Common.{◌≡◌, ◌<◌, true, false, refl, rules, sym, subst}
-use Rattle.mk_core.specs.declared.events.Answer.TheVariants as answer
-use Rattle.mk_core.specs.Calls.{is_under_turn}
-use Rattle.mk_run.proofs.BegunScripts.{beside_begun}
-use Rattle.mk_run.proofs.ScriptCalls.{answered_by_call, answered_free, answered_new, makes_none, none_then_answers}
-use Rattle.mk_run.proofs.ScriptCalls.{stays_admitted_after, type_exists}
-use Rattle.mk_turns.proofs.Sweeping.{sweeps_then}
-use Rattle.mk_alloc.proofs.UnsweptTurns.{calls_sweep_nothing, sweep_nothing_where_held}
+use Rattle.std.proofs.Common.{◌<◌, true, sym, subst, refl}
 use Rattle.mk_words.specs.States.{PassState}
 use Rattle.mk_caller.specs.States.{caller_of_pass}
+use Rattle.mk_run.proofs.BegunScripts.{beside_begun}
+use Rattle.mk_run.proofs.ScriptCalls.{none_then_answers, stays_admitted_after}
+use Rattle.mk_turns.proofs.Sweeping.{sweeps_then}
 use Rattle.mk_run.proofs.answers.answer_to.Goals as goal
-
-pub new_object-requires-clause-ty : goal.new_object-requires-clause-ty
-new_object-requires-clause-ty g c κs within =
-    let p = c.args.caller.now.pass in
-    type_exists p c.args.op c.in-New.d c.in-New.ty c.in-New.full c.in-New.is
-    (c.requires.admitted p.seen c.is_idle.ensures.history refl)
-
-pub returns-in-Ok-clause-answers : goal.returns-in-Ok-clause-answers
-returns-in-Ok-clause-answers g c =
-    answered_new g.E.Engine.on c.args.caller.now.pass c.args.op c.in-New.d c.in-New.ty c.in-New.full answer.Done
-    c.new_object.new.caller.pass c.is_idle.ensures.own c.in-New.is c.in-Ok.ensures.made
-
-pub returns-in-Err-clause-answers : goal.returns-in-Err-clause-answers
-returns-in-Err-clause-answers g c =
-    answered_new g.E.Engine.on c.args.caller.now.pass c.args.op c.in-New.d c.in-New.ty c.in-New.full answer.Full
-    c.new_object.new.caller.pass c.is_idle.ensures.own c.in-New.is c.in-Err.ensures.full.called
-
-pub returns-in-Ok-free_object-clause-answers : goal.returns-in-Ok-free_object-clause-answers
-returns-in-Ok-free_object-clause-answers g c =
-    answered_free g.E.Engine.on c.args.caller.now.pass c.args.op c.in-Free.p answer.Done
-    c.free_object.new.caller.pass c.is_idle.ensures.own c.in-Free.is c.in-Ok-free_object.ensures.freed.called
-
-pub returns-in-Err-free_object-clause-answers : goal.returns-in-Err-free_object-clause-answers
-returns-in-Err-free_object-clause-answers g c =
-    answered_free g.E.Engine.on c.args.caller.now.pass c.args.op c.in-Free.p answer.Double
-    c.free_object.new.caller.pass c.is_idle.ensures.own c.in-Free.is c.in-Err-free_object.ensures.double.called
 
 pub call_until_open-requires : goal.call_until_open-requires
 call_until_open-requires g c =
     let p = c.args.caller.now.pass in
-    let none = makes_none true p c.args.op c.call.new.caller.pass c.is_idle.ensures.own c.in-Err-call.ensures.held in
-    let entered : is_under_turn c.args.op ≡ false = search rules in
+    let held = c.in-Err.ensures.held in
+    let none = held.none true in
     record {
-      home = c.call.ensures.home;
+      home = c.answer_now.ensures.home;
       exists = subst (λ (q : PassState). caller_of_pass q < q.table.config.callers) (sym none.is) c.requires.exists;
-      entered = entered;
-      admitted = stays_admitted_after true p c.args.op c.call.new.caller.pass c.requires.admitted none;
+      entered = held.beside;
+      admitted = stays_admitted_after true p c.args.op c.answer_now.new.caller.pass c.requires.admitted none;
     }
 
-pub returns-in-Ok-call : goal.returns-in-Ok-call
-returns-in-Ok-call g c =
-    let p = c.args.caller.now.pass in
-    let q = c.call.new.caller.pass in
-    let called = c.in-Ok-call.ensures.called in
-    let entered : is_under_turn c.args.op ≡ false = search rules in
-    let answers =
-    answered_by_call g.E.Engine.on p c.args.op c.in-Ok-call.told q c.is_idle.ensures.own entered called in
-    record {
-      home = c.call.ensures.home;
-      made_for = refl;
-      book = refl;
-      answers = answers;
-      reached = λ off. calls_sweep_nothing p c.args.op called.answer q called.called;
-      begun = beside_begun g.E.Engine.begins p q (answers.beside entered);
-    }
+pub returns-in-Err-clause-answers : goal.returns-in-Err-clause-answers
+returns-in-Err-clause-answers g c =
+    let held = c.in-Err.ensures.held in
+    none_then_answers g.E.Engine.on c.args.caller.now.pass c.answer_now.new.caller.pass c.args.op
+    c.call_until_open.result c.call_until_open.new.caller.pass (held.none g.E.Engine.on) held.beside
+    (c.call_until_open.ensures.answers g.E.Engine.on)
 
-pub returns-in-Err-call : goal.returns-in-Err-call
-returns-in-Err-call g c =
-    let p = c.args.caller.now.pass in
-    let q = c.call.new.caller.pass in
-    let r = c.call_until_open.new.caller.pass in
-    let held = c.in-Err-call.ensures.held in
-    let none = makes_none g.E.Engine.on p c.args.op q c.is_idle.ensures.own held in
-    let entered : is_under_turn c.args.op ≡ false = search rules in
+pub returns-in-Err-clause-reached : goal.returns-in-Err-clause-reached
+returns-in-Err-clause-reached g c =
+    let none = c.in-Err.ensures.held.none g.E.Engine.on in
+    λ off. sweeps_then c.args.caller.now.pass c.answer_now.new.caller.pass c.call_until_open.new.caller.pass none.is
+    (c.answer_now.ensures.reached off) c.call_until_open.ensures.reached
+
+pub returns-in-Err-clause-begun : goal.returns-in-Err-clause-begun
+returns-in-Err-clause-begun g c =
+    let held = c.in-Err.ensures.held in
     let answers =
-    none_then_answers g.E.Engine.on p q c.args.op c.call_until_open.result r none entered
+    none_then_answers g.E.Engine.on c.args.caller.now.pass c.answer_now.new.caller.pass c.args.op
+    c.call_until_open.result c.call_until_open.new.caller.pass (held.none g.E.Engine.on) held.beside
     (c.call_until_open.ensures.answers g.E.Engine.on) in
-    record {
-      home = c.call_until_open.ensures.home;
-      made_for = refl;
-      book = refl;
-      answers = answers;
-      reached = λ off.
-          sweeps_then p q r none.is (sweep_nothing_where_held p c.args.op q c.is_idle.ensures.own held)
-          c.call_until_open.ensures.reached;
-      begun = beside_begun g.E.Engine.begins p r (answers.beside entered);
-    }
+    beside_begun g.E.Engine.begins c.args.caller.now.pass c.call_until_open.new.caller.pass
+    (answers.beside held.beside)
