@@ -10,7 +10,8 @@ use Rattle.std.proofs.lemmas.Bool.Decides.{nat_tests}
 use lib.Chars.{codes}
 use Rattle.clap.specs.Lexer.{long_of, long_of_rest, short_of, strip_byte, name_and_value}
 use Rattle.clap.specs.Walk.{Text}
-use Rattle.mk_commands.specs.Given.{Said, sweep_flag, why_flag, markers_said, flag_said, unknown, said, said_dashed, behind}
+use Rattle.mk_commands.specs.Given.{Said, sweep_flag, why_flag, markers_said, flag_said, unknown, said, said_dashed}
+use Rattle.mk_commands.specs.Given.{behind}
 
 -- ---- the parts of `--name=value`
 

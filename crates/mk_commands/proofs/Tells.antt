@@ -123,8 +123,8 @@ awaiting_tells form name word words t rows ns is h a en k more = on_view (view w
         → TellsAs form name (standing rows (Some (codes "markers", word ∷ [])) idle (position_of ns) false) words o
         → TellsAs form name (at_value rows ns) (word ∷ words) o
     takes_number by o =
-        passes_on form name (at_value rows ns) word words (holding rows (Some (codes "markers", word ∷ []))) (next idle) o
-        refl (by.met (option (codes "markers")) (position_of ns) rows (Some (codes "markers", []))
+        passes_on form name (at_value rows ns) word words (holding rows (Some (codes "markers", word ∷ []))) (next idle)
+        o refl (by.met (option (codes "markers")) (position_of ns) rows (Some (codes "markers", []))
         ∙ awaited_met form k word rows)
         (by.passes (option (codes "markers")) rows (Some (codes "markers", []))) refl
 

@@ -8,7 +8,8 @@ use Rattle.mk_script.specs.Names.{number_of_word}
 use Rattle.mk_commands.specs.declared.commands.Command.{Command}
 use Rattle.mk_commands.specs.declared.commands.TextCommand.TheVariants.{Check, Print, Replay, Trace}
 use Rattle.mk_commands.specs.Given.{Given, runs, gens, bare, given_by}
-use Rattle.mk_commands.specs.Commands.{markers_of, run_with, run_of, gen_with, gen_from, gen_of, start_of, count_of, alone_of, command_of, IsWithin}
+use Rattle.mk_commands.specs.Commands.{markers_of, run_with, run_of, gen_with, gen_from, gen_of, start_of, count_of}
+use Rattle.mk_commands.specs.Commands.{alone_of, command_of, IsWithin}
 
 few_if : (n : ℕ) (b : Bool) → nat_le n 8 ≡ b → IfSome (if b then Some n else None) (λ m. m ≤ 8)
 few_if n true e = grind (arith, nat_tests)

@@ -81,7 +81,8 @@ unfolding by c0 all_below pointed_cell three_pages large_freed left_from unrelea
     turn_number NoneServesFrom
 large_grant =
     stands_at (turn_number three_pages c0 34 (Some (op.New 1 0 false)) (take 53 large_freed) refl refl refl)
-    (served _ 15 refl (refl and refl and refl and refl and refl and refl and refl and refl and refl and refl and refl and refl and refl and refl and refl and tt) refl)
+    (served _ 15 refl (refl and refl and refl and refl and refl and refl and refl and refl
+    and refl and refl and refl and refl and refl and refl and refl and tt) refl)
     (record { page = 0; index = 0; carve = true }) refl refl
 
 pub large_is_tidy : IsTidy three_pages large_freed

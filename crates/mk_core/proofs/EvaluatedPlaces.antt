@@ -53,7 +53,8 @@ unfolding by c0 host all_below pointed_cell one_page freed_after_begin left_from
     turn_number NoneServesFrom
 third_grant =
     stands_at (turn_number one_page c0 39 (Some (op.New 2 0 false)) (take 53 freed_after_begin) refl refl refl)
-    (served _ 11 refl (refl and refl and refl and refl and refl and refl and refl and refl and refl and refl and refl and tt) refl) (record { page = 0; index = 0; carve = true }) refl refl
+    (served _ 11 refl (refl and refl and refl and refl and refl and refl and refl and refl and refl and refl and refl
+    and tt) refl) (record { page = 0; index = 0; carve = true }) refl refl
 
 pub grants_stand : GrantsStandAtTheirPlaces one_page freed_after_begin
 unfolding by c0 host freed_after_begin AtEach Also
@@ -71,8 +72,8 @@ grant_while_marking =
 
 -- The refused New begins and ends a cycle in its turn. Both cells are still taken after it, so it doesn't fit.
 pub full : FindsNoPlace one_page (take 31 full_then_reused) c0
-unfolding by c0 all_below pointed_cell may_turn_black one_page full_then_reused left_from unreleased_storage event_number
-    at_number turn_number
+unfolding by c0 all_below pointed_cell may_turn_black one_page full_then_reused left_from unreleased_storage
+    event_number at_number turn_number
 full =
     record {
       turn = turn_number one_page c0 16 (Some (op.New 2 0 false)) (take 31 full_then_reused) refl refl refl;

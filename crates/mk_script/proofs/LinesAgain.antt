@@ -6,13 +6,12 @@ use Rattle.std.specs.Str.{bytes_eq}
 use Rattle.std.proofs.lemmas.Bool.{and_from, and_parts, leb-true, cond-true}
 use lib.Chars.{codes}
 use Rattle.std.specs.Option.{option_or}
-use Rattle.mk_script.proofs.Vocabulary.{ends_rightly, has_word_count, have_form, is_placed, is_twice, Item, Keyword}
-use Rattle.mk_script.proofs.Vocabulary.{keyword_of, line_of, LineFault, open_blocks, type_names, words_of_item}
+use Rattle.mk_script.proofs.Vocabulary.{ends_rightly, has_word_count, have_form, is_placed, is_twice, Item, item_from}
+use Rattle.mk_script.proofs.Vocabulary.{Keyword, keyword_of, line_of, LineFault, open_blocks, type_names, words_of_item}
 use Rattle.mk_script.specs.declared.items.Item.TheVariants as item
 use Rattle.mk_script.specs.declared.keywords.Keyword.TheVariants as keyword
 use Rattle.mk_script.specs.declared.faults.Which.{Which}
 use Rattle.mk_script.specs.declared.faults.Which.TheVariants as which
-use Rattle.mk_script.specs.Operands.{item_from}
 use Rattle.mk_script.specs.Lines.{heap_line, placed_item, other_line, line_item, at_most, limit_fault, checked_item}
 use Rattle.mk_script.proofs.LineWords.{AreWords, is_word-decimal}
 use Rattle.mk_script.proofs.Said.{then_again, with_number, is_this}

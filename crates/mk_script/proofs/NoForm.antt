@@ -1,10 +1,9 @@
 -- A line with a number of words that no form has.
 use Rattle.std.proofs.Common.{◌≡◌, ◌≢◌, ℕ, List, [], ◌∷◌, length, Err, refl}
-use Rattle.mk_script.proofs.Vocabulary.{Keyword}
+use Rattle.mk_script.proofs.Vocabulary.{item_from, Keyword}
 use Rattle.mk_script.specs.declared.keywords.Keyword.TheVariants.{TypeLine}
 use Rattle.mk_script.specs.declared.faults.LineFault.TheVariants.{Text}
 use Rattle.mk_script.specs.declared.faults.TextKind.TheVariants.{Word}
-use Rattle.mk_script.specs.Operands.{item_from}
 
 pub of_no_form : (keyword : Keyword) (words : List (List ℕ)) → keyword ≢ TypeLine → length words ≢ 0 → length words ≢ 1
     → length words ≢ 2 → length words ≢ 3 → length words ≢ 5 → item_from keyword words ≡ Err (Text Word)

@@ -9,7 +9,8 @@ use Rattle.mk_script.proofs.Vocabulary.{words_of_line, ◌>>=◌}
 use Rattle.mk_script.specs.declared.faults.TextStop.{TextStop}
 use Rattle.mk_script.specs.Lines.{line_item, checked_item, or_item, limit_fault}
 
--- A line after these: what its words say; it declares no name twice, passes no limit, and ends no block that isn't open.
+-- A line after these: what its words say; it declares no name twice, passes no limit, and ends no block that isn't
+-- open.
 pub record IsPassed (before : List Item) (item : Item) : Type 0 where
   pub words : List (List ℕ)
   pub reads : line_of before words ≡ Ok item

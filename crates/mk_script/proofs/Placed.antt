@@ -4,8 +4,8 @@ use Rattle.std.proofs.Common.{Some, Ok, Err, refl, sym, arith}
 use Rattle.std.proofs.lemmas.Bool.{le-leb}
 use Rattle.std.specs.declared.result.Result.{Result}
 use Rattle.std.proofs.Math.Bool.{and-false}
-use Rattle.mk_script.proofs.Vocabulary.{are_fields, fields_of, has_word_count, have_form, is_placed, Item, Keyword}
-use Rattle.mk_script.proofs.Vocabulary.{LineFault, name, ◌>>=◌}
+use Rattle.mk_script.proofs.Vocabulary.{are_fields, fields_of, has_word_count, have_form, is_placed, Item, item_from}
+use Rattle.mk_script.proofs.Vocabulary.{Keyword, LineFault, name, ◌>>=◌}
 use Rattle.mk_script.specs.declared.items.Item.TheVariants as item
 use Rattle.mk_script.specs.declared.keywords.Keyword.TheVariants.{Heap, TypeLine, Global, Script, Ptr, Num, New, Free}
 use Rattle.mk_script.specs.declared.keywords.Keyword.TheVariants.{Getn, Setn, Getp, Setp, Casp, Lea, Move, Clear, Loadg}
@@ -14,7 +14,6 @@ use Rattle.mk_script.specs.declared.keywords.Keyword.TheVariants.{Repeat, If, El
 use Rattle.mk_script.specs.declared.faults.LineFault.TheVariants.{Text}
 use Rattle.mk_script.specs.declared.faults.TextKind.TheVariants.{Word}
 use Rattle.mk_script.specs.Lines.{placed_item}
-use Rattle.mk_script.specs.Operands.{item_from}
 
 -- a line with a number of words that its form hasn't
 miscounted : (keyword : Keyword) (words : List (List ℕ)) → keyword ≢ TypeLine

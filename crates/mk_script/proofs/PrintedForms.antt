@@ -6,14 +6,14 @@ use Rattle.std.specs.Fmt.{decimal}
 use Rattle.std.proofs.lemmas.Bool.{le-leb}
 use lib.Chars.{codes}
 use Rattle.mk_script.proofs.Vocabulary.{At, at, at_text, fields_behind, fields_of, has_word_count, have_form, Item}
-use Rattle.mk_script.proofs.Vocabulary.{Keyword, keyword_of, LineFault, name, words_of_item, ◌>>=◌}
+use Rattle.mk_script.proofs.Vocabulary.{item_from, Keyword, keyword_of, LineFault, name, words_of_item, ◌>>=◌}
 use Rattle.mk_script.specs.declared.items.Item.TheVariants as item
 use Rattle.mk_script.specs.declared.keywords.Keyword.TheVariants.{Heap, TypeLine, Global, Script, Ptr, Num, New, Free}
 use Rattle.mk_script.specs.declared.keywords.Keyword.TheVariants.{Getn, Setn, Getp, Setp, Casp, Lea, Move, Clear, Loadg}
 use Rattle.mk_script.specs.declared.keywords.Keyword.TheVariants.{Storeg, Same, Isnull, Show, Const, Add, Sub, Print}
 use Rattle.mk_script.specs.declared.keywords.Keyword.TheVariants.{Repeat, If, Else, End}
 use Rattle.mk_script.specs.Names.{is_name}
-use Rattle.mk_script.specs.Operands.{number, item_from}
+use Rattle.mk_script.specs.Operands.{number}
 use Rattle.mk_script.proofs.LineWords.{AreWords, is_word-decimal}
 use Rattle.mk_script.proofs.Said.{IsPlace, then_again, name_again, number_again, at_again, is_word-name, is_word-at}
 use Rattle.mk_script.proofs.Said.{with_name, with_number, with_at, is_this}

@@ -5,6 +5,7 @@ pub use Rattle.mk_script.specs.Keywords.{has_word_count, keyword_of}
 pub use Rattle.mk_script.specs.Lines.{ends_rightly, has_none, has_script, is_among, is_placed, is_twice, line_of}
 pub use Rattle.mk_script.specs.Names.{number_of_word, value_from}
 pub use Rattle.mk_script.specs.Operands.{are_fields, at, fields_of, have_form, name, ◌>>=◌}
+unfoldable pub use Rattle.mk_script.specs.Operands.{item_from}
 pub use Rattle.mk_script.specs.Scopes.{global_names, is_script, number_names, open_behind, open_blocks, pointer_names}
 pub use Rattle.mk_script.specs.Scopes.{script_names, this_script, type_names}
 pub use Rattle.mk_script.specs.Spaced.{joined_words, spaced_words}
