@@ -1,39 +1,29 @@
 -- The operations of an event are admitted where all registers are null, and leave them so.
-use Rattle.std.proofs.Common.{◌≡◌, ◌≢◌, ℕ, zero, suc, ◌+◌, ◌-◌, ◌*◌, ◌<◌, ◌≤◌, Bool, true, false, List, [], ◌∷◌}
-use Rattle.std.proofs.Common.{length, get_or, set, replicate, refl, sym, ◌∙◌, ap, subst, arith}
+use Rattle.std.proofs.Common.{◌≡◌, ◌≢◌, ℕ, zero, suc, ◌+◌, ◌-◌, ◌*◌, ◌<◌, ◌≤◌, Bool, true, false, List, [], ◌∷◌, length}
+use Rattle.std.proofs.Common.{get_or, set, replicate, refl, sym, ◌∙◌, ap, subst, arith}
 use Rattle.std.specs.Prelude.{IfSome, slice_get, Some, Option}
 use Rattle.std.specs.List.{range_with_len}
 use Rattle.std.proofs.lemmas.List.{get_or-set_other, get_or-set_same, length-replicate}
 use Rattle.std.proofs.lemmas.Option.{slice_get-get_or}
 use Rattle.std.proofs.lemmas.List.Elements.{All-get_or}
 use Rattle.std.proofs.lemmas.List.FromFn.{get_or-range_with_len, length-range_with_len}
-use Rattle.mk_never.specs.declared.types.Kind.{Kind}
-use Rattle.mk_never.specs.declared.types.Kind.TheVariants.{Num as NumKind, To}
-use Rattle.mk_never.specs.declared.values.Value.{Value}
-use Rattle.mk_never.specs.declared.values.Value.TheVariants.{Null, Num, Ptr}
-use Rattle.mk_never.specs.declared.operations.Op.{Op}
+use Rattle.mk_trace.proofs.Vocabulary.{A, AreAdmitted, C, Config, Contents, Event, F, IsAdmitted, IsBetween, IsEventOf}
+use Rattle.mk_trace.proofs.Vocabulary.{IsHistory, IsPlayable, IsSound, K, Kind, NeverState, Null, Num, Op, Ptr, To}
+use Rattle.mk_trace.proofs.Vocabulary.{TraceEvent, Value, W, after_calls, after_free, allocation_at, asked, calls}
+use Rattle.mk_trace.proofs.Vocabulary.{calls_of_caller, config_of, global_at, kinds_of, never_behind, never_first}
+use Rattle.mk_trace.proofs.Vocabulary.{ops_of, register_at, types_from}
+use Rattle.mk_never.specs.declared.types.Kind.TheVariants.{Num as NumKind}
 use Rattle.mk_never.specs.declared.operations.Op.TheVariants.{New, Free, SetNum, SetPtr, Clear, GetGlobal, SetGlobal}
-use Rattle.mk_never.specs.NeverHeap.{NeverState, register_at, global_at, allocation_at, words_of, target_of}
-use Rattle.mk_never.specs.NeverHeap.{after_free, after_op, after_calls}
-use Rattle.mk_never.specs.Types.{kinds_of}
-use Rattle.mk_never.specs.Admitted.{AccessIsAdmitted, OperandsAreInRange, StoreIsAdmitted}
-use Rattle.mk_never.specs.Admitted.{IsCaller, Meets, IsNumber, IsPointer, IsOfKind, IsBase, IsAdmitted, AreAdmitted}
-use Rattle.mk_never.specs.Typed.{IsSound, IsTypedAllocation, IsTyped}
+use Rattle.mk_never.specs.NeverHeap.{words_of, target_of, after_op}
+use Rattle.mk_never.specs.Admitted.{AccessIsAdmitted, OperandsAreInRange, StoreIsAdmitted, IsCaller, Meets, IsNumber}
+use Rattle.mk_never.specs.Admitted.{IsPointer, IsOfKind, IsBase}
+use Rattle.mk_never.specs.Typed.{IsTypedAllocation, IsTyped}
 use Rattle.mk_never.proofs.Edits.{left_at_by}
 use Rattle.mk_never.proofs.Fresh.{new_adds}
 use Rattle.mk_never.proofs.Later.{op_stays, calls_stay}
 use Rattle.mk_never.proofs.TypedCalls.{op_keeps, stays_typed}
-use Rattle.mk_core.specs.declared.config.Config.{Config}
-use Rattle.mk_core.specs.declared.events.Event.{Event}
-use Rattle.mk_core.specs.Config.{IsBetween}
-use Rattle.mk_core.specs.Decided.{asked}
-use Rattle.mk_core.specs.History.{calls, never_first, never_behind, IsHistory}
 use Rattle.mk_trace.specs.Calls.{EventsAreAdmitted}
-use Rattle.mk_trace.specs.Traces.{Contents}
-use Rattle.mk_trace.specs.declared.trace.TraceEvent.{TraceEvent}
-use Rattle.mk_trace.specs.declared.trace.TraceEvent.TheVariants.{A, K, F, C, W}
-use Rattle.mk_trace.specs.Laws.{IsEventOf, IsPlayable}
-use Rattle.mk_trace.specs.Playing.{config_of, slot_type, types_from, ops_of, calls_of_caller}
+use Rattle.mk_trace.specs.Playing.{slot_type}
 use Rattle.mk_trace.proofs.SlotTypes.{length-types_from}
 
 -- The kinds of a slot's objects.
@@ -44,8 +34,7 @@ kinds_from first slot [] within = absurd (omega arith)
 kinds_from first zero (words ∷ slots) within = ap (λ (n : ℕ). slot_type n words) (omega arith)
 kinds_from first (suc slot) (words ∷ slots) within =
     let below : slot < length slots = omega arith in
-    kinds_from (first + 1) slot slots below
-    ∙ ap (λ (n : ℕ). slot_type n (get_or slots slot 0)) (omega arith)
+    kinds_from (first + 1) slot slots below ∙ ap (λ (n : ℕ). slot_type n (get_or slots slot 0)) (omega arith)
 
 numbers_behind : (count place : ℕ) → get_or (replicate count NumKind) place NumKind ≡ NumKind
 numbers_behind zero place = refl
@@ -114,7 +103,7 @@ module _ (slots : List ℕ) where
     listed_at : slice_get listed slot ≡ Some slot
     listed_at =
         slice_get-get_or listed slot 0 (omega (arith, length-range_with_len 0 (length slots), within))
-        ∙ ap (λ (k : ℕ). Some k) (get_or-range_with_len 0 (length slots) slot 0 within ∙ (omega arith))
+        ∙ ap Some (get_or-range_with_len 0 (length slots) slot 0 within ∙ (omega arith))
 
     kinds_here : (n : NeverState) → Stands n → kinds_of n.types slot ≡ slot_type slot (get_or slots slot 0)
     kinds_here n s = ap (λ (ts : List (List Kind)). kinds_of ts slot) s.types ∙ kinds_from 0 slot slots within
@@ -130,13 +119,13 @@ module _ (slots : List ℕ) where
         let a : IsTypedAllocation n (allocation_at n number) = s.typed.allocations number sound.0 in
         let is_slot : (allocation_at n number).ty ≡ slot = sym sound.1 ∙ of_kind.0 in
         let kinds : kinds_of n.types (allocation_at n number).ty ≡ slot_type slot (get_or slots slot 0) =
-        ap (λ (k : ℕ). kinds_of n.types k) is_slot ∙ kinds_here n s in
+        ap (kinds_of n.types) is_slot ∙ kinds_here n s in
         let at : offset + i ≡ i = (let z = of_kind.1 in omega arith) in
         let size : length (words_of n number) ≡ get_or slots slot 0 =
-        a.size ∙ ap (λ (ks : List Kind). length ks) kinds
+        a.size ∙ ap length kinds
         ∙ (omega (arith, length-replicate (get_or slots slot 0 - 1) NumKind, inside)) in (
           omega (arith, at, size, inside),
-          subst (λ (k : Kind). P k)
+          subst P
               (sym (ap (λ (ks : List Kind). get_or ks (offset + i) NumKind) kinds
               ∙ ap (λ (k : ℕ). get_or (slot_type slot (get_or slots slot 0)) k NumKind) at)) p,
         )
@@ -159,7 +148,7 @@ module _ (slots : List ℕ) where
 
     new_admitted : (n : NeverState) (full : Bool) → Stands n → IsAdmitted listed n 0 (New 0 slot full)
     new_admitted n full s =
-        let count = ap (λ (ts : List (List Kind)). length ts) s.types ∙ length-types_from 0 slots in
+        let count = ap length s.types ∙ length-types_from 0 slots in
         admitted_by n (New 0 slot full) s (omega arith, omega (arith, count, within)) tt tt
 
     clear_admitted : (n : NeverState) (d : ℕ) → d < 8 → Stands n → IsAdmitted listed n 0 (Clear d)
@@ -177,8 +166,7 @@ module _ (slots : List ℕ) where
         (subst (λ (o : Option ℕ). IfSome o (λ ty. IsOfKind (register_at n 0 0) (To ty 0))) (sym listed_at) points)
 
     free_admitted : (n : NeverState) → Stands n → Points n 0 → IsAdmitted listed n 0 (Free 0)
-    free_admitted n s points =
-        admitted_by n (Free 0) s (omega arith) tt (base_of_kind (register_at n 0 0) points)
+    free_admitted n s points = admitted_by n (Free 0) s (omega arith) tt (base_of_kind (register_at n 0 0) points)
 
     at_register : (n : NeverState) → Stands n → Points n 0 → (i : ℕ) → i < get_or slots slot 0 → (P : Kind → Type 0)
         → P (get_or (slot_type slot (get_or slots slot 0)) i NumKind) → Meets n (register_at n 0 0) i P
@@ -186,8 +174,7 @@ module _ (slots : List ℕ) where
         meets n s (register_at n 0 0) (s.typed.registers (8 * 0 + 0)) points i inside P p
 
     number_admitted : (n : NeverState) (index value : ℕ) → 1 ≤ index → index < get_or slots slot 0 → Stands n
-        → Points n 0
-        → IsAdmitted listed n 0 (SetNum 0 index value)
+        → Points n 0 → IsAdmitted listed n 0 (SetNum 0 index value)
     number_admitted n index value least inside s points =
         admitted_by n (SetNum 0 index value) s (omega arith)
         (at_register n s points index inside IsNumber
@@ -249,8 +236,7 @@ module _ (slots : List ℕ) where
     -- the last operations of an event clear what it has set
 
     clears_one : (n : NeverState) → ClearFrom n 1 → ClearFrom (after_op n 0 (Clear 0)) 0
-    clears_one n clear r above =
-        set_null n.registers (8 * 0 + 0) (8 * 0 + r) (λ other. clear r (omega (arith, other)))
+    clears_one n clear r above = set_null n.registers (8 * 0 + 0) (8 * 0 + r) (λ other. clear r (omega (arith, other)))
 
     clears_two : (n : NeverState) → ClearFrom n 2 → ClearFrom (after_op (after_op n 0 (Clear 0)) 0 (Clear 1)) 0
     clears_two n clear r above =
@@ -261,8 +247,7 @@ module _ (slots : List ℕ) where
     -- so an event's operations
 
     one_clear : (n : NeverState) → Stands n → ClearFrom n 1 → AreFine n (Clear 0 ∷ [])
-    one_clear n s clear =
-        then_all s (clear_admitted n 0 (omega arith) s) (λ t. none_left (clears_one n clear))
+    one_clear n s clear = then_all s (clear_admitted n 0 (omega arith) s) (λ t. none_left (clears_one n clear))
 
     two_clear : (n : NeverState) → Stands n → ClearFrom n 2 → AreFine n (Clear 0 ∷ Clear 1 ∷ [])
     two_clear n s clear =
@@ -292,8 +277,7 @@ module _ (slots : List ℕ) where
         (λ r above. linked_same n2 r ∙ got_clear n1 1 (new_clear n clear) r above)))))
 
     full_fine : (n : NeverState) → Stands n → ClearFrom n 0 → AreFine n (New 0 slot true ∷ Clear 0 ∷ [])
-    full_fine n s clear =
-        then_all s (new_admitted n true s) (λ t. one_clear n s (λ r above. clear r (omega arith)))
+    full_fine n s clear = then_all s (new_admitted n true s) (λ t. one_clear n s (λ r above. clear r (omega arith)))
 
     full_link_fine : (n : NeverState) → Stands n → ClearFrom n 0 → AreFine n (New 0 slot true ∷ Clear 0 ∷ Clear 1 ∷ [])
     full_link_fine n s clear =
@@ -303,17 +287,14 @@ module _ (slots : List ℕ) where
     freed_fine n s clear =
         let m = after_op n 0 (GetGlobal 0 slot) in
         then_all s (get_admitted n 0 (omega arith) s) (λ t.
-        then_all t (free_admitted m t (got_points n 0 (omega arith) s)) (λ u.
-        one_clear (after_op m 0 (Free 0)) u
+        then_all t (free_admitted m t (got_points n 0 (omega arith) s)) (λ u. one_clear (after_op m 0 (Free 0)) u
         (λ r above. freed_same m (register_at m 0 0) r ∙ got_clear n 0 clear r above)))
 
     cleared_fine : (n : NeverState) → Stands n → ClearFrom n 0 → AreFine n (SetGlobal slot 0 ∷ [])
-    cleared_fine n s clear =
-        then_all s (set_admitted n s (by_value (clear 0 (omega arith)) tt)) (λ t. none_left clear)
+    cleared_fine n s clear = then_all s (set_admitted n s (by_value (clear 0 (omega arith)) tt)) (λ t. none_left clear)
 
     written_fine : (n : NeverState) (index value : ℕ) → 1 ≤ index → index < get_or slots slot 0 → Stands n
-        → ClearFrom n 0
-        → AreFine n (GetGlobal 0 slot ∷ SetNum 0 index value ∷ Clear 0 ∷ [])
+        → ClearFrom n 0 → AreFine n (GetGlobal 0 slot ∷ SetNum 0 index value ∷ Clear 0 ∷ [])
     written_fine n index value least inside s clear =
         let m = after_op n 0 (GetGlobal 0 slot) in
         then_all s (get_admitted n 0 (omega arith) s) (λ t.

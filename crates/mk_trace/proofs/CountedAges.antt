@@ -5,10 +5,8 @@ use Rattle.std.specs.Prelude.{◌==◌, fold, if◌then◌else◌, slice_index_o
 use Rattle.std.proofs.lemmas.Bool.Decides.{nat_tests}
 use Rattle.std.proofs.lemmas.List.Sums.{fold-append}
 use Rattle.std.proofs.lemmas.List.{drop-set-lt, drop_more, get_or-set_same, length-set, take-append-drop, take-set}
-use Rattle.mk_core.specs.Counts.{in_a_word}
-use Rattle.mk_trace.specs.Ledgers.{with_one}
-use Rattle.mk_trace.specs.Numbers.{one_if, times}
-use Rattle.mk_trace.specs.Peaks.{counted, with_age}
+use Rattle.mk_trace.proofs.Vocabulary.{counted, in_a_word, one_if, times, with_one}
+use Rattle.mk_trace.specs.Peaks.{with_age}
 
 -- where a word holds each count
 
@@ -21,13 +19,10 @@ one (p ∷ pairs) age = grind (arith, nat_tests, one pairs age)
 
 all : (pairs : List (ℕ × ℕ)) (ages : List ℕ) → fold with_one (in_words pairs) ages ≡ in_words (fold with_age pairs ages)
 all pairs [] = refl
-all pairs (age ∷ ages) =
-    ap (λ (l : List (ℕ × ℕ)). fold with_one l ages) (one pairs age) ∙ all (with_age pairs age) ages
+all pairs (age ∷ ages) = ap (λ (l : List (ℕ × ℕ)). fold with_one l ages) (one pairs age) ∙ all (with_age pairs age) ages
 
 pub counted_more : (ages more : List ℕ) → fold with_one (counted ages) more ≡ counted (ages ++ more)
-counted_more ages more =
-    all (fold with_age [] ages) more
-    ∙ ap (λ (l : List (ℕ × ℕ)). in_words l) (sym (fold-append with_age [] ages more))
+counted_more ages more = all (fold with_age [] ages) more ∙ ap in_words (sym (fold-append with_age [] ages more))
 
 -- Two ages are counted in either order.
 either : (pairs : List (ℕ × ℕ)) (a b : ℕ) → with_age (with_age pairs a) b ≡ with_age (with_age pairs b) a
@@ -40,8 +35,7 @@ abbrev without : ℕ → List ℕ → List ℕ
 without n [] = []
 without n (y ∷ ys) = if y == n then ys else y ∷ without n ys
 
-times_without : (n : ℕ) (ys : List ℕ) → 1 ≤ times n ys → (i : ℕ)
-    → times i ys ≡ one_if (n == i) + times i (without n ys)
+times_without : (n : ℕ) (ys : List ℕ) → 1 ≤ times n ys → (i : ℕ) → times i ys ≡ one_if (n == i) + times i (without n ys)
 times_without n [] some i = absurd (omega (arith, some))
 times_without n (y ∷ ys) some i = grind (arith, nat_tests, λ (h : 1 ≤ times n ys). times_without n ys h i)
 
@@ -71,17 +65,15 @@ same_folded f pairs (n ∷ xs) ys same =
 
 pub same_counted : (f : ℕ → ℕ) (xs ys : List ℕ) → ((i : ℕ) → times i xs ≡ times i ys)
     → counted (map f xs) ≡ counted (map f ys)
-same_counted f xs ys same = ap (λ (l : List (ℕ × ℕ)). in_words l) (same_folded f [] xs ys same)
+same_counted f xs ys same = ap in_words (same_folded f [] xs ys same)
 
 -- One more of an age that stands among pairs, where the pairs before that place have less.
 
-set_is : (xs : List (ℕ × ℕ)) (i : ℕ) (y : ℕ × ℕ) → i < length xs
-    → slice_set xs i y ≡ take i xs ++ y ∷ drop (i + 1) xs
+set_is : (xs : List (ℕ × ℕ)) (i : ℕ) (y : ℕ × ℕ) → i < length xs → slice_set xs i y ≡ take i xs ++ y ∷ drop (i + 1) xs
 set_is xs i y lt =
     let now : List (ℕ × ℕ) = slice_set xs i y in
     let there : i < length now = omega (arith, lt, length-set xs i y) in
-    sym (take-append-drop i now)
-    ∙ ap (λ (l : List (ℕ × ℕ)). l ++ drop i now) (take-set xs i y)
+    sym (take-append-drop i now) ∙ ap (λ (l : List (ℕ × ℕ)). l ++ drop i now) (take-set xs i y)
     ∙ ap (λ (l : List (ℕ × ℕ)). take i xs ++ l) (drop_more now i y there)
     ∙ ap (λ (p : ℕ × ℕ). take i xs ++ p ∷ drop (i + 1) now) (get_or-set_same xs i y y lt)
     ∙ ap (λ (l : List (ℕ × ℕ)). take i xs ++ y ∷ l) (drop-set-lt (i + 1) xs i y (omega arith))
@@ -102,8 +94,7 @@ module _ (first now : List (ℕ × ℕ)) (i age : ℕ) (p : ℕ × ℕ) (same : 
 
     left : drop i first ≡ p ∷ drop (i + 1) first
     left =
-        drop_more first i p there
-        ∙ ap (λ (q : ℕ × ℕ). q ∷ drop (i + 1) first)
+        drop_more first i p there ∙ ap (λ (q : ℕ × ℕ). q ∷ drop (i + 1) first)
         (sym (at ∙ ap (λ (l : List (ℕ × ℕ)). slice_index_or l i p) same))
 
     rest_is : with_one first age ≡ take i first ++ with_one (p ∷ drop (i + 1) first) age
@@ -111,9 +102,7 @@ module _ (first now : List (ℕ × ℕ)) (i age : ℕ) (p : ℕ × ℕ) (same : 
 
     pub set_there : (n : ℕ) → age ≡ p.0 → n ≡ in_a_word (p.1 + 1) → slice_set now i (p.0, n) ≡ with_one first age
     set_there n equal is =
-        ap (λ (l : List (ℕ × ℕ)). slice_set l i (p.0, n)) same
-        ∙ set_is first i (p.0, n) there
+        ap (λ (l : List (ℕ × ℕ)). slice_set l i (p.0, n)) same ∙ set_is first i (p.0, n) there
         ∙ ap (λ (k : ℕ). take i first ++ (p.0, k) ∷ drop (i + 1) first) is
         ∙ ap (λ (k : ℕ). take i first ++ (k, in_a_word (p.1 + 1)) ∷ drop (i + 1) first) (sym equal)
-        ∙ ap (λ (l : List (ℕ × ℕ)). take i first ++ l) (sym (same_one p (drop (i + 1) first) age equal))
-        ∙ sym rest_is
+        ∙ ap (λ (l : List (ℕ × ℕ)). take i first ++ l) (sym (same_one p (drop (i + 1) first) age equal)) ∙ sym rest_is

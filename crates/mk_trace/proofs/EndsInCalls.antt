@@ -4,40 +4,25 @@ use Rattle.std.proofs.Common.{append_assoc}
 use Rattle.std.specs.Prelude.{◌&&◌, ◌||◌, Some, if◌then◌else◌}
 use Rattle.std.specs.List.{list_any}
 use Rattle.std.proofs.lemmas.Bool.{and_parts, cases_Bool, or_from, or_parts}
-use Rattle.mk_never.specs.declared.operations.Op.{Op}
+use Rattle.mk_trace.proofs.Vocabulary.{Answer, Caller, Calls, Config, Decided, EndsTell, Event, HostState}
+use Rattle.mk_trace.proofs.Vocabulary.{LeavesAllocations, Op, PassState, Seat, Step, World, call_decided, decides_freed}
+use Rattle.mk_trace.proofs.Vocabulary.{entry_of, flagged, flight_of, found, has_step, is_begin, is_of_cycle}
+use Rattle.mk_trace.proofs.Vocabulary.{is_same_seat, is_under_turn, left, object_made, unflagged, world_behind}
 use Rattle.mk_never.specs.declared.operations.Op.TheVariants as op
-use Rattle.mk_core.specs.declared.config.Config.{Config}
-use Rattle.mk_core.specs.declared.events.Answer.{Answer}
 use Rattle.mk_core.specs.declared.events.Answer.TheVariants as answer
-use Rattle.mk_core.specs.declared.events.Event.{Event}
-use Rattle.mk_core.specs.declared.events.Seat.{Seat}
-use Rattle.mk_core.specs.declared.events.Seat.TheVariants.{Caller}
-use Rattle.mk_core.specs.declared.events.Step.{Step}
 use Rattle.mk_core.specs.declared.events.Step.TheVariants as step
-use Rattle.mk_core.specs.Accesses.{found}
-use Rattle.mk_core.specs.Calls.{is_under_turn}
-use Rattle.mk_core.specs.Counts.{decides_freed}
-use Rattle.mk_core.specs.Cycles.{is_begin}
-use Rattle.mk_core.specs.Decided.{Decided, entry_of, flagged}
-use Rattle.mk_core.specs.Growing.{is_same_seat, own_from}
-use Rattle.mk_core.specs.History.{AreEnabledFrom, World, call_decided, calls_from, left, left_from, world_behind}
-use Rattle.mk_core.specs.Moments.{flight_of}
-use Rattle.mk_core.specs.NewPlaces.{object_made}
+use Rattle.mk_core.specs.Growing.{own_from}
+use Rattle.mk_core.specs.History.{AreEnabledFrom, calls_from, left_from}
 use Rattle.mk_core.specs.Order.{group_of, is_open_to}
 use Rattle.mk_core.proofs.Conditions.{enabled_meets}
 use Rattle.mk_core.proofs.Histories.{calls_append, left_append}
 use Rattle.mk_core.proofs.HistoryParts.{left_in_parts}
 use Rattle.mk_alloc.proofs.ListParts.{lacks_one, lacks_append}
-use Rattle.mk_words.specs.States.{PassState}
 use Rattle.mk_words.proofs.Seats.{only_one, same_self}
-use Rattle.mk_heap.specs.Hosts.{HostState}
 use Rattle.mk_turns.specs.Doing.{are_of}
-use Rattle.mk_alloc.specs.TurnCycles.{FreeIsExact, FreesFirst, NewIsExact, RunsOneCycle, finishes, has_step}
-use Rattle.mk_alloc.specs.TurnCycles.{is_of_cycle, within_turn}
+use Rattle.mk_alloc.specs.TurnCycles.{FreeIsExact, FreesFirst, NewIsExact, RunsOneCycle, finishes, within_turn}
 use Rattle.mk_alloc.proofs.OneCycles.{one_before, one_behind}
-use Rattle.mk_run.specs.Scripts.{is_beside_turns, unflagged}
-use Rattle.mk_trace.specs.Calls.{Calls}
-use Rattle.mk_trace.specs.Ends.{EndsTell, LeavesAllocations}
+use Rattle.mk_run.specs.Scripts.{is_beside_turns}
 use Rattle.mk_trace.proofs.JoinedCalls.{InTurn, Joined, OneSeat, acts, before, before_lacks, decided, elsewhere}
 use Rattle.mk_trace.proofs.JoinedCalls.{enabled, exact, in_parts, last, mine, only, the_rest}
 use Rattle.mk_trace.proofs.FreedMost.{one_of_three}
@@ -53,15 +38,13 @@ seat_is : (c : Config) (away : List Seat) (e : Event) (es : List Event) → OneS
     → AreMine c away (e ∷ es) → e.seat ≡ Caller 0
 seat_is c away e es all own =
     only_one (Caller 0) e.seat
-    (has_mine c away (Caller 0 ∷ []) e all
-    (and_parts (is_mine c away e) true (mine_parts c away (e ∷ []) es own).0).0)
+    (has_mine c away (Caller 0 ∷ []) e all (and_parts (is_mine c away e) true (mine_parts c away (e ∷ []) es own).0).0)
 
 never_over : (c : Config) (w : World) (e : Event) (es : List Event) → AreEnabledFrom c w (e ∷ es)
     → e.seat ≡ Caller 0 → is_over e.step ≡ false
 unfolding AreEnabledFrom
 never_over c w e es on seat =
-    by e.step
-    (subst (λ (s : Seat). is_open_to s (group_of e.step) ≡ true) seat (enabled_meets c w.now e on.0).kind)
+    by e.step (subst (λ (s : Seat). is_open_to s (group_of e.step) ≡ true) seat (enabled_meets c w.now e on.0).kind)
   where
     by : (s : Step) → is_open_to (Caller 0) (group_of s) ≡ true → is_over s ≡ false
     by step.Over h = cc
@@ -95,12 +78,10 @@ unfolding own_from
 own_all c w e es seat =
     ap (λ (b : Bool). are_of is_beside_turns (if b
     then record { event = e; found = found c w.now e } ∷ own_from c (Caller 0) (world_behind c w e) es
-    else own_from c (Caller 0) (world_behind c w e) es))
-    (ap (λ (s : Seat). is_same_seat (Caller 0) s) seat ∙ same_self (Caller 0))
+    else own_from c (Caller 0) (world_behind c w e) es)) (ap (is_same_seat (Caller 0)) seat ∙ same_self (Caller 0))
 
 beside_lacks : (c : Config) (w : World) (away : List Seat) (es : List Event) → OneSeat c away
-    → AreMine c away es → are_of is_beside_turns (own_from c (Caller 0) w es) ≡ true
-    → has_step changes es ≡ false
+    → AreMine c away es → are_of is_beside_turns (own_from c (Caller 0) w es) ≡ true → has_step changes es ≡ false
 beside_lacks c w away [] all own beside = refl
 beside_lacks c w away (e ∷ es) all own beside =
     let parts = and_parts (is_beside_turns e.step)
@@ -112,12 +93,11 @@ beside_lacks c w away (e ∷ es) all own beside =
 -- Of calls of which one is decided, none is decided after the event that decides it.
 
 none_behind_free : (c : Config) (w : World) (xs : List Event) (e : Event) (ys : List Event) (x : Decided)
-    → calls_from c w (xs ++ e ∷ ys) ≡ x ∷ []
-    → list_any is_free_call (call_decided c (left_from c w xs).now e) ≡ true
+    → calls_from c w (xs ++ e ∷ ys) ≡ x ∷ [] → list_any is_free_call (call_decided c (left_from c w xs).now e) ≡ true
     → FreesNoneFrom c (left_from c w (xs ++ e ∷ [])) ys
 unfolding calls_from left_from
 none_behind_free c w xs e ys x is some =
-    ap (λ (l : List Decided). list_any is_free_call l)
+    ap (list_any is_free_call)
     (ap (λ (v : World). calls_from c v ys) (left_append c w xs (e ∷ []))
     ∙ (one_of_three (calls_from c w xs) (call_decided c (left_from c w xs).now e)
     (calls_from c (world_behind c (left_from c w xs) e) ys) x (sym (calls_append c w xs (e ∷ ys)) ∙ is) some).2)
@@ -148,7 +128,7 @@ module _ {on : Bool} {h : HostState} {o : Op} {told : Answer} {q : PassState} {f
   module _ (x : Op) (turn : InTurn j x) where
     one_in_call : RunsOneCycle (acts j x turn) → RunsOneCycle more
     one_in_call one =
-        subst (λ (l : List Event). RunsOneCycle l) (sym (in_parts j x turn))
+        subst RunsOneCycle (sym (in_parts j x turn))
         (one_behind (before j x turn) (acts j x turn ++ last j x turn) (before_lacks j x turn is_begin (λ y. refl))
         (one_before (acts j x turn) (last j x turn) one refl))
 
@@ -164,19 +144,17 @@ module _ {on : Bool} {h : HostState} {o : Op} {told : Answer} {q : PassState} {f
           in_parts j x turn ∙ ap (λ (l : List Event). before j x turn ++ (l ++ last j x turn)) d.is
           ∙ freed_list (before j x turn) d.before d.behind (last j x turn) d.event in
           let there : left c (within_turn turn.ends.turn d.before) ≡ left_from c w xs =
-          ap (λ (l : List Event). left c l) (within_is turn d.before) ∙ left_in_parts c es xs in
+          ap (left c) (within_is turn d.before) ∙ left_in_parts c es xs in
           let freed : decides_freed c (left_from c w xs).now (flight_of (left_from c w xs).now d.event.seat)
-          d.event.step
-          ≡ true =
+          d.event.step ≡ true =
           subst (λ (v : World). decides_freed c v.now (flight_of v.now d.event.seat) d.event.step ≡ true) there
           d.due.decides in
           let none = none_behind_free c w xs d.event ys a
-          (sym (ap (λ (l : List Event). calls_from c w l) (is ∙ append_assoc xs (d.event ∷ []) ys)) ∙ decides)
+          (sym (ap (calls_from c w) (is ∙ append_assoc xs (d.event ∷ []) ys)) ∙ decides)
           (frees_decide c (left_from c w xs).now d.event.seat d.event.step freed) in
           subst (λ (l : List Event). EndsTell c es (es ++ l)) (sym is)
-          (tells_behind_none c es (xs ++ d.event ∷ []) ys
-          (subst (λ (l : List Event). AreEnabledFrom c w l) is (enabled j))
-          (sym (ap (λ (l : List Event). has_step is_over l) is) ∙ overs)
+          (tells_behind_none c es (xs ++ d.event ∷ []) ys (subst (AreEnabledFrom c w) is (enabled j))
+          (sym (ap (has_step is_over) is) ∙ overs)
           (lacks_append is_begin xs (d.event ∷ [])
           (lacks_append is_begin (before j x turn) d.before (before_lacks j x turn is_begin (λ y. refl))
           (lacks_by is_of_cycle is_begin (λ y none'. (or_parts (is_begin y) (finishes y) none').0) d.before
@@ -184,15 +162,14 @@ module _ {on : Bool} {h : HostState} {o : Op} {told : Answer} {q : PassState} {f
           (lacks_one is_begin d.event
           (freeing_is is_begin (λ p v. refl) c (left_from c w xs).now
           (flight_of (left_from c w xs).now d.event.seat) d.event.step freed)))
-          (subst (λ (l : List Event). RunsOneCycle l) is (one_in_call (exactly.one off)))
+          (subst RunsOneCycle is (one_in_call (exactly.one off)))
           (subst (λ (v : World). FreesNoneFrom c v ys) (sym (left_in_parts c es (xs ++ d.event ∷ []))) none))
 
       free_tells : EndsTell c es (es ++ more)
       free_tells = elim (cases_Bool (has_step is_begin (acts j x turn))) [
         | inl has ↦ begins_behind (exactly.first (exactly.begins.0 (first_at is_begin (acts j x turn) has).at))
-        | inr none ↦
-            tells_none c es more (enabled j) overs
-            (ap (λ (l : List Event). has_step is_begin l) (in_parts j x turn)
+        | inr none ↦ tells_none c es more (enabled j) overs
+            (ap (has_step is_begin) (in_parts j x turn)
             ∙ lacks_append is_begin (before j x turn) (acts j x turn ++ last j x turn)
             (before_lacks j x turn is_begin (λ y. refl))
             (lacks_append is_begin (acts j x turn) (last j x turn) none refl))
@@ -203,28 +180,23 @@ module _ {on : Bool} {h : HostState} {o : Op} {told : Answer} {q : PassState} {f
   beside_leaves out =
       let b = j.answers.beside out in
       let is = only j b.more b.is in
-      subst (λ (l : List Event). LeavesAllocations c es l) (sym j.own.is)
+      subst (LeavesAllocations c es) (sym j.own.is)
       (leaves_then c es more (enabled j)
-      (ap (λ (l : List Event). has_step changes l) is
-      ∙ beside_lacks c (left c es) (elsewhere j) b.more (the_rest j)
-      (subst (λ (l : List Event). AreMine c (elsewhere j) l) is (mine j)) b.steps))
+      (ap (has_step changes) is ∙ beside_lacks c (left c es) (elsewhere j) b.more (the_rest j)
+      (subst (AreMine c (elsewhere j)) is (mine j)) b.steps))
 
   told_by : (x : Op) (said : Answer) → on ≡ false → (is_under_turn x ≡ true → InTurn j (unflagged x))
       → (is_under_turn x ≡ false → LeavesAllocations c es fs)
       → calls_from c (left c es) more ≡ entry_of 0 x (Some said) → EndsTell c es (es ++ more)
   told_by (op.New d ty full) said off in_turn beside entry =
       let turn : InTurn j (op.New d ty false) = in_turn refl in
-      let exactly : NewIsExact turn.ends.turn (object_made c (op.New d ty false)) =
-      exact j (op.New d ty false) turn in
+      let exactly : NewIsExact turn.ends.turn (object_made c (op.New d ty false)) = exact j (op.New d ty false) turn in
       tells_ends c es more (enabled j) overs (one_in_call (op.New d ty false) turn exactly.one)
-      (ap (λ (l : List Decided). list_any is_free_call l) entry
-      ∙ ap (λ (b : Bool). b || false) (flagged_new d ty full said))
+      (ap (list_any is_free_call) entry ∙ ap (λ (b : Bool). b || false) (flagged_new d ty full said))
   told_by (op.Free r) said off in_turn beside entry =
       free_tells (op.Free r) (in_turn refl) off _ entry (exact j (op.Free r) (in_turn refl))
-  told_by _ said off in_turn beside entry =
-      subst (λ (l : List Event). EndsTell c es l) j.own.is (leaves_tell c es fs (beside refl))
+  told_by _ said off in_turn beside entry = subst (EndsTell c es) j.own.is (leaves_tell (beside refl))
 
   pub ends_told : on ≡ false → Calls c es o told fs → EndsTell c es fs
   ends_told off made =
-      subst (λ (l : List Event). EndsTell c es l) (sym j.own.is)
-      (told_by o made.answer off j.answers.in_turn beside_leaves (decided j made))
+      subst (EndsTell c es) (sym j.own.is) (told_by o made.answer off j.answers.in_turn beside_leaves (decided j made))

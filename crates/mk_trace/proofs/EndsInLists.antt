@@ -2,24 +2,19 @@
 use Rattle.std.proofs.Common.{◌≡◌, ◌⊎◌, ⊎_elim, inl, inr, ℕ, ◌+◌, Bool, true, false, List, [], ◌∷◌, ◌++◌, refl, sym}
 use Rattle.std.proofs.Common.{◌∙◌, ap, subst, append-nil, append_assoc, arith}
 use Rattle.std.proofs.lemmas.Bool.{cases_Bool, or_from, or_parts, true≢false}
-use Rattle.mk_core.specs.declared.config.Config.{Config}
-use Rattle.mk_core.specs.declared.events.Event.{Event}
-use Rattle.mk_core.specs.declared.events.Step.{Step}
+use Rattle.mk_trace.proofs.Vocabulary.{AreEnabledFrom, Config, EndsNone, EndsOne, EndsTell, Event, FreesNone}
+use Rattle.mk_trace.proofs.Vocabulary.{IsBetweenCycles, LeavesAllocations, PlacedAllocation, ReleasesNone, Step, World}
+use Rattle.mk_trace.proofs.Vocabulary.{allocations_by, ends, first_world, flight_of, has_step, is_begin, is_end, left}
+use Rattle.mk_trace.proofs.Vocabulary.{phase_of, world_behind}
 use Rattle.mk_core.specs.declared.events.Step.TheVariants as step
-use Rattle.mk_core.specs.Allocations.{PlacedAllocation, allocations_by}
-use Rattle.mk_core.specs.Counts.{ends}
-use Rattle.mk_core.specs.Cycles.{At, Next, is_begin, is_end}
-use Rattle.mk_core.specs.History.{AreEnabledFrom, World, first_world, left, left_from, world_behind}
-use Rattle.mk_core.specs.Moments.{flight_of}
-use Rattle.mk_core.specs.Words.{phase_of}
+use Rattle.mk_core.specs.Cycles.{At, Next}
+use Rattle.mk_core.specs.History.{left_from}
 use Rattle.mk_core.proofs.Histories.{enabled_parts, left_append}
 use Rattle.mk_core.proofs.HistoryParts.{left_in_parts}
 use Rattle.mk_laws.proofs.CyclePhases.{begin_is, moves_phase, phase_behind}
-use Rattle.mk_alloc.specs.TurnCycles.{RunsOneCycle, has_step}
+use Rattle.mk_alloc.specs.TurnCycles.{RunsOneCycle}
 use Rattle.mk_alloc.proofs.ListParts.{lacks_first, lacks_second, none_at}
 use Rattle.mk_quarantine.proofs.HeldTurns.{next_of}
-use Rattle.mk_trace.specs.Ends.{EndsNone, EndsOne, EndsTell, FreesNone, IsBetweenCycles, LeavesAllocations}
-use Rattle.mk_trace.specs.Ends.{ReleasesNone}
 use Rattle.mk_trace.specs.Peaks.{found_by_ends_from}
 use Rattle.mk_trace.proofs.FlagSteps.{releases_then, same_releases}
 use Rattle.mk_trace.proofs.FoundByEnds.{EndsOnce, FreesNoneFrom, IsOn, Rests, ends-append, ends_once, found-append}
@@ -72,8 +67,7 @@ module _ (c : Config) (w : World) (xs : List Event) (b : Event) (ys : List Event
 
   later : FreesNoneFrom c begun ys → has_step is_end ys ≡ true → EndsOnce c begun ys
   later frees ends_in =
-      ends_once c begun ys marking.1
-      (subst IsOn (sym marking.0) (record { least = omega arith; most = omega arith }))
+      ends_once c begun ys marking.1 (subst IsOn (sym marking.0) (record { least = omega arith; most = omega arith }))
       none_behind (or_parts (is_over b.step) (has_step is_over ys) (lacks_second is_over xs (b ∷ ys) overs)).1
       frees ends_in
 
@@ -114,17 +108,12 @@ one_second xs ys one b =
 
 -- One part after another.
 
-none_twice : (c : Config) (es fs gs : List Event) → EndsNone c es fs → EndsNone c fs gs → EndsNone c es gs
-none_twice c es fs gs h g =
-    record {
-      found = g.found ∙ h.found;
-      count = g.count ∙ h.count;
-      released =
-          releases_then (left c es).allocations (left c fs).allocations (left c gs).allocations h.released g.released;
-    }
+none_twice : {c : Config} {es fs gs : List Event} → EndsNone c es fs → EndsNone c fs gs → EndsNone c es gs
+none_twice h g =
+    record { found = g.found ∙ h.found; count = g.count ∙ h.count; released = releases_then h.released g.released }
 
-one_behind_none : (c : Config) (es fs gs : List Event) → EndsNone c es fs → EndsOne c fs gs → EndsOne c es gs
-one_behind_none c es fs gs h g =
+one_behind_none : {c : Config} {es fs gs : List Event} → EndsNone c es fs → EndsOne c fs gs → EndsOne c es gs
+one_behind_none h g =
     record {
       finds = g.finds;
       found = g.found ∙ ap (λ (l : List (List PlacedAllocation)). l ++ g.finds ∷ []) h.found;
@@ -188,13 +177,12 @@ module _ (c : Config) (es more : List Event) where
             let next = first_at is_begin more has in
             let b = next.at in
             let h : EndsOnce c (left c es) more =
-            subst (λ (l : List Event). EndsOnce c (left c es) l) (sym b.is)
+            subst (EndsOnce c (left c es)) (sym b.is)
             (one_cycle c (left c es) b.before b.event b.behind
-            (subst (λ (l : List Event). AreEnabledFrom c (left c es) l) b.is on) idle b.of_kind next.none_before
-            (one b).0 (sym (ap (λ (l : List Event). has_step is_over l) b.is) ∙ overs)
+            (subst (AreEnabledFrom c (left c es)) b.is on) idle b.of_kind next.none_before
+            (one b).0 (sym (ap (has_step is_over) b.is) ∙ overs)
             (frees_behind c (left_from c (left c es) b.before) b.event b.behind
-            (frees_second c (left c es) b.before (b.event ∷ b.behind)
-            (subst (λ (l : List Event). FreesNoneFrom c (left c es) l) b.is frees)))
+            (frees_second c (left c es) b.before (b.event ∷ b.behind) (subst (FreesNoneFrom c (left c es)) b.is frees)))
             (has_at is_end b.behind (one b).1)) in
             (idle_then h.phase, inr (one_then h))
 
@@ -215,12 +203,8 @@ module _ (c : Config) (es xs ys : List Event) (on : AreEnabledFrom c (left c es)
       (idle_then c es xs h.phase) in
       subst (λ (l : List Event). IsBetweenCycles c l × (EndsNone c es l ⊎ EndsOne c es l)) (append_assoc es xs ys) (
         told.0,
-        ⊎_elim
-            (λ (second : EndsNone c (es ++ xs) ((es ++ xs) ++ ys)).
-            inl (none_twice c es (es ++ xs) ((es ++ xs) ++ ys) first second))
-            (λ (second : EndsOne c (es ++ xs) ((es ++ xs) ++ ys)).
-            inr (one_behind_none c es (es ++ xs) ((es ++ xs) ++ ys) first second))
-            told.1,
+        ⊎_elim (λ (second : EndsNone c (es ++ xs) ((es ++ xs) ++ ys)). inl (none_twice first second))
+            (λ (second : EndsOne c (es ++ xs) ((es ++ xs) ++ ys)). inr (one_behind_none first second)) told.1,
       )
 
 -- Steps that neither move a cycle on nor change allocations.
@@ -299,9 +283,9 @@ leaves_then c es more on none =
 
 -- One after the other.
 
-pub leaves_twice : (c : Config) (es fs gs : List Event) → LeavesAllocations c es fs → LeavesAllocations c fs gs
+pub leaves_twice : {c : Config} {es fs gs : List Event} → LeavesAllocations c es fs → LeavesAllocations c fs gs
     → LeavesAllocations c es gs
-leaves_twice c es fs gs h g =
+leaves_twice h g =
     record {
       phase = g.phase ∙ h.phase;
       found = g.found ∙ h.found;
@@ -309,14 +293,13 @@ leaves_twice c es fs gs h g =
       allocations = g.allocations ∙ h.allocations;
     }
 
-pub leaves_tell : (c : Config) (es fs : List Event) → LeavesAllocations c es fs → EndsTell c es fs
-leaves_tell c es fs h idle = (
+pub leaves_tell : {c : Config} {es fs : List Event} → LeavesAllocations c es fs → EndsTell c es fs
+leaves_tell {c} {es} h idle = (
   h.phase ∙ idle,
   inl (record {
     found = h.found;
     count = h.count;
     released =
-        subst (λ (xs : List PlacedAllocation). ReleasesNone (left c es).allocations xs) (sym h.allocations)
-        (same_releases (left c es).allocations);
+        subst (ReleasesNone (left c es).allocations) (sym h.allocations) (same_releases (left c es).allocations);
   }),
 )

@@ -1,39 +1,33 @@
 -- A small trace that is played: a store through a slot that is null, which is refused, and a new object.
 use Rattle.std.proofs.Common.{◌≡◌, false, List, [], ◌∷◌, ◌++◌, Some, None, refl, sym, ◌∙◌, ap, subst, arith}
-use lib.Chars.{codes}
 use Rattle.std.proofs.lemmas.Bool.{or_parts}
+use Rattle.mk_trace.proofs.Vocabulary.{A, Caller, Config, Contents, Event, IsHistory, IsOfSomeTraceText, IsTidy}
+use Rattle.mk_trace.proofs.Vocabulary.{TalliesAreTidy, W, World, answered, calls, config_of, first_world, flight_of}
+use Rattle.mk_trace.proofs.Vocabulary.{has_step, is_begin, lets_go, peaks_of, refused_events, world_behind}
+use lib.Chars.{codes}
 use Rattle.mk_never.specs.declared.operations.Op.TheVariants as op
-use Rattle.mk_core.specs.declared.config.Config.{Config}
-use Rattle.mk_core.specs.declared.events.Event.{Event}
-use Rattle.mk_core.specs.declared.events.Seat.TheVariants.{Caller}
 use Rattle.mk_core.specs.declared.events.Step.TheVariants as step
 use Rattle.mk_core.specs.declared.events.Tally.TheVariants as tally
 use Rattle.mk_core.specs.Bounded.{all_below}
 use Rattle.mk_core.specs.Cells.{pointed_cell}
 use Rattle.mk_core.specs.Allocations.{unreleased_storage}
-use Rattle.mk_core.specs.Counts.{IsTidy, TalliesAreTidy}
-use Rattle.mk_core.specs.Cycles.{NoneSweepsFrom, is_begin, is_give}
-use Rattle.mk_core.specs.Decided.{answered}
-use Rattle.mk_core.specs.History.{left_from, calls_from, calls, first_world, world_behind, CallsAreAdmitted, IsHistory}
-use Rattle.mk_core.specs.History.{World}
-use Rattle.mk_core.specs.Moments.{flight_of}
+use Rattle.mk_core.specs.Cycles.{NoneSweepsFrom, is_give}
+use Rattle.mk_core.specs.History.{left_from, calls_from, CallsAreAdmitted}
 use Rattle.mk_core.proofs.EvaluatedHistories.{enabled}
 use Rattle.mk_core.proofs.EventsAt.{◌and◌, AtEach, Also, at_each}
 use Rattle.mk_core.proofs.Schedules.{by, c0, fault, first_fault}
 use Rattle.mk_laws.proofs.Promises.{histories_keep_all_promises}
 use Rattle.mk_turns.specs.Sweeping.{is_mark}
 use Rattle.mk_turns.proofs.Sweeping.{other_steps_sweep}
-use Rattle.mk_alloc.specs.TurnCycles.{EndsExactly, TurnsOfAreExact, has_step, is_want, lets_go}
+use Rattle.mk_alloc.specs.TurnCycles.{EndsExactly, TurnsOfAreExact, is_want}
 use Rattle.mk_alloc.proofs.ListParts.{lacks_second, none_at}
 use Rattle.mk_alloc.proofs.OwnGives.{none_more, one_more}
 use Rattle.mk_quarantine.proofs.Bounds.{quarantine_of_one_is_bounded}
 use Rattle.mk_run.specs.Unswept.{IsUnswept}
 use Rattle.mk_run.proofs.UnsweptHistories.{unswept_is_precise}
-use Rattle.mk_trace.specs.declared.trace.TraceEvent.TheVariants.{A, W}
 use Rattle.mk_trace.specs.Grammar.{along}
-use Rattle.mk_trace.specs.Peaks.{greatest_from, found_by_ends_from, peaks_of}
-use Rattle.mk_trace.specs.Playing.{config_of, refused_events, IsPlayed}
-use Rattle.mk_trace.specs.Traces.{Contents, IsOfSomeTraceText}
+use Rattle.mk_trace.specs.Peaks.{greatest_from, found_by_ends_from}
+use Rattle.mk_trace.specs.Playing.{IsPlayed}
 use Rattle.mk_trace.proofs.ExactPlays.{nothing_given}
 use Rattle.mk_trace.proofs.Playable.{is_playable}
 
@@ -50,8 +44,7 @@ played =
     ++ by c0 (step.Enter (op.SetNum 0 1 5) ∷ step.Reg ∷ step.Leave ∷ [])
     ++ by c0 (step.Enter (op.Clear 0) ∷ step.Reg ∷ step.Leave ∷ [])
     ++ by c0 (step.Take (Some (op.New 0 0 false)) ∷ step.Head 0 1 ∷ step.Used 0 1 ∷ step.Grant ∷ step.Tally
-    tally.Held 2 ∷ step.Give ∷ [])
-    ++ by c0 (step.Enter (op.SetGlobal 0 0) ∷ step.Reg ∷ step.Setg ∷ step.Leave ∷ [])
+    tally.Held 2 ∷ step.Give ∷ []) ++ by c0 (step.Enter (op.SetGlobal 0 0) ∷ step.Reg ∷ step.Setg ∷ step.Leave ∷ [])
     ++ by c0 (step.Enter (op.Clear 0) ∷ step.Reg ∷ step.Leave ∷ [])
 
 -- up to the take of the New, and from there up to its give, and what comes after it
@@ -113,8 +106,7 @@ ends_exactly =
         one = λ b. absurd (none_at is_begin making refl b);
         keeps = λ g.
             (or_parts (lets_go g.event.step) (has_step lets_go g.behind)
-            (lacks_second lets_go g.before (g.event ∷ g.behind)
-            (ap (λ (es : List Event). has_step lets_go es) (sym g.is) ∙ refl))).1;
+            (lacks_second lets_go g.before (g.event ∷ g.behind) (ap (has_step lets_go) (sym g.is) ∙ refl))).1;
       };
     }
 
@@ -122,7 +114,7 @@ are_exact : TurnsOfAreExact false (config_of stored_and_made) (Caller 0) played
 unfolding by c0 stored making behind
 are_exact =
     let c = config_of stored_and_made in
-    subst (λ (es : List Event). TurnsOfAreExact false c (Caller 0) es) parts
+    subst (TurnsOfAreExact false c (Caller 0)) parts
     (none_more false c (Caller 0) (upto_give ++ gives ∷ []) behind refl
     (one_more false c (Caller 0) upto_give gives
     (none_more false c (Caller 0) [] upto_give refl (nothing_given false c (Caller 0))) ends_exactly))

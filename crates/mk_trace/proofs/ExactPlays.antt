@@ -5,32 +5,22 @@ use Rattle.std.specs.List.{list_any}
 use Rattle.std.proofs.lemmas.Bool.{ltb-true, or_from, or_parts}
 use Rattle.std.proofs.lemmas.List.Folds.{list_any-append}
 use Rattle.std.proofs.Math.Bool.{and-false}
-use Rattle.mk_never.specs.declared.operations.Op.{Op}
-use Rattle.mk_core.specs.declared.config.Config.{Config}
-use Rattle.mk_core.specs.declared.events.Answer.{Answer}
-use Rattle.mk_core.specs.declared.events.Event.{Event}
-use Rattle.mk_core.specs.declared.events.Seat.{Seat}
-use Rattle.mk_core.specs.declared.events.Seat.TheVariants.{Caller, Host, Marker}
-use Rattle.mk_core.specs.declared.events.Word.{Word}
-use Rattle.mk_core.specs.Growing.{AreOfOthers, Grows, is_same_seat}
-use Rattle.mk_core.specs.History.{IsHistory, first_world}
-use Rattle.mk_core.specs.Order.{seat_exists}
-use Rattle.mk_words.specs.Seats.{Has}
-use Rattle.mk_words.specs.States.{PassState}
+use Rattle.mk_trace.proofs.Vocabulary.{AllTurnsAreExact, Answer, Caller, Config, Contents, Event, Grows, Has, Host}
+use Rattle.mk_trace.proofs.Vocabulary.{HostState, IsHistory, Marker, Op, PassState, Seat, StayExact, SweepsNothing}
+use Rattle.mk_trace.proofs.Vocabulary.{Word, config_of, first_world, has_step, is_of_cycle, is_same_seat, pass_for}
+use Rattle.mk_trace.proofs.Vocabulary.{seat_exists}
+use Rattle.mk_core.specs.Growing.{AreOfOthers}
 use Rattle.mk_words.proofs.Seats.{has_first, without_keeps}
-use Rattle.mk_turns.specs.Sweeping.{SweepsNothing, SweepsNothingFrom}
+use Rattle.mk_turns.specs.Sweeping.{SweepsNothingFrom}
 use Rattle.mk_turns.proofs.Doing.{not_own}
-use Rattle.mk_heap.specs.Hosts.{HostState, pass_for}
 use Rattle.mk_alloc.specs.Laws.{OwnAreExact}
-use Rattle.mk_alloc.specs.TurnCycles.{TurnsOfAreExact, has_step, is_of_cycle}
+use Rattle.mk_alloc.specs.TurnCycles.{TurnsOfAreExact}
 use Rattle.mk_alloc.proofs.ExactTurns.{stay_exact_behind_others}
 use Rattle.mk_run.specs.Unswept.{IsUnswept}
 use Rattle.mk_run.specs.UnsweptSeats.{SeatSweepsNothing}
 use Rattle.mk_run.proofs.UnsweptHistories.{markers_sweep, none_sweeps}
 use Rattle.mk_run.proofs.UnsweptScripts.{first_sweeps, others_on, seat_on}
-use Rattle.mk_trace.specs.ExactPlays.{AllTurnsAreExact, StayExact}
-use Rattle.mk_trace.specs.Playing.{MakesNoCycle, config_of}
-use Rattle.mk_trace.specs.Traces.{Contents}
+use Rattle.mk_trace.specs.Playing.{MakesNoCycle}
 use Rattle.mk_trace.proofs.HeldLooks.{behind, first, seen_is, Looked, all_lack, moves}
 use Rattle.mk_trace.proofs.JoinedCalls.{Joined, elsewhere}
 
@@ -68,9 +58,8 @@ nothing_given on c s (x ∷ xs) e behind is give same = absurd cc
 
 pub first_exact : (c : Config) (es : List Event) → es ≡ [] → AllTurnsAreExact c es
 first_exact c es none = record {
-  caller = subst (λ (l : List Event). TurnsOfAreExact false c (Caller 0) l) (sym none)
-      (nothing_given false c (Caller 0));
-  host = ap (λ (l : List Event). list_any (of_cycle Host) l) none;
+  caller = subst (TurnsOfAreExact false c (Caller 0)) (sym none) (nothing_given false c (Caller 0));
+  host = ap (list_any (of_cycle Host)) none;
   caller_unswept = first_sweeps c (Caller 0) es none;
   host_unswept = first_sweeps c Host es none;
 }
@@ -86,7 +75,7 @@ module _ {p q : PassState} {x : Word} {n : ℕ} (l : Looked p x n q) (host : p.s
   caller_is_still = record {
     more = (moves l).more;
     is = ap (λ (r : PassState). r.seen) (moves l).is;
-    of_others = (moves l).leaves (Caller 0) joined (ap (λ (s : Seat). is_same_seat (Caller 0) s) host);
+    of_others = (moves l).leaves (Caller 0) joined (ap (is_same_seat (Caller 0)) host);
   }
 
   pub look_stays_exact : SweepsNothing p q → StayExact c p.seen q.seen
@@ -95,7 +84,7 @@ module _ {p q : PassState} {x : Word} {n : ℕ} (l : Looked p x n q) (host : p.s
         stay_exact_behind_others false c (Caller 0) (Caller 0 ∷ []) p.seen q.seen (has_first (Caller 0) [])
         caller_is_still before.caller;
     host =
-        subst (λ (es : List Event). MakesNoCycle Host es) (sym (seen_is l))
+        subst (MakesNoCycle Host) (sym (seen_is l))
         (no_cycle_append Host p.seen (first l ++ behind l) before.host
         (lacks_no_cycle Host (first l ++ behind l)
         (all_lack l is_of_cycle (record { take = λ o. refl; look = λ y. refl; give = refl }))));
@@ -125,14 +114,14 @@ module _ {on : Bool} {h : HostState} {o : Op} {told : Answer} {q : PassState} {f
   exact : TurnsOfAreExact false config (Caller 0) es → TurnsOfAreExact false config (Caller 0) q.seen
   exact before =
       subst (λ (b : Bool). TurnsOfAreExact b config (Caller 0) q.seen) off
-      (subst (λ (r : PassState). OwnAreExact on r) j.answers.is
+      (subst (OwnAreExact on) j.answers.is
       (j.answers.exact (subst (λ (b : Bool). TurnsOfAreExact b config (Caller 0) es) (sym off) before)))
 
   pub call_stays_exact : StayExact config es fs
   call_stays_exact before = record {
     caller = stay_exact_behind_others false config (Caller 0) q.seats q.seen fs has_caller j.came (exact before.caller);
     host =
-        subst (λ (l : List Event). MakesNoCycle Host l) (sym j.own.is)
+        subst (MakesNoCycle Host) (sym j.own.is)
         (no_cycle_append Host es j.own.more before.host
         (others_no_cycle Host (elsewhere j) j.own.more has_host j.own.of_others));
     caller_unswept =
@@ -148,20 +137,18 @@ exact_over c es0 es1 es2 es3 es4 before call looks more exact = more (looks (cal
 
 -- The whole history has no sweeping mark: it is of the caller and the host alone.
 
-each_seat : (trace : Contents) (es : List Event) → IsHistory (config_of trace) es
-    → AllTurnsAreExact (config_of trace) es
-    → (s : Seat) → seat_exists (config_of trace) s ≡ true
+each_seat : (trace : Contents) {es : List Event} → IsHistory (config_of trace) es
+    → AllTurnsAreExact (config_of trace) es → (s : Seat) → seat_exists (config_of trace) s ≡ true
     → SweepsNothingFrom (config_of trace) s (first_world (config_of trace)) es
-each_seat trace es history exact (Caller k) exists =
+each_seat trace {es} history exact (Caller k) exists =
     let lt = ltb-true k 1 exists in
     subst (λ (j : ℕ). SweepsNothingFrom (config_of trace) (Caller j) (first_world (config_of trace)) es) (omega arith)
     exact.caller_unswept
-each_seat trace es history exact (Marker j) exists =
+each_seat trace {es} history exact (Marker j) exists =
     markers_sweep (config_of trace) j (first_world (config_of trace)) es history.enabled
-each_seat trace es history exact Host exists = exact.host_unswept
+each_seat trace history exact Host exists = exact.host_unswept
 
 pub play_is_unswept : (trace : Contents) (es : List Event) → IsHistory (config_of trace) es
     → AllTurnsAreExact (config_of trace) es → IsUnswept (config_of trace) es
 play_is_unswept trace es history exact =
-    none_sweeps (config_of trace) (first_world (config_of trace)) es history.enabled
-    (each_seat trace es history exact)
+    none_sweeps (config_of trace) (first_world (config_of trace)) es history.enabled (each_seat trace history exact)

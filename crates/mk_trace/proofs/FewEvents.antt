@@ -1,34 +1,28 @@
 -- A trace has few events, each has few operations, and so few cycles end.
-use Rattle.std.proofs.Common.{◌≡◌, ℕ, ◌+◌, ◌≤◌, ◌==◌, nat_le, Bool, true, false, List, [], ◌∷◌, length}
-use Rattle.std.proofs.Common.{Ok, Result, sym, ap, subst, arith}
+use Rattle.std.proofs.Common.{◌≡◌, ℕ, ◌+◌, ◌≤◌, ◌==◌, nat_le, Bool, true, false, List, [], ◌∷◌, length, Ok, Result, sym}
+use Rattle.std.proofs.Common.{ap, subst, arith}
 use Rattle.std.specs.Prelude.{drop, if◌then◌else◌}
 use Rattle.std.specs.List.{slice_split}
 use Rattle.std.proofs.lemmas.Bool.Decides.{nat_tests}
 use Rattle.std.proofs.lemmas.List.{length-append}
 use Rattle.std.proofs.lemmas.List.Splits.{length-slice_split}
 use Rattle.std.proofs.lemmas.List.Sums.{count_by-le-length}
-use Rattle.mk_never.specs.declared.operations.Op.{Op}
-use Rattle.mk_core.specs.declared.events.Event.{Event}
-use Rattle.mk_core.specs.Counts.{ends}
-use Rattle.mk_script.specs.Words.{lines_of, without_empty_last, words_of_line}
+use Rattle.mk_trace.proofs.Vocabulary.{A, C, Contents, Event, F, HeapPages, IsOfSomeTraceText, K, LinesSoFar, Op}
+use Rattle.mk_trace.proofs.Vocabulary.{TraceEvent, W, contents_of, ends, events_from, header_line_of, lines_of}
+use Rattle.mk_trace.proofs.Vocabulary.{nothing_written, ops_of, read_behind, text_fault_at, trace_of_lines}
+use Rattle.mk_trace.proofs.Vocabulary.{type_fault_at, typed_event, with_event, with_trace_line, words_of_line}
+use Rattle.mk_trace.proofs.Vocabulary.{written_from}
+use Rattle.mk_script.specs.Words.{without_empty_last}
 use Rattle.mk_trace.specs.declared.faults.TraceStop.{TraceStop}
-use Rattle.mk_trace.specs.declared.lines.HeapPages.{HeapPages}
 use Rattle.mk_trace.specs.declared.lines.Line.{Line}
 use Rattle.mk_trace.specs.declared.lines.Line.TheVariants as line
-use Rattle.mk_trace.specs.declared.trace.TraceEvent.{TraceEvent}
-use Rattle.mk_trace.specs.declared.trace.TraceEvent.TheVariants.{A, K, F, C, W}
-use Rattle.mk_trace.specs.Grammar.{along, events_from, read_behind, text_fault_at, type_fault_at, with_event}
-use Rattle.mk_trace.specs.Grammar.{written_from}
-use Rattle.mk_trace.specs.Lines.{LinesSoFar, header_line_of, nothing_written, with_trace_line}
-use Rattle.mk_trace.specs.Playing.{ops_of}
-use Rattle.mk_trace.specs.Traces.{Contents, IsOfSomeTraceText, contents_from, contents_of, trace_of_lines}
-use Rattle.mk_trace.specs.Traces.{words_of_slots}
-use Rattle.mk_trace.specs.Typing.{typed_event}
+use Rattle.mk_trace.specs.Grammar.{along}
+use Rattle.mk_trace.specs.Traces.{contents_from, words_of_slots}
 use Rattle.mk_trace.proofs.ReadLines.{gone_on, passed_else, passed_then, then_next}
 
 -- before any event
 pub none_ended : (es : List Event) → es ≡ [] → ends es ≡ 0
-none_ended es empty = ap (λ (l : List Event). ends l) empty
+none_ended es empty = ap ends empty
 
 -- operations
 
@@ -74,7 +68,7 @@ read heap written trace h =
     let some = passed_else (length written.slots == 0) _ _ trace h in
     let found = then_next (events_from written.slots (length written.slots + 2) written.events []) _ trace some.1 in
     let count = along_grows type_fault_at (λ events line. typed_event written.slots line) with_event
-    (λ (l : List TraceEvent). length l) event_adds (length written.slots + 2) written.events [] found.value found.is in
+    length event_adds (length written.slots + 2) written.events [] found.value found.is in
     let made = contents_from heap.pages heap.resident (words_of_slots written.slots) found.value in
     let is : made ≡ trace = cc in
     let few : length found.value ≤ length written.events = omega (arith, count) in

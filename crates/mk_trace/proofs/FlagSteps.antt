@@ -5,34 +5,20 @@ use Rattle.std.specs.Prelude.{◌||◌, Option, Some, None, is_some, if◌then�
 use Rattle.std.proofs.lemmas.Bool.{or_parts, cases_eq, cases_lt}
 use Rattle.std.proofs.lemmas.List.{length-map, length-append, get_or-set_same, get_or-set_other, get_or_past}
 use Rattle.std.proofs.lemmas.List.{length-set, set_past}
-use Rattle.mk_never.specs.declared.values.Value.{Value}
-use Rattle.mk_never.specs.declared.values.Value.TheVariants.{Null, Num, Ptr}
-use Rattle.mk_never.specs.NeverHeap.{Allocation, NeverState, after_free, allocation_at, no_allocation, with_freed}
+use Rattle.mk_trace.proofs.Vocabulary.{AreLater, Cell, Config, Event, Flight, FreesNone, IsHistory, Moment, NeverState}
+use Rattle.mk_trace.proofs.Vocabulary.{Null, Num, PlacedAllocation, Ptr, ReleasesNone, Step, Value, Words, World}
+use Rattle.mk_trace.proofs.Vocabulary.{address_of, after_free, allocation_at, allocations_by, cell_freed, decides_freed}
+use Rattle.mk_trace.proofs.Vocabulary.{flight_of, freed_where_it_stands, granted, has_step, is_left_unmarked}
+use Rattle.mk_trace.proofs.Vocabulary.{is_release, is_some_and, left, never_behind, never_granted, no_longer_fresh}
+use Rattle.mk_trace.proofs.Vocabulary.{placed_at, pointed_cell, unfreed, with_released, world_behind}
+use Rattle.mk_never.specs.NeverHeap.{Allocation, no_allocation, with_freed}
 use Rattle.mk_never.specs.Reach.{LeadsTo}
-use Rattle.mk_geom.specs.Addresses.{address_of}
-use Rattle.mk_geom.specs.declared.addresses.Cell.{Cell}
-use Rattle.mk_core.specs.declared.config.Config.{Config}
-use Rattle.mk_core.specs.declared.events.Event.{Event}
-use Rattle.mk_core.specs.declared.events.Step.{Step}
 use Rattle.mk_core.specs.declared.events.Step.TheVariants as step
-use Rattle.mk_core.specs.declared.seats.Flight.{Flight}
-use Rattle.mk_core.specs.Allocations.{PlacedAllocation, allocations_by, freed_where_it_stands, granted, no_longer_fresh}
-use Rattle.mk_core.specs.Allocations.{placed_at, with_released, never_granted}
-use Rattle.mk_core.specs.Bounded.{is_some_and}
-use Rattle.mk_core.specs.Cells.{is_left_unmarked, pointed_cell}
-use Rattle.mk_core.specs.Cycles.{is_release}
-use Rattle.mk_core.specs.History.{World, left_from, world_behind, IsHistory, left, never_behind}
-use Rattle.mk_core.specs.Moments.{Moment, flight_of}
-use Rattle.mk_core.specs.TurnConditions.{cell_freed}
-use Rattle.mk_core.specs.Words.{Words}
+use Rattle.mk_core.specs.History.{left_from}
 use Rattle.mk_core.proofs.ChangedAllocations.{LeavesPlaces, changed_at, earlier_at, freed_leaves, freed_released}
 use Rattle.mk_core.proofs.ChangedAllocations.{fresh_leaves, released_leaves, none_freed}
-use Rattle.mk_core.specs.Counts.{decides_freed}
-use Rattle.mk_alloc.specs.TurnCycles.{has_step}
 use Rattle.mk_laws.specs.Images.{AreTwins}
 use Rattle.mk_laws.proofs.InvariantHistories.{histories_keep_the_invariant}
-use Rattle.mk_trace.specs.Freeing.{AreLater, unfreed}
-use Rattle.mk_trace.specs.Ends.{FreesNone, ReleasesNone}
 
 -- What stays of allocations over a list of events: their places and types, that they are released, and, where nothing
 -- is released, that they are not.
@@ -41,15 +27,10 @@ abbrev pub SameReleased : List PlacedAllocation → List PlacedAllocation → Ty
 SameReleased xs ys = (i : ℕ) → i < length xs → (placed_at ys i).released ≡ (placed_at xs i).released
 
 pub later_same : (xs : List PlacedAllocation) → AreLater xs xs
-later_same xs = record {
-  count = omega arith;
-  base = λ i lt. refl;
-  ty = λ i lt. refl;
-  released = λ i lt is. is;
-}
+later_same xs = record { count = omega arith; base = λ i lt. refl; ty = λ i lt. refl; released = λ i lt is. is }
 
-pub later_then : (xs ys zs : List PlacedAllocation) → AreLater xs ys → AreLater ys zs → AreLater xs zs
-later_then xs ys zs one two =
+pub later_then : {xs ys zs : List PlacedAllocation} → AreLater xs ys → AreLater ys zs → AreLater xs zs
+later_then {xs} {ys} one two =
     let within : (i : ℕ) → i < length xs → i < length ys = λ i lt. omega (arith, lt, one.count) in
     record {
       count = omega (arith, one.count, two.count);
@@ -58,9 +39,9 @@ later_then xs ys zs one two =
       released = λ i lt is. two.released i (within i lt) (one.released i lt is);
     }
 
-changed : (change : PlacedAllocation → PlacedAllocation) (xs : List PlacedAllocation) → LeavesPlaces change
+changed : {change : PlacedAllocation → PlacedAllocation} (xs : List PlacedAllocation) → LeavesPlaces change
     → ((a : PlacedAllocation) → a.released ≡ true → (change a).released ≡ true) → AreLater xs (map change xs)
-changed change xs leaves keeps =
+changed {change} xs leaves keeps =
     let at : (i : ℕ) → placed_at (map change xs) i ≡ change (placed_at xs i) =
     λ i. changed_at change xs i leaves.none in
     record {
@@ -88,19 +69,16 @@ step_later : (c : Config) (m : Moment) (f : Flight) (s : Step) (xs : List Placed
 step_later c m f step.Grant xs = more xs (granted c m f)
 step_later c m f (step.Quar p v) xs =
     let cell = cell_freed c.pages m.words f p v in
-    changed (freed_where_it_stands m.words cell) xs (freed_leaves m.words cell)
-    (λ a is. freed_released m.words cell a ∙ is)
-step_later c m f step.Begin xs = changed no_longer_fresh xs fresh_leaves (λ a is. is)
-step_later c m f step.Release xs =
-    changed (with_released c m.words) xs (released_leaves c m.words) (kept_release c m.words)
+    changed xs (freed_leaves m.words cell) (λ a is. freed_released m.words cell a ∙ is)
+step_later c m f step.Begin xs = changed xs fresh_leaves (λ a is. is)
+step_later c m f step.Release xs = changed xs (released_leaves c m.words) (kept_release c m.words)
 step_later c m f s xs = later_same xs
 
 pub later_left : (c : Config) (w : World) (es : List Event) → AreLater w.allocations (left_from c w es).allocations
 unfolding left_from
 later_left c w [] = later_same w.allocations
 later_left c w (e ∷ es) =
-    later_then w.allocations (world_behind c w e).allocations (left_from c (world_behind c w e) es).allocations
-    (step_later c w.now (flight_of w.now e.seat) e.step w.allocations) (later_left c (world_behind c w e) es)
+    later_then (step_later c w.now (flight_of w.now e.seat) e.step w.allocations) (later_left c (world_behind c w e) es)
 
 -- What one event does to the flags of allocations: only a `release` releases, and only what decides a Free frees.
 
@@ -109,8 +87,8 @@ later_left c w (e ∷ es) =
 pub same_releases : (xs : List PlacedAllocation) → ReleasesNone xs xs
 same_releases xs = record { count = omega arith; released = λ n lt. refl }
 
-pub releases_then : (xs ys zs : List PlacedAllocation) → ReleasesNone xs ys → ReleasesNone ys zs → ReleasesNone xs zs
-releases_then xs ys zs h g =
+pub releases_then : {xs ys zs : List PlacedAllocation} → ReleasesNone xs ys → ReleasesNone ys zs → ReleasesNone xs zs
+releases_then h g =
     record {
       count = omega (arith, h.count, g.count);
       released = λ n lt. g.released n (omega (arith, lt, h.count)) ∙ h.released n lt;
@@ -170,8 +148,7 @@ unfreed_all w (Some cell) xs none = cc
 pub frees_by : (c : Config) (m : Moment) (f : Flight) (s : Step) (xs : List PlacedAllocation)
     → decides_freed c m f s ≡ false → FreesNone xs (allocations_by c m f s xs)
 frees_by c m f step.Grant xs none = more_frees xs (granted c m f) refl
-frees_by c m f (step.Quar p v) xs none = λ n.
-    ap (λ (l : List PlacedAllocation). (placed_at l n).freed)
+frees_by c m f (step.Quar p v) xs none = λ n. ap (λ (l : List PlacedAllocation). (placed_at l n).freed)
     (unfreed_all m.words (cell_freed c.pages m.words f p v) xs none)
 frees_by c m f step.Begin xs none = changed_frees no_longer_fresh xs refl (λ a. refl)
 frees_by c m f step.Release xs none = changed_frees (with_released c m.words) xs refl (λ a. refl)
@@ -189,9 +166,8 @@ same_released c w (e ∷ es) none = λ i lt.
 
 -- Which allocations are freed after a history says the heap that never reuses storage, and so what an operation frees.
 
-pub twins : (c : Config) (es : List Event) → IsHistory c es
-    → AreTwins (left c es).allocations (never_behind c es)
-twins c es history = (histories_keep_the_invariant c es history).mirrors.twins
+pub twins : {c : Config} {es : List Event} → IsHistory c es → AreTwins (left c es).allocations (never_behind c es)
+twins {c} {es} history = (histories_keep_the_invariant c es history).mirrors.twins
 
 none_past : (xs : List PlacedAllocation) (i : ℕ) → length xs ≤ i → (placed_at xs i).freed ≡ false
 none_past xs i le = ap (λ (a : PlacedAllocation). a.freed) (get_or_past xs i never_granted le)
@@ -200,13 +176,12 @@ no_allocation_past : (xs : NeverState) (i : ℕ) → length xs.allocations ≤ i
 no_allocation_past n i le = ap (λ (a : Allocation). a.freed) (get_or_past n.allocations i no_allocation le)
 
 -- Whether it is freed, of any number.
-pub is_freed_there : (c : Config) (es : List Event) → IsHistory c es → (i : ℕ)
+pub is_freed_there : {c : Config} {es : List Event} → IsHistory c es → (i : ℕ)
     → (placed_at (left c es).allocations i).freed ≡ (allocation_at (never_behind c es) i).freed
-is_freed_there c es history i = elim (cases_lt i (length (left c es).allocations)) [
-  | inl lt ↦ (twins c es history).freed i lt
-  | inr le ↦
-      none_past (left c es).allocations i le
-      ∙ sym (no_allocation_past (never_behind c es) i (omega (arith, le, (twins c es history).count)))
+is_freed_there {c} {es} history i = elim (cases_lt i (length (left c es).allocations)) [
+  | inl lt ↦ (twins history).freed i lt
+  | inr le ↦ none_past (left c es).allocations i le
+      ∙ sym (no_allocation_past (never_behind c es) i (omega (arith, le, (twins history).count)))
 ]
 
 -- What a Free does to the flags.
@@ -233,20 +208,16 @@ is_freed_behind n Null i is lt = absurd cc
 is_freed_behind n (Num m) i is lt = absurd cc
 is_freed_behind n (Ptr number ty offset) i is lt =
     let same = (chosen (allocation_at n number).freed number i is).1 in
-    ap (λ (k : ℕ). (allocation_at (with_freed n k) i).freed) same
-    ∙ ap (λ (a : Allocation). a.freed)
+    ap (λ (k : ℕ). (allocation_at (with_freed n k) i).freed) same ∙ ap (λ (a : Allocation). a.freed)
     (get_or-set_same n.allocations i (record (allocation_at n i) { freed = true }) no_allocation lt)
 
 kept_at : (n : NeverState) (i : ℕ) (b : Bool) → b ≡ (allocation_at n i).freed
-    → ((if b then None else Some i) ≡ Some i → ⊥)
-    → (allocation_at (with_freed n i) i).freed ≡ (allocation_at n i).freed
+    → ((if b then None else Some i) ≡ Some i → ⊥) → (allocation_at (with_freed n i) i).freed ≡ (allocation_at n i).freed
 kept_at n i false is out = absurd (out refl)
 kept_at n i true is out = elim (cases_lt i (length n.allocations)) [
-  | inl lt ↦
-      ap (λ (a : Allocation). a.freed)
+  | inl lt ↦ ap (λ (a : Allocation). a.freed)
       (get_or-set_same n.allocations i (record (allocation_at n i) { freed = true }) no_allocation lt) ∙ is
-  | inr le ↦
-      ap (λ (l : List Allocation). (slice_index_or l i no_allocation).freed)
+  | inr le ↦ ap (λ (l : List Allocation). (slice_index_or l i no_allocation).freed)
       (set_past n.allocations i (record (allocation_at n i) { freed = true }) le)
 ]
 
@@ -255,11 +226,9 @@ pub others_kept : (n : NeverState) (v : Value) (i : ℕ) → (unfreed n v ≡ So
 others_kept n Null i out = refl
 others_kept n (Num m) i out = refl
 others_kept n (Ptr number ty offset) i out = elim (cases_eq i number) [
-  | inr ne ↦
-      ap (λ (a : Allocation). a.freed)
+  | inr ne ↦ ap (λ (a : Allocation). a.freed)
       (get_or-set_other n.allocations number i (record (allocation_at n number) { freed = true }) no_allocation ne)
-  | inl same ↦
-      subst (λ (k : ℕ). (allocation_at (with_freed n k) i).freed ≡ (allocation_at n i).freed) same
+  | inl same ↦ subst (λ (k : ℕ). (allocation_at (with_freed n k) i).freed ≡ (allocation_at n i).freed) same
       (kept_at n i (allocation_at n i).freed refl
       (subst (λ (k : ℕ). (if (allocation_at n k).freed then None else Some k) ≡ Some i → ⊥) (sym same) out))
 ]

@@ -1,21 +1,15 @@
 -- The ages of allocations over a call: they are as they were, or one end has found them.
-use Rattle.std.proofs.Common.{◌≡◌, inl, inr, ℕ, ◌+◌, ◌≤◌, ◌<◌, Bool, true, false, List, [], ◌∷◌, ◌++◌, length, map}
-use Rattle.std.proofs.Common.{sym, ◌∙◌, ap, arith}
+use Rattle.std.proofs.Common.{◌≡◌, inl, inr, ℕ, ◌+◌, ◌≤◌, ◌<◌, Bool, true, false, List, [], ◌∷◌, ◌++◌, length, map, sym}
+use Rattle.std.proofs.Common.{◌∙◌, ap, arith}
 use Rattle.std.specs.Prelude.{◌&&◌, ◌||◌, not, filter, fold, Option, if◌then◌else◌}
 use Rattle.std.proofs.lemmas.Bool.{and_from, and_parts, cases_lt, false_from_ne_true, or_parts, true≢false, not-true}
 use Rattle.std.proofs.lemmas.List.{get_or_past, map-append}
 use Rattle.std.proofs.lemmas.List.Folds.{list_any-append}
 use Rattle.std.proofs.Math.Bool.{and-false}
-use Rattle.mk_core.specs.declared.config.Config.{Config}
-use Rattle.mk_core.specs.declared.events.Event.{Event}
-use Rattle.mk_core.specs.Allocations.{PlacedAllocation, never_granted, placed_at}
-use Rattle.mk_core.specs.Counts.{in_a_word}
-use Rattle.mk_core.specs.History.{left}
-use Rattle.mk_trace.specs.Ends.{FreesNone, ReleasesNone}
-use Rattle.mk_trace.specs.Freeing.{FlagsBehind}
-use Rattle.mk_trace.specs.Ledgers.{AreAgesOf, AreFound, age_in_a_word, is_found_gone, is_gone, with_one}
-use Rattle.mk_trace.specs.Numbers.{AreThose, one_if, times}
-use Rattle.mk_trace.specs.Peaks.{age_of, counted}
+use Rattle.mk_trace.proofs.Vocabulary.{AreAgesOf, AreFound, AreThose, Config, Event, FlagsBehind, FreesNone}
+use Rattle.mk_trace.proofs.Vocabulary.{PlacedAllocation, ReleasesNone, age_in_a_word, age_of, counted, in_a_word, left}
+use Rattle.mk_trace.proofs.Vocabulary.{never_granted, one_if, placed_at, times, with_one}
+use Rattle.mk_trace.specs.Ledgers.{is_found_gone, is_gone}
 use Rattle.mk_trace.proofs.CountedAges.{counted_more}
 use Rattle.mk_trace.proofs.KeptObjects.{freed_before, maps_agree, unfreed_past, was_kept}
 use Rattle.mk_trace.proofs.NumberLists.{stands_passes, those_filtered}
@@ -85,8 +79,7 @@ module _ (c : Config) (es fs : List Event) (x : Option ℕ)
   ys = (left c fs).allocations
 
   stays_freed : (i : ℕ) → (placed_at xs i).freed ≡ true → (placed_at ys i).freed ≡ true
-  stays_freed i freed =
-      flags.kept i (λ is. true≢false (sym freed ∙ (flags.frees i is).before)) ∙ freed
+  stays_freed i freed = flags.kept i (λ is. true≢false (sym freed ∙ (flags.frees i is).before)) ∙ freed
 
   was_unfreed : (i : ℕ) → (placed_at ys i).freed ≡ false → (placed_at xs i).freed ≡ false
   was_unfreed i unfreed =
@@ -119,7 +112,7 @@ module _ (c : Config) (es fs : List Event) (x : Option ℕ)
     none_ages found pairs h = record {
       numbers = h.numbers;
       are = h.are;
-      those = λ i. h.those i ∙ ap (λ (b : Bool). one_if b) (same_gone i);
+      those = λ i. h.those i ∙ ap one_if (same_gone i);
     }
 
   -- One end found these.
@@ -146,8 +139,7 @@ module _ (c : Config) (es fs : List Event) (x : Option ℕ)
 
     pub one_found : AreFound later ys
     one_found = record {
-      gone = λ i.
-          list_any-append (λ (l : List PlacedAllocation). is_gone (placed_at l i)) found (finds ∷ [])
+      gone = λ i. list_any-append (λ (l : List PlacedAllocation). is_gone (placed_at l i)) found (finds ∷ [])
           ∙ rw (h.gone i, finds_gone i) (absorbs _ _ (gone_stays i));
       unfreed = λ i unfreed.
           age_where_unfreed i found finds (sym (same i) ∙ unfreed) ∙ h.unfreed i (was_unfreed i unfreed);
@@ -158,26 +150,21 @@ module _ (c : Config) (es fs : List Event) (x : Option ℕ)
         let parts = and_parts (placed_at ys i).freed (not (placed_at xs i).released) kept in
         age_where_kept i found finds
         (h.gone i ∙ ap (λ (b : Bool). (placed_at xs i).freed && b) (not-true (placed_at xs i).released parts.1)
-        ∙ and-false (placed_at xs i).freed)
-        (sym (same i) ∙ parts.0)
+        ∙ and-false (placed_at xs i).freed) (sym (same i) ∙ parts.0)
 
     one_those : (i : ℕ) → one_if (is_gone (placed_at xs i))
-        + one_if ((placed_at ys i).released && was_kept c es fs x flags i)
-        ≡ one_if (is_gone (placed_at ys i))
+        + one_if ((placed_at ys i).released && was_kept c es fs x flags i) ≡ one_if (is_gone (placed_at ys i))
     one_those i = elim (cases_lt i (length xs)) [
-      | inl lt ↦
-          sums (placed_at xs i).freed (placed_at xs i).released (placed_at ys i).freed (placed_at ys i).released
+      | inl lt ↦ sums (placed_at xs i).freed (placed_at xs i).released (placed_at ys i).freed (placed_at ys i).released
           (λ gone. (same_freed i gone, flags.later.released i lt gone))
-      | inr le ↦
-          rw (past i le, unfreed_past c es fs x flags i le)
+      | inr le ↦ rw (past i le, unfreed_past c es fs x flags i le)
           (sums_past (placed_at xs i).released (placed_at ys i).released)
     ]
 
     -- The ages of those that it released are counted.
     pub one_ages : (pairs now : List (ℕ × ℕ)) (numbers : List ℕ) → AreAgesOf found xs pairs
         → AreThose (was_kept c es fs x flags) numbers
-        → now ≡ fold with_one pairs (map (age_in_a_word later)
-        (filter (λ (i : ℕ). (placed_at ys i).released) numbers))
+        → now ≡ fold with_one pairs (map (age_in_a_word later) (filter (λ (i : ℕ). (placed_at ys i).released) numbers))
         → AreAgesOf later ys now
     one_ages pairs now numbers ages those is =
         let gone : ℕ → Bool = λ i. (placed_at ys i).released in
@@ -193,10 +180,7 @@ module _ (c : Config) (es fs : List Event) (x : Option ℕ)
               ∙ ap (λ (l : List ℕ). fold with_one (counted l) (map (age_in_a_word later) rest)) as_before
               ∙ counted_more (map (age_in_a_word later) ages.numbers) (map (age_in_a_word later) rest)
               ∙ ap counted (sym (map-append (age_in_a_word later) ages.numbers rest));
-          those = λ i.
-              times_append i ages.numbers rest
-              ∙ ap (λ (n : ℕ). n + times i rest) (ages.those i)
+          those = λ i. times_append i ages.numbers rest ∙ ap (λ (n : ℕ). n + times i rest) (ages.those i)
               ∙ ap (λ (n : ℕ). one_if (is_gone (placed_at xs i)) + n)
-              (those_filtered gone (was_kept c es fs x flags) numbers those i)
-              ∙ one_those i;
+              (those_filtered gone (was_kept c es fs x flags) numbers those i) ∙ one_those i;
         }

@@ -1,29 +1,21 @@
 -- What ends find in a list of events that begins without a cycle, or in one.
-use Rattle.std.proofs.Common.{◌≡◌, ⊎_elim, ℕ, ◌+◌, ◌≤◌, Bool, true, false, List, [], ◌∷◌, ◌++◌, length, refl, sym}
-use Rattle.std.proofs.Common.{◌∙◌, ap, subst, arith}
+use Rattle.std.proofs.Common.{◌≡◌, ⊎_elim, ℕ, ◌+◌, ◌≤◌, Bool, true, false, List, [], ◌∷◌, ◌++◌, length, refl, sym, ◌∙◌}
+use Rattle.std.proofs.Common.{ap, subst, arith}
 use Rattle.std.specs.Prelude.{◌||◌, cond, if◌then◌else◌}
 use Rattle.std.specs.List.{list_any}
 use Rattle.std.proofs.lemmas.Bool.{cases_Bool, false_from_ne_true, or_parts, true≢false}
 use Rattle.std.proofs.lemmas.List.{length-append, length-map}
 use Rattle.std.proofs.lemmas.List.Folds.{list_any-append}
 use Rattle.std.proofs.lemmas.List.Sums.{sum_by-append, sum_by-cons}
-use Rattle.mk_core.specs.declared.config.Config.{Config}
-use Rattle.mk_core.specs.declared.events.Event.{Event}
-use Rattle.mk_core.specs.declared.events.Step.{Step}
+use Rattle.mk_trace.proofs.Vocabulary.{AreEnabledFrom, Config, Decided, Event, FreesNone, PlacedAllocation}
+use Rattle.mk_trace.proofs.Vocabulary.{ReleasesNone, Step, World, allocations_by, call_decided, cell_freed}
+use Rattle.mk_trace.proofs.Vocabulary.{decides_freed, ends, flight_of, freed_where_it_stands, granted, has_step}
+use Rattle.mk_trace.proofs.Vocabulary.{is_begin, is_end, is_release, no_longer_fresh, phase_of, with_released}
+use Rattle.mk_trace.proofs.Vocabulary.{world_behind}
 use Rattle.mk_core.specs.declared.events.Step.TheVariants as step
-use Rattle.mk_core.specs.Allocations.{PlacedAllocation, allocations_by, freed_where_it_stands, granted}
-use Rattle.mk_core.specs.Allocations.{no_longer_fresh, with_released}
-use Rattle.mk_core.specs.TurnConditions.{cell_freed}
-use Rattle.mk_core.specs.Counts.{decides_freed, ends}
-use Rattle.mk_core.specs.Cycles.{is_begin, is_end, is_release}
-use Rattle.mk_core.specs.Decided.{Decided}
-use Rattle.mk_core.specs.History.{AreEnabledFrom, World, call_decided, calls_from, left_from, world_behind}
-use Rattle.mk_core.specs.Moments.{flight_of}
-use Rattle.mk_core.specs.Words.{phase_of}
+use Rattle.mk_core.specs.History.{calls_from, left_from}
 use Rattle.mk_core.proofs.Histories.{calls_append}
 use Rattle.mk_laws.proofs.CyclePhases.{AsksPhase, moves_phase, phase_behind}
-use Rattle.mk_alloc.specs.TurnCycles.{has_step}
-use Rattle.mk_trace.specs.Ends.{FreesNone, ReleasesNone}
 use Rattle.mk_trace.specs.Peaks.{found_by_ends_from}
 use Rattle.mk_trace.proofs.FlagSteps.{frees_by, frees_then, releases_by, releases_then, same_releases}
 use Rattle.mk_trace.proofs.FreeCalls.{frees_decide, is_free_call}
@@ -124,7 +116,7 @@ frees_second c w xs ys none =
     let later : List Decided = calls_from c (left_from c w xs) ys in
     (or_parts (list_any is_free_call first) (list_any is_free_call later)
     (sym (list_any-append is_free_call first later)
-    ∙ sym (ap (λ (l : List Decided). list_any is_free_call l) (calls_append c w xs ys)) ∙ none)).1
+    ∙ sym (ap (list_any is_free_call) (calls_append c w xs ys)) ∙ none)).1
 
 pub none_freed_from : (c : Config) (w : World) (es : List Event) → FreesNoneFrom c w es
     → FreesNone w.allocations (left_from c w es).allocations
@@ -163,16 +155,15 @@ rests c w (e ∷ es) on idle begins overs =
     let begin = or_parts (is_begin e.step) (has_step is_begin es) begins in
     let over = or_parts (is_over e.step) (has_step is_over es) overs in
     let moves = moves_phase c w e es on in
-    let one = idle_step e.step (subst (λ (n : ℕ). AsksPhase e.step n) idle moves.0) begin.0 over.0 in
-    let next = moves.1 ∙ ap (λ (n : ℕ). phase_behind e.step n) idle ∙ one.0 in
+    let one = idle_step e.step (subst (AsksPhase e.step) idle moves.0) begin.0 over.0 in
+    let next = moves.1 ∙ ap (phase_behind e.step) idle ∙ one.0 in
     let rest = rests c behind es moves.2 next begin.1 over.1 in
     record {
       phase = rest.phase;
       found = found-none c w e es one.1 ∙ rest.found;
       count = no_end-cons e es one.1 ∙ rest.count;
       released =
-          releases_then w.allocations behind.allocations (left_from c behind es).allocations
-          (one_releases_none c w e one.2) rest.released;
+          releases_then (one_releases_none c w e one.2) rest.released;
     }
 
 -- Where a cycle is on, which ends, and none begins, that is the only end.
@@ -190,14 +181,14 @@ pub record IsOn (phase : ℕ) : Type 0 where
   pub least : 1 ≤ phase
   pub most : phase ≤ 4
 
-on_step : (s : Step) (n : ℕ) → AsksPhase s n → IsOn n → is_end s ≡ false → IsOn (phase_behind s n)
-on_step step.Begin n asks on none = record { least = omega arith; most = omega arith }
-on_step step.Want n asks on none = record { least = omega arith; most = omega arith }
-on_step step.Close n asks on none = record { least = omega arith; most = omega arith }
-on_step step.Release n asks on none = record { least = omega arith; most = omega arith }
-on_step step.End n asks on none = cc
-on_step step.Over n asks on none = absurd (omega (arith, on.least))
-on_step _ n asks on none = on
+on_step : (s : Step) {n : ℕ} → AsksPhase s n → IsOn n → is_end s ≡ false → IsOn (phase_behind s n)
+on_step step.Begin asks on none = record { least = omega arith; most = omega arith }
+on_step step.Want asks on none = record { least = omega arith; most = omega arith }
+on_step step.Close asks on none = record { least = omega arith; most = omega arith }
+on_step step.Release asks on none = record { least = omega arith; most = omega arith }
+on_step step.End asks on none = cc
+on_step step.Over asks on none = absurd (omega (arith, on.least))
+on_step _ asks on none = on
 
 end_step : (s : Step) (n : ℕ) → is_end s ≡ true → phase_behind s n ≡ 0
 end_step step.End n is = refl
@@ -206,8 +197,7 @@ end_step _ n is = cc
 pub grows_by : (c : Config) (w : World) (e : Event) → length w.allocations ≤ length (world_behind c w e).allocations
 grows_by c w e = by e.step
   where
-    by : (s : Step) → length w.allocations
-        ≤ length (allocations_by c w.now (flight_of w.now e.seat) s w.allocations)
+    by : (s : Step) → length w.allocations ≤ length (allocations_by c w.now (flight_of w.now e.seat) s w.allocations)
     by step.Grant = omega (arith, length-append w.allocations (granted c w.now (flight_of w.now e.seat) ∷ []))
     by (step.Quar p v) = omega (
       arith,
@@ -262,13 +252,9 @@ pub ends_once : (c : Config) (w : World) (es : List Event) → AreEnabledFrom c 
 ends_once c w [] on phase begins overs frees ends_in = absurd (true≢false (sym ends_in))
 ends_once c w (e ∷ es) on phase begins overs frees ends_in =
     let moves = moves_phase c w e es on in
-    ⊎_elim
-    (λ (is : is_end e.step ≡ true). ends_here c w e es on begins overs frees is)
-    (λ (none : is_end e.step ≡ false).
-    ends_later c w e es on begins overs frees none
-    (ends_once c (world_behind c w e) es moves.2
-    (subst IsOn (sym moves.1) (on_step e.step (phase_of w.now.words) moves.0 phase none))
+    ⊎_elim (ends_here c w e es on begins overs frees)
+    (λ (none : is_end e.step ≡ false). ends_later c w e es on begins overs frees none
+    (ends_once c (world_behind c w e) es moves.2 (subst IsOn (sym moves.1) (on_step e.step moves.0 phase none))
     (or_parts (is_begin e.step) (has_step is_begin es) begins).1
     (or_parts (is_over e.step) (has_step is_over es) overs).1 (free_parts c w e es frees).1
-    (sym (ap (λ (b : Bool). b || has_step is_end es) none) ∙ ends_in)))
-    (cases_Bool (is_end e.step))
+    (sym (ap (λ (b : Bool). b || has_step is_end es) none) ∙ ends_in))) (cases_Bool (is_end e.step))

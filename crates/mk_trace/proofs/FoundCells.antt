@@ -2,52 +2,45 @@
 use Rattle.std.proofs.Common.{◌≡◌, ◌≢◌, ℕ, ◌+◌, ◌*◌, ◌%◌, ◌<◌, ◌≤◌, Bool, true, false, List, refl, sym, ◌∙◌, ap, arith}
 use Rattle.std.specs.Prelude.{not, nat_le, Option, Some, None, option_map, slice_index, if◌then◌else◌}
 use Rattle.std.proofs.lemmas.List.{get_or_past}
-use Rattle.mk_never.specs.NeverHeap.{global_at}
-use Rattle.mk_geom.specs.declared.addresses.Cell.{Cell}
-use Rattle.mk_geom.specs.Addresses.{cell_at, is_heap_address, page_at_address}
-use Rattle.mk_core.specs.declared.config.Config.{Config}
-use Rattle.mk_core.specs.declared.events.Event.{Event}
+use Rattle.mk_trace.proofs.Vocabulary.{Cell, Config, Event, FreedObject, HostOnlyLooks, IsBetweenCycles, IsHistory}
+use Rattle.mk_trace.proofs.Vocabulary.{PlacedAllocation, Words, cell_at, cell_of_allocation, cell_words}
+use Rattle.mk_trace.proofs.Vocabulary.{freed_object_of, global_at, header_at, is_freed, is_heap_address, large_words}
+use Rattle.mk_trace.proofs.Vocabulary.{left, never_behind, phase_of, placed_at, storage_words, unfreed}
+use Rattle.mk_geom.specs.Addresses.{page_at_address}
 use Rattle.mk_core.specs.declared.events.Word.TheVariants as word
-use Rattle.mk_core.specs.Allocations.{PlacedAllocation, cell_of_allocation, placed_at, storage_words}
 use Rattle.mk_core.specs.Bits.{has_bit}
-use Rattle.mk_core.specs.Cells.{cell_words, is_freed, pointed_cell}
-use Rattle.mk_core.specs.History.{IsHistory, left, never_behind}
-use Rattle.mk_core.specs.Words.{Words, header_at, phase_of}
+use Rattle.mk_core.specs.Cells.{pointed_cell}
 use Rattle.mk_core.proofs.WordBits.{no_bit}
 use Rattle.mk_laws.proofs.KnownWorlds.{known_world}
 use Rattle.mk_laws.proofs.InvariantHistories.{histories_keep_the_invariant}
-use Rattle.mk_trace.specs.declared.ledger.FreedObject.{FreedObject}
-use Rattle.mk_trace.specs.Ends.{IsBetweenCycles}
-use Rattle.mk_trace.specs.Freeing.{large_words, unfreed}
-use Rattle.mk_trace.specs.Ledgers.{freed_object_of}
-use Rattle.mk_trace.specs.Looking.{HostOnlyLooks, word_behind}
+use Rattle.mk_trace.specs.Looking.{word_behind}
 use Rattle.mk_trace.proofs.EndsInLists.{leaves_twice}
 use Rattle.mk_trace.proofs.FoundObjects.{PointsToCell, frees_nothing, points_to_cell}
 use Rattle.mk_trace.proofs.LookedTables.{leaves_then}
 
 -- looks, one after the other
 
-pub looks_twice : (c : Config) (es fs gs : List Event) → HostOnlyLooks c es fs → HostOnlyLooks c fs gs
+pub looks_twice : {c : Config} {es fs gs : List Event} → HostOnlyLooks c es fs → HostOnlyLooks c fs gs
     → HostOnlyLooks c es gs
-looks_twice c es fs gs one two = record {
+looks_twice {c} {es} {fs} {gs} one two = record {
   calls = two.calls ∙ one.calls;
-  leaves = leaves_twice c es fs gs one.leaves two.leaves;
+  leaves = leaves_twice one.leaves two.leaves;
   table = leaves_then (left c es) (left c fs) (left c gs) one.table two.table;
   most = λ measure. two.most measure ∙ one.most measure;
   exact = λ before. two.exact (one.exact before);
 }
 
-pub freed_looked : (c : Config) (es fs : List Event) → HostOnlyLooks c es fs → (cell : Cell)
+pub freed_looked : {c : Config} {es fs : List Event} → HostOnlyLooks c es fs → (cell : Cell)
     → is_freed (left c fs).now.words cell ≡ is_freed (left c es).now.words cell
-freed_looked c es fs looks cell = ap (λ (w : Words). is_freed w cell) looks.table.words
+freed_looked looks cell = ap (λ (w : Words). is_freed w cell) looks.table.words
 
-pub pointed_looked : (c : Config) (es fs : List Event) → HostOnlyLooks c es fs → (u : ℕ)
+pub pointed_looked : {c : Config} {es fs : List Event} → HostOnlyLooks c es fs → (u : ℕ)
     → pointed_cell c.pages (left c fs).now.words.pages u ≡ pointed_cell c.pages (left c es).now.words.pages u
-pointed_looked c es fs looks u = ap (λ (w : Words). pointed_cell c.pages w.pages u) looks.table.words
+pointed_looked {c} looks u = ap (λ (w : Words). pointed_cell c.pages w.pages u) looks.table.words
 
-pub header_looked : (c : Config) (es fs : List Event) → HostOnlyLooks c es fs → (p : ℕ)
+pub header_looked : {c : Config} {es fs : List Event} → HostOnlyLooks c es fs → (p : ℕ)
     → header_at (left c fs).now.words p ≡ header_at (left c es).now.words p
-header_looked c es fs looks p = ap (λ (w : Words). header_at w p) looks.table.words
+header_looked looks p = ap (λ (w : Words). header_at w p) looks.table.words
 
 -- what an address points into
 
@@ -103,8 +96,7 @@ module _ (c : Config) (es : List Event) (history : IsHistory c es) where
     out four = omega (arith, four, idle)
 
     pub no_object : None ≡ pointed_cell c.pages w.pages address → None ≡ found
-    no_object none = ap (λ (x : Option ℕ). option_map (freed_object_of c xs) x)
-        (sym (frees_nothing c es history slot (sym none)))
+    no_object none = ap (option_map (freed_object_of c xs)) (sym (frees_nothing c es history slot (sym none)))
 
     module _ (cell : Cell) (points : Some cell ≡ pointed_cell c.pages w.pages address) where
       it : PointsToCell c es history slot cell
@@ -118,7 +110,7 @@ module _ (c : Config) (es : List Event) (history : IsHistory c es) where
       by_bit freed is = it.frees out ∙ ap (λ (b : Bool). if b then None else Some it.number) (sym is)
 
       pub freed_object : true ≡ is_freed w cell → None ≡ found
-      freed_object is = ap (λ (x : Option ℕ). option_map (freed_object_of c xs) x) (sym (by_bit true is))
+      freed_object is = ap (option_map (freed_object_of c xs)) (sym (by_bit true is))
 
       abbrev a : PlacedAllocation
       a = placed_at xs it.number
@@ -137,13 +129,12 @@ module _ (c : Config) (es : List Event) (history : IsHistory c es) where
             cell = cell_of_allocation c a;
             storage = storage_words c a;
             reserved = n;
-          }) reserved
-          ∙ ap (λ (n : ℕ). record (freed_object_of c xs it.number) { age = n }) young
+          }) reserved ∙ ap (λ (n : ℕ). record (freed_object_of c xs it.number) { age = n }) young
 
       pub unfreed_object : (object : FreedObject) → false ≡ is_freed w cell → object.cell ≡ cell
           → object.storage ≡ cell_words w cell
           → object.reserved ≡ (if not (nat_le object.storage 32) then object.storage else 0) → object.age ≡ 0
           → Some object ≡ found
       unfreed_object object is at words large young =
-          ap (λ (x : FreedObject). Some x) (same_object object at words large young)
-          ∙ ap (λ (x : Option ℕ). option_map (freed_object_of c xs) x) (sym (by_bit false is))
+          ap Some (same_object object at words large young)
+          ∙ ap (option_map (freed_object_of c xs)) (sym (by_bit false is))

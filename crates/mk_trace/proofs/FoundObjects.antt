@@ -3,26 +3,19 @@ use Rattle.std.proofs.Common.{◌≡◌, ◌≢◌, ⊎_elim, inl, inr, ℕ, ◌
 use Rattle.std.proofs.Common.{refl, subst, arith}
 use Rattle.std.specs.Prelude.{not, nat_le, Some, None, slice_index, if◌then◌else◌}
 use Rattle.std.proofs.lemmas.Bool.{cases_Bool, eqb-true, false_from_ne_true, true≢false}
-use Rattle.mk_never.specs.declared.types.Kind.{Kind}
-use Rattle.mk_never.specs.declared.values.Value.{Value}
-use Rattle.mk_never.specs.declared.values.Value.TheVariants.{Null, Num, Ptr}
-use Rattle.mk_never.specs.NeverHeap.{NeverState, allocation_at, global_at}
+use Rattle.std.proofs.Math.ListN.{get_or-map as get_or-map-default}
+use Rattle.mk_trace.proofs.Vocabulary.{AreLater, Cell, Config, Event, IsHistory, IsSound, Kind, NeverState, Null, Num}
+use Rattle.mk_trace.proofs.Vocabulary.{PlacedAllocation, Ptr, Value, Words, address_of, allocation_at}
+use Rattle.mk_trace.proofs.Vocabulary.{cell_of_allocation, cell_words, global_at, is_freed, is_large, is_phase}
+use Rattle.mk_trace.proofs.Vocabulary.{kinds_of, left, never_behind, never_granted, phase_of, placed_at, storage_words}
+use Rattle.mk_trace.proofs.Vocabulary.{unfreed}
 use Rattle.mk_never.specs.Reach.{LeadsTo}
 use Rattle.mk_never.specs.Reach.IsReachable.{by_global}
-use Rattle.mk_never.specs.Typed.{IsPlaceIn, IsSound}
-use Rattle.mk_never.specs.Types.{kinds_of, is_large}
-use Rattle.mk_geom.specs.declared.addresses.Cell.{Cell}
-use Rattle.mk_geom.specs.Addresses.{address_of}
+use Rattle.mk_never.specs.Typed.{IsPlaceIn}
 use Rattle.mk_geom.specs.StorageWords.{IsWordOf}
-use Rattle.std.proofs.Math.ListN.{get_or-map as get_or-map-default}
-use Rattle.mk_core.specs.declared.config.Config.{Config}
-use Rattle.mk_core.specs.declared.events.Event.{Event}
-use Rattle.mk_core.specs.Allocations.{PlacedAllocation, cell_of_allocation, placed_at, never_granted, storage_of}
-use Rattle.mk_core.specs.Allocations.{storage_words}
-use Rattle.mk_core.specs.Cells.{is_freed, cell_words, pointed_cell}
-use Rattle.mk_core.specs.History.{IsHistory, left, bases_of, never_behind}
-use Rattle.mk_core.specs.Moments.{is_phase}
-use Rattle.mk_core.specs.Words.{Words, phase_of}
+use Rattle.mk_core.specs.Allocations.{storage_of}
+use Rattle.mk_core.specs.Cells.{pointed_cell}
+use Rattle.mk_core.specs.History.{bases_of}
 use Rattle.mk_core.specs.StandingAllocations.{object_placed}
 use Rattle.mk_core.specs.Image.{image_of}
 use Rattle.mk_core.proofs.PointedAllocations.{word_points}
@@ -36,7 +29,6 @@ use Rattle.mk_laws.specs.SettledPages.{StandsUsed}
 use Rattle.mk_laws.specs.Mirrors.{Mirrors}
 use Rattle.mk_laws.proofs.ImagesKept.{exists_placed}
 use Rattle.mk_laws.proofs.InvariantTheorems.{allocations_stand, reach_is_kept}
-use Rattle.mk_trace.specs.Freeing.{AreLater, unfreed}
 
 -- Freed bits between calls: those of the allocations that are freed and unreleased, and no others.
 
@@ -62,8 +54,7 @@ module _ (c : Config) (es : List Event) (history : IsHistory c es) (out : phase_
 
   pub owner : (cell : Cell) → is_freed shown cell ≡ true → IsFreedCell c placed cell.page cell.index
   owner cell is =
-      ⊎_elim
-      (λ (x : IsFreedCell c placed cell.page cell.index). x)
+      ⊎_elim (λ (x : IsFreedCell c placed cell.page cell.index). x)
       (λ (x : is_released_in (is_phase shown 4) shown.snapshot shown.marks cell.page cell.index ≡ true).
       absurd (true≢false (sym x
       ∙ ap (λ (b : Bool). is_released_in b shown.snapshot shown.marks cell.page cell.index) not_releasing)))
@@ -80,8 +71,7 @@ module _ (c : Config) (es : List Event) (history : IsHistory c es) (out : phase_
         let same : i ≡ x.number =
         unreleased_are_apart c es (histories_keep_the_invariant c es history).order.laid i x.number unreleased
         x.unreleased (sym x.cell) in
-        true≢false (sym x.freed ∙ ap (λ (k : ℕ). (placed_at placed k).freed) (sym same) ∙ unfreed)))
-        ∙ sym unfreed
+        true≢false (sym x.freed ∙ ap (λ (k : ℕ). (placed_at placed k).freed) (sym same) ∙ unfreed))) ∙ sym unfreed
   ]
 
 -- What was unreleased before, and is freed after a call: its bit says whether it is released by then.
@@ -89,15 +79,13 @@ module _ (c : Config) (es fs : List Event) (before : IsHistory c es) (behind : I
     (later : AreLater (left c es).allocations (left c fs).allocations)
     (old : (j : ℕ) → (placed_at (left c fs).allocations j).freed ≡ true → j < length (left c es).allocations)
     (out : phase_of (left c fs).now.words ≢ 4) where
-  was_unreleased : (j : ℕ) → j < length (left c es).allocations
-      → (placed_at (left c fs).allocations j).released ≡ false
+  was_unreleased : (j : ℕ) → j < length (left c es).allocations → (placed_at (left c fs).allocations j).released ≡ false
       → (placed_at (left c es).allocations j).released ≡ false
   was_unreleased j lt unreleased =
       false_from_ne_true (placed_at (left c es).allocations j).released (λ is.
       true≢false (sym (later.released j lt is) ∙ unreleased))
 
-  same_cell : (j : ℕ) → j < length (left c es).allocations
-      → cell_of_allocation c (placed_at (left c fs).allocations j)
+  same_cell : (j : ℕ) → j < length (left c es).allocations → cell_of_allocation c (placed_at (left c fs).allocations j)
       ≡ cell_of_allocation c (placed_at (left c es).allocations j)
   same_cell j lt =
       cell_by c (placed_at (left c fs).allocations j) (placed_at (left c es).allocations j) (later.base j lt)
@@ -108,8 +96,7 @@ module _ (c : Config) (es fs : List Event) (before : IsHistory c es) (behind : I
       → is_freed (left c fs).now.words (cell_of_allocation c (placed_at (left c es).allocations i))
       ≡ not (placed_at (left c fs).allocations i).released
   bit_tells_released i unreleased freed = elim (cases_Bool (placed_at (left c fs).allocations i).released) [
-    | inr still ↦
-        ap (λ (cell : Cell). is_freed (left c fs).now.words cell) (sym (same_cell i (old i freed)))
+    | inr still ↦ ap (is_freed (left c fs).now.words) (sym (same_cell i (old i freed)))
         ∙ bit_tells_freed c fs behind out i still ∙ freed ∙ ap (λ (b : Bool). not b) (sym still)
     | inl gone ↦
         false_from_ne_true _ (λ is.
@@ -146,7 +133,7 @@ module _ (c : Config) (es : List Event) (history : IsHistory c es) (slot : ℕ) 
   -- It points to an allocation.
   module _ (number ty offset : ℕ) (points : global_at n slot ≡ Ptr number ty offset) where
     sound_pointer : IsSound n (Ptr number ty offset)
-    sound_pointer = subst (λ (v : Value). IsSound n v) points sound
+    sound_pointer = subst (IsSound n) points sound
 
     abbrev a : PlacedAllocation
     a = placed_at xs number
@@ -182,13 +169,12 @@ module _ (c : Config) (es : List Event) (history : IsHistory c es) (slot : ℕ) 
 
     image_is : slice_index w.globals slot ≡ address_of (a.base + offset)
     image_is =
-        shows_image ∙ ap (λ (v : Value). image_of (bases_of xs) v) points
-        ∙ ap (λ (base : ℕ). address_of (base + offset))
+        shows_image ∙ ap (image_of (bases_of xs)) points ∙ ap (λ (base : ℕ). address_of (base + offset))
         (get_or-map-default (λ (x : PlacedAllocation). x.base) xs number never_granted)
 
     pub points_into : pointed_cell c.pages w.pages (slice_index w.globals slot) ≡ Some (cell_of_allocation c a)
     points_into =
-        ap (λ (u : ℕ). pointed_cell c.pages w.pages u) image_is
+        ap (pointed_cell c.pages w.pages) image_is
         ∙ word_points c w a history.within_limits stands.stands stands.headers (a.base + offset) is_word
 
     pub words_shown : cell_words w (cell_of_allocation c a) ≡ storage_words c a
@@ -208,8 +194,7 @@ module _ (c : Config) (es : List Event) (history : IsHistory c es) (slot : ℕ) 
 
     pub large_shown : is_large (kinds_of c.types a.ty) ≡ not (nat_le (storage_words c a) 32)
     large_shown =
-        large_is_not_small (kinds_of c.types a.ty)
-        ∙ ap (λ (b : Bool). not b)
+        large_is_not_small (kinds_of c.types a.ty) ∙ ap (λ (b : Bool). not b)
         (sym (words_are_small (object_placed c a) (typed_size c a history.within_limits stands.stands.typed)))
 
   -- What a global points to, where it points into a cell; it frees that, or nothing.
@@ -225,14 +210,14 @@ module _ (c : Config) (es : List Event) (history : IsHistory c es) (slot : ℕ) 
 
   null_nowhere : slice_index w.globals slot ≡ 0 → pointed_cell c.pages w.pages (slice_index w.globals slot) ≡ None
   unfolding pointed_cell
-  null_nowhere null = ap (λ (u : ℕ). pointed_cell c.pages w.pages u) null
+  null_nowhere null = ap (pointed_cell c.pages w.pages) null
 
   by_value : (v : Value) → global_at n slot ≡ v → (cell : Cell)
       → pointed_cell c.pages w.pages (slice_index w.globals slot) ≡ Some cell → PointsToCell cell
   by_value Null is cell found =
-      let none = null_nowhere (shows_image ∙ ap (λ (v : Value). image_of (bases_of xs) v) is) in
+      let none = null_nowhere (shows_image ∙ ap (image_of (bases_of xs)) is) in
       let both : None ≡ Some cell = sym none ∙ found in absurd cc
-  by_value (Num m) is cell found = absurd (subst (λ (v : Value). IsSound n v) is sound)
+  by_value (Num m) is cell found = absurd (subst (IsSound n) is sound)
   by_value (Ptr number ty offset) is cell found =
       let both : Some (cell_of_allocation c (placed_at xs number)) ≡ Some cell =
       sym (points_into number ty offset is) ∙ found in
@@ -241,12 +226,10 @@ module _ (c : Config) (es : List Event) (history : IsHistory c es) (slot : ℕ) 
         number = number;
         is_cell = sym same;
         within = subst (λ (x : Cell). x.page < c.pages) same (page_within number ty offset is);
-        words = ap (λ (x : Cell). cell_words w x) (sym same) ∙ words_shown number ty offset is;
+        words = ap (cell_words w) (sym same) ∙ words_shown number ty offset is;
         large = large_shown number ty offset is;
-        frees = λ out.
-            ap (λ (v : Value). unfreed n v) is
-            ∙ ap (λ (b : Bool). if b then None else Some number)
-            (sym (freed_shown number ty offset is out) ∙ ap (λ (x : Cell). is_freed w x) same);
+        frees = λ out. ap (unfreed n) is ∙ ap (λ (b : Bool). if b then None else Some number)
+            (sym (freed_shown number ty offset is out) ∙ ap (is_freed w) same);
       }
 
   pub points_to_cell : (cell : Cell) → pointed_cell c.pages w.pages (slice_index w.globals slot) ≡ Some cell
@@ -255,8 +238,8 @@ module _ (c : Config) (es : List Event) (history : IsHistory c es) (slot : ℕ) 
 
   nowhere_by : (v : Value) → global_at n slot ≡ v
       → pointed_cell c.pages w.pages (slice_index w.globals slot) ≡ None → unfreed n (global_at n slot) ≡ None
-  nowhere_by Null is none = ap (λ (v : Value). unfreed n v) is
-  nowhere_by (Num m) is none = ap (λ (v : Value). unfreed n v) is
+  nowhere_by Null is none = ap (unfreed n) is
+  nowhere_by (Num m) is none = ap (unfreed n) is
   nowhere_by (Ptr number ty offset) is none =
       let both : None ≡ Some (cell_of_allocation c (placed_at xs number)) =
       sym none ∙ points_into number ty offset is in absurd cc

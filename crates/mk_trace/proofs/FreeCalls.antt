@@ -2,27 +2,16 @@
 use Rattle.std.proofs.Common.{◌≡◌, ℕ, Bool, true, false, refl, ◌∙◌, ap}
 use Rattle.std.specs.Prelude.{◌&&◌, ◌||◌, not, Option, Some, None, is_some, if◌then◌else◌}
 use Rattle.std.specs.List.{list_any}
-use Rattle.mk_never.specs.declared.operations.Op.{Op}
+use Rattle.mk_trace.proofs.Vocabulary.{Answer, Caller, Cell, Config, Decided, Flight, Host, Marker, Moment, Op, Seat}
+use Rattle.mk_trace.proofs.Vocabulary.{Stage, Step, call_decided, cell_freed, decides_freed, entry_of, flagged}
+use Rattle.mk_trace.proofs.Vocabulary.{flight_of, is_phase, pointed_cell}
 use Rattle.mk_never.specs.declared.operations.Op.TheVariants as op
-use Rattle.mk_geom.specs.declared.addresses.Cell.{Cell}
-use Rattle.mk_core.specs.declared.config.Config.{Config}
 use Rattle.mk_core.specs.declared.events.Answer.TheVariants as answer
-use Rattle.mk_core.specs.declared.events.Seat.{Seat}
-use Rattle.mk_core.specs.declared.events.Seat.TheVariants.{Caller, Host, Marker}
-use Rattle.mk_core.specs.declared.events.Step.{Step}
 use Rattle.mk_core.specs.declared.events.Step.TheVariants as step
-use Rattle.mk_core.specs.declared.seats.Flight.{Flight}
-use Rattle.mk_core.specs.declared.seats.Stage.{Stage}
 use Rattle.mk_core.specs.declared.seats.Stage.TheVariants as stage
-use Rattle.mk_core.specs.Counts.{decides_freed}
-use Rattle.mk_core.specs.Decided.{Decided, entry_of, flagged}
 use Rattle.mk_core.specs.Effects.{progress_freed}
-use Rattle.mk_core.specs.History.{call_decided}
-use Rattle.mk_core.specs.Cells.{pointed_cell}
-use Rattle.mk_core.specs.Moments.{Moment, flight_of, is_phase}
 use Rattle.mk_core.specs.NewPlaces.{is_free_at, is_undecided_free, target}
-use Rattle.mk_core.specs.TurnConditions.{cell_freed, frees}
-use Rattle.mk_core.specs.declared.events.Answer.{Answer}
+use Rattle.mk_core.specs.TurnConditions.{frees}
 
 abbrev pub is_free : Op → Bool
 is_free (op.Free p) = true
@@ -50,8 +39,7 @@ freed_by_free : (c : Config) (m : Moment) (f : Flight) (p v : ℕ) → is_some (
 freed_by_free c m f p v some =
     let target_some = (some_by_test
     (not (is_phase m.words 4) && frees m.words (target c.pages m.words f) p v) (target c.pages m.words f) some).1 in
-    frees_at f.stage f.op
-    (some_by_test (is_undecided_free f) (pointed_cell c.pages m.words.pages f.p) target_some).0
+    frees_at f.stage f.op (some_by_test (is_undecided_free f) (pointed_cell c.pages m.words.pages f.p) target_some).0
 
 decided_by_cell : (k : ℕ) (f : Flight) (cell : Option Cell) → is_some cell ≡ true → is_free f.op ≡ true
     → list_any is_free_call (entry_of k f.op (progress_freed f cell).answer) ≡ true

@@ -4,35 +4,23 @@ use Rattle.std.proofs.Common.{inl, inr, true, append_assoc, max, ◌∷◌, []}
 use Rattle.std.specs.Prelude.{◌||◌, Some}
 use Rattle.std.specs.List.{list_any}
 use Rattle.std.proofs.lemmas.Bool.{true≢false, cases_Bool}
-use Rattle.mk_never.specs.declared.operations.Op.{Op}
+use Rattle.mk_trace.proofs.Vocabulary.{Answer, AreLater, CallerIsHome, Calls, Config, Decided, EndsTell, Event}
+use Rattle.mk_trace.proofs.Vocabulary.{FlagsBehind, FlagsBehindCall, HoldsMostAtEnd, HostState, IsHistory}
+use Rattle.mk_trace.proofs.Vocabulary.{IsMostWhereFreed, LeavesAllocations, NeverState, Op, PassState, PlacedAllocation}
+use Rattle.mk_trace.proofs.Vocabulary.{QuarantinesMostWhereFreed, Step, WordsState, World, after_calls, after_free}
+use Rattle.mk_trace.proofs.Vocabulary.{allocation_at, asked, calls_from, decides_freed, entry_of, first_world}
+use Rattle.mk_trace.proofs.Vocabulary.{flight_of, freed_words, greatest, has_step, is_begin, is_of_cycle, is_release}
+use Rattle.mk_trace.proofs.Vocabulary.{is_under_turn, left, never_behind, number_freed, placed_at, quarantined_words}
+use Rattle.mk_trace.proofs.Vocabulary.{register_at, reserved_words, unflagged, world_behind}
 use Rattle.mk_never.specs.declared.operations.Op.TheVariants as op
-use Rattle.mk_never.specs.NeverHeap.{NeverState, after_calls, after_free, allocation_at, register_at}
 use Rattle.mk_never.specs.Reach.IsReachable.{by_register}
-use Rattle.mk_core.specs.declared.config.Config.{Config}
-use Rattle.mk_core.specs.declared.events.Answer.{Answer}
-use Rattle.mk_core.specs.declared.events.Event.{Event}
-use Rattle.mk_core.specs.Allocations.{PlacedAllocation, placed_at}
-use Rattle.mk_core.specs.Decided.{Decided, asked, entry_of}
-use Rattle.mk_core.specs.History.{IsHistory, World, calls_from, left, never_behind, first_world, world_behind}
 use Rattle.mk_core.proofs.HistoryParts.{earlier_part_is_history, left_in_parts, never_in_parts}
-use Rattle.mk_core.specs.declared.events.Step.{Step}
 use Rattle.mk_core.specs.declared.events.Step.TheVariants as step
-use Rattle.mk_core.specs.Counts.{decides_freed}
-use Rattle.mk_core.specs.Cycles.{is_begin, is_release}
-use Rattle.mk_core.specs.Moments.{flight_of}
-use Rattle.mk_core.specs.Calls.{is_under_turn}
 use Rattle.mk_laws.proofs.ImagesKept.{exists_placed}
 use Rattle.mk_laws.proofs.InvariantTheorems.{reach_is_kept}
 use Rattle.mk_alloc.proofs.ListParts.{none_at, lacks_append}
-use Rattle.mk_words.specs.States.{PassState, WordsState}
-use Rattle.mk_alloc.specs.TurnCycles.{FreeIsExact, FreesFirst, IsDueIn, has_step, is_of_cycle}
-use Rattle.mk_heap.specs.Hosts.{HostState}
-use Rattle.mk_run.specs.Scripts.{unflagged}
-use Rattle.mk_trace.specs.Freeing.{AreLater, FlagsBehind, number_freed, FlagsBehindCall, IsMostWhereFreed}
-use Rattle.mk_trace.specs.Freeing.{QuarantinesMostWhereFreed, freed_words}
-use Rattle.mk_trace.specs.Calls.{Calls, CallerIsHome, HoldsMostAtEnd}
-use Rattle.mk_trace.specs.Peaks.{greatest, greatest_from, quarantined_words, reserved_words}
-use Rattle.mk_trace.specs.Ends.{EndsTell, LeavesAllocations}
+use Rattle.mk_alloc.specs.TurnCycles.{FreeIsExact, FreesFirst, IsDueIn}
+use Rattle.mk_trace.specs.Peaks.{greatest_from}
 use Rattle.mk_trace.proofs.FlagSteps.{is_freed_behind, is_freed_there, others_kept, points_there, twins, was_unfreed}
 use Rattle.mk_trace.proofs.FlagSteps.{later_left}
 use Rattle.mk_trace.proofs.FreeCalls.{flagged_free, is_free, is_free_call}
@@ -64,17 +52,13 @@ module _ (c : Config) (es more : List Event) (whole : IsHistory c (es ++ more)) 
   none_by n (op.Free p) other i is = true≢false other
   none_by n o other i is = absurd cc
 
-  flags_of_other : (o : Op) (a : Answer) → is_free o ≡ false
-      → calls_from c (left c es) more ≡ entry_of 0 o (Some a)
+  flags_of_other : (o : Op) (a : Answer) → is_free o ≡ false → calls_from c (left c es) more ≡ entry_of 0 o (Some a)
       → FlagsBehind xs ys (number_freed (never_behind c es) o)
   flags_of_other o a other one = record {
     later = later;
-    kept = λ i out.
-        ap (λ (w : World). (placed_at w.allocations i).freed) (left_in_parts c es more)
+    kept = λ i out. ap (λ (w : World). (placed_at w.allocations i).freed) (left_in_parts c es more)
         ∙ none_freed_from c (left c es) more
-        (ap (λ (l : List Decided). list_any is_free_call l) one
-        ∙ ap (λ (b : Bool). b || false) (flagged_free o a ∙ other))
-        i;
+        (ap (list_any is_free_call) one ∙ ap (λ (b : Bool). b || false) (flagged_free o a ∙ other)) i;
     frees = λ i is. absurd (none_by (never_behind c es) o other i is);
   }
 
@@ -87,10 +71,10 @@ module _ (c : Config) (es more : List Event) (whole : IsHistory c (es ++ more)) 
       let never : never_behind c (es ++ more) ≡ after_free n v =
       never_in_parts c es more ∙ ap (λ (l : List Decided). after_calls n (asked l)) one in
       let there : (i : ℕ) → (placed_at ys i).freed ≡ (allocation_at (after_free n v) i).freed =
-      λ i. is_freed_there c (es ++ more) whole i ∙ ap (λ (m : NeverState). (allocation_at m i).freed) never in
+      λ i. is_freed_there whole i ∙ ap (λ (m : NeverState). (allocation_at m i).freed) never in
       record {
         later = later;
-        kept = λ i out. there i ∙ others_kept n v i out ∙ sym (is_freed_there c es before i);
+        kept = λ i out. there i ∙ others_kept n v i out ∙ sym (is_freed_there before i);
         frees = λ i is.
             (let unreleased : (placed_at xs i).released ≡ false =
             reach_is_kept c es before i (by_register (8 * 0 + r) i (points_there n v i is)) in
@@ -98,8 +82,8 @@ module _ (c : Config) (es more : List Event) (whole : IsHistory c (es ++ more)) 
             record {
               exists = lt;
               unreleased = unreleased;
-              before = is_freed_there c es before i ∙ was_unfreed n v i is;
-              behind = there i ∙ is_freed_behind n v i is (omega (arith, lt, (twins c es before).count));
+              before = is_freed_there before i ∙ was_unfreed n v i is;
+              behind = there i ∙ is_freed_behind n v i is (omega (arith, lt, (twins before).count));
             });
       }
 
@@ -148,7 +132,7 @@ module _ {on : Bool} {h : HostState} {o : Op} {told : Answer} {q : PassState} {f
         none_before = lacks_append is_release prior d.before none_prior (releases_none d.before first.no_cycle);
         decides =
             subst (λ (w : World). decides_freed config w.now (flight_of w.now d.event.seat) d.event.step ≡ true)
-            (ap (λ (l : List Event). left config l) (within_is turn d.before)) d.due.decides;
+            (ap (left config) (within_is turn d.before)) d.due.decides;
       }
 
   -- A cycle begins in the turn, after what frees, or nothing is released.
@@ -156,12 +140,11 @@ module _ {on : Bool} {h : HostState} {o : Op} {told : Answer} {q : PassState} {f
   releases_late = elim (cases_Bool (has_step is_begin part)) [
     | inl begins ↦ inr (frees_before (is_exact.first (is_exact.begins.0 (first_at is_begin part begins).at)))
     | inr none ↦
-        inl (ap (λ (l : List Event). has_step is_release l) (in_parts j (op.Free r) turn)
+        inl (ap (has_step is_release) (in_parts j (op.Free r) turn)
         ∙ lacks_append is_release prior (part ++ give) none_prior
         (lacks_append is_release part give
         (releases_none part (is_exact.undue
-        (λ (due : IsDueIn turn.ends.turn). none_at is_begin part none (is_exact.begins.1 due))))
-        refl))
+        (λ (due : IsDueIn turn.ends.turn). none_at is_begin part none (is_exact.begins.1 due)))) refl))
   ]
 
 -- What is quarantined over a call of the caller: the most is that before, or where a Free has freed its object.
@@ -174,12 +157,11 @@ unfolding greatest_from
 greatest_alike c f g same w [] = same w.allocations
 greatest_alike c f g same w (e ∷ es) =
     ap (λ (n : ℕ). max n (greatest_from c (world_behind c w e) f es)) (same w.allocations)
-    ∙ ap (λ (n : ℕ). max (g w.allocations) n) (greatest_alike c f g same (world_behind c w e) es)
+    ∙ ap (max (g w.allocations)) (greatest_alike c f g same (world_behind c w e) es)
 
 in_other_words : (c : Config) (measure : List PlacedAllocation → ℕ) (weight : ℕ → ℕ)
     → ((xs : List PlacedAllocation) → measure xs ≡ weighed weight xs) → (es : List Event) (o : Op) (fs : List Event)
-    → MostWhereFreed weight c es o fs
-    → IsMostWhereFreed c measure (λ (a : PlacedAllocation). weight a.ty) es o fs
+    → MostWhereFreed weight c es o fs → IsMostWhereFreed c measure (λ (a : PlacedAllocation). weight a.ty) es o fs
 in_other_words c measure weight same es o fs most =
     greatest_alike c measure (weighed weight) same (first_world c) fs ∙ most
     ∙ ap (λ (n : ℕ). max n (weighed weight (left c es).allocations
@@ -205,21 +187,20 @@ module _ {on : Bool} {h : HostState} {o : Op} {told : Answer} {q : PassState} {f
   es = h.pass.seen
 
   most_by : (weight : ℕ → ℕ) (x : Op) (said : Answer) → (is_under_turn x ≡ true → InTurn j (unflagged x))
-      → calls_from c (left c es) j.own.more ≡ entry_of 0 x (Some said)
-      → MostWhereFreed weight c es x (es ++ j.own.more)
+      → calls_from c (left c es) j.own.more ≡ entry_of 0 x (Some said) → MostWhereFreed weight c es x (es ++ j.own.more)
   most_by weight (op.Free r) said in_turn one =
-      free_most weight c es j.own.more r said (whole j) one (releases_late j r (in_turn refl))
+      free_most weight es j.own.more r said (whole j) one (releases_late j r (in_turn refl))
   most_by weight x said in_turn one = no_more_without_free weight c es j.own.more x said one refl
 
   pub quarantined_meanwhile : Calls c es o told fs → QuarantinesMostWhereFreed c es o fs
   quarantined_meanwhile made =
-      subst (λ (l : List Event). QuarantinesMostWhereFreed c es o l) (sym j.own.is)
+      subst (QuarantinesMostWhereFreed c es o) (sym j.own.is)
       (quarantines_most c es o (es ++ j.own.more)
       (λ weight. most_by weight o made.answer j.answers.in_turn (decided j made)))
 
   pub flagged_behind : Calls c es o told fs → FlagsBehindCall c es o fs
   flagged_behind made =
-      subst (λ (l : List Event). FlagsBehindCall c es o l) (sym j.own.is)
+      subst (FlagsBehindCall c es o) (sym j.own.is)
       (flags_behind c es j.own.more (whole j) o made.answer (decided j made))
 
 -- All that a call of the one caller does.
@@ -234,7 +215,7 @@ pub record Does (on : Bool) (c : Config) (es : List Event) (o : Op) (told : Answ
 pub call_does : {on : Bool} {h : HostState} {o : Op} {told : Answer} {q : PassState} {fs : List Event}
     (w : WordsState) → CallerIsHome w h → Joined on h o told q fs → Does on w.config h.pass.seen o told fs
 call_does {on} {h} {o} {told} {q} {fs} w home j =
-    let made = called j (callers_at_home w h home) in
+    let made = called j (callers_at_home home) in
     subst (λ (x : WordsState). Does on x.config h.pass.seen o told fs) home.table (record {
       calls = made;
       held = held_at_end j made;

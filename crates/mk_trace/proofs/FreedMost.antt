@@ -5,38 +5,22 @@ use Rattle.std.specs.Prelude.{◌&&◌, ◌||◌, not, Option, if◌then◌else�
 use Rattle.std.specs.List.{list_any}
 use Rattle.std.proofs.lemmas.Bool.{or_parts, true≢false}
 use Rattle.std.proofs.lemmas.List.Sums.{sum_by-cons, sum_by-append}
-use Rattle.mk_never.specs.declared.operations.Op.{Op}
+use Rattle.mk_trace.proofs.Vocabulary.{Answer, AreLater, Cell, Config, Decided, Event, Flight, IsHistory, Moment}
+use Rattle.mk_trace.proofs.Vocabulary.{NeverState, Op, PlacedAllocation, Step, Value, Words, World, address_of}
+use Rattle.mk_trace.proofs.Vocabulary.{after_calls, after_free, allocations_by, asked, call_decided, cell_freed}
+use Rattle.mk_trace.proofs.Vocabulary.{decides_freed, entry_of, first_world, flight_of, freed_where_it_stands, granted}
+use Rattle.mk_trace.proofs.Vocabulary.{greatest, has_step, is_left_unmarked, is_release, is_some_and, left}
+use Rattle.mk_trace.proofs.Vocabulary.{never_behind, no_longer_fresh, number_freed, pointed_cell, register_at}
+use Rattle.mk_trace.proofs.Vocabulary.{stands_in, unfreed, with_released, words_of_some, world_behind}
 use Rattle.mk_never.specs.declared.operations.Op.TheVariants as op
-use Rattle.mk_never.specs.declared.values.Value.{Value}
-use Rattle.mk_never.specs.NeverHeap.{NeverState, after_calls, after_free, register_at}
 use Rattle.mk_never.specs.Reach.{IsReachable}
 use Rattle.mk_never.specs.Reach.IsReachable.{by_register}
-use Rattle.mk_geom.specs.declared.addresses.Cell.{Cell}
-use Rattle.mk_geom.specs.Addresses.{address_of}
-use Rattle.mk_core.specs.declared.config.Config.{Config}
-use Rattle.mk_core.specs.declared.events.Event.{Event}
-use Rattle.mk_core.specs.declared.events.Step.{Step}
 use Rattle.mk_core.specs.declared.events.Step.TheVariants as step
-use Rattle.mk_core.specs.declared.seats.Flight.{Flight}
-use Rattle.mk_core.specs.Allocations.{PlacedAllocation, allocations_by, freed_where_it_stands, granted, no_longer_fresh}
-use Rattle.mk_core.specs.Allocations.{stands_in, with_released}
-use Rattle.mk_core.specs.Bounded.{is_some_and}
-use Rattle.mk_core.specs.Cells.{is_left_unmarked, pointed_cell}
-use Rattle.mk_core.specs.Cycles.{is_release}
-use Rattle.mk_core.specs.History.{World, left_from, world_behind, IsHistory, call_decided, calls_from, first_world}
-use Rattle.mk_core.specs.History.{left, never_behind}
-use Rattle.mk_core.specs.Moments.{Moment, flight_of}
-use Rattle.mk_core.specs.TurnConditions.{cell_freed}
-use Rattle.mk_core.specs.Words.{Words}
-use Rattle.mk_core.specs.Counts.{decides_freed}
-use Rattle.mk_core.specs.declared.events.Answer.{Answer}
-use Rattle.mk_core.specs.Decided.{Decided, asked, entry_of}
+use Rattle.mk_core.specs.History.{left_from, calls_from}
 use Rattle.mk_core.proofs.Histories.{calls_append}
 use Rattle.mk_core.proofs.HistoryParts.{earlier_part_is_history, left_in_parts, never_in_parts}
-use Rattle.mk_alloc.specs.TurnCycles.{has_step}
 use Rattle.mk_alloc.proofs.ListParts.{lacks_one, lacks_append}
-use Rattle.mk_trace.specs.Peaks.{greatest_from, greatest}
-use Rattle.mk_trace.specs.Freeing.{number_freed, unfreed, words_of_some, AreLater}
+use Rattle.mk_trace.specs.Peaks.{greatest_from}
 use Rattle.mk_trace.proofs.FreedWords.{part, weighed, sum_falls, sum_rises, freed_adds}
 use Rattle.mk_trace.proofs.FlagSteps.{unfreed_all, points_there, SameReleased, later_left, same_released}
 use Rattle.mk_trace.proofs.FoundByEnds.{FreesNoneFrom, free_parts}
@@ -81,12 +65,10 @@ module _ (weight : ℕ → ℕ) where
       → decides_freed c m f s ≡ false → weighed weight (allocations_by c m f s xs) ≤ weighed weight xs
   step_falls c m f step.Grant xs none = let same = grant_adds_none c m f xs in omega arith
   step_falls c m f (step.Quar p v) xs none =
-      let same = ap (λ (l : List PlacedAllocation). weighed weight l)
-      (unfreed_all m.words (cell_freed c.pages m.words f p v) xs none) in
+      let same = ap (weighed weight) (unfreed_all m.words (cell_freed c.pages m.words f p v) xs none) in
       omega arith
   step_falls c m f step.Begin xs none = sum_falls (part weight) no_longer_fresh (λ a. omega arith) xs
-  step_falls c m f step.Release xs none =
-      sum_falls (part weight) (with_released c m.words) (release_falls c m.words) xs
+  step_falls c m f step.Release xs none = sum_falls (part weight) (with_released c m.words) (release_falls c m.words) xs
   step_falls c m f s xs none = omega arith
 
   step_rises : (c : Config) (m : Moment) (f : Flight) (s : Step) (xs : List PlacedAllocation) → is_release s ≡ false
@@ -164,10 +146,9 @@ module _ (weight : ℕ → ℕ) (c : Config) (es more : List Event) (o : Op) (a 
       let parts = from-append c (weighed weight) (first_world c) es more in
       let last = last_below c (weighed weight) (first_world c) es in
       let falls = falls_without_free weight c (left c es) more
-      (ap (λ (l : List Decided). list_any is_free_call l) one
-      ∙ ap (λ (b : Bool). b || false) (flagged_free o a ∙ other)) in
+      (ap (list_any is_free_call) one ∙ ap (λ (b : Bool). b || false) (flagged_free o a ∙ other)) in
       let none : freed_weight weight c es o ≡ 0 =
-      ap (λ (x : Option ℕ). words_of_some (λ (y : PlacedAllocation). weight y.ty) (left c es).allocations x)
+      ap (words_of_some (λ (y : PlacedAllocation). weight y.ty) (left c es).allocations)
       (frees_nothing (never_behind c es) o other) in
       omega arith
 
@@ -178,15 +159,12 @@ module _ (weight : ℕ → ℕ) (c : Config) (es more : List Event) (r : ℕ) (a
   value = register_at (never_behind c es) 0 r
 
   never : never_behind c (es ++ more) ≡ after_free (never_behind c es) value
-  never =
-      never_in_parts c es more
-      ∙ ap (λ (l : List Decided). after_calls (never_behind c es) (asked l)) one
+  never = never_in_parts c es more ∙ ap (λ (l : List Decided). after_calls (never_behind c es) (asked l)) one
 
   reached : (number : ℕ) → unfreed (never_behind c es) value ≡ Some number → IsReachable (never_behind c es) number
   reached number is = by_register (8 * 0 + r) number (points_there (never_behind c es) value number is)
 
-  adds : has_step is_release more ≡ false
-      → weighed weight (left c (es ++ more)).allocations
+  adds : has_step is_release more ≡ false → weighed weight (left c (es ++ more)).allocations
       ≡ weighed weight (left c es).allocations + freed_weight weight c es (op.Free r)
   adds none =
       freed_adds c es (es ++ more) (earlier_part_is_history c es more whole) whole value reached never
@@ -237,11 +215,9 @@ module _ (weight : ℕ → ℕ) (c : Config) (es more : List Event) (r : ℕ) (a
       ≡ entry_of 0 (op.Free r) (Some a)
   unfolding calls_from
   split =
-      sym (calls_append c (left c es) f.before (f.event ∷ f.behind))
-      ∙ ap (λ (l : List Event). calls_from c (left c es) l) (sym f.is) ∙ one
+      sym (calls_append c (left c es) f.before (f.event ∷ f.behind)) ∙ ap (calls_from c (left c es)) (sym f.is) ∙ one
 
-  three : (calls_from c (left c es) f.before ≡ [])
-      × (call_decided c at.now f.event ≡ entry_of 0 (op.Free r) (Some a))
+  three : (calls_from c (left c es) f.before ≡ []) × (call_decided c at.now f.event ≡ entry_of 0 (op.Free r) (Some a))
       × (calls_from c (world_behind c at f.event) f.behind ≡ [])
   three =
       one_of_three (calls_from c (left c es) f.before) (call_decided c at.now f.event)
@@ -262,37 +238,34 @@ module _ (weight : ℕ → ℕ) (c : Config) (es more : List Event) (r : ℕ) (a
       (flight_of (left c (es ++ f.before)).now f.event.seat) f.event.step f.decides))
 
   in_parts : es ++ more ≡ (es ++ first) ++ f.behind
-  in_parts =
-      ap (λ (l : List Event). es ++ l) f.is ∙ simp append_assoc
+  in_parts = ap (λ (l : List Event). es ++ l) f.is ∙ simp append_assoc
 
   mid_is : left c (es ++ first) ≡ world_behind c at f.event
   unfolding left_from
   mid_is =
-      ap (λ (l : List Event). left c l) (sym (append_assoc es f.before (f.event ∷ [])))
-      ∙ left_in_parts c (es ++ f.before) (f.event ∷ [])
+      ap (left c) (sym (append_assoc es f.before (f.event ∷ []))) ∙ left_in_parts c (es ++ f.before) (f.event ∷ [])
       ∙ ap (λ (w : World). world_behind c w f.event) at_is
 
   falls : greatest_from c (left c (es ++ first)) (weighed weight) f.behind
       ≡ weighed weight (left c (es ++ first)).allocations
   falls =
       falls_without_free weight c (left c (es ++ first)) f.behind
-      (ap (λ (w : World). list_any is_free_call (calls_from c w f.behind)) mid_is
-      ∙ ap (λ (l : List Decided). list_any is_free_call l) three.2)
+      (ap (λ (w : World). list_any is_free_call (calls_from c w f.behind)) mid_is ∙ ap (list_any is_free_call) three.2)
 
   pub most_of_late : MostWhereFreed weight c es (op.Free r) (es ++ more)
   most_of_late =
       let done = most_of_free weight c es first r a
-      (earlier_part_is_history c (es ++ first) f.behind (subst (λ (l : List Event). IsHistory c l) in_parts whole))
+      (earlier_part_is_history c (es ++ first) f.behind (subst (IsHistory c) in_parts whole))
       first_decides first_releases_none in
       let parts = from-append c (weighed weight) (first_world c) (es ++ first) f.behind in
       let last = last_below c (weighed weight) (first_world c) (es ++ first) in
       let rest = falls in
       let same : greatest c (weighed weight) (es ++ more) ≡ greatest c (weighed weight) ((es ++ first) ++ f.behind) =
-      ap (λ (l : List Event). greatest c (weighed weight) l) in_parts in
+      ap (greatest c (weighed weight)) in_parts in
       omega arith
 
-pub free_most : (weight : ℕ → ℕ) (c : Config) (es more : List Event) (r : ℕ) (a : Answer) → IsHistory c (es ++ more)
+pub free_most : (weight : ℕ → ℕ) {c : Config} (es more : List Event) (r : ℕ) (a : Answer) → IsHistory c (es ++ more)
     → calls_from c (left c es) more ≡ entry_of 0 (op.Free r) (Some a) → ReleasesLate c es more
     → MostWhereFreed weight c es (op.Free r) (es ++ more)
-free_most weight c es more r a whole one (inl none) = most_of_free weight c es more r a whole one none
-free_most weight c es more r a whole one (inr f) = most_of_late weight c es more r a whole one f
+free_most weight {c} es more r a whole one (inl none) = most_of_free weight c es more r a whole one none
+free_most weight {c} es more r a whole one (inr f) = most_of_late weight c es more r a whole one f

@@ -1,23 +1,16 @@
 -- The register of a trace's Free points to what the event's slot points to.
-use Rattle.std.proofs.Common.{◌≡◌, ℕ, ◌+◌, ◌*◌, ◌<◌, Bool, true, false, List, [], ◌∷◌, ◌++◌, length, get_or, refl}
-use Rattle.std.proofs.Common.{sym, ◌∙◌, ap, subst, arith}
+use Rattle.std.proofs.Common.{◌≡◌, ℕ, ◌+◌, ◌*◌, ◌<◌, Bool, false, List, [], ◌∷◌, ◌++◌, length, get_or, refl, sym, ◌∙◌}
+use Rattle.std.proofs.Common.{ap, subst, arith}
 use Rattle.std.specs.Prelude.{◌||◌, take, drop}
 use Rattle.std.specs.List.{list_any}
 use Rattle.std.proofs.lemmas.Bool.{or_parts, true≢false}
 use Rattle.std.proofs.lemmas.List.{drop_more, get_or-drop, get_or-set_same, length-drop, take-append-drop}
 use Rattle.std.proofs.lemmas.List.Folds.{list_any-append}
-use Rattle.mk_never.specs.declared.operations.Op.{Op}
+use Rattle.mk_trace.proofs.Vocabulary.{A, C, Config, Event, F, IsHistory, K, NeverState, Null, Op, TraceEvent, W}
+use Rattle.mk_trace.proofs.Vocabulary.{after_calls, calls_of_caller, global_at, never_behind, ops_of, register_at}
 use Rattle.mk_never.specs.declared.operations.Op.TheVariants as op
-use Rattle.mk_never.specs.declared.values.Value.TheVariants.{Null}
-use Rattle.mk_never.specs.NeverHeap.{NeverState, after_calls, global_at, register_at}
-use Rattle.mk_core.specs.declared.config.Config.{Config}
-use Rattle.mk_core.specs.declared.events.Event.{Event}
-use Rattle.mk_core.specs.History.{IsHistory, never_behind}
 use Rattle.mk_laws.proofs.InvariantHistories.{histories_keep_the_invariant}
-use Rattle.mk_trace.specs.declared.trace.TraceEvent.{TraceEvent}
-use Rattle.mk_trace.specs.declared.trace.TraceEvent.TheVariants.{A, K, F, C, W}
 use Rattle.mk_trace.specs.Freeing.{FreesItsSlot, FreesSlot}
-use Rattle.mk_trace.specs.Playing.{calls_of_caller, ops_of}
 use Rattle.mk_trace.specs.Traces.{slot_of}
 use Rattle.mk_trace.proofs.LaterOps.{either_way, AreCalled}
 use Rattle.mk_trace.proofs.OneCaller.{never_behind_all}
@@ -27,7 +20,7 @@ no_free : (ops before : List Op) (o : Op) (rest : List Op) (p : ℕ) → list_an
     → ops ≡ before ++ o ∷ rest → o ≡ op.Free p → ⊥
 no_free ops before o rest p none split is =
     let parts = or_parts (list_any is_free before) (is_free o || list_any is_free rest)
-    (sym (list_any-append is_free before (o ∷ rest)) ∙ sym (ap (λ (l : List Op). list_any is_free l) split) ∙ none) in
+    (sym (list_any-append is_free before (o ∷ rest)) ∙ sym (ap (list_any is_free) split) ∙ none) in
     true≢false (sym (ap is_free is) ∙ (or_parts (is_free o) (list_any is_free rest) parts.1).0)
 
 abbrev FreesNone : TraceEvent → Bool → Type 0
@@ -40,7 +33,7 @@ module _ (n : NeverState) (count : length n.registers ≡ 8) (slot : ℕ) where
   loaded b p is at =
       subst (λ (x : Op). register_at (after_calls n (calls_of_caller (x ∷ []))) 0 p
       ≡ global_at (after_calls n (calls_of_caller (x ∷ []))) slot) (sym is)
-      (ap (λ (k : ℕ). register_at (after_calls n (calls_of_caller (op.GetGlobal 0 slot ∷ []))) 0 k) at
+      (ap (register_at (after_calls n (calls_of_caller (op.GetGlobal 0 slot ∷ []))) 0) at
       ∙ get_or-set_same n.registers (8 * 0 + 0) (global_at n slot) Null (omega (arith, count)))
 
   by_place : (before : List Op) (o : Op) (rest : List Op) (p : ℕ)
@@ -71,12 +64,11 @@ module _ (n : NeverState) (count : length n.registers ≡ 8) (slot : ℕ) where
       by_place before o rest p
       (ap (λ (k : ℕ). op.GetGlobal 0 k ∷ op.Free 0 ∷ op.Clear 0 ∷ []) (sym same)
       ∙ sym (either_way (λ b. ops_of b (F s) ≡ op.GetGlobal 0 s ∷ op.Free 0 ∷ op.Clear 0 ∷ []) refl refl full)
-      ∙ split) is
-      ∙ ap (λ (k : ℕ). global_at (after_calls n (calls_of_caller before)) k) (sym same)
+      ∙ split) is ∙ ap (global_at (after_calls n (calls_of_caller before))) (sym same)
 
-pub frees_its_slot : (c : Config) (es : List Event) → c.callers ≡ 1 → IsHistory c es → (event : TraceEvent)
+pub frees_its_slot : {c : Config} {es : List Event} → c.callers ≡ 1 → IsHistory c es → (event : TraceEvent)
     → FreesItsSlot (never_behind c es) event
-frees_its_slot c es one history event =
+frees_its_slot {c} {es} one history event =
     let count = (histories_keep_the_invariant c es history).mirrors.register_count in
     frees_event (never_behind c es) (omega (arith, count, one)) (slot_of event) event refl
 
@@ -86,20 +78,18 @@ pub frees_first : (n : NeverState) (event : TraceEvent) (o : Op) → FreesItsSlo
     → ops_of false event ≡ o ∷ drop 1 (ops_of false event) → FreesSlot n (slot_of event) o
 frees_first n event o frees is = frees false [] o (drop 1 (ops_of false event)) is
 
-pub frees_now : (c : Config) (es : List Event) (event : TraceEvent) (items : List Op) (i : ℕ) (refused : Bool)
-    (fs : List Event) → AreCalled c es event items i refused fs → (o : Op) → i < length items → o ≡ get_or items i o
+pub frees_now : {c : Config} {es : List Event} {event : TraceEvent} {items : List Op} {i : ℕ} {refused : Bool}
+    {fs : List Event} → AreCalled c es event items i refused fs → (o : Op) → i < length items → o ≡ get_or items i o
     → FreesItsSlot (never_behind c es) event → FreesSlot (never_behind c fs) (slot_of event) o
-frees_now c es event items i refused fs h o within here frees =
+frees_now {event} {items} {i} h o within here frees =
     let ops : List Op = ops_of h.full event in
-    let count : length items ≡ length (drop 1 ops) = ap (λ (l : List Op). length l) h.items_are in
+    let count : length items ≡ length (drop 1 ops) = ap length h.items_are in
     let inside : i + 1 < length ops = omega (arith, within, count, length-drop 1 ops) in
     let at : get_or ops (i + 1) o ≡ o =
     ap (λ (k : ℕ). get_or ops k o) (omega arith) ∙ sym (get_or-drop 1 ops i o)
     ∙ sym (ap (λ (l : List Op). get_or l i o) h.items_are) ∙ sym here in
     let split : ops ≡ take (i + 1) ops ++ o ∷ drop (i + 1 + 1) ops =
-    sym (take-append-drop (i + 1) ops)
-    ∙ ap (λ (l : List Op). take (i + 1) ops ++ l)
+    sym (take-append-drop (i + 1) ops) ∙ ap (λ (l : List Op). take (i + 1) ops ++ l)
     (drop_more ops (i + 1) o inside ∙ ap (λ (x : Op). x ∷ drop (i + 1 + 1) ops) at) in
-    subst (λ (n : NeverState). FreesSlot n (slot_of event) o)
-    (sym (never_behind_all c es h.full (take (i + 1) ops) refused fs h.calls))
+    subst (λ (n : NeverState). FreesSlot n (slot_of event) o) (sym (never_behind_all h.calls))
     (frees h.full (take (i + 1) ops) o (drop (i + 1 + 1) ops) split)

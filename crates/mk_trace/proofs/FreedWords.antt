@@ -5,36 +5,22 @@ use Rattle.std.specs.Prelude.{◌&&◌, sum_by, if◌then◌else◌, not, Option
 use Rattle.std.proofs.lemmas.List.Sums.{sum_by-cons, sum_by-append}
 use Rattle.std.proofs.lemmas.Bool.{cases_lt}
 use Rattle.std.proofs.lemmas.List.{get_or_past}
-use Rattle.mk_never.specs.Types.{kinds_of, is_large}
-use Rattle.mk_never.specs.declared.values.Value.{Value}
-use Rattle.mk_never.specs.NeverHeap.{NeverState, after_free, allocation_at}
+use Rattle.mk_trace.proofs.Vocabulary.{AreLater, Cell, Config, Event, Flight, IsHistory, Moment, NeverState}
+use Rattle.mk_trace.proofs.Vocabulary.{PlacedAllocation, Step, Value, Words, World, address_of, after_free}
+use Rattle.mk_trace.proofs.Vocabulary.{allocation_at, allocations_by, cell_freed, flight_of, freed_where_it_stands}
+use Rattle.mk_trace.proofs.Vocabulary.{granted, held_by_allocations, is_grant, is_large, is_left_unmarked}
+use Rattle.mk_trace.proofs.Vocabulary.{is_quarantined, is_some_and, kinds_of, left, lets_go, never_behind}
+use Rattle.mk_trace.proofs.Vocabulary.{never_granted, no_longer_fresh, placed_at, pointed_cell, quarantined_words}
+use Rattle.mk_trace.proofs.Vocabulary.{reserved_words, stands_in, storage_words, unfreed, with_released, words_of_some}
+use Rattle.mk_trace.proofs.Vocabulary.{world_behind}
 use Rattle.mk_never.specs.Reach.{IsReachable}
-use Rattle.mk_geom.specs.Addresses.{address_of}
-use Rattle.mk_geom.specs.declared.addresses.Cell.{Cell}
-use Rattle.mk_core.specs.declared.config.Config.{Config}
-use Rattle.mk_core.specs.Allocations.{PlacedAllocation, placed_at, never_granted, allocations_by, freed_where_it_stands}
-use Rattle.mk_core.specs.Allocations.{granted, held_by_allocations, no_longer_fresh, stands_in, storage_words}
-use Rattle.mk_core.specs.Allocations.{with_released}
-use Rattle.mk_core.specs.Cycles.{is_quarantined}
 use Rattle.mk_core.specs.NewPlaces.{object_of}
 use Rattle.mk_core.specs.ObjectHeaders.{words_made}
-use Rattle.mk_core.specs.declared.events.Event.{Event}
-use Rattle.mk_core.specs.History.{IsHistory, left, never_behind, World, world_behind}
-use Rattle.mk_core.specs.declared.events.Step.{Step}
 use Rattle.mk_core.specs.declared.events.Step.TheVariants as step
-use Rattle.mk_core.specs.declared.seats.Flight.{Flight}
-use Rattle.mk_core.specs.Bounded.{is_some_and}
-use Rattle.mk_core.specs.Cells.{is_left_unmarked, pointed_cell}
-use Rattle.mk_core.specs.Moments.{Moment, flight_of}
-use Rattle.mk_core.specs.TurnConditions.{cell_freed}
-use Rattle.mk_core.specs.Words.{Words}
 use Rattle.mk_quarantine.proofs.CountedWords.{sum_filtered}
 use Rattle.mk_laws.proofs.ImagesKept.{exists_placed}
 use Rattle.mk_laws.proofs.InvariantTheorems.{reach_is_kept}
 use Rattle.mk_objects.proofs.HeldFreed.{held_part, held_sum}
-use Rattle.mk_alloc.specs.TurnCycles.{is_grant, lets_go}
-use Rattle.mk_trace.specs.Peaks.{quarantined_words, reserved_words}
-use Rattle.mk_trace.specs.Freeing.{unfreed, words_of_some, AreLater}
 use Rattle.mk_trace.proofs.FlagSteps.{as_many_behind, is_freed_behind, is_freed_there, others_kept, twins, was_unfreed}
 use Rattle.mk_trace.proofs.FlagSteps.{SameReleased}
 
@@ -57,11 +43,9 @@ large_weight c ty = if is_large (kinds_of c.types ty) then storage_weight c ty e
 -- Sums of what is alike.
 pub sum_alike : {X : Type 0} (f g : X → ℕ) → ((x : X) → f x ≡ g x) → (xs : List X) → sum_by f xs ≡ sum_by g xs
 sum_alike f g same [] = refl
-sum_alike f g same (x ∷ xs) =
-    omega (arith, sum_by-cons f x xs, sum_by-cons g x xs, same x, sum_alike f g same xs)
+sum_alike f g same (x ∷ xs) = omega (arith, sum_by-cons f x xs, sum_by-cons g x xs, same x, sum_alike f g same xs)
 
-pub quarantined_is : (c : Config) (xs : List PlacedAllocation)
-    → quarantined_words c xs ≡ weighed (storage_weight c) xs
+pub quarantined_is : (c : Config) (xs : List PlacedAllocation) → quarantined_words c xs ≡ weighed (storage_weight c) xs
 quarantined_is c xs = sum_filtered (λ (a : PlacedAllocation). storage_weight c a.ty) is_quarantined xs
 
 both_tests : (b large : Bool) (n : ℕ) → (if b && large then n else 0) ≡ (if b then if large then n else 0 else 0)
@@ -140,24 +124,23 @@ module _ (c : Config) (es fs : List Event) (history : IsHistory c es) (whole : I
 
   count : length xs ≡ length ys
   count =
-      (twins c es history).count ∙ sym (as_many_behind n v)
-      ∙ ap (λ (m : NeverState). length m.allocations) (sym never) ∙ sym (twins c fs whole).count
+      (twins history).count ∙ sym (as_many_behind n v)
+      ∙ ap (λ (m : NeverState). length m.allocations) (sym never) ∙ sym (twins whole).count
 
   freed_kept : (i : ℕ) → (unfreed n v ≡ Some i → ⊥) → (placed_at xs i).freed ≡ (placed_at ys i).freed
   freed_kept i out =
-      is_freed_there c es history i ∙ sym (others_kept n v i out)
-      ∙ ap (λ (m : NeverState). (allocation_at m i).freed) (sym never) ∙ sym (is_freed_there c fs whole i)
+      is_freed_there history i ∙ sym (others_kept n v i out)
+      ∙ ap (λ (m : NeverState). (allocation_at m i).freed) (sym never) ∙ sym (is_freed_there whole i)
 
   past_both : (i : ℕ) → length xs ≤ i → placed_at xs i ≡ placed_at ys i
-  past_both i le =
-      get_or_past xs i never_granted le ∙ sym (get_or_past ys i never_granted (omega (arith, le, count)))
+  past_both i le = get_or_past xs i never_granted le ∙ sym (get_or_past ys i never_granted (omega (arith, le, count)))
 
   module _ (weight : ℕ → ℕ) where
     part_kept : (i : ℕ) → (unfreed n v ≡ Some i → ⊥) → part weight (placed_at xs i) ≡ part weight (placed_at ys i)
     part_kept i out = elim (cases_lt i (length xs)) [
       | inl lt ↦
           part_by weight (placed_at xs i) (placed_at ys i) (freed_kept i out) (sym (same i lt)) (sym (later.ty i lt))
-      | inr le ↦ ap (λ (a : PlacedAllocation). part weight a) (past_both i le)
+      | inr le ↦ ap (part weight) (past_both i le)
     ]
 
     unreleased : (number : ℕ) → unfreed n v ≡ Some number → (placed_at xs number).released ≡ false
@@ -166,19 +149,18 @@ module _ (c : Config) (es fs : List Event) (history : IsHistory c es) (whole : I
     none_before : (number : ℕ) → unfreed n v ≡ Some number → part weight (placed_at xs number) ≡ 0
     none_before number is =
         ap (λ (x : Bool). if x && not (placed_at xs number).released then weight (placed_at xs number).ty else 0)
-        (is_freed_there c es history number ∙ was_unfreed n v number is)
+        (is_freed_there history number ∙ was_unfreed n v number is)
 
     all_behind : (number : ℕ) → unfreed n v ≡ Some number
         → part weight (placed_at ys number) ≡ weight (placed_at xs number).ty
     all_behind number is =
         let lt : number < length xs = exists_placed xs number (unreleased number is) in
         let freed : (placed_at ys number).freed ≡ true =
-        is_freed_there c fs whole number ∙ ap (λ (m : NeverState). (allocation_at m number).freed) never
-        ∙ is_freed_behind n v number is (omega (arith, lt, (twins c es history).count)) in
+        is_freed_there whole number ∙ ap (λ (m : NeverState). (allocation_at m number).freed) never
+        ∙ is_freed_behind n v number is (omega (arith, lt, (twins history).count)) in
         ap (λ (x : Bool). if x && not (placed_at ys number).released then weight (placed_at ys number).ty else 0) freed
         ∙ ap (λ (x : Bool). if true && not x then weight (placed_at ys number).ty else 0)
-        (same number lt ∙ unreleased number is)
-        ∙ ap (λ (k : ℕ). weight k) (later.ty number lt)
+        (same number lt ∙ unreleased number is) ∙ ap weight (later.ty number lt)
 
     by_number : (x : Option ℕ) → unfreed n v ≡ x
         → weighed weight ys ≡ weighed weight xs + words_of_some (λ (a : PlacedAllocation). weight a.ty) xs x
@@ -229,8 +211,7 @@ release_falls c w a =
 
 more_rises : (c : Config) (xs : List PlacedAllocation) (a : PlacedAllocation)
     → held_by_allocations c xs ≤ held_by_allocations c (xs ++ a ∷ [])
-more_rises c xs a =
-    omega (arith, held_sum c xs, held_sum c (xs ++ a ∷ []), sum_by-append (held_part c) xs (a ∷ []))
+more_rises c xs a = omega (arith, held_sum c xs, held_sum c (xs ++ a ∷ []), sum_by-append (held_part c) xs (a ∷ []))
 
 -- One step.
 

@@ -4,42 +4,26 @@ use Rattle.std.specs.Prelude.{◌&&◌, ◌||◌, Some}
 use Rattle.std.specs.List.{list_any}
 use Rattle.std.proofs.lemmas.Bool.{false_from_ne_true, or_from, or_parts, true≢false}
 use Rattle.std.proofs.lemmas.List.Folds.{list_any-append}
-use Rattle.mk_never.specs.declared.operations.Op.{Op}
+use Rattle.mk_trace.proofs.Vocabulary.{Answer, AreOfOthers, Caller, Calls, Config, Contents, Decided, Event, Grows}
+use Rattle.mk_trace.proofs.Vocabulary.{HoldsMostAtEnd, Host, HostState, IsHistory, Marker, Moment, Op, PassState, Seat}
+use Rattle.mk_trace.proofs.Vocabulary.{Stage, Step, WordsState, World, call_decided, config_of, entry_of, first_host}
+use Rattle.mk_trace.proofs.Vocabulary.{first_world, flagged, flight_of, has_step, held_by_allocations, in_a_word}
+use Rattle.mk_trace.proofs.Vocabulary.{is_grant, is_under_turn, left, most_held, object_made, pass_for, peaks_of}
+use Rattle.mk_trace.proofs.Vocabulary.{unflagged, without_seat, world_behind}
 use Rattle.mk_never.specs.declared.operations.Op.TheVariants as op
-use Rattle.mk_core.specs.declared.config.Config.{Config}
-use Rattle.mk_core.specs.declared.events.Answer.{Answer}
 use Rattle.mk_core.specs.declared.events.Answer.TheVariants as answer
-use Rattle.mk_core.specs.declared.events.Event.{Event}
-use Rattle.mk_core.specs.declared.events.Seat.{Seat}
-use Rattle.mk_core.specs.declared.events.Seat.TheVariants.{Caller, Marker, Host}
-use Rattle.mk_core.specs.declared.events.Step.{Step}
 use Rattle.mk_core.specs.declared.events.Step.TheVariants as step
-use Rattle.mk_core.specs.declared.seats.Stage.{Stage}
 use Rattle.mk_core.specs.declared.seats.Stage.TheVariants as stage
-use Rattle.mk_core.specs.Decided.{Decided, entry_of, flagged}
 use Rattle.mk_core.specs.Enabled.{IsEnabled, MeetsAll}
-use Rattle.mk_core.specs.History.{World, AreEnabledFrom, call_decided, calls_from, world_behind, IsHistory, first_world}
-use Rattle.mk_core.specs.History.{left}
-use Rattle.mk_core.specs.Moments.{Moment, flight_of}
+use Rattle.mk_core.specs.History.{AreEnabledFrom, calls_from}
 use Rattle.mk_core.specs.Order.{comes_next, host_has_turn}
 use Rattle.mk_core.proofs.Conditions.{enabled_meets}
-use Rattle.mk_core.specs.Allocations.{held_by_allocations}
-use Rattle.mk_core.specs.Calls.{is_under_turn}
-use Rattle.mk_core.specs.Counts.{in_a_word}
-use Rattle.mk_core.specs.Growing.{AreOfOthers, Grows}
-use Rattle.mk_core.specs.NewPlaces.{object_made}
-use Rattle.mk_alloc.specs.TurnCycles.{has_step, is_grant, NewIsExact}
+use Rattle.mk_alloc.specs.TurnCycles.{NewIsExact}
 use Rattle.mk_alloc.proofs.ListParts.{none_at}
-use Rattle.mk_words.specs.Seats.{all_seats, without_seat}
-use Rattle.mk_words.specs.States.{PassState, WordsState}
+use Rattle.mk_words.specs.Seats.{all_seats}
 use Rattle.mk_words.proofs.Seats.{has_all}
-use Rattle.mk_heap.specs.Hosts.{HostState, first_host, pass_for, with_caller_made}
+use Rattle.mk_heap.specs.Hosts.{with_caller_made}
 use Rattle.mk_alloc.proofs.GrantParts.{LastIn, last_before, last_then}
-use Rattle.mk_run.specs.Scripts.{unflagged}
-use Rattle.mk_trace.specs.Calls.{Calls, HoldsMostAtEnd, most_held}
-use Rattle.mk_trace.specs.Peaks.{peaks_of}
-use Rattle.mk_trace.specs.Playing.{config_of}
-use Rattle.mk_trace.specs.Traces.{Contents}
 use Rattle.mk_trace.proofs.JoinedCalls.{InTurn, Joined, acts, before, before_lacks, decided, enabled, exact, in_parts}
 use Rattle.mk_trace.proofs.JoinedCalls.{last}
 use Rattle.mk_trace.proofs.FreedWords.{held_falls_at, held_rises_at}
@@ -74,21 +58,21 @@ flagged_new (op.New d ty full) answer.Full = refl
 flagged_new (op.New d ty full) _ = refl
 flagged_new o a = refl
 
-decides_new : (c : Config) (m : Moment) (seat : Seat) → MeetsAll c m (record { seat = seat; step = step.Grant })
+decides_new : {c : Config} {m : Moment} (seat : Seat) → MeetsAll c m (record { seat = seat; step = step.Grant })
     → list_any is_new_call (call_decided c m (record { seat = seat; step = step.Grant })) ≡ true
-decides_new c m (Caller k) h =
+decides_new {m} (Caller k) h =
     ap (λ (b : Bool). b || false)
     (flagged_new (flight_of m (Caller k)).op answer.Done
     ∙ grants_new (flight_of m (Caller k)).stage (flight_of m (Caller k)).op h.order)
-decides_new c m (Marker k) h = let none : false ≡ true = h.kind in cc
-decides_new c m Host h = absurd (never (host_has_turn c m) h.order)
+decides_new (Marker k) h = let none : false ≡ true = h.kind in cc
+decides_new {c} {m} Host h = absurd (never (host_has_turn c m) h.order)
 
 event_decides : (c : Config) (m : Moment) (seat : Seat) (s : Step) → IsEnabled c m (record { seat = seat; step = s })
     → is_grant s ≡ true → list_any is_new_call (call_decided c m (record { seat = seat; step = s })) ≡ true
 event_decides c m seat s on is =
     subst (λ (x : Step). list_any is_new_call (call_decided c m (record { seat = seat; step = x })) ≡ true)
     (sym (grant_is s is))
-    (decides_new c m seat
+    (decides_new seat
     (subst (λ (x : Step). MeetsAll c m (record { seat = seat; step = x })) (grant_is s is)
     (enabled_meets c m (record { seat = seat; step = s }) on)))
 
@@ -110,9 +94,7 @@ grants_decide c w (e ∷ es) on none =
 pub others_grant_none : (c : Config) (w : World) (more : List Event) (o : Op) (a : Answer) → AreEnabledFrom c w more
     → calls_from c w more ≡ entry_of 0 o (Some a) → is_new o ≡ false → has_step is_grant more ≡ false
 others_grant_none c w more o a on one other =
-    grants_decide c w more on
-    (ap (λ (l : List Decided). list_any is_new_call l) one
-    ∙ ap (λ (b : Bool). b || false) (flagged_new o a ∙ other))
+    grants_decide c w more on (ap (list_any is_new_call) one ∙ ap (λ (b : Bool). b || false) (flagged_new o a ∙ other))
 
 -- What is held over a call of the caller: no more than before, or than at its end.
 
@@ -129,7 +111,7 @@ module _ {on : Bool} {h : HostState} {o : Op} {told : Answer} {q : PassState} {f
   new_last d ty turn =
       let o : Op = op.New d ty false in
       let exactly : NewIsExact turn.ends.turn (object_made c o) = exact j o turn in
-      subst (λ (l : List Event). LastIn l) (sym (in_parts j o turn))
+      subst LastIn (sym (in_parts j o turn))
       (last_then (before j o turn) (acts j o turn ++ last j o turn) (before_lacks j o turn is_grant (λ y. refl))
       (last_before (acts j o turn) (last j o turn) exactly.keeps refl refl))
 
@@ -140,21 +122,21 @@ module _ {on : Bool} {h : HostState} {o : Op} {told : Answer} {q : PassState} {f
 
   pub held_at_end : Calls c es o told fs → HoldsMostAtEnd c es fs
   held_at_end made =
-      subst (λ (l : List Event). HoldsMostAtEnd c es l) (sym j.own.is)
+      subst (HoldsMostAtEnd c es) (sym j.own.is)
       (most_then c (held_by_allocations c) (held_falls_at c) (held_rises_at c) es j.own.more
       (last_by o j.answers.in_turn
       (others_grant_none c (left c es) j.own.more o made.answer (enabled j) (decided j made))))
 
 -- Of a heap that nobody has used there are no events.
-nothing_seen : (c : Config) (es : List Event) → Grows (without_seat (Caller 0) (all_seats c)) [] es
+nothing_seen : {c : Config} {es : List Event} → Grows (without_seat (Caller 0) (all_seats c)) [] es
     → Grows (Caller 0 ∷ []) [] es → IsHistory c es → es ≡ []
-nothing_seen c es own came history =
+nothing_seen {c} {es} own came history =
     let elsewhere : List Seat = without_seat (Caller 0) (all_seats c) in
     let mine : AreMine c elsewhere es =
     are_mine c (first_world c) elsewhere es history.enabled
-    (subst (λ (l : List Event). AreOfOthers elsewhere l) (sym own.is) own.of_others) in
+    (subst (AreOfOthers elsewhere) (sym own.is) own.of_others) in
     none_of_others c elsewhere (Caller 0 ∷ []) es (all_again c (Caller 0) (all_seats c) (has_all c)) mine
-    (subst (λ (l : List Event). AreOfOthers (Caller 0 ∷ []) l) (sym came.is) came.of_others)
+    (subst (AreOfOthers (Caller 0 ∷ [])) (sym came.is) came.of_others)
 
 pub opened_empty : (w : WordsState) (h made : HostState) (q : PassState) (k : HostState) (c : Config) → h ≡ first_host w
     → made ≡ with_caller_made h → Grows made.pass.seats made.pass.seen k.pass.seen → Grows q.seats q.seen k.pass.seen
@@ -162,10 +144,10 @@ pub opened_empty : (w : WordsState) (h made : HostState) (q : PassState) (k : Ho
     → IsHistory k.pass.table.config k.pass.seen → k.pass.seen ≡ []
 opened_empty w h made q k c first is own came pass config table history =
     let es : List Event = k.pass.seen in
-    let from : made ≡ with_caller_made (first_host w) = is ∙ ap (λ (x : HostState). with_caller_made x) first in
+    let from : made ≡ with_caller_made (first_host w) = is ∙ ap with_caller_made first in
     let pass_is : q ≡ pass_for (first_host w) (Caller 0) =
     pass ∙ ap (λ (x : HostState). pass_for x (Caller x.callers)) first in
-    nothing_seen w.config es (subst (λ (x : HostState). Grows x.pass.seats x.pass.seen es) from own)
+    nothing_seen (subst (λ (x : HostState). Grows x.pass.seats x.pass.seen es) from own)
     (subst (λ (x : PassState). Grows x.seats x.seen es) pass_is came)
     (subst (λ (x : WordsState). IsHistory x.config es) table history)
 
@@ -173,7 +155,5 @@ opened_empty w h made q k c first is own came pass config table history =
 pub most_told : (trace : Contents) (d : Config) (es fs : List Event) (held : ℕ) → fs ≡ es → d ≡ config_of trace
     → held ≡ most_held d es → held < 18446744073709551616 → held ≡ (peaks_of (config_of trace) fs).held
 most_told trace d es fs held same config is few =
-    (let fits : held ≡ in_a_word held = omega (arith, few) in fits)
-    ∙ ap (λ (n : ℕ). in_a_word n)
-    (is ∙ ap (λ (c : Config). most_held c es) config
-    ∙ ap (λ (l : List Event). most_held (config_of trace) l) (sym same))
+    (let fits : held ≡ in_a_word held = omega (arith, few) in fits) ∙ ap in_a_word
+    (is ∙ ap (λ (c : Config). most_held c es) config ∙ ap (most_held (config_of trace)) (sym same))

@@ -1,35 +1,27 @@
 -- The host looks at the tally of held words: it reports what is held, and nothing is granted or let go meanwhile.
 use Rattle.std.proofs.Common.{◌≡◌, ℕ, Bool, false, List, ◌∷◌, ◌++◌, refl, sym, ◌∙◌, ap, subst, []}
 use Rattle.std.specs.Prelude.{None, Option}
-use Rattle.mk_never.specs.declared.operations.Op.{Op}
-use Rattle.mk_core.specs.declared.config.Config.{Config}
-use Rattle.mk_core.specs.declared.events.Event.{Event}
-use Rattle.mk_core.specs.declared.events.Step.{Step}
+use Rattle.mk_trace.proofs.Vocabulary.{AreOfOthers, Config, Event, Has, HasAll, IsHistory, Op, PassState, Step, Word}
+use Rattle.mk_trace.proofs.Vocabulary.{event_of, has_step, left}
 use Rattle.mk_core.specs.declared.events.Step.TheVariants as step
-use Rattle.mk_core.specs.declared.events.Word.{Word}
 use Rattle.mk_core.specs.Counts.{TalliesAreExact}
-use Rattle.mk_core.specs.Growing.{AreOfOthers}
-use Rattle.mk_core.specs.History.{IsHistory, left}
 use Rattle.mk_core.proofs.HistoryParts.{earlier_part_is_history, enabled_in_parts}
 use Rattle.mk_heap.specs.Turns.{TellsWord}
 use Rattle.mk_laws.proofs.Tallies.{tallies_tell}
 use Rattle.mk_laws.proofs.TallySteps.{others_count_nothing}
-use Rattle.mk_words.specs.Seats.{Has, HasAll}
-use Rattle.mk_words.specs.States.{PassState, event_of}
 use Rattle.mk_words.proofs.Made.{made}
 use Rattle.mk_words.proofs.Seats.{others_nobody}
 use Rattle.mk_words.proofs.Tallies.{exact_more}
 use Rattle.mk_waiting.specs.Taking.{TakesTurn}
-use Rattle.mk_alloc.specs.TurnCycles.{has_step}
 use Rattle.mk_alloc.proofs.ListParts.{lacks_append, lacks_one}
 use Rattle.mk_alloc.proofs.Parts.{seen_made, seen_then}
 use Rattle.mk_heap.proofs.MovedHosts.{MovesOn, moves_more, turn_moves}
 use Rattle.mk_trace.proofs.OwnPieces.{AreMine, are_mine, mine_parts, none_of_others, others_lack, waiting_lacks}
 
 -- Where the turn is taken, the tallies are what they count.
-exact_taken : (p q : PassState) (t : TakesTurn p None q) → Has t.waited.seats t.waited.seat
+exact_taken : {p q : PassState} (t : TakesTurn p None q) → Has t.waited.seats t.waited.seat
     → IsHistory q.table.config q.seen → TalliesAreExact q.table.config q.seen
-exact_taken p q t own history =
+exact_taken {q} t own history =
     let w : PassState = t.waited in
     let c : Config = w.table.config in
     let m = t.takes.makes in
@@ -101,8 +93,7 @@ module _ {p q : PassState} {x : Word} {n : ℕ} (l : Looked p x n q) where
   pub taken_seen : taken.seen ≡ p.seen ++ first
   taken_seen =
       seen_then p.seen waited.seen taken.seen h.takes.waits.more taking
-      (ap (λ (r : PassState). r.seen) h.takes.waits.is)
-      (seen_made waited taken (step.Take None) h.takes.takes.makes)
+      (ap (λ (r : PassState). r.seen) h.takes.waits.is) (seen_made waited taken (step.Take None) h.takes.takes.makes)
 
   behind_seen : q.seen ≡ taken.seen ++ behind
   behind_seen =
@@ -117,7 +108,7 @@ module _ {p q : PassState} {x : Word} {n : ℕ} (l : Looked p x n q) where
       mine_parts c [] first behind
       (are_mine c (left c p.seen) [] (first ++ behind)
       ((enabled_in_parts c p.seen (first ++ behind)).0
-      (subst (λ (es : List Event). IsHistory c es) seen_is l.history).enabled).1 (others_nobody (first ++ behind)))
+      (subst (IsHistory c) seen_is l.history).enabled).1 (others_nobody (first ++ behind)))
 
   pub of_pass : (r : PassState) (es : List Event) → r ≡ record p { seen = r.seen } → AreOfOthers r.seats es
       → AreOfOthers p.seats es
@@ -127,8 +118,7 @@ module _ {p q : PassState} {x : Word} {n : ℕ} (l : Looked p x n q) where
       → AreOfOthers p.seats es → kind e.step ≡ false → has_step kind (es ++ e ∷ []) ≡ false
   others_none es e kind whole others none =
       lacks_append kind es (e ∷ [])
-      (others_lack kind c [] p.seats es l.all (mine_parts c [] es (e ∷ []) whole).0 others)
-      (lacks_one kind e none)
+      (others_lack kind c [] p.seats es l.all (mine_parts c [] es (e ∷ []) whole).0 others) (lacks_one kind e none)
 
   pub behind_lacks : (kind : Step → Bool) → IsApart kind → has_step kind behind ≡ false
   behind_lacks kind apart =
@@ -145,8 +135,7 @@ module _ {p q : PassState} {x : Word} {n : ℕ} (l : Looked p x n q) where
       lacks_append kind h.takes.waits.more taking
       (waiting_lacks kind c [] p h.takes.waits.more apart.take l.all parts.0 h.takes.waits.only)
       (others_none h.takes.takes.makes.others (event_of waited (step.Take None)) kind parts.1
-      (of_pass waited h.takes.takes.makes.others waited_same h.takes.takes.makes.of_others)
-      (apart.take None))
+      (of_pass waited h.takes.takes.makes.others waited_same h.takes.takes.makes.of_others) (apart.take None))
 
   pub all_lack : (kind : Step → Bool) → IsApart kind → has_step kind (first ++ behind) ≡ false
   all_lack kind apart = lacks_append kind first behind (first_lacks kind apart) (behind_lacks kind apart)
@@ -154,14 +143,12 @@ module _ {p q : PassState} {x : Word} {n : ℕ} (l : Looked p x n q) where
   history_taken : IsHistory taken.table.config taken.seen
   history_taken =
       subst (λ (r : PassState). IsHistory r.table.config taken.seen) (sym taken_same)
-      (earlier_part_is_history c taken.seen behind
-      (subst (λ (es : List Event). IsHistory c es) behind_seen l.history))
+      (earlier_part_is_history c taken.seen behind (subst (IsHistory c) behind_seen l.history))
 
   pub exact : TalliesAreExact c taken.seen
   exact =
       subst (λ (r : PassState). TalliesAreExact r.table.config taken.seen) taken_same
-      (exact_taken p taken h.takes (subst (λ (r : PassState). Has r.seats r.seat) (sym waited_same) l.own)
-      history_taken)
+      (exact_taken h.takes (subst (λ (r : PassState). Has r.seats r.seat) (sym waited_same) l.own) history_taken)
 
   pub looks_alone : h.looks.makes.others ≡ []
   looks_alone =

@@ -2,35 +2,23 @@
 use Rattle.std.proofs.Common.{◌≡◌, Bool, false, List, ◌∷◌, ◌++◌, sym, ◌∙◌, ap, subst, append-nil, append_assoc, ◌+◌, []}
 use Rattle.std.specs.Prelude.{Option, Some}
 use Rattle.std.proofs.lemmas.List.{append_cancel_left}
-use Rattle.mk_never.specs.declared.operations.Op.{Op}
-use Rattle.mk_core.specs.declared.config.Config.{Config}
-use Rattle.mk_core.specs.declared.events.Answer.{Answer}
-use Rattle.mk_core.specs.declared.events.Event.{Event}
-use Rattle.mk_core.specs.declared.events.Seat.{Seat}
-use Rattle.mk_core.specs.declared.events.Seat.TheVariants.{Caller}
-use Rattle.mk_core.specs.declared.events.Step.{Step}
+use Rattle.mk_trace.proofs.Vocabulary.{Answer, AreEnabledFrom, AreOfOthers, Caller, Calls, Config, Decided, Event}
+use Rattle.mk_trace.proofs.Vocabulary.{Grows, HasAll, HostState, IsHistory, Op, PassState, Seat, Step, calls}
+use Rattle.mk_trace.proofs.Vocabulary.{calls_from, entry_of, has_step, left, pass_for, without_seat}
 use Rattle.mk_core.specs.declared.events.Step.TheVariants as step
-use Rattle.mk_core.specs.Decided.{Decided, entry_of}
-use Rattle.mk_core.specs.Growing.{AreOfOthers, Grows}
-use Rattle.mk_core.specs.History.{AreEnabledFrom, IsHistory, calls, calls_from, left}
 use Rattle.mk_core.proofs.HistoryParts.{calls_in_parts, enabled_in_parts, earlier_part_is_history}
-use Rattle.mk_words.specs.Seats.{HasAll, without_seat}
-use Rattle.mk_words.specs.States.{PassState}
-use Rattle.mk_heap.specs.Hosts.{HostState, pass_for}
 use Rattle.mk_alloc.specs.TurnCalls.{CalledInTurn}
-use Rattle.mk_alloc.specs.TurnCycles.{CallIsExact, has_step}
+use Rattle.mk_alloc.specs.TurnCycles.{CallIsExact}
 use Rattle.mk_run.specs.Scripts.{Answers}
-use Rattle.mk_trace.specs.Calls.{Calls}
-use Rattle.mk_trace.proofs.OwnPieces.{AreMine, HasTheRest, all_again, are_mine, mine_parts, none_of_others}
-use Rattle.mk_trace.proofs.OwnPieces.{before_turn, before_turn_lacks, giving, turn_seen}
+use Rattle.mk_trace.proofs.OwnPieces.{AreMine, HasTheRest, all_again, are_mine, mine_parts, none_of_others, before_turn}
+use Rattle.mk_trace.proofs.OwnPieces.{before_turn_lacks, giving, turn_seen}
 use Rattle.mk_trace.proofs.OneCaller.{none_called, calls_are_own}
 
 -- Where all events are of the one caller.
 abbrev pub OneSeat : Config → List Seat → Type 0
 OneSeat c elsewhere = HasTheRest c elsewhere (Caller 0 ∷ [])
 
-pub record Joined (on : Bool) (h : HostState) (o : Op) (told : Answer) (q : PassState) (fs : List Event)
-    : Type 0 where
+pub record Joined (on : Bool) (h : HostState) (o : Op) (told : Answer) (q : PassState) (fs : List Event) : Type 0 where
   pub answers : Answers on (pass_for h (Caller 0)) o told q
   pub own : Grows (without_seat (Caller 0) h.pass.seats) h.pass.seen fs
   pub came : Grows q.seats q.seen fs
@@ -52,7 +40,7 @@ module _ {on : Bool} {h : HostState} {o : Op} {told : Answer} {q : PassState} {f
   the_rest = all_again c (Caller 0) h.pass.seats j.all
 
   pub whole : IsHistory c (es ++ j.own.more)
-  whole = subst (λ (l : List Event). IsHistory c l) j.own.is j.history
+  whole = subst (IsHistory c) j.own.is j.history
 
   pub enabled : AreEnabledFrom c (left c es) j.own.more
   enabled = ((enabled_in_parts c es j.own.more).0 whole.enabled).1
@@ -68,7 +56,7 @@ module _ {on : Bool} {h : HostState} {o : Op} {told : Answer} {q : PassState} {f
       (sym j.own.is ∙ j.came.is ∙ ap (λ (l : List Event). l ++ j.came.more) seen ∙ append_assoc es xs j.came.more) in
       let none : j.came.more ≡ [] =
       none_of_others c elsewhere (Caller 0 ∷ []) j.came.more the_rest
-      (mine_parts c elsewhere xs j.came.more (subst (λ (l : List Event). AreMine c elsewhere l) rest mine)).1
+      (mine_parts c elsewhere xs j.came.more (subst (AreMine c elsewhere) rest mine)).1
       (subst (λ (p : PassState). AreOfOthers p.seats j.came.more) j.answers.is j.came.of_others) in
       rest ∙ ap (λ (l : List Event). xs ++ l) none ∙ append-nil xs
 
@@ -82,15 +70,15 @@ module _ {on : Bool} {h : HostState} {o : Op} {told : Answer} {q : PassState} {f
         answer = j.answers.answer;
         is_told = j.answers.is_told;
         entry =
-            sym (calls_are_own c fs one j.history) ∙ none_called c q.seen fs grown ∙ j.answers.entry
+            sym (calls_are_own one j.history) ∙ none_called c grown ∙ j.answers.entry
             ∙ ap (λ (l : List Decided). l ++ entry_of 0 o (Some j.answers.answer))
-            (calls_are_own c es one (earlier_part_is_history c es j.own.more whole));
+            (calls_are_own one (earlier_part_is_history c es j.own.more whole));
       }
 
   pub decided : (made : Calls c es o told fs) → calls_from c (left c es) j.own.more ≡ entry_of 0 o (Some made.answer)
   decided made =
       append_cancel_left (calls c es) (calls_from c (left c es) j.own.more) (entry_of 0 o (Some made.answer))
-      (sym (calls_in_parts c es j.own.more) ∙ sym (ap (λ (l : List Event). calls c l) j.own.is) ∙ made.entry)
+      (sym (calls_in_parts c es j.own.more) ∙ sym (ap (calls c) j.own.is) ∙ made.entry)
 
   -- One under the turn: what came before its turn, what the turn did, and its `give`.
 
@@ -114,8 +102,7 @@ module _ {on : Bool} {h : HostState} {o : Op} {told : Answer} {q : PassState} {f
         → has_step kind before ≡ false
     before_lacks kind apart =
         before_turn_lacks turn kind apart elsewhere the_rest
-        (mine_parts c elsewhere before (acts ++ last)
-        (subst (λ (l : List Event). AreMine c elsewhere l) in_parts mine)).0
+        (mine_parts c elsewhere before (acts ++ last) (subst (AreMine c elsewhere) in_parts mine)).0
 
     pub exact : CallIsExact on turn.ends.turn (Some x)
-    exact = subst (λ (y : Option Op). CallIsExact on turn.ends.turn y) turn.turn_op turn.ends.exact
+    exact = subst (CallIsExact on turn.ends.turn) turn.turn_op turn.ends.exact

@@ -6,21 +6,14 @@ use Rattle.std.specs.Prelude.{◌&&◌, ◌==◌, not, filter, Option, Some, Non
 use Rattle.std.proofs.lemmas.Bool.{and_parts, cases_eq, cases_lt, true≢false, not-true}
 use Rattle.std.proofs.lemmas.List.{get_or_past, map-append}
 use Rattle.std.proofs.Math.Bool.{and-false}
-use Rattle.mk_core.specs.declared.config.Config.{Config}
-use Rattle.mk_core.specs.declared.events.Event.{Event}
-use Rattle.mk_core.specs.Allocations.{PlacedAllocation, cell_of_allocation, never_granted, placed_at, storage_words}
-use Rattle.mk_core.specs.Cells.{is_freed}
-use Rattle.mk_core.specs.Cycles.{is_quarantined}
-use Rattle.mk_core.specs.History.{IsHistory, left}
-use Rattle.mk_core.specs.Words.{Words, phase_of}
-use Rattle.mk_core.specs.Counts.{in_a_word}
+use Rattle.mk_trace.proofs.Vocabulary.{AreFound, AreObjectsOf, AreThose, Config, Event, FlagsBehind, FreedObject}
+use Rattle.mk_trace.proofs.Vocabulary.{IsHistory, PlacedAllocation, Words, age_in_a_word, age_of, aged}
+use Rattle.mk_trace.proofs.Vocabulary.{cell_of_allocation, freed_object_of, in_a_word, is_freed, is_quarantined}
+use Rattle.mk_trace.proofs.Vocabulary.{large_words, left, never_granted, one_if, phase_of, placed_at, storage_words}
+use Rattle.mk_trace.proofs.Vocabulary.{times}
 use Rattle.mk_laws.proofs.ImagesKept.{exists_placed}
-use Rattle.mk_trace.specs.declared.ledger.FreedObject.{FreedObject}
-use Rattle.mk_trace.specs.Freeing.{FlagsBehind, FreesFlag, large_words}
-use Rattle.mk_trace.specs.Ledgers.{AreFound, AreObjectsOf, age_in_a_word, aged, aged_object, freed_object_of}
-use Rattle.mk_trace.specs.Ledgers.{one_or_none}
-use Rattle.mk_trace.specs.Peaks.{age_of}
-use Rattle.mk_trace.specs.Numbers.{AreThose, one_if, times}
+use Rattle.mk_trace.specs.Freeing.{FreesFlag}
+use Rattle.mk_trace.specs.Ledgers.{aged_object, one_or_none}
 use Rattle.mk_trace.proofs.NumberLists.{equal_is, filters_agree, stands_passes, those_filtered, times_more, unequal_is}
 use Rattle.mk_trace.proofs.FoundObjects.{bit_tells_released, cell_by}
 
@@ -32,8 +25,7 @@ maps_agree f g [] agree = refl
 maps_agree {X} f g (x ∷ numbers) agree =
     let first : 1 ≤ one_if (x == x) + times x numbers =
     subst (λ (b : Bool). 1 ≤ one_if b + times x numbers) (sym (equal_is x)) (omega arith) in
-    ap (λ (y : X). y ∷ map f numbers) (agree x first)
-    ∙ ap (λ (l : List X). g x ∷ l)
+    ap (λ (y : X). y ∷ map f numbers) (agree x first) ∙ ap (λ (l : List X). g x ∷ l)
     (maps_agree f g numbers (λ i some. agree i (omega (arith, some))))
 
 filter_head : (f : ℕ → FreedObject) (x : ℕ) (xs : List FreedObject) (numbers : List ℕ) (b : Bool)
@@ -53,7 +45,7 @@ mapped_twice g f [] = refl
 mapped_twice {X} {Y} g f (x ∷ numbers) = ap (λ (l : List Y). g (f x) ∷ l) (mapped_twice g f numbers)
 
 those_alike : (p q : ℕ → Bool) (numbers : List ℕ) → ((i : ℕ) → p i ≡ q i) → AreThose p numbers → AreThose q numbers
-those_alike p q numbers same those i = those i ∙ ap (λ (b : Bool). one_if b) (same i)
+those_alike p q numbers same those i = those i ∙ ap one_if (same i)
 
 object_by : (c : Config) (found : List (List PlacedAllocation)) (xs ys : List PlacedAllocation) (i : ℕ)
     → (placed_at ys i).base ≡ (placed_at xs i).base → (placed_at ys i).ty ≡ (placed_at xs i).ty
@@ -126,8 +118,7 @@ module _ (c : Config) (es fs : List Event) (x : Option ℕ)
     numbers = kept.numbers ++ k ∷ [];
     are = ap (λ (l : List FreedObject). l ++ freed_object_of c xs k ∷ []) kept.are
         ∙ ap (λ (n : ℕ). map (aged_object c found xs) kept.numbers ++ record (freed_object_of c xs k) { age = n } ∷ [])
-        (sym young)
-        ∙ sym (map-append (aged_object c found xs) kept.numbers (k ∷ []));
+        (sym young) ∙ sym (map-append (aged_object c found xs) kept.numbers (k ∷ []));
     those = those;
   }
     where
@@ -138,24 +129,18 @@ module _ (c : Config) (es fs : List Event) (x : Option ℕ)
       young = let none = ends.unfreed k freed.before in omega (arith, none)
 
       at_k : times k kept.numbers ≡ 0
-      at_k =
-          kept.those k
-          ∙ ap (λ (b : Bool). one_if (b && not (placed_at xs k).released)) freed.before
+      at_k = kept.those k ∙ ap (λ (b : Bool). one_if (b && not (placed_at xs k).released)) freed.before
 
       was : was_kept k ≡ true
       was =
-          ap (λ (b : Bool). b && not (placed_at xs k).released) freed.behind
-          ∙ ap (λ (b : Bool). not b) freed.unreleased
+          ap (λ (b : Bool). b && not (placed_at xs k).released) freed.behind ∙ ap (λ (b : Bool). not b) freed.unreleased
 
       those : AreThose was_kept (kept.numbers ++ k ∷ [])
       those i = elim (cases_eq k i) [
-        | inl same ↦
-            subst (λ (j : ℕ). times j (kept.numbers ++ k ∷ []) ≡ one_if (was_kept j)) same
+        | inl same ↦ subst (λ (j : ℕ). times j (kept.numbers ++ k ∷ []) ≡ one_if (was_kept j)) same
             (times_more k kept.numbers k ∙ ap (λ (n : ℕ). n + one_if (k == k)) at_k
-            ∙ ap (λ (b : Bool). 0 + one_if b) (equal_is k) ∙ ap (λ (b : Bool). one_if b) (sym was))
-        | inr ne ↦
-            times_more i kept.numbers k
-            ∙ ap (λ (b : Bool). times i kept.numbers + one_if b) (unequal_is k i ne)
+            ∙ ap (λ (b : Bool). 0 + one_if b) (equal_is k) ∙ ap one_if (sym was))
+        | inr ne ↦ times_more i kept.numbers k ∙ ap (λ (b : Bool). times i kept.numbers + one_if b) (unequal_is k i ne)
             ∙ (let rest : times i kept.numbers ≡ one_if (was_kept i) =
             kept.those i ∙ ap (λ (b : Bool). one_if (b && not (placed_at xs i).released))
             (sym (flags.kept i (λ some. (let both : Some k ≡ Some i = sym is ∙ some in
@@ -166,8 +151,7 @@ module _ (c : Config) (es fs : List Event) (x : Option ℕ)
       → AreFound found xs → AreObjectsOf c found xs (λ (i : ℕ). is_quarantined (placed_at xs i)) objects
       → AreObjectsOf c found xs was_kept (objects ++ one_or_none (option_map (freed_object_of c xs) y))
   noted_by found objects None is ends kept =
-      subst (λ (l : List FreedObject). AreObjectsOf c found xs was_kept l) (sym (append-nil objects))
-      (none_noted found objects is kept)
+      subst (AreObjectsOf c found xs was_kept) (sym (append-nil objects)) (none_noted found objects is kept)
   noted_by found objects (Some k) is ends kept = one_noted found objects k is ends kept
 
   pub noted : (found : List (List PlacedAllocation)) (objects : List FreedObject) → AreFound found xs
@@ -193,8 +177,7 @@ module _ (c : Config) (es fs : List Event) (x : Option ℕ)
       object_by c found xs ys i (flags.later.base i lt) (flags.later.ty i lt)))
 
   pub none_released : ((i : ℕ) → i < length xs → (placed_at ys i).released ≡ (placed_at xs i).released)
-      → (found : List (List PlacedAllocation)) (objects : List FreedObject)
-      → AreObjectsOf c found xs was_kept objects
+      → (found : List (List PlacedAllocation)) (objects : List FreedObject) → AreObjectsOf c found xs was_kept objects
       → AreObjectsOf c found ys (λ (i : ℕ). is_quarantined (placed_at ys i)) objects
   none_released same found objects kept = record {
     numbers = kept.numbers;
@@ -220,8 +203,7 @@ module _ (c : Config) (es fs : List Event) (x : Option ℕ)
 
     left_alike : (i : ℕ) → (not (placed_at ys i).released && was_kept i) ≡ is_quarantined (placed_at ys i)
     left_alike i = elim (cases_lt i (length xs)) [
-      | inl lt ↦
-          still_in (placed_at ys i).freed (placed_at xs i).released (placed_at ys i).released
+      | inl lt ↦ still_in (placed_at ys i).freed (placed_at xs i).released (placed_at ys i).released
           (flags.later.released i lt)
       | inr le ↦ rw (unfreed_past i le) (and-false (not (placed_at ys i).released))
     ]
@@ -234,8 +216,7 @@ module _ (c : Config) (es fs : List Event) (x : Option ℕ)
       aged_at i = aged (aged_object c found xs i)
 
       all_aged : map aged objects ≡ map aged_at kept.numbers
-      all_aged =
-          ap (λ (l : List FreedObject). map aged l) kept.are ∙ mapped_twice aged (aged_object c found xs) kept.numbers
+      all_aged = ap (map aged) kept.are ∙ mapped_twice aged (aged_object c found xs) kept.numbers
 
       kept_passes : (test : ℕ → Bool) (i : ℕ) → 1 ≤ times i (filter test kept.numbers) → was_kept i ≡ true
       kept_passes test i some =
@@ -252,14 +233,11 @@ module _ (c : Config) (es fs : List Event) (x : Option ℕ)
           kept.numbers
           (λ i some. ap (λ (b : Bool). not b) (tells kept.numbers kept.those i some) ∙ not_twice (gone i)) in
           ap (λ (l : List FreedObject). map (λ (y : FreedObject). y.age)
-          (filter (λ (y : FreedObject). not (is_freed w y.cell)) l)) all_aged
-          ∙ ap (λ (l : List FreedObject). map (λ (y : FreedObject). y.age) l)
-          (filter_mapped (λ (y : FreedObject). not (is_freed w y.cell)) aged_at kept.numbers
-          ∙ ap (λ (l : List ℕ). map aged_at l) agree)
+          (filter (λ (y : FreedObject). not (is_freed w y.cell)) l)) all_aged ∙ ap (map (λ (y : FreedObject). y.age))
+          (filter_mapped (λ (y : FreedObject). not (is_freed w y.cell)) aged_at kept.numbers ∙ ap (map aged_at) agree)
           ∙ mapped_twice (λ (y : FreedObject). y.age) aged_at (filter gone kept.numbers)
           ∙ maps_agree (λ (i : ℕ). (aged_at i).age) (age_in_a_word later) (filter gone kept.numbers)
-          (λ i some.
-          ap (λ (y : FreedObject). y.age) (aged_by c found later xs i (one i (kept_passes gone i some))))
+          (λ i some. ap (λ (y : FreedObject). y.age) (aged_by c found later xs i (one i (kept_passes gone i some))))
 
     pub let_go : (found later : List (List PlacedAllocation))
         → ((i : ℕ) → was_kept i ≡ true → age_of i later ≡ age_of i found + 1)
@@ -271,17 +249,14 @@ module _ (c : Config) (es fs : List Event) (x : Option ℕ)
         let unreleased : ℕ → Bool = λ i. not (placed_at ys i).released in
         let rest : List ℕ = filter unreleased kept.numbers in
         let agree = filters_agree (λ (i : ℕ). is_freed w (cell_of_allocation c (placed_at xs i))) unreleased
-        kept.numbers
-        (tells kept.numbers kept.those) in
+        kept.numbers (tells kept.numbers kept.those) in
         let those : AreThose (λ (i : ℕ). unreleased i && was_kept i) rest =
         those_filtered unreleased was_kept kept.numbers kept.those in
         record {
           numbers = rest;
           are =
-              ap (λ (l : List FreedObject). filter (λ (y : FreedObject). is_freed w y.cell) l)
-              (all_aged found later one objects kept)
-              ∙ filter_mapped (λ (y : FreedObject). is_freed w y.cell) aged_at kept.numbers
-              ∙ ap (λ (l : List ℕ). map aged_at l) agree
+              ap (filter (λ (y : FreedObject). is_freed w y.cell)) (all_aged found later one objects kept)
+              ∙ filter_mapped (λ (y : FreedObject). is_freed w y.cell) aged_at kept.numbers ∙ ap (map aged_at) agree
               ∙ maps_agree aged_at (aged_object c later ys) rest (λ i some.
               (let both = and_parts (unreleased i) (was_kept i)
               (stands_passes (λ (j : ℕ). unreleased j && was_kept j) rest those i some) in

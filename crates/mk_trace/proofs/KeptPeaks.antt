@@ -4,25 +4,17 @@ use Rattle.std.proofs.Common.{sym, ◌∙◌, ap, subst, arith}
 use Rattle.std.specs.Prelude.{◌==◌, fold, sum_by, Option, Some, None, option_map}
 use Rattle.std.proofs.lemmas.Bool.{eq-eqb, eqb-true, true≢false}
 use Rattle.std.proofs.lemmas.List.Sums.{sum_by-append, sum_by-cons, sum_by_push}
-use Rattle.mk_never.specs.declared.operations.Op.{Op}
-use Rattle.mk_core.specs.declared.config.Config.{Config}
-use Rattle.mk_core.specs.declared.events.Event.{Event}
-use Rattle.mk_core.specs.Allocations.{PlacedAllocation, placed_at}
-use Rattle.mk_core.specs.Counts.{ends, in_a_word}
-use Rattle.mk_core.specs.Cycles.{is_quarantined}
-use Rattle.mk_core.specs.History.{IsHistory, left, never_behind}
-use Rattle.mk_core.specs.Words.{Words, phase_of}
-use Rattle.mk_trace.specs.declared.ledger.Freed.{Freed}
-use Rattle.mk_trace.specs.declared.ledger.FreedObject.{FreedObject}
+use Rattle.mk_trace.proofs.Vocabulary.{AreAgesOf, AreFound, AreObjectsOf, Config, EndsNone, EndsOne, Event}
+use Rattle.mk_trace.proofs.Vocabulary.{FlagsBehindCall, Freed, FreedObject, IsBetweenCycles, IsHistory}
+use Rattle.mk_trace.proofs.Vocabulary.{IsMostWhereFreed, Keeps, Op, PlacedAllocation, QuarantinesMostWhereFreed}
+use Rattle.mk_trace.proofs.Vocabulary.{SettlesFreed, Words, age_in_a_word, age_of, aged, ends, freed_object_of}
+use Rattle.mk_trace.proofs.Vocabulary.{freed_words, greatest, in_a_word, is_quarantined, left, never_behind}
+use Rattle.mk_trace.proofs.Vocabulary.{number_freed, objects_kept, phase_of, placed_at, quarantined_words}
+use Rattle.mk_trace.proofs.Vocabulary.{reserved_words, still_kept, with_one, words_of_some}
 use Rattle.mk_trace.specs.declared.ledger.Peak.{Peak}
-use Rattle.mk_trace.specs.Ends.{EndsNone, EndsOne, IsBetweenCycles}
-use Rattle.mk_trace.specs.Freeing.{FlagsBehindCall, IsMostWhereFreed, QuarantinesMostWhereFreed, freed_words}
-use Rattle.mk_trace.specs.Freeing.{number_freed, words_of_some}
-use Rattle.mk_trace.specs.Ledgers.{AreAgesOf, AreFound, AreObjectsOf, IsPeakOf, Keeps, Notes, SettlesFreed}
-use Rattle.mk_trace.specs.Ledgers.{SettlesWhere}
-use Rattle.mk_trace.specs.Ledgers.{aged, age_in_a_word, aged_object, is_count_same, freed_object_of, objects_kept}
-use Rattle.mk_trace.specs.Ledgers.{one_or_none, risen, some_words, still_kept, weighed_anew, with_one}
-use Rattle.mk_trace.specs.Peaks.{age_of, found_by_ends, greatest, quarantined_words, reserved_words}
+use Rattle.mk_trace.specs.Ledgers.{IsPeakOf, Notes, SettlesWhere, aged_object, is_count_same, one_or_none, risen}
+use Rattle.mk_trace.specs.Ledgers.{some_words, weighed_anew}
+use Rattle.mk_trace.specs.Peaks.{found_by_ends}
 use Rattle.mk_trace.proofs.FoundAges.{kept_age, none_ages, none_found, one_ages, one_found}
 use Rattle.mk_trace.proofs.FreedWords.{large_weight, quarantined_is, reserved_is, storage_weight, weighed, sum_alike}
 use Rattle.mk_trace.proofs.KeptObjects.{ages_gone, let_go, none_released, noted, was_kept}
@@ -50,8 +42,7 @@ same_count before count kept is same few more =
     let equal : in_a_word count ≡ kept = eqb-true (in_a_word count) kept same in
     omega (arith, equal, few, is, more)
 
-other_count : (before count kept : ℕ) → kept ≡ in_a_word before → (in_a_word count == kept) ≡ false
-    → count ≡ before → ⊥
+other_count : (before count kept : ℕ) → kept ≡ in_a_word before → (in_a_word count == kept) ≡ false → count ≡ before → ⊥
 other_count before count kept is other same =
     true≢false (sym (eq-eqb (in_a_word count) kept (ap in_a_word same ∙ sym is)) ∙ other)
 
@@ -61,16 +52,13 @@ module _ (c : Config) (measure : List PlacedAllocation → ℕ) (words : FreedOb
     (words_is : (ys : List PlacedAllocation) (i age : ℕ)
     → words (record (freed_object_of c ys i) { age = age }) ≡ weight (placed_at ys i).ty) where
   total : (found : List (List PlacedAllocation)) (ys : List PlacedAllocation) (objects : List FreedObject)
-      → AreObjectsOf c found ys (λ (i : ℕ). is_quarantined (placed_at ys i)) objects
-      → sum_by words objects ≡ measure ys
+      → AreObjectsOf c found ys (λ (i : ℕ). is_quarantined (placed_at ys i)) objects → sum_by words objects ≡ measure ys
   total found ys objects kept =
-      ap (λ (l : List FreedObject). sum_by words l) kept.are
-      ∙ sum_mapped words (aged_object c found ys) kept.numbers
+      ap (sum_by words) kept.are ∙ sum_mapped words (aged_object c found ys) kept.numbers
       ∙ sum_alike _ (λ (i : ℕ). weight (placed_at ys i).ty) (λ i. words_is ys i (age_in_a_word found i)) kept.numbers
       ∙ words_of_numbers weight kept.numbers ys kept.those ∙ sym (measure_is ys)
 
-  some_is : (ys : List PlacedAllocation) (x : Option ℕ)
-      → some_words words (option_map (freed_object_of c ys) x)
+  some_is : (ys : List PlacedAllocation) (x : Option ℕ) → some_words words (option_map (freed_object_of c ys) x)
       ≡ words_of_some (λ (a : PlacedAllocation). weight a.ty) ys x
   some_is ys None = refl
   some_is ys (Some i) = words_is ys i 0
@@ -80,8 +68,7 @@ module _ (c : Config) (measure : List PlacedAllocation → ℕ) (words : FreedOb
       (peak : IsPeakOf c measure es first) (rises : second ≡ risen first (some_words words x))
       (most : IsMostWhereFreed c measure (λ (a : PlacedAllocation). weight a.ty) es o fs) where
     adds : some_words words x ≡ freed_words c (λ (a : PlacedAllocation). weight a.ty) es o
-    adds = ap (λ (y : Option FreedObject). some_words words y) is
-        ∙ some_is (left c es).allocations (number_freed (never_behind c es) o)
+    adds = ap (some_words words) is ∙ some_is (left c es).allocations (number_freed (never_behind c es) o)
 
     now_is : second.now ≡ in_a_word (measure (left c es).allocations + some_words words x)
     now_is =
@@ -101,8 +88,7 @@ module _ (c : Config) (measure : List PlacedAllocation → ℕ) (words : FreedOb
         → AreObjectsOf c found (left c es).allocations (λ (i : ℕ). is_quarantined (placed_at (left c es).allocations i))
         objects
         → AreObjectsOf c found (left c fs).allocations (λ (i : ℕ). is_quarantined (placed_at (left c fs).allocations i))
-        (objects ++ one_or_none x)
-        → third ≡ second → IsPeakOf c measure fs third
+        (objects ++ one_or_none x) → third ≡ second → IsPeakOf c measure fs third
     peak_stays found objects was kept same =
         let before = total found (left c es).allocations objects was in
         let behind = total found (left c fs).allocations (objects ++ one_or_none x) kept in
@@ -115,8 +101,7 @@ module _ (c : Config) (measure : List PlacedAllocation → ℕ) (words : FreedOb
     -- What was released was let go.
     pub peak_anew : (found : List (List PlacedAllocation)) (rest : List FreedObject)
         → AreObjectsOf c found (left c fs).allocations (λ (i : ℕ). is_quarantined (placed_at (left c fs).allocations i))
-        rest
-        → third ≡ weighed_anew words rest second → IsPeakOf c measure fs third
+        rest → third ≡ weighed_anew words rest second → IsPeakOf c measure fs third
     peak_anew found rest kept anew = record {
       now = ap (λ (p : Peak). p.now) anew ∙ ap in_a_word (total found (left c fs).allocations rest kept);
       most = ap (λ (p : Peak). p.most) anew ∙ most_is;
@@ -158,9 +143,7 @@ module _ (c : Config) (es fs : List Event) (o : Op) (before : IsHistory c es) (b
       (noted c es fs x_number flags found (objects_kept first) keeps.found keeps.objects)
 
   noted_objects : AreObjectsOf c found xs (was_kept c es fs x_number flags) (objects_kept second)
-  noted_objects =
-      subst (λ (l : List FreedObject). AreObjectsOf c found xs (was_kept c es fs x_number flags) l)
-      (sym notes.objects) with_freed
+  noted_objects = subst (AreObjectsOf c found xs (was_kept c es fs x_number flags)) (sym notes.objects) with_freed
 
   -- No cycle ended.
   module _ (none : EndsNone c es fs) where
@@ -180,13 +163,13 @@ module _ (c : Config) (es fs : List Event) (o : Op) (before : IsHistory c es) (b
           (λ zs i age. refl) es fs o first.reserved second.reserved third.reserved x is keeps.reserved
           notes.reserved most.reserved found (objects_kept first) keeps.objects none_gone s.1;
       objects =
-          subst (λ (l : List FreedObject). Kept (found_by_ends c fs) l) (sym (s.2 ∙ notes.objects))
+          subst (Kept (found_by_ends c fs)) (sym (s.2 ∙ notes.objects))
           (subst (λ (f : List (List PlacedAllocation)). Kept f (objects_kept first ++ one_or_none x)) (sym none.found)
           none_gone);
       ages =
           subst (λ (f : List (List PlacedAllocation)). AreAgesOf f ys third.ages.items) (sym none.found)
           (none_ages c es fs x_number flags none.released.released found third.ages.items
-          (subst (λ (l : List (ℕ × ℕ)). AreAgesOf found xs l) (sym (s.3 ∙ notes.ages)) keeps.ages));
+          (subst (AreAgesOf found xs) (sym (s.3 ∙ notes.ages)) keeps.ages));
       found =
           subst (λ (f : List (List PlacedAllocation)). AreFound f ys) (sym none.found)
           (none_found c es fs x_number flags none.released.released found keeps.found);
@@ -202,8 +185,7 @@ module _ (c : Config) (es fs : List Event) (o : Op) (before : IsHistory c es) (b
     older = kept_age c es fs x_number flags found one.finds one.freed one.released keeps.found
 
     rest_kept : Kept later (still_kept w.freed (map aged (objects_kept second)))
-    rest_kept =
-        let_go c es fs x_number flags before behind out found later older (objects_kept second) noted_objects
+    rest_kept = let_go c es fs x_number flags before behind out found later older (objects_kept second) noted_objects
 
     keeps_one : SettlesWhere false w.freed second third → Keeps c fs third
     keeps_one s = record {
@@ -216,15 +198,15 @@ module _ (c : Config) (es fs : List Event) (o : Op) (before : IsHistory c es) (b
           (λ zs i age. refl) es fs o first.reserved second.reserved third.reserved x is keeps.reserved
           notes.reserved most.reserved later (still_kept w.freed (map aged (objects_kept second))) rest_kept s.1;
       objects =
-          subst (λ (l : List FreedObject). Kept (found_by_ends c fs) l) (sym s.2)
+          subst (Kept (found_by_ends c fs)) (sym s.2)
           (subst (λ (f : List (List PlacedAllocation)). Kept f (still_kept w.freed (map aged (objects_kept second))))
           (sym one.found) rest_kept);
       ages =
           subst (λ (f : List (List PlacedAllocation)). AreAgesOf f ys third.ages.items) (sym one.found)
           (one_ages c es fs x_number flags found one.finds one.freed one.released keeps.found second.ages.items
           third.ages.items noted_objects.numbers
-          (subst (λ (l : List (ℕ × ℕ)). AreAgesOf found xs l) (sym notes.ages) keeps.ages) noted_objects.those
-          (s.3 ∙ ap (λ (l : List ℕ). fold with_one second.ages.items l)
+          (subst (AreAgesOf found xs) (sym notes.ages) keeps.ages) noted_objects.those
+          (s.3 ∙ ap (fold with_one second.ages.items)
           (ages_gone c es fs x_number flags before behind out found later older (objects_kept second) noted_objects)));
       found =
           subst (λ (f : List (List PlacedAllocation)). AreFound f ys) (sym one.found)
@@ -235,14 +217,12 @@ module _ (c : Config) (es fs : List Event) (o : Op) (before : IsHistory c es) (b
   by_count : (b : Bool) → is_count_same (in_a_word (ends fs)) second ≡ b → SettlesWhere b w.freed second third
       → Keeps c fs third
   by_count true same s = elim tells [
-    | inr one ↦
-        absurd (same_count (ends es) (ends fs) second.ends (notes.ends ∙ keeps.ends) same few one.count)
+    | inr one ↦ absurd (same_count (ends es) (ends fs) second.ends (notes.ends ∙ keeps.ends) same few one.count)
     | inl none ↦ keeps_none none s
   ]
   by_count false other s = elim tells [
     | inr one ↦ keeps_one one s
-    | inl none ↦
-        absurd (other_count (ends es) (ends fs) second.ends (notes.ends ∙ keeps.ends) other none.count)
+    | inl none ↦ absurd (other_count (ends es) (ends fs) second.ends (notes.ends ∙ keeps.ends) other none.count)
   ]
 
   pub keeps_on : Keeps c fs third

@@ -6,21 +6,14 @@ use Rattle.std.specs.List.{list_any, list_all}
 use Rattle.std.proofs.lemmas.List.{length-append, length-drop, take_all, take-append-le, drop-append-le, take_more}
 use Rattle.std.proofs.lemmas.List.{get_or-drop, length-take, take-append-drop, drop_more}
 use Rattle.std.proofs.lemmas.Bool.{and_parts}
-use Rattle.mk_never.specs.declared.operations.Op.{Op}
+use Rattle.mk_trace.proofs.Vocabulary.{A, Answer, AreAdmitted, C, Calls, Config, Event, F, K, Op, TraceEvent, W}
+use Rattle.mk_trace.proofs.Vocabulary.{begins_full, calls_of_caller, flagged, is_refusal, never_behind, one_if, ops_of}
+use Rattle.mk_trace.proofs.Vocabulary.{refused_events}
 use Rattle.mk_never.specs.declared.operations.Op.TheVariants as op
-use Rattle.mk_never.specs.Admitted.{AreAdmitted}
-use Rattle.mk_core.specs.declared.events.Answer.{Answer}
-use Rattle.mk_core.specs.declared.config.Config.{Config}
 use Rattle.mk_core.specs.declared.events.Answer.TheVariants as answer
-use Rattle.mk_core.specs.declared.events.Event.{Event}
 use Rattle.mk_core.specs.Counts.{is_full_answer}
-use Rattle.mk_core.specs.Decided.{flagged}
-use Rattle.mk_core.specs.History.{never_behind}
-use Rattle.mk_trace.specs.declared.trace.TraceEvent.{TraceEvent}
-use Rattle.mk_trace.specs.declared.trace.TraceEvent.TheVariants.{A, K, F, C, W}
-use Rattle.mk_trace.specs.Playing.{ops_of, begins_full, ops_played, refused_events, is_refusal, calls_of_caller}
-use Rattle.mk_trace.specs.Numbers.{one_if}
-use Rattle.mk_trace.specs.Calls.{MayCome, Calls, CallsAll, PlaysEvent}
+use Rattle.mk_trace.specs.Playing.{ops_played}
+use Rattle.mk_trace.specs.Calls.{MayCome, CallsAll, PlaysEvent}
 use Rattle.mk_trace.proofs.OneCaller.{begins_alike, calls_first, calls_more, full_as_told, next_may_come}
 
 -- The operations of events, and how many are refused, with one event more.
@@ -107,8 +100,7 @@ module _ (event : TraceEvent) (more : List Answer) where
       ap (λ (full : Bool). if list_any is_refusal (take (length (ops_of full x)) (answers ++ more))
       then later (drop (length (ops_of full x)) (answers ++ more)) + 1
       else later (drop (length (ops_of full x)) (answers ++ more))) (alike x events answers count more)
-      ∙ ap (λ (l : List Answer). if list_any is_refusal l
-      then later (drop (length own) (answers ++ more)) + 1
+      ∙ ap (λ (l : List Answer). if list_any is_refusal l then later (drop (length own) (answers ++ more)) + 1
       else later (drop (length own) (answers ++ more))) (take-append-le (length own) answers more fits)
       ∙ counted_more (list_any is_refusal (take (length own) answers)) (refused_events events left)
       (later (drop (length own) (answers ++ more))) (one_if (list_any is_refusal more))
@@ -206,7 +198,7 @@ module _ (c : Config) (es : List Event) (full : Bool) (event : TraceEvent) (i : 
   pub later_may_come : (refused : Bool) (fs : List Event) → CallsAll c es full (take (i + 1) ops) refused fs
       → AreAdmitted c.globals (never_behind c es) (calls_of_caller ops) → MayCome c fs o
   later_may_come refused fs h admitted =
-      next_may_come c es full (take (i + 1) ops) refused fs o (drop (i + 1 + 1) ops) h
+      next_may_come o (drop (i + 1 + 1) ops) h
       (subst (λ (l : List Op). AreAdmitted c.globals (never_behind c es) (calls_of_caller l))
       (sym (take-append-drop (i + 1) ops)
       ∙ ap (λ (l : List Op). take (i + 1) ops ++ l) (drop_more' ∙ ap (λ (x : Op). x ∷ drop (i + 1 + 1) ops) here))
@@ -216,38 +208,35 @@ module _ (c : Config) (es : List Event) (full : Bool) (event : TraceEvent) (i : 
       drop_more' = drop_more ops (i + 1) o inside
 
 -- all of them
-pub later_all : (c : Config) (es : List Event) (full : Bool) (event : TraceEvent) (i : ℕ) (refused : Bool)
-    (fs : List Event)
-    → length (drop 1 (ops_of full event)) ≤ i
+pub later_all : {c : Config} {es : List Event} {full : Bool} (event : TraceEvent) (i : ℕ) {refused : Bool}
+    {fs : List Event} → length (drop 1 (ops_of full event)) ≤ i
     → CallsAll c es full (take (i + 1) (ops_of full event)) refused fs
     → CallsAll c es full (ops_of full event) refused fs
-later_all c es full event i refused fs past h =
+later_all {c} {es} {full} event i {refused} {fs} past h =
     subst (λ (l : List Op). CallsAll c es full l refused fs)
     (take_all (i + 1) (ops_of full event) (omega (arith, past, length-drop 1 (ops_of full event)))) h
 
 -- the first one
-pub first_all : (c : Config) (es : List Event) (full : Bool) (event : TraceEvent) (o : Op) (refused : Bool)
-    (fs : List Event)
-    → ops_of full event ≡ o ∷ drop 1 (ops_of full event)
+pub first_all : {c : Config} {es : List Event} {full : Bool} (event : TraceEvent) (o : Op) {refused : Bool}
+    {fs : List Event} → ops_of full event ≡ o ∷ drop 1 (ops_of full event)
     → CallsAll c es full (o ∷ []) refused fs → CallsAll c es full (take (0 + 1) (ops_of full event)) refused fs
-first_all c es full event o refused fs is h =
-    subst (λ (l : List Op). CallsAll c es full l refused fs) (sym (ap (λ (l : List Op). take 1 l) is)) h
+first_all {c} {es} {full} event o {refused} {fs} is h =
+    subst (λ (l : List Op). CallsAll c es full l refused fs) (sym (ap (take 1) is)) h
 
-pub begun : (c : Config) (es : List Event) (event : TraceEvent) (o : Op) (told : Answer) (fs : List Event)
+pub begun : {c : Config} {es : List Event} (event : TraceEvent) {o : Op} {told : Answer} {fs : List Event}
     → ops_of false event ≡ o ∷ drop 1 (ops_of false event) → Calls c es o told fs
     → CallsAll c es (is_full_answer told) (take (0 + 1) (ops_of (is_full_answer told) event)) (is_refusal told) fs
-begun c es event o told fs is g =
+begun event {o} {told} is g =
     let same : is_full_answer told ≡ is_full_answer g.answer = ap is_full_answer g.is_told ∙ full_as_told g.answer in
     let first : ops_of (is_full_answer told) event ≡ flagged o g.answer ∷ drop 1 (ops_of (is_full_answer told) event) =
     subst (λ (full : Bool). ops_of full event ≡ flagged o g.answer ∷ drop 1 (ops_of full event)) (sym same)
     (first_of o g.answer event is) in
-    first_all c es (is_full_answer told) event (flagged o g.answer) (is_refusal told) fs first
-    (calls_first c es o told fs g)
+    first_all event (flagged o g.answer) first (calls_first g)
 
 -- What the calls of an event come to.
-pub plays_event : (c : Config) (es : List Event) (event : TraceEvent) (refused : Bool) (fs : List Event) (full : Bool)
+pub plays_event : {c : Config} {es : List Event} (event : TraceEvent) {refused : Bool} {fs : List Event} {full : Bool}
     → CallsAll c es full (ops_of full event) refused fs → PlaysEvent c es event refused fs
-plays_event c es event refused fs full h = record {
+plays_event event h = record {
   more = h.more;
   is = h.is;
   asks = h.asks ∙ ap (λ (b : Bool). calls_of_caller (ops_of b event)) (sym h.begins);
@@ -286,22 +275,19 @@ module _ (c : Config) (es : List Event) (event : TraceEvent) (items : List Op) (
           (later_call c es h.full event i o inside_later here_later refused fs told gs h.calls g);
     }
 
-pub called_all : (c : Config) (es : List Event) (event : TraceEvent) (items : List Op) (i : ℕ) (refused : Bool)
-    (fs : List Event)
-    → AreCalled c es event items i refused fs → length items ≤ i → PlaysEvent c es event refused fs
-called_all c es event items i refused fs h past =
-    plays_event c es event refused fs h.full
-    (later_all c es h.full event i refused fs (subst (λ (l : List Op). length l ≤ i) h.items_are past) h.calls)
+pub called_all : {c : Config} {es : List Event} {event : TraceEvent} {items : List Op} {i : ℕ} {refused : Bool}
+    {fs : List Event} → AreCalled c es event items i refused fs → length items ≤ i → PlaysEvent c es event refused fs
+called_all {event} {i} h past =
+    plays_event event (later_all event i (subst (λ (l : List Op). length l ≤ i) h.items_are past) h.calls)
 
-pub called_first : (c : Config) (es : List Event) (event : TraceEvent) (o : Op) (told : Answer) (fs : List Event)
+pub called_first : {c : Config} {es : List Event} (event : TraceEvent) {o : Op} {told : Answer} {fs : List Event}
     (full refused : Bool) (items : List Op)
     → ops_of false event ≡ o ∷ drop 1 (ops_of false event) → Calls c es o told fs → full ≡ is_full_answer told
-    → refused ≡ is_refusal told → items ≡ drop 1 (ops_of full event)
-    → AreCalled c es event items 0 refused fs
-called_first c es event o told fs full refused items first g is_full is_refused are = record {
+    → refused ≡ is_refusal told → items ≡ drop 1 (ops_of full event) → AreCalled c es event items 0 refused fs
+called_first {c} {es} event {told} {fs} full refused items first g is_full is_refused are = record {
   full = is_full_answer told;
   items_are = are ∙ ap (λ (b : Bool). drop 1 (ops_of b event)) is_full;
   calls =
       subst (λ (b : Bool). CallsAll c es (is_full_answer told) (take (0 + 1) (ops_of (is_full_answer told) event)) b fs)
-      (sym is_refused) (begun c es event o told fs first g);
+      (sym is_refused) (begun event first g);
 }

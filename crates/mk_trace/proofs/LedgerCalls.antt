@@ -1,34 +1,21 @@
 -- What the ledger keeps: before any event, over a call, and at the end.
 use Rattle.std.proofs.Common.{◌≡◌, ℕ, List, [], refl, sym, ◌∙◌, ap, subst, ◌⊎◌, inl, inr, ◌+◌, ◌≤◌, ◌<◌, false, arith}
 use Rattle.std.specs.Prelude.{Option, option_map}
-use Rattle.mk_never.specs.declared.operations.Op.{Op}
+use Rattle.mk_trace.proofs.Vocabulary.{AreAgesOf, AreFound, AreObjectsOf, Config, Contents, Decided, EndsNone, EndsOne}
+use Rattle.mk_trace.proofs.Vocabulary.{EndsTell, Event, FlagsBehindCall, Freed, FreedObject, HoldsMostAtEnd}
+use Rattle.mk_trace.proofs.Vocabulary.{HostOnlyLooks, IsBetweenCycles, IsHistory, IsMostWhereFreed, Keeps}
+use Rattle.mk_trace.proofs.Vocabulary.{LeavesAllocations, NeverState, Op, PlacedAllocation, QuarantinesMostWhereFreed}
+use Rattle.mk_trace.proofs.Vocabulary.{SettlesFreed, Words, after_calls, asked, config_of, ends, first_world}
+use Rattle.mk_trace.proofs.Vocabulary.{freed_object_of, freed_words, greatest, held_by_allocations, in_a_word}
+use Rattle.mk_trace.proofs.Vocabulary.{is_quarantined, is_under_turn, large_words, left, most_held, never_behind}
+use Rattle.mk_trace.proofs.Vocabulary.{never_first, number_freed, objects_kept, peaks_of, placed_at, quarantined_words}
+use Rattle.mk_trace.proofs.Vocabulary.{reserved_words, storage_words}
 use Rattle.mk_never.specs.declared.operations.Op.TheVariants as op
-use Rattle.mk_never.specs.NeverHeap.{NeverState, after_calls}
-use Rattle.mk_core.specs.declared.config.Config.{Config}
-use Rattle.mk_core.specs.declared.events.Event.{Event}
-use Rattle.mk_core.specs.Allocations.{PlacedAllocation, unreleased_storage, held_by_allocations, placed_at}
-use Rattle.mk_core.specs.Allocations.{storage_words}
-use Rattle.mk_core.specs.Counts.{in_a_word, ends}
-use Rattle.mk_core.specs.History.{IsHistory, left, left_from, first_world, never_behind, never_first}
-use Rattle.mk_core.specs.Calls.{is_under_turn}
-use Rattle.mk_core.specs.Cycles.{is_quarantined}
-use Rattle.mk_core.specs.Decided.{Decided, asked}
-use Rattle.mk_core.specs.Words.{Words}
-use Rattle.mk_trace.specs.declared.ledger.Freed.{Freed}
+use Rattle.mk_core.specs.Allocations.{unreleased_storage}
+use Rattle.mk_core.specs.History.{left_from}
 use Rattle.mk_trace.specs.declared.ledger.Peak.{Peak}
-use Rattle.mk_trace.specs.Calls.{most_held, HoldsMostAtEnd}
-use Rattle.mk_trace.specs.Ends.{IsBetweenCycles, EndsNone, EndsOne, EndsTell, LeavesAllocations}
-use Rattle.mk_trace.specs.Ledgers.{AreAgesOf, Keeps, objects_kept, AreFound, AreObjectsOf, IsPeakOf, Notes}
-use Rattle.mk_trace.specs.Ledgers.{SettlesFreed}
-use Rattle.mk_trace.specs.Ledgers.{freed_object_of}
-use Rattle.mk_trace.specs.Peaks.{HistoryPeaks, found_by_ends, found_by_ends_from, greatest, greatest_from, peaks_of}
-use Rattle.mk_trace.specs.Peaks.{quarantined_words, reserved_words}
-use Rattle.mk_trace.specs.Playing.{config_of}
-use Rattle.mk_trace.specs.Traces.{Contents}
-use Rattle.mk_trace.specs.declared.ledger.FreedObject.{FreedObject}
-use Rattle.mk_trace.specs.Freeing.{FlagsBehindCall, IsMostWhereFreed, QuarantinesMostWhereFreed, freed_words}
-use Rattle.mk_trace.specs.Freeing.{large_words, number_freed}
-use Rattle.mk_trace.specs.Looking.{HostOnlyLooks}
+use Rattle.mk_trace.specs.Ledgers.{IsPeakOf, Notes}
+use Rattle.mk_trace.specs.Peaks.{HistoryPeaks, found_by_ends, found_by_ends_from, greatest_from}
 use Rattle.mk_trace.proofs.ReleasedAreFreed.{ages_counted}
 use Rattle.mk_trace.proofs.PeakParts.{last_below}
 use Rattle.mk_trace.proofs.KeptPeaks.{keeps_on}
@@ -37,11 +24,11 @@ use Rattle.mk_trace.proofs.KeptPeaks.{keeps_on}
 
 pub first_held : (c : Config) (es : List Event) → es ≡ [] → most_held c es ≡ 0
 unfolding greatest_from unreleased_storage
-first_held c es empty = ap (λ (l : List Event). most_held c l) empty
+first_held c es empty = ap (most_held c) empty
 
 pub first_idle : (c : Config) (es : List Event) → es ≡ [] → IsBetweenCycles c es
 unfolding left_from
-first_idle c es empty = subst (λ (l : List Event). IsBetweenCycles c l) (sym empty) refl
+first_idle c es empty = subst (IsBetweenCycles c) (sym empty) refl
 
 pub first_keeps : (c : Config) (es : List Event) (f : Freed) → es ≡ []
     → f.quarantined ≡ record { now = 0; most = 0 } → f.reserved ≡ record { now = 0; most = 0 }
@@ -50,10 +37,7 @@ unfolding greatest_from left_from found_by_ends_from
 first_keeps c es f empty quarantined reserved objects ages ends =
     subst (λ (l : List Event). Keeps c l f) (sym empty)
     (record {
-      quarantined = record {
-        now = ap (λ (p : Peak). p.now) quarantined;
-        most = ap (λ (p : Peak). p.most) quarantined;
-      };
+      quarantined = record { now = ap (λ (p : Peak). p.now) quarantined; most = ap (λ (p : Peak). p.most) quarantined };
       reserved = record { now = ap (λ (p : Peak). p.now) reserved; most = ap (λ (p : Peak). p.most) reserved };
       objects = record { numbers = []; are = objects; those = λ i. refl };
       ages = record { numbers = []; are = ages; those = λ i. refl };
@@ -69,15 +53,13 @@ most_of trace c measure es fs most same config is =
     is ∙ ap (λ (d : Config). in_a_word (greatest d (measure d) es)) config
     ∙ ap (λ (l : List Event). in_a_word (greatest (config_of trace) (measure (config_of trace)) l)) (sym same)
 
-pub ages_of : (trace : Contents) (c : Config) (es fs : List Event) (pairs : List (ℕ × ℕ)) → fs ≡ es
+pub ages_of : (trace : Contents) (c : Config) (es : List Event) {fs : List Event} {pairs : List (ℕ × ℕ)} → fs ≡ es
     → c ≡ config_of trace → IsHistory (config_of trace) fs
-    → AreAgesOf (found_by_ends c es) (left c es).allocations pairs
-    → pairs ≡ (peaks_of (config_of trace) fs).ages
-ages_of trace c es fs pairs same config history h =
-    ages_counted (config_of trace) fs (found_by_ends (config_of trace) fs) pairs history
+    → AreAgesOf (found_by_ends c es) (left c es).allocations pairs → pairs ≡ (peaks_of (config_of trace) fs).ages
+ages_of trace c es {pairs} same config history h =
+    ages_counted history
     (subst (λ (l : List Event). AreAgesOf (found_by_ends (config_of trace) l) (left (config_of trace) l).allocations
-    pairs) (sym same)
-    (subst (λ (d : Config). AreAgesOf (found_by_ends d es) (left d es).allocations pairs) config h))
+    pairs) (sym same) (subst (λ (d : Config). AreAgesOf (found_by_ends d es) (left d es).allocations pairs) config h))
 
 pub peaks_by : (p is : HistoryPeaks) → p.held ≡ is.held → p.quarantined ≡ is.quarantined → p.reserved ≡ is.reserved
     → p.cycles ≡ is.cycles → p.ages ≡ is.ages → p ≡ is
@@ -92,20 +74,20 @@ peaks_by p is held quarantined reserved cycles ages =
 
 -- What leaves the allocations and the cycles leaves what is kept.
 
-peak_left : (c : Config) (measure : List PlacedAllocation → ℕ) (es fs : List Event) (peak : Peak)
+peak_left : {c : Config} {measure : List PlacedAllocation → ℕ} {es fs : List Event} {peak : Peak}
     → LeavesAllocations c es fs → greatest c measure fs ≡ greatest c measure es → IsPeakOf c measure es peak
     → IsPeakOf c measure fs peak
-peak_left c measure es fs peak leaves most h = record {
+peak_left {measure} leaves most h = record {
   now = h.now ∙ ap (λ (l : List PlacedAllocation). in_a_word (measure l)) (sym leaves.allocations);
   most = h.most ∙ ap in_a_word (sym most);
 }
 
-keeps_left : (c : Config) (es fs : List Event) (f : Freed) → LeavesAllocations c es fs
+keeps_left : {c : Config} {es fs : List Event} {f : Freed} → LeavesAllocations c es fs
     → greatest c (quarantined_words c) fs ≡ greatest c (quarantined_words c) es
     → greatest c (reserved_words c) fs ≡ greatest c (reserved_words c) es → Keeps c es f → Keeps c fs f
-keeps_left c es fs f leaves quarantined reserved h = record {
-  quarantined = peak_left c (quarantined_words c) es fs f.quarantined leaves quarantined h.quarantined;
-  reserved = peak_left c (reserved_words c) es fs f.reserved leaves reserved h.reserved;
+keeps_left {c} {es} {fs} {f} leaves quarantined reserved h = record {
+  quarantined = peak_left leaves quarantined h.quarantined;
+  reserved = peak_left leaves reserved h.reserved;
   objects =
       subst (λ (found : List (List PlacedAllocation)). AreObjectsOf c found (left c fs).allocations
       (λ (i : ℕ). is_quarantined (placed_at (left c fs).allocations i)) (objects_kept f)) (sym leaves.found)
@@ -118,14 +100,13 @@ keeps_left c es fs f leaves quarantined reserved h = record {
       (sym leaves.allocations) h.ages);
   found =
       subst (λ (found : List (List PlacedAllocation)). AreFound found (left c fs).allocations) (sym leaves.found)
-      (subst (λ (xs : List PlacedAllocation). AreFound (found_by_ends c es) xs) (sym leaves.allocations) h.found);
+      (subst (AreFound (found_by_ends c es)) (sym leaves.allocations) h.found);
   ends = h.ends ∙ ap in_a_word (sym leaves.count);
 }
 
 -- So does a look.
-keeps_looked : (c : Config) (es fs : List Event) (f : Freed) → HostOnlyLooks c es fs → Keeps c es f → Keeps c fs f
-keeps_looked c es fs f looks h =
-    keeps_left c es fs f looks.leaves (looks.most (quarantined_words c)) (looks.most (reserved_words c)) h
+keeps_looked : {c : Config} {es fs : List Event} {f : Freed} → HostOnlyLooks c es fs → Keeps c es f → Keeps c fs f
+keeps_looked {c} looks h = keeps_left looks.leaves (looks.most (quarantined_words c)) (looks.most (reserved_words c)) h
 
 -- So does a call that isn't under the turn.
 
@@ -142,29 +123,28 @@ most_beside c measure words es o fs beside most =
     let below = last_below c measure (first_world c) es in
     omega (arith, most, none, below)
 
-pub keeps_beside : (c : Config) (es : List Event) (o : Op) (fs : List Event) (f : Freed) → is_under_turn o ≡ false
+pub keeps_beside : {c : Config} {es : List Event} {o : Op} {fs : List Event} {f : Freed} → is_under_turn o ≡ false
     → LeavesAllocations c es fs → QuarantinesMostWhereFreed c es o fs → Keeps c es f → Keeps c fs f
-keeps_beside c es o fs f beside leaves most h =
-    keeps_left c es fs f leaves
-    (most_beside c (quarantined_words c) (storage_words c) es o fs beside most.quarantined)
+keeps_beside {c} {es} {o} {fs} beside leaves most h =
+    keeps_left leaves (most_beside c (quarantined_words c) (storage_words c) es o fs beside most.quarantined)
     (most_beside c (reserved_words c) (large_words c) es o fs beside most.reserved) h
 
 -- What was held at most stays too.
-pub held_beside : (c : Config) (es fs : List Event) (held : ℕ) → LeavesAllocations c es fs → HoldsMostAtEnd c es fs
+pub held_beside : {c : Config} {es fs : List Event} (held : ℕ) → LeavesAllocations c es fs → HoldsMostAtEnd c es fs
     → held ≡ most_held c es → held ≡ most_held c fs
-held_beside c es fs held leaves most is =
-    let same = ap (λ (l : List PlacedAllocation). held_by_allocations c l) leaves.allocations in
+held_beside {c} {es} held leaves most is =
+    let same = ap (held_by_allocations c) leaves.allocations in
     let below = last_below c (held_by_allocations c) (first_world c) es in
     omega (arith, most, is, same, below)
 
 -- Looks before a call and after it
 
-pub idle_looked : (c : Config) (es fs : List Event) → HostOnlyLooks c es fs → IsBetweenCycles c es
+pub idle_looked : {c : Config} {es fs : List Event} → HostOnlyLooks c es fs → IsBetweenCycles c es
     → IsBetweenCycles c fs
-idle_looked c es fs looks idle = looks.leaves.phase ∙ idle
+idle_looked looks idle = looks.leaves.phase ∙ idle
 
-pub never_looked : (c : Config) (es fs : List Event) → HostOnlyLooks c es fs → never_behind c fs ≡ never_behind c es
-never_looked c es fs looks = ap (λ (l : List Decided). after_calls (never_first c) (asked l)) looks.calls
+pub never_looked : {c : Config} {es fs : List Event} → HostOnlyLooks c es fs → never_behind c fs ≡ never_behind c es
+never_looked {c} looks = ap (λ (l : List Decided). after_calls (never_first c) (asked l)) looks.calls
 
 -- One call
 module _ (c : Config) (es0 es1 es2 es3 es4 : List Event) (o : Op) (first second third : Freed)
@@ -176,15 +156,14 @@ module _ (c : Config) (es0 es1 es2 es3 es4 : List Event) (o : Op) (first second 
     (keeps : Keeps c es0 first) (notes : Notes first x second)
     (settles : SettlesFreed (left c es3).now.words.freed (in_a_word (ends es3)) second third) where
   told : IsBetweenCycles c es2 × (EndsNone c es1 es2 ⊎ EndsOne c es1 es2)
-  told = tells (idle_looked c es0 es1 before idle)
+  told = tells (idle_looked before idle)
 
   is_now : x ≡ option_map (freed_object_of c (left c es1).allocations) (number_freed (never_behind c es1) o)
   is_now =
-      is
-      ∙ ap (λ (xs : List PlacedAllocation). option_map (freed_object_of c xs) (number_freed (never_behind c es0) o))
+      is ∙ ap (λ (xs : List PlacedAllocation). option_map (freed_object_of c xs) (number_freed (never_behind c es0) o))
       (sym before.table.allocations)
       ∙ ap (λ (n : NeverState). option_map (freed_object_of c (left c es1).allocations) (number_freed n o))
-      (sym (never_looked c es0 es1 before))
+      (sym (never_looked before))
 
   settles_now : SettlesFreed (left c es2).now.words.freed (in_a_word (ends es2)) second third
   settles_now =
@@ -194,20 +173,19 @@ module _ (c : Config) (es0 es1 es2 es3 es4 : List Event) (o : Op) (first second 
 
   pub keeps_behind : Keeps c es4 third
   keeps_behind =
-      keeps_looked c es3 es4 third more
-      (keeps_looked c es2 es3 third looks
+      keeps_looked more
+      (keeps_looked looks
       (keeps_on c es1 es2 o at_first at_last (omega (arith, few, before.leaves.count)) told.0 told.1 flags
-      most first second third x is_now
-      (keeps_looked c es0 es1 first before keeps) notes settles_now))
+      most first second third x is_now (keeps_looked before keeps) notes settles_now))
 
 -- At most one cycle ends.
-pub ends_over : (c : Config) (es0 es1 es2 es3 es4 : List Event) → HostOnlyLooks c es0 es1 → IsBetweenCycles c es0
+pub ends_over : {c : Config} {es0 es1 es2 es3 es4 : List Event} → HostOnlyLooks c es0 es1 → IsBetweenCycles c es0
     → EndsTell c es1 es2 → HostOnlyLooks c es2 es3 → HostOnlyLooks c es3 es4 → ends es4 ≤ ends es0 + 1
-ends_over c es0 es1 es2 es3 es4 before idle tells looks more =
+ends_over before idle tells looks more =
     let first = before.leaves.count in
     let third = looks.leaves.count in
     let last = more.leaves.count in
-    elim ((tells (idle_looked c es0 es1 before idle)).1) [
+    elim ((tells (idle_looked before idle)).1) [
       | inl none ↦ (let second = none.count in omega (arith, first, second, third, last))
       | inr one ↦ (let second = one.count in omega (arith, first, second, third, last))
     ]

@@ -1,3 +1,4 @@
+pub mod Vocabulary
 pub mod AdmittedEvents
 pub mod CountedAges
 pub mod EndsInCalls

@@ -1,17 +1,12 @@
 -- Looks of the turn's holder leave the table as it is, but for the turn word, and the allocations.
 use Rattle.std.proofs.Common.{◌≡◌, ℕ, Bool, true, false, List, [], ◌∷◌, refl, ◌∙◌, ap, arith}
 use Rattle.std.proofs.lemmas.Bool.{or_parts}
-use Rattle.mk_core.specs.declared.config.Config.{Config}
-use Rattle.mk_core.specs.declared.events.Event.{Event}
-use Rattle.mk_core.specs.declared.events.Seat.{Seat}
-use Rattle.mk_core.specs.declared.events.Step.{Step}
+use Rattle.mk_trace.proofs.Vocabulary.{Config, Event, PlacedAllocation, Seat, Step, Word, Words, World, has_step}
+use Rattle.mk_trace.proofs.Vocabulary.{world_behind}
 use Rattle.mk_core.specs.declared.events.Step.TheVariants as step
-use Rattle.mk_core.specs.declared.events.Word.{Word}
 use Rattle.mk_core.specs.declared.events.Word.TheVariants as word
-use Rattle.mk_core.specs.Allocations.{PlacedAllocation}
-use Rattle.mk_core.specs.History.{World, left_from, world_behind}
-use Rattle.mk_core.specs.Words.{Words, named_word}
-use Rattle.mk_alloc.specs.TurnCycles.{has_step}
+use Rattle.mk_core.specs.History.{left_from}
+use Rattle.mk_core.specs.Words.{named_word}
 use Rattle.mk_trace.specs.Looking.{LeavesTable}
 use Rattle.mk_trace.specs.Peaks.{greatest_from}
 
@@ -26,9 +21,8 @@ pub named_same : (w : Words) (turn : ℕ) (x : Word) → named_word (record w { 
 named_same w turn word.Phase = refl
 named_same w turn _ = refl
 
-pub word_left : (w v : World) → LeavesTable w v → (x : Word) → named_word v.now.words x ≡ named_word w.now.words x
-word_left w v leaves x =
-    ap (λ (y : Words). named_word y x) leaves.words ∙ named_same w.now.words v.now.words.turn x
+pub word_left : {w v : World} → LeavesTable w v → (x : Word) → named_word v.now.words x ≡ named_word w.now.words x
+word_left {w} {v} leaves x = ap (λ (y : Words). named_word y x) leaves.words ∙ named_same w.now.words v.now.words.turn x
 
 pub leaves_then : (u v w : World) → LeavesTable u v → LeavesTable v w → LeavesTable u w
 leaves_then u v w one two = record {

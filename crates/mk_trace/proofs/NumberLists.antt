@@ -7,10 +7,10 @@ use Rattle.std.proofs.lemmas.List.{get_or-set_same, get_or-set_other}
 use Rattle.std.proofs.lemmas.List.Sums.{sum_by-cons, sum_by-set}
 use Rattle.std.proofs.Math.Bool.{and-false}
 use Rattle.std.proofs.lemmas.Bool.Decides.{nat_tests}
-use Rattle.mk_core.specs.Allocations.{PlacedAllocation, never_granted, placed_at}
-use Rattle.mk_core.specs.Cycles.{is_quarantined}
+use Rattle.mk_trace.proofs.Vocabulary.{AreThose, PlacedAllocation, is_quarantined, never_granted, one_if, placed_at}
+use Rattle.mk_trace.proofs.Vocabulary.{times}
 use Rattle.mk_laws.proofs.ImagesKept.{exists_placed}
-use Rattle.mk_trace.specs.Numbers.{AreOfQuarantined, AreThose, one_if, times}
+use Rattle.mk_trace.specs.Numbers.{AreOfQuarantined}
 use Rattle.mk_trace.proofs.FreedWords.{part, weighed, sum_alike}
 
 pub equal_is : (i : ℕ) → (i == i) ≡ true
@@ -109,21 +109,16 @@ module _ (weight : ℕ → ℕ) (xs : List PlacedAllocation) (n : ℕ) (numbers 
 
   pub those_left : AreOfQuarantined ys numbers
   those_left i = elim (cases_eq i n) [
-    | inl same ↦
-        ap (λ (k : ℕ). times k numbers) same ∙ at_n.1
-        ∙ ap (λ (b : Bool). one_if b)
-        (sym (ap (λ (k : ℕ). is_quarantined (placed_at ys k)) same
-        ∙ ap (λ (a : PlacedAllocation). is_quarantined a) set_is
+    | inl same ↦ ap (λ (k : ℕ). times k numbers) same ∙ at_n.1 ∙ ap one_if
+        (sym (ap (λ (k : ℕ). is_quarantined (placed_at ys k)) same ∙ ap is_quarantined set_is
         ∙ and-false (placed_at xs n).freed))
-    | inr ne ↦
-        sym (none_more (n == i) (times i numbers) (unequal_is n i (λ e. ne (sym e)))) ∙ those i
+    | inr ne ↦ sym (none_more (n == i) (times i numbers) (unequal_is n i (λ e. ne (sym e)))) ∙ those i
         ∙ ap (λ (a : PlacedAllocation). one_if (is_quarantined a)) (sym (other_is i ne))
   ]
 
   pub types_left : (i : ℕ) → (placed_at ys i).ty ≡ (placed_at xs i).ty
   types_left i = elim (cases_eq i n) [
-    | inl same ↦
-        ap (λ (k : ℕ). (placed_at ys k).ty) same ∙ ap (λ (a : PlacedAllocation). a.ty) set_is
+    | inl same ↦ ap (λ (k : ℕ). (placed_at ys k).ty) same ∙ ap (λ (a : PlacedAllocation). a.ty) set_is
         ∙ ap (λ (k : ℕ). (placed_at xs k).ty) (sym same)
     | inr ne ↦ ap (λ (a : PlacedAllocation). a.ty) (other_is i ne)
   ]

@@ -1,38 +1,29 @@
 -- In a heap of one caller all calls are its own: what one call more makes of them.
-use Rattle.std.proofs.Common.{◌≡◌, ℕ, ◌*◌, ◌<◌, ◌≤◌, Bool, true, false, List, [], ◌∷◌, ◌++◌, length, refl, sym, ◌∙◌}
-use Rattle.std.proofs.Common.{ap, subst, arith, append_assoc}
+use Rattle.std.proofs.Common.{◌≡◌, ℕ, ◌*◌, ◌<◌, ◌≤◌, Bool, true, false, List, [], ◌∷◌, ◌++◌, length, refl, sym, ◌∙◌, ap}
+use Rattle.std.proofs.Common.{subst, arith, append_assoc}
 use Rattle.std.specs.Prelude.{◌==◌, ◌||◌, if◌then◌else◌, Some, replicate}
 use Rattle.std.specs.List.{list_any}
 use Rattle.std.proofs.lemmas.Bool.{eq-eqb}
 use Rattle.std.proofs.lemmas.List.{length-replicate, length-map, map-append}
 use Rattle.std.proofs.lemmas.List.Folds.{list_any-append}
-use Rattle.mk_never.specs.declared.operations.Op.{Op}
-use Rattle.mk_never.specs.declared.values.Value.TheVariants.{Null}
-use Rattle.mk_never.specs.NeverHeap.{NeverState, Call, after_op, after_calls}
-use Rattle.mk_never.specs.Admitted.{IsCaller, IsAdmitted, AreAdmitted}
+use Rattle.mk_trace.proofs.Vocabulary.{Answer, AreAdmitted, Call, Caller, CallerIsHome, CallerState, Calls, Config}
+use Rattle.mk_trace.proofs.Vocabulary.{Decided, Event, Grows, Has, HasAll, HostState, IsAdmitted, IsHistory, NeverState}
+use Rattle.mk_trace.proofs.Vocabulary.{Null, Op, PassState, Seat, WordsState, after_calls, answered, asked, begins_full}
+use Rattle.mk_trace.proofs.Vocabulary.{calls, calls_of_caller, entry_of, first_host, flagged, is_refusal, never_behind}
+use Rattle.mk_trace.proofs.Vocabulary.{never_first, pass_for, without_seat}
+use Rattle.mk_never.specs.NeverHeap.{after_op}
+use Rattle.mk_never.specs.Admitted.{IsCaller}
 use Rattle.mk_never.proofs.Later.{op_stays}
 use Rattle.mk_never.proofs.Parts.{after_append, admitted_split}
-use Rattle.mk_core.specs.declared.config.Config.{Config}
-use Rattle.mk_core.specs.declared.events.Answer.{Answer}
 use Rattle.mk_core.specs.declared.events.Answer.TheVariants as answer
-use Rattle.mk_core.specs.declared.events.Event.{Event}
-use Rattle.mk_core.specs.declared.events.Seat.{Seat}
-use Rattle.mk_core.specs.declared.events.Seat.TheVariants.{Caller}
-use Rattle.mk_core.specs.declared.events.Word.{Word}
 use Rattle.mk_core.specs.Counts.{is_full_answer}
-use Rattle.mk_core.specs.Decided.{Decided, entry_of, asked, answered, flagged}
-use Rattle.mk_core.specs.Growing.{Grows}
-use Rattle.mk_core.specs.History.{calls, never_first, never_behind, IsHistory}
-use Rattle.mk_words.specs.Seats.{Has, HasAll, all_seats, has_over, without_seat}
-use Rattle.mk_words.specs.States.{WordsState, PassState}
+use Rattle.mk_words.specs.Seats.{all_seats, has_over}
 use Rattle.mk_words.proofs.Seats.{has_all, has_first, has_right}
-use Rattle.mk_caller.specs.States.{CallerState, at_home, caller_of_pass}
+use Rattle.mk_caller.specs.States.{at_home, caller_of_pass}
 use Rattle.mk_caller.proofs.OwnSteps.{calls_by, others_add_none}
-use Rattle.mk_heap.specs.Hosts.{AllAreJoined, HostState, first_host, pass_for, with_caller_made, with_caller_out}
-use Rattle.mk_heap.specs.Hosts.{with_joined, with_seen}
+use Rattle.mk_heap.specs.Hosts.{AllAreJoined, with_caller_made, with_caller_out, with_joined, with_seen}
 use Rattle.mk_run.specs.Scripts.{as_told, IsAdmittedByOwnCalls}
-use Rattle.mk_trace.specs.Calls.{CallerIsHome, MayCome, SameCalls, Calls, CallsAll}
-use Rattle.mk_trace.specs.Playing.{begins_full, calls_of_caller, is_refusal}
+use Rattle.mk_trace.specs.Calls.{MayCome, SameCalls, CallsAll}
 use Rattle.mk_trace.proofs.OwnPieces.{all_again}
 
 by_test : (x : Decided) (xs ys : List Decided) (b : Bool) → b ≡ true → ys ≡ xs → (if b then x ∷ ys else ys) ≡ x ∷ xs
@@ -48,39 +39,35 @@ all_own globals n (x ∷ xs) count admitted =
     by_test x xs (calls_by 0 xs) (x.caller == 0) (eq-eqb x.caller 0 (omega (arith, count, first)))
     (all_own globals (after_op n x.caller x.op) xs (stays.registers ∙ count) admitted.1)
 
-pub calls_are_own : (c : Config) (es : List Event) → c.callers ≡ 1 → IsHistory c es
+pub calls_are_own : {c : Config} {es : List Event} → c.callers ≡ 1 → IsHistory c es
     → calls_by 0 (calls c es) ≡ calls c es
-calls_are_own c es one history =
+calls_are_own {c} {es} one history =
     let count : length (replicate (8 * c.callers) Null) ≡ 8 = length-replicate (8 * c.callers) Null
     ∙ (omega (arith, one)) in
     all_own c.globals (never_first c) (calls c es) count history.admitted
 
 -- The caller makes no call where others alone do something.
 
-pub none_called : (c : Config) (es fs : List Event) → Grows (Caller 0 ∷ []) es fs
+pub none_called : (c : Config) {es fs : List Event} → Grows (Caller 0 ∷ []) es fs
     → calls_by 0 (calls c fs) ≡ calls_by 0 (calls c es)
-none_called c es fs g =
-    ap (λ (l : List Event). calls_by 0 (calls c l)) g.is ∙ others_add_none c 0 es g.more g.of_others
+none_called c {es} g = ap (λ (l : List Event). calls_by 0 (calls c l)) g.is ∙ others_add_none c 0 es g.more g.of_others
 
-pub same_calls : (c : Config) (es fs : List Event) → c.callers ≡ 1 → IsHistory c es → IsHistory c fs
+pub same_calls : {c : Config} {es fs : List Event} → c.callers ≡ 1 → IsHistory c es → IsHistory c fs
     → Grows (Caller 0 ∷ []) es fs → SameCalls c es fs
-same_calls c es fs one before later g =
-    sym (calls_are_own c fs one later) ∙ none_called c es fs g ∙ calls_are_own c es one before
+same_calls {c} one before later g = sym (calls_are_own one later) ∙ none_called c g ∙ calls_are_own one before
 
 -- Calls one after the other.
 
 pub never_then_calls : (c : Config) (es fs : List Event) (more : List Decided) → calls c fs ≡ calls c es ++ more
     → never_behind c fs ≡ after_calls (never_behind c es) (asked more)
 never_then_calls c es fs more is =
-    ap (λ (l : List Decided). after_calls (never_first c) (asked l)) is
-    ∙ ap (λ (l : List Call). after_calls (never_first c) l)
+    ap (λ (l : List Decided). after_calls (never_first c) (asked l)) is ∙ ap (after_calls (never_first c))
     (map-append (λ (x : Decided). record { caller = x.caller; op = x.op }) (calls c es) more)
     ∙ after_append (never_first c) (asked (calls c es)) (asked more)
 
-pub never_behind_all : (c : Config) (es : List Event) (full : Bool) (ops : List Op) (refused : Bool) (fs : List Event)
+pub never_behind_all : {c : Config} {es : List Event} {full : Bool} {ops : List Op} {refused : Bool} {fs : List Event}
     → CallsAll c es full ops refused fs → never_behind c fs ≡ after_calls (never_behind c es) (calls_of_caller ops)
-never_behind_all c es full ops refused fs h =
-    never_then_calls c es fs h.more h.is ∙ ap (λ (l : List Call). after_calls (never_behind c es) l) h.asks
+never_behind_all {c} {es} {fs} h = never_then_calls c es fs h.more h.is ∙ ap (after_calls (never_behind c es)) h.asks
 
 refused_as_told : (a : Answer) → is_refusal (as_told a) ≡ is_refusal a
 refused_as_told (answer.Word w) = refl
@@ -96,21 +83,20 @@ full_as_told a = refl
 -- as many operations as answers
 pub as_many : (xs : List Decided) (ops : List Op) → asked xs ≡ calls_of_caller ops → length ops ≡ length (answered xs)
 as_many xs ops is =
-    sym (length-map ops (λ (o : Op). record { caller = 0; op = o })) ∙ ap (λ (l : List Call). length l) (sym is)
+    sym (length-map ops (λ (o : Op). record { caller = 0; op = o })) ∙ ap length (sym is)
     ∙ length-map xs (λ (x : Decided). record { caller = x.caller; op = x.op })
     ∙ sym (length-map xs (λ (x : Decided). x.answer))
 
 any_more : (xs : List Answer) (told a : Answer) → told ≡ as_told a
     → list_any is_refusal (xs ++ a ∷ []) ≡ list_any is_refusal xs || is_refusal told
 any_more xs told a is =
-    list_any-append is_refusal xs (a ∷ [])
-    ∙ ap (λ (b : Bool). list_any is_refusal xs || b)
+    list_any-append is_refusal xs (a ∷ []) ∙ ap (λ (b : Bool). list_any is_refusal xs || b)
     (or_none (is_refusal a) ∙ sym (refused_as_told a) ∙ ap is_refusal (sym is))
 
 -- the first call of all
-pub calls_first : (c : Config) (es : List Event) (o : Op) (told : Answer) (fs : List Event) → (g : Calls c es o told fs)
+pub calls_first : {c : Config} {es : List Event} {o : Op} {told : Answer} {fs : List Event} → (g : Calls c es o told fs)
     → CallsAll c es (is_full_answer told) (flagged o g.answer ∷ []) (is_refusal told) fs
-calls_first c es o told fs g = record {
+calls_first {o} g = record {
   more = entry_of 0 o (Some g.answer);
   begins = sym (full_as_told g.answer) ∙ ap is_full_answer (sym g.is_told);
   is = g.entry;
@@ -125,8 +111,7 @@ begins_alike (a ∷ answers) more some = refl
 
 -- and one more
 module _ (c : Config) (es : List Event) (full : Bool) (ops : List Op) (refused : Bool) (fs : List Event)
-    (h : CallsAll c es full ops refused fs)
-    (o : Op) (told : Answer) (gs : List Event) (g : Calls c fs o told gs) where
+    (h : CallsAll c es full ops refused fs) (o : Op) (told : Answer) (gs : List Event) (g : Calls c fs o told gs) where
   pub calls_more : 1 ≤ length ops → CallsAll c es full (ops ++ flagged o g.answer ∷ []) (refused || is_refusal told) gs
   calls_more some =
       let entry : List Decided = entry_of 0 o (Some g.answer) in
@@ -140,29 +125,25 @@ module _ (c : Config) (es : List Event) (full : Bool) (ops : List Op) (refused :
         asks = map-append (λ (x : Decided). record { caller = x.caller; op = x.op }) h.more entry
             ∙ ap (λ (l : List Call). l ++ record { caller = 0; op = flagged o g.answer } ∷ []) h.asks
             ∙ sym (map-append (λ (x : Op). record { caller = 0; op = x }) ops (flagged o g.answer ∷ []));
-        refuses = ap (λ (l : List Answer). list_any is_refusal l)
-            (map-append (λ (x : Decided). x.answer) h.more entry)
-            ∙ any_more (answered h.more) told g.answer g.is_told
-            ∙ ap (λ (b : Bool). b || is_refusal told) h.refuses;
+        refuses = ap (list_any is_refusal) (map-append (λ (x : Decided). x.answer) h.more entry)
+            ∙ any_more (answered h.more) told g.answer g.is_told ∙ ap (λ (b : Bool). b || is_refusal told) h.refuses;
       }
 
 -- What comes next of operations that may come.
-pub next_may_come : (c : Config) (es : List Event) (full : Bool) (ops : List Op) (refused : Bool) (fs : List Event)
-    (o : Op) (rest : List Op)
-    → CallsAll c es full ops refused fs
-    → AreAdmitted c.globals (never_behind c es) (calls_of_caller (ops ++ o ∷ rest))
-    → MayCome c fs o
-next_may_come c es full ops refused fs o rest h admitted =
+pub next_may_come : {c : Config} {es : List Event} {full : Bool} {ops : List Op} {refused : Bool} {fs : List Event}
+    (o : Op) (rest : List Op) → CallsAll c es full ops refused fs
+    → AreAdmitted c.globals (never_behind c es) (calls_of_caller (ops ++ o ∷ rest)) → MayCome c fs o
+next_may_come {c} {es} {ops} o rest h admitted =
     let parts = admitted_split c.globals (never_behind c es) (calls_of_caller ops) (calls_of_caller (o ∷ rest))
-    (subst (λ (l : List Call). AreAdmitted c.globals (never_behind c es) l)
+    (subst (AreAdmitted c.globals (never_behind c es))
     (map-append (λ (x : Op). record { caller = 0; op = x }) ops (o ∷ rest)) admitted) in
-    subst (λ (n : NeverState). IsAdmitted c.globals n 0 o) (sym (never_behind_all c es full ops refused fs h)) parts.1.0
+    subst (λ (n : NeverState). IsAdmitted c.globals n 0 o) (sym (never_behind_all h)) parts.1.0
 
 -- The host between calls.
 
-pub told_home : (w : WordsState) (h : HostState) (g : HostState) → CallerIsHome w h → g ≡ with_seen h g.pass.seen
+pub told_home : {w : WordsState} {h : HostState} (g : HostState) → CallerIsHome w h → g ≡ with_seen h g.pass.seen
     → has_over g.pass.seen ≡ has_over h.pass.seen → CallerIsHome w g
-told_home w h g home is overs = record {
+told_home {w} g home is overs = record {
   table = ap (λ (x : HostState). x.pass.table) is ∙ home.table;
   one = home.one;
   callers = ap (λ (x : HostState). x.callers) is ∙ home.callers;
@@ -172,10 +153,11 @@ told_home w h g home is overs = record {
   before_over = overs ∙ home.before_over;
 }
 
-pub joined_home : (w : WordsState) (h out g : HostState) (q : PassState) → CallerIsHome w h → out ≡ with_caller_out h 0
+pub joined_home : {w : WordsState} {h : HostState} (out g : HostState) (q : PassState) → CallerIsHome w h
+    → out ≡ with_caller_out h 0
     → g ≡ with_joined out q g.pass.seen → q.seats ≡ Caller 0 ∷ []
     → has_over g.pass.seen ≡ has_over out.pass.seen → CallerIsHome w g
-joined_home w h out g q home is joined seats overs = record {
+joined_home {w} {h} out g q home is joined seats overs = record {
   table = ap (λ (x : HostState). x.pass.table) joined ∙ ap (λ (x : HostState). x.pass.table) is ∙ home.table;
   one = home.one;
   callers = ap (λ (x : HostState). x.callers) joined ∙ ap (λ (x : HostState). x.callers) is ∙ home.callers;
@@ -194,17 +176,16 @@ joined_home w h out g q home is joined seats overs = record {
 
 -- The caller that the host makes again.
 
-pub callers_at_home : (w : WordsState) (h : HostState) → CallerIsHome w h → h.pass.table.config.callers ≡ 1
-callers_at_home w h home = ap (λ (x : WordsState). x.config.callers) home.table ∙ home.one
+pub callers_at_home : {w : WordsState} {h : HostState} → CallerIsHome w h → h.pass.table.config.callers ≡ 1
+callers_at_home home = ap (λ (x : WordsState). x.config.callers) home.table ∙ home.one
 
 -- What may come now may come while the caller makes no call.
-admits : (w : WordsState) (h : HostState) → CallerIsHome w h → (o : Op) → MayCome w.config h.pass.seen o
+admits : {w : WordsState} {h : HostState} → CallerIsHome w h → (o : Op) → MayCome w.config h.pass.seen o
     → IsHistory h.pass.table.config h.pass.seen → IsAdmittedByOwnCalls (pass_for h (Caller 0)) o
-admits w h home o comes history = λ es later same.
+admits {h} home o comes history = λ es later same.
     let c = h.pass.table.config in
-    let one = callers_at_home w h home in
-    let all : calls c es ≡ calls c h.pass.seen =
-    sym (calls_are_own c es one later) ∙ same ∙ calls_are_own c h.pass.seen one history in
+    let one = callers_at_home home in
+    let all : calls c es ≡ calls c h.pass.seen = sym (calls_are_own one later) ∙ same ∙ calls_are_own one history in
     subst (λ (xs : List Decided). IsAdmitted c.globals (after_calls (never_first c) (asked xs)) 0 o) (sym all)
     (subst (λ (x : WordsState). MayCome x.config h.pass.seen o) (sym home.table) comes)
 
@@ -218,21 +199,21 @@ module _ (w : WordsState) (h : HostState) (home : CallerIsHome w h) (s : CallerS
 
   pub made_exists : caller_of_pass s.pass < s.pass.table.config.callers
   made_exists =
-      let one = callers_at_home w h home in
+      let one = callers_at_home home in
       subst (λ (x : CallerState). caller_of_pass x.pass < x.pass.table.config.callers) (sym made) (omega (arith, one))
 
   pub made_admits : (o : Op) → MayCome w.config h.pass.seen o → IsHistory s.pass.table.config s.pass.seen
       → IsAdmittedByOwnCalls s.pass o
   made_admits o comes history =
       subst (λ (x : CallerState). IsAdmittedByOwnCalls x.pass o) (sym made)
-      (admits w h home o comes (subst (λ (x : CallerState). IsHistory x.pass.table.config x.pass.seen) made history))
+      (admits home o comes (subst (λ (x : CallerState). IsHistory x.pass.table.config x.pass.seen) made history))
 
 -- The caller that the host makes first, and joins at once.
 pub first_home : (w : WordsState) (h made joined : HostState) (q : PassState) → w.config.callers ≡ 1 → h ≡ first_host w
     → made ≡ with_caller_made h → joined ≡ with_joined made q joined.pass.seen → q.seats ≡ Caller 0 ∷ []
     → has_over joined.pass.seen ≡ has_over made.pass.seen → CallerIsHome w joined
 first_home w h made joined q one first is joins seats overs =
-    let all : made ≡ with_caller_made (first_host w) = is ∙ ap (λ (x : HostState). with_caller_made x) first in
+    let all : made ≡ with_caller_made (first_host w) = is ∙ ap with_caller_made first in
     record {
       table = ap (λ (x : HostState). x.pass.table) joins ∙ ap (λ (x : HostState). x.pass.table) all;
       one = one;
@@ -251,8 +232,8 @@ first_home w h made joined q one first is joins seats overs =
     }
 
 -- All are joined then.
-pub home_joined : (w : WordsState) (h : HostState) → CallerIsHome w h → AllAreJoined h
-home_joined w h home = record {
+pub home_joined : {w : WordsState} {h : HostState} → CallerIsHome w h → AllAreJoined h
+home_joined {h} home = record {
   callers = λ k lt.
       (let n = home.callers in
       subst (λ (j : ℕ). Has h.pass.seats (Caller j)) (omega arith) home.joined);

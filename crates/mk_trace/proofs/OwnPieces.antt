@@ -6,22 +6,15 @@ use Rattle.std.specs.List.{list_all}
 use Rattle.std.proofs.lemmas.Bool.{and_from, and_parts, cases_Bool, not-true, or_cases, or_from, true≢false}
 use Rattle.std.proofs.lemmas.List.Folds.{list_all-append}
 use Rattle.std.proofs.lemmas.List.{append_cancel_right}
-use Rattle.mk_never.specs.declared.operations.Op.{Op}
-use Rattle.mk_core.specs.declared.config.Config.{Config}
-use Rattle.mk_core.specs.declared.events.Event.{Event}
-use Rattle.mk_core.specs.declared.events.Seat.{Seat}
-use Rattle.mk_core.specs.declared.events.Step.{Step}
-use Rattle.mk_core.specs.Growing.{AreOfOthers, is_one_of, is_same_seat}
-use Rattle.mk_core.specs.History.{World, AreEnabledFrom, world_behind}
-use Rattle.mk_core.specs.Order.{seat_exists}
+use Rattle.mk_trace.proofs.Vocabulary.{Answer, Config, Event, Has, HasAll, Op, PassState, Seat, Step, World, event_of}
+use Rattle.mk_trace.proofs.Vocabulary.{has_step, is_same_seat, seat_exists, without_seat, world_behind}
+use Rattle.mk_core.specs.Growing.{AreOfOthers, is_one_of}
+use Rattle.mk_core.specs.History.{AreEnabledFrom}
 use Rattle.mk_core.proofs.Conditions.{enabled_meets}
 use Rattle.mk_core.specs.declared.events.Step.TheVariants as step
-use Rattle.mk_core.specs.declared.events.Answer.{Answer}
-use Rattle.mk_words.specs.Seats.{Has, HasAll, without_seat}
-use Rattle.mk_words.specs.States.{PassState, event_of}
 use Rattle.mk_words.proofs.Seats.{has_either, has_first, has_left, has_right, not_both, same_seat, without_keeps}
 use Rattle.mk_waiting.specs.Taking.{is_take, waits_for}
-use Rattle.mk_alloc.specs.TurnCycles.{has_step, within_turn}
+use Rattle.mk_alloc.specs.TurnCycles.{within_turn}
 use Rattle.mk_words.specs.TurnSteps.{turn_stays}
 use Rattle.mk_alloc.specs.TurnCalls.{CalledInTurn}
 use Rattle.mk_alloc.proofs.ListParts.{lacks_append, lacks_one}
@@ -43,8 +36,7 @@ are_mine c w elsewhere [] on others = refl
 are_mine c w elsewhere (e ∷ es) on others =
     and_from (is_mine c elsewhere e) (list_all (is_mine c elsewhere) es)
     (and_from (seat_exists c e.seat) (not (is_one_of elsewhere e.seat)) (enabled_meets c w.now e on.0).seat
-    (ap (λ (b : Bool). not b) others.0))
-    (are_mine c (world_behind c w e) elsewhere es on.1 others.1)
+    (ap (λ (b : Bool). not b) others.0)) (are_mine c (world_behind c w e) elsewhere es on.1 others.1)
 
 pub mine_parts : (c : Config) (elsewhere : List Seat) (xs ys : List Event) → AreMine c elsewhere (xs ++ ys)
     → AreMine c elsewhere xs × AreMine c elsewhere ys
@@ -61,10 +53,8 @@ pub has_mine : (c : Config) (elsewhere seats : List Seat) (e : Event) → HasThe
 has_mine c elsewhere seats e all mine =
     let parts = and_parts (seat_exists c e.seat) (not (is_one_of elsewhere e.seat)) mine in
     ⊎_elim
-    (λ (there : Has elsewhere e.seat).
-    absurd (true≢false (sym there ∙ not-true (is_one_of elsewhere e.seat) parts.1)))
-    (λ (here : Has seats e.seat). here)
-    (has_either elsewhere seats e.seat (all e.seat parts.0))
+    (λ (there : Has elsewhere e.seat). absurd (true≢false (sym there ∙ not-true (is_one_of elsewhere e.seat) parts.1)))
+    (λ (here : Has seats e.seat). here) (has_either elsewhere seats e.seat (all e.seat parts.0))
 
 -- So there are no others.
 pub none_of_others : (c : Config) (elsewhere seats : List Seat) (es : List Event) → HasTheRest c elsewhere seats
@@ -100,7 +90,7 @@ waiting_lacks kind c elsewhere p (e ∷ es) apart all mine waits =
 pub others_lack : (kind : Step → Bool) (c : Config) (elsewhere seats : List Seat) (es : List Event)
     → HasTheRest c elsewhere seats → AreMine c elsewhere es → AreOfOthers seats es → has_step kind es ≡ false
 others_lack kind c elsewhere seats es all mine others =
-    ap (λ (l : List Event). has_step kind l) (none_of_others c elsewhere seats es all mine others)
+    ap (has_step kind) (none_of_others c elsewhere seats es all mine others)
 
 -- Of all seats one is elsewhere, and comes back.
 pub all_again : (c : Config) (s : Seat) (seats : List Seat) → HasAll c seats
@@ -108,9 +98,7 @@ pub all_again : (c : Config) (s : Seat) (seats : List Seat) → HasAll c seats
 all_again c s seats all x exists = ⊎_elim same other (cases_Bool (is_same_seat s x))
   where
     same : is_same_seat s x ≡ true → Has (without_seat s seats ++ s ∷ []) x
-    same is =
-        has_right (without_seat s seats) (s ∷ []) x
-        (subst (λ (y : Seat). Has (s ∷ []) y) (same_seat s x is) (has_first s []))
+    same is = has_right (without_seat s seats) (s ∷ []) x (subst (Has (s ∷ [])) (same_seat s x is) (has_first s []))
 
     other : is_same_seat s x ≡ false → Has (without_seat s seats ++ s ∷ []) x
     other out = has_left (without_seat s seats) (s ∷ []) x (without_keeps s seats x out (all x exists))
@@ -145,10 +133,8 @@ module _ {on : Bool} {p : PassState} {o : Op} {a : Answer} {q : PassState} (h : 
 
   pub turn_seen : q.seen ≡ p.seen ++ (before_turn ++ (h.ends.turn.behind ++ giving))
   turn_seen =
-      seen_made h.done q step.Give h.gives
-      ∙ sym (append_assoc h.done.seen h.gives.others giving)
-      ∙ ap (λ (l : List Event). l ++ giving) done_seen
-      ∙ append_assoc (p.seen ++ before_turn) h.ends.turn.behind giving
+      seen_made h.done q step.Give h.gives ∙ sym (append_assoc h.done.seen h.gives.others giving)
+      ∙ ap (λ (l : List Event). l ++ giving) done_seen ∙ append_assoc (p.seen ++ before_turn) h.ends.turn.behind giving
       ∙ append_assoc p.seen before_turn (h.ends.turn.behind ++ giving)
 
   -- what the turn has seen so far
@@ -158,8 +144,7 @@ module _ {on : Bool} {p : PassState} {o : Op} {a : Answer} {q : PassState} (h : 
       let before : p.seen ++ before_turn ≡ h.ends.turn.before ++ take ∷ [] =
       append_cancel_right (p.seen ++ before_turn) (h.ends.turn.before ++ take ∷ []) h.ends.turn.behind
       (sym done_seen ∙ h.ends.turn.is ∙ sym (append_assoc h.ends.turn.before (take ∷ []) h.ends.turn.behind)) in
-      sym (append_assoc h.ends.turn.before (take ∷ []) part)
-      ∙ ap (λ (l : List Event). l ++ part) (sym before)
+      sym (append_assoc h.ends.turn.before (take ∷ []) part) ∙ ap (λ (l : List Event). l ++ part) (sym before)
       ∙ append_assoc p.seen before_turn part
 
   taking_others : AreOfOthers p.seats h.takes.takes.makes.others

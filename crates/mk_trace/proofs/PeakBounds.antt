@@ -1,12 +1,10 @@
 -- The peaks bound what quarantine costs.
 use Rattle.std.proofs.Common.{◌≡◌, ℕ, ◌+◌, ◌≤◌, Bool, true, false, List, ◌++◌, refl, subst, arith}
 use Rattle.std.specs.Prelude.{◌&&◌, not, if◌then◌else◌}
-use Rattle.mk_never.specs.Types.{is_large, kinds_of}
-use Rattle.mk_core.specs.declared.config.Config.{Config}
-use Rattle.mk_core.specs.declared.events.Event.{Event}
-use Rattle.mk_core.specs.Allocations.{PlacedAllocation, held_by_allocations, is_mapped, storage_words}
-use Rattle.mk_core.specs.Cycles.{is_quarantined}
-use Rattle.mk_core.specs.History.{IsHistory, left}
+use Rattle.mk_trace.proofs.Vocabulary.{Config, Event, IsHistory, PlacedAllocation, held_by_allocations, is_large}
+use Rattle.mk_trace.proofs.Vocabulary.{is_quarantined, kinds_of, left, peaks_of, quarantined_words, reserved_words}
+use Rattle.mk_trace.proofs.Vocabulary.{storage_words}
+use Rattle.mk_core.specs.Allocations.{is_mapped}
 use Rattle.mk_core.proofs.HistoryParts.{earlier_part_is_history}
 use Rattle.mk_quarantine.specs.Bounds.{QuarantineIsBounded, held_after}
 use Rattle.mk_quarantine.specs.KeptAllocations.{quarantined_mapped}
@@ -14,13 +12,12 @@ use Rattle.mk_quarantine.proofs.CountedWords.{filtered_in_parts}
 use Rattle.mk_quarantine.proofs.LittleHeld.{held_is_little_where_free}
 use Rattle.mk_quarantine.proofs.Quarters.{quarantined_is_fresh_or_kept}
 use Rattle.mk_trace.specs.PeakBounds.{BoundsMeetPeaks, FreshIsQuarterOfPeak, QuarantineIsQuarterOfPeak}
-use Rattle.mk_trace.specs.Peaks.{is_reserved, peaks_of, quarantined_words, reserved_words}
+use Rattle.mk_trace.specs.Peaks.{is_reserved}
 use Rattle.mk_trace.proofs.PeakParts.{is_greatest}
 
 -- What is quarantined is reserved, or mapped; and what is mapped is fresh, or was freed before the last `begin`.
 
-reserved_or_mapped : (n : ℕ) (released freed large : Bool)
-    → (if freed && not released then n else 0)
+reserved_or_mapped : (n : ℕ) (released freed large : Bool) → (if freed && not released then n else 0)
     ≤ (if (freed && not released) && large then n else 0)
     + (if (not released && not (freed && large)) && freed then n else 0)
 reserved_or_mapped n true true large = omega arith
@@ -39,13 +36,12 @@ module _ (c : Config) (es front more : List Event) (h : IsHistory c es) (bounded
     (is : es ≡ front ++ more) (free : (left c front).now.words.turn ≡ 0) where
   held_below_peak : held_after c front ≤ (peaks_of c es).held
   held_below_peak =
-      let first = earlier_part_is_history c front more (subst (λ (l : List Event). IsHistory c l) is h) in
+      let first = earlier_part_is_history c front more (subst (IsHistory c) is h) in
       let above = (is_greatest c (held_by_allocations c) es).above front more is in
       omega (arith, above, held_is_little_where_free c front first free, h.within_limits.pages.1)
 
   fresh_below_peak : FreshIsQuarterOfPeak (peaks_of c es) c front
-  fresh_below_peak =
-      omega (arith, bounded.of_held refl front more is free, held_below_peak)
+  fresh_below_peak = omega (arith, bounded.of_held refl front more is free, held_below_peak)
 
   quarantine_below_peak : QuarantineIsQuarterOfPeak (peaks_of c es) c front
   quarantine_below_peak =

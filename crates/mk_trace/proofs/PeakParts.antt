@@ -3,16 +3,13 @@ use Rattle.std.proofs.Common.{◌≡◌, ℕ, ◌≤◌, max, List, [], ◌∷�
 use Rattle.std.proofs.Common.{subst, ⊎_elim, ◌∙◌}
 use Rattle.std.proofs.lemmas.Bool.Decides.{nat_tests}
 use Rattle.std.proofs.lemmas.Bool.{cases_Bool, or_parts}
-use Rattle.mk_core.specs.declared.config.Config.{Config}
-use Rattle.mk_core.specs.declared.events.Event.{Event}
-use Rattle.mk_core.specs.Allocations.{PlacedAllocation}
-use Rattle.mk_core.specs.History.{World, left_from, world_behind, first_world, left}
-use Rattle.mk_core.specs.declared.events.Step.{Step}
+use Rattle.mk_trace.proofs.Vocabulary.{Config, Event, PlacedAllocation, Step, World, first_world, greatest, has_step}
+use Rattle.mk_trace.proofs.Vocabulary.{is_grant, left, lets_go, world_behind}
+use Rattle.mk_core.specs.History.{left_from}
 use Rattle.mk_core.specs.declared.events.Step.TheVariants as step
 use Rattle.mk_core.proofs.HistoryParts.{left_in_parts}
-use Rattle.mk_alloc.specs.TurnCycles.{has_step, is_grant, lets_go}
 use Rattle.mk_alloc.proofs.GrantParts.{LastIn}
-use Rattle.mk_trace.specs.Peaks.{greatest_from, greatest}
+use Rattle.mk_trace.specs.Peaks.{greatest_from}
 use Rattle.mk_trace.specs.Laws.{IsGreatest}
 
 -- The greatest measure over a history in two parts.
@@ -23,14 +20,12 @@ module _ (c : Config) (measure : List PlacedAllocation → ℕ) where
   first_below w [] = omega arith
   first_below w (e ∷ es) = omega arith
 
-  pub last_below : (w : World) (es : List Event)
-      → measure (left_from c w es).allocations ≤ greatest_from c w measure es
+  pub last_below : (w : World) (es : List Event) → measure (left_from c w es).allocations ≤ greatest_from c w measure es
   unfolding greatest_from left_from
   last_below w [] = omega arith
   last_below w (e ∷ es) = omega (arith, last_below (world_behind c w e) es)
 
-  pub from-append : (w : World) (xs ys : List Event)
-      → greatest_from c w measure (xs ++ ys)
+  pub from-append : (w : World) (xs ys : List Event) → greatest_from c w measure (xs ++ ys)
       ≡ max (greatest_from c w measure xs) (greatest_from c (left_from c w xs) measure ys)
   unfolding greatest_from left_from
   from-append w [] ys = omega (arith, first_below w ys)
@@ -53,8 +48,7 @@ module _ (c : Config) (measure : List PlacedAllocation → ℕ) where
     same : n ≡ measure (left_from c w before).allocations
 
   reached_first : (w : World) (e : Event) (es : List Event) (first later : ℕ) (at_first : Bool)
-      → nat_le later first ≡ at_first
-      → first ≡ measure w.allocations → ReachedFrom (world_behind c w e) es later
+      → nat_le later first ≡ at_first → first ≡ measure w.allocations → ReachedFrom (world_behind c w e) es later
       → ReachedFrom w (e ∷ es) (max first later)
   unfolding left_from
   reached_first w e es first later true test is behind =
@@ -154,8 +148,7 @@ module _ (c : Config) (measure : List PlacedAllocation → ℕ) where
         (let one = rises_at w e (grant_keeps e.step is) in
         let later = rises (world_behind c w e) es (last_first e es last is) in
         let below = first_below c measure (world_behind c w e) es in
-        omega arith))
-        (λ (none : is_grant e.step ≡ false). (let one = falls_at w e none in omega arith))
+        omega arith)) (λ (none : is_grant e.step ≡ false). (let one = falls_at w e none in omega arith))
         (cases_Bool (is_grant e.step))
 
     -- Where grants are last, the most is at the first or at the end.
@@ -171,8 +164,7 @@ module _ (c : Config) (measure : List PlacedAllocation → ℕ) where
         let parts = from-append c measure (first_world c) es more in
         let ends = at_ends (left c es) more last in
         let below = last_below c measure (first_world c) es in
-        let same : has (left c (es ++ more)) ≡ has (left_from c (left c es) more) =
-        ap (λ (w : World). has w) (left_in_parts c es more) in
+        let same : has (left c (es ++ more)) ≡ has (left_from c (left c es) more) = ap has (left_in_parts c es more) in
         omega arith
 
     -- With more events that grant nothing it is the same.

@@ -8,31 +8,26 @@ use Rattle.std.proofs.lemmas.List.Elements.{All-nil, All-cons, All-append, All-m
 use Rattle.std.proofs.lemmas.Bool.Decides.{nat_tests}
 use Rattle.std.proofs.lemmas.List.Quantifiers.{position-Some}
 use Rattle.std.proofs.lemmas.List.FromFn.{length-range_with_len}
-use Rattle.mk_core.specs.Config.{IsBetween, IsWithinLimits}
+use Rattle.mk_trace.proofs.Vocabulary.{A, C, Contents, F, HeapPages, IsBetween, IsEventOf, IsOfSomeTraceText}
+use Rattle.mk_trace.proofs.Vocabulary.{IsPlayable, IsWithinLimits, K, LinesSoFar, TraceEvent, W, config_of, contents_of}
+use Rattle.mk_trace.proofs.Vocabulary.{events_from, header_line_of, lines_of, nothing_written, read_behind}
+use Rattle.mk_trace.proofs.Vocabulary.{text_fault_at, trace_of_lines, type_fault_at, typed_event, types_from}
+use Rattle.mk_trace.proofs.Vocabulary.{with_event, with_trace_line, words_of_line, written_from}
 use lib.Chars.{codes}
 use Rattle.mk_script.specs.declared.faults.Which.TheVariants as which
 use Rattle.mk_script.specs.Lines.{at_most, heap_limit, within}
 use Rattle.mk_script.specs.Operands.{name, number}
 use Rattle.mk_check.proofs.GrammarLemmas.{at_most-None, option_or-None}
-use Rattle.mk_script.specs.Words.{words_of_line, lines_of}
-use Rattle.mk_trace.specs.declared.lines.HeapPages.{HeapPages}
 use Rattle.mk_trace.specs.declared.lines.Slot.{Slot}
 use Rattle.mk_trace.specs.declared.lines.Line.{Line}
 use Rattle.mk_trace.specs.declared.lines.Line.TheVariants as line
-use Rattle.mk_trace.specs.Lines.{LinesSoFar, with_trace_line, heap_pages, header_line_of, slot_number, slot_limit}
-use Rattle.mk_trace.specs.Lines.{checked_slot}
-use Rattle.mk_trace.specs.Lines.{slot_from, slot_line, event_line_of, event_line, trace_line_of, nothing_written}
+use Rattle.mk_trace.specs.Lines.{heap_pages, slot_number, slot_limit, checked_slot, slot_from, slot_line, event_line_of}
+use Rattle.mk_trace.specs.Lines.{event_line, trace_line_of}
 use Rattle.mk_trace.specs.declared.lines.Action.{Action}
 use Rattle.mk_trace.specs.declared.lines.Action.TheVariants.{New, Link, Free, Clear, Write}
 use Rattle.mk_trace.specs.declared.lines.EventLine.{EventLine}
-use Rattle.mk_trace.specs.declared.trace.TraceEvent.{TraceEvent}
-use Rattle.mk_trace.specs.declared.trace.TraceEvent.TheVariants.{A, K, F, C, W}
-use Rattle.mk_trace.specs.Typing.{typed_write, event_on, words_at, on_slot, typed_event}
-use Rattle.mk_trace.specs.Traces.{words_of_slots, Contents, contents_from, contents_of, trace_of_lines}
-use Rattle.mk_trace.specs.Traces.{IsOfSomeTraceText}
-use Rattle.mk_trace.specs.Laws.{IsEventOf, IsPlayable}
-use Rattle.mk_trace.specs.Grammar.{text_fault_at, type_fault_at, read_behind, with_event, written_from, events_from}
-use Rattle.mk_trace.specs.Playing.{config_of, types_from}
+use Rattle.mk_trace.specs.Typing.{typed_write, event_on, words_at, on_slot}
+use Rattle.mk_trace.specs.Traces.{words_of_slots, contents_from}
 use Rattle.mk_trace.proofs.ReadLines.{bound, unless_none, passed_else, passed_then, within_none, gone_on, then_next}
 use Rattle.mk_trace.proofs.ReadLines.{along_keeps}
 use Rattle.mk_trace.proofs.SlotTypes.{length-types_from, types_among, range_below}
@@ -126,8 +121,7 @@ header_within (a ∷ b ∷ c ∷ d ∷ rest) heap h = absurd cc
 -- The events of lines are of the slots.
 
 written : (slots : List ℕ) (slot words index value : ℕ) (event : TraceEvent) → slot < length slots
-    → get_or slots slot 0 ≡ words
-    → typed_write slot words index value ≡ Ok event → IsEventOf slots event
+    → get_or slots slot 0 ≡ words → typed_write slot words index value ≡ Ok event → IsEventOf slots event
 written slots slot words index value event inside words_are h =
     let below = passed_else (nat_le words index) _ _ event h in
     let above = passed_else (index == 0) _ _ event below.1 in
@@ -137,8 +131,7 @@ written slots slot words index value event inside words_are h =
     subst (IsEventOf slots) is (inside, some, omega (arith, words_are, small))
 
 on : (slots : List ℕ) (slot words : ℕ) (action : Action) (event : TraceEvent) → slot < length slots
-    → get_or slots slot 0 ≡ words
-    → event_on slot words action ≡ Ok event → IsEventOf slots event
+    → get_or slots slot 0 ≡ words → event_on slot words action ≡ Ok event → IsEventOf slots event
 on slots slot words New event inside words_are h = let is : A slot ≡ event = cc in subst (IsEventOf slots) is inside
 on slots slot words Link event inside words_are h = let is : K slot ≡ event = cc in subst (IsEventOf slots) is inside
 on slots slot words Free event inside words_are h = let is : F slot ≡ event = cc in subst (IsEventOf slots) is inside
@@ -147,8 +140,7 @@ on slots slot words
     (Write index value) event inside words_are h = written slots slot words index value event inside words_are h
 
 numbered : (slots : List Slot) (name : List ℕ) (number : Option ℕ) (action : Action) (event : TraceEvent)
-    → slot_number slots name ≡ number
-    → on_slot slots number action ≡ Ok event → IsEventOf (words_of_slots slots) event
+    → slot_number slots name ≡ number → on_slot slots number action ≡ Ok event → IsEventOf (words_of_slots slots) event
 numbered slots name None action event is h = absurd cc
 numbered slots name (Some slot) action event is h =
     let no_slot : Slot = record { name = []; words = 0 } in
@@ -168,8 +160,7 @@ event_more slots before line event h are =
 -- A trace of some text can be played.
 
 heap_limits : (trace : Contents) → HeapIsWithin (record { pages = trace.pages; resident = trace.resident })
-    → length trace.slots ≤ 64 → All (IsBetween 1 4096) trace.slots
-    → IsWithinLimits (config_of trace)
+    → length trace.slots ≤ 64 → All (IsBetween 1 4096) trace.slots → IsWithinLimits (config_of trace)
 heap_limits trace heap few sizes =
     let count = length-types_from 0 trace.slots in
     record {
@@ -213,8 +204,7 @@ of_lines (first ∷ lines) trace h =
     let written = then_next (written_from 2 lines nothing_written) _ trace header.behind in
     let slots = along_keeps text_fault_at read_behind with_trace_line (λ (w : LinesSoFar). AreWithin w.slots)
     (λ before line given holds is. line_more before (words_of_line line) given is holds) 2 lines nothing_written
-    written.value
-    (record { few = omega arith; sizes = All-nil SlotIsWithin }) written.is in
+    written.value (record { few = omega arith; sizes = All-nil SlotIsWithin }) written.is in
     read header.value written.value trace (header_within
     (words_of_line first) header.value header.is) slots written.behind
 

@@ -5,36 +5,24 @@ use Rattle.std.specs.Prelude.{All, if◌then◌else◌, take, replicate}
 use Rattle.std.specs.List.{list_any}
 use Rattle.std.proofs.lemmas.List.{map-append, take_more, take_all}
 use Rattle.std.proofs.lemmas.List.Elements.{All-get_or}
-use Rattle.mk_never.specs.declared.operations.Op.{Op}
-use Rattle.mk_never.specs.declared.values.Value.TheVariants.{Null}
-use Rattle.mk_never.specs.NeverHeap.{NeverState, Call, register_at, after_calls}
-use Rattle.mk_never.specs.Admitted.{AreAdmitted}
-use Rattle.mk_core.specs.declared.config.Config.{Config}
-use Rattle.mk_core.specs.declared.events.Answer.{Answer}
-use Rattle.mk_core.specs.declared.events.Event.{Event}
-use Rattle.mk_core.specs.declared.events.Seat.TheVariants.{Caller}
-use Rattle.mk_core.specs.Decided.{Decided, asked, answered}
-use Rattle.mk_core.specs.Growing.{Grows}
-use Rattle.mk_core.specs.History.{calls, calls_from, never_first, never_behind, IsHistory}
-use Rattle.mk_words.specs.States.{WordsState, PassState}
-use Rattle.mk_caller.specs.States.{CallerState, at_home}
-use Rattle.mk_heap.specs.Hosts.{HostState, first_host, pass_for}
+use Rattle.mk_trace.proofs.Vocabulary.{A, AllTurnsAreExact, Answer, AreAdmitted, C, Call, Caller, CallerState, Config}
+use Rattle.mk_trace.proofs.Vocabulary.{Contents, Decided, Event, F, Grows, HostState, IsEventOf, IsHistory, IsPlayable}
+use Rattle.mk_trace.proofs.Vocabulary.{K, NeverState, Null, Op, PassState, TraceEvent, W, WordsState, after_calls}
+use Rattle.mk_trace.proofs.Vocabulary.{answered, asked, begins_full, calls, calls_of_caller, config_of, first_host}
+use Rattle.mk_trace.proofs.Vocabulary.{is_refusal, never_behind, never_first, one_if, ops_of, pass_for, refused_events}
+use Rattle.mk_trace.proofs.Vocabulary.{register_at}
+use Rattle.mk_core.specs.History.{calls_from}
+use Rattle.mk_caller.specs.States.{at_home}
 use Rattle.mk_heap.specs.Reports.{IsWhole}
 use Rattle.mk_laws.proofs.Promises.{histories_keep_all_promises}
 use Rattle.mk_quarantine.proofs.Bounds.{quarantine_of_one_is_bounded}
 use Rattle.mk_run.proofs.UnsweptHistories.{unswept_is_precise}
-use Rattle.mk_trace.specs.declared.trace.TraceEvent.{TraceEvent}
-use Rattle.mk_trace.specs.declared.trace.TraceEvent.TheVariants.{A, K, F, C, W}
 use Rattle.mk_trace.specs.Calls.{AreNull, MayBePlayed, SameCalls, PlaysEvent, EventsAreAdmitted, HasPlayed}
-use Rattle.mk_trace.specs.ExactPlays.{AllTurnsAreExact}
-use Rattle.mk_trace.specs.Laws.{IsEventOf, IsPlayable}
-use Rattle.mk_trace.specs.Playing.{config_of, ops_of, begins_full, calls_of_caller, ops_played, refused_events}
-use Rattle.mk_trace.specs.Playing.{is_refusal, IsPlayed}
-use Rattle.mk_trace.specs.Traces.{Contents, slot_of}
+use Rattle.mk_trace.specs.Playing.{ops_played, IsPlayed}
+use Rattle.mk_trace.specs.Traces.{slot_of}
 use Rattle.mk_trace.proofs.AdmittedEvents.{events_are_admitted}
 use Rattle.mk_trace.proofs.ExactPlays.{play_is_unswept}
 use Rattle.mk_trace.proofs.OneCaller.{as_many, calls_are_own, never_then_calls, none_called}
-use Rattle.mk_trace.specs.Numbers.{one_if}
 use Rattle.mk_trace.proofs.LaterOps.{ops-played_more, refused_more}
 
 -- Before the first event.
@@ -61,26 +49,22 @@ module _ (trace : Contents) (events : List TraceEvent) (refused : ℕ) (es : Lis
     more = answered p.more
 
     answered_more : answered (calls c fs) ≡ answers ++ more
-    answered_more =
-        ap (λ (l : List Decided). answered l) p.is ∙ map-append (λ (x : Decided). x.answer) (calls c es) p.more
+    answered_more = ap answered p.is ∙ map-append (λ (x : Decided). x.answer) (calls c es) p.more
 
     count : length (ops_played events answers) ≡ length answers
     count = as_many (calls c es) (ops_played events answers) h.ops
 
     ops : asked (calls c fs) ≡ calls_of_caller (ops_played (events ++ event ∷ []) (answered (calls c fs)))
     ops =
-        ap (λ (l : List Decided). asked l) p.is
-        ∙ map-append (λ (x : Decided). record { caller = x.caller; op = x.op }) (calls c es) p.more
+        ap asked p.is ∙ map-append (λ (x : Decided). record { caller = x.caller; op = x.op }) (calls c es) p.more
         ∙ ap (λ (l : List Call). l ++ asked p.more) h.ops
         ∙ ap (λ (l : List Call). calls_of_caller (ops_played events answers) ++ l) p.asks
         ∙ sym (map-append (λ (o : Op). record { caller = 0; op = o }) (ops_played events answers)
-        (ops_of (begins_full more) event))
-        ∙ ap (λ (l : List Op). calls_of_caller l) (sym (ops-played_more event more events answers count))
+        (ops_of (begins_full more) event)) ∙ ap calls_of_caller (sym (ops-played_more event more events answers count))
         ∙ ap (λ (l : List Answer). calls_of_caller (ops_played (events ++ event ∷ []) l)) (sym answered_more)
 
-    never_now : never_behind c fs
-        ≡ after_calls (never_behind c es) (calls_of_caller (ops_of (begins_full more) event))
-    never_now = never_then_calls c es fs p.more p.is ∙ ap (λ (l : List Call). after_calls (never_behind c es) l) p.asks
+    never_now : never_behind c fs ≡ after_calls (never_behind c es) (calls_of_caller (ops_of (begins_full more) event))
+    never_now = never_then_calls c es fs p.more p.is ∙ ap (after_calls (never_behind c es)) p.asks
 
     pub played_more : EventsAreAdmitted trace → IsHistory c es → IsEventOf trace.slots event
         → HasPlayed trace (events ++ event ∷ []) (refused + one_if is_refused) fs
@@ -91,9 +75,8 @@ module _ (trace : Contents) (events : List TraceEvent) (refused : ℕ) (es : Lis
           ∙ ap (λ (n : ℕ). n + one_if (list_any is_refusal more)) h.refuses
           ∙ sym (refused_more event more events answers count
           (sym (as_many p.more (ops_of (begins_full more) event) p.asks)))
-          ∙ ap (λ (l : List Answer). refused_events (events ++ event ∷ []) l) (sym answered_more);
-      clear = λ r.
-          subst (λ (n : NeverState). register_at n 0 r ≡ Null) (sym never_now)
+          ∙ ap (refused_events (events ++ event ∷ [])) (sym answered_more);
+      clear = λ r. subst (λ (n : NeverState). register_at n 0 r ≡ Null) (sym never_now)
           ((admitted es history h.clear event of_slots (begins_full more)).1 r);
     }
 
@@ -116,13 +99,13 @@ is_played trace refused es h whole exact =
       bounded = quarantine_of_one_is_bounded false (config_of trace) es refl whole.history exact.caller exact.host;
     }
 
-pub may_be_played : (trace : Contents) (c : Config) (es fs : List Event) (event : TraceEvent) → c ≡ config_of trace
+pub may_be_played : {trace : Contents} {c : Config} {es : List Event} (fs : List Event) (event : TraceEvent)
+    → c ≡ config_of trace
     → IsPlayable trace → IsHistory c es → AreNull (never_behind c es) → IsEventOf trace.slots event → SameCalls c es fs
     → MayBePlayed c fs event
-may_be_played trace c es fs event config playable history null of_slots same full =
+may_be_played {trace} {c} {es} fs event config playable history null of_slots same full =
     subst (λ (l : List Decided). AreAdmitted c.globals (after_calls (never_first c) (asked l))
-    (calls_of_caller (ops_of full event)))
-    (sym same)
+    (calls_of_caller (ops_of full event))) (sym same)
     (subst (λ (d : Config). IsHistory d es → AreNull (never_behind d es)
     → AreAdmitted d.globals (never_behind d es) (calls_of_caller (ops_of full event))) (sym config)
     (λ h n. (events_are_admitted trace playable es h n event of_slots full).0) history null)
@@ -137,13 +120,12 @@ slot_within slots (W slot index value) h = h.0
 -- A slot is a global.
 pub slot_is_global : (trace : Contents) (event : TraceEvent) → IsPlayable trace → IsEventOf trace.slots event
     → slot_of event < 64
-slot_is_global trace event playable h =
-    omega (arith, slot_within trace.slots event h, playable.slot_count.1)
+slot_is_global trace event playable h = omega (arith, slot_within trace.slots event h, playable.slot_count.1)
 
 -- The same calls were played.
-pub played_same : (trace : Contents) (events : List TraceEvent) (refused : ℕ) (es fs : List Event)
+pub played_same : {trace : Contents} {events : List TraceEvent} {refused : ℕ} {es : List Event} (fs : List Event)
     → SameCalls (config_of trace) es fs → HasPlayed trace events refused es → HasPlayed trace events refused fs
-played_same trace events refused es fs same h = record {
+played_same {trace} {events} {refused} fs same h = record {
   ops = subst (λ (l : List Decided). asked l ≡ calls_of_caller (ops_played events (answered l))) (sym same) h.ops;
   refuses = subst (λ (l : List Decided). refused ≡ refused_events events (answered l)) (sym same) h.refuses;
   clear = subst (λ (l : List Decided). AreNull (after_calls (never_first (config_of trace)) (asked l)))
@@ -151,24 +133,25 @@ played_same trace events refused es fs same h = record {
 }
 
 -- The caller was made, and joined at once: it made no call.
-no_call_first : (c : Config) (es : List Event) → c.callers ≡ 1 → IsHistory c es → Grows (Caller 0 ∷ []) [] es
+no_call_first : {c : Config} {es : List Event} → c.callers ≡ 1 → IsHistory c es → Grows (Caller 0 ∷ []) [] es
     → SameCalls c [] es
 unfolding calls_from
-no_call_first c es one history g = sym (calls_are_own c es one history) ∙ none_called c [] es g
+no_call_first {c} one history g = sym (calls_are_own one history) ∙ none_called c g
 
 pub played_first : (trace : Contents) (c : Config) (events : List TraceEvent) (es : List Event) → c ≡ config_of trace
     → SameCalls c [] es → HasPlayed trace (take 0 events) 0 es
 played_first trace c events es config same =
-    played_same trace [] 0 [] es (subst (λ (d : Config). SameCalls d [] es) config same) (played_none trace)
+    played_same es (subst (λ (d : Config). SameCalls d [] es) config same) (played_none trace)
 
 -- The next event of some was played.
-pub next_played : (trace : Contents) (c : Config) (events : List TraceEvent) (i refused count : ℕ) (es fs : List Event)
-    (event : TraceEvent) (is_refused : Bool) → c ≡ config_of trace → IsPlayable trace → IsHistory c es
+pub next_played : {trace : Contents} {c : Config} (events : List TraceEvent) (i : ℕ) {refused : ℕ} (count : ℕ)
+    {es fs : List Event}
+    {event : TraceEvent} {is_refused : Bool} → c ≡ config_of trace → IsPlayable trace → IsHistory c es
     → i < length events → event ≡ get_or events i event → IsEventOf trace.slots event
     → HasPlayed trace (take i events) refused es → PlaysEvent c es event is_refused fs
-    → count ≡ refused + one_if is_refused
-    → HasPlayed trace (take (i + 1) events) count fs
-next_played trace c events i refused count es fs event is_refused config playable history within here of_slots h p is =
+    → count ≡ refused + one_if is_refused → HasPlayed trace (take (i + 1) events) count fs
+next_played {trace} events i {refused} count {es} {fs} {event} {is_refused} config playable history within here of_slots
+    h p is =
     let plays : PlaysEvent (config_of trace) es event is_refused fs =
     subst (λ (d : Config). PlaysEvent d es event is_refused fs) config p in
     let of_trace : IsHistory (config_of trace) es = subst (λ (d : Config). IsHistory d es) config history in
@@ -188,15 +171,15 @@ still_few true n m i is few = omega arith
 still_few false n m i is few = omega arith
 
 -- The registers are null between events.
-pub null_between : (trace : Contents) (c : Config) (events : List TraceEvent) (refused : ℕ) (es : List Event)
+pub null_between : {trace : Contents} (c : Config) {events : List TraceEvent} {refused : ℕ} {es : List Event}
     → c ≡ config_of trace → HasPlayed trace events refused es → AreNull (never_behind c es)
-null_between trace c events refused es config h =
-    subst (λ (d : Config). AreNull (never_behind d es)) (sym config) h.clear
+null_between c {es} config h = subst (λ (d : Config). AreNull (never_behind d es)) (sym config) h.clear
 
 -- all of them
-pub played_all : (trace : Contents) (events : List TraceEvent) (i refused : ℕ) (es : List Event) → length events ≤ i
+pub played_all : {trace : Contents} (events : List TraceEvent) (i : ℕ) {refused : ℕ} {es : List Event}
+    → length events ≤ i
     → events ≡ trace.events → HasPlayed trace (take i events) refused es → HasPlayed trace trace.events refused es
-played_all trace events i refused es past is h =
+played_all {trace} events i {refused} {es} past is h =
     subst (λ (l : List TraceEvent). HasPlayed trace l refused es) (take_all i events past ∙ is) h
 
 -- The pass that the host made first.
@@ -214,18 +197,16 @@ pub joined_first : (w : WordsState) (h : HostState) (s : CallerState) (q : PassS
     → Grows q.seats q.seen k.pass.seen → w.config ≡ c → c.callers ≡ 1 → k.pass.table ≡ w
     → IsHistory k.pass.table.config k.pass.seen → SameCalls c [] k.pass.seen
 joined_first w h s q k c first made is came config one table history =
-    no_call_first c k.pass.seen one
+    no_call_first one
     (subst (λ (d : Config). IsHistory d k.pass.seen) (ap (λ (x : WordsState). x.config) table ∙ config) history)
     (subst (λ (p : PassState). Grows p.seats p.seen k.pass.seen) (first_pass w h s q first made is) came)
 
 -- The heap is closed.
-pub closed : (trace : Contents) (refused : ℕ) (d : Config) (es fs : List Event) → fs ≡ es → d ≡ config_of trace
-    → HasPlayed trace trace.events refused es → IsWhole d fs
-    → AllTurnsAreExact (config_of trace) es → IsPlayed trace fs
-closed trace refused d es fs same config h whole exact =
-    is_played trace refused fs (subst (λ (l : List Event). HasPlayed trace trace.events refused l) (sym same) h)
-    (subst (λ (x : Config). IsWhole x fs) config whole)
-    (subst (λ (l : List Event). AllTurnsAreExact (config_of trace) l) (sym same) exact)
+pub closed : {trace : Contents} {refused : ℕ} {d : Config} {es fs : List Event} → fs ≡ es → d ≡ config_of trace
+    → HasPlayed trace trace.events refused es → IsWhole d fs → AllTurnsAreExact (config_of trace) es → IsPlayed trace fs
+closed {trace} {refused} {fs} same config h whole exact =
+    is_played trace refused fs (subst (HasPlayed trace trace.events refused) (sym same) h)
+    (subst (λ (x : Config). IsWhole x fs) config whole) (subst (AllTurnsAreExact (config_of trace)) (sym same) exact)
 
 -- An event of the trace.
 pub event_at : (trace : Contents) (events : List TraceEvent) (i : ℕ) (event : TraceEvent) → IsPlayable trace
@@ -233,11 +214,11 @@ pub event_at : (trace : Contents) (events : List TraceEvent) (i : ℕ) (event : 
 event_at trace events i event playable is within here =
     subst (IsEventOf trace.slots) (sym here)
     (All-get_or (IsEventOf trace.slots) events i event within
-    (subst (λ (l : List TraceEvent). All (IsEventOf trace.slots) l) (sym is) playable.events))
+    (subst (All (IsEventOf trace.slots)) (sym is) playable.events))
 
-pub refused_at : (trace : Contents) (refused : ℕ) (es fs : List Event) → fs ≡ es
+pub refused_at : {trace : Contents} {refused : ℕ} {es : List Event} (fs : List Event) → fs ≡ es
     → HasPlayed trace trace.events refused es
     → refused ≡ refused_events trace.events (answered (calls (config_of trace) fs))
-refused_at trace refused es fs same h =
+refused_at {trace} {refused} fs same h =
     subst (λ (l : List Event). refused ≡ refused_events trace.events (answered (calls (config_of trace) l))) (sym same)
     h.refuses

@@ -7,20 +7,20 @@ use Rattle.std.specs.Result.{IfErr, IsErrAnd, OnOk}
 use Rattle.std.proofs.lemmas.Bool.Decides.{nat_tests}
 use Rattle.std.proofs.lemmas.List.{at_drop_more, take_all, length-drop}
 use Rattle.std.proofs.lemmas.Bool.{le-leb, cond-true}
-use Rattle.mk_core.specs.Config.{IsBetween}
+use Rattle.mk_trace.proofs.Vocabulary.{Contents, HeapPages, IsBetween, LinesSoFar, contents_of, header_line_of}
+use Rattle.mk_trace.proofs.Vocabulary.{lines_of, nothing_written, text_fault_at, texts_of, trace_of_lines}
+use Rattle.mk_trace.proofs.Vocabulary.{words_of_line, written_from}
 use Rattle.mk_script.specs.declared.faults.LineFault.{LineFault}
 use Rattle.mk_script.specs.declared.faults.Which.{Which}
 use Rattle.mk_script.specs.Lines.{within}
 use Rattle.mk_script.specs.Operands.{◌>>=◌}
 use Rattle.mk_script.specs.declared.faults.LineFault.TheVariants.{Text}
 use Rattle.mk_script.specs.declared.faults.TextKind.TheVariants.{Word}
-use Rattle.mk_script.specs.Words.{words_of_line, lines_of, texts_of}
 use Rattle.mk_trace.specs.declared.faults.TraceStop.{TraceStop}
-use Rattle.mk_trace.specs.Grammar.{go_on, along, text_fault_at, written_from}
-use Rattle.mk_trace.specs.Lines.{ok_unless, LinesSoFar, slot_line, event_line_of, nothing_written, header_line_of}
-use Rattle.mk_trace.specs.Traces.{and_then, Contents, trace_of, trace_of_lines, contents_of}
+use Rattle.mk_trace.specs.Grammar.{go_on, along}
+use Rattle.mk_trace.specs.Lines.{ok_unless, slot_line, event_line_of}
+use Rattle.mk_trace.specs.Traces.{and_then, trace_of}
 use Rattle.mk_trace.specs.declared.faults.TraceStop.TheVariants.{NoMemory}
-use Rattle.mk_trace.specs.declared.lines.HeapPages.{HeapPages}
 
 -- Lines one after the other: what one more gives, or where it stops.
 
@@ -51,8 +51,7 @@ stopped told read add number line rest left before fault left_is is =
 
 pub ended : {Line Given Whole Fault : Type 0} (told : ℕ → Fault → TraceStop)
     (read : Whole → Line → Result Given Fault) (add : Whole → Given → Whole)
-    (number : ℕ) (left : List Line) (before : Whole) → left ≡ []
-    → along told read add number left before ≡ Ok before
+    (number : ℕ) (left : List Line) (before : Whole) → left ≡ [] → along told read add number left before ≡ Ok before
 unfolding along
 ended told read add number left before left_is = ap (λ lines. along told read add number lines before) left_is
 
@@ -65,20 +64,17 @@ pub record Parts {X Fault : Type 0} (first : Result X Fault) (next : X → Type 
   pub behind : next value
 
 pub bound : {X Y : Type 0} (first : Result X LineFault) (next : X → Result Y LineFault) (y : Y)
-    → (first >>= next) ≡ Ok y
-    → Parts first (λ x. next x ≡ Ok y)
+    → (first >>= next) ≡ Ok y → Parts first (λ x. next x ≡ Ok y)
 bound (Ok x) next y h = record { value = x; is = refl; behind = h }
 bound (Err fault) next y h = absurd cc
 
 pub gone_on : {X Y Fault : Type 0} (told : Fault → TraceStop) (first : Result X Fault)
-    (next : X → Result Y TraceStop) (y : Y) → go_on told first next ≡ Ok y
-    → Parts first (λ x. next x ≡ Ok y)
+    (next : X → Result Y TraceStop) (y : Y) → go_on told first next ≡ Ok y → Parts first (λ x. next x ≡ Ok y)
 gone_on told (Ok x) next y h = record { value = x; is = refl; behind = h }
 gone_on told (Err fault) next y h = absurd cc
 
 pub then_next : {X Y : Type 0} (first : Result X TraceStop) (next : X → Result Y TraceStop) (y : Y)
-    → and_then first next ≡ Ok y
-    → Parts first (λ x. next x ≡ Ok y)
+    → and_then first next ≡ Ok y → Parts first (λ x. next x ≡ Ok y)
 then_next (Ok x) next y h = record { value = x; is = refl; behind = h }
 then_next (Err fault) next y h = absurd cc
 
@@ -166,23 +162,20 @@ read first rest heap written header lines =
 
 -- the first of these lines, and the others
 pub read_whole : (text : List ℕ) (lines : List (Bor (List ℕ))) (d : Bor (List ℕ)) (heap : HeapPages)
-    (written : LinesSoFar)
-    → length text ≤ 1048576 → texts_of lines ≡ lines_of text → 0 < length lines
+    (written : LinesSoFar) → length text ≤ 1048576 → texts_of lines ≡ lines_of text → 0 < length lines
     → header_line_of (words_of_line (get_or lines 0 d).now) ≡ Ok heap
     → written_from 2 (texts_of (take (length lines - 1) (drop 1 lines))) nothing_written ≡ Ok written
     → trace_of text ≡ contents_of heap written
 read_whole text lines d heap written small are some header rest =
     let whole : take (length lines - 1) (drop 1 lines) ≡ drop 1 lines =
     take_all (length lines - 1) (drop 1 lines) (omega (arith, length-drop 1 lines)) in
-    short text small
-    ∙ ap trace_of_lines (sym are ∙ at_drop_more texts_of lines 0 d some)
+    short text small ∙ ap trace_of_lines (sym are ∙ at_drop_more texts_of lines 0 d some)
     ∙ read (get_or lines 0 d).now (texts_of (drop 1 lines)) heap written header
     (ap (λ left. written_from 2 (texts_of left) nothing_written) (sym whole) ∙ rest)
 
 -- what stops at the end stops the whole
 pub stops_whole : {X : Type 0} (found : Result X TraceStop) (expected whole : Result Contents TraceStop)
-    → whole ≡ expected
-    → IfErr found (λ stop. stop ≢ NoMemory → expected ≡ Err stop)
+    → whole ≡ expected → IfErr found (λ stop. stop ≢ NoMemory → expected ≡ Err stop)
     → IfErr found (λ stop. stop ≢ NoMemory → whole ≡ Err stop)
 stops_whole (Ok x) expected whole is told = tt
 stops_whole (Err stop) expected whole is told = λ memory. is ∙ told memory
@@ -190,7 +183,6 @@ stops_whole (Err stop) expected whole is told = λ memory. is ∙ told memory
 -- Lines after a text, one after the other.
 
 pub six_lines : {X : Type 0} (old a b c d e f t1 t2 t3 t4 t5 t6 : List X) → t1 ≡ old ++ a → t2 ≡ t1 ++ b → t3 ≡ t2 ++ c
-    → t4 ≡ t3 ++ d → t5 ≡ t4 ++ e → t6 ≡ t5 ++ f
-    → t6 ≡ old ++ (a ++ (b ++ (c ++ (d ++ (e ++ (f ++ []))))))
+    → t4 ≡ t3 ++ d → t5 ≡ t4 ++ e → t6 ≡ t5 ++ f → t6 ≡ old ++ (a ++ (b ++ (c ++ (d ++ (e ++ (f ++ []))))))
 six_lines old a b c d e f t1 t2 t3 t4 t5 t6 h1 h2 h3 h4 h5 h6 = rw (h6, h5, h4, h3, h2, h1)
     (simp (append_assoc, append-nil))

@@ -5,18 +5,12 @@ use Rattle.std.specs.Prelude.{◌&&◌, not, slice_index, if◌then◌else◌}
 use Rattle.std.proofs.lemmas.Bool.{and_parts, cases_Bool, cases_lt, true≢false}
 use Rattle.std.proofs.lemmas.List.{length-map}
 use Rattle.std.proofs.lemmas.Bool.Decides.{nat_tests}
-use Rattle.mk_geom.specs.declared.addresses.Cell.{Cell}
-use Rattle.mk_core.specs.declared.config.Config.{Config}
-use Rattle.mk_core.specs.declared.events.Event.{Event}
-use Rattle.mk_core.specs.declared.events.Step.{Step}
+use Rattle.mk_trace.proofs.Vocabulary.{AreAgesOf, Cell, Config, Event, IsHistory, PlacedAllocation, Step, Words, World}
+use Rattle.mk_trace.proofs.Vocabulary.{age_in_a_word, allocations_by, cell_freed, cell_of_allocation, counted}
+use Rattle.mk_trace.proofs.Vocabulary.{first_world, flight_of, freed_where_it_stands, is_some_and, left, never_granted}
+use Rattle.mk_trace.proofs.Vocabulary.{no_longer_fresh, one_if, phase_of, placed_at, stands_in, times, with_released}
 use Rattle.mk_core.specs.declared.events.Step.TheVariants as step
-use Rattle.mk_core.specs.Allocations.{PlacedAllocation, allocations_by, cell_of_allocation, freed_where_it_stands}
-use Rattle.mk_core.specs.Allocations.{never_granted, no_longer_fresh, placed_at, stands_in, with_released}
-use Rattle.mk_core.specs.Bounded.{is_some_and}
-use Rattle.mk_core.specs.History.{IsHistory, World, first_world, left, left_from}
-use Rattle.mk_core.specs.Moments.{flight_of}
-use Rattle.mk_core.specs.TurnConditions.{cell_freed}
-use Rattle.mk_core.specs.Words.{Words, phase_of}
+use Rattle.mk_core.specs.History.{left_from}
 use Rattle.mk_core.proofs.BitsWithout.{has_bit_without}
 use Rattle.mk_core.proofs.ChangedAllocations.{changed_at, earlier_at, freed_leaves, freed_released, fresh_leaves}
 use Rattle.mk_core.proofs.ChangedAllocations.{granted_at, released_leaves}
@@ -27,9 +21,8 @@ use Rattle.mk_laws.proofs.InvariantHistories.{histories_keep_the_invariant}
 use Rattle.mk_laws.proofs.InvariantTheorems.{allocations_stand}
 use Rattle.mk_laws.proofs.CyclePhases.{AsksPhase, moves_phase}
 use Rattle.mk_laws.proofs.Snapshots.{unreleased_cycles}
-use Rattle.mk_trace.specs.Ledgers.{AreAgesOf, age_in_a_word, is_gone}
-use Rattle.mk_trace.specs.Numbers.{one_if, times}
-use Rattle.mk_trace.specs.Peaks.{counted, released_ages}
+use Rattle.mk_trace.specs.Ledgers.{is_gone}
+use Rattle.mk_trace.specs.Peaks.{released_ages}
 use Rattle.mk_trace.proofs.CountedAges.{same_counted}
 
 abbrev pub AreFreed : List PlacedAllocation → Type 0
@@ -61,8 +54,7 @@ more_freed xs a unreleased h i lt gone = elim (cases_lt i (length xs)) [
       ∙ h i before (sym (ap (λ (x : PlacedAllocation). x.released) same) ∙ gone)
   | inr le ↦
       let last : i ≡ length xs = omega (arith, lt, le, length-append xs (a ∷ [])) in
-      let at : placed_at (xs ++ a ∷ []) i ≡ a =
-      ap (λ (n : ℕ). placed_at (xs ++ a ∷ []) n) last ∙ granted_at xs a in
+      let at : placed_at (xs ++ a ∷ []) i ≡ a = ap (placed_at (xs ++ a ∷ [])) last ∙ granted_at xs a in
       absurd (true≢false (sym gone ∙ ap (λ (x : PlacedAllocation). x.released) at ∙ unreleased))
 ]
 
@@ -120,24 +112,23 @@ one_freed c front e whole h =
     (step_freed c front (earlier_part_is_history c front (e ∷ []) whole) e e.step refl
     (moves_phase c (left c front) e [] on.1).0 h)
 
-all_freed : (c : Config) (front rest : List Event) → IsHistory c (front ++ rest)
+all_freed : {c : Config} (front rest : List Event) → IsHistory c (front ++ rest)
     → AreFreed (left c front).allocations → AreFreed (left c (front ++ rest)).allocations
-all_freed c front [] whole h =
+all_freed {c} front [] whole h =
     subst (λ (es : List Event). AreFreed (left c es).allocations) (sym (append-nil front)) h
-all_freed c front (e ∷ rest) whole h =
+all_freed {c} front (e ∷ rest) whole h =
     let parts = append_assoc front (e ∷ []) rest in
-    let same : IsHistory c ((front ++ e ∷ []) ++ rest) =
-    subst (λ (es : List Event). IsHistory c es) (sym parts) whole in
+    let same : IsHistory c ((front ++ e ∷ []) ++ rest) = subst (IsHistory c) (sym parts) whole in
     subst (λ (es : List Event). AreFreed (left c es).allocations) parts
-    (all_freed c (front ++ e ∷ []) rest same
+    (all_freed (front ++ e ∷ []) rest same
     (one_freed c front e (earlier_part_is_history c (front ++ e ∷ []) rest same) h))
 
 none_freed_first : (c : Config) → AreFreed (left c []).allocations
 unfolding left_from
 none_freed_first c i lt gone = absurd (omega (arith, lt))
 
-released_are_freed : (c : Config) (es : List Event) → IsHistory c es → AreFreed (left c es).allocations
-released_are_freed c es history = all_freed c [] es history (none_freed_first c)
+released_are_freed : {c : Config} {es : List Event} → IsHistory c es → AreFreed (left c es).allocations
+released_are_freed {c} {es} history = all_freed [] es history (none_freed_first c)
 
 -- The numbers of the released ones
 
@@ -163,12 +154,10 @@ lower_by i n numbers b lt none = grind (arith, nat_tests)
 
 lower : (i n : ℕ) (xs : List PlacedAllocation) → i < n → times i (released_from n xs) ≡ 0
 lower i n [] lt = refl
-lower i n (a ∷ xs) lt =
-    lower_by i n (released_from (n + 1) xs) a.released lt (lower i (n + 1) xs (omega (arith, lt)))
+lower i n (a ∷ xs) lt = lower_by i n (released_from (n + 1) xs) a.released lt (lower i (n + 1) xs (omega (arith, lt)))
 
 first_by : (n i : ℕ) (numbers : List ℕ) (released freed : Bool) → n ≡ i → (released ≡ true → freed ≡ true)
-    → times i numbers ≡ 0
-    → times i (if released then n ∷ numbers else numbers) ≡ one_if (freed && released)
+    → times i numbers ≡ 0 → times i (if released then n ∷ numbers else numbers) ≡ one_if (freed && released)
 first_by n i numbers released freed same is none = grind (arith, nat_tests)
 
 later_by : (n i : ℕ) (numbers : List ℕ) (b : Bool) → n < i
@@ -187,14 +176,13 @@ those_from n (a ∷ xs) h (suc i) =
     ∙ ap (λ (k : ℕ). times k (released_from (n + 1) xs)) next
     ∙ those_from (n + 1) xs (λ j lt gone. h (suc j) (omega (arith, lt)) gone) i
 
-pub ages_counted : (c : Config) (es : List Event) (found : List (List PlacedAllocation)) (pairs : List (ℕ × ℕ))
+pub ages_counted : {c : Config} {es : List Event} {found : List (List PlacedAllocation)} {pairs : List (ℕ × ℕ)}
     → IsHistory c es → AreAgesOf found (left c es).allocations pairs
     → pairs ≡ counted (released_ages found 0 (left c es).allocations)
-ages_counted c es found pairs history h =
+ages_counted {c} {es} {found} history h =
     let all : List PlacedAllocation = (left c es).allocations in
     let numbers : List ℕ = released_from 0 all in
-    h.are
-    ∙ same_counted (age_in_a_word found) h.numbers numbers
+    h.are ∙ same_counted (age_in_a_word found) h.numbers numbers
     (λ i. (let same : i ≡ 0 + i = omega arith in
-    h.those i ∙ sym (ap (λ (k : ℕ). times k numbers) same ∙ those_from 0 all (released_are_freed c es history) i)))
+    h.those i ∙ sym (ap (λ (k : ℕ). times k numbers) same ∙ those_from 0 all (released_are_freed history) i)))
     ∙ ap counted (sym (ages_are found 0 all))

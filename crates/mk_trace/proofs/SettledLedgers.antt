@@ -5,12 +5,9 @@ use Rattle.std.specs.Prelude.{sum_by, filter, fold, map, not, if◌then◌else�
 use Rattle.std.proofs.lemmas.List.{take_all, map-append, take_more}
 use Rattle.std.proofs.lemmas.List.Sums.{sum_by_more, fold-append}
 use Rattle.std.proofs.lemmas.List.Elements.{filter-append}
-use Rattle.mk_core.specs.Counts.{in_a_word}
-use Rattle.mk_trace.specs.declared.ledger.FreedObject.{FreedObject}
-use Rattle.mk_trace.specs.declared.ledger.Freed.{Freed}
-use Rattle.mk_trace.specs.Ledgers.{SettlesFreed, SettlesWhere, aged, ages_let_go, is_freed_among, objects_kept}
-use Rattle.mk_trace.specs.Ledgers.{still_kept}
-use Rattle.mk_trace.specs.Ledgers.{weighed_anew, with_one}
+use Rattle.mk_trace.proofs.Vocabulary.{Freed, FreedObject, SettlesFreed, aged, in_a_word, objects_kept, still_kept}
+use Rattle.mk_trace.proofs.Vocabulary.{with_one}
+use Rattle.mk_trace.specs.Ledgers.{SettlesWhere, ages_let_go, is_freed_among, weighed_anew}
 use Rattle.mk_trace.proofs.NumberLists.{unequal_is}
 
 -- Words of kept objects, summed up one by one, where a number above 2^64 - 1 stands as 2^64 - 1.
@@ -18,21 +15,17 @@ use Rattle.mk_trace.proofs.NumberLists.{unequal_is}
 pub total_more : (f : FreedObject → ℕ) (xs : List FreedObject) (i words : ℕ) (d : FreedObject) → i < length xs
     → words ≡ in_a_word (sum_by f (take i xs))
     → in_a_word (words + f (get_or xs i d)) ≡ in_a_word (sum_by f (take (i + 1) xs))
-total_more f xs i words d lt so_far =
-    omega (arith, so_far, sum_by_more f xs i d lt)
+total_more f xs i words d lt so_far = omega (arith, so_far, sum_by_more f xs i d lt)
 
 pub all_summed : (f : FreedObject → ℕ) (xs : List FreedObject) (i words : ℕ) → length xs ≤ i
     → words ≡ in_a_word (sum_by f (take i xs)) → words ≡ in_a_word (sum_by f xs)
-all_summed f xs i words all so_far =
-    so_far ∙ ap (λ (l : List FreedObject). in_a_word (sum_by f l)) (take_all i xs all)
+all_summed f xs i words all so_far = so_far ∙ ap (λ (l : List FreedObject). in_a_word (sum_by f l)) (take_all i xs all)
 
 -- What is kept once what was released is let go.
 
 all_aged : (found : List FreedObject) (i : ℕ) (d : FreedObject) → i < length found
     → map aged (take (i + 1) found) ≡ map aged (take i found) ++ aged (get_or found i d) ∷ []
-all_aged found i d lt =
-    ap (λ (l : List FreedObject). map aged l) (take_more found i d lt)
-    ∙ map-append aged (take i found) (get_or found i d ∷ [])
+all_aged found i d lt = ap (map aged) (take_more found i d lt) ∙ map-append aged (take i found) (get_or found i d ∷ [])
 
 pub kept_more : (freed : List ℕ) (found : List FreedObject) (i : ℕ) (d x : FreedObject) (kept now : List FreedObject)
     (b : Bool) → i < length found → kept ≡ still_kept freed (map aged (take i found)) → x ≡ aged (get_or found i d)
@@ -44,7 +37,7 @@ kept_more freed found i d x kept now b lt so_far same is more =
     ∙ ap (λ (z : FreedObject). still_kept freed (map aged (take i found)) ++ (if b then z ∷ [] else [])) same
     ∙ ap (λ (z : Bool). still_kept freed (map aged (take i found)) ++ (if z then y ∷ [] else [])) is
     ∙ sym (filter-append (λ (z : FreedObject). is_freed_among freed z.cell) (map aged (take i found)) (y ∷ []))
-    ∙ ap (λ (l : List FreedObject). still_kept freed l) (sym (all_aged found i d lt))
+    ∙ ap (still_kept freed) (sym (all_aged found i d lt))
 
 pub kept_all : (freed : List ℕ) (found : List FreedObject) (i : ℕ) (kept : List FreedObject) → length found ≤ i
     → kept ≡ still_kept freed (map aged (take i found)) → kept ≡ still_kept freed (map aged found)
@@ -53,18 +46,15 @@ kept_all freed found i kept all is =
 
 -- and the ages of the others
 
-let_go_one : (freed : List ℕ) (objects : List FreedObject) (x : FreedObject)
-    → ages_let_go freed (objects ++ x ∷ [])
+let_go_one : (freed : List ℕ) (objects : List FreedObject) (x : FreedObject) → ages_let_go freed (objects ++ x ∷ [])
     ≡ ages_let_go freed objects ++ ages_let_go freed (x ∷ [])
 let_go_one freed objects x =
-    ap (λ (l : List FreedObject). map (λ (y : FreedObject). y.age) l)
+    ap (map (λ (y : FreedObject). y.age))
     (filter-append (λ (y : FreedObject). not (is_freed_among freed y.cell)) objects (x ∷ []))
-    ∙ map-append (λ (y : FreedObject). y.age)
-    (filter (λ (y : FreedObject). not (is_freed_among freed y.cell)) objects)
+    ∙ map-append (λ (y : FreedObject). y.age) (filter (λ (y : FreedObject). not (is_freed_among freed y.cell)) objects)
     (filter (λ (y : FreedObject). not (is_freed_among freed y.cell)) (x ∷ []))
 
-one_by : (pairs : List (ℕ × ℕ)) (x : FreedObject) (b : Bool)
-    → (if b then pairs else with_one pairs x.age)
+one_by : (pairs : List (ℕ × ℕ)) (x : FreedObject) (b : Bool) → (if b then pairs else with_one pairs x.age)
     ≡ fold with_one pairs (map (λ (y : FreedObject). y.age) (if not b then x ∷ [] else []))
 one_by pairs x true = refl
 one_by pairs x false = refl
@@ -79,11 +69,10 @@ ages_more freed found i d x first ages now b lt so_far same is more =
     let before : List ℕ = ages_let_go freed (map aged (take i found)) in
     more ∙ ap (λ (l : List (ℕ × ℕ)). if b then l else with_one l x.age) so_far
     ∙ ap (λ (z : FreedObject). if b then fold with_one first before else with_one (fold with_one first before) z.age)
-    same
-    ∙ ap (λ (z : Bool). if z then fold with_one first before else with_one (fold with_one first before) y.age) is
+    same ∙ ap (λ (z : Bool). if z then fold with_one first before else with_one (fold with_one first before) y.age) is
     ∙ one_by (fold with_one first before) y (is_freed_among freed y.cell)
     ∙ sym (fold-append with_one first before (ages_let_go freed (y ∷ [])))
-    ∙ ap (λ (l : List ℕ). fold with_one first l) (sym (let_go_one freed (map aged (take i found)) y))
+    ∙ ap (fold with_one first) (sym (let_go_one freed (map aged (take i found)) y))
     ∙ ap (λ (l : List FreedObject). fold with_one first (ages_let_go freed l)) (sym (all_aged found i d lt))
 
 pub ages_all : (freed : List ℕ) (found : List FreedObject) (i : ℕ) (first ages : List (ℕ × ℕ)) → length found ≤ i
@@ -98,8 +87,7 @@ pub settles_anew : (freed shown : List ℕ) (count told : ℕ) (old new : Freed)
     → shown ≡ freed → count ≡ told → (count ≡ old.ends → ⊥) → found ≡ objects_kept old
     → kept ≡ still_kept shown (map aged found)
     → new.quarantined ≡ weighed_anew (λ (x : FreedObject). x.storage) kept old.quarantined
-    → new.reserved ≡ weighed_anew (λ (x : FreedObject). x.reserved) kept old.reserved
-    → objects_kept new ≡ kept
+    → new.reserved ≡ weighed_anew (λ (x : FreedObject). x.reserved) kept old.reserved → objects_kept new ≡ kept
     → new.ages.items ≡ fold with_one old.ages.items (ages_let_go shown (map aged found))
     → new.ends ≡ count → SettlesFreed freed told old new
 settles_anew freed shown count told old new found kept at is other all still quarantined reserved objects ages ends =
@@ -112,8 +100,7 @@ settles_anew freed shown count told old new found kept at is other all still qua
       objects = subst (λ (b : Bool). SettlesWhere b freed old new) (sym (unequal_is count old.ends other)) (
         quarantined
             ∙ ap (λ (l : List FreedObject). weighed_anew (λ (x : FreedObject). x.storage) l old.quarantined) kept_is,
-        reserved
-            ∙ ap (λ (l : List FreedObject). weighed_anew (λ (x : FreedObject). x.reserved) l old.reserved) kept_is,
+        reserved ∙ ap (λ (l : List FreedObject). weighed_anew (λ (x : FreedObject). x.reserved) l old.reserved) kept_is,
         objects ∙ kept_is,
         ages ∙ ap (λ (l : List ℕ). fold with_one old.ages.items (ages_let_go l (map aged found))) at
             ∙ ap (λ (l : List FreedObject). fold with_one old.ages.items (ages_let_go freed (map aged l))) all,

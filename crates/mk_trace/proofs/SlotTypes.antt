@@ -6,12 +6,10 @@ use Rattle.std.specs.List.{range_with_len}
 use Rattle.std.proofs.Math.Seq.{get_or-append_seam}
 use Rattle.std.proofs.lemmas.List.{length-append, length-replicate}
 use Rattle.std.proofs.lemmas.List.Elements.{All-nil, All-cons, All-head, All-tail, All-replicate}
-use Rattle.mk_never.specs.declared.types.Kind.{Kind}
-use Rattle.mk_never.specs.declared.types.Kind.TheVariants.{Num, To}
-use Rattle.mk_never.specs.Types.{kinds_of}
-use Rattle.mk_core.specs.Config.{IsBetween, IsAmong, IsTypeAmong}
-use Rattle.mk_trace.specs.Playing.{config_of, slot_type, types_from}
-use Rattle.mk_trace.specs.Traces.{Contents}
+use Rattle.mk_trace.proofs.Vocabulary.{Contents, IsBetween, Kind, To, config_of, kinds_of, types_from}
+use Rattle.mk_never.specs.declared.types.Kind.TheVariants.{Num}
+use Rattle.mk_core.specs.Config.{IsAmong, IsTypeAmong}
+use Rattle.mk_trace.specs.Playing.{slot_type}
 
 pub length-types_from : (slot : ℕ) (slots : List ℕ) → length (types_from slot slots) ≡ length slots
 length-types_from slot [] = refl
@@ -59,8 +57,7 @@ range_below first (suc count) limit h =
 -- The first of numbers that are left, and the others.
 pub range_more : (first count : ℕ) → first < count
     → range_with_len first (count - first) ≡ first ∷ range_with_len (first + 1) (count - (first + 1))
-range_more first count below =
-    ap (λ (n : ℕ). range_with_len first n) (left_is (count - (first + 1)) (omega (arith, below)))
+range_more first count below = ap (range_with_len first) (left_is (count - (first + 1)) (omega (arith, below)))
   where
     left_is : (n : ℕ) → count - first ≡ suc n → count - first ≡ suc n
     left_is n h = h

@@ -1,31 +1,18 @@
 -- The host looks at a word between calls: it is told the word, and leaves all as it is.
 use Rattle.std.proofs.Common.{◌≡◌, ℕ, false, List, ◌++◌, refl, sym, ◌∙◌, ap, subst, append-nil, arith, ◌∷◌}
 use Rattle.std.proofs.Common.{append_assoc, []}
-use Rattle.mk_core.specs.declared.config.Config.{Config}
-use Rattle.mk_core.specs.declared.events.Event.{Event}
-use Rattle.mk_core.specs.declared.events.Seat.{Seat}
-use Rattle.mk_core.specs.declared.events.Seat.TheVariants.{Host, Caller}
+use Rattle.mk_trace.proofs.Vocabulary.{Caller, CallerIsHome, Config, Event, Has, HasAll, Host, HostOnlyLooks, HostState}
+use Rattle.mk_trace.proofs.Vocabulary.{IsHistory, IsTidy, LeavesAllocations, PassState, PlacedAllocation, SweepsNothing}
+use Rattle.mk_trace.proofs.Vocabulary.{TalliesAreTidy, Word, WordsState, World, calls, ends, event_of, first_world}
+use Rattle.mk_trace.proofs.Vocabulary.{found, greatest, has_step, held_by_allocations, in_a_word, is_end, left}
 use Rattle.mk_core.specs.declared.events.Step.TheVariants as step
-use Rattle.mk_core.specs.declared.events.Word.{Word}
-use Rattle.mk_core.specs.Accesses.{found}
-use Rattle.mk_core.specs.Allocations.{PlacedAllocation, held_by_allocations}
-use Rattle.mk_core.specs.History.{IsHistory, World, first_world, left, calls}
 use Rattle.mk_core.proofs.HistoryParts.{left_in_parts, enabled_in_parts, earlier_part_is_history}
 use Rattle.mk_core.specs.declared.events.Word.TheVariants as word
-use Rattle.mk_core.specs.Counts.{IsTidy, TalliesAreTidy, ends, in_a_word}
-use Rattle.mk_core.specs.Cycles.{is_end}
 use Rattle.mk_core.proofs.Histories.{left_more}
-use Rattle.mk_words.specs.Seats.{Has, HasAll}
-use Rattle.mk_words.specs.States.{PassState, WordsState, event_of}
-use Rattle.mk_heap.specs.Hosts.{HostState}
 use Rattle.mk_heap.specs.Turns.{TellsWord}
-use Rattle.mk_alloc.specs.TurnCycles.{has_step}
 use Rattle.mk_alloc.proofs.Parts.{seen_made}
-use Rattle.mk_turns.specs.Sweeping.{SweepsNothing}
-use Rattle.mk_trace.specs.Calls.{CallerIsHome, held_behind}
-use Rattle.mk_trace.specs.Ends.{LeavesAllocations}
-use Rattle.mk_trace.specs.Looking.{LeavesTable, HostOnlyLooks, word_behind}
-use Rattle.mk_trace.specs.Peaks.{greatest}
+use Rattle.mk_trace.specs.Calls.{held_behind}
+use Rattle.mk_trace.specs.Looking.{LeavesTable, word_behind}
 use Rattle.mk_trace.proofs.PeakParts.{from-append, last_below}
 use Rattle.mk_trace.proofs.HeldLooks.{IsApart, behind, first, first_lacks, looks_alone, seen_is, taken_same, taken_seen}
 use Rattle.mk_trace.proofs.HeldLooks.{giving, looked_same, looking, mine, of_pass, Looked, all_lack, exact}
@@ -66,8 +53,7 @@ module _ {p q : PassState} {x : Word} {n : ℕ} (l : Looked p x n q) where
   leaves_table : (es more : List Event) → es ≡ p.seen ++ more → has_step is_no_look more ≡ false
       → LeavesTable (left c p.seen) (left c es)
   leaves_table es more is looks =
-      subst (λ (w : World). LeavesTable (left c p.seen) w)
-      (sym (ap (λ (fs : List Event). left c fs) is ∙ left_in_parts c p.seen more))
+      subst (LeavesTable (left c p.seen)) (sym (ap (left c) is ∙ left_in_parts c p.seen more))
       (looks_leave c (left c p.seen) more looks)
 
   leaves_taken : LeavesTable (left c p.seen) (left c at)
@@ -81,8 +67,7 @@ module _ {p q : PassState} {x : Word} {n : ℕ} (l : Looked p x n q) where
   -- how much is held
   told_held : x ≡ word.Held → n ≡ held_by_allocations c (left c p.seen).allocations
   told_held is =
-      told_taken ∙ ap (λ (y : Word). word_behind c at y) is ∙ (exact l).held
-      ∙ ap (λ (xs : List PlacedAllocation). held_by_allocations c xs) leaves_taken.allocations
+      told_taken ∙ ap (word_behind c at) is ∙ (exact l).held ∙ ap (held_by_allocations c) leaves_taken.allocations
 
   -- and how many cycles ended
 
@@ -109,7 +94,7 @@ module _ {p q : PassState} {x : Word} {n : ℕ} (l : Looked p x n q) where
   ended =
       let whole = ends-append at (look ∷ []) in
       let one = no_end-cons look [] refl in
-      let taken : ends at ≡ ends (p.seen ++ first l) = ap (λ (es : List Event). ends es) (taken_seen l) in
+      let taken : ends at ≡ ends (p.seen ++ first l) = ap ends (taken_seen l) in
       let parts = ends-append p.seen (first l) in
       let none = none_end (first l)
       (first_lacks l is_end (record { take = λ o. refl; look = λ y. refl; give = refl })) in
@@ -121,33 +106,29 @@ module _ {p q : PassState} {x : Word} {n : ℕ} (l : Looked p x n q) where
       tidy last (event_of h.looked step.Give) []
       (seen_made h.looked q step.Give h.gives
       ∙ sym (append_assoc h.looked.seen h.gives.others (event_of h.looked step.Give ∷ []))) refl in
-      told_taken ∙ ap (λ (y : Word). word_behind c at y) is
+      told_taken ∙ ap (word_behind c at) is
       ∙ sym (ap (λ (w : World). w.now.words.cycles) (left_more c (first_world c) at look))
-      ∙ ap (λ (es : List Event). (left c es).now.words.cycles) (sym last_is)
-      ∙ tidy_then.cycles
-      ∙ ap (λ (m : ℕ). in_a_word m) (ap (λ (es : List Event). ends es) last_is ∙ ended)
+      ∙ ap (λ (es : List Event). (left c es).now.words.cycles) (sym last_is) ∙ tidy_then.cycles
+      ∙ ap in_a_word (ap ends last_is ∙ ended)
 
   -- The host's looks are no calls, and leave the allocations.
 
   leaves : LeavesAllocations c p.seen q.seen
   leaves =
-      subst (λ (es : List Event). LeavesAllocations c p.seen es) (sym (seen_is l))
+      subst (LeavesAllocations c p.seen) (sym (seen_is l))
       (leaves_then c p.seen (first l ++ behind l)
-      ((enabled_in_parts c p.seen (first l ++ behind l)).0
-      (subst (λ (es : List Event). IsHistory c es) (seen_is l) l.history).enabled).1
+      ((enabled_in_parts c p.seen (first l ++ behind l)).0 (subst (IsHistory c) (seen_is l) l.history).enabled).1
       (all_lack l changes (record { take = λ o. refl; look = λ y. refl; give = refl })))
 
   looks : p.seat ≡ Host → Has p.seats (Caller 0) → c.callers ≡ 1 → SweepsNothing p q → HostOnlyLooks c p.seen q.seen
   looks host joined one sweeps = record {
     calls =
-        same_calls c p.seen q.seen one
-        (earlier_part_is_history c p.seen (first l ++ behind l)
-        (subst (λ (es : List Event). IsHistory c es) (seen_is l) l.history))
+        same_calls one
+        (earlier_part_is_history c p.seen (first l ++ behind l) (subst (IsHistory c) (seen_is l) l.history))
         l.history (caller_is_still l host joined);
     leaves = leaves;
     table = leaves_table q.seen (first l ++ behind l) (seen_is l) (all_lack l is_no_look no_look);
-    most = λ measure.
-        ap (λ (es : List Event). greatest c measure es) (seen_is l)
+    most = λ measure. ap (greatest c measure) (seen_is l)
         ∙ most_looked c measure p.seen (first l ++ behind l) (all_lack l is_no_look no_look);
     exact = look_stays_exact l host joined sweeps;
   }
@@ -159,20 +140,20 @@ pub record Reports (c : Config) (es : List Event) (x : Word) (n : ℕ) (fs : Lis
   pub holds : x ≡ word.Held → n ≡ held_behind c es
   pub counts : IsTidy c fs → x ≡ word.Cycles → n ≡ in_a_word (ends es)
 
-pub reports : (w : WordsState) (h : HostState) → CallerIsHome w h → h.pass.seat ≡ Host
-    → (x : Word) (n : ℕ) (k : HostState)
+pub reports : {w : WordsState} {h : HostState} → CallerIsHome w h → h.pass.seat ≡ Host
+    → {x : Word} {n : ℕ} (k : HostState)
     → TellsWord h.pass x n k.pass → IsHistory h.pass.table.config k.pass.seen → SweepsNothing h.pass k.pass
     → Reports w.config h.pass.seen x n k.pass.seen
-reports w h home host x n k tells history sweeps =
+reports {h} home host {x} {n} k tells history sweeps =
     let l : Looked h.pass x n k.pass = record {
       tells = tells;
-      own = subst (λ (s : Seat). Has h.pass.seats s) (sym host) (home.all Host refl);
+      own = subst (Has h.pass.seats) (sym host) (home.all Host refl);
       all = subst (λ (y : WordsState). HasAll y.config h.pass.seats) (sym home.table) home.all;
       history = history;
     } in
     subst (λ (y : WordsState). Reports y.config h.pass.seen x n k.pass.seen) home.table (record {
-      looks = looks l host home.joined (callers_at_home w h home) sweeps;
-      tells = told_taken l ∙ word_left (left h.pass.table.config h.pass.seen) _ (leaves_taken l) x;
+      looks = looks l host home.joined (callers_at_home home) sweeps;
+      tells = told_taken l ∙ word_left (leaves_taken l) x;
       holds = told_held l;
       counts = told_ends l;
     })

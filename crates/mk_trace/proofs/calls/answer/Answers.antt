@@ -1,6 +1,5 @@
 use Rattle.std.proofs.Common.{◌∙◌, arith, subst, sym}
-use Rattle.mk_core.specs.History.{IsHistory}
-use Rattle.mk_words.specs.States.{WordsState}
+use Rattle.mk_trace.proofs.Vocabulary.{IsHistory, WordsState}
 use Rattle.mk_trace.proofs.ExactPlays.{exact_over}
 use Rattle.mk_trace.proofs.LedgerCalls.{ends_over, held_beside, keeps_behind, keeps_beside}
 use Rattle.mk_trace.proofs.calls.answer.Goals as goal
@@ -24,9 +23,7 @@ returns-in_ok-settle-clause-keeps g c =
 
 pub returns-in_ok-settle-clause-ends : goal.returns-in_ok-settle-clause-ends
 returns-in_ok-settle-clause-ends g c =
-    ends_over c.args.heap.now.config c.args.host.now.pass.seen c.object_to_free-freed.new.host.pass.seen
-    c.call-told.new.host.pass.seen c.look-now.new.host.pass.seen c.settle.new.host.pass.seen
-    c.object_to_free-freed.ensures.looks c.requires.idle (c.call-told.ensures.ends c.requires.off)
+    ends_over c.object_to_free-freed.ensures.looks c.requires.idle (c.call-told.ensures.ends c.requires.off)
     c.look-now.ensures.looks c.settle.ensures.looks
 
 pub returns-in_ok-settle-clause-exact : goal.returns-in_ok-settle-clause-exact
@@ -44,9 +41,8 @@ returns-else-is_under_turn-clause-idle g c =
 
 pub returns-else-is_under_turn-clause-held : goal.returns-else-is_under_turn-clause-held
 returns-else-is_under_turn-clause-held g c =
-    held_beside c.args.heap.now.config c.args.host.now.pass.seen c.call.new.host.pass.seen c.args.ledger.now.held
-    (c.call.ensures.beside (sym c.is_under_turn.ensures ∙ c.if-is_under_turn.false)) c.call.ensures.held
-    c.requires.held
+    held_beside c.args.ledger.now.held
+    (c.call.ensures.beside (sym c.is_under_turn.ensures ∙ c.if-is_under_turn.false)) c.call.ensures.held c.requires.held
 
 pub returns-else-is_under_turn-clause-ends : goal.returns-else-is_under_turn-clause-ends
 returns-else-is_under_turn-clause-ends g c =
@@ -59,5 +55,4 @@ returns-else-is_under_turn-clause-exact g c = c.call.ensures.exact c.requires.of
 pub returns-else-is_under_turn-clause-keeps : goal.returns-else-is_under_turn-clause-keeps
 returns-else-is_under_turn-clause-keeps g c =
     let beside = sym c.is_under_turn.ensures ∙ c.if-is_under_turn.false in
-    keeps_beside c.args.heap.now.config c.args.host.now.pass.seen c.args.op c.call.new.host.pass.seen
-    c.args.ledger.now.freed beside (c.call.ensures.beside beside) c.call.ensures.quarantines c.requires.keeps
+    keeps_beside beside (c.call.ensures.beside beside) c.call.ensures.quarantines c.requires.keeps

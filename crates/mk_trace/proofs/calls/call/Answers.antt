@@ -1,13 +1,7 @@
 use Rattle.std.proofs.Common.{◌∙◌, ap, subst, sym}
-use Rattle.mk_core.specs.Growing.{Grows}
-use Rattle.mk_core.specs.History.{IsHistory}
-use Rattle.mk_words.specs.Seats.{HasAll}
-use Rattle.mk_words.specs.States.{WordsState, PassState}
-use Rattle.mk_caller.specs.States.{CallerState}
-use Rattle.mk_heap.specs.Hosts.{HostState}
+use Rattle.mk_trace.proofs.Vocabulary.{CallerState, Grows, HasAll, HostState, IsHistory, PassState, StayExact}
+use Rattle.mk_trace.proofs.Vocabulary.{SweepsNothing, WordsState}
 use Rattle.mk_run.specs.Scripts.{Answers}
-use Rattle.mk_turns.specs.Sweeping.{SweepsNothing}
-use Rattle.mk_trace.specs.ExactPlays.{StayExact}
 use Rattle.mk_trace.proofs.ExactPlays.{call_stays_exact}
 use Rattle.mk_trace.proofs.FreedCalls.{Does, call_does}
 use Rattle.mk_trace.proofs.JoinedCalls.{Joined}
@@ -28,18 +22,16 @@ answer_to-answer-requires-clause-alone g c κs within =
 pub answer_to-answer-requires-clause-admitted : goal.answer_to-answer-requires-clause-admitted
 answer_to-answer-requires-clause-admitted g c κs within =
     made_admits c.args.heap.now c.args.host.now c.requires.home c.caller_again-caller.result
-    c.caller_again-caller.ensures.caller
-    c.args.op c.requires.admitted c.is_idle.ensures.history
+    c.caller_again-caller.ensures.caller c.args.op c.requires.admitted c.is_idle.ensures.history
 
 pub returns-clause-home : goal.returns-clause-home
 returns-clause-home g c =
-    joined_home c.args.heap.now c.args.host.now c.caller_again-caller.new.self c.join_caller.new.self c.finish.result
+    joined_home c.caller_again-caller.new.self c.join_caller.new.self c.finish.result
     c.requires.home c.caller_again-caller.ensures.host c.join_caller.ensures.host
     (ap (λ (p : PassState). p.seats) c.finish.ensures.pass
     ∙ ap (λ (p : PassState). p.seats) c.answer_to-answer.ensures.answers.is
     ∙ made_seats c.args.heap.now c.args.host.now c.requires.home c.caller_again-caller.result
-    c.caller_again-caller.ensures.caller)
-    c.join_caller.ensures.overs
+    c.caller_again-caller.ensures.caller) c.join_caller.ensures.overs
 
 -- The caller was made again, and is joined.
 joined : (g : _) (c : After-is_in_order g)

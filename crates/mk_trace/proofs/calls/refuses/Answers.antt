@@ -1,9 +1,8 @@
 use Rattle.std.proofs.Common.{ℕ, ◌∙◌, Bool, List, false, get_or, ap, arith, subst, sym}
 use Rattle.std.specs.Prelude.{◌||◌}
 use Rattle.std.proofs.lemmas.List.{get_or_default}
-use Rattle.mk_never.specs.declared.operations.Op.{Op}
+use Rattle.mk_trace.proofs.Vocabulary.{Op, never_behind}
 use Rattle.mk_never.specs.declared.operations.Op.TheVariants.{New}
-use Rattle.mk_core.specs.History.{never_behind}
 use Rattle.mk_trace.specs.Freeing.{FreesSlot}
 use Rattle.mk_trace.proofs.FreedSlots.{frees_now}
 use Rattle.mk_trace.proofs.LaterOps.{called_all, called_first, called_one_more, may_come_now}
@@ -21,10 +20,8 @@ loop-op-init g c = record {
   keeps = c.in_ok-first.ensures.keeps;
   exact = c.in_ok-first.ensures.exact;
   calls =
-      called_first c.args.heap.now.config c.args.host.now.pass.seen c.args.event c.first_op.result c.in_ok-first.first
-      c.answer.new.host.pass.seen c.is_full_answer.result c.is_refusal-refused.result c.deref-op-items.result.now
-      c.first_op.ensures
-      c.in_ok-first.ensures.calls c.is_full_answer.ensures c.is_refusal-refused.ensures
+      called_first c.args.event c.is_full_answer.result c.is_refusal-refused.result c.deref-op-items.result.now
+      c.first_op.ensures c.in_ok-first.ensures.calls c.is_full_answer.ensures c.is_refusal-refused.ensures
       (c.deref-op-items.ensures.value ∙ c.in_ok-ops.ensures);
 }
 
@@ -35,9 +32,7 @@ answer-requires-in-loop-op-clause-points g c κs within =
     let o : Op = get_or ops i (New 0 0 false) in
     let there = get_or_default ops i (New 0 0 false) o c.loop-op-test.true in
     subst (λ (s : ℕ). FreesSlot (never_behind c.args.heap.now.config c.loop-op.host.pass.seen) s o)
-    (sym c.slot-slot.ensures)
-    (frees_now c.args.heap.now.config c.args.host.now.pass.seen c.args.event ops i c.loop-op.refused
-    c.loop-op.host.pass.seen c.loop-op.invariant.calls o c.loop-op-test.true there c.requires.frees)
+    (sym c.slot-slot.ensures) (frees_now c.loop-op.invariant.calls o c.loop-op-test.true there c.requires.frees)
 
 pub answer-requires-in-loop-op-clause-admitted : goal.answer-requires-in-loop-op-clause-admitted
 answer-requires-in-loop-op-clause-admitted g c κs within =
@@ -89,6 +84,4 @@ loop-op-preserved g c =
     }
 
 pub returns-clause-plays : goal.returns-clause-plays
-returns-clause-plays g c =
-    called_all c.args.heap.now.config c.args.host.now.pass.seen c.args.event c.deref-op-items.result.now
-    c.loop-op.op-index c.loop-op.refused c.loop-op.host.pass.seen c.loop-op.invariant.calls (omega arith)
+returns-clause-plays g c = called_all c.loop-op.invariant.calls (omega arith)

@@ -1,9 +1,5 @@
 use Rattle.std.proofs.Common.{◌≡◌, ◌+◌, ◌≤◌, length}
-use Rattle.mk_trace.specs.Calls.{CallerIsHome, most_held}
-use Rattle.mk_core.specs.Counts.{ends}
-use Rattle.mk_trace.specs.Ends.{IsBetweenCycles}
-use Rattle.mk_trace.specs.ExactPlays.{StayExact}
-use Rattle.mk_trace.specs.Ledgers.{Keeps}
+use Rattle.mk_trace.proofs.Vocabulary.{CallerIsHome, IsBetweenCycles, Keeps, StayExact, ends, most_held}
 use Rattle.mk_trace.proofs.LaterOps.{AreCalled}
 use Rattle.mk_trace.proofs.calls.refuses.Given as goal
 

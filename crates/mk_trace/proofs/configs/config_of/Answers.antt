@@ -1,5 +1,5 @@
 use Rattle.std.proofs.Common.{◌≤◌, ℕ, List, length, refl, sym, subst}
-use Rattle.mk_core.specs.Config.{IsWithinLimits}
+use Rattle.mk_trace.proofs.Vocabulary.{IsWithinLimits}
 use Rattle.mk_trace.proofs.Playable.{is_playable}
 use Rattle.mk_trace.proofs.SlotTypes.{config_is}
 use Rattle.mk_trace.proofs.configs.config_of.Goals as goal

@@ -12,7 +12,7 @@ loop-slot-preserved c =
     let added = c.in_ok-add.ensures.added in
     let count = c.loop-slot.invariant.count in
     record {
-      count = omega (arith, ap (λ (l : List ℕ). length l) added, length-append old (i ∷ []), count);
+      count = omega (arith, ap length added, length-append old (i ∷ []), count);
       whole = ap (λ (l : List ℕ). l ++ rest) added ∙ append_assoc old (i ∷ []) rest
           ∙ sym (ap (λ (l : List ℕ). old ++ l) (range_more i c.args.count c.loop-slot-test.true))
           ∙ c.loop-slot.invariant.whole;

@@ -1,7 +1,7 @@
 use Rattle.std.proofs.Common.{◌-◌, ℕ, ◌≤◌, ◌<◌, [], ◌∷◌, ◌++◌, List, replicate, ◌∙◌, ap, arith}
 use Rattle.std.proofs.lemmas.List.{replicate_more}
-use Rattle.mk_never.specs.declared.types.Kind.{Kind}
-use Rattle.mk_never.specs.declared.types.Kind.TheVariants.{Num, To}
+use Rattle.mk_trace.proofs.Vocabulary.{Kind, To}
+use Rattle.mk_never.specs.declared.types.Kind.TheVariants.{Num}
 use Rattle.mk_trace.proofs.configs.slot_type.Goals as goal
 
 pub loop-word-preserved : goal.loop-word-preserved
@@ -12,15 +12,13 @@ loop-word-preserved c =
     record {
       least = omega arith;
       most = omega (arith, below, least);
-      kinds = c.in_ok-push-2.ensures
-          ∙ ap (λ (l : List Kind). l ++ Num ∷ []) c.loop-word.invariant.kinds
+      kinds = c.in_ok-push-2.ensures ∙ ap (λ (l : List Kind). l ++ Num ∷ []) c.loop-word.invariant.kinds
           ∙ ap (λ (l : List Kind). To c.args.slot 0 ∷ l)
           (replicate_more (w - 1) Num ∙ ap (λ (n : ℕ). replicate n Num) (omega (arith, least)));
     }
 
 pub returns : goal.returns
 returns c =
-    let w = c.loop-word._word in
     let past = c.loop-word-test.false in
     c.loop-word.invariant.kinds
     ∙ ap (λ (n : ℕ). To c.args.slot 0 ∷ replicate n Num) (omega (arith, past, c.loop-word.invariant.most))

@@ -1,7 +1,6 @@
 use Rattle.std.proofs.Common.{◌+◌, ◌++◌, [], ◌∷◌, drop, List, ◌∙◌, ap, sym, append_assoc, append-nil}
 use Rattle.std.proofs.lemmas.List.{at_drop_more, at_drop_all}
-use Rattle.mk_never.specs.declared.types.Kind.{Kind}
-use Rattle.mk_trace.specs.Playing.{types_from}
+use Rattle.mk_trace.proofs.Vocabulary.{Kind, types_from}
 use Rattle.mk_trace.proofs.configs.slot_types.Goals as goal
 
 pub loop-slot-preserved : goal.loop-slot-preserved

@@ -1,11 +1,10 @@
 use Rattle.std.proofs.Common.{◌≡◌, ◌++◌, take, drop}
-use Rattle.mk_trace.specs.Ledgers.{with_one}
+use Rattle.mk_trace.proofs.Vocabulary.{with_one}
 use Rattle.mk_trace.proofs.ledger.count_age.Given as goal
 
 -- all ages so far are less
 abbrev pub invariant-loop-place : goal.invariant-loop-place
 invariant-loop-place l = record {
   same : l.ages.items ≡ l.fn.ages.items;
-  rest : with_one l.fn.ages.items l.age
-      ≡ take l.place l.fn.ages.items ++ with_one (drop l.place l.fn.ages.items) l.age;
+  rest : with_one l.fn.ages.items l.age ≡ take l.place l.fn.ages.items ++ with_one (drop l.place l.fn.ages.items) l.age;
 }

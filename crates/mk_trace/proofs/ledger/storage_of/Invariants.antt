@@ -1,9 +1,7 @@
 use Rattle.std.proofs.Common.{◌≡◌, sum_by, take}
-use Rattle.mk_core.specs.Counts.{in_a_word}
-use Rattle.mk_trace.specs.declared.ledger.FreedObject.{FreedObject}
+use Rattle.mk_trace.proofs.Vocabulary.{FreedObject, in_a_word}
 use Rattle.mk_trace.proofs.ledger.storage_of.Given as goal
 
 -- those of the objects so far
 abbrev pub invariant-loop-object : goal.invariant-loop-object
-invariant-loop-object l =
-    l.words ≡ in_a_word (sum_by (λ (x : FreedObject). x.storage) (take l.object-index l.kept))
+invariant-loop-object l = l.words ≡ in_a_word (sum_by (λ (x : FreedObject). x.storage) (take l.object-index l.kept))

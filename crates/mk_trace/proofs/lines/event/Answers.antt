@@ -1,6 +1,6 @@
 use Rattle.std.proofs.Common.{arith, sym}
 use Rattle.std.proofs.lemmas.List.{length-map}
-use Rattle.mk_script.specs.Words.{texts_of}
+use Rattle.mk_trace.proofs.Vocabulary.{texts_of}
 use Rattle.mk_trace.proofs.ReadLines.{no_event}
 use Rattle.mk_trace.proofs.lines.event.Goals as goal
 

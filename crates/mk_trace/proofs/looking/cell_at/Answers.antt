@@ -1,8 +1,5 @@
 use Rattle.std.proofs.Common.{◌≡◌, ℕ, false, ◌∙◌, ap, subst}
-use Rattle.mk_geom.specs.Addresses.{cell_at, is_heap_address}
-use Rattle.mk_core.specs.History.{left}
-use Rattle.mk_core.specs.Words.{header_at}
-use Rattle.mk_words.specs.States.{WordsState}
+use Rattle.mk_trace.proofs.Vocabulary.{WordsState, cell_at, header_at, is_heap_address, left}
 use Rattle.mk_trace.proofs.FoundCells.{cell_found, nothing_found}
 use Rattle.mk_trace.proofs.looking.cell_at.Goals as goal
 
@@ -10,8 +7,7 @@ pub returns-in_err-page-clause-finds : goal.returns-in_err-page-clause-finds
 returns-in_err-page-clause-finds g c =
     let w = (left c.args.heap.now.config c.args.host.now.pass.seen).now.words in
     let pages = c.pages-pages.ensures ∙ ap (λ (x : WordsState). x.config.pages) c.words.ensures in
-    c.from_residual.ensures
-    ∙ nothing_found c.args.heap.now.config.pages w c.args.address
+    c.from_residual.ensures ∙ nothing_found c.args.heap.now.config.pages w c.args.address
     (subst (λ (n : ℕ). is_heap_address n c.args.address ≡ false) pages c.in_err-page.ensures.outside)
 
 pub returns-clause-finds : goal.returns-clause-finds
@@ -19,5 +15,5 @@ returns-clause-finds g c =
     let w = (left c.args.heap.now.config c.args.host.now.pass.seen).now.words in
     let pages = c.pages-pages.ensures ∙ ap (λ (x : WordsState). x.config.pages) c.words.ensures in
     cell_found c.args.heap.now.config.pages w c.args.address c.look-header.result c.lookup.result
-    (c.look-header.ensures.tells ∙ ap (λ (n : ℕ). header_at w n) c.in_ok-page.ensures.page)
+    (c.look-header.ensures.tells ∙ ap (header_at w) c.in_ok-page.ensures.page)
     (c.lookup.ensures ∙ ap (λ (n : ℕ). cell_at n c.look-header.result c.args.address) pages)

@@ -1,8 +1,5 @@
 use Rattle.std.proofs.Common.{ap, subst}
-use Rattle.mk_core.specs.Counts.{IsTidy}
-use Rattle.mk_words.specs.States.{WordsState}
-use Rattle.mk_core.specs.History.{IsHistory}
-use Rattle.mk_heap.specs.Hosts.{HostState}
+use Rattle.mk_trace.proofs.Vocabulary.{HostState, IsHistory, IsTidy, WordsState}
 use Rattle.mk_trace.proofs.OneCaller.{told_home}
 use Rattle.mk_trace.proofs.ToldWords.{Reports, reports}
 use Rattle.mk_trace.proofs.looking.look.Goals as goal
@@ -10,15 +7,13 @@ use Rattle.mk_trace.proofs.looking.look.Goals.{After-is_in_order-2}
 
 pub returns-clause-home : goal.returns-clause-home
 returns-clause-home g c =
-    told_home c.args.heap.now c.args.host.now c.tell-found.new.self c.requires.home c.tell-found.ensures.host
-    c.tell-found.ensures.overs
+    told_home c.tell-found.new.self c.requires.home c.tell-found.ensures.host c.tell-found.ensures.overs
 
 told : (g : _) (c : After-is_in_order-2 g)
     → Reports c.args.heap.now.config c.args.host.now.pass.seen c.args.word c.tell-found.result
     c.tell-found.new.self.pass.seen
 told g c =
-    reports c.args.heap.now c.args.host.now c.requires.home c.is_in_order.ensures.seat c.args.word c.tell-found.result
-    c.tell-found.new.self c.tell-found.ensures.tells
+    reports c.requires.home c.is_in_order.ensures.seat c.tell-found.new.self c.tell-found.ensures.tells
     (subst (λ (w : WordsState). IsHistory w.config c.tell-found.new.self.pass.seen)
     (ap (λ (x : HostState). x.pass.table) c.tell-found.ensures.host) c.is_in_order-2.ensures.history)
     c.tell-found.ensures.reached
@@ -35,7 +30,6 @@ returns-clause-holds g c = (told g (goal.at.returns-clause-holds g c).After-is_i
 pub returns-clause-counts : goal.returns-clause-counts
 returns-clause-counts g c =
     (told g (goal.at.returns-clause-counts g c).After-is_in_order-2).counts
-    (subst (λ (w : WordsState). IsTidy w.config c.tell-found.new.self.pass.seen)
-    c.requires.home.table
+    (subst (λ (w : WordsState). IsTidy w.config c.tell-found.new.self.pass.seen) c.requires.home.table
     (subst (λ (w : WordsState). IsTidy w.config c.tell-found.new.self.pass.seen)
     (ap (λ (x : HostState). x.pass.table) c.tell-found.ensures.host) c.is_in_order-2.ensures.tidy))

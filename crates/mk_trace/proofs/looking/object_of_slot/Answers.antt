@@ -1,11 +1,9 @@
 use Rattle.std.proofs.Common.{◌≡◌, ℕ, ◌∙◌, ap, arith, subst, sym}
 use Rattle.std.specs.Prelude.{not, nat_le, if◌then◌else◌, slice_index}
 use Rattle.std.proofs.lemmas.Bool.Decides.{nat_tests}
+use Rattle.mk_trace.proofs.Vocabulary.{HostOnlyLooks, IsHistory, WordsState, left, pointed_cell}
 use Rattle.mk_geom.specs.Headers.{header_of}
-use Rattle.mk_core.specs.Cells.{pointed_cell, words_under}
-use Rattle.mk_core.specs.History.{IsHistory, left}
-use Rattle.mk_words.specs.States.{WordsState}
-use Rattle.mk_trace.specs.Looking.{HostOnlyLooks}
+use Rattle.mk_core.specs.Cells.{words_under}
 use Rattle.mk_trace.proofs.FoundCells.{cell_within, freed_looked, freed_object, header_looked, looks_twice, no_object}
 use Rattle.mk_trace.proofs.FoundCells.{pointed_looked, unfreed_object}
 use Rattle.mk_trace.proofs.looking.object_of_slot.Goals as goal
@@ -18,32 +16,23 @@ before g c =
     subst (λ (x : WordsState). IsHistory x.config c.args.host.now.pass.seen) c.requires.home.table
     c.is_in_order.ensures.history
 
-found : (g : _) (c : After-cell_at g)
-    → c.cell_at.result
-    ≡ pointed_cell c.args.heap.now.config.pages
+found : (g : _) (c : After-cell_at g) → c.cell_at.result ≡ pointed_cell c.args.heap.now.config.pages
     (left c.args.heap.now.config c.args.host.now.pass.seen).now.words.pages
     (slice_index (left c.args.heap.now.config c.args.host.now.pass.seen).now.words.globals c.args.slot)
 found g c =
     let d = c.args.heap.now.config in
     let es = c.args.host.now.pass.seen in
-    c.cell_at.ensures.finds
-    ∙ pointed_looked d es c.look-address.new.host.pass.seen c.look-address.ensures.looks c.look-address.result
-    ∙ ap (λ (u : ℕ). pointed_cell d.pages (left d es).now.words.pages u) c.look-address.ensures.tells
+    c.cell_at.ensures.finds ∙ pointed_looked c.look-address.ensures.looks c.look-address.result
+    ∙ ap (pointed_cell d.pages (left d es).now.words.pages) c.look-address.ensures.tells
 
 looked : (g : _) (c : After-cell_at g)
     → HostOnlyLooks c.args.heap.now.config c.args.host.now.pass.seen c.cell_at.new.host.pass.seen
-looked g c =
-    looks_twice c.args.heap.now.config c.args.host.now.pass.seen c.look-address.new.host.pass.seen
-    c.cell_at.new.host.pass.seen c.look-address.ensures.looks c.cell_at.ensures.looks
+looked g c = looks_twice c.look-address.ensures.looks c.cell_at.ensures.looks
 
 looked_last : (g : _) (c : After-is_quarantined g)
     → HostOnlyLooks c.args.heap.now.config c.args.host.now.pass.seen c.look-header.new.host.pass.seen
 looked_last g c =
-    looks_twice c.args.heap.now.config c.args.host.now.pass.seen c.cell_at.new.host.pass.seen
-    c.look-header.new.host.pass.seen
-    (looks_twice c.args.heap.now.config c.args.host.now.pass.seen c.look-address.new.host.pass.seen
-    c.cell_at.new.host.pass.seen c.look-address.ensures.looks c.cell_at.ensures.looks)
-    c.look-header.ensures.looks
+    looks_twice (looks_twice c.look-address.ensures.looks c.cell_at.ensures.looks) c.look-header.ensures.looks
 
 pub returns-in-None-clause-finds : goal.returns-in-None-clause-finds
 returns-in-None-clause-finds g c =
@@ -63,8 +52,7 @@ returns-then-is_quarantined-clause-finds g c =
     let x = goal.at.returns-then-is_quarantined-clause-finds g c in
     freed_object c.args.heap.now.config c.args.host.now.pass.seen (before g x.After-is_in_order) c.args.slot
     c.requires.idle c.in-Some.cell (sym c.in-Some.is ∙ found g x.After-cell_at)
-    (sym c.if-is_quarantined.true ∙ c.is_quarantined.ensures.finds
-    ∙ freed_looked c.args.heap.now.config c.args.host.now.pass.seen c.look-header.new.host.pass.seen
+    (sym c.if-is_quarantined.true ∙ c.is_quarantined.ensures.finds ∙ freed_looked
     (looked_last g x.After-is_quarantined) c.in-Some.cell)
 
 pub returns-else-is_quarantined-clause-finds : goal.returns-else-is_quarantined-clause-finds
@@ -75,12 +63,8 @@ returns-else-is_quarantined-clause-finds g c =
     unfreed_object d es (before g x.After-is_in_order) c.args.slot c.requires.idle c.in-Some.cell
     (sym c.in-Some.is ∙ found g x.After-cell_at) c.new.result
     (sym c.if-is_quarantined.false ∙ c.is_quarantined.ensures.finds
-    ∙ freed_looked d es c.look-header.new.host.pass.seen (looked_last g x.After-is_quarantined) c.in-Some.cell)
-    c.new.ensures.cell
-    (c.new.ensures.storage ∙ c.words_under.ensures.exact
-    ∙ ap (λ (h : ℕ). words_under (header_of h))
-    (c.look-header.ensures.tells
-    ∙ header_looked d es c.cell_at.new.host.pass.seen (looked g x.After-cell_at) c.in-Some.cell.page))
-    (c.new.ensures.reserved
-    ∙ ap (λ (n : ℕ). if not (nat_le n 32) then n else 0) (sym c.new.ensures.storage))
+    ∙ freed_looked (looked_last g x.After-is_quarantined) c.in-Some.cell) c.new.ensures.cell
+    (c.new.ensures.storage ∙ c.words_under.ensures.exact ∙ ap (λ (h : ℕ). words_under (header_of h))
+    (c.look-header.ensures.tells ∙ header_looked (looked g x.After-cell_at) c.in-Some.cell.page))
+    (c.new.ensures.reserved ∙ ap (λ (n : ℕ). if not (nat_le n 32) then n else 0) (sym c.new.ensures.storage))
     c.new.ensures.age

@@ -1,6 +1,5 @@
 use Rattle.std.proofs.Common.{◌<◌, length, ◌∙◌, ap, arith}
-use Rattle.mk_script.specs.Words.{texts_of}
-use Rattle.mk_trace.specs.Traces.{contents_of}
+use Rattle.mk_trace.proofs.Vocabulary.{contents_of, texts_of}
 use Rattle.mk_trace.proofs.ReadLines.{read_whole, stops_whole}
 use Rattle.mk_trace.proofs.parsing.parse_trace.Goals as goal
 
@@ -21,5 +20,4 @@ returns-clause-fault c =
     stops_whole c.at_end.result (contents_of c.in_ok-heap.heap c.in_ok-draft.draft) _
     (read_whole c.args.bytes.now lines _ c.in_ok-heap.heap c.in_ok-draft.draft c.if-bytes-gt-TEXT_LIMIT.false
     (ap texts_of c.as_slice.ensures.value
-    ∙ c.in_ok-lines.ensures) some c.in_ok-heap.ensures.heap c.in_ok-draft.ensures.draft)
-    c.at_end.ensures.fault
+    ∙ c.in_ok-lines.ensures) some c.in_ok-heap.ensures.heap c.in_ok-draft.ensures.draft) c.at_end.ensures.fault

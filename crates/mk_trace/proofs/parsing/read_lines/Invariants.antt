@@ -1,7 +1,5 @@
 use Rattle.std.proofs.Common.{◌≡◌, ◌+◌, drop}
-use Rattle.mk_script.specs.Words.{texts_of}
-use Rattle.mk_trace.specs.Grammar.{written_from}
-use Rattle.mk_trace.specs.Lines.{nothing_written}
+use Rattle.mk_trace.proofs.Vocabulary.{nothing_written, texts_of, written_from}
 use Rattle.mk_trace.proofs.parsing.read_lines.Given as goal
 
 -- the lines that are left decide

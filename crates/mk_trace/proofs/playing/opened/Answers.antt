@@ -1,9 +1,5 @@
 use Rattle.std.proofs.Common.{◌∙◌, ap}
-use Rattle.mk_core.specs.declared.config.Config.{Config}
-use Rattle.mk_words.specs.States.{WordsState}
-use Rattle.mk_heap.specs.Hosts.{HostState}
-use Rattle.mk_trace.specs.Calls.{CallerIsHome}
-use Rattle.mk_caller.specs.States.{CallerState}
+use Rattle.mk_trace.proofs.Vocabulary.{CallerIsHome, CallerState, Config, HostState, WordsState}
 use Rattle.mk_trace.proofs.HeldCalls.{opened_empty}
 use Rattle.mk_trace.proofs.OneCaller.{first_home}
 use Rattle.mk_trace.proofs.Played.{first_seats, joined_first}

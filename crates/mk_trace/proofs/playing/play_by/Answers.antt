@@ -1,8 +1,5 @@
-use Rattle.std.proofs.Common.{◌∙◌, List, ap, length, subst, sym}
-use Rattle.mk_core.specs.declared.config.Config.{Config}
-use Rattle.mk_trace.specs.declared.trace.TraceEvent.{TraceEvent}
-use Rattle.mk_trace.specs.ExactPlays.{AllTurnsAreExact}
-use Rattle.mk_trace.specs.Peaks.{quarantined_words, reserved_words}
+use Rattle.std.proofs.Common.{◌∙◌, ap, length, subst, sym}
+use Rattle.mk_trace.proofs.Vocabulary.{AllTurnsAreExact, Config, quarantined_words, reserved_words}
 use Rattle.mk_trace.proofs.ExactPlays.{first_exact}
 use Rattle.mk_trace.proofs.FewEvents.{none_ended}
 use Rattle.mk_trace.proofs.LedgerCalls.{ages_of, first_held, first_idle, first_keeps, most_of, peaks_by}
@@ -12,15 +9,13 @@ use Rattle.mk_trace.proofs.Played.{closed, refused_at}
 use Rattle.mk_trace.proofs.playing.play_by.Goals as goal
 
 pub close-report-requires-clause-joined : goal.close-report-requires-clause-joined
-close-report-requires-clause-joined g c =
-    home_joined c.in_ok-heap.heap c.play_events.new.host c.play_events.ensures.home
+close-report-requires-clause-joined g c = home_joined c.play_events.ensures.home
 
 played : goal.returns-clause-played
 played g c =
-    let trace = c.args.trace.now in
     let es = c.play_events.new.host.pass.seen in
     let at = c.in_ok-heap.ensures.config ∙ c.in_ok-config.ensures.config in
-    closed trace c.in_ok-refused.refused _ es _ c.close-report.ensures.history (c.close-report.ensures.config ∙ at)
+    closed c.close-report.ensures.history (c.close-report.ensures.config ∙ at)
     c.in_ok-refused.ensures.played c.close-report.ensures.whole
     (subst (λ (d : Config). AllTurnsAreExact d es) at
     (c.in_ok-refused.ensures.exact
@@ -37,10 +32,9 @@ returns-clause-peaks g c =
     let at = c.in_ok-heap.ensures.config ∙ c.in_ok-config.ensures.config in
     let keeps = c.in_ok-refused.ensures.keeps in
     record {
-      events = ap (λ (l : List TraceEvent). length l) c.events.ensures.events;
+      events = ap length c.events.ensures.events;
       refused =
-          refused_at trace c.in_ok-refused.refused es _ c.close-report.ensures.history
-          c.in_ok-refused.ensures.played;
+          refused_at _ c.close-report.ensures.history c.in_ok-refused.ensures.played;
       of_history =
           peaks_by _ _
           (most_told trace d es _ c.held_at_most-held.result c.close-report.ensures.history at
@@ -48,7 +42,7 @@ returns-clause-peaks g c =
           (most_of trace d quarantined_words es _ _ c.close-report.ensures.history at keeps.quarantined.most)
           (most_of trace d reserved_words es _ _ c.close-report.ensures.history at keeps.reserved.most)
           c.close-report.ensures.counts.cycles
-          (ages_of trace d es _ _ c.close-report.ensures.history at (played g c).history keeps.ages);
+          (ages_of trace d es c.close-report.ensures.history at (played g c).history keeps.ages);
     }
 
 pub play_events-requires-clause-idle : goal.play_events-requires-clause-idle

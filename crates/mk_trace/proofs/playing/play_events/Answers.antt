@@ -1,11 +1,6 @@
-use Rattle.std.proofs.Common.{◌∙◌, List, ap, length, subst, arith, refl, get_or}
-use Rattle.std.specs.Prelude.{take}
+use Rattle.std.proofs.Common.{◌∙◌, ap, length, subst, arith, refl, get_or}
 use Rattle.std.proofs.lemmas.List.{get_or_default}
-use Rattle.mk_core.specs.History.{IsHistory}
-use Rattle.mk_words.specs.States.{WordsState}
-use Rattle.mk_trace.specs.declared.trace.TraceEvent.{TraceEvent}
-use Rattle.mk_trace.specs.declared.trace.TraceEvent.TheVariants.{A}
-use Rattle.mk_trace.specs.Laws.{IsEventOf, IsPlayable}
+use Rattle.mk_trace.proofs.Vocabulary.{A, IsEventOf, IsHistory, IsPlayable, WordsState}
 use Rattle.mk_trace.proofs.FewEvents.{few_events}
 use Rattle.mk_trace.proofs.FreedSlots.{frees_its_slot}
 use Rattle.mk_trace.proofs.Playable.{is_playable}
@@ -56,21 +51,19 @@ refuses-requires-clause-slot g c κs within =
 pub refuses-requires-clause-frees : goal.refuses-requires-clause-frees
 refuses-requires-clause-frees g c κs within =
     let x = (goal.at.refuses-requires-clause-frees g c).After-is_in_order in
-    frees_its_slot c.args.heap.now.config c.loop-event.host.pass.seen c.loop-event.invariant.home.one (before g x) _
+    frees_its_slot c.loop-event.invariant.home.one (before g x) _
 
 pub refuses-requires-clause-admitted : goal.refuses-requires-clause-admitted
 refuses-requires-clause-admitted g c κs within =
     let x = (goal.at.refuses-requires-clause-admitted g c).After-is_in_order in
-    may_be_played c.args.trace.now c.args.heap.now.config c.loop-event.host.pass.seen c.loop-event.host.pass.seen _
-    c.requires.config (playable g x) (before g x)
-    (null_between c.args.trace.now c.args.heap.now.config (take c.loop-event.event-index c.events-events.result.now)
-    c.loop-event.refused c.loop-event.host.pass.seen c.requires.config c.loop-event.invariant.played) (here g x) refl
+    may_be_played c.loop-event.host.pass.seen _ c.requires.config (playable g x) (before g x)
+    (null_between c.args.heap.now.config c.requires.config c.loop-event.invariant.played) (here g x) refl
 
 pub refuses-requires-clause-few : goal.refuses-requires-clause-few
 refuses-requires-clause-few g c κs within =
     let so_far = c.loop-event.invariant.ends in
     let count = few_events c.args.trace.now c.events-events.ensures.of_some_text in
-    let same = ap (λ (l : List TraceEvent). length l) c.events-events.ensures.events in
+    let same = ap length c.events-events.ensures.events in
     let inside = c.loop-event-test.true in
     omega (arith, so_far, count, same, inside)
 
@@ -90,8 +83,7 @@ loop-event-preserved g c =
       exact = λ before'. c.in_ok-is_refused.ensures.exact (c.loop-event.invariant.exact before');
       held = c.in_ok-is_refused.ensures.held;
       played =
-          next_played c.args.trace.now c.args.heap.now.config events i c.loop-event.refused
-          c.with_refusal-refused.result c.loop-event.host.pass.seen c.refuses.new.host.pass.seen event is_refused
+          next_played events i c.with_refusal-refused.result
           c.requires.config (playable g x) (before g x) c.loop-event-test.true
           (get_or_default events i (A 0) event c.loop-event-test.true) (here g x)
           c.loop-event.invariant.played c.in_ok-is_refused.ensures.plays
@@ -106,5 +98,5 @@ loop-event-preserved g c =
 
 pub returns-clause-played : goal.returns-clause-played
 returns-clause-played g c =
-    played_all c.args.trace.now c.events-events.result.now c.loop-event.event-index c.loop-event.refused
-    c.loop-event.host.pass.seen c.loop-event-test.false c.events-events.ensures.events c.loop-event.invariant.played
+    played_all c.events-events.result.now c.loop-event.event-index c.loop-event-test.false
+    c.events-events.ensures.events c.loop-event.invariant.played

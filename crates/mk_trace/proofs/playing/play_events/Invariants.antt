@@ -1,10 +1,7 @@
 use Rattle.std.proofs.Common.{◌≡◌, ◌*◌, ◌≤◌, length}
 use Rattle.std.specs.Prelude.{take}
-use Rattle.mk_core.specs.Counts.{ends}
-use Rattle.mk_trace.specs.Calls.{CallerIsHome, HasPlayed, most_held}
-use Rattle.mk_trace.specs.Ends.{IsBetweenCycles}
-use Rattle.mk_trace.specs.ExactPlays.{StayExact}
-use Rattle.mk_trace.specs.Ledgers.{Keeps}
+use Rattle.mk_trace.proofs.Vocabulary.{CallerIsHome, IsBetweenCycles, Keeps, StayExact, ends, most_held}
+use Rattle.mk_trace.specs.Calls.{HasPlayed}
 use Rattle.mk_trace.proofs.playing.play_events.Given as goal
 
 -- this many events were played

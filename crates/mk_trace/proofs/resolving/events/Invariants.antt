@@ -1,5 +1,5 @@
 use Rattle.std.proofs.Common.{◌≡◌, ◌+◌, drop, []}
-use Rattle.mk_trace.specs.Grammar.{events_from}
+use Rattle.mk_trace.proofs.Vocabulary.{events_from}
 use Rattle.mk_trace.proofs.resolving.events.Given as goal
 
 -- the lines that are left decide

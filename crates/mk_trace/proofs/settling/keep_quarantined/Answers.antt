@@ -1,5 +1,5 @@
 use Rattle.std.proofs.Common.{◌∙◌}
-use Rattle.mk_core.specs.History.{left}
+use Rattle.mk_trace.proofs.Vocabulary.{left}
 use Rattle.mk_trace.proofs.FoundCells.{freed_looked, looks_twice}
 use Rattle.mk_trace.proofs.SettledLedgers.{ages_all, ages_more, kept_all, kept_more}
 use Rattle.mk_trace.proofs.settling.keep_quarantined.Goals as goal
@@ -10,19 +10,16 @@ loop-object-preserved g c =
     let es = c.args.host.now.pass.seen in
     record {
       home = c.is_quarantined-is_kept.ensures.home;
-      looks = looks_twice d es c.loop-object.host.pass.seen c.is_quarantined-is_kept.new.host.pass.seen
-          c.loop-object.invariant.looks c.is_quarantined-is_kept.ensures.looks;
+      looks = looks_twice c.loop-object.invariant.looks c.is_quarantined-is_kept.ensures.looks;
       kept = kept_more (left d es).now.words.freed c.args.found.now c.loop-object.object-index _ c.aged.result
           c.loop-object.kept.items c.keep_or_count.new.kept.items
           c.is_quarantined-is_kept.result c.loop-object-test.true c.loop-object.invariant.kept c.aged.ensures
-          (c.is_quarantined-is_kept.ensures.finds
-          ∙ freed_looked d es c.loop-object.host.pass.seen c.loop-object.invariant.looks _)
+          (c.is_quarantined-is_kept.ensures.finds ∙ freed_looked c.loop-object.invariant.looks _)
           c.in_ok-keep_or_count.ensures.kept;
       ages = ages_more (left d es).now.words.freed c.args.found.now c.loop-object.object-index _ c.aged.result
           c.args.ages.now.items c.loop-object.ages.items c.keep_or_count.new.ages.items
           c.is_quarantined-is_kept.result c.loop-object-test.true c.loop-object.invariant.ages c.aged.ensures
-          (c.is_quarantined-is_kept.ensures.finds
-          ∙ freed_looked d es c.loop-object.host.pass.seen c.loop-object.invariant.looks _)
+          (c.is_quarantined-is_kept.ensures.finds ∙ freed_looked c.loop-object.invariant.looks _)
           c.in_ok-keep_or_count.ensures.ages;
     }
 

@@ -1,9 +1,7 @@
 use Rattle.std.proofs.Common.{◌≡◌, map, take}
 use Rattle.std.specs.Prelude.{fold}
-use Rattle.mk_core.specs.History.{left}
-use Rattle.mk_trace.specs.Calls.{CallerIsHome}
-use Rattle.mk_trace.specs.Ledgers.{aged, ages_let_go, still_kept, with_one}
-use Rattle.mk_trace.specs.Looking.{HostOnlyLooks}
+use Rattle.mk_trace.proofs.Vocabulary.{CallerIsHome, HostOnlyLooks, aged, left, still_kept, with_one}
+use Rattle.mk_trace.specs.Ledgers.{ages_let_go}
 use Rattle.mk_trace.proofs.settling.keep_quarantined.Given as goal
 
 -- of the objects so far those are kept whose cells were freed at the first look, and the ages of the others are counted
@@ -13,7 +11,6 @@ invariant-loop-object g l = record {
   looks : HostOnlyLooks l.heap.config l.fn.host.pass.seen l.host.pass.seen;
   kept : l.kept.items
       ≡ still_kept (left l.heap.config l.fn.host.pass.seen).now.words.freed (map aged (take l.object-index l.found));
-  ages : l.ages.items
-      ≡ fold with_one l.fn.ages.items
+  ages : l.ages.items ≡ fold with_one l.fn.ages.items
       (ages_let_go (left l.heap.config l.fn.host.pass.seen).now.words.freed (map aged (take l.object-index l.found)));
 }

@@ -1,7 +1,5 @@
 use Rattle.std.proofs.Common.{◌≡◌, ap, refl, rules}
-use Rattle.mk_core.specs.Counts.{ends, in_a_word}
-use Rattle.mk_core.specs.History.{left}
-use Rattle.mk_core.specs.Words.{Words}
+use Rattle.mk_trace.proofs.Vocabulary.{Words, ends, in_a_word, left}
 use Rattle.mk_trace.proofs.SettledLedgers.{settles_anew}
 use Rattle.mk_trace.proofs.settling.settle.Goals as goal
 
@@ -12,7 +10,6 @@ returns-clause-settles g c =
     settles_anew (left d c.args.host.now.pass.seen).now.words.freed
     (left d c.look-count.new.host.pass.seen).now.words.freed
     c.look-count.result (in_a_word (ends c.args.host.now.pass.seen)) c.args.freed.now c.keep.new.self
-    c.as_slice.result.now c.in_ok-kept.kept.items
-    (ap (λ (w : Words). w.freed) c.look-count.ensures.looks.table.words)
+    c.as_slice.result.now c.in_ok-kept.kept.items (ap (λ (w : Words). w.freed) c.look-count.ensures.looks.table.words)
     (c.look-count.ensures.counts refl) c.if-count-freed.false all c.in_ok-kept.ensures.kept
     c.keep.ensures.quarantined c.keep.ensures.reserved c.keep.ensures.objects (search rules) c.keep.ensures.ends
