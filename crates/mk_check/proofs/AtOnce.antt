@@ -1,5 +1,5 @@
 -- An answer at which nothing is printed, where the next line asks: the script stops there.
-use Rattle.std.proofs.Common.{◌≡◌, ℕ, ◌<◌, Bool, true, false, List, ◌++◌, length, refl, ap, sym, ◌∙◌, arith}
+use Rattle.std.proofs.Common.{◌≡◌, ℕ, ◌<◌, Bool, true, false, subst, List, ◌++◌, length, refl, ap, sym, ◌∙◌, arith}
 use Rattle.std.specs.Prelude.{[], ◌∷◌, not, ◌&&◌, is_some}
 use Rattle.std.proofs.lemmas.Bool.{and_parts}
 use Rattle.std.proofs.lemmas.List.{append-nil}
@@ -73,6 +73,13 @@ asks_so numbers node.Done h = cc
 asks_so numbers (node.Line line instruction next) h = asked_so numbers instruction ∙ h
 asks_so numbers (node.Rounds rounds body next) h = cc
 asks_so numbers (node.Choice number first second next) h = cc
+
+-- whether it took the answer or not
+pub feeds : (s : FeedState) (t : Place) (taken : Bool) → (taken ≡ true → IsFeed (record { nodes = s.nodes; place = t }))
+    → (taken ≡ false → t ≡ s.place) → IsFeed s → IsFeed (record { nodes = s.nodes; place = t })
+feeds s t true takes stays is = takes refl
+feeds s t false takes stays is =
+    subst (λ (p : Place). IsFeed (record { nodes = s.nodes; place = p })) (sym (stays refl)) is
 
 -- A script that waits, answered so.
 module _ (s : FeedState) (t : Place) (a : Answer) (line : ℕ) (instruction : Instruction) (next : ℕ)

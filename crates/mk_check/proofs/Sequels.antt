@@ -138,6 +138,8 @@ module _ (nodes : List Node) (p : Place) (next : ℕ) (instruction : Instruction
         let kept = nothing_kept instruction a (kept_in p) says.0 says.1 in
         stops_in_round a t t (silent instruction a accepted says.0) says.2 b
         (b.is ∙ sym (ap (λ (x : Place). with_kept x (after_answer instruction a (kept_in p))) b.is
-        ∙ ap (λ (k : KeptState). with_kept (record p
-        { at = b.body; frames = slice_set p.frames (length p.frames - 1) (frame.Rounds (b.rounds - 1) b.body b.behind) }) k)
+        ∙ ap (λ (k : KeptState). with_kept (record p {
+          at = b.body;
+          frames = slice_set p.frames (length p.frames - 1) (frame.Rounds (b.rounds - 1) b.body b.behind);
+        }) k)
         kept))

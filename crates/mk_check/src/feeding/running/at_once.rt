@@ -12,8 +12,8 @@ use crate::feeding::tree::{Frame, Sequel, Tree};
 use mk_core::Answer;
 
 impl Running {
-    /// Begins the next round of the innermost block, where that is a `repeat` that has a round left and whose body begins
-    /// with an operation. Returns whether that is so.
+    /// Begins the next round of the innermost block, where that is a `repeat` that has a round left and whose body
+    /// begins with an operation. Returns whether that is so.
     #[inline(always)]
     fn begin_round(&mut self, tree: &Tree) -> bool
         requires { FramesAreWithin (length tree.now) self.old.frames }

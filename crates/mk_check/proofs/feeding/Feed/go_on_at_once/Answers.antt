@@ -6,7 +6,7 @@ use Rattle.mk_check.specs.declared.feeding.tree.Node.TheVariants as node
 use Rattle.mk_check.specs.Spots.{sequel_of}
 use Rattle.mk_check.specs.Trees.{IsTree, Place, node_at}
 use Rattle.mk_check.specs.Feeding.{FeedState, IsFeed, IsWaiting, TakesAnswer, op_in, op_of_node, work_left}
-use Rattle.mk_check.proofs.AtOnce.{StopsBehind, feeds_at_once, nearer_at_once, stops_at_once, takes_at_once}
+use Rattle.mk_check.proofs.AtOnce.{StopsBehind, feeds, feeds_at_once, nearer_at_once, stops_at_once, takes_at_once}
 use Rattle.mk_check.proofs.Stands.{op_of_others, waits_for_answer}
 use Rattle.mk_check.proofs.feeding.Feed.go_on_at_once.Goals as goal
 use Rattle.mk_check.proofs.feeding.Feed.go_on_at_once.Goals.{After-go_on_at_once}
@@ -39,13 +39,6 @@ behind c t =
 waiting : (c : After-go_on_at_once)
     → IsWaiting (record { nodes = c.self.inside.tree; place = c.self.inside.running })
 waiting c = subst (λ (s : FeedState). IsWaiting s) (sym c.self.view_is) c.requires.waiting
-
--- whether it took the answer or not
-feeds : (s : FeedState) (t : Place) (taken : Bool) → (taken ≡ true → IsFeed (record { nodes = s.nodes; place = t }))
-    → (taken ≡ false → t ≡ s.place) → IsFeed s → IsFeed (record { nodes = s.nodes; place = t })
-feeds s t true takes stays is = takes refl
-feeds s t false takes stays is =
-    subst (λ (p : Place). IsFeed (record { nodes = s.nodes; place = p })) (sym (stays refl)) is
 
 pub invariant_of-self : goal.invariant_of-self
 invariant_of-self c =

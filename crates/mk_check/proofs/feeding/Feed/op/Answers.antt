@@ -11,7 +11,8 @@ asks : (c : After-asked) → c.asked.result ≡ op_in c.args.self.now
 asks c =
     let nodes = c.self.inside.tree in
     c.asked.ensures
-    ∙ (ap (op_of_node c.self.inside.running.numbers) (sym c.in-Line.is ∙ (c.node_in_place.ensures.value ∙ ap (node_at nodes) c.at.ensures))
+    ∙ (ap (op_of_node c.self.inside.running.numbers)
+    (sym c.in-Line.is ∙ (c.node_in_place.ensures.value ∙ ap (node_at nodes) c.at.ensures))
     ∙ ap op_in c.self.view_is)
 
 pub returns-in-Line-clause-next : goal.returns-in-Line-clause-next
@@ -35,7 +36,8 @@ returns-in_default c =
     let tree = subst (λ (s : FeedState). IsTree s.nodes) c.self.view_is c.node_in_place.ensures.tree in
     let value : op_in c.args.self.now ≡ None =
     ap op_in (sym c.self.view_is)
-    ∙ (ap (op_of_node c.self.inside.running.numbers) (sym (c.node_in_place.ensures.value ∙ ap (node_at nodes) c.at.ensures))
+    ∙ (ap (op_of_node c.self.inside.running.numbers)
+    (sym (c.node_in_place.ensures.value ∙ ap (node_at nodes) c.at.ensures))
     ∙ op_of_others c.self.inside.running.numbers c.node_in_place.result.now c.in_default.not-Line) in
     record {
       next = λ program k answers st. sym value ∙ (op_stands program k c.args.self.now answers tree stop st).op;

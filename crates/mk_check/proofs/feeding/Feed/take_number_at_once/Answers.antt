@@ -7,7 +7,7 @@ use Rattle.mk_check.specs.declared.feeding.tree.Node.TheVariants as node
 use Rattle.mk_check.specs.Spots.{sequel_of}
 use Rattle.mk_check.specs.Trees.{IsTree, Place, node_at}
 use Rattle.mk_check.specs.Feeding.{FeedState, IsFeed, IsWaiting, TakesAnswer, op_in, op_of_node, work_left}
-use Rattle.mk_check.proofs.AtOnce.{StopsBehind, feeds_at_once, nearer_at_once, stops_at_once, takes_at_once}
+use Rattle.mk_check.proofs.AtOnce.{StopsBehind, feeds, feeds_at_once, nearer_at_once, stops_at_once, takes_at_once}
 use Rattle.mk_check.proofs.Stands.{op_of_others, waits_for_answer}
 use Rattle.mk_check.proofs.feeding.Feed.take_number_at_once.Goals as goal
 use Rattle.mk_check.proofs.feeding.Feed.take_number_at_once.Goals.{After-take_number_at_once}
@@ -34,28 +34,22 @@ behind : (c : After-take_number_at_once) → c.take_number_at_once.result ≡ tr
     → StopsBehind c.self.inside.tree c.self.inside.running (answer.Num c.args.value) c.take_number_at_once.new.self
 behind c t =
     let taken = c.take_number_at_once.ensures.taken t in
-    stops_at_once c.self.inside.tree c.self.inside.running c.take_number_at_once.new.self c.in-Line.line c.in-Line.instruction
-    c.in-Line.next (answer.Num c.args.value) c.in-Line.ensures.tree c.self.invariant.stop.within (here c) taken.silent taken.stopped
+    stops_at_once c.self.inside.tree c.self.inside.running c.take_number_at_once.new.self c.in-Line.line
+    c.in-Line.instruction c.in-Line.next (answer.Num c.args.value) c.in-Line.ensures.tree c.self.invariant.stop.within
+    (here c) taken.silent taken.stopped
 
 waiting : (c : After-take_number_at_once)
     → IsWaiting (record { nodes = c.self.inside.tree; place = c.self.inside.running })
 waiting c = subst (λ (s : FeedState). IsWaiting s) (sym c.self.view_is) c.requires
-
--- whether it took the answer or not
-feeds : (s : FeedState) (t : Place) (taken : Bool) → (taken ≡ true → IsFeed (record { nodes = s.nodes; place = t }))
-    → (taken ≡ false → t ≡ s.place) → IsFeed s → IsFeed (record { nodes = s.nodes; place = t })
-feeds s t true takes stays is = takes refl
-feeds s t false takes stays is =
-    subst (λ (p : Place). IsFeed (record { nodes = s.nodes; place = p })) (sym (stays refl)) is
 
 pub invariant_of-self : goal.invariant_of-self
 invariant_of-self c =
     let s : FeedState = record { nodes = c.self.inside.tree; place = c.self.inside.running } in
     let g = (goal.at.invariant_of-self c).After-take_number_at_once in
     feeds s c.take_number_at_once.new.self c.take_number_at_once.result
-    (λ t. feeds_at_once s c.take_number_at_once.new.self (answer.Num c.args.value) c.in-Line.line c.in-Line.instruction c.in-Line.next
-    c.in-Line.ensures.tree c.self.invariant (waiting g) (here g) (behind g t)) c.take_number_at_once.ensures.refused
-    c.self.invariant
+    (λ t. feeds_at_once s c.take_number_at_once.new.self (answer.Num c.args.value) c.in-Line.line
+    c.in-Line.instruction c.in-Line.next c.in-Line.ensures.tree c.self.invariant (waiting g) (here g) (behind g t))
+    c.take_number_at_once.ensures.refused c.self.invariant
 
 pub returns-clause-taken : goal.returns-clause-taken
 returns-clause-taken c =
@@ -63,8 +57,8 @@ returns-clause-taken c =
     let after : FeedState = record { nodes = c.self.inside.tree; place = c.take_number_at_once.new.self } in
     let g = (goal.at.returns-clause-taken c).After-take_number_at_once in
     λ t. subst (λ (x : FeedState). TakesAnswer x (answer.Num c.args.value) after) c.self.view_is
-    (takes_at_once s c.take_number_at_once.new.self (answer.Num c.args.value) c.in-Line.line c.in-Line.instruction c.in-Line.next
-    c.in-Line.ensures.tree c.self.invariant (waiting g) (here g) (behind g t))
+    (takes_at_once s c.take_number_at_once.new.self (answer.Num c.args.value) c.in-Line.line
+    c.in-Line.instruction c.in-Line.next c.in-Line.ensures.tree c.self.invariant (waiting g) (here g) (behind g t))
 
 pub returns-clause-nearer : goal.returns-clause-nearer
 returns-clause-nearer c =
@@ -72,5 +66,5 @@ returns-clause-nearer c =
     let after : FeedState = record { nodes = c.self.inside.tree; place = c.take_number_at_once.new.self } in
     let g = (goal.at.returns-clause-nearer c).After-take_number_at_once in
     λ t. subst (λ (x : FeedState). work_left after < work_left x) c.self.view_is
-    (nearer_at_once s c.take_number_at_once.new.self (answer.Num c.args.value) c.in-Line.line c.in-Line.instruction c.in-Line.next
-    c.in-Line.ensures.tree c.self.invariant (waiting g) (here g) (behind g t))
+    (nearer_at_once s c.take_number_at_once.new.self (answer.Num c.args.value) c.in-Line.line
+    c.in-Line.instruction c.in-Line.next c.in-Line.ensures.tree c.self.invariant (waiting g) (here g) (behind g t))
