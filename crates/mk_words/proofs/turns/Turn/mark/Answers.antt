@@ -24,8 +24,8 @@ invariant_of-self c =
     let s : Step = step.Mark c.args.page c.args.v in
     let a = acts t.pass s f.new.self f.ensures.told.makes f.ensures.own f.ensures.history c.self.invariant.turn.holds in
     record {
-      turn = still_turn t.pass s f.new.self f.ensures.told.makes f.ensures.own f.ensures.history c.deref_mut.result.now.op refl
-          held.turn;
+      turn = still_turn t.pass s f.new.self f.ensures.told.makes f.ensures.own f.ensures.history
+          c.deref_mut.result.now.op refl held.turn;
       knows = knows_still t.pass s f.new.self a c.deref_mut.result.now.cell refl refl held.knows;
       shows = shows_mark t.pass c.args.page c.args.v f.new.self
           (record { acts = a; own = f.ensures.own; history = f.ensures.history; holds = c.self.invariant.turn.holds })

@@ -17,8 +17,8 @@ invariant_of-self c =
     let a = acts t.pass c.args.step f.new.self f.ensures.told.makes f.ensures.own f.ensures.history
     c.self.invariant.turn.holds in
     record {
-      turn = still_turn t.pass c.args.step f.new.self f.ensures.told.makes f.ensures.own f.ensures.history t.carried.value.op
-          c.requires.stays c.self.invariant.turn;
+      turn = still_turn t.pass c.args.step f.new.self f.ensures.told.makes f.ensures.own f.ensures.history
+          t.carried.value.op c.requires.stays c.self.invariant.turn;
       knows = knows_still t.pass c.args.step f.new.self a t.carried.value.cell c.requires.stays
           (takes_none c.args.step c.requires.untold) c.self.invariant.knows;
       shows = shows_still t.pass c.args.step f.new.self

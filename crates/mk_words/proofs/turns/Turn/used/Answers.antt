@@ -24,10 +24,11 @@ invariant_of-self c =
     let s = step.Used c.args.page c.args.v in
     let makes = f.ensures.finds.makes in
     record {
-      turn = still_turn t.pass s f.new.self makes f.ensures.own f.ensures.history c.deref_mut-carried.result.now.op refl held.turn;
+      turn = still_turn t.pass s f.new.self makes f.ensures.own f.ensures.history c.deref_mut-carried.result.now.op
+          refl held.turn;
       knows = subst (λ (cell : Option Cell). KnowsCell f.new.self cell) (sym c.cell_behind-carried.ensures)
-          (used_turn t.pass c.args.page c.args.v f.result f.new.self makes f.ensures.own f.ensures.history c.deref_mut-carried.result.now.cell
-          c.self.invariant.turn.holds f.ensures.finds.finds c.ranges.v.fits
+          (used_turn t.pass c.args.page c.args.v f.result f.new.self makes f.ensures.own f.ensures.history
+          c.deref_mut-carried.result.now.cell c.self.invariant.turn.holds f.ensures.finds.finds c.ranges.v.fits
           held.knows);
       shows = shows_used t.pass c.args.page c.args.v f.new.self
           (record {
