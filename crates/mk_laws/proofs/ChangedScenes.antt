@@ -23,7 +23,7 @@ here w = zero_scene_with (is_phase w.now.words 4) w.now.words.marks w
 pub standing : (c : Config) (w : World) (seat : Seat) (x : Step) (i : ℕ) → Before c w seat x
     → (placed_at w.allocations i).released ≡ false → IsStanding c w.now.words (placed_at w.allocations i)
 standing c w seat x i b u =
-    all_stand c (object_now c w.now) (is_phase w.now.words 4) w b.lengths.pages b.others.laid_out i u
+    all_stand c _ _ w b.lengths.pages b.others.laid_out i u
 
 -- While the phase isn't releasing no cell is released.
 pub none_released : (c : Config) (s : ZeroScene) (n : ℕ) → s.releasing ≡ false

@@ -75,28 +75,28 @@ pub closed : (c : Config) (m : Moment) (seat : Seat) → Known c m → AreOfPage
     → Meets c m seat step.Close → BlackIsGuarded c m → CellsAreClosed c m.words
 closed c m seat known len h black =
     record {
-      registers = λ i. list_all-at (points_well c.pages m.words) m.words.registers 0 roots.0
+      registers = λ i. list_all-at _ m.words.registers 0 roots.0
           (null_points_well c m.words) i;
-      globals = λ g. list_all-at (points_well c.pages m.words) m.words.globals 0 roots.1 (null_points_well c m.words) g;
+      globals = λ g. list_all-at _ m.words.globals 0 roots.1 (null_points_well c m.words) g;
       words = λ cell i lt is scanned li.
           let there = page cell.page (in_heap cell.page cell.index lt) in
-          settled (first_word m.words cell + i)
+          settled _
           (black cell.page cell.index i lt (black_bit m.words cell.page cell.index there lt is) scanned li);
     }
   where
     parts : (all_below c.pages (has_closed_page m.words) ≡ true) × (roots_point_well c.pages m.words ≡ true)
     parts =
-        let a = and_parts (none_attends m.seats.markers && all_below c.pages (has_closed_page m.words))
-        (roots_point_well c.pages m.words) h.holder in
-        ((and_parts (none_attends m.seats.markers) (all_below c.pages (has_closed_page m.words)) a.0).1, a.1)
+        let a = and_parts _
+        _ h.holder in
+        ((and_parts (none_attends m.seats.markers) _ a.0).1, a.1)
 
     roots : (list_all (points_well c.pages m.words) m.words.registers ≡ true)
         × (list_all (points_well c.pages m.words) m.words.globals ≡ true)
-    roots = and_parts (list_all (points_well c.pages m.words) m.words.registers)
-        (list_all (points_well c.pages m.words) m.words.globals) parts.1
+    roots = and_parts (list_all _ m.words.registers)
+        (list_all _ m.words.globals) parts.1
 
     page : (p : ℕ) → p < c.pages → ClosedPage m.words p
-    page p lt = closed_page m.words p (all_below-at c.pages p (has_closed_page m.words) parts.0 lt)
+    page p lt = closed_page m.words p (all_below-at c.pages p _ parts.0 lt)
 
     in_heap : (p k : ℕ) → k < cells_under (header_in m.words p) → p < c.pages
     in_heap p k lt = elim (cases_lt p c.pages) [

@@ -75,11 +75,11 @@ marking n h = elim (or_cases (n == 1) (n == 2) h) [ inl e ↦ inl (eqb-true n 1 
 
 quiet : (m : Moment) (more : Bool) → ((phase_of m.words == 0) || (phase_of m.words == 2)) ≡ true
     → (not (is_phase m.words 2) || (none_attends m.seats.markers && more)) ≡ true → IsQuiet m
-quiet m more h own = elim (or_cases (phase_of m.words == 0) (phase_of m.words == 2) h) [
-  | inl z ↦ inl (eqb-true (phase_of m.words) 0 z)
-  | inr two ↦ elim (or_cases (not (is_phase m.words 2)) (none_attends m.seats.markers && more) own) [
-    | inl out ↦ let y : true ≡ false = sym two ∙ not-true (is_phase m.words 2) out in cc
-    | inr none ↦ inr (eqb-true (phase_of m.words) 2 two, (and_parts (none_attends m.seats.markers) more none).0)
+quiet m more h own = elim (or_cases _ _ h) [
+  | inl z ↦ inl (eqb-true _ 0 z)
+  | inr two ↦ elim (or_cases _ _ own) [
+    | inl out ↦ let y : true ≡ false = sym two ∙ not-true _ out in cc
+    | inr none ↦ inr (eqb-true _ 2 two, (and_parts _ more none).0)
   ]
 ]
 
@@ -105,24 +105,24 @@ pub colour_step : (c : Config) (m : Moment) (seat : Seat) (x : Step) → Meets c
     → ColourStep c m seat (colours_of (Behind c m seat x))
 colour_step c m seat step.Reg h =
     let f = flight_of m seat in
-    rw (reg_colours m.words (caller_number seat) (register_met f f.stage)
-    (reg_access f f.stage) m.seats.holding.hand) Leaves
+    rw (reg_colours m.words _ _
+    _ m.seats.holding.hand) Leaves
 colour_step c m seat (step.Tally n v) h = rw (tally_colours m.words n v m.seats.holding.hand) Leaves
-colour_step c m seat (step.Take o) h = takes_or_not c m seat (m.words.turn == 0)
+colour_step c m seat (step.Take o) h = takes_or_not c m seat _
 colour_step c m seat step.Give h = DropsHand
 colour_step c m seat (step.Look w) h = TakesHand w
 colour_step c m seat step.Begin h = DropsHand
 colour_step c m seat step.Dirty h = Dirties
-colour_step c m seat (step.Clear p) h = ClearsMarks p (eqb-true (phase_of m.words) 0 h.phase)
+colour_step c m seat (step.Clear p) h = ClearsMarks p (eqb-true _ 0 h.phase)
 colour_step c m seat (step.Mark p v) h = AddsMarks p v (marking (phase_of m.words) h.phase) h.holder
 colour_step c m seat step.Mmark h = MarksSeen _ _ h.marker refl refl
-colour_step c m seat (step.Black p v) h = Blackens p v (eqb-true (phase_of m.words) 2 h.phase) h.holder
+colour_step c m seat (step.Black p v) h = Blackens p v (eqb-true _ 2 h.phase) h.holder
 colour_step c m seat step.Mblack h = BlackensScanned _ _ h.marker refl refl
 colour_step c m seat (step.Unblack p) h =
-    Whitens p (quiet m true h.phase (rw (← (and_true (none_attends m.seats.markers))) h.holder))
+    Whitens p (quiet m true h.phase (rw (← (and_true _)) h.holder))
 colour_step c m seat (step.Undirty p) h = Cleans p (quiet m (is_blank m p) h.phase
-    (rw (← (and_moved (none_attends m.seats.markers) (slice_index m.words.blacks p == 0)
-    (slice_index m.words.blacks (head_page m.words p) == 0))) h.holder)) h.holder
+    (rw (← (and_moved _ _
+    _)) h.holder)) h.holder
 colour_step c m seat _ h = Leaves
 
 -- While a marker attends, no mark and no black bit is cleared.

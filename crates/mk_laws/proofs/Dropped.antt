@@ -77,8 +77,8 @@ dropped c o w p freed n st h =
         ⊎ (is_released_in true (slice_set w.now.words.snapshot p n) w.now.words.marks q k ≡ true)
     by q k bit (inl own) = inl own
     by q k bit (inr r) =
-        let parts = and_parts (has_bit (slice_index w.now.words.snapshot q) k)
-        (not (has_bit (slice_index w.now.words.marks q) k)) r in
+        let parts = and_parts _
+        _ r in
         inr (rw (stays q k bit parts.0) parts.1)
 
 -- What `end` asks: no cell of a page is left, and one with a header has a used cell at its head.
@@ -89,13 +89,13 @@ pub record IsSettledPage (w : Words) (p : ℕ) : Type 0 where
 pub settled_page : (w : Words) (count p : ℕ) → may_end count w ≡ true → p < count → IsSettledPage w p
 settled_page w count p h lt =
     let occupied : Bool = (header_at w p == 0) || not (used_at w (head_page w p) == 0) in
-    let parts = and_parts (none_is_left_unmarked w p) occupied (all_below-at count p (has_settled_page w) h lt) in
+    let parts = and_parts _ occupied (all_below-at count p _ h lt) in
     record {
-      none = λ k. sym (has_bit_without (slice_index w.snapshot p) (slice_index w.marks p) k)
-          ∙ no_bit (left_unmarked w p) k (eqb-true (left_unmarked w p) 0 parts.0);
-      used = λ some empty. elim (or_cases (header_at w p == 0) (not (used_at w (head_page w p) == 0)) parts.1) [
+      none = λ k. sym (has_bit_without _ _ k)
+          ∙ no_bit _ k (eqb-true _ 0 parts.0);
+      used = λ some empty. elim (or_cases _ _ parts.1) [
         | inl z ↦ some (eqb-true (header_at w p) 0 z)
-        | inr u ↦ eqb-false (used_at w (head_page w p)) 0 (not-true (used_at w (head_page w p) == 0) u) empty
+        | inr u ↦ eqb-false _ 0 (not-true _ u) empty
       ];
     }
 
@@ -104,7 +104,7 @@ pub ended : (c : Config) (o : Object) (w : World) → length w.now.words.pages �
     → may_end c.pages w.now.words ≡ true → Laid c o false w (ground_of w)
 ended c o w len st h =
     record {
-      scene = layout_ended (layout_scene_of c o true w.now.words.marks (ground_of w)) st.scene (record {
+      scene = layout_ended _ st.scene (record {
         none = λ p k lt. (settled_page w.now.words c.pages p h (omega (arith, len))).none k;
         settled = λ p lt some empty. (settled_page w.now.words c.pages p h (omega (arith, len))).used some empty;
       });

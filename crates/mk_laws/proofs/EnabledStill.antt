@@ -105,7 +105,7 @@ module _ (c : Config) (w : World) (runs : RunsAreWhole c w) where
         | inl first ↦
             let u = under_at c.pages w.now.words (64 * p + i) p y (omega arith) is' in
             let same : Some h ≡ Some u.0 = sym shown ∙ u.1 in
-            own_run u.0 p ((64 * p + i) % 64) y (ap heads_run (sym same) ∙ r) u.2
+            own_run u.0 p _ y (ap heads_run (sym same) ∙ r) u.2
         | inr behind ↦
             let headed : heads_run (header_in w.now.words p) ≡ true = ap heads_run shown ∙ r in
             let count : run_count (header_in w.now.words p) ≡ run_count (Some h) = ap run_count shown in
@@ -200,7 +200,7 @@ module _ (c : Config) (w v : World) (n : NeverState) (known : KnownWorld c w) (a
         | inl bit ↦
             let first : ℕ = first_word w.now.words (record { page = p; index = k }) in
             let count : ℕ = cell_words w.now.words (record { page = p; index = k }) in
-            or_right (not (has_bit (used_at w.now.words p - value) k)) _
+            or_right _ _
             (all_below_on count (λ i. slice_index w.now.words.heap (first + i) == 0)
             (λ i. slice_index v.now.words.heap (first + i) == 0)
             (λ i li z. ap (λ j. j == 0) (outside (first + i) (released_word p value k i four back bit li)) ∙ z)
@@ -223,7 +223,7 @@ turn_after : (c : Config) (m : Moment) (seat : Seat) (x : Step) → Meets c m se
     → m.words.turn ≢ 1 + c.callers → (Behind c m seat x).words.turn ≢ 1 + c.callers
 turn_after c m seat (step.Take o) h ne out = taken_turn c m seat o h ne out
 turn_after c m seat step.Give h ne out = λ e. absurd (omega arith)
-turn_after c m seat step.Reg h ne out = λ e. out (sym (reg_keeps m.words (caller_number seat) _ _).turn ∙ e)
+turn_after c m seat step.Reg h ne out = λ e. out (sym (reg_keeps m.words _ _ _).turn ∙ e)
 turn_after c m seat (step.Tally n v) h ne out = λ e. out (sym (tally_keeps m.words n v).turn ∙ e)
 turn_after c m seat _ h ne out = out
 

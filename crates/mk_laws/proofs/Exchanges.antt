@@ -51,7 +51,7 @@ compares_values c w n k q i p r known others mirrors h is ad =
     let lit : f ≡ flight stage.Cas o f.q f.p f.r f.loaded = ap (λ s. flight s f.op f.q f.p f.r f.loaded) st ∙ rw is in
     let admitted : IsAdmitted c.globals n k o = rw is at (admitted_call c.globals n k f.op _ (ap is_under_turn is) ad)
     in
-    let compared = cas_compares c.globals safe.0 (image_scene_of w) n k ready
+    let compared = cas_compares c.globals safe.0 _ n k ready
     (there_is c w n known mirrors safe.0 ready k lt)
     (own_registers c w n known mirrors safe.0 ready k lt) q i p r f.q f.p f.r f.loaded x
     (rw lit at (ready.images.carried k)) (rw lit at (ready.images.probed k)) (rw lit) admitted in
@@ -73,6 +73,6 @@ histories_compare c es h others before behind k q i p r whole is =
     let admitted = ((admitted_in_parts c before (cas_of k ∷ behind)).0 parts.admitted).1 in
     let compares = compares_values c (left c before) _ k q i p r
     (known_world c before earlier.within_limits earlier.enabled)
-    (say before (cas_of k ∷ behind) refl) mirrors (enabled_meets c (left c before).now (cas_of k) on) is
+    (say before (cas_of k ∷ behind) refl) mirrors (enabled_meets c _ (cas_of k) on) is
     (admitted.0, tt) in
     record { number = compares.number; place = compares.place; target = compares.target; answered = compares.answered }

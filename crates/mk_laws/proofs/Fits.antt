@@ -45,12 +45,12 @@ taken_from h u class index leaf (Some Free) is may = inl (zero_word h is)
 taken_from h u class index leaf (Some (Block k)) is may = inr (
   sym (word_of-header_of h (Block k) is).1 ∙ rw may.0 (ap (λ b. word_of (block_header class b)) may.1),
   rw (length-bits_of (cells_of k) u
-      ∙ ap cells_of may.0) at (slice_get_within (bits_of (cells_of k) u) index false may.2),
+      ∙ ap cells_of may.0) at (slice_get_within _ index false may.2),
 )
 taken_from h u class index leaf (Some (LeafBlock k)) is may = inr (
   sym (word_of-header_of h (LeafBlock k) is).1 ∙ rw may.0 (ap (λ b. word_of (block_header class b)) may.1),
   rw (length-bits_of (cells_of k) u
-      ∙ ap cells_of may.0) at (slice_get_within (bits_of (cells_of k) u) index false may.2),
+      ∙ ap cells_of may.0) at (slice_get_within _ index false may.2),
 )
 taken_from h u class index leaf _ is may = absurd may
 
@@ -71,9 +71,9 @@ fits limit pages o place sized at = elim (cases_Bool (is_small_object o)) [ inl 
           room = omega arith;
           index = is.index;
           within = omega arith;
-          free = λ d lt. free_header (header_on pages (place.page + d)) (shows_on pages (place.page + d))
-              (used_on pages (place.page + d)) refl
-              (is.free.free (place.page + d) free_page (omega arith) (omega arith));
+          free = λ d lt. free_header _ _
+              _ refl
+              (is.free.free _ free_page (omega arith) (omega arith));
         }
 
     small : is_small_object o ≡ true → FitsOnFreePages limit pages o place ⊎ FitsInBlock pages o place
@@ -84,7 +84,7 @@ fits limit pages o place sized at = elim (cases_Bool (is_small_object o)) [ inl 
         get_or_from_slice_get pages place.page is.page free_page is.at in
         let one = small_pages o s in
         let inside = slice_get_within pages place.page is.page is.at in
-        elim (taken_from is.page.header is.page.used (class_made o) place.index o.leaf (header_of is.page.header) refl
+        elim (taken_from is.page.header is.page.used (class_made o) place.index o.leaf _ refl
         is.may_take) [
           | inl z ↦ inl (record {
             room = let room = is.has_room (is.carves ∙ free_use is.page.header is.page.used z) in omega arith;

@@ -18,12 +18,12 @@ module _ (c : Config) (w : World) (n : NeverState) (known : KnownWorld c w) (all
       let a : PlacedAllocation = placed_at w.allocations x.number in
       let shown = shown_claim c w known all.order.laid x.number x.unreleased in
       let s = standing c w known all.order.laid x.number x.unreleased in
-      let ends = ends_on_pages (object_placed c a) a.base shown.sized s.stands.begins in
+      let ends = ends_on_pages _ a.base shown.sized s.stands.begins in
       let words : storage_words c a ≡ words_made (object_placed c a) = refl in
       let of_it = x.of_it in
       let page = x.page in
       let there : a.base / 64 + (p - a.base / 64) ≡ p = omega arith in
-      claimed_some w.now.words.pages (claim_of c w.now.seats.holding.freed a) (p - a.base / 64) shown (omega arith)
+      claimed_some w.now.words.pages _ _ shown (omega arith)
       (ap (λ q. header_at w.now.words q) there ∙ z)
 
   no_cells : (p : ℕ) → header_at w.now.words p ≡ 0 → cells_under (header_in w.now.words p) ≡ 0
@@ -38,10 +38,9 @@ module _ (c : Config) (w : World) (n : NeverState) (known : KnownWorld c w) (all
   free_page : DirtyPagesHaveAllocations c w → (p : ℕ) → header_at w.now.words p ≡ 0 → HasNothing w.now.words p
   free_page dirty p z =
       record {
-        used = free_unused (layout_scene_of c (object_now c w.now) (is_phase w.now.words 4) w.now.words.marks
-            (ground_of w)) p all.order.laid.scene z;
-        freed = zero_where_none (slice_index w.now.words.freed p) (none_freed p z);
-        snapshot = zero_where_none (slice_index w.now.words.snapshot p)
+        used = free_unused _ p all.order.laid.scene z;
+        freed = zero_where_none _ (none_freed p z);
+        snapshot = zero_where_none _
             (λ k bit. none_freed p z k (all.order.quarantined.within p k bit));
         dirty = elim (cases_eq (slice_index w.now.words.dirty p) 0) [
           | inl is ↦ is

@@ -28,8 +28,8 @@ run_word base words pages x aligned is from to = (omega arith, omega arith)
 
 in_run : (run : RunPages) (x : ℕ) → is_in_run run x ≡ true → (run.page ≤ x / 64) × (x / 64 - run.page < run.count)
 in_run run x h =
-    let parts = and_parts (nat_le run.page (x / 64)) (nat_lt (x / 64 - run.page) run.count) h in
-    (leb-true run.page (x / 64) parts.0, ltb-true (x / 64 - run.page) run.count parts.1)
+    let parts = and_parts _ _ h in
+    (leb-true run.page (x / 64) parts.0, ltb-true _ run.count parts.1)
 
 -- in a run that is gone
 gone_word : (w : Words) (run : RunPages) (x : ℕ) → is_in_run run x ≡ true → is_run_gone w (Some run) ≡ true
@@ -54,11 +54,11 @@ module _ (c : Config) (w : World) (n : NeverState) (known : KnownWorld c w) (all
       let aligned = (run_begins o a.base run.large stands.begins).1 in
       let word : is_in_run (run_of_allocation c a) x ≡ true = ap (λ (r : RunPages). is_in_run r x) (sym run.is)
       ∙ f.word in
-      let at = in_run (run_of_allocation c a) x word in
+      let at = in_run _ x word in
       record {
         number = run.number;
         unreleased = run.unreleased;
-        word = run_word a.base (storage_words c a) (pages_made o) x aligned (large_words o run.large) at.0 at.1;
+        word = run_word a.base _ (pages_made o) x aligned (large_words o run.large) at.0 at.1;
       }
 
   of_mapped : (x : ℕ) → IsWordOfMapped c w.allocations x → IsOfOne c w x
@@ -106,7 +106,7 @@ module _ (c : Config) (w : World) (n : NeverState) (known : KnownWorld c w) (all
 pub of_worlds : {claim : Config → World → Type 0}
     → ((c : Config) (w : World) (n : NeverState) → KnownWorld c w → Invariant c w n → claim c w)
     → OfHistories (Leaves claim)
-of_worlds {claim} known c es h = known c (left c es) (never_behind c es) (known_world c es h.within_limits h.enabled)
+of_worlds {claim} known c es h = known c (left c es) _ (known_world c es h.within_limits h.enabled)
     (histories_keep_the_invariant c es h)
 
 pub words_of_none_are_zero : OfHistories (Leaves WordsOfNoneAreZero)

@@ -103,8 +103,8 @@ stopped_marks_are_closed c w limits say g three = closed_allocations c w limits 
 
 pub marking_guards : MarkingGuards
 marking_guards c m g early = (g.guarded (elim early [
-  | inl e ↦ inl (eqb-true (phase_of m.words) 1 e)
-  | inr e ↦ inr (eqb-true (phase_of m.words) 2 e)
+  | inl e ↦ inl (eqb-true _ 1 e)
+  | inr e ↦ inr (eqb-true _ 2 e)
 ])).black
 
 pub others_at_first : GuardPremisesAtFirst

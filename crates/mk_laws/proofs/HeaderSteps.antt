@@ -31,12 +31,12 @@ not_unmapped : (c : Config) (w : Words) (seat : Seat) (k v : ℕ) → k < c.call
     → slice_index w.gates k ≡ 1 → (not (is_unmapped_header (header_of v)) || others_are_held c.callers w seat) ≡ true
     → is_unmapped_header (header_of v) ≡ false
 not_unmapped c w seat k v lt ne one h =
-    elim (or_cases (not (is_unmapped_header (header_of v))) (others_are_held c.callers w seat) h) [
-      | inl is ↦ not-true (is_unmapped_header (header_of v)) is
-      | inr all ↦ elim (or_cases (is_number_of seat k) (is_held w k)
+    elim (or_cases _ _ h) [
+      | inl is ↦ not-true _ is
+      | inr all ↦ elim (or_cases _ (is_held w k)
           (all_below-at c.callers k (λ j. is_number_of seat j || is_held w j) all lt)) [
             | inl own ↦ absurd (ne (seat_is seat k own))
-            | inr two ↦ let g = eqb-true (slice_index w.gates k) 2 two in absurd (omega arith)
+            | inr two ↦ let g = eqb-true _ 2 two in absurd (omega arith)
           ]
     ]
   where
@@ -50,8 +50,8 @@ header_step c m seat (step.Head p v) k h lt ne one = SetsHeader p v (not_unmappe
 header_step c m seat (step.Used p v) k h lt ne one = SetsUsed p v
 header_step c m seat (step.Tally n v) k h lt ne one = rw (tally_pages m.words n v) KeepsPages
 header_step c m seat step.Reg k h lt ne one =
-    rw (reg_pages m.words (caller_number seat) (register_met (flight_of m seat) (flight_of m seat).stage)
-    (reg_access (flight_of m seat) (flight_of m seat).stage)) KeepsPages
+    rw (reg_pages m.words _ _
+    _) KeepsPages
 header_step c m seat _ k h lt ne one = KeepsPages
 
 -- a page's header after a change of one page

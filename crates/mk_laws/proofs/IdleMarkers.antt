@@ -47,12 +47,12 @@ is_work _ = false
 
 pub work_attends : (c : Config) (x : Marker) (s : Step) → IdlesOutside x → marker_may c x s ≡ true → is_work s ≡ true
     → is_attending x.presence ≡ true
-work_attends c x (step.Mlook w) h m k = (and_parts (is_attending x.presence) (is_markers_word w) m).0
-work_attends c x (step.Claim p i) h m k = (and_parts (is_attending x.presence) (is_none x.scan)
-    (and_parts (is_attending x.presence && is_none x.scan) (has_seen_cell x.seen p i) m).0).0
-work_attends c x step.Mload h m k = next_attends x h (and_parts (has_next_word x.scan) (is_none x.hand) m).0
+work_attends c x (step.Mlook w) h m k = (and_parts _ _ m).0
+work_attends c x (step.Claim p i) h m k = (and_parts _ _
+    (and_parts _ _ m).0).0
+work_attends c x step.Mload h m k = next_attends x h (and_parts _ _ m).0
 work_attends c x step.Mmark h m k = seen_attends c x h m
-work_attends c x step.Mblack h m k = scanned_attends x h (and_parts (is_scanned x.scan) (is_none x.hand) m).0
+work_attends c x step.Mblack h m k = scanned_attends x h (and_parts _ _ m).0
 work_attends c x _ h m k = cc
 
 -- it keeps its presence, so all is said

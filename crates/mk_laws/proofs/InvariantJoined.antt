@@ -34,7 +34,7 @@ module _ (c : Config) (w : World) (n : NeverState) (known : KnownWorld c w) (all
       record {
         target = λ seat cell is. let x =
             told_by_images.target seat cell is in record { number = x.number; unreleased = x.unreleased; is = x.cell };
-        marked = λ three run is. told_by_images.marked (eqb-true (phase_of w.now.words) 3 three) run is;
+        marked = λ three run is. told_by_images.marked (eqb-true _ 3 three) run is;
       }
 
   pub told_to_zeros : (e : Event) → IsEnabled c w.now e → AreAdmitted c.globals n (asked (call_decided c w.now e))

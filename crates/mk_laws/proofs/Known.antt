@@ -67,7 +67,7 @@ op_step c m seat f n step.Reg h = reg_op c f f.stage n
 op_step c m seat f n step.Probe h = either_op c f.op _ _ _ Same Same
 op_step c m seat f n step.Read h = read_op c f f.op n
 op_step c m seat f n (step.Look x) h = either_op c f.op _ _ _ Same Same
-op_step c m seat f n (step.Quar p v) h = freed_op c f (cell_freed c.pages m.words f p v)
+op_step c m seat f n (step.Quar p v) h = freed_op c f _
 op_step c m seat f n _ h = Same
 
 abbrev pub HaveOperands : Config → List Flight → Type 0
@@ -82,7 +82,7 @@ set_operands : (c : Config) (fs : List Flight) (k : ℕ) (f : Flight) → HaveOp
 set_operands c fs k f h s b = elim (cases_eq b k) [
   | inl e ↦ elim (cases_lt k (length fs)) [
     | inl lt ↦ rw (ap (λ j. slice_index_or (slice_set fs k f) j at_rest) e ∙ get_or-set_same fs k f at_rest lt)
-        (checked c (slice_index_or fs k at_rest).op f.op (h k) s)
+        (checked c _ f.op (h k) s)
     | inr le ↦ rw (set_past fs k f le) (h b)
   ]
   | inr ne ↦ rw (get_or-set_other fs k b f at_rest ne) (h b)
@@ -91,7 +91,7 @@ set_operands c fs k f h s b = elim (cases_eq b k) [
 pub operands_behind : (c : Config) (m : Moment) (seat : Seat) (x : Step) → HaveOperands c m.seats.flights
     → Meets c m seat x → HaveOperands c (Behind c m seat x).seats.flights
 operands_behind c m (Caller k) x h on = set_operands c m.seats.flights k _ h
-    (op_step c m (Caller k) (flight_of m (Caller k)) (found c m (record { seat = Caller k; step = x })) x on.range)
+    (op_step c m (Caller k) _ (found c m (record { seat = Caller k; step = x })) x on.range)
 operands_behind c m _ x h on = h
 
 -- the registers and the global of a call
@@ -104,13 +104,12 @@ pub record Operands (o : Op) : Type 0 where
 
 pub operands_of : (c : Config) (o : Op) → has_operands c o ≡ true → Operands o
 operands_of c o h =
-    let a = and_parts (nat_lt (q_of o) 8 && nat_lt (p_of o) 8 && nat_lt (r_of o) 8 && nat_lt (d_of o) 8
-    && nat_lt (g_of o) 64) (has_type c o) h in
-    let g = and_parts (nat_lt (q_of o) 8 && nat_lt (p_of o) 8 && nat_lt (r_of o) 8 && nat_lt (d_of o) 8)
-    (nat_lt (g_of o) 64) a.0 in
-    let d = and_parts (nat_lt (q_of o) 8 && nat_lt (p_of o) 8 && nat_lt (r_of o) 8) (nat_lt (d_of o) 8) g.0 in
-    let r = and_parts (nat_lt (q_of o) 8 && nat_lt (p_of o) 8) (nat_lt (r_of o) 8) d.0 in
-    let p = and_parts (nat_lt (q_of o) 8) (nat_lt (p_of o) 8) r.0 in
+    let a = and_parts _ (has_type c o) h in
+    let g = and_parts _
+    _ a.0 in
+    let d = and_parts _ _ g.0 in
+    let r = and_parts _ _ d.0 in
+    let p = and_parts _ _ r.0 in
     record {
       q = ltb-true (q_of o) 8 p.0;
       p = ltb-true (p_of o) 8 p.1;
@@ -162,7 +161,7 @@ pub holds_turn : (c : Config) (m : Moment) (seat : Seat) → Orderly c (view_of 
     → HoldsTurn c (view_of m) seat
 holds_turn c m (Caller k) o h = (
   h.0,
-  under_turn_is (standing (flight_of m (Caller k)))
-      (in_turn_told (flight_of m (Caller k)).stage (flight_of m (Caller k)).op (not_astray c m o k h.0) ∙ h.1),
+  under_turn_is _
+      (in_turn_told _ _ (not_astray c m o k h.0) ∙ h.1),
 )
 holds_turn c m _ o h = h

@@ -41,10 +41,10 @@ page_within c w p b h = let lt = ltb-true p c.pages h in let len = b.lengths.pag
 pub reg_leaves : (c : Config) (w : World) (seat : Seat) → Keeps w.now.words (WorldBehind c w seat step.Reg).now.words
 reg_leaves c w seat =
     let f : Flight = flight_of w.now seat in
-    reg_keeps w.now.words (caller_number seat) (register_met f f.stage) (reg_access f f.stage)
+    reg_keeps w.now.words _ _ _
 
 pub reg_leaves_ground : (c : Config) (w : World) (seat : Seat)
     → KeepsGround w.now.words (WorldBehind c w seat step.Reg).now.words
 reg_leaves_ground c w seat =
     let f : Flight = flight_of w.now seat in
-    reg_ground w.now.words (caller_number seat) (register_met f f.stage) (reg_access f f.stage)
+    reg_ground w.now.words _ _ _

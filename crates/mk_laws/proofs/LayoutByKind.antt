@@ -66,7 +66,7 @@ head_by c w seat p n b there lt laid (ItEmpties on x) =
 pub head_kind : (c : Config) (w : World) (seat : Seat) (p n : ℕ) → Before c w → Meets c w.now seat (step.Head p n)
     → LayoutStands c w → LaidNow c w (ground_of (WorldBehind c w seat (step.Head p n)))
 head_kind c w seat p n b h laid = head_by c w seat p n b h.seat (page_within c w p b h.range) laid
-    (head_step c w.now (flight_of w.now seat) p n h.holder)
+    (head_step c w.now _ p n h.holder)
 
 -- `used`
 abbrev UsedBehind : Config → World → ℕ → ℕ → Bool → Option Place → Type 0
@@ -91,7 +91,7 @@ used_by c w seat p n b there lt laid (ItGivesBack on x) =
 pub used_kind : (c : Config) (w : World) (seat : Seat) (p n : ℕ) → Before c w → Meets c w.now seat (step.Used p n)
     → LayoutStands c w → LaidNow c w (ground_of (WorldBehind c w seat (step.Used p n)))
 used_kind c w seat p n b h laid = used_by c w seat p n b h.seat (page_within c w p b h.range) laid
-    (used_step c w.now (flight_of w.now seat) p n h.holder)
+    (used_step c w.now _ p n h.holder)
 
 -- `quar`
 -- with another quarantine word of a page
@@ -112,17 +112,17 @@ left_by : (c : Config) (w : World) (f : Flight) (p n : ℕ) → LayoutStands c w
 left_by c w f p n laid step = by step
   where
     still : is_phase w.now.words 4 ≡ false → LaidNow c w (with_halves w p n)
-    still off = rw off (unreleasing c (object_now c w.now) w.now.words.marks w.now.words.marks (ground_of w)
-        (slice_set w.now.words.freed p (n % 2 ^ 32)) (slice_set w.now.words.snapshot p (n / 2 ^ 32)) (rw off at laid))
+    still off = rw off (unreleasing c _ w.now.words.marks w.now.words.marks (ground_of w)
+        _ _ (rw off at laid))
 
     by : QuarantineStep c w.now f p n → LaidNow c w (with_halves w p n)
     by (ItFrees off x) = still off
     by (ItTakesSnapshot x) =
-        let z = eqb-true (phase_of w.now.words) 0 x.phase in
-        still (ne_eqb (phase_of w.now.words) 4 (λ e. absurd (omega arith)))
-    by (ItDrops on x) = rw on (refreed c (object_now c w.now) true w.now.words.marks
+        let z = eqb-true _ 0 x.phase in
+        still (ne_eqb _ 4 (λ e. absurd (omega arith)))
+    by (ItDrops on x) = rw on (refreed c _ true w.now.words.marks
         (record (ground_of w) { snapshot = slice_set w.now.words.snapshot p (n / 2 ^ 32) })
-        (slice_set w.now.words.freed p (n % 2 ^ 32)) (dropped c (object_now c w.now) w p (n % 2 ^ 32) (n / 2 ^ 32)
+        _ (dropped c _ w p (n % 2 ^ 32) (n / 2 ^ 32)
         (rw on at laid) x))
 
 pub quar_kind : (c : Config) (w : World) (seat : Seat) (p n : ℕ) → Before c w → Meets c w.now seat (step.Quar p n)
@@ -299,20 +299,20 @@ kept_ground c w x g laid = rw g.pages (rw g.freed (rw g.snapshot laid))
 
 -- `release` and `end`
 pub off_at : (w : World) (n : ℕ) → is_phase w.now.words n ≡ true → n ≢ 4 → is_phase w.now.words 4 ≡ false
-off_at w n at ne = let e = eqb-true (phase_of w.now.words) n at in ne_eqb (phase_of w.now.words) 4
+off_at w n at ne = let e = eqb-true _ n at in ne_eqb _ 4
     (λ four. ne (sym e ∙ four))
 
 release_kind : (c : Config) (w : World) → Before c w → is_phase w.now.words 3 ≡ true → LayoutStands c w
     → Laid c (object_now c w.now) true w
     (record (ground_of w) { allocations = map (with_released c w.now.words) w.allocations })
-release_kind c w b three laid = released_terrain c (object_now c w.now) w b.limits b.lengths.pages
+release_kind c w b three laid = released_terrain c _ w b.limits b.lengths.pages
     (rw (off_at w 3 three (λ e. absurd (omega arith))) at laid) (λ run is.
-    and_right (has_bit (slice_index w.now.words.snapshot run.page) 0)
-    (not (has_bit (slice_index w.now.words.marks run.page) 0)) (ap not (b.others.marked three run is)))
+    and_right _
+    _ (ap not (b.others.marked three run is)))
 
 end_kind : (c : Config) (w : World) → Before c w → is_phase w.now.words 4 ≡ true → may_end c.pages w.now.words ≡ true
     → LayoutStands c w → Laid c (object_now c w.now) false w (ground_of w)
-end_kind c w b four own laid = ended c (object_now c w.now) w b.lengths.pages (rw four at laid) own
+end_kind c w b four own laid = ended c _ w b.lengths.pages (rw four at laid) own
 
 -- each kind of event, whatever the seat
 pub by_kind : (c : Config) (w : World) (seat : Seat) (x : Step) → Before c w → Meets c w.now seat x → LayoutStands c w

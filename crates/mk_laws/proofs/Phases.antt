@@ -33,4 +33,4 @@ phase_stays c m seat step.Quit no_change = omega arith
 phase_stays c m seat _ no_change = cc
 
 pub over_phase : (c : Config) (m : Moment) (seat : Seat) → Meets c m seat step.Over → phase_of m.words ≡ 0
-over_phase c m seat h = eqb-true (phase_of m.words) 0 (and_parts (host_has_turn c m) (is_phase m.words 0) h.holder).1
+over_phase c m seat h = eqb-true _ 0 (and_parts _ _ h.holder).1

@@ -82,7 +82,7 @@ same_word c a b x e word =
 
 pub points_before : (c : Config) (a b : PlacedAllocation) (v : ℕ) → AreOfOne a b → PointsInto v (storage_of c b)
     → PointsInto v (storage_of c a)
-points_before c a b v e into = (into.0, same_word c a b (heap_word_at v) e into.1)
+points_before c a b v e into = (into.0, same_word c a b _ e into.1)
 
 -- An unreleased allocation after a step came with it, or was there before.
 pub came_behind : (c : Config) (w : World) (seat : Seat) (x : Step) (i : ℕ)

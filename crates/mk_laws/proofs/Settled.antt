@@ -19,9 +19,9 @@ unreleased_stand c es limits laid i u =
     let w : World = left c es in
     let a : PlacedAllocation = placed_at w.allocations i in
     let x : Claim = claim_of c w.now.seats.holding.freed a in
-    let s = all_stand c (object_now c w.now) (is_phase w.now.words 4) w (histories_keep_lengths c es).pages laid i u in
+    let s = all_stand c _ _ w (histories_keep_lengths c es).pages laid i u in
     let shown = laid.scene.shown x
-    (own_claim c (object_now c w.now) (ground_of w) x (claim_among c w.now.seats.holding.freed w.allocations i u))
+    (own_claim c _ (ground_of w) x (claim_among c w.now.seats.holding.freed w.allocations i u))
     in
     record { stands = s.stands; headers = s.headers; used = shown.used }
 
@@ -29,8 +29,8 @@ pub unreleased_are_apart : UnreleasedAreApart
 unreleased_are_apart c es laid i j u v same =
     let w : World = left c es in
     numbers_apart c w.now.seats.holding.freed w.allocations i j
-    (apart_left (claims_of c w.now.seats.holding.freed w.allocations)
-    (claims_placed (object_now c w.now) w.now.seats.holding.placing) laid.scene.apart) u v
+    (apart_left _
+    _ laid.scene.apart) u v
     (ap (λ (x : Cell). x.page) same, ap (λ (x : Cell). x.index) same)
 
 -- A run that is unmapped and wiped is unmapped.
@@ -38,7 +38,7 @@ pub gone_is_unmapped : (w : Words) (freed : Option RunPages) → is_run_gone w f
     → is_freed_unmapped w freed ≡ true
 gone_is_unmapped w None gone = refl
 gone_is_unmapped w (Some run) gone =
-    (and_parts (is_run_unmapped w run) (words_are_zero w (64 * run.page) (64 * run.count)) gone).0
+    (and_parts _ _ gone).0
 
 pub unmapped_run : (w : World) → is_freed_unmapped w.now.words w.now.seats.holding.freed ≡ true → (run : RunPages)
     → w.now.seats.holding.freed ≡ Some run → is_run_unmapped w.now.words run ≡ true
@@ -49,7 +49,7 @@ settled_rests : (c : Config) (w : World) → IsWithinLimits c → length w.now.w
 settled_rests c w limits len laid s = by w.now.seats.holding.placing refl s.placing
   where
     rested : Laid c (object_now c w.now) false w (record (ground_of w) { run = None })
-    rested = gone_terrain c (object_now c w.now) false w (unmapped_run w s.unmapped) (rw s.releasing at laid)
+    rested = gone_terrain c _ false w (unmapped_run w s.unmapped) (rw s.releasing at laid)
 
     rests : (placing : Placing)
         → Laid c (object_now c w.now) false w (record (ground_of w) { run = None; placing = placing })
@@ -65,15 +65,15 @@ settled_rests c w limits len laid s = by w.now.seats.holding.placing refl s.plac
 
     by : (placing : Placing) → w.now.seats.holding.placing ≡ placing → has_place placing ≡ false
         → Rests c w.now.words w.allocations
-    by Unplaced is out = rests Unplaced (at Unplaced is) refl (append-nil (claims_of c None w.allocations))
-    by Granted is out = rests Granted (at Granted is) refl (append-nil (claims_of c None w.allocations))
+    by Unplaced is out = rests Unplaced (at Unplaced is) refl (append-nil _)
+    by Granted is out = rests Granted (at Granted is) refl (append-nil _)
     by _ is out = cc
 
 pub headers_stand : HeadersStand
-headers_stand c es limits laid s = pages_stand c (left c es).now.words (left c es).allocations
+headers_stand c es limits laid s = pages_stand c _ _
     (settled_rests c (left c es) limits (histories_keep_lengths c es).pages laid s)
 
 pub first_fit_is_the_place : FirstFitIsThePlace
 first_fit_is_the_place c es o limits laid s =
-    same_places (left c es).now.words.pages (unreleased_storage c (left c es).allocations) c.resident o.words o.leaf
+    same_places _ _ c.resident o.words o.leaf
     (headers_stand c es limits laid s) ∙ rw (histories_keep_lengths c es).pages

@@ -51,7 +51,7 @@ placed_new c m f place e = (where_some (is_undecided_new f) (place_by_placing c.
     (object_made c f.op) m.seats.holding.placing) (rw e)).0
 
 pub target_free : (pages : ℕ) (w : Words) (f : Flight) → is_some (target pages w f) ≡ true → is_undecided_free f ≡ true
-target_free pages w f h = (where_some (is_undecided_free f) (pointed_cell pages w.pages f.p) h).0
+target_free pages w f h = (where_some _ _ h).0
 
 pub freed_free : (pages : ℕ) (w : Words) (f : Flight) (p v : ℕ) (cell : Cell) → cell_freed pages w f p v ≡ Some cell
     → is_undecided_free f ≡ true
@@ -150,16 +150,15 @@ entered v k o b =
 enter_move : (c : Config) (m : Moment) (k : ℕ) (o : Op) → k < c.callers → standing (flight_of m (Caller k)) ≡ Resting
     → is_under_turn o ≡ false → Moves c m (Caller k) (step.Enter o)
 enter_move c m k o lt was out = elim (cases_eq (slice_index m.words.gates k) 0) [
-  | inl z ↦ rw (eq-eqb (slice_index m.words.gates k) 0 z) (Enters (begun o) lt z was (begun_in_call o out))
-  | inr ne ↦ rw (ne_eqb (slice_index m.words.gates k) 0 ne) (rw (same_both (view_of m) k) Stays)
+  | inl z ↦ rw (eq-eqb _ 0 z) (Enters (begun o) lt z was (begun_in_call o out))
+  | inr ne ↦ rw (ne_eqb _ 0 ne) (rw (same_both (view_of m) k) Stays)
 ]
 
 -- `reg`, in a call outside the turn or of a Free
 reg_move : (c : Config) (m : Moment) (k : ℕ) → k < c.callers → is_reg_stage (flight_of m (Caller k)).stage ≡ true
     → is_astray (standing (flight_of m (Caller k))) ≡ false → Moves c m (Caller k) step.Reg
-reg_move c m k lt is a = with_words c (view_of m) (Caller k) m.words (accessed m.words (word_accessed c m e)
-    (access c m e)) _ m.seats.holding m.seats.markers
-    (reg_keeps m.words k (register_met f f.stage) (reg_access f f.stage))
+reg_move c m k lt is a = with_words c (view_of m) (Caller k) m.words _ _ m.seats.holding m.seats.markers
+    (reg_keeps m.words k _ _)
     (by (standing f) refl (reg_stands f.stage f.op f.q f.p f.r f.loaded (found c m e) is a))
   where
     e : Event
@@ -174,7 +173,7 @@ reg_move c m k lt is a = with_words c (view_of m) (Caller k) m.words (accessed m
 
     by : (s : Standing) → standing (flight_of m (Caller k)) ≡ s → standing g ≡ standing (flight_of m (Caller k))
         → Move c (view_of m) (Caller k) (record (view_of m) { flights = slice_set m.seats.flights k g })
-    by Resting was same = absurd (regs_work (flight_of m (Caller k)).stage (flight_of m (Caller k)).op is was)
+    by Resting was same = absurd (regs_work _ _ is was)
     by InCall was same = GoesOn g lt was (same ∙ was)
     by UnderTurn was same = Works g m.seats.holding (lt, was) (Loads g (loads_under_turn f.stage f.op is was) (same
         ∙ was) (reg_no_new f.stage f.op f.q f.p f.r f.loaded (found c m e) is was))
@@ -199,21 +198,21 @@ onward_from c m k x h own is was =
 pub call_moves : (c : Config) (m : Moment) (k : ℕ) (x : Step) → k < c.callers → group_of x ≡ group.Callers
     → is_astray (standing (flight_of m (Caller k))) ≡ false → Meets c m (Caller k) x → Moves c m (Caller k) x
 call_moves c m k (step.Enter o) lt g a h =
-    let s = at_enter (flight_of m (Caller k)).stage (flight_of m (Caller k)).op o h.order in
+    let s = at_enter _ _ o h.order in
     enter_move c m k o lt (rw s.0) s.1
 call_moves c m k step.Leave lt g a h = Leaves lt (on c m k step.Leave h refl refl a)
 call_moves c m k step.Reg lt g a h =
-    reg_move c m k lt (at_reg (flight_of m (Caller k)).stage (flight_of m (Caller k)).op h.order) a
+    reg_move c m k lt (at_reg _ _ h.order) a
 call_moves c m k step.Probe lt g a h =
     let f = flight_of m (Caller k) in
     let was = on c m k step.Probe h refl refl a in
     GoesOn _ lt was
-    (either_stands (is_unmapped_header (header_of (finds c m (Caller k) step.Probe))) (refused f answer.Fault)
+    (either_stands _ _
     (onward f None) InCall (refused_stands f.stage f.op was) (onward_from c m k step.Probe h refl refl was))
 call_moves c m k step.Read lt g a h =
     let f = flight_of m (Caller k) in
     let was = on c m k step.Read h refl refl a in
-    GoesOn _ lt was (read_stands f f.op (finds c m (Caller k) step.Read) ∙ onward_from c m k step.Read h refl refl was)
+    GoesOn _ lt was (read_stands f f.op _ ∙ onward_from c m k step.Read h refl refl was)
 call_moves c m k step.Write lt g a h = let was =
     on c m k step.Write h refl refl a in GoesOn _ lt was (onward_from c m k step.Write h refl refl was)
 call_moves c m k step.Cas lt g a h = let was =
@@ -313,7 +312,7 @@ works c m seat g i t s = Works g i t (rw (flight_is m seat) at s)
 
 works_on : (c : Config) (m : Moment) (seat : Seat) → HoldsTurn c (view_of m) seat
     → Move c (view_of m) seat (record (view_of m) { flights = flights_with m.seats.flights seat (flight_of m seat) })
-works_on c m seat t = works c m seat (flight_of m seat) m.seats.holding t (Goes m.seats.holding refl refl)
+works_on c m seat t = works c m seat _ m.seats.holding t (Goes m.seats.holding refl refl)
 
 -- its call stays as it is
 same_call : (m : Moment) (seat : Seat) → flights_with m.seats.flights seat (flight_of m seat) ≡ m.seats.flights

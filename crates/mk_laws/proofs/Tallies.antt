@@ -73,19 +73,19 @@ exact_at_give c es seat h meets =
     let known : Known c m = known_left c es h.within_limits h.enabled in
     let gone : Bool = is_run_gone m.words m.seats.holding.freed in
     let held : Bool = m.words.held == held_by_pages m.words in
-    let a = and_parts (is_decided f.stage && gone && held) (m.words.fresh == m.fresh_words) meets.holder in
-    let b = and_parts (is_decided f.stage && gone) held a.0 in
-    let d = and_parts (is_decided f.stage) gone b.0 in
+    let a = and_parts _ _ meets.holder in
+    let b = and_parts _ held a.0 in
+    let d = and_parts _ gone b.0 in
     let settled : IsSettled (left c es) = record {
-      releasing = giving (phase_of m.words) (give_phase (phase_of m.words) meets.phase);
-      placing = false_from_ne_true (has_place m.seats.holding.placing)
+      releasing = giving _ (give_phase _ meets.phase);
+      placing = false_from_ne_true _
           (λ has. decided_no_new f d.0 (placed_undecided c m seat known (giver_has_turn c m seat known meets) has));
       unmapped = gone_is_unmapped m.words m.seats.holding.freed d.1;
     } in
     let shown = pages_show_the_storage c es h settled in
     record {
-      held = eqb-true m.words.held (held_by_pages m.words) b.1
-          ∙ pages_hold_mapped_words m.words.pages (unreleased_storage c (left c es).allocations) shown;
+      held = eqb-true m.words.held _ b.1
+          ∙ pages_hold_mapped_words m.words.pages _ shown;
       fresh = eqb-true m.words.fresh m.fresh_words a.1 ∙ fresh_is_told c es h;
     }
 
@@ -118,7 +118,7 @@ module _ (c : Config) (es : List Event) (e : Event) (nothing : CountsNothing c (
       let ds : List Decided = call_decided c (left c es).now e in
       let m : Moment = (left c es).now in
       let last : fulls_of ds ≡ 0 =
-      entry_fulls (caller_number e.seat) (flight_of m e.seat).op (answer_decided c m e) nothing.no_full in
+      entry_fulls _ _ _ nothing.no_full in
       let pushed : full_answers c (es ++ e ∷ []) ≡ full_answers c es + fulls_of ds =
       ap (λ (xs : List Decided). fulls_of xs) (calls_more c (first_world c) es e) ∙ fulls_append (calls c es) ds in
       omega arith

@@ -33,7 +33,7 @@ alike c w seat step.Reg is =
     let f : Flight = flight_of w.now seat in
     let access = reg_access f f.stage in
     record {
-      tallies = register_leaves_tallies w.now.words (caller_number seat) (register_met f f.stage) access;
+      tallies = register_leaves_tallies w.now.words _ _ access;
       allocations = refl;
     }
 alike c w seat _ is =

@@ -42,7 +42,7 @@ NewsAreTracked c es = (k : ℕ) → k < c.callers → HasNew (left c es) k → T
 -- The event gives no turn back of a caller whose New is undecided after it.
 gives_off : (c : Config) (w : World) (seat : Seat) (x : Step) (k : ℕ) → Known c w.now → k < c.callers
     → HasNew (WorldBehind c w seat x) k → gives_turn (Caller k) (record { seat = seat; step = x }) ≡ false
-gives_off c w (Caller j) x k known lt new = false_from_ne_true ((k == j) && is_give x)
+gives_off c w (Caller j) x k known lt new = false_from_ne_true _
     (λ is. let both = and_parts (k == j) (is_give x) is in by j x (eqb-true k j both.0) both.1 new)
   where
     by : (j : ℕ) (x : Step) → k ≡ j → is_give x ≡ true → HasNew (WorldBehind c w (Caller j) x) k → ⊥
@@ -164,7 +164,7 @@ tracked_behind c es seat x k (WasNew same) all h meets lt new =
           (place_more c es e k o t.turn on _ _ (places_at c w seat x k known meets lt was new)
           (fits_here c es k o h lt was) t.placed);
       cycle =
-          cycle_more t.turn.behind e (phase_of w.now.words) _ w.now.seats.holding.cycle _ (cycle_step c w seat x meets)
+          cycle_more t.turn.behind e _ _ w.now.seats.holding.cycle _ (cycle_step c w seat x meets)
           t.cycle;
     }
   where

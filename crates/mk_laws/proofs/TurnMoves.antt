@@ -35,7 +35,7 @@ record SeesFreed (w : Words) (t : Option Cell) : Type 0 where
 
 sees_freed : (w : Words) (t : Option Cell) (x : Word) → sees_double w t x ≡ true → SeesFreed w t
 sees_freed w (Some cell) (word.Quar p) h =
-    record { cell = cell; is = refl; freed = (and_parts (p == cell.page) (is_freed w cell) h).1 }
+    record { cell = cell; is = refl; freed = (and_parts _ _ h).1 }
 sees_freed w None (word.Quar p) h = cc
 sees_freed w _ _ h = cc
 
@@ -93,7 +93,7 @@ module _ (c : Config) (w : World) (n : NeverState) (known : KnownWorld c w) (mir
       (record (image_scene_of w) { flights = slice_set w.now.seats.flights k (flight stage.Give o q p r l) })
       (Some answer.Full)
   full_by stage.Turn (op.New d ty full) q p r l is next = (
-    goes_bare safe (image_scene_of w) n k _ (rw is) refl,
+    goes_bare safe _ n k _ (rw is) refl,
     λ more. refl,
   )
   full_by _ _ q p r l is next = absurd (false≢true next)

@@ -26,10 +26,10 @@ stays_out c m seat step.Reg p none out = ap (λ (t : Table). is_resident t.pages
 stays_out c m seat (step.Tally n v) p none out =
     ap (λ (t : Table). is_resident t.pages p) (tally_table m.words n v) ∙ out
 stays_out c m seat (step.Used q n) p none out =
-    false_from_ne_true (is_resident (Behind c m seat (step.Used q n)).words.pages p)
+    false_from_ne_true _
     (λ resident. true≢false (sym (resident_used m.words.pages q n p resident) ∙ out))
 stays_out c m seat (step.Head q n) p none out =
-    false_from_ne_true (is_resident (Behind c m seat (step.Head q n)).words.pages p)
+    false_from_ne_true _
     (λ resident. true≢false (sym (was resident) ∙ out))
   where
     zero_there : p ≡ q → n ≡ 0
@@ -80,10 +80,10 @@ module _ (c : Config) (w : World) (n : NeverState) (known : KnownWorld c w) (all
   o = object_placed c a
 
   gone : (a.freed && not (is_small_object o)) ≡ true
-  gone = not_false (a.freed && not (is_small_object o)) (sym (gone_is c a x.unreleased) ∙ x.freed)
+  gone = not_false _ (sym (gone_is c a x.unreleased) ∙ x.freed)
 
   large : is_small_object o ≡ false
-  large = not-true (is_small_object o) (and_parts a.freed (not (is_small_object o)) gone).1
+  large = not-true _ (and_parts a.freed (not (is_small_object o)) gone).1
 
   -- how far the page is after the first one
   record OnRun : Type 0 where
@@ -128,14 +128,14 @@ module _ (c : Config) (w : World) (n : NeverState) (known : KnownWorld c w) (all
           ∙ unmapped_mode (a.freed && not (is_small_object o)) _ o on_run.distance _ gone other has
 
   not_resident : is_resident_in w p ≡ false
-  not_resident = unmapped_use (header_of (header_at w.now.words p)) (used_on w.now.words.pages p)
+  not_resident = unmapped_use _ _
       (ap (λ h. is_unmapped_header (header_of h)) header_there
       ∙ unmapped_is_unmapped (pages_made o) on_run.distance (large_count o sized_shown.sized large) on_run.near)
 
 pub unmapped_runs_take_no_memory : OfHistories UnmappedRunsTakeNoMemory
 unmapped_runs_take_no_memory c es h front more p is x none =
     let before = earlier_part_is_history c front more (subst (λ (xs : List Event). IsHistory c xs) is h) in
-    let out = not_resident c (left c front) (never_behind c front)
+    let out = not_resident c (left c front) _
     (known_world c front before.within_limits before.enabled) (histories_keep_the_invariant c front before) p x in
     ap (λ (xs : List Event). is_resident_in (left c xs) p) is
     ∙ ap (λ (w : World). is_resident_in w p) (left_append c (first_world c) front more)

@@ -49,8 +49,8 @@ give_kind c w seat h z = changed_words c (here w) (record (here w) { run = None 
         let decided : Bool = is_decided (flight_of w.now seat).stage in
         let gone : Bool = is_run_gone w.now.words w.now.seats.holding.freed in
         let counts : Bool = w.now.words.held == held_by_pages w.now.words in
-        let a = and_parts (decided && gone && counts) (w.now.words.fresh == w.now.fresh_words) h.holder in
-        (and_parts decided gone (and_parts (decided && gone) counts a.0).0).1
+        let a = and_parts _ _ h.holder in
+        (and_parts decided gone (and_parts _ counts a.0).0).1
 
 -- `grant` and `begin`
 abbrev with_allocations : World → List PlacedAllocation → ZeroScene
@@ -59,7 +59,7 @@ with_allocations w xs = record (here w) { allocations = xs }
 other_allocations : (c : Config) (w : World) (xs : List PlacedAllocation) → HasZeros c w
     → ((n : ℕ) → IsWordOfMapped c w.allocations n → IsWordOfMapped c xs n) → OthersAreZero c (with_allocations w xs)
 other_allocations c w xs z keeps =
-    changed_words c (here w) (with_allocations w xs) z (λ n ne. ne) (λ n m. OfMapped (keeps n m))
+    changed_words c (here w) _ z (λ n ne. ne) (λ n m. OfMapped (keeps n m))
     (λ n some r. OfReleased r) (λ n some f. OfFreedRun f)
 
 -- `release`
@@ -101,16 +101,16 @@ release_kind c w seat b three z =
 end_kind : (c : Config) (w : World) → may_end c.pages w.now.words ≡ true → HasZeros c w
     → OthersAreZero c (zero_scene_with false w.now.words.marks w)
 end_kind c w own z =
-    changed_words c (here w) (zero_scene_with false w.now.words.marks w) z (λ n ne. ne) (λ n m. OfMapped m)
+    changed_words c (here w) _ z (λ n ne. ne) (λ n m. OfMapped m)
     (λ n some r. absurd (left n r)) (λ n some f. OfFreedRun f)
   where
     left : (n : ℕ) → IsReleasedWord c w.now.words.pages (is_released_there (here w)) n → ⊥
     left n r =
         let lt = (pointed_within c.pages w.now.words (address_of n) r.cell r.pointed).0 in
         let none = (settled_page w.now.words c.pages r.cell.page own lt).none r.cell.index in
-        let is = (and_parts (is_phase w.now.words 4) (is_left_unmarked w.now.words r.cell) r.released).1 in
-        true≢false (sym is ∙ has_bit_without (slice_index w.now.words.snapshot r.cell.page)
-        (slice_index w.now.words.marks r.cell.page) r.cell.index ∙ none)
+        let is = (and_parts (is_phase w.now.words 4) _ r.released).1 in
+        true≢false (sym is ∙ has_bit_without _
+        _ r.cell.index ∙ none)
 
 -- each kind of event, whatever the seat
 pub by_kind : (c : Config) (w : World) (seat : Seat) (x : Step) → Before c w seat x → Meets c w.now seat x
