@@ -2,8 +2,8 @@
 use Rattle.mk_laws.proofs.Vocabulary.{Bool, Caller, Config, Flight, Host, Marker, MeetsAll, Moment, None, Op, Seat}
 use Rattle.mk_laws.proofs.Vocabulary.{Some, Stage, Step, and_parts, ap, cases_Bool, comes_next, eqb-false, eqb-true}
 use Rattle.mk_laws.proofs.Vocabulary.{false, flight_of, group_of, host_has_turn, inl, inr, is_new_at, is_of_turn}
-use Rattle.mk_laws.proofs.Vocabulary.{is_open_to, is_phase, is_undecided_new, is_under_turn, ltb-true, not-true, refl}
-use Rattle.mk_laws.proofs.Vocabulary.{sym, true, ℕ, ◌&&◌, ◌+◌, ◌<◌, ◌∙◌, ◌≡◌, ◌≢◌}
+use Rattle.mk_laws.proofs.Vocabulary.{is_open_to, is_undecided_new, is_under_turn, ltb-true, not-true, refl, sym, true}
+use Rattle.mk_laws.proofs.Vocabulary.{ℕ, ◌&&◌, ◌+◌, ◌<◌, ◌∙◌, ◌≡◌, ◌≢◌}
 use Rattle.mk_never.specs.declared.operations.Op.TheVariants as op
 use Rattle.mk_core.specs.declared.events.Step.TheVariants as step
 use Rattle.mk_core.specs.declared.events.Group.{Group}
@@ -43,8 +43,7 @@ caller_takes : (c : Config) (m : Moment) (k : ℕ) (x : Step) → Meets c m (Cal
 caller_takes c m k (step.Take (Some o)) h t =
     let s = at_take _ _ o h.order in
     CallTakes k o (ltb-true k c.callers h.seat) s.0 s.1
-caller_takes c m k (step.Take None) h t =
-    absurd (at_no_take _ _ h.order)
+caller_takes c m k (step.Take None) h t = absurd (at_no_take _ _ h.order)
 caller_takes c m k _ h t = cc
 
 caller_acts : (c : Config) (m : Moment) (k : ℕ) (x : Step) → Meets c m (Caller k) x
@@ -98,8 +97,7 @@ host_may c m x g t h = by x (host_has_turn c m) g t h
     by _ false g t h = cc
 
 host_takes : (c : Config) (m : Moment) (x : Step) → Meets c m Host x → is_take x ≡ true → Actor c m Host x
-host_takes c m (step.Take None) h t =
-    HostTakes (eqb-false m.words.turn (1 + c.callers) (not-true _ h.order))
+host_takes c m (step.Take None) h t = HostTakes (eqb-false m.words.turn (1 + c.callers) (not-true _ h.order))
 host_takes c m (step.Take (Some o)) h t = absurd (never _ h.order)
 host_takes c m _ h t = cc
 

@@ -1,10 +1,9 @@
 -- What the conditions on gates, phases and markers say.
 use Rattle.mk_laws.proofs.Vocabulary.{Caller, Config, Host, List, Marker, MarkerState, Moment, Seat, Words, []}
-use Rattle.mk_laws.proofs.Vocabulary.{all_below, all_below-at, and_parts, arith, eqb-false, eqb-true, false}
-use Rattle.mk_laws.proofs.Vocabulary.{has_closed_page, holder_number, inl, inr, is_attending, is_held, is_number_of}
-use Rattle.mk_laws.proofs.Vocabulary.{ltb-true, nat_lt, none_attends, not, not-true, or_cases, others_are_held, outside}
-use Rattle.mk_laws.proofs.Vocabulary.{refl, roots_point_well, slice_index, slice_index_or, suc, true, zero, ℕ, ◌&&◌}
-use Rattle.mk_laws.proofs.Vocabulary.{◌<◌, ◌==◌, ◌||◌, ◌∷◌, ◌≡◌, ◌≢◌, ◌≤◌, ◌⊎◌}
+use Rattle.mk_laws.proofs.Vocabulary.{all_below-at, and_parts, arith, eqb-false, eqb-true, false, holder_number, inl}
+use Rattle.mk_laws.proofs.Vocabulary.{inr, is_attending, is_held, is_number_of, ltb-true, nat_lt, none_attends, not}
+use Rattle.mk_laws.proofs.Vocabulary.{not-true, or_cases, others_are_held, outside, refl, slice_index, slice_index_or}
+use Rattle.mk_laws.proofs.Vocabulary.{suc, true, zero, ℕ, ◌&&◌, ◌<◌, ◌==◌, ◌||◌, ◌∷◌, ◌≡◌, ◌≢◌, ◌≤◌, ◌⊎◌}
 use Rattle.mk_core.specs.Moments.{none_is_held}
 use Rattle.mk_core.specs.StopConditions.{may_close}
 use Rattle.mk_laws.proofs.Views.{view_of}
@@ -12,8 +11,7 @@ use Rattle.mk_laws.proofs.ProtocolMoves.{OthersAreHeld}
 
 pub none_held : (c : Config) (w : Words) → none_is_held c.callers w ≡ true → (j : ℕ) → j < c.callers
     → slice_index w.gates j ≢ 2
-none_held c w h j lt = eqb-false _ 2
-    (not-true (is_held w j) (all_below-at c.callers j (λ i. not (is_held w i)) h lt))
+none_held c w h j lt = eqb-false _ 2 (not-true (is_held w j) (all_below-at c.callers j (λ i. not (is_held w i)) h lt))
 
 number_is : (c : Config) (seat : Seat) (j : ℕ) → is_number_of seat j ≡ true → holder_number c seat ≡ j
 number_is c (Caller k) j h = eqb-true k j h
@@ -51,11 +49,8 @@ give_phase n h = elim (or_cases _ (n == 5) h) [
 pub none_at : (xs : List MarkerState) (k : ℕ) → none_attends xs ≡ true
     → is_attending (slice_index_or xs k outside).presence ≡ false
 none_at [] k h = refl
-none_at (x ∷ xs) zero h =
-    not-true _ (and_parts _ _ h).0
+none_at (x ∷ xs) zero h = not-true _ (and_parts _ _ h).0
 none_at (x ∷ xs) (suc k) h = none_at xs k (and_parts _ _ h).1
 
 pub closing_alone : (c : Config) (m : Moment) → may_close c m ≡ true → none_attends m.seats.markers ≡ true
-closing_alone c m h = (and_parts _ _
-    (and_parts _
-    _ h).0).0
+closing_alone c m h = (and_parts _ _ (and_parts _ _ h).0).0

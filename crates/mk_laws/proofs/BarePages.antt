@@ -3,10 +3,10 @@ use Rattle.mk_laws.proofs.Vocabulary.{Among, Claim, Config, HasZeros, IsClaimedR
 use Rattle.mk_laws.proofs.Vocabulary.{IsWordOfMapped, MayHold, Object, OfFreedRun, OfMapped, OfReleased, Option}
 use Rattle.mk_laws.proofs.Vocabulary.{PlacedAllocation, RunPages, RunStands, ShowsPart, World, and_parts, ap, arith}
 use Rattle.mk_laws.proofs.Vocabulary.{cases_eq, claim_of, claims_of, false, ground_of, head_on, header_made, header_of}
-use Rattle.mk_laws.proofs.Vocabulary.{header_on, inl, inr, is_phase, leb-true, ltb-true, made_shows, nat_le, nat_lt}
-use Rattle.mk_laws.proofs.Vocabulary.{object_now, object_placed, pages_made, pages_some, part_head, placed_at, refl}
-use Rattle.mk_laws.proofs.Vocabulary.{shows_on, slice_index, storage_words, subst, sym, used_on, words_made}
-use Rattle.mk_laws.proofs.Vocabulary.{zero_scene_of, ℕ, ◌+◌, ◌-◌, ◌/◌, ◌<◌, ◌∙◌, ◌≡◌, ◌≢◌, ◌≤◌}
+use Rattle.mk_laws.proofs.Vocabulary.{header_on, inl, inr, is_phase, leb-true, ltb-true, made_shows, object_now}
+use Rattle.mk_laws.proofs.Vocabulary.{object_placed, pages_made, pages_some, part_head, placed_at, refl, shows_on}
+use Rattle.mk_laws.proofs.Vocabulary.{slice_index, storage_words, subst, sym, used_on, words_made, zero_scene_of, ℕ}
+use Rattle.mk_laws.proofs.Vocabulary.{◌+◌, ◌-◌, ◌/◌, ◌<◌, ◌∙◌, ◌≡◌, ◌≢◌, ◌≤◌}
 use Rattle.mk_laws.proofs.Basics.{Laid, claim_among, claimed_some, ends_on_pages, mapped_stays, none_released, none_set}
 use Rattle.mk_laws.proofs.Basics.{own_claim}
 use Rattle.mk_laws.proofs.LayoutReadings.{claimed_head}
@@ -97,7 +97,6 @@ plot_page c w first o distance n q plot lt at = elim (plot.headers distance lt) 
         let some = pages_some o plot.sized in
         let zero : first + 0 ≡ first = omega arith in
         let page : x.claim.page ≡ first = sym (claimed_head w.now.words.pages x.claim x.distance shown x.near)
-        ∙ ap (λ p. head_on w.now.words.pages p) (x.at ∙ at)
-        ∙ part_head o distance first _ part in
+        ∙ ap (λ p. head_on w.now.words.pages p) (x.at ∙ at) ∙ part_head o distance first _ part in
         none_set _ x.claim.index
         (ap (λ p. used_on w.now.words.pages p) (page ∙ sym zero) ∙ plot.used 0 (omega arith)) shown.used

@@ -129,8 +129,7 @@ module _ (c : Config) (w : World) (n : NeverState) (known : KnownWorld c w) (mir
     answer = None;
   }) _ (λ z. flies_on safe _ n k o (begun next) was (begun_not_put next) (begun_carries _ next n k)
       (λ past. let y : false ≡ true = sym (begun_unprobed next) ∙ past in cc))
-      (λ z. flies_on safe _ n k o (flight_of w.now (Caller k)) was was (ready.images.carried k)
-      (ready.images.probed k))
+      (λ z. flies_on safe _ n k o (flight_of w.now (Caller k)) was was (ready.images.carried k) (ready.images.probed k))
 
   -- a call that stays where it is
   pub stays : (k : ℕ) (o : Op) → Leads safe (image_scene_of w) n k o
@@ -180,12 +179,10 @@ module _ (c : Config) (w : World) (n : NeverState) (known : KnownWorld c w) (mir
       let lt = ltb-true k c.callers h.seat in
       let x = register_word w.now.words k (register_met f f.stage) in
       rw (reg_registers w.now.words k f f.stage) (rw (reg_globals w.now.words k f f.stage)
-      (rw (reg_heap w.now.words k f f.stage)
-      (reg_leads c.globals safe _ n k ready (there_is k lt) (own_registers k lt)
+      (rw (reg_heap w.now.words k f f.stage) (reg_leads c.globals safe _ n k ready (there_is k lt) (own_registers k lt)
       (own_words k lt) f.stage
       f.op f.q f.p f.r f.loaded x refl (own_d k) (at_reg f.stage f.op h.order) (own_astray k lt)
-      (ready.images.carried k) (λ np. own_plain _ n ready.images k _
-      (register_small_here k f.stage) np) ad)))
+      (ready.images.carried k) (λ np. own_plain _ n ready.images k _ (register_small_here k f.stage) np) ad)))
     where
       register_small_here : (k : ℕ) (s : Stage) → register_met (flight_of w.now (Caller k)) s < 8
       register_small_here k stage.LoadQ = (ready.small k).0

@@ -2,7 +2,7 @@
 use Rattle.mk_laws.proofs.Vocabulary.{Access, AreOfPages, Bool, Caller, Config, DirtyIsOwed, Flight, Host, IsGuarded}
 use Rattle.mk_laws.proofs.Vocabulary.{IsMarking, List, Load, Marker, Moment, Named, OnlyGrow, Op, OwesDirty, Page, Seat}
 use Rattle.mk_laws.proofs.Vocabulary.{Stage, Step, Store, Tally, Words, accessed, and_parts, ap, arith, at_rest}
-use Rattle.mk_laws.proofs.Vocabulary.{caller_number, cases_eq, cases_lt, comes_next, false, flight_of, found, free_page}
+use Rattle.mk_laws.proofs.Vocabulary.{cases_eq, cases_lt, comes_next, false, flight_of, found, free_page}
 use Rattle.mk_laws.proofs.Vocabulary.{get_or-set_other, get_or-set_same, header_at, inl, inr, length, ltb-true, nat_le}
 use Rattle.mk_laws.proofs.Vocabulary.{nat_lt, no_bit, page_met, progress, refl, set_past, slice_index, slice_index_or}
 use Rattle.mk_laws.proofs.Vocabulary.{slice_set, stage_behind, steps_of, subst, sym, tally_word, true, true≢false}
@@ -92,8 +92,7 @@ heap_kind c m (Caller k) step.Write known h y =
     stored c m k step.Write _ y
     (progress c m (flight_of m (Caller k)) (found c m (record { seat = Caller k; step = step.Write }))
     step.Write).flight (omega (arith, lt, known.orderly.flights)) refl refl
-    (ap (λ (s : Stage). stage_behind s (steps_of (flight_of m (Caller k)).op)) at
-    ∙ wrote _ fine) refl
+    (ap (λ (s : Stage). stage_behind s (steps_of (flight_of m (Caller k)).op)) at ∙ wrote _ fine) refl
 heap_kind c m (Caller k) step.Cas known h y =
     let lt = ltb-true k c.callers h.seat in
     let at = at_its_stage _ _ step.Cas refl h.order in
@@ -102,8 +101,7 @@ heap_kind c m (Caller k) step.Cas known h y =
     stored c m k step.Cas _ y
     (progress c m (flight_of m (Caller k)) (found c m (record { seat = Caller k; step = step.Cas })) step.Cas).flight
     (omega (arith, lt, known.orderly.flights)) refl refl
-    (ap (λ (s : Stage). stage_behind s (steps_of (flight_of m (Caller k)).op)) at
-    ∙ swapped _ fine) refl
+    (ap (λ (s : Stage). stage_behind s (steps_of (flight_of m (Caller k)).op)) at ∙ swapped _ fine) refl
 heap_kind c m (Marker k) step.Write known h y = let kind = h.kind in cc
 heap_kind c m Host step.Write known h y = let kind = h.kind in cc
 heap_kind c m (Marker k) step.Cas known h y = let kind = h.kind in cc

@@ -109,8 +109,7 @@ marking_goes_on c w (e ∷ es) on m none =
     record {
       phase = rest.phase;
       none_begins = or_from _ (list_any (λ (x : Event). is_begin x.step) es) one.1 rest.none_begins;
-      none_releases = or_from _ (list_any (λ (x : Event). is_release x.step) es) one.2
-          rest.none_releases;
+      none_releases = or_from _ (list_any (λ (x : Event). is_release x.step) es) one.2 rest.none_releases;
     }
 
 pub record NoneIsReleased (c : Config) (w : World) (es : List Event) : Type 0 where

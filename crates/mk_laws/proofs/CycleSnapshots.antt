@@ -67,23 +67,19 @@ quar_flags c w seat p n i b h laid q u = by (cell_freed c.pages w.now.words (fli
     by (Some cell) is =
         let same : (WorldBehind c w seat (step.Quar p n)).allocations
         ≡ map (freed_where_it_stands w.now.words (Some cell)) w.allocations = rw is in
-        let frees = frees_here c w seat p n cell b h laid
-        (freed_cell c.pages w.now.words _ p n cell is) in
-        let x = before_change c _ w.allocations i
-        (freeing_leaves w.now.words (Some cell)) (rw (← same) u) in
-        Stays x.was (rw same (rw x.now
-        (freed_flags c w cell n i frees q x.was _ refl)))
+        let frees = frees_here c w seat p n cell b h laid (freed_cell c.pages w.now.words _ p n cell is) in
+        let x = before_change c _ w.allocations i (freeing_leaves w.now.words (Some cell)) (rw (← same) u) in
+        Stays x.was (rw same (rw x.now (freed_flags c w cell n i frees q x.was _ refl)))
 
 flags_step : (c : Config) (w : World) (seat : Seat) (x : Step) (i : ℕ) → Before c w → Meets c w.now seat x
     → LayoutStands c w → IsQuarantined c w → is_begin x ≡ false
     → (placed_at (WorldBehind c w seat x).allocations i).released ≡ false → FlagsStep w (WorldBehind c w seat x) i
 flags_step c w seat (step.Quar p n) i b h laid q out u = quar_flags c w seat p n i b h laid q u
 flags_step c w seat step.Begin i b h laid q out u = absurd (true≢false out)
-flags_step c w seat step.Grant i b h laid q out u =
-    elim (pushed_new w.allocations _ i) [
-      | inl old ↦ Stays (rw (← old) u) (rw old)
-      | inr new ↦ IsNew new.1 (rw new.0)
-    ]
+flags_step c w seat step.Grant i b h laid q out u = elim (pushed_new w.allocations _ i) [
+  | inl old ↦ Stays (rw (← old) u) (rw old)
+  | inr new ↦ IsNew new.1 (rw new.0)
+]
 flags_step c w seat step.Release i b h laid q out u =
     let x = before_change c _ w.allocations i (releasing_leaves c w.now.words) u in
     Stays x.was (rw x.now)

@@ -3,17 +3,16 @@
 use Rattle.mk_laws.proofs.Vocabulary.{Answer, AreAdmitted, AreEnabledFrom, Bool, Call, Caller, Cell, Config, Decided}
 use Rattle.mk_laws.proofs.Vocabulary.{Event, Flight, HasAllocation, Host, IsHistory, IsWordOfMapped, List, Marker}
 use Rattle.mk_laws.proofs.Vocabulary.{Moment, None, OfHistories, Op, Option, Seat, Some, Stage, Step, World, []}
-use Rattle.mk_laws.proofs.Vocabulary.{admitted_in_parts, all_below, all_below-at, and_parts, ap, append-nil, arith}
-use Rattle.mk_laws.proofs.Vocabulary.{asked, at_rest, begun, call_decided, calls_from, cases_eq, cases_lt, cell_freed}
-use Rattle.mk_laws.proofs.Vocabulary.{comes_next, decided, earlier_part_is_history, enabled_in_parts, eqb-true, false}
-use Rattle.mk_laws.proofs.Vocabulary.{first_world, flight_of, found, get_or-set_other, get_or-set_same, get_or_past}
-use Rattle.mk_laws.proofs.Vocabulary.{has_closed_page, header_of, if◌then◌else◌, inl, inr, is_heap_store, is_release}
-use Rattle.mk_laws.proofs.Vocabulary.{is_unmapped_header, left, left_from, left_more, length, ltb-true, never_behind}
-use Rattle.mk_laws.proofs.Vocabulary.{none_attends, onward, page_met, phase_of, placed_at, progress, progress_freed}
-use Rattle.mk_laws.proofs.Vocabulary.{progress_p, progress_q, progress_read, progress_reg, refl, refused}
-use Rattle.mk_laws.proofs.Vocabulary.{roots_point_well, sees_double, set_past, slice_index, slice_index_or, slice_set}
-use Rattle.mk_laws.proofs.Vocabulary.{stage_behind, stage_refused, steps_of, still, storage_words, subst, sym, target}
-use Rattle.mk_laws.proofs.Vocabulary.{true, true≢false, word_met, ℕ, ◌&&◌, ◌++◌, ◌==◌, ◌∙◌, ◌∷◌, ◌≡◌, ◌≢◌, ◌⊎◌}
+use Rattle.mk_laws.proofs.Vocabulary.{admitted_in_parts, all_below-at, and_parts, ap, append-nil, arith, asked, at_rest}
+use Rattle.mk_laws.proofs.Vocabulary.{begun, call_decided, calls_from, cases_eq, cases_lt, comes_next, decided}
+use Rattle.mk_laws.proofs.Vocabulary.{earlier_part_is_history, enabled_in_parts, eqb-true, false, first_world}
+use Rattle.mk_laws.proofs.Vocabulary.{flight_of, found, get_or-set_other, get_or-set_same, get_or_past, if◌then◌else◌}
+use Rattle.mk_laws.proofs.Vocabulary.{inl, inr, is_heap_store, is_release, left, left_from, left_more, length, ltb-true}
+use Rattle.mk_laws.proofs.Vocabulary.{never_behind, onward, page_met, phase_of, placed_at, progress, progress_freed}
+use Rattle.mk_laws.proofs.Vocabulary.{progress_p, progress_q, progress_read, progress_reg, refl, refused, set_past}
+use Rattle.mk_laws.proofs.Vocabulary.{slice_index, slice_index_or, slice_set, stage_behind, stage_refused, steps_of}
+use Rattle.mk_laws.proofs.Vocabulary.{still, storage_words, subst, sym, true, true≢false, word_met, ℕ, ◌++◌, ◌==◌, ◌∙◌}
+use Rattle.mk_laws.proofs.Vocabulary.{◌∷◌, ◌≡◌, ◌≢◌, ◌⊎◌}
 use Rattle.mk_laws.proofs.Basics.{Behind, InCall, KeptByEvents, Known, KnownWorld, Meets, Table, WorldBehind, at_first}
 use Rattle.mk_laws.proofs.Basics.{at_its_stage, at_reg, before_it, calls_stand, holds_of_histories, is_astray}
 use Rattle.mk_laws.proofs.Basics.{known_world, mapped_stays, not_astray, reg_table, shows_at, standing, standing_at}
@@ -185,8 +184,7 @@ none_owes c m known three k at = elim (cases_lt k c.callers) [
       let fine = subst (λ (s : Stage). is_astray (standing_at s (flight_of m (Caller k)).op) ≡ false) at
       (not_astray c m known.orderly k lt) in
       let stands : standing (flight_of m (Caller k)) ≡ InCall
-      = ap (λ (s : Stage). standing_at s (flight_of m (Caller k)).op) at
-      ∙ calls_stand stage.Dirty _ refl fine in
+      = ap (λ (s : Stage). standing_at s (flight_of m (Caller k)).op) at ∙ calls_stand stage.Dirty _ refl fine in
       let shows = shows_at c (view_of m) k InCall known.orderly lt stands in
       let one = shows.0 in
       let two = (protocol_of c m known).stopped three k lt shows.1 in
@@ -217,8 +215,7 @@ dirty_since c m seat _ p some = inl some
 -- The step is of a caller that owes the mark.
 owes_now : (c : Config) (m : Moment) (seat : Seat) (x : Step) → Meets c m seat x → is_dirty x ≡ true
     → (k : ℕ) × (seat ≡ Caller k) × ((flight_of m (Caller k)).stage ≡ stage.Dirty)
-owes_now c m (Caller k) step.Dirty h is =
-    (k, refl, at_its_stage _ _ step.Dirty refl h.order)
+owes_now c m (Caller k) step.Dirty h is = (k, refl, at_its_stage _ _ step.Dirty refl h.order)
 owes_now c m (Marker k) step.Dirty h is = let kind = h.kind in cc
 owes_now c m Host step.Dirty h is = let kind = h.kind in cc
 owes_now c m seat _ h is = cc
@@ -251,12 +248,9 @@ was_clean : (c : Config) (w : World) (seat : Seat) (x : Step) → KnownWorld c w
 was_clean c w seat step.Close known h d three p = elim (cases_lt p c.pages) [
   | inr past ↦ get_or_past w.now.words.dirty p 0 (omega (arith, known.lengths.dirty))
   | inl lt ↦
-      let roots = and_parts _
-      _ h.holder in
-      let pages = and_parts _ _
-      roots.0 in
-      let page = and_parts _ (slice_index w.now.words.dirty p == 0)
-      (all_below-at c.pages p _ pages.1 lt) in
+      let roots = and_parts _ _ h.holder in
+      let pages = and_parts _ _ roots.0 in
+      let page = and_parts _ (slice_index w.now.words.dirty p == 0) (all_below-at c.pages p _ pages.1 lt) in
       eqb-true _ 0 page.1
 ]
 was_clean c w seat step.Begin known h d three p = absurd (omega arith)
@@ -282,8 +276,7 @@ module _ (c : Config) (w : World) (seat : Seat) (x : Step) (known : KnownWorld c
           | inl was ↦ absurd (was (was_clean c w seat x known h d closed p))
           | inr marks ↦
               let owes = owes_now c w.now seat x h marks.0 in
-              absurd (none_owes c w.now known.now (sym (not_closing x _ marks.0) ∙ closed) owes.0
-              owes.2)
+              absurd (none_owes c w.now known.now (sym (not_closing x _ marks.0) ∙ closed) owes.0 owes.2)
         ]
   ]
 

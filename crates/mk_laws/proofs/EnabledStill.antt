@@ -4,9 +4,9 @@ use Rattle.mk_laws.proofs.Vocabulary.{AreOfOthers, Block, Bool, Caller, Cell, Co
 use Rattle.mk_laws.proofs.Vocabulary.{Invariant, IsEnabled, IsHistory, IsLeft, IsWordOfMapped, Later, LeafBlock}
 use Rattle.mk_laws.proofs.Vocabulary.{LeafRun, List, Marker, MeetsAll, Moment, NeverState, None, Op, Option, Page}
 use Rattle.mk_laws.proofs.Vocabulary.{PlacedAllocation, Run, Seat, Some, Step, Words, World, [], address_of, and_from}
-use Rattle.mk_laws.proofs.Vocabulary.{ap, arith, caller_number, cases_Bool, cases_eq, cell_ends, cell_words, cells_of}
-use Rattle.mk_laws.proofs.Vocabulary.{cells_under, class_words_of, comes_next, earlier_part_is_history, enabled_meets}
-use Rattle.mk_laws.proofs.Vocabulary.{eq-eqb, eqb-false, eqb-true, false, first_word, flight_of, gives_back, has_bit}
+use Rattle.mk_laws.proofs.Vocabulary.{ap, arith, cases_Bool, cases_eq, cell_ends, cell_words, cells_of, cells_under}
+use Rattle.mk_laws.proofs.Vocabulary.{class_words_of, comes_next, earlier_part_is_history, enabled_meets, eq-eqb}
+use Rattle.mk_laws.proofs.Vocabulary.{eqb-false, eqb-true, false, first_word, flight_of, gives_back, has_bit}
 use Rattle.mk_laws.proofs.Vocabulary.{has_bit_without, has_gates, has_phase, header_at, header_in, heads_run}
 use Rattle.mk_laws.proofs.Vocabulary.{holder_may, host_has_turn, if◌then◌else◌, inl, inr, is_phase, is_released_cell}
 use Rattle.mk_laws.proofs.Vocabulary.{left, ltb-true, nat_le, nat_lt, ne_eqb, no_bit, not, or_left, or_right}
@@ -200,8 +200,7 @@ module _ (c : Config) (w v : World) (n : NeverState) (known : KnownWorld c w) (a
         | inl bit ↦
             let first : ℕ = first_word w.now.words (record { page = p; index = k }) in
             let count : ℕ = cell_words w.now.words (record { page = p; index = k }) in
-            or_right _ _
-            (all_below_on count (λ i. slice_index w.now.words.heap (first + i) == 0)
+            or_right _ _ (all_below_on count (λ i. slice_index w.now.words.heap (first + i) == 0)
             (λ i. slice_index v.now.words.heap (first + i) == 0)
             (λ i li z. ap (λ j. j == 0) (outside (first + i) (released_word p value k i four back bit li)) ∙ z)
             (ap (λ b. not b || words_are_zero w.now.words first count) (sym bit) ∙ e))

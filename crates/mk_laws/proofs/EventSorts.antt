@@ -156,8 +156,7 @@ module _ (c : Config) (w : World) (n : NeverState) (known : KnownWorld c w) (mir
       (record (image_scene_of w) { allocations = map (with_released c w.now.words) w.allocations }) n
   releases = Releases cut_allocations
       (same_places _ w.allocations (released_leaves c w.now.words)) (λ a u. (or_parts _ _
-      (ap (λ (y : PlacedAllocation). y.released)
-      (sym (changed_at _ w.allocations a refl)) ∙ u)).0)
+      (ap (λ (y : PlacedAllocation). y.released) (sym (changed_at _ w.allocations a refl)) ∙ u)).0)
       (λ a. rw (changed_at _ w.allocations a refl)) cut cut_safe
 
 -- what an event leads to, and that what it decides is right

@@ -159,10 +159,9 @@ module _ (c : Config) (es more : List Event) (k : ℕ) (x : Step) (h : IsHistory
         is admitted) in
         let register =
         registers_are_left c es more k h others (q_of f.op) (operands_of c f.op (here.known.now.operands k)).q in
-        probe_still c w v _ _ here.known there.known here.all there.all k
-        lt kept.own.flight (at_probe is)
-        (never_continues c es more) register (admitted_call c.globals _ k f.op answer.Fault out
-        decides) unmapped ∙ sym unmapped
+        probe_still c w v _ _ here.known there.known here.all there.all k lt kept.own.flight (at_probe is)
+        (never_continues c es more) register (admitted_call c.globals _ k f.op answer.Fault out decides) unmapped
+        ∙ sym unmapped
   ]
 
   finds_header : x ≡ step.Probe → is_unmapped_header (header_of (found c v.now (of_caller k x)))
@@ -189,8 +188,7 @@ module _ (c : Config) (es more : List Event) (k : ℕ) (x : Step) (h : IsHistory
   pub caller_asks_the_same : asked (call_decided c v.now (of_caller k x)) ≡ asked (call_decided c w.now (of_caller k x))
   caller_asks_the_same =
       ap (λ (g : Flight). asked (entry_of k g.op (progress c v.now g (found c v.now (of_caller k x)) x).answer))
-      kept.own.flight
-      ∙ asked_the_same c w.now v.now k f _ _ x
+      kept.own.flight ∙ asked_the_same c w.now v.now k f _ _ x
       (record { reg = finds_register; probe = finds_header; look = sees_freed; quar = frees_the_same })
 
   pub caller_is_admitted : AreAdmitted c.globals (never_behind c (es ++ more))

@@ -148,8 +148,7 @@ module _ (c : Config) (w : World) (n : NeverState) (known : KnownWorld c w) (all
       record {
         number = one.number;
         in_range = lt;
-        stands = and_from _ _ (ap not one.unreleased)
-            (eq-eqb a.base _ first);
+        stands = and_from _ _ (ap not one.unreleased) (eq-eqb a.base _ first);
       }
 
   -- What has a word of a run begins where the run does.
@@ -217,8 +216,7 @@ module _ (c : Config) (w : World) (n : NeverState) (known : KnownWorld c w) (all
   ]
 
   free_cells : FreeCellsAreZero c w
-  free_cells quiet cell lt free =
-      cell_is_zero quiet cell lt free _ (le_refl _)
+  free_cells quiet cell lt free = cell_is_zero quiet cell lt free _ (le_refl _)
 
 pub free_cells_are_zero : OfHistories (Leaves FreeCellsAreZero)
 free_cells_are_zero = of_worlds free_cells

@@ -3,10 +3,10 @@ use Rattle.mk_laws.proofs.Vocabulary.{Config, Invariant, IsFreedWord, IsWordOf, 
 use Rattle.mk_laws.proofs.Vocabulary.{NeverState, Object, OfFreedRun, OfHistories, OfMapped, OfReleased, Option}
 use Rattle.mk_laws.proofs.Vocabulary.{PlacedAllocation, RunPages, Some, Words, World, all_below-at, and_parts, ap}
 use Rattle.mk_laws.proofs.Vocabulary.{arith, cases_eq, eqb-true, false, inl, inr, is_run_gone, is_run_unmapped}
-use Rattle.mk_laws.proofs.Vocabulary.{large_words, leb-true, left, ltb-true, nat_le, nat_lt, never_behind}
-use Rattle.mk_laws.proofs.Vocabulary.{object_placed, pages_made, phase_of, placed_at, run_begins, run_of_allocation}
-use Rattle.mk_laws.proofs.Vocabulary.{slice_index, storage_of, storage_words, sym, true, words_are_zero, zero_scene_of}
-use Rattle.mk_laws.proofs.Vocabulary.{ℕ, ◌%◌, ◌*◌, ◌+◌, ◌-◌, ◌/◌, ◌<◌, ◌==◌, ◌∙◌, ◌≡◌, ◌≢◌, ◌≤◌}
+use Rattle.mk_laws.proofs.Vocabulary.{large_words, leb-true, left, ltb-true, object_placed, pages_made, phase_of}
+use Rattle.mk_laws.proofs.Vocabulary.{placed_at, run_begins, run_of_allocation, slice_index, storage_of, sym, true}
+use Rattle.mk_laws.proofs.Vocabulary.{words_are_zero, zero_scene_of, ℕ, ◌%◌, ◌*◌, ◌+◌, ◌-◌, ◌/◌, ◌<◌, ◌==◌, ◌∙◌, ◌≡◌}
+use Rattle.mk_laws.proofs.Vocabulary.{◌≢◌, ◌≤◌}
 use Rattle.mk_laws.proofs.Basics.{KnownWorld, known_world, mapped_stays, none_released}
 use Rattle.mk_core.specs.Cells.{is_in_run}
 use Rattle.mk_laws.proofs.ForImages.{standing}

@@ -142,9 +142,7 @@ module _ (c : Config) (o : Object) (w : World) (cell : Cell) (limits : IsWithinL
   by (inl small) = rw (run_small _ _ cell.page part small)
       (remoded c o false w.now.words.marks (ground_of w) None frees st (modes None (λ i u h large.
       let there = cell_of i u h in
-      let one =
-      one_claim _ _
-      _ st.scene.apart (among i u) (among own.number own.unreleased)
+      let one = one_claim _ _ _ st.scene.apart (among i u) (among own.number own.unreleased)
       (ap (λ (x : Cell). x.page) (there ∙ sym own.is), ap (λ (x : Cell). x.index) (there ∙ sym own.is)) in
       absurd (true≢false (sym small ∙ ap (λ (z : Claim). is_small_object z.object) (sym one) ∙ large)))) tt)
   by (inr large) =
@@ -162,8 +160,7 @@ module _ (c : Config) (o : Object) (w : World) (cell : Cell) (limits : IsWithinL
           let in_cell : stands_in w.now.words cell a ≡ true =
           rw (← own.is) (stands_in_its_cell c w.now.words a limits s.stands s.headers) in
           let freed : PlacedAllocation = record a { freed = true; fresh = true } in
-          let same : freed_where_it_stands w.now.words (Some cell) a ≡ freed =
-          cond-true _ freed a in_cell in
+          let same : freed_where_it_stands w.now.words (Some cell) a ≡ freed = cond-true _ freed a in_cell in
           record {
             claim = claim_of c (Some run) freed;
             among = rw same at (changed_among c (Some run) frees w.allocations own.number

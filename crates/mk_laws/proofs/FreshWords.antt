@@ -16,8 +16,7 @@ pub no_part : (mapped : Bool) (n : ℕ) → (if mapped && false then n else 0) �
 no_part mapped n = ap (λ b. if b then n else 0) (and-false mapped)
 
 pub stale_part : (c : Config) (a : PlacedAllocation) → a.fresh ≡ false → fresh_part c a ≡ 0
-stale_part c a stale =
-    ap (λ b. if is_mapped c a && b then storage_words c a else 0) stale ∙ no_part (is_mapped c a) _
+stale_part c a stale = ap (λ b. if is_mapped c a && b then storage_words c a else 0) stale ∙ no_part (is_mapped c a) _
 
 fresh_cons : (c : Config) (a : PlacedAllocation) (xs : List PlacedAllocation)
     → fresh_words_of c (a ∷ xs) ≡ fresh_part c a + fresh_words_of c xs

@@ -23,8 +23,7 @@ module _ (c : Config) (w v : World) (kept : TurnIsLeft w v) where
   pub others_on : (s : Seat) → others_are_held c.callers w.now.words s ≡ true
       → others_are_held c.callers v.now.words s ≡ true
   others_on s h = all_below_on c.callers (λ j. is_number_of s j || is_held w.now.words j)
-      (λ j. is_number_of s j || is_held v.now.words j) (λ j lt. or_on _ _ (is_number_of s j)
-      _ (λ e. e) (held_on j)) h
+      (λ j. is_number_of s j || is_held v.now.words j) (λ j lt. or_on _ _ (is_number_of s j) _ (λ e. e) (held_on j)) h
 
   none_on : none_is_held c.callers w.now.words ≡ true → none_is_held c.callers v.now.words ≡ true
   none_on h = all_below_on c.callers (λ j. not (is_held w.now.words j))

@@ -70,8 +70,7 @@ granted_terrain c releasing marks t place a used is st =
     was = rw used at st.scene
 
     shown : IsShown t.pages (place_claim (object_placed c a) place)
-    shown = was.shown (place_claim (object_placed c a) place)
-        (among_back (claims_of c t.run t.allocations) _
+    shown = was.shown (place_claim (object_placed c a) place) (among_back (claims_of c t.run t.allocations) _
         _ (inl refl))
 
     begins : BeginsAtCell (object_placed c a) a.base
@@ -87,8 +86,7 @@ granted_terrain c releasing marks t place a used is st =
 
     claims : claims_of c t.run t.allocations ++ place_claim (object_placed c a) place ∷ []
         ≡ claims_of c t.run (t.allocations ++ a ∷ []) ++ []
-    claims = rw (← claim) (sym (pushed_claims c t.run t.allocations a is.unreleased)
-        ∙ sym (append-nil _))
+    claims = rw (← claim) (sym (pushed_claims c t.run t.allocations a is.unreleased) ∙ sym (append-nil _))
 
     gone : (r : Option RunPages) → RunStands (claims_of c t.run t.allocations) r
         → RunStands (claims_of c t.run (t.allocations ++ a ∷ [])) r
@@ -96,8 +94,7 @@ granted_terrain c releasing marks t place a used is st =
     gone (Some r) x =
         record {
           claim = x.claim;
-          among = rw (pushed_claims c t.run t.allocations a is.unreleased)
-              (among_front _ _ x.claim x.among);
+          among = rw (pushed_claims c t.run t.allocations a is.unreleased) (among_front _ _ x.claim x.among);
           page = x.page;
           count = x.count;
           large = x.large;

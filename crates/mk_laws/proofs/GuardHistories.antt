@@ -5,10 +5,9 @@ use Rattle.mk_laws.proofs.Vocabulary.{Words, World, [], access, accessed_lengths
 use Rattle.mk_laws.proofs.Vocabulary.{cells_begin, enabled_meets, eqb-true, false, first_moment, first_page_shows}
 use Rattle.mk_laws.proofs.Vocabulary.{first_word, first_world, has_no_pointers, header_at, header_in, header_made}
 use Rattle.mk_laws.proofs.Vocabulary.{histories_keep_lengths, inl, inr, is_mapped, left, left_from, made_is_mapped}
-use Rattle.mk_laws.proofs.Vocabulary.{not-true, object_placed, pages_some, part_has_no_pointers, phase_of, placed_at}
-use Rattle.mk_laws.proofs.Vocabulary.{storage_of, storage_words, subst, sym, true, typed_size, word_accessed}
-use Rattle.mk_laws.proofs.Vocabulary.{word_points_well, world_behind, zero_lengths, ℕ, ◌+◌, ◌-◌, ◌/◌, ◌∙◌, ◌∷◌, ◌≡◌}
-use Rattle.mk_laws.proofs.Vocabulary.{◌⊎◌}
+use Rattle.mk_laws.proofs.Vocabulary.{not-true, object_placed, pages_some, part_has_no_pointers, placed_at, storage_of}
+use Rattle.mk_laws.proofs.Vocabulary.{storage_words, subst, sym, true, typed_size, word_accessed, word_points_well}
+use Rattle.mk_laws.proofs.Vocabulary.{world_behind, zero_lengths, ℕ, ◌+◌, ◌-◌, ◌/◌, ◌∙◌, ◌∷◌, ◌≡◌, ◌⊎◌}
 use Rattle.mk_laws.proofs.Basics.{Known, known_at_first, known_behind, known_left}
 use Rattle.mk_geom.specs.StorageWords.{cell_of_storage}
 use Rattle.mk_core.specs.ClosedMarks.{is_marked_allocation}

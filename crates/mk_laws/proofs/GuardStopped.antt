@@ -128,8 +128,7 @@ marks_still : (c : Config) (m : Moment) (seat : Seat) (x : Step) → Known c m �
     → (Behind c m seat x).words.marks ≡ m.words.marks
 marks_still c m seat step.Reg known three h = ap (λ (t : Table). t.marks) (reg_table c m seat)
 marks_still c m seat (step.Tally n v) known three h = ap (λ (t : Table). t.marks) (tally_table m.words n v)
-marks_still c m seat (step.Clear p) known three h = let z =
-    eqb-true _ 0 h.phase in absurd (omega arith)
+marks_still c m seat (step.Clear p) known three h = let z = eqb-true _ 0 h.phase in absurd (omega arith)
 marks_still c m seat (step.Mark p v) known three h =
     elim (either_phase (phase_of m.words) 1 2 h.phase) [ inl e ↦ absurd (omega arith) | inr e ↦ absurd (omega arith) ]
 marks_still c m seat step.Mmark known three h = absurd (no_mark c m seat known three h)

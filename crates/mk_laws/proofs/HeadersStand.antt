@@ -8,14 +8,13 @@ use Rattle.mk_laws.proofs.Vocabulary.{PlacedAllocation, ShowsPart, Storage, Word
 use Rattle.mk_laws.proofs.Vocabulary.{cases_Bool, cases_eq, cases_lt, cell_ends, cell_of_allocation, cells_of}
 use Rattle.mk_laws.proofs.Vocabulary.{cells_under, claim_of, claims_of, class_known, class_made, class_words_of, false}
 use Rattle.mk_laws.proofs.Vocabulary.{false_from_ne_true, free_page, get_or, has_bit, header_at, header_made, inl, inr}
-use Rattle.mk_laws.proofs.Vocabulary.{is_mapped, is_released_in, is_small_object, kinds_of, large_cells}
-use Rattle.mk_laws.proofs.Vocabulary.{large_is_not_small, large_words, later_cells, length, mode_of, not, object_placed}
-use Rattle.mk_laws.proofs.Vocabulary.{pages_made, pages_some, placed_at, refl, run_begins, run_header, shows_on}
-use Rattle.mk_laws.proofs.Vocabulary.{slice_index_or, small, small_cells, small_pages, small_words}
-use Rattle.mk_laws.proofs.Vocabulary.{standing_has_storage, stands, stands_on, storage_is_of, storage_of, storage_words}
-use Rattle.mk_laws.proofs.Vocabulary.{subst, suc, sym, taken, true, true≢false, unreleased_storage, used_at, word_of}
-use Rattle.mk_laws.proofs.Vocabulary.{words_within, zero, ℕ, ◌%◌, ◌&&◌, ◌*◌, ◌+◌, ◌-◌, ◌/◌, ◌<◌, ◌^◌, ◌∙◌, ◌∷◌, ◌≡◌}
-use Rattle.mk_laws.proofs.Vocabulary.{◌≤◌, ◌⊎◌}
+use Rattle.mk_laws.proofs.Vocabulary.{is_mapped, is_released_in, is_small_object, large_cells, large_is_not_small}
+use Rattle.mk_laws.proofs.Vocabulary.{large_words, later_cells, length, mode_of, not, object_placed, pages_made}
+use Rattle.mk_laws.proofs.Vocabulary.{pages_some, placed_at, refl, run_begins, run_header, shows_on, slice_index_or}
+use Rattle.mk_laws.proofs.Vocabulary.{small, small_cells, small_pages, small_words, standing_has_storage, stands}
+use Rattle.mk_laws.proofs.Vocabulary.{stands_on, storage_is_of, storage_of, storage_words, subst, suc, sym, taken, true}
+use Rattle.mk_laws.proofs.Vocabulary.{true≢false, unreleased_storage, used_at, word_of, words_within, zero, ℕ, ◌%◌}
+use Rattle.mk_laws.proofs.Vocabulary.{◌&&◌, ◌*◌, ◌+◌, ◌-◌, ◌/◌, ◌<◌, ◌^◌, ◌∙◌, ◌∷◌, ◌≡◌, ◌≤◌, ◌⊎◌}
 use Rattle.mk_laws.proofs.Basics.{claim_among, claimed, claimed_some}
 use Rattle.mk_geom.specs.Storages.{AreLaidOut, PagesStandFor, block_page, class_of_storage, first_page, is_cell_taken}
 use Rattle.mk_geom.specs.Storages.{run_page, run_used, taken_cells, used_word, words_of_storages}
@@ -41,8 +40,7 @@ pub laid_out : (c : Config) (w : Words) (xs : List PlacedAllocation) → Rests c
 laid_out c w xs r =
     record {
       each = λ i d within.
-          let h = storage_is_of c xs (get_or _ i d)
-          (Contains-get_or (unreleased_storage c xs) i d within) in
+          let h = storage_is_of c xs (get_or _ i d) (Contains-get_or (unreleased_storage c xs) i d within) in
           rw h.storage (rw r.lengths (standing_has_storage c _ r.limits
           (standing_of c w xs h.number r h.unreleased).stands));
       apart = lie_in_pairs c xs r.laid.apart (λ i j u v other. lie_apart c w xs i j r u v other);

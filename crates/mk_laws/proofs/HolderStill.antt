@@ -57,8 +57,7 @@ module _ (c : Config) (w v : World) (kept : TurnIsLeft w v) (own : v.now.seats.h
   next_on first count wanted p n h = rw pages h
 
   marked_on : (o : Object) (place : Place) → is_marked_first a o place ≡ true → is_marked_first b o place ≡ true
-  marked_on o place h =
-      or_on _ _ (not (is_phase b 1)) _ (λ e. ap not (phase_is 1) ∙ e) (without_on (bits_made o) _
+  marked_on o place h = or_on _ _ (not (is_phase b 1)) _ (λ e. ap not (phase_is 1) ∙ e) (without_on (bits_made o) _
       _ (kept.marks_grow place.page)) h
 
   carves_on : (f : Flight) (p n : ℕ) → carves a (object_made c f.op) (place_now c w.now f) p n ≡ true
@@ -83,13 +82,8 @@ module _ (c : Config) (w v : World) (kept : TurnIsLeft w v) (own : v.now.seats.h
   head_on f p n h =
       let o : Object = object_made c f.op in
       ap (λ i. if i == 4 then empties b p n else carves b o (place_now c v.now f) p n
-      || unmaps b v.now.seats.holding.freed p n) phase
-      ∙ if_on (is_phase a 4) (empties a p n) _
-      (empties b p n) _
-      (λ four e. empties_same p n ∙ e)
-      (λ off e. or_on _ _
-      _ _
-      (carves_on f p n) (λ u. unmaps_same p n ∙ u) e) h
+      || unmaps b v.now.seats.holding.freed p n) phase ∙ if_on (is_phase a 4) (empties a p n) _ (empties b p n) _
+      (λ four e. empties_same p n ∙ e) (λ off e. or_on _ _ _ _ (carves_on f p n) (λ u. unmaps_same p n ∙ u) e) h
 
   -- `used`
 
@@ -134,12 +128,8 @@ module _ (c : Config) (w v : World) (kept : TurnIsLeft w v) (own : v.now.seats.h
   quarantine_on : (f : Flight) (p n : ℕ) → may_quarantine c w.now f p n ≡ true → may_quarantine c v.now f p n ≡ true
   quarantine_on f p n h =
       ap (λ i. if i == 4 then drops b p (n % 2 ^ 32) (n / 2 ^ 32) else frees b (target c.pages b f) p n
-      || takes_snapshot b p n) phase ∙ if_on (is_phase a 4) _
-      _
-      _ _
-      (λ four e. drops_same p (n % 2 ^ 32) (n / 2 ^ 32) (quiet_at_4 four) ∙ e)
-      (λ off e. or_on _ _
-      _ _
+      || takes_snapshot b p n) phase ∙ if_on (is_phase a 4) _ _ _ _
+      (λ four e. drops_same p (n % 2 ^ 32) (n / 2 ^ 32) (quiet_at_4 four) ∙ e) (λ off e. or_on _ _ _ _
       (λ u. frees_same f p n ∙ u) (λ u. snapshot_same p n ∙ u) e) h
 
   -- `mark`, `wipe`, `full`, `give`
@@ -165,8 +155,7 @@ module _ (c : Config) (w v : World) (kept : TurnIsLeft w v) (own : v.now.seats.h
   gone_run_same n = rw own (rw pages)
 
   wipe_on : (n : ℕ) → may_wipe c w.now n ≡ true → may_wipe c v.now n ≡ true
-  wipe_on n h = or_on _ _ _ _ (λ e. rw pages (some_on _ _ _ released_on e))
-      (λ e. gone_run_same n ∙ e) h
+  wipe_on n h = or_on _ _ _ _ (λ e. rw pages (some_on _ _ _ released_on e)) (λ e. gone_run_same n ∙ e) h
 
   full_same : (f : Flight) → may_answer_full c.resident b.pages (object_made c f.op)
       v.now.seats.holding.placing v.now.seats.holding.cycle
@@ -178,9 +167,7 @@ module _ (c : Config) (w v : World) (kept : TurnIsLeft w v) (own : v.now.seats.h
   give_on f gone h =
       let run : Bool = is_run_gone a w.now.seats.holding.freed in
       let run' : Bool = is_run_gone b v.now.seats.holding.freed in
-      and_on _ _
-      _ _
-      (λ e. and_on _ _ _ _ (λ d. and_on _ run (is_decided f.stage) run' (λ u. u)
+      and_on _ _ _ _ (λ e. and_on _ _ _ _ (λ d. and_on _ run (is_decided f.stage) run' (λ u. u)
       (λ u. ap (λ (x : Holding). is_run_gone b x.freed) own ∙ gone u) d)
       (λ u. ap (λ (s : Steady). s.held == held_by_pages (record a { pages = s.pages })) kept.steady ∙ u) e)
       (λ e. ap (λ (s : Steady). s.fresh == s.fresh_words) kept.steady ∙ e) h
@@ -213,8 +200,7 @@ module _ (c : Config) (w v : World) (kept : TurnIsLeft w v) (own : v.now.seats.h
 
   close_on : phase_of a ≡ 2 → written_of v ≡ written_of w → may_close c w.now ≡ true → may_close c v.now ≡ true
   close_on two written h =
-      let parts = and_parts (none_attends w.now.seats.markers && all_below c.pages (has_closed_page a))
-      _ h in
+      let parts = and_parts (none_attends w.now.seats.markers && all_below c.pages (has_closed_page a)) _ h in
       let none = (and_parts _ _ parts.0).0 in
       let q = stopped two none in
       ap (λ (t : Bool). t && all_below c.pages (has_closed_page b) && roots_point_well c.pages b)
@@ -232,8 +218,7 @@ module _ (c : Config) (w v : World) (kept : TurnIsLeft w v) (own : v.now.seats.h
       → may_black c v.now p n ≡ true
   unfolding may_turn_black
   black_on p n two written h =
-      let none = (and_parts _
-      (not (all_below 32 (λ k. not (blackens c.pages a p n k)))) h).0 in
+      let none = (and_parts _ (not (all_below 32 (λ k. not (blackens c.pages a p n k)))) h).0 in
       ap (λ (t : Bool). t && not (all_below 32 (λ k. not (blackens c.pages b p n k)))) (none_on two none ∙ sym none)
       ∙ ap (λ (ms : List ℕ). none_attends w.now.seats.markers && not (all_below 32
       (λ k. not (blackens c.pages (record b { marks = ms }) p n k)))) (stopped two none).0
@@ -248,8 +233,7 @@ module _ (c : Config) (w v : World) (kept : TurnIsLeft w v) (own : v.now.seats.h
         let two = eqb-true (phase_of a) 2 on in
         let all = ap (λ t. not t || (none_attends w.now.seats.markers && (slice_index a.blacks p == 0)
         && (slice_index a.blacks (head_page a p) == 0))) (sym on) ∙ h in
-        let parts = and_parts _
-        _ all in
+        let parts = and_parts _ _ all in
         let none = (and_parts _ _ parts.0).0 in
         or_right _ _
         (ap (λ (t : Bool). t && (slice_index b.blacks p == 0) && (slice_index b.blacks (head_page b p) == 0))

@@ -5,8 +5,8 @@ use Rattle.mk_laws.proofs.Vocabulary.{Event, ImagePremises, ImagePremisesAlong, 
 use Rattle.mk_laws.proofs.Vocabulary.{Mirrors, NeverState, Null, Ptr, Value, World, [], after_calls, answer_of}
 use Rattle.mk_laws.proofs.Vocabulary.{answered, answers_of, ap, append-nil, append_assoc, arith, asked, at_rest}
 use Rattle.mk_laws.proofs.Vocabulary.{bases_of, call_decided, calls_from, false, first_world, image_of, left, left_from}
-use Rattle.mk_laws.proofs.Vocabulary.{left_more, map-append, never_behind, refl, replies_of, sym, true, world_behind, ℕ}
-use Rattle.mk_laws.proofs.Vocabulary.{◌*◌, ◌++◌, ◌/◌, ◌∙◌, ◌∷◌, ◌≡◌}
+use Rattle.mk_laws.proofs.Vocabulary.{left_more, map-append, refl, replies_of, sym, true, world_behind, ℕ, ◌*◌, ◌++◌}
+use Rattle.mk_laws.proofs.Vocabulary.{◌/◌, ◌∙◌, ◌∷◌, ◌≡◌}
 use Rattle.mk_laws.proofs.Basics.{KnownWorld, at_first, known_world}
 use Rattle.mk_never.specs.Reach.{LeadsTo}
 use Rattle.mk_never.proofs.TypedCalls.{start_is_typed}

@@ -1,7 +1,6 @@
 -- The groups joined: what each is told in one world, and one event.
 use Rattle.mk_laws.proofs.Vocabulary.{AreAdmitted, Config, Event, ImagesSay, Invariant, IsEnabled, LayoutPremises}
-use Rattle.mk_laws.proofs.Vocabulary.{NeverState, World, asked, call_decided, enabled_meets, eqb-true, phase_of}
-use Rattle.mk_laws.proofs.Vocabulary.{world_behind}
+use Rattle.mk_laws.proofs.Vocabulary.{NeverState, World, asked, call_decided, enabled_meets, eqb-true, world_behind}
 use Rattle.mk_laws.proofs.Basics.{KnownWorld}
 use Rattle.mk_laws.proofs.LayoutHistories.{order_behind}
 use Rattle.mk_laws.specs.ImagePremises as images

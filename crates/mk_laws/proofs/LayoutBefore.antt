@@ -1,8 +1,7 @@
 -- What is known of a world before an event, and what is to show after it.
 use Rattle.mk_laws.proofs.Vocabulary.{Among, AreOfPages, Bool, Claim, Config, Flight, Ground, IsWithinLimits}
-use Rattle.mk_laws.proofs.Vocabulary.{LayoutPremises, Seat, Step, World, arith, caller_number, claims_on, false}
-use Rattle.mk_laws.proofs.Vocabulary.{flight_of, ground_of, is_phase, is_released_in, length, ltb-true, nat_lt}
-use Rattle.mk_laws.proofs.Vocabulary.{object_now, reg_access, register_met, true, ℕ, ◌<◌, ◌≡◌}
+use Rattle.mk_laws.proofs.Vocabulary.{LayoutPremises, Seat, Step, World, arith, claims_on, false, flight_of, ground_of}
+use Rattle.mk_laws.proofs.Vocabulary.{is_phase, is_released_in, length, ltb-true, nat_lt, object_now, true, ℕ, ◌<◌, ◌≡◌}
 use Rattle.mk_core.specs.declared.events.Step.TheVariants as step
 use Rattle.mk_laws.proofs.Ground.{KeepsGround, reg_ground}
 use Rattle.mk_laws.proofs.Known.{Known}

@@ -11,11 +11,11 @@ use Rattle.mk_laws.proofs.Vocabulary.{cell_of_allocation, cells_made, cells_unde
 use Rattle.mk_laws.proofs.Vocabulary.{false, first_world, flight_of, free_page, ground_of, has_bit, has_bit_without}
 use Rattle.mk_laws.proofs.Vocabulary.{head_page_under, head_step, header_in, header_made, header_of, header_on}
 use Rattle.mk_laws.proofs.Vocabulary.{heads_run, histories_keep_lengths, inl, inr, is_phase, layout_scene_of, left}
-use Rattle.mk_laws.proofs.Vocabulary.{left_from, length, ltb-true, made_shows, not, object_made, object_now}
-use Rattle.mk_laws.proofs.Vocabulary.{object_placed, pages_made, placed_at, placed_now, quarantine_step, refl}
-use Rattle.mk_laws.proofs.Vocabulary.{seat_exists, shows_on, slice_index, slice_index_or, slice_set, subst, sym, true}
-use Rattle.mk_laws.proofs.Vocabulary.{true≢false, unmapped_header, word_accessed, world_behind, zero_lengths, ℕ, ◌%◌}
-use Rattle.mk_laws.proofs.Vocabulary.{◌-◌, ◌/◌, ◌<◌, ◌^◌, ◌∙◌, ◌∷◌, ◌≡◌}
+use Rattle.mk_laws.proofs.Vocabulary.{left_from, length, ltb-true, made_shows, object_made, object_now, object_placed}
+use Rattle.mk_laws.proofs.Vocabulary.{pages_made, placed_at, placed_now, quarantine_step, refl, seat_exists, shows_on}
+use Rattle.mk_laws.proofs.Vocabulary.{slice_index, slice_index_or, slice_set, subst, sym, true, true≢false}
+use Rattle.mk_laws.proofs.Vocabulary.{unmapped_header, word_accessed, world_behind, zero_lengths, ℕ, ◌%◌, ◌-◌, ◌/◌, ◌<◌}
+use Rattle.mk_laws.proofs.Vocabulary.{◌^◌, ◌∙◌, ◌∷◌, ◌≡◌}
 use Rattle.mk_laws.proofs.Basics.{Before, Known, Meets, WorldBehind, at_first, bit_cases, headed_other}
 use Rattle.mk_laws.proofs.Basics.{is_releasing_behind, known_at_first, known_behind, known_left, made_sized, none_set}
 use Rattle.mk_laws.proofs.Basics.{own_claim, page_within, reg_leaves_ground, tally_ground, used_header, with_header_on}
@@ -97,8 +97,7 @@ quar_kind c w f p n lf four (ItDrops on x) known = λ q k h. elim (bit_cases w.n
   | inl here ↦
       let rest : ℕ = slice_index w.now.words.snapshot p - n / 2 ^ 32 in
       let bit = ap (λ v. has_bit v k) (sym x.is) ∙ sym here.1 ∙ h in
-      let was = (and_parts _ _
-      (sym (has_bit_without _ rest k) ∙ bit)).0 in
+      let was = (and_parts _ _ (sym (has_bit_without _ rest k) ∙ bit)).0 in
       known q k (rw here.0 was)
 ]
 
@@ -107,8 +106,7 @@ known_by_kind : (c : Config) (w : World) (seat : Seat) (x : Step) → Before c w
     → is_releasing_behind x (is_phase w.now.words 4) ≡ true → FreedCellsAreKnown w
     → KnownOn (WorldBehind c w seat x).now.words.pages (WorldBehind c w seat x).now.words.freed
 known_by_kind c w seat (step.Head p n) b h on known =
-    head_kind c w (flight_of w.now seat) p n (page_within c w p b h.range) on
-    (head_step c w.now _ p n h.holder) known
+    head_kind c w (flight_of w.now seat) p n (page_within c w p b h.range) on (head_step c w.now _ p n h.holder) known
 known_by_kind c w seat (step.Used p n) b h on known =
     λ q k bit. rw (used_header w.now.words.pages p n q (page_within c w p b h.range)) (known q k bit)
 known_by_kind c w seat (step.Quar p n) b h on known = quar_kind c w (flight_of w.now seat) p n
@@ -223,8 +221,7 @@ in_order_at_first c =
       words = λ p. subst (λ (x : Page). IsHeaderWord x.header) (sym (at_first c.pages p free_page)) refl;
       runs = λ p h. absurd
           (true≢false (sym h ∙ ap (λ (x : Page). heads_run (header_of x.header)) (at_first c.pages p free_page)));
-      room = let none = count_none c.pages _
-          (λ p. free p) in omega arith;
+      room = let none = count_none c.pages _ (λ p. free p) in omega arith;
     }
   where
     free : (p : ℕ) → is_taken_page (replicate c.pages free_page) NoPlot p ≡ false
@@ -252,8 +249,7 @@ quarantine_behind c w seat x b h laid q =
         → HasQuarantine c r w.now.words.marks (ground_of (WorldBehind c w seat x))
         → HasQuarantine c r (WorldBehind c w seat x).now.words.marks (ground_of (WorldBehind c w seat x))
     marks true is q = rw (releasing_marks c w seat x b.known h is) q
-    marks false is q = unmarked c w.now.words.marks _
-        _ q
+    marks false is q = unmarked c w.now.words.marks _ _ q
 
 -- One event, from the world before it.
 pub order_behind : (c : Config) (w : World) (e : Event) → IsWithinLimits c → AreOfPages c.pages w.now.words

@@ -29,8 +29,7 @@ claimed pages x distance shown lt = header_shows x.object distance _ shown.sized
 
 pub claimed_head : (pages : List Page) (x : Claim) (distance : ℕ) → IsShown pages x → distance < pages_made x.object
     → head_on pages (x.page + distance) ≡ x.page
-claimed_head pages x distance shown lt = part_head x.object distance x.page _
-    (claimed pages x distance shown lt)
+claimed_head pages x distance shown lt = part_head x.object distance x.page _ (claimed pages x distance shown lt)
 
 -- so its head has a used bit
 pub claimed_used : (pages : List Page) (x : Claim) (distance : ℕ) → IsShown pages x → distance < pages_made x.object
@@ -40,8 +39,7 @@ claimed_used pages x distance shown lt z =
 
 pub claimed_some : (pages : List Page) (x : Claim) (distance : ℕ) → IsShown pages x → distance < pages_made x.object
     → header_on pages (x.page + distance) ≢ 0
-claimed_some pages x distance shown lt = part_not_free x.object distance _
-    (claimed pages x distance shown lt)
+claimed_some pages x distance shown lt = part_not_free x.object distance _ (claimed pages x distance shown lt)
 
 -- a page without cells has no used bit
 pub cellless_unused : (s : LayoutScene) (p : ℕ) → IsLaidOn s → cells_under (shows_on s.pages p) ≡ 0

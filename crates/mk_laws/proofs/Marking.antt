@@ -3,8 +3,7 @@ use Rattle.mk_laws.proofs.Vocabulary.{AreEnabledFrom, Config, Event, IsHistory, 
 use Rattle.mk_laws.proofs.Vocabulary.{[], ap, append-nil, append_assoc, arith, before_close, earlier_part_is_history}
 use Rattle.mk_laws.proofs.Vocabulary.{enabled_in_parts, enabled_meets, eqb-true, false, first_world, flight_of, inl}
 use Rattle.mk_laws.proofs.Vocabulary.{is_begin, is_close, is_release, left, left_more, list_any, never_behind, or_from}
-use Rattle.mk_laws.proofs.Vocabulary.{or_parts, phase_of, refl, subst, sym, through, world_behind, ℕ, ◌++◌, ◌∙◌, ◌∷◌}
-use Rattle.mk_laws.proofs.Vocabulary.{◌≡◌}
+use Rattle.mk_laws.proofs.Vocabulary.{or_parts, refl, subst, sym, through, world_behind, ℕ, ◌++◌, ◌∙◌, ◌∷◌, ◌≡◌}
 use Rattle.mk_laws.proofs.Basics.{Meets, WorldBehind, begin_is, known_world}
 use Rattle.mk_core.specs.Cycles.{NoneSweepsFrom, sweeps}
 use Rattle.mk_core.specs.Touched.{IsTouched, LeadsToMoment, by_global, by_register, by_word}
@@ -113,8 +112,7 @@ along c es k done (e ∷ rest) is h none unswept at =
     record {
       at = end.at;
       begun = or_from _ (list_any (λ (x : Event). is_begin x.step) rest) on.begun end.begun;
-      released = or_from _
-          (list_any (λ (x : Event). is_release x.step) rest) on.released end.released;
+      released = or_from _ (list_any (λ (x : Event). is_release x.step) rest) on.released end.released;
     }
 
 -- after the `begin`

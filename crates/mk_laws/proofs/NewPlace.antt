@@ -46,8 +46,7 @@ first_fits resident pages o place is large =
 in_fits : (c : Config) (pages : List Page) (o : Op) (placing : Placing) (place : Place) → length pages ≡ c.pages
     → ((y : Place) → held_place placing ≡ Some y → PlaceFits c o y)
     → place_by_placing c.resident pages (object_made c o) placing ≡ Some place → PlaceFits c o place
-in_fits c pages o Unplaced place count held is =
-    λ large. rw count at (first_fits c.resident pages _ place is large)
+in_fits c pages o Unplaced place count held is = λ large. rw count at (first_fits c.resident pages _ place is large)
 in_fits c pages o Granted place count held is = cc
 in_fits c pages o _ place count held is = held place is
 

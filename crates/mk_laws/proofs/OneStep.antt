@@ -9,7 +9,7 @@ use Rattle.mk_laws.proofs.Vocabulary.{header_in, if◌then◌else◌, image_of, 
 use Rattle.mk_laws.proofs.Vocabulary.{is_number_of, is_put, is_unmarked, ltb-true, marker_of, nat_lt, no_bit, none-some}
 use Rattle.mk_laws.proofs.Vocabulary.{nothing_done, or_cases, or_else, placed_at, pointed_cell, refl, register_word}
 use Rattle.mk_laws.proofs.Vocabulary.{same_Some, slice_index, slice_index_or, subst, sym, true, true≢false, word_points}
-use Rattle.mk_laws.proofs.Vocabulary.{ℕ, ◌%◌, ◌&&◌, ◌*◌, ◌+◌, ◌/◌, ◌==◌, ◌∙◌, ◌≡◌, ◌≢◌, ◌≤◌, ◌⊎◌}
+use Rattle.mk_laws.proofs.Vocabulary.{ℕ, ◌%◌, ◌&&◌, ◌*◌, ◌+◌, ◌/◌, ◌∙◌, ◌≡◌, ◌≢◌, ◌≤◌, ◌⊎◌}
 use Rattle.mk_laws.proofs.Basics.{Behind, KnownWorld, Meets, WorldBehind, view_of}
 use Rattle.mk_core.specs.Effects.{hand_given, hand_of_cell, is_in_stop, is_mapped_cell}
 use Rattle.mk_core.specs.declared.events.Step.TheVariants as step

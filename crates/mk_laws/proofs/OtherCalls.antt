@@ -25,9 +25,7 @@ calls_not_by : (c : Config) (w : World) (es : List Event) (k : ℕ) → AreOfOth
 unfolding calls_from AreOfOthers
 calls_not_by c w [] k others = tt
 calls_not_by c w (e ∷ es) k others = subst (λ (xs : List Call). AreNotBy k xs)
-    (sym (map-append (λ (x : Decided). record { caller = x.caller; op = x.op }) _
-    _))
-    (both_not_by k _ _
+    (sym (map-append (λ (x : Decided). record { caller = x.caller; op = x.op }) _ _)) (both_not_by k _ _
     (call_not_by c w e.seat e.step k (other_seat (Caller k) e.seat others.0))
     (calls_not_by c (world_behind c w e) es k others.1))
 

@@ -86,10 +86,8 @@ entered w k o b = with_words_seats w (record w.now.words
 
 enter_out : (c : Config) (w : World) (k : ℕ) (o : Op) → k < c.callers → Outs c w (Caller k) (step.Enter o)
 enter_out c w k o lt = elim (cases_eq (slice_index w.now.words.gates k) 0) [
-  | inl z ↦
-      rw (eq-eqb _ 0 z) (Calls (begun o) lt (omega arith) (SetsGate 1 (omega arith)))
-  | inr ne ↦
-      rw (ne_eqb _ 0 ne) (rw (set-get_or w.now.words.gates k 0) (waits_flight c w k))
+  | inl z ↦ rw (eq-eqb _ 0 z) (Calls (begun o) lt (omega arith) (SetsGate 1 (omega arith)))
+  | inr ne ↦ rw (ne_eqb _ 0 ne) (rw (set-get_or w.now.words.gates k 0) (waits_flight c w k))
 ]
 
 -- the turn is held, so nobody takes it

@@ -1,7 +1,6 @@
 -- The phase that a condition names, and the phase after a step.
-use Rattle.mk_laws.proofs.Vocabulary.{Bool, Config, Moment, Seat, Step, and_parts, ap, arith, eqb-true, false}
-use Rattle.mk_laws.proofs.Vocabulary.{host_has_turn, inl, inr, is_phase, or_cases, phase_of, true, ℕ, ◌%◌, ◌==◌, ◌||◌}
-use Rattle.mk_laws.proofs.Vocabulary.{◌≡◌, ◌⊎◌}
+use Rattle.mk_laws.proofs.Vocabulary.{Bool, Config, Moment, Seat, Step, and_parts, ap, arith, eqb-true, false, inl, inr}
+use Rattle.mk_laws.proofs.Vocabulary.{or_cases, phase_of, true, ℕ, ◌%◌, ◌==◌, ◌||◌, ◌≡◌, ◌⊎◌}
 use Rattle.mk_core.specs.declared.events.Step.TheVariants as step
 use Rattle.mk_laws.proofs.Actors.{Meets}
 use Rattle.mk_laws.proofs.SameWords.{Behind}

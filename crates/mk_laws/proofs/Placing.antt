@@ -198,8 +198,7 @@ module _ (s : LayoutScene) (x : Claim) (n : ℕ) (laid : IsLaidOn s) (t : Takes 
   same_bit : (q k : ℕ) → (q ≡ x.page → k ≢ x.index) → has_bit (used_on after q) k ≡ has_bit (used_on s.pages q) k
   same_bit q k other = elim (cases_eq q x.page) [
     | inr ne ↦ rw (used_other s.pages x.page n q ne)
-    | inl e ↦ rw e (rw (used_here s.pages x.page n lt ∙ t.value)
-        (added_other _ x.index k t.unset (other e) ∙ rw (← e)))
+    | inl e ↦ rw e (rw (used_here s.pages x.page n lt ∙ t.value) (added_other _ x.index k t.unset (other e) ∙ rw (← e)))
   ]
 
   grow : (q k : ℕ) → has_bit (used_on s.pages q) k ≡ true → has_bit (used_on after q) k ≡ true
@@ -229,8 +228,7 @@ module _ (s : LayoutScene) (x : Claim) (n : ℕ) (laid : IsLaidOn s) (t : Takes 
   cells_here =
       let zero : x.page + 0 ≡ x.page = omega arith in
       let o = some_pages in
-      rw (← zero) (rw (t.headers 0 (omega arith))
-      (part_cells x.object _ (made_shows x.object 0 t.sized (omega arith))))
+      rw (← zero) (rw (t.headers 0 (omega arith)) (part_cells x.object _ (made_shows x.object 0 t.sized (omega arith))))
 
   used : (p k : ℕ) → has_bit (used_on after p) k ≡ true → IsTakenCell (Taken s x n) p k
   used p k h = elim (both (cases_eq p x.page) (cases_eq k x.index)) [
@@ -263,8 +261,7 @@ module _ (s : LayoutScene) (x : Claim) (n : ℕ) (laid : IsLaidOn s) (t : Takes 
   unused : (q : ℕ) → used_on after (head_on after q) ≡ 0 → used_on s.pages (head_on s.pages q) ≡ 0
   unused q empty =
       let head : head_on after q ≡ head_on s.pages q = rw (used_header s.pages x.page n q lt) in
-      zero_where_none _ (λ k h. none_set _ k
-      (rw (← head) empty) (grow _ k h))
+      zero_where_none _ (λ k h. none_set _ k (rw (← head) empty) (grow _ k h))
 
   -- a page of the place has its head's bit now
   full : (q : ℕ) → InPlot (Plotted x.page x.object) q → used_on after (head_on after q) ≡ 0 → ⊥

@@ -6,7 +6,6 @@ use Rattle.mk_laws.proofs.Vocabulary.{has_no_pointers, header_of, image_of, is_l
 use Rattle.mk_laws.proofs.Vocabulary.{marker_of, placed_at, shows_on, slice_index, slice_index_or, storage_of}
 use Rattle.mk_laws.proofs.Vocabulary.{storage_words, true, ℕ, ◌+◌, ◌/◌, ◌<◌, ◌≡◌, ◌≢◌, ◌≤◌}
 use Rattle.mk_laws.proofs.Basics.{Came, Meets, WorldBehind}
-use Rattle.mk_geom.specs.Addresses.{heap_word_at}
 use Rattle.mk_core.specs.Cycles.{sweeps}
 use Rattle.mk_core.specs.Touched.{IsWordOfAllocation}
 use Rattle.mk_laws.proofs.AllocationSteps.{AreOfOne, allocation_step, came}

@@ -90,8 +90,7 @@ releasing_goes_on c start more e h other at =
     record {
       phase = subst (λ (v : World). phase_of v.now.words ≡ 4) left_is waits.phase;
       older = subst (λ (v : World). AreOlder (left c start).allocations v.allocations) left_is
-          (older_joined _ w.allocations _ at.older
-          (older_behind c w e.seat e.step waits.granted));
+          (older_joined _ w.allocations _ at.older (older_behind c w e.seat e.step waits.granted));
     }
 
 -- what the `release`, and what comes up to the `end`, leave of the allocations before

@@ -32,7 +32,7 @@ use Rattle.mk_laws.proofs.OthersMoves.{gate_one, others_move}
 use Rattle.mk_laws.proofs.Growth.{grows_same, grows_joined}
 use Rattle.mk_laws.proofs.TurnFrame.{holding_out, turn_after, turn_same, turn_joined}
 use Rattle.mk_laws.proofs.HeaderSteps.{header_step, stays_mapped}
-use Rattle.mk_laws.proofs.Colours.{colours_of, colour_step, attending_grows}
+use Rattle.mk_laws.proofs.Colours.{colour_step, attending_grows}
 use Rattle.mk_laws.proofs.OthersCounts.{counts_nothing, fulls_of, entry_fulls, fulls_append}
 
 -- What an event may do to registers: each caller's are its own.
@@ -168,8 +168,7 @@ stop_out c w seat s v (Marks {k} y {x} lt write) ne holds all =
 scan_after : (c : Config) (w : World) (seat s : Seat) (x : Step) → Known c w.now → Meets c w.now seat x
     → Attends w.now s → OnlyGrow w.now.words.marks (WorldBehind c w seat x).now.words.marks
     × OnlyGrow w.now.words.blacks (WorldBehind c w seat x).now.words.blacks
-scan_after c w seat (Marker k) x known h a =
-    attending_grows c w.now seat _ k (known.orderly.attends k a) a
+scan_after c w seat (Marker k) x known h a = attending_grows c w.now seat _ k (known.orderly.attends k a) a
     (colour_step c w.now seat x h)
 scan_after c w seat _ x known h a = absurd a
 
@@ -181,8 +180,7 @@ left_after c w seat s x known h ne =
       own = own_after c w seat s x known h ne;
       mapped = mapped_after c w seat s x known h ne;
       turn = λ holds. turn_after c w seat _ known (others_out c w seat s x known h ne holds);
-      stop = λ all. stop_out c w seat s _ (others_out c w seat s x known h ne all.0) ne all.0
-          all.1;
+      stop = λ all. stop_out c w seat s _ (others_out c w seat s x known h ne all.0) ne all.0 all.1;
       scan = scan_after c w seat s x known h;
     }
 
@@ -317,8 +315,7 @@ is_left c s es more l known counts =
     record {
       own = l.own;
       in_call = λ k is call. record {
-        gate = (in_call_gate c _ k known (rw is at
-            (still_calls c s (left c es) _ l.own call))).1;
+        gate = (in_call_gate c _ k known (rw is at (still_calls c s (left c es) _ l.own call))).1;
         mapped = l.mapped call;
       };
       turn = λ holds. (l.turn holds, counts holds);

@@ -10,8 +10,7 @@ use Rattle.mk_core.specs.HeldGates.{is_hold_of, changes_gate, is_gate_held_from,
 
 -- a gate that changes has the value that was set
 unchanged : (gs : List ℕ) (i : ℕ) → not (slice_index gs i == slice_index gs i) ≡ true → ⊥
-unchanged gs i h = let e : true ≡ false = sym (eq-eqb _ _ refl)
-    ∙ not-true _ h in cc
+unchanged gs i h = let e : true ≡ false = sym (eq-eqb _ _ refl) ∙ not-true _ h in cc
 
 record Changed (gs : List ℕ) (j x i : ℕ) : Type 0 where
   same : i ≡ j
@@ -24,8 +23,7 @@ changed gs j x i h = elim (cases_eq i j) [
   | inl e ↦ elim (cases_lt j (length gs)) [
     | inl lt ↦
         let now : slice_index (slice_set gs j x) i ≡ x = rw e (get_or-set_same gs j x 0 lt) in
-        let ne = eqb-false _ _
-        (not-true _ h) in
+        let ne = eqb-false _ _ (not-true _ h) in
         record { same = e; now = now; other = λ old. ne (now ∙ old ∙ ap (λ k. slice_index gs k) (sym e)) }
     | inr past ↦ absurd (unchanged gs i (rw (set_past gs j x past) at h))
   ]
@@ -81,8 +79,7 @@ held_behind c w e i held is = by (changes_gate i w (world_behind c w e)) refl
     by false h = is ∙ elim
         (cases_eq (slice_index (world_behind c w e).now.words.gates i) (slice_index w.now.words.gates i)) [
           | inl same ↦ rw (← same)
-          | inr ne ↦ let x : false ≡ true = sym h ∙ ap not (ne_eqb _
-              _ ne)
+          | inr ne ↦ let x : false ≡ true = sym h ∙ ap not (ne_eqb _ _ ne)
               in cc
         ]
 

@@ -110,8 +110,7 @@ works_shown : (c : Config) (v : View) (seat : Seat) (f : Flight) (i : Holding) �
     → Service (flight_at v.flights seat) v.holding f i
     → AllShow c.callers v.turn v.gates (flights_with v.flights seat f)
 works_shown c v seat f i h t s = all_but_seat c v.turn seat v.gates v.flights f
-    (holder_shows c v seat f h t (λ is. service_stands _ v.holding f i is s))
-    (λ b lb ne. h.each b lb)
+    (holder_shows c v seat f h t (λ is. service_stands _ v.holding f i is s)) (λ b lb ne. h.each b lb)
 
 -- a gate of another is set
 gate_shown : (c : Config) (v : View) (j x : ℕ) → c.callers ≤ 16 → Orderly c v → j < c.callers

@@ -45,8 +45,7 @@ phase_tells c m p =
     record {
       low = p.low;
       high = p.high;
-      none_in = λ z k. none k
-          (λ a. let one = in_counts c m k p (attending_in _ a) in absurd (omega arith));
+      none_in = λ z k. none k (λ a. let one = in_counts c m k p (attending_in _ a) in absurd (omega arith));
       attends = λ n1 n2 k. none k (λ a. elim (p.attends k a) [ inl e ↦ n1 e | inr e ↦ n2 e ]);
       under_the_turn = p.cycle;
       stopped = p.stopped;

@@ -5,11 +5,11 @@ use Rattle.std.proofs.lemmas.Nat.Bits.{bit_at_and, same_from_bits}
 use Rattle.mk_laws.proofs.Vocabulary.{Among, Bool, Cell, Chosen, Claim, Config, Drops, Granted, Ground, HasQuarantine}
 use Rattle.mk_laws.proofs.Vocabulary.{IsFreedCell, List, Object, Option, Page, Place, Placing, RunPages, Unplaced, Used}
 use Rattle.mk_laws.proofs.Vocabulary.{World, and_parts, and_right, ap, arith, bit_at, cases_Bool, cases_eq}
-use Rattle.mk_laws.proofs.Vocabulary.{cell_of_allocation, claims_of, claims_on, claims_placed, false}
-use Rattle.mk_laws.proofs.Vocabulary.{false_from_ne_true, fewer_bits, get_or-set_other, get_or-set_same, ground_of}
-use Rattle.mk_laws.proofs.Vocabulary.{has_bit, has_bit_without, inl, inr, is_released_in, length, not, not-true}
-use Rattle.mk_laws.proofs.Vocabulary.{placed_at, refl, slice_index, slice_set, sym, true, true≢false, used_on, without}
-use Rattle.mk_laws.proofs.Vocabulary.{ℕ, ◌&&◌, ◌-◌, ◌<◌, ◌^◌, ◌∙◌, ◌≡◌, ◌≢◌, ◌≤◌, ◌⊎◌}
+use Rattle.mk_laws.proofs.Vocabulary.{cell_of_allocation, claims_on, claims_placed, false, false_from_ne_true}
+use Rattle.mk_laws.proofs.Vocabulary.{fewer_bits, get_or-set_other, get_or-set_same, ground_of, has_bit}
+use Rattle.mk_laws.proofs.Vocabulary.{has_bit_without, inl, inr, is_released_in, length, not, not-true, placed_at, refl}
+use Rattle.mk_laws.proofs.Vocabulary.{slice_index, slice_set, sym, true, true≢false, used_on, without, ℕ, ◌&&◌, ◌-◌}
+use Rattle.mk_laws.proofs.Vocabulary.{◌<◌, ◌^◌, ◌∙◌, ◌≡◌, ◌≢◌, ◌≤◌, ◌⊎◌}
 use Rattle.mk_core.proofs.PageSteps.{left_bits}
 use Rattle.mk_core.proofs.WordBits.{rest_bits}
 use Rattle.mk_laws.proofs.Claims.{claim_is}
@@ -102,8 +102,7 @@ module _ (c : Config) (w : World) (p f n : ℕ) (lf : p < length w.now.words.fre
           | inl h ↦ sym h.1 ∙ x
           | inr o ↦ absurd (o.0 here.0)
         ] in
-        let out = rest_bit n _ k d.fewer
-        ∙ and_right _ _ (ap not bit) in
+        let out = rest_bit n _ k d.fewer ∙ and_right _ _ (ap not bit) in
         let was = ap (λ j. has_bit (slice_index w.now.words.freed j) k) (sym here.0) ∙ q.within i k (was_snap i k x) in
         here.1 ∙ f_bit k ∙ and_both _ _ was out
   ]
@@ -118,8 +117,7 @@ module _ (c : Config) (w : World) (p f n : ℕ) (lf : p < length w.now.words.fre
         let was = ap (λ j. has_bit (slice_index w.now.words.freed j) k) (sym here.0) ∙ x in
         let none = false_from_ne_true _ (λ r.
         let bits = left_bits w.now.words p rest k d.left r in
-        true≢false (sym (and_both _
-        _ bits.0 bits.1) ∙ rw (← here.0) out)) in
+        true≢false (sym (and_both _ _ bits.0 bits.1) ∙ rw (← here.0) out)) in
         here.1 ∙ f_bit k ∙ and_both _ _ was none
   ]
 
@@ -134,13 +132,11 @@ module _ (c : Config) (w : World) (p f n : ℕ) (lf : p < length w.now.words.fre
           | inl h ↦ sym h.1 ∙ x
           | inr o ↦ absurd (o.0 here.0)
         ] in
-        let out = (and_parts _
-        _ (sym (f_bit k) ∙ bit)).1 in
+        let out = (and_parts _ _ (sym (f_bit k) ∙ bit)).1 in
         let there = ap (λ j. has_bit (slice_index w.now.words.snapshot j) k) (sym here.0) ∙ was in
         here.1 ∙ elim (cases_Bool (has_bit n k)) [
           | inl is ↦ is
-          | inr gone ↦ absurd (true≢false (sym (rest_bits n _ k d.fewer there gone)
-              ∙ not-true _ out))
+          | inr gone ↦ absurd (true≢false (sym (rest_bits n _ k d.fewer there gone) ∙ not-true _ out))
         ]
   ]
 
@@ -156,8 +152,7 @@ module _ (c : Config) (w : World) (p f n : ℕ) (lf : p < length w.now.words.fre
         | inl o ↦ inl o
         | inr r ↦
             let bits = released_bits w.now.words.snapshot w.now.words.marks i k r in
-            inr (and_both _
-            _ (still_released i k x bits.0) bits.1)
+            inr (and_both _ _ (still_released i k x bits.0) bits.1)
       ]
 
   pub drop_kept : HasQuarantine c true w.now.words.marks
@@ -264,12 +259,11 @@ take_kept c marks t pages place used unset q =
     }
   where
     clear : has_bit (slice_index t.freed place.page) place.index ≡ false
-    clear = false_from_ne_true _
-        (λ h. elim (q.owned place.page place.index h) [
-          | inr r ↦ true≢false (sym r)
-          | inl o ↦ true≢false (sym (used o.number o.unreleased)
-              ∙ ap (λ (x : Cell). has_bit (used_on t.pages x.page) x.index) o.cell ∙ unset)
-        ])
+    clear = false_from_ne_true _ (λ h. elim (q.owned place.page place.index h) [
+      | inr r ↦ true≢false (sym r)
+      | inl o ↦ true≢false (sym (used o.number o.unreleased)
+          ∙ ap (λ (x : Cell). has_bit (used_on t.pages x.page) x.index) o.cell ∙ unset)
+    ])
 
 -- what the layout asks of the quarantine while cells are released
 pub none_released : (c : Config) (o : Object) (marks : List ℕ) (t : Ground) → HasQuarantine c true marks t → (x : Claim)

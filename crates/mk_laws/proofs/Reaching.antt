@@ -3,8 +3,8 @@ use Rattle.mk_laws.proofs.Vocabulary.{Bool, Caller, Config, Flight, Holding, Hol
 use Rattle.mk_laws.proofs.Vocabulary.{Op, Placing, Seat, Stage, Step, Tally, Word, access, and_parts, ap, arith}
 use Rattle.mk_laws.proofs.Vocabulary.{caller_number, enabled_meets, false, flight_of, has_next_word, holder_number}
 use Rattle.mk_laws.proofs.Vocabulary.{is_new_at, is_none, is_number_of, is_scanned, is_under_turn, left, ltb-true}
-use Rattle.mk_laws.proofs.Vocabulary.{marker_at, nat_le, nat_lt, not, outside, page_met, refl, seat_exists, tally_word}
-use Rattle.mk_laws.proofs.Vocabulary.{true, word_accessed, word_met, ℕ, ◌&&◌, ◌*◌, ◌++◌, ◌<◌, ◌∙◌, ◌≡◌, ◌≤◌}
+use Rattle.mk_laws.proofs.Vocabulary.{marker_at, nat_lt, not, outside, page_met, refl, seat_exists, tally_word, true}
+use Rattle.mk_laws.proofs.Vocabulary.{word_accessed, word_met, ℕ, ◌&&◌, ◌*◌, ◌++◌, ◌<◌, ◌∙◌, ◌≡◌, ◌≤◌}
 use Rattle.mk_laws.proofs.Basics.{Known, Meets, grants_new, is_grant, known_left, new_holds, operands_of}
 use Rattle.mk_laws.proofs.Basics.{register_small}
 use Rattle.mk_never.specs.declared.operations.Op.TheVariants as op
@@ -61,14 +61,12 @@ tallied pages _ = tt
 -- the word that a call accesses
 met : (c : Config) (f : Flight) → is_word_met c f ≡ true → (word_met f < 64 * c.pages) × (page_met f < c.pages)
 met c f h =
-    let lt = ltb-true (word_met f) (64 * c.pages)
-    (and_parts _ _ h).1 in
+    let lt = ltb-true (word_met f) (64 * c.pages) (and_parts _ _ h).1 in
     (lt, omega arith)
 
 other_gate : (c : Config) (seat : Seat) (j : ℕ) → c.callers ≤ 16
     → (nat_lt j c.callers && not (is_number_of seat j)) ≡ true → j < 16
-other_gate c seat j small h = let lt =
-    ltb-true j c.callers (and_parts _ _ h).0 in omega arith
+other_gate c seat j small h = let lt = ltb-true j c.callers (and_parts _ _ h).0 in omega arith
 
 reaches : (c : Config) (m : Moment) (seat : Seat) (x : Step) → Known c m → InHeap c m → Meets c m seat x
     → IsOfTable c.pages (word_accessed c m (record { seat = seat; step = x }))

@@ -1,8 +1,7 @@
 -- An unreleased allocation keeps its place, and stays unreleased, up to a `release`.
 use Rattle.mk_laws.proofs.Vocabulary.{Config, Event, LeavesPlaces, List, PlacedAllocation, Seat, Step, World, [], ap}
-use Rattle.mk_laws.proofs.Vocabulary.{cell_freed, cell_of_allocation, changed_at, false, flight_of, freed_leaves}
-use Rattle.mk_laws.proofs.Vocabulary.{freed_released, freed_where_it_stands, fresh_leaves, granted, is_release}
-use Rattle.mk_laws.proofs.Vocabulary.{left_from, list_any, map, no_longer_fresh, or_parts, placed_at, refl}
+use Rattle.mk_laws.proofs.Vocabulary.{cell_of_allocation, changed_at, false, freed_leaves, freed_released, fresh_leaves}
+use Rattle.mk_laws.proofs.Vocabulary.{is_release, left_from, list_any, map, no_longer_fresh, or_parts, placed_at, refl}
 use Rattle.mk_laws.proofs.Vocabulary.{world_behind, ℕ, ◌∙◌, ◌∷◌, ◌≡◌}
 use Rattle.mk_laws.proofs.Basics.{WorldBehind, same_cell}
 use Rattle.mk_core.specs.declared.events.Step.TheVariants as step
@@ -31,11 +30,8 @@ changed_puts g xs i leaves u =
 pub put_step : (c : Config) (w : World) (seat : Seat) (x : Step) (i : ℕ) → is_release x ≡ false
     → (placed_at w.allocations i).released ≡ false
     → StaysPut (placed_at w.allocations i) (placed_at (WorldBehind c w seat x).allocations i)
-put_step c w seat (step.Quar p n) i out u =
-    changed_puts _
-    w.allocations i (freed_leaves w.now.words _)
-    (freed_released w.now.words _ _
-    ∙ u)
+put_step c w seat (step.Quar p n) i out u = changed_puts _ w.allocations i (freed_leaves w.now.words _)
+    (freed_released w.now.words _ _ ∙ u)
 put_step c w seat step.Begin i out u = changed_puts no_longer_fresh w.allocations i fresh_leaves u
 put_step c w seat step.Grant i out u =
     let still = still_at w.allocations _ i u in

@@ -2,10 +2,10 @@
 use Rattle.std.specs.Prelude.{◌-◌}
 use Rattle.mk_laws.proofs.Vocabulary.{Bool, Cell, Config, HasItsHead, Header, Invariant, IsFreedCell, IsTaken, LeafRun}
 use Rattle.mk_laws.proofs.Vocabulary.{NeverState, OfHistories, Option, PlacedAllocation, Run, RunPages, Some, World}
-use Rattle.mk_laws.proofs.Vocabulary.{and_parts, ap, arith, cell_of_allocation, false, first_word, header_in, inl, inr}
-use Rattle.mk_laws.proofs.Vocabulary.{is_freed, is_phase, is_released_in, left, ne_eqb, never_behind, not, not-true}
-use Rattle.mk_laws.proofs.Vocabulary.{phase_of, placed_at, refl, run_count, run_headed, stands_in, stands_in_its_cell}
-use Rattle.mk_laws.proofs.Vocabulary.{sym, true, true≢false, typed_size, ℕ, ◌<◌, ◌==◌, ◌∙◌, ◌≡◌, ◌≢◌, ◌≤◌, ◌⊎◌}
+use Rattle.mk_laws.proofs.Vocabulary.{and_parts, ap, arith, cell_of_allocation, false, header_in, inl, inr, is_freed}
+use Rattle.mk_laws.proofs.Vocabulary.{is_phase, is_released_in, left, ne_eqb, not-true, phase_of, placed_at, refl}
+use Rattle.mk_laws.proofs.Vocabulary.{run_count, run_headed, stands_in, stands_in_its_cell, sym, true, true≢false}
+use Rattle.mk_laws.proofs.Vocabulary.{typed_size, ℕ, ◌<◌, ◌∙◌, ◌≡◌, ◌≢◌, ◌≤◌, ◌⊎◌}
 use Rattle.mk_laws.proofs.Basics.{KnownWorld, known_world}
 use Rattle.mk_core.specs.Readings.{WordsTellWhatStands}
 use Rattle.mk_core.proofs.PointedAllocations.{taken_cell_is}
@@ -83,6 +83,5 @@ module _ (c : Config) (w : World) (n : NeverState) (known : KnownWorld c w) (all
       }
 
 pub headers_and_quarantine_tell : OfHistories HeadersAndQuarantineTell
-headers_and_quarantine_tell c es h =
-    words_tell c (left c es) _ (known_world c es h.within_limits h.enabled)
+headers_and_quarantine_tell c es h = words_tell c (left c es) _ (known_world c es h.within_limits h.enabled)
     (histories_keep_the_invariant c es h)

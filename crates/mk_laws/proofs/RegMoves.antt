@@ -166,8 +166,7 @@ module _ (listed : List ℕ) (safe : ℕ → Bool) (s : ImageScene) (n : NeverSt
         → is_astray (standing_at stage.LoadR o) ≡ false → CarriesOwn bases n k (flight stage.LoadR o q p r l)
         → x ≡ image_of bases (register_at n k (r_of o))
         → LeadsBy safe s n k o s (onward (record (flight stage.LoadR o q p r l) { r = x }) None)
-    reg_r (op.CasPtr q' i p' r') q p r l x is a car e =
-        flies_on safe s n k (op.CasPtr q' i p' r') _ (rw is) refl
+    reg_r (op.CasPtr q' i p' r') q p r l x is a car e = flies_on safe s n k (op.CasPtr q' i p' r') _ (rw is) refl
         (record {
           q = λ y. car.q refl;
           some_q = λ y. car.some_q refl;

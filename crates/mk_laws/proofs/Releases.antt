@@ -8,8 +8,8 @@ use Rattle.mk_laws.proofs.Vocabulary.{earlier_part_is_history, enabled_in_parts,
 use Rattle.mk_laws.proofs.Vocabulary.{has_bit_of, has_bit_without, is_begin, is_close, is_marked, is_quarantined}
 use Rattle.mk_laws.proofs.Vocabulary.{is_release, left, left_from, left_in_parts, list_any, list_any-append, map}
 use Rattle.mk_laws.proofs.Vocabulary.{never_behind, never_in_parts, not, not-true, phase_of, placed_at, refl}
-use Rattle.mk_laws.proofs.Vocabulary.{released_leaves, released_where_left, slice_index, subst, sym, true}
-use Rattle.mk_laws.proofs.Vocabulary.{with_released, world_behind, ℕ, ◌&&◌, ◌++◌, ◌||◌, ◌∙◌, ◌∷◌, ◌≡◌}
+use Rattle.mk_laws.proofs.Vocabulary.{released_leaves, released_where_left, subst, sym, true, with_released}
+use Rattle.mk_laws.proofs.Vocabulary.{world_behind, ℕ, ◌&&◌, ◌++◌, ◌||◌, ◌∙◌, ◌∷◌, ◌≡◌}
 use Rattle.mk_never.specs.Reach.{IsReachable}
 use Rattle.mk_core.specs.declared.events.Step.TheVariants as step
 use Rattle.mk_core.specs.Allocations.{allocations_by}
@@ -134,8 +134,7 @@ module _ (c : Config) (es : List Event) (h : IsHistory c es) (r : Releasing es) 
   snapshot_is =
       let at = stopped in
       let phase : IsUnreleased (phase_of w.now.words) = record { least = omega arith; most = omega arith } in
-      snapshot_is_the_cycles c front before_is_history begin_at no_other
-      (unreleased_cycles _ phase).0
+      snapshot_is_the_cycles c front before_is_history begin_at no_other (unreleased_cycles _ phase).0
 
   abbrev in_snapshot : ℕ → Bool
   in_snapshot i = is_quarantined (placed_at (left c begin.before).allocations i)
@@ -159,9 +158,8 @@ module _ (c : Config) (es : List Event) (h : IsHistory c es) (r : Releasing es) 
       let at = changed_at _ w.allocations i (released_leaves c w.now.words).none in
       ap (λ (xs : List PlacedAllocation). (placed_at xs i).released) changed
       ∙ ap (λ (x : PlacedAllocation). x.released) at
-      ∙ released_where_left c w.now.words a h.within_limits s.stands s.headers
-      ∙ has_bit_without _ _
-      cell.index ∙ ap (λ b. b && not (marked i)) (snapshot_is i u)
+      ∙ released_where_left c w.now.words a h.within_limits s.stands s.headers ∙ has_bit_without _ _ cell.index
+      ∙ ap (λ b. b && not (marked i)) (snapshot_is i u)
 
   pub exact : (i : ℕ) → (allocation_before c r i).released ≡ false
       → ((allocation_behind c r i).released ≡ true) ↔ ((in_snapshot i ≡ true) × (marked i ≡ false))

@@ -2,12 +2,11 @@
 use Rattle.std.specs.Prelude.{Bool}
 use Rattle.mk_laws.proofs.Vocabulary.{Bool, Caller, Cell, Config, Header, Host, IsWordOfMapped, LayoutStands, List}
 use Rattle.mk_laws.proofs.Vocabulary.{Marker, Moment, None, Option, Run, RunPages, Seat, Some, Step, Words, World, ap}
-use Rattle.mk_laws.proofs.Vocabulary.{caller_number, cases_Bool, cases_eq, cases_lt, cell_freed, false, flight_of}
-use Rattle.mk_laws.proofs.Vocabulary.{freed_cell, get_or-set_other, get_or-set_same, header_in, heads_run}
-use Rattle.mk_laws.proofs.Vocabulary.{holder_number, if◌then◌else◌, inl, inr, is_heap_store, is_run_cell, is_run_gone}
-use Rattle.mk_laws.proofs.Vocabulary.{length, not, nothing_done, or_else, others_are_held, refl, reg_access}
-use Rattle.mk_laws.proofs.Vocabulary.{register_met, run_headed, run_of_cell, set_past, slice_index, slice_set, subst}
-use Rattle.mk_laws.proofs.Vocabulary.{sym, target, true, true≢false, word_met, ℕ, ◌+◌, ◌<◌, ◌==◌, ◌||◌, ◌∙◌, ◌≡◌, ◌≢◌}
+use Rattle.mk_laws.proofs.Vocabulary.{cases_Bool, cases_eq, cases_lt, cell_freed, false, flight_of, freed_cell}
+use Rattle.mk_laws.proofs.Vocabulary.{get_or-set_other, get_or-set_same, heads_run, holder_number, if◌then◌else◌, inl}
+use Rattle.mk_laws.proofs.Vocabulary.{inr, is_heap_store, is_run_cell, is_run_gone, length, not, nothing_done, or_else}
+use Rattle.mk_laws.proofs.Vocabulary.{refl, run_headed, run_of_cell, set_past, slice_index, slice_set, subst, sym}
+use Rattle.mk_laws.proofs.Vocabulary.{target, true, true≢false, word_met, ℕ, ◌+◌, ◌<◌, ◌==◌, ◌||◌, ◌∙◌, ◌≡◌, ◌≢◌}
 use Rattle.mk_laws.proofs.Basics.{Behind, Known, KnownWorld, Meets, at_its_stage, free_has_turn, others_held, reg_keeps}
 use Rattle.mk_laws.proofs.Basics.{tally_keeps, turn_of, view_of}
 use Rattle.mk_core.specs.declared.events.Step.TheVariants as step
@@ -56,8 +55,7 @@ gates_stay c m (Caller j) step.Leave known h out k lt held = set_gate m.words.ga
 gates_stay c m (Marker j) step.Leave known h out k lt held = let kind = h.kind in cc
 gates_stay c m Host step.Leave known h out k lt held = let kind = h.kind in cc
 gates_stay c m seat (step.Open j) known h out k lt held = cc
-gates_stay c m seat step.Reg known h out k lt held = ap (λ (gs : List ℕ). slice_index gs k)
-    (reg_keeps m.words _ _
+gates_stay c m seat step.Reg known h out k lt held = ap (λ (gs : List ℕ). slice_index gs k) (reg_keeps m.words _ _
     _).gates ∙ held
 gates_stay c m seat (step.Tally n v) known h out k lt held =
     ap (λ (gs : List ℕ). slice_index gs k) (tally_keeps m.words n v).gates ∙ held
@@ -77,9 +75,7 @@ freed_kind c m seat _ out = cc
 
 turn_kind : (c : Config) (m : Moment) (seat : Seat) (x : Step) → moves_run x ≡ false
     → (Behind c m seat x).words.turn ≡ m.words.turn
-turn_kind c m seat step.Reg out =
-    (reg_keeps m.words _ _
-    _).turn
+turn_kind c m seat step.Reg out = (reg_keeps m.words _ _ _).turn
 turn_kind c m seat (step.Tally n v) out = (tally_keeps m.words n v).turn
 turn_kind c m seat _ out = cc
 
@@ -138,9 +134,7 @@ module _ (c : Config) (w : World) (known : KnownWorld c w) (laid : LayoutStands 
           let same : cell_freed c.pages w.now.words (flight_of w.now seat) p n
           ≡ target c.pages w.now.words (flight_of w.now seat) = x.1.0 ∙ sym frees.at in
           let run = subst (λ (y : Option Cell). is_run_cell w.now.words y ≡ true) same x.1.1 in
-          let held =
-          others_held c w.now seat (either _
-          _ h.gates run) in
+          let held = others_held c w.now seat (either _ _ h.gates run) in
           let turn = turn_of c (view_of w.now) seat known.now.orderly (free_has_turn c w.now seat h.seat frees.free) in
           λ k lt other. held k lt (λ e. other (turn ∙ ap (λ i. 1 + i) e))
 

@@ -35,12 +35,10 @@ module _ (c : Config) (w : World) (known : KnownWorld c w) (laid : LayoutStands 
     (is : w.now.seats.holding.freed ≡ Some r)
     (gone : is_run_gone w.now.words w.now.seats.holding.freed ≡ true) where
   gone_parts : (is_run_unmapped w.now.words r ≡ true) × (words_are_zero w.now.words (64 * r.page) (64 * r.count) ≡ true)
-  gone_parts = and_parts _ _
-      (ap (λ (x : Option RunPages). is_run_gone w.now.words x) (sym is) ∙ gone)
+  gone_parts = and_parts _ _ (ap (λ (x : Option RunPages). is_run_gone w.now.words x) (sym is) ∙ gone)
 
   headers_gone : (d : ℕ) → d < r.count → header_at w.now.words (r.page + d) ≡ unmapped_header r.count d
-  headers_gone d lt = eqb-true _ _
-      (all_below-at r.count d _ gone_parts.0 lt)
+  headers_gone d lt = eqb-true _ _ (all_below-at r.count d _ gone_parts.0 lt)
 
   words_gone : (i : ℕ) → i < 64 * r.count → slice_index w.now.words.heap (64 * r.page + i) ≡ 0
   words_gone i lt = eqb-true _ _ (all_below-at (64 * r.count) i _ gone_parts.1 lt)
@@ -92,8 +90,7 @@ module _ (c : Config) (w : World) (known : KnownWorld c w) (laid : LayoutStands 
       let some : i / 64 < r.count = omega arith in
       true≢false (sym (unmapped_is_unmapped r.count (i / 64) (omega arith, omega arith) some)
       ∙ ap (λ h. is_unmapped_header (header_of h)) (sym (headers_gone (i / 64) some)
-      ∙ ap (λ q. header_at w.now.words q) (sym there) ∙ l.mapped m.mapped d near)
-      ∙ made_is_mapped _ d sized near)
+      ∙ ap (λ q. header_at w.now.words q) (sym there) ∙ l.mapped m.mapped d near) ∙ made_is_mapped _ d sized near)
 
   headers_behind : (seat : Seat) (x : Step) → Meets c w.now seat x → (d : ℕ) → d < r.count
       → header_at (Behind c w.now seat x).words (r.page + d) ≡ unmapped_header r.count d
@@ -113,11 +110,9 @@ module _ (c : Config) (w : World) (known : KnownWorld c w) (laid : LayoutStands 
       ap (λ (t : Table). slice_index t.heap (64 * r.page + i)) (reg_table c w.now seat) ∙ words_gone i lt
   words_behind seat (step.Tally n v) h stored i lt =
       ap (λ (t : Table). slice_index t.heap (64 * r.page + i)) (tally_table w.now.words n v) ∙ words_gone i lt
-  words_behind seat step.Write h stored i lt =
-      get_or-set_other w.now.words.heap _ _ _ 0
+  words_behind seat step.Write h stored i lt = get_or-set_other w.now.words.heap _ _ _ 0
       (λ e. not_mapped i lt (subst (λ n. IsWordOfMapped c w.allocations n) (sym e) (stored refl))) ∙ words_gone i lt
-  words_behind seat step.Cas h stored i lt =
-      get_or-set_other w.now.words.heap _ _ _ 0
+  words_behind seat step.Cas h stored i lt = get_or-set_other w.now.words.heap _ _ _ 0
       (λ e. not_mapped i lt (subst (λ n. IsWordOfMapped c w.allocations n) (sym e) (stored refl))) ∙ words_gone i lt
   words_behind seat (step.Wipe n) h stored i lt = elim (cases_eq (64 * r.page + i) n) [
     | inr ne ↦ get_or-set_other w.now.words.heap n _ 0 0 ne ∙ words_gone i lt

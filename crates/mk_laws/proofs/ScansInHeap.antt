@@ -1,12 +1,11 @@
 -- What a marker scans lies in the heap.
 use Rattle.mk_laws.proofs.Vocabulary.{Block, Bool, Cell, Config, Header, LeafBlock, LeafRun, MarkerState as Marker}
 use Rattle.mk_laws.proofs.Vocabulary.{None, Option, Run, Scan, SeenHeader, Some, Step, Word, and_parts, arith}
-use Rattle.mk_laws.proofs.Vocabulary.{behind_mlook, cell_at, cell_ends, cell_seen, cells_under, class_words_of}
-use Rattle.mk_laws.proofs.Vocabulary.{eqb-true, false, has_bit, has_next_word, has_no_pointers, has_seen_cell}
-use Rattle.mk_laws.proofs.Vocabulary.{header_of, if◌then◌else◌, is_attending, is_none, is_scanned, is_some, ltb-true}
-use Rattle.mk_laws.proofs.Vocabulary.{marker_behind, marker_may, nat_lt, next_word, page_at_address, refl, scan_begun}
-use Rattle.mk_laws.proofs.Vocabulary.{scan_claimed, scan_onward, scan_page, seen_page, subst, sym, true, words_under, ℕ}
-use Rattle.mk_laws.proofs.Vocabulary.{◌&&◌, ◌*◌, ◌+◌, ◌<◌, ◌==◌, ◌∙◌, ◌≡◌, ◌≤◌}
+use Rattle.mk_laws.proofs.Vocabulary.{behind_mlook, cell_at, cell_ends, cell_seen, cells_under, eqb-true, false}
+use Rattle.mk_laws.proofs.Vocabulary.{has_bit, has_next_word, has_no_pointers, has_seen_cell, header_of, if◌then◌else◌}
+use Rattle.mk_laws.proofs.Vocabulary.{is_scanned, is_some, ltb-true, marker_behind, marker_may, next_word}
+use Rattle.mk_laws.proofs.Vocabulary.{page_at_address, refl, scan_begun, scan_claimed, scan_onward, scan_page}
+use Rattle.mk_laws.proofs.Vocabulary.{seen_page, subst, sym, true, words_under, ℕ, ◌*◌, ◌+◌, ◌<◌, ◌==◌, ◌∙◌, ◌≡◌, ◌≤◌}
 use Rattle.mk_core.specs.declared.events.Step.TheVariants as step
 use Rattle.mk_core.specs.declared.events.Word.TheVariants as word
 use Rattle.mk_laws.proofs.RunsInHeap.{RunFits}
@@ -125,8 +124,7 @@ pub marker_fits_behind : (c : Config) (n : ℕ) (s : Step) (x : Marker)
 marker_fits_behind c n step.Attend x looked claimed m h = nothing_fits c _ refl refl
 marker_fits_behind c n step.Quit x looked claimed m h = nothing_fits c _ refl refl
 marker_fits_behind c n (step.Mlook w) x looked claimed m h = looks c n w x (λ p e. looked p (rw e)) h
-marker_fits_behind c n (step.Claim p i) x looked claimed m h = claims c p i n x (claimed p i refl)
-    (and_parts _ _ m).1 h
+marker_fits_behind c n (step.Claim p i) x looked claimed m h = claims c p i n x (claimed p i refl) (and_parts _ _ m).1 h
 marker_fits_behind c n step.Mload x looked claimed m h = loads c _ x h
 marker_fits_behind c n step.Mmark x looked claimed m h = record { seen = h.seen; page = h.page; end = h.end }
 marker_fits_behind c n step.Mblack x looked claimed m h = record { seen = h.seen; page = λ s e. cc; end = λ s e. cc }

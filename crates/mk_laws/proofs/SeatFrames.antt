@@ -48,8 +48,7 @@ bases_go_on c seats es more h others =
     (λ xs. record { more = []; is = sym (append-nil _) }) (λ xs ys zs. longer_joined _ _ _) (λ xs e whole other.
     let last = comes_last c xs e whole in
     let st = stands c xs last.before in
-    rw last.leaves
-    (one_event c (left c xs) _ e st.known (told_to_images c (left c xs) _ st.known st.all)
+    rw last.leaves (one_event c (left c xs) _ e st.known (told_to_images c (left c xs) _ st.known st.all)
     st.all.mirrors last.on last.admitted).bases) es more h others
 
 same_place : (xs ys : List PlacedAllocation) (a : ℕ) → a < length xs → IsLonger (bases_of xs) (bases_of ys)
@@ -191,8 +190,7 @@ held_one c s k es e h other held =
     let turn = own.turn held.holds in (
       rw last.leaves (record { holds = (own.own.holding held.holds).0; gate = turn.held_gates k held.gate }),
       rw last.never (held_step c (left c es) _ e.seat e.step k known last.meets held.gate
-          (λ ne. admitted_keep c.globals _ k _ last.admitted
-          (call_not_by c (left c es) e.seat e.step k ne))),
+          (λ ne. admitted_keep c.globals _ k _ last.admitted (call_not_by c (left c es) e.seat e.step k ne))),
     )
 
 pub held_registers : (c : Config) (s : Seat) (es more : List Event) (k : ℕ) → IsHistory c (es ++ more)

@@ -7,7 +7,7 @@ use Rattle.mk_laws.proofs.Vocabulary.{Used, World, [], ap, append-nil, arith, ce
 use Rattle.mk_laws.proofs.Vocabulary.{claims_placed, false, fewer_bits, ground_of, header_at, header_made, inl, inr}
 use Rattle.mk_laws.proofs.Vocabulary.{is_released_in, is_used_once, layout_scene_of, length, not, pages_made}
 use Rattle.mk_laws.proofs.Vocabulary.{pages_some, place_claim, plot_of, refl, small_pages, subst, sym, true}
-use Rattle.mk_laws.proofs.Vocabulary.{unmapped_header, used_at, ℕ, ◌++◌, ◌+◌, ◌-◌, ◌<◌, ◌∙◌, ◌∷◌, ◌≡◌, ◌≢◌, ◌≤◌, ◌⊎◌}
+use Rattle.mk_laws.proofs.Vocabulary.{unmapped_header, ℕ, ◌++◌, ◌+◌, ◌-◌, ◌<◌, ◌∙◌, ◌∷◌, ◌≡◌, ◌≢◌, ◌≤◌, ◌⊎◌}
 use Rattle.mk_core.proofs.PageSteps.{Unmaps}
 use Rattle.mk_core.proofs.ServingSteps.{IsCellTaken}
 use Rattle.mk_core.proofs.Sizes.{cells_some}
@@ -81,8 +81,7 @@ pub head_empties : (c : Config) (o : Object) (w : World) (p n : ℕ) → p < len
     → Laid c o true w (record (ground_of w) { pages = with_header_on w.now.words.pages p n })
 head_empties c o w p n lt st h =
     record {
-      scene = rw h.is
-          (layout_emptied _ p st.scene lt refl h.unused);
+      scene = rw h.is (layout_emptied _ p st.scene lt refl h.unused);
       gone = st.gone;
       first = st.first;
       cells = st.cells;
@@ -273,13 +272,12 @@ pub used_gives_back : (c : Config) (o : Object) (w : World) (p n : ℕ) → p < 
     → Laid c o true w (record (ground_of w) { pages = with_used_on w.now.words.pages p n })
 used_gives_back c o w p n lt st h apart =
     record {
-      scene = layout_given_back _ p n st.scene lt refl
-          (record {
-            fewer = λ k bit. fewer_bits n _ k h.fewer bit;
-            gone = λ k bit out.
-                let goes = h.gone k bit out in
-                rw goes.0 (ap not goes.1);
-          }) apart;
+      scene = layout_given_back _ p n st.scene lt refl (record {
+        fewer = λ k bit. fewer_bits n _ k h.fewer bit;
+        gone = λ k bit out.
+            let goes = h.gone k bit out in
+            rw goes.0 (ap not goes.1);
+      }) apart;
       gone = st.gone;
       first = st.first;
       cells = st.cells;

@@ -3,9 +3,8 @@
 use Rattle.mk_laws.proofs.Vocabulary.{Cell, Claim, Config, Granted, IsSettled, IsWithinLimits, LayoutStands, NoPlot}
 use Rattle.mk_laws.proofs.Vocabulary.{None, Option, PlacedAllocation, Placing, RunPages, Some, Unplaced, Words, World}
 use Rattle.mk_laws.proofs.Vocabulary.{and_parts, ap, append-nil, claim_of, claims_of, claims_placed, false, ground_of}
-use Rattle.mk_laws.proofs.Vocabulary.{has_place, histories_keep_lengths, is_phase, is_run_gone, is_run_unmapped, left}
-use Rattle.mk_laws.proofs.Vocabulary.{length, object_now, placed_at, plot_of, refl, sym, true, unreleased_storage}
-use Rattle.mk_laws.proofs.Vocabulary.{words_are_zero, ◌*◌, ◌++◌, ◌∙◌, ◌≡◌}
+use Rattle.mk_laws.proofs.Vocabulary.{has_place, histories_keep_lengths, is_run_gone, is_run_unmapped, left, length}
+use Rattle.mk_laws.proofs.Vocabulary.{object_now, placed_at, plot_of, refl, sym, true, ◌++◌, ◌∙◌, ◌≡◌}
 use Rattle.mk_laws.proofs.Basics.{Laid, all_stand, apart_left, claim_among, gone_terrain, own_claim}
 use Rattle.mk_geom.proofs.Bridge.{same_places}
 use Rattle.mk_laws.specs.SettledPages.{FirstFitIsThePlace, HeadersStand, UnreleasedAreApart, UnreleasedStand}
@@ -28,17 +27,14 @@ unreleased_stand c es limits laid i u =
 pub unreleased_are_apart : UnreleasedAreApart
 unreleased_are_apart c es laid i j u v same =
     let w : World = left c es in
-    numbers_apart c w.now.seats.holding.freed w.allocations i j
-    (apart_left _
-    _ laid.scene.apart) u v
+    numbers_apart c w.now.seats.holding.freed w.allocations i j (apart_left _ _ laid.scene.apart) u v
     (ap (λ (x : Cell). x.page) same, ap (λ (x : Cell). x.index) same)
 
 -- A run that is unmapped and wiped is unmapped.
 pub gone_is_unmapped : (w : Words) (freed : Option RunPages) → is_run_gone w freed ≡ true
     → is_freed_unmapped w freed ≡ true
 gone_is_unmapped w None gone = refl
-gone_is_unmapped w (Some run) gone =
-    (and_parts _ _ gone).0
+gone_is_unmapped w (Some run) gone = (and_parts _ _ gone).0
 
 pub unmapped_run : (w : World) → is_freed_unmapped w.now.words w.now.seats.holding.freed ≡ true → (run : RunPages)
     → w.now.seats.holding.freed ≡ Some run → is_run_unmapped w.now.words run ≡ true
@@ -74,6 +70,5 @@ headers_stand c es limits laid s = pages_stand c _ _
     (settled_rests c (left c es) limits (histories_keep_lengths c es).pages laid s)
 
 pub first_fit_is_the_place : FirstFitIsThePlace
-first_fit_is_the_place c es o limits laid s =
-    same_places _ _ c.resident o.words o.leaf
+first_fit_is_the_place c es o limits laid s = same_places _ _ c.resident o.words o.leaf
     (headers_stand c es limits laid s) ∙ rw (histories_keep_lengths c es).pages

@@ -4,7 +4,7 @@ use Rattle.mk_laws.proofs.Vocabulary.{ItDrops, ItFrees, ItTakesSnapshot, KeepsSn
 use Rattle.mk_laws.proofs.Vocabulary.{Object, Option, PlacedAllocation, Placing, QuarantineStep, Seat, Some, Step, Used}
 use Rattle.mk_laws.proofs.Vocabulary.{World, [], all_below, all_below-at, and_parts, ap, arith, cases_Bool, cell_freed}
 use Rattle.mk_laws.proofs.Vocabulary.{cell_of_allocation, changed_at, claims_of, claims_placed, eqb-true, false}
-use Rattle.mk_laws.proofs.Vocabulary.{false_from_ne_true, fewer_bits, first_word, flight_of, freed_cell, freed_leaves}
+use Rattle.mk_laws.proofs.Vocabulary.{false_from_ne_true, fewer_bits, flight_of, freed_cell, freed_leaves}
 use Rattle.mk_laws.proofs.Vocabulary.{freed_where_it_stands, granted, granted_base_is, granted_object, ground_of}
 use Rattle.mk_laws.proofs.Vocabulary.{has_bit, has_bit_of, has_clean_page, if◌then◌else◌, inl, inr, is_cycling}
 use Rattle.mk_laws.proofs.Vocabulary.{is_phase, is_undecided_new, is_used_once, length, ltb-true, map, no_longer_fresh}
@@ -34,8 +34,7 @@ use Rattle.mk_laws.proofs.Released.{left_is, place_index}
 pub unset_in_snapshot : (c : Config) (releasing : Bool) (marks : List ℕ) (t : Ground) (p k : ℕ)
     → HasQuarantine c releasing marks t → has_bit (slice_index t.freed p) k ≡ false
     → has_bit (slice_index t.snapshot p) k ≡ false
-unset_in_snapshot c releasing marks t p k q out =
-    false_from_ne_true _ (λ h. true≢false (sym (q.within p k h) ∙ out))
+unset_in_snapshot c releasing marks t p k q out = false_from_ne_true _ (λ h. true≢false (sym (q.within p k h) ∙ out))
 
 -- `quar` (c): no unreleased allocation's bit goes
 dropped_bits : (c : Config) (w : World) (p f n i : ℕ) → p < length w.now.words.snapshot
@@ -66,9 +65,7 @@ dropped_bits c w p f n i ls q d u = elim (bit_cases w.now.words.snapshot p n x.p
         absurd (true≢false (sym (ap (λ j. has_bit (slice_index w.now.words.snapshot j) x.index) at ∙ was) ∙ b))
     same at (inr a) (inl b) =
         let lost = d.gone x.index (rw (← at) b) a in
-        let released = and_both _
-        _ b
-        (ap (λ j. has_bit (slice_index w.now.words.marks j) x.index) at ∙ lost.0) in
+        let released = and_both _ _ b (ap (λ j. has_bit (slice_index w.now.words.marks j) x.index) at ∙ lost.0) in
         absurd (true≢false (sym released ∙ q.kept refl i u))
 
 cycling_at : (w : World) (n : ℕ) → is_phase w.now.words n ≡ true → is_cycling n ≡ false
@@ -107,8 +104,7 @@ quar_frees c w cell n x q s =
 
     at : (i : ℕ) → placed_at (map (freed_where_it_stands w.now.words (Some cell)) w.allocations) i
         ≡ freed_where_it_stands w.now.words (Some cell) (placed_at w.allocations i)
-    at i = changed_at _ w.allocations i
-        (freed_leaves w.now.words (Some cell)).none
+    at i = changed_at _ w.allocations i (freed_leaves w.now.words (Some cell)).none
 
     fresh_by : (b : Bool) (a : PlacedAllocation) → (b ≡ true → a.released ≡ false)
         → (a.fresh ≡ true → (a.freed ≡ true) × (a.released ≡ false))
@@ -124,9 +120,7 @@ quar_frees c w cell n x q s =
         × ((placed_at (map (freed_where_it_stands w.now.words (Some cell)) w.allocations) i).released ≡ false)
     fresh i b is f =
         let a : PlacedAllocation = placed_at w.allocations i in
-        let r = fresh_by _ a
-        (λ e. not-true a.released (and_parts _ _ e).0) (s.fresh i)
-        (rw (← (at i)) f) in
+        let r = fresh_by _ a (λ e. not-true a.released (and_parts _ _ e).0) (s.fresh i) (rw (← (at i)) f) in
         (rw (at i) r.0, rw (at i) r.1)
 
     bit : is_cycling (phase_of w.now.words) ≡ true → (i : ℕ) → (placed_at w.allocations i).released ≡ false → (b : Bool)
@@ -155,8 +149,7 @@ snapshot_of_quar c w seat p n b h laid q s = by (cell_freed c.pages w.now.words 
         → HasSnapshot c (is_cycling (phase_of w.now.words)) (slice_set w.now.words.snapshot p (n / 2 ^ 32))
         (map (freed_where_it_stands w.now.words cell) w.allocations)
     by None is = rw (none_freed w.now.words w.allocations)
-        (quar_none c w (flight_of w.now seat) p n ls is (quarantine_step c w.now _ p n h.holder) q
-        s)
+        (quar_none c w (flight_of w.now seat) p n ls is (quarantine_step c w.now _ p n h.holder) q s)
     by (Some cell) is =
         let x = freed_cell c.pages w.now.words _ p n cell is in
         rw x.page (quar_frees c w cell n (frees_here c w seat p n cell b h laid x) (rw x.phase at q) s)

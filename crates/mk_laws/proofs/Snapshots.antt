@@ -91,8 +91,7 @@ module _ (c : Config) (es : List Event) (h : IsHistory c es) (begin : At is_begi
 
   snapshot_is : (i : ℕ) → (placed_at w.allocations i).released ≡ false
       → has_bit_of c w.now.words.snapshot (placed_at w.allocations i) ≡ is_quarantined (placed_at olds i)
-  snapshot_is = snapshot_is_the_cycles c es h begin (either_kind begin.behind none).0
-      (unreleased_cycles _ phase).0
+  snapshot_is = snapshot_is_the_cycles c es h begin (either_kind begin.behind none).0 (unreleased_cycles _ phase).0
 
   put_quarantined : (i : ℕ) → is_quarantined (placed_at olds i) ≡ true
       → StaysPut (placed_at olds i) (placed_at w.allocations i)

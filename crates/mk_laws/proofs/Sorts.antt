@@ -3,17 +3,16 @@ use Rattle.std.specs.Prelude.{ℕ}
 use Rattle.std.proofs.lemmas.Bool.{not_from_true}
 use Rattle.mk_laws.proofs.Vocabulary.{Bool, Caller, Cell, Config, Event, Flight, Hand, Holding, Host, List, Marker}
 use Rattle.mk_laws.proofs.Vocabulary.{Moment, Named, None, Object, Op, Option, OwnCycle, Page, Place, Placing, Seat}
-use Rattle.mk_laws.proofs.Vocabulary.{Some, Step, Store, Unplaced, Word, Words, access, accessed, and_parts, ap}
-use Rattle.mk_laws.proofs.Vocabulary.{at_rest, begun, cases_Bool, cases_eq, cell_freed, chosen, decided, eq-eqb}
-use Rattle.mk_laws.proofs.Vocabulary.{eqb-false, eqb-true, false, flight_of, found, frees, group_of, header_of}
-use Rattle.mk_laws.proofs.Vocabulary.{holder_number, host_has_turn, if◌then◌else◌, inl, inr, is_attending, is_in}
-use Rattle.mk_laws.proofs.Vocabulary.{is_phase, is_some, is_undecided_free, is_undecided_new, is_under_turn}
-use Rattle.mk_laws.proofs.Vocabulary.{is_unmapped_header, marker_of, marks_place, may_answer_full, ne_eqb, not}
-use Rattle.mk_laws.proofs.Vocabulary.{not-true, nothing_done, object_made, onward, or_else, phase_of, place_by_placing}
-use Rattle.mk_laws.proofs.Vocabulary.{place_now, pointed_cell, progress, progress_freed, progress_reg, refl, refused}
-use Rattle.mk_laws.proofs.Vocabulary.{reg_access, register_met, run_of_cell, sees_double, set-get_or, slice_index}
-use Rattle.mk_laws.proofs.Vocabulary.{slice_set, stage_behind, steps_of, still, subst, sym, taken, tally_word, target}
-use Rattle.mk_laws.proofs.Vocabulary.{true, word_accessed, ℕ, ◌%◌, ◌&&◌, ◌+◌, ◌<◌, ◌==◌, ◌∙◌, ◌≡◌, ◌≢◌}
+use Rattle.mk_laws.proofs.Vocabulary.{Some, Step, Store, Unplaced, Word, Words, accessed, and_parts, ap, at_rest, begun}
+use Rattle.mk_laws.proofs.Vocabulary.{cases_Bool, cases_eq, cell_freed, chosen, decided, eq-eqb, eqb-false, eqb-true}
+use Rattle.mk_laws.proofs.Vocabulary.{false, flight_of, found, frees, group_of, holder_number, host_has_turn}
+use Rattle.mk_laws.proofs.Vocabulary.{if◌then◌else◌, inl, inr, is_attending, is_in, is_phase, is_some}
+use Rattle.mk_laws.proofs.Vocabulary.{is_undecided_free, is_undecided_new, is_under_turn, marker_of, marks_place}
+use Rattle.mk_laws.proofs.Vocabulary.{may_answer_full, ne_eqb, not, not-true, nothing_done, object_made, onward}
+use Rattle.mk_laws.proofs.Vocabulary.{or_else, phase_of, place_by_placing, place_now, progress, progress_freed}
+use Rattle.mk_laws.proofs.Vocabulary.{progress_reg, refl, run_of_cell, sees_double, set-get_or, slice_index, slice_set}
+use Rattle.mk_laws.proofs.Vocabulary.{stage_behind, steps_of, still, subst, sym, taken, tally_word, target, true, ℕ}
+use Rattle.mk_laws.proofs.Vocabulary.{◌%◌, ◌&&◌, ◌+◌, ◌<◌, ◌==◌, ◌∙◌, ◌≡◌, ◌≢◌}
 use Rattle.mk_core.specs.declared.events.Answer.TheVariants as answer
 use Rattle.mk_core.specs.declared.events.Word.TheVariants as word
 use Rattle.mk_laws.specs.Protocol.{is_granted}
@@ -158,8 +157,7 @@ enter_move c m k o lt was out = elim (cases_eq (slice_index m.words.gates k) 0) 
 reg_move : (c : Config) (m : Moment) (k : ℕ) → k < c.callers → is_reg_stage (flight_of m (Caller k)).stage ≡ true
     → is_astray (standing (flight_of m (Caller k))) ≡ false → Moves c m (Caller k) step.Reg
 reg_move c m k lt is a = with_words c (view_of m) (Caller k) m.words _ _ m.seats.holding m.seats.markers
-    (reg_keeps m.words k _ _)
-    (by (standing f) refl (reg_stands f.stage f.op f.q f.p f.r f.loaded (found c m e) is a))
+    (reg_keeps m.words k _ _) (by (standing f) refl (reg_stands f.stage f.op f.q f.p f.r f.loaded (found c m e) is a))
   where
     e : Event
     e = record { seat = Caller k; step = step.Reg }
@@ -201,13 +199,11 @@ call_moves c m k (step.Enter o) lt g a h =
     let s = at_enter _ _ o h.order in
     enter_move c m k o lt (rw s.0) s.1
 call_moves c m k step.Leave lt g a h = Leaves lt (on c m k step.Leave h refl refl a)
-call_moves c m k step.Reg lt g a h =
-    reg_move c m k lt (at_reg _ _ h.order) a
+call_moves c m k step.Reg lt g a h = reg_move c m k lt (at_reg _ _ h.order) a
 call_moves c m k step.Probe lt g a h =
     let f = flight_of m (Caller k) in
     let was = on c m k step.Probe h refl refl a in
-    GoesOn _ lt was
-    (either_stands _ _
+    GoesOn _ lt was (either_stands _ _
     (onward f None) InCall (refused_stands f.stage f.op was) (onward_from c m k step.Probe h refl refl was))
 call_moves c m k step.Read lt g a h =
     let f = flight_of m (Caller k) in

@@ -2,12 +2,11 @@
 use Rattle.std.proofs.lemmas.List.Sums.{sum_by_push}
 use Rattle.mk_laws.proofs.Vocabulary.{Bool, Config, Decided, Event, Flight, IsHistory, IsSettled, IsTidy, List, Moment}
 use Rattle.mk_laws.proofs.Vocabulary.{OfHistories, PlacedAllocation, Seat, Stage, Step, TalliesAreTidy, Words, World}
-use Rattle.mk_laws.proofs.Vocabulary.{[], and_parts, answer_decided, ap, append_assoc, arith, call_decided}
-use Rattle.mk_laws.proofs.Vocabulary.{caller_number, calls, calls_from, cond, ends, eqb-true, false, false_from_ne_true}
-use Rattle.mk_laws.proofs.Vocabulary.{first_world, flight_of, fresh_words_of, has_place, held_by_pages}
-use Rattle.mk_laws.proofs.Vocabulary.{histories_keep_lengths, in_a_word, inl, inr, is_decided, is_end, is_run_gone}
-use Rattle.mk_laws.proofs.Vocabulary.{is_undecided_new, left, left_from, left_more, ne_eqb, phase_of, refl, subst, sym}
-use Rattle.mk_laws.proofs.Vocabulary.{true, true≢false, undecided_new, unreleased_storage, world_behind, ℕ, ◌&&◌, ◌++◌}
+use Rattle.mk_laws.proofs.Vocabulary.{[], and_parts, ap, append_assoc, arith, call_decided, calls, calls_from, cond}
+use Rattle.mk_laws.proofs.Vocabulary.{ends, eqb-true, false, false_from_ne_true, first_world, flight_of, fresh_words_of}
+use Rattle.mk_laws.proofs.Vocabulary.{held_by_pages, histories_keep_lengths, in_a_word, inl, inr, is_decided, is_end}
+use Rattle.mk_laws.proofs.Vocabulary.{is_run_gone, is_undecided_new, left, left_from, left_more, ne_eqb, refl, subst}
+use Rattle.mk_laws.proofs.Vocabulary.{sym, true, true≢false, undecided_new, unreleased_storage, world_behind, ℕ, ◌++◌}
 use Rattle.mk_laws.proofs.Vocabulary.{◌+◌, ◌==◌, ◌∙◌, ◌∷◌, ◌≡◌, ◌≤◌, ◌⊎◌}
 use Rattle.mk_laws.proofs.Basics.{Before, KeptByEvents, Known, Meets, before_it, holds_of_histories, known_left}
 use Rattle.mk_laws.proofs.Basics.{known_world, placed_undecided}
@@ -84,8 +83,7 @@ exact_at_give c es seat h meets =
     } in
     let shown = pages_show_the_storage c es h settled in
     record {
-      held = eqb-true m.words.held _ b.1
-          ∙ pages_hold_mapped_words m.words.pages _ shown;
+      held = eqb-true m.words.held _ b.1 ∙ pages_hold_mapped_words m.words.pages _ shown;
       fresh = eqb-true m.words.fresh m.fresh_words a.1 ∙ fresh_is_told c es h;
     }
 
@@ -117,8 +115,7 @@ module _ (c : Config) (es : List Event) (e : Event) (nothing : CountsNothing c (
   same_fulls =
       let ds : List Decided = call_decided c (left c es).now e in
       let m : Moment = (left c es).now in
-      let last : fulls_of ds ≡ 0 =
-      entry_fulls _ _ _ nothing.no_full in
+      let last : fulls_of ds ≡ 0 = entry_fulls _ _ _ nothing.no_full in
       let pushed : full_answers c (es ++ e ∷ []) ≡ full_answers c es + fulls_of ds =
       ap (λ (xs : List Decided). fulls_of xs) (calls_more c (first_world c) es e) ∙ fulls_append (calls c es) ds in
       omega arith

@@ -4,8 +4,8 @@ use Rattle.mk_laws.proofs.Vocabulary.{OfHistories, Option, Place, Placing, RunPa
 use Rattle.mk_laws.proofs.Vocabulary.{World, [], and_parts, ap, arith, at_rest, eqb-true, false, false_from_ne_true}
 use Rattle.mk_laws.proofs.Vocabulary.{first_world, flight_of, get_or-set_same, has_place, is_phase, is_undecided_new}
 use Rattle.mk_laws.proofs.Vocabulary.{left, left_from, left_more, object_made, phase_of, place_on_pages, refl, subst}
-use Rattle.mk_laws.proofs.Vocabulary.{sym, true, true≢false, undecided_new, world_behind, ℕ, ◌&&◌, ◌++◌, ◌<◌, ◌==◌, ◌∙◌}
-use Rattle.mk_laws.proofs.Vocabulary.{◌∷◌, ◌≡◌}
+use Rattle.mk_laws.proofs.Vocabulary.{sym, true, true≢false, undecided_new, world_behind, ℕ, ◌++◌, ◌<◌, ◌==◌, ◌∙◌, ◌∷◌}
+use Rattle.mk_laws.proofs.Vocabulary.{◌≡◌}
 use Rattle.mk_laws.proofs.Basics.{KeptByEvents, Known, Meets, WorldBehind, at_first, before_it, held_place}
 use Rattle.mk_laws.proofs.Basics.{holds_of_histories, known_left, none_on_its_way}
 use Rattle.mk_core.specs.declared.events.Step.TheVariants as step
@@ -163,9 +163,7 @@ tracked_behind c es seat x k (WasNew same) all h meets lt new =
           (ap (λ (f : Flight). object_made c f.op) (sym same))
           (place_more c es e k o t.turn on _ _ (places_at c w seat x k known meets lt was new)
           (fits_here c es k o h lt was) t.placed);
-      cycle =
-          cycle_more t.turn.behind e _ _ w.now.seats.holding.cycle _ (cycle_step c w seat x meets)
-          t.cycle;
+      cycle = cycle_more t.turn.behind e _ _ w.now.seats.holding.cycle _ (cycle_step c w seat x meets) t.cycle;
     }
   where
     e : Event

@@ -3,13 +3,12 @@ use Rattle.mk_laws.proofs.Vocabulary.{Among, Bool, Claim, Config, Empties, Fligh
 use Rattle.mk_laws.proofs.Vocabulary.{IsClaimed, IsLaidOn, ItCarves, ItEmpties, ItGivesBack, ItTakes, ItUnmaps, Later}
 use Rattle.mk_laws.proofs.Vocabulary.{LayoutScene, LayoutStands, List, NoPlot, Object, Option, Page, Plot, PlotStands}
 use Rattle.mk_laws.proofs.Vocabulary.{Plotted, Run, Seat, ShowsPart, Some, Step, UsedStep, Words, World, ap, arith}
-use Rattle.mk_laws.proofs.Vocabulary.{cases_Bool, cases_eq, cells_under, false, fewer_bits, flight_of, found, ground_of}
-use Rattle.mk_laws.proofs.Vocabulary.{has_bit, head_on, head_page, head_page_under, head_step, header_made, header_of}
-use Rattle.mk_laws.proofs.Vocabulary.{header_on, heads_run, inl, inr, is_phase, is_released_on, is_small_object}
-use Rattle.mk_laws.proofs.Vocabulary.{layout_scene_of, length, length-set, made_shows, object_now, pages_made}
-use Rattle.mk_laws.proofs.Vocabulary.{pages_some, plot_of, refl, run_count, shows_on, small_heads_none, stands, subst}
-use Rattle.mk_laws.proofs.Vocabulary.{suc, sym, true, true≢false, used_on, used_step, zero, ℕ, ◌+◌, ◌-◌, ◌<◌, ◌∙◌, ◌≡◌}
-use Rattle.mk_laws.proofs.Vocabulary.{◌≢◌, ◌⊎◌}
+use Rattle.mk_laws.proofs.Vocabulary.{cases_Bool, cases_eq, cells_under, false, fewer_bits, flight_of, found, has_bit}
+use Rattle.mk_laws.proofs.Vocabulary.{head_on, head_page, head_page_under, head_step, header_made, header_on, heads_run}
+use Rattle.mk_laws.proofs.Vocabulary.{inl, inr, is_phase, is_released_on, is_small_object, length, length-set}
+use Rattle.mk_laws.proofs.Vocabulary.{made_shows, object_now, pages_made, pages_some, plot_of, refl, run_count}
+use Rattle.mk_laws.proofs.Vocabulary.{shows_on, small_heads_none, stands, subst, suc, sym, true, true≢false, used_on}
+use Rattle.mk_laws.proofs.Vocabulary.{used_step, zero, ℕ, ◌+◌, ◌-◌, ◌<◌, ◌∙◌, ◌≡◌, ◌≢◌, ◌⊎◌}
 use Rattle.mk_laws.proofs.Basics.{Before, Meets, WorldBehind, claimed, headed_other, is_releasing_behind, none_set}
 use Rattle.mk_laws.proofs.Basics.{page_within, reg_leaves_ground, tally_ground, used_header, with_header_on}
 use Rattle.mk_laws.proofs.Basics.{with_used_on, zero_where_none}
@@ -163,8 +162,7 @@ plotted_run s (Plotted first o) p is stands here h =
               let near : d < pages_made o = omega arith in
               elim (stands.headers d near) [
                 | inl z ↦ inr (rw page z, rw (← zero) (stands.used 0 (omega arith)), inr here)
-                | inr m ↦
-                    later_at s.pages s.releasing (Plotted first o) p first d _ (sym page)
+                | inr m ↦ later_at s.pages s.releasing (Plotted first o) p first d _ (sym page)
                     (rw m) (later_part o d _ (made_shows o d stands.sized near) some_d)
               ];
         }
@@ -299,7 +297,6 @@ whole_behind c w seat x b h whole laid =
     let plot : Plot = plot_of (object_now c v.now) v.now.seats.holding.placing in
     elim (cases_Bool (is_releasing_behind x (is_phase w.now.words 4))) [
       | inl on ↦ rw (phase_kind c w seat x h ∙ on) (whole_by_kind c w seat x plot b h on
-          (replotted w.now.words.pages _ plot
-          _ whole))
+          (replotted w.now.words.pages _ plot _ whole))
       | inr off ↦ whole_quiet _ laid.scene (phase_kind c w seat x h ∙ off)
     ]

@@ -77,17 +77,14 @@ emptied_word c w is_gone p v n h r =
         (λ e. absurd (ne e)) refl
 
     unused : head_page w.now.words p ≡ r.cell.page → ⊥
-    unused e = none_set _ r.cell.index (ap (λ q. used_at w.now.words q) (sym e)
-        ∙ h.unused) r.used
+    unused e = none_set _ r.cell.index (ap (λ q. used_at w.now.words q) (sym e) ∙ h.unused) r.used
 
     not_here : page_at_address (address_of n) ≢ p
     not_here e = unused (ap (λ q. head_page w.now.words q) (sym e)
         ∙ sym (pointed_head c.pages w.now.words (address_of n) r.cell r.pointed))
 
     not_there : r.cell.page ≢ p
-    not_there e = unused (ap (λ q. head_page w.now.words q) (sym e)
-        ∙ own_head _ r.cell.page _ n r.to
-        r.from)
+    not_there e = unused (ap (λ q. head_page w.now.words q) (sym e) ∙ own_head _ r.cell.page _ n r.to r.from)
 
 -- A used word's step leaves all headers.
 pub same_headers : (pages : List Page) (p v q : ℕ)
@@ -102,8 +99,7 @@ pub unwiped_word : (c : Config) (w : World) (is_gone : Cell → Bool) (p v n : �
     → IsReleasedWord c (slice_set w.now.words.pages p (record { header = header_at w.now.words p; used = v })) is_gone n
 unwiped_word c w is_gone p v n h some r = kept_word c w.now.words.pages
     (slice_set w.now.words.pages p (record { header = header_at w.now.words p; used = v })) is_gone n r
-    (same_headers w.now.words.pages p v _)
-    (same_headers w.now.words.pages p v r.cell.page)
+    (same_headers w.now.words.pages p v _) (same_headers w.now.words.pages p v r.cell.page)
     (set_by (λ (x : Page). has_bit x.used r.cell.index ≡ true) w.now.words.pages p r.cell.page _ free_page still r.used)
   where
     wiped : r.cell.page ≡ p → has_bit v r.cell.index ≡ false → ⊥
@@ -120,9 +116,7 @@ unwiped_word c w is_gone p v n h some r = kept_word c w.now.words.pages
         let from = r.from in
         let to = r.to in
         let at : first_word w.now.words cell + (n - first_word w.now.words cell) ≡ n = omega arith in
-        some (ap (λ i. slice_index w.now.words.heap i) (sym at)
-        ∙ eqb-true _ 0
-        (all_below-at _ _
+        some (ap (λ i. slice_index w.now.words.heap i) (sym at) ∙ eqb-true _ 0 (all_below-at _ _
         (λ i. slice_index w.now.words.heap (first_word w.now.words cell + i) == 0) zero (omega arith)))
 
     still : r.cell.page ≡ p → has_bit v r.cell.index ≡ true
@@ -148,14 +142,10 @@ dropped_word c w p f v n h r =
   where
     bits : (has_bit (slice_index w.now.words.snapshot r.cell.page) r.cell.index ≡ true)
         × (not (has_bit (slice_index w.now.words.marks r.cell.page) r.cell.index) ≡ true)
-    bits = and_parts _
-        _
-        (sym (has_bit_without _ _
-        r.cell.index) ∙ r.released)
+    bits = and_parts _ _ (sym (has_bit_without _ _ r.cell.index) ∙ r.released)
 
     still : r.cell.page ≡ p → has_bit (without v (slice_index w.now.words.marks r.cell.page)) r.cell.index ≡ true
-    still e = has_bit_without v _ r.cell.index
-        ∙ and_from _ _
+    still e = has_bit_without v _ r.cell.index ∙ and_from _ _
         kept bits.1
       where
         kept : has_bit v r.cell.index ≡ true
@@ -187,8 +177,7 @@ gone_word w freed n gone f =
 -- `quar` (a), where no cell is freed
 pub word_where_none_is_freed : (c : Config) (w : World) (n : ℕ) → IsWordOfMapped c w.allocations n
     → IsWordOfMapped c (map (freed_where_it_stands w.now.words None) w.allocations) n
-word_where_none_is_freed c w n m = word_of_changed c _ w.allocations n
-    (freed_leaves w.now.words None) m m.mapped
+word_where_none_is_freed c w n m = word_of_changed c _ w.allocations n (freed_leaves w.now.words None) m m.mapped
 
 -- and where one is
 pub word_of_freed : (c : Config) (w : World) (cell : Cell) (n : ℕ) → IsWithinLimits c
@@ -317,8 +306,7 @@ quar_late : (c : Config) (w : World) (p v : ℕ)
     → ((n : ℕ) → IsReleasedWord c w.now.words.pages (is_released_there (zero_scene_with true w.now.words.marks w)) n
     → IsReleasedWord c w.now.words.pages (is_released_there (quarantined true w p v None)) n)
     → OthersAreZero c (zero_scene_with true w.now.words.marks w) → OthersAreZero c (quarantined true w p v None)
-quar_late c w p v keeps z =
-    changed_words c _ _ z (λ n ne. ne)
+quar_late c w p v keeps z = changed_words c _ _ z (λ n ne. ne)
     (λ n m. OfMapped (word_where_none_is_freed c w n m)) (λ n some r. OfReleased (keeps n r)) (λ n some f. OfFreedRun f)
 
 pub quar_kind : (c : Config) (w : World) (seat : Seat) (p v : ℕ) → Before c w seat (step.Quar p v)
