@@ -225,7 +225,8 @@ module _ (c : Config) (w : World) (n : NeverState) (T : ℕ → Type 0) (precise
       elim (more_bits w.now.words.marks p v cell.page cell.index bit) [
         | inl old ↦ precise.marked b u old
         | inr new ↦ elim (cases_Bool (marks_place w.now.words o place p v)) [
-          | inl placed ↦ absurd (has_header c w n b s.before u (rw new.0 (place_is_free w.now.words o place p v placed)))
+          | inl placed ↦
+              absurd (has_header c w n b s.before u (rw new.0 (place_is_free w.now.words o place p v placed)))
           | inr unplaced ↦
               let hand : Option Hand = w.now.seats.holding.hand in
               let h = hand_marks w.now.words c.pages hand p v (left_holds _ _ s.meets.holder unplaced)
