@@ -2,8 +2,8 @@
 use Rattle.mk_laws.proofs.Vocabulary.{Bool, Caller, Config, Flight, Host, Marker, MeetsAll, Moment, None, Op, Seat}
 use Rattle.mk_laws.proofs.Vocabulary.{Some, Stage, Step, and_parts, ap, cases_Bool, comes_next, eqb-false, eqb-true}
 use Rattle.mk_laws.proofs.Vocabulary.{false, flight_of, group_of, host_has_turn, inl, inr, is_new_at, is_of_turn}
-use Rattle.mk_laws.proofs.Vocabulary.{is_open_to, is_phase, is_undecided_new, is_under_turn, ltb-true, not-true, refl}
-use Rattle.mk_laws.proofs.Vocabulary.{sym, true, ℕ, ◌&&◌, ◌+◌, ◌<◌, ◌∙◌, ◌≡◌, ◌≢◌}
+use Rattle.mk_laws.proofs.Vocabulary.{is_open_to, is_undecided_new, is_under_turn, ltb-true, not-true, refl, sym, true}
+use Rattle.mk_laws.proofs.Vocabulary.{ℕ, ◌&&◌, ◌+◌, ◌<◌, ◌∙◌, ◌≡◌, ◌≢◌}
 use Rattle.mk_never.specs.declared.operations.Op.TheVariants as op
 use Rattle.mk_core.specs.declared.events.Step.TheVariants as step
 use Rattle.mk_core.specs.declared.events.Group.{Group}
@@ -41,10 +41,9 @@ turns_kind x g t = ap is_of_turn g
 caller_takes : (c : Config) (m : Moment) (k : ℕ) (x : Step) → Meets c m (Caller k) x → is_take x ≡ true
     → Actor c m (Caller k) x
 caller_takes c m k (step.Take (Some o)) h t =
-    let s = at_take (flight_of m (Caller k)).stage (flight_of m (Caller k)).op o h.order in
+    let s = at_take _ _ o h.order in
     CallTakes k o (ltb-true k c.callers h.seat) s.0 s.1
-caller_takes c m k (step.Take None) h t =
-    absurd (at_no_take (flight_of m (Caller k)).stage (flight_of m (Caller k)).op h.order)
+caller_takes c m k (step.Take None) h t = absurd (at_no_take _ _ h.order)
 caller_takes c m k _ h t = cc
 
 caller_acts : (c : Config) (m : Moment) (k : ℕ) (x : Step) → Meets c m (Caller k) x
@@ -83,7 +82,7 @@ never true e = cc
 never false e = cc
 
 over_holds : (c : Config) (m : Moment) → Meets c m Host step.Over → host_has_turn c m ≡ true
-over_holds c m h = (and_parts (host_has_turn c m) (is_phase m.words 0) h.holder).0
+over_holds c m h = (and_parts _ _ h.holder).0
 
 host_may : (c : Config) (m : Moment) (x : Step) → group_of x ≡ group.Turn → is_take x ≡ false
     → comes_next_to_host (host_has_turn c m) x ≡ true → host_has_turn c m ≡ true
@@ -98,9 +97,8 @@ host_may c m x g t h = by x (host_has_turn c m) g t h
     by _ false g t h = cc
 
 host_takes : (c : Config) (m : Moment) (x : Step) → Meets c m Host x → is_take x ≡ true → Actor c m Host x
-host_takes c m (step.Take None) h t =
-    HostTakes (eqb-false m.words.turn (1 + c.callers) (not-true (host_has_turn c m) h.order))
-host_takes c m (step.Take (Some o)) h t = absurd (never (host_has_turn c m) h.order)
+host_takes c m (step.Take None) h t = HostTakes (eqb-false m.words.turn (1 + c.callers) (not-true _ h.order))
+host_takes c m (step.Take (Some o)) h t = absurd (never _ h.order)
 host_takes c m _ h t = cc
 
 host_acts : (c : Config) (m : Moment) (x : Step) → Meets c m Host x → Actor c m Host x
@@ -140,12 +138,12 @@ new_at_full _ _ h = cc
 
 pub grants_new : (c : Config) (m : Moment) (seat : Seat) → Meets c m seat step.Grant
     → is_undecided_new (flight_of m seat) ≡ true
-grants_new c m (Caller k) h = new_at_grant (flight_of m (Caller k)).stage (flight_of m (Caller k)).op h.order
+grants_new c m (Caller k) h = new_at_grant _ _ h.order
 grants_new c m (Marker k) h = let kind = h.kind in cc
-grants_new c m Host h = absurd (never (host_has_turn c m) h.order)
+grants_new c m Host h = absurd (never _ h.order)
 
 pub fills_new : (c : Config) (m : Moment) (seat : Seat) → Meets c m seat step.Full
     → is_undecided_new (flight_of m seat) ≡ true
-fills_new c m (Caller k) h = new_at_full (flight_of m (Caller k)).stage (flight_of m (Caller k)).op h.order
+fills_new c m (Caller k) h = new_at_full _ _ h.order
 fills_new c m (Marker k) h = let kind = h.kind in cc
-fills_new c m Host h = absurd (never (host_has_turn c m) h.order)
+fills_new c m Host h = absurd (never _ h.order)

@@ -26,7 +26,7 @@ module _ (globals : List ℕ) (n m : NeverState) (k : ℕ) (on : Continues n m) 
 
   pub meets_register : (q i : ℕ) (P : Kind → Type 0) → q < 8 → Meets n (register_at n k q) i P
       → Meets m (register_at m k q) i P
-  meets_register q i P lt h = rw (own q lt) (meets_value (register_at n k q) i P (typed.registers (8 * k + q)) h)
+  meets_register q i P lt h = rw (own q lt) (meets_value _ i P (typed.registers (8 * k + q)) h)
 
   access_on : (o : Op) → OperandsAreInRange n o → AccessIsAdmitted n k o → AccessIsAdmitted m k o
   access_on (op.GetNum q i) r h = meets_register q i IsNumber r h

@@ -79,7 +79,7 @@ came xs _ x i (Changes g ch) u =
 came xs _ x i (Grants a grant) u = elim (cases_lt i (length xs)) [
   | inl lt ↦
       let at = earlier_at xs a i lt in
-      Stayed (rw (← at) u) (of_one_same (placed_at xs i) _ at)
+      Stayed (rw (← at) u) (of_one_same _ _ at)
   | inr past ↦
       let lt = is_there (xs ++ a ∷ []) i u in
       let count = length-append xs (a ∷ []) in
@@ -101,16 +101,16 @@ goes_on xs _ x i (Changes g ch) lt =
     record {
       there = omega arith;
       same = record {
-        base = ap (λ (a : PlacedAllocation). a.base) at ∙ ch.places.base (placed_at xs i);
-        ty = ap (λ (a : PlacedAllocation). a.ty) at ∙ ch.places.ty (placed_at xs i);
+        base = ap (λ (a : PlacedAllocation). a.base) at ∙ ch.places.base _;
+        ty = ap (λ (a : PlacedAllocation). a.ty) at ∙ ch.places.ty _;
       };
-      stays = λ other u. ap (λ (a : PlacedAllocation). a.released) at ∙ ch.stays other (placed_at xs i) u;
+      stays = λ other u. ap (λ (a : PlacedAllocation). a.released) at ∙ ch.stays other _ u;
     }
 goes_on xs _ x i (Grants a grant) lt =
     let at = earlier_at xs a i lt in
     let count = length-append xs (a ∷ []) in
     record {
       there = omega arith;
-      same = of_one_same (placed_at xs i) _ at;
+      same = of_one_same _ _ at;
       stays = λ other u. ap (λ (b : PlacedAllocation). b.released) at ∙ u;
     }

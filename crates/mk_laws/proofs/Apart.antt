@@ -91,9 +91,7 @@ pub same_block : (c : Config) (w : Words) (xs : List PlacedAllocation) (i j : �
     → (placed_at xs i).base / 64 ≡ (placed_at xs j).base / 64
     → (class_made (object_placed c (placed_at xs i)) ≡ class_made (object_placed c (placed_at xs j)))
     × ((object_placed c (placed_at xs i)).leaf ≡ (object_placed c (placed_at xs j)).leaf)
-same_block c w xs i j r u v si sj page =
-    same_block_by (object_placed c (placed_at xs i)) (object_placed c (placed_at xs j))
-    (header_in w ((placed_at xs i).base / 64)) (header_in w ((placed_at xs j).base / 64))
+same_block c w xs i j r u v si sj page = same_block_by _ _ _ _
     (rw page) (first_part_of c w xs i r u) (first_part_of c w xs j r v) si sj
 
 -- The cell's index is that at which the object begins.
@@ -220,17 +218,15 @@ lie_in_pairs c (x ∷ xs) apart lie =
     beside : x.released ≡ false → AreApart (claim_of c None x ∷ claims_of c None xs) → (j : ℕ) (d : Storage)
         → j < length (unreleased_storage c xs) → LieApart (storage_of c x) (get_or (unreleased_storage c xs) j d)
     beside u ap2 j d lj =
-        let h = storage_is_of c xs (get_or (unreleased_storage c xs) j d)
-        (Contains-get_or (unreleased_storage c xs) j d lj) in
+        let h = storage_is_of c xs (get_or _ j d) (Contains-get_or (unreleased_storage c xs) j d lj) in
         rw h.storage (lie 0 (suc h.number) u h.unreleased
-        (λ same. ap2.0 (claim_of c None (placed_at xs h.number)) (claim_among c None xs h.number h.unreleased) same))
+        (λ same. ap2.0 _ (claim_among c None xs h.number h.unreleased) same))
 
     cons : x.released ≡ false → AreApart (claim_of c None x ∷ claims_of c None xs)
         → LieInPairs (unreleased_storage c xs) → LieInPairs (storage_of c x ∷ unreleased_storage c xs)
     cons u ap2 rest zero zero d li lj ne = absurd (ne refl)
     cons u ap2 rest zero (suc j) d li lj ne = beside u ap2 j d (omega arith)
-    cons u ap2 rest (suc i) zero d li lj ne =
-        swapped (storage_of c x) (get_or (unreleased_storage c xs) i d) (beside u ap2 i d (omega arith))
+    cons u ap2 rest (suc i) zero d li lj ne = swapped _ (get_or _ i d) (beside u ap2 i d (omega arith))
     cons u ap2 rest (suc i) (suc j) d li lj ne = rest i j d (omega arith) (omega arith) (λ e. ne (rw e))
 
     by : (x.released ≡ true) ⊎ (x.released ≡ false)

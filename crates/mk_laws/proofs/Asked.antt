@@ -1,10 +1,9 @@
 -- What the conditions on gates, phases and markers say.
 use Rattle.mk_laws.proofs.Vocabulary.{Caller, Config, Host, List, Marker, MarkerState, Moment, Seat, Words, []}
-use Rattle.mk_laws.proofs.Vocabulary.{all_below, all_below-at, and_parts, arith, eqb-false, eqb-true, false}
-use Rattle.mk_laws.proofs.Vocabulary.{has_closed_page, holder_number, inl, inr, is_attending, is_held, is_number_of}
-use Rattle.mk_laws.proofs.Vocabulary.{ltb-true, nat_lt, none_attends, not, not-true, or_cases, others_are_held, outside}
-use Rattle.mk_laws.proofs.Vocabulary.{refl, roots_point_well, slice_index, slice_index_or, suc, true, zero, ℕ, ◌&&◌}
-use Rattle.mk_laws.proofs.Vocabulary.{◌<◌, ◌==◌, ◌||◌, ◌∷◌, ◌≡◌, ◌≢◌, ◌≤◌, ◌⊎◌}
+use Rattle.mk_laws.proofs.Vocabulary.{all_below-at, and_parts, arith, eqb-false, eqb-true, false, holder_number, inl}
+use Rattle.mk_laws.proofs.Vocabulary.{inr, is_attending, is_held, is_number_of, ltb-true, nat_lt, none_attends, not}
+use Rattle.mk_laws.proofs.Vocabulary.{not-true, or_cases, others_are_held, outside, refl, slice_index, slice_index_or}
+use Rattle.mk_laws.proofs.Vocabulary.{suc, true, zero, ℕ, ◌&&◌, ◌<◌, ◌==◌, ◌||◌, ◌∷◌, ◌≡◌, ◌≢◌, ◌≤◌, ◌⊎◌}
 use Rattle.mk_core.specs.Moments.{none_is_held}
 use Rattle.mk_core.specs.StopConditions.{may_close}
 use Rattle.mk_laws.proofs.Views.{view_of}
@@ -12,8 +11,7 @@ use Rattle.mk_laws.proofs.ProtocolMoves.{OthersAreHeld}
 
 pub none_held : (c : Config) (w : Words) → none_is_held c.callers w ≡ true → (j : ℕ) → j < c.callers
     → slice_index w.gates j ≢ 2
-none_held c w h j lt = eqb-false (slice_index w.gates j) 2
-    (not-true (is_held w j) (all_below-at c.callers j (λ i. not (is_held w i)) h lt))
+none_held c w h j lt = eqb-false _ 2 (not-true (is_held w j) (all_below-at c.callers j (λ i. not (is_held w i)) h lt))
 
 number_is : (c : Config) (seat : Seat) (j : ℕ) → is_number_of seat j ≡ true → holder_number c seat ≡ j
 number_is c (Caller k) j h = eqb-true k j h
@@ -21,18 +19,18 @@ number_is c _ j h = cc
 
 pub others_held : (c : Config) (m : Moment) (seat : Seat) → others_are_held c.callers m.words seat ≡ true
     → OthersAreHeld c (view_of m) seat
-others_held c m seat h j lt ne = elim (or_cases (is_number_of seat j) (is_held m.words j)
+others_held c m seat h j lt ne = elim (or_cases _ _
     (all_below-at c.callers j (λ i. is_number_of seat i || is_held m.words i) h lt)) [
       | inl own ↦ absurd (ne (number_is c seat j own))
-      | inr held ↦ eqb-true (slice_index m.words.gates j) 2 held
+      | inr held ↦ eqb-true _ 2 held
     ]
 
 pub other_caller : (c : Config) (seat : Seat) (j : ℕ) → (nat_lt j c.callers && not (is_number_of seat j)) ≡ true
     → (j < c.callers) × (holder_number c seat ≢ j)
 other_caller c seat j h =
-    let p = and_parts (nat_lt j c.callers) (not (is_number_of seat j)) h in
+    let p = and_parts _ _ h in
     let lt = ltb-true j c.callers p.0 in
-    (lt, apart c seat j lt (not-true (is_number_of seat j) p.1))
+    (lt, apart c seat j lt (not-true _ p.1))
   where
     apart : (c : Config) (seat : Seat) (j : ℕ) → j < c.callers → is_number_of seat j ≡ false → holder_number c seat ≢ j
     apart c (Caller k) j lt h = eqb-false k j h
@@ -40,7 +38,7 @@ other_caller c seat j h =
     apart c Host j lt h = λ e. absurd (omega arith)
 
 pub give_phase : (n : ℕ) → ((n == 0) || (n == 1) || (n == 5)) ≡ true → (n ≤ 1) ⊎ (n ≡ 5)
-give_phase n h = elim (or_cases ((n == 0) || (n == 1)) (n == 5) h) [
+give_phase n h = elim (or_cases _ (n == 5) h) [
   | inl a ↦ elim (or_cases (n == 0) (n == 1) a) [
     | inl b ↦ inl (omega (arith, eqb-true n 0 b))
     | inr b ↦ inl (omega (arith, eqb-true n 1 b))
@@ -51,11 +49,8 @@ give_phase n h = elim (or_cases ((n == 0) || (n == 1)) (n == 5) h) [
 pub none_at : (xs : List MarkerState) (k : ℕ) → none_attends xs ≡ true
     → is_attending (slice_index_or xs k outside).presence ≡ false
 none_at [] k h = refl
-none_at (x ∷ xs) zero h =
-    not-true (is_attending x.presence) (and_parts (not (is_attending x.presence)) (none_attends xs) h).0
-none_at (x ∷ xs) (suc k) h = none_at xs k (and_parts (not (is_attending x.presence)) (none_attends xs) h).1
+none_at (x ∷ xs) zero h = not-true _ (and_parts _ _ h).0
+none_at (x ∷ xs) (suc k) h = none_at xs k (and_parts _ _ h).1
 
 pub closing_alone : (c : Config) (m : Moment) → may_close c m ≡ true → none_attends m.seats.markers ≡ true
-closing_alone c m h = (and_parts (none_attends m.seats.markers) (all_below c.pages (has_closed_page m.words))
-    (and_parts (none_attends m.seats.markers && all_below c.pages (has_closed_page m.words))
-    (roots_point_well c.pages m.words) h).0).0
+closing_alone c m h = (and_parts _ _ (and_parts _ _ h).0).0

@@ -3,10 +3,10 @@ use Rattle.mk_laws.proofs.Vocabulary.{Among, Claim, Config, HasZeros, IsClaimedR
 use Rattle.mk_laws.proofs.Vocabulary.{IsWordOfMapped, MayHold, Object, OfFreedRun, OfMapped, OfReleased, Option}
 use Rattle.mk_laws.proofs.Vocabulary.{PlacedAllocation, RunPages, RunStands, ShowsPart, World, and_parts, ap, arith}
 use Rattle.mk_laws.proofs.Vocabulary.{cases_eq, claim_of, claims_of, false, ground_of, head_on, header_made, header_of}
-use Rattle.mk_laws.proofs.Vocabulary.{header_on, inl, inr, is_phase, leb-true, ltb-true, made_shows, nat_le, nat_lt}
-use Rattle.mk_laws.proofs.Vocabulary.{object_now, object_placed, pages_made, pages_some, part_head, placed_at, refl}
-use Rattle.mk_laws.proofs.Vocabulary.{shows_on, slice_index, storage_words, subst, sym, used_on, words_made}
-use Rattle.mk_laws.proofs.Vocabulary.{zero_scene_of, ℕ, ◌+◌, ◌-◌, ◌/◌, ◌<◌, ◌∙◌, ◌≡◌, ◌≢◌, ◌≤◌}
+use Rattle.mk_laws.proofs.Vocabulary.{header_on, inl, inr, is_phase, leb-true, ltb-true, made_shows, object_now}
+use Rattle.mk_laws.proofs.Vocabulary.{object_placed, pages_made, pages_some, part_head, placed_at, refl, shows_on}
+use Rattle.mk_laws.proofs.Vocabulary.{slice_index, storage_words, subst, sym, used_on, words_made, zero_scene_of, ℕ}
+use Rattle.mk_laws.proofs.Vocabulary.{◌+◌, ◌-◌, ◌/◌, ◌<◌, ◌∙◌, ◌≡◌, ◌≢◌, ◌≤◌}
 use Rattle.mk_laws.proofs.Basics.{Laid, claim_among, claimed_some, ends_on_pages, mapped_stays, none_released, none_set}
 use Rattle.mk_laws.proofs.Basics.{own_claim}
 use Rattle.mk_laws.proofs.LayoutReadings.{claimed_head}
@@ -27,7 +27,7 @@ pub record IsOnAllocation (c : Config) (w : World) (p : ℕ) : Type 0 where
 
 pub shown_there : (c : Config) (w : World) (x : Claim) → Unreleasing c w
     → Among x (claims_of c w.now.seats.holding.freed w.allocations) → IsShown w.now.words.pages x
-shown_there c w x q i = q.laid.scene.shown x (own_claim c (object_now c w.now) (ground_of w) x i)
+shown_there c w x q i = q.laid.scene.shown x (own_claim c _ (ground_of w) x i)
 
 mapped_on : (c : Config) (w : World) (n : ℕ) → Unreleasing c w → IsWordOfMapped c w.allocations n
     → IsOnAllocation c w (n / 64)
@@ -37,7 +37,7 @@ mapped_on c w n q m =
     let x : Claim = claim_of c w.now.seats.holding.freed a in
     let i : Among x (claims_of c w.now.seats.holding.freed w.allocations) =
     claim_among c w.now.seats.holding.freed w.allocations m.number u in
-    let ends = ends_on_pages (object_placed c a) a.base (shown_there c w x q i).sized (q.laid.cells m.number u).begins
+    let ends = ends_on_pages _ a.base (shown_there c w x q i).sized (q.laid.cells m.number u).begins
     in
     let words : storage_words c a ≡ words_made (object_placed c a) = refl in
     let from : a.base ≤ n = m.word.0 in
@@ -50,9 +50,9 @@ freed_on c w n q f =
     let x : IsClaimedRun (claims_of c w.now.seats.holding.freed w.allocations) f.run =
     subst (λ (r : Option RunPages). RunStands (claims_of c w.now.seats.holding.freed w.allocations) r) f.there
     q.laid.gone in
-    let parts = and_parts (nat_le f.run.page (n / 64)) (nat_lt (n / 64 - f.run.page) f.run.count) f.word in
+    let parts = and_parts _ _ f.word in
     let from = leb-true f.run.page (n / 64) parts.0 in
-    let to = ltb-true (n / 64 - f.run.page) f.run.count parts.1 in
+    let to = ltb-true _ f.run.count parts.1 in
     let page = x.page in
     let count = x.count in
     record { claim = x.claim; among = x.among; distance = n / 64 - f.run.page; near = omega arith; at = omega arith }
@@ -97,7 +97,6 @@ plot_page c w first o distance n q plot lt at = elim (plot.headers distance lt) 
         let some = pages_some o plot.sized in
         let zero : first + 0 ≡ first = omega arith in
         let page : x.claim.page ≡ first = sym (claimed_head w.now.words.pages x.claim x.distance shown x.near)
-        ∙ ap (λ p. head_on w.now.words.pages p) (x.at ∙ at)
-        ∙ part_head o distance first (shows_on w.now.words.pages (first + distance)) part in
-        none_set (used_on w.now.words.pages x.claim.page) x.claim.index
+        ∙ ap (λ p. head_on w.now.words.pages p) (x.at ∙ at) ∙ part_head o distance first _ part in
+        none_set _ x.claim.index
         (ap (λ p. used_on w.now.words.pages p) (page ∙ sym zero) ∙ plot.used 0 (omega arith)) shown.used

@@ -2,13 +2,13 @@
 use Rattle.mk_laws.proofs.Vocabulary.{Bool, Chosen, Config, HasLayout, LayoutStands, Marker, Moment, None, Option}
 use Rattle.mk_laws.proofs.Vocabulary.{Placing, Seat, SeenHeader, Some, Step, World, and_parts, ap, arith, cases_Bool}
 use Rattle.mk_laws.proofs.Vocabulary.{cell_seen, eq-eqb, eqb-true, false, ground_of, has_place, holder_number}
-use Rattle.mk_laws.proofs.Vocabulary.{host_has_turn, if◌then◌else◌, inl, inr, is_attending, is_phase, is_some}
-use Rattle.mk_laws.proofs.Vocabulary.{marker_at, marker_of, ne_eqb, nothing_done, object_now, phase_of, refl, sym, true}
-use Rattle.mk_laws.proofs.Vocabulary.{ℕ, ◌%◌, ◌+◌, ◌-◌, ◌==◌, ◌^◌, ◌∙◌, ◌≡◌, ◌≢◌, ◌⊎◌}
+use Rattle.mk_laws.proofs.Vocabulary.{if◌then◌else◌, inl, inr, is_attending, is_phase, is_some, marker_at, marker_of}
+use Rattle.mk_laws.proofs.Vocabulary.{ne_eqb, nothing_done, object_now, phase_of, refl, sym, true, ℕ, ◌%◌, ◌+◌, ◌-◌}
+use Rattle.mk_laws.proofs.Vocabulary.{◌==◌, ◌∙◌, ◌≡◌, ◌≢◌, ◌⊎◌}
 use Rattle.mk_laws.proofs.Basics.{Before, Known, Meets, WorldBehind, actor_of, held_place, is_releasing_behind}
 use Rattle.mk_laws.proofs.Basics.{not_astray, reg_leaves, tally_keeps, view_of}
 use Rattle.mk_core.specs.declared.events.Step.TheVariants as step
-use Rattle.mk_laws.proofs.Colours.{AddsMarks, ClearsMarks, ColourStep, Colours, MarksSeen, colour_step, colours_of}
+use Rattle.mk_laws.proofs.Colours.{AddsMarks, ClearsMarks, ColourStep, Colours, MarksSeen, colour_step}
 use Rattle.mk_laws.proofs.NewPlace.{new_was}
 use Rattle.mk_laws.proofs.OrderlyLists.{orderly_behind}
 use Rattle.mk_laws.proofs.Sorts.{moves}
@@ -24,32 +24,30 @@ same_low : (n m : ℕ) → n % 8 ≡ m % 8 → (n % 8 == 4) ≡ (m % 8 == 4)
 same_low n m e = rw e
 
 pub over_phase : (c : Config) (w : World) (seat : Seat) → Meets c w.now seat step.Over → w.now.words.phase % 8 ≡ 0
-over_phase c w seat h =
-    eqb-true (w.now.words.phase % 8) 0 (and_parts (host_has_turn c w.now) (is_phase w.now.words 0) h.holder).1
+over_phase c w seat h = eqb-true _ 0 (and_parts _ _ h.holder).1
 
 pub phase_kind : (c : Config) (w : World) (seat : Seat) (x : Step) → Meets c w.now seat x
     → is_phase (WorldBehind c w seat x).now.words 4 ≡ is_releasing_behind x (is_phase w.now.words 4)
 phase_kind c w seat step.Reg h = same_low _ _ (rw (reg_leaves c w seat).phase)
 phase_kind c w seat (step.Tally n v) h = same_low _ _ (rw (tally_keeps w.now.words n v).phase)
 phase_kind c w seat step.Begin h =
-    let e = eqb-true (w.now.words.phase % 8) 0 h.phase in
-    not_four ((w.now.words.phase + 1) % 2 ^ 64) w.now.words.phase (λ x. omega arith) (λ x. omega arith)
+    let e = eqb-true _ 0 h.phase in
+    not_four _ w.now.words.phase (λ x. omega arith) (λ x. omega arith)
 phase_kind c w seat step.Want h =
-    let e = eqb-true (w.now.words.phase % 8) 1 h.phase in
-    not_four ((w.now.words.phase + 1) % 2 ^ 64) w.now.words.phase (λ x. omega arith) (λ x. omega arith)
+    let e = eqb-true _ 1 h.phase in
+    not_four _ w.now.words.phase (λ x. omega arith) (λ x. omega arith)
 phase_kind c w seat step.Close h =
-    let e = eqb-true (w.now.words.phase % 8) 2 h.phase in
-    not_four ((w.now.words.phase + 1) % 2 ^ 64) w.now.words.phase (λ x. omega arith) (λ x. omega arith)
-phase_kind c w seat step.Release h = let e =
-    eqb-true (w.now.words.phase % 8) 3 h.phase in eq-eqb ((w.now.words.phase + 1) % 2 ^ 64 % 8) 4 (omega arith)
+    let e = eqb-true _ 2 h.phase in
+    not_four _ w.now.words.phase (λ x. omega arith) (λ x. omega arith)
+phase_kind c w seat step.Release h = let e = eqb-true _ 3 h.phase in eq-eqb _ 4 (omega arith)
 phase_kind c w seat step.End h =
-    let e = eqb-true (w.now.words.phase % 8) 4 h.phase in
-    ne_eqb ((w.now.words.phase + (2 ^ 64 - 4)) % 2 ^ 64 % 8) 4 (λ x. omega arith)
-phase_kind c w seat step.Attend h = same_low ((w.now.words.phase + 8) % 2 ^ 64) w.now.words.phase (omega arith)
-phase_kind c w seat step.Quit h = same_low ((w.now.words.phase + (2 ^ 64 - 8)) % 2 ^ 64) w.now.words.phase (omega arith)
+    let e = eqb-true _ 4 h.phase in
+    ne_eqb _ 4 (λ x. omega arith)
+phase_kind c w seat step.Attend h = same_low _ w.now.words.phase (omega arith)
+phase_kind c w seat step.Quit h = same_low _ w.now.words.phase (omega arith)
 phase_kind c w seat step.Over h =
     let e = over_phase c w seat h in
-    not_four ((w.now.words.phase + 5) % 2 ^ 64) w.now.words.phase (λ x. omega arith) (λ x. omega arith)
+    not_four _ w.now.words.phase (λ x. omega arith) (λ x. omega arith)
 phase_kind c w seat _ h = refl
 
 -- While released cells are there, no mark changes: nobody marks then.
@@ -86,8 +84,7 @@ releasing_marks c w seat x known h on = by x h on
         → (WorldBehind c w seat x).now.words.marks ≡ w.now.words.marks
     by step.Release h on = refl
     by step.End h on = refl
-    by x h on = marks_stay c w.now seat (colours_of (WorldBehind c w seat x).now) known
-        (eqb-true (phase_of w.now.words) 4 on) (colour_step c w.now seat x h)
+    by x h on = marks_stay c w.now seat _ known (eqb-true _ 4 on) (colour_step c w.now seat x h)
 
 -- Where there is a place after, the turn is the same,
 turn_kind : (c : Config) (w : World) (seat : Seat) (x : Step) → Meets c w.now seat x

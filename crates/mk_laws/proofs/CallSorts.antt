@@ -124,13 +124,12 @@ module _ (c : Config) (w : World) (n : NeverState) (known : KnownWorld c w) (mir
   -- a call that begins, or doesn't
   pub begins : (k : ℕ) (o next : Op) (x : ℕ) → is_put (flight_of w.now (Caller k)).stage ≡ false
       → LeadsBy safe (image_scene_of w) n k o (image_scene_of w) (begins_where_free (flight_of w.now (Caller k)) next x)
-  begins k o next x was = either_leads safe (image_scene_of w) n k o (image_scene_of w) (x == 0) (record {
+  begins k o next x was = either_leads safe _ n k o (image_scene_of w) (x == 0) (record {
     flight = begun next;
     answer = None;
-  }) _ (λ z. flies_on safe (image_scene_of w) n k o (begun next) was (begun_not_put next) (begun_carries _ next n k)
+  }) _ (λ z. flies_on safe _ n k o (begun next) was (begun_not_put next) (begun_carries _ next n k)
       (λ past. let y : false ≡ true = sym (begun_unprobed next) ∙ past in cc))
-      (λ z. flies_on safe (image_scene_of w) n k o (flight_of w.now (Caller k)) was was (ready.images.carried k)
-      (ready.images.probed k))
+      (λ z. flies_on safe _ n k o (flight_of w.now (Caller k)) was was (ready.images.carried k) (ready.images.probed k))
 
   -- a call that stays where it is
   pub stays : (k : ℕ) (o : Op) → Leads safe (image_scene_of w) n k o
@@ -144,7 +143,7 @@ module _ (c : Config) (w : World) (n : NeverState) (known : KnownWorld c w) (mir
       → is_bare f.stage ≡ true → Leads safe (image_scene_of w) n k o (record (image_scene_of w) {
         flights = slice_set w.now.seats.flights k f;
       }) None
-  bare_on k o f was bare = (goes_bare safe (image_scene_of w) n k f was bare, λ more. refl)
+  bare_on k o f was bare = (goes_bare safe _ n k f was bare, λ more. refl)
 
   stage_put : (k : ℕ) (st : Stage) → (flight_of w.now (Caller k)).stage ≡ st → is_put st ≡ false
       → is_put (flight_of w.now (Caller k)).stage ≡ false
@@ -180,12 +179,10 @@ module _ (c : Config) (w : World) (n : NeverState) (known : KnownWorld c w) (mir
       let lt = ltb-true k c.callers h.seat in
       let x = register_word w.now.words k (register_met f f.stage) in
       rw (reg_registers w.now.words k f f.stage) (rw (reg_globals w.now.words k f f.stage)
-      (rw (reg_heap w.now.words k f f.stage)
-      (reg_leads c.globals safe (image_scene_of w) n k ready (there_is k lt) (own_registers k lt)
+      (rw (reg_heap w.now.words k f f.stage) (reg_leads c.globals safe _ n k ready (there_is k lt) (own_registers k lt)
       (own_words k lt) f.stage
       f.op f.q f.p f.r f.loaded x refl (own_d k) (at_reg f.stage f.op h.order) (own_astray k lt)
-      (ready.images.carried k) (λ np. own_plain (image_scene_of w) n ready.images k _
-      (register_small_here k f.stage) np) ad)))
+      (ready.images.carried k) (λ np. own_plain _ n ready.images k _ (register_small_here k f.stage) np) ad)))
     where
       register_small_here : (k : ℕ) (s : Stage) → register_met (flight_of w.now (Caller k)) s < 8
       register_small_here k stage.LoadQ = (ready.small k).0
@@ -218,7 +215,7 @@ module _ (c : Config) (w : World) (n : NeverState) (known : KnownWorld c w) (mir
       let out = call_outside f.op f.stage (ap is_call_stage st) (own_astray k lt) in
       let x = slice_index w.now.words.heap (word_met f) in
       subst (λ (g : Flight). LeadsBy safe (image_scene_of w) n k g.op (image_scene_of w) (progress_read g g.op x))
-      (sym e) (read_leads c.globals safe (image_scene_of w) n k ready (there_is k lt)
+      (sym e) (read_leads c.globals safe _ n k ready (there_is k lt)
       (own_registers k lt) f.op f.q f.p f.r f.loaded x e (own_d k) (rw e at (own_astray k lt))
       (rw e at (ready.images.carried k)) (rw e at (ready.images.probed k)) refl
       (read_admitted c.globals n k f f.op x out ad))
@@ -231,7 +228,7 @@ module _ (c : Config) (w : World) (n : NeverState) (known : KnownWorld c w) (mir
       let st = at_its_stage f.stage f.op step.Write refl h.order in
       let e = literal f stage.Write st in
       let out = call_outside f.op f.stage (ap is_call_stage st) (own_astray k lt) in
-      rw e (write_leads c.globals safe (image_scene_of w) n k ready (there_is k lt)
+      rw e (write_leads c.globals safe _ n k ready (there_is k lt)
       (own_registers k lt) f.op f.q f.p f.r f.loaded e (rw e at (own_astray k lt)) (rw e at (ready.images.carried k))
       (rw e at (ready.images.probed k)) (admitted_call c.globals n k f.op answer.Done out ad))
 
@@ -243,7 +240,7 @@ module _ (c : Config) (w : World) (n : NeverState) (known : KnownWorld c w) (mir
       let e = literal f stage.Cas st in
       let out = call_outside f.op f.stage (ap is_call_stage st) (own_astray k lt) in
       let x = slice_index w.now.words.heap (word_met f) in
-      rw e (cas_leads c.globals safe (image_scene_of w) n k ready (there_is k lt)
+      rw e (cas_leads c.globals safe _ n k ready (there_is k lt)
       (own_registers k lt) f.op f.q f.p f.r f.loaded x e (rw e at (own_astray k lt)) (rw e at (ready.images.carried k))
       (rw e at (ready.images.probed k)) refl (admitted_call c.globals n k f.op _ out ad))
 
@@ -253,7 +250,7 @@ module _ (c : Config) (w : World) (n : NeverState) (known : KnownWorld c w) (mir
       let lt = ltb-true k c.callers h.seat in
       let e = literal f stage.Getg (at_its_stage f.stage f.op step.Getg refl h.order) in
       let x = slice_index w.now.words.globals (g_of f.op) in
-      rw e (getg_leads c.globals safe (image_scene_of w) n k ready (there_is k lt)
+      rw e (getg_leads c.globals safe _ n k ready (there_is k lt)
       (own_registers k lt) f.op f.q f.p f.r f.loaded x e (own_d k) (rw e at (own_astray k lt)) refl)
 
   pub setg_leads_at : (k : ℕ) → Meets c w k step.Setg → LeadsAt c w n safe k step.Setg
@@ -264,6 +261,6 @@ module _ (c : Config) (w : World) (n : NeverState) (known : KnownWorld c w) (mir
       let small = (operands_of c f.op (known.now.operands k)).g in
       let lg = known.lengths.globals in
       let ln = mirrors.global_count in
-      rw e (setg_leads c.globals safe (image_scene_of w) n k ready (there_is k lt)
+      rw e (setg_leads c.globals safe _ n k ready (there_is k lt)
       (own_registers k lt) f.op f.q f.p f.r f.loaded e (rw e at (own_astray k lt)) (rw e at (ready.images.carried k))
       (omega arith) (omega arith))

@@ -2,8 +2,8 @@
 use Rattle.mk_laws.proofs.Vocabulary.{AreOfPages, Config, HasZeros, IsFreedWord, IsReleasedWord, IsWithinLimits}
 use Rattle.mk_laws.proofs.Vocabulary.{IsWordOfMapped, List, MayHold, OfFreedRun, OfMapped, OfReleased, OthersAreZero}
 use Rattle.mk_laws.proofs.Vocabulary.{Page, Seat, Step, Words, World, ZeroScene, and_parts, false, has_bit, is_phase}
-use Rattle.mk_laws.proofs.Vocabulary.{is_released_there, object_now, placed_at, refl, set_by, slice_index, slice_set}
-use Rattle.mk_laws.proofs.Vocabulary.{subst, sym, true≢false, without, zero_scene_with, ℕ, ◌∙◌, ◌≡◌, ◌≢◌}
+use Rattle.mk_laws.proofs.Vocabulary.{is_released_there, placed_at, refl, set_by, slice_index, slice_set, subst, sym}
+use Rattle.mk_laws.proofs.Vocabulary.{true≢false, without, zero_scene_with, ℕ, ◌∙◌, ◌≡◌, ◌≢◌}
 use Rattle.mk_laws.proofs.Known.{Known}
 use Rattle.mk_laws.proofs.Released.{all_stand, IsStanding}
 use Rattle.mk_laws.specs.ZeroLaws.{ZeroPremises}
@@ -22,8 +22,7 @@ here w = zero_scene_with (is_phase w.now.words 4) w.now.words.marks w
 
 pub standing : (c : Config) (w : World) (seat : Seat) (x : Step) (i : ℕ) → Before c w seat x
     → (placed_at w.allocations i).released ≡ false → IsStanding c w.now.words (placed_at w.allocations i)
-standing c w seat x i b u =
-    all_stand c (object_now c w.now) (is_phase w.now.words 4) w b.lengths.pages b.others.laid_out i u
+standing c w seat x i b u = all_stand c _ _ w b.lengths.pages b.others.laid_out i u
 
 -- While the phase isn't releasing no cell is released.
 pub none_released : (c : Config) (s : ZeroScene) (n : ℕ) → s.releasing ≡ false

@@ -2,7 +2,7 @@
 use Rattle.mk_laws.proofs.Vocabulary.{Access, AreOfPages, Bool, Caller, Config, DirtyIsOwed, Flight, Host, IsGuarded}
 use Rattle.mk_laws.proofs.Vocabulary.{IsMarking, List, Load, Marker, Moment, Named, OnlyGrow, Op, OwesDirty, Page, Seat}
 use Rattle.mk_laws.proofs.Vocabulary.{Stage, Step, Store, Tally, Words, accessed, and_parts, ap, arith, at_rest}
-use Rattle.mk_laws.proofs.Vocabulary.{caller_number, cases_eq, cases_lt, comes_next, false, flight_of, found, free_page}
+use Rattle.mk_laws.proofs.Vocabulary.{cases_eq, cases_lt, comes_next, false, flight_of, found, free_page}
 use Rattle.mk_laws.proofs.Vocabulary.{get_or-set_other, get_or-set_same, header_at, inl, inr, length, ltb-true, nat_le}
 use Rattle.mk_laws.proofs.Vocabulary.{nat_lt, no_bit, page_met, progress, refl, set_past, slice_index, slice_index_or}
 use Rattle.mk_laws.proofs.Vocabulary.{slice_set, stage_behind, steps_of, subst, sym, tally_word, true, true≢false}
@@ -52,7 +52,7 @@ tally_table w tally.Held v = refl
 tally_table w _ v = refl
 
 pub reg_table : (c : Config) (m : Moment) (seat : Seat) → table_of (Behind c m seat step.Reg).words ≡ table_of m.words
-reg_table c m seat = register_table m.words (caller_number seat) _ _
+reg_table c m seat = register_table m.words _ _ _
 
 -- A call that has written, or exchanged, owes the dirty word after it.
 
@@ -86,24 +86,22 @@ heap_kind c m seat step.Reg known h y = inl (ap (λ (t : Table). slice_index t.h
 heap_kind c m seat (step.Tally n v) known h y = inl (ap (λ (t : Table). slice_index t.heap y) (tally_table m.words n v))
 heap_kind c m (Caller k) step.Write known h y =
     let lt = ltb-true k c.callers h.seat in
-    let at = at_its_stage (flight_of m (Caller k)).stage (flight_of m (Caller k)).op step.Write refl h.order in
+    let at = at_its_stage _ _ step.Write refl h.order in
     let fine = subst (λ (s : Stage). is_astray (standing_at s (flight_of m (Caller k)).op) ≡ false) at
     (not_astray c m known.orderly k lt) in
     stored c m k step.Write _ y
     (progress c m (flight_of m (Caller k)) (found c m (record { seat = Caller k; step = step.Write }))
     step.Write).flight (omega (arith, lt, known.orderly.flights)) refl refl
-    (ap (λ (s : Stage). stage_behind s (steps_of (flight_of m (Caller k)).op)) at
-    ∙ wrote (flight_of m (Caller k)).op fine) refl
+    (ap (λ (s : Stage). stage_behind s (steps_of (flight_of m (Caller k)).op)) at ∙ wrote _ fine) refl
 heap_kind c m (Caller k) step.Cas known h y =
     let lt = ltb-true k c.callers h.seat in
-    let at = at_its_stage (flight_of m (Caller k)).stage (flight_of m (Caller k)).op step.Cas refl h.order in
+    let at = at_its_stage _ _ step.Cas refl h.order in
     let fine = subst (λ (s : Stage). is_astray (standing_at s (flight_of m (Caller k)).op) ≡ false) at
     (not_astray c m known.orderly k lt) in
     stored c m k step.Cas _ y
     (progress c m (flight_of m (Caller k)) (found c m (record { seat = Caller k; step = step.Cas })) step.Cas).flight
     (omega (arith, lt, known.orderly.flights)) refl refl
-    (ap (λ (s : Stage). stage_behind s (steps_of (flight_of m (Caller k)).op)) at
-    ∙ swapped (flight_of m (Caller k)).op fine) refl
+    (ap (λ (s : Stage). stage_behind s (steps_of (flight_of m (Caller k)).op)) at ∙ swapped _ fine) refl
 heap_kind c m (Marker k) step.Write known h y = let kind = h.kind in cc
 heap_kind c m Host step.Write known h y = let kind = h.kind in cc
 heap_kind c m (Marker k) step.Cas known h y = let kind = h.kind in cc
@@ -112,7 +110,7 @@ heap_kind c m seat (step.Wipe n) known h y = elim (cases_eq y n) [
   | inl e ↦ elim (cases_lt n (length m.words.heap)) [
     | inl lt ↦
         let bare = ap (λ i. slice_index (slice_set m.words.heap n 0) i) e ∙ get_or-set_same m.words.heap n 0 0 lt in
-        inr (bare_guarded c (Behind c m seat (step.Wipe n)) y bare)
+        inr (bare_guarded c _ y bare)
     | inr past ↦ inl (rw (set_past m.words.heap n 0 past))
   ]
   | inr ne ↦ inl (get_or-set_other m.words.heap n y 0 0 ne)
@@ -131,10 +129,10 @@ dirty_kind c m seat step.Reg u p h = ap (λ (t : Table). slice_index t.dirty p) 
 dirty_kind c m seat (step.Tally n v) u p h = ap (λ (t : Table). slice_index t.dirty p) (tally_table m.words n v) ∙ h
 dirty_kind c m seat step.Dirty u p h = elim (cases_eq p (page_met (flight_of m seat))) [
   | inl e ↦ elim (cases_lt (page_met (flight_of m seat)) (length m.words.dirty)) [
-    | inl lt ↦ rw e (get_or-set_same m.words.dirty (page_met (flight_of m seat)) 1 0 lt)
-    | inr past ↦ rw (set_past m.words.dirty (page_met (flight_of m seat)) 1 past) h
+    | inl lt ↦ rw e (get_or-set_same m.words.dirty _ 1 0 lt)
+    | inr past ↦ rw (set_past m.words.dirty _ 1 past) h
   ]
-  | inr ne ↦ get_or-set_other m.words.dirty (page_met (flight_of m seat)) p 1 0 ne ∙ h
+  | inr ne ↦ get_or-set_other m.words.dirty _ p 1 0 ne ∙ h
 ]
 dirty_kind c m seat (step.Undirty q) u p h = cc
 dirty_kind c m seat _ u p h = h
@@ -228,7 +226,7 @@ blacks_kind c m seat (step.Unblack q) u = λ p k is. elim (cases_eq p q) [
   | inl e ↦ elim (cases_lt q (length m.words.blacks)) [
     | inl lt ↦
         let none = ap (λ i. slice_index (slice_set m.words.blacks q 0) i) e ∙ get_or-set_same m.words.blacks q 0 0 lt in
-        absurd (true≢false (sym is ∙ no_bit (slice_index (slice_set m.words.blacks q 0) p) k none))
+        absurd (true≢false (sym is ∙ no_bit _ k none))
     | inr past ↦ rw (set_past m.words.blacks q 0 past) at is
   ]
   | inr ne ↦ rw (get_or-set_other m.words.blacks q p 0 0 ne) at is

@@ -14,11 +14,11 @@ pub record IsClaimOf (c : Config) (run : Option RunPages) (xs : List PlacedAlloc
 -- one allocation more at the front
 pub front : (c : Config) (run : Option RunPages) (a : PlacedAllocation) (xs : List PlacedAllocation)
     → a.released ≡ false → claims_of c run (a ∷ xs) ≡ claim_of c run a ∷ claims_of c run xs
-front c run a xs u = cond-false a.released (claims_of c run xs) (claim_of c run a ∷ claims_of c run xs) u
+front c run a xs u = cond-false a.released _ _ u
 
 pub gone_front : (c : Config) (run : Option RunPages) (a : PlacedAllocation) (xs : List PlacedAllocation)
     → a.released ≡ true → claims_of c run (a ∷ xs) ≡ claims_of c run xs
-gone_front c run a xs r = cond-true a.released (claims_of c run xs) (claim_of c run a ∷ claims_of c run xs) r
+gone_front c run a xs r = cond-true a.released _ _ r
 
 behind_front : (c : Config) (run : Option RunPages) (a : PlacedAllocation) (xs : List PlacedAllocation) (x : Claim)
     → IsClaimOf c run xs x → IsClaimOf c run (a ∷ xs) x
@@ -77,7 +77,7 @@ was_claim c run g xs y leaves i =
     record {
       number = x.number;
       unreleased = u;
-      was = leaves.released (placed_at xs x.number) u;
+      was = leaves.released _ u;
       is = x.is ∙ ap (λ (a : PlacedAllocation). claim_of c run a) at;
     }
 
@@ -113,7 +113,7 @@ apart_behind c old new g (a ∷ xs) leaves apart =
               let b : PlacedAllocation = placed_at xs was.number in
               let of_b = one_cell c old new b (g b) (leaves.places.base b) (leaves.places.ty b) in
               let of_a = one_cell c old new a (g a) (leaves.places.base a) (leaves.places.ty a) in
-              before.0 (claim_of c old b) (claim_among c old xs was.number was.was) (
+              before.0 _ (claim_among c old xs was.number was.was) (
                 sym of_a.0 ∙ same.0 ∙ ap (λ (x : Claim). x.page) was.is ∙ of_b.0,
                 sym of_a.1 ∙ same.1 ∙ ap (λ (x : Claim). x.index) was.is ∙ of_b.1,
               ),

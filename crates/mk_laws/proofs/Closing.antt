@@ -5,11 +5,11 @@ use Rattle.std.proofs.lemmas.Nat.Bits.{bit_at_and, bit_at_ones}
 use Rattle.mk_laws.proofs.Vocabulary.{AreOfPages, BlackIsGuarded, Caller, CellsAreClosed, Config, DirtyIsOwed, Host}
 use Rattle.mk_laws.proofs.Vocabulary.{IsGuarded, Marker, Moment, Page, PageIsDirty, PointsWell, Seat, Stage, Words}
 use Rattle.mk_laws.proofs.Vocabulary.{all_below, all_below-at, and_parts, ap, arith, at_rest, bit_at, cases_eq}
-use Rattle.mk_laws.proofs.Vocabulary.{cases_lt, cells_under, eq-eqb, eqb-true, false, fewer_bits, first_word, flight_of}
-use Rattle.mk_laws.proofs.Vocabulary.{free_page, get_or_past, has_bit, has_closed_page, header_in, header_of}
-use Rattle.mk_laws.proofs.Vocabulary.{holder_number, inl, inr, none_attends, points_well, refl, roots_point_well}
-use Rattle.mk_laws.proofs.Vocabulary.{slice_index, slice_index_or, subst, sym, true, true≢false, without}
-use Rattle.mk_laws.proofs.Vocabulary.{word_points_well, ℕ, ◌&&◌, ◌+◌, ◌/◌, ◌<◌, ◌∙◌, ◌≡◌}
+use Rattle.mk_laws.proofs.Vocabulary.{cases_lt, cells_under, eq-eqb, eqb-true, false, fewer_bits, flight_of, free_page}
+use Rattle.mk_laws.proofs.Vocabulary.{get_or_past, has_bit, has_closed_page, header_in, header_of, holder_number, inl}
+use Rattle.mk_laws.proofs.Vocabulary.{inr, none_attends, points_well, refl, roots_point_well, slice_index}
+use Rattle.mk_laws.proofs.Vocabulary.{slice_index_or, subst, sym, true, true≢false, without, word_points_well, ℕ, ◌/◌}
+use Rattle.mk_laws.proofs.Vocabulary.{◌<◌, ◌∙◌, ◌≡◌}
 use Rattle.mk_laws.proofs.Basics.{InCall, Known, Meets, calls_stand, is_astray, not_astray, others_held, shows_at}
 use Rattle.mk_laws.proofs.Basics.{standing, standing_at, view_of}
 use Rattle.mk_core.specs.declared.events.Step.TheVariants as step
@@ -75,28 +75,24 @@ pub closed : (c : Config) (m : Moment) (seat : Seat) → Known c m → AreOfPage
     → Meets c m seat step.Close → BlackIsGuarded c m → CellsAreClosed c m.words
 closed c m seat known len h black =
     record {
-      registers = λ i. list_all-at (points_well c.pages m.words) m.words.registers 0 roots.0
-          (null_points_well c m.words) i;
-      globals = λ g. list_all-at (points_well c.pages m.words) m.words.globals 0 roots.1 (null_points_well c m.words) g;
+      registers = λ i. list_all-at _ m.words.registers 0 roots.0 (null_points_well c m.words) i;
+      globals = λ g. list_all-at _ m.words.globals 0 roots.1 (null_points_well c m.words) g;
       words = λ cell i lt is scanned li.
           let there = page cell.page (in_heap cell.page cell.index lt) in
-          settled (first_word m.words cell + i)
-          (black cell.page cell.index i lt (black_bit m.words cell.page cell.index there lt is) scanned li);
+          settled _ (black cell.page cell.index i lt (black_bit m.words cell.page cell.index there lt is) scanned li);
     }
   where
     parts : (all_below c.pages (has_closed_page m.words) ≡ true) × (roots_point_well c.pages m.words ≡ true)
     parts =
-        let a = and_parts (none_attends m.seats.markers && all_below c.pages (has_closed_page m.words))
-        (roots_point_well c.pages m.words) h.holder in
-        ((and_parts (none_attends m.seats.markers) (all_below c.pages (has_closed_page m.words)) a.0).1, a.1)
+        let a = and_parts _ _ h.holder in
+        ((and_parts (none_attends m.seats.markers) _ a.0).1, a.1)
 
     roots : (list_all (points_well c.pages m.words) m.words.registers ≡ true)
         × (list_all (points_well c.pages m.words) m.words.globals ≡ true)
-    roots = and_parts (list_all (points_well c.pages m.words) m.words.registers)
-        (list_all (points_well c.pages m.words) m.words.globals) parts.1
+    roots = and_parts (list_all _ m.words.registers) (list_all _ m.words.globals) parts.1
 
     page : (p : ℕ) → p < c.pages → ClosedPage m.words p
-    page p lt = closed_page m.words p (all_below-at c.pages p (has_closed_page m.words) parts.0 lt)
+    page p lt = closed_page m.words p (all_below-at c.pages p _ parts.0 lt)
 
     in_heap : (p k : ℕ) → k < cells_under (header_in m.words p) → p < c.pages
     in_heap p k lt = elim (cases_lt p c.pages) [

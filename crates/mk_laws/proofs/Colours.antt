@@ -1,11 +1,11 @@
 -- What an event may do to marks, blacks and dirty words, and to the hand of the turn's holder.
 use Rattle.mk_laws.proofs.Vocabulary.{Access, Bool, Config, Hand, List, Load, Moment, Named, None, OnlyGrow, Option}
 use Rattle.mk_laws.proofs.Vocabulary.{Seat, Step, Store, Tally, Word, Words, accessed, and_parts, arith, bit_or}
-use Rattle.mk_laws.proofs.Vocabulary.{caller_number, cell_seen, eqb-true, false, flight_of, found, head_page}
-use Rattle.mk_laws.proofs.Vocabulary.{if◌then◌else◌, inl, inr, is_attending, is_phase, is_some, marker_at, marker_of}
-use Rattle.mk_laws.proofs.Vocabulary.{none_attends, not, not-true, nothing_done, or_cases, or_else, page_met, phase_of}
-use Rattle.mk_laws.proofs.Vocabulary.{refl, reg_access, register_met, scan_page, seen_bit, seen_page, slice_index}
-use Rattle.mk_laws.proofs.Vocabulary.{slice_set, sym, tally_word, true, ℕ, ◌&&◌, ◌==◌, ◌||◌, ◌∙◌, ◌≡◌, ◌⊎◌}
+use Rattle.mk_laws.proofs.Vocabulary.{cell_seen, eqb-true, false, flight_of, found, head_page, if◌then◌else◌, inl, inr}
+use Rattle.mk_laws.proofs.Vocabulary.{is_attending, is_phase, is_some, marker_at, marker_of, none_attends, not}
+use Rattle.mk_laws.proofs.Vocabulary.{not-true, nothing_done, or_cases, or_else, page_met, phase_of, refl, scan_page}
+use Rattle.mk_laws.proofs.Vocabulary.{seen_bit, seen_page, slice_index, slice_set, sym, tally_word, true, ℕ, ◌&&◌, ◌==◌}
+use Rattle.mk_laws.proofs.Vocabulary.{◌||◌, ◌∙◌, ◌≡◌, ◌⊎◌}
 use Rattle.mk_core.specs.declared.events.Tally.TheVariants as tally
 use Rattle.mk_core.specs.declared.events.Word.TheVariants as word
 use Rattle.mk_core.specs.declared.events.Step.TheVariants as step
@@ -75,11 +75,11 @@ marking n h = elim (or_cases (n == 1) (n == 2) h) [ inl e ↦ inl (eqb-true n 1 
 
 quiet : (m : Moment) (more : Bool) → ((phase_of m.words == 0) || (phase_of m.words == 2)) ≡ true
     → (not (is_phase m.words 2) || (none_attends m.seats.markers && more)) ≡ true → IsQuiet m
-quiet m more h own = elim (or_cases (phase_of m.words == 0) (phase_of m.words == 2) h) [
-  | inl z ↦ inl (eqb-true (phase_of m.words) 0 z)
-  | inr two ↦ elim (or_cases (not (is_phase m.words 2)) (none_attends m.seats.markers && more) own) [
-    | inl out ↦ let y : true ≡ false = sym two ∙ not-true (is_phase m.words 2) out in cc
-    | inr none ↦ inr (eqb-true (phase_of m.words) 2 two, (and_parts (none_attends m.seats.markers) more none).0)
+quiet m more h own = elim (or_cases _ _ h) [
+  | inl z ↦ inl (eqb-true _ 0 z)
+  | inr two ↦ elim (or_cases _ _ own) [
+    | inl out ↦ let y : true ≡ false = sym two ∙ not-true _ out in cc
+    | inr none ↦ inr (eqb-true _ 2 two, (and_parts _ more none).0)
   ]
 ]
 
@@ -105,24 +105,21 @@ pub colour_step : (c : Config) (m : Moment) (seat : Seat) (x : Step) → Meets c
     → ColourStep c m seat (colours_of (Behind c m seat x))
 colour_step c m seat step.Reg h =
     let f = flight_of m seat in
-    rw (reg_colours m.words (caller_number seat) (register_met f f.stage)
-    (reg_access f f.stage) m.seats.holding.hand) Leaves
+    rw (reg_colours m.words _ _ _ m.seats.holding.hand) Leaves
 colour_step c m seat (step.Tally n v) h = rw (tally_colours m.words n v m.seats.holding.hand) Leaves
-colour_step c m seat (step.Take o) h = takes_or_not c m seat (m.words.turn == 0)
+colour_step c m seat (step.Take o) h = takes_or_not c m seat _
 colour_step c m seat step.Give h = DropsHand
 colour_step c m seat (step.Look w) h = TakesHand w
 colour_step c m seat step.Begin h = DropsHand
 colour_step c m seat step.Dirty h = Dirties
-colour_step c m seat (step.Clear p) h = ClearsMarks p (eqb-true (phase_of m.words) 0 h.phase)
+colour_step c m seat (step.Clear p) h = ClearsMarks p (eqb-true _ 0 h.phase)
 colour_step c m seat (step.Mark p v) h = AddsMarks p v (marking (phase_of m.words) h.phase) h.holder
 colour_step c m seat step.Mmark h = MarksSeen _ _ h.marker refl refl
-colour_step c m seat (step.Black p v) h = Blackens p v (eqb-true (phase_of m.words) 2 h.phase) h.holder
+colour_step c m seat (step.Black p v) h = Blackens p v (eqb-true _ 2 h.phase) h.holder
 colour_step c m seat step.Mblack h = BlackensScanned _ _ h.marker refl refl
-colour_step c m seat (step.Unblack p) h =
-    Whitens p (quiet m true h.phase (rw (← (and_true (none_attends m.seats.markers))) h.holder))
-colour_step c m seat (step.Undirty p) h = Cleans p (quiet m (is_blank m p) h.phase
-    (rw (← (and_moved (none_attends m.seats.markers) (slice_index m.words.blacks p == 0)
-    (slice_index m.words.blacks (head_page m.words p) == 0))) h.holder)) h.holder
+colour_step c m seat (step.Unblack p) h = Whitens p (quiet m true h.phase (rw (← (and_true _)) h.holder))
+colour_step c m seat (step.Undirty p) h = Cleans p (quiet m (is_blank m p) h.phase (rw (← (and_moved _ _
+    _)) h.holder)) h.holder
 colour_step c m seat _ h = Leaves
 
 -- While a marker attends, no mark and no black bit is cleared.

@@ -39,7 +39,7 @@ covered_word w p k i later lk scanned li some = by (header_in w p) refl lk scann
         → head_page w ((64 * p + k * words_under x + i) / 64) ≡ p
     by (Some (Block class)) is lk scanned li some =
         let ends = cell_ends k _ lk in
-        own_head w p (Some (Block class)) is refl _ (omega arith)
+        own_head w p _ is refl _ (omega arith)
     by (Some (Run count true)) is lk scanned li some = in_run count is lk li some
     by (Some Free) is lk scanned li some = absurd (omega arith)
     by (Some (Later d m)) is lk scanned li some = absurd (omega arith)

@@ -19,11 +19,11 @@ AsksPhase step.Over p = p ≡ 0
 AsksPhase _ p = Unit {0}
 
 pub phase_asked : (c : Config) (m : Moment) (seat : Seat) (x : Step) → Meets c m seat x → AsksPhase x (phase_of m.words)
-phase_asked c m seat step.Begin h = eqb-true (phase_of m.words) 0 h.phase
-phase_asked c m seat step.Want h = eqb-true (phase_of m.words) 1 h.phase
-phase_asked c m seat step.Close h = eqb-true (phase_of m.words) 2 h.phase
-phase_asked c m seat step.Release h = eqb-true (phase_of m.words) 3 h.phase
-phase_asked c m seat step.End h = eqb-true (phase_of m.words) 4 h.phase
+phase_asked c m seat step.Begin h = eqb-true _ 0 h.phase
+phase_asked c m seat step.Want h = eqb-true _ 1 h.phase
+phase_asked c m seat step.Close h = eqb-true _ 2 h.phase
+phase_asked c m seat step.Release h = eqb-true _ 3 h.phase
+phase_asked c m seat step.End h = eqb-true _ 4 h.phase
 phase_asked c m seat step.Over h = over_phase c m seat h
 phase_asked c m seat _ h = tt
 
@@ -102,15 +102,14 @@ pub marking_goes_on : (c : Config) (w : World) (es : List Event) → AreEnabledF
 unfolding left_from
 marking_goes_on c w [] on m none = record { phase = m; none_begins = refl; none_releases = refl }
 marking_goes_on c w (e ∷ es) on m none =
-    let outs = or_parts (is_close e.step) (list_any (λ (x : Event). is_close x.step) es) none in
+    let outs = or_parts _ (list_any (λ (x : Event). is_close x.step) es) none in
     let moves = moves_phase c w e es on in
-    let one = marking_step e.step (phase_of w.now.words) moves.0 m outs.0 in
+    let one = marking_step e.step _ moves.0 m outs.0 in
     let rest = marking_goes_on c (world_behind c w e) es moves.2 (subst IsMarking (sym moves.1) one.0) outs.1 in
     record {
       phase = rest.phase;
-      none_begins = or_from (is_begin e.step) (list_any (λ (x : Event). is_begin x.step) es) one.1 rest.none_begins;
-      none_releases = or_from (is_release e.step) (list_any (λ (x : Event). is_release x.step) es) one.2
-          rest.none_releases;
+      none_begins = or_from _ (list_any (λ (x : Event). is_begin x.step) es) one.1 rest.none_begins;
+      none_releases = or_from _ (list_any (λ (x : Event). is_release x.step) es) one.2 rest.none_releases;
     }
 
 pub record NoneIsReleased (c : Config) (w : World) (es : List Event) : Type 0 where
@@ -123,11 +122,11 @@ pub none_is_released : (c : Config) (w : World) (es : List Event) → AreEnabled
 unfolding left_from
 none_is_released c w [] on m none = record { phase = m; none_begins = refl }
 none_is_released c w (e ∷ es) on m none =
-    let outs = or_parts (is_release e.step) (list_any (λ (x : Event). is_release x.step) es) none in
+    let outs = or_parts _ (list_any (λ (x : Event). is_release x.step) es) none in
     let moves = moves_phase c w e es on in
-    let one = unreleased_step e.step (phase_of w.now.words) moves.0 m outs.0 in
+    let one = unreleased_step e.step _ moves.0 m outs.0 in
     let rest = none_is_released c (world_behind c w e) es moves.2 (subst IsUnreleased (sym moves.1) one.0) outs.1 in
     record {
       phase = rest.phase;
-      none_begins = or_from (is_begin e.step) (list_any (λ (x : Event). is_begin x.step) es) one.1 rest.none_begins;
+      none_begins = or_from _ (list_any (λ (x : Event). is_begin x.step) es) one.1 rest.none_begins;
     }

@@ -67,25 +67,21 @@ quar_flags c w seat p n i b h laid q u = by (cell_freed c.pages w.now.words (fli
     by (Some cell) is =
         let same : (WorldBehind c w seat (step.Quar p n)).allocations
         ≡ map (freed_where_it_stands w.now.words (Some cell)) w.allocations = rw is in
-        let frees = frees_here c w seat p n cell b h laid
-        (freed_cell c.pages w.now.words (flight_of w.now seat) p n cell is) in
-        let x = before_change c (freed_where_it_stands w.now.words (Some cell)) w.allocations i
-        (freeing_leaves w.now.words (Some cell)) (rw (← same) u) in
-        Stays x.was (rw same (rw x.now
-        (freed_flags c w cell n i frees q x.was (stands_in w.now.words cell (placed_at w.allocations i)) refl)))
+        let frees = frees_here c w seat p n cell b h laid (freed_cell c.pages w.now.words _ p n cell is) in
+        let x = before_change c _ w.allocations i (freeing_leaves w.now.words (Some cell)) (rw (← same) u) in
+        Stays x.was (rw same (rw x.now (freed_flags c w cell n i frees q x.was _ refl)))
 
 flags_step : (c : Config) (w : World) (seat : Seat) (x : Step) (i : ℕ) → Before c w → Meets c w.now seat x
     → LayoutStands c w → IsQuarantined c w → is_begin x ≡ false
     → (placed_at (WorldBehind c w seat x).allocations i).released ≡ false → FlagsStep w (WorldBehind c w seat x) i
 flags_step c w seat (step.Quar p n) i b h laid q out u = quar_flags c w seat p n i b h laid q u
 flags_step c w seat step.Begin i b h laid q out u = absurd (true≢false out)
-flags_step c w seat step.Grant i b h laid q out u =
-    elim (pushed_new w.allocations (granted c w.now (flight_of w.now seat)) i) [
-      | inl old ↦ Stays (rw (← old) u) (rw old)
-      | inr new ↦ IsNew new.1 (rw new.0)
-    ]
+flags_step c w seat step.Grant i b h laid q out u = elim (pushed_new w.allocations _ i) [
+  | inl old ↦ Stays (rw (← old) u) (rw old)
+  | inr new ↦ IsNew new.1 (rw new.0)
+]
 flags_step c w seat step.Release i b h laid q out u =
-    let x = before_change c (with_released c w.now.words) w.allocations i (releasing_leaves c w.now.words) u in
+    let x = before_change c _ w.allocations i (releasing_leaves c w.now.words) u in
     Stays x.was (rw x.now)
 flags_step c w seat _ i b h laid q out u = Stays u refl
 
@@ -164,7 +160,7 @@ unfolding left_from
 tells_from c xs w [] a none t = (t, a.order)
 tells_from c xs w (e ∷ es) a none t =
     let n = along_next c w e es a in
-    let parts = or_parts (is_begin e.step) (list_any (λ (x : Event). is_begin x.step) es) none in
+    let parts = or_parts _ (list_any (λ (x : Event). is_begin x.step) es) none in
     tells_from c xs (world_behind c w e) es n.2 parts.1
     (tells_behind c xs w e.seat e.step n.0 n.1 a.order.laid a.order.quarantined parts.0 t)
 
@@ -180,7 +176,7 @@ after : (c : Config) (w : World) (e : Event) (behind : List Event) → Along c w
 unfolding left_from
 after c w e behind a is none =
     let t : Tells w.allocations (world_behind c w e) = rw (begin_is e.step is) (tells_at_begin c w e.seat) in
-    tells_from c w.allocations (world_behind c w e) behind (along_next c w e behind a).2 none t
+    tells_from c w.allocations _ behind (along_next c w e behind a).2 none t
 
 pub snapshots_are_of_cycles : SnapshotsAreOfCycles
 snapshots_are_of_cycles c es limits on others begin none cycling i u =

@@ -3,17 +3,16 @@
 use Rattle.mk_laws.proofs.Vocabulary.{Answer, AreAdmitted, AreEnabledFrom, Bool, Call, Caller, Cell, Config, Decided}
 use Rattle.mk_laws.proofs.Vocabulary.{Event, Flight, HasAllocation, Host, IsHistory, IsWordOfMapped, List, Marker}
 use Rattle.mk_laws.proofs.Vocabulary.{Moment, None, OfHistories, Op, Option, Seat, Some, Stage, Step, World, []}
-use Rattle.mk_laws.proofs.Vocabulary.{admitted_in_parts, all_below, all_below-at, and_parts, ap, append-nil, arith}
-use Rattle.mk_laws.proofs.Vocabulary.{asked, at_rest, begun, call_decided, calls_from, cases_eq, cases_lt, cell_freed}
-use Rattle.mk_laws.proofs.Vocabulary.{comes_next, decided, earlier_part_is_history, enabled_in_parts, eqb-true, false}
-use Rattle.mk_laws.proofs.Vocabulary.{first_world, flight_of, found, get_or-set_other, get_or-set_same, get_or_past}
-use Rattle.mk_laws.proofs.Vocabulary.{has_closed_page, header_of, if◌then◌else◌, inl, inr, is_heap_store, is_release}
-use Rattle.mk_laws.proofs.Vocabulary.{is_unmapped_header, left, left_from, left_more, length, ltb-true, never_behind}
-use Rattle.mk_laws.proofs.Vocabulary.{none_attends, onward, page_met, phase_of, placed_at, progress, progress_freed}
-use Rattle.mk_laws.proofs.Vocabulary.{progress_p, progress_q, progress_read, progress_reg, refl, refused}
-use Rattle.mk_laws.proofs.Vocabulary.{roots_point_well, sees_double, set_past, slice_index, slice_index_or, slice_set}
-use Rattle.mk_laws.proofs.Vocabulary.{stage_behind, stage_refused, steps_of, still, storage_words, subst, sym, target}
-use Rattle.mk_laws.proofs.Vocabulary.{true, true≢false, word_met, ℕ, ◌&&◌, ◌++◌, ◌==◌, ◌∙◌, ◌∷◌, ◌≡◌, ◌≢◌, ◌⊎◌}
+use Rattle.mk_laws.proofs.Vocabulary.{admitted_in_parts, all_below-at, and_parts, ap, append-nil, arith, asked, at_rest}
+use Rattle.mk_laws.proofs.Vocabulary.{begun, call_decided, calls_from, cases_eq, cases_lt, comes_next, decided}
+use Rattle.mk_laws.proofs.Vocabulary.{earlier_part_is_history, enabled_in_parts, eqb-true, false, first_world}
+use Rattle.mk_laws.proofs.Vocabulary.{flight_of, found, get_or-set_other, get_or-set_same, get_or_past, if◌then◌else◌}
+use Rattle.mk_laws.proofs.Vocabulary.{inl, inr, is_heap_store, is_release, left, left_from, left_more, length, ltb-true}
+use Rattle.mk_laws.proofs.Vocabulary.{never_behind, onward, page_met, phase_of, placed_at, progress, progress_freed}
+use Rattle.mk_laws.proofs.Vocabulary.{progress_p, progress_q, progress_read, progress_reg, refl, refused, set_past}
+use Rattle.mk_laws.proofs.Vocabulary.{slice_index, slice_index_or, slice_set, stage_behind, stage_refused, steps_of}
+use Rattle.mk_laws.proofs.Vocabulary.{still, storage_words, subst, sym, true, true≢false, word_met, ℕ, ◌++◌, ◌==◌, ◌∙◌}
+use Rattle.mk_laws.proofs.Vocabulary.{◌∷◌, ◌≡◌, ◌≢◌, ◌⊎◌}
 use Rattle.mk_laws.proofs.Basics.{Behind, InCall, KeptByEvents, Known, KnownWorld, Meets, Table, WorldBehind, at_first}
 use Rattle.mk_laws.proofs.Basics.{at_its_stage, at_reg, before_it, calls_stand, holds_of_histories, is_astray}
 use Rattle.mk_laws.proofs.Basics.{known_world, mapped_stays, not_astray, reg_table, shows_at, standing, standing_at}
@@ -126,7 +125,7 @@ owes_since c m f n step.Give next h = cc
 owes_since c m f n step.Grant next h = cc
 owes_since c m f n step.Full next h = cc
 owes_since c m f n step.Reg next h = inl (reg_stays f f.stage n (reg_is_no_store f.stage (at_reg f.stage f.op next)) h)
-owes_since c m f n step.Probe next h = absurd (refused_or_onward (is_unmapped_header (header_of n)) f answer.Fault
+owes_since c m f n step.Probe next h = absurd (refused_or_onward _ f answer.Fault
     (ap is_storing (at_its_stage f.stage f.op step.Probe refl next)) h)
 owes_since c m f n step.Read next h =
     absurd (read_not_dirty f f.op n (ap is_storing (at_its_stage f.stage f.op step.Read refl next)) h)
@@ -138,8 +137,8 @@ owes_since c m f n step.Dirty next h =
     absurd (onward_not_dirty f (ap is_storing (at_its_stage f.stage f.op step.Dirty refl next)) h)
 owes_since c m f n step.Write next h = inr (refl, refl)
 owes_since c m f n step.Cas next h = inr (refl, refl)
-owes_since c m f n (step.Look x) next h = inl (double_stays (sees_double m.words (target c.pages m.words f) x) f h)
-owes_since c m f n (step.Quar p v) next h = inl (freed_stays f (cell_freed c.pages m.words f p v) h)
+owes_since c m f n (step.Look x) next h = inl (double_stays _ f h)
+owes_since c m f n (step.Quar p v) next h = inl (freed_stays f _ h)
 owes_since c m f n _ next h = inl refl
 
 pub record DirtyStands (c : Config) (w : World) : Type 0 where
@@ -185,8 +184,7 @@ none_owes c m known three k at = elim (cases_lt k c.callers) [
       let fine = subst (λ (s : Stage). is_astray (standing_at s (flight_of m (Caller k)).op) ≡ false) at
       (not_astray c m known.orderly k lt) in
       let stands : standing (flight_of m (Caller k)) ≡ InCall
-      = ap (λ (s : Stage). standing_at s (flight_of m (Caller k)).op) at
-      ∙ calls_stand stage.Dirty (flight_of m (Caller k)).op refl fine in
+      = ap (λ (s : Stage). standing_at s (flight_of m (Caller k)).op) at ∙ calls_stand stage.Dirty _ refl fine in
       let shows = shows_at c (view_of m) k InCall known.orderly lt stands in
       let one = shows.0 in
       let two = (protocol_of c m known).stopped three k lt shows.1 in
@@ -210,15 +208,14 @@ dirty_since c m seat (step.Undirty q) p some = inl (λ z. some (elim (cases_eq p
 ]))
 dirty_since c m seat step.Dirty p some = elim (cases_eq p (page_met (flight_of m seat))) [
   | inl e ↦ inr (refl, sym e)
-  | inr ne ↦ inl (λ z. some (get_or-set_other m.words.dirty (page_met (flight_of m seat)) p 1 0 ne ∙ z))
+  | inr ne ↦ inl (λ z. some (get_or-set_other m.words.dirty _ p 1 0 ne ∙ z))
 ]
 dirty_since c m seat _ p some = inl some
 
 -- The step is of a caller that owes the mark.
 owes_now : (c : Config) (m : Moment) (seat : Seat) (x : Step) → Meets c m seat x → is_dirty x ≡ true
     → (k : ℕ) × (seat ≡ Caller k) × ((flight_of m (Caller k)).stage ≡ stage.Dirty)
-owes_now c m (Caller k) step.Dirty h is =
-    (k, refl, at_its_stage (flight_of m (Caller k)).stage (flight_of m (Caller k)).op step.Dirty refl h.order)
+owes_now c m (Caller k) step.Dirty h is = (k, refl, at_its_stage _ _ step.Dirty refl h.order)
 owes_now c m (Marker k) step.Dirty h is = let kind = h.kind in cc
 owes_now c m Host step.Dirty h is = let kind = h.kind in cc
 owes_now c m seat _ h is = cc
@@ -235,7 +232,7 @@ mark_since c m (Caller j) x known h k at = elim (cases_eq k j) [
       let here : flight_of (Behind c m (Caller j) x) (Caller k) ≡ flight =
       ap (λ i. slice_index_or (slice_set m.seats.flights j flight) i at_rest) e
       ∙ get_or-set_same m.seats.flights j flight at_rest (omega (arith, known.orderly.flights)) in
-      elim (owes_since c m (flight_of m (Caller j)) _ x h.order (ap (λ (f : Flight). f.stage) (sym here) ∙ at)) [
+      elim (owes_since c m _ _ x h.order (ap (λ (f : Flight). f.stage) (sym here) ∙ at)) [
         | inl same ↦ inl (here ∙ same ∙ ap (λ i. flight_of m (Caller i)) (sym e))
         | inr new ↦ inr (new.0, sym (ap (λ (f : Flight). page_met f) here ∙ new.1))
       ]
@@ -251,13 +248,10 @@ was_clean : (c : Config) (w : World) (seat : Seat) (x : Step) → KnownWorld c w
 was_clean c w seat step.Close known h d three p = elim (cases_lt p c.pages) [
   | inr past ↦ get_or_past w.now.words.dirty p 0 (omega (arith, known.lengths.dirty))
   | inl lt ↦
-      let roots = and_parts (none_attends w.now.seats.markers && all_below c.pages (has_closed_page w.now.words))
-      (roots_point_well c.pages w.now.words) h.holder in
-      let pages = and_parts (none_attends w.now.seats.markers) (all_below c.pages (has_closed_page w.now.words))
-      roots.0 in
-      let page = and_parts _ (slice_index w.now.words.dirty p == 0)
-      (all_below-at c.pages p (has_closed_page w.now.words) pages.1 lt) in
-      eqb-true (slice_index w.now.words.dirty p) 0 page.1
+      let roots = and_parts _ _ h.holder in
+      let pages = and_parts _ _ roots.0 in
+      let page = and_parts _ (slice_index w.now.words.dirty p == 0) (all_below-at c.pages p _ pages.1 lt) in
+      eqb-true _ 0 page.1
 ]
 was_clean c w seat step.Begin known h d three p = absurd (omega arith)
 was_clean c w seat step.Want known h d three p = absurd (omega arith)
@@ -282,8 +276,7 @@ module _ (c : Config) (w : World) (seat : Seat) (x : Step) (known : KnownWorld c
           | inl was ↦ absurd (was (was_clean c w seat x known h d closed p))
           | inr marks ↦
               let owes = owes_now c w.now seat x h marks.0 in
-              absurd (none_owes c w.now known.now (sym (not_closing x (phase_of w.now.words) marks.0) ∙ closed) owes.0
-              owes.2)
+              absurd (none_owes c w.now known.now (sym (not_closing x _ marks.0) ∙ closed) owes.0 owes.2)
         ]
   ]
 
@@ -362,11 +355,11 @@ stores_told c es e h =
     let before = earlier_part_is_history c es (e ∷ []) h in
     let xs : List Decided = call_decided c (left c es).now e ++ [] in
     let one : asked xs ≡ asked (call_decided c (left c es).now e) =
-    ap (λ (ys : List Decided). asked ys) (append-nil (call_decided c (left c es).now e)) in
+    ap (λ (ys : List Decided). asked ys) (append-nil _) in
     let admitted : AreAdmitted c.globals (never_behind c es) (asked (call_decided c (left c es).now e)) =
     subst (λ (ys : List Call). AreAdmitted c.globals (never_behind c es) ys) one
     ((admitted_in_parts c es (e ∷ [])).0 h.admitted).1 in
-    (told_to_zeros c (left c es) (never_behind c es) (known_world c es before.within_limits before.enabled)
+    (told_to_zeros c (left c es) _ (known_world c es before.within_limits before.enabled)
     (histories_keep_the_invariant c es before) e (((enabled_in_parts c es (e ∷ [])).0 h.enabled).1.0) admitted).stored
 
 kept : KeptByEvents Stands

@@ -2,11 +2,9 @@
 use Rattle.mk_laws.proofs.Vocabulary.{Bool, Config, Drops, Ground, HasLayout, IsClaimed, List, Object, Words, World}
 use Rattle.mk_laws.proofs.Vocabulary.{all_below-at, and_parts, arith, cases_Bool, cases_eq, cases_lt, claims_on}
 use Rattle.mk_laws.proofs.Vocabulary.{eqb-false, eqb-true, false, get_or-set_other, get_or-set_same, ground_of, has_bit}
-use Rattle.mk_laws.proofs.Vocabulary.{has_bit_without, head_page, header_at, inl, inr, is_released_in, layout_scene_of}
-use Rattle.mk_laws.proofs.Vocabulary.{length, may_end, no_bit, not, not-true, or_cases, set_past, slice_index}
-use Rattle.mk_laws.proofs.Vocabulary.{slice_set, sym, true, true≢false, used_at, ℕ, ◌<◌, ◌==◌, ◌||◌, ◌∙◌, ◌≡◌, ◌≢◌, ◌⊎◌}
-use Rattle.mk_core.specs.Cells.{left_unmarked, none_is_left_unmarked}
-use Rattle.mk_core.specs.StopConditions.{has_settled_page}
+use Rattle.mk_laws.proofs.Vocabulary.{has_bit_without, head_page, header_at, inl, inr, is_released_in, length, may_end}
+use Rattle.mk_laws.proofs.Vocabulary.{no_bit, not, not-true, or_cases, set_past, slice_index, slice_set, sym, true}
+use Rattle.mk_laws.proofs.Vocabulary.{true≢false, used_at, ℕ, ◌<◌, ◌==◌, ◌||◌, ◌∙◌, ◌≡◌, ◌≢◌, ◌⊎◌}
 use Rattle.mk_laws.proofs.Releasing.{layout_ended}
 use Rattle.mk_laws.proofs.Serving.{Laid}
 
@@ -77,8 +75,7 @@ dropped c o w p freed n st h =
         ⊎ (is_released_in true (slice_set w.now.words.snapshot p n) w.now.words.marks q k ≡ true)
     by q k bit (inl own) = inl own
     by q k bit (inr r) =
-        let parts = and_parts (has_bit (slice_index w.now.words.snapshot q) k)
-        (not (has_bit (slice_index w.now.words.marks q) k)) r in
+        let parts = and_parts _ _ r in
         inr (rw (stays q k bit parts.0) parts.1)
 
 -- What `end` asks: no cell of a page is left, and one with a header has a used cell at its head.
@@ -89,13 +86,12 @@ pub record IsSettledPage (w : Words) (p : ℕ) : Type 0 where
 pub settled_page : (w : Words) (count p : ℕ) → may_end count w ≡ true → p < count → IsSettledPage w p
 settled_page w count p h lt =
     let occupied : Bool = (header_at w p == 0) || not (used_at w (head_page w p) == 0) in
-    let parts = and_parts (none_is_left_unmarked w p) occupied (all_below-at count p (has_settled_page w) h lt) in
+    let parts = and_parts _ occupied (all_below-at count p _ h lt) in
     record {
-      none = λ k. sym (has_bit_without (slice_index w.snapshot p) (slice_index w.marks p) k)
-          ∙ no_bit (left_unmarked w p) k (eqb-true (left_unmarked w p) 0 parts.0);
-      used = λ some empty. elim (or_cases (header_at w p == 0) (not (used_at w (head_page w p) == 0)) parts.1) [
+      none = λ k. sym (has_bit_without _ _ k) ∙ no_bit _ k (eqb-true _ 0 parts.0);
+      used = λ some empty. elim (or_cases _ _ parts.1) [
         | inl z ↦ some (eqb-true (header_at w p) 0 z)
-        | inr u ↦ eqb-false (used_at w (head_page w p)) 0 (not-true (used_at w (head_page w p) == 0) u) empty
+        | inr u ↦ eqb-false _ 0 (not-true _ u) empty
       ];
     }
 
@@ -104,7 +100,7 @@ pub ended : (c : Config) (o : Object) (w : World) → length w.now.words.pages �
     → may_end c.pages w.now.words ≡ true → Laid c o false w (ground_of w)
 ended c o w len st h =
     record {
-      scene = layout_ended (layout_scene_of c o true w.now.words.marks (ground_of w)) st.scene (record {
+      scene = layout_ended _ st.scene (record {
         none = λ p k lt. (settled_page w.now.words c.pages p h (omega (arith, len))).none k;
         settled = λ p lt some empty. (settled_page w.now.words c.pages p h (omega (arith, len))).used some empty;
       });

@@ -4,9 +4,9 @@ use Rattle.mk_laws.proofs.Vocabulary.{AreOfOthers, Block, Bool, Caller, Cell, Co
 use Rattle.mk_laws.proofs.Vocabulary.{Invariant, IsEnabled, IsHistory, IsLeft, IsWordOfMapped, Later, LeafBlock}
 use Rattle.mk_laws.proofs.Vocabulary.{LeafRun, List, Marker, MeetsAll, Moment, NeverState, None, Op, Option, Page}
 use Rattle.mk_laws.proofs.Vocabulary.{PlacedAllocation, Run, Seat, Some, Step, Words, World, [], address_of, and_from}
-use Rattle.mk_laws.proofs.Vocabulary.{ap, arith, caller_number, cases_Bool, cases_eq, cell_ends, cell_words, cells_of}
-use Rattle.mk_laws.proofs.Vocabulary.{cells_under, class_words_of, comes_next, earlier_part_is_history, enabled_meets}
-use Rattle.mk_laws.proofs.Vocabulary.{eq-eqb, eqb-false, eqb-true, false, first_word, flight_of, gives_back, has_bit}
+use Rattle.mk_laws.proofs.Vocabulary.{ap, arith, cases_Bool, cases_eq, cell_ends, cell_words, cells_of, cells_under}
+use Rattle.mk_laws.proofs.Vocabulary.{class_words_of, comes_next, earlier_part_is_history, enabled_meets, eq-eqb}
+use Rattle.mk_laws.proofs.Vocabulary.{eqb-false, eqb-true, false, first_word, flight_of, gives_back, has_bit}
 use Rattle.mk_laws.proofs.Vocabulary.{has_bit_without, has_gates, has_phase, header_at, header_in, heads_run}
 use Rattle.mk_laws.proofs.Vocabulary.{holder_may, host_has_turn, if◌then◌else◌, inl, inr, is_phase, is_released_cell}
 use Rattle.mk_laws.proofs.Vocabulary.{left, ltb-true, nat_le, nat_lt, ne_eqb, no_bit, not, or_left, or_right}
@@ -105,7 +105,7 @@ module _ (c : Config) (w : World) (runs : RunsAreWhole c w) where
         | inl first ↦
             let u = under_at c.pages w.now.words (64 * p + i) p y (omega arith) is' in
             let same : Some h ≡ Some u.0 = sym shown ∙ u.1 in
-            own_run u.0 p ((64 * p + i) % 64) y (ap heads_run (sym same) ∙ r) u.2
+            own_run u.0 p _ y (ap heads_run (sym same) ∙ r) u.2
         | inr behind ↦
             let headed : heads_run (header_in w.now.words p) ≡ true = ap heads_run shown ∙ r in
             let count : run_count (header_in w.now.words p) ≡ run_count (Some h) = ap run_count shown in
@@ -200,8 +200,7 @@ module _ (c : Config) (w v : World) (n : NeverState) (known : KnownWorld c w) (a
         | inl bit ↦
             let first : ℕ = first_word w.now.words (record { page = p; index = k }) in
             let count : ℕ = cell_words w.now.words (record { page = p; index = k }) in
-            or_right (not (has_bit (used_at w.now.words p - value) k)) _
-            (all_below_on count (λ i. slice_index w.now.words.heap (first + i) == 0)
+            or_right _ _ (all_below_on count (λ i. slice_index w.now.words.heap (first + i) == 0)
             (λ i. slice_index v.now.words.heap (first + i) == 0)
             (λ i li z. ap (λ j. j == 0) (outside (first + i) (released_word p value k i four back bit li)) ∙ z)
             (ap (λ b. not b || words_are_zero w.now.words first count) (sym bit) ∙ e))
@@ -223,7 +222,7 @@ turn_after : (c : Config) (m : Moment) (seat : Seat) (x : Step) → Meets c m se
     → m.words.turn ≢ 1 + c.callers → (Behind c m seat x).words.turn ≢ 1 + c.callers
 turn_after c m seat (step.Take o) h ne out = taken_turn c m seat o h ne out
 turn_after c m seat step.Give h ne out = λ e. absurd (omega arith)
-turn_after c m seat step.Reg h ne out = λ e. out (sym (reg_keeps m.words (caller_number seat) _ _).turn ∙ e)
+turn_after c m seat step.Reg h ne out = λ e. out (sym (reg_keeps m.words _ _ _).turn ∙ e)
 turn_after c m seat (step.Tally n v) h ne out = λ e. out (sym (tally_keeps m.words n v).turn ∙ e)
 turn_after c m seat _ h ne out = out
 

@@ -60,7 +60,7 @@ module _ (c : Config) (w : World) (n : NeverState) (known : KnownWorld c w) (mir
       → points_well c.pages w.now.words (image_of (bases_of w.allocations) v) ≡ true → IsSafe cut v
   value_cut (Ptr a t o) sound is well =
       let u = ready.set.unreleased a is in
-      let word = pointed_word c.globals safe (image_scene_of w) n ready a t o sound in
+      let word = pointed_word c.globals safe _ n ready a t o sound in
       let fits = words_fit c w n known mirrors a (exists_placed w.allocations a u) in
       let cell = ap (λ b. pointed_cell c.pages w.now.words.pages (address_of (b + o))) (base_at w.allocations a)
       ∙ st.cell a o u (omega arith) in
@@ -155,9 +155,8 @@ module _ (c : Config) (w : World) (n : NeverState) (known : KnownWorld c w) (mir
   pub releases : Move safe (image_scene_of w) n
       (record (image_scene_of w) { allocations = map (with_released c w.now.words) w.allocations }) n
   releases = Releases cut_allocations
-      (same_places (with_released c w.now.words) w.allocations (released_leaves c w.now.words)) (λ a u. (or_parts _ _
-      (ap (λ (y : PlacedAllocation). y.released)
-      (sym (changed_at (with_released c w.now.words) w.allocations a refl)) ∙ u)).0)
+      (same_places _ w.allocations (released_leaves c w.now.words)) (λ a u. (or_parts _ _
+      (ap (λ (y : PlacedAllocation). y.released) (sym (changed_at _ w.allocations a refl)) ∙ u)).0)
       (λ a. rw (changed_at _ w.allocations a refl)) cut cut_safe
 
 -- what an event leads to, and that what it decides is right

@@ -4,9 +4,9 @@ use Rattle.mk_laws.proofs.Vocabulary.{AreAdmitted, AreEnabledFrom, Bool, Caller,
 use Rattle.mk_laws.proofs.Vocabulary.{ImagePremisesAlong, IsAdmitted, IsHistory, MeetsAll, Mirrors, NeverState, Some}
 use Rattle.mk_laws.proofs.Vocabulary.{Value, WordOf, World, admitted_in_parts, answer_decided, ap, asked, call_decided}
 use Rattle.mk_laws.proofs.Vocabulary.{calls_from, earlier_part_is_history, enabled_in_parts, enabled_meets, false}
-use Rattle.mk_laws.proofs.Vocabulary.{flight_of, image_scene_of, is_same, is_under_turn, left, ltb-true, one_if, refl}
-use Rattle.mk_laws.proofs.Vocabulary.{register_at, slice_index, sym, target_of, true, word_at, word_met, ℕ, ◌++◌, ◌==◌}
-use Rattle.mk_laws.proofs.Vocabulary.{◌↔◌, ◌∙◌, ◌∷◌, ◌≡◌}
+use Rattle.mk_laws.proofs.Vocabulary.{flight_of, is_same, is_under_turn, left, ltb-true, one_if, refl, register_at}
+use Rattle.mk_laws.proofs.Vocabulary.{slice_index, sym, target_of, true, word_at, word_met, ℕ, ◌++◌, ◌==◌, ◌↔◌, ◌∙◌}
+use Rattle.mk_laws.proofs.Vocabulary.{◌∷◌, ◌≡◌}
 use Rattle.mk_laws.proofs.Basics.{KnownWorld, at_its_stage, flight, known_world, ready_of, stands_of}
 use Rattle.mk_never.specs.declared.operations.Op.TheVariants as op
 use Rattle.mk_never.proofs.Sameness.{equal_from_same, same_from_equal}
@@ -51,8 +51,7 @@ compares_values c w n k q i p r known others mirrors h is ad =
     let lit : f ≡ flight stage.Cas o f.q f.p f.r f.loaded = ap (λ s. flight s f.op f.q f.p f.r f.loaded) st ∙ rw is in
     let admitted : IsAdmitted c.globals n k o = rw is at (admitted_call c.globals n k f.op _ (ap is_under_turn is) ad)
     in
-    let compared = cas_compares c.globals safe.0 (image_scene_of w) n k ready
-    (there_is c w n known mirrors safe.0 ready k lt)
+    let compared = cas_compares c.globals safe.0 _ n k ready (there_is c w n known mirrors safe.0 ready k lt)
     (own_registers c w n known mirrors safe.0 ready k lt) q i p r f.q f.p f.r f.loaded x
     (rw lit at (ready.images.carried k)) (rw lit at (ready.images.probed k)) (rw lit) admitted in
     record {
@@ -73,6 +72,5 @@ histories_compare c es h others before behind k q i p r whole is =
     let admitted = ((admitted_in_parts c before (cas_of k ∷ behind)).0 parts.admitted).1 in
     let compares = compares_values c (left c before) _ k q i p r
     (known_world c before earlier.within_limits earlier.enabled)
-    (say before (cas_of k ∷ behind) refl) mirrors (enabled_meets c (left c before).now (cas_of k) on) is
-    (admitted.0, tt) in
+    (say before (cas_of k ∷ behind) refl) mirrors (enabled_meets c _ (cas_of k) on) is (admitted.0, tt) in
     record { number = compares.number; place = compares.place; target = compares.target; answered = compares.answered }

@@ -4,11 +4,10 @@ use Rattle.std.proofs.lemmas.Option.{get_or_from_slice_get, slice_get_within}
 use Rattle.mk_laws.proofs.Vocabulary.{Block, Bool, Free, Header, IsSized, LeafBlock, List, Object, Option, Page, Place}
 use Rattle.mk_laws.proofs.Vocabulary.{Some, ap, arith, block_header, cases_Bool, cells_made, cells_of, class_made}
 use Rattle.mk_laws.proofs.Vocabulary.{false, free_page, header_made, header_of, header_on, inl, inr, is_small_object}
-use Rattle.mk_laws.proofs.Vocabulary.{leb-true, length, pages_made, place_on_pages, refl, resident_pages, shows_on}
-use Rattle.mk_laws.proofs.Vocabulary.{slice_index_or, small_cells, small_pages, sym, true, use_under, used_on}
-use Rattle.mk_laws.proofs.Vocabulary.{uses_of_pages, word_of, ℕ, ◌+◌, ◌<◌, ◌∙◌, ◌≡◌, ◌≤◌, ◌⊎◌}
+use Rattle.mk_laws.proofs.Vocabulary.{leb-true, length, pages_made, place_on_pages, refl, resident_pages}
+use Rattle.mk_laws.proofs.Vocabulary.{slice_index_or, small_cells, small_pages, sym, true, use_under, uses_of_pages}
+use Rattle.mk_laws.proofs.Vocabulary.{word_of, ℕ, ◌+◌, ◌<◌, ◌∙◌, ◌≡◌, ◌≤◌, ◌⊎◌}
 use Rattle.mk_geom.specs.PageUses.{is_free_page}
-use Rattle.mk_geom.specs.PageWords.{bits_of}
 use Rattle.mk_geom.specs.Places.{MayTakeCell}
 use Rattle.mk_geom.proofs.FirstFit.{cell_place_is, run_place_is}
 use Rattle.mk_geom.proofs.HeaderLemmas.{word_of-header_of}
@@ -44,13 +43,11 @@ taken_from : (h u class index : ℕ) (leaf : Bool) (x : Option Header) → heade
 taken_from h u class index leaf (Some Free) is may = inl (zero_word h is)
 taken_from h u class index leaf (Some (Block k)) is may = inr (
   sym (word_of-header_of h (Block k) is).1 ∙ rw may.0 (ap (λ b. word_of (block_header class b)) may.1),
-  rw (length-bits_of (cells_of k) u
-      ∙ ap cells_of may.0) at (slice_get_within (bits_of (cells_of k) u) index false may.2),
+  rw (length-bits_of (cells_of k) u ∙ ap cells_of may.0) at (slice_get_within _ index false may.2),
 )
 taken_from h u class index leaf (Some (LeafBlock k)) is may = inr (
   sym (word_of-header_of h (LeafBlock k) is).1 ∙ rw may.0 (ap (λ b. word_of (block_header class b)) may.1),
-  rw (length-bits_of (cells_of k) u
-      ∙ ap cells_of may.0) at (slice_get_within (bits_of (cells_of k) u) index false may.2),
+  rw (length-bits_of (cells_of k) u ∙ ap cells_of may.0) at (slice_get_within _ index false may.2),
 )
 taken_from h u class index leaf _ is may = absurd may
 
@@ -71,9 +68,7 @@ fits limit pages o place sized at = elim (cases_Bool (is_small_object o)) [ inl 
           room = omega arith;
           index = is.index;
           within = omega arith;
-          free = λ d lt. free_header (header_on pages (place.page + d)) (shows_on pages (place.page + d))
-              (used_on pages (place.page + d)) refl
-              (is.free.free (place.page + d) free_page (omega arith) (omega arith));
+          free = λ d lt. free_header _ _ _ refl (is.free.free _ free_page (omega arith) (omega arith));
         }
 
     small : is_small_object o ≡ true → FitsOnFreePages limit pages o place ⊎ FitsInBlock pages o place
@@ -84,8 +79,7 @@ fits limit pages o place sized at = elim (cases_Bool (is_small_object o)) [ inl 
         get_or_from_slice_get pages place.page is.page free_page is.at in
         let one = small_pages o s in
         let inside = slice_get_within pages place.page is.page is.at in
-        elim (taken_from is.page.header is.page.used (class_made o) place.index o.leaf (header_of is.page.header) refl
-        is.may_take) [
+        elim (taken_from is.page.header is.page.used (class_made o) place.index o.leaf _ refl is.may_take) [
           | inl z ↦ inl (record {
             room = let room = is.has_room (is.carves ∙ free_use is.page.header is.page.used z) in omega arith;
             index = is.carves_first (is.carves ∙ free_use is.page.header is.page.used z);

@@ -11,9 +11,8 @@ use Rattle.mk_laws.proofs.Vocabulary.{is_large, is_mapped, is_phase, is_released
 use Rattle.mk_laws.proofs.Vocabulary.{is_undecided_new, is_unmapping, kinds_of, large_is_not_small, layout_scene_of}
 use Rattle.mk_laws.proofs.Vocabulary.{length, lt-ltb, mode_of, not, object_made, object_now, object_placed, pages_made}
 use Rattle.mk_laws.proofs.Vocabulary.{pages_some, phase_of, place_claim, placed_at, pointed_cell, refl}
-use Rattle.mk_laws.proofs.Vocabulary.{run_of_allocation, slice_index, stands, subst, suc, sym, true, true≢false}
-use Rattle.mk_laws.proofs.Vocabulary.{typed_size, unmapped_header, zero, ℕ, ◌&&◌, ◌+◌, ◌/◌, ◌<◌, ◌==◌, ◌∙◌, ◌∷◌, ◌≡◌}
-use Rattle.mk_laws.proofs.Vocabulary.{◌≢◌, ◌≤◌, ◌⊎◌}
+use Rattle.mk_laws.proofs.Vocabulary.{run_of_allocation, stands, subst, suc, sym, true, true≢false, typed_size}
+use Rattle.mk_laws.proofs.Vocabulary.{unmapped_header, zero, ℕ, ◌&&◌, ◌+◌, ◌/◌, ◌<◌, ◌==◌, ◌∙◌, ◌∷◌, ◌≡◌, ◌≢◌, ◌≤◌, ◌⊎◌}
 use Rattle.mk_laws.proofs.Claims.{claim_among, front, gone_front, claim_is}
 use Rattle.mk_core.specs.NewPlaces.{place_stands}
 use Rattle.mk_core.proofs.GrantedAllocations.{placed_headers, placed_stands}
@@ -51,10 +50,10 @@ numbers_apart c run (x ∷ xs) i j apart u v same =
         ap (λ k. suc k) (rest (rw (gone_front c run x xs r) at apart) m n u v same)
     by (inr t) zero (suc n) u v same rest =
         let ap2 : AreApart (claim_of c run x ∷ claims_of c run xs) = rw (front c run x xs t) at apart in
-        absurd (ap2.0 (claim_of c run (placed_at xs n)) (claim_among c run xs n v) same)
+        absurd (ap2.0 _ (claim_among c run xs n v) same)
     by (inr t) (suc m) zero u v same rest =
         let ap2 : AreApart (claim_of c run x ∷ claims_of c run xs) = rw (front c run x xs t) at apart in
-        absurd (ap2.0 (claim_of c run (placed_at xs m)) (claim_among c run xs m u) (sym same.0, sym same.1))
+        absurd (ap2.0 _ (claim_among c run xs m u) (sym same.0, sym same.1))
     by (inr t) (suc m) (suc n) u v same rest =
         let ap2 : AreApart (claim_of c run x ∷ claims_of c run xs) = rw (front c run x xs t) at apart in
         rw (rest ap2.1 m n u v same)
@@ -63,7 +62,7 @@ numbers_apart c run (x ∷ xs) i j apart u v same =
 pub gone_is : (c : Config) (a : PlacedAllocation) → a.released ≡ false
     → is_mapped c a ≡ not (a.freed && not (is_small_object (object_placed c a)))
 gone_is c a u = ap (λ b. not b && not (a.freed && is_large (kinds_of c.types a.ty))) u
-    ∙ ap (λ b. not (a.freed && b)) (large_is_not_small (kinds_of c.types a.ty))
+    ∙ ap (λ b. not (a.freed && b)) (large_is_not_small _)
 
 mode_mapped : (x going : Bool) (o : Object) (d h : ℕ) → not x ≡ true → HasHeader (mode_of x going) o d h
     → h ≡ header_made o d
@@ -83,8 +82,7 @@ mode_unmapping false going e = cc
 pub released_is : (w : World) (cell : Cell) → is_released_cell w.now.words cell
     ≡ is_released_in (is_phase w.now.words 4) w.now.words.snapshot w.now.words.marks cell.page cell.index
 released_is w cell =
-    by (is_phase w.now.words 4) _ _ _
-    (has_bit_without (slice_index w.now.words.snapshot cell.page) (slice_index w.now.words.marks cell.page) cell.index)
+    by (is_phase w.now.words 4) _ _ _ (has_bit_without _ _ cell.index)
   where
     by : (b x y z : Bool) → x ≡ (y && not z) → (b && x) ≡ (b && y && not z)
     by true x y z e = e
@@ -101,23 +99,22 @@ module _ (c : Config) (w : World) (known : KnownWorld c w) (laid : LayoutStands 
       → IsShown w.now.words.pages (claim_of c run (placed_at xs i))
   shown_claim i u =
       let x : Claim = claim_of c run (placed_at xs i) in
-      laid.scene.shown x (own_claim c (object_now c w.now) (ground_of w) x (claim_among c run xs i u))
+      laid.scene.shown x (own_claim c _ (ground_of w) x (claim_among c run xs i u))
 
   pub standing : (i : ℕ) → (placed_at xs i).released ≡ false → IsStanding c w.now.words (placed_at xs i)
-  standing i u = all_stand c (object_now c w.now) (is_phase w.now.words 4) w known.lengths.pages laid i u
+  standing i u = all_stand c _ _ w known.lengths.pages laid i u
 
   bases_apart : (i j : ℕ) → (placed_at xs i).released ≡ false → (placed_at xs j).released ≡ false
       → i ≢ j → (placed_at xs i).base ≢ (placed_at xs j).base
   bases_apart i j u v ne same =
       let si = standing i u in
       let sj = standing j v in
-      let one = base_points c w.now.words (placed_at xs i) known.limits si.stands si.headers in
-      let two = base_points c w.now.words (placed_at xs j) known.limits sj.stands sj.headers in
+      let one = base_points c w.now.words _ known.limits si.stands si.headers in
+      let two = base_points c w.now.words _ known.limits sj.stands sj.headers in
       let both : Some (cell_of_allocation c (placed_at xs i)) ≡ Some (cell_of_allocation c (placed_at xs j)) = sym one
       ∙ ap (λ n. pointed_cell c.pages w.now.words.pages (address_of n)) same ∙ two in
       let cells : cell_of_allocation c (placed_at xs i) ≡ cell_of_allocation c (placed_at xs j) = cc in
-      ne (numbers_apart c run xs i j (apart_left (claims_of c run xs)
-      (claims_placed (object_now c w.now) w.now.seats.holding.placing) laid.scene.apart) u v
+      ne (numbers_apart c run xs i j (apart_left _ _ laid.scene.apart) u v
       (ap (λ (x : Cell). x.page) cells, ap (λ (x : Cell). x.index) cells))
 
   -- The run that the call frees
@@ -131,8 +128,7 @@ module _ (c : Config) (w : World) (known : KnownWorld c w) (laid : LayoutStands 
       let n = claim_is c run xs x.claim x.among in
       let a : PlacedAllocation = placed_at xs n.number in
       let gone : (a.freed && not (is_small_object (object_placed c a))) ≡ true =
-      mode_unmapping (a.freed && not (is_small_object (object_placed c a))) _ (ap (λ (y : Claim). y.mode) (sym n.is)
-      ∙ x.mode) in
+      mode_unmapping _ _ (ap (λ (y : Claim). y.mode) (sym n.is) ∙ x.mode) in
       let page : r.page ≡ a.base / 64 = sym x.page ∙ ap (λ (y : Claim). y.page) n.is in
       let count : r.count ≡ pages_made (object_placed c a) = sym x.count
       ∙ ap (λ (y : Claim). pages_made y.object) n.is in
@@ -179,12 +175,10 @@ module _ (c : Config) (w : World) (known : KnownWorld c w) (laid : LayoutStands 
       record {
         stands = s.stands;
         headers = s.headers;
-        mapped = λ m d lt. mode_mapped (a.freed && not (is_small_object (object_placed c a))) _ (object_placed c a) d _
-            (sym gone ∙ m) ((shown_claim i u).headers d lt);
+        mapped = λ m d lt. mode_mapped _ _ (object_placed c a) d _ (sym gone ∙ m) ((shown_claim i u).headers d lt);
         unmapped = λ m other d lt.
             let off : not (a.freed && not (is_small_object (object_placed c a))) ≡ false = sym gone ∙ m in
-            mode_unmapped (a.freed && not (is_small_object (object_placed c a))) _ (object_placed c a) d _ off
-            (not_going i u (large_of (a.freed) (is_small_object (object_placed c a)) off) other)
+            mode_unmapped _ _ (object_placed c a) d _ off (not_going i u (large_of (a.freed) _ off) other)
             ((shown_claim i u).headers d lt);
       }
     where
@@ -196,11 +190,10 @@ module _ (c : Config) (w : World) (known : KnownWorld c w) (laid : LayoutStands 
 
   all_stands : (o : Object) (first n : ℕ) → ((d : ℕ) → d < n → header_at w.now.words (first + d) ≡ header_made o d)
       → all_below n (stands w.now.words first (header_made o)) ≡ true
-  all_stands o first zero h = all_below_zero_is (stands w.now.words first (header_made o))
+  all_stands o first zero h = all_below_zero_is _
   all_stands o first (suc n) h =
       subst (λ k. all_below k (stands w.now.words first (header_made o)) ≡ true) (omega arith)
-      (all_below_more_is n (stands w.now.words first (header_made o)) (all_stands o first n (λ d lt. h d (omega arith)))
-      (eq-eqb (header_at w.now.words (first + n)) (header_made o n) (h n (omega arith))))
+      (all_below_more_is n _ (all_stands o first n (λ d lt. h d (omega arith))) (eq-eqb _ _ (h n (omega arith))))
 
   -- No unreleased allocation begins where another one would stand whose cell is the place's.
   place_alone : (b : PlacedAllocation) (place : Place) → b.ty < length c.types → b.released ≡ false
@@ -224,9 +217,7 @@ module _ (c : Config) (w : World) (known : KnownWorld c w) (laid : LayoutStands 
       (sym is) (inl refl) in
       let page : a.base / 64 ≡ place.page = ap (λ (x : Cell). x.page) cells ∙ at.0 in
       let index : (cell_of_allocation c a).index ≡ place.index = ap (λ (x : Cell). x.index) cells ∙ at.1 in
-      apart_across (claims_of c run xs) (claims_placed (object_now c w.now) w.now.seats.holding.placing)
-      (claim_of c run a) (place_claim (object_now c w.now) place) laid.scene.apart
-      (claim_among c run xs i u) among (page, index)
+      apart_across _ _ _ _ laid.scene.apart (claim_among c run xs i u) among (page, index)
 
   taken : (place : Place) (k : ℕ) → w.now.seats.holding.placing ≡ Used place → k < c.callers
       → is_undecided_new (flight_of w.now (Caller k)) ≡ true
@@ -277,7 +268,7 @@ module _ (c : Config) (w : World) (known : KnownWorld c w) (laid : LayoutStands 
           | inl f ↦ inl (record { number = f.number; unreleased = f.unreleased; freed = f.freed; cell = f.cell })
           | inr r ↦ inr (released_is w cell ∙ r)
         ];
-        kept = λ i u. released_is w (cell_of_allocation c (placed_at xs i)) ∙ kept_at i u (is_phase w.now.words 4) refl;
+        kept = λ i u. released_is w (cell_of_allocation c (placed_at xs i)) ∙ kept_at i u _ refl;
         zero_words = zeros_tell_the_images c w zeros;
         marks = marks;
       }

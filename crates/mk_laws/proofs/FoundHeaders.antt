@@ -7,17 +7,16 @@ use Rattle.mk_laws.proofs.Vocabulary.{IsMarking, IsSized, IsWithinLimits, ItCarv
 use Rattle.mk_laws.proofs.Vocabulary.{OfBlock, OfLater, OfLeafBlock, OfLeafRun, OfRun, Op, Option, Place, RunPages}
 use Rattle.mk_laws.proofs.Vocabulary.{Seat, ShowsPart, Some, Words, World, [], and_parts, ap, arith, cases_Bool}
 use Rattle.mk_laws.proofs.Vocabulary.{cases_eq, cell_at, cell_ends, cells_made, cells_of, cells_under, class_known}
-use Rattle.mk_laws.proofs.Vocabulary.{class_made, class_words_of, cond-false, cond-true, d_of, eq-eqb, eqb-true, false}
-use Rattle.mk_laws.proofs.Vocabulary.{fewer_bits, flight_of, g_of, has_bit, has_operands, head_step, header_at}
-use Rattle.mk_laws.proofs.Vocabulary.{header_in, header_made, header_of, header_shows, if◌then◌else◌, inl, inr}
-use Rattle.mk_laws.proofs.Vocabulary.{is_heap_address, is_marked_first, is_phase, is_small_object, is_undecided_new}
-use Rattle.mk_laws.proofs.Vocabulary.{is_unmapped_header, large_cells, large_count, large_words, later_cells, le-leb}
-use Rattle.mk_laws.proofs.Vocabulary.{length, ltb-true, made_shows, nat_le, nat_lt, not, not-true, object_made}
-use Rattle.mk_laws.proofs.Vocabulary.{or_cases, p_of, page_at_address, pages_made, part_cells, part_head, part_not_free}
-use Rattle.mk_laws.proofs.Vocabulary.{part_words, phase_of, place_now, placed_now, q_of, r_of, refl, slice_index}
-use Rattle.mk_laws.proofs.Vocabulary.{small_cells, small_pages, small_words, subst, sym, true, true≢false}
+use Rattle.mk_laws.proofs.Vocabulary.{class_made, class_words_of, cond-false, cond-true, eq-eqb, eqb-true, false}
+use Rattle.mk_laws.proofs.Vocabulary.{fewer_bits, flight_of, has_bit, has_operands, head_step, header_at, header_in}
+use Rattle.mk_laws.proofs.Vocabulary.{header_made, header_of, header_shows, if◌then◌else◌, inl, inr, is_heap_address}
+use Rattle.mk_laws.proofs.Vocabulary.{is_marked_first, is_phase, is_small_object, is_undecided_new, is_unmapped_header}
+use Rattle.mk_laws.proofs.Vocabulary.{large_cells, large_count, large_words, later_cells, le-leb, ltb-true, made_shows}
+use Rattle.mk_laws.proofs.Vocabulary.{nat_le, not-true, object_made, or_cases, page_at_address, pages_made, part_cells}
+use Rattle.mk_laws.proofs.Vocabulary.{part_head, part_not_free, part_words, phase_of, place_now, placed_now, refl}
+use Rattle.mk_laws.proofs.Vocabulary.{slice_index, small_cells, small_pages, small_words, subst, sym, true, true≢false}
 use Rattle.mk_laws.proofs.Vocabulary.{undecided_new, unmapped_header, unmapped_is_unmapped, words_made, words_under, ℕ}
-use Rattle.mk_laws.proofs.Vocabulary.{◌&&◌, ◌*◌, ◌+◌, ◌-◌, ◌<◌, ◌==◌, ◌^◌, ◌||◌, ◌∙◌, ◌≡◌, ◌⊎◌}
+use Rattle.mk_laws.proofs.Vocabulary.{◌*◌, ◌+◌, ◌-◌, ◌<◌, ◌==◌, ◌||◌, ◌∙◌, ◌≡◌, ◌⊎◌}
 use Rattle.mk_laws.proofs.Basics.{Known, Meets, either_phase, new_holds}
 use Rattle.mk_geom.specs.Addresses.{cell_under, word_at_address}
 use Rattle.mk_geom.proofs.ClassTable.{some_cells}
@@ -42,8 +41,7 @@ first_cell : (distance page : ℕ) → distance ≡ 0 → Some (record { page = 
 first_cell distance page z =
     let here : page ≡ page - distance = omega arith in
     ap (λ (p : ℕ). Some (record { page = p; index = 0 })) here
-    ∙ sym (cond-true (nat_le distance page) (Some (record { page = page - distance; index = 0 })) None
-    (le-leb distance page (omega arith)))
+    ∙ sym (cond-true _ (Some (record { page = page - distance; index = 0 })) None (le-leb distance page (omega arith)))
 
 run_cell_under : (o : Object) (distance page word : ℕ) (x : Option Header) → ShowsPart o distance x
     → is_small_object o ≡ false → option_and_then (λ h. cell_under h page word) x ≡ run_cell distance page
@@ -59,7 +57,7 @@ run_cell_at : (pages header value distance : ℕ) (o : Object) → ShowsPart o d
     else None)
 run_cell_at pages header value distance o part large =
     ap (λ (x : Option Cell). if is_heap_address pages value then x else None)
-    (run_cell_under o distance (page_at_address value) (word_at_address value) (header_of header) part large)
+    (run_cell_under o distance _ _ _ part large)
 
 -- Unmapping shows the same.
 
@@ -70,8 +68,8 @@ unmapped_goes pages before after distance o large b a unmapped =
     record {
       cell = λ v y is. run_cell_at pages after v distance o a large
           ∙ sym (run_cell_at pages before v distance o b large) ∙ is;
-      count = λ some. same_cells o distance (header_of after) (header_of before) a b;
-      words = λ some. same_words o distance (header_of after) (header_of before) a b;
+      count = λ some. same_cells o distance _ _ a b;
+      words = λ some. same_words o distance _ _ a b;
       unscanned = λ some t. rw unmapped (or-true _);
     }
 
@@ -98,18 +96,16 @@ unmaps_find c w freed p n runs u =
     here = let le = u.next.from in omega arith
 
     before : ShowsPart o.object (p - u.run.page) (header_of (header_at w p))
-    before = header_shows o.object (p - u.run.page) (header_at w p) o.sized within
-        (rw here at (o.headers (p - u.run.page) near))
+    before = header_shows o.object _ (header_at w p) o.sized within (rw here at (o.headers _ near))
 
     is : n ≡ unmapped_header (pages_made o.object) (p - u.run.page)
     is = u.next.is ∙ ap (λ (k : ℕ). unmapped_header k (p - u.run.page)) (sym o.count)
 
     after : ShowsPart o.object (p - u.run.page) (header_of n)
-    after = header_shows o.object (p - u.run.page) n o.sized within (inr (o.large, is))
+    after = header_shows o.object _ n o.sized within (inr (o.large, is))
 
     unmapped : is_unmapped_header (header_of n) ≡ true
-    unmapped = rw is
-        (unmapped_is_unmapped (pages_made o.object) (p - u.run.page) (large_count o.object o.sized o.large) within)
+    unmapped = rw is (unmapped_is_unmapped _ _ (large_count o.object o.sized o.large) within)
 
 -- Carving: the cells that the headers make are marked first.
 
@@ -117,12 +113,11 @@ made_bit : (o : Object) (k : ℕ) → k < cells_made o → has_bit (bits_made o)
 made_bit o k lt = elim (cases_Bool (is_small_object o)) [
   | inl small ↦
       let cells = small_cells o small in
-      ap (λ n. has_bit n k) (cond-true (is_small_object o) (2 ^ cells_of (class_made o) - 1) 1 small)
-      ∙ rw (bit_at_ones (cells_of (class_made o)) k (omega arith))
+      ap (λ n. has_bit n k) (cond-true _ _ 1 small) ∙ rw (bit_at_ones (cells_of (class_made o)) k (omega arith))
   | inr large ↦
       let one = large_cells o large in
       let zero : k ≡ 0 = omega arith in
-      ap (λ n. has_bit n k) (cond-false (is_small_object o) (2 ^ cells_of (class_made o) - 1) 1 large) ∙ rw zero
+      ap (λ n. has_bit n k) (cond-false _ _ 1 large) ∙ rw zero
 ]
 
 -- The cell of a value on such a page is one of the first page's.
@@ -178,7 +173,7 @@ made_cell pages o first distance value x sized lt on is = (page, index)
 
 first_marked : (w : Words) (o : Object) (place : Place) (k : ℕ) → is_phase w 1 ≡ true → is_marked_first w o place ≡ true
     → k < cells_made o → has_bit (slice_index w.marks place.page) k ≡ true
-first_marked w o place k one first lt = elim (or_cases (not (is_phase w 1)) _ first) [
+first_marked w o place k one first lt = elim (or_cases _ _ first) [
   | inl out ↦ absurd (true≢false (sym one ∙ not-true (is_phase w 1) out))
   | inr none ↦ fewer_bits (bits_made o) _ k (without_none (bits_made o) _ (eqb-true _ 0 none)) (made_bit o k lt)
 ]
@@ -258,11 +253,9 @@ new_sized c f limits operands new = by f.op (undecided_new f new) operands
   where
     by : (o : Op) → NewAtTurn f.stage o → has_operands c o ≡ true → IsSized (object_made c o)
     by o at operands =
-        let typed = (and_parts
-        (nat_lt (q_of o) 8 && nat_lt (p_of o) 8 && nat_lt (r_of o) 8 && nat_lt (d_of o) 8 && nat_lt (g_of o) 64)
-        (has_type c o) operands).1 in
+        let typed = (and_parts _ (has_type c o) operands).1 in
         subst (λ (x : Op). IsSized (object_made c x)) (sym at.op) (limits.types at.ty []
-        (ltb-true at.ty (length c.types) (subst (λ (x : Op). has_type c x ≡ true) at.op typed))).0
+        (ltb-true at.ty _ (subst (λ (x : Op). has_type c x ≡ true) at.op typed))).0
 
 -- While a cycle marks, a `head` comes before the stop is wanted.
 marking_phase : (n : ℕ) → ((n == 0) || (n == 1) || (n == 4)) ≡ true → (n ≡ 1) ⊎ (n ≡ 2) → n ≡ 1

@@ -159,10 +159,9 @@ module _ (c : Config) (es more : List Event) (k : ℕ) (x : Step) (h : IsHistory
         is admitted) in
         let register =
         registers_are_left c es more k h others (q_of f.op) (operands_of c f.op (here.known.now.operands k)).q in
-        probe_still c w v (never_behind c es) (never_behind c (es ++ more)) here.known there.known here.all there.all k
-        lt kept.own.flight (at_probe is)
-        (never_continues c es more) register (admitted_call c.globals (never_behind c es) k f.op answer.Fault out
-        decides) unmapped ∙ sym unmapped
+        probe_still c w v _ _ here.known there.known here.all there.all k lt kept.own.flight (at_probe is)
+        (never_continues c es more) register (admitted_call c.globals _ k f.op answer.Fault out decides) unmapped
+        ∙ sym unmapped
   ]
 
   finds_header : x ≡ step.Probe → is_unmapped_header (header_of (found c v.now (of_caller k x)))
@@ -189,13 +188,12 @@ module _ (c : Config) (es more : List Event) (k : ℕ) (x : Step) (h : IsHistory
   pub caller_asks_the_same : asked (call_decided c v.now (of_caller k x)) ≡ asked (call_decided c w.now (of_caller k x))
   caller_asks_the_same =
       ap (λ (g : Flight). asked (entry_of k g.op (progress c v.now g (found c v.now (of_caller k x)) x).answer))
-      kept.own.flight
-      ∙ asked_the_same c w.now v.now k f (found c w.now (of_caller k x)) (found c v.now (of_caller k x)) x
+      kept.own.flight ∙ asked_the_same c w.now v.now k f _ _ x
       (record { reg = finds_register; probe = finds_header; look = sees_freed; quar = frees_the_same })
 
   pub caller_is_admitted : AreAdmitted c.globals (never_behind c (es ++ more))
       (asked (call_decided c v.now (of_caller k x)))
-  caller_is_admitted = rw caller_asks_the_same (call_on c.globals (never_behind c es) _ k (never_continues c es more)
+  caller_is_admitted = rw caller_asks_the_same (call_on c.globals _ _ k (never_continues c es more)
       (registers_are_left c es more k h others) here.all.mirrors.typed f.op _ admitted)
 
   -- whether a `probe` decides

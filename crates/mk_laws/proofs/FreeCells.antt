@@ -30,8 +30,8 @@ cell_on : (x : Option Header) (k i : ℕ) → k < cells_under x → i < words_un
     → (k * words_under x + i < 64) ⊎ ((heads_run x ≡ true) × (k ≡ 0) × (words_under x ≡ 64 * run_count x))
 cell_on None k i known lt = absurd (omega arith)
 cell_on (Some Free) k i known lt = absurd (omega arith)
-cell_on (Some (Block class)) k i known lt = inl (let ends = cell_ends k (class_words_of class) known in omega arith)
-cell_on (Some (LeafBlock class)) k i known lt = inl (let ends = cell_ends k (class_words_of class) known in omega arith)
+cell_on (Some (Block class)) k i known lt = inl (let ends = cell_ends k _ known in omega arith)
+cell_on (Some (LeafBlock class)) k i known lt = inl (let ends = cell_ends k _ known in omega arith)
 cell_on (Some (Run count mapped)) k i known lt = inr (refl, omega arith, refl)
 cell_on (Some (LeafRun count)) k i known lt = inr (refl, omega arith, refl)
 cell_on (Some (Later distance mapped)) k i known lt = absurd (omega arith)
@@ -58,7 +58,7 @@ begins_there : (w : Words) (o : Object) (base n p k : ℕ) → OnPage w o base n
     → base ≡ 64 * p + k * words_under (header_in w p)
 begins_there w o base n p k x at known low high = elim (cases_eq x.distance 0) [
   | inr far ↦
-      let none = later_cells o x.distance (header_in w (n / 64)) x.part (omega arith) in
+      let none = later_cells o x.distance _ x.part (omega arith) in
       let here : cells_under (header_in w p)
       ≡ cells_under (header_in w (n / 64)) = ap (λ q. cells_under (header_in w q)) (sym at) in
       absurd (omega arith)
@@ -86,9 +86,9 @@ is_free_or_later (inr free) = inr free.0
 run_begins_there : (w : Words) (o : Object) (base n p d : ℕ) → OnPage w o base n → n / 64 ≡ p + d → 1 ≤ d
     → ((mapped : Bool) × (header_in w (p + d) ≡ Some (Later d mapped))) ⊎ (header_at w (p + d) ≡ 0) → base ≡ 64 * p
 run_begins_there w o base n p d x at some (inr free) =
-    absurd (part_not_free o x.distance (header_at w (n / 64)) x.part (ap (λ q. header_at w q) at ∙ free))
+    absurd (part_not_free o x.distance _ x.part (ap (λ q. header_at w q) at ∙ free))
 run_begins_there w o base n p d x at some (inl later) =
-    let is = shown_later o x.distance d later.0 (header_in w (n / 64)) x.part (ap (λ q. header_in w q) at ∙ later.1) in
+    let is = shown_later o x.distance d later.0 _ x.part (ap (λ q. header_in w q) at ∙ later.1) in
     let same = is.0 in
     let page = x.page in
     let aligned = (run_begins o base is.2 x.begins).1 in
@@ -103,7 +103,7 @@ small_within o base n b small at to =
     let size : b.index * words_made o ≡ b.index * class_words_of (class_made o) = ap (λ k. b.index * k) words in
     let base_is = base_on_page o base b in
     let size_of : ℕ = class_words_of (class_made o) in
-    let most = mul-le (suc b.index) size_of (cells_of (class_made o)) size_of known (le_refl size_of) in
+    let most = mul-le (suc b.index) size_of _ size_of known (le_refl size_of) in
     omega arith
 
 -- What shows a page of an object has the object's words there within its cells.
@@ -138,7 +138,7 @@ module _ (c : Config) (w : World) (n : NeverState) (known : KnownWorld c w) (all
         page = there;
         near = near;
         part = subst (λ p. ShowsPart o d (header_in w.now.words p)) there
-            (header_shows o d (header_at w.now.words (a.base / 64 + d)) sized near (s.headers d near));
+            (header_shows o d _ sized near (s.headers d near));
       }
 
   taken_by : (cell : Cell) (x : ℕ) (one : IsOfOne c w x) → cell.index < cells_under (header_in w.now.words cell.page)
@@ -148,8 +148,7 @@ module _ (c : Config) (w : World) (n : NeverState) (known : KnownWorld c w) (all
       record {
         number = one.number;
         in_range = lt;
-        stands = and_from (not a.released) (a.base == first_word w.now.words cell) (ap not one.unreleased)
-            (eq-eqb a.base (first_word w.now.words cell) first);
+        stands = and_from _ _ (ap not one.unreleased) (eq-eqb a.base _ first);
       }
 
   -- What has a word of a run begins where the run does.
@@ -212,13 +211,12 @@ module _ (c : Config) (w : World) (n : NeverState) (known : KnownWorld c w) (all
         let a : PlacedAllocation = placed_at w.allocations one.number in
         let on = on_page x one in
         let shown : Option Header = header_in w.now.words (x / 64) in
-        let lt = within_cells (object_placed c a) on.distance a.base x shown on.part on.begins (sym on.page) on.to in
+        let lt = within_cells _ on.distance a.base x shown on.part on.begins (sym on.page) on.to in
         absurd (omega arith)
   ]
 
   free_cells : FreeCellsAreZero c w
-  free_cells quiet cell lt free =
-      cell_is_zero quiet cell lt free (cell_words w.now.words cell) (le_refl (cell_words w.now.words cell))
+  free_cells quiet cell lt free = cell_is_zero quiet cell lt free _ (le_refl _)
 
 pub free_cells_are_zero : OfHistories (Leaves FreeCellsAreZero)
 free_cells_are_zero = of_worlds free_cells

@@ -29,7 +29,7 @@ same_places change xs h =
     record {
       bases = same_bases change xs h;
       count = length-map xs change;
-      each = λ i. rw (changed_at change xs i h.none) (h.ty (placed_at xs i));
+      each = λ i. rw (changed_at change xs i h.none) (h.ty _);
     }
 
 abbrev is_freed_in : Words → Option Cell → Bool

@@ -1,9 +1,9 @@
 -- A page without a header has nothing.
 use Rattle.mk_laws.proofs.Vocabulary.{Config, HasAllocation, Invariant, Leaves, NeverState, OfHistories}
-use Rattle.mk_laws.proofs.Vocabulary.{PlacedAllocation, World, ap, arith, cases_eq, cells_under, claim_of, ground_of}
-use Rattle.mk_laws.proofs.Vocabulary.{has_bit, header_at, header_in, header_of, inl, inr, is_phase, layout_scene_of}
-use Rattle.mk_laws.proofs.Vocabulary.{left, never_behind, object_now, object_placed, placed_at, refl, slice_index}
-use Rattle.mk_laws.proofs.Vocabulary.{storage_words, true, words_made, ℕ, ◌+◌, ◌-◌, ◌/◌, ◌∙◌, ◌≡◌, ◌≢◌}
+use Rattle.mk_laws.proofs.Vocabulary.{PlacedAllocation, World, ap, arith, cases_eq, cells_under, has_bit, header_at}
+use Rattle.mk_laws.proofs.Vocabulary.{header_in, header_of, inl, inr, left, never_behind, object_placed, placed_at}
+use Rattle.mk_laws.proofs.Vocabulary.{refl, slice_index, storage_words, true, words_made, ℕ, ◌+◌, ◌-◌, ◌/◌, ◌∙◌, ◌≡◌}
+use Rattle.mk_laws.proofs.Vocabulary.{◌≢◌}
 use Rattle.mk_laws.proofs.Basics.{KnownWorld, claimed_some, ends_on_pages, known_world, zero_where_none}
 use Rattle.mk_laws.proofs.LayoutReadings.{free_unused}
 use Rattle.mk_laws.proofs.ForImages.{shown_claim, standing}
@@ -18,13 +18,12 @@ module _ (c : Config) (w : World) (n : NeverState) (known : KnownWorld c w) (all
       let a : PlacedAllocation = placed_at w.allocations x.number in
       let shown = shown_claim c w known all.order.laid x.number x.unreleased in
       let s = standing c w known all.order.laid x.number x.unreleased in
-      let ends = ends_on_pages (object_placed c a) a.base shown.sized s.stands.begins in
+      let ends = ends_on_pages _ a.base shown.sized s.stands.begins in
       let words : storage_words c a ≡ words_made (object_placed c a) = refl in
       let of_it = x.of_it in
       let page = x.page in
       let there : a.base / 64 + (p - a.base / 64) ≡ p = omega arith in
-      claimed_some w.now.words.pages (claim_of c w.now.seats.holding.freed a) (p - a.base / 64) shown (omega arith)
-      (ap (λ q. header_at w.now.words q) there ∙ z)
+      claimed_some w.now.words.pages _ _ shown (omega arith) (ap (λ q. header_at w.now.words q) there ∙ z)
 
   no_cells : (p : ℕ) → header_at w.now.words p ≡ 0 → cells_under (header_in w.now.words p) ≡ 0
   no_cells p z = ap (λ h. cells_under (header_of h)) z
@@ -38,11 +37,9 @@ module _ (c : Config) (w : World) (n : NeverState) (known : KnownWorld c w) (all
   free_page : DirtyPagesHaveAllocations c w → (p : ℕ) → header_at w.now.words p ≡ 0 → HasNothing w.now.words p
   free_page dirty p z =
       record {
-        used = free_unused (layout_scene_of c (object_now c w.now) (is_phase w.now.words 4) w.now.words.marks
-            (ground_of w)) p all.order.laid.scene z;
-        freed = zero_where_none (slice_index w.now.words.freed p) (none_freed p z);
-        snapshot = zero_where_none (slice_index w.now.words.snapshot p)
-            (λ k bit. none_freed p z k (all.order.quarantined.within p k bit));
+        used = free_unused _ p all.order.laid.scene z;
+        freed = zero_where_none _ (none_freed p z);
+        snapshot = zero_where_none _ (λ k bit. none_freed p z k (all.order.quarantined.within p k bit));
         dirty = elim (cases_eq (slice_index w.now.words.dirty p) 0) [
           | inl is ↦ is
           | inr some ↦ absurd (allocation_shows p (dirty p some) z)

@@ -3,10 +3,10 @@ use Rattle.mk_laws.proofs.Vocabulary.{Config, Invariant, IsFreedWord, IsWordOf, 
 use Rattle.mk_laws.proofs.Vocabulary.{NeverState, Object, OfFreedRun, OfHistories, OfMapped, OfReleased, Option}
 use Rattle.mk_laws.proofs.Vocabulary.{PlacedAllocation, RunPages, Some, Words, World, all_below-at, and_parts, ap}
 use Rattle.mk_laws.proofs.Vocabulary.{arith, cases_eq, eqb-true, false, inl, inr, is_run_gone, is_run_unmapped}
-use Rattle.mk_laws.proofs.Vocabulary.{large_words, leb-true, left, ltb-true, nat_le, nat_lt, never_behind}
-use Rattle.mk_laws.proofs.Vocabulary.{object_placed, pages_made, phase_of, placed_at, run_begins, run_of_allocation}
-use Rattle.mk_laws.proofs.Vocabulary.{slice_index, storage_of, storage_words, sym, true, words_are_zero, zero_scene_of}
-use Rattle.mk_laws.proofs.Vocabulary.{ℕ, ◌%◌, ◌*◌, ◌+◌, ◌-◌, ◌/◌, ◌<◌, ◌==◌, ◌∙◌, ◌≡◌, ◌≢◌, ◌≤◌}
+use Rattle.mk_laws.proofs.Vocabulary.{large_words, leb-true, left, ltb-true, object_placed, pages_made, phase_of}
+use Rattle.mk_laws.proofs.Vocabulary.{placed_at, run_begins, run_of_allocation, slice_index, storage_of, sym, true}
+use Rattle.mk_laws.proofs.Vocabulary.{words_are_zero, zero_scene_of, ℕ, ◌%◌, ◌*◌, ◌+◌, ◌-◌, ◌/◌, ◌<◌, ◌==◌, ◌∙◌, ◌≡◌}
+use Rattle.mk_laws.proofs.Vocabulary.{◌≢◌, ◌≤◌}
 use Rattle.mk_laws.proofs.Basics.{KnownWorld, known_world, mapped_stays, none_released}
 use Rattle.mk_core.specs.Cells.{is_in_run}
 use Rattle.mk_laws.proofs.ForImages.{standing}
@@ -28,8 +28,8 @@ run_word base words pages x aligned is from to = (omega arith, omega arith)
 
 in_run : (run : RunPages) (x : ℕ) → is_in_run run x ≡ true → (run.page ≤ x / 64) × (x / 64 - run.page < run.count)
 in_run run x h =
-    let parts = and_parts (nat_le run.page (x / 64)) (nat_lt (x / 64 - run.page) run.count) h in
-    (leb-true run.page (x / 64) parts.0, ltb-true (x / 64 - run.page) run.count parts.1)
+    let parts = and_parts _ _ h in
+    (leb-true run.page (x / 64) parts.0, ltb-true _ run.count parts.1)
 
 -- in a run that is gone
 gone_word : (w : Words) (run : RunPages) (x : ℕ) → is_in_run run x ≡ true → is_run_gone w (Some run) ≡ true
@@ -54,11 +54,11 @@ module _ (c : Config) (w : World) (n : NeverState) (known : KnownWorld c w) (all
       let aligned = (run_begins o a.base run.large stands.begins).1 in
       let word : is_in_run (run_of_allocation c a) x ≡ true = ap (λ (r : RunPages). is_in_run r x) (sym run.is)
       ∙ f.word in
-      let at = in_run (run_of_allocation c a) x word in
+      let at = in_run _ x word in
       record {
         number = run.number;
         unreleased = run.unreleased;
-        word = run_word a.base (storage_words c a) (pages_made o) x aligned (large_words o run.large) at.0 at.1;
+        word = run_word a.base _ (pages_made o) x aligned (large_words o run.large) at.0 at.1;
       }
 
   of_mapped : (x : ℕ) → IsWordOfMapped c w.allocations x → IsOfOne c w x
@@ -106,7 +106,7 @@ module _ (c : Config) (w : World) (n : NeverState) (known : KnownWorld c w) (all
 pub of_worlds : {claim : Config → World → Type 0}
     → ((c : Config) (w : World) (n : NeverState) → KnownWorld c w → Invariant c w n → claim c w)
     → OfHistories (Leaves claim)
-of_worlds {claim} known c es h = known c (left c es) (never_behind c es) (known_world c es h.within_limits h.enabled)
+of_worlds {claim} known c es h = known c (left c es) _ (known_world c es h.within_limits h.enabled)
     (histories_keep_the_invariant c es h)
 
 pub words_of_none_are_zero : OfHistories (Leaves WordsOfNoneAreZero)

@@ -139,19 +139,17 @@ module _ (c : Config) (o : Object) (w : World) (cell : Cell) (limits : IsWithinL
           (object_placed c a) d h (λ e. e) (λ e f l. absurd (true≢false (sym f ∙ e))) has
 
   by : (is_small_object (object_placed c a) ≡ true) ⊎ (is_small_object (object_placed c a) ≡ false) → Behind
-  by (inl small) = rw (run_small (object_placed c a) (header_in w.now.words cell.page) cell.page part small)
+  by (inl small) = rw (run_small _ _ cell.page part small)
       (remoded c o false w.now.words.marks (ground_of w) None frees st (modes None (λ i u h large.
       let there = cell_of i u h in
-      let one =
-      one_claim (claims_on c o (ground_of w)) (claim_of c w.now.seats.holding.freed (placed_at w.allocations i))
-      (claim_of c w.now.seats.holding.freed a) st.scene.apart (among i u) (among own.number own.unreleased)
+      let one = one_claim _ _ _ st.scene.apart (among i u) (among own.number own.unreleased)
       (ap (λ (x : Cell). x.page) (there ∙ sym own.is), ap (λ (x : Cell). x.index) (there ∙ sym own.is)) in
       absurd (true≢false (sym small ∙ ap (λ (z : Claim). is_small_object z.object) (sym one) ∙ large)))) tt)
   by (inr large) =
       let run : RunPages = record { page = cell.page; count = pages_made (object_placed c a) } in
-      let is_run = run_large (object_placed c a) (header_in w.now.words cell.page) cell.page part large in
+      let is_run = run_large _ _ cell.page part large in
       rw is_run (remoded c o false w.now.words.marks (ground_of w) (Some run) frees st
-      (modes (Some run) (λ i u h l. eq-eqb cell.page ((placed_at w.allocations i).base / 64)
+      (modes (Some run) (λ i u h l. eq-eqb cell.page _
       (sym (ap (λ (x : Cell). x.page) (cell_of i u h))))) (claimed_run run refl refl large))
     where
       claimed_run : (run : RunPages) → run.page ≡ cell.page → run.count ≡ pages_made (object_placed c a)
@@ -162,8 +160,7 @@ module _ (c : Config) (o : Object) (w : World) (cell : Cell) (limits : IsWithinL
           let in_cell : stands_in w.now.words cell a ≡ true =
           rw (← own.is) (stands_in_its_cell c w.now.words a limits s.stands s.headers) in
           let freed : PlacedAllocation = record a { freed = true; fresh = true } in
-          let same : freed_where_it_stands w.now.words (Some cell) a ≡ freed =
-          cond-true (stands_in w.now.words cell a) freed a in_cell in
+          let same : freed_where_it_stands w.now.words (Some cell) a ≡ freed = cond-true _ freed a in_cell in
           record {
             claim = claim_of c (Some run) freed;
             among = rw same at (changed_among c (Some run) frees w.allocations own.number

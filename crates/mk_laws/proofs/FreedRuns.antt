@@ -234,9 +234,9 @@ module _ (c : Config) (w : World) (n : NeverState) (known : KnownWorld c w) (oth
       → PointsAtRun w n k (p_of o) run
       × (register_at (after_calls n (asked (entry_of k o (Some answer.Done)))) k (p_of o) ≡ register_at n k (p_of o))
   new_by k stage.Turn (op.Free p') q p r l cell run undecided points heads car = (
-    run_target k p' (register_at n k p') p cell run refl (mirrors.typed.registers (8 * k + p'))
+    run_target k p' _ p cell run refl (mirrors.typed.registers (8 * k + p'))
         (mirrors.safe.1.registers (8 * k + p')) (car.p refl) (car.some_p refl) points heads,
-    free_keeps n (register_at n k p') k p',
+    free_keeps n _ k p',
   )
   new_by k _ _ q p r l cell run undecided points heads car = absurd (false≢true undecided)
 

@@ -2,15 +2,15 @@
 use Rattle.std.specs.Prelude.{min}
 use Rattle.mk_laws.proofs.Vocabulary.{Bool, Cell, Config, Header, KeepsSnapshot, List, None, Object, Option}
 use Rattle.mk_laws.proofs.Vocabulary.{PlacedAllocation, Seat, ShowsPart, Some, StandsInOrder, Step, World, and_parts}
-use Rattle.mk_laws.proofs.Vocabulary.{ap, arith, cases_lt, cell_freed, cell_of_allocation, changed_at, claims_of}
-use Rattle.mk_laws.proofs.Vocabulary.{claims_placed, cond-true, false, false_from_ne_true, first_page_shows, first_word}
-use Rattle.mk_laws.proofs.Vocabulary.{flight_of, freed_cell, freed_where_it_stands, fresh_words_of, get_or_past}
-use Rattle.mk_laws.proofs.Vocabulary.{granted, ground_of, has_bit, header_in, heads_run, if◌then◌else◌, in_a_word, inl}
-use Rattle.mk_laws.proofs.Vocabulary.{inr, is_large, is_phase, is_small_object, kinds_of, large_is_not_small, length}
-use Rattle.mk_laws.proofs.Vocabulary.{map, never_granted, none_freed, not, not-true, object_now, object_placed}
-use Rattle.mk_laws.proofs.Vocabulary.{part_words, placed_at, refl, released_leaves, slice_index, small_heads_none}
-use Rattle.mk_laws.proofs.Vocabulary.{stands_in, storage_words, subst, sym, true, true≢false, with_released, words_made}
-use Rattle.mk_laws.proofs.Vocabulary.{words_under, ℕ, ◌&&◌, ◌+◌, ◌-◌, ◌<◌, ◌==◌, ◌^◌, ◌||◌, ◌∙◌, ◌≡◌, ◌≢◌}
+use Rattle.mk_laws.proofs.Vocabulary.{ap, arith, cases_lt, cell_freed, cell_of_allocation, changed_at, cond-true, false}
+use Rattle.mk_laws.proofs.Vocabulary.{false_from_ne_true, first_page_shows, flight_of, freed_cell}
+use Rattle.mk_laws.proofs.Vocabulary.{freed_where_it_stands, fresh_words_of, get_or_past, ground_of, has_bit, header_in}
+use Rattle.mk_laws.proofs.Vocabulary.{heads_run, if◌then◌else◌, in_a_word, inl, inr, is_large, is_phase}
+use Rattle.mk_laws.proofs.Vocabulary.{is_small_object, kinds_of, large_is_not_small, length, map, never_granted}
+use Rattle.mk_laws.proofs.Vocabulary.{none_freed, not, not-true, object_now, object_placed, part_words, placed_at, refl}
+use Rattle.mk_laws.proofs.Vocabulary.{released_leaves, slice_index, small_heads_none, stands_in, subst, sym, true}
+use Rattle.mk_laws.proofs.Vocabulary.{true≢false, with_released, words_made, words_under, ℕ, ◌&&◌, ◌+◌, ◌-◌, ◌<◌, ◌^◌}
+use Rattle.mk_laws.proofs.Vocabulary.{◌||◌, ◌∙◌, ◌≡◌, ◌≢◌}
 use Rattle.mk_laws.proofs.Basics.{Before, Laid, Meets, WorldBehind, all_stand, apart_left}
 use Rattle.mk_core.specs.declared.events.Step.TheVariants as step
 use Rattle.mk_core.specs.Effects.{words_freed}
@@ -62,10 +62,9 @@ module _ (c : Config) (w : World) (cell : Cell) (n : ℕ) (b : Before c w) (off 
   others_count i ne false is = refl
   others_count i ne true is =
       let a : PlacedAllocation = placed_at w.allocations i in
-      let u = not-true a.released (and_parts (not a.released) (a.base == first_word w.now.words cell) is).0 in
+      let u = not-true a.released (and_parts _ _ is).0 in
       let same : cell_of_allocation c a ≡ cell_of_allocation c own = x.others i u is ∙ sym x.own.is in
-      let apart = apart_left (claims_of c w.now.seats.holding.freed w.allocations)
-      (claims_placed (object_now c w.now) w.now.seats.holding.placing) order.laid.scene.apart in
+      let apart = apart_left _ _ order.laid.scene.apart in
       absurd (ne (numbers_apart c w.now.seats.holding.freed w.allocations i x.own.number apart u x.own.unreleased
       (ap (λ (y : Cell). y.page) same, ap (λ (y : Cell). y.index) same)))
 
@@ -73,7 +72,7 @@ module _ (c : Config) (w : World) (cell : Cell) (n : ℕ) (b : Before c w) (off 
   part =
       let laid : Laid c (object_now c w.now) false w (ground_of w) =
       subst (λ four. Laid c (object_now c w.now) four w (ground_of w)) off order.laid in
-      let stands = all_stand c (object_now c w.now) false w b.lengths.pages laid x.own.number x.own.unreleased in
+      let stands = all_stand c _ false w b.lengths.pages laid x.own.number x.own.unreleased in
       subst (λ p. ShowsPart (object_placed c own) 0 (header_in w.now.words p)) (ap (λ (y : Cell). y.page) x.own.is)
       (first_page_shows c w.now.words own (shown_at c w x.own.number order.laid x.own.unreleased).sized stands.headers)
 
@@ -89,9 +88,8 @@ module _ (c : Config) (w : World) (cell : Cell) (n : ℕ) (b : Before c w) (off 
   own_counts =
       let o : Object = object_placed c own in
       let small : Bool = is_small_object o in
-      let becomes : freed own ≡ freed_fresh own =
-      cond-true (stands_in w.now.words cell own) (freed_fresh own) own x.stands in
-      let large = large_is_not_small (kinds_of c.types own.ty) in
+      let becomes : freed own ≡ freed_fresh own = cond-true _ _ own x.stands in
+      let large = large_is_not_small _ in
       let counted = counted_freed own.released _ small (words_made o) x.own.unreleased large in
       let now : fresh_part c (freed own) ≡ (if small then words_made o else 0) =
       ap (λ (y : PlacedAllocation). fresh_part c y) becomes ∙ counted in
@@ -110,9 +108,7 @@ module _ (c : Config) (w : World) (cell : Cell) (n : ℕ) (b : Before c w) (off 
 
   fresh_freed : fresh_words_of c (map (freed_where_it_stands w.now.words (Some cell)) w.allocations)
       ≡ fresh_words_of c w.allocations + words_freed w.now.words (Some cell)
-  fresh_freed = fresh_more c (freed_where_it_stands w.now.words (Some cell)) w.allocations x.own.number
-      (words_freed w.now.words (Some cell)) within
-      (λ i ne. others_count i ne (stands_in w.now.words cell (placed_at w.allocations i)) refl) own_counts
+  fresh_freed = fresh_more c _ w.allocations x.own.number _ within (λ i ne. others_count i ne _ refl) own_counts
 
 -- A sum stands still at the greatest number of a word.
 
@@ -129,33 +125,31 @@ quar_told c w seat p n b h order told = by (cell_freed c.pages w.now.words (flig
     by : (cell : Option Cell) → cell_freed c.pages w.now.words (flight_of w.now seat) p n ≡ cell
         → min (w.now.fresh_words + words_freed w.now.words cell) (2 ^ 64 - 1)
         ≡ in_a_word (fresh_words_of c (map (freed_where_it_stands w.now.words cell) w.allocations))
-    by None is = none_added w.now.fresh_words (fresh_words_of c w.allocations) told
+    by None is = none_added w.now.fresh_words _ told
         ∙ ap (λ (ys : List PlacedAllocation). in_a_word (fresh_words_of c ys))
         (sym (none_freed w.now.words w.allocations))
     by (Some cell) is =
-        let x = freed_cell c.pages w.now.words (flight_of w.now seat) p n cell is in
+        let x = freed_cell c.pages w.now.words _ p n cell is in
         let sum = fresh_freed c w cell n b x.phase order (frees_here c w seat p n cell b h order.laid x) in
-        some_added w.now.fresh_words (fresh_words_of c w.allocations) (words_freed w.now.words (Some cell)) _ told sum
+        some_added w.now.fresh_words _ _ _ told sum
 
 -- `release`: what is fresh stays
 release_told : (c : Config) (w : World) (seat : Seat) → KeepsSnapshot c w
     → KeepsSnapshot c (WorldBehind c w seat step.Release) → FreshTold c w
     → FreshTold c (WorldBehind c w seat step.Release)
-release_told c w seat s now told =
-    told ∙ ap (λ n. in_a_word n) (sym (fresh_kept c (with_released c w.now.words) w.allocations same))
+release_told c w seat s now told = told ∙ ap (λ n. in_a_word n) (sym (fresh_kept c _ w.allocations same))
   where
     counted : (released left mapped fresh : Bool) (m : ℕ) → (fresh ≡ true → (released || left) ≡ released)
         → (if (not (released || left) && mapped) && fresh then m else 0)
         ≡ (if (not released && mapped) && fresh then m else 0)
     counted released left mapped true m stays = ap (λ b. if (not b && mapped) && true then m else 0) (stays refl)
-    counted released left mapped false m stays =
-        no_part (not (released || left) && mapped) m ∙ sym (no_part (not released && mapped) m)
+    counted released left mapped false m stays = no_part _ m ∙ sym (no_part _ m)
 
     same : (i : ℕ) → CountsAsBefore c (with_released c w.now.words) (placed_at w.allocations i)
     same i =
         let a : PlacedAllocation = placed_at w.allocations i in
-        let at = changed_at (with_released c w.now.words) w.allocations i (released_leaves c w.now.words).none in
-        counted a.released _ (not (a.freed && is_large (kinds_of c.types a.ty))) a.fresh (storage_words c a) (λ f.
+        let at = changed_at _ w.allocations i (released_leaves c w.now.words).none in
+        counted a.released _ (not (a.freed && is_large (kinds_of c.types a.ty))) a.fresh _ (λ f.
         let behind = now.fresh i (ap (λ (y : PlacedAllocation). y.fresh) at ∙ f) in
         ap (λ (y : PlacedAllocation). y.released) (sym at) ∙ behind.1 ∙ sym (s.fresh i f).1)
 
@@ -165,7 +159,7 @@ pub fresh_told_behind : (c : Config) (w : World) (seat : Seat) (x : Step) → Be
 fresh_told_behind c w seat (step.Quar p n) b h order told = quar_told c w seat p n b h order told
 fresh_told_behind c w seat step.Begin b h order told = ap (λ n. in_a_word n) (sym (none_fresh c w.allocations))
 fresh_told_behind c w seat step.Grant b h order told =
-    told ∙ ap (λ n. in_a_word n) (sym (fresh_pushed c w.allocations (granted c w.now (flight_of w.now seat)) refl))
+    told ∙ ap (λ n. in_a_word n) (sym (fresh_pushed c w.allocations _ refl))
 fresh_told_behind c w seat step.Release b h order told =
     let behind = snapshot_behind c w seat step.Release b h order.laid order.quarantined order.snapshot in
     release_told c w seat order.snapshot behind told

@@ -16,8 +16,7 @@ pub no_part : (mapped : Bool) (n : ℕ) → (if mapped && false then n else 0) �
 no_part mapped n = ap (λ b. if b then n else 0) (and-false mapped)
 
 pub stale_part : (c : Config) (a : PlacedAllocation) → a.fresh ≡ false → fresh_part c a ≡ 0
-stale_part c a stale =
-    ap (λ b. if is_mapped c a && b then storage_words c a else 0) stale ∙ no_part (is_mapped c a) (storage_words c a)
+stale_part c a stale = ap (λ b. if is_mapped c a && b then storage_words c a else 0) stale ∙ no_part (is_mapped c a) _
 
 fresh_cons : (c : Config) (a : PlacedAllocation) (xs : List PlacedAllocation)
     → fresh_words_of c (a ∷ xs) ≡ fresh_part c a + fresh_words_of c xs
@@ -28,7 +27,7 @@ fresh_cons c a xs = by (is_mapped c a && a.fresh)
 
     by : (b : Bool) → sum_by (storage_words c) (if b then a ∷ rest else rest)
         ≡ (if b then storage_words c a else 0) + sum_by (storage_words c) rest
-    by true = sum_by-cons (storage_words c) a rest
+    by true = sum_by-cons _ a rest
     by false = omega arith
 
 -- one more, which isn't fresh

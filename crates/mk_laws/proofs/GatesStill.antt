@@ -23,8 +23,7 @@ module _ (c : Config) (w v : World) (kept : TurnIsLeft w v) where
   pub others_on : (s : Seat) → others_are_held c.callers w.now.words s ≡ true
       → others_are_held c.callers v.now.words s ≡ true
   others_on s h = all_below_on c.callers (λ j. is_number_of s j || is_held w.now.words j)
-      (λ j. is_number_of s j || is_held v.now.words j) (λ j lt. or_on (is_number_of s j) _ (is_number_of s j)
-      _ (λ e. e) (held_on j)) h
+      (λ j. is_number_of s j || is_held v.now.words j) (λ j lt. or_on _ _ (is_number_of s j) _ (λ e. e) (held_on j)) h
 
   none_on : none_is_held c.callers w.now.words ≡ true → none_is_held c.callers v.now.words ≡ true
   none_on h = all_below_on c.callers (λ j. not (is_held w.now.words j))
@@ -41,7 +40,7 @@ module _ (c : Config) (w v : World) (kept : TurnIsLeft w v) where
   pub gates_on : (s : Seat) (f : Flight) (x : Step) → has_gates c w.now.words s f x ≡ true
       → has_gates c v.now.words s f x ≡ true
   gates_on s f step.Give h = none_on h
-  gates_on s f (step.Look (word.Reg j r)) h = or_on (is_number_of s j) _ (is_number_of s j) _ (λ e. e) (held_on j) h
+  gates_on s f (step.Look (word.Reg j r)) h = or_on _ _ (is_number_of s j) _ (λ e. e) (held_on j) h
   gates_on s f (step.Head p n) h = or_on _ _ _ _ (λ e. e) (others_on s) h
   gates_on s f (step.Quar p n) h = or_on _ _ _ _ (λ e. ap not (run_cell_same f) ∙ e) (others_on s) h
   gates_on s f (step.Hold j) h = free_on j h

@@ -70,13 +70,12 @@ granted_terrain c releasing marks t place a used is st =
     was = rw used at st.scene
 
     shown : IsShown t.pages (place_claim (object_placed c a) place)
-    shown = was.shown (place_claim (object_placed c a) place)
-        (among_back (claims_of c t.run t.allocations) (place_claim (object_placed c a) place ∷ [])
-        (place_claim (object_placed c a) place) (inl refl))
+    shown = was.shown (place_claim (object_placed c a) place) (among_back (claims_of c t.run t.allocations) _
+        _ (inl refl))
 
     begins : BeginsAtCell (object_placed c a) a.base
     begins =
-        let made = made_begins (object_placed c a) place shown.sized shown.known in
+        let made = made_begins _ place shown.sized shown.known in
         rw is.base made.0
 
     at : (a.base / 64 ≡ place.page) × ((cell_of_allocation c a).index ≡ place.index)
@@ -87,8 +86,7 @@ granted_terrain c releasing marks t place a used is st =
 
     claims : claims_of c t.run t.allocations ++ place_claim (object_placed c a) place ∷ []
         ≡ claims_of c t.run (t.allocations ++ a ∷ []) ++ []
-    claims = rw (← claim) (sym (pushed_claims c t.run t.allocations a is.unreleased)
-        ∙ sym (append-nil (claims_of c t.run (t.allocations ++ a ∷ []))))
+    claims = rw (← claim) (sym (pushed_claims c t.run t.allocations a is.unreleased) ∙ sym (append-nil _))
 
     gone : (r : Option RunPages) → RunStands (claims_of c t.run t.allocations) r
         → RunStands (claims_of c t.run (t.allocations ++ a ∷ [])) r
@@ -96,8 +94,7 @@ granted_terrain c releasing marks t place a used is st =
     gone (Some r) x =
         record {
           claim = x.claim;
-          among = rw (pushed_claims c t.run t.allocations a is.unreleased)
-              (among_front (claims_of c t.run t.allocations) (claim_of c t.run a ∷ []) x.claim x.among);
+          among = rw (pushed_claims c t.run t.allocations a is.unreleased) (among_front _ _ x.claim x.among);
           page = x.page;
           count = x.count;
           large = x.large;

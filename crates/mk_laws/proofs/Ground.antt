@@ -1,14 +1,13 @@
 -- What an event may do to what stands on the pages and to the quarantine, by the conditions under which it does so.
 use Rattle.mk_laws.proofs.Vocabulary.{Access, Bool, Caller, Cell, Config, Flight, Granted, Ground, List, Load, Moment}
 use Rattle.mk_laws.proofs.Vocabulary.{Named, None, Op, Option, Page, Seat, Some, Step, Store, Tally, Unplaced, Words}
-use Rattle.mk_laws.proofs.Vocabulary.{World, [], accessed, and_parts, caller_number, carves, cell_freed, chosen}
-use Rattle.mk_laws.proofs.Vocabulary.{empties, eqb-false, eqb-true, false, flight_of, freed_where_it_stands, frees}
-use Rattle.mk_laws.proofs.Vocabulary.{gives_back, granted, ground_of, header_at, if◌then◌else◌, inl, inr, is_phase}
-use Rattle.mk_laws.proofs.Vocabulary.{is_undecided_new, is_used_once, map, marks_place, no_longer_fresh, not, not-true}
-use Rattle.mk_laws.proofs.Vocabulary.{nothing_done, object_made, or_cases, or_else, phase_of, place_now, refl}
-use Rattle.mk_laws.proofs.Vocabulary.{reg_access, register_met, run_of_cell, slice_set, taken, takes_cell, tally_word}
-use Rattle.mk_laws.proofs.Vocabulary.{target, true, unmaps, used_at, with_released, ℕ, ◌%◌, ◌&&◌, ◌++◌, ◌/◌, ◌==◌, ◌^◌}
-use Rattle.mk_laws.proofs.Vocabulary.{◌||◌, ◌∷◌, ◌≡◌, ◌≢◌, ◌≤◌, ◌⊎◌}
+use Rattle.mk_laws.proofs.Vocabulary.{World, [], accessed, and_parts, carves, cell_freed, chosen, empties, eqb-false}
+use Rattle.mk_laws.proofs.Vocabulary.{eqb-true, false, flight_of, freed_where_it_stands, frees, gives_back, granted}
+use Rattle.mk_laws.proofs.Vocabulary.{ground_of, header_at, if◌then◌else◌, inl, inr, is_phase, is_undecided_new}
+use Rattle.mk_laws.proofs.Vocabulary.{is_used_once, map, marks_place, no_longer_fresh, not, not-true, nothing_done}
+use Rattle.mk_laws.proofs.Vocabulary.{object_made, or_cases, or_else, phase_of, place_now, refl, run_of_cell, slice_set}
+use Rattle.mk_laws.proofs.Vocabulary.{taken, takes_cell, tally_word, target, true, unmaps, used_at, with_released, ℕ}
+use Rattle.mk_laws.proofs.Vocabulary.{◌%◌, ◌&&◌, ◌++◌, ◌/◌, ◌==◌, ◌^◌, ◌||◌, ◌∷◌, ◌≡◌, ◌≢◌, ◌≤◌, ◌⊎◌}
 use Rattle.mk_core.specs.declared.events.Tally.TheVariants as tally
 use Rattle.mk_core.specs.declared.events.Word.TheVariants as word
 use Rattle.mk_core.specs.declared.events.Step.TheVariants as step
@@ -143,10 +142,10 @@ head_step c w f p n h = by (is_phase w.now.words 4) refl h
 
     by : (b : Bool) → is_phase w.now.words 4 ≡ b → (if b then empties w.now.words p n else carved || unmapped) ≡ true
         → GroundStep c w f (headed c w f p n b)
-    by true e k = Empties p n k (eqb-true (phase_of w.now.words) 4 e)
+    by true e k = Empties p n k (eqb-true _ 4 e)
     by false e k = elim (or_cases carved unmapped k) [
-      | inl a ↦ Carves p n a (eqb-false (phase_of w.now.words) 4 e)
-      | inr a ↦ Unmaps p n a (eqb-false (phase_of w.now.words) 4 e)
+      | inl a ↦ Carves p n a (eqb-false _ 4 e)
+      | inr a ↦ Unmaps p n a (eqb-false _ 4 e)
     ]
 
 used_step : (c : Config) (w : World) (f : Flight) (p n : ℕ) → may_use c w.now f p n ≡ true
@@ -159,11 +158,10 @@ used_step c w f p n h = by (is_phase w.now.words 4) refl h
     by : (b : Bool) → is_phase w.now.words 4 ≡ b
         → (if b then gives_back w.now.words p n else not (is_used_once w.now.seats.holding.placing) && takes) ≡ true
         → GroundStep c w f (used_up c w f p n b)
-    by true e k = GivesBack p n k (eqb-true (phase_of w.now.words) 4 e)
+    by true e k = GivesBack p n k (eqb-true _ 4 e)
     by false e k =
-        let both = and_parts (not (is_used_once w.now.seats.holding.placing)) takes k in
-        TakesCell p n (not-true (is_used_once w.now.seats.holding.placing) both.0) both.1
-        (eqb-false (phase_of w.now.words) 4 e)
+        let both = and_parts _ takes k in
+        TakesCell p n (not-true _ both.0) both.1 (eqb-false _ 4 e)
 
 quar_step : (c : Config) (w : World) (f : Flight) (p n : ℕ) → may_quarantine c w.now f p n ≡ true
     → GroundStep c w f (with_quarantine w p n (cell_freed c.pages w.now.words f p n))
@@ -178,9 +176,9 @@ quar_step c w f p n h = by (is_phase w.now.words 4) refl h
     by : (b : Bool) → is_phase w.now.words 4 ≡ b
         → (if b then drops w.now.words p (n % 2 ^ 32) (n / 2 ^ 32) else frees_it || snaps) ≡ true
         → GroundStep c w f (with_quarantine w p n (cell_freed c.pages w.now.words f p n))
-    by true e k = Drops p n (cell_freed c.pages w.now.words f p n) refl k (eqb-true (phase_of w.now.words) 4 e)
+    by true e k = Drops p n (cell_freed c.pages w.now.words f p n) refl k (eqb-true _ 4 e)
     by false e k = elim (or_cases frees_it snaps k) [
-      | inl a ↦ Frees p n (cell_freed c.pages w.now.words f p n) refl a (eqb-false (phase_of w.now.words) 4 e)
+      | inl a ↦ Frees p n (cell_freed c.pages w.now.words f p n) refl a (eqb-false _ 4 e)
       | inr a ↦ Snapshots p n (cell_freed c.pages w.now.words f p n) refl a
     ]
 
@@ -203,25 +201,22 @@ take_step c w f idle = by (w.now.words.turn == 0) refl
 
 taker_idle : (c : Config) (m : Moment) (seat : Seat) (o : Option Op) → Meets c m seat (step.Take o)
     → (flight_of m seat).stage ≡ stage.Idle
-taker_idle c m (Caller k) (Some o) h = (at_take (flight_of m (Caller k)).stage (flight_of m (Caller k)).op o h.order).0
-taker_idle c m (Caller k) None h =
-    absurd (at_no_take (flight_of m (Caller k)).stage (flight_of m (Caller k)).op h.order)
+taker_idle c m (Caller k) (Some o) h = (at_take _ _ o h.order).0
+taker_idle c m (Caller k) None h = absurd (at_no_take _ _ h.order)
 taker_idle c m _ o h = refl
 
 -- all kinds, whatever the seat
 pub ground_step : (c : Config) (w : World) (seat : Seat) (x : Step) → Meets c w.now seat x
     → GroundStep c w (flight_of w.now seat) (ground_of (WorldBehind c w seat x))
 ground_step c w seat (step.Take o) h = take_step c w (flight_of w.now seat) (taker_idle c w.now seat o h)
-ground_step c w seat step.Give h = Gives h.holder (give_phase (phase_of w.now.words) h.phase)
-ground_step c w seat step.Reg h = rests c w (flight_of w.now seat) _
-    (reg_ground w.now.words (caller_number seat) (register_met (flight_of w.now seat) (flight_of w.now seat).stage)
-    (reg_access (flight_of w.now seat) (flight_of w.now seat).stage))
+ground_step c w seat step.Give h = Gives h.holder (give_phase _ h.phase)
+ground_step c w seat step.Reg h = rests c w (flight_of w.now seat) _ (reg_ground w.now.words _ _ _)
 ground_step c w seat (step.Tally n v) h = rests c w (flight_of w.now seat) _ (tally_ground w.now.words n v)
 ground_step c w seat (step.Head p n) h = head_step c w (flight_of w.now seat) p n h.holder
 ground_step c w seat (step.Used p n) h = used_step c w (flight_of w.now seat) p n h.holder
 ground_step c w seat (step.Quar p n) h = quar_step c w (flight_of w.now seat) p n h.holder
 ground_step c w seat step.Grant h = Grants (grants_new c w.now seat h) h.holder
 ground_step c w seat (step.Mark p n) h = mark_step c w (flight_of w.now seat) p n
-ground_step c w seat step.Begin h = Freshens (eqb-true (phase_of w.now.words) 0 h.phase)
-ground_step c w seat step.Release h = Releases (eqb-true (phase_of w.now.words) 3 h.phase)
+ground_step c w seat step.Begin h = Freshens (eqb-true _ 0 h.phase)
+ground_step c w seat step.Release h = Releases (eqb-true _ 3 h.phase)
 ground_step c w seat _ h = Rests

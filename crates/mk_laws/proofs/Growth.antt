@@ -24,5 +24,5 @@ grows_more xs q bits p k is = elim (cases_eq p q) [
         ∙ get_or-set_same xs q (bit_or (slice_index xs q) bits) 0 lt) (more (slice_index xs q) bits k (sym (rw e) ∙ is))
     | inr past ↦ rw (set_past xs q (bit_or (slice_index xs q) bits) past) is
   ]
-  | inr ne ↦ rw (get_or-set_other xs q p (bit_or (slice_index xs q) bits) 0 ne) is
+  | inr ne ↦ rw (get_or-set_other xs q p (bit_or _ bits) 0 ne) is
 ]

@@ -5,10 +5,9 @@ use Rattle.mk_laws.proofs.Vocabulary.{Words, World, [], access, accessed_lengths
 use Rattle.mk_laws.proofs.Vocabulary.{cells_begin, enabled_meets, eqb-true, false, first_moment, first_page_shows}
 use Rattle.mk_laws.proofs.Vocabulary.{first_word, first_world, has_no_pointers, header_at, header_in, header_made}
 use Rattle.mk_laws.proofs.Vocabulary.{histories_keep_lengths, inl, inr, is_mapped, left, left_from, made_is_mapped}
-use Rattle.mk_laws.proofs.Vocabulary.{not-true, object_placed, pages_some, part_has_no_pointers, phase_of, placed_at}
-use Rattle.mk_laws.proofs.Vocabulary.{storage_of, storage_words, subst, sym, true, typed_size, word_accessed}
-use Rattle.mk_laws.proofs.Vocabulary.{word_points_well, world_behind, zero_lengths, ℕ, ◌+◌, ◌-◌, ◌/◌, ◌∙◌, ◌∷◌, ◌≡◌}
-use Rattle.mk_laws.proofs.Vocabulary.{◌⊎◌}
+use Rattle.mk_laws.proofs.Vocabulary.{not-true, object_placed, pages_some, part_has_no_pointers, placed_at, storage_of}
+use Rattle.mk_laws.proofs.Vocabulary.{storage_words, subst, sym, true, typed_size, word_accessed, word_points_well}
+use Rattle.mk_laws.proofs.Vocabulary.{world_behind, zero_lengths, ℕ, ◌+◌, ◌-◌, ◌/◌, ◌∙◌, ◌∷◌, ◌≡◌, ◌⊎◌}
 use Rattle.mk_laws.proofs.Basics.{Known, known_at_first, known_behind, known_left}
 use Rattle.mk_geom.specs.StorageWords.{cell_of_storage}
 use Rattle.mk_core.specs.ClosedMarks.{is_marked_allocation}
@@ -103,8 +102,8 @@ stopped_marks_are_closed c w limits say g three = closed_allocations c w limits 
 
 pub marking_guards : MarkingGuards
 marking_guards c m g early = (g.guarded (elim early [
-  | inl e ↦ inl (eqb-true (phase_of m.words) 1 e)
-  | inr e ↦ inr (eqb-true (phase_of m.words) 2 e)
+  | inl e ↦ inl (eqb-true _ 1 e)
+  | inr e ↦ inr (eqb-true _ 2 e)
 ])).black
 
 pub others_at_first : GuardPremisesAtFirst

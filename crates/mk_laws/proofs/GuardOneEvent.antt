@@ -85,7 +85,7 @@ black_kind c m seat p value keeps new h black =
     let own = and_parts _ (not (all_below 32 (λ k. not (blackens c.pages m.words p value k)))) h.holder in
     let t = turned m.words c.pages p value 32
     (not-true (all_below 32 (λ k. not (blackens c.pages m.words p value k))) own.1) in
-    let a = and_parts (value == 2 ^ t.bit) (may_turn_black c.pages m.words (record { page = p; index = t.bit })) t.is in
+    let a = and_parts _ (may_turn_black c.pages m.words (record { page = p; index = t.bit })) t.is in
     blackened c m _ p value keeps new refl (λ k is i lt sc li.
     let e = bit_of_power t.bit k (rw (eqb-true value (2 ^ t.bit) a.0) at is) in
     let words = turned_words c.pages m.words p t.bit a.1 sc in
@@ -112,7 +112,7 @@ mblack_kind c m k known keeps new h g = blackened c m _ _ _ keeps new refl (by (
     by (Some y) e done j is i lt sc li =
         let st = (g.markers k (work_attends c (marker_of m k) step.Mblack (known.orderly.idle k) h.marker refl)).scan y
         e in
-        let none = nothing_is (marker_of m k).hand own.1 in
+        let none = nothing_is _ own.1 in
         rw (bit_of_cell y.index j is) (scanned_guarded c m y (rw none at st) done sc i li)
 
 -- `undirty`: in the stop, nothing that is black has a word other than 0 there
@@ -196,7 +196,7 @@ black_behind : (c : Config) (w : World) (seat : Seat) (x : Step) → IsWithinLim
     → AreOfPages c.pages w.now.words → IsMarking w.now.words → GuardPremises c w → Meets c w.now seat x → Guard c w.now
     → BlackIsGuarded c (Behind c w.now seat x)
 black_behind c w seat (step.Head p n) limits known len early say h g =
-    black_kept c w.now (Behind c w.now seat (step.Head p n)) (keeps_head c w seat p n limits known len early say h)
+    black_kept c w.now _ (keeps_head c w seat p n limits known len early say h)
     (head_keeps c w.now seat p n len h (head_finds c w seat p n limits known early say h)).new
     (λ q k is. inl (blacks_kind c w.now seat (step.Head p n) refl q k is)) g.black
 black_behind c w seat (step.Undirty q) limits known len early say h g = undirty_kind c w seat q len early say h g.black
@@ -269,7 +269,7 @@ begun c m seat known len h =
     ]
 
     quiet : (j : ℕ) → Meets c m seat step.Begin → is_attending (marker_of m j).presence ≡ true → ⊥
-    quiet j h at = let z = eqb-true (phase_of m.words) 0 h.phase in elim (known.orderly.attends j at) [
+    quiet j h at = let z = eqb-true _ 0 h.phase in elim (known.orderly.attends j at) [
       | inl e ↦ absurd (omega arith)
       | inr e ↦ absurd (omega arith)
     ]

@@ -63,7 +63,7 @@ no_step : (c : Config) (m : Moment) (seat : Seat) (x : Step) → Known c m → p
     → has_stage_of_its_own x ≡ true → is_call_stage (stage_of x) ≡ true → ⊥
 no_step c m (Caller k) x known three h own at =
     no_call c m k known three (ltb-true k c.callers h.seat) (subst (λ (s : Stage). is_call_stage s ≡ true)
-    (sym (at_its_stage (flight_of m (Caller k)).stage (flight_of m (Caller k)).op x own h.order)) at)
+    (sym (at_its_stage _ _ x own h.order)) at)
 no_step c m (Marker k) x known three h own at =
     true≢false (sym (ap (λ (g : Group). is_open_to (Marker k) g) (sym (of_callers x own)) ∙ h.kind))
 no_step c m Host x known three h own at =
@@ -128,8 +128,7 @@ marks_still : (c : Config) (m : Moment) (seat : Seat) (x : Step) → Known c m �
     → (Behind c m seat x).words.marks ≡ m.words.marks
 marks_still c m seat step.Reg known three h = ap (λ (t : Table). t.marks) (reg_table c m seat)
 marks_still c m seat (step.Tally n v) known three h = ap (λ (t : Table). t.marks) (tally_table m.words n v)
-marks_still c m seat (step.Clear p) known three h = let z =
-    eqb-true (phase_of m.words) 0 h.phase in absurd (omega arith)
+marks_still c m seat (step.Clear p) known three h = let z = eqb-true _ 0 h.phase in absurd (omega arith)
 marks_still c m seat (step.Mark p v) known three h =
     elim (either_phase (phase_of m.words) 1 2 h.phase) [ inl e ↦ absurd (omega arith) | inr e ↦ absurd (omega arith) ]
 marks_still c m seat step.Mmark known three h = absurd (no_mark c m seat known three h)
@@ -144,7 +143,7 @@ no_head n three h = elim (or_cases _ (n == 4) h) [
 
 headers_still : (c : Config) (m : Moment) (seat : Seat) (x : Step) → phase_of m.words ≡ 3 → Meets c m seat x → (p : ℕ)
     → header_at (Behind c m seat x).words p ≡ header_at m.words p
-headers_still c m seat (step.Head q n) three h p = absurd (no_head (phase_of m.words) three h.phase)
+headers_still c m seat (step.Head q n) three h p = absurd (no_head _ three h.phase)
 headers_still c m seat x three h p = rest x h refl
   where
     rest : (x : Step) → Meets c m seat x → is_head x ≡ false

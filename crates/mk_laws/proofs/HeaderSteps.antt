@@ -1,10 +1,9 @@
 -- What an event may do to headers while a call of another seat is in flight outside the turn: it unmaps no page.
 use Rattle.mk_laws.proofs.Vocabulary.{Access, Caller, Config, List, Load, Moment, Named, Page, Seat, Step, Store, Tally}
-use Rattle.mk_laws.proofs.Vocabulary.{Words, accessed, all_below-at, ap, arith, caller_number, cases_eq, cases_lt}
-use Rattle.mk_laws.proofs.Vocabulary.{eqb-true, false, flight_of, free_page, get_or-set_other, get_or-set_same}
-use Rattle.mk_laws.proofs.Vocabulary.{header_at, header_in, header_of, inl, inr, is_held, is_number_of}
-use Rattle.mk_laws.proofs.Vocabulary.{is_unmapped_header, length, not, not-true, or_cases, others_are_held, refl}
-use Rattle.mk_laws.proofs.Vocabulary.{reg_access, register_met, set_past, slice_index, slice_index_or, slice_set}
+use Rattle.mk_laws.proofs.Vocabulary.{Words, accessed, all_below-at, ap, arith, cases_eq, cases_lt, eqb-true, false}
+use Rattle.mk_laws.proofs.Vocabulary.{free_page, get_or-set_other, get_or-set_same, header_at, header_in, header_of}
+use Rattle.mk_laws.proofs.Vocabulary.{inl, inr, is_held, is_number_of, is_unmapped_header, length, not, not-true}
+use Rattle.mk_laws.proofs.Vocabulary.{or_cases, others_are_held, refl, set_past, slice_index, slice_index_or, slice_set}
 use Rattle.mk_laws.proofs.Vocabulary.{tally_word, true, used_at, ℕ, ◌<◌, ◌||◌, ◌∙◌, ◌≡◌, ◌≢◌}
 use Rattle.mk_laws.proofs.Basics.{Behind, Meets}
 use Rattle.mk_core.specs.declared.events.Tally.TheVariants as tally
@@ -30,15 +29,14 @@ reg_pages w k r _ = refl
 not_unmapped : (c : Config) (w : Words) (seat : Seat) (k v : ℕ) → k < c.callers → seat ≢ Caller k
     → slice_index w.gates k ≡ 1 → (not (is_unmapped_header (header_of v)) || others_are_held c.callers w seat) ≡ true
     → is_unmapped_header (header_of v) ≡ false
-not_unmapped c w seat k v lt ne one h =
-    elim (or_cases (not (is_unmapped_header (header_of v))) (others_are_held c.callers w seat) h) [
-      | inl is ↦ not-true (is_unmapped_header (header_of v)) is
-      | inr all ↦ elim (or_cases (is_number_of seat k) (is_held w k)
-          (all_below-at c.callers k (λ j. is_number_of seat j || is_held w j) all lt)) [
-            | inl own ↦ absurd (ne (seat_is seat k own))
-            | inr two ↦ let g = eqb-true (slice_index w.gates k) 2 two in absurd (omega arith)
-          ]
-    ]
+not_unmapped c w seat k v lt ne one h = elim (or_cases _ _ h) [
+  | inl is ↦ not-true _ is
+  | inr all ↦ elim (or_cases _ (is_held w k)
+      (all_below-at c.callers k (λ j. is_number_of seat j || is_held w j) all lt)) [
+        | inl own ↦ absurd (ne (seat_is seat k own))
+        | inr two ↦ let g = eqb-true _ 2 two in absurd (omega arith)
+      ]
+]
   where
     seat_is : (seat : Seat) (k : ℕ) → is_number_of seat k ≡ true → seat ≡ Caller k
     seat_is (Caller j) k h = ap (λ i. Caller i) (eqb-true j k h)
@@ -49,9 +47,7 @@ pub header_step : (c : Config) (m : Moment) (seat : Seat) (x : Step) (k : ℕ) �
 header_step c m seat (step.Head p v) k h lt ne one = SetsHeader p v (not_unmapped c m.words seat k v lt ne one h.gates)
 header_step c m seat (step.Used p v) k h lt ne one = SetsUsed p v
 header_step c m seat (step.Tally n v) k h lt ne one = rw (tally_pages m.words n v) KeepsPages
-header_step c m seat step.Reg k h lt ne one =
-    rw (reg_pages m.words (caller_number seat) (register_met (flight_of m seat) (flight_of m seat).stage)
-    (reg_access (flight_of m seat) (flight_of m seat).stage)) KeepsPages
+header_step c m seat step.Reg k h lt ne one = rw (reg_pages m.words _ _ _) KeepsPages
 header_step c m seat _ k h lt ne one = KeepsPages
 
 -- a page's header after a change of one page

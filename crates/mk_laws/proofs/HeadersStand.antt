@@ -8,14 +8,13 @@ use Rattle.mk_laws.proofs.Vocabulary.{PlacedAllocation, ShowsPart, Storage, Word
 use Rattle.mk_laws.proofs.Vocabulary.{cases_Bool, cases_eq, cases_lt, cell_ends, cell_of_allocation, cells_of}
 use Rattle.mk_laws.proofs.Vocabulary.{cells_under, claim_of, claims_of, class_known, class_made, class_words_of, false}
 use Rattle.mk_laws.proofs.Vocabulary.{false_from_ne_true, free_page, get_or, has_bit, header_at, header_made, inl, inr}
-use Rattle.mk_laws.proofs.Vocabulary.{is_mapped, is_released_in, is_small_object, kinds_of, large_cells}
-use Rattle.mk_laws.proofs.Vocabulary.{large_is_not_small, large_words, later_cells, length, mode_of, not, object_placed}
-use Rattle.mk_laws.proofs.Vocabulary.{pages_made, pages_some, placed_at, refl, run_begins, run_header, shows_on}
-use Rattle.mk_laws.proofs.Vocabulary.{slice_index_or, small, small_cells, small_pages, small_words}
-use Rattle.mk_laws.proofs.Vocabulary.{standing_has_storage, stands, stands_on, storage_is_of, storage_of, storage_words}
-use Rattle.mk_laws.proofs.Vocabulary.{subst, suc, sym, taken, true, true≢false, unreleased_storage, used_at, word_of}
-use Rattle.mk_laws.proofs.Vocabulary.{words_within, zero, ℕ, ◌%◌, ◌&&◌, ◌*◌, ◌+◌, ◌-◌, ◌/◌, ◌<◌, ◌^◌, ◌∙◌, ◌∷◌, ◌≡◌}
-use Rattle.mk_laws.proofs.Vocabulary.{◌≤◌, ◌⊎◌}
+use Rattle.mk_laws.proofs.Vocabulary.{is_mapped, is_released_in, is_small_object, large_cells, large_is_not_small}
+use Rattle.mk_laws.proofs.Vocabulary.{large_words, later_cells, length, mode_of, not, object_placed, pages_made}
+use Rattle.mk_laws.proofs.Vocabulary.{pages_some, placed_at, refl, run_begins, run_header, shows_on, slice_index_or}
+use Rattle.mk_laws.proofs.Vocabulary.{small, small_cells, small_pages, small_words, standing_has_storage, stands}
+use Rattle.mk_laws.proofs.Vocabulary.{stands_on, storage_is_of, storage_of, storage_words, subst, suc, sym, taken, true}
+use Rattle.mk_laws.proofs.Vocabulary.{true≢false, unreleased_storage, used_at, word_of, words_within, zero, ℕ, ◌%◌}
+use Rattle.mk_laws.proofs.Vocabulary.{◌&&◌, ◌*◌, ◌+◌, ◌-◌, ◌/◌, ◌<◌, ◌^◌, ◌∙◌, ◌∷◌, ◌≡◌, ◌≤◌, ◌⊎◌}
 use Rattle.mk_laws.proofs.Basics.{claim_among, claimed, claimed_some}
 use Rattle.mk_geom.specs.Storages.{AreLaidOut, PagesStandFor, block_page, class_of_storage, first_page, is_cell_taken}
 use Rattle.mk_geom.specs.Storages.{run_page, run_used, taken_cells, used_word, words_of_storages}
@@ -41,9 +40,8 @@ pub laid_out : (c : Config) (w : Words) (xs : List PlacedAllocation) → Rests c
 laid_out c w xs r =
     record {
       each = λ i d within.
-          let h = storage_is_of c xs (get_or (unreleased_storage c xs) i d)
-          (Contains-get_or (unreleased_storage c xs) i d within) in
-          rw h.storage (rw r.lengths (standing_has_storage c (placed_at xs h.number) r.limits
+          let h = storage_is_of c xs (get_or _ i d) (Contains-get_or (unreleased_storage c xs) i d within) in
+          rw h.storage (rw r.lengths (standing_has_storage c _ r.limits
           (standing_of c w xs h.number r h.unreleased).stands));
       apart = lie_in_pairs c xs r.laid.apart (λ i j u v other. lie_apart c w xs i j r u v other);
     }
@@ -72,7 +70,7 @@ run_word o false d h large has = has ∙ large_header o d large
 
 mapped_is : (c : Config) (a : PlacedAllocation) → a.released ≡ false → is_small_object (object_placed c a) ≡ false
     → is_mapped c a ≡ not (a.freed && true)
-mapped_is c a u large = rw u (rw (large_is_not_small (kinds_of c.types a.ty) ∙ ap not large))
+mapped_is c a u large = rw u (rw (large_is_not_small _ ∙ ap not large))
 
 same_bits : (n m k : ℕ) → has_bit n k ≡ has_bit m k → bit_at n k ≡ bit_at m k
 same_bits n m k e = elim (cases_Bool (has_bit n k)) [
@@ -86,7 +84,7 @@ used_below (true ∷ bits) = omega (arith, used_below bits, pow-suc 2 (length bi
 used_below (false ∷ bits) = omega (arith, used_below bits, pow-suc 2 (length bits))
 
 used_past : (bits : List Bool) (k : ℕ) → length bits ≤ k → bit_at (used_word bits) k ≡ 0
-used_past bits k le = bit_at_above (used_word bits) (length bits) k (used_below bits) le
+used_past bits k le = bit_at_above _ (length bits) k (used_below bits) le
 
 -- What stands on the page of a small object is small, and of its class.
 alike_at : (c : Config) (w : Words) (xs : List PlacedAllocation) (i j p : ℕ) → Rests c w xs
@@ -276,7 +274,7 @@ nothing_there c w xs p r z s inside stands =
     let low = range.0 in
     let high = range.1 in
     let at : a.base / 64 + (p - a.base / 64) ≡ p = omega arith in
-    claimed_some w.pages (claim_of c None a) (p - a.base / 64) shown (omega arith) (ap (λ q. header_at w q) at ∙ z)
+    claimed_some w.pages _ _ shown (omega arith) (ap (λ q. header_at w q) at ∙ z)
 
 on_page : (c : Config) (w : Words) (xs : List PlacedAllocation) (p : ℕ) → Rests c w xs → IsOn (quiet_scene c w xs) p
     → slice_index_or w.pages p free_page ≡ words_of_storages (unreleased_storage c xs) p
@@ -298,8 +296,8 @@ pages_stand c w xs r =
       laid_out = laid_out c w xs r;
       words = λ p d lt. get_or_default w.pages p d free_page lt ∙ elim (cases_eq (header_at w p) 0) [
         | inl z ↦ ap (λ h. record { header = h; used = used_at w p }) z
-            ∙ rw (free_unused (quiet_scene c w xs) p r.laid z) (sym (words_free p (unreleased_storage c xs)
+            ∙ rw (free_unused _ p r.laid z) (sym (words_free p _
             (λ s inside. false_from_ne_true (stands_on p s) (λ stands. nothing_there c w xs p r z s inside stands))))
-        | inr some ↦ on_page c w xs p r (on_claim (quiet_scene c w xs) p r.laid refl refl some)
+        | inr some ↦ on_page c w xs p r (on_claim _ p r.laid refl refl some)
       ];
     }

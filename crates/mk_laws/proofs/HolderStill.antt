@@ -57,8 +57,7 @@ module _ (c : Config) (w v : World) (kept : TurnIsLeft w v) (own : v.now.seats.h
   next_on first count wanted p n h = rw pages h
 
   marked_on : (o : Object) (place : Place) → is_marked_first a o place ≡ true → is_marked_first b o place ≡ true
-  marked_on o place h =
-      or_on (not (is_phase a 1)) _ (not (is_phase b 1)) _ (λ e. ap not (phase_is 1) ∙ e) (without_on (bits_made o) _
+  marked_on o place h = or_on _ _ (not (is_phase b 1)) _ (λ e. ap not (phase_is 1) ∙ e) (without_on (bits_made o) _
       _ (kept.marks_grow place.page)) h
 
   carves_on : (f : Flight) (p n : ℕ) → carves a (object_made c f.op) (place_now c w.now f) p n ≡ true
@@ -68,7 +67,7 @@ module _ (c : Config) (w v : World) (kept : TurnIsLeft w v) (own : v.now.seats.h
       rw (place_same f)
       (some_on (λ (x : Place). is_next_header a x.page (pages_made o) (header_made o) p n && is_marked_first a o x)
       (λ (x : Place). is_next_header b x.page (pages_made o) (header_made o) p n
-      && is_marked_first b o x) (place_now c w.now f) (λ x q. and_on _ _ _ _
+      && is_marked_first b o x) _ (λ x q. and_on _ _ _ _
       (next_on x.page (pages_made o) (header_made o) p n) (marked_on o x) q) h)
 
   unmaps_same : (p n : ℕ) → unmaps b v.now.seats.holding.freed p n ≡ unmaps a w.now.seats.holding.freed p n
@@ -83,14 +82,8 @@ module _ (c : Config) (w v : World) (kept : TurnIsLeft w v) (own : v.now.seats.h
   head_on f p n h =
       let o : Object = object_made c f.op in
       ap (λ i. if i == 4 then empties b p n else carves b o (place_now c v.now f) p n
-      || unmaps b v.now.seats.holding.freed p n) phase
-      ∙ if_on (is_phase a 4) (empties a p n) (carves a o (place_now c w.now f) p n
-      || unmaps a w.now.seats.holding.freed p n)
-      (empties b p n) (carves b o (place_now c v.now f) p n || unmaps b v.now.seats.holding.freed p n)
-      (λ four e. empties_same p n ∙ e)
-      (λ off e. or_on (carves a o (place_now c w.now f) p n) (unmaps a w.now.seats.holding.freed p n)
-      (carves b o (place_now c v.now f) p n) (unmaps b v.now.seats.holding.freed p n)
-      (carves_on f p n) (λ u. unmaps_same p n ∙ u) e) h
+      || unmaps b v.now.seats.holding.freed p n) phase ∙ if_on (is_phase a 4) (empties a p n) _ (empties b p n) _
+      (λ four e. empties_same p n ∙ e) (λ off e. or_on _ _ _ _ (carves_on f p n) (λ u. unmaps_same p n ∙ u) e) h
 
   -- `used`
 
@@ -111,7 +104,7 @@ module _ (c : Config) (w v : World) (kept : TurnIsLeft w v) (own : v.now.seats.h
   used_on f p n wiped h =
       let o : Object = object_made c f.op in
       let first : Bool = not (is_used_once w.now.seats.holding.placing) in
-      rw phase (if_on (is_phase a 4) (gives_back a p n) _ (gives_back b p n) _
+      rw phase (if_on (is_phase a 4) _ _ (gives_back b p n) _
       (λ four e. and_on (gives_unmarked a p n) _ (gives_unmarked b p n)
       _ (λ u. unmarked_same p n (quiet_at_4 four) ∙ u) (λ u. wiped four e) e) (λ off e. and_on first _ _ _
       (λ u. rw own u) (λ u. takes_same f p n ∙ u) e) h)
@@ -135,12 +128,8 @@ module _ (c : Config) (w v : World) (kept : TurnIsLeft w v) (own : v.now.seats.h
   quarantine_on : (f : Flight) (p n : ℕ) → may_quarantine c w.now f p n ≡ true → may_quarantine c v.now f p n ≡ true
   quarantine_on f p n h =
       ap (λ i. if i == 4 then drops b p (n % 2 ^ 32) (n / 2 ^ 32) else frees b (target c.pages b f) p n
-      || takes_snapshot b p n) phase ∙ if_on (is_phase a 4) (drops a p (n % 2 ^ 32) (n / 2 ^ 32))
-      (frees a (target c.pages a f) p n || takes_snapshot a p n)
-      (drops b p (n % 2 ^ 32) (n / 2 ^ 32)) (frees b (target c.pages b f) p n || takes_snapshot b p n)
-      (λ four e. drops_same p (n % 2 ^ 32) (n / 2 ^ 32) (quiet_at_4 four) ∙ e)
-      (λ off e. or_on (frees a (target c.pages a f) p n) (takes_snapshot a p n)
-      (frees b (target c.pages b f) p n) (takes_snapshot b p n)
+      || takes_snapshot b p n) phase ∙ if_on (is_phase a 4) _ _ _ _
+      (λ four e. drops_same p (n % 2 ^ 32) (n / 2 ^ 32) (quiet_at_4 four) ∙ e) (λ off e. or_on _ _ _ _
       (λ u. frees_same f p n ∙ u) (λ u. snapshot_same p n ∙ u) e) h
 
   -- `mark`, `wipe`, `full`, `give`
@@ -157,7 +146,7 @@ module _ (c : Config) (w v : World) (kept : TurnIsLeft w v) (own : v.now.seats.h
 
   released_on : (cell : Cell) → is_released_cell a cell ≡ true → is_released_cell b cell ≡ true
   released_on cell h =
-      let four = (and_parts (is_phase a 4) (is_left_unmarked a cell) h).0 in
+      let four = (and_parts (is_phase a 4) _ h).0 in
       ap (λ (ms : List ℕ). is_released_cell (record b { marks = ms }) cell) (quiet_at_4 four)
       ∙ ap (λ (s : Steady). (s.phase == 4) && is_left_unmarked (record a { snapshot = s.snapshot }) cell) kept.steady
       ∙ h
@@ -166,8 +155,7 @@ module _ (c : Config) (w v : World) (kept : TurnIsLeft w v) (own : v.now.seats.h
   gone_run_same n = rw own (rw pages)
 
   wipe_on : (n : ℕ) → may_wipe c w.now n ≡ true → may_wipe c v.now n ≡ true
-  wipe_on n h = or_on _ _ _ _ (λ e. rw pages (some_on (is_released_cell a) (is_released_cell b) _ released_on e))
-      (λ e. gone_run_same n ∙ e) h
+  wipe_on n h = or_on _ _ _ _ (λ e. rw pages (some_on _ _ _ released_on e)) (λ e. gone_run_same n ∙ e) h
 
   full_same : (f : Flight) → may_answer_full c.resident b.pages (object_made c f.op)
       v.now.seats.holding.placing v.now.seats.holding.cycle
@@ -179,10 +167,7 @@ module _ (c : Config) (w v : World) (kept : TurnIsLeft w v) (own : v.now.seats.h
   give_on f gone h =
       let run : Bool = is_run_gone a w.now.seats.holding.freed in
       let run' : Bool = is_run_gone b v.now.seats.holding.freed in
-      and_on (is_decided f.stage && run && (a.held == held_by_pages a)) (a.fresh == w.now.fresh_words)
-      (is_decided f.stage && run' && (b.held == held_by_pages b)) (b.fresh == v.now.fresh_words)
-      (λ e. and_on (is_decided f.stage && run) (a.held == held_by_pages a) (is_decided f.stage
-      && run') (b.held == held_by_pages b) (λ d. and_on (is_decided f.stage) run (is_decided f.stage) run' (λ u. u)
+      and_on _ _ _ _ (λ e. and_on _ _ _ _ (λ d. and_on _ run (is_decided f.stage) run' (λ u. u)
       (λ u. ap (λ (x : Holding). is_run_gone b x.freed) own ∙ gone u) d)
       (λ u. ap (λ (s : Steady). s.held == held_by_pages (record a { pages = s.pages })) kept.steady ∙ u) e)
       (λ e. ap (λ (s : Steady). s.fresh == s.fresh_words) kept.steady ∙ e) h
@@ -215,9 +200,8 @@ module _ (c : Config) (w v : World) (kept : TurnIsLeft w v) (own : v.now.seats.h
 
   close_on : phase_of a ≡ 2 → written_of v ≡ written_of w → may_close c w.now ≡ true → may_close c v.now ≡ true
   close_on two written h =
-      let parts = and_parts (none_attends w.now.seats.markers && all_below c.pages (has_closed_page a))
-      (roots_point_well c.pages a) h in
-      let none = (and_parts (none_attends w.now.seats.markers) (all_below c.pages (has_closed_page a)) parts.0).0 in
+      let parts = and_parts (none_attends w.now.seats.markers && all_below c.pages (has_closed_page a)) _ h in
+      let none = (and_parts _ _ parts.0).0 in
       let q = stopped two none in
       ap (λ (t : Bool). t && all_below c.pages (has_closed_page b) && roots_point_well c.pages b)
       (none_on two none ∙ sym none)
@@ -234,8 +218,7 @@ module _ (c : Config) (w v : World) (kept : TurnIsLeft w v) (own : v.now.seats.h
       → may_black c v.now p n ≡ true
   unfolding may_turn_black
   black_on p n two written h =
-      let none = (and_parts (none_attends w.now.seats.markers)
-      (not (all_below 32 (λ k. not (blackens c.pages a p n k)))) h).0 in
+      let none = (and_parts _ (not (all_below 32 (λ k. not (blackens c.pages a p n k)))) h).0 in
       ap (λ (t : Bool). t && not (all_below 32 (λ k. not (blackens c.pages b p n k)))) (none_on two none ∙ sym none)
       ∙ ap (λ (ms : List ℕ). none_attends w.now.seats.markers && not (all_below 32
       (λ k. not (blackens c.pages (record b { marks = ms }) p n k)))) (stopped two none).0
@@ -250,10 +233,9 @@ module _ (c : Config) (w v : World) (kept : TurnIsLeft w v) (own : v.now.seats.h
         let two = eqb-true (phase_of a) 2 on in
         let all = ap (λ t. not t || (none_attends w.now.seats.markers && (slice_index a.blacks p == 0)
         && (slice_index a.blacks (head_page a p) == 0))) (sym on) ∙ h in
-        let parts = and_parts (none_attends w.now.seats.markers && (slice_index a.blacks p == 0))
-        (slice_index a.blacks (head_page a p) == 0) all in
-        let none = (and_parts (none_attends w.now.seats.markers) (slice_index a.blacks p == 0) parts.0).0 in
-        or_right (not (is_phase b 2)) _
+        let parts = and_parts _ _ all in
+        let none = (and_parts _ _ parts.0).0 in
+        or_right _ _
         (ap (λ (t : Bool). t && (slice_index b.blacks p == 0) && (slice_index b.blacks (head_page b p) == 0))
         (none_on two none ∙ sym none) ∙ ap (λ (bs : List ℕ). none_attends w.now.seats.markers && (slice_index bs p == 0)
         && (slice_index bs (head_page b p) == 0)) (stopped two none).1
@@ -263,8 +245,8 @@ module _ (c : Config) (w v : World) (kept : TurnIsLeft w v) (own : v.now.seats.h
 
   unblack_on : may_unblack w.now ≡ true → may_unblack v.now ≡ true
   unblack_on h = elim (cases_Bool (is_phase a 2)) [
-    | inr off ↦ or_left (not (is_phase b 2)) _ (ap not (phase_is 2 ∙ off))
-    | inl on ↦ or_right (not (is_phase b 2)) _
+    | inr off ↦ or_left _ _ (ap not (phase_is 2 ∙ off))
+    | inl on ↦ or_right _ _
         (none_on (eqb-true (phase_of a) 2 on) (ap (λ t. not t || none_attends w.now.seats.markers) (sym on) ∙ h))
   ]
 

@@ -1,11 +1,10 @@
 -- A marker that doesn't attend is in the middle of nothing, and stays so.
 use Rattle.mk_laws.proofs.Vocabulary.{Bool, Config, MarkerState as Marker, None, Option, SeenHeader, Some, Step, Word}
-use Rattle.mk_laws.proofs.Vocabulary.{and_parts, ap, behind_mlook, cases_Bool, cell_seen, false, has_next_word}
-use Rattle.mk_laws.proofs.Vocabulary.{has_seen_cell, inl, inr, is_attending, is_none, is_scanned, is_some}
-use Rattle.mk_laws.proofs.Vocabulary.{marker_behind, marker_may, refl, sym, true, ℕ, ◌&&◌, ◌∙◌, ◌≡◌}
+use Rattle.mk_laws.proofs.Vocabulary.{and_parts, ap, behind_mlook, cases_Bool, cell_seen, false, has_next_word, inl}
+use Rattle.mk_laws.proofs.Vocabulary.{inr, is_attending, is_scanned, is_some, marker_behind, marker_may, refl, sym}
+use Rattle.mk_laws.proofs.Vocabulary.{true, ℕ, ◌∙◌, ◌≡◌}
 use Rattle.mk_core.specs.declared.events.Step.TheVariants as step
 use Rattle.mk_core.specs.declared.events.Word.TheVariants as word
-use Rattle.mk_core.specs.MarkerConditions.{is_markers_word}
 use Rattle.mk_laws.proofs.ProtocolMoves.{IdlesOutside}
 
 -- what a marker has only while it attends
@@ -47,12 +46,11 @@ is_work _ = false
 
 pub work_attends : (c : Config) (x : Marker) (s : Step) → IdlesOutside x → marker_may c x s ≡ true → is_work s ≡ true
     → is_attending x.presence ≡ true
-work_attends c x (step.Mlook w) h m k = (and_parts (is_attending x.presence) (is_markers_word w) m).0
-work_attends c x (step.Claim p i) h m k = (and_parts (is_attending x.presence) (is_none x.scan)
-    (and_parts (is_attending x.presence && is_none x.scan) (has_seen_cell x.seen p i) m).0).0
-work_attends c x step.Mload h m k = next_attends x h (and_parts (has_next_word x.scan) (is_none x.hand) m).0
+work_attends c x (step.Mlook w) h m k = (and_parts _ _ m).0
+work_attends c x (step.Claim p i) h m k = (and_parts _ _ (and_parts _ _ m).0).0
+work_attends c x step.Mload h m k = next_attends x h (and_parts _ _ m).0
 work_attends c x step.Mmark h m k = seen_attends c x h m
-work_attends c x step.Mblack h m k = scanned_attends x h (and_parts (is_scanned x.scan) (is_none x.hand) m).0
+work_attends c x step.Mblack h m k = scanned_attends x h (and_parts _ _ m).0
 work_attends c x _ h m k = cc
 
 -- it keeps its presence, so all is said

@@ -31,11 +31,11 @@ meets_some n _ i P h = tt
 
 pub access_meets : (n : NeverState) (k : ℕ) (o : Op) → accesses o ≡ true → AccessIsAdmitted n k o
     → Meets n (register_at n k (q_of o)) (i_of o) (λ kind. Unit {0})
-access_meets n k (op.GetNum q i) a h = meets_some n (register_at n k q) i IsNumber h
-access_meets n k (op.SetNum q i m) a h = meets_some n (register_at n k q) i IsNumber h
-access_meets n k (op.GetPtr d q i) a h = meets_some n (register_at n k q) i IsPointer h
-access_meets n k (op.SetPtr q i p) a h = meets_some n (register_at n k q) i IsPointer h
-access_meets n k (op.CasPtr q i p r) a h = meets_some n (register_at n k q) i IsPointer h
+access_meets n k (op.GetNum q i) a h = meets_some n _ i IsNumber h
+access_meets n k (op.SetNum q i m) a h = meets_some n _ i IsNumber h
+access_meets n k (op.GetPtr d q i) a h = meets_some n _ i IsPointer h
+access_meets n k (op.SetPtr q i p) a h = meets_some n _ i IsPointer h
+access_meets n k (op.CasPtr q i p r) a h = meets_some n _ i IsPointer h
 access_meets n k _ a h = absurd (false≢true a)
 
 -- after its `probe` an access carries what it did before
@@ -131,7 +131,7 @@ module _ (listed : List ℕ) (safe : ℕ → Bool) (s : ImageScene) (n : NeverSt
       (record s { heap = slice_set s.heap ((q - 65536) / 8 + i_of o) (value_written (flight stage.Write o q p r l) o) })
       (onward (flight stage.Write o q p r l) (Some answer.Done))
   write_leads (op.SetNum q' i m) q p r l is a car pro ad =
-      let to = reaches listed safe s n h (register_at n k q') q i IsNumber (car.q refl) (car.some_q refl) (own_sound q')
+      let to = reaches listed safe s n h _ q i IsNumber (car.q refl) (car.some_q refl) (own_sound q')
       (own_safe q') (pro refl) ad.access in
       let f = flight stage.Dirty (op.SetNum q' i m) q p r l in (
         rw to.word (rw to.target
@@ -141,7 +141,7 @@ module _ (listed : List ℕ) (safe : ℕ → Bool) (s : ImageScene) (n : NeverSt
             (ap (λ t. answer_of (bases_of s.allocations ++ more) (reply_at t (λ a w. Done))) (sym to.target)),
       )
   write_leads (op.SetPtr q' i p') q p r l is a car pro ad =
-      let to = reaches listed safe s n h (register_at n k q') q i IsPointer (car.q refl) (car.some_q refl)
+      let to = reaches listed safe s n h _ q i IsPointer (car.q refl) (car.some_q refl)
       (own_sound q') (own_safe q') (pro refl) ad.access in
       let f = flight stage.Dirty (op.SetPtr q' i p') q p r l in (
         rw to.word (rw to.target (Writes k to.number to.place p f (register_at n k p')
@@ -198,7 +198,7 @@ module _ (listed : List ℕ) (safe : ℕ → Bool) (s : ImageScene) (n : NeverSt
           heap = slice_set s.heap ((q - 65536) / 8 + i) (if x == p then r else x);
           flights = slice_set s.flights k f;
         }) (if b then with_word n to.number to.place (register_at n k r') else n)) compared.1
-            (cas_by (x == p) (op.CasPtr q' i p' r') q p r l r' to.number to.place ((q - 65536) / 8 + i) x to.word e
+            (cas_by (x == p) (op.CasPtr q' i p' r') q p r l r' to.number to.place _ x to.word e
             to.unreleased to.mapped to.inside (car.r refl)
             (decides f stage.Cas (op.CasPtr q' i p' r') q p r l is refl))),
         λ more. one_right _ (answer.Num (one_if (x == p))) n k (op.CasPtr q' i p' r') (rw compared.1

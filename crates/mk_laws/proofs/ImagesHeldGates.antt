@@ -1,6 +1,6 @@
 -- A caller whose gate is held is between calls.
-use Rattle.mk_laws.proofs.Vocabulary.{Bool, Config, Op, Stage, arith, at_rest, cases_lt, get_or_past, inl, inr}
-use Rattle.mk_laws.proofs.Vocabulary.{is_under_turn, refl, sym, true, ℕ, ◌<◌, ◌≡◌, ◌≢◌}
+use Rattle.mk_laws.proofs.Vocabulary.{Bool, Config, Op, Stage, arith, at_rest, cases_lt, get_or_past, inl, inr, refl}
+use Rattle.mk_laws.proofs.Vocabulary.{sym, true, ℕ, ◌<◌, ◌≡◌, ◌≢◌}
 use Rattle.mk_laws.proofs.Basics.{Orderly, View, flight_in, gate_in, standing_at}
 use Rattle.mk_core.specs.declared.seats.Stage.TheVariants as stage
 use Rattle.mk_laws.specs.Protocol.{has_stage}
@@ -12,7 +12,7 @@ never_rests _ _ h = cc
 
 pub resting_idle : (o : Op) (s : Stage) → standing_at s o ≡ Resting → s ≡ stage.Idle
 resting_idle o stage.Idle h = refl
-resting_idle o s h = absurd (never_rests (has_stage o s) (is_under_turn o) h)
+resting_idle o s h = absurd (never_rests (has_stage o s) _ h)
 
 held_resting : (t k : ℕ) (s : Standing) (g : ℕ) → g ≡ 2 → Shows t g k s → s ≡ Resting
 held_resting t k Resting g e h = refl
@@ -21,8 +21,7 @@ held_resting t k _ g e h = absurd (let x = h.0 in omega arith)
 
 pub held_idle : (c : Config) (v : View) (j : ℕ) → Orderly c v → j < c.callers → gate_in v j ≡ 2
     → (flight_in v j).stage ≡ stage.Idle
-held_idle c v j p lt e =
-    resting_idle (flight_in v j).op (flight_in v j).stage (held_resting v.turn j _ (gate_in v j) e (p.each j lt))
+held_idle c v j p lt e = resting_idle _ _ (held_resting v.turn j _ (gate_in v j) e (p.each j lt))
 
 -- Where the gates of all others are held, all but one are idle.
 pub others_idle : (c : Config) (v : View) (k : ℕ) → Orderly c v → ((j : ℕ) → j < c.callers → k ≢ j → gate_in v j ≡ 2)

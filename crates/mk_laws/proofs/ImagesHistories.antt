@@ -5,8 +5,8 @@ use Rattle.mk_laws.proofs.Vocabulary.{Event, ImagePremises, ImagePremisesAlong, 
 use Rattle.mk_laws.proofs.Vocabulary.{Mirrors, NeverState, Null, Ptr, Value, World, [], after_calls, answer_of}
 use Rattle.mk_laws.proofs.Vocabulary.{answered, answers_of, ap, append-nil, append_assoc, arith, asked, at_rest}
 use Rattle.mk_laws.proofs.Vocabulary.{bases_of, call_decided, calls_from, false, first_world, image_of, left, left_from}
-use Rattle.mk_laws.proofs.Vocabulary.{left_more, map-append, never_behind, refl, replies_of, sym, true, world_behind, ℕ}
-use Rattle.mk_laws.proofs.Vocabulary.{◌*◌, ◌++◌, ◌/◌, ◌∙◌, ◌∷◌, ◌≡◌}
+use Rattle.mk_laws.proofs.Vocabulary.{left_more, map-append, refl, replies_of, sym, true, world_behind, ℕ, ◌*◌, ◌++◌}
+use Rattle.mk_laws.proofs.Vocabulary.{◌/◌, ◌∙◌, ◌∷◌, ◌≡◌}
 use Rattle.mk_laws.proofs.Basics.{KnownWorld, at_first, known_world}
 use Rattle.mk_never.specs.Reach.{LeadsTo}
 use Rattle.mk_never.proofs.TypedCalls.{start_is_typed}
@@ -62,7 +62,7 @@ follows_from c whole done (x ∷ es) w n limits is was on e others mirrors ad =
     let behind : v ≡ left c (done ++ x ∷ []) = rw is (sym (left_more c (first_world c) done x)) in
     let enabled : AreEnabled c (done ++ x ∷ []) = enabled_more c (first_world c) done x was (rw is at on.0) in
     let rest : FollowsAll c v (never_after c w n x) es =
-    follows_from c whole (done ++ x ∷ []) es v (never_after c w n x) limits behind enabled on.1
+    follows_from c whole (done ++ x ∷ []) es v _ limits behind enabled on.1
     (append_assoc done (x ∷ []) es ∙ e) others one.mirrors admitted.1 in
     let after : after_calls n (asked (xs ++ ys)) ≡ after_calls (never_after c w n x) (asked ys) =
     ap (after_calls n) split ∙ after_append n (asked xs) (asked ys) in
@@ -130,7 +130,7 @@ others_behind : (c : Config) (es : List Event) → ImagePremisesAlong c es → I
 others_behind c es others = others es [] (append-nil es)
 
 pub histories_tell : HistoriesTellOthers
-histories_tell c es h others = images_say c (left c es) (never_behind c es) (known_world c es h.within_limits h.enabled)
+histories_tell c es h others = images_say c (left c es) _ (known_world c es h.within_limits h.enabled)
     (others_behind c es others) (histories_mirror c es h others)
 
 -- What is reached is in a safe set.
@@ -141,7 +141,7 @@ safe_leads safe _ number is leads = absurd leads
 pub reached_is_unreleased : ReachedIsUnreleased
 reached_is_unreleased c es h others number reached =
     let set = (histories_mirror c es h others).safe in
-    set.1.unreleased number (reached_is_in (never_behind c es) (λ a. set.0 a ≡ true)
+    set.1.unreleased number (reached_is_in _ (λ a. set.0 a ≡ true)
     record {
       registers = λ r a leads. safe_leads set.0 _ a (set.1.registers r) leads;
       globals = λ g a leads. safe_leads set.0 _ a (set.1.globals g) leads;

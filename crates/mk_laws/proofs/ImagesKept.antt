@@ -77,7 +77,7 @@ others_carry : (bs cs : List ℕ) (fs : List Flight) (k : ℕ) (f : Flight) (n m
 others_carry bs cs fs k f n m there small own same h j = elim (cases_eq j k) [
   | inl e ↦ rw (ap (λ i. flight_among (slice_set fs k f) i) e ∙ get_or-set_same fs k f at_rest there) (own _ _ _)
   | inr ne ↦ rw (get_or-set_other fs k j f at_rest ne)
-      (carries_same bs cs (flight_among fs j) _ _ _ _ _ _ (same j _ ne (small j).0) (same j _ ne (small j).1)
+      (carries_same bs cs _ _ _ _ _ _ _ (same j _ ne (small j).0) (same j _ ne (small j).1)
       (same j _ ne (small j).2) (h j))
 ]
 
@@ -407,14 +407,14 @@ new_words n ty = record { ty = ty; words = zero_words (kinds_of n.types ty); fre
 pub old_never : (n : NeverState) (ty b : ℕ) → b ≢ length n.allocations
     → allocation_at (with_new n ty) b ≡ allocation_at n b
 old_never n ty b ne = elim (cases_lt b (length n.allocations)) [
-  | inl lt ↦ get_or_append_left n.allocations (new_words n ty ∷ []) no_allocation b lt
+  | inl lt ↦ get_or_append_left n.allocations _ no_allocation b lt
   | inr le ↦ get_or_past (n.allocations ++ new_words n ty ∷ []) b no_allocation
       (omega (arith, length-append n.allocations (new_words n ty ∷ [])))
       ∙ sym (get_or_past n.allocations b no_allocation le)
 ]
 
 pub new_never : (n : NeverState) (ty : ℕ) → allocation_at (with_new n ty) (length n.allocations) ≡ new_words n ty
-new_never n ty = get_or_at n.allocations (new_words n ty) [] no_allocation (length n.allocations) refl
+new_never n ty = get_or_at n.allocations _ [] no_allocation (length n.allocations) refl
 
 pub old_placed : (xs : List PlacedAllocation) (y : PlacedAllocation) (b : ℕ) → b ≢ length xs
     → placed_at (xs ++ y ∷ []) b ≡ placed_at xs b

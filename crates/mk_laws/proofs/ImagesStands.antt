@@ -97,8 +97,7 @@ count_in (Some run) = run.count
 count_in None = 0
 
 other_run : (r s : RunPages) → ((r.page == s.page) && (r.count == s.count)) ≡ false → Some r ≢ Some s
-other_run r s e is = true≢false
-    (sym (and_from (r.page == s.page) (r.count == s.count) (eq-eqb r.page s.page (ap page_in is))
+other_run r s e is = true≢false (sym (and_from _ _ (eq-eqb r.page s.page (ap page_in is))
     (eq-eqb r.count s.count (ap count_in is))) ∙ e)
 
 gone_headers : (c : Config) (w : Words) (freed : Option RunPages) (a : PlacedAllocation) → IsLaidOut c w freed a

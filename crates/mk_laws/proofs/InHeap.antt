@@ -33,7 +33,7 @@ own_fits c m k x h in_heap =
         → p < c.pages
     claimed x range p i e =
         let r = rw e at range in
-        ltb-true p c.pages (and_parts (nat_lt p c.pages) (nat_lt i 32) r).0
+        ltb-true p c.pages (and_parts _ (nat_lt i 32) r).0
 
 markers_fit : (c : Config) (w : World) (seat : Seat) (x : Step) → InHeap c w.now → Meets c w.now seat x → (k : ℕ)
     → MarkerFits c (marker_of (WorldBehind c w seat x).now k)

@@ -11,7 +11,7 @@ unfolding AreEnabledFrom
 before_it c es before e behind h is =
     let parts : IsHistory c (before ++ e ∷ behind) = subst (λ (xs : List Event). IsHistory c xs) is h in
     let on = ((enabled_in_parts c before (e ∷ behind)).0 parts.enabled).1.0 in
-    (earlier_part_is_history c before (e ∷ behind) parts, enabled_meets c (left c before).now e on)
+    (earlier_part_is_history c before (e ∷ behind) parts, enabled_meets c _ e on)
 
 -- One event of a history keeps the claim.
 abbrev pub KeptByEvents : (Config → List Event → Type 0) → Type 0

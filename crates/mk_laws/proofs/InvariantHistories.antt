@@ -31,8 +31,7 @@ events_keep_the_invariant c es e h all =
     let w : World = left c es in
     let n : NeverState = never_behind c es in
     let xs : List Decided = call_decided c w.now e ++ [] in
-    let one : asked xs ≡ asked (call_decided c w.now e) =
-    ap (λ (ys : List Decided). asked ys) (append-nil (call_decided c w.now e)) in
+    let one : asked xs ≡ asked (call_decided c w.now e) = ap (λ (ys : List Decided). asked ys) (append-nil _) in
     let on = ((enabled_in_parts c es (e ∷ [])).0 h.enabled).1.0 in
     let admitted : AreAdmitted c.globals n (asked (call_decided c w.now e)) =
     subst (λ (ys : List Call). AreAdmitted c.globals n ys) one ((admitted_in_parts c es (e ∷ [])).0 h.admitted).1 in

@@ -1,7 +1,6 @@
 -- The groups joined: what each is told in one world, and one event.
 use Rattle.mk_laws.proofs.Vocabulary.{AreAdmitted, Config, Event, ImagesSay, Invariant, IsEnabled, LayoutPremises}
-use Rattle.mk_laws.proofs.Vocabulary.{NeverState, World, asked, call_decided, enabled_meets, eqb-true, phase_of}
-use Rattle.mk_laws.proofs.Vocabulary.{world_behind}
+use Rattle.mk_laws.proofs.Vocabulary.{NeverState, World, asked, call_decided, enabled_meets, eqb-true, world_behind}
 use Rattle.mk_laws.proofs.Basics.{KnownWorld}
 use Rattle.mk_laws.proofs.LayoutHistories.{order_behind}
 use Rattle.mk_laws.specs.ImagePremises as images
@@ -34,7 +33,7 @@ module _ (c : Config) (w : World) (n : NeverState) (known : KnownWorld c w) (all
       record {
         target = λ seat cell is. let x =
             told_by_images.target seat cell is in record { number = x.number; unreleased = x.unreleased; is = x.cell };
-        marked = λ three run is. told_by_images.marked (eqb-true (phase_of w.now.words) 3 three) run is;
+        marked = λ three run is. told_by_images.marked (eqb-true _ 3 three) run is;
       }
 
   pub told_to_zeros : (e : Event) → IsEnabled c w.now e → AreAdmitted c.globals n (asked (call_decided c w.now e))

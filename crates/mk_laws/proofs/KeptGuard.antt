@@ -100,7 +100,7 @@ pub cell_kept : (c : Config) (m n : Moment) (p k i : ℕ) → Keeps c m n → ce
 cell_kept c m n p k i keeps some before cell scanned lt =
     let g = keeps.headers p in
     rw (g.words some) (guards c m n keeps _ (before (rw (g.count some) at cell)
-    (scanned_before c.pages (header_at m.words p) (header_at n.words p) g some scanned) (rw (g.words some) at lt)))
+    (scanned_before c.pages _ _ g some scanned) (rw (g.words some) at lt)))
 
 -- Cells that are black after were so before, or their words were guarded before.
 pub black_kept : (c : Config) (m n : Moment) → Keeps c m n → NewCellsAreGuarded c m n

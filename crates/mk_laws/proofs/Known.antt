@@ -1,13 +1,12 @@
 -- All that is known of a moment after an enabled list, of whatever calls.
 use Rattle.mk_laws.proofs.Vocabulary.{AreEnabled, AreEnabledFrom, Bool, Caller, Cell, Config, Event, Flight, Holds}
 use Rattle.mk_laws.proofs.Vocabulary.{IsEnabled, IsWithinLimits, List, Moment, None, Op, Option, Progress, Seat, Some}
-use Rattle.mk_laws.proofs.Vocabulary.{Stage, Step, World, [], and_parts, ap, at_rest, cases_eq, cases_lt, cell_freed}
-use Rattle.mk_laws.proofs.Vocabulary.{d_of, enabled_meets, false, first_moment, first_world, flight_of, found, g_of}
-use Rattle.mk_laws.proofs.Vocabulary.{get_or-set_other, get_or-set_same, has_operands, if◌then◌else◌, inl, inr}
-use Rattle.mk_laws.proofs.Vocabulary.{is_in_range, left, left_from, length, ltb-true, nat_lt, p_of, progress}
-use Rattle.mk_laws.proofs.Vocabulary.{progress_freed, progress_p, progress_q, progress_read, progress_reg, q_of, r_of}
-use Rattle.mk_laws.proofs.Vocabulary.{refl, register_met, set_past, slice_index_or, slice_set, true, world_behind, ℕ}
-use Rattle.mk_laws.proofs.Vocabulary.{◌&&◌, ◌<◌, ◌==◌, ◌∙◌, ◌∷◌, ◌≡◌, ◌≤◌}
+use Rattle.mk_laws.proofs.Vocabulary.{Stage, Step, World, [], and_parts, ap, at_rest, cases_eq, cases_lt, d_of}
+use Rattle.mk_laws.proofs.Vocabulary.{enabled_meets, false, first_moment, first_world, found, g_of, get_or-set_other}
+use Rattle.mk_laws.proofs.Vocabulary.{get_or-set_same, has_operands, if◌then◌else◌, inl, inr, is_in_range, left}
+use Rattle.mk_laws.proofs.Vocabulary.{left_from, length, ltb-true, p_of, progress, progress_freed, progress_p}
+use Rattle.mk_laws.proofs.Vocabulary.{progress_q, progress_read, progress_reg, q_of, r_of, refl, register_met, set_past}
+use Rattle.mk_laws.proofs.Vocabulary.{slice_index_or, slice_set, true, world_behind, ℕ, ◌<◌, ◌==◌, ◌∙◌, ◌∷◌, ◌≡◌, ◌≤◌}
 use Rattle.mk_never.specs.declared.operations.Op.TheVariants as op
 use Rattle.mk_core.specs.declared.events.Step.TheVariants as step
 use Rattle.mk_core.specs.declared.seats.Stage.TheVariants as stage
@@ -15,7 +14,7 @@ use Rattle.mk_core.specs.Calls.{has_type}
 use Rattle.mk_laws.proofs.Actors.{Meets}
 use Rattle.mk_laws.proofs.SameWords.{Behind}
 use Rattle.mk_core.specs.Effects.{moment_behind}
-use Rattle.mk_laws.proofs.Standings.{in_turn_told, under_turn_is, standing}
+use Rattle.mk_laws.proofs.Standings.{in_turn_told, under_turn_is}
 use Rattle.mk_laws.proofs.Views.{view_of, HoldsTurn}
 use Rattle.mk_laws.proofs.Orderly.{Orderly}
 use Rattle.mk_laws.proofs.OrderlyLists.{not_astray, orderly_behind, orderly_at_first, at_first}
@@ -67,7 +66,7 @@ op_step c m seat f n step.Reg h = reg_op c f f.stage n
 op_step c m seat f n step.Probe h = either_op c f.op _ _ _ Same Same
 op_step c m seat f n step.Read h = read_op c f f.op n
 op_step c m seat f n (step.Look x) h = either_op c f.op _ _ _ Same Same
-op_step c m seat f n (step.Quar p v) h = freed_op c f (cell_freed c.pages m.words f p v)
+op_step c m seat f n (step.Quar p v) h = freed_op c f _
 op_step c m seat f n _ h = Same
 
 abbrev pub HaveOperands : Config → List Flight → Type 0
@@ -82,7 +81,7 @@ set_operands : (c : Config) (fs : List Flight) (k : ℕ) (f : Flight) → HaveOp
 set_operands c fs k f h s b = elim (cases_eq b k) [
   | inl e ↦ elim (cases_lt k (length fs)) [
     | inl lt ↦ rw (ap (λ j. slice_index_or (slice_set fs k f) j at_rest) e ∙ get_or-set_same fs k f at_rest lt)
-        (checked c (slice_index_or fs k at_rest).op f.op (h k) s)
+        (checked c _ f.op (h k) s)
     | inr le ↦ rw (set_past fs k f le) (h b)
   ]
   | inr ne ↦ rw (get_or-set_other fs k b f at_rest ne) (h b)
@@ -91,7 +90,7 @@ set_operands c fs k f h s b = elim (cases_eq b k) [
 pub operands_behind : (c : Config) (m : Moment) (seat : Seat) (x : Step) → HaveOperands c m.seats.flights
     → Meets c m seat x → HaveOperands c (Behind c m seat x).seats.flights
 operands_behind c m (Caller k) x h on = set_operands c m.seats.flights k _ h
-    (op_step c m (Caller k) (flight_of m (Caller k)) (found c m (record { seat = Caller k; step = x })) x on.range)
+    (op_step c m (Caller k) _ (found c m (record { seat = Caller k; step = x })) x on.range)
 operands_behind c m _ x h on = h
 
 -- the registers and the global of a call
@@ -104,13 +103,11 @@ pub record Operands (o : Op) : Type 0 where
 
 pub operands_of : (c : Config) (o : Op) → has_operands c o ≡ true → Operands o
 operands_of c o h =
-    let a = and_parts (nat_lt (q_of o) 8 && nat_lt (p_of o) 8 && nat_lt (r_of o) 8 && nat_lt (d_of o) 8
-    && nat_lt (g_of o) 64) (has_type c o) h in
-    let g = and_parts (nat_lt (q_of o) 8 && nat_lt (p_of o) 8 && nat_lt (r_of o) 8 && nat_lt (d_of o) 8)
-    (nat_lt (g_of o) 64) a.0 in
-    let d = and_parts (nat_lt (q_of o) 8 && nat_lt (p_of o) 8 && nat_lt (r_of o) 8) (nat_lt (d_of o) 8) g.0 in
-    let r = and_parts (nat_lt (q_of o) 8 && nat_lt (p_of o) 8) (nat_lt (r_of o) 8) d.0 in
-    let p = and_parts (nat_lt (q_of o) 8) (nat_lt (p_of o) 8) r.0 in
+    let a = and_parts _ (has_type c o) h in
+    let g = and_parts _ _ a.0 in
+    let d = and_parts _ _ g.0 in
+    let r = and_parts _ _ d.0 in
+    let p = and_parts _ _ r.0 in
     record {
       q = ltb-true (q_of o) 8 p.0;
       p = ltb-true (p_of o) 8 p.1;
@@ -160,9 +157,5 @@ known_left c es limits on = known_from c (first_world c) es (known_at_first c li
 -- who holds the turn by its call holds it by what the protocol reads
 pub holds_turn : (c : Config) (m : Moment) (seat : Seat) → Orderly c (view_of m) → Holds c m seat
     → HoldsTurn c (view_of m) seat
-holds_turn c m (Caller k) o h = (
-  h.0,
-  under_turn_is (standing (flight_of m (Caller k)))
-      (in_turn_told (flight_of m (Caller k)).stage (flight_of m (Caller k)).op (not_astray c m o k h.0) ∙ h.1),
-)
+holds_turn c m (Caller k) o h = (h.0, under_turn_is _ (in_turn_told _ _ (not_astray c m o k h.0) ∙ h.1))
 holds_turn c m _ o h = h

@@ -1,8 +1,7 @@
 -- What is known of a world before an event, and what is to show after it.
 use Rattle.mk_laws.proofs.Vocabulary.{Among, AreOfPages, Bool, Claim, Config, Flight, Ground, IsWithinLimits}
-use Rattle.mk_laws.proofs.Vocabulary.{LayoutPremises, Seat, Step, World, arith, caller_number, claims_on, false}
-use Rattle.mk_laws.proofs.Vocabulary.{flight_of, ground_of, is_phase, is_released_in, length, ltb-true, nat_lt}
-use Rattle.mk_laws.proofs.Vocabulary.{object_now, reg_access, register_met, true, ℕ, ◌<◌, ◌≡◌}
+use Rattle.mk_laws.proofs.Vocabulary.{LayoutPremises, Seat, Step, World, arith, claims_on, false, flight_of, ground_of}
+use Rattle.mk_laws.proofs.Vocabulary.{is_phase, is_released_in, length, ltb-true, nat_lt, object_now, true, ℕ, ◌<◌, ◌≡◌}
 use Rattle.mk_core.specs.declared.events.Step.TheVariants as step
 use Rattle.mk_laws.proofs.Ground.{KeepsGround, reg_ground}
 use Rattle.mk_laws.proofs.Known.{Known}
@@ -41,10 +40,10 @@ page_within c w p b h = let lt = ltb-true p c.pages h in let len = b.lengths.pag
 pub reg_leaves : (c : Config) (w : World) (seat : Seat) → Keeps w.now.words (WorldBehind c w seat step.Reg).now.words
 reg_leaves c w seat =
     let f : Flight = flight_of w.now seat in
-    reg_keeps w.now.words (caller_number seat) (register_met f f.stage) (reg_access f f.stage)
+    reg_keeps w.now.words _ _ _
 
 pub reg_leaves_ground : (c : Config) (w : World) (seat : Seat)
     → KeepsGround w.now.words (WorldBehind c w seat step.Reg).now.words
 reg_leaves_ground c w seat =
     let f : Flight = flight_of w.now seat in
-    reg_ground w.now.words (caller_number seat) (register_met f f.stage) (reg_access f f.stage)
+    reg_ground w.now.words _ _ _

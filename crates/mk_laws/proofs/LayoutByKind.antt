@@ -6,13 +6,13 @@ use Rattle.mk_laws.proofs.Vocabulary.{PlacedAllocation, Placing, QuarantineStep,
 use Rattle.mk_laws.proofs.Vocabulary.{Used, UsedStep, Words, World, [], and_parts, and_right, ap, arith, cell_freed}
 use Rattle.mk_laws.proofs.Vocabulary.{chosen, claims_of, decided, eqb-true, false, false_from_ne_true, flight_of}
 use Rattle.mk_laws.proofs.Vocabulary.{freed_cell, freed_where_it_stands, fresh_leaves, granted, granted_base_is}
-use Rattle.mk_laws.proofs.Vocabulary.{granted_object, granted_type, ground_of, has_bit, has_place, head_step, header_at}
+use Rattle.mk_laws.proofs.Vocabulary.{granted_object, granted_type, ground_of, has_place, head_step, header_at}
 use Rattle.mk_laws.proofs.Vocabulary.{held_by_pages, if◌then◌else◌, is_decided, is_phase, is_run_gone, is_run_unmapped}
 use Rattle.mk_laws.proofs.Vocabulary.{is_undecided_new, is_used_once, layout_scene_of, length, map, marks_is}
 use Rattle.mk_laws.proofs.Vocabulary.{marks_place, may_end, ne_eqb, no_longer_fresh, none_freed, not, nothing_done}
-use Rattle.mk_laws.proofs.Vocabulary.{object_made, object_now, object_placed, or_else, phase_of, place_now, placed_now}
-use Rattle.mk_laws.proofs.Vocabulary.{quarantine_step, refl, run_of_cell, seat_exists, slice_index, slice_set, sym}
-use Rattle.mk_laws.proofs.Vocabulary.{taken, true, true≢false, undecided_free, undecided_new, used_step, with_released}
+use Rattle.mk_laws.proofs.Vocabulary.{object_made, object_now, object_placed, or_else, place_now, placed_now}
+use Rattle.mk_laws.proofs.Vocabulary.{quarantine_step, refl, run_of_cell, seat_exists, slice_set, sym, taken, true}
+use Rattle.mk_laws.proofs.Vocabulary.{true≢false, undecided_free, undecided_new, used_step, with_released}
 use Rattle.mk_laws.proofs.Vocabulary.{words_are_zero, ℕ, ◌%◌, ◌&&◌, ◌*◌, ◌++◌, ◌/◌, ◌<◌, ◌==◌, ◌^◌, ◌∙◌, ◌∷◌, ◌≡◌, ◌≢◌}
 use Rattle.mk_laws.proofs.Basics.{Before, Laid, LeavesCells, Meets, WorldBehind, first_header, free_has_turn}
 use Rattle.mk_laws.proofs.Basics.{gone_terrain, grants_new, holding_object, made_sized, new_has_turn, no_run}
@@ -66,7 +66,7 @@ head_by c w seat p n b there lt laid (ItEmpties on x) =
 pub head_kind : (c : Config) (w : World) (seat : Seat) (p n : ℕ) → Before c w → Meets c w.now seat (step.Head p n)
     → LayoutStands c w → LaidNow c w (ground_of (WorldBehind c w seat (step.Head p n)))
 head_kind c w seat p n b h laid = head_by c w seat p n b h.seat (page_within c w p b h.range) laid
-    (head_step c w.now (flight_of w.now seat) p n h.holder)
+    (head_step c w.now _ p n h.holder)
 
 -- `used`
 abbrev UsedBehind : Config → World → ℕ → ℕ → Bool → Option Place → Type 0
@@ -91,7 +91,7 @@ used_by c w seat p n b there lt laid (ItGivesBack on x) =
 pub used_kind : (c : Config) (w : World) (seat : Seat) (p n : ℕ) → Before c w → Meets c w.now seat (step.Used p n)
     → LayoutStands c w → LaidNow c w (ground_of (WorldBehind c w seat (step.Used p n)))
 used_kind c w seat p n b h laid = used_by c w seat p n b h.seat (page_within c w p b h.range) laid
-    (used_step c w.now (flight_of w.now seat) p n h.holder)
+    (used_step c w.now _ p n h.holder)
 
 -- `quar`
 -- with another quarantine word of a page
@@ -112,18 +112,16 @@ left_by : (c : Config) (w : World) (f : Flight) (p n : ℕ) → LayoutStands c w
 left_by c w f p n laid step = by step
   where
     still : is_phase w.now.words 4 ≡ false → LaidNow c w (with_halves w p n)
-    still off = rw off (unreleasing c (object_now c w.now) w.now.words.marks w.now.words.marks (ground_of w)
-        (slice_set w.now.words.freed p (n % 2 ^ 32)) (slice_set w.now.words.snapshot p (n / 2 ^ 32)) (rw off at laid))
+    still off = rw off (unreleasing c _ w.now.words.marks w.now.words.marks (ground_of w) _ _ (rw off at laid))
 
     by : QuarantineStep c w.now f p n → LaidNow c w (with_halves w p n)
     by (ItFrees off x) = still off
     by (ItTakesSnapshot x) =
-        let z = eqb-true (phase_of w.now.words) 0 x.phase in
-        still (ne_eqb (phase_of w.now.words) 4 (λ e. absurd (omega arith)))
-    by (ItDrops on x) = rw on (refreed c (object_now c w.now) true w.now.words.marks
+        let z = eqb-true _ 0 x.phase in
+        still (ne_eqb _ 4 (λ e. absurd (omega arith)))
+    by (ItDrops on x) = rw on (refreed c _ true w.now.words.marks
         (record (ground_of w) { snapshot = slice_set w.now.words.snapshot p (n / 2 ^ 32) })
-        (slice_set w.now.words.freed p (n % 2 ^ 32)) (dropped c (object_now c w.now) w p (n % 2 ^ 32) (n / 2 ^ 32)
-        (rw on at laid) x))
+        _ (dropped c _ w p (n % 2 ^ 32) (n / 2 ^ 32) (rw on at laid) x))
 
 pub quar_kind : (c : Config) (w : World) (seat : Seat) (p n : ℕ) → Before c w → Meets c w.now seat (step.Quar p n)
     → LayoutStands c w → LaidNow c w (ground_of (WorldBehind c w seat (step.Quar p n)))
@@ -299,20 +297,18 @@ kept_ground c w x g laid = rw g.pages (rw g.freed (rw g.snapshot laid))
 
 -- `release` and `end`
 pub off_at : (w : World) (n : ℕ) → is_phase w.now.words n ≡ true → n ≢ 4 → is_phase w.now.words 4 ≡ false
-off_at w n at ne = let e = eqb-true (phase_of w.now.words) n at in ne_eqb (phase_of w.now.words) 4
-    (λ four. ne (sym e ∙ four))
+off_at w n at ne = let e = eqb-true _ n at in ne_eqb _ 4 (λ four. ne (sym e ∙ four))
 
 release_kind : (c : Config) (w : World) → Before c w → is_phase w.now.words 3 ≡ true → LayoutStands c w
     → Laid c (object_now c w.now) true w
     (record (ground_of w) { allocations = map (with_released c w.now.words) w.allocations })
-release_kind c w b three laid = released_terrain c (object_now c w.now) w b.limits b.lengths.pages
-    (rw (off_at w 3 three (λ e. absurd (omega arith))) at laid) (λ run is.
-    and_right (has_bit (slice_index w.now.words.snapshot run.page) 0)
-    (not (has_bit (slice_index w.now.words.marks run.page) 0)) (ap not (b.others.marked three run is)))
+release_kind c w b three laid = released_terrain c _ w b.limits b.lengths.pages
+    (rw (off_at w 3 three (λ e. absurd (omega arith))) at laid) (λ run is. and_right _
+    _ (ap not (b.others.marked three run is)))
 
 end_kind : (c : Config) (w : World) → Before c w → is_phase w.now.words 4 ≡ true → may_end c.pages w.now.words ≡ true
     → LayoutStands c w → Laid c (object_now c w.now) false w (ground_of w)
-end_kind c w b four own laid = ended c (object_now c w.now) w b.lengths.pages (rw four at laid) own
+end_kind c w b four own laid = ended c _ w b.lengths.pages (rw four at laid) own
 
 -- each kind of event, whatever the seat
 pub by_kind : (c : Config) (w : World) (seat : Seat) (x : Step) → Before c w → Meets c w.now seat x → LayoutStands c w

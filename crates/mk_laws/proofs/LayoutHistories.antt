@@ -11,11 +11,11 @@ use Rattle.mk_laws.proofs.Vocabulary.{cell_of_allocation, cells_made, cells_unde
 use Rattle.mk_laws.proofs.Vocabulary.{false, first_world, flight_of, free_page, ground_of, has_bit, has_bit_without}
 use Rattle.mk_laws.proofs.Vocabulary.{head_page_under, head_step, header_in, header_made, header_of, header_on}
 use Rattle.mk_laws.proofs.Vocabulary.{heads_run, histories_keep_lengths, inl, inr, is_phase, layout_scene_of, left}
-use Rattle.mk_laws.proofs.Vocabulary.{left_from, length, ltb-true, made_shows, not, object_made, object_now}
-use Rattle.mk_laws.proofs.Vocabulary.{object_placed, pages_made, placed_at, placed_now, quarantine_step, refl}
-use Rattle.mk_laws.proofs.Vocabulary.{seat_exists, shows_on, slice_index, slice_index_or, slice_set, subst, sym, true}
-use Rattle.mk_laws.proofs.Vocabulary.{true≢false, unmapped_header, word_accessed, world_behind, zero_lengths, ℕ, ◌%◌}
-use Rattle.mk_laws.proofs.Vocabulary.{◌-◌, ◌/◌, ◌<◌, ◌^◌, ◌∙◌, ◌∷◌, ◌≡◌}
+use Rattle.mk_laws.proofs.Vocabulary.{left_from, length, ltb-true, made_shows, object_made, object_now, object_placed}
+use Rattle.mk_laws.proofs.Vocabulary.{pages_made, placed_at, placed_now, quarantine_step, refl, seat_exists, shows_on}
+use Rattle.mk_laws.proofs.Vocabulary.{slice_index, slice_index_or, slice_set, subst, sym, true, true≢false}
+use Rattle.mk_laws.proofs.Vocabulary.{unmapped_header, word_accessed, world_behind, zero_lengths, ℕ, ◌%◌, ◌-◌, ◌/◌, ◌<◌}
+use Rattle.mk_laws.proofs.Vocabulary.{◌^◌, ◌∙◌, ◌∷◌, ◌≡◌}
 use Rattle.mk_laws.proofs.Basics.{Before, Known, Meets, WorldBehind, at_first, bit_cases, headed_other}
 use Rattle.mk_laws.proofs.Basics.{is_releasing_behind, known_at_first, known_behind, known_left, made_sized, none_set}
 use Rattle.mk_laws.proofs.Basics.{own_claim, page_within, reg_leaves_ground, tally_ground, used_header, with_header_on}
@@ -97,8 +97,7 @@ quar_kind c w f p n lf four (ItDrops on x) known = λ q k h. elim (bit_cases w.n
   | inl here ↦
       let rest : ℕ = slice_index w.now.words.snapshot p - n / 2 ^ 32 in
       let bit = ap (λ v. has_bit v k) (sym x.is) ∙ sym here.1 ∙ h in
-      let was = (and_parts (has_bit (slice_index w.now.words.freed p) k) (not (has_bit rest k))
-      (sym (has_bit_without (slice_index w.now.words.freed p) rest k) ∙ bit)).0 in
+      let was = (and_parts _ _ (sym (has_bit_without _ rest k) ∙ bit)).0 in
       known q k (rw here.0 was)
 ]
 
@@ -107,13 +106,12 @@ known_by_kind : (c : Config) (w : World) (seat : Seat) (x : Step) → Before c w
     → is_releasing_behind x (is_phase w.now.words 4) ≡ true → FreedCellsAreKnown w
     → KnownOn (WorldBehind c w seat x).now.words.pages (WorldBehind c w seat x).now.words.freed
 known_by_kind c w seat (step.Head p n) b h on known =
-    head_kind c w (flight_of w.now seat) p n (page_within c w p b h.range) on
-    (head_step c w.now (flight_of w.now seat) p n h.holder) known
+    head_kind c w (flight_of w.now seat) p n (page_within c w p b h.range) on (head_step c w.now _ p n h.holder) known
 known_by_kind c w seat (step.Used p n) b h on known =
     λ q k bit. rw (used_header w.now.words.pages p n q (page_within c w p b h.range)) (known q k bit)
 known_by_kind c w seat (step.Quar p n) b h on known = quar_kind c w (flight_of w.now seat) p n
     (let lt = ltb-true p c.pages h.range in let len = b.lengths.freed in omega arith) on
-    (quarantine_step c w.now (flight_of w.now seat) p n h.holder) known
+    (quarantine_step c w.now _ p n h.holder) known
 known_by_kind c w seat step.Reg b h on known =
     let g = reg_leaves_ground c w seat in
     rw g.pages (rw g.freed known)
@@ -163,7 +161,7 @@ pub words_behind : (c : Config) (w : World) (seat : Seat) (x : Step) → Before 
     → LayoutStands c w → HasHeaderWords w → HasHeaderWords (WorldBehind c w seat x)
 words_behind c w seat (step.Head p n) b h laid words = λ q. elim (cases_eq q p) [
   | inl e ↦ rw e (rw (headed_here w.now.words.pages p n (page_within c w p b h.range))
-      (stored_word c w seat p n b h.seat laid (head_step c w.now (flight_of w.now seat) p n h.holder)))
+      (stored_word c w seat p n b h.seat laid (head_step c w.now _ p n h.holder)))
   | inr ne ↦ rw (headed_other w.now.words.pages p n q ne) (words q)
 ]
 words_behind c w seat (step.Used p n) b h laid words =
@@ -200,8 +198,8 @@ quarantined_at_first : (c : Config) → IsQuarantined c (first_world c)
 quarantined_at_first c =
     record {
       small = λ p. (let z = zero_at p in omega arith, let z = zero_at p in omega arith);
-      within = λ p k h. absurd (none_set (slice_index (replicate c.pages 0) p) k (zero_at p) h);
-      owned = λ p k h. absurd (none_set (slice_index (replicate c.pages 0) p) k (zero_at p) h);
+      within = λ p k h. absurd (none_set _ k (zero_at p) h);
+      owned = λ p k h. absurd (none_set _ k (zero_at p) h);
       shown = λ i u f. absurd (true≢false u);
       taken = λ place is. let y : true ≡ false = cc in absurd (true≢false y);
       kept = λ on i u. absurd (true≢false u);
@@ -215,7 +213,7 @@ in_order_at_first c =
     record {
       laid = laid_at_first c;
       quarantined = quarantined_at_first c;
-      known = λ p k h. absurd (none_set (slice_index (replicate c.pages 0) p) k (at_first c.pages p 0) h);
+      known = λ p k h. absurd (none_set _ k (at_first c.pages p 0) h);
       snapshot = record {
         fresh = λ i f. absurd (true≢false (sym f));
         quarantined = λ on. absurd (true≢false (sym on));
@@ -223,8 +221,7 @@ in_order_at_first c =
       words = λ p. subst (λ (x : Page). IsHeaderWord x.header) (sym (at_first c.pages p free_page)) refl;
       runs = λ p h. absurd
           (true≢false (sym h ∙ ap (λ (x : Page). heads_run (header_of x.header)) (at_first c.pages p free_page)));
-      room = let none = count_none c.pages (is_taken_page (replicate c.pages free_page) NoPlot)
-          (λ p. free p) in omega arith;
+      room = let none = count_none c.pages _ (λ p. free p) in omega arith;
     }
   where
     free : (p : ℕ) → is_taken_page (replicate c.pages free_page) NoPlot p ≡ false
@@ -238,7 +235,7 @@ known_before c w limits lengths known others q =
       lengths = lengths;
       known = known;
       others = others;
-      unreleased = λ four. none_released c (object_now c w.now) w.now.words.marks (ground_of w) (rw four at q);
+      unreleased = λ four. none_released c _ w.now.words.marks (ground_of w) (rw four at q);
     }
 
 quarantine_behind : (c : Config) (w : World) (seat : Seat) (x : Step) → Before c w → Meets c w.now seat x
@@ -246,14 +243,13 @@ quarantine_behind : (c : Config) (w : World) (seat : Seat) (x : Step) → Before
 quarantine_behind c w seat x b h laid q =
     let v : World = WorldBehind c w seat x in
     let kind = quarantine_by_kind c w seat x b h laid q in
-    rw (phase_kind c w seat x h) (marks (is_releasing_behind x (is_phase w.now.words 4)) refl kind)
+    rw (phase_kind c w seat x h) (marks _ refl kind)
   where
     marks : (r : Bool) → is_releasing_behind x (is_phase w.now.words 4) ≡ r
         → HasQuarantine c r w.now.words.marks (ground_of (WorldBehind c w seat x))
         → HasQuarantine c r (WorldBehind c w seat x).now.words.marks (ground_of (WorldBehind c w seat x))
     marks true is q = rw (releasing_marks c w seat x b.known h is) q
-    marks false is q = unmarked c w.now.words.marks (WorldBehind c w seat x).now.words.marks
-        (ground_of (WorldBehind c w seat x)) q
+    marks false is q = unmarked c w.now.words.marks _ _ q
 
 -- One event, from the world before it.
 pub order_behind : (c : Config) (w : World) (e : Event) → IsWithinLimits c → AreOfPages c.pages w.now.words

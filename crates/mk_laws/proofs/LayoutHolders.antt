@@ -26,14 +26,12 @@ free_stands _ _ h = cc
 
 pub new_has_turn : (c : Config) (m : Moment) (seat : Seat) → seat_exists c seat ≡ true
     → is_undecided_new (flight_of m seat) ≡ true → HoldsTurn c (view_of m) seat
-new_has_turn c m (Caller k) there u =
-    (ltb-true k c.callers there, new_stands (flight_of m (Caller k)).stage (flight_of m (Caller k)).op u)
+new_has_turn c m (Caller k) there u = (ltb-true k c.callers there, new_stands _ _ u)
 new_has_turn c m _ there u = cc
 
 pub free_has_turn : (c : Config) (m : Moment) (seat : Seat) → seat_exists c seat ≡ true
     → is_undecided_free (flight_of m seat) ≡ true → HoldsTurn c (view_of m) seat
-free_has_turn c m (Caller k) there u =
-    (ltb-true k c.callers there, free_stands (flight_of m (Caller k)).stage (flight_of m (Caller k)).op u)
+free_has_turn c m (Caller k) there u = (ltb-true k c.callers there, free_stands _ _ u)
 free_has_turn c m _ there u = cc
 
 -- So does a seat whose step is of the turn's kinds, but for `take`.
@@ -91,5 +89,4 @@ pub made_sized : (c : Config) (m : Moment) (seat : Seat) → IsWithinLimits c �
 made_sized c m seat limits known u = new_sized c (flight_of m seat) limits u (seat_operands c m seat known)
 
 pub first_header : (o : Object) → IsSized o → header_made o 0 ≢ 0
-first_header o sized =
-    part_not_free o 0 (header_made o 0) (made_shows o 0 sized (let some = pages_some o sized in omega arith))
+first_header o sized = part_not_free o 0 _ (made_shows o 0 sized (let some = pages_some o sized in omega arith))

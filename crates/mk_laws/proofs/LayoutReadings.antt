@@ -24,30 +24,28 @@ header_of_mode Unmapped o distance header has = inr has
 -- the claim's pages show its parts
 pub claimed : (pages : List Page) (x : Claim) (distance : ℕ) → IsShown pages x → distance < pages_made x.object
     → ShowsPart x.object distance (shows_on pages (x.page + distance))
-claimed pages x distance shown lt = header_shows x.object distance (header_on pages (x.page + distance)) shown.sized lt
-    (header_of_mode x.mode x.object distance (header_on pages (x.page + distance)) (shown.headers distance lt))
+claimed pages x distance shown lt = header_shows x.object distance _ shown.sized lt
+    (header_of_mode x.mode x.object distance _ (shown.headers distance lt))
 
 pub claimed_head : (pages : List Page) (x : Claim) (distance : ℕ) → IsShown pages x → distance < pages_made x.object
     → head_on pages (x.page + distance) ≡ x.page
-claimed_head pages x distance shown lt = part_head x.object distance x.page (shows_on pages (x.page + distance))
-    (claimed pages x distance shown lt)
+claimed_head pages x distance shown lt = part_head x.object distance x.page _ (claimed pages x distance shown lt)
 
 -- so its head has a used bit
 pub claimed_used : (pages : List Page) (x : Claim) (distance : ℕ) → IsShown pages x → distance < pages_made x.object
     → used_on pages (head_on pages (x.page + distance)) ≢ 0
 claimed_used pages x distance shown lt z =
-    none_set (used_on pages x.page) x.index (rw (← (claimed_head pages x distance shown lt)) z) shown.used
+    none_set _ x.index (rw (← (claimed_head pages x distance shown lt)) z) shown.used
 
 pub claimed_some : (pages : List Page) (x : Claim) (distance : ℕ) → IsShown pages x → distance < pages_made x.object
     → header_on pages (x.page + distance) ≢ 0
-claimed_some pages x distance shown lt = part_not_free x.object distance (header_on pages (x.page + distance))
-    (claimed pages x distance shown lt)
+claimed_some pages x distance shown lt = part_not_free x.object distance _ (claimed pages x distance shown lt)
 
 -- a page without cells has no used bit
 pub cellless_unused : (s : LayoutScene) (p : ℕ) → IsLaidOn s → cells_under (shows_on s.pages p) ≡ 0
     → used_on s.pages p ≡ 0
 cellless_unused s p laid none =
-    zero_where_none (used_on s.pages p) (λ k h. let t = laid.used p k h in let lt = t.0 in absurd (omega arith))
+    zero_where_none _ (λ k h. let t = laid.used p k h in let lt = t.0 in absurd (omega arith))
 
 pub free_unused : (s : LayoutScene) (p : ℕ) → IsLaidOn s → header_on s.pages p ≡ 0 → used_on s.pages p ≡ 0
 free_unused s p laid z = cellless_unused s p laid (rw z)

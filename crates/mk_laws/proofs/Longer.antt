@@ -88,7 +88,7 @@ longer_first t e on first =
 -- what the turn's events leave, from after its `take` on
 pub left_in_turn : (c : Config) (s : Seat) (es : List Event) (t : TurnOf c s es)
     → left_from c (left c (t.before ++ taken t ∷ [])) t.behind ≡ left c es
-left_in_turn c s es t = sym (left_append c (first_world c) (t.before ++ taken t ∷ []) t.behind)
+left_in_turn c s es t = sym (left_append c (first_world c) _ t.behind)
     ∙ ap (λ (xs : List Event). left c xs) (append_assoc t.before (taken t ∷ []) t.behind ∙ sym t.is)
 
 pub none_serves_more : (c : Config) (w : World) (es : List Event) (e : Event) → NoneServesFrom c w es

@@ -12,8 +12,7 @@ use Rattle.mk_core.proofs.ChangedAllocations.{earlier_at}
 
 -- A mapped allocation isn't released, so it is there.
 pub mapped_stays : (c : Config) (a : PlacedAllocation) → is_mapped c a ≡ true → a.released ≡ false
-mapped_stays c a h =
-    not-true a.released (and_parts (not a.released) (not (a.freed && is_large (kinds_of c.types a.ty))) h).0
+mapped_stays c a h = not-true a.released (and_parts _ _ h).0
 
 mapped_there : (c : Config) (xs : List PlacedAllocation) (i : ℕ) → is_mapped c (placed_at xs i) ≡ true → i < length xs
 mapped_there c xs i h = elim (cases_lt i (length xs)) [
@@ -63,6 +62,5 @@ word_of_unreleased c w xs n limits m stands headers kept =
     let a : PlacedAllocation = placed_at xs m.number in
     let stays = released_where_left c w a limits stands headers ∙ kept in
     let unmapped : Bool = a.freed && is_large (kinds_of c.types a.ty) in
-    word_of_changed c (with_released c w) xs n (released_leaves c w) m
-    (and_from (not (with_released c w a).released) (not unmapped) (ap not stays)
-    (and_parts (not a.released) (not unmapped) m.mapped).1)
+    word_of_changed c _ xs n (released_leaves c w) m (and_from _ (not unmapped) (ap not stays)
+    (and_parts _ (not unmapped) m.mapped).1)

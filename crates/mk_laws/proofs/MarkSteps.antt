@@ -130,7 +130,7 @@ has_header : (c : Config) (w : World) (n : NeverState) (b : ℕ) → Told c w n
     → (placed_at w.allocations b).released ≡ false → header_at w.now.words ((placed_at w.allocations b).base / 64) ≢ 0
 has_header c w n b t u =
     let a : PlacedAllocation = placed_at w.allocations b in
-    part_not_free (object_placed c a) 0 _ (first_page_shows c w.now.words a (sized c w n t b u) (headers c w n t b u))
+    part_not_free _ 0 _ (first_page_shows c w.now.words a (sized c w n t b u) (headers c w n t b u))
 
 -- `mark` by the hand
 
@@ -138,7 +138,7 @@ hand_cell : (cell : Option Cell) (page value k : ℕ) → is_bit_of cell page va
     → cell ≡ Some (record { page = page; index = k })
 hand_cell None page value k h bit = cc
 hand_cell (Some x) page value k h bit =
-    let parts = and_parts (page == x.page) _ h in
+    let parts = and_parts _ _ h in
     let at : page ≡ x.page = eqb-true page x.page parts.0 in
     let one : value ≡ 2 ^ x.index = eqb-true value (2 ^ x.index) parts.1 in
     let same : k ≡ x.index = bit_of_power x.index k (rw one at bit) in
@@ -204,7 +204,7 @@ seen_marks c m x k stand bit own = by x.seen x.hand refl refl own bit
               value = value;
               there = eh;
               cell = ap (λ p. cell_at c.pages (header_at m.words p) value)
-                  (sym (eqb-true q.page (page_at_address value) e)) ∙ now ∙ rw (← page) (rw (← same));
+                  (sym (eqb-true q.page _ e)) ∙ now ∙ rw (← page) (rw (← same));
             }
     by _ _ es eh own bit = cc
 
@@ -225,7 +225,8 @@ module _ (c : Config) (w : World) (n : NeverState) (T : ℕ → Type 0) (precise
       elim (more_bits w.now.words.marks p v cell.page cell.index bit) [
         | inl old ↦ precise.marked b u old
         | inr new ↦ elim (cases_Bool (marks_place w.now.words o place p v)) [
-          | inl placed ↦ absurd (has_header c w n b s.before u (rw new.0 (place_is_free w.now.words o place p v placed)))
+          | inl placed ↦
+              absurd (has_header c w n b s.before u (rw new.0 (place_is_free w.now.words o place p v placed)))
           | inr unplaced ↦
               let hand : Option Hand = w.now.seats.holding.hand in
               let h = hand_marks w.now.words c.pages hand p v (left_holds _ _ s.meets.holder unplaced)
@@ -242,7 +243,7 @@ module _ (c : Config) (w : World) (n : NeverState) (T : ℕ → Type 0) (precise
       elim (more_bits w.now.words.marks (seen_page y) (seen_bit y) cell.page cell.index bit) [
         | inl old ↦ precise.marked b u old
         | inr new ↦
-            let m = seen_marks c w.now (marker_of w.now j) cell.index stand new.1 s.meets.marker in
+            let m = seen_marks c w.now _ cell.index stand new.1 s.meets.marker in
             let at : pointed_cell c.pages w.now.words.pages m.value ≡ Some cell = m.cell ∙ rw (← new.0) in
             (precise.markers j).hand m.value m.there b (u, comes_back c w n s.before s.early b m.value u at)
       ]

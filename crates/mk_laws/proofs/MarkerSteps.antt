@@ -225,7 +225,7 @@ claim_precise c w T y p k marks own m =
             let less : (scan_begun p k z.header).next < (scan_begun p k z.header).end =
             subst (λ (q : Scan). q.next < q.end) (sym e) lt in
             subst (λ (q : Scan). HasNoLeaf c (precision_scene_of w) q.page) e (rw (eqb-true z.page p parts.0) at
-            (none z refl some (scanned (has_no_pointers (header_of z.header)) refl less)))
+            (none z refl some (scanned _ refl less)))
 
 -- `mload`: a word of a marked cell that isn't leaf
 loaded_points : (c : Config) (w : World) (n : NeverState) (seat : Seat) (x : Step) (after : NeverState)
@@ -309,13 +309,13 @@ own_marker c w n k step.Attend after T s precise stand =
 own_marker c w n k step.Quit after T s precise stand =
     idle_is_precise c _ T _ (record { scan = refl; hand = refl; seen = refl })
 own_marker c w n k (step.Mlook x) after T s precise stand =
-    looks c w n T (marker_of w.now k) x (found c w.now (record { seat = Marker k; step = step.Mlook x })) s.before
+    looks c w n T _ x (found c w.now (record { seat = Marker k; step = step.Mlook x })) s.before
     (λ p e. rw e) (precise.markers k)
 own_marker c w n k (step.Claim p i) after T s precise stand =
-    claim_precise c w T (marker_of w.now k) p i _ (and_parts _ _ s.meets.marker).1 (precise.markers k)
+    claim_precise c w T _ p i _ (and_parts _ _ s.meets.marker).1 (precise.markers k)
 own_marker c w n k step.Mload after T s precise stand =
     let a = and_parts _ _ s.meets.marker in
-    load_precise c w n (Marker k) step.Mload after T (marker_of w.now k) s precise stand a.0 (precise.markers k)
+    load_precise c w n (Marker k) step.Mload after T _ s precise stand a.0 (precise.markers k)
 own_marker c w n k step.Mmark after T s precise stand =
     let m = precise.markers k in
     record { hand = λ v is. absurd (none-some _ is); scan = m.scan; seen = m.seen }
@@ -329,11 +329,11 @@ pub markers_behind : (c : Config) (w : World) (n : NeverState) (seat : Seat) (x 
     → ((j : ℕ) → MarkerStands c w.now (marker_of w.now j)) → (j : ℕ)
     → MarkerIsPrecise c (precision_scene_of (WorldBehind c w seat x)) T (marker_of (WorldBehind c w seat x).now j)
 markers_behind c w n (Caller k) x after T s precise stand j =
-    marker_kept c w n (Caller k) x after T (marker_of w.now j) s (stand j) (precise.markers j)
+    marker_kept c w n (Caller k) x after T _ s (stand j) (precise.markers j)
 markers_behind c w n Host x after T s precise stand j =
-    marker_kept c w n Host x after T (marker_of w.now j) s (stand j) (precise.markers j)
+    marker_kept c w n Host x after T _ s (stand j) (precise.markers j)
 markers_behind c w n (Marker k) x after T s precise stand j = marker_set w.now.seats.markers k j
     (marker_behind c (found c w.now (record { seat = Marker k; step = x })) x (marker_of w.now k))
     (λ (y : MarkerState). MarkerIsPrecise c (precision_scene_of (WorldBehind c w (Marker k) x)) T y)
     (λ lt. own_marker c w n k x after T s precise (stand k))
-    (marker_kept c w n (Marker k) x after T (marker_of w.now j) s (stand j) (precise.markers j))
+    (marker_kept c w n (Marker k) x after T _ s (stand j) (precise.markers j))

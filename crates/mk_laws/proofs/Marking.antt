@@ -3,8 +3,7 @@ use Rattle.mk_laws.proofs.Vocabulary.{AreEnabledFrom, Config, Event, IsHistory, 
 use Rattle.mk_laws.proofs.Vocabulary.{[], ap, append-nil, append_assoc, arith, before_close, earlier_part_is_history}
 use Rattle.mk_laws.proofs.Vocabulary.{enabled_in_parts, enabled_meets, eqb-true, false, first_world, flight_of, inl}
 use Rattle.mk_laws.proofs.Vocabulary.{is_begin, is_close, is_release, left, left_more, list_any, never_behind, or_from}
-use Rattle.mk_laws.proofs.Vocabulary.{or_parts, phase_of, refl, subst, sym, through, world_behind, ℕ, ◌++◌, ◌∙◌, ◌∷◌}
-use Rattle.mk_laws.proofs.Vocabulary.{◌≡◌}
+use Rattle.mk_laws.proofs.Vocabulary.{or_parts, refl, subst, sym, through, world_behind, ℕ, ◌++◌, ◌∙◌, ◌∷◌, ◌≡◌}
 use Rattle.mk_laws.proofs.Basics.{Meets, WorldBehind, begin_is, known_world}
 use Rattle.mk_core.specs.Cycles.{NoneSweepsFrom, sweeps}
 use Rattle.mk_core.specs.Touched.{IsTouched, LeadsToMoment, by_global, by_register, by_word}
@@ -30,7 +29,7 @@ unfolding AreEnabledFrom
 one_more c front e h =
     record {
       history = earlier_part_is_history c front (e ∷ []) h;
-      meets = enabled_meets c (left c front).now e ((enabled_in_parts c front (e ∷ [])).0 h.enabled).1.0;
+      meets = enabled_meets c _ e ((enabled_in_parts c front (e ∷ [])).0 h.enabled).1.0;
       left = left_more c (first_world c) front e;
     }
 
@@ -61,12 +60,12 @@ moment_behind c es k front e h here there other unswept at =
     let s : Steps c w (never_behind c front) e.seat e.step (never_behind c (front ++ e ∷ [])) (IsTouched c k) =
     record {
       before = told c front at.history;
-      behind = rw m.left at (told c (front ++ e ∷ []) h);
+      behind = rw m.left at (told c _ h);
       meets = m.meets;
       early = at.early;
       unswept = unswept;
       here = closed_at c es k front here;
-      there = rw m.left at (closed_at c es k (front ++ e ∷ []) there);
+      there = rw m.left at (closed_at c es k _ there);
     } in
     record {
       history = h;
@@ -103,18 +102,17 @@ along c es k done (e ∷ rest) is h none unswept at =
     let here : LeadsToMoment k front = record { done = done; to_come = e ∷ rest; of_the_cycle = is; is = refl } in
     let there : LeadsToMoment k (front ++ e ∷ []) =
     record { done = done ++ e ∷ []; to_come = rest; of_the_cycle = is ∙ split; is = longer } in
-    let parts = or_parts (is_close e.step) (list_any (λ (x : Event). is_close x.step) rest) none in
+    let parts = or_parts _ (list_any (λ (x : Event). is_close x.step) rest) none in
     let m = one_more c front e next in
     let behind = moment_behind c es k front e next here there parts.0 unswept.0 at in
     let left_is : world_behind c (left c front) e ≡ left c (first ++ (done ++ e ∷ [])) = sym m.left ∙ rw longer in
     let end = along c es k (done ++ e ∷ []) rest (is ∙ split) whole parts.1 (rw left_is at unswept.1)
     (rw longer at behind) in
-    let on = marking_goes_on c (left c front).now e.seat e.step at.early m.meets parts.0 in
+    let on = marking_goes_on c _ e.seat e.step at.early m.meets parts.0 in
     record {
       at = end.at;
-      begun = or_from (is_begin e.step) (list_any (λ (x : Event). is_begin x.step) rest) on.begun end.begun;
-      released = or_from (is_release e.step)
-          (list_any (λ (x : Event). is_release x.step) rest) on.released end.released;
+      begun = or_from _ (list_any (λ (x : Event). is_begin x.step) rest) on.begun end.begun;
+      released = or_from _ (list_any (λ (x : Event). is_release x.step) rest) on.released end.released;
     }
 
 -- after the `begin`
@@ -126,7 +124,7 @@ at_begin c es k h =
     let w : World = left c k.begin.before in
     let is = begin_is e.step k.begin.of_kind in
     let meets : Meets c w.now e.seat step.Begin = subst (λ (x : Step). Meets c w.now e.seat x) is m.meets in
-    let zero = eqb-true (phase_of w.now.words) 0 meets.phase in
+    let zero = eqb-true _ 0 meets.phase in
     let left_is : WorldBehind c w e.seat step.Begin ≡ left c (through k.begin) =
     ap (λ (x : Step). WorldBehind c w e.seat x) (sym is) ∙ sym m.left in
     record {

@@ -1,8 +1,8 @@
 -- Allocations whose claims change at most how far they are unmapped.
 use Rattle.mk_laws.proofs.Vocabulary.{Among, Bool, Claim, Config, Ground, HasHeader, HasLayout, List, Mode, Object}
-use Rattle.mk_laws.proofs.Vocabulary.{Option, PlacedAllocation, RunPages, RunStands, ap, claim_of, claims_of}
-use Rattle.mk_laws.proofs.Vocabulary.{claims_placed, false, header_on, inl, inr, layout_scene_of, map, object_placed}
-use Rattle.mk_laws.proofs.Vocabulary.{pages_made, placed_at, stands, sym, ℕ, ◌++◌, ◌+◌, ◌/◌, ◌<◌, ◌∙◌, ◌≡◌}
+use Rattle.mk_laws.proofs.Vocabulary.{Option, PlacedAllocation, RunPages, RunStands, ap, claim_of, claims_of, false}
+use Rattle.mk_laws.proofs.Vocabulary.{header_on, inl, inr, map, object_placed, pages_made, placed_at, stands, sym, ℕ}
+use Rattle.mk_laws.proofs.Vocabulary.{◌+◌, ◌/◌, ◌<◌, ◌∙◌, ◌≡◌}
 use Rattle.mk_laws.proofs.Claims.{LeavesCells, apart_behind, cells_behind, changed_among, claim_among, claim_is}
 use Rattle.mk_laws.proofs.Claims.{was_claim}
 use Rattle.mk_laws.proofs.Serving.{among_back, among_front, among_parts, apart_across, apart_joined, apart_left}
@@ -31,35 +31,25 @@ pub remoded : (c : Config) (o : Object) (releasing : Bool) (marks : List ℕ) (t
     → HasLayout c o releasing marks (record t { run = run; allocations = map g t.allocations })
 remoded c o releasing marks t run g st r stands =
     record {
-      scene = layout_changed (layout_scene_of c o releasing marks t)
-          (claims_of c run (map g t.allocations) ++ claims_placed o t.placing) st.scene (record {
-            from = λ y i. elim (among_parts (claims_of c run (map g t.allocations)) (claims_placed o t.placing) y i) [
-              | inl j ↦ let b = was y j in (b.0, own_claim c o t (record y { mode = b.0 }) b.1)
-              | inr j ↦ (y.mode, placed_claim c o t y j)
-            ];
-            to = λ x i. elim (among_parts (claims_of c t.run t.allocations) (claims_placed o t.placing) x i) [
-              | inl j ↦ let b = now x j
-                  in (
-                    b.0,
-                    among_front (claims_of c run (map g t.allocations)) (claims_placed o t.placing)
-                        (record x { mode = b.0 }) b.1,
-                  )
-              | inr j ↦ (x.mode, among_back (claims_of c run (map g t.allocations)) (claims_placed o t.placing) x j)
-            ];
-            apart = apart_joined (claims_of c run (map g t.allocations)) (claims_placed o t.placing)
-                (apart_behind c t.run run g t.allocations r.leaves
-                (apart_left (claims_of c t.run t.allocations) (claims_placed o t.placing) st.scene.apart))
-                (apart_right (claims_of c t.run t.allocations) (claims_placed o t.placing) st.scene.apart)
-                (λ x y ix iy same.
-                let b = was x ix in
-                apart_across (claims_of c t.run t.allocations) (claims_placed o t.placing) (record x { mode = b.0 }) y
-                st.scene.apart b.1 iy same);
-            headers = λ y i d lt. elim
-                (among_parts (claims_of c run (map g t.allocations)) (claims_placed o t.placing) y i) [
-                  | inl j ↦ headers y j d lt
-                  | inr j ↦ (st.scene.shown y (placed_claim c o t y j)).headers d lt
-                ];
-          });
+      scene = layout_changed _ _ st.scene (record {
+        from = λ y i. elim (among_parts _ _ y i) [
+          | inl j ↦ let b = was y j in (b.0, own_claim c o t (record y { mode = b.0 }) b.1)
+          | inr j ↦ (y.mode, placed_claim c o t y j)
+        ];
+        to = λ x i. elim (among_parts _ _ x i) [
+          | inl j ↦ let b = now x j
+              in (b.0, among_front _ _ (record x { mode = b.0 }) b.1)
+          | inr j ↦ (x.mode, among_back _ _ x j)
+        ];
+        apart = apart_joined _ _ (apart_behind c t.run run g t.allocations r.leaves (apart_left _ _ st.scene.apart))
+            (apart_right _ _ st.scene.apart) (λ x y ix iy same.
+            let b = was x ix in
+            apart_across _ _ (record x { mode = b.0 }) y st.scene.apart b.1 iy same);
+        headers = λ y i d lt. elim (among_parts _ _ y i) [
+          | inl j ↦ headers y j d lt
+          | inr j ↦ (st.scene.shown y (placed_claim c o t y j)).headers d lt
+        ];
+      });
       gone = stands;
       first = st.first;
       cells = cells_behind c g t.allocations r.leaves st.cells;

@@ -46,8 +46,7 @@ first_fits resident pages o place is large =
 in_fits : (c : Config) (pages : List Page) (o : Op) (placing : Placing) (place : Place) → length pages ≡ c.pages
     → ((y : Place) → held_place placing ≡ Some y → PlaceFits c o y)
     → place_by_placing c.resident pages (object_made c o) placing ≡ Some place → PlaceFits c o place
-in_fits c pages o Unplaced place count held is =
-    λ large. rw count at (first_fits c.resident pages (object_made c o) place is large)
+in_fits c pages o Unplaced place count held is = λ large. rw count at (first_fits c.resident pages _ place is large)
 in_fits c pages o Granted place count held is = cc
 in_fits c pages o _ place count held is = held place is
 
@@ -80,10 +79,10 @@ ground_place : (c : Config) (w : World) (f : Flight) (g : Ground) (x : Place) �
     → held_place g.placing ≡ Some x → (held_place w.now.seats.holding.placing ≡ Some x) ⊎ (place_now c w.now f ≡ Some x)
 ground_place c w f g x (Starts z idle) h = cc
 ground_place c w f g x (Gives own at) h = cc
-ground_place c w f g x (Carves p n own at) h = chosen_held w.now.seats.holding.placing (place_now c w.now f) x h
-ground_place c w f g x (Unmaps p n own at) h = chosen_held w.now.seats.holding.placing (place_now c w.now f) x h
-ground_place c w f g x (TakesCell p n once own at) h = taken_held w.now.seats.holding.placing (place_now c w.now f) x h
-ground_place c w f g x (Places p n own) h = chosen_held w.now.seats.holding.placing (place_now c w.now f) x h
+ground_place c w f g x (Carves p n own at) h = chosen_held w.now.seats.holding.placing _ x h
+ground_place c w f g x (Unmaps p n own at) h = chosen_held w.now.seats.holding.placing _ x h
+ground_place c w f g x (TakesCell p n once own at) h = taken_held w.now.seats.holding.placing _ x h
+ground_place c w f g x (Places p n own) h = chosen_held w.now.seats.holding.placing _ x h
 ground_place c w f g x (Grants new once) h = cc
 ground_place c w f g x _ h = inl h
 

@@ -73,7 +73,7 @@ at_reg _ o h = cc
 
 pub at_enter : (s : Stage) (o next : Op) → comes_next s o (step.Enter next) ≡ true
     → (s ≡ stage.Idle) × (is_under_turn next ≡ false)
-at_enter stage.Idle o next h = (refl, not-true (is_under_turn next) h)
+at_enter stage.Idle o next h = (refl, not-true _ h)
 at_enter stage.Turn o next h = let e = (deciding_kind o (step.Enter next) h).0 in cc
 at_enter _ o next h = cc
 

@@ -5,9 +5,9 @@ use Rattle.mk_laws.proofs.Vocabulary.{arith, cases_eq, cells_under, eqb-true, fa
 use Rattle.mk_laws.proofs.Vocabulary.{free_page, get_or-set_other, get_or-set_same, has_no_pointers, head_step}
 use Rattle.mk_laws.proofs.Vocabulary.{header_at, header_in, header_made, header_of, inl, inr, is_leaf_header, is_mapped}
 use Rattle.mk_laws.proofs.Vocabulary.{is_unmapped_header, large_count, length, ltb-true, made_is_mapped, object_made}
-use Rattle.mk_laws.proofs.Vocabulary.{object_placed, or_parts, pages_some, part_has_no_pointers, phase_of, placed_at}
-use Rattle.mk_laws.proofs.Vocabulary.{refl, shown, slice_index_or, slice_set, storage_of, subst, sym, true}
-use Rattle.mk_laws.proofs.Vocabulary.{unmapped_header, unmapped_is_unmapped, used_at, ℕ, ◌+◌, ◌-◌, ◌/◌, ◌∙◌, ◌≡◌, ◌≢◌}
+use Rattle.mk_laws.proofs.Vocabulary.{object_placed, or_parts, pages_some, part_has_no_pointers, placed_at, refl, shown}
+use Rattle.mk_laws.proofs.Vocabulary.{slice_index_or, slice_set, storage_of, subst, sym, true, unmapped_is_unmapped}
+use Rattle.mk_laws.proofs.Vocabulary.{used_at, ℕ, ◌+◌, ◌-◌, ◌/◌, ◌∙◌, ◌≡◌, ◌≢◌}
 use Rattle.mk_laws.proofs.Basics.{Came, IsNew, Meets, Stayed, WorldBehind, headers_kind, is_head}
 use Rattle.mk_core.specs.declared.events.Step.TheVariants as step
 use Rattle.mk_core.proofs.ChangedAllocations.{granted_at}
@@ -52,7 +52,7 @@ unmapped_no_leaf _ h = cc
 stored_no_leaf : (c : Config) (w : World) (n : NeverState) (seat : Seat) (p v : ℕ) → Told c w n
     → IsMarking w.now.words → Meets c w.now seat (step.Head p v)
     → cells_under (header_in w.now.words p) ≢ 0 → is_leaf_header (header_of v) ≡ false
-stored_no_leaf c w n seat p v t early h cells = by (head_step c w.now (flight_of w.now seat) p v h.holder)
+stored_no_leaf c w n seat p v t early h cells = by (head_step c w.now _ p v h.holder)
   where
     o : Object
     o = object_made c (flight_of w.now seat).op
@@ -62,7 +62,7 @@ stored_no_leaf c w n seat p v t early h cells = by (head_step c w.now (flight_of
         let from = k.next.from in
         let here : k.place.page + (p - k.place.page) ≡ p = omega arith in
         let place = (told_to_guard c w n t.known t.all).place early seat k.place k.there in
-        elim (place.headers (p - k.place.page) k.next.near) [
+        elim (place.headers _ k.next.near) [
           | inl free ↦
               absurd (cells (ap (λ y. cells_under (header_of y)) (ap (λ q. header_at w.now.words q) (sym here) ∙ free)))
           | inr made ↦ absurd (k.next.not_yet (ap (λ q. header_at w.now.words q) (sym here) ∙ made))
@@ -73,11 +73,10 @@ stored_no_leaf c w n seat p v t early h cells = by (head_step c w.now (flight_of
         let low = range.0 in
         let high = range.1 in
         let count = r.count in
-        ap (λ y. is_leaf_header (header_of y)) u.next.is
-        ∙ unmapped_no_leaf (header_of (unmapped_header u.run.count (p - u.run.page)))
+        ap (λ y. is_leaf_header (header_of y)) u.next.is ∙ unmapped_no_leaf _
         (unmapped_is_unmapped u.run.count (p - u.run.page) (omega arith, omega arith) u.next.near)
     by (ItEmpties four k) =
-        let z = eqb-true (phase_of w.now.words) 4 four in
+        let z = eqb-true _ 4 four in
         elim early [ inl e ↦ absurd (omega arith) | inr e ↦ absurd (omega arith) ]
 
 module _ (c : Config) (w : World) (n : NeverState) (seat : Seat) (x : Step) (after : NeverState) (T : ℕ → Type 0)

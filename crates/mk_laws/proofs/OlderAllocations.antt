@@ -21,8 +21,7 @@ older_joined xs ys zs a b =
     record {
       was = λ j u. a.was j (b.was j u);
       there = λ i lt. b.there i (a.there i lt);
-      same = λ i lt. of_one_joined (placed_at xs i) (placed_at ys i) (placed_at zs i) (a.same i lt)
-          (b.same i (a.there i lt));
+      same = λ i lt. of_one_joined _ _ _ (a.same i lt) (b.same i (a.there i lt));
     }
 
 goes_on_behind : (c : Config) (w : World) (seat : Seat) (x : Step) (i : ℕ) → i < length w.allocations

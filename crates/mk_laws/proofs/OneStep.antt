@@ -9,7 +9,7 @@ use Rattle.mk_laws.proofs.Vocabulary.{header_in, if◌then◌else◌, image_of, 
 use Rattle.mk_laws.proofs.Vocabulary.{is_number_of, is_put, is_unmarked, ltb-true, marker_of, nat_lt, no_bit, none-some}
 use Rattle.mk_laws.proofs.Vocabulary.{nothing_done, or_cases, or_else, placed_at, pointed_cell, refl, register_word}
 use Rattle.mk_laws.proofs.Vocabulary.{same_Some, slice_index, slice_index_or, subst, sym, true, true≢false, word_points}
-use Rattle.mk_laws.proofs.Vocabulary.{ℕ, ◌%◌, ◌&&◌, ◌*◌, ◌+◌, ◌/◌, ◌==◌, ◌∙◌, ◌≡◌, ◌≢◌, ◌≤◌, ◌⊎◌}
+use Rattle.mk_laws.proofs.Vocabulary.{ℕ, ◌%◌, ◌&&◌, ◌*◌, ◌+◌, ◌/◌, ◌∙◌, ◌≡◌, ◌≢◌, ◌≤◌, ◌⊎◌}
 use Rattle.mk_laws.proofs.Basics.{Behind, KnownWorld, Meets, WorldBehind, view_of}
 use Rattle.mk_core.specs.Effects.{hand_given, hand_of_cell, is_in_stop, is_mapped_cell}
 use Rattle.mk_core.specs.declared.events.Step.TheVariants as step
@@ -41,7 +41,7 @@ take_drops m false = inl refl
 pub hand_kept : (c : Config) (m : Moment) (seat : Seat) (x : Step) → is_look x ≡ false
     → ((Behind c m seat x).seats.holding.hand ≡ m.seats.holding.hand) ⊎ ((Behind c m seat x).seats.holding.hand ≡ None)
 hand_kept c m seat (step.Look y) out = cc
-hand_kept c m seat (step.Take o) out = take_drops m (m.words.turn == 0)
+hand_kept c m seat (step.Take o) out = take_drops m _
 hand_kept c m seat step.Give out = inr refl
 hand_kept c m seat step.Begin out = inr refl
 hand_kept c m seat _ out = inl refl
@@ -58,10 +58,10 @@ idle_owes_none s is = ap is_put is
 module _ (c : Config) (w : World) (n : NeverState) (t : Told c w n) where
   looked_owes_none : (seat : Seat) (j r : ℕ) → Meets c w.now seat (step.Look (word.Reg j r))
       → is_put (flight_of w.now (Caller j)).stage ≡ false
-  looked_owes_none seat j r h = elim (or_cases (is_number_of seat j) _ h.gates) [
+  looked_owes_none seat j r h = elim (or_cases _ _ h.gates) [
     | inl own ↦ by seat own h
     | inr gate ↦
-        let lt = ltb-true j c.callers (and_parts (nat_lt j c.callers) (nat_lt r 8) h.range).0 in
+        let lt = ltb-true j c.callers (and_parts _ (nat_lt r 8) h.range).0 in
         idle_owes_none _ (held_idle c (view_of w.now) j t.known.now.orderly lt (eqb-true _ 2 gate))
   ]
     where
@@ -189,7 +189,7 @@ markers_stand : (c : Config) (w : World) (n : NeverState) (seat : Seat) (x : Ste
     (T : ℕ → Type 0) → Steps c w n seat x after T → (j : ℕ) → MarkerStands c w.now (marker_of w.now j)
 markers_stand c w n seat x after T s j = elim (cases_Bool (is_attending (marker_of w.now j).presence)) [
   | inl at ↦ (s.before.all.marks.guarded s.early).markers j at
-  | inr out ↦ idle_stands c w.now (marker_of w.now j) (s.before.known.now.orderly.idle j out)
+  | inr out ↦ idle_stands c w.now _ (s.before.known.now.orderly.idle j out)
 ]
 
 pub precise_behind : (c : Config) (w : World) (n : NeverState) (seat : Seat) (x : Step) (after : NeverState)
@@ -227,7 +227,7 @@ precise_begun c w seat T known h =
 
     quiet : (j : ℕ) (s : PrecisionScene) → MarkerIsPrecise c s T (marker_of w.now j)
     quiet j s = elim (cases_Bool (is_attending (marker_of w.now j).presence)) [
-      | inr out ↦ idle_is_precise c s T (marker_of w.now j) (known.now.orderly.idle j out)
+      | inr out ↦ idle_is_precise c s T _ (known.now.orderly.idle j out)
       | inl at ↦
           let z = eqb-true _ 0 h.phase in
           elim (known.now.orderly.attends j at) [ inl e ↦ absurd (omega arith) | inr e ↦ absurd (omega arith) ]

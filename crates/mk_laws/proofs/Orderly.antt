@@ -129,8 +129,7 @@ length_with fs _ f = refl
 -- a caller's gate and flight are set
 pub all_but_both : (n t k x : ℕ) (gs : List ℕ) (fs : List Flight) (f : Flight) → k < length gs → k < length fs
     → Shows t x k (standing f) → AllShow n t gs fs → AllShow n t (slice_set gs k x) (slice_set fs k f)
-all_but_both n t k x gs fs f lg lf mine all =
-    all_but_flight n t k (slice_set gs k x) fs f lf (rw (get_or-set_same gs k x 0 lg) mine)
+all_but_both n t k x gs fs f lg lf mine all = all_but_flight n t k _ fs f lf (rw (get_or-set_same gs k x 0 lg) mine)
     (λ b lb ne. rw (get_or-set_other gs k b x 0 (λ e. ne (sym e))) (all b lb))
 
 pub record Orderly (c : Config) (v : View) : Type 0 where

@@ -6,7 +6,7 @@ use Rattle.mk_laws.proofs.Vocabulary.{cases_lt, false, first_moment, flight_of, 
 use Rattle.mk_laws.proofs.Vocabulary.{outside, refl, slice_index_or, subst, sym, true, ℕ, ◌<◌, ◌∙◌, ◌≡◌, ◌≤◌}
 use Rattle.mk_laws.proofs.Standings.{Resting, standing, is_astray, Shows, shown_not_astray}
 use Rattle.mk_laws.proofs.Services.{nothing_served}
-use Rattle.mk_laws.proofs.Views.{view_of, gate_in}
+use Rattle.mk_laws.proofs.Views.{view_of}
 use Rattle.mk_laws.proofs.ProtocolMoves.{Move}
 use Rattle.mk_laws.proofs.Orderly.{Orderly}
 use Rattle.mk_laws.proofs.ProtocolKept.{kept}
@@ -18,8 +18,7 @@ use Rattle.mk_laws.proofs.Sorts.{moves}
 
 pub not_astray : (c : Config) (m : Moment) → Orderly c (view_of m) → (k : ℕ) → k < c.callers
     → is_astray (standing (flight_of m (Caller k))) ≡ false
-not_astray c m h k lt = shown_not_astray m.words.turn (gate_in (view_of m) k) k (standing (flight_of m (Caller k)))
-    (h.each k lt)
+not_astray c m h k lt = shown_not_astray m.words.turn _ k _ (h.each k lt)
 
 pub actor_of : (c : Config) (m : Moment) (seat : Seat) (x : Step) → Orderly c (view_of m) → Meets c m seat x
     → Actor c m seat x
@@ -33,8 +32,7 @@ event_moves c m seat x o h = moves c m seat x (not_astray c m o) (actor_of c m s
 
 pub orderly_behind : (c : Config) (m : Moment) (seat : Seat) (x : Step) → c.callers ≤ 16 → Orderly c (view_of m)
     → Meets c m seat x → Orderly c (view_of (Behind c m seat x))
-orderly_behind c m seat x small o h =
-    kept c (view_of m) seat (view_of (Behind c m seat x)) small o (event_moves c m seat x o h)
+orderly_behind c m seat x small o h = kept c (view_of m) seat _ small o (event_moves c m seat x o h)
 
 pub at_first : {A : Type 0} (n k : ℕ) (x : A) → slice_index_or (replicate n x) k x ≡ x
 at_first n k x = elim (cases_lt k n) [

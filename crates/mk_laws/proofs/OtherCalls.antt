@@ -25,16 +25,14 @@ calls_not_by : (c : Config) (w : World) (es : List Event) (k : ℕ) → AreOfOth
 unfolding calls_from AreOfOthers
 calls_not_by c w [] k others = tt
 calls_not_by c w (e ∷ es) k others = subst (λ (xs : List Call). AreNotBy k xs)
-    (sym (map-append (λ (x : Decided). record { caller = x.caller; op = x.op }) (call_decided c w.now e)
-    (calls_from c (world_behind c w e) es)))
-    (both_not_by k (asked (call_decided c w.now e)) (asked (calls_from c (world_behind c w e) es))
+    (sym (map-append (λ (x : Decided). record { caller = x.caller; op = x.op }) _ _)) (both_not_by k _ _
     (call_not_by c w e.seat e.step k (other_seat (Caller k) e.seat others.0))
     (calls_not_by c (world_behind c w e) es k others.1))
 
 -- many
 pub registers_are_left : (c : Config) (es more : List Event) (k : ℕ) → IsHistory c (es ++ more)
     → AreOfOthers (Caller k ∷ []) more → KeepsRegisters k (never_behind c es) (never_behind c (es ++ more))
-registers_are_left c es more k h others = rw (never_in_parts c es more) (admitted_keep c.globals (never_behind c es) k _
+registers_are_left c es more k h others = rw (never_in_parts c es more) (admitted_keep c.globals _ k _
     ((admitted_in_parts c es more).0 h.admitted).1 (calls_not_by c (left c es) more k others))
 
 -- What was granted stays, whoever calls.

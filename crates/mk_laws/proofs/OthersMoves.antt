@@ -86,10 +86,8 @@ entered w k o b = with_words_seats w (record w.now.words
 
 enter_out : (c : Config) (w : World) (k : ℕ) (o : Op) → k < c.callers → Outs c w (Caller k) (step.Enter o)
 enter_out c w k o lt = elim (cases_eq (slice_index w.now.words.gates k) 0) [
-  | inl z ↦
-      rw (eq-eqb (slice_index w.now.words.gates k) 0 z) (Calls (begun o) lt (omega arith) (SetsGate 1 (omega arith)))
-  | inr ne ↦
-      rw (ne_eqb (slice_index w.now.words.gates k) 0 ne) (rw (set-get_or w.now.words.gates k 0) (waits_flight c w k))
+  | inl z ↦ rw (eq-eqb _ 0 z) (Calls (begun o) lt (omega arith) (SetsGate 1 (omega arith)))
+  | inr ne ↦ rw (ne_eqb _ 0 ne) (rw (set-get_or w.now.words.gates k 0) (waits_flight c w k))
 ]
 
 -- the turn is held, so nobody takes it
@@ -122,7 +120,7 @@ reg_in_call c m k known lt is free = let g =
     gate_one c m k known lt (by (standing (flight_of m (Caller k))) refl) in omega arith
   where
     by : (s : Standing) → standing (flight_of m (Caller k)) ≡ s → standing (flight_of m (Caller k)) ≡ InCall
-    by Resting e = absurd (regs_work (flight_of m (Caller k)).stage (flight_of m (Caller k)).op is e)
+    by Resting e = absurd (regs_work _ _ is e)
     by InCall e = e
     by UnderTurn e = absurd (free (lt, e))
     by Astray e = let y : true ≡ false = ap is_astray (sym e) ∙ not_astray c m known.orderly k lt in cc

@@ -71,14 +71,14 @@ cycle_step c w seat (step.Tally n v) h =
     let same = (tally_keeps w.now.words n v).phase in
     Stays (record { close = refl; release = refl; end = refl }) refl (ap (λ m. m % 8) same)
 cycle_step c w seat step.Begin h =
-    let e = eqb-true (w.now.words.phase % 8) 0 h.phase in Begins refl refl (omega arith)
+    let e = eqb-true _ 0 h.phase in Begins refl refl (omega arith)
 cycle_step c w seat step.Want h =
-    let e = eqb-true (w.now.words.phase % 8) 1 h.phase in Wants refl e refl (omega arith)
+    let e = eqb-true _ 1 h.phase in Wants refl e refl (omega arith)
 cycle_step c w seat step.Close h =
-    let e = eqb-true (w.now.words.phase % 8) 2 h.phase in Closes refl e refl (omega arith)
+    let e = eqb-true _ 2 h.phase in Closes refl e refl (omega arith)
 cycle_step c w seat step.Release h =
-    let e = eqb-true (w.now.words.phase % 8) 3 h.phase in Frees refl e refl (omega arith)
-cycle_step c w seat step.End h = Ends refl (eqb-true (w.now.words.phase % 8) 4 h.phase) refl
+    let e = eqb-true _ 3 h.phase in Frees refl e refl (omega arith)
+cycle_step c w seat step.End h = Ends refl (eqb-true _ 4 h.phase) refl
 cycle_step c w seat step.Attend h = Stays (record { close = refl; release = refl; end = refl }) refl (omega arith)
 cycle_step c w seat step.Quit h = Stays (record { close = refl; release = refl; end = refl }) refl (omega arith)
 cycle_step c w seat step.Over h = Overs (over_phase c w seat h) refl
@@ -151,5 +151,5 @@ module _ (es : List Event) (e : Event) (phase now : ℕ) where
   cycle_more cycle next (Wants off one to two) has = at next cycle to (kept cycle (wants off one two) has)
   cycle_more cycle next (Closes is two to three) has = at next cycle to (kept cycle (closes is two three) has)
   cycle_more cycle next (Frees is three to four) has = at next cycle to (kept cycle (frees is three four) has)
-  cycle_more cycle next (Ends is four to) has = at next (cycle_ended cycle) to (ended cycle (ends is four) has)
+  cycle_more cycle next (Ends is four to) has = at next _ to (ended cycle (ends is four) has)
   cycle_more cycle next (Overs zero to) has = at next cycle to (kept cycle (λ way. absurd (none_over zero way)) has)

@@ -28,18 +28,15 @@ not_at n p (inr e) at (inr le) = absurd (omega arith)
 -- While it marks, what isn't a `close` leaves it marking.
 pub marking_goes_on : (c : Config) (m : Moment) (seat : Seat) (x : Step) → IsMarking m.words → Meets c m seat x
     → is_close x ≡ false → GoesOnMarking c m seat x
-marking_goes_on c m seat step.Begin early h other =
-    absurd (not_at (phase_of m.words) 0 early (eqb-true (phase_of m.words) 0 h.phase) (inl refl))
+marking_goes_on c m seat step.Begin early h other = absurd (not_at _ 0 early (eqb-true _ 0 h.phase) (inl refl))
 marking_goes_on c m seat step.Want early h other =
-    let one = eqb-true (phase_of m.words) 1 h.phase in
+    let one = eqb-true _ 1 h.phase in
     record { early = inr (omega arith); begun = refl; released = refl }
 marking_goes_on c m seat step.Close early h other = cc
 marking_goes_on c m seat step.Release early h other =
-    absurd (not_at (phase_of m.words) 3 early (eqb-true (phase_of m.words) 3 h.phase) (inr (omega arith)))
-marking_goes_on c m seat step.End early h other =
-    absurd (not_at (phase_of m.words) 4 early (eqb-true (phase_of m.words) 4 h.phase) (inr (omega arith)))
-marking_goes_on c m seat step.Over early h other =
-    absurd (not_at (phase_of m.words) 0 early (over_phase c m seat h) (inl refl))
+    absurd (not_at _ 3 early (eqb-true _ 3 h.phase) (inr (omega arith)))
+marking_goes_on c m seat step.End early h other = absurd (not_at _ 4 early (eqb-true _ 4 h.phase) (inr (omega arith)))
+marking_goes_on c m seat step.Over early h other = absurd (not_at _ 0 early (over_phase c m seat h) (inl refl))
 marking_goes_on c m seat x early h other = rest x refl
   where
     rest : (x : Step) → is_phase_step x ≡ false → GoesOnMarking c m seat x
@@ -59,13 +56,11 @@ pub record Waits (c : Config) (m : Moment) (seat : Seat) (x : Step) (p : ℕ) : 
 
 waits : (c : Config) (m : Moment) (seat : Seat) (x : Step) (p : ℕ) → 3 ≤ p → phase_of m.words ≡ p → Meets c m seat x
     → (p ≡ 3 → is_release x ≡ false) → (p ≡ 4 → is_end x ≡ false) → Waits c m seat x p
-waits c m seat step.Begin p late at h out past = let z = eqb-true (phase_of m.words) 0 h.phase in absurd (omega arith)
-waits c m seat step.Want p late at h out past = let z = eqb-true (phase_of m.words) 1 h.phase in absurd (omega arith)
-waits c m seat step.Close p late at h out past = let z = eqb-true (phase_of m.words) 2 h.phase in absurd (omega arith)
-waits c m seat step.Release p late at h out past =
-    absurd (true≢false (out (sym at ∙ eqb-true (phase_of m.words) 3 h.phase)))
-waits c m seat step.End p late at h out past =
-    absurd (true≢false (past (sym at ∙ eqb-true (phase_of m.words) 4 h.phase)))
+waits c m seat step.Begin p late at h out past = let z = eqb-true _ 0 h.phase in absurd (omega arith)
+waits c m seat step.Want p late at h out past = let z = eqb-true _ 1 h.phase in absurd (omega arith)
+waits c m seat step.Close p late at h out past = let z = eqb-true _ 2 h.phase in absurd (omega arith)
+waits c m seat step.Release p late at h out past = absurd (true≢false (out (sym at ∙ eqb-true _ 3 h.phase)))
+waits c m seat step.End p late at h out past = absurd (true≢false (past (sym at ∙ eqb-true _ 4 h.phase)))
 waits c m seat step.Over p late at h out past = let z = over_phase c m seat h in absurd (omega arith)
 waits c m seat step.Grant p late at h out past =
     elim (either_phase (phase_of m.words) 0 1 h.phase) [ inl e ↦ absurd (omega arith) | inr e ↦ absurd (omega arith) ]

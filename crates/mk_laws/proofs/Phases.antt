@@ -1,7 +1,6 @@
 -- The phase that a condition names, and the phase after a step.
-use Rattle.mk_laws.proofs.Vocabulary.{Bool, Config, Moment, Seat, Step, and_parts, ap, arith, eqb-true, false}
-use Rattle.mk_laws.proofs.Vocabulary.{host_has_turn, inl, inr, is_phase, or_cases, phase_of, true, ℕ, ◌%◌, ◌==◌, ◌||◌}
-use Rattle.mk_laws.proofs.Vocabulary.{◌≡◌, ◌⊎◌}
+use Rattle.mk_laws.proofs.Vocabulary.{Bool, Config, Moment, Seat, Step, and_parts, ap, arith, eqb-true, false, inl, inr}
+use Rattle.mk_laws.proofs.Vocabulary.{or_cases, phase_of, true, ℕ, ◌%◌, ◌==◌, ◌||◌, ◌≡◌, ◌⊎◌}
 use Rattle.mk_core.specs.declared.events.Step.TheVariants as step
 use Rattle.mk_laws.proofs.Actors.{Meets}
 use Rattle.mk_laws.proofs.SameWords.{Behind}
@@ -33,4 +32,4 @@ phase_stays c m seat step.Quit no_change = omega arith
 phase_stays c m seat _ no_change = cc
 
 pub over_phase : (c : Config) (m : Moment) (seat : Seat) → Meets c m seat step.Over → phase_of m.words ≡ 0
-over_phase c m seat h = eqb-true (phase_of m.words) 0 (and_parts (host_has_turn c m) (is_phase m.words 0) h.holder).1
+over_phase c m seat h = eqb-true _ 0 (and_parts _ _ h.holder).1

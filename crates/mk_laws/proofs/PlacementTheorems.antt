@@ -81,8 +81,8 @@ full_there c es k h lt new meets =
     let y : Holding = w.now.seats.holding in
     let parts = full_is c.resident w.now.words.pages o y.placing y.cycle meets.holder in
     let t = news_are_tracked c es h k lt new in
-    let zero = eqb-true (phase_of w.now.words) 0 meets.phase in
-    let off : is_phase w.now.words 4 ≡ false = ne_eqb (phase_of w.now.words) 4 (λ four. omega arith) in
+    let zero = eqb-true _ 0 meets.phase in
+    let off : is_phase w.now.words 4 ≡ false = ne_eqb _ 4 (λ four. omega arith) in
     let same = first_fit_finds_the_place c es h o (unplaced_settles c es k h lt new off parts.0) in
     record {
       turn = t.turn;

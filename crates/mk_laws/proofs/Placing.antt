@@ -193,13 +193,12 @@ module _ (s : LayoutScene) (x : Claim) (n : ℕ) (laid : IsLaidOn s) (t : Takes 
   len = length-set s.pages x.page (record { header = header_on s.pages x.page; used = n })
 
   here_set : has_bit (used_on after x.page) x.index ≡ true
-  here_set = rw (used_here s.pages x.page n lt ∙ t.value) (added_here (used_on s.pages x.page) x.index t.unset)
+  here_set = rw (used_here s.pages x.page n lt ∙ t.value) (added_here _ x.index t.unset)
 
   same_bit : (q k : ℕ) → (q ≡ x.page → k ≢ x.index) → has_bit (used_on after q) k ≡ has_bit (used_on s.pages q) k
   same_bit q k other = elim (cases_eq q x.page) [
     | inr ne ↦ rw (used_other s.pages x.page n q ne)
-    | inl e ↦ rw e (rw (used_here s.pages x.page n lt ∙ t.value)
-        (added_other (used_on s.pages x.page) x.index k t.unset (other e) ∙ rw (← e)))
+    | inl e ↦ rw e (rw (used_here s.pages x.page n lt ∙ t.value) (added_other _ x.index k t.unset (other e) ∙ rw (← e)))
   ]
 
   grow : (q k : ℕ) → has_bit (used_on s.pages q) k ≡ true → has_bit (used_on after q) k ≡ true
@@ -229,8 +228,7 @@ module _ (s : LayoutScene) (x : Claim) (n : ℕ) (laid : IsLaidOn s) (t : Takes 
   cells_here =
       let zero : x.page + 0 ≡ x.page = omega arith in
       let o = some_pages in
-      rw (← zero) (rw (t.headers 0 (omega arith))
-      (part_cells x.object (header_of (header_made x.object 0)) (made_shows x.object 0 t.sized (omega arith))))
+      rw (← zero) (rw (t.headers 0 (omega arith)) (part_cells x.object _ (made_shows x.object 0 t.sized (omega arith))))
 
   used : (p k : ℕ) → has_bit (used_on after p) k ≡ true → IsTakenCell (Taken s x n) p k
   used p k h = elim (both (cases_eq p x.page) (cases_eq k x.index)) [
@@ -263,8 +261,7 @@ module _ (s : LayoutScene) (x : Claim) (n : ℕ) (laid : IsLaidOn s) (t : Takes 
   unused : (q : ℕ) → used_on after (head_on after q) ≡ 0 → used_on s.pages (head_on s.pages q) ≡ 0
   unused q empty =
       let head : head_on after q ≡ head_on s.pages q = rw (used_header s.pages x.page n q lt) in
-      zero_where_none (used_on s.pages (head_on s.pages q)) (λ k h. none_set (used_on after (head_on s.pages q)) k
-      (rw (← head) empty) (grow (head_on s.pages q) k h))
+      zero_where_none _ (λ k h. none_set _ k (rw (← head) empty) (grow _ k h))
 
   -- a page of the place has its head's bit now
   full : (q : ℕ) → InPlot (Plotted x.page x.object) q → used_on after (head_on after q) ≡ 0 → ⊥
@@ -273,7 +270,7 @@ module _ (s : LayoutScene) (x : Claim) (n : ℕ) (laid : IsLaidOn s) (t : Takes 
       let high = here.1 in
       let at : x.page + (q - x.page) ≡ q = omega arith in
       let head : head_on after q ≡ x.page = rw (← at) (claimed_head after x (q - x.page) own (omega arith)) in
-      none_set (used_on after x.page) x.index (ap (λ i. used_on after i) (sym head) ∙ empty) here_set
+      none_set _ x.index (ap (λ i. used_on after i) (sym head) ∙ empty) here_set
 
   pub layout_taken : IsLaidOn (Taken s x n)
   layout_taken =

@@ -41,10 +41,8 @@ none_to_serve c m f x out = by x
         (object_made c f.op) m.seats.holding.placing else None) out
 
     by : (x : Step) → serves c m f x ≡ false
-    by (step.Head p n) = ap (λ (x : Option Place). not (is_phase m.words 4) && carves_at c m f p n x) none
-        ∙ and-false (not (is_phase m.words 4))
-    by (step.Used p n) = ap (λ (x : Option Place). not (is_phase m.words 4) && takes_at c m f p n x) none
-        ∙ and-false (not (is_phase m.words 4))
+    by (step.Head p n) = ap (λ (x : Option Place). not (is_phase m.words 4) && carves_at c m f p n x) none ∙ and-false _
+    by (step.Used p n) = ap (λ (x : Option Place). not (is_phase m.words 4) && takes_at c m f p n x) none ∙ and-false _
     by (step.Mark p n) = ap (λ (x : Option Place). marks_at c m f p n x) none
     by _ = refl
 
@@ -95,14 +93,13 @@ head_places : (c : Config) (m : Moment) (f : Flight) (p n : ℕ) (b other : Bool
     → Placed c m f (step.Head p n)
     (if b then m.seats.holding.placing else chosen m.seats.holding.placing (place_now c m f))
 head_places c m f p n true other at none h = Stays (ap (λ b. not b && carves_at c m f p n (place_now c m f)) at) refl
-head_places c m f p n false other at none h =
-    elim (or_cases (carves_at c m f p n (place_now c m f)) (unmaps m.words m.seats.holding.freed p n) h) [
-      | inl is ↦
-          let x = carves_is m.words (object_made c f.op) (place_now c m f) p n is in
-          let serving = ap (λ b. not b && carves_at c m f p n (place_now c m f)) at ∙ is in
-          fixes c m f (step.Head p n) x.place chosen serving at x.there (chosen_holds x.place)
-      | inr is ↦ absurd (true≢false (sym is ∙ ap (λ (run : Option RunPages). unmaps m.words run p n) none))
-    ]
+head_places c m f p n false other at none h = elim (or_cases _ _ h) [
+  | inl is ↦
+      let x = carves_is m.words _ _ p n is in
+      let serving = ap (λ b. not b && carves_at c m f p n (place_now c m f)) at ∙ is in
+      fixes c m f (step.Head p n) x.place chosen serving at x.there (chosen_holds x.place)
+  | inr is ↦ absurd (true≢false (sym is ∙ ap (λ (run : Option RunPages). unmaps m.words run p n) none))
+]
 
 used_places : (c : Config) (m : Moment) (f : Flight) (p n : ℕ) (b other : Bool) → is_phase m.words 4 ≡ b
     → (if b then other else not (is_used_once m.seats.holding.placing) && takes_at c m f p n (place_now c m f)) ≡ true
@@ -110,8 +107,8 @@ used_places : (c : Config) (m : Moment) (f : Flight) (p n : ℕ) (b other : Bool
     (if b then m.seats.holding.placing else taken m.seats.holding.placing (place_now c m f))
 used_places c m f p n true other at h = Stays (ap (λ b. not b && takes_at c m f p n (place_now c m f)) at) refl
 used_places c m f p n false other at h =
-    let is = (and_parts (not (is_used_once m.seats.holding.placing)) (takes_at c m f p n (place_now c m f)) h).1 in
-    let x = takes_is m.words (object_made c f.op) (place_now c m f) p n is in
+    let is = (and_parts _ _ h).1 in
+    let x = takes_is m.words _ _ p n is in
     let serving = ap (λ b. not b && takes_at c m f p n (place_now c m f)) at ∙ is in
     fixes c m f (step.Used p n) x.place taken serving at x.there (taken_holds x.place)
 

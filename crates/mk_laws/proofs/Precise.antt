@@ -6,7 +6,6 @@ use Rattle.mk_laws.proofs.Vocabulary.{has_no_pointers, header_of, image_of, is_l
 use Rattle.mk_laws.proofs.Vocabulary.{marker_of, placed_at, shows_on, slice_index, slice_index_or, storage_of}
 use Rattle.mk_laws.proofs.Vocabulary.{storage_words, true, ℕ, ◌+◌, ◌/◌, ◌<◌, ◌≡◌, ◌≢◌, ◌≤◌}
 use Rattle.mk_laws.proofs.Basics.{Came, Meets, WorldBehind}
-use Rattle.mk_geom.specs.Addresses.{heap_word_at}
 use Rattle.mk_core.specs.Cycles.{sweeps}
 use Rattle.mk_core.specs.Touched.{IsWordOfAllocation}
 use Rattle.mk_laws.proofs.AllocationSteps.{AreOfOne, allocation_step, came}
@@ -82,7 +81,7 @@ same_word c a b x e word =
 
 pub points_before : (c : Config) (a b : PlacedAllocation) (v : ℕ) → AreOfOne a b → PointsInto v (storage_of c b)
     → PointsInto v (storage_of c a)
-points_before c a b v e into = (into.0, same_word c a b (heap_word_at v) e into.1)
+points_before c a b v e into = (into.0, same_word c a b _ e into.1)
 
 -- An unreleased allocation after a step came with it, or was there before.
 pub came_behind : (c : Config) (w : World) (seat : Seat) (x : Step) (i : ℕ)

@@ -90,8 +90,7 @@ releasing_goes_on c start more e h other at =
     record {
       phase = subst (λ (v : World). phase_of v.now.words ≡ 4) left_is waits.phase;
       older = subst (λ (v : World). AreOlder (left c start).allocations v.allocations) left_is
-          (older_joined (left c start).allocations w.allocations (WorldBehind c w e.seat e.step).allocations at.older
-          (older_behind c w e.seat e.step waits.granted));
+          (older_joined _ w.allocations _ at.older (older_behind c w e.seat e.step waits.granted));
     }
 
 -- what the `release`, and what comes up to the `end`, leave of the allocations before
@@ -122,7 +121,7 @@ released c es k h at =
     record {
       phase = subst (λ (xs : List Event). phase_of (left c xs).now.words ≡ 4) (sym (append-nil start)) four;
       older = subst (λ (xs : List Event). AreOlder (left c start).allocations (left c xs).allocations)
-          (sym (append-nil start)) (older_same (left c start).allocations);
+          (sym (append-nil start)) (older_same _);
     } in
     let along : WhileReleasing c start more =
     along_without c is_end (λ (xs : List Event). WhileReleasing c start xs) start [] more
@@ -132,7 +131,7 @@ released c es k h at =
     record {
       release = subst (λ (y : World). AreOlder w.allocations y.allocations) left_is
           (older_behind c w e.seat step.Release refl);
-      end = older_joined (left c start).allocations v.allocations (left c (through_end k)).allocations
+      end = older_joined _ v.allocations _
           (subst (λ (xs : List Event). AreOlder (left c start).allocations (left c xs).allocations) same along.older)
           (subst (λ (y : World). AreOlder v.allocations y.allocations) (sym last.left)
           (older_behind c v k.end.at.event.seat k.end.at.event.step
@@ -146,8 +145,8 @@ kept_to_release : (c : Config) (es : List Event) (k : Releasing es) (i : ℕ) �
 kept_to_release c es k i h at u =
     let b = last_begin k in
     let e : Event = k.release.at.event in
-    let releasing = history_through c es (before_release k) k.release.at.behind e h (at_release k) in
-    let whole = earlier_part_is_history c (before_release k) (e ∷ []) releasing in
+    let releasing = history_through c es _ k.release.at.behind e h (at_release k) in
+    let whole = earlier_part_is_history c _ (e ∷ []) releasing in
     rw b.is (kept_along c b.before (b.event ∷ b.behind) i (rw b.is at whole)
     (or_from _ (list_any (λ (x : Event). is_release x.step) b.behind)
     (ap is_release (begin_is b.event.step b.of_kind)) at.released) (record { there = is_there _ i u; unreleased = u }))

@@ -68,7 +68,7 @@ stop_goes_on c T start more e h other at =
       phase = subst (λ (v : World). phase_of v.now.words ≡ 3) left_is waits.phase;
       marked = subst (λ (v : World). IsMarkedOnly c v T) left_is (stop_behind c w e.seat e.step T
           (told c (start ++ more) m.history).known.now at.phase m.meets other at.marked);
-      begun = none_joined is_begin more (e ∷ []) at.begun (or_from (is_begin e.step) false waits.begun refl);
+      begun = none_joined is_begin more (e ∷ []) at.begun (or_from _ false waits.begun refl);
     }
 
 -- after the `close`
@@ -79,10 +79,10 @@ stop_begins c T front e h kind marked =
     let w : World = left c front in
     let is = close_is e.step kind in
     let meets : Meets c w.now e.seat step.Close = subst (λ (x : Step). Meets c w.now e.seat x) is m.meets in
-    let two = eqb-true (phase_of w.now.words) 2 meets.phase in
+    let two = eqb-true _ 2 meets.phase in
     let left_is : WorldBehind c w e.seat step.Close ≡ left c ((front ++ e ∷ []) ++ []) =
     ap (λ (x : Step). WorldBehind c w e.seat x) (sym is) ∙ sym m.left
-    ∙ ap (λ (xs : List Event). left c xs) (sym (append-nil (front ++ e ∷ []))) in
+    ∙ ap (λ (xs : List Event). left c xs) (sym (append-nil _)) in
     record {
       phase = subst (λ (v : World). phase_of v.now.words ≡ 3) left_is (omega arith);
       marked = subst (λ (v : World). IsMarkedOnly c v T) left_is marked;
@@ -106,21 +106,21 @@ at_the_release c es k h unswept =
     let closing = history_through c es front k.marking.close.at.behind e h (at_close k.marking) in
     let marked = marked_at_close c es k.marking (earlier_part_is_history c front (e ∷ []) closing) unswept in
     let same : (front ++ e ∷ []) ++ more ≡ before_release k = append_assoc front (e ∷ []) more in
-    let releasing = history_through c es (before_release k) k.release.at.behind k.release.at.event h (at_release k) in
+    let releasing = history_through c es _ k.release.at.behind k.release.at.event h (at_release k) in
     let whole : IsHistory c ((front ++ e ∷ []) ++ more) =
-    rw same (earlier_part_is_history c (before_release k) (k.release.at.event ∷ []) releasing) in
+    rw same (earlier_part_is_history c _ (k.release.at.event ∷ []) releasing) in
     let at : AtStop c T (front ++ e ∷ []) more =
-    along_without c is_release (λ (xs : List Event). AtStop c T (front ++ e ∷ []) xs) (front ++ e ∷ []) [] more
-    (λ xs d g other. stop_goes_on c T (front ++ e ∷ []) xs d g other) whole k.release.none_before
+    along_without c is_release (λ (xs : List Event). AtStop c T (front ++ e ∷ []) xs) _ [] more
+    (λ xs d g other. stop_goes_on c T _ xs d g other) whole k.release.none_before
     (stop_begins c T front e closing k.marking.close.at.of_kind marked.at.precise.marked) in
     record {
       phase = rw same at at.phase;
       marked = rw same at at.marked;
       begun = none_joined is_begin k.marking.close.at.before (e ∷ more) marked.begun
-          (or_from (is_begin e.step) (list_any (λ (x : Event). is_begin x.step) more)
+          (or_from _ (list_any (λ (x : Event). is_begin x.step) more)
           (ap is_begin (close_is e.step k.marking.close.at.of_kind)) at.begun);
       released = none_joined is_release k.marking.close.at.before (e ∷ more) marked.released
-          (or_from (is_release e.step) (list_any (λ (x : Event). is_release x.step) more)
+          (or_from _ (list_any (λ (x : Event). is_release x.step) more)
           (ap is_release (close_is e.step k.marking.close.at.of_kind)) k.release.none_before);
     }
 

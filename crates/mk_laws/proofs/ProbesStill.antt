@@ -115,7 +115,7 @@ probe_still c w v n m kw kv aw av k lt same at on own admitted u =
       | inr mapped ↦
           let met = finds_mapped c v m kv av k f.op f.q f.p f.r f.loaded lt (same ∙ lit)
           (ap standing same ∙ in_call) mapped in
-          absurd (clash n m _ (i_of f.op) on (aw.mirrors.typed.registers (8 * k + q_of f.op)) meets
+          absurd (clash n m _ (i_of f.op) on (aw.mirrors.typed.registers _) meets
           (finds_unmapped c w n kw aw k f.op f.q f.p f.r f.loaded lt lit in_call meets u) (rw own at met))
     ]
   where

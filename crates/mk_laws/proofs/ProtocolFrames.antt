@@ -32,7 +32,7 @@ use Rattle.mk_laws.proofs.OthersMoves.{gate_one, others_move}
 use Rattle.mk_laws.proofs.Growth.{grows_same, grows_joined}
 use Rattle.mk_laws.proofs.TurnFrame.{holding_out, turn_after, turn_same, turn_joined}
 use Rattle.mk_laws.proofs.HeaderSteps.{header_step, stays_mapped}
-use Rattle.mk_laws.proofs.Colours.{colours_of, colour_step, attending_grows}
+use Rattle.mk_laws.proofs.Colours.{colour_step, attending_grows}
 use Rattle.mk_laws.proofs.OthersCounts.{counts_nothing, fulls_of, entry_fulls, fulls_append}
 
 -- What an event may do to registers: each caller's are its own.
@@ -114,10 +114,10 @@ own_after c w seat s x known h ne =
           (λ e. ne (e ∙ sym is)) lt;
       holding = λ holds.
           let move = others_out c w seat s x known h ne holds in
-          let turn = turn_after c w seat (WorldBehind c w seat x) known move in (
+          let turn = turn_after c w seat _ known move in (
             still_holds c s w (WorldBehind c w seat x) (others_flight c w seat s x ne)
                 (ap (λ (y : Steady). y.turn) turn.steady) holds,
-            holding_out c w seat (WorldBehind c w seat x) move,
+            holding_out c w seat _ move,
           );
     }
 
@@ -168,8 +168,7 @@ stop_out c w seat s v (Marks {k} y {x} lt write) ne holds all =
 scan_after : (c : Config) (w : World) (seat s : Seat) (x : Step) → Known c w.now → Meets c w.now seat x
     → Attends w.now s → OnlyGrow w.now.words.marks (WorldBehind c w seat x).now.words.marks
     × OnlyGrow w.now.words.blacks (WorldBehind c w seat x).now.words.blacks
-scan_after c w seat (Marker k) x known h a =
-    attending_grows c w.now seat (colours_of (WorldBehind c w seat x).now) k (known.orderly.attends k a) a
+scan_after c w seat (Marker k) x known h a = attending_grows c w.now seat _ k (known.orderly.attends k a) a
     (colour_step c w.now seat x h)
 scan_after c w seat _ x known h a = absurd a
 
@@ -180,9 +179,8 @@ left_after c w seat s x known h ne =
     record {
       own = own_after c w seat s x known h ne;
       mapped = mapped_after c w seat s x known h ne;
-      turn = λ holds. turn_after c w seat (WorldBehind c w seat x) known (others_out c w seat s x known h ne holds);
-      stop = λ all. stop_out c w seat s (WorldBehind c w seat x) (others_out c w seat s x known h ne all.0) ne all.0
-          all.1;
+      turn = λ holds. turn_after c w seat _ known (others_out c w seat s x known h ne holds);
+      stop = λ all. stop_out c w seat s _ (others_out c w seat s x known h ne all.0) ne all.0 all.1;
       scan = scan_after c w seat s x known h;
     }
 
@@ -289,7 +287,7 @@ counts_left c es more h =
     record {
       ends = sum_by-append (λ (x : Event). cond {A = ℕ} (is_end x.step) 1 0) es more
           ∙ (let r = h.none_ends in omega arith);
-      fulls = rw (calls_append c (first_world c) es more) (fulls_append (calls c es) (calls_from c (left c es) more)
+      fulls = rw (calls_append c (first_world c) es more) (fulls_append (calls c es) _
           ∙ (let r = h.none_full in omega arith));
     }
 
@@ -313,18 +311,17 @@ is_left : (c : Config) (s : Seat) (es more : List Event) → Left c s (left c es
     → Known c (left c (es ++ more)).now
     → (Holds c (left c es).now s → CountsAreLeft c es (es ++ more)) → IsLeft c s es (es ++ more)
 is_left c s es more l known counts =
-    let p = protocol_of c (left c (es ++ more)).now known in
+    let p = protocol_of c _ known in
     record {
       own = l.own;
       in_call = λ k is call. record {
-        gate = (in_call_gate c (left c (es ++ more)).now k known (rw is at
-            (still_calls c s (left c es) (left c (es ++ more)) l.own call))).1;
+        gate = (in_call_gate c _ k known (rw is at (still_calls c s (left c es) _ l.own call))).1;
         mapped = l.mapped call;
       };
       turn = λ holds. (l.turn holds, counts holds);
       stop = l.stop;
-      scan = λ a. scan_left c s (left c es) (left c (es ++ more)) l p a;
-      visit = λ i. visit_left c s (left c (es ++ more)).now p (still_in c s (left c es) (left c (es ++ more)) l.own i);
+      scan = λ a. scan_left c s (left c es) _ l p a;
+      visit = λ i. visit_left c s _ p (still_in c s (left c es) _ l.own i);
     }
 
 pub others_leave : OthersLeave

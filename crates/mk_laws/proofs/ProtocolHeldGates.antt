@@ -10,8 +10,7 @@ use Rattle.mk_core.specs.HeldGates.{is_hold_of, changes_gate, is_gate_held_from,
 
 -- a gate that changes has the value that was set
 unchanged : (gs : List ℕ) (i : ℕ) → not (slice_index gs i == slice_index gs i) ≡ true → ⊥
-unchanged gs i h = let e : true ≡ false = sym (eq-eqb (slice_index gs i) (slice_index gs i) refl)
-    ∙ not-true (slice_index gs i == slice_index gs i) h in cc
+unchanged gs i h = let e : true ≡ false = sym (eq-eqb _ _ refl) ∙ not-true _ h in cc
 
 record Changed (gs : List ℕ) (j x i : ℕ) : Type 0 where
   same : i ≡ j
@@ -24,8 +23,7 @@ changed gs j x i h = elim (cases_eq i j) [
   | inl e ↦ elim (cases_lt j (length gs)) [
     | inl lt ↦
         let now : slice_index (slice_set gs j x) i ≡ x = rw e (get_or-set_same gs j x 0 lt) in
-        let ne = eqb-false (slice_index (slice_set gs j x) i) (slice_index gs i)
-        (not-true (slice_index (slice_set gs j x) i == slice_index gs i) h) in
+        let ne = eqb-false _ _ (not-true _ h) in
         record { same = e; now = now; other = λ old. ne (now ∙ old ∙ ap (λ k. slice_index gs k) (sym e)) }
     | inr past ↦ absurd (unchanged gs i (rw (set_past gs j x past) at h))
   ]
@@ -50,8 +48,8 @@ exchange_told : (gs : List ℕ) (j n i : ℕ)
     → not (slice_index (slice_set gs j (if slice_index gs j == 0 then n else slice_index gs j)) i == slice_index gs i)
     ≡ true → (i ≡ j) × (slice_index (slice_set gs j (if slice_index gs j == 0 then n else slice_index gs j)) i ≡ n)
 exchange_told gs j n i h =
-    let x = changed gs j (if slice_index gs j == 0 then n else slice_index gs j) i h in
-    (x.same, x.now ∙ exchanged n (slice_index gs j) x.other)
+    let x = changed gs j _ i h in
+    (x.same, x.now ∙ exchanged n _ x.other)
 
 gate_told : (c : Config) (m : Moment) (seat : Seat) (x : Step) (i : ℕ)
     → not (slice_index (Behind c m seat x).words.gates i == slice_index m.words.gates i) ≡ true
@@ -81,8 +79,7 @@ held_behind c w e i held is = by (changes_gate i w (world_behind c w e)) refl
     by false h = is ∙ elim
         (cases_eq (slice_index (world_behind c w e).now.words.gates i) (slice_index w.now.words.gates i)) [
           | inl same ↦ rw (← same)
-          | inr ne ↦ let x : false ≡ true = sym h ∙ ap not (ne_eqb (slice_index (world_behind c w e).now.words.gates i)
-              (slice_index w.now.words.gates i) ne)
+          | inr ne ↦ let x : false ≡ true = sym h ∙ ap not (ne_eqb _ _ ne)
               in cc
         ]
 
@@ -99,6 +96,6 @@ pub gates_tell_holds : (c : Config) (es : List Event) (i : ℕ)
     → (slice_index (left c es).now.words.gates i ≡ 2) ↔ (is_gate_held c i es ≡ true)
 gates_tell_holds c es i =
     let is = held_from c (first_world c) es i false (sym (ap (λ y. y == 2) (at_first 16 i 0))) in (
-      λ two. is ∙ eq-eqb (slice_index (left c es).now.words.gates i) 2 two,
-      λ held. eqb-true (slice_index (left c es).now.words.gates i) 2 (sym is ∙ held),
+      λ two. is ∙ eq-eqb _ 2 two,
+      λ held. eqb-true _ 2 (sym is ∙ held),
     )

@@ -27,7 +27,7 @@ pub record PhaseKept (c : Config) (v : View) (p : ℕ) : Type 0 where
 pub phase_kept : (c : Config) (v : View) (seat : Seat) (p : ℕ) → Orderly c v → HoldsTurn c v seat → PhaseStep c v seat p
     → PhaseKept c v p
 phase_kept c v seat p h t (Begins z) =
-    let n = up_one v.phase (count_in v.markers) (v.phase % 8) h.phase h.low (few_in c v h) (omega arith) in
+    let n = up_one v.phase _ (v.phase % 8) h.phase h.low (few_in c v h) (omega arith) in
     record {
       phase = omega (arith, n.0, n.1);
       low = omega (arith, n.0);
@@ -35,7 +35,7 @@ phase_kept c v seat p h t (Begins z) =
       attends = λ k a. elim (h.attends k a) [ inl e ↦ absurd (omega arith) | inr e ↦ absurd (omega arith) ];
     }
 phase_kept c v seat p h t (Wants z) =
-    let n = up_one v.phase (count_in v.markers) (v.phase % 8) h.phase h.low (few_in c v h) (omega arith) in
+    let n = up_one v.phase _ (v.phase % 8) h.phase h.low (few_in c v h) (omega arith) in
     record {
       phase = omega (arith, n.0, n.1);
       low = omega (arith, n.0);
@@ -43,7 +43,7 @@ phase_kept c v seat p h t (Wants z) =
       attends = λ k a. inr (omega (arith, n.0));
     }
 phase_kept c v seat p h t (Closes z held none) =
-    let n = up_one v.phase (count_in v.markers) (v.phase % 8) h.phase h.low (few_in c v h) (omega arith) in
+    let n = up_one v.phase _ (v.phase % 8) h.phase h.low (few_in c v h) (omega arith) in
     let turn = turn_of c v seat h t in
     record {
       phase = omega (arith, n.0, n.1);
@@ -52,7 +52,7 @@ phase_kept c v seat p h t (Closes z held none) =
       attends = λ k a. let f : true ≡ false = sym a ∙ none k in cc;
     }
 phase_kept c v seat p h t (Releases z) =
-    let n = up_one v.phase (count_in v.markers) (v.phase % 8) h.phase h.low (few_in c v h) (omega arith) in
+    let n = up_one v.phase _ (v.phase % 8) h.phase h.low (few_in c v h) (omega arith) in
     record {
       phase = omega (arith, n.0, n.1);
       low = omega (arith, n.0);
@@ -60,7 +60,7 @@ phase_kept c v seat p h t (Releases z) =
       attends = λ k a. elim (h.attends k a) [ inl e ↦ absurd (omega arith) | inr e ↦ absurd (omega arith) ];
     }
 phase_kept c v seat p h t (Ends z) =
-    let n = down_four v.phase (count_in v.markers) (v.phase % 8) h.phase (few_in c v h) z in
+    let n = down_four v.phase _ (v.phase % 8) h.phase (few_in c v h) z in
     record {
       phase = omega (arith, n.0, n.1);
       low = omega (arith, n.0);
@@ -68,7 +68,7 @@ phase_kept c v seat p h t (Ends z) =
       attends = λ k a. elim (h.attends k a) [ inl e ↦ absurd (omega arith) | inr e ↦ absurd (omega arith) ];
     }
 phase_kept c v seat p h t (Stops z) =
-    let n = up_five v.phase (count_in v.markers) (v.phase % 8) h.phase (few_in c v h) z in
+    let n = up_five v.phase _ (v.phase % 8) h.phase (few_in c v h) z in
     record {
       phase = omega (arith, n.0, n.1);
       low = omega (arith, n.0);
@@ -92,7 +92,7 @@ others_served c v k f h ne = elim (cases_eq v.turn 0) [
 works_served : (c : Config) (v : View) (seat : Seat) (f : Flight) (i : Holding) → Orderly c v → HoldsTurn c v seat
     → Service (flight_at v.flights seat) v.holding f i
     → Served (slice_index_or (flights_with v.flights seat f) (v.turn - 1) at_rest) i
-works_served c v seat f i h t s = rw (behind c v seat f i h t s) (served_on (flight_at v.flights seat) v.holding f i
+works_served c v seat f i h t s = rw (behind c v seat f i h t s) (served_on _ v.holding f i
     (rw (holders_flight c v seat h t) at h.served) s)
   where
     behind : (c : Config) (v : View) (seat : Seat) (f : Flight) (i : Holding) → Orderly c v → HoldsTurn c v seat
@@ -110,8 +110,7 @@ works_shown : (c : Config) (v : View) (seat : Seat) (f : Flight) (i : Holding) �
     → Service (flight_at v.flights seat) v.holding f i
     → AllShow c.callers v.turn v.gates (flights_with v.flights seat f)
 works_shown c v seat f i h t s = all_but_seat c v.turn seat v.gates v.flights f
-    (holder_shows c v seat f h t (λ is. service_stands (flight_at v.flights seat) v.holding f i is s))
-    (λ b lb ne. h.each b lb)
+    (holder_shows c v seat f h t (λ is. service_stands _ v.holding f i is s)) (λ b lb ne. h.each b lb)
 
 -- a gate of another is set
 gate_shown : (c : Config) (v : View) (j x : ℕ) → c.callers ≤ 16 → Orderly c v → j < c.callers

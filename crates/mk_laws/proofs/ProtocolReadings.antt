@@ -23,7 +23,7 @@ turn_tells c m p = record { least = p.turn; caller = p.holder; nobody = (held, f
     free none = elim (cases_eq m.words.turn 0) [
       | inl z ↦ z
       | inr some ↦ elim (cases_lt (m.words.turn - 1) c.callers) [
-        | inl lt ↦ absurd (none (Caller (m.words.turn - 1)) (lt, (p.holder (m.words.turn - 1) lt).0 (omega arith)))
+        | inl lt ↦ absurd (none (Caller (m.words.turn - 1)) (lt, (p.holder _ lt).0 (omega arith)))
         | inr past ↦ let most = p.turn in absurd (none Host (omega arith))
       ]
     ]
@@ -45,8 +45,7 @@ phase_tells c m p =
     record {
       low = p.low;
       high = p.high;
-      none_in = λ z k. none k
-          (λ a. let one = in_counts c m k p (attending_in (marker_of m k).presence a) in absurd (omega arith));
+      none_in = λ z k. none k (λ a. let one = in_counts c m k p (attending_in _ a) in absurd (omega arith));
       attends = λ n1 n2 k. none k (λ a. elim (p.attends k a) [ inl e ↦ n1 e | inr e ↦ n2 e ]);
       under_the_turn = p.cycle;
       stopped = p.stopped;

@@ -16,7 +16,7 @@ some_caller : (c : Config) (m : Moment) (test : Flight → Bool) → Orderly c (
 some_caller c m test o rests is = elim (cases_lt (m.words.turn - 1) c.callers) [
   | inl lt ↦ record { caller = m.words.turn - 1; within = lt; holds = is }
   | inr past ↦
-      let none = get_or_past m.seats.flights (m.words.turn - 1) at_rest (omega (arith, o.flights)) in
+      let none = get_or_past m.seats.flights _ at_rest (omega (arith, o.flights)) in
       let e : false ≡ true = sym rests ∙ ap test (sym none) ∙ is in
       cc
 ]

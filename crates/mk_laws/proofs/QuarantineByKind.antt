@@ -4,14 +4,13 @@ use Rattle.mk_laws.proofs.Vocabulary.{ItDrops, ItFrees, ItGivesBack, ItTakes, It
 use Rattle.mk_laws.proofs.Vocabulary.{Option, Page, Place, PlacedAllocation, Placing, QuarantineStep, Seat, Some, Step}
 use Rattle.mk_laws.proofs.Vocabulary.{Unplaced, Used, UsedStep, Words, World, and_from, ap, arith, cases_lt, cell_freed}
 use Rattle.mk_laws.proofs.Vocabulary.{cell_of_allocation, chosen, claim_of, cond-true, eqb-true, false}
-use Rattle.mk_laws.proofs.Vocabulary.{false_from_ne_true, flight_of, found, freed_cell, frees, get_or_past, granted}
-use Rattle.mk_laws.proofs.Vocabulary.{ground_of, has_place, if◌then◌else◌, inl, inr, is_phase, is_released_in}
-use Rattle.mk_laws.proofs.Vocabulary.{is_undecided_free, is_undecided_new, length, ltb-true, marks_place, may_end}
-use Rattle.mk_laws.proofs.Vocabulary.{none_freed, not, nothing_done, object_made, object_now, object_placed, or_cases}
-use Rattle.mk_laws.proofs.Vocabulary.{or_else, phase_of, place_now, placed_at, quarantine_step, refl, run_of_cell}
-use Rattle.mk_laws.proofs.Vocabulary.{set-get_or, slice_index, slice_set, stands_in, stands_in_its_cell, sym, taken}
-use Rattle.mk_laws.proofs.Vocabulary.{target, true, true≢false, undecided_free, undecided_new, used_step, ℕ, ◌%◌, ◌&&◌}
-use Rattle.mk_laws.proofs.Vocabulary.{◌/◌, ◌<◌, ◌==◌, ◌^◌, ◌||◌, ◌∙◌, ◌≡◌}
+use Rattle.mk_laws.proofs.Vocabulary.{false_from_ne_true, flight_of, found, freed_cell, frees, get_or_past, ground_of}
+use Rattle.mk_laws.proofs.Vocabulary.{has_place, if◌then◌else◌, inl, inr, is_phase, is_released_in, is_undecided_free}
+use Rattle.mk_laws.proofs.Vocabulary.{is_undecided_new, length, ltb-true, may_end, none_freed, not, nothing_done}
+use Rattle.mk_laws.proofs.Vocabulary.{object_now, object_placed, or_cases, phase_of, place_now, placed_at}
+use Rattle.mk_laws.proofs.Vocabulary.{quarantine_step, refl, set-get_or, slice_index, slice_set, stands_in}
+use Rattle.mk_laws.proofs.Vocabulary.{stands_in_its_cell, sym, taken, target, true, true≢false, undecided_free}
+use Rattle.mk_laws.proofs.Vocabulary.{undecided_new, used_step, ℕ, ◌%◌, ◌&&◌, ◌/◌, ◌<◌, ◌==◌, ◌^◌, ◌||◌, ◌∙◌, ◌≡◌}
 use Rattle.mk_laws.proofs.Basics.{Before, Laid, Meets, WorldBehind, all_stand, claim_among, free_has_turn}
 use Rattle.mk_laws.proofs.Basics.{is_releasing_behind, none_set, own_claim, placed_undecided, reg_leaves_ground}
 use Rattle.mk_laws.proofs.Basics.{tally_ground}
@@ -37,8 +36,7 @@ pub shown_at : (c : Config) (w : World) (i : ℕ) → LayoutStands c w → (plac
     → IsShown w.now.words.pages (claim_of c w.now.seats.holding.freed (placed_at w.allocations i))
 shown_at c w i laid u =
     let x : Claim = claim_of c w.now.seats.holding.freed (placed_at w.allocations i) in
-    laid.scene.shown x (own_claim c (object_now c w.now) (ground_of w) x
-    (claim_among c w.now.seats.holding.freed w.allocations i u))
+    laid.scene.shown x (own_claim c _ (ground_of w) x (claim_among c w.now.seats.holding.freed w.allocations i u))
 
 -- `quar`
 
@@ -46,10 +44,8 @@ shown_at c w i laid u =
 pub frees_some : (pages : ℕ) (w : Words) (f : Flight) (p n : ℕ) → is_phase w 4 ≡ false
     → frees w (target pages w f) p n ≡ true → cell_freed pages w f p n ≡ None → ⊥
 frees_some pages w f p n off h none =
-    let both : (not (is_phase w 4) && frees w (target pages w f) p n) ≡ true =
-    and_from (not (is_phase w 4)) (frees w (target pages w f) p n) (ap not off) h in
-    let at : target pages w f ≡ None =
-    sym (cond-true (not (is_phase w 4) && frees w (target pages w f) p n) (target pages w f) None both) ∙ none in
+    let both : (not (is_phase w 4) && frees w (target pages w f) p n) ≡ true = and_from _ _ (ap not off) h in
+    let at : target pages w f ≡ None = sym (cond-true _ _ None both) ∙ none in
     let e : true ≡ false = sym h ∙ ap (λ (x : Option Cell). frees w x p n) at in
     true≢false e
 
@@ -124,13 +120,10 @@ quar_kept c w seat p n b h laid q = by (cell_freed c.pages w.now.words (flight_o
     by : (cell : Option Cell) → cell_freed c.pages w.now.words (flight_of w.now seat) p n ≡ cell
         → QuarantinedNow c w (with_quarantine w p n cell)
     by None is = rw (none_freed w.now.words w.allocations)
-        (quar_none c w (flight_of w.now seat) p n lf ls is (quarantine_step c w.now (flight_of w.now seat) p n h.holder)
-        q)
+        (quar_none c w (flight_of w.now seat) p n lf ls is (quarantine_step c w.now _ p n h.holder) q)
     by (Some cell) is =
-        let x = freed_cell c.pages w.now.words (flight_of w.now seat) p n cell is in
-        rw x.phase (rw x.page
-        (free_kept c w cell (or_else (run_of_cell w.now.words (Some cell)) w.now.seats.holding.freed) n
-        (frees_here c w seat p n cell b h laid x) (rw x.phase at q)))
+        let x = freed_cell c.pages w.now.words _ p n cell is in
+        rw x.phase (rw x.page (free_kept c w cell _ n (frees_here c w seat p n cell b h laid x) (rw x.phase at q)))
 
 -- `head` and `used`
 head_from : (four : Bool) (placing : Placing) (found : Option Place) (place : Place)
@@ -168,7 +161,7 @@ kept_ground c w x g q = rw g.pages (rw g.freed (rw g.snapshot q))
 -- `grant` and `end`
 pub grants_early : (w : World) → ((phase_of w.now.words == 0) || (phase_of w.now.words == 1)) ≡ true
     → is_phase w.now.words 4 ≡ false
-grants_early w h = elim (or_cases (phase_of w.now.words == 0) (phase_of w.now.words == 1) h) [
+grants_early w h = elim (or_cases _ _ h) [
   | inl e ↦ off_at w 0 e (λ x. absurd (omega arith))
   | inr e ↦ off_at w 1 e (λ x. absurd (omega arith))
 ]
@@ -177,10 +170,9 @@ none_left : (c : Config) (w : World) → Before c w → may_end c.pages w.now.wo
     → is_released_in true w.now.words.snapshot w.now.words.marks p k ≡ false
 none_left c w b own p k = elim (cases_lt p c.pages) [
   | inl lt ↦ (settled_page w.now.words c.pages p own lt).none k
-  | inr past ↦ false_from_ne_true (is_released_in true w.now.words.snapshot w.now.words.marks p k) (λ r.
+  | inr past ↦ false_from_ne_true _ (λ r.
       let bits = released_bits w.now.words.snapshot w.now.words.marks p k r in
-      none_set (slice_index w.now.words.snapshot p) k
-      (get_or_past w.now.words.snapshot p 0 (let len = b.lengths.snapshot in omega arith)) bits.0)
+      none_set _ k (get_or_past w.now.words.snapshot p 0 (let len = b.lengths.snapshot in omega arith)) bits.0)
 ]
 
 -- each kind of event, whatever the seat
@@ -196,30 +188,25 @@ quarantine_by_kind c w seat (step.Take o) b h laid q = by (w.now.words.turn == 0
     by false is = q
     by true is = rw (b.known.orderly.free (eqb-true w.now.words.turn 0 is)) at q
 quarantine_by_kind c w seat step.Give b h laid q =
-    replaced c (is_phase w.now.words 4) w.now.words.marks (ground_of w) w.now.words.pages Unplaced None
-    (λ place e. cc) q
+    replaced c _ w.now.words.marks (ground_of w) w.now.words.pages Unplaced None (λ place e. cc) q
 quarantine_by_kind c w seat step.Reg b h laid q = kept_ground c w _ (reg_leaves_ground c w seat) q
 quarantine_by_kind c w seat (step.Tally n v) b h laid q = kept_ground c w _ (tally_ground w.now.words n v) q
 quarantine_by_kind c w seat (step.Head p n) b h laid q =
-    replaced c (is_phase w.now.words 4) w.now.words.marks (ground_of w) _ _ w.now.seats.holding.freed
-    (λ place e. head_from (is_phase w.now.words 4) w.now.seats.holding.placing
-    (place_now c w.now (flight_of w.now seat)) place e) q
+    replaced c _ w.now.words.marks (ground_of w) _ _ w.now.seats.holding.freed
+    (λ place e. head_from _ w.now.seats.holding.placing _ place e) q
 quarantine_by_kind c w seat (step.Used p n) b h laid q =
-    used_kept c w seat p n _ laid q (used_step c w.now (flight_of w.now seat) p n h.holder)
+    used_kept c w seat p n _ laid q (used_step c w.now _ p n h.holder)
 quarantine_by_kind c w seat (step.Quar p n) b h laid q = quar_kept c w seat p n b h laid q
 quarantine_by_kind c w seat step.Grant b h laid q =
     let off = grants_early w h.phase in
-    rw off (grant_kept c w.now.words.marks (ground_of w) (granted c w.now (flight_of w.now seat)) refl (rw off at q))
+    rw off (grant_kept c w.now.words.marks (ground_of w) _ refl (rw off at q))
 quarantine_by_kind c w seat (step.Mark p n) b h laid q =
-    replaced c (is_phase w.now.words 4) w.now.words.marks (ground_of w) _ _ w.now.seats.holding.freed (λ place e.
-    mark_from (marks_place w.now.words (object_made c (flight_of w.now seat).op)
-    (place_now c w.now (flight_of w.now seat)) p n) w.now.seats.holding.placing
-    (place_now c w.now (flight_of w.now seat)) place e) q
-quarantine_by_kind c w seat step.Begin b h laid q =
-    begin_kept c (is_phase w.now.words 4) w.now.words.marks (ground_of w) q
+    replaced c _ w.now.words.marks (ground_of w) _ _ w.now.seats.holding.freed (λ place e.
+    mark_from _ w.now.seats.holding.placing _ place e) q
+quarantine_by_kind c w seat step.Begin b h laid q = begin_kept c _ w.now.words.marks (ground_of w) q
 quarantine_by_kind c w seat step.Release b h laid q =
     let off = off_at w 3 h.phase (λ e. absurd (omega arith)) in
-    release_kept c w b.limits (all_stand c (object_now c w.now) false w b.lengths.pages (rw off at laid)) (rw off at q)
+    release_kept c w b.limits (all_stand c _ false w b.lengths.pages (rw off at laid)) (rw off at q)
 quarantine_by_kind c w seat step.End b h laid q =
     end_kept c w.now.words.marks (ground_of w) (none_left c w b h.holder) (rw h.phase at q)
 quarantine_by_kind c w seat _ b h laid q = q

@@ -68,14 +68,14 @@ release_kept c w limits stand q =
       within = q.within;
       owned = λ p k h. owned p k (q.owned p k h);
       shown = λ i u f.
-          let b = before_change c (with_released c w.now.words) w.allocations i leaves u in
+          let b = before_change c _ w.allocations i leaves u in
           ap (λ (x : Cell). has_bit (slice_index w.now.words.freed x.page) x.index) b.cell
           ∙ q.shown i b.was (ap (λ (x : PlacedAllocation). x.freed) (sym b.now) ∙ f);
       taken = q.taken;
       kept = λ on i u.
-          let b = before_change c (with_released c w.now.words) w.allocations i leaves u in
+          let b = before_change c _ w.allocations i leaves u in
           ap (λ (x : Cell). is_released_in true w.now.words.snapshot w.now.words.marks x.page x.index) b.cell
-          ∙ sym (left_is c w.now.words (placed_at w.allocations i) limits (stand i b.was)) ∙ b.unreleased;
+          ∙ sym (left_is c w.now.words _ limits (stand i b.was)) ∙ b.unreleased;
     }
   where
     leaves : LeavesCells (with_released c w.now.words)
@@ -90,7 +90,7 @@ release_kept c w limits stand q =
       | inr u ↦ inl (freed_behind c (with_released c w.now.words) w.allocations p k leaves o u o.freed)
       | inl r ↦
           inr (ap (λ (x : Cell). is_released_in true w.now.words.snapshot w.now.words.marks x.page x.index) (sym o.cell)
-          ∙ sym (left_is c w.now.words (placed_at w.allocations o.number) limits (stand o.number o.unreleased)) ∙ r)
+          ∙ sym (left_is c w.now.words _ limits (stand o.number o.unreleased)) ∙ r)
     ]
 
 -- `begin`
@@ -161,7 +161,7 @@ freed_if false a f = f
 
 pub freed_stays : (w : Words) (cell : Cell) (a : PlacedAllocation) → a.freed ≡ true
     → (freed_where_it_stands w (Some cell) a).freed ≡ true
-freed_stays w cell a f = freed_if (stands_in w cell a) a f
+freed_stays w cell a f = freed_if _ a f
 
 freed_by : (b : Bool) (a : PlacedAllocation) → (if b then record a { freed = true; fresh = true } else a).freed ≡ true
     → (b ≡ true) ⊎ (a.freed ≡ true)
@@ -199,8 +199,8 @@ free_halves c w cell n x q = let e = x.value in let s = sum in (omega arith, ome
         ≤ 2 ^ 32 = pow_mono le in let s = pow-suc 2 cell.index in omega arith) in
         let some : 1 ≤ 2 ^ cell.index =
         (let z : 0 ≤ cell.index = omega arith in let p : 2 ^ 0 ≤ 2 ^ cell.index = pow_mono z in omega arith) in
-        let b = or_lt 32 (slice_index w.now.words.freed cell.page) (2 ^ cell.index) a (omega arith) in
-        let e = sum_is_or (slice_index w.now.words.freed cell.page) cell.index x.unset in
+        let b = or_lt 32 _ (2 ^ cell.index) a (omega arith) in
+        let e = sum_is_or _ cell.index x.unset in
         omega arith
 
 pub free_kept : (c : Config) (w : World) (cell : Cell) (run : Option RunPages) (n : ℕ) → FreesHere c w cell n

@@ -5,11 +5,11 @@ use Rattle.std.proofs.lemmas.Nat.Bits.{bit_at_and, same_from_bits}
 use Rattle.mk_laws.proofs.Vocabulary.{Among, Bool, Cell, Chosen, Claim, Config, Drops, Granted, Ground, HasQuarantine}
 use Rattle.mk_laws.proofs.Vocabulary.{IsFreedCell, List, Object, Option, Page, Place, Placing, RunPages, Unplaced, Used}
 use Rattle.mk_laws.proofs.Vocabulary.{World, and_parts, and_right, ap, arith, bit_at, cases_Bool, cases_eq}
-use Rattle.mk_laws.proofs.Vocabulary.{cell_of_allocation, claims_of, claims_on, claims_placed, false}
-use Rattle.mk_laws.proofs.Vocabulary.{false_from_ne_true, fewer_bits, get_or-set_other, get_or-set_same, ground_of}
-use Rattle.mk_laws.proofs.Vocabulary.{has_bit, has_bit_without, inl, inr, is_released_in, length, not, not-true}
-use Rattle.mk_laws.proofs.Vocabulary.{placed_at, refl, slice_index, slice_set, sym, true, true≢false, used_on, without}
-use Rattle.mk_laws.proofs.Vocabulary.{ℕ, ◌&&◌, ◌-◌, ◌<◌, ◌^◌, ◌∙◌, ◌≡◌, ◌≢◌, ◌≤◌, ◌⊎◌}
+use Rattle.mk_laws.proofs.Vocabulary.{cell_of_allocation, claims_on, claims_placed, false, false_from_ne_true}
+use Rattle.mk_laws.proofs.Vocabulary.{fewer_bits, get_or-set_other, get_or-set_same, ground_of, has_bit}
+use Rattle.mk_laws.proofs.Vocabulary.{has_bit_without, inl, inr, is_released_in, length, not, not-true, placed_at, refl}
+use Rattle.mk_laws.proofs.Vocabulary.{slice_index, slice_set, sym, true, true≢false, used_on, without, ℕ, ◌&&◌, ◌-◌}
+use Rattle.mk_laws.proofs.Vocabulary.{◌<◌, ◌^◌, ◌∙◌, ◌≡◌, ◌≢◌, ◌≤◌, ◌⊎◌}
 use Rattle.mk_core.proofs.PageSteps.{left_bits}
 use Rattle.mk_core.proofs.WordBits.{rest_bits}
 use Rattle.mk_laws.proofs.Claims.{claim_is}
@@ -62,8 +62,8 @@ without_le x y = omega arith
 pub released_bits : (snapshot marks : List ℕ) (p k : ℕ) → is_released_in true snapshot marks p k ≡ true
     → (has_bit (slice_index snapshot p) k ≡ true) × (has_bit (slice_index marks p) k ≡ false)
 released_bits snapshot marks p k r =
-    let parts = and_parts (has_bit (slice_index snapshot p) k) (not (has_bit (slice_index marks p) k)) r in
-    (parts.0, not-true (has_bit (slice_index marks p) k) parts.1)
+    let parts = and_parts _ _ r in
+    (parts.0, not-true _ parts.1)
 
 -- `quar` (c): on one page some released bits go, of both halves
 module _ (c : Config) (w : World) (p f n : ℕ) (lf : p < length w.now.words.freed)
@@ -81,16 +81,16 @@ module _ (c : Config) (w : World) (p f n : ℕ) (lf : p < length w.now.words.fre
       without_le (slice_index w.now.words.freed p) rest in omega arith
 
   f_bit : (k : ℕ) → has_bit f k ≡ (has_bit (slice_index w.now.words.freed p) k && not (has_bit rest k))
-  f_bit k = rw d.is (has_bit_without (slice_index w.now.words.freed p) rest k)
+  f_bit k = rw d.is (has_bit_without _ rest k)
 
   was_freed : (k : ℕ) → has_bit f k ≡ true → has_bit (slice_index w.now.words.freed p) k ≡ true
-  was_freed k x = (and_parts (has_bit (slice_index w.now.words.freed p) k) (not (has_bit rest k)) (sym (f_bit k) ∙ x)).0
+  was_freed k x = (and_parts _ _ (sym (f_bit k) ∙ x)).0
 
   was_snap : (i k : ℕ) → has_bit (slice_index (slice_set w.now.words.snapshot p n) i) k ≡ true
       → has_bit (slice_index w.now.words.snapshot i) k ≡ true
   was_snap i k x = elim (bit_cases w.now.words.snapshot p n i k ls) [
     | inr other ↦ sym other.1 ∙ x
-    | inl here ↦ rw here.0 (fewer_bits n (slice_index w.now.words.snapshot p) k d.fewer (sym here.1 ∙ x))
+    | inl here ↦ rw here.0 (fewer_bits n _ k d.fewer (sym here.1 ∙ x))
   ]
 
   within : (i k : ℕ) → has_bit (slice_index (slice_set w.now.words.snapshot p n) i) k ≡ true
@@ -102,10 +102,9 @@ module _ (c : Config) (w : World) (p f n : ℕ) (lf : p < length w.now.words.fre
           | inl h ↦ sym h.1 ∙ x
           | inr o ↦ absurd (o.0 here.0)
         ] in
-        let out = rest_bit n (slice_index w.now.words.snapshot p) k d.fewer
-        ∙ and_right (has_bit (slice_index w.now.words.snapshot p) k) _ (ap not bit) in
+        let out = rest_bit n _ k d.fewer ∙ and_right _ _ (ap not bit) in
         let was = ap (λ j. has_bit (slice_index w.now.words.freed j) k) (sym here.0) ∙ q.within i k (was_snap i k x) in
-        here.1 ∙ f_bit k ∙ and_both (has_bit (slice_index w.now.words.freed p) k) (has_bit rest k) was out
+        here.1 ∙ f_bit k ∙ and_both _ _ was out
   ]
 
   -- what isn't released stays freed
@@ -116,11 +115,10 @@ module _ (c : Config) (w : World) (p f n : ℕ) (lf : p < length w.now.words.fre
     | inr other ↦ other.1 ∙ x
     | inl here ↦
         let was = ap (λ j. has_bit (slice_index w.now.words.freed j) k) (sym here.0) ∙ x in
-        let none = false_from_ne_true (has_bit rest k) (λ r.
+        let none = false_from_ne_true _ (λ r.
         let bits = left_bits w.now.words p rest k d.left r in
-        true≢false (sym (and_both (has_bit (slice_index w.now.words.snapshot p) k)
-        (has_bit (slice_index w.now.words.marks p) k) bits.0 bits.1) ∙ rw (← here.0) out)) in
-        here.1 ∙ f_bit k ∙ and_both (has_bit (slice_index w.now.words.freed p) k) (has_bit rest k) was none
+        true≢false (sym (and_both _ _ bits.0 bits.1) ∙ rw (← here.0) out)) in
+        here.1 ∙ f_bit k ∙ and_both _ _ was none
   ]
 
   -- what is still freed and was released is released still
@@ -134,13 +132,11 @@ module _ (c : Config) (w : World) (p f n : ℕ) (lf : p < length w.now.words.fre
           | inl h ↦ sym h.1 ∙ x
           | inr o ↦ absurd (o.0 here.0)
         ] in
-        let out = (and_parts (has_bit (slice_index w.now.words.freed p) k)
-        (not (has_bit rest k)) (sym (f_bit k) ∙ bit)).1 in
+        let out = (and_parts _ _ (sym (f_bit k) ∙ bit)).1 in
         let there = ap (λ j. has_bit (slice_index w.now.words.snapshot j) k) (sym here.0) ∙ was in
         here.1 ∙ elim (cases_Bool (has_bit n k)) [
           | inl is ↦ is
-          | inr gone ↦ absurd (true≢false (sym (rest_bits n (slice_index w.now.words.snapshot p) k d.fewer there gone)
-              ∙ not-true (has_bit rest k) out))
+          | inr gone ↦ absurd (true≢false (sym (rest_bits n _ k d.fewer there gone) ∙ not-true _ out))
         ]
   ]
 
@@ -156,8 +152,7 @@ module _ (c : Config) (w : World) (p f n : ℕ) (lf : p < length w.now.words.fre
         | inl o ↦ inl o
         | inr r ↦
             let bits = released_bits w.now.words.snapshot w.now.words.marks i k r in
-            inr (and_both (has_bit (slice_index (slice_set w.now.words.snapshot p n) i) k)
-            (has_bit (slice_index w.now.words.marks i) k) (still_released i k x bits.0) bits.1)
+            inr (and_both _ _ (still_released i k x bits.0) bits.1)
       ]
 
   pub drop_kept : HasQuarantine c true w.now.words.marks
@@ -264,17 +259,16 @@ take_kept c marks t pages place used unset q =
     }
   where
     clear : has_bit (slice_index t.freed place.page) place.index ≡ false
-    clear = false_from_ne_true (has_bit (slice_index t.freed place.page) place.index)
-        (λ h. elim (q.owned place.page place.index h) [
-          | inr r ↦ true≢false (sym r)
-          | inl o ↦ true≢false (sym (used o.number o.unreleased)
-              ∙ ap (λ (x : Cell). has_bit (used_on t.pages x.page) x.index) o.cell ∙ unset)
-        ])
+    clear = false_from_ne_true _ (λ h. elim (q.owned place.page place.index h) [
+      | inr r ↦ true≢false (sym r)
+      | inl o ↦ true≢false (sym (used o.number o.unreleased)
+          ∙ ap (λ (x : Cell). has_bit (used_on t.pages x.page) x.index) o.cell ∙ unset)
+    ])
 
 -- what the layout asks of the quarantine while cells are released
 pub none_released : (c : Config) (o : Object) (marks : List ℕ) (t : Ground) → HasQuarantine c true marks t → (x : Claim)
     → Among x (claims_on c o t) → is_released_in true t.snapshot marks x.page x.index ≡ false
-none_released c o marks t q x i = elim (among_parts (claims_of c t.run t.allocations) (claims_placed o t.placing) x i) [
+none_released c o marks t q x i = elim (among_parts _ _ x i) [
   | inl j ↦
       let n = claim_is c t.run t.allocations x j in
       rw n.is (q.kept refl n.number n.unreleased)
@@ -287,6 +281,6 @@ none_released c o marks t q x i = elim (among_parts (claims_of c t.run t.allocat
     by Granted is j = absurd j
     by (Chosen place) is j = absurd j
     by (Used place) is (inr j) = absurd j
-    by (Used place) is (inl e) = false_from_ne_true (is_released_in true t.snapshot marks x.page x.index) (λ r.
+    by (Used place) is (inl e) = false_from_ne_true _ (λ r.
         let bits = released_bits t.snapshot marks x.page x.index r in
         true≢false (sym (q.within x.page x.index bits.0) ∙ rw e (q.taken place is)))

@@ -3,8 +3,8 @@ use Rattle.mk_laws.proofs.Vocabulary.{Bool, Caller, Config, Flight, Holding, Hol
 use Rattle.mk_laws.proofs.Vocabulary.{Op, Placing, Seat, Stage, Step, Tally, Word, access, and_parts, ap, arith}
 use Rattle.mk_laws.proofs.Vocabulary.{caller_number, enabled_meets, false, flight_of, has_next_word, holder_number}
 use Rattle.mk_laws.proofs.Vocabulary.{is_new_at, is_none, is_number_of, is_scanned, is_under_turn, left, ltb-true}
-use Rattle.mk_laws.proofs.Vocabulary.{marker_at, nat_le, nat_lt, not, outside, page_met, refl, seat_exists, tally_word}
-use Rattle.mk_laws.proofs.Vocabulary.{true, word_accessed, word_met, ℕ, ◌&&◌, ◌*◌, ◌++◌, ◌<◌, ◌∙◌, ◌≡◌, ◌≤◌}
+use Rattle.mk_laws.proofs.Vocabulary.{marker_at, nat_lt, not, outside, page_met, refl, seat_exists, tally_word, true}
+use Rattle.mk_laws.proofs.Vocabulary.{word_accessed, word_met, ℕ, ◌&&◌, ◌*◌, ◌++◌, ◌<◌, ◌∙◌, ◌≡◌, ◌≤◌}
 use Rattle.mk_laws.proofs.Basics.{Known, Meets, grants_new, is_grant, known_left, new_holds, operands_of}
 use Rattle.mk_laws.proofs.Basics.{register_small}
 use Rattle.mk_never.specs.declared.operations.Op.TheVariants as op
@@ -29,9 +29,9 @@ number_small c (Caller k) small h = let lt = ltb-true k c.callers h in omega ari
 number_small c _ small h = omega arith
 
 seat_operands : (c : Config) (m : Moment) (seat : Seat) → Known c m → Operands (flight_of m seat).op
-seat_operands c m (Caller k) known = operands_of c (flight_of m (Caller k)).op (known.operands k)
-seat_operands c m (Marker k) known = operands_of c (flight_of m (Marker k)).op refl
-seat_operands c m Host known = operands_of c (flight_of m Host).op refl
+seat_operands c m (Caller k) known = operands_of c _ (known.operands k)
+seat_operands c m (Marker k) known = operands_of c _ refl
+seat_operands c m Host known = operands_of c _ refl
 
 seat_marker : (c : Config) (m : Moment) (seat : Seat) → InHeap c m → MarkerFits c (marker_at m seat)
 seat_marker c m (Marker k) h = h.markers k
@@ -41,7 +41,7 @@ seat_marker c m _ h = nothing_fits c outside refl refl
 looked_at : (c : Config) (x : Word) → c.callers ≤ 16 → is_word c x ≡ true → NamesWord c.pages x
 looked_at c (word.Gate j) small h = let lt = ltb-true j c.callers h in omega arith
 looked_at c (word.Reg j r) small h =
-    let both = and_parts (nat_lt j c.callers) (nat_lt r 8) h in
+    let both = and_parts _ (nat_lt r 8) h in
     let lt = ltb-true j c.callers both.0 in
     (omega arith, ltb-true r 8 both.1)
 looked_at c (word.Global g) small h = ltb-true g 64 h
@@ -61,14 +61,12 @@ tallied pages _ = tt
 -- the word that a call accesses
 met : (c : Config) (f : Flight) → is_word_met c f ≡ true → (word_met f < 64 * c.pages) × (page_met f < c.pages)
 met c f h =
-    let lt = ltb-true (word_met f) (64 * c.pages)
-    (and_parts (nat_le 65536 f.q) (nat_lt (word_met f) (64 * c.pages)) h).1 in
+    let lt = ltb-true (word_met f) (64 * c.pages) (and_parts _ _ h).1 in
     (lt, omega arith)
 
 other_gate : (c : Config) (seat : Seat) (j : ℕ) → c.callers ≤ 16
     → (nat_lt j c.callers && not (is_number_of seat j)) ≡ true → j < 16
-other_gate c seat j small h = let lt =
-    ltb-true j c.callers (and_parts (nat_lt j c.callers) (not (is_number_of seat j)) h).0 in omega arith
+other_gate c seat j small h = let lt = ltb-true j c.callers (and_parts _ _ h).0 in omega arith
 
 reaches : (c : Config) (m : Moment) (seat : Seat) (x : Step) → Known c m → InHeap c m → Meets c m seat x
     → IsOfTable c.pages (word_accessed c m (record { seat = seat; step = x }))
@@ -132,7 +130,7 @@ granter_holds : (c : Config) (m : Moment) (seat : Seat) → Meets c m seat step.
 granter_holds c m seat h =
     let new = grants_new c m seat h in
     let own = new_holds c m seat step.Grant h new in
-    rw own.2 (own.1, new_in_turn (flight_of m (Caller own.0)).stage (flight_of m (Caller own.0)).op (rw own.2 at new))
+    rw own.2 (own.1, new_in_turn _ _ (rw own.2 at new))
 
 same_access : (c : Config) (m n : Moment) (seat : Seat) (x : Step) → flight_of n seat ≡ flight_of m seat
     → marker_at n seat ≡ marker_at m seat → (is_grant x ≡ true → n.seats.holding ≡ m.seats.holding)

@@ -1,8 +1,7 @@
 -- An unreleased allocation keeps its place, and stays unreleased, up to a `release`.
 use Rattle.mk_laws.proofs.Vocabulary.{Config, Event, LeavesPlaces, List, PlacedAllocation, Seat, Step, World, [], ap}
-use Rattle.mk_laws.proofs.Vocabulary.{cell_freed, cell_of_allocation, changed_at, false, flight_of, freed_leaves}
-use Rattle.mk_laws.proofs.Vocabulary.{freed_released, freed_where_it_stands, fresh_leaves, granted, is_release}
-use Rattle.mk_laws.proofs.Vocabulary.{left_from, list_any, map, no_longer_fresh, or_parts, placed_at, refl}
+use Rattle.mk_laws.proofs.Vocabulary.{cell_of_allocation, changed_at, false, freed_leaves, freed_released, fresh_leaves}
+use Rattle.mk_laws.proofs.Vocabulary.{is_release, left_from, list_any, map, no_longer_fresh, or_parts, placed_at, refl}
 use Rattle.mk_laws.proofs.Vocabulary.{world_behind, ℕ, ◌∙◌, ◌∷◌, ◌≡◌}
 use Rattle.mk_laws.proofs.Basics.{WorldBehind, same_cell}
 use Rattle.mk_core.specs.declared.events.Step.TheVariants as step
@@ -23,22 +22,19 @@ changed_puts : (g : PlacedAllocation → PlacedAllocation) (xs : List PlacedAllo
 changed_puts g xs i leaves u =
     let at = changed_at g xs i leaves.none in
     record {
-      base = ap (λ (a : PlacedAllocation). a.base) at ∙ leaves.base (placed_at xs i);
-      ty = ap (λ (a : PlacedAllocation). a.ty) at ∙ leaves.ty (placed_at xs i);
+      base = ap (λ (a : PlacedAllocation). a.base) at ∙ leaves.base _;
+      ty = ap (λ (a : PlacedAllocation). a.ty) at ∙ leaves.ty _;
       unreleased = ap (λ (a : PlacedAllocation). a.released) at ∙ u;
     }
 
 pub put_step : (c : Config) (w : World) (seat : Seat) (x : Step) (i : ℕ) → is_release x ≡ false
     → (placed_at w.allocations i).released ≡ false
     → StaysPut (placed_at w.allocations i) (placed_at (WorldBehind c w seat x).allocations i)
-put_step c w seat (step.Quar p n) i out u =
-    changed_puts (freed_where_it_stands w.now.words (cell_freed c.pages w.now.words (flight_of w.now seat) p n))
-    w.allocations i (freed_leaves w.now.words (cell_freed c.pages w.now.words (flight_of w.now seat) p n))
-    (freed_released w.now.words (cell_freed c.pages w.now.words (flight_of w.now seat) p n) (placed_at w.allocations i)
-    ∙ u)
+put_step c w seat (step.Quar p n) i out u = changed_puts _ w.allocations i (freed_leaves w.now.words _)
+    (freed_released w.now.words _ _ ∙ u)
 put_step c w seat step.Begin i out u = changed_puts no_longer_fresh w.allocations i fresh_leaves u
 put_step c w seat step.Grant i out u =
-    let still = still_at w.allocations (granted c w.now (flight_of w.now seat)) i u in
+    let still = still_at w.allocations _ i u in
     record {
       base = ap (λ (a : PlacedAllocation). a.base) still;
       ty = ap (λ (a : PlacedAllocation). a.ty) still;
@@ -53,7 +49,7 @@ pub stays_put : (c : Config) (w : World) (es : List Event) (i : ℕ)
 unfolding left_from
 stays_put c w [] i none u = record { base = refl; ty = refl; unreleased = u }
 stays_put c w (e ∷ es) i none u =
-    let outs = or_parts (is_release e.step) (list_any (λ (x : Event). is_release x.step) es) none in
+    let outs = or_parts _ (list_any (λ (x : Event). is_release x.step) es) none in
     let one = put_step c w e.seat e.step i outs.0 u in
     let rest = stays_put c (world_behind c w e) es i outs.1 one.unreleased in
     record { base = rest.base ∙ one.base; ty = rest.ty ∙ one.ty; unreleased = rest.unreleased }

@@ -2,10 +2,10 @@
 use Rattle.std.specs.Prelude.{◌-◌}
 use Rattle.mk_laws.proofs.Vocabulary.{Bool, Cell, Config, HasItsHead, Header, Invariant, IsFreedCell, IsTaken, LeafRun}
 use Rattle.mk_laws.proofs.Vocabulary.{NeverState, OfHistories, Option, PlacedAllocation, Run, RunPages, Some, World}
-use Rattle.mk_laws.proofs.Vocabulary.{and_parts, ap, arith, cell_of_allocation, false, first_word, header_in, inl, inr}
-use Rattle.mk_laws.proofs.Vocabulary.{is_freed, is_phase, is_released_in, left, ne_eqb, never_behind, not, not-true}
-use Rattle.mk_laws.proofs.Vocabulary.{phase_of, placed_at, refl, run_count, run_headed, stands_in, stands_in_its_cell}
-use Rattle.mk_laws.proofs.Vocabulary.{sym, true, true≢false, typed_size, ℕ, ◌<◌, ◌==◌, ◌∙◌, ◌≡◌, ◌≢◌, ◌≤◌, ◌⊎◌}
+use Rattle.mk_laws.proofs.Vocabulary.{and_parts, ap, arith, cell_of_allocation, false, header_in, inl, inr, is_freed}
+use Rattle.mk_laws.proofs.Vocabulary.{is_phase, is_released_in, left, ne_eqb, not-true, phase_of, placed_at, refl}
+use Rattle.mk_laws.proofs.Vocabulary.{run_count, run_headed, stands_in, stands_in_its_cell, sym, true, true≢false}
+use Rattle.mk_laws.proofs.Vocabulary.{typed_size, ℕ, ◌<◌, ◌∙◌, ◌≡◌, ◌≢◌, ◌≤◌, ◌⊎◌}
 use Rattle.mk_laws.proofs.Basics.{KnownWorld, known_world}
 use Rattle.mk_core.specs.Readings.{WordsTellWhatStands}
 use Rattle.mk_core.proofs.PointedAllocations.{taken_cell_is}
@@ -21,7 +21,7 @@ run_there (Some (LeafRun count)) page distance lt = (record { page = page; count
 run_there _ page distance lt = absurd (omega arith)
 
 pub not_releasing : (w : World) → phase_of w.now.words ≢ 4 → is_phase w.now.words 4 ≡ false
-not_releasing w quiet = ne_eqb (phase_of w.now.words) 4 quiet
+not_releasing w quiet = ne_eqb _ 4 quiet
 
 module _ (c : Config) (w : World) (n : NeverState) (known : KnownWorld c w) (all : Invariant c w n) where
   -- A freed bit is that of a freed allocation's cell, where the phase isn't releasing.
@@ -43,7 +43,7 @@ module _ (c : Config) (w : World) (n : NeverState) (known : KnownWorld c w) (all
       × (distance < run.count) × (distance ≤ p)
   later_page quiet p distance has = elim has.1 [
     | inl lt ↦
-        let r = run_there (header_in w.now.words (p - distance)) (p - distance) distance lt in
+        let r = run_there _ (p - distance) distance lt in
         (r.0, r.1, r.2, has.0)
     | inr lost ↦ absurd (true≢false (sym lost.0 ∙ not_releasing w quiet))
   ]
@@ -67,7 +67,7 @@ module _ (c : Config) (w : World) (n : NeverState) (known : KnownWorld c w) (all
       × (cell_of_allocation c (placed_at w.allocations t.number) ≡ cell)
   taken cell t =
       let a : PlacedAllocation = placed_at w.allocations t.number in
-      let u = not-true a.released (and_parts (not a.released) (a.base == first_word w.now.words cell) t.stands).0 in
+      let u = not-true a.released (and_parts _ _ t.stands).0 in
       let s = standing c w known all.order.laid t.number u in
       taken_cell_is c w cell t (typed_size c a known.limits s.stands.typed) s.headers
 
@@ -83,6 +83,5 @@ module _ (c : Config) (w : World) (n : NeverState) (known : KnownWorld c w) (all
       }
 
 pub headers_and_quarantine_tell : OfHistories HeadersAndQuarantineTell
-headers_and_quarantine_tell c es h =
-    words_tell c (left c es) (never_behind c es) (known_world c es h.within_limits h.enabled)
+headers_and_quarantine_tell c es h = words_tell c (left c es) _ (known_world c es h.within_limits h.enabled)
     (histories_keep_the_invariant c es h)

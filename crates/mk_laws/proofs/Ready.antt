@@ -30,7 +30,7 @@ pub pointed_word : (listed : List ℕ) (safe : ℕ → Bool) (s : ImageScene) (n
     → (a t o : ℕ) → IsSound n (Ptr a t o) → o < length (words_of n a)
 pointed_word listed safe s n h a t o sound =
     let typed : IsTypedAllocation n (allocation_at n a) = h.typed.allocations a sound.0 in
-    let place = place_is_inside (kinds_of n.types t) o sound.2 (h.full t (rw sound.1 typed.ty)) in
+    let place = place_is_inside _ o sound.2 (h.full t (rw sound.1 typed.ty)) in
     let place' : o < length (kinds_of n.types (allocation_at n a).ty) = rw sound.1 at place in
     omega (arith, typed.size)
 

@@ -152,7 +152,7 @@ module _ (listed : List ℕ) (safe : ℕ → Bool) (s : ImageScene) (n : NeverSt
         let tests : (x == 0) ≡ is_same v Null = rw e
         (image_test listed safe s n h v Null (h.typed.registers (8 * k + p')) tt (h.set.registers (8 * k + p')) tt) in
         decides_nothing safe s n k (op.IsNull p') _ (answer.Num (one_if (x == 0))) refl (rw is) refl refl
-        (λ bs. rw tests (ap answer.Num (bit_is (is_same v Null))))
+        (λ bs. rw tests (ap answer.Num (bit_is _)))
     reg_p (op.Free p') q p r l x is a car e =
         let was = ap (λ (f : Flight). is_put f.stage) is in
         either_leads safe s n k (op.Free p') s (x == 0) _ _
@@ -166,8 +166,7 @@ module _ (listed : List ℕ) (safe : ℕ → Bool) (s : ImageScene) (n : NeverSt
         → is_astray (standing_at stage.LoadR o) ≡ false → CarriesOwn bases n k (flight stage.LoadR o q p r l)
         → x ≡ image_of bases (register_at n k (r_of o))
         → LeadsBy safe s n k o s (onward (record (flight stage.LoadR o q p r l) { r = x }) None)
-    reg_r (op.CasPtr q' i p' r') q p r l x is a car e =
-        flies_on safe s n k (op.CasPtr q' i p' r') (flight stage.Probe (op.CasPtr q' i p' r') q p x l) (rw is) refl
+    reg_r (op.CasPtr q' i p' r') q p r l x is a car e = flies_on safe s n k (op.CasPtr q' i p' r') _ (rw is) refl
         (record {
           q = λ y. car.q refl;
           some_q = λ y. car.some_q refl;

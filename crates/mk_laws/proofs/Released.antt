@@ -1,14 +1,13 @@
 -- `release` on the terrain: an allocation is released exactly where its cell is left unmarked.
 use Rattle.mk_laws.proofs.Vocabulary.{Among, BeginsAtCell, Bool, Cell, Claim, Config, HasItsHeaders, IsAtCell, IsShown}
 use Rattle.mk_laws.proofs.Vocabulary.{IsSized, IsWithinLimits, List, None, Object, Option, Place, PlacedAllocation}
-use Rattle.mk_laws.proofs.Vocabulary.{RunPages, RunStands, Some, StandsOnHeap, Words, World, address_of, ap, arith}
-use Rattle.mk_laws.proofs.Vocabulary.{base_made, cases_Bool, cell_of_allocation, cells_made, claim_of, claims_of}
-use Rattle.mk_laws.proofs.Vocabulary.{claims_placed, false, ground_of, has_bit_without, header_at, inl, inr}
-use Rattle.mk_laws.proofs.Vocabulary.{is_left_unmarked, is_released_in, is_small_object, is_some_and, large_cells}
-use Rattle.mk_laws.proofs.Vocabulary.{large_words, layout_scene_of, length, map, object_placed, or_parts, pages_made}
-use Rattle.mk_laws.proofs.Vocabulary.{placed_at, pointed_cell, refl, released_leaves, released_where_left, run_begins}
-use Rattle.mk_laws.proofs.Vocabulary.{slice_index, small, small_pages, storage_words, sym, true, true≢false}
-use Rattle.mk_laws.proofs.Vocabulary.{with_released, words_made, ℕ, ◌*◌, ◌++◌, ◌+◌, ◌/◌, ◌<◌, ◌∙◌, ◌≡◌, ◌≤◌, ◌⊎◌}
+use Rattle.mk_laws.proofs.Vocabulary.{RunPages, RunStands, Some, StandsOnHeap, Words, World, ap, arith, base_made}
+use Rattle.mk_laws.proofs.Vocabulary.{cases_Bool, cell_of_allocation, cells_made, claim_of, claims_of, claims_placed}
+use Rattle.mk_laws.proofs.Vocabulary.{false, ground_of, has_bit_without, inl, inr, is_released_in, is_small_object}
+use Rattle.mk_laws.proofs.Vocabulary.{large_cells, large_words, length, map, object_placed, or_parts, pages_made}
+use Rattle.mk_laws.proofs.Vocabulary.{placed_at, refl, released_leaves, released_where_left, run_begins, small}
+use Rattle.mk_laws.proofs.Vocabulary.{small_pages, storage_words, sym, true, true≢false, with_released, words_made, ℕ}
+use Rattle.mk_laws.proofs.Vocabulary.{◌*◌, ◌+◌, ◌/◌, ◌<◌, ◌∙◌, ◌≡◌, ◌≤◌, ◌⊎◌}
 use Rattle.mk_core.proofs.StandingAllocations.{cell_ends_within, made_begins, placed_cell, run_cell}
 use Rattle.mk_laws.proofs.LayoutReadings.{header_of_mode}
 use Rattle.mk_laws.proofs.ProtocolKept.{kept}
@@ -49,13 +48,12 @@ stands_there c run w a len shown u at =
         unreleased = u;
         begins = at.begins;
         within =
-            let ends = ends_on_pages (object_placed c a) a.base shown.sized at.begins in
+            let ends = ends_on_pages _ a.base shown.sized at.begins in
             let inside : a.base / 64 + pages_made (object_placed c a) ≤ length w.pages = shown.within in
             let words : storage_words c a ≡ words_made (object_placed c a) = refl in
             omega arith;
       };
-      headers = λ d lt. header_of_mode (claim_of c run a).mode (object_placed c a) d (header_at w (a.base / 64 + d))
-          (shown.headers d lt);
+      headers = λ d lt. header_of_mode _ _ d _ (shown.headers d lt);
     }
 
 -- The index of its cell, where it is large.
@@ -86,19 +84,13 @@ all_stand c o releasing w len st i u =
 
 pub releasing_leaves : (c : Config) (w : Words) → LeavesCells (with_released c w)
 releasing_leaves c w =
-    record {
-      places = released_leaves c w;
-      released = λ a h. (or_parts a.released
-          (is_some_and (is_left_unmarked w) (pointed_cell c.pages w.pages (address_of a.base))) h).0;
-    }
+    record { places = released_leaves c w; released = λ a h. (or_parts a.released _ h).0 }
 
 -- whether a release of the allocation's cell releases it
 pub left_is : (c : Config) (w : Words) (a : PlacedAllocation) → IsWithinLimits c → IsStanding c w a
     → (with_released c w a).released
     ≡ is_released_in true w.snapshot w.marks (a.base / 64) (cell_of_allocation c a).index
-left_is c w a limits st = released_where_left c w a limits st.stands st.headers
-    ∙ has_bit_without (slice_index w.snapshot (a.base / 64)) (slice_index w.marks (a.base / 64))
-    (cell_of_allocation c a).index
+left_is c w a limits st = released_where_left c w a limits st.stands st.headers ∙ has_bit_without _ _ _
 
 -- a claim goes exactly where its cell is released
 pub goes : (c : Config) (run : Option RunPages) (w : Words) (xs : List PlacedAllocation) (x : Claim) → IsWithinLimits c
@@ -122,26 +114,24 @@ released_terrain c o w limits len st kept =
     let own : List Claim = claims_of c w.now.seats.holding.freed w.allocations in
     let placed : List Claim = claims_placed o w.now.seats.holding.placing in
     record {
-      scene = layout_released (layout_scene_of c o false w.now.words.marks (ground_of w))
-          (claims_of c w.now.seats.holding.freed ys ++ placed) st.scene refl (record {
-            fewer = λ x i. elim (among_parts (claims_of c w.now.seats.holding.freed ys) placed x i) [
-              | inl j ↦ own_claim c o (ground_of w) x (was x j)
-              | inr j ↦ placed_claim c o (ground_of w) x j
-            ];
-            apart = apart_joined (claims_of c w.now.seats.holding.freed ys) placed
-                (apart_behind c w.now.seats.holding.freed w.now.seats.holding.freed (with_released c w.now.words)
-                w.allocations (releasing_leaves c w.now.words) (apart_left own placed st.scene.apart))
-                (apart_right own placed st.scene.apart)
-                (λ x y ix iy. apart_across own placed x y st.scene.apart (was x ix) iy);
-            gone = λ x i. elim (among_parts own placed x i) [
-              | inl j ↦ elim (going x j)
-                  [ inl k ↦ inl (among_front (claims_of c w.now.seats.holding.freed ys) placed x k) | inr r ↦ inr r ]
-              | inr j ↦ inl (among_back (claims_of c w.now.seats.holding.freed ys) placed x j)
-            ];
-          });
+      scene = layout_released _ _ st.scene refl (record {
+        fewer = λ x i. elim (among_parts _ placed x i) [
+          | inl j ↦ own_claim c o (ground_of w) x (was x j)
+          | inr j ↦ placed_claim c o (ground_of w) x j
+        ];
+        apart = apart_joined _ placed
+            (apart_behind c w.now.seats.holding.freed w.now.seats.holding.freed (with_released c w.now.words)
+            w.allocations (releasing_leaves c w.now.words) (apart_left own placed st.scene.apart))
+            (apart_right own placed st.scene.apart)
+            (λ x y ix iy. apart_across own placed x y st.scene.apart (was x ix) iy);
+        gone = λ x i. elim (among_parts own placed x i) [
+          | inl j ↦ elim (going x j) [ inl k ↦ inl (among_front _ placed x k) | inr r ↦ inr r ]
+          | inr j ↦ inl (among_back _ placed x j)
+        ];
+      });
       gone = gone w.now.seats.holding.freed refl st.gone;
       first = st.first;
-      cells = cells_behind c (with_released c w.now.words) w.allocations (releasing_leaves c w.now.words) st.cells;
+      cells = cells_behind c _ w.allocations (releasing_leaves c w.now.words) st.cells;
     }
   where
     was : (x : Claim) → Among x

@@ -8,8 +8,8 @@ use Rattle.mk_laws.proofs.Vocabulary.{earlier_part_is_history, enabled_in_parts,
 use Rattle.mk_laws.proofs.Vocabulary.{has_bit_of, has_bit_without, is_begin, is_close, is_marked, is_quarantined}
 use Rattle.mk_laws.proofs.Vocabulary.{is_release, left, left_from, left_in_parts, list_any, list_any-append, map}
 use Rattle.mk_laws.proofs.Vocabulary.{never_behind, never_in_parts, not, not-true, phase_of, placed_at, refl}
-use Rattle.mk_laws.proofs.Vocabulary.{released_leaves, released_where_left, slice_index, subst, sym, true}
-use Rattle.mk_laws.proofs.Vocabulary.{with_released, world_behind, ℕ, ◌&&◌, ◌++◌, ◌||◌, ◌∙◌, ◌∷◌, ◌≡◌}
+use Rattle.mk_laws.proofs.Vocabulary.{released_leaves, released_where_left, subst, sym, true, with_released}
+use Rattle.mk_laws.proofs.Vocabulary.{world_behind, ℕ, ◌&&◌, ◌++◌, ◌||◌, ◌∙◌, ◌∷◌, ◌≡◌}
 use Rattle.mk_never.specs.Reach.{IsReachable}
 use Rattle.mk_core.specs.declared.events.Step.TheVariants as step
 use Rattle.mk_core.specs.Allocations.{allocations_by}
@@ -41,17 +41,17 @@ none_begins c w b x ys zs on begins no_close closes no_release =
     let first = moves_phase c w b (ys ++ x ∷ zs) on in
     let one : phase_of (world_behind c w b).now.words ≡ 1 = first.1
     ∙ ap (λ (s : Step). phase_behind s (phase_of w.now.words)) (begin_is b.step begins) in
-    let parts = enabled_parts c (world_behind c w b) ys (x ∷ zs) first.2 in
+    let parts = enabled_parts c _ ys (x ∷ zs) first.2 in
     let begun : IsMarking (phase_of (world_behind c w b).now.words) =
     record { least = omega arith; most = omega arith } in
-    let marking = marking_goes_on c (world_behind c w b) ys parts.0 begun no_close in
+    let marking = marking_goes_on c _ ys parts.0 begun no_close in
     let v : World = left_from c (world_behind c w b) ys in
     let close = moves_phase c v x zs parts.1 in
     let three : phase_of (world_behind c v x).now.words ≡ 3 = close.1
     ∙ ap (λ (s : Step). phase_behind s (phase_of v.now.words)) (close_is x.step closes) in
     let closed : IsUnreleased (phase_of (world_behind c v x).now.words) =
     record { least = omega arith; most = omega arith } in
-    let rest = none_is_released c (world_behind c v x) zs close.2 closed no_release in
+    let rest = none_is_released c _ zs close.2 closed no_release in
     list_any-append (λ (e : Event). is_begin e.step) ys (x ∷ zs)
     ∙ ap (λ b. b || list_any (λ (e : Event). is_begin e.step) (x ∷ zs)) marking.none_begins
     ∙ ap (λ (s : Step). is_begin s || list_any (λ (e : Event). is_begin e.step) zs) (close_is x.step closes)
@@ -101,7 +101,7 @@ module _ (c : Config) (es : List Event) (h : IsHistory c es) (r : Releasing es) 
   before_is_history = earlier_part_is_history c front (last.event ∷ last.behind) whole
 
   behind_is_history : IsHistory c (front ++ last.event ∷ [])
-  behind_is_history = earlier_part_is_history c (front ++ last.event ∷ []) last.behind
+  behind_is_history = earlier_part_is_history c _ last.behind
       (subst (λ (xs : List Event). IsHistory c xs) (sym (append_assoc front (last.event ∷ []) last.behind)) whole)
 
   -- the `begin`, in the list up to the `release`
@@ -116,7 +116,7 @@ module _ (c : Config) (es : List Event) (h : IsHistory c es) (r : Releasing es) 
       }
 
   no_other : list_any (λ (e : Event). is_begin e.step) begin_at.behind ≡ false
-  no_other = none_begins c (left c begin.before) begin.event close.event close.before last.before
+  no_other = none_begins c _ begin.event close.event close.before last.before
       (enabled_at c front is_begin begin_at before_is_history)
       begin.of_kind r.marking.close.none_before close.of_kind r.release.none_before
 
@@ -134,8 +134,7 @@ module _ (c : Config) (es : List Event) (h : IsHistory c es) (r : Releasing es) 
   snapshot_is =
       let at = stopped in
       let phase : IsUnreleased (phase_of w.now.words) = record { least = omega arith; most = omega arith } in
-      snapshot_is_the_cycles c front before_is_history begin_at no_other
-      (unreleased_cycles (phase_of w.now.words) phase).0
+      snapshot_is_the_cycles c front before_is_history begin_at no_other (unreleased_cycles _ phase).0
 
   abbrev in_snapshot : ℕ → Bool
   in_snapshot i = is_quarantined (placed_at (left c begin.before).allocations i)
@@ -156,25 +155,24 @@ module _ (c : Config) (es : List Event) (h : IsHistory c es) (r : Releasing es) 
       ap (λ (x : Step). allocations_by c w.now (flight_of w.now last.event.seat) x w.allocations) releases in
       let changed : (left c (front ++ last.event ∷ [])).allocations ≡ map (with_released c w.now.words) w.allocations =
       ap (λ (v : World). v.allocations) (left_in_parts c front (last.event ∷ [])) ∙ by_kind in
-      let at = changed_at (with_released c w.now.words) w.allocations i (released_leaves c w.now.words).none in
+      let at = changed_at _ w.allocations i (released_leaves c w.now.words).none in
       ap (λ (xs : List PlacedAllocation). (placed_at xs i).released) changed
       ∙ ap (λ (x : PlacedAllocation). x.released) at
-      ∙ released_where_left c w.now.words a h.within_limits s.stands s.headers
-      ∙ has_bit_without (slice_index w.now.words.snapshot cell.page) (slice_index w.now.words.marks cell.page)
-      cell.index ∙ ap (λ b. b && not (marked i)) (snapshot_is i u)
+      ∙ released_where_left c w.now.words a h.within_limits s.stands s.headers ∙ has_bit_without _ _ cell.index
+      ∙ ap (λ b. b && not (marked i)) (snapshot_is i u)
 
   pub exact : (i : ℕ) → (allocation_before c r i).released ≡ false
       → ((allocation_behind c r i).released ≡ true) ↔ ((in_snapshot i ≡ true) × (marked i ≡ false))
   exact i u = (
     λ gone.
-        let parts = and_parts (in_snapshot i) (not (marked i)) (sym (released_is i u) ∙ gone) in
+        let parts = and_parts (in_snapshot i) _ (sym (released_is i u) ∙ gone) in
         (parts.0, not-true (marked i) parts.1),
-    λ both. released_is i u ∙ and_from (in_snapshot i) (not (marked i)) both.0 (ap not both.1),
+    λ both. released_is i u ∙ and_from (in_snapshot i) _ both.0 (ap not both.1),
   )
 
   pub none_reached : (number : ℕ) → IsReachable (never_behind c front) number
       → (allocation_behind c r number).released ≡ false
-  none_reached number reached = reach_is_kept c (front ++ last.event ∷ []) behind_is_history number
+  none_reached number reached = reach_is_kept c _ behind_is_history number
       (subst (λ (n : NeverState). IsReachable n number) (sym (never_stays c front last.event last.of_kind)) reached)
 
 pub releases_are_exact : OfHistories ReleasesAreExact

@@ -197,8 +197,7 @@ layout_given_back s p n laid lt on gives kept =
           sized = stands.sized;
           within = let l = len in let w = stands.within in omega arith;
           headers = λ d ld. rw (used_header s.pages p n (first + d) lt) (stands.headers d ld);
-          used = λ d ld. zero_where_none (used_on (with_used_on s.pages p n) (first + d))
-              (λ k h. none_set (used_on s.pages (first + d)) k (stands.used d ld) (fewer (first + d) k h));
+          used = λ d ld. zero_where_none _ (λ k h. none_set _ k (stands.used d ld) (fewer (first + d) k h));
         }
 
 -- `release`: some claims go, and their cells are released
@@ -265,8 +264,7 @@ layout_ended s laid ends =
     with_bit : (p k : ℕ) → has_bit (used_on s.pages p) k ≡ true → p < length s.pages
     with_bit p k h = elim (cases_lt p (length s.pages)) [
       | inl lt ↦ lt
-      | inr ge ↦ absurd (none_set (used_on s.pages p) k
-          (ap (λ (x : Page). x.used) (get_or_past s.pages p free_page ge)) h)
+      | inr ge ↦ absurd (none_set _ k (ap (λ (x : Page). x.used) (get_or_past s.pages p free_page ge)) h)
     ]
 
     by : (p k : ℕ) → has_bit (used_on s.pages p) k ≡ true → IsClaimed s.claims p k ⊎ (is_released_on s p k ≡ true)

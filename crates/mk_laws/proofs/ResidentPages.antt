@@ -99,8 +99,7 @@ pub room_fewer : (c : Config) (o u : Object) (pages others : List Page) (placing
     → ((q : ℕ) → q < c.pages → is_taken_page others (plot_of u other) q ≡ true
     → is_taken_page pages (plot_of o placing) q ≡ true) → RoomOn c o pages placing → RoomOn c u others other
 room_fewer c o u pages others placing other fewer room =
-    let less = count_fewer c.pages (is_taken_page others (plot_of u other)) (is_taken_page pages (plot_of o placing))
-    fewer in
+    let less = count_fewer c.pages _ _ fewer in
     omega arith
 
 -- without a plot fewer are
@@ -108,8 +107,7 @@ pub room_unplaced : (c : Config) (o u : Object) (pages others : List Page) (plac
     → plot_of u other ≡ NoPlot → ((q : ℕ) → q < c.pages → is_resident others q ≡ true → is_resident pages q ≡ true)
     → RoomOn c o pages placing → RoomOn c u others other
 room_unplaced c o u pages others placing other none fewer room =
-    room_fewer c o u pages others placing other (λ q lt t. or_left (is_resident pages q) (in_plot (plot_of o placing) q)
-    (elim (or_cases (is_resident others q) (in_plot (plot_of u other) q) t) [
+    room_fewer c o u pages others placing other (λ q lt t. or_left _ _ (elim (or_cases _ _ t) [
       | inl r ↦ fewer q lt r
       | inr i ↦ absurd (true≢false (sym i ∙ rw none))
     ])) room
@@ -119,10 +117,7 @@ pub room_same : (c : Config) (o : Object) (pages others : List Page) (placing : 
     → ((q : ℕ) → q < c.pages → is_resident others q ≡ true → is_taken_page pages (plot_of o placing) q ≡ true)
     → RoomOn c o pages placing → RoomOn c o others placing
 room_same c o pages others placing fewer room = room_fewer c o o pages others placing placing
-    (λ q lt t. elim (or_cases (is_resident others q) (in_plot (plot_of o placing) q) t) [
-      | inl r ↦ fewer q lt r
-      | inr i ↦ or_right (is_resident pages q) (in_plot (plot_of o placing) q) i
-    ]) room
+    (λ q lt t. elim (or_cases _ _ t) [ inl r ↦ fewer q lt r | inr i ↦ or_right _ _ i ]) room
 
 -- whether a page is resident is said by its header
 pub resident_use : (x : Option Header) (u v : ℕ) → is_resident_page (use_under x u) ≡ is_resident_page (use_under x v)

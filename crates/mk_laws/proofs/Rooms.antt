@@ -223,7 +223,7 @@ room_behind c w seat x b h laid room =
     let kind = room_by_kind c w seat x b h laid room in
     elim (cases_Bool (has_place v.now.seats.holding.placing)) [
       | inl has ↦ rw (object_kind c w seat x b.known h has) kind
-      | inr none ↦ room_unplaced c (object_now c w.now) (object_now c v.now) v.now.words.pages v.now.words.pages
+      | inr none ↦ room_unplaced c _ _ v.now.words.pages v.now.words.pages
           v.now.seats.holding.placing v.now.seats.holding.placing
-          (no_plot (object_now c v.now) v.now.seats.holding.placing none) (λ q lt r. r) kind
+          (no_plot _ v.now.seats.holding.placing none) (λ q lt r. r) kind
     ]

@@ -2,12 +2,11 @@
 use Rattle.std.specs.Prelude.{Bool}
 use Rattle.mk_laws.proofs.Vocabulary.{Bool, Caller, Cell, Config, Header, Host, IsWordOfMapped, LayoutStands, List}
 use Rattle.mk_laws.proofs.Vocabulary.{Marker, Moment, None, Option, Run, RunPages, Seat, Some, Step, Words, World, ap}
-use Rattle.mk_laws.proofs.Vocabulary.{caller_number, cases_Bool, cases_eq, cases_lt, cell_freed, false, flight_of}
-use Rattle.mk_laws.proofs.Vocabulary.{freed_cell, get_or-set_other, get_or-set_same, header_in, heads_run}
-use Rattle.mk_laws.proofs.Vocabulary.{holder_number, if◌then◌else◌, inl, inr, is_heap_store, is_run_cell, is_run_gone}
-use Rattle.mk_laws.proofs.Vocabulary.{length, not, nothing_done, or_else, others_are_held, refl, reg_access}
-use Rattle.mk_laws.proofs.Vocabulary.{register_met, run_headed, run_of_cell, set_past, slice_index, slice_set, subst}
-use Rattle.mk_laws.proofs.Vocabulary.{sym, target, true, true≢false, word_met, ℕ, ◌+◌, ◌<◌, ◌==◌, ◌||◌, ◌∙◌, ◌≡◌, ◌≢◌}
+use Rattle.mk_laws.proofs.Vocabulary.{cases_Bool, cases_eq, cases_lt, cell_freed, false, flight_of, freed_cell}
+use Rattle.mk_laws.proofs.Vocabulary.{get_or-set_other, get_or-set_same, heads_run, holder_number, if◌then◌else◌, inl}
+use Rattle.mk_laws.proofs.Vocabulary.{inr, is_heap_store, is_run_cell, is_run_gone, length, not, nothing_done, or_else}
+use Rattle.mk_laws.proofs.Vocabulary.{refl, run_headed, run_of_cell, set_past, slice_index, slice_set, subst, sym}
+use Rattle.mk_laws.proofs.Vocabulary.{target, true, true≢false, word_met, ℕ, ◌+◌, ◌<◌, ◌==◌, ◌||◌, ◌∙◌, ◌≡◌, ◌≢◌}
 use Rattle.mk_laws.proofs.Basics.{Behind, Known, KnownWorld, Meets, at_its_stage, free_has_turn, others_held, reg_keeps}
 use Rattle.mk_laws.proofs.Basics.{tally_keeps, turn_of, view_of}
 use Rattle.mk_core.specs.declared.events.Step.TheVariants as step
@@ -42,23 +41,22 @@ exchanged gs n j k held e = ap (λ g. if g == 0 then n else g) (ap (λ i. slice_
 pub gates_stay : (c : Config) (m : Moment) (seat : Seat) (x : Step) → Known c m → Meets c m seat x → is_open x ≡ false
     → (k : ℕ) → k < c.callers → slice_index m.words.gates k ≡ 2 → slice_index (Behind c m seat x).words.gates k ≡ 2
 gates_stay c m seat (step.Enter o) known h out k lt held =
-    set_gate m.words.gates (caller_number seat) _ k held (exchanged m.words.gates 1 (caller_number seat) k held)
+    set_gate m.words.gates _ _ k held (exchanged m.words.gates 1 _ k held)
 gates_stay c m seat (step.Hold j) known h out k lt held =
     set_gate m.words.gates j _ k held (exchanged m.words.gates 2 j k held)
 gates_stay c m (Caller j) step.Leave known h out k lt held = set_gate m.words.gates j 0 k held own
   where
     own : k ≡ j → ◌≡◌ {A = ℕ} 0 2
     own e =
-        let at = at_its_stage (flight_of m (Caller j)).stage (flight_of m (Caller j)).op step.Leave refl h.order in
+        let at = at_its_stage _ _ step.Leave refl h.order in
         let here : (flight_of m (Caller j)).stage ≡ stage.Idle =
         subst (λ i. (flight_of m (Caller i)).stage ≡ stage.Idle) e (held_idle c (view_of m) k known.orderly lt held) in
         cc
 gates_stay c m (Marker j) step.Leave known h out k lt held = let kind = h.kind in cc
 gates_stay c m Host step.Leave known h out k lt held = let kind = h.kind in cc
 gates_stay c m seat (step.Open j) known h out k lt held = cc
-gates_stay c m seat step.Reg known h out k lt held = ap (λ (gs : List ℕ). slice_index gs k)
-    (reg_keeps m.words (caller_number seat) (register_met (flight_of m seat) (flight_of m seat).stage)
-    (reg_access (flight_of m seat) (flight_of m seat).stage)).gates ∙ held
+gates_stay c m seat step.Reg known h out k lt held = ap (λ (gs : List ℕ). slice_index gs k) (reg_keeps m.words _ _
+    _).gates ∙ held
 gates_stay c m seat (step.Tally n v) known h out k lt held =
     ap (λ (gs : List ℕ). slice_index gs k) (tally_keeps m.words n v).gates ∙ held
 gates_stay c m seat _ known h out k lt held = held
@@ -77,9 +75,7 @@ freed_kind c m seat _ out = cc
 
 turn_kind : (c : Config) (m : Moment) (seat : Seat) (x : Step) → moves_run x ≡ false
     → (Behind c m seat x).words.turn ≡ m.words.turn
-turn_kind c m seat step.Reg out =
-    (reg_keeps m.words (caller_number seat) (register_met (flight_of m seat) (flight_of m seat).stage)
-    (reg_access (flight_of m seat) (flight_of m seat).stage)).turn
+turn_kind c m seat step.Reg out = (reg_keeps m.words _ _ _).turn
 turn_kind c m seat (step.Tally n v) out = (tally_keeps m.words n v).turn
 turn_kind c m seat _ out = cc
 
@@ -91,7 +87,7 @@ heads _ p r is = cc
 some_run : (w : Words) (cell : Option Cell) (r : RunPages) → run_of_cell w cell ≡ Some r
     → (x : Cell) × ((cell ≡ Some x) × (is_run_cell w cell ≡ true))
 some_run w None r is = cc
-some_run w (Some x) r is = (x, (refl, heads (header_in w x.page) x.page r is))
+some_run w (Some x) r is = (x, (refl, heads _ x.page r is))
 
 either : (x y : Bool) → (not x || y) ≡ true → x ≡ true → y ≡ true
 either true y h is = h
@@ -133,14 +129,12 @@ module _ (c : Config) (w : World) (known : KnownWorld c w) (laid : LayoutStands 
           → is_run_gone w.now.words (or_else r w.now.seats.holding.freed) ≡ false → OthersHeld c w.now
       by None is off = gates off
       by (Some r) is off =
-          let x = some_run w.now.words (cell_freed c.pages w.now.words (flight_of w.now seat) p n) r is in
+          let x = some_run w.now.words _ r is in
           let frees = freed_cell c.pages w.now.words (flight_of w.now seat) p n x.0 x.1.0 in
           let same : cell_freed c.pages w.now.words (flight_of w.now seat) p n
           ≡ target c.pages w.now.words (flight_of w.now seat) = x.1.0 ∙ sym frees.at in
           let run = subst (λ (y : Option Cell). is_run_cell w.now.words y ≡ true) same x.1.1 in
-          let held =
-          others_held c w.now seat (either (is_run_cell w.now.words (target c.pages w.now.words (flight_of w.now seat)))
-          (others_are_held c.callers w.now.words seat) h.gates run) in
+          let held = others_held c w.now seat (either _ _ h.gates run) in
           let turn = turn_of c (view_of w.now) seat known.now.orderly (free_has_turn c w.now seat h.seat frees.free) in
           λ k lt other. held k lt (λ e. other (turn ∙ ap (λ i. 1 + i) e))
 

@@ -35,12 +35,10 @@ module _ (c : Config) (w : World) (known : KnownWorld c w) (laid : LayoutStands 
     (is : w.now.seats.holding.freed ≡ Some r)
     (gone : is_run_gone w.now.words w.now.seats.holding.freed ≡ true) where
   gone_parts : (is_run_unmapped w.now.words r ≡ true) × (words_are_zero w.now.words (64 * r.page) (64 * r.count) ≡ true)
-  gone_parts = and_parts (is_run_unmapped w.now.words r) (words_are_zero w.now.words (64 * r.page) (64 * r.count))
-      (ap (λ (x : Option RunPages). is_run_gone w.now.words x) (sym is) ∙ gone)
+  gone_parts = and_parts _ _ (ap (λ (x : Option RunPages). is_run_gone w.now.words x) (sym is) ∙ gone)
 
   headers_gone : (d : ℕ) → d < r.count → header_at w.now.words (r.page + d) ≡ unmapped_header r.count d
-  headers_gone d lt = eqb-true _ _
-      (all_below-at r.count d (stands w.now.words r.page (unmapped_header r.count)) gone_parts.0 lt)
+  headers_gone d lt = eqb-true _ _ (all_below-at r.count d _ gone_parts.0 lt)
 
   words_gone : (i : ℕ) → i < 64 * r.count → slice_index w.now.words.heap (64 * r.page + i) ≡ 0
   words_gone i lt = eqb-true _ _ (all_below-at (64 * r.count) i _ gone_parts.1 lt)
@@ -77,14 +75,14 @@ module _ (c : Config) (w : World) (known : KnownWorld c w) (laid : LayoutStands 
       let a : PlacedAllocation = placed_at w.allocations m.number in
       let l = laid_out c w known laid m.number (mapped_stays c a m.mapped) in
       let sized = typed_size c a known.limits l.stands.typed in
-      let end = ends_on_pages (object_placed c a) a.base sized l.stands.begins in
+      let end = ends_on_pages _ a.base sized l.stands.begins in
       let from = m.word.0 in
       let to = m.word.1 in
       let d : ℕ = r.page + i / 64 - a.base / 64 in
       let near : d < pages_made (object_placed c a) = omega arith in
       let there : a.base / 64 + d ≡ r.page + i / 64 = omega arith in
       let y = run_of c w known laid r is in
-      let shown = laid.scene.shown y.claim (own_claim c (object_now c w.now) (ground_of w) y.claim y.among) in
+      let shown = laid.scene.shown y.claim (own_claim c _ (ground_of w) y.claim y.among) in
       let range = large_count y.claim.object shown.sized y.large in
       let low = range.0 in
       let high = range.1 in
@@ -92,8 +90,7 @@ module _ (c : Config) (w : World) (known : KnownWorld c w) (laid : LayoutStands 
       let some : i / 64 < r.count = omega arith in
       true≢false (sym (unmapped_is_unmapped r.count (i / 64) (omega arith, omega arith) some)
       ∙ ap (λ h. is_unmapped_header (header_of h)) (sym (headers_gone (i / 64) some)
-      ∙ ap (λ q. header_at w.now.words q) (sym there) ∙ l.mapped m.mapped d near)
-      ∙ made_is_mapped (object_placed c a) d sized near)
+      ∙ ap (λ q. header_at w.now.words q) (sym there) ∙ l.mapped m.mapped d near) ∙ made_is_mapped _ d sized near)
 
   headers_behind : (seat : Seat) (x : Step) → Meets c w.now seat x → (d : ℕ) → d < r.count
       → header_at (Behind c w.now seat x).words (r.page + d) ≡ unmapped_header r.count d
@@ -113,14 +110,12 @@ module _ (c : Config) (w : World) (known : KnownWorld c w) (laid : LayoutStands 
       ap (λ (t : Table). slice_index t.heap (64 * r.page + i)) (reg_table c w.now seat) ∙ words_gone i lt
   words_behind seat (step.Tally n v) h stored i lt =
       ap (λ (t : Table). slice_index t.heap (64 * r.page + i)) (tally_table w.now.words n v) ∙ words_gone i lt
-  words_behind seat step.Write h stored i lt =
-      get_or-set_other w.now.words.heap (word_met (flight_of w.now seat)) (64 * r.page + i) _ 0
+  words_behind seat step.Write h stored i lt = get_or-set_other w.now.words.heap _ _ _ 0
       (λ e. not_mapped i lt (subst (λ n. IsWordOfMapped c w.allocations n) (sym e) (stored refl))) ∙ words_gone i lt
-  words_behind seat step.Cas h stored i lt =
-      get_or-set_other w.now.words.heap (word_met (flight_of w.now seat)) (64 * r.page + i) _ 0
+  words_behind seat step.Cas h stored i lt = get_or-set_other w.now.words.heap _ _ _ 0
       (λ e. not_mapped i lt (subst (λ n. IsWordOfMapped c w.allocations n) (sym e) (stored refl))) ∙ words_gone i lt
   words_behind seat (step.Wipe n) h stored i lt = elim (cases_eq (64 * r.page + i) n) [
-    | inr ne ↦ get_or-set_other w.now.words.heap n (64 * r.page + i) 0 0 ne ∙ words_gone i lt
+    | inr ne ↦ get_or-set_other w.now.words.heap n _ 0 0 ne ∙ words_gone i lt
     | inl e ↦ elim (cases_lt n (length w.now.words.heap)) [
       | inl near ↦ ap (λ k. slice_index (slice_set w.now.words.heap n 0) k) e
           ∙ get_or-set_same w.now.words.heap n 0 0 near

@@ -1,13 +1,12 @@
 -- A mapped run that a header shows lies in the heap.
 use Rattle.std.specs.Prelude.{unwrap_or}
 use Rattle.mk_laws.proofs.Vocabulary.{Bool, Config, Flight, Ground, List, None, Object, Option, Page, Place, Run}
-use Rattle.mk_laws.proofs.Vocabulary.{RunPages, Some, Words, World, all_below, and_parts, arith, block_header, carves}
-use Rattle.mk_laws.proofs.Vocabulary.{cases_eq, class_made, empties, eqb-true, false, free_page, get_or-set_other}
-use Rattle.mk_laws.proofs.Vocabulary.{header_at, header_made, header_of, if◌then◌else◌, inl, inr, is_marked_first}
-use Rattle.mk_laws.proofs.Vocabulary.{is_next_header, is_small_object, leb-true, nat_le, nat_lt, not, object_made}
-use Rattle.mk_laws.proofs.Vocabulary.{pages_made, place_now, refl, run_header, run_pages_of, slice_index_or, slice_set}
-use Rattle.mk_laws.proofs.Vocabulary.{stands, suc, true, unmapped_header, unmaps, used_at, word_of, zero, ℕ, ◌&&◌, ◌*◌}
-use Rattle.mk_laws.proofs.Vocabulary.{◌+◌, ◌-◌, ◌<◌, ◌==◌, ◌∙◌, ◌≡◌, ◌≢◌, ◌≤◌}
+use Rattle.mk_laws.proofs.Vocabulary.{RunPages, Some, Words, World, and_parts, arith, block_header, carves, cases_eq}
+use Rattle.mk_laws.proofs.Vocabulary.{class_made, empties, eqb-true, false, free_page, get_or-set_other, header_made}
+use Rattle.mk_laws.proofs.Vocabulary.{header_of, if◌then◌else◌, inl, inr, is_next_header, is_small_object, leb-true}
+use Rattle.mk_laws.proofs.Vocabulary.{object_made, pages_made, place_now, refl, run_header, run_pages_of}
+use Rattle.mk_laws.proofs.Vocabulary.{slice_index_or, slice_set, suc, true, unmapped_header, unmaps, word_of, zero, ℕ}
+use Rattle.mk_laws.proofs.Vocabulary.{◌*◌, ◌+◌, ◌-◌, ◌<◌, ◌==◌, ◌∙◌, ◌≡◌, ◌≢◌, ◌≤◌}
 use Rattle.mk_geom.specs.Classes.{class_for}
 use Rattle.mk_geom.proofs.HeaderLemmas.{word_of-header_of}
 use Rattle.mk_geom.proofs.ClassTable.{class_for-some}
@@ -57,7 +56,7 @@ made_shown o distance count e = by (is_small_object o) refl e
         else word_of (run_header (run_pages_of o.words) true o.leaf distance)) → (is_small_object o ≡ false)
         × (distance ≡ 0) × (count ≡ run_pages_of o.words)
     by true is h = absurd (block_apart (class_made o) count o.leaf (class_small o.words) h)
-    by false is h = let r = run_shown (run_pages_of o.words) count distance true o.leaf h in (is, r.1, r.2)
+    by false is h = let r = run_shown _ count distance true o.leaf h in (is, r.1, r.2)
 
 -- the header that is stored next, and its page
 pub record Next (first page value : ℕ) (wanted : ℕ → ℕ) : Type 0 where
@@ -67,15 +66,10 @@ pub record Next (first page value : ℕ) (wanted : ℕ → ℕ) : Type 0 where
 pub next_is : (w : Words) (first count : ℕ) (wanted : ℕ → ℕ) (page value : ℕ)
     → is_next_header w first count wanted page value ≡ true → Next first page value wanted
 next_is w first count wanted page value h =
-    let last = and_parts
-    (nat_le first page && nat_lt (page - first) count && not (header_at w page == wanted (page - first))
-    && all_below (page - first) (stands w first wanted)) (value == wanted (page - first)) h in
-    let three = and_parts
-    (nat_le first page && nat_lt (page - first) count && not (header_at w page == wanted (page - first)))
-    (all_below (page - first) (stands w first wanted)) last.0 in
-    let two = and_parts (nat_le first page && nat_lt (page - first) count)
-    (not (header_at w page == wanted (page - first))) three.0 in
-    let one = and_parts (nat_le first page) (nat_lt (page - first) count) two.0 in
+    let last = and_parts _ _ h in
+    let three = and_parts _ _ last.0 in
+    let two = and_parts _ _ three.0 in
+    let one = and_parts _ _ two.0 in
     record { behind = leb-true first page one.0; is = eqb-true value (wanted (page - first)) last.1 }
 
 carved_fits : (c : Config) (w : Words) (f : Flight) (place : Option Place) (p n : ℕ)
@@ -84,8 +78,7 @@ carved_fits : (c : Config) (w : Words) (f : Flight) (place : Option Place) (p n 
 carved_fits c w f None p n fits h = cc
 carved_fits c w f (Some x) p n fits h = λ count shows.
     let o = object_made c f.op in
-    let next = next_is w x.page (pages_made o) (header_made o) p n
-    (and_parts (is_next_header w x.page (pages_made o) (header_made o) p n) (is_marked_first w o x) h).0 in
+    let next = next_is w x.page (pages_made o) (header_made o) p n (and_parts _ _ h).0 in
     let made = made_shown o (p - x.page) count (shown_word n count shows ∙ next.is) in
     let room = fits x refl made.0 in
     let at = next.behind in
@@ -128,12 +121,12 @@ header_set c ps p n u fits all q = elim (cases_eq q p) [
 pub runs_behind : (c : Config) (w : World) (f : Flight) (g : Ground)
     → ((x : Place) → place_now c w.now f ≡ Some x → PlaceFits c f.op x)
     → RunsFit c w.now.words.pages → GroundStep c w f g → RunsFit c g.pages
-runs_behind c w f g fits all (Carves p n own at) = header_set c w.now.words.pages p n (used_at w.now.words p)
-    (carved_fits c w.now.words f (place_now c w.now f) p n fits own) all
-runs_behind c w f g fits all (Unmaps p n own at) = header_set c w.now.words.pages p n (used_at w.now.words p)
+runs_behind c w f g fits all (Carves p n own at) = header_set c w.now.words.pages p n _
+    (carved_fits c w.now.words f _ p n fits own) all
+runs_behind c w f g fits all (Unmaps p n own at) = header_set c w.now.words.pages p n _
     (unmapped_fits c w.now.words w.now.seats.holding.freed p n own) all
 runs_behind c w f g fits all (Empties p n own at) =
-    header_set c w.now.words.pages p n (used_at w.now.words p) (emptied_fits c w.now.words p n own) all
+    header_set c w.now.words.pages p n _ (emptied_fits c w.now.words p n own) all
 runs_behind c w f g fits all (TakesCell p n once own at) = λ q. used_set w.now.words p q n (λ y. RunFits c q y) (all q)
 runs_behind c w f g fits all (GivesBack p n own at) = λ q. used_set w.now.words p q n (λ y. RunFits c q y) (all q)
 runs_behind c w f g fits all _ = all

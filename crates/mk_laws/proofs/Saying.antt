@@ -53,7 +53,7 @@ module _ (c : Config) (w : World) (n : NeverState) (known : KnownWorld c w) (oth
       → pointed_cell c.pages w.now.words.pages p ≡ Some cell
       → CarriesOwn (bases_of w.allocations) n k (flight s o q p r l) → IsCellOfUnreleased c w cell
   free_target k stage.Turn (op.Free p') q p r l cell undecided points car =
-      value_cell (register_at n k p') p cell (own_sound k p') (own_safe k p') (car.p refl) (car.some_p refl) points
+      value_cell _ p cell (own_sound k p') (own_safe k p') (car.p refl) (car.some_p refl) points
   free_target k _ _ q p r l cell undecided points car = absurd (false≢true undecided)
 
   target_cell : (seat : Seat) (cell : Cell) → target c.pages w.now.words (flight_of w.now seat) ≡ Some cell
@@ -118,10 +118,10 @@ module _ (c : Config) (w : World) (n : NeverState) (known : KnownWorld c w) (oth
       → ProbedOwn n k (flight stage.Write o q p r l)
       → IsAdmitted c.globals n k o → IsMappedWord c w ((q - 65536) / 8 + i_of o)
   write_word k (op.SetNum q' i m) q p r l a car pro ad = reached_word k i q _ IsNumber
-      (reaches c.globals mirrors.safe.0 (image_scene_of w) n ready (register_at n k q') q i IsNumber (car.q refl)
+      (reaches c.globals mirrors.safe.0 _ n ready _ q i IsNumber (car.q refl)
       (car.some_q refl) (own_sound k q') (own_safe k q') (pro refl) ad.access)
   write_word k (op.SetPtr q' i p') q p r l a car pro ad = reached_word k i q _ IsPointer
-      (reaches c.globals mirrors.safe.0 (image_scene_of w) n ready (register_at n k q') q i IsPointer (car.q refl)
+      (reaches c.globals mirrors.safe.0 _ n ready _ q i IsPointer (car.q refl)
       (car.some_q refl) (own_sound k q') (own_safe k q') (pro refl) ad.access)
   write_word k _ q p r l a car pro ad = cc
 
@@ -130,7 +130,7 @@ module _ (c : Config) (w : World) (n : NeverState) (known : KnownWorld c w) (oth
       → ProbedOwn n k (flight stage.Cas o q p r l)
       → IsAdmitted c.globals n k o → IsMappedWord c w ((q - 65536) / 8 + i_of o)
   cas_word k (op.CasPtr q' i p' r') q p r l a car pro ad = reached_word k i q _ IsPointer
-      (reaches c.globals mirrors.safe.0 (image_scene_of w) n ready (register_at n k q') q i IsPointer (car.q refl)
+      (reaches c.globals mirrors.safe.0 _ n ready _ q i IsPointer (car.q refl)
       (car.some_q refl) (own_sound k q') (own_safe k q') (pro refl) ad.access)
   cas_word k _ q p r l a car pro ad = cc
 

@@ -47,7 +47,7 @@ look_passes c m p (Some value) n (inr e) =
         → cell_at c.pages (header_at m.words p) value ≡ x → IsGuarded c m n
         ⊎ (hand_behind_look c p (header_at m.words p) (Some value) ≡ Some (slice_index m.words.heap n))
     by true None at none =
-        let there = ap (λ q. cell_at c.pages (header_at m.words q) value) (eqb-true p (page_at_address value) at) in
+        let there = ap (λ q. cell_at c.pages (header_at m.words q) value) (eqb-true p _ at) in
         let nothing : IsWell c m.words value = λ y is. absurd (none-some _ (sym none ∙ there ∙ is)) in
         inl (well_guarded c m n (rw (same_Some _ _ e) at nothing))
     by false x at is = inr (let k : hand_behind_look c p (header_at m.words p) (Some value) ≡ Some value = rw at in k
@@ -63,7 +63,7 @@ look_stands c m p x h =
     record {
       scan = λ s is. other_hand c m x.hand _ s (h.scan s is) (look_passes c m p x.hand);
       seen = λ s is. subst (λ (z : SeenHeader). HeaderGoesOn c.pages z.header (header_at m.words z.page))
-          (same_Some _ _ is) (goes_same c.pages (header_at m.words p));
+          (same_Some _ _ is) (goes_same c.pages _);
     }
 
 pub unseen_stands : (c : Config) (m : Moment) (x : Marker) → MarkerStands c m x
@@ -117,7 +117,7 @@ claim_stands c m x p k own h = record { scan = λ s is. by x.seen own h.seen s i
             → (if b then Some (scan_begun p k seen.header) else None) ≡ Some s → ScanStands c m x.hand s
         marked false e is = absurd (none-some _ is)
         marked true e is =
-            let parts = and_parts (seen.page == p) _ own in
+            let parts = and_parts _ _ own in
             rw (same_Some _ _ is) at (begun_stands c m x.hand p k seen.header (ltb-true k _ parts.1) e
             (rw (eqb-true seen.page p parts.0) at (goes seen refl)))
 
@@ -130,7 +130,7 @@ load_stands c m x next more none at h = record { scan = λ s is. by x.scan more 
     loaded : (n : ℕ) (b : Bool) → is_heap_address c.pages (slice_index m.words.heap n) ≡ b → IsGuarded c m n
         ⊎ ((if b then Some (slice_index m.words.heap n) else None) ≡ Some (slice_index m.words.heap n))
     loaded n true e = inr refl
-    loaded n false e = inl (well_guarded c m n (outside_well c m.words (slice_index m.words.heap n) e))
+    loaded n false e = inl (well_guarded c m n (outside_well c m.words _ e))
 
     old : (n : ℕ) → IsGuarded c m n ⊎ (x.hand ≡ Some (slice_index m.words.heap n)) → IsGuarded c m n
     old n (inl g) = g
@@ -197,7 +197,7 @@ pub scanned_guarded : (c : Config) (m : Moment) (x : Scan) → ScanStands c m No
 scanned_guarded c m x st done f i lt = elim st.end [
   | inr e ↦ absurd (true≢false (sym e.1 ∙ f))
   | inl e ↦
-      let le = past (nat_lt x.next x.end) refl done in
+      let le = past _ refl done in
       by (64 * x.page + x.index * words_under (header_in m.words x.page) + i) (st.passed f _ (omega arith)
       (omega (arith, le, st.next, e, lt)))
 ]

@@ -1,12 +1,11 @@
 -- What a marker scans lies in the heap.
 use Rattle.mk_laws.proofs.Vocabulary.{Block, Bool, Cell, Config, Header, LeafBlock, LeafRun, MarkerState as Marker}
 use Rattle.mk_laws.proofs.Vocabulary.{None, Option, Run, Scan, SeenHeader, Some, Step, Word, and_parts, arith}
-use Rattle.mk_laws.proofs.Vocabulary.{behind_mlook, cell_at, cell_ends, cell_seen, cells_under, class_words_of}
-use Rattle.mk_laws.proofs.Vocabulary.{eqb-true, false, has_bit, has_next_word, has_no_pointers, has_seen_cell}
-use Rattle.mk_laws.proofs.Vocabulary.{header_of, if◌then◌else◌, is_attending, is_none, is_scanned, is_some, ltb-true}
-use Rattle.mk_laws.proofs.Vocabulary.{marker_behind, marker_may, nat_lt, next_word, page_at_address, refl, scan_begun}
-use Rattle.mk_laws.proofs.Vocabulary.{scan_claimed, scan_onward, scan_page, seen_page, subst, sym, true, words_under, ℕ}
-use Rattle.mk_laws.proofs.Vocabulary.{◌&&◌, ◌*◌, ◌+◌, ◌<◌, ◌==◌, ◌∙◌, ◌≡◌, ◌≤◌}
+use Rattle.mk_laws.proofs.Vocabulary.{behind_mlook, cell_at, cell_ends, cell_seen, cells_under, eqb-true, false}
+use Rattle.mk_laws.proofs.Vocabulary.{has_bit, has_next_word, has_no_pointers, has_seen_cell, header_of, if◌then◌else◌}
+use Rattle.mk_laws.proofs.Vocabulary.{is_scanned, is_some, ltb-true, marker_behind, marker_may, next_word}
+use Rattle.mk_laws.proofs.Vocabulary.{page_at_address, refl, scan_begun, scan_claimed, scan_onward, scan_page}
+use Rattle.mk_laws.proofs.Vocabulary.{seen_page, subst, sym, true, words_under, ℕ, ◌*◌, ◌+◌, ◌<◌, ◌==◌, ◌∙◌, ◌≡◌, ◌≤◌}
 use Rattle.mk_core.specs.declared.events.Step.TheVariants as step
 use Rattle.mk_core.specs.declared.events.Word.TheVariants as word
 use Rattle.mk_laws.proofs.RunsInHeap.{RunFits}
@@ -33,8 +32,8 @@ nothing_fits c x no_seen no_scan =
 scan_end : (c : Config) (p i : ℕ) (h : Option Header) → p < c.pages → i < cells_under h
     → ((count : ℕ) → h ≡ Some (Run count true) → p + count ≤ c.pages)
     → 64 * p + i * words_under h + (if has_no_pointers h then 0 else words_under h) ≤ 64 * c.pages
-scan_end c p i (Some (Block class)) lt li fits = omega (arith, cell_ends i (class_words_of class) li)
-scan_end c p i (Some (LeafBlock class)) lt li fits = omega (arith, cell_ends i (class_words_of class) li)
+scan_end c p i (Some (Block class)) lt li fits = omega (arith, cell_ends i _ li)
+scan_end c p i (Some (LeafBlock class)) lt li fits = omega (arith, cell_ends i _ li)
 scan_end c p i (Some (Run count true)) lt li fits =
     let room = fits count refl in
     let z : i ≡ 0 = omega arith in
@@ -51,9 +50,9 @@ seen_cell : (x : Option SeenHeader) (p i : ℕ) → has_seen_cell x p i ≡ true
     → (s.page ≡ p) × (i < cells_under (header_of s.header))
 seen_cell None p i h s e = cc
 seen_cell (Some seen) p i h s e =
-    let both = and_parts (seen.page == p) (nat_lt i (cells_under (header_of seen.header))) h in
+    let both = and_parts _ _ h in
     subst (λ (y : SeenHeader). (y.page ≡ p) × (i < cells_under (header_of y.header))) (same seen s e)
-    (eqb-true seen.page p both.0, ltb-true i (cells_under (header_of seen.header)) both.1)
+    (eqb-true seen.page p both.0, ltb-true i _ both.1)
   where
     same : (a b : SeenHeader) → Some a ≡ Some b → a ≡ b
     same a b e = cc
@@ -78,7 +77,7 @@ claims c p i marks x lt seen h =
           let at = seen_cell x.seen p i seen k.0 k.1 in
           let fits : (count : ℕ) → header_of k.0.header ≡ Some (Run count true)
           → p + count ≤ c.pages = λ count shows. rw at.0 at (h.seen k.0 k.1 count shows) in
-          rw k.2 (scan_end c p i (header_of k.0.header) lt at.1 fits);
+          rw k.2 (scan_end c p i _ lt at.1 fits);
     }
 
 loads : (c : Config) (hand : Option ℕ) (x : Marker) → MarkerFits c x
@@ -125,8 +124,7 @@ pub marker_fits_behind : (c : Config) (n : ℕ) (s : Step) (x : Marker)
 marker_fits_behind c n step.Attend x looked claimed m h = nothing_fits c _ refl refl
 marker_fits_behind c n step.Quit x looked claimed m h = nothing_fits c _ refl refl
 marker_fits_behind c n (step.Mlook w) x looked claimed m h = looks c n w x (λ p e. looked p (rw e)) h
-marker_fits_behind c n (step.Claim p i) x looked claimed m h = claims c p i n x (claimed p i refl)
-    (and_parts (is_attending x.presence && is_none x.scan) (has_seen_cell x.seen p i) m).1 h
+marker_fits_behind c n (step.Claim p i) x looked claimed m h = claims c p i n x (claimed p i refl) (and_parts _ _ m).1 h
 marker_fits_behind c n step.Mload x looked claimed m h = loads c _ x h
 marker_fits_behind c n step.Mmark x looked claimed m h = record { seen = h.seen; page = h.page; end = h.end }
 marker_fits_behind c n step.Mblack x looked claimed m h = record { seen = h.seen; page = λ s e. cc; end = λ s e. cc }

@@ -48,8 +48,7 @@ bases_go_on c seats es more h others =
     (λ xs. record { more = []; is = sym (append-nil _) }) (λ xs ys zs. longer_joined _ _ _) (λ xs e whole other.
     let last = comes_last c xs e whole in
     let st = stands c xs last.before in
-    rw last.leaves
-    (one_event c (left c xs) (never_behind c xs) e st.known (told_to_images c (left c xs) _ st.known st.all)
+    rw last.leaves (one_event c (left c xs) _ e st.known (told_to_images c (left c xs) _ st.known st.all)
     st.all.mirrors last.on last.admitted).bases) es more h others
 
 same_place : (xs ys : List PlacedAllocation) (a : ℕ) → a < length xs → IsLonger (bases_of xs) (bases_of ys)
@@ -190,9 +189,8 @@ held_one c s k es e h other held =
     let own = left_after c (left c es) e.seat s e.step known last.meets (other_seat s e.seat other) in
     let turn = own.turn held.holds in (
       rw last.leaves (record { holds = (own.own.holding held.holds).0; gate = turn.held_gates k held.gate }),
-      rw last.never (held_step c (left c es) (never_behind c es) e.seat e.step k known last.meets held.gate
-          (λ ne. admitted_keep c.globals (never_behind c es) k _ last.admitted
-          (call_not_by c (left c es) e.seat e.step k ne))),
+      rw last.never (held_step c (left c es) _ e.seat e.step k known last.meets held.gate
+          (λ ne. admitted_keep c.globals _ k _ last.admitted (call_not_by c (left c es) e.seat e.step k ne))),
     )
 
 pub held_registers : (c : Config) (s : Seat) (es more : List Event) (k : ℕ) → IsHistory c (es ++ more)
@@ -232,7 +230,7 @@ all_one c s es e h other all =
     let own = left_after c (left c es) e.seat s e.step known last.meets ne in
     let gates = ap (λ (y : Written). y.gates) (own.stop all) in (
       rw last.leaves ((own.own.holding all.0).0, rw gates all.1),
-      last.never ∙ all_step c (left c es) (never_behind c es) s e.seat e.step known last.meets ne all,
+      last.never ∙ all_step c (left c es) _ s e.seat e.step known last.meets ne all,
     )
 
 pub never_stands_still : (c : Config) (s : Seat) (es more : List Event) → IsHistory c (es ++ more)
@@ -249,7 +247,7 @@ said_along c es (e ∷ more) h =
     let parts : IsHistory c ((es ++ e ∷ []) ++ more) = rw split at h in
     let last = comes_last c es e (earlier_part_is_history c (es ++ e ∷ []) more parts) in
     let st = stands c es last.before in (
-      told_to_guard c (left c es) (never_behind c es) st.known st.all,
+      told_to_guard c (left c es) _ st.known st.all,
       rw last.leaves at (said_along c (es ++ e ∷ []) more parts),
     )
 

@@ -7,7 +7,7 @@ use Rattle.mk_laws.proofs.Vocabulary.{Used, World, [], ap, append-nil, arith, ce
 use Rattle.mk_laws.proofs.Vocabulary.{claims_placed, false, fewer_bits, ground_of, header_at, header_made, inl, inr}
 use Rattle.mk_laws.proofs.Vocabulary.{is_released_in, is_used_once, layout_scene_of, length, not, pages_made}
 use Rattle.mk_laws.proofs.Vocabulary.{pages_some, place_claim, plot_of, refl, small_pages, subst, sym, true}
-use Rattle.mk_laws.proofs.Vocabulary.{unmapped_header, used_at, ℕ, ◌++◌, ◌+◌, ◌-◌, ◌<◌, ◌∙◌, ◌∷◌, ◌≡◌, ◌≢◌, ◌≤◌, ◌⊎◌}
+use Rattle.mk_laws.proofs.Vocabulary.{unmapped_header, ℕ, ◌++◌, ◌+◌, ◌-◌, ◌<◌, ◌∙◌, ◌∷◌, ◌≡◌, ◌≢◌, ◌≤◌, ◌⊎◌}
 use Rattle.mk_core.proofs.PageSteps.{Unmaps}
 use Rattle.mk_core.proofs.ServingSteps.{IsCellTaken}
 use Rattle.mk_core.proofs.Sizes.{cells_some}
@@ -69,11 +69,11 @@ placed_as c o releasing w t placing is st = rw is at st
 -- the claim of an allocation is one of the terrain's
 pub own_claim : (c : Config) (o : Object) (t : Ground) (x : Claim) → Among x (claims_of c t.run t.allocations)
     → Among x (claims_on c o t)
-own_claim c o t x i = among_front (claims_of c t.run t.allocations) (claims_placed o t.placing) x i
+own_claim c o t x i = among_front _ _ x i
 
 pub placed_claim : (c : Config) (o : Object) (t : Ground) (x : Claim) → Among x (claims_placed o t.placing)
     → Among x (claims_on c o t)
-placed_claim c o t x i = among_back (claims_of c t.run t.allocations) (claims_placed o t.placing) x i
+placed_claim c o t x i = among_back _ _ x i
 
 -- `head` (d): a page with nothing on it is free
 pub head_empties : (c : Config) (o : Object) (w : World) (p n : ℕ) → p < length w.now.words.pages
@@ -81,8 +81,7 @@ pub head_empties : (c : Config) (o : Object) (w : World) (p n : ℕ) → p < len
     → Laid c o true w (record (ground_of w) { pages = with_header_on w.now.words.pages p n })
 head_empties c o w p n lt st h =
     record {
-      scene = rw h.is
-          (layout_emptied (layout_scene_of c o true w.now.words.marks (ground_of w)) p st.scene lt refl h.unused);
+      scene = rw h.is (layout_emptied _ p st.scene lt refl h.unused);
       gone = st.gone;
       first = st.first;
       cells = st.cells;
@@ -180,10 +179,10 @@ head_carves c o w place p n st sized placed next = by w.now.seats.holding.placin
     by (Used place) is AsUsed =
         let own : Among (place_claim o place) (claims_placed o w.now.seats.holding.placing) =
         subst (λ (x : Placing). Among (place_claim o place) (claims_placed o x)) (sym is) (inl refl) in
-        let shown = st.scene.shown (place_claim o place) (placed_claim c o (ground_of w) (place_claim o place) own) in
+        let shown = st.scene.shown (place_claim o place) (placed_claim c o (ground_of w) _ own) in
         let low = next.from in
         let there : place.page + (p - place.page) ≡ p = omega arith in
-        absurd (next.not_yet (ap (λ q. header_at w.now.words q) (sym there) ∙ shown.headers (p - place.page) next.near))
+        absurd (next.not_yet (ap (λ q. header_at w.now.words q) (sym there) ∙ shown.headers _ next.near))
     by Granted is out = elim out [ ]
 
 -- `mark` (b): the place is chosen before its first header is stored
@@ -221,7 +220,7 @@ taken_at c o releasing w placing place p n st none next sized index within plot 
     let was : IsLaidOn (record s { claims = xs ++ []; plot = plot_of o placing }) = rw none at st.scene in
     record {
       scene = rw next.at (rw (no_claims xs (place_claim o place)) at
-          (layout_taken (record s { claims = xs ++ []; plot = plot_of o placing }) (place_claim o place) n was (record {
+          (layout_taken (record s { claims = xs ++ []; plot = plot_of o placing }) _ n was (record {
             sized = sized;
             mapped = refl;
             index = index;
@@ -273,13 +272,12 @@ pub used_gives_back : (c : Config) (o : Object) (w : World) (p n : ℕ) → p < 
     → Laid c o true w (record (ground_of w) { pages = with_used_on w.now.words.pages p n })
 used_gives_back c o w p n lt st h apart =
     record {
-      scene = layout_given_back (layout_scene_of c o true w.now.words.marks (ground_of w)) p n st.scene lt refl
-          (record {
-            fewer = λ k bit. fewer_bits n (used_at w.now.words p) k h.fewer bit;
-            gone = λ k bit out.
-                let goes = h.gone k bit out in
-                rw goes.0 (ap not goes.1);
-          }) apart;
+      scene = layout_given_back _ p n st.scene lt refl (record {
+        fewer = λ k bit. fewer_bits n _ k h.fewer bit;
+        gone = λ k bit out.
+            let goes = h.gone k bit out in
+            rw goes.0 (ap not goes.1);
+      }) apart;
       gone = st.gone;
       first = st.first;
       cells = st.cells;

@@ -3,9 +3,8 @@
 use Rattle.mk_laws.proofs.Vocabulary.{Cell, Claim, Config, Granted, IsSettled, IsWithinLimits, LayoutStands, NoPlot}
 use Rattle.mk_laws.proofs.Vocabulary.{None, Option, PlacedAllocation, Placing, RunPages, Some, Unplaced, Words, World}
 use Rattle.mk_laws.proofs.Vocabulary.{and_parts, ap, append-nil, claim_of, claims_of, claims_placed, false, ground_of}
-use Rattle.mk_laws.proofs.Vocabulary.{has_place, histories_keep_lengths, is_phase, is_run_gone, is_run_unmapped, left}
-use Rattle.mk_laws.proofs.Vocabulary.{length, object_now, placed_at, plot_of, refl, sym, true, unreleased_storage}
-use Rattle.mk_laws.proofs.Vocabulary.{words_are_zero, ◌*◌, ◌++◌, ◌∙◌, ◌≡◌}
+use Rattle.mk_laws.proofs.Vocabulary.{has_place, histories_keep_lengths, is_run_gone, is_run_unmapped, left, length}
+use Rattle.mk_laws.proofs.Vocabulary.{object_now, placed_at, plot_of, refl, sym, true, ◌++◌, ◌∙◌, ◌≡◌}
 use Rattle.mk_laws.proofs.Basics.{Laid, all_stand, apart_left, claim_among, gone_terrain, own_claim}
 use Rattle.mk_geom.proofs.Bridge.{same_places}
 use Rattle.mk_laws.specs.SettledPages.{FirstFitIsThePlace, HeadersStand, UnreleasedAreApart, UnreleasedStand}
@@ -19,26 +18,23 @@ unreleased_stand c es limits laid i u =
     let w : World = left c es in
     let a : PlacedAllocation = placed_at w.allocations i in
     let x : Claim = claim_of c w.now.seats.holding.freed a in
-    let s = all_stand c (object_now c w.now) (is_phase w.now.words 4) w (histories_keep_lengths c es).pages laid i u in
+    let s = all_stand c _ _ w (histories_keep_lengths c es).pages laid i u in
     let shown = laid.scene.shown x
-    (own_claim c (object_now c w.now) (ground_of w) x (claim_among c w.now.seats.holding.freed w.allocations i u))
+    (own_claim c _ (ground_of w) x (claim_among c w.now.seats.holding.freed w.allocations i u))
     in
     record { stands = s.stands; headers = s.headers; used = shown.used }
 
 pub unreleased_are_apart : UnreleasedAreApart
 unreleased_are_apart c es laid i j u v same =
     let w : World = left c es in
-    numbers_apart c w.now.seats.holding.freed w.allocations i j
-    (apart_left (claims_of c w.now.seats.holding.freed w.allocations)
-    (claims_placed (object_now c w.now) w.now.seats.holding.placing) laid.scene.apart) u v
+    numbers_apart c w.now.seats.holding.freed w.allocations i j (apart_left _ _ laid.scene.apart) u v
     (ap (λ (x : Cell). x.page) same, ap (λ (x : Cell). x.index) same)
 
 -- A run that is unmapped and wiped is unmapped.
 pub gone_is_unmapped : (w : Words) (freed : Option RunPages) → is_run_gone w freed ≡ true
     → is_freed_unmapped w freed ≡ true
 gone_is_unmapped w None gone = refl
-gone_is_unmapped w (Some run) gone =
-    (and_parts (is_run_unmapped w run) (words_are_zero w (64 * run.page) (64 * run.count)) gone).0
+gone_is_unmapped w (Some run) gone = (and_parts _ _ gone).0
 
 pub unmapped_run : (w : World) → is_freed_unmapped w.now.words w.now.seats.holding.freed ≡ true → (run : RunPages)
     → w.now.seats.holding.freed ≡ Some run → is_run_unmapped w.now.words run ≡ true
@@ -49,7 +45,7 @@ settled_rests : (c : Config) (w : World) → IsWithinLimits c → length w.now.w
 settled_rests c w limits len laid s = by w.now.seats.holding.placing refl s.placing
   where
     rested : Laid c (object_now c w.now) false w (record (ground_of w) { run = None })
-    rested = gone_terrain c (object_now c w.now) false w (unmapped_run w s.unmapped) (rw s.releasing at laid)
+    rested = gone_terrain c _ false w (unmapped_run w s.unmapped) (rw s.releasing at laid)
 
     rests : (placing : Placing)
         → Laid c (object_now c w.now) false w (record (ground_of w) { run = None; placing = placing })
@@ -65,15 +61,14 @@ settled_rests c w limits len laid s = by w.now.seats.holding.placing refl s.plac
 
     by : (placing : Placing) → w.now.seats.holding.placing ≡ placing → has_place placing ≡ false
         → Rests c w.now.words w.allocations
-    by Unplaced is out = rests Unplaced (at Unplaced is) refl (append-nil (claims_of c None w.allocations))
-    by Granted is out = rests Granted (at Granted is) refl (append-nil (claims_of c None w.allocations))
+    by Unplaced is out = rests Unplaced (at Unplaced is) refl (append-nil _)
+    by Granted is out = rests Granted (at Granted is) refl (append-nil _)
     by _ is out = cc
 
 pub headers_stand : HeadersStand
-headers_stand c es limits laid s = pages_stand c (left c es).now.words (left c es).allocations
+headers_stand c es limits laid s = pages_stand c _ _
     (settled_rests c (left c es) limits (histories_keep_lengths c es).pages laid s)
 
 pub first_fit_is_the_place : FirstFitIsThePlace
-first_fit_is_the_place c es o limits laid s =
-    same_places (left c es).now.words.pages (unreleased_storage c (left c es).allocations) c.resident o.words o.leaf
+first_fit_is_the_place c es o limits laid s = same_places _ _ c.resident o.words o.leaf
     (headers_stand c es limits laid s) ∙ rw (histories_keep_lengths c es).pages

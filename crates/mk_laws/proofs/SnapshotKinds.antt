@@ -4,7 +4,7 @@ use Rattle.mk_laws.proofs.Vocabulary.{ItDrops, ItFrees, ItTakesSnapshot, KeepsSn
 use Rattle.mk_laws.proofs.Vocabulary.{Object, Option, PlacedAllocation, Placing, QuarantineStep, Seat, Some, Step, Used}
 use Rattle.mk_laws.proofs.Vocabulary.{World, [], all_below, all_below-at, and_parts, ap, arith, cases_Bool, cell_freed}
 use Rattle.mk_laws.proofs.Vocabulary.{cell_of_allocation, changed_at, claims_of, claims_placed, eqb-true, false}
-use Rattle.mk_laws.proofs.Vocabulary.{false_from_ne_true, fewer_bits, first_word, flight_of, freed_cell, freed_leaves}
+use Rattle.mk_laws.proofs.Vocabulary.{false_from_ne_true, fewer_bits, flight_of, freed_cell, freed_leaves}
 use Rattle.mk_laws.proofs.Vocabulary.{freed_where_it_stands, granted, granted_base_is, granted_object, ground_of}
 use Rattle.mk_laws.proofs.Vocabulary.{has_bit, has_bit_of, has_clean_page, if◌then◌else◌, inl, inr, is_cycling}
 use Rattle.mk_laws.proofs.Vocabulary.{is_phase, is_undecided_new, is_used_once, length, ltb-true, map, no_longer_fresh}
@@ -34,8 +34,7 @@ use Rattle.mk_laws.proofs.Released.{left_is, place_index}
 pub unset_in_snapshot : (c : Config) (releasing : Bool) (marks : List ℕ) (t : Ground) (p k : ℕ)
     → HasQuarantine c releasing marks t → has_bit (slice_index t.freed p) k ≡ false
     → has_bit (slice_index t.snapshot p) k ≡ false
-unset_in_snapshot c releasing marks t p k q out =
-    false_from_ne_true (has_bit (slice_index t.snapshot p) k) (λ h. true≢false (sym (q.within p k h) ∙ out))
+unset_in_snapshot c releasing marks t p k q out = false_from_ne_true _ (λ h. true≢false (sym (q.within p k h) ∙ out))
 
 -- `quar` (c): no unreleased allocation's bit goes
 dropped_bits : (c : Config) (w : World) (p f n i : ℕ) → p < length w.now.words.snapshot
@@ -62,18 +61,16 @@ dropped_bits c w p f n i ls q d u = elim (bit_cases w.now.words.snapshot p n x.p
     same at (inl a) (inl b) = a ∙ sym b
     same at (inr a) (inr b) = a ∙ sym b
     same at (inl a) (inr b) =
-        let was = fewer_bits n (slice_index w.now.words.snapshot p) x.index d.fewer a in
+        let was = fewer_bits n _ x.index d.fewer a in
         absurd (true≢false (sym (ap (λ j. has_bit (slice_index w.now.words.snapshot j) x.index) at ∙ was) ∙ b))
     same at (inr a) (inl b) =
         let lost = d.gone x.index (rw (← at) b) a in
-        let released = and_both (has_bit (slice_index w.now.words.snapshot x.page) x.index)
-        (has_bit (slice_index w.now.words.marks x.page) x.index) b
-        (ap (λ j. has_bit (slice_index w.now.words.marks j) x.index) at ∙ lost.0) in
+        let released = and_both _ _ b (ap (λ j. has_bit (slice_index w.now.words.marks j) x.index) at ∙ lost.0) in
         absurd (true≢false (sym released ∙ q.kept refl i u))
 
 cycling_at : (w : World) (n : ℕ) → is_phase w.now.words n ≡ true → is_cycling n ≡ false
     → is_cycling (phase_of w.now.words) ≡ true → ⊥
-cycling_at w n at none on = true≢false (sym on ∙ rw (eqb-true (phase_of w.now.words) n at) none)
+cycling_at w n at none on = true≢false (sym on ∙ rw (eqb-true _ n at) none)
 
 quar_none : (c : Config) (w : World) (f : Flight) (p n : ℕ) → p < length w.now.words.snapshot
     → cell_freed c.pages w.now.words f p n ≡ None → QuarantineStep c w.now f p n → IsQuarantined c w → KeepsSnapshot c w
@@ -95,9 +92,9 @@ quar_frees : (c : Config) (w : World) (cell : Cell) (n : ℕ) → FreesHere c w 
 quar_frees c w cell n x q s =
     let leaves : LeavesCells (freed_where_it_stands w.now.words (Some cell)) = freeing_leaves w.now.words (Some cell) in
     rw same (record {
-      fresh = λ i f. fresh i (stands_in w.now.words cell (placed_at w.allocations i)) refl f;
+      fresh = λ i f. fresh i _ refl f;
       quarantined = λ on i u.
-          let b = before_change c (freed_where_it_stands w.now.words (Some cell)) w.allocations i leaves u in
+          let b = before_change c _ w.allocations i leaves u in
           ap (λ (y : Cell). has_bit (slice_index w.now.words.snapshot y.page) y.index) b.cell
           ∙ bit on i b.was (stands_in w.now.words cell (placed_at w.allocations i)) refl ∙ sym (rw (at i));
     })
@@ -107,8 +104,7 @@ quar_frees c w cell n x q s =
 
     at : (i : ℕ) → placed_at (map (freed_where_it_stands w.now.words (Some cell)) w.allocations) i
         ≡ freed_where_it_stands w.now.words (Some cell) (placed_at w.allocations i)
-    at i = changed_at (freed_where_it_stands w.now.words (Some cell)) w.allocations i
-        (freed_leaves w.now.words (Some cell)).none
+    at i = changed_at _ w.allocations i (freed_leaves w.now.words (Some cell)).none
 
     fresh_by : (b : Bool) (a : PlacedAllocation) → (b ≡ true → a.released ≡ false)
         → (a.fresh ≡ true → (a.freed ≡ true) × (a.released ≡ false))
@@ -124,9 +120,7 @@ quar_frees c w cell n x q s =
         × ((placed_at (map (freed_where_it_stands w.now.words (Some cell)) w.allocations) i).released ≡ false)
     fresh i b is f =
         let a : PlacedAllocation = placed_at w.allocations i in
-        let r = fresh_by (stands_in w.now.words cell a) a
-        (λ e. not-true a.released (and_parts (not a.released) (a.base == first_word w.now.words cell) e).0) (s.fresh i)
-        (rw (← (at i)) f) in
+        let r = fresh_by _ a (λ e. not-true a.released (and_parts _ _ e).0) (s.fresh i) (rw (← (at i)) f) in
         (rw (at i) r.0, rw (at i) r.1)
 
     bit : is_cycling (phase_of w.now.words) ≡ true → (i : ℕ) → (placed_at w.allocations i).released ≡ false → (b : Bool)
@@ -155,10 +149,9 @@ snapshot_of_quar c w seat p n b h laid q s = by (cell_freed c.pages w.now.words 
         → HasSnapshot c (is_cycling (phase_of w.now.words)) (slice_set w.now.words.snapshot p (n / 2 ^ 32))
         (map (freed_where_it_stands w.now.words cell) w.allocations)
     by None is = rw (none_freed w.now.words w.allocations)
-        (quar_none c w (flight_of w.now seat) p n ls is (quarantine_step c w.now (flight_of w.now seat) p n h.holder) q
-        s)
+        (quar_none c w (flight_of w.now seat) p n ls is (quarantine_step c w.now _ p n h.holder) q s)
     by (Some cell) is =
-        let x = freed_cell c.pages w.now.words (flight_of w.now seat) p n cell is in
+        let x = freed_cell c.pages w.now.words _ p n cell is in
         rw x.page (quar_frees c w cell n (frees_here c w seat p n cell b h laid x) (rw x.phase at q) s)
 
 -- Whether the phase is one of a cycle's, after each kind of event.
@@ -312,14 +305,14 @@ release_kind c w b three laid s =
             rw (at i) (stays i was.0 was.1 (ap (λ (x : PlacedAllocation). x.fresh) (sym (at i)) ∙ f)),
           );
       quarantined = λ on i u.
-          let x = before_change c (with_released c w.now.words) w.allocations i (releasing_leaves c w.now.words) u in
+          let x = before_change c _ w.allocations i (releasing_leaves c w.now.words) u in
           ap (λ (y : Cell). has_bit (slice_index w.now.words.snapshot y.page) y.index) x.cell ∙ s.quarantined on i x.was
           ∙ sym (rw (at i));
     }
   where
     at : (i : ℕ) → placed_at (map (with_released c w.now.words) w.allocations) i
         ≡ with_released c w.now.words (placed_at w.allocations i)
-    at i = changed_at (with_released c w.now.words) w.allocations i (released_leaves c w.now.words).none
+    at i = changed_at _ w.allocations i (released_leaves c w.now.words).none
 
     none_of : (f g : Bool) → f ≡ true → g ≡ true → (f && not g) ≡ false
     none_of f g ef eg = rw ef (ap not eg)
@@ -331,8 +324,8 @@ release_kind c w b three laid s =
         let a : PlacedAllocation = placed_at w.allocations i in
         let x : Cell = cell_of_allocation c a in
         let off = rw (off_at w 3 three (λ e. absurd (omega arith))) at laid in
-        let on : is_cycling (phase_of w.now.words) ≡ true = rw (eqb-true (phase_of w.now.words) 3 three) in
-        left_is c w.now.words a b.limits (all_stand c (object_now c w.now) false w b.lengths.pages off i u)
+        let on : is_cycling (phase_of w.now.words) ≡ true = rw (eqb-true _ 3 three) in
+        left_is c w.now.words a b.limits (all_stand c _ false w b.lengths.pages off i u)
         ∙ rw (s.quarantined on i u ∙ none_of a.freed a.fresh f fresh)
 
 -- each kind of event, whatever the seat

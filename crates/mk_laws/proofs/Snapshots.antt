@@ -42,14 +42,14 @@ begun_world c w e es on is none =
     let moves = moves_phase c w e es on in
     let first : phase_of (world_behind c w e).now.words ≡ 1 = moves.1
     ∙ ap (λ (x : Step). phase_behind x (phase_of w.now.words)) (begin_is e.step is) in
-    none_is_released c (world_behind c w e) es moves.2 (record { least = omega arith; most = omega arith }) none
+    none_is_released c _ es moves.2 (record { least = omega arith; most = omega arith }) none
 
 either_kind : (es : List Event) → list_any (λ (e : Event). is_begin e.step || is_release e.step) es ≡ false
     → (list_any (λ (e : Event). is_begin e.step) es ≡ false) × (list_any (λ (e : Event). is_release e.step) es ≡ false)
 either_kind [] none = (refl, refl)
 either_kind (e ∷ es) none =
-    let parts = or_parts (is_begin e.step || is_release e.step) _ none in
-    let kinds = or_parts (is_begin e.step) (is_release e.step) parts.0 in
+    let parts = or_parts _ _ none in
+    let kinds = or_parts _ _ parts.0 in
     let rest = either_kind es parts.1 in (
       ap (λ b. b || list_any (λ (x : Event). is_begin x.step) es) kinds.0 ∙ rest.0,
       ap (λ b. b || list_any (λ (x : Event). is_release x.step) es) kinds.1 ∙ rest.1,
@@ -74,7 +74,7 @@ module _ (c : Config) (es : List Event) (h : IsHistory c es) (begin : At is_begi
   unfolding left_from
   phase =
       let on = enabled_at c es is_begin begin h in
-      let begun = begun_world c (left c begin.before) begin.event begin.behind on begin.of_kind no_release in
+      let begun = begun_world c _ begin.event begin.behind on begin.of_kind no_release in
       subst (λ (v : World). IsUnreleased (phase_of v.now.words)) (sym since) begun.phase
 
   -- An allocation that was unreleased then is so, in its cell.
@@ -84,15 +84,14 @@ module _ (c : Config) (es : List Event) (h : IsHistory c es) (begin : At is_begi
       let none_in : list_any (λ (e : Event). is_release e.step) (begin.event ∷ begin.behind) ≡ false =
       ap (λ (x : Step). is_release x || list_any (λ (e : Event). is_release e.step) begin.behind) begins ∙ no_release in
       subst (λ (v : World). StaysPut (placed_at olds i) (placed_at v.allocations i)) (sym since)
-      (stays_put c (left c begin.before) (begin.event ∷ begin.behind) i none_in u)
+      (stays_put c _ (begin.event ∷ begin.behind) i none_in u)
 
   all : KeepsTheInvariant c es
   all = histories_keep_the_invariant c es h
 
   snapshot_is : (i : ℕ) → (placed_at w.allocations i).released ≡ false
       → has_bit_of c w.now.words.snapshot (placed_at w.allocations i) ≡ is_quarantined (placed_at olds i)
-  snapshot_is = snapshot_is_the_cycles c es h begin (either_kind begin.behind none).0
-      (unreleased_cycles (phase_of w.now.words) phase).0
+  snapshot_is = snapshot_is_the_cycles c es h begin (either_kind begin.behind none).0 (unreleased_cycles _ phase).0
 
   put_quarantined : (i : ℕ) → is_quarantined (placed_at olds i) ≡ true
       → StaysPut (placed_at olds i) (placed_at w.allocations i)
@@ -102,7 +101,7 @@ module _ (c : Config) (es : List Event) (h : IsHistory c es) (begin : At is_begi
 
   same_cell : (i : ℕ) → is_quarantined (placed_at olds i) ≡ true
       → cell_of_allocation c (placed_at w.allocations i) ≡ cell_of_allocation c (placed_at olds i)
-  same_cell i q = keeps_cell c (placed_at olds i) (placed_at w.allocations i) (put_quarantined i q)
+  same_cell i q = keeps_cell c _ _ (put_quarantined i q)
 
   is_of : (cell : Cell) → is_in_snapshot w.now.words cell ≡ true → IsFreedCell c w.allocations cell.page cell.index
       → (i : ℕ) × (is_quarantined (placed_at olds i) ≡ true) × (cell_of_allocation c (placed_at olds i) ≡ cell)
@@ -118,7 +117,7 @@ module _ (c : Config) (es : List Event) (h : IsHistory c es) (begin : At is_begi
             ∙ snapshot_is i (put_quarantined i q).unreleased ∙ q;
         is = λ cell bit.
             let known = known_world c es h.within_limits h.enabled in
-            let quiet = (unreleased_cycles (phase_of w.now.words) phase).1 in
+            let quiet = (unreleased_cycles _ phase).1 in
             let freed = all.order.quarantined.within cell.page cell.index bit in
             is_of cell bit (freed_cell c w (never_behind c es) known all quiet cell freed);
       }

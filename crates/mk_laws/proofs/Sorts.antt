@@ -3,17 +3,16 @@ use Rattle.std.specs.Prelude.{ℕ}
 use Rattle.std.proofs.lemmas.Bool.{not_from_true}
 use Rattle.mk_laws.proofs.Vocabulary.{Bool, Caller, Cell, Config, Event, Flight, Hand, Holding, Host, List, Marker}
 use Rattle.mk_laws.proofs.Vocabulary.{Moment, Named, None, Object, Op, Option, OwnCycle, Page, Place, Placing, Seat}
-use Rattle.mk_laws.proofs.Vocabulary.{Some, Step, Store, Unplaced, Word, Words, access, accessed, and_parts, ap}
-use Rattle.mk_laws.proofs.Vocabulary.{at_rest, begun, cases_Bool, cases_eq, cell_freed, chosen, decided, eq-eqb}
-use Rattle.mk_laws.proofs.Vocabulary.{eqb-false, eqb-true, false, flight_of, found, frees, group_of, header_of}
-use Rattle.mk_laws.proofs.Vocabulary.{holder_number, host_has_turn, if◌then◌else◌, inl, inr, is_attending, is_in}
-use Rattle.mk_laws.proofs.Vocabulary.{is_phase, is_some, is_undecided_free, is_undecided_new, is_under_turn}
-use Rattle.mk_laws.proofs.Vocabulary.{is_unmapped_header, marker_of, marks_place, may_answer_full, ne_eqb, not}
-use Rattle.mk_laws.proofs.Vocabulary.{not-true, nothing_done, object_made, onward, or_else, phase_of, place_by_placing}
-use Rattle.mk_laws.proofs.Vocabulary.{place_now, pointed_cell, progress, progress_freed, progress_reg, refl, refused}
-use Rattle.mk_laws.proofs.Vocabulary.{reg_access, register_met, run_of_cell, sees_double, set-get_or, slice_index}
-use Rattle.mk_laws.proofs.Vocabulary.{slice_set, stage_behind, steps_of, still, subst, sym, taken, tally_word, target}
-use Rattle.mk_laws.proofs.Vocabulary.{true, word_accessed, ℕ, ◌%◌, ◌&&◌, ◌+◌, ◌<◌, ◌==◌, ◌∙◌, ◌≡◌, ◌≢◌}
+use Rattle.mk_laws.proofs.Vocabulary.{Some, Step, Store, Unplaced, Word, Words, accessed, and_parts, ap, at_rest, begun}
+use Rattle.mk_laws.proofs.Vocabulary.{cases_Bool, cases_eq, cell_freed, chosen, decided, eq-eqb, eqb-false, eqb-true}
+use Rattle.mk_laws.proofs.Vocabulary.{false, flight_of, found, frees, group_of, holder_number, host_has_turn}
+use Rattle.mk_laws.proofs.Vocabulary.{if◌then◌else◌, inl, inr, is_attending, is_in, is_phase, is_some}
+use Rattle.mk_laws.proofs.Vocabulary.{is_undecided_free, is_undecided_new, is_under_turn, marker_of, marks_place}
+use Rattle.mk_laws.proofs.Vocabulary.{may_answer_full, ne_eqb, not, not-true, nothing_done, object_made, onward}
+use Rattle.mk_laws.proofs.Vocabulary.{or_else, phase_of, place_by_placing, place_now, progress, progress_freed}
+use Rattle.mk_laws.proofs.Vocabulary.{progress_reg, refl, run_of_cell, sees_double, set-get_or, slice_index, slice_set}
+use Rattle.mk_laws.proofs.Vocabulary.{stage_behind, steps_of, still, subst, sym, taken, tally_word, target, true, ℕ}
+use Rattle.mk_laws.proofs.Vocabulary.{◌%◌, ◌&&◌, ◌+◌, ◌<◌, ◌==◌, ◌∙◌, ◌≡◌, ◌≢◌}
 use Rattle.mk_core.specs.declared.events.Answer.TheVariants as answer
 use Rattle.mk_core.specs.declared.events.Word.TheVariants as word
 use Rattle.mk_laws.specs.Protocol.{is_granted}
@@ -51,7 +50,7 @@ placed_new c m f place e = (where_some (is_undecided_new f) (place_by_placing c.
     (object_made c f.op) m.seats.holding.placing) (rw e)).0
 
 pub target_free : (pages : ℕ) (w : Words) (f : Flight) → is_some (target pages w f) ≡ true → is_undecided_free f ≡ true
-target_free pages w f h = (where_some (is_undecided_free f) (pointed_cell pages w.pages f.p) h).0
+target_free pages w f h = (where_some _ _ h).0
 
 pub freed_free : (pages : ℕ) (w : Words) (f : Flight) (p v : ℕ) (cell : Cell) → cell_freed pages w f p v ≡ Some cell
     → is_undecided_free f ≡ true
@@ -150,17 +149,15 @@ entered v k o b =
 enter_move : (c : Config) (m : Moment) (k : ℕ) (o : Op) → k < c.callers → standing (flight_of m (Caller k)) ≡ Resting
     → is_under_turn o ≡ false → Moves c m (Caller k) (step.Enter o)
 enter_move c m k o lt was out = elim (cases_eq (slice_index m.words.gates k) 0) [
-  | inl z ↦ rw (eq-eqb (slice_index m.words.gates k) 0 z) (Enters (begun o) lt z was (begun_in_call o out))
-  | inr ne ↦ rw (ne_eqb (slice_index m.words.gates k) 0 ne) (rw (same_both (view_of m) k) Stays)
+  | inl z ↦ rw (eq-eqb _ 0 z) (Enters (begun o) lt z was (begun_in_call o out))
+  | inr ne ↦ rw (ne_eqb _ 0 ne) (rw (same_both (view_of m) k) Stays)
 ]
 
 -- `reg`, in a call outside the turn or of a Free
 reg_move : (c : Config) (m : Moment) (k : ℕ) → k < c.callers → is_reg_stage (flight_of m (Caller k)).stage ≡ true
     → is_astray (standing (flight_of m (Caller k))) ≡ false → Moves c m (Caller k) step.Reg
-reg_move c m k lt is a = with_words c (view_of m) (Caller k) m.words (accessed m.words (word_accessed c m e)
-    (access c m e)) _ m.seats.holding m.seats.markers
-    (reg_keeps m.words k (register_met f f.stage) (reg_access f f.stage))
-    (by (standing f) refl (reg_stands f.stage f.op f.q f.p f.r f.loaded (found c m e) is a))
+reg_move c m k lt is a = with_words c (view_of m) (Caller k) m.words _ _ m.seats.holding m.seats.markers
+    (reg_keeps m.words k _ _) (by (standing f) refl (reg_stands f.stage f.op f.q f.p f.r f.loaded (found c m e) is a))
   where
     e : Event
     e = record { seat = Caller k; step = step.Reg }
@@ -174,7 +171,7 @@ reg_move c m k lt is a = with_words c (view_of m) (Caller k) m.words (accessed m
 
     by : (s : Standing) → standing (flight_of m (Caller k)) ≡ s → standing g ≡ standing (flight_of m (Caller k))
         → Move c (view_of m) (Caller k) (record (view_of m) { flights = slice_set m.seats.flights k g })
-    by Resting was same = absurd (regs_work (flight_of m (Caller k)).stage (flight_of m (Caller k)).op is was)
+    by Resting was same = absurd (regs_work _ _ is was)
     by InCall was same = GoesOn g lt was (same ∙ was)
     by UnderTurn was same = Works g m.seats.holding (lt, was) (Loads g (loads_under_turn f.stage f.op is was) (same
         ∙ was) (reg_no_new f.stage f.op f.q f.p f.r f.loaded (found c m e) is was))
@@ -199,21 +196,19 @@ onward_from c m k x h own is was =
 pub call_moves : (c : Config) (m : Moment) (k : ℕ) (x : Step) → k < c.callers → group_of x ≡ group.Callers
     → is_astray (standing (flight_of m (Caller k))) ≡ false → Meets c m (Caller k) x → Moves c m (Caller k) x
 call_moves c m k (step.Enter o) lt g a h =
-    let s = at_enter (flight_of m (Caller k)).stage (flight_of m (Caller k)).op o h.order in
+    let s = at_enter _ _ o h.order in
     enter_move c m k o lt (rw s.0) s.1
 call_moves c m k step.Leave lt g a h = Leaves lt (on c m k step.Leave h refl refl a)
-call_moves c m k step.Reg lt g a h =
-    reg_move c m k lt (at_reg (flight_of m (Caller k)).stage (flight_of m (Caller k)).op h.order) a
+call_moves c m k step.Reg lt g a h = reg_move c m k lt (at_reg _ _ h.order) a
 call_moves c m k step.Probe lt g a h =
     let f = flight_of m (Caller k) in
     let was = on c m k step.Probe h refl refl a in
-    GoesOn _ lt was
-    (either_stands (is_unmapped_header (header_of (finds c m (Caller k) step.Probe))) (refused f answer.Fault)
+    GoesOn _ lt was (either_stands _ _
     (onward f None) InCall (refused_stands f.stage f.op was) (onward_from c m k step.Probe h refl refl was))
 call_moves c m k step.Read lt g a h =
     let f = flight_of m (Caller k) in
     let was = on c m k step.Read h refl refl a in
-    GoesOn _ lt was (read_stands f f.op (finds c m (Caller k) step.Read) ∙ onward_from c m k step.Read h refl refl was)
+    GoesOn _ lt was (read_stands f f.op _ ∙ onward_from c m k step.Read h refl refl was)
 call_moves c m k step.Write lt g a h = let was =
     on c m k step.Write h refl refl a in GoesOn _ lt was (onward_from c m k step.Write h refl refl was)
 call_moves c m k step.Cas lt g a h = let was =
@@ -313,7 +308,7 @@ works c m seat g i t s = Works g i t (rw (flight_is m seat) at s)
 
 works_on : (c : Config) (m : Moment) (seat : Seat) → HoldsTurn c (view_of m) seat
     → Move c (view_of m) seat (record (view_of m) { flights = flights_with m.seats.flights seat (flight_of m seat) })
-works_on c m seat t = works c m seat (flight_of m seat) m.seats.holding t (Goes m.seats.holding refl refl)
+works_on c m seat t = works c m seat _ m.seats.holding t (Goes m.seats.holding refl refl)
 
 -- its call stays as it is
 same_call : (m : Moment) (seat : Seat) → flights_with m.seats.flights seat (flight_of m seat) ≡ m.seats.flights

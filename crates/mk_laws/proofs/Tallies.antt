@@ -2,12 +2,11 @@
 use Rattle.std.proofs.lemmas.List.Sums.{sum_by_push}
 use Rattle.mk_laws.proofs.Vocabulary.{Bool, Config, Decided, Event, Flight, IsHistory, IsSettled, IsTidy, List, Moment}
 use Rattle.mk_laws.proofs.Vocabulary.{OfHistories, PlacedAllocation, Seat, Stage, Step, TalliesAreTidy, Words, World}
-use Rattle.mk_laws.proofs.Vocabulary.{[], and_parts, answer_decided, ap, append_assoc, arith, call_decided}
-use Rattle.mk_laws.proofs.Vocabulary.{caller_number, calls, calls_from, cond, ends, eqb-true, false, false_from_ne_true}
-use Rattle.mk_laws.proofs.Vocabulary.{first_world, flight_of, fresh_words_of, has_place, held_by_pages}
-use Rattle.mk_laws.proofs.Vocabulary.{histories_keep_lengths, in_a_word, inl, inr, is_decided, is_end, is_run_gone}
-use Rattle.mk_laws.proofs.Vocabulary.{is_undecided_new, left, left_from, left_more, ne_eqb, phase_of, refl, subst, sym}
-use Rattle.mk_laws.proofs.Vocabulary.{true, true≢false, undecided_new, unreleased_storage, world_behind, ℕ, ◌&&◌, ◌++◌}
+use Rattle.mk_laws.proofs.Vocabulary.{[], and_parts, ap, append_assoc, arith, call_decided, calls, calls_from, cond}
+use Rattle.mk_laws.proofs.Vocabulary.{ends, eqb-true, false, false_from_ne_true, first_world, flight_of, fresh_words_of}
+use Rattle.mk_laws.proofs.Vocabulary.{held_by_pages, histories_keep_lengths, in_a_word, inl, inr, is_decided, is_end}
+use Rattle.mk_laws.proofs.Vocabulary.{is_run_gone, is_undecided_new, left, left_from, left_more, ne_eqb, refl, subst}
+use Rattle.mk_laws.proofs.Vocabulary.{sym, true, true≢false, undecided_new, unreleased_storage, world_behind, ℕ, ◌++◌}
 use Rattle.mk_laws.proofs.Vocabulary.{◌+◌, ◌==◌, ◌∙◌, ◌∷◌, ◌≡◌, ◌≤◌, ◌⊎◌}
 use Rattle.mk_laws.proofs.Basics.{Before, KeptByEvents, Known, Meets, before_it, holds_of_histories, known_left}
 use Rattle.mk_laws.proofs.Basics.{known_world, placed_undecided}
@@ -73,19 +72,18 @@ exact_at_give c es seat h meets =
     let known : Known c m = known_left c es h.within_limits h.enabled in
     let gone : Bool = is_run_gone m.words m.seats.holding.freed in
     let held : Bool = m.words.held == held_by_pages m.words in
-    let a = and_parts (is_decided f.stage && gone && held) (m.words.fresh == m.fresh_words) meets.holder in
-    let b = and_parts (is_decided f.stage && gone) held a.0 in
-    let d = and_parts (is_decided f.stage) gone b.0 in
+    let a = and_parts _ _ meets.holder in
+    let b = and_parts _ held a.0 in
+    let d = and_parts _ gone b.0 in
     let settled : IsSettled (left c es) = record {
-      releasing = giving (phase_of m.words) (give_phase (phase_of m.words) meets.phase);
-      placing = false_from_ne_true (has_place m.seats.holding.placing)
+      releasing = giving _ (give_phase _ meets.phase);
+      placing = false_from_ne_true _
           (λ has. decided_no_new f d.0 (placed_undecided c m seat known (giver_has_turn c m seat known meets) has));
       unmapped = gone_is_unmapped m.words m.seats.holding.freed d.1;
     } in
     let shown = pages_show_the_storage c es h settled in
     record {
-      held = eqb-true m.words.held (held_by_pages m.words) b.1
-          ∙ pages_hold_mapped_words m.words.pages (unreleased_storage c (left c es).allocations) shown;
+      held = eqb-true m.words.held _ b.1 ∙ pages_hold_mapped_words m.words.pages _ shown;
       fresh = eqb-true m.words.fresh m.fresh_words a.1 ∙ fresh_is_told c es h;
     }
 
@@ -117,8 +115,7 @@ module _ (c : Config) (es : List Event) (e : Event) (nothing : CountsNothing c (
   same_fulls =
       let ds : List Decided = call_decided c (left c es).now e in
       let m : Moment = (left c es).now in
-      let last : fulls_of ds ≡ 0 =
-      entry_fulls (caller_number e.seat) (flight_of m e.seat).op (answer_decided c m e) nothing.no_full in
+      let last : fulls_of ds ≡ 0 = entry_fulls _ _ _ nothing.no_full in
       let pushed : full_answers c (es ++ e ∷ []) ≡ full_answers c es + fulls_of ds =
       ap (λ (xs : List Decided). fulls_of xs) (calls_more c (first_world c) es e) ∙ fulls_append (calls c es) ds in
       omega arith

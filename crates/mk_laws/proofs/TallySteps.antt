@@ -1,8 +1,7 @@
 -- What events leave to the tallies, and to the allocations that they count.
 use Rattle.mk_laws.proofs.Vocabulary.{Bool, Caller, Config, Event, Flight, Moment, Seat, Step, World, answer_decided}
-use Rattle.mk_laws.proofs.Vocabulary.{ap, arith, caller_number, false, flight_of, group_of, holder_number}
-use Rattle.mk_laws.proofs.Vocabulary.{if◌then◌else◌, is_end, is_of_turn, refl, reg_access, register_met, true}
-use Rattle.mk_laws.proofs.Vocabulary.{world_behind, ℕ, ◌+◌, ◌==◌, ◌∙◌, ◌≡◌, ◌≢◌}
+use Rattle.mk_laws.proofs.Vocabulary.{ap, arith, false, flight_of, group_of, holder_number, if◌then◌else◌, is_end}
+use Rattle.mk_laws.proofs.Vocabulary.{is_of_turn, refl, reg_access, true, world_behind, ℕ, ◌+◌, ◌==◌, ◌∙◌, ◌≡◌, ◌≢◌}
 use Rattle.mk_laws.proofs.Basics.{Actor, AsHolder, AsMarker, HoldsTurn, InCallOf, Known, Meets, WorldBehind, actor_of}
 use Rattle.mk_laws.proofs.Basics.{reg_leaves, tally_keeps, turn_of, view_of}
 use Rattle.mk_core.specs.declared.events.Step.TheVariants as step
@@ -32,10 +31,7 @@ alike c w seat step.Release is = cc
 alike c w seat step.Reg is =
     let f : Flight = flight_of w.now seat in
     let access = reg_access f f.stage in
-    record {
-      tallies = register_leaves_tallies w.now.words (caller_number seat) (register_met f f.stage) access;
-      allocations = refl;
-    }
+    record { tallies = register_leaves_tallies w.now.words _ _ access; allocations = refl }
 alike c w seat _ is =
     record {
       tallies = record { held = refl; fresh = refl; cycles = refl; released = refl; full = refl };

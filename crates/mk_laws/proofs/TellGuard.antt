@@ -128,8 +128,7 @@ bare_place c w o place q st sized placed = by w.now.seats.holding.placing refl p
     by Unplaced is (ByFit at) = elim (fits c.resident w.now.words.pages o place sized at) [
       | inl fit ↦ record {
         headers = λ d lt. inl (fit.free d lt);
-        words = λ free i li. bare_page c w (place.page + i / 64) (64 * place.page + i) q
-            (fit.free (i / 64) (omega arith)) (omega arith);
+        words = λ free i li. bare_page c w (place.page + i / 64) _ q (fit.free (i / 64) (omega arith)) (omega arith);
       }
       | inr fit ↦ record {
         headers = λ d lt.
@@ -145,13 +144,12 @@ bare_place c w o place q st sized placed = by w.now.seats.holding.placing refl p
         subst (λ (x : Placing). PlotStands w.now.words.pages (plot_of o x)) is st.scene.plot in
         record {
           headers = plot.headers;
-          words = λ free i li. plot_page c w place.page o (i / 64) (64 * place.page + i) q plot (omega arith)
-              (omega arith);
+          words = λ free i li. plot_page c w place.page o (i / 64) _ q plot (omega arith) (omega arith);
         }
     by (Used place) is AsUsed =
         let own : Among (place_claim o place) (claims_placed o w.now.seats.holding.placing) =
         subst (λ (x : Placing). Among (place_claim o place) (claims_placed o x)) (sym is) (inl refl) in
-        let shown = st.scene.shown (place_claim o place) (placed_claim c o (ground_of w) (place_claim o place) own) in
+        let shown = st.scene.shown (place_claim o place) (placed_claim c o (ground_of w) _ own) in
         let some = pages_some o sized in
         record {
           headers = λ d lt. inr (shown.headers d lt);
@@ -175,8 +173,7 @@ run_has_object c w run q is =
       large = x.large;
       count = x.count;
       headers = λ d lt. subst (λ p. IsHeaderOf x.claim.object d (header_on w.now.words.pages (p + d))) x.page
-          (header_of_mode x.claim.mode x.claim.object d (header_on w.now.words.pages (x.claim.page + d))
-          (shown.headers d (omega arith)));
+          (header_of_mode x.claim.mode x.claim.object d _ (shown.headers d (omega arith)));
     }
 
 mapped_stands : (c : Config) (w : World) (i : ℕ) → AreOfPages c.pages w.now.words → LayoutStands c w
@@ -185,14 +182,11 @@ mapped_stands c w i lengths laid mapped =
     let a : PlacedAllocation = placed_at w.allocations i in
     let u = mapped_stays c a mapped in
     let going : Bool = is_unmapping w.now.seats.holding.freed (a.base / 64) in
-    let unmapped : (a.freed && is_large (kinds_of c.types a.ty)) ≡ false =
-    not-true (a.freed && is_large (kinds_of c.types a.ty))
-    (and_parts (not a.released) (not (a.freed && is_large (kinds_of c.types a.ty))) mapped).1 in
+    let unmapped : (a.freed && is_large (kinds_of c.types a.ty)) ≡ false = not-true _ (and_parts _ _ mapped).1 in
     let mode : mode_of (a.freed && not (is_small_object (object_placed c a))) going ≡ Mapped =
-    ap (λ b. mode_of (a.freed && b) going) (sym (large_is_not_small (kinds_of c.types a.ty)))
-    ∙ ap (λ b. mode_of b going) unmapped in
+    ap (λ b. mode_of (a.freed && b) going) (sym (large_is_not_small _)) ∙ ap (λ b. mode_of b going) unmapped in
     record {
-      stands = (all_stand c (object_now c w.now) (is_phase w.now.words 4) w lengths.pages laid i u).stands;
+      stands = (all_stand c _ _ w lengths.pages laid i u).stands;
       headers = λ d lt. subst
           (λ (x : Mode). HasHeader x (object_placed c a) d (header_on w.now.words.pages (a.base / 64 + d))) mode
           ((shown_at c w i laid u).headers d lt);

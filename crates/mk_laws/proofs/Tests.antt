@@ -28,7 +28,7 @@ pub all_below_from : (n : ℕ) (test : ℕ → Bool) → ((k : ℕ) → k < n �
 unfolding all_below
 all_below_from zero test h = refl
 all_below_from (suc n) test h =
-    and_from (all_below n test) (test n) (all_below_from n test (λ k lt. h k (omega arith))) (h n (omega arith))
+    and_from _ (test n) (all_below_from n test (λ k lt. h k (omega arith))) (h n (omega arith))
 
 pub all_below_on : (n : ℕ) (p q : ℕ → Bool) → ((k : ℕ) → k < n → p k ≡ true → q k ≡ true) → all_below n p ≡ true
     → all_below n q ≡ true
@@ -37,11 +37,10 @@ all_below_on n p q f h = all_below_from n q (λ k lt. f k lt (all_below-at n k p
 -- Bits that are all in one word are in one that has its bits.
 pub without_on : (bits m n : ℕ) → ((k : ℕ) → has_bit m k ≡ true → has_bit n k ≡ true) → (without bits m == 0) ≡ true
     → (without bits n == 0) ≡ true
-without_on bits m n grow h = eq-eqb (without bits n) 0 (zero_from_bits (without bits n) (λ k. has_bit_without bits n k
-    ∙ by k (has_bit bits k) refl))
+without_on bits m n grow h = eq-eqb _ 0 (zero_from_bits _ (λ k. has_bit_without bits n k ∙ by k (has_bit bits k) refl))
   where
     none : (k : ℕ) → (has_bit bits k && not (has_bit m k)) ≡ false
-    none k = sym (has_bit_without bits m k) ∙ no_bit (without bits m) k (eqb-true (without bits m) 0 h)
+    none k = sym (has_bit_without bits m k) ∙ no_bit _ k (eqb-true _ 0 h)
 
     by : (k : ℕ) (b : Bool) → has_bit bits k ≡ b → (b && not (has_bit n k)) ≡ false
     by k false is = refl

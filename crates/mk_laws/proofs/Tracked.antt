@@ -4,8 +4,8 @@ use Rattle.mk_laws.proofs.Vocabulary.{OfHistories, Option, Place, Placing, RunPa
 use Rattle.mk_laws.proofs.Vocabulary.{World, [], and_parts, ap, arith, at_rest, eqb-true, false, false_from_ne_true}
 use Rattle.mk_laws.proofs.Vocabulary.{first_world, flight_of, get_or-set_same, has_place, is_phase, is_undecided_new}
 use Rattle.mk_laws.proofs.Vocabulary.{left, left_from, left_more, object_made, phase_of, place_on_pages, refl, subst}
-use Rattle.mk_laws.proofs.Vocabulary.{sym, true, true≢false, undecided_new, world_behind, ℕ, ◌&&◌, ◌++◌, ◌<◌, ◌==◌, ◌∙◌}
-use Rattle.mk_laws.proofs.Vocabulary.{◌∷◌, ◌≡◌}
+use Rattle.mk_laws.proofs.Vocabulary.{sym, true, true≢false, undecided_new, world_behind, ℕ, ◌++◌, ◌<◌, ◌==◌, ◌∙◌, ◌∷◌}
+use Rattle.mk_laws.proofs.Vocabulary.{◌≡◌}
 use Rattle.mk_laws.proofs.Basics.{KeptByEvents, Known, Meets, WorldBehind, at_first, before_it, held_place}
 use Rattle.mk_laws.proofs.Basics.{holds_of_histories, known_left, none_on_its_way}
 use Rattle.mk_core.specs.declared.events.Step.TheVariants as step
@@ -42,7 +42,7 @@ NewsAreTracked c es = (k : ℕ) → k < c.callers → HasNew (left c es) k → T
 -- The event gives no turn back of a caller whose New is undecided after it.
 gives_off : (c : Config) (w : World) (seat : Seat) (x : Step) (k : ℕ) → Known c w.now → k < c.callers
     → HasNew (WorldBehind c w seat x) k → gives_turn (Caller k) (record { seat = seat; step = x }) ≡ false
-gives_off c w (Caller j) x k known lt new = false_from_ne_true ((k == j) && is_give x)
+gives_off c w (Caller j) x k known lt new = false_from_ne_true _
     (λ is. let both = and_parts (k == j) (is_give x) is in by j x (eqb-true k j both.0) both.1 new)
   where
     by : (j : ℕ) (x : Step) → k ≡ j → is_give x ≡ true → HasNew (WorldBehind c w (Caller j) x) k → ⊥
@@ -163,9 +163,7 @@ tracked_behind c es seat x k (WasNew same) all h meets lt new =
           (ap (λ (f : Flight). object_made c f.op) (sym same))
           (place_more c es e k o t.turn on _ _ (places_at c w seat x k known meets lt was new)
           (fits_here c es k o h lt was) t.placed);
-      cycle =
-          cycle_more t.turn.behind e (phase_of w.now.words) _ w.now.seats.holding.cycle _ (cycle_step c w seat x meets)
-          t.cycle;
+      cycle = cycle_more t.turn.behind e _ _ w.now.seats.holding.cycle _ (cycle_step c w seat x meets) t.cycle;
     }
   where
     e : Event

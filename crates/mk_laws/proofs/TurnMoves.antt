@@ -8,8 +8,8 @@ use Rattle.mk_laws.proofs.Vocabulary.{granted_base, granted_type, has_operands, 
 use Rattle.mk_laws.proofs.Vocabulary.{is_put, is_run_cell, is_undecided_free, is_undecided_new, is_used_once, kinds_of}
 use Rattle.mk_laws.proofs.Vocabulary.{length, map, none_freed, object_made, phase_of, pointed_cell, progress_freed}
 use Rattle.mk_laws.proofs.Vocabulary.{refl, register_at, sees_double, slice_set, still, storage_holds, subst, sym}
-use Rattle.mk_laws.proofs.Vocabulary.{target, true, with_new, with_register, ℕ, ◌%◌, ◌*◌, ◌++◌, ◌+◌, ◌<◌, ◌==◌, ◌^◌}
-use Rattle.mk_laws.proofs.Vocabulary.{◌∙◌, ◌∷◌, ◌≡◌, ◌≢◌}
+use Rattle.mk_laws.proofs.Vocabulary.{target, true, with_new, with_register, ℕ, ◌%◌, ◌*◌, ◌++◌, ◌+◌, ◌<◌, ◌^◌, ◌∙◌, ◌∷◌}
+use Rattle.mk_laws.proofs.Vocabulary.{◌≡◌, ◌≢◌}
 use Rattle.mk_laws.proofs.Basics.{Grants, HoldsTurn, KnownWorld, Leads, Move, Ready, Stands, either_leads, flight}
 use Rattle.mk_laws.proofs.Basics.{goes_bare, operands_of, view_of}
 use Rattle.mk_never.specs.declared.operations.Op.TheVariants as op
@@ -35,7 +35,7 @@ record SeesFreed (w : Words) (t : Option Cell) : Type 0 where
 
 sees_freed : (w : Words) (t : Option Cell) (x : Word) → sees_double w t x ≡ true → SeesFreed w t
 sees_freed w (Some cell) (word.Quar p) h =
-    record { cell = cell; is = refl; freed = (and_parts (p == cell.page) (is_freed w cell) h).1 }
+    record { cell = cell; is = refl; freed = (and_parts _ _ h).1 }
 sees_freed w None (word.Quar p) h = cc
 sees_freed w _ _ h = cc
 
@@ -92,10 +92,7 @@ module _ (c : Config) (w : World) (n : NeverState) (known : KnownWorld c w) (mir
       → comes_next s o step.Full ≡ true → Leads safe (image_scene_of w) n k o
       (record (image_scene_of w) { flights = slice_set w.now.seats.flights k (flight stage.Give o q p r l) })
       (Some answer.Full)
-  full_by stage.Turn (op.New d ty full) q p r l is next = (
-    goes_bare safe (image_scene_of w) n k _ (rw is) refl,
-    λ more. refl,
-  )
+  full_by stage.Turn (op.New d ty full) q p r l is next = (goes_bare safe _ n k _ (rw is) refl, λ more. refl)
   full_by _ _ q p r l is next = absurd (false≢true next)
 
   freed_by : (s : Stage) (o : Op) (q p r l : ℕ) (cell : Cell) → flight_among w.now.seats.flights k ≡ flight s o q p r l

@@ -19,7 +19,7 @@ HasNew w k = is_undecided_new (flight_of w.now (Caller k)) ≡ true
 -- and so the turn; and what it makes.
 pub new_holds_turn : (c : Config) (w : World) (k : ℕ) → k < c.callers → HasNew w k
     → HoldsTurn c (view_of w.now) (Caller k)
-new_holds_turn c w k lt new = (lt, new_stands (flight_of w.now (Caller k)).stage (flight_of w.now (Caller k)).op new)
+new_holds_turn c w k lt new = (lt, new_stands _ _ new)
 
 abbrev pub new_object : Config → World → ℕ → Object
 new_object c w k = object_made c (flight_of w.now (Caller k)).op
@@ -89,7 +89,7 @@ own_came c w k x known h new =
         → NewCame c w (Caller k) (step.Take o) k
     taken (Some o) free h = IsTaken o refl refl free
         (ap (λ (b : Bool). if b then nothing_done else w.now.seats.holding) (eq-eqb w.now.words.turn 0 free))
-    taken None free h = absurd (at_no_take (flight_of w.now (Caller k)).stage (flight_of w.now (Caller k)).op h.order)
+    taken None free h = absurd (at_no_take _ _ h.order)
 
 pub new_came : (c : Config) (w : World) (seat : Seat) (x : Step) (k : ℕ) → Known c w.now → Meets c w.now seat x
     → HasNew (WorldBehind c w seat x) k → NewCame c w seat x k

@@ -6,10 +6,10 @@ use Rattle.mk_laws.proofs.Vocabulary.{cases_lt, claim_of, earlier_part_is_histor
 use Rattle.mk_laws.proofs.Vocabulary.{false_from_ne_true, first_world, ground_of, header_at, header_of, inl, inr}
 use Rattle.mk_laws.proofs.Vocabulary.{is_phase, is_resident_page, is_small_object, is_unmapped_header, is_unmapping}
 use Rattle.mk_laws.proofs.Vocabulary.{large_count, large_words, left, left_append, left_from, length, list_any, mode_of}
-use Rattle.mk_laws.proofs.Vocabulary.{ne_eqb, never_behind, not, not-true, object_now, object_placed, or_parts}
-use Rattle.mk_laws.proofs.Vocabulary.{pages_made, placed_at, refl, run_begins, set_past, storage_words, subst, sym}
-use Rattle.mk_laws.proofs.Vocabulary.{true, true≢false, unmapped_header, unmapped_is_unmapped, use_under, used_on}
-use Rattle.mk_laws.proofs.Vocabulary.{world_behind, ℕ, ◌&&◌, ◌*◌, ◌+◌, ◌-◌, ◌/◌, ◌<◌, ◌==◌, ◌∙◌, ◌∷◌, ◌≡◌}
+use Rattle.mk_laws.proofs.Vocabulary.{ne_eqb, not, not-true, object_now, object_placed, or_parts, pages_made, placed_at}
+use Rattle.mk_laws.proofs.Vocabulary.{refl, run_begins, set_past, storage_words, subst, sym, true, true≢false}
+use Rattle.mk_laws.proofs.Vocabulary.{unmapped_header, unmapped_is_unmapped, use_under, used_on, world_behind, ℕ, ◌&&◌}
+use Rattle.mk_laws.proofs.Vocabulary.{◌*◌, ◌+◌, ◌-◌, ◌/◌, ◌<◌, ◌==◌, ◌∙◌, ◌∷◌, ◌≡◌}
 use Rattle.mk_laws.proofs.Basics.{Behind, KnownWorld, Laid, Table, claim_among, gone_terrain, known_world, own_claim}
 use Rattle.mk_laws.proofs.Basics.{reg_table, tally_table}
 use Rattle.mk_core.specs.declared.events.Step.TheVariants as step
@@ -25,12 +25,9 @@ stays_out : (c : Config) (m : Moment) (seat : Seat) (x : Step) (p : ℕ) → giv
 stays_out c m seat step.Reg p none out = ap (λ (t : Table). is_resident t.pages p) (reg_table c m seat) ∙ out
 stays_out c m seat (step.Tally n v) p none out =
     ap (λ (t : Table). is_resident t.pages p) (tally_table m.words n v) ∙ out
-stays_out c m seat (step.Used q n) p none out =
-    false_from_ne_true (is_resident (Behind c m seat (step.Used q n)).words.pages p)
+stays_out c m seat (step.Used q n) p none out = false_from_ne_true _
     (λ resident. true≢false (sym (resident_used m.words.pages q n p resident) ∙ out))
-stays_out c m seat (step.Head q n) p none out =
-    false_from_ne_true (is_resident (Behind c m seat (step.Head q n)).words.pages p)
-    (λ resident. true≢false (sym (was resident) ∙ out))
+stays_out c m seat (step.Head q n) p none out = false_from_ne_true _ (λ resident. true≢false (sym (was resident) ∙ out))
   where
     zero_there : p ≡ q → n ≡ 0
     zero_there e = elim (cases_eq n 0) [
@@ -80,10 +77,10 @@ module _ (c : Config) (w : World) (n : NeverState) (known : KnownWorld c w) (all
   o = object_placed c a
 
   gone : (a.freed && not (is_small_object o)) ≡ true
-  gone = not_false (a.freed && not (is_small_object o)) (sym (gone_is c a x.unreleased) ∙ x.freed)
+  gone = not_false _ (sym (gone_is c a x.unreleased) ∙ x.freed)
 
   large : is_small_object o ≡ false
-  large = not-true (is_small_object o) (and_parts a.freed (not (is_small_object o)) gone).1
+  large = not-true _ (and_parts a.freed (not (is_small_object o)) gone).1
 
   -- how far the page is after the first one
   record OnRun : Type 0 where
@@ -128,14 +125,13 @@ module _ (c : Config) (w : World) (n : NeverState) (known : KnownWorld c w) (all
           ∙ unmapped_mode (a.freed && not (is_small_object o)) _ o on_run.distance _ gone other has
 
   not_resident : is_resident_in w p ≡ false
-  not_resident = unmapped_use (header_of (header_at w.now.words p)) (used_on w.now.words.pages p)
-      (ap (λ h. is_unmapped_header (header_of h)) header_there
+  not_resident = unmapped_use _ _ (ap (λ h. is_unmapped_header (header_of h)) header_there
       ∙ unmapped_is_unmapped (pages_made o) on_run.distance (large_count o sized_shown.sized large) on_run.near)
 
 pub unmapped_runs_take_no_memory : OfHistories UnmappedRunsTakeNoMemory
 unmapped_runs_take_no_memory c es h front more p is x none =
     let before = earlier_part_is_history c front more (subst (λ (xs : List Event). IsHistory c xs) is h) in
-    let out = not_resident c (left c front) (never_behind c front)
+    let out = not_resident c (left c front) _
     (known_world c front before.within_limits before.enabled) (histories_keep_the_invariant c front before) p x in
     ap (λ (xs : List Event). is_resident_in (left c xs) p) is
     ∙ ap (λ (w : World). is_resident_in w p) (left_append c (first_world c) front more)

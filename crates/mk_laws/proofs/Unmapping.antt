@@ -48,7 +48,7 @@ pub cells_at_claim : (s : LayoutScene) (x : Claim) → IsShown s.pages x
     → cells_under (shows_on s.pages x.page) ≡ cells_made x.object
 cells_at_claim s x shown =
     let zero : x.page + 0 ≡ x.page = omega arith in
-    rw (← zero) (part_cells x.object (shows_on s.pages (x.page + 0))
+    rw (← zero) (part_cells x.object _
     (claimed s.pages x 0 shown (let some = pages_some x.object shown.sized in omega arith)))
 
 -- a claim that shares a page with a run's is the run's
@@ -142,20 +142,20 @@ module _ (s : LayoutScene) (x : Claim) (d : ℕ) (laid : IsLaidOn s) (ix : Among
 
   cells : (q : ℕ) → cells_under (shows_on after q) ≡ cells_under (shows_on s.pages q)
   cells q = elim (cases_eq q p) [
-    | inl e ↦ rw e (rw here (same_cells x.object d (header_of n) (shows_on s.pages p) new old ∙ rw (← e)))
+    | inl e ↦ rw e (rw here (same_cells x.object d (header_of n) _ new old ∙ rw (← e)))
     | inr ne ↦ rw (headed_other s.pages p n q ne)
   ]
 
   counts : (q : ℕ) → run_count (shows_on after q) ≡ run_count (shows_on s.pages q)
   counts q = elim (cases_eq q p) [
-    | inl e ↦ rw e (rw here (same_count x.object d (header_of n) (shows_on s.pages p) new old large ∙ rw (← e)))
+    | inl e ↦ rw e (rw here (same_count x.object d (header_of n) _ new old large ∙ rw (← e)))
     | inr ne ↦ rw (headed_other s.pages p n q ne)
   ]
 
   head : (q : ℕ) → head_on after q ≡ head_on s.pages q
   head q = elim (cases_eq q p) [
     | inl e ↦ rw e (rw here (part_head x.object d x.page (header_of n) new
-        ∙ sym (part_head x.object d x.page (shows_on s.pages p) old) ∙ rw (← e)))
+        ∙ sym (part_head x.object d x.page _ old) ∙ rw (← e)))
     | inr ne ↦ head_of_other s.pages p n q ne
   ]
 
@@ -194,7 +194,7 @@ module _ (s : LayoutScene) (x : Claim) (d : ℕ) (laid : IsLaidOn s) (ix : Among
   own_later q e m same is =
       let at = shown_later x.object d e m (header_of n) new (ap header_of (sym here) ∙ ap (λ i. shows_on after i)
       (sym same) ∙ is) in
-      let was = later_part x.object d (shows_on s.pages p) old at.1 in
+      let was = later_part x.object d _ old at.1 in
       kept q e m (laid.later q e was.0 (ap (λ i. shows_on s.pages i) same ∙ was.1
       ∙ ap (λ i. Some (Later i was.0)) (sym at.0)))
 

@@ -44,7 +44,7 @@ one_more : (c : Config) (es : List Event) (seat : Seat) (x : Step) (g : ℕ)
     → slice_index (Behind c (left c es).now seat x).words.globals g ≡ 0
 one_more c es seat step.Setg g never zero =
     let f = flight_of (left c es).now seat in
-    get_or-set_other (left c es).now.words.globals (g_of f.op) g f.p 0 (λ e. never es [] seat refl (sym e)) ∙ zero
+    get_or-set_other _ (g_of f.op) g f.p 0 (λ e. never es [] seat refl (sym e)) ∙ zero
 one_more c es seat x g never zero =
     ap (λ (gs : List ℕ). slice_index gs g) (globals_stay c (left c es).now seat x refl) ∙ zero
 

@@ -3,13 +3,12 @@ use Rattle.mk_laws.proofs.Vocabulary.{Among, Bool, Claim, Config, Empties, Fligh
 use Rattle.mk_laws.proofs.Vocabulary.{IsClaimed, IsLaidOn, ItCarves, ItEmpties, ItGivesBack, ItTakes, ItUnmaps, Later}
 use Rattle.mk_laws.proofs.Vocabulary.{LayoutScene, LayoutStands, List, NoPlot, Object, Option, Page, Plot, PlotStands}
 use Rattle.mk_laws.proofs.Vocabulary.{Plotted, Run, Seat, ShowsPart, Some, Step, UsedStep, Words, World, ap, arith}
-use Rattle.mk_laws.proofs.Vocabulary.{cases_Bool, cases_eq, cells_under, false, fewer_bits, flight_of, found, ground_of}
-use Rattle.mk_laws.proofs.Vocabulary.{has_bit, head_on, head_page, head_page_under, head_step, header_made, header_of}
-use Rattle.mk_laws.proofs.Vocabulary.{header_on, heads_run, inl, inr, is_phase, is_released_on, is_small_object}
-use Rattle.mk_laws.proofs.Vocabulary.{layout_scene_of, length, length-set, made_shows, object_now, pages_made}
-use Rattle.mk_laws.proofs.Vocabulary.{pages_some, plot_of, refl, run_count, shows_on, small_heads_none, stands, subst}
-use Rattle.mk_laws.proofs.Vocabulary.{suc, sym, true, true≢false, used_on, used_step, zero, ℕ, ◌+◌, ◌-◌, ◌<◌, ◌∙◌, ◌≡◌}
-use Rattle.mk_laws.proofs.Vocabulary.{◌≢◌, ◌⊎◌}
+use Rattle.mk_laws.proofs.Vocabulary.{cases_Bool, cases_eq, cells_under, false, fewer_bits, flight_of, found, has_bit}
+use Rattle.mk_laws.proofs.Vocabulary.{head_on, head_page, head_page_under, head_step, header_made, header_on, heads_run}
+use Rattle.mk_laws.proofs.Vocabulary.{inl, inr, is_phase, is_released_on, is_small_object, length, length-set}
+use Rattle.mk_laws.proofs.Vocabulary.{made_shows, object_now, pages_made, pages_some, plot_of, refl, run_count}
+use Rattle.mk_laws.proofs.Vocabulary.{shows_on, small_heads_none, stands, subst, suc, sym, true, true≢false, used_on}
+use Rattle.mk_laws.proofs.Vocabulary.{used_step, zero, ℕ, ◌+◌, ◌-◌, ◌<◌, ◌∙◌, ◌≡◌, ◌≢◌, ◌⊎◌}
 use Rattle.mk_laws.proofs.Basics.{Before, Meets, WorldBehind, claimed, headed_other, is_releasing_behind, none_set}
 use Rattle.mk_laws.proofs.Basics.{page_within, reg_leaves_ground, tally_ground, used_header, with_header_on}
 use Rattle.mk_laws.proofs.Basics.{with_used_on, zero_where_none}
@@ -122,14 +121,14 @@ claimed_run s x p laid ix page h =
     let some = pages_some x.object shown.sized in
     let zero : x.page + 0 ≡ p = omega arith in
     let part : ShowsPart x.object 0 (shows_on s.pages p) = rw zero at (claimed s.pages x 0 shown (omega arith)) in
-    let count = part_count x.object (shows_on s.pages p) part (heads_large x.object (shows_on s.pages p) part h) in
+    let count = part_count x.object _ part (heads_large x.object _ part h) in
     let within = shown.within in
     record {
       within = omega arith;
       later = λ d some lt.
           let near : d < pages_made x.object = omega arith in
-          later_at s.pages s.releasing s.plot p x.page d (shows_on s.pages (x.page + d)) page refl
-          (later_part x.object d (shows_on s.pages (x.page + d)) (claimed s.pages x d shown near) some);
+          later_at s.pages s.releasing s.plot p x.page d _ page refl
+          (later_part x.object d _ (claimed s.pages x d shown near) some);
     }
 
 -- from a plot, whose first page it is
@@ -150,7 +149,7 @@ plotted_run s (Plotted first o) p is stands here h =
         let part : ShowsPart o (p - first) (shows_on s.pages p) =
         rw e (made_shows o (p - first) stands.sized (omega arith))
         in
-        let none = heads_first o (p - first) (shows_on s.pages p) part h in
+        let none = heads_first o (p - first) _ part h in
         let page : p ≡ first = omega arith in
         let front : ShowsPart o 0 (shows_on s.pages p) = rw none at part in
         let count = part_count o (shows_on s.pages p) front (heads_large o (shows_on s.pages p) front h) in
@@ -163,9 +162,8 @@ plotted_run s (Plotted first o) p is stands here h =
               let near : d < pages_made o = omega arith in
               elim (stands.headers d near) [
                 | inl z ↦ inr (rw page z, rw (← zero) (stands.used 0 (omega arith)), inr here)
-                | inr m ↦
-                    later_at s.pages s.releasing (Plotted first o) p first d (header_of (header_made o d)) (sym page)
-                    (rw m) (later_part o d (header_of (header_made o d)) (made_shows o d stands.sized near) some_d)
+                | inr m ↦ later_at s.pages s.releasing (Plotted first o) p first d _ (sym page)
+                    (rw m) (later_part o d _ (made_shows o d stands.sized near) some_d)
               ];
         }
 
@@ -257,8 +255,8 @@ given_back w plot p n lt x whole q h =
     still : used_on w.pages q ≡ 0 → used_on (with_used_on w.pages p n) q ≡ 0
     still z = elim (cases_eq q p) [
       | inr ne ↦ used_other w.pages p n q ne ∙ z
-      | inl e ↦ rw e (used_here w.pages p n lt ∙ zero_where_none n (λ k bit. none_set (used_on w.pages p) k (rw (← e)
-          z) (fewer_bits n (used_on w.pages p) k x.fewer bit)))
+      | inl e ↦ rw e (used_here w.pages p n lt ∙ zero_where_none n (λ k bit. none_set _ k (rw (← e)
+          z) (fewer_bits n _ k x.fewer bit)))
     ]
 
     page : (d : ℕ) → HasLaterPage w.pages true plot q d → HasLaterPage (with_used_on w.pages p n) true plot q d
@@ -284,10 +282,10 @@ whole_by_kind : (c : Config) (w : World) (seat : Seat) (x : Step) (plot : Plot) 
     → HaveWholeRuns w.now.words.pages true plot → HaveWholeRuns (WorldBehind c w seat x).now.words.pages true plot
 whole_by_kind c w seat (step.Head p n) plot b h on whole =
     head_whole c w (flight_of w.now seat) plot p n (page_within c w p b h.range) on
-    (head_step c w.now (flight_of w.now seat) p n h.holder) whole
+    (head_step c w.now _ p n h.holder) whole
 whole_by_kind c w seat (step.Used p n) plot b h on whole =
     used_whole c w (flight_of w.now seat) plot p n (page_within c w p b h.range) on
-    (used_step c w.now (flight_of w.now seat) p n h.holder) whole
+    (used_step c w.now _ p n h.holder) whole
 whole_by_kind c w seat step.Reg plot b h on whole = rw (reg_leaves_ground c w seat).pages whole
 whole_by_kind c w seat (step.Tally n v) plot b h on whole = rw (tally_ground w.now.words n v).pages whole
 whole_by_kind c w seat _ plot b h on whole = whole
@@ -299,8 +297,6 @@ whole_behind c w seat x b h whole laid =
     let plot : Plot = plot_of (object_now c v.now) v.now.seats.holding.placing in
     elim (cases_Bool (is_releasing_behind x (is_phase w.now.words 4))) [
       | inl on ↦ rw (phase_kind c w seat x h ∙ on) (whole_by_kind c w seat x plot b h on
-          (replotted w.now.words.pages (plot_of (object_now c w.now) w.now.seats.holding.placing) plot
-          (is_phase w.now.words 4) whole))
-      | inr off ↦ whole_quiet (layout_scene_of c (object_now c v.now) (is_phase v.now.words 4) v.now.words.marks
-          (ground_of v)) laid.scene (phase_kind c w seat x h ∙ off)
+          (replotted w.now.words.pages _ plot _ whole))
+      | inr off ↦ whole_quiet _ laid.scene (phase_kind c w seat x h ∙ off)
     ]

@@ -8,10 +8,10 @@ use Rattle.mk_laws.proofs.Vocabulary.{enabled_meets, eqb-true, false, first_mome
 use Rattle.mk_laws.proofs.Vocabulary.{has_bit_without, head_step, held_by_pages, histories_keep_lengths, if◌then◌else◌}
 use Rattle.mk_laws.proofs.Vocabulary.{inl, inr, is_decided, is_heap_store, is_left_unmarked, is_phase}
 use Rattle.mk_laws.proofs.Vocabulary.{is_released_there, is_run_gone, left, left_from, map, may_end, nothing_done}
-use Rattle.mk_laws.proofs.Vocabulary.{object_placed, placed_at, quarantine_step, refl, reg_access, register_met}
-use Rattle.mk_laws.proofs.Vocabulary.{slice_index, subst, sym, target, true, true≢false, used_step, with_released}
-use Rattle.mk_laws.proofs.Vocabulary.{word_accessed, word_met, word_points, world_behind, zero_lengths, zero_scene_with}
-use Rattle.mk_laws.proofs.Vocabulary.{ℕ, ◌&&◌, ◌*◌, ◌++◌, ◌==◌, ◌∙◌, ◌∷◌, ◌≡◌}
+use Rattle.mk_laws.proofs.Vocabulary.{object_placed, placed_at, quarantine_step, refl, reg_access, register_met, subst}
+use Rattle.mk_laws.proofs.Vocabulary.{sym, target, true, true≢false, used_step, with_released, word_accessed, word_met}
+use Rattle.mk_laws.proofs.Vocabulary.{word_points, world_behind, zero_lengths, zero_scene_with, ℕ, ◌*◌, ◌++◌, ◌==◌, ◌∙◌}
+use Rattle.mk_laws.proofs.Vocabulary.{◌∷◌, ◌≡◌}
 use Rattle.mk_laws.proofs.Basics.{Known, Meets, WorldBehind, at_first, changed_words, is_releasing_behind}
 use Rattle.mk_laws.proofs.Basics.{known_at_first, known_behind, known_left, mapped_stays, none_released}
 use Rattle.mk_core.specs.declared.events.Step.TheVariants as step
@@ -49,8 +49,8 @@ give_kind c w seat h z = changed_words c (here w) (record (here w) { run = None 
         let decided : Bool = is_decided (flight_of w.now seat).stage in
         let gone : Bool = is_run_gone w.now.words w.now.seats.holding.freed in
         let counts : Bool = w.now.words.held == held_by_pages w.now.words in
-        let a = and_parts (decided && gone && counts) (w.now.words.fresh == w.now.fresh_words) h.holder in
-        (and_parts decided gone (and_parts (decided && gone) counts a.0).0).1
+        let a = and_parts _ _ h.holder in
+        (and_parts decided gone (and_parts _ counts a.0).0).1
 
 -- `grant` and `begin`
 abbrev with_allocations : World → List PlacedAllocation → ZeroScene
@@ -58,8 +58,7 @@ with_allocations w xs = record (here w) { allocations = xs }
 
 other_allocations : (c : Config) (w : World) (xs : List PlacedAllocation) → HasZeros c w
     → ((n : ℕ) → IsWordOfMapped c w.allocations n → IsWordOfMapped c xs n) → OthersAreZero c (with_allocations w xs)
-other_allocations c w xs z keeps =
-    changed_words c (here w) (with_allocations w xs) z (λ n ne. ne) (λ n m. OfMapped (keeps n m))
+other_allocations c w xs z keeps = changed_words c (here w) _ z (λ n ne. ne) (λ n m. OfMapped (keeps n m))
     (λ n some r. OfReleased r) (λ n some f. OfFreedRun f)
 
 -- `release`
@@ -100,17 +99,15 @@ release_kind c w seat b three z =
 -- `end`
 end_kind : (c : Config) (w : World) → may_end c.pages w.now.words ≡ true → HasZeros c w
     → OthersAreZero c (zero_scene_with false w.now.words.marks w)
-end_kind c w own z =
-    changed_words c (here w) (zero_scene_with false w.now.words.marks w) z (λ n ne. ne) (λ n m. OfMapped m)
+end_kind c w own z = changed_words c (here w) _ z (λ n ne. ne) (λ n m. OfMapped m)
     (λ n some r. absurd (left n r)) (λ n some f. OfFreedRun f)
   where
     left : (n : ℕ) → IsReleasedWord c w.now.words.pages (is_released_there (here w)) n → ⊥
     left n r =
         let lt = (pointed_within c.pages w.now.words (address_of n) r.cell r.pointed).0 in
         let none = (settled_page w.now.words c.pages r.cell.page own lt).none r.cell.index in
-        let is = (and_parts (is_phase w.now.words 4) (is_left_unmarked w.now.words r.cell) r.released).1 in
-        true≢false (sym is ∙ has_bit_without (slice_index w.now.words.snapshot r.cell.page)
-        (slice_index w.now.words.marks r.cell.page) r.cell.index ∙ none)
+        let is = (and_parts (is_phase w.now.words 4) _ r.released).1 in
+        true≢false (sym is ∙ has_bit_without _ _ r.cell.index ∙ none)
 
 -- each kind of event, whatever the seat
 pub by_kind : (c : Config) (w : World) (seat : Seat) (x : Step) → Before c w seat x → Meets c w.now seat x

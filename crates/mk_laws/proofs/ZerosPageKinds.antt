@@ -66,7 +66,7 @@ pub emptied_word : (c : Config) (w : World) (is_gone : Cell → Bool) (p v n : �
     → IsReleasedWord c (slice_set w.now.words.pages p (record { header = v; used = used_at w.now.words p })) is_gone n
 emptied_word c w is_gone p v n h r =
     kept_word c w.now.words.pages (slice_set w.now.words.pages p (record { header = v; used = used_at w.now.words p }))
-    is_gone n r (same (page_at_address (address_of n)) not_here) (same r.cell.page not_there)
+    is_gone n r (same _ not_here) (same r.cell.page not_there)
     (set_by (λ (x : Page). has_bit x.used r.cell.index ≡ true) w.now.words.pages p r.cell.page _ free_page
     (λ e. ap (λ q. has_bit (used_at w.now.words q) r.cell.index) (sym e) ∙ r.used) r.used)
   where
@@ -77,17 +77,14 @@ emptied_word c w is_gone p v n h r =
         (λ e. absurd (ne e)) refl
 
     unused : head_page w.now.words p ≡ r.cell.page → ⊥
-    unused e = none_set (used_at w.now.words r.cell.page) r.cell.index (ap (λ q. used_at w.now.words q) (sym e)
-        ∙ h.unused) r.used
+    unused e = none_set _ r.cell.index (ap (λ q. used_at w.now.words q) (sym e) ∙ h.unused) r.used
 
     not_here : page_at_address (address_of n) ≢ p
     not_here e = unused (ap (λ q. head_page w.now.words q) (sym e)
         ∙ sym (pointed_head c.pages w.now.words (address_of n) r.cell r.pointed))
 
     not_there : r.cell.page ≢ p
-    not_there e = unused (ap (λ q. head_page w.now.words q) (sym e)
-        ∙ own_head (header_in w.now.words r.cell.page) r.cell.page (first_word_on w.now.words.pages r.cell) n r.to
-        r.from)
+    not_there e = unused (ap (λ q. head_page w.now.words q) (sym e) ∙ own_head _ r.cell.page _ n r.to r.from)
 
 -- A used word's step leaves all headers.
 pub same_headers : (pages : List Page) (p v q : ℕ)
@@ -102,16 +99,15 @@ pub unwiped_word : (c : Config) (w : World) (is_gone : Cell → Bool) (p v n : �
     → IsReleasedWord c (slice_set w.now.words.pages p (record { header = header_at w.now.words p; used = v })) is_gone n
 unwiped_word c w is_gone p v n h some r = kept_word c w.now.words.pages
     (slice_set w.now.words.pages p (record { header = header_at w.now.words p; used = v })) is_gone n r
-    (same_headers w.now.words.pages p v (page_at_address (address_of n)))
-    (same_headers w.now.words.pages p v r.cell.page)
+    (same_headers w.now.words.pages p v _) (same_headers w.now.words.pages p v r.cell.page)
     (set_by (λ (x : Page). has_bit x.used r.cell.index ≡ true) w.now.words.pages p r.cell.page _ free_page still r.used)
   where
     wiped : r.cell.page ≡ p → has_bit v r.cell.index ≡ false → ⊥
     wiped e out =
         let bit : has_bit (used_at w.now.words p) r.cell.index ≡ true =
         ap (λ q. has_bit (used_at w.now.words q) r.cell.index) (sym e) ∙ r.used in
-        let gone = rest_bits v (used_at w.now.words p) r.cell.index h.fewer bit out in
-        let zero = wiped_cell w.now.words p (used_at w.now.words p - v) r.cell.index h.wiped r.small gone in
+        let gone = rest_bits v _ r.cell.index h.fewer bit out in
+        let zero = wiped_cell w.now.words p _ r.cell.index h.wiped r.small gone in
         let cell : Cell = record { page = p; index = r.cell.index } in
         let first : first_word w.now.words cell ≡ first_word_on w.now.words.pages r.cell =
         ap (λ q. first_word w.now.words (record { page = q; index = r.cell.index })) (sym e) in
@@ -120,9 +116,7 @@ unwiped_word c w is_gone p v n h some r = kept_word c w.now.words.pages
         let from = r.from in
         let to = r.to in
         let at : first_word w.now.words cell + (n - first_word w.now.words cell) ≡ n = omega arith in
-        some (ap (λ i. slice_index w.now.words.heap i) (sym at)
-        ∙ eqb-true (slice_index w.now.words.heap (first_word w.now.words cell + (n - first_word w.now.words cell))) 0
-        (all_below-at (cell_words w.now.words cell) (n - first_word w.now.words cell)
+        some (ap (λ i. slice_index w.now.words.heap i) (sym at) ∙ eqb-true _ 0 (all_below-at _ _
         (λ i. slice_index w.now.words.heap (first_word w.now.words cell + i) == 0) zero (omega arith)))
 
     still : r.cell.page ≡ p → has_bit v r.cell.index ≡ true
@@ -148,14 +142,10 @@ dropped_word c w p f v n h r =
   where
     bits : (has_bit (slice_index w.now.words.snapshot r.cell.page) r.cell.index ≡ true)
         × (not (has_bit (slice_index w.now.words.marks r.cell.page) r.cell.index) ≡ true)
-    bits = and_parts (has_bit (slice_index w.now.words.snapshot r.cell.page) r.cell.index)
-        (not (has_bit (slice_index w.now.words.marks r.cell.page) r.cell.index))
-        (sym (has_bit_without (slice_index w.now.words.snapshot r.cell.page) (slice_index w.now.words.marks r.cell.page)
-        r.cell.index) ∙ r.released)
+    bits = and_parts _ _ (sym (has_bit_without _ _ r.cell.index) ∙ r.released)
 
     still : r.cell.page ≡ p → has_bit (without v (slice_index w.now.words.marks r.cell.page)) r.cell.index ≡ true
-    still e = has_bit_without v (slice_index w.now.words.marks r.cell.page) r.cell.index
-        ∙ and_from (has_bit v r.cell.index) (not (has_bit (slice_index w.now.words.marks r.cell.page) r.cell.index))
+    still e = has_bit_without v _ r.cell.index ∙ and_from _ _
         kept bits.1
       where
         kept : has_bit v r.cell.index ≡ true
@@ -187,8 +177,7 @@ gone_word w freed n gone f =
 -- `quar` (a), where no cell is freed
 pub word_where_none_is_freed : (c : Config) (w : World) (n : ℕ) → IsWordOfMapped c w.allocations n
     → IsWordOfMapped c (map (freed_where_it_stands w.now.words None) w.allocations) n
-word_where_none_is_freed c w n m = word_of_changed c (freed_where_it_stands w.now.words None) w.allocations n
-    (freed_leaves w.now.words None) m m.mapped
+word_where_none_is_freed c w n m = word_of_changed c _ w.allocations n (freed_leaves w.now.words None) m m.mapped
 
 -- and where one is
 pub word_of_freed : (c : Config) (w : World) (cell : Cell) (n : ℕ) → IsWithinLimits c
@@ -249,7 +238,7 @@ other_pages c w pages off z = early_words c w (with_pages w pages) off z (λ n n
 late_pages : (c : Config) (w : World) (pages : List Page) → HasZeros c w
     → ((n : ℕ) → slice_index w.now.words.heap n ≢ 0 → IsReleasedWord c w.now.words.pages (is_released_there (here w)) n
     → IsReleasedWord c pages (is_released_there (here w)) n) → OthersAreZero c (with_pages w pages)
-late_pages c w pages z keeps = changed_words c (here w) (with_pages w pages) z (λ n ne. ne) (λ n m. OfMapped m)
+late_pages c w pages z keeps = changed_words c (here w) _ z (λ n ne. ne) (λ n m. OfMapped m)
     (λ n some r. OfReleased (keeps n some r)) (λ n some f. OfFreedRun f)
 
 pub head_kind : (c : Config) (w : World) (f : Flight) (p v : ℕ) → HasZeros c w → HeadStep c w.now f p v
@@ -317,8 +306,7 @@ quar_late : (c : Config) (w : World) (p v : ℕ)
     → ((n : ℕ) → IsReleasedWord c w.now.words.pages (is_released_there (zero_scene_with true w.now.words.marks w)) n
     → IsReleasedWord c w.now.words.pages (is_released_there (quarantined true w p v None)) n)
     → OthersAreZero c (zero_scene_with true w.now.words.marks w) → OthersAreZero c (quarantined true w p v None)
-quar_late c w p v keeps z =
-    changed_words c (zero_scene_with true w.now.words.marks w) (quarantined true w p v None) z (λ n ne. ne)
+quar_late c w p v keeps z = changed_words c _ _ z (λ n ne. ne)
     (λ n m. OfMapped (word_where_none_is_freed c w n m)) (λ n some r. OfReleased (keeps n r)) (λ n some f. OfFreedRun f)
 
 pub quar_kind : (c : Config) (w : World) (seat : Seat) (p v : ℕ) → Before c w seat (step.Quar p v)
