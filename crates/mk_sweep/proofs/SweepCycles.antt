@@ -3,9 +3,9 @@ use Rattle.std.proofs.Common.{◌≡◌, ℕ, Bool, true, false, List, [], ◌�
 use Rattle.std.specs.Prelude.{not}
 use Rattle.std.proofs.lemmas.Bool.{and_parts, false_from_ne_true, not-true}
 use Rattle.mk_sweep.proofs.Vocabulary.{AreOfOthers, Cell, Config, Event, Has, HasMarkers, Holds, IsEnabledTo, IsHistory}
-use Rattle.mk_sweep.proofs.Vocabulary.{IsSwept, PassState, PlacedAllocation, Seat, Step, Steady, Sweeps, Untouched, World}
+use Rattle.mk_sweep.proofs.Vocabulary.{IsSwept, PassState, PlacedAllocation, Seat, Step, Steady, Sweeps, Untouched}
 use Rattle.mk_sweep.proofs.Vocabulary.{before_release, cell_of_allocation, is_marked, is_tracing, left, others_are_held}
-use Rattle.mk_sweep.proofs.Vocabulary.{phase_of, placed_at, untouched_of}
+use Rattle.mk_sweep.proofs.Vocabulary.{phase_of, placed_at, untouched_of, World}
 use Rattle.mk_core.specs.declared.events.Step.TheVariants as step
 use Rattle.mk_core.specs.Cycles.{Releasing, IsInSnapshot, before_close, is_close, is_release}
 use Rattle.mk_core.specs.Frames.{IsLeft, Written, written_of}
