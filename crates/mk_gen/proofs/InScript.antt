@@ -112,7 +112,8 @@ module _ (a b : List Item) (alike : AreAlike a b) where
     is_short = is.is_short;
   }
 
-pub AreRead-alike : (lines : List (List ℕ)) (items : List Item) {a b : List Item} → AreAlike a b → list_all is_inside items ≡ true
+pub AreRead-alike : (lines : List (List ℕ)) (items : List Item) {a b : List Item} → AreAlike a b
+    → list_all is_inside items ≡ true
     → AreRead a lines items → AreRead b lines items
 AreRead-alike [] [] alike inside are = tt
 AreRead-alike [] (item ∷ items) alike inside are = absurd are

@@ -148,7 +148,8 @@ players_more program es e a players new count enabled is takes h = λ k d less.
     (takes program k d (served_to c es k) lt (h k d lt))
 
 -- A run goes on after an event of the core.
-pub run_goes : {program : List Item} {es : List Event} (x : Entry) {old : Run} (new : Run) {core : CoreState} (e : Event)
+pub run_goes : {program : List Item} {es : List Event} (x : Entry) {old : Run} (new : Run) {core : CoreState}
+    (e : Event)
     (a : Option Answer)
     → IsRunAfter program es old → (IsTrue (seat_exists (config_of program 8) x.seat) → e ≡ event_of_entry program es x)
     → e.seat ≡ x.seat → core.config ≡ old.core.config → CoreStandsFor core (es ++ e ∷ [])

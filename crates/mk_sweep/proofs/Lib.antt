@@ -13,5 +13,6 @@ pub mod Unswept
 pub mod UnsweptReleased
 pub mod WordLists
 pub mod BesideTurn
+pub mod CycleParts
 pub mod SweepCycles
 pub mod WholeCycles

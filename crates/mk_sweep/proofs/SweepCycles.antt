@@ -1,20 +1,17 @@
 -- A whole cycle with one sweep releases what isn't swept, where the seats of all markers are in the pass of the turn.
 use Rattle.std.proofs.Common.{◌≡◌, ℕ, Bool, true, false, List, [], ◌∷◌, ◌++◌, refl, sym, ◌∙◌, ap, subst, append_assoc}
-use Rattle.std.specs.Prelude.{not, slice_index}
+use Rattle.std.specs.Prelude.{not}
 use Rattle.std.proofs.lemmas.Bool.{and_parts, false_from_ne_true, not-true}
-use Rattle.mk_sweep.proofs.Vocabulary.{AreOfOthers, Cell, Config, Event, Has, HasMarkers, Holds, InGlobal, InRegister}
-use Rattle.mk_sweep.proofs.Vocabulary.{InWord, IsEnabledTo, IsHistory, IsScannedWord, IsSwept, IsSweptValue, PassState}
-use Rattle.mk_sweep.proofs.Vocabulary.{PlacedAllocation, Seat, Steady, Step, Sweeps, Untouched, World, before_release}
-use Rattle.mk_sweep.proofs.Vocabulary.{cell_of_allocation, is_marked, is_tracing, left, others_are_held, phase_of}
-use Rattle.mk_sweep.proofs.Vocabulary.{placed_at, untouched_of}
+use Rattle.mk_sweep.proofs.Vocabulary.{AreOfOthers, Cell, Config, Event, Has, HasMarkers, Holds, IsEnabledTo, IsHistory}
+use Rattle.mk_sweep.proofs.Vocabulary.{IsSwept, PassState, PlacedAllocation, Seat, Step, Steady, Sweeps, Untouched}
+use Rattle.mk_sweep.proofs.Vocabulary.{before_release, cell_of_allocation, is_marked, is_tracing, left, others_are_held}
+use Rattle.mk_sweep.proofs.Vocabulary.{phase_of, placed_at, untouched_of, World}
 use Rattle.mk_core.specs.declared.events.Step.TheVariants as step
 use Rattle.mk_core.specs.Cycles.{Releasing, IsInSnapshot, before_close, is_close, is_release}
 use Rattle.mk_core.specs.Frames.{IsLeft, Written, written_of}
 use Rattle.mk_core.specs.History.{left_from}
-use Rattle.mk_core.specs.Touched.{PointsIntoAllocation}
 use Rattle.mk_core.proofs.Conditions.{enabled_meets}
 use Rattle.mk_core.proofs.HistoryParts.{earlier_part_is_history, enabled_in_parts, left_in_parts}
-use Rattle.mk_laws.proofs.Actors.{is_holders}
 use Rattle.mk_laws.proofs.ProtocolFrames.{others_leave}
 use Rattle.mk_laws.proofs.Known.{Known, known_left}
 use Rattle.mk_laws.proofs.OrderlyLists.{actor_of}
@@ -29,90 +26,20 @@ use Rattle.mk_laws.specs.Releases.{allocation_behind}
 use Rattle.mk_laws.proofs.CyclePhases.{phase_moves}
 use Rattle.mk_laws.proofs.ReadingsKeptPlaces.{StaysPut, keeps_cell, put_step, stays_put}
 use Rattle.mk_words.proofs.Seats.{others_own}
+use Rattle.mk_turns.specs.Doing.{AreOwnOrOfOthers}
 use Rattle.mk_turns.proofs.Doing.{others_are_so}
 use Rattle.mk_cycle.specs.Holding.{HoldsGates}
 use Rattle.mk_cycle.specs.Kinds.{holds_gates}
 use Rattle.mk_cycle.proofs.GivingAll.{held_phase}
+use Rattle.mk_tracing.specs.Tracing.{OwnStepsKeep}
 use Rattle.mk_tracing.proofs.Parts.{kinds_keep, others_keep}
 use Rattle.mk_sweep.specs.Unswept.{LeaveUnmarked, OthersLeaveUnmarked}
-use Rattle.mk_sweep.proofs.BesideTurn.{IsOf, LeaveTheMarks, LeaveTheTurn, PartOfTurn, holds_still, leave_first}
-use Rattle.mk_sweep.proofs.BesideTurn.{leave_in_parts, left_unmarked_by, none_marks, none_of_kind, others_mark_none}
-use Rattle.mk_sweep.proofs.BesideTurn.{still_holds}
+use Rattle.mk_sweep.proofs.BesideTurn.{IsOf, PartOfTurn, holds_still, leave_first, leave_in_parts, left_unmarked_by}
+use Rattle.mk_sweep.proofs.BesideTurn.{none_marks, none_of_kind, others_mark_none, still_holds}
 use Rattle.mk_sweep.proofs.UnsweptReleased.{unswept_is_released}
-
--- What is swept in one world is swept in another with the same values and allocations.
-
-value_alike : {c : Config} {w : World} (v : World) {u : ℕ} → v.now.words.registers ≡ w.now.words.registers
-    → v.now.words.globals ≡ w.now.words.globals → v.now.words.heap ≡ w.now.words.heap
-    → v.allocations ≡ w.allocations → IsSweptValue c w u → IsSweptValue c v u
-value_alike v registers globals heap allocations (InRegister i is) =
-    InRegister i (ap (λ (xs : List ℕ). slice_index xs i) registers ∙ is)
-value_alike v registers globals heap allocations (InGlobal g is) =
-    InGlobal g (ap (λ (xs : List ℕ). slice_index xs g) globals ∙ is)
-value_alike {c} v registers globals heap allocations (InWord n scanned is) =
-    InWord n (subst (λ (xs : List PlacedAllocation). IsScannedWord c xs n) (sym allocations) scanned)
-    (ap (λ (xs : List ℕ). slice_index xs n) heap ∙ is)
-
-swept_alike : {c : Config} {w : World} (v : World) {i : ℕ} → v.now.words.registers ≡ w.now.words.registers
-    → v.now.words.globals ≡ w.now.words.globals → v.now.words.heap ≡ w.now.words.heap
-    → v.allocations ≡ w.allocations → IsSwept c w i → IsSwept c v i
-swept_alike {c} {w} v {i} registers globals heap allocations x =
-    record {
-      value = x.value;
-      found = value_alike v registers globals heap allocations x.found;
-      points = subst (λ (xs : List PlacedAllocation). PointsIntoAllocation c (record w { allocations = xs }) x.value i)
-          (sym allocations) x.points;
-    }
-
--- the kinds of the parts of the turn
-
-abbrev no_kind : Step → Bool
-no_kind x = false
-
-holding_leaves_turn : LeaveTheTurn holds_gates
-holding_leaves_turn c w seat (step.Look x) is = refl
-holding_leaves_turn c w seat (step.Hold j) is = refl
-holding_leaves_turn c w seat _ is = cc
-
-holding_leaves_marks : LeaveTheMarks holds_gates
-holding_leaves_marks c w seat (step.Look x) is = refl
-holding_leaves_marks c w seat (step.Hold j) is = refl
-holding_leaves_marks c w seat _ is = cc
-
-tracing_leaves_turn : LeaveTheTurn is_tracing
-tracing_leaves_turn c w seat (step.Look x) is = refl
-tracing_leaves_turn c w seat step.Want is = refl
-tracing_leaves_turn c w seat (step.Mark p v) is = refl
-tracing_leaves_turn c w seat (step.Undirty p) is = refl
-tracing_leaves_turn c w seat (step.Black p v) is = refl
-tracing_leaves_turn c w seat (step.Unblack p) is = refl
-tracing_leaves_turn c w seat _ is = cc
-
-nothing_leaves_turn : LeaveTheTurn no_kind
-nothing_leaves_turn c w seat x is = cc
-
-nothing_leaves_marks : LeaveTheMarks no_kind
-nothing_leaves_marks c w seat x is = cc
-
-close_of_holder : (x : Step) → is_close x ≡ true → is_holders x ≡ true
-close_of_holder step.Close is = refl
-close_of_holder _ is = cc
-
-release_of_holder : (x : Step) → is_release x ≡ true → is_holders x ≡ true
-release_of_holder step.Release is = refl
-release_of_holder _ is = cc
-
-holding_closes_none : (x : Step) → holds_gates x ≡ true → is_close x ≡ false
-holding_closes_none step.Close is = cc
-holding_closes_none _ is = refl
-
-holding_releases_none : (x : Step) → holds_gates x ≡ true → is_release x ≡ false
-holding_releases_none step.Release is = cc
-holding_releases_none _ is = refl
-
-tracing_closes_none : (x : Step) → is_tracing x ≡ true → is_close x ≡ false
-tracing_closes_none step.Close is = cc
-tracing_closes_none _ is = refl
+use Rattle.mk_sweep.proofs.CycleParts.{close_of_holder, holding_closes_none, holding_leaves_marks, holding_leaves_turn}
+use Rattle.mk_sweep.proofs.CycleParts.{holding_releases_none, no_kind, nothing_leaves_marks, nothing_leaves_turn}
+use Rattle.mk_sweep.proofs.CycleParts.{release_of_holder, swept_alike, tracing_closes_none, tracing_leaves_turn}
 
 -- What was seen up to and after each part of the cycle, by a pass with this beginning.
 pub record SweepParts (p : PassState) (looks : ℕ) (es : List Event) : Type 0 where
@@ -229,16 +156,23 @@ module _ (p : PassState) (looks : ℕ) (es : List Event) (has : Has p.seats p.se
 
   -- the parts of the turn
 
-  holding_part : PartOfTurn holds_gates c s p.seats (left c start) holding
-  holding_part =
+  part : (kinds : Step → Bool) (xs more : List Event) → IsHistory c (xs ++ more) → Holds c (left c xs).now s
+      → AreOwnOrOfOthers s p.seats more → OwnStepsKeep (IsOf kinds) c s (left c xs) more
+      → PartOfTurn kinds c s p.seats (left c xs) more
+  part kinds xs more h holds of_seats own =
       record {
         markers = markers;
-        known = known start start_history;
-        holds = start_holds;
-        on = ((enabled_in_parts c start holding).0 holding_history.enabled).1;
-        of_seats = k.holds.does.own_or_others;
-        own = kinds_keep holds_gates (IsOf holds_gates) c s (left c start) holding (λ m x is. is) k.holds.does.of_kinds;
+        known = known xs (earlier_part_is_history c xs more h);
+        holds = holds;
+        on = ((enabled_in_parts c xs more).0 h.enabled).1;
+        of_seats = of_seats;
+        own = own;
       }
+
+  holding_part : PartOfTurn holds_gates c s p.seats (left c start) holding
+  holding_part =
+      part holds_gates start holding holding_history start_holds k.holds.does.own_or_others
+      (kinds_keep holds_gates (IsOf holds_gates) c s (left c start) holding (λ m x is. is) k.holds.does.of_kinds)
 
   held_world : left c k.held ≡ left_from c (left c start) holding
   held_world = ap (left c) held_is ∙ left_in_parts c start holding
@@ -250,15 +184,9 @@ module _ (p : PassState) (looks : ℕ) (es : List Event) (has : Has p.seats p.se
 
   sweeping_part : PartOfTurn is_tracing c s p.seats (left c k.held) sweeping
   sweeping_part =
-      record {
-        markers = markers;
-        known = known k.held held_history;
-        holds = held_holds;
-        on = ((enabled_in_parts c k.held sweeping).0 sweeping_history.enabled).1;
-        of_seats = k.sweeps.traces.does.own_or_others;
-        own = kinds_keep is_tracing (IsOf is_tracing) c s (left c k.held) sweeping (λ m x is. is)
-            k.sweeps.traces.does.of_kinds;
-      }
+      part is_tracing k.held sweeping sweeping_history held_holds k.sweeps.traces.does.own_or_others
+      (kinds_keep is_tracing (IsOf is_tracing) c s (left c k.held) sweeping (λ m x is. is)
+      k.sweeps.traces.does.of_kinds)
 
   swept_holds : Holds c (left c k.swept).now s
   swept_holds =
@@ -269,14 +197,8 @@ module _ (p : PassState) (looks : ℕ) (es : List Event) (has : Has p.seats p.se
   others_part : (xs more : List Event) → IsHistory c (xs ++ more) → Holds c (left c xs).now s
       → AreOfOthers p.seats more → PartOfTurn no_kind c s p.seats (left c xs) more
   others_part xs more h holds others =
-      record {
-        markers = markers;
-        known = known xs (earlier_part_is_history c xs more h);
-        holds = holds;
-        on = ((enabled_in_parts c xs more).0 h.enabled).1;
-        of_seats = others_are_so p.seats s more has others;
-        own = others_keep (IsOf no_kind) c s p.seats (left c xs) more has others;
-      }
+      part no_kind xs more h holds (others_are_so p.seats s more has others)
+      (others_keep (IsOf no_kind) c s p.seats (left c xs) more has others)
 
   waiting_part : PartOfTurn no_kind c s p.seats (left c k.swept) k.waited
   waiting_part = others_part k.swept k.waited closing_history swept_holds k.while_waiting

@@ -21,7 +21,8 @@ HasScanned c v base n =
     (a : ℕ) × (base_at v a ≡ base) × (is_scanned_allocation c (placed_at v.allocations a) ≡ true)
     × IsWordOf (storage_of c (placed_at v.allocations a)) n
 
-pub onward_way : (c : Config) (v : View) {found : List (Option Found)} {base : ℕ} (n : ℕ) {links : ℕ} (b : ℕ) → HasScanned c v base n
+pub onward_way : (c : Config) (v : View) {found : List (Option Found)} {base : ℕ} (n : ℕ) {links : ℕ} (b : ℕ)
+    → HasScanned c v base n
     → IsFoundThrough found base links → (value : ℕ) → value ≡ slice_index v.words.heap n
     → PointsIntoAllocation c (world_in v) value b → IsOnward c v found (65536 + 8 * n) base (links + 1) b
 onward_way c v n b x through value is points =

@@ -259,7 +259,8 @@ none_wished (x ∷ xs) h =
     by _ e = cc
 
 -- what is done is counted in parts
-counts_then : (kind : Step → Bool) {kinds more both : Step → Bool} {p q r : PassState} (d : Does kinds p q) (e : Does more q r)
+counts_then : (kind : Step → Bool) {kinds more both : Step → Bool} {p q r : PassState} (d : Does kinds p q)
+    (e : Does more q r)
     (f : Does both p r) → count_done kind f ≡ count_done kind d + count_done kind e
 counts_then kind {p} {r} d e f =
     ap (λ (es : List Event). count_by test (done_in p es)) is ∙ ap (count_by test) (done_in_parts p d.more e.more)

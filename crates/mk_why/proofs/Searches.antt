@@ -54,7 +54,8 @@ pub through_stays : (found more : List (Option Found)) → Stays found more → 
 through_stays found more stays base links x =
     record { entry = x.entry; there = stays base x.entry x.there; through = x.through }
 
-pub same_links : {found : List (Option Found)} (more : List (Option Found)) → Stays found more → {base : ℕ} → IsFound found base
+pub same_links : {found : List (Option Found)} (more : List (Option Found)) → Stays found more → {base : ℕ}
+    → IsFound found base
     → links_in (entry_at more base) ≡ links_in (entry_at found base)
 same_links more stays {base} x = ap links_in (stays base x.entry x.there) ∙ sym (ap links_in x.there)
 

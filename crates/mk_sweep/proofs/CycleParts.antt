@@ -1,0 +1,85 @@
+-- The kinds of steps in the parts of a sweeping cycle; and what is swept where values and allocations are the same.
+use Rattle.std.proofs.Common.{◌≡◌, ℕ, Bool, true, false, List, refl, sym, ◌∙◌, ap, subst}
+use Rattle.std.specs.Prelude.{slice_index}
+use Rattle.mk_sweep.proofs.Vocabulary.{Config, InGlobal, InRegister, InWord, IsScannedWord, IsSwept, IsSweptValue}
+use Rattle.mk_sweep.proofs.Vocabulary.{PlacedAllocation, Step, World, is_tracing}
+use Rattle.mk_core.specs.declared.events.Step.TheVariants as step
+use Rattle.mk_core.specs.Cycles.{is_close, is_release}
+use Rattle.mk_core.specs.Touched.{PointsIntoAllocation}
+use Rattle.mk_laws.proofs.Actors.{is_holders}
+use Rattle.mk_cycle.specs.Kinds.{holds_gates}
+use Rattle.mk_sweep.proofs.BesideTurn.{LeaveTheMarks, LeaveTheTurn}
+
+-- What is swept in one world is swept in another with the same values and allocations.
+
+value_alike : {c : Config} {w : World} (v : World) {u : ℕ} → v.now.words.registers ≡ w.now.words.registers
+    → v.now.words.globals ≡ w.now.words.globals → v.now.words.heap ≡ w.now.words.heap
+    → v.allocations ≡ w.allocations → IsSweptValue c w u → IsSweptValue c v u
+value_alike v registers globals heap allocations (InRegister i is) =
+    InRegister i (ap (λ (xs : List ℕ). slice_index xs i) registers ∙ is)
+value_alike v registers globals heap allocations (InGlobal g is) =
+    InGlobal g (ap (λ (xs : List ℕ). slice_index xs g) globals ∙ is)
+value_alike {c} v registers globals heap allocations (InWord n scanned is) =
+    InWord n (subst (λ (xs : List PlacedAllocation). IsScannedWord c xs n) (sym allocations) scanned)
+    (ap (λ (xs : List ℕ). slice_index xs n) heap ∙ is)
+
+pub swept_alike : {c : Config} {w : World} (v : World) {i : ℕ} → v.now.words.registers ≡ w.now.words.registers
+    → v.now.words.globals ≡ w.now.words.globals → v.now.words.heap ≡ w.now.words.heap
+    → v.allocations ≡ w.allocations → IsSwept c w i → IsSwept c v i
+swept_alike {c} {w} v {i} registers globals heap allocations x =
+    record {
+      value = x.value;
+      found = value_alike v registers globals heap allocations x.found;
+      points = subst (λ (xs : List PlacedAllocation). PointsIntoAllocation c (record w { allocations = xs }) x.value i)
+          (sym allocations) x.points;
+    }
+
+-- the kinds of the parts of the turn
+
+abbrev pub no_kind : Step → Bool
+no_kind x = false
+
+pub holding_leaves_turn : LeaveTheTurn holds_gates
+holding_leaves_turn c w seat (step.Look x) is = refl
+holding_leaves_turn c w seat (step.Hold j) is = refl
+holding_leaves_turn c w seat _ is = cc
+
+pub holding_leaves_marks : LeaveTheMarks holds_gates
+holding_leaves_marks c w seat (step.Look x) is = refl
+holding_leaves_marks c w seat (step.Hold j) is = refl
+holding_leaves_marks c w seat _ is = cc
+
+pub tracing_leaves_turn : LeaveTheTurn is_tracing
+tracing_leaves_turn c w seat (step.Look x) is = refl
+tracing_leaves_turn c w seat step.Want is = refl
+tracing_leaves_turn c w seat (step.Mark p v) is = refl
+tracing_leaves_turn c w seat (step.Undirty p) is = refl
+tracing_leaves_turn c w seat (step.Black p v) is = refl
+tracing_leaves_turn c w seat (step.Unblack p) is = refl
+tracing_leaves_turn c w seat _ is = cc
+
+pub nothing_leaves_turn : LeaveTheTurn no_kind
+nothing_leaves_turn c w seat x is = cc
+
+pub nothing_leaves_marks : LeaveTheMarks no_kind
+nothing_leaves_marks c w seat x is = cc
+
+pub close_of_holder : (x : Step) → is_close x ≡ true → is_holders x ≡ true
+close_of_holder step.Close is = refl
+close_of_holder _ is = cc
+
+pub release_of_holder : (x : Step) → is_release x ≡ true → is_holders x ≡ true
+release_of_holder step.Release is = refl
+release_of_holder _ is = cc
+
+pub holding_closes_none : (x : Step) → holds_gates x ≡ true → is_close x ≡ false
+holding_closes_none step.Close is = cc
+holding_closes_none _ is = refl
+
+pub holding_releases_none : (x : Step) → holds_gates x ≡ true → is_release x ≡ false
+holding_releases_none step.Release is = cc
+holding_releases_none _ is = refl
+
+pub tracing_closes_none : (x : Step) → is_tracing x ≡ true → is_close x ≡ false
+tracing_closes_none step.Close is = cc
+tracing_closes_none _ is = refl
