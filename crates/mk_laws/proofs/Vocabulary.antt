@@ -1,4 +1,4 @@
--- The words of the heap and of its steps, for all that is proved of them: a proof imports them from here.
+-- The words of the heap and of its steps, and the lemmas of std and of the crates below that several proofs name.
 pub use Rattle.std.proofs.Common.{Bool, List, [], ap, append-nil, append_assoc, arith, drop, false, get_or, inl, inr}
 pub use Rattle.std.proofs.Common.{length, length-set, map, refl, subst, suc, sym, take, true, zero, ℕ, ◌%◌, ◌*◌, ◌++◌}
 pub use Rattle.std.proofs.Common.{◌+◌, ◌-◌, ◌/◌, ◌<◌, ◌^◌, ◌↔◌, ◌∙◌, ◌∷◌, ◌≡◌, ◌≢◌, ◌≤◌, ◌⊎◌}
