@@ -121,6 +121,7 @@ impl<'h> Caller<'h> {
     }
 
     /// The number in the word `i` words after the pointer in `q`.
+    #[inline(always)]
     pub fn get_num(&mut self, q: u8, i: u64) -> Result<u64, Refusal>
         requires home { self.old.home ≡ true }
         requires admitted { Admits self.old.pass (op.GetNum q i) }
@@ -136,6 +137,7 @@ impl<'h> Caller<'h> {
     }
 
     /// Writes a number to the word `i` words after the pointer in `q`.
+    #[inline(always)]
     pub fn set_num(&mut self, q: u8, i: u64, n: u64) -> Result<(), Refusal>
         requires home { self.old.home ≡ true }
         requires admitted { Admits self.old.pass (op.SetNum q i n) }
@@ -151,6 +153,7 @@ impl<'h> Caller<'h> {
     }
 
     /// Sets `d` to the pointer in the word `i` words after the pointer in `q`, or to null where it is refused.
+    #[inline(always)]
     pub fn get_ptr(&mut self, d: u8, q: u8, i: u64) -> Result<(), Refusal>
         requires home { self.old.home ≡ true }
         requires admitted { Admits self.old.pass (op.GetPtr d q i) }
@@ -166,6 +169,7 @@ impl<'h> Caller<'h> {
     }
 
     /// Writes the pointer in `p`, or null, to the word `i` words after the pointer in `q`.
+    #[inline(always)]
     pub fn set_ptr(&mut self, q: u8, i: u64, p: u8) -> Result<(), Refusal>
         requires home { self.old.home ≡ true }
         requires admitted { Admits self.old.pass (op.SetPtr q i p) }
@@ -182,6 +186,7 @@ impl<'h> Caller<'h> {
 
     /// Writes the pointer in `r` to the word `i` words after the pointer in `q`, where that is the pointer in `p`, and
     /// says whether it was.
+    #[inline(always)]
     pub fn cas_ptr(&mut self, q: u8, i: u64, p: u8, r: u8) -> Result<bool, Refusal>
         requires home { self.old.home ≡ true }
         requires admitted { Admits self.old.pass (op.CasPtr q i p r) }
@@ -198,6 +203,7 @@ impl<'h> Caller<'h> {
     }
 
     /// Sets `d` to the pointer `i` words after that in `q`, or to null where it is refused.
+    #[inline(always)]
     pub fn lea(&mut self, d: u8, q: u8, i: u64) -> Result<(), Refusal>
         requires home { self.old.home ≡ true }
         requires admitted { Admits self.old.pass (op.Lea d q i) }
@@ -214,6 +220,7 @@ impl<'h> Caller<'h> {
     }
 
     /// Sets `d` to what is in `q`.
+    #[inline(always)]
     pub fn move_ptr(&mut self, d: u8, q: u8) -> Result<(), Held>
         requires home { self.old.home ≡ true }
         requires admitted { Admits self.old.pass (op.Move d q) }
@@ -228,6 +235,7 @@ impl<'h> Caller<'h> {
     }
 
     /// Sets `d` to null.
+    #[inline(always)]
     pub fn clear(&mut self, d: u8) -> Result<(), Held>
         requires home { self.old.home ≡ true }
         requires admitted { Admits self.old.pass (op.Clear d) }
@@ -242,6 +250,7 @@ impl<'h> Caller<'h> {
     }
 
     /// Sets `d` to what is in the global.
+    #[inline(always)]
     pub fn get_global(&mut self, d: u8, g: u8) -> Result<(), Held>
         requires home { self.old.home ≡ true }
         requires admitted { Admits self.old.pass (op.GetGlobal d g) }
@@ -256,6 +265,7 @@ impl<'h> Caller<'h> {
     }
 
     /// Sets the global to what is in `p`.
+    #[inline(always)]
     pub fn set_global(&mut self, g: u8, p: u8) -> Result<(), Held>
         requires home { self.old.home ≡ true }
         requires admitted { Admits self.old.pass (op.SetGlobal g p) }
@@ -270,6 +280,7 @@ impl<'h> Caller<'h> {
     }
 
     /// Whether the two registers hold one value.
+    #[inline(always)]
     pub fn same(&mut self, p: u8, q: u8) -> Result<bool, Held>
         requires home { self.old.home ≡ true }
         requires admitted { Admits self.old.pass (op.Same p q) }
@@ -285,6 +296,7 @@ impl<'h> Caller<'h> {
     }
 
     /// Whether the register is null.
+    #[inline(always)]
     pub fn is_null(&mut self, p: u8) -> Result<bool, Held>
         requires home { self.old.home ≡ true }
         requires admitted { Admits self.old.pass (op.IsNull p) }

@@ -7,6 +7,7 @@
 mod accesses;
 mod callers;
 mod calls;
+mod headers;
 mod laws;
 mod refusals;
 mod steps;
