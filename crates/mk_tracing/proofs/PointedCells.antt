@@ -6,7 +6,8 @@ use Rattle.std.specs.Prelude.{Bool, Option, Some, None, if◌then◌else◌}
 use Rattle.mk_geom.specs.declared.addresses.Cell.{Cell}
 use Rattle.mk_geom.specs.declared.headers.Header.{Header}
 use Rattle.mk_geom.specs.declared.headers.Header.TheVariants.{Block}
-use Rattle.mk_geom.specs.Addresses.{cell_at, cell_of_block, cell_under, is_heap_address, page_at_address, word_at_address}
+use Rattle.mk_geom.specs.Addresses.{cell_at, cell_of_block, cell_under, is_heap_address, page_at_address}
+use Rattle.mk_geom.specs.Addresses.{word_at_address}
 use Rattle.mk_geom.specs.Headers.{header_of}
 use Rattle.mk_geom.proofs.HeaderLemmas.{header_of-word_of}
 use Rattle.mk_core.specs.Cells.{is_marked, pointed_cell, points_well}

@@ -14,7 +14,7 @@ use mk_core::Word;
 use mk_geom::{Cell, PAGE_WORDS, WORD_BYTES, heap_page, lookup};
 use mk_words::{Stopped, Words};
 
-/// The header words of blocks for objects with pointers: 1, and the class.
+/// The header words of blocks for objects with pointers are 1 to this one: 1, and the class.
 const LAST_BLOCK: u64 = 8;
 
 /// Notes a marked cell, by the header word of its page.
@@ -93,7 +93,7 @@ fn mark_pointed(
     }
 }
 
-/// The same, for any value in a heap of this many pages. Most are no addresses of the heap, and are passed over at once.
+/// The same, for any value in a heap of this many pages. Most are no addresses of the heap, and are passed over.
 #[inline(always)]
 pub(crate) fn mark_and_note(
     words: &Words,

@@ -29,7 +29,8 @@ pub returns-then-header-noted-clause-gray : goal.returns-then-header-noted-claus
 returns-then-header-noted-clause-gray c is =
     let w = still_words c.args.stop.now.pass in
     let page : ℕ = c.args.noted.cell.page in
-    let word : c.args.noted.header ≡ header_at w page = sym c.if-header-noted.true ∙ c.look_among-header.ensures.found in
+    let word : c.args.noted.header ≡ header_at w page = sym c.if-header-noted.true
+    ∙ c.look_among-header.ensures.found in
     let within : page < c.args.words.now.config.pages = omega arith in
     record {
       gray = gray_there c.args.words.now.config.pages w page c.args.noted.cell.index c.args.noted.header
