@@ -14,7 +14,7 @@ use crate::placing::place_number;
 use mk_caller::Caller;
 use mk_never::Op;
 
-/// Makes an object of one number by the steps of a turn, in a heap of one page.
+/// Creates an object of one number by the steps of a turn, in a heap of one page.
 pub fn make_number(caller: &mut Caller, d: u8, ty: u64) -> Result<(), Unmade>
     requires home { caller.old.home ≡ true }
     requires exists { caller_of_pass caller.old.pass < caller.old.pass.table.config.callers }

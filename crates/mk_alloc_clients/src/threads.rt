@@ -1,4 +1,4 @@
-//! Two callers at once, each of which makes an object of its own.
+//! Two callers at once, each of which creates an object of its own.
 ghost use Rattle.std.specs.Prelude.{◌≡◌, IfOk};
 ghost use Rattle.mk_alloc_clients.specs.Making.{MayMakeNumber};
 

@@ -143,7 +143,7 @@ CallGoesOn p s on q = CallMoves p (call_of p).op s (on (call_of p)) q
 abbrev pub Ends : PassState → List Step → Option Answer → PassState → Type 0
 Ends p ss a q = IsAtFlight p (call_of p).op ss a at_rest q
 
--- The steps of a call that are left behind a refusal: up to its end.
+-- The steps of a call that are left after a refusal: up to its end.
 abbrev pub refused_steps : Op → List Step
 refused_steps o = map step_at (refused_from (stage_refused o))
 

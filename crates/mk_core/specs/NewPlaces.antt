@@ -29,7 +29,7 @@ use Rattle.mk_core.specs.Cells.{pointed_cell, words_are_zero}
 abbrev pub object_of : List Kind → Object
 object_of kinds = record { words = length kinds; leaf = is_leaf kinds }
 
--- the object that a New makes
+-- the object that a New creates
 abbrev pub object_made : Config → Op → Object
 object_made c (op.New d ty full) = object_of (kinds_of c.types ty)
 object_made c _ = object_of []

@@ -2,7 +2,7 @@
 
 use mk_never::Op;
 
-/// Who makes a step: a caller or a marker, numbered from 0, or the host.
+/// Who takes a step: a caller or a marker, numbered from 0, or the host.
 #[derive(Clone, Copy, Debug, PartialEq, Eq)]
 pub enum Seat {
     Caller(u64),

@@ -259,7 +259,7 @@ impl Table {
 }
 
 impl Core {
-    /// The object that a `New` makes.
+    /// The object that a `New` creates.
     pub(crate) fn object_made(&self, op: Op) -> Object
         ensures { result ≡ object_made self.now.config op }
     {

@@ -347,7 +347,7 @@ impl Table {
         }
     }
 
-    /// Makes the access.
+    /// Performs the access.
     pub(crate) fn access(&mut self, name: TableWord, access: Access)
         ensures { self.new ≡ accessed self.old name access }
     {

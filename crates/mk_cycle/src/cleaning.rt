@@ -164,7 +164,7 @@ fn clean_page(turn: &mut Turn, words: &Words, pages: u64, page: u64)
     clean_words(turn, words, page);
 }
 
-/// Clears the marks of a free page, and tells the page map.
+/// Clears the marks of a free page, and reports it to the page map.
 fn clean_free(turn: &mut Turn, words: &Words, page: u64)
     requires one_table { turn.old.pass.table ≡ words.now }
     requires free { IsFreeForCycle turn.old.pass }

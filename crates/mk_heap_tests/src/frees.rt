@@ -8,7 +8,7 @@ use std::sync::Wait;
 use std::test::Fail;
 use std::thread::Threads;
 
-/// A script that makes some objects of two words, keeps each in a global of its own, and then frees some of them
+/// A script that creates some objects of two words, keeps each in a global of its own, and then frees some of them
 /// and the last of these once more.
 fn text_of(alloc: Global, objects: u64, frees: u64) -> Result<String, Fail> {
     let mut text = String::from_str(alloc, "heap 1 1\ntype A n*2\n")?;

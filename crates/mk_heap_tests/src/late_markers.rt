@@ -86,7 +86,7 @@ fn want_close(words: &Words, turn: Turn, marker: &mut Marker) -> Option<Work>
     Some(told)
 }
 
-/// The caller makes an object, and a cycle begins. What the marker is told when its close is wanted, if it found no
+/// The caller creates an object, and a cycle begins. What the marker is told when its close is wanted, if it found no
 /// cycle before, and one cell to scan in this one.
 fn mark_beside<E: Engine, R: Threads + Wait + Sync>(
     rt: &R,

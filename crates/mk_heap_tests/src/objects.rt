@@ -108,7 +108,7 @@ pub(crate) struct Answers {
     pub(crate) ninth_again: bool,
 }
 
-/// Makes 32 objects, of which the second caller has the last eight and the first caller eight others, and one more;
+/// Creates 32 objects, of which the second caller has the last eight and the first caller eight others, and one more;
 /// then frees the first caller's eight, and one of the second's twice.
 fn fill_and_free<E: Engine, R: Threads + Wait + Sync>(
     rt: &R,

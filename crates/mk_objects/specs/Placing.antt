@@ -45,7 +45,7 @@ pub record IsUnplaced (p : PassState) : Type 0 where
 abbrev pub HeldIsExact : PassState → Type 0
 HeldIsExact p = (now_of p).words.held ≡ held_by_allocations p.table.config (world_of p).allocations
 
--- the object that its New makes, and the place that first fit gives it now
+-- the object that its New creates, and the place that first fit gives it now
 
 abbrev pub object_for : PassState → Object
 object_for p = object_made p.table.config (call_of p).op

@@ -125,7 +125,7 @@ fn serve_now(words: &Words, turn: &mut Turn, shape: Shape, place: Place, page: P
     serve(words, turn, shape, place, page, marking, held);
 }
 
-/// The shape of the object that the operation makes.
+/// The shape of the object that the operation creates.
 fn shape_made(words: &Words, op: Op) -> Shape
     requires { has_type words.now.config op ≡ true }
     ensures { object_shaped result ≡ object_made words.now.config op }

@@ -59,7 +59,7 @@ FreedRunsTakeNoMemory c es =
     → IsWordOf (storage_of c (placed_at (left c es).allocations number)) (64 * page)
     → is_resident_in (left c es) page ≡ false
 
--- What quarantine costs in a history; `on` tells whether cycles go on after the calls that begin them.
+-- What quarantine costs in a history; `on` says whether cycles go on after the calls that begin them.
 pub record QuarantineIsBounded (on : Bool) (c : Config) (es : List Event) : Type 0 where
   -- A quarter: of what is held and was given back, and of what is held alone where no `release` came in a later turn
   -- than its `begin`; so always where calls end the cycles that they begin.

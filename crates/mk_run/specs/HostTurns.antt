@@ -15,7 +15,7 @@ abbrev pub cycles_asked : Bool → ℕ
 cycles_asked true = 1
 cycles_asked false = 0
 
--- The history has two parts. In the first the host makes no step. In the second no caller does, so no step of a script
+-- The history has two parts. In the first the host takes no step. In the second no caller does, so no step of a script
 -- stands after a `take` of the host, and whatever is done with cycles there is done by the host.
 pub record HostComesLast (callers : ℕ) (with_cycle : Bool) (es : List Event) : Type 0 where
   pub scripts : List Event

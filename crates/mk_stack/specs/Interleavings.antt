@@ -17,7 +17,7 @@ own_replied k n (x ∷ xs) =
     ∷ own_replied k (after_op n x.caller x.op) xs
     else own_replied k (after_op n x.caller x.op) xs
 
--- the first caller makes the top before its jobs; the others begin with their jobs
+-- the first caller creates the top before its jobs; the others begin with their jobs
 abbrev pub jobs_of_first : ℕ → List Replied → List Replied
 jobs_of_first zero founding = founding
 jobs_of_first (suc k) founding = []

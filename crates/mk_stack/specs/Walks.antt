@@ -51,7 +51,7 @@ abbrev pub numbers_read : List Replied → List ℕ
 numbers_read [] = []
 numbers_read (x ∷ xs) = number_read x.op x.reply ++ numbers_read xs
 
--- The caller makes all of these calls.
+-- The caller performs all of these calls.
 abbrev pub AreAllBy : ℕ → List Call → Type 0
 AreAllBy k [] = Unit {0}
 AreAllBy k (x ∷ xs) = (x.caller ≡ k) × AreAllBy k xs

@@ -286,7 +286,7 @@ pub(crate) fn clear(caller: &mut Caller, register: u8) -> Result<(), Held>
     }
 }
 
-/// Makes the top.
+/// Creates the top.
 fn found<E: Engine, R: Threads + Wait + Sync>(
     rt: &R,
     caller: &mut Caller,
@@ -307,7 +307,7 @@ fn found<E: Engine, R: Threads + Wait + Sync>(
     }
 }
 
-/// Makes a node.
+/// Creates a node.
 fn make<E: Engine, R: Threads + Wait + Sync>(
     rt: &R,
     caller: &mut Caller,

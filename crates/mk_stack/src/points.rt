@@ -5,7 +5,7 @@ use crate::jobs::{Done, Job};
 /// Where a caller is in its job: what it asks of the heap next.
 #[derive(Clone, Copy, Debug, PartialEq, Eq)]
 pub enum Point {
-    /// The first caller makes the top of the stack,
+    /// The first caller creates the top of the stack,
     Founding,
     /// and stores it in global 0.
     Placing,
@@ -14,7 +14,7 @@ pub enum Point {
     Starting(Job),
     /// and looks whether there is one.
     Checking(Job),
-    /// A push makes a node,
+    /// A push creates a node,
     Making(u64),
     /// stores its number in it,
     Filling(u64),

@@ -112,7 +112,7 @@ fn other_node(job: Job) -> u8
     }
 }
 
-/// Does a job, and tells what became of it. Of its nodes the caller then keeps none.
+/// Does a job, and reports what became of it. Of its nodes the caller then keeps none.
 pub fn do_job<E: Engine, R: Threads + Wait + Sync>(
     rt: &R,
     caller: &mut Caller,

@@ -61,7 +61,7 @@ pub fn take_turn<R: Wait>(rt: &R, words: &Words, home: Pass, op: Option<Op>) -> 
     }
 }
 
-/// Who waits for the turn and takes it makes no sweeping mark: facts alone, with no code.
+/// No step of who waits for the turn and takes it is a sweeping mark: facts alone, with no code.
 pub fn taking_sweeps_nothing()
     ensures { TakingSweepsNothing }
 {}

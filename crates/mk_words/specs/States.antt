@@ -27,7 +27,7 @@ pub record TurnState : Type 0 where
   pub pass : PassState
   pub op : Option Op
 
--- what is left behind all that a pass has seen
+-- what is left after all that a pass has seen
 abbrev pub world_of : PassState → World
 world_of p = left p.table.config p.seen
 

@@ -51,7 +51,7 @@ fn words_made(config: &Config, op: Op) -> u64
     }
 }
 
-/// The first heap word of the object that the operation makes in that cell.
+/// The first heap word of the object that the operation creates in that cell.
 pub(crate) fn cell_base(config: &Config, op: Option<Op>, cell: Option<Cell>) -> u128
     requires { (o : _) → op ≡ Some o → has_type config.now o ≡ true }
     ensures { result ≡ cell_base config.now op cell }

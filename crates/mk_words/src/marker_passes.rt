@@ -86,7 +86,7 @@ impl MarkerPass {
         self.marker
     }
 
-    /// Makes a step of a marker's, and keeps what the marker is at then.
+    /// Takes a step of a marker's, and keeps what the marker is at then.
     #[inline(always)]
     pub(crate) fn perform_marking(
         &mut self,

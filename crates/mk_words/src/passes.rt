@@ -56,7 +56,7 @@ impl Pass {
         self.own.caller()
     }
 
-    /// Makes a step of any kind but the two that hand over the turn.
+    /// Takes a step of any kind but the two that hand over the turn.
     #[inline(always)]
     pub(crate) fn perform(&mut self, words: &Words, step: Step, word: TableWord, by: Access) -> u64
         requires one_table { self.old.table ≡ words.now }

@@ -11,7 +11,7 @@ use crate::telling::{Make, Making, Put};
 use atomic_table::{Seat as Token, Shared};
 use mk_core::{Access, Config};
 
-/// Makes the access of an event. Returns what it found; at a store, what it stored.
+/// Performs the access of an event. Returns what it found; at a store, what it stored.
 #[inline(always)]
 pub(crate) fn access_as<J: Making>(
     table: &Shared<MapHome, View, Config, OneHistory>,
@@ -42,7 +42,7 @@ pub(crate) fn access_as<J: Making>(
     }
 }
 
-/// Makes a store, and returns what it found.
+/// Performs a store, and returns what it found.
 #[inline(always)]
 pub(crate) fn swap_as<J: Making>(
     table: &Shared<MapHome, View, Config, OneHistory>,

@@ -67,7 +67,7 @@ impl Stopped {
         turn.is_in_order();
     }
 
-    /// Makes a step that opens no gate, and of which the page map isn't told.
+    /// Takes a step that opens no gate, and of which the page map isn't told.
     #[inline(always)]
     pub(crate) fn perform(&mut self, words: &Words, step: Step, word: TableWord, by: Access) -> u64
         requires one_table { self.old.pass.table ≡ words.now }

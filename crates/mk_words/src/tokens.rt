@@ -1,4 +1,4 @@
-//! A token of the table with the seat whose steps it makes: what a pass and a turn have in common.
+//! A token of the table with the seat whose steps it takes: what a pass and a turn have in common.
 ghost use Rattle.std.specs.Prelude.{◌≡◌, false, true};
 ghost use Rattle.mk_core.specs.Accesses.{caller_number, word_accessed, access};
 ghost use Rattle.mk_core.specs.History.{IsHistory};
@@ -58,7 +58,7 @@ impl Model for TurnToken {
     ghost invariant = { λ t. HasTheSlot t.token.me t.seat };
 }
 
-/// Makes a step of any kind but the two that hand over the turn: the access that the event makes after what the pass
+/// Takes a step of any kind but the two that hand over the turn: the access that the event makes after what the pass
 /// has seen, to the word that it reaches there. After all that others did since it is the same one.
 #[inline(always)]
 fn perform_as<J: Making>(
@@ -91,7 +91,7 @@ fn perform_as<J: Making>(
     access_as::<J>(shared, token, index, by)
 }
 
-/// Makes a step that stores, and returns what the store found.
+/// Takes a step that stores, and returns what the store found.
 #[inline(always)]
 fn replace_as<J: Making>(
     words: &Words,
@@ -152,7 +152,7 @@ impl SeatToken {
         }
     }
 
-    /// Makes a step of any kind but a `take`.
+    /// Takes a step of any kind but a `take`.
     #[inline(always)]
     pub(crate) fn perform(&mut self, words: &Words, step: Step, word: TableWord, by: Access) -> u64
         requires one_table { self.old.table ≡ words.now }
@@ -200,7 +200,7 @@ impl TurnToken {
         }
     }
 
-    /// Makes a step of any kind but a `give`, in a table of this many pages.
+    /// Takes a step of any kind but a `give`, in a table of this many pages.
     #[inline(always)]
     pub(crate) fn perform_among(
         &mut self,
@@ -224,7 +224,7 @@ impl TurnToken {
         perform_as::<Brand>(words, pages, &mut self.token, seat, step, word, by)
     }
 
-    /// Makes a step of any kind but a `give`.
+    /// Takes a step of any kind but a `give`.
     #[inline(always)]
     pub(crate) fn perform(&mut self, words: &Words, step: Step, word: TableWord, by: Access) -> u64
         requires one_table { self.old.table ≡ words.now }
@@ -239,7 +239,7 @@ impl TurnToken {
         self.perform_among(words, words.config.pages, step, word, by)
     }
 
-    /// Makes a step that stores, and returns what the store found.
+    /// Takes a step that stores, and returns what the store found.
     #[inline(always)]
     pub(crate) fn replace(&mut self, words: &Words, step: Step, word: TableWord, value: u64) -> u64
         requires one_table { self.old.table ≡ words.now }

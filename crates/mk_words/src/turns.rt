@@ -102,7 +102,7 @@ impl Turn {
         self.pass.is_in_order();
     }
 
-    /// Makes a step after which the turn goes on, and of which the map isn't told.
+    /// Takes a step after which the turn goes on, and of which the map isn't told.
     #[inline(always)]
     pub(crate) fn perform(&mut self, words: &Words, step: Step, word: TableWord, by: Access) -> u64
         requires one_table { self.old.pass.table ≡ words.now }
