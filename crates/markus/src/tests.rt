@@ -25,8 +25,8 @@ const FIRST_RUN: &[u8] = b"heap 1 1\ntype A n*32\nscript s\nptr p A\nnum n\nnew 
 
 /// Commands, the lines of a text with `/` for a newline, and what is written, or the line that is reported. They are:
 /// the first script; a refused load; a full heap; a loop of two rounds and a branch; a dangling load; a load from a
-/// freed run; a second free; scripts without instructions; options; a freed object that a register keeps; two that
-/// point to each other, which nothing keeps but a sweep; a script of as many instructions as one may execute; a
+/// freed run; a second free; scripts without instructions; options; two freed objects that point to each other, which
+/// nothing keeps but a sweep; a freed object that a register keeps; such two again, with their entries; a script of as many instructions as one may execute; a
 /// canonical text; a schedule with a load of a global before the store and one after, that ends within a call of `s`;
 /// traces, in the last of which a freed object points to another one, and one cycle releases both (a sweep would keep
 /// the other); and the smallest generated program.
@@ -45,6 +45,10 @@ run | heap 1 1/type A n p:A+0/script s/ptr p A -> script s/
 run | heap 1 1/script s/script t/ -> script s/script t/
 run --markers 1 | heap 1 1/script s/ -> script s/
 run --sweep | heap 1 1/script s/ -> script s/
+run --sweep | heap 1 1/type A p:A n*31/script s/ptr p A/ptr q A/new p A/new q A/setp p 0 q/setp q 0 p/free p/free q/\
+    clear p/clear q/new p A/show p/ -> script s/14: full/null/
+run | heap 1 1/type A p:A n*31/script s/ptr p A/ptr q A/new p A/new q A/setp p 0 q/setp q 0 p/free p/free q/\
+    clear p/clear q/new p A/show p/ -> script s/ptr/
 run --markers=0 -- | heap 1 1/script s/ -> script s/
 run --why | heap 1 1/type A n*31 p:A/script s/ptr x A/ptr y A/new x A/new y A/setp x 31 y/free y/ -> \
     script s/kept 65792 32/register s y/

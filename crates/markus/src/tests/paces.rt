@@ -300,13 +300,32 @@ impl Pace for Counts {
     }
 }
 
-/// A program runs once: there is one `before` and one `answered` for each of the six instructions.
+/// Words with which a program runs, each in another way.
+const WAYS: &str = "\
+run
+run --sweep
+run --why
+run --sweep --why
+run --markers 1
+run --markers 1 --why
+";
+
+/// A program runs once, whichever way: there is one `before` and one `answered` for each of the six instructions. Where
+/// there are no markers, none is told of.
 #[test]
 fn each_instruction_is_paced_once(rt: HostRuntime) -> Result<(), Fail> {
+    for way in WAYS.lines() {
+        let words: Vec<&str> = way.split(' ').collect(rt.alloc())?;
+        let counts = Counts::new();
+        assert!(rt;
+            writes(&rt, rt.alloc(), words.as_slice(), THREE, &counts)?,
+            "{way}"
+        );
+        assert_eq!(rt; counts.before.load(Ordering::SeqCst), 6, "{way}");
+        assert_eq!(rt; counts.answered.load(Ordering::SeqCst), 6, "{way}");
+    }
     let counts = Counts::new();
-    assert!(rt; writes(&rt, rt.alloc(), &["run"], THREE, &counts)?);
-    assert_eq!(rt; counts.before.load(Ordering::SeqCst), 6);
-    assert_eq!(rt; counts.answered.load(Ordering::SeqCst), 6);
+    assert!(rt; writes(&rt, rt.alloc(), &["run"], DUE, &counts)?);
     assert_eq!(rt; counts.marked.load(Ordering::SeqCst), 0);
     Ok(())
 }
