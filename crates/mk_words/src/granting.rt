@@ -7,7 +7,7 @@ ghost use Rattle.mk_core.specs.NewPlaces.{object_made};
 ghost use Rattle.mk_words.specs.TurnSteps.{register_granted, cell_base, cell_behind};
 
 use mk_core::Config;
-use mk_geom::{Cell, class_of, class_words};
+use mk_geom::{Cell, HEAP_START, WORD_BYTES, class_of, class_words};
 use mk_never::Op;
 
 /// The cell that is known after a store to a used word.
@@ -74,5 +74,8 @@ pub(crate) fn cell_base(config: &Config, op: Option<Op>, cell: Option<Cell>) -> 
 pub(crate) fn address_of(word: u128) -> u64
     ensures { result ≡ address_of word % 2 ^ 64 }
 {
-    (word.wrapping_mul(8).wrapping_add(65536) % (1 << 64)) as u64
+    let address = word
+        .wrapping_mul(WORD_BYTES as u128)
+        .wrapping_add(HEAP_START as u128);
+    (address % (1 << 64)) as u64
 }

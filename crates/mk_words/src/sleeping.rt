@@ -5,7 +5,7 @@ ghost use Rattle.mk_core.specs.Layout.{IsOfTable};
 
 use crate::indexes::index_of;
 use crate::words::Words;
-use mk_core::{TableWord, Word};
+use mk_core::{TableWord, Word, phase_bits};
 use std::sync::Wait;
 use std::time::Duration;
 
@@ -54,7 +54,7 @@ impl Words {
     pub fn sleep_on_phase<R: Wait>(&self, rt: &R, phase: u64, at_most: Duration) {
         let word = TableWord::Named(Word::Phase);
         let found = self.peek(word);
-        if found % 8 == phase {
+        if phase_bits(found) == phase {
             self.sleep_on(rt, word, found, at_most);
         }
     }
