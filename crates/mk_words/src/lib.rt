@@ -19,7 +19,6 @@ mod marker_steps;
 mod passes;
 mod performing;
 mod rule;
-mod scans;
 mod sleeping;
 mod stop_steps;
 mod stopped;

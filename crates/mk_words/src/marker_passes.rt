@@ -12,10 +12,9 @@ ghost use Rattle.mk_words.specs.Markers.{is_markers, marker_in, Marks};
 ghost use Rattle.mk_words.specs.Steps.{May};
 
 use crate::passes::Pass;
-use crate::scans::marker_behind;
 use crate::tokens::SeatToken;
 use crate::words::Words;
-use mk_core::{Access, Marker, Presence, Step, TableWord};
+use mk_core::{Access, Marker, Presence, Step, TableWord, marker_behind};
 use std::marker::Model;
 
 /// What a marker that is out is in the middle of.

@@ -7,9 +7,8 @@ ghost use Rattle.mk_words.specs.Markers.{marker_in, Marks, Claims};
 ghost use Rattle.mk_words.specs.Steps.{IsEnabledTo, Makes};
 
 use crate::marker_passes::MarkerPass;
-use crate::scans::cell_seen;
 use crate::words::Words;
-use mk_core::{Access, Scan, Step, TableWord, Word, bit_for, has_bit};
+use mk_core::{Access, Scan, Step, TableWord, Word, bit_for, cell_seen, has_bit};
 use mk_geom::Cell;
 
 fn next_word(scan: Option<Scan>) -> u64
