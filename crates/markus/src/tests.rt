@@ -26,10 +26,10 @@ const FIRST_RUN: &[u8] = b"heap 1 1\ntype A n*32\nscript s\nptr p A\nnum n\nnew 
 /// Commands, the lines of a text with `/` for a newline, and what is written, or the line that is reported. They are:
 /// the first script; a refused load; a full heap; a loop of two rounds and a branch; a dangling load; a load from a
 /// freed run; a second free; scripts without instructions; options; two freed objects that point to each other, which
-/// nothing keeps but a sweep; a freed object that a register keeps; such two again, with their entries; a script of as many instructions as one may execute; a
-/// canonical text; a schedule with a load of a global before the store and one after, that ends within a call of `s`;
-/// traces, in the last of which a freed object points to another one, and one cycle releases both (a sweep would keep
-/// the other); and the smallest generated program.
+/// nothing keeps but a sweep; a freed object that a register keeps; such two again, with their entries; a script of as
+/// many instructions as one may execute; a canonical text; a schedule with a load of a global before the store and one
+/// after, that ends within a call of `s`; traces, in the last of which a freed object points to another one, and one
+/// cycle releases both (a sweep would keep the other); and the smallest generated program.
 const RUNS: &str = "\
 run | heap 1 1/type A n*32/script s/ptr p A/num n/new p A/const n 7/setn p 1 n/const n 0/\
     getn n p 1/print n/ -> script s/7/

@@ -217,7 +217,8 @@ module _ (form : Form) (name word : Text) (words : List Text) (rows : List Row) 
         let held = row_set (flag_name flag) (codes "true") (set_flag flag t) fresh (holds_flag left t i.1 flag has) in
         let others = unchanged flag in
         long_passes (flag_name flag) None l false (set_flag flag t) _ None
-        (flag_fault form k flag rows p false i.0 fresh) (flag_met form k flag word rows p) others.0 others.1 (refl, held, others.2)
+        (flag_fault form k flag rows p false i.0 fresh) (flag_met form k flag word rows p) others.0 others.1
+        (refl, held, others.2)
       where
         unchanged : (f : Flag)
             → ((set_flag f t).numbers ≡ ns) × ((set_flag f t).ended ≡ false) × ((set_flag f t).awaits ≡ false)

@@ -30,7 +30,8 @@ fn markers_in(matches: &ArgMatches<'_>) -> Option<u64>
 fn run_in(matches: &ArgMatches<'_>) -> Option<Command>
     ensures { (sweep why : Bool) → one_text (found_of matches.now) (codes "sweep") ≡ Some (bool_text sweep)
         → one_text (found_of matches.now) (codes "why") ≡ Some (bool_text why)
-        → result ≡ option_and_then (run_with sweep why) (markers_of (first_value (found_of matches.now) (codes "markers"))) }
+        → result ≡ option_and_then (run_with sweep why)
+        (markers_of (first_value (found_of matches.now) (codes "markers"))) }
 {
     let markers = markers_in(matches)?;
     let sweep = matches.get_flag("sweep");
