@@ -54,6 +54,7 @@ pub fn head_page_under(header: u64, page: u64) -> u64
 /// `header` is the header word of the address's page. None where the address is outside the heap, in
 /// a block's tail or on a free page, where the word is no header word, and where its distance
 /// leads to before the heap.
+#[inline(always)]
 pub fn lookup(pages: u64, header: u64, address: u64) -> Option<Cell>
     ensures { result ≡ cell_at pages header address }
 {

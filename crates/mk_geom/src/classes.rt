@@ -8,6 +8,9 @@ pub const PAGE_WORDS: u64 = 64;
 /// The words of a cell, by class.
 const CLASS_WORDS: [u64; 8] = [2, 4, 6, 8, 12, 16, 24, 32];
 
+/// The cells of a block, by class, so that they are known without a division.
+const CELLS: [u64; 8] = [32, 16, 10, 8, 5, 4, 2, 2];
+
 /// The size class of an object of this many words. An object of more than 32 is large, and has no class.
 pub fn class_of(words: u64) -> Option<u64>
     ensures exact { result ≡ class_for words }
@@ -38,11 +41,12 @@ pub fn class_words(class: u64) -> u64
 }
 
 /// The cells of a block of the class.
+#[tactic(auto, using(crate::proofs::ClassTable::cells_listed))]
 pub fn cells(class: u64) -> u64
     requires { class < 8 }
     ensures { result ≡ cells_of class }
 {
-    PAGE_WORDS / class_words(class)
+    CELLS[class as usize]
 }
 
 /// The pages of a run for an object of this many words.
