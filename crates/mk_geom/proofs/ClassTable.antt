@@ -42,6 +42,19 @@ cells_listed (suc (suc (suc (suc (suc (suc zero)))))) known = refl
 cells_listed (suc (suc (suc (suc (suc (suc (suc zero))))))) known = refl
 cells_listed (suc (suc (suc (suc (suc (suc (suc (suc n)))))))) known = absurd (omega arith)
 
+-- a word of a page, divided by the words of a cell
+pub divided_by_shares : (class word : ℕ) → class < 8 → word < 64
+    → word * slice_index (512 ∷ 256 ∷ 171 ∷ 128 ∷ 86 ∷ 64 ∷ 43 ∷ 32 ∷ []) class / 1024 ≡ word / class_words_of class
+divided_by_shares zero word known within = omega (arith, within)
+divided_by_shares (suc zero) word known within = omega (arith, within)
+divided_by_shares (suc (suc zero)) word known within = omega (arith, within)
+divided_by_shares (suc (suc (suc zero))) word known within = omega (arith, within)
+divided_by_shares (suc (suc (suc (suc zero)))) word known within = omega (arith, within)
+divided_by_shares (suc (suc (suc (suc (suc zero))))) word known within = omega (arith, within)
+divided_by_shares (suc (suc (suc (suc (suc (suc zero)))))) word known within = omega (arith, within)
+divided_by_shares (suc (suc (suc (suc (suc (suc (suc zero))))))) word known within = omega (arith, within)
+divided_by_shares (suc (suc (suc (suc (suc (suc (suc (suc n)))))))) word known within = absurd (omega arith)
+
 -- a cell of this many words ends within its page
 pub cell_ends : (index words : ℕ) → index < 64 / words → index * words + words ≤ 64
 cell_ends index words within =
