@@ -188,17 +188,26 @@ marked_gone a b page quarantine marks t k word is =
     ap (λ (n : ℕ). without n marks) (h.snapshot ∙ sym (ap (λ (x : PageState). x.snapshot) (k.same page)))
     ∙ ap (λ (n : ℕ). without (slice_index (now_of b).words.snapshot page) n) is
 
+-- where the snapshot is empty
+pub none_left_on : (a : PassState) (page quarantine : ℕ) → InTurn a
+    → quarantine ≡ quarantine_word (slice_index (now_of a).words.freed page)
+    (slice_index (now_of a).words.snapshot page)
+    → quarantine / 2 ^ 32 ≡ 0 → left_unmarked (now_of a).words page ≡ 0
+none_left_on a page quarantine t word none =
+    let marks : ℕ = slice_index (now_of a).words.marks page in
+    let nothing : without 0 marks ≡ 0 = omega arith in
+    ap (λ (n : ℕ). without n marks) (sym (halves a page quarantine t word).snapshot ∙ none) ∙ nothing
+
 pub head_stays : (p q : PassState) (page : ℕ) → SamePage p q page
     → head_page (now_of q).words page ≡ head_page (now_of p).words page
 head_stays p q page same = ap (λ (n : ℕ). head_page_under (header_of n) page) (same_header p q page same)
 
 -- No cell is released at the head of the page's run: it is the page itself, or one that is settled.
-pub none_at : (p a b : PassState) (page h : ℕ) → GivesNothingBack p a → GivesBack page a b → h ≤ page
-    → ((r : ℕ) → r < page → IsSettledPage p r) → left_unmarked (now_of b).words h ≡ 0
-none_at p a b page h k g le settled = elim (cases_eq h page) [
-  | inl e ↦ ap (λ (n : ℕ). left_unmarked (now_of b).words n) e ∙ g.none_left
-  | inr ne ↦ same_left a b h (g.frees.others h ne) g.frees.frees.marks ∙ same_left p a h (k.same h) k.frees.marks
-      ∙ settled_left p h (settled h (omega arith))
+pub none_at : (p q : PassState) (page h : ℕ) → GivesBack page p q → h ≤ page
+    → ((r : ℕ) → r < page → IsSettledPage p r) → left_unmarked (now_of q).words h ≡ 0
+none_at p q page h g le settled = elim (cases_eq h page) [
+  | inl e ↦ ap (λ (n : ℕ). left_unmarked (now_of q).words n) e ∙ g.none_left
+  | inr ne ↦ same_left p q h (g.frees.others h ne) g.frees.frees.marks ∙ settled_left p h (settled h (omega arith))
 ]
 
 pub freed_settles : (a q : PassState) (page used : ℕ) → FreesPage page a q

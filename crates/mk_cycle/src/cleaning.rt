@@ -1,7 +1,7 @@
 //! What comes before a cycle's `begin`: the marks of the cycle before are cleared, and the snapshot is taken. Pages in
 //! use are looked at, free pages that may be marked, and pages whose freed cells aren't their snapshot. A word that has
 //! the right value already isn't stored to.
-ghost use Rattle.std.specs.Prelude.{◌≡◌, ◌<◌, ℕ, true, false};
+ghost use Rattle.std.specs.Prelude.{◌≡◌, ◌≢◌, ◌<◌, ℕ, true, false};
 ghost use Rattle.mk_core.specs.Ranges.{is_word};
 ghost use Rattle.mk_core.specs.Words.{header_at, named_word};
 ghost use Rattle.mk_words.specs.PageMaps.{HasNoMarks};
@@ -19,47 +19,66 @@ use crate::turn_steps::{
 use mk_core::Word;
 use mk_words::{Turn, Words};
 
-/// Clears the marks of a page.
-fn clear_marks(turn: &mut Turn, words: &Words, page: u64)
+/// Looks at a word before the `begin`, in a table of this many pages.
+#[inline(always)]
+fn look_before(turn: &mut Turn, words: &Words, pages: u64, x: Word) -> u64
+    requires one_table { turn.old.pass.table ≡ words.now }
+    requires pages { pages ≡ words.now.config.pages }
+    requires free { IsFreeForCycle turn.old.pass }
+    requires phase { IsAtPhase turn.old.pass 0 }
+    requires in_range { is_word words.now.config x ≡ true }
+    requires no_register { is_register x ≡ false }
+    ensures op { turn.new.op ≡ turn.old.op }
+    ensures cleans { Cleans turn.old.pass turn.new.pass }
+    ensures is { InTurn turn.new.pass }
+    ensures reads { result ≡ named_word (now_of turn.new.pass).words x }
+{
+    look_among(turn, words, pages, x)
+}
+
+/// Clears the marks of a page, which were found to be these.
+fn clear_marks(turn: &mut Turn, words: &Words, page: u64, marks: u64)
     requires one_table { turn.old.pass.table ≡ words.now }
     requires free { IsFreeForCycle turn.old.pass }
     requires phase { IsAtPhase turn.old.pass 0 }
     requires within { page < words.now.config.pages }
+    requires found { marks ≡ 0 → IsUnmarked turn.old.pass page }
     ensures op { turn.new.op ≡ turn.old.op }
     ensures cleans { Cleans turn.old.pass turn.new.pass }
     ensures unmarked { IsUnmarked turn.new.pass page }
 {
-    if look(turn, words, Word::Mark(page)) != 0 {
+    if marks != 0 {
         clear(turn, words, page);
     }
 }
 
-/// Clears the black word of a page.
-fn clear_black(turn: &mut Turn, words: &Words, page: u64)
+/// Clears the black word of a page, which was found to be this one.
+fn clear_black(turn: &mut Turn, words: &Words, page: u64, blacks: u64)
     requires one_table { turn.old.pass.table ≡ words.now }
     requires free { IsFreeForCycle turn.old.pass }
     requires phase { IsAtPhase turn.old.pass 0 }
     requires within { page < words.now.config.pages }
+    requires found { blacks ≡ 0 → IsUnscanned turn.old.pass page }
     ensures op { turn.new.op ≡ turn.old.op }
     ensures cleans { Cleans turn.old.pass turn.new.pass }
     ensures unscanned { IsUnscanned turn.new.pass page }
 {
-    if look(turn, words, Word::Black(page)) != 0 {
+    if blacks != 0 {
         unblack(turn, words, page);
     }
 }
 
-/// Clears the dirty word of a page. A caller may set it again at once.
-fn clear_dirty(turn: &mut Turn, words: &Words, page: u64)
+/// Clears the dirty word of a page, which was found to be this one. A caller may set it again at once.
+fn clear_dirty(turn: &mut Turn, words: &Words, page: u64, dirty: u64)
     requires one_table { turn.old.pass.table ≡ words.now }
     requires free { IsFreeForCycle turn.old.pass }
     requires phase { IsAtPhase turn.old.pass 0 }
     requires within { page < words.now.config.pages }
     ensures op { turn.new.op ≡ turn.old.op }
     ensures cleans { Cleans turn.old.pass turn.new.pass }
-    ensures undirty { WasUndirty page turn.old.pass turn.new.pass }
+    ensures undirty { dirty ≢ 0 → WasUndirty page turn.old.pass turn.new.pass }
 {
-    if look(turn, words, Word::Dirty(page)) != 0 {
+    if dirty != 0 {
         undirty(turn, words, page);
     }
 }
@@ -81,23 +100,6 @@ fn copy_freed(turn: &mut Turn, words: &Words, page: u64)
     }
 }
 
-/// Looks at a word before the `begin`, in a table of this many pages.
-#[inline(always)]
-fn look_before(turn: &mut Turn, words: &Words, pages: u64, x: Word) -> u64
-    requires one_table { turn.old.pass.table ≡ words.now }
-    requires pages { pages ≡ words.now.config.pages }
-    requires free { IsFreeForCycle turn.old.pass }
-    requires phase { IsAtPhase turn.old.pass 0 }
-    requires in_range { is_word words.now.config x ≡ true }
-    requires no_register { is_register x ≡ false }
-    ensures op { turn.new.op ≡ turn.old.op }
-    ensures cleans { Cleans turn.old.pass turn.new.pass }
-    ensures is { InTurn turn.new.pass }
-    ensures reads { result ≡ named_word (now_of turn.new.pass).words x }
-{
-    look_among(turn, words, pages, x)
-}
-
 /// Whether all these words are 0.
 #[inline(always)]
 fn are_zero(marks: u64, blacks: u64, dirty: u64) -> bool
@@ -108,41 +110,24 @@ fn are_zero(marks: u64, blacks: u64, dirty: u64) -> bool
     marks | blacks | dirty == 0
 }
 
-/// Whether nothing of a page is marked, black or dirty. Each of these words is looked at.
-#[inline(always)]
-fn is_ready(turn: &mut Turn, words: &Words, pages: u64, page: u64) -> bool
-    requires one_table { turn.old.pass.table ≡ words.now }
-    requires pages { pages ≡ words.now.config.pages }
-    requires free { IsFreeForCycle turn.old.pass }
-    requires phase { IsAtPhase turn.old.pass 0 }
-    requires within { page < words.now.config.pages }
-    ensures op { turn.new.op ≡ turn.old.op }
-    ensures cleans { Cleans turn.old.pass turn.new.pass }
-    ensures bare { result ≡ true → HasNoMarks (now_of turn.new.pass).words page }
-    ensures undirty { result ≡ true → WasUndirty page turn.old.pass turn.new.pass }
-{
-    let marks = look_before(turn, words, pages, Word::Mark(page));
-    let blacks = look_before(turn, words, pages, Word::Black(page));
-    let dirty = look_before(turn, words, pages, Word::Dirty(page));
-    are_zero(marks, blacks, dirty)
-}
-
-/// Clears what is left of the cycle before on a page, word by word. It isn't inlined, since few pages
-/// need it.
+/// Clears what is left of the cycle before on a page, on which these words were found. It isn't inlined, since few
+/// pages need it.
 #[inline(never)]
-fn clean_words(turn: &mut Turn, words: &Words, page: u64)
+fn clean_words(turn: &mut Turn, words: &Words, page: u64, marks: u64, blacks: u64, dirty: u64)
     requires one_table { turn.old.pass.table ≡ words.now }
     requires free { IsFreeForCycle turn.old.pass }
     requires phase { IsAtPhase turn.old.pass 0 }
     requires within { page < words.now.config.pages }
+    requires marks { marks ≡ 0 → IsUnmarked turn.old.pass page }
+    requires blacks { blacks ≡ 0 → IsUnscanned turn.old.pass page }
     ensures op { turn.new.op ≡ turn.old.op }
     ensures cleans { Cleans turn.old.pass turn.new.pass }
     ensures bare { HasNoMarks (now_of turn.new.pass).words page }
-    ensures undirty { WasUndirty page turn.old.pass turn.new.pass }
+    ensures undirty { dirty ≢ 0 → WasUndirty page turn.old.pass turn.new.pass }
 {
-    clear_marks(turn, words, page);
-    clear_black(turn, words, page);
-    clear_dirty(turn, words, page);
+    clear_marks(turn, words, page, marks);
+    clear_black(turn, words, page, blacks);
+    clear_dirty(turn, words, page, dirty);
 }
 
 /// Clears what is left of the cycle before on a page, if anything is.
@@ -158,10 +143,13 @@ fn clean_page(turn: &mut Turn, words: &Words, pages: u64, page: u64)
     ensures bare { HasNoMarks (now_of turn.new.pass).words page }
     ensures undirty { WasUndirty page turn.old.pass turn.new.pass }
 {
-    if is_ready(turn, words, pages, page) {
+    let marks = look_before(turn, words, pages, Word::Mark(page));
+    let blacks = look_before(turn, words, pages, Word::Black(page));
+    let dirty = look_before(turn, words, pages, Word::Dirty(page));
+    if are_zero(marks, blacks, dirty) {
         return;
     }
-    clean_words(turn, words, page);
+    clean_words(turn, words, page, marks, blacks, dirty);
 }
 
 /// Clears the marks of a free page, and reports it to the page map.
@@ -174,8 +162,11 @@ fn clean_free(turn: &mut Turn, words: &Words, page: u64)
     ensures cleans { Cleans turn.old.pass turn.new.pass }
     ensures bare { HasNoMarks (now_of turn.new.pass).words page }
 {
-    clear_marks(turn, words, page);
-    clear_black(turn, words, page);
+    let pages = words.pages();
+    let marks = look_before(turn, words, pages, Word::Mark(page));
+    let blacks = look_before(turn, words, pages, Word::Black(page));
+    clear_marks(turn, words, page, marks);
+    clear_black(turn, words, page, blacks);
     turn.cleaned(page);
 }
 

@@ -1,19 +1,18 @@
 //! What the words of a page say of a cycle: what was released on it, by its snapshot and marks, before that is given
 //! back; and how many words it holds.
-ghost use Rattle.std.specs.Prelude.{◌≡◌, ◌<◌, ◌≤◌, ◌*◌, true, false, bit_and, count_ones, slice_index};
+ghost use Rattle.std.specs.Prelude.{◌≡◌, ◌<◌, ◌≤◌, ◌*◌, true, false, bit_and, count_ones};
 ghost use Rattle.mk_core.specs.Bits.{without};
 ghost use Rattle.mk_core.specs.Cells.{words_under};
 ghost use Rattle.mk_core.specs.Ranges.{is_word};
 ghost use Rattle.mk_core.specs.Words.{named_word};
 ghost use Rattle.mk_geom.specs.Headers.{header_of};
 ghost use Rattle.mk_words.specs.States.{now_of};
-ghost use Rattle.mk_cycle.specs.ReleasedPages.{IsOfOnePage, released_on};
+ghost use Rattle.mk_cycle.specs.ReleasedPages.{IsOfOnePage};
 ghost use Rattle.mk_cycle.specs.HeldPages.{held_at};
 ghost use Rattle.mk_cycle.specs.EngineLaw.{IsFreeForCycle, IsAtPhase, is_register};
 ghost use Rattle.mk_cycle.specs.Freeing.{GivesNothingBack};
 ghost use Rattle.mk_cycle.specs.TurnKeeps.{InTurn};
 
-use crate::bits::FREED_END;
 use crate::finishing::Released;
 use crate::turn_steps;
 use mk_books::held_by_pages;
@@ -21,7 +20,7 @@ use mk_core::{Word, without, words_under};
 use mk_words::{Turn, Words};
 
 /// What the words of a page say: its released cells, their words, and its marked cells of the snapshot.
-fn released_cells(snapshot: u64, marks: u64, header: u64) -> Released
+pub(crate) fn released_cells(snapshot: u64, marks: u64, header: u64) -> Released
     ensures count { result.count ≡ count_ones (without snapshot marks) }
     ensures words { result.words ≡ count_ones (without snapshot marks) * words_under (header_of header) }
     ensures kept { result.kept ≡ count_ones (bit_and snapshot marks) }
@@ -49,45 +48,6 @@ pub(crate) fn look(turn: &mut Turn, words: &Words, x: Word) -> u64
     ensures reads { result ≡ named_word (now_of turn.new.pass).words x }
 {
     turn_steps::look(turn, words, x)
-}
-
-/// What was released on a page with this snapshot.
-fn released_of(turn: &mut Turn, words: &Words, page: u64, snapshot: u64) -> Released
-    requires one_table { turn.old.pass.table ≡ words.now }
-    requires free { IsFreeForCycle turn.old.pass }
-    requires phase { IsAtPhase turn.old.pass 4 }
-    requires within { page < words.now.config.pages }
-    requires snapshot { snapshot ≡ slice_index (now_of turn.old.pass).words.snapshot page }
-    ensures op { turn.new.op ≡ turn.old.op }
-    ensures frees { GivesNothingBack turn.old.pass turn.new.pass }
-    ensures exact { result ≡ released_on (now_of turn.old.pass).words page }
-    ensures few { IsOfOnePage result }
-{
-    let marks = look(turn, words, Word::Mark(page));
-    let header = look(turn, words, Word::Head(page));
-    released_cells(snapshot, marks, header)
-}
-
-/// What was released on a page. Where its snapshot is empty, no more is looked at.
-pub(crate) fn released_on(turn: &mut Turn, words: &Words, page: u64) -> Released
-    requires one_table { turn.old.pass.table ≡ words.now }
-    requires free { IsFreeForCycle turn.old.pass }
-    requires phase { IsAtPhase turn.old.pass 4 }
-    requires within { page < words.now.config.pages }
-    ensures op { turn.new.op ≡ turn.old.op }
-    ensures frees { GivesNothingBack turn.old.pass turn.new.pass }
-    ensures exact { result ≡ released_on (now_of turn.old.pass).words page }
-    ensures few { IsOfOnePage result }
-{
-    let snapshot = look(turn, words, Word::Quar(page)) / FREED_END;
-    if snapshot == 0 {
-        return Released {
-            count: 0,
-            words: 0,
-            kept: 0,
-        };
-    }
-    released_of(turn, words, page, snapshot)
 }
 
 /// How many words a page holds. The page map knows it.

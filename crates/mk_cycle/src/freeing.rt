@@ -5,9 +5,11 @@ ghost use Rattle.mk_core.specs.Words.{header_at};
 ghost use Rattle.mk_words.specs.States.{now_of};
 ghost use Rattle.mk_cycle.specs.EngineLaw.{IsFreeForCycle, IsAtPhase};
 ghost use Rattle.mk_cycle.specs.Freeing.{GivesBack, HasFreeCells, IsQuarantineWord};
-ghost use Rattle.mk_cycle.specs.ReleasedPages.{cells_unmarked};
+ghost use Rattle.mk_cycle.specs.ReleasedPages.{IsOfOnePage, released_on};
 
 use crate::bits::FREED_END;
+use crate::counting::{self, released_cells};
+use crate::finishing::Released;
 use crate::turn_steps::{drop_cells, give_cells, look};
 use crate::wiping::wipe_released;
 use mk_core::{Word, without};
@@ -34,23 +36,35 @@ fn give_back(turn: &mut Turn, words: &Words, page: u64, header: u64, quarantine:
     drop_cells(turn, words, page, freed + FREED_END * snapshot);
 }
 
-/// Gives back the released cells of a page, of which there are this many. Where there are none, nothing is looked at.
-pub(crate) fn release_cells(turn: &mut Turn, words: &Words, page: u64, header: u64, count: u64)
+/// Gives back the released cells of a page with this header word, and returns what was released on it. Where its
+/// snapshot is empty, no more is looked at.
+pub(crate) fn release_cells(turn: &mut Turn, words: &Words, page: u64, header: u64) -> Released
     requires one_table { turn.old.pass.table ≡ words.now }
     requires free { IsFreeForCycle turn.old.pass }
     requires phase { IsAtPhase turn.old.pass 4 }
     requires within { page < words.now.config.pages }
     requires header { header ≡ header_at (now_of turn.old.pass).words page }
-    requires count { count ≡ cells_unmarked (now_of turn.old.pass).words page }
     requires cells { HasFreeCells turn.old.pass page }
     ensures op { turn.new.op ≡ turn.old.op }
     ensures gives { GivesBack page turn.old.pass turn.new.pass }
+    ensures exact { result ≡ released_on (now_of turn.old.pass).words page }
+    ensures few { IsOfOnePage result }
 {
-    if count == 0 {
-        return;
+    let quarantine = counting::look(turn, words, Word::Quar(page));
+    let snapshot = quarantine / FREED_END;
+    if snapshot == 0 {
+        return Released {
+            count: 0,
+            words: 0,
+            kept: 0,
+        };
     }
-    let quarantine = look(turn, words, Word::Quar(page));
-    let marks = look(turn, words, Word::Mark(page));
-    let gone = without(quarantine / FREED_END, marks);
+    let marks = counting::look(turn, words, Word::Mark(page));
+    let released = released_cells(snapshot, marks, header);
+    let gone = without(snapshot, marks);
+    if gone == 0 {
+        return released;
+    }
     give_back(turn, words, page, header, quarantine, gone);
+    released
 }

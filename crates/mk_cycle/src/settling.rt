@@ -10,7 +10,7 @@ ghost use Rattle.mk_cycle.specs.Freeing.{Frees, FreesPage, HasFreeCells, IsSettl
 ghost use Rattle.mk_cycle.specs.HeldPages.{held_at};
 ghost use Rattle.mk_cycle.specs.ReleasedPages.{IsOfOnePage, released_below, released_on};
 
-use crate::counting::{held_on, released_on};
+use crate::counting::held_on;
 use crate::finishing::Released;
 use crate::freeing::release_cells;
 use crate::turn_steps::{free_head, known_page, next_in_use};
@@ -60,8 +60,7 @@ fn settle_taken(turn: &mut Turn, words: &Words, page: u64, header: u64) -> Settl
     ensures held { result.held ≡ held_at turn.new.pass page }
     ensures few { result.held ≤ 64 }
 {
-    let released = released_on(turn, words, page);
-    release_cells(turn, words, page, header, released.count);
+    let released = release_cells(turn, words, page, header);
     free_unused(turn, words, page, head_page_under(header, page));
     let held = held_on(turn, page);
     Settled { released, held }

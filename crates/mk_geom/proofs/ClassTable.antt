@@ -1,6 +1,7 @@
 -- The classes, one by one, and the cells of a page.
 use Rattle.std.proofs.Common.{◌≡◌, ℕ, zero, suc, ◌+◌, ◌*◌, ◌/◌, ◌<◌, ◌≤◌, ◌==◌, nat_le, Some, None, position, refl, sym}
 use Rattle.std.proofs.Common.{◌∙◌, inl, inr, arith, le_refl, div-add-mod', leb-true}
+use Rattle.std.specs.Prelude.{[], ◌∷◌, slice_index}
 use Rattle.std.proofs.lemmas.Bool.{cases_Bool, cond-true, cond-false}
 use Rattle.std.proofs.lemmas.List.Quantifiers.{position-Some}
 use Rattle.std.proofs.lemmas.Nat.{mul-le, le-div}
@@ -28,6 +29,31 @@ class_words_within (suc (suc (suc (suc (suc zero))))) known = (omega arith, omeg
 class_words_within (suc (suc (suc (suc (suc (suc zero)))))) known = (omega arith, omega arith)
 class_words_within (suc (suc (suc (suc (suc (suc (suc zero))))))) known = (omega arith, omega arith)
 class_words_within (suc (suc (suc (suc (suc (suc (suc (suc n)))))))) known = absurd (omega arith)
+
+-- the cells of a block, by class
+pub cells_listed : (class : ℕ) → class < 8 → slice_index (32 ∷ 16 ∷ 10 ∷ 8 ∷ 5 ∷ 4 ∷ 2 ∷ 2 ∷ []) class ≡ cells_of class
+cells_listed zero known = refl
+cells_listed (suc zero) known = refl
+cells_listed (suc (suc zero)) known = refl
+cells_listed (suc (suc (suc zero))) known = refl
+cells_listed (suc (suc (suc (suc zero)))) known = refl
+cells_listed (suc (suc (suc (suc (suc zero))))) known = refl
+cells_listed (suc (suc (suc (suc (suc (suc zero)))))) known = refl
+cells_listed (suc (suc (suc (suc (suc (suc (suc zero))))))) known = refl
+cells_listed (suc (suc (suc (suc (suc (suc (suc (suc n)))))))) known = absurd (omega arith)
+
+-- a word of a page, divided by the words of a cell
+pub divided_by_shares : (class word : ℕ) → class < 8 → word < 64
+    → word * slice_index (512 ∷ 256 ∷ 171 ∷ 128 ∷ 86 ∷ 64 ∷ 43 ∷ 32 ∷ []) class / 1024 ≡ word / class_words_of class
+divided_by_shares zero word known within = omega (arith, within)
+divided_by_shares (suc zero) word known within = omega (arith, within)
+divided_by_shares (suc (suc zero)) word known within = omega (arith, within)
+divided_by_shares (suc (suc (suc zero))) word known within = omega (arith, within)
+divided_by_shares (suc (suc (suc (suc zero)))) word known within = omega (arith, within)
+divided_by_shares (suc (suc (suc (suc (suc zero))))) word known within = omega (arith, within)
+divided_by_shares (suc (suc (suc (suc (suc (suc zero)))))) word known within = omega (arith, within)
+divided_by_shares (suc (suc (suc (suc (suc (suc (suc zero))))))) word known within = omega (arith, within)
+divided_by_shares (suc (suc (suc (suc (suc (suc (suc (suc n)))))))) word known within = absurd (omega arith)
 
 -- a cell of this many words ends within its page
 pub cell_ends : (index words : ℕ) → index < 64 / words → index * words + words ≤ 64

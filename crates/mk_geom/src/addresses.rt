@@ -4,7 +4,7 @@ ghost use Rattle.mk_geom.specs.Addresses.{cell_at, cell_of_block, head_page_unde
 ghost use Rattle.mk_geom.specs.Headers.{header_of};
 
 use crate::classes::PAGE_WORDS;
-use crate::{Header, cells, class_words, decode};
+use crate::{Header, cells, decode, index_in_block};
 
 /// The address of the heap's first word.
 pub const HEAP_START: u64 = 65536;
@@ -54,6 +54,7 @@ pub fn head_page_under(header: u64, page: u64) -> u64
 /// `header` is the header word of the address's page. None where the address is outside the heap, in
 /// a block's tail or on a free page, where the word is no header word, and where its distance
 /// leads to before the heap.
+#[inline(always)]
 pub fn lookup(pages: u64, header: u64, address: u64) -> Option<Cell>
     ensures { result ≡ cell_at pages header address }
 {
@@ -76,9 +77,10 @@ pub fn lookup(pages: u64, header: u64, address: u64) -> Option<Cell>
 }
 
 fn cell_of_word(class: u64, page: u64, word: u64) -> Option<Cell>
-    requires { class < 8 }
+    requires class { class < 8 }
+    requires word { word < 64 }
     ensures { result ≡ cell_of_block class page word }
 {
-    let index = word / class_words(class);
+    let index = index_in_block(class, word);
     (index < cells(class)).then_some(Cell { page, index })
 }

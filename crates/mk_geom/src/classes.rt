@@ -1,5 +1,5 @@
 //! The sizes of objects.
-ghost use Rattle.std.specs.Prelude.{◌≡◌, ℕ, ◌<◌, ◌≤◌, ◌↔◌, ◌⊎◌, IfSome, IsNone, nat_le, position};
+ghost use Rattle.std.specs.Prelude.{◌≡◌, ℕ, ◌/◌, ◌<◌, ◌≤◌, ◌↔◌, ◌⊎◌, IfSome, IsNone, nat_le, position};
 ghost use Rattle.mk_geom.specs.Classes.{class_for, class_words_of, cells_of, run_pages_of};
 
 /// The words of a page.
@@ -7,6 +7,13 @@ pub const PAGE_WORDS: u64 = 64;
 
 /// The words of a cell, by class.
 const CLASS_WORDS: [u64; 8] = [2, 4, 6, 8, 12, 16, 24, 32];
+
+/// The cells of a block, by class, so that they are known without a division.
+const CELLS: [u64; 8] = [32, 16, 10, 8, 5, 4, 2, 2];
+
+/// What 1024 divided by the words of a cell is, rounded up, by class. A word of a page times that, divided by 1024, is
+/// the word divided by the words of a cell, so that takes no division.
+const SHARES: [u64; 8] = [512, 256, 171, 128, 86, 64, 43, 32];
 
 /// The size class of an object of this many words. An object of more than 32 is large, and has no class.
 pub fn class_of(words: u64) -> Option<u64>
@@ -38,11 +45,23 @@ pub fn class_words(class: u64) -> u64
 }
 
 /// The cells of a block of the class.
+#[tactic(auto, using(crate::proofs::ClassTable::cells_listed))]
 pub fn cells(class: u64) -> u64
     requires { class < 8 }
     ensures { result ≡ cells_of class }
 {
-    PAGE_WORDS / class_words(class)
+    CELLS[class as usize]
+}
+
+/// The cell of a block of the class that a word of the page is in, where the word isn't in the block's tail.
+#[inline(always)]
+#[tactic(auto, using(crate::proofs::ClassTable::divided_by_shares))]
+pub fn index_in_block(class: u64, word: u64) -> u64
+    requires class { class < 8 }
+    requires word { word < 64 }
+    ensures { result ≡ word / class_words_of class }
+{
+    word * SHARES[class as usize] / 1024
 }
 
 /// The pages of a run for an object of this many words.

@@ -36,16 +36,22 @@ pub fn encode(header: Header) -> u64
     }
 }
 
-/// What the header word says; none where the word is no header word.
+/// What the header word says; none where the word is no header word. Most words are those of a free page or a block,
+/// which are told by two comparisons.
+#[inline(always)]
 pub fn decode(word: u64) -> Option<Header>
     ensures exact { result ≡ header_of word }
     ensures some { IfSome result (λ header. IsInRange header × (word_of header ≡ word)) }
     ensures none { IfNone result ((header : Header) → IsInRange header → word_of header ≢ word) }
 {
+    if word == 0 {
+        return Some(Header::Free);
+    }
+    if word <= 8 {
+        return Some(Header::Block(word - 1));
+    }
     let parameter = word / 16;
     match (word % 16, parameter) {
-        (0, 0) => Some(Header::Free),
-        (kind @ 1..=8, 0) => Some(Header::Block(kind - 1)),
         (9, 1..=64) => Some(Header::Run {
             pages: parameter,
             mapped: true,

@@ -31,6 +31,7 @@ pub mod ReachedParts
 pub mod GoneRuns
 pub mod SetGates
 pub mod UnmappedRuns
+pub mod WipedRuns
 pub mod HeldFreed
 pub mod FreedObjects
 pub mod DecidedFrees

@@ -12,10 +12,10 @@ use Rattle.mk_geom.specs.declared.pages.Page.{Page}
 use Rattle.mk_geom.specs.declared.pages.Place.{Place}
 use Rattle.mk_geom.specs.Classes.{cells_of}
 use Rattle.mk_geom.specs.Headers.{header_of, word_of}
-use Rattle.mk_geom.specs.PageUses.{Cells, PageUse, carved, cells_taken, first_where, is_free_page, is_resident_page}
+use Rattle.mk_geom.specs.PageUses.{Cells, carved, cells_taken, first_where, is_free_page, is_resident_page}
 use Rattle.mk_geom.specs.PageUses.{is_same_sort, or_else, resident_pages, small_place}
 use Rattle.mk_geom.specs.PageWords.{bits_of, use_of_page, use_under, uses_of_pages}
-use Rattle.mk_geom.specs.Storages.{block_header, free_page}
+use Rattle.mk_geom.specs.Storages.{block_header}
 use Rattle.mk_geom.proofs.HeaderLemmas.{header_of-word_of, word_of-header_of}
 use Rattle.mk_books.proofs.FreeCellLemmas.{cells_taken_alike}
 use Rattle.mk_page_map.specs.Laws.{LowestBlockHasThePlace, free_cell_on}

@@ -47,11 +47,11 @@ use Rattle.mk_words.specs.Seats.{Has}
 use Rattle.mk_words.specs.States.{PassState, call_of, now_of, world_of}
 use Rattle.mk_words.specs.Steps.{Finds, IsEnabledTo}
 use Rattle.mk_words.specs.TurnSteps.{Acts, IsTurn}
-use Rattle.mk_objects.specs.FreeParts.{Changes, RunIsUnmapped, RunIsWiped, Unmaps, Wipes, is_clearing}
+use Rattle.mk_objects.specs.FreeParts.{Changes, RunIsUnmapped, Unmaps, is_clearing}
 use Rattle.mk_objects.specs.Looking.{is_acting}
 use Rattle.mk_objects.specs.Placing.{IsOutOfStop, ComesTo}
 use Rattle.mk_objects.specs.Unchanged.{IsAsLeft}
-use Rattle.mk_objects.specs.Unmapping.{IsStillMapped, UnmappedTo, WipedTo}
+use Rattle.mk_objects.specs.Unmapping.{IsStillMapped, UnmappedTo, WipedTo, WipesTo}
 use Rattle.mk_objects.proofs.Looks.{acting_caller, acting_now, found_there}
 use Rattle.mk_objects.proofs.MayAct.{IsActing, may_look_heap, may_unmap, may_wipe, off_four}
 use Rattle.mk_objects.proofs.Reaching.{reaches_nothing, reaches_still, reaches_still_in_stop}
@@ -85,6 +85,14 @@ give_acts f is = ap is_acting is
 
 pub changes_nothing : (s : Seat) (w : World) → Changes s (λ x. x) w w
 changes_nothing s w = record { call = refl; holding = refl; steady = refl; gates = λ j. refl }
+
+pub still_stopped : (p : PassState) (v : World) → ((j : ℕ) → is_held v.now.words j ≡ is_held (now_of p).words j)
+    → others_are_held p.table.config.callers (now_of p).words p.seat ≡ true
+    → others_are_held p.table.config.callers v.now.words p.seat ≡ true
+still_stopped p v gates stopped =
+    all_below_from p.table.config.callers (λ j. is_number_of p.seat j || is_held v.now.words j)
+    (λ j lt. ap (λ b. is_number_of p.seat j || b) (gates j)
+    ∙ all_below-at p.table.config.callers j (λ i. is_number_of p.seat i || is_held (now_of p).words i) stopped lt)
 
 unmapped_left : (s : Seat) (run : RunPages) (w u v : World) (n : ℕ) → UnmappedTo s run w u n → IsAsLeft s u v
     → UnmappedTo s run w v n
@@ -160,14 +168,6 @@ module _ (p : PassState) (o : Option Op) (run : RunPages) (turn : IsTurn p o) (g
   there_low : (v : World) → phase_of v.now.words ≡ phase_of (now_of p).words → IsOutOfStop v.now
   there_low v same = out_of_stop (now_of p) v.now same low
 
-  stopped_there : (v : World) → ((j : ℕ) → is_held v.now.words j ≡ is_held (now_of p).words j)
-      → others_are_held p.table.config.callers (now_of p).words p.seat ≡ true
-      → others_are_held p.table.config.callers v.now.words p.seat ≡ true
-  stopped_there v gates stopped =
-      all_below_from p.table.config.callers (λ j. is_number_of p.seat j || is_held v.now.words j)
-      (λ j lt. ap (λ b. is_number_of p.seat j || b) (gates j)
-      ∙ all_below-at p.table.config.callers j (λ i. is_number_of p.seat i || is_held (now_of p).words i) stopped lt)
-
   pub unmap_may : (q : PassState) (n : ℕ) → HasUnmapped q n
       → others_are_held p.table.config.callers (now_of p).words p.seat ≡ true
       → (now_of p).seats.holding.freed ≡ Some run → n < run.count → run.page + run.count ≤ p.table.config.pages
@@ -180,7 +180,7 @@ module _ (p : PassState) (o : Option Op) (run : RunPages) (turn : IsTurn p o) (g
       (step.Head (run.page + n) (unmapped_header run.count n)))
       (may_unmap p.table.config v.now p.seat (there_acting v at.changes.call) (run.page + n)
       (unmapped_header run.count n) (omega arith)
-      (there_low v (ap (λ (x : Steady). x.phase) at.changes.steady)) (stopped_there v at.changes.gates stopped)
+      (there_low v (ap (λ (x : Steady). x.phase) at.changes.steady)) (still_stopped p v at.changes.gates stopped)
       (ap (λ (x : Option RunPages). unmaps v.now.words x (run.page + n) (unmapped_header run.count n)) here
       ∙ next_is v.now.words run.page run.count (unmapped_header run.count) n near (at.rest n (omega arith) near)
       at.done))
@@ -342,15 +342,16 @@ wiped_more c s run w u v n at kept (OfCaller k lt) stop room =
       ];
     }
 
+pub still_unmapped : (p : PassState) (run : RunPages) (v : World) (n : ℕ) → WipedTo p.seat run (world_of p) v n
+    → is_run_unmapped (now_of p).words run ≡ true → is_run_unmapped v.now.words run ≡ true
+still_unmapped p run v n at unmapped =
+    ap (λ (ps : List Page). all_below run.count (λ d. (slice_index_or ps (run.page + d) free_page).header ==
+    unmapped_header run.count d)) (ap (λ (x : Steady). x.pages) at.changes.steady) ∙ unmapped
+
 module _ (p : PassState) (o : Option Op) (run : RunPages) (turn : IsTurn p o) (give : (call_of p).stage ≡ stage.Give)
     (stopped : others_are_held p.table.config.callers (now_of p).words p.seat ≡ true) where
   abbrev pub HasWiped : PassState → ℕ → Type 0
-  HasWiped q n = ComesTo is_clearing p (λ v. WipedTo p.seat run (world_of p) v n) [] q
-
-  pub wiped_none : HasWiped p 0
-  wiped_none =
-      reaches_nothing is_clearing p (λ v. WipedTo p.seat run (world_of p) v 0)
-      (record { changes = changes_nothing p.seat (world_of p); zeros = λ i lt. absurd (omega arith) })
+  HasWiped q n = WipesTo p run n q
 
   wiping : IsActing p.table.config (now_of p) p.seat
   wiping = acting_now p o turn (give_acts (call_of p) give)
@@ -363,30 +364,16 @@ module _ (p : PassState) (o : Option Op) (run : RunPages) (turn : IsTurn p o) (g
         ∙ wiping.acts;
   }
 
-  stopped_then : (v : World) → ((j : ℕ) → is_held v.now.words j ≡ is_held (now_of p).words j)
-      → others_are_held p.table.config.callers v.now.words p.seat ≡ true
-  stopped_then v gates =
-      all_below_from p.table.config.callers (λ j. is_number_of p.seat j || is_held v.now.words j)
-      (λ j lt. ap (λ b. is_number_of p.seat j || b) (gates j)
-      ∙ all_below-at p.table.config.callers j (λ i. is_number_of p.seat i || is_held (now_of p).words i) stopped lt)
-
-  still_unmapped : (v : World) (n : ℕ) → WipedTo p.seat run (world_of p) v n
-      → is_run_unmapped (now_of p).words run ≡ true
-      → is_run_unmapped v.now.words run ≡ true
-  still_unmapped v n at unmapped =
-      ap (λ (ps : List Page). all_below run.count (λ d. (slice_index_or ps (run.page + d) free_page).header ==
-      unmapped_header run.count d)) (ap (λ (x : Steady). x.pages) at.changes.steady) ∙ unmapped
-
-  pub look_may : (q : PassState) (n : ℕ) → HasWiped q n → n < 64 * run.count
+  pub look_may : (q : PassState) (n k : ℕ) → HasWiped q n → k < 64 * run.count
       → run.page + run.count ≤ p.table.config.pages
-      → IsEnabledTo q (step.Look (word.Heap (64 * run.page + n)))
-  look_may q n reached near within =
+      → IsEnabledTo q (step.Look (word.Heap (64 * run.page + k)))
+  look_may q n k reached near within =
       let at = reached.world in
       reached_there is_clearing p q _ [] reached
-      (λ (x : PassState). IsEnabledTo x (step.Look (word.Heap (64 * run.page + n))))
+      (λ (x : PassState). IsEnabledTo x (step.Look (word.Heap (64 * run.page + k))))
       (may_look_heap p.table.config (left p.table.config q.seen).now p.seat
       (there_wiping (left p.table.config q.seen) at.changes.call)
-      (64 * run.page + n) (omega arith))
+      (64 * run.page + k) (omega arith))
 
   -- with the turn held, and all other gates
   with_turn : (q : PassState) (n : ℕ) → HasWiped q n → IsTurn q o
@@ -396,23 +383,23 @@ module _ (p : PassState) (o : Option Op) (run : RunPages) (turn : IsTurn p o) (g
       subst (λ (x : PassState). Holds x.table.config (now_of x) x.seat) reached.same holds.holds in
       reaches_so is_clearing p q (λ v. WipedTo p.seat run (world_of p) v n)
       (λ v. WipedTo p.seat run (world_of p) v n × HoldsAll p.table.config v.now p.seat) [] reached
-      (λ at. (at, (holds_here, stopped_then (left p.table.config q.seen) at.changes.gates)))
+      (λ at. (at, (holds_here, still_stopped p (left p.table.config q.seen) at.changes.gates stopped)))
 
-  pub looks_then : (q r : PassState) (n : ℕ) → HasWiped q n → IsTurn q o → n < 64 * run.count → run.count ≤ 64
+  pub looks_then : (q r : PassState) (n k : ℕ) → HasWiped q n → IsTurn q o → k < 64 * run.count → run.count ≤ 64
       → is_run_unmapped (now_of p).words run ≡ true
-      → Acts q (step.Look (word.Heap (64 * run.page + n))) r → Has q.seats q.seat → IsHistory r.table.config r.seen
+      → Acts q (step.Look (word.Heap (64 * run.page + k))) r → Has q.seats q.seat → IsHistory r.table.config r.seen
       → HasWiped r n
-  looks_then q r n reached holds near few unmapped a own history =
+  looks_then q r n k reached holds near few unmapped a own history =
       reaches_still_in_stop is_clearing p q r (λ v. WipedTo p.seat run (world_of p) v n
       × HoldsAll p.table.config v.now p.seat)
       (λ v. WipedTo p.seat run (world_of p) v n) []
-      (step.Look (word.Heap (64 * run.page + n))) (with_turn q n reached holds) a own history refl refl
+      (step.Look (word.Heap (64 * run.page + k))) (with_turn q n reached holds) a own history refl refl
       (acting_caller p (give_acts (call_of p) give)) refl
       (λ w v here kept stop known pages.
       let on = wiped_left p.seat run (world_of p) w v n here.0 kept (stop here.1) in
       let call = acting_has_call p.table.config v.now p.seat known.orderly.flights (there_wiping v on.changes.call) in
-      wiped_seen p.table.config p.seat run (world_of p) v n (64 * run.page + n) on call
-      (λ value. no_hand p.table.config v.now p.seat run n value (still_unmapped v n on unmapped) few near))
+      wiped_seen p.table.config p.seat run (world_of p) v n (64 * run.page + k) on call
+      (λ value. no_hand p.table.config v.now p.seat run k value (still_unmapped p run v n on unmapped) few near))
 
   -- The word was found to be 0.
   pub found_wiped : (q r : PassState) (n value : ℕ) → HasWiped r n
@@ -431,7 +418,7 @@ module _ (p : PassState) (o : Option Op) (run : RunPages) (turn : IsTurn p o) (g
       let v : World = left p.table.config q.seen in
       let at = reached.world in
       let here : v.now.seats.holding.freed ≡ Some run = ap (λ (h : Holding). h.freed) at.changes.holding ∙ freed in
-      let still = still_unmapped v n at unmapped in
+      let still = still_unmapped p run v n at unmapped in
       let word = 64 * run.page + n in
       let inside : is_in_run run word ≡ true =
       and_from (nat_le run.page (word / 64)) (nat_lt (word / 64 - run.page) run.count)
@@ -458,13 +445,3 @@ module _ (p : PassState) (o : Option Op) (run : RunPages) (turn : IsTurn p o) (g
       (there_wiping v (kept.call ∙ here.0.changes.call)) in
       let room = pages.heap in
       wiped_more p.table.config p.seat run (world_of p) w v n here.0 kept call (stop here.1) (omega arith))
-
-  pub wiped_all : (q : PassState) → HasWiped q (64 * run.count) → Wipes p run q
-  wiped_all q reached =
-      reaches_so is_clearing p q (λ v. WipedTo p.seat run (world_of p) v (64 * run.count))
-      (RunIsWiped p.seat run (world_of p)) [] reached
-      (λ at. record {
-        changes = at.changes;
-        wiped = all_below_from (64 * run.count) (λ i. slice_index _ (64 * run.page + i) == 0)
-            (λ i lt. eq-eqb _ 0 (at.zeros i lt));
-      })

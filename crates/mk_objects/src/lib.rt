@@ -12,6 +12,7 @@ mod placing;
 mod retiring;
 mod seeking;
 mod unmapping;
+mod wiping;
 
 pub use freeing::{Double, Freed, retire_object};
 pub use placing::place_object;

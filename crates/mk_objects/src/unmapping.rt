@@ -1,20 +1,21 @@
-//! The run of a large object that a Free has freed: its pages are unmapped and its words wiped, while the gates of all
-//! other callers are held.
+//! The run of a large object that a Free has freed: its pages are unmapped, and then its words wiped, while the gates of
+//! all other callers are held.
 ghost use Rattle.std.specs.Prelude.{◌≡◌, ℕ, ◌+◌, ◌<◌, ◌≤◌, true, false, Some};
 ghost use Rattle.mk_core.specs.declared.seats.Stage.TheVariants as stage;
-ghost use Rattle.mk_core.specs.NewPlaces.{is_run_unmapped, unmapped_header};
+ghost use Rattle.mk_core.specs.NewPlaces.{unmapped_header};
 ghost use Rattle.mk_geom.specs.Headers.{IsInRange};
 ghost use Rattle.mk_geom.specs.Storages.{run_header};
 ghost use Rattle.mk_words.specs.States.{call_of, now_of};
 ghost use Rattle.mk_words.specs.TurnSteps.{IsStopped};
 ghost use Rattle.mk_objects.specs.Deciding.{ClearsRun};
-ghost use Rattle.mk_objects.specs.FreeParts.{HoldsOthers, Unmaps, Wipes};
+ghost use Rattle.mk_objects.specs.FreeParts.{HoldsOthers, Unmaps};
 ghost use Rattle.mk_objects.specs.Placing.{IsOutOfStop};
 ghost use Rattle.mk_objects.specs.Unmapping.{IsStillMapped};
 
 use crate::gates::open_gates;
-use mk_core::{RunPages, Word};
-use mk_geom::{Header, PAGE_WORDS, encode};
+use crate::wiping::wipe_run;
+use mk_core::RunPages;
+use mk_geom::{Header, encode};
 use mk_words::{Turn, Words};
 
 /// The header of an unmapped run's page.
@@ -71,32 +72,6 @@ pub(crate) fn unmap_run(words: &Words, turn: &mut Turn, run: RunPages)
             unmapped_header(run.count, distance),
         );
         turn.is_in_order();
-    }
-}
-
-/// Wipes the words of the run that the call has freed and unmapped. A word that is 0 isn't stored to.
-pub(crate) fn wipe_run(words: &Words, turn: &mut Turn, run: RunPages)
-    requires one_table { turn.old.pass.table ≡ words.now }
-    requires decided { (call_of turn.old.pass).stage ≡ stage.Give }
-    requires stopped { IsStopped turn.old }
-    requires freed { (now_of turn.old.pass).seats.holding.freed ≡ Some run }
-    requires unmapped { is_run_unmapped (now_of turn.old.pass).words run ≡ true }
-    requires few { run.count ≤ 64 }
-    requires within { run.page + run.count ≤ turn.old.pass.table.config.pages }
-    ensures op { turn.new.op ≡ turn.old.op }
-    ensures wipes { Wipes turn.old.pass run turn.new.pass }
-{
-    words.is_within_limits();
-    turn.is_in_order();
-    let pages = words.pages();
-    for word in 0..PAGE_WORDS * run.count {
-        turn.is_in_order();
-        let found = turn.look_among(words, pages, Word::Heap(PAGE_WORDS * run.page + word));
-        turn.is_in_order();
-        if found != 0 {
-            turn.wipe(words, PAGE_WORDS * run.page + word);
-            turn.is_in_order();
-        }
     }
 }
 

@@ -72,7 +72,11 @@ pub(crate) fn put(sets: &mut [u64], set: usize, page: u64, inside: bool)
 {
     let summary = SET_WORDS * set;
     let at = summary + 1 + (page / 64) as usize;
-    let word = with_bit(sets[at], page % 64, inside);
+    let found = sets[at];
+    let word = with_bit(found, page % 64, inside);
+    if word == found {
+        return;
+    }
     sets[at] = word;
     sets[summary] = with_bit(sets[summary], page / 64, word != 0);
 }

@@ -2,6 +2,10 @@ use Rattle.mk_cycle.proofs.CleaningSteps.{cleans_then}
 use Rattle.mk_cycle.proofs.Undirty.{undirty_earlier}
 use Rattle.mk_cycle.proofs.cleaning.clean_words.Goals as goal
 
+pub clear_black-requires-clause-found : goal.clear_black-requires-clause-found
+clear_black-requires-clause-found c none =
+    c.clear_marks.ensures.cleans.unscanned c.args.page (c.requires.blacks none)
+
 pub returns-clause-cleans : goal.returns-clause-cleans
 returns-clause-cleans c =
     cleans_then _ _ _ c.clear_marks.ensures.cleans
@@ -16,7 +20,7 @@ returns-clause-bare c =
     }
 
 pub returns-clause-undirty : goal.returns-clause-undirty
-returns-clause-undirty c =
+returns-clause-undirty c some =
     undirty_earlier _ _ _ c.args.page
     (cleans_then _ _ _ c.clear_marks.ensures.cleans c.clear_black.ensures.cleans)
-    c.clear_dirty.ensures.undirty
+    (c.clear_dirty.ensures.undirty some)

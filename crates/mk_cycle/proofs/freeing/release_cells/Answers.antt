@@ -1,69 +1,90 @@
-use Rattle.std.proofs.Common.{sym, ◌∙◌}
-use Rattle.std.proofs.lemmas.Nat.{zero_from_ones}
-use Rattle.mk_cycle.proofs.FreeingSteps.{freed_free, freed_phase}
-use Rattle.mk_cycle.proofs.GivingSteps.{look_frees, none_at_once, none_then}
+-- A page's quarantine and mark words are looked at once each, and say what is released on it.
+use Rattle.std.proofs.Common.{◌≡◌, ◌/◌, ◌^◌, sym, ◌∙◌}
+use Rattle.mk_core.specs.Cells.{left_unmarked}
+use Rattle.mk_core.specs.Words.{header_at}
+use Rattle.mk_words.specs.States.{PassState, now_of}
+use Rattle.mk_cycle.specs.Freeing.{GivesNothingBack}
+use Rattle.mk_cycle.specs.ReleasedPages.{released_on}
+use Rattle.mk_cycle.proofs.CountedPages.{counted_on, nothing_on, snapshot_told}
+use Rattle.mk_cycle.proofs.FreeingSteps.{freed_free}
+use Rattle.mk_cycle.proofs.GivingSteps.{none_at_once, none_then}
 use Rattle.mk_cycle.proofs.PageSteps.{same_header}
-use Rattle.mk_cycle.proofs.SettledPages.{free_cells_stay, gives_none, gives_then, marked_gone}
+use Rattle.mk_cycle.proofs.SettledPages.{free_cells_stay, gives_none, gives_then, marked_gone, none_left_on}
 use Rattle.mk_cycle.proofs.freeing.release_cells.Goals as goal
+use Rattle.mk_cycle.proofs.freeing.release_cells.Goals.{After-without-gone}
 
-pub look-marks-requires-clause-free : goal.look-marks-requires-clause-free
-look-marks-requires-clause-free c =
-    let first = look_frees _ _ c.look-quarantine.ensures.was c.look-quarantine.ensures.is c.requires.free
-    c.requires.phase _ c.look-quarantine.ensures.acts in
-    freed_free _ _ first.frees c.requires.free
+pub returns-then-snapshot-eq0-clause-exact : goal.returns-then-snapshot-eq0-clause-exact
+returns-then-snapshot-eq0-clause-exact c =
+    let x = c.look-quarantine.ensures in
+    nothing_on (now_of c.args.turn.now.pass).words c.args.page
+    (sym (snapshot_told c.args.turn.now.pass c.look-quarantine.new.turn.pass c.args.page c.look-quarantine.result x.is
+    x.frees x.reads)
+    ∙ c.if-snapshot-eq0.true)
+
+pub returns-then-snapshot-eq0-clause-gives : goal.returns-then-snapshot-eq0-clause-gives
+returns-then-snapshot-eq0-clause-gives c =
+    let x = c.look-quarantine.ensures in
+    gives_none c.args.page _ _ x.frees
+    (none_left_on c.look-quarantine.new.turn.pass c.args.page c.look-quarantine.result x.is x.reads
+    c.if-snapshot-eq0.true)
+
+-- with both words
+both : (c : After-without-gone) → GivesNothingBack c.args.turn.now.pass c.look-marks.new.turn.pass
+both c = none_then _ _ _ c.look-quarantine.ensures.frees c.look-marks.ensures.frees
+
+header : (c : After-without-gone) → c.args.header ≡ header_at (now_of c.look-marks.new.turn.pass).words c.args.page
+header c =
+    c.requires.header
+    ∙ sym (same_header c.args.turn.now.pass c.look-marks.new.turn.pass c.args.page ((both c).same c.args.page))
+
+gone : (c : After-without-gone)
+    → c.without-gone.result ≡ left_unmarked (now_of c.look-marks.new.turn.pass).words c.args.page
+gone c =
+    let x = c.look-quarantine.ensures in
+    let y = c.look-marks.ensures in
+    c.without-gone.ensures
+    ∙ marked_gone c.look-quarantine.new.turn.pass c.look-marks.new.turn.pass c.args.page c.look-quarantine.result
+    c.look-marks.result x.is y.frees x.reads y.reads
+
+counted : (c : After-without-gone)
+    → c.released_cells-released.result ≡ released_on (now_of c.args.turn.now.pass).words c.args.page
+counted c =
+    let p : PassState = c.args.turn.now.pass in
+    let b : PassState = c.look-marks.new.turn.pass in
+    let x = c.look-quarantine.ensures in
+    let y = c.look-marks.ensures in
+    let r = c.released_cells-released.ensures in
+    counted_on p b b c.args.page (c.look-quarantine.result / 2 ^ 32) c.look-marks.result c.args.header
+    c.released_cells-released.result (both c) (none_at_once b)
+    (snapshot_told p c.look-quarantine.new.turn.pass c.args.page c.look-quarantine.result x.is x.frees x.reads)
+    y.reads (header c) r.count r.words r.kept
+
+pub returns-then-gone-eq0-clause-exact : goal.returns-then-gone-eq0-clause-exact
+returns-then-gone-eq0-clause-exact c = counted (goal.at.returns-then-gone-eq0-clause-exact c).After-without-gone
+
+pub returns-then-gone-eq0-clause-gives : goal.returns-then-gone-eq0-clause-gives
+returns-then-gone-eq0-clause-gives c =
+    let x = goal.at.returns-then-gone-eq0-clause-gives c in
+    gives_none c.args.page _ _ (both x.After-without-gone) (sym (gone x.After-without-gone) ∙ c.if-gone-eq0.true)
 
 pub give_back-requires-clause-free : goal.give_back-requires-clause-free
 give_back-requires-clause-free c =
-    let first = look_frees _ _ c.look-quarantine.ensures.was c.look-quarantine.ensures.is c.requires.free
-    c.requires.phase _ c.look-quarantine.ensures.acts in
-    let free = freed_free _ _ first.frees c.requires.free in
-    let next = look_frees _ _ c.look-marks.ensures.was c.look-marks.ensures.is free
-    (freed_phase _ _ first.frees c.requires.phase) _ c.look-marks.ensures.acts in
-    freed_free _ _ next.frees free
+    freed_free _ _ (both (goal.at.give_back-requires-clause-free c).After-without-gone).frees c.requires.free
 
 pub give_back-requires-clause-header : goal.give_back-requires-clause-header
-give_back-requires-clause-header c =
-    let first = look_frees _ _ c.look-quarantine.ensures.was c.look-quarantine.ensures.is c.requires.free
-    c.requires.phase _ c.look-quarantine.ensures.acts in
-    let free = freed_free _ _ first.frees c.requires.free in
-    let next = look_frees _ _ c.look-marks.ensures.was c.look-marks.ensures.is free
-    (freed_phase _ _ first.frees c.requires.phase) _ c.look-marks.ensures.acts in
-    c.requires.header ∙ sym
-    (same_header c.args.turn.now.pass c.look-marks.new.turn.pass c.args.page
-    ((none_then _ _ _ first next).same c.args.page))
+give_back-requires-clause-header c = header (goal.at.give_back-requires-clause-header c).After-without-gone
 
 pub give_back-requires-clause-gone : goal.give_back-requires-clause-gone
-give_back-requires-clause-gone c =
-    let first = look_frees _ _ c.look-quarantine.ensures.was c.look-quarantine.ensures.is c.requires.free
-    c.requires.phase _ c.look-quarantine.ensures.acts in
-    let free = freed_free _ _ first.frees c.requires.free in
-    let next = look_frees _ _ c.look-marks.ensures.was c.look-marks.ensures.is free
-    (freed_phase _ _ first.frees c.requires.phase) _ c.look-marks.ensures.acts in
-    c.without-gone.ensures
-    ∙ marked_gone c.look-quarantine.new.turn.pass c.look-marks.new.turn.pass c.args.page c.look-quarantine.result
-    c.look-marks.result
-    c.look-quarantine.ensures.is next c.look-quarantine.ensures.reads c.look-marks.ensures.reads
+give_back-requires-clause-gone c = gone (goal.at.give_back-requires-clause-gone c).After-without-gone
 
 pub give_back-requires-clause-cells : goal.give_back-requires-clause-cells
 give_back-requires-clause-cells c =
-    let first = look_frees _ _ c.look-quarantine.ensures.was c.look-quarantine.ensures.is c.requires.free
-    c.requires.phase _ c.look-quarantine.ensures.acts in
-    let free = freed_free _ _ first.frees c.requires.free in
-    let next = look_frees _ _ c.look-marks.ensures.was c.look-marks.ensures.is free
-    (freed_phase _ _ first.frees c.requires.phase) _ c.look-marks.ensures.acts in
-    let both = none_then _ _ _ first next in
+    let both = both (goal.at.give_back-requires-clause-cells c).After-without-gone in
     free_cells_stay _ _ c.args.page both.frees (both.same c.args.page) c.requires.cells
 
-pub returns-then-count-eq0-clause-gives : goal.returns-then-count-eq0-clause-gives
-returns-then-count-eq0-clause-gives c =
-    gives_none c.args.page _ _ (none_at_once c.args.turn.now.pass)
-    (zero_from_ones _ (sym c.requires.count ∙ c.if-count-eq0.true))
+pub returns-clause-exact : goal.returns-clause-exact
+returns-clause-exact c = counted (goal.at.returns-clause-exact c).After-without-gone
 
 pub returns-clause-gives : goal.returns-clause-gives
 returns-clause-gives c =
-    let first = look_frees _ _ c.look-quarantine.ensures.was c.look-quarantine.ensures.is c.requires.free
-    c.requires.phase _ c.look-quarantine.ensures.acts in
-    let free = freed_free _ _ first.frees c.requires.free in
-    let next = look_frees _ _ c.look-marks.ensures.was c.look-marks.ensures.is free
-    (freed_phase _ _ first.frees c.requires.phase) _ c.look-marks.ensures.acts in
-    gives_then c.args.page _ _ _ (none_then _ _ _ first next) c.give_back.ensures.gives
+    gives_then c.args.page _ _ _ (both (goal.at.returns-clause-gives c).After-without-gone) c.give_back.ensures.gives

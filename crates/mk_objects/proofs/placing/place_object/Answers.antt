@@ -1,4 +1,4 @@
-use Rattle.std.proofs.Common.{◌<◌, List, length, sym, ◌∙◌, ap, arith}
+use Rattle.std.proofs.Common.{List, length, sym, ◌∙◌, ap, arith}
 use Rattle.std.specs.Prelude.{Some, None}
 use Rattle.mk_geom.specs.declared.pages.Page.{Page}
 use Rattle.mk_core.proofs.Lengths.{histories_keep_lengths}

@@ -1,4 +1,4 @@
-use Rattle.std.proofs.Common.{rules, ap, ◌∙◌}
+use Rattle.std.proofs.Common.{rules, ap}
 use Rattle.mk_geom.specs.declared.pages.Page.{Page}
 use Rattle.mk_words.specs.States.{now_of}
 use Rattle.mk_objects.proofs.SoughtPlaces.{cell_told}

@@ -1,9 +1,5 @@
-use Rattle.std.proofs.Common.{◌≡◌, List, Some, ℕ, sym, ◌∙◌, arith}
-use Rattle.mk_geom.specs.declared.pages.Page.{Page}
-use Rattle.mk_geom.specs.PageUses.{first_where}
-use Rattle.mk_geom.specs.PageWords.{uses_of_pages}
+use Rattle.std.proofs.Common.{sym, ◌∙◌, arith}
 use Rattle.mk_core.proofs.Lengths.{histories_keep_lengths}
-use Rattle.mk_page_map.specs.Members.{has_free_cell}
 use Rattle.mk_words.specs.States.{PassState, now_of}
 use Rattle.mk_objects.proofs.SoughtPlaces.{block_found, place_in_block}
 use Rattle.mk_objects.proofs.seeking.seek_small.Goals as goal

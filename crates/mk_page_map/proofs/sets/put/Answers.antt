@@ -1,4 +1,4 @@
-use Rattle.std.proofs.Common.{ℕ, ◌∙◌, ap}
+use Rattle.std.proofs.Common.{ℕ, ◌%◌, ◌∙◌, ap, nat_eq, sym}
 use Rattle.std.specs.Int.{bit_at}
 use Rattle.mk_page_map.proofs.SetWords.{Puts, put_are_sets, put_this, put_other_sets, put_other_pages, summary_stays}
 use Rattle.mk_page_map.proofs.sets.put.Goals as goal
@@ -29,3 +29,8 @@ returns-clause-other_sets c other is_set differ = put_other_sets _ _ _ _ _ _ (pu
 
 pub returns-clause-other_pages : goal.returns-clause-other_pages
 returns-clause-other_pages c = put_other_pages _ _ _ _ _ _ (puts c)
+
+-- the page is as it is to be, so nothing changes
+pub returns-then-word-found-clause-this : goal.returns-then-word-found-clause-this
+returns-then-word-found-clause-this c =
+    ap (λ n. nat_eq (bit_at n (c.args.page % 64)) 1) (sym c.if-word-found.true) ∙ c.with_bit-word.ensures.this

@@ -1,0 +1,75 @@
+use Rattle.std.proofs.Common.{◌≡◌, ◌+◌, ◌*◌, ◌<◌, refl, sym, ap, subst, ◌∙◌, arith}
+use Rattle.mk_words.specs.States.{PassState, TurnState}
+use Rattle.mk_words.specs.TurnSteps.{IsTurn}
+use Rattle.mk_objects.specs.Unmapping.{WipesTo}
+use Rattle.mk_objects.proofs.UnmappedRuns.{found_wiped, look_may, looks_then, wipe_may, wipes_on}
+use Rattle.mk_objects.proofs.WipedRuns.{wiped_from}
+use Rattle.mk_objects.proofs.wiping.wipe_words.Goals as goal
+use Rattle.mk_objects.proofs.wiping.wipe_words.Goals.{then-found-ne0, else-found-ne0}
+
+pub loop-word-init : goal.loop-word-init
+loop-word-init c =
+    record {
+      op = refl;
+      wiped = wiped_from c.args.turn.now.pass c.args.run c.args.first c.requires.wiped;
+    }
+
+pub look_among-found-requires-clause-enabled : goal.look_among-found-requires-clause-enabled
+look_among-found-requires-clause-enabled c =
+    look_may c.args.turn.now.pass c.args.turn.now.op c.args.run c.is_in_order.ensures.turn c.requires.may.decided
+    c.requires.may.stopped c.loop-word.turn.pass c.loop-word.word c.loop-word.word c.loop-word.invariant.wiped
+    (omega (arith, c.requires.group, c.loop-word-test.true)) c.requires.may.within
+
+pub wipe-requires-clause-enabled : goal.wipe-requires-clause-enabled
+wipe-requires-clause-enabled c =
+    let p : PassState = c.args.turn.now.pass in
+    let holds = subst (λ o. IsTurn c.loop-word.turn.pass o) c.loop-word.invariant.op
+    c.is_in_order-in-loop-word.ensures.turn in
+    wipe_may p c.args.turn.now.op c.args.run c.is_in_order.ensures.turn c.requires.may.decided c.requires.may.stopped
+    c.look_among-found.new.self.pass c.loop-word.word
+    (looks_then p c.args.turn.now.op c.args.run c.is_in_order.ensures.turn c.requires.may.decided c.requires.may.stopped
+    c.loop-word.turn.pass c.look_among-found.new.self.pass c.loop-word.word c.loop-word.word c.loop-word.invariant.wiped
+    holds (omega (arith, c.requires.group, c.loop-word-test.true)) c.requires.may.few c.requires.may.unmapped c.look_among-found.ensures.acts
+    c.is_in_order-in-loop-word.ensures.own c.is_in_order-in-loop-word-2.ensures.history)
+    c.requires.may.freed c.requires.may.unmapped
+    (omega (arith, c.requires.group, c.loop-word-test.true)) c.requires.may.within
+
+pub loop-word-preserved : goal.loop-word-preserved
+loop-word-preserved c =
+    let p : PassState = c.args.turn.now.pass in
+    let i = c.loop-word.invariant in
+    let n = c.loop-word.word in
+    let q : PassState = c.look_among-found.new.self.pass in
+    let holds = subst (λ o. IsTurn c.loop-word.turn.pass o) i.op c.is_in_order-in-loop-word.ensures.turn in
+    let near : n < 64 * c.args.run.count = omega (arith, c.requires.group, c.loop-word-test.true) in
+    let seen = looks_then p c.args.turn.now.op c.args.run c.is_in_order.ensures.turn c.requires.may.decided
+    c.requires.may.stopped c.loop-word.turn.pass q n n i.wiped holds near c.requires.may.few
+    c.requires.may.unmapped c.look_among-found.ensures.acts c.is_in_order-in-loop-word.ensures.own
+    c.is_in_order-in-loop-word-2.ensures.history in
+    elim c.if-found-ne0.branch [
+      | then-found-ne0 w ↦
+          let still = subst (λ o. IsTurn q o) (c.look_among-found.ensures.op ∙ i.op)
+          c.is_in_order-in-loop-word-2.ensures.turn in
+          record {
+            op = ap (λ (t : TurnState). t.op) w.turn-is ∙ w.wipe.ensures.op ∙ c.look_among-found.ensures.op ∙ i.op;
+            wiped = subst (λ (t : TurnState). WipesTo p c.args.run (n + 1) t.pass) (sym w.turn-is)
+                (wipes_on p c.args.turn.now.op c.args.run c.is_in_order.ensures.turn c.requires.may.decided
+                c.requires.may.stopped q w.wipe.new.self.pass n seen still near c.requires.may.within
+                w.wipe.ensures.acts c.is_in_order-in-loop-word-2.ensures.own
+                w.is_in_order-then-found-ne0.ensures.history);
+          }
+      | else-found-ne0 w ↦
+          record {
+            op = ap (λ (t : TurnState). t.op) w.turn-is ∙ c.look_among-found.ensures.op ∙ i.op;
+            wiped = subst (λ (t : TurnState). WipesTo p c.args.run (n + 1) t.pass) (sym w.turn-is)
+                (found_wiped p c.args.turn.now.op c.args.run c.is_in_order.ensures.turn c.requires.may.decided
+                c.requires.may.stopped c.loop-word.turn.pass q n c.look_among-found.result seen
+                c.look_among-found.ensures.finds
+                w.if-found-ne0.false);
+          }
+    ]
+
+pub returns-clause-wipes : goal.returns-clause-wipes
+returns-clause-wipes c =
+    let all : c.loop-word.word ≡ c.args.first + 8 = omega (arith, c.loop-word-test.false, c.loop-word.auto.word-end) in
+    subst (λ n. WipesTo c.args.turn.now.pass c.args.run n c.loop-word.turn.pass) all c.loop-word.invariant.wiped

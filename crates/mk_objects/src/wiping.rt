@@ -1,0 +1,98 @@
+//! The words of the run of a large object that a Free has freed and unmapped are wiped. Most are 0 already, so those of a
+//! group are looked at together first. A word that is 0 isn't stored to.
+ghost use Rattle.std.specs.Prelude.{◌≡◌, ◌+◌, ◌*◌, ◌≤◌, true, Some};
+ghost use Rattle.mk_core.specs.declared.seats.Stage.TheVariants as stage;
+ghost use Rattle.mk_core.specs.NewPlaces.{is_run_unmapped};
+ghost use Rattle.mk_words.specs.States.{call_of, now_of};
+ghost use Rattle.mk_words.specs.TurnSteps.{IsStopped};
+ghost use Rattle.mk_objects.specs.FreeParts.{Wipes};
+ghost use Rattle.mk_objects.specs.Unmapping.{AreWiped, MayWipe, WipesTo};
+
+use mk_core::{RunPages, Word};
+use mk_geom::PAGE_WORDS;
+use mk_words::{Turn, Words};
+
+/// The words of a page are groups of this many.
+const GROUP: u64 = 8;
+
+/// Looks at a group of words of the run, from this one on. Returns true only where all are 0.
+#[inline(always)]
+fn are_zero(words: &Words, turn: &mut Turn, pages: u64, run: RunPages, first: u64) -> bool
+    requires one_table { turn.old.pass.table ≡ words.now }
+    requires pages { pages ≡ words.now.config.pages }
+    requires may { MayWipe turn.old.pass run }
+    requires group { first + 8 ≤ 64 * run.count }
+    requires wiped { AreWiped (now_of turn.old.pass).words run first }
+    ensures op { turn.new.op ≡ turn.old.op }
+    ensures still { WipesTo turn.old.pass run first turn.new.pass }
+    ensures zero { result ≡ true → WipesTo turn.old.pass run (first + 8) turn.new.pass }
+{
+    words.is_within_limits();
+    turn.is_in_order();
+    let mut all = 0;
+    for word in first..first + GROUP {
+        turn.is_in_order();
+        all |= turn.look_among(words, pages, Word::Heap(PAGE_WORDS * run.page + word));
+        turn.is_in_order();
+    }
+    all == 0
+}
+
+/// Wipes a group of words of the run, from this one on. It isn't inlined, since few groups need it.
+#[inline(never)]
+fn wipe_words(words: &Words, turn: &mut Turn, pages: u64, run: RunPages, first: u64)
+    requires one_table { turn.old.pass.table ≡ words.now }
+    requires pages { pages ≡ words.now.config.pages }
+    requires may { MayWipe turn.old.pass run }
+    requires group { first + 8 ≤ 64 * run.count }
+    requires wiped { AreWiped (now_of turn.old.pass).words run first }
+    ensures op { turn.new.op ≡ turn.old.op }
+    ensures wipes { WipesTo turn.old.pass run (first + 8) turn.new.pass }
+{
+    words.is_within_limits();
+    turn.is_in_order();
+    for word in first..first + GROUP {
+        turn.is_in_order();
+        let found = turn.look_among(words, pages, Word::Heap(PAGE_WORDS * run.page + word));
+        turn.is_in_order();
+        if found != 0 {
+            turn.wipe(words, PAGE_WORDS * run.page + word);
+            turn.is_in_order();
+        }
+    }
+}
+
+/// Wipes what isn't 0 of a group of words of the run, from this one on.
+#[inline(always)]
+fn wipe_group(words: &Words, turn: &mut Turn, pages: u64, run: RunPages, first: u64)
+    requires one_table { turn.old.pass.table ≡ words.now }
+    requires pages { pages ≡ words.now.config.pages }
+    requires may { MayWipe turn.old.pass run }
+    requires group { first + 8 ≤ 64 * run.count }
+    requires wiped { AreWiped (now_of turn.old.pass).words run first }
+    ensures op { turn.new.op ≡ turn.old.op }
+    ensures wipes { WipesTo turn.old.pass run (first + 8) turn.new.pass }
+{
+    if are_zero(words, turn, pages, run, first) {
+        return;
+    }
+    wipe_words(words, turn, pages, run, first);
+}
+
+/// Wipes the words of the run that the call has freed and unmapped.
+pub(crate) fn wipe_run(words: &Words, turn: &mut Turn, run: RunPages)
+    requires one_table { turn.old.pass.table ≡ words.now }
+    requires decided { (call_of turn.old.pass).stage ≡ stage.Give }
+    requires stopped { IsStopped turn.old }
+    requires freed { (now_of turn.old.pass).seats.holding.freed ≡ Some run }
+    requires unmapped { is_run_unmapped (now_of turn.old.pass).words run ≡ true }
+    requires few { run.count ≤ 64 }
+    requires within { run.page + run.count ≤ turn.old.pass.table.config.pages }
+    ensures op { turn.new.op ≡ turn.old.op }
+    ensures wipes { Wipes turn.old.pass run turn.new.pass }
+{
+    let pages = words.pages();
+    for group in 0..PAGE_WORDS / GROUP * run.count {
+        wipe_group(words, turn, pages, run, GROUP * group);
+    }
+}
