@@ -1,7 +1,7 @@
 //! The steps of a caller's call, between its `enter` and its `leave`. The order is that of the operation's steps.
 //!
-//! A number that the event doesn't carry is the one that the pass's own list gives for the step. Who makes a call has the
-//! caller's number and the number of pages at hand, so neither is loaded again after each access.
+//! A number that the event doesn't carry is the one that the pass's own list gives for the step. Who makes a call has
+//! the caller's number and the number of pages at hand, so neither is loaded again after each access.
 ghost use Rattle.std.specs.Prelude.{◌≡◌, OnOk, OnErr, Some, None};
 ghost use Rattle.mk_core.specs.declared.accesses.Access.TheVariants.{Load, Store};
 ghost use Rattle.mk_core.specs.declared.events.Answer.TheVariants as answer;
