@@ -209,7 +209,9 @@ pub(crate) fn probe(words: &Words, pass: &mut Pass, u: u64, i: u64) -> Option<u6
     pass.is_in_order();
     words.is_within_limits();
     let word = (u - HEAP_START) / WORD_BYTES + i;
-    let header = pass.probe(words, word / PAGE_WORDS);
+    // The number of a word fits 32 bits, in which its page is a single shift away.
+    let page = u64::from(word as u32 / PAGE_WORDS as u32);
+    let header = pass.probe(words, page);
     pass.is_in_order();
     if is_unmapped(header) {
         None
