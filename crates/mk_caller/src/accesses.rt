@@ -10,7 +10,7 @@ ghost use Rattle.mk_core.specs.Accesses.{reg_access};
 ghost use Rattle.mk_core.specs.Calls.{at_rest, onward, stage_refused, stage_behind, steps_of, q_of, i_of, d_of};
 ghost use Rattle.mk_core.specs.Calls.{word_met, progress_reg};
 ghost use Rattle.mk_words.specs.States.{call_of};
-ghost use Rattle.mk_caller.specs.States.{value_of};
+ghost use Rattle.mk_caller.specs.States.{caller_of_pass, value_of};
 ghost use Rattle.mk_caller.specs.Causes.{Probes, ProbesAWord, IsRefused};
 ghost use Rattle.mk_caller.specs.Moves.{MayBeginCall, IsUnderway, IsAtFlight, Ends, CallGoesOn, is_access};
 ghost use Rattle.mk_caller.specs.Moves.{stores_register, refused_register};
@@ -22,8 +22,9 @@ use mk_never::Op;
 use mk_words::{Pass, Words};
 
 /// Ends a call that is refused: the register that it would have loaded becomes null.
-pub(crate) fn refuse(words: &Words, pass: &mut Pass, d: Option<u8>)
+pub(crate) fn refuse(words: &Words, caller: u64, pass: &mut Pass, d: Option<u8>)
     requires one_table { pass.old.table ≡ words.now }
+    requires caller { caller ≡ caller_of_pass pass.old }
     requires underway { IsUnderway pass.old }
     requires stage { (call_of pass.old).stage ≡ stage_refused (call_of pass.old).op }
     requires loaded { (call_of pass.old).loaded ≡ 0 }
@@ -32,17 +33,18 @@ pub(crate) fn refuse(words: &Words, pass: &mut Pass, d: Option<u8>)
 {
     match d {
         Some(d) => {
-            store(words, pass, d, 0);
-            leave(words, pass);
+            store(words, caller, pass, d, 0);
+            leave(words, caller, pass);
         }
-        None => leave(words, pass),
+        None => leave(words, caller, pass),
     }
 }
 
 /// Stores the last register of a call, and ends it.
 #[inline(always)]
-pub(crate) fn store_and_leave(words: &Words, pass: &mut Pass, d: u8, v: u64)
+pub(crate) fn store_and_leave(words: &Words, caller: u64, pass: &mut Pass, d: u8, v: u64)
     requires one_table { pass.old.table ≡ words.now }
+    requires caller { caller ≡ caller_of_pass pass.old }
     requires underway { IsUnderway pass.old }
     requires stage { stores_register (call_of pass.old).stage ≡ true }
     requires register { d ≡ d_of (call_of pass.old).op }
@@ -50,34 +52,38 @@ pub(crate) fn store_and_leave(words: &Words, pass: &mut Pass, d: u8, v: u64)
     requires last { (loads v (call_of pass.old)).flight.stage ≡ stage.Leave }
     ensures { Ends pass.old (step.Reg ∷ step.Leave ∷ []) (loads v (call_of pass.old)).answer pass.new }
 {
-    store(words, pass, d, v);
-    leave(words, pass);
+    store(words, caller, pass, d, v);
+    leave(words, caller, pass);
 }
 
 /// Marks the page of the word that a call wrote, and ends it.
 #[inline(always)]
-pub(crate) fn mark_and_leave(words: &Words, pass: &mut Pass, word: u64)
+pub(crate) fn mark_and_leave(words: &Words, caller: u64, pages: u64, pass: &mut Pass, word: u64)
     requires one_table { pass.old.table ≡ words.now }
+    requires caller { caller ≡ caller_of_pass pass.old }
+    requires pages { pages ≡ words.now.config.pages }
     requires underway { IsUnderway pass.old }
     requires stage { (call_of pass.old).stage ≡ stage.Dirty }
     requires word { word ≡ word_met (call_of pass.old) }
     requires last { stage_behind stage.Dirty (steps_of (call_of pass.old).op) ≡ stage.Leave }
     ensures { Ends pass.old (step.Dirty ∷ step.Leave ∷ []) None pass.new }
 {
-    dirty(words, pass, word / 64);
-    leave(words, pass);
+    dirty(words, pages, pass, word / 64);
+    leave(words, caller, pass);
 }
 
 /// Begins a call that accesses through register q, and loads that. A call through null is refused, and ends.
 #[inline(always)]
 pub(crate) fn begin_access(
     words: &Words,
+    caller: u64,
     pass: &mut Pass,
     op: Op,
     d: Option<u8>,
     q: u8,
 ) -> Result<u64, Refusal>
     requires one_table { pass.old.table ≡ words.now }
+    requires caller { caller ≡ caller_of_pass pass.old }
     requires ready { MayBeginCall pass.old op }
     requires access { is_access op ≡ true }
     requires from { q ≡ q_of op }
@@ -87,12 +93,12 @@ pub(crate) fn begin_access(
     ensures some { IfOk result (λ u. value_of pass.old q ≢ Null) }
     ensures refused { IfErr result (λ e. IsRefused pass.old op e pass.new) }
 {
-    match enter(words, pass, op) {
+    match enter(words, caller, pass, op) {
         Err(_) => Err(Refusal::Held),
         Ok(()) => {
-            let u = load(words, pass, q);
+            let u = load(words, caller, pass, q);
             if u == 0 {
-                refuse(words, pass, d);
+                refuse(words, caller, pass, d);
                 Err(Refusal::Null)
             } else {
                 Ok(u)
@@ -106,12 +112,14 @@ pub(crate) fn begin_access(
 #[inline(always)]
 pub(crate) fn probe_access(
     words: &Words,
+    caller: u64,
     pass: &mut Pass,
     d: Option<u8>,
     u: u64,
     i: u64,
 ) -> Option<u64>
     requires one_table { pass.old.table ≡ words.now }
+    requires caller { caller ≡ caller_of_pass pass.old }
     requires underway { IsUnderway pass.old }
     requires stage { (call_of pass.old).stage ≡ stage.Probe }
     requires access { is_access (call_of pass.old).op ≡ true }
@@ -126,7 +134,7 @@ pub(crate) fn probe_access(
 {
     match probe(words, pass, u, i) {
         None => {
-            refuse(words, pass, d);
+            refuse(words, caller, pass, d);
             None
         }
         Some(word) => Some(word),

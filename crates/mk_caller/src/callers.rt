@@ -131,7 +131,7 @@ impl<'h> Caller<'h> {
         ensures refused { IfErr result (λ e. IsRefused self.old.pass (op.GetNum q i) e self.new.pass) }
     {
         match &mut self.pass {
-            Some(pass) => calls::get_num(self.words, pass, q, i),
+            Some(pass) => calls::get_num(self.words, self.number, self.words.pages(), pass, q, i),
             None => unreachable!(),
         }
     }
@@ -147,7 +147,15 @@ impl<'h> Caller<'h> {
         ensures refused { IfErr result (λ e. IsRefused self.old.pass (op.SetNum q i n) e self.new.pass) }
     {
         match &mut self.pass {
-            Some(pass) => calls::set_num(self.words, pass, q, i, n),
+            Some(pass) => calls::set_num(
+                self.words,
+                self.number,
+                self.words.pages(),
+                pass,
+                q,
+                i,
+                n,
+            ),
             None => unreachable!(),
         }
     }
@@ -163,7 +171,15 @@ impl<'h> Caller<'h> {
         ensures refused { IfErr result (λ e. IsRefused self.old.pass (op.GetPtr d q i) e self.new.pass) }
     {
         match &mut self.pass {
-            Some(pass) => calls::get_ptr(self.words, pass, d, q, i),
+            Some(pass) => calls::get_ptr(
+                self.words,
+                self.number,
+                self.words.pages(),
+                pass,
+                d,
+                q,
+                i,
+            ),
             None => unreachable!(),
         }
     }
@@ -179,7 +195,15 @@ impl<'h> Caller<'h> {
         ensures refused { IfErr result (λ e. IsRefused self.old.pass (op.SetPtr q i p) e self.new.pass) }
     {
         match &mut self.pass {
-            Some(pass) => calls::set_ptr(self.words, pass, q, i, p),
+            Some(pass) => calls::set_ptr(
+                self.words,
+                self.number,
+                self.words.pages(),
+                pass,
+                q,
+                i,
+                p,
+            ),
             None => unreachable!(),
         }
     }
@@ -197,7 +221,16 @@ impl<'h> Caller<'h> {
         ensures refused { IfErr result (λ e. IsRefused self.old.pass (op.CasPtr q i p r) e self.new.pass) }
     {
         match &mut self.pass {
-            Some(pass) => calls::cas_ptr(self.words, pass, q, i, p, r),
+            Some(pass) => calls::cas_ptr(
+                self.words,
+                self.number,
+                self.words.pages(),
+                pass,
+                q,
+                i,
+                p,
+                r,
+            ),
             None => unreachable!(),
         }
     }
@@ -214,7 +247,7 @@ impl<'h> Caller<'h> {
         ensures no_fault { IfErr result (λ e. e ≢ refusal.Fault) }
     {
         match &mut self.pass {
-            Some(pass) => calls::lea(self.words, pass, d, q, i),
+            Some(pass) => calls::lea(self.words, self.number, pass, d, q, i),
             None => unreachable!(),
         }
     }
@@ -229,7 +262,7 @@ impl<'h> Caller<'h> {
         ensures held { OnErr result (FindsGateHeld self.old.pass (op.Move d q) self.new.pass) }
     {
         match &mut self.pass {
-            Some(pass) => calls::move_ptr(self.words, pass, d, q),
+            Some(pass) => calls::move_ptr(self.words, self.number, pass, d, q),
             None => unreachable!(),
         }
     }
@@ -244,7 +277,7 @@ impl<'h> Caller<'h> {
         ensures held { OnErr result (FindsGateHeld self.old.pass (op.Clear d) self.new.pass) }
     {
         match &mut self.pass {
-            Some(pass) => calls::clear(self.words, pass, d),
+            Some(pass) => calls::clear(self.words, self.number, pass, d),
             None => unreachable!(),
         }
     }
@@ -259,7 +292,7 @@ impl<'h> Caller<'h> {
         ensures held { OnErr result (FindsGateHeld self.old.pass (op.GetGlobal d g) self.new.pass) }
     {
         match &mut self.pass {
-            Some(pass) => calls::get_global(self.words, pass, d, g),
+            Some(pass) => calls::get_global(self.words, self.number, pass, d, g),
             None => unreachable!(),
         }
     }
@@ -274,7 +307,7 @@ impl<'h> Caller<'h> {
         ensures held { OnErr result (FindsGateHeld self.old.pass (op.SetGlobal g p) self.new.pass) }
     {
         match &mut self.pass {
-            Some(pass) => calls::set_global(self.words, pass, g, p),
+            Some(pass) => calls::set_global(self.words, self.number, pass, g, p),
             None => unreachable!(),
         }
     }
@@ -290,7 +323,7 @@ impl<'h> Caller<'h> {
         ensures held { OnErr result (FindsGateHeld self.old.pass (op.Same p q) self.new.pass) }
     {
         match &mut self.pass {
-            Some(pass) => calls::same(self.words, pass, p, q),
+            Some(pass) => calls::same(self.words, self.number, pass, p, q),
             None => unreachable!(),
         }
     }
@@ -306,7 +339,7 @@ impl<'h> Caller<'h> {
         ensures held { OnErr result (FindsGateHeld self.old.pass (op.IsNull p) self.new.pass) }
     {
         match &mut self.pass {
-            Some(pass) => calls::is_null(self.words, pass, p),
+            Some(pass) => calls::is_null(self.words, self.number, pass, p),
             None => unreachable!(),
         }
     }

@@ -11,7 +11,7 @@ ghost use Rattle.mk_core.specs.Calls.{at_rest, begun, onward, refused, g_of, i_o
 ghost use Rattle.mk_core.specs.Calls.{word_met, progress_reg, progress_read, progress_getg};
 ghost use Rattle.mk_words.specs.States.{call_of};
 ghost use Rattle.mk_laws.specs.Images.{has_q, has_some_q};
-ghost use Rattle.mk_caller.specs.States.{value_of};
+ghost use Rattle.mk_caller.specs.States.{caller_of_pass, value_of};
 ghost use Rattle.mk_never.specs.declared.values.Target.TheVariants.{Unmapped};
 ghost use Rattle.mk_caller.specs.Causes.{FindsGateHeld, Probes, ProbesAWord};
 ghost use Rattle.mk_caller.specs.Moves.{MayBeginCall, IsUnderway, CallMoves, CallGoesOn, begins, is_access};
@@ -25,35 +25,38 @@ use mk_words::{Held, Pass, Words};
 
 /// Begins a call, unless the gate is held.
 #[inline(always)]
-pub(crate) fn enter(words: &Words, pass: &mut Pass, op: Op) -> Result<(), Held>
+pub(crate) fn enter(words: &Words, caller: u64, pass: &mut Pass, op: Op) -> Result<(), Held>
     requires one_table { pass.old.table ≡ words.now }
+    requires caller { caller ≡ caller_of_pass pass.old }
     requires ready { MayBeginCall pass.old op }
     ensures moves { OnOk result (CallMoves pass.old op (step.Enter op) (begins op) pass.new) }
     ensures held { OnErr result (FindsGateHeld pass.old op pass.new) }
 {
     pass.is_in_order();
-    let entered = pass.enter(words, op);
+    let entered = pass.enter(words, caller, op);
     pass.is_in_order();
     entered
 }
 
 /// Ends a call.
 #[inline(always)]
-pub(crate) fn leave(words: &Words, pass: &mut Pass)
+pub(crate) fn leave(words: &Words, caller: u64, pass: &mut Pass)
     requires one_table { pass.old.table ≡ words.now }
+    requires caller { caller ≡ caller_of_pass pass.old }
     requires underway { IsUnderway pass.old }
     requires stage { (call_of pass.old).stage ≡ stage.Leave }
     ensures moves { CallGoesOn pass.old step.Leave call_ends pass.new }
 {
     pass.is_in_order();
-    pass.leave(words);
+    pass.leave(words, caller);
     pass.is_in_order();
 }
 
 /// Loads a register, which is 0 exactly where its value is null.
 #[inline(always)]
-pub(crate) fn load(words: &Words, pass: &mut Pass, r: u8) -> u64
+pub(crate) fn load(words: &Words, caller: u64, pass: &mut Pass, r: u8) -> u64
     requires one_table { pass.old.table ≡ words.now }
+    requires caller { caller ≡ caller_of_pass pass.old }
     requires underway { IsUnderway pass.old }
     requires stage { loads_register (call_of pass.old).stage ≡ true }
     requires register { r ≡ register_met (call_of pass.old) (call_of pass.old).stage }
@@ -61,15 +64,16 @@ pub(crate) fn load(words: &Words, pass: &mut Pass, r: u8) -> u64
     ensures null { (result ≡ 0) ↔ (value_of pass.old r ≡ Null) }
 {
     pass.is_in_order();
-    let value = pass.reg_load(words, r);
+    let value = pass.reg_load(words, caller, r);
     pass.is_in_order();
     value
 }
 
 /// Stores to a register.
 #[inline(always)]
-pub(crate) fn store(words: &Words, pass: &mut Pass, r: u8, v: u64)
+pub(crate) fn store(words: &Words, caller: u64, pass: &mut Pass, r: u8, v: u64)
     requires one_table { pass.old.table ≡ words.now }
+    requires caller { caller ≡ caller_of_pass pass.old }
     requires underway { IsUnderway pass.old }
     requires stage { stores_register (call_of pass.old).stage ≡ true }
     requires register { r ≡ register_met (call_of pass.old) (call_of pass.old).stage }
@@ -77,14 +81,15 @@ pub(crate) fn store(words: &Words, pass: &mut Pass, r: u8, v: u64)
     ensures moves { CallGoesOn pass.old step.Reg (loads v) pass.new }
 {
     pass.is_in_order();
-    pass.reg_store(words, r, v);
+    pass.reg_store(words, caller, r, v);
     pass.is_in_order();
 }
 
 /// Loads the word that the call accesses.
 #[inline(always)]
-pub(crate) fn read(words: &Words, pass: &mut Pass, word: u64) -> u64
+pub(crate) fn read(words: &Words, pages: u64, pass: &mut Pass, word: u64) -> u64
     requires one_table { pass.old.table ≡ words.now }
+    requires pages { pages ≡ words.now.config.pages }
     requires underway { IsUnderway pass.old }
     requires stage { (call_of pass.old).stage ≡ stage.Read }
     requires access { is_access (call_of pass.old).op ≡ true }
@@ -92,15 +97,16 @@ pub(crate) fn read(words: &Words, pass: &mut Pass, word: u64) -> u64
     ensures moves { CallGoesOn pass.old step.Read (reads result) pass.new }
 {
     pass.is_in_order();
-    let value = pass.read(words, word);
+    let value = pass.read(words, pages, word);
     pass.is_in_order();
     value
 }
 
 /// Stores to the word that the call accesses.
 #[inline(always)]
-pub(crate) fn write(words: &Words, pass: &mut Pass, word: u64, v: u64)
+pub(crate) fn write(words: &Words, pages: u64, pass: &mut Pass, word: u64, v: u64)
     requires one_table { pass.old.table ≡ words.now }
+    requires pages { pages ≡ words.now.config.pages }
     requires underway { IsUnderway pass.old }
     requires stage { (call_of pass.old).stage ≡ stage.Write }
     requires access { is_access (call_of pass.old).op ≡ true }
@@ -109,14 +115,22 @@ pub(crate) fn write(words: &Words, pass: &mut Pass, word: u64, v: u64)
     ensures moves { CallGoesOn pass.old step.Write writes pass.new }
 {
     pass.is_in_order();
-    pass.write(words, word, v);
+    pass.write(words, pages, word, v);
     pass.is_in_order();
 }
 
 /// Exchanges the word that the call accesses, where it is as expected.
 #[inline(always)]
-pub(crate) fn cas(words: &Words, pass: &mut Pass, word: u64, expected: u64, new: u64) -> bool
+pub(crate) fn cas(
+    words: &Words,
+    pages: u64,
+    pass: &mut Pass,
+    word: u64,
+    expected: u64,
+    new: u64,
+) -> bool
     requires one_table { pass.old.table ≡ words.now }
+    requires pages { pages ≡ words.now.config.pages }
     requires underway { IsUnderway pass.old }
     requires stage { (call_of pass.old).stage ≡ stage.Cas }
     requires access { is_access (call_of pass.old).op ≡ true }
@@ -126,22 +140,23 @@ pub(crate) fn cas(words: &Words, pass: &mut Pass, word: u64, expected: u64, new:
     ensures moves { CallGoesOn pass.old step.Cas (exchanges result) pass.new }
 {
     pass.is_in_order();
-    let exchanged = pass.cas(words, word, expected, new);
+    let exchanged = pass.cas(words, pages, word, expected, new);
     pass.is_in_order();
     exchanged
 }
 
 /// Marks the page of the word that the call wrote.
 #[inline(always)]
-pub(crate) fn dirty(words: &Words, pass: &mut Pass, page: u64)
+pub(crate) fn dirty(words: &Words, pages: u64, pass: &mut Pass, page: u64)
     requires one_table { pass.old.table ≡ words.now }
+    requires pages { pages ≡ words.now.config.pages }
     requires underway { IsUnderway pass.old }
     requires stage { (call_of pass.old).stage ≡ stage.Dirty }
     requires page { page ≡ page_met (call_of pass.old) }
     ensures moves { CallGoesOn pass.old step.Dirty passes pass.new }
 {
     pass.is_in_order();
-    pass.dirty(words, page);
+    pass.dirty(words, pages, page);
     pass.is_in_order();
 }
 
@@ -194,7 +209,9 @@ pub(crate) fn probe(words: &Words, pass: &mut Pass, u: u64, i: u64) -> Option<u6
     pass.is_in_order();
     words.is_within_limits();
     let word = (u - HEAP_START) / WORD_BYTES + i;
-    let header = pass.probe(words, word / PAGE_WORDS);
+    // The number of a word fits 32 bits, in which its page is a single shift away.
+    let page = u64::from(word as u32 / PAGE_WORDS as u32);
+    let header = pass.probe(words, page);
     pass.is_in_order();
     if is_unmapped(header) {
         None

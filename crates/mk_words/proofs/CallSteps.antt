@@ -32,14 +32,13 @@ use Rattle.mk_core.specs.Accesses.{word_accessed, access, found, caller_number, 
 use Rattle.mk_core.specs.Moments.{Moment, flight_of}
 use Rattle.mk_core.specs.Effects.{progress, begins_where_free, moment_behind, answer_decided}
 use Rattle.mk_core.specs.History.{World, IsHistory}
-use Rattle.mk_core.proofs.Conditions.{enabled_meets}
 use Rattle.mk_core.proofs.Lengths.{histories_keep_lengths}
 use Rattle.mk_laws.proofs.NextSteps.{at_enter}
 use Rattle.mk_laws.proofs.ProtocolHeldGates.{gates_tell_holds}
-use Rattle.mk_words.specs.Seats.{Has, is_caller}
+use Rattle.mk_words.specs.Seats.{Has}
 use Rattle.mk_words.specs.States.{PassState, now_of, call_of, event_of}
 use Rattle.mk_words.specs.Rule.{told_by}
-use Rattle.mk_words.specs.Steps.{IsEnabledTo, Makes, moment_of, found_by, Finds, Tells, Goes}
+use Rattle.mk_words.specs.Steps.{Makes, moment_of, found_by, Finds, Tells, Goes}
 use Rattle.mk_words.specs.CallSteps.{register_of, LeavesRegisters, KeepsOtherRegisters, FindsHeld}
 use Rattle.mk_words.proofs.Made.{made}
 
@@ -48,18 +47,6 @@ pub is_callers : (s : Seat) → is_open_to s group.Callers ≡ true → (k : ℕ
 is_callers (Caller k) h = (k, refl)
 is_callers (Marker k) h = cc
 is_callers Host h = cc
-
-callers_seat : (s : Seat) → is_open_to s group.Callers ≡ true → is_caller s ≡ true
-callers_seat (Caller k) h = refl
-callers_seat (Marker k) h = cc
-callers_seat Host h = cc
-
--- a pass that may make a step of a call is a caller's
-pub may_call : (p : PassState) (s : Step) → group_of s ≡ group.Callers → IsEnabledTo p s → is_caller p.seat ≡ true
-may_call p s kind on =
-    callers_seat p.seat
-    (subst (λ (g : Group). is_open_to p.seat g ≡ true) kind
-    (enabled_meets p.table.config (now_of p) (event_of p s) on).kind)
 
 call_behind : (c : Config) (m : Moment) (seat : Seat) (k : ℕ) (s : Step) → seat ≡ Caller k → k < length m.seats.flights
     → flight_of (moment_behind c m (record { seat = seat; step = s })) seat

@@ -1,11 +1,12 @@
 //! The steps of a caller's call, between its `enter` and its `leave`. The order is that of the operation's steps.
 //!
-//! A number that the event doesn't carry is the one that the pass's own list gives for the step.
+//! A number that the event doesn't carry is the one that the pass's own list gives for the step. Who makes a call has
+//! the caller's number and the number of pages at hand, so neither is loaded again after each access.
 ghost use Rattle.std.specs.Prelude.{◌≡◌, OnOk, OnErr, Some, None};
 ghost use Rattle.mk_core.specs.declared.accesses.Access.TheVariants.{Load, Store};
 ghost use Rattle.mk_core.specs.declared.events.Answer.TheVariants as answer;
 ghost use Rattle.mk_core.specs.declared.events.Step.TheVariants as step;
-ghost use Rattle.mk_core.specs.Accesses.{register_met, reg_access};
+ghost use Rattle.mk_core.specs.Accesses.{caller_number, register_met, reg_access};
 ghost use Rattle.mk_core.specs.Calls.{at_rest, begun, onward, still, word_met, page_met, g_of, value_written, one_if};
 ghost use Rattle.mk_core.specs.Calls.{progress_reg, progress_read, progress_getg};
 ghost use Rattle.mk_core.specs.Effects.{progress_probe};
@@ -24,8 +25,9 @@ pub struct Held;
 
 impl Pass {
     /// Begins a call, unless the gate is held.
-    pub fn enter(&mut self, words: &Words, op: Op) -> Result<(), Held>
+    pub fn enter(&mut self, words: &Words, caller: u64, op: Op) -> Result<(), Held>
         requires one_table { self.old.table ≡ words.now }
+        requires caller { caller ≡ caller_number self.old.seat }
         requires enabled { IsEnabledTo self.old (step.Enter op) }
         ensures goes { OnOk result
             (Goes self.old (step.Enter op) (record { flight = begun op; answer = None }) self.new) }
@@ -33,7 +35,7 @@ impl Pass {
         ensures stays { OnErr result (Goes self.old (step.Enter op) (still (call_of self.old)) self.new) }
         ensures registers { LeavesRegisters self.old self.new }
     {
-        let gate = TableWord::Named(Word::Gate(self.caller()));
+        let gate = TableWord::Named(Word::Gate(caller));
         let found = self.perform(
             words,
             Step::Enter(op),
@@ -44,19 +46,21 @@ impl Pass {
     }
 
     /// Ends a call.
-    pub fn leave(&mut self, words: &Words)
+    pub fn leave(&mut self, words: &Words, caller: u64)
         requires one_table { self.old.table ≡ words.now }
+        requires caller { caller ≡ caller_number self.old.seat }
         requires enabled { IsEnabledTo self.old step.Leave }
         ensures goes { Goes self.old step.Leave (record { flight = at_rest; answer = None }) self.new }
         ensures registers { LeavesRegisters self.old self.new }
     {
-        let gate = TableWord::Named(Word::Gate(self.caller()));
+        let gate = TableWord::Named(Word::Gate(caller));
         self.perform(words, Step::Leave, gate, Access::Store(0));
     }
 
     /// Loads a register of its own, which is as the pass knows it.
-    pub fn reg_load(&mut self, words: &Words, r: u8) -> u64
+    pub fn reg_load(&mut self, words: &Words, caller: u64, r: u8) -> u64
         requires one_table { self.old.table ≡ words.now }
+        requires caller { caller ≡ caller_number self.old.seat }
         requires enabled { IsEnabledTo self.old step.Reg }
         requires admitted { IsAdmittedTo self.old step.Reg }
         requires register { r ≡ register_met (call_of self.old) (call_of self.old).stage }
@@ -68,15 +72,16 @@ impl Pass {
         ensures registers { LeavesRegisters self.old self.new }
     {
         let register = TableWord::Named(Word::Reg {
-            caller: self.caller(),
+            caller,
             register: r as u64,
         });
         self.perform(words, Step::Reg, register, Access::Load)
     }
 
     /// Stores to a register of its own.
-    pub fn reg_store(&mut self, words: &Words, r: u8, v: u64)
+    pub fn reg_store(&mut self, words: &Words, caller: u64, r: u8, v: u64)
         requires one_table { self.old.table ≡ words.now }
+        requires caller { caller ≡ caller_number self.old.seat }
         requires enabled { IsEnabledTo self.old step.Reg }
         requires admitted { IsAdmittedTo self.old step.Reg }
         requires register { r ≡ register_met (call_of self.old) (call_of self.old).stage }
@@ -86,7 +91,7 @@ impl Pass {
         ensures registers { KeepsOtherRegisters r self.old self.new }
     {
         let register = TableWord::Named(Word::Reg {
-            caller: self.caller(),
+            caller,
             register: r as u64,
         });
         self.perform(words, Step::Reg, register, Access::Store(v));
@@ -107,8 +112,9 @@ impl Pass {
     }
 
     /// Loads the word that the call accesses.
-    pub fn read(&mut self, words: &Words, word: u64) -> u64
+    pub fn read(&mut self, words: &Words, pages: u64, word: u64) -> u64
         requires one_table { self.old.table ≡ words.now }
+        requires pages { pages ≡ words.now.config.pages }
         requires enabled { IsEnabledTo self.old step.Read }
         requires admitted { IsAdmittedTo self.old step.Read }
         requires word { word ≡ word_met (call_of self.old) }
@@ -118,12 +124,13 @@ impl Pass {
         ensures registers { LeavesRegisters self.old self.new }
     {
         let heap = TableWord::Named(Word::Heap(word));
-        self.perform(words, Step::Read, heap, Access::Load)
+        self.perform_among(words, pages, Step::Read, heap, Access::Load)
     }
 
     /// Stores to the word that the call accesses.
-    pub fn write(&mut self, words: &Words, word: u64, v: u64)
+    pub fn write(&mut self, words: &Words, pages: u64, word: u64, v: u64)
         requires one_table { self.old.table ≡ words.now }
+        requires pages { pages ≡ words.now.config.pages }
         requires enabled { IsEnabledTo self.old step.Write }
         requires admitted { IsAdmittedTo self.old step.Write }
         requires word { word ≡ word_met (call_of self.old) }
@@ -132,12 +139,13 @@ impl Pass {
         ensures registers { LeavesRegisters self.old self.new }
     {
         let heap = TableWord::Named(Word::Heap(word));
-        self.perform(words, Step::Write, heap, Access::Store(v));
+        self.perform_among(words, pages, Step::Write, heap, Access::Store(v));
     }
 
     /// Stores to the word that the call accesses where it finds the expected value, and returns whether it did.
-    pub fn cas(&mut self, words: &Words, word: u64, expected: u64, new: u64) -> bool
+    pub fn cas(&mut self, words: &Words, pages: u64, word: u64, expected: u64, new: u64) -> bool
         requires one_table { self.old.table ≡ words.now }
+        requires pages { pages ≡ words.now.config.pages }
         requires enabled { IsEnabledTo self.old step.Cas }
         requires admitted { IsAdmittedTo self.old step.Cas }
         requires word { word ≡ word_met (call_of self.old) }
@@ -147,8 +155,9 @@ impl Pass {
         ensures registers { LeavesRegisters self.old self.new }
     {
         let heap = TableWord::Named(Word::Heap(word));
-        let found = self.perform(
+        let found = self.perform_among(
             words,
+            pages,
             Step::Cas,
             heap,
             Access::Exchange { old: expected, new },
@@ -185,14 +194,15 @@ impl Pass {
     }
 
     /// Marks the page of the word that the call wrote.
-    pub fn dirty(&mut self, words: &Words, page: u64)
+    pub fn dirty(&mut self, words: &Words, pages: u64, page: u64)
         requires one_table { self.old.table ≡ words.now }
+        requires pages { pages ≡ words.now.config.pages }
         requires enabled { IsEnabledTo self.old step.Dirty }
         requires page { page ≡ page_met (call_of self.old) }
         ensures goes { Goes self.old step.Dirty (onward (call_of self.old) None) self.new }
         ensures registers { LeavesRegisters self.old self.new }
     {
         let dirty = TableWord::Named(Word::Dirty(page));
-        self.perform(words, Step::Dirty, dirty, Access::Store(1));
+        self.perform_among(words, pages, Step::Dirty, dirty, Access::Store(1));
     }
 }

@@ -49,11 +49,34 @@ impl Pass {
 
     /// The number of the caller whose seat it is.
     #[inline(always)]
-    pub(crate) fn caller(&self) -> u64
+    pub fn caller(&self) -> u64
         requires { is_caller self.now.seat ≡ true }
         ensures { result ≡ caller_number self.now.seat }
     {
         self.own.caller()
+    }
+
+    /// Takes a step of any kind but the two that hand over the turn, in a table of this many pages.
+    #[inline(always)]
+    pub(crate) fn perform_among(
+        &mut self,
+        words: &Words,
+        pages: u64,
+        step: Step,
+        word: TableWord,
+        by: Access,
+    ) -> u64
+        requires one_table { self.old.table ≡ words.now }
+        requires pages { pages ≡ words.now.config.pages }
+        requires hands_none { is_handing step ≡ false }
+        requires may { May self.old step }
+        requires word { word ≡ word_accessed self.old.table.config (now_of self.old) (event_of self.old step) }
+        requires access { by ≡ access self.old.table.config (now_of self.old) (event_of self.old step) }
+        ensures told { Tells self.old step result self.new }
+        ensures own { Has self.old.seats self.old.seat }
+        ensures history { IsHistory self.new.table.config self.new.seen }
+    {
+        self.own.perform_among(words, pages, step, word, by)
     }
 
     /// Takes a step of any kind but the two that hand over the turn.

@@ -152,6 +152,30 @@ impl SeatToken {
         }
     }
 
+    /// Takes a step of any kind but a `take`, in a table of this many pages.
+    #[inline(always)]
+    pub(crate) fn perform_among(
+        &mut self,
+        words: &Words,
+        pages: u64,
+        step: Step,
+        word: TableWord,
+        by: Access,
+    ) -> u64
+        requires one_table { self.old.table ≡ words.now }
+        requires pages { pages ≡ words.now.config.pages }
+        requires hands_none { is_handing step ≡ false }
+        requires may { May self.old step }
+        requires word { word ≡ word_accessed self.old.table.config (now_of self.old) (event_of self.old step) }
+        requires access { by ≡ access self.old.table.config (now_of self.old) (event_of self.old step) }
+        ensures told { Tells self.old step result self.new }
+        ensures own { Has self.old.seats self.old.seat }
+        ensures history { IsHistory self.new.table.config self.new.seen }
+    {
+        let seat = self.seat;
+        perform_as::<Brand>(words, pages, &mut self.token, seat, step, word, by)
+    }
+
     /// Takes a step of any kind but a `take`.
     #[inline(always)]
     pub(crate) fn perform(&mut self, words: &Words, step: Step, word: TableWord, by: Access) -> u64
@@ -164,8 +188,7 @@ impl SeatToken {
         ensures own { Has self.old.seats self.old.seat }
         ensures history { IsHistory self.new.table.config self.new.seen }
     {
-        let seat = self.seat;
-        perform_as::<Brand>(words, words.pages(), &mut self.token, seat, step, word, by)
+        self.perform_among(words, words.config.pages, step, word, by)
     }
 }
 

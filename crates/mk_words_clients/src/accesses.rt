@@ -19,21 +19,23 @@ pub fn set_ptr(words: &Words, pass: &mut Pass, q: u8, i: u64, p: u8) -> Result<(
     ensures table { pass.new.table ≡ words.now }
     ensures callers { IsCallers pass.new }
 {
-    pass.enter(words, Op::SetPtr { q, i, p })?;
+    let caller = pass.caller();
+    let pages = words.pages();
+    pass.enter(words, caller, Op::SetPtr { q, i, p })?;
     pass.is_in_order();
-    let to = pass.reg_load(words, q);
+    let to = pass.reg_load(words, caller, q);
     pass.is_in_order();
-    let value = pass.reg_load(words, p);
+    let value = pass.reg_load(words, caller, p);
     pass.is_in_order();
     let word = (to - HEAP_START) / WORD_BYTES + i;
     let header = pass.probe(words, word / PAGE_WORDS);
     if is_unmapped(header) {
-        pass.leave(words);
+        pass.leave(words, caller);
         return Ok(());
     }
     pass.is_in_order();
-    pass.write(words, word, value);
-    pass.dirty(words, word / PAGE_WORDS);
-    pass.leave(words);
+    pass.write(words, pages, word, value);
+    pass.dirty(words, pages, word / PAGE_WORDS);
+    pass.leave(words, caller);
     Ok(())
 }

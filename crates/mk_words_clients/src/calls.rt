@@ -16,9 +16,10 @@ pub fn clear(words: &Words, pass: &mut Pass, d: u8) -> Result<(), Held>
     ensures callers { IsCallers pass.new }
 {
     pass.is_in_order();
-    pass.enter(words, Op::Clear { d })?;
+    let caller = pass.caller();
+    pass.enter(words, caller, Op::Clear { d })?;
     pass.is_in_order();
-    pass.reg_store(words, d, 0);
-    pass.leave(words);
+    pass.reg_store(words, caller, d, 0);
+    pass.leave(words, caller);
     Ok(())
 }

@@ -5,7 +5,7 @@ use Rattle.mk_core.specs.declared.events.Answer.TheVariants as answer
 use Rattle.mk_core.specs.declared.events.Step.TheVariants as step
 use Rattle.mk_core.specs.declared.seats.Flight.{Flight}
 use Rattle.mk_core.specs.declared.seats.Stage.TheVariants.{LoadP, Probe, Write, Dirty, Leave}
-use Rattle.mk_core.specs.Calls.{begun, onward, refused, progress_reg, value_written}
+use Rattle.mk_core.specs.Calls.{begun, onward, page_met, refused, progress_reg, value_written}
 use Rattle.mk_core.specs.Effects.{progress_probe}
 use Rattle.mk_never.specs.declared.operations.Op.{Op}
 use Rattle.mk_never.specs.declared.operations.Op.TheVariants as op
@@ -142,6 +142,13 @@ write-requires-clause-value c =
     let at = probed x.After-is_in_order-4
     (loaded x.After-is_in_order-3 (found x.After-is_in_order-2 (entered x.After-is_in_order))) in
     sym (ap (λ (f : Flight). value_written f f.op) at.call)
+
+pub dirty-requires-clause-page : goal.dirty-requires-clause-page
+dirty-requires-clause-page c =
+    let x = goal.at.dirty-requires-clause-page c in
+    let at = written x.After-write (probed x.After-is_in_order-4
+    (loaded x.After-is_in_order-3 (found x.After-is_in_order-2 (entered x.After-is_in_order)))) in
+    sym (ap (λ (f : Flight). page_met f) at.call)
 
 pub dirty-requires-clause-enabled : goal.dirty-requires-clause-enabled
 dirty-requires-clause-enabled c =

@@ -1,10 +1,7 @@
 use Rattle.std.proofs.Common.{refl}
 use Rattle.mk_core.specs.declared.events.Step.TheVariants as step
-use Rattle.mk_words.proofs.CallSteps.{enter_goes, enter_waits, enter_keeps, enter_held, may_call}
+use Rattle.mk_words.proofs.CallSteps.{enter_goes, enter_waits, enter_keeps, enter_held}
 use Rattle.mk_words.proofs.passes.Pass.enter.Goals as goal
-
-pub caller-requires : goal.caller-requires
-caller-requires c = may_call c.args.self.now (step.Enter c.args.op) refl c.requires.enabled
 
 pub returns-then-found-eq0-clause-goes : goal.returns-then-found-eq0-clause-goes
 returns-then-found-eq0-clause-goes c =

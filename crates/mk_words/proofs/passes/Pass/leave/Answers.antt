@@ -1,10 +1,7 @@
 use Rattle.std.proofs.Common.{refl}
 use Rattle.mk_core.specs.declared.events.Step.TheVariants as step
-use Rattle.mk_words.proofs.CallSteps.{goes_on, keeps, may_call}
+use Rattle.mk_words.proofs.CallSteps.{goes_on, keeps}
 use Rattle.mk_words.proofs.passes.Pass.leave.Goals as goal
-
-pub caller-requires : goal.caller-requires
-caller-requires c = may_call c.args.self.now step.Leave refl c.requires.enabled
 
 pub returns-clause-goes : goal.returns-clause-goes
 returns-clause-goes c =

@@ -1,10 +1,7 @@
 use Rattle.std.proofs.Common.{refl}
 use Rattle.mk_core.specs.declared.events.Step.TheVariants as step
-use Rattle.mk_words.proofs.CallSteps.{load_finds, load_goes, load_keeps, load_own, may_call}
+use Rattle.mk_words.proofs.CallSteps.{load_finds, load_goes, load_keeps, load_own}
 use Rattle.mk_words.proofs.passes.Pass.reg_load.Goals as goal
-
-pub caller-requires : goal.caller-requires
-caller-requires c = may_call c.args.self.now step.Reg refl c.requires.enabled
 
 pub returns-clause-finds : goal.returns-clause-finds
 returns-clause-finds c =

@@ -1,4 +1,4 @@
-use Rattle.mk_words.proofs.tokens.SeatToken.perform.Given as goal
+use Rattle.mk_words.proofs.tokens.SeatToken.perform_among.Given as goal
 
 -- the event of the step that the call is given
 abbrev pub ghosts-perform_as : goal.ghosts-perform_as

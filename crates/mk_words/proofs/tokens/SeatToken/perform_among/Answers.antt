@@ -4,7 +4,7 @@ use Rattle.mk_words.specs.Seats.{Has}
 use Rattle.mk_words.specs.States.{PassState, now_of, event_of}
 use Rattle.mk_words.specs.Passes.{state_of}
 use Rattle.mk_words.specs.Steps.{May, Tells}
-use Rattle.mk_words.proofs.tokens.SeatToken.perform.Goals as goal
+use Rattle.mk_words.proofs.tokens.SeatToken.perform_among.Goals as goal
 
 pub perform_as-requires-clause-one_table : goal.perform_as-requires-clause-one_table
 perform_as-requires-clause-one_table c =
