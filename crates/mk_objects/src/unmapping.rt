@@ -64,13 +64,11 @@ pub(crate) fn unmap_run(words: &Words, turn: &mut Turn, run: RunPages)
 {
     turn.is_in_order();
     for distance in 0..run.count {
-        turn.is_in_order();
         turn.head(
             words,
             run.page + distance,
             unmapped_header(run.count, distance),
         );
-        turn.is_in_order();
     }
 }
 
@@ -90,12 +88,9 @@ pub(crate) fn wipe_run(words: &Words, turn: &mut Turn, run: RunPages)
     turn.is_in_order();
     let pages = words.pages();
     for word in 0..PAGE_WORDS * run.count {
-        turn.is_in_order();
         let found = turn.look_among(words, pages, Word::Heap(PAGE_WORDS * run.page + word));
-        turn.is_in_order();
         if found != 0 {
             turn.wipe(words, PAGE_WORDS * run.page + word);
-            turn.is_in_order();
         }
     }
 }

@@ -161,8 +161,6 @@ impl SeatToken {
         requires word { word ≡ word_accessed self.old.table.config (now_of self.old) (event_of self.old step) }
         requires access { by ≡ access self.old.table.config (now_of self.old) (event_of self.old step) }
         ensures told { Tells self.old step result self.new }
-        ensures own { Has self.old.seats self.old.seat }
-        ensures history { IsHistory self.new.table.config self.new.seen }
     {
         let seat = self.seat;
         perform_as::<Brand>(words, words.pages(), &mut self.token, seat, step, word, by)
@@ -217,8 +215,6 @@ impl TurnToken {
         requires word { word ≡ word_accessed self.old.table.config (now_of self.old) (event_of self.old step) }
         requires access { by ≡ access self.old.table.config (now_of self.old) (event_of self.old step) }
         ensures told { Tells self.old step result self.new }
-        ensures own { Has self.old.seats self.old.seat }
-        ensures history { IsHistory self.new.table.config self.new.seen }
     {
         let seat = self.seat;
         perform_as::<Brand>(words, pages, &mut self.token, seat, step, word, by)
@@ -233,8 +229,6 @@ impl TurnToken {
         requires word { word ≡ word_accessed self.old.table.config (now_of self.old) (event_of self.old step) }
         requires access { by ≡ access self.old.table.config (now_of self.old) (event_of self.old step) }
         ensures told { Tells self.old step result self.new }
-        ensures own { Has self.old.seats self.old.seat }
-        ensures history { IsHistory self.new.table.config self.new.seen }
     {
         self.perform_among(words, words.config.pages, step, word, by)
     }
@@ -248,8 +242,6 @@ impl TurnToken {
         requires word { word ≡ word_accessed self.old.table.config (now_of self.old) (event_of self.old step) }
         requires access { Store value ≡ access self.old.table.config (now_of self.old) (event_of self.old step) }
         ensures finds { Finds self.old step result self.new }
-        ensures own { Has self.old.seats self.old.seat }
-        ensures history { IsHistory self.new.table.config self.new.seen }
     {
         let seat = self.seat;
         replace_as::<Brand>(words, &mut self.token, seat, step, word, value)

@@ -9,9 +9,9 @@ caller-requires c = may_call c.args.self.now step.Leave refl c.requires.enabled
 pub returns-clause-goes : goal.returns-clause-goes
 returns-clause-goes c =
     let f = c.perform in
-    goes_on c.args.self.now step.Leave f.result f.new.self f.ensures.told f.ensures.own f.ensures.history refl _ refl
+    goes_on c.args.self.now step.Leave f.result f.new.self f.ensures.told refl _ refl
 
 pub returns-clause-registers : goal.returns-clause-registers
 returns-clause-registers c =
     let f = c.perform in
-    keeps c.args.self.now step.Leave f.result f.new.self f.ensures.told f.ensures.own f.ensures.history refl refl
+    keeps c.args.self.now step.Leave f.result f.new.self f.ensures.told refl refl
