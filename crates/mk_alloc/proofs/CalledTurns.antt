@@ -245,7 +245,7 @@ module _ (p taken : PassState) (o : Op) (seat : IsCallers p) (own : Has p.seats 
     pub phase_taken : IsHistory taken.table.config taken.seen
         → phase_of (left p.table.config (waited.seen ++ taking.others)).now.words ≡ phase_of (now_of taken).words
     phase_taken h =
-        sym (ap (λ (w : World). phase_of w.now.words) (made waited (step.Take (Some o)) taken taking own_waited h).world
+        sym (ap (λ (w : World). phase_of w.now.words) (made waited (step.Take (Some o)) taken taking).world
         ∙ ap (λ (x : PassState). phase_of (left x.table.config (waited.seen ++ taking.others)).now.words) waited_same)
 
     -- the turn after its last event

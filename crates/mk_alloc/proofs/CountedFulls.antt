@@ -123,7 +123,7 @@ module _ (p p1 p2 : PassState) (n v : ℕ) (t : InTurn p) (quiet : IsQuiet p) (u
   found : n ≡ (now_of p).words.full
   found =
       finds.finds ∙ ap (λ (s : Steady). s.full)
-      (((made p (step.Look word.Full) p1 finds.makes t.own t1.history).frame.turn t.holds).0).steady
+      (((made p (step.Look word.Full) p1 finds.makes).frame.turn t.holds).0).steady
 
   tally_is : (now_of p2).words.full ≡ v
   tally_is = ap (λ (w : World). w.now.words.full) tallies.world
@@ -297,9 +297,9 @@ module _ (p p1 p2 : PassState) (n v : ℕ) (t : InTurn p) (quiet : IsQuiet p) (u
     does : Does counts_full p q
     unfolding counts_full
     does =
-        does_then counts_full p p1 q (does_step counts_full p p1 (step.Look word.Full) t.own look.makes refl)
-        (does_then counts_full p1 p2 q (does_step counts_full p1 p2 (step.Tally tally.Full v) t1.own tallies.makes refl)
-        (does_step counts_full p2 q step.Full t2.own full.makes refl))
+        does_then counts_full p p1 q (does_step counts_full p p1 (step.Look word.Full) look.makes refl)
+        (does_then counts_full p1 p2 q (does_step counts_full p1 p2 (step.Tally tally.Full v) tallies.makes refl)
+        (does_step counts_full p2 q step.Full full.makes refl))
 
     pub full_begins_none : BeginsNone p q
     full_begins_none = begins_none_by counts_full p q counting_stays counting_no_begin t does history

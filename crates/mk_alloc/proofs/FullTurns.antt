@@ -43,7 +43,7 @@ use Rattle.mk_laws.proofs.InvariantTheorems.{first_fit_finds_the_place}
 use Rattle.mk_laws.proofs.Known.{known_left}
 use Rattle.mk_words.specs.States.{PassState, call_of, now_of}
 use Rattle.mk_words.specs.Steps.{IsAdmittedTo, IsEnabledTo}
-use Rattle.mk_words.specs.TurnSteps.{IsTurn}
+use Rattle.mk_words.specs.TurnSteps.{IsTurn, op_for}
 use Rattle.mk_caller.specs.States.{caller_of_pass}
 use Rattle.mk_cycle.specs.EngineLaw.{IsAtPhase}
 use Rattle.mk_cycle.specs.TurnKeeps.{InTurn}
@@ -82,12 +82,14 @@ full_for c m k lt new idle placing ended none =
           ∙ ap (λ (x : Option Place). is_none x) none;
     })
 
-pub full_allowed : (p : PassState) (x : Option Op) → IsTurn p x → InTurn p → IsUnplaced p → IsAtPhase p 0
+pub full_allowed : (p : PassState) → InTurn p → IsUnplaced p → IsAtPhase p 0
     → (now_of p).seats.holding.cycle ≡ Ended → place_now_for p ≡ None → IsEnabledTo p step.Full
-full_allowed p x turn t u idle ended none =
+full_allowed p t u idle ended none =
+    let turn : IsTurn p (op_for p.seat (call_of p)) = record { holds = t.holds; op = refl } in
     let acts = new_is_acting (call_of p) u.new in
     let fits = first_fit_finds_the_place p.table.config p.seen t.history (object_for p)
-    (unplaced_settled p (acting_now p x turn acts) (acting_caller p acts) u t.history) ∙ none in
+    (unplaced_settled p (acting_now p (op_for p.seat (call_of p)) turn acts) (acting_caller p acts) u t.history)
+    ∙ none in
     let seat = new_callers p u in
     subst
     (λ (s : Seat). caller_of_pass p < p.table.config.callers → is_undecided_new (flight_of (now_of p) s) ≡ true

@@ -170,7 +170,7 @@ census_told p book census t quiet shows is =
 given_allocations : (p q : PassState) → InTurn p → Makes p step.Give q → IsHistory q.table.config q.seen
     → (world_of q).allocations ≡ (world_of p).allocations
 given_allocations p q t m history =
-    let d = made p step.Give q m t.own history in
+    let d = made p step.Give q m in
     ap (λ (w : World). w.allocations) d.world ∙ ap (λ (s : Steady). s.allocations) ((d.frame.turn t.holds).0).steady
 
 module _ (flag : Bool) (p taken last done q : PassState) (d ty : ℕ) (census : Census) (seat : IsCallers p)

@@ -30,7 +30,7 @@ seen_then es fs gs xs ys a b = b ∙ ap (λ (l : List Event). l ++ ys) a ∙ app
 -- One step is done after events of others.
 pub made_as : (kinds : SomeKinds) (p q : PassState) (s : Step) → Has p.seats p.seat → Makes p s q → kinds s ≡ true
     → Does kinds p q
-made_as kinds p q s own m allowed = does_step kinds p q s own m allowed
+made_as kinds p q s own m allowed = does_step kinds p q s m allowed
 
 -- what a pass knew before
 

@@ -47,7 +47,7 @@ pub looked : (p q : PassState) → InTurn p → IsFreeForCycle p → IsHistory q
     → Looks p q
 looked p q t free history a =
     record {
-      does = does_step is_look p q (step.Look word.Phase) t.own a.makes refl;
+      does = does_step is_look p q (step.Look word.Phase) a.makes refl;
       keeps = calm_keeps p (step.Look word.Phase) q a t history refl free unchanged refl;
       gates = gates_behind p (step.Look word.Phase) q a refl;
     }

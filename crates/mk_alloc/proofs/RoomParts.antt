@@ -162,7 +162,7 @@ module _ (o : Object) (p q : PassState) (t : InTurn p) (seat : IsCallers p) (fre
       let m = law.makes in
       let d1 = does_wider clears releases_none clears_none p m.cleared m.before in
       let own1 = has_then releases_none p m.cleared d1 t.own in
-      let d2 = does_step releases_none m.cleared m.begun step.Begin own1 m.begin refl in
+      let d2 = does_step releases_none m.cleared m.begun step.Begin m.begin refl in
       let d3 = does_wider begins_marking releases_none marking_none m.begun q m.behind in
       does_then releases_none p m.cleared q d1 (does_then releases_none m.cleared m.begun q d2 d3)
 

@@ -94,9 +94,10 @@ holds_own p es x own h stays =
       others = [];
       of_others = others_none p.seats;
       is = ap (λ (l : List Event). seeing p (l ++ event_of p x ∷ [])) (sym (append-nil es));
+      pass = record { own = own; history = h.whole };
     } in
     let t : IsTurn (seeing p es) (op_for p.seat (call_in p es)) = record { holds = h.holds; op = refl } in
-    (still_turn (seeing p es) x (seeing p (es ++ event_of p x ∷ [])) m own h.whole
+    (still_turn (seeing p es) x (seeing p (es ++ event_of p x ∷ [])) m
     (op_for p.seat (call_in p es)) stays t).holds
 
 holds_other : (p : PassState) (es : List Event) (e : Event) → Here p es e → e.seat ≢ p.seat

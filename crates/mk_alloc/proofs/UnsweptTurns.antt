@@ -73,7 +73,7 @@ calls_sweep_nothing p o a q called =
     }
 
 pub sweep_nothing_where_held : SweepNothingWhereHeld
-sweep_nothing_where_held p o q own held = other_step_sweeps p q (step.Enter o) held.finds.makes own refl
+sweep_nothing_where_held p o q own held = other_step_sweeps p q (step.Enter o) held.finds.makes refl
 
 -- Parts of a turn.
 
@@ -89,12 +89,12 @@ pub looking_then_sweeps : (p q r : PassState) → Looks p q → SweepsNothing q 
 looking_then_sweeps p q r looks rest = part_then_sweeps is_look p q r looks.does (looking_sweeps p q looks) rest
 
 -- the steps that answer Full
-pub full_sweeps : (p q r s : PassState) (x y z : Step) → Acts p x q → Acts q y r → Acts r z s → Has p.seats p.seat
-    → Has q.seats q.seat → Has r.seats r.seat → is_mark x ≡ false → is_mark y ≡ false → is_mark z ≡ false
+pub full_sweeps : (p q r s : PassState) (x y z : Step) → Acts p x q → Acts q y r → Acts r z s
+    → is_mark x ≡ false → is_mark y ≡ false → is_mark z ≡ false
     → SweepsNothing p s
-full_sweeps p q r s x y z a b d own_p own_q own_r first second third =
-    step_then_sweeps p q s x a.makes own_p first
-    (step_then_sweeps q r s y b.makes own_q second (other_step_sweeps r s z d.makes own_r third))
+full_sweeps p q r s x y z a b d first second third =
+    step_then_sweeps p q s x a.makes first
+    (step_then_sweeps q r s y b.makes second (other_step_sweeps r s z d.makes third))
 
 -- the parts of a Free that aren't of cycles
 
@@ -122,7 +122,7 @@ pub turn_sweeps : (p taken done q : PassState) (o : Op) → IsCallers p → Has 
     → SweepsNothing p q
 turn_sweeps p taken done q o seat own takes inside same own_done gives =
     sweeps_then p taken q (taken_same p taken o seat own takes) (taking_sweeps p (Some o) taken own takes)
-    (sweeps_then taken done q same inside (other_step_sweeps done q step.Give gives own_done refl))
+    (sweeps_then taken done q same inside (other_step_sweeps done q step.Give gives refl))
 
 -- Only the list has grown where an older cycle was ended.
 pub older_same : (p q : PassState) → IsOutOfStop (now_of p) → EndsOlder p q → q ≡ record p { seen = q.seen }

@@ -26,9 +26,6 @@ pub(crate) fn answer_full(words: &Words, turn: &mut Turn)
 {
     turn.is_in_order();
     let count = turn.look(words, Word::Full);
-    turn.is_in_order();
     turn.tally(words, Tally::Full, count.saturating_add(1));
-    turn.is_in_order();
     turn.full(words);
-    turn.is_in_order();
 }

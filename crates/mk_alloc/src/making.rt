@@ -61,7 +61,6 @@ pub fn new_object<E: Engine, R: Threads + Wait + Sync>(
         caller.back(give(words, turn));
         return Ok(());
     }
-    turn.is_in_order();
     let (mut turn, placed) = make_room(rt, words, turn, bench);
     turn.is_in_order();
     if placed {

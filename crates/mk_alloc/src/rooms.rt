@@ -70,7 +70,6 @@ fn finish_and_place<E: Engine, R: Threads + Wait + Sync>(
     let (mut turn, _) = finish_cycle(rt, words, turn, bench);
     turn.is_in_order();
     let placed = try_place(words, &mut turn, bench);
-    turn.is_in_order();
     (turn, placed)
 }
 
@@ -102,9 +101,7 @@ fn place_behind_older<E: Engine, R: Threads + Wait + Sync>(
         return (turn, false);
     }
     turn.is_in_order();
-    let (turn, placed) = finish_and_place(rt, words, turn, bench);
-    turn.is_in_order();
-    (turn, placed)
+    finish_and_place(rt, words, turn, bench)
 }
 
 /// Begins and finishes a cycle, and grants the object where it fits then.
@@ -137,9 +134,7 @@ fn place_behind_cycle<E: Engine, R: Threads + Wait + Sync>(
     turn.is_in_order();
     begin_cycle(rt, words, &mut turn, bench);
     turn.is_in_order();
-    let (turn, placed) = finish_and_place(rt, words, turn, bench);
-    turn.is_in_order();
-    (turn, placed)
+    finish_and_place(rt, words, turn, bench)
 }
 
 /// Makes room for the object, which fits nowhere, and grants it if it can be made to fit. It isn't inlined, so what it
@@ -168,13 +163,9 @@ pub(crate) fn make_room<E: Engine, R: Threads + Wait + Sync>(
     ensures reached { E.sweeps ≡ false → SweepsNothing turn.pass result.0.pass }
     ensures begun { EachIsBegun E.begins turn.pass result.0.pass }
 {
-    turn.is_in_order();
     let (turn, placed) = place_behind_older(rt, words, turn, bench);
-    turn.is_in_order();
     if placed {
         return (turn, placed);
     }
-    let (turn, placed) = place_behind_cycle(rt, words, turn, bench);
-    turn.is_in_order();
-    (turn, placed)
+    place_behind_cycle(rt, words, turn, bench)
 }

@@ -3,7 +3,6 @@ ghost use Rattle.std.specs.Prelude.{◌≡◌, ◌==◌, ◌<◌, ◌∷◌, [],
 ghost use Rattle.mk_core.specs.declared.events.Step.TheVariants as step;
 ghost use Rattle.mk_core.specs.declared.seats.Stage.TheVariants as stage;
 ghost use Rattle.mk_core.specs.Calls.{at_rest, has_operands, is_under_turn};
-ghost use Rattle.mk_core.specs.History.{IsHistory};
 ghost use Rattle.mk_core.specs.Words.{phase_of};
 ghost use Rattle.mk_words.specs.States.{call_of, now_of};
 ghost use Rattle.mk_words.specs.Steps.{Makes};
@@ -46,7 +45,6 @@ pub(crate) fn is_cycle_on(words: &Words, turn: &mut Turn) -> bool
 {
     turn.is_in_order();
     let found = turn.look(words, Word::Phase);
-    turn.is_in_order();
     Phase::Marking.is_in(found)
 }
 
@@ -58,10 +56,7 @@ pub(crate) fn give(words: &Words, turn: Turn) -> Pass
     requires decided { (call_of turn.pass).stage ≡ stage.Give }
     ensures gives { Makes turn.pass step.Give result }
     ensures rests { call_of result ≡ at_rest }
-    ensures history { IsHistory result.table.config result.seen }
 {
     turn.is_in_order();
-    let home = turn.give(words);
-    home.is_in_order();
-    home
+    turn.give(words)
 }

@@ -4,8 +4,6 @@ use Rattle.std.specs.Prelude.{Result, Ok, Err, OnOk, OnErr, None}
 use Rattle.mk_never.specs.declared.operations.Op.{Op}
 use Rattle.mk_core.specs.declared.events.Step.TheVariants as step
 use Rattle.mk_core.specs.Calls.{begun, still}
-use Rattle.mk_core.specs.History.{IsHistory}
-use Rattle.mk_words.specs.Seats.{Has}
 use Rattle.mk_words.specs.States.{PassState, call_of}
 use Rattle.mk_words.specs.Steps.{Goes}
 use Rattle.mk_words.specs.CallSteps.{FindsHeld}
@@ -18,21 +16,18 @@ use Rattle.mk_caller.proofs.OneStep.{one_step}
 use Rattle.mk_caller.proofs.Onward.{enters}
 
 pub entered : (p : PassState) (o : Op) (q : PassState) (r : Result (Unit {0}) Held) → MayBeginCall p o
-    → Has p.seats p.seat
-    → IsHistory p.table.config p.seen
-    → IsHistory q.table.config q.seen → OnOk r (Goes p (step.Enter o) (record { flight = begun o; answer = None }) q)
+    → OnOk r (Goes p (step.Enter o) (record { flight = begun o; answer = None }) q)
     → OnOk r (CallMoves p o (step.Enter o) (record { flight = begun o; answer = None }) q)
-entered p o q (Ok u) ready own before history g = enters p o q ready own before history g
-entered p o q (Err e) ready own before history g = tt
+entered p o q (Ok u) ready g = enters p o q ready g
+entered p o q (Err e) ready g = tt
 
-pub held : (p : PassState) (o : Op) (q : PassState) (r : Result (Unit {0}) Held) → MayBeginCall p o → Has p.seats p.seat
-    → IsHistory p.table.config p.seen
-    → IsHistory q.table.config q.seen → OnErr r (FindsHeld p o q)
+pub held : (p : PassState) (o : Op) (q : PassState) (r : Result (Unit {0}) Held) → MayBeginCall p o
+    → OnErr r (FindsHeld p o q)
     → OnErr r (Goes p (step.Enter o) (still (call_of p)) q)
     → OnErr r (FindsGateHeld p o q)
-held p o q (Ok u) ready own before history finds stays = tt
-held p o q (Err e) ready own before history finds stays =
-    let m = one_step p o (step.Enter o) (still (call_of p)) q ready.caller ready.seat own history stays ready.entered
+held p o q (Ok u) ready finds stays = tt
+held p o q (Err e) ready finds stays =
+    let m = one_step p o (step.Enter o) (still (call_of p)) q ready.caller ready.seat stays ready.entered
     refl in
     record {
       finds = finds;

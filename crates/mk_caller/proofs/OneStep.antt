@@ -31,10 +31,9 @@ use Rattle.mk_laws.proofs.InvariantJoined.{told_to_images}
 use Rattle.mk_laws.proofs.AdmittedStill.{call_on}
 use Rattle.mk_laws.proofs.LastEvents.{stands, comes_last}
 use Rattle.mk_laws.proofs.OtherCalls.{registers_are_left, never_continues}
-use Rattle.mk_words.specs.Seats.{Has}
 use Rattle.mk_words.specs.States.{PassState, call_of, event_of}
 use Rattle.mk_words.specs.Steps.{Goes}
-use Rattle.mk_words.proofs.Made.{Made, made}
+use Rattle.mk_words.proofs.Made.{Made, made, pass_before}
 use Rattle.mk_caller.specs.States.{caller_of_pass, never_of, Admits}
 use Rattle.mk_caller.specs.Called.{own_calls}
 use Rattle.mk_caller.specs.Moves.{IsDecidedAs, MakesSteps, IsUnderway, is_past_decision}
@@ -53,8 +52,7 @@ pub own_seat : (p : PassState) (k : ℕ) → p.seat ≡ Caller k → p.seat ≡ 
 own_seat p k is = is ∙ ap (λ j. Caller j) (sym (ap (λ (s : Seat). caller_number s) is))
 
 module _ (p : PassState) (o : Op) (s : Step) (x : Progress) (q : PassState) (k : ℕ) (seat : p.seat ≡ Caller k)
-    (own : Has p.seats p.seat)
-    (history : IsHistory q.table.config q.seen) (g : Goes p s x q) (entered : is_under_turn o ≡ false)
+    (g : Goes p s x q) (entered : is_under_turn o ≡ false)
     (same_op : entry_of (caller_of_pass p) (call_of p).op x.answer ≡ entry_of (caller_of_pass p) o x.answer) where
   abbrev c : Config
   c = p.table.config
@@ -69,7 +67,7 @@ module _ (p : PassState) (o : Op) (s : Step) (x : Progress) (q : PassState) (k :
   es = p.seen ++ others
 
   d : Made p s q g.makes
-  d = made p s q g.makes own history
+  d = made p s q g.makes
 
   of_others : AreOfOthers (Caller (caller_of_pass p) ∷ []) others
   of_others = subst (λ (t : Seat). AreOfOthers (t ∷ []) others) (own_seat p k seat) d.others
@@ -162,10 +160,10 @@ module _ (p : PassState) (o : Op) (s : Step) (x : Progress) (q : PassState) (k :
       }
 
   -- and that the call may go on
-  pub goes_underway : k < p.table.config.callers → IsHistory p.table.config p.seen → is_under_turn x.flight.op ≡ false
+  pub goes_underway : k < p.table.config.callers → is_under_turn x.flight.op ≡ false
       → (is_past_decision x.flight.stage ≡ false → (x.answer ≡ None) × Admits p x.flight.op)
       → (x.flight.stage ≡ stage.Dirty → is_word_met p.table.config x.flight ≡ true) → IsUnderway q
-  goes_underway exists known goes_on next page =
+  goes_underway exists goes_on next page =
       let back : (P : PassState → Type 0) → P (record p { seen = p.seen ++ (others ++ e ∷ []) }) → P q =
       λ P h. subst P (sym is_more) h in
       let whole : IsHistory c (p.seen ++ (others ++ e ∷ [])) = subst (λ (l : List Event). IsHistory c l) (sym joint)
@@ -175,13 +173,14 @@ module _ (p : PassState) (o : Op) (s : Step) (x : Progress) (q : PassState) (k :
       λ h.
       let keeps : KeepsRegisters (caller_of_pass p) (never_of p) (never_behind c (p.seen ++ (others ++ e ∷ []))) =
       decided_as None h.0 in
-      let st = stands c p.seen known in
+      let st = stands c p.seen (pass_before g.makes).history in
       let flag = flagged_same x.flight.op answer.Done goes_on in
       subst (λ (y : Op). Admits (record p { seen = p.seen ++ (others ++ e ∷ []) }) y) flag
       (call_on c.globals (never_of p) (never_behind c (p.seen ++ (others ++ e ∷ []))) (caller_of_pass p)
       (never_continues c p.seen (others ++ e ∷ [])) keeps
       st.all.mirrors.typed x.flight.op (Some answer.Done) (subst (λ (y : Op). Admits p y) (sym flag) h.1, tt)).0 in
       record {
+        pass = g.makes.pass;
         caller = k;
         seat = back (λ r. r.seat ≡ Caller k) seat;
         exists = back (λ r. k < r.table.config.callers) exists;

@@ -17,11 +17,10 @@ use Rattle.mk_core.specs.Calls.{at_rest, begun, is_under_turn, steps_of, stage_b
 use Rattle.mk_core.specs.Calls.{progress_p, progress_reg, progress_read, progress_getg}
 use Rattle.mk_core.specs.Cells.{is_unmapped_header}
 use Rattle.mk_core.specs.Effects.{progress_probe}
-use Rattle.mk_core.specs.History.{IsHistory}
 use Rattle.mk_core.specs.Ranges.{is_word_met}
-use Rattle.mk_words.specs.Seats.{Has}
 use Rattle.mk_words.specs.States.{PassState, call_of}
 use Rattle.mk_words.specs.Steps.{Goes}
+use Rattle.mk_words.proofs.Made.{pass_before}
 use Rattle.mk_caller.specs.States.{Admits}
 use Rattle.mk_caller.specs.Moves.{MayBeginCall, IsUnderway, CallMoves, is_past_decision, loads_register}
 use Rattle.mk_caller.specs.Moves.{stores_register, is_written}
@@ -34,15 +33,14 @@ pub record Next (c : Config) (f : Flight) (x : Progress) : Type 0 where
   pub page : x.flight.stage ≡ stage.Dirty → is_word_met c x.flight ≡ true
 
 -- A step of a call that may go on leaves one that may.
-pub moves : (p : PassState) (s : Step) (x : Progress) (q : PassState) → IsUnderway p → Has p.seats p.seat
-    → IsHistory p.table.config p.seen
-    → IsHistory q.table.config q.seen → Goes p s x q → Next p.table.config (call_of p) x
+pub moves : (p : PassState) (s : Step) (x : Progress) (q : PassState) → IsUnderway p → Goes p s x q
+    → Next p.table.config (call_of p) x
     → CallMoves p (call_of p).op s x q
-moves p s x q u own before history g next =
+moves p s x q u g next =
     record {
-      makes = one_step p (call_of p).op s x q u.caller u.seat own history g u.entered refl;
+      makes = one_step p (call_of p).op s x q u.caller u.seat g u.entered refl;
       call = g.call;
-      underway = goes_underway p (call_of p).op s x q u.caller u.seat own history g u.entered refl u.exists before
+      underway = goes_underway p (call_of p).op s x q u.caller u.seat g u.entered refl u.exists
           (ap (λ (o : Op). is_under_turn o) next.op ∙ u.entered)
           (λ h. let n = next.undecided h in (n.0, subst (λ (o : Op). Admits p o) (sym next.op) (u.admits n.1)))
           next.page;
@@ -237,16 +235,16 @@ dirty_next c f e =
     (dirty_on c f.op f.q f.p f.r f.loaded)
 
 -- the last step
-pub leaves : (p : PassState) (q : PassState) → IsUnderway p → Has p.seats p.seat → IsHistory p.table.config p.seen
-    → IsHistory q.table.config q.seen → Goes p step.Leave (record { flight = at_rest; answer = None }) q
+pub leaves : (p : PassState) (q : PassState) → IsUnderway p
+    → Goes p step.Leave (record { flight = at_rest; answer = None }) q
     → CallMoves p (call_of p).op step.Leave (record { flight = at_rest; answer = None }) q
-leaves p q u own before history g =
+leaves p q u g =
     record {
-      makes = one_step p (call_of p).op step.Leave (record { flight = at_rest; answer = None }) q u.caller u.seat own
-          history g u.entered refl;
+      makes = one_step p (call_of p).op step.Leave (record { flight = at_rest; answer = None }) q u.caller u.seat
+          g u.entered refl;
       call = g.call;
       underway = goes_underway p (call_of p).op step.Leave (record { flight = at_rest; answer = None }) q u.caller
-          u.seat own history g u.entered refl u.exists before refl
+          u.seat g u.entered refl u.exists refl
           (λ h. cc) (λ h. cc);
     }
 
@@ -255,17 +253,16 @@ begins (op.Clear d) h = cc
 begins _ h = cc
 
 -- and the first
-pub enters : (p : PassState) (o : Op) (q : PassState) → MayBeginCall p o → Has p.seats p.seat
-    → IsHistory p.table.config p.seen
-    → IsHistory q.table.config q.seen → Goes p (step.Enter o) (record { flight = begun o; answer = None }) q
+pub enters : (p : PassState) (o : Op) (q : PassState) → MayBeginCall p o
+    → Goes p (step.Enter o) (record { flight = begun o; answer = None }) q
     → CallMoves p o (step.Enter o) (record { flight = begun o; answer = None }) q
-enters p o q ready own before history g =
+enters p o q ready g =
     record {
-      makes = one_step p o (step.Enter o) (record { flight = begun o; answer = None }) q ready.caller ready.seat own
-          history g ready.entered refl;
+      makes = one_step p o (step.Enter o) (record { flight = begun o; answer = None }) q ready.caller ready.seat
+          g ready.entered refl;
       call = g.call;
       underway = goes_underway p o (step.Enter o) (record { flight = begun o; answer = None }) q ready.caller
-          ready.seat own history g ready.entered refl
-          (caller_exists p o ready.caller before ready.seat ready.admits) before ready.entered
+          ready.seat g ready.entered refl
+          (caller_exists p o ready.caller (pass_before g.makes).history ready.seat ready.admits) ready.entered
           (λ h. (refl, ready.admits)) (λ h. absurd (begins o h));
     }

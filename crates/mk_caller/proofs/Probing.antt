@@ -34,7 +34,6 @@ use Rattle.mk_laws.proofs.AdmittedStill.{meets_register}
 use Rattle.mk_laws.proofs.LastEvents.{Stands, stands}
 use Rattle.mk_laws.proofs.OtherCalls.{registers_are_left, never_continues}
 use Rattle.mk_laws.proofs.ProbesStill.{ready, pages_tell}
-use Rattle.mk_words.specs.Seats.{Has}
 use Rattle.mk_words.specs.States.{PassState, call_of, event_of}
 use Rattle.mk_words.specs.Steps.{Finds}
 use Rattle.mk_words.proofs.Made.{Made, made}
@@ -132,9 +131,8 @@ gets_to_for c es t k is h lt at meets b u =
     (q_of (flight_of (left c es).now t).op)) (i_of (flight_of (left c es).now t).op))
     (sym is) (λ at' meets' u'. gets_to c es k h lt at' meets' b u') at meets u
 
-module _ (p : PassState) (q : PassState) (n : ℕ) (u : IsUnderway p) (own : Has p.seats p.seat)
-    (h : IsHistory p.table.config p.seen)
-    (history : IsHistory q.table.config q.seen) (finds : Finds p step.Probe n q)
+module _ (p : PassState) (q : PassState) (n : ℕ) (u : IsUnderway p)
+    (finds : Finds p step.Probe n q)
     (at : (call_of p).stage ≡ stage.Probe) (through : is_access (call_of p).op ≡ true) where
   abbrev es : List Event
   es = p.seen ++ finds.makes.others
@@ -143,7 +141,7 @@ module _ (p : PassState) (q : PassState) (n : ℕ) (u : IsUnderway p) (own : Has
   o = (call_of p).op
 
   d : Made p step.Probe q finds.makes
-  d = made p step.Probe q finds.makes own history
+  d = made p step.Probe q finds.makes
 
   others : AreOfOthers (Caller (caller_of_pass p) ∷ []) finds.makes.others
   others = subst (λ (t : Seat). AreOfOthers (t ∷ []) finds.makes.others) (own_seat p u.caller u.seat) d.others
@@ -155,7 +153,7 @@ module _ (p : PassState) (q : PassState) (n : ℕ) (u : IsUnderway p) (own : Has
   same = d.frame.own.flight
 
   small : q_of o < 8
-  small = met_is_small p stage.LoadQ h
+  small = met_is_small p stage.LoadQ u.pass.history
 
   meets : Meets (never_behind p.table.config es) (register_at (never_behind p.table.config es) (caller_of_pass p)
       (q_of o))
@@ -163,7 +161,7 @@ module _ (p : PassState) (q : PassState) (n : ℕ) (u : IsUnderway p) (own : Has
   meets =
       meets_register p.table.config.globals (never_of p) (never_behind p.table.config es) (caller_of_pass p)
       (never_continues p.table.config p.seen finds.makes.others) keeps
-      (stands p.table.config p.seen h).all.mirrors.typed (q_of o) (i_of o) (λ kind. Unit {0}) small
+      (stands p.table.config p.seen u.pass.history).all.mirrors.typed (q_of o) (i_of o) (λ kind. Unit {0}) small
       (access_meets (never_of p) (caller_of_pass p) o through
       (u.admits (ap (λ (s : Stage). Rattle.mk_caller.specs.Moves.is_past_decision s) at)).access)
 

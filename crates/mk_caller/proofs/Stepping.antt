@@ -5,7 +5,6 @@ use Rattle.std.specs.Prelude.{◌↔◌, None, nat_lt, nat_le, if◌then◌else�
 use Rattle.std.proofs.lemmas.Bool.{and_parts, ltb-true, leb-true}
 use Rattle.mk_never.specs.declared.operations.Op.{Op}
 use Rattle.mk_never.specs.declared.values.Value.TheVariants.{Null}
-use Rattle.mk_core.specs.declared.config.Config.{Config}
 use Rattle.mk_core.specs.declared.events.Group.TheVariants as group
 use Rattle.mk_core.specs.declared.events.Step.{Step}
 use Rattle.mk_core.specs.declared.events.Step.TheVariants as step
@@ -17,7 +16,6 @@ use Rattle.mk_core.specs.Cells.{is_unmapped_header}
 use Rattle.mk_core.specs.Effects.{progress_probe}
 use Rattle.mk_geom.specs.Headers.{header_of}
 use Rattle.mk_core.specs.declared.events.Answer.TheVariants as answer
-use Rattle.mk_core.specs.History.{IsHistory}
 use Rattle.mk_core.specs.Order.{group_of, comes_next}
 use Rattle.mk_core.specs.Ranges.{is_in_range, is_word_met}
 use Rattle.mk_laws.specs.Images.{has_q, has_some_q, is_put}
@@ -41,13 +39,13 @@ load_undecided stage.LoadP h = (refl, refl)
 load_undecided stage.LoadR h = (refl, refl)
 load_undecided _ h = cc
 
-module _ (p : PassState) (u : IsUnderway p) (h : IsHistory p.table.config p.seen) where
+module _ (p : PassState) (u : IsUnderway p) where
   enabled_step : (s : Step) → group_of s ≡ group.Callers → comes_next (call_of p).stage (call_of p).op s ≡ true
       → is_in_range p.table.config p.seat (call_of p) s ≡ true → IsEnabledTo p s
   enabled_step s kind next range = enabled p s u.caller u.seat u.exists kind next range
 
   admitted_step : (s : Step) → is_past_decision (call_of p).stage ≡ false → IsEnabledTo p s → IsAdmittedTo p s
-  admitted_step s undecided on = admitted p s h on u.entered (u.admits undecided)
+  admitted_step s undecided on = admitted p s u.pass.history on u.entered (u.admits undecided)
 
   pub may_load : loads_register (call_of p).stage ≡ true → IsAdmittedTo p step.Reg
   may_load is =
@@ -62,7 +60,7 @@ module _ (p : PassState) (u : IsUnderway p) (h : IsHistory p.table.config p.seen
           admitted_step step.Reg (ap (λ (s : Stage). is_past_decision s) e)
           (enabled_step step.Reg refl (ap (λ (s : Stage). comes_next s (call_of p).op step.Reg) e) refl)
       by stage.Put e is =
-          idly_admitted p step.Reg h
+          idly_admitted p step.Reg u.pass.history
           (enabled_step step.Reg refl (ap (λ (s : Stage). comes_next s (call_of p).op step.Reg) e) refl)
           (put_decides_nothing p u.caller u.seat e)
       by _ e is = cc
@@ -70,7 +68,8 @@ module _ (p : PassState) (u : IsUnderway p) (h : IsHistory p.table.config p.seen
   pub null_is : (r : ℕ) → loads_register (call_of p).stage ≡ true → r ≡ register_met (call_of p) (call_of p).stage
       → (register_of p r ≡ 0) ↔ (value_of p r ≡ Null)
   null_is r is met =
-      null_tells p u.caller r u.seat h (subst (λ x. x < 8) (sym met) (met_is_small p (call_of p).stage h))
+      null_tells p u.caller r u.seat u.pass.history
+      (subst (λ x. x < 8) (sym met) (met_is_small p (call_of p).stage u.pass.history))
       (load_undecided (call_of p).stage is).1
 
   -- a step that reaches the accessed word, or its page
@@ -79,7 +78,7 @@ module _ (p : PassState) (u : IsUnderway p) (h : IsHistory p.table.config p.seen
       (has : has_q s (call_of p).op ≡ true) (some : has_some_q s (call_of p).op ≡ true) where
     pub met : is_word_met p.table.config (call_of p) ≡ true
     met =
-        word_is_met p u.caller u.seat h (ap (λ (x : Stage). has_q x (call_of p).op) at ∙ has)
+        word_is_met p u.caller u.seat u.pass.history (ap (λ (x : Stage). has_q x (call_of p).op) at ∙ has)
         (ap (λ (x : Stage). has_some_q x (call_of p).op) at ∙ some) through
         (u.admits (ap (λ (x : Stage). is_past_decision x) at ∙ undecided))
 
@@ -133,16 +132,15 @@ pub probe_passed : (p q : PassState) (n : ℕ) → is_unmapped_header (header_of
 probe_passed p q n is m = probe_by p q n false is m
 
 -- A pointer that is moved on stays within its allocation.
-pub moved_within : (p : PassState) (u : IsUnderway p) (h : IsHistory p.table.config p.seen) (value offset : ℕ)
-    (config : Config)
+pub moved_within : (p : PassState) (u : IsUnderway p) (value offset : ℕ)
     → (call_of p).stage ≡ stage.Store → is_access (call_of p).op ≡ true → has_q stage.Store (call_of p).op ≡ true
     → has_some_q stage.Store (call_of p).op ≡ true
-    → value ≡ (call_of p).q → offset ≡ i_of (call_of p).op → p.table.config ≡ config → config.pages ≤ 4096
+    → value ≡ (call_of p).q → offset ≡ i_of (call_of p).op
     → value + 8 * offset < 2 ^ 64
-moved_within p u h value offset config at access has some v i table pages =
-    let m = met p u h stage.Store at access refl has some in
-    let b = met_bounds p u h value offset v i m in
-    let same : p.table.config.pages ≡ config.pages = ap (λ (c : Config). c.pages) table in
+moved_within p u value offset at access has some v i =
+    let m = met p u stage.Store at access refl has some in
+    let b = met_bounds p u value offset v i m in
+    let pages = u.pass.history.within_limits.pages.1 in
     let low = b.0 in
     let word = b.1 in
     let is = b.2 in

@@ -18,7 +18,7 @@ use Rattle.mk_core.specs.Calls.{progress_read, progress_getg}
 use Rattle.mk_core.specs.Decided.{entry_of}
 use Rattle.mk_core.specs.History.{never_behind}
 use Rattle.mk_core.specs.Ranges.{is_word_met}
-use Rattle.mk_words.specs.States.{PassState, call_of}
+use Rattle.mk_words.specs.States.{PassState, IsPass, call_of}
 use Rattle.mk_caller.specs.States.{caller_of_pass, never_of, Admits}
 use Rattle.mk_caller.specs.Called.{step_at, refused_from, own_steps, own_calls, IsDecidedIn}
 
@@ -75,6 +75,7 @@ pub record MayBeginCall (p : PassState) (o : Op) : Type 0 where
 
 -- The pass is in a call between `enter` and `leave`, and may make the next step.
 pub record IsUnderway (p : PassState) : Type 0 where
+  pub pass : IsPass p
   pub caller : ℕ
   pub seat : p.seat ≡ Caller caller
   pub exists : caller < p.table.config.callers

@@ -1,14 +1,14 @@
 //! The steps of a call, each with what is known of the call after it.
 ghost use Rattle.std.specs.Prelude.{◌≡◌, ◌↔◌, OnOk, OnErr, IfSome, IfNone, Some, None, true, ◌+◌, ◌-◌, ◌*◌, ◌/◌, ◌%◌};
-ghost use Rattle.std.specs.Prelude.{◌^◌, if◌then◌else◌};
+ghost use Rattle.std.specs.Prelude.{◌^◌};
 ghost use Rattle.mk_never.specs.declared.values.Value.TheVariants.{Null};
-ghost use Rattle.mk_core.specs.declared.accesses.Access.TheVariants.{Load, Store};
+ghost use Rattle.mk_core.specs.declared.accesses.Access.TheVariants.{Store};
 ghost use Rattle.mk_core.specs.declared.events.Answer.TheVariants as answer;
 ghost use Rattle.mk_core.specs.declared.events.Step.TheVariants as step;
 ghost use Rattle.mk_core.specs.declared.seats.Stage.TheVariants as stage;
 ghost use Rattle.mk_core.specs.Accesses.{register_met, reg_access};
-ghost use Rattle.mk_core.specs.Calls.{at_rest, begun, onward, refused, g_of, i_of, value_written, one_if, page_met};
-ghost use Rattle.mk_core.specs.Calls.{word_met, progress_reg, progress_read, progress_getg};
+ghost use Rattle.mk_core.specs.Calls.{refused, g_of, i_of, value_written, page_met};
+ghost use Rattle.mk_core.specs.Calls.{word_met};
 ghost use Rattle.mk_words.specs.States.{call_of};
 ghost use Rattle.mk_laws.specs.Images.{has_q, has_some_q};
 ghost use Rattle.mk_caller.specs.States.{caller_of_pass, value_of};
@@ -33,9 +33,7 @@ pub(crate) fn enter(words: &Words, caller: u64, pass: &mut Pass, op: Op) -> Resu
     ensures held { OnErr result (FindsGateHeld pass.old op pass.new) }
 {
     pass.is_in_order();
-    let entered = pass.enter(words, caller, op);
-    pass.is_in_order();
-    entered
+    pass.enter(words, caller, op)
 }
 
 /// Ends a call.
@@ -47,9 +45,7 @@ pub(crate) fn leave(words: &Words, caller: u64, pass: &mut Pass)
     requires stage { (call_of pass.old).stage ≡ stage.Leave }
     ensures moves { CallGoesOn pass.old step.Leave call_ends pass.new }
 {
-    pass.is_in_order();
     pass.leave(words, caller);
-    pass.is_in_order();
 }
 
 /// Loads a register, which is 0 exactly where its value is null.
@@ -63,10 +59,7 @@ pub(crate) fn load(words: &Words, caller: u64, pass: &mut Pass, r: u8) -> u64
     ensures moves { CallGoesOn pass.old step.Reg (loads result) pass.new }
     ensures null { (result ≡ 0) ↔ (value_of pass.old r ≡ Null) }
 {
-    pass.is_in_order();
-    let value = pass.reg_load(words, caller, r);
-    pass.is_in_order();
-    value
+    pass.reg_load(words, caller, r)
 }
 
 /// Stores to a register.
@@ -80,9 +73,7 @@ pub(crate) fn store(words: &Words, caller: u64, pass: &mut Pass, r: u8, v: u64)
     requires stores { reg_access (call_of pass.old) (call_of pass.old).stage ≡ Store v }
     ensures moves { CallGoesOn pass.old step.Reg (loads v) pass.new }
 {
-    pass.is_in_order();
     pass.reg_store(words, caller, r, v);
-    pass.is_in_order();
 }
 
 /// Loads the word that the call accesses.
@@ -96,10 +87,7 @@ pub(crate) fn read(words: &Words, pages: u64, pass: &mut Pass, word: u64) -> u64
     requires word { word ≡ word_met (call_of pass.old) }
     ensures moves { CallGoesOn pass.old step.Read (reads result) pass.new }
 {
-    pass.is_in_order();
-    let value = pass.read(words, pages, word);
-    pass.is_in_order();
-    value
+    pass.read(words, pages, word)
 }
 
 /// Stores to the word that the call accesses.
@@ -114,9 +102,7 @@ pub(crate) fn write(words: &Words, pages: u64, pass: &mut Pass, word: u64, v: u6
     requires value { v ≡ value_written (call_of pass.old) (call_of pass.old).op }
     ensures moves { CallGoesOn pass.old step.Write writes pass.new }
 {
-    pass.is_in_order();
     pass.write(words, pages, word, v);
-    pass.is_in_order();
 }
 
 /// Exchanges the word that the call accesses, where it is as expected.
@@ -139,10 +125,7 @@ pub(crate) fn cas(
     requires new { new ≡ (call_of pass.old).r }
     ensures moves { CallGoesOn pass.old step.Cas (exchanges result) pass.new }
 {
-    pass.is_in_order();
-    let exchanged = pass.cas(words, pages, word, expected, new);
-    pass.is_in_order();
-    exchanged
+    pass.cas(words, pages, word, expected, new)
 }
 
 /// Marks the page of the word that the call wrote.
@@ -155,9 +138,7 @@ pub(crate) fn dirty(words: &Words, pages: u64, pass: &mut Pass, page: u64)
     requires page { page ≡ page_met (call_of pass.old) }
     ensures moves { CallGoesOn pass.old step.Dirty passes pass.new }
 {
-    pass.is_in_order();
     pass.dirty(words, pages, page);
-    pass.is_in_order();
 }
 
 /// Loads the global of the call.
@@ -169,10 +150,7 @@ pub(crate) fn global_load(words: &Words, pass: &mut Pass, g: u8) -> u64
     requires global { g ≡ g_of (call_of pass.old).op }
     ensures moves { CallGoesOn pass.old step.Getg (loads_global result) pass.new }
 {
-    pass.is_in_order();
-    let value = pass.global_load(words, g);
-    pass.is_in_order();
-    value
+    pass.global_load(words, g)
 }
 
 /// Stores to the global of the call.
@@ -185,9 +163,7 @@ pub(crate) fn global_store(words: &Words, pass: &mut Pass, g: u8, v: u64)
     requires value { v ≡ (call_of pass.old).p }
     ensures moves { CallGoesOn pass.old step.Setg writes pass.new }
 {
-    pass.is_in_order();
     pass.global_store(words, g, v);
-    pass.is_in_order();
 }
 
 /// Loads the header of the page of the word that the call accesses, through the value `u` and `i` words on. Answers the
@@ -206,13 +182,10 @@ pub(crate) fn probe(words: &Words, pass: &mut Pass, u: u64, i: u64) -> Option<u6
     ensures refused { IfNone result (CallGoesOn pass.old step.Probe faults pass.new) }
     ensures unmapped { IfNone result (Probes pass.old (call_of pass.old).op pass.new Unmapped) }
 {
-    pass.is_in_order();
-    words.is_within_limits();
     let word = (u - HEAP_START) / WORD_BYTES + i;
     // The number of a word fits 32 bits, in which its page is a single shift away.
     let page = u64::from(word as u32 / PAGE_WORDS as u32);
     let header = pass.probe(words, page);
-    pass.is_in_order();
     if is_unmapped(header) {
         None
     } else {
@@ -233,7 +206,5 @@ pub(crate) fn moved_on(words: &Words, pass: &Pass, u: u64, i: u64) -> u64
     requires offset { i ≡ i_of (call_of pass.now).op }
     ensures { result ≡ (u + 8 * i) % 2 ^ 64 }
 {
-    pass.is_in_order();
-    words.is_within_limits();
     u + 8 * i
 }

@@ -8,6 +8,7 @@ use Rattle.mk_core.specs.declared.events.Seat.{Seat}
 use Rattle.mk_core.specs.declared.events.Tally.{Tally}
 use Rattle.mk_core.specs.declared.events.Word.{Word}
 use Rattle.mk_core.specs.declared.events.Word.TheVariants as word
+use Rattle.mk_core.specs.declared.events.Step.{Step}
 use Rattle.mk_core.specs.declared.events.Step.TheVariants as step
 use Rattle.mk_core.specs.declared.seats.Flight.{Flight}
 use Rattle.mk_core.specs.Moments.{is_phase, others_are_held}
@@ -20,9 +21,10 @@ use Rattle.mk_laws.proofs.Protocols.{lists_keep_the_protocol}
 use Rattle.mk_never.specs.declared.operations.Op.{Op}
 use Rattle.mk_core.specs.History.{IsHistory}
 use Rattle.mk_words.specs.Seats.{Has}
-use Rattle.mk_words.specs.TurnSteps.{IsTurn}
+use Rattle.mk_words.specs.TurnSteps.{Acts, IsTurn, turn_stays}
 use Rattle.mk_words.specs.States.{WordsState, PassState, now_of, call_of}
 use Rattle.mk_words.specs.Steps.{IsEnabledTo}
+use Rattle.mk_words.proofs.TurnSteps.{holds_after}
 use Rattle.mk_cycle.specs.EngineLaw.{IsFreeForCycle, IsAtPhase, is_register}
 use Rattle.mk_cycle.specs.TurnKeeps.{InTurn}
 use Rattle.mk_cycle.proofs.Calm.{no_target}
@@ -103,6 +105,11 @@ module _ (p : PassState) (t : InTurn p) (free : IsFreeForCycle p) where
 pub in_turn : (p : PassState) (o : Option Op) → Has p.seats p.seat → IsTurn p o → IsHistory p.table.config p.seen
     → InTurn p
 in_turn p o own turn history = record { own = own; holds = turn.holds; history = history }
+
+-- after a step of the turn that isn't its last
+pub in_turn_after : {p : PassState} {s : Step} {q : PassState} → Acts p s q → turn_stays s ≡ true → InTurn q
+in_turn_after a stays =
+    record { own = a.makes.pass.own; holds = holds_after a stays; history = a.makes.pass.history }
 
 pub on_table : (p : PassState) (w : WordsState) → p.table ≡ w → (page : ℕ) → page < w.config.pages
     → page < p.table.config.pages

@@ -108,7 +108,7 @@ module _ (p q : PassState) (t : InTurn p) (free : IsFreeForCycle p) (none : IsAt
 
   phase_there : (w.now.words.phase + 1) % 2 ^ 64 % 8 ≡ 1
   phase_there =
-      let there = (made p step.Begin q a.makes t.own u.history).protocol in
+      let there = (made p step.Begin q a.makes).protocol in
       let low : w.now.words.phase % 8 ≡ 0 = ap (λ (s : Steady). s.phase) a.turn.steady ∙ none in
       let few : count_by is_in w.now.seats.markers ≤ 8 =
       subst (λ (n : ℕ). count_by is_in w.now.seats.markers ≤ n) there.markers

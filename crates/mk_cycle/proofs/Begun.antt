@@ -278,7 +278,7 @@ module _ (begins : Config → Seat → List Event → List Event → Type 0) whe
       → EachIsBegun begins p q
   step_begins_none p q x own m none =
       does_begin_none (λ (y : Step). not (is_begin y)) p q (λ y h. not-true (is_begin y) h)
-      (does_step (λ (y : Step). not (is_begin y)) p q x own m (ap not none))
+      (does_step (λ (y : Step). not (is_begin y)) p q x m (ap not none))
 
   -- the end of a cycle
   pub finish_begins_none : (p q : PassState) → Has p.seats p.seat → FinishesCycle p q → EachIsBegun begins p q

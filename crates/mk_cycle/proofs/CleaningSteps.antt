@@ -121,7 +121,7 @@ module _ (p : PassState) (s : Step) (q : PassState) (a : Acts p s q) (t : InTurn
       → Cleans p q
   cleans_step x =
       record {
-        does = does_step clears p q s t.own a.makes cleans;
+        does = does_step clears p q s a.makes cleans;
         keeps = calm_keeps p s q a t history kind free but_cleaned x.steady;
         gates = gates_behind p s q a x.gates;
         unmarked = λ r h.
@@ -276,7 +276,7 @@ module _ (p q : PassState) (t : InTurn p) (free : IsFreeForCycle p) (none : IsAt
       snapshot_taken =
           let c : Config = p.table.config in
           let es : List Event = p.seen ++ a.makes.others in
-          let known = stands c es (made p (step.Quar page v) q a.makes t.own u.history).history in
+          let known = stands c es (made p (step.Quar page v) q a.makes).history in
           let long : page < length w.now.words.snapshot =
           subst (λ (n : ℕ). page < n) (sym known.known.lengths.snapshot) lt in
           let small : slice_index w.now.words.freed page < 2 ^ 32 = (known.all.order.quarantined.small page).0 in
@@ -289,7 +289,7 @@ module _ (p q : PassState) (t : InTurn p) (free : IsFreeForCycle p) (none : IsAt
       has_snapshot =
           let c : Config = p.table.config in
           let es : List Event = p.seen ++ a.makes.others in
-          let known = stands c es (made p (step.Quar page v) q a.makes t.own u.history).history in
+          let known = stands c es (made p (step.Quar page v) q a.makes).history in
           let long : page < length w.now.words.snapshot =
           subst (λ (n : ℕ). page < n) (sym known.known.lengths.snapshot) lt in
           let long' : page < length w.now.words.freed =

@@ -44,7 +44,7 @@ module _ (p q : PassState) (t : InTurn p) (at : IsAtPhase p 4) (u : InTurn q) (a
 
   phase_there : (w.now.words.phase + (2 ^ 64 - 4)) % 2 ^ 64 % 8 ≡ 0
   phase_there =
-      let there = (made p step.End q a.makes t.own u.history).protocol in
+      let there = (made p step.End q a.makes).protocol in
       let low : w.now.words.phase % 8 ≡ 4 = ap (λ (s : Steady). s.phase) a.turn.steady ∙ at in
       let few : count_by is_in w.now.seats.markers ≤ 8 =
       subst (λ (n : ℕ). count_by is_in w.now.seats.markers ≤ n) there.markers

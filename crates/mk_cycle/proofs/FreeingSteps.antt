@@ -133,7 +133,7 @@ module _ (p : PassState) (s : Step) (q : PassState) (a : Acts p s q) (t : InTurn
       let w : World = world_at a.makes in
       let m : Moment = w.now in
       let f : Flight = flight_of m p.seat in
-      let d = made p s q a.makes t.own u.history in
+      let d = made p s q a.makes in
       let pending : is_pending_free f ≡ false = ap is_pending_free a.own.flight ∙ free.decided in
       let st : (n : ℕ) → progress c m f n s ≡ still f = λ n. frees_still c m f n s kind pending in
       let four : is_phase m.words 4 ≡ true = eq-eqb (phase_of m.words) 4 (ap (λ (y : Steady). y.phase) a.turn.steady
@@ -141,7 +141,7 @@ module _ (p : PassState) (s : Step) (q : PassState) (a : Acts p s q) (t : InTurn
       let finds : HolderFinds c p.seat (world_of p) w =
       holder_finds c p.seat p.seen a.makes.others d.history d.others t.holds in
       record {
-        does = does_step is_giving_back p q s t.own a.makes gives;
+        does = does_step is_giving_back p q s a.makes gives;
         keeps = record {
           call = keeps_call p s q a t.own t.holds u.history st
               (λ n. frees_done c m p.seat f n s m.seats.holding kind pending four) (frees_stores s kind);

@@ -239,7 +239,7 @@ module _ (p q : PassState) (t : InTurn p) (u : InTurn q) (free : IsFreeForCycle 
     used_state =
         let w : World = world_at a.makes in
         let known = stands p.table.config (p.seen ++ a.makes.others)
-        (made p (step.Used page v) q a.makes t.own u.history).history in
+        (made p (step.Used page v) q a.makes).history in
         let long : page < length w.now.words.pages = subst (λ (n : ℕ). page < n) (sym known.known.lengths.pages) lt in
         state_behind p q _ a.world page
         ∙ ap (λ (x : Page). record {
@@ -277,7 +277,7 @@ module _ (p q : PassState) (t : InTurn p) (u : InTurn q) (free : IsFreeForCycle 
     head_state =
         let w : World = world_at a.makes in
         let known = stands p.table.config (p.seen ++ a.makes.others)
-        (made p (step.Head page 0) q a.makes t.own u.history).history in
+        (made p (step.Head page 0) q a.makes).history in
         let long : page < length w.now.words.pages = subst (λ (n : ℕ). page < n) (sym known.known.lengths.pages) lt in
         state_behind p q _ a.world page
         ∙ ap (λ (x : Page). record {
@@ -319,7 +319,7 @@ module _ (p q : PassState) (t : InTurn p) (u : InTurn q) (free : IsFreeForCycle 
     quar_state =
         let w : World = world_at a.makes in
         let known = stands p.table.config (p.seen ++ a.makes.others)
-        (made p (step.Quar page v) q a.makes t.own u.history).history in
+        (made p (step.Quar page v) q a.makes).history in
         let long : page < length w.now.words.freed = subst (λ (n : ℕ). page < n) (sym known.known.lengths.freed) lt in
         let long' : page < length w.now.words.snapshot =
         subst (λ (n : ℕ). page < n) (sym known.known.lengths.snapshot) lt in

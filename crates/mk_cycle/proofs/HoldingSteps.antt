@@ -71,7 +71,7 @@ module _ (p q : PassState) (t : InTurn p) (free : IsFreeForCycle p) (u : InTurn 
   pub look_holds : (j : ℕ) → Acts p (step.Look (word.Gate j)) q → HoldsGates p q
   look_holds j a =
       record {
-        does = does_step holds_gates p q (step.Look (word.Gate j)) t.own a.makes refl;
+        does = does_step holds_gates p q (step.Look (word.Gate j)) a.makes refl;
         keeps = calm_keeps p (step.Look (word.Gate j)) q a t u.history refl free unchanged refl;
         held = λ i h. eq-eqb _ 2 (ap (λ (w : World). slice_index w.now.words.gates i) a.world
             ∙ a.turn.held_gates i (eqb-true _ 2 h));
@@ -80,7 +80,7 @@ module _ (p q : PassState) (t : InTurn p) (free : IsFreeForCycle p) (u : InTurn 
   pub hold_holds : (j : ℕ) → Acts p (step.Hold j) q → HoldsGates p q
   hold_holds j a =
       record {
-        does = does_step holds_gates p q (step.Hold j) t.own a.makes refl;
+        does = does_step holds_gates p q (step.Hold j) a.makes refl;
         keeps = calm_keeps p (step.Hold j) q a t u.history refl free unchanged refl;
         held = λ i h. eq-eqb _ 2
             (ap (λ (w : World). slice_index w.now.words.gates i) a.world

@@ -92,9 +92,10 @@ by_itself p j t free at h =
       others = [];
       of_others = tt;
       is = ap (λ (es : List Event). record p { seen = es ++ event_of p (step.Open j) ∷ [] }) (sym (append-nil p.seen));
+      pass = record { own = t.own; history = h };
     } in
-    let a = acts p (step.Open j) q makes t.own h t.holds in
-    let turn = still_turn p (step.Open j) q makes t.own h (op_for p.seat (call_of p)) refl
+    let a = acts p (step.Open j) q makes t.holds in
+    let turn = still_turn p (step.Open j) q makes (op_for p.seat (call_of p)) refl
     (record { holds = t.holds; op = refl }) in
     let next : InTurn q = record { own = t.own; holds = turn.holds; history = h } in
     record {

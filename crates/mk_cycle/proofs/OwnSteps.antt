@@ -82,7 +82,7 @@ module _ (p : PassState) (s : Step) (q : PassState) (a : Acts p s q) (own : Has 
   m = (world_at a.makes).now
 
   pub d : Made p s q a.makes
-  d = made p s q a.makes own history
+  d = made p s q a.makes
 
   pub same_pass : q ≡ record p { seen = q.seen }
   same_pass = a.makes.is ∙ ap (λ (r : PassState). record p { seen = r.seen }) (sym a.makes.is)

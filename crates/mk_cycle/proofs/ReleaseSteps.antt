@@ -37,7 +37,7 @@ pub phase_at : (p : PassState) (s : Step) (q : PassState) (a : Acts p s q) → I
     → ((world_at a.makes).now.words.phase + 1) % 2 ^ 64 % 8 ≡ phase + 1
 phase_at p s q a t u phase at small =
     let w : World = world_at a.makes in
-    let there = (made p s q a.makes t.own u.history).protocol in
+    let there = (made p s q a.makes).protocol in
     let low : w.now.words.phase % 8 ≡ phase = ap (λ (y : Steady). y.phase) a.turn.steady ∙ at in
     let few : count_by is_in w.now.seats.markers ≤ 8 =
     subst (λ (n : ℕ). count_by is_in w.now.seats.markers ≤ n) there.markers

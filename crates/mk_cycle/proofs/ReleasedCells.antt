@@ -78,7 +78,7 @@ module _ (d q : PassState) (t : InTurn d) (u : InTurn q) (at : IsAtPhase d 3) (a
   -- the freed allocation of a released cell, before the release
   owner : (page k : ℕ) → has_bit (left_unmarked w.now.words page) k ≡ true → IsFreedCell c w.allocations page k
   owner page k has =
-      let order = (stands c es (made d step.Release q a.makes t.own u.history).history).all.order in
+      let order = (stands c es (made d step.Release q a.makes).history).all.order in
       let in_snapshot = (and_parts (has_bit (slice_index w.now.words.snapshot page) k)
       (not (has_bit (slice_index w.now.words.marks page) k))
       (sym (has_bit_without (slice_index w.now.words.snapshot page) (slice_index w.now.words.marks page) k) ∙ has)).0 in
@@ -98,7 +98,7 @@ module _ (d q : PassState) (t : InTurn d) (u : InTurn q) (at : IsAtPhase d 3) (a
       → IsWordOf (storage_of c (placed_at w.allocations f.number)) n
       → IsWordOfMapped c (map (with_released c w.now.words) w.allocations) n → ⊥
   none_mapped page k n f has word m =
-      let history = (made d step.Release q a.makes t.own u.history).history in
+      let history = (made d step.Release q a.makes).history in
       let x : PlacedAllocation = placed_at w.allocations m.number in
       let y : PlacedAllocation = placed_at w.allocations f.number in
       let same : placed_at (map (with_released c w.now.words) w.allocations) m.number ≡ with_released c w.now.words x =
@@ -134,7 +134,7 @@ module _ (d q : PassState) (t : InTurn d) (u : InTurn q) (at : IsAtPhase d 3) (a
       → is_unmapped_header (header_in w.now.words page) ≡ true
       → is_mapped c (placed_at w.allocations f.number) ≡ false
   unmapped_owner page k f gone =
-      let history = (made d step.Release q a.makes t.own u.history).history in
+      let history = (made d step.Release q a.makes).history in
       let y : PlacedAllocation = placed_at w.allocations f.number in
       let o : Object = object_placed c y in
       let st = allocations_stand c es history f.number f.unreleased in
@@ -152,7 +152,7 @@ module _ (d q : PassState) (t : InTurn d) (u : InTurn q) (at : IsAtPhase d 3) (a
 
   gone_there : IsGone d → is_run_gone w.now.words w.now.seats.holding.freed ≡ true
   gone_there gone =
-      let m = made d step.Release q a.makes t.own u.history in
+      let m = made d step.Release q a.makes in
       let finds : HolderFinds c d.seat (world_of d) w =
       holder_finds c d.seat d.seen a.makes.others m.history m.others t.holds in
       ap (λ (h : Holding). is_run_gone w.now.words h.freed) finds.holding ∙ finds.gone gone
@@ -162,13 +162,13 @@ module _ (d q : PassState) (t : InTurn d) (u : InTurn q) (at : IsAtPhase d 3) (a
       → is_unmapped_header (header_in w.now.words page) ≡ true
       → IsWordOf (storage_of c (placed_at w.allocations f.number)) n → slice_index w.now.words.heap n ≡ 0
   unmapped_is_zero gone page k n f unmapped word =
-      let history = (made d step.Release q a.makes t.own u.history).history in
+      let history = (made d step.Release q a.makes).history in
       let three : phase_of w.now.words ≡ 3 = ap (λ (s : Steady). s.phase) a.turn.steady ∙ at in
       unmapped_words_are_zero c es history (λ four. absurd (omega arith)) (gone_there gone) n none
     where
       none : IsOfNoneMapped c w.allocations n
       none i mapped there =
-          let history = (made d step.Release q a.makes t.own u.history).history in
+          let history = (made d step.Release q a.makes).history in
           let number : i ≡ f.number =
           allocations_are_disjoint c es history i f.number n (mapped_stays c (placed_at w.allocations i) mapped)
           f.unreleased there word in
@@ -182,7 +182,7 @@ module _ (d q : PassState) (t : InTurn d) (u : InTurn q) (at : IsAtPhase d 3) (a
       × IsWordOf (storage_of c (placed_at w.allocations f.number))
       (64 * page + k * words_under (header_in w.now.words page) + i)
   owned_word page k i has small f =
-      let history = (made d step.Release q a.makes t.own u.history).history in
+      let history = (made d step.Release q a.makes).history in
       let y : PlacedAllocation = placed_at w.allocations f.number in
       let st = allocations_stand c es history f.number f.unreleased in
       let begins = cells_begin c w.now.words y history.within_limits st.stands st.headers in

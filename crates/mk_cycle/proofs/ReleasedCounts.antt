@@ -245,7 +245,7 @@ module _ (c : Config) (es : List Event) (h : IsHistory c es) (at : phase_of (lef
 -- A pass that made the `release` knows it so.
 module _ (d q : PassState) (t : InTurn d) (u : InTurn q) (at : IsAtPhase d 3) (a : Acts d step.Release q) where
   there : IsHistory d.table.config (d.seen ++ a.makes.others)
-  there = (made d step.Release q a.makes t.own u.history).history
+  there = (made d step.Release q a.makes).history
 
   phase_there : phase_of (world_at a.makes).now.words ≡ 3
   phase_there = ap (λ (s : Steady). s.phase) a.turn.steady ∙ at

@@ -58,7 +58,7 @@ module _ (p q : PassState) (t : InTurn p) (free : IsFreeForCycle p) (u : InTurn 
   look_sets x a =
       let k = calm_keeps p (step.Look x) q a t u.history refl free unchanged refl in
       record {
-        does = does_step sets_tallies p q (step.Look x) t.own a.makes refl;
+        does = does_step sets_tallies p q (step.Look x) a.makes refl;
         call = k.call;
         steady = k.steady;
         counts = k.counts;
@@ -70,7 +70,7 @@ module _ (p q : PassState) (t : InTurn p) (free : IsFreeForCycle p) (u : InTurn 
   tally_sets n v a =
       let k = calm_keeps p (step.Tally n v) q a t u.history refl free (nothing_seen (steady_of (world_of p))) refl in
       record {
-        does = does_step sets_tallies p q (step.Tally n v) t.own a.makes refl;
+        does = does_step sets_tallies p q (step.Tally n v) a.makes refl;
         call = k.call;
         steady = ap (λ (x : World). steady_of x) a.world
             ∙ tally_behind p.table.config (world_at a.makes) p n v

@@ -18,7 +18,7 @@ told_closing tells p q has makes history told =
       before = makes.others;
       behind = [];
       is = ap (λ (x : PassState). x.seen) makes.is;
-      told = told makes.others makes.of_others (made p step.Close q makes has history).history;
+      told = told makes.others makes.of_others (made p step.Close q makes).history;
     }
 
 -- when more was seen after it

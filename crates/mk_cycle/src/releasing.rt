@@ -42,5 +42,4 @@ pub(crate) fn release_unmarked<E: Engine, R: Threads + Wait + Sync>(
     stop.close_phase(words);
     stop.is_in_order();
     stop.release(words);
-    stop.is_in_order();
 }

@@ -36,9 +36,7 @@ pub(crate) fn look_among(turn: &mut Turn, words: &Words, pages: u64, x: Word) ->
     ensures reads { result ≡ named_word (now_of turn.new.pass).words x }
 {
     turn.is_in_order();
-    let found = turn.look_among(words, pages, x);
-    turn.is_in_order();
-    found
+    turn.look_among(words, pages, x)
 }
 
 /// Looks at a word that is no register.
@@ -112,7 +110,6 @@ pub(crate) fn clear(turn: &mut Turn, words: &Words, page: u64)
 {
     turn.is_in_order();
     turn.clear(words, page);
-    turn.is_in_order();
 }
 
 /// Clears a page's black word.
@@ -128,7 +125,6 @@ pub(crate) fn unblack(turn: &mut Turn, words: &Words, page: u64)
 {
     turn.is_in_order();
     turn.unblack(words, page);
-    turn.is_in_order();
 }
 
 /// Clears a page's dirty word.
@@ -144,7 +140,6 @@ pub(crate) fn undirty(turn: &mut Turn, words: &Words, page: u64)
 {
     turn.is_in_order();
     turn.undirty(words, page);
-    turn.is_in_order();
 }
 
 /// Makes a page's freed cells its snapshot: the value is its quarantine word with the freed half in both.
@@ -162,7 +157,6 @@ pub(crate) fn take_snapshot(turn: &mut Turn, words: &Words, page: u64, value: u6
 {
     turn.is_in_order();
     turn.quar(words, page, value);
-    turn.is_in_order();
 }
 
 /// Stores a tally.
@@ -176,7 +170,6 @@ pub(crate) fn tally(turn: &mut Turn, words: &Words, n: Tally, v: u64)
 {
     turn.is_in_order();
     turn.tally(words, n, v);
-    turn.is_in_order();
 }
 
 /// Begins a cycle, where all pages are clean and nothing is fresh.
@@ -193,7 +186,6 @@ pub(crate) fn begin(turn: &mut Turn, words: &Words)
 {
     turn.is_in_order();
     turn.begin(words);
-    turn.is_in_order();
 }
 
 /// Tries to hold the gate of another caller, which isn't held yet. Where it returns true the gate is held.
@@ -210,9 +202,7 @@ pub(crate) fn try_hold(turn: &mut Turn, words: &Words, caller: u64) -> bool
     ensures held { result ≡ true → is_held (now_of turn.new.pass).words caller ≡ true }
 {
     turn.is_in_order();
-    let held = turn.try_hold(words, caller).is_ok();
-    turn.is_in_order();
-    held
+    turn.try_hold(words, caller).is_ok()
 }
 
 /// Wipes a word of a released cell.
@@ -230,7 +220,6 @@ pub(crate) fn wipe(turn: &mut Turn, words: &Words, word: u64)
 {
     turn.is_in_order();
     turn.wipe(words, word);
-    turn.is_in_order();
 }
 
 /// Stores the used word of a page, without released cells whose words are 0.
@@ -247,7 +236,6 @@ pub(crate) fn give_cells(turn: &mut Turn, words: &Words, page: u64, v: u64)
 {
     turn.is_in_order();
     turn.used(words, page, v);
-    turn.is_in_order();
 }
 
 /// Stores the quarantine word of a page, without released cells that aren't used.
@@ -264,7 +252,6 @@ pub(crate) fn drop_cells(turn: &mut Turn, words: &Words, page: u64, v: u64)
 {
     turn.is_in_order();
     turn.quar(words, page, v);
-    turn.is_in_order();
 }
 
 /// Frees a page on which nothing is.
@@ -281,7 +268,6 @@ pub(crate) fn free_head(turn: &mut Turn, words: &Words, page: u64)
 {
     turn.is_in_order();
     turn.head(words, page, 0);
-    turn.is_in_order();
 }
 
 /// Ends the cycle, where all pages are settled.
@@ -297,5 +283,4 @@ pub(crate) fn end(turn: &mut Turn, words: &Words)
 {
     turn.is_in_order();
     turn.end(words);
-    turn.is_in_order();
 }

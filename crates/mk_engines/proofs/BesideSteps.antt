@@ -133,7 +133,7 @@ module _ (t u : TurnState) (s : Step) (a : Acts t.pass s u.pass) (was : InTurn t
 
   pub stays_well : is_head s ≡ false → StaysWell t.pass u.pass
   stays_well none v h =
-      let d = stands_behind_others t.pass u.pass s a.makes was.own is.history in
+      let d = stands_behind_others t.pass u.pass s a.makes in
       let early : IsMarking (world_at a.makes).now.words = inl phase_there in
       let others = (d.admitted.turn was.holds).well (inl b.marking) v h in
       ap (λ (w : World). points_well c.pages w.now.words v) a.world
@@ -152,7 +152,7 @@ module _ (t u : TurnState) (s : Step) (a : Acts t.pass s u.pass) (was : InTurn t
         op = same;
         beside = still_beside t.pass u.pass b keeps;
         marks = record {
-          does = does_step begins_marking t.pass u.pass s was.own a.makes kind;
+          does = does_step begins_marking t.pass u.pass s a.makes kind;
           keeps = keeps;
           reached = keeps_step t.pass s u.pass a.makes TracesReached was.own rule;
           found =
@@ -190,7 +190,7 @@ module _ (t u : TurnState) (was : InTurn t.pass) (is : InTurn u.pass) (b : IsBes
         table = ap (λ (y : PassState). y.table) a.makes.is;
         op = same;
         beside = still_beside t.pass u.pass b keeps;
-        does = does_step begins_marking t.pass u.pass (step.Look x) was.own a.makes refl;
+        does = does_step begins_marking t.pass u.pass (step.Look x) a.makes refl;
         keeps = keeps;
         reached = keeps_step t.pass (step.Look x) u.pass a.makes TracesReached was.own
             (root_is_no_heap_word t.pass.table.config (world_at a.makes).now x root);
@@ -249,7 +249,7 @@ module _ (t u : TurnState) (was : InTurn t.pass) (is : InTurn u.pass) (b : IsBes
 
   has_header : header_at (world_at a.makes).now.words cell.page ≢ 0
   has_header z =
-      let d = stands_behind_others t.pass u.pass (step.Mark cell.page (2 ^ cell.index)) a.makes was.own is.history in
+      let d = stands_behind_others t.pass u.pass (step.Mark cell.page (2 ^ cell.index)) a.makes in
       let known = stands t.pass.table.config (t.pass.seen ++ a.makes.others) d.history in
       let lt = pointed_is_cell t.pass.table.config (world_at a.makes) known.all.order.laid
       (ap (λ (n : ℕ). n == 4) phase_then) r.value cell points_there in

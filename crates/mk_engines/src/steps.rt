@@ -1,5 +1,5 @@
 //! Steps of a turn while a cycle marks, beside callers and markers.
-ghost use Rattle.std.specs.Prelude.{◌≡◌, ◌<◌, ◌^◌, true, false};
+ghost use Rattle.std.specs.Prelude.{◌≡◌, ◌<◌, true, false};
 ghost use Rattle.mk_core.specs.Cells.{is_marked};
 ghost use Rattle.mk_core.specs.Moments.{is_held, is_number_of};
 ghost use Rattle.mk_core.specs.Ranges.{is_word};
@@ -28,9 +28,7 @@ pub(crate) fn look_at(words: &Words, turn: &mut Turn, x: Word) -> u64
     ensures reads { result ≡ named_word (now_of turn.new.pass).words x }
 {
     turn.is_in_order();
-    let found = turn.look(words, x);
-    turn.is_in_order();
-    found
+    turn.look(words, x)
 }
 
 /// Looks at a register or a global, whose value is then the hand.
@@ -46,9 +44,7 @@ pub(crate) fn look_at_root(words: &Words, turn: &mut Turn, x: Word) -> u64
     ensures hand { IsInHand turn.new.pass result }
 {
     turn.is_in_order();
-    let found = turn.look(words, x);
-    turn.is_in_order();
-    found
+    turn.look(words, x)
 }
 
 /// Marks the cell into which the hand points.
@@ -62,7 +58,6 @@ pub(crate) fn mark_cell(words: &Words, turn: &mut Turn, cell: Cell)
 {
     turn.is_in_order();
     turn.mark(words, cell.page, bit(cell.index));
-    turn.is_in_order();
 }
 
 /// Tries to hold the gate of another caller, which isn't held yet. Returns whether it is held then.
@@ -77,9 +72,7 @@ pub(crate) fn try_hold(words: &Words, turn: &mut Turn, caller: u64) -> bool
     ensures held { is_held (now_of turn.new.pass).words caller ≡ result }
 {
     turn.is_in_order();
-    let held = turn.try_hold(words, caller).is_ok();
-    turn.is_in_order();
-    held
+    turn.try_hold(words, caller).is_ok()
 }
 
 /// Opens the gate of another caller, which is held.
@@ -95,5 +88,4 @@ pub(crate) fn open_gate(words: &Words, turn: &mut Turn, caller: u64)
 {
     turn.is_in_order();
     turn.open_gate(words, caller);
-    turn.is_in_order();
 }

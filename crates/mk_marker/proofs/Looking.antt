@@ -16,7 +16,6 @@ use Rattle.mk_core.specs.Bits.{has_bit, without}
 use Rattle.mk_core.specs.Cells.{cells_under}
 use Rattle.mk_core.specs.Effects.{marker_behind}
 use Rattle.mk_core.specs.Growing.{Finding}
-use Rattle.mk_core.specs.History.{IsHistory}
 use Rattle.mk_core.specs.Moments.{Moment, marker_at}
 use Rattle.mk_core.specs.StopConditions.{is_attending}
 use Rattle.mk_core.specs.Words.{named_word, header_at}
@@ -216,9 +215,10 @@ pub a_cell : (p : PassState) (page n : ℕ) (a : PassState) (m : ℕ) (b : PassS
     → MovesMarker p (step.Mlook (word.Mark page)) n a → n ≡ named_word (now_of a).words (word.Mark page)
     → MovesMarker a (step.Mlook (word.Black page)) m b
     → MovesMarker b (step.Mlook (word.Head page)) h d → h ≡ named_word (now_of d).words (word.Head page)
-    → IsHistory d.table.config d.seen → h ≢ 0 → has_bit (without n m) k ≡ true
+    → h ≢ 0 → has_bit (without n m) k ≡ true
     → SeesCell p (record { page = page; index = k; header = h }) d
-a_cell p page n a m b h d k between one marks two head shows history some bit =
+a_cell p page n a m b h d k between one marks two head shows some bit =
+    let history = head.pass.history in
     let looks = two_looks p page n a m b between one two in
     let at : marker_in a ≡ between_scans None =
     one.marker ∙ ap (λ (x : MarkerState). marker_behind p.table.config n (step.Mlook (word.Mark page)) x) between.1 in

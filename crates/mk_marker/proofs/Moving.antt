@@ -21,7 +21,7 @@ use Rattle.mk_core.specs.Effects.{marker_behind, scan_begun}
 use Rattle.mk_core.specs.Bits.{has_bit, bit_for}
 use Rattle.mk_core.specs.Frames.{Attends, ScanIsLeft}
 use Rattle.mk_core.specs.Growing.{Finding, own_from}
-use Rattle.mk_core.specs.History.{IsHistory, World, left, world_behind}
+use Rattle.mk_core.specs.History.{World, left, world_behind}
 use Rattle.mk_core.specs.Moments.{Moment, marker_at}
 use Rattle.mk_core.specs.StopConditions.{is_attending}
 use Rattle.mk_core.specs.Words.{named_word}
@@ -33,7 +33,7 @@ use Rattle.mk_words.specs.Seats.{Has}
 use Rattle.mk_words.specs.States.{WordsState, PassState, now_of, event_of}
 use Rattle.mk_words.specs.Steps.{Makes, Finds, found_by, IsEnabledTo}
 use Rattle.mk_words.specs.Markers.{marker_in, Marks}
-use Rattle.mk_words.proofs.Made.{made}
+use Rattle.mk_words.proofs.Made.{made, own_before}
 use Rattle.mk_words.proofs.Seats.{same_self}
 use Rattle.mk_turns.specs.Doing.{AreOwnOrOfOthers, done_in}
 use Rattle.mk_turns.proofs.Doing.{done_in_parts, own_or_others_in_parts, others_are_so, none_own}
@@ -57,12 +57,13 @@ itself : (s : Seat) (seats : List Seat) (x : Step) → Has seats s
 unfolding AreOwnOrOfOthers
 itself s seats x has = (has ∙ sym (same_self s), tt)
 
-pub did_step : (p : PassState) (s : Step) (n : ℕ) (q : PassState) → Has p.seats p.seat → Finds p s n q
+pub did_step : (p : PassState) (s : Step) (n : ℕ) (q : PassState) → Finds p s n q
     → Did p (finding p.seat s n ∷ []) q
-did_step p s n q has f =
+did_step p s n q f =
     let e : Event = event_of p s in
     let others : List Event = f.makes.others in
     let v : PassState = record p { seen = p.seen ++ others } in
+    let has = own_before f.makes in
     record {
       more = others ++ e ∷ [];
       is = f.makes.is ∙ ap (λ (es : List Event). record p { seen = es }) (append_assoc p.seen others (e ∷ []));
@@ -83,52 +84,55 @@ attends_there m (Marker k) h = h
 attends_there m (Caller k) h = cc
 attends_there m Host h = cc
 
-pub marks_grow : (p : PassState) (s : Step) (q : PassState) → Has p.seats p.seat → IsHistory q.table.config q.seen
+pub marks_grow : (p : PassState) (s : Step) (q : PassState)
     → Makes p s q → MarksGrow p q
-marks_grow p s q has history makes on page k is =
-    let d = made p s q makes has history in
+marks_grow p s q makes on page k is =
+    let d = made p s q makes in
     let scan : ScanIsLeft (left p.table.config p.seen) (left p.table.config (p.seen ++ makes.others)) = d.frame.scan
     (attends_there (now_of p) p.seat on) in
     subst (λ (w : World). has_bit (slice_index w.now.words.marks page) k ≡ true) (sym d.world)
     (marks_kind p.table.config (left p.table.config (p.seen ++ makes.others)).now p.seat s scan.phase d.meets page k
     (scan.marks page k is))
 
-pub moves : (p : PassState) (s : Step) (n : ℕ) (q : PassState) → Has p.seats p.seat → IsHistory q.table.config q.seen
+pub moves : (p : PassState) (s : Step) (n : ℕ) (q : PassState)
     → Marks p s n q → MovesMarker p s n q
-moves p s n q has history m =
-    record { did = did_step p s n q has m.finds; marker = m.marker; marks = marks_grow p s q has history m.finds.makes }
+moves p s n q m =
+    record {
+      pass = m.finds.makes.pass;
+      did = did_step p s n q m.finds;
+      marker = m.marker;
+      marks = marks_grow p s q m.finds.makes;
+    }
 
 -- Who comes in finds one of the six phases.
-pub known_phase : (p : PassState) (n : ℕ) (q : PassState) → Has p.seats p.seat → IsHistory q.table.config q.seen
+pub known_phase : (p : PassState) (n : ℕ) (q : PassState)
     → Finds p step.Attend n q → n % 8 ≤ 5
-known_phase p n q has history f =
-    let d = made p step.Attend q f.makes has history in
+known_phase p n q f =
+    let d = made p step.Attend q f.makes in
     subst (λ (i : ℕ). i % 8 ≤ 5) (sym f.finds) d.protocol.low
 
 -- a look shows the word as it is then
-pub look_shows : (p : PassState) (x : Word) (n : ℕ) (q : PassState) → Has p.seats p.seat
-    → IsHistory q.table.config q.seen → Finds p (step.Mlook x) n q
+pub look_shows : (p : PassState) (x : Word) (n : ℕ) (q : PassState) → Finds p (step.Mlook x) n q
     → n ≡ named_word (now_of q).words x
-look_shows p x n q has history f =
-    let d = made p (step.Mlook x) q f.makes has history in
+look_shows p x n q f =
+    let d = made p (step.Mlook x) q f.makes in
     f.finds ∙ sym (ap (λ (w : World). named_word w.now.words x) d.world)
 
 -- a step of which the number that it found isn't said
-pub moved : (p : PassState) (s : Step) (q : PassState) → Has p.seats p.seat → IsHistory q.table.config q.seen
+pub moved : (p : PassState) (s : Step) (q : PassState)
     → (m : Makes p s q)
     → marker_in q ≡ marker_behind p.table.config (found_by m) s (marker_in p) → Moved p s q
-moved p s q has history m behind = (
+moved p s q m behind = (
   found_by m,
-  moves p s (found_by m) q has history
+  moves p s (found_by m) q
       (record { finds = record { makes = m; finds = refl }; marker = behind }),
 )
 
 -- A claim of a cell that was marked finds it marked.
-pub still_marked : (p : PassState) (page k n : ℕ) (q : PassState) → Has p.seats p.seat
-    → IsHistory q.table.config q.seen → attends p ≡ true
+pub still_marked : (p : PassState) (page k n : ℕ) (q : PassState) → attends p ≡ true
     → IsMarkedIn p page k → Finds p (step.Claim page k) n q → has_bit n k ≡ true
-still_marked p page k n q has history on is f =
-    let d = made p (step.Claim page k) q f.makes has history in
+still_marked p page k n q on is f =
+    let d = made p (step.Claim page k) q f.makes in
     let scan = d.frame.scan (attends_there (now_of p) p.seat on) in
     ap (λ (i : ℕ). has_bit i k) f.finds ∙ scan.marks page k is
 
@@ -150,16 +154,15 @@ scan_of c page k header n is =
       seen = Some (record { page = page; header = header });
     }) is
 
-pub claimed : (p : PassState) (cell : MarkedCell) (n : ℕ) (q : PassState) → Has p.seats p.seat
-    → IsHistory q.table.config q.seen
+pub claimed : (p : PassState) (cell : MarkedCell) (n : ℕ) (q : PassState)
     → marker_in p ≡ between_scans (Some (record { page = cell.page; header = cell.header }))
     → IsMarkedIn p cell.page cell.index
     → Marks p (step.Claim cell.page cell.index) n q
     → ClaimsMarked p cell q × IsScanning (marker_in q) × IsScanOf (marker_in q) cell.page cell.index ×
     (words_left (marker_in q) ≡ words_scanned cell.header)
-claimed p cell n q has history at is m =
+claimed p cell n q at is m =
     let on : attends p ≡ true = ap (λ (x : MarkerState). is_attending x.presence) at in
-    let marked = still_marked p cell.page cell.index n q has history on is m.finds in
+    let marked = still_marked p cell.page cell.index n q on is m.finds in
     let x : MarkerState = record {
       presence = Attending;
       scan = Some
@@ -171,7 +174,7 @@ claimed p cell n q has history at is m =
     let now : marker_in q ≡ x =
     m.marker ∙ ap (λ (y : MarkerState). marker_behind p.table.config n (step.Claim cell.page cell.index) y) at
     ∙ scan_of p.table.config cell.page cell.index cell.header n marked in (
-      record { found = n; moves = moves p (step.Claim cell.page cell.index) n q has history m; marked = marked },
+      record { found = n; moves = moves p (step.Claim cell.page cell.index) n q m; marked = marked },
       record {
         scan = scan_begun cell.page cell.index cell.header;
         seen = Some
@@ -220,11 +223,11 @@ may_claim_seen w p cell of at page index few =
     }))
 
 -- after its `mblack` the cell is black
-pub blackened : (p : PassState) (page k : ℕ) (q : PassState) → Has p.seats p.seat → IsHistory q.table.config q.seen
+pub blackened : (p : PassState) (page k : ℕ) (q : PassState)
     → Makes p step.Mblack q
     → IsScanOf (marker_in p) page k → page < p.table.config.pages → k < 64 → IsBlackIn q page k
-blackened p page k q has history makes of lt few =
-    let d = made p step.Mblack q makes has history in
+blackened p page k q makes of lt few =
+    let d = made p step.Mblack q makes in
     let c : Config = p.table.config in
     let w : World = left c (p.seen ++ makes.others) in
     let at : scan_page (marker_at w.now p.seat).scan ≡ page = ap

@@ -11,7 +11,7 @@ use Rattle.mk_core.specs.Bits.{has_bit, bit_for}
 use Rattle.mk_core.specs.Effects.{marker_behind}
 use Rattle.mk_core.specs.Frames.{OnlyGrow}
 use Rattle.mk_core.specs.Growing.{Finding}
-use Rattle.mk_words.specs.States.{WordsState, PassState, now_of}
+use Rattle.mk_words.specs.States.{WordsState, PassState, IsPass, now_of}
 use Rattle.mk_words.specs.Markers.{marker_in}
 use Rattle.mk_turns.specs.Doing.{are_of}
 use Rattle.mk_marker.specs.declared.cells.MarkedCell.{MarkedCell}
@@ -31,6 +31,7 @@ MarksGrow p q = attends p ≡ true → OnlyGrow (now_of p).words.marks (now_of q
 
 -- The pass made one step, which found this number.
 pub record MovesMarker (p : PassState) (s : Step) (n : ℕ) (q : PassState) : Type 0 where
+  pub pass : IsPass q
   pub did : Did p (finding p.seat s n ∷ []) q
   pub marker : marker_in q ≡ marker_behind p.table.config n s (marker_in p)
   pub marks : MarksGrow p q

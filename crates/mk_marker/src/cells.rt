@@ -1,8 +1,6 @@
 //! A marker finds the cells that are marked and not black by looking at mark and black words, page by page.
 ghost use Rattle.std.specs.Prelude.{◌≡◌, ◌≢◌, ◌+◌, ◌<◌, ◌≤◌, true, IfSome, IfNone};
-ghost use Rattle.mk_geom.specs.Headers.{header_of};
 ghost use Rattle.mk_core.specs.Bits.{has_bit, without};
-ghost use Rattle.mk_core.specs.Cells.{cells_under};
 ghost use Rattle.mk_marker.specs.Markers.{IsBetweenScans};
 ghost use Rattle.mk_marker.specs.Steps.{IsOf, LooksInVain, SeesCell};
 
@@ -50,7 +48,6 @@ fn find_on_page(words: &Words, pass: &mut MarkerPass, page: u64) -> Option<Marke
         return None;
     }
     let header = look(words, pass, Word::Head(page));
-    pass.is_in_order();
     if header == 0 {
         None
     } else {

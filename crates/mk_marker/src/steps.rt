@@ -26,10 +26,7 @@ pub(crate) fn attend(words: &Words, pass: &mut MarkerPass) -> u64
     ensures moves { MovesMarker pass.old step.Attend result pass.new }
     ensures phase { result % 8 ≤ 5 }
 {
-    pass.is_in_order();
-    let found = pass.attend(words);
-    pass.is_in_order();
-    found
+    pass.attend(words)
 }
 
 /// Goes out.
@@ -39,9 +36,7 @@ pub(crate) fn quit(words: &Words, pass: &mut MarkerPass)
     requires comes { is_out (marker_in pass.old).presence ≡ false }
     ensures { Moved pass.old step.Quit pass.new }
 {
-    pass.is_in_order();
     pass.quit(words);
-    pass.is_in_order();
 }
 
 /// Looks at the phase, or at a mark, black or header word.
@@ -53,10 +48,7 @@ pub(crate) fn look(words: &Words, pass: &mut MarkerPass, x: Word) -> u64
     ensures moves { MovesMarker pass.old (step.Mlook x) result pass.new }
     ensures shows { result ≡ named_word (now_of pass.new).words x }
 {
-    pass.is_in_order();
-    let found = pass.marker_look(words, x);
-    pass.is_in_order();
-    found
+    pass.marker_look(words, x)
 }
 
 /// Claims a cell that it has seen marked. It is marked still, since no mark is taken back while a marker attends.
@@ -72,9 +64,7 @@ pub(crate) fn claim(words: &Words, pass: &mut MarkerPass, cell: MarkedCell)
     ensures cell { IsScanOf (marker_in pass.new) cell.page cell.index }
     ensures left { words_left (marker_in pass.new) ≡ words_scanned cell.header }
 {
-    pass.is_in_order();
     pass.claim(words, cell.page, cell.index);
-    pass.is_in_order();
 }
 
 /// Loads the next word of the cell.
@@ -85,10 +75,7 @@ pub(crate) fn load(words: &Words, pass: &mut MarkerPass) -> u64
     requires more { 0 < words_left (marker_in pass.old) }
     ensures { MovesMarker pass.old step.Mload result pass.new }
 {
-    pass.is_in_order();
-    let found = pass.marker_load(words);
-    pass.is_in_order();
-    found
+    pass.marker_load(words)
 }
 
 /// Marks the cell that it has seen, into which its open hand points.
@@ -98,9 +85,7 @@ pub(crate) fn mark(words: &Words, pass: &mut MarkerPass)
     requires cell { may_mmark words.now.config (marker_in pass.old) ≡ true }
     ensures { Moved pass.old step.Mmark pass.new }
 {
-    pass.is_in_order();
     pass.marker_mark(words);
-    pass.is_in_order();
 }
 
 /// Blackens the cell that it has scanned.
@@ -114,7 +99,5 @@ pub(crate) fn blacken(words: &Words, pass: &mut MarkerPass, cell: MarkedCell)
     ensures moves { Moved pass.old step.Mblack pass.new }
     ensures black { IsBlackIn pass.new cell.page cell.index }
 {
-    pass.is_in_order();
     pass.marker_black(words);
-    pass.is_in_order();
 }

@@ -32,13 +32,11 @@ use Rattle.mk_never.specs.declared.operations.Op.{Op}
 use Rattle.mk_core.specs.Accesses.{caller_number}
 use Rattle.mk_core.specs.Cells.{header_in, heads_run}
 use Rattle.mk_core.specs.Decided.{entry_of}
-use Rattle.mk_core.specs.History.{IsHistory}
 use Rattle.mk_core.specs.Moments.{others_are_held}
 use Rattle.mk_core.specs.Ranges.{is_run_cell}
 use Rattle.mk_core.specs.Readings.{Holds}
 use Rattle.mk_core.specs.Words.{phase_of}
 use Rattle.mk_laws.proofs.Known.{Known}
-use Rattle.mk_words.specs.Seats.{Has}
 use Rattle.mk_words.specs.States.{PassState, call_of, now_of, world_of}
 use Rattle.mk_words.specs.Steps.{IsEnabledTo}
 use Rattle.mk_words.specs.TurnSteps.{Acts, IsTurn}
@@ -203,12 +201,12 @@ pub quarantine_reaches : (p q : PassState) (cell : Cell) (value : ℕ) (o : Opti
     → target p.table.config.pages (now_of p).words (call_of p) ≡ Some cell → is_freed (now_of p).words cell ≡ false
     → IsOutOfStop (now_of p)
     → value ≡ freed_word (now_of p).words cell → slice_index (now_of p).words.freed cell.page + 2 ^ cell.index < 2 ^ 32
-    → Acts p (step.Quar cell.page value) q → Has p.seats p.seat → IsHistory q.table.config q.seen → HasFreed p cell q
-quarantine_reaches p q cell value o turn free at clear low is small a own history =
+    → Acts p (step.Quar cell.page value) q → HasFreed p cell q
+quarantine_reaches p q cell value o turn free at clear low is small a =
     let caller = acting_caller p (free_is_acting (call_of p) free) in
     reaches_on is_freeing p p q (λ w. w ≡ world_of p) (IsFreedAt p.table.config p.seat cell (world_of p)) []
     (entry_for p answer.Done)
-    (step.Quar cell.page value) (reaches_nothing is_freeing p (λ w. w ≡ world_of p) refl) a own history refl refl caller
+    (step.Quar cell.page value) (reaches_nothing is_freeing p (λ w. w ≡ world_of p) refl) a refl refl caller
     (λ w v first kept known pages.
     let kept : IsAsLeft p.seat (world_of p) v = subst (λ (x : World). IsAsLeft p.seat x v) first kept in
     let to = frees_at p cell value v known low p.seat caller.number caller.is kept turn.holds at clear is small in
@@ -227,9 +225,9 @@ pub quarantine_once : (p q : PassState) (cell : Cell) (value : ℕ) (o : Option 
     → target p.table.config.pages (now_of p).words (call_of p) ≡ Some cell → is_freed (now_of p).words cell ≡ false
     → IsOutOfStop (now_of p)
     → value ≡ freed_word (now_of p).words cell
-    → Acts p (step.Quar cell.page value) q → Has p.seats p.seat → IsHistory q.table.config q.seen → FreesOnce p q
-quarantine_once p q cell value o turn at clear low is a own history =
-    frees_now p q (step.Quar cell.page value) (made_in p p.seen (step.Quar cell.page value) q a own history) history
+    → Acts p (step.Quar cell.page value) q → FreesOnce p q
+quarantine_once p q cell value o turn at clear low is a =
+    frees_now p q (step.Quar cell.page value) (made_in p p.seen (step.Quar cell.page value) q a) a.makes.pass.history
     turn.holds
     (λ v kept. ap (λ (x : Option Cell). is_some x)
     (freed_left p.table.config p.seat cell value (world_of p) v kept

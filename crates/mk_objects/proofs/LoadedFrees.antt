@@ -34,7 +34,6 @@ use Rattle.mk_core.proofs.Conditions.{meets_enabled}
 use Rattle.mk_laws.proofs.Known.{Known}
 use Rattle.mk_laws.proofs.OthersCounts.{answers_full}
 use Rattle.mk_words.specs.CallSteps.{register_of}
-use Rattle.mk_words.specs.Seats.{Has}
 use Rattle.mk_words.specs.States.{PassState, call_of, event_of, now_of, world_of}
 use Rattle.mk_words.specs.Steps.{IsAdmittedTo, IsEnabledTo}
 use Rattle.mk_words.specs.TurnSteps.{Acts, IsTurn}
@@ -71,16 +70,15 @@ free_step_admits p r x f caller holds h u is = by p.seat caller.is holds u.call 
         (subst (λ (y : Seat). IsBase (register_at (never_behind p.table.config p.seen) (caller_number y) r)) e base))
 
 -- Its register keeps its value over a step that decides nothing.
-pub value_kept : (p q : PassState) (r : ℕ) (x : Step) → IsCallers p → r < 8 → Acts p x q → Has p.seats p.seat
-    → IsHistory q.table.config q.seen
+pub value_kept : (p q : PassState) (r : ℕ) (x : Step) → IsCallers p → r < 8 → Acts p x q
     → ((v : World) → IsAsLeft p.seat (world_of p) v → Known p.table.config v.now
     → answer_decided p.table.config v.now (event_of p x) ≡ None)
     → value_of q r ≡ value_of p r
-value_kept p q r x caller small a own history none =
-    let m = made_in p p.seen x q a own history in
+value_kept p q r x caller small a none =
+    let m = made_in p p.seen x q a in
     ap (λ (y : PassState). value_of y r) m.same
     ∙ by m.others p.seat caller.is m.of_others (none (left p.table.config (p.seen ++ m.others)) m.kept m.known)
-    (subst (λ (y : PassState). IsHistory y.table.config y.seen) m.same history)
+    (subst (λ (y : PassState). IsHistory y.table.config y.seen) m.same a.makes.pass.history)
   where
     by : (others : List Event) (s : Seat) → s ≡ Caller caller.number → AreOfOthers (s ∷ []) others
         → answer_decided p.table.config (left p.table.config (p.seen ++ others)).now (record { seat = s; step = x })
@@ -251,15 +249,14 @@ module _ (p : PassState) (r n : ℕ) (v : World) (small : r < 8) (known : Known 
       subst (λ (x : Seat). Lands x) (sym e) (to.at, to.answer)
 
 pub load_reaches : (p q : PassState) (r n : ℕ) (o : Option Op) → r < 8 → IsTurn p o → IsUnloaded p r → Acts p step.Reg q
-    → Has p.seats p.seat
-    → IsHistory q.table.config q.seen → n ≡ register_of p r → HasLoaded p r n q
-load_reaches p q r n o small turn u a own history is =
+    → n ≡ register_of p r → HasLoaded p r n q
+load_reaches p q r n o small turn u a is =
     let caller = unloaded_caller p r u.call in
     let here : n ≡ register_word (now_of p).words caller.number r = is
     ∙ ap (λ (x : Seat). register_word (now_of p).words (caller_number x) r) caller.is in
     reaches_on is_loading p p q (λ w. w ≡ world_of p) (CallIsAt p.seat (loaded_free r n) (world_of p)) []
     (entry_loaded p n) step.Reg
-    (reaches_nothing is_loading p (λ w. w ≡ world_of p) refl) a own history refl refl caller
+    (reaches_nothing is_loading p (λ w. w ≡ world_of p) refl) a refl refl caller
     (λ w v first kept known pages.
     let kept : IsAsLeft p.seat (world_of p) v = subst (λ (x : World). IsAsLeft p.seat x v) first kept in
     let to = lands p r n v small known p.seat caller.number caller.is kept turn.holds u.call here in
@@ -276,13 +273,12 @@ load_reaches p q r n o small turn u a own history is =
 
 -- A load that finds a pointer decides nothing.
 pub load_keeps : (p q : PassState) (r n : ℕ) (o : Option Op) → r < 8 → IsTurn p o → IsUnloaded p r → Acts p step.Reg q
-    → Has p.seats p.seat
-    → IsHistory q.table.config q.seen → n ≡ register_of p r → (n == 0) ≡ false → value_of q r ≡ value_of p r
-load_keeps p q r n o small turn u a own history is some =
+    → n ≡ register_of p r → (n == 0) ≡ false → value_of q r ≡ value_of p r
+load_keeps p q r n o small turn u a is some =
     let caller = unloaded_caller p r u.call in
     let here : n ≡ register_word (now_of p).words caller.number r = is
     ∙ ap (λ (x : Seat). register_word (now_of p).words (caller_number x) r) caller.is in
-    value_kept p q r step.Reg caller small a own history
+    value_kept p q r step.Reg caller small a
     (λ v kept known.
     (lands p r n v small known p.seat caller.number caller.is kept turn.holds u.call here).1
     ∙ ap (λ (b : Bool). if b then Some answer.Done else None) some)

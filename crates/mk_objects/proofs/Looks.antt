@@ -12,13 +12,12 @@ use Rattle.mk_core.specs.declared.events.Word.{Word}
 use Rattle.mk_core.specs.declared.events.Word.TheVariants as word
 use Rattle.mk_core.specs.declared.seats.Flight.{Flight}
 use Rattle.mk_core.specs.Frames.{Steady, steady_of}
-use Rattle.mk_core.specs.History.{World, IsHistory, first_world, left, world_behind}
+use Rattle.mk_core.specs.History.{World, first_world, left, world_behind}
 use Rattle.mk_core.specs.Moments.{Moment, flight_of}
 use Rattle.mk_core.specs.Order.{seat_exists}
 use Rattle.mk_core.specs.Readings.{Holds}
 use Rattle.mk_core.specs.Words.{named_word, phase_of, quarantine_word}
 use Rattle.mk_core.proofs.Histories.{left_more}
-use Rattle.mk_words.specs.Seats.{Has}
 use Rattle.mk_words.specs.States.{PassState, call_of, event_of, now_of, world_of}
 use Rattle.mk_words.specs.Steps.{Finds, may_decide, moment_of}
 use Rattle.mk_words.specs.TurnSteps.{Acts, IsTurn}
@@ -77,10 +76,10 @@ plain_is_idle x OfPhase = refl
 
 pub look_reaches : (p q : PassState) (o : Option Op) (x : Word) → IsTurn p o → is_acting (call_of p).stage ≡ true
     → IsPlain x → Acts p (step.Look x) q
-    → Has p.seats p.seat → IsHistory q.table.config q.seen → OnlyLooks p q
-look_reaches p q o x turn acts plain a own history =
+    → OnlyLooks p q
+look_reaches p q o x turn acts plain a =
     reaches_still is_look p p q (IsAsLeft p.seat (world_of p)) (IsAsLeft p.seat (world_of p)) [] (step.Look x)
-    (reaches_nothing is_look p (IsAsLeft p.seat (world_of p)) (left_same p.seat (world_of p))) a own history refl refl
+    (reaches_nothing is_look p (IsAsLeft p.seat (world_of p)) (left_same p.seat (world_of p))) a refl refl
     (acting_caller p acts) (plain_is_idle x plain) (looks_on p x (acting_now p o turn acts) plain)
 
 -- What a look found is there after it.
@@ -92,11 +91,9 @@ found_there p q x n f =
     ∙ sym f.finds
 
 -- What it finds is what the word is for the holder.
-module _ (p q : PassState) (o : Option Op) (x : Word) (n : ℕ) (turn : IsTurn p o) (f : Finds p (step.Look x) n q)
-    (own : Has p.seats p.seat)
-    (history : IsHistory q.table.config q.seen) where
+module _ (p q : PassState) (o : Option Op) (x : Word) (n : ℕ) (turn : IsTurn p o) (f : Finds p (step.Look x) n q) where
   same : steady_of (left p.table.config (p.seen ++ f.makes.others)) ≡ steady_of (world_of p)
-  same = (((made p (step.Look x) q f.makes own history).frame.turn turn.holds).0).steady
+  same = (((made p (step.Look x) q f.makes).frame.turn turn.holds).0).steady
 
   pub found_steady : is_steady_word x ≡ true → n ≡ named_word (now_of p).words x
   found_steady steady = f.finds ∙ by x steady
@@ -109,15 +106,13 @@ module _ (p q : PassState) (o : Option Op) (x : Word) (n : ℕ) (turn : IsTurn p
       by _ h = cc
 
 pub found_phase : (p q : PassState) (o : Option Op) (n : ℕ) → IsTurn p o → Finds p (step.Look word.Phase) n q
-    → Has p.seats p.seat
-    → IsHistory q.table.config q.seen → n % 8 ≡ phase_of (now_of p).words
-found_phase p q o n turn f own history =
+    → n % 8 ≡ phase_of (now_of p).words
+found_phase p q o n turn f =
     ap (λ i. i % 8) f.finds ∙ ap (λ (t : Steady). t.phase)
-    (((made p (step.Look word.Phase) q f.makes own history).frame.turn turn.holds).0).steady
+    (((made p (step.Look word.Phase) q f.makes).frame.turn turn.holds).0).steady
 
 pub found_quarantine : (p q : PassState) (o : Option Op) (page n : ℕ) → IsTurn p o
-    → Finds p (step.Look (word.Quar page)) n q → Has p.seats p.seat
-    → IsHistory q.table.config q.seen → n ≡ named_word (now_of p).words (word.Quar page)
-found_quarantine p q o page n turn f own history =
-    let same = (((made p (step.Look (word.Quar page)) q f.makes own history).frame.turn turn.holds).0).steady in
+    → Finds p (step.Look (word.Quar page)) n q → n ≡ named_word (now_of p).words (word.Quar page)
+found_quarantine p q o page n turn f =
+    let same = (((made p (step.Look (word.Quar page)) q f.makes).frame.turn turn.holds).0).steady in
     f.finds ∙ ap (λ (t : Steady). quarantine_word (slice_index t.freed page) (slice_index t.snapshot page)) same

@@ -14,13 +14,12 @@ use Rattle.mk_core.specs.Effects.{answer_decided}
 use Rattle.mk_core.specs.Cycles.{is_end}
 use Rattle.mk_core.specs.Frames.{CountsAreLeft, HoldsAll, written_of}
 use Rattle.mk_core.specs.Growing.{AreOfOthers}
-use Rattle.mk_core.specs.History.{World, IsHistory, left, world_behind}
+use Rattle.mk_core.specs.History.{World, left, world_behind}
 use Rattle.mk_core.specs.Layout.{AreOfPages}
 use Rattle.mk_core.specs.Moments.{flight_of}
 use Rattle.mk_core.proofs.Lengths.{histories_keep_lengths}
 use Rattle.mk_laws.proofs.Known.{Known}
 use Rattle.mk_laws.proofs.OthersCounts.{answers_full}
-use Rattle.mk_words.specs.Seats.{Has}
 use Rattle.mk_words.specs.States.{PassState, event_of, world_of}
 use Rattle.mk_words.specs.Steps.{may_decide}
 use Rattle.mk_words.specs.TurnSteps.{Acts, world_at}
@@ -69,10 +68,10 @@ kept_by p q s a =
       gates = λ j. held_so _ _ (a.turn.held_gates j) (a.turn.other_gates j);
     }
 
-pub made_in : (p : PassState) (es : List Event) (s : Step) (r : PassState) → Acts (seeing p es) s r → Has p.seats p.seat
-    → IsHistory r.table.config r.seen → MadeIn p es s r
-made_in p es s r a own history =
-    let d = made (seeing p es) s r a.makes own history in
+pub made_in : (p : PassState) (es : List Event) (s : Step) (r : PassState) → Acts (seeing p es) s r
+    → MadeIn p es s r
+made_in p es s r a =
+    let d = made (seeing p es) s r a.makes in
     record {
       others = a.makes.others;
       of_others = d.others;
@@ -82,7 +81,7 @@ made_in p es s r a own history =
       counts = a.counts;
       behind = a.world;
       known = d.known;
-      does = λ kinds ok. does_step kinds (seeing p es) r s own a.makes ok;
+      does = λ kinds ok. does_step kinds (seeing p es) r s a.makes ok;
     }
 
 pub reaches_nothing : (kinds : Step → Bool) (p : PassState) (A : World → Type 0) → A (world_of p)
@@ -142,15 +141,14 @@ GoesOnInStop p A C =
 -- One step further.
 pub reaches_in_stop : (kinds : Step → Bool) (p q r : PassState) (A B : World → Type 0) (ds es : List Decided) (s : Step)
     → ComesTo kinds p A ds q
-    → Acts q s r → Has q.seats q.seat → IsHistory r.table.config r.seen → kinds s ≡ true → is_end s ≡ false
+    → Acts q s r → kinds s ≡ true → is_end s ≡ false
     → IsCallers p
     → GoesOnInStop p A (StepsTo p s B es)
     → ComesTo kinds p B (ds ++ es) r
-reaches_in_stop kinds p q r A B ds es s reached acts own history allowed no_end caller next =
+reaches_in_stop kinds p q r A B ds es s reached acts allowed no_end caller next =
     let c : Config = p.table.config in
     let m : MadeIn p q.seen s r =
-    made_in p q.seen s r (subst (λ (x : PassState). Acts x s r) reached.same acts)
-    (subst (λ (x : PassState). Has x.seats x.seat) reached.same own) history in
+    made_in p q.seen s r (subst (λ (x : PassState). Acts x s r) reached.same acts) in
     let v : World = left c (q.seen ++ m.others) in
     let on : StepsTo p s B es v =
     next (left c q.seen) v reached.world m.kept m.stop m.known (histories_keep_lengths c (q.seen ++ m.others)) in
@@ -173,12 +171,12 @@ reaches_in_stop kinds p q r A B ds es s reached acts own history allowed no_end 
 
 pub reaches_on : (kinds : Step → Bool) (p q r : PassState) (A B : World → Type 0) (ds es : List Decided) (s : Step)
     → ComesTo kinds p A ds q
-    → Acts q s r → Has q.seats q.seat → IsHistory r.table.config r.seen → kinds s ≡ true → is_end s ≡ false
+    → Acts q s r → kinds s ≡ true → is_end s ≡ false
     → IsCallers p
     → GoesOn p A (StepsTo p s B es)
     → ComesTo kinds p B (ds ++ es) r
-reaches_on kinds p q r A B ds es s reached acts own history allowed no_end caller next =
-    reaches_in_stop kinds p q r A B ds es s reached acts own history allowed no_end caller
+reaches_on kinds p q r A B ds es s reached acts allowed no_end caller next =
+    reaches_in_stop kinds p q r A B ds es s reached acts allowed no_end caller
     (λ w v a kept stop known pages. next w v a kept known pages)
 
 -- a step that decides nothing
@@ -197,21 +195,21 @@ idle_steps p s B v idle there =
 pub reaches_still_in_stop : (kinds : Step → Bool) (p q r : PassState) (A B : World
     → Type 0) (ds : List Decided) (s : Step)
     → ComesTo kinds p A ds q
-    → Acts q s r → Has q.seats q.seat → IsHistory r.table.config r.seen → kinds s ≡ true → is_end s ≡ false
+    → Acts q s r → kinds s ≡ true → is_end s ≡ false
     → IsCallers p
     → may_decide s ≡ false
     → GoesOnInStop p A (λ v. B (world_behind p.table.config v (event_of p s))) → ComesTo kinds p B ds r
-reaches_still_in_stop kinds p q r A B ds s reached acts own history allowed no_end caller idle next =
+reaches_still_in_stop kinds p q r A B ds s reached acts allowed no_end caller idle next =
     subst (λ (l : List Decided). ComesTo kinds p B l r) (append-nil ds)
-    (reaches_in_stop kinds p q r A B ds [] s reached acts own history allowed no_end caller
+    (reaches_in_stop kinds p q r A B ds [] s reached acts allowed no_end caller
     (λ w v a kept stop known pages. idle_steps p s B v idle (next w v a kept stop known pages)))
 
 pub reaches_still : (kinds : Step → Bool) (p q r : PassState) (A B : World → Type 0) (ds : List Decided) (s : Step)
     → ComesTo kinds p A ds q
-    → Acts q s r → Has q.seats q.seat → IsHistory r.table.config r.seen → kinds s ≡ true → is_end s ≡ false
+    → Acts q s r → kinds s ≡ true → is_end s ≡ false
     → IsCallers p
     → may_decide s ≡ false
     → GoesOn p A (λ v. B (world_behind p.table.config v (event_of p s))) → ComesTo kinds p B ds r
-reaches_still kinds p q r A B ds s reached acts own history allowed no_end caller idle next =
-    reaches_still_in_stop kinds p q r A B ds s reached acts own history allowed no_end caller idle
+reaches_still kinds p q r A B ds s reached acts allowed no_end caller idle next =
+    reaches_still_in_stop kinds p q r A B ds s reached acts allowed no_end caller idle
     (λ w v a kept stop known pages. next w v a kept known pages)

@@ -19,7 +19,7 @@ use Rattle.mk_core.specs.Cells.{is_freed, pointed_cell}
 use Rattle.mk_core.specs.Decided.{entry_of}
 use Rattle.mk_core.specs.Effects.{answer_decided, sees_double}
 use Rattle.mk_core.specs.Frames.{Steady}
-use Rattle.mk_core.specs.History.{IsHistory, World, world_behind}
+use Rattle.mk_core.specs.History.{World, world_behind}
 use Rattle.mk_core.specs.Moments.{flight_of}
 use Rattle.mk_core.specs.NewPlaces.{is_undecided_free, target}
 use Rattle.mk_core.specs.Words.{Words}
@@ -27,7 +27,6 @@ use Rattle.mk_geom.specs.declared.pages.Page.{Page}
 use Rattle.mk_core.specs.Readings.{Holds}
 use Rattle.mk_laws.proofs.Known.{Known}
 use Rattle.mk_laws.proofs.OthersCounts.{answers_full}
-use Rattle.mk_words.specs.Seats.{Has}
 use Rattle.mk_words.specs.States.{PassState, call_of, now_of, world_of}
 use Rattle.mk_words.specs.TurnSteps.{Acts, IsTurn}
 use Rattle.mk_objects.specs.Unchanged.{IsAsLeft}
@@ -129,14 +128,13 @@ module _ (p : PassState) (cell : Cell) (v : World) (known : Known p.table.config
 
 pub see_reaches : (p q : PassState) (cell : Cell) (o : Option Op) → IsTurn p o → is_undecided_free (call_of p) ≡ true
     → target p.table.config.pages (now_of p).words (call_of p) ≡ Some cell → Acts p (step.Look (word.Quar cell.page)) q
-    → Has p.seats p.seat
-    → IsHistory q.table.config q.seen → HasSeen p cell q
-see_reaches p q cell o turn free at a own history =
+    → HasSeen p cell q
+see_reaches p q cell o turn free at a =
     let caller = acting_caller p (free_is_acting (call_of p) free) in
     let double : Bool = is_freed (now_of p).words cell in
     reaches_on is_loading p p q (λ w. w ≡ world_of p) (CallIsAt p.seat (seen_free (call_of p) double) (world_of p)) []
     (entry_seen p double)
-    (step.Look (word.Quar cell.page)) (reaches_nothing is_loading p (λ w. w ≡ world_of p) refl) a own history refl refl
+    (step.Look (word.Quar cell.page)) (reaches_nothing is_loading p (λ w. w ≡ world_of p) refl) a refl refl
     caller
     (λ w v first kept known pages.
     let kept : IsAsLeft p.seat (world_of p) v = subst (λ (x : World). IsAsLeft p.seat x v) first kept in
@@ -155,9 +153,8 @@ see_reaches p q cell o turn free at a own history =
 pub see_keeps : (p q : PassState) (r : ℕ) (cell : Cell) (o : Option Op) → r < 8 → IsTurn p o
     → is_undecided_free (call_of p) ≡ true
     → target p.table.config.pages (now_of p).words (call_of p) ≡ Some cell → is_freed (now_of p).words cell ≡ false
-    → Acts p (step.Look (word.Quar cell.page)) q → Has p.seats p.seat → IsHistory q.table.config q.seen
-    → value_of q r ≡ value_of p r
-see_keeps p q r cell o small turn free at live a own history =
+    → Acts p (step.Look (word.Quar cell.page)) q → value_of q r ≡ value_of p r
+see_keeps p q r cell o small turn free at live a =
     let caller = acting_caller p (free_is_acting (call_of p) free) in
-    value_kept p q r (step.Look (word.Quar cell.page)) caller small a own history
+    value_kept p q r (step.Look (word.Quar cell.page)) caller small a
     (λ v kept known. (sees p cell v known p.seat caller.number caller.is kept turn.holds at).1 ∙ ap answer_seen live)

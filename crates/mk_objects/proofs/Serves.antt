@@ -35,7 +35,6 @@ use Rattle.mk_laws.specs.Terrain.{object_now, layout_scene_of}
 use Rattle.mk_laws.specs.Ground.{ground_of}
 use Rattle.mk_core.specs.Moments.{is_phase}
 use Rattle.mk_laws.proofs.InvariantHistories.{histories_keep_the_invariant}
-use Rattle.mk_words.specs.Seats.{Has}
 use Rattle.mk_words.specs.States.{PassState, call_of, now_of, world_of}
 use Rattle.mk_words.specs.Steps.{IsEnabledTo}
 use Rattle.mk_words.specs.TurnSteps.{Acts, IsTurn}
@@ -179,13 +178,12 @@ module _ (p : PassState) (place : Place) (goes : GoesTo p place) (k : KnowsPlace
       ∙ frees.free d lt
 
   pub marks_first : (q : PassState) → phase_of (now_of p).words ≡ 1
-      → Acts p (step.Mark place.page (bits_made (object_for p))) q → Has p.seats p.seat
-      → IsHistory q.table.config q.seen → HasCarved p place 0 q
-  marks_first q one a own history =
+      → Acts p (step.Mark place.page (bits_made (object_for p))) q → HasCarved p place 0 q
+  marks_first q one a =
       reaches_still is_placing p p q (λ w. w ≡ world_of p)
       (λ w. Carving p.table.config p.seat (object_for p) place (world_of p) w 0) []
       (step.Mark place.page (bits_made (object_for p)))
-      (reaches_nothing is_placing p (λ w. w ≡ world_of p) refl) a own history refl refl k.caller refl
+      (reaches_nothing is_placing p (λ w. w ≡ world_of p) refl) a refl refl k.caller refl
       (λ w v here kept known pages.
       let kept : IsAsLeft p.seat (world_of p) v = subst (λ (x : World). IsAsLeft p.seat x v) here kept in
       let serving = serving_left p.table.config p.seat (object_for p) place (world_of p) (world_of p) v k.serving kept
@@ -226,16 +224,14 @@ module _ (p : PassState) (place : Place) (goes : GoesTo p place) (k : KnowsPlace
       (carving_carves p.table.config p.seat (object_for p) place (world_of p) w n k.sized reached.world lt))
 
   pub heads_on : (q r : PassState) (n : ℕ) → HasCarved p place n q → n < pages_made (object_for p)
-      → Acts q (step.Head (place.page + n) (header_made (object_for p) n)) r → Has q.seats q.seat
-      → IsHistory r.table.config r.seen
-      → HasCarved p place (n + 1) r
-  heads_on q r n reached lt a own history =
+      → Acts q (step.Head (place.page + n) (header_made (object_for p) n)) r → HasCarved p place (n + 1) r
+  heads_on q r n reached lt a =
       let ends = frees.within in
       let lengths = k.serving.pages in
       reaches_still is_placing p q r (λ w. Carving p.table.config p.seat (object_for p) place (world_of p) w n)
       (λ w. Carving p.table.config p.seat (object_for p) place (world_of p) w (n + 1)) []
       (step.Head (place.page + n) (header_made (object_for p) n))
-      reached a own history refl refl k.caller refl
+      reached a refl refl k.caller refl
       (λ w v here kept known pages.
       let on = carving_left p.table.config p.seat (object_for p) place (world_of p) w v n here kept in
       let call = acting_has_call p.table.config v.now p.seat known.orderly.flights

@@ -13,10 +13,9 @@ use Rattle.mk_core.specs.declared.events.Step.{Step}
 use Rattle.mk_core.specs.declared.events.Step.TheVariants as step
 use Rattle.mk_core.specs.declared.seats.Flight.{Flight}
 use Rattle.mk_core.specs.Frames.{Steady}
-use Rattle.mk_core.specs.History.{IsHistory, World, world_behind}
+use Rattle.mk_core.specs.History.{World, world_behind}
 use Rattle.mk_core.specs.Moments.{is_held, is_number_of, none_is_held}
 use Rattle.mk_core.proofs.AllBelow.{all_below-at}
-use Rattle.mk_words.specs.Seats.{Has}
 use Rattle.mk_words.specs.States.{PassState, call_of, now_of, world_of}
 use Rattle.mk_words.specs.TurnSteps.{Acts, IsTurn}
 use Rattle.mk_objects.specs.FreeParts.{GateIsSet, HasGates, IsButGates, SetsGate, SetsGates, all_others, held_from}
@@ -62,8 +61,8 @@ open_behind c s w v gate kept (OfCaller k lt) room =
       others = λ j ne. ap (λ (n : ℕ). n == 2) (get_or-set_other v.now.words.gates gate j 0 0 ne) ∙ kept.gates j;
     }
 
-module _ (p q : PassState) (o : Option Op) (gate : ℕ) (turn : IsTurn p o) (acts : is_acting (call_of p).stage ≡ true)
-    (own : Has p.seats p.seat) (history : IsHistory q.table.config q.seen) where
+module _ (p q : PassState) (o : Option Op) (gate : ℕ) (turn : IsTurn p o)
+    (acts : is_acting (call_of p).stage ≡ true) where
   has_call : (v : World) → IsAsLeft p.seat (world_of p) v → length v.now.seats.flights ≡ p.table.config.callers
       → HasCall p.table.config v.now p.seat
   has_call v kept count =
@@ -75,7 +74,7 @@ module _ (p q : PassState) (o : Option Op) (gate : ℕ) (turn : IsTurn p o) (act
   sets_hold held a is =
       let step = reaches_still is_holding p p q (λ w. w ≡ world_of p) (AllButOne p.seat gate (world_of p)) []
       (step.Hold gate)
-      (reaches_nothing is_holding p (λ w. w ≡ world_of p) refl) a own history refl refl (acting_caller p acts) refl
+      (reaches_nothing is_holding p (λ w. w ≡ world_of p) refl) a refl refl (acting_caller p acts) refl
       (λ w v first kept known pages.
       let kept : IsAsLeft p.seat (world_of p) v = subst (λ (x : World). IsAsLeft p.seat x v) first kept in
       hold_behind p.table.config p.seat (world_of p) v gate kept (has_call v kept known.orderly.flights)) in
@@ -90,7 +89,7 @@ module _ (p q : PassState) (o : Option Op) (gate : ℕ) (turn : IsTurn p o) (act
   sets_open a within =
       reaches_still is_settling p p q (λ w. w ≡ world_of p) (GateIsSet p.seat gate false (world_of p)) []
       (step.Open gate)
-      (reaches_nothing is_settling p (λ w. w ≡ world_of p) refl) a own history refl refl (acting_caller p acts) refl
+      (reaches_nothing is_settling p (λ w. w ≡ world_of p) refl) a refl refl (acting_caller p acts) refl
       (λ w v first kept known pages.
       let kept : IsAsLeft p.seat (world_of p) v = subst (λ (x : World). IsAsLeft p.seat x v) first kept in
       let few = known.small in

@@ -8,8 +8,7 @@ use Rattle.mk_core.specs.declared.events.Step.TheVariants as step
 use Rattle.mk_core.specs.declared.events.Tally.{Tally}
 use Rattle.mk_core.specs.declared.events.Tally.TheVariants as tally
 use Rattle.mk_core.specs.Frames.{Steady}
-use Rattle.mk_core.specs.History.{IsHistory, World, world_behind}
-use Rattle.mk_words.specs.Seats.{Has}
+use Rattle.mk_core.specs.History.{World, world_behind}
 use Rattle.mk_words.specs.States.{PassState, call_of, world_of}
 use Rattle.mk_words.specs.TurnSteps.{Acts, IsTurn}
 use Rattle.mk_objects.specs.FreeParts.{Changes, SetsTally, is_settling, with_tally}
@@ -58,11 +57,11 @@ tally_behind c s w v tally.Full n kept (OfCaller k lt) =
     }
 
 pub sets_tally : (p q : PassState) (o : Option Op) (t : Tally) (n : ℕ) → IsTurn p o → is_acting (call_of p).stage ≡ true
-    → Acts p (step.Tally t n) q → Has p.seats p.seat → IsHistory q.table.config q.seen → SetsTally p t n q
-sets_tally p q o t n turn acts a own history =
+    → Acts p (step.Tally t n) q → SetsTally p t n q
+sets_tally p q o t n turn acts a =
     reaches_still is_settling p p q (λ w. w ≡ world_of p) (Changes p.seat (with_tally t n) (world_of p)) []
     (step.Tally t n)
-    (reaches_nothing is_settling p (λ w. w ≡ world_of p) refl) a own history refl refl (acting_caller p acts) refl
+    (reaches_nothing is_settling p (λ w. w ≡ world_of p) refl) a refl refl (acting_caller p acts) refl
     (λ w v first kept known pages.
     let kept : IsAsLeft p.seat (world_of p) v = subst (λ (x : World). IsAsLeft p.seat x v) first kept in
     tally_behind p.table.config p.seat (world_of p) v t n kept

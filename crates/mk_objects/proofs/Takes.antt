@@ -37,7 +37,6 @@ use Rattle.mk_core.proofs.WordBits.{bit_for_small, bit_is_none, bit_of_power, ze
 use Rattle.mk_laws.specs.SettledPages.{IsSettled}
 use Rattle.mk_laws.proofs.Tracked.{unplaced_settles}
 use Rattle.mk_laws.proofs.Known.{Known, known_left}
-use Rattle.mk_words.specs.Seats.{Has}
 use Rattle.mk_words.specs.States.{PassState, call_of, now_of, world_of}
 use Rattle.mk_words.specs.Steps.{IsAdmittedTo, IsEnabledTo}
 use Rattle.mk_words.specs.TurnSteps.{Acts}
@@ -133,12 +132,11 @@ module _ (p : PassState) (place : Place) (goes : GoesTo p place) (k : KnowsPlace
       (ready_takes c p.seat (object_for p) place (world_of p) w used reached.world known unused))
 
   pub used_on : (q r : PassState) (value : ℕ) → MayTake p place q → Acts q (step.Used place.page value) r
-      → Has q.seats q.seat
-      → IsHistory r.table.config r.seen → HasTaken r
-  used_on q r value reached a own history =
+      → HasTaken r
+  used_on q r value reached a =
       reaches_still is_placing p q r (IsCellReady c p.seat (object_for p) place (world_of p))
       (IsTakenAt c p.seat (object_for p) place (world_of p)) []
-      (step.Used place.page value) reached a own history refl refl k.caller refl
+      (step.Used place.page value) reached a refl refl k.caller refl
       (λ w v here kept known pages.
       let on = ready_left c p.seat (object_for p) place (world_of p) w v here kept in
       let call = acting_has_call c v.now p.seat known.orderly.flights (served_acting p place v k on.serving) in
@@ -200,13 +198,12 @@ module _ (p : PassState) (place : Place) (goes : GoesTo p place) (k : KnowsPlace
       → answer_decided c v.now (record { seat = s; step = step.Grant }) ≡ Some answer.Done
   grant_decides v s j is = ap (λ (x : Seat). answer_decided c v.now (record { seat = x; step = step.Grant })) is
 
-  pub grant_on : (q r : PassState) → HasTaken q → Acts q step.Grant r → Has q.seats q.seat
-      → IsHistory r.table.config r.seen → IsHistory c p.seen
+  pub grant_on : (q r : PassState) → HasTaken q → Acts q step.Grant r → IsHistory c p.seen
       → HasGranted r
-  grant_on q r reached a own history h =
+  grant_on q r reached a h =
       reaches_on is_placing p q r (IsTakenAt c p.seat (object_for p) place (world_of p))
       (IsGrantedAt c p.seat place (world_of p)) []
-      (entry_for p answer.Done) step.Grant reached a own history refl refl k.caller
+      (entry_for p answer.Done) step.Grant reached a refl refl k.caller
       (λ w v here kept known pages.
       let on = taken_left c p.seat (object_for p) place (world_of p) w v here kept in
       let call = acting_has_call c v.now p.seat known.orderly.flights (taken_acting v on) in
@@ -244,13 +241,12 @@ module _ (p : PassState) (place : Place) (goes : GoesTo p place) (k : KnowsPlace
   HasCounted n q = ComesTo is_placing p (λ w. IsGrantedAt p.table.config p.seat place (world_of p) w ×
       (w.now.words.held ≡ n)) (entry_for p answer.Done) q
 
-  pub tally_on : (q r : PassState) (n : ℕ) → HasGranted q → Acts q (step.Tally tally.Held n) r → Has q.seats q.seat
-      → IsHistory r.table.config r.seen
+  pub tally_on : (q r : PassState) (n : ℕ) → HasGranted q → Acts q (step.Tally tally.Held n) r
       → IsHistory c p.seen → HasCounted n r
-  tally_on q r n reached a own history h =
+  tally_on q r n reached a h =
       reaches_still is_placing p q r (IsGrantedAt c p.seat place (world_of p))
       (λ w. IsGrantedAt c p.seat place (world_of p) w × (w.now.words.held ≡ n))
-      (entry_for p answer.Done) (step.Tally tally.Held n) reached a own history refl refl k.caller refl
+      (entry_for p answer.Done) (step.Tally tally.Held n) reached a refl refl k.caller refl
       (λ w v here kept known pages.
       let on = granted_left c p.seat place (world_of p) w v
       (register_small c (call_of p) goes.unplaced.new (operands h)) here kept in

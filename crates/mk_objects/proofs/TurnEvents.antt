@@ -63,12 +63,13 @@ module _ (p : PassState) (kinds : Step → Bool) (stays : (x : Step) → kinds x
         others = [];
         of_others = tt;
         is = ap (λ (xs : List Event). seeing (xs ++ event_of p e.step ∷ [])) (sym (append-nil es));
+        pass = record {
+          own = ap (λ b. b || false) (same_self p.seat);
+          history = subst (λ (x : Event). IsHistory c (es ++ x ∷ [])) (sym it) h;
+        };
       } in
-      let whole : IsHistory c (es ++ event_of p e.step ∷ []) =
-      subst (λ (x : Event). IsHistory c (es ++ x ∷ [])) (sym it) h in
-      let own : Has (p.seat ∷ []) p.seat = ap (λ b. b || false) (same_self p.seat) in
       subst (λ (x : Event). Holds c (left c (es ++ x ∷ [])).now p.seat) it
-      (still_turn (seeing es) e.step (seeing (es ++ event_of p e.step ∷ [])) makes own whole
+      (still_turn (seeing es) e.step (seeing (es ++ event_of p e.step ∷ [])) makes
       (op_for p.seat (call_of (seeing es)))
       (stays e.step of_kind) (record { holds = holds; op = refl })).holds
 

@@ -35,7 +35,7 @@ use Rattle.mk_core.specs.Bounded.{all_below}
 use Rattle.mk_core.specs.Cells.{has_no_pointers, header_in, is_in_run, pointed_cell}
 use Rattle.mk_core.specs.Effects.{chosen, hand_given, hand_of_cell, is_in_stop}
 use Rattle.mk_core.specs.Frames.{HoldsAll, Steady, Written, steady_of, written_of}
-use Rattle.mk_core.specs.History.{IsHistory, World, left, world_behind}
+use Rattle.mk_core.specs.History.{World, left, world_behind}
 use Rattle.mk_core.specs.Moments.{Moment, flight_of, is_held, is_number_of, is_phase, others_are_held}
 use Rattle.mk_core.specs.NewPlaces.{is_new_at, is_run_unmapped, is_undecided_new, stands, unmapped_header}
 use Rattle.mk_core.specs.Readings.{Holds}
@@ -43,7 +43,6 @@ use Rattle.mk_core.specs.TurnConditions.{is_in_gone_run, place_now, unmaps}
 use Rattle.mk_core.specs.Words.{Words, header_at, phase_of}
 use Rattle.mk_core.proofs.AllBelow.{all_below-at}
 use Rattle.mk_laws.proofs.Tests.{all_below_from}
-use Rattle.mk_words.specs.Seats.{Has}
 use Rattle.mk_words.specs.States.{PassState, call_of, now_of, world_of}
 use Rattle.mk_words.specs.Steps.{Finds, IsEnabledTo}
 use Rattle.mk_words.specs.TurnSteps.{Acts, IsTurn}
@@ -187,13 +186,11 @@ module _ (p : PassState) (o : Option Op) (run : RunPages) (turn : IsTurn p o) (g
 
   pub unmaps_on : (q r : PassState) (n : ℕ) → HasUnmapped q n → n < run.count
       → run.page + run.count ≤ p.table.config.pages
-      → Acts q (step.Head (run.page + n) (unmapped_header run.count n)) r → Has q.seats q.seat
-      → IsHistory r.table.config r.seen
-      → HasUnmapped r (n + 1)
-  unmaps_on q r n reached near within a own history =
+      → Acts q (step.Head (run.page + n) (unmapped_header run.count n)) r → HasUnmapped r (n + 1)
+  unmaps_on q r n reached near within a =
       reaches_still is_clearing p q r (λ v. UnmappedTo p.seat run (world_of p) v n)
       (λ v. UnmappedTo p.seat run (world_of p) v (n + 1)) []
-      (step.Head (run.page + n) (unmapped_header run.count n)) reached a own history refl refl
+      (step.Head (run.page + n) (unmapped_header run.count n)) reached a refl refl
       (acting_caller p (give_acts (call_of p) give)) refl
       (λ w v here kept known pages.
       let on = unmapped_left p.seat run (world_of p) w v n here kept in
@@ -376,24 +373,23 @@ module _ (p : PassState) (o : Option Op) (run : RunPages) (turn : IsTurn p o) (g
       (64 * run.page + k) (omega arith))
 
   -- with the turn held, and all other gates
-  with_turn : (q : PassState) (n : ℕ) → HasWiped q n → IsTurn q o
+  with_turn : (q : PassState) (n : ℕ) → HasWiped q n → Holds q.table.config (now_of q) q.seat
       → ComesTo is_clearing p (λ v. WipedTo p.seat run (world_of p) v n × HoldsAll p.table.config v.now p.seat) [] q
   with_turn q n reached holds =
       let holds_here : Holds p.table.config (left p.table.config q.seen).now p.seat =
-      subst (λ (x : PassState). Holds x.table.config (now_of x) x.seat) reached.same holds.holds in
+      subst (λ (x : PassState). Holds x.table.config (now_of x) x.seat) reached.same holds in
       reaches_so is_clearing p q (λ v. WipedTo p.seat run (world_of p) v n)
       (λ v. WipedTo p.seat run (world_of p) v n × HoldsAll p.table.config v.now p.seat) [] reached
       (λ at. (at, (holds_here, still_stopped p (left p.table.config q.seen) at.changes.gates stopped)))
 
-  pub looks_then : (q r : PassState) (n k : ℕ) → HasWiped q n → IsTurn q o → k < 64 * run.count → run.count ≤ 64
+  pub looks_then : (q r : PassState) (n k : ℕ) → HasWiped q n → k < 64 * run.count → run.count ≤ 64
       → is_run_unmapped (now_of p).words run ≡ true
-      → Acts q (step.Look (word.Heap (64 * run.page + k))) r → Has q.seats q.seat → IsHistory r.table.config r.seen
-      → HasWiped r n
-  looks_then q r n k reached holds near few unmapped a own history =
+      → Acts q (step.Look (word.Heap (64 * run.page + k))) r → HasWiped r n
+  looks_then q r n k reached near few unmapped a =
       reaches_still_in_stop is_clearing p q r (λ v. WipedTo p.seat run (world_of p) v n
       × HoldsAll p.table.config v.now p.seat)
       (λ v. WipedTo p.seat run (world_of p) v n) []
-      (step.Look (word.Heap (64 * run.page + k))) (with_turn q n reached holds) a own history refl refl
+      (step.Look (word.Heap (64 * run.page + k))) (with_turn q n reached a.holds) a refl refl
       (acting_caller p (give_acts (call_of p) give)) refl
       (λ w v here kept stop known pages.
       let on = wiped_left p.seat run (world_of p) w v n here.0 kept (stop here.1) in
@@ -429,15 +425,14 @@ module _ (p : PassState) (o : Option Op) (run : RunPages) (turn : IsTurn p o) (g
       (ap (λ (x : Option RunPages). is_in_gone_run v.now.words x word) here
       ∙ and_from (is_in_run run word) (is_run_unmapped v.now.words run) inside still))
 
-  pub wipes_on : (q r : PassState) (n : ℕ) → HasWiped q n → IsTurn q o → n < 64 * run.count
+  pub wipes_on : (q r : PassState) (n : ℕ) → HasWiped q n → n < 64 * run.count
       → run.page + run.count ≤ p.table.config.pages
-      → Acts q (step.Wipe (64 * run.page + n)) r → Has q.seats q.seat → IsHistory r.table.config r.seen
-      → HasWiped r (n + 1)
-  wipes_on q r n reached holds near within a own history =
+      → Acts q (step.Wipe (64 * run.page + n)) r → HasWiped r (n + 1)
+  wipes_on q r n reached near within a =
       reaches_still_in_stop is_clearing p q r (λ v. WipedTo p.seat run (world_of p) v n
       × HoldsAll p.table.config v.now p.seat)
       (λ v. WipedTo p.seat run (world_of p) v (n + 1)) []
-      (step.Wipe (64 * run.page + n)) (with_turn q n reached holds) a own history refl refl
+      (step.Wipe (64 * run.page + n)) (with_turn q n reached a.holds) a refl refl
       (acting_caller p (give_acts (call_of p) give))
       refl
       (λ w v here kept stop known pages.

@@ -10,7 +10,6 @@ use Rattle.mk_core.specs.Frames.{Steady}
 use Rattle.mk_core.specs.History.{World}
 use Rattle.mk_core.specs.NewPlaces.{bits_made}
 use Rattle.mk_core.specs.Words.{header_at, phase_of}
-use Rattle.mk_words.specs.Seats.{Has}
 use Rattle.mk_words.specs.States.{PassState, now_of, world_of}
 use Rattle.mk_words.specs.TurnSteps.{Acts, world_at}
 use Rattle.mk_turns.specs.Sweeping.{SweepsNothing, is_mark}
@@ -34,28 +33,27 @@ looks_then_sweep p q r looks rest = sweeps_then p q r looks.same (looks_sweep p 
 -- the mark of the place's first page
 pub first_mark_sweeps : (p : PassState) (place : Place) (k : KnowsPlace p place) (q : PassState)
     → header_at (now_of p).words place.page ≡ 0
-    → phase_of (now_of p).words ≡ 1 → Acts p (step.Mark place.page (bits_made (object_for p))) q → Has p.seats p.seat
-    → SweepsNothing p q
-first_mark_sweeps p place k q free one a own =
+    → phase_of (now_of p).words ≡ 1 → Acts p (step.Mark place.page (bits_made (object_for p))) q → SweepsNothing p q
+first_mark_sweeps p place k q free one a =
     let v : World = world_at a.makes in
     let kept = kept_by p q (step.Mark place.page (bits_made (object_for p))) a in
     let serving = serving_left p.table.config p.seat (object_for p) place (world_of p) (world_of p) v k.serving kept in
     let marks = serving_marks p.table.config p.seat (object_for p) place (world_of p) v serving
     (ap (λ (x : Steady). x.phase) kept.steady ∙ one)
     (ap (λ (x : Steady). (slice_index_or x.pages place.page free_page).header) kept.steady ∙ free) in
-    step_sweeps p q (step.Mark place.page (bits_made (object_for p))) a.makes own (and_right _ _ (ap not marks))
+    step_sweeps p q (step.Mark place.page (bits_made (object_for p))) a.makes (and_right _ _ (ap not marks))
 
 -- a header more
 pub head_sweeps : (p q r : PassState) (place : Place) (n page value : ℕ) → HasCarved p place n q → SweepsNothing p q
-    → Acts q (step.Head page value) r → Has q.seats q.seat → SweepsNothing p r
-head_sweeps p q r place n page value reached before a own =
-    sweeps_then p q r reached.same before (other_step_sweeps q r (step.Head page value) a.makes own refl)
+    → Acts q (step.Head page value) r → SweepsNothing p r
+head_sweeps p q r place n page value reached before a =
+    sweeps_then p q r reached.same before (other_step_sweeps q r (step.Head page value) a.makes refl)
 
 -- the cell taken, the object granted, and the tally of held words set
 pub serving_sweeps : (p q r s t : PassState) (place : Place) (x y z : Step) → MayTake p place q → SweepsNothing p q
-    → Acts q x r → Acts r y s → Acts s z t → Has q.seats q.seat → Has r.seats r.seat → Has s.seats s.seat
+    → Acts q x r → Acts r y s → Acts s z t
     → is_mark x ≡ false → is_mark y ≡ false → is_mark z ≡ false → SweepsNothing p t
-serving_sweeps p q r s t place x y z ready before a b d own_q own_r own_s first second third =
+serving_sweeps p q r s t place x y z ready before a b d first second third =
     sweeps_then p q t ready.same before
-    (step_then_sweeps q r t x a.makes own_q first
-    (step_then_sweeps r s t y b.makes own_r second (other_step_sweeps s t z d.makes own_s third)))
+    (step_then_sweeps q r t x a.makes first
+    (step_then_sweeps r s t y b.makes second (other_step_sweeps s t z d.makes third)))

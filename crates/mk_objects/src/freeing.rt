@@ -44,7 +44,6 @@ fn set_tally(words: &Words, turn: &mut Turn, tally: Tally, value: u64)
 {
     turn.is_in_order();
     turn.tally(words, tally, value);
-    turn.is_in_order();
 }
 
 /// Frees an object that takes a cell of a block, of this many words, and returns whether that is due.
@@ -212,6 +211,5 @@ pub fn retire_object<R: Threads + Wait + Sync>(
         return Err(Double);
     }
     let due = free_found(rt, words, turn, p, value, cell, quar);
-    turn.is_in_order();
     Ok(Freed { due })
 }

@@ -37,9 +37,7 @@ fn try_hold(words: &Words, turn: &mut Turn, caller: u64) -> bool
     ensures keeps { (r : ℕ) → r < 8 → value_of turn.new.pass r ≡ value_of turn.old.pass r }
 {
     turn.is_in_order();
-    let held = turn.try_hold(words, caller).is_ok();
-    turn.is_in_order();
-    held
+    turn.try_hold(words, caller).is_ok()
 }
 
 /// Holds a caller's gate, once the caller is in no call.
@@ -107,7 +105,6 @@ fn open_other(words: &Words, turn: &mut Turn, caller: u64)
     turn.is_in_order();
     if !is_own(turn.seat(), caller) {
         turn.open_gate(words, caller);
-        turn.is_in_order();
     }
 }
 

@@ -25,9 +25,7 @@ pub(crate) fn look_at(words: &Words, turn: &mut Turn, word: Word) -> u64
     ensures keeps { (r : ℕ) → r < 8 → value_of turn.new.pass r ≡ value_of turn.old.pass r }
 {
     turn.is_in_order();
-    let found = turn.look(words, word);
-    turn.is_in_order();
-    found
+    turn.look(words, word)
 }
 
 /// Looks whether a cycle marks.
@@ -40,7 +38,6 @@ pub(crate) fn is_marking(words: &Words, turn: &mut Turn) -> bool
 {
     turn.is_in_order();
     let found = turn.look(words, Word::Phase);
-    turn.is_in_order();
     Phase::Marking.is_in(found)
 }
 

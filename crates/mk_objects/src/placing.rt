@@ -33,7 +33,6 @@ fn mark_first(words: &Words, turn: &mut Turn, shape: Shape, place: Place, markin
     turn.is_in_order();
     if marking {
         turn.mark(words, place.page, shape.bits());
-        turn.is_in_order();
     }
 }
 
@@ -52,9 +51,7 @@ fn carve(words: &Words, turn: &mut Turn, shape: Shape, place: Place, marking: bo
     let pages = shape.pages();
     mark_first(words, turn, shape, place, marking);
     for distance in 0..pages {
-        turn.is_in_order();
         turn.head(words, place.page + distance, shape.header_word(distance));
-        turn.is_in_order();
     }
 }
 
@@ -99,13 +96,9 @@ fn serve(
 {
     turn.is_in_order();
     make_ready(words, turn, shape, place, page, marking);
-    turn.is_in_order();
     turn.used(words, place.page, page.used | 1 << place.index);
-    turn.is_in_order();
     turn.grant(words);
-    turn.is_in_order();
     turn.tally(words, Tally::Held, held + shape.storage());
-    turn.is_in_order();
 }
 
 /// Gives the object its place, after a look at the tally of held words and one at the phase.

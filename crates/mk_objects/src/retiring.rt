@@ -37,9 +37,7 @@ pub(crate) fn load_freed(words: &Words, turn: &mut Turn, register: u8) -> u64
     ensures keeps { (result == 0) ≡ false → value_of turn.new.pass register ≡ value_of turn.old.pass register }
 {
     turn.is_in_order();
-    let value = turn.reg_load(words, register);
-    turn.is_in_order();
-    value
+    turn.reg_load(words, register)
 }
 
 /// The cell that the loaded register of a Free points into.
@@ -83,9 +81,7 @@ pub(crate) fn look_at_quarantine(
         → value_of turn.new.pass r ≡ value_of turn.old.pass r }
 {
     turn.is_in_order();
-    let found = turn.look(words, Word::Quar(cell.page));
-    turn.is_in_order();
-    found
+    turn.look(words, Word::Quar(cell.page))
 }
 
 /// Quarantines the target of a Free, which isn't freed yet. A run's needs all other gates held.
@@ -116,5 +112,4 @@ pub(crate) fn quarantine(
     turn.is_in_order();
     let freed = quar % HALF_WORD | 1 << cell.index;
     turn.quar(words, cell.page, HALF_WORD * (quar / HALF_WORD) + freed);
-    turn.is_in_order();
 }

@@ -65,13 +65,11 @@ pub(crate) fn unmap_run(words: &Words, turn: &mut Turn, run: RunPages)
 {
     turn.is_in_order();
     for distance in 0..run.count {
-        turn.is_in_order();
         turn.head(
             words,
             run.page + distance,
             unmapped_header(run.count, distance),
         );
-        turn.is_in_order();
     }
 }
 

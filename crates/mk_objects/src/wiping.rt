@@ -31,9 +31,7 @@ fn are_zero(words: &Words, turn: &mut Turn, pages: u64, run: RunPages, first: u6
     turn.is_in_order();
     let mut all = 0;
     for word in first..first + GROUP {
-        turn.is_in_order();
         all |= turn.look_among(words, pages, Word::Heap(PAGE_WORDS * run.page + word));
-        turn.is_in_order();
     }
     all == 0
 }
@@ -52,12 +50,9 @@ fn wipe_words(words: &Words, turn: &mut Turn, pages: u64, run: RunPages, first: 
     words.is_within_limits();
     turn.is_in_order();
     for word in first..first + GROUP {
-        turn.is_in_order();
         let found = turn.look_among(words, pages, Word::Heap(PAGE_WORDS * run.page + word));
-        turn.is_in_order();
         if found != 0 {
             turn.wipe(words, PAGE_WORDS * run.page + word);
-            turn.is_in_order();
         }
     }
 }

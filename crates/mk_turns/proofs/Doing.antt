@@ -14,6 +14,7 @@ use Rattle.mk_core.specs.History.{World, left, left_from, world_behind}
 use Rattle.mk_core.proofs.HistoryParts.{left_in_parts}
 use Rattle.mk_words.specs.Seats.{Has}
 use Rattle.mk_words.specs.States.{PassState, event_of}
+use Rattle.mk_words.proofs.Made.{own_before}
 use Rattle.mk_words.proofs.Seats.{same_seat, same_self, not_both}
 use Rattle.mk_turns.specs.Doing.{AreOwnOrOfOthers, Does, DoneInTurn, NothingIsDone, StepsAreDone, are_of, done_in}
 
@@ -118,7 +119,8 @@ itself s seats e same has =
     (ap (λ (x : Seat). is_one_of seats x) same ∙ has ∙ sym (ap (λ (x : Seat). is_same_seat s x) same ∙ same_self s), tt)
 
 pub does_step : StepsAreDone
-does_step kinds p q s has made allowed =
+does_step kinds p q s made allowed =
+    let has = own_before made in
     let e : Event = event_of p s in
     let v : PassState = record p { seen = p.seen ++ made.others } in
     let w : World = left p.table.config v.seen in

@@ -18,6 +18,7 @@ use Rattle.mk_core.proofs.HistoryParts.{left_in_parts}
 use Rattle.mk_words.specs.Seats.{Has}
 use Rattle.mk_words.specs.States.{PassState, event_of, world_of}
 use Rattle.mk_words.specs.Steps.{Makes, moment_of}
+use Rattle.mk_words.proofs.Made.{own_before}
 use Rattle.mk_turns.specs.Doing.{are_of}
 use Rattle.mk_turns.specs.Sweeping.{HaveNoMark, NothingIsSweptInTurn, NothingSweepsNothing, OtherKindsSweepNothing}
 use Rattle.mk_turns.specs.Sweeping.{StepsMaySweepNothing, SweepsNothing, SweepsNothingFrom, is_mark}
@@ -102,7 +103,7 @@ does_sweep kinds p q apart d =
     }
 
 pub step_sweeps : StepsMaySweepNothing
-step_sweeps p q s m has none =
+step_sweeps p q s m none =
     let c : Config = p.table.config in
     let w : World = left c (p.seen ++ m.others) in
     let from : World = left_from c (left c p.seen) m.others in
@@ -111,7 +112,7 @@ step_sweeps p q s m has none =
       more = m.others ++ event_of p s ∷ [];
       is = ap (λ (x : PassState). x.seen) m.is ∙ append_assoc p.seen m.others (event_of p s ∷ []);
       none = sweeps_append c p.seat (world_of p) m.others (event_of p s ∷ [])
-          (others_sweep c p.seat p.seats (world_of p) m.others has m.of_others)
+          (others_sweep c p.seat p.seats (world_of p) m.others (own_before m) m.of_others)
           (subst (λ (v : World). SweepsNothingFrom c p.seat v (event_of p s ∷ [])) (left_in_parts c p.seen m.others)
           last);
     }
@@ -126,12 +127,12 @@ only_seen_by p q s m =
     m.is ∙ ap (λ (l : List Event). record p { seen = l }) (sym (ap (λ (x : PassState). x.seen) m.is))
 
 -- a step that isn't a mark, before others
-pub other_step_sweeps : (p q : PassState) (s : Step) → Makes p s q → Has p.seats p.seat → is_mark s ≡ false
+pub other_step_sweeps : (p q : PassState) (s : Step) → Makes p s q → is_mark s ≡ false
     → SweepsNothing p q
-other_step_sweeps p q s m has other =
-    step_sweeps p q s m has (other_steps_sweep p.table.config (moment_of m) (flight_of (moment_of m) p.seat) s other)
+other_step_sweeps p q s m other =
+    step_sweeps p q s m (other_steps_sweep p.table.config (moment_of m) (flight_of (moment_of m) p.seat) s other)
 
-pub step_then_sweeps : (p q r : PassState) (s : Step) → Makes p s q → Has p.seats p.seat → is_mark s ≡ false
+pub step_then_sweeps : (p q r : PassState) (s : Step) → Makes p s q → is_mark s ≡ false
     → SweepsNothing q r → SweepsNothing p r
-step_then_sweeps p q r s m has other rest =
-    sweeps_then p q r (only_seen_by p q s m) (other_step_sweeps p q s m has other) rest
+step_then_sweeps p q r s m other rest =
+    sweeps_then p q r (only_seen_by p q s m) (other_step_sweeps p q s m other) rest

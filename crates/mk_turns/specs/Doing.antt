@@ -5,7 +5,6 @@ use Rattle.mk_core.specs.declared.events.Seat.{Seat}
 use Rattle.mk_core.specs.declared.events.Step.{Step}
 use Rattle.mk_core.specs.declared.events.Event.{Event}
 use Rattle.mk_core.specs.Growing.{is_same_seat, is_one_of, Finding, in_this_call}
-use Rattle.mk_words.specs.Seats.{Has}
 use Rattle.mk_words.specs.States.{PassState}
 use Rattle.mk_words.specs.Steps.{Makes}
 
@@ -41,5 +40,5 @@ abbrev pub DoneInTurn : Type 0
 DoneInTurn = (kinds : Step → Bool) (p q r : PassState) → Does kinds p q → Does kinds q r → Does kinds p r
 
 abbrev pub StepsAreDone : Type 0
-StepsAreDone = (kinds : Step → Bool) (p q : PassState) (s : Step) → Has p.seats p.seat → Makes p s q → kinds s ≡ true
+StepsAreDone = (kinds : Step → Bool) (p q : PassState) (s : Step) → Makes p s q → kinds s ≡ true
     → Does kinds p q

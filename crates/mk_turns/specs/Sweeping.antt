@@ -9,7 +9,6 @@ use Rattle.mk_core.specs.Cycles.{sweeps}
 use Rattle.mk_core.specs.Growing.{is_same_seat}
 use Rattle.mk_core.specs.History.{World, world_behind}
 use Rattle.mk_core.specs.Moments.{flight_of}
-use Rattle.mk_words.specs.Seats.{Has}
 use Rattle.mk_words.specs.States.{PassState, world_of}
 use Rattle.mk_words.specs.Steps.{Makes, moment_of}
 use Rattle.mk_turns.specs.Doing.{Does}
@@ -51,5 +50,5 @@ OtherKindsSweepNothing =
 
 abbrev pub StepsMaySweepNothing : Type 0
 StepsMaySweepNothing =
-    (p q : PassState) (s : Step) (m : Makes p s q) → Has p.seats p.seat
+    (p q : PassState) (s : Step) (m : Makes p s q)
     → sweeps p.table.config (moment_of m) (flight_of (moment_of m) p.seat) s ≡ false → SweepsNothing p q

@@ -77,5 +77,5 @@ taking_does p o q own t =
       own_or_others = all_own_or_others p w.more own w.only;
       of_kinds = all_take p (world_of p) w.more own w.only;
     })
-    (does_step is_take t.waited q (step.Take o) (subst (λ (x : PassState). Has x.seats x.seat) (sym w.is) own)
+    (does_step is_take t.waited q (step.Take o)
     t.takes.makes refl)

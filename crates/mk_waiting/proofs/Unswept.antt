@@ -1,5 +1,5 @@
 -- Who waits for the turn marks nothing: it only tries to take it.
-use Rattle.std.proofs.Common.{◌≡◌, ⊎_elim, true, false, List, [], ◌∷◌, refl, sym, ap, subst}
+use Rattle.std.proofs.Common.{◌≡◌, ⊎_elim, true, false, List, [], ◌∷◌, refl, ap, subst}
 use Rattle.std.specs.Prelude.{not, ◌&&◌}
 use Rattle.std.specs.List.{list_all}
 use Rattle.std.proofs.lemmas.Bool.{and_parts, not-true, or_cases}
@@ -52,5 +52,4 @@ taking_sweeps p o q has t =
       is = ap (λ (x : PassState). x.seen) w.is;
       none = waits_sweep p (world_of p) w.more has w.only;
     })
-    (other_step_sweeps t.waited q (step.Take o) t.takes.makes
-    (subst (λ (x : PassState). Has x.seats x.seat) (sym w.is) has) refl)
+    (other_step_sweeps t.waited q (step.Take o) t.takes.makes refl)

@@ -31,11 +31,12 @@ use Rattle.mk_core.specs.HeldGates.{is_gate_held}
 use Rattle.mk_core.specs.Accesses.{word_accessed, access, found, caller_number, register_met, reg_access}
 use Rattle.mk_core.specs.Moments.{Moment, flight_of}
 use Rattle.mk_core.specs.Effects.{progress, begins_where_free, moment_behind, answer_decided}
-use Rattle.mk_core.specs.History.{World, IsHistory}
+use Rattle.mk_core.specs.History.{World}
+use Rattle.mk_core.proofs.Conditions.{enabled_meets}
 use Rattle.mk_core.proofs.Lengths.{histories_keep_lengths}
 use Rattle.mk_laws.proofs.NextSteps.{at_enter}
 use Rattle.mk_laws.proofs.ProtocolHeldGates.{gates_tell_holds}
-use Rattle.mk_words.specs.Seats.{Has}
+use Rattle.mk_words.specs.Seats.{is_caller}
 use Rattle.mk_words.specs.States.{PassState, now_of, call_of, event_of}
 use Rattle.mk_words.specs.Rule.{told_by}
 use Rattle.mk_words.specs.Steps.{Makes, moment_of, found_by, Finds, Tells, Goes}
@@ -68,12 +69,11 @@ caller_exists : (c : Config) (seat : Seat) (k : ℕ) → seat ≡ Caller k → s
 caller_exists c seat k is h = ltb-true k c.callers (subst (λ (s : Seat). seat_exists c s ≡ true) is h)
 
 -- How a caller's step makes its call go on.
-pub goes : (p : PassState) (s : Step) (q : PassState) (m : Makes p s q) → Has p.seats p.seat
-    → IsHistory q.table.config q.seen → (k : ℕ) → p.seat ≡ Caller k
+pub goes : (p : PassState) (s : Step) (q : PassState) (m : Makes p s q) → (k : ℕ) → p.seat ≡ Caller k
     → Goes p s (progress p.table.config (moment_of m) (call_of p) (found_by m) s) q
-goes p s q m own history k is =
+goes p s q m k is =
     let c : Config = p.table.config in
-    let d = made p s q m own history in
+    let d = made p s q m in
     let n : Moment = moment_of m in
     let same : flight_of n p.seat ≡ call_of p = d.frame.own.flight in
     let lt : k < length n.seats.flights =
@@ -89,68 +89,64 @@ goes p s q m own history k is =
     }
 
 -- The registers are as the pass knew them.
-pub registers_before : (p : PassState) (s : Step) (q : PassState) (m : Makes p s q) → Has p.seats p.seat
-    → IsHistory q.table.config q.seen → (k : ℕ) → p.seat ≡ Caller k
+pub registers_before : (p : PassState) (s : Step) (q : PassState) (m : Makes p s q) → (k : ℕ) → p.seat ≡ Caller k
     → (r : ℕ) → r < 8 → register_word (moment_of m).words k r ≡ register_word (now_of p).words k r
-registers_before p s q m own history k is r lt = (made p s q m own history).frame.own.registers k r is lt
+registers_before p s q m k is r lt = (made p s q m).frame.own.registers k r is lt
 
 number_is : (s : Seat) (k : ℕ) → s ≡ Caller k → caller_number s ≡ k
 number_is s k is = ap (λ (t : Seat). caller_number t) is
 
 -- What a register is after the step, from what the access makes of the registers.
-pub register_behind : (p : PassState) (s : Step) (q : PassState) (m : Makes p s q) → Has p.seats p.seat
-    → IsHistory q.table.config q.seen
+pub register_behind : (p : PassState) (s : Step) (q : PassState) (m : Makes p s q)
     → (r : ℕ) → register_of q r ≡ register_word (moment_behind p.table.config (moment_of m) (event_of p s)).words
     (caller_number p.seat) r
-register_behind p s q m own history r =
-    let d = made p s q m own history in
+register_behind p s q m r =
+    let d = made p s q m in
     ap (λ (t : Seat). register_word (now_of q).words (caller_number t) r) d.seat
     ∙ ap (λ (w : World). register_word w.now.words (caller_number p.seat) r) d.world
 
 -- A step whose access leaves the registers alone leaves those of its seat as the pass knew them.
-pub keeps_registers : (p : PassState) (s : Step) (q : PassState) (m : Makes p s q) → Has p.seats p.seat
-    → IsHistory q.table.config q.seen → (k : ℕ) → p.seat ≡ Caller k
+pub keeps_registers : (p : PassState) (s : Step) (q : PassState) (m : Makes p s q) → (k : ℕ) → p.seat ≡ Caller k
     → (moment_behind p.table.config (moment_of m) (event_of p s)).words.registers ≡ (moment_of m).words.registers
     → LeavesRegisters p q
-keeps_registers p s q m own history k is same r lt =
-    register_behind p s q m own history r
+keeps_registers p s q m k is same r lt =
+    register_behind p s q m r
     ∙ ap (λ (xs : List ℕ). slice_index xs (8 * caller_number p.seat + r)) same
     ∙ ap (λ (j : ℕ). register_word (moment_of m).words j r) (number_is p.seat k is)
-    ∙ registers_before p s q m own history k is r lt
+    ∙ registers_before p s q m k is r lt
     ∙ sym (ap (λ (j : ℕ). register_word (now_of p).words j r) (number_is p.seat k is))
 
 -- The same, from what a call says.
-module _ (p : PassState) (s : Step) (n : ℕ) (q : PassState) (t : Tells p s n q) (own : Has p.seats p.seat)
-    (history : IsHistory q.table.config q.seen)
+module _ (p : PassState) (s : Step) (n : ℕ) (q : PassState) (t : Tells p s n q)
     (kind : group_of s ≡ group.Callers) where
   pub caller_is : (k : ℕ) × (p.seat ≡ Caller k)
   caller_is =
       is_callers p.seat
-      (subst (λ (g : Group). is_open_to p.seat g ≡ true) kind (made p s q t.makes own history).meets.kind)
+      (subst (λ (g : Group). is_open_to p.seat g ≡ true) kind (made p s q t.makes).meets.kind)
 
   pub goes_on : (x : Progress) → progress p.table.config (moment_of t.makes) (call_of p) (found_by t.makes) s ≡ x
       → Goes p s x q
-  goes_on x is = let k = caller_is in subst (λ (y : Progress). Goes p s y q) is (goes p s q t.makes own history k.0 k.1)
+  goes_on x is = let k = caller_is in subst (λ (y : Progress). Goes p s y q) is (goes p s q t.makes k.0 k.1)
 
   pub keeps : (moment_behind p.table.config (moment_of t.makes) (event_of p s)).words.registers
       ≡ (moment_of t.makes).words.registers → LeavesRegisters p q
-  keeps same = let k = caller_is in keeps_registers p s q t.makes own history k.0 k.1 same
+  keeps same = let k = caller_is in keeps_registers p s q t.makes k.0 k.1 same
 
   pub same_call : flight_of (moment_of t.makes) p.seat ≡ call_of p
-  same_call = (made p s q t.makes own history).frame.own.flight
+  same_call = (made p s q t.makes).frame.own.flight
 
   pub same_register : (r : ℕ) → r < 8
       → register_word (moment_of t.makes).words (caller_number p.seat) r ≡ register_of p r
   same_register r lt =
       let k = caller_is in
       ap (λ (j : ℕ). register_word (moment_of t.makes).words j r) (number_is p.seat k.0 k.1)
-      ∙ registers_before p s q t.makes own history k.0 k.1 r lt
+      ∙ registers_before p s q t.makes k.0 k.1 r lt
       ∙ sym (ap (λ (j : ℕ). register_word (now_of p).words j r) (number_is p.seat k.0 k.1))
 
   pub register_now : (r : ℕ)
       → register_of q r ≡ register_word (moment_behind p.table.config (moment_of t.makes) (event_of p s)).words
       (caller_number p.seat) r
-  register_now r = register_behind p s q t.makes own history r
+  register_now r = register_behind p s q t.makes r
 
 -- A store's progress doesn't read what was there.
 unread : (f : Flight) (s : Stage) (v n : ℕ) → reg_access f s ≡ Store v → progress_reg f s n ≡ progress_reg f s v
@@ -177,11 +173,10 @@ reg_goes : (p : PassState) (q : PassState) (m : Makes p step.Reg q) (n : ℕ) �
     ≡ progress_reg (call_of p) (call_of p).stage n
 reg_goes p q m n is = ap (λ (i : ℕ). progress_reg (call_of p) (call_of p).stage i) (sym is)
 
-module _ (p : PassState) (n : ℕ) (q : PassState) (t : Tells p step.Reg n q) (own : Has p.seats p.seat)
-    (history : IsHistory q.table.config q.seen)
+module _ (p : PassState) (n : ℕ) (q : PassState) (t : Tells p step.Reg n q)
     (r : ℕ) (met : r ≡ register_met (call_of p) (call_of p).stage) where
   same : flight_of (moment_of t.makes) p.seat ≡ call_of p
-  same = same_call p step.Reg n q t own history refl
+  same = same_call p step.Reg n q t refl
 
   reaches : word_accessed p.table.config (moment_of t.makes) (event_of p step.Reg)
       ≡ Named (word.Reg (caller_number p.seat) r)
@@ -189,7 +184,7 @@ module _ (p : PassState) (n : ℕ) (q : PassState) (t : Tells p step.Reg n q) (o
 
   small : r < 8
   small = (subst (λ (x : TableWord). IsOfTable p.table.config.pages x) reaches
-      (made p step.Reg q t.makes own history).of_table).1
+      (made p step.Reg q t.makes).of_table).1
 
   module _ (loads : reg_access (call_of p) (call_of p).stage ≡ Load) where
     found_is : n ≡ found_by t.makes
@@ -199,18 +194,18 @@ module _ (p : PassState) (n : ℕ) (q : PassState) (t : Tells p step.Reg n q) (o
     load_finds = record { makes = t.makes; finds = found_is }
 
     pub load_goes : Goes p step.Reg (progress_reg (call_of p) (call_of p).stage n) q
-    load_goes = goes_on p step.Reg n q t own history refl _ (reg_goes p q t.makes n found_is)
+    load_goes = goes_on p step.Reg n q t refl _ (reg_goes p q t.makes n found_is)
 
     pub load_keeps : LeavesRegisters p q
     load_keeps =
-        keeps p step.Reg n q t own history refl
+        keeps p step.Reg n q t refl
         (ap (λ (a : Access).
         (accessed (moment_of t.makes).words (word_accessed p.table.config (moment_of t.makes) (event_of p step.Reg))
         a).registers) (reg_access_is p q t.makes Load same loads))
 
     pub load_own : n ≡ register_of p r
     load_own = found_is ∙ ap (λ (x : TableWord). word_in (moment_of t.makes).words x) reaches
-        ∙ same_register p step.Reg n q t own history refl r small
+        ∙ same_register p step.Reg n q t refl r small
 
   module _ (v : ℕ) (stores : reg_access (call_of p) (call_of p).stage ≡ Store v) where
     words_now : (moment_behind p.table.config (moment_of t.makes) (event_of p step.Reg)).words
@@ -225,12 +220,12 @@ module _ (p : PassState) (n : ℕ) (q : PassState) (t : Tells p step.Reg n q) (o
         → register_of q x ≡ slice_index (slice_set (moment_of t.makes).words.registers (8 * caller_number p.seat + r) v)
         (8 * caller_number p.seat + x)
     register_set x =
-        register_now p step.Reg n q t own history refl x
+        register_now p step.Reg n q t refl x
         ∙ ap (λ (w : Words). register_word w (caller_number p.seat) x) words_now
 
     pub store_goes : Goes p step.Reg (progress_reg (call_of p) (call_of p).stage v) q
     store_goes =
-        goes_on p step.Reg n q t own history refl _
+        goes_on p step.Reg n q t refl _
         (unread (call_of p) (call_of p).stage v (found_by t.makes) stores)
 
     pub store_keeps : KeepsOtherRegisters r p q
@@ -238,16 +233,16 @@ module _ (p : PassState) (n : ℕ) (q : PassState) (t : Tells p step.Reg n q) (o
         register_set x
         ∙ get_or-set_other (moment_of t.makes).words.registers (8 * caller_number p.seat + r)
         (8 * caller_number p.seat + x) v 0 (λ e. ne (omega arith))
-        ∙ same_register p step.Reg n q t own history refl x lt
+        ∙ same_register p step.Reg n q t refl x lt
 
     pub store_stored : register_of q r ≡ v
     store_stored =
         register_set r
         ∙ get_or-set_same (moment_of t.makes).words.registers (8 * caller_number p.seat + r) v 0
         (let long = (histories_keep_lengths p.table.config (p.seen ++ t.makes.others)).registers in
-        let k = caller_is p step.Reg n q t own history refl in
+        let k = caller_is p step.Reg n q t refl in
         let number : caller_number p.seat ≡ k.0 = number_is p.seat k.0 k.1 in
-        let d = made p step.Reg q t.makes own history in
+        let d = made p step.Reg q t.makes in
         let within = caller_exists p.table.config p.seat k.0 k.1 d.meets.seat in
         let most = d.known.small in
         let lt = small in
@@ -270,24 +265,23 @@ pub waits : (f : Flight) (o : Op) (n found : ℕ) → n ≡ found → n ≢ 0 �
 waits f o n found is held = ap (λ (b : Bool). if b then record { flight = begun o; answer = None } else still f)
     (ne_eqb found 0 (λ z. held (is ∙ z)))
 
-module _ (p : PassState) (o : Op) (n : ℕ) (q : PassState) (t : Tells p (step.Enter o) n q) (own : Has p.seats p.seat)
-    (history : IsHistory q.table.config q.seen) where
+module _ (p : PassState) (o : Op) (n : ℕ) (q : PassState) (t : Tells p (step.Enter o) n q) where
   pub enter_goes : n ≡ 0 → Goes p (step.Enter o) (record { flight = begun o; answer = None }) q
-  enter_goes free = goes_on p (step.Enter o) n q t own history refl _
+  enter_goes free = goes_on p (step.Enter o) n q t refl _
       (begins (call_of p) o n (found_by t.makes) t.tells free)
 
   pub enter_waits : n ≢ 0 → Goes p (step.Enter o) (still (call_of p)) q
-  enter_waits held = goes_on p (step.Enter o) n q t own history refl _
+  enter_waits held = goes_on p (step.Enter o) n q t refl _
       (waits (call_of p) o n (found_by t.makes) t.tells held)
 
   pub enter_keeps : LeavesRegisters p q
-  enter_keeps = keeps p (step.Enter o) n q t own history refl refl
+  enter_keeps = keeps p (step.Enter o) n q t refl refl
 
   pub enter_held : n ≢ 0 → FindsHeld p o q
   enter_held held =
       let c : Config = p.table.config in
-      let d = made p (step.Enter o) q t.makes own history in
-      let k = caller_is p (step.Enter o) n q t own history refl in
+      let d = made p (step.Enter o) q t.makes in
+      let k = caller_is p (step.Enter o) n q t refl in
       let m : Moment = moment_of t.makes in
       let within : k.0 < c.callers = caller_exists c p.seat k.0 k.1 d.meets.seat in
       let number : caller_number p.seat ≡ k.0 = number_is p.seat k.0 k.1 in

@@ -18,7 +18,7 @@ use Rattle.mk_laws.proofs.Protocols.{protocol_of}
 use Rattle.mk_laws.proofs.ProtocolFrames.{others_leave}
 use Rattle.mk_laws.proofs.Reaching.{events_reach_the_table}
 use Rattle.mk_words.specs.Seats.{Has}
-use Rattle.mk_words.specs.States.{PassState, world_of, event_of}
+use Rattle.mk_words.specs.States.{PassState, IsPass, world_of, event_of}
 use Rattle.mk_words.specs.Steps.{Makes}
 use Rattle.mk_words.specs.Laws.{StepsStandBehindOthers}
 use Rattle.mk_laws.proofs.SeatFrames.{admitted_others_leave}
@@ -39,15 +39,19 @@ pub record Made (p : PassState) (s : Step) (q : PassState) (m : Makes p s q) : T
   pub world : world_of q ≡ world_behind p.table.config (left p.table.config (p.seen ++ m.others)) (event_of p s)
   pub seat : q.seat ≡ p.seat
 
-pub made : (p : PassState) (s : Step) (q : PassState) (m : Makes p s q) → Has p.seats p.seat
-    → IsHistory q.table.config q.seen → Made p s q m
-made p s q m own history =
+-- The pass's seat was one of its seats before the step too.
+pub own_before : {p : PassState} {s : Step} {q : PassState} → Makes p s q → Has p.seats p.seat
+own_before m = subst (λ (r : PassState). Has r.seats r.seat) m.is m.pass.own
+
+pub made : (p : PassState) (s : Step) (q : PassState) (m : Makes p s q) → Made p s q m
+made p s q m =
     let c : Config = p.table.config in
     let es : List Event = p.seen ++ m.others in
     let e : Event = event_of p s in
-    let whole : IsHistory c (es ++ e ∷ []) = subst (λ (r : PassState). IsHistory r.table.config r.seen) m.is history in
+    let whole : IsHistory c (es ++ e ∷ []) = subst (λ (r : PassState). IsHistory r.table.config r.seen) m.is
+    m.pass.history in
     let before : IsHistory c es = earlier_part_is_history c es (e ∷ []) whole in
-    let others = others_own p.seats p.seat m.others own m.of_others in
+    let others = others_own p.seats p.seat m.others (own_before m) m.of_others in
     let known = known_left c es before.within_limits before.enabled in
     let on = last_enabled c (first_world c) es e whole.enabled in
     record {
@@ -63,9 +67,16 @@ made p s q m own history =
       seat = ap (λ (r : PassState). r.seat) m.is;
     }
 
+-- What the pass had seen before the step was a history.
+pub pass_before : {p : PassState} {s : Step} {q : PassState} → Makes p s q → IsPass p
+pass_before {p} {s} {q} m = record {
+  own = own_before m;
+  history = earlier_part_is_history p.table.config p.seen m.others (made p s q m).history;
+}
+
 pub stands_behind_others : StepsStandBehindOthers
-stands_behind_others p q s m own history =
-    let d = made p s q m own history in
+stands_behind_others p q s m =
+    let d = made p s q m in
     record {
       others = d.others;
       history = d.history;

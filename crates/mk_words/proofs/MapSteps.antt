@@ -21,7 +21,6 @@ use Rattle.mk_core.specs.declared.events.Word.TheVariants as word
 use Rattle.mk_core.specs.Words.{Words, accessed}
 use Rattle.mk_core.specs.Accesses.{caller_number, register_met, reg_access, tally_word}
 use Rattle.mk_core.specs.History.{IsHistory, World}
-use Rattle.mk_core.specs.Readings.{Holds}
 use Rattle.mk_core.specs.Moments.{Moment, flight_of}
 use Rattle.mk_core.proofs.Conditions.{enabled_meets}
 use Rattle.mk_core.proofs.HistoryParts.{earlier_part_is_history}
@@ -29,11 +28,11 @@ use Rattle.mk_core.proofs.Lengths.{histories_keep_lengths}
 use Rattle.mk_laws.proofs.SameWords.{Behind}
 use Rattle.mk_words.specs.declared.homes.Carried.{Carried}
 use Rattle.mk_words.specs.PageMaps.{HasNoMarks, IsMapOf, IsNextUncleaned, is_told}
-use Rattle.mk_words.specs.Seats.{Has}
 use Rattle.mk_words.specs.States.{PassState, now_of, event_of}
 use Rattle.mk_words.specs.Steps.{IsEnabledTo}
 use Rattle.mk_words.specs.TurnSteps.{world_at, Acts, IsTurnWithMap}
 use Rattle.mk_words.proofs.FreeTurns.{map_left, map_stays, page_words}
+use Rattle.mk_words.proofs.Made.{own_before}
 use Rattle.mk_words.proofs.Seats.{others_own}
 use Rattle.mk_words.proofs.TakenCells.{may_take_cell}
 use Rattle.mk_words.proofs.Unmarked.{is_mark, stays_unmarked}
@@ -67,26 +66,17 @@ pages_stay c m seat step.Reg leaves =
 pages_stay c m seat (step.Tally n v) leaves = tally_pages m.words n v
 pages_stay c m seat _ leaves = refl
 
--- a step of a turn, with what is known of its pass
-pub record Turns (p : PassState) (s : Step) (q : PassState) : Type 0 where
-  pub acts : Acts p s q
-  pub own : Has p.seats p.seat
-  pub history : IsHistory q.table.config q.seen
-  pub holds : Holds p.table.config (now_of p) p.seat
-
-module _ (p : PassState) (s : Step) (q : PassState) (t : Turns p s q) where
-  abbrev a : Acts p s q
-  a = t.acts
-
+-- a step of the turn's holder
+module _ (p : PassState) (s : Step) (q : PassState) (a : Acts p s q) where
   history : IsHistory p.table.config (p.seen ++ a.makes.others ++ event_of p s ∷ [])
-  history = subst (λ (r : PassState). IsHistory r.table.config r.seen) a.makes.is t.history
+  history = subst (λ (r : PassState). IsHistory r.table.config r.seen) a.makes.is a.makes.pass.history
 
   -- Others have left the map, up to when the step is made.
   map_then : (map : KnownPages) → IsMapOf map (now_of p).words → IsMapOf map (world_at a.makes).now.words
   map_then map m =
       map_left p.table.config p.seen a.makes.others p.seat map
       (earlier_part_is_history p.table.config (p.seen ++ a.makes.others) (event_of p s ∷ []) history)
-      (others_own p.seats p.seat a.makes.others t.own a.makes.of_others) t.holds m
+      (others_own p.seats p.seat a.makes.others (own_before a.makes) a.makes.of_others) a.holds m
 
   abbrev after : Words
   after = (Behind p.table.config (world_at a.makes).now p.seat s).words
@@ -216,43 +206,43 @@ map_cleaned w page old new shows others none m =
 
 -- the steps
 
-pub shows_head : (p : PassState) (page v : ℕ) (q : PassState) (t : Turns p (step.Head page v) q)
+pub shows_head : (p : PassState) (page v : ℕ) (q : PassState) (a : Acts p (step.Head page v) q)
     (old new : KnownPages) → HeaderIsTold old page v new → page < length old.pages → IsMapOf old (now_of p).words
     → IsMapOf new (now_of q).words
-shows_head p page v q t old new told within shows =
+shows_head p page v q a old new told within shows =
     let s : Step = step.Head page v in
-    map_now p s q t new
-    (told_header (world_at t.acts.makes).now.words page v old new told within (map_then p s q t old shows))
+    map_now p s q a new
+    (told_header (world_at a.makes).now.words page v old new told within (map_then p s q a old shows))
 
-pub shows_used : (p : PassState) (page v : ℕ) (q : PassState) (t : Turns p (step.Used page v) q)
+pub shows_used : (p : PassState) (page v : ℕ) (q : PassState) (a : Acts p (step.Used page v) q)
     (old new : KnownPages) → UsedIsTold old page v new → page < length old.pages → IsMapOf old (now_of p).words
     → IsMapOf new (now_of q).words
-shows_used p page v q t old new told within shows =
+shows_used p page v q a old new told within shows =
     let s : Step = step.Used page v in
-    map_now p s q t new
-    (told_used (world_at t.acts.makes).now.words page v old new told within (map_then p s q t old shows))
+    map_now p s q a new
+    (told_used (world_at a.makes).now.words page v old new told within (map_then p s q a old shows))
 
-pub shows_quar : (p : PassState) (page v : ℕ) (q : PassState) (t : Turns p (step.Quar page v) q)
+pub shows_quar : (p : PassState) (page v : ℕ) (q : PassState) (a : Acts p (step.Quar page v) q)
     (old new : KnownPages) → QuarantineIsTold old page (v % 2 ^ 32) (v / 2 ^ 32) new → IsMapOf old (now_of p).words
     → IsMapOf new (now_of q).words
-shows_quar p page v q t old new told shows =
+shows_quar p page v q a old new told shows =
     let s : Step = step.Quar page v in
-    let w : Words = (world_at t.acts.makes).now.words in
-    let m = map_then p s q t old shows in
-    map_now p s q t new
+    let w : Words = (world_at a.makes).now.words in
+    let m = map_then p s q a old shows in
+    map_now p s q a new
     (record {
       words = told.shows w.pages w.freed w.snapshot m.words;
       unmarked = λ number bare cleaned.
-          same_marks w (after p s q t) number refl refl
+          same_marks w (after p s q a) number refl refl
           (m.unmarked number bare (sym (told.uncleaned number) ∙ cleaned));
     })
 
-pub shows_mark : (p : PassState) (page v : ℕ) (q : PassState) (t : Turns p (step.Mark page v) q)
+pub shows_mark : (p : PassState) (page v : ℕ) (q : PassState) (a : Acts p (step.Mark page v) q)
     (old new : KnownPages) → MarkIsTold old page new → IsMapOf old (now_of p).words → IsMapOf new (now_of q).words
-shows_mark p page v q t old new told shows =
+shows_mark p page v q a old new told shows =
     let s : Step = step.Mark page v in
-    map_now p s q t new
-    (told_mark p.table.config (world_at t.acts.makes).now p.seat page v old new told (map_then p s q t old shows))
+    map_now p s q a new
+    (told_mark p.table.config (world_at a.makes).now p.seat page v old new told (map_then p s q a old shows))
 
 -- What a map shows it shows by another name too.
 pub shows_that : (w : Words) (map same : KnownPages) → same ≡ map → IsMapOf map w → IsMapOf same w

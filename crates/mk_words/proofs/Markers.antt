@@ -17,9 +17,8 @@ use Rattle.mk_core.specs.Accesses.{access_by, found}
 use Rattle.mk_core.specs.Moments.{Moment, outside, flight_of, marker_at, holder_number}
 use Rattle.mk_core.specs.Enabled.{marker_may}
 use Rattle.mk_core.specs.Effects.{marker_behind, moment_behind}
-use Rattle.mk_core.specs.History.{World, IsHistory}
+use Rattle.mk_core.specs.History.{World}
 use Rattle.mk_core.proofs.Conditions.{enabled_meets}
-use Rattle.mk_words.specs.Seats.{Has}
 use Rattle.mk_words.specs.States.{PassState, now_of, event_of}
 use Rattle.mk_words.specs.Rule.{told_by}
 use Rattle.mk_words.specs.Steps.{IsEnabledTo, moment_of, found_by, Tells}
@@ -53,10 +52,9 @@ behind_own c m (Marker j) k s is lt = let same : j ≡ k = cc in get_or-set_same
 behind_own c m (Caller j) k s is lt = cc
 behind_own c m Host k s is lt = cc
 
-module _ (p : PassState) (s : Step) (n : ℕ) (q : PassState) (t : Tells p s n q) (own : Has p.seats p.seat)
-    (history : IsHistory q.table.config q.seen) where
+module _ (p : PassState) (s : Step) (n : ℕ) (q : PassState) (t : Tells p s n q) where
   d : Made p s q t.makes
-  d = made p s q t.makes own history
+  d = made p s q t.makes
 
   pub marks : is_markers (group_of s) ≡ true → Marks p s n q
   marks kind =

@@ -24,7 +24,6 @@ use Rattle.mk_core.specs.Readings.{Holds}
 use Rattle.mk_core.proofs.Conditions.{enabled_meets, meets_enabled}
 use Rattle.mk_core.proofs.Histories.{last_enabled}
 use Rattle.mk_laws.specs.Protocol.{Protocol}
-use Rattle.mk_words.specs.Seats.{Has}
 use Rattle.mk_words.specs.States.{PassState, now_of, event_of}
 use Rattle.mk_words.specs.Steps.{IsEnabledTo}
 use Rattle.mk_words.specs.TurnSteps.{IsTurn, world_at, Acts}
@@ -38,7 +37,7 @@ use Rattle.mk_laws.proofs.TallySteps.{CountsNothing}
 use Rattle.mk_words.proofs.Tallies.{same_ends, same_fulls}
 use Rattle.mk_words.specs.Opening.{OthersMayOpen, OnlyOpen, Opens, AreOpened}
 use Rattle.mk_words.proofs.Owed.{history_more}
-use Rattle.mk_words.proofs.Made.{made}
+use Rattle.mk_words.proofs.Made.{made, pass_before}
 use Rattle.mk_words.proofs.LongerLists.{longer_lists}
 
 -- one gate that is opened leaves the others to be opened
@@ -186,14 +185,13 @@ opens_more p q r k o a =
     }
 
 -- The others may still be opened.
-still_may : (p q : PassState) (k : ℕ) → Acts p (step.Open k) q → Has p.seats p.seat → IsHistory p.table.config p.seen
-    → IsHistory q.table.config q.seen
+still_may : (p q : PassState) (k : ℕ) → Acts p (step.Open k) q
     → (j : ℕ) → j ≢ k → IsEnabledTo p (step.Open j) → IsEnabledTo q (step.Open j)
-still_may p q k a own before behind j other on =
+still_may p q k a j other on =
     let c : Config = p.table.config in
-    let d = made p (step.Open k) q a.makes own behind in
+    let d = made p (step.Open k) q a.makes in
     let e : Event = event_of p (step.Open j) in
-    let short = history_more p (step.Open j) before
+    let short = history_more p (step.Open j) (pass_before a.makes).history
     (record { enabled = on; admitted = λ h. cc; tidy = λ h. cc; home = λ h. cc }) in
     let long = longer_lists c p.seen a.makes.others e short d.history d.others in
     let then_on = last_enabled c (first_world c) (p.seen ++ a.makes.others) e long.history.enabled in
@@ -247,9 +245,8 @@ pub record Round (p q r : PassState) (k : ℕ) : Type 0 where
 
 pub one_round : (p q r : PassState) (k : ℕ) → Opens p q → OthersMayOpen q k → AreOpened q k
     → (is_number_of q.seat k ≡ false → Acts q (step.Open k) r)
-    → (is_number_of q.seat k ≡ true → r ≡ q) → Has q.seats q.seat → IsHistory q.table.config q.seen
-    → IsHistory r.table.config r.seen → Round p q r k
-one_round p q r k o may opened acts same own before behind = elim (cases_Bool (is_number_of q.seat k)) [
+    → (is_number_of q.seat k ≡ true → r ≡ q) → Round p q r k
+one_round p q r k o may opened acts same = elim (cases_Bool (is_number_of q.seat k)) [
   | inl mine ↦ subst (λ (x : PassState). Round p q x k) (sym (same mine)) (record {
     opens = o;
     may = λ j le lt other. may j (omega arith) lt other;
@@ -265,7 +262,7 @@ one_round p q r k o may opened acts same own before behind = elim (cases_Bool (i
       ap (λ (x : PassState). x.table.config.callers) a.makes.is in
       record {
         opens = opens_more p q r k o a;
-        may = λ j le lt other. still_may q r k a own before behind j (λ e. absurd (omega arith))
+        may = λ j le lt other. still_may q r k a j (λ e. absurd (omega arith))
             (may j (omega arith) (omega arith) (subst (λ (s : Seat). is_number_of s j ≡ false) seat_is other));
         opened = λ j lt other. opened_then q r k j a (elim (cases_eq j k) [
           | inl e ↦ inr e

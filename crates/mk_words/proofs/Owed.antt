@@ -114,18 +114,20 @@ pub event_learnt : (tid : TableId) (me n : Mine) (seat : Seat) (s : Step) (a : A
 event_learnt tid me n seat s a answer picked picked_is a_is order found on_picked answer_is =
     let e : Event = event_of (state_of tid me seat) s in
     let on : adds e no_step me found n = subst (λ (d : Event). adds d no_step me found n) picked_is on_picked in
+    let then = in_order_still me n seat e found order on.1 in
     record {
       tells = record {
         makes = record {
           others = on.1.others;
           of_others = on.1.of_others;
           is = ap (λ (w : View). state_of tid (w, []) seat) on.1.is;
+          pass = record { own = then.own; history = then.history };
         };
         tells = answer_is ∙ ap (λ (d : Access). told_by d found) a_is
             ∙ ap (λ (k : ℕ). told_by
             (access me.0.config (now_of (state_of tid me seat)) (event_of (state_of tid me seat) s)) k) on.1.finds;
       };
-      order = in_order_still me n seat e found order on.1;
+      order = then;
     }
 
 -- a split
@@ -253,17 +255,19 @@ perform_learns p pid qid me n seat s a answer picked p_is q_is picked_is a_is or
     (subst (λ (r : PassState). Tells r s answer (state_of pid n seat)) p_is learnt.tells)
 
 pub perform_finds : (pid qid : TableId) (me n : Mine) (seat : Seat) (s : Step) (found : ℕ) (picked : Event) → qid ≡ pid
-    → picked ≡ event_of (state_of pid me seat) s
+    → picked ≡ event_of (state_of pid me seat) s → IsInOrder me seat
     → adds picked no_step me found n → Finds (state_of pid me seat) s found (state_of qid n seat)
-perform_finds pid qid me n seat s found picked q_is picked_is on_picked =
+perform_finds pid qid me n seat s found picked q_is picked_is order on_picked =
     let on : adds (event_of (state_of pid me seat) s) no_step me found n =
     subst (λ (d : Event). adds d no_step me found n) picked_is on_picked in
+    let then = in_order_still me n seat (event_of (state_of pid me seat) s) found order on.1 in
     subst (λ (z : TableId). Finds (state_of pid me seat) s found (state_of z n seat)) (sym q_is)
     (record {
       makes = record {
         others = on.1.others;
         of_others = on.1.of_others;
         is = ap (λ (w : View). state_of pid (w, []) seat) on.1.is;
+        pass = record { own = then.own; history = then.history };
       };
       finds = on.1.finds;
     })

@@ -40,7 +40,6 @@ use Rattle.mk_core.specs.History.{World, IsHistory}
 use Rattle.mk_core.proofs.Conditions.{enabled_meets}
 use Rattle.mk_laws.proofs.Actors.{grants_new}
 use Rattle.mk_laws.proofs.Known.{known_left}
-use Rattle.mk_words.specs.Seats.{Has}
 use Rattle.mk_words.specs.States.{PassState, now_of, call_of, event_of}
 use Rattle.mk_words.specs.Steps.{IsEnabledTo, Makes, found_by}
 use Rattle.mk_words.specs.TurnSteps.{op_for, IsTurn, turn_stays, world_at, Acts}
@@ -185,13 +184,12 @@ used_knows p page v n q a cell is may small knows x e =
         ∙ ap (λ (i : ℕ). Some (record { page = i; index = x.index })) t.0
 
 pub used_turn : (p : PassState) (page v n : ℕ) (q : PassState) (m : Makes p (step.Used page v) q)
-    (own : Has p.seats p.seat) (history : IsHistory q.table.config q.seen) (cell : Option Cell)
-    → Holds p.table.config (now_of p) p.seat → n ≡ found_by m → v < 2 ^ 64 → KnowsCell p cell
+    (cell : Option Cell) → Holds p.table.config (now_of p) p.seat → n ≡ found_by m → v < 2 ^ 64 → KnowsCell p cell
     → KnowsCell q (cell_behind page v n cell)
 unfolding acts
-used_turn p page v n q m own history cell holds is small knows =
-    used_knows p page v n q (acts p (step.Used page v) q m own history holds) cell is
-    (made p (step.Used page v) q m own history).meets.holder small knows
+used_turn p page v n q m cell holds is small knows =
+    used_knows p page v n q (acts p (step.Used page v) q m holds) cell is
+    (made p (step.Used page v) q m).meets.holder small knows
 
 -- `grant`
 

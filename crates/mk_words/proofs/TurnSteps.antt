@@ -34,7 +34,7 @@ use Rattle.mk_core.specs.Effects.{progress, progress_freed, begins_where_free}
 use Rattle.mk_core.specs.TurnConditions.{cell_freed, held_by_pages}
 use Rattle.mk_core.specs.Order.{host_has_turn, is_open_to, group_of}
 use Rattle.mk_core.specs.Readings.{Holds}
-use Rattle.mk_core.specs.History.{World, left, IsHistory}
+use Rattle.mk_core.specs.History.{World, left}
 use Rattle.mk_core.specs.Frames.{HoldsAll, Written}
 use Rattle.mk_core.proofs.Lengths.{histories_keep_lengths}
 use Rattle.mk_laws.specs.Protocol.{Protocol}
@@ -48,7 +48,6 @@ use Rattle.mk_words.proofs.Tallies.{exact_more, counts_tidy_more, free_tallies}
 use Rattle.mk_laws.proofs.NextSteps.{at_no_take}
 use Rattle.mk_laws.proofs.SameWords.{Behind, reg_keeps, tally_keeps}
 use Rattle.mk_laws.proofs.Protocols.{lists_keep_the_protocol}
-use Rattle.mk_words.specs.Seats.{Has}
 use Rattle.mk_words.specs.States.{PassState, now_of, call_of, world_of, event_of}
 use Rattle.mk_words.specs.Steps.{IsEnabledTo, Makes, moment_of, Finds, Tells}
 use Rattle.mk_words.specs.TurnSteps.{op_for, IsTurn, begun_for, IsFresh, turn_stays, gates_stay, world_at, Acts}
@@ -148,10 +147,9 @@ op_behind c m (Marker k) s p exists h = refl
 op_behind c m Host s p exists h = refl
 
 -- the step of whoever holds the turn
-module _ (p : PassState) (s : Step) (q : PassState) (m : Makes p s q) (own : Has p.seats p.seat)
-    (history : IsHistory q.table.config q.seen) where
+module _ (p : PassState) (s : Step) (q : PassState) (m : Makes p s q) where
   abbrev d : Made p s q m
-  d = made p s q m own history
+  d = made p s q m
 
   pub protocol_now : Protocol p.table.config (world_of q).now
   protocol_now =
@@ -163,13 +161,14 @@ module _ (p : PassState) (s : Step) (q : PassState) (m : Makes p s q) (own : Has
       let turn = d.frame.turn h in
       record {
         makes = m;
+        holds = h;
         own = d.frame.own;
         holding = (d.frame.own.holding h).1;
         turn = turn.0;
         counts = turn.1;
         stop = d.frame.stop;
         world = d.world;
-        call = λ k is. (goes p s q m own history k is).call;
+        call = λ k is. (goes p s q m k is).call;
       }
 
   holds_then : Holds p.table.config (now_of p) p.seat → Holds p.table.config (moment_of m) p.seat
@@ -193,6 +192,12 @@ module _ (p : PassState) (s : Step) (q : PassState) (m : Makes p s q) (own : Has
         op = t.op ∙ same ∙ ap (λ (t : Seat). op_for t (flight_of (world_of q).now t)) (sym d.seat);
       }
 
+-- After a step of the holder that isn't its last the seat still holds the turn.
+pub holds_after : {p : PassState} {s : Step} {q : PassState} → Acts p s q → turn_stays s ≡ true
+    → Holds q.table.config (now_of q) q.seat
+holds_after {p} {s} {q} a stays =
+    (still_turn p s q a.makes (op_for p.seat (call_of p)) stays (record { holds = a.holds; op = refl })).holds
+
 -- the gates, while they stay
 pub gates_left : (p : PassState) (s : Step) (q : PassState) → Acts p s q → gates_stay s ≡ true
     → HoldsAll p.table.config (now_of p) p.seat → (world_of q).now.words.gates ≡ (now_of p).words.gates
@@ -201,13 +206,12 @@ gates_left p s q a stays all =
     ∙ ap (λ (y : Written). y.gates) (a.stop all)
 
 pub still_stopped : (p : PassState) (s : Step) (q : PassState) → Acts p s q → gates_stay s ≡ true
-    → Holds p.table.config (now_of p) p.seat
     → others_are_held p.table.config.callers (now_of p).words p.seat ≡ true
     → others_are_held q.table.config.callers (now_of q).words q.seat ≡ true
-still_stopped p s q a stays holds all =
+still_stopped p s q a stays all =
     ap (λ (r : PassState). others_are_held r.table.config.callers (now_of q).words r.seat) a.makes.is
     ∙ ap (λ (gs : List ℕ). all_below p.table.config.callers (λ j. is_number_of p.seat j || (slice_index gs j == 2)))
-    (gates_left p s q a stays (holds, all))
+    (gates_left p s q a stays (a.holds, all))
     ∙ all
 
 pub turn_stays_too : (s : Step) → gates_stay s ≡ true → turn_stays s ≡ true
@@ -216,10 +220,9 @@ turn_stays_too (step.Open j) h = cc
 turn_stays_too s h = h
 
 -- `hold` finds the gate open, or its caller in a call
-pub hold_finds : (p : PassState) (j n : ℕ) (q : PassState) → Tells p (step.Hold j) n q → Has p.seats p.seat
-    → IsHistory q.table.config q.seen → n ≢ 0 → n ≡ 1
-hold_finds p j n q t own history some =
-    let d = made p (step.Hold j) q t.makes own history in
+pub hold_finds : (p : PassState) (j n : ℕ) (q : PassState) → Tells p (step.Hold j) n q → n ≢ 0 → n ≡ 1
+hold_finds p j n q t some =
+    let d = made p (step.Hold j) q t.makes in
     let lt : j < p.table.config.callers =
     ltb-true j p.table.config.callers
     (and_parts (nat_lt j p.table.config.callers) (not (is_number_of p.seat j)) d.meets.range).0 in
@@ -230,11 +233,10 @@ hold_finds p j n q t own history some =
     let is : n ≡ slice_index (moment_of t.makes).words.gates j = t.tells in
     omega arith
 
-pub hold_holds : (p : PassState) (j n : ℕ) (q : PassState) → Tells p (step.Hold j) n q → Has p.seats p.seat
-    → IsHistory q.table.config q.seen → n ≡ 0
+pub hold_holds : (p : PassState) (j n : ℕ) (q : PassState) → Tells p (step.Hold j) n q → n ≡ 0
     → is_held (now_of q).words j ≡ true
-hold_holds p j n q t own history none =
-    let d = made p (step.Hold j) q t.makes own history in
+hold_holds p j n q t none =
+    let d = made p (step.Hold j) q t.makes in
     let c : Config = p.table.config in
     let lt : j < c.callers =
     ltb-true j c.callers (and_parts (nat_lt j c.callers) (not (is_number_of p.seat j)) d.meets.range).0 in
@@ -246,11 +248,10 @@ hold_holds p j n q t own history none =
     (get_or-set_same gs j (if slice_index gs j == 0 then 2 else slice_index gs j) 0 (omega arith)
     ∙ ap (λ (b : Bool). if b then 2 else slice_index gs j) (eq-eqb (slice_index gs j) 0 (sym t.tells ∙ none)))
 
-pub hold_misses : (p : PassState) (j n : ℕ) (q : PassState) → Tells p (step.Hold j) n q → Has p.seats p.seat
-    → IsHistory q.table.config q.seen → n ≢ 0
+pub hold_misses : (p : PassState) (j n : ℕ) (q : PassState) → Tells p (step.Hold j) n q → n ≢ 0
     → is_held (now_of q).words j ≡ false
-hold_misses p j n q t own history some =
-    let d = made p (step.Hold j) q t.makes own history in
+hold_misses p j n q t some =
+    let d = made p (step.Hold j) q t.makes in
     let c : Config = p.table.config in
     let lt : j < c.callers =
     ltb-true j c.callers (and_parts (nat_lt j c.callers) (not (is_number_of p.seat j)) d.meets.range).0 in
@@ -328,10 +329,9 @@ free_phase c m p free =
     by (suc (suc (suc (suc (suc zero))))) low out = refl
     by (suc (suc (suc (suc (suc (suc n)))))) low out = absurd (omega arith)
 
-module _ (p : PassState) (o : Option Op) (n : ℕ) (q : PassState) (t : Tells p (step.Take o) n q)
-    (own : Has p.seats p.seat) (history : IsHistory q.table.config q.seen) where
+module _ (p : PassState) (o : Option Op) (n : ℕ) (q : PassState) (t : Tells p (step.Take o) n q) where
   e : Made p (step.Take o) q t.makes
-  e = made p (step.Take o) q t.makes own history
+  e = made p (step.Take o) q t.makes
 
   pub take_finds : (found : ℕ) → n ≡ found → Finds p (step.Take o) found q
   take_finds found is = record { makes = t.makes; finds = sym is ∙ t.tells }
@@ -349,7 +349,7 @@ module _ (p : PassState) (o : Option Op) (n : ℕ) (q : PassState) (t : Tells p 
         ∙ ap (λ (b : Bool). if b then 1 + holder_number c p.seat else m.words.turn) (eq-eqb m.words.turn 0 free) in
         let for = takes_for c m p.seat o e.meets.kind e.meets.order in
         let holds : Holds c (world_of q).now p.seat =
-        named_holds c (world_of q).now p.seat (protocol_now p (step.Take o) q t.makes own history) e.meets.seat for.0
+        named_holds c (world_of q).now p.seat (protocol_now p (step.Take o) q t.makes) e.meets.seat for.0
         named in
         let call : flight_of (world_of q).now p.seat ≡ begun_for o =
         ap (λ (w : World). flight_of w.now p.seat) e.world
@@ -435,12 +435,11 @@ missed c m seat o kind order some =
     by (Marker k) o kind order = cc
     by Host o kind order = refl
 
-pub take_waits : (p : PassState) (o : Option Op) (n : ℕ) (q : PassState) → Tells p (step.Take o) n q
-    → Has p.seats p.seat → IsHistory q.table.config q.seen → n ≢ 0
+pub take_waits : (p : PassState) (o : Option Op) (n : ℕ) (q : PassState) → Tells p (step.Take o) n q → n ≢ 0
     → (call_of q ≡ call_of p) × IsEnabledTo q (step.Take o)
-take_waits p o n q t own history some =
+take_waits p o n q t some =
     let c : Config = p.table.config in
-    let x = made p (step.Take o) q t.makes own history in
+    let x = made p (step.Take o) q t.makes in
     let m : Moment = moment_of t.makes in
     let other : m.words.turn ≢ 0 = λ z. some (t.tells ∙ z) in
     let same : now_of q ≡ m = ap (λ (w : World). w.now) x.world
@@ -454,14 +453,13 @@ take_waits p o n q t own history some =
 
 -- where the turn is taken, the tallies are those of the counts
 pub take_counts : (p : PassState) (o : Option Op) (n : ℕ) (q : PassState) → Tells p (step.Take o) n q
-    → Has p.seats p.seat → IsHistory q.table.config q.seen
     → IsTidy q.table.config q.seen → n ≡ 0
     → TalliesAreExact q.table.config q.seen × TalliesAreTidy q.table.config q.seen
-take_counts p o n q t own history tidy none =
+take_counts p o n q t tidy none =
     let c : Config = p.table.config in
     let es : List Event = p.seen ++ t.makes.others in
     let e : Event = event_of p (step.Take o) in
-    let x = made p (step.Take o) q t.makes own history in
+    let x = made p (step.Take o) q t.makes in
     let free : (left c es).now.words.turn ≡ 0 = sym t.tells ∙ none in
     let told = tallies_tell c es x.history free in
     let nothing = others_count_nothing c (left c es) e x.known x.meets free in
@@ -472,10 +470,9 @@ take_counts p o n q t own history tidy none =
     (exact_more c es e nothing told.0, counts_tidy_more c es e nothing (told.1 (tidy_part c es (e ∷ []) whole_tidy)))
 
 -- `give`
-pub gives_rest : (p : PassState) (q : PassState) (m : Makes p step.Give q) → Has p.seats p.seat
-    → IsHistory q.table.config q.seen → call_of q ≡ at_rest
-gives_rest p q m own history =
-    let d = made p step.Give q m own history in
+pub gives_rest : (p : PassState) (q : PassState) (m : Makes p step.Give q) → call_of q ≡ at_rest
+gives_rest p q m =
+    let d = made p step.Give q m in
     ap (λ (s : Seat). flight_of (world_of q).now s) d.seat ∙ ap (λ (w : World). flight_of w.now p.seat) d.world
     ∙ by p.seat d.meets.seat d.protocol
   where

@@ -10,7 +10,7 @@ use Rattle.mk_core.specs.Frames.{IsLeft, IsLeftByAdmitted}
 use Rattle.mk_core.specs.Growing.{AreOfOthers}
 use Rattle.mk_core.specs.History.{left, world_behind, IsHistory}
 use Rattle.mk_core.specs.Words.{phase_of}
-use Rattle.mk_words.specs.Seats.{Has, has_over}
+use Rattle.mk_words.specs.Seats.{has_over}
 use Rattle.mk_words.specs.States.{PassState, world_of, call_of, event_of}
 use Rattle.mk_words.specs.Steps.{Makes, moment_of, found_by, Goes}
 use Rattle.mk_words.specs.TurnSteps.{world_at}
@@ -27,14 +27,12 @@ pub record StandsBehindOthers (p : PassState) (s : Step) (q : PassState) (m : Ma
 
 abbrev pub StepsStandBehindOthers : Type 0
 StepsStandBehindOthers =
-    (p q : PassState) (s : Step) (m : Makes p s q) → Has p.seats p.seat → IsHistory q.table.config q.seen
-    → StandsBehindOthers p s q m
+    (p q : PassState) (s : Step) (m : Makes p s q) → StandsBehindOthers p s q m
 
 -- A caller's step, in the turn or not, makes its call go on from where the pass knew it.
 abbrev pub CallsGoOn : Type 0
 CallsGoOn =
-    (p q : PassState) (s : Step) (m : Makes p s q) (k : ℕ) → Has p.seats p.seat → IsHistory q.table.config q.seen
-    → p.seat ≡ Caller k
+    (p q : PassState) (s : Step) (m : Makes p s q) (k : ℕ) → p.seat ≡ Caller k
     → Goes p s (progress p.table.config (moment_of m) (call_of p) (found_by m) s) q
 
 -- The phase says that all is over only after an `over`. So a caller's pass, which isn't the host's, never finds it so.

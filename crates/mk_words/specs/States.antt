@@ -8,7 +8,8 @@ use Rattle.mk_core.specs.declared.events.Step.{Step}
 use Rattle.mk_core.specs.declared.events.Event.{Event}
 use Rattle.mk_core.specs.declared.seats.Flight.{Flight}
 use Rattle.mk_core.specs.Moments.{Moment, flight_of}
-use Rattle.mk_core.specs.History.{World, left}
+use Rattle.mk_core.specs.History.{World, left, IsHistory}
+use Rattle.mk_words.specs.Seats.{Has}
 
 -- which table it is, and the configuration that it was made for
 pub record WordsState : Type 0 where
@@ -21,6 +22,11 @@ pub record PassState : Type 0 where
   pub seat : Seat
   pub seats : List Seat
   pub seen : List Event
+
+-- What holds of every pass: its own seat is one of its seats, and what it has seen is a history.
+pub record IsPass (p : PassState) : Type 0 where
+  pub own : Has p.seats p.seat
+  pub history : IsHistory p.table.config p.seen
 
 -- A turn has its holder's pass, and the operation that its `take` carried.
 pub record TurnState : Type 0 where

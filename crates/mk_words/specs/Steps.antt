@@ -13,7 +13,7 @@ use Rattle.mk_core.specs.Cycles.{is_give}
 use Rattle.mk_core.specs.Counts.{TalliesAreTidy}
 use Rattle.mk_core.specs.Growing.{AreOfOthers}
 use Rattle.mk_words.specs.Seats.{HasCallers, is_over}
-use Rattle.mk_words.specs.States.{PassState, now_of, call_of, event_of}
+use Rattle.mk_words.specs.States.{PassState, IsPass, now_of, call_of, event_of}
 use Rattle.mk_words.specs.Rule.{told_by}
 
 -- the kinds by which a call may be decided
@@ -52,6 +52,7 @@ pub record Makes (p : PassState) (s : Step) (q : PassState) : Type 0 where
   pub others : List Event
   pub of_others : AreOfOthers p.seats others
   pub is : q ≡ record p { seen = p.seen ++ others ++ event_of p s ∷ [] }
+  pub pass : IsPass q
 
 -- the moment at which it was made
 abbrev pub moment_of : {p : PassState} {s : Step} {q : PassState} → Makes p s q → Moment

@@ -69,6 +69,7 @@ world_at {p} m = left p.table.config (p.seen ++ m.others)
 -- A caller's call goes on by it.
 pub record Acts (p : PassState) (s : Step) (q : PassState) : Type 0 where
   pub makes : Makes p s q
+  pub holds : Holds p.table.config (now_of p) p.seat
   pub own : OwnIsLeft p.table.config p.seat (world_of p) (world_at makes)
   pub holding : (world_at makes).now.seats.holding ≡ (now_of p).seats.holding
   pub turn : TurnIsLeft (world_of p) (world_at makes)

@@ -81,7 +81,6 @@ impl Stopped {
         ensures op { self.new.op ≡ self.old.op }
         ensures acts { Acts self.old.pass step self.new.pass }
     {
-        self.turn.is_in_order();
         self.turn.perform(words, step, word, by)
     }
 
@@ -110,7 +109,6 @@ impl Stopped {
         ensures acts { Acts self.old.pass (step.Look x) self.new.pass }
         ensures finds { Finds self.old.pass (step.Look x) result self.new.pass }
     {
-        self.turn.is_in_order();
         self.turn.look_among(words, pages, x)
     }
 
@@ -121,7 +119,6 @@ impl Stopped {
         ensures op { self.new.op ≡ self.old.op }
         ensures acts { Acts self.old.pass (step.Head page v) self.new.pass }
     {
-        self.turn.is_in_order();
         self.turn.head(words, page, v);
     }
 
@@ -132,7 +129,6 @@ impl Stopped {
         ensures op { self.new.op ≡ self.old.op }
         ensures acts { Acts self.old.pass (step.Used page v) self.new.pass }
     {
-        self.turn.is_in_order();
         self.turn.used(words, page, v);
     }
 
@@ -144,7 +140,6 @@ impl Stopped {
         ensures op { self.new.op ≡ self.old.op }
         ensures acts { Acts self.old.pass (step.Quar page v) self.new.pass }
     {
-        self.turn.is_in_order();
         self.turn.quar(words, page, v);
     }
 
@@ -170,7 +165,6 @@ impl Stopped {
         ensures op { self.new.op ≡ self.old.op }
         ensures acts { Acts self.old.pass (step.Mark page v) self.new.pass }
     {
-        self.turn.is_in_order();
         self.turn.mark(words, page, v);
     }
 
@@ -338,15 +332,10 @@ fn open_other(turn: &mut Turn, words: &Words, caller: u64)
     ensures opened { is_number_of turn.old.pass.seat caller ≡ false
         → Acts turn.old.pass (step.Open caller) turn.new.pass }
     ensures same { is_number_of turn.old.pass.seat caller ≡ true → turn.new.pass ≡ turn.old.pass }
-    ensures own { Has turn.old.pass.seats turn.old.pass.seat }
-    ensures before { IsHistory turn.old.pass.table.config turn.old.pass.seen }
-    ensures behind { IsHistory turn.new.pass.table.config turn.new.pass.seen }
 {
-    turn.is_in_order();
     if !is_number(turn.seat(), caller) {
         turn.open_gate(words, caller);
     }
-    turn.is_in_order();
 }
 
 /// Whether the seat is that caller's.

@@ -185,8 +185,6 @@ impl SeatToken {
         requires word { word ≡ word_accessed self.old.table.config (now_of self.old) (event_of self.old step) }
         requires access { by ≡ access self.old.table.config (now_of self.old) (event_of self.old step) }
         ensures told { Tells self.old step result self.new }
-        ensures own { Has self.old.seats self.old.seat }
-        ensures history { IsHistory self.new.table.config self.new.seen }
     {
         self.perform_among(words, words.config.pages, step, word, by)
     }
@@ -240,8 +238,6 @@ impl TurnToken {
         requires word { word ≡ word_accessed self.old.table.config (now_of self.old) (event_of self.old step) }
         requires access { by ≡ access self.old.table.config (now_of self.old) (event_of self.old step) }
         ensures told { Tells self.old step result self.new }
-        ensures own { Has self.old.seats self.old.seat }
-        ensures history { IsHistory self.new.table.config self.new.seen }
     {
         let seat = self.seat;
         perform_as::<Brand>(words, pages, &mut self.token, seat, step, word, by)
@@ -256,8 +252,6 @@ impl TurnToken {
         requires word { word ≡ word_accessed self.old.table.config (now_of self.old) (event_of self.old step) }
         requires access { by ≡ access self.old.table.config (now_of self.old) (event_of self.old step) }
         ensures told { Tells self.old step result self.new }
-        ensures own { Has self.old.seats self.old.seat }
-        ensures history { IsHistory self.new.table.config self.new.seen }
     {
         self.perform_among(words, words.config.pages, step, word, by)
     }
@@ -271,8 +265,6 @@ impl TurnToken {
         requires word { word ≡ word_accessed self.old.table.config (now_of self.old) (event_of self.old step) }
         requires access { Store value ≡ access self.old.table.config (now_of self.old) (event_of self.old step) }
         ensures finds { Finds self.old step result self.new }
-        ensures own { Has self.old.seats self.old.seat }
-        ensures history { IsHistory self.new.table.config self.new.seen }
     {
         let seat = self.seat;
         replace_as::<Brand>(words, &mut self.token, seat, step, word, value)

@@ -1,5 +1,5 @@
 //! The turn, which one seat has at a time.
-ghost use Rattle.std.specs.Prelude.{◌≡◌, ◌+◌, IfOk, IfErr, true, false, None};
+ghost use Rattle.std.specs.Prelude.{◌≡◌, ◌+◌, IfOk, IfErr, true, false};
 ghost use Rattle.mk_core.specs.declared.events.Step.TheVariants as step;
 ghost use Rattle.mk_core.specs.Accesses.{word_accessed, access};
 ghost use Rattle.mk_core.specs.Calls.{at_rest};
@@ -8,7 +8,7 @@ ghost use Rattle.mk_core.specs.History.{IsHistory};
 ghost use Rattle.mk_words.specs.PageMaps.{is_told};
 ghost use Rattle.mk_words.specs.Seats.{CallersAreBeforeOver, Has};
 ghost use Rattle.mk_words.specs.States.{now_of, call_of, event_of};
-ghost use Rattle.mk_words.specs.Steps.{IsEnabledTo, May, Makes, Finds, Tells};
+ghost use Rattle.mk_words.specs.Steps.{IsEnabledTo, May, Finds, Tells};
 ghost use Rattle.mk_words.specs.TurnSteps.{IsTurn, IsFresh, turn_stays, Acts};
 
 use crate::homes::Carried;
@@ -60,17 +60,13 @@ impl Pass {
         ensures again { IfErr result (λ back. IsEnabledTo back.0 (step.Take op)) }
     {
         let Pass { own } = self;
-        own.is_in_order();
         match own.take(words, op) {
             Ok((pass, mut carried)) => {
                 pass.is_in_order();
                 carried.begin(op);
                 Ok(Turn { pass, carried })
             }
-            Err((own, found)) => {
-                own.is_in_order();
-                Err((Pass { own }, Busy { holder: found - 1 }))
-            }
+            Err((own, found)) => Err((Pass { own }, Busy { holder: found - 1 })),
         }
     }
 }
@@ -115,8 +111,6 @@ impl Turn {
         ensures told { Tells self.old.pass step result self.new.pass }
         ensures op { self.new.op ≡ self.old.op }
         ensures acts { Acts self.old.pass step self.new.pass }
-        ensures own { Has self.old.pass.seats self.old.pass.seat }
-        ensures history { IsHistory self.new.pass.table.config self.new.pass.seen }
     {
         self.pass.perform(words, step, word, by)
     }
@@ -130,9 +124,7 @@ impl Turn {
         ensures rests { call_of result ≡ at_rest }
     {
         let Turn { pass, carried } = self;
-        pass.is_in_order();
         let own = pass.give(words, carried);
-        own.is_in_order();
         Pass { own }
     }
 }

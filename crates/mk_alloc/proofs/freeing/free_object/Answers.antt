@@ -96,7 +96,7 @@ returns-in-Ok-clause-freed g c =
     c.run_if_due-turn.result.pass c.give.result c.args.p (callers p c.is_idle.ensures.idle) c.is_idle.ensures.own
     (takes g x.After-is_in_order) c.take-turn.ensures.begins (taken g x.After-is_in_order) c.in-Ok.ensures.freed
     (decided g i) c.run_if_due-turn.ensures.runs (done g i) c.give.ensures.gives c.give.ensures.rests
-    c.give.ensures.history)
+    c.give.ensures.gives.pass.history)
 
 -- the object was freed before
 refused : (g : _) (c : After-is_in_order-in-Err g) → InTurn c.retire_object.new.turn.pass
@@ -111,7 +111,7 @@ returns-in-Err-clause-double g c =
     c.args.p (callers p c.is_idle.ensures.idle) c.is_idle.ensures.own (takes g x.After-is_in_order)
     c.take-turn.ensures.begins (taken g x.After-is_in_order) c.in-Err.ensures.double
     (refused g x.After-is_in_order-in-Err) c.give-in-Err.ensures.gives c.give-in-Err.ensures.rests
-    c.give-in-Err.ensures.history)
+    c.give-in-Err.ensures.gives.pass.history)
 
 pub returns-in-Ok-clause-reached : goal.returns-in-Ok-clause-reached
 returns-in-Ok-clause-reached g c =

@@ -52,7 +52,7 @@ returns-then-try_place-clause-made g c =
     c.take-turn.ensures.begins (c.try_place.ensures.placed c.if-try_place.true)
     (none_runs_one taken done c.try_place.ensures.begins)
     (in_turn done _ j.own j.turn j.history)
-    c.give.ensures.gives c.give.ensures.rests c.give.ensures.history)
+    c.give.ensures.gives c.give.ensures.rests c.give.ensures.gives.pass.history)
 
 pub returns-then-placed-clause-made : goal.returns-then-placed-clause-made
 returns-then-placed-clause-made g c =
@@ -64,7 +64,7 @@ returns-then-placed-clause-made g c =
     let done : PassState = c.make_room-turn.result.0.pass in
     let takes = takes g (goal.at.returns-then-placed-clause-made g c).After-is_in_order in
     let m = c.try_place.ensures.misfits c.if-try_place.false in
-    let j = c.is_in_order-3.ensures in
+    let j = c.is_in_order-2.ensures in
     subst (λ (x : CallerState). CalledInTurn g.E.Engine.on p (op.New d ty false) answer.Done x.pass)
     (sym c.back-then-placed.ensures)
     (new_called g.E.Engine.on p taken done c.give-then-placed.result d ty answer.Done
@@ -73,7 +73,7 @@ returns-then-placed-clause-made g c =
     (seeks_then (Some answer.Done) taken tried done m.seeks (c.make_room-turn.ensures.placed c.if-placed.true))
     (none_then_one taken tried done c.try_place.ensures.begins c.make_room-turn.ensures.one)
     (in_turn done _ j.own j.turn j.history)
-    c.give-then-placed.ensures.gives c.give-then-placed.ensures.rests c.give-then-placed.ensures.history)
+    c.give-then-placed.ensures.gives c.give-then-placed.ensures.rests c.give-then-placed.ensures.gives.pass.history)
 
 pub returns-clause-full : goal.returns-clause-full
 returns-clause-full g c =
@@ -86,8 +86,8 @@ returns-clause-full g c =
     let done : PassState = c.answer_full.new.turn.pass in
     let takes = takes g (goal.at.returns-clause-full g c).After-is_in_order in
     let i = c.is_in_order.ensures in
-    let j = c.is_in_order-3.ensures in
-    let k = c.is_in_order-4.ensures in
+    let j = c.is_in_order-2.ensures in
+    let k = c.is_in_order-3.ensures in
     let m = c.try_place.ensures.misfits c.if-try_place.false in
     let n = c.make_room-turn.ensures.misfits c.if-placed.false in
     let told = census_told last c.pages.result.now c.census-census.result
@@ -100,7 +100,7 @@ returns-clause-full g c =
     c.is_idle.ensures.own takes c.take-turn.ensures.begins (misfits_then taken tried last m.seeks n.misfits)
     (none_then_one taken tried last c.try_place.ensures.begins c.make_room-turn.ensures.one)
     c.answer_full.ensures.full c.answer_full.ensures.begins (in_turn done _ k.own k.turn k.history)
-    c.give-2.ensures.gives c.give-2.ensures.rests c.give-2.ensures.history told
+    c.give-2.ensures.gives c.give-2.ensures.rests c.give-2.ensures.gives.pass.history told
     (in_turn taken _ i.own i.turn i.history))
 
 pub returns-then-try_place-clause-reached : goal.returns-then-try_place-clause-reached
@@ -133,7 +133,7 @@ returns-then-placed-clause-reached g c =
     (turn_sweeps p taken done c.give-then-placed.result o (callers p c.is_idle.ensures.idle) c.is_idle.ensures.own takes
     (part_then_sweeps turn_stays taken tried done first c.try_place.ensures.reached
     (c.make_room-turn.ensures.reached none))
-    (only_seen taken done d.more d.is) c.is_in_order-3.ensures.own c.give-then-placed.ensures.gives)
+    (only_seen taken done d.more d.is) c.is_in_order-2.ensures.own c.give-then-placed.ensures.gives)
 
 pub returns-clause-reached : goal.returns-clause-reached
 returns-clause-reached g c =
@@ -155,7 +155,7 @@ returns-clause-reached g c =
     (part_then_sweeps turn_stays taken tried last first c.try_place.ensures.reached
     (c.make_room-turn.ensures.reached none))
     c.answer_full.ensures.reached)
-    (only_seen taken done d.more d.is) c.is_in_order-4.ensures.own c.give-2.ensures.gives)
+    (only_seen taken done d.more d.is) c.is_in_order-3.ensures.own c.give-2.ensures.gives)
 
 pub returns-then-try_place-clause-begun : goal.returns-then-try_place-clause-begun
 returns-then-try_place-clause-begun g c =
@@ -189,7 +189,7 @@ returns-then-placed-clause-begun g c =
     c.is_idle.ensures.own takes
     (begun_then begins taken tried done (only_seen taken tried first.more first.is)
     (none_begun begins taken tried c.try_place.ensures.begins) c.make_room-turn.ensures.begun)
-    (only_seen taken done d.more d.is) c.is_in_order-3.ensures.own c.give-then-placed.ensures.gives)
+    (only_seen taken done d.more d.is) c.is_in_order-2.ensures.own c.give-then-placed.ensures.gives)
 
 pub returns-clause-begun : goal.returns-clause-begun
 returns-clause-begun g c =
@@ -211,4 +211,4 @@ returns-clause-begun g c =
     (begun_then begins taken tried last (only_seen taken tried first.more first.is)
     (none_begun begins taken tried c.try_place.ensures.begins) c.make_room-turn.ensures.begun)
     (none_begun begins last done c.answer_full.ensures.begins))
-    (only_seen taken done d.more d.is) c.is_in_order-4.ensures.own c.give-2.ensures.gives)
+    (only_seen taken done d.more d.is) c.is_in_order-3.ensures.own c.give-2.ensures.gives)

@@ -14,17 +14,17 @@ returns-clause-placed g c =
     let m = c.place_behind_older-turn.ensures.misfits c.if-placed.false in
     λ placed.
     seeks_then (Some answer.Done) c.args.turn.pass c.place_behind_older-turn.result.0.pass
-    c.place_behind_cycle-turn.result.0.pass
-    m.misfits.seeks (c.place_behind_cycle-turn.ensures.placed placed)
+    c.place_behind_cycle.result.0.pass
+    m.misfits.seeks (c.place_behind_cycle.ensures.placed placed)
 
 pub returns-clause-misfits : goal.returns-clause-misfits
 returns-clause-misfits g c =
     let m = c.place_behind_older-turn.ensures.misfits c.if-placed.false in
     λ misfits.
-    let n = c.place_behind_cycle-turn.ensures.misfits misfits in
+    let n = c.place_behind_cycle.ensures.misfits misfits in
     record {
       misfits = misfits_then c.args.turn.pass c.place_behind_older-turn.result.0.pass
-          c.place_behind_cycle-turn.result.0.pass
+          c.place_behind_cycle.result.0.pass
           m.misfits.seeks n.misfits;
       idle = n.idle;
       ended = n.ended;
@@ -35,8 +35,8 @@ returns-clause-reached g c =
     let m = c.place_behind_older-turn.ensures.misfits c.if-placed.false in
     λ none.
     part_then_sweeps turn_stays c.args.turn.pass c.place_behind_older-turn.result.0.pass
-    c.place_behind_cycle-turn.result.0.pass m.misfits.seeks.on.does (c.place_behind_older-turn.ensures.reached none)
-    (c.place_behind_cycle-turn.ensures.reached none)
+    c.place_behind_cycle.result.0.pass m.misfits.seeks.on.does (c.place_behind_older-turn.ensures.reached none)
+    (c.place_behind_cycle.ensures.reached none)
 
 pub returns-then-placed-clause-one : goal.returns-then-placed-clause-one
 returns-then-placed-clause-one g c =
@@ -44,8 +44,8 @@ returns-then-placed-clause-one g c =
 
 pub returns-clause-one : goal.returns-clause-one
 returns-clause-one g c =
-    none_then_one c.args.turn.pass c.place_behind_older-turn.result.0.pass c.place_behind_cycle-turn.result.0.pass
-    c.place_behind_older-turn.ensures.begins c.place_behind_cycle-turn.ensures.one
+    none_then_one c.args.turn.pass c.place_behind_older-turn.result.0.pass c.place_behind_cycle.result.0.pass
+    c.place_behind_older-turn.ensures.begins c.place_behind_cycle.ensures.one
 
 pub returns-then-placed-clause-begun : goal.returns-then-placed-clause-begun
 returns-then-placed-clause-begun g c =
@@ -57,6 +57,6 @@ returns-clause-begun g c =
     let p = c.args.turn.pass in
     let older = c.place_behind_older-turn.result.0.pass in
     let d = (c.place_behind_older-turn.ensures.misfits c.if-placed.false).misfits.seeks.on.does in
-    begun_then g.E.Engine.begins p older c.place_behind_cycle-turn.result.0.pass (only_seen p older d.more d.is)
+    begun_then g.E.Engine.begins p older c.place_behind_cycle.result.0.pass (only_seen p older d.more d.is)
     (none_begun g.E.Engine.begins p older c.place_behind_older-turn.ensures.begins)
-    c.place_behind_cycle-turn.ensures.begun
+    c.place_behind_cycle.ensures.begun

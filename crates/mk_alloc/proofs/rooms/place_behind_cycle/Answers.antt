@@ -13,12 +13,12 @@ use Rattle.mk_turns.proofs.Sweeping.{sweeps_then}
 use Rattle.mk_alloc.proofs.rooms.place_behind_cycle.Goals as goal
 use Rattle.mk_core.specs.Effects.{cycle_ended}
 
-pub finish_and_place-turn-requires-clause-quiet : goal.finish_and_place-turn-requires-clause-quiet
-finish_and_place-turn-requires-clause-quiet g c κs within =
+pub finish_and_place-requires-clause-quiet : goal.finish_and_place-requires-clause-quiet
+finish_and_place-requires-clause-quiet g c κs within =
     quiet_begun c.args.turn.pass c.begin_cycle.new.turn.pass c.requires.quiet c.begin_cycle.ensures.law
 
-pub finish_and_place-turn-requires-clause-nowhere : goal.finish_and_place-turn-requires-clause-nowhere
-finish_and_place-turn-requires-clause-nowhere g c κs within =
+pub finish_and_place-requires-clause-nowhere : goal.finish_and_place-requires-clause-nowhere
+finish_and_place-requires-clause-nowhere g c κs within =
     let t = c.args.turn in
     let i = c.is_in_order.ensures in
     nowhere_begun t.pass c.begin_cycle.new.turn.pass
@@ -31,11 +31,11 @@ returns-clause-placed g c =
     let i = c.is_in_order.ensures in
     let q : PassState = c.begin_cycle.new.turn.pass in
     λ placed.
-    seeks_then (Some answer.Done) t.pass q c.finish_and_place-turn.result.0.pass
+    seeks_then (Some answer.Done) t.pass q c.finish_and_place.result.0.pass
     (seeks_begun t.pass q (in_turn t.pass t.op i.own i.turn i.history) c.requires.unplaced c.requires.quiet
     c.requires.nowhere
     c.begin_cycle.ensures.law c.is_in_order-2.ensures.history)
-    (c.finish_and_place-turn.ensures.placed placed)
+    (c.finish_and_place.ensures.placed placed)
 
 pub returns-clause-misfits : goal.returns-clause-misfits
 returns-clause-misfits g c =
@@ -43,35 +43,35 @@ returns-clause-misfits g c =
     let i = c.is_in_order.ensures in
     let q : PassState = c.begin_cycle.new.turn.pass in
     λ misfits.
-    let m = c.finish_and_place-turn.ensures.misfits misfits in
+    let m = c.finish_and_place.ensures.misfits misfits in
     record {
-      misfits = misfits_then t.pass q c.finish_and_place-turn.result.0.pass
+      misfits = misfits_then t.pass q c.finish_and_place.result.0.pass
           (seeks_begun t.pass q (in_turn t.pass t.op i.own i.turn i.history) c.requires.unplaced c.requires.quiet
           c.requires.nowhere
           c.begin_cycle.ensures.law c.is_in_order-2.ensures.history)
           m.misfits;
       idle = m.idle;
-      ended = c.finish_and_place-turn.ensures.cycle misfits
+      ended = c.finish_and_place.ensures.cycle misfits
           ∙ ap (λ (x : Done). cycle_ended x.cycle) c.begin_cycle.ensures.law.done;
     }
 
 pub returns-clause-reached : goal.returns-clause-reached
 returns-clause-reached g c =
     λ none.
-    sweeps_then c.args.turn.pass c.begin_cycle.new.turn.pass c.finish_and_place-turn.result.0.pass
-    c.begin_cycle.ensures.law.pass (c.begin_cycle.ensures.reached none) (c.finish_and_place-turn.ensures.reached none)
+    sweeps_then c.args.turn.pass c.begin_cycle.new.turn.pass c.finish_and_place.result.0.pass
+    c.begin_cycle.ensures.law.pass (c.begin_cycle.ensures.reached none) (c.finish_and_place.ensures.reached none)
 
 pub returns-clause-one : goal.returns-clause-one
 returns-clause-one g c =
     let t = c.args.turn in
     let i = c.is_in_order.ensures in
-    begin_then_ends t.pass c.begin_cycle.new.turn.pass c.finish_and_place-turn.result.0.pass
+    begin_then_ends t.pass c.begin_cycle.new.turn.pass c.finish_and_place.result.0.pass
     (in_turn t.pass t.op i.own i.turn i.history) c.begin_cycle.ensures.law c.is_in_order-2.ensures.history
-    c.finish_and_place-turn.ensures.ends
+    c.finish_and_place.ensures.ends
 
 pub returns-clause-begun : goal.returns-clause-begun
 returns-clause-begun g c =
     let begun : PassState = c.begin_cycle.new.turn.pass in
-    let last : PassState = c.finish_and_place-turn.result.0.pass in
+    let last : PassState = c.finish_and_place.result.0.pass in
     begun_then g.E.Engine.begins c.args.turn.pass begun last c.begin_cycle.ensures.law.pass c.begin_cycle.ensures.begun
-    (none_begun g.E.Engine.begins begun last (ends_none begun last c.finish_and_place-turn.ensures.ends))
+    (none_begun g.E.Engine.begins begun last (ends_none begun last c.finish_and_place.ensures.ends))

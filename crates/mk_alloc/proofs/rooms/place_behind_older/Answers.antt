@@ -22,12 +22,12 @@ returns-then-not-is_cycle_on-clause-misfits g c =
           (phase_seen t.pass c.requires.quiet.phase (sym c.is_cycle_on.ensures.on ∙ c.if-not-is_cycle_on.true));
     }
 
-pub finish_and_place-turn-requires-clause-quiet : goal.finish_and_place-turn-requires-clause-quiet
-finish_and_place-turn-requires-clause-quiet g c κs within =
+pub finish_and_place-requires-clause-quiet : goal.finish_and_place-requires-clause-quiet
+finish_and_place-requires-clause-quiet g c κs within =
     quiet_looked c.args.turn.pass c.is_cycle_on.new.turn.pass c.requires.quiet c.is_cycle_on.ensures.looks
 
-pub finish_and_place-turn-requires-clause-nowhere : goal.finish_and_place-turn-requires-clause-nowhere
-finish_and_place-turn-requires-clause-nowhere g c κs within =
+pub finish_and_place-requires-clause-nowhere : goal.finish_and_place-requires-clause-nowhere
+finish_and_place-requires-clause-nowhere g c κs within =
     let t = c.args.turn in
     let i = c.is_in_order.ensures in
     (misfits_seen t.pass c.is_cycle_on.new.turn.pass c.requires.unplaced c.requires.nowhere
@@ -40,10 +40,10 @@ returns-clause-placed g c =
     let i = c.is_in_order.ensures in
     let r : PassState = c.is_cycle_on.new.turn.pass in
     λ placed.
-    seeks_then (Some answer.Done) t.pass r c.finish_and_place-turn.result.0.pass
+    seeks_then (Some answer.Done) t.pass r c.finish_and_place.result.0.pass
     (misfits_seen t.pass r c.requires.unplaced c.requires.nowhere (in_turn t.pass t.op i.own i.turn i.history)
     c.requires.quiet c.is_cycle_on.ensures.looks c.is_in_order-2.ensures.history).seeks
-    (c.finish_and_place-turn.ensures.placed placed)
+    (c.finish_and_place.ensures.placed placed)
 
 pub returns-clause-misfits : goal.returns-clause-misfits
 returns-clause-misfits g c =
@@ -51,9 +51,9 @@ returns-clause-misfits g c =
     let i = c.is_in_order.ensures in
     let r : PassState = c.is_cycle_on.new.turn.pass in
     λ misfits.
-    let n = c.finish_and_place-turn.ensures.misfits misfits in
+    let n = c.finish_and_place.ensures.misfits misfits in
     record {
-      misfits = misfits_then t.pass r c.finish_and_place-turn.result.0.pass
+      misfits = misfits_then t.pass r c.finish_and_place.result.0.pass
           (misfits_seen t.pass r c.requires.unplaced c.requires.nowhere (in_turn t.pass t.op i.own i.turn i.history)
           c.requires.quiet c.is_cycle_on.ensures.looks c.is_in_order-2.ensures.history).seeks
           n.misfits;
@@ -67,8 +67,8 @@ returns-then-not-is_cycle_on-clause-reached g c =
 pub returns-clause-reached : goal.returns-clause-reached
 returns-clause-reached g c =
     λ none.
-    looking_then_sweeps c.args.turn.pass c.is_cycle_on.new.turn.pass c.finish_and_place-turn.result.0.pass
-    c.is_cycle_on.ensures.looks (c.finish_and_place-turn.ensures.reached none)
+    looking_then_sweeps c.args.turn.pass c.is_cycle_on.new.turn.pass c.finish_and_place.result.0.pass
+    c.is_cycle_on.ensures.looks (c.finish_and_place.ensures.reached none)
 
 pub returns-then-not-is_cycle_on-clause-begins : goal.returns-then-not-is_cycle_on-clause-begins
 returns-then-not-is_cycle_on-clause-begins g c =
@@ -82,8 +82,8 @@ returns-clause-begins g c =
     let t = c.args.turn in
     let i = c.is_in_order.ensures in
     let r : PassState = c.is_cycle_on.new.turn.pass in
-    let s : PassState = c.finish_and_place-turn.result.0.pass in
+    let s : PassState = c.finish_and_place.result.0.pass in
     none_then_none t.pass r s
     (look_begins_none t.pass r (in_turn t.pass t.op i.own i.turn i.history) c.is_cycle_on.ensures.looks
     c.is_in_order-2.ensures.history)
-    (ends_none r s c.finish_and_place-turn.ensures.ends)
+    (ends_none r s c.finish_and_place.ensures.ends)

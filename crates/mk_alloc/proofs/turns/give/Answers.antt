@@ -2,8 +2,8 @@ use Rattle.mk_cycle.proofs.Allowed.{in_turn}
 use Rattle.mk_alloc.proofs.QuietTurns.{give_allowed}
 use Rattle.mk_alloc.proofs.turns.give.Goals as goal
 
-pub give-home-requires-clause-enabled : goal.give-home-requires-clause-enabled
-give-home-requires-clause-enabled c =
+pub give-requires-clause-enabled : goal.give-requires-clause-enabled
+give-requires-clause-enabled c =
     let t = c.args.turn in
     give_allowed t.pass (in_turn t.pass t.op c.is_in_order.ensures.own c.is_in_order.ensures.turn
     c.is_in_order.ensures.history)

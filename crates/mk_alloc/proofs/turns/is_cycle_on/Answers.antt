@@ -14,4 +14,4 @@ returns-clause-looks c =
     let t = c.args.turn.now in
     looked t.pass c.look-found.new.self.pass
     (in_turn t.pass t.op c.is_in_order.ensures.own c.is_in_order.ensures.turn c.is_in_order.ensures.history)
-    c.requires.quiet.free c.is_in_order-2.ensures.history c.look-found.ensures.acts
+    c.requires.quiet.free c.look-found.ensures.acts.makes.pass.history c.look-found.ensures.acts

@@ -11,26 +11,24 @@ use Rattle.mk_caller.proofs.Onward.{moves, write_next}
 use Rattle.mk_caller.proofs.Stepping.{met, may_reach}
 use Rattle.mk_caller.proofs.steps.cas.Goals as goal
 
-pub cas-exchanged-requires-clause-enabled : goal.cas-exchanged-requires-clause-enabled
-cas-exchanged-requires-clause-enabled c =
-    (may_reach c.args.pass.now c.requires.underway c.is_in_order.ensures.history stage.Cas c.requires.stage
+pub cas-requires-clause-enabled : goal.cas-requires-clause-enabled
+cas-requires-clause-enabled c =
+    (may_reach c.args.pass.now c.requires.underway stage.Cas c.requires.stage
     c.requires.access refl refl refl step.Cas refl refl refl).0
 
-pub cas-exchanged-requires-clause-admitted : goal.cas-exchanged-requires-clause-admitted
-cas-exchanged-requires-clause-admitted c =
-    (may_reach c.args.pass.now c.requires.underway c.is_in_order.ensures.history stage.Cas c.requires.stage
+pub cas-requires-clause-admitted : goal.cas-requires-clause-admitted
+cas-requires-clause-admitted c =
+    (may_reach c.args.pass.now c.requires.underway stage.Cas c.requires.stage
     c.requires.access refl refl refl step.Cas refl refl refl).1
 
 pub returns : goal.returns
 returns c =
-    let f = c.cas-exchanged in
+    let f = c.cas in
     let p = c.args.pass.now in
     record {
-      moves = moves p step.Cas (onward (call_of p) (Some (answer.Num (one_if f.result)))) f.new.self
-          c.requires.underway c.is_in_order.ensures.own c.is_in_order.ensures.history c.is_in_order-2.ensures.history
+      moves = moves p step.Cas (onward (call_of p) (Some (answer.Num (one_if f.result)))) f.new.self c.requires.underway
           f.ensures.goes
           (write_next p.table.config (call_of p) (answer.Num (one_if f.result))
           (ap (λ (s : Stage). is_written s) c.requires.stage)
-          (met p c.requires.underway c.is_in_order.ensures.history stage.Cas c.requires.stage c.requires.access
-          refl refl refl));
+          (met p c.requires.underway stage.Cas c.requires.stage c.requires.access refl refl refl));
     }

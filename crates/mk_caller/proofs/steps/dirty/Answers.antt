@@ -10,7 +10,6 @@ returns c =
     let f = c.dirty in
     let p = c.args.pass.now in
     record {
-      moves = moves p step.Dirty (onward (call_of p) None) f.new.self c.requires.underway c.is_in_order.ensures.own
-          c.is_in_order.ensures.history c.is_in_order-2.ensures.history f.ensures.goes
+      moves = moves p step.Dirty (onward (call_of p) None) f.new.self c.requires.underway f.ensures.goes
           (dirty_next p.table.config (call_of p) c.requires.stage);
     }

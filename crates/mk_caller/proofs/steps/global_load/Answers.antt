@@ -5,16 +5,14 @@ use Rattle.mk_caller.proofs.Onward.{moves, getg_next}
 use Rattle.mk_caller.proofs.Stepping.{may_getg}
 use Rattle.mk_caller.proofs.steps.global_load.Goals as goal
 
-pub global_load-value-requires-clause-admitted : goal.global_load-value-requires-clause-admitted
-global_load-value-requires-clause-admitted c = may_getg c.args.pass.now c.requires.underway
-    c.is_in_order.ensures.history c.requires.stage
+pub global_load-requires-clause-admitted : goal.global_load-requires-clause-admitted
+global_load-requires-clause-admitted c = may_getg c.args.pass.now c.requires.underway c.requires.stage
 
 pub returns : goal.returns
 returns c =
-    let f = c.global_load-value in
+    let f = c.global_load in
     let p = c.args.pass.now in
     record {
-      moves = moves p step.Getg (progress_getg (call_of p) f.result) f.new.self c.requires.underway
-          c.is_in_order.ensures.own c.is_in_order.ensures.history c.is_in_order-2.ensures.history f.ensures.goes
+      moves = moves p step.Getg (progress_getg (call_of p) f.result) f.new.self c.requires.underway f.ensures.goes
           (getg_next p.table.config (call_of p) f.result c.requires.stage);
     }

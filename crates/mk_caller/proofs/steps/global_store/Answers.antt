@@ -8,15 +8,13 @@ use Rattle.mk_caller.proofs.Stepping.{may_setg}
 use Rattle.mk_caller.proofs.steps.global_store.Goals as goal
 
 pub global_store-requires-clause-admitted : goal.global_store-requires-clause-admitted
-global_store-requires-clause-admitted c = may_setg c.args.pass.now c.requires.underway c.is_in_order.ensures.history
-    c.requires.stage
+global_store-requires-clause-admitted c = may_setg c.args.pass.now c.requires.underway c.requires.stage
 
 pub returns : goal.returns
 returns c =
     let f = c.global_store in
     let p = c.args.pass.now in
     record {
-      moves = moves p step.Setg (onward (call_of p) (Some answer.Done)) f.new.self c.requires.underway
-          c.is_in_order.ensures.own c.is_in_order.ensures.history c.is_in_order-2.ensures.history f.ensures.goes
+      moves = moves p step.Setg (onward (call_of p) (Some answer.Done)) f.new.self c.requires.underway f.ensures.goes
           (setg_next p.table.config (call_of p) c.requires.stage);
     }

@@ -12,19 +12,17 @@ pub overflow_sub-word : goal.overflow_sub-word
 overflow_sub-word c =
     let p = c.args.pass.now in
     let u = c.requires.underway in
-    let h = c.is_in_order.ensures.history in
-    let m = met p u h stage.Probe c.requires.stage c.requires.access refl refl refl in
-    let b = met_bounds p u h c.args.u c.args.i c.requires.value c.requires.offset m in
+    let m = met p u stage.Probe c.requires.stage c.requires.access refl refl refl in
+    let b = met_bounds p u c.args.u c.args.i c.requires.value c.requires.offset m in
     b.0
 
 pub overflow_add-word : goal.overflow_add-word
 overflow_add-word c =
     let p = c.args.pass.now in
     let u = c.requires.underway in
-    let h = c.is_in_order.ensures.history in
-    let m = met p u h stage.Probe c.requires.stage c.requires.access refl refl refl in
-    let b = met_bounds p u h c.args.u c.args.i c.requires.value c.requires.offset m in
-    let pages = c.is_within_limits.ensures.pages in
+    let m = met p u stage.Probe c.requires.stage c.requires.access refl refl refl in
+    let b = met_bounds p u c.args.u c.args.i c.requires.value c.requires.offset m in
+    let pages = u.pass.history.within_limits.pages in
     let one = c.requires.one_table in
     omega (arith, b, pages)
 
@@ -41,28 +39,26 @@ overflow_cast-word c =
 
 pub probe-header-requires-clause-enabled : goal.probe-header-requires-clause-enabled
 probe-header-requires-clause-enabled c =
-    (may_reach c.args.pass.now c.requires.underway c.is_in_order.ensures.history stage.Probe c.requires.stage
+    (may_reach c.args.pass.now c.requires.underway stage.Probe c.requires.stage
     c.requires.access refl refl refl step.Probe refl refl refl).0
 
 pub probe-header-requires-clause-admitted : goal.probe-header-requires-clause-admitted
 probe-header-requires-clause-admitted c =
-    (may_reach c.args.pass.now c.requires.underway c.is_in_order.ensures.history stage.Probe c.requires.stage
+    (may_reach c.args.pass.now c.requires.underway stage.Probe c.requires.stage
     c.requires.access refl refl refl step.Probe refl refl refl).1
 
 pub returns-then-is_unmapped-clause-refused : goal.returns-then-is_unmapped-clause-refused
 returns-then-is_unmapped-clause-refused c =
     let p = c.args.pass.now in
     let f = c.probe-header in
-    let m = moves p step.Probe (progress_probe (call_of p) f.result) f.new.self c.requires.underway
-    c.is_in_order.ensures.own c.is_in_order.ensures.history c.is_in_order-2.ensures.history f.ensures.goes
+    let m = moves p step.Probe (progress_probe (call_of p) f.result) f.new.self c.requires.underway f.ensures.goes
     (probe_next p.table.config (call_of p) f.result c.requires.stage) in
     probe_refused p f.new.self f.result (sym c.is_unmapped.ensures ∙ c.if-is_unmapped.true) m
 
 pub returns-then-is_unmapped-clause-unmapped : goal.returns-then-is_unmapped-clause-unmapped
 returns-then-is_unmapped-clause-unmapped c =
     let f = c.probe-header in
-    probes_unmapped c.args.pass.now f.new.self f.result c.requires.underway c.is_in_order.ensures.own
-    c.is_in_order.ensures.history c.is_in_order-2.ensures.history f.ensures.finds c.requires.stage
+    probes_unmapped c.args.pass.now f.new.self f.result c.requires.underway f.ensures.finds c.requires.stage
     c.requires.access
     (sym c.is_unmapped.ensures ∙ c.if-is_unmapped.true)
 
@@ -70,15 +66,13 @@ pub returns-else-is_unmapped-clause-moves : goal.returns-else-is_unmapped-clause
 returns-else-is_unmapped-clause-moves c =
     let p = c.args.pass.now in
     let f = c.probe-header in
-    let m = moves p step.Probe (progress_probe (call_of p) f.result) f.new.self c.requires.underway
-    c.is_in_order.ensures.own c.is_in_order.ensures.history c.is_in_order-2.ensures.history f.ensures.goes
+    let m = moves p step.Probe (progress_probe (call_of p) f.result) f.new.self c.requires.underway f.ensures.goes
     (probe_next p.table.config (call_of p) f.result c.requires.stage) in
     probe_passed p f.new.self f.result (sym c.is_unmapped.ensures ∙ c.if-is_unmapped.false) m
 
 pub returns-else-is_unmapped-clause-reached : goal.returns-else-is_unmapped-clause-reached
 returns-else-is_unmapped-clause-reached c =
     let f = c.probe-header in
-    probes_a_word c.args.pass.now f.new.self f.result c.requires.underway c.is_in_order.ensures.own
-    c.is_in_order.ensures.history c.is_in_order-2.ensures.history f.ensures.finds c.requires.stage
+    probes_a_word c.args.pass.now f.new.self f.result c.requires.underway f.ensures.finds c.requires.stage
     c.requires.access
     (sym c.is_unmapped.ensures ∙ c.if-is_unmapped.false)

@@ -7,22 +7,21 @@ use Rattle.mk_caller.proofs.Onward.{moves, read_next}
 use Rattle.mk_caller.proofs.Stepping.{may_reach}
 use Rattle.mk_caller.proofs.steps.read.Goals as goal
 
-pub read-value-requires-clause-enabled : goal.read-value-requires-clause-enabled
-read-value-requires-clause-enabled c =
-    (may_reach c.args.pass.now c.requires.underway c.is_in_order.ensures.history stage.Read c.requires.stage
+pub read-requires-clause-enabled : goal.read-requires-clause-enabled
+read-requires-clause-enabled c =
+    (may_reach c.args.pass.now c.requires.underway stage.Read c.requires.stage
     c.requires.access refl refl refl step.Read refl refl refl).0
 
-pub read-value-requires-clause-admitted : goal.read-value-requires-clause-admitted
-read-value-requires-clause-admitted c =
-    (may_reach c.args.pass.now c.requires.underway c.is_in_order.ensures.history stage.Read c.requires.stage
+pub read-requires-clause-admitted : goal.read-requires-clause-admitted
+read-requires-clause-admitted c =
+    (may_reach c.args.pass.now c.requires.underway stage.Read c.requires.stage
     c.requires.access refl refl refl step.Read refl refl refl).1
 
 pub returns : goal.returns
 returns c =
-    let f = c.read-value in
+    let f = c.read in
     let p = c.args.pass.now in
     record {
       moves = moves p step.Read (progress_read (call_of p) (call_of p).op f.result) f.new.self c.requires.underway
-          c.is_in_order.ensures.own c.is_in_order.ensures.history c.is_in_order-2.ensures.history f.ensures.goes
-          (read_next p.table.config (call_of p) f.result c.requires.stage);
+          f.ensures.goes (read_next p.table.config (call_of p) f.result c.requires.stage);
     }

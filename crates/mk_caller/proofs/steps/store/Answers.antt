@@ -6,8 +6,7 @@ use Rattle.mk_caller.proofs.Stepping.{may_store}
 use Rattle.mk_caller.proofs.steps.store.Goals as goal
 
 pub reg_store-requires-clause-admitted : goal.reg_store-requires-clause-admitted
-reg_store-requires-clause-admitted c = may_store c.args.pass.now c.requires.underway c.is_in_order.ensures.history
-    c.requires.stage
+reg_store-requires-clause-admitted c = may_store c.args.pass.now c.requires.underway c.requires.stage
 
 pub returns : goal.returns
 returns c =
@@ -15,6 +14,5 @@ returns c =
     let p = c.args.pass.now in
     record {
       moves = moves p step.Reg (progress_reg (call_of p) (call_of p).stage c.args.v) f.new.self c.requires.underway
-          c.is_in_order.ensures.own c.is_in_order.ensures.history c.is_in_order-2.ensures.history f.ensures.goes
-          (store_goes_on p.table.config (call_of p) c.args.v c.requires.stage);
+          f.ensures.goes (store_goes_on p.table.config (call_of p) c.args.v c.requires.stage);
     }

@@ -13,12 +13,12 @@ use Rattle.mk_caller.proofs.steps.write.Goals as goal
 
 pub write-requires-clause-enabled : goal.write-requires-clause-enabled
 write-requires-clause-enabled c =
-    (may_reach c.args.pass.now c.requires.underway c.is_in_order.ensures.history stage.Write c.requires.stage
+    (may_reach c.args.pass.now c.requires.underway stage.Write c.requires.stage
     c.requires.access refl refl refl step.Write refl refl refl).0
 
 pub write-requires-clause-admitted : goal.write-requires-clause-admitted
 write-requires-clause-admitted c =
-    (may_reach c.args.pass.now c.requires.underway c.is_in_order.ensures.history stage.Write c.requires.stage
+    (may_reach c.args.pass.now c.requires.underway stage.Write c.requires.stage
     c.requires.access refl refl refl step.Write refl refl refl).1
 
 pub returns : goal.returns
@@ -26,9 +26,7 @@ returns c =
     let f = c.write in
     let p = c.args.pass.now in
     record {
-      moves = moves p step.Write (onward (call_of p) (Some answer.Done)) f.new.self c.requires.underway
-          c.is_in_order.ensures.own c.is_in_order.ensures.history c.is_in_order-2.ensures.history f.ensures.goes
+      moves = moves p step.Write (onward (call_of p) (Some answer.Done)) f.new.self c.requires.underway f.ensures.goes
           (write_next p.table.config (call_of p) answer.Done (ap (λ (s : Stage). is_written s) c.requires.stage)
-          (met p c.requires.underway c.is_in_order.ensures.history stage.Write c.requires.stage c.requires.access
-          refl refl refl));
+          (met p c.requires.underway stage.Write c.requires.stage c.requires.access refl refl refl));
     }

@@ -62,7 +62,7 @@ returns-clause-reached g c none =
     let begin = c.begin.ensures.acts.makes in
     sweeps_then p b q all.keeps.call.pass (does_sweep clears p b clearing_marks_nothing all.does)
     (sweeps_then b d q (only_seen_by b d step.Begin begin)
-    (other_step_sweeps b d step.Begin begin c.begin.ensures.was.own refl)
+    (other_step_sweeps b d step.Begin begin refl)
     (c.begin-2.ensures.reached none))
 
 pub returns-clause-begun : goal.returns-clause-begun

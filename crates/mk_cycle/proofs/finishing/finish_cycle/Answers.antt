@@ -50,7 +50,7 @@ returns-clause-reached g c none =
     let end = c.end.ensures.acts.makes in
     sweeps_then p b q (gives_call p b c.give_all_back-turn.ensures.gives).pass
     (c.give_all_back-turn.ensures.reached none)
-    (sweeps_then b e q (only_seen_by b e step.End end) (other_step_sweeps b e step.End end c.end.ensures.was.own refl)
+    (sweeps_then b e q (only_seen_by b e step.End end) (other_step_sweeps b e step.End end refl)
     (does_sweep sets_tallies e q setting_marks_nothing c.count_cycle.ensures.sets.does))
 
 pub returns-clause-told : goal.returns-clause-told

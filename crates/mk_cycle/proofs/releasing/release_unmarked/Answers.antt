@@ -5,7 +5,7 @@ use Rattle.mk_core.specs.Frames.{Steady}
 use Rattle.mk_words.specs.States.{PassState, WordsState, now_of}
 use Rattle.mk_cycle.specs.ReleasedPages.{released_below}
 use Rattle.mk_cycle.specs.FinishCycle.{HasReleased}
-use Rattle.mk_cycle.proofs.Allowed.{in_turn}
+use Rattle.mk_cycle.proofs.Allowed.{in_turn, in_turn_after}
 use Rattle.mk_cycle.proofs.KeptInParts.{free_then, same_config}
 use Rattle.mk_cycle.proofs.ReleasedCounts.{release_tells, told_from}
 use Rattle.mk_cycle.proofs.ReleasedCells.{cells_are_free}
@@ -25,7 +25,7 @@ returns-clause-releases g c =
     c.close_phase.ensures.acts
     (in_turn _ _ c.is_in_order-3.ensures.own c.is_in_order-3.ensures.turn c.is_in_order-3.ensures.history)
     c.release.ensures.acts
-    (in_turn _ _ c.is_in_order-4.ensures.own c.is_in_order-4.ensures.turn c.is_in_order-4.ensures.history)
+    (in_turn_after c.release.ensures.acts refl)
 
 pub returns-clause-cells : goal.returns-clause-cells
 returns-clause-cells g c page =
@@ -34,7 +34,7 @@ returns-clause-cells g c page =
     let free = free_then _ _ c.close_marks.ensures.law.keeps.call c.requires.free in
     let close = close_leaves _ _ t free c.close_marks.ensures.law.phase c.close_phase.ensures.acts u in
     cells_are_free c.close_phase.new.self.pass c.release.new.self.pass u
-    (in_turn _ _ c.is_in_order-4.ensures.own c.is_in_order-4.ensures.turn c.is_in_order-4.ensures.history)
+    (in_turn_after c.release.ensures.acts refl)
     close.1 c.release.ensures.acts (free_then _ _ close.0.call free).gone page
 
 pub returns-clause-told : goal.returns-clause-told
@@ -53,7 +53,7 @@ returns-clause-told g c =
     (told_from p d c.release.new.self.pass _ same
     (ap (λ (s : Steady). s.allocations) close.0.steady ∙ ap (λ (s : Steady). s.allocations) marks.steady)
     (release_tells d c.release.new.self.pass u
-    (in_turn _ _ c.is_in_order-4.ensures.own c.is_in_order-4.ensures.turn c.is_in_order-4.ensures.history) close.1
+    (in_turn_after c.release.ensures.acts refl) close.1
     c.release.ensures.acts))
 
 pub returns-clause-reached : goal.returns-clause-reached
@@ -65,8 +65,8 @@ returns-clause-reached g c none =
     let close = c.close_phase.ensures.acts.makes in
     sweeps_then p b q c.close_marks.ensures.law.keeps.call.pass (c.close_marks.ensures.reached none)
     (sweeps_then b d q (only_seen_by b d step.Close close)
-    (other_step_sweeps b d step.Close close c.is_in_order-2.ensures.own refl)
-    (other_step_sweeps d q step.Release c.release.ensures.acts.makes c.is_in_order-3.ensures.own refl))
+    (other_step_sweeps b d step.Close close refl)
+    (other_step_sweeps d q step.Release c.release.ensures.acts.makes refl))
 
 pub returns-clause-told_at_close : goal.returns-clause-told_at_close
 returns-clause-told_at_close g c =

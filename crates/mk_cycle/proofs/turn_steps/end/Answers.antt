@@ -1,6 +1,6 @@
-use Rattle.std.proofs.Common.{◌<◌, subst}
+use Rattle.std.proofs.Common.{◌<◌, subst, refl}
 use Rattle.mk_words.specs.States.{WordsState}
-use Rattle.mk_cycle.proofs.Allowed.{in_turn}
+use Rattle.mk_cycle.proofs.Allowed.{in_turn, in_turn_after}
 use Rattle.mk_cycle.proofs.EndSteps.{end_allowed}
 use Rattle.mk_cycle.proofs.turn_steps.end.Goals as goal
 
@@ -11,3 +11,6 @@ end-requires-clause-enabled c =
     c.is_in_order.ensures.history)
     c.requires.free c.requires.phase
     (λ page lt. c.requires.settled page (subst (λ (w : WordsState). page < w.config.pages) c.requires.one_table lt))
+
+pub returns-clause-is : goal.returns-clause-is
+returns-clause-is c = in_turn_after c.end.ensures.acts refl

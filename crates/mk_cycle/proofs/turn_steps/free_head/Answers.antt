@@ -1,4 +1,5 @@
-use Rattle.mk_cycle.proofs.Allowed.{in_turn, on_table}
+use Rattle.std.proofs.Common.{refl}
+use Rattle.mk_cycle.proofs.Allowed.{in_turn, in_turn_after, on_table}
 use Rattle.mk_cycle.proofs.GivingSteps.{head_allowed}
 use Rattle.mk_cycle.proofs.turn_steps.free_head.Goals as goal
 
@@ -9,3 +10,6 @@ head-requires-clause-enabled c =
     c.is_in_order.ensures.history)
     c.requires.free c.requires.phase c.args.page
     (on_table c.args.turn.now.pass _ c.requires.one_table c.args.page c.requires.within) c.requires.empty
+
+pub returns-clause-is : goal.returns-clause-is
+returns-clause-is c = in_turn_after c.head.ensures.acts refl

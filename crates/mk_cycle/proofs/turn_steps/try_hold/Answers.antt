@@ -1,6 +1,6 @@
-use Rattle.std.proofs.Common.{◌<◌, sym, subst}
+use Rattle.std.proofs.Common.{◌<◌, sym, subst, refl}
 use Rattle.mk_words.specs.States.{WordsState}
-use Rattle.mk_cycle.proofs.Allowed.{in_turn}
+use Rattle.mk_cycle.proofs.Allowed.{in_turn, in_turn_after}
 use Rattle.mk_cycle.proofs.HoldingSteps.{hold_allowed}
 use Rattle.mk_cycle.proofs.turn_steps.try_hold.Goals as goal
 
@@ -12,3 +12,6 @@ try_hold-requires-clause-enabled c =
     c.requires.free c.args.caller
     (subst (λ (w : WordsState). c.args.caller < w.config.callers) (sym c.requires.one_table) c.requires.within)
     c.requires.another c.requires.open
+
+pub returns-clause-is : goal.returns-clause-is
+returns-clause-is c = in_turn_after c.try_hold.ensures.acts refl

@@ -1,4 +1,5 @@
-use Rattle.mk_cycle.proofs.Allowed.{in_turn, on_table, unblack_allowed}
+use Rattle.std.proofs.Common.{refl}
+use Rattle.mk_cycle.proofs.Allowed.{in_turn, in_turn_after, on_table, unblack_allowed}
 use Rattle.mk_cycle.proofs.turn_steps.unblack.Goals as goal
 
 pub unblack-requires-clause-enabled : goal.unblack-requires-clause-enabled
@@ -8,3 +9,6 @@ unblack-requires-clause-enabled c =
     c.is_in_order.ensures.history)
     c.requires.free c.args.page (on_table c.args.turn.now.pass _ c.requires.one_table c.args.page c.requires.within)
     c.requires.phase
+
+pub returns-clause-is : goal.returns-clause-is
+returns-clause-is c = in_turn_after c.unblack.ensures.acts refl

@@ -1,6 +1,6 @@
-use Rattle.std.proofs.Common.{◌<◌, ◌*◌, sym, subst}
+use Rattle.std.proofs.Common.{◌<◌, ◌*◌, sym, subst, refl}
 use Rattle.mk_words.specs.States.{WordsState}
-use Rattle.mk_cycle.proofs.Allowed.{in_turn}
+use Rattle.mk_cycle.proofs.Allowed.{in_turn, in_turn_after}
 use Rattle.mk_cycle.proofs.GivingSteps.{wipe_allowed}
 use Rattle.mk_cycle.proofs.turn_steps.wipe.Goals as goal
 
@@ -12,3 +12,6 @@ wipe-requires-clause-enabled c =
     c.requires.free c.requires.phase c.args.word
     (subst (λ (w : WordsState). c.args.word < 64 * w.config.pages) (sym c.requires.one_table) c.requires.within)
     c.requires.released
+
+pub returns-clause-is : goal.returns-clause-is
+returns-clause-is c = in_turn_after c.wipe.ensures.acts refl

@@ -1,26 +1,26 @@
 use Rattle.std.proofs.Common.{◌≡◌, true, refl, sym, subst}
 use Rattle.mk_core.specs.Ranges.{is_word}
 use Rattle.mk_words.specs.States.{WordsState}
-use Rattle.mk_cycle.proofs.Allowed.{in_turn, look_allowed}
+use Rattle.mk_cycle.proofs.Allowed.{in_turn, in_turn_after, look_allowed}
 use Rattle.mk_cycle.proofs.MayAct.{calm_admitted}
 use Rattle.mk_engines.proofs.BesideSteps.{goes_look, no_register}
 use Rattle.mk_engines.proofs.steps.look_at.Goals as goal
 
-pub look-found-requires-clause-enabled : goal.look-found-requires-clause-enabled
-look-found-requires-clause-enabled c =
+pub look-requires-clause-enabled : goal.look-requires-clause-enabled
+look-requires-clause-enabled c =
     look_allowed c.args.turn.now.pass
     (in_turn _ _ c.is_in_order.ensures.own c.is_in_order.ensures.turn c.is_in_order.ensures.history)
     c.requires.beside.free c.args.x
     (subst (λ (w : WordsState). is_word w.config c.args.x ≡ true) (sym c.requires.one_table) c.requires.in_range)
     (no_register c.args.x c.requires.plain)
 
-pub look-found-requires-clause-admitted : goal.look-found-requires-clause-admitted
-look-found-requires-clause-admitted c may =
+pub look-requires-clause-admitted : goal.look-requires-clause-admitted
+look-requires-clause-admitted c may =
     calm_admitted c.args.turn.now.pass _ c.is_in_order.ensures.history refl c.requires.beside.free.decided
 
 pub returns-clause-on : goal.returns-clause-on
 returns-clause-on c =
-    goes_look c.args.turn.now c.look-found.new.self
+    goes_look c.args.turn.now c.look.new.self
     (in_turn _ _ c.is_in_order.ensures.own c.is_in_order.ensures.turn c.is_in_order.ensures.history)
-    (in_turn _ _ c.is_in_order-2.ensures.own c.is_in_order-2.ensures.turn c.is_in_order-2.ensures.history)
-    c.requires.beside c.look-found.ensures.op c.args.x c.look-found.ensures.acts c.requires.plain
+    (in_turn_after c.look.ensures.acts refl)
+    c.requires.beside c.look.ensures.op c.args.x c.look.ensures.acts c.requires.plain

@@ -1,33 +1,33 @@
 use Rattle.std.proofs.Common.{◌≡◌, true, refl, sym, subst}
 use Rattle.mk_core.specs.Ranges.{is_word}
 use Rattle.mk_words.specs.States.{WordsState}
-use Rattle.mk_cycle.proofs.Allowed.{in_turn}
+use Rattle.mk_cycle.proofs.Allowed.{in_turn, in_turn_after}
 use Rattle.mk_cycle.proofs.MayAct.{calm_admitted}
 use Rattle.mk_engines.proofs.BesideSteps.{finds_in_root, may_look_at_root, root_hand}
 use Rattle.mk_engines.proofs.steps.look_at_root.Goals as goal
 
-pub look-found-requires-clause-enabled : goal.look-found-requires-clause-enabled
-look-found-requires-clause-enabled c =
+pub look-requires-clause-enabled : goal.look-requires-clause-enabled
+look-requires-clause-enabled c =
     may_look_at_root c.args.turn.now.pass
     (in_turn _ _ c.is_in_order.ensures.own c.is_in_order.ensures.turn c.is_in_order.ensures.history)
     c.requires.beside c.args.x
     (subst (λ (w : WordsState). is_word w.config c.args.x ≡ true) (sym c.requires.one_table) c.requires.in_range)
     c.requires.root c.requires.seen
 
-pub look-found-requires-clause-admitted : goal.look-found-requires-clause-admitted
-look-found-requires-clause-admitted c may =
+pub look-requires-clause-admitted : goal.look-requires-clause-admitted
+look-requires-clause-admitted c may =
     calm_admitted c.args.turn.now.pass _ c.is_in_order.ensures.history refl c.requires.beside.free.decided
 
 pub returns-clause-finds : goal.returns-clause-finds
 returns-clause-finds c =
-    finds_in_root c.args.turn.now c.look-found.new.self
+    finds_in_root c.args.turn.now c.look.new.self
     (in_turn _ _ c.is_in_order.ensures.own c.is_in_order.ensures.turn c.is_in_order.ensures.history)
-    (in_turn _ _ c.is_in_order-2.ensures.own c.is_in_order-2.ensures.turn c.is_in_order-2.ensures.history)
-    c.requires.beside c.look-found.ensures.op c.args.x c.look-found.result c.look-found.ensures.acts
-    c.look-found.ensures.finds
+    (in_turn_after c.look.ensures.acts refl)
+    c.requires.beside c.look.ensures.op c.args.x c.look.result c.look.ensures.acts
+    c.look.ensures.finds
     c.requires.root
 
 pub returns-clause-hand : goal.returns-clause-hand
 returns-clause-hand c =
-    root_hand c.args.turn.now.pass c.look-found.new.self.pass c.args.x c.look-found.ensures.acts c.look-found.result
-    c.look-found.ensures.finds c.requires.root
+    root_hand c.args.turn.now.pass c.look.new.self.pass c.args.x c.look.ensures.acts c.look.result
+    c.look.ensures.finds c.requires.root

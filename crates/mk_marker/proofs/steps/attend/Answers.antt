@@ -4,10 +4,8 @@ use Rattle.mk_marker.proofs.steps.attend.Goals as goal
 
 pub returns-clause-moves : goal.returns-clause-moves
 returns-clause-moves c =
-    moves c.args.pass.now step.Attend c.attend-found.result c.attend-found.new.self c.is_in_order.ensures.own
-    c.is_in_order-2.ensures.history c.attend-found.ensures
+    moves c.args.pass.now step.Attend c.attend.result c.attend.new.self c.attend.ensures
 
 pub returns-clause-phase : goal.returns-clause-phase
 returns-clause-phase c =
-    known_phase c.args.pass.now c.attend-found.result c.attend-found.new.self c.is_in_order.ensures.own
-    c.is_in_order-2.ensures.history c.attend-found.ensures.finds
+    known_phase c.args.pass.now c.attend.result c.attend.new.self c.attend.ensures.finds

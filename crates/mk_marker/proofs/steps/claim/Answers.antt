@@ -10,6 +10,6 @@ claim-requires-clause-enabled c =
 pub returns : goal.returns
 returns c =
     let m = c.claim.ensures.marks in
-    let r = claimed c.args.pass.now c.args.cell c.claim.ensures.found c.claim.new.self c.is_in_order.ensures.own
-    c.is_in_order-2.ensures.history c.requires.seen c.requires.marked m in
+    let r = claimed c.args.pass.now c.args.cell c.claim.ensures.found c.claim.new.self c.requires.seen
+    c.requires.marked m in
     record { claims = r.0; scanning = r.1; cell = r.2; left = r.3 }

@@ -4,12 +4,10 @@ use Rattle.mk_marker.proofs.steps.look.Goals as goal
 
 pub returns-clause-moves : goal.returns-clause-moves
 returns-clause-moves c =
-    let f = c.marker_look-found in
-    moves c.args.pass.now (step.Mlook c.args.x) f.result f.new.self c.is_in_order.ensures.own
-    c.is_in_order-2.ensures.history f.ensures
+    let f = c.marker_look in
+    moves c.args.pass.now (step.Mlook c.args.x) f.result f.new.self f.ensures
 
 pub returns-clause-shows : goal.returns-clause-shows
 returns-clause-shows c =
-    let f = c.marker_look-found in
-    look_shows c.args.pass.now c.args.x f.result f.new.self c.is_in_order.ensures.own c.is_in_order-2.ensures.history
-    f.ensures.finds
+    let f = c.marker_look in
+    look_shows c.args.pass.now c.args.x f.result f.new.self f.ensures.finds

@@ -3,5 +3,5 @@ use Rattle.mk_marker.proofs.Moving.{moved}
 use Rattle.mk_marker.proofs.steps.mark.Goals as goal
 
 pub returns : goal.returns
-returns c = moved c.args.pass.now step.Mmark c.marker_mark.new.self c.is_in_order.ensures.own
-    c.is_in_order-2.ensures.history c.marker_mark.ensures.makes c.marker_mark.ensures.marker
+returns c = moved c.args.pass.now step.Mmark c.marker_mark.new.self c.marker_mark.ensures.makes
+    c.marker_mark.ensures.marker

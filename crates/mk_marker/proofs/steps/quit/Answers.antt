@@ -3,5 +3,4 @@ use Rattle.mk_marker.proofs.Moving.{moved}
 use Rattle.mk_marker.proofs.steps.quit.Goals as goal
 
 pub returns : goal.returns
-returns c = moved c.args.pass.now step.Quit c.quit.new.self c.is_in_order.ensures.own c.is_in_order-2.ensures.history
-    c.quit.ensures.makes c.quit.ensures.out
+returns c = moved c.args.pass.now step.Quit c.quit.new.self c.quit.ensures.makes c.quit.ensures.out

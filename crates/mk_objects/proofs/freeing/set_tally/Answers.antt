@@ -15,4 +15,3 @@ returns-clause-sets c =
     let p : PassState = c.args.turn.now.pass in
     sets_tally p c.tally.new.self.pass c.args.turn.now.op c.args.tally c.args.value c.is_in_order.ensures.turn
     c.requires.acting c.tally.ensures.acts
-    c.is_in_order.ensures.own c.is_in_order-2.ensures.history

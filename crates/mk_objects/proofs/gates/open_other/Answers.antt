@@ -25,8 +25,7 @@ pub returns-then-not-is_own-clause-sets : goal.returns-then-not-is_own-clause-se
 returns-then-not-is_own-clause-sets c =
     let p : PassState = c.args.turn.now.pass in
     sets_open p c.open_gate.new.self.pass c.args.turn.now.op c.args.caller c.is_in_order.ensures.turn
-    c.requires.acting c.is_in_order.ensures.own
-    c.is_in_order-then-not-is_own.ensures.history c.open_gate.ensures.acts c.requires.within
+    c.requires.acting c.open_gate.ensures.acts c.requires.within
 
 pub returns-then-not-is_own-clause-gone : goal.returns-then-not-is_own-clause-gone
 returns-then-not-is_own-clause-gone c =
@@ -34,7 +33,7 @@ returns-then-not-is_own-clause-gone c =
     let sets = returns-then-not-is_own-clause-sets c in
     one_there is_settling p c.open_gate.new.self.pass _ _ sets
     (λ (x : PassState). is_run_gone (now_of x).words (now_of x).seats.holding.freed ≡ true)
-    (still_gone p c.open_gate.new.self.pass sets.does c.is_in_order-then-not-is_own.ensures.history
+    (still_gone p c.open_gate.new.self.pass sets.does c.open_gate.ensures.acts.makes.pass.history
     c.is_in_order.ensures.turn.holds c.requires.gone)
 
 pub returns-else-not-is_own-clause-sets : goal.returns-else-not-is_own-clause-sets

@@ -19,14 +19,13 @@ try_hold-requires-clause-enabled c =
 pub returns-clause-held : goal.returns-clause-held
 returns-clause-held c =
     tried c.try_hold.result (is_held (now_of c.try_hold.new.self.pass).words c.args.caller) c.try_hold.ensures.held
-    c.try_hold.ensures.not_held ∙ sym c.is_ok-held.ensures.value
+    c.try_hold.ensures.not_held ∙ sym c.is_ok.ensures.value
 
 pub returns-clause-sets : goal.returns-clause-sets
 returns-clause-sets c =
     let p : PassState = c.args.turn.now.pass in
     sets_hold p c.try_hold.new.self.pass c.args.turn.now.op c.args.caller c.is_in_order.ensures.turn c.requires.acting
-    c.is_in_order.ensures.own
-    c.is_in_order-2.ensures.history c.is_ok-held.result c.try_hold.ensures.acts (returns-clause-held c)
+    c.is_ok.result c.try_hold.ensures.acts (returns-clause-held c)
 
 pub returns-clause-keeps : goal.returns-clause-keeps
 returns-clause-keeps c =
@@ -34,5 +33,4 @@ returns-clause-keeps c =
     λ r lt.
     value_kept p c.try_hold.new.self.pass r (step.Hold c.args.caller) (acting_caller p c.requires.acting) lt
     c.try_hold.ensures.acts
-    c.is_in_order.ensures.own c.is_in_order-2.ensures.history
     (λ v kept known. decides_nothing p.table.config v.now p.seat (step.Hold c.args.caller) refl)

@@ -16,7 +16,7 @@ pub returns-clause-looks : goal.returns-clause-looks
 returns-clause-looks c =
     let t = c.args.turn.now in
     look_reaches t.pass c.look-found.new.self.pass t.op word.Phase c.is_in_order.ensures.turn c.requires.acting OfPhase
-    c.look-found.ensures.acts c.is_in_order.ensures.own c.is_in_order-2.ensures.history
+    c.look-found.ensures.acts
 
 pub returns-clause-finds : goal.returns-clause-finds
 returns-clause-finds c =
@@ -24,5 +24,4 @@ returns-clause-finds c =
     c.is_in.ensures
     ∙ ap (λ (n : ℕ). n == 1)
     (found_phase t.pass c.look-found.new.self.pass t.op c.look-found.result c.is_in_order.ensures.turn
-    c.look-found.ensures.finds
-    c.is_in_order.ensures.own c.is_in_order-2.ensures.history)
+    c.look-found.ensures.finds)

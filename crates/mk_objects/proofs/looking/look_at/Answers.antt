@@ -6,8 +6,8 @@ use Rattle.mk_objects.proofs.MayAct.{may_look}
 use Rattle.mk_objects.proofs.Unchanged.{steady_is_plain}
 use Rattle.mk_objects.proofs.looking.look_at.Goals as goal
 
-pub look-found-requires-clause-enabled : goal.look-found-requires-clause-enabled
-look-found-requires-clause-enabled c =
+pub look-requires-clause-enabled : goal.look-requires-clause-enabled
+look-requires-clause-enabled c =
     let t = c.args.turn.now in
     may_look t.pass.table.config _ t.pass.seat
     (acting_now t.pass t.op c.is_in_order.ensures.turn c.requires.acting) c.args.word c.requires.steady
@@ -16,23 +16,21 @@ look-found-requires-clause-enabled c =
 pub returns-clause-looks : goal.returns-clause-looks
 returns-clause-looks c =
     let t = c.args.turn.now in
-    look_reaches t.pass c.look-found.new.self.pass t.op c.args.word c.is_in_order.ensures.turn c.requires.acting
+    look_reaches t.pass c.look.new.self.pass t.op c.args.word c.is_in_order.ensures.turn c.requires.acting
     (steady_is_plain c.args.word c.requires.steady)
-    c.look-found.ensures.acts c.is_in_order.ensures.own c.is_in_order-2.ensures.history
+    c.look.ensures.acts
 
 pub returns-clause-finds : goal.returns-clause-finds
 returns-clause-finds c =
     let t = c.args.turn.now in
-    found_steady t.pass c.look-found.new.self.pass t.op c.args.word c.look-found.result c.is_in_order.ensures.turn
-    c.look-found.ensures.finds
-    c.is_in_order.ensures.own c.is_in_order-2.ensures.history c.requires.steady
+    found_steady t.pass c.look.new.self.pass t.op c.args.word c.look.result c.is_in_order.ensures.turn
+    c.look.ensures.finds c.requires.steady
 
 pub returns-clause-keeps : goal.returns-clause-keeps
 returns-clause-keeps c =
     let t = c.args.turn.now in
     λ r lt.
-    value_kept t.pass c.look-found.new.self.pass r (step.Look c.args.word) (acting_caller t.pass c.requires.acting) lt
-    c.look-found.ensures.acts
-    c.is_in_order.ensures.own c.is_in_order-2.ensures.history
+    value_kept t.pass c.look.new.self.pass r (step.Look c.args.word) (acting_caller t.pass c.requires.acting) lt
+    c.look.ensures.acts
     (λ v kept known. decides_nothing t.pass.table.config v.now t.pass.seat (step.Look c.args.word)
     (plain_is_idle c.args.word (steady_is_plain c.args.word c.requires.steady)))

@@ -56,11 +56,9 @@ loop-distance-preserved c =
     (c.header_word.ensures ∙ ap (λ (o : Object). header_made o d) c.requires.shape) c.head.ensures.acts in
     record {
       op = c.head.ensures.op ∙ c.loop-distance.invariant.op;
-      carved = heads_on p c.args.place c.requires.goes k c.requires.free q r d c.loop-distance.invariant.carved near a
-          c.is_in_order-in-loop-distance.ensures.own c.is_in_order-in-loop-distance-2.ensures.history;
+      carved = heads_on p c.args.place c.requires.goes k c.requires.free q r d c.loop-distance.invariant.carved near a;
       reached = head_sweeps p q r c.args.place d _ _ c.loop-distance.invariant.carved c.loop-distance.invariant.reached
-          a
-          c.is_in_order-in-loop-distance.ensures.own;
+          a;
     }
 
 pub returns-clause-ready : goal.returns-clause-ready

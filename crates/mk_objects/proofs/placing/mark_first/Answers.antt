@@ -31,8 +31,7 @@ returns-then-marking-clause-carved c =
     let one = eqb-true (phase_of (now_of p).words) 1 (sym c.requires.marking ∙ c.if-marking.true) in
     let a = subst (λ n. Acts p (step.Mark c.args.place.page n) q)
     (c.bits.ensures ∙ ap (λ (o : Object). bits_made o) c.requires.shape) c.mark.ensures.acts in
-    marks_first p c.args.place c.requires.goes k c.requires.free q one a c.is_in_order.ensures.own
-    c.is_in_order-then-marking.ensures.history
+    marks_first p c.args.place c.requires.goes k c.requires.free q one a
 
 pub returns-else-marking-clause-carved : goal.returns-else-marking-clause-carved
 returns-else-marking-clause-carved c =
@@ -51,7 +50,7 @@ returns-then-marking-clause-reached c =
     let one = eqb-true (phase_of (now_of p).words) 1 (sym c.requires.marking ∙ c.if-marking.true) in
     let a = subst (λ n. Acts p (step.Mark c.args.place.page n) q)
     (c.bits.ensures ∙ ap (λ (o : Object). bits_made o) c.requires.shape) c.mark.ensures.acts in
-    first_mark_sweeps p c.args.place k q c.requires.free one a c.is_in_order.ensures.own
+    first_mark_sweeps p c.args.place k q c.requires.free one a
 
 pub returns-else-marking-clause-reached : goal.returns-else-marking-clause-reached
 returns-else-marking-clause-reached c = nothing_sweeps c.args.turn.now.pass

@@ -15,7 +15,7 @@ use Rattle.mk_objects.proofs.Takes.{grant_admits, grant_may, grant_on}
 use Rattle.mk_objects.proofs.Takes.{one_bit_more, small_index, tally_may, tally_on, used_may, used_on}
 use Rattle.mk_objects.proofs.UnsweptNews.{serving_sweeps}
 use Rattle.mk_objects.proofs.placing.serve.Goals as goal
-use Rattle.mk_objects.proofs.placing.serve.Goals.{After-is_in_order, After-is_in_order-3, After-is_in_order-4}
+use Rattle.mk_objects.proofs.placing.serve.Goals.{After-grant, After-is_in_order, After-used}
 
 -- what is known of the place
 knows : (c : After-is_in_order) → KnowsPlace c.args.turn.now.pass c.args.place
@@ -24,19 +24,19 @@ knows c =
     c.is_in_order.ensures.history c.requires.goes
 
 -- its cell is taken
-taken : (c : After-is_in_order-3) (k : KnowsPlace c.args.turn.now.pass c.args.place)
+taken : (c : After-used) (k : KnowsPlace c.args.turn.now.pass c.args.place)
     → HasTaken c.args.turn.now.pass c.args.place c.requires.goes k c.used.new.self.pass
 taken c k =
     used_on c.args.turn.now.pass c.args.place c.requires.goes k c.make_ready.new.turn.pass c.used.new.self.pass _
-    c.make_ready.ensures.ready c.used.ensures.acts c.is_in_order-2.ensures.own c.is_in_order-3.ensures.history
+    c.make_ready.ensures.ready c.used.ensures.acts
 
 -- and the object is granted
-granted : (c : After-is_in_order-4) (k : KnowsPlace c.args.turn.now.pass c.args.place)
+granted : (c : After-grant) (k : KnowsPlace c.args.turn.now.pass c.args.place)
     → HasTaken c.args.turn.now.pass c.args.place c.requires.goes k c.used.new.self.pass
     → HasGranted c.args.turn.now.pass c.args.place c.requires.goes k c.grant.new.self.pass
 granted c k taken =
     grant_on c.args.turn.now.pass c.args.place c.requires.goes k c.used.new.self.pass c.grant.new.self.pass taken
-    c.grant.ensures.acts c.is_in_order-3.ensures.own c.is_in_order-4.ensures.history c.is_in_order.ensures.history
+    c.grant.ensures.acts c.is_in_order.ensures.history
 
 pub overflow_shl-place : goal.overflow_shl-place
 overflow_shl-place c =
@@ -59,14 +59,14 @@ pub grant-requires-clause-enabled : goal.grant-requires-clause-enabled
 grant-requires-clause-enabled c =
     let x = goal.at.grant-requires-clause-enabled c in
     let k = knows x.After-is_in_order in
-    grant_may c.args.turn.now.pass c.args.place c.requires.goes k c.used.new.self.pass (taken x.After-is_in_order-3 k)
+    grant_may c.args.turn.now.pass c.args.place c.requires.goes k c.used.new.self.pass (taken x.After-used k)
 
 pub grant-requires-clause-admitted : goal.grant-requires-clause-admitted
 grant-requires-clause-admitted c =
     let x = goal.at.grant-requires-clause-admitted c in
     let k = knows x.After-is_in_order in
     grant_admits c.args.turn.now.pass c.args.place c.requires.goes k c.used.new.self.pass
-    (taken x.After-is_in_order-3 k) c.is_in_order-3.ensures.history c.is_in_order.ensures.history
+    (taken x.After-used k) c.used.ensures.acts.makes.pass.history c.is_in_order.ensures.history
 
 pub storage-requires : goal.storage-requires
 storage-requires c =
@@ -90,7 +90,7 @@ tally-requires-clause-enabled c =
     let x = goal.at.tally-requires-clause-enabled c in
     let k = knows x.After-is_in_order in
     tally_may c.args.turn.now.pass c.args.place c.requires.goes k c.grant.new.self.pass _
-    (granted x.After-is_in_order-4 k (taken x.After-is_in_order-3 k))
+    (granted x.After-grant k (taken x.After-used k))
 
 -- the last step, and the tally
 pub returns-clause-granted : goal.returns-clause-granted
@@ -101,8 +101,8 @@ returns-clause-granted c =
     let n = c.args.held + c.storage.result in
     counted p c.args.place c.requires.goes k c.tally.new.self.pass n
     (tally_on p c.args.place c.requires.goes k c.grant.new.self.pass c.tally.new.self.pass n
-    (granted x.After-is_in_order-4 k (taken x.After-is_in_order-3 k))
-    c.tally.ensures.acts c.is_in_order-4.ensures.own c.is_in_order-5.ensures.history c.is_in_order.ensures.history)
+    (granted x.After-grant k (taken x.After-used k))
+    c.tally.ensures.acts c.is_in_order.ensures.history)
 
 pub returns-clause-held : goal.returns-clause-held
 returns-clause-held c =
@@ -115,12 +115,11 @@ returns-clause-held c =
     counted_held p c.args.place c.requires.goes k c.tally.new.self.pass c.args.held c.storage.result
     (c.requires.held ∙ c.requires.exact) size
     (tally_on p c.args.place c.requires.goes k c.grant.new.self.pass c.tally.new.self.pass n
-    (granted x.After-is_in_order-4 k (taken x.After-is_in_order-3 k))
-    c.tally.ensures.acts c.is_in_order-4.ensures.own c.is_in_order-5.ensures.history c.is_in_order.ensures.history)
+    (granted x.After-grant k (taken x.After-used k))
+    c.tally.ensures.acts c.is_in_order.ensures.history)
 
 pub returns-clause-reached : goal.returns-clause-reached
 returns-clause-reached c =
     serving_sweeps c.args.turn.now.pass c.make_ready.new.turn.pass c.used.new.self.pass c.grant.new.self.pass
     c.tally.new.self.pass c.args.place _ _ _ c.make_ready.ensures.ready c.make_ready.ensures.reached c.used.ensures.acts
-    c.grant.ensures.acts c.tally.ensures.acts c.is_in_order-2.ensures.own c.is_in_order-3.ensures.own
-    c.is_in_order-4.ensures.own refl refl refl
+    c.grant.ensures.acts c.tally.ensures.acts refl refl refl

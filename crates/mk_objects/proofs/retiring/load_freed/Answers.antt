@@ -3,26 +3,26 @@ use Rattle.mk_objects.proofs.LoadedFrees.{load_admits, load_keeps, load_loads, l
 use Rattle.mk_objects.proofs.LoadedFrees.{load_reaches}
 use Rattle.mk_objects.proofs.retiring.load_freed.Goals as goal
 
-pub reg_load-value-requires-clause-enabled : goal.reg_load-value-requires-clause-enabled
-reg_load-value-requires-clause-enabled c =
+pub reg_load-requires-clause-enabled : goal.reg_load-requires-clause-enabled
+reg_load-requires-clause-enabled c =
     let p : PassState = c.args.turn.now.pass in
     load_may p c.args.register c.args.turn.now.op c.is_in_order.ensures.turn c.is_in_order.ensures.history
     c.requires.unloaded
 
-pub reg_load-value-requires-clause-admitted : goal.reg_load-value-requires-clause-admitted
-reg_load-value-requires-clause-admitted c =
+pub reg_load-requires-clause-admitted : goal.reg_load-requires-clause-admitted
+reg_load-requires-clause-admitted c =
     let p : PassState = c.args.turn.now.pass in
     load_admits p c.args.register c.args.turn.now.op c.is_in_order.ensures.turn c.is_in_order.ensures.history
     c.requires.unloaded
 
-pub reg_load-value-requires-clause-register : goal.reg_load-value-requires-clause-register
-reg_load-value-requires-clause-register c =
+pub reg_load-requires-clause-register : goal.reg_load-requires-clause-register
+reg_load-requires-clause-register c =
     let p : PassState = c.args.turn.now.pass in
     load_meets p c.args.register c.args.turn.now.op c.is_in_order.ensures.turn c.is_in_order.ensures.history
     c.requires.unloaded
 
-pub reg_load-value-requires-clause-loads : goal.reg_load-value-requires-clause-loads
-reg_load-value-requires-clause-loads c =
+pub reg_load-requires-clause-loads : goal.reg_load-requires-clause-loads
+reg_load-requires-clause-loads c =
     let p : PassState = c.args.turn.now.pass in
     load_loads p c.args.register c.args.turn.now.op c.is_in_order.ensures.turn c.is_in_order.ensures.history
     c.requires.unloaded
@@ -30,22 +30,22 @@ reg_load-value-requires-clause-loads c =
 pub returns-clause-loaded : goal.returns-clause-loaded
 returns-clause-loaded c =
     let p : PassState = c.args.turn.now.pass in
-    load_reaches p c.reg_load-value.new.self.pass c.args.register c.reg_load-value.result c.args.turn.now.op
+    load_reaches p c.reg_load.new.self.pass c.args.register c.reg_load.result c.args.turn.now.op
     c.requires.unloaded.small c.is_in_order.ensures.turn
-    c.requires.unloaded c.reg_load-value.ensures.acts c.is_in_order.ensures.own c.is_in_order-2.ensures.history
-    c.reg_load-value.ensures.own
+    c.requires.unloaded c.reg_load.ensures.acts
+    c.reg_load.ensures.own
 
 pub returns-clause-keeps : goal.returns-clause-keeps
 returns-clause-keeps c =
     let p : PassState = c.args.turn.now.pass in
     λ some.
-    load_keeps p c.reg_load-value.new.self.pass c.args.register c.reg_load-value.result c.args.turn.now.op
+    load_keeps p c.reg_load.new.self.pass c.args.register c.reg_load.result c.args.turn.now.op
     c.requires.unloaded.small c.is_in_order.ensures.turn
-    c.requires.unloaded c.reg_load-value.ensures.acts c.is_in_order.ensures.own c.is_in_order-2.ensures.history
-    c.reg_load-value.ensures.own some
+    c.requires.unloaded c.reg_load.ensures.acts
+    c.reg_load.ensures.own some
 
 pub returns-clause-null : goal.returns-clause-null
 returns-clause-null c =
     let p : PassState = c.args.turn.now.pass in
-    λ none. load_null p c.args.register c.reg_load-value.result c.is_in_order.ensures.history c.requires.unloaded
-    c.reg_load-value.ensures.own none
+    λ none. load_null p c.args.register c.reg_load.result c.is_in_order.ensures.history c.requires.unloaded
+    c.reg_load.ensures.own none

@@ -9,16 +9,16 @@ use Rattle.mk_objects.proofs.MayAct.{free_is_acting, may_look_quarantine}
 use Rattle.mk_objects.proofs.SeenDoubles.{see_keeps, see_reaches}
 use Rattle.mk_objects.proofs.retiring.look_at_quarantine.Goals as goal
 
-pub look-found-requires-clause-enabled : goal.look-found-requires-clause-enabled
-look-found-requires-clause-enabled c =
+pub look-requires-clause-enabled : goal.look-requires-clause-enabled
+look-requires-clause-enabled c =
     let p : PassState = c.args.turn.now.pass in
     let free = loaded_undecided p c.args.register c.args.value c.requires.free c.requires.some in
     may_look_quarantine p.table.config (now_of p) p.seat
     (acting_now p c.args.turn.now.op c.is_in_order.ensures.turn (free_is_acting (call_of p) free)) c.args.cell.page
     c.requires.within
 
-pub look-found-requires-clause-admitted : goal.look-found-requires-clause-admitted
-look-found-requires-clause-admitted c =
+pub look-requires-clause-admitted : goal.look-requires-clause-admitted
+look-requires-clause-admitted c =
     let p : PassState = c.args.turn.now.pass in
     let free = loaded_undecided p c.args.register c.args.value c.requires.free c.requires.some in
     λ decides.
@@ -31,22 +31,19 @@ pub returns-clause-seen : goal.returns-clause-seen
 returns-clause-seen c =
     let p : PassState = c.args.turn.now.pass in
     let free = loaded_undecided p c.args.register c.args.value c.requires.free c.requires.some in
-    see_reaches p c.look-found.new.self.pass c.args.cell c.args.turn.now.op c.is_in_order.ensures.turn free
-    c.requires.cell c.look-found.ensures.acts
-    c.is_in_order.ensures.own c.is_in_order-2.ensures.history
+    see_reaches p c.look.new.self.pass c.args.cell c.args.turn.now.op c.is_in_order.ensures.turn free
+    c.requires.cell c.look.ensures.acts
 
 pub returns-clause-finds : goal.returns-clause-finds
 returns-clause-finds c =
     let p : PassState = c.args.turn.now.pass in
-    found_quarantine p c.look-found.new.self.pass c.args.turn.now.op c.args.cell.page c.look-found.result
-    c.is_in_order.ensures.turn c.look-found.ensures.finds
-    c.is_in_order.ensures.own c.is_in_order-2.ensures.history
+    found_quarantine p c.look.new.self.pass c.args.turn.now.op c.args.cell.page c.look.result
+    c.is_in_order.ensures.turn c.look.ensures.finds
 
 pub returns-clause-keeps : goal.returns-clause-keeps
 returns-clause-keeps c =
     let p : PassState = c.args.turn.now.pass in
     let free = loaded_undecided p c.args.register c.args.value c.requires.free c.requires.some in
     λ live r lt.
-    see_keeps p c.look-found.new.self.pass r c.args.cell c.args.turn.now.op lt c.is_in_order.ensures.turn free
-    c.requires.cell live c.look-found.ensures.acts
-    c.is_in_order.ensures.own c.is_in_order-2.ensures.history
+    see_keeps p c.look.new.self.pass r c.args.cell c.args.turn.now.op lt c.is_in_order.ensures.turn free
+    c.requires.cell live c.look.ensures.acts

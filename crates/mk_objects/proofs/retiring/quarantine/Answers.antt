@@ -43,7 +43,6 @@ returns-clause-freed c =
     quarantine_reaches p c.quar.new.self.pass c.args.cell _ c.args.turn.now.op c.is_in_order.ensures.turn free
     c.requires.cell c.requires.clear c.requires.phase word
     (freed_half f c.args.cell.index small.0 c.requires.index c.requires.clear) c.quar.ensures.acts
-    c.is_in_order.ensures.own c.is_in_order-2.ensures.history
 
 pub returns-clause-once : goal.returns-clause-once
 returns-clause-once c =
@@ -55,7 +54,7 @@ returns-clause-once c =
     small.0 c.requires.index c.requires.clear c.args.quar c.requires.quar in
     quarantine_once p c.quar.new.self.pass c.args.cell _ c.args.turn.now.op c.is_in_order.ensures.turn c.requires.cell
     c.requires.clear c.requires.phase word
-    c.quar.ensures.acts c.is_in_order.ensures.own c.is_in_order-2.ensures.history
+    c.quar.ensures.acts
 
 pub overflow_add-quar : goal.overflow_add-quar
 overflow_add-quar c =

@@ -35,8 +35,7 @@ loop-distance-preserved c =
       unmapped = unmaps_on p c.args.turn.now.op c.args.run c.is_in_order.ensures.turn c.requires.decided
           c.requires.phase
           c.loop-distance.turn.pass c.head.new.self.pass d c.loop-distance.invariant.unmapped
-          c.loop-distance-test.true c.requires.within a
-          c.is_in_order-in-loop-distance.ensures.own c.is_in_order-in-loop-distance-2.ensures.history;
+          c.loop-distance-test.true c.requires.within a;
     }
 
 pub returns-clause-unmaps : goal.returns-clause-unmaps

@@ -2,7 +2,6 @@ use Rattle.std.proofs.Common.{◌≡◌, ℕ, ◌+◌, refl, subst, ◌∙◌, a
 use Rattle.std.proofs.lemmas.Bool.{eqb-true}
 use Rattle.std.proofs.lemmas.Nat.{le_or_l, le_or_r}
 use Rattle.mk_words.specs.States.{PassState}
-use Rattle.mk_words.specs.TurnSteps.{IsTurn}
 use Rattle.mk_objects.specs.Unmapping.{WipesTo}
 use Rattle.mk_objects.proofs.UnmappedRuns.{found_wiped, look_may, looks_then}
 use Rattle.mk_objects.proofs.WipedRuns.{wiped_from}
@@ -30,13 +29,10 @@ loop-word-preserved c =
     let word : ℕ = c.loop-word.word in
     let q : PassState = c.look_among-all.new.self.pass in
     let found : ℕ = c.look_among-all.result in
-    let holds = subst (λ o. IsTurn c.loop-word.turn.pass o) i.op c.is_in_order-in-loop-word.ensures.turn in
-    let near : ℕ → Type 0 = λ n. WipesTo p c.args.run n c.loop-word.turn.pass in
     let seen : (n : ℕ) → WipesTo p c.args.run n c.loop-word.turn.pass → WipesTo p c.args.run n q =
     λ n reached. looks_then p c.args.turn.now.op c.args.run c.is_in_order.ensures.turn may.decided may.stopped
-    c.loop-word.turn.pass q n word reached holds (omega (arith, group, c.loop-word-test.true)) may.few may.unmapped
-    c.look_among-all.ensures.acts c.is_in_order-in-loop-word.ensures.own
-    c.is_in_order-in-loop-word-2.ensures.history in
+    c.loop-word.turn.pass q n word reached (omega (arith, group, c.loop-word-test.true)) may.few may.unmapped
+    c.look_among-all.ensures.acts in
     record {
       op = c.look_among-all.ensures.op ∙ i.op;
       still = seen c.args.first i.still;

@@ -1,6 +1,5 @@
 use Rattle.std.proofs.Common.{◌≡◌, ◌+◌, ◌*◌, ◌<◌, refl, sym, ap, subst, ◌∙◌, arith}
 use Rattle.mk_words.specs.States.{PassState, TurnState}
-use Rattle.mk_words.specs.TurnSteps.{IsTurn}
 use Rattle.mk_objects.specs.Unmapping.{WipesTo}
 use Rattle.mk_objects.proofs.UnmappedRuns.{found_wiped, look_may, looks_then, wipe_may, wipes_on}
 use Rattle.mk_objects.proofs.WipedRuns.{wiped_from}
@@ -23,14 +22,12 @@ look_among-found-requires-clause-enabled c =
 pub wipe-requires-clause-enabled : goal.wipe-requires-clause-enabled
 wipe-requires-clause-enabled c =
     let p : PassState = c.args.turn.now.pass in
-    let holds = subst (λ o. IsTurn c.loop-word.turn.pass o) c.loop-word.invariant.op
-    c.is_in_order-in-loop-word.ensures.turn in
     wipe_may p c.args.turn.now.op c.args.run c.is_in_order.ensures.turn c.requires.may.decided c.requires.may.stopped
     c.look_among-found.new.self.pass c.loop-word.word
     (looks_then p c.args.turn.now.op c.args.run c.is_in_order.ensures.turn c.requires.may.decided c.requires.may.stopped
     c.loop-word.turn.pass c.look_among-found.new.self.pass c.loop-word.word c.loop-word.word c.loop-word.invariant.wiped
-    holds (omega (arith, c.requires.group, c.loop-word-test.true)) c.requires.may.few c.requires.may.unmapped c.look_among-found.ensures.acts
-    c.is_in_order-in-loop-word.ensures.own c.is_in_order-in-loop-word-2.ensures.history)
+    (omega (arith, c.requires.group, c.loop-word-test.true)) c.requires.may.few c.requires.may.unmapped
+    c.look_among-found.ensures.acts)
     c.requires.may.freed c.requires.may.unmapped
     (omega (arith, c.requires.group, c.loop-word-test.true)) c.requires.may.within
 
@@ -40,23 +37,18 @@ loop-word-preserved c =
     let i = c.loop-word.invariant in
     let n = c.loop-word.word in
     let q : PassState = c.look_among-found.new.self.pass in
-    let holds = subst (λ o. IsTurn c.loop-word.turn.pass o) i.op c.is_in_order-in-loop-word.ensures.turn in
     let near : n < 64 * c.args.run.count = omega (arith, c.requires.group, c.loop-word-test.true) in
     let seen = looks_then p c.args.turn.now.op c.args.run c.is_in_order.ensures.turn c.requires.may.decided
-    c.requires.may.stopped c.loop-word.turn.pass q n n i.wiped holds near c.requires.may.few
-    c.requires.may.unmapped c.look_among-found.ensures.acts c.is_in_order-in-loop-word.ensures.own
-    c.is_in_order-in-loop-word-2.ensures.history in
+    c.requires.may.stopped c.loop-word.turn.pass q n n i.wiped near c.requires.may.few
+    c.requires.may.unmapped c.look_among-found.ensures.acts in
     elim c.if-found-ne0.branch [
       | then-found-ne0 w ↦
-          let still = subst (λ o. IsTurn q o) (c.look_among-found.ensures.op ∙ i.op)
-          c.is_in_order-in-loop-word-2.ensures.turn in
           record {
             op = ap (λ (t : TurnState). t.op) w.turn-is ∙ w.wipe.ensures.op ∙ c.look_among-found.ensures.op ∙ i.op;
             wiped = subst (λ (t : TurnState). WipesTo p c.args.run (n + 1) t.pass) (sym w.turn-is)
                 (wipes_on p c.args.turn.now.op c.args.run c.is_in_order.ensures.turn c.requires.may.decided
-                c.requires.may.stopped q w.wipe.new.self.pass n seen still near c.requires.may.within
-                w.wipe.ensures.acts c.is_in_order-in-loop-word-2.ensures.own
-                w.is_in_order-then-found-ne0.ensures.history);
+                c.requires.may.stopped q w.wipe.new.self.pass n seen near c.requires.may.within
+                w.wipe.ensures.acts);
           }
       | else-found-ne0 w ↦
           record {

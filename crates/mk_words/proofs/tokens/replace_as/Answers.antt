@@ -38,8 +38,7 @@ pub returns-clause-finds : goal.returns-clause-finds
 returns-clause-finds g c =
     let t = c.args.token.now in
     perform_finds t.table_id c.swap_as.new.token.table_id t.me c.swap_as.new.token.me c.args.seat c.args.step
-    c.swap_as.result g.J.Making.event
-    c.swap_as.ensures.table c.requires.picked c.swap_as.ensures.told
+    c.swap_as.result g.J.Making.event c.swap_as.ensures.table c.requires.picked c.requires.order c.swap_as.ensures.told
 
 pub returns-clause-order : goal.returns-clause-order
 returns-clause-order g c =

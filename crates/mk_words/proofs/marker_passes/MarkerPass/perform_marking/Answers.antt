@@ -26,7 +26,7 @@ invariant_of-self c =
     let same = ap (λ (r : PassState). r.table.config) c.self.view_is
     ∙ ap (λ (w : WordsState). w.config) (c.requires.one_table ∙ sym c.words.view_is) in
     let m =
-    marks p.own c.args.step f.result f.new.self f.ensures.told f.ensures.own f.ensures.history c.requires.kind in
+    marks p.own c.args.step f.result f.new.self f.ensures.told c.requires.kind in
     c.marker_behind-self-inside.ensures
     ∙ ap (λ (d : Config). marker_behind d f.result c.args.step p.marker) (sym same)
     ∙ ap (λ (x : MarkerState). marker_behind p.own.table.config f.result c.args.step x) c.self.invariant
@@ -37,4 +37,4 @@ returns c =
     let p = c.self.inside in
     let f = c.perform-found in
     subst (λ (r : PassState). Marks r c.args.step f.result f.new.self) c.self.view_is
-    (marks p.own c.args.step f.result f.new.self f.ensures.told f.ensures.own f.ensures.history c.requires.kind)
+    (marks p.own c.args.step f.result f.new.self f.ensures.told c.requires.kind)

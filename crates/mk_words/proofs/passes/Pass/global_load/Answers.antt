@@ -9,10 +9,10 @@ use Rattle.mk_words.proofs.passes.Pass.global_load.Goals as goal
 pub returns-clause-goes : goal.returns-clause-goes
 returns-clause-goes c =
     let f = c.perform in
-    goes_on c.args.self.now step.Getg f.result f.new.self f.ensures.told f.ensures.own f.ensures.history refl _
+    goes_on c.args.self.now step.Getg f.result f.new.self f.ensures.told refl _
     (ap (λ (i : ℕ). progress_getg (call_of c.args.self.now) i) (sym f.ensures.told.tells))
 
 pub returns-clause-registers : goal.returns-clause-registers
 returns-clause-registers c =
     let f = c.perform in
-    keeps c.args.self.now step.Getg f.result f.new.self f.ensures.told f.ensures.own f.ensures.history refl refl
+    keeps c.args.self.now step.Getg f.result f.new.self f.ensures.told refl refl

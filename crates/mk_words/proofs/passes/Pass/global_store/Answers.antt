@@ -6,9 +6,9 @@ use Rattle.mk_words.proofs.passes.Pass.global_store.Goals as goal
 pub returns-clause-goes : goal.returns-clause-goes
 returns-clause-goes c =
     let f = c.perform in
-    goes_on c.args.self.now step.Setg f.result f.new.self f.ensures.told f.ensures.own f.ensures.history refl _ refl
+    goes_on c.args.self.now step.Setg f.result f.new.self f.ensures.told refl _ refl
 
 pub returns-clause-registers : goal.returns-clause-registers
 returns-clause-registers c =
     let f = c.perform in
-    keeps c.args.self.now step.Setg f.result f.new.self f.ensures.told f.ensures.own f.ensures.history refl refl
+    keeps c.args.self.now step.Setg f.result f.new.self f.ensures.told refl refl

@@ -9,11 +9,11 @@ use Rattle.mk_words.proofs.passes.Pass.read.Goals as goal
 pub returns-clause-goes : goal.returns-clause-goes
 returns-clause-goes c =
     let f = c.perform_among in
-    goes_on c.args.self.now step.Read f.result f.new.self f.ensures.told f.ensures.own f.ensures.history refl _
+    goes_on c.args.self.now step.Read f.result f.new.self f.ensures.told refl _
     (ap (λ (i : ℕ). progress_read (call_of c.args.self.now) (call_of c.args.self.now).op i)
     (sym f.ensures.told.tells))
 
 pub returns-clause-registers : goal.returns-clause-registers
 returns-clause-registers c =
     let f = c.perform_among in
-    keeps c.args.self.now step.Read f.result f.new.self f.ensures.told f.ensures.own f.ensures.history refl refl
+    keeps c.args.self.now step.Read f.result f.new.self f.ensures.told refl refl

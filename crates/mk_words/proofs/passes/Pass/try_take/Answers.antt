@@ -11,50 +11,41 @@ invariant_of-result c =
     as_carried h.pass _ _ c.begin.ensures
     (record {
       turn =
-          takes p c.args.op 0 h.pass h.ensures.taken c.is_in_order.ensures.own c.is_in_order-in-Ok.ensures.history refl;
-      knows = fresh_knows h.pass c.args.op
-          (takes_fresh p c.args.op 0 h.pass h.ensures.taken c.is_in_order.ensures.own
-          c.is_in_order-in-Ok.ensures.history refl);
+          takes p c.args.op 0 h.pass h.ensures.taken refl;
+      knows = fresh_knows h.pass c.args.op (takes_fresh p c.args.op 0 h.pass h.ensures.taken refl);
       shows = shows_that _ _ _ (ap (λ (k : Carried). k.map) c.deref_mut.ensures.value) h.ensures.map;
     })
 
 pub returns-in-Ok-clause-made : goal.returns-in-Ok-clause-made
 returns-in-Ok-clause-made c =
-    take_finds c.args.self c.args.op 0 c.in-Ok.pass (rw (sym c.self.view_is) c.in-Ok.ensures.taken)
-    (rw (sym c.self.view_is) c.is_in_order.ensures.own) c.is_in_order-in-Ok.ensures.history 0 refl
+    take_finds c.args.self c.args.op 0 c.in-Ok.pass (rw (sym c.self.view_is) c.in-Ok.ensures.taken) 0 refl
 
 pub returns-in-Ok-clause-fresh : goal.returns-in-Ok-clause-fresh
 returns-in-Ok-clause-fresh c =
-    takes_fresh c.args.self c.args.op 0 c.in-Ok.pass (rw (sym c.self.view_is) c.in-Ok.ensures.taken)
-    (rw (sym c.self.view_is) c.is_in_order.ensures.own) c.is_in_order-in-Ok.ensures.history refl
+    takes_fresh c.args.self c.args.op 0 c.in-Ok.pass (rw (sym c.self.view_is) c.in-Ok.ensures.taken) refl
 
 pub returns-in-Ok-clause-exact : goal.returns-in-Ok-clause-exact
 returns-in-Ok-clause-exact c =
     (take_counts c.args.self c.args.op 0 c.in-Ok.pass (rw (sym c.self.view_is) c.in-Ok.ensures.taken)
-    (rw (sym c.self.view_is) c.is_in_order.ensures.own) c.is_in_order-in-Ok.ensures.history
-    c.is_in_order-in-Ok.ensures.tidy refl).0
+    c.is_in_order.ensures.tidy refl).0
 
 pub returns-in-Ok-clause-tidy : goal.returns-in-Ok-clause-tidy
 returns-in-Ok-clause-tidy c =
     (take_counts c.args.self c.args.op 0 c.in-Ok.pass (rw (sym c.self.view_is) c.in-Ok.ensures.taken)
-    (rw (sym c.self.view_is) c.is_in_order.ensures.own) c.is_in_order-in-Ok.ensures.history
-    c.is_in_order-in-Ok.ensures.tidy refl).1
+    c.is_in_order.ensures.tidy refl).1
 
 pub returns-in-Err-clause-busy : goal.returns-in-Err-clause-busy
 returns-in-Err-clause-busy c =
     let h = c.in-Err in
-    take_finds c.args.self c.args.op h.found h.own (rw (sym c.self.view_is) h.ensures.missed)
-    (rw (sym c.self.view_is) c.is_in_order.ensures.own) c.is_in_order-in-Err.ensures.history _ (omega
+    take_finds c.args.self c.args.op h.found h.own (rw (sym c.self.view_is) h.ensures.missed) _ (omega
     (arith, h.ensures.another))
 
 pub returns-in-Err-clause-stays : goal.returns-in-Err-clause-stays
 returns-in-Err-clause-stays c =
     let h = c.in-Err in
-    (take_waits c.args.self c.args.op h.found h.own (rw (sym c.self.view_is) h.ensures.missed)
-    (rw (sym c.self.view_is) c.is_in_order.ensures.own) c.is_in_order-in-Err.ensures.history h.ensures.another).0
+    (take_waits c.args.self c.args.op h.found h.own (rw (sym c.self.view_is) h.ensures.missed) h.ensures.another).0
 
 pub returns-in-Err-clause-again : goal.returns-in-Err-clause-again
 returns-in-Err-clause-again c =
     let h = c.in-Err in
-    (take_waits c.args.self c.args.op h.found h.own (rw (sym c.self.view_is) h.ensures.missed)
-    (rw (sym c.self.view_is) c.is_in_order.ensures.own) c.is_in_order-in-Err.ensures.history h.ensures.another).1
+    (take_waits c.args.self c.args.op h.found h.own (rw (sym c.self.view_is) h.ensures.missed) h.ensures.another).1

@@ -7,4 +7,4 @@ pub invariant_of-self : goal.invariant_of-self
 invariant_of-self c =
     let f = c.head in
     still_stopped c.self.inside.turn.pass (step.Head c.args.page c.args.v) f.new.self.pass f.ensures.acts refl
-    c.is_in_order.ensures.turn.holds c.self.invariant
+    c.self.invariant

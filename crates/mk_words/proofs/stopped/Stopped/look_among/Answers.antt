@@ -6,5 +6,4 @@ use Rattle.mk_words.proofs.stopped.Stopped.look_among.Goals as goal
 pub invariant_of-self : goal.invariant_of-self
 invariant_of-self c =
     let f = c.look_among in
-    still_stopped c.self.inside.turn.pass (step.Look c.args.x) f.new.self.pass f.ensures.acts refl
-    c.is_in_order.ensures.turn.holds c.self.invariant
+    still_stopped c.self.inside.turn.pass (step.Look c.args.x) f.new.self.pass f.ensures.acts refl c.self.invariant

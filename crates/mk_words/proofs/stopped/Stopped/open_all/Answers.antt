@@ -19,7 +19,7 @@ loop-caller-preserved c =
     let o = c.open_other.ensures in
     let lt = c.loop-caller-test.true in
     let r = one_round c.args.self.pass c.loop-caller.turn.pass c.open_other.new.turn.pass c.loop-caller.caller inv.opens
-    inv.may inv.opened o.opened o.same o.own o.before o.behind in
+    inv.may inv.opened o.opened o.same in
     record { within = omega arith; op = o.op ∙ inv.op; opens = r.opens; may = r.may; opened = r.opened }
 
 pub returns-clause-gates : goal.returns-clause-gates

@@ -4,5 +4,4 @@ use Rattle.mk_words.proofs.stopped.Stopped.perform.Goals as goal
 pub invariant_of-self : goal.invariant_of-self
 invariant_of-self c =
     let f = c.perform in
-    still_stopped c.self.inside.turn.pass c.args.step f.new.self.pass f.ensures.acts c.requires.stays
-    c.is_in_order.ensures.turn.holds c.self.invariant
+    still_stopped c.self.inside.turn.pass c.args.step f.new.self.pass f.ensures.acts c.requires.stays c.self.invariant

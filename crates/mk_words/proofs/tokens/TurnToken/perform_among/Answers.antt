@@ -1,6 +1,5 @@
 use Rattle.std.proofs.Common.{◌≡◌, ◌∙◌, sym, subst}
 use Rattle.mk_core.specs.Accesses.{word_accessed, access}
-use Rattle.mk_words.specs.Seats.{Has}
 use Rattle.mk_words.specs.States.{PassState, now_of, event_of}
 use Rattle.mk_words.specs.Passes.{state_of}
 use Rattle.mk_words.specs.Steps.{May, Tells}
@@ -30,14 +29,10 @@ invariant_of-self c = record {
       (c.self.invariant.slot.0, c.perform_as.ensures.slots ∙ c.self.invariant.slot.1);
 }
 
-pub returns-clause-told : goal.returns-clause-told
-returns-clause-told c =
+pub returns : goal.returns
+returns c =
     let f = c.perform_as in
-    subst (λ (r : PassState). Tells r c.args.step f.result
-    (state_of f.new.token.table_id f.new.token.me c.self.inside.seat)) c.self.view_is f.ensures.told
-
-pub returns-clause-own : goal.returns-clause-own
-returns-clause-own c = subst (λ (r : PassState). Has r.seats r.seat) c.self.view_is c.self.invariant.order.own
-
-pub returns-clause-history : goal.returns-clause-history
-returns-clause-history c = c.perform_as.ensures.order.history
+    record {
+      told = subst (λ (r : PassState). Tells r c.args.step f.result
+          (state_of f.new.token.table_id f.new.token.me c.self.inside.seat)) c.self.view_is f.ensures.told;
+    }

@@ -10,10 +10,8 @@ returns-clause-acts c =
     let f = c.give-own in
     let t = c.self.inside in
     subst (λ (v : TurnState). Acts v.pass step.Give f.result) c.self.view_is
-    (acts t.pass step.Give f.result f.ensures c.is_in_order.ensures.own c.is_in_order-2.ensures.history
-    c.self.invariant.turn.holds)
+    (acts t.pass step.Give f.result f.ensures c.self.invariant.turn.holds)
 
 pub returns-clause-rests : goal.returns-clause-rests
 returns-clause-rests c =
-    gives_rest c.self.inside.pass c.give-own.result c.give-own.ensures c.is_in_order.ensures.own
-    c.is_in_order-2.ensures.history
+    gives_rest c.self.inside.pass c.give-own.result c.give-own.ensures

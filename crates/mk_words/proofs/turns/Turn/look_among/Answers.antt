@@ -14,14 +14,11 @@ invariant_of-self c =
     let f = c.perform_among in
     let t = c.self.inside in
     let s : Step = step.Look c.args.x in
-    let a = acts t.pass s f.new.self f.ensures.told.makes f.ensures.own f.ensures.history c.self.invariant.turn.holds in
+    let a = acts t.pass s f.new.self f.ensures.told.makes c.self.invariant.turn.holds in
     record {
-      turn = still_turn t.pass s f.new.self f.ensures.told.makes f.ensures.own f.ensures.history t.carried.value.op refl
-          c.self.invariant.turn;
+      turn = still_turn t.pass s f.new.self f.ensures.told.makes t.carried.value.op refl c.self.invariant.turn;
       knows = knows_still t.pass s f.new.self a t.carried.value.cell refl refl c.self.invariant.knows;
-      shows = shows_still t.pass s f.new.self
-          (record { acts = a; own = f.ensures.own; history = f.ensures.history; holds = c.self.invariant.turn.holds })
-          t.carried.value.map refl c.self.invariant.shows;
+      shows = shows_still t.pass s f.new.self a t.carried.value.map refl c.self.invariant.shows;
     }
 
 pub returns-clause-acts : goal.returns-clause-acts
@@ -30,7 +27,7 @@ returns-clause-acts c =
     let t = c.self.inside in
     let s : Step = step.Look c.args.x in
     subst (λ (v : TurnState). Acts v.pass s f.new.self) c.self.view_is
-    (acts t.pass s f.new.self f.ensures.told.makes f.ensures.own f.ensures.history c.self.invariant.turn.holds)
+    (acts t.pass s f.new.self f.ensures.told.makes c.self.invariant.turn.holds)
 
 pub returns-clause-finds : goal.returns-clause-finds
 returns-clause-finds c =

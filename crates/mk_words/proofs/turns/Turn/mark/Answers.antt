@@ -22,14 +22,11 @@ invariant_of-self c =
     let t = c.self.inside in
     let held = as_carried _ _ _ c.deref_mut.ensures.value c.self.invariant in
     let s : Step = step.Mark c.args.page c.args.v in
-    let a = acts t.pass s f.new.self f.ensures.told.makes f.ensures.own f.ensures.history c.self.invariant.turn.holds in
+    let a = acts t.pass s f.new.self f.ensures.told.makes c.self.invariant.turn.holds in
     record {
-      turn = still_turn t.pass s f.new.self f.ensures.told.makes f.ensures.own f.ensures.history
-          c.deref_mut.result.now.op refl held.turn;
+      turn = still_turn t.pass s f.new.self f.ensures.told.makes c.deref_mut.result.now.op refl held.turn;
       knows = knows_still t.pass s f.new.self a c.deref_mut.result.now.cell refl refl held.knows;
-      shows = shows_mark t.pass c.args.page c.args.v f.new.self
-          (record { acts = a; own = f.ensures.own; history = f.ensures.history; holds = c.self.invariant.turn.holds })
-          c.deref_mut.result.now.map c.marked.new.self
+      shows = shows_mark t.pass c.args.page c.args.v f.new.self a c.deref_mut.result.now.map c.marked.new.self
           (record {
             shows = c.marked.ensures.shows;
             marked = c.marked.ensures.marked;
@@ -44,4 +41,4 @@ returns-clause-acts c =
     let t = c.self.inside in
     let s : Step = step.Mark c.args.page c.args.v in
     subst (λ (v : TurnState). Acts v.pass s f.new.self) c.self.view_is
-    (acts t.pass s f.new.self f.ensures.told.makes f.ensures.own f.ensures.history c.self.invariant.turn.holds)
+    (acts t.pass s f.new.self f.ensures.told.makes c.self.invariant.turn.holds)

@@ -14,16 +14,13 @@ pub invariant_of-self : goal.invariant_of-self
 invariant_of-self c =
     let f = c.perform in
     let t = c.self.inside in
-    let a = acts t.pass c.args.step f.new.self f.ensures.told.makes f.ensures.own f.ensures.history
-    c.self.invariant.turn.holds in
+    let a = acts t.pass c.args.step f.new.self f.ensures.told.makes c.self.invariant.turn.holds in
     record {
-      turn = still_turn t.pass c.args.step f.new.self f.ensures.told.makes f.ensures.own f.ensures.history
+      turn = still_turn t.pass c.args.step f.new.self f.ensures.told.makes
           t.carried.value.op c.requires.stays c.self.invariant.turn;
       knows = knows_still t.pass c.args.step f.new.self a t.carried.value.cell c.requires.stays
           (takes_none c.args.step c.requires.untold) c.self.invariant.knows;
-      shows = shows_still t.pass c.args.step f.new.self
-          (record { acts = a; own = f.ensures.own; history = f.ensures.history; holds = c.self.invariant.turn.holds })
-          t.carried.value.map c.requires.untold c.self.invariant.shows;
+      shows = shows_still t.pass c.args.step f.new.self a t.carried.value.map c.requires.untold c.self.invariant.shows;
     }
 
 pub returns-clause-acts : goal.returns-clause-acts
@@ -31,5 +28,4 @@ returns-clause-acts c =
     let f = c.perform in
     let t = c.self.inside in
     subst (λ (v : TurnState). Acts v.pass c.args.step f.new.self) c.self.view_is
-    (acts t.pass c.args.step f.new.self f.ensures.told.makes f.ensures.own f.ensures.history
-    c.self.invariant.turn.holds)
+    (acts t.pass c.args.step f.new.self f.ensures.told.makes c.self.invariant.turn.holds)

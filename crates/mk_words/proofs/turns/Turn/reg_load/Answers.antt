@@ -4,17 +4,15 @@ use Rattle.mk_words.proofs.turns.Turn.reg_load.Goals as goal
 pub returns-clause-finds : goal.returns-clause-finds
 returns-clause-finds c =
     let f = c.perform in
-    load_finds c.args.self.now.pass f.result f.new.self.pass f.ensures.told f.ensures.own f.ensures.history c.args.r
+    load_finds c.args.self.now.pass f.result f.new.self.pass f.ensures.told c.args.r
     c.requires.register c.requires.loads
 
 pub returns-clause-goes : goal.returns-clause-goes
 returns-clause-goes c =
     let f = c.perform in
-    load_goes c.args.self.now.pass f.result f.new.self.pass f.ensures.told f.ensures.own f.ensures.history c.args.r
-    c.requires.register c.requires.loads
+    load_goes c.args.self.now.pass f.result f.new.self.pass f.ensures.told c.args.r c.requires.register c.requires.loads
 
 pub returns-clause-own : goal.returns-clause-own
 returns-clause-own c =
     let f = c.perform in
-    load_own c.args.self.now.pass f.result f.new.self.pass f.ensures.told f.ensures.own f.ensures.history c.args.r
-    c.requires.register c.requires.loads
+    load_own c.args.self.now.pass f.result f.new.self.pass f.ensures.told c.args.r c.requires.register c.requires.loads

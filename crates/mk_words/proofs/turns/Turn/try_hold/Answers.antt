@@ -10,20 +10,18 @@ returns-then-found-eq0-clause-found c =
 pub returns-then-found-eq0-clause-held : goal.returns-then-found-eq0-clause-held
 returns-then-found-eq0-clause-held c =
     let f = c.perform-found in
-    hold_holds c.args.self.now.pass c.args.caller f.result f.new.self.pass f.ensures.told f.ensures.own
-    f.ensures.history c.if-found-eq0.true
+    hold_holds c.args.self.now.pass c.args.caller f.result f.new.self.pass f.ensures.told c.if-found-eq0.true
 
 pub returns-else-found-eq0-clause-in_call : goal.returns-else-found-eq0-clause-in_call
 returns-else-found-eq0-clause-in_call c =
     let f = c.perform-found in
     record {
       makes = f.ensures.told.makes;
-      finds = sym (hold_finds c.args.self.now.pass c.args.caller f.result f.new.self.pass f.ensures.told f.ensures.own
-          f.ensures.history c.if-found-eq0.false) ∙ f.ensures.told.tells;
+      finds = sym (hold_finds c.args.self.now.pass c.args.caller f.result f.new.self.pass f.ensures.told
+          c.if-found-eq0.false) ∙ f.ensures.told.tells;
     }
 
 pub returns-else-found-eq0-clause-not_held : goal.returns-else-found-eq0-clause-not_held
 returns-else-found-eq0-clause-not_held c =
     let f = c.perform-found in
-    hold_misses c.args.self.now.pass c.args.caller f.result f.new.self.pass f.ensures.told f.ensures.own
-    f.ensures.history c.if-found-eq0.false
+    hold_misses c.args.self.now.pass c.args.caller f.result f.new.self.pass f.ensures.told c.if-found-eq0.false

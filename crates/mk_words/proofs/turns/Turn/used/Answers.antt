@@ -24,19 +24,13 @@ invariant_of-self c =
     let s = step.Used c.args.page c.args.v in
     let makes = f.ensures.finds.makes in
     record {
-      turn = still_turn t.pass s f.new.self makes f.ensures.own f.ensures.history c.deref_mut-carried.result.now.op
-          refl held.turn;
+      turn = still_turn t.pass s f.new.self makes c.deref_mut-carried.result.now.op refl held.turn;
       knows = subst (λ (cell : Option Cell). KnowsCell f.new.self cell) (sym c.cell_behind-carried.ensures)
-          (used_turn t.pass c.args.page c.args.v f.result f.new.self makes f.ensures.own f.ensures.history
+          (used_turn t.pass c.args.page c.args.v f.result f.new.self makes
           c.deref_mut-carried.result.now.cell c.self.invariant.turn.holds f.ensures.finds.finds c.ranges.v.fits
           held.knows);
       shows = shows_used t.pass c.args.page c.args.v f.new.self
-          (record {
-            acts = acts t.pass s f.new.self makes f.ensures.own f.ensures.history c.self.invariant.turn.holds;
-            own = f.ensures.own;
-            history = f.ensures.history;
-            holds = c.self.invariant.turn.holds;
-          })
+          (acts t.pass s f.new.self makes c.self.invariant.turn.holds)
           c.deref_mut-carried.result.now.map c.used_stored.new.self
           (record { shows = c.used_stored.ensures.shows; uncleaned = c.used_stored.ensures.uncleaned })
           (used_known t.pass c.args.page c.args.v c.deref_mut-carried.result.now.map
@@ -50,5 +44,4 @@ returns-clause-acts c =
     let t = c.self.inside in
     let f = c.replace-found in
     subst (λ (v : TurnState). Acts v.pass (step.Used c.args.page c.args.v) f.new.self) c.self.view_is
-    (acts t.pass (step.Used c.args.page c.args.v) f.new.self f.ensures.finds.makes f.ensures.own f.ensures.history
-    c.self.invariant.turn.holds)
+    (acts t.pass (step.Used c.args.page c.args.v) f.new.self f.ensures.finds.makes c.self.invariant.turn.holds)
