@@ -35,7 +35,7 @@ acting p o turn u = acting_now p o turn (new_is_acting (call_of p) u.new)
 pub looked : (p q : PassState) (o : Option Op) (x : Word) → IsTurn p o → IsUnplaced p → is_steady_word x ≡ true
     → Acts p (step.Look x) q → Has p.seats p.seat → IsHistory q.table.config q.seen → OnlyLooks p q
 looked p q o x turn u steady a own history =
-    look_reaches p q o x turn (new_is_acting (call_of p) u.new) (steady_is_plain x steady) a own history
+    look_reaches p q o x turn (new_is_acting (call_of p) u.new) (steady_is_plain x steady) a
 
 -- Looks leave what was seen.
 

@@ -44,14 +44,14 @@ others_overs c seats es fs h g has =
     ap has_over g.is ∙ no_more_overs es g.more (none_over c (left c es) seats g.more has g.of_others on.1)
 
 -- Nor has a step that isn't one, with the events of others before it.
-pub step_overs : (p q : PassState) (s : Step) → Makes p s q → Has p.seats Host → IsHistory q.table.config q.seen
-    → is_over s ≡ false → has_over q.seen ≡ has_over p.seen
-step_overs p q s m has history out =
+pub step_overs : (p q : PassState) (s : Step) → Makes p s q → Has p.seats Host → is_over s ≡ false
+    → has_over q.seen ≡ has_over p.seen
+step_overs p q s m has out =
     let c : Config = p.table.config in
     let es : List Event = p.seen ++ m.others in
     let e : Event = event_of p s in
     let long : IsHistory c (es ++ e ∷ []) =
-    subst (λ (r : PassState). IsHistory r.table.config r.seen) m.is history in
+    subst (λ (r : PassState). IsHistory r.table.config r.seen) m.is m.pass.history in
     let on = (enabled_in_parts c p.seen m.others).0 (earlier_part_is_history c es (e ∷ []) long).enabled in
     ap (λ (r : PassState). has_over r.seen) m.is
     ∙ no_more_overs es (e ∷ []) (none_besides (is_over s) false refl ∙ out)

@@ -57,23 +57,24 @@ fresh_free p f =
 
 -- The look at the phase finds it, and keeps all.
 
-pub phase_found : (p q : PassState) (n : ℕ) → InTurn p → IsHistory q.table.config q.seen
-    → Finds p (step.Look word.Phase) n q → n % 8 ≡ phase_of (now_of p).words
-phase_found p q n t history f =
-    let there = made p (step.Look word.Phase) q f.makes t.own history in
+pub phase_found : (p q : PassState) (n : ℕ) → InTurn p → Finds p (step.Look word.Phase) n q
+    → n % 8 ≡ phase_of (now_of p).words
+phase_found p q n t f =
+    let there = made p (step.Look word.Phase) q f.makes in
     ap (λ (i : ℕ). i % 8) f.finds ∙ ap (λ (s : Steady). s.phase) ((there.frame.turn t.holds).0).steady
 
-pub look_keeps : (p q : PassState) → InTurn p → IsFreeForCycle p → IsHistory q.table.config q.seen
-    → Acts p (step.Look word.Phase) q → LeavesTurn unchanged p q
-look_keeps p q t free history a = calm_keeps p (step.Look word.Phase) q a t history refl free unchanged refl
+pub look_keeps : (p q : PassState) → InTurn p → IsFreeForCycle p → Acts p (step.Look word.Phase) q
+    → LeavesTurn unchanged p q
+look_keeps p q t free a =
+    calm_keeps p (step.Look word.Phase) q a t a.makes.pass.history refl free unchanged refl
 
 -- So it reports whether a cycle is on, which is finished then.
 
 pub none_is_on : (p q : PassState) (n : ℕ) → InTurn p → IsFresh p None → has_over p.seen ≡ false
-    → IsHistory q.table.config q.seen → Finds p (step.Look word.Phase) n q → (n % 8 ≡ 1 → ⊥) → IsAtPhase p 0
-none_is_on p q n t fresh before history f other = elim (fresh_phase p fresh t.history before) [
+    → Finds p (step.Look word.Phase) n q → (n % 8 ≡ 1 → ⊥) → IsAtPhase p 0
+none_is_on p q n t fresh before f other = elim (fresh_phase p fresh t.history before) [
   | inl none ↦ none
-  | inr on ↦ absurd (other (phase_found p q n t history f ∙ on))
+  | inr on ↦ absurd (other (phase_found p q n t f ∙ on))
 ]
 
 pub ends_none : (p q : PassState) (n : ℕ) → Finds p (step.Look word.Phase) n q → IsAtPhase p 0 → EndsCycle p q
@@ -143,11 +144,11 @@ none_held_kept p q is keeps none =
 
 -- What is idle: a turn in which the look found no cycle on, and one in which a cycle was finished.
 
-pub looked_idle : (p q : PassState) → p.seat ≡ Host → InTurn p → IsFresh p None → IsHistory q.table.config q.seen
+pub looked_idle : (p q : PassState) → p.seat ≡ Host → InTurn p → IsFresh p None
     → Acts p (step.Look word.Phase) q → IsAtPhase p 0 → TalliesAreExact p.table.config p.seen
     → TalliesAreTidy p.table.config p.seen → IsIdleTurn q
-looked_idle p q host t f history a none exact tidy =
-    let keeps = look_keeps p q t (fresh_free p f) history a in
+looked_idle p q host t f a none exact tidy =
+    let keeps = look_keeps p q t (fresh_free p f) a in
     let less = keeps_less unchanged but_phase p q keeps in
     record {
       seat = ap (λ (r : PassState). r.seat) keeps.call.pass ∙ host;

@@ -42,7 +42,7 @@ module _ (p q : PassState) (t : InTurn p) (idle : IsIdleTurn p) (u : InTurn q) (
 
   phase_there : (w.now.words.phase + 5) % 2 ^ 64 % 8 ≡ 5
   phase_there =
-      let there = (made p step.Over q a.makes t.own u.history).protocol in
+      let there = (made p step.Over q a.makes).protocol in
       let low : w.now.words.phase % 8 ≡ 0 = ap (λ (s : Steady). s.phase) a.turn.steady ∙ idle.phase in
       let few : count_by is_in w.now.seats.markers ≤ 8 =
       subst (λ (n : ℕ). count_by is_in w.now.seats.markers ≤ n) there.markers

@@ -91,9 +91,9 @@ given_phase p q a = ap (λ (w : World). phase_of w.now.words) a.world ∙ ap (λ
 
 -- A turn of the host's that is fresh but for a look may be given back.
 pub looked_may_give : (p q : PassState) (x : Word) → p.seat ≡ Host → InTurn p → IsFresh p None
-    → IsHistory q.table.config q.seen → Acts p (step.Look x) q → TalliesAreExact p.table.config p.seen → MayGive q
-looked_may_give p q x host t f history a exact =
-    let keeps = calm_keeps p (step.Look x) q a t history refl (fresh_free p f) unchanged refl in
+    → Acts p (step.Look x) q → TalliesAreExact p.table.config p.seen → MayGive q
+looked_may_give p q x host t f a exact =
+    let keeps = calm_keeps p (step.Look x) q a t a.makes.pass.history refl (fresh_free p f) unchanged refl in
     record {
       seat = ap (λ (r : PassState). r.seat) keeps.call.pass ∙ host;
       phase = ap (λ (s : Steady). has_phase s.phase step.Give) keeps.steady ∙ f.phase;

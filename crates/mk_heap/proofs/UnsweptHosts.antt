@@ -29,10 +29,10 @@ pub idle_then_sweeps : (p idle q : PassState) → TakesIdleTurn p idle → Sweep
 idle_then_sweeps p idle q takes one two = moved_then_sweeps p idle q (idle_moves p idle takes) one two
 
 -- a step more, and the `give`
-pub given_sweeps : (p q r : PassState) (s : Step) → Makes p s q → Makes q step.Give r → Has p.seats p.seat
-    → Has q.seats q.seat → is_mark s ≡ false → SweepsNothing p r
-given_sweeps p q r s m give own_p own_q other =
-    step_then_sweeps p q r s m own_p other (other_step_sweeps q r step.Give give own_q refl)
+pub given_sweeps : (p q r : PassState) (s : Step) → Makes p s q → Makes q step.Give r → is_mark s ≡ false
+    → SweepsNothing p r
+given_sweeps p q r s m give other =
+    step_then_sweeps p q r s m other (other_step_sweeps q r step.Give give refl)
 
 -- Who is joined has seen none of its steps.
 pub grown_sweeps : (p q : PassState) → Has p.seats p.seat → Grows p.seats p.seen q.seen → SweepsNothing p q

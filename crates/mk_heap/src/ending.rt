@@ -47,9 +47,7 @@ impl Host {
         let mut turn = take_idle_turn(rt, words, home, bench);
         turn.is_in_order();
         turn.over(words);
-        turn.is_in_order();
         let back = turn.give(words);
-        back.is_in_order();
         self.pass = Some(back);
     }
 
@@ -85,7 +83,6 @@ impl Host {
         let (turn, _) = finish_cycle(rt, words, turn, bench);
         turn.is_in_order();
         let back = turn.give(words);
-        back.is_in_order();
         self.pass = Some(back);
     }
 }
@@ -114,7 +111,6 @@ fn take_idle_turn<E: Engine, R: Threads + Wait + Sync>(
     let mut turn = take_turn(rt, words, home, None);
     turn.is_in_order();
     let found = turn.look(words, Word::Phase);
-    turn.is_in_order();
     if Phase::Marking.is_in(found) {
         finish_cycle(rt, words, turn, bench).0
     } else {

@@ -174,9 +174,7 @@ impl Host {
                 let mut turn = take_turn(rt, words, home, None);
                 turn.is_in_order();
                 let found = turn.look(words, x);
-                turn.is_in_order();
                 let back = turn.give(words);
-                back.is_in_order();
                 self.pass = Some(back);
                 found
             }

@@ -133,7 +133,7 @@ module _ (w : WordsState) (h p q : PassState) (host : IsHostsPass w h) (own : Ha
     (acts : Acts p (step.Look word.Phase) q) (history : IsHistory q.table.config q.seen) where
   pub looked_table : q.table ≡ w
   looked_table =
-      ap (λ (x : PassState). x.table) (look_keeps p q t (fresh_free p fresh) history acts).call.pass
+      ap (λ (x : PassState). x.table) (look_keeps p q t (fresh_free p fresh) acts).call.pass
       ∙ ap (λ (x : PassState). x.table) (turn_moves h p takes).is ∙ host.table
 
   module _ (none : n % 8 ≡ 1 → ⊥) where
@@ -143,8 +143,8 @@ module _ (w : WordsState) (h p q : PassState) (host : IsHostsPass w h) (own : Ha
 
     pub idle : IsIdleTurn q
     idle =
-        looked_idle p q (ap (λ (x : PassState). x.seat) (turn_moves h p takes).is ∙ host.seat) t fresh history acts
-        (none_is_on p q n t fresh before history finds none) exact tidy
+        looked_idle p q (ap (λ (x : PassState). x.seat) (turn_moves h p takes).is ∙ host.seat) t fresh acts
+        (none_is_on p q n t fresh before finds none) exact tidy
 
     pub marking : (r : PassState) → BeginsCycle q r → HostIsMarking w r
     marking r begins =

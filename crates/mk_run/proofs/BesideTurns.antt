@@ -76,5 +76,5 @@ called_beside p o a q called =
 pub held_beside : (p : PassState) (o : Op) (q : PassState) → Has p.seats p.seat → FindsGateHeld p o q
     → StaysBeside p q
 held_beside p o q own held =
-    let d = does_step is_beside_turns p q (step.Enter o) own held.finds.makes refl in
+    let d = does_step is_beside_turns p q (step.Enter o) held.finds.makes refl in
     record { more = d.more; is = ap (λ (x : PassState). x.seen) d.is; steps = d.of_kinds }

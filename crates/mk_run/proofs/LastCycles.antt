@@ -111,7 +111,7 @@ turn_taken p taken own t history =
     let taken_own : Has taken.seats taken.seat =
     subst (λ (r : PassState). Has r.seats r.seat) (sym (turn_moves p taken t).is) own in
     in_turn taken None taken_own
-    (takes t.waited None 0 taken (record { makes = t.takes.makes; tells = t.takes.finds }) waited_own history refl)
+    (takes t.waited None 0 taken (record { makes = t.takes.makes; tells = t.takes.finds }) refl)
     history
 
 stays : (x : Step) → turn_stays x ≡ true → turn_stays x ≡ true

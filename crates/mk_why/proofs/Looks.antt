@@ -138,7 +138,7 @@ module _ (t u : TurnState) (x : Word) (a : Acts t.pass (step.Look x) u.pass) (tu
       record {
         table = ap (λ (y : PassState). y.table) a.makes.is;
         op = same;
-        does = does_step is_look t.pass u.pass (step.Look x) turn.own a.makes refl;
+        does = does_step is_look t.pass u.pass (step.Look x) a.makes refl;
         keeps = keeps;
         view = view_behind;
         still = still_behind;

@@ -17,7 +17,5 @@ pub(crate) fn look_at(words: &Words, stop: &mut Stopped, x: Word) -> u64
     ensures found { result ≡ named_word (view_by stop.old.pass).words x }
 {
     stop.is_in_order();
-    let found = stop.look(words, x);
-    stop.is_in_order();
-    found
+    stop.look(words, x)
 }

@@ -37,5 +37,4 @@ returns-clause-ready c =
     (c.block_word.ensures ∙ sym (ap (λ (o : Object). header_made o 0) c.requires.number)) c.head.ensures.acts) in
     carved_all p c.args.place c.requires.goes k c.requires.free r
     (subst (λ n. HasCarved p c.args.place n r) (sym count)
-    (heads_on p c.args.place c.requires.goes k c.requires.free q r 0 c.mark_first.ensures.carved (omega arith) a
-    c.is_in_order-2.ensures.own c.is_in_order-3.ensures.history))
+    (heads_on p c.args.place c.requires.goes k c.requires.free q r 0 c.mark_first.ensures.carved (omega arith) a))

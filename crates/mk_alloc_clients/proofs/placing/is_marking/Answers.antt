@@ -18,11 +18,10 @@ returns-clause-looks c =
     let t = c.args.turn.now in
     look_reaches t.pass c.look-found.new.self.pass t.op word.Phase c.is_in_order.ensures.turn
     (new_is_acting (call_of t.pass) c.requires.unplaced.new) OfPhase c.look-found.ensures.acts
-    c.is_in_order.ensures.own c.is_in_order-2.ensures.history
 
 pub returns-clause-finds : goal.returns-clause-finds
 returns-clause-finds c =
     let t = c.args.turn.now in
     c.is_in.ensures ∙ ap (λ n. n == 1)
     (found_phase t.pass c.look-found.new.self.pass t.op c.look-found.result c.is_in_order.ensures.turn
-    c.look-found.ensures.finds c.is_in_order.ensures.own c.is_in_order-2.ensures.history)
+    c.look-found.ensures.finds)

@@ -29,4 +29,4 @@ pub returns-clause-finds : goal.returns-clause-finds
 returns-clause-finds c =
     let t = c.args.turn.now in
     found_steady t.pass c.look-found.new.self.pass t.op c.args.word c.look-found.result c.is_in_order.ensures.turn
-    c.look-found.ensures.finds c.is_in_order.ensures.own c.is_in_order-2.ensures.history c.requires.steady
+    c.look-found.ensures.finds c.requires.steady

@@ -28,8 +28,7 @@ returns-then-marking-clause-carved c =
     let one = eqb-true (phase_of (now_of p).words) 1 (sym c.requires.marking ∙ c.if-marking.true) in
     let a = subst (λ n. Acts p (step.Mark c.args.place.page n) q)
     (sym (ap (λ (o : Object). bits_made o) c.requires.number)) c.mark.ensures.acts in
-    marks_first p c.args.place c.requires.goes k c.requires.free q one a i.own
-    c.is_in_order-then-marking.ensures.history
+    marks_first p c.args.place c.requires.goes k c.requires.free q one a
 
 pub returns-else-marking-clause-carved : goal.returns-else-marking-clause-carved
 returns-else-marking-clause-carved c =

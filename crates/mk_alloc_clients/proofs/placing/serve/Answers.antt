@@ -26,7 +26,7 @@ taken : (c : After-is_in_order-3) (k : KnowsPlace c.args.turn.now.pass c.args.pl
     → HasTaken c.args.turn.now.pass c.args.place c.requires.goes k c.used.new.self.pass
 taken c k =
     used_on c.args.turn.now.pass c.args.place c.requires.goes k c.make_ready.new.turn.pass c.used.new.self.pass _
-    c.make_ready.ensures.ready c.used.ensures.acts c.is_in_order-2.ensures.own c.is_in_order-3.ensures.history
+    c.make_ready.ensures.ready c.used.ensures.acts
 
 -- and the object is granted
 granted : (c : After-is_in_order-4) (k : KnowsPlace c.args.turn.now.pass c.args.place)
@@ -34,7 +34,7 @@ granted : (c : After-is_in_order-4) (k : KnowsPlace c.args.turn.now.pass c.args.
     → HasGranted c.args.turn.now.pass c.args.place c.requires.goes k c.grant.new.self.pass
 granted c k taken =
     grant_on c.args.turn.now.pass c.args.place c.requires.goes k c.used.new.self.pass c.grant.new.self.pass taken
-    c.grant.ensures.acts c.is_in_order-3.ensures.own c.is_in_order-4.ensures.history c.is_in_order.ensures.history
+    c.grant.ensures.acts c.is_in_order.ensures.history
 
 pub overflow_shl-place : goal.overflow_shl-place
 overflow_shl-place c =
@@ -94,7 +94,7 @@ returns-clause-granted c =
     counted p c.args.place c.requires.goes k c.tally.new.self.pass n
     (tally_on p c.args.place c.requires.goes k c.grant.new.self.pass c.tally.new.self.pass n
     (granted x.After-is_in_order-4 k (taken x.After-is_in_order-3 k))
-    c.tally.ensures.acts c.is_in_order-4.ensures.own c.is_in_order-5.ensures.history c.is_in_order.ensures.history)
+    c.tally.ensures.acts c.is_in_order.ensures.history)
 
 pub returns-clause-held : goal.returns-clause-held
 returns-clause-held c =
@@ -107,4 +107,4 @@ returns-clause-held c =
     (c.requires.held ∙ c.requires.exact) size
     (tally_on p c.args.place c.requires.goes k c.grant.new.self.pass c.tally.new.self.pass n
     (granted x.After-is_in_order-4 k (taken x.After-is_in_order-3 k))
-    c.tally.ensures.acts c.is_in_order-4.ensures.own c.is_in_order-5.ensures.history c.is_in_order.ensures.history)
+    c.tally.ensures.acts c.is_in_order.ensures.history)

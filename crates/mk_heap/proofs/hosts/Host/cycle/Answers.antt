@@ -44,7 +44,7 @@ invariant_of-self g c =
     let begun = begin_moves h.pass p b idle c.begin_cycle.ensures.law in
     let ended = finish_moves h.pass b r begun c.finish_cycle-turn.ensures.law in
     moved_is_host h q is (moves_more h.pass r q step.Give ended c.give-back.ensures.acts.makes)
-    c.is_in_order-3.ensures.history (given_no_turn r q c.give-back.ensures.acts)
+    c.give-back.ensures.acts.makes.pass.history (given_no_turn r q c.give-back.ensures.acts)
 
 pub returns-clause-own : goal.returns-clause-own
 returns-clause-own g c =
@@ -103,7 +103,7 @@ returns-clause-overs g c =
     let ended = finish_moves h.pass b r begun c.finish_cycle-turn.ensures.law in
     let none : IsAtPhase r 0 = c.finish_cycle-turn.ensures.law.phase in
     step_overs r c.give-back.result step.Give c.give-back.ensures.acts.makes
-    (hosts_seat h r is c.is_in_order.ensures.own ended) c.is_in_order-3.ensures.history refl
+    (hosts_seat h r is c.is_in_order.ensures.own ended) refl
     ∙ none_by_phase r.table.config r.seen c.is_in_order-2.ensures.history
     (λ (five : IsAtPhase r 5). absurd (omega arith))
     ∙ sym c.requires.before_over
@@ -124,7 +124,7 @@ returns-clause-reached g c =
     (c.take_idle_turn-turn.ensures.reached none)
     (sweeps_then p b q c.begin_cycle.ensures.law.pass (c.begin_cycle.ensures.reached none)
     (sweeps_then b r q c.finish_cycle-turn.ensures.law.pass (c.finish_cycle-turn.ensures.reached none)
-    (other_step_sweeps r q _ c.give-back.ensures.acts.makes c.is_in_order-2.ensures.own refl))))
+    (other_step_sweeps r q _ c.give-back.ensures.acts.makes refl))))
 
 pub returns-clause-begun : goal.returns-clause-begun
 returns-clause-begun g c =

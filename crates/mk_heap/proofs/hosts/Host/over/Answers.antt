@@ -1,8 +1,8 @@
-use Rattle.std.proofs.Common.{◌≡◌, refl, sym, ◌∙◌, subst}
+use Rattle.std.proofs.Common.{refl, sym, ◌∙◌, subst}
 use Rattle.mk_core.specs.declared.events.Step.TheVariants as step
 use Rattle.mk_words.specs.States.{PassState}
 use Rattle.mk_cycle.specs.EngineLaw.{IsAtPhase}
-use Rattle.mk_cycle.proofs.Allowed.{in_turn}
+use Rattle.mk_cycle.proofs.Allowed.{in_turn, in_turn_after}
 use Rattle.mk_heap.specs.Ending.{CallersAreJoined}
 use Rattle.mk_heap.specs.Hosts.{HostState}
 use Rattle.mk_heap.proofs.HomeCallers.{callers_home}
@@ -18,22 +18,20 @@ use Rattle.mk_heap.proofs.hosts.Host.over.Goals as goal
 pub give-back-requires-clause-enabled : goal.give-back-requires-clause-enabled
 give-back-requires-clause-enabled g c =
     let o = c.is_in_order.ensures in
-    let v = c.is_in_order-2.ensures in
     let p : PassState = c.take_idle_turn-turn.result.pass in
     let q : PassState = c.over.new.self.pass in
     let t = in_turn p c.take_idle_turn-turn.result.op o.own o.turn o.history in
-    let u = in_turn q c.over.new.self.op v.own v.turn v.history in
+    let u = in_turn_after c.over.ensures.acts refl in
     give_allowed q u (over_may_give p q t c.take_idle_turn-turn.ensures.idle u c.over.ensures.acts)
 
 pub give-back-requires-clause-tidy : goal.give-back-requires-clause-tidy
 give-back-requires-clause-tidy g c =
     let o = c.is_in_order.ensures in
-    let v = c.is_in_order-2.ensures in
     let p : PassState = c.take_idle_turn-turn.result.pass in
     let q : PassState = c.over.new.self.pass in
     let idle = c.take_idle_turn-turn.ensures.idle in
     let t = in_turn p c.take_idle_turn-turn.result.op o.own o.turn o.history in
-    let u = in_turn q c.over.new.self.op v.own v.turn v.history in
+    let u = in_turn_after c.over.ensures.acts refl in
     tidy_kept p q (over_keeps p q t idle u c.over.ensures.acts) idle.tidy
 
 pub invariant_of-self : goal.invariant_of-self
@@ -48,7 +46,7 @@ invariant_of-self g c =
     let idle = idle_moves h.pass p c.take_idle_turn-turn.ensures.takes in
     let said = moves_more h.pass p q step.Over idle c.over.ensures.acts.makes in
     moved_is_host h r is (moves_more h.pass q r step.Give said c.give-back.ensures.acts.makes)
-    c.is_in_order-3.ensures.history (given_no_turn q r c.give-back.ensures.acts)
+    c.give-back.ensures.acts.makes.pass.history (given_no_turn q r c.give-back.ensures.acts)
 
 pub returns-clause-bench : goal.returns-clause-bench
 returns-clause-bench g c none =
@@ -74,5 +72,4 @@ returns-clause-reached g c =
     subst (λ (h : HostState). SweepsNothing h.pass r) view
     (idle_then_sweeps c.in-Some.home p r c.take_idle_turn-turn.ensures.takes
     (c.take_idle_turn-turn.ensures.reached none)
-    (given_sweeps p q r _ c.over.ensures.acts.makes c.give-back.ensures.acts.makes
-    c.is_in_order.ensures.own c.is_in_order-2.ensures.own refl))
+    (given_sweeps p q r _ c.over.ensures.acts.makes c.give-back.ensures.acts.makes refl))

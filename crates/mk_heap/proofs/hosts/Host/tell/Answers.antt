@@ -8,7 +8,7 @@ use Rattle.mk_heap.specs.Hosts.{HostState}
 use Rattle.mk_heap.proofs.BeforeOver.{hosts_seat, step_overs, taken_overs}
 use Rattle.mk_heap.proofs.HostsKept.{home_host, home_is, home_view}
 use Rattle.mk_heap.proofs.MovedHosts.{moved_is_host, moves_more, turn_moves}
-use Rattle.mk_cycle.proofs.Allowed.{in_turn}
+use Rattle.mk_cycle.proofs.Allowed.{in_turn, in_turn_after}
 use Rattle.mk_heap.proofs.Overs.{give_allowed}
 use Rattle.mk_heap.proofs.Telling.{look_admitted, look_tidy, looked_may_give, given_no_turn}
 use Rattle.mk_heap.proofs.UnsweptHosts.{given_sweeps, taken_then_sweeps}
@@ -35,10 +35,9 @@ give-back-requires-clause-enabled g c =
     let host : p.seat ≡ Host =
     ap (λ (x : PassState). x.seat) (turn_moves c.in-Some.home p c.take_turn-turn.ensures.takes).is ∙ is.seat in
     let o = c.is_in_order-in-Some.ensures in
-    let v = c.is_in_order-in-Some-2.ensures in
-    give_allowed q (in_turn q c.look-found.new.self.op v.own v.turn v.history)
+    give_allowed q (in_turn_after c.look-found.ensures.acts refl)
     (looked_may_give p q c.args.x host (in_turn p c.take_turn-turn.result.op o.own o.turn o.history)
-    c.take_turn-turn.ensures.fresh v.history c.look-found.ensures.acts c.take_turn-turn.ensures.exact)
+    c.take_turn-turn.ensures.fresh c.look-found.ensures.acts c.take_turn-turn.ensures.exact)
 
 pub give-back-requires-clause-tidy : goal.give-back-requires-clause-tidy
 give-back-requires-clause-tidy g c =
@@ -64,7 +63,7 @@ invariant_of-self g c =
     (moves_more h.pass p q (step.Look c.args.x) (turn_moves h.pass p c.take_turn-turn.ensures.takes)
     c.look-found.ensures.acts.makes)
     c.give-back.ensures.acts.makes)
-    c.is_in_order-in-Some-3.ensures.history (given_no_turn q r c.give-back.ensures.acts)
+    c.give-back.ensures.acts.makes.pass.history (given_no_turn q r c.give-back.ensures.acts)
 
 pub returns-clause-overs : goal.returns-clause-overs
 returns-clause-overs g c =
@@ -81,10 +80,8 @@ returns-clause-overs g c =
     let taken = turn_moves h.pass p c.take_turn-turn.ensures.takes in
     let looked = moves_more h.pass p q (step.Look c.args.x) taken c.look-found.ensures.acts.makes in
     let own = c.is_in_order.ensures.own in
-    step_overs q r step.Give c.give-back.ensures.acts.makes (hosts_seat h q is own looked)
-    c.is_in_order-in-Some-3.ensures.history refl
-    ∙ step_overs p q (step.Look c.args.x) c.look-found.ensures.acts.makes (hosts_seat h p is own taken)
-    c.is_in_order-in-Some-2.ensures.history refl
+    step_overs q r step.Give c.give-back.ensures.acts.makes (hosts_seat h q is own looked) refl
+    ∙ step_overs p q (step.Look c.args.x) c.look-found.ensures.acts.makes (hosts_seat h p is own taken) refl
     ∙ taken_overs h.pass p c.take_turn-turn.ensures.takes (subst (λ (x : Seat). Has h.pass.seats x) is.seat own)
     c.is_in_order-in-Some.ensures.history
     ∙ ap (λ (g : HostState). has_over g.pass.seen) view
@@ -100,5 +97,4 @@ returns-clause-reached g c =
     let r : PassState = c.give-back.result in
     subst (λ (h : HostState). SweepsNothing h.pass r) view
     (taken_then_sweeps c.in-Some.home p r c.is_in_order.ensures.own c.take_turn-turn.ensures.takes
-    (given_sweeps p q r _ c.look-found.ensures.acts.makes c.give-back.ensures.acts.makes
-    c.is_in_order-in-Some.ensures.own c.is_in_order-in-Some-2.ensures.own refl))
+    (given_sweeps p q r _ c.look-found.ensures.acts.makes c.give-back.ensures.acts.makes refl))
