@@ -7,6 +7,7 @@ pub mod MarkersBeside
 mod AskedOps
 mod NotedCalls
 mod ScriptCalls
+mod PutOff
 mod WholeRuns
 pub mod BoundedRuns
 pub mod Headline

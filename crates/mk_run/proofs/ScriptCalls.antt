@@ -89,7 +89,7 @@ makes_none on p o q own h = record {
 same_own : (p q : PassState) (es : List Event) → q ≡ record p { seen = q.seen } → own_calls q es ≡ own_calls p es
 same_own p q es is = ap (λ (r : PassState). own_calls r es) is
 
-then_seen : (p q r : PassState) → q ≡ record p { seen = q.seen } → r ≡ record q { seen = r.seen }
+pub then_seen : (p q r : PassState) → q ≡ record p { seen = q.seen } → r ≡ record q { seen = r.seen }
     → r ≡ record p { seen = r.seen }
 then_seen p q r is next = next ∙ ap (λ (s : PassState). record s { seen = r.seen }) is
 

@@ -67,6 +67,11 @@ pub record IsHeldUp (p : PassState) (o : Op) (q : PassState) : Type 0 where
   pub beside : is_under_turn o ≡ false
   pub none : (on : Bool) → MakesNoCall on p q
 
+-- The caller wasn't answered: a New or a Free is not begun, and of another operation the gate was held.
+pub record IsPutOff (p : PassState) (o : Op) (q : PassState) : Type 0 where
+  pub turn : is_under_turn o ≡ true → q ≡ p
+  pub held : is_under_turn o ≡ false → IsHeldUp p o q
+
 -- A script that is fed asks for this operation.
 pub record AsksFor (s : FeedState) (o : Op) : Type 0 where
   pub some : StandsForSome s

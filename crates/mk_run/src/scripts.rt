@@ -9,7 +9,7 @@ ghost use Rattle.mk_cycle.specs.Begun.{EachIsBegun};
 ghost use Rattle.mk_run.specs.Running.{answers_in, FollowsScript, EndsScript, IsTextOf};
 ghost use Rattle.mk_run.specs.Scripts.{ScriptHasRoom, IsFedWith, ScriptTakesAnswer};
 
-use crate::answers::answer_asked;
+use crate::answers::{answer_at_once, answer_put_off};
 use crate::paces::Pace;
 use mk_caller::Caller;
 use mk_check::{Checked, Feed, Text, is_refusal};
@@ -123,7 +123,10 @@ pub fn run_script<E: Engine, P: Pace, R: Threads + Wait + Sync>(
         };
         let instruction = script.ops;
         pace.before(k, instruction);
-        let answer = answer_asked(rt, caller, bench, &script.feed, op);
+        let answer = match answer_at_once(caller, op) {
+            Some(answer) => answer,
+            None => answer_put_off(rt, caller, bench, &script.feed, op),
+        };
         pace.answered(k, instruction);
         script.answer(alloc, answer)?;
     }
