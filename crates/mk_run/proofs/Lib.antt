@@ -7,7 +7,6 @@ pub mod MarkersBeside
 mod AskedOps
 mod NotedCalls
 mod ScriptCalls
-mod PutOff
 mod WholeRuns
 pub mod BoundedRuns
 pub mod Headline
@@ -17,3 +16,4 @@ pub mod LastOvers
 pub mod UnsweptHistories
 pub mod UnsweptScripts
 pub mod BegunScripts
+mod PutOff

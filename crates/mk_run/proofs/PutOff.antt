@@ -1,11 +1,20 @@
 -- An operation that isn't answered at once, and what it is answered later.
-use Rattle.std.proofs.Common.{◌≡◌, Bool, true, false, refl, sym, ◌∙◌, subst}
+use Rattle.std.proofs.Common.{◌≡◌, Bool, true, false, List, refl, sym, ◌∙◌, subst}
 use Rattle.std.proofs.lemmas.Bool.{true≢false}
 use Rattle.mk_never.specs.declared.operations.Op.{Op}
 use Rattle.mk_core.specs.declared.events.Answer.{Answer}
 use Rattle.mk_core.specs.Calls.{is_under_turn}
+use Rattle.mk_core.specs.declared.config.Config.{Config}
+use Rattle.mk_core.specs.declared.events.Event.{Event}
+use Rattle.mk_core.specs.declared.events.Seat.{Seat}
 use Rattle.mk_words.specs.States.{PassState}
-use Rattle.mk_run.specs.Scripts.{Answers, IsAdmittedByOwnCalls, IsPutOff, MakesNoCall}
+use Rattle.mk_caller.specs.States.{CallerState}
+use Rattle.mk_turns.specs.Sweeping.{SweepsNothing}
+use Rattle.mk_turns.proofs.Sweeping.{sweeps_then}
+use Rattle.mk_cycle.specs.Begun.{EachIsBegun}
+use Rattle.mk_cycle.proofs.Begun.{begun_then}
+use Rattle.mk_run.specs.Scripts.{Answers, IsAdmittedByOwnCalls, IsPutOff, MakesNoCall, StaysBeside}
+use Rattle.mk_run.proofs.BegunScripts.{beside_begun}
 use Rattle.mk_run.proofs.ScriptCalls.{none_then_answers, stays_admitted_after}
 
 pub turn_put_off : (p : PassState) (o : Op) → is_under_turn o ≡ true → IsPutOff p o p
@@ -43,3 +52,34 @@ module _ (p : PassState) (o : Op) (q : PassState) (h : IsPutOff p o q) where
 
     pub put_off_then : Answers on p o told r
     put_off_then = answers_by_test (is_under_turn o) refl
+
+-- The caller is told this of an operation, at once or later, and the engine began what it begins.
+pub record IsAnsweredAs (on sweeps : Bool) (begins : Config → Seat → List Event → List Event → Type 0) (p : PassState)
+    (o : Op) (told : Answer) (q : CallerState) : Type 0 where
+  pub home : q.home ≡ true
+  pub answers : Answers on p o told q.pass
+  pub reached : sweeps ≡ false → SweepsNothing p q.pass
+  pub begun : EachIsBegun begins p q.pass
+
+module _ (on sweeps : Bool) (begins : Config → Seat → List Event → List Event → Type 0) (p : PassState) (o : Op)
+    (told : Answer) (q : CallerState) where
+  pub answered_at_once : q.home ≡ true → ((on : Bool) → Answers on p o told q.pass) → StaysBeside p q.pass
+      → SweepsNothing p q.pass → IsAnsweredAs on sweeps begins p o told q
+  answered_at_once home answers beside reached = record {
+    home = home;
+    answers = answers on;
+    reached = λ off. reached;
+    begun = beside_begun begins p q.pass beside;
+  }
+
+  pub answered_later : (r : CallerState) → IsPutOff p o q.pass → StaysBeside p q.pass → SweepsNothing p q.pass
+      → r.home ≡ true → Answers on q.pass o told r.pass → (sweeps ≡ false → SweepsNothing q.pass r.pass)
+      → EachIsBegun begins q.pass r.pass → IsAnsweredAs on sweeps begins p o told r
+  answered_later r off beside reached home answers more begun =
+      let is = put_off_is p o q.pass off in
+      record {
+        home = home;
+        answers = put_off_then p o q.pass off on told r.pass answers;
+        reached = λ none. sweeps_then p q.pass r.pass is reached (more none);
+        begun = begun_then begins p q.pass r.pass is (beside_begun begins p q.pass beside) begun;
+      }

@@ -1,5 +1,6 @@
-use Rattle.std.proofs.Common.{◌≡◌, true, false, refl, rules}
+use Rattle.std.proofs.Common.{◌≡◌, Bool, true, false, rules}
 use Rattle.mk_core.specs.Calls.{is_under_turn}
+use Rattle.mk_run.specs.Scripts.{Answers, MakesNoCall}
 use Rattle.mk_run.proofs.BesideTurns.{stays_still}
 use Rattle.mk_run.proofs.PutOff.{held_put_off, turn_put_off}
 use Rattle.mk_run.proofs.ScriptCalls.{answered_by_call, makes_none}
@@ -18,24 +19,14 @@ returns-in-New c =
       reached = nothing_sweeps p;
     }
 
-pub returns-in-Free : goal.returns-in-Free
-returns-in-Free c =
-    let p = c.args.caller.now.pass in
-    record {
-      home = c.requires.home;
-      answers = tt;
-      put_off = turn_put_off p c.args.op (search rules);
-      beside = stays_still p;
-      reached = nothing_sweeps p;
-    }
-
 pub returns-in-Ok : goal.returns-in-Ok
 returns-in-Ok c =
     let p = c.args.caller.now.pass in
     let q = c.call.new.caller.pass in
     let called = c.in-Ok.ensures.called in
     let entered : is_under_turn c.args.op ≡ false = search rules in
-    let answers = λ on. answered_by_call on p c.args.op c.in-Ok.told q c.is_idle.ensures.own entered called in
+    let answers : (on : Bool) → Answers on p c.args.op c.in-Ok.told q =
+    λ on. answered_by_call on p c.args.op c.in-Ok.told q c.is_idle.ensures.own entered called in
     record {
       home = c.call.ensures.home;
       answers = answers;
@@ -50,7 +41,7 @@ returns-in-Err c =
     let q = c.call.new.caller.pass in
     let held = c.in-Err.ensures.held in
     let entered : is_under_turn c.args.op ≡ false = search rules in
-    let none = λ on. makes_none on p c.args.op q c.is_idle.ensures.own held in
+    let none : (on : Bool) → MakesNoCall on p q = λ on. makes_none on p c.args.op q c.is_idle.ensures.own held in
     record {
       home = c.call.ensures.home;
       answers = tt;
