@@ -15,8 +15,7 @@ use Rattle.mk_check.specs.Feed.{Scope, Fed, op_of, with_answer, note, run, take_
 use Rattle.mk_check.specs.Feeding.{FeedState, FeedStandsFor, script_scope}
 use Rattle.mk_check.specs.Steps.{numbered}
 use Rattle.mk_check.proofs.FeedLaws.{feed_push}
-use Rattle.mk_run.specs.declared.scripts.Script.{Script}
-use Rattle.mk_run.specs.Scripts.{as_told, IsFedWith}
+use Rattle.mk_run.specs.Scripts.{Script, as_told, IsFedWith}
 
 -- What is said of an answer does to a script what the answer does.
 

@@ -16,3 +16,4 @@ pub mod LastOvers
 pub mod UnsweptHistories
 pub mod UnsweptScripts
 pub mod BegunScripts
+mod PutOff

@@ -36,9 +36,8 @@ use Rattle.mk_check.specs.Declarations.{config_of}
 use Rattle.mk_check.specs.Feeding.{next_op}
 use Rattle.mk_check.specs.Laws.{IsChecked, IsScript, AreNotedBy}
 use Rattle.mk_run.specs.Running.{answers_in, FollowsScript}
-use Rattle.mk_run.specs.declared.scripts.Script.{Script}
 use Rattle.mk_run.specs.Scripts.{as_told, unflagged, IsCalled, IsAdmittedByOwnCalls, MakesNoCall, Answers}
-use Rattle.mk_run.specs.Scripts.{IsFedWith, ScriptTakesAnswer, IsRunning}
+use Rattle.mk_run.specs.Scripts.{Script, IsFedWith, ScriptTakesAnswer, IsRunning}
 use Rattle.mk_run.proofs.BesideTurns.{beside_then, called_beside, held_beside}
 use Rattle.mk_run.proofs.FedScripts.{fed_as_told}
 use Rattle.mk_alloc.proofs.ExactTurns.{stay_exact_behind_calls, stay_exact_where_held, stay_exact_behind_turns}
@@ -89,7 +88,7 @@ makes_none on p o q own h = record {
 same_own : (p q : PassState) (es : List Event) → q ≡ record p { seen = q.seen } → own_calls q es ≡ own_calls p es
 same_own p q es is = ap (λ (r : PassState). own_calls r es) is
 
-then_seen : (p q r : PassState) → q ≡ record p { seen = q.seen } → r ≡ record q { seen = r.seen }
+pub then_seen : (p q r : PassState) → q ≡ record p { seen = q.seen } → r ≡ record q { seen = r.seen }
     → r ≡ record p { seen = r.seen }
 then_seen p q r is next = next ∙ ap (λ (s : PassState). record s { seen = r.seen }) is
 

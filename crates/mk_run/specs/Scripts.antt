@@ -21,7 +21,7 @@ use Rattle.mk_alloc.specs.TurnCalls.{CalledInTurn}
 use Rattle.mk_script.specs.declared.items.Item.{Item}
 use Rattle.mk_check.specs.Feed.{is_refusal}
 use Rattle.mk_check.specs.Feeding.{FeedState, FeedStandsFor, StandsForSome, next_op}
-use Rattle.mk_run.specs.declared.scripts.Script.{Script}
+use Rattle.mk_run.specs.declared.scripts.Counts.{Counts}
 use Rattle.mk_run.specs.Running.{answers_in, FollowsScript}
 
 -- A caller isn't told which pointer it loaded.
@@ -67,6 +67,11 @@ pub record IsHeldUp (p : PassState) (o : Op) (q : PassState) : Type 0 where
   pub beside : is_under_turn o ≡ false
   pub none : (on : Bool) → MakesNoCall on p q
 
+-- The caller wasn't answered: a New or a Free is not begun, and of another operation the gate was held.
+pub record IsPutOff (p : PassState) (o : Op) (q : PassState) : Type 0 where
+  pub turn : is_under_turn o ≡ true → q ≡ p
+  pub held : is_under_turn o ≡ false → IsHeldUp p o q
+
 -- A script that is fed asks for this operation.
 pub record AsksFor (s : FeedState) (o : Op) : Type 0 where
   pub some : StandsForSome s
@@ -98,6 +103,15 @@ pub record Answers (on : Bool) (p : PassState) (o : Op) (told : Answer) (q : Pas
   pub in_turn : is_under_turn o ≡ true → CalledInTurn on p (unflagged o) answer q
   pub beside : is_under_turn o ≡ false → StaysBeside p q
 
+-- A script under way, with the counts of its answers and of those that refuse.
+pub record Script : Type 0 where
+  pub feed : FeedState
+  pub ops : ℕ
+  pub refused : ℕ
+
+abbrev pub script_of : FeedState → Counts → Script
+script_of s counts = record { feed = s; ops = counts.ops; refused = counts.refused }
+
 -- Script k, fed with these answers.
 pub record IsFedWith (program : List Item) (k : ℕ) (answers : List Answer) (s : Script) : Type 0 where
   pub feed : FeedStandsFor program k s.feed answers
@@ -116,6 +130,6 @@ pub record IsRunning (on : Bool) (program : List Item) (k : ℕ) (p q : PassStat
   pub fed : IsFedWith program k (answers_in p.table.config k q.seen) s
 
 -- One more answer may be counted.
-pub record ScriptHasRoom (s : Script) : Type 0 where
+pub record HasRoom (s : Counts) : Type 0 where
   pub ops : s.ops < 18446744073709551615
   pub refused : s.refused ≤ s.ops

@@ -1,5 +1,5 @@
 //! The operations of a script, each with its answer.
-ghost use Rattle.std.specs.Prelude.{◌≡◌, ◌<◌, ◌∷◌, [], length, IfOk, IfErr, OnErr, true, false, Bool};
+ghost use Rattle.std.specs.Prelude.{◌≡◌, ◌<◌, ◌∷◌, [], length, IfOk, IfErr, OnErr, IfSome, IfNone, true, false, Bool};
 ghost use Rattle.mk_core.specs.Calls.{is_under_turn};
 ghost use Rattle.mk_never.specs.declared.operations.Op.{Op};
 ghost use Rattle.mk_caller.specs.Causes.{FindsGateHeld, IsRefused};
@@ -8,7 +8,7 @@ ghost use Rattle.mk_caller.specs.States.{caller_of_pass, Admits};
 ghost use Rattle.mk_turns.specs.Sweeping.{SweepsNothing};
 ghost use Rattle.mk_cycle.specs.Begun.{EachIsBegun};
 ghost use Rattle.mk_run.specs.Scripts.{IsCalled, IsAdmittedByOwnCalls, IsHeldUp, Answers};
-ghost use Rattle.mk_run.specs.Scripts.{AsksFor, AsksBesideTurns};
+ghost use Rattle.mk_run.specs.Scripts.{AsksFor, AsksBesideTurns, IsPutOff, StaysBeside};
 
 use mk_alloc::{free_object, new_object};
 use mk_caller::{Caller, Refusal};
@@ -201,10 +201,32 @@ fn answer_when_open<R: Wait>(rt: &R, caller: &mut Caller, feed: &Feed) -> Answer
     call_until_open(rt, caller, op)
 }
 
-/// Carries out the operation that a script asks for. Where the gate is held the script is asked again, so that the
-/// operation need not be kept for that.
+/// Carries out an operation that takes no turn, and returns its answer; none where its gate is held. A New and a Free are
+/// put off. Nothing of it waits, so that the answer is at hand where the call is made.
 #[inline(always)]
-pub(crate) fn answer_asked<E: Engine, R: Threads + Wait + Sync>(
+pub(crate) fn answer_at_once(caller: &mut Caller, op: Op) -> Option<Answer>
+    requires home { caller.old.home ≡ true }
+    requires admitted { IsAdmittedByOwnCalls caller.old.pass op }
+    ensures home { caller.new.home ≡ true }
+    ensures answers { IfSome result (λ told. (on : Bool) → Answers on caller.old.pass op told caller.new.pass) }
+    ensures put_off { IfNone result (IsPutOff caller.old.pass op caller.new.pass) }
+    ensures beside { StaysBeside caller.old.pass caller.new.pass }
+    ensures reached { SweepsNothing caller.old.pass caller.new.pass }
+{
+    caller.is_idle();
+    match op {
+        Op::New { .. } | Op::Free { .. } => None,
+        _ => match call(caller, op) {
+            Ok(told) => Some(told),
+            Err(_) => None,
+        },
+    }
+}
+
+/// Carries out the operation that a script asks for, where that is put off: a New or a Free in a turn, and another once
+/// its gate is open. The script is asked again then, so that the operation need not be kept for that.
+#[inline(always)]
+pub(crate) fn answer_put_off<E: Engine, R: Threads + Wait + Sync>(
     rt: &R,
     caller: &mut Caller,
     bench: &mut Bench<E>,
@@ -225,8 +247,16 @@ pub(crate) fn answer_asked<E: Engine, R: Threads + Wait + Sync>(
     ensures reached { E.sweeps ≡ false → SweepsNothing caller.old.pass caller.new.pass }
     ensures begun { EachIsBegun E.begins caller.old.pass caller.new.pass }
 {
-    match answer_now(rt, caller, bench, op) {
-        Ok(told) => told,
-        Err(_) => answer_when_open(rt, caller, feed),
+    caller.is_idle();
+    match op {
+        Op::New { d, ty, .. } => match new_object(rt, caller, bench, d, ty) {
+            Ok(()) => Answer::Done,
+            Err(_) => Answer::Full,
+        },
+        Op::Free { p } => match free_object(rt, caller, bench, p) {
+            Ok(_) => Answer::Done,
+            Err(_) => Answer::Double,
+        },
+        _ => answer_when_open(rt, caller, feed),
     }
 }

@@ -1,15 +1,18 @@
 //! The run of one script.
-ghost use Rattle.std.specs.Prelude.{◌≡◌, ◌+◌, [], ◌∷◌, length, count_by, IfOk, OnOk, true, false};
+ghost use Rattle.std.specs.Prelude.{◌≡◌, ℕ, List, ◌+◌, [], ◌∷◌, length, count_by, IfOk, OnOk, true, false};
+ghost use Rattle.mk_core.specs.declared.events.Answer.{Answer};
+ghost use Rattle.mk_script.specs.declared.items.Item.{Item};
 ghost use Rattle.mk_check.specs.Declarations.{config_of};
+ghost use Rattle.mk_check.specs.Feed.{feed as feed_with};
 ghost use Rattle.mk_check.specs.Feeding.{IsWaiting};
 ghost use Rattle.mk_check.specs.Laws.{IsScript};
 ghost use Rattle.mk_caller.specs.States.{caller_of_pass};
 ghost use Rattle.mk_turns.specs.Sweeping.{SweepsNothing};
 ghost use Rattle.mk_cycle.specs.Begun.{EachIsBegun};
 ghost use Rattle.mk_run.specs.Running.{answers_in, FollowsScript, EndsScript, IsTextOf};
-ghost use Rattle.mk_run.specs.Scripts.{ScriptHasRoom, IsFedWith, ScriptTakesAnswer};
+ghost use Rattle.mk_run.specs.Scripts.{HasRoom, IsFedWith, ScriptTakesAnswer, script_of};
 
-use crate::answers::answer_asked;
+use crate::answers::{answer_at_once, answer_put_off};
 use crate::paces::Pace;
 use mk_caller::Caller;
 use mk_check::{Checked, Feed, Text, is_refusal};
@@ -20,36 +23,21 @@ use std::alloc::Global;
 use std::sync::Wait;
 use std::thread::Threads;
 
-/// A script under way, and the counts of its answers and of those that refuse.
-#[derive(Drop)]
-struct Script {
-    feed: Feed,
+/// How many answers a script has had, and how many of those refuse. They stand beside the script, so that a call need not
+/// find them in memory again.
+#[derive(Clone, Copy)]
+struct Counts {
     ops: u64,
     refused: u64,
 }
 
-impl Script {
-    ghost use Rattle.std.specs.Prelude.{ℕ, List};
-    ghost use Rattle.mk_core.specs.declared.events.Answer.{Answer};
-    ghost use Rattle.mk_script.specs.declared.items.Item.{Item};
-    ghost use Rattle.mk_check.specs.Feed.{feed, is_refusal};
-
-    fn start(alloc: Global, program: &Checked, k: u64) -> Result<Script, NoMemory>
-        requires { IsScript program.now k }
-        ensures { IfOk result (IsFedWith program.now k []) }
-    {
-        Ok(Script {
-            feed: Feed::start(alloc, program, k)?,
-            ops: 0,
-            refused: 0,
-        })
-    }
+impl Counts {
+    ghost use Rattle.mk_check.specs.Feed.{is_refusal};
 
     /// Counts an answer.
     #[inline(always)]
     fn count(&mut self, answer: Answer)
-        requires { ScriptHasRoom self.old }
-        ensures feed { self.new.feed ≡ self.old.feed }
+        requires { HasRoom self.old }
         ensures ops { self.new.ops ≡ self.old.ops + 1 }
         ensures refused { self.new.refused ≡ count_by is_refusal (answer ∷ []) + self.old.refused }
     {
@@ -58,31 +46,39 @@ impl Script {
             self.refused += 1;
         }
     }
+}
 
-    /// Answers the operation that waits.
-    #[inline(always)]
-    fn answer(&mut self, alloc: Global, answer: Answer) -> Result<(), NoMemory>
-        requires waiting { IsWaiting self.old.feed }
-        requires room { ScriptHasRoom self.old }
-        ensures { OnOk result (ScriptTakesAnswer answer self.old self.new) }
-    {
-        self.feed.answer(alloc, answer)?;
-        self.count(answer);
-        Ok(())
-    }
+/// Answers the operation that waits, and counts the answer.
+#[inline(always)]
+fn take_answer(
+    alloc: Global,
+    feed: &mut Feed,
+    counts: &mut Counts,
+    answer: Answer,
+) -> Result<(), NoMemory>
+    requires waiting { IsWaiting feed.old }
+    requires room { HasRoom counts.old }
+    ensures takes { OnOk result
+        (ScriptTakesAnswer answer (script_of feed.old counts.old) (script_of feed.new counts.new)) }
+    ensures ops { OnOk result (counts.new.ops ≡ counts.old.ops + 1) }
+{
+    feed.answer(alloc, answer)?;
+    counts.count(answer);
+    Ok(())
+}
 
-    /// Its text so far.
-    fn text(&self, alloc: Global) -> Result<Text, NoMemory>
-        ensures bytes { (program : List Item) (k : ℕ) (answers : List Answer) → IsFedWith program k answers self.now
-            → IfOk result (λ text. text.bytes.items ≡ (feed program k answers).text) }
-        ensures counts { IfOk result (λ text. (text.ops ≡ self.now.ops) × (text.refused ≡ self.now.refused)) }
-    {
-        Ok(Text {
-            bytes: self.feed.text().to_vec(alloc)?,
-            ops: self.ops,
-            refused: self.refused,
-        })
-    }
+/// The text of a script so far.
+fn text_of(alloc: Global, feed: &Feed, counts: Counts) -> Result<Text, NoMemory>
+    ensures bytes { (program : List Item) (k : ℕ) (answers : List Answer)
+        → IsFedWith program k answers (script_of feed.now counts)
+        → IfOk result (λ text. text.bytes.items ≡ (feed_with program k answers).text) }
+    ensures counts { IfOk result (λ text. (text.ops ≡ counts.ops) × (text.refused ≡ counts.refused)) }
+{
+    Ok(Text {
+        bytes: feed.text().to_vec(alloc)?,
+        ops: counts.ops,
+        refused: counts.refused,
+    })
 }
 
 /// Runs a script to its end, or up to where no memory is left, between two calls. A call that finds its gate held is
@@ -115,17 +111,21 @@ pub fn run_script<E: Engine, P: Pace, R: Threads + Wait + Sync>(
 {
     // The program is well typed, so its scripts ask for nothing that isn't admitted.
     let _well_typed = program.program();
-    let mut script = Script::start(alloc, program, k)?;
-    'instructions: while script.ops < u64::MAX {
+    let mut feed = Feed::start(alloc, program, k)?;
+    let mut counts = Counts { ops: 0, refused: 0 };
+    'instructions: while counts.ops < u64::MAX {
         caller.is_idle();
-        let Some(op) = script.feed.op() else {
-            return script.text(alloc);
+        let Some(op) = feed.op() else {
+            return text_of(alloc, &feed, counts);
         };
-        let instruction = script.ops;
+        let instruction = counts.ops;
         pace.before(k, instruction);
-        let answer = answer_asked(rt, caller, bench, &script.feed, op);
+        let answer = match answer_at_once(caller, op) {
+            Some(answer) => answer,
+            None => answer_put_off(rt, caller, bench, &feed, op),
+        };
         pace.answered(k, instruction);
-        script.answer(alloc, answer)?;
+        take_answer(alloc, &mut feed, &mut counts, answer)?;
     }
     // More operations than can be counted aren't run.
     'ever: for _ in rt.forever() {}

@@ -1,17 +1,21 @@
-use Rattle.std.proofs.Common.{◌≡◌, ◌+◌, ◌∙◌, List, [], ◌∷◌, refl, sym, subst}
+use Rattle.std.proofs.Common.{◌≡◌, ◌+◌, ◌∙◌, List, [], ◌∷◌, refl, sym, ap, subst, arith}
 use Rattle.mk_core.specs.declared.events.Answer.{Answer}
 use Rattle.mk_check.specs.Laws.{IsChecked}
 use Rattle.mk_run.specs.Running.{answers_in}
-use Rattle.mk_run.specs.Scripts.{IsFedWith}
+use Rattle.mk_run.specs.Scripts.{IsAdmittedByOwnCalls, IsFedWith, script_of}
 use Rattle.mk_words.specs.States.{PassState}
-use Rattle.mk_run.proofs.ScriptCalls.{exists_on, seat_is, asked_stays_admitted, follows_now, runs_on, one_more_op}
+use Rattle.mk_run.proofs.PutOff.{IsAnsweredAs, answered_at_once, answered_later, put_off_admitted, put_off_is}
+use Rattle.mk_run.proofs.ScriptCalls.{exists_on, seat_is, asked_stays_admitted, follows_now, runs_on, then_seen}
 use Rattle.mk_run.proofs.ScriptCalls.{refused_within}
 use Rattle.mk_turns.proofs.Sweeping.{nothing_sweeps, sweeps_then}
 use Rattle.mk_cycle.proofs.Begun.{begun_then, nothing_begun}
+use Rattle.mk_run.proofs.scripts.run_script.Goals.{In-Some, In-None-answer_at_once, Joined-answer_at_once}
+use Rattle.mk_run.proofs.scripts.run_script.Goals.{in-Some-answer_at_once, in-None-answer_at_once}
 use Rattle.mk_run.proofs.scripts.run_script.Goals as goal
 
-pub answer_asked-answer-requires-clause-admitted : goal.answer_asked-answer-requires-clause-admitted
-answer_asked-answer-requires-clause-admitted g c κs within =
+-- the script's next operation is admitted
+next_admitted : (g : _) (c : In-Some g) → IsAdmittedByOwnCalls c.instructions.caller.pass c.in-Some.op
+next_admitted g c =
     let p = c.args.caller.now.pass in
     let q = c.instructions.caller.pass in
     let program = c.args.program.now in
@@ -19,33 +23,76 @@ answer_asked-answer-requires-clause-admitted g c κs within =
     let run = c.instructions.invariant.running in
     let known = c.program-well_typed.ensures in
     let checked : IsChecked program = record { well_typed = known.well_typed; of_some_text = known.of_some_text } in
-    asked_stays_admitted g.E.Engine.on program k p q c.instructions.script run
+    asked_stays_admitted g.E.Engine.on program k p q (script_of c.instructions.feed c.instructions.counts) run
     (seat_is p q k run.is c.is_idle.ensures.idle c.requires.number) c.in-Some.op
     (sym (c.in-Some.ensures.next program k (answers_in p.table.config k q.seen) run.fed.feed))
     checked c.requires.script c.requires.config
 
-pub answer_asked-answer-requires-clause-asks : goal.answer_asked-answer-requires-clause-asks
-answer_asked-answer-requires-clause-asks g c κs within =
-    record {
-      some = record {
-        program = c.args.program.now;
-        k = c.args.k;
-        answers = answers_in c.args.caller.now.pass.table.config c.args.k c.instructions.caller.pass.seen;
-        stands = c.instructions.invariant.running.fed.feed;
-      };
-      next = λ program k answers st. sym (c.in-Some.ensures.next program k answers st);
-    }
+pub answer_at_once-requires-clause-admitted : goal.answer_at_once-requires-clause-admitted
+answer_at_once-requires-clause-admitted g c =
+    next_admitted g (goal.at.answer_at_once-requires-clause-admitted g c).In-Some
 
-pub answer_asked-answer-requires-clause-exists : goal.answer_asked-answer-requires-clause-exists
-answer_asked-answer-requires-clause-exists g c κs within =
-    let p = c.args.caller.now.pass in
-    exists_on p c.instructions.caller.pass c.args.k c.args.program.now c.instructions.invariant.running.is
-    c.requires.number
-    c.requires.script c.requires.config
+-- the operation is answered, at once or later
+joined : (g : _) (c : Joined-answer_at_once g)
+    → IsAnsweredAs g.E.Engine.on g.E.Engine.sweeps g.E.Engine.begins c.instructions.caller.pass c.in-Some.op
+    c.match-answer_at_once.answer c.match-answer_at_once.caller
+joined g c =
+    let p = c.instructions.caller.pass in
+    let q = c.answer_at_once.new.caller in
+    let now = c.answer_at_once.ensures in
+    elim c.match-answer_at_once.branch [
+      | in-Some-answer_at_once w ↦
+          rw (w.caller-is, w.answer-is)
+          (answered_at_once g.E.Engine.on g.E.Engine.sweeps g.E.Engine.begins p c.in-Some.op
+          w.in-Some-answer_at_once.answer q now.home w.in-Some-answer_at_once.ensures.answers now.beside now.reached)
+      | in-None-answer_at_once w ↦
+          let later = w.answer_put_off-answer in
+          rw (w.caller-is, w.answer-is)
+          (answered_later g.E.Engine.on g.E.Engine.sweeps g.E.Engine.begins p c.in-Some.op later.result q
+          later.new.caller w.in-None-answer_at_once.ensures.put_off now.beside now.reached later.ensures.home
+          later.ensures.answers later.ensures.reached later.ensures.begun)
+    ]
 
-pub answer_asked-answer-requires-clause-alone : goal.answer_asked-answer-requires-clause-alone
-answer_asked-answer-requires-clause-alone g c κs within =
-    subst (λ (q : PassState). q.seats ≡ q.seat ∷ []) (sym c.instructions.invariant.running.is) c.requires.alone
+-- what the pass is when an operation was put off
+put_off : (g : _) (c : In-None-answer_at_once g)
+    → c.answer_at_once.new.caller.pass ≡ record c.args.caller.now.pass { seen = c.answer_at_once.new.caller.pass.seen }
+put_off g c =
+    then_seen c.args.caller.now.pass c.instructions.caller.pass c.answer_at_once.new.caller.pass
+    c.instructions.invariant.running.is
+    (put_off_is c.instructions.caller.pass c.in-Some.op c.answer_at_once.new.caller.pass
+    c.in-None-answer_at_once.ensures.put_off)
+
+pub answer_put_off-answer-requires-clause-admitted : goal.answer_put_off-answer-requires-clause-admitted
+answer_put_off-answer-requires-clause-admitted g c κs within =
+    put_off_admitted c.instructions.caller.pass c.in-Some.op c.answer_at_once.new.caller.pass
+    c.in-None-answer_at_once.ensures.put_off
+    (next_admitted g (goal.at.answer_put_off-answer-requires-clause-admitted g c κs within).In-Some)
+
+pub answer_put_off-answer-requires-clause-exists : goal.answer_put_off-answer-requires-clause-exists
+answer_put_off-answer-requires-clause-exists g c κs within =
+    let x = goal.at.answer_put_off-answer-requires-clause-exists g c κs within in
+    exists_on c.args.caller.now.pass c.answer_at_once.new.caller.pass c.args.k c.args.program.now
+    (put_off g x.In-None-answer_at_once) c.requires.number c.requires.script c.requires.config
+
+pub answer_put_off-answer-requires-clause-alone : goal.answer_put_off-answer-requires-clause-alone
+answer_put_off-answer-requires-clause-alone g c κs within =
+    let x = goal.at.answer_put_off-answer-requires-clause-alone g c κs within in
+    subst (λ (q : PassState). q.seats ≡ q.seat ∷ []) (sym (put_off g x.In-None-answer_at_once)) c.requires.alone
+
+pub answer_put_off-answer-requires-clause-made_for : goal.answer_put_off-answer-requires-clause-made_for
+answer_put_off-answer-requires-clause-made_for g c κs within =
+    let x = goal.at.answer_put_off-answer-requires-clause-made_for g c κs within in
+    c.instructions.invariant.made_for ∙ c.requires.made_for
+    ∙ ap (λ (q : PassState). q.table.config.pages) (sym (put_off g x.In-None-answer_at_once))
+
+pub answer_put_off-answer-requires-clause-book : goal.answer_put_off-answer-requires-clause-book
+answer_put_off-answer-requires-clause-book g c κs within =
+    let x = goal.at.answer_put_off-answer-requires-clause-book g c κs within in
+    c.instructions.invariant.book ∙ c.requires.book
+    ∙ ap (λ (q : PassState). q.table.config.pages) (sym (put_off g x.In-None-answer_at_once))
+
+pub instructions-smaller : goal.instructions-smaller
+instructions-smaller g c = omega (arith, c.in_ok-take_answer.ensures.ops, c.instructions-test.true)
 
 pub instructions-preserved : goal.instructions-preserved
 instructions-preserved g c =
@@ -54,69 +101,76 @@ instructions-preserved g c =
     let program = c.args.program.now in
     let k = c.args.k in
     let run = c.instructions.invariant.running in
-    let answers = answers_in p.table.config k q.seen in
-    let more : c.answer.new.self.ops ≡ c.instructions.script.ops + 1 =
-    one_more_op program k answers c.answer_asked-answer.result c.instructions.script c.answer.new.self run.fed
-    c.in_ok-answer.ensures in
-    let on = runs_on g.E.Engine.on program k p q c.instructions.script run
+    let j = joined g (goal.at.instructions-preserved g c).Joined-answer_at_once in
+    let r = c.match-answer_at_once.caller.pass in
+    let after = script_of c.take_answer.new.feed c.take_answer.new.counts in
+    let on = runs_on g.E.Engine.on program k p q (script_of c.instructions.feed c.instructions.counts) run
     (seat_is p q k run.is c.is_idle.ensures.idle c.requires.number) c.in-Some.op
-    (sym (c.in-Some.ensures.next program k answers run.fed.feed))
-    c.answer_asked-answer.result c.answer_asked-answer.new.caller.pass c.answer.new.self
-    c.answer_asked-answer.ensures.answers c.in_ok-answer.ensures in
+    (sym (c.in-Some.ensures.next program k (answers_in p.table.config k q.seen) run.fed.feed))
+    c.match-answer_at_once.answer r after j.answers c.in_ok-take_answer.ensures.takes in
     record {
-      home = c.answer_asked-answer.ensures.home;
+      home = j.home;
       running = on;
-      made_for = c.answer_asked-answer.ensures.made_for ∙ c.instructions.invariant.made_for;
-      book = c.answer_asked-answer.ensures.book ∙ c.instructions.invariant.book;
-      refused =
-          refused_within program k (answers_in p.table.config k c.answer_asked-answer.new.caller.pass.seen)
-          c.answer.new.self on.fed;
-      reached = λ none.
-          sweeps_then p q c.answer_asked-answer.new.caller.pass run.is (c.instructions.invariant.reached none)
-          (c.answer_asked-answer.ensures.reached none);
-      begun =
-          begun_then g.E.Engine.begins p q c.answer_asked-answer.new.caller.pass run.is c.instructions.invariant.begun
-          c.answer_asked-answer.ensures.begun;
+      made_for = elim c.match-answer_at_once.branch [
+        | in-Some-answer_at_once w ↦ rw w.bench-is c.instructions.invariant.made_for
+        | in-None-answer_at_once w ↦ rw w.bench-is (w.answer_put_off-answer.ensures.made_for
+            ∙ c.instructions.invariant.made_for)
+      ];
+      book = elim c.match-answer_at_once.branch [
+        | in-Some-answer_at_once w ↦ rw w.bench-is c.instructions.invariant.book
+        | in-None-answer_at_once w ↦ rw w.bench-is (w.answer_put_off-answer.ensures.book
+            ∙ c.instructions.invariant.book)
+      ];
+      refused = refused_within program k (answers_in p.table.config k r.seen) after on.fed;
+      reached = λ none. sweeps_then p q r run.is (c.instructions.invariant.reached none) (j.reached none);
+      begun = begun_then g.E.Engine.begins p q r run.is c.instructions.invariant.begun j.begun;
     }
 
-pub returns-in_err-answer-clause-follows : goal.returns-in_err-answer-clause-follows
-returns-in_err-answer-clause-follows g c =
+pub returns-in_err-take_answer-clause-pass : goal.returns-in_err-take_answer-clause-pass
+returns-in_err-take_answer-clause-pass g c =
+    let j = joined g (goal.at.returns-in_err-take_answer-clause-pass g c).Joined-answer_at_once in
+    then_seen c.args.caller.now.pass c.instructions.caller.pass c.match-answer_at_once.caller.pass
+    c.instructions.invariant.running.is j.answers.is
+
+pub returns-in_err-take_answer-clause-follows : goal.returns-in_err-take_answer-clause-follows
+returns-in_err-take_answer-clause-follows g c =
     let p = c.args.caller.now.pass in
     let q = c.instructions.caller.pass in
     let program = c.args.program.now in
     let k = c.args.k in
     let run = c.instructions.invariant.running in
-    follows_now g.E.Engine.on program k p q c.instructions.script run
+    let j = joined g (goal.at.returns-in_err-take_answer-clause-follows g c).Joined-answer_at_once in
+    follows_now g.E.Engine.on program k p q (script_of c.instructions.feed c.instructions.counts) run
     (seat_is p q k run.is c.is_idle.ensures.idle c.requires.number) c.in-Some.op
     (sym (c.in-Some.ensures.next program k (answers_in p.table.config k q.seen) run.fed.feed))
-    c.answer_asked-answer.result c.answer_asked-answer.new.caller.pass c.answer_asked-answer.ensures.answers
+    c.match-answer_at_once.answer c.match-answer_at_once.caller.pass j.answers
 
-pub returns-in_err-answer-clause-reached : goal.returns-in_err-answer-clause-reached
-returns-in_err-answer-clause-reached g c =
-    λ none.
-    sweeps_then c.args.caller.now.pass c.instructions.caller.pass c.answer_asked-answer.new.caller.pass
-    c.instructions.invariant.running.is (c.instructions.invariant.reached none)
-    (c.answer_asked-answer.ensures.reached none)
+pub returns-in_err-take_answer-clause-reached : goal.returns-in_err-take_answer-clause-reached
+returns-in_err-take_answer-clause-reached g c =
+    let j = joined g (goal.at.returns-in_err-take_answer-clause-reached g c).Joined-answer_at_once in
+    λ none. sweeps_then c.args.caller.now.pass c.instructions.caller.pass c.match-answer_at_once.caller.pass
+    c.instructions.invariant.running.is (c.instructions.invariant.reached none) (j.reached none)
 
-pub returns-in_err-answer-clause-begun : goal.returns-in_err-answer-clause-begun
-returns-in_err-answer-clause-begun g c =
-    begun_then g.E.Engine.begins c.args.caller.now.pass c.instructions.caller.pass c.answer_asked-answer.new.caller.pass
-    c.instructions.invariant.running.is c.instructions.invariant.begun c.answer_asked-answer.ensures.begun
+pub returns-in_err-take_answer-clause-begun : goal.returns-in_err-take_answer-clause-begun
+returns-in_err-take_answer-clause-begun g c =
+    let j = joined g (goal.at.returns-in_err-take_answer-clause-begun g c).Joined-answer_at_once in
+    begun_then g.E.Engine.begins c.args.caller.now.pass c.instructions.caller.pass
+    c.match-answer_at_once.caller.pass c.instructions.invariant.running.is c.instructions.invariant.begun j.begun
 
-pub returns-in_err-script-clause-begun : goal.returns-in_err-script-clause-begun
-returns-in_err-script-clause-begun g c = nothing_begun g.E.Engine.begins c.args.caller.now.pass
+pub returns-in_err-feed-clause-begun : goal.returns-in_err-feed-clause-begun
+returns-in_err-feed-clause-begun g c = nothing_begun g.E.Engine.begins c.args.caller.now.pass
 
-pub returns-in_err-script-clause-reached : goal.returns-in_err-script-clause-reached
-returns-in_err-script-clause-reached g c = λ none. nothing_sweeps c.args.caller.now.pass
+pub returns-in_err-feed-clause-reached : goal.returns-in_err-feed-clause-reached
+returns-in_err-feed-clause-reached g c = λ none. nothing_sweeps c.args.caller.now.pass
 
 pub instructions-init : goal.instructions-init
 instructions-init g c =
     let p : PassState = c.args.caller.now.pass in
     let program = c.args.program.now in
     let k = c.args.k in
-    let script = c.in_ok-script.script in
-    let fed : IsFedWith program k [] script = c.in_ok-script.ensures in
-    let none : script.ops ≡ 0 = fed.ops in
+    let script = script_of c.in_ok-feed.feed (record { ops = 0; refused = 0 }) in
+    let fed : IsFedWith program k [] script =
+    record { feed = c.in_ok-feed.ensures; ops = refl; refused = refl } in
     record {
       home = c.requires.home;
       running = record {

@@ -1,19 +1,19 @@
 use Rattle.std.proofs.Common.{◌≡◌, ◌-◌, ◌≤◌, true, false, length}
 use Rattle.mk_turns.specs.Sweeping.{SweepsNothing}
 use Rattle.mk_cycle.specs.Begun.{EachIsBegun}
-use Rattle.mk_run.specs.Scripts.{IsRunning}
+use Rattle.mk_run.specs.Scripts.{IsRunning, script_of}
 use Rattle.mk_run.proofs.scripts.run_script.Given as goal
 
 abbrev pub invariant-instructions : goal.invariant-instructions
 invariant-instructions g l = record {
   home : l.caller.home ≡ true;
-  running : IsRunning g.E.Engine.on l.fn.program l.fn.k l.fn.caller.pass l.caller.pass l.script;
+  running : IsRunning g.E.Engine.on l.fn.program l.fn.k l.fn.caller.pass l.caller.pass (script_of l.feed l.counts);
   made_for : g.E.Engine.made_for l.bench.engine ≡ g.E.Engine.made_for l.fn.bench.engine;
   book : length l.bench.book ≡ length l.fn.bench.book;
-  refused : l.script.refused ≤ l.script.ops;
+  refused : l.counts.refused ≤ l.counts.ops;
   reached : g.E.Engine.sweeps ≡ false → SweepsNothing l.fn.caller.pass l.caller.pass;
   begun : EachIsBegun g.E.Engine.begins l.fn.caller.pass l.caller.pass;
 }
 
 abbrev pub decreases-instructions : goal.decreases-instructions
-decreases-instructions g l = 18446744073709551615 - l.script.ops
+decreases-instructions g l = 18446744073709551615 - l.counts.ops

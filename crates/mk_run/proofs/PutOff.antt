@@ -1,0 +1,85 @@
+-- An operation that isn't answered at once, and what it is answered later.
+use Rattle.std.proofs.Common.{◌≡◌, Bool, true, false, List, refl, sym, ◌∙◌, subst}
+use Rattle.std.proofs.lemmas.Bool.{true≢false}
+use Rattle.mk_never.specs.declared.operations.Op.{Op}
+use Rattle.mk_core.specs.declared.events.Answer.{Answer}
+use Rattle.mk_core.specs.Calls.{is_under_turn}
+use Rattle.mk_core.specs.declared.config.Config.{Config}
+use Rattle.mk_core.specs.declared.events.Event.{Event}
+use Rattle.mk_core.specs.declared.events.Seat.{Seat}
+use Rattle.mk_words.specs.States.{PassState}
+use Rattle.mk_caller.specs.States.{CallerState}
+use Rattle.mk_turns.specs.Sweeping.{SweepsNothing}
+use Rattle.mk_turns.proofs.Sweeping.{sweeps_then}
+use Rattle.mk_cycle.specs.Begun.{EachIsBegun}
+use Rattle.mk_cycle.proofs.Begun.{begun_then}
+use Rattle.mk_run.specs.Scripts.{Answers, IsAdmittedByOwnCalls, IsPutOff, MakesNoCall, StaysBeside}
+use Rattle.mk_run.proofs.BegunScripts.{beside_begun}
+use Rattle.mk_run.proofs.ScriptCalls.{none_then_answers, stays_admitted_after}
+
+pub turn_put_off : (p : PassState) (o : Op) → is_under_turn o ≡ true → IsPutOff p o p
+turn_put_off p o under = record {
+  turn = λ is. refl;
+  held = λ beside. absurd (true≢false (sym under ∙ beside));
+}
+
+pub held_put_off : (p : PassState) (o : Op) (q : PassState) → is_under_turn o ≡ false
+    → ((on : Bool) → MakesNoCall on p q) → IsPutOff p o q
+held_put_off p o q beside none = record {
+  turn = λ under. absurd (true≢false (sym under ∙ beside));
+  held = λ is. record { beside = beside; none = none };
+}
+
+module _ (p : PassState) (o : Op) (q : PassState) (h : IsPutOff p o q) where
+  is_by_test : (b : Bool) → is_under_turn o ≡ b → q ≡ record p { seen = q.seen }
+  is_by_test true under = subst (λ (r : PassState). r ≡ record p { seen = r.seen }) (sym (h.turn under)) refl
+  is_by_test false beside = ((h.held beside).none true).is
+
+  pub put_off_is : q ≡ record p { seen = q.seen }
+  put_off_is = is_by_test (is_under_turn o) refl
+
+  admitted_by_test : (b : Bool) → is_under_turn o ≡ b → IsAdmittedByOwnCalls p o → IsAdmittedByOwnCalls q o
+  admitted_by_test true under stays = subst (λ (r : PassState). IsAdmittedByOwnCalls r o) (sym (h.turn under)) stays
+  admitted_by_test false beside stays = stays_admitted_after true p o q stays ((h.held beside).none true)
+
+  pub put_off_admitted : IsAdmittedByOwnCalls p o → IsAdmittedByOwnCalls q o
+  put_off_admitted = admitted_by_test (is_under_turn o) refl
+
+  module _ (on : Bool) (told : Answer) (r : PassState) (later : Answers on q o told r) where
+    answers_by_test : (b : Bool) → is_under_turn o ≡ b → Answers on p o told r
+    answers_by_test true under = subst (λ (x : PassState). Answers on x o told r) (h.turn under) later
+    answers_by_test false beside = none_then_answers on p q o told r ((h.held beside).none on) beside later
+
+    pub put_off_then : Answers on p o told r
+    put_off_then = answers_by_test (is_under_turn o) refl
+
+-- The caller is told this of an operation, at once or later, and the engine began what it begins.
+pub record IsAnsweredAs (on sweeps : Bool) (begins : Config → Seat → List Event → List Event → Type 0) (p : PassState)
+    (o : Op) (told : Answer) (q : CallerState) : Type 0 where
+  pub home : q.home ≡ true
+  pub answers : Answers on p o told q.pass
+  pub reached : sweeps ≡ false → SweepsNothing p q.pass
+  pub begun : EachIsBegun begins p q.pass
+
+module _ (on sweeps : Bool) (begins : Config → Seat → List Event → List Event → Type 0) (p : PassState) (o : Op)
+    (told : Answer) (q : CallerState) where
+  pub answered_at_once : q.home ≡ true → ((on : Bool) → Answers on p o told q.pass) → StaysBeside p q.pass
+      → SweepsNothing p q.pass → IsAnsweredAs on sweeps begins p o told q
+  answered_at_once home answers beside reached = record {
+    home = home;
+    answers = answers on;
+    reached = λ off. reached;
+    begun = beside_begun begins p q.pass beside;
+  }
+
+  pub answered_later : (r : CallerState) → IsPutOff p o q.pass → StaysBeside p q.pass → SweepsNothing p q.pass
+      → r.home ≡ true → Answers on q.pass o told r.pass → (sweeps ≡ false → SweepsNothing q.pass r.pass)
+      → EachIsBegun begins q.pass r.pass → IsAnsweredAs on sweeps begins p o told r
+  answered_later r off beside reached home answers more begun =
+      let is = put_off_is p o q.pass off in
+      record {
+        home = home;
+        answers = put_off_then p o q.pass off on told r.pass answers;
+        reached = λ none. sweeps_then p q.pass r.pass is reached (more none);
+        begun = begun_then begins p q.pass r.pass is (beside_begun begins p q.pass beside) begun;
+      }

@@ -1,0 +1,51 @@
+use Rattle.std.proofs.Common.{◌≡◌, Bool, true, false, rules}
+use Rattle.mk_core.specs.Calls.{is_under_turn}
+use Rattle.mk_run.specs.Scripts.{Answers, MakesNoCall}
+use Rattle.mk_run.proofs.BesideTurns.{stays_still}
+use Rattle.mk_run.proofs.PutOff.{held_put_off, turn_put_off}
+use Rattle.mk_run.proofs.ScriptCalls.{answered_by_call, makes_none}
+use Rattle.mk_turns.proofs.Sweeping.{nothing_sweeps}
+use Rattle.mk_alloc.proofs.UnsweptTurns.{calls_sweep_nothing, sweep_nothing_where_held}
+use Rattle.mk_run.proofs.answers.answer_at_once.Goals as goal
+
+pub returns-in-New : goal.returns-in-New
+returns-in-New c =
+    let p = c.args.caller.now.pass in
+    record {
+      home = c.requires.home;
+      answers = tt;
+      put_off = turn_put_off p c.args.op (search rules);
+      beside = stays_still p;
+      reached = nothing_sweeps p;
+    }
+
+pub returns-in-Ok : goal.returns-in-Ok
+returns-in-Ok c =
+    let p = c.args.caller.now.pass in
+    let q = c.call.new.caller.pass in
+    let called = c.in-Ok.ensures.called in
+    let entered : is_under_turn c.args.op ≡ false = search rules in
+    let answers : (on : Bool) → Answers on p c.args.op c.in-Ok.told q =
+    λ on. answered_by_call on p c.args.op c.in-Ok.told q c.is_idle.ensures.own entered called in
+    record {
+      home = c.call.ensures.home;
+      answers = answers;
+      put_off = tt;
+      beside = (answers true).beside entered;
+      reached = calls_sweep_nothing p c.args.op called.answer q called.called;
+    }
+
+pub returns-in-Err : goal.returns-in-Err
+returns-in-Err c =
+    let p = c.args.caller.now.pass in
+    let q = c.call.new.caller.pass in
+    let held = c.in-Err.ensures.held in
+    let entered : is_under_turn c.args.op ≡ false = search rules in
+    let none : (on : Bool) → MakesNoCall on p q = λ on. makes_none on p c.args.op q c.is_idle.ensures.own held in
+    record {
+      home = c.call.ensures.home;
+      answers = tt;
+      put_off = held_put_off p c.args.op q entered none;
+      beside = (none true).beside;
+      reached = sweep_nothing_where_held p c.args.op q c.is_idle.ensures.own held;
+    }
