@@ -6,7 +6,7 @@ ghost use Rattle.mk_geom.specs.Headers.{header_of};
 ghost use Rattle.mk_tracing.specs.Grays.{words_scanned};
 
 use mk_core::{cells_under, has_no_pointers, words_under};
-use mk_geom::{Cell, class_words};
+use mk_geom::{Cell, class_words, index_in_block};
 
 /// Where the cells of a block end in their page, by class. What comes after them is the block's tail.
 const CELLS_END: [u64; 8] = [64, 64, 60, 64, 60, 64, 48, 64];
@@ -61,7 +61,8 @@ impl Noted {
     /// word is in the block's tail.
     #[inline(always)]
     pub(crate) fn in_block(class: u64, page: u64, word: u64) -> Option<Noted>
-        requires { class < 8 }
+        requires class { class < 8 }
+        requires word { word < 64 }
         ensures some { IfSome result (λ noted. cell_of_block class page word ≡ Some noted.cell) }
         ensures none { IfNone result (cell_of_block class page word ≡ None) }
     {
@@ -71,7 +72,7 @@ impl Noted {
         let words = class_words(class);
         let cell = Cell {
             page,
-            index: word / words,
+            index: index_in_block(class, word),
         };
         Some(Noted {
             cell,
