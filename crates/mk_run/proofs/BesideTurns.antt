@@ -11,7 +11,6 @@ use Rattle.mk_core.specs.declared.events.Step.TheVariants as step
 use Rattle.mk_core.specs.declared.seats.Stage.{Stage}
 use Rattle.mk_core.specs.declared.seats.Stage.TheVariants as stage
 use Rattle.mk_core.specs.Growing.{Finding, own_from}
-use Rattle.mk_words.specs.Seats.{Has}
 use Rattle.mk_words.specs.States.{PassState}
 use Rattle.mk_caller.specs.Called.{Called, own_steps, stages_made, step_at}
 use Rattle.mk_caller.specs.Causes.{FindsGateHeld}
@@ -73,8 +72,7 @@ called_beside p o a q called =
       steps = sym (steps_of_all (done_in p called.more)) ∙ all;
     }
 
-pub held_beside : (p : PassState) (o : Op) (q : PassState) → Has p.seats p.seat → FindsGateHeld p o q
-    → StaysBeside p q
-held_beside p o q own held =
+pub held_beside : (p : PassState) (o : Op) (q : PassState) → FindsGateHeld p o q → StaysBeside p q
+held_beside p o q held =
     let d = does_step is_beside_turns p q (step.Enter o) held.finds.makes refl in
     record { more = d.more; is = ap (λ (x : PassState). x.seen) d.is; steps = d.of_kinds }

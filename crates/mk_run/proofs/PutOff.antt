@@ -9,13 +9,14 @@ use Rattle.mk_core.specs.declared.events.Event.{Event}
 use Rattle.mk_core.specs.declared.events.Seat.{Seat}
 use Rattle.mk_words.specs.States.{PassState}
 use Rattle.mk_caller.specs.States.{CallerState}
+use Rattle.mk_caller.specs.Causes.{FindsGateHeld}
 use Rattle.mk_turns.specs.Sweeping.{SweepsNothing}
 use Rattle.mk_turns.proofs.Sweeping.{sweeps_then}
 use Rattle.mk_cycle.specs.Begun.{EachIsBegun}
 use Rattle.mk_cycle.proofs.Begun.{begun_then}
-use Rattle.mk_run.specs.Scripts.{Answers, IsAdmittedByOwnCalls, IsPutOff, MakesNoCall, StaysBeside}
+use Rattle.mk_run.specs.Scripts.{Answers, IsAdmittedByOwnCalls, IsPutOff, StaysBeside}
 use Rattle.mk_run.proofs.BegunScripts.{beside_begun}
-use Rattle.mk_run.proofs.ScriptCalls.{none_then_answers, stays_admitted_after}
+use Rattle.mk_run.proofs.ScriptCalls.{makes_none, none_then_answers, stays_admitted_after}
 
 pub turn_put_off : (p : PassState) (o : Op) → is_under_turn o ≡ true → IsPutOff p o p
 turn_put_off p o under = record {
@@ -23,24 +24,24 @@ turn_put_off p o under = record {
   held = λ beside. absurd (true≢false (sym under ∙ beside));
 }
 
-pub held_put_off : (p : PassState) (o : Op) (q : PassState) → is_under_turn o ≡ false
-    → ((on : Bool) → MakesNoCall on p q) → IsPutOff p o q
-held_put_off p o q beside none = record {
+pub held_put_off : (p : PassState) (o : Op) (q : PassState) → is_under_turn o ≡ false → FindsGateHeld p o q
+    → IsPutOff p o q
+held_put_off p o q beside held = record {
   turn = λ under. absurd (true≢false (sym under ∙ beside));
-  held = λ is. record { beside = beside; none = none };
+  held = λ is. held;
 }
 
 module _ (p : PassState) (o : Op) (q : PassState) (h : IsPutOff p o q) where
   is_by_test : (b : Bool) → is_under_turn o ≡ b → q ≡ record p { seen = q.seen }
   is_by_test true under = subst (λ (r : PassState). r ≡ record p { seen = r.seen }) (sym (h.turn under)) refl
-  is_by_test false beside = ((h.held beside).none true).is
+  is_by_test false beside = (makes_none true p o q (h.held beside)).is
 
   pub put_off_is : q ≡ record p { seen = q.seen }
   put_off_is = is_by_test (is_under_turn o) refl
 
   admitted_by_test : (b : Bool) → is_under_turn o ≡ b → IsAdmittedByOwnCalls p o → IsAdmittedByOwnCalls q o
   admitted_by_test true under stays = subst (λ (r : PassState). IsAdmittedByOwnCalls r o) (sym (h.turn under)) stays
-  admitted_by_test false beside stays = stays_admitted_after true p o q stays ((h.held beside).none true)
+  admitted_by_test false beside stays = stays_admitted_after true p o q stays (makes_none true p o q (h.held beside))
 
   pub put_off_admitted : IsAdmittedByOwnCalls p o → IsAdmittedByOwnCalls q o
   put_off_admitted = admitted_by_test (is_under_turn o) refl
@@ -48,7 +49,7 @@ module _ (p : PassState) (o : Op) (q : PassState) (h : IsPutOff p o q) where
   module _ (on : Bool) (told : Answer) (r : PassState) (later : Answers on q o told r) where
     answers_by_test : (b : Bool) → is_under_turn o ≡ b → Answers on p o told r
     answers_by_test true under = subst (λ (x : PassState). Answers on x o told r) (h.turn under) later
-    answers_by_test false beside = none_then_answers on p q o told r ((h.held beside).none on) beside later
+    answers_by_test false beside = none_then_answers on p q o told r (makes_none on p o q (h.held beside)) beside later
 
     pub put_off_then : Answers on p o told r
     put_off_then = answers_by_test (is_under_turn o) refl

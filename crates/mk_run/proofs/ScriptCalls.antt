@@ -22,6 +22,7 @@ use Rattle.mk_never.specs.declared.types.Kind.{Kind}
 use Rattle.mk_never.proofs.Later.{calls_stay}
 use Rattle.mk_words.specs.Seats.{Has}
 use Rattle.mk_words.specs.States.{PassState, WordsState}
+use Rattle.mk_words.proofs.Made.{own_before}
 use Rattle.mk_caller.specs.States.{caller_of_pass, Admits, IsIdleCaller}
 use Rattle.mk_caller.specs.Called.{own_calls}
 use Rattle.mk_caller.specs.Causes.{FindsGateHeld}
@@ -75,13 +76,12 @@ answered_in_turn on p o a q own plain turn h = record {
   beside = λ besides. absurd (true≢false (sym turn ∙ besides));
 }
 
-pub makes_none : (on : Bool) (p : PassState) (o : Op) (q : PassState) → Has p.seats p.seat → FindsGateHeld p o q
-    → MakesNoCall on p q
-makes_none on p o q own h = record {
+pub makes_none : (on : Bool) (p : PassState) (o : Op) (q : PassState) → FindsGateHeld p o q → MakesNoCall on p q
+makes_none on p o q h = record {
   is = h.finds.makes.is ∙ ap (λ (r : PassState). record p { seen = r.seen }) (sym h.finds.makes.is);
   entries = h.entries;
-  exact = stay_exact_where_held on p o q own h;
-  beside = held_beside p o q own h;
+  exact = stay_exact_where_held on p o q (own_before h.finds.makes) h;
+  beside = held_beside p o q h;
 }
 
 -- own calls are the same for passes of one seat

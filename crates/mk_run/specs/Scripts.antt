@@ -16,6 +16,7 @@ use Rattle.mk_turns.specs.Doing.{are_of, done_in}
 use Rattle.mk_words.specs.States.{PassState}
 use Rattle.mk_caller.specs.States.{caller_of_pass, Admits}
 use Rattle.mk_caller.specs.Called.{own_calls, Called}
+use Rattle.mk_caller.specs.Causes.{FindsGateHeld}
 use Rattle.mk_alloc.specs.Laws.{OwnAreExact}
 use Rattle.mk_alloc.specs.TurnCalls.{CalledInTurn}
 use Rattle.mk_script.specs.declared.items.Item.{Item}
@@ -70,7 +71,7 @@ pub record IsHeldUp (p : PassState) (o : Op) (q : PassState) : Type 0 where
 -- The caller wasn't answered: a New or a Free is not begun, and of another operation the gate was held.
 pub record IsPutOff (p : PassState) (o : Op) (q : PassState) : Type 0 where
   pub turn : is_under_turn o ≡ true → q ≡ p
-  pub held : is_under_turn o ≡ false → IsHeldUp p o q
+  pub held : is_under_turn o ≡ false → FindsGateHeld p o q
 
 -- A script that is fed asks for this operation.
 pub record AsksFor (s : FeedState) (o : Op) : Type 0 where

@@ -1,9 +1,9 @@
 use Rattle.std.proofs.Common.{◌≡◌, Bool, true, false, rules}
 use Rattle.mk_core.specs.Calls.{is_under_turn}
-use Rattle.mk_run.specs.Scripts.{Answers, MakesNoCall}
-use Rattle.mk_run.proofs.BesideTurns.{stays_still}
+use Rattle.mk_run.specs.Scripts.{Answers}
+use Rattle.mk_run.proofs.BesideTurns.{held_beside, stays_still}
 use Rattle.mk_run.proofs.PutOff.{held_put_off, turn_put_off}
-use Rattle.mk_run.proofs.ScriptCalls.{answered_by_call, makes_none}
+use Rattle.mk_run.proofs.ScriptCalls.{answered_by_call}
 use Rattle.mk_turns.proofs.Sweeping.{nothing_sweeps}
 use Rattle.mk_alloc.proofs.UnsweptTurns.{calls_sweep_nothing, sweep_nothing_where_held}
 use Rattle.mk_run.proofs.answers.answer_at_once.Goals as goal
@@ -41,11 +41,10 @@ returns-in-Err c =
     let q = c.call.new.caller.pass in
     let held = c.in-Err.ensures.held in
     let entered : is_under_turn c.args.op ≡ false = search rules in
-    let none : (on : Bool) → MakesNoCall on p q = λ on. makes_none on p c.args.op q c.is_idle.ensures.own held in
     record {
       home = c.call.ensures.home;
       answers = tt;
-      put_off = held_put_off p c.args.op q entered none;
-      beside = (none true).beside;
+      put_off = held_put_off p c.args.op q entered held;
+      beside = held_beside p c.args.op q held;
       reached = sweep_nothing_where_held p c.args.op q c.is_idle.ensures.own held;
     }

@@ -56,13 +56,13 @@ returns-in-Err-call g c =
     let q = c.call.new.caller.pass in
     let held = c.in-Err-call.ensures.held in
     let entered : is_under_turn c.args.op ≡ false = search rules in
-    let none = makes_none g.E.Engine.on p c.args.op q c.is_idle.ensures.own held in
+    let none = makes_none g.E.Engine.on p c.args.op q held in
     record {
       home = c.call.ensures.home;
       made_for = refl;
       book = refl;
       answers = tt;
-      held = record { beside = entered; none = λ on. makes_none on p c.args.op q c.is_idle.ensures.own held };
+      held = record { beside = entered; none = λ on. makes_none on p c.args.op q held };
       reached = λ off. sweep_nothing_where_held p c.args.op q c.is_idle.ensures.own held;
       begun = beside_begun g.E.Engine.begins p q none.beside;
     }

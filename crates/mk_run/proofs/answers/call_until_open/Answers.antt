@@ -23,7 +23,7 @@ held-preserved g c = record {
   home = c.call.ensures.home;
   none = λ on.
       none_then_none on c.args.caller.now.pass c.held.caller.pass c.call.new.caller.pass (c.held.invariant.none on)
-      (makes_none on c.held.caller.pass c.args.op c.call.new.caller.pass c.is_idle.ensures.own c.in-Err.ensures.held);
+      (makes_none on c.held.caller.pass c.args.op c.call.new.caller.pass c.in-Err.ensures.held);
   reached =
       sweeps_then c.args.caller.now.pass c.held.caller.pass c.call.new.caller.pass (c.held.invariant.none true).is
       c.held.invariant.reached

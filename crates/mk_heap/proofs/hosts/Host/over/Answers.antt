@@ -3,7 +3,7 @@ use Rattle.mk_core.specs.declared.events.Step.TheVariants as step
 use Rattle.mk_words.specs.States.{PassState}
 use Rattle.mk_cycle.specs.EngineLaw.{IsAtPhase}
 use Rattle.mk_cycle.proofs.Allowed.{in_turn, in_turn_after}
-use Rattle.mk_heap.specs.Ending.{CallersAreJoined}
+use Rattle.mk_heap.specs.Ending.{CallersAreJoined, SaysOver}
 use Rattle.mk_heap.specs.Hosts.{HostState}
 use Rattle.mk_heap.proofs.HomeCallers.{callers_home}
 use Rattle.mk_heap.proofs.HostsKept.{home_host, home_is, home_view}
@@ -58,6 +58,24 @@ returns-clause-bench g c none =
     (callers_home (home_host home s.callers s.markers) (home_is s.pass home s.callers s.markers some c.self.invariant)
     (subst (λ (h : HostState). CallersAreJoined h) (sym view) c.requires.joined))
     (subst (λ (h : HostState). IsAtPhase h.pass 0) (sym view) none)
+
+pub returns-clause-over : goal.returns-clause-over
+returns-clause-over g c =
+    let s = c.self.inside in
+    let view =
+    home_view s.pass c.in-Some.home s.callers s.markers c.args.self.now (sym c.take.ensures.value ∙ c.in-Some.is)
+    c.self.view_is in
+    let r : PassState = c.give-back.result in
+    let turn = c.take_idle_turn-turn.ensures.takes in
+    subst (λ (h : HostState). SaysOver h.pass r) view (record {
+      taken = turn.taken;
+      idle = c.take_idle_turn-turn.result.pass;
+      said = c.over.new.self.pass;
+      takes = turn.takes;
+      ends = turn.ends;
+      says = c.over.ensures.acts.makes;
+      gives = c.give-back.ensures.acts.makes;
+    })
 
 pub returns-clause-reached : goal.returns-clause-reached
 returns-clause-reached g c =
