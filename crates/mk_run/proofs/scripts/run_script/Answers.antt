@@ -9,8 +9,8 @@ use Rattle.mk_run.proofs.ScriptCalls.{exists_on, seat_is, asked_stays_admitted, 
 use Rattle.mk_run.proofs.ScriptCalls.{refused_within}
 use Rattle.mk_turns.proofs.Sweeping.{nothing_sweeps, sweeps_then}
 use Rattle.mk_cycle.proofs.Begun.{begun_then, nothing_begun}
-use Rattle.mk_run.proofs.scripts.run_script.Goals.{In-Some, In-None-answer_at_once, Joined-answer_at_once}
-use Rattle.mk_run.proofs.scripts.run_script.Goals.{in-Some-answer_at_once, in-None-answer_at_once}
+use Rattle.mk_run.proofs.scripts.run_script.Goals.{In-Some, In-None, Joined-answer_at_once}
+use Rattle.mk_run.proofs.scripts.run_script.Goals.{in-Some-answer_at_once, in-None}
 use Rattle.mk_run.proofs.scripts.run_script.Goals as goal
 
 -- the script's next operation is admitted
@@ -45,51 +45,63 @@ joined g c =
           rw (w.caller-is, w.answer-is)
           (answered_at_once g.E.Engine.on g.E.Engine.sweeps g.E.Engine.begins p c.in-Some.op
           w.in-Some-answer_at_once.answer q now.home w.in-Some-answer_at_once.ensures.answers now.beside now.reached)
-      | in-None-answer_at_once w ↦
+      | in-None w ↦
           let later = w.answer_put_off-answer in
           rw (w.caller-is, w.answer-is)
           (answered_later g.E.Engine.on g.E.Engine.sweeps g.E.Engine.begins p c.in-Some.op later.result q
-          later.new.caller w.in-None-answer_at_once.ensures.put_off now.beside now.reached later.ensures.home
+          later.new.caller w.in-None.ensures.put_off now.beside now.reached later.ensures.home
           later.ensures.answers later.ensures.reached later.ensures.begun)
     ]
 
 -- what the pass is when an operation was put off
-put_off : (g : _) (c : In-None-answer_at_once g)
+put_off : (g : _) (c : In-None g)
     → c.answer_at_once.new.caller.pass ≡ record c.args.caller.now.pass { seen = c.answer_at_once.new.caller.pass.seen }
 put_off g c =
     then_seen c.args.caller.now.pass c.instructions.caller.pass c.answer_at_once.new.caller.pass
     c.instructions.invariant.running.is
     (put_off_is c.instructions.caller.pass c.in-Some.op c.answer_at_once.new.caller.pass
-    c.in-None-answer_at_once.ensures.put_off)
+    c.in-None.ensures.put_off)
 
 pub answer_put_off-answer-requires-clause-admitted : goal.answer_put_off-answer-requires-clause-admitted
 answer_put_off-answer-requires-clause-admitted g c κs within =
     put_off_admitted c.instructions.caller.pass c.in-Some.op c.answer_at_once.new.caller.pass
-    c.in-None-answer_at_once.ensures.put_off
-    (next_admitted g (goal.at.answer_put_off-answer-requires-clause-admitted g c κs within).In-Some)
+    c.in-None.ensures.put_off
+    (next_admitted g (goal.at.answer_put_off-answer-requires-clause-admitted g c).In-Some)
+
+pub answer_put_off-answer-requires-clause-asks : goal.answer_put_off-answer-requires-clause-asks
+answer_put_off-answer-requires-clause-asks g c κs within =
+    record {
+      some = record {
+        program = c.args.program.now;
+        k = c.args.k;
+        answers = answers_in c.args.caller.now.pass.table.config c.args.k c.instructions.caller.pass.seen;
+        stands = c.instructions.invariant.running.fed.feed;
+      };
+      next = λ program k answers fed. sym (c.in-Some.ensures.next program k answers fed);
+    }
 
 pub answer_put_off-answer-requires-clause-exists : goal.answer_put_off-answer-requires-clause-exists
 answer_put_off-answer-requires-clause-exists g c κs within =
-    let x = goal.at.answer_put_off-answer-requires-clause-exists g c κs within in
+    let x = goal.at.answer_put_off-answer-requires-clause-exists g c in
     exists_on c.args.caller.now.pass c.answer_at_once.new.caller.pass c.args.k c.args.program.now
-    (put_off g x.In-None-answer_at_once) c.requires.number c.requires.script c.requires.config
+    (put_off g x.In-None) c.requires.number c.requires.script c.requires.config
 
 pub answer_put_off-answer-requires-clause-alone : goal.answer_put_off-answer-requires-clause-alone
 answer_put_off-answer-requires-clause-alone g c κs within =
-    let x = goal.at.answer_put_off-answer-requires-clause-alone g c κs within in
-    subst (λ (q : PassState). q.seats ≡ q.seat ∷ []) (sym (put_off g x.In-None-answer_at_once)) c.requires.alone
+    let x = goal.at.answer_put_off-answer-requires-clause-alone g c in
+    subst (λ (q : PassState). q.seats ≡ q.seat ∷ []) (sym (put_off g x.In-None)) c.requires.alone
 
 pub answer_put_off-answer-requires-clause-made_for : goal.answer_put_off-answer-requires-clause-made_for
 answer_put_off-answer-requires-clause-made_for g c κs within =
-    let x = goal.at.answer_put_off-answer-requires-clause-made_for g c κs within in
+    let x = goal.at.answer_put_off-answer-requires-clause-made_for g c in
     c.instructions.invariant.made_for ∙ c.requires.made_for
-    ∙ ap (λ (q : PassState). q.table.config.pages) (sym (put_off g x.In-None-answer_at_once))
+    ∙ ap (λ (q : PassState). q.table.config.pages) (sym (put_off g x.In-None))
 
 pub answer_put_off-answer-requires-clause-book : goal.answer_put_off-answer-requires-clause-book
 answer_put_off-answer-requires-clause-book g c κs within =
-    let x = goal.at.answer_put_off-answer-requires-clause-book g c κs within in
+    let x = goal.at.answer_put_off-answer-requires-clause-book g c in
     c.instructions.invariant.book ∙ c.requires.book
-    ∙ ap (λ (q : PassState). q.table.config.pages) (sym (put_off g x.In-None-answer_at_once))
+    ∙ ap (λ (q : PassState). q.table.config.pages) (sym (put_off g x.In-None))
 
 pub instructions-smaller : goal.instructions-smaller
 instructions-smaller g c = omega (arith, c.in_ok-take_answer.ensures.ops, c.instructions-test.true)
@@ -113,12 +125,12 @@ instructions-preserved g c =
       running = on;
       made_for = elim c.match-answer_at_once.branch [
         | in-Some-answer_at_once w ↦ rw w.bench-is c.instructions.invariant.made_for
-        | in-None-answer_at_once w ↦ rw w.bench-is (w.answer_put_off-answer.ensures.made_for
+        | in-None w ↦ rw w.bench-is (w.answer_put_off-answer.ensures.made_for
             ∙ c.instructions.invariant.made_for)
       ];
       book = elim c.match-answer_at_once.branch [
         | in-Some-answer_at_once w ↦ rw w.bench-is c.instructions.invariant.book
-        | in-None-answer_at_once w ↦ rw w.bench-is (w.answer_put_off-answer.ensures.book
+        | in-None w ↦ rw w.bench-is (w.answer_put_off-answer.ensures.book
             ∙ c.instructions.invariant.book)
       ];
       refused = refused_within program k (answers_in p.table.config k r.seen) after on.fed;
