@@ -1,6 +1,5 @@
 use Rattle.std.proofs.Common.{◌≡◌, true, subst}
 use Rattle.mk_core.specs.Cells.{points_well}
-use Rattle.mk_tracing.specs.Grays.{MarksMore}
 use Rattle.mk_tracing.specs.Stops.{still_words}
 use Rattle.mk_tracing.proofs.MoreMarks.{more_same}
 use Rattle.mk_tracing.proofs.NotedCells.{noted_same}
