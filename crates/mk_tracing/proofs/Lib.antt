@@ -16,3 +16,4 @@ pub mod Closes
 pub mod DirtyWords
 pub mod ScannedWords
 pub mod PointedCells
+pub mod NotedCells

@@ -1,3 +1,4 @@
 pub mod Tracing
 pub mod Stops
 pub mod Grays
+pub mod Noted

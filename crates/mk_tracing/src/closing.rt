@@ -27,6 +27,7 @@ fn mark_in_stop(words: &Words, stop: &mut Stopped, work: &mut Worklist)
     ensures roots { RootsPointWell words.now.config.pages (still_words stop.new.pass) }
 {
     clean_dirty(words, stop);
+    work.forget();
     mark_roots(words, stop, work);
     trace(words, stop, work);
 }

@@ -4,12 +4,13 @@ ghost use Rattle.mk_geom.specs.Headers.{header_of};
 ghost use Rattle.mk_core.specs.Bits.{has_bit, without};
 ghost use Rattle.mk_core.specs.Cells.{cells_under};
 ghost use Rattle.mk_tracing.specs.Grays.{HasNoGray, IsGrayUnder, MarksOn};
+ghost use Rattle.mk_tracing.specs.Noted.{AreNoted, IsNoted};
 ghost use Rattle.mk_tracing.specs.Stops.{IsWanted, still_words};
 
-use crate::noted::{Noted, words_scanned};
-use crate::stepping::{look_among, next_in_use};
+use crate::noted::{Noted, has_cell, words_scanned};
+use crate::stepping::{look_among, look_at, next_in_use};
 use crate::worklist::Worklist;
-use mk_core::{Word, cells_under, has_bit, without};
+use mk_core::{Word, cells_under, without};
 use mk_geom::Cell;
 use mk_words::{Stopped, Words};
 
@@ -110,33 +111,29 @@ fn gray_between(words: &Words, stop: &mut Stopped, from: u64, to: u64) -> Option
     None
 }
 
-/// Whether a cell that was noted is gray, and under the same header word.
+/// Whether a cell that was noted is gray. It is marked, and its page has the header word under which it was noted.
 #[inline(always)]
 fn is_gray(words: &Words, stop: &mut Stopped, noted: Noted) -> bool
     requires one_table { stop.old.pass.table ≡ words.now }
     requires wanted { IsWanted stop.old.pass }
+    requires noted { IsNoted words.now.config.pages (still_words stop.old.pass) noted }
     ensures on { MarksOn stop.old stop.new }
     ensures words { still_words stop.new.pass ≡ still_words stop.old.pass }
     ensures gray { result ≡ true
         → IsGrayUnder words.now.config.pages (still_words stop.old.pass) noted.cell noted.header }
 {
-    let pages = words.pages();
     let Cell { page, index } = noted.cell;
-    if page >= pages {
-        return false;
-    }
-    let header = look_among(words, stop, pages, Word::Head(page));
-    let marks = look_among(words, stop, pages, Word::Mark(page));
-    let blacks = look_among(words, stop, pages, Word::Black(page));
-    header == noted.header && has_bit(without(marks, blacks), index)
+    !has_cell(look_at(words, stop, Word::Black(page)), index)
 }
 
 /// The gray cell that was noted last.
 fn gray_noted(words: &Words, stop: &mut Stopped, work: &mut Worklist) -> Option<Noted>
     requires one_table { stop.old.pass.table ≡ words.now }
     requires wanted { IsWanted stop.old.pass }
+    requires noted { AreNoted words.now.config.pages (still_words stop.old.pass) work.old }
     ensures on { MarksOn stop.old stop.new }
     ensures words { still_words stop.new.pass ≡ still_words stop.old.pass }
+    ensures noted { AreNoted words.now.config.pages (still_words stop.new.pass) work.new }
     ensures gray { IfSome result
         (λ gray. IsGrayUnder words.now.config.pages (still_words stop.old.pass) gray.cell gray.header) }
 {
@@ -170,8 +167,10 @@ fn gray_somewhere(words: &Words, stop: &mut Stopped, from: u64) -> Option<Noted>
 pub(crate) fn next_gray(words: &Words, stop: &mut Stopped, work: &mut Worklist) -> Option<Noted>
     requires one_table { stop.old.pass.table ≡ words.now }
     requires wanted { IsWanted stop.old.pass }
+    requires noted { AreNoted words.now.config.pages (still_words stop.old.pass) work.old }
     ensures on { MarksOn stop.old stop.new }
     ensures words { still_words stop.new.pass ≡ still_words stop.old.pass }
+    ensures noted { AreNoted words.now.config.pages (still_words stop.new.pass) work.new }
     ensures gray { IfSome result
         (λ gray. IsGrayUnder words.now.config.pages (still_words stop.old.pass) gray.cell gray.header) }
     ensures none { IfNone result ((p : ℕ) → p < words.now.config.pages → HasNoGray (still_words stop.old.pass) p) }

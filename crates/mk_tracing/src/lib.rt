@@ -22,6 +22,5 @@ mod worklist;
 pub use closing::close_marks;
 pub use laws::reached_marks_sweep_nothing;
 pub use roots::mark_roots;
-pub use tracing::trace;
 pub use waiting::want_and_wait;
 pub use worklist::Worklist;

@@ -1,5 +1,6 @@
 //! What is noted of a marked cell: what follows from its page's header word alone, which is asked once.
 ghost use Rattle.std.specs.Prelude.{◌≡◌, ◌<◌, ◌+◌, Some, None, IfSome, IfNone};
+ghost use Rattle.mk_core.specs.Bits.{has_bit};
 ghost use Rattle.mk_core.specs.Cells.{cells_under};
 ghost use Rattle.mk_geom.specs.Addresses.{cell_of_block};
 ghost use Rattle.mk_geom.specs.Headers.{header_of};
@@ -32,6 +33,15 @@ pub(crate) fn words_scanned(header: u64) -> u64
     }
 }
 
+/// Whether a word of a page has the bit of a cell.
+#[inline(always)]
+pub(crate) fn has_cell(word: u64, index: u64) -> bool
+    requires index { index < 64 }
+    ensures { result ≡ has_bit word index }
+{
+    (word >> index) & 1 == 1
+}
+
 impl Noted {
     /// A first cell of a block, for room that nothing is noted in yet.
     pub(crate) fn nothing() -> Noted {
@@ -44,7 +54,8 @@ impl Noted {
 
     /// The cell of a page, if there is one of its index under the header word.
     pub(crate) fn under(header: u64, cell: Cell) -> Option<Noted>
-        ensures { IfSome result (λ noted. noted.cell ≡ cell) }
+        ensures cell { IfSome result (λ noted. noted.cell ≡ cell) }
+        ensures header { IfSome result (λ noted. noted.header ≡ header) }
     {
         if cell.index >= cells_under(header) {
             return None;
@@ -64,6 +75,8 @@ impl Noted {
         requires class { class < 8 }
         requires word { word < 64 }
         ensures some { IfSome result (λ noted. cell_of_block class page word ≡ Some noted.cell) }
+        ensures page { IfSome result (λ noted. noted.cell.page ≡ page) }
+        ensures header { IfSome result (λ noted. noted.header ≡ 1 + class) }
         ensures none { IfNone result (cell_of_block class page word ≡ None) }
     {
         if word >= CELLS_END[class as usize] {

@@ -1,9 +1,10 @@
 //! Marks by the values of words, each noted for the scan that is due then.
 ghost use Rattle.std.specs.Prelude.{◌≡◌, ◌≢◌, ◌<◌, true};
-ghost use Rattle.mk_core.specs.Cells.{points_well};
+ghost use Rattle.mk_core.specs.Cells.{is_marked, points_well};
 ghost use Rattle.mk_core.specs.Words.{header_at};
 ghost use Rattle.mk_geom.specs.Addresses.{is_heap_address, page_at_address};
 ghost use Rattle.mk_tracing.specs.Grays.{IsInHand, MarksMore, MarksOn};
+ghost use Rattle.mk_tracing.specs.Noted.{AreNoted};
 ghost use Rattle.mk_tracing.specs.Stops.{IsWanted, still_words};
 
 use crate::noted::Noted;
@@ -23,8 +24,11 @@ fn note(words: &Words, stop: &mut Stopped, work: &mut Worklist, pages: u64, cell
     requires pages { pages ≡ words.now.config.pages }
     requires wanted { IsWanted stop.old.pass }
     requires page { cell.page < words.now.config.pages }
+    requires marked { is_marked (still_words stop.old.pass) cell ≡ true }
     ensures on { MarksOn stop.old stop.new }
     ensures words { still_words stop.new.pass ≡ still_words stop.old.pass }
+    ensures noted { AreNoted words.now.config.pages (still_words stop.old.pass) work.old
+        → AreNoted words.now.config.pages (still_words stop.new.pass) work.new }
 {
     let header = look_among(words, stop, pages, Word::Head(cell.page));
     if let Some(noted) = Noted::under(header, cell) {
@@ -50,6 +54,8 @@ fn mark_under(
     ensures on { MarksOn stop.old stop.new }
     ensures more { MarksMore (still_words stop.old.pass) (still_words stop.new.pass) }
     ensures well { points_well words.now.config.pages (still_words stop.new.pass) value ≡ true }
+    ensures noted { AreNoted words.now.config.pages (still_words stop.old.pass) work.old
+        → AreNoted words.now.config.pages (still_words stop.new.pass) work.new }
 {
     let Some(cell) = lookup(pages, header, value) else {
         return;
@@ -60,7 +66,7 @@ fn mark_under(
 }
 
 /// Marks what the hand points into, in this page, and notes it. Most pages are blocks for objects with pointers.
-#[inline(never)]
+#[inline(always)]
 fn mark_pointed(
     words: &Words,
     stop: &mut Stopped,
@@ -79,6 +85,8 @@ fn mark_pointed(
     ensures on { MarksOn stop.old stop.new }
     ensures more { MarksMore (still_words stop.old.pass) (still_words stop.new.pass) }
     ensures well { points_well words.now.config.pages (still_words stop.new.pass) value ≡ true }
+    ensures noted { AreNoted words.now.config.pages (still_words stop.old.pass) work.old
+        → AreNoted words.now.config.pages (still_words stop.new.pass) work.new }
 {
     let header = look_among(words, stop, pages, Word::Head(page));
     if header == 0 || header > LAST_BLOCK {
@@ -109,9 +117,33 @@ pub(crate) fn mark_and_note(
     ensures on { MarksOn stop.old stop.new }
     ensures more { MarksMore (still_words stop.old.pass) (still_words stop.new.pass) }
     ensures well { points_well words.now.config.pages (still_words stop.new.pass) value ≡ true }
+    ensures noted { AreNoted words.now.config.pages (still_words stop.old.pass) work.old
+        → AreNoted words.now.config.pages (still_words stop.new.pass) work.new }
 {
     let Some(page) = heap_page(pages, value) else {
         return;
     };
     mark_pointed(words, stop, work, pages, page, value);
+}
+
+/// The same, not inlined: for values that seldom are addresses of the heap.
+#[inline(never)]
+pub(crate) fn mark_apart(
+    words: &Words,
+    stop: &mut Stopped,
+    work: &mut Worklist,
+    pages: u64,
+    value: u64,
+)
+    requires one_table { stop.old.pass.table ≡ words.now }
+    requires pages { pages ≡ words.now.config.pages }
+    requires wanted { IsWanted stop.old.pass }
+    requires hand { value ≢ 0 → IsInHand stop.old.pass value }
+    ensures on { MarksOn stop.old stop.new }
+    ensures more { MarksMore (still_words stop.old.pass) (still_words stop.new.pass) }
+    ensures well { points_well words.now.config.pages (still_words stop.new.pass) value ≡ true }
+    ensures noted { AreNoted words.now.config.pages (still_words stop.old.pass) work.old
+        → AreNoted words.now.config.pages (still_words stop.new.pass) work.new }
+{
+    mark_and_note(words, stop, work, pages, value);
 }

@@ -4,9 +4,10 @@ ghost use Rattle.mk_core.specs.Cells.{points_well};
 ghost use Rattle.mk_core.specs.Ranges.{is_word};
 ghost use Rattle.mk_core.specs.Words.{named_word, register_word};
 ghost use Rattle.mk_tracing.specs.Grays.{GlobalIsWell, RegistersAreWell, MarksMore, MarksOn, RootsPointWell};
+ghost use Rattle.mk_tracing.specs.Noted.{AreNoted};
 ghost use Rattle.mk_tracing.specs.Stops.{IsWanted, is_root, still_words};
 
-use crate::noting::mark_and_note;
+use crate::noting::mark_apart;
 use crate::stepping::look_at_root;
 use crate::worklist::Worklist;
 use mk_core::Word;
@@ -21,7 +22,7 @@ const GROUP: u64 = 8;
 
 const GROUPS: u64 = 8;
 
-/// Looks at a root, and marks what its value points into. The table is of this many pages.
+/// Looks at a root, and marks what its value points into. Most are null. The table is of this many pages.
 #[inline(always)]
 fn mark_root(words: &Words, stop: &mut Stopped, work: &mut Worklist, pages: u64, x: Word)
     requires one_table { stop.old.pass.table ≡ words.now }
@@ -33,9 +34,14 @@ fn mark_root(words: &Words, stop: &mut Stopped, work: &mut Worklist, pages: u64,
     ensures more { MarksMore (still_words stop.old.pass) (still_words stop.new.pass) }
     ensures well { points_well words.now.config.pages (still_words stop.new.pass)
         (named_word (still_words stop.old.pass) x) ≡ true }
+    ensures noted { AreNoted words.now.config.pages (still_words stop.old.pass) work.old
+        → AreNoted words.now.config.pages (still_words stop.new.pass) work.new }
 {
     let value = look_at_root(words, stop, pages, x);
-    mark_and_note(words, stop, work, pages, value);
+    if value < HEAP_START {
+        return;
+    }
+    mark_apart(words, stop, work, pages, value);
 }
 
 /// Marks what a caller's registers point into.
@@ -46,6 +52,8 @@ fn mark_registers_of(words: &Words, stop: &mut Stopped, work: &mut Worklist, cal
     ensures on { MarksOn stop.old stop.new }
     ensures more { MarksMore (still_words stop.old.pass) (still_words stop.new.pass) }
     ensures well { RegistersAreWell words.now.config stop.old.pass stop.new.pass caller }
+    ensures noted { AreNoted words.now.config.pages (still_words stop.old.pass) work.old
+        → AreNoted words.now.config.pages (still_words stop.new.pass) work.new }
 {
     let pages = words.pages();
     for register in 0..REGISTERS {
@@ -61,6 +69,8 @@ fn mark_registers(words: &Words, stop: &mut Stopped, work: &mut Worklist)
     ensures more { MarksMore (still_words stop.old.pass) (still_words stop.new.pass) }
     ensures well { (k : ℕ) → k < words.now.config.callers
         → RegistersAreWell words.now.config stop.old.pass stop.new.pass k }
+    ensures noted { AreNoted words.now.config.pages (still_words stop.old.pass) work.old
+        → AreNoted words.now.config.pages (still_words stop.new.pass) work.new }
 {
     for caller in 0..words.callers() {
         mark_registers_of(words, stop, work, caller);
@@ -94,6 +104,8 @@ fn mark_group(words: &Words, stop: &mut Stopped, work: &mut Worklist, pages: u64
     ensures on { MarksOn stop.old stop.new }
     ensures more { MarksMore (still_words stop.old.pass) (still_words stop.new.pass) }
     ensures well { (i : ℕ) → i < 8 → GlobalIsWell words.now.config stop.old.pass stop.new.pass (first + i) }
+    ensures noted { AreNoted words.now.config.pages (still_words stop.old.pass) work.old
+        → AreNoted words.now.config.pages (still_words stop.new.pass) work.new }
 {
     if are_before_heap(words, stop, pages, first) {
         return;
@@ -110,6 +122,8 @@ fn mark_globals(words: &Words, stop: &mut Stopped, work: &mut Worklist)
     ensures on { MarksOn stop.old stop.new }
     ensures more { MarksMore (still_words stop.old.pass) (still_words stop.new.pass) }
     ensures well { (g : ℕ) → g < 64 → GlobalIsWell words.now.config stop.old.pass stop.new.pass g }
+    ensures noted { AreNoted words.now.config.pages (still_words stop.old.pass) work.old
+        → AreNoted words.now.config.pages (still_words stop.new.pass) work.new }
 {
     let pages = words.pages();
     for group in 0..GROUPS {
@@ -125,6 +139,8 @@ pub fn mark_roots(words: &Words, stop: &mut Stopped, work: &mut Worklist)
     ensures on { MarksOn stop.old stop.new }
     ensures more { MarksMore (still_words stop.old.pass) (still_words stop.new.pass) }
     ensures roots { RootsPointWell words.now.config.pages (still_words stop.new.pass) }
+    ensures noted { AreNoted words.now.config.pages (still_words stop.old.pass) work.old
+        → AreNoted words.now.config.pages (still_words stop.new.pass) work.new }
 {
     stop.is_in_order();
     mark_registers(words, stop, work);

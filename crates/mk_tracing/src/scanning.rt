@@ -3,6 +3,7 @@
 ghost use Rattle.std.specs.Prelude.{◌≡◌, ℕ, ◌+◌, ◌<◌, ◌≤◌, true, slice_index};
 ghost use Rattle.mk_core.specs.Cells.{first_word, words_point_well};
 ghost use Rattle.mk_tracing.specs.Grays.{IsDue, MarksMore, MarksOn, WordIsWell};
+ghost use Rattle.mk_tracing.specs.Noted.{AreNoted};
 ghost use Rattle.mk_tracing.specs.Stops.{IsWanted, still_words};
 
 use crate::noting::mark_and_note;
@@ -64,6 +65,8 @@ fn scan_words(
     ensures more { MarksMore (still_words stop.old.pass) (still_words stop.new.pass) }
     ensures well { (i : ℕ) → from ≤ i → i < to
         → WordIsWell words.now.config stop.old.pass stop.new.pass cell i }
+    ensures noted { AreNoted words.now.config.pages (still_words stop.old.pass) work.old
+        → AreNoted words.now.config.pages (still_words stop.new.pass) work.new }
 {
     for i in from..to {
         let value = look_at_word(words, stop, pages, cell, size, i);
@@ -71,28 +74,31 @@ fn scan_words(
     }
 }
 
-/// Looks at each of a group of words of a gray cell, from this one on, and marks what it points into. It isn't inlined,
-/// since few groups need it.
+/// The same, not inlined: few groups have a word that may be an address of the heap.
 #[inline(never)]
-fn scan_each(
+fn scan_apart(
     words: &Words,
     stop: &mut Stopped,
     work: &mut Worklist,
     pages: u64,
     cell: Cell,
     size: u64,
-    first: u64,
+    from: u64,
+    to: u64,
 )
     requires one_table { stop.old.pass.table ≡ words.now }
     requires pages { pages ≡ words.now.config.pages }
     requires wanted { IsWanted stop.old.pass }
     requires due { IsDue words.now.config.pages (still_words stop.old.pass) cell size }
-    requires group { first + 8 ≤ size }
+    requires to { to ≤ size }
     ensures on { MarksOn stop.old stop.new }
     ensures more { MarksMore (still_words stop.old.pass) (still_words stop.new.pass) }
-    ensures well { (i : ℕ) → i < 8 → WordIsWell words.now.config stop.old.pass stop.new.pass cell (first + i) }
+    ensures well { (i : ℕ) → from ≤ i → i < to
+        → WordIsWell words.now.config stop.old.pass stop.new.pass cell i }
+    ensures noted { AreNoted words.now.config.pages (still_words stop.old.pass) work.old
+        → AreNoted words.now.config.pages (still_words stop.new.pass) work.new }
 {
-    scan_words(words, stop, work, pages, cell, size, first, first + GROUP);
+    scan_words(words, stop, work, pages, cell, size, from, to);
 }
 
 /// Looks at a group of words of a gray cell, from this one on, and marks what they point into.
@@ -114,14 +120,43 @@ fn scan_group(
     ensures on { MarksOn stop.old stop.new }
     ensures more { MarksMore (still_words stop.old.pass) (still_words stop.new.pass) }
     ensures well { (i : ℕ) → i < 8 → WordIsWell words.now.config stop.old.pass stop.new.pass cell (first + i) }
+    ensures noted { AreNoted words.now.config.pages (still_words stop.old.pass) work.old
+        → AreNoted words.now.config.pages (still_words stop.new.pass) work.new }
 {
     if are_before_heap(words, stop, pages, cell, size, first) {
         return;
     }
-    scan_each(words, stop, work, pages, cell, size, first);
+    scan_apart(words, stop, work, pages, cell, size, first, first + GROUP);
 }
 
-/// Looks at each word of a gray cell, of this many, and marks what it points into.
+/// Looks at each word of a gray cell of at least eight words, a group after the other, and marks what it points into.
+#[inline(always)]
+fn scan_groups(
+    words: &Words,
+    stop: &mut Stopped,
+    work: &mut Worklist,
+    pages: u64,
+    cell: Cell,
+    size: u64,
+)
+    requires one_table { stop.old.pass.table ≡ words.now }
+    requires pages { pages ≡ words.now.config.pages }
+    requires wanted { IsWanted stop.old.pass }
+    requires due { IsDue words.now.config.pages (still_words stop.old.pass) cell size }
+    ensures on { MarksOn stop.old stop.new }
+    ensures more { MarksMore (still_words stop.old.pass) (still_words stop.new.pass) }
+    ensures well { words_point_well words.now.config.pages (still_words stop.new.pass) cell ≡ true }
+    ensures noted { AreNoted words.now.config.pages (still_words stop.old.pass) work.old
+        → AreNoted words.now.config.pages (still_words stop.new.pass) work.new }
+{
+    let groups = size / GROUP;
+    for group in 0..groups {
+        scan_group(words, stop, work, pages, cell, size, GROUP * group);
+    }
+    scan_words(words, stop, work, pages, cell, size, GROUP * groups, size);
+}
+
+/// Looks at each word of a gray cell, of this many, and marks what it points into. Most cells have few words.
 pub(crate) fn scan(words: &Words, stop: &mut Stopped, work: &mut Worklist, cell: Cell, size: u64)
     requires one_table { stop.old.pass.table ≡ words.now }
     requires wanted { IsWanted stop.old.pass }
@@ -129,11 +164,13 @@ pub(crate) fn scan(words: &Words, stop: &mut Stopped, work: &mut Worklist, cell:
     ensures on { MarksOn stop.old stop.new }
     ensures more { MarksMore (still_words stop.old.pass) (still_words stop.new.pass) }
     ensures well { words_point_well words.now.config.pages (still_words stop.new.pass) cell ≡ true }
+    ensures noted { AreNoted words.now.config.pages (still_words stop.old.pass) work.old
+        → AreNoted words.now.config.pages (still_words stop.new.pass) work.new }
 {
     let pages = words.pages();
-    let groups = size / GROUP;
-    for group in 0..groups {
-        scan_group(words, stop, work, pages, cell, size, GROUP * group);
+    if size < GROUP {
+        scan_words(words, stop, work, pages, cell, size, 0, size);
+        return;
     }
-    scan_words(words, stop, work, pages, cell, size, GROUP * groups, size);
+    scan_groups(words, stop, work, pages, cell, size);
 }

@@ -2,6 +2,7 @@
 ghost use Rattle.std.specs.Prelude.{◌≡◌, ℕ, ◌<◌, true};
 ghost use Rattle.mk_core.specs.StopConditions.{may_turn_black};
 ghost use Rattle.mk_tracing.specs.Grays.{BlackensOne, ColoursMore, HasNoGray, IsGrayUnder, MarksMore, MarksOn};
+ghost use Rattle.mk_tracing.specs.Noted.{AreNoted};
 ghost use Rattle.mk_tracing.specs.Stops.{IsWanted, still_words};
 
 use crate::grays::next_gray;
@@ -20,6 +21,8 @@ fn scan_if_due(words: &Words, stop: &mut Stopped, work: &mut Worklist, gray: Not
     ensures on { MarksOn stop.old stop.new }
     ensures more { MarksMore (still_words stop.old.pass) (still_words stop.new.pass) }
     ensures turns { may_turn_black words.now.config.pages (still_words stop.new.pass) gray.cell ≡ true }
+    ensures noted { AreNoted words.now.config.pages (still_words stop.old.pass) work.old
+        → AreNoted words.now.config.pages (still_words stop.new.pass) work.new }
 {
     if gray.words == 0 {
         return;
@@ -34,15 +37,18 @@ fn blacken(words: &Words, stop: &mut Stopped, work: &mut Worklist, gray: Noted)
     requires gray { IsGrayUnder words.now.config.pages (still_words stop.old.pass) gray.cell gray.header }
     ensures on { MarksOn stop.old stop.new }
     ensures one { BlackensOne (still_words stop.old.pass) gray.cell (still_words stop.new.pass) }
+    ensures noted { AreNoted words.now.config.pages (still_words stop.old.pass) work.old
+        → AreNoted words.now.config.pages (still_words stop.new.pass) work.new }
 {
     scan_if_due(words, stop, work, gray);
     blacken_cell(words, stop, gray.cell);
 }
 
 /// Blackens every marked cell. What its words point into is marked first.
-pub fn trace(words: &Words, stop: &mut Stopped, work: &mut Worklist)
+pub(crate) fn trace(words: &Words, stop: &mut Stopped, work: &mut Worklist)
     requires one_table { stop.old.pass.table ≡ words.now }
     requires wanted { IsWanted stop.old.pass }
+    requires noted { AreNoted words.now.config.pages (still_words stop.old.pass) work.old }
     ensures on { MarksOn stop.old stop.new }
     ensures more { ColoursMore (still_words stop.old.pass) (still_words stop.new.pass) }
     ensures black { (p : ℕ) → p < words.now.config.pages → HasNoGray (still_words stop.new.pass) p }

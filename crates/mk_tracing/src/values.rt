@@ -4,8 +4,9 @@ ghost use Rattle.mk_core.specs.Cells.{is_marked};
 ghost use Rattle.mk_tracing.specs.Grays.{HandPointsInto, MarksMore, MarksOn};
 ghost use Rattle.mk_tracing.specs.Stops.{IsWanted, hand_of, still_words};
 
+use crate::noted::has_cell;
 use crate::stepping::{look_among, mark_cell};
-use mk_core::{Word, has_bit};
+use mk_core::Word;
 use mk_geom::Cell;
 use mk_words::{Stopped, Words};
 
@@ -16,13 +17,14 @@ fn is_marked(words: &Words, stop: &mut Stopped, pages: u64, cell: Cell) -> bool
     requires pages { pages ≡ words.now.config.pages }
     requires wanted { IsWanted stop.old.pass }
     requires page { cell.page < words.now.config.pages }
+    requires index { cell.index < 64 }
     ensures on { MarksOn stop.old stop.new }
     ensures words { still_words stop.new.pass ≡ still_words stop.old.pass }
     ensures hand { hand_of stop.new.pass ≡ hand_of stop.old.pass }
     ensures marked { result ≡ is_marked (still_words stop.old.pass) cell }
 {
     let marks = look_among(words, stop, pages, Word::Mark(cell.page));
-    has_bit(marks, cell.index)
+    has_cell(marks, cell.index)
 }
 
 /// Marks the cell into which the hand points, if it isn't marked yet. Returns whether it wasn't.

@@ -1,5 +1,5 @@
 //! Cells that were marked and are still to be scanned.
-ghost use Rattle.std.specs.Prelude.{◌≤◌, ◌<◌, IfSome, vec_len};
+ghost use Rattle.std.specs.Prelude.{◌≤◌, ◌<◌, ℕ, IfSome, vec_len};
 
 use crate::noted::Noted;
 use mk_never::NoMemory;
@@ -17,6 +17,9 @@ pub struct Worklist {
 }
 
 impl Worklist {
+    ghost use Rattle.mk_core.specs.Words.{Words};
+    ghost use Rattle.mk_tracing.specs.Noted.{AreNoted, IsNoted};
+
     /// An empty list for a heap of this many pages, with all the room that it ever has.
     pub fn new(alloc: Global, pages: u64) -> Result<Worklist, NoMemory>
         requires { pages ≤ 4096 }
@@ -31,8 +34,18 @@ impl Worklist {
         })
     }
 
+    /// Forgets all cells.
+    pub(crate) fn forget(&mut self)
+        ensures none { (pages : ℕ) (w : Words) → AreNoted pages w self.new }
+    {
+        self.count = 0;
+    }
+
     /// Notes a cell, if there is room.
-    pub(crate) fn push(&mut self, noted: Noted) {
+    pub(crate) fn push(&mut self, noted: Noted)
+        ensures each { (pages : ℕ) (w : Words) → AreNoted pages w self.old → IsNoted pages w noted
+            → AreNoted pages w self.new }
+    {
         if self.count < self.cells.len() {
             self.cells[self.count] = noted;
             self.count += 1;
@@ -41,7 +54,10 @@ impl Worklist {
 
     /// The cell that was noted last, which the list then has no more.
     pub(crate) fn pop(&mut self) -> Option<Noted>
-        ensures { IfSome result (λ noted. self.new.count < self.old.count) }
+        ensures fewer { IfSome result (λ noted. self.new.count < self.old.count) }
+        ensures each { (pages : ℕ) (w : Words) → AreNoted pages w self.old → AreNoted pages w self.new }
+        ensures noted { IfSome result (λ noted. (pages : ℕ) (w : Words) → AreNoted pages w self.old
+            → IsNoted pages w noted) }
     {
         if self.count == 0 {
             return None;

@@ -23,3 +23,8 @@ pub returns-clause-roots : goal.returns-clause-roots
 returns-clause-roots c =
     roots_more c.args.words.now.config.pages (still_words c.mark_roots.new.stop.pass)
     (still_words c.trace.new.stop.pass) c.trace.ensures.more c.mark_roots.ensures.roots
+
+pub trace-requires-clause-noted : goal.trace-requires-clause-noted
+trace-requires-clause-noted c =
+    c.mark_roots.ensures.noted
+    (c.forget.ensures.none c.args.words.now.config.pages (still_words c.clean_dirty.new.stop.pass))

@@ -1,5 +1,6 @@
 use Rattle.std.proofs.Common.{◌≡◌}
 use Rattle.mk_tracing.specs.Grays.{MarksOn}
+use Rattle.mk_tracing.specs.Noted.{AreNoted}
 use Rattle.mk_tracing.specs.Stops.{still_words}
 use Rattle.mk_tracing.proofs.grays.gray_noted.Given as goal
 
@@ -7,6 +8,7 @@ abbrev pub invariant-loop-noted : goal.invariant-loop-noted
 invariant-loop-noted l = record {
   on : MarksOn l.fn.stop l.stop;
   words : still_words l.stop.pass ≡ still_words l.fn.stop.pass;
+  noted : AreNoted l.words.config.pages (still_words l.stop.pass) l.work;
 }
 
 abbrev pub decreases-loop-noted : goal.decreases-loop-noted

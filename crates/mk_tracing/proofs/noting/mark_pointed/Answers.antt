@@ -1,9 +1,10 @@
-use Rattle.std.proofs.Common.{◌≡◌, ◌∙◌, sym, subst, arith}
+use Rattle.std.proofs.Common.{◌≡◌, ◌∙◌, ◌<◌, ℕ, sym, subst, arith}
 use Rattle.std.specs.Prelude.{Some, None}
 use Rattle.mk_core.specs.Cells.{pointed_cell}
 use Rattle.mk_core.specs.Words.{Words}
 use Rattle.mk_tracing.specs.Grays.{MarksMore}
 use Rattle.mk_tracing.specs.Stops.{still_words}
+use Rattle.mk_tracing.proofs.NotedCells.{noted_marked, noted_more, noted_same}
 use Rattle.mk_tracing.proofs.PointedCells.{hand_points, pointed_here, points_on, well_marked, well_nowhere}
 use Rattle.mk_tracing.proofs.StopSteps.{on_then}
 use Rattle.mk_tracing.proofs.noting.mark_pointed.Goals as goal
@@ -61,3 +62,24 @@ returns-else-mark_white-clause-well c =
     (subst (λ n. pointed_cell n w.pages c.args.value ≡ Some c.in-Some.noted.cell) c.requires.pages
     (sym (pointed_here c.args.pages w c.args.value c.args.page look.result c.requires.page c.requires.inside
     look.ensures.found (omega arith) (omega arith)) ∙ c.in-Some.ensures.some)) c.mark_white.ensures.marked
+
+pub returns-then-mark_white-clause-noted : goal.returns-then-mark_white-clause-noted
+returns-then-mark_white-clause-noted c noted =
+    let pages : ℕ = c.args.words.now.config.pages in
+    let w = still_words c.args.stop.now.pass in
+    let look = c.look_among-header in
+    let v = still_words look.new.stop.pass in
+    let x = still_words c.mark_white.new.stop.pass in
+    c.push.ensures.each pages x
+    (noted_more pages v x c.args.work.now c.mark_white.ensures.more
+    (noted_same pages w v c.args.work.now look.ensures.words noted))
+    (noted_marked pages w v x c.in-Some.noted c.args.page look.result look.ensures.words c.mark_white.ensures.more
+    c.in-Some.ensures.page c.in-Some.ensures.header (omega arith) look.ensures.found
+    (subst (λ n. c.args.page < n) c.requires.pages c.requires.within) c.mark_white.ensures.marked)
+
+pub returns-else-mark_white-clause-noted : goal.returns-else-mark_white-clause-noted
+returns-else-mark_white-clause-noted c noted =
+    let pages : ℕ = c.args.words.now.config.pages in
+    let v = still_words c.look_among-header.new.stop.pass in
+    noted_more pages v (still_words c.mark_white.new.stop.pass) c.args.work.now c.mark_white.ensures.more
+    (noted_same pages (still_words c.args.stop.now.pass) v c.args.work.now c.look_among-header.ensures.words noted)

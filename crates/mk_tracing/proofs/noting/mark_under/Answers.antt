@@ -3,6 +3,7 @@ use Rattle.std.specs.Prelude.{Some, None}
 use Rattle.mk_core.specs.Cells.{pointed_cell, points_well}
 use Rattle.mk_core.specs.Words.{Words}
 use Rattle.mk_tracing.specs.Stops.{still_words}
+use Rattle.mk_tracing.proofs.NotedCells.{noted_more}
 use Rattle.mk_tracing.proofs.PointedCells.{hand_points, pointed_under, well_marked, well_nowhere}
 use Rattle.mk_tracing.proofs.StopSteps.{on_from, on_then}
 use Rattle.mk_tracing.proofs.noting.mark_under.Goals as goal
@@ -46,3 +47,14 @@ returns-else-mark_white-clause-well c =
     (subst (λ n. pointed_cell n w.pages c.args.value ≡ Some c.in-Some.cell) c.requires.pages
     (sym (pointed_under c.args.pages w c.args.value c.args.header c.requires.header) ∙ sym c.in-Some.ensures))
     c.mark_white.ensures.marked
+
+pub returns-then-mark_white-clause-noted : goal.returns-then-mark_white-clause-noted
+returns-then-mark_white-clause-noted c noted =
+    c.note.ensures.noted
+    (noted_more c.args.words.now.config.pages (still_words c.args.stop.now.pass)
+    (still_words c.mark_white.new.stop.pass) c.args.work.now c.mark_white.ensures.more noted)
+
+pub returns-else-mark_white-clause-noted : goal.returns-else-mark_white-clause-noted
+returns-else-mark_white-clause-noted c =
+    noted_more c.args.words.now.config.pages (still_words c.args.stop.now.pass)
+    (still_words c.mark_white.new.stop.pass) c.args.work.now c.mark_white.ensures.more

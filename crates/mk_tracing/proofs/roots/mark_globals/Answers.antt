@@ -11,6 +11,7 @@ loop-group-init c =
     record {
       on = on_from c.args.stop.now c.requires.wanted;
       more = more_same w w refl;
+      noted = λ h. h;
       well = λ g lt. absurd (omega arith);
     }
 
@@ -23,6 +24,7 @@ loop-group-preserved c =
       on = on_then c.args.stop.now c.loop-group.stop c.mark_group.new.stop c.loop-group.invariant.on
           c.mark_group.ensures.on;
       more = more_then w v x c.loop-group.invariant.more c.mark_group.ensures.more;
+      noted = λ h. c.mark_group.ensures.noted (c.loop-group.invariant.noted h);
       well = groups_then c.args.words.now.config.pages w v x c.loop-group.group c.loop-group.invariant.more
           c.mark_group.ensures.more c.loop-group.invariant.well c.mark_group.ensures.well;
     }

@@ -2,6 +2,7 @@ use Rattle.std.proofs.Common.{◌≡◌, ℕ, ◌*◌, ◌<◌, true}
 use Rattle.std.specs.Prelude.{slice_index}
 use Rattle.mk_core.specs.Cells.{points_well}
 use Rattle.mk_tracing.specs.Grays.{MarksMore, MarksOn}
+use Rattle.mk_tracing.specs.Noted.{AreNoted}
 use Rattle.mk_tracing.specs.Stops.{still_words}
 use Rattle.mk_tracing.proofs.roots.mark_globals.Given as goal
 
@@ -9,6 +10,8 @@ abbrev pub invariant-loop-group : goal.invariant-loop-group
 invariant-loop-group l = record {
   on : MarksOn l.fn.stop l.stop;
   more : MarksMore (still_words l.fn.stop.pass) (still_words l.stop.pass);
+  noted : AreNoted l.words.config.pages (still_words l.fn.stop.pass) l.fn.work
+      → AreNoted l.words.config.pages (still_words l.stop.pass) l.work;
   well : (g : ℕ) → g < 8 * l.group → points_well l.words.config.pages (still_words l.stop.pass)
       (slice_index (still_words l.fn.stop.pass).globals g) ≡ true;
 }

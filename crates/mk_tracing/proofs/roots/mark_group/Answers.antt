@@ -4,6 +4,7 @@ use Rattle.mk_core.specs.declared.events.Word.TheVariants as word
 use Rattle.mk_core.specs.Cells.{points_well}
 use Rattle.mk_tracing.specs.Stops.{still_words}
 use Rattle.mk_tracing.proofs.MoreMarks.{more_same, more_then}
+use Rattle.mk_tracing.proofs.NotedCells.{noted_same}
 use Rattle.mk_tracing.proofs.RootMarks.{before_well, values_then, root_kept}
 use Rattle.mk_tracing.proofs.StopSteps.{on_then}
 use Rattle.mk_tracing.proofs.roots.mark_group.Goals as goal
@@ -23,6 +24,8 @@ loop-i-init c = record {
   on = c.are_before_heap.ensures.on;
   more = more_same (still_words c.args.stop.now.pass) (still_words c.are_before_heap.new.stop.pass)
       c.are_before_heap.ensures.words;
+  noted = noted_same c.args.words.now.config.pages (still_words c.args.stop.now.pass)
+      (still_words c.are_before_heap.new.stop.pass) c.args.work.now c.are_before_heap.ensures.words;
   well = λ j lt. absurd (omega arith);
 }
 
@@ -35,6 +38,7 @@ loop-i-preserved c =
     record {
       on = on_then c.args.stop.now c.loop-i.stop c.mark_root.new.stop c.loop-i.invariant.on c.mark_root.ensures.on;
       more = more_then w v x c.loop-i.invariant.more c.mark_root.ensures.more;
+      noted = λ h. c.mark_root.ensures.noted (c.loop-i.invariant.noted h);
       well = values_then pages v x (λ j. slice_index w.globals (c.args.first + j)) c.loop-i.i c.mark_root.ensures.more
           c.loop-i.invariant.well
           (subst (λ n. points_well pages x n ≡ true) (root_kept w v

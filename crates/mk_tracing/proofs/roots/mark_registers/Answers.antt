@@ -14,6 +14,7 @@ loop-caller-init c =
     record {
       on = on_from c.args.stop.now c.requires.wanted;
       more = more_same w w refl;
+      noted = λ h. h;
       well = λ k lt r lr. absurd (omega arith);
     }
 
@@ -27,6 +28,7 @@ loop-caller-preserved c =
       on = on_then c.args.stop.now c.loop-caller.stop c.mark_registers_of.new.stop c.loop-caller.invariant.on
           c.mark_registers_of.ensures.on;
       more = more_then w v x c.loop-caller.invariant.more c.mark_registers_of.ensures.more;
+      noted = λ h. c.mark_registers_of.ensures.noted (c.loop-caller.invariant.noted h);
       well = λ k lt r lr.
           values_then pages v x (λ j. register_word w j r) c.loop-caller.caller c.mark_registers_of.ensures.more
           (λ j lj. c.loop-caller.invariant.well j lj r lr)

@@ -14,6 +14,7 @@ loop-register-init c =
     record {
       on = on_from c.args.stop.now c.requires.wanted;
       more = more_same w w refl;
+      noted = λ h. h;
       well = λ r lt. absurd (omega arith);
     }
 
@@ -27,6 +28,7 @@ loop-register-preserved c =
       on = on_then c.args.stop.now c.loop-register.stop c.mark_root.new.stop c.loop-register.invariant.on
           c.mark_root.ensures.on;
       more = more_then w v x c.loop-register.invariant.more c.mark_root.ensures.more;
+      noted = λ h. c.mark_root.ensures.noted (c.loop-register.invariant.noted h);
       well = values_then pages v x (λ r. register_word w c.args.caller r) c.loop-register.register
           c.mark_root.ensures.more c.loop-register.invariant.well
           (subst (λ n. points_well pages x n ≡ true) (root_kept w v

@@ -2,6 +2,7 @@ use Rattle.std.proofs.Common.{◌≡◌, ℕ, ◌<◌, true}
 use Rattle.mk_core.specs.Cells.{points_well}
 use Rattle.mk_core.specs.Words.{register_word}
 use Rattle.mk_tracing.specs.Grays.{MarksMore, MarksOn}
+use Rattle.mk_tracing.specs.Noted.{AreNoted}
 use Rattle.mk_tracing.specs.Stops.{still_words}
 use Rattle.mk_tracing.proofs.roots.mark_registers_of.Given as goal
 
@@ -9,6 +10,8 @@ abbrev pub invariant-loop-register : goal.invariant-loop-register
 invariant-loop-register l = record {
   on : MarksOn l.fn.stop l.stop;
   more : MarksMore (still_words l.fn.stop.pass) (still_words l.stop.pass);
+  noted : AreNoted l.words.config.pages (still_words l.fn.stop.pass) l.fn.work
+      → AreNoted l.words.config.pages (still_words l.stop.pass) l.work;
   well : (r : ℕ) → r < l.register
       → points_well l.words.config.pages (still_words l.stop.pass)
       (register_word (still_words l.fn.stop.pass) l.caller r) ≡ true;

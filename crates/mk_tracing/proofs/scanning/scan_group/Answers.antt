@@ -1,10 +1,11 @@
-use Rattle.std.proofs.Common.{◌≡◌, ℕ, ◌+◌, true, subst}
+use Rattle.std.proofs.Common.{◌≡◌, ℕ, ◌+◌, true, subst, arith}
 use Rattle.std.specs.Prelude.{slice_index}
 use Rattle.mk_core.specs.Cells.{first_word, points_well}
 use Rattle.mk_core.specs.Words.{Words}
 use Rattle.mk_tracing.specs.Grays.{MarksMore}
 use Rattle.mk_tracing.specs.Stops.{still_words}
 use Rattle.mk_tracing.proofs.MoreMarks.{more_same}
+use Rattle.mk_tracing.proofs.NotedCells.{noted_same}
 use Rattle.mk_tracing.proofs.RootMarks.{before_well}
 use Rattle.mk_tracing.proofs.ScannedWords.{due_same}
 use Rattle.mk_tracing.proofs.StopSteps.{on_then}
@@ -20,24 +21,35 @@ returns-then-are_before_heap-clause-well c i lt =
     before_well c.args.words.now.config.pages (still_words c.are_before_heap.new.stop.pass) _
     (c.are_before_heap.ensures.before c.if-are_before_heap.true i lt)
 
-pub scan_each-requires-clause-due : goal.scan_each-requires-clause-due
-scan_each-requires-clause-due c =
+pub scan_apart-requires-clause-due : goal.scan_apart-requires-clause-due
+scan_apart-requires-clause-due c =
     due_same c.args.words.now.config.pages (still_words c.args.stop.now.pass)
     (still_words c.are_before_heap.new.stop.pass) c.args.cell c.args.size c.requires.due c.are_before_heap.ensures.words
 
 pub returns-clause-on : goal.returns-clause-on
-returns-clause-on c = on_then c.args.stop.now c.are_before_heap.new.stop c.scan_each.new.stop
-    c.are_before_heap.ensures.on c.scan_each.ensures.on
+returns-clause-on c = on_then c.args.stop.now c.are_before_heap.new.stop c.scan_apart.new.stop
+    c.are_before_heap.ensures.on c.scan_apart.ensures.on
 
 pub returns-clause-more : goal.returns-clause-more
 returns-clause-more c =
-    let x = still_words c.scan_each.new.stop.pass in
-    subst (λ (y : Words). MarksMore y x) c.are_before_heap.ensures.words c.scan_each.ensures.more
+    let x = still_words c.scan_apart.new.stop.pass in
+    subst (λ (y : Words). MarksMore y x) c.are_before_heap.ensures.words c.scan_apart.ensures.more
 
 pub returns-clause-well : goal.returns-clause-well
 returns-clause-well c i lt =
-    let x = still_words c.scan_each.new.stop.pass in
+    let x = still_words c.scan_apart.new.stop.pass in
     let here : ℕ = c.args.first + i in
     subst (λ (y : Words). points_well c.args.words.now.config.pages x
     (slice_index y.heap (first_word y c.args.cell + here)) ≡ true) c.are_before_heap.ensures.words
-    (c.scan_each.ensures.well i lt)
+    (c.scan_apart.ensures.well here (omega arith) (omega arith))
+
+pub returns-then-are_before_heap-clause-noted : goal.returns-then-are_before_heap-clause-noted
+returns-then-are_before_heap-clause-noted c =
+    noted_same c.args.words.now.config.pages (still_words c.args.stop.now.pass)
+    (still_words c.are_before_heap.new.stop.pass) c.args.work.now c.are_before_heap.ensures.words
+
+pub returns-clause-noted : goal.returns-clause-noted
+returns-clause-noted c noted =
+    c.scan_apart.ensures.noted
+    (noted_same c.args.words.now.config.pages (still_words c.args.stop.now.pass)
+    (still_words c.are_before_heap.new.stop.pass) c.args.work.now c.are_before_heap.ensures.words noted)

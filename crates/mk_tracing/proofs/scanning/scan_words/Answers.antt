@@ -6,6 +6,7 @@ use Rattle.mk_tracing.specs.Grays.{MarksMore}
 use Rattle.mk_tracing.specs.Stops.{still_words}
 use Rattle.mk_tracing.proofs.Blackened.{cell_kept}
 use Rattle.mk_tracing.proofs.MoreMarks.{more_same, more_then}
+use Rattle.mk_tracing.proofs.NotedCells.{noted_same}
 use Rattle.mk_tracing.proofs.ScannedWords.{due_kept, values_from}
 use Rattle.mk_tracing.proofs.StopSteps.{on_from, on_then}
 use Rattle.mk_tracing.proofs.scanning.scan_words.Goals as goal
@@ -14,6 +15,7 @@ pub loop-i-init : goal.loop-i-init
 loop-i-init c = record {
   on = on_from c.args.stop.now c.requires.wanted;
   more = more_same (still_words c.args.stop.now.pass) (still_words c.args.stop.now.pass) refl;
+  noted = λ h. h;
   well = λ j le lt. absurd (omega arith);
 }
 
@@ -36,6 +38,9 @@ loop-i-preserved c =
           c.look_at_word-value.ensures.on)
           c.mark_and_note.ensures.on;
       more = more_then w v x c.loop-i.invariant.more more;
+      noted = λ h. c.mark_and_note.ensures.noted
+          (noted_same pages v (still_words c.look_at_word-value.new.stop.pass) c.loop-i.work
+          c.look_at_word-value.ensures.words (c.loop-i.invariant.noted h));
       well = values_from pages v x (λ j. slice_index w.heap (first_word w c.args.cell + j)) c.args.from c.loop-i.i more
           c.loop-i.invariant.well
           (subst (λ n. points_well pages x n ≡ true) (c.look_at_word-value.ensures.found

@@ -1,7 +1,8 @@
-use Rattle.std.proofs.Common.{arith}
+use Rattle.std.proofs.Common.{◌^◌, arith}
 use Rattle.mk_core.specs.Cells.{header_in}
 use Rattle.mk_tracing.specs.Stops.{still_words}
 use Rattle.mk_tracing.proofs.Blackened.{blackens_one, cells_few}
+use Rattle.mk_tracing.proofs.NotedCells.{noted_black}
 use Rattle.mk_tracing.proofs.StopSteps.{on_then}
 use Rattle.mk_tracing.proofs.tracing.blacken.Goals as goal
 
@@ -20,3 +21,9 @@ returns-clause-one c =
     blackens_one (still_words c.args.stop.now.pass) (still_words c.scan_if_due.new.stop.pass)
     (still_words c.blacken_cell.new.stop.pass) c.args.gray.cell
     c.scan_if_due.ensures.more c.blacken_cell.ensures.words
+
+pub returns-clause-noted : goal.returns-clause-noted
+returns-clause-noted c noted =
+    noted_black c.args.words.now.config.pages c.args.gray.cell.page (2 ^ c.args.gray.cell.index)
+    (still_words c.scan_if_due.new.stop.pass) (still_words c.blacken_cell.new.stop.pass) c.scan_if_due.new.work
+    c.blacken_cell.ensures.words (c.scan_if_due.ensures.noted noted)

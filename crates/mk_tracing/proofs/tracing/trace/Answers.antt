@@ -13,6 +13,7 @@ loop-gray-init c = record {
   on = on_from c.args.stop.now c.requires.wanted;
   more = colours_same
       (still_words c.args.stop.now.pass);
+  noted = c.requires.noted;
 }
 
 pub loop-gray-smaller : goal.loop-gray-smaller
@@ -36,6 +37,7 @@ loop-gray-preserved c =
           (on_then c.args.stop.now c.loop-gray.stop c.next_gray.new.stop c.loop-gray.invariant.on
           c.next_gray.ensures.on) c.blacken.ensures.on;
       more = colours_then w v (still_words c.blacken.new.stop.pass) c.in-Some.gray.cell more c.blacken.ensures.one;
+      noted = c.blacken.ensures.noted c.next_gray.ensures.noted;
     }
 
 pub returns-clause-on : goal.returns-clause-on

@@ -1,4 +1,5 @@
 use Rattle.mk_tracing.specs.Grays.{ColoursMore, MarksOn}
+use Rattle.mk_tracing.specs.Noted.{AreNoted}
 use Rattle.mk_tracing.specs.Stops.{still_words}
 use Rattle.mk_tracing.proofs.Blackened.{white_cells}
 use Rattle.mk_tracing.proofs.tracing.trace.Given as goal
@@ -7,6 +8,7 @@ abbrev pub invariant-loop-gray : goal.invariant-loop-gray
 invariant-loop-gray l = record {
   on : MarksOn l.fn.stop l.stop;
   more : ColoursMore (still_words l.fn.stop.pass) (still_words l.stop.pass);
+  noted : AreNoted l.words.config.pages (still_words l.stop.pass) l.work;
 }
 
 abbrev pub decreases-loop-gray : goal.decreases-loop-gray

@@ -51,3 +51,6 @@ returns-clause-marked c =
     let within = reached_within p c.args.cell c.requires.reached in
     marked_now w x c.args.cell (subst (λ n. c.args.cell.page < n) (sym (marks_length p)) within.0) within.1
     (marked_from w v x c.args.cell c.is_marked.ensures.words c.mark_cell.ensures.words)
+
+pub is_marked-requires-clause-index : goal.is_marked-requires-clause-index
+is_marked-requires-clause-index c = (reached_within c.args.stop.now.pass c.args.cell c.requires.reached).1
