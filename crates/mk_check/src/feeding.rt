@@ -84,10 +84,8 @@ impl Feed {
             → FeedStandsFor program k self.now answers
             → IsNone result ↔ IsTrue (has_ended (feed program k answers)) }
     {
-        match self.tree.node_in_place(self.running.at()) {
-            Node::Line { instruction, .. } => self.running.asked(instruction),
-            _ => None,
-        }
+        let instruction = self.tree.instruction(self.running.at());
+        self.running.asked(instruction)
     }
 
     /// Answers the operation that waits, and runs on to the next, or to the end. Mostly nothing is printed, and no

@@ -115,9 +115,24 @@ impl Sequel {
     }
 }
 
-/// A node, and what comes after it.
+impl Node {
+    ghost use Rattle.mk_check.specs.Spots.{instruction_of_node};
+
+    /// The instruction of a line. Another node has none that asks for an operation.
+    fn instruction(self) -> Instruction
+        ensures { result ≡ instruction_of_node self }
+    {
+        match self {
+            Node::Line { instruction, .. } => instruction,
+            _ => Instruction::Nothing,
+        }
+    }
+}
+
+/// A node, its instruction, which is told there without a look at what the node is, and what comes after it.
 #[derive(Clone, Copy)]
 pub struct Spot {
+    instruction: Instruction,
     node: Node,
     sequel: Sequel,
 }
@@ -141,7 +156,7 @@ impl Model for Tree {
 }
 
 impl Tree {
-    ghost use Rattle.mk_check.specs.Spots.{asks_at, sequel_of};
+    ghost use Rattle.mk_check.specs.Spots.{asks_at, instruction_of_node, sequel_of};
     ghost use Rattle.mk_check.specs.Steps.{asks_first};
     ghost use Rattle.mk_check.specs.Trees.{IsTree, IsBelow, node_at, steps_at, trees};
 
@@ -165,7 +180,13 @@ impl Tree {
         ensures { OnOk result (self.new ≡ self.old ++ node ∷ []) }
     {
         let sequel = self.sequel_from(node);
-        Ok(self.spots.push(Spot { node, sequel })?)
+        Ok(
+            self.spots.push(Spot {
+                instruction: node.instruction(),
+                node,
+                sequel,
+            })?,
+        )
     }
 
     #[inline(always)]
@@ -177,14 +198,14 @@ impl Tree {
         self.spots[at].node
     }
 
-    /// The same, to be read in place.
+    /// The instruction at a node, to be read in place.
     #[inline(always)]
-    pub fn node_in_place(&self, at: usize) -> &Node
+    pub fn instruction(&self, at: usize) -> &Instruction
         requires { at < length self.now }
-        ensures value { result.now ≡ node_at self.now at }
+        ensures value { result.now ≡ instruction_of_node (node_at self.now at) }
         ensures tree { IsTree self.now }
     {
-        &self.spots[at].node
+        &self.spots[at].instruction
     }
 
     /// Whether the node is a line that asks for an operation, which doesn't depend on the number registers.
@@ -193,10 +214,7 @@ impl Tree {
         requires { at < length self.now }
         ensures { result ≡ asks_at (node_at self.now at) }
     {
-        match self.node(at) {
-            Node::Line { instruction, .. } => instruction.asks(),
-            _ => false,
-        }
+        self.instruction(at).asks()
     }
 
     /// What comes after a node that names these alone.

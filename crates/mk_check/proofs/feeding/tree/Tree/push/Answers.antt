@@ -10,8 +10,12 @@ pub invariant_of-self-2 : goal.invariant_of-self-2
 invariant_of-self-2 c =
     let spots = c.self.inside.spots.items in
     subst (λ (xs : List Spot). IsMarkedTree xs) (sym c.in_ok-push.ensures.items)
-    (IsMarkedTree_push spots (record { node = c.args.node; sequel = c.sequel_from-sequel.result })
+    (IsMarkedTree_push spots
+    (record { instruction = c.instruction.result; node = c.args.node; sequel = c.sequel_from-sequel.result })
     c.self.invariant
     (subst (λ (nodes : List Node). IsBelow (length nodes) c.args.node) (sym c.self.view_is) c.requires)
-    (c.sequel_from-sequel.ensures
-    ∙ ap (λ (nodes : List Node). sequel_of nodes c.args.node) (sym c.self.view_is)))
+    (record {
+      instruction = c.instruction.ensures;
+      sequel = c.sequel_from-sequel.ensures
+          ∙ ap (λ (nodes : List Node). sequel_of nodes c.args.node) (sym c.self.view_is);
+    }))
