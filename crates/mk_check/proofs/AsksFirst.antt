@@ -236,7 +236,7 @@ module _ (nodes : List Node) where
   stays_to_op : (p q : Place) → PlaceIsWithin (length nodes) p
       → asks_first (steps_at (trees nodes) p.at) ≡ true → q ≡ p → MovesToOp nodes p q
   stays_to_op p q w first same =
-      subst (λ (x : Place). MovesToOp nodes p x) (sym same) (record { within = w; run = refl; first = first })
+      subst (λ (x : Place). MovesToOp nodes p x) (sym same) (record { within = w; run = refl; first = first; fits = λ f. f })
 
   -- the end of a block, after which an operation comes first
   pub left_to_op : (p q : Place) (left : Bool) → IsTree nodes → PlaceIsWithin (length nodes) p
@@ -256,6 +256,7 @@ module _ (nodes : List Node) where
         within = moves.within;
         run = moves.run;
         first = ap (λ (at : ℕ). asks_first (steps_at (trees nodes) at)) (here ∙ sym resumed) ∙ first;
+        fits = moves.fits;
       }
   left_to_op p q false tree w e first leaves none =
       let last : innermost p.frames ≡ None = ap innermost (none refl).0 in
@@ -275,4 +276,9 @@ module _ (nodes : List Node) where
 
   -- A place that moves on stops where the place after it stops.
   pub stops_after : (p q t : Place) → MovesToOp nodes p q → HasStopped nodes q t → HasStopped nodes p t
-  stops_after p q t moves stopped = record { within = stopped.within; at = stopped.at; run = stopped.run ∙ moves.run }
+  stops_after p q t moves stopped = record {
+    within = stopped.within;
+    at = stopped.at;
+    run = stopped.run ∙ moves.run;
+    fits = λ f. stopped.fits (moves.fits f);
+  }

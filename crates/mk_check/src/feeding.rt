@@ -231,11 +231,11 @@ impl Feed {
         else {
             unreachable!()
         };
-        self.ahead.copy_at(&self.running, next)?;
+        self.ahead.copy_at(&self.running, next);
         self.ahead.print_refusal(alloc, line, answer)?;
         self.ahead.take(instruction, answer)?;
         self.ahead.run(alloc, &self.tree)?;
-        self.running.follow(&mut self.ahead)
+        self.running.follow(&self.ahead)
     }
 
     /// The text so far.

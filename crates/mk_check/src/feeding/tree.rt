@@ -29,7 +29,7 @@ pub enum Node {
 }
 
 /// What runs after a block: more rounds of a `repeat`, or what stands after it.
-#[derive(Clone, Copy)]
+#[derive(Clone, Copy, Drop)]
 pub enum Frame {
     Rounds {
         rounds: u64,
@@ -39,6 +39,12 @@ pub enum Frame {
     Branch {
         next: usize,
     },
+}
+
+impl Default for Frame {
+    fn default() -> Self {
+        Frame::Branch { next: 0 }
+    }
 }
 
 impl Frame {
