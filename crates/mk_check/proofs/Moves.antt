@@ -22,7 +22,7 @@ use Rattle.mk_check.proofs.StepLaws.{stop_of-round, stop_of-choice_zero, stop_of
 
 -- The steps from a node are those that it names.
 
-steps_from_same : (count : ℕ) (a b : List Steps) (n : Node) → ((j : ℕ) → j < count → steps_at a j ≡ steps_at b j)
+pub steps_from_same : (count : ℕ) (a b : List Steps) (n : Node) → ((j : ℕ) → j < count → steps_at a j ≡ steps_at b j)
     → IsBelow count n → steps_from a n ≡ steps_from b n
 steps_from_same count a b node.Done h below = refl
 steps_from_same count a b (node.Line line instruction next) h below = ap (Line line instruction) (h next below)

@@ -10,9 +10,10 @@ use Rattle.mk_check.specs.declared.feeding.tree.Spot.{Spot}
 use Rattle.mk_check.specs.Spots.{IsMarked, IsMarkedTree, end_spot, instruction_of_node, nodes_of, sequel_before}
 use Rattle.mk_check.specs.Spots.{asks_at, sequel_of, spot_at}
 use Rattle.mk_check.specs.Feeding.{op_of_node}
-use Rattle.mk_check.specs.Steps.{is_asking, op_asked}
-use Rattle.mk_check.specs.Trees.{IsBelow, IsTree, node_at}
-use Rattle.mk_check.proofs.Moves.{IsBelow-more, IsTree_push}
+use Rattle.mk_check.specs.Steps.{asks_first, is_asking, op_asked}
+use Rattle.mk_check.specs.Trees.{IsBelow, IsTree, node_at, steps_at, steps_from, trees}
+use Rattle.mk_check.proofs.Builds.{steps_at_push}
+use Rattle.mk_check.proofs.Moves.{IsBelow-more, IsTree_push, steps_at-trees, steps_from_same}
 
 -- whether a node asks for an operation, by its instruction
 pub asks_by_instruction : (n : Node) → is_asking (instruction_of_node n) ≡ asks_at n
@@ -63,12 +64,22 @@ spot_below spots at m h =
     (IsBelow-more at (length spots) (node_at (nodes_of spots) at) (omega arith)
     (m.tree at (omega (arith, length-nodes_of spots))))
 
+same_steps_pushed : (spots : List Spot) (s : Spot) (n : Node) → IsBelow (length spots) n
+    → steps_from (trees (nodes_of spots)) n ≡ steps_from (trees (nodes_of (spots ++ s ∷ []))) n
+same_steps_pushed spots s n below =
+    let nodes = nodes_of spots in
+    let within = subst (λ (c : ℕ). IsBelow c n) (sym (length-nodes_of spots)) below in
+    steps_from_same (length nodes) (trees nodes) (trees (nodes ++ s.node ∷ [])) n
+    (λ j h. sym (steps_at_push nodes s.node j h)) within
+    ∙ ap (λ (xs : List Node). steps_from (trees xs) n) (sym (nodes_of_push spots s))
+
 -- what is known at a place stays so
 marked_still : (spots : List Spot) (s x : Spot) → IsBelow (length spots) x.node → IsMarked (nodes_of spots) x
     → IsMarked (nodes_of (spots ++ s ∷ [])) x
 marked_still spots s x below m = record {
   instruction = m.instruction;
   sequel = m.sequel ∙ same_mark_pushed spots s x.node below;
+  first = m.first ∙ ap asks_first (same_steps_pushed spots s x.node below);
 }
 
 pub IsMarkedTree_push : (spots : List Spot) (s : Spot) → IsMarkedTree spots → IsBelow (length (nodes_of spots)) s.node
@@ -93,6 +104,7 @@ pub mark_there : (spots : List Spot) (at : ℕ) (s : Spot) → IsMarkedTree spot
     → s ≡ get_or spots at s
     → (s.instruction ≡ instruction_of_node (node_at (nodes_of spots) at))
     × (s.sequel ≡ sequel_of (nodes_of spots) (node_at (nodes_of spots) at))
+    × (s.asks_first ≡ asks_first (steps_at (trees (nodes_of spots)) at))
 mark_there spots at s m h is =
     let lt : at < length spots = omega (arith, length-nodes_of spots) in
     let same : s ≡ spot_at spots at = is ∙ get_or_default spots at s _ lt in
@@ -100,4 +112,7 @@ mark_there spots at s m h is =
     let mark = m.marks at lt in (
       ap (λ (x : Spot). x.instruction) same ∙ (mark.instruction ∙ ap instruction_of_node here),
       ap (λ (x : Spot). x.sequel) same ∙ (mark.sequel ∙ ap (sequel_of (nodes_of spots)) here),
+      ap (λ (x : Spot). x.asks_first) same
+          ∙ (mark.first ∙ (ap (λ (n : Node). asks_first (steps_from (trees (nodes_of spots)) n)) here
+          ∙ sym (ap asks_first (steps_at-trees (nodes_of spots) at m.tree h)))),
     )

@@ -9,8 +9,8 @@ use Rattle.mk_check.specs.declared.feeding.tree.Node.TheVariants as node
 use Rattle.mk_check.specs.declared.feeding.tree.Sequel.{Sequel}
 use Rattle.mk_check.specs.declared.feeding.tree.Sequel.TheVariants as sequel
 use Rattle.mk_check.specs.declared.feeding.tree.Spot.{Spot}
-use Rattle.mk_check.specs.Steps.{is_asking, is_show, keeping_register}
-use Rattle.mk_check.specs.Trees.{IsTree, node_at}
+use Rattle.mk_check.specs.Steps.{asks_first, is_asking, is_show, keeping_register}
+use Rattle.mk_check.specs.Trees.{IsTree, node_at, steps_from, trees}
 
 abbrev pub nodes_of : List Spot → List Node
 nodes_of spots = map (λ (s : Spot). s.node) spots
@@ -60,16 +60,17 @@ sequel_of nodes (node.Choice number first second next) = sequel.Other
 
 -- what is known of the end of a block
 abbrev pub end_spot : Spot
-end_spot = record { instruction = Nothing; node = node.Done; sequel = sequel.Other }
+end_spot = record { instruction = Nothing; node = node.Done; sequel = sequel.Other; asks_first = false }
 
 -- what is known at this place; where there is none, of the end of a block
 abbrev pub spot_at : List Spot → ℕ → Spot
 spot_at spots at = slice_index_or spots at end_spot
 
--- it has the node's instruction, and what comes after the node
+-- it has the node's instruction, what comes after the node, and whether its steps come to an operation first
 pub record IsMarked (nodes : List Node) (s : Spot) : Type 0 where
   pub instruction : s.instruction ≡ instruction_of_node s.node
   pub sequel : s.sequel ≡ sequel_of nodes s.node
+  pub first : s.asks_first ≡ asks_first (steps_from (trees nodes) s.node)
 
 -- The nodes are a tree, and each is marked.
 pub record IsMarkedTree (spots : List Spot) : Type 0 where

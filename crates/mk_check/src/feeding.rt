@@ -193,8 +193,8 @@ impl Feed {
         self.answer_ahead(alloc, answer)
     }
 
-    /// The same where the next operation comes before anything is printed, with at most one block left and none begun.
-    /// Returns whether it does.
+    /// The same where the next operation comes before anything is printed, with at most one block left. Returns whether
+    /// it does.
     fn answer_quietly(&mut self, answer: Answer) -> bool
         requires { IsWaiting self.old }
         ensures taken { IsTrue result → TakesAnswer self.old answer self.new }

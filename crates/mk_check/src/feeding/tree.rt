@@ -135,12 +135,14 @@ impl Node {
     }
 }
 
-/// A node, its instruction, which is told there without a look at what the node is, and what comes after it.
+/// A node, its instruction, which is told there without a look at what the node is, what comes after it, and whether a
+/// script there comes to an operation first.
 #[derive(Clone, Copy)]
 pub struct Spot {
     instruction: Instruction,
     node: Node,
     sequel: Sequel,
+    asks_first: bool,
 }
 
 /// The nodes, each of which names those before it alone.
@@ -164,7 +166,7 @@ impl Model for Tree {
 impl Tree {
     ghost use Rattle.mk_check.specs.Spots.{asks_at, instruction_of_node, sequel_of};
     ghost use Rattle.mk_check.specs.Steps.{asks_first};
-    ghost use Rattle.mk_check.specs.Trees.{IsTree, IsBelow, node_at, steps_at, trees};
+    ghost use Rattle.mk_check.specs.Trees.{IsTree, IsBelow, node_at, steps_at, steps_from, trees};
 
     pub fn new(alloc: Global) -> Tree
         ensures { result ≡ [] }
@@ -185,14 +187,13 @@ impl Tree {
         requires { IsBelow (length self.old) node }
         ensures { OnOk result (self.new ≡ self.old ++ node ∷ []) }
     {
-        let sequel = self.sequel_from(node);
-        Ok(
-            self.spots.push(Spot {
-                instruction: node.instruction(),
-                node,
-                sequel,
-            })?,
-        )
+        let spot = Spot {
+            instruction: node.instruction(),
+            node,
+            sequel: self.sequel_from(node),
+            asks_first: self.asks_first_from(node),
+        };
+        Ok(self.spots.push(spot)?)
     }
 
     #[inline(always)]
@@ -247,26 +248,34 @@ impl Tree {
         self.spots[at].sequel
     }
 
-    /// Whether a script at this node comes to an operation before it prints, and before a block begins or ends.
+    /// The same for a node that names these alone.
+    fn asks_first_from(&self, node: Node) -> bool
+        requires { IsBelow (length self.now) node }
+        ensures { result ≡ asks_first (steps_from (trees self.now) node) }
+    {
+        match node {
+            Node::Done => false,
+            Node::Line {
+                instruction,
+                next,
+                ..
+            } => instruction.asks() || (!instruction.prints() && self.asks_first(next)),
+            Node::Rounds {
+                rounds: 0,
+                next,
+                ..
+            } => self.asks_first(next),
+            Node::Rounds { body, .. } => self.asks_first(body),
+            Node::Choice { first, second, .. } => self.asks_first(first) && self.asks_first(second),
+        }
+    }
+
+    /// Whether a script at this node comes to an operation before it prints, and before a block ends.
+    #[inline(always)]
     pub fn asks_first(&self, at: usize) -> bool
         requires { at < length self.now }
         ensures { result ≡ asks_first (steps_at (trees self.now) at) }
     {
-        let mut here = at;
-        'lines: while let Node::Line {
-            instruction,
-            next,
-            ..
-        } = self.node(here)
-        {
-            if instruction.asks() {
-                return true;
-            }
-            if instruction.prints() {
-                return false;
-            }
-            here = next;
-        }
-        false
+        self.spots[at].asks_first
     }
 }

@@ -6,7 +6,7 @@ use Rattle.mk_check.proofs.feeding.running.Running.run_to_op.Given as goal
 abbrev pub invariant-loop : goal.invariant-loop
 invariant-loop l = record {
   within : PlaceIsWithin (length l.tree) l.self;
-  fits : PlaceFits l.tree l.initial.self → PlaceFits l.tree l.self;
+  fits : PlaceFits l.tree l.self;
   first : asks_first (steps_at (trees l.tree) l.self.at) ≡ true;
   run : stop_of (left_in l.tree l.self) (kept_in l.self)
       ≡ stop_of (left_in l.tree l.initial.self) (kept_in l.initial.self);
