@@ -1,7 +1,8 @@
--- Steps that come to an operation before anything is printed, and before a block begins or ends.
+-- Steps that come to an operation before anything is printed, and before a block ends.
 use Rattle.std.proofs.Common.{◌≡◌, ℕ, zero, suc, ◌+◌, ◌-◌, ◌<◌, Bool, true, false, List, [], ◌∷◌, ◌++◌, length}
 use Rattle.std.proofs.Common.{refl, ap, sym, ◌∙◌, subst, arith, take, IsTrue}
-use Rattle.std.specs.Prelude.{not, ◌&&◌, ◌||◌, is_some, Option, Some, None, slice_get, slice_set}
+use Rattle.std.specs.Prelude.{if◌then◌else◌, slice_index, ◌==◌, not, ◌&&◌, ◌||◌, is_some, Option, Some, None, slice_get, slice_set}
+use Rattle.std.proofs.lemmas.Bool.{and_parts}
 use Rattle.std.proofs.lemmas.List.{length_push, take_all, take_more, set_split, drop_all}
 use Rattle.std.proofs.lemmas.Option.{slice_get_within, get_or_from_slice_get, slice_get-get_or}
 use Rattle.mk_check.specs.declared.feeding.instructions.Instruction.{Instruction}
@@ -14,10 +15,11 @@ use Rattle.mk_check.specs.declared.feeding.tree.Node.TheVariants as node
 use Rattle.mk_check.specs.declared.feeding.tree.Frame.{Frame}
 use Rattle.mk_check.specs.declared.feeding.tree.Frame.TheVariants as frame
 use Rattle.mk_check.specs.Steps.{after_line, asks_first, is_asking, is_print, op_asked}
-use Rattle.mk_check.specs.Trees.{FrameIsWithin, FramesAreWithin, HasStopped, IsBelow, IsTree, PlaceIsWithin}
+use Rattle.mk_check.specs.Trees.{FrameIsWithin, FramesAreWithin, HasStopped, IsTree, PlaceIsWithin}
 use Rattle.mk_check.specs.Trees.{LeavesBlock}
 use Rattle.mk_check.specs.Trees.{MovesOn, MovesToOp, Place}
 use Rattle.mk_check.specs.Trees.{innermost, kept_in, node_after, node_at, node_to_go_on, place_behind_block}
+use Rattle.mk_check.specs.Trees.{place_in_branch, place_in_rounds}
 use Rattle.mk_check.specs.Trees.{resumed_node, steps_at, steps_from, trees, with_kept}
 use Rattle.mk_check.proofs.Moves.{FramesAreWithin_pop, asks_at, end_goes_on, line_goes_on, steps_at-trees}
 
@@ -44,16 +46,11 @@ asked_so numbers (Same p q number) = refl
 asked_so numbers (IsNull p number) = refl
 asked_so numbers (Show p) = refl
 
-asks_here : (a b c : Bool) → a ≡ true → (a || (not b && c)) ≡ true
+pub asks_here : (a b c : Bool) → a ≡ true → (a || (not b && c)) ≡ true
 asks_here true b c e = refl
 asks_here false b c e = cc
 
-prints_here : (a b c : Bool) → a ≡ false → b ≡ true → (a || (not b && c)) ≡ false
-prints_here false true c e f = refl
-prints_here false false c e f = cc
-prints_here true b c e f = cc
-
-asks_later : (a b c : Bool) → a ≡ false → b ≡ false → (a || (not b && c)) ≡ c
+pub asks_later : (a b c : Bool) → a ≡ false → b ≡ false → (a || (not b && c)) ≡ c
 asks_later false false c e f = refl
 asks_later false true c e f = cc
 asks_later true b c e f = cc
@@ -172,21 +169,6 @@ module _ (nodes : List Node) where
       → asks_first (steps_at (trees nodes) at) ≡ asks_first (steps_from (trees nodes) n)
   first_from at n tree h e = ap asks_first (steps_at-trees nodes at tree h ∙ ap (steps_from (trees nodes)) e)
 
-  pub first_asks : (at line : ℕ) (instruction : Instruction) (next : ℕ) → IsTree nodes → at < length nodes
-      → node_at nodes at ≡ node.Line line instruction next → is_asking instruction ≡ true
-      → asks_first (steps_at (trees nodes) at) ≡ true
-  first_asks at line instruction next tree h e asks =
-      first_from at (node.Line line instruction next) tree h e
-      ∙ asks_here (is_asking instruction) (is_print instruction) (asks_first (steps_at (trees nodes) next)) asks
-
-  pub first_prints : (at line : ℕ) (instruction : Instruction) (next : ℕ) → IsTree nodes → at < length nodes
-      → node_at nodes at ≡ node.Line line instruction next → is_asking instruction ≡ false
-      → is_print instruction ≡ true → asks_first (steps_at (trees nodes) at) ≡ false
-  first_prints at line instruction next tree h e asks prints =
-      first_from at (node.Line line instruction next) tree h e
-      ∙ prints_here (is_asking instruction) (is_print instruction) (asks_first (steps_at (trees nodes) next)) asks
-      prints
-
   pub first_later : (at line : ℕ) (instruction : Instruction) (next : ℕ) → IsTree nodes → at < length nodes
       → node_at nodes at ≡ node.Line line instruction next → is_asking instruction ≡ false
       → is_print instruction ≡ false
@@ -196,20 +178,33 @@ module _ (nodes : List Node) where
       ∙ asks_later (is_asking instruction) (is_print instruction) (asks_first (steps_at (trees nodes) next)) asks
       prints
 
-  pub first_no_line : (at : ℕ) (n : Node) → IsTree nodes → at < length nodes → node_at nodes at ≡ n
-      → ((line : ℕ) (instruction : Instruction) (next : ℕ) → n ≡ node.Line line instruction next → ⊥)
+  pub first_done : (at : ℕ) → IsTree nodes → at < length nodes → node_at nodes at ≡ node.Done
       → asks_first (steps_at (trees nodes) at) ≡ false
-  first_no_line at node.Done tree h e none = first_from at node.Done tree h e
-  first_no_line at (node.Line line instruction next) tree h e none = absurd (none line instruction next refl)
-  first_no_line at (node.Rounds rounds body next) tree h e none =
-      first_from at (node.Rounds rounds body next) tree h e
-  first_no_line at (node.Choice number first second next) tree h e none =
-      first_from at (node.Choice number first second next) tree h e
+  first_done at tree h e = first_from at node.Done tree h e
 
-  -- the line after a line stands before it
-  pub next_below : (at line : ℕ) (instruction : Instruction) (next : ℕ) → IsTree nodes → at < length nodes
-      → node_at nodes at ≡ node.Line line instruction next → next < at
-  next_below at line instruction next tree h e = subst (λ (n : Node). IsBelow at n) e (tree at h)
+  -- so do those of a block that begins
+
+  pub first_in_rounds : (p : Place) (rounds body next : ℕ) → IsTree nodes → p.at < length nodes
+      → node_at nodes p.at ≡ node.Rounds rounds body next → asks_first (steps_at (trees nodes) p.at) ≡ true
+      → asks_first (steps_at (trees nodes) (place_in_rounds p rounds body next).at) ≡ true
+  first_in_rounds p zero body next tree h e first =
+      sym (first_from p.at (node.Rounds zero body next) tree h e) ∙ first
+  first_in_rounds p (suc more) body next tree h e first =
+      sym (first_from p.at (node.Rounds (suc more) body next) tree h e) ∙ first
+
+  pub first_in_branch : (p : Place) (number first second next : ℕ) → IsTree nodes → p.at < length nodes
+      → node_at nodes p.at ≡ node.Choice number first second next → asks_first (steps_at (trees nodes) p.at) ≡ true
+      → asks_first (steps_at (trees nodes) (place_in_branch p number first second next).at) ≡ true
+  first_in_branch p number first second next tree h e asks =
+      let both = and_parts (asks_first (steps_at (trees nodes) first)) (asks_first (steps_at (trees nodes) second))
+      (sym (first_from p.at (node.Choice number first second next) tree h e) ∙ asks) in
+      by_test (slice_index p.numbers number == 0) both.0 both.1
+    where
+      by_test : (b : Bool) → asks_first (steps_at (trees nodes) first) ≡ true
+          → asks_first (steps_at (trees nodes) second) ≡ true
+          → asks_first (steps_at (trees nodes) (if b then second else first)) ≡ true
+      by_test true f g = g
+      by_test false f g = f
 
   pub no_print_here : (at line : ℕ) (instruction : Instruction) (next : ℕ) → IsTree nodes → at < length nodes
       → node_at nodes at ≡ node.Line line instruction next → is_asking instruction ≡ false
@@ -236,7 +231,7 @@ module _ (nodes : List Node) where
   stays_to_op : (p q : Place) → PlaceIsWithin (length nodes) p
       → asks_first (steps_at (trees nodes) p.at) ≡ true → q ≡ p → MovesToOp nodes p q
   stays_to_op p q w first same =
-      subst (λ (x : Place). MovesToOp nodes p x) (sym same) (record { within = w; run = refl; first = first })
+      subst (λ (x : Place). MovesToOp nodes p x) (sym same) (record { within = w; run = refl; first = first; fits = λ f. f })
 
   -- the end of a block, after which an operation comes first
   pub left_to_op : (p q : Place) (left : Bool) → IsTree nodes → PlaceIsWithin (length nodes) p
@@ -256,6 +251,7 @@ module _ (nodes : List Node) where
         within = moves.within;
         run = moves.run;
         first = ap (λ (at : ℕ). asks_first (steps_at (trees nodes) at)) (here ∙ sym resumed) ∙ first;
+        fits = moves.fits;
       }
   left_to_op p q false tree w e first leaves none =
       let last : innermost p.frames ≡ None = ap innermost (none refl).0 in
@@ -275,4 +271,9 @@ module _ (nodes : List Node) where
 
   -- A place that moves on stops where the place after it stops.
   pub stops_after : (p q t : Place) → MovesToOp nodes p q → HasStopped nodes q t → HasStopped nodes p t
-  stops_after p q t moves stopped = record { within = stopped.within; at = stopped.at; run = stopped.run ∙ moves.run }
+  stops_after p q t moves stopped = record {
+    within = stopped.within;
+    at = stopped.at;
+    run = stopped.run ∙ moves.run;
+    fits = λ f. stopped.fits (moves.fits f);
+  }

@@ -13,11 +13,11 @@ use Rattle.mk_check.specs.Feeding.{FeedState, IsFeed, IsWaiting, TakesAnswer, op
 use Rattle.mk_check.specs.Spots.{asks_at}
 use Rattle.mk_check.specs.Steps.{KeptState, Steps, after_answer, is_show, is_silent, op_asked, stop_of, stop_on_answer}
 use Rattle.mk_check.specs.Steps.{with_text}
-use Rattle.mk_check.specs.Trees.{HasStopped, IsTree, PlaceIsWithin, Place, StopsAt, kept_in, left_in, node_at}
-use Rattle.mk_check.specs.Trees.{stopped_in, with_kept}
+use Rattle.mk_check.specs.Trees.{HasStopped, IsTree, PlaceFits, PlaceIsWithin, Place, StopsAt, kept_in, left_in}
+use Rattle.mk_check.specs.Trees.{node_at, stopped_in, with_kept}
 use Rattle.mk_check.proofs.AsksFirst.{asked_so}
 use Rattle.mk_check.proofs.Moves as moves
-use Rattle.mk_check.proofs.Moves.{unfolded_line}
+use Rattle.mk_check.proofs.Moves.{line_fits, unfolded_line}
 use Rattle.mk_check.proofs.Stands.{answer_stands, waits_for_answer}
 use Rattle.mk_check.proofs.WorkLaws.{answer_nearer}
 
@@ -50,6 +50,7 @@ pub record StopsBehind (nodes : List Node) (p : Place) (a : Answer) (t : Place) 
   pub within : PlaceIsWithin (length nodes) t
   pub at : StopsAt (node_at nodes t.at) t
   pub run : stopped_in nodes t ≡ stop_on_answer (left_in nodes p) a (kept_in p)
+  pub fits : PlaceFits nodes p → PlaceFits nodes t
 
 pub stops_at_once : (nodes : List Node) (p t : Place) (line : ℕ) (instruction : Instruction) (next : ℕ) (a : Answer)
     → IsTree nodes → PlaceIsWithin (length nodes) p → node_at nodes p.at ≡ node.Line line instruction next
@@ -66,6 +67,9 @@ stops_at_once nodes p t line instruction next a tree w e silent stopped =
           (unfolded_line nodes p line instruction next tree w e)
           ∙ ap (λ (k : KeptState). stop_of rest (after_answer instruction a k))
           (silent_kept line instruction a (kept_in p) silent));
+      fits = λ f.
+          let at = line_fits nodes p line instruction next tree w e f in
+          stopped.fits (record { here = at.here; frames = at.frames });
     }
 
 pub asks_so : (numbers : List ℕ) (n : Node) → asks_at n ≡ true → is_some (op_of_node numbers n) ≡ true
@@ -98,7 +102,7 @@ module _ (s : FeedState) (t : Place) (a : Answer) (line : ℕ) (instruction : In
   pub feeds_at_once : IsFeed (record { nodes = s.nodes; place = t })
   feeds_at_once =
       record {
-        stop = record { within = behind.within; stops = behind.at };
+        stop = record { within = behind.within; fits = behind.fits is.stop.fits; stops = behind.at };
         some = record {
           program = is.some.program;
           k = is.some.k;

@@ -1,14 +1,14 @@
--- A program of a text declares so few pointer registers and globals that a byte numbers them.
-use Rattle.std.proofs.Common.{◌≡◌, ℕ, zero, suc, ◌+◌, ◌≤◌, Bool, false, List, [], ◌∷◌, ◌++◌, length, refl, ap, ◌∙◌}
+-- A program of a text declares few registers in a script, and few globals.
+use Rattle.std.proofs.Common.{◌≡◌, ℕ, zero, suc, ◌+◌, ◌≤◌, Bool, true, false, List, [], ◌∷◌, ◌++◌, length, refl, ap, ◌∙◌}
 use Rattle.std.proofs.Common.{if◌then◌else◌, arith}
 use Rattle.std.specs.Prelude.{None}
 use Rattle.std.proofs.lemmas.List.{append_assoc}
 use Rattle.std.proofs.lemmas.List.Sums.{fold_push}
 use Rattle.mk_script.specs.declared.items.At.{At}
 use Rattle.mk_script.specs.declared.items.Item.{Item}
-use Rattle.mk_script.specs.declared.items.Item.TheVariants.{Global, Script, Ptr}
+use Rattle.mk_script.specs.declared.items.Item.TheVariants.{Global, Num, Script, Ptr}
 use Rattle.mk_script.specs.declared.faults.Which.TheVariants as which
-use Rattle.mk_script.specs.Scopes.{global_names, pointer_names, is_script, this_script}
+use Rattle.mk_script.specs.Scopes.{global_names, number_names, pointer_names, is_script, this_script}
 use Rattle.mk_script.specs.Lines.{limit_fault}
 use Rattle.mk_script.proofs.PassedLines.{ArePassed, is_whole}
 use Rattle.mk_check.proofs.GrammarLemmas.{at_most-None}
@@ -17,10 +17,74 @@ use Rattle.mk_check.specs.Blocks.{before_next_script, script_from}
 use Rattle.mk_check.specs.NamesInScope.{HasFew}
 use Rattle.mk_check.specs.Feeding.{script_scope}
 
+this_script_push : (before : List Item) (item : Item)
+    → this_script (before ++ item ∷ []) ≡ (if is_script item then [] else this_script before ++ item ∷ [])
+this_script_push before item = fold_push (λ (lines : List Item) (x : Item). if is_script x then []
+    else lines ++ x ∷ []) [] before item
+
+-- Registers of one kind that lines of a script declare, of which there may be this many.
+record AreLimited (declared : List Item → ℕ) (greatest : ℕ) : Type 0 where
+  none : declared [] ≡ 0
+  push : (items : List Item) (item : Item) → declared (items ++ item ∷ []) ≡ declared items + declared (item ∷ [])
+  more : (item : Item) (items : List Item) → declared (item ∷ items) ≡ declared (item ∷ []) + declared items
+  fits : (before : List Item) (item : Item) → limit_fault before item ≡ None → declared (this_script before) ≤ greatest
+      → declared (this_script before) + declared (item ∷ []) ≤ greatest
+
+module _ (declared : List Item → ℕ) (greatest : ℕ) (l : AreLimited declared greatest) where
+  -- after a line, the script declares no more than may be
+  still_few : (before : List Item) (item : Item) → limit_fault before item ≡ None
+      → declared (this_script before) ≤ greatest → declared (this_script (before ++ item ∷ [])) ≤ greatest
+  still_few before item limit h = by_script (is_script item) (this_script_push before item)
+    where
+      by_script : (b : Bool)
+          → this_script (before ++ item ∷ []) ≡ (if b then [] else this_script before ++ item ∷ [])
+          → declared (this_script (before ++ item ∷ [])) ≤ greatest
+      by_script true e = omega (arith, ap declared e, l.none)
+      by_script false e = omega (arith, ap declared e, l.push (this_script before) item, l.fits before item limit h)
+
+  -- after a line that is no script, it declares what it did and what that does
+  declares_more : (before : List Item) (item : Item) → is_script item ≡ false
+      → declared (this_script (before ++ item ∷ [])) ≡ declared (this_script before) + declared (item ∷ [])
+  declares_more before item e =
+      ap declared (this_script_push before item
+      ∙ ap (λ (b : Bool). if b then [] else this_script before ++ item ∷ []) e)
+      ∙ l.push (this_script before) item
+
+  rest_is_few : (before more : List Item) → ArePassed before more → declared (this_script before) ≤ greatest
+      → declared (this_script before) + declared (before_next_script more) ≤ greatest
+  rest_is_few before [] passed h = omega (arith, l.none)
+  rest_is_few before (Script name ∷ more) passed h = omega (arith, l.none)
+  rest_is_few before (item ∷ more) passed h =
+      omega (
+        arith,
+        declares_more before item refl,
+        l.more item (before_next_script more),
+        rest_is_few (before ++ item ∷ []) more passed.1 (still_few before item passed.0.within h),
+      )
+
+  script_is_few : (before more : List Item) (line k : ℕ) → ArePassed before more
+      → declared (this_script before) ≤ greatest → declared (script_from line k more).items ≤ greatest
+  script_is_few before [] line k passed h = omega (arith, l.none)
+  script_is_few before (Script name ∷ more) line zero passed h =
+      omega (
+        arith,
+        rest_is_few (before ++ Script name ∷ []) more passed.1 (still_few before (Script name) passed.0.within h),
+      )
+  script_is_few before (Script name ∷ more) line (suc k) passed h =
+      script_is_few (before ++ Script name ∷ []) more (line + 1) k passed.1
+      (still_few before (Script name) passed.0.within h)
+  script_is_few before (item ∷ more) line zero passed h =
+      script_is_few (before ++ item ∷ []) more (line + 1) zero passed.1 (still_few before item passed.0.within h)
+  script_is_few before (item ∷ more) line (suc k) passed h =
+      script_is_few (before ++ item ∷ []) more (line + 1) (suc k) passed.1 (still_few before item passed.0.within h)
+
 -- Counts of names.
 
 abbrev pointers : List Item → ℕ
 pointers items = length (pointer_names items)
+
+abbrev numbers : List Item → ℕ
+numbers items = length (number_names items)
 
 abbrev globals : List Item → ℕ
 globals items = length (global_names items)
@@ -30,69 +94,25 @@ pointers-append [] ys = omega arith
 pointers-append (Ptr name at ∷ xs) ys = omega (arith, pointers-append xs ys)
 pointers-append (item ∷ xs) ys = omega (arith, pointers-append xs ys)
 
+numbers-append : (xs ys : List Item) → numbers (xs ++ ys) ≡ numbers xs + numbers ys
+numbers-append [] ys = omega arith
+numbers-append (Num name ∷ xs) ys = omega (arith, numbers-append xs ys)
+numbers-append (item ∷ xs) ys = omega (arith, numbers-append xs ys)
+
 globals-append : (xs ys : List Item) → globals (xs ++ ys) ≡ globals xs + globals ys
 globals-append [] ys = omega arith
 globals-append (Global name ty ∷ xs) ys = omega (arith, globals-append xs ys)
 globals-append (item ∷ xs) ys = omega (arith, globals-append xs ys)
 
-this_script_push : (before : List Item) (item : Item)
-    → this_script (before ++ item ∷ []) ≡ (if is_script item then [] else this_script before ++ item ∷ [])
-this_script_push before item = fold_push (λ (lines : List Item) (x : Item). if is_script x then []
-    else lines ++ x ∷ []) [] before item
+pointer_fits : (before : List Item) (item : Item) → limit_fault before item ≡ None
+    → pointers (this_script before) ≤ 8 → pointers (this_script before) + pointers (item ∷ []) ≤ 8
+pointer_fits before (Ptr name at) limit h = at_most-None (pointers (this_script before) + 1) 8 which.Pointers limit
+pointer_fits before item limit h = omega arith
 
--- after a line that is no script, the script has its pointer registers and the line's
-pointers_more : (before : List Item) (item : Item) → is_script item ≡ false
-    → pointers (this_script (before ++ item ∷ [])) ≡ pointers (this_script before) + pointers (item ∷ [])
-pointers_more before item e =
-    ap pointers (this_script_push before item ∙ ap (λ (b : Bool). if b then [] else this_script before ++ item ∷ []) e)
-    ∙ pointers-append (this_script before) (item ∷ [])
-
-pointers_none : (before : List Item) (name : List ℕ) → pointers (this_script (before ++ Script name ∷ [])) ≡ 0
-pointers_none before name = ap pointers (this_script_push before (Script name))
-
-pointer_fits : (before : List Item) (name : List ℕ) (at : At) → limit_fault before (Ptr name at) ≡ None
-    → pointers (this_script (before ++ Ptr name at ∷ [])) ≤ 8
-pointer_fits before name at limit =
-    let e = pointers_more before (Ptr name at) refl in
-    let f = at_most-None (pointers (this_script before) + 1) 8 which.Pointers limit in
-    omega arith
-
-rest_is_few : (before more : List Item) → ArePassed before more → pointers (this_script before) ≤ 8
-    → pointers (this_script before) + pointers (before_next_script more) ≤ 8
-rest_is_few before [] limited h = omega arith
-rest_is_few before (Script name ∷ more) limited h = omega arith
-rest_is_few before (Ptr name at ∷ more) limited h =
-    let e = pointers_more before (Ptr name at) refl in
-    omega (
-      arith,
-      rest_is_few (before ++ Ptr name at ∷ []) more limited.1
-          (pointer_fits before name at limited.0.within),
-    )
-rest_is_few before (item ∷ more) limited h =
-    let e = pointers_more before item refl in
-    omega (arith, rest_is_few (before ++ item ∷ []) more limited.1 (omega arith))
-
-script_is_few : (before more : List Item) (line k : ℕ) → ArePassed before more → pointers (this_script before) ≤ 8
-    → pointers (script_from line k more).items ≤ 8
-script_is_few before [] line k limited h = omega arith
-script_is_few before (Script name ∷ more) line zero limited h =
-    let e = pointers_none before name in
-    omega (arith, rest_is_few (before ++ Script name ∷ []) more limited.1 (omega arith))
-script_is_few before (Script name ∷ more) line (suc k) limited h =
-    let e = pointers_none before name in
-    script_is_few (before ++ Script name ∷ []) more (line + 1) k limited.1 (omega arith)
-script_is_few before (Ptr name at ∷ more) line zero limited h =
-    script_is_few (before ++ Ptr name at ∷ []) more (line + 1) zero limited.1
-    (pointer_fits before name at limited.0.within)
-script_is_few before (Ptr name at ∷ more) line (suc k) limited h =
-    script_is_few (before ++ Ptr name at ∷ []) more (line + 1) (suc k) limited.1
-    (pointer_fits before name at limited.0.within)
-script_is_few before (item ∷ more) line zero limited h =
-    let e = pointers_more before item refl in
-    script_is_few (before ++ item ∷ []) more (line + 1) zero limited.1 (omega arith)
-script_is_few before (item ∷ more) line (suc k) limited h =
-    let e = pointers_more before item refl in
-    script_is_few (before ++ item ∷ []) more (line + 1) (suc k) limited.1 (omega arith)
+number_fits : (before : List Item) (item : Item) → limit_fault before item ≡ None → numbers (this_script before) ≤ 8
+    → numbers (this_script before) + numbers (item ∷ []) ≤ 8
+number_fits before (Num name) limit h = at_most-None (numbers (this_script before) + 1) 8 which.Numbers limit
+number_fits before item limit h = omega arith
 
 globals_are_few : (before more : List Item) → ArePassed before more → globals before ≤ 64
     → globals (before ++ more) ≤ 64
@@ -109,8 +129,21 @@ globals_are_few before (item ∷ more) limited h =
 
 pub text_has_few : (program : List Item) (k : ℕ) → IsOfSomeText program → HasFew (script_scope program k)
 text_has_few program k text =
-    let limited = (is_whole program text).lines in
+    let passed = (is_whole program text).lines in
     record {
-      pointers = script_is_few [] program 1 k limited (omega arith);
-      globals = globals_are_few [] program limited (omega arith);
+      pointers = script_is_few pointers 8
+          (record {
+            none = refl;
+            push = λ items item. pointers-append items (item ∷ []);
+            more = λ item items. pointers-append (item ∷ []) items;
+            fits = pointer_fits;
+          }) [] program 1 k passed (omega arith);
+      globals = globals_are_few [] program passed (omega arith);
+      numbers = script_is_few numbers 8
+          (record {
+            none = refl;
+            push = λ items item. numbers-append items (item ∷ []);
+            more = λ item items. numbers-append (item ∷ []) items;
+            fits = number_fits;
+          }) [] program 1 k passed (omega arith);
     }

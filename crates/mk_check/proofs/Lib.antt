@@ -8,6 +8,7 @@ pub mod NumberLemmas
 pub mod RuleLemmas
 pub mod Builds
 pub mod FeedLaws
+pub mod FewBlocks
 pub mod FewNames
 pub mod LinesLeft
 pub mod Moves

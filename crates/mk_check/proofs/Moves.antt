@@ -15,14 +15,14 @@ use Rattle.mk_check.specs.Steps.{after_line}
 use Rattle.mk_check.specs.Steps.{stop_of}
 use Rattle.mk_check.specs.Trees.{steps_at, steps_from, with_node, trees, IsBelow, node_at, IsTree, Place, frame_steps}
 use Rattle.mk_check.specs.Trees.{behind_frames, left_in, kept_in, with_kept, FrameIsWithin, FramesAreWithin}
-use Rattle.mk_check.specs.Trees.{PlaceIsWithin}
+use Rattle.mk_check.specs.Trees.{FrameFits, FramesFit, PlaceFits, PlaceIsWithin, depth_of}
 use Rattle.mk_check.specs.Trees.{StopsAt, place_in_rounds, place_behind_block, place_in_branch, LeavesBlock, work_of}
 use Rattle.mk_check.specs.Trees.{work_in, MovesOn, HasStopped}
 use Rattle.mk_check.proofs.StepLaws.{stop_of-round, stop_of-choice_zero, stop_of-choice_other}
 
 -- The steps from a node are those that it names.
 
-steps_from_same : (count : ℕ) (a b : List Steps) (n : Node) → ((j : ℕ) → j < count → steps_at a j ≡ steps_at b j)
+pub steps_from_same : (count : ℕ) (a b : List Steps) (n : Node) → ((j : ℕ) → j < count → steps_at a j ≡ steps_at b j)
     → IsBelow count n → steps_from a n ≡ steps_from b n
 steps_from_same count a b node.Done h below = refl
 steps_from_same count a b (node.Line line instruction next) h below = ap (Line line instruction) (h next below)
@@ -102,6 +102,27 @@ FramesAreWithin_pop count [] f w = (tt, w.0)
 FramesAreWithin_pop count (g ∷ frames) f w = let rest =
     FramesAreWithin_pop count frames f w.1 in ((w.0, rest.0), rest.1)
 
+FramesFit-append : (built : List Steps) (around : ℕ) (frames : List Frame) (f : Frame) → FramesFit built around frames
+    → FrameFits built (around + length frames) f → FramesFit built around (frames ++ f ∷ [])
+FramesFit-append built around [] f w here = (subst (λ (n : ℕ). FrameFits built n f) (omega arith) here, tt)
+FramesFit-append built around (g ∷ frames) f w here = (
+  w.0,
+  FramesFit-append built (around + 1) frames f w.1 (subst (λ (n : ℕ). FrameFits built n f) (omega arith) here),
+)
+
+FramesFit_push : (built : List Steps) (frames : List Frame) (f : Frame) → FramesFit built 0 frames
+    → FrameFits built (length frames) f → FramesFit built 0 (frames ++ f ∷ [])
+FramesFit_push built frames f w here =
+    FramesFit-append built 0 frames f w (subst (λ (n : ℕ). FrameFits built n f) (omega arith) here)
+
+FramesFit-split : (built : List Steps) (around : ℕ) (frames : List Frame) (f : Frame)
+    → FramesFit built around (frames ++ f ∷ [])
+    → FramesFit built around frames × FrameFits built (around + length frames) f
+FramesFit-split built around [] f w = (tt, subst (λ (n : ℕ). FrameFits built n f) (omega arith) w.0)
+FramesFit-split built around (g ∷ frames) f w =
+    let rest = FramesFit-split built (around + 1) frames f w.1 in
+    ((w.0, rest.0), subst (λ (n : ℕ). FrameFits built n f) (omega arith) rest.1)
+
 pub work_of-then_steps : (a b : Steps) → work_of (then_steps a b) ≡ work_of a + work_of b
 work_of-then_steps Done b = omega arith
 work_of-then_steps (Line line instruction rest) b = omega (arith, work_of-then_steps rest b)
@@ -140,6 +161,61 @@ module _ (nodes : List Node) where
   entered_within p (suc more) body next w b n =
       record { at = b; frames = FramesAreWithin_push (length nodes) p.frames (frame.Rounds more body next) w (b, n) }
 
+  entered_fits : (p : Place) (rounds body next : ℕ) → FramesFit (trees nodes) 0 p.frames
+      → FrameFits (trees nodes) (length p.frames) (frame.Rounds rounds body next)
+      → PlaceFits nodes (place_in_rounds p rounds body next)
+  entered_fits p zero body next w f = record { here = f.1; frames = w }
+  entered_fits p (suc more) body next w f =
+      let longer = length_push p.frames (frame.Rounds more body next) in
+      let deep = f.0 in
+      record {
+        here = omega arith;
+        frames = FramesFit_push (trees nodes) p.frames (frame.Rounds more body next) w f;
+      }
+
+  -- a branch begins
+  chosen_fits : (p : Place) (at next : ℕ) → FramesFit (trees nodes) 0 p.frames
+      → length p.frames + 1 + depth_of (steps_at (trees nodes) at) ≤ 32
+      → length p.frames + depth_of (steps_at (trees nodes) next) ≤ 32
+      → PlaceFits nodes (record p { at = at; frames = p.frames ++ frame.Branch next ∷ [] })
+  chosen_fits p at next w inside behind =
+      let longer = length_push p.frames (frame.Branch next) in
+      record {
+        here = omega arith;
+        frames = FramesFit_push (trees nodes) p.frames (frame.Branch next) w behind;
+      }
+
+  -- a node's steps are as deep as they are
+  pub depth_here : (p : Place) (n : Node) → IsTree nodes → PlaceIsWithin (length nodes) p → node_at nodes p.at ≡ n
+      → depth_of (steps_at (trees nodes) p.at) ≡ depth_of (steps_from (trees nodes) n)
+  depth_here p n tree w e =
+      ap depth_of (steps_at-trees nodes p.at tree w.at ∙ ap (steps_from (trees nodes)) e)
+
+  -- A block that begins finds room.
+
+  pub rounds_find_room : (p : Place) (rounds body next : ℕ) → IsTree nodes → PlaceIsWithin (length nodes) p
+      → node_at nodes p.at ≡ node.Rounds rounds body next → PlaceFits nodes p → length p.frames < 32
+  rounds_find_room p rounds body next tree w e f =
+      let deep = depth_here p (node.Rounds rounds body next) tree w e in
+      let fits = f.here in
+      omega arith
+
+  pub choice_finds_room : (p : Place) (number first second next : ℕ) → IsTree nodes → PlaceIsWithin (length nodes) p
+      → node_at nodes p.at ≡ node.Choice number first second next → PlaceFits nodes p → length p.frames < 32
+  choice_finds_room p number first second next tree w e f =
+      let deep = depth_here p (node.Choice number first second next) tree w e in
+      let fits = f.here in
+      omega arith
+
+  -- the line after a line
+  pub line_fits : (p : Place) (line : ℕ) (instruction : Instruction) (next : ℕ) → IsTree nodes
+      → PlaceIsWithin (length nodes) p → node_at nodes p.at ≡ node.Line line instruction next → PlaceFits nodes p
+      → PlaceFits nodes (record p { at = next })
+  line_fits p line instruction next tree w e f =
+      let deep = depth_here p (node.Line line instruction next) tree w e in
+      let fits = f.here in
+      record { here = omega arith; frames = f.frames }
+
   -- a node's steps are first among those that are left
   unfolded : (p : Place) (n : Node) → IsTree nodes → PlaceIsWithin (length nodes) p → node_at nodes p.at ≡ n
       → left_in nodes p ≡ then_steps (steps_from (trees nodes) n) (behind_frames (trees nodes) p.frames)
@@ -176,6 +252,7 @@ module _ (nodes : List Node) where
         run = sym (ap (λ (s : Steps). stop_of s (kept_in p)) here
             ∙ ap (λ (b : Bool). if b then stop else stop_of rest (after_line instruction (kept_in p))) none);
         nearer = omega (arith, ap work_of here);
+        fits = λ f. let at = line_fits p line instruction next tree w e f in record { here = at.here; frames = at.frames };
       }
 
   pub rounds_go_on : (p : Place) (rounds body next : ℕ) → IsTree nodes → PlaceIsWithin (length nodes) p
@@ -188,6 +265,10 @@ module _ (nodes : List Node) where
         run = kept rounds ∙ (entered_runs p rounds body next (kept_in p)
             ∙ sym (ap (λ (s : Steps). stop_of s (kept_in p)) here));
         nearer = omega (arith, ap work_of here, entered_nearer p rounds body next);
+        fits = λ f.
+            let deep = depth_here p (node.Rounds rounds body next) tree w e in
+            let around = f.here in
+            entered_fits p rounds body next f.frames (omega arith, omega arith);
       }
     where
       kept : (r : ℕ) → stop_of (left_in nodes (place_in_rounds p r body next)) (kept_in (place_in_rounds p r body next))
@@ -201,6 +282,7 @@ module _ (nodes : List Node) where
   choice_goes_on p number first second next tree w e =
       let n = node.Choice number first second next in
       by_test (slice_index p.numbers number == 0) refl (unfolded p n tree w e) (below_length p n tree w e)
+      (depth_here p n tree w e)
     where
       rest : Steps
       rest = then_steps (steps_at (trees nodes) next) (behind_frames (trees nodes) p.frames)
@@ -209,8 +291,10 @@ module _ (nodes : List Node) where
           → left_in nodes p ≡ Choice number (steps_at (trees nodes) first) (steps_at (trees nodes) second)
           (then_steps (steps_at (trees nodes) next) (behind_frames (trees nodes) p.frames))
           → IsBelow (length nodes) (node.Choice number first second next)
+          → depth_of (steps_at (trees nodes) p.at)
+          ≡ depth_of (steps_from (trees nodes) (node.Choice number first second next))
           → MovesOn nodes p (record p { at = if b then second else first; frames = p.frames ++ frame.Branch next ∷ [] })
-      by_test true t here below = record {
+      by_test true t here below deep = record {
         within = record {
           at = below.1;
           frames = FramesAreWithin_push (length nodes) p.frames (frame.Branch next) w.frames below.2;
@@ -229,8 +313,9 @@ module _ (nodes : List Node) where
           work_of-then_steps (steps_at (trees nodes) second)
               (then_steps (steps_at (trees nodes) next) (behind_frames (trees nodes) p.frames)),
         );
+        fits = λ f. let around = f.here in chosen_fits p second next f.frames (omega arith) (omega arith);
       }
-      by_test false t here below = record {
+      by_test false t here below deep = record {
         within = record {
           at = below.0;
           frames = FramesAreWithin_push (length nodes) p.frames (frame.Branch next) w.frames below.2;
@@ -249,7 +334,15 @@ module _ (nodes : List Node) where
           work_of-then_steps (steps_at (trees nodes) first)
               (then_steps (steps_at (trees nodes) next) (behind_frames (trees nodes) p.frames)),
         );
+        fits = λ f. let around = f.here in chosen_fits p first next f.frames (omega arith) (omega arith);
       }
+
+  frames_before : (p : Place) (frames : List Frame) (f : Frame) → p.frames ≡ frames ++ f ∷ [] → PlaceFits nodes p
+      → FramesFit (trees nodes) 0 frames × FrameFits (trees nodes) (length frames) f
+  frames_before p frames f was w =
+      let left = FramesFit-split (trees nodes) 0 frames f
+      (subst (λ (fs : List Frame). FramesFit (trees nodes) 0 fs) was w.frames) in
+      (left.0, subst (λ (n : ℕ). FrameFits (trees nodes) n f) (omega arith) left.1)
 
   -- the end of an open block
   block_goes_on : (p : Place) (frames : List Frame) (f : Frame) → p.frames ≡ frames ++ f ∷ []
@@ -265,6 +358,9 @@ module _ (nodes : List Node) where
       ap (λ (fs : List Frame). length fs) was,
       length_push frames (frame.Branch next),
     );
+    fits = λ w.
+        let left = frames_before p frames (frame.Branch next) was w in
+        record { here = left.1; frames = left.0 };
   }
   block_goes_on p frames (frame.Rounds rounds body next) was here w = record {
     within = entered_within (record p { frames = frames }) rounds body next w.0 w.1.0 w.1.1;
@@ -277,6 +373,9 @@ module _ (nodes : List Node) where
       length_push frames (frame.Rounds rounds body next),
       entered_nearer (record p { frames = frames }) rounds body next,
     );
+    fits = λ w.
+        let left = frames_before p frames (frame.Rounds rounds body next) was w in
+        entered_fits (record p { frames = frames }) rounds body next left.0 left.1;
   }
     where
       kept : (r : ℕ) → stop_of (left_in nodes (place_in_rounds (record p { frames = frames }) r body next))
@@ -311,6 +410,7 @@ module _ (nodes : List Node) where
         within = w;
         at = subst (λ (m : Node). StopsAt m p) (sym e) none;
         run = at (left_in nodes p) here;
+        fits = λ f. f;
       }
 
   pub asks_at : (p : Place) (line : ℕ) (instruction : Instruction) (next : ℕ) → IsTree nodes
@@ -327,4 +427,5 @@ module _ (nodes : List Node) where
         run = ap (λ (s : Steps). let at : Stopped = record { left = s; kept = kept_in p } in at) here
             ∙ sym (ap (λ (s : Steps). stop_of s (kept_in p)) here
             ∙ ap (λ (b : Bool). if b then stop else stop_of rest (after_line instruction (kept_in p))) some);
+        fits = λ f. f;
       }

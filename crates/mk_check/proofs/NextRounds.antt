@@ -30,4 +30,9 @@ round_begins nodes p t rounds less body next tree w e some one fewer asks is =
     let stopped =
     stopped_here nodes t (node_at nodes t.at) tree moves.within refl
     (asks_so t.numbers (node_at nodes t.at) (ap (λ (b : ℕ). asks_at (node_at nodes b)) at ∙ asks)) in
-    record { within = stopped.within; at = stopped.at; run = stopped.run ∙ moves.run }
+    record {
+      within = stopped.within;
+      at = stopped.at;
+      run = stopped.run ∙ moves.run;
+      fits = λ f. stopped.fits (moves.fits f);
+    }

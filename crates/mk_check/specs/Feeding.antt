@@ -8,7 +8,7 @@ use Rattle.mk_check.specs.declared.feeding.tree.Node.TheVariants as node
 use Rattle.mk_check.specs.Blocks.{Blocks, Done, Line, Rounds, Choice, script_of}
 use Rattle.mk_check.specs.Feed.{Scope, Fed, op_of, scope_of, feed, has_ended}
 use Rattle.mk_check.specs.Steps.{op_asked, numbered}
-use Rattle.mk_check.specs.Trees.{Place, left_in, node_at, PlaceIsWithin, StopsAt, work_of}
+use Rattle.mk_check.specs.Trees.{Place, left_in, node_at, PlaceFits, PlaceIsWithin, StopsAt, work_of}
 
 -- the nodes of a script, and where it is
 pub record FeedState : Type 0 where
@@ -18,6 +18,7 @@ pub record FeedState : Type 0 where
 -- it is at an operation or at its end
 pub record IsAtStop (s : FeedState) : Type 0 where
   pub within : PlaceIsWithin (length s.nodes) s.place
+  pub fits : PlaceFits s.nodes s.place
   pub stops : StopsAt (node_at s.nodes s.place.at) s.place
 
 -- the operation that a node asks for

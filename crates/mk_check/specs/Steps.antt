@@ -224,12 +224,13 @@ abbrev pub is_print : Instruction → Bool
 is_print (Print number) = true
 is_print instruction = false
 
--- Whether the steps come to an operation before one of them prints, and before a block begins or ends.
+-- Whether the steps come to an operation before one of them prints, and before a block ends.
 abbrev pub asks_first : Steps → Bool
 asks_first Done = false
 asks_first (Line line instruction rest) = is_asking instruction || (not (is_print instruction) && asks_first rest)
-asks_first (Rounds rounds body rest) = false
-asks_first (Choice number first second rest) = false
+asks_first (Rounds zero body rest) = asks_first rest
+asks_first (Rounds (suc more) body rest) = asks_first body
+asks_first (Choice number first second rest) = asks_first first && asks_first second
 
 -- the instruction takes its answer
 abbrev pub after_answer : Instruction → Answer → KeptState → KeptState

@@ -1,6 +1,6 @@
 -- What the nodes of a tree stand for, and where a script is in it.
 -- Private functions cite these words, and public clauses only by what a `Feed` stands for.
-use Rattle.std.specs.Prelude.{◌≡◌, ℕ, zero, suc, ◌+◌, ◌*◌, ◌<◌, ◌++◌, ◌==◌, max, true, List, [], ◌∷◌, length, fold}
+use Rattle.std.specs.Prelude.{◌≡◌, ℕ, zero, suc, ◌+◌, ◌*◌, ◌<◌, ◌≤◌, ◌++◌, ◌==◌, max, true, List, [], ◌∷◌, length, fold}
 use Rattle.std.specs.Prelude.{slice_index, slice_index_or, slice_get, ◌-◌, if◌then◌else◌, Option, Some, None, is_some}
 use Rattle.mk_check.specs.declared.feeding.tree.Node.{Node}
 use Rattle.mk_check.specs.declared.feeding.tree.Node.TheVariants as node
@@ -87,6 +87,28 @@ pub record PlaceIsWithin (count : ℕ) (p : Place) : Type 0 where
   pub at : p.at < count
   pub frames : FramesAreWithin count p.frames
 
+-- how many of its blocks stand in one another
+abbrev pub depth_of : Steps → ℕ
+depth_of Done = 0
+depth_of (Line line instruction rest) = depth_of rest
+depth_of (Rounds rounds body rest) = max (1 + depth_of body) (depth_of rest)
+depth_of (Choice number first second rest) = max (1 + max (depth_of first) (depth_of second)) (depth_of rest)
+
+-- As many open blocks are around this one: no more than 32 are ever open in it, nor after it.
+abbrev pub FrameFits : List Steps → ℕ → Frame → Type 0
+FrameFits built around (frame.Rounds rounds body next) =
+    (around + 1 + depth_of (steps_at built body) ≤ 32) × (around + depth_of (steps_at built next) ≤ 32)
+FrameFits built around (frame.Branch next) = around + depth_of (steps_at built next) ≤ 32
+
+abbrev pub FramesFit : List Steps → ℕ → List Frame → Type 0
+FramesFit built around [] = Unit {0}
+FramesFit built around (f ∷ frames) = FrameFits built around f × FramesFit built (around + 1) frames
+
+-- No more than 32 blocks are ever open from here on.
+pub record PlaceFits (nodes : List Node) (p : Place) : Type 0 where
+  pub here : length p.frames + depth_of (steps_at (trees nodes) p.at) ≤ 32
+  pub frames : FramesFit (trees nodes) 0 p.frames
+
 -- the script stops at the node: at an operation, or at its end
 abbrev pub StopsAt : Node → Place → Type 0
 StopsAt node.Done p = p.frames ≡ []
@@ -153,15 +175,18 @@ pub record MovesOn (nodes : List Node) (old new : Place) : Type 0 where
   pub within : PlaceIsWithin (length nodes) new
   pub run : stop_of (left_in nodes new) (kept_in new) ≡ stop_of (left_in nodes old) (kept_in old)
   pub nearer : work_in nodes new < work_in nodes old
+  pub fits : PlaceFits nodes old → PlaceFits nodes new
 
 -- The place is the same or moves on, and its node's steps come to an operation first.
 pub record MovesToOp (nodes : List Node) (old new : Place) : Type 0 where
   pub within : PlaceIsWithin (length nodes) new
   pub run : stop_of (left_in nodes new) (kept_in new) ≡ stop_of (left_in nodes old) (kept_in old)
   pub first : asks_first (steps_at (trees nodes) new.at) ≡ true
+  pub fits : PlaceFits nodes old → PlaceFits nodes new
 
 -- The place is where the steps stop.
 pub record HasStopped (nodes : List Node) (old new : Place) : Type 0 where
   pub within : PlaceIsWithin (length nodes) new
   pub at : StopsAt (node_at nodes new.at) new
   pub run : stopped_in nodes new ≡ stop_of (left_in nodes old) (kept_in old)
+  pub fits : PlaceFits nodes old → PlaceFits nodes new

@@ -84,10 +84,8 @@ impl Feed {
             → FeedStandsFor program k self.now answers
             → IsNone result ↔ IsTrue (has_ended (feed program k answers)) }
     {
-        match self.tree.node_in_place(self.running.at()) {
-            Node::Line { instruction, .. } => self.running.asked(instruction),
-            _ => None,
-        }
+        let instruction = self.tree.instruction(self.running.at());
+        self.running.asked(instruction)
     }
 
     /// Answers the operation that waits, and runs on to the next, or to the end. Mostly nothing is printed, and no
@@ -195,8 +193,8 @@ impl Feed {
         self.answer_ahead(alloc, answer)
     }
 
-    /// The same where the next operation comes before anything is printed, with at most one block left and none begun.
-    /// Returns whether it does.
+    /// The same where the next operation comes before anything is printed, with at most one block left. Returns whether
+    /// it does.
     fn answer_quietly(&mut self, answer: Answer) -> bool
         requires { IsWaiting self.old }
         ensures taken { IsTrue result → TakesAnswer self.old answer self.new }
@@ -233,11 +231,11 @@ impl Feed {
         else {
             unreachable!()
         };
-        self.ahead.copy_at(&self.running, next)?;
+        self.ahead.copy_at(&self.running, next);
         self.ahead.print_refusal(alloc, line, answer)?;
         self.ahead.take(instruction, answer)?;
         self.ahead.run(alloc, &self.tree)?;
-        self.running.follow(&mut self.ahead)
+        self.running.follow(&self.ahead)
     }
 
     /// The text so far.

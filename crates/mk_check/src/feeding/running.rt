@@ -1,12 +1,12 @@
 //! A script that runs.
-ghost use Rattle.std.specs.Prelude.{◌≡◌, ◌+◌, ◌-◌, ◌<◌, ◌++◌, [], ◌∷◌, true, false, length, slice_index};
+ghost use Rattle.std.specs.Prelude.{◌≡◌, ◌+◌, ◌-◌, ◌<◌, ◌≤◌, ◌++◌, [], ◌∷◌, true, false, length, slice_index};
 ghost use Rattle.std.specs.Prelude.{slice_set, take};
 ghost use Rattle.std.specs.Prelude.{IsTrue, IfOk, OnOk, OnErr, is_some, replicate, codes};
 ghost use Rattle.mk_check.specs.Feed.{newline, answered_number};
 ghost use Rattle.mk_check.specs.Steps as steps;
 ghost use Rattle.mk_check.specs.Trees.{kept_in, with_kept, PlaceIsWithin, place_in_rounds};
 ghost use Rattle.mk_check.specs.Trees.{innermost, place_in_branch};
-ghost use Rattle.mk_check.specs.Trees.{LeavesBlock, MovesOn, HasStopped};
+ghost use Rattle.mk_check.specs.Trees.{LeavesBlock, MovesOn, HasStopped, PlaceFits};
 ghost use Rattle.mk_check.specs.declared.feeding.tree.Frame.TheVariants as frame;
 
 mod at_once;
@@ -15,20 +15,20 @@ mod quiet;
 
 use crate::feeding::instructions::Instruction;
 use crate::feeding::tree::{Frame, Node, Tree};
+use arrayvec::ArrayVec;
 use mk_core::Answer;
 use mk_never::{NoMemory, Op};
 use mk_script::Name;
 use std::alloc::Global;
 use std::marker::Model;
-use std::mem;
 
 /// Where a script is: its node, its open blocks, the outermost first, its number registers, and its
 /// text so far.
 #[derive(Drop)]
 pub struct Running {
     at: usize,
-    frames: Vec<Frame>,
-    numbers: Vec<u64>,
+    frames: ArrayVec<Frame, 32>,
+    numbers: ArrayVec<u64, 8>,
     text: Vec<u8>,
 }
 
@@ -49,9 +49,38 @@ fn answered_number(answer: Answer) -> u64
     }
 }
 
+/// This many number registers, which are 0.
+fn registers(count: usize) -> ArrayVec<u64, 8>
+    requires { count ≤ 8 }
+    ensures { result.items ≡ replicate count 0 }
+{
+    let mut registers = ArrayVec::from([0; 8]);
+    registers.truncate(count);
+    registers
+}
+
+fn copy_frames(to: &mut ArrayVec<Frame, 32>, from: &ArrayVec<Frame, 32>)
+    ensures { to.new.items ≡ from.now.items }
+{
+    to.clear();
+    if to.try_extend_from_slice(from.as_slice()).is_err() {
+        unreachable!()
+    }
+}
+
+fn copy_numbers(to: &mut ArrayVec<u64, 8>, from: &ArrayVec<u64, 8>)
+    ensures { to.new.items ≡ from.now.items }
+{
+    to.clear();
+    if to.try_extend_from_slice(from.as_slice()).is_err() {
+        unreachable!()
+    }
+}
+
 impl Running {
     /// A script before its first line, with as many number registers as `numbers`.
     pub fn begin(alloc: Global, at: usize, numbers: usize, name: &Name) -> Result<Running, NoMemory>
+        requires { numbers ≤ 8 }
         ensures { IfOk result (λ r. r ≡ record {
           at = at;
           frames = [];
@@ -61,8 +90,8 @@ impl Running {
     {
         let mut running = Running {
             at,
-            frames: Vec::new(alloc),
-            numbers: Vec::from_elem(alloc, 0, numbers)?,
+            frames: ArrayVec::new(),
+            numbers: registers(numbers),
             text: Vec::new(alloc),
         };
         running.print(b"script ")?;
@@ -77,34 +106,37 @@ impl Running {
     {
         Running {
             at: 0,
-            frames: Vec::new(alloc),
-            numbers: Vec::new(alloc),
+            frames: ArrayVec::new(),
+            numbers: ArrayVec::new(),
             text: Vec::new(alloc),
         }
     }
 
-    /// Becomes a copy of another at another node, with no text, in the memory that it has.
-    pub fn copy_at(&mut self, other: &Running, at: usize) -> Result<(), NoMemory>
-        ensures { OnOk result (self.new ≡ record other.now { at = at; text = [] }) }
+    /// Goes to where another is, with its own text. No memory is taken.
+    fn go_to(&mut self, other: &Running)
+        ensures { self.new ≡ record other.now { text = self.old.text } }
     {
-        self.at = at;
-        self.frames.clear();
-        self.frames.extend_from_slice(&other.frames)?;
-        self.numbers.clear();
-        self.numbers.extend_from_slice(&other.numbers)?;
-        self.text.clear();
-        Ok(())
+        self.at = other.at;
+        copy_frames(&mut self.frames, &other.frames);
+        copy_numbers(&mut self.numbers, &other.numbers);
     }
 
-    /// Goes to where another is, with its text after the text so far, and leaves it its own memory.
-    pub fn follow(&mut self, later: &mut Running) -> Result<(), NoMemory>
-        ensures ok { OnOk result (self.new ≡ record later.old { text = self.old.text ++ later.old.text }) }
+    /// Becomes a copy of another at another node, with no text. No memory is taken.
+    pub fn copy_at(&mut self, other: &Running, at: usize)
+        ensures { self.new ≡ record other.now { at = at; text = [] } }
+    {
+        self.go_to(other);
+        self.at = at;
+        self.text.clear();
+    }
+
+    /// Goes to where another is, with its text after the text so far.
+    pub fn follow(&mut self, later: &Running) -> Result<(), NoMemory>
+        ensures ok { OnOk result (self.new ≡ record later.now { text = self.old.text ++ later.now.text }) }
         ensures err { OnErr result (self.new ≡ self.old) }
     {
         self.print(&later.text)?;
-        self.at = later.at;
-        mem::swap(&mut self.frames, &mut later.frames);
-        mem::swap(&mut self.numbers, &mut later.numbers);
+        self.go_to(later);
         Ok(())
     }
 
@@ -212,45 +244,41 @@ impl Running {
         Ok(())
     }
 
-    fn open(&mut self, frame: Frame) -> Result<(), NoMemory>
-        ensures { OnOk result (self.new ≡ record self.old { frames = self.old.frames ++ frame ∷ [] }) }
+    fn open(&mut self, frame: Frame)
+        requires { length self.old.frames < 32 }
+        ensures { self.new ≡ record self.old { frames = self.old.frames ++ frame ∷ [] } }
     {
-        Ok(self.frames.push(frame)?)
+        self.frames.push(frame);
     }
 
     /// Begins a round, or goes on after the `repeat` where no round is left.
-    fn enter(&mut self, rounds: u64, body: usize, next: usize) -> Result<(), NoMemory>
-        ensures { OnOk result (self.new ≡ place_in_rounds self.old rounds body next) }
+    fn enter(&mut self, rounds: u64, body: usize, next: usize)
+        requires { length self.old.frames < 32 }
+        ensures { self.new ≡ place_in_rounds self.old rounds body next }
     {
         if rounds == 0 {
             self.at = next;
-            return Ok(());
+            return;
         }
         self.open(Frame::Rounds {
             rounds: rounds - 1,
             body,
             next,
-        })?;
+        });
         self.at = body;
-        Ok(())
     }
 
     /// Begins a branch.
-    fn choose(
-        &mut self,
-        number: usize,
-        first: usize,
-        second: usize,
-        next: usize,
-    ) -> Result<(), NoMemory>
-        ensures { OnOk result (self.new ≡ place_in_branch self.old number first second next) }
+    fn choose(&mut self, number: usize, first: usize, second: usize, next: usize)
+        requires { length self.old.frames < 32 }
+        ensures { self.new ≡ place_in_branch self.old number first second next }
     {
         self.at = if self.number(number) == 0 {
             second
         } else {
             first
         };
-        self.open(Frame::Branch { next })
+        self.open(Frame::Branch { next });
     }
 
     /// The innermost open block goes on with these rounds left, after its node.
@@ -307,7 +335,8 @@ impl Running {
 
     /// Moves on, unless it is at an operation or at the end.
     fn step(&mut self, alloc: Global, tree: &Tree) -> Result<bool, NoMemory>
-        requires { PlaceIsWithin (length tree.now) self.old }
+        requires within { PlaceIsWithin (length tree.now) self.old }
+        requires fits { PlaceFits tree.now self.old }
         ensures goes_on { IfOk result (λ more. IsTrue more → MovesOn tree.now self.old self.new) }
         ensures stops { IfOk result (λ more. more ≡ false → HasStopped tree.now self.old self.new) }
     {
@@ -326,7 +355,7 @@ impl Running {
                 Ok(true)
             }
             Node::Rounds { rounds, body, next } => {
-                self.enter(rounds, body, next)?;
+                self.enter(rounds, body, next);
                 Ok(true)
             }
             Node::Choice {
@@ -335,7 +364,7 @@ impl Running {
                 second,
                 next,
             } => {
-                self.choose(number, first, second, next)?;
+                self.choose(number, first, second, next);
                 Ok(true)
             }
         }
@@ -343,7 +372,8 @@ impl Running {
 
     /// Runs on to the next operation, or to the end.
     pub fn run(&mut self, alloc: Global, tree: &Tree) -> Result<(), NoMemory>
-        requires { PlaceIsWithin (length tree.now) self.old }
+        requires within { PlaceIsWithin (length tree.now) self.old }
+        requires fits { PlaceFits tree.now self.old }
         ensures { OnOk result (HasStopped tree.now self.old self.new) }
     {
         while self.step(alloc, tree)? {}

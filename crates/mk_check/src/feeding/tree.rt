@@ -29,7 +29,7 @@ pub enum Node {
 }
 
 /// What runs after a block: more rounds of a `repeat`, or what stands after it.
-#[derive(Clone, Copy)]
+#[derive(Clone, Copy, Drop)]
 pub enum Frame {
     Rounds {
         rounds: u64,
@@ -39,6 +39,12 @@ pub enum Frame {
     Branch {
         next: usize,
     },
+}
+
+impl Default for Frame {
+    fn default() -> Self {
+        Frame::Branch { next: 0 }
+    }
 }
 
 impl Frame {
@@ -115,11 +121,28 @@ impl Sequel {
     }
 }
 
-/// A node, and what comes after it.
+impl Node {
+    ghost use Rattle.mk_check.specs.Spots.{instruction_of_node};
+
+    /// The instruction of a line. Another node has none that asks for an operation.
+    fn instruction(self) -> Instruction
+        ensures { result ≡ instruction_of_node self }
+    {
+        match self {
+            Node::Line { instruction, .. } => instruction,
+            _ => Instruction::Nothing,
+        }
+    }
+}
+
+/// A node, its instruction, which is told there without a look at what the node is, what comes after it, and whether a
+/// script there comes to an operation first.
 #[derive(Clone, Copy)]
 pub struct Spot {
+    instruction: Instruction,
     node: Node,
     sequel: Sequel,
+    asks_first: bool,
 }
 
 /// The nodes, each of which names those before it alone.
@@ -141,9 +164,9 @@ impl Model for Tree {
 }
 
 impl Tree {
-    ghost use Rattle.mk_check.specs.Spots.{asks_at, sequel_of};
+    ghost use Rattle.mk_check.specs.Spots.{asks_at, instruction_of_node, sequel_of};
     ghost use Rattle.mk_check.specs.Steps.{asks_first};
-    ghost use Rattle.mk_check.specs.Trees.{IsTree, IsBelow, node_at, steps_at, trees};
+    ghost use Rattle.mk_check.specs.Trees.{IsTree, IsBelow, node_at, steps_at, steps_from, trees};
 
     pub fn new(alloc: Global) -> Tree
         ensures { result ≡ [] }
@@ -164,8 +187,13 @@ impl Tree {
         requires { IsBelow (length self.old) node }
         ensures { OnOk result (self.new ≡ self.old ++ node ∷ []) }
     {
-        let sequel = self.sequel_from(node);
-        Ok(self.spots.push(Spot { node, sequel })?)
+        let spot = Spot {
+            instruction: node.instruction(),
+            node,
+            sequel: self.sequel_from(node),
+            asks_first: self.asks_first_from(node),
+        };
+        Ok(self.spots.push(spot)?)
     }
 
     #[inline(always)]
@@ -177,14 +205,14 @@ impl Tree {
         self.spots[at].node
     }
 
-    /// The same, to be read in place.
+    /// The instruction at a node, to be read in place.
     #[inline(always)]
-    pub fn node_in_place(&self, at: usize) -> &Node
+    pub fn instruction(&self, at: usize) -> &Instruction
         requires { at < length self.now }
-        ensures value { result.now ≡ node_at self.now at }
+        ensures value { result.now ≡ instruction_of_node (node_at self.now at) }
         ensures tree { IsTree self.now }
     {
-        &self.spots[at].node
+        &self.spots[at].instruction
     }
 
     /// Whether the node is a line that asks for an operation, which doesn't depend on the number registers.
@@ -193,10 +221,7 @@ impl Tree {
         requires { at < length self.now }
         ensures { result ≡ asks_at (node_at self.now at) }
     {
-        match self.node(at) {
-            Node::Line { instruction, .. } => instruction.asks(),
-            _ => false,
-        }
+        self.instruction(at).asks()
     }
 
     /// What comes after a node that names these alone.
@@ -223,26 +248,34 @@ impl Tree {
         self.spots[at].sequel
     }
 
-    /// Whether a script at this node comes to an operation before it prints, and before a block begins or ends.
+    /// The same for a node that names these alone.
+    fn asks_first_from(&self, node: Node) -> bool
+        requires { IsBelow (length self.now) node }
+        ensures { result ≡ asks_first (steps_from (trees self.now) node) }
+    {
+        match node {
+            Node::Done => false,
+            Node::Line {
+                instruction,
+                next,
+                ..
+            } => instruction.asks() || (!instruction.prints() && self.asks_first(next)),
+            Node::Rounds {
+                rounds: 0,
+                next,
+                ..
+            } => self.asks_first(next),
+            Node::Rounds { body, .. } => self.asks_first(body),
+            Node::Choice { first, second, .. } => self.asks_first(first) && self.asks_first(second),
+        }
+    }
+
+    /// Whether a script at this node comes to an operation before it prints, and before a block ends.
+    #[inline(always)]
     pub fn asks_first(&self, at: usize) -> bool
         requires { at < length self.now }
         ensures { result ≡ asks_first (steps_at (trees self.now) at) }
     {
-        let mut here = at;
-        'lines: while let Node::Line {
-            instruction,
-            next,
-            ..
-        } = self.node(here)
-        {
-            if instruction.asks() {
-                return true;
-            }
-            if instruction.prints() {
-                return false;
-            }
-            here = next;
-        }
-        false
+        self.spots[at].asks_first
     }
 }

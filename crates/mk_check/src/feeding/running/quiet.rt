@@ -3,7 +3,7 @@ ghost use Rattle.std.specs.Prelude.{◌≡◌, ◌<◌, length, true, false, IsT
 ghost use Rattle.mk_check.specs.Steps as steps;
 ghost use Rattle.mk_check.specs.Steps.{asks_first};
 ghost use Rattle.mk_check.specs.Trees.{kept_in, with_kept, PlaceIsWithin, resumed_node, steps_at, trees};
-ghost use Rattle.mk_check.specs.Trees.{MovesOn, MovesToOp, HasStopped};
+ghost use Rattle.mk_check.specs.Trees.{MovesOn, MovesToOp, HasStopped, PlaceFits};
 
 use crate::feeding::instructions::Instruction;
 use crate::feeding::running::{Running, answered_number};
@@ -60,41 +60,56 @@ impl Running {
         }
     }
 
-    /// Runs a line, unless it asks for an operation.
+    /// Runs a line that asks for no operation, or begins a block.
     fn step_to_op(&mut self, tree: &Tree) -> bool
         requires within { PlaceIsWithin (length tree.now) self.old }
+        requires fits { PlaceFits tree.now self.old }
         requires first { asks_first (steps_at (trees tree.now) self.old.at) ≡ true }
         ensures goes_on { IsTrue result → MovesOn tree.now self.old self.new }
         ensures first { IsTrue result → asks_first (steps_at (trees tree.now) self.new.at) ≡ true }
         ensures stops { result ≡ false → HasStopped tree.now self.old self.new }
     {
-        let Node::Line {
-            instruction,
-            next,
-            ..
-        } = tree.node(self.at)
-        else {
-            unreachable!()
-        };
-        if instruction.asks() {
-            return false;
+        match tree.node(self.at) {
+            Node::Line {
+                instruction,
+                next,
+                ..
+            } => {
+                if instruction.asks() {
+                    return false;
+                }
+                self.at = next;
+                self.calculate(instruction);
+                true
+            }
+            Node::Rounds { rounds, body, next } => {
+                self.enter(rounds, body, next);
+                true
+            }
+            Node::Choice {
+                number,
+                first,
+                second,
+                next,
+            } => {
+                self.choose(number, first, second, next);
+                true
+            }
+            Node::Done => unreachable!(),
         }
-        self.at = next;
-        self.calculate(instruction);
-        true
     }
 
     /// Runs to the operation that comes first.
     fn run_to_op(&mut self, tree: &Tree)
         requires within { PlaceIsWithin (length tree.now) self.old }
+        requires fits { PlaceFits tree.now self.old }
         requires first { asks_first (steps_at (trees tree.now) self.old.at) ≡ true }
         ensures { HasStopped tree.now self.old self.new }
     {
         while self.step_to_op(tree) {}
     }
 
-    /// Whether the script comes from this node to an operation before anything is printed, with at most one block left
-    /// and none begun.
+    /// Whether the script comes from this node to an operation before anything is printed, with at most one block left.
     #[inline(always)]
     fn comes_to_op(&self, tree: &Tree, at: usize) -> bool
         requires { PlaceIsWithin (length tree.now) (record self.now { at = at }) }
@@ -108,6 +123,7 @@ impl Running {
     #[inline(always)]
     fn run_on_to_op(&mut self, tree: &Tree)
         requires within { PlaceIsWithin (length tree.now) self.old }
+        requires fits { PlaceFits tree.now self.old }
         requires first { asks_first (steps_at (trees tree.now) (resumed_node tree.now self.old)) ≡ true }
         ensures { HasStopped tree.now self.old self.new }
     {
@@ -116,8 +132,7 @@ impl Running {
     }
 
     /// Takes an answer at which nothing is printed and runs on from the node after it to the next operation, if that
-    /// comes before anything is printed, with at most one block left and none begun. Returns whether it does. No
-    /// memory is taken.
+    /// comes before anything is printed, with at most one block left. Returns whether it does. No memory is taken.
     pub fn take_to_op(
         &mut self,
         tree: &Tree,
@@ -126,6 +141,7 @@ impl Running {
         answer: Answer,
     ) -> bool
         requires within { PlaceIsWithin (length tree.now) (record self.old { at = next }) }
+        requires fits { PlaceFits tree.now (record self.old { at = next }) }
         requires silent { steps.is_silent instruction answer ≡ true }
         ensures taken { IsTrue result → HasStopped tree.now (with_kept (record self.old { at = next })
             (steps.after_answer instruction answer (kept_in self.old))) self.new }

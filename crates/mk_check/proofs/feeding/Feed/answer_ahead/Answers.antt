@@ -1,4 +1,4 @@
-use Rattle.std.proofs.Common.{◌≡◌, ◌<◌, [], ◌∷◌, ◌++◌, true, false, ap, sym, ◌∙◌, subst, rules}
+use Rattle.std.proofs.Common.{◌≡◌, ℕ, ◌<◌, List, [], ◌∷◌, ◌++◌, length, true, false, ap, sym, ◌∙◌, subst}
 use Rattle.std.specs.Prelude.{Option, None, is_some, OnOk, OnErr, Ok, Err}
 use Rattle.std.specs.declared.result.Result.{Result}
 use Rattle.mk_never.specs.declared.operations.Op.{Op}
@@ -7,13 +7,14 @@ use Rattle.mk_check.specs.declared.feeding.tree.Node.{Node}
 use Rattle.mk_check.specs.declared.feeding.tree.Node.TheVariants as node
 use Rattle.mk_check.specs.Feed.{refusal_line, refusal_text}
 use Rattle.mk_check.specs.Steps.{op_asked, after_answer, stop_on_answer}
-use Rattle.mk_check.specs.Trees.{IsTree, Place, left_in, kept_in, stopped_in, node_at, with_kept}
-use Rattle.mk_check.specs.Feeding.{FeedState, StandsForSome, IsFeed, op_of_node, op_in, work_left}
+use Rattle.mk_check.specs.Trees.{IsTree, Place, PlaceFits, PlaceIsWithin, StopsAt, left_in, kept_in, stopped_in, node_at, with_kept}
+use Rattle.mk_check.specs.Feeding.{FeedState, StandsForSome, IsAtStop, IsFeed, op_of_node, op_in, work_left}
 use Rattle.mk_check.specs.Feeding.{TakesAnswer}
+use Rattle.mk_check.proofs.Moves.{line_fits}
 use Rattle.mk_check.proofs.Stands.{answer_stands, answer_stops, op_of_others, waits_for_answer}
 use Rattle.mk_check.proofs.WorkLaws.{answer_nearer}
 use Rattle.mk_check.proofs.feeding.Feed.answer_ahead.Goals as goal
-use Rattle.mk_check.proofs.feeding.Feed.answer_ahead.Goals.{After-follow}
+use Rattle.mk_check.proofs.feeding.Feed.answer_ahead.Goals.{After-follow, In_ok-take}
 
 -- the node that waits is that of the line
 waits : (c : After-follow)
@@ -37,7 +38,7 @@ stops c e =
     ∙ ap (λ (q : Place). with_kept q (after_answer c.in-Line.instruction c.args.answer (kept_in q)))
     (c.in_ok-print_refusal.ensures
     ∙ ap (λ (q : Place). let later : Place = record q
-    { text = q.text ++ refusal_line c.in-Line.line (refusal_text c.args.answer) } in later) c.in_ok-copy_at.ensures)
+    { text = q.text ++ refusal_line c.in-Line.line (refusal_text c.args.answer) } in later) c.copy_at.ensures)
     in
     answer_stops nodes p c.take.new.self c.run.new.self c.follow.new.self c.in-Line.line c.in-Line.instruction
     c.in-Line.next c.args.answer
@@ -84,12 +85,58 @@ unreachable-requires c =
     let never : false ≡ true = sym (ap (λ (o : Option Op). is_some o) none) ∙ some in
     absurd cc
 
+-- the copy begins to run at the line after it
+starts_at : (c : In_ok-take) → PlaceFits c.self.inside.tree c.take.new.self
+starts_at c =
+    let nodes = c.self.inside.tree in
+    let p = c.self.inside.running in
+    let here : node_at nodes p.at ≡ node.Line c.in-Line.line c.in-Line.instruction c.in-Line.next =
+    ap (node_at nodes) (sym c.at.ensures) ∙ sym c.in-Line.ensures.value in
+    let next = line_fits nodes p c.in-Line.line c.in-Line.instruction c.in-Line.next c.in-Line.ensures.tree
+    c.self.invariant.stop.within here c.self.invariant.stop.fits in
+    let starts : c.take.new.self
+    ≡ with_kept (record p { at = c.in-Line.next })
+    (after_answer c.in-Line.instruction c.args.answer
+    (record { numbers = p.numbers; text = refusal_line c.in-Line.line (refusal_text c.args.answer) })) =
+    c.in_ok-take.ensures
+    ∙ ap (λ (q : Place). with_kept q (after_answer c.in-Line.instruction c.args.answer (kept_in q)))
+    (c.in_ok-print_refusal.ensures
+    ∙ ap (λ (q : Place). let later : Place = record q
+    { text = q.text ++ refusal_line c.in-Line.line (refusal_text c.args.answer) } in later) c.copy_at.ensures)
+    in
+    subst (λ (q : Place). PlaceFits nodes q) (sym starts) (record { here = next.here; frames = next.frames })
+
+-- text doesn't change where a script stops
+stops_so : (n : Node) (q : Place) (text : List ℕ) → StopsAt n q → StopsAt n (record q { text = text })
+stops_so node.Done q text h = h
+stops_so (node.Line line instruction next) q text h = h
+stops_so (node.Rounds rounds body next) q text h = h
+stops_so (node.Choice number first second next) q text h = h
+
+stops_behind_text : (nodes : List Node) (q t : Place) (text : List ℕ) → t ≡ record q { text = text }
+    → PlaceIsWithin (length nodes) q → PlaceFits nodes q → StopsAt (node_at nodes q.at) q
+    → IsAtStop (record { nodes = nodes; place = t })
+stops_behind_text nodes q t text e w f h =
+    subst (λ (p : Place). IsAtStop (record { nodes = nodes; place = p })) (sym e)
+    (record {
+      within = record { at = w.at; frames = w.frames };
+      fits = record { here = f.here; frames = f.frames };
+      stops = stops_so (node_at nodes q.at) q text h;
+    })
+
+pub run-requires-clause-fits : goal.run-requires-clause-fits
+run-requires-clause-fits c = starts_at ((goal.at.run-requires-clause-fits c).In_ok-take)
+
 pub invariant_of-self-2 : goal.invariant_of-self-2
 invariant_of-self-2 c =
     let after : FeedState = record { nodes = c.self.inside.tree; place = c.follow.new.self } in
     let f = feed ((goal.at.invariant_of-self-2 c).After-follow) in
     record {
-      stop = search rules;
+      stop = either c.follow.result _ _ (IsAtStop after) c.follow.ensures.ok c.follow.ensures.err
+          (λ e. stops_behind_text c.self.inside.tree c.run.new.self c.follow.new.self _ e c.in_ok-run.ensures.within
+          (c.in_ok-run.ensures.fits (starts_at ((goal.at.invariant_of-self-2 c).In_ok-take))) c.in_ok-run.ensures.at)
+          (λ e. subst (λ (p : Place). IsAtStop (record { nodes = c.self.inside.tree; place = p }))
+          (sym e) c.self.invariant.stop);
       some = either c.follow.result _ _ (StandsForSome after) c.follow.ensures.ok c.follow.ensures.err
           (λ e. record {
             program = f.some.program;

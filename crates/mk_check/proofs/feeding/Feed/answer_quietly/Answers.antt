@@ -5,6 +5,7 @@ use Rattle.mk_check.specs.declared.feeding.tree.Node.TheVariants as node
 use Rattle.mk_check.specs.Trees.{IsTree, Place, node_at}
 use Rattle.mk_check.specs.Feeding.{FeedState, IsFeed, IsWaiting, TakesAnswer, op_in, op_of_node, work_left}
 use Rattle.mk_check.proofs.AtOnce.{StopsBehind, feeds, feeds_at_once, nearer_at_once, stops_at_once, takes_at_once}
+use Rattle.mk_check.proofs.Moves.{line_fits}
 use Rattle.mk_check.proofs.Stands.{op_of_others, waits_for_answer}
 use Rattle.mk_check.proofs.feeding.Feed.answer_quietly.Goals as goal
 use Rattle.mk_check.proofs.feeding.Feed.answer_quietly.Goals.{After-take_to_op}
@@ -21,6 +22,13 @@ unreachable-requires c =
     let some = waits_for_answer c.args.self.now tree is c.requires in
     let never : false ≡ true = sym (ap (λ (o : Option Op). is_some o) none) ∙ some in
     absurd cc
+
+pub take_to_op-requires-clause-fits : goal.take_to_op-requires-clause-fits
+take_to_op-requires-clause-fits c =
+    let l = c.in-Line in
+    let nodes = c.self.inside.tree in
+    line_fits nodes c.self.inside.running l.line l.instruction l.next l.ensures.tree c.self.invariant.stop.within
+    (ap (node_at nodes) (sym c.at.ensures) ∙ sym l.ensures.value) c.self.invariant.stop.fits
 
 here : (c : After-take_to_op) → node_at c.self.inside.tree c.self.inside.running.at
     ≡ node.Line c.in-Line.line c.in-Line.instruction c.in-Line.next

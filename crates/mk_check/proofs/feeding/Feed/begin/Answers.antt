@@ -1,16 +1,18 @@
-use Rattle.std.proofs.Common.{◌≡◌, ℕ, List, [], ◌++◌, length, ap, sym, ◌∙◌, subst}
+use Rattle.std.proofs.Common.{◌≡◌, ℕ, List, [], ◌++◌, length, ap, sym, ◌∙◌, subst, arith}
 use Rattle.std.specs.Prelude.{replicate, codes}
 use Rattle.mk_script.specs.declared.items.Item.{Item}
 use Rattle.mk_check.specs.Blocks.{ScriptText, script_of, blocks_from}
 use Rattle.mk_check.specs.Feed.{Scope, scope_of, fed_before_lines, newline}
 use Rattle.mk_check.specs.Steps.{numbered}
-use Rattle.mk_check.specs.Trees.{Place, steps_at, trees}
+use Rattle.mk_check.specs.declared.feeding.tree.Node.{Node}
+use Rattle.mk_check.specs.Trees.{Place, PlaceFits, depth_of, steps_at, trees}
 use Rattle.mk_check.specs.Feeding.{script_scope, FeedStandsFor}
 use Rattle.mk_check.proofs.Stands.{start_stands, start_stops}
 use Rattle.mk_check.specs.NamesInScope.{HasFew}
+use Rattle.mk_check.proofs.FewBlocks.{text_has_few_blocks}
 use Rattle.mk_check.proofs.FewNames.{text_has_few}
 use Rattle.mk_check.proofs.feeding.Feed.begin.Goals as goal
-use Rattle.mk_check.proofs.feeding.Feed.begin.Goals.{In_ok-names, In_ok-run}
+use Rattle.mk_check.proofs.feeding.Feed.begin.Goals.{In_ok-names, In_ok-run, In_ok-running}
 
 -- the names are those that the script may use
 names : (c : In_ok-names) → c.in_ok-names.names ≡ script_scope c.args.items.now c.args.script
@@ -21,10 +23,46 @@ tree_of-requires-clause-few c =
     subst (λ (s : Scope). HasFew s) (sym (names ((goal.at.tree_of-requires-clause-few c).In_ok-names)))
     (text_has_few c.args.items.now c.args.script c.requires.text)
 
+-- the tree's steps are those of the script
+abbrev HasSteps : List Item → ℕ → List Node → ℕ → Type 0
+HasSteps program k nodes at = steps_at (trees nodes) at
+    ≡ numbered (script_scope program k) (blocks_from (script_of program k).line (script_of program k).items)
+
+steps : (c : In_ok-running) → HasSteps c.args.items.now c.args.script c.in_ok-tree.tree c.in_ok-tree.at
+steps c =
+    let program = c.args.items.now in
+    let lines = c.script_at-lines in
+    let scope = script_scope program c.args.script in
+    let script : ScriptText = script_of program c.args.script in
+    let named : c.in_ok-names.names ≡ scope = c.in_ok-names.ensures
+    ∙ ap (scope_of program) lines.ensures.items in
+    c.in_ok-tree.ensures.steps
+    ∙ (ap (λ (s : Scope). numbered s (blocks_from lines.result.line lines.result.items.now)) named
+    ∙ (ap (λ (l : ℕ). numbered scope (blocks_from l lines.result.items.now)) lines.ensures.line
+    ∙ ap (λ (xs : List Item). numbered scope (blocks_from script.line xs)) lines.ensures.items))
+
+pub begin-requires : goal.begin-requires
+begin-requires c =
+    let named = names ((goal.at.begin-requires c).In_ok-names) in
+    let few = (text_has_few c.args.items.now c.args.script c.requires.text).numbers in
+    omega (arith, c.numbers.ensures, ap (λ (s : Scope). length s.numbers) named)
+
+-- it has room for its blocks
+fits : (c : In_ok-running) → PlaceFits c.in_ok-tree.tree c.in_ok-running.running
+fits c =
+    let scope = script_scope c.args.items.now c.args.script in
+    let deep = ap depth_of (steps c) in
+    let few = text_has_few_blocks c.args.items.now c.args.script scope c.requires.text in
+    subst (λ (p : Place). PlaceFits c.in_ok-tree.tree p) (sym c.in_ok-running.ensures)
+    (record { here = omega arith; frames = tt })
+
+pub run-requires-clause-fits : goal.run-requires-clause-fits
+run-requires-clause-fits c = fits ((goal.at.run-requires-clause-fits c).In_ok-running)
+
 -- it begins as the script does
-begins : (c : In_ok-run)
+begins : (c : In_ok-run) → HasSteps c.args.items.now c.args.script c.in_ok-tree.tree c.in_ok-tree.at
     → FeedStandsFor c.args.items.now c.args.script (record { nodes = c.in_ok-tree.tree; place = c.run.new.self }) []
-begins c =
+begins c steps =
     let program = c.args.items.now in
     let k = c.args.script in
     let lines = c.script_at-lines in
@@ -32,12 +70,6 @@ begins c =
     let named : c.in_ok-names.names ≡ scope = c.in_ok-names.ensures
     ∙ ap (scope_of c.args.items.now) c.script_at-lines.ensures.items in
     let script : ScriptText = script_of program k in
-    let steps : steps_at (trees c.in_ok-tree.tree) c.in_ok-tree.at
-    ≡ numbered scope (blocks_from script.line script.items) =
-    c.in_ok-tree.ensures.steps
-    ∙ (ap (λ (s : Scope). numbered s (blocks_from lines.result.line lines.result.items.now)) named
-    ∙ (ap (λ (l : ℕ). numbered scope (blocks_from l lines.result.items.now)) lines.ensures.line
-    ∙ ap (λ (xs : List Item). numbered scope (blocks_from script.line xs)) lines.ensures.items)) in
     let count : c.numbers.result ≡ length scope.numbers = c.numbers.ensures
     ∙ ap (λ (s : Scope). length s.numbers) named in
     let at = c.in_ok-tree.at in
@@ -68,14 +100,19 @@ begins c =
 
 pub invariant_of-result : goal.invariant_of-result
 invariant_of-result c = record {
-  stop = record { within = c.in_ok-run.ensures.within; stops = c.in_ok-run.ensures.at };
+  stop = record {
+    within = c.in_ok-run.ensures.within;
+    fits = c.in_ok-run.ensures.fits (fits ((goal.at.invariant_of-result c).In_ok-running));
+    stops = c.in_ok-run.ensures.at;
+  };
   some = record {
     program = c.args.items.now;
     k = c.args.script;
     answers = [];
-    stands = begins ((goal.at.invariant_of-result c).In_ok-run);
+    stands = begins ((goal.at.invariant_of-result c).In_ok-run)
+        (steps ((goal.at.invariant_of-result c).In_ok-running));
   };
 }
 
 pub returns : goal.returns
-returns c = begins ((goal.at.returns c).In_ok-run)
+returns c = begins ((goal.at.returns c).In_ok-run) (steps ((goal.at.returns c).In_ok-running))

@@ -1,11 +1,12 @@
 use Rattle.std.proofs.Common.{◌≡◌, length}
 use Rattle.mk_check.specs.Steps.{stop_of}
-use Rattle.mk_check.specs.Trees.{kept_in, left_in, PlaceIsWithin, work_in}
+use Rattle.mk_check.specs.Trees.{kept_in, left_in, PlaceFits, PlaceIsWithin, work_in}
 use Rattle.mk_check.proofs.feeding.running.Running.run.Given as goal
 
 abbrev pub invariant-loop : goal.invariant-loop
 invariant-loop l = record {
   within : PlaceIsWithin (length l.tree) l.self;
+  fits : PlaceFits l.tree l.self;
   run : stop_of (left_in l.tree l.self) (kept_in l.self)
       ≡ stop_of (left_in l.tree l.initial.self) (kept_in l.initial.self);
 }

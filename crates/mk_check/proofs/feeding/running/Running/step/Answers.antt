@@ -3,7 +3,9 @@ use Rattle.mk_check.specs.declared.feeding.tree.Node.TheVariants as node
 use Rattle.mk_check.specs.Steps.{after_line, op_asked}
 use Rattle.mk_check.specs.Trees.{Place, MovesOn, HasStopped, node_at, with_kept, kept_in}
 use Rattle.mk_check.proofs.Moves.{line_goes_on, rounds_go_on, choice_goes_on, end_goes_on, ends_at, asks_at}
+use Rattle.mk_check.proofs.Moves.{choice_finds_room, rounds_find_room}
 use Rattle.mk_check.proofs.feeding.running.Running.step.Goals as goal
+use Rattle.mk_check.proofs.feeding.running.Running.step.Goals.{In-Rounds, In-Choice}
 
 pub returns-then-is_some-clause-stops : goal.returns-then-is_some-clause-stops
 returns-then-is_some-clause-stops c =
@@ -13,14 +15,14 @@ returns-then-is_some-clause-stops c =
     ap (node_at c.args.tree.now) (sym at) ∙ sym c.in-Line.ensures.value in
     let asks : is_some (op_asked c.args.self.now.numbers c.in-Line.instruction) ≡ true = cc in
     λ f. asks_at c.args.tree.now c.args.self.now c.in-Line.line c.in-Line.instruction c.in-Line.next
-    c.in-Line.ensures.tree c.requires here asks
+    c.in-Line.ensures.tree c.requires.within here asks
 
 pub returns-in-Done-clause-goes_on : goal.returns-in-Done-clause-goes_on
 returns-in-Done-clause-goes_on c =
     let at = ap (λ (p : Place). p.at) c.self.view_is in
     let here : node_at c.args.tree.now c.args.self.now.at ≡ node.Done = ap (node_at c.args.tree.now) (sym at)
     ∙ sym c.in-Done.ensures.value in
-    λ t. end_goes_on c.args.tree.now c.args.self.now c.leave.new.self c.in-Done.ensures.tree c.requires here
+    λ t. end_goes_on c.args.tree.now c.args.self.now c.leave.new.self c.in-Done.ensures.tree c.requires.within here
     (c.leave.ensures.left t)
 
 pub returns-in-Done-clause-stops : goal.returns-in-Done-clause-stops
@@ -29,7 +31,7 @@ returns-in-Done-clause-stops c =
     let here : node_at c.args.tree.now c.args.self.now.at ≡ node.Done = ap (node_at c.args.tree.now) (sym at)
     ∙ sym c.in-Done.ensures.value in
     λ f. subst (λ (p : Place). HasStopped c.args.tree.now c.args.self.now p) (sym (c.leave.ensures.none f).1)
-    (ends_at c.args.tree.now c.args.self.now c.in-Done.ensures.tree c.requires here (c.leave.ensures.none f).0)
+    (ends_at c.args.tree.now c.args.self.now c.in-Done.ensures.tree c.requires.within here (c.leave.ensures.none f).0)
 
 pub returns-in_ok-run_line-in-Line-clause-goes_on :
     goal.returns-in_ok-run_line-in-Line-clause-goes_on
@@ -47,28 +49,39 @@ returns-in_ok-run_line-in-Line-clause-goes_on c =
     (after_line c.in-Line.instruction (kept_in q))) c.self.view_is in
     λ t. subst (λ (q : Place). MovesOn c.args.tree.now p q) (sym new)
     (line_goes_on c.args.tree.now p c.in-Line.line c.in-Line.instruction c.in-Line.next c.in-Line.ensures.tree
-    c.requires here none)
+    c.requires.within here none)
 
-pub returns-in_ok-enter-in-Rounds-clause-goes_on :
-    goal.returns-in_ok-enter-in-Rounds-clause-goes_on
-returns-in_ok-enter-in-Rounds-clause-goes_on c =
+rounds_here : (c : In-Rounds) → node_at c.args.tree.now c.args.self.now.at
+    ≡ node.Rounds c.in-Rounds.rounds c.in-Rounds.body c.in-Rounds.next
+rounds_here c =
+    ap (node_at c.args.tree.now) (sym (ap (λ (q : Place). q.at) c.self.view_is)) ∙ sym c.in-Rounds.ensures.value
+
+pub enter-requires : goal.enter-requires
+enter-requires c =
+    rounds_find_room c.args.tree.now c.args.self.now c.in-Rounds.rounds c.in-Rounds.body c.in-Rounds.next
+    c.in-Rounds.ensures.tree c.requires.within (rounds_here ((goal.at.enter-requires c).In-Rounds)) c.requires.fits
+
+pub returns-in-Rounds-clause-goes_on : goal.returns-in-Rounds-clause-goes_on
+returns-in-Rounds-clause-goes_on c =
     let p = c.args.self.now in
-    let at = ap (λ (q : Place). q.at) c.self.view_is in
-    let here : node_at c.args.tree.now c.args.self.now.at
-    ≡ node.Rounds c.in-Rounds.rounds c.in-Rounds.body c.in-Rounds.next =
-    ap (node_at c.args.tree.now) (sym at) ∙ sym c.in-Rounds.ensures.value in
-    λ t. subst (λ (q : Place). MovesOn c.args.tree.now p q) (sym c.in_ok-enter-in-Rounds.ensures)
+    λ t. subst (λ (q : Place). MovesOn c.args.tree.now p q) (sym c.enter.ensures)
     (rounds_go_on c.args.tree.now p c.in-Rounds.rounds c.in-Rounds.body c.in-Rounds.next c.in-Rounds.ensures.tree
-    c.requires here)
+    c.requires.within (rounds_here ((goal.at.returns-in-Rounds-clause-goes_on c).In-Rounds)))
 
-pub returns-in_ok-choose-in-Choice-clause-goes_on :
-    goal.returns-in_ok-choose-in-Choice-clause-goes_on
-returns-in_ok-choose-in-Choice-clause-goes_on c =
+choice_here : (c : In-Choice) → node_at c.args.tree.now c.args.self.now.at
+    ≡ node.Choice c.in-Choice.number c.in-Choice.first c.in-Choice.second c.in-Choice.next
+choice_here c =
+    ap (node_at c.args.tree.now) (sym (ap (λ (q : Place). q.at) c.self.view_is)) ∙ sym c.in-Choice.ensures.value
+
+pub choose-requires : goal.choose-requires
+choose-requires c =
+    choice_finds_room c.args.tree.now c.args.self.now c.in-Choice.number c.in-Choice.first c.in-Choice.second
+    c.in-Choice.next
+    c.in-Choice.ensures.tree c.requires.within (choice_here ((goal.at.choose-requires c).In-Choice)) c.requires.fits
+
+pub returns-in-Choice-clause-goes_on : goal.returns-in-Choice-clause-goes_on
+returns-in-Choice-clause-goes_on c =
     let p = c.args.self.now in
-    let at = ap (λ (q : Place). q.at) c.self.view_is in
-    let here : node_at c.args.tree.now c.args.self.now.at
-    ≡ node.Choice c.in-Choice.number c.in-Choice.first c.in-Choice.second c.in-Choice.next =
-    ap (node_at c.args.tree.now) (sym at) ∙ sym c.in-Choice.ensures.value in
-    λ t. subst (λ (q : Place). MovesOn c.args.tree.now p q) (sym c.in_ok-choose-in-Choice.ensures)
+    λ t. subst (λ (q : Place). MovesOn c.args.tree.now p q) (sym c.choose.ensures)
     (choice_goes_on c.args.tree.now p c.in-Choice.number c.in-Choice.first c.in-Choice.second c.in-Choice.next
-    c.in-Choice.ensures.tree c.requires here)
+    c.in-Choice.ensures.tree c.requires.within (choice_here ((goal.at.returns-in-Choice-clause-goes_on c).In-Choice)))

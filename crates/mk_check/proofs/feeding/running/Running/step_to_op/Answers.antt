@@ -2,9 +2,11 @@ use Rattle.std.proofs.Common.{◌≡◌, true, false, [], ap, sym, ◌∙◌, su
 use Rattle.mk_check.specs.declared.feeding.tree.Node.TheVariants as node
 use Rattle.mk_check.specs.Steps.{after_line, asks_first, is_asking, is_print}
 use Rattle.mk_check.specs.Trees.{Place, MovesOn, kept_in, node_at, steps_at, trees, with_kept}
-use Rattle.mk_check.proofs.AsksFirst.{asked_so, first_later, first_no_line, line_to_op, no_print_here, stops_at_op}
+use Rattle.mk_check.proofs.AsksFirst.{asked_so, first_done, first_in_branch, first_in_rounds, first_later, line_to_op}
+use Rattle.mk_check.proofs.AsksFirst.{no_print_here, stops_at_op}
+use Rattle.mk_check.proofs.Moves.{choice_finds_room, choice_goes_on, rounds_find_room, rounds_go_on}
 use Rattle.mk_check.proofs.feeding.running.Running.step_to_op.Goals as goal
-use Rattle.mk_check.proofs.feeding.running.Running.step_to_op.Goals.{In-Line, After-calculate}
+use Rattle.mk_check.proofs.feeding.running.Running.step_to_op.Goals.{In-Choice, In-Line, In-Rounds, After-calculate}
 
 here : (c : In-Line) → node_at c.args.tree.now c.args.self.now.at
     ≡ node.Line c.in-Line.line c.in-Line.instruction c.in-Line.next
@@ -14,8 +16,8 @@ pub unreachable-requires : goal.unreachable-requires
 unreachable-requires c =
     let at = ap (λ (p : Place). p.at) c.self.view_is in
     let none : asks_first (steps_at (trees c.args.tree.now) c.args.self.now.at) ≡ false =
-    first_no_line c.args.tree.now c.args.self.now.at c.node.result c.node.ensures.tree c.requires.within.at
-    (ap (node_at c.args.tree.now) (sym at) ∙ sym c.node.ensures.value) c.in_default.not-Line in
+    first_done c.args.tree.now c.args.self.now.at c.in-Done.ensures.tree c.requires.within.at
+    (ap (node_at c.args.tree.now) (sym at) ∙ sym c.in-Done.ensures.value) in
     let never : true ≡ false = sym c.requires.first ∙ none in
     absurd cc
 
@@ -42,29 +44,81 @@ new c = c.calculate.ensures
     ∙ ap (λ (q : Place). with_kept (record q { at = c.in-Line.next })
     (after_line c.in-Line.instruction (kept_in q))) c.self.view_is
 
-pub returns-clause-goes_on : goal.returns-clause-goes_on
-returns-clause-goes_on c =
+pub returns-else-asks-clause-goes_on : goal.returns-else-asks-clause-goes_on
+returns-else-asks-clause-goes_on c =
     let l = c.in-Line in
     let p = c.args.self.now in
     let asks : is_asking l.instruction ≡ false =
     sym (asked_so [] l.instruction) ∙ (sym (c.asks.ensures []) ∙ c.if-asks.false) in
     λ t. subst (λ (q : Place). MovesOn c.args.tree.now p q)
-    (sym (new ((goal.at.returns-clause-goes_on c).After-calculate)))
+    (sym (new ((goal.at.returns-else-asks-clause-goes_on c).After-calculate)))
     (line_to_op c.args.tree.now p l.line l.instruction l.next l.ensures.tree c.requires.within
-    (here ((goal.at.returns-clause-goes_on c).In-Line)) asks)
+    (here ((goal.at.returns-else-asks-clause-goes_on c).In-Line)) asks)
 
-pub returns-clause-first : goal.returns-clause-first
-returns-clause-first c =
+pub returns-else-asks-clause-first : goal.returns-else-asks-clause-first
+returns-else-asks-clause-first c =
     let l = c.in-Line in
     let p = c.args.self.now in
     let nodes = c.args.tree.now in
     let asks : is_asking l.instruction ≡ false =
     sym (asked_so [] l.instruction) ∙ (sym (c.asks.ensures []) ∙ c.if-asks.false) in
-    let at = here ((goal.at.returns-clause-first c).In-Line) in
+    let at = here ((goal.at.returns-else-asks-clause-first c).In-Line) in
     let prints : is_print l.instruction ≡ false =
     no_print_here nodes p.at l.line l.instruction l.next l.ensures.tree c.requires.within.at at asks c.requires.first
     in
     λ t. ap (λ (q : Place). asks_first (steps_at (trees nodes) q.at))
-    (new ((goal.at.returns-clause-first c).After-calculate))
+    (new ((goal.at.returns-else-asks-clause-first c).After-calculate))
     ∙ (sym (first_later nodes p.at l.line l.instruction l.next l.ensures.tree c.requires.within.at at asks prints)
     ∙ c.requires.first)
+
+-- A block begins.
+
+rounds_here : (c : In-Rounds) → node_at c.args.tree.now c.args.self.now.at
+    ≡ node.Rounds c.in-Rounds.rounds c.in-Rounds.body c.in-Rounds.next
+rounds_here c =
+    ap (node_at c.args.tree.now) (sym (ap (λ (q : Place). q.at) c.self.view_is)) ∙ sym c.in-Rounds.ensures.value
+
+pub enter-requires : goal.enter-requires
+enter-requires c =
+    rounds_find_room c.args.tree.now c.args.self.now c.in-Rounds.rounds c.in-Rounds.body c.in-Rounds.next
+    c.in-Rounds.ensures.tree c.requires.within (rounds_here ((goal.at.enter-requires c).In-Rounds)) c.requires.fits
+
+pub returns-in-Rounds-clause-goes_on : goal.returns-in-Rounds-clause-goes_on
+returns-in-Rounds-clause-goes_on c =
+    let p = c.args.self.now in
+    λ t. subst (λ (q : Place). MovesOn c.args.tree.now p q) (sym c.enter.ensures)
+    (rounds_go_on c.args.tree.now p c.in-Rounds.rounds c.in-Rounds.body c.in-Rounds.next c.in-Rounds.ensures.tree
+    c.requires.within (rounds_here ((goal.at.returns-in-Rounds-clause-goes_on c).In-Rounds)))
+
+pub returns-in-Rounds-clause-first : goal.returns-in-Rounds-clause-first
+returns-in-Rounds-clause-first c =
+    let nodes = c.args.tree.now in
+    λ t. ap (λ (q : Place). asks_first (steps_at (trees nodes) q.at)) c.enter.ensures
+    ∙ first_in_rounds nodes c.args.self.now c.in-Rounds.rounds c.in-Rounds.body c.in-Rounds.next c.in-Rounds.ensures.tree
+    c.requires.within.at (rounds_here ((goal.at.returns-in-Rounds-clause-first c).In-Rounds)) c.requires.first
+
+choice_here : (c : In-Choice) → node_at c.args.tree.now c.args.self.now.at
+    ≡ node.Choice c.in-Choice.number c.in-Choice.first c.in-Choice.second c.in-Choice.next
+choice_here c =
+    ap (node_at c.args.tree.now) (sym (ap (λ (q : Place). q.at) c.self.view_is)) ∙ sym c.in-Choice.ensures.value
+
+pub choose-requires : goal.choose-requires
+choose-requires c =
+    choice_finds_room c.args.tree.now c.args.self.now c.in-Choice.number c.in-Choice.first c.in-Choice.second
+    c.in-Choice.next
+    c.in-Choice.ensures.tree c.requires.within (choice_here ((goal.at.choose-requires c).In-Choice)) c.requires.fits
+
+pub returns-in-Choice-clause-goes_on : goal.returns-in-Choice-clause-goes_on
+returns-in-Choice-clause-goes_on c =
+    let p = c.args.self.now in
+    λ t. subst (λ (q : Place). MovesOn c.args.tree.now p q) (sym c.choose.ensures)
+    (choice_goes_on c.args.tree.now p c.in-Choice.number c.in-Choice.first c.in-Choice.second c.in-Choice.next
+    c.in-Choice.ensures.tree c.requires.within (choice_here ((goal.at.returns-in-Choice-clause-goes_on c).In-Choice)))
+
+pub returns-in-Choice-clause-first : goal.returns-in-Choice-clause-first
+returns-in-Choice-clause-first c =
+    let nodes = c.args.tree.now in
+    λ t. ap (λ (q : Place). asks_first (steps_at (trees nodes) q.at)) c.choose.ensures
+    ∙ first_in_branch nodes c.args.self.now c.in-Choice.number c.in-Choice.first c.in-Choice.second c.in-Choice.next
+    c.in-Choice.ensures.tree
+    c.requires.within.at (choice_here ((goal.at.returns-in-Choice-clause-first c).In-Choice)) c.requires.first

@@ -1,7 +1,12 @@
 use Rattle.std.proofs.Common.{[], ap, ◌∙◌}
-use Rattle.mk_check.specs.Spots.{asks_at}
+use Rattle.mk_check.specs.Steps.{is_asking}
+use Rattle.mk_check.specs.Trees.{node_at}
 use Rattle.mk_check.proofs.AsksFirst.{asked_so}
+use Rattle.mk_check.proofs.Spots.{asks_by_instruction}
 use Rattle.mk_check.proofs.feeding.tree.Tree.asks.Goals as goal
 
-pub returns-in-Line : goal.returns-in-Line
-returns-in-Line c = c.asks.ensures [] ∙ (asked_so [] c.in-Line.instruction ∙ ap asks_at c.in-Line.ensures.value)
+pub returns : goal.returns
+returns c =
+    c.asks.ensures []
+    ∙ (asked_so [] c.instruction.result.now ∙ (ap is_asking c.instruction.ensures.value
+    ∙ asks_by_instruction (node_at c.args.self.now c.args.at)))

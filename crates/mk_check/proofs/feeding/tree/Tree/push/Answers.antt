@@ -2,7 +2,8 @@ use Rattle.std.proofs.Common.{List, length, sym, subst, ap, ◌∙◌}
 use Rattle.mk_check.specs.declared.feeding.tree.Node.{Node}
 use Rattle.mk_check.specs.declared.feeding.tree.Spot.{Spot}
 use Rattle.mk_check.specs.Spots.{IsMarkedTree, sequel_of}
-use Rattle.mk_check.specs.Trees.{IsBelow}
+use Rattle.mk_check.specs.Steps.{asks_first}
+use Rattle.mk_check.specs.Trees.{IsBelow, steps_from, trees}
 use Rattle.mk_check.proofs.Spots.{IsMarkedTree_push}
 use Rattle.mk_check.proofs.feeding.tree.Tree.push.Goals as goal
 
@@ -10,8 +11,19 @@ pub invariant_of-self-2 : goal.invariant_of-self-2
 invariant_of-self-2 c =
     let spots = c.self.inside.spots.items in
     subst (λ (xs : List Spot). IsMarkedTree xs) (sym c.in_ok-push.ensures.items)
-    (IsMarkedTree_push spots (record { node = c.args.node; sequel = c.sequel_from-sequel.result })
+    (IsMarkedTree_push spots
+    (record {
+      instruction = c.instruction.result;
+      node = c.args.node;
+      sequel = c.sequel_from.result;
+      asks_first = c.asks_first_from.result;
+    })
     c.self.invariant
     (subst (λ (nodes : List Node). IsBelow (length nodes) c.args.node) (sym c.self.view_is) c.requires)
-    (c.sequel_from-sequel.ensures
-    ∙ ap (λ (nodes : List Node). sequel_of nodes c.args.node) (sym c.self.view_is)))
+    (record {
+      instruction = c.instruction.ensures;
+      sequel = c.sequel_from.ensures
+          ∙ ap (λ (nodes : List Node). sequel_of nodes c.args.node) (sym c.self.view_is);
+      first = c.asks_first_from.ensures
+          ∙ ap (λ (nodes : List Node). asks_first (steps_from (trees nodes) c.args.node)) (sym c.self.view_is);
+    }))

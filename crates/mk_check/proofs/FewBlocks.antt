@@ -1,0 +1,171 @@
+-- The blocks of a script of a text are few that stand in one another.
+use Rattle.std.proofs.Common.{◌≡◌, ℕ, zero, suc, ◌+◌, ◌-◌, ◌≤◌, max, List, [], ◌∷◌, ◌++◌, length, refl, ap, subst, arith}
+use Rattle.std.specs.Prelude.{None}
+use Rattle.std.proofs.lemmas.List.Sums.{fold_push}
+use Rattle.mk_script.specs.declared.items.Item.{Item}
+use Rattle.mk_script.specs.declared.items.Item.TheVariants.{Script, Repeat, If, Else, End}
+use Rattle.mk_script.specs.declared.faults.Which.TheVariants as which
+use Rattle.mk_script.specs.declared.scope.OpenBlock.{OpenBlock}
+use Rattle.mk_script.specs.Scopes.{behind_else, behind_end, open_behind, open_blocks}
+use Rattle.mk_script.specs.Lines.{limit_fault}
+use Rattle.mk_script.specs.Grammar.{IsOfSomeText}
+use Rattle.mk_script.proofs.PassedLines.{ArePassed, is_whole}
+use Rattle.mk_check.specs.Blocks.{Blocks, Done, Line, Rounds, Choice, Part, branch, no_lines, blocks_from, parts_from}
+use Rattle.mk_check.specs.Blocks.{before_next_script, outermost_blocks, script_from, script_of, with_else, with_if}
+use Rattle.mk_check.specs.Blocks.{with_line, with_repeat}
+use Rattle.mk_check.specs.Feed.{Scope}
+use Rattle.mk_check.specs.Steps.{numbered}
+use Rattle.mk_check.specs.Trees.{depth_of}
+use Rattle.mk_check.proofs.GrammarLemmas.{at_most-None}
+
+abbrev depth : Blocks → ℕ
+depth Done = 0
+depth (Line line item rest) = depth rest
+depth (Rounds rounds body rest) = max (1 + depth body) (depth rest)
+depth (Choice number first second rest) = max (1 + max (depth first) (depth second)) (depth rest)
+
+depth-numbered : (scope : Scope) (blocks : Blocks) → depth_of (numbered scope blocks) ≡ depth blocks
+depth-numbered scope Done = refl
+depth-numbered scope (Line line item rest) = depth-numbered scope rest
+depth-numbered scope (Rounds rounds body rest) =
+    let e = depth-numbered scope body in let f = depth-numbered scope rest in cc
+depth-numbered scope (Choice number first second rest) =
+    let e = depth-numbered scope first in
+    let f = depth-numbered scope second in
+    let g = depth-numbered scope rest in cc
+
+-- With as many blocks open around it, no more than 32 are ever open in this part.
+abbrev PartFits : ℕ → Part → Type 0
+PartFits around part = (around + depth part.blocks ≤ 32) × (around + depth (branch part.second) ≤ 32)
+
+-- The innermost part comes first, which has as many blocks around it.
+abbrev PartsFit : ℕ → List Part → Type 0
+PartsFit around [] = Unit {0}
+PartsFit around (part ∷ parts) = PartFits around part × PartsFit (around - 1) parts
+
+line_fits : (around line : ℕ) (item : Item) (parts : List Part) → PartsFit around parts
+    → PartsFit around (with_line line item parts)
+line_fits around line item [] h = tt
+line_fits around line item (part ∷ parts) h = h
+
+repeat_fits : (around rounds : ℕ) (parts : List Part) → PartsFit (around + 1) parts
+    → PartsFit around (with_repeat rounds parts)
+repeat_fits around rounds [] h = tt
+repeat_fits around rounds (body ∷ []) h = tt
+repeat_fits around rounds (body ∷ part ∷ parts) h =
+    let inside = h.0.0 in
+    let outer : PartsFit around (part ∷ parts) =
+    subst (λ (n : ℕ). PartsFit n (part ∷ parts)) (omega arith) h.1 in
+    let rest = outer.0.0 in
+    ((omega arith, outer.0.1), outer.1)
+
+if_fits : (around : ℕ) (number : List ℕ) (parts : List Part) → PartsFit (around + 1) parts
+    → PartsFit around (with_if number parts)
+if_fits around number [] h = tt
+if_fits around number (first ∷ []) h = tt
+if_fits around number (first ∷ part ∷ parts) h =
+    let inside = h.0.0 in
+    let other = h.0.1 in
+    let outer : PartsFit around (part ∷ parts) =
+    subst (λ (n : ℕ). PartsFit n (part ∷ parts)) (omega arith) h.1 in
+    let rest = outer.0.0 in
+    ((omega arith, outer.0.1), outer.1)
+
+else_fits : (around : ℕ) (parts : List Part) → around ≤ 32 → PartsFit around parts → PartsFit around (with_else parts)
+else_fits around [] few h = tt
+else_fits around (second ∷ parts) few h = ((omega arith, h.0.0), h.1)
+
+-- How many blocks are open.
+
+abbrev opened : List Item → ℕ
+opened items = length (open_blocks items)
+
+opened_push : (before : List Item) (item : Item)
+    → opened (before ++ item ∷ []) ≡ length (open_behind (open_blocks before) item)
+opened_push before item = ap (λ (bs : List OpenBlock). length bs) (fold_push open_behind [] before item)
+
+length-behind_else : (blocks : List OpenBlock) → length (behind_else blocks) ≡ length blocks
+length-behind_else [] = refl
+length-behind_else (block ∷ blocks) = refl
+
+length-behind_end : (blocks : List OpenBlock) → length (behind_end blocks) ≡ length blocks - 1
+length-behind_end [] = refl
+length-behind_end (block ∷ blocks) = omega arith
+
+few_open : (before : List Item) (item : Item) → limit_fault before item ≡ None → opened before ≤ 32
+    → opened (before ++ item ∷ []) ≤ 32
+few_open before (Script name) limit h = omega (arith, opened_push before (Script name))
+few_open before (Repeat rounds) limit h =
+    omega (arith, opened_push before (Repeat rounds), at_most-None (opened before + 1) 32 which.Depth limit)
+few_open before (If number) limit h =
+    omega (arith, opened_push before (If number), at_most-None (opened before + 1) 32 which.Depth limit)
+few_open before Else limit h = omega (arith, opened_push before Else, length-behind_else (open_blocks before))
+few_open before End limit h = omega (arith, opened_push before End, length-behind_end (open_blocks before))
+few_open before item limit h = omega (arith, opened_push before item)
+
+-- The parts of a script before its lines that are left.
+
+module _ (before more : List Item) (line : ℕ) where
+  -- what the parts behind a line are to be
+  abbrev Behind : Item → Type 0
+  Behind item = PartsFit (opened (before ++ item ∷ [])) (parts_from (line + 1) (before_next_script more))
+
+  around_it : (item : Item) (n : ℕ) → opened (before ++ item ∷ []) ≡ n → Behind item
+      → PartsFit n (parts_from (line + 1) (before_next_script more))
+  around_it item n e h = subst (λ (m : ℕ). PartsFit m (parts_from (line + 1) (before_next_script more))) e h
+
+  parts_before : (item : Item) → opened before ≤ 32 → Behind item
+      → PartsFit (opened before) (parts_from line (before_next_script (item ∷ more)))
+  parts_before (Script name) few h = ((omega arith, omega arith), tt)
+  parts_before (Repeat rounds) few h =
+      repeat_fits (opened before) rounds (parts_from (line + 1) (before_next_script more))
+      (around_it (Repeat rounds) (opened before + 1) (omega (arith, opened_push before (Repeat rounds))) h)
+  parts_before (If number) few h =
+      if_fits (opened before) number (parts_from (line + 1) (before_next_script more))
+      (around_it (If number) (opened before + 1) (omega (arith, opened_push before (If number))) h)
+  parts_before Else few h =
+      else_fits (opened before) (parts_from (line + 1) (before_next_script more)) few
+      (around_it Else (opened before) (omega (arith, opened_push before Else, length-behind_else (open_blocks before))) h)
+  parts_before End few h = (
+    (omega arith, omega arith),
+    around_it End (opened before - 1) (omega (arith, opened_push before End, length-behind_end (open_blocks before)))
+        h,
+  )
+  parts_before item few h =
+      line_fits (opened before) line item (parts_from (line + 1) (before_next_script more))
+      (around_it item (opened before) (omega (arith, opened_push before item)) h)
+
+parts_fit : (before more : List Item) (line : ℕ) → ArePassed before more → opened before ≤ 32
+    → PartsFit (opened before) (parts_from line (before_next_script more))
+parts_fit before [] line passed few = ((omega arith, omega arith), tt)
+parts_fit before (item ∷ more) line passed few =
+    parts_before before more line item few
+    (parts_fit (before ++ item ∷ []) more (line + 1) passed.1 (few_open before item passed.0.within few))
+
+outermost_fits : (around : ℕ) (parts : List Part) → PartsFit around parts → depth (outermost_blocks parts) ≤ 32
+outermost_fits around [] h = omega arith
+outermost_fits around (part ∷ parts) h = let fits = h.0.0 in omega arith
+
+script_fits : (before more : List Item) (line k : ℕ) → ArePassed before more → opened before ≤ 32
+    → depth (blocks_from (script_from line k more).line (script_from line k more).items) ≤ 32
+script_fits before [] line k passed few = omega arith
+script_fits before (Script name ∷ more) line zero passed few =
+    outermost_fits (opened (before ++ Script name ∷ [])) (parts_from (line + 1) (before_next_script more))
+    (parts_fit (before ++ Script name ∷ []) more (line + 1) passed.1
+    (few_open before (Script name) passed.0.within few))
+script_fits before (Script name ∷ more) line (suc k) passed few =
+    script_fits (before ++ Script name ∷ []) more (line + 1) k passed.1
+    (few_open before (Script name) passed.0.within few)
+script_fits before (item ∷ more) line zero passed few =
+    script_fits (before ++ item ∷ []) more (line + 1) zero passed.1 (few_open before item passed.0.within few)
+script_fits before (item ∷ more) line (suc k) passed few =
+    script_fits (before ++ item ∷ []) more (line + 1) (suc k) passed.1 (few_open before item passed.0.within few)
+
+pub text_has_few_blocks : (program : List Item) (k : ℕ) (scope : Scope) → IsOfSomeText program
+    → depth_of (numbered scope (blocks_from (script_of program k).line (script_of program k).items)) ≤ 32
+text_has_few_blocks program k scope text =
+    omega (
+      arith,
+      depth-numbered scope (blocks_from (script_of program k).line (script_of program k).items),
+      script_fits [] program 1 k (is_whole program text).lines (omega arith),
+    )
