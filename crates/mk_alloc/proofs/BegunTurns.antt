@@ -1,34 +1,14 @@
 -- What the engine does after each `begin` of a call under the turn.
-use Rattle.std.proofs.Common.{◌≡◌, ⊎_elim, List, refl, sym, subst}
-use Rattle.std.specs.Prelude.{Some}
-use Rattle.mk_never.specs.declared.operations.Op.{Op}
-use Rattle.mk_core.specs.declared.config.Config.{Config}
-use Rattle.mk_core.specs.declared.events.Answer.{Answer}
-use Rattle.mk_core.specs.declared.events.Event.{Event}
-use Rattle.mk_core.specs.declared.events.Seat.{Seat}
-use Rattle.mk_core.specs.declared.events.Step.{Step}
-use Rattle.mk_core.specs.declared.events.Step.TheVariants as step
-use Rattle.mk_core.specs.Cycles.{is_begin}
-use Rattle.mk_words.specs.Seats.{Has}
-use Rattle.mk_words.specs.States.{PassState, now_of}
-use Rattle.mk_words.specs.Steps.{Makes}
-use Rattle.mk_turns.specs.Doing.{Does}
-use Rattle.mk_turns.proofs.Sweeping.{only_seen}
-use Rattle.mk_waiting.specs.Taking.{TakesTurn, is_take}
+use Rattle.mk_alloc.proofs.Vocabulary.{Answer, BeginsNone, Config, DecidesFree, EachIsBegun, EndsOlder, Event, Has}
+use Rattle.mk_alloc.proofs.Vocabulary.{IsAtPhase, IsOutOfStop, List, Looks, Makes, Op, PassState, Seat, Some, TakesTurn}
+use Rattle.mk_alloc.proofs.Vocabulary.{begun_then, finish_begins_none, is_begin, is_freeing, is_loading, is_look}
+use Rattle.mk_alloc.proofs.Vocabulary.{is_take, now_of, only_seen, refl, subst, sym, ⊎_elim, ◌≡◌}
+use Rattle.mk_cycle.proofs.Begun.{HaveNoBegin, does_begin_none, step_begins_none}
 use Rattle.mk_waiting.proofs.TakesAlone.{taking_does}
-use Rattle.mk_objects.specs.Placing.{IsOutOfStop, is_look}
-use Rattle.mk_objects.specs.Retired.{DecidesFree}
-use Rattle.mk_objects.specs.Retiring.{is_freeing, is_loading}
-use Rattle.mk_cycle.specs.Begun.{EachIsBegun}
-use Rattle.mk_cycle.specs.EngineLaw.{IsAtPhase}
-use Rattle.mk_cycle.proofs.Begun.{HaveNoBegin, begun_then, does_begin_none, finish_begins_none}
-use Rattle.mk_cycle.proofs.Begun.{step_begins_none}
-use Rattle.mk_alloc.specs.DueCycles.{EndsOlder}
-use Rattle.mk_alloc.specs.Rooms.{BeginsNone}
-use Rattle.mk_alloc.specs.Underway.{Looks}
 use Rattle.mk_alloc.proofs.CalledTurns.{taken_same}
 use Rattle.mk_alloc.proofs.Going.{IsCallers}
 use Rattle.mk_alloc.proofs.ListParts.{none_at}
+use Rattle.mk_core.specs.declared.events.Step.TheVariants as step
 
 taking_begins_none : HaveNoBegin is_take
 taking_begins_none step.Begin h = cc

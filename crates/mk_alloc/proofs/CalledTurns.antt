@@ -1,45 +1,23 @@
 -- A call under the turn, from its parts: its caller has one entry more, which one event decides.
-use Rattle.std.proofs.Common.{◌≡◌, ⊎_elim, Bool, true, false, List, [], ◌∷◌, ◌++◌, refl, sym, ◌∙◌, ap, subst}
-use Rattle.std.proofs.Common.{append-nil, append_assoc}
-use Rattle.std.specs.Prelude.{Some, not, ◌&&◌}
-use Rattle.std.specs.List.{list_all}
-use Rattle.std.proofs.lemmas.Bool.{and_parts, not-true, or_cases}
-use Rattle.mk_never.specs.declared.operations.Op.{Op}
-use Rattle.mk_never.specs.Laws.{KeepsRegisters}
-use Rattle.mk_core.specs.declared.config.Config.{Config}
-use Rattle.mk_core.specs.declared.events.Answer.{Answer}
-use Rattle.mk_core.specs.declared.events.Event.{Event}
-use Rattle.mk_core.specs.declared.events.Seat.{Seat}
-use Rattle.mk_core.specs.declared.events.Seat.TheVariants.{Caller}
-use Rattle.mk_core.specs.declared.events.Step.{Step}
-use Rattle.mk_core.specs.declared.events.Step.TheVariants as step
-use Rattle.mk_core.specs.declared.seats.Flight.{Flight}
-use Rattle.mk_core.specs.Calls.{at_rest}
-use Rattle.mk_core.specs.Cycles.{TurnOf}
-use Rattle.mk_core.specs.Decided.{Decided, entry_of}
-use Rattle.mk_core.specs.Growing.{AreOfOthers, is_one_of, is_same_seat}
-use Rattle.mk_core.specs.History.{IsHistory, World, calls, calls_from, left, never_behind}
-use Rattle.mk_core.specs.Words.{phase_of}
-use Rattle.mk_core.proofs.HistoryParts.{calls_in_parts}
-use Rattle.mk_words.specs.Seats.{Has}
-use Rattle.mk_words.specs.States.{PassState, call_of, event_of, now_of}
-use Rattle.mk_words.specs.Steps.{Makes, may_decide}
-use Rattle.mk_words.specs.TurnSteps.{IsFresh, turn_stays}
-use Rattle.mk_words.proofs.Seats.{not_both, others_one, others_own, only_one}
-use Rattle.mk_words.proofs.Made.{made}
+use Rattle.mk_laws.proofs.Vocabulary.{calls_from}
+use Rattle.mk_alloc.proofs.Vocabulary.{Answer, AreOfOthers, Bool, CalledInTurn, Caller, Config, Decided, Event, Flight}
+use Rattle.mk_alloc.proofs.Vocabulary.{Has, IsFresh, IsHistory, KeepsRegisters, List, Makes, Op, PassState, Seat, Some}
+use Rattle.mk_alloc.proofs.Vocabulary.{Step, TakesTurn, TurnGoesOn, TurnOf, World, [], and_parts, ap, append-nil}
+use Rattle.mk_alloc.proofs.Vocabulary.{append_assoc, at_rest, by_append, call_of, caller_of_pass, calls, calls_by}
+use Rattle.mk_alloc.proofs.Vocabulary.{calls_in_parts, entry_of, event_of, false, is_one_of, is_same_seat, is_take}
+use Rattle.mk_alloc.proofs.Vocabulary.{left, list_all, made, never_behind, no_more_calls, not, not-true, not_both}
+use Rattle.mk_alloc.proofs.Vocabulary.{now_of, only_one, or_cases, others_add_none, others_one, own_calls, phase_of}
+use Rattle.mk_alloc.proofs.Vocabulary.{refl, subst, sym, true, turn_stays, waits_for, ⊎_elim, ◌&&◌, ◌++◌, ◌∙◌, ◌∷◌, ◌≡◌}
+use Rattle.mk_words.proofs.Seats.{others_own}
 use Rattle.mk_words.proofs.Undecided.{decides_nothing}
-use Rattle.mk_caller.specs.States.{never_of, caller_of_pass}
-use Rattle.mk_caller.specs.Called.{own_calls}
-use Rattle.mk_caller.proofs.OwnSteps.{by_append, calls_by, others_add_none}
-use Rattle.mk_cycle.proofs.OwnSteps.{no_more_calls}
-use Rattle.mk_waiting.specs.Taking.{TakesTurn, is_take, waits_for}
-use Rattle.mk_alloc.specs.TurnCalls.{CalledInTurn}
-use Rattle.mk_alloc.specs.TurnCycles.{CallIsExact}
-use Rattle.mk_alloc.specs.Underway.{TurnGoesOn}
+use Rattle.mk_words.specs.Steps.{may_decide}
+use Rattle.mk_caller.specs.States.{never_of}
 use Rattle.mk_alloc.proofs.Decisions.{decided_in, registers_stay, same_last}
 use Rattle.mk_alloc.proofs.Going.{IsCallers}
 use Rattle.mk_alloc.proofs.OwnGives.{GivesNone, doing_gives, gives_append, others_give}
 use Rattle.mk_alloc.proofs.Parts.{seen_behind, seen_made, seen_then}
+use Rattle.mk_alloc.specs.TurnCycles.{CallIsExact}
+use Rattle.mk_core.specs.declared.events.Step.TheVariants as step
 
 -- Waiting and taking the turn add no entry, nor does a `give`.
 

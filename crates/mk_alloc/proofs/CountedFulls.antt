@@ -1,66 +1,40 @@
 -- The three steps of a Full: the tally is looked at, raised, and the New decided.
-use Rattle.std.proofs.Common.{◌≡◌, ℕ, ◌+◌, ◌-◌, ◌^◌, true, false, List, [], ◌∷◌, ◌++◌, refl, sym, ◌∙◌, ap, subst, arith}
-use Rattle.std.specs.Prelude.{Option, Some, None, min, cond}
-use Rattle.std.proofs.lemmas.List.Sums.{sum_by_push}
-use Rattle.mk_core.specs.declared.config.Config.{Config}
-use Rattle.mk_core.specs.declared.events.Answer.{Answer}
-use Rattle.mk_core.specs.declared.events.Answer.TheVariants as answer
-use Rattle.mk_core.specs.declared.events.Event.{Event}
-use Rattle.mk_core.specs.declared.events.Seat.{Seat}
-use Rattle.mk_core.specs.declared.events.Seat.TheVariants.{Caller}
-use Rattle.mk_core.specs.declared.events.Step.{Step}
-use Rattle.mk_core.specs.declared.events.Step.TheVariants as step
-use Rattle.mk_core.specs.declared.events.Tally.TheVariants as tally
-use Rattle.mk_core.specs.declared.events.Word.TheVariants as word
-use Rattle.mk_core.specs.declared.seats.Flight.{Flight}
-use Rattle.mk_core.specs.declared.seats.Holding.{Holding}
-use Rattle.mk_core.specs.declared.seats.OwnCycle.TheVariants.{Ended}
-use Rattle.mk_core.specs.declared.seats.Placing.{Placing}
-use Rattle.mk_core.specs.declared.seats.RunPages.{RunPages}
-use Rattle.mk_core.specs.declared.seats.Stage.TheVariants as stage
-use Rattle.mk_core.specs.Allocations.{PlacedAllocation, fresh_words_of, held_by_allocations}
-use Rattle.mk_core.specs.Counts.{ends, full_answers, in_a_word, releases}
-use Rattle.mk_core.specs.Cycles.{is_begin, is_end}
-use Rattle.mk_core.specs.Decided.{Decided, entry_of}
-use Rattle.mk_core.specs.Effects.{answer_decided}
-use Rattle.mk_core.specs.Frames.{Steady, steady_of}
-use Rattle.mk_core.specs.History.{IsHistory, World, call_decided, calls, first_world, left}
-use Rattle.mk_core.specs.Moments.{Moment}
-use Rattle.mk_core.specs.NewPlaces.{is_run_gone, object_made}
-use Rattle.mk_core.proofs.Histories.{calls_more}
-use Rattle.mk_laws.specs.Protocol.{has_place}
-use Rattle.mk_laws.proofs.OthersCounts.{fulls_append, fulls_of}
-use Rattle.mk_words.specs.States.{PassState, call_of, event_of, now_of, world_of}
+use Rattle.std.specs.Prelude.{min}
+use Rattle.mk_laws.proofs.Vocabulary.{◌-◌, ◌^◌}
+use Rattle.mk_alloc.proofs.Vocabulary.{Acts, Answer, AnswersFull, BeginsNone, Caller, Config, Decided, Does, Done}
+use Rattle.mk_alloc.proofs.Vocabulary.{Ended, Event, Flight, Holding, InTurn, IsAtPhase, IsHistory, IsQuiet, IsUnplaced}
+use Rattle.mk_alloc.proofs.Vocabulary.{LeavesTurn, List, Moment, None, Option, PassState, PlacedAllocation, Placing}
+use Rattle.mk_alloc.proofs.Vocabulary.{RunPages, Seat, Some, Steady, Step, World, [], answer_decided, ap, arith}
+use Rattle.mk_alloc.proofs.Vocabulary.{asks_room, by_append, call_decided, call_of, caller_of_pass, calls, calls_by}
+use Rattle.mk_alloc.proofs.Vocabulary.{calls_more, calm_keeps, cond, does_step, does_then, does_wider, ends, entry_of}
+use Rattle.mk_alloc.proofs.Vocabulary.{event_of, false, first_world, free_then, fresh_words_of, full_answers}
+use Rattle.mk_alloc.proofs.Vocabulary.{fulls_append, fulls_of, gates_behind, has_place, held_by_allocations, in_a_word}
+use Rattle.mk_alloc.proofs.Vocabulary.{is_begin, is_end, is_pending_free_at, is_run_gone, left, lets_go, made, now_of}
+use Rattle.mk_alloc.proofs.Vocabulary.{object_for, object_made, others_add_none, own_calls, place_now_for, refl}
+use Rattle.mk_alloc.proofs.Vocabulary.{releases, same_config, steady_of, subst, sum_by_push, sym, true, turn_stays}
+use Rattle.mk_alloc.proofs.Vocabulary.{unchanged, world_of, ℕ, ◌++◌, ◌+◌, ◌∙◌, ◌∷◌, ◌≡◌}
 use Rattle.mk_words.specs.Steps.{Finds}
-use Rattle.mk_words.specs.TurnSteps.{Acts, turn_stays}
-use Rattle.mk_words.proofs.Made.{made}
-use Rattle.mk_turns.specs.Doing.{Does}
-use Rattle.mk_turns.proofs.Doing.{does_step, does_then}
-use Rattle.mk_caller.specs.States.{caller_of_pass}
-use Rattle.mk_caller.specs.Called.{own_calls}
-use Rattle.mk_caller.proofs.OwnSteps.{by_append, calls_by, others_add_none, own_entry}
-use Rattle.mk_cycle.specs.EngineLaw.{IsAtPhase, is_pending_free_at}
-use Rattle.mk_cycle.specs.TurnKeeps.{Done, InTurn, LeavesTurn, done_of, unchanged}
-use Rattle.mk_cycle.proofs.CleaningSteps.{calm_keeps}
-use Rattle.mk_cycle.proofs.KeptInParts.{free_then, gates_behind, gates_then, same_config}
-use Rattle.mk_objects.specs.Placing.{IsUnplaced, object_for, place_now_for}
-use Rattle.mk_alloc.specs.Rooms.{AnswersFull, BeginsNone, asks_room}
-use Rattle.mk_alloc.specs.TurnCycles.{lets_go}
-use Rattle.mk_alloc.specs.Underway.{IsQuiet}
+use Rattle.mk_caller.proofs.OwnSteps.{own_entry}
+use Rattle.mk_cycle.proofs.KeptInParts.{gates_then}
+use Rattle.mk_cycle.specs.TurnKeeps.{done_of}
 use Rattle.mk_alloc.proofs.CalledTurns.{of_others_alone, step_adds_none}
 use Rattle.mk_alloc.proofs.FullLeaves.{leaves_then, made_leaves}
 use Rattle.mk_alloc.proofs.Going.{IsCallers}
+use Rattle.mk_alloc.proofs.GrantParts.{calm_last, lets_go_held}
 use Rattle.mk_alloc.proofs.OneCycles.{begins_none_by}
 use Rattle.mk_alloc.proofs.Parts.{part_lacks, seen_behind}
 use Rattle.mk_alloc.proofs.PlacedTurns.{none_freed_yet}
 use Rattle.mk_alloc.proofs.QuietTurns.{none_held_kept, same_phase}
 use Rattle.mk_alloc.proofs.RetiredTurns.{given_is_decided}
-use Rattle.mk_alloc.proofs.GrantParts.{calm_last, lets_go_held}
 use Rattle.mk_alloc.proofs.RoomParts.{room_lacks, rooms_held}
 use Rattle.mk_alloc.proofs.SeekingTurns.{new_callers, still_nowhere, unplaced_kept}
 use Rattle.mk_alloc.proofs.StepKinds.{AreApart}
 use Rattle.mk_alloc.proofs.Stretches.{SomeKinds}
-use Rattle.mk_objects.proofs.JoinedLooks.{does_wider}
+use Rattle.mk_core.specs.declared.events.Answer.TheVariants as answer
+use Rattle.mk_core.specs.declared.events.Step.TheVariants as step
+use Rattle.mk_core.specs.declared.events.Tally.TheVariants as tally
+use Rattle.mk_core.specs.declared.events.Word.TheVariants as word
+use Rattle.mk_core.specs.declared.seats.Stage.TheVariants as stage
 
 counts_full : SomeKinds
 counts_full (step.Look x) = true

@@ -1,15 +1,11 @@
 -- The turns of a caller stay exact, whatever its next call is.
-use Rattle.std.proofs.Common.{◌≡◌, Bool, List, [], ◌∷◌, ◌++◌, refl, sym, ◌∙◌, ap, subst, append_assoc}
-use Rattle.std.specs.Prelude.{Some}
-use Rattle.mk_core.specs.declared.events.Event.{Event}
-use Rattle.mk_core.specs.declared.events.Step.TheVariants as step
-use Rattle.mk_words.specs.Seats.{Has}
-use Rattle.mk_words.specs.States.{PassState, event_of}
-use Rattle.mk_alloc.specs.Laws.{OwnAreExact, StayExactBehindCalls, StayExactBehindOthers, StayExactBehindTurns}
-use Rattle.mk_alloc.specs.Laws.{StayExactWhereHeld}
-use Rattle.mk_alloc.specs.TurnCycles.{TurnsOfAreExact, EndsExactly}
+use Rattle.mk_alloc.proofs.Vocabulary.{Bool, EndsExactly, Event, Has, List, PassState, Some, TurnsOfAreExact, [], ap}
+use Rattle.mk_alloc.proofs.Vocabulary.{append_assoc, event_of, refl, subst, sym, ◌++◌, ◌∙◌, ◌∷◌, ◌≡◌}
 use Rattle.mk_alloc.proofs.OwnGives.{GivesNone, calls_give, doing_gives, none_more, one_gives, one_more, others_give}
 use Rattle.mk_alloc.proofs.OwnGives.{waiting_gives}
+use Rattle.mk_alloc.specs.Laws.{OwnAreExact, StayExactBehindCalls, StayExactBehindOthers, StayExactBehindTurns}
+use Rattle.mk_alloc.specs.Laws.{StayExactWhereHeld}
+use Rattle.mk_core.specs.declared.events.Step.TheVariants as step
 
 pub stay_exact_behind_calls : StayExactBehindCalls
 stay_exact_behind_calls on p o a q own called exact =

@@ -1,28 +1,13 @@
 -- What a Free is answered, and that its turn may go on and be given back.
-use Rattle.std.proofs.Common.{◌≡◌, inl, inr, ℕ, ◌<◌, Bool, true, ◌∷◌, ◌++◌, refl, sym, ◌∙◌, ap, subst, append_assoc}
-use Rattle.std.specs.Prelude.{Some}
-use Rattle.std.proofs.lemmas.Bool.{cases_Bool}
-use Rattle.mk_never.specs.declared.operations.Op.TheVariants as op
-use Rattle.mk_never.specs.declared.values.Value.{Value}
+use Rattle.mk_laws.proofs.Vocabulary.{register_at}
+use Rattle.mk_alloc.proofs.Vocabulary.{BeginsTurn, Bool, FreeIsExact, FreesObject, Has, InTurn, IsAnsweredDouble}
+use Rattle.mk_alloc.proofs.Vocabulary.{IsDueIn, IsDueSince, IsFresh, IsHistory, Makes, PassState, RunsIfDue, Some}
+use Rattle.mk_alloc.proofs.Vocabulary.{TakesTurn, TurnGoesOn, Value, ap, append_assoc, at_rest, call_of, caller_of_pass}
+use Rattle.mk_alloc.proofs.Vocabulary.{cases_Bool, inl, inr, is_freeing, is_loading, refl, subst, sym, true, ℕ, ◌++◌}
+use Rattle.mk_alloc.proofs.Vocabulary.{◌<◌, ◌∙◌, ◌∷◌, ◌≡◌}
 use Rattle.mk_never.specs.Admitted.{IsBase}
-use Rattle.mk_core.specs.declared.events.Answer.TheVariants as answer
-use Rattle.mk_core.specs.declared.events.Step.TheVariants as step
-use Rattle.mk_core.specs.Calls.{at_rest}
-use Rattle.mk_core.specs.History.{IsHistory}
-use Rattle.mk_words.specs.Seats.{Has}
-use Rattle.mk_words.specs.States.{PassState, call_of}
-use Rattle.mk_words.specs.Steps.{Makes}
-use Rattle.mk_words.specs.TurnSteps.{IsFresh}
-use Rattle.mk_caller.specs.States as caller
-use Rattle.mk_caller.specs.States.{caller_of_pass}
-use Rattle.mk_cycle.specs.TurnKeeps.{InTurn}
-use Rattle.mk_objects.specs.Retired.{FindsFreed, IsDueSince, Retires}
-use Rattle.mk_objects.specs.Retiring.{IsUnloaded, is_freeing, is_loading}
-use Rattle.mk_waiting.specs.Taking.{TakesTurn}
-use Rattle.mk_alloc.specs.DueCycles.{RunsIfDue}
-use Rattle.mk_alloc.specs.TurnCalls.{FreesObject, IsAnsweredDouble}
-use Rattle.mk_alloc.specs.TurnCycles.{FreeIsExact, IsDueIn}
-use Rattle.mk_alloc.specs.Underway.{BeginsTurn, TurnGoesOn}
+use Rattle.mk_objects.specs.Retired.{FindsFreed, Retires}
+use Rattle.mk_objects.specs.Retiring.{IsUnloaded}
 use Rattle.mk_alloc.proofs.CalledTurns.{called, registers_taken, taken_callers, taken_same}
 use Rattle.mk_alloc.proofs.DueParts.{run_in}
 use Rattle.mk_alloc.proofs.FreeTurns.{is_quar, loading_frees, loading_no_quar, not_due_without, quars_held}
@@ -31,7 +16,10 @@ use Rattle.mk_alloc.proofs.Parts.{part_lacks, seen_behind}
 use Rattle.mk_alloc.proofs.RetiredTurns.{decided_on, due_in, due_since, rests_exactly, run_or_rest, runs_exactly}
 use Rattle.mk_alloc.proofs.RetiredTurns.{same_rest, turn}
 use Rattle.mk_alloc.proofs.Stretches.{AreOfTurn}
-use Rattle.mk_never.specs.NeverHeap.{register_at}
+use Rattle.mk_never.specs.declared.operations.Op.TheVariants as op
+use Rattle.mk_core.specs.declared.events.Answer.TheVariants as answer
+use Rattle.mk_core.specs.declared.events.Step.TheVariants as step
+use Rattle.mk_caller.specs.States as caller
 
 -- The register that the turn's Free loads is null or points to a first word, as before.
 pub unloaded : (p taken : PassState) (r : ℕ) → IsCallers p → Has p.seats p.seat

@@ -1,62 +1,37 @@
 -- What the turn of a New does with cycles, and what it is answered.
-use Rattle.std.proofs.Common.{◌≡◌, ⊎_elim, ℕ, ◌<◌, Bool, true, false, List, [], ◌∷◌, ◌++◌, length, refl, sym, ◌∙◌, ap}
-use Rattle.std.proofs.Common.{subst, append_assoc}
-use Rattle.std.specs.Prelude.{Some, ◌&&◌, nat_lt}
-use Rattle.std.proofs.lemmas.Bool.{and_from, lt-ltb, or_left, or_right}
-use Rattle.mk_never.specs.declared.operations.Op.{Op}
-use Rattle.mk_never.specs.declared.operations.Op.TheVariants as op
-use Rattle.mk_geom.specs.declared.pages.Census.{Census}
-use Rattle.mk_geom.specs.declared.pages.Page.{Page}
-use Rattle.mk_geom.specs.PageUses.{census_among}
-use Rattle.mk_geom.specs.PageWords.{uses_of_pages}
-use Rattle.mk_geom.specs.Storages.{census_of}
+use Rattle.mk_laws.proofs.Vocabulary.{Page, histories_keep_lengths, or_right, uses_of_pages}
+use Rattle.mk_alloc.proofs.Vocabulary.{Answer, AnswersFull, At, BeginsNone, BeginsTurn, Bool, CalledInTurn, Config}
+use Rattle.mk_alloc.proofs.Vocabulary.{Event, Flight, Has, HasNoPlace, Holding, InTurn, IsAnsweredFull, IsHistory}
+use Rattle.mk_alloc.proofs.Vocabulary.{IsQuiet, IsUnplaced, List, Makes, Misfits, Object, Op, PassState}
+use Rattle.mk_alloc.proofs.Vocabulary.{PlacedAllocation, RunsOne, RunsOneCycle, Seeks, Some, Steady, Step, TakesTurn}
+use Rattle.mk_alloc.proofs.Vocabulary.{TurnOf, World, [], and_from, ap, append_assoc, asks_room, at_rest, call_of}
+use Rattle.mk_alloc.proofs.Vocabulary.{event_of, false, gone_is_unmapped, has_operands, has_place, is_begin, is_grant}
+use Rattle.mk_alloc.proofs.Vocabulary.{is_pending_free, is_run_gone, is_undecided_new, is_want, length, lets_go, lt-ltb}
+use Rattle.mk_alloc.proofs.Vocabulary.{made, nat_lt, now_of, object_for, object_made, off_four, only_seen, or_left}
+use Rattle.mk_alloc.proofs.Vocabulary.{refl, subst, sym, true, turn_stays, unreleased_storage, within_turn, world_of, ℕ}
+use Rattle.mk_alloc.proofs.Vocabulary.{⊎_elim, ◌&&◌, ◌++◌, ◌<◌, ◌∙◌, ◌∷◌, ◌≡◌}
 use Rattle.mk_geom.proofs.Bridge.{same_census}
-use Rattle.mk_core.specs.declared.config.Config.{Config}
-use Rattle.mk_core.specs.declared.events.Answer.{Answer}
-use Rattle.mk_core.specs.declared.events.Answer.TheVariants as answer
-use Rattle.mk_core.specs.declared.events.Event.{Event}
-use Rattle.mk_core.specs.declared.events.Step.{Step}
-use Rattle.mk_core.specs.declared.events.Step.TheVariants as step
-use Rattle.mk_core.specs.declared.seats.Flight.{Flight}
-use Rattle.mk_core.specs.declared.seats.Holding.{Holding}
-use Rattle.mk_core.specs.declared.seats.Object.{Object}
-use Rattle.mk_core.specs.Allocations.{PlacedAllocation, census_of_allocations, unreleased_storage}
-use Rattle.mk_core.specs.Calls.{at_rest, has_operands}
-use Rattle.mk_core.specs.Cycles.{At, TurnOf, is_begin}
-use Rattle.mk_core.specs.Frames.{Steady}
-use Rattle.mk_core.specs.History.{IsHistory, World}
-use Rattle.mk_core.specs.NewPlaces.{is_run_gone, is_undecided_new, object_made}
-use Rattle.mk_core.proofs.Lengths.{histories_keep_lengths}
-use Rattle.mk_laws.proofs.Settled.{gone_is_unmapped}
+use Rattle.mk_geom.specs.PageUses.{census_among}
+use Rattle.mk_geom.specs.Storages.{census_of}
+use Rattle.mk_geom.specs.declared.pages.Census.{Census}
+use Rattle.mk_core.specs.Allocations.{census_of_allocations}
 use Rattle.mk_laws.proofs.InvariantTheorems.{pages_show_the_storage}
-use Rattle.mk_objects.proofs.MayAct.{off_four}
-use Rattle.mk_laws.specs.Protocol.{has_place}
 use Rattle.mk_laws.proofs.PlacementTheorems.{fulls_fit_nowhere}
-use Rattle.mk_words.specs.Seats.{Has}
-use Rattle.mk_words.specs.States.{PassState, call_of, event_of, now_of, world_of}
-use Rattle.mk_words.specs.Steps.{Makes}
-use Rattle.mk_words.specs.TurnSteps.{turn_stays}
-use Rattle.mk_words.proofs.Made.{made}
-use Rattle.mk_cycle.specs.EngineLaw.{is_pending_free}
-use Rattle.mk_cycle.specs.TurnKeeps.{InTurn}
-use Rattle.mk_objects.specs.Placing.{IsUnplaced, object_for}
-use Rattle.mk_waiting.specs.Taking.{TakesTurn}
-use Rattle.mk_turns.proofs.Sweeping.{only_seen}
-use Rattle.mk_alloc.specs.Rooms.{AnswersFull, BeginsNone, Misfits, RunsOne, Seeks, asks_room}
-use Rattle.mk_alloc.specs.TurnCalls.{CalledInTurn, IsAnsweredFull}
-use Rattle.mk_alloc.specs.TurnCycles.{HasNoPlace, NewIsExact, RunsOneCycle, is_grant, is_want, lets_go, within_turn}
-use Rattle.mk_alloc.specs.Underway.{BeginsTurn, IsQuiet}
 use Rattle.mk_alloc.proofs.CalledTurns.{called, taken_same, turn_of, within_is}
 use Rattle.mk_alloc.proofs.CycleParts.{begins_held}
-use Rattle.mk_alloc.proofs.Going.{IsCallers}
 use Rattle.mk_alloc.proofs.FullLeaves.{leaves_then, made_leaves, taking_leaves}
+use Rattle.mk_alloc.proofs.Going.{IsCallers}
 use Rattle.mk_alloc.proofs.GrantParts.{grants_held, last_before, lets_go_held}
 use Rattle.mk_alloc.proofs.ListParts.{InFirst, InSecond, SomeKind, lacks_at, stands}
-use Rattle.mk_alloc.proofs.Parts.{others_lack, seen_behind, seen_made}
 use Rattle.mk_alloc.proofs.OneCycles.{one_before, one_then_none}
+use Rattle.mk_alloc.proofs.Parts.{others_lack, seen_behind, seen_made}
 use Rattle.mk_alloc.proofs.RetiredTurns.{same_rest}
 use Rattle.mk_alloc.proofs.RoomParts.{rooms_held}
 use Rattle.mk_alloc.proofs.SeekingTurns.{seeks_then}
+use Rattle.mk_alloc.specs.TurnCycles.{NewIsExact}
+use Rattle.mk_never.specs.declared.operations.Op.TheVariants as op
+use Rattle.mk_core.specs.declared.events.Answer.TheVariants as answer
+use Rattle.mk_core.specs.declared.events.Step.TheVariants as step
 
 -- Directly after its `take` the turn of a New is quiet, and its object has no place yet.
 

@@ -1,35 +1,20 @@
 -- Lists in which a seat gives no turn back: its turns stay exact after them.
-use Rattle.std.proofs.Common.{◌≡◌, ⊎_elim, Bool, true, false, List, [], ◌∷◌, ◌++◌, map, refl, sym, ◌∙◌, ap, subst}
-use Rattle.std.proofs.Common.{append-nil}
-use Rattle.std.specs.Prelude.{◌&&◌, ◌||◌, not, if◌then◌else◌}
-use Rattle.std.specs.List.{list_all, list_any}
-use Rattle.std.proofs.lemmas.Bool.{and_from, and_parts, false_from_ne_true, not-true, or_cases, or_from, or_parts}
-use Rattle.std.proofs.lemmas.Bool.{true≢false}
-use Rattle.std.proofs.lemmas.List.Folds.{list_any-append}
-use Rattle.mk_never.specs.declared.operations.Op.{Op}
-use Rattle.mk_core.specs.declared.config.Config.{Config}
-use Rattle.mk_core.specs.declared.events.Answer.{Answer}
-use Rattle.mk_core.specs.declared.events.Event.{Event}
-use Rattle.mk_core.specs.declared.events.Seat.{Seat}
-use Rattle.mk_core.specs.declared.events.Step.{Step}
-use Rattle.mk_core.specs.declared.events.Step.TheVariants as step
-use Rattle.mk_core.specs.declared.seats.Stage.{Stage}
-use Rattle.mk_core.specs.declared.seats.Stage.TheVariants as stage
-use Rattle.mk_core.specs.Accesses.{found}
-use Rattle.mk_core.specs.Cycles.{is_give}
-use Rattle.mk_core.specs.Growing.{AreOfOthers, Finding, is_one_of, is_same_seat, own_from}
-use Rattle.mk_core.specs.History.{World, left, world_behind}
-use Rattle.mk_words.specs.Seats.{Has}
-use Rattle.mk_words.specs.States.{PassState, event_of}
-use Rattle.mk_words.specs.Steps.{Makes}
-use Rattle.mk_words.specs.TurnSteps.{turn_stays}
-use Rattle.mk_words.proofs.Seats.{not_both, same_seat, same_self}
-use Rattle.mk_caller.specs.Called.{own_steps, step_at, steps_made, stages_made}
-use Rattle.mk_turns.specs.Doing.{Does, are_of}
-use Rattle.mk_waiting.specs.Taking.{Waits, is_take, waits_for}
-use Rattle.mk_alloc.specs.TurnCycles.{EndsExactly, TurnsOfAreExact}
-use Rattle.mk_alloc.proofs.ListParts.{InFirst, InSecond, stands}
 use Rattle.std.proofs.Math.Bool.{and-false}
+use Rattle.mk_laws.proofs.Vocabulary.{false_from_ne_true, list_any}
+use Rattle.mk_alloc.proofs.Vocabulary.{Answer, Bool, Config, Does, EndsExactly, Event, Finding, Has, List, Makes, Op}
+use Rattle.mk_alloc.proofs.Vocabulary.{PassState, Seat, Stage, Step, TurnsOfAreExact, World, [], and_from, and_parts}
+use Rattle.mk_alloc.proofs.Vocabulary.{ap, append-nil, are_of, event_of, false, found, if◌then◌else◌, is_one_of}
+use Rattle.mk_alloc.proofs.Vocabulary.{is_same_seat, is_take, left, list_all, list_any-append, map, not, not-true}
+use Rattle.mk_alloc.proofs.Vocabulary.{not_both, or_cases, or_from, or_parts, own_steps, refl, same_seat, same_self}
+use Rattle.mk_alloc.proofs.Vocabulary.{stages_made, step_at, subst, sym, true, true≢false, turn_stays, waits_for}
+use Rattle.mk_alloc.proofs.Vocabulary.{world_behind, ⊎_elim, ◌&&◌, ◌++◌, ◌||◌, ◌∙◌, ◌∷◌, ◌≡◌}
+use Rattle.mk_core.specs.Cycles.{is_give}
+use Rattle.mk_core.specs.Growing.{AreOfOthers, own_from}
+use Rattle.mk_caller.specs.Called.{steps_made}
+use Rattle.mk_waiting.specs.Taking.{Waits}
+use Rattle.mk_alloc.proofs.ListParts.{InFirst, InSecond, stands}
+use Rattle.mk_core.specs.declared.events.Step.TheVariants as step
+use Rattle.mk_core.specs.declared.seats.Stage.TheVariants as stage
 
 abbrev pub own_give : Seat → Event → Bool
 own_give s e = is_same_seat s e.seat && is_give e.step

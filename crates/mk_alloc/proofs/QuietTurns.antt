@@ -1,41 +1,23 @@
 -- What keeps a turn quiet, and that a quiet one may look at the phase and, once its call is decided, be given back.
-use Rattle.std.proofs.Common.{◌≡◌, ◌⊎◌, inl, inr, ℕ, true, List, refl, sym, ◌∙◌, ap, subst}
-use Rattle.std.specs.Prelude.{◌==◌, ◌&&◌, ◌||◌, not}
-use Rattle.std.proofs.lemmas.Bool.{and_from, eq-eqb, or_left}
-use Rattle.mk_core.specs.declared.config.Config.{Config}
-use Rattle.mk_core.specs.declared.events.Step.TheVariants as step
-use Rattle.mk_core.specs.declared.events.Word.TheVariants as word
-use Rattle.mk_core.specs.declared.seats.Stage.{Stage}
-use Rattle.mk_core.specs.declared.seats.Stage.TheVariants as stage
-use Rattle.mk_core.specs.Allocations.{PlacedAllocation, fresh_words_of, held_by_allocations}
-use Rattle.mk_core.specs.Counts.{TalliesAreExact, TalliesAreTidy, full_answers, in_a_word, releases}
-use Rattle.mk_core.specs.Frames.{CountsAreLeft, Steady, steady_of}
-use Rattle.mk_core.specs.History.{IsHistory}
-use Rattle.mk_core.specs.Moments.{Moment, is_held, none_is_held}
-use Rattle.mk_core.specs.NewPlaces.{is_run_gone}
-use Rattle.mk_core.specs.TurnConditions.{is_decided, held_by_pages}
-use Rattle.mk_core.specs.Words.{phase_of}
-use Rattle.mk_core.proofs.AllBelow.{all_below-at}
-use Rattle.mk_laws.specs.SettledPages.{IsSettled}
-use Rattle.mk_laws.proofs.Settled.{gone_is_unmapped}
-use Rattle.mk_laws.specs.Protocol.{has_place}
-use Rattle.mk_words.specs.States.{PassState, call_of, now_of, world_of}
-use Rattle.mk_words.specs.Steps.{IsEnabledTo}
-use Rattle.mk_words.specs.TurnSteps.{Acts}
+use Rattle.mk_laws.proofs.Vocabulary.{IsSettled, all_below-at, held_by_pages, is_decided}
+use Rattle.mk_alloc.proofs.Vocabulary.{Acts, BeginsCycle, Config, CountsAreLeft, Done, FinishesCycle, InTurn}
+use Rattle.mk_alloc.proofs.Vocabulary.{IsEnabledTo, IsHistory, IsOutOfStop, IsQuiet, KeepsGates, LeavesTurn, List}
+use Rattle.mk_alloc.proofs.Vocabulary.{Looks, Moment, PassState, PlacedAllocation, Stage, Steady, TalliesAreTidy}
+use Rattle.mk_alloc.proofs.Vocabulary.{and_from, ap, call_of, calm_keeps, does_step, eq-eqb, free_then, fresh_words_of}
+use Rattle.mk_alloc.proofs.Vocabulary.{full_answers, gates_behind, gone_is_unmapped, has_place, held_by_allocations}
+use Rattle.mk_alloc.proofs.Vocabulary.{in_a_word, inl, inr, is_held, is_look, is_pending_free, is_run_gone}
+use Rattle.mk_alloc.proofs.Vocabulary.{none_is_held, not, now_of, off_four, or_left, phase_of, refl, releases}
+use Rattle.mk_alloc.proofs.Vocabulary.{same_config, steady_of, subst, sym, true, unchanged, world_of, ℕ, ◌&&◌, ◌==◌}
+use Rattle.mk_alloc.proofs.Vocabulary.{◌||◌, ◌∙◌, ◌≡◌, ◌⊎◌}
+use Rattle.mk_core.specs.Counts.{TalliesAreExact}
 use Rattle.mk_words.proofs.Tallies.{settled_tallies}
-use Rattle.mk_turns.proofs.Doing.{does_step}
-use Rattle.mk_cycle.specs.BeginCycle.{BeginsCycle}
-use Rattle.mk_cycle.specs.EngineLaw.{IsFreeForCycle, is_pending_free}
-use Rattle.mk_cycle.specs.FinishCycle.{FinishesCycle}
-use Rattle.mk_cycle.specs.TurnKeeps.{Done, InTurn, KeepsGates, LeavesTurn, unchanged}
 use Rattle.mk_cycle.proofs.Allowed.{look_allowed, protocol}
 use Rattle.mk_cycle.proofs.BeginSteps.{all_from}
-use Rattle.mk_cycle.proofs.CleaningSteps.{calm_keeps}
-use Rattle.mk_cycle.proofs.KeptInParts.{free_then, gates_behind, same_config}
 use Rattle.mk_cycle.proofs.MayAct.{may_act}
-use Rattle.mk_objects.specs.Placing.{IsOutOfStop, is_look}
-use Rattle.mk_objects.proofs.MayAct.{off_four}
-use Rattle.mk_alloc.specs.Underway.{IsQuiet, Looks}
+use Rattle.mk_cycle.specs.EngineLaw.{IsFreeForCycle}
+use Rattle.mk_core.specs.declared.events.Step.TheVariants as step
+use Rattle.mk_core.specs.declared.events.Word.TheVariants as word
+use Rattle.mk_core.specs.declared.seats.Stage.TheVariants as stage
 
 -- the look at the phase
 

@@ -1,42 +1,12 @@
 -- The turn of a Free, from its `take` to where it is given back.
-use Rattle.std.proofs.Common.{◌≡◌, ⊎_elim, inl, inr, ℕ, Bool, true, false, List, [], ◌∷◌, ◌++◌, refl, sym, ◌∙◌, ap}
-use Rattle.std.proofs.Common.{subst, append_assoc, append-nil}
-use Rattle.std.specs.Prelude.{Some}
-use Rattle.std.proofs.lemmas.Bool.{cases_Bool}
-use Rattle.mk_never.specs.declared.operations.Op.{Op}
-use Rattle.mk_never.specs.declared.operations.Op.TheVariants as op
-use Rattle.mk_core.specs.declared.config.Config.{Config}
-use Rattle.mk_core.specs.declared.events.Answer.{Answer}
-use Rattle.mk_core.specs.declared.events.Event.{Event}
-use Rattle.mk_core.specs.declared.events.Step.{Step}
-use Rattle.mk_core.specs.declared.events.Step.TheVariants as step
-use Rattle.mk_core.specs.declared.seats.Holding.{Holding}
-use Rattle.mk_core.specs.declared.seats.Placing.{Placing}
-use Rattle.mk_core.specs.declared.seats.Stage.{Stage}
-use Rattle.mk_core.specs.declared.seats.Stage.TheVariants as stage
-use Rattle.mk_core.specs.Calls.{at_rest}
-use Rattle.mk_core.specs.Counts.{IsDue, TalliesAreTidy}
-use Rattle.mk_core.specs.Cycles.{TurnOf, is_begin, is_end}
-use Rattle.mk_core.specs.History.{IsHistory}
-use Rattle.mk_core.specs.Moments.{none_is_held}
-use Rattle.mk_core.specs.Words.{phase_of}
-use Rattle.mk_laws.specs.Protocol.{has_place}
-use Rattle.mk_words.specs.Seats.{Has}
-use Rattle.mk_words.specs.States.{PassState, call_of, now_of}
-use Rattle.mk_words.specs.Steps.{Makes}
-use Rattle.mk_words.specs.TurnSteps.{IsFresh, turn_stays}
-use Rattle.mk_turns.specs.Doing.{Does}
-use Rattle.mk_cycle.specs.EngineLaw.{is_pending_free_at}
-use Rattle.mk_cycle.specs.TurnKeeps.{InTurn}
-use Rattle.mk_cycle.proofs.KeptInParts.{same_config}
-use Rattle.mk_objects.specs.Placing.{IsOutOfStop}
-use Rattle.mk_objects.specs.Retired.{DecidesFree, IsDueSince}
-use Rattle.mk_objects.specs.Retiring.{is_freeing}
-use Rattle.mk_objects.proofs.JoinedLooks.{does_wider}
-use Rattle.mk_waiting.specs.Taking.{TakesTurn}
-use Rattle.mk_alloc.specs.DueCycles.{RunsIfDue}
-use Rattle.mk_alloc.specs.TurnCycles.{FreeIsExact, FreesFirst, IsDueIn, finishes, is_of_cycle, within_turn}
-use Rattle.mk_alloc.specs.Underway.{TurnGoesOn}
+use Rattle.mk_alloc.proofs.Vocabulary.{Answer, Bool, Config, DecidesFree, Does, Event, FreeIsExact, FreesFirst, Has}
+use Rattle.mk_alloc.proofs.Vocabulary.{Holding, InTurn, IsDue, IsDueIn, IsDueSince, IsFresh, IsHistory, IsOutOfStop}
+use Rattle.mk_alloc.proofs.Vocabulary.{List, Makes, Op, PassState, Placing, RunsIfDue, Some, Stage, Step, TakesTurn}
+use Rattle.mk_alloc.proofs.Vocabulary.{TalliesAreTidy, TurnGoesOn, TurnOf, [], ap, append-nil, append_assoc, at_rest}
+use Rattle.mk_alloc.proofs.Vocabulary.{call_of, cases_Bool, does_wider, false, finishes, has_place, inl, inr, is_begin}
+use Rattle.mk_alloc.proofs.Vocabulary.{is_end, is_freeing, is_of_cycle, is_pending_free_at, none_is_held, now_of}
+use Rattle.mk_alloc.proofs.Vocabulary.{phase_of, refl, same_config, subst, sym, true, turn_stays, within_turn, ℕ}
+use Rattle.mk_alloc.proofs.Vocabulary.{⊎_elim, ◌++◌, ◌∙◌, ◌∷◌, ◌≡◌}
 use Rattle.mk_alloc.proofs.CalledTurns.{phase_taken, taken_same, turn_of, within_is}
 use Rattle.mk_alloc.proofs.CycleParts.{begins_held, finishes_held}
 use Rattle.mk_alloc.proofs.DueParts.{RunIn, at_behind, ends_before, run_in}
@@ -48,6 +18,9 @@ use Rattle.mk_alloc.proofs.Parts.{others_lack, part_lacks, seen_behind, seen_the
 use Rattle.mk_alloc.proofs.QuietTurns.{same_phase}
 use Rattle.mk_alloc.proofs.StepKinds.{AreApart}
 use Rattle.mk_alloc.proofs.Stretches.{AreOfTurn}
+use Rattle.mk_never.specs.declared.operations.Op.TheVariants as op
+use Rattle.mk_core.specs.declared.events.Step.TheVariants as step
+use Rattle.mk_core.specs.declared.seats.Stage.TheVariants as stage
 
 pub same_rest : (xs ys zs : List Event) → xs ++ ys ≡ xs ++ zs → ys ≡ zs
 same_rest [] ys zs h = h

@@ -1,36 +1,19 @@
 -- Calls sweep nothing, and turns whose engine doesn't.
-use Rattle.std.proofs.Common.{◌≡◌, ⊎_elim, true, false, List, [], ◌∷◌, map, refl, sym, ◌∙◌, ap, subst}
-use Rattle.std.specs.Prelude.{Bool, ◌&&◌, not, Some}
-use Rattle.std.specs.List.{list_all}
-use Rattle.std.proofs.lemmas.Bool.{and_from, not-true}
-use Rattle.mk_never.specs.declared.operations.Op.{Op}
-use Rattle.mk_core.specs.declared.events.Answer.{Answer}
-use Rattle.mk_core.specs.declared.events.Step.{Step}
-use Rattle.mk_core.specs.declared.events.Step.TheVariants as step
-use Rattle.mk_core.specs.declared.seats.Stage.{Stage}
-use Rattle.mk_core.specs.declared.seats.Stage.TheVariants as stage
-use Rattle.mk_core.specs.Growing.{Finding}
-use Rattle.mk_words.specs.Seats.{Has}
-use Rattle.mk_words.specs.States.{PassState, now_of, world_of}
-use Rattle.mk_words.specs.Steps.{Makes}
-use Rattle.mk_words.specs.TurnSteps.{Acts}
-use Rattle.mk_caller.specs.Called.{own_steps, stages_made, step_at}
-use Rattle.mk_turns.specs.Doing.{Does, are_of, done_in}
-use Rattle.mk_turns.specs.Sweeping.{HaveNoMark, SweepsNothing, is_mark}
-use Rattle.mk_turns.proofs.Sweeping.{does_sweep, kinds_sweep, only_seen, other_step_sweeps, step_then_sweeps}
-use Rattle.mk_turns.proofs.Sweeping.{sweeps_then}
-use Rattle.mk_waiting.specs.Taking.{TakesTurn}
+use Rattle.mk_alloc.proofs.Vocabulary.{Acts, Answer, Bool, DecidesFree, Does, EndsOlder, Finding, Has, IsAtPhase}
+use Rattle.mk_alloc.proofs.Vocabulary.{IsOutOfStop, List, Looks, Makes, Op, PassState, Some, Stage, Step, SweepsNothing}
+use Rattle.mk_alloc.proofs.Vocabulary.{TakesTurn, [], and_from, ap, are_of, false, is_freeing, is_loading, is_look}
+use Rattle.mk_alloc.proofs.Vocabulary.{list_all, map, not, not-true, now_of, only_seen, own_steps, refl, stages_made}
+use Rattle.mk_alloc.proofs.Vocabulary.{step_at, subst, sweeps_then, sym, true, world_of, ⊎_elim, ◌&&◌, ◌∙◌, ◌∷◌, ◌≡◌}
+use Rattle.mk_turns.proofs.Sweeping.{does_sweep, kinds_sweep, other_step_sweeps, step_then_sweeps}
+use Rattle.mk_turns.specs.Doing.{done_in}
+use Rattle.mk_turns.specs.Sweeping.{HaveNoMark, is_mark}
 use Rattle.mk_waiting.proofs.Unswept.{taking_sweeps}
-use Rattle.mk_objects.specs.Placing.{IsOutOfStop, is_look}
-use Rattle.mk_objects.specs.Retired.{DecidesFree}
-use Rattle.mk_objects.specs.Retiring.{is_freeing, is_loading}
 use Rattle.mk_objects.proofs.UnsweptNews.{look_is_no_mark}
-use Rattle.mk_cycle.specs.EngineLaw.{IsAtPhase}
-use Rattle.mk_alloc.specs.DueCycles.{EndsOlder}
-use Rattle.mk_alloc.specs.Laws.{CallsSweepNothing, SweepNothingWhereHeld}
-use Rattle.mk_alloc.specs.Underway.{Looks}
 use Rattle.mk_alloc.proofs.CalledTurns.{taken_same}
 use Rattle.mk_alloc.proofs.Going.{IsCallers}
+use Rattle.mk_alloc.specs.Laws.{CallsSweepNothing, SweepNothingWhereHeld}
+use Rattle.mk_core.specs.declared.events.Step.TheVariants as step
+use Rattle.mk_core.specs.declared.seats.Stage.TheVariants as stage
 
 -- A call with `enter` and `leave` marks nothing.
 

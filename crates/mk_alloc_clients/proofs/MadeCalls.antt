@@ -1,32 +1,23 @@
 -- The New of a number, from its turn's parts.
-use Rattle.mk_never.specs.declared.types.Kind.TheVariants.{Num as Number}
-use Rattle.std.proofs.Common.{◌≡◌, ℕ, ◌<◌, Bool, false, [], ◌∷◌, refl, sym, subst}
-use Rattle.std.specs.Prelude.{Some}
-use Rattle.mk_never.specs.declared.operations.Op.{Op}
-use Rattle.mk_never.specs.declared.operations.Op.TheVariants as op
-use Rattle.mk_never.specs.Types.{kinds_of}
-use Rattle.mk_core.specs.declared.events.Answer.TheVariants as answer
-use Rattle.mk_core.specs.declared.events.Step.TheVariants as step
-use Rattle.mk_core.specs.Calls.{at_rest}
-use Rattle.mk_core.specs.Counts.{TalliesAreExact, TalliesAreTidy}
-use Rattle.mk_core.specs.History.{IsHistory}
-use Rattle.mk_words.specs.Seats.{CallersAreBeforeOver, Has}
-use Rattle.mk_words.specs.States.{PassState, call_of}
-use Rattle.mk_words.specs.Steps.{Finds, IsEnabledTo, Makes}
-use Rattle.mk_words.specs.TurnSteps.{IsFresh}
-use Rattle.mk_caller.specs.States.{IsIdleCaller, caller_of_pass}
-use Rattle.mk_cycle.specs.TurnKeeps.{InTurn}
-use Rattle.mk_objects.specs.Placing.{IsPlaced}
-use Rattle.mk_alloc.specs.TurnCalls.{CalledInTurn}
-use Rattle.mk_alloc.specs.Underway.{BeginsTurn, TurnGoesOn}
+use Rattle.mk_laws.proofs.Vocabulary.{Bool, IsHistory, Number, Op, Some, TalliesAreTidy, [], at_rest, false, kinds_of}
+use Rattle.mk_laws.proofs.Vocabulary.{refl, subst, sym, ℕ, ◌<◌, ◌∷◌, ◌≡◌}
+use Rattle.mk_alloc.proofs.Vocabulary.{BeginsTurn, CalledInTurn, Has, InTurn, IsEnabledTo, IsFresh, IsPlaced, Makes}
+use Rattle.mk_alloc.proofs.Vocabulary.{PassState, TurnGoesOn, call_of, caller_of_pass}
+use Rattle.mk_core.specs.Counts.{TalliesAreExact}
+use Rattle.mk_words.specs.Seats.{CallersAreBeforeOver}
+use Rattle.mk_words.specs.Steps.{Finds}
+use Rattle.mk_caller.specs.States.{IsIdleCaller}
 use Rattle.mk_alloc.proofs.NewTurns.{begun_quiet, begun_unplaced, new_called, operands_of}
 use Rattle.mk_alloc.proofs.OneCycles.{none_runs_one, placed_begins_none}
 use Rattle.mk_alloc.proofs.PlacedTurns.{placed_on}
 use Rattle.mk_alloc.proofs.SeekingTurns.{seeks_placed}
 use Rattle.mk_alloc.proofs.TakenTurns.{callers, take_allowed, taken_phase}
-use Rattle.mk_alloc_clients.specs.Owned.{HasNumber}
 use Rattle.mk_alloc_clients.proofs.MadeNumbers.{taken_at_once, type_exists}
 use Rattle.mk_alloc_clients.proofs.OwnedCalls.{granted}
+use Rattle.mk_alloc_clients.specs.Owned.{HasNumber}
+use Rattle.mk_never.specs.declared.operations.Op.TheVariants as op
+use Rattle.mk_core.specs.declared.events.Answer.TheVariants as answer
+use Rattle.mk_core.specs.declared.events.Step.TheVariants as step
 
 module _ (p : PassState) (d ty : ℕ) (idle : IsIdleCaller p) (exists : caller_of_pass p < p.table.config.callers)
     (lt : d < 8)

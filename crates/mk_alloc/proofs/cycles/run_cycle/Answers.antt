@@ -1,5 +1,5 @@
-use Rattle.mk_turns.proofs.Sweeping.{sweeps_then}
-use Rattle.mk_cycle.proofs.Begun.{begun_then, finish_begins_none, has_on}
+use Rattle.mk_alloc.proofs.Vocabulary.{begun_then, finish_begins_none, sweeps_then}
+use Rattle.mk_cycle.proofs.Begun.{has_on}
 use Rattle.mk_alloc.proofs.BegunTurns.{older_begun}
 use Rattle.mk_alloc.proofs.UnsweptTurns.{older_same}
 use Rattle.mk_alloc.proofs.cycles.run_cycle.Goals as goal

@@ -1,25 +1,16 @@
-use Rattle.std.proofs.Common.{◌≡◌, sym, ◌∙◌, ap, refl, subst}
-use Rattle.std.specs.Prelude.{Some}
-use Rattle.mk_never.specs.declared.operations.Op.TheVariants as op
-use Rattle.mk_core.specs.declared.events.Answer.TheVariants as answer
-use Rattle.mk_words.specs.States.{PassState}
-use Rattle.mk_caller.specs.States.{CallerState}
-use Rattle.mk_cycle.proofs.Allowed.{in_turn}
-use Rattle.mk_waiting.specs.Taking.{TakesTurn}
-use Rattle.mk_alloc.specs.TurnCalls.{FreesObject, IsAnsweredDouble}
-use Rattle.mk_alloc.specs.Underway.{TurnGoesOn}
+use Rattle.mk_alloc.proofs.Vocabulary.{CallerState, EachIsBegun, FreesObject, InTurn, IsAnsweredDouble, PassState, Some}
+use Rattle.mk_alloc.proofs.Vocabulary.{SweepsNothing, TakesTurn, TurnGoesOn, ap, in_turn, only_seen, refl, subst, sym}
+use Rattle.mk_alloc.proofs.Vocabulary.{◌∙◌, ◌≡◌}
+use Rattle.mk_alloc.proofs.BegunTurns.{freeing_then_begun, loading_begun, turn_begun}
 use Rattle.mk_alloc.proofs.CalledTurns.{taken_same}
 use Rattle.mk_alloc.proofs.FreedTurns.{freed_on, frees_object, is_answered_double, unloaded}
 use Rattle.mk_alloc.proofs.TakenTurns.{callers}
-use Rattle.mk_turns.specs.Sweeping.{SweepsNothing}
-use Rattle.mk_turns.proofs.Sweeping.{only_seen}
-use Rattle.mk_cycle.specs.Begun.{EachIsBegun}
-use Rattle.mk_alloc.proofs.BegunTurns.{freeing_then_begun, loading_begun, turn_begun}
 use Rattle.mk_alloc.proofs.UnsweptTurns.{freeing_then_sweeps, loading_sweeps, turn_sweeps}
-use Rattle.mk_cycle.specs.TurnKeeps.{InTurn}
+use Rattle.mk_alloc.proofs.freeing.free_object.Goals.{After-is_in_order, After-is_in_order-in-Err}
+use Rattle.mk_alloc.proofs.freeing.free_object.Goals.{After-is_in_order-in-Ok-2}
+use Rattle.mk_never.specs.declared.operations.Op.TheVariants as op
+use Rattle.mk_core.specs.declared.events.Answer.TheVariants as answer
 use Rattle.mk_alloc.proofs.freeing.free_object.Goals as goal
-use Rattle.mk_alloc.proofs.freeing.free_object.Goals.{After-is_in_order, After-is_in_order-in-Ok-2}
-use Rattle.mk_alloc.proofs.freeing.free_object.Goals.{After-is_in_order-in-Err}
 
 -- the turn of the call, as it was taken
 takes : (g : _) (c : After-is_in_order g)

@@ -1,26 +1,16 @@
-use Rattle.std.proofs.Common.{false, sym, ◌∙◌, subst}
-use Rattle.std.specs.Prelude.{Some}
-use Rattle.mk_never.specs.declared.operations.Op.TheVariants as op
-use Rattle.mk_core.specs.declared.events.Answer.TheVariants as answer
-use Rattle.mk_words.specs.States.{PassState}
-use Rattle.mk_caller.specs.States.{CallerState}
-use Rattle.mk_cycle.proofs.Allowed.{in_turn}
-use Rattle.mk_waiting.specs.Taking.{TakesTurn}
-use Rattle.mk_alloc.specs.TurnCalls.{CalledInTurn, IsAnsweredFull}
+use Rattle.mk_alloc.proofs.Vocabulary.{CalledInTurn, CallerState, EachIsBegun, IsAnsweredFull, PassState, Some}
+use Rattle.mk_alloc.proofs.Vocabulary.{SweepsNothing, TakesTurn, begun_then, does_then, false, in_turn, only_seen}
+use Rattle.mk_alloc.proofs.Vocabulary.{subst, sym, turn_stays, ◌∙◌}
+use Rattle.mk_alloc.proofs.BegunTurns.{none_begun, turn_begun}
 use Rattle.mk_alloc.proofs.NewTurns.{census_told, is_answered_full, new_called}
 use Rattle.mk_alloc.proofs.OneCycles.{none_runs_one, none_then_one}
 use Rattle.mk_alloc.proofs.SeekingTurns.{misfits_then, seeks_then}
 use Rattle.mk_alloc.proofs.TakenTurns.{callers}
-use Rattle.mk_words.specs.TurnSteps.{turn_stays}
-use Rattle.mk_turns.specs.Sweeping.{SweepsNothing}
-use Rattle.mk_turns.proofs.Doing.{does_then}
-use Rattle.mk_turns.proofs.Sweeping.{only_seen}
-use Rattle.mk_cycle.specs.Begun.{EachIsBegun}
-use Rattle.mk_cycle.proofs.Begun.{begun_then}
-use Rattle.mk_alloc.proofs.BegunTurns.{none_begun, turn_begun}
 use Rattle.mk_alloc.proofs.UnsweptTurns.{part_then_sweeps, turn_sweeps}
-use Rattle.mk_alloc.proofs.making.new_object.Goals as goal
 use Rattle.mk_alloc.proofs.making.new_object.Goals.{After-is_in_order}
+use Rattle.mk_never.specs.declared.operations.Op.TheVariants as op
+use Rattle.mk_core.specs.declared.events.Answer.TheVariants as answer
+use Rattle.mk_alloc.proofs.making.new_object.Goals as goal
 
 -- the turn of the call, as it was taken
 takes : (g : _) (c : After-is_in_order g)

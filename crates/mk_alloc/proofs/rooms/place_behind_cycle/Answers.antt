@@ -1,17 +1,10 @@
-use Rattle.std.proofs.Common.{◌∙◌, ap}
-use Rattle.std.specs.Prelude.{Some}
-use Rattle.mk_core.specs.declared.events.Answer.TheVariants as answer
-use Rattle.mk_words.specs.States.{PassState}
-use Rattle.mk_cycle.specs.TurnKeeps.{Done}
-use Rattle.mk_cycle.proofs.Allowed.{in_turn}
-use Rattle.mk_cycle.proofs.Begun.{begun_then}
+use Rattle.mk_alloc.proofs.Vocabulary.{Done, PassState, Some, ap, begun_then, cycle_ended, in_turn, sweeps_then, ◌∙◌}
 use Rattle.mk_alloc.proofs.BegunTurns.{none_begun}
 use Rattle.mk_alloc.proofs.OneCycles.{begin_then_ends, ends_none}
 use Rattle.mk_alloc.proofs.QuietTurns.{quiet_begun}
 use Rattle.mk_alloc.proofs.SeekingTurns.{misfits_then, nowhere_begun, seeks_begun, seeks_then}
-use Rattle.mk_turns.proofs.Sweeping.{sweeps_then}
+use Rattle.mk_core.specs.declared.events.Answer.TheVariants as answer
 use Rattle.mk_alloc.proofs.rooms.place_behind_cycle.Goals as goal
-use Rattle.mk_core.specs.Effects.{cycle_ended}
 
 pub finish_and_place-requires-clause-quiet : goal.finish_and_place-requires-clause-quiet
 finish_and_place-requires-clause-quiet g c κs within =

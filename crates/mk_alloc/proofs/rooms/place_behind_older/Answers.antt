@@ -1,12 +1,9 @@
-use Rattle.std.proofs.Common.{◌∙◌, sym}
-use Rattle.std.specs.Prelude.{Some}
-use Rattle.mk_core.specs.declared.events.Answer.TheVariants as answer
-use Rattle.mk_words.specs.States.{PassState}
-use Rattle.mk_cycle.proofs.Allowed.{in_turn}
+use Rattle.mk_alloc.proofs.Vocabulary.{PassState, Some, in_turn, sym, ◌∙◌}
 use Rattle.mk_alloc.proofs.OneCycles.{ends_none, look_begins_none, none_then_none}
 use Rattle.mk_alloc.proofs.QuietTurns.{quiet_looked}
-use Rattle.mk_alloc.proofs.SeekingTurns.{misfits_seen, misfits_then, phase_seen, seen_at, seeks_then}
+use Rattle.mk_alloc.proofs.SeekingTurns.{misfits_seen, misfits_then, phase_seen, seeks_then, seen_at}
 use Rattle.mk_alloc.proofs.UnsweptTurns.{looking_sweeps, looking_then_sweeps}
+use Rattle.mk_core.specs.declared.events.Answer.TheVariants as answer
 use Rattle.mk_alloc.proofs.rooms.place_behind_older.Goals as goal
 
 pub returns-then-not-is_cycle_on-clause-misfits : goal.returns-then-not-is_cycle_on-clause-misfits

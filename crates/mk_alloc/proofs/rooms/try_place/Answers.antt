@@ -1,6 +1,4 @@
-use Rattle.std.proofs.Common.{inl, inr}
-use Rattle.std.proofs.lemmas.Bool.{cases_Bool}
-use Rattle.mk_cycle.proofs.Allowed.{in_turn}
+use Rattle.mk_alloc.proofs.Vocabulary.{cases_Bool, in_turn, inl, inr}
 use Rattle.mk_alloc.proofs.OneCycles.{nowhere_begins_none, placed_begins_none}
 use Rattle.mk_alloc.proofs.SeekingTurns.{misfits_here, seeks_placed}
 use Rattle.mk_alloc.proofs.rooms.try_place.Goals as goal

@@ -1,4 +1,4 @@
-use Rattle.mk_words.specs.States.{PassState}
+use Rattle.mk_alloc.proofs.Vocabulary.{PassState}
 use Rattle.mk_alloc.proofs.TakenTurns.{callers, take_allowed, taken_phase}
 use Rattle.mk_alloc.proofs.turns.take.Goals as goal
 

@@ -1,21 +1,16 @@
-use Rattle.std.proofs.Common.{true, false, refl, sym, subst}
-use Rattle.std.specs.Prelude.{Bool, Some}
+use Rattle.mk_laws.proofs.Vocabulary.{Bool, Some, false, refl, subst, sym, true}
+use Rattle.mk_alloc.proofs.Vocabulary.{CalledInTurn, CallerState, IsEnabledTo, PassState, TurnGoesOn, in_turn}
+use Rattle.mk_words.specs.Steps.{Finds}
+use Rattle.mk_alloc.proofs.NewTurns.{begun_unplaced}
+use Rattle.mk_alloc.proofs.QuietTurns.{give_allowed}
+use Rattle.mk_alloc_clients.proofs.MadeCalls.{begins, goes_on, made_in_turn, made_owns, may_take}
+use Rattle.mk_alloc_clients.proofs.making.make_number.Goals.{After-is_in_order, After-is_in_order-in-Ok}
+use Rattle.mk_alloc_clients.proofs.making.make_number.Goals.{After-is_in_order-in-Ok-2}
+use Rattle.mk_alloc_clients.specs.Owned.{HasNumber}
 use Rattle.mk_never.specs.declared.operations.Op.TheVariants as op
 use Rattle.mk_core.specs.declared.events.Answer.TheVariants as answer
 use Rattle.mk_core.specs.declared.events.Step.TheVariants as step
-use Rattle.mk_words.specs.States.{PassState}
-use Rattle.mk_words.specs.Steps.{Finds, IsEnabledTo}
-use Rattle.mk_caller.specs.States.{CallerState}
-use Rattle.mk_cycle.proofs.Allowed.{in_turn}
-use Rattle.mk_alloc.specs.TurnCalls.{CalledInTurn}
-use Rattle.mk_alloc.proofs.NewTurns.{begun_unplaced}
-use Rattle.mk_alloc.proofs.QuietTurns.{give_allowed}
-use Rattle.mk_alloc_clients.specs.Owned.{HasNumber}
-use Rattle.mk_alloc_clients.proofs.MadeCalls.{begins, goes_on, made_in_turn, made_owns, may_take}
-use Rattle.mk_alloc.specs.Underway.{TurnGoesOn}
 use Rattle.mk_alloc_clients.proofs.making.make_number.Goals as goal
-use Rattle.mk_alloc_clients.proofs.making.make_number.Goals.{After-is_in_order, After-is_in_order-in-Ok}
-use Rattle.mk_alloc_clients.proofs.making.make_number.Goals.{After-is_in_order-in-Ok-2}
 
 pub try_take-requires-clause-enabled : goal.try_take-requires-clause-enabled
 try_take-requires-clause-enabled c =

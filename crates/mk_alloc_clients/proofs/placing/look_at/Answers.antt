@@ -1,4 +1,4 @@
-use Rattle.mk_words.specs.States.{PassState}
+use Rattle.mk_alloc.proofs.Vocabulary.{PassState}
 use Rattle.mk_objects.proofs.JoinedLooks.{looks_unplaced}
 use Rattle.mk_objects.proofs.Looks.{found_steady}
 use Rattle.mk_objects.proofs.MayAct.{may_look}

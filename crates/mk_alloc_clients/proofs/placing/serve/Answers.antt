@@ -1,19 +1,12 @@
-use Rattle.std.proofs.Common.{◌≡◌, ◌+◌, sym, ◌∙◌, ap, subst, arith}
-use Rattle.mk_geom.specs.declared.pages.Page.{Page}
-use Rattle.mk_core.specs.declared.events.Step.TheVariants as step
-use Rattle.mk_core.specs.declared.seats.Object.{Object}
-use Rattle.mk_core.specs.ObjectHeaders.{words_made}
-use Rattle.mk_core.specs.Words.{used_at}
-use Rattle.mk_core.proofs.Sizes.{words_within}
-use Rattle.mk_words.specs.States.{PassState, now_of}
-use Rattle.mk_words.specs.Steps.{IsEnabledTo}
-use Rattle.mk_objects.specs.Placing.{object_for}
-use Rattle.mk_core.specs.Bits.{has_bit}
+use Rattle.mk_laws.proofs.Vocabulary.{Object, Page, ap, arith, has_bit, subst, sym, used_at, words_made, words_within}
+use Rattle.mk_laws.proofs.Vocabulary.{◌+◌, ◌∙◌, ◌≡◌}
+use Rattle.mk_alloc.proofs.Vocabulary.{IsEnabledTo, PassState, now_of, object_for}
 use Rattle.mk_objects.proofs.Serves.{KnowsPlace, knows_place, place_unused}
 use Rattle.mk_objects.proofs.Takes.{HasGranted, HasTaken, counted, counted_held, few_held, grant_admits, grant_may}
 use Rattle.mk_objects.proofs.Takes.{grant_on, one_bit_more, small_index, tally_may, tally_on, used_may, used_on}
-use Rattle.mk_alloc_clients.proofs.placing.serve.Goals as goal
 use Rattle.mk_alloc_clients.proofs.placing.serve.Goals.{After-is_in_order, After-is_in_order-3, After-is_in_order-4}
+use Rattle.mk_core.specs.declared.events.Step.TheVariants as step
+use Rattle.mk_alloc_clients.proofs.placing.serve.Goals as goal
 
 -- what is known of the place
 knows : (c : After-is_in_order) → KnowsPlace c.args.turn.now.pass c.args.place
