@@ -1,22 +1,18 @@
 -- What the engine does after each `begin` of a call under the turn.
 use Rattle.mk_alloc.proofs.Vocabulary.{Answer, BeginsNone, Config, DecidesFree, EachIsBegun, EndsOlder, Event, Has}
-use Rattle.mk_alloc.proofs.Vocabulary.{IsAtPhase, IsOutOfStop, List, Looks, Makes, Op, PassState, Seat, Some, TakesTurn}
-use Rattle.mk_alloc.proofs.Vocabulary.{begun_then, finish_begins_none, is_begin, is_freeing, is_loading, is_look}
-use Rattle.mk_alloc.proofs.Vocabulary.{is_take, now_of, only_seen, refl, subst, sym, ⊎_elim, ◌≡◌}
+use Rattle.mk_alloc.proofs.Vocabulary.{IsAtPhase, IsOutOfStop, List, Looks, Op, PassState, Seat, Some, begun_then}
+use Rattle.mk_alloc.proofs.Vocabulary.{finish_begins_none, is_begin, is_freeing, is_loading, is_look, is_take, now_of}
+use Rattle.mk_alloc.proofs.Vocabulary.{only_seen, own_before, refl, subst, sym, ⊎_elim}
 use Rattle.mk_cycle.proofs.Begun.{HaveNoBegin, does_begin_none, step_begins_none}
 use Rattle.mk_waiting.proofs.TakesAlone.{taking_does}
-use Rattle.mk_alloc.proofs.CalledTurns.{taken_same}
-use Rattle.mk_alloc.proofs.Going.{IsCallers}
+use Rattle.mk_alloc.proofs.CalledTurns.{GivenBack, taken_is}
+use Rattle.mk_alloc.proofs.Going.{looks_begin_none}
 use Rattle.mk_alloc.proofs.ListParts.{none_at}
 use Rattle.mk_core.specs.declared.events.Step.TheVariants as step
 
 taking_begins_none : HaveNoBegin is_take
 taking_begins_none step.Begin h = cc
 taking_begins_none _ h = refl
-
-looking_begins_none : HaveNoBegin is_look
-looking_begins_none step.Begin h = cc
-looking_begins_none _ h = refl
 
 freeing_begins_none : HaveNoBegin is_freeing
 freeing_begins_none step.Begin h = cc
@@ -36,7 +32,7 @@ module _ (begins : Config → Seat → List Event → List Event → Type 0) whe
       }
 
   pub looking_begun : (p q : PassState) → Looks p q → EachIsBegun begins p q
-  looking_begun p q looks = does_begin_none begins is_look p q looking_begins_none looks.does
+  looking_begun p q looks = does_begin_none begins is_look p q looks_begin_none looks.does
 
   -- where an older cycle was ended
   pub older_begun : (p q : PassState) → Has p.seats p.seat → IsOutOfStop (now_of p) → EndsOlder p q
@@ -66,12 +62,10 @@ module _ (begins : Config → Seat → List Event → List Event → Type 0) whe
   loading_begun a p q d = does_begin_none begins is_loading p q loading_begins_none d.does
 
   -- A turn from the wait for it to its `give`.
-  pub turn_begun : (p taken done q : PassState) (o : Op) → IsCallers p → Has p.seats p.seat
-      → TakesTurn p (Some o) taken
-      → EachIsBegun begins taken done → done ≡ record taken { seen = done.seen } → Has done.seats done.seat
-      → Makes done step.Give q
-      → EachIsBegun begins p q
-  turn_begun p taken done q o seat own takes inside same own_done gives =
-      begun_then begins p taken q (taken_same p taken o seat own takes)
-      (does_begin_none begins is_take p taken taking_begins_none (taking_does p (Some o) taken own takes))
-      (begun_then begins taken done q same inside (step_begins_none begins done q step.Give own_done gives refl))
+  pub turn_begun : {o : Op} {a : Answer} {p taken done q : PassState} → GivenBack o a p taken done q
+      → EachIsBegun begins taken done → EachIsBegun begins p q
+  turn_begun {o} {a} {p} {taken} {done} {q} g inside =
+      begun_then begins p taken q (taken_is g.took)
+      (does_begin_none begins is_take p taken taking_begins_none (taking_does p (Some o) taken g.took.own g.took.takes))
+      (begun_then begins taken done q (only_seen taken done g.on.does.more g.on.does.is) inside
+      (step_begins_none begins done q step.Give (own_before g.gives) g.gives refl))

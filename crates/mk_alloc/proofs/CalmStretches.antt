@@ -11,7 +11,7 @@ use Rattle.mk_core.proofs.ChangedAllocations.{fresh_storage}
 use Rattle.mk_laws.proofs.Protocols.{protocol_of}
 use Rattle.mk_cycle.proofs.Calm.{calm_still}
 use Rattle.mk_cycle.proofs.OwnSteps.{flight_behind, undecided}
-use Rattle.mk_alloc.proofs.Stretches.{AreOfTurn, Here, SomeKinds, Stretch, along, call_in}
+use Rattle.mk_alloc.proofs.Stretches.{AreOfTurn, Here, SomeKinds, Stretch, Within, along, call_in}
 use Rattle.mk_core.specs.declared.events.Step.TheVariants as step
 
 -- the steps of cycles, and those that leave the unreleased storage

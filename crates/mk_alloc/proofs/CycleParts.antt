@@ -1,15 +1,14 @@
 -- The events of a cycle's parts: where its `begin` stands, and where it is closed, released and ended.
 use Rattle.mk_alloc.proofs.Vocabulary.{BeginsCycle, Does, Event, FinishesCycle, Has, InTurn, IsHistory, List, PassState}
-use Rattle.mk_alloc.proofs.Vocabulary.{Step, [], ap, append_assoc, begins_marking, clears, closes_marks, does_then}
-use Rattle.mk_alloc.proofs.Vocabulary.{does_wider, event_of, finishes, holds_gates, is_begin, is_close, is_end}
-use Rattle.mk_alloc.proofs.Vocabulary.{is_giving_back, is_release, is_want, refl, sets_tallies, sym, true, ◌++◌, ◌∙◌}
-use Rattle.mk_alloc.proofs.Vocabulary.{◌∷◌, ◌≡◌}
-use Rattle.mk_alloc.proofs.CalmStretches.{cycles_in_turn, is_of_cycles}
-use Rattle.mk_alloc.proofs.ListParts.{Lacks, lacks_append}
-use Rattle.mk_alloc.proofs.Parts.{has_then, history_before, in_turn_then, made_as, others_lack, part_lacks, seen_behind}
-use Rattle.mk_alloc.proofs.Parts.{seen_made, seen_then}
+use Rattle.mk_alloc.proofs.Vocabulary.{[], ap, append_assoc, begins_marking, clears, closes_marks, does_step, does_then}
+use Rattle.mk_alloc.proofs.Vocabulary.{does_wider, event_of, false, finishes, holds_gates, is_begin, is_close, is_end}
+use Rattle.mk_alloc.proofs.Vocabulary.{is_giving_back, is_release, is_want, pass_before, refl, sets_tallies, sym, true}
+use Rattle.mk_alloc.proofs.Vocabulary.{◌++◌, ◌∙◌, ◌∷◌, ◌≡◌}
+use Rattle.mk_alloc.proofs.CalmStretches.{is_of_cycles, of_turn}
+use Rattle.mk_alloc.proofs.ListParts.{Lacks, lacks_in_parts}
+use Rattle.mk_alloc.proofs.Parts.{Part, behind_part, nothing_part, part_lacks, seen_behind, seen_then, step_behind}
 use Rattle.mk_alloc.proofs.StepKinds.{AreApart, IsHolders}
-use Rattle.mk_alloc.proofs.Stretches.{AreOfTurn, SomeKinds}
+use Rattle.mk_alloc.proofs.Stretches.{SomeKinds, Within}
 use Rattle.mk_core.specs.declared.events.Step.TheVariants as step
 
 -- The kinds of the parts are of cycles. Up to a `close` nothing is released, and after it no room is asked for.

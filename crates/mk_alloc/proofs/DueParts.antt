@@ -1,17 +1,16 @@
 -- The events of the cycle that a due Free begins, after one that was on.
-use Rattle.mk_alloc.proofs.Vocabulary.{At, Bool, EndsOlder, Event, FinishesCycle, Has, InTurn, IsAtPhase, IsHistory}
-use Rattle.mk_alloc.proofs.Vocabulary.{IsQuiet, List, None, PassState, Step, TurnGoesOn, [], ap, append_assoc, arith}
+use Rattle.mk_alloc.proofs.Vocabulary.{At, Bool, EndsOlder, Event, FinishesCycle, InTurn, IsAtPhase, IsHistory, IsQuiet}
+use Rattle.mk_alloc.proofs.Vocabulary.{List, None, PassState, Step, TurnGoesOn, [], ap, append-nil, append_assoc, arith}
 use Rattle.mk_alloc.proofs.Vocabulary.{cases_Bool, false, finishes, has_step, inl, inr, is_begin, is_close, is_end}
 use Rattle.mk_alloc.proofs.Vocabulary.{is_look, or_from, or_parts, refl, subst, sym, true, true≢false, turn_stays, ◌++◌}
 use Rattle.mk_alloc.proofs.Vocabulary.{◌∙◌, ◌∷◌, ◌≡◌, ◌⊎◌}
 use Rattle.mk_alloc.proofs.CalmStretches.{cycles_in_turn, is_of_cycles}
-use Rattle.mk_alloc.proofs.CycleParts.{BeginIn, EndsIn, begin_does, begin_in, begins_held, finish_does, finish_in}
-use Rattle.mk_alloc.proofs.Going.{IsCallers, begun_on, callers_then, finished_on, looked_on, on_then}
+use Rattle.mk_alloc.proofs.CycleParts.{BeginIn, EndsIn, begin_done, begin_in, begins_held, finish_done, finish_in}
+use Rattle.mk_alloc.proofs.Going.{IsCallers, begun_on, callers_then, finished_on, look_part, looked_on}
+use Rattle.mk_alloc.proofs.Going.{looks_begin_none, on_then}
 use Rattle.mk_alloc.proofs.ListParts.{Lacks, SomeKind, lacks_append}
-use Rattle.mk_alloc.proofs.Parts.{has_then, history_before, in_turn_then, part_lacks, seen_behind, seen_then}
+use Rattle.mk_alloc.proofs.Parts.{behind_part, history_before, in_turn_then, part_lacks, seen_behind, seen_then}
 use Rattle.mk_alloc.proofs.QuietTurns.{quiet_looked}
-use Rattle.mk_alloc.proofs.StepKinds.{AreApart}
-use Rattle.mk_alloc.proofs.Stretches.{AreOfTurn}
 use Rattle.mk_alloc.specs.DueCycles.{RunsCycle}
 use Rattle.mk_core.specs.declared.events.Step.TheVariants as step
 

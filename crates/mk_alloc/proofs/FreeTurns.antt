@@ -9,6 +9,7 @@ use Rattle.mk_alloc.proofs.CycleParts.{EndsIn}
 use Rattle.mk_alloc.proofs.DueParts.{end_at}
 use Rattle.mk_alloc.proofs.ListParts.{IsAt, Lacks, SomeKind, cycle_in, lacks_at, none_at, only_at}
 use Rattle.mk_alloc.proofs.StepKinds.{AreApart, IsHolders}
+use Rattle.mk_alloc.proofs.Stretches.{Within}
 use Rattle.mk_alloc.specs.TurnCycles.{CycleIsOn}
 use Rattle.mk_core.specs.declared.events.Step.TheVariants as step
 
@@ -26,23 +27,14 @@ loading_no_quar _ h = refl
 
 pub cycles_held : IsHolders is_of_cycle
 cycles_held step.Begin h = cc
-cycles_held step.Want h = cc
-cycles_held step.Close h = cc
-cycles_held step.Release h = cc
-cycles_held step.End h = cc
-cycles_held _ h = refl
+cycles_held _ h = cc
 
 pub freeing_no_cycle : AreApart is_freeing is_of_cycle
 freeing_no_cycle step.Begin h = cc
-freeing_no_cycle step.Want h = cc
-freeing_no_cycle step.Close h = cc
-freeing_no_cycle step.Release h = cc
-freeing_no_cycle step.End h = cc
-freeing_no_cycle _ h = refl
+freeing_no_cycle _ h = cc
 
-pub loading_frees : (x : Step) → is_loading x ≡ true → is_freeing x ≡ true
-loading_frees (step.Look w) h = refl
-loading_frees step.Reg h = refl
+pub loading_frees : Within is_loading is_freeing
+loading_frees step.Begin h = cc
 loading_frees _ h = cc
 
 -- Only a `quar` frees.

@@ -3,15 +3,15 @@ use Rattle.mk_laws.proofs.Basics.{WorldBehind, exists_placed, stands_of, unmappe
 use Rattle.mk_laws.proofs.Vocabulary.{Named, Store, Tally, Words, accessed, changed_at, get_or-set_other, holder_may}
 use Rattle.mk_laws.proofs.Vocabulary.{is_mapped, kinds_of, length-map, no_longer_fresh, placed_at, tally_word}
 use Rattle.mk_laws.proofs.Vocabulary.{with_released}
-use Rattle.mk_alloc.proofs.Vocabulary.{Bool, Cell, Config, Does, Event, Flight, Has, InTurn, IsHistory, List, Makes}
-use Rattle.mk_alloc.proofs.Vocabulary.{Moment, Op, Option, OwnLeaveAllButReleased, PassState, PlacedAllocation, Seat}
-use Rattle.mk_alloc.proofs.Vocabulary.{Step, TakesTurn, World, [], allocations_by, and_parts, ap, append-nil}
-use Rattle.mk_alloc.proofs.Vocabulary.{append_assoc, call_of, comes_last, event_of, false, flight_of}
-use Rattle.mk_alloc.proofs.Vocabulary.{freed_where_it_stands, frees_none, is_pending_free, is_same_seat, is_take, left}
-use Rattle.mk_alloc.proofs.Vocabulary.{left_in_parts, length, list_all, map, never_behind, none_freed, not, not-true}
-use Rattle.mk_alloc.proofs.Vocabulary.{only_seen, refl, same_seat, slice_index, stands, subst, sym, told_to_images}
-use Rattle.mk_alloc.proofs.Vocabulary.{true, true≢false, waits_for, world_behind, world_of, ℕ, ◌++◌, ◌+◌, ◌<◌, ◌||◌}
-use Rattle.mk_alloc.proofs.Vocabulary.{◌∙◌, ◌∷◌, ◌≡◌, ◌≢◌}
+use Rattle.mk_alloc.proofs.Vocabulary.{Bool, Cell, Config, Event, Flight, Has, IsHistory, List, Makes, Moment, Op}
+use Rattle.mk_alloc.proofs.Vocabulary.{Option, OwnLeaveAllButReleased, PassState, PlacedAllocation, Seat, Some, Step}
+use Rattle.mk_alloc.proofs.Vocabulary.{TakesTurn, World, [], allocations_by, and_parts, ap, append-nil, append_assoc}
+use Rattle.mk_alloc.proofs.Vocabulary.{call_of, comes_last, event_of, false, flight_of, freed_where_it_stands}
+use Rattle.mk_alloc.proofs.Vocabulary.{frees_none, is_pending_free, is_same_seat, is_take, left, left_in_parts, length}
+use Rattle.mk_alloc.proofs.Vocabulary.{list_all, map, never_behind, none_freed, not, not-true, only_seen, own_before}
+use Rattle.mk_alloc.proofs.Vocabulary.{refl, same_seat, slice_index, stands, subst, sym, told_to_images, true}
+use Rattle.mk_alloc.proofs.Vocabulary.{true≢false, waits_for, world_behind, world_of, ℕ, ◌++◌, ◌+◌, ◌<◌, ◌||◌, ◌∙◌, ◌∷◌}
+use Rattle.mk_alloc.proofs.Vocabulary.{◌≡◌, ◌≢◌}
 use Rattle.mk_core.specs.Growing.{AreOfOthers}
 use Rattle.mk_core.specs.History.{left_from}
 use Rattle.mk_core.specs.TurnConditions.{may_wipe}
@@ -22,6 +22,7 @@ use Rattle.mk_waiting.proofs.TakesAlone.{own_take}
 use Rattle.mk_alloc.proofs.CalmStretches.{cycles_in_turn, is_of_cycles, longer, other_undecided, own_undecided}
 use Rattle.mk_alloc.proofs.FreeTurns.{is_quar}
 use Rattle.mk_alloc.proofs.Going.{IsCallers}
+use Rattle.mk_alloc.proofs.Parts.{Part, seen_after, seen_by}
 use Rattle.mk_alloc.proofs.Stretches.{Here, Stretch, along, call_in, does_stretch}
 use Rattle.mk_alloc.specs.Leaving.{KeepsItsWords, LeavesAllButReleased, OwnLeaveFrom, StaysOrIsReleased}
 use Rattle.mk_core.specs.declared.events.Step.TheVariants as step
@@ -226,23 +227,22 @@ leaves_then p q r same one two =
           (subst (λ (x : PassState). OwnLeaveFrom x.table.config x.seat (world_of q) two.more) same two.each));
     }
 
-pub made_leaves : (p q : PassState) (x : Step) → Makes p x q → Has p.seats p.seat → IsHistory q.table.config q.seen
-    → is_of_full x ≡ true → is_quar x ≡ false → OwnLeaveAllButReleased p q
-made_leaves p q x m has history kind other =
+pub made_leaves : {p q : PassState} {x : Step} → Makes p x q → is_of_full x ≡ true → is_quar x ≡ false
+    → OwnLeaveAllButReleased p q
+made_leaves {p} {q} {x} m kind other =
     let c : Config = p.table.config in
     record {
       more = m.others ++ event_of p x ∷ [];
-      is = ap (λ (y : PassState). y.seen) m.is ∙ append_assoc p.seen m.others (event_of p x ∷ []);
+      is = seen_after m;
       each = last_own c p.seat p.seen m.others (event_of p x)
-          (others_own c p.seat p.seats (world_of p) m.others has m.of_others)
-          (step_leaves c (p.seen ++ m.others) p.seat x
-          (subst (λ (y : PassState). IsHistory y.table.config y.seen) m.is history) kind
+          (others_own c p.seat p.seats (world_of p) m.others (own_before m) m.of_others)
+          (step_leaves c (p.seen ++ m.others) p.seat x (made p x q m).whole kind
           (λ quar. absurd (true≢false (sym quar ∙ other))));
     }
 
-pub taking_leaves : (p q : PassState) (o : Option Op) → Has p.seats p.seat → TakesTurn p o q
-    → IsHistory q.table.config q.seen → OwnLeaveAllButReleased p q
-taking_leaves p q o has t history =
+pub taking_leaves : {p q : PassState} {o : Op} → Has p.seats p.seat → TakesTurn p (Some o) q
+    → OwnLeaveAllButReleased p q
+taking_leaves {p} {q} has t =
     let w = t.waits in
     leaves_then p t.waited q (only_seen p t.waited w.more w.is)
     (record {
@@ -250,8 +250,7 @@ taking_leaves p q o has t history =
       is = ap (λ (x : PassState). x.seen) w.is;
       each = waits_own p (world_of p) w.more has w.only;
     })
-    (made_leaves t.waited q (step.Take o) t.takes.makes (subst (λ (x : PassState). Has x.seats x.seat) (sym w.is) has)
-    history refl refl)
+    (made_leaves t.takes.makes refl refl)
 
 -- a part of such steps as cycles are made of
 pub record Left (p : PassState) (es done : List Event) : Type 0 where

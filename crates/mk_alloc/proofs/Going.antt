@@ -1,14 +1,15 @@
 -- Parts of a turn in which it goes on: the parts of cycles decide nothing, and what goes on in two parts goes on.
 use Rattle.mk_alloc.proofs.Vocabulary.{Answer, BeginsCycle, Bool, Caller, Decided, Does, Event, FinishesCycle, Flight}
 use Rattle.mk_alloc.proofs.Vocabulary.{InTurn, IsHistory, IsQuiet, List, Looks, None, Op, Option, PassState, Some, Step}
-use Rattle.mk_alloc.proofs.Vocabulary.{TurnGoesOn, ap, append-nil, call_of, caller_of_pass, does_then, does_wider}
-use Rattle.mk_alloc.proofs.Vocabulary.{entry_of, is_look, own_calls, refl, subst, sym, true, turn_stays, ◌++◌, ◌∙◌, ◌≡◌}
-use Rattle.mk_turns.proofs.Doing.{does_nothing}
-use Rattle.mk_alloc.proofs.CalmStretches.{cycles_in_turn, goes_undecided, is_of_cycles}
-use Rattle.mk_alloc.proofs.CycleParts.{begin_does, finish_does}
-use Rattle.mk_alloc.proofs.Parts.{seen_behind}
+use Rattle.mk_alloc.proofs.Vocabulary.{TurnGoesOn, ap, append-nil, call_of, caller_of_pass, does_nothing, does_then}
+use Rattle.mk_alloc.proofs.Vocabulary.{does_wider, entry_of, is_begin, is_look, own_calls, refl, subst, sym, turn_stays}
+use Rattle.mk_alloc.proofs.Vocabulary.{◌++◌, ◌∙◌, ◌≡◌}
+use Rattle.mk_alloc.proofs.CalmStretches.{cycles_in_turn, goes_undecided, is_of_cycles, of_turn}
+use Rattle.mk_alloc.proofs.CycleParts.{begin_done, finish_done}
+use Rattle.mk_alloc.proofs.Parts.{Part, seen_behind}
 use Rattle.mk_alloc.proofs.QuietTurns.{quiet_begun, quiet_finished, quiet_looked}
-use Rattle.mk_alloc.proofs.Stretches.{does_stretch}
+use Rattle.mk_alloc.proofs.StepKinds.{AreApart}
+use Rattle.mk_alloc.proofs.Stretches.{Within, does_stretch}
 use Rattle.mk_core.specs.declared.events.Step.TheVariants as step
 
 -- the pass of a caller

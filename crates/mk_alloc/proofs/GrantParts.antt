@@ -1,11 +1,12 @@
 -- Parts of a New's turn: what was granted in them, and what is let go after that.
-use Rattle.mk_alloc.proofs.Vocabulary.{At, Event, GrantsNone, List, PassState, [], ap, append_assoc, has_step, is_grant}
-use Rattle.mk_alloc.proofs.Vocabulary.{is_look, is_placing, lets_go, refl, subst, sym, ⊎_elim, ◌++◌, ◌∙◌, ◌∷◌, ◌≡◌}
+use Rattle.mk_alloc.proofs.Vocabulary.{At, Does, Event, GrantsNone, List, PassState, [], ap, append_assoc}
+use Rattle.mk_alloc.proofs.Vocabulary.{append_cancel_left, has_step, is_grant, is_look, is_placing, lets_go, refl}
+use Rattle.mk_alloc.proofs.Vocabulary.{subst, sym, ⊎_elim, ◌++◌, ◌∙◌, ◌∷◌, ◌≡◌}
 use Rattle.mk_alloc.proofs.CalmStretches.{is_of_cycles}
 use Rattle.mk_alloc.proofs.ListParts.{InFirst, InSecond, Lacks, lacks_append, lacks_at, lacks_second, stands}
-use Rattle.mk_alloc.proofs.Parts.{seen_then}
-use Rattle.mk_alloc.proofs.RetiredTurns.{same_rest}
+use Rattle.mk_alloc.proofs.Parts.{Part, part_lacks, seen_by, seen_by_both}
 use Rattle.mk_alloc.proofs.StepKinds.{AreApart, IsHolders}
+use Rattle.mk_alloc.proofs.Stretches.{SomeKinds}
 use Rattle.mk_alloc.specs.Rooms.{GrantsLast}
 use Rattle.mk_core.specs.declared.events.Step.TheVariants as step
 

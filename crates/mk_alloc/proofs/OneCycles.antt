@@ -1,16 +1,17 @@
 -- One cycle at most: in lists, and in parts of a turn.
-use Rattle.mk_alloc.proofs.Vocabulary.{At, BeginsCycle, BeginsNone, Does, Event, FinishesCycle, FitsNowhere, InTurn}
-use Rattle.mk_alloc.proofs.Vocabulary.{IsHistory, IsPlaced, List, Looks, PassState, RunsOne, RunsOneCycle, ap}
-use Rattle.mk_alloc.proofs.Vocabulary.{append_assoc, false, has_step, is_begin, is_end, is_look, is_placing, refl}
-use Rattle.mk_alloc.proofs.Vocabulary.{subst, sym, ⊎_elim, ◌++◌, ◌∙◌, ◌∷◌, ◌≡◌}
+use Rattle.mk_alloc.proofs.Vocabulary.{At, BeginsCycle, BeginsNone, Does, Event, FinishesCycle, InTurn, IsHistory}
+use Rattle.mk_alloc.proofs.Vocabulary.{IsPlaced, List, PassState, RunsOne, RunsOneCycle, ap, append_assoc, false}
+use Rattle.mk_alloc.proofs.Vocabulary.{has_step, is_begin, is_end, is_look, is_placing, refl, subst, sym, ⊎_elim, ◌++◌}
+use Rattle.mk_alloc.proofs.Vocabulary.{◌∙◌, ◌∷◌, ◌≡◌}
 use Rattle.mk_alloc.proofs.CycleParts.{begin_in, begins_held, finish_in}
 use Rattle.mk_alloc.proofs.DueParts.{at_behind, at_first, end_at}
+use Rattle.mk_alloc.proofs.Going.{look_part, looks_begin_none}
 use Rattle.mk_alloc.proofs.GrantParts.{first_behind}
 use Rattle.mk_alloc.proofs.ListParts.{InFirst, InSecond, Lacks, lacks_append, lacks_at, none_at, only_at, stands}
-use Rattle.mk_alloc.proofs.Parts.{part_lacks, seen_behind, seen_then}
-use Rattle.mk_alloc.proofs.PlacedTurns.{look_stays, placing_stays}
+use Rattle.mk_alloc.proofs.Parts.{Part, part_lacks, seen_behind, seen_then}
+use Rattle.mk_alloc.proofs.PlacedTurns.{place_part}
 use Rattle.mk_alloc.proofs.StepKinds.{AreApart}
-use Rattle.mk_alloc.proofs.Stretches.{AreOfTurn, SomeKinds}
+use Rattle.mk_alloc.proofs.Stretches.{SomeKinds}
 use Rattle.mk_alloc.specs.Rooms.{EndsOnly}
 use Rattle.mk_core.specs.declared.events.Step.TheVariants as step
 

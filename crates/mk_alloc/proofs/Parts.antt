@@ -1,7 +1,8 @@
 -- Parts of a turn, one after the other: each pass knows whose turn it is, and what its part lacks.
-use Rattle.mk_alloc.proofs.Vocabulary.{Does, Event, Has, Holds, InTurn, IsHistory, List, Makes, PassState, Step, [], ap}
-use Rattle.mk_alloc.proofs.Vocabulary.{append_assoc, does_nothing, does_step, earlier_part_is_history, event_of, now_of}
-use Rattle.mk_alloc.proofs.Vocabulary.{subst, sym, true, turn_stays, ◌++◌, ◌∙◌, ◌∷◌, ◌≡◌}
+use Rattle.mk_alloc.proofs.Vocabulary.{Acts, Does, Event, Has, Holds, InTurn, IsHistory, List, Makes, PassState, Step}
+use Rattle.mk_alloc.proofs.Vocabulary.{[], ap, append_assoc, does_nothing, does_step, earlier_part_is_history, event_of}
+use Rattle.mk_alloc.proofs.Vocabulary.{now_of, own_before, pass_before, subst, sym, true, turn_stays, ◌++◌, ◌∙◌, ◌∷◌}
+use Rattle.mk_alloc.proofs.Vocabulary.{◌≡◌}
 use Rattle.mk_alloc.proofs.ListParts.{Lacks, SomeKind, lacks_append}
 use Rattle.mk_alloc.proofs.StepKinds.{AreApart, IsHolders, lacks}
 use Rattle.mk_alloc.proofs.Stretches.{AreOfTurn, SomeKinds, does_stretch, holds_behind, no_kinds, others_stretch}
@@ -72,6 +73,10 @@ behind_part {kinds} {p} {q} x = in_turn_then kinds p q x.stays x.turn x.does x.h
 pub behind_step : {p : PassState} {s : Step} {q : PassState} → InTurn p → Makes p s q → turn_stays s ≡ true → InTurn q
 behind_step {p} {s} {q} t m stays =
     in_turn_then turn_stays p q (λ x h. h) t (does_step turn_stays p q s m stays) m.pass.history
+
+-- before a step of the turn's holder
+pub before_act : {p : PassState} {s : Step} {q : PassState} → Acts p s q → InTurn p
+before_act a = record { own = own_before a.makes; holds = a.holds; history = (pass_before a.makes).history }
 
 -- what a part lacks
 

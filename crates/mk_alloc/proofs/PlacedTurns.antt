@@ -2,23 +2,24 @@
 use Rattle.mk_laws.proofs.Basics.{none_on_its_way}
 use Rattle.mk_alloc.proofs.Vocabulary.{Config, CountsAreLeft, Does, Event, Flight, Holding, InTurn, IsHistory, IsPlaced}
 use Rattle.mk_alloc.proofs.Vocabulary.{IsQuiet, IsUnplaced, KeepsGates, LeavesTurn, List, None, OnlyLooks, Option}
-use Rattle.mk_alloc.proofs.Vocabulary.{PassState, PlacedAllocation, Placing, RunPages, Some, Stage, Steady, Step}
-use Rattle.mk_alloc.proofs.Vocabulary.{TurnGoesOn, World, [], ap, arith, call_of, cond, does_wider, fresh_words_of}
-use Rattle.mk_alloc.proofs.Vocabulary.{full_answers, has_place, holds_turn, in_a_word, is_held, is_look}
-use Rattle.mk_alloc.proofs.Vocabulary.{is_pending_free_at, is_placing, is_run_gone, is_undecided_new, known_left, left}
-use Rattle.mk_alloc.proofs.Vocabulary.{looks_left, now_of, refl, releases, same_config, steady_of, subst, sum_by_push}
-use Rattle.mk_alloc.proofs.Vocabulary.{sym, true, turn_stays, unchanged, undecided_new, world_of, ℕ, ◌++◌, ◌+◌, ◌∙◌}
-use Rattle.mk_alloc.proofs.Vocabulary.{◌∷◌, ◌≡◌}
+use Rattle.mk_alloc.proofs.Vocabulary.{PassState, PlacedAllocation, Placing, RunPages, Some, Stage, Steady, TurnGoesOn}
+use Rattle.mk_alloc.proofs.Vocabulary.{World, [], ap, arith, call_of, cond, does_wider, fresh_words_of, full_answers}
+use Rattle.mk_alloc.proofs.Vocabulary.{has_place, holds_turn, in_a_word, is_held, is_look, is_pending_free_at}
+use Rattle.mk_alloc.proofs.Vocabulary.{is_placing, is_run_gone, is_undecided_new, known_left, left, looks_left, now_of}
+use Rattle.mk_alloc.proofs.Vocabulary.{refl, releases, same_config, steady_of, subst, sum_by_push, sym, true}
+use Rattle.mk_alloc.proofs.Vocabulary.{turn_stays, unchanged, undecided_new, world_of, ℕ, ◌++◌, ◌+◌, ◌∙◌, ◌∷◌, ◌≡◌}
 use Rattle.mk_laws.proofs.FreshWords.{fresh_pushed}
 use Rattle.mk_cycle.specs.TurnKeeps.{IsGone}
 use Rattle.mk_objects.proofs.JoinedLooks.{looks_call}
 use Rattle.mk_objects.specs.Placing.{object_at_place}
 use Rattle.mk_objects.specs.Unchanged.{IsAsLeft}
-use Rattle.mk_alloc.proofs.Parts.{seen_behind}
-use Rattle.mk_alloc.proofs.PlacingStretches.{LeavesBeside, leaves_beside}
+use Rattle.mk_alloc.proofs.CalmStretches.{of_turn}
+use Rattle.mk_alloc.proofs.Going.{looks_of}
+use Rattle.mk_alloc.proofs.Parts.{Part, seen_behind}
+use Rattle.mk_alloc.proofs.PlacingStretches.{LeavesBeside, leaves_beside, placing_in_turn}
 use Rattle.mk_alloc.proofs.QuietTurns.{none_held_kept, quiet_kept, same_phase}
 use Rattle.mk_alloc.proofs.RetiredTurns.{given_is_decided}
-use Rattle.mk_alloc.proofs.Stretches.{does_stretch}
+use Rattle.mk_alloc.proofs.Stretches.{Within, does_stretch}
 use Rattle.mk_core.specs.declared.events.Answer.TheVariants as answer
 use Rattle.mk_core.specs.declared.events.Step.TheVariants as step
 use Rattle.mk_core.specs.declared.seats.Stage.TheVariants as stage

@@ -1,22 +1,19 @@
 -- Where a New asks for room: its cycle's begin and its end come while its object has no place.
 use Rattle.std.specs.Prelude.{IsSome}
 use Rattle.mk_alloc.proofs.Vocabulary.{AsksRoom, BeginsCycle, Config, Does, Event, FinishesCycle, HasNoPlace, InTurn}
-use Rattle.mk_alloc.proofs.Vocabulary.{IsHistory, List, None, Object, Option, PassState, Place, Some, Step, Storage, []}
-use Rattle.mk_alloc.proofs.Vocabulary.{ap, append-nil, append_assoc, asks_room, begins_marking, call_of, clears}
-use Rattle.mk_alloc.proofs.Vocabulary.{closes_marks, does_step, does_then, does_wider, event_of, false, holds_gates}
-use Rattle.mk_alloc.proofs.Vocabulary.{is_begin, is_giving_back, is_look, is_pending_free, is_placing, is_want, or_from}
-use Rattle.mk_alloc.proofs.Vocabulary.{place_after, refl, sets_tallies, subst, sym, true, ⊎_elim, ◌++◌, ◌∙◌, ◌∷◌, ◌≡◌}
+use Rattle.mk_alloc.proofs.Vocabulary.{IsHistory, List, None, Object, Option, PassState, Place, Some, Storage, [], ap}
+use Rattle.mk_alloc.proofs.Vocabulary.{append-nil, append_assoc, append_cancel_left, asks_room, begins_marking, call_of}
+use Rattle.mk_alloc.proofs.Vocabulary.{clears, does_step, does_then, does_wider, false, is_begin, is_look}
+use Rattle.mk_alloc.proofs.Vocabulary.{is_pending_free, is_placing, is_want, or_from, place_after, refl, subst, sym}
+use Rattle.mk_alloc.proofs.Vocabulary.{⊎_elim, ◌++◌, ◌∙◌, ◌∷◌, ◌≡◌}
 use Rattle.mk_geom.specs.Storages.{Fits}
-use Rattle.mk_alloc.proofs.CalmStretches.{releases_none, stays_reserved}
-use Rattle.mk_alloc.proofs.CycleParts.{begins_held, gives_of, h_closed, h_closing, h_ended, h_freed, h_released}
-use Rattle.mk_alloc.proofs.CycleParts.{of_turn, t_closed, t_closing, t_ended, t_freed, t_released, tallies_of}
-use Rattle.mk_alloc.proofs.CycleParts.{wants_held}
+use Rattle.mk_alloc.proofs.CalmStretches.{of_cycles, of_turn, releases_none, stays_reserved}
+use Rattle.mk_alloc.proofs.CycleParts.{begins_held, gives_room, part_behind_closing, part_closing, wants_held}
 use Rattle.mk_alloc.proofs.Going.{IsCallers}
-use Rattle.mk_alloc.proofs.ListParts.{InFirst, InSecond, Lacks, lacks_append, lacks_at, stands}
-use Rattle.mk_alloc.proofs.Parts.{has_then, others_lack, part_lacks, seen_behind, seen_made, seen_then}
-use Rattle.mk_alloc.proofs.RetiredTurns.{same_rest}
+use Rattle.mk_alloc.proofs.ListParts.{InFirst, InSecond, lacks_at, stands}
+use Rattle.mk_alloc.proofs.Parts.{Part, part_lacks, seen_behind}
 use Rattle.mk_alloc.proofs.StepKinds.{AreApart, IsHolders}
-use Rattle.mk_alloc.proofs.Stretches.{SomeKinds, Stretch, does_stretch, first_part}
+use Rattle.mk_alloc.proofs.Stretches.{SomeKinds, Stretch, Within, does_stretch, first_part}
 use Rattle.mk_core.specs.declared.events.Step.TheVariants as step
 
 pub rooms_held : IsHolders asks_room

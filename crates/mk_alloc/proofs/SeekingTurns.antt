@@ -1,28 +1,25 @@
 -- A New seeks room: the parts of its turn one after the other.
 use Rattle.mk_laws.proofs.Vocabulary.{eqb-false}
 use Rattle.mk_alloc.proofs.Vocabulary.{Answer, AsksRoom, BeginsCycle, Config, Does, Done, FinishesCycle, FitsNowhere}
-use Rattle.mk_alloc.proofs.Vocabulary.{Flight, GrantsNone, Holding, InTurn, IsAtPhase, IsHistory, IsOutOfStop, IsPlaced}
-use Rattle.mk_alloc.proofs.Vocabulary.{IsQuiet, IsUnplaced, List, Looks, Misfits, None, Object, OnlyLooks, Op, Option}
-use Rattle.mk_alloc.proofs.Vocabulary.{OwnLeaveAllButReleased, PassState, PlacedAllocation, Seeks, Some, Steady}
-use Rattle.mk_alloc.proofs.Vocabulary.{TurnGoesOn, acting_caller, ap, call_of, cycle_ended, does_wider, false, inl, inr}
-use Rattle.mk_alloc.proofs.Vocabulary.{is_grant, is_look, is_placing, is_undecided_new, lets_go, looks_left}
+use Rattle.mk_alloc.proofs.Vocabulary.{Flight, Holding, InTurn, IsAtPhase, IsHistory, IsOutOfStop, IsPlaced, IsQuiet}
+use Rattle.mk_alloc.proofs.Vocabulary.{IsUnplaced, List, Looks, Misfits, None, Object, OnlyLooks, Op, Option, PassState}
+use Rattle.mk_alloc.proofs.Vocabulary.{PlacedAllocation, Seeks, Some, Steady, TurnGoesOn, acting_caller, ap, call_of}
+use Rattle.mk_alloc.proofs.Vocabulary.{cycle_ended, does_wider, false, inl, inr, is_look, is_undecided_new, looks_left}
 use Rattle.mk_alloc.proofs.Vocabulary.{new_is_acting, now_of, object_for, object_made, only_seen, own_seat, phase_of}
-use Rattle.mk_alloc.proofs.Vocabulary.{place_after, place_now_for, refl, subst, turn_stays, world_of, ◌==◌, ◌∙◌, ◌≡◌}
+use Rattle.mk_alloc.proofs.Vocabulary.{place_after, place_now_for, refl, subst, world_of, ◌==◌, ◌∙◌, ◌≡◌}
 use Rattle.mk_core.specs.Allocations.{place_among_allocations}
 use Rattle.mk_objects.proofs.JoinedLooks.{looks_object, looks_unplaced}
 use Rattle.mk_alloc.proofs.CalmStretches.{cycles_in_turn, is_of_cycles}
-use Rattle.mk_alloc.proofs.CycleParts.{begin_does, finish_does}
+use Rattle.mk_alloc.proofs.CycleParts.{begin_done, finish_done}
 use Rattle.mk_alloc.proofs.FullLeaves.{cycles_leave, leaves_then}
-use Rattle.mk_alloc.proofs.Going.{IsCallers, begun_on, finished_on, looked_on, looks_of, on_then}
-use Rattle.mk_alloc.proofs.GrantParts.{calm_last, cycles_no_grant, grants_held, grants_none, last_behind, lets_go_held}
-use Rattle.mk_alloc.proofs.GrantParts.{looks_no_grant, none_last, none_then, places_let_none_go}
-use Rattle.mk_alloc.proofs.Parts.{part_lacks, seen_behind}
-use Rattle.mk_alloc.proofs.PlacedTurns.{look_stays, looked_beside, placed_on, placing_stays}
+use Rattle.mk_alloc.proofs.Going.{IsCallers, begun_on, finished_on, look_part, looked_on, looks_of, on_then}
+use Rattle.mk_alloc.proofs.GrantParts.{calm_last, cycles_no_grant, grants_none, last_behind, none_last, none_then}
+use Rattle.mk_alloc.proofs.GrantParts.{places_let_none_go}
+use Rattle.mk_alloc.proofs.Parts.{Part}
+use Rattle.mk_alloc.proofs.PlacedTurns.{looked_beside, place_part, placed_on}
 use Rattle.mk_alloc.proofs.QuietTurns.{same_phase}
-use Rattle.mk_alloc.proofs.RoomParts.{begin_none, begin_room, finish_room, looks_no_room, no_place, nowhere_then}
-use Rattle.mk_alloc.proofs.RoomParts.{places_no_room, room_lacks, room_then, rooms_held}
-use Rattle.mk_alloc.proofs.StepKinds.{AreApart}
-use Rattle.mk_alloc.proofs.Stretches.{AreOfTurn, SomeKinds}
+use Rattle.mk_alloc.proofs.RoomParts.{finish_room, looks_no_room, no_place, none_behind, nowhere_then, part_begun}
+use Rattle.mk_alloc.proofs.RoomParts.{places_no_room, room_kept, room_lacks, room_then}
 use Rattle.mk_alloc.specs.Rooms.{MisfitsIdly}
 use Rattle.mk_core.specs.declared.events.Answer.TheVariants as answer
 

@@ -9,12 +9,22 @@ use Rattle.mk_laws.proofs.Asked.{give_phase}
 use Rattle.mk_words.proofs.OverPhases.{end_is_behind_over}
 use Rattle.mk_words.specs.Seats.{CallersAreBeforeOver}
 use Rattle.mk_caller.specs.States.{IsIdleCaller}
-use Rattle.mk_alloc.proofs.CalledTurns.{taken_same}
+use Rattle.mk_alloc.proofs.CalledTurns.{Taken, taken_same}
 use Rattle.mk_alloc.proofs.Going.{IsCallers}
 use Rattle.mk_core.specs.declared.events.Step.TheVariants as step
 
 pub callers : (p : PassState) → IsIdleCaller p → IsCallers p
 callers p idle = own_seat p idle.caller idle.seat
+
+-- the turn that an idle caller took, from the pass that it lent
+pub took_by : {home p taken : PassState} {o : Op} → home ≡ p → IsIdleCaller p → Has p.seats p.seat
+    → TakesTurn home (Some o) taken → Taken o p taken
+took_by {p = p} {taken = taken} {o = o} same idle own takes =
+    record {
+      seat = callers p idle;
+      own = own;
+      takes = subst (λ (x : PassState). TakesTurn x (Some o) taken) same takes;
+    }
 
 take_for : (c : Config) (m : Moment) (k : ℕ) (o : Op) → k < c.callers → flight_of m (Caller k) ≡ at_rest
     → is_under_turn o ≡ true

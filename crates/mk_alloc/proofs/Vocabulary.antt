@@ -1,5 +1,6 @@
 -- The words of the crate and of those below it that several proofs name: they import them from here.
 pub use Rattle.std.proofs.Common.{⊎_elim}
+pub use Rattle.std.proofs.lemmas.List.{append_cancel_left}
 pub use Rattle.std.proofs.lemmas.List.Sums.{sum_by_push}
 pub use Rattle.std.specs.List.{list_all}
 pub use Rattle.mk_core.proofs.Conditions.{meets_enabled}
@@ -35,7 +36,7 @@ pub use Rattle.mk_laws.proofs.Vocabulary.{nat_lt, never_behind, none_freed, not,
 pub use Rattle.mk_laws.proofs.Vocabulary.{or_from, or_left, or_parts, phase_of, progress, refl, slice_index, still}
 pub use Rattle.mk_laws.proofs.Vocabulary.{subst, sym, true, true≢false, undecided_new, unreleased_storage, world_behind}
 pub use Rattle.mk_laws.proofs.Vocabulary.{ℕ, ◌&&◌, ◌++◌, ◌+◌, ◌<◌, ◌==◌, ◌||◌, ◌∙◌, ◌∷◌, ◌≡◌, ◌≢◌, ◌⊎◌}
-pub use Rattle.mk_words.proofs.Made.{made}
+pub use Rattle.mk_words.proofs.Made.{made, own_before, pass_before}
 pub use Rattle.mk_words.proofs.Seats.{not_both, only_one, others_one, same_seat, same_self}
 pub use Rattle.mk_words.specs.Seats.{Has}
 pub use Rattle.mk_words.specs.States.{PassState, call_of, event_of, now_of, world_of}
@@ -45,8 +46,8 @@ pub use Rattle.mk_caller.proofs.OneStep.{own_seat}
 pub use Rattle.mk_caller.proofs.OwnSteps.{by_append, calls_by, others_add_none}
 pub use Rattle.mk_caller.specs.Called.{own_calls, own_steps, stages_made, step_at}
 pub use Rattle.mk_caller.specs.States.{CallerState, caller_of_pass}
-pub use Rattle.mk_turns.proofs.Doing.{does_step, does_then}
-pub use Rattle.mk_turns.proofs.Sweeping.{only_seen, sweeps_then}
+pub use Rattle.mk_turns.proofs.Doing.{does_nothing, does_step, does_then}
+pub use Rattle.mk_turns.proofs.Sweeping.{only_seen, only_seen_by, sweeps_then}
 pub use Rattle.mk_turns.specs.Doing.{Does, are_of}
 pub use Rattle.mk_turns.specs.Sweeping.{SweepsNothing}
 pub use Rattle.mk_cycle.proofs.Allowed.{in_turn}
