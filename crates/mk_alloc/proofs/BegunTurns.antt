@@ -52,14 +52,14 @@ module _ (begins : Config → Seat → List Event → List Event → Type 0) whe
 
   -- the parts of a Free that aren't of cycles
 
-  pub freeing_then_begun : (a : Answer) (p q r : PassState) → DecidesFree is_freeing a p q → EachIsBegun begins q r
+  pub freeing_then_begun : {a : Answer} {p q r : PassState} → DecidesFree is_freeing a p q → EachIsBegun begins q r
       → EachIsBegun begins p r
-  freeing_then_begun a p q r d rest =
+  freeing_then_begun {p = p} {q = q} {r = r} d rest =
       begun_then begins p q r (only_seen p q d.does.more d.does.is)
       (does_begin_none begins is_freeing p q freeing_begins_none d.does) rest
 
-  pub loading_begun : (a : Answer) (p q : PassState) → DecidesFree is_loading a p q → EachIsBegun begins p q
-  loading_begun a p q d = does_begin_none begins is_loading p q loading_begins_none d.does
+  pub loading_begun : {a : Answer} {p q : PassState} → DecidesFree is_loading a p q → EachIsBegun begins p q
+  loading_begun {p = p} {q = q} d = does_begin_none begins is_loading p q loading_begins_none d.does
 
   -- A turn from the wait for it to its `give`.
   pub turn_begun : {o : Op} {a : Answer} {p taken done q : PassState} → GivenBack o a p taken done q

@@ -1,4 +1,5 @@
 -- A call under the turn, from its parts: its caller has one entry more, which one event decides.
+use Rattle.mk_alloc.proofs.Vocabulary.{ℕ}
 use Rattle.mk_laws.proofs.Vocabulary.{calls_from}
 use Rattle.mk_alloc.proofs.Vocabulary.{Answer, AreOfOthers, Bool, CalledInTurn, Caller, Config, Decided, Event, Flight}
 use Rattle.mk_alloc.proofs.Vocabulary.{Has, InTurn, IsFresh, IsHistory, KeepsRegisters, List, Makes, Op, PassState}
@@ -6,15 +7,15 @@ use Rattle.mk_alloc.proofs.Vocabulary.{Seat, Some, Step, TakesTurn, TurnGoesOn, 
 use Rattle.mk_alloc.proofs.Vocabulary.{append-nil, append_assoc, append_cancel_left, at_rest, by_append, call_of}
 use Rattle.mk_alloc.proofs.Vocabulary.{caller_of_pass, calls, calls_by, calls_in_parts, entry_of, event_of, false}
 use Rattle.mk_alloc.proofs.Vocabulary.{is_one_of, is_same_seat, is_take, left, list_all, made, never_behind}
-use Rattle.mk_alloc.proofs.Vocabulary.{no_more_calls, not, not-true, not_both, now_of, only_one, only_seen, or_cases}
-use Rattle.mk_alloc.proofs.Vocabulary.{others_add_none, others_one, own_before, own_calls, pass_before, phase_of, refl}
-use Rattle.mk_alloc.proofs.Vocabulary.{subst, sym, true, turn_stays, waits_for, ⊎_elim, ◌&&◌, ◌++◌, ◌∙◌, ◌∷◌, ◌≡◌}
+use Rattle.mk_alloc.proofs.Vocabulary.{no_more_calls, not, not-true, not_both, now_of, only_one, only_seen}
+use Rattle.mk_alloc.proofs.Vocabulary.{only_seen_by, or_cases, others_add_none, others_one, own_before, own_calls}
+use Rattle.mk_alloc.proofs.Vocabulary.{pass_before, phase_of, refl, subst, sym, true, turn_stays, waits_for, ⊎_elim}
+use Rattle.mk_alloc.proofs.Vocabulary.{◌&&◌, ◌++◌, ◌∙◌, ◌∷◌, ◌≡◌}
 use Rattle.mk_words.proofs.Seats.{others_own}
+use Rattle.mk_words.proofs.TurnSteps.{takes as takes_turn}
 use Rattle.mk_words.proofs.Undecided.{decides_nothing}
 use Rattle.mk_words.specs.Steps.{may_decide}
 use Rattle.mk_caller.specs.States.{never_of}
-use Rattle.mk_turns.proofs.Sweeping.{only_seen_by}
-use Rattle.mk_words.proofs.TurnSteps.{takes as takes_turn}
 use Rattle.mk_alloc.proofs.Decisions.{decided_in, registers_stay}
 use Rattle.mk_alloc.proofs.Going.{IsCallers}
 use Rattle.mk_alloc.proofs.ListParts.{Lacks, SomeKind}
@@ -171,12 +172,12 @@ module _ {o : Op} {a : Answer} {p taken done q : PassState} (g : GivenBack o a p
       seen_then p.seen taken.seen q.seen (to_taken g.took) _ (taken_seen g.took)
       (seen_then taken.seen done.seen q.seen g.on.does.more _ (seen_by g.on.does) (seen_after g.gives))
 
-  q_is : q ≡ record p { seen = p.seen ++ more }
+  pub q_is : q ≡ record p { seen = p.seen ++ more }
   q_is =
       only_seen_by done q step.Give g.gives ∙ ap (λ (y : PassState). record y { seen = q.seen }) done_is
       ∙ ap (λ (l : List Event). record p { seen = l }) seen_is
 
-  entry : own_calls p (p.seen ++ more) ≡ own_calls p p.seen ++ entry_of (caller_of_pass p) o (Some a)
+  pub entry : own_calls p (p.seen ++ more) ≡ own_calls p p.seen ++ entry_of (caller_of_pass p) o (Some a)
   entry =
       ap (λ (l : List Event). own_calls p l) (sym seen_is)
       ∙ sym (ap (λ (y : PassState). own_calls y q.seen) done_is)
@@ -190,7 +191,7 @@ module _ {o : Op} {a : Answer} {p taken done q : PassState} (g : GivenBack o a p
       ∙ ap (λ (f : Flight). own_calls p p.seen ++ entry_of (caller_of_pass taken) f.op (Some a)) g.fresh.call
       ∙ ap (λ (y : PassState). own_calls p p.seen ++ entry_of (caller_of_pass y) o (Some a)) (taken_is g.took)
 
-  whole : IsHistory p.table.config (p.seen ++ more)
+  pub whole : IsHistory p.table.config (p.seen ++ more)
   whole = subst (λ (y : PassState). IsHistory y.table.config y.seen) q_is g.gives.pass.history
 
   -- what the turn has seen after its `take`
@@ -202,7 +203,7 @@ module _ {o : Op} {a : Answer} {p taken done q : PassState} (g : GivenBack o a p
       (waited_same g.took)
       ∙ append_assoc took_at (record { seat = p.seat; step = step.Take (Some o) } ∷ []) part
 
-  turn_is : done.seen ++ g.gives.others
+  pub turn_is : done.seen ++ g.gives.others
       ≡ took_at ++ record { seat = p.seat; step = step.Take (Some o) } ∷ in_turn
   turn_is =
       ap (λ (l : List Event). l ++ g.gives.others) (seen_by g.on.does)
@@ -214,12 +215,12 @@ module _ {o : Op} {a : Answer} {p taken done q : PassState} (g : GivenBack o a p
   pub lacks_given : (kind : SomeKind) → IsHolders kind → Lacks kind g.gives.others
   lacks_given kind holders = others_lack kind done q step.Give holders given_turn g.gives g.gives.pass.history
 
-  turn_took : (left p.table.config took_at).now.words.turn ≡ 0
+  pub turn_took : (left p.table.config took_at).now.words.turn ≡ 0
   turn_took =
       sym (ap (λ (y : PassState). (left y.table.config took_at).now.words.turn) (waited_same g.took))
       ∙ sym g.took.takes.takes.finds
 
-  turn_goes_on : GivesNone p.seat in_turn
+  pub turn_goes_on : GivesNone p.seat in_turn
   turn_goes_on =
       gives_append p.seat g.on.does.more g.gives.others
       (subst (λ (y : PassState). GivesNone y.seat g.on.does.more) (taken_is g.took) (doing_gives taken done g.on.does))

@@ -3,12 +3,13 @@ use Rattle.mk_laws.proofs.Vocabulary.{register_at}
 use Rattle.mk_alloc.proofs.Vocabulary.{BeginsTurn, Bool, FreeIsExact, FreesObject, Has, InTurn, IsAnsweredDouble}
 use Rattle.mk_alloc.proofs.Vocabulary.{IsDueIn, IsDueSince, IsFresh, IsHistory, Makes, PassState, RunsIfDue, Some}
 use Rattle.mk_alloc.proofs.Vocabulary.{TakesTurn, TurnGoesOn, Value, ap, append_assoc, append_cancel_left, at_rest}
-use Rattle.mk_alloc.proofs.Vocabulary.{call_of, caller_of_pass, cases_Bool, inl, inr, is_freeing, is_loading, refl}
-use Rattle.mk_alloc.proofs.Vocabulary.{subst, sym, true, ℕ, ◌++◌, ◌<◌, ◌∙◌, ◌∷◌, ◌≡◌}
+use Rattle.mk_alloc.proofs.Vocabulary.{call_of, caller_of_pass, cases_Bool, inl, inr, is_freeing, is_loading}
+use Rattle.mk_alloc.proofs.Vocabulary.{pass_before, refl, subst, sym, true, ℕ, ◌++◌, ◌<◌, ◌∙◌, ◌∷◌, ◌≡◌}
 use Rattle.mk_never.specs.Admitted.{IsBase}
 use Rattle.mk_objects.specs.Retired.{FindsFreed, Retires}
 use Rattle.mk_objects.specs.Retiring.{IsUnloaded}
-use Rattle.mk_alloc.proofs.CalledTurns.{GivenBack, Taken, called, registers_taken, taken_callers, taken_is, turn_of}
+use Rattle.mk_alloc.proofs.CalledTurns.{GivenBack, Taken, called, registers_taken, taken_callers, taken_is, taken_turn}
+use Rattle.mk_alloc.proofs.CalledTurns.{turn_of}
 use Rattle.mk_alloc.proofs.DueParts.{RunIn, run_in}
 use Rattle.mk_alloc.proofs.FreeTurns.{is_quar, loading_frees, loading_no_quar, not_due_without, quars_held}
 use Rattle.mk_alloc.proofs.Going.{IsCallers, callers_then}
@@ -44,90 +45,92 @@ unloaded p taken r seat own takes fresh history lt base =
         (ap (λ (x : PassState). caller_of_pass x) (taken_is took))
         ∙ registers_taken took i less
 
--- The object was freed.
-module _ (flag due : Bool) (p taken decided done q : PassState) (r : ℕ) (seat : IsCallers p) (own : Has p.seats p.seat)
-    (takes : TakesTurn p (Some (op.Free r)) taken) (begins : BeginsTurn (op.Free r) taken) (t : InTurn taken)
-    (retires : Retires taken r due decided) (t_decided : InTurn decided) (run : RunsIfDue flag due decided done)
-    (t_done : InTurn done) where
-  took : Taken (op.Free r) p taken
-  took = record { seat = seat; own = own; takes = takes }
+-- The turn of a Free that retired its object, up to the end of a cycle that is due.
+pub record Frees (flag due : Bool) (r : ℕ) (p taken retired done : PassState) : Type 0 where
+  pub took : Taken (op.Free r) p taken
+  pub begins : BeginsTurn (op.Free r) taken
+  pub retires : Retires taken r due retired
+  pub decided : InTurn retired
+  pub run : RunsIfDue flag due retired done
+  pub history : IsHistory done.table.config done.seen
 
-  seat_decided : IsCallers decided
-  seat_decided = callers_then is_freeing taken decided retires.decides.does (taken_callers took)
+module _ {flag due : Bool} {r : ℕ} {p taken retired done : PassState} (f : Frees flag due r p taken retired done) where
+  seat_decided : IsCallers retired
+  seat_decided = callers_then is_freeing taken retired f.retires.decides.does (taken_callers f.took)
 
-  decides : TurnGoesOn (Some answer.Done) taken decided
-  decides = decided_on taken r begins.fresh begins.phase begins.tidy is_freeing answer.Done decided
-      (λ x h. h) retires.decides
+  decides : TurnGoesOn (Some answer.Done) taken retired
+  decides = decided_on taken r f.begins.fresh f.begins.phase f.begins.tidy is_freeing answer.Done retired
+      (λ x h. h) f.retires.decides
 
-  pub freed_on : TurnGoesOn (Some answer.Done) taken done
-  freed_on = run_or_rest decides t_decided seat_decided run t_done.history
+  pub freed : TurnGoesOn (Some answer.Done) taken done
+  freed = run_or_rest decides f.decided seat_decided f.run f.history
 
-  freeing : Part is_freeing taken decided
-  freeing = record {
-    turn = t;
-    stays = freeing_in_turn;
-    does = retires.decides.does;
-    history = t_decided.history;
-  }
+  freeing : Part is_freeing taken retired
+  freeing =
+      record {
+        turn = taken_turn f.took;
+        stays = freeing_in_turn;
+        does = f.retires.decides.does;
+        history = f.decided.history;
+      }
 
-  runs : due ≡ true → RunIn flag decided done
-  runs is = run_in t_decided seat_decided decides.quiet (run.runs is) t_done.history
+  runs : due ≡ true → RunIn flag retired done
+  runs is = run_in f.decided seat_decided decides.quiet (f.run.runs is) f.history
 
-  module _ (gives : Makes done step.Give q) (rests : call_of q ≡ at_rest)
-      (history : IsHistory q.table.config q.seen) where
-    abbrev given : GivenBack (op.Free r) answer.Done p taken done q
-    given = record { took = took; fresh = begins.fresh; on = freed_on; gives = gives; rests = rests }
+  module _ {q : PassState} (gives : Makes done step.Give q) (rests : call_of q ≡ at_rest) where
+    abbrev pub given : GivenBack (op.Free r) answer.Done p taken done q
+    given = record { took = f.took; fresh = f.begins.fresh; on = freed; gives = gives; rests = rests }
 
     exact : FreeIsExact flag (turn_of given)
     exact = elim (cases_Bool due) [
-      | inl is ↦ runs_exactly given (λ x h. h) freeing retires.decides.phase (runs is) (retires.is_due is)
-      | inr is ↦ rests_exactly given (λ x h. h) freeing flag (run.rests is) (retires.not_due is)
+      | inl is ↦ runs_exactly given (λ x h. h) freeing f.retires.decides.phase (runs is) (f.retires.is_due is)
+      | inr is ↦ rests_exactly given (λ x h. h) freeing flag (f.run.rests is) (f.retires.not_due is)
     ]
 
     told : IsDueIn (turn_of given) → due ≡ true
     told is_due = elim (cases_Bool due) [
       | inl is ↦ is
-      | inr is ↦
-          absurd (retires.not_due is (due_since given (λ x h. h) freeing (run.rests is) is_due))
+      | inr is ↦ absurd (f.retires.not_due is (due_since given (λ x h. h) freeing (f.run.rests is) is_due))
     ]
 
     tells : due ≡ true → IsDueIn (turn_of given)
     tells is =
         let x = runs is in
-        due_in given (λ x h. h) freeing (x.first ++ x.begin ∷ x.second) x.is (retires.is_due is)
+        due_in given (λ x h. h) freeing (x.first ++ x.begin ∷ x.second) x.is (f.retires.is_due is)
 
-    pub frees_object : FreesObject flag p r due q
-    frees_object = record { called = called given flag exact; is_due = (tells, told) }
+    pub freed_object : FreesObject flag p r due q
+    freed_object = record { called = called given flag exact; is_due = (tells, told) }
 
 loads_in_turn : AreOfTurn is_loading
 loads_in_turn step.Begin h = refl
 loads_in_turn _ h = cc
 
--- The object was freed already.
-module _ (flag : Bool) (p taken decided q : PassState) (r : ℕ) (seat : IsCallers p) (own : Has p.seats p.seat)
-    (takes : TakesTurn p (Some (op.Free r)) taken) (begins : BeginsTurn (op.Free r) taken) (t : InTurn taken)
-    (finds : FindsFreed taken r decided) (t_decided : InTurn decided) where
-  pub double_on : TurnGoesOn (Some answer.Double) taken decided
-  double_on =
-      decided_on taken r begins.fresh begins.phase begins.tidy is_loading answer.Double decided loading_frees
-      finds.decides
+-- The turn of one whose object was freed already.
+pub record Refuses (r : ℕ) (p taken done : PassState) : Type 0 where
+  pub took : Taken (op.Free r) p taken
+  pub begins : BeginsTurn (op.Free r) taken
+  pub finds : FindsFreed taken r done
 
-  module _ (gives : Makes decided step.Give q) (rests : call_of q ≡ at_rest)
-      (history : IsHistory q.table.config q.seen) where
-    loading : Part is_loading taken decided
-    loading = record { turn = t; stays = loads_in_turn; does = finds.decides.does; history = t_decided.history }
+module _ {r : ℕ} {p taken done : PassState} (f : Refuses r p taken done) where
+  pub refused : TurnGoesOn (Some answer.Double) taken done
+  refused =
+      decided_on taken r f.begins.fresh f.begins.phase f.begins.tidy is_loading answer.Double done loading_frees
+      f.finds.decides
 
-    abbrev given_double : GivenBack (op.Free r) answer.Double p taken decided q
-    given_double =
+  module _ {q : PassState} (gives : Makes done step.Give q) (rests : call_of q ≡ at_rest) where
+    abbrev pub given_double : GivenBack (op.Free r) answer.Double p taken done q
+    given_double = record { took = f.took; fresh = f.begins.fresh; on = refused; gives = gives; rests = rests }
+
+    loading : Part is_loading taken done
+    loading =
         record {
-          took = record { seat = seat; own = own; takes = takes };
-          fresh = begins.fresh;
-          on = double_on;
-          gives = gives;
-          rests = rests;
+          turn = taken_turn f.took;
+          stays = loads_in_turn;
+          does = f.finds.decides.does;
+          history = (pass_before gives).history;
         }
 
-    not_due : IsDueSince taken decided → ⊥
+    not_due : IsDueSince taken done → ⊥
     not_due due =
         not_due_without taken.table.config (taken.seen ++ due.before) loading.does.more due.before due.event due.behind
         (part_lacks is_quar loading quars_held loading_no_quar)
@@ -135,10 +138,50 @@ module _ (flag : Bool) (p taken decided q : PassState) (r : ℕ) (seat : IsCalle
         (sym (seen_by loading.does) ∙ due.is ∙ append_assoc taken.seen due.before (due.event ∷ due.behind)))
         due.due
 
-    pub is_answered_double : IsAnsweredDouble flag p r q
-    is_answered_double =
+    double_told : (flag : Bool) → IsAnsweredDouble flag p r q
+    double_told flag =
         record {
-          called = called given_double flag
-              (rests_exactly given_double loading_frees loading flag refl not_due);
-          only_looks = finds.decides.does;
+          called = called given_double flag (rests_exactly given_double loading_frees loading flag refl not_due);
+          only_looks = f.finds.decides.does;
         }
+
+pub double_answered : (flag : Bool) {r : ℕ} {p taken done q : PassState} → Refuses r p taken done
+    → Makes done step.Give q → call_of q ≡ at_rest → IsAnsweredDouble flag p r q
+double_answered flag f gives rests = double_told f gives rests flag
+
+-- The same of their parts.
+
+module _ (flag due : Bool) (p taken decided done q : PassState) (r : ℕ) (seat : IsCallers p) (own : Has p.seats p.seat)
+    (takes : TakesTurn p (Some (op.Free r)) taken) (begins : BeginsTurn (op.Free r) taken) (t : InTurn taken)
+    (retires : Retires taken r due decided) (t_decided : InTurn decided) (run : RunsIfDue flag due decided done)
+    (t_done : InTurn done) where
+  frees : Frees flag due r p taken decided done
+  frees =
+      record {
+        took = record { seat = seat; own = own; takes = takes };
+        begins = begins;
+        retires = retires;
+        decided = t_decided;
+        run = run;
+        history = t_done.history;
+      }
+
+  pub freed_on : TurnGoesOn (Some answer.Done) taken done
+  freed_on = freed frees
+
+  pub frees_object : Makes done step.Give q → call_of q ≡ at_rest → IsHistory q.table.config q.seen
+      → FreesObject flag p r due q
+  frees_object gives rests history = freed_object frees gives rests
+
+module _ (flag : Bool) (p taken decided q : PassState) (r : ℕ) (seat : IsCallers p) (own : Has p.seats p.seat)
+    (takes : TakesTurn p (Some (op.Free r)) taken) (begins : BeginsTurn (op.Free r) taken) (t : InTurn taken)
+    (finds : FindsFreed taken r decided) (t_decided : InTurn decided) where
+  refuses : Refuses r p taken decided
+  refuses = record { took = record { seat = seat; own = own; takes = takes }; begins = begins; finds = finds }
+
+  pub double_on : TurnGoesOn (Some answer.Double) taken decided
+  double_on = refused refuses
+
+  pub is_answered_double : Makes decided step.Give q → call_of q ≡ at_rest → IsHistory q.table.config q.seen
+      → IsAnsweredDouble flag p r q
+  is_answered_double gives rests history = double_answered flag refuses gives rests

@@ -1,4 +1,5 @@
 -- Each own event of a call that is answered Full leaves all but what is released.
+use Rattle.mk_alloc.proofs.Vocabulary.{made}
 use Rattle.mk_laws.proofs.Basics.{WorldBehind, exists_placed, stands_of, unmapped_is}
 use Rattle.mk_laws.proofs.Vocabulary.{Named, Store, Tally, Words, accessed, changed_at, get_or-set_other, holder_may}
 use Rattle.mk_laws.proofs.Vocabulary.{is_mapped, kinds_of, length-map, no_longer_fresh, placed_at, tally_word}

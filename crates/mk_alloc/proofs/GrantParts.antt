@@ -83,8 +83,8 @@ grants_none {p = p} x apart all is =
     ap (λ (l : List Event). has_step is_grant l)
     (append_cancel_left p.seen all x.does.more (sym is ∙ seen_by x.does)) ∙ part_lacks is_grant x grants_held apart
 
-pub none_last : {p q : PassState} → GrantsNone p q → GrantsLast p q
-none_last none more is g = absurd (lacks_at is_grant more g.before g.event g.behind (none more is) g.is g.of_kind)
+pub none_last : (p q : PassState) → GrantsNone p q → GrantsLast p q
+none_last p q none more is g = absurd (lacks_at is_grant more g.before g.event g.behind (none more is) g.is g.of_kind)
 
 pub calm_last : {kinds : SomeKinds} {p q : PassState} → Part kinds p q → AreApart kinds lets_go → GrantsLast p q
 calm_last {p = p} x apart all is =

@@ -7,9 +7,9 @@ use Rattle.mk_alloc.proofs.Vocabulary.{Seeks, Some, Steady, Step, TurnOf, World,
 use Rattle.mk_alloc.proofs.Vocabulary.{append_cancel_left, asks_room, at_rest, call_of, event_of, false}
 use Rattle.mk_alloc.proofs.Vocabulary.{gone_is_unmapped, has_operands, has_place, is_begin, is_grant, is_pending_free}
 use Rattle.mk_alloc.proofs.Vocabulary.{is_run_gone, is_undecided_new, is_want, length, lets_go, lt-ltb, made, nat_lt}
-use Rattle.mk_alloc.proofs.Vocabulary.{now_of, object_for, object_made, off_four, only_seen, or_left, pass_before, refl}
-use Rattle.mk_alloc.proofs.Vocabulary.{subst, sym, true, turn_stays, unreleased_storage, within_turn, world_of, ℕ}
-use Rattle.mk_alloc.proofs.Vocabulary.{⊎_elim, ◌&&◌, ◌++◌, ◌<◌, ◌∙◌, ◌∷◌, ◌≡◌}
+use Rattle.mk_alloc.proofs.Vocabulary.{now_of, object_for, object_made, off_four, only_seen, only_seen_by, or_left}
+use Rattle.mk_alloc.proofs.Vocabulary.{pass_before, refl, subst, sym, true, turn_stays, unreleased_storage, within_turn}
+use Rattle.mk_alloc.proofs.Vocabulary.{world_of, ℕ, ⊎_elim, ◌&&◌, ◌++◌, ◌<◌, ◌∙◌, ◌∷◌, ◌≡◌}
 use Rattle.mk_geom.proofs.Bridge.{same_census}
 use Rattle.mk_geom.specs.PageUses.{census_among}
 use Rattle.mk_geom.specs.Storages.{census_of}
@@ -17,7 +17,6 @@ use Rattle.mk_geom.specs.declared.pages.Census.{Census}
 use Rattle.mk_core.specs.Allocations.{census_of_allocations}
 use Rattle.mk_laws.proofs.InvariantTheorems.{pages_show_the_storage}
 use Rattle.mk_laws.proofs.PlacementTheorems.{fulls_fit_nowhere}
-use Rattle.mk_turns.proofs.Sweeping.{only_seen_by}
 use Rattle.mk_alloc.proofs.CalledTurns.{GivenBack, Taken, called, done_is, given_turn, lacks_given, taken_is}
 use Rattle.mk_alloc.proofs.CalledTurns.{taken_turn, turn_of, within_is}
 use Rattle.mk_alloc.proofs.CycleParts.{begins_held}
@@ -109,7 +108,7 @@ module _ {d ty : ℕ} {a : Answer} {p taken done q : PassState} (m : NewGiven d 
       subst (λ (l : List Event). RunsOneCycle l)
       (append_cancel_left taken.seen m.runs.more m.seeks.on.does.more (sym m.runs.is ∙ seen_by m.seeks.on.does)) m.runs.one
 
-  exact : NewIsExact turn o
+  pub exact : NewIsExact turn o
   exact =
       record {
         begins = room_at is_begin (λ x h. or_left (is_begin x) (is_want x) h);

@@ -124,10 +124,12 @@ all_of_steps kinds [] = refl
 all_of_steps kinds (x ∷ xs) = ap (λ (b : Bool). kinds x.event.step && b) (all_of_steps kinds xs)
 
 pub steps_are : (kinds : Step → Bool) → ((s : Stage) → kinds (step_at s) ≡ true) → (p : PassState) (o : Op)
-    (a : Answer) (more : List Event) → own_steps p more ≡ steps_made o a → are_of kinds (done_in p more) ≡ true
-steps_are kinds at p o a more steps =
+    (a : Answer) (more : List Event) → kinds (step.Enter o) ≡ true → own_steps p more ≡ steps_made o a
+    → are_of kinds (done_in p more) ≡ true
+steps_are kinds at p o a more enter steps =
     sym (all_of_steps kinds (done_in p more)) ∙ ap (λ (l : List Step). list_all kinds l) steps
-    ∙ stages_are kinds at (stages_made o a)
+    ∙ and_from (kinds (step.Enter o)) (list_all kinds (map step_at (stages_made o a))) enter
+    (stages_are kinds at (stages_made o a))
 
 -- so it gives nothing back.
 
@@ -144,7 +146,7 @@ pub calls_give : (p : PassState) (o : Op) (a : Answer) (more : List Event) → o
 unfolding no_give
 calls_give p o a more steps =
     kinds_give no_give p.table.config p.seat (world_of p) more (λ x h. not-true (is_give x) h)
-    (steps_are no_give at_no_give p o a more steps)
+    (steps_are no_give at_no_give p o a more refl steps)
 
 -- What is made by one step, which isn't a `give`.
 pub one_gives : (p : PassState) (x : Step) (q : PassState) (m : Makes p x q) → Has p.seats p.seat → is_give x ≡ false

@@ -1,4 +1,5 @@
 -- What keeps a turn quiet, and that a quiet one may look at the phase and, once its call is decided, be given back.
+use Rattle.mk_alloc.proofs.Vocabulary.{ends}
 use Rattle.mk_laws.proofs.Vocabulary.{IsSettled, all_below-at, held_by_pages, is_decided}
 use Rattle.mk_alloc.proofs.Vocabulary.{Acts, BeginsCycle, Config, Done, FinishesCycle, InTurn, IsEnabledTo, IsHistory}
 use Rattle.mk_alloc.proofs.Vocabulary.{IsOutOfStop, IsQuiet, KeepsGates, LeavesTurn, List, Looks, Moment, PassState}

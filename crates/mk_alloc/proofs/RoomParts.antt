@@ -1,4 +1,6 @@
 -- Where a New asks for room: its cycle's begin and its end come while its object has no place.
+use Rattle.mk_alloc.proofs.CycleParts.{closing}
+use Rattle.mk_alloc.proofs.CycleParts.{ends_marking}
 use Rattle.std.specs.Prelude.{IsSome}
 use Rattle.mk_alloc.proofs.Vocabulary.{AsksRoom, BeginsCycle, Config, Does, Event, FinishesCycle, HasNoPlace, InTurn}
 use Rattle.mk_alloc.proofs.Vocabulary.{IsHistory, List, None, Object, Option, PassState, Place, Some, Storage, [], ap}

@@ -73,7 +73,7 @@ undecided {p} {q} u quiet on x room =
       room = room;
       none = λ undecided. none;
       leaves = λ undecided. cycles_leave (new_callers p u) quiet.free.decided x;
-      last = none_last none;
+      last = none_last p q none;
     }
 
 -- where it only looks

@@ -31,7 +31,7 @@ calls_sweep_nothing p o a q called =
       more = called.more;
       is = ap (λ (x : PassState). x.seen) called.is;
       none = kinds_sweep no_mark p.table.config p.seat (world_of p) called.more no_mark_marks
-          (steps_are no_mark at_no_mark p o a called.more called.steps);
+          (steps_are no_mark at_no_mark p o a called.more refl called.steps);
     }
 
 pub sweep_nothing_where_held : SweepNothingWhereHeld
@@ -68,13 +68,13 @@ loading_has_no_mark : HaveNoMark is_loading
 loading_has_no_mark (step.Mark p v) h = cc
 loading_has_no_mark _ h = refl
 
-pub freeing_then_sweeps : (a : Answer) (p q r : PassState) → DecidesFree is_freeing a p q → SweepsNothing q r
+pub freeing_then_sweeps : {a : Answer} {p q r : PassState} → DecidesFree is_freeing a p q → SweepsNothing q r
     → SweepsNothing p r
-freeing_then_sweeps a p q r d rest =
+freeing_then_sweeps {p = p} {q = q} {r = r} d rest =
     part_then_sweeps is_freeing p q r d.does (does_sweep is_freeing p q freeing_has_no_mark d.does) rest
 
-pub loading_sweeps : (a : Answer) (p q : PassState) → DecidesFree is_loading a p q → SweepsNothing p q
-loading_sweeps a p q d = does_sweep is_loading p q loading_has_no_mark d.does
+pub loading_sweeps : {a : Answer} {p q : PassState} → DecidesFree is_loading a p q → SweepsNothing p q
+loading_sweeps {p = p} {q = q} d = does_sweep is_loading p q loading_has_no_mark d.does
 
 -- A turn from the wait for it to its `give`, where its parts sweep nothing.
 pub turn_sweeps : {o : Op} {a : Answer} {p taken done q : PassState} → GivenBack o a p taken done q
