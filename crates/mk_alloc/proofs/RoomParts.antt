@@ -1,4 +1,5 @@
 -- Where a New asks for room: its cycle's begin and its end come while its object has no place.
+use Rattle.mk_alloc.proofs.CycleParts.{gives_room_back}
 use Rattle.mk_alloc.proofs.CycleParts.{closing}
 use Rattle.mk_alloc.proofs.CycleParts.{ends_marking}
 use Rattle.std.specs.Prelude.{IsSome}

@@ -56,7 +56,7 @@ pub fn new_object<E: Engine, R: Threads + Wait + Sync>(
     let op = Op::New { d, ty, full: false };
     let mut turn = take(rt, words, home, op);
     if try_place(words, &mut turn, bench) {
-            caller.back(give(words, turn));
+        caller.back(give(words, turn));
         return Ok(());
     }
     let (mut turn, placed) = make_room(rt, words, turn, bench);
