@@ -1,42 +1,18 @@
 -- What the engine does after each `begin` of a call under the turn.
-use Rattle.std.proofs.Common.{◌≡◌, ⊎_elim, List, refl, sym, subst}
-use Rattle.std.specs.Prelude.{Some}
-use Rattle.mk_never.specs.declared.operations.Op.{Op}
-use Rattle.mk_core.specs.declared.config.Config.{Config}
-use Rattle.mk_core.specs.declared.events.Answer.{Answer}
-use Rattle.mk_core.specs.declared.events.Event.{Event}
-use Rattle.mk_core.specs.declared.events.Seat.{Seat}
-use Rattle.mk_core.specs.declared.events.Step.{Step}
-use Rattle.mk_core.specs.declared.events.Step.TheVariants as step
-use Rattle.mk_core.specs.Cycles.{is_begin}
-use Rattle.mk_words.specs.Seats.{Has}
-use Rattle.mk_words.specs.States.{PassState, now_of}
-use Rattle.mk_words.specs.Steps.{Makes}
-use Rattle.mk_turns.specs.Doing.{Does}
-use Rattle.mk_turns.proofs.Sweeping.{only_seen}
-use Rattle.mk_waiting.specs.Taking.{TakesTurn, is_take}
+use Rattle.mk_alloc.proofs.Vocabulary.{Answer, BeginsNone, Config, DecidesFree, EachIsBegun, EndsOlder, Event, Has}
+use Rattle.mk_alloc.proofs.Vocabulary.{IsAtPhase, IsOutOfStop, List, Looks, Op, PassState, Seat, Some, begun_then}
+use Rattle.mk_alloc.proofs.Vocabulary.{finish_begins_none, is_begin, is_freeing, is_loading, is_look, is_take, now_of}
+use Rattle.mk_alloc.proofs.Vocabulary.{only_seen, own_before, refl, subst, sym, ⊎_elim}
+use Rattle.mk_cycle.proofs.Begun.{HaveNoBegin, does_begin_none, step_begins_none}
 use Rattle.mk_waiting.proofs.TakesAlone.{taking_does}
-use Rattle.mk_objects.specs.Placing.{IsOutOfStop, is_look}
-use Rattle.mk_objects.specs.Retired.{DecidesFree}
-use Rattle.mk_objects.specs.Retiring.{is_freeing, is_loading}
-use Rattle.mk_cycle.specs.Begun.{EachIsBegun}
-use Rattle.mk_cycle.specs.EngineLaw.{IsAtPhase}
-use Rattle.mk_cycle.proofs.Begun.{HaveNoBegin, begun_then, does_begin_none, finish_begins_none}
-use Rattle.mk_cycle.proofs.Begun.{step_begins_none}
-use Rattle.mk_alloc.specs.DueCycles.{EndsOlder}
-use Rattle.mk_alloc.specs.Rooms.{BeginsNone}
-use Rattle.mk_alloc.specs.Underway.{Looks}
-use Rattle.mk_alloc.proofs.CalledTurns.{taken_same}
-use Rattle.mk_alloc.proofs.Going.{IsCallers}
+use Rattle.mk_alloc.proofs.CalledTurns.{GivenBack, taken_is}
+use Rattle.mk_alloc.proofs.Going.{looks_begin_none}
 use Rattle.mk_alloc.proofs.ListParts.{none_at}
+use Rattle.mk_core.specs.declared.events.Step.TheVariants as step
 
 taking_begins_none : HaveNoBegin is_take
 taking_begins_none step.Begin h = cc
 taking_begins_none _ h = refl
-
-looking_begins_none : HaveNoBegin is_look
-looking_begins_none step.Begin h = cc
-looking_begins_none _ h = refl
 
 freeing_begins_none : HaveNoBegin is_freeing
 freeing_begins_none step.Begin h = cc
@@ -56,7 +32,7 @@ module _ (begins : Config → Seat → List Event → List Event → Type 0) whe
       }
 
   pub looking_begun : (p q : PassState) → Looks p q → EachIsBegun begins p q
-  looking_begun p q looks = does_begin_none begins is_look p q looking_begins_none looks.does
+  looking_begun p q looks = does_begin_none begins is_look p q looks_begin_none looks.does
 
   -- where an older cycle was ended
   pub older_begun : (p q : PassState) → Has p.seats p.seat → IsOutOfStop (now_of p) → EndsOlder p q
@@ -76,22 +52,20 @@ module _ (begins : Config → Seat → List Event → List Event → Type 0) whe
 
   -- the parts of a Free that aren't of cycles
 
-  pub freeing_then_begun : (a : Answer) (p q r : PassState) → DecidesFree is_freeing a p q → EachIsBegun begins q r
+  pub freeing_then_begun : {a : Answer} {p q r : PassState} → DecidesFree is_freeing a p q → EachIsBegun begins q r
       → EachIsBegun begins p r
-  freeing_then_begun a p q r d rest =
+  freeing_then_begun {p = p} {q = q} {r = r} d rest =
       begun_then begins p q r (only_seen p q d.does.more d.does.is)
       (does_begin_none begins is_freeing p q freeing_begins_none d.does) rest
 
-  pub loading_begun : (a : Answer) (p q : PassState) → DecidesFree is_loading a p q → EachIsBegun begins p q
-  loading_begun a p q d = does_begin_none begins is_loading p q loading_begins_none d.does
+  pub loading_begun : {a : Answer} {p q : PassState} → DecidesFree is_loading a p q → EachIsBegun begins p q
+  loading_begun {p = p} {q = q} d = does_begin_none begins is_loading p q loading_begins_none d.does
 
   -- A turn from the wait for it to its `give`.
-  pub turn_begun : (p taken done q : PassState) (o : Op) → IsCallers p → Has p.seats p.seat
-      → TakesTurn p (Some o) taken
-      → EachIsBegun begins taken done → done ≡ record taken { seen = done.seen } → Has done.seats done.seat
-      → Makes done step.Give q
-      → EachIsBegun begins p q
-  turn_begun p taken done q o seat own takes inside same own_done gives =
-      begun_then begins p taken q (taken_same p taken o seat own takes)
-      (does_begin_none begins is_take p taken taking_begins_none (taking_does p (Some o) taken own takes))
-      (begun_then begins taken done q same inside (step_begins_none begins done q step.Give own_done gives refl))
+  pub turn_begun : {o : Op} {a : Answer} {p taken done q : PassState} → GivenBack o a p taken done q
+      → EachIsBegun begins taken done → EachIsBegun begins p q
+  turn_begun {o} {a} {p} {taken} {done} {q} g inside =
+      begun_then begins p taken q (taken_is g.took)
+      (does_begin_none begins is_take p taken taking_begins_none (taking_does p (Some o) taken g.took.own g.took.takes))
+      (begun_then begins taken done q (only_seen taken done g.on.does.more g.on.does.is) inside
+      (step_begins_none begins done q step.Give (own_before g.gives) g.gives refl))

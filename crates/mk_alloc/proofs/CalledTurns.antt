@@ -1,45 +1,29 @@
 -- A call under the turn, from its parts: its caller has one entry more, which one event decides.
-use Rattle.std.proofs.Common.{◌≡◌, ⊎_elim, Bool, true, false, List, [], ◌∷◌, ◌++◌, refl, sym, ◌∙◌, ap, subst}
-use Rattle.std.proofs.Common.{append-nil, append_assoc}
-use Rattle.std.specs.Prelude.{Some, not, ◌&&◌}
-use Rattle.std.specs.List.{list_all}
-use Rattle.std.proofs.lemmas.Bool.{and_parts, not-true, or_cases}
-use Rattle.mk_never.specs.declared.operations.Op.{Op}
-use Rattle.mk_never.specs.Laws.{KeepsRegisters}
-use Rattle.mk_core.specs.declared.config.Config.{Config}
-use Rattle.mk_core.specs.declared.events.Answer.{Answer}
-use Rattle.mk_core.specs.declared.events.Event.{Event}
-use Rattle.mk_core.specs.declared.events.Seat.{Seat}
-use Rattle.mk_core.specs.declared.events.Seat.TheVariants.{Caller}
-use Rattle.mk_core.specs.declared.events.Step.{Step}
-use Rattle.mk_core.specs.declared.events.Step.TheVariants as step
-use Rattle.mk_core.specs.declared.seats.Flight.{Flight}
-use Rattle.mk_core.specs.Calls.{at_rest}
-use Rattle.mk_core.specs.Cycles.{TurnOf}
-use Rattle.mk_core.specs.Decided.{Decided, entry_of}
-use Rattle.mk_core.specs.Growing.{AreOfOthers, is_one_of, is_same_seat}
-use Rattle.mk_core.specs.History.{IsHistory, World, calls, calls_from, left, never_behind}
-use Rattle.mk_core.specs.Words.{phase_of}
-use Rattle.mk_core.proofs.HistoryParts.{calls_in_parts}
-use Rattle.mk_words.specs.Seats.{Has}
-use Rattle.mk_words.specs.States.{PassState, call_of, event_of, now_of}
-use Rattle.mk_words.specs.Steps.{Makes, may_decide}
-use Rattle.mk_words.specs.TurnSteps.{IsFresh, turn_stays}
-use Rattle.mk_words.proofs.Seats.{not_both, others_one, others_own, only_one}
-use Rattle.mk_words.proofs.Made.{made}
+use Rattle.mk_alloc.proofs.Vocabulary.{ℕ}
+use Rattle.mk_laws.proofs.Vocabulary.{calls_from}
+use Rattle.mk_alloc.proofs.Vocabulary.{Answer, AreOfOthers, Bool, CalledInTurn, Caller, Config, Decided, Event, Flight}
+use Rattle.mk_alloc.proofs.Vocabulary.{Has, InTurn, IsFresh, IsHistory, KeepsRegisters, List, Makes, Op, PassState}
+use Rattle.mk_alloc.proofs.Vocabulary.{Seat, Some, Step, TakesTurn, TurnGoesOn, TurnOf, World, [], and_parts, ap}
+use Rattle.mk_alloc.proofs.Vocabulary.{append-nil, append_assoc, append_cancel_left, at_rest, by_append, call_of}
+use Rattle.mk_alloc.proofs.Vocabulary.{caller_of_pass, calls, calls_by, calls_in_parts, entry_of, event_of, false}
+use Rattle.mk_alloc.proofs.Vocabulary.{is_one_of, is_same_seat, is_take, left, list_all, made, never_behind}
+use Rattle.mk_alloc.proofs.Vocabulary.{no_more_calls, not, not-true, not_both, now_of, only_one, only_seen}
+use Rattle.mk_alloc.proofs.Vocabulary.{only_seen_by, or_cases, others_add_none, others_one, own_before, own_calls}
+use Rattle.mk_alloc.proofs.Vocabulary.{pass_before, phase_of, refl, subst, sym, true, turn_stays, waits_for, ⊎_elim}
+use Rattle.mk_alloc.proofs.Vocabulary.{◌&&◌, ◌++◌, ◌∙◌, ◌∷◌, ◌≡◌}
+use Rattle.mk_words.proofs.Seats.{others_own}
+use Rattle.mk_words.proofs.TurnSteps.{takes as takes_turn}
 use Rattle.mk_words.proofs.Undecided.{decides_nothing}
-use Rattle.mk_caller.specs.States.{never_of, caller_of_pass}
-use Rattle.mk_caller.specs.Called.{own_calls}
-use Rattle.mk_caller.proofs.OwnSteps.{by_append, calls_by, others_add_none}
-use Rattle.mk_cycle.proofs.OwnSteps.{no_more_calls}
-use Rattle.mk_waiting.specs.Taking.{TakesTurn, is_take, waits_for}
-use Rattle.mk_alloc.specs.TurnCalls.{CalledInTurn}
-use Rattle.mk_alloc.specs.TurnCycles.{CallIsExact}
-use Rattle.mk_alloc.specs.Underway.{TurnGoesOn}
-use Rattle.mk_alloc.proofs.Decisions.{decided_in, registers_stay, same_last}
+use Rattle.mk_words.specs.Steps.{may_decide}
+use Rattle.mk_caller.specs.States.{never_of}
+use Rattle.mk_alloc.proofs.Decisions.{decided_in, registers_stay}
 use Rattle.mk_alloc.proofs.Going.{IsCallers}
+use Rattle.mk_alloc.proofs.ListParts.{Lacks, SomeKind}
 use Rattle.mk_alloc.proofs.OwnGives.{GivesNone, doing_gives, gives_append, others_give}
-use Rattle.mk_alloc.proofs.Parts.{seen_behind, seen_made, seen_then}
+use Rattle.mk_alloc.proofs.Parts.{in_turn_then, others_lack, seen_after, seen_by, seen_then}
+use Rattle.mk_alloc.proofs.StepKinds.{IsHolders}
+use Rattle.mk_alloc.specs.TurnCycles.{CallIsExact}
+use Rattle.mk_core.specs.declared.events.Step.TheVariants as step
 
 -- Waiting and taking the turn add no entry, nor does a `give`.
 
@@ -89,191 +73,193 @@ waits_add p es (e ∷ rest) seat own all =
     (take_idle e.step (and_parts (is_take e.step) (is_same_seat e.seat p.seat) take).0))))
     (or_cases (not (is_one_of p.seats e.seat)) (is_take e.step && is_same_seat e.seat p.seat) parts.0)
 
-module _ (p taken : PassState) (o : Op) (seat : IsCallers p) (own : Has p.seats p.seat)
-    (takes : TakesTurn p (Some o) taken) where
+-- A caller took the turn for its operation.
+pub record Taken (o : Op) (p q : PassState) : Type 0 where
+  pub seat : IsCallers p
+  pub own : Has p.seats p.seat
+  pub takes : TakesTurn p (Some o) q
+
+module _ {o : Op} {p taken : PassState} (x : Taken o p taken) where
   abbrev pub waited : PassState
-  waited = takes.waited
+  waited = x.takes.waited
 
   abbrev pub taking : Makes waited (step.Take (Some o)) taken
-  taking = takes.takes.makes
+  taking = x.takes.takes.makes
 
   waited_same : waited ≡ record p { seen = waited.seen }
-  waited_same = takes.waits.is ∙ ap (λ (l : List Event). record p { seen = l })
-      (sym (ap (λ (x : PassState). x.seen) takes.waits.is))
+  waited_same = only_seen p waited x.takes.waits.more x.takes.waits.is
 
-  pub taken_same : taken ≡ record p { seen = taken.seen }
-  taken_same =
-      taking.is ∙ ap (λ (x : PassState). record x {
-        seen =
-            waited.seen ++ taking.others ++ event_of waited (step.Take (Some o)) ∷ [];
-      })
-      waited_same
-      ∙ ap (λ (l : List Event). record p { seen = l }) (sym (ap (λ (x : PassState). x.seen) taking.is))
+  pub taken_is : taken ≡ record p { seen = taken.seen }
+  taken_is = only_seen_by waited taken (step.Take (Some o)) taking
+      ∙ ap (λ (y : PassState). record y { seen = taken.seen }) waited_same
 
   pub taken_callers : IsCallers taken
-  taken_callers = subst (λ (x : PassState). IsCallers x) (sym taken_same) seat
+  taken_callers = subst (λ (y : PassState). IsCallers y) (sym taken_is) x.seat
 
   pub taken_adds : own_calls p taken.seen ≡ own_calls p p.seen
   taken_adds =
-      sym (ap (λ (x : PassState). own_calls x taken.seen) waited_same)
+      sym (ap (λ (y : PassState). own_calls y taken.seen) waited_same)
       ∙ step_adds_none waited taken (step.Take (Some o)) taking
-      (subst (λ (x : PassState). IsCallers x) (sym waited_same) seat)
-      (subst (λ (x : PassState). Has x.seats x.seat) (sym waited_same) own) refl
-      ∙ ap (λ (x : PassState). own_calls x waited.seen) waited_same
-      ∙ ap (λ (x : PassState). own_calls p x.seen) takes.waits.is
-      ∙ waits_add p p.seen takes.waits.more seat own takes.waits.only
+      (subst (λ (y : PassState). IsCallers y) (sym waited_same) x.seat) (own_before taking) refl
+      ∙ ap (λ (y : PassState). own_calls y waited.seen) waited_same
+      ∙ ap (λ (y : PassState). own_calls p y.seen) x.takes.waits.is
+      ∙ waits_add p p.seen x.takes.waits.more x.seat x.own x.takes.waits.only
 
-  pub taken_seen : taken.seen ≡ p.seen ++ (takes.waits.more
-      ++ (taking.others ++ event_of waited (step.Take (Some o)) ∷ []))
+  -- It has the turn then.
+  pub taken_turn : InTurn taken
+  taken_turn =
+      record {
+        own = taking.pass.own;
+        holds = (takes_turn waited (Some o) 0 taken (record { makes = taking; tells = x.takes.takes.finds }) refl).holds;
+        history = taking.pass.history;
+      }
+
+  abbrev pub to_taken : List Event
+  to_taken = x.takes.waits.more ++ (taking.others ++ event_of waited (step.Take (Some o)) ∷ [])
+
+  pub taken_seen : taken.seen ≡ p.seen ++ to_taken
   taken_seen =
-      seen_then p.seen waited.seen taken.seen takes.waits.more
-      (taking.others ++ event_of waited (step.Take (Some o)) ∷ [])
-      (ap (λ (x : PassState). x.seen) takes.waits.is) (seen_made waited taken (step.Take (Some o)) taking)
+      seen_then p.seen waited.seen taken.seen x.takes.waits.more _ (ap (λ (y : PassState). y.seen) x.takes.waits.is)
+      (seen_after taking)
 
   -- So its registers are as they were.
-  pub registers_taken : IsHistory taken.table.config taken.seen
-      → KeepsRegisters (caller_of_pass p) (never_of p) (never_of taken)
-  registers_taken history =
+  pub registers_taken : KeepsRegisters (caller_of_pass p) (never_of p) (never_of taken)
+  registers_taken =
       let c : Config = p.table.config in
-      let more : List Event = takes.waits.more ++ (taking.others ++ event_of waited (step.Take (Some o)) ∷ []) in
-      let whole : IsHistory c (p.seen ++ more) =
+      let k : ℕ = caller_of_pass p in
+      let whole : IsHistory c (p.seen ++ to_taken) =
       subst (λ (l : List Event). IsHistory c l) taken_seen
-      (subst (λ (x : PassState). IsHistory x.table.config taken.seen) taken_same history) in
-      let none : calls_by (caller_of_pass p) (calls_from c (left c p.seen) more) ≡ [] =
-      same_last (own_calls p p.seen) (calls_by (caller_of_pass p) (calls_from c (left c p.seen) more)) []
-      (sym (by_append (caller_of_pass p) (calls c p.seen) (calls_from c (left c p.seen) more))
-      ∙ ap (λ (l : List Decided). calls_by (caller_of_pass p) l) (sym (calls_in_parts c p.seen more))
+      (subst (λ (y : PassState). IsHistory y.table.config taken.seen) taken_is taking.pass.history) in
+      let none : calls_by k (calls_from c (left c p.seen) to_taken) ≡ [] =
+      append_cancel_left (own_calls p p.seen) (calls_by k (calls_from c (left c p.seen) to_taken)) []
+      (sym (by_append k (calls c p.seen) (calls_from c (left c p.seen) to_taken))
+      ∙ ap (λ (l : List Decided). calls_by k l) (sym (calls_in_parts c p.seen to_taken))
       ∙ ap (λ (l : List Event). own_calls p l) (sym taken_seen) ∙ taken_adds ∙ sym (append-nil (own_calls p p.seen))) in
-      subst (λ (x : PassState). KeepsRegisters (caller_of_pass p) (never_of p) (never_of (record x {
-        seen =
-            taken.seen;
-      })))
-      (sym taken_same)
-      (subst (λ (l : List Event). KeepsRegisters (caller_of_pass p) (never_of p) (never_behind c l)) (sym taken_seen)
-      (registers_stay c p.seen more (caller_of_pass p) whole none))
+      subst (λ (y : PassState). KeepsRegisters k (never_of p) (never_of (record y { seen = taken.seen })))
+      (sym taken_is)
+      (subst (λ (l : List Event). KeepsRegisters k (never_of p) (never_behind c l)) (sym taken_seen)
+      (registers_stay c p.seen to_taken k whole none))
 
-  module _ (done q : PassState) (a : Answer) (fresh : IsFresh taken (Some o)) (on : TurnGoesOn (Some a) taken done)
-      (gives : Makes done step.Give q) (rests : call_of q ≡ at_rest) (history : IsHistory q.table.config q.seen) where
-    done_same : done ≡ record p { seen = done.seen }
-    done_same =
-        on.does.is ∙ ap (λ (x : PassState). record x { seen = taken.seen ++ on.does.more }) taken_same
-        ∙ ap (λ (l : List Event). record p { seen = l }) (sym (ap (λ (x : PassState). x.seen) on.does.is))
+pub taken_same : (p taken : PassState) (o : Op) → IsCallers p → Has p.seats p.seat → TakesTurn p (Some o) taken
+    → taken ≡ record p { seen = taken.seen }
+taken_same p taken o seat own takes = taken_is (record { seat = seat; own = own; takes = takes })
 
-    own_done : Has done.seats done.seat
-    own_done = subst (λ (x : PassState). Has x.seats x.seat) (sym done_same) own
+-- It was answered in its turn, and gave it back.
+pub record GivenBack (o : Op) (a : Answer) (p taken done q : PassState) : Type 0 where
+  pub took : Taken o p taken
+  pub fresh : IsFresh taken (Some o)
+  pub on : TurnGoesOn (Some a) taken done
+  pub gives : Makes done step.Give q
+  pub rests : call_of q ≡ at_rest
 
-    callers_done : IsCallers done
-    callers_done = subst (λ (x : PassState). IsCallers x) (sym done_same) seat
+module _ {o : Op} {a : Answer} {p taken done q : PassState} (g : GivenBack o a p taken done q) where
+  pub done_is : done ≡ record p { seen = done.seen }
+  done_is =
+      only_seen taken done g.on.does.more g.on.does.is
+      ∙ ap (λ (y : PassState). record y { seen = done.seen }) (taken_is g.took)
 
-    abbrev more : List Event
-    more =
-        (takes.waits.more ++ (taking.others ++ event_of waited (step.Take (Some o)) ∷ []))
-        ++ (on.does.more ++ (gives.others ++ event_of done step.Give ∷ []))
+  abbrev pub took_at : List Event
+  took_at = (waited g.took).seen ++ (taking g.took).others
 
-    seen_is : q.seen ≡ p.seen ++ more
-    seen_is =
-        seen_then p.seen taken.seen q.seen (takes.waits.more
-        ++ (taking.others ++ event_of waited (step.Take (Some o)) ∷ []))
-        (on.does.more ++ (gives.others ++ event_of done step.Give ∷ [])) taken_seen
-        (seen_then taken.seen done.seen q.seen on.does.more (gives.others ++ event_of done step.Give ∷ [])
-        (seen_behind turn_stays taken done on.does) (seen_made done q step.Give gives))
+  abbrev pub in_turn : List Event
+  in_turn = g.on.does.more ++ g.gives.others
 
-    pub q_is : q ≡ record p { seen = p.seen ++ more }
-    q_is =
-        gives.is ∙ ap (λ (x : PassState). record x
-        { seen = done.seen ++ gives.others ++ event_of done step.Give ∷ [] }) done_same
-        ∙ ap (λ (l : List Event). record p { seen = l }) (sym (ap (λ (x : PassState). x.seen) gives.is) ∙ seen_is)
+  abbrev more : List Event
+  more = to_taken g.took ++ (g.on.does.more ++ (g.gives.others ++ event_of done step.Give ∷ []))
 
-    pub entry : own_calls p (p.seen ++ more) ≡ own_calls p p.seen ++ entry_of (caller_of_pass p) o (Some a)
-    entry =
-        ap (λ (l : List Event). own_calls p l) (sym seen_is)
-        ∙ sym (ap (λ (x : PassState). own_calls x q.seen) done_same)
-        ∙ step_adds_none done q step.Give gives callers_done own_done refl
-        ∙ ap (λ (x : PassState). own_calls x done.seen)
-        (done_same ∙ sym (ap (λ (x : PassState). record x { seen = done.seen }) taken_same))
-        ∙ on.entry
-        ∙ ap (λ (l : List Decided). l ++ entry_of (caller_of_pass taken) (call_of taken).op (Some a))
-        (ap (λ (x : PassState). own_calls x taken.seen) taken_same ∙ taken_adds)
-        ∙ ap (λ (f : Flight). own_calls p p.seen ++ entry_of (caller_of_pass taken) f.op (Some a)) fresh.call
-        ∙ ap (λ (x : PassState). own_calls p p.seen ++ entry_of (caller_of_pass x) o (Some a)) taken_same
+  seen_is : q.seen ≡ p.seen ++ more
+  seen_is =
+      seen_then p.seen taken.seen q.seen (to_taken g.took) _ (taken_seen g.took)
+      (seen_then taken.seen done.seen q.seen g.on.does.more _ (seen_by g.on.does) (seen_after g.gives))
 
-    pub whole : IsHistory p.table.config (p.seen ++ more)
-    whole = subst (λ (x : PassState). IsHistory x.table.config x.seen) q_is history
+  pub q_is : q ≡ record p { seen = p.seen ++ more }
+  q_is =
+      only_seen_by done q step.Give g.gives ∙ ap (λ (y : PassState). record y { seen = q.seen }) done_is
+      ∙ ap (λ (l : List Event). record p { seen = l }) seen_is
 
-    pub turn_is : done.seen ++ gives.others
-        ≡ (waited.seen ++ taking.others) ++ record
-        { seat = p.seat; step = step.Take (Some o) } ∷ (on.does.more ++ gives.others)
-    turn_is =
-        ap (λ (l : List Event). l ++ gives.others)
-        (seen_behind turn_stays taken done on.does
-        ∙ ap (λ (x : PassState). x.seen ++ on.does.more) taking.is
-        ∙ ap (λ (x : PassState). ((waited.seen ++ taking.others) ++ record
-        { seat = x.seat; step = step.Take (Some o) } ∷ []) ++ on.does.more)
-        waited_same)
-        ∙ append_assoc ((waited.seen ++ taking.others) ++ record { seat = p.seat; step = step.Take (Some o) } ∷ [])
-        on.does.more gives.others
-        ∙ append_assoc (waited.seen ++ taking.others) (record { seat = p.seat; step = step.Take (Some o) } ∷ [])
-        (on.does.more ++ gives.others)
+  pub entry : own_calls p (p.seen ++ more) ≡ own_calls p p.seen ++ entry_of (caller_of_pass p) o (Some a)
+  entry =
+      ap (λ (l : List Event). own_calls p l) (sym seen_is)
+      ∙ sym (ap (λ (y : PassState). own_calls y q.seen) done_is)
+      ∙ step_adds_none done q step.Give g.gives
+      (subst (λ (y : PassState). IsCallers y) (sym done_is) g.took.seat) (own_before g.gives) refl
+      ∙ ap (λ (y : PassState). own_calls y done.seen)
+      (done_is ∙ sym (ap (λ (y : PassState). record y { seen = done.seen }) (taken_is g.took)))
+      ∙ g.on.entry
+      ∙ ap (λ (l : List Decided). l ++ entry_of (caller_of_pass taken) (call_of taken).op (Some a))
+      (ap (λ (y : PassState). own_calls y taken.seen) (taken_is g.took) ∙ taken_adds g.took)
+      ∙ ap (λ (f : Flight). own_calls p p.seen ++ entry_of (caller_of_pass taken) f.op (Some a)) g.fresh.call
+      ∙ ap (λ (y : PassState). own_calls p p.seen ++ entry_of (caller_of_pass y) o (Some a)) (taken_is g.took)
 
-    pub turn_took : (left p.table.config (waited.seen ++ taking.others)).now.words.turn ≡ 0
-    turn_took =
-        sym (ap (λ (x : PassState). (left x.table.config (waited.seen ++ taking.others)).now.words.turn) waited_same)
-        ∙ sym takes.takes.finds
+  pub whole : IsHistory p.table.config (p.seen ++ more)
+  whole = subst (λ (y : PassState). IsHistory y.table.config y.seen) q_is g.gives.pass.history
 
-    pub turn_goes_on : GivesNone p.seat (on.does.more ++ gives.others)
-    turn_goes_on =
-        gives_append p.seat on.does.more gives.others
-        (subst (λ (x : PassState). GivesNone x.seat on.does.more) taken_same (doing_gives taken done on.does))
-        (subst (λ (x : PassState). GivesNone x.seat gives.others) done_same
-        (others_give done.seat done.seats gives.others own_done gives.of_others))
+  -- what the turn has seen after its `take`
+  pub within_is : (part : List Event)
+      → taken.seen ++ part ≡ took_at ++ record { seat = p.seat; step = step.Take (Some o) } ∷ part
+  within_is part =
+      ap (λ (y : PassState). y.seen ++ part) (taking g.took).is
+      ∙ ap (λ (y : PassState). (took_at ++ record { seat = y.seat; step = step.Take (Some o) } ∷ []) ++ part)
+      (waited_same g.took)
+      ∙ append_assoc took_at (record { seat = p.seat; step = step.Take (Some o) } ∷ []) part
 
-    -- what the turn has seen after its `take`
-    pub within_is : (part : List Event)
-        → taken.seen ++ part ≡ (waited.seen ++ taking.others) ++ record
-        { seat = p.seat; step = step.Take (Some o) } ∷ part
-    within_is part =
-        ap (λ (x : PassState). x.seen ++ part) taking.is
-        ∙ ap (λ (x : PassState). ((waited.seen ++ taking.others) ++ record
-        { seat = x.seat; step = step.Take (Some o) } ∷ []) ++ part)
-        waited_same
-        ∙ append_assoc (waited.seen ++ taking.others) (record { seat = p.seat; step = step.Take (Some o) } ∷ []) part
+  pub turn_is : done.seen ++ g.gives.others
+      ≡ took_at ++ record { seat = p.seat; step = step.Take (Some o) } ∷ in_turn
+  turn_is =
+      ap (λ (l : List Event). l ++ g.gives.others) (seen_by g.on.does)
+      ∙ append_assoc taken.seen g.on.does.more g.gives.others ∙ within_is in_turn
 
-    pub own_waited : Has waited.seats waited.seat
-    own_waited = subst (λ (x : PassState). Has x.seats x.seat) (sym waited_same) own
+  pub given_turn : InTurn done
+  given_turn = in_turn_then turn_stays taken done (λ y h. h) (taken_turn g.took) g.on.does (pass_before g.gives).history
 
-    -- Taking it leaves the phase.
-    pub phase_taken : IsHistory taken.table.config taken.seen
-        → phase_of (left p.table.config (waited.seen ++ taking.others)).now.words ≡ phase_of (now_of taken).words
-    phase_taken h =
-        sym (ap (λ (w : World). phase_of w.now.words) (made waited (step.Take (Some o)) taken taking).world
-        ∙ ap (λ (x : PassState). phase_of (left x.table.config (waited.seen ++ taking.others)).now.words) waited_same)
+  pub lacks_given : (kind : SomeKind) → IsHolders kind → Lacks kind g.gives.others
+  lacks_given kind holders = others_lack kind done q step.Give holders given_turn g.gives g.gives.pass.history
 
-    -- the turn after its last event
-    abbrev pub turn_of : TurnOf p.table.config p.seat (done.seen ++ gives.others)
-    turn_of =
-        record {
-          before = waited.seen ++ taking.others;
-          op = Some o;
-          behind = on.does.more ++ gives.others;
-          is = turn_is;
-          took = turn_took;
-          goes_on = turn_goes_on;
-        }
+  pub turn_took : (left p.table.config took_at).now.words.turn ≡ 0
+  turn_took =
+      sym (ap (λ (y : PassState). (left y.table.config took_at).now.words.turn) (waited_same g.took))
+      ∙ sym g.took.takes.takes.finds
 
-    abbrev pub called : (flag : Bool) → CallIsExact flag turn_of (Some o) → CalledInTurn flag p o a q
-    called flag exact =
-        record {
-          taken = taken;
-          done = done;
-          takes = takes;
-          acts = on.does;
-          gives = gives;
-          more = more;
-          is = q_is;
-          entry = entry;
-          decided = decided_in p o a more whole entry;
-          ends = record { turn = turn_of; exact = exact };
-          turn_op = refl;
-          turn_part = refl;
-          rest = rests;
-        }
+  pub turn_goes_on : GivesNone p.seat in_turn
+  turn_goes_on =
+      gives_append p.seat g.on.does.more g.gives.others
+      (subst (λ (y : PassState). GivesNone y.seat g.on.does.more) (taken_is g.took) (doing_gives taken done g.on.does))
+      (subst (λ (y : PassState). GivesNone y.seat g.gives.others) done_is
+      (others_give done.seat done.seats g.gives.others (own_before g.gives) g.gives.of_others))
+
+  -- Taking it leaves the phase.
+  pub phase_taken : phase_of (left p.table.config took_at).now.words ≡ phase_of (now_of taken).words
+  phase_taken =
+      sym (ap (λ (w : World). phase_of w.now.words)
+      (made (waited g.took) (step.Take (Some o)) taken (taking g.took)).world
+      ∙ ap (λ (y : PassState). phase_of (left y.table.config took_at).now.words) (waited_same g.took))
+
+  -- the turn after its last event
+  abbrev pub turn_of : TurnOf p.table.config p.seat (done.seen ++ g.gives.others)
+  turn_of =
+      record {
+        before = took_at;
+        op = Some o;
+        behind = in_turn;
+        is = turn_is;
+        took = turn_took;
+        goes_on = turn_goes_on;
+      }
+
+  abbrev pub called : (flag : Bool) → CallIsExact flag turn_of (Some o) → CalledInTurn flag p o a q
+  called flag exact =
+      record {
+        taken = taken;
+        done = done;
+        takes = g.took.takes;
+        acts = g.on.does;
+        gives = g.gives;
+        more = more;
+        is = q_is;
+        entry = entry;
+        decided = decided_in p o a more whole entry;
+        ends = record { turn = turn_of; exact = exact };
+        turn_op = refl;
+        turn_part = refl;
+        rest = g.rests;
+      }

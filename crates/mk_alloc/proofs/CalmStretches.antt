@@ -1,37 +1,18 @@
 -- Stretches of a turn that isn't for an undecided Free, in which nothing is granted and no New is full: no call of the
 -- holder's is decided, and up to a `release` the unreleased storage stays as it is.
-use Rattle.std.proofs.Common.{◌≡◌, ◌≢◌, ℕ, true, false, List, [], ◌∷◌, ◌++◌, map, refl, sym, ◌∙◌, ap, subst, append-nil}
-use Rattle.std.proofs.Common.{append_assoc}
-use Rattle.std.specs.Prelude.{Option}
-use Rattle.mk_geom.specs.declared.addresses.Cell.{Cell}
-use Rattle.mk_geom.specs.Storages.{Storage}
-use Rattle.mk_core.specs.declared.config.Config.{Config}
-use Rattle.mk_core.specs.declared.events.Event.{Event}
-use Rattle.mk_core.specs.declared.events.Seat.TheVariants.{Caller}
-use Rattle.mk_core.specs.declared.events.Step.{Step}
-use Rattle.mk_core.specs.declared.events.Step.TheVariants as step
-use Rattle.mk_core.specs.declared.seats.Flight.{Flight}
-use Rattle.mk_core.specs.Allocations.{PlacedAllocation, freed_where_it_stands, unreleased_storage, allocations_by}
-use Rattle.mk_core.specs.Calls.{still}
-use Rattle.mk_core.specs.Decided.{Decided}
-use Rattle.mk_core.specs.Effects.{progress}
-use Rattle.mk_core.specs.Frames.{Steady}
-use Rattle.mk_core.specs.Growing.{AreOfOthers}
-use Rattle.mk_core.specs.History.{World, left}
-use Rattle.mk_core.specs.Moments.{Moment, flight_of}
-use Rattle.mk_core.proofs.ChangedAllocations.{fresh_storage, none_freed}
-use Rattle.mk_laws.proofs.ProtocolFrames.{left_after}
+use Rattle.mk_alloc.proofs.Vocabulary.{AreOfOthers, Caller, Cell, Config, Decided, Event, Flight, Has, List, Moment}
+use Rattle.mk_alloc.proofs.Vocabulary.{Option, PassState, PlacedAllocation, Steady, Step, Storage, World, []}
+use Rattle.mk_alloc.proofs.Vocabulary.{allocations_by, ap, append-nil, append_assoc, caller_of_pass, calls_by, event_of}
+use Rattle.mk_alloc.proofs.Vocabulary.{false, flight_of, freed_where_it_stands, frees_none, is_pending_free, left}
+use Rattle.mk_alloc.proofs.Vocabulary.{left_after, map, no_more_calls, none_freed, only_one, others_add_none}
+use Rattle.mk_alloc.proofs.Vocabulary.{others_one, own_calls, progress, refl, still, subst, sym, true}
+use Rattle.mk_alloc.proofs.Vocabulary.{unreleased_storage, ℕ, ◌++◌, ◌∙◌, ◌∷◌, ◌≡◌, ◌≢◌}
+use Rattle.mk_core.proofs.ChangedAllocations.{fresh_storage}
 use Rattle.mk_laws.proofs.Protocols.{protocol_of}
-use Rattle.mk_words.specs.Seats.{Has}
-use Rattle.mk_words.specs.States.{PassState, event_of}
-use Rattle.mk_words.proofs.Seats.{only_one, others_one}
-use Rattle.mk_caller.specs.States.{caller_of_pass}
-use Rattle.mk_caller.specs.Called.{own_calls}
-use Rattle.mk_caller.proofs.OwnSteps.{calls_by, others_add_none}
-use Rattle.mk_cycle.specs.EngineLaw.{is_pending_free}
-use Rattle.mk_cycle.proofs.Calm.{calm_still, frees_none}
-use Rattle.mk_cycle.proofs.OwnSteps.{flight_behind, no_more_calls, undecided}
-use Rattle.mk_alloc.proofs.Stretches.{AreOfTurn, Here, SomeKinds, Stretch, along, call_in}
+use Rattle.mk_cycle.proofs.Calm.{calm_still}
+use Rattle.mk_cycle.proofs.OwnSteps.{flight_behind, undecided}
+use Rattle.mk_alloc.proofs.Stretches.{AreOfTurn, Here, SomeKinds, Stretch, Within, along, call_in}
+use Rattle.mk_core.specs.declared.events.Step.TheVariants as step
 
 -- the steps of cycles, and those that leave the unreleased storage
 
@@ -67,31 +48,18 @@ cycles_in_turn (step.Enter o) h = cc
 cycles_in_turn step.Leave h = cc
 cycles_in_turn x h = refl
 
-pub of_cycles : (x : Step) → releases_none x ≡ true → is_of_cycles x ≡ true
+pub of_turn : {kinds : SomeKinds} → Within kinds is_of_cycles → AreOfTurn kinds
+of_turn within x h = cycles_in_turn x (within x h)
+
+pub of_cycles : Within releases_none is_of_cycles
 of_cycles step.Release h = cc
 of_cycles x h = h
 
 pub cycle_still : (c : Config) (m : Moment) (f : Flight) (n : ℕ) (x : Step) → is_of_cycles x ≡ true → is_pending_free f
     ≡ false
     → progress c m f n x ≡ still f
-cycle_still c m f n (step.Mark p v) h free = refl
-cycle_still c m f n (step.Head p v) h free = refl
-cycle_still c m f n (step.Used p v) h free = refl
-cycle_still c m f n step.Begin h free = refl
-cycle_still c m f n step.End h free = refl
 cycle_still c m f n (step.Look x) h free = calm_still c m f n (step.Look x) refl free
 cycle_still c m f n (step.Quar p v) h free = calm_still c m f n (step.Quar p v) refl free
-cycle_still c m f n (step.Tally t v) h free = refl
-cycle_still c m f n (step.Hold j) h free = refl
-cycle_still c m f n (step.Open j) h free = refl
-cycle_still c m f n (step.Clear p) h free = refl
-cycle_still c m f n (step.Wipe i) h free = refl
-cycle_still c m f n step.Close h free = refl
-cycle_still c m f n step.Release h free = refl
-cycle_still c m f n step.Want h free = refl
-cycle_still c m f n (step.Undirty p) h free = refl
-cycle_still c m f n (step.Black p v) h free = refl
-cycle_still c m f n (step.Unblack p) h free = refl
 cycle_still c m f n _ h free = cc
 
 -- lists one event longer
@@ -138,16 +106,15 @@ module _ (p : PassState) (seat : p.seat ≡ Caller (caller_of_pass p)) (own : Ha
   undecided_then : (es fs gs : List Event) → GoesUndecided p es fs → GoesUndecided p fs gs → GoesUndecided p es gs
   undecided_then es fs gs a b = record { call = b.call ∙ a.call; calls = b.calls ∙ a.calls }
 
-  pub goes_undecided : (kinds : SomeKinds) (es more : List Event)
-      → ((x : Step) → kinds x ≡ true → is_of_cycles x ≡ true)
-      → is_pending_free (call_in p es) ≡ false → Stretch p kinds es more → GoesUndecided p es (es ++ more)
-  goes_undecided kinds es more within free s =
-      along p kinds (λ x h. cycles_in_turn x (within x h)) own es (λ done. GoesUndecided p es (es ++ done))
+  pub goes_undecided : (es more : List Event) → is_pending_free (call_in p es) ≡ false
+      → Stretch p is_of_cycles es more → GoesUndecided p es (es ++ more)
+  goes_undecided es more free s =
+      along p is_of_cycles cycles_in_turn own es (λ done. GoesUndecided p es (es ++ done))
       (record {
         own = λ done x h kind so_far.
             longer (λ l. GoesUndecided p es l) es done (event_of p x)
             (undecided_then es (es ++ done) ((es ++ done) ++ event_of p x ∷ []) so_far
-            (own_undecided (es ++ done) x h (within x kind)
+            (own_undecided (es ++ done) x h kind
             (ap (λ (f : Flight). is_pending_free f) so_far.call ∙ free)));
         other = λ done e h ne so_far.
             longer (λ l. GoesUndecided p es l) es done e
@@ -194,20 +161,18 @@ module _ (p : PassState) (seat : p.seat ≡ Caller (caller_of_pass p)) (own : Ha
       ∙ ap (λ (s : Steady). unreleased_storage c s.allocations)
       ((left_after c (left c es) e.seat p.seat e.step h.known h.meets ne).turn h.holds).steady
 
-  pub stays_reserved : (kinds : SomeKinds) (es more : List Event)
-      → ((x : Step) → kinds x ≡ true → releases_none x ≡ true)
-      → is_pending_free (call_in p es) ≡ false → Stretch p kinds es more → StaysReserved p es (es ++ more)
-  stays_reserved kinds es more within free s =
-      along p kinds (λ x h. cycles_in_turn x (of_cycles x (within x h))) own es
-      (λ done. StaysReserved p es (es ++ done))
+  pub stays_reserved : (es more : List Event) → is_pending_free (call_in p es) ≡ false
+      → Stretch p releases_none es more → StaysReserved p es (es ++ more)
+  stays_reserved es more free s =
+      along p releases_none (of_turn of_cycles) own es (λ done. StaysReserved p es (es ++ done))
       (record {
         own = λ done x h kind so_far.
             let pending = ap (λ (f : Flight). is_pending_free f) so_far.call ∙ free in
             longer (λ l. StaysReserved p es l) es done (event_of p x)
             (record {
-              call = (own_undecided p seat own (es ++ done) x h (of_cycles x (within x kind)) pending).call
+              call = (own_undecided p seat own (es ++ done) x h (of_cycles x kind) pending).call
                   ∙ so_far.call;
-              storage = own_storage (es ++ done) x h (within x kind) pending ∙ so_far.storage;
+              storage = own_storage (es ++ done) x h kind pending ∙ so_far.storage;
             });
         other = λ done e h ne so_far.
             longer (λ l. StaysReserved p es l) es done e

@@ -1,66 +1,39 @@
 -- The three steps of a Full: the tally is looked at, raised, and the New decided.
-use Rattle.std.proofs.Common.{◌≡◌, ℕ, ◌+◌, ◌-◌, ◌^◌, true, false, List, [], ◌∷◌, ◌++◌, refl, sym, ◌∙◌, ap, subst, arith}
-use Rattle.std.specs.Prelude.{Option, Some, None, min, cond}
-use Rattle.std.proofs.lemmas.List.Sums.{sum_by_push}
-use Rattle.mk_core.specs.declared.config.Config.{Config}
-use Rattle.mk_core.specs.declared.events.Answer.{Answer}
-use Rattle.mk_core.specs.declared.events.Answer.TheVariants as answer
-use Rattle.mk_core.specs.declared.events.Event.{Event}
-use Rattle.mk_core.specs.declared.events.Seat.{Seat}
-use Rattle.mk_core.specs.declared.events.Seat.TheVariants.{Caller}
-use Rattle.mk_core.specs.declared.events.Step.{Step}
-use Rattle.mk_core.specs.declared.events.Step.TheVariants as step
-use Rattle.mk_core.specs.declared.events.Tally.TheVariants as tally
-use Rattle.mk_core.specs.declared.events.Word.TheVariants as word
-use Rattle.mk_core.specs.declared.seats.Flight.{Flight}
-use Rattle.mk_core.specs.declared.seats.Holding.{Holding}
-use Rattle.mk_core.specs.declared.seats.OwnCycle.TheVariants.{Ended}
-use Rattle.mk_core.specs.declared.seats.Placing.{Placing}
-use Rattle.mk_core.specs.declared.seats.RunPages.{RunPages}
-use Rattle.mk_core.specs.declared.seats.Stage.TheVariants as stage
-use Rattle.mk_core.specs.Allocations.{PlacedAllocation, fresh_words_of, held_by_allocations}
-use Rattle.mk_core.specs.Counts.{ends, full_answers, in_a_word, releases}
-use Rattle.mk_core.specs.Cycles.{is_begin, is_end}
-use Rattle.mk_core.specs.Decided.{Decided, entry_of}
-use Rattle.mk_core.specs.Effects.{answer_decided}
-use Rattle.mk_core.specs.Frames.{Steady, steady_of}
-use Rattle.mk_core.specs.History.{IsHistory, World, call_decided, calls, first_world, left}
-use Rattle.mk_core.specs.Moments.{Moment}
-use Rattle.mk_core.specs.NewPlaces.{is_run_gone, object_made}
-use Rattle.mk_core.proofs.Histories.{calls_more}
-use Rattle.mk_laws.specs.Protocol.{has_place}
-use Rattle.mk_laws.proofs.OthersCounts.{fulls_append, fulls_of}
-use Rattle.mk_words.specs.States.{PassState, call_of, event_of, now_of, world_of}
+use Rattle.std.specs.Prelude.{min}
+use Rattle.mk_laws.proofs.Vocabulary.{◌-◌, ◌^◌}
+use Rattle.mk_alloc.proofs.Vocabulary.{Acts, Answer, AnswersFull, BeginsNone, Caller, Config, Decided, Does, Done}
+use Rattle.mk_alloc.proofs.Vocabulary.{Ended, Event, Flight, Holding, IsAtPhase, IsQuiet, IsUnplaced, LeavesTurn, List}
+use Rattle.mk_alloc.proofs.Vocabulary.{Moment, None, Option, PassState, Placing, RunPages, Seat, Some, Steady, World}
+use Rattle.mk_alloc.proofs.Vocabulary.{[], answer_decided, ap, arith, asks_room, by_append, call_decided, call_of}
+use Rattle.mk_alloc.proofs.Vocabulary.{caller_of_pass, calls, calls_by, calls_more, calm_keeps, cond, does_step}
+use Rattle.mk_alloc.proofs.Vocabulary.{does_then, does_wider, ends, entry_of, event_of, false, first_world, free_then}
+use Rattle.mk_alloc.proofs.Vocabulary.{full_answers, fulls_append, fulls_of, gates_behind, has_place, in_a_word}
+use Rattle.mk_alloc.proofs.Vocabulary.{is_begin, is_end, is_pending_free_at, is_run_gone, left, lets_go, made, now_of}
+use Rattle.mk_alloc.proofs.Vocabulary.{object_for, object_made, others_add_none, own_before, own_calls, place_now_for}
+use Rattle.mk_alloc.proofs.Vocabulary.{refl, same_config, steady_of, subst, sum_by_push, sym, true, turn_stays}
+use Rattle.mk_alloc.proofs.Vocabulary.{unchanged, world_of, ℕ, ◌++◌, ◌+◌, ◌∙◌, ◌∷◌, ◌≡◌}
 use Rattle.mk_words.specs.Steps.{Finds}
-use Rattle.mk_words.specs.TurnSteps.{Acts, turn_stays}
-use Rattle.mk_words.proofs.Made.{made}
-use Rattle.mk_turns.specs.Doing.{Does}
-use Rattle.mk_turns.proofs.Doing.{does_step, does_then}
-use Rattle.mk_caller.specs.States.{caller_of_pass}
-use Rattle.mk_caller.specs.Called.{own_calls}
-use Rattle.mk_caller.proofs.OwnSteps.{by_append, calls_by, others_add_none, own_entry}
-use Rattle.mk_cycle.specs.EngineLaw.{IsAtPhase, is_pending_free_at}
-use Rattle.mk_cycle.specs.TurnKeeps.{Done, InTurn, LeavesTurn, done_of, unchanged}
-use Rattle.mk_cycle.proofs.CleaningSteps.{calm_keeps}
-use Rattle.mk_cycle.proofs.KeptInParts.{free_then, gates_behind, gates_then, same_config}
-use Rattle.mk_objects.specs.Placing.{IsUnplaced, object_for, place_now_for}
-use Rattle.mk_alloc.specs.Rooms.{AnswersFull, BeginsNone, asks_room}
-use Rattle.mk_alloc.specs.TurnCycles.{lets_go}
-use Rattle.mk_alloc.specs.Underway.{IsQuiet}
+use Rattle.mk_caller.proofs.OwnSteps.{own_entry}
+use Rattle.mk_cycle.proofs.KeptInParts.{gates_then}
+use Rattle.mk_cycle.specs.TurnKeeps.{done_of}
 use Rattle.mk_alloc.proofs.CalledTurns.{of_others_alone, step_adds_none}
 use Rattle.mk_alloc.proofs.FullLeaves.{leaves_then, made_leaves}
 use Rattle.mk_alloc.proofs.Going.{IsCallers}
+use Rattle.mk_alloc.proofs.GrantParts.{calm_last}
 use Rattle.mk_alloc.proofs.OneCycles.{begins_none_by}
-use Rattle.mk_alloc.proofs.Parts.{part_lacks, seen_behind}
+use Rattle.mk_alloc.proofs.Parts.{Part, before_act}
 use Rattle.mk_alloc.proofs.PlacedTurns.{none_freed_yet}
-use Rattle.mk_alloc.proofs.QuietTurns.{none_held_kept, same_phase}
+use Rattle.mk_alloc.proofs.QuietTurns.{but_full, exact_kept, none_held_kept, same_phase, tidy_kept}
 use Rattle.mk_alloc.proofs.RetiredTurns.{given_is_decided}
-use Rattle.mk_alloc.proofs.GrantParts.{calm_last, lets_go_held}
-use Rattle.mk_alloc.proofs.RoomParts.{room_lacks, rooms_held}
+use Rattle.mk_alloc.proofs.RoomParts.{room_lacks}
 use Rattle.mk_alloc.proofs.SeekingTurns.{new_callers, still_nowhere, unplaced_kept}
 use Rattle.mk_alloc.proofs.StepKinds.{AreApart}
-use Rattle.mk_alloc.proofs.Stretches.{SomeKinds}
-use Rattle.mk_objects.proofs.JoinedLooks.{does_wider}
+use Rattle.mk_alloc.proofs.Stretches.{AreOfTurn, SomeKinds}
+use Rattle.mk_core.specs.declared.events.Answer.TheVariants as answer
+use Rattle.mk_core.specs.declared.events.Step.TheVariants as step
+use Rattle.mk_core.specs.declared.events.Tally.TheVariants as tally
+use Rattle.mk_core.specs.declared.events.Word.TheVariants as word
+use Rattle.mk_core.specs.declared.seats.Stage.TheVariants as stage
 
 counts_full : SomeKinds
 counts_full (step.Look x) = true
@@ -68,11 +41,9 @@ counts_full (step.Tally n v) = true
 counts_full step.Full = true
 counts_full _ = false
 
-counting_stays : (x : Step) → counts_full x ≡ true → turn_stays x ≡ true
+counting_stays : AreOfTurn counts_full
 unfolding counts_full
-counting_stays (step.Look w) h = refl
-counting_stays (step.Tally n v) h = refl
-counting_stays step.Full h = refl
+counting_stays step.Begin h = cc
 counting_stays _ h = cc
 
 counting_no_begin : AreApart counts_full is_begin
@@ -83,17 +54,12 @@ counting_no_begin _ h = refl
 counting_no_room : AreApart counts_full asks_room
 unfolding counts_full
 counting_no_room step.Begin h = cc
-counting_no_room step.Want h = cc
-counting_no_room _ h = refl
+counting_no_room _ h = cc
 
 counting_lets_none_go : AreApart counts_full lets_go
 unfolding counts_full
-counting_lets_none_go step.Release h = cc
-counting_lets_none_go (step.Quar p v) h = cc
-counting_lets_none_go _ h = refl
-
-abbrev but_full : Steady → Steady
-but_full s = record s { full = 0 }
+counting_lets_none_go step.Begin h = cc
+counting_lets_none_go _ h = cc
 
 answers : (c : Config) (m : Moment) (seat : Seat) (k : ℕ) → seat ≡ Caller k
     → answer_decided c m (record { seat = seat; step = step.Full }) ≡ Some answer.Full
@@ -104,14 +70,14 @@ raised_so : (n v f g : ℕ) → n ≡ in_a_word f → v ≡ min (n + 1) (2 ^ 64 
 raised_so n v f g is raised more = omega arith
 
 -- the looks and the tally before
-module _ (p p1 p2 : PassState) (n v : ℕ) (t : InTurn p) (quiet : IsQuiet p) (u : IsUnplaced p)
-    (look : Acts p (step.Look word.Full) p1) (finds : Finds p (step.Look word.Full) n p1) (t1 : InTurn p1)
-    (tallies : Acts p1 (step.Tally tally.Full v) p2) (t2 : InTurn p2) where
+module _ {p p1 p2 : PassState} {n v : ℕ} (quiet : IsQuiet p) (u : IsUnplaced p)
+    (look : Acts p (step.Look word.Full) p1) (finds : Finds p (step.Look word.Full) n p1)
+    (tallies : Acts p1 (step.Tally tally.Full v) p2) where
   k1 : LeavesTurn unchanged p p1
-  k1 = calm_keeps p (step.Look word.Full) p1 look t t1.history refl quiet.free unchanged refl
+  k1 = calm_keeps p (step.Look word.Full) p1 look (before_act look) look.makes.pass.history refl quiet.free unchanged refl
 
   k2 : LeavesTurn but_full p1 p2
-  k2 = calm_keeps p1 (step.Tally tally.Full v) p2 tallies t1 t2.history refl
+  k2 = calm_keeps p1 (step.Tally tally.Full v) p2 tallies (before_act tallies) tallies.makes.pass.history refl
       (free_then p p1 k1.call quiet.free) but_full refl
 
   steady : but_full (steady_of (world_of p2)) ≡ but_full (steady_of (world_of p))
@@ -123,7 +89,7 @@ module _ (p p1 p2 : PassState) (n v : ℕ) (t : InTurn p) (quiet : IsQuiet p) (u
   found : n ≡ (now_of p).words.full
   found =
       finds.finds ∙ ap (λ (s : Steady). s.full)
-      (((made p (step.Look word.Full) p1 finds.makes).frame.turn t.holds).0).steady
+      (((made p (step.Look word.Full) p1 finds.makes).frame.turn look.holds).0).steady
 
   tally_is : (now_of p2).words.full ≡ v
   tally_is = ap (λ (w : World). w.now.words.full) tallies.world
@@ -150,8 +116,7 @@ module _ (p p1 p2 : PassState) (n v : ℕ) (t : InTurn p) (quiet : IsQuiet p) (u
       (ap (λ (x : PassState). object_made x.table.config (call_of p2).op) same_pass
       ∙ ap (λ (f : Flight). object_made p.table.config f.op) call_same) none
 
-  module _ (q : PassState) (full : Acts p2 step.Full q) (history : IsHistory q.table.config q.seen)
-      (raised : v ≡ min (n + 1) (2 ^ 64 - 1)) where
+  module _ {q : PassState} (full : Acts p2 step.Full q) (raised : v ≡ min (n + 1) (2 ^ 64 - 1)) where
     seat : IsCallers p
     seat = new_callers p u
 
@@ -229,7 +194,7 @@ module _ (p p1 p2 : PassState) (n v : ℕ) (t : InTurn p) (quiet : IsQuiet p) (u
         ∙ ap (λ (l : List Decided). l ++ calls_by (caller_of_pass p2)
         (call_decided p2.table.config (left p2.table.config es).now e))
         (others_add_none p2.table.config (caller_of_pass p2) p2.seen full.makes.others
-        (of_others_alone p2 full.makes.others seat2 t2.own full.makes.of_others))
+        (of_others_alone p2 full.makes.others seat2 (own_before full.makes) full.makes.of_others))
         ∙ ap (λ (l : List Decided). own_calls p2 p2.seen ++ calls_by (caller_of_pass p2) l) decides
         ∙ ap (λ (l : List Decided). own_calls p2 p2.seen ++ l)
         (own_entry (caller_of_pass p2) (call_of p2).op (Some answer.Full))
@@ -239,9 +204,9 @@ module _ (p p1 p2 : PassState) (n v : ℕ) (t : InTurn p) (quiet : IsQuiet p) (u
         ∙ ap (λ (l : List Decided). l ++ entry_of (caller_of_pass p) (call_of p).op (Some answer.Full))
         (sym (ap (λ (x : PassState). own_calls x p2.seen) k1.call.pass)
         ∙ step_adds_none p1 p2 (step.Tally tally.Full v) tallies.makes
-        (subst (λ (x : PassState). IsCallers x) (sym k1.call.pass) seat) t1.own refl
+        (subst (λ (x : PassState). IsCallers x) (sym k1.call.pass) seat) (own_before tallies.makes) refl
         ∙ ap (λ (x : PassState). own_calls x p1.seen) k1.call.pass
-        ∙ step_adds_none p p1 (step.Look word.Full) look.makes seat t.own refl)
+        ∙ step_adds_none p p1 (step.Look word.Full) look.makes seat (own_before look.makes) refl)
 
     all_steady : but_full (steady_of (world_of q)) ≡ but_full (steady_of (world_of p))
     all_steady = ap but_full steady_q ∙ steady
@@ -262,7 +227,7 @@ module _ (p p1 p2 : PassState) (n v : ℕ) (t : InTurn p) (quiet : IsQuiet p) (u
                 ∙ ap (λ (x : Placing). has_place x) tallied_unplaced.placing;
             gone =
                 ap (λ (x : Option RunPages). is_run_gone (now_of q).words x)
-                (ap (λ (h : Holding). h.freed) holding_q ∙ none_freed_yet p2 t2 tallied_unplaced.new);
+                (ap (λ (h : Holding). h.freed) holding_q ∙ none_freed_yet p2 (before_act full) tallied_unplaced.new);
           };
           phase = same_phase p q (ap (λ (s : Steady). s.phase) all_steady) quiet.phase;
           gates =
@@ -271,27 +236,13 @@ module _ (p p1 p2 : PassState) (n v : ℕ) (t : InTurn p) (quiet : IsQuiet p) (u
               (gates_then p1 p2 q k2.call.pass (gates_behind p1 (step.Tally tally.Full v) p2 tallies refl)
               (gates_behind p2 step.Full q full refl)))
               quiet.gates;
-          exact = record {
-            held =
-                ap (λ (s : Steady). s.held) all_steady ∙ quiet.exact.held
-                ∙ sym (ap (λ (c : Config). held_by_allocations c (world_of q).allocations) config_q
-                ∙ ap (λ (xs : List PlacedAllocation). held_by_allocations p.table.config xs) allocations_q);
-            fresh =
-                ap (λ (s : Steady). s.fresh) all_steady ∙ quiet.exact.fresh
-                ∙ sym (ap (λ (c : Config). in_a_word (fresh_words_of c (world_of q).allocations)) config_q
-                ∙ ap (λ (xs : List PlacedAllocation). in_a_word (fresh_words_of p.table.config xs)) allocations_q);
-          };
-          tidy = record {
-            cycles = ap (λ (s : Steady). s.cycles) all_steady ∙ quiet.tidy.cycles ∙ ap in_a_word (sym ends_q);
-            released =
-                ap (λ (s : Steady). s.released) all_steady ∙ quiet.tidy.released
-                ∙ ap in_a_word (sym (ap releases allocations_q));
-            full =
-                ap (λ (s : Steady). s.full) steady_q ∙ tally_is
-                ∙ raised_so n v (full_answers p.table.config p.seen) (full_answers p.table.config q.seen)
-                (found ∙ quiet.tidy.full) raised fulls_q
-                ∙ ap (λ (c : Config). in_a_word (full_answers c q.seen)) (sym config_q);
-          };
+          exact = exact_kept p q pass_q all_steady quiet.exact;
+          tidy = tidy_kept p q all_steady ends_q
+              (ap (λ (s : Steady). s.full) steady_q ∙ tally_is
+              ∙ raised_so n v (full_answers p.table.config p.seen) (full_answers p.table.config q.seen)
+              (found ∙ quiet.tidy.full) raised fulls_q
+              ∙ ap (λ (c : Config). in_a_word (full_answers c q.seen)) (sym config_q))
+              quiet.tidy;
         }
 
     does : Does counts_full p q
@@ -301,8 +252,11 @@ module _ (p p1 p2 : PassState) (n v : ℕ) (t : InTurn p) (quiet : IsQuiet p) (u
         (does_then counts_full p1 p2 q (does_step counts_full p1 p2 (step.Tally tally.Full v) tallies.makes refl)
         (does_step counts_full p2 q step.Full full.makes refl))
 
+    part : Part counts_full p q
+    part = record { turn = before_act look; stays = counting_stays; does = does; history = full.makes.pass.history }
+
     pub full_begins_none : BeginsNone p q
-    full_begins_none = begins_none_by counts_full p q counting_stays counting_no_begin t does history
+    full_begins_none = begins_none_by part counting_no_begin
 
     pub answers_full : AnswersFull p q
     answers_full =
@@ -316,21 +270,16 @@ module _ (p p1 p2 : PassState) (n v : ℕ) (t : InTurn p) (quiet : IsQuiet p) (u
               decided = λ some. ap (λ (f : Flight). f.stage) call_q;
               undecided = λ none. cc;
             };
-            room = room_lacks (object_for p) p q does.more (seen_behind counts_full p q does)
-                (part_lacks counts_full asks_room p q counting_stays rooms_held counting_no_room t does history);
+            room = room_lacks (object_for p) part counting_no_room;
             none = λ none. cc;
             leaves = λ none. cc;
-            last = calm_last p q does.more (seen_behind counts_full p q does)
-                (part_lacks counts_full lets_go p q counting_stays lets_go_held counting_lets_none_go t does history);
+            last = calm_last part counting_lets_none_go;
           };
           before = es;
           behind = [];
           is = seen_q ∙ ap (λ (x : PassState). es ++ event_of x step.Full ∷ []) same_pass;
           allocations = allocations_q;
-          leaves =
-              leaves_then p p1 q k1.call.pass
-              (made_leaves p p1 (step.Look word.Full) look.makes t.own t1.history refl refl)
-              (leaves_then p1 p2 q k2.call.pass
-              (made_leaves p1 p2 (step.Tally tally.Full v) tallies.makes t1.own t2.history refl refl)
-              (made_leaves p2 q step.Full full.makes t2.own history refl refl));
+          leaves = leaves_then p p1 q k1.call.pass (made_leaves look.makes refl refl)
+              (leaves_then p1 p2 q k2.call.pass (made_leaves tallies.makes refl refl)
+              (made_leaves full.makes refl refl));
         }

@@ -1,34 +1,21 @@
 -- One entry more among a caller's calls is that of one event, which decides it. What the other events decide is of
 -- other callers, and leaves the caller its registers.
-use Rattle.std.proofs.Common.{◌≡◌, ℕ, Bool, true, false, List, [], ◌∷◌, ◌++◌, refl, sym, ◌∙◌, ap, subst, append-nil}
-use Rattle.std.proofs.Common.{append_assoc}
-use Rattle.std.specs.Prelude.{◌==◌, Option, Some, None, if◌then◌else◌}
-use Rattle.std.proofs.lemmas.Bool.{eq-eqb, true≢false}
-use Rattle.mk_never.specs.declared.operations.Op.{Op}
-use Rattle.mk_never.specs.declared.operations.Op.TheVariants as op
-use Rattle.mk_never.specs.Laws.{AreNotBy, KeepsRegisters}
-use Rattle.mk_never.specs.NeverHeap.{NeverState, after_calls, after_op, replies_of, reply_of}
-use Rattle.mk_never.proofs.Registers.{admitted_keep}
-use Rattle.mk_core.specs.declared.config.Config.{Config}
-use Rattle.mk_core.specs.declared.events.Answer.{Answer}
-use Rattle.mk_core.specs.declared.events.Answer.TheVariants as answer
-use Rattle.mk_core.specs.declared.events.Event.{Event}
-use Rattle.mk_core.specs.Accesses.{caller_number}
-use Rattle.mk_core.specs.Decided.{Decided, answered, asked, entry_of, flagged}
-use Rattle.mk_core.specs.Effects.{answer_decided}
-use Rattle.mk_core.specs.History.{IsHistory, World, bases_of, call_decided, calls, calls_from, left, left_from}
-use Rattle.mk_core.specs.History.{never_behind, world_behind}
-use Rattle.mk_core.specs.Image.{answer_of, answers_of}
-use Rattle.mk_core.specs.Moments.{flight_of}
-use Rattle.mk_core.proofs.HistoryParts.{admitted_in_parts, calls_in_parts, earlier_part_is_history, left_in_parts}
-use Rattle.mk_core.proofs.HistoryParts.{never_in_parts}
+use Rattle.mk_laws.proofs.Vocabulary.{NeverState, admitted_in_parts, admitted_keep, answer_of, answered, answers_of}
+use Rattle.mk_laws.proofs.Vocabulary.{bases_of, flagged, never_in_parts, replies_of}
+use Rattle.mk_alloc.proofs.Vocabulary.{Answer, Bool, Config, Decided, Event, IsHistory, KeepsRegisters, List, None, Op}
+use Rattle.mk_alloc.proofs.Vocabulary.{Option, PassState, Some, World, [], after_calls, answer_decided, ap, append-nil}
+use Rattle.mk_alloc.proofs.Vocabulary.{append_assoc, asked, by_append, call_decided, caller_number, caller_of_pass}
+use Rattle.mk_alloc.proofs.Vocabulary.{calls, calls_by, calls_in_parts, comes_last, earlier_part_is_history, entry_of}
+use Rattle.mk_alloc.proofs.Vocabulary.{eq-eqb, false, flight_of, if◌then◌else◌, left, left_in_parts, never_behind}
+use Rattle.mk_alloc.proofs.Vocabulary.{own_calls, refl, stands, subst, sym, told_to_images, true, true≢false}
+use Rattle.mk_alloc.proofs.Vocabulary.{world_behind, ℕ, ◌++◌, ◌==◌, ◌∙◌, ◌∷◌, ◌≡◌}
+use Rattle.mk_never.specs.Laws.{AreNotBy}
+use Rattle.mk_never.specs.NeverHeap.{after_op, reply_of}
+use Rattle.mk_core.specs.History.{calls_from, left_from}
 use Rattle.mk_laws.proofs.ImagesOneEvent.{one_event}
-use Rattle.mk_laws.proofs.InvariantJoined.{told_to_images}
-use Rattle.mk_laws.proofs.LastEvents.{comes_last, stands}
-use Rattle.mk_words.specs.States.{PassState}
-use Rattle.mk_caller.specs.States.{caller_of_pass}
-use Rattle.mk_caller.specs.Called.{IsDecidedIn, own_calls}
-use Rattle.mk_caller.proofs.OwnSteps.{by_append, calls_by}
+use Rattle.mk_caller.specs.Called.{IsDecidedIn}
+use Rattle.mk_never.specs.declared.operations.Op.TheVariants as op
+use Rattle.mk_core.specs.declared.events.Answer.TheVariants as answer
 
 pub same_last : (xs ys zs : List Decided) → xs ++ ys ≡ xs ++ zs → ys ≡ zs
 same_last [] ys zs h = h

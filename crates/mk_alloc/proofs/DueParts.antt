@@ -1,39 +1,18 @@
 -- The events of the cycle that a due Free begins, after one that was on.
-use Rattle.std.proofs.Common.{◌≡◌, ◌⊎◌, inl, inr, Bool, true, false, List, [], ◌∷◌, ◌++◌, refl, sym, ◌∙◌, ap, subst}
-use Rattle.std.proofs.Common.{append_assoc, arith}
-use Rattle.std.specs.Prelude.{None}
-use Rattle.std.proofs.lemmas.Bool.{cases_Bool, or_from, or_parts, true≢false}
-use Rattle.mk_core.specs.declared.events.Event.{Event}
-use Rattle.mk_core.specs.declared.events.Step.{Step}
-use Rattle.mk_core.specs.declared.events.Step.TheVariants as step
-use Rattle.mk_core.specs.Cycles.{At, is_begin, is_close, is_end}
-use Rattle.mk_core.specs.History.{IsHistory}
-use Rattle.mk_words.specs.Seats.{Has}
-use Rattle.mk_words.specs.States.{PassState}
-use Rattle.mk_words.specs.TurnSteps.{turn_stays}
-use Rattle.mk_cycle.specs.EngineLaw.{IsAtPhase}
-use Rattle.mk_cycle.specs.FinishCycle.{FinishesCycle}
-use Rattle.mk_cycle.specs.TurnKeeps.{InTurn}
-use Rattle.mk_objects.specs.Placing.{is_look}
-use Rattle.mk_alloc.specs.DueCycles.{EndsOlder, RunsCycle}
-use Rattle.mk_alloc.specs.TurnCycles.{finishes, has_step}
-use Rattle.mk_alloc.specs.Underway.{TurnGoesOn, IsQuiet}
+use Rattle.mk_alloc.proofs.Vocabulary.{At, Bool, EndsOlder, Event, FinishesCycle, InTurn, IsAtPhase, IsHistory, IsQuiet}
+use Rattle.mk_alloc.proofs.Vocabulary.{List, None, PassState, Step, TurnGoesOn, [], ap, append-nil, append_assoc, arith}
+use Rattle.mk_alloc.proofs.Vocabulary.{cases_Bool, false, finishes, has_step, inl, inr, is_begin, is_close, is_end}
+use Rattle.mk_alloc.proofs.Vocabulary.{is_look, or_from, or_parts, refl, subst, sym, true, true≢false, turn_stays, ◌++◌}
+use Rattle.mk_alloc.proofs.Vocabulary.{◌∙◌, ◌∷◌, ◌≡◌, ◌⊎◌}
 use Rattle.mk_alloc.proofs.CalmStretches.{cycles_in_turn, is_of_cycles}
-use Rattle.mk_alloc.proofs.CycleParts.{BeginIn, EndsIn, begin_does, begin_in, begins_held, finish_does, finish_in}
-use Rattle.mk_alloc.proofs.Going.{IsCallers, begun_on, callers_then, finished_on, looked_on, on_then}
+use Rattle.mk_alloc.proofs.CycleParts.{BeginIn, EndsIn, begin_done, begin_in, begins_held, finish_done, finish_in}
+use Rattle.mk_alloc.proofs.Going.{IsCallers, begun_on, callers_then, finished_on, look_part, looked_on}
+use Rattle.mk_alloc.proofs.Going.{looks_begin_none, on_then}
 use Rattle.mk_alloc.proofs.ListParts.{Lacks, SomeKind, lacks_append}
-use Rattle.mk_alloc.proofs.Parts.{has_then, history_before, in_turn_then, part_lacks, seen_behind, seen_then}
+use Rattle.mk_alloc.proofs.Parts.{behind_part, history_before, in_turn_then, part_lacks, seen_behind, seen_then}
 use Rattle.mk_alloc.proofs.QuietTurns.{quiet_looked}
-use Rattle.mk_alloc.proofs.StepKinds.{AreApart}
-use Rattle.mk_alloc.proofs.Stretches.{AreOfTurn}
-
-look_in_turn : AreOfTurn is_look
-look_in_turn (step.Look w) h = refl
-look_in_turn _ h = cc
-
-look_no_begin : AreApart is_look is_begin
-look_no_begin step.Begin h = cc
-look_no_begin _ h = refl
+use Rattle.mk_alloc.specs.DueCycles.{RunsCycle}
+use Rattle.mk_core.specs.declared.events.Step.TheVariants as step
 
 pub at_behind : (kind : SomeKind) (xs ys : List Event) → At kind ys → At kind (xs ++ ys)
 at_behind kind xs ys at =
@@ -113,6 +92,10 @@ end_at es e =
       of_kind = e.ends;
     }
 
+-- the lists of a turn in which a cycle runs
+pub run_list : (a b d e : List Event) (x : Event) → (a ++ (b ++ x ∷ d)) ++ e ≡ (a ++ b) ++ x ∷ (d ++ e)
+run_list a b d e x = simp append_assoc
+
 -- An older cycle is ended, if one was on.
 record OlderIn (p q : PassState) : Type 0 where
   turn : InTurn q
@@ -122,41 +105,40 @@ record OlderIn (p q : PassState) : Type 0 where
   begins_none : Lacks is_begin more
   ended : IsAtPhase p 1 → At is_end more
 
-older_in : (p q : PassState) → InTurn p → IsCallers p → IsQuiet p → EndsOlder p q → IsHistory q.table.config q.seen
+older_in : {p q : PassState} → InTurn p → IsCallers p → IsQuiet p → EndsOlder p q → IsHistory q.table.config q.seen
     → OlderIn p q
-older_in p q t seat quiet e history = by quiet.phase
+older_in {p} {q} t seat quiet e history = by quiet.phase
   where
     by : (IsAtPhase p 0) ⊎ (IsAtPhase p 1) → OlderIn p q
     by (inl none) =
         let same : q ≡ e.looked = e.none none in
         let h = subst (λ (x : PassState). IsHistory x.table.config x.seen) same history in
-        let t1 = in_turn_then is_look p e.looked look_in_turn t e.looks.does h in
-        record {
-          turn = subst (λ (x : PassState). InTurn x) (sym same) t1;
-          on = subst (λ (x : PassState). TurnGoesOn None p x) (sym same) (looked_on p e.looked t seat quiet e.looks h);
-          more = e.looks.does.more;
-          is = ap (λ (x : PassState). x.seen) same ∙ seen_behind is_look p e.looked e.looks.does;
-          begins_none = part_lacks is_look is_begin p e.looked look_in_turn begins_held look_no_begin t e.looks.does h;
+        let look = look_part t e.looks.does h in
+        subst (λ (x : PassState). OlderIn p x) (sym same)
+        (record {
+          turn = behind_part look;
+          on = looked_on p e.looked t seat quiet e.looks h;
+          more = look.does.more;
+          is = seen_behind is_look p e.looked look.does;
+          begins_none = part_lacks is_begin look begins_held looks_begin_none;
           ended = λ (one : IsAtPhase p 1). absurd (omega arith);
-        }
+        })
     by (inr one) =
         let law : FinishesCycle e.looked q = e.on one in
-        let own1 = has_then is_look p e.looked e.looks.does t.own in
-        let seat1 = callers_then is_look p e.looked e.looks.does seat in
-        let h = history_before is_of_cycles e.looked q (finish_does e.looked q own1 law) history in
-        let t1 = in_turn_then is_look p e.looked look_in_turn t e.looks.does h in
-        let f = finish_in e.looked q own1 law t1 history in
+        let look = look_part t e.looks.does (history_before is_of_cycles e.looked q (finish_done law) history) in
+        let t1 = behind_part look in
+        let f = finish_in e.looked q t1.own law t1 history in
         record {
-          turn = in_turn_then is_of_cycles e.looked q cycles_in_turn t1 (finish_does e.looked q own1 law) history;
-          on = on_then None p e.looked q (looked_on p e.looked t seat quiet e.looks h)
-              (finished_on e.looked q t1 seat1 (quiet_looked p e.looked quiet e.looks) law history);
-          more = e.looks.does.more ++ f.more;
-          is = seen_then p.seen e.looked.seen q.seen e.looks.does.more f.more
-              (seen_behind is_look p e.looked e.looks.does) f.is;
-          begins_none = lacks_append is_begin e.looks.does.more f.more
-              (part_lacks is_look is_begin p e.looked look_in_turn begins_held look_no_begin t e.looks.does h)
-              f.begins_none;
-          ended = λ here. at_behind is_end e.looks.does.more f.more (end_at f.more f.ends);
+          turn = in_turn_then is_of_cycles e.looked q cycles_in_turn t1 (finish_done law) history;
+          on = on_then None p e.looked q (looked_on p e.looked t seat quiet e.looks look.history)
+              (finished_on e.looked q t1 (callers_then is_look p e.looked look.does seat)
+              (quiet_looked p e.looked quiet e.looks) law history);
+          more = look.does.more ++ f.more;
+          is = seen_then p.seen e.looked.seen q.seen look.does.more f.more (seen_behind is_look p e.looked look.does)
+              f.is;
+          begins_none = lacks_append is_begin look.does.more f.more (part_lacks is_begin look begins_held
+              looks_begin_none) f.begins_none;
+          ended = λ here. at_behind is_end look.does.more f.more (end_at f.more f.ends);
         }
 
 -- One `begin`, with what stands before it and after.
@@ -183,114 +165,65 @@ no_close (e ∷ es) h =
     let parts = or_parts (finishes e.step) (has_step finishes es) h in
     or_from (is_close e.step) (has_step is_close es) (close_finishes e.step parts.0) (no_close es parts.1)
 
-module _ (on : Bool) (p q : PassState) (t : InTurn p) (seat : IsCallers p) (quiet : IsQuiet p) (run : RunsCycle on p q)
-    (history : IsHistory q.table.config q.seen) where
-  module _ (own_idle : Has run.idle.seats run.idle.seat)
-      (h_begun : IsHistory run.begun.table.config run.begun.seen) where
-    h_idle : IsHistory run.idle.table.config run.idle.seen
-    h_idle = history_before is_of_cycles run.idle run.begun (begin_does run.idle run.begun own_idle run.begins) h_begun
+module _ {on : Bool} {p q : PassState} (t : InTurn p) (seat : IsCallers p) (quiet : IsQuiet p)
+    (run : RunsCycle on p q) (history : IsHistory q.table.config q.seen) where
+  h_begun : IsHistory run.begun.table.config run.begun.seen
+  h_begun = elim (cases_Bool on) [
+    | inl keeps ↦ subst (λ (x : PassState). IsHistory x.table.config x.seen) (run.goes_on keeps) history
+    | inr stops ↦ history_before is_of_cycles run.begun q (finish_done (run.stops stops)) history
+  ]
 
-    old : OlderIn p run.idle
-    old = older_in p run.idle t seat quiet run.older h_idle
+  old : OlderIn p run.idle
+  old = older_in t seat quiet run.older
+      (history_before is_of_cycles run.idle run.begun (begin_done run.begins) h_begun)
 
-    begun : BeginIn run.idle run.begun
-    begun = begin_in run.idle run.begun own_idle run.begins old.turn h_begun
+  begun : BeginIn run.idle run.begun
+  begun = begin_in run.idle run.begun old.turn.own run.begins old.turn h_begun
 
-    seat_idle : IsCallers run.idle
-    seat_idle = callers_then turn_stays p run.idle old.on.does seat
+  on_begun : TurnGoesOn None p run.begun
+  on_begun = on_then None p run.idle run.begun old.on
+      (begun_on run.idle run.begun old.turn (callers_then turn_stays p run.idle old.on.does seat) old.on.quiet
+      run.begins h_begun)
 
-    t_begun : InTurn run.begun
-    t_begun = in_turn_then is_of_cycles run.idle run.begun cycles_in_turn old.turn
-        (begin_does run.idle run.begun own_idle run.begins) h_begun
-
-    on_begun : TurnGoesOn None p run.begun
-    on_begun = on_then None p run.idle run.begun old.on
-        (begun_on run.idle run.begun old.turn seat_idle old.on.quiet run.begins h_begun)
-
-    first : List Event
-    first = old.more ++ begun.before
-
-    seen_begun : run.begun.seen ≡ p.seen ++ (first ++ begun.begin ∷ begun.behind)
-    unfolding first
-    seen_begun =
-        seen_then p.seen run.idle.seen run.begun.seen old.more
-        (begun.before ++ begun.begin ∷ begun.behind) old.is begun.is
-        ∙ ap (λ (l : List Event). p.seen ++ l) (sym (append_assoc old.more begun.before (begun.begin ∷ begun.behind)))
-
-    none_before : Lacks is_begin first
-    unfolding first
-    none_before = lacks_append is_begin old.more begun.before old.begins_none begun.none_before
-
-    ended_before : IsAtPhase p 1 → At is_end first
-    unfolding first
-    ended_before one = at_first is_end old.more begun.before (old.ended one)
-
-  own_of : (r s : PassState) → s ≡ record r { seen = s.seen } → Has r.seats r.seat → Has s.seats s.seat
-  own_of r s is own = subst (λ (x : PassState). Has x.seats x.seat) (sym is) own
-
-  own_looked : Has run.older.looked.seats run.older.looked.seat
-  own_looked = has_then is_look p run.older.looked run.older.looks.does t.own
-
-  own_idle : Has run.idle.seats run.idle.seat
-  own_idle = by quiet.phase
-    where
-      by : (IsAtPhase p 0) ⊎ (IsAtPhase p 1) → Has run.idle.seats run.idle.seat
-      by (inl none) = subst (λ (x : PassState). Has x.seats x.seat) (sym (run.older.none none)) own_looked
-      by (inr one) = own_of run.older.looked run.idle (run.older.on one).pass own_looked
-
-  own_begun : Has run.begun.seats run.begun.seat
-  own_begun = own_of run.idle run.begun run.begins.pass own_idle
-
-  -- where the engine keeps on
-  run_on : on ≡ true → RunIn on p q
-  run_on keeps =
-      let same : q ≡ run.begun = run.goes_on keeps in
-      let h = subst (λ (x : PassState). IsHistory x.table.config x.seen) same history in
-      let b = begun own_idle h in
+  -- with what was seen after the begin of the cycle
+  with_rest : (rest : List Event) → q.seen ≡ run.begun.seen ++ rest → Lacks is_begin rest → TurnGoesOn None p q
+      → (on ≡ false → EndsIn rest) → (on ≡ true → Lacks finishes rest) → RunIn on p q
+  with_rest rest is none goes stopped goes_on =
       record {
-        goes = subst (λ (x : PassState). TurnGoesOn None p x) (sym same) (on_begun own_idle h);
-        first = first own_idle h;
-        begin = b.begin;
-        second = b.behind;
-        is = ap (λ (x : PassState). x.seen) same ∙ seen_begun own_idle h;
-        begins = b.begins;
-        none_first = none_before own_idle h;
-        none_second = b.none_behind;
-        stopped = λ stops. absurd (true≢false (sym keeps ∙ stops));
-        goes_on = λ here. b.finishes_none;
-        older = ended_before own_idle h;
-      }
-
-  -- and where it doesn't
-  run_off : on ≡ false → RunIn on p q
-  run_off stops =
-      let law : FinishesCycle run.begun q = run.stops stops in
-      let d = finish_does run.begun q own_begun law in
-      let h = history_before is_of_cycles run.begun q d history in
-      let b = begun own_idle h in
-      let there = t_begun own_idle h in
-      let x = on_begun own_idle h in
-      let f = finish_in run.begun q own_begun law there history in
-      record {
-        goes = on_then None p run.begun q x
-            (finished_on run.begun q there (callers_then turn_stays p run.begun x.does seat) x.quiet law history);
-        first = first own_idle h;
-        begin = b.begin;
-        second = b.behind ++ f.more;
+        goes = goes;
+        first = old.more ++ begun.before;
+        begin = begun.begin;
+        second = begun.behind ++ rest;
         is =
-            seen_then p.seen run.begun.seen q.seen (first own_idle h ++ b.begin ∷ b.behind) f.more
-            (seen_begun own_idle h) f.is
-            ∙ ap (λ (l : List Event). p.seen ++ l) (append_assoc (first own_idle h) (b.begin ∷ b.behind) f.more);
-        begins = b.begins;
-        none_first = none_before own_idle h;
-        none_second = lacks_append is_begin b.behind f.more b.none_behind f.begins_none;
-        stopped = λ here. ends_behind b.behind f.more (no_close b.behind b.finishes_none) f.ends;
-        goes_on = λ keeps. absurd (true≢false (sym keeps ∙ stops));
-        older = ended_before own_idle h;
+            seen_then p.seen run.begun.seen q.seen _ rest
+            (seen_then p.seen run.idle.seen run.begun.seen old.more _ old.is begun.is) is
+            ∙ ap (λ (l : List Event). p.seen ++ l)
+            (run_list old.more begun.before begun.behind rest begun.begin);
+        begins = begun.begins;
+        none_first = lacks_append is_begin old.more begun.before old.begins_none begun.none_before;
+        none_second = lacks_append is_begin begun.behind rest begun.none_behind none;
+        stopped = λ off. ends_behind begun.behind rest (no_close begun.behind begun.finishes_none) (stopped off);
+        goes_on = λ keeps. lacks_append finishes begun.behind rest begun.finishes_none (goes_on keeps);
+        older = λ one. at_first is_end old.more begun.before (old.ended one);
       }
 
+  -- where the engine keeps on, and where it doesn't
   pub run_in : RunIn on p q
   run_in = elim (cases_Bool on) [
-    | inl keeps ↦ run_on keeps
-    | inr stops ↦ run_off stops
+    | inl keeps ↦
+        with_rest [] (ap (λ (x : PassState). x.seen) (run.goes_on keeps) ∙ sym (append-nil run.begun.seen)) refl
+        (subst (λ (x : PassState). TurnGoesOn None p x) (sym (run.goes_on keeps)) on_begun)
+        (λ stops. absurd (true≢false (sym keeps ∙ stops))) (λ here. refl)
+    | inr stops ↦ stopping stops (run.stops stops)
   ]
+    where
+      stopping : on ≡ false → FinishesCycle run.begun q → RunIn on p q
+      stopping stops law =
+          let there = in_turn_then is_of_cycles run.idle run.begun cycles_in_turn old.turn (begin_done run.begins)
+          h_begun in
+          let f = finish_in run.begun q there.own law there history in
+          with_rest f.more f.is f.begins_none
+          (on_then None p run.begun q on_begun
+          (finished_on run.begun q there (callers_then turn_stays p run.begun on_begun.does seat) on_begun.quiet law
+          history))
+          (λ here. f.ends) (λ keeps. absurd (true≢false (sym keeps ∙ stops)))

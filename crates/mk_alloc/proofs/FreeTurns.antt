@@ -1,22 +1,17 @@
 -- What the turn of a Free does with cycles, by the events after its `take`.
-use Rattle.std.proofs.Common.{◌≡◌, Bool, true, false, List, [], ◌∷◌, ◌++◌, refl, sym, ◌∙◌, ap, subst}
-use Rattle.std.proofs.lemmas.Bool.{or_from, or_parts}
-use Rattle.mk_core.specs.declared.config.Config.{Config}
-use Rattle.mk_core.specs.declared.events.Event.{Event}
-use Rattle.mk_core.specs.declared.events.Seat.{Seat}
-use Rattle.mk_core.specs.declared.events.Step.{Step}
-use Rattle.mk_core.specs.declared.events.Step.TheVariants as step
-use Rattle.mk_core.specs.declared.seats.Flight.{Flight}
-use Rattle.mk_core.specs.Counts.{IsDue, decides_freed}
-use Rattle.mk_core.specs.Cycles.{At, BeginsAndEndsIn, BeginsIn, TurnOf, is_begin, is_end}
-use Rattle.mk_core.specs.History.{left}
-use Rattle.mk_core.specs.Moments.{Moment, flight_of}
-use Rattle.mk_objects.specs.Retiring.{is_freeing, is_loading}
-use Rattle.mk_alloc.specs.TurnCycles.{CycleIsOn, FreeIsExact, FreesFirst, IsDueIn, finishes, has_step, is_of_cycle}
+use Rattle.mk_alloc.proofs.Vocabulary.{At, Bool, Config, Event, Flight, FreeIsExact, FreesFirst, IsDue, IsDueIn, List}
+use Rattle.mk_alloc.proofs.Vocabulary.{Moment, Seat, Step, TurnOf, [], ap, false, finishes, flight_of, has_step}
+use Rattle.mk_alloc.proofs.Vocabulary.{is_begin, is_end, is_freeing, is_loading, is_of_cycle, left, or_from, or_parts}
+use Rattle.mk_alloc.proofs.Vocabulary.{refl, subst, sym, true, ◌++◌, ◌∙◌, ◌∷◌, ◌≡◌}
+use Rattle.mk_core.specs.Counts.{decides_freed}
+use Rattle.mk_core.specs.Cycles.{BeginsAndEndsIn, BeginsIn}
 use Rattle.mk_alloc.proofs.CycleParts.{EndsIn}
 use Rattle.mk_alloc.proofs.DueParts.{end_at}
 use Rattle.mk_alloc.proofs.ListParts.{IsAt, Lacks, SomeKind, cycle_in, lacks_at, none_at, only_at}
 use Rattle.mk_alloc.proofs.StepKinds.{AreApart, IsHolders}
+use Rattle.mk_alloc.proofs.Stretches.{Within}
+use Rattle.mk_alloc.specs.TurnCycles.{CycleIsOn}
+use Rattle.mk_core.specs.declared.events.Step.TheVariants as step
 
 abbrev pub is_quar : SomeKind
 is_quar (step.Quar p v) = true
@@ -32,23 +27,14 @@ loading_no_quar _ h = refl
 
 pub cycles_held : IsHolders is_of_cycle
 cycles_held step.Begin h = cc
-cycles_held step.Want h = cc
-cycles_held step.Close h = cc
-cycles_held step.Release h = cc
-cycles_held step.End h = cc
-cycles_held _ h = refl
+cycles_held _ h = cc
 
 pub freeing_no_cycle : AreApart is_freeing is_of_cycle
 freeing_no_cycle step.Begin h = cc
-freeing_no_cycle step.Want h = cc
-freeing_no_cycle step.Close h = cc
-freeing_no_cycle step.Release h = cc
-freeing_no_cycle step.End h = cc
-freeing_no_cycle _ h = refl
+freeing_no_cycle _ h = cc
 
-pub loading_frees : (x : Step) → is_loading x ≡ true → is_freeing x ≡ true
-loading_frees (step.Look w) h = refl
-loading_frees step.Reg h = refl
+pub loading_frees : Within is_loading is_freeing
+loading_frees step.Begin h = cc
 loading_frees _ h = cc
 
 -- Only a `quar` frees.

@@ -1,37 +1,26 @@
 -- What a Free is answered, and that its turn may go on and be given back.
-use Rattle.std.proofs.Common.{◌≡◌, inl, inr, ℕ, ◌<◌, Bool, true, ◌∷◌, ◌++◌, refl, sym, ◌∙◌, ap, subst, append_assoc}
-use Rattle.std.specs.Prelude.{Some}
-use Rattle.std.proofs.lemmas.Bool.{cases_Bool}
-use Rattle.mk_never.specs.declared.operations.Op.TheVariants as op
-use Rattle.mk_never.specs.declared.values.Value.{Value}
+use Rattle.mk_laws.proofs.Vocabulary.{register_at}
+use Rattle.mk_alloc.proofs.Vocabulary.{BeginsTurn, Bool, FreeIsExact, FreesObject, Has, InTurn, IsAnsweredDouble}
+use Rattle.mk_alloc.proofs.Vocabulary.{IsDueIn, IsDueSince, IsFresh, IsHistory, Makes, PassState, RunsIfDue, Some}
+use Rattle.mk_alloc.proofs.Vocabulary.{TakesTurn, TurnGoesOn, Value, ap, append_assoc, append_cancel_left, at_rest}
+use Rattle.mk_alloc.proofs.Vocabulary.{call_of, caller_of_pass, cases_Bool, inl, inr, is_freeing, is_loading}
+use Rattle.mk_alloc.proofs.Vocabulary.{pass_before, refl, subst, sym, true, ℕ, ◌++◌, ◌<◌, ◌∙◌, ◌∷◌, ◌≡◌}
 use Rattle.mk_never.specs.Admitted.{IsBase}
-use Rattle.mk_core.specs.declared.events.Answer.TheVariants as answer
-use Rattle.mk_core.specs.declared.events.Step.TheVariants as step
-use Rattle.mk_core.specs.Calls.{at_rest}
-use Rattle.mk_core.specs.History.{IsHistory}
-use Rattle.mk_words.specs.Seats.{Has}
-use Rattle.mk_words.specs.States.{PassState, call_of}
-use Rattle.mk_words.specs.Steps.{Makes}
-use Rattle.mk_words.specs.TurnSteps.{IsFresh}
-use Rattle.mk_caller.specs.States as caller
-use Rattle.mk_caller.specs.States.{caller_of_pass}
-use Rattle.mk_cycle.specs.TurnKeeps.{InTurn}
-use Rattle.mk_objects.specs.Retired.{FindsFreed, IsDueSince, Retires}
-use Rattle.mk_objects.specs.Retiring.{IsUnloaded, is_freeing, is_loading}
-use Rattle.mk_waiting.specs.Taking.{TakesTurn}
-use Rattle.mk_alloc.specs.DueCycles.{RunsIfDue}
-use Rattle.mk_alloc.specs.TurnCalls.{FreesObject, IsAnsweredDouble}
-use Rattle.mk_alloc.specs.TurnCycles.{FreeIsExact, IsDueIn}
-use Rattle.mk_alloc.specs.Underway.{BeginsTurn, TurnGoesOn}
-use Rattle.mk_alloc.proofs.CalledTurns.{called, registers_taken, taken_callers, taken_same}
-use Rattle.mk_alloc.proofs.DueParts.{run_in}
+use Rattle.mk_objects.specs.Retired.{FindsFreed, Retires}
+use Rattle.mk_objects.specs.Retiring.{IsUnloaded}
+use Rattle.mk_alloc.proofs.CalledTurns.{GivenBack, Taken, called, registers_taken, taken_callers, taken_is, taken_turn}
+use Rattle.mk_alloc.proofs.CalledTurns.{turn_of}
+use Rattle.mk_alloc.proofs.DueParts.{RunIn, run_in}
 use Rattle.mk_alloc.proofs.FreeTurns.{is_quar, loading_frees, loading_no_quar, not_due_without, quars_held}
 use Rattle.mk_alloc.proofs.Going.{IsCallers, callers_then}
-use Rattle.mk_alloc.proofs.Parts.{part_lacks, seen_behind}
-use Rattle.mk_alloc.proofs.RetiredTurns.{decided_on, due_in, due_since, rests_exactly, run_or_rest, runs_exactly}
-use Rattle.mk_alloc.proofs.RetiredTurns.{same_rest, turn}
+use Rattle.mk_alloc.proofs.Parts.{Part, part_lacks, seen_by}
+use Rattle.mk_alloc.proofs.RetiredTurns.{decided_on, due_in, due_since, freeing_in_turn, rests_exactly, run_or_rest}
+use Rattle.mk_alloc.proofs.RetiredTurns.{runs_exactly, turn}
 use Rattle.mk_alloc.proofs.Stretches.{AreOfTurn}
-use Rattle.mk_never.specs.NeverHeap.{register_at}
+use Rattle.mk_never.specs.declared.operations.Op.TheVariants as op
+use Rattle.mk_core.specs.declared.events.Answer.TheVariants as answer
+use Rattle.mk_core.specs.declared.events.Step.TheVariants as step
+use Rattle.mk_caller.specs.States as caller
 
 -- The register that the turn's Free loads is null or points to a first word, as before.
 pub unloaded : (p taken : PassState) (r : ℕ) → IsCallers p → Has p.seats p.seat
@@ -43,117 +32,156 @@ unloaded p taken r seat own takes fresh history lt base =
       call = fresh.call;
       small = lt;
       base = subst (λ (x : PassState). IsBase (caller.value_of (record x { seen = taken.seen }) r))
-          (sym (taken_same p taken (op.Free r) seat own takes))
-          (subst (λ (v : Value). IsBase v) (sym (same r lt)) base);
+          (sym (taken_is took)) (subst (λ (v : Value). IsBase v) (sym (same r lt)) base);
     }
   where
+    took : Taken (op.Free r) p taken
+    took = record { seat = seat; own = own; takes = takes }
+
     same : (i : ℕ) → i < 8 → caller.value_of (record p { seen = taken.seen }) i ≡ caller.value_of p i
     same i less =
-        ap (λ (x : PassState). caller.value_of (record x { seen = taken.seen }) i)
-        (sym (taken_same p taken (op.Free r) seat own takes))
+        ap (λ (x : PassState). caller.value_of (record x { seen = taken.seen }) i) (sym (taken_is took))
         ∙ ap (λ k. register_at (caller.never_of taken) k i)
-        (ap (λ (x : PassState). caller_of_pass x) (taken_same p taken (op.Free r) seat own takes))
-        ∙ registers_taken p taken (op.Free r) seat own takes history i less
+        (ap (λ (x : PassState). caller_of_pass x) (taken_is took))
+        ∙ registers_taken took i less
 
--- The object was freed.
+-- The turn of a Free that retired its object, up to the end of a cycle that is due.
+pub record Frees (flag due : Bool) (r : ℕ) (p taken retired done : PassState) : Type 0 where
+  pub took : Taken (op.Free r) p taken
+  pub begins : BeginsTurn (op.Free r) taken
+  pub retires : Retires taken r due retired
+  pub decided : InTurn retired
+  pub run : RunsIfDue flag due retired done
+  pub history : IsHistory done.table.config done.seen
+
+module _ {flag due : Bool} {r : ℕ} {p taken retired done : PassState} (f : Frees flag due r p taken retired done) where
+  seat_decided : IsCallers retired
+  seat_decided = callers_then is_freeing taken retired f.retires.decides.does (taken_callers f.took)
+
+  decides : TurnGoesOn (Some answer.Done) taken retired
+  decides = decided_on taken r f.begins.fresh f.begins.phase f.begins.tidy is_freeing answer.Done retired
+      (λ x h. h) f.retires.decides
+
+  pub freed : TurnGoesOn (Some answer.Done) taken done
+  freed = run_or_rest decides f.decided seat_decided f.run f.history
+
+  freeing : Part is_freeing taken retired
+  freeing =
+      record {
+        turn = taken_turn f.took;
+        stays = freeing_in_turn;
+        does = f.retires.decides.does;
+        history = f.decided.history;
+      }
+
+  runs : due ≡ true → RunIn flag retired done
+  runs is = run_in f.decided seat_decided decides.quiet (f.run.runs is) f.history
+
+  module _ {q : PassState} (gives : Makes done step.Give q) (rests : call_of q ≡ at_rest) where
+    abbrev pub given : GivenBack (op.Free r) answer.Done p taken done q
+    given = record { took = f.took; fresh = f.begins.fresh; on = freed; gives = gives; rests = rests }
+
+    exact : FreeIsExact flag (turn_of given)
+    exact = elim (cases_Bool due) [
+      | inl is ↦ runs_exactly given (λ x h. h) freeing f.retires.decides.phase (runs is) (f.retires.is_due is)
+      | inr is ↦ rests_exactly given (λ x h. h) freeing flag (f.run.rests is) (f.retires.not_due is)
+    ]
+
+    told : IsDueIn (turn_of given) → due ≡ true
+    told is_due = elim (cases_Bool due) [
+      | inl is ↦ is
+      | inr is ↦ absurd (f.retires.not_due is (due_since given (λ x h. h) freeing (f.run.rests is) is_due))
+    ]
+
+    tells : due ≡ true → IsDueIn (turn_of given)
+    tells is =
+        let x = runs is in
+        due_in given (λ x h. h) freeing (x.first ++ x.begin ∷ x.second) x.is (f.retires.is_due is)
+
+    pub freed_object : FreesObject flag p r due q
+    freed_object = record { called = called given flag exact; is_due = (tells, told) }
+
+loads_in_turn : AreOfTurn is_loading
+loads_in_turn step.Begin h = refl
+loads_in_turn _ h = cc
+
+-- The turn of one whose object was freed already.
+pub record Refuses (r : ℕ) (p taken done : PassState) : Type 0 where
+  pub took : Taken (op.Free r) p taken
+  pub begins : BeginsTurn (op.Free r) taken
+  pub finds : FindsFreed taken r done
+
+module _ {r : ℕ} {p taken done : PassState} (f : Refuses r p taken done) where
+  pub refused : TurnGoesOn (Some answer.Double) taken done
+  refused =
+      decided_on taken r f.begins.fresh f.begins.phase f.begins.tidy is_loading answer.Double done loading_frees
+      f.finds.decides
+
+  module _ {q : PassState} (gives : Makes done step.Give q) (rests : call_of q ≡ at_rest) where
+    abbrev pub given_double : GivenBack (op.Free r) answer.Double p taken done q
+    given_double = record { took = f.took; fresh = f.begins.fresh; on = refused; gives = gives; rests = rests }
+
+    loading : Part is_loading taken done
+    loading =
+        record {
+          turn = taken_turn f.took;
+          stays = loads_in_turn;
+          does = f.finds.decides.does;
+          history = (pass_before gives).history;
+        }
+
+    not_due : IsDueSince taken done → ⊥
+    not_due due =
+        not_due_without taken.table.config (taken.seen ++ due.before) loading.does.more due.before due.event due.behind
+        (part_lacks is_quar loading quars_held loading_no_quar)
+        (append_cancel_left taken.seen loading.does.more (due.before ++ due.event ∷ due.behind)
+        (sym (seen_by loading.does) ∙ due.is ∙ append_assoc taken.seen due.before (due.event ∷ due.behind)))
+        due.due
+
+    double_told : (flag : Bool) → IsAnsweredDouble flag p r q
+    double_told flag =
+        record {
+          called = called given_double flag (rests_exactly given_double loading_frees loading flag refl not_due);
+          only_looks = f.finds.decides.does;
+        }
+
+pub double_answered : (flag : Bool) {r : ℕ} {p taken done q : PassState} → Refuses r p taken done
+    → Makes done step.Give q → call_of q ≡ at_rest → IsAnsweredDouble flag p r q
+double_answered flag f gives rests = double_told f gives rests flag
+
+-- The same of their parts.
+
 module _ (flag due : Bool) (p taken decided done q : PassState) (r : ℕ) (seat : IsCallers p) (own : Has p.seats p.seat)
     (takes : TakesTurn p (Some (op.Free r)) taken) (begins : BeginsTurn (op.Free r) taken) (t : InTurn taken)
     (retires : Retires taken r due decided) (t_decided : InTurn decided) (run : RunsIfDue flag due decided done)
     (t_done : InTurn done) where
-  seat_decided : IsCallers decided
-  seat_decided =
-      callers_then is_freeing taken decided retires.decides.does (taken_callers p taken (op.Free r) seat own takes)
-
-  decides : TurnGoesOn (Some answer.Done) taken decided
-  decides = decided_on taken r begins.fresh begins.phase begins.tidy is_freeing answer.Done decided
-      (λ x h. h) retires.decides
+  frees : Frees flag due r p taken decided done
+  frees =
+      record {
+        took = record { seat = seat; own = own; takes = takes };
+        begins = begins;
+        retires = retires;
+        decided = t_decided;
+        run = run;
+        history = t_done.history;
+      }
 
   pub freed_on : TurnGoesOn (Some answer.Done) taken done
-  freed_on = run_or_rest flag due answer.Done taken decided done decides t_decided seat_decided run t_done.history
+  freed_on = freed frees
 
-  module _ (gives : Makes done step.Give q) (rests : call_of q ≡ at_rest)
-      (history : IsHistory q.table.config q.seen) where
-    within : (x : _) → is_freeing x ≡ true → is_freeing x ≡ true
-    within x h = h
+  pub frees_object : Makes done step.Give q → call_of q ≡ at_rest → IsHistory q.table.config q.seen
+      → FreesObject flag p r due q
+  frees_object gives rests history = freed_object frees gives rests
 
-    exact : FreeIsExact flag (turn p taken decided done q r answer.Done seat own takes begins.fresh t freed_on gives
-        rests history t_done)
-    exact = elim (cases_Bool due) [
-      | inl is ↦
-          runs_exactly p taken decided done q r answer.Done seat own takes begins.fresh t freed_on gives rests history
-          t_done
-          is_freeing within retires.decides.does t_decided.history flag retires.decides.phase
-          (run_in flag decided done t_decided seat_decided decides.quiet (run.runs is) t_done.history)
-          (retires.is_due is)
-      | inr is ↦
-          rests_exactly p taken decided done q r answer.Done seat own takes begins.fresh t freed_on gives rests history
-          t_done
-          is_freeing within retires.decides.does t_decided.history flag (run.rests is) (retires.not_due is)
-    ]
-
-    told : IsDueIn (turn p taken decided done q r answer.Done seat own takes begins.fresh t freed_on gives rests
-        history t_done)
-        → due ≡ true
-    told is_due = elim (cases_Bool due) [
-      | inl is ↦ is
-      | inr is ↦
-          absurd (retires.not_due is
-          (due_since p taken decided done q r answer.Done seat own takes begins.fresh t freed_on gives rests history
-          t_done
-          is_freeing within retires.decides.does t_decided.history (run.rests is) is_due))
-    ]
-
-    tells : due ≡ true → IsDueIn (turn p taken decided done q r answer.Done seat own takes begins.fresh t freed_on
-        gives rests history t_done)
-    tells is =
-        let x = run_in flag decided done t_decided seat_decided decides.quiet (run.runs is) t_done.history in
-        due_in p taken decided done q r answer.Done seat own takes begins.fresh t freed_on gives rests history t_done
-        is_freeing within retires.decides.does t_decided.history (x.first ++ x.begin ∷ x.second) x.is
-        (retires.is_due is)
-
-    pub frees_object : FreesObject flag p r due q
-    frees_object =
-        record {
-          called = called p taken (op.Free r) seat own takes done q answer.Done begins.fresh freed_on gives rests
-              history flag exact;
-          is_due = (tells, told);
-        }
-
-loads_in_turn : AreOfTurn is_loading
-loads_in_turn (step.Look w) h = refl
-loads_in_turn step.Reg h = refl
-loads_in_turn _ h = cc
-
--- The object was freed already.
 module _ (flag : Bool) (p taken decided q : PassState) (r : ℕ) (seat : IsCallers p) (own : Has p.seats p.seat)
     (takes : TakesTurn p (Some (op.Free r)) taken) (begins : BeginsTurn (op.Free r) taken) (t : InTurn taken)
     (finds : FindsFreed taken r decided) (t_decided : InTurn decided) where
+  refuses : Refuses r p taken decided
+  refuses = record { took = record { seat = seat; own = own; takes = takes }; begins = begins; finds = finds }
+
   pub double_on : TurnGoesOn (Some answer.Double) taken decided
-  double_on =
-      decided_on taken r begins.fresh begins.phase begins.tidy is_loading answer.Double decided loading_frees
-      finds.decides
+  double_on = refused refuses
 
-  module _ (gives : Makes decided step.Give q) (rests : call_of q ≡ at_rest)
-      (history : IsHistory q.table.config q.seen) where
-    not_due : IsDueSince taken decided → ⊥
-    not_due due =
-        let d = finds.decides.does in
-        not_due_without taken.table.config (taken.seen ++ due.before) d.more due.before due.event due.behind
-        (part_lacks is_loading is_quar taken decided
-        (λ x h. loads_in_turn x h) quars_held loading_no_quar t d t_decided.history)
-        (same_rest taken.seen d.more (due.before ++ due.event ∷ due.behind)
-        (sym (seen_behind is_loading taken decided d) ∙ due.is
-        ∙ append_assoc taken.seen due.before (due.event ∷ due.behind)))
-        due.due
-
-    pub is_answered_double : IsAnsweredDouble flag p r q
-    is_answered_double =
-        record {
-          called =
-              called p taken (op.Free r) seat own takes decided q answer.Double begins.fresh double_on gives rests
-              history flag
-              (rests_exactly p taken decided decided q r answer.Double seat own takes begins.fresh t double_on gives
-              rests history t_decided
-              is_loading loading_frees finds.decides.does t_decided.history flag refl not_due);
-          only_looks = finds.decides.does;
-        }
+  pub is_answered_double : Makes decided step.Give q → call_of q ≡ at_rest → IsHistory q.table.config q.seen
+      → IsAnsweredDouble flag p r q
+  is_answered_double gives rests history = double_answered flag refuses gives rests

@@ -1,59 +1,33 @@
 -- Each own event of a call that is answered Full leaves all but what is released.
-use Rattle.std.proofs.Common.{◌≡◌, ◌≢◌, ⊎_elim, inl, inr, ℕ, ◌+◌, ◌<◌, Bool, true, false, List, [], ◌∷◌, ◌++◌, length}
-use Rattle.std.proofs.Common.{map, refl, sym, ap, subst, ◌∙◌, append-nil, append_assoc, arith}
-use Rattle.std.specs.Prelude.{◌||◌, ◌&&◌, not, slice_index, Option}
-use Rattle.std.specs.List.{list_all}
-use Rattle.std.proofs.lemmas.Bool.{and_parts, cases_Bool, not-true, true≢false}
-use Rattle.std.proofs.lemmas.List.{get_or-set_other, length-map}
-use Rattle.mk_geom.specs.declared.addresses.Cell.{Cell}
-use Rattle.mk_never.specs.declared.operations.Op.{Op}
-use Rattle.mk_never.specs.Types.{kinds_of}
-use Rattle.mk_core.specs.declared.accesses.Access.TheVariants.{Store}
-use Rattle.mk_core.specs.declared.accesses.TableWord.TheVariants.{Named}
-use Rattle.mk_core.specs.declared.config.Config.{Config}
-use Rattle.mk_core.specs.declared.events.Event.{Event}
-use Rattle.mk_core.specs.declared.events.Seat.{Seat}
-use Rattle.mk_core.specs.declared.events.Step.{Step}
-use Rattle.mk_core.specs.declared.events.Step.TheVariants as step
-use Rattle.mk_core.specs.declared.events.Tally.{Tally}
-use Rattle.mk_core.specs.declared.events.Tally.TheVariants as tally
-use Rattle.mk_core.specs.declared.seats.Flight.{Flight}
-use Rattle.mk_core.specs.Accesses.{tally_word}
-use Rattle.mk_core.specs.Allocations.{PlacedAllocation, allocations_by, freed_where_it_stands, is_mapped}
-use Rattle.mk_core.specs.Allocations.{no_longer_fresh, placed_at, with_released}
-use Rattle.mk_core.specs.Enabled.{holder_may}
-use Rattle.mk_core.specs.Growing.{AreOfOthers, is_same_seat}
-use Rattle.mk_core.specs.History.{IsHistory, World, left, left_from, never_behind, world_behind}
-use Rattle.mk_core.specs.Moments.{Moment, flight_of}
+use Rattle.mk_alloc.proofs.Vocabulary.{made}
+use Rattle.mk_laws.proofs.Basics.{WorldBehind, exists_placed, stands_of, unmapped_is}
+use Rattle.mk_laws.proofs.Vocabulary.{Named, Store, Tally, Words, accessed, changed_at, get_or-set_other, holder_may}
+use Rattle.mk_laws.proofs.Vocabulary.{is_mapped, kinds_of, length-map, no_longer_fresh, placed_at, tally_word}
+use Rattle.mk_laws.proofs.Vocabulary.{with_released}
+use Rattle.mk_alloc.proofs.Vocabulary.{Bool, Cell, Config, Event, Flight, Has, IsHistory, List, Makes, Moment, Op}
+use Rattle.mk_alloc.proofs.Vocabulary.{Option, OwnLeaveAllButReleased, PassState, PlacedAllocation, Seat, Some, Step}
+use Rattle.mk_alloc.proofs.Vocabulary.{TakesTurn, World, [], allocations_by, and_parts, ap, append-nil, append_assoc}
+use Rattle.mk_alloc.proofs.Vocabulary.{call_of, comes_last, event_of, false, flight_of, freed_where_it_stands}
+use Rattle.mk_alloc.proofs.Vocabulary.{frees_none, is_pending_free, is_same_seat, is_take, left, left_in_parts, length}
+use Rattle.mk_alloc.proofs.Vocabulary.{list_all, map, never_behind, none_freed, not, not-true, only_seen, own_before}
+use Rattle.mk_alloc.proofs.Vocabulary.{refl, same_seat, slice_index, stands, subst, sym, told_to_images, true}
+use Rattle.mk_alloc.proofs.Vocabulary.{true≢false, waits_for, world_behind, world_of, ℕ, ◌++◌, ◌+◌, ◌<◌, ◌||◌, ◌∙◌, ◌∷◌}
+use Rattle.mk_alloc.proofs.Vocabulary.{◌≡◌, ◌≢◌}
+use Rattle.mk_core.specs.Growing.{AreOfOthers}
+use Rattle.mk_core.specs.History.{left_from}
 use Rattle.mk_core.specs.TurnConditions.{may_wipe}
-use Rattle.mk_core.specs.Words.{Words, accessed}
-use Rattle.mk_core.proofs.ChangedAllocations.{changed_at, none_freed}
-use Rattle.mk_core.proofs.HistoryParts.{left_in_parts}
-use Rattle.mk_laws.proofs.OthersMoves.{WorldBehind}
-use Rattle.mk_laws.proofs.ImagesBefore.{unmapped_is, words_are}
 use Rattle.mk_laws.proofs.GrantMoves.{wiped_outside}
-use Rattle.mk_laws.proofs.ImagesKept.{exists_placed}
-use Rattle.mk_laws.proofs.ImagesStands.{stands_of}
-use Rattle.mk_laws.proofs.InvariantJoined.{told_to_images}
-use Rattle.mk_laws.proofs.LastEvents.{comes_last, stands}
-use Rattle.mk_words.specs.Seats.{Has}
-use Rattle.mk_words.specs.States.{PassState, call_of, event_of, world_of}
-use Rattle.mk_words.specs.Steps.{Makes}
-use Rattle.mk_words.proofs.Seats.{same_seat}
-use Rattle.mk_turns.specs.Doing.{Does}
+use Rattle.mk_laws.proofs.ImagesBefore.{words_are}
 use Rattle.mk_turns.proofs.Doing.{not_own}
-use Rattle.mk_turns.proofs.Sweeping.{only_seen}
-use Rattle.mk_cycle.specs.EngineLaw.{is_pending_free}
-use Rattle.mk_cycle.specs.TurnKeeps.{InTurn}
-use Rattle.mk_cycle.proofs.Calm.{frees_none}
-use Rattle.mk_alloc.specs.Leaving.{KeepsItsWords, LeavesAllButReleased, OwnLeaveAllButReleased, OwnLeaveFrom}
-use Rattle.mk_alloc.specs.Leaving.{StaysOrIsReleased}
-use Rattle.mk_waiting.specs.Taking.{TakesTurn, is_take, waits_for}
 use Rattle.mk_waiting.proofs.TakesAlone.{own_take}
 use Rattle.mk_alloc.proofs.CalmStretches.{cycles_in_turn, is_of_cycles, longer, other_undecided, own_undecided}
 use Rattle.mk_alloc.proofs.FreeTurns.{is_quar}
 use Rattle.mk_alloc.proofs.Going.{IsCallers}
+use Rattle.mk_alloc.proofs.Parts.{Part, seen_after, seen_by}
 use Rattle.mk_alloc.proofs.Stretches.{Here, Stretch, along, call_in, does_stretch}
+use Rattle.mk_alloc.specs.Leaving.{KeepsItsWords, LeavesAllButReleased, OwnLeaveFrom, StaysOrIsReleased}
+use Rattle.mk_core.specs.declared.events.Step.TheVariants as step
+use Rattle.mk_core.specs.declared.events.Tally.TheVariants as tally
 
 -- the kinds of the call's own steps
 
@@ -254,23 +228,22 @@ leaves_then p q r same one two =
           (subst (λ (x : PassState). OwnLeaveFrom x.table.config x.seat (world_of q) two.more) same two.each));
     }
 
-pub made_leaves : (p q : PassState) (x : Step) → Makes p x q → Has p.seats p.seat → IsHistory q.table.config q.seen
-    → is_of_full x ≡ true → is_quar x ≡ false → OwnLeaveAllButReleased p q
-made_leaves p q x m has history kind other =
+pub made_leaves : {p q : PassState} {x : Step} → Makes p x q → is_of_full x ≡ true → is_quar x ≡ false
+    → OwnLeaveAllButReleased p q
+made_leaves {p} {q} {x} m kind other =
     let c : Config = p.table.config in
     record {
       more = m.others ++ event_of p x ∷ [];
-      is = ap (λ (y : PassState). y.seen) m.is ∙ append_assoc p.seen m.others (event_of p x ∷ []);
+      is = seen_after m;
       each = last_own c p.seat p.seen m.others (event_of p x)
-          (others_own c p.seat p.seats (world_of p) m.others has m.of_others)
-          (step_leaves c (p.seen ++ m.others) p.seat x
-          (subst (λ (y : PassState). IsHistory y.table.config y.seen) m.is history) kind
+          (others_own c p.seat p.seats (world_of p) m.others (own_before m) m.of_others)
+          (step_leaves c (p.seen ++ m.others) p.seat x (made p x q m).whole kind
           (λ quar. absurd (true≢false (sym quar ∙ other))));
     }
 
-pub taking_leaves : (p q : PassState) (o : Option Op) → Has p.seats p.seat → TakesTurn p o q
-    → IsHistory q.table.config q.seen → OwnLeaveAllButReleased p q
-taking_leaves p q o has t history =
+pub taking_leaves : {p q : PassState} {o : Op} → Has p.seats p.seat → TakesTurn p (Some o) q
+    → OwnLeaveAllButReleased p q
+taking_leaves {p} {q} has t =
     let w = t.waits in
     leaves_then p t.waited q (only_seen p t.waited w.more w.is)
     (record {
@@ -278,8 +251,7 @@ taking_leaves p q o has t history =
       is = ap (λ (x : PassState). x.seen) w.is;
       each = waits_own p (world_of p) w.more has w.only;
     })
-    (made_leaves t.waited q (step.Take o) t.takes.makes (subst (λ (x : PassState). Has x.seats x.seat) (sym w.is) has)
-    history refl refl)
+    (made_leaves t.takes.makes refl refl)
 
 -- a part of such steps as cycles are made of
 pub record Left (p : PassState) (es done : List Event) : Type 0 where
@@ -325,11 +297,12 @@ module _ (p : PassState) (seat : IsCallers p) (own : Has p.seats p.seat) (es : L
       more s
       (record { call = ap (λ (l : List Event). call_in p l) (append-nil es); each = tt })
 
-pub cycles_leave : (p q : PassState) → IsCallers p → InTurn p → is_pending_free (call_of p) ≡ false
-    → Does is_of_cycles p q → IsHistory q.table.config q.seen → OwnLeaveAllButReleased p q
-cycles_leave p q seat t free d history =
+pub cycles_leave : {p q : PassState} → IsCallers p → is_pending_free (call_of p) ≡ false → Part is_of_cycles p q
+    → OwnLeaveAllButReleased p q
+cycles_leave {p} {q} seat free x =
     record {
-      more = d.more;
-      is = ap (λ (x : PassState). x.seen) d.is;
-      each = (cycles_left p seat t.own p.seen free d.more (does_stretch p q is_of_cycles d history t.holds)).each;
+      more = x.does.more;
+      is = seen_by x.does;
+      each = (cycles_left p seat x.turn.own p.seen free x.does.more
+          (does_stretch p q is_of_cycles x.does x.history x.turn.holds)).each;
     }

@@ -1,59 +1,29 @@
 -- A New is answered Full: the tally is raised, and the call decided.
-use Rattle.std.proofs.Common.{◌≡◌, ℕ, ◌*◌, ◌<◌, Bool, true, List, [], ◌∷◌, ◌++◌, length, refl, sym, ◌∙◌, ap, subst}
-use Rattle.std.proofs.Common.{arith}
-use Rattle.std.specs.Prelude.{Option, Some, None, is_none, ◌&&◌, nat_lt}
-use Rattle.std.proofs.lemmas.Bool.{and_parts, eq-eqb, lt-ltb, ltb-true}
-use Rattle.std.proofs.lemmas.List.{length-replicate, map-append}
-use Rattle.mk_never.specs.declared.operations.Op.{Op}
-use Rattle.mk_never.specs.declared.operations.Op.TheVariants as op
-use Rattle.mk_never.specs.declared.values.Value.{Value}
-use Rattle.mk_never.specs.declared.values.Value.TheVariants.{Null}
-use Rattle.mk_never.specs.Admitted.{AreAdmitted, IsAdmitted}
-use Rattle.mk_never.specs.NeverHeap.{Call, after_calls}
+use Rattle.std.proofs.lemmas.List.{length-replicate}
+use Rattle.mk_laws.proofs.Vocabulary.{AreAdmitted, Call, IsAdmitted, Null, OwnCycle, Unplaced, is_new_at, is_none}
+use Rattle.mk_laws.proofs.Vocabulary.{ltb-true, map-append, may_answer_full, place_on_pages, ◌*◌}
+use Rattle.mk_alloc.proofs.Vocabulary.{Bool, Caller, Config, Decided, Ended, Event, Flight, Holds, InTurn, IsAtPhase}
+use Rattle.mk_alloc.proofs.Vocabulary.{IsEnabled, IsEnabledTo, IsHistory, IsTurn, IsUnplaced, List, Moment, None, Op}
+use Rattle.mk_alloc.proofs.Vocabulary.{Option, PassState, Place, Placing, Seat, Some, Stage, Value, [], acting_caller}
+use Rattle.mk_alloc.proofs.Vocabulary.{after_calls, and_parts, ap, arith, asked, call_of, caller_of_pass, calls}
+use Rattle.mk_alloc.proofs.Vocabulary.{calls_more, comes_next, entry_of, eq-eqb, first_world, flight_of, has_operands}
+use Rattle.mk_alloc.proofs.Vocabulary.{is_undecided_new, known_left, left, length, lt-ltb, meets_enabled, nat_lt}
+use Rattle.mk_alloc.proofs.Vocabulary.{new_is_acting, now_of, object_for, object_made, op_for, phase_of, place_now_for}
+use Rattle.mk_alloc.proofs.Vocabulary.{refl, subst, sym, true, undecided_new, ℕ, ◌&&◌, ◌++◌, ◌<◌, ◌∙◌, ◌∷◌, ◌≡◌}
 use Rattle.mk_never.proofs.Later.{calls_stay}
 use Rattle.mk_never.proofs.Parts.{admitted_join}
-use Rattle.mk_geom.specs.declared.pages.Place.{Place}
-use Rattle.mk_core.specs.declared.config.Config.{Config}
-use Rattle.mk_core.specs.declared.events.Answer.TheVariants as answer
-use Rattle.mk_core.specs.declared.events.Event.{Event}
-use Rattle.mk_core.specs.declared.events.Seat.{Seat}
-use Rattle.mk_core.specs.declared.events.Seat.TheVariants.{Caller}
-use Rattle.mk_core.specs.declared.events.Step.TheVariants as step
-use Rattle.mk_core.specs.declared.seats.Flight.{Flight}
-use Rattle.mk_core.specs.declared.seats.OwnCycle.{OwnCycle}
-use Rattle.mk_core.specs.declared.seats.OwnCycle.TheVariants.{Ended}
-use Rattle.mk_core.specs.declared.seats.Placing.{Placing}
-use Rattle.mk_core.specs.declared.seats.Placing.TheVariants.{Unplaced}
-use Rattle.mk_core.specs.declared.seats.Stage.{Stage}
-use Rattle.mk_core.specs.declared.seats.Stage.TheVariants as stage
-use Rattle.mk_core.specs.Calls.{has_operands}
-use Rattle.mk_core.specs.Decided.{Decided, asked, entry_of}
-use Rattle.mk_core.specs.Enabled.{IsEnabled}
-use Rattle.mk_core.specs.History.{IsAdmittedBehind, IsHistory, calls, first_world, left, never_first}
-use Rattle.mk_core.specs.Moments.{Moment, flight_of}
-use Rattle.mk_core.specs.NewPlaces.{is_new_at, is_undecided_new, object_made, place_on_pages}
-use Rattle.mk_core.specs.Order.{comes_next}
-use Rattle.mk_core.specs.TurnConditions.{may_answer_full}
-use Rattle.mk_core.specs.Words.{phase_of}
-use Rattle.mk_core.proofs.Conditions.{meets_enabled}
-use Rattle.mk_core.proofs.Histories.{calls_more}
-use Rattle.mk_core.proofs.PlacesNow.{undecided_new}
-use Rattle.mk_laws.proofs.LayoutHolders.{seat_operands}
+use Rattle.mk_core.specs.History.{IsAdmittedBehind, never_first}
 use Rattle.mk_laws.proofs.InvariantTheorems.{first_fit_finds_the_place}
-use Rattle.mk_laws.proofs.Known.{known_left}
-use Rattle.mk_words.specs.States.{PassState, call_of, now_of}
-use Rattle.mk_words.specs.Steps.{IsAdmittedTo, IsEnabledTo}
-use Rattle.mk_words.specs.TurnSteps.{IsTurn, op_for}
-use Rattle.mk_caller.specs.States.{caller_of_pass}
-use Rattle.mk_cycle.specs.EngineLaw.{IsAtPhase}
-use Rattle.mk_cycle.specs.TurnKeeps.{InTurn}
-use Rattle.mk_objects.specs.Placing.{IsUnplaced, object_for, place_now_for}
-use Rattle.mk_objects.proofs.Looks.{acting_caller, acting_now}
-use Rattle.mk_objects.proofs.MayAct.{new_is_acting}
+use Rattle.mk_laws.proofs.LayoutHolders.{seat_operands}
+use Rattle.mk_words.specs.Steps.{IsAdmittedTo}
+use Rattle.mk_objects.proofs.Looks.{acting_now}
 use Rattle.mk_objects.proofs.Takes.{unplaced_settled}
 use Rattle.mk_alloc.proofs.Going.{IsCallers}
 use Rattle.mk_alloc.proofs.SeekingTurns.{new_callers}
-use Rattle.mk_core.specs.Readings.{Holds}
+use Rattle.mk_never.specs.declared.operations.Op.TheVariants as op
+use Rattle.mk_core.specs.declared.events.Answer.TheVariants as answer
+use Rattle.mk_core.specs.declared.events.Step.TheVariants as step
+use Rattle.mk_core.specs.declared.seats.Stage.TheVariants as stage
 
 -- It is enabled
 

@@ -1,32 +1,16 @@
 -- Parts of a turn in which it goes on: the parts of cycles decide nothing, and what goes on in two parts goes on.
-use Rattle.std.proofs.Common.{◌≡◌, Bool, true, List, ◌++◌, refl, sym, ◌∙◌, ap, subst, append-nil}
-use Rattle.std.specs.Prelude.{Option, Some, None}
-use Rattle.mk_never.specs.declared.operations.Op.{Op}
-use Rattle.mk_core.specs.declared.events.Answer.{Answer}
-use Rattle.mk_core.specs.declared.events.Event.{Event}
-use Rattle.mk_core.specs.declared.events.Seat.TheVariants.{Caller}
-use Rattle.mk_core.specs.declared.events.Step.{Step}
-use Rattle.mk_core.specs.declared.events.Step.TheVariants as step
-use Rattle.mk_core.specs.declared.seats.Flight.{Flight}
-use Rattle.mk_core.specs.Decided.{Decided, entry_of}
-use Rattle.mk_core.specs.History.{IsHistory}
-use Rattle.mk_words.specs.States.{PassState, call_of}
-use Rattle.mk_words.specs.TurnSteps.{turn_stays}
-use Rattle.mk_turns.specs.Doing.{Does}
-use Rattle.mk_turns.proofs.Doing.{does_nothing, does_then}
-use Rattle.mk_caller.specs.States.{caller_of_pass}
-use Rattle.mk_caller.specs.Called.{own_calls}
-use Rattle.mk_cycle.specs.BeginCycle.{BeginsCycle}
-use Rattle.mk_cycle.specs.FinishCycle.{FinishesCycle}
-use Rattle.mk_cycle.specs.TurnKeeps.{InTurn}
-use Rattle.mk_objects.specs.Placing.{is_look}
-use Rattle.mk_objects.proofs.JoinedLooks.{does_wider}
-use Rattle.mk_alloc.specs.Underway.{TurnGoesOn, IsQuiet, Looks}
-use Rattle.mk_alloc.proofs.CalmStretches.{cycles_in_turn, goes_undecided, is_of_cycles}
-use Rattle.mk_alloc.proofs.CycleParts.{begin_does, finish_does}
-use Rattle.mk_alloc.proofs.Parts.{seen_behind}
+use Rattle.mk_alloc.proofs.Vocabulary.{Answer, BeginsCycle, Bool, Caller, Decided, Does, Event, FinishesCycle, Flight}
+use Rattle.mk_alloc.proofs.Vocabulary.{InTurn, IsHistory, IsQuiet, List, Looks, None, Op, Option, PassState, Some, Step}
+use Rattle.mk_alloc.proofs.Vocabulary.{TurnGoesOn, ap, append-nil, call_of, caller_of_pass, does_nothing, does_then}
+use Rattle.mk_alloc.proofs.Vocabulary.{does_wider, entry_of, is_begin, is_look, own_calls, refl, subst, sym, turn_stays}
+use Rattle.mk_alloc.proofs.Vocabulary.{◌++◌, ◌∙◌, ◌≡◌}
+use Rattle.mk_alloc.proofs.CalmStretches.{cycles_in_turn, goes_undecided, is_of_cycles, of_turn}
+use Rattle.mk_alloc.proofs.CycleParts.{begin_done, finish_done}
+use Rattle.mk_alloc.proofs.Parts.{Part, seen_behind}
 use Rattle.mk_alloc.proofs.QuietTurns.{quiet_begun, quiet_finished, quiet_looked}
-use Rattle.mk_alloc.proofs.Stretches.{does_stretch}
+use Rattle.mk_alloc.proofs.StepKinds.{AreApart}
+use Rattle.mk_alloc.proofs.Stretches.{Within, does_stretch}
+use Rattle.mk_core.specs.declared.events.Step.TheVariants as step
 
 -- the pass of a caller
 abbrev pub IsCallers : PassState → Type 0
@@ -42,9 +26,16 @@ own_calls_same : (kinds : Step → Bool) (p q : PassState) → Does kinds p q �
     ≡ own_calls p es
 own_calls_same kinds p q d es = ap (λ (x : PassState). own_calls x es) d.is
 
-pub looks_of : (x : Step) → is_look x ≡ true → is_of_cycles x ≡ true
-looks_of (step.Look w) h = refl
+pub looks_of : Within is_look is_of_cycles
+looks_of step.Begin h = cc
 looks_of _ h = cc
+
+pub looks_begin_none : AreApart is_look is_begin
+looks_begin_none step.Begin h = cc
+looks_begin_none _ h = refl
+
+pub look_part : {p q : PassState} → InTurn p → Does is_look p q → IsHistory q.table.config q.seen → Part is_look p q
+look_part t d history = record { turn = t; stays = of_turn looks_of; does = d; history = history }
 
 -- A part of a turn that is free for a cycle, of steps of cycles alone
 pub undecided_part : (p q : PassState) → InTurn p → IsCallers p → IsQuiet p → IsQuiet q → (d : Does is_of_cycles p q)
@@ -55,7 +46,7 @@ undecided_part p q t seat quiet after d history call =
       quiet = after;
       entry =
           ap (λ (l : List Event). own_calls p l) (seen_behind is_of_cycles p q d)
-          ∙ (goes_undecided p seat t.own is_of_cycles p.seen d.more (λ x h. h) quiet.free.decided
+          ∙ (goes_undecided p seat t.own p.seen d.more quiet.free.decided
           (does_stretch p q is_of_cycles d history t.holds)).calls
           ∙ sym (append-nil (own_calls p p.seen));
       op = ap (λ (f : Flight). f.op) call;
@@ -74,13 +65,13 @@ pub begun_on : (p q : PassState) → InTurn p → IsCallers p → IsQuiet p → 
     → IsHistory q.table.config q.seen
     → TurnGoesOn None p q
 begun_on p q t seat quiet b history =
-    undecided_part p q t seat quiet (quiet_begun p q quiet b) (begin_does p q t.own b) history b.call
+    undecided_part p q t seat quiet (quiet_begun p q quiet b) (begin_done b) history b.call
 
 pub finished_on : (p q : PassState) → InTurn p → IsCallers p → IsQuiet p → FinishesCycle p q
     → IsHistory q.table.config q.seen
     → TurnGoesOn None p q
 finished_on p q t seat quiet f history =
-    undecided_part p q t seat quiet (quiet_finished p q quiet f) (finish_does p q t.own f) history f.call
+    undecided_part p q t seat quiet (quiet_finished p q quiet f) (finish_done f) history f.call
 
 -- one part after the other
 

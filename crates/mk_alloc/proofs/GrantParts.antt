@@ -1,17 +1,14 @@
 -- Parts of a New's turn: what was granted in them, and what is let go after that.
-use Rattle.std.proofs.Common.{◌≡◌, ⊎_elim, List, [], ◌∷◌, ◌++◌, refl, sym, ◌∙◌, ap, subst, append_assoc}
-use Rattle.mk_core.specs.declared.events.Event.{Event}
-use Rattle.mk_core.specs.declared.events.Step.TheVariants as step
-use Rattle.mk_core.specs.Cycles.{At}
-use Rattle.mk_words.specs.States.{PassState}
-use Rattle.mk_objects.specs.Placing.{is_look, is_placing}
-use Rattle.mk_alloc.specs.Rooms.{GrantsLast, GrantsNone}
-use Rattle.mk_alloc.specs.TurnCycles.{has_step, is_grant, lets_go}
+use Rattle.mk_alloc.proofs.Vocabulary.{At, Does, Event, GrantsNone, List, PassState, [], ap, append_assoc}
+use Rattle.mk_alloc.proofs.Vocabulary.{append_cancel_left, has_step, is_grant, is_look, is_placing, lets_go, refl}
+use Rattle.mk_alloc.proofs.Vocabulary.{subst, sym, ⊎_elim, ◌++◌, ◌∙◌, ◌∷◌, ◌≡◌}
 use Rattle.mk_alloc.proofs.CalmStretches.{is_of_cycles}
 use Rattle.mk_alloc.proofs.ListParts.{InFirst, InSecond, Lacks, lacks_append, lacks_at, lacks_second, stands}
-use Rattle.mk_alloc.proofs.Parts.{seen_then}
-use Rattle.mk_alloc.proofs.RetiredTurns.{same_rest}
+use Rattle.mk_alloc.proofs.Parts.{Part, part_lacks, seen_by, seen_by_both}
 use Rattle.mk_alloc.proofs.StepKinds.{AreApart, IsHolders}
+use Rattle.mk_alloc.proofs.Stretches.{SomeKinds}
+use Rattle.mk_alloc.specs.Rooms.{GrantsLast}
+use Rattle.mk_core.specs.declared.events.Step.TheVariants as step
 
 -- kinds
 
@@ -20,9 +17,8 @@ grants_held step.Grant h = cc
 grants_held _ h = refl
 
 pub lets_go_held : IsHolders lets_go
-lets_go_held step.Release h = cc
-lets_go_held (step.Quar p v) h = cc
-lets_go_held _ h = refl
+lets_go_held step.Begin h = refl
+lets_go_held _ h = cc
 
 pub looks_no_grant : AreApart is_look is_grant
 looks_no_grant step.Grant h = cc
@@ -33,9 +29,8 @@ cycles_no_grant step.Grant h = cc
 cycles_no_grant _ h = refl
 
 pub places_let_none_go : AreApart is_placing lets_go
-places_let_none_go step.Release h = cc
-places_let_none_go (step.Quar p v) h = cc
-places_let_none_go _ h = refl
+places_let_none_go step.Begin h = cc
+places_let_none_go _ h = cc
 
 -- lists
 
@@ -56,7 +51,7 @@ pub first_behind : (xs ys before : List Event) (e : Event) (behind rest : List E
     → xs ≡ before ++ e ∷ rest → behind ≡ rest ++ ys
 first_behind xs ys before e behind rest is first =
     let same : e ∷ behind ≡ e ∷ (rest ++ ys) =
-    same_rest before (e ∷ behind) (e ∷ (rest ++ ys))
+    append_cancel_left before (e ∷ behind) (e ∷ (rest ++ ys))
     (sym is ∙ ap (λ (l : List Event). l ++ ys) first ∙ append_assoc before (e ∷ rest) ys) in
     let tail : behind ≡ rest ++ ys = cc in tail
 
@@ -83,31 +78,30 @@ last_before xs ys last none calm g =
 
 -- passes
 
-more_is : (p q : PassState) (more all : List Event) → q.seen ≡ p.seen ++ more → q.seen ≡ p.seen ++ all → all ≡ more
-more_is p q more all seen is = same_rest p.seen all more (sym is ∙ seen)
-
-pub grants_none : (p q : PassState) (more : List Event) → q.seen ≡ p.seen ++ more → Lacks is_grant more
-    → GrantsNone p q
-grants_none p q more seen none all is =
-    ap (λ (l : List Event). has_step is_grant l) (more_is p q more all seen is) ∙ none
+pub grants_none : {kinds : SomeKinds} {p q : PassState} → Part kinds p q → AreApart kinds is_grant → GrantsNone p q
+grants_none {p = p} x apart all is =
+    ap (λ (l : List Event). has_step is_grant l)
+    (append_cancel_left p.seen all x.does.more (sym is ∙ seen_by x.does)) ∙ part_lacks is_grant x grants_held apart
 
 pub none_last : (p q : PassState) → GrantsNone p q → GrantsLast p q
 none_last p q none more is g = absurd (lacks_at is_grant more g.before g.event g.behind (none more is) g.is g.of_kind)
 
-pub calm_last : (p q : PassState) (more : List Event) → q.seen ≡ p.seen ++ more → Lacks lets_go more → GrantsLast p q
-calm_last p q more seen calm all is =
-    last_of_calm all (ap (λ (l : List Event). has_step lets_go l) (more_is p q more all seen is) ∙ calm)
+pub calm_last : {kinds : SomeKinds} {p q : PassState} → Part kinds p q → AreApart kinds lets_go → GrantsLast p q
+calm_last {p = p} x apart all is =
+    last_of_calm all
+    (ap (λ (l : List Event). has_step lets_go l)
+    (append_cancel_left p.seen all x.does.more (sym is ∙ seen_by x.does)) ∙ part_lacks lets_go x lets_go_held apart)
 
-pub none_then : (p q r : PassState) (xs ys : List Event) → q.seen ≡ p.seen ++ xs → r.seen ≡ q.seen ++ ys
-    → GrantsNone p q → GrantsNone q r → GrantsNone p r
-none_then p q r xs ys first second one two all is =
-    ap (λ (l : List Event). has_step is_grant l)
-    (more_is p r (xs ++ ys) all (seen_then p.seen q.seen r.seen xs ys first second) is)
-    ∙ lacks_append is_grant xs ys (one xs first) (two ys second)
+module _ {first second : SomeKinds} {p q r : PassState} (one : Does first p q) (two : Does second q r) where
+  both_are : (all : List Event) → r.seen ≡ p.seen ++ all → all ≡ one.more ++ two.more
+  both_are all is = append_cancel_left p.seen all (one.more ++ two.more) (sym is ∙ seen_by_both one two)
 
-pub last_behind : (p q r : PassState) (xs ys : List Event) → q.seen ≡ p.seen ++ xs → r.seen ≡ q.seen ++ ys
-    → GrantsNone p q → GrantsLast q r → GrantsLast p r
-last_behind p q r xs ys first second none last all is =
-    subst (λ (l : List Event). LastIn l)
-    (sym (more_is p r (xs ++ ys) all (seen_then p.seen q.seen r.seen xs ys first second) is))
-    (last_then xs ys (none xs first) (last ys second))
+  pub none_then : GrantsNone p q → GrantsNone q r → GrantsNone p r
+  none_then a b all is =
+      ap (λ (l : List Event). has_step is_grant l) (both_are all is)
+      ∙ lacks_append is_grant one.more two.more (a one.more (seen_by one)) (b two.more (seen_by two))
+
+  pub last_behind : GrantsNone p q → GrantsLast q r → GrantsLast p r
+  last_behind none last all is =
+      subst (λ (l : List Event). LastIn l) (sym (both_are all is))
+      (last_then one.more two.more (none one.more (seen_by one)) (last two.more (seen_by two)))

@@ -1,3 +1,4 @@
+pub mod Vocabulary
 pub mod Stretches
 pub mod ListParts
 pub mod StepKinds

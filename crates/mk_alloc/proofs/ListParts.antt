@@ -1,13 +1,8 @@
 -- Lists in parts: where an event stands, and what they have of a kind.
-use Rattle.std.proofs.Common.{◌≡◌, ◌⊎◌, ⊎_elim, inl, inr, Bool, true, false, List, [], ◌∷◌, ◌++◌, refl, sym, ◌∙◌, ap}
-use Rattle.std.proofs.Common.{append-nil}
-use Rattle.std.specs.Prelude.{◌||◌}
-use Rattle.std.proofs.lemmas.Bool.{true≢false}
-use Rattle.std.proofs.lemmas.List.Folds.{list_any-append}
-use Rattle.mk_core.specs.declared.events.Event.{Event}
-use Rattle.mk_core.specs.declared.events.Step.{Step}
-use Rattle.mk_core.specs.Cycles.{At, Cycle, is_begin, is_close, is_end, is_release}
-use Rattle.mk_alloc.specs.TurnCycles.{has_step}
+use Rattle.mk_laws.proofs.Vocabulary.{Cycle}
+use Rattle.mk_alloc.proofs.Vocabulary.{At, Bool, Event, List, Step, [], ap, append-nil, append_cancel_left, false}
+use Rattle.mk_alloc.proofs.Vocabulary.{has_step, inl, inr, is_begin, is_close, is_end, is_release, list_any-append}
+use Rattle.mk_alloc.proofs.Vocabulary.{refl, sym, true, true≢false, ⊎_elim, ◌++◌, ◌||◌, ◌∙◌, ◌∷◌, ◌≡◌, ◌⊎◌}
 
 -- An event of a list in two parts stands in the first, or in the second.
 
@@ -61,6 +56,13 @@ lacks_append kind xs ys one two = has_append kind xs ys ∙ both_false (has_step
 
 pub lacks_one : (kind : SomeKind) (e : Event) → kind e.step ≡ false → Lacks kind (e ∷ [])
 lacks_one kind e none = ap (λ (b : Bool). b || false) none
+
+-- or in two parts of what comes after the same list
+pub lacks_in_parts : (kind : SomeKind) (es xs ys more : List Event) → es ++ more ≡ es ++ (xs ++ ys) → Lacks kind xs
+    → Lacks kind ys → Lacks kind more
+lacks_in_parts kind es xs ys more same one two =
+    ap (λ (l : List Event). has_step kind l) (append_cancel_left es more (xs ++ ys) same)
+    ∙ lacks_append kind xs ys one two
 
 first_false : (a b : Bool) → (a || b) ≡ false → a ≡ false
 first_false true b h = h

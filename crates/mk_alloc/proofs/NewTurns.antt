@@ -1,62 +1,35 @@
 -- What the turn of a New does with cycles, and what it is answered.
-use Rattle.std.proofs.Common.{◌≡◌, ⊎_elim, ℕ, ◌<◌, Bool, true, false, List, [], ◌∷◌, ◌++◌, length, refl, sym, ◌∙◌, ap}
-use Rattle.std.proofs.Common.{subst, append_assoc}
-use Rattle.std.specs.Prelude.{Some, ◌&&◌, nat_lt}
-use Rattle.std.proofs.lemmas.Bool.{and_from, lt-ltb, or_left, or_right}
-use Rattle.mk_never.specs.declared.operations.Op.{Op}
-use Rattle.mk_never.specs.declared.operations.Op.TheVariants as op
-use Rattle.mk_geom.specs.declared.pages.Census.{Census}
-use Rattle.mk_geom.specs.declared.pages.Page.{Page}
-use Rattle.mk_geom.specs.PageUses.{census_among}
-use Rattle.mk_geom.specs.PageWords.{uses_of_pages}
-use Rattle.mk_geom.specs.Storages.{census_of}
+use Rattle.mk_laws.proofs.Vocabulary.{Page, histories_keep_lengths, or_right, uses_of_pages}
+use Rattle.mk_alloc.proofs.Vocabulary.{Answer, AnswersFull, At, BeginsTurn, Bool, CalledInTurn, Config, Event, Flight}
+use Rattle.mk_alloc.proofs.Vocabulary.{HasNoPlace, Holding, InTurn, IsAnsweredFull, IsHistory, IsQuiet, IsUnplaced}
+use Rattle.mk_alloc.proofs.Vocabulary.{List, Makes, Misfits, Object, PassState, PlacedAllocation, RunsOne, RunsOneCycle}
+use Rattle.mk_alloc.proofs.Vocabulary.{Seeks, Some, Steady, Step, TurnOf, World, [], and_from, ap, append_assoc}
+use Rattle.mk_alloc.proofs.Vocabulary.{append_cancel_left, asks_room, at_rest, call_of, event_of, false}
+use Rattle.mk_alloc.proofs.Vocabulary.{gone_is_unmapped, has_operands, has_place, is_begin, is_grant, is_pending_free}
+use Rattle.mk_alloc.proofs.Vocabulary.{is_run_gone, is_undecided_new, is_want, length, lets_go, lt-ltb, made, nat_lt}
+use Rattle.mk_alloc.proofs.Vocabulary.{now_of, object_for, object_made, off_four, only_seen, only_seen_by, or_left}
+use Rattle.mk_alloc.proofs.Vocabulary.{pass_before, refl, subst, sym, true, turn_stays, unreleased_storage, within_turn}
+use Rattle.mk_alloc.proofs.Vocabulary.{world_of, ℕ, ⊎_elim, ◌&&◌, ◌++◌, ◌<◌, ◌∙◌, ◌∷◌, ◌≡◌}
 use Rattle.mk_geom.proofs.Bridge.{same_census}
-use Rattle.mk_core.specs.declared.config.Config.{Config}
-use Rattle.mk_core.specs.declared.events.Answer.{Answer}
-use Rattle.mk_core.specs.declared.events.Answer.TheVariants as answer
-use Rattle.mk_core.specs.declared.events.Event.{Event}
-use Rattle.mk_core.specs.declared.events.Step.{Step}
-use Rattle.mk_core.specs.declared.events.Step.TheVariants as step
-use Rattle.mk_core.specs.declared.seats.Flight.{Flight}
-use Rattle.mk_core.specs.declared.seats.Holding.{Holding}
-use Rattle.mk_core.specs.declared.seats.Object.{Object}
-use Rattle.mk_core.specs.Allocations.{PlacedAllocation, census_of_allocations, unreleased_storage}
-use Rattle.mk_core.specs.Calls.{at_rest, has_operands}
-use Rattle.mk_core.specs.Cycles.{At, TurnOf, is_begin}
-use Rattle.mk_core.specs.Frames.{Steady}
-use Rattle.mk_core.specs.History.{IsHistory, World}
-use Rattle.mk_core.specs.NewPlaces.{is_run_gone, is_undecided_new, object_made}
-use Rattle.mk_core.proofs.Lengths.{histories_keep_lengths}
-use Rattle.mk_laws.proofs.Settled.{gone_is_unmapped}
+use Rattle.mk_geom.specs.PageUses.{census_among}
+use Rattle.mk_geom.specs.Storages.{census_of}
+use Rattle.mk_geom.specs.declared.pages.Census.{Census}
+use Rattle.mk_core.specs.Allocations.{census_of_allocations}
 use Rattle.mk_laws.proofs.InvariantTheorems.{pages_show_the_storage}
-use Rattle.mk_objects.proofs.MayAct.{off_four}
-use Rattle.mk_laws.specs.Protocol.{has_place}
 use Rattle.mk_laws.proofs.PlacementTheorems.{fulls_fit_nowhere}
-use Rattle.mk_words.specs.Seats.{Has}
-use Rattle.mk_words.specs.States.{PassState, call_of, event_of, now_of, world_of}
-use Rattle.mk_words.specs.Steps.{Makes}
-use Rattle.mk_words.specs.TurnSteps.{turn_stays}
-use Rattle.mk_words.proofs.Made.{made}
-use Rattle.mk_cycle.specs.EngineLaw.{is_pending_free}
-use Rattle.mk_cycle.specs.TurnKeeps.{InTurn}
-use Rattle.mk_objects.specs.Placing.{IsUnplaced, object_for}
-use Rattle.mk_waiting.specs.Taking.{TakesTurn}
-use Rattle.mk_turns.proofs.Sweeping.{only_seen}
-use Rattle.mk_alloc.specs.Rooms.{AnswersFull, BeginsNone, Misfits, RunsOne, Seeks, asks_room}
-use Rattle.mk_alloc.specs.TurnCalls.{CalledInTurn, IsAnsweredFull}
-use Rattle.mk_alloc.specs.TurnCycles.{HasNoPlace, NewIsExact, RunsOneCycle, is_grant, is_want, lets_go, within_turn}
-use Rattle.mk_alloc.specs.Underway.{BeginsTurn, IsQuiet}
-use Rattle.mk_alloc.proofs.CalledTurns.{called, taken_same, turn_of, within_is}
+use Rattle.mk_alloc.proofs.CalledTurns.{GivenBack, Taken, called, done_is, given_turn, lacks_given, taken_is}
+use Rattle.mk_alloc.proofs.CalledTurns.{taken_turn, turn_of, within_is}
 use Rattle.mk_alloc.proofs.CycleParts.{begins_held}
-use Rattle.mk_alloc.proofs.Going.{IsCallers}
 use Rattle.mk_alloc.proofs.FullLeaves.{leaves_then, made_leaves, taking_leaves}
 use Rattle.mk_alloc.proofs.GrantParts.{grants_held, last_before, lets_go_held}
 use Rattle.mk_alloc.proofs.ListParts.{InFirst, InSecond, SomeKind, lacks_at, stands}
-use Rattle.mk_alloc.proofs.Parts.{others_lack, seen_behind, seen_made}
-use Rattle.mk_alloc.proofs.OneCycles.{one_before, one_then_none}
-use Rattle.mk_alloc.proofs.RetiredTurns.{same_rest}
+use Rattle.mk_alloc.proofs.OneCycles.{one_before}
+use Rattle.mk_alloc.proofs.Parts.{history_before, in_turn_then, seen_after, seen_by}
 use Rattle.mk_alloc.proofs.RoomParts.{rooms_held}
-use Rattle.mk_alloc.proofs.SeekingTurns.{seeks_then}
+use Rattle.mk_alloc.specs.TurnCycles.{NewIsExact}
+use Rattle.mk_never.specs.declared.operations.Op.TheVariants as op
+use Rattle.mk_core.specs.declared.events.Answer.TheVariants as answer
+use Rattle.mk_core.specs.declared.events.Step.TheVariants as step
 
 -- Directly after its `take` the turn of a New is quiet, and its object has no place yet.
 
@@ -87,73 +60,74 @@ operands_of c d ty small typed =
     and_from (nat_lt 0 8 && nat_lt 0 8 && nat_lt 0 8 && nat_lt d 8 && nat_lt 0 64) (nat_lt ty (length c.types))
     (ap (λ (b : Bool). true && b && true) (lt-ltb d 8 small)) (lt-ltb ty (length c.types) typed)
 
-module _ (flag : Bool) (p taken done q : PassState) (d ty : ℕ) (a : Answer) (seat : IsCallers p)
-    (own : Has p.seats p.seat)
-    (takes : TakesTurn p (Some (op.New d ty false)) taken) (begins : BeginsTurn (op.New d ty false) taken)
-    (seeks : Seeks (Some a) taken done) (runs : RunsOne taken done) (t_done : InTurn done)
-    (gives : Makes done step.Give q) (rests : call_of q ≡ at_rest)
-    (history : IsHistory q.table.config q.seen) where
-  abbrev pub o : Op
-  o = op.New d ty false
+-- A New that sought room, and was answered in its turn.
+pub record NewGiven (d ty : ℕ) (a : Answer) (p taken done q : PassState) : Type 0 where
+  pub took : Taken (op.New d ty false) p taken
+  pub begins : BeginsTurn (op.New d ty false) taken
+  pub seeks : Seeks (Some a) taken done
+  pub runs : RunsOne taken done
+  pub gives : Makes done step.Give q
+  pub rests : call_of q ≡ at_rest
 
-  abbrev pub turn : TurnOf p.table.config p.seat (done.seen ++ gives.others)
-  turn = turn_of p taken o seat own takes done q a begins.fresh seeks.on gives rests history
+module _ {d ty : ℕ} {a : Answer} {p taken done q : PassState} (m : NewGiven d ty a p taken done q) where
+  abbrev pub given : GivenBack (op.New d ty false) a p taken done q
+  given = record { took = m.took; fresh = m.begins.fresh; on = m.seeks.on; gives = m.gives; rests = m.rests }
 
-  same_object : object_for taken ≡ object_made p.table.config o
+  abbrev turn : TurnOf p.table.config p.seat (done.seen ++ m.gives.others)
+  turn = turn_of given
+
+  abbrev o : Object
+  o = object_made p.table.config (op.New d ty false)
+
+  same_object : object_for taken ≡ o
   same_object =
-      ap (λ (f : Flight). object_made taken.table.config f.op) begins.fresh.call
-      ∙ ap (λ (x : PassState). object_made x.table.config o) (taken_same p taken o seat own takes)
+      ap (λ (f : Flight). object_made taken.table.config f.op) m.begins.fresh.call
+      ∙ ap (λ (x : PassState). object_made x.table.config (op.New d ty false)) (taken_is m.took)
 
   -- at each step that asks for room
   room_at : (kind : SomeKind) → ((x : Step) → kind x ≡ true → asks_room x ≡ true) → (at : At kind turn.behind)
-      → HasNoPlace p.table.config (object_made p.table.config o) (within_turn turn at.before)
+      → HasNoPlace p.table.config o (within_turn turn at.before)
   room_at kind within at =
       ⊎_elim
-      (λ (x : InFirst seeks.on.does.more at.before at.event).
-      subst (λ (l : List Event). HasNoPlace p.table.config (object_made p.table.config o) l)
-      (within_is p taken o seat own takes done q a begins.fresh seeks.on gives rests history at.before)
+      (λ (x : InFirst m.seeks.on.does.more at.before at.event).
+      subst (λ (l : List Event). HasNoPlace p.table.config o l) (within_is given at.before)
       (subst (λ (y : Object). HasNoPlace p.table.config y (taken.seen ++ at.before)) same_object
       (subst (λ (y : PassState). HasNoPlace y.table.config (object_for taken) (taken.seen ++ at.before))
-      (taken_same p taken o seat own takes)
-      (seeks.room at.before at.event x.behind
-      (seen_behind turn_stays taken done seeks.on.does ∙ ap (λ (l : List Event). taken.seen ++ l) x.is
+      (taken_is m.took)
+      (m.seeks.room at.before at.event x.behind
+      (seen_by m.seeks.on.does ∙ ap (λ (l : List Event). taken.seen ++ l) x.is
       ∙ sym (append_assoc taken.seen at.before (at.event ∷ x.behind)))
       (within at.event.step at.of_kind)))))
-      (λ (x : InSecond seeks.on.does.more gives.others at.before at.event at.behind).
-      absurd (lacks_at asks_room gives.others x.rest at.event at.behind
-      (others_lack asks_room done q step.Give rooms_held t_done gives history) x.is (within at.event.step at.of_kind)))
-      (stands seeks.on.does.more gives.others at.before at.event at.behind at.is)
+      (λ (x : InSecond m.seeks.on.does.more m.gives.others at.before at.event at.behind).
+      absurd (lacks_at asks_room m.gives.others x.rest at.event at.behind (lacks_given given asks_room rooms_held) x.is
+      (within at.event.step at.of_kind)))
+      (stands m.seeks.on.does.more m.gives.others at.before at.event at.behind at.is)
 
-  one_done : RunsOneCycle seeks.on.does.more
+  one_done : RunsOneCycle m.seeks.on.does.more
   one_done =
       subst (λ (l : List Event). RunsOneCycle l)
-      (same_rest taken.seen runs.more seeks.on.does.more
-      (sym runs.is ∙ seen_behind turn_stays taken done seeks.on.does))
-      runs.one
+      (append_cancel_left taken.seen m.runs.more m.seeks.on.does.more (sym m.runs.is ∙ seen_by m.seeks.on.does)) m.runs.one
 
-  pub exact : NewIsExact turn (object_made p.table.config o)
+  pub exact : NewIsExact turn o
   exact =
       record {
         begins = room_at is_begin (λ x h. or_left (is_begin x) (is_want x) h);
         ends = room_at is_want (λ x h. or_right (is_begin x) (is_want x) h);
-        one = one_before seeks.on.does.more gives.others one_done
-            (others_lack is_begin done q step.Give begins_held t_done gives history);
+        one = one_before m.seeks.on.does.more m.gives.others one_done (lacks_given given is_begin begins_held);
         keeps =
-            last_before seeks.on.does.more gives.others
-            (seeks.last seeks.on.does.more (seen_behind turn_stays taken done seeks.on.does))
-            (others_lack is_grant done q step.Give grants_held t_done gives history)
-            (others_lack lets_go done q step.Give lets_go_held t_done gives history);
+            last_before m.seeks.on.does.more m.gives.others (m.seeks.last m.seeks.on.does.more (seen_by m.seeks.on.does))
+            (lacks_given given is_grant grants_held) (lacks_given given lets_go lets_go_held);
       }
 
-  abbrev pub new_called : CalledInTurn flag p (op.New d ty false) a q
-  new_called = called p taken o seat own takes done q a begins.fresh seeks.on gives rests history flag exact
+  abbrev pub new_called : (flag : Bool) → CalledInTurn flag p (op.New d ty false) a q
+  new_called flag = called given flag exact
 
 -- the counts of the pages, where all is quiet
-pub census_told : (p : PassState) (book : List Page) (census : Census) → InTurn p → IsQuiet p → book
-    ≡ (now_of p).words.pages
+pub census_told : {p : PassState} {book : List Page} {census : Census} → InTurn p → IsQuiet p
+    → book ≡ (now_of p).words.pages
     → census ≡ census_among (uses_of_pages book) → census
     ≡ census_of_allocations p.table.config (world_of p).allocations
-census_told p book census t quiet shows is =
+census_told {p} t quiet shows is =
     let c : Config = p.table.config in
     let pages : List Page = (now_of p).words.pages in
     let shown = pages_show_the_storage c p.seen t.history (record {
@@ -167,73 +141,57 @@ census_told p book census t quiet shows is =
     (histories_keep_lengths c p.seen).pages
 
 -- Giving the turn back leaves the allocations.
-given_allocations : (p q : PassState) → InTurn p → Makes p step.Give q → IsHistory q.table.config q.seen
+given_allocations : {p q : PassState} → InTurn p → Makes p step.Give q
     → (world_of q).allocations ≡ (world_of p).allocations
-given_allocations p q t m history =
+given_allocations {p} {q} t m =
     let d = made p step.Give q m in
     ap (λ (w : World). w.allocations) d.world ∙ ap (λ (s : Steady). s.allocations) ((d.frame.turn t.holds).0).steady
 
-module _ (flag : Bool) (p taken last done q : PassState) (d ty : ℕ) (census : Census) (seat : IsCallers p)
-    (own : Has p.seats p.seat)
-    (takes : TakesTurn p (Some (op.New d ty false)) taken) (begins : BeginsTurn (op.New d ty false) taken)
-    (misfits : Misfits taken last) (runs : RunsOne taken last) (full : AnswersFull last done)
-    (calm : BeginsNone last done) (t_done : InTurn done)
-    (gives : Makes done step.Give q)
-    (rests : call_of q ≡ at_rest) (history : IsHistory q.table.config q.seen)
-    (told : census ≡ census_of_allocations last.table.config (world_of last).allocations)
-    (t_taken : InTurn taken) where
-  seeks : Seeks (Some answer.Full) taken done
-  seeks = seeks_then (Some answer.Full) taken last done misfits.seeks full.seeks
+-- It is answered Full, where it fits nowhere last.
+module _ {d ty : ℕ} {p taken last done q : PassState} (m : NewGiven d ty answer.Full p taken done q)
+    (misfits : Misfits taken last) (full : AnswersFull last done) where
+  pub last_turn : InTurn last
+  last_turn =
+      in_turn_then turn_stays taken last (λ x h. h) (taken_turn m.took) misfits.seeks.on.does
+      (history_before turn_stays last done full.seeks.on.does (pass_before m.gives).history)
 
-  last_same : last ≡ record p { seen = last.seen }
-  last_same =
-      misfits.seeks.on.does.is ∙ ap (λ (x : PassState). record x { seen = taken.seen ++ misfits.seeks.on.does.more })
-      (taken_same p taken (op.New d ty false) seat own takes)
-      ∙ ap (λ (l : List Event). record p { seen = l }) (sym (ap (λ (x : PassState). x.seen) misfits.seeks.on.does.is))
+  last_is : last ≡ record p { seen = last.seen }
+  last_is = only_seen taken last misfits.seeks.on.does.more misfits.seeks.on.does.is
+      ∙ ap (λ (x : PassState). record x { seen = last.seen }) (taken_is m.took)
 
-  done_same : done ≡ record p { seen = done.seen }
-  done_same =
-      full.seeks.on.does.is ∙ ap (λ (x : PassState). record x { seen = last.seen ++ full.seeks.on.does.more }) last_same
-      ∙ ap (λ (l : List Event). record p { seen = l }) (sym (ap (λ (x : PassState). x.seen) full.seeks.on.does.is))
+  q_is : q ≡ record p { seen = q.seen }
+  q_is = only_seen_by done q step.Give m.gives ∙ ap (λ (x : PassState). record x { seen = q.seen }) (done_is (given m))
 
-  q_same : q ≡ record p { seen = q.seen }
-  q_same =
-      gives.is ∙ ap (λ (x : PassState). record x { seen = done.seen ++ gives.others ++ event_of done step.Give ∷ [] })
-      done_same
-      ∙ ap (λ (l : List Event). record p { seen = l }) (sym (ap (λ (x : PassState). x.seen) gives.is))
-
-  behind : List Event
-  behind = full.behind ++ (gives.others ++ event_of done step.Give ∷ [])
+  abbrev behind : List Event
+  behind = full.behind ++ (m.gives.others ++ event_of done step.Give ∷ [])
 
   seen_is : q.seen ≡ full.before ++ event_of p step.Full ∷ behind
-  unfolding behind
   seen_is =
-      seen_made done q step.Give gives
-      ∙ ap (λ (l : List Event). l ++ (gives.others ++ event_of done step.Give ∷ [])) full.is
-      ∙ append_assoc full.before (event_of last step.Full ∷ full.behind) (gives.others ++ event_of done step.Give ∷ [])
-      ∙ ap (λ (x : PassState). full.before ++ event_of x
-      step.Full ∷ (full.behind ++ (gives.others ++ event_of done step.Give ∷ []))) last_same
+      seen_after m.gives ∙ ap (λ (l : List Event). l ++ (m.gives.others ++ event_of done step.Give ∷ [])) full.is
+      ∙ append_assoc full.before (event_of last step.Full ∷ full.behind)
+      (m.gives.others ++ event_of done step.Give ∷ [])
+      ∙ ap (λ (x : PassState). full.before ++ event_of x step.Full ∷ behind) last_is
 
-  pub is_answered_full : IsAnsweredFull flag p (op.New d ty false) census q
-  is_answered_full =
+  pub is_answered_full : {census : Census} (flag : Bool)
+      → census ≡ census_of_allocations last.table.config (world_of last).allocations
+      → IsAnsweredFull flag p (op.New d ty false) census q
+  is_answered_full flag told =
       record {
-        called = new_called flag p taken done q d ty answer.Full seat own takes begins seeks
-            (one_then_none taken last done runs calm) t_done gives rests history;
+        called = new_called m flag;
         before = full.before;
         behind = behind;
         is = seen_is;
         full = fulls_fit_nowhere p.table.config q.seen
-            (subst (λ (x : PassState). IsHistory x.table.config q.seen) q_same history) full.before
+            (subst (λ (x : PassState). IsHistory x.table.config q.seen) q_is m.gives.pass.history) full.before
             (event_of p step.Full) behind seen_is refl;
         counts =
-            told ∙ ap (λ (x : PassState). census_of_allocations x.table.config (world_of last).allocations) last_same
+            told ∙ ap (λ (x : PassState). census_of_allocations x.table.config (world_of last).allocations) last_is
             ∙ ap (λ (xs : List PlacedAllocation). census_of_allocations p.table.config xs)
-            (sym (given_allocations done q t_done gives history ∙ full.allocations));
+            (sym (given_allocations (given_turn (given m)) m.gives ∙ full.allocations));
         leaves =
-            leaves_then p taken q (taken_same p taken (op.New d ty false) seat own takes)
-            (taking_leaves p taken (Some (op.New d ty false)) own takes t_taken.history)
+            leaves_then p taken q (taken_is m.took) (taking_leaves m.took.own m.took.takes)
             (leaves_then taken last q (only_seen taken last misfits.seeks.on.does.more misfits.seeks.on.does.is)
             (misfits.seeks.leaves refl)
             (leaves_then last done q (only_seen last done full.seeks.on.does.more full.seeks.on.does.is) full.leaves
-            (made_leaves done q step.Give gives t_done.own history refl refl)));
+            (made_leaves m.gives refl refl)));
       }

@@ -1,26 +1,19 @@
 -- One cycle at most: in lists, and in parts of a turn.
-use Rattle.std.proofs.Common.{◌≡◌, ⊎_elim, false, List, ◌∷◌, ◌++◌, refl, sym, ◌∙◌, ap, subst, append_assoc}
-use Rattle.mk_core.specs.declared.events.Event.{Event}
-use Rattle.mk_core.specs.declared.events.Step.TheVariants as step
-use Rattle.mk_core.specs.Cycles.{At, is_begin, is_end}
-use Rattle.mk_core.specs.History.{IsHistory}
-use Rattle.mk_words.specs.States.{PassState}
-use Rattle.mk_turns.specs.Doing.{Does}
-use Rattle.mk_cycle.specs.BeginCycle.{BeginsCycle}
-use Rattle.mk_cycle.specs.FinishCycle.{FinishesCycle}
-use Rattle.mk_cycle.specs.TurnKeeps.{InTurn}
-use Rattle.mk_objects.specs.Placing.{FitsNowhere, IsPlaced, is_look, is_placing}
-use Rattle.mk_alloc.specs.Rooms.{BeginsNone, EndsOnly, RunsOne}
-use Rattle.mk_alloc.specs.TurnCycles.{RunsOneCycle, has_step}
-use Rattle.mk_alloc.specs.Underway.{Looks}
+use Rattle.mk_alloc.proofs.Vocabulary.{At, BeginsCycle, BeginsNone, Does, Event, FinishesCycle, InTurn, IsHistory}
+use Rattle.mk_alloc.proofs.Vocabulary.{IsPlaced, List, PassState, RunsOne, RunsOneCycle, ap, append_assoc, false}
+use Rattle.mk_alloc.proofs.Vocabulary.{has_step, is_begin, is_end, is_look, is_placing, refl, subst, sym, ⊎_elim, ◌++◌}
+use Rattle.mk_alloc.proofs.Vocabulary.{◌∙◌, ◌∷◌, ◌≡◌}
 use Rattle.mk_alloc.proofs.CycleParts.{begin_in, begins_held, finish_in}
 use Rattle.mk_alloc.proofs.DueParts.{at_behind, at_first, end_at}
+use Rattle.mk_alloc.proofs.Going.{look_part, looks_begin_none}
 use Rattle.mk_alloc.proofs.GrantParts.{first_behind}
 use Rattle.mk_alloc.proofs.ListParts.{InFirst, InSecond, Lacks, lacks_append, lacks_at, none_at, only_at, stands}
-use Rattle.mk_alloc.proofs.Parts.{part_lacks, seen_behind, seen_then}
-use Rattle.mk_alloc.proofs.PlacedTurns.{look_stays, placing_stays}
+use Rattle.mk_alloc.proofs.Parts.{Part, part_lacks, seen_behind, seen_then}
+use Rattle.mk_alloc.proofs.PlacedTurns.{place_part}
 use Rattle.mk_alloc.proofs.StepKinds.{AreApart}
-use Rattle.mk_alloc.proofs.Stretches.{AreOfTurn, SomeKinds}
+use Rattle.mk_alloc.proofs.Stretches.{SomeKinds}
+use Rattle.mk_alloc.specs.Rooms.{EndsOnly}
+use Rattle.mk_core.specs.declared.events.Step.TheVariants as step
 
 -- lists
 
@@ -67,30 +60,21 @@ placing_no_begin : AreApart is_placing is_begin
 placing_no_begin step.Begin h = cc
 placing_no_begin _ h = refl
 
-look_no_begin : AreApart is_look is_begin
-look_no_begin step.Begin h = cc
-look_no_begin _ h = refl
-
-pub begins_none_by : (kinds : SomeKinds) (p q : PassState) → AreOfTurn kinds → AreApart kinds is_begin → InTurn p
-    → Does kinds p q → IsHistory q.table.config q.seen → BeginsNone p q
-begins_none_by kinds p q stays apart t d history =
+pub begins_none_by : {kinds : SomeKinds} {p q : PassState} → Part kinds p q → AreApart kinds is_begin → BeginsNone p q
+begins_none_by {kinds} {p} {q} x apart =
     record {
-      more = d.more;
-      is = seen_behind kinds p q d;
-      none = part_lacks kinds is_begin p q stays begins_held apart t d history;
+      more = x.does.more;
+      is = seen_behind kinds p q x.does;
+      none = part_lacks is_begin x begins_held apart;
     }
 
 pub placed_begins_none : (p q : PassState) → InTurn p → IsPlaced p q → IsHistory q.table.config q.seen
     → BeginsNone p q
-placed_begins_none p q t placed history =
-    begins_none_by is_placing p q placing_stays placing_no_begin t placed.granted.does history
+placed_begins_none p q t placed history = begins_none_by (place_part t placed.granted.does history) placing_no_begin
 
-pub nowhere_begins_none : (p q : PassState) → InTurn p → FitsNowhere p q → IsHistory q.table.config q.seen
+pub looks_begins_none : {p q : PassState} → InTurn p → Does is_look p q → IsHistory q.table.config q.seen
     → BeginsNone p q
-nowhere_begins_none p q t f history = begins_none_by is_look p q look_stays look_no_begin t f.looks.does history
-
-pub look_begins_none : (p q : PassState) → InTurn p → Looks p q → IsHistory q.table.config q.seen → BeginsNone p q
-look_begins_none p q t k history = begins_none_by is_look p q look_stays look_no_begin t k.does history
+looks_begins_none t d history = begins_none_by (look_part t d history) looks_begin_none
 
 -- one after the other
 

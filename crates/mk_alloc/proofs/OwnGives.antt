@@ -1,35 +1,20 @@
 -- Lists in which a seat gives no turn back: its turns stay exact after them.
-use Rattle.std.proofs.Common.{◌≡◌, ⊎_elim, Bool, true, false, List, [], ◌∷◌, ◌++◌, map, refl, sym, ◌∙◌, ap, subst}
-use Rattle.std.proofs.Common.{append-nil}
-use Rattle.std.specs.Prelude.{◌&&◌, ◌||◌, not, if◌then◌else◌}
-use Rattle.std.specs.List.{list_all, list_any}
-use Rattle.std.proofs.lemmas.Bool.{and_from, and_parts, false_from_ne_true, not-true, or_cases, or_from, or_parts}
-use Rattle.std.proofs.lemmas.Bool.{true≢false}
-use Rattle.std.proofs.lemmas.List.Folds.{list_any-append}
-use Rattle.mk_never.specs.declared.operations.Op.{Op}
-use Rattle.mk_core.specs.declared.config.Config.{Config}
-use Rattle.mk_core.specs.declared.events.Answer.{Answer}
-use Rattle.mk_core.specs.declared.events.Event.{Event}
-use Rattle.mk_core.specs.declared.events.Seat.{Seat}
-use Rattle.mk_core.specs.declared.events.Step.{Step}
-use Rattle.mk_core.specs.declared.events.Step.TheVariants as step
-use Rattle.mk_core.specs.declared.seats.Stage.{Stage}
-use Rattle.mk_core.specs.declared.seats.Stage.TheVariants as stage
-use Rattle.mk_core.specs.Accesses.{found}
-use Rattle.mk_core.specs.Cycles.{is_give}
-use Rattle.mk_core.specs.Growing.{AreOfOthers, Finding, is_one_of, is_same_seat, own_from}
-use Rattle.mk_core.specs.History.{World, left, world_behind}
-use Rattle.mk_words.specs.Seats.{Has}
-use Rattle.mk_words.specs.States.{PassState, event_of}
-use Rattle.mk_words.specs.Steps.{Makes}
-use Rattle.mk_words.specs.TurnSteps.{turn_stays}
-use Rattle.mk_words.proofs.Seats.{not_both, same_seat, same_self}
-use Rattle.mk_caller.specs.Called.{own_steps, step_at, steps_made, stages_made}
-use Rattle.mk_turns.specs.Doing.{Does, are_of}
-use Rattle.mk_waiting.specs.Taking.{Waits, is_take, waits_for}
-use Rattle.mk_alloc.specs.TurnCycles.{EndsExactly, TurnsOfAreExact}
-use Rattle.mk_alloc.proofs.ListParts.{InFirst, InSecond, stands}
 use Rattle.std.proofs.Math.Bool.{and-false}
+use Rattle.mk_laws.proofs.Vocabulary.{false_from_ne_true, list_any}
+use Rattle.mk_alloc.proofs.Vocabulary.{Answer, Bool, Config, Does, EndsExactly, Event, Finding, Has, List, Makes, Op}
+use Rattle.mk_alloc.proofs.Vocabulary.{PassState, Seat, Stage, Step, TurnsOfAreExact, World, [], and_from, and_parts}
+use Rattle.mk_alloc.proofs.Vocabulary.{ap, append-nil, are_of, event_of, false, found, if◌then◌else◌, is_same_seat}
+use Rattle.mk_alloc.proofs.Vocabulary.{list_all, list_any-append, map, not, not-true, not_both, or_from, or_parts}
+use Rattle.mk_alloc.proofs.Vocabulary.{own_steps, refl, same_seat, same_self, stages_made, step_at, subst, sym, true}
+use Rattle.mk_alloc.proofs.Vocabulary.{true≢false, turn_stays, world_behind, world_of, ⊎_elim, ◌&&◌, ◌++◌, ◌∙◌, ◌∷◌}
+use Rattle.mk_alloc.proofs.Vocabulary.{◌≡◌}
+use Rattle.mk_core.specs.Cycles.{is_give}
+use Rattle.mk_core.specs.Growing.{AreOfOthers, own_from}
+use Rattle.mk_caller.specs.Called.{steps_made}
+use Rattle.mk_turns.specs.Doing.{done_in}
+use Rattle.mk_alloc.proofs.ListParts.{InFirst, InSecond, stands}
+use Rattle.mk_core.specs.declared.events.Step.TheVariants as step
+use Rattle.mk_core.specs.declared.seats.Stage.TheVariants as stage
 
 abbrev pub own_give : Seat → Event → Bool
 own_give s e = is_same_seat s e.seat && is_give e.step
@@ -92,96 +77,76 @@ others_give s seats (e ∷ es) has others =
     (λ same. not_both seats e.seat others.0 (subst (λ (t : Seat). Has seats t) (same_seat s e.seat same) has))))
     (others_give s seats es has others.1)
 
--- Who waits only tries to take the turn.
+-- Own steps of kinds without a `give` give nothing back.
 
-waiting : (p : PassState) (e : Event) → Has p.seats p.seat → waits_for p e ≡ true → own_give p.seat e ≡ false
-waiting p e has waits = false_from_ne_true (own_give p.seat e) (λ own.
-    let parts = and_parts (is_same_seat p.seat e.seat) (is_give e.step) own in
-    let same : p.seat ≡ e.seat = same_seat p.seat e.seat parts.0 in
-    ⊎_elim
-    (λ (out : not (is_one_of p.seats e.seat) ≡ true).
-    not_both p.seats e.seat (not-true (is_one_of p.seats e.seat) out) (subst (λ (t : Seat). Has p.seats t) same has))
-    (λ (take : (is_take e.step && is_same_seat e.seat p.seat) ≡ true).
-    not_give_and_take e.step parts.1 (and_parts (is_take e.step) (is_same_seat e.seat p.seat) take).0)
-    (or_cases (not (is_one_of p.seats e.seat)) (is_take e.step && is_same_seat e.seat p.seat) waits))
-  where
-    not_give_and_take : (x : Step) → is_give x ≡ true → is_take x ≡ true → ⊥
-    not_give_and_take step.Give g t = cc
-    not_give_and_take _ g t = cc
+abbrev pub HaveNoGive : (Step → Bool) → Type 0
+HaveNoGive kinds = (x : Step) → kinds x ≡ true → is_give x ≡ false
 
-waits_give : (p : PassState) (es : List Event) → Has p.seats p.seat → list_all (waits_for p) es ≡ true
-    → GivesNone p.seat es
-waits_give p [] has all = refl
-waits_give p (e ∷ es) has all =
-    let parts = and_parts (waits_for p e) (list_all (waits_for p) es) all in
-    or_from (own_give p.seat e) (list_any (own_give p.seat) es) (waiting p e has parts.0) (waits_give p es has parts.1)
+first_gives : (kinds : Step → Bool) (b : Bool) (x : Finding) (rest : List Finding) → HaveNoGive kinds
+    → are_of kinds (if b then x ∷ rest else rest) ≡ true
+    → ((b && is_give x.event.step) ≡ false) × (are_of kinds rest ≡ true)
+first_gives kinds true x rest none all =
+    let parts = and_parts (kinds x.event.step) (are_of kinds rest) all in (none x.event.step parts.0, parts.1)
+first_gives kinds false x rest none all = (refl, all)
 
-pub waiting_gives : (p q : PassState) (w : Waits p q) → Has p.seats p.seat → GivesNone p.seat w.more
-waiting_gives p q w has = waits_give p w.more has w.only
-
--- what its own steps say
-
-own_finds : (c : Config) (s : Seat) (w : World) (es : List Event)
-    → list_any (λ (x : Finding). is_give x.event.step) (own_from c s w es) ≡ list_any (own_give s) es
+kinds_give : (kinds : Step → Bool) (c : Config) (s : Seat) (w : World) (es : List Event) → HaveNoGive kinds
+    → are_of kinds (own_from c s w es) ≡ true → GivesNone s es
 unfolding own_from
-own_finds c s w [] = refl
-own_finds c s w (e ∷ es) =
-    by (is_same_seat s e.seat) (record { event = e; found = found c w.now e })
-    (own_from c s (world_behind c w e) es) refl
-    ∙ ap (λ (b : Bool). own_give s e || b) (own_finds c s (world_behind c w e) es)
-  where
-    by : (b : Bool) (x : Finding) (xs : List Finding) → x.event.step ≡ e.step
-        → list_any (λ (y : Finding). is_give y.event.step) (if b then x ∷ xs else xs)
-        ≡ ((b && is_give e.step) || list_any (λ (y : Finding). is_give y.event.step) xs)
-    by true x xs same = ap (λ (y : Step). is_give y || list_any (λ (y : Finding). is_give y.event.step) xs) same
-    by false x xs same = refl
+kinds_give kinds c s w [] none all = refl
+kinds_give kinds c s w (e ∷ es) none all =
+    let parts = first_gives kinds (is_same_seat s e.seat) (record { event = e; found = found c w.now e })
+    (own_from c s (world_behind c w e) es) none all in
+    or_from (own_give s e) (list_any (own_give s) es) parts.0 (kinds_give kinds c s (world_behind c w e) es none parts.1)
 
-stays_no_give : (x : Step) → turn_stays x ≡ true → is_give x ≡ false
+pub does_give_none : {kinds : Step → Bool} {p q : PassState} → HaveNoGive kinds → (d : Does kinds p q)
+    → GivesNone p.seat d.more
+does_give_none {kinds} {p} {q} none d =
+    kinds_give kinds p.table.config p.seat (world_of p) d.more none d.of_kinds
+
+stays_no_give : HaveNoGive turn_stays
 stays_no_give step.Give h = cc
 stays_no_give _ h = refl
 
-stay_no_gives : (xs : List Finding) → are_of turn_stays xs ≡ true → list_any (λ (x : Finding). is_give x.event.step) xs
-    ≡ false
-stay_no_gives [] all = refl
-stay_no_gives (x ∷ xs) all =
-    let parts = and_parts (turn_stays x.event.step) (are_of turn_stays xs) all in
-    or_from (is_give x.event.step) (list_any (λ (y : Finding). is_give y.event.step) xs)
-    (stays_no_give x.event.step parts.0) (stay_no_gives xs parts.1)
-
 pub doing_gives : (p q : PassState) (d : Does turn_stays p q) → GivesNone p.seat d.more
-doing_gives p q d =
-    sym (own_finds p.table.config p.seat (left p.table.config p.seen) d.more)
-    ∙ stay_no_gives (own_from p.table.config p.seat (left p.table.config p.seen) d.more) d.of_kinds
+doing_gives p q d = does_give_none stays_no_give d
 
--- A call with `enter` and `leave` gives nothing back.
+-- The own steps of a call with `enter` and `leave` are those of its stages,
 
-any_of_steps : (xs : List Finding)
-    → list_any is_give (map (λ (x : Finding). x.event.step) xs) ≡ list_any (λ (x : Finding). is_give x.event.step) xs
-any_of_steps [] = refl
-any_of_steps (x ∷ xs) = ap (λ (b : Bool). is_give x.event.step || b) (any_of_steps xs)
+stages_are : (kinds : Step → Bool) → ((s : Stage) → kinds (step_at s) ≡ true) → (xs : List Stage)
+    → list_all kinds (map step_at xs) ≡ true
+stages_are kinds at [] = refl
+stages_are kinds at (x ∷ xs) = and_from (kinds (step_at x)) (list_all kinds (map step_at xs)) (at x)
+    (stages_are kinds at xs)
 
-at_no_give : (s : Stage) → is_give (step_at s) ≡ false
+all_of_steps : (kinds : Step → Bool) (xs : List Finding)
+    → list_all kinds (map (λ (x : Finding). x.event.step) xs) ≡ are_of kinds xs
+all_of_steps kinds [] = refl
+all_of_steps kinds (x ∷ xs) = ap (λ (b : Bool). kinds x.event.step && b) (all_of_steps kinds xs)
+
+pub steps_are : (kinds : Step → Bool) → ((s : Stage) → kinds (step_at s) ≡ true) → (p : PassState) (o : Op)
+    (a : Answer) (more : List Event) → kinds (step.Enter o) ≡ true → own_steps p more ≡ steps_made o a
+    → are_of kinds (done_in p more) ≡ true
+steps_are kinds at p o a more enter steps =
+    sym (all_of_steps kinds (done_in p more)) ∙ ap (λ (l : List Step). list_all kinds l) steps
+    ∙ and_from (kinds (step.Enter o)) (list_all kinds (map step_at (stages_made o a))) enter
+    (stages_are kinds at (stages_made o a))
+
+-- so it gives nothing back.
+
+no_give : Step → Bool
+no_give x = not (is_give x)
+
+at_no_give : (s : Stage) → no_give (step_at s) ≡ true
+unfolding no_give
 at_no_give stage.Probe = refl
-at_no_give stage.Read = refl
-at_no_give stage.Write = refl
-at_no_give stage.Cas = refl
-at_no_give stage.Getg = refl
-at_no_give stage.Setg = refl
-at_no_give stage.Dirty = refl
-at_no_give stage.Leave = refl
 at_no_give _ = refl
-
-stages_no_give : (xs : List Stage) → list_any is_give (map step_at xs) ≡ false
-stages_no_give [] = refl
-stages_no_give (x ∷ xs) =
-    or_from (is_give (step_at x)) (list_any is_give (map step_at xs)) (at_no_give x) (stages_no_give xs)
 
 pub calls_give : (p : PassState) (o : Op) (a : Answer) (more : List Event) → own_steps p more ≡ steps_made o a
     → GivesNone p.seat more
+unfolding no_give
 calls_give p o a more steps =
-    let fs : List Finding = own_from p.table.config p.seat (left p.table.config p.seen) more in
-    sym (own_finds p.table.config p.seat (left p.table.config p.seen) more)
-    ∙ sym (any_of_steps fs) ∙ ap (λ (l : List Step). list_any is_give l) steps ∙ stages_no_give (stages_made o a)
+    kinds_give no_give p.table.config p.seat (world_of p) more (λ x h. not-true (is_give x) h)
+    (steps_are no_give at_no_give p o a more refl steps)
 
 -- What is made by one step, which isn't a `give`.
 pub one_gives : (p : PassState) (x : Step) (q : PassState) (m : Makes p x q) → Has p.seats p.seat → is_give x ≡ false

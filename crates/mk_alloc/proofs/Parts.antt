@@ -1,20 +1,11 @@
 -- Parts of a turn, one after the other: each pass knows whose turn it is, and what its part lacks.
-use Rattle.std.proofs.Common.{◌≡◌, true, List, [], ◌∷◌, ◌++◌, sym, ◌∙◌, ap, subst, append_assoc}
-use Rattle.mk_core.specs.declared.events.Event.{Event}
-use Rattle.mk_core.specs.declared.events.Step.{Step}
-use Rattle.mk_core.specs.History.{IsHistory}
-use Rattle.mk_core.specs.Readings.{Holds}
-use Rattle.mk_core.proofs.HistoryParts.{earlier_part_is_history}
-use Rattle.mk_words.specs.Seats.{Has}
-use Rattle.mk_words.specs.States.{PassState, event_of, now_of}
-use Rattle.mk_words.specs.Steps.{Makes}
-use Rattle.mk_turns.specs.Doing.{Does}
-use Rattle.mk_turns.proofs.Doing.{does_step}
-use Rattle.mk_cycle.specs.TurnKeeps.{InTurn}
-use Rattle.mk_alloc.proofs.ListParts.{Lacks, SomeKind}
+use Rattle.mk_alloc.proofs.Vocabulary.{Acts, Does, Event, Has, Holds, InTurn, IsHistory, List, Makes, PassState, Step}
+use Rattle.mk_alloc.proofs.Vocabulary.{[], ap, append_assoc, does_nothing, does_step, earlier_part_is_history, event_of}
+use Rattle.mk_alloc.proofs.Vocabulary.{now_of, own_before, pass_before, subst, sym, true, turn_stays, ◌++◌, ◌∙◌, ◌∷◌}
+use Rattle.mk_alloc.proofs.Vocabulary.{◌≡◌}
+use Rattle.mk_alloc.proofs.ListParts.{Lacks, SomeKind, lacks_append}
 use Rattle.mk_alloc.proofs.StepKinds.{AreApart, IsHolders, lacks}
-use Rattle.mk_alloc.proofs.Stretches.{AreOfTurn, SomeKinds, Stretch, does_stretch, holds_behind, no_kinds}
-use Rattle.mk_alloc.proofs.Stretches.{others_stretch}
+use Rattle.mk_alloc.proofs.Stretches.{AreOfTurn, SomeKinds, does_stretch, holds_behind, no_kinds, others_stretch}
 
 -- what a pass has seen after parts
 
@@ -26,6 +17,18 @@ seen_made p q s m = ap (λ (x : PassState). x.seen) m.is ∙ append_assoc p.seen
 
 pub seen_then : (es fs gs xs ys : List Event) → fs ≡ es ++ xs → gs ≡ fs ++ ys → gs ≡ es ++ (xs ++ ys)
 seen_then es fs gs xs ys a b = b ∙ ap (λ (l : List Event). l ++ ys) a ∙ append_assoc es xs ys
+
+pub seen_by : {kinds : SomeKinds} {p q : PassState} (d : Does kinds p q) → q.seen ≡ p.seen ++ d.more
+seen_by d = ap (λ (x : PassState). x.seen) d.is
+
+pub seen_by_both : {first second : SomeKinds} {p q r : PassState} (one : Does first p q) (two : Does second q r)
+    → r.seen ≡ p.seen ++ (one.more ++ two.more)
+seen_by_both {p = p} {q = q} {r = r} one two =
+    seen_then p.seen q.seen r.seen one.more two.more (seen_by one) (seen_by two)
+
+pub seen_after : {p : PassState} {s : Step} {q : PassState} (m : Makes p s q)
+    → q.seen ≡ p.seen ++ (m.others ++ event_of p s ∷ [])
+seen_after {p} {s} {q} m = seen_made p q s m
 
 -- One step is done after events of others.
 pub made_as : (kinds : SomeKinds) (p q : PassState) (s : Step) → Has p.seats p.seat → Makes p s q → kinds s ≡ true
@@ -54,29 +57,61 @@ in_turn_then kinds p q stays t d history =
       history = history;
     }
 
+-- A part of a turn: its holder took only steps of these kinds.
+pub record Part (kinds : SomeKinds) (p q : PassState) : Type 0 where
+  pub turn : InTurn p
+  pub stays : AreOfTurn kinds
+  pub does : Does kinds p q
+  pub history : IsHistory q.table.config q.seen
+
+pub nothing_part : {p : PassState} → InTurn p → Part no_kinds p p
+nothing_part {p} t = record { turn = t; stays = λ x h. cc; does = does_nothing no_kinds p; history = t.history }
+
+pub behind_part : {kinds : SomeKinds} {p q : PassState} → Part kinds p q → InTurn q
+behind_part {kinds} {p} {q} x = in_turn_then kinds p q x.stays x.turn x.does x.history
+
+pub behind_step : {p : PassState} {s : Step} {q : PassState} → InTurn p → Makes p s q → turn_stays s ≡ true → InTurn q
+behind_step {p} {s} {q} t m stays =
+    in_turn_then turn_stays p q (λ x h. h) t (does_step turn_stays p q s m stays) m.pass.history
+
+-- before a step of the turn's holder
+pub before_act : {p : PassState} {s : Step} {q : PassState} → Acts p s q → InTurn p
+before_act a = record { own = own_before a.makes; holds = a.holds; history = (pass_before a.makes).history }
+
 -- what a part lacks
 
-pub part_lacks : (kinds : SomeKinds) (kind : SomeKind) (p q : PassState) → AreOfTurn kinds → IsHolders kind
-    → AreApart kinds kind
-    → InTurn p → (d : Does kinds p q) → IsHistory q.table.config q.seen → Lacks kind d.more
-part_lacks kinds kind p q stays holders apart t d history =
-    lacks p kinds kind p.seen d.more stays t.own holders apart (does_stretch p q kinds d history t.holds)
-
-none_of_turn : AreOfTurn no_kinds
-none_of_turn x h = cc
-
-all_apart : (kind : SomeKind) → AreApart no_kinds kind
-all_apart kind x h = cc
-
-pub others_of : (p q : PassState) (s : Step) → InTurn p → (m : Makes p s q) → IsHistory q.table.config q.seen
-    → Stretch p no_kinds p.seen m.others
-others_of p q s t m history =
-    others_stretch p p.seen m.others t.own
-    (earlier_part_is_history p.table.config (p.seen ++ m.others) (event_of p s ∷ [])
-    (subst (λ (x : PassState). IsHistory x.table.config x.seen) m.is history))
-    t.holds m.of_others
+pub part_lacks : {kinds : SomeKinds} {p q : PassState} (kind : SomeKind) (x : Part kinds p q) → IsHolders kind
+    → AreApart kinds kind → Lacks kind x.does.more
+part_lacks {kinds} {p} {q} kind x holders apart =
+    lacks p kinds kind p.seen x.does.more x.stays x.turn.own holders apart
+    (does_stretch p q kinds x.does x.history x.turn.holds)
 
 pub others_lack : (kind : SomeKind) (p q : PassState) (s : Step) → IsHolders kind → InTurn p → (m : Makes p s q)
     → IsHistory q.table.config q.seen → Lacks kind m.others
 others_lack kind p q s holders t m history =
-    lacks p no_kinds kind p.seen m.others none_of_turn t.own holders (all_apart kind) (others_of p q s t m history)
+    lacks p no_kinds kind p.seen m.others (λ x h. cc) t.own holders (λ x h. cc)
+    (others_stretch p p.seen m.others t.own
+    (earlier_part_is_history p.table.config (p.seen ++ m.others) (event_of p s ∷ [])
+    (subst (λ (x : PassState). IsHistory x.table.config x.seen) m.is history))
+    t.holds m.of_others)
+
+-- One step after a part, and what stands before it: the events of the part, and of others.
+pub record StepBehind (kinds : SomeKinds) (p r : PassState) (s : Step) (q : PassState) : Type 0 where
+  pub before : List Event
+  pub is : q.seen ≡ p.seen ++ (before ++ event_of r s ∷ [])
+  pub turn : InTurn q
+  pub lacks : (kind : SomeKind) → IsHolders kind → AreApart kinds kind → Lacks kind before
+
+pub step_behind : {kinds : SomeKinds} {p r : PassState} {s : Step} {q : PassState} → Part kinds p r → Makes r s q
+    → turn_stays s ≡ true → StepBehind kinds p r s q
+step_behind {kinds} {p} {r} {s} {q} x m stays =
+    record {
+      before = x.does.more ++ m.others;
+      is =
+          seen_then p.seen r.seen q.seen x.does.more _ (seen_behind kinds p r x.does) (seen_made r q s m)
+          ∙ ap (λ (l : List Event). p.seen ++ l) (sym (append_assoc x.does.more m.others (event_of r s ∷ [])));
+      turn = behind_step (behind_part x) m stays;
+      lacks = λ kind holders apart.
+          lacks_append kind x.does.more m.others (part_lacks kind x holders apart)
+          (others_lack kind r q s holders (behind_part x) m m.pass.history);
+    }

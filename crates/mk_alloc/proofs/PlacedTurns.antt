@@ -1,61 +1,36 @@
 -- A turn stays quiet where its New's object is granted, and where it only looks.
-use Rattle.std.proofs.Common.{◌≡◌, ℕ, ◌+◌, true, List, [], ◌∷◌, ◌++◌, refl, sym, ◌∙◌, ap, subst, arith}
-use Rattle.std.specs.Prelude.{Option, Some, None, cond}
-use Rattle.std.proofs.lemmas.List.Sums.{sum_by_push}
-use Rattle.mk_core.specs.declared.config.Config.{Config}
-use Rattle.mk_core.specs.declared.events.Answer.TheVariants as answer
-use Rattle.mk_core.specs.declared.events.Event.{Event}
-use Rattle.mk_core.specs.declared.events.Step.{Step}
-use Rattle.mk_core.specs.declared.events.Step.TheVariants as step
-use Rattle.mk_core.specs.declared.seats.Flight.{Flight}
-use Rattle.mk_core.specs.declared.seats.Holding.{Holding}
-use Rattle.mk_core.specs.declared.seats.Placing.{Placing}
-use Rattle.mk_core.specs.declared.seats.RunPages.{RunPages}
-use Rattle.mk_core.specs.declared.seats.Stage.{Stage}
-use Rattle.mk_core.specs.declared.seats.Stage.TheVariants as stage
-use Rattle.mk_core.specs.Allocations.{PlacedAllocation, fresh_words_of}
-use Rattle.mk_core.specs.Counts.{full_answers, in_a_word, releases}
-use Rattle.mk_core.specs.Frames.{CountsAreLeft, Steady, steady_of}
-use Rattle.mk_core.specs.History.{IsHistory, World, left}
-use Rattle.mk_core.specs.Moments.{is_held}
-use Rattle.mk_core.specs.NewPlaces.{is_run_gone, is_undecided_new}
-use Rattle.mk_core.proofs.PlacesNow.{undecided_new}
-use Rattle.mk_laws.proofs.LayoutHolders.{none_on_its_way}
+use Rattle.mk_laws.proofs.Basics.{none_on_its_way}
+use Rattle.mk_alloc.proofs.Vocabulary.{Config, CountsAreLeft, Does, Event, Flight, Holding, InTurn, IsHistory, IsPlaced}
+use Rattle.mk_alloc.proofs.Vocabulary.{IsQuiet, IsUnplaced, KeepsGates, LeavesTurn, List, None, OnlyLooks, Option}
+use Rattle.mk_alloc.proofs.Vocabulary.{PassState, PlacedAllocation, Placing, RunPages, Some, Stage, Steady, TurnGoesOn}
+use Rattle.mk_alloc.proofs.Vocabulary.{World, [], ap, arith, call_of, cond, does_wider, fresh_words_of, full_answers}
+use Rattle.mk_alloc.proofs.Vocabulary.{has_place, holds_turn, in_a_word, is_held, is_look, is_pending_free_at}
+use Rattle.mk_alloc.proofs.Vocabulary.{is_placing, is_run_gone, is_undecided_new, known_left, left, looks_left, now_of}
+use Rattle.mk_alloc.proofs.Vocabulary.{refl, releases, same_config, steady_of, subst, sum_by_push, sym, true}
+use Rattle.mk_alloc.proofs.Vocabulary.{turn_stays, unchanged, undecided_new, world_of, ℕ, ◌++◌, ◌+◌, ◌∙◌, ◌∷◌, ◌≡◌}
 use Rattle.mk_laws.proofs.FreshWords.{fresh_pushed}
-use Rattle.mk_laws.specs.Protocol.{has_place}
-use Rattle.mk_laws.proofs.Known.{holds_turn, known_left}
-use Rattle.mk_words.specs.States.{PassState, call_of, now_of, world_of}
-use Rattle.mk_words.specs.TurnSteps.{turn_stays}
-use Rattle.mk_turns.specs.Doing.{Does}
-use Rattle.mk_cycle.specs.EngineLaw.{is_pending_free_at}
-use Rattle.mk_cycle.specs.TurnKeeps.{InTurn, KeepsGates, LeavesTurn, IsGone, unchanged}
-use Rattle.mk_cycle.proofs.KeptInParts.{same_config}
-use Rattle.mk_objects.specs.Placing.{IsPlaced, IsUnplaced, OnlyLooks, is_look, is_placing, object_at_place}
+use Rattle.mk_cycle.specs.TurnKeeps.{IsGone}
+use Rattle.mk_objects.proofs.JoinedLooks.{looks_call}
+use Rattle.mk_objects.specs.Placing.{object_at_place}
 use Rattle.mk_objects.specs.Unchanged.{IsAsLeft}
-use Rattle.mk_objects.proofs.JoinedLooks.{does_wider, looks_call, looks_left}
-use Rattle.mk_alloc.specs.Underway.{TurnGoesOn, IsQuiet}
-use Rattle.mk_alloc.proofs.Parts.{seen_behind}
-use Rattle.mk_alloc.proofs.PlacingStretches.{LeavesBeside, leaves_beside}
+use Rattle.mk_alloc.proofs.CalmStretches.{of_turn}
+use Rattle.mk_alloc.proofs.Going.{looks_of}
+use Rattle.mk_alloc.proofs.Parts.{Part, seen_behind}
+use Rattle.mk_alloc.proofs.PlacingStretches.{LeavesBeside, leaves_beside, placing_in_turn}
 use Rattle.mk_alloc.proofs.QuietTurns.{none_held_kept, quiet_kept, same_phase}
 use Rattle.mk_alloc.proofs.RetiredTurns.{given_is_decided}
-use Rattle.mk_alloc.proofs.Stretches.{does_stretch}
+use Rattle.mk_alloc.proofs.Stretches.{Within, does_stretch}
+use Rattle.mk_core.specs.declared.events.Answer.TheVariants as answer
+use Rattle.mk_core.specs.declared.events.Step.TheVariants as step
+use Rattle.mk_core.specs.declared.seats.Stage.TheVariants as stage
 
-looks_place : (x : Step) → is_look x ≡ true → is_placing x ≡ true
-looks_place (step.Look w) h = refl
+looks_place : Within is_look is_placing
+looks_place step.Begin h = cc
 looks_place _ h = cc
 
-pub look_stays : (x : Step) → is_look x ≡ true → turn_stays x ≡ true
-look_stays (step.Look w) h = refl
-look_stays _ h = cc
-
-pub placing_stays : (x : Step) → is_placing x ≡ true → turn_stays x ≡ true
-placing_stays (step.Look w) h = refl
-placing_stays (step.Mark p v) h = refl
-placing_stays (step.Head p v) h = refl
-placing_stays (step.Used p v) h = refl
-placing_stays step.Grant h = refl
-placing_stays (step.Tally n v) h = refl
-placing_stays _ h = cc
+pub place_part : {p q : PassState} → InTurn p → Does is_placing p q → IsHistory q.table.config q.seen
+    → Part is_placing p q
+place_part t d history = record { turn = t; stays = placing_in_turn; does = d; history = history }
 
 -- An undecided New has freed no run.
 pub none_freed_yet : (p : PassState) → InTurn p → is_undecided_new (call_of p) ≡ true → (now_of p).seats.holding.freed
@@ -111,7 +86,7 @@ module _ (p q : PassState) (t : InTurn p) (u : IsUnplaced p) (quiet : IsQuiet p)
   pub looked_beside : TurnGoesOn None p q
   looked_beside =
       record {
-        does = does_wider is_look turn_stays look_stays p q looks.does;
+        does = does_wider is_look turn_stays (of_turn looks_of) p q looks.does;
         quiet = quiet_kept p q quiet kept (gates_beside p q t d history);
         entry = looks.calls;
         op = ap (λ (f : Flight). f.op) (looks_call p q looks);
@@ -200,7 +175,7 @@ module _ (p q : PassState) (t : InTurn p) (u : IsUnplaced p) (quiet : IsQuiet p)
   pub placed_on : TurnGoesOn (Some answer.Done) p q
   placed_on =
       record {
-        does = does_wider is_placing turn_stays placing_stays p q placed.granted.does;
+        does = does_wider is_placing turn_stays placing_in_turn p q placed.granted.does;
         quiet = quiet_behind;
         entry = placed.granted.calls;
         op = op_same;

@@ -1,68 +1,33 @@
 -- Stretches of a turn in which no gate is held or opened, no cycle ends, no New is full and no object is freed.
-use Rattle.std.proofs.Common.{◌≡◌, ◌≢◌, ℕ, ◌+◌, Bool, true, false, List, [], ◌∷◌, ◌++◌, refl, sym, ◌∙◌, ap, subst}
-use Rattle.std.proofs.Common.{append-nil, arith, inl, inr}
-use Rattle.std.specs.Prelude.{◌==◌, cond, slice_index, if◌then◌else◌}
-use Rattle.std.proofs.lemmas.Bool.{cases_eq, eq-eqb, ne_eqb}
-use Rattle.std.proofs.lemmas.List.Sums.{sum_by_push}
-use Rattle.mk_core.specs.declared.config.Config.{Config}
-use Rattle.mk_core.specs.declared.events.Event.{Event}
-use Rattle.mk_core.specs.declared.events.Seat.{Seat}
-use Rattle.mk_core.specs.declared.events.Seat.TheVariants.{Caller, Host, Marker}
-use Rattle.mk_core.specs.declared.events.Step.{Step}
-use Rattle.mk_core.specs.declared.events.Step.TheVariants as step
-use Rattle.mk_core.specs.declared.seats.Flight.{Flight}
-use Rattle.mk_core.specs.declared.seats.Holding.{Holding}
-use Rattle.mk_core.specs.declared.seats.Progress.{Progress}
-use Rattle.mk_core.specs.Accesses.{caller_number, found}
-use Rattle.mk_core.specs.Calls.{still}
-use Rattle.mk_core.specs.Counts.{ends, full_answers}
-use Rattle.mk_core.specs.Cycles.{is_end}
-use Rattle.mk_core.specs.Decided.{Decided}
-use Rattle.mk_core.specs.declared.events.Answer.TheVariants as answer
-use Rattle.mk_core.specs.Effects.{answer_decided, decided, holding_behind, progress, sees_double}
-use Rattle.mk_core.specs.Frames.{CountsAreLeft}
-use Rattle.mk_core.specs.History.{World, call_decided, calls, first_world, left}
-use Rattle.mk_core.specs.Moments.{Moment, flight_of, is_held}
-use Rattle.mk_core.specs.NewPlaces.{target}
-use Rattle.mk_core.proofs.Histories.{calls_more}
-use Rattle.mk_laws.proofs.ProtocolFrames.{left_after}
-use Rattle.mk_laws.proofs.OrderlyLists.{actor_of}
-use Rattle.mk_laws.proofs.OthersCounts.{answers_full, counts_nothing, entry_fulls, fulls_append, fulls_of}
-use Rattle.mk_laws.proofs.SameWords.{Behind, tally_keeps}
-use Rattle.mk_words.specs.Seats.{Has}
-use Rattle.mk_words.specs.States.{PassState, event_of}
-use Rattle.mk_objects.specs.Placing.{is_placing}
+use Rattle.mk_laws.proofs.Basics.{Behind, tally_keeps}
+use Rattle.mk_laws.proofs.Vocabulary.{Marker, Progress, cases_eq, decided, ne_eqb, sees_double, target}
+use Rattle.mk_alloc.proofs.Vocabulary.{Bool, Caller, Config, CountsAreLeft, Decided, Event, Flight, Has, Holding, Host}
+use Rattle.mk_alloc.proofs.Vocabulary.{List, Moment, PassState, Seat, Step, World, [], actor_of, answer_decided, ap}
+use Rattle.mk_alloc.proofs.Vocabulary.{append-nil, arith, call_decided, caller_number, calls, calls_more, cond, ends}
+use Rattle.mk_alloc.proofs.Vocabulary.{eq-eqb, event_of, false, first_world, flight_of, found, full_answers}
+use Rattle.mk_alloc.proofs.Vocabulary.{fulls_append, fulls_of, if◌then◌else◌, inl, inr, is_end, is_held, is_placing}
+use Rattle.mk_alloc.proofs.Vocabulary.{left, left_after, progress, refl, slice_index, still, subst, sum_by_push, sym}
+use Rattle.mk_alloc.proofs.Vocabulary.{true, ℕ, ◌++◌, ◌+◌, ◌==◌, ◌∙◌, ◌∷◌, ◌≡◌, ◌≢◌}
+use Rattle.mk_core.specs.Effects.{holding_behind}
+use Rattle.mk_laws.proofs.OthersCounts.{answers_full, counts_nothing, entry_fulls}
 use Rattle.mk_alloc.proofs.CalmStretches.{longer}
 use Rattle.mk_alloc.proofs.Stretches.{AreOfTurn, Here, Stretch, along, holds_none}
+use Rattle.mk_core.specs.declared.events.Step.TheVariants as step
+use Rattle.mk_core.specs.declared.events.Answer.TheVariants as answer
 
-placing_in_turn : AreOfTurn is_placing
-placing_in_turn (step.Look x) h = refl
-placing_in_turn (step.Mark p v) h = refl
-placing_in_turn (step.Head p v) h = refl
-placing_in_turn (step.Used p v) h = refl
-placing_in_turn step.Grant h = refl
-placing_in_turn (step.Tally n v) h = refl
+pub placing_in_turn : AreOfTurn is_placing
+placing_in_turn step.Begin h = cc
 placing_in_turn _ h = cc
 
 placing_gates : (c : Config) (m : Moment) (seat : Seat) (x : Step) → is_placing x ≡ true
     → (Behind c m seat x).words.gates ≡ m.words.gates
-placing_gates c m seat (step.Look x) h = refl
-placing_gates c m seat (step.Mark p v) h = refl
-placing_gates c m seat (step.Head p v) h = refl
-placing_gates c m seat (step.Used p v) h = refl
-placing_gates c m seat step.Grant h = refl
 placing_gates c m seat (step.Tally n v) h = (tally_keeps m.words n v).gates
 placing_gates c m seat _ h = cc
 
 placing_frees_none : (c : Config) (m : Moment) (seat : Seat) (f : Flight) (n : ℕ) (x : Step) (h : Holding)
     → is_placing x ≡ true
     → (holding_behind c m seat f n x h).freed ≡ h.freed
-placing_frees_none c m seat f n (step.Look x) h kind = refl
-placing_frees_none c m seat f n (step.Mark p v) h kind = refl
-placing_frees_none c m seat f n (step.Head p v) h kind = refl
-placing_frees_none c m seat f n (step.Used p v) h kind = refl
-placing_frees_none c m seat f n step.Grant h kind = refl
-placing_frees_none c m seat f n (step.Tally t v) h kind = refl
+placing_frees_none c m seat f n step.Begin h kind = cc
 placing_frees_none c m seat f n _ h kind = cc
 
 placing_ends_none : (x : Step) → is_placing x ≡ true → is_end x ≡ false
@@ -78,11 +43,6 @@ placing_answers : (c : Config) (m : Moment) (f : Flight) (n : ℕ) (x : Step) �
     → answers_full (progress c m f n x).answer ≡ false
 placing_answers c m f n (step.Look x) h =
     either_answer (sees_double m.words (target c.pages m.words f) x) (decided f answer.Double) (still f) refl refl
-placing_answers c m f n (step.Mark p v) h = refl
-placing_answers c m f n (step.Head p v) h = refl
-placing_answers c m f n (step.Used p v) h = refl
-placing_answers c m f n step.Grant h = refl
-placing_answers c m f n (step.Tally t v) h = refl
 placing_answers c m f n _ h = cc
 
 placing_decides : (c : Config) (m : Moment) (seat : Seat) (x : Step) → is_placing x ≡ true

@@ -1,41 +1,23 @@
 -- What keeps a turn quiet, and that a quiet one may look at the phase and, once its call is decided, be given back.
-use Rattle.std.proofs.Common.{◌≡◌, ◌⊎◌, inl, inr, ℕ, true, List, refl, sym, ◌∙◌, ap, subst}
-use Rattle.std.specs.Prelude.{◌==◌, ◌&&◌, ◌||◌, not}
-use Rattle.std.proofs.lemmas.Bool.{and_from, eq-eqb, or_left}
-use Rattle.mk_core.specs.declared.config.Config.{Config}
-use Rattle.mk_core.specs.declared.events.Step.TheVariants as step
-use Rattle.mk_core.specs.declared.events.Word.TheVariants as word
-use Rattle.mk_core.specs.declared.seats.Stage.{Stage}
-use Rattle.mk_core.specs.declared.seats.Stage.TheVariants as stage
-use Rattle.mk_core.specs.Allocations.{PlacedAllocation, fresh_words_of, held_by_allocations}
-use Rattle.mk_core.specs.Counts.{TalliesAreExact, TalliesAreTidy, full_answers, in_a_word, releases}
-use Rattle.mk_core.specs.Frames.{CountsAreLeft, Steady, steady_of}
-use Rattle.mk_core.specs.History.{IsHistory}
-use Rattle.mk_core.specs.Moments.{Moment, is_held, none_is_held}
-use Rattle.mk_core.specs.NewPlaces.{is_run_gone}
-use Rattle.mk_core.specs.TurnConditions.{is_decided, held_by_pages}
-use Rattle.mk_core.specs.Words.{phase_of}
-use Rattle.mk_core.proofs.AllBelow.{all_below-at}
-use Rattle.mk_laws.specs.SettledPages.{IsSettled}
-use Rattle.mk_laws.proofs.Settled.{gone_is_unmapped}
-use Rattle.mk_laws.specs.Protocol.{has_place}
-use Rattle.mk_words.specs.States.{PassState, call_of, now_of, world_of}
-use Rattle.mk_words.specs.Steps.{IsEnabledTo}
-use Rattle.mk_words.specs.TurnSteps.{Acts}
+use Rattle.mk_alloc.proofs.Vocabulary.{ends}
+use Rattle.mk_laws.proofs.Vocabulary.{IsSettled, all_below-at, held_by_pages, is_decided}
+use Rattle.mk_alloc.proofs.Vocabulary.{Acts, BeginsCycle, Config, Done, FinishesCycle, InTurn, IsEnabledTo, IsHistory}
+use Rattle.mk_alloc.proofs.Vocabulary.{IsOutOfStop, IsQuiet, KeepsGates, LeavesTurn, List, Looks, Moment, PassState}
+use Rattle.mk_alloc.proofs.Vocabulary.{PlacedAllocation, Stage, Steady, TalliesAreTidy, and_from, ap, call_of}
+use Rattle.mk_alloc.proofs.Vocabulary.{calm_keeps, does_step, eq-eqb, free_then, fresh_words_of, full_answers}
+use Rattle.mk_alloc.proofs.Vocabulary.{gates_behind, gone_is_unmapped, has_place, held_by_allocations, in_a_word, inl}
+use Rattle.mk_alloc.proofs.Vocabulary.{inr, is_held, is_look, is_pending_free, is_run_gone, none_is_held, not, now_of}
+use Rattle.mk_alloc.proofs.Vocabulary.{off_four, or_left, phase_of, refl, releases, same_config, steady_of, subst, sym}
+use Rattle.mk_alloc.proofs.Vocabulary.{true, unchanged, world_of, ℕ, ◌&&◌, ◌==◌, ◌||◌, ◌∙◌, ◌≡◌, ◌⊎◌}
+use Rattle.mk_core.specs.Counts.{TalliesAreExact}
 use Rattle.mk_words.proofs.Tallies.{settled_tallies}
-use Rattle.mk_turns.proofs.Doing.{does_step}
-use Rattle.mk_cycle.specs.BeginCycle.{BeginsCycle}
-use Rattle.mk_cycle.specs.EngineLaw.{IsFreeForCycle, is_pending_free}
-use Rattle.mk_cycle.specs.FinishCycle.{FinishesCycle}
-use Rattle.mk_cycle.specs.TurnKeeps.{Done, InTurn, KeepsGates, LeavesTurn, unchanged}
 use Rattle.mk_cycle.proofs.Allowed.{look_allowed, protocol}
 use Rattle.mk_cycle.proofs.BeginSteps.{all_from}
-use Rattle.mk_cycle.proofs.CleaningSteps.{calm_keeps}
-use Rattle.mk_cycle.proofs.KeptInParts.{free_then, gates_behind, same_config}
 use Rattle.mk_cycle.proofs.MayAct.{may_act}
-use Rattle.mk_objects.specs.Placing.{IsOutOfStop, is_look}
-use Rattle.mk_objects.proofs.MayAct.{off_four}
-use Rattle.mk_alloc.specs.Underway.{IsQuiet, Looks}
+use Rattle.mk_cycle.specs.EngineLaw.{IsFreeForCycle}
+use Rattle.mk_core.specs.declared.events.Step.TheVariants as step
+use Rattle.mk_core.specs.declared.events.Word.TheVariants as word
+use Rattle.mk_core.specs.declared.seats.Stage.TheVariants as stage
 
 -- the look at the phase
 
@@ -52,9 +34,13 @@ looked p q t free history a =
       gates = gates_behind p (step.Look word.Phase) q a refl;
     }
 
--- What is exact and tidy stays so where all that only the holder changes is kept.
+-- What is exact and tidy stays so where all that only the holder changes is kept, but for the tally of the Fulls.
 
-exact_kept : (p q : PassState) → q ≡ record p { seen = q.seen } → steady_of (world_of q) ≡ steady_of (world_of p)
+abbrev pub but_full : Steady → Steady
+but_full s = record s { full = 0 }
+
+pub exact_kept : (p q : PassState) → q ≡ record p { seen = q.seen }
+    → but_full (steady_of (world_of q)) ≡ but_full (steady_of (world_of p))
     → TalliesAreExact p.table.config p.seen → TalliesAreExact q.table.config q.seen
 exact_kept p q is steady x =
     let c : Config = p.table.config in
@@ -72,18 +58,16 @@ exact_kept p q is steady x =
           ∙ ap (λ (ys : List PlacedAllocation). in_a_word (fresh_words_of c ys)) allocations);
     }
 
-tidy_kept : (p q : PassState) → q ≡ record p { seen = q.seen } → steady_of (world_of q) ≡ steady_of (world_of p)
-    → CountsAreLeft p.table.config p.seen q.seen → TalliesAreTidy p.table.config p.seen
-    → TalliesAreTidy q.table.config q.seen
-tidy_kept p q is steady counts x =
+pub tidy_kept : (p q : PassState) → but_full (steady_of (world_of q)) ≡ but_full (steady_of (world_of p))
+    → ends q.seen ≡ ends p.seen → (now_of q).words.full ≡ in_a_word (full_answers q.table.config q.seen)
+    → TalliesAreTidy p.table.config p.seen → TalliesAreTidy q.table.config q.seen
+tidy_kept p q steady none full x =
     record {
-      cycles = ap (λ (s : Steady). s.cycles) steady ∙ x.cycles ∙ ap in_a_word (sym counts.ends);
+      cycles = ap (λ (s : Steady). s.cycles) steady ∙ x.cycles ∙ ap in_a_word (sym none);
       released =
           ap (λ (s : Steady). s.released) steady ∙ x.released
           ∙ ap in_a_word (sym (ap (λ (s : Steady). releases s.allocations) steady));
-      full =
-          ap (λ (s : Steady). s.full) steady ∙ x.full ∙ ap in_a_word (sym counts.fulls)
-          ∙ ap (λ (d : Config). in_a_word (full_answers d q.seen)) (sym (same_config p q is));
+      full = full;
     }
 
 -- No gate is held where none was, by the same holder.
@@ -109,8 +93,11 @@ quiet_kept p q quiet k gates =
       free = free_then p q k.call quiet.free;
       phase = same_phase p q (ap (λ (s : Steady). s.phase) k.steady) quiet.phase;
       gates = none_held_kept p q k.call.pass gates quiet.gates;
-      exact = exact_kept p q k.call.pass k.steady quiet.exact;
-      tidy = tidy_kept p q k.call.pass k.steady k.counts quiet.tidy;
+      exact = exact_kept p q k.call.pass (ap but_full k.steady) quiet.exact;
+      tidy = tidy_kept p q (ap but_full k.steady) k.counts.ends
+          (ap (λ (s : Steady). s.full) k.steady ∙ quiet.tidy.full ∙ ap in_a_word (sym k.counts.fulls)
+          ∙ ap (λ (c : Config). in_a_word (full_answers c q.seen)) (sym (same_config p q k.call.pass)))
+          quiet.tidy;
     }
 
 -- where it looks, begins a cycle, or finishes one.

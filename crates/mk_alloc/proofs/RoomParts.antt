@@ -1,40 +1,23 @@
 -- Where a New asks for room: its cycle's begin and its end come while its object has no place.
-use Rattle.std.proofs.Common.{◌≡◌, ⊎_elim, true, false, List, [], ◌∷◌, ◌++◌, refl, sym, ◌∙◌, ap, subst, append_assoc}
-use Rattle.std.proofs.Common.{append-nil}
-use Rattle.std.specs.Prelude.{Option, Some, None, IsSome}
-use Rattle.std.proofs.lemmas.Bool.{or_from}
-use Rattle.mk_geom.specs.declared.pages.Place.{Place}
-use Rattle.mk_geom.specs.Storages.{Fits, Storage}
-use Rattle.mk_core.specs.declared.config.Config.{Config}
-use Rattle.mk_core.specs.declared.events.Event.{Event}
-use Rattle.mk_core.specs.declared.events.Step.{Step}
-use Rattle.mk_core.specs.declared.events.Step.TheVariants as step
-use Rattle.mk_core.specs.declared.seats.Object.{Object}
-use Rattle.mk_core.specs.Cycles.{is_begin}
-use Rattle.mk_core.specs.History.{IsHistory}
-use Rattle.mk_core.specs.Placement.{place_after}
-use Rattle.mk_words.specs.States.{PassState, call_of, event_of}
-use Rattle.mk_turns.specs.Doing.{Does}
-use Rattle.mk_turns.proofs.Doing.{does_then, does_step}
-use Rattle.mk_cycle.specs.BeginCycle.{BeginsCycle}
-use Rattle.mk_cycle.specs.FinishCycle.{FinishesCycle}
-use Rattle.mk_cycle.specs.Kinds.{begins_marking, clears, closes_marks, is_giving_back, holds_gates, sets_tallies}
-use Rattle.mk_cycle.specs.TurnKeeps.{InTurn}
-use Rattle.mk_cycle.specs.EngineLaw.{is_pending_free}
-use Rattle.mk_objects.specs.Placing.{is_look, is_placing}
-use Rattle.mk_objects.proofs.JoinedLooks.{does_wider}
-use Rattle.mk_alloc.specs.Rooms.{AsksRoom, asks_room}
-use Rattle.mk_alloc.specs.TurnCycles.{HasNoPlace, is_want}
-use Rattle.mk_alloc.proofs.CalmStretches.{releases_none, stays_reserved}
-use Rattle.mk_alloc.proofs.CycleParts.{begins_held, gives_of, h_closed, h_closing, h_ended, h_freed, h_released}
-use Rattle.mk_alloc.proofs.CycleParts.{of_turn, t_closed, t_closing, t_ended, t_freed, t_released, tallies_of}
-use Rattle.mk_alloc.proofs.CycleParts.{wants_held}
+use Rattle.mk_alloc.proofs.CycleParts.{gives_room_back}
+use Rattle.mk_alloc.proofs.CycleParts.{closing}
+use Rattle.mk_alloc.proofs.CycleParts.{ends_marking}
+use Rattle.std.specs.Prelude.{IsSome}
+use Rattle.mk_alloc.proofs.Vocabulary.{AsksRoom, BeginsCycle, Config, Does, Event, FinishesCycle, HasNoPlace, InTurn}
+use Rattle.mk_alloc.proofs.Vocabulary.{IsHistory, List, None, Object, Option, PassState, Place, Some, Storage, [], ap}
+use Rattle.mk_alloc.proofs.Vocabulary.{append-nil, append_assoc, append_cancel_left, asks_room, begins_marking, call_of}
+use Rattle.mk_alloc.proofs.Vocabulary.{clears, does_step, does_then, does_wider, false, is_begin, is_look}
+use Rattle.mk_alloc.proofs.Vocabulary.{is_pending_free, is_placing, is_want, or_from, place_after, refl, subst, sym}
+use Rattle.mk_alloc.proofs.Vocabulary.{⊎_elim, ◌++◌, ◌∙◌, ◌∷◌, ◌≡◌}
+use Rattle.mk_geom.specs.Storages.{Fits}
+use Rattle.mk_alloc.proofs.CalmStretches.{of_cycles, of_turn, releases_none, stays_reserved}
+use Rattle.mk_alloc.proofs.CycleParts.{begins_held, gives_room, part_behind_closing, part_closing, wants_held}
 use Rattle.mk_alloc.proofs.Going.{IsCallers}
-use Rattle.mk_alloc.proofs.ListParts.{InFirst, InSecond, Lacks, lacks_append, lacks_at, stands}
-use Rattle.mk_alloc.proofs.Parts.{has_then, others_lack, part_lacks, seen_behind, seen_made, seen_then}
-use Rattle.mk_alloc.proofs.RetiredTurns.{same_rest}
+use Rattle.mk_alloc.proofs.ListParts.{InFirst, InSecond, lacks_at, stands}
+use Rattle.mk_alloc.proofs.Parts.{Part, part_lacks, seen_behind}
 use Rattle.mk_alloc.proofs.StepKinds.{AreApart, IsHolders}
-use Rattle.mk_alloc.proofs.Stretches.{SomeKinds, does_stretch, first_part, Stretch}
+use Rattle.mk_alloc.proofs.Stretches.{SomeKinds, Stretch, Within, does_stretch, first_part}
+use Rattle.mk_core.specs.declared.events.Step.TheVariants as step
 
 pub rooms_held : IsHolders asks_room
 rooms_held x h = or_from (is_begin x) (is_want x) (begins_held x h) (wants_held x h)
@@ -60,156 +43,97 @@ nowhere_then c es o none = fits_none (place_after c es o) none
 
 -- Where all that was seen since asks for no room, or the object has no place at each of it.
 
-pub room_lacks : (o : Object) (p q : PassState) (more : List Event) → q.seen ≡ p.seen ++ more → Lacks asks_room more
+pub room_lacks : {kinds : SomeKinds} {p q : PassState} (o : Object) → Part kinds p q → AreApart kinds asks_room
     → AsksRoom o p q
-room_lacks o p q more seen none part e behind is asks =
-    absurd (lacks_at asks_room more part e behind none
-    (same_rest p.seen more (part ++ e ∷ behind) (sym seen ∙ is ∙ append_assoc p.seen part (e ∷ behind))) asks)
+room_lacks {kinds} {p} {q} o x apart part e behind is asks =
+    absurd (lacks_at asks_room x.does.more part e behind (part_lacks asks_room x rooms_held apart)
+    (append_cancel_left p.seen x.does.more (part ++ e ∷ behind)
+    (sym (seen_behind kinds p q x.does) ∙ is ∙ append_assoc p.seen part (e ∷ behind))) asks)
 
-pub room_then : (o : Object) (p q r : PassState) (xs ys : List Event) → q.seen ≡ p.seen ++ xs → r.seen ≡ q.seen ++ ys
-    → q.table.config ≡ p.table.config → AsksRoom o p q → AsksRoom o q r → AsksRoom o p r
-room_then o p q r xs ys first second same a b part e behind is asks =
+pub room_then : {first second : SomeKinds} {p q r : PassState} (o : Object) → Does first p q → Does second q r
+    → AsksRoom o p q → AsksRoom o q r → AsksRoom o p r
+room_then {first} {second} {p} {q} {r} o one two a b part e behind is asks =
+    let seen = seen_behind second q r two in
     ⊎_elim
     (λ (x : InFirst q.seen (p.seen ++ part) e). a part e x.behind x.is asks)
-    (λ (x : InSecond q.seen ys (p.seen ++ part) e behind).
+    (λ (x : InSecond q.seen two.more (p.seen ++ part) e behind).
     subst (λ (l : List Event). HasNoPlace p.table.config o l) (sym x.first)
-    (subst (λ (c : Config). HasNoPlace c o (q.seen ++ x.rest)) same
+    (subst (λ (c : Config). HasNoPlace c o (q.seen ++ x.rest)) (ap (λ (y : PassState). y.table.config) one.is)
     (b x.rest e behind
-    (second ∙ ap (λ (l : List Event). q.seen ++ l) x.is ∙ sym (append_assoc q.seen x.rest (e ∷ behind))) asks)))
-    (stands q.seen ys (p.seen ++ part) e behind (sym second ∙ is))
+    (seen ∙ ap (λ (l : List Event). q.seen ++ l) x.is ∙ sym (append_assoc q.seen x.rest (e ∷ behind))) asks)))
+    (stands q.seen two.more (p.seen ++ part) e behind (sym seen ∙ is))
 
 -- Up to a `release` an object without a place has none.
-module _ (o : Object) (p q : PassState) (t : InTurn p) (seat : IsCallers p) (free : is_pending_free (call_of p) ≡ false)
-    (kinds : SomeKinds) (within : (x : Step) → kinds x ≡ true → releases_none x ≡ true) (d : Does kinds p q)
-    (history : IsHistory q.table.config q.seen) (none : HasNoPlace p.table.config o p.seen) where
-  none_there : (part rest : List Event) → d.more ≡ part ++ rest → HasNoPlace p.table.config o (p.seen ++ part)
+module _ {p q : PassState} (o : Object) (seat : IsCallers p) (free : is_pending_free (call_of p) ≡ false)
+    (none : HasNoPlace p.table.config o p.seen) (x : Part releases_none p q) where
+  none_there : (part rest : List Event) → x.does.more ≡ part ++ rest → HasNoPlace p.table.config o (p.seen ++ part)
   none_there part rest is =
       subst (λ (xs : List Storage). NoRoom p.table.config o xs)
-      (sym (stays_reserved p seat t.own kinds p.seen part within free
-      (first_part p kinds p.seen part rest
-      (subst (λ (l : List Event). Stretch p kinds p.seen l) is
-      (does_stretch p q kinds d history t.holds)))).storage)
+      (sym (stays_reserved p seat x.turn.own p.seen part free
+      (first_part p releases_none p.seen part rest
+      (subst (λ (l : List Event). Stretch p releases_none p.seen l) is
+      (does_stretch p q releases_none x.does x.history x.turn.holds)))).storage)
       none
 
   pub room_kept : AsksRoom o p q
   room_kept part e behind is asks =
       none_there part (e ∷ behind)
-      (same_rest p.seen d.more (part ++ e ∷ behind)
-      (sym (seen_behind kinds p q d) ∙ is ∙ append_assoc p.seen part (e ∷ behind)))
+      (append_cancel_left p.seen x.does.more (part ++ e ∷ behind)
+      (sym (seen_behind releases_none p q x.does) ∙ is ∙ append_assoc p.seen part (e ∷ behind)))
 
   pub none_behind : HasNoPlace p.table.config o q.seen
   none_behind =
-      subst (λ (l : List Event). HasNoPlace p.table.config o l) (sym (seen_behind kinds p q d))
-      (none_there d.more [] (sym (append-nil d.more)))
+      subst (λ (l : List Event). HasNoPlace p.table.config o l) (sym (seen_behind releases_none p q x.does))
+      (none_there x.does.more [] (sym (append-nil x.does.more)))
 
--- So it is up to the `close` of a cycle, and after a `begin`.
+-- So it is after a `begin`, and up to the `close` of a cycle.
 
-clears_none : (x : Step) → clears x ≡ true → releases_none x ≡ true
-clears_none step.Release h = cc
-clears_none (step.Look w) h = refl
-clears_none (step.Clear p) h = refl
-clears_none (step.Unblack p) h = refl
-clears_none (step.Undirty p) h = refl
-clears_none (step.Quar p v) h = refl
-clears_none (step.Tally n v) h = refl
+clears_none : Within clears releases_none
+clears_none step.Begin h = refl
 clears_none _ h = cc
 
-marking_none : (x : Step) → begins_marking x ≡ true → releases_none x ≡ true
-marking_none (step.Look w) h = refl
-marking_none (step.Hold j) h = refl
-marking_none (step.Open j) h = refl
-marking_none (step.Mark p v) h = refl
+marking_none : Within begins_marking releases_none
+marking_none step.Begin h = refl
 marking_none _ h = cc
 
-holds_none : (x : Step) → holds_gates x ≡ true → releases_none x ≡ true
-holds_none (step.Look w) h = refl
-holds_none (step.Hold j) h = refl
-holds_none _ h = cc
+ending_none : Within ends_marking releases_none
+ending_none step.Begin h = refl
+ending_none _ h = cc
 
-closes_none : (x : Step) → closes_marks x ≡ true → releases_none x ≡ true
-closes_none (step.Look w) h = refl
-closes_none step.Want h = refl
-closes_none (step.Mark p v) h = refl
-closes_none (step.Undirty p) h = refl
-closes_none (step.Black p v) h = refl
-closes_none (step.Unblack p) h = refl
-closes_none _ h = cc
-
-gives_no_room : AreApart is_giving_back asks_room
-gives_no_room step.Begin h = cc
-gives_no_room step.Want h = cc
-gives_no_room _ h = refl
-
-tallies_no_room : AreApart sets_tallies asks_room
-tallies_no_room step.Begin h = cc
-tallies_no_room step.Want h = cc
-tallies_no_room _ h = refl
+back_asks_none : AreApart gives_room asks_room
+back_asks_none step.Begin h = cc
+back_asks_none _ h = cc
 
 pub looks_no_room : AreApart is_look asks_room
 looks_no_room step.Begin h = cc
-looks_no_room step.Want h = cc
-looks_no_room _ h = refl
+looks_no_room _ h = cc
 
 pub places_no_room : AreApart is_placing asks_room
 places_no_room step.Begin h = cc
-places_no_room step.Want h = cc
-places_no_room _ h = refl
+places_no_room _ h = cc
 
-module _ (o : Object) (p q : PassState) (t : InTurn p) (seat : IsCallers p) (free : is_pending_free (call_of p) ≡ false)
-    (history : IsHistory q.table.config q.seen) (none : HasNoPlace p.table.config o p.seen) where
-  begin_keeps : BeginsCycle p q → Does releases_none p q
-  begin_keeps law =
-      let m = law.makes in
-      let d1 = does_wider clears releases_none clears_none p m.cleared m.before in
-      let own1 = has_then releases_none p m.cleared d1 t.own in
-      let d2 = does_step releases_none m.cleared m.begun step.Begin m.begin refl in
-      let d3 = does_wider begins_marking releases_none marking_none m.begun q m.behind in
-      does_then releases_none p m.cleared q d1 (does_then releases_none m.cleared m.begun q d2 d3)
+pub part_begun : {p q : PassState} → BeginsCycle p q → InTurn p → IsHistory q.table.config q.seen
+    → Part releases_none p q
+part_begun {p} {q} law t history =
+    let m = law.makes in
+    record {
+      turn = t;
+      stays = of_turn of_cycles;
+      does =
+          does_then releases_none p m.cleared q (does_wider clears releases_none clears_none p m.cleared m.before)
+          (does_then releases_none m.cleared m.begun q
+          (does_step releases_none m.cleared m.begun step.Begin m.begin refl)
+          (does_wider begins_marking releases_none marking_none m.begun q m.behind));
+      history = history;
+    }
 
-  pub begin_room : BeginsCycle p q → AsksRoom o p q
-  begin_room law = room_kept o p q t seat free releases_none (λ x h. h) (begin_keeps law) history none
-
-  pub begin_none : BeginsCycle p q → HasNoPlace p.table.config o q.seen
-  begin_none law = none_behind o p q t seat free releases_none (λ x h. h) (begin_keeps law) history none
-
-  pub finish_room : FinishesCycle p q → AsksRoom o p q
-  finish_room law =
-      let m = law.makes in
-      let r = m.releases in
-      let d = does_then releases_none p m.held r.closing
-      (does_wider holds_gates releases_none holds_none p m.held m.holds)
-      (does_wider closes_marks releases_none closes_none m.held r.closing r.marks.does) in
-      let rest : List Event = (r.close.others ++ event_of r.closing step.Close ∷ [])
-      ++ ((r.release.others ++ event_of r.closed step.Release ∷ [])
-      ++ (m.frees.more ++ ((m.end.others ++ event_of m.freed step.End ∷ []) ++ m.behind.more))) in
-      let seen : q.seen ≡ r.closing.seen ++ rest =
-      seen_then r.closing.seen r.closed.seen q.seen (r.close.others ++ event_of r.closing step.Close ∷ []) _
-      (seen_made r.closing r.closed step.Close r.close)
-      (seen_then r.closed.seen m.released.seen q.seen (r.release.others ++ event_of r.closed step.Release ∷ []) _
-      (seen_made r.closed m.released step.Release r.release)
-      (seen_then m.released.seen m.freed.seen q.seen m.frees.more _
-      (seen_behind is_giving_back m.released m.freed m.frees)
-      (seen_then m.freed.seen m.ended.seen q.seen (m.end.others ++ event_of m.freed step.End ∷ []) m.behind.more
-      (seen_made m.freed m.ended step.End m.end) (seen_behind sets_tallies m.ended q m.behind)))) in
-      let lacks_rest : Lacks asks_room rest =
-      lacks_append asks_room (r.close.others ++ event_of r.closing step.Close ∷ []) _
-      (lacks_append asks_room r.close.others (event_of r.closing step.Close ∷ [])
-      (others_lack asks_room r.closing r.closed step.Close rooms_held (t_closing p q t.own law t history) r.close
-      (h_closed p q t.own law history)) refl)
-      (lacks_append asks_room (r.release.others ++ event_of r.closed step.Release ∷ []) _
-      (lacks_append asks_room r.release.others (event_of r.closed step.Release ∷ [])
-      (others_lack asks_room r.closed m.released step.Release rooms_held (t_closed p q t.own law t history) r.release
-      (h_released p q t.own law history)) refl)
-      (lacks_append asks_room m.frees.more _
-      (part_lacks is_giving_back asks_room m.released m.freed (of_turn is_giving_back gives_of) rooms_held gives_no_room
-      (t_released p q t.own law t history) m.frees (h_freed p q t.own law history))
-      (lacks_append asks_room (m.end.others ++ event_of m.freed step.End ∷ []) m.behind.more
-      (lacks_append asks_room m.end.others (event_of m.freed step.End ∷ [])
-      (others_lack asks_room m.freed m.ended step.End rooms_held (t_freed p q t.own law t history) m.end
-      (h_ended p q t.own law history)) refl)
-      (part_lacks sets_tallies asks_room m.ended q (of_turn sets_tallies tallies_of) rooms_held tallies_no_room
-      (t_ended p q t.own law t history) m.behind history)))) in
-      room_then o p r.closing q d.more rest (seen_behind releases_none p r.closing d) seen
-      (ap (λ (x : PassState). x.table.config) d.is)
-      (room_kept o p r.closing t seat free releases_none (λ x h. h) d (h_closing p q t.own law history) none)
-      (room_lacks o r.closing q rest seen lacks_rest)
+pub finish_room : {p q : PassState} (o : Object) → IsCallers p → is_pending_free (call_of p) ≡ false
+    → HasNoPlace p.table.config o p.seen → FinishesCycle p q → InTurn p → IsHistory q.table.config q.seen
+    → AsksRoom o p q
+finish_room {p} {q} o seat free none law t history =
+    let x = part_closing law t in
+    let d : Does releases_none p (closing law) =
+    does_wider ends_marking releases_none ending_none p (closing law) x.does in
+    room_then o d (gives_room_back law)
+    (room_kept o seat free none (record { turn = t; stays = of_turn of_cycles; does = d; history = x.history }))
+    (room_lacks o (part_behind_closing law t history) back_asks_none)

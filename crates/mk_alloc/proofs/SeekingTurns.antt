@@ -1,52 +1,27 @@
 -- A New seeks room: the parts of its turn one after the other.
-use Rattle.std.proofs.Common.{◌≡◌, inl, inr, false, List, refl, ◌∙◌, ap, subst}
-use Rattle.std.specs.Prelude.{Option, Some, None, ◌==◌}
-use Rattle.std.proofs.lemmas.Bool.{eqb-false}
-use Rattle.mk_never.specs.declared.operations.Op.{Op}
-use Rattle.mk_core.specs.declared.config.Config.{Config}
-use Rattle.mk_core.specs.declared.events.Answer.{Answer}
-use Rattle.mk_core.specs.declared.events.Answer.TheVariants as answer
-use Rattle.mk_core.specs.declared.seats.Flight.{Flight}
-use Rattle.mk_core.specs.declared.seats.Object.{Object}
-use Rattle.mk_core.specs.declared.seats.Holding.{Holding}
-use Rattle.mk_core.specs.Allocations.{PlacedAllocation, place_among_allocations}
-use Rattle.mk_core.specs.Frames.{Steady}
-use Rattle.mk_core.specs.History.{IsHistory}
-use Rattle.mk_core.specs.NewPlaces.{is_undecided_new, object_made}
-use Rattle.mk_core.specs.Placement.{place_after}
-use Rattle.mk_core.specs.Words.{phase_of}
-use Rattle.mk_words.specs.States.{PassState, call_of, now_of, world_of}
-use Rattle.mk_words.specs.TurnSteps.{turn_stays}
-use Rattle.mk_turns.specs.Doing.{Does}
-use Rattle.mk_turns.proofs.Sweeping.{only_seen}
-use Rattle.mk_cycle.specs.BeginCycle.{BeginsCycle}
-use Rattle.mk_cycle.specs.EngineLaw.{IsAtPhase}
-use Rattle.mk_cycle.specs.FinishCycle.{FinishesCycle}
-use Rattle.mk_cycle.specs.TurnKeeps.{Done, InTurn}
-use Rattle.mk_objects.specs.Placing.{FitsNowhere, IsOutOfStop, IsPlaced, IsUnplaced, OnlyLooks, is_look, is_placing}
-use Rattle.mk_objects.specs.Placing.{object_for, place_now_for}
-use Rattle.mk_objects.proofs.JoinedLooks.{does_wider, looks_left, looks_object, looks_unplaced}
-use Rattle.mk_objects.proofs.Looks.{acting_caller}
-use Rattle.mk_objects.proofs.MayAct.{new_is_acting}
-use Rattle.mk_caller.proofs.OneStep.{own_seat}
-use Rattle.mk_alloc.specs.Leaving.{OwnLeaveAllButReleased}
-use Rattle.mk_alloc.specs.Rooms.{AsksRoom, GrantsNone, Misfits, MisfitsIdly, Seeks}
-use Rattle.mk_alloc.specs.TurnCycles.{is_grant, lets_go}
-use Rattle.mk_alloc.specs.Underway.{TurnGoesOn, IsQuiet, Looks}
+use Rattle.mk_laws.proofs.Vocabulary.{eqb-false}
+use Rattle.mk_alloc.proofs.Vocabulary.{Answer, AsksRoom, BeginsCycle, Config, Does, Done, FinishesCycle, FitsNowhere}
+use Rattle.mk_alloc.proofs.Vocabulary.{Flight, Holding, InTurn, IsAtPhase, IsHistory, IsOutOfStop, IsPlaced, IsQuiet}
+use Rattle.mk_alloc.proofs.Vocabulary.{IsUnplaced, List, Looks, Misfits, None, Object, OnlyLooks, Op, Option, PassState}
+use Rattle.mk_alloc.proofs.Vocabulary.{PlacedAllocation, Seeks, Some, Steady, TurnGoesOn, acting_caller, ap, call_of}
+use Rattle.mk_alloc.proofs.Vocabulary.{cycle_ended, does_wider, false, inl, inr, is_look, is_undecided_new, looks_left}
+use Rattle.mk_alloc.proofs.Vocabulary.{new_is_acting, now_of, object_for, object_made, only_seen, own_seat, phase_of}
+use Rattle.mk_alloc.proofs.Vocabulary.{place_after, place_now_for, refl, subst, world_of, ◌==◌, ◌∙◌, ◌≡◌}
+use Rattle.mk_core.specs.Allocations.{place_among_allocations}
+use Rattle.mk_objects.proofs.JoinedLooks.{looks_object, looks_unplaced}
 use Rattle.mk_alloc.proofs.CalmStretches.{cycles_in_turn, is_of_cycles}
-use Rattle.mk_alloc.proofs.CycleParts.{begin_does, finish_does}
+use Rattle.mk_alloc.proofs.CycleParts.{begin_done, finish_done}
 use Rattle.mk_alloc.proofs.FullLeaves.{cycles_leave, leaves_then}
-use Rattle.mk_alloc.proofs.GrantParts.{calm_last, cycles_no_grant, grants_held, grants_none, last_behind, lets_go_held}
-use Rattle.mk_alloc.proofs.GrantParts.{looks_no_grant, none_last, none_then, places_let_none_go}
-use Rattle.mk_alloc.proofs.Going.{IsCallers, begun_on, finished_on, looked_on, looks_of, on_then}
-use Rattle.mk_alloc.proofs.Parts.{part_lacks, seen_behind}
-use Rattle.mk_alloc.proofs.PlacedTurns.{look_stays, looked_beside, placed_on, placing_stays}
+use Rattle.mk_alloc.proofs.Going.{IsCallers, begun_on, finished_on, look_part, looked_on, looks_of, on_then}
+use Rattle.mk_alloc.proofs.GrantParts.{calm_last, cycles_no_grant, grants_none, last_behind, none_last, none_then}
+use Rattle.mk_alloc.proofs.GrantParts.{places_let_none_go}
+use Rattle.mk_alloc.proofs.Parts.{Part}
+use Rattle.mk_alloc.proofs.PlacedTurns.{looked_beside, place_part, placed_on}
 use Rattle.mk_alloc.proofs.QuietTurns.{same_phase}
-use Rattle.mk_alloc.proofs.RoomParts.{begin_none, begin_room, finish_room, looks_no_room, no_place, nowhere_then}
-use Rattle.mk_alloc.proofs.RoomParts.{places_no_room, room_lacks, room_then, rooms_held}
-use Rattle.mk_alloc.proofs.StepKinds.{AreApart}
-use Rattle.mk_alloc.proofs.Stretches.{AreOfTurn, SomeKinds}
-use Rattle.mk_core.specs.Effects.{cycle_ended}
+use Rattle.mk_alloc.proofs.RoomParts.{finish_room, looks_no_room, no_place, none_behind, nowhere_then, part_begun}
+use Rattle.mk_alloc.proofs.RoomParts.{places_no_room, room_kept, room_lacks, room_then}
+use Rattle.mk_alloc.specs.Rooms.{MisfitsIdly}
+use Rattle.mk_core.specs.declared.events.Answer.TheVariants as answer
 
 -- An undecided New is a caller's.
 pub new_callers : (p : PassState) → IsUnplaced p → IsCallers p
@@ -62,37 +37,16 @@ same_object a p q on =
 -- one part after another that decided nothing
 pub seeks_then : (a : Option Answer) (p q r : PassState) → Seeks None p q → Seeks a q r → Seeks a p r
 seeks_then a p q r x y =
+    let one = x.on.does in
+    let two = y.on.does in
     record {
       on = on_then a p q r x.on y.on;
-      room = room_then (object_for p) p q r x.on.does.more y.on.does.more (seen_behind turn_stays p q x.on.does)
-          (seen_behind turn_stays q r y.on.does) (ap (λ (z : PassState). z.table.config) x.on.does.is) x.room
+      room = room_then (object_for p) one two x.room
           (subst (λ (o : Object). AsksRoom o q r) (same_object None p q x.on) y.room);
-      none = λ none. none_then p q r x.on.does.more y.on.does.more (seen_behind turn_stays p q x.on.does)
-          (seen_behind turn_stays q r y.on.does) (x.none refl) (y.none none);
-      leaves = λ none. leaves_then p q r (only_seen p q x.on.does.more x.on.does.is) (x.leaves refl) (y.leaves none);
-      last = last_behind p q r x.on.does.more y.on.does.more (seen_behind turn_stays p q x.on.does)
-          (seen_behind turn_stays q r y.on.does) (x.none refl) y.last;
+      none = λ none. none_then one two (x.none refl) (y.none none);
+      leaves = λ none. leaves_then p q r (only_seen p q one.more one.is) (x.leaves refl) (y.leaves none);
+      last = last_behind one two (x.none refl) y.last;
     }
-
--- a part of such steps as grant nothing
-grants_none_by : (kinds : SomeKinds) (p q : PassState) → AreOfTurn kinds → AreApart kinds is_grant → InTurn p
-    → Does kinds p q → IsHistory q.table.config q.seen → GrantsNone p q
-grants_none_by kinds p q stays apart t d history =
-    grants_none p q d.more (seen_behind kinds p q d)
-    (part_lacks kinds is_grant p q stays grants_held apart t d history)
-
-looks_grant_none : (p q : PassState) → InTurn p → Does is_look p q → IsHistory q.table.config q.seen → GrantsNone p q
-looks_grant_none p q t d history = grants_none_by is_look p q look_stays looks_no_grant t d history
-
-cycles_grant_none : (p q : PassState) → InTurn p → Does is_of_cycles p q → IsHistory q.table.config q.seen
-    → GrantsNone p q
-cycles_grant_none p q t d history = grants_none_by is_of_cycles p q cycles_in_turn cycles_no_grant t d history
-
-looks_leave : (p q : PassState) → InTurn p → IsUnplaced p → IsQuiet p → Does is_look p q
-    → IsHistory q.table.config q.seen
-    → OwnLeaveAllButReleased p q
-looks_leave p q t u quiet d history =
-    cycles_leave p q (new_callers p u) t quiet.free.decided (does_wider is_look is_of_cycles looks_of p q d) history
 
 -- Where an object is granted, or only looks were made, no room is asked for.
 
@@ -100,29 +54,40 @@ pub seeks_placed : (p q : PassState) → InTurn p → IsUnplaced p → IsQuiet p
     → IsHistory q.table.config q.seen
     → Seeks (Some answer.Done) p q
 seeks_placed p q t u quiet placed history =
+    let x = place_part t placed.granted.does history in
     record {
       on = placed_on p q t u quiet placed history;
-      room = room_lacks (object_for p) p q placed.granted.does.more (seen_behind is_placing p q placed.granted.does)
-          (part_lacks is_placing _ p q placing_stays rooms_held places_no_room t placed.granted.does history);
+      room = room_lacks (object_for p) x places_no_room;
       none = λ none. cc;
       leaves = λ none. cc;
-      last = calm_last p q placed.granted.does.more (seen_behind is_placing p q placed.granted.does)
-          (part_lacks is_placing lets_go p q placing_stays lets_go_held places_let_none_go t placed.granted.does
-          history);
+      last = calm_last x places_let_none_go;
     }
 
-pub seeks_looked : (p q : PassState) → InTurn p → IsUnplaced p → IsQuiet p → OnlyLooks p q
-    → IsHistory q.table.config q.seen
-    → Seeks None p q
-seeks_looked p q t u quiet looks history =
+-- A part that grants nothing leaves the New undecided.
+undecided : {p q : PassState} → IsUnplaced p → IsQuiet p → TurnGoesOn None p q → Part is_of_cycles p q
+    → AsksRoom (object_for p) p q → Seeks None p q
+undecided {p} {q} u quiet on x room =
+    let none = grants_none x cycles_no_grant in
     record {
-      on = looked_beside p q t u quiet looks history;
-      room = room_lacks (object_for p) p q looks.does.more (seen_behind is_look p q looks.does)
-          (part_lacks is_look _ p q look_stays rooms_held looks_no_room t looks.does history);
-      none = λ none. looks_grant_none p q t looks.does history;
-      leaves = λ none. looks_leave p q t u quiet looks.does history;
-      last = none_last p q (looks_grant_none p q t looks.does history);
+      on = on;
+      room = room;
+      none = λ undecided. none;
+      leaves = λ undecided. cycles_leave (new_callers p u) quiet.free.decided x;
+      last = none_last p q none;
     }
+
+-- where it only looks
+looked_undecided : {p q : PassState} → InTurn p → IsUnplaced p → IsQuiet p → TurnGoesOn None p q → Does is_look p q
+    → IsHistory q.table.config q.seen → Seeks None p q
+looked_undecided {p} {q} t u quiet on d history =
+    undecided u quiet on
+    (record {
+      turn = t;
+      stays = cycles_in_turn;
+      does = does_wider is_look is_of_cycles looks_of p q d;
+      history = history;
+    })
+    (room_lacks (object_for p) (look_part t d history) looks_no_room)
 
 pub still_nowhere : (p q : PassState) → (world_of q).allocations ≡ (world_of p).allocations → q.table.config
     ≡ p.table.config
@@ -140,7 +105,7 @@ pub misfits_here : (p q : PassState) → InTurn p → IsUnplaced p → IsQuiet p
     → Misfits p q
 misfits_here p q t u quiet f history =
     record {
-      seeks = seeks_looked p q t u quiet f.looks history;
+      seeks = looked_undecided t u quiet (looked_beside p q t u quiet f.looks history) f.looks.does history;
       unplaced = looks_unplaced p q f.looks u;
       nowhere = still_nowhere p q (ap (λ (s : Steady). s.allocations) (looks_left p q f.looks).steady)
           (ap (λ (x : PassState). x.table.config) f.looks.same) (looks_object p q f.looks) f.nowhere;
@@ -151,27 +116,20 @@ misfits_here p q t u quiet f history =
 pub seeks_begun : (p q : PassState) → InTurn p → IsUnplaced p → IsQuiet p → place_now_for p ≡ None → BeginsCycle p q
     → IsHistory q.table.config q.seen → Seeks None p q
 seeks_begun p q t u quiet none b history =
-    record {
-      on = begun_on p q t (new_callers p u) quiet b history;
-      room = begin_room (object_for p) p q t (new_callers p u) quiet.free.decided history
-          (no_place p.table.config p.seen (object_for p) none) b;
-      none = λ undecided. cycles_grant_none p q t (begin_does p q t.own b) history;
-      leaves = λ undecided. cycles_leave p q (new_callers p u) t quiet.free.decided (begin_does p q t.own b) history;
-      last = none_last p q (cycles_grant_none p q t (begin_does p q t.own b) history);
-    }
+    let seat = new_callers p u in
+    undecided u quiet (begun_on p q t seat quiet b history)
+    (record { turn = t; stays = cycles_in_turn; does = begin_done b; history = history })
+    (room_kept (object_for p) seat quiet.free.decided (no_place p.table.config p.seen (object_for p) none)
+    (part_begun b t history))
 
 pub seeks_finished : (p q : PassState) → InTurn p → IsUnplaced p → IsQuiet p → place_now_for p ≡ None
     → FinishesCycle p q
     → IsHistory q.table.config q.seen → Seeks None p q
 seeks_finished p q t u quiet none f history =
-    record {
-      on = finished_on p q t (new_callers p u) quiet f history;
-      room = finish_room (object_for p) p q t (new_callers p u) quiet.free.decided history
-          (no_place p.table.config p.seen (object_for p) none) f;
-      none = λ undecided. cycles_grant_none p q t (finish_does p q t.own f) history;
-      leaves = λ undecided. cycles_leave p q (new_callers p u) t quiet.free.decided (finish_does p q t.own f) history;
-      last = none_last p q (cycles_grant_none p q t (finish_does p q t.own f) history);
-    }
+    let seat = new_callers p u in
+    undecided u quiet (finished_on p q t seat quiet f history)
+    (record { turn = t; stays = cycles_in_turn; does = finish_done f; history = history })
+    (finish_room (object_for p) seat quiet.free.decided (no_place p.table.config p.seen (object_for p) none) f t history)
 
 -- It is still unplaced then.
 
@@ -200,8 +158,8 @@ nowhere_begun p q t u quiet none b history =
     (ap (λ (x : PassState). object_made x.table.config (call_of q).op) b.pass
     ∙ ap (λ (f : Flight). object_made p.table.config f.op) b.call)
     ∙ nowhere_then p.table.config q.seen (object_for p)
-    (begin_none (object_for p) p q t (new_callers p u) quiet.free.decided history
-    (no_place p.table.config p.seen (object_for p) none) b)
+    (none_behind (object_for p) (new_callers p u) quiet.free.decided
+    (no_place p.table.config p.seen (object_for p) none) (part_begun b t history))
 
 -- A try after one part
 pub misfits_then : (p q r : PassState) → Seeks None p q → Misfits q r → Misfits p r
@@ -251,14 +209,7 @@ pub misfits_seen : (q r : PassState) → IsUnplaced q → place_now_for q ≡ No
 misfits_seen q r u none t quiet k history =
     let on = looked_on q r t (new_callers q u) quiet k history in
     record {
-      seeks = record {
-        on = on;
-        room = room_lacks (object_for q) q r k.does.more (seen_behind is_look q r k.does)
-            (part_lacks is_look _ q r look_stays rooms_held looks_no_room t k.does history);
-        none = λ none. looks_grant_none q r t k.does history;
-        leaves = λ none. looks_leave q r t u quiet k.does history;
-        last = none_last q r (looks_grant_none q r t k.does history);
-      };
+      seeks = looked_undecided t u quiet on k.does history;
       unplaced = look_kept q r u k;
       nowhere = still_nowhere q r (ap (λ (s : Steady). s.allocations) k.keeps.steady)
           (ap (λ (x : PassState). x.table.config) k.keeps.call.pass) (same_object None q r on) none;

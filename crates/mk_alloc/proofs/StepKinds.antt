@@ -1,22 +1,14 @@
 -- What stretches of a turn lack, by their kinds of step: what they don't do, others don't do either, where it is the
 -- turn's holder's.
-use Rattle.std.proofs.Common.{◌≡◌, ◌≢◌, true, false, List, [], ◌∷◌, ◌++◌, refl, ap}
-use Rattle.mk_core.specs.declared.config.Config.{Config}
-use Rattle.mk_core.specs.declared.events.Event.{Event}
-use Rattle.mk_core.specs.declared.events.Group.TheVariants as group
-use Rattle.mk_core.specs.declared.events.Seat.{Seat}
-use Rattle.mk_core.specs.declared.events.Step.{Step}
-use Rattle.mk_core.specs.declared.events.Step.TheVariants as step
-use Rattle.mk_core.specs.History.{left}
-use Rattle.mk_core.specs.Moments.{Moment}
-use Rattle.mk_core.specs.Order.{group_of, is_of_turn}
-use Rattle.mk_laws.proofs.Actors.{Actor, AsHolder, AsMarker, CallTakes, HostTakes, InCallOf, is_holders}
-use Rattle.mk_laws.proofs.OrderlyLists.{actor_of}
-use Rattle.mk_laws.proofs.Views.{HoldsTurn, view_of}
-use Rattle.mk_words.specs.Seats.{Has}
-use Rattle.mk_words.specs.States.{PassState, event_of}
+use Rattle.mk_laws.proofs.Basics.{Actor, AsHolder, AsMarker, InCallOf, is_holders}
+use Rattle.mk_laws.proofs.Vocabulary.{group_of, is_of_turn}
+use Rattle.mk_alloc.proofs.Vocabulary.{Config, Event, Has, HoldsTurn, List, Moment, PassState, Seat, Step, [], actor_of}
+use Rattle.mk_alloc.proofs.Vocabulary.{ap, event_of, false, left, refl, true, view_of, ◌++◌, ◌∷◌, ◌≡◌, ◌≢◌}
+use Rattle.mk_laws.proofs.Actors.{CallTakes, HostTakes}
 use Rattle.mk_alloc.proofs.ListParts.{Lacks, SomeKind, lacks_append, lacks_one}
 use Rattle.mk_alloc.proofs.Stretches.{AreOfTurn, Here, SomeKinds, Stretch, along, holds_none}
+use Rattle.mk_core.specs.declared.events.Group.TheVariants as group
+use Rattle.mk_core.specs.declared.events.Step.TheVariants as step
 
 of_callers : (x : Step) → group_of x ≡ group.Callers → is_holders x ≡ false
 of_callers (step.Take o) is = refl

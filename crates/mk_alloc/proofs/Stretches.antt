@@ -1,34 +1,18 @@
 -- Stretches of a turn: events of its holder, of some kinds, and of others. What each of them keeps, all keep.
-use Rattle.std.proofs.Common.{◌≡◌, ◌≢◌, ◌⊎◌, inl, inr, Bool, true, false, List, [], ◌∷◌, ◌++◌, refl, sym, ◌∙◌, ap}
-use Rattle.std.proofs.Common.{subst, append-nil, append_assoc}
-use Rattle.std.specs.Prelude.{if◌then◌else◌}
-use Rattle.std.proofs.lemmas.Bool.{and_parts, true≢false}
 use Rattle.std.proofs.lemmas.List.Folds.{list_all-append}
-use Rattle.mk_core.specs.declared.config.Config.{Config}
-use Rattle.mk_core.specs.declared.events.Event.{Event}
-use Rattle.mk_core.specs.declared.events.Seat.{Seat}
-use Rattle.mk_core.specs.declared.events.Step.{Step}
-use Rattle.mk_core.specs.declared.seats.Flight.{Flight}
-use Rattle.mk_core.specs.Accesses.{found}
-use Rattle.mk_core.specs.Growing.{AreOfOthers, Finding, is_same_seat, own_from}
-use Rattle.mk_core.specs.History.{IsHistory, World, left, world_behind}
-use Rattle.mk_core.specs.Moments.{Moment, flight_of}
-use Rattle.mk_core.specs.Readings.{Holds}
-use Rattle.mk_core.proofs.HistoryParts.{earlier_part_is_history}
-use Rattle.mk_laws.proofs.LastEvents.{comes_last}
-use Rattle.mk_laws.proofs.Actors.{Meets}
-use Rattle.mk_laws.proofs.ProtocolFrames.{left_after}
-use Rattle.mk_laws.proofs.Known.{Known, holds_turn, known_left}
-use Rattle.mk_laws.proofs.Orderly.{same_holder}
-use Rattle.mk_laws.proofs.Views.{HoldsTurn, view_of}
-use Rattle.mk_words.specs.Seats.{Has}
-use Rattle.mk_words.specs.States.{PassState, event_of, now_of}
-use Rattle.mk_words.specs.Steps.{Makes}
-use Rattle.mk_words.specs.TurnSteps.{IsTurn, op_for, turn_stays}
-use Rattle.mk_words.proofs.Seats.{others_none, same_seat, same_self}
+use Rattle.mk_laws.proofs.Basics.{Known, Meets, same_holder}
+use Rattle.mk_alloc.proofs.Vocabulary.{AreOfOthers, Bool, Config, Does, Event, Finding, Flight, Has, Holds, HoldsTurn}
+use Rattle.mk_alloc.proofs.Vocabulary.{IsHistory, IsTurn, List, Makes, Moment, PassState, Seat, Step, World, []}
+use Rattle.mk_alloc.proofs.Vocabulary.{and_parts, ap, append-nil, append_assoc, are_of, comes_last}
+use Rattle.mk_alloc.proofs.Vocabulary.{earlier_part_is_history, event_of, false, flight_of, found, holds_turn}
+use Rattle.mk_alloc.proofs.Vocabulary.{if◌then◌else◌, inl, inr, is_same_seat, known_left, left, left_after, now_of}
+use Rattle.mk_alloc.proofs.Vocabulary.{op_for, refl, same_seat, same_self, subst, sym, true, true≢false, turn_stays}
+use Rattle.mk_alloc.proofs.Vocabulary.{view_of, world_behind, ◌++◌, ◌∙◌, ◌∷◌, ◌≡◌, ◌≢◌, ◌⊎◌}
+use Rattle.mk_core.specs.Growing.{own_from}
+use Rattle.mk_words.proofs.Seats.{others_none}
 use Rattle.mk_words.proofs.TurnSteps.{still_turn}
-use Rattle.mk_turns.specs.Doing.{AreOwnOrOfOthers, Does, are_of}
 use Rattle.mk_turns.proofs.Doing.{none_own, others_are_so, own_in_parts}
+use Rattle.mk_turns.specs.Doing.{AreOwnOrOfOthers}
 
 -- the pass, where it has seen these
 abbrev pub seeing : PassState → List Event → PassState
@@ -41,9 +25,13 @@ call_in p es = flight_of (left p.table.config es).now p.seat
 abbrev pub SomeKinds : Type 0
 SomeKinds = Step → Bool
 
--- The kinds are those of the holder of a turn that goes on.
+-- The first kinds are among the second,
+abbrev pub Within : SomeKinds → SomeKinds → Type 0
+Within narrow wide = (x : Step) → narrow x ≡ true → wide x ≡ true
+
+-- or those of the holder of a turn that goes on.
 abbrev pub AreOfTurn : SomeKinds → Type 0
-AreOfTurn kinds = (x : Step) → kinds x ≡ true → turn_stays x ≡ true
+AreOfTurn kinds = Within kinds turn_stays
 
 -- After the first list, where the pass's seat holds the turn, come these events: its own are of these kinds.
 pub record Stretch (p : PassState) (kinds : SomeKinds) (es more : List Event) : Type 0 where

@@ -1,37 +1,30 @@
 -- A caller may take the turn for a New or a Free, and finds no stop, and not the end of all.
-use Rattle.std.proofs.Common.{◌≡◌, ◌⊎◌, inl, inr, ℕ, zero, suc, ◌<◌, ◌≤◌, true, [], ◌∷◌, refl, sym, ◌∙◌, ap, subst}
-use Rattle.std.proofs.Common.{arith}
-use Rattle.std.specs.Prelude.{Some}
-use Rattle.std.proofs.lemmas.Bool.{lt-ltb}
-use Rattle.mk_never.specs.declared.operations.Op.{Op}
-use Rattle.mk_core.specs.declared.config.Config.{Config}
-use Rattle.mk_core.specs.declared.events.Seat.{Seat}
-use Rattle.mk_core.specs.declared.events.Seat.TheVariants.{Caller, Host}
-use Rattle.mk_core.specs.declared.events.Step.TheVariants as step
-use Rattle.mk_core.specs.declared.seats.Flight.{Flight}
-use Rattle.mk_core.specs.Calls.{at_rest, has_operands, is_under_turn}
-use Rattle.mk_core.specs.Enabled.{IsEnabled}
-use Rattle.mk_core.specs.History.{IsHistory}
-use Rattle.mk_core.specs.Moments.{Moment, flight_of}
-use Rattle.mk_core.specs.Order.{comes_next}
-use Rattle.mk_core.specs.Words.{phase_of}
-use Rattle.mk_core.proofs.Conditions.{meets_enabled}
+use Rattle.mk_laws.proofs.Vocabulary.{is_under_turn, suc, zero, ◌≤◌}
+use Rattle.mk_alloc.proofs.Vocabulary.{Caller, Config, Flight, Has, Host, IsEnabled, IsEnabledTo, IsFresh, IsHistory}
+use Rattle.mk_alloc.proofs.Vocabulary.{IsOutOfStop, Moment, Op, PassState, Seat, Some, TakesTurn, [], ap, arith}
+use Rattle.mk_alloc.proofs.Vocabulary.{at_rest, caller_of_pass, comes_next, flight_of, has_operands, inl, inr, lt-ltb}
+use Rattle.mk_alloc.proofs.Vocabulary.{meets_enabled, now_of, only_one, own_seat, phase_of, refl, subst, sym, true, ℕ}
+use Rattle.mk_alloc.proofs.Vocabulary.{◌<◌, ◌∙◌, ◌∷◌, ◌≡◌, ◌⊎◌}
 use Rattle.mk_laws.proofs.Asked.{give_phase}
-use Rattle.mk_words.specs.Seats.{CallersAreBeforeOver, Has}
-use Rattle.mk_words.specs.States.{PassState, now_of}
-use Rattle.mk_words.specs.Steps.{IsEnabledTo}
-use Rattle.mk_words.specs.TurnSteps.{IsFresh}
 use Rattle.mk_words.proofs.OverPhases.{end_is_behind_over}
-use Rattle.mk_words.proofs.Seats.{only_one}
-use Rattle.mk_caller.specs.States.{IsIdleCaller, caller_of_pass}
-use Rattle.mk_caller.proofs.OneStep.{own_seat}
-use Rattle.mk_waiting.specs.Taking.{TakesTurn}
-use Rattle.mk_objects.specs.Placing.{IsOutOfStop}
-use Rattle.mk_alloc.proofs.CalledTurns.{taken_same}
+use Rattle.mk_words.specs.Seats.{CallersAreBeforeOver}
+use Rattle.mk_caller.specs.States.{IsIdleCaller}
+use Rattle.mk_alloc.proofs.CalledTurns.{Taken, taken_same}
 use Rattle.mk_alloc.proofs.Going.{IsCallers}
+use Rattle.mk_core.specs.declared.events.Step.TheVariants as step
 
 pub callers : (p : PassState) → IsIdleCaller p → IsCallers p
 callers p idle = own_seat p idle.caller idle.seat
+
+-- the turn that an idle caller took, from the pass that it lent
+pub took_by : {home p taken : PassState} {o : Op} → home ≡ p → IsIdleCaller p → Has p.seats p.seat
+    → TakesTurn home (Some o) taken → Taken o p taken
+took_by {p = p} {taken = taken} {o = o} same idle own takes =
+    record {
+      seat = callers p idle;
+      own = own;
+      takes = subst (λ (x : PassState). TakesTurn x (Some o) taken) same takes;
+    }
 
 take_for : (c : Config) (m : Moment) (k : ℕ) (o : Op) → k < c.callers → flight_of m (Caller k) ≡ at_rest
     → is_under_turn o ≡ true

@@ -1,36 +1,17 @@
 -- Calls sweep nothing, and turns whose engine doesn't.
-use Rattle.std.proofs.Common.{◌≡◌, ⊎_elim, true, false, List, [], ◌∷◌, map, refl, sym, ◌∙◌, ap, subst}
-use Rattle.std.specs.Prelude.{Bool, ◌&&◌, not, Some}
-use Rattle.std.specs.List.{list_all}
-use Rattle.std.proofs.lemmas.Bool.{and_from, not-true}
-use Rattle.mk_never.specs.declared.operations.Op.{Op}
-use Rattle.mk_core.specs.declared.events.Answer.{Answer}
-use Rattle.mk_core.specs.declared.events.Step.{Step}
-use Rattle.mk_core.specs.declared.events.Step.TheVariants as step
-use Rattle.mk_core.specs.declared.seats.Stage.{Stage}
-use Rattle.mk_core.specs.declared.seats.Stage.TheVariants as stage
-use Rattle.mk_core.specs.Growing.{Finding}
-use Rattle.mk_words.specs.Seats.{Has}
-use Rattle.mk_words.specs.States.{PassState, now_of, world_of}
-use Rattle.mk_words.specs.Steps.{Makes}
-use Rattle.mk_words.specs.TurnSteps.{Acts}
-use Rattle.mk_caller.specs.Called.{own_steps, stages_made, step_at}
-use Rattle.mk_turns.specs.Doing.{Does, are_of, done_in}
-use Rattle.mk_turns.specs.Sweeping.{HaveNoMark, SweepsNothing, is_mark}
-use Rattle.mk_turns.proofs.Sweeping.{does_sweep, kinds_sweep, only_seen, other_step_sweeps, step_then_sweeps}
-use Rattle.mk_turns.proofs.Sweeping.{sweeps_then}
-use Rattle.mk_waiting.specs.Taking.{TakesTurn}
+use Rattle.mk_alloc.proofs.Vocabulary.{Acts, Answer, Bool, DecidesFree, Does, EndsOlder, IsAtPhase, IsOutOfStop, Looks}
+use Rattle.mk_alloc.proofs.Vocabulary.{Op, PassState, Some, Stage, Step, SweepsNothing, ap, false, is_freeing}
+use Rattle.mk_alloc.proofs.Vocabulary.{is_loading, is_look, not, not-true, now_of, only_seen, refl, step_at, subst}
+use Rattle.mk_alloc.proofs.Vocabulary.{sweeps_then, sym, true, world_of, ⊎_elim, ◌∙◌, ◌≡◌}
+use Rattle.mk_turns.proofs.Sweeping.{does_sweep, kinds_sweep, other_step_sweeps, step_then_sweeps}
+use Rattle.mk_turns.specs.Sweeping.{HaveNoMark, is_mark}
 use Rattle.mk_waiting.proofs.Unswept.{taking_sweeps}
-use Rattle.mk_objects.specs.Placing.{IsOutOfStop, is_look}
-use Rattle.mk_objects.specs.Retired.{DecidesFree}
-use Rattle.mk_objects.specs.Retiring.{is_freeing, is_loading}
 use Rattle.mk_objects.proofs.UnsweptNews.{look_is_no_mark}
-use Rattle.mk_cycle.specs.EngineLaw.{IsAtPhase}
-use Rattle.mk_alloc.specs.DueCycles.{EndsOlder}
+use Rattle.mk_alloc.proofs.CalledTurns.{GivenBack, taken_is}
+use Rattle.mk_alloc.proofs.OwnGives.{steps_are}
 use Rattle.mk_alloc.specs.Laws.{CallsSweepNothing, SweepNothingWhereHeld}
-use Rattle.mk_alloc.specs.Underway.{Looks}
-use Rattle.mk_alloc.proofs.CalledTurns.{taken_same}
-use Rattle.mk_alloc.proofs.Going.{IsCallers}
+use Rattle.mk_core.specs.declared.events.Step.TheVariants as step
+use Rattle.mk_core.specs.declared.seats.Stage.TheVariants as stage
 
 -- A call with `enter` and `leave` marks nothing.
 
@@ -40,36 +21,17 @@ no_mark x = not (is_mark x)
 no_mark_marks : HaveNoMark no_mark
 no_mark_marks x h = not-true (is_mark x) h
 
-all_of_steps : (xs : List Finding) → list_all no_mark (map (λ (x : Finding). x.event.step) xs) ≡ are_of no_mark xs
-all_of_steps [] = refl
-all_of_steps (x ∷ xs) = ap (λ (b : Bool). no_mark x.event.step && b) (all_of_steps xs)
-
 at_no_mark : (s : Stage) → no_mark (step_at s) ≡ true
 at_no_mark stage.Probe = refl
-at_no_mark stage.Read = refl
-at_no_mark stage.Write = refl
-at_no_mark stage.Cas = refl
-at_no_mark stage.Getg = refl
-at_no_mark stage.Setg = refl
-at_no_mark stage.Dirty = refl
-at_no_mark stage.Leave = refl
 at_no_mark _ = refl
-
-stages_no_mark : (xs : List Stage) → list_all no_mark (map step_at xs) ≡ true
-stages_no_mark [] = refl
-stages_no_mark (x ∷ xs) =
-    and_from (no_mark (step_at x)) (list_all no_mark (map step_at xs)) (at_no_mark x) (stages_no_mark xs)
 
 pub calls_sweep_nothing : CallsSweepNothing
 calls_sweep_nothing p o a q called =
-    let xs : List Finding = done_in p called.more in
-    let all : list_all no_mark (own_steps p called.more) ≡ true =
-    ap (λ (l : List Step). list_all no_mark l) called.steps ∙ stages_no_mark (stages_made o a) in
     record {
       more = called.more;
       is = ap (λ (x : PassState). x.seen) called.is;
       none = kinds_sweep no_mark p.table.config p.seat (world_of p) called.more no_mark_marks
-          (sym (all_of_steps xs) ∙ all);
+          (steps_are no_mark at_no_mark p o a called.more refl called.steps);
     }
 
 pub sweep_nothing_where_held : SweepNothingWhereHeld
@@ -106,23 +68,21 @@ loading_has_no_mark : HaveNoMark is_loading
 loading_has_no_mark (step.Mark p v) h = cc
 loading_has_no_mark _ h = refl
 
-pub freeing_then_sweeps : (a : Answer) (p q r : PassState) → DecidesFree is_freeing a p q → SweepsNothing q r
+pub freeing_then_sweeps : {a : Answer} {p q r : PassState} → DecidesFree is_freeing a p q → SweepsNothing q r
     → SweepsNothing p r
-freeing_then_sweeps a p q r d rest =
+freeing_then_sweeps {p = p} {q = q} {r = r} d rest =
     part_then_sweeps is_freeing p q r d.does (does_sweep is_freeing p q freeing_has_no_mark d.does) rest
 
-pub loading_sweeps : (a : Answer) (p q : PassState) → DecidesFree is_loading a p q → SweepsNothing p q
-loading_sweeps a p q d = does_sweep is_loading p q loading_has_no_mark d.does
+pub loading_sweeps : {a : Answer} {p q : PassState} → DecidesFree is_loading a p q → SweepsNothing p q
+loading_sweeps {p = p} {q = q} d = does_sweep is_loading p q loading_has_no_mark d.does
 
 -- A turn from the wait for it to its `give`, where its parts sweep nothing.
-pub turn_sweeps : (p taken done q : PassState) (o : Op) → IsCallers p → Has p.seats p.seat
-    → TakesTurn p (Some o) taken
-    → SweepsNothing taken done → done ≡ record taken { seen = done.seen } → Has done.seats done.seat
-    → Makes done step.Give q
-    → SweepsNothing p q
-turn_sweeps p taken done q o seat own takes inside same own_done gives =
-    sweeps_then p taken q (taken_same p taken o seat own takes) (taking_sweeps p (Some o) taken own takes)
-    (sweeps_then taken done q same inside (other_step_sweeps done q step.Give gives refl))
+pub turn_sweeps : {o : Op} {a : Answer} {p taken done q : PassState} → GivenBack o a p taken done q
+    → SweepsNothing taken done → SweepsNothing p q
+turn_sweeps {o} {a} {p} {taken} {done} {q} g inside =
+    sweeps_then p taken q (taken_is g.took) (taking_sweeps p (Some o) taken g.took.own g.took.takes)
+    (sweeps_then taken done q (only_seen taken done g.on.does.more g.on.does.is) inside
+    (other_step_sweeps done q step.Give g.gives refl))
 
 -- Only the list has grown where an older cycle was ended.
 pub older_same : (p q : PassState) → IsOutOfStop (now_of p) → EndsOlder p q → q ≡ record p { seen = q.seen }

@@ -57,7 +57,6 @@ fn run_cycle<E: Engine, R: Threads + Wait + Sync>(
     ensures reached { E.sweeps ≡ false → SweepsNothing turn.pass result.pass }
     ensures begun { EachIsBegun E.begins turn.pass result.pass }
 {
-    turn.is_in_order();
     let mut turn = finish_older(rt, words, turn, bench);
     begin_cycle(rt, words, &mut turn, bench);
     if bench.engine.keeps_on() {

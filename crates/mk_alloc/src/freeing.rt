@@ -43,7 +43,6 @@ pub fn free_object<E: Engine, R: Threads + Wait + Sync>(
     let words = caller.words();
     let home = caller.lend();
     let mut turn = take(rt, words, home, Op::Free { p });
-    turn.is_in_order();
     match retire_object(rt, words, &mut turn, p) {
         Ok(freed) => {
             turn.is_in_order();
@@ -53,7 +52,6 @@ pub fn free_object<E: Engine, R: Threads + Wait + Sync>(
             Ok(freed)
         }
         Err(double) => {
-            turn.is_in_order();
             caller.back(give(words, turn));
             Err(double)
         }

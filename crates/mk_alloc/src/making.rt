@@ -55,21 +55,17 @@ pub fn new_object<E: Engine, R: Threads + Wait + Sync>(
     let home = caller.lend();
     let op = Op::New { d, ty, full: false };
     let mut turn = take(rt, words, home, op);
-    turn.is_in_order();
     if try_place(words, &mut turn, bench) {
-        turn.is_in_order();
         caller.back(give(words, turn));
         return Ok(());
     }
     let (mut turn, placed) = make_room(rt, words, turn, bench);
-    turn.is_in_order();
     if placed {
         caller.back(give(words, turn));
         return Ok(());
     }
     let census = census(bench.book.pages());
     answer_full(words, &mut turn);
-    turn.is_in_order();
     caller.back(give(words, turn));
     Err(Full { census })
 }

@@ -96,11 +96,11 @@ fn place_behind_older<E: Engine, R: Threads + Wait + Sync>(
 {
     let mut turn = turn;
     turn.is_in_order();
-    if !is_cycle_on(words, &mut turn) {
-        turn.is_in_order();
+    let is_on = is_cycle_on(words, &mut turn);
+    turn.is_in_order();
+    if !is_on {
         return (turn, false);
     }
-    turn.is_in_order();
     finish_and_place(rt, words, turn, bench)
 }
 

@@ -29,7 +29,6 @@ pub(crate) fn take<R: Wait>(rt: &R, words: &Words, home: Pass, op: Op) -> Turn
     ensures takes { TakesTurn home (Some op) result.pass }
     ensures begins { BeginsTurn op result.pass }
 {
-    home.is_in_order();
     let turn = take_turn(rt, words, home, Some(op));
     turn.is_in_order();
     turn

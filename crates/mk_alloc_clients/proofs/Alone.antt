@@ -1,22 +1,17 @@
 -- What other callers' operations leave of an object that one caller alone knows of: all of it.
-use Rattle.std.proofs.Common.{◌≡◌, ◌≢◌, ℕ, zero, suc, ◌+◌, ◌*◌, ◌<◌, List, [], ◌∷◌, ◌++◌}
-use Rattle.std.proofs.Common.{length, map, get_or, refl, sym, subst, arith}
-use Rattle.std.proofs.lemmas.List.{get_or-set_other, get_or_append_left}
-use Rattle.mk_never.specs.declared.types.Kind.{Kind}
-use Rattle.mk_never.specs.declared.types.Kind.TheVariants.{Num as Number, To}
-use Rattle.mk_never.specs.declared.values.Target.TheVariants.{Unmapped, WordOf}
-use Rattle.mk_never.specs.declared.values.Value.{Value}
-use Rattle.mk_never.specs.declared.values.Value.TheVariants.{Null, Num, Ptr}
-use Rattle.mk_never.specs.declared.operations.Op.{Op}
-use Rattle.mk_never.specs.declared.operations.Op.TheVariants.{New, Free, GetNum, SetNum, GetPtr, SetPtr, CasPtr, Lea}
-use Rattle.mk_never.specs.declared.operations.Op.TheVariants.{Move, Clear, GetGlobal, SetGlobal, Same, IsNull}
+use Rattle.mk_laws.proofs.Vocabulary.{Kind, List, NeverState, Null, Num, Number, Op, Ptr, To, Unmapped, Value, WordOf}
+use Rattle.mk_laws.proofs.Vocabulary.{[], after_free, allocation_at, arith, get_or, get_or-set_other}
+use Rattle.mk_laws.proofs.Vocabulary.{get_or_append_left, is_same, is_unmapped, kinds_of, length, map, no_allocation}
+use Rattle.mk_laws.proofs.Vocabulary.{refl, register_at, set_by, subst, suc, sym, target_of, with_freed, with_global}
+use Rattle.mk_laws.proofs.Vocabulary.{with_new, with_register, with_word, word_at, words_of, zero, ℕ, ◌*◌, ◌++◌, ◌+◌}
+use Rattle.mk_laws.proofs.Vocabulary.{◌<◌, ◌∷◌, ◌≡◌, ◌≢◌}
+use Rattle.mk_never.proofs.Edits.{if_by, left_at_by}
 use Rattle.mk_never.specs.Admitted.{OperandsAreInRange}
-use Rattle.mk_never.specs.NeverHeap.{NeverState, Allocation, no_allocation, register_at, allocation_at, words_of}
-use Rattle.mk_never.specs.NeverHeap.{word_at, with_register, with_global, with_word, with_freed, with_new, is_same}
-use Rattle.mk_never.specs.NeverHeap.{is_unmapped, target_of, moved_on, after_free, after_op}
+use Rattle.mk_never.specs.NeverHeap.{Allocation, after_op, moved_on}
 use Rattle.mk_never.specs.Reach.{LeadsTo}
-use Rattle.mk_never.specs.Types.{kinds_of, zero_of}
-use Rattle.mk_never.proofs.Edits.{left_at_by, if_by, set_by}
+use Rattle.mk_never.specs.Types.{zero_of}
+use Rattle.mk_never.specs.declared.operations.Op.TheVariants.{CasPtr, Clear, Free, GetGlobal, GetNum, GetPtr, IsNull}
+use Rattle.mk_never.specs.declared.operations.Op.TheVariants.{Lea, Move, New, Same, SetGlobal, SetNum, SetPtr}
 use Rattle.mk_alloc_clients.specs.Owned.{IsKnownToAlone, IsRegisterOf}
 
 -- what holds of the appended element and of what stood at the place holds of what stands there

@@ -1,22 +1,15 @@
 -- The place of a number, from what a look round says, and what comes of it.
-use Rattle.std.proofs.Common.{◌≡◌, sym, ◌∙◌, ap, arith}
-use Rattle.std.specs.Prelude.{Option, Some, None}
-use Rattle.mk_never.specs.declared.operations.Op.{Op}
-use Rattle.mk_geom.specs.declared.pages.Page.{Page}
-use Rattle.mk_geom.specs.declared.pages.Place.{Place}
-use Rattle.mk_core.specs.History.{IsHistory}
-use Rattle.mk_core.specs.NewPlaces.{place_on_pages}
+use Rattle.mk_laws.proofs.Vocabulary.{IsHistory, None, Op, Option, Page, Place, Some, ap, arith, histories_keep_lengths}
+use Rattle.mk_laws.proofs.Vocabulary.{place_on_pages, sym, ◌∙◌, ◌≡◌}
+use Rattle.mk_alloc.proofs.Vocabulary.{FitsNowhere, IsPlaced, IsTurn, IsUnplaced, OnlyLooks, PassState, now_of}
+use Rattle.mk_alloc.proofs.Vocabulary.{object_for}
 use Rattle.mk_core.specs.Words.{page_of}
-use Rattle.mk_core.proofs.Lengths.{histories_keep_lengths}
-use Rattle.mk_words.specs.States.{PassState, now_of}
-use Rattle.mk_words.specs.TurnSteps.{IsTurn}
-use Rattle.mk_objects.specs.Placing.{FitsNowhere, GoesTo, HeldIsExact, IsGranted, IsPlaced, IsUnplaced, OnlyLooks}
-use Rattle.mk_objects.specs.Placing.{object_for}
 use Rattle.mk_objects.proofs.JoinedLooks.{granted_behind_looks}
 use Rattle.mk_objects.proofs.PlacedNews.{fit_within, goes_behind, place_found}
-use Rattle.mk_alloc_clients.specs.Making.{one_number}
+use Rattle.mk_objects.specs.Placing.{GoesTo, HeldIsExact, IsGranted}
 use Rattle.mk_alloc_clients.proofs.MadeNumbers.{page_kept}
 use Rattle.mk_alloc_clients.proofs.OnePage.{fit_on_page, place_on}
+use Rattle.mk_alloc_clients.specs.Making.{one_number}
 
 module _ (p q : PassState) (x : Option Op) (page : Page) (found : Option Place) (turn : IsTurn p x)
     (h : IsHistory p.table.config p.seen) (u : IsUnplaced p) (one : p.table.config.pages ≡ 1)

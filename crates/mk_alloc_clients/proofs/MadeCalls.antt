@@ -1,75 +1,50 @@
 -- The New of a number, from its turn's parts.
-use Rattle.mk_never.specs.declared.types.Kind.TheVariants.{Num as Number}
-use Rattle.std.proofs.Common.{◌≡◌, ℕ, ◌<◌, Bool, false, [], ◌∷◌, refl, sym, subst}
-use Rattle.std.specs.Prelude.{Some}
-use Rattle.mk_never.specs.declared.operations.Op.{Op}
-use Rattle.mk_never.specs.declared.operations.Op.TheVariants as op
-use Rattle.mk_never.specs.Types.{kinds_of}
-use Rattle.mk_core.specs.declared.events.Answer.TheVariants as answer
-use Rattle.mk_core.specs.declared.events.Step.TheVariants as step
-use Rattle.mk_core.specs.Calls.{at_rest}
-use Rattle.mk_core.specs.Counts.{TalliesAreExact, TalliesAreTidy}
-use Rattle.mk_core.specs.History.{IsHistory}
-use Rattle.mk_words.specs.Seats.{CallersAreBeforeOver, Has}
-use Rattle.mk_words.specs.States.{PassState, call_of}
-use Rattle.mk_words.specs.Steps.{Finds, IsEnabledTo, Makes}
-use Rattle.mk_words.specs.TurnSteps.{IsFresh}
-use Rattle.mk_caller.specs.States.{IsIdleCaller, caller_of_pass}
-use Rattle.mk_cycle.specs.TurnKeeps.{InTurn}
-use Rattle.mk_objects.specs.Placing.{IsPlaced}
-use Rattle.mk_alloc.specs.TurnCalls.{CalledInTurn}
-use Rattle.mk_alloc.specs.Underway.{BeginsTurn, TurnGoesOn}
-use Rattle.mk_alloc.proofs.NewTurns.{begun_quiet, begun_unplaced, new_called, operands_of}
-use Rattle.mk_alloc.proofs.OneCycles.{none_runs_one, placed_begins_none}
-use Rattle.mk_alloc.proofs.PlacedTurns.{placed_on}
-use Rattle.mk_alloc.proofs.SeekingTurns.{seeks_placed}
+use Rattle.mk_laws.proofs.Vocabulary.{Bool, IsHistory, Number, Some, TalliesAreTidy, [], false, kinds_of, refl, subst}
+use Rattle.mk_laws.proofs.Vocabulary.{sym, ℕ, ◌<◌, ◌∷◌, ◌≡◌}
+use Rattle.mk_alloc.proofs.Vocabulary.{BeginsTurn, CalledInTurn, IsEnabledTo, IsFresh, PassState, caller_of_pass}
+use Rattle.mk_alloc.proofs.Vocabulary.{own_before}
+use Rattle.mk_core.specs.Counts.{TalliesAreExact}
+use Rattle.mk_words.specs.Seats.{CallersAreBeforeOver}
+use Rattle.mk_words.specs.Steps.{Finds}
+use Rattle.mk_caller.specs.States.{IsIdleCaller}
+use Rattle.mk_alloc.proofs.NewTurns.{operands_of}
+use Rattle.mk_alloc.proofs.CalledTurns.{Taken}
 use Rattle.mk_alloc.proofs.TakenTurns.{callers, take_allowed, taken_phase}
-use Rattle.mk_alloc_clients.specs.Owned.{HasNumber}
 use Rattle.mk_alloc_clients.proofs.MadeNumbers.{taken_at_once, type_exists}
 use Rattle.mk_alloc_clients.proofs.OwnedCalls.{granted}
+use Rattle.mk_alloc_clients.specs.Owned.{HasNumber}
+use Rattle.mk_never.specs.declared.operations.Op.TheVariants as op
+use Rattle.mk_core.specs.declared.events.Answer.TheVariants as answer
+use Rattle.mk_core.specs.declared.events.Step.TheVariants as step
 
-module _ (p : PassState) (d ty : ℕ) (idle : IsIdleCaller p) (exists : caller_of_pass p < p.table.config.callers)
-    (lt : d < 8)
-    (kinds : kinds_of p.table.config.types ty ≡ Number ∷ []) where
-  abbrev pub o : Op
-  o = op.New d ty false
+-- The turn of the New, as it was taken.
+pub record TakenNew (p : PassState) (d ty : ℕ) (q : PassState) : Type 0 where
+  pub took : Taken (op.New d ty false) p q
+  pub begins : BeginsTurn (op.New d ty false) q
 
-  -- Its turn may be taken,
-  pub may_take : IsEnabledTo p (step.Take (Some o))
-  may_take = take_allowed p o idle exists refl
+module _ (p : PassState) (d ty : ℕ) (idle : IsIdleCaller p) (exists : caller_of_pass p < p.table.config.callers) where
+  pub may_take : d < 8 → kinds_of p.table.config.types ty ≡ Number ∷ []
+      → IsEnabledTo p (step.Take (Some (op.New d ty false)))
+  may_take lt kinds = take_allowed p (op.New d ty false) idle exists refl
       (operands_of p.table.config d ty lt (type_exists p.table.config.types ty kinds))
 
-  module _ (taken : PassState) (alone : p.seats ≡ p.seat ∷ []) (own : Has p.seats p.seat)
-      (finds : Finds p (step.Take (Some o)) 0 taken) (fresh : IsFresh taken (Some o))
-      (exact : TalliesAreExact taken.table.config taken.seen) (tidy : TalliesAreTidy taken.table.config taken.seen)
-      (history : IsHistory taken.table.config taken.seen)
-      (before : CallersAreBeforeOver taken.table.config taken.seats taken.seen) where
-    -- and begins so.
-    pub begins : BeginsTurn o taken
-    begins =
-        record {
+  pub taken_new : (taken : PassState) → p.seats ≡ p.seat ∷ [] → Finds p (step.Take (Some (op.New d ty false))) 0 taken
+      → IsFresh taken (Some (op.New d ty false)) → TalliesAreExact taken.table.config taken.seen
+      → TalliesAreTidy taken.table.config taken.seen
+      → CallersAreBeforeOver taken.table.config taken.seats taken.seen → TakenNew p d ty taken
+  taken_new taken alone finds fresh exact tidy before =
+      let takes = taken_at_once p taken (Some (op.New d ty false)) finds in
+      let own = own_before finds.makes in
+      record {
+        took = record { seat = callers p idle; own = own; takes = takes };
+        begins = record {
           fresh = fresh;
-          phase = taken_phase p taken o (callers p idle) exists alone own (taken_at_once p taken (Some o) finds) fresh
-              history before;
+          phase = taken_phase p taken (op.New d ty false) (callers p idle) exists alone own takes fresh
+              finds.makes.pass.history before;
           exact = exact;
           tidy = tidy;
-        }
-
-    -- Where its object was placed the turn may be given back,
-    pub goes_on : (done : PassState) → InTurn taken → IsPlaced taken done → IsHistory done.table.config done.seen
-        → TurnGoesOn (Some answer.Done) taken done
-    goes_on done t placed h =
-        placed_on taken done t (begun_unplaced taken d ty false begins) (begun_quiet taken d ty false begins) placed h
-
-    -- and then the call was made.
-    pub made_in_turn : (on : Bool) (done q : PassState) → InTurn taken → IsPlaced taken done → InTurn done
-        → Makes done step.Give q → call_of q ≡ at_rest → IsHistory q.table.config q.seen
-        → CalledInTurn on p o answer.Done q
-    made_in_turn on done q t placed t_done gives rests h =
-        new_called on p taken done q d ty answer.Done (callers p idle) own (taken_at_once p taken (Some o) finds) begins
-        (seeks_placed taken done t (begun_unplaced taken d ty false begins) (begun_quiet taken d ty false begins) placed
-        t_done.history) (none_runs_one taken done (placed_begins_none taken done t placed t_done.history)) t_done gives
-        rests h
+        };
+      }
 
 -- It owns its number then.
 pub made_owns : {on : Bool} {p q : PassState} (d ty : ℕ) → CalledInTurn on p (op.New d ty false) answer.Done q

@@ -1,33 +1,20 @@
 -- A turn that puts a number on the only page: what its looks say, and that its call is that of a New.
-use Rattle.mk_never.specs.declared.types.Kind.TheVariants.{Num as Number}
-use Rattle.std.proofs.Common.{◌≡◌, ℕ, ◌<◌, ◌≤◌, true, List, [], ◌∷◌, length}
-use Rattle.std.proofs.Common.{append-nil, refl, sym, ◌∙◌, ap, inl, inr, arith}
-use Rattle.std.specs.Prelude.{nat_lt, Option, slice_index_or}
-use Rattle.std.proofs.lemmas.Bool.{cases_Bool, lt-ltb, ltb-true, ltb-false}
-use Rattle.std.proofs.lemmas.List.{get_or_past}
-use Rattle.mk_never.specs.declared.operations.Op.{Op}
-use Rattle.mk_never.specs.declared.types.Kind.{Kind}
-use Rattle.mk_never.specs.Types.{kinds_of}
-use Rattle.mk_geom.specs.declared.pages.Page.{Page}
-use Rattle.mk_geom.specs.Storages.{free_page}
-use Rattle.mk_core.specs.declared.events.Event.{Event}
-use Rattle.mk_core.specs.declared.events.Step.TheVariants as step
-use Rattle.mk_core.specs.declared.events.Word.{Word}
-use Rattle.mk_core.specs.Config.{IsWithinLimits}
-use Rattle.mk_core.specs.Frames.{Steady}
-use Rattle.mk_core.specs.History.{IsHistory}
-use Rattle.mk_core.specs.Words.{page_of, phase_of}
-use Rattle.mk_words.specs.Seats.{Has}
-use Rattle.mk_words.specs.States.{PassState, WordsState, call_of, now_of}
+use Rattle.std.proofs.lemmas.Bool.{ltb-false}
+use Rattle.mk_laws.proofs.Vocabulary.{Event, IsHistory, IsWithinLimits, Kind, List, Number, Op, Option, Page, Steady}
+use Rattle.mk_laws.proofs.Vocabulary.{Word, [], ap, append-nil, arith, cases_Bool, free_page, get_or_past, inl, inr}
+use Rattle.mk_laws.proofs.Vocabulary.{kinds_of, length, lt-ltb, ltb-true, nat_lt, phase_of, refl, slice_index_or, sym}
+use Rattle.mk_laws.proofs.Vocabulary.{true, ℕ, ◌<◌, ◌∙◌, ◌∷◌, ◌≡◌, ◌≤◌}
+use Rattle.mk_alloc.proofs.Vocabulary.{Acts, Has, IsTurn, IsUnplaced, OnlyLooks, PassState, TakesTurn, call_of}
+use Rattle.mk_alloc.proofs.Vocabulary.{looks_left, new_is_acting, now_of}
+use Rattle.mk_core.specs.Words.{page_of}
+use Rattle.mk_words.specs.States.{WordsState}
 use Rattle.mk_words.specs.Steps.{Finds}
-use Rattle.mk_words.specs.TurnSteps.{Acts, IsTurn}
-use Rattle.mk_waiting.specs.Taking.{TakesTurn}
-use Rattle.mk_objects.specs.Looking.{is_steady_word}
-use Rattle.mk_objects.specs.Placing.{IsUnplaced, OnlyLooks}
-use Rattle.mk_objects.proofs.JoinedLooks.{looks_left, looks_pages}
+use Rattle.mk_objects.proofs.JoinedLooks.{looks_pages}
 use Rattle.mk_objects.proofs.Looks.{acting_now, look_reaches}
-use Rattle.mk_objects.proofs.MayAct.{IsActing, new_is_acting}
+use Rattle.mk_objects.proofs.MayAct.{IsActing}
 use Rattle.mk_objects.proofs.Unchanged.{steady_is_plain}
+use Rattle.mk_objects.specs.Looking.{is_steady_word}
+use Rattle.mk_core.specs.declared.events.Step.TheVariants as step
 
 pub acting : (p : PassState) (o : Option Op) → IsTurn p o → IsUnplaced p → IsActing p.table.config (now_of p) p.seat
 acting p o turn u = acting_now p o turn (new_is_acting (call_of p) u.new)

@@ -1,24 +1,17 @@
 -- The place of a number on a heap of one page, by what its only page shows.
-use Rattle.std.proofs.Common.{◌≡◌, ◌≢◌, ℕ, ◌<◌, ◌^◌, Bool, true, false, not, List, [], ◌∷◌, length, w64, refl, sym, ◌∙◌}
-use Rattle.std.proofs.Common.{ap, arith}
+use Rattle.std.proofs.Common.{w64}
 use Rattle.std.specs.Bool.{then_some}
 use Rattle.std.specs.Int.{trailing_ones}
-use Rattle.std.specs.Prelude.{Option, Some, None, nat_lt, option_map, slice_index_or, if◌then◌else◌}
-use Rattle.mk_geom.specs.declared.pages.Page.{Page}
-use Rattle.mk_geom.specs.declared.pages.Place.{Place}
-use Rattle.mk_geom.specs.Headers.{header_of, word_of}
-use Rattle.mk_geom.specs.PageUses.{carved, cells_taken, first_where, or_else, resident_pages, small_place}
-use Rattle.mk_geom.specs.PageWords.{use_of_page, use_under}
-use Rattle.mk_geom.specs.Storages.{block_header, free_page}
+use Rattle.std.specs.Prelude.{option_map}
+use Rattle.mk_laws.proofs.Vocabulary.{Bool, Config, IsHistory, List, None, Object, Option, Page, Place, Some, [], ap}
+use Rattle.mk_laws.proofs.Vocabulary.{arith, block_header, false, free_page, header_of, histories_keep_lengths}
+use Rattle.mk_laws.proofs.Vocabulary.{if◌then◌else◌, length, nat_lt, not, or_else, place_on_pages, refl, resident_pages}
+use Rattle.mk_laws.proofs.Vocabulary.{slice_index_or, sym, true, use_under, word_of, ℕ, ◌<◌, ◌^◌, ◌∙◌, ◌∷◌, ◌≡◌, ◌≢◌}
+use Rattle.mk_alloc.proofs.Vocabulary.{PassState, now_of, object_for}
+use Rattle.mk_geom.specs.PageUses.{carved, cells_taken, first_where, small_place}
+use Rattle.mk_geom.specs.PageWords.{use_of_page}
 use Rattle.mk_books.proofs.UsedBitLemmas.{first_where-bits_of}
-use Rattle.mk_core.specs.declared.config.Config.{Config}
-use Rattle.mk_core.specs.declared.seats.Object.{Object}
-use Rattle.mk_core.specs.History.{IsHistory}
-use Rattle.mk_core.specs.NewPlaces.{place_on_pages}
 use Rattle.mk_core.specs.Words.{page_of}
-use Rattle.mk_core.proofs.Lengths.{histories_keep_lengths}
-use Rattle.mk_words.specs.States.{PassState, now_of}
-use Rattle.mk_objects.specs.Placing.{object_for}
 use Rattle.mk_objects.proofs.SoughtPlaces.{cells_under_other, cells_under_wanted, taken_under_other}
 use Rattle.mk_alloc_clients.specs.Making.{one_number}
 

@@ -1,32 +1,27 @@
 -- A number that a caller owns: what other callers leave of it, and what its own calls do.
-use Rattle.std.proofs.Common.{◌≡◌, ◌≢◌, ℕ, ◌+◌, ◌*◌, ◌<◌, Bool, false, List, [], ◌∷◌, length, get_or}
-use Rattle.std.proofs.Common.{set, refl, sym, ◌∙◌, ap, subst, inl, inr, length-set, arith}
-use Rattle.std.specs.Prelude.{◌&&◌, if◌then◌else◌, nat_lt}
-use Rattle.std.proofs.lemmas.Bool.{cases_Bool, ltb-true, ltb-false}
-use Rattle.std.proofs.lemmas.List.{get_or-set_same, get_or_past}
-use Rattle.mk_never.specs.declared.types.Kind.{Kind}
-use Rattle.mk_never.specs.declared.types.Kind.TheVariants.{Num as Number, To}
-use Rattle.mk_never.specs.declared.operations.Op.{Op}
-use Rattle.mk_never.specs.declared.operations.Op.TheVariants as op
-use Rattle.mk_never.specs.declared.operations.Reply.TheVariants as reply
-use Rattle.mk_never.specs.declared.values.Target.{Target}
-use Rattle.mk_never.specs.declared.values.Target.TheVariants.{Unmapped, WordOf}
-use Rattle.mk_never.specs.declared.values.Value.{Value}
-use Rattle.mk_never.specs.declared.values.Value.TheVariants.{Null, Num, Ptr}
-use Rattle.mk_never.specs.Admitted.{AreAdmitted, IsAdmitted, IsCaller, IsNumber, Meets}
-use Rattle.mk_never.specs.Laws.{AreNotBy, Continues}
-use Rattle.mk_never.specs.NeverHeap.{NeverState, Allocation, Call, no_allocation, register_at, allocation_at}
-use Rattle.mk_never.specs.NeverHeap.{word_at, words_of, with_word, target_of, reply_at}
-use Rattle.mk_never.specs.NeverHeap.{left_at, reply_of, after_op, after_calls, number_of as number_in}
-use Rattle.mk_never.specs.Reach.{LeadsTo}
-use Rattle.mk_never.specs.Typed.{IsSound, IsTyped, Suits}
-use Rattle.mk_never.specs.Types.{is_large, kinds_of, zero_words}
-use Rattle.mk_never.proofs.Edits.{exists, set_by}
+use Rattle.std.proofs.Common.{set}
+use Rattle.std.proofs.lemmas.Bool.{ltb-false}
+use Rattle.mk_laws.proofs.Vocabulary.{AreAdmitted, Bool, Call, Continues, IsAdmitted, IsNumber, IsSound, IsTyped, Kind}
+use Rattle.mk_laws.proofs.Vocabulary.{List, Meets, NeverState, Null, Num, Number, Op, Ptr, Suits, To, Unmapped, Value}
+use Rattle.mk_laws.proofs.Vocabulary.{WordOf, [], after_calls, allocation_at, ap, arith, cases_Bool, false, get_or}
+use Rattle.mk_laws.proofs.Vocabulary.{get_or-set_same, get_or_past, if◌then◌else◌, inl, inr, is_large, kinds_of, length}
+use Rattle.mk_laws.proofs.Vocabulary.{length-set, ltb-true, nat_lt, no_allocation, refl, register_at, set_by, subst}
+use Rattle.mk_laws.proofs.Vocabulary.{sym, target_of, with_word, word_at, words_of, ℕ, ◌&&◌, ◌*◌, ◌+◌, ◌<◌, ◌∙◌, ◌∷◌}
+use Rattle.mk_laws.proofs.Vocabulary.{◌≡◌, ◌≢◌}
+use Rattle.mk_never.proofs.Edits.{exists}
 use Rattle.mk_never.proofs.Fresh.{new_adds}
 use Rattle.mk_never.proofs.Later.{op_stays}
 use Rattle.mk_never.proofs.Registers.{destination, op_keeps}
-use Rattle.mk_alloc_clients.specs.Owned.{IsRegisterOf, OwnsNumberIn, number_behind}
+use Rattle.mk_never.specs.Admitted.{IsCaller}
+use Rattle.mk_never.specs.Laws.{AreNotBy}
+use Rattle.mk_never.specs.NeverHeap.{Allocation, after_op, left_at, number_of as number_in, reply_at, reply_of}
+use Rattle.mk_never.specs.Reach.{LeadsTo}
+use Rattle.mk_never.specs.Types.{zero_words}
+use Rattle.mk_never.specs.declared.values.Target.{Target}
 use Rattle.mk_alloc_clients.proofs.Alone.{op_stays_alone, push_keeps, word_alone, zeros_lead_nowhere}
+use Rattle.mk_alloc_clients.specs.Owned.{IsRegisterOf, OwnsNumberIn, number_behind}
+use Rattle.mk_never.specs.declared.operations.Op.TheVariants as op
+use Rattle.mk_never.specs.declared.operations.Reply.TheVariants as reply
 
 -- It is owned still, and is the same number.
 pub record KeepsNumber (n : NeverState) (k d : ℕ) (m : NeverState) : Type 0 where

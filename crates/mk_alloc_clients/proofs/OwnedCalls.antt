@@ -1,41 +1,31 @@
 -- A number that is owned, along a history: other callers' calls keep it, and the caller's own are answered by it.
-use Rattle.mk_never.specs.declared.types.Kind.TheVariants.{Num as Number}
-use Rattle.std.proofs.Common.{◌≡◌, ℕ, Bool, true, false, List, [], ◌∷◌, ◌++◌, length, refl, sym, ◌∙◌, ap, subst}
-use Rattle.std.proofs.Common.{append-nil, append_assoc, length-append, arith}
-use Rattle.std.specs.Prelude.{◌==◌, Some, Result, Ok, Err, IfOk, OnOk, if◌then◌else◌}
-use Rattle.std.proofs.lemmas.Bool.{eq-eqb, true≢false}
-use Rattle.mk_never.specs.declared.types.Kind.{Kind}
-use Rattle.mk_never.specs.declared.operations.Op.{Op}
-use Rattle.mk_never.specs.declared.operations.Op.TheVariants as op
-use Rattle.mk_never.specs.declared.operations.Reply.{Reply}
-use Rattle.mk_never.specs.Admitted.{AreAdmitted}
+use Rattle.std.proofs.Common.{length-append}
+use Rattle.std.specs.Prelude.{Err, IfOk, Ok, OnOk, Result}
+use Rattle.mk_laws.proofs.Vocabulary.{Answer, AreAdmitted, Bool, Config, Decided, Event, IsHistory, Kind, List}
+use Rattle.mk_laws.proofs.Vocabulary.{NeverState, Number, Op, Some, [], admitted_in_parts, after_calls, answer_of, ap}
+use Rattle.mk_laws.proofs.Vocabulary.{append-nil, append_assoc, arith, asked, bases_of, call_decided, calls, calls_from}
+use Rattle.mk_laws.proofs.Vocabulary.{earlier_part_is_history, entry_of, eq-eqb, false, first_world, flagged}
+use Rattle.mk_laws.proofs.Vocabulary.{if◌then◌else◌, kinds_of, left, length, never_behind, never_in_parts, refl, subst}
+use Rattle.mk_laws.proofs.Vocabulary.{sym, true, true≢false, ℕ, ◌++◌, ◌==◌, ◌∙◌, ◌∷◌, ◌≡◌}
+use Rattle.mk_alloc.proofs.Vocabulary.{PassState, by_append, caller_of_pass, calls_by, calls_in_parts, calls_more}
+use Rattle.mk_alloc.proofs.Vocabulary.{comes_last, event_of, others_add_none, own_calls, stands}
 use Rattle.mk_never.specs.Laws.{AreNotBy}
-use Rattle.mk_never.specs.NeverHeap.{NeverState, after_calls, after_op}
-use Rattle.mk_never.specs.Types.{kinds_of}
-use Rattle.mk_core.specs.declared.config.Config.{Config}
-use Rattle.mk_core.specs.declared.events.Answer.{Answer}
-use Rattle.mk_core.specs.declared.events.Answer.TheVariants as answer
-use Rattle.mk_core.specs.declared.events.Event.{Event}
-use Rattle.mk_core.specs.declared.events.Step.TheVariants as step
-use Rattle.mk_core.specs.Decided.{Decided, asked, entry_of, flagged}
-use Rattle.mk_core.specs.History.{IsHistory, bases_of, call_decided, calls, calls_from, first_world, left, never_behind}
-use Rattle.mk_core.specs.Image.{answer_of}
-use Rattle.mk_core.proofs.Histories.{calls_more}
-use Rattle.mk_core.proofs.HistoryParts.{admitted_in_parts, calls_in_parts, earlier_part_is_history, never_in_parts}
-use Rattle.mk_laws.proofs.LastEvents.{comes_last, stands}
+use Rattle.mk_never.specs.NeverHeap.{after_op}
+use Rattle.mk_never.specs.declared.operations.Reply.{Reply}
 use Rattle.mk_words.specs.declared.call_steps.Held.{Held}
-use Rattle.mk_words.specs.States.{PassState, event_of}
-use Rattle.mk_caller.specs.States.{Admits, never_of, never_then, caller_of_pass}
-use Rattle.mk_caller.specs.Called.{Called, IsDecidedIn, own_calls}
-use Rattle.mk_caller.specs.declared.refusals.Refusal.TheVariants.{Fault, Null}
+use Rattle.mk_caller.specs.Called.{Called, IsDecidedIn}
 use Rattle.mk_caller.specs.Causes.{FindsGateHeld, IsRefused}
-use Rattle.mk_caller.proofs.OwnSteps.{by_append, calls_by, others_add_none}
+use Rattle.mk_caller.specs.States.{Admits, never_of, never_then}
+use Rattle.mk_caller.specs.declared.refusals.Refusal.TheVariants.{Fault, Null}
 use Rattle.mk_alloc.proofs.Decisions.{same_last}
+use Rattle.mk_alloc_clients.proofs.Owned.{HasStored, KeepsNumber, access_admitted, keeps_by_others, load_replies}
+use Rattle.mk_alloc_clients.proofs.Owned.{new_owns, store_leaves, store_replies}
 use Rattle.mk_alloc_clients.specs.Laws.{OwnedNumbersStay}
 use Rattle.mk_alloc_clients.specs.Making.{store_then_load}
 use Rattle.mk_alloc_clients.specs.Owned.{HasNumber, OwnsNumber, OwnsNumberIn, number_owned}
-use Rattle.mk_alloc_clients.proofs.Owned.{HasStored, KeepsNumber, access_admitted, keeps_by_others, load_replies}
-use Rattle.mk_alloc_clients.proofs.Owned.{new_owns, store_leaves, store_replies}
+use Rattle.mk_never.specs.declared.operations.Op.TheVariants as op
+use Rattle.mk_core.specs.declared.events.Answer.TheVariants as answer
+use Rattle.mk_core.specs.declared.events.Step.TheVariants as step
 
 -- Calls among which the caller has none are of others.
 none_by : (k : ℕ) (xs : List Decided) → calls_by k xs ≡ [] → AreNotBy k (asked xs)

@@ -44,7 +44,6 @@ pub fn make_number(caller: &mut Caller, d: u8, ty: u64) -> Result<(), Unmade>
             }
             turn.is_in_order();
             let home = turn.give(words);
-            home.is_in_order();
             caller.back(home);
             Ok(())
         }

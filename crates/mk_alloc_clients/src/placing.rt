@@ -45,7 +45,6 @@ fn look_at(words: &Words, turn: &mut Turn, word: Word) -> u64
 {
     turn.is_in_order();
     let found = turn.look(words, word);
-    turn.is_in_order();
     found
 }
 
@@ -59,7 +58,6 @@ fn is_marking(words: &Words, turn: &mut Turn) -> bool
 {
     turn.is_in_order();
     let found = turn.look(words, Word::Phase);
-    turn.is_in_order();
     Phase::Marking.is_in(found)
 }
 
@@ -127,7 +125,6 @@ fn mark_first(words: &Words, turn: &mut Turn, place: Place, marking: bool)
     turn.is_in_order();
     if marking {
         turn.mark(words, place.page, ALL_CELLS);
-        turn.is_in_order();
     }
 }
 
@@ -143,9 +140,7 @@ fn carve(words: &Words, turn: &mut Turn, place: Place, marking: bool)
 {
     turn.is_in_order();
     mark_first(words, turn, place, marking);
-    turn.is_in_order();
     turn.head(words, place.page, block_word());
-    turn.is_in_order();
 }
 
 /// Makes the page a block, where it is free.
@@ -179,13 +174,9 @@ fn serve(words: &Words, turn: &mut Turn, place: Place, seen: Seen)
 {
     turn.is_in_order();
     make_ready(words, turn, place, seen);
-    turn.is_in_order();
     turn.used(words, place.page, seen.page.used | 1 << place.index);
-    turn.is_in_order();
     turn.grant(words);
-    turn.is_in_order();
     turn.tally(words, Tally::Held, seen.held + CELL_WORDS);
-    turn.is_in_order();
 }
 
 /// Grants the object of a New of one number, or answers false where it fits nowhere.
@@ -201,7 +192,6 @@ pub(crate) fn place_number(words: &Words, turn: &mut Turn) -> bool
 {
     turn.is_in_order();
     let seen = see(words, turn);
-    turn.is_in_order();
     match place_on(seen.page.header, seen.page.used) {
         None => false,
         Some(place) => {

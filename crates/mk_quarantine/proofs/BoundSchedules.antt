@@ -1,14 +1,13 @@
 -- A schedule in which what was freed since the last `begin` is more than a quarter of what is held, and just a quarter
 -- with what was given back.
-use Rattle.std.proofs.Common.{◌≡◌, false, List, [], ◌∷◌, ◌++◌, Some, None, refl}
+use Rattle.mk_quarantine.proofs.Vocabulary.{Event, List, None, Some, [], false, refl, ◌++◌, ◌∷◌, ◌≡◌}
+use Rattle.mk_core.proofs.MoreSchedules.{two_pages}
+use Rattle.mk_core.proofs.Schedules.{by, c0, fault, first_fault, host}
+use Rattle.mk_core.specs.Bounded.{all_below}
+use Rattle.mk_core.specs.Cells.{pointed_cell}
 use Rattle.mk_never.specs.declared.operations.Op.TheVariants as op
 use Rattle.mk_core.specs.declared.events.Tally.TheVariants as tally
 use Rattle.mk_core.specs.declared.events.Step.TheVariants as step
-use Rattle.mk_core.specs.declared.events.Event.{Event}
-use Rattle.mk_core.specs.Bounded.{all_below}
-use Rattle.mk_core.specs.Cells.{pointed_cell}
-use Rattle.mk_core.proofs.MoreSchedules.{two_pages}
-use Rattle.mk_core.proofs.Schedules.{by, c0, fault, first_fault, host}
 
 -- Of an object of 2 words and one of 6 the larger is freed first. That is due, so it begins a cycle, which goes on.
 -- Then the smaller is freed, which isn't due. When the caller has cleared its registers the host ends the cycle, in a

@@ -1,20 +1,10 @@
 -- All bounds, from the theorems.
-use Rattle.std.proofs.Common.{◌≡◌, ⊎_elim, ℕ, Bool, true, false, List, [], ◌∷◌, ◌++◌, refl, sym, ◌∙◌, ap}
-use Rattle.std.proofs.Common.{subst, arith, append_assoc}
-use Rattle.std.specs.Prelude.{◌&&◌}
-use Rattle.std.specs.List.{list_any}
-use Rattle.std.proofs.lemmas.Bool.{and_from, or_parts, true≢false}
-use Rattle.std.proofs.lemmas.List.Folds.{list_any-append}
-use Rattle.mk_core.specs.declared.config.Config.{Config}
-use Rattle.mk_core.specs.declared.events.Event.{Event}
-use Rattle.mk_core.specs.declared.events.Seat.{Seat}
-use Rattle.mk_core.specs.declared.events.Seat.TheVariants.{Caller, Host}
-use Rattle.mk_core.specs.Growing.{AreOfOthers, is_same_seat}
-use Rattle.mk_core.specs.History.{IsHistory, left}
-use Rattle.mk_core.proofs.HistoryParts.{earlier_part_is_history}
-use Rattle.mk_alloc.specs.TurnCycles.{TurnsOfAreExact, is_of_cycle}
-use Rattle.mk_quarantine.specs.Bounds.{FreshIsQuarterWhereReleasedInTurn, HostBeginsLast, QuarantineIsBounded}
-use Rattle.mk_quarantine.specs.Bounds.{QuarantinesAreBounded}
+use Rattle.mk_quarantine.proofs.Vocabulary.{Bool, Caller, Config, Event, Host, HostBeginsLast, IsHistory, List, Seat}
+use Rattle.mk_quarantine.proofs.Vocabulary.{TurnsOfAreExact, [], and_from, ap, append_assoc, arith}
+use Rattle.mk_quarantine.proofs.Vocabulary.{earlier_part_is_history, false, is_of_cycle, is_same_seat, left, list_any}
+use Rattle.mk_quarantine.proofs.Vocabulary.{list_any-append, or_parts, refl, subst, sym, true, true≢false, ℕ, ⊎_elim}
+use Rattle.mk_quarantine.proofs.Vocabulary.{◌&&◌, ◌++◌, ◌∙◌, ◌∷◌, ◌≡◌}
+use Rattle.mk_core.specs.Growing.{AreOfOthers}
 use Rattle.mk_quarantine.proofs.CountedWords.{IsQuarter}
 use Rattle.mk_quarantine.proofs.EndedCycles.{fresh_is_quarter_of_held}
 use Rattle.mk_quarantine.proofs.EndedFrees.{CallersAreExact}
@@ -23,6 +13,7 @@ use Rattle.mk_quarantine.proofs.KeptAllocations.{quarantine_is_fresh_or_kept}
 use Rattle.mk_quarantine.proofs.Quarters.{begin_is_of_cycle, fresh_is_quarter, quarantine_is_quarter_and_kept}
 use Rattle.mk_quarantine.proofs.TouchedAllocations.{kept_are_touched}
 use Rattle.mk_quarantine.proofs.UnmappedRuns.{freed_runs_take_no_memory}
+use Rattle.mk_quarantine.specs.Bounds.{FreshIsQuarterWhereReleasedInTurn, QuarantineIsBounded, QuarantinesAreBounded}
 
 others_first : (seats : List Seat) (xs ys : List Event) → AreOfOthers seats (xs ++ ys) → AreOfOthers seats xs
 unfolding AreOfOthers

@@ -1,32 +1,19 @@
 -- What one event makes of the words that are held, fresh and given back.
-use Rattle.std.proofs.Common.{◌≡◌, ℕ, ◌+◌, ◌*◌, ◌≤◌, Bool, true, false, List, [], ◌∷◌, ◌++◌, map, refl, sym, ◌∙◌}
-use Rattle.std.proofs.Common.{ap, subst, arith}
-use Rattle.std.specs.Prelude.{◌&&◌, ◌||◌, not, Option, Some, None, if◌then◌else◌, filter, is_some, sum_by}
-use Rattle.std.proofs.lemmas.Bool.{true≢false}
-use Rattle.std.proofs.lemmas.List.Sums.{sum_by-cons, sum_by-append}
-use Rattle.mk_never.specs.Types.{is_large, kinds_of}
-use Rattle.mk_geom.specs.Addresses.{address_of}
-use Rattle.mk_geom.specs.declared.addresses.Cell.{Cell}
-use Rattle.mk_core.specs.declared.config.Config.{Config}
-use Rattle.mk_core.specs.declared.events.Event.{Event}
-use Rattle.mk_core.specs.declared.events.Seat.{Seat}
-use Rattle.mk_core.specs.declared.events.Step.{Step}
-use Rattle.mk_core.specs.declared.events.Step.TheVariants as step
-use Rattle.mk_core.specs.Allocations.{PlacedAllocation, freed_where_it_stands, fresh_words_of, granted}
-use Rattle.mk_core.specs.Allocations.{held_by_allocations, is_mapped, storage_words, with_released}
-use Rattle.mk_core.specs.Bounded.{is_some_and}
-use Rattle.mk_core.specs.Cells.{is_left_unmarked, pointed_cell}
-use Rattle.mk_core.specs.Counts.{decides_freed}
-use Rattle.mk_core.specs.Cycles.{is_begin, is_release}
-use Rattle.mk_core.specs.History.{World, first_world, left, left_from, world_behind}
-use Rattle.mk_core.specs.Moments.{flight_of}
-use Rattle.mk_core.specs.TurnConditions.{cell_freed}
-use Rattle.mk_core.proofs.ChangedAllocations.{none_freed}
-use Rattle.mk_laws.proofs.OthersMoves.{WorldBehind}
-use Rattle.mk_objects.proofs.HeldFreed.{held_part, held_sum}
+use Rattle.std.proofs.lemmas.List.Sums.{sum_by-append, sum_by-cons}
+use Rattle.std.specs.Prelude.{filter, sum_by}
+use Rattle.mk_laws.proofs.Vocabulary.{address_of, is_large, is_left_unmarked, kinds_of, map, none_freed, pointed_cell}
+use Rattle.mk_quarantine.proofs.Vocabulary.{Bool, Cell, Config, Event, List, None, Option, PlacedAllocation, Seat, Some}
+use Rattle.mk_quarantine.proofs.Vocabulary.{Step, World, WorldBehind, [], ap, arith, cell_freed, decides_freed, false}
+use Rattle.mk_quarantine.proofs.Vocabulary.{first_world, flight_of, freed_where_it_stands, fresh_words_of, given_back}
+use Rattle.mk_quarantine.proofs.Vocabulary.{given_back_behind, granted, held_by_allocations, if◌then◌else◌, is_begin}
+use Rattle.mk_quarantine.proofs.Vocabulary.{is_mapped, is_release, is_some, is_some_and, left, not, refl, storage_words}
+use Rattle.mk_quarantine.proofs.Vocabulary.{subst, sym, true, true≢false, with_released, world_behind, ℕ, ◌&&◌, ◌*◌}
+use Rattle.mk_quarantine.proofs.Vocabulary.{◌++◌, ◌+◌, ◌||◌, ◌∙◌, ◌∷◌, ◌≡◌, ◌≤◌}
+use Rattle.mk_core.specs.History.{left_from}
 use Rattle.mk_laws.proofs.FreshWords.{fresh_part, fresh_pushed, none_fresh}
-use Rattle.mk_quarantine.specs.GivenBack.{given_back, given_back_behind, given_back_from, is_given_back}
-use Rattle.mk_quarantine.specs.GivenBack.{words_given_back}
+use Rattle.mk_objects.proofs.HeldFreed.{held_part, held_sum}
+use Rattle.mk_quarantine.specs.GivenBack.{given_back_from, is_given_back, words_given_back}
+use Rattle.mk_core.specs.declared.events.Step.TheVariants as step
 
 -- The counts as sums over all.
 

@@ -1,40 +1,27 @@
 -- Where calls end the cycles that they begin, no `release` stands in a later turn than its `begin`.
-use Rattle.std.proofs.Common.{◌≡◌, ◌⊎◌, ⊎_elim, ℕ, ◌<◌, true, false, List, [], ◌∷◌, ◌++◌, refl, sym}
-use Rattle.std.proofs.Common.{◌∙◌, ap, subst, arith, append_assoc, inl, inr}
-use Rattle.std.specs.Prelude.{Option, Some, None}
-use Rattle.std.proofs.lemmas.Bool.{eq-eqb, ltb-true, or_from, or_parts, true≢false}
-use Rattle.mk_never.specs.declared.operations.Op.{Op}
-use Rattle.mk_never.specs.declared.operations.Op.TheVariants as op
-use Rattle.mk_core.specs.declared.config.Config.{Config}
-use Rattle.mk_core.specs.declared.events.Event.{Event}
-use Rattle.mk_core.specs.declared.events.Seat.{Seat}
-use Rattle.mk_core.specs.declared.events.Seat.TheVariants.{Caller, Host, Marker}
-use Rattle.mk_core.specs.declared.events.Step.{Step}
-use Rattle.mk_core.specs.declared.events.Step.TheVariants as step
-use Rattle.mk_core.specs.Calls.{is_under_turn}
-use Rattle.mk_core.specs.Cycles.{At, Next, TurnOf, is_begin, is_end, is_give, is_release, through}
-use Rattle.mk_core.specs.Growing.{AreOfOthers, is_one_of, is_same_seat}
-use Rattle.mk_core.specs.History.{AreEnabledFrom, IsHistory, World, left, left_from, world_behind}
-use Rattle.mk_core.specs.Moments.{flight_of}
-use Rattle.mk_core.specs.Order.{comes_next, seat_exists}
-use Rattle.mk_core.specs.Words.{phase_of}
-use Rattle.mk_core.proofs.HistoryParts.{enabled_in_parts}
-use Rattle.mk_laws.proofs.Known.{known_left}
-use Rattle.mk_laws.proofs.NextSteps.{at_no_take, at_take}
-use Rattle.mk_laws.proofs.Orderly.{turn_of}
-use Rattle.mk_laws.proofs.Views.{HoldsTurn, view_of}
-use Rattle.mk_laws.proofs.Induction.{before_it}
-use Rattle.mk_laws.proofs.Longer.{taken}
-use Rattle.mk_laws.proofs.CyclePhases.{AsksPhase, moves_phase, phase_behind}
-use Rattle.mk_alloc.specs.TurnCycles.{CallIsExact, EndsExactly, RunsOneCycle, has_step}
-use Rattle.mk_alloc.proofs.ListParts.{Lacks, lacks_at, lacks_second}
-use Rattle.mk_quarantine.specs.Bounds.{FreshIsQuarterOfHeld, HostBeginsLast, fresh_after}
-use Rattle.mk_quarantine.proofs.HeldTurns.{begin_gives_none, beginner_holds, begun_in_turn}
+use Rattle.mk_laws.proofs.Vocabulary.{AreEnabledFrom, is_one_of, is_under_turn, left_from}
+use Rattle.mk_alloc.proofs.Vocabulary.{RunsOneCycle}
+use Rattle.mk_quarantine.proofs.Vocabulary.{AsksPhase, At, CallIsExact, Caller, Config, EndsExactly, Event}
+use Rattle.mk_quarantine.proofs.Vocabulary.{FreshIsQuarterOfHeld, HoldsTurn, Host, HostBeginsLast, IsHistory, Lacks}
+use Rattle.mk_quarantine.proofs.Vocabulary.{List, Marker, Next, None, Op, Option, Seat, Some, Step, TurnOf, World, []}
+use Rattle.mk_quarantine.proofs.Vocabulary.{ap, append_assoc, arith, at_no_take, before_it, comes_next}
+use Rattle.mk_quarantine.proofs.Vocabulary.{enabled_in_parts, eq-eqb, false, flight_of, fresh_after, has_step, inl, inr}
+use Rattle.mk_quarantine.proofs.Vocabulary.{is_begin, is_end, is_give, is_release, is_same_seat, known_left, lacks_at}
+use Rattle.mk_quarantine.proofs.Vocabulary.{left, ltb-true, or_from, or_parts, phase_behind, phase_of, refl}
+use Rattle.mk_quarantine.proofs.Vocabulary.{seat_exists, subst, sym, taken, through, true, true≢false, turn_of, view_of}
+use Rattle.mk_quarantine.proofs.Vocabulary.{world_behind, ℕ, ⊎_elim, ◌++◌, ◌<◌, ◌∙◌, ◌∷◌, ◌≡◌, ◌⊎◌}
+use Rattle.mk_core.specs.Growing.{AreOfOthers}
+use Rattle.mk_laws.proofs.CyclePhases.{moves_phase}
+use Rattle.mk_laws.proofs.NextSteps.{at_take}
+use Rattle.mk_alloc.proofs.ListParts.{lacks_second}
 use Rattle.mk_quarantine.proofs.CountedWords.{IsQuarter}
 use Rattle.mk_quarantine.proofs.EndedFrees.{CallersAreExact, caller_of}
 use Rattle.mk_quarantine.proofs.HeldQuarters.{FreesIn, IsLate, quarter_or_late, since_begin}
-use Rattle.mk_quarantine.proofs.HeldTurns.{first_giver, next_of, turn_stays_taken}
+use Rattle.mk_quarantine.proofs.HeldTurns.{begin_gives_none, beginner_holds, begun_in_turn, first_giver, next_of}
+use Rattle.mk_quarantine.proofs.HeldTurns.{turn_stays_taken}
 use Rattle.mk_quarantine.proofs.OpenFrees.{freer_has_free}
+use Rattle.mk_never.specs.declared.operations.Op.TheVariants as op
+use Rattle.mk_core.specs.declared.events.Step.TheVariants as step
 
 -- After an `end` no `release` comes before the next `begin`.
 

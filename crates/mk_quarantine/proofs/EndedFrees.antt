@@ -1,40 +1,19 @@
 -- A Free that has freed its object, and whose turn was given back: what that turn did.
-use Rattle.std.proofs.Common.{◌≡◌, ℕ, ◌+◌, ◌<◌, Bool, true, false, List, [], ◌∷◌, ◌++◌, refl, sym, ◌∙◌, ap, subst}
-use Rattle.std.proofs.Common.{arith, append_assoc}
-use Rattle.std.specs.Prelude.{◌&&◌, Option, Some}
-use Rattle.std.specs.List.{list_any}
-use Rattle.std.proofs.lemmas.Bool.{ltb-true, or_from}
-use Rattle.std.proofs.Math.Bool.{and-false}
-use Rattle.mk_never.specs.declared.operations.Op.{Op}
-use Rattle.mk_never.specs.declared.operations.Op.TheVariants as op
-use Rattle.mk_core.specs.declared.config.Config.{Config}
-use Rattle.mk_core.specs.declared.events.Event.{Event}
-use Rattle.mk_core.specs.declared.events.Seat.{Seat}
-use Rattle.mk_core.specs.declared.events.Seat.TheVariants.{Caller, Host, Marker}
-use Rattle.mk_core.specs.declared.events.Step.{Step}
-use Rattle.mk_core.specs.declared.events.Step.TheVariants as step
-use Rattle.mk_core.specs.declared.seats.Flight.{Flight}
-use Rattle.mk_core.specs.Counts.{decides_freed}
-use Rattle.mk_core.specs.Cycles.{Next, TurnOf, is_give}
-use Rattle.mk_core.specs.Growing.{is_same_seat}
-use Rattle.mk_core.specs.History.{IsHistory, left}
-use Rattle.mk_core.specs.Moments.{Moment, flight_of}
-use Rattle.mk_core.specs.NewPlaces.{is_undecided_free}
-use Rattle.mk_core.specs.Order.{seat_exists}
-use Rattle.mk_core.proofs.HistoryParts.{earlier_part_is_history}
-use Rattle.mk_core.proofs.PlacesNow.{undecided_free}
-use Rattle.mk_laws.proofs.Actors.{Meets}
-use Rattle.mk_laws.proofs.Known.{known_left}
-use Rattle.mk_laws.proofs.Orderly.{turn_of}
-use Rattle.mk_laws.proofs.Views.{view_of}
-use Rattle.mk_laws.proofs.LayoutHolders.{free_has_turn}
-use Rattle.mk_laws.proofs.Induction.{before_it}
-use Rattle.mk_laws.proofs.Longer.{taken}
-use Rattle.mk_alloc.specs.TurnCycles.{CallIsExact, EndsExactly, FreeIsExact, TurnsOfAreExact}
-use Rattle.mk_alloc.proofs.OwnGives.{GivesNone, gives_append, own_give}
-use Rattle.mk_quarantine.proofs.HeldTurns.{first_giver, lacks_own, next_of, turn_stays_held, IsSameTurn, one_turn}
+use Rattle.mk_laws.proofs.Vocabulary.{undecided_free}
+use Rattle.mk_alloc.proofs.Vocabulary.{FreeIsExact}
+use Rattle.mk_quarantine.proofs.Vocabulary.{Bool, CallIsExact, Caller, Config, EndsExactly, Event, Flight, GivesNone}
+use Rattle.mk_quarantine.proofs.Vocabulary.{Host, IsHistory, List, Marker, Meets, Moment, Next, Op, Option, Seat, Some}
+use Rattle.mk_quarantine.proofs.Vocabulary.{Step, TurnOf, TurnsOfAreExact, [], and-false, ap, append_assoc, arith}
+use Rattle.mk_quarantine.proofs.Vocabulary.{before_it, decides_freed, earlier_part_is_history, false, flight_of}
+use Rattle.mk_quarantine.proofs.Vocabulary.{free_has_turn, is_give, is_same_seat, is_undecided_free, known_left, left}
+use Rattle.mk_quarantine.proofs.Vocabulary.{list_any, ltb-true, or_from, own_give, refl, seat_exists, subst, sym, taken}
+use Rattle.mk_quarantine.proofs.Vocabulary.{true, turn_of, view_of, ℕ, ◌&&◌, ◌++◌, ◌+◌, ◌<◌, ◌∙◌, ◌∷◌, ◌≡◌}
+use Rattle.mk_alloc.proofs.OwnGives.{gives_append}
+use Rattle.mk_quarantine.proofs.HeldTurns.{IsSameTurn, first_giver, lacks_own, next_of, one_turn, turn_stays_held}
 use Rattle.mk_quarantine.proofs.OpenFrees.{FreesNoneFrom, OpenFree, freer_has_free, open_frees_have_turns}
 use Rattle.mk_quarantine.proofs.OpenFrees.{undecided_is_open}
+use Rattle.mk_never.specs.declared.operations.Op.TheVariants as op
+use Rattle.mk_core.specs.declared.events.Step.TheVariants as step
 
 -- the callers' turns are exact
 abbrev pub CallersAreExact : Bool → Config → List Event → Type 0

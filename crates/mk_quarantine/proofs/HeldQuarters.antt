@@ -1,37 +1,24 @@
 -- What was freed since the last `begin` is a quarter of what is held alone, where no `release` came in a later turn.
-use Rattle.std.proofs.Common.{◌≡◌, ◌⊎◌, ⊎_elim, ℕ, Bool, true, false, List, [], ◌∷◌, ◌++◌, refl, sym}
-use Rattle.std.proofs.Common.{◌∙◌, ap, subst, arith, append_assoc, inl, inr}
-use Rattle.std.specs.List.{list_any}
-use Rattle.std.proofs.lemmas.Bool.{cases_Bool, or_from, or_parts, true≢false}
-use Rattle.std.proofs.lemmas.List.Folds.{list_any-append}
-use Rattle.mk_core.specs.declared.config.Config.{Config}
-use Rattle.mk_core.specs.declared.events.Event.{Event}
-use Rattle.mk_core.specs.declared.events.Seat.{Seat}
-use Rattle.mk_core.specs.declared.events.Seat.TheVariants.{Caller}
-use Rattle.mk_core.specs.declared.events.Step.{Step}
-use Rattle.mk_core.specs.declared.events.Step.TheVariants as step
-use Rattle.mk_core.specs.Allocations.{fresh_words_of}
-use Rattle.mk_core.specs.Counts.{decides_freed}
-use Rattle.mk_core.specs.Cycles.{At, BeginsIn, TurnOf, is_begin, is_give, is_release, through}
-use Rattle.mk_core.specs.History.{IsHistory, World, first_world, left, left_from, world_behind}
-use Rattle.mk_core.specs.Moments.{flight_of}
-use Rattle.mk_core.proofs.Histories.{left_more}
-use Rattle.mk_core.proofs.HistoryParts.{left_in_parts}
-use Rattle.mk_laws.specs.Theorems.{OfHistories}
-use Rattle.mk_laws.proofs.Induction.{KeptByEvents, before_it, holds_of_histories}
-use Rattle.mk_laws.proofs.Longer.{longer_at}
-use Rattle.mk_laws.proofs.CyclePhases.{phase_asked, release_is}
+use Rattle.mk_quarantine.proofs.Vocabulary.{At, Bool, Caller, Config, Event, IsHistory, KeptByEvents, Lacks, List}
+use Rattle.mk_quarantine.proofs.Vocabulary.{Meets, OfHistories, Seat, Step, TurnOf, World, [], ap, append_assoc, arith}
+use Rattle.mk_quarantine.proofs.Vocabulary.{before_it, cases_Bool, decides_freed, false, first_world, flight_of}
+use Rattle.mk_quarantine.proofs.Vocabulary.{fresh_after, fresh_words_of, has_step, holds_of_histories, inl, inr}
+use Rattle.mk_quarantine.proofs.Vocabulary.{is_begin, is_give, is_of_cycle, is_release, lacks_append, lacks_at}
+use Rattle.mk_quarantine.proofs.Vocabulary.{lacks_first, lacks_one, left, left_in_parts, left_more, list_any}
+use Rattle.mk_quarantine.proofs.Vocabulary.{list_any-append, longer_at, or_from, or_parts, own_give, phase_asked, refl}
+use Rattle.mk_quarantine.proofs.Vocabulary.{subst, sym, through, true, true≢false, world_behind, ℕ, ⊎_elim, ◌++◌, ◌∙◌}
+use Rattle.mk_quarantine.proofs.Vocabulary.{◌∷◌, ◌≡◌, ◌⊎◌}
+use Rattle.mk_core.specs.Cycles.{BeginsIn}
+use Rattle.mk_core.specs.History.{left_from}
+use Rattle.mk_laws.proofs.CyclePhases.{release_is}
 use Rattle.mk_laws.proofs.ReleasedCycles.{HasClosed, cycle_so_far}
-use Rattle.mk_alloc.specs.TurnCycles.{has_step, is_of_cycle}
-use Rattle.mk_alloc.proofs.ListParts.{Lacks, lacks_append, lacks_at, lacks_first, lacks_one, none_at}
-use Rattle.mk_alloc.proofs.OwnGives.{own_give}
-use Rattle.mk_laws.proofs.Actors.{Meets}
-use Rattle.mk_quarantine.specs.Bounds.{fresh_after}
-use Rattle.mk_quarantine.proofs.HeldTurns.{BeginsInTurn, begun_in_turn}
+use Rattle.mk_alloc.proofs.ListParts.{none_at}
 use Rattle.mk_quarantine.proofs.CountedWords.{IsQuarter, given_at, none_fresh_begun, none_fresh_stays, quarter_stays}
 use Rattle.mk_quarantine.proofs.EndedFrees.{CallersAreExact, EndedFree, ended_free}
+use Rattle.mk_quarantine.proofs.HeldTurns.{BeginsInTurn, begun_in_turn}
 use Rattle.mk_quarantine.proofs.Quarters.{IsPending, begin_is_of_cycle, cycles_later, freed_or_due, none_pending}
 use Rattle.mk_quarantine.proofs.Quarters.{pending_longer}
+use Rattle.mk_core.specs.declared.events.Step.TheVariants as step
 
 -- the last event of a kind, if there is one
 

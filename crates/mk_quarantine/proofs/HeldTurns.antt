@@ -1,43 +1,23 @@
 -- Turns that are held: the turn word meanwhile, that a turn of a seat is one, and who begins a cycle in one.
-use Rattle.std.proofs.Common.{◌≡◌, ◌≢◌, ⊎_elim, ℕ, ◌+◌, ◌<◌, Bool, true, false, List, [], ◌∷◌, ◌++◌, refl, sym, ◌∙◌, ap}
-use Rattle.std.proofs.Common.{subst, arith, append_assoc, append-nil}
-use Rattle.std.specs.Prelude.{◌&&◌, if◌then◌else◌, Option}
-use Rattle.std.specs.List.{list_any}
-use Rattle.std.proofs.lemmas.Bool.{and_from, cases_Bool, eq-eqb, ne_eqb, or_from, or_parts, true≢false, ltb-true}
-use Rattle.std.proofs.Math.Bool.{and-false}
 use Rattle.std.proofs.lemmas.List.{append_cancel_left}
-use Rattle.std.proofs.lemmas.List.Folds.{list_any-append}
-use Rattle.mk_never.specs.declared.operations.Op.{Op}
-use Rattle.mk_core.specs.declared.config.Config.{Config}
-use Rattle.mk_core.specs.declared.events.Event.{Event}
-use Rattle.mk_core.specs.declared.events.Seat.{Seat}
-use Rattle.mk_core.specs.declared.events.Seat.TheVariants.{Caller, Host, Marker}
-use Rattle.mk_core.specs.declared.events.Step.{Step}
-use Rattle.mk_core.specs.declared.events.Step.TheVariants as step
-use Rattle.mk_core.specs.Cycles.{Next, is_give, TurnOf, At, is_begin}
-use Rattle.mk_core.specs.Growing.{is_same_seat}
-use Rattle.mk_core.specs.History.{AreEnabledFrom, IsHistory, World, left, left_from, world_behind, first_world}
-use Rattle.mk_core.specs.Moments.{holder_number, Moment}
-use Rattle.mk_core.proofs.Conditions.{enabled_meets}
-use Rattle.mk_core.proofs.HistoryParts.{earlier_part_is_history, enabled_in_parts, left_in_parts}
-use Rattle.mk_core.proofs.Histories.{left_more}
-use Rattle.mk_core.specs.declared.events.Group.TheVariants as group
-use Rattle.mk_core.specs.Order.{group_of}
-use Rattle.mk_laws.proofs.Actors.{Meets, Actor, AsHolder, AsMarker, CallTakes, HostTakes, InCallOf}
-use Rattle.mk_laws.proofs.Known.{Known, known_behind, known_left}
-use Rattle.mk_laws.proofs.Orderly.{turn_of}
-use Rattle.mk_laws.proofs.OthersMoves.{WorldBehind}
-use Rattle.mk_laws.proofs.SameWords.{tally_keeps}
-use Rattle.mk_laws.proofs.Views.{HoldsTurn, view_of}
-use Rattle.mk_laws.proofs.LayoutBefore.{reg_leaves}
-use Rattle.mk_laws.proofs.LayoutHolders.{giver_has_turn}
-use Rattle.mk_laws.proofs.Induction.{before_it}
-use Rattle.mk_alloc.specs.TurnCycles.{has_step}
-use Rattle.mk_alloc.proofs.ListParts.{Lacks, InFirst, InSecond, stands, lacks_first}
-use Rattle.mk_alloc.proofs.OwnGives.{GivesNone, own_give}
-use Rattle.mk_laws.proofs.Longer.{taken}
-use Rattle.mk_laws.proofs.OrderlyLists.{actor_of}
+use Rattle.mk_laws.proofs.Vocabulary.{enabled_meets, group_of, holder_number, ◌≢◌}
+use Rattle.mk_quarantine.proofs.Vocabulary.{At, Bool, Caller, Config, Event, GivesNone, HoldsTurn, Host, InFirst}
+use Rattle.mk_quarantine.proofs.Vocabulary.{InSecond, IsHistory, Known, Lacks, List, Marker, Meets, Moment, Next, Op}
+use Rattle.mk_quarantine.proofs.Vocabulary.{Option, Seat, Step, TurnOf, World, WorldBehind, [], and-false, and_from, ap}
+use Rattle.mk_quarantine.proofs.Vocabulary.{append-nil, append_assoc, arith, before_it, cases_Bool}
+use Rattle.mk_quarantine.proofs.Vocabulary.{earlier_part_is_history, enabled_in_parts, eq-eqb, false, first_world}
+use Rattle.mk_quarantine.proofs.Vocabulary.{has_step, if◌then◌else◌, is_begin, is_give, is_same_seat, known_left}
+use Rattle.mk_quarantine.proofs.Vocabulary.{lacks_first, left, left_in_parts, left_more, list_any, list_any-append}
+use Rattle.mk_quarantine.proofs.Vocabulary.{ltb-true, ne_eqb, or_from, or_parts, own_give, refl, reg_leaves, stands}
+use Rattle.mk_quarantine.proofs.Vocabulary.{subst, sym, taken, tally_keeps, true, true≢false, turn_of, view_of}
+use Rattle.mk_quarantine.proofs.Vocabulary.{world_behind, ℕ, ⊎_elim, ◌&&◌, ◌++◌, ◌+◌, ◌<◌, ◌∙◌, ◌∷◌, ◌≡◌}
+use Rattle.mk_core.specs.History.{AreEnabledFrom, left_from}
+use Rattle.mk_laws.proofs.Actors.{CallTakes, HostTakes}
+use Rattle.mk_laws.proofs.Basics.{Actor, AsHolder, AsMarker, InCallOf, actor_of, known_behind}
 use Rattle.mk_laws.proofs.CyclePhases.{begin_is}
+use Rattle.mk_laws.proofs.LayoutHolders.{giver_has_turn}
+use Rattle.mk_core.specs.declared.events.Step.TheVariants as step
+use Rattle.mk_core.specs.declared.events.Group.TheVariants as group
 
 -- The turn word while nobody gives the turn back, and that a turn of a seat is one.
 

@@ -1,33 +1,22 @@
 -- What is in quarantine where no cycle is on: what was freed since the last `begin`, or what the last cycle kept.
-use Rattle.std.proofs.Common.{◌≡◌, ◌⊎◌, ℕ, Bool, true, false, List, [], ◌∷◌, ◌++◌, length, refl, sym, ◌∙◌, ap, subst}
-use Rattle.std.proofs.Common.{arith, inl, inr}
-use Rattle.std.specs.Prelude.{◌||◌, ◌&&◌, not, Option, if◌then◌else◌}
-use Rattle.std.proofs.lemmas.Bool.{and_parts, cases_Bool, cases_eq, cases_lt, not-true, true≢false}
-use Rattle.std.proofs.lemmas.List.{get_or_past, length-append}
-use Rattle.mk_geom.specs.declared.addresses.Cell.{Cell}
-use Rattle.mk_core.specs.declared.config.Config.{Config}
-use Rattle.mk_core.specs.declared.events.Event.{Event}
-use Rattle.mk_core.specs.declared.events.Seat.{Seat}
-use Rattle.mk_core.specs.declared.events.Step.{Step}
+use Rattle.mk_laws.proofs.Vocabulary.{Words, not-true, stands_in}
+use Rattle.mk_quarantine.proofs.Vocabulary.{AsksPhase, At, Bool, Cell, Config, Event, IsKeptByLastCycle, KeptByEvents}
+use Rattle.mk_quarantine.proofs.Vocabulary.{Lacks, List, Meets, Next, OfHistories, Option, PlacedAllocation, Seat, Step}
+use Rattle.mk_quarantine.proofs.Vocabulary.{World, WorldBehind, [], and_parts, ap, arith, before_it, cases_Bool}
+use Rattle.mk_quarantine.proofs.Vocabulary.{cases_eq, cases_lt, cell_freed, changed_at, earlier_at, false, first_world}
+use Rattle.mk_quarantine.proofs.Vocabulary.{flight_of, freed_leaves, freed_where_it_stands, get_or_past, granted}
+use Rattle.mk_quarantine.proofs.Vocabulary.{holds_of_histories, if◌then◌else◌, inl, inr, is_begin, is_close, is_end}
+use Rattle.mk_quarantine.proofs.Vocabulary.{is_quarantined, is_release, is_some_and, lacks_append, lacks_one, left}
+use Rattle.mk_quarantine.proofs.Vocabulary.{left_more, length, length-append, longer_at, never_granted, no_longer_fresh}
+use Rattle.mk_quarantine.proofs.Vocabulary.{not, phase_asked, phase_behind, phase_of, placed_at, refl, subst, sym, true}
+use Rattle.mk_quarantine.proofs.Vocabulary.{true≢false, with_released, world_behind, ℕ, ◌&&◌, ◌++◌, ◌||◌, ◌∙◌, ◌∷◌, ◌≡◌}
+use Rattle.mk_quarantine.proofs.Vocabulary.{◌⊎◌}
+use Rattle.mk_core.proofs.ChangedAllocations.{granted_at}
+use Rattle.mk_core.specs.History.{left_from}
+use Rattle.mk_laws.proofs.CyclePhases.{phase_moves}
+use Rattle.mk_laws.proofs.Longer.{longer_next, next_at_end}
+use Rattle.mk_quarantine.specs.KeptAllocations.{QuarantineIsFreshOrKept}
 use Rattle.mk_core.specs.declared.events.Step.TheVariants as step
-use Rattle.mk_core.specs.Allocations.{PlacedAllocation, freed_where_it_stands, granted, never_granted, no_longer_fresh}
-use Rattle.mk_core.specs.Allocations.{placed_at, stands_in, with_released}
-use Rattle.mk_core.specs.Bounded.{is_some_and}
-use Rattle.mk_core.specs.Cycles.{At, Next, is_begin, is_close, is_end, is_quarantined, is_release}
-use Rattle.mk_core.specs.History.{World, first_world, left, left_from, world_behind}
-use Rattle.mk_core.specs.Moments.{flight_of}
-use Rattle.mk_core.specs.TurnConditions.{cell_freed}
-use Rattle.mk_core.specs.Words.{Words, phase_of}
-use Rattle.mk_core.proofs.ChangedAllocations.{changed_at, earlier_at, freed_leaves, granted_at}
-use Rattle.mk_core.proofs.Histories.{left_more}
-use Rattle.mk_laws.proofs.Actors.{Meets}
-use Rattle.mk_laws.proofs.OthersMoves.{WorldBehind}
-use Rattle.mk_laws.specs.Theorems.{OfHistories}
-use Rattle.mk_laws.proofs.Induction.{KeptByEvents, before_it, holds_of_histories}
-use Rattle.mk_laws.proofs.Longer.{longer_at, longer_next, next_at_end}
-use Rattle.mk_laws.proofs.CyclePhases.{AsksPhase, phase_asked, phase_behind, phase_moves}
-use Rattle.mk_alloc.proofs.ListParts.{Lacks, lacks_append, lacks_one}
-use Rattle.mk_quarantine.specs.KeptAllocations.{IsKeptByLastCycle, QuarantineIsFreshOrKept}
 
 -- the cycle of a `begin` by the events after it, and the phase
 

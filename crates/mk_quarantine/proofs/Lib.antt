@@ -1,3 +1,4 @@
+pub mod Vocabulary
 pub mod BoundSchedules
 pub mod Bounds
 pub mod CountedWords

@@ -1,17 +1,9 @@
 -- Where the turn is free no more is held than the pages have.
-use Rattle.std.proofs.Common.{◌≡◌, ◌*◌, ◌≤◌, List, ap, arith}
-use Rattle.std.proofs.lemmas.Bool.{ne_eqb}
-use Rattle.mk_core.specs.declared.config.Config.{Config}
-use Rattle.mk_core.specs.declared.events.Event.{Event}
-use Rattle.mk_core.specs.declared.seats.Holding.{Holding}
-use Rattle.mk_core.specs.History.{IsHistory, left}
-use Rattle.mk_core.specs.Moments.{nothing_done}
-use Rattle.mk_core.specs.Words.{phase_of}
-use Rattle.mk_laws.specs.Protocol.{has_place}
-use Rattle.mk_laws.proofs.Known.{Known, known_left}
+use Rattle.mk_laws.proofs.Vocabulary.{has_place, nothing_done}
+use Rattle.mk_quarantine.proofs.Vocabulary.{Config, Event, Holding, IsHistory, Known, List, ap, arith, held_after}
+use Rattle.mk_quarantine.proofs.Vocabulary.{known_left, left, ne_eqb, phase_of, ◌*◌, ◌≡◌, ◌≤◌}
 use Rattle.mk_laws.specs.SettledPages.{is_freed_unmapped}
 use Rattle.mk_objects.proofs.HeldMore.{held_is_little}
-use Rattle.mk_quarantine.specs.Bounds.{held_after}
 
 pub held_is_little_where_free : (c : Config) (es : List Event) → IsHistory c es → (left c es).now.words.turn ≡ 0
     → held_after c es ≤ 64 * c.pages

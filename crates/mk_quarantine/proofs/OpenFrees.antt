@@ -1,51 +1,28 @@
 -- A Free that isn't decided yet: its turn, in which nothing was freed so far.
-use Rattle.std.proofs.Common.{◌≡◌, ℕ, ◌+◌, ◌<◌, Bool, true, false, List, [], ◌∷◌, ◌++◌, length}
-use Rattle.std.proofs.Common.{refl, sym, ◌∙◌, ap, subst, arith, inl, inr}
-use Rattle.std.specs.Prelude.{⊤, Option, Some, None, ◌&&◌, ◌==◌, if◌then◌else◌, is_some, slice_index_or, slice_set}
-use Rattle.std.proofs.lemmas.Bool.{and_parts, cases_eq, cases_lt, eq-eqb, eqb-true, false_from_ne_true, true≢false}
-use Rattle.std.proofs.lemmas.List.{get_or-set_other, get_or-set_same, set_past}
-use Rattle.mk_never.specs.declared.operations.Op.{Op}
+use Rattle.std.specs.Prelude.{⊤}
+use Rattle.mk_laws.proofs.Vocabulary.{Stage, at_rest, begun, eqb-true, found, freed_cell, get_or-set_other}
+use Rattle.mk_laws.proofs.Vocabulary.{get_or-set_same, is_free_at, onward, progress_freed, progress_p, progress_reg}
+use Rattle.mk_laws.proofs.Vocabulary.{set_past, slice_index_or, slice_set, still, ◌==◌}
+use Rattle.mk_quarantine.proofs.Vocabulary.{Bool, Caller, Cell, Config, Event, Flight, Holding, Host, IsHistory}
+use Rattle.mk_quarantine.proofs.Vocabulary.{KeptByEvents, Known, List, Marker, Meets, None, OfHistories, Op, Option}
+use Rattle.mk_quarantine.proofs.Vocabulary.{Seat, Some, Step, TurnOf, World, WorldBehind, [], and_parts, ap, arith}
+use Rattle.mk_quarantine.proofs.Vocabulary.{at_no_take, before_it, cases_eq, cases_lt, cell_freed, comes_next}
+use Rattle.mk_quarantine.proofs.Vocabulary.{decides_freed, eq-eqb, false, false_from_ne_true, first_world, flight_of}
+use Rattle.mk_quarantine.proofs.Vocabulary.{free_has_turn, holds_of_histories, if◌then◌else◌, inl, inr, is_give}
+use Rattle.mk_quarantine.proofs.Vocabulary.{is_some, is_undecided_free, known_left, left, left_more, length, refl}
+use Rattle.mk_quarantine.proofs.Vocabulary.{reg_leaves, subst, sym, taken, tally_keeps, true, true≢false, view_of}
+use Rattle.mk_quarantine.proofs.Vocabulary.{world_behind, ℕ, ◌&&◌, ◌++◌, ◌+◌, ◌<◌, ◌∙◌, ◌∷◌, ◌≡◌}
+use Rattle.mk_core.specs.History.{left_from}
+use Rattle.mk_laws.proofs.Basics.{InCall, View, at_first, flight_in, same_holder, standing, standing_at}
+use Rattle.mk_laws.proofs.Longer.{gives_turn, left_in_turn, longer_turn}
+use Rattle.mk_laws.proofs.OrderlyLists.{event_moves}
+use Rattle.mk_laws.proofs.ProtocolMoves.{Enters, Gives, GoesOn, Leaves, Move, Stays, Takes, Works}
+use Rattle.mk_laws.proofs.Services.{Fills, Frees, Goes, Grants, Loads, Places, Service}
+use Rattle.mk_laws.proofs.Standings.{UnderTurn}
 use Rattle.mk_never.specs.declared.operations.Op.TheVariants as op
-use Rattle.mk_geom.specs.declared.addresses.Cell.{Cell}
-use Rattle.mk_core.specs.declared.config.Config.{Config}
 use Rattle.mk_core.specs.declared.events.Answer.TheVariants as answer
-use Rattle.mk_core.specs.declared.events.Event.{Event}
-use Rattle.mk_core.specs.declared.events.Seat.{Seat}
-use Rattle.mk_core.specs.declared.events.Seat.TheVariants.{Caller, Host, Marker}
-use Rattle.mk_core.specs.declared.events.Step.{Step}
 use Rattle.mk_core.specs.declared.events.Step.TheVariants as step
-use Rattle.mk_core.specs.declared.seats.Flight.{Flight}
-use Rattle.mk_core.specs.declared.seats.Holding.{Holding}
-use Rattle.mk_core.specs.declared.seats.Stage.{Stage}
 use Rattle.mk_core.specs.declared.seats.Stage.TheVariants as stage
-use Rattle.mk_core.specs.Accesses.{found}
-use Rattle.mk_core.specs.Calls.{at_rest, begun, onward, still, progress_p, progress_reg}
-use Rattle.mk_core.specs.Counts.{decides_freed}
-use Rattle.mk_core.specs.Cycles.{TurnOf, is_give}
-use Rattle.mk_core.specs.Effects.{progress_freed}
-use Rattle.mk_core.specs.History.{IsHistory, World, first_world, left, left_from, world_behind}
-use Rattle.mk_core.specs.Moments.{flight_of}
-use Rattle.mk_core.specs.NewPlaces.{is_free_at, is_undecided_free}
-use Rattle.mk_core.specs.Order.{comes_next}
-use Rattle.mk_core.specs.TurnConditions.{cell_freed}
-use Rattle.mk_core.proofs.Histories.{left_more}
-use Rattle.mk_core.proofs.PlacesNow.{freed_cell}
-use Rattle.mk_laws.proofs.Actors.{Meets}
-use Rattle.mk_laws.proofs.Known.{Known, known_left}
-use Rattle.mk_laws.proofs.ProtocolMoves.{Move, Enters, GoesOn, Gives, Leaves, Stays, Takes, Works}
-use Rattle.mk_laws.proofs.NextSteps.{at_no_take}
-use Rattle.mk_laws.proofs.Orderly.{same_holder}
-use Rattle.mk_laws.proofs.OrderlyLists.{at_first, event_moves}
-use Rattle.mk_laws.proofs.OthersMoves.{WorldBehind}
-use Rattle.mk_laws.proofs.SameWords.{tally_keeps}
-use Rattle.mk_laws.proofs.Services.{Service, Fills, Frees, Goes, Grants, Loads, Places}
-use Rattle.mk_laws.proofs.Standings.{InCall, UnderTurn, standing, standing_at}
-use Rattle.mk_laws.proofs.Views.{View, flight_in, view_of}
-use Rattle.mk_laws.proofs.LayoutBefore.{reg_leaves}
-use Rattle.mk_laws.proofs.LayoutHolders.{free_has_turn}
-use Rattle.mk_laws.specs.Theorems.{OfHistories}
-use Rattle.mk_laws.proofs.Induction.{KeptByEvents, before_it, holds_of_histories}
-use Rattle.mk_laws.proofs.Longer.{gives_turn, left_in_turn, longer_turn, taken}
 
 -- before the event that decides it
 

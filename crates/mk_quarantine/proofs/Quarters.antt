@@ -1,31 +1,21 @@
 -- What was freed since the last `begin` is a quarter, unless a free that is due waits for its `begin`.
-use Rattle.std.proofs.Common.{◌≡◌, ◌⊎◌, ⊎_elim, ℕ, ◌+◌, ◌*◌, ◌<◌, ◌≤◌, Bool, true, false, List, [], ◌∷◌, ◌++◌, refl}
-use Rattle.std.proofs.Common.{sym, ◌∙◌, ap, subst, arith, append_assoc, inl, inr}
-use Rattle.std.specs.Prelude.{◌&&◌, not, if◌then◌else◌}
-use Rattle.std.proofs.lemmas.Bool.{cases_Bool, cases_lt, true≢false}
-use Rattle.mk_core.specs.declared.config.Config.{Config}
-use Rattle.mk_core.specs.declared.events.Event.{Event}
-use Rattle.mk_core.specs.declared.events.Step.{Step}
-use Rattle.mk_core.specs.declared.events.Step.TheVariants as step
-use Rattle.mk_core.specs.Allocations.{PlacedAllocation, fresh_words_of, held_by_allocations, is_mapped, storage_words}
-use Rattle.mk_core.specs.Counts.{IsDue, decides_freed}
-use Rattle.mk_core.specs.Cycles.{is_begin}
-use Rattle.mk_core.specs.History.{IsHistory, World, first_world, left, left_from, world_behind}
-use Rattle.mk_core.specs.Moments.{Moment, flight_of}
-use Rattle.mk_core.specs.declared.seats.Flight.{Flight}
-use Rattle.mk_core.proofs.Histories.{left_more}
-use Rattle.mk_core.proofs.HistoryParts.{left_in_parts}
-use Rattle.mk_laws.specs.Theorems.{OfHistories}
-use Rattle.mk_laws.proofs.Induction.{KeptByEvents, holds_of_histories}
-use Rattle.mk_laws.proofs.Longer.{taken}
-use Rattle.mk_alloc.specs.TurnCycles.{FreesFirst, IsDueIn, has_step, is_of_cycle, within_turn}
-use Rattle.mk_alloc.proofs.ListParts.{InFirst, InSecond, Lacks, lacks_append, lacks_at, lacks_first, lacks_one, stands}
-use Rattle.mk_quarantine.specs.Bounds.{FreshIsQuarterWithGivenBack, QuarantineIsQuarterAndKept}
-use Rattle.mk_quarantine.specs.GivenBack.{given_back, given_back_behind}
-use Rattle.mk_quarantine.specs.KeptAllocations.{kept_mapped, quarantined_mapped}
-use Rattle.mk_quarantine.proofs.CountedWords.{IsQuarter, given_more, none_fresh_begun, quarter_stays, filtered_in_parts}
+use Rattle.mk_alloc.proofs.Vocabulary.{FreesFirst, IsDue, IsDueIn, within_turn}
+use Rattle.mk_quarantine.proofs.Vocabulary.{Bool, Config, Event, Flight, InFirst, InSecond, IsHistory, KeptByEvents}
+use Rattle.mk_quarantine.proofs.Vocabulary.{Lacks, List, Moment, OfHistories, PlacedAllocation, Step, World, [], ap}
+use Rattle.mk_quarantine.proofs.Vocabulary.{append_assoc, arith, cases_Bool, cases_lt, decides_freed, false}
+use Rattle.mk_quarantine.proofs.Vocabulary.{first_world, flight_of, fresh_words_of, given_back, given_back_behind}
+use Rattle.mk_quarantine.proofs.Vocabulary.{has_step, held_by_allocations, holds_of_histories, if◌then◌else◌, inl, inr}
+use Rattle.mk_quarantine.proofs.Vocabulary.{is_begin, is_mapped, is_of_cycle, lacks_append, lacks_at, lacks_first}
+use Rattle.mk_quarantine.proofs.Vocabulary.{lacks_one, left, left_in_parts, left_more, not, refl, stands, storage_words}
+use Rattle.mk_quarantine.proofs.Vocabulary.{subst, sym, taken, true, true≢false, world_behind, ℕ, ⊎_elim, ◌&&◌, ◌*◌}
+use Rattle.mk_quarantine.proofs.Vocabulary.{◌++◌, ◌+◌, ◌<◌, ◌∙◌, ◌∷◌, ◌≡◌, ◌≤◌, ◌⊎◌}
+use Rattle.mk_core.specs.History.{left_from}
+use Rattle.mk_quarantine.proofs.CountedWords.{IsQuarter, filtered_in_parts, given_more, none_fresh_begun, quarter_stays}
 use Rattle.mk_quarantine.proofs.EndedFrees.{CallersAreExact, EndedFree, ended_free}
 use Rattle.mk_quarantine.proofs.OpenFrees.{FreesNoneFrom, frees_none_at}
+use Rattle.mk_quarantine.specs.Bounds.{FreshIsQuarterWithGivenBack, QuarantineIsQuarterAndKept}
+use Rattle.mk_quarantine.specs.KeptAllocations.{kept_mapped, quarantined_mapped}
+use Rattle.mk_core.specs.declared.events.Step.TheVariants as step
 
 -- A free is due, and no cycle was begun since.
 pub record IsPending (c : Config) (es : List Event) : Type 0 where

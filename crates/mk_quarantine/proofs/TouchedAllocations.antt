@@ -1,28 +1,18 @@
 -- What the last cycle kept is touched: released allocations stay so, so it was kept at the cycle's `release`.
-use Rattle.std.proofs.Common.{◌≡◌, ℕ, ◌<◌, Bool, true, false, List, [], ◌∷◌, ◌++◌, length, refl, sym}
-use Rattle.std.proofs.Common.{◌∙◌, ap, subst, arith, append_assoc, inl, inr}
-use Rattle.std.specs.Prelude.{◌||◌}
-use Rattle.std.proofs.lemmas.Bool.{cases_lt, false_from_ne_true, true≢false}
-use Rattle.std.proofs.lemmas.List.{get_or_past, length-append, length-map}
-use Rattle.mk_core.specs.declared.config.Config.{Config}
-use Rattle.mk_core.specs.declared.events.Event.{Event}
-use Rattle.mk_core.specs.declared.events.Seat.{Seat}
-use Rattle.mk_core.specs.declared.events.Step.{Step}
-use Rattle.mk_core.specs.declared.events.Step.TheVariants as step
-use Rattle.mk_core.specs.Allocations.{PlacedAllocation, freed_where_it_stands, granted, never_granted, no_longer_fresh}
-use Rattle.mk_core.specs.Allocations.{placed_at, with_released}
-use Rattle.mk_core.specs.Cycles.{Releasing, before_begin, before_release, is_quarantined}
-use Rattle.mk_core.specs.History.{World, left, left_from, world_behind}
-use Rattle.mk_core.specs.Moments.{flight_of}
-use Rattle.mk_core.specs.TurnConditions.{cell_freed}
-use Rattle.mk_core.proofs.ChangedAllocations.{changed_at, earlier_at, freed_leaves, freed_released}
-use Rattle.mk_core.proofs.HistoryParts.{left_in_parts}
-use Rattle.mk_laws.proofs.OthersMoves.{WorldBehind}
-use Rattle.mk_laws.specs.Theorems.{OfHistories}
-use Rattle.mk_laws.specs.Precision.{through_release}
+use Rattle.mk_laws.proofs.Vocabulary.{Releasing, before_release, freed_released, length-map, through_release}
+use Rattle.mk_quarantine.proofs.Vocabulary.{Bool, Config, Event, List, OfHistories, PlacedAllocation, Seat, Step, World}
+use Rattle.mk_quarantine.proofs.Vocabulary.{WorldBehind, [], ap, append_assoc, arith, cases_lt, cell_freed, changed_at}
+use Rattle.mk_quarantine.proofs.Vocabulary.{earlier_at, false, false_from_ne_true, flight_of, freed_leaves}
+use Rattle.mk_quarantine.proofs.Vocabulary.{freed_where_it_stands, get_or_past, granted, inl, inr, is_quarantined, left}
+use Rattle.mk_quarantine.proofs.Vocabulary.{left_in_parts, length, length-append, never_granted, no_longer_fresh}
+use Rattle.mk_quarantine.proofs.Vocabulary.{placed_at, refl, subst, sym, true, true≢false, with_released, world_behind}
+use Rattle.mk_quarantine.proofs.Vocabulary.{ℕ, ◌++◌, ◌<◌, ◌||◌, ◌∙◌, ◌∷◌, ◌≡◌}
+use Rattle.mk_core.specs.Cycles.{before_begin}
+use Rattle.mk_core.specs.History.{left_from}
 use Rattle.mk_laws.proofs.PrecisionStopped.{keeps_only_the_touched}
 use Rattle.mk_laws.proofs.Stretches.{at_release}
 use Rattle.mk_quarantine.specs.KeptAllocations.{KeptAreTouched}
+use Rattle.mk_core.specs.declared.events.Step.TheVariants as step
 
 -- The allocation was granted.
 abbrev IsThere : World → ℕ → Type 0

@@ -1,12 +1,7 @@
 -- Where the turn is free, a freed large allocation takes no memory: no Free is unmapping a run.
-use Rattle.std.proofs.Common.{◌≡◌, List, [], refl, sym, ◌∙◌, ap, append-nil}
-use Rattle.std.specs.Prelude.{Some, None}
-use Rattle.mk_core.specs.declared.config.Config.{Config}
-use Rattle.mk_core.specs.declared.events.Event.{Event}
-use Rattle.mk_core.specs.declared.seats.Holding.{Holding}
-use Rattle.mk_core.specs.declared.seats.RunPages.{RunPages}
-use Rattle.mk_core.specs.History.{IsHistory, left}
-use Rattle.mk_laws.proofs.Known.{known_left}
+use Rattle.mk_laws.proofs.Vocabulary.{RunPages}
+use Rattle.mk_quarantine.proofs.Vocabulary.{Config, Event, Holding, IsHistory, List, None, Some, [], ap, append-nil}
+use Rattle.mk_quarantine.proofs.Vocabulary.{known_left, left, refl, sym, ◌∙◌, ◌≡◌}
 use Rattle.mk_laws.proofs.UnmappedRuns.{unmapped_runs_take_no_memory}
 use Rattle.mk_quarantine.specs.Bounds.{FreedRunsTakeNoMemory}
 

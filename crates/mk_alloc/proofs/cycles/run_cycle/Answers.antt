@@ -1,51 +1,61 @@
-use Rattle.mk_turns.proofs.Sweeping.{sweeps_then}
-use Rattle.mk_cycle.proofs.Begun.{begun_then, finish_begins_none, has_on}
+use Rattle.mk_alloc.proofs.Vocabulary.{EachIsBegun, Has, PassState, begun_then, finish_begins_none, own_before, subst}
+use Rattle.mk_alloc.proofs.Vocabulary.{sweeps_then, ◌≡◌}
+use Rattle.mk_cycle.proofs.Begun.{has_on}
 use Rattle.mk_alloc.proofs.BegunTurns.{older_begun}
 use Rattle.mk_alloc.proofs.UnsweptTurns.{older_same}
+use Rattle.mk_alloc.proofs.cycles.run_cycle.Goals.{After-begin_cycle}
 use Rattle.mk_alloc.proofs.cycles.run_cycle.Goals as goal
+
+-- up to the begin of the cycle
+idle : (g : _) (c : After-begin_cycle g)
+    → c.finish_older-turn.result.pass ≡ record c.args.turn.pass { seen = c.finish_older-turn.result.pass.seen }
+idle g c =
+    older_same c.args.turn.pass c.finish_older-turn.result.pass c.requires.quiet.phase c.finish_older-turn.ensures.ends
+
+own_idle : (g : _) (c : After-begin_cycle g)
+    → Has c.finish_older-turn.result.pass.seats c.finish_older-turn.result.pass.seat
+own_idle g c =
+    let m = c.begin_cycle.ensures.law.makes in
+    subst (λ (x : PassState). Has x.seats x.seat) m.before.is (own_before m.begin)
+
+older : (g : _) (c : After-begin_cycle g)
+    → EachIsBegun g.E.Engine.begins c.args.turn.pass c.finish_older-turn.result.pass
+older g c =
+    older_begun g.E.Engine.begins c.args.turn.pass c.finish_older-turn.result.pass
+    (subst (λ (x : PassState). Has x.seats x.seat) (idle g c) (own_idle g c)) c.requires.quiet.phase
+    c.finish_older-turn.ensures.ends
 
 pub returns-then-keeps_on-clause-reached : goal.returns-then-keeps_on-clause-reached
 returns-then-keeps_on-clause-reached g c =
-    let p = c.args.turn.pass in
-    let idle = c.finish_older-turn.result.pass in
+    let x = goal.at.returns-then-keeps_on-clause-reached g c in
     λ none.
-    sweeps_then p idle c.begin_cycle.new.turn.pass
-    (older_same p idle c.requires.quiet.phase c.finish_older-turn.ensures.ends)
-    (c.finish_older-turn.ensures.reached none) (c.begin_cycle.ensures.reached none)
+    sweeps_then c.args.turn.pass c.finish_older-turn.result.pass c.begin_cycle.new.turn.pass
+    (idle g x.After-begin_cycle) (c.finish_older-turn.ensures.reached none) (c.begin_cycle.ensures.reached none)
 
 pub returns-else-keeps_on-clause-reached : goal.returns-else-keeps_on-clause-reached
 returns-else-keeps_on-clause-reached g c =
-    let p = c.args.turn.pass in
-    let idle = c.finish_older-turn.result.pass in
-    let begun = c.begin_cycle.new.turn.pass in
+    let x = goal.at.returns-else-keeps_on-clause-reached g c in
+    let from = c.finish_older-turn.result.pass in
     let ended = c.finish_cycle-turn.result.0.pass in
     λ none.
-    sweeps_then p idle ended (older_same p idle c.requires.quiet.phase c.finish_older-turn.ensures.ends)
-    (c.finish_older-turn.ensures.reached none)
-    (sweeps_then idle begun ended c.begin_cycle.ensures.law.pass (c.begin_cycle.ensures.reached none)
-    (c.finish_cycle-turn.ensures.reached none))
+    sweeps_then c.args.turn.pass from ended (idle g x.After-begin_cycle) (c.finish_older-turn.ensures.reached none)
+    (sweeps_then from c.begin_cycle.new.turn.pass ended c.begin_cycle.ensures.law.pass
+    (c.begin_cycle.ensures.reached none) (c.finish_cycle-turn.ensures.reached none))
 
 pub returns-then-keeps_on-clause-begun : goal.returns-then-keeps_on-clause-begun
 returns-then-keeps_on-clause-begun g c =
-    let p = c.args.turn.pass in
-    let idle = c.finish_older-turn.result.pass in
-    let begins = g.E.Engine.begins in
-    begun_then begins p idle c.begin_cycle.new.turn.pass
-    (older_same p idle c.requires.quiet.phase c.finish_older-turn.ensures.ends)
-    (older_begun begins p idle c.is_in_order.ensures.own c.requires.quiet.phase c.finish_older-turn.ensures.ends)
-    c.begin_cycle.ensures.begun
+    let x = goal.at.returns-then-keeps_on-clause-begun g c in
+    begun_then g.E.Engine.begins c.args.turn.pass c.finish_older-turn.result.pass c.begin_cycle.new.turn.pass
+    (idle g x.After-begin_cycle) (older g x.After-begin_cycle) c.begin_cycle.ensures.begun
 
 pub returns-else-keeps_on-clause-begun : goal.returns-else-keeps_on-clause-begun
 returns-else-keeps_on-clause-begun g c =
-    let p = c.args.turn.pass in
-    let idle = c.finish_older-turn.result.pass in
+    let x = (goal.at.returns-else-keeps_on-clause-begun g c).After-begin_cycle in
+    let from = c.finish_older-turn.result.pass in
     let begun = c.begin_cycle.new.turn.pass in
+    let ended = c.finish_cycle-turn.result.0.pass in
     let begins = g.E.Engine.begins in
-    let same = older_same p idle c.requires.quiet.phase c.finish_older-turn.ensures.ends in
-    let own_idle = has_on p idle same c.is_in_order.ensures.own in
-    begun_then begins p idle c.finish_cycle-turn.result.0.pass same
-    (older_begun begins p idle c.is_in_order.ensures.own c.requires.quiet.phase c.finish_older-turn.ensures.ends)
-    (begun_then begins idle begun c.finish_cycle-turn.result.0.pass c.begin_cycle.ensures.law.pass
-    c.begin_cycle.ensures.begun
-    (finish_begins_none begins begun c.finish_cycle-turn.result.0.pass
-    (has_on idle begun c.begin_cycle.ensures.law.pass own_idle) c.finish_cycle-turn.ensures.law))
+    let law = c.begin_cycle.ensures.law in
+    begun_then begins c.args.turn.pass from ended (idle g x) (older g x)
+    (begun_then begins from begun ended law.pass c.begin_cycle.ensures.begun
+    (finish_begins_none begins begun ended (has_on from begun law.pass (own_idle g x)) c.finish_cycle-turn.ensures.law))

@@ -1,10 +1,7 @@
-use Rattle.std.specs.Prelude.{Some}
-use Rattle.mk_core.specs.declared.events.Answer.TheVariants as answer
-use Rattle.mk_words.specs.States.{PassState}
-use Rattle.mk_cycle.proofs.Allowed.{in_turn}
+use Rattle.mk_alloc.proofs.Vocabulary.{PassState, Some, in_turn, sweeps_then}
 use Rattle.mk_alloc.proofs.OneCycles.{finish_then_none}
 use Rattle.mk_alloc.proofs.SeekingTurns.{misfits_finished, seeks_finished, seeks_then}
-use Rattle.mk_turns.proofs.Sweeping.{sweeps_then}
+use Rattle.mk_core.specs.declared.events.Answer.TheVariants as answer
 use Rattle.mk_alloc.proofs.rooms.finish_and_place.Goals as goal
 
 pub returns-clause-placed : goal.returns-clause-placed

@@ -1,12 +1,9 @@
-use Rattle.std.specs.Prelude.{Some}
-use Rattle.mk_core.specs.declared.events.Answer.TheVariants as answer
-use Rattle.mk_cycle.proofs.Begun.{begun_then}
-use Rattle.mk_turns.proofs.Sweeping.{only_seen}
+use Rattle.mk_alloc.proofs.Vocabulary.{Some, begun_then, only_seen, turn_stays}
 use Rattle.mk_alloc.proofs.BegunTurns.{none_begun}
 use Rattle.mk_alloc.proofs.OneCycles.{none_runs_one, none_then_one}
 use Rattle.mk_alloc.proofs.SeekingTurns.{misfits_then, seeks_then}
-use Rattle.mk_words.specs.TurnSteps.{turn_stays}
 use Rattle.mk_alloc.proofs.UnsweptTurns.{part_then_sweeps}
+use Rattle.mk_core.specs.declared.events.Answer.TheVariants as answer
 use Rattle.mk_alloc.proofs.rooms.make_room.Goals as goal
 
 pub returns-clause-placed : goal.returns-clause-placed

@@ -1,17 +1,12 @@
-use Rattle.std.proofs.Common.{◌∙◌, ap}
-use Rattle.std.specs.Prelude.{Some}
-use Rattle.mk_core.specs.declared.events.Answer.TheVariants as answer
-use Rattle.mk_words.specs.States.{PassState}
-use Rattle.mk_cycle.specs.TurnKeeps.{Done}
-use Rattle.mk_cycle.proofs.Allowed.{in_turn}
-use Rattle.mk_cycle.proofs.Begun.{begun_then}
+use Rattle.mk_alloc.proofs.Vocabulary.{Done, None, PassState, Seeks, Some, ap, begun_then, cycle_ended, in_turn}
+use Rattle.mk_alloc.proofs.Vocabulary.{sweeps_then, ◌∙◌}
 use Rattle.mk_alloc.proofs.BegunTurns.{none_begun}
 use Rattle.mk_alloc.proofs.OneCycles.{begin_then_ends, ends_none}
 use Rattle.mk_alloc.proofs.QuietTurns.{quiet_begun}
 use Rattle.mk_alloc.proofs.SeekingTurns.{misfits_then, nowhere_begun, seeks_begun, seeks_then}
-use Rattle.mk_turns.proofs.Sweeping.{sweeps_then}
+use Rattle.mk_alloc.proofs.rooms.place_behind_cycle.Goals.{After-is_in_order-2}
+use Rattle.mk_core.specs.declared.events.Answer.TheVariants as answer
 use Rattle.mk_alloc.proofs.rooms.place_behind_cycle.Goals as goal
-use Rattle.mk_core.specs.Effects.{cycle_ended}
 
 pub finish_and_place-requires-clause-quiet : goal.finish_and_place-requires-clause-quiet
 finish_and_place-requires-clause-quiet g c κs within =
@@ -25,31 +20,29 @@ finish_and_place-requires-clause-nowhere g c κs within =
     (in_turn t.pass t.op i.own i.turn i.history) c.requires.unplaced c.requires.quiet
     c.requires.nowhere c.begin_cycle.ensures.law c.is_in_order-2.ensures.history
 
-pub returns-clause-placed : goal.returns-clause-placed
-returns-clause-placed g c =
+-- the cycle that begins
+sought : (g : _) (c : After-is_in_order-2 g) → Seeks None c.args.turn.pass c.begin_cycle.new.turn.pass
+sought g c =
     let t = c.args.turn in
     let i = c.is_in_order.ensures in
-    let q : PassState = c.begin_cycle.new.turn.pass in
+    seeks_begun t.pass c.begin_cycle.new.turn.pass (in_turn t.pass t.op i.own i.turn i.history) c.requires.unplaced
+    c.requires.quiet c.requires.nowhere c.begin_cycle.ensures.law c.is_in_order-2.ensures.history
+
+pub returns-clause-placed : goal.returns-clause-placed
+returns-clause-placed g c =
+    let x = goal.at.returns-clause-placed g c in
     λ placed.
-    seeks_then (Some answer.Done) t.pass q c.finish_and_place.result.0.pass
-    (seeks_begun t.pass q (in_turn t.pass t.op i.own i.turn i.history) c.requires.unplaced c.requires.quiet
-    c.requires.nowhere
-    c.begin_cycle.ensures.law c.is_in_order-2.ensures.history)
-    (c.finish_and_place.ensures.placed placed)
+    seeks_then (Some answer.Done) c.args.turn.pass c.begin_cycle.new.turn.pass c.finish_and_place.result.0.pass
+    (sought g x.After-is_in_order-2) (c.finish_and_place.ensures.placed placed)
 
 pub returns-clause-misfits : goal.returns-clause-misfits
 returns-clause-misfits g c =
-    let t = c.args.turn in
-    let i = c.is_in_order.ensures in
-    let q : PassState = c.begin_cycle.new.turn.pass in
+    let x = goal.at.returns-clause-misfits g c in
     λ misfits.
     let m = c.finish_and_place.ensures.misfits misfits in
     record {
-      misfits = misfits_then t.pass q c.finish_and_place.result.0.pass
-          (seeks_begun t.pass q (in_turn t.pass t.op i.own i.turn i.history) c.requires.unplaced c.requires.quiet
-          c.requires.nowhere
-          c.begin_cycle.ensures.law c.is_in_order-2.ensures.history)
-          m.misfits;
+      misfits = misfits_then c.args.turn.pass c.begin_cycle.new.turn.pass c.finish_and_place.result.0.pass
+          (sought g x.After-is_in_order-2) m.misfits;
       idle = m.idle;
       ended = c.finish_and_place.ensures.cycle misfits
           ∙ ap (λ (x : Done). cycle_ended x.cycle) c.begin_cycle.ensures.law.done;

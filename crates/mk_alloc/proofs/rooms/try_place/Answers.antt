@@ -1,7 +1,5 @@
-use Rattle.std.proofs.Common.{inl, inr}
-use Rattle.std.proofs.lemmas.Bool.{cases_Bool}
-use Rattle.mk_cycle.proofs.Allowed.{in_turn}
-use Rattle.mk_alloc.proofs.OneCycles.{nowhere_begins_none, placed_begins_none}
+use Rattle.mk_alloc.proofs.Vocabulary.{cases_Bool, in_turn, inl, inr}
+use Rattle.mk_alloc.proofs.OneCycles.{looks_begins_none, placed_begins_none}
 use Rattle.mk_alloc.proofs.SeekingTurns.{misfits_here, seeks_placed}
 use Rattle.mk_alloc.proofs.rooms.try_place.Goals as goal
 
@@ -10,29 +8,26 @@ returns-clause-placed g c =
     let t = c.args.turn.now in
     let i = c.is_in_order.ensures in
     λ placed.
-    seeks_placed t.pass c.place_object-placed.new.turn.pass
-    (in_turn t.pass t.op i.own i.turn i.history) c.requires.unplaced
-    c.requires.quiet (c.place_object-placed.ensures.placed placed) c.is_in_order-2.ensures.history
+    seeks_placed t.pass c.place_object-placed.new.turn.pass (in_turn t.pass t.op i.own i.turn i.history)
+    c.requires.unplaced c.requires.quiet (c.place_object-placed.ensures.placed placed) c.is_in_order-2.ensures.history
 
 pub returns-clause-misfits : goal.returns-clause-misfits
 returns-clause-misfits g c =
     let t = c.args.turn.now in
     let i = c.is_in_order.ensures in
     λ misfits.
-    misfits_here t.pass c.place_object-placed.new.turn.pass
-    (in_turn t.pass t.op i.own i.turn i.history) c.requires.unplaced
-    c.requires.quiet (c.place_object-placed.ensures.nowhere misfits) c.is_in_order-2.ensures.history
+    misfits_here t.pass c.place_object-placed.new.turn.pass (in_turn t.pass t.op i.own i.turn i.history)
+    c.requires.unplaced c.requires.quiet (c.place_object-placed.ensures.nowhere misfits) c.is_in_order-2.ensures.history
 
 pub returns-clause-begins : goal.returns-clause-begins
 returns-clause-begins g c =
     let t = c.args.turn.now in
     let i = c.is_in_order.ensures in
-    let q = c.place_object-placed.new.turn.pass in
+    let j = c.is_in_order-2.ensures in
     let turn = in_turn t.pass t.op i.own i.turn i.history in
     elim (cases_Bool c.place_object-placed.result) [
       | inl placed ↦
-          placed_begins_none t.pass q turn (c.place_object-placed.ensures.placed placed) c.is_in_order-2.ensures.history
-      | inr misfits ↦
-          nowhere_begins_none t.pass q turn (c.place_object-placed.ensures.nowhere misfits)
-          c.is_in_order-2.ensures.history
+          placed_begins_none t.pass c.place_object-placed.new.turn.pass turn (c.place_object-placed.ensures.placed placed)
+          j.history
+      | inr misfits ↦ looks_begins_none turn (c.place_object-placed.ensures.nowhere misfits).looks.does j.history
     ]

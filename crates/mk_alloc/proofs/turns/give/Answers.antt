@@ -1,4 +1,4 @@
-use Rattle.mk_cycle.proofs.Allowed.{in_turn}
+use Rattle.mk_alloc.proofs.Vocabulary.{in_turn}
 use Rattle.mk_alloc.proofs.QuietTurns.{give_allowed}
 use Rattle.mk_alloc.proofs.turns.give.Goals as goal
 

@@ -1,4 +1,4 @@
-use Rattle.mk_words.specs.States.{PassState}
+use Rattle.mk_alloc.proofs.Vocabulary.{Has, PassState, own_before, subst}
 use Rattle.mk_alloc.proofs.TakenTurns.{callers, take_allowed, taken_phase}
 use Rattle.mk_alloc.proofs.turns.take.Goals as goal
 
@@ -14,8 +14,8 @@ returns-clause-begins g c =
     record {
       fresh = e.fresh;
       phase = taken_phase p q c.args.op (callers p c.requires.idle) c.requires.exists c.requires.alone
-          c.is_in_order.ensures.own
-          e.takes e.fresh c.is_in_order-2.ensures.history c.is_in_order-2.ensures.before_over;
+          (subst (λ (x : PassState). Has x.seats x.seat) e.takes.waits.is (own_before e.takes.takes.makes))
+          e.takes e.fresh c.is_in_order.ensures.history c.is_in_order.ensures.before_over;
       exact = e.exact;
       tidy = e.tidy;
     }

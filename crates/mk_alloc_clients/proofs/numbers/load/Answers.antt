@@ -1,9 +1,9 @@
-use Rattle.std.proofs.Common.{subst}
-use Rattle.mk_never.specs.declared.operations.Op.TheVariants as op
-use Rattle.mk_words.specs.States.{PassState}
-use Rattle.mk_caller.specs.declared.refusals.Refusal.{Refusal}
+use Rattle.mk_laws.proofs.Vocabulary.{subst}
+use Rattle.mk_alloc.proofs.Vocabulary.{PassState}
 use Rattle.mk_caller.specs.Causes.{IsRefused}
+use Rattle.mk_caller.specs.declared.refusals.Refusal.{Refusal}
 use Rattle.mk_alloc_clients.proofs.OwnedCalls.{held_keeps, load_has_no_fault, load_has_no_null, loaded, may_load}
+use Rattle.mk_never.specs.declared.operations.Op.TheVariants as op
 use Rattle.mk_alloc_clients.proofs.numbers.load.Goals as goal
 
 pub get_num-loaded-requires-clause-admitted : goal.get_num-loaded-requires-clause-admitted

@@ -1,9 +1,9 @@
-use Rattle.std.proofs.Common.{subst}
-use Rattle.mk_never.specs.declared.operations.Op.TheVariants as op
-use Rattle.mk_words.specs.States.{PassState}
-use Rattle.mk_caller.specs.declared.refusals.Refusal.{Refusal}
+use Rattle.mk_laws.proofs.Vocabulary.{subst}
+use Rattle.mk_alloc.proofs.Vocabulary.{PassState}
 use Rattle.mk_caller.specs.Causes.{IsRefused}
-use Rattle.mk_alloc_clients.proofs.OwnedCalls.{held_keeps, store_has_no_fault, store_has_no_null, stored, may_store}
+use Rattle.mk_caller.specs.declared.refusals.Refusal.{Refusal}
+use Rattle.mk_alloc_clients.proofs.OwnedCalls.{held_keeps, may_store, store_has_no_fault, store_has_no_null, stored}
+use Rattle.mk_never.specs.declared.operations.Op.TheVariants as op
 use Rattle.mk_alloc_clients.proofs.numbers.store.Goals as goal
 
 pub set_num-stored-requires-clause-admitted : goal.set_num-stored-requires-clause-admitted

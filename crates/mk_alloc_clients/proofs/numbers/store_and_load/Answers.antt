@@ -1,5 +1,5 @@
+use Rattle.mk_alloc.proofs.Vocabulary.{PassState}
 use Rattle.mk_alloc_clients.proofs.OwnedCalls.{both_done, loads_stored}
-use Rattle.mk_words.specs.States.{PassState}
 use Rattle.mk_alloc_clients.proofs.numbers.store_and_load.Goals as goal
 
 pub returns-clause-loaded : goal.returns-clause-loaded

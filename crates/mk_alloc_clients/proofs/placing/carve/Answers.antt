@@ -1,12 +1,8 @@
-use Rattle.std.proofs.Common.{◌≡◌, ◌+◌, sym, ◌∙◌, ap, subst, arith}
-use Rattle.mk_core.specs.declared.events.Step.TheVariants as step
-use Rattle.mk_core.specs.declared.seats.Object.{Object}
-use Rattle.mk_core.specs.NewPlaces.{header_made, pages_made}
-use Rattle.mk_words.specs.States.{PassState}
-use Rattle.mk_words.specs.Steps.{IsEnabledTo}
-use Rattle.mk_words.specs.TurnSteps.{Acts}
-use Rattle.mk_objects.specs.Placing.{HasCarved, object_for}
+use Rattle.mk_laws.proofs.Vocabulary.{Object, ap, arith, header_made, pages_made, subst, sym, ◌+◌, ◌∙◌, ◌≡◌}
+use Rattle.mk_alloc.proofs.Vocabulary.{Acts, IsEnabledTo, PassState, object_for}
 use Rattle.mk_objects.proofs.Serves.{carved_all, head_may, heads_on, knows_place}
+use Rattle.mk_objects.specs.Placing.{HasCarved}
+use Rattle.mk_core.specs.declared.events.Step.TheVariants as step
 use Rattle.mk_alloc_clients.proofs.placing.carve.Goals as goal
 
 pub head-requires-clause-enabled : goal.head-requires-clause-enabled

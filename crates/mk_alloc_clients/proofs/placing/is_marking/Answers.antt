@@ -1,11 +1,10 @@
-use Rattle.std.proofs.Common.{◌∙◌, ap}
-use Rattle.std.specs.Prelude.{◌==◌}
-use Rattle.mk_core.specs.declared.events.Word.TheVariants as word
-use Rattle.mk_words.specs.States.{call_of}
+use Rattle.mk_laws.proofs.Vocabulary.{ap, ◌==◌, ◌∙◌}
+use Rattle.mk_alloc.proofs.Vocabulary.{call_of, new_is_acting}
 use Rattle.mk_objects.proofs.Looks.{found_phase, look_reaches}
-use Rattle.mk_objects.proofs.MayAct.{may_look_phase, new_is_acting}
+use Rattle.mk_objects.proofs.MayAct.{may_look_phase}
 use Rattle.mk_objects.proofs.Unchanged.{OfPhase}
 use Rattle.mk_alloc_clients.proofs.MadeNumbers.{acting}
+use Rattle.mk_core.specs.declared.events.Word.TheVariants as word
 use Rattle.mk_alloc_clients.proofs.placing.is_marking.Goals as goal
 
 pub look-found-requires-clause-enabled : goal.look-found-requires-clause-enabled

@@ -1,4 +1,4 @@
-use Rattle.mk_words.specs.States.{PassState}
+use Rattle.mk_alloc.proofs.Vocabulary.{PassState}
 use Rattle.mk_objects.proofs.JoinedLooks.{looks_unplaced}
 use Rattle.mk_objects.proofs.Looks.{found_steady}
 use Rattle.mk_objects.proofs.MayAct.{may_look}
@@ -15,7 +15,7 @@ pub returns-clause-looks : goal.returns-clause-looks
 returns-clause-looks c =
     let t = c.args.turn.now in
     looked t.pass c.look-found.new.self.pass t.op c.args.word c.is_in_order.ensures.turn c.requires.unplaced
-    c.requires.steady c.look-found.ensures.acts c.is_in_order.ensures.own c.is_in_order-2.ensures.history
+    c.requires.steady c.look-found.ensures.acts c.is_in_order.ensures.own c.look-found.ensures.acts.makes.pass.history
 
 pub returns-clause-unplaced : goal.returns-clause-unplaced
 returns-clause-unplaced c =
@@ -23,7 +23,7 @@ returns-clause-unplaced c =
     let q : PassState = c.look-found.new.self.pass in
     looks_unplaced t.pass q
     (looked t.pass q t.op c.args.word c.is_in_order.ensures.turn c.requires.unplaced c.requires.steady
-    c.look-found.ensures.acts c.is_in_order.ensures.own c.is_in_order-2.ensures.history) c.requires.unplaced
+    c.look-found.ensures.acts c.is_in_order.ensures.own c.look-found.ensures.acts.makes.pass.history) c.requires.unplaced
 
 pub returns-clause-finds : goal.returns-clause-finds
 returns-clause-finds c =

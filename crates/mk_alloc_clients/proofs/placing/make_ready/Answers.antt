@@ -1,6 +1,5 @@
-use Rattle.std.proofs.Common.{◌∙◌, ap}
-use Rattle.mk_geom.specs.declared.pages.Page.{Page}
-use Rattle.mk_words.specs.States.{PassState}
+use Rattle.mk_laws.proofs.Vocabulary.{Page, ap, ◌∙◌}
+use Rattle.mk_alloc.proofs.Vocabulary.{PassState}
 use Rattle.mk_objects.proofs.Serves.{block_ready, knows_place}
 use Rattle.mk_alloc_clients.proofs.placing.make_ready.Goals as goal
 

@@ -1,13 +1,8 @@
-use Rattle.std.proofs.Common.{sym, ◌∙◌, ap, subst}
-use Rattle.std.proofs.lemmas.Bool.{eqb-false, eqb-true}
-use Rattle.mk_core.specs.declared.events.Step.TheVariants as step
-use Rattle.mk_core.specs.declared.seats.Object.{Object}
+use Rattle.mk_laws.proofs.Vocabulary.{Object, ap, eqb-false, eqb-true, phase_of, subst, sym, ◌∙◌}
+use Rattle.mk_alloc.proofs.Vocabulary.{Acts, IsEnabledTo, PassState, now_of}
 use Rattle.mk_core.specs.NewPlaces.{bits_made}
-use Rattle.mk_core.specs.Words.{phase_of}
-use Rattle.mk_words.specs.States.{PassState, now_of}
-use Rattle.mk_words.specs.Steps.{IsEnabledTo}
-use Rattle.mk_words.specs.TurnSteps.{Acts}
 use Rattle.mk_objects.proofs.Serves.{knows_place, mark_may, marks_first, marks_none}
+use Rattle.mk_core.specs.declared.events.Step.TheVariants as step
 use Rattle.mk_alloc_clients.proofs.placing.mark_first.Goals as goal
 
 pub mark-requires-clause-enabled : goal.mark-requires-clause-enabled

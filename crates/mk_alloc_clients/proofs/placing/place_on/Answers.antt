@@ -1,6 +1,5 @@
-use Rattle.std.proofs.Common.{ℕ, nat_lt, sym, ◌∙◌, ap}
 use Rattle.std.specs.Bool.{then_some}
-use Rattle.mk_geom.specs.declared.pages.Page.{Page}
+use Rattle.mk_laws.proofs.Vocabulary.{Page, ap, nat_lt, sym, ℕ, ◌∙◌}
 use Rattle.mk_alloc_clients.proofs.OnePage.{at_cell, block_place, free_page_place, other_page_place}
 use Rattle.mk_alloc_clients.proofs.placing.place_on.Goals as goal
 

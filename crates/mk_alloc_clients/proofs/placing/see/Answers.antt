@@ -1,6 +1,5 @@
-use Rattle.std.proofs.Common.{◌∙◌, ap}
-use Rattle.std.specs.Prelude.{◌==◌}
-use Rattle.mk_words.specs.States.{PassState}
+use Rattle.mk_laws.proofs.Vocabulary.{ap, ◌==◌, ◌∙◌}
+use Rattle.mk_alloc.proofs.Vocabulary.{PassState}
 use Rattle.mk_objects.proofs.FilledBooks.{page_found}
 use Rattle.mk_objects.proofs.JoinedLooks.{looks_joined, looks_nothing, looks_table}
 use Rattle.mk_alloc_clients.proofs.MadeNumbers.{first_page, held_kept, page_kept, phase_kept}

@@ -1,19 +1,12 @@
-use Rattle.std.proofs.Common.{◌≡◌, ◌+◌, sym, ◌∙◌, ap, subst, arith}
-use Rattle.mk_geom.specs.declared.pages.Page.{Page}
-use Rattle.mk_core.specs.declared.events.Step.TheVariants as step
-use Rattle.mk_core.specs.declared.seats.Object.{Object}
-use Rattle.mk_core.specs.ObjectHeaders.{words_made}
-use Rattle.mk_core.specs.Words.{used_at}
-use Rattle.mk_core.proofs.Sizes.{words_within}
-use Rattle.mk_words.specs.States.{PassState, now_of}
-use Rattle.mk_words.specs.Steps.{IsEnabledTo}
-use Rattle.mk_objects.specs.Placing.{object_for}
-use Rattle.mk_core.specs.Bits.{has_bit}
+use Rattle.mk_laws.proofs.Vocabulary.{Object, Page, ap, arith, has_bit, subst, sym, used_at, words_made, words_within}
+use Rattle.mk_laws.proofs.Vocabulary.{◌+◌, ◌∙◌, ◌≡◌}
+use Rattle.mk_alloc.proofs.Vocabulary.{IsEnabledTo, PassState, now_of, object_for}
 use Rattle.mk_objects.proofs.Serves.{KnowsPlace, knows_place, place_unused}
 use Rattle.mk_objects.proofs.Takes.{HasGranted, HasTaken, counted, counted_held, few_held, grant_admits, grant_may}
 use Rattle.mk_objects.proofs.Takes.{grant_on, one_bit_more, small_index, tally_may, tally_on, used_may, used_on}
+use Rattle.mk_alloc_clients.proofs.placing.serve.Goals.{After-grant, After-is_in_order, After-used}
+use Rattle.mk_core.specs.declared.events.Step.TheVariants as step
 use Rattle.mk_alloc_clients.proofs.placing.serve.Goals as goal
-use Rattle.mk_alloc_clients.proofs.placing.serve.Goals.{After-is_in_order, After-is_in_order-3, After-is_in_order-4}
 
 -- what is known of the place
 knows : (c : After-is_in_order) → KnowsPlace c.args.turn.now.pass c.args.place
@@ -22,14 +15,14 @@ knows c =
     c.is_in_order.ensures.history c.requires.goes
 
 -- its cell is taken
-taken : (c : After-is_in_order-3) (k : KnowsPlace c.args.turn.now.pass c.args.place)
+taken : (c : After-used) (k : KnowsPlace c.args.turn.now.pass c.args.place)
     → HasTaken c.args.turn.now.pass c.args.place c.requires.goes k c.used.new.self.pass
 taken c k =
     used_on c.args.turn.now.pass c.args.place c.requires.goes k c.make_ready.new.turn.pass c.used.new.self.pass _
     c.make_ready.ensures.ready c.used.ensures.acts
 
 -- and the object is granted
-granted : (c : After-is_in_order-4) (k : KnowsPlace c.args.turn.now.pass c.args.place)
+granted : (c : After-grant) (k : KnowsPlace c.args.turn.now.pass c.args.place)
     → HasTaken c.args.turn.now.pass c.args.place c.requires.goes k c.used.new.self.pass
     → HasGranted c.args.turn.now.pass c.args.place c.requires.goes k c.grant.new.self.pass
 granted c k taken =
@@ -57,14 +50,14 @@ pub grant-requires-clause-enabled : goal.grant-requires-clause-enabled
 grant-requires-clause-enabled c =
     let x = goal.at.grant-requires-clause-enabled c in
     let k = knows x.After-is_in_order in
-    grant_may c.args.turn.now.pass c.args.place c.requires.goes k c.used.new.self.pass (taken x.After-is_in_order-3 k)
+    grant_may c.args.turn.now.pass c.args.place c.requires.goes k c.used.new.self.pass (taken x.After-used k)
 
 pub grant-requires-clause-admitted : goal.grant-requires-clause-admitted
 grant-requires-clause-admitted c =
     let x = goal.at.grant-requires-clause-admitted c in
     let k = knows x.After-is_in_order in
     grant_admits c.args.turn.now.pass c.args.place c.requires.goes k c.used.new.self.pass
-    (taken x.After-is_in_order-3 k) c.is_in_order-3.ensures.history c.is_in_order.ensures.history
+    (taken x.After-used k) c.used.ensures.acts.makes.pass.history c.is_in_order.ensures.history
 
 pub overflow_add-seen : goal.overflow_add-seen
 overflow_add-seen c =
@@ -82,7 +75,7 @@ tally-requires-clause-enabled c =
     let x = goal.at.tally-requires-clause-enabled c in
     let k = knows x.After-is_in_order in
     tally_may c.args.turn.now.pass c.args.place c.requires.goes k c.grant.new.self.pass _
-    (granted x.After-is_in_order-4 k (taken x.After-is_in_order-3 k))
+    (granted x.After-grant k (taken x.After-used k))
 
 -- the last step, and the tally
 pub returns-clause-granted : goal.returns-clause-granted
@@ -93,7 +86,7 @@ returns-clause-granted c =
     let n = c.args.seen.held + 2 in
     counted p c.args.place c.requires.goes k c.tally.new.self.pass n
     (tally_on p c.args.place c.requires.goes k c.grant.new.self.pass c.tally.new.self.pass n
-    (granted x.After-is_in_order-4 k (taken x.After-is_in_order-3 k))
+    (granted x.After-grant k (taken x.After-used k))
     c.tally.ensures.acts c.is_in_order.ensures.history)
 
 pub returns-clause-held : goal.returns-clause-held
@@ -106,5 +99,5 @@ returns-clause-held c =
     counted_held p c.args.place c.requires.goes k c.tally.new.self.pass c.args.seen.held 2
     (c.requires.held ∙ c.requires.exact) size
     (tally_on p c.args.place c.requires.goes k c.grant.new.self.pass c.tally.new.self.pass n
-    (granted x.After-is_in_order-4 k (taken x.After-is_in_order-3 k))
+    (granted x.After-grant k (taken x.After-used k))
     c.tally.ensures.acts c.is_in_order.ensures.history)
