@@ -8,7 +8,7 @@ use Rattle.mk_script.specs.declared.faults.TextKind.{TextKind}
 use Rattle.mk_script.specs.Words.{words_of_line}
 use Rattle.mk_replay.specs.Forms.{worse_fault, both, form_of}
 use Rattle.mk_replay.specs.Schedules.{forms_of}
-use Rattle.mk_replay.specs.Entries.{with_form}
+use Rattle.mk_replay.specs.Entries.{forms_with, with_form}
 
 worse_fault-in_turn : (a b c : TextKind) → worse_fault a (worse_fault b c) ≡ worse_fault (worse_fault a b) c
 worse_fault-in_turn a b c = grind arith
@@ -25,7 +25,7 @@ in_turn (Err a) (Ok xs) (Err c) = refl
 in_turn (Err a) (Err b) (Ok y) = refl
 in_turn (Err a) (Err b) (Err c) = ap Err (worse_fault-in_turn a b c)
 
-single : (last : Result Form TextKind) → both (λ form forms. form ∷ forms) last (Ok []) ≡ with_form (Ok []) last
+pub single : (last : Result Form TextKind) → both (λ form forms. form ∷ forms) last (Ok []) ≡ with_form (Ok []) last
 single (Ok y) = refl
 single (Err c) = refl
 
@@ -37,18 +37,19 @@ forms_of-push (first ∷ pieces) last =
     ap (both (λ form forms. form ∷ forms) (form_of first)) (forms_of-push pieces last)
     ∙ in_turn (form_of first) (forms_of pieces) (form_of last)
 
--- the same, along the pieces of a line
-pub goes_on : (first : List (List ℕ)) (pieces : List (Bor (List ℕ))) (i : ℕ) (d : Bor (List ℕ)) (words : List (List ℕ))
-    (before after : Result (List Form) TextKind) → i < length pieces → words ≡ words_of_line (get_or pieces i d).now
-    → forms_of (first ∷ map words_of_line (texts_of (take i pieces))) ≡ before
-    → after ≡ with_form before (form_of words)
-    → forms_of (first ∷ map words_of_line (texts_of (take (i + 1) pieces))) ≡ after
-goes_on first pieces i d words before after inside words_are so_far is =
-    let piece = get_or pieces i d in
-    ap (λ front. forms_of (first ∷ map words_of_line (texts_of front))) (take_more pieces i d inside)
-    ∙ ap (λ texts. forms_of (first ∷ map words_of_line texts)) (map-append (λ text. text.now) (take i pieces)
-    (piece ∷ []))
-    ∙ ap (λ all. forms_of (first ∷ all)) (map-append words_of_line (texts_of (take i pieces)) (piece.now ∷ []))
-    ∙ forms_of-push (first ∷ map words_of_line (texts_of (take i pieces))) (words_of_line piece.now)
-    ∙ ap (λ forms. with_form forms (form_of (words_of_line piece.now))) so_far
-    ∙ ap (λ last. with_form before (form_of last)) (sym words_are) ∙ sym is
+-- the same, along the other pieces of a line
+pub goes_on : (first : Result Form TextKind) (others : List (Bor (List ℕ))) (i : ℕ) (d : Bor (List ℕ))
+    (before after : Result (List Form) TextKind) → i < length others
+    → forms_with first (texts_of (take i others)) ≡ before
+    → after ≡ with_form before (form_of (words_of_line (get_or others i d).now))
+    → forms_with first (texts_of (take (i + 1) others)) ≡ after
+goes_on first others i d before after inside so_far is =
+    let front = map words_of_line (texts_of (take i others)) in
+    let last = (get_or others i d).now in
+    ap (λ some. forms_with first (texts_of some)) (take_more others i d inside)
+    ∙ ap (forms_with first) (map-append (λ text. text.now) (take i others) (get_or others i d ∷ []))
+    ∙ ap (λ all. both (λ form forms. form ∷ forms) first (forms_of all))
+    (map-append words_of_line (texts_of (take i others)) (last ∷ []))
+    ∙ ap (both (λ form forms. form ∷ forms) first) (forms_of-push front (words_of_line last))
+    ∙ in_turn first (forms_of front) (form_of (words_of_line last))
+    ∙ ap (λ forms. with_form forms (form_of (words_of_line last))) so_far ∙ sym is

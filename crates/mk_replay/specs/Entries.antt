@@ -1,14 +1,16 @@
 -- What reading a line gives, unless memory runs out.
 -- Private functions alone cite these words.
-use Rattle.std.specs.Prelude.{◌≡◌, ℕ, ◌+◌, ◌≤◌, List, [], ◌∷◌, ◌++◌, length, take, drop, Option, Some, None, Ok, Err}
+use Rattle.std.specs.Prelude.{◌≡◌, ℕ, ◌+◌, ◌≤◌, List, [], ◌∷◌, ◌++◌, length, map, take, drop, Option, Some, None, Ok}
+use Rattle.std.specs.Prelude.{Err}
 use Rattle.std.specs.declared.result.Result.{Result}
 use Rattle.mk_script.specs.declared.faults.TextKind.{TextKind}
+use Rattle.mk_script.specs.Words.{words_of_line}
 use Rattle.mk_replay.specs.declared.schedule.Form.{Form}
 use Rattle.mk_replay.specs.declared.schedule.Entry.{Entry}
 use Rattle.mk_replay.specs.declared.lines.LineStop.{LineStop}
 use Rattle.mk_replay.specs.declared.lines.LineStop.TheVariants.{Text, NoMemory}
 use Rattle.mk_replay.specs.Forms.{both}
-use Rattle.mk_replay.specs.Schedules.{pieces_of}
+use Rattle.mk_replay.specs.Schedules.{forms_of, pieces_of}
 
 -- the expected entries stand after the old ones
 pub record AddsEntries (expected : Result (List Entry) TextKind) (old new : List Entry) : Type 0 where
@@ -34,3 +36,7 @@ forms_so_far (Some fault) forms = Err fault
 -- one form more
 abbrev pub with_form : Result (List Form) TextKind → Result Form TextKind → Result (List Form) TextKind
 with_form forms form = both (λ before last. before ++ last ∷ []) forms form
+
+-- the forms of a line whose first piece's form is this, and whose other pieces are these
+abbrev pub forms_with : Result Form TextKind → List (List ℕ) → Result (List Form) TextKind
+forms_with first others = both (λ form forms. form ∷ forms) first (forms_of (map words_of_line others))

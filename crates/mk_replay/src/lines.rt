@@ -2,13 +2,13 @@
 ghost use Rattle.std.specs.Prelude.{◌≡◌, ◌∷◌, [], ◌++◌, map, IfOk, OnOk, MatchOption, MatchResult, Ok, Err};
 ghost use Rattle.mk_script.specs.Words.{texts_of, words_of_line};
 ghost use Rattle.mk_replay.specs.Forms as spec;
-ghost use Rattle.mk_replay.specs.Schedules.{pieces_of, forms_of, entries_from, entries_of_pieces, entries_of_line};
-ghost use Rattle.mk_replay.specs.Entries.{AddsEntries, IsStopOf, IsEndOfPiece, forms_so_far, with_form};
+ghost use Rattle.mk_replay.specs.Schedules.{pieces_of, entries_from, entries_of_pieces, entries_of_line};
+ghost use Rattle.mk_replay.specs.Entries.{AddsEntries, IsStopOf, IsEndOfPiece, forms_so_far, forms_with, with_form};
 
 use crate::forms::{form, seat};
 use crate::schedule::{Entry, Form};
 use mk_core::Seat;
-use mk_script::{TextKind, split_words};
+use mk_script::{TextKind, replace_words};
 use std::alloc::{AllocError, Global};
 
 /// Why a line's events aren't read.
@@ -29,32 +29,54 @@ impl From<AllocError> for LineStop {
     }
 }
 
-/// Appends the events of a line of this number.
-pub(crate) fn line_entries(
-    alloc: Global,
-    line: u64,
-    text: &[u8],
-    entries: &mut Vec<Entry>,
-) -> Result<(), LineStop>
-    ensures { MatchResult result (λ _. AddsEntries (entries_of_line line text.now) entries.old.items entries.new.items)
-        (IsStopOf (entries_of_line line text.now)) }
-{
-    let pieces = pieces(alloc, text)?;
-    read_pieces(alloc, line, &pieces, entries)
+/// Reads lines, each in the room of the one before it.
+#[derive(Drop)]
+pub(crate) struct LineReader<'a> {
+    pieces: Vec<&'a [u8]>,
+    words: Vec<&'a [u8]>,
+    forms: Vec<Form>,
 }
 
-/// The pieces of a line, which is cut at each `; `.
-fn pieces(alloc: Global, text: &[u8]) -> Result<Vec<&[u8]>, AllocError>
-    ensures { IfOk result (λ pieces. texts_of pieces.items ≡ pieces_of text.now) }
+impl<'a> LineReader<'a> {
+    pub(crate) fn new(alloc: Global) -> LineReader<'a> {
+        LineReader {
+            pieces: Vec::new(alloc),
+            words: Vec::new(alloc),
+            forms: Vec::new(alloc),
+        }
+    }
+
+    /// Appends the events of a line of this number.
+    pub(crate) fn read(
+        &mut self,
+        line: u64,
+        text: &'a [u8],
+        entries: &mut Vec<Entry>,
+    ) -> Result<(), LineStop>
+        ensures { MatchResult result
+            (λ _. AddsEntries (entries_of_line line text.now) entries.old.items entries.new.items)
+            (IsStopOf (entries_of_line line text.now)) }
+    {
+        replace_pieces(&mut self.pieces, text)?;
+        let [first, others @ ..] = self.pieces.as_slice() else {
+            return Err(LineStop::Text(TextKind::Word));
+        };
+        replace_words(&mut self.words, first)?;
+        read_words(&mut self.words, &mut self.forms, line, others, entries)
+    }
+}
+
+/// Puts the pieces of a line, which is cut at each `; `, in the place of those of another.
+fn replace_pieces<'a>(pieces: &mut Vec<&'a [u8]>, text: &'a [u8]) -> Result<(), AllocError>
+    ensures { OnOk result (texts_of pieces.new.items ≡ pieces_of text.now) }
 {
-    let mut pieces = Vec::new(alloc);
+    pieces.clear();
     let mut rest = text;
     while let Some(end) = end_of_piece(rest) {
         pieces.push(&rest[..end])?;
         rest = &rest[end + 2..];
     }
-    pieces.push(rest)?;
-    Ok(pieces)
+    Ok(pieces.push(rest)?)
 }
 
 /// Where the first `; ` begins.
@@ -69,67 +91,49 @@ fn end_of_piece(text: &[u8]) -> Option<usize>
     None
 }
 
-fn read_pieces(
-    alloc: Global,
+/// Reads a line whose first piece has these words. Those of the other pieces take their place.
+fn read_words<'a>(
+    words: &mut Vec<&'a [u8]>,
+    forms: &mut Vec<Form>,
     line: u64,
-    pieces: &[&[u8]],
+    others: &[&'a [u8]],
     entries: &mut Vec<Entry>,
 ) -> Result<(), LineStop>
-    ensures { let expected = entries_of_pieces line (map words_of_line (texts_of pieces.now)) in
+    ensures { let expected =
+        entries_of_pieces line (texts_of words.old.items ∷ map words_of_line (texts_of others.now)) in
         MatchResult result (λ _. AddsEntries expected entries.old.items entries.new.items)
         (IsStopOf expected) }
 {
-    let [first, others @ ..] = pieces else {
+    let [name, operands @ ..] = words.as_slice() else {
         return Err(LineStop::Text(TextKind::Word));
     };
-    let words = split_words(alloc, first)?;
-    read_words(alloc, line, &words, others, entries)
-}
-
-/// Reads a line whose first piece has these words.
-fn read_words(
-    alloc: Global,
-    line: u64,
-    words: &[&[u8]],
-    others: &[&[u8]],
-    entries: &mut Vec<Entry>,
-) -> Result<(), LineStop>
-    ensures { let expected = entries_of_pieces line (texts_of words.now ∷ map words_of_line (texts_of others.now)) in
-        MatchResult result (λ _. AddsEntries expected entries.old.items entries.new.items)
-        (IsStopOf expected) }
-{
-    let [name, words @ ..] = words else {
-        return Err(LineStop::Text(TextKind::Word));
-    };
-    let forms = forms(alloc, words, others)?;
-    match (seat(name), forms) {
-        (Ok(seat), Ok(forms)) => Ok(push_entries(entries, line, seat, &forms)?),
-        (Ok(_), Err(kind)) => Err(LineStop::Text(kind)),
-        (Err(kind), Ok(_)) => Err(LineStop::Text(kind)),
-        (Err(first), Err(second)) => Err(LineStop::Text(worse_fault(first, second))),
+    let seat = seat(name);
+    let first = form(operands);
+    match (seat, replace_forms(words, forms, first, others)?) {
+        (Ok(seat), None) => Ok(push_entries(entries, line, seat, forms)?),
+        (Ok(_), Some(kind)) => Err(LineStop::Text(kind)),
+        (Err(kind), None) => Err(LineStop::Text(kind)),
+        (Err(first), Some(second)) => Err(LineStop::Text(worse_fault(first, second))),
     }
 }
 
-/// The forms of a line whose first piece has these words after the seat, or its fault.
-fn forms(
-    alloc: Global,
-    words: &[&[u8]],
-    others: &[&[u8]],
-) -> Result<Result<Vec<Form>, TextKind>, AllocError>
-    ensures { let expected = forms_of (texts_of words.now ∷ map words_of_line (texts_of others.now)) in
-        IfOk result (λ forms. MatchResult forms (λ forms. expected ≡ Ok forms.items)
-        (λ kind. expected ≡ Err kind)) }
+/// Puts the forms of a line, of which this is the first piece's, in the place of those of another, or returns its
+/// fault.
+fn replace_forms<'a>(
+    words: &mut Vec<&'a [u8]>,
+    forms: &mut Vec<Form>,
+    first: Result<Form, TextKind>,
+    others: &[&'a [u8]],
+) -> Result<Option<TextKind>, AllocError>
+    ensures { IfOk result (λ fault. forms_so_far fault forms.new.items ≡ forms_with first (texts_of others.now)) }
 {
-    let mut forms = Vec::new(alloc);
-    let mut fault = add_form(&mut forms, None, form(words))?;
+    forms.clear();
+    let mut fault = add_form(forms, None, first)?;
     for piece in others {
-        let words = split_words(alloc, piece)?;
-        fault = add_form(&mut forms, fault, form(&words))?;
+        replace_words(words, piece)?;
+        fault = add_form(forms, fault, form(words))?;
     }
-    match fault {
-        None => Ok(Ok(forms)),
-        Some(kind) => Ok(Err(kind)),
-    }
+    Ok(fault)
 }
 
 /// Adds a piece's form after those so far. Where there is a fault, it returns the one to be named.

@@ -7,7 +7,7 @@ ghost use Rattle.mk_replay.specs.Reading.{StandsAt, HasNone};
 ghost use Rattle.mk_replay.specs.Schedules as spec;
 ghost use Rattle.mk_replay.specs.Schedules.{replay_of, entries_of_lines};
 
-use crate::lines::{LineStop, line_entries};
+use crate::lines::{LineReader, LineStop};
 use crate::schedule::{Entry, Schedule};
 use mk_script::{
     Program, TEXT_LIMIT, TOO_LONG, TextKind, TextStop, parse, replace_words, split_lines,
@@ -98,10 +98,11 @@ fn entries(alloc: Global, first: u64, lines: &[&[u8]]) -> Result<Vec<Entry>, Tex
     ensures fault { IfErr result (λ stop. stop ≢ TextStop.NoMemory
         → entries_of_lines first (texts_of lines.now) ≡ Err stop) }
 {
+    let mut reader = LineReader::new(alloc);
     let mut entries = Vec::new(alloc);
     for (index, text) in lines.iter().enumerate() {
         let line = first + index as u64;
-        if let Err(stop) = line_entries(alloc, line, text, &mut entries) {
+        if let Err(stop) = reader.read(line, text, &mut entries) {
             return Err(stop_at(line, stop));
         }
     }

@@ -36,5 +36,6 @@ pub mod Played
 pub mod ReadLines
 pub mod ReleasedAreFreed
 pub mod SettledLedgers
+pub mod SlotNumbers
 pub mod SlotTypes
 pub mod ToldWords

@@ -2,12 +2,16 @@
 -- Private functions alone cite these words.
 use Rattle.std.specs.Prelude.{◌≡◌, ℕ, List, Ok, Err}
 use Rattle.std.specs.declared.result.Result.{Result}
+use Rattle.std.specs.Borrow.{Bor}
+use Rattle.std.specs.HashMap.{HashMap}
+use Rattle.mk_check.specs.Lookups.{value_for_name}
 use Rattle.mk_script.specs.declared.faults.LineFault.{LineFault}
 use Rattle.mk_trace.specs.declared.faults.TraceStop.{TraceStop}
 use Rattle.mk_trace.specs.declared.lines.Line.{Line}
+use Rattle.mk_trace.specs.declared.lines.Slot.{Slot}
 use Rattle.mk_trace.specs.Grammar.{text_fault_at}
 use Rattle.mk_trace.specs.declared.lines.HeapPages.{HeapPages}
-use Rattle.mk_trace.specs.Lines.{LinesSoFar, with_trace_line, trace_line_of}
+use Rattle.mk_trace.specs.Lines.{LinesSoFar, slot_number, with_trace_line, trace_line_of}
 use Rattle.mk_trace.specs.Traces.{trace_of, contents_of}
 
 -- a line has a fault, which is told with the line's number
@@ -25,3 +29,7 @@ pub record ReadsTraceLine (before : LinesSoFar) (words : List (List ℕ)) (behin
 -- the heap and the lines of some text whose lines are of the grammar
 abbrev pub IsReadFrom : HeapPages → LinesSoFar → Type 0
 IsReadFrom heap written = (text : List ℕ) × (trace_of text ≡ contents_of heap written)
+
+-- the map has the number of each slot, by its name
+abbrev pub AreSlotNumbers : {S : Type 0} → HashMap (Bor (List ℕ)) ℕ S → List Slot → Type 0
+AreSlotNumbers numbers slots = (name : List ℕ) → value_for_name numbers name ≡ slot_number slots name

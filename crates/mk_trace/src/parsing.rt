@@ -12,7 +12,7 @@ use crate::faults::TraceStop;
 use crate::lines::{HeapPages, Slot, header};
 use crate::resolving::events;
 use crate::trace::Trace;
-use mk_script::{TEXT_LIMIT, TOO_LONG, TextKind, Which, split_lines, split_words};
+use mk_script::{TEXT_LIMIT, TOO_LONG, TextKind, Which, replace_words, split_lines, split_words};
 use std::alloc::{AllocError, Global};
 
 /// The trace of a text, or its first fault: that of the first line that isn't of the grammar or passes a limit, and
@@ -56,19 +56,25 @@ fn read_lines(alloc: Global, lines: &[&[u8]]) -> Result<Draft, TraceStop>
         → written_from 2 (texts_of lines.now) nothing_written ≡ Err stop) }
 {
     let mut draft = Draft::new(alloc);
+    let mut words = Vec::new(alloc);
     for (index, line) in lines.iter().enumerate() {
-        read_line(alloc, index as u64 + 2, &mut draft, line)?;
+        read_line(index as u64 + 2, &mut draft, &mut words, line)?;
     }
     Ok(draft)
 }
 
-/// Reads a line of this number after those of the draft.
-fn read_line(alloc: Global, number: u64, draft: &mut Draft, line: &[u8]) -> Result<(), TraceStop>
+/// Reads a line of this number after those of the draft. Its words take the place of those of another.
+fn read_line<'a>(
+    number: u64,
+    draft: &mut Draft,
+    words: &mut Vec<&'a [u8]>,
+    line: &'a [u8],
+) -> Result<(), TraceStop>
     ensures { MatchResult result (λ _. ReadsTraceLine draft.old (words_of_line line.now) draft.new)
         (λ stop. stop ≢ TraceStop.NoMemory → IsFaultOf number (trace_line_of draft.old (words_of_line line.now)) stop) }
 {
-    let words = split_words(alloc, line)?;
-    match draft.line(&words) {
+    replace_words(words, line)?;
+    match draft.line(words) {
         Ok(line) => Ok(draft.push(line)?),
         Err(fault) => Err(TraceStop::at_line(number, fault)),
     }

@@ -1,14 +1,15 @@
 //! Events by the numbers of their slots.
 ghost use Rattle.std.specs.Prelude.{◌≡◌, ◌≢◌, ◌<◌, ◌+◌, ◌^◌, [], length, Ok, Err, IfOk, IfErr};
 ghost use Rattle.mk_trace.specs.Grammar.{events_from};
+ghost use Rattle.mk_trace.specs.Reading.{AreSlotNumbers};
 ghost use Rattle.mk_trace.specs.Typing as typing;
 
-use crate::draft::slot_number;
 use crate::faults::TraceStop;
 use crate::lines::{Action, EventLine, Slot};
 use crate::trace::TraceEvent;
 use mk_check::TypeKind;
-use std::alloc::Global;
+use std::alloc::{AllocFailed, Global};
+use std::collections::HashMap;
 
 /// The events of lines of which the first has this number.
 pub fn events(
@@ -22,9 +23,10 @@ pub fn events(
     ensures fault { IfErr result (λ stop. stop ≢ TraceStop.NoMemory
         → events_from slots.now first lines.now [] ≡ Err stop) }
 {
+    let numbers = slot_numbers(alloc, slots)?;
     let mut events = Vec::new(alloc);
     for (index, line) in lines.iter().enumerate() {
-        match event(slots, line) {
+        match event(slots, &numbers, line) {
             Ok(event) => events.push(event)?,
             Err(kind) => {
                 return Err(TraceStop::IllTyped {
@@ -37,11 +39,30 @@ pub fn events(
     Ok(events)
 }
 
+/// The number of each slot, by its name. The first of a name is put in last.
+fn slot_numbers<'a>(
+    alloc: Global,
+    slots: &'a [Slot],
+) -> Result<HashMap<&'a [u8], usize>, AllocFailed<(&'a [u8], usize)>>
+    ensures { IfOk result (λ numbers. AreSlotNumbers numbers slots.now) }
+{
+    let mut numbers = HashMap::new(alloc);
+    for number in (0..slots.len()).rev() {
+        numbers.insert(slots[number].name.as_bytes(), number)?;
+    }
+    Ok(numbers)
+}
+
 /// The event that a line says, where its slot's type admits it.
-fn event(slots: &[Slot], line: &EventLine) -> Result<TraceEvent, TypeKind>
+fn event(
+    slots: &[Slot],
+    numbers: &HashMap<&[u8], usize>,
+    line: &EventLine,
+) -> Result<TraceEvent, TypeKind>
+    requires { AreSlotNumbers numbers.now slots.now }
     ensures { result ≡ typing.typed_event slots.now line.now }
 {
-    let Some(number) = slot_number(slots, &line.slot) else {
+    let Some(number) = numbers.get(&line.slot.as_bytes()).copied() else {
         return Err(TypeKind::NoGlobal);
     };
     event_on(number as u64, slots[number].words, line.action)

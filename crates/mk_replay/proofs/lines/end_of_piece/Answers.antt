@@ -8,15 +8,13 @@ loop-end-init c = glue_first c.args.text.now
 pub returns-then-starts_with : goal.returns-then-starts_with
 returns-then-starts_with c =
     let text = c.args.text.now in
-    let i = c.loop-end.end in
-    ends text i c.loop-end-test.true (tested text _ i _ c.as_slice.ensures c.starts_with.ensures.value
+    ends text c.loop-end.end c.loop-end-test.true (tested text _ _ _ c.as_slice.ensures c.starts_with.ensures.value
     ∙ c.if-starts_with.true) c.loop-end.invariant
 
 pub loop-end-preserved : goal.loop-end-preserved
 loop-end-preserved c =
     let text = c.args.text.now in
-    let i = c.loop-end.end in
-    goes_on text i c.loop-end-test.true (tested text _ i _ c.as_slice.ensures c.starts_with.ensures.value
+    goes_on text c.loop-end.end c.loop-end-test.true (tested text _ _ _ c.as_slice.ensures c.starts_with.ensures.value
     ∙ c.if-starts_with.false) c.loop-end.invariant
 
 pub returns : goal.returns

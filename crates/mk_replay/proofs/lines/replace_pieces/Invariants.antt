@@ -1,7 +1,7 @@
 use Rattle.std.proofs.Common.{◌≡◌, ◌≤◌, ◌++◌, length}
 use Rattle.mk_replay.proofs.Vocabulary.{texts_of}
 use Rattle.mk_replay.specs.Schedules.{pieces_of}
-use Rattle.mk_replay.proofs.lines.pieces.Given as goal
+use Rattle.mk_replay.proofs.lines.replace_pieces.Given as goal
 
 -- the pieces so far stand before those of the rest
 abbrev pub invariant-loop-end : goal.invariant-loop-end

@@ -1,0 +1,54 @@
+-- The numbers of slots by their names, put into a map from the last slot to the first.
+use Rattle.std.proofs.Common.{◌≡◌, ℕ, ◌+◌, ◌<◌, cond, List, [], length, get_or, drop, Some, Bor, ap, sym}
+use Rattle.std.proofs.Common.{◌∙◌, subst, refl, arith, Bool, true, false, None, nat_lt}
+use Rattle.std.proofs.lemmas.Bool.Decides.{nat_tests}
+use Rattle.std.specs.Cmp.Lexicographic.{nat_list_eq_equiv}
+use Rattle.std.specs.HashMap.{HashMap}
+use Rattle.std.specs.Map.{lookup}
+use Rattle.std.specs.List.{position_from, position_or_len}
+use Rattle.std.specs.Str.{bytes_eq}
+use Rattle.std.proofs.lemmas.Iterator.Adapters.{position_from-zero}
+use Rattle.std.proofs.lemmas.List.{at_drop_more, at_drop_all}
+use Rattle.mk_check.specs.Lookups.{value_for_name}
+use Rattle.mk_trace.specs.Lines.{slot_number}
+use Rattle.mk_trace.specs.Reading.{AreSlotNumbers}
+use Rattle.mk_trace.specs.declared.lines.Slot.{Slot}
+
+-- the map has the numbers of these slots, of which the first has the number `from`
+abbrev pub AreNumbersFrom : {S : Type 0} → HashMap (Bor (List ℕ)) ℕ S → ℕ → List Slot → Type 0
+AreNumbersFrom numbers from slots =
+    (name : List ℕ) → value_for_name numbers name ≡ position_from (λ (slot : Slot). bytes_eq name slot.name) from slots
+
+pub none_put : {S : Type 0} (numbers : HashMap (Bor (List ℕ)) ℕ S) (slots : List Slot) → numbers.entries ≡ []
+    → AreNumbersFrom numbers (length slots) (drop (length slots) slots)
+none_put numbers slots empty name =
+    ap (lookup (λ key. bytes_eq name key.now)) empty
+    ∙ sym (at_drop_all (position_from (λ (slot : Slot). bytes_eq name slot.name) (length slots)) slots (length slots)
+    (omega arith))
+
+pub one_more : {S : Type 0} (old new : HashMap (Bor (List ℕ)) ℕ S) (slots : List Slot) (i from : ℕ) (d : Slot)
+    (this : List ℕ) → i < length slots → from ≡ i + 1 → this ≡ (get_or slots i d).name
+    → ((name : List ℕ) → value_for_name new name ≡ cond (bytes_eq this name) (Some i) (value_for_name old name))
+    → AreNumbersFrom old from (drop from slots) → AreNumbersFrom new i (drop i slots)
+one_more old new slots i from d this inside next is put known name =
+    let known' = subst (λ n. AreNumbersFrom old n (drop n slots)) next known in
+    put name ∙ ap (λ same. cond same (Some i) (value_for_name old name)) (nat_list_eq_equiv.symm this name)
+    ∙ ap (cond (bytes_eq name this) (Some i)) (known' name)
+    ∙ ap (λ named. cond (bytes_eq name named) (Some i)
+    (position_from (λ (slot : Slot). bytes_eq name slot.name) (i + 1) (drop (i + 1) slots))) is
+    ∙ sym (at_drop_more (position_from (λ (slot : Slot). bytes_eq name slot.name) i) slots i d inside)
+
+pub all_put : {S : Type 0} (numbers : HashMap (Bor (List ℕ)) ℕ S) (slots : List Slot) (i : ℕ) → i ≡ 0
+    → AreNumbersFrom numbers i (drop i slots) → AreSlotNumbers numbers slots
+all_put numbers slots i none known name =
+    subst (λ n. AreNumbersFrom numbers n (drop n slots)) none known name
+    ∙ sym (position_from-zero (λ (slot : Slot). bytes_eq name slot.name) slots)
+
+within_by : (is_less : Bool) (place count i : ℕ) → nat_lt place count ≡ is_less → cond is_less (Some place) None ≡ Some i
+    → i < count
+within_by true place count i less is = let same : place ≡ i = cc in grind (arith, nat_tests)
+within_by false place count i less is = absurd cc
+
+pub number_within : (slots : List Slot) (name : List ℕ) {i : ℕ} → slot_number slots name ≡ Some i → i < length slots
+number_within slots name {i} is =
+    within_by _ (position_or_len (λ (slot : Slot). bytes_eq name slot.name) slots) (length slots) i refl is

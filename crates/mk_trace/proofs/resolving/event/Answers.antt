@@ -1,0 +1,20 @@
+use Rattle.std.proofs.Common.{◌<◌, length, ap, sym, ◌∙◌, rules}
+use Rattle.mk_trace.specs.Lines.{slot_number}
+use Rattle.mk_trace.proofs.SlotNumbers.{number_within}
+use Rattle.mk_trace.proofs.resolving.event.Goals as goal
+use Rattle.mk_trace.proofs.resolving.event.Goals.{In-Some}
+
+within : (c : In-Some) → c.in-Some.number < length c.args.slots.now
+within c =
+    number_within c.args.slots.now c.args.line.now.slot
+    (sym (sym c.in-Some.is ∙ c.copied.ensures ∙ c.get.ensures.value ∙ c.requires c.as_bytes.result.now
+    ∙ ap (slot_number c.args.slots.now) c.as_bytes.ensures))
+
+pub offset_bounds-slots-number : goal.offset_bounds-slots-number
+offset_bounds-slots-number c = let inside = within c in search rules
+
+pub bounds-slots-number : goal.bounds-slots-number
+bounds-slots-number c = within c
+
+pub bounds-slots-number-in-Some : goal.bounds-slots-number-in-Some
+bounds-slots-number-in-Some c = within c
