@@ -7,47 +7,47 @@ ghost use Rattle.mk_script.specs.Canonical.{line_text};
 ghost use Rattle.mk_outputs.specs.KeptText.{root_words, links_text, entry_text, kept_text};
 
 use crate::names::{global_name, register_name, script_name};
+use itoa::Buffer;
 use mk_never::NoMemory;
 use mk_script::{Item, Program};
 use mk_why::{Kept, Root};
-use std::alloc::Global;
 
 /// Appends the lines of what was kept, in its order.
-pub fn push_kept(
-    alloc: Global,
-    text: &mut Vec<u8>,
-    program: &Program,
-    kept: &[Kept],
-) -> Result<(), NoMemory>
+pub fn push_kept(text: &mut Vec<u8>, program: &Program, kept: &[Kept]) -> Result<(), NoMemory>
     ensures { OnOk result (text.new.items ≡ text.old.items ++ kept_text program.now kept.now) }
 {
     let items = program.items();
     for entry in kept {
-        push_entry(alloc, text, items, entry)?;
+        push_entry(text, items, entry)?;
     }
     Ok(())
 }
 
 /// Appends the lines of an entry.
-fn push_entry(
-    alloc: Global,
-    text: &mut Vec<u8>,
-    items: &[Item],
-    entry: &Kept,
-) -> Result<(), NoMemory>
+fn push_entry(text: &mut Vec<u8>, items: &[Item], entry: &Kept) -> Result<(), NoMemory>
     ensures { OnOk result (text.new.items ≡ text.old.items ++ entry_text items.now entry.now) }
 {
-    push_head(alloc, text, entry.address, entry.words)?;
+    push_head(text, entry.address, entry.words)?;
     push_root(text, items, entry.root)?;
-    push_links(alloc, text, &entry.links)
+    push_links(text, &entry.links)
 }
 
-fn push_head(alloc: Global, text: &mut Vec<u8>, address: u64, words: u64) -> Result<(), NoMemory>
+fn push_head(text: &mut Vec<u8>, address: u64, words: u64) -> Result<(), NoMemory>
     ensures { OnOk result (text.new.items
         ≡ text.old.items ++ line_text (codes "kept" ∷ decimal address ∷ decimal words ∷ [])) }
 {
-    let line = format!(in alloc; "kept {address} {words}\n")?;
-    push(text, line.as_bytes())
+    let mut at = Buffer::new();
+    let mut size = Buffer::new();
+    push_pieces(
+        text,
+        &[
+            b"kept ",
+            at.format(address).as_bytes(),
+            b" ",
+            size.format(words).as_bytes(),
+            b"\n",
+        ],
+    )
 }
 
 /// Appends the line of the root from which an entry is reached.
@@ -84,20 +84,21 @@ fn push_pieces(text: &mut Vec<u8>, pieces: &[&[u8]]) -> Result<(), NoMemory>
 }
 
 /// Appends the lines of the words through which an entry is reached.
-fn push_links(alloc: Global, text: &mut Vec<u8>, links: &[u64]) -> Result<(), NoMemory>
+fn push_links(text: &mut Vec<u8>, links: &[u64]) -> Result<(), NoMemory>
     ensures { OnOk result (text.new.items ≡ text.old.items ++ links_text links.now) }
 {
     for link in links {
-        push_link(alloc, text, *link)?;
+        push_link(text, *link)?;
     }
     Ok(())
 }
 
-fn push_link(alloc: Global, text: &mut Vec<u8>, link: u64) -> Result<(), NoMemory>
+/// Most of the text is such lines. The digits are on the stack, so that a line takes no memory of its own.
+fn push_link(text: &mut Vec<u8>, link: u64) -> Result<(), NoMemory>
     ensures { OnOk result (text.new.items ≡ text.old.items ++ line_text (codes "word" ∷ decimal link ∷ [])) }
 {
-    let line = format!(in alloc; "word {link}\n")?;
-    push(text, line.as_bytes())
+    let mut at = Buffer::new();
+    push_pieces(text, &[b"word ", at.format(link).as_bytes(), b"\n"])
 }
 
 fn push(text: &mut Vec<u8>, piece: &[u8]) -> Result<(), NoMemory>

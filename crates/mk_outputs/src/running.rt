@@ -109,7 +109,7 @@ fn explained<P: Pace + Sync, R: Threads + Wait + Sync>(
 {
     let (outcome, kept) = why_of(rt, alloc, program, markers, sweep, pace)?;
     let mut bytes = joined(alloc, &outcome.texts)?;
-    push_kept(alloc, &mut bytes, program.program(), &kept)?;
+    push_kept(&mut bytes, program.program(), &kept)?;
     Ok(bytes)
 }
 
