@@ -22,39 +22,6 @@ use Rattle.mk_trace.specs.Lines.{ok_unless, slot_line, event_line_of}
 use Rattle.mk_trace.specs.Traces.{and_then, trace_of}
 use Rattle.mk_trace.specs.declared.faults.TraceStop.TheVariants.{NoMemory}
 
--- Lines one after the other: what one more gives, or where it stops.
-
--- `first + i` is the number of the first line that is left
-pub step : {Line Given Whole Fault : Type 0} (told : ℕ → Fault → TraceStop)
-    (read : Whole → Line → Result Given Fault) (add : Whole → Given → Whole)
-    (first i : ℕ) (line : Line) (rest left : List Line) (before behind : Whole) (given : Given)
-    → left ≡ line ∷ rest → read before line ≡ Ok given → behind ≡ add before given
-    → along told read add (first + (i + 1)) rest behind ≡ along told read add (first + i) left before
-unfolding along
-step told read add first i line rest left before behind given left_is is behind_is =
-    let next : first + (i + 1) ≡ first + i + 1 = omega arith in
-    ap (along told read add (first + (i + 1)) rest) behind_is
-    ∙ ap (λ number. along told read add number rest (add before given)) next
-    ∙ sym (ap (λ lines. along told read add (first + i) lines before) left_is
-    ∙ ap (λ found. go_on (told (first + i)) found
-    (λ given'. along told read add (first + i + 1) rest (add before given'))) is)
-
-pub stopped : {Line Given Whole Fault : Type 0} (told : ℕ → Fault → TraceStop)
-    (read : Whole → Line → Result Given Fault) (add : Whole → Given → Whole)
-    (number : ℕ) (line : Line) (rest left : List Line) (before : Whole) (fault : Fault)
-    → left ≡ line ∷ rest → read before line ≡ Err fault
-    → along told read add number left before ≡ Err (told number fault)
-unfolding along
-stopped told read add number line rest left before fault left_is is =
-    ap (λ lines. along told read add number lines before) left_is
-    ∙ ap (λ found. go_on (told number) found (λ given'. along told read add (number + 1) rest (add before given'))) is
-
-pub ended : {Line Given Whole Fault : Type 0} (told : ℕ → Fault → TraceStop)
-    (read : Whole → Line → Result Given Fault) (add : Whole → Given → Whole)
-    (number : ℕ) (left : List Line) (before : Whole) → left ≡ [] → along told read add number left before ≡ Ok before
-unfolding along
-ended told read add number left before left_is = ap (λ lines. along told read add number lines before) left_is
-
 -- What lines keep one after the other, and what their results say.
 
 -- the value of a first part, of which a second part makes the whole
@@ -132,15 +99,15 @@ on_ok (Err fault) told next = tt
 
 -- Lines with a number of words that no form has.
 
-pub no_slot : (before : LinesSoFar) (operands : List (List ℕ)) → length operands ≢ 2
-    → slot_line before operands ≡ Err (Text Word)
+pub no_slot : (before : LinesSoFar) (operands : List (Bor (List ℕ))) → length operands ≢ 2
+    → slot_line before (texts_of operands) ≡ Err (Text Word)
 no_slot before [] n2 = refl
 no_slot before (a ∷ []) n2 = refl
 no_slot before (a ∷ b ∷ []) n2 = absurd (n2 refl)
 no_slot before (a ∷ b ∷ c ∷ rest) n2 = refl
 
-pub no_event : (word : List ℕ) (operands : List (List ℕ)) → length operands ≢ 1 → length operands ≢ 3
-    → event_line_of word operands ≡ Err (Text Word)
+pub no_event : (word : List ℕ) (operands : List (Bor (List ℕ))) → length operands ≢ 1 → length operands ≢ 3
+    → event_line_of word (texts_of operands) ≡ Err (Text Word)
 no_event word [] n1 n3 = refl
 no_event word (a ∷ []) n1 n3 = absurd (n1 refl)
 no_event word (a ∷ b ∷ []) n1 n3 = refl

@@ -1,14 +1,14 @@
 -- The numbers of slots by their names, put into a map from the last slot to the first.
 use Rattle.std.proofs.Common.{◌≡◌, ℕ, ◌+◌, ◌<◌, cond, List, [], length, get_or, drop, Some, Bor, ap, sym}
-use Rattle.std.proofs.Common.{◌∙◌, subst, refl, arith, Bool, true, false, None, nat_lt}
-use Rattle.std.proofs.lemmas.Bool.Decides.{nat_tests}
+use Rattle.std.proofs.Common.{◌∙◌, subst, arith}
 use Rattle.std.specs.Cmp.Lexicographic.{nat_list_eq_equiv}
 use Rattle.std.specs.HashMap.{HashMap}
 use Rattle.std.specs.Map.{lookup}
-use Rattle.std.specs.List.{position_from, position_or_len}
+use Rattle.std.specs.List.{position_from}
 use Rattle.std.specs.Str.{bytes_eq}
 use Rattle.std.proofs.lemmas.Iterator.Adapters.{position_from-zero}
 use Rattle.std.proofs.lemmas.List.{at_drop_more, at_drop_all}
+use Rattle.std.proofs.lemmas.List.Quantifiers.{position-Some}
 use Rattle.mk_check.specs.Lookups.{value_for_name}
 use Rattle.mk_trace.specs.Lines.{slot_number}
 use Rattle.mk_trace.specs.Reading.{AreSlotNumbers}
@@ -44,11 +44,6 @@ all_put numbers slots i none known name =
     subst (λ n. AreNumbersFrom numbers n (drop n slots)) none known name
     ∙ sym (position_from-zero (λ (slot : Slot). bytes_eq name slot.name) slots)
 
-within_by : (is_less : Bool) (place count i : ℕ) → nat_lt place count ≡ is_less → cond is_less (Some place) None ≡ Some i
-    → i < count
-within_by true place count i less is = let same : place ≡ i = cc in grind (arith, nat_tests)
-within_by false place count i less is = absurd cc
-
 pub number_within : (slots : List Slot) (name : List ℕ) {i : ℕ} → slot_number slots name ≡ Some i → i < length slots
 number_within slots name {i} is =
-    within_by _ (position_or_len (λ (slot : Slot). bytes_eq name slot.name) slots) (length slots) i refl is
+    (position-Some (λ (slot : Slot). bytes_eq name slot.name) slots i (record { name = []; words = 0 }) is).0

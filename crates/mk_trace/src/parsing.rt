@@ -50,6 +50,7 @@ fn read_header(alloc: Global, line: &[u8]) -> Result<HeapPages, TraceStop>
 }
 
 /// The lines after the first.
+#[tactic(auto, unfolding(crate::specs::Grammar::along))]
 fn read_lines(alloc: Global, lines: &[&[u8]]) -> Result<Draft, TraceStop>
     ensures draft { IfOk result (λ draft. written_from 2 (texts_of lines.now) nothing_written ≡ Ok draft) }
     ensures fault { IfErr result (λ stop. stop ≢ TraceStop.NoMemory

@@ -12,6 +12,7 @@ use std::alloc::{AllocFailed, Global};
 use std::collections::HashMap;
 
 /// The events of lines of which the first has this number.
+#[tactic(auto, unfolding(crate::specs::Grammar::along))]
 pub fn events(
     alloc: Global,
     first: u64,
