@@ -1,6 +1,6 @@
 //! The scan of a gray cell: its words are looked at, and what they point into is marked. Most words are null or small
 //! numbers, so those of a group are looked at together first.
-ghost use Rattle.std.specs.Prelude.{◌≡◌, ℕ, ◌+◌, ◌<◌, ◌≤◌, true, slice_index};
+ghost use Rattle.std.specs.Prelude.{◌≡◌, ℕ, ◌+◌, ◌*◌, ◌<◌, ◌≤◌, true, slice_index};
 ghost use Rattle.mk_core.specs.Cells.{first_word, words_point_well};
 ghost use Rattle.mk_tracing.specs.Grays.{IsDue, MarksMore, MarksOn, WordIsWell};
 ghost use Rattle.mk_tracing.specs.Noted.{AreNoted};
@@ -74,7 +74,9 @@ fn scan_words(
     }
 }
 
-/// The same, not inlined: few groups have a word that may be an address of the heap.
+/// Looks at each word of a group of a gray cell, and marks what it points into. It isn't inlined, since few groups have
+/// a word that may be an address of the heap. It is told the group, and not its first word, so that the loop over groups
+/// steps through the heap words alone.
 #[inline(never)]
 fn scan_apart(
     words: &Words,
@@ -83,25 +85,25 @@ fn scan_apart(
     pages: u64,
     cell: Cell,
     size: u64,
-    from: u64,
-    to: u64,
+    group: u64,
 )
     requires one_table { stop.old.pass.table ≡ words.now }
     requires pages { pages ≡ words.now.config.pages }
     requires wanted { IsWanted stop.old.pass }
     requires due { IsDue words.now.config.pages (still_words stop.old.pass) cell size }
-    requires to { to ≤ size }
+    requires group { 8 * group + 8 ≤ size }
     ensures on { MarksOn stop.old stop.new }
     ensures more { MarksMore (still_words stop.old.pass) (still_words stop.new.pass) }
-    ensures well { (i : ℕ) → from ≤ i → i < to
-        → WordIsWell words.now.config stop.old.pass stop.new.pass cell i }
+    ensures well { (i : ℕ) → i < 8
+        → WordIsWell words.now.config stop.old.pass stop.new.pass cell (8 * group + i) }
     ensures noted { AreNoted words.now.config.pages (still_words stop.old.pass) work.old
         → AreNoted words.now.config.pages (still_words stop.new.pass) work.new }
 {
-    scan_words(words, stop, work, pages, cell, size, from, to);
+    let first = GROUP * group;
+    scan_words(words, stop, work, pages, cell, size, first, first + GROUP);
 }
 
-/// Looks at a group of words of a gray cell, from this one on, and marks what they point into.
+/// Looks at the words of a group of a gray cell, and marks what they point into.
 #[inline(always)]
 fn scan_group(
     words: &Words,
@@ -110,23 +112,24 @@ fn scan_group(
     pages: u64,
     cell: Cell,
     size: u64,
-    first: u64,
+    group: u64,
 )
     requires one_table { stop.old.pass.table ≡ words.now }
     requires pages { pages ≡ words.now.config.pages }
     requires wanted { IsWanted stop.old.pass }
     requires due { IsDue words.now.config.pages (still_words stop.old.pass) cell size }
-    requires group { first + 8 ≤ size }
+    requires group { 8 * group + 8 ≤ size }
     ensures on { MarksOn stop.old stop.new }
     ensures more { MarksMore (still_words stop.old.pass) (still_words stop.new.pass) }
-    ensures well { (i : ℕ) → i < 8 → WordIsWell words.now.config stop.old.pass stop.new.pass cell (first + i) }
+    ensures well { (i : ℕ) → i < 8
+        → WordIsWell words.now.config stop.old.pass stop.new.pass cell (8 * group + i) }
     ensures noted { AreNoted words.now.config.pages (still_words stop.old.pass) work.old
         → AreNoted words.now.config.pages (still_words stop.new.pass) work.new }
 {
-    if are_before_heap(words, stop, pages, cell, size, first) {
+    if are_before_heap(words, stop, pages, cell, size, GROUP * group) {
         return;
     }
-    scan_apart(words, stop, work, pages, cell, size, first, first + GROUP);
+    scan_apart(words, stop, work, pages, cell, size, group);
 }
 
 /// Looks at each word of a gray cell of at least eight words, a group after the other, and marks what it points into.
@@ -151,7 +154,7 @@ fn scan_groups(
 {
     let groups = size / GROUP;
     for group in 0..groups {
-        scan_group(words, stop, work, pages, cell, size, GROUP * group);
+        scan_group(words, stop, work, pages, cell, size, group);
     }
     scan_words(words, stop, work, pages, cell, size, GROUP * groups, size);
 }

@@ -1,4 +1,4 @@
-use Rattle.std.proofs.Common.{◌≡◌, ℕ, ◌+◌, true, subst, arith}
+use Rattle.std.proofs.Common.{◌≡◌, ℕ, ◌+◌, ◌*◌, true, subst}
 use Rattle.std.specs.Prelude.{slice_index}
 use Rattle.mk_core.specs.Cells.{first_word, points_well}
 use Rattle.mk_core.specs.Words.{Words}
@@ -38,10 +38,10 @@ returns-clause-more c =
 pub returns-clause-well : goal.returns-clause-well
 returns-clause-well c i lt =
     let x = still_words c.scan_apart.new.stop.pass in
-    let here : ℕ = c.args.first + i in
+    let here : ℕ = 8 * c.args.group + i in
     subst (λ (y : Words). points_well c.args.words.now.config.pages x
     (slice_index y.heap (first_word y c.args.cell + here)) ≡ true) c.are_before_heap.ensures.words
-    (c.scan_apart.ensures.well here (omega arith) (omega arith))
+    (c.scan_apart.ensures.well i lt)
 
 pub returns-then-are_before_heap-clause-noted : goal.returns-then-are_before_heap-clause-noted
 returns-then-are_before_heap-clause-noted c =
