@@ -44,9 +44,8 @@ impl Model for Feed {
 impl Feed {
     ghost use Rattle.std.specs.Prelude.{ℕ, List, false};
     ghost use Rattle.mk_core.specs.declared.events.Answer.{Answer};
-    ghost use Rattle.mk_core.specs.declared.events.Answer.TheVariants as answer;
     ghost use Rattle.mk_script.specs.declared.items.Item.{Item};
-    ghost use Rattle.mk_check.specs.Feed.{feed, has_ended, is_refusal};
+    ghost use Rattle.mk_check.specs.Feed.{feed, has_ended};
     ghost use Rattle.mk_script.specs.Grammar.{IsOfSomeText};
     ghost use Rattle.mk_check.specs.Feeding.{next_op, work_left, FeedStandsFor, IsWaiting, TakesAnswer};
 
@@ -97,122 +96,29 @@ impl Feed {
         ensures nearer { OnOk result (work_left self.new < work_left self.old) }
         ensures err { OnErr result (self.new ≡ self.old) }
     {
-        match answer {
-            Answer::Num(value) => self.answer_number(alloc, value),
-            Answer::Done | Answer::Word(_) => self.answer_nothing(alloc, answer),
-            _ => self.answer_later(alloc, answer),
-        }
-    }
-
-    /// The same with a number.
-    #[inline(always)]
-    fn answer_number(&mut self, alloc: Global, value: u64) -> Result<(), NoMemory>
-        requires { IsWaiting self.old }
-        ensures ok { OnOk result (TakesAnswer self.old (answer.Num value) self.new) }
-        ensures nearer { OnOk result (work_left self.new < work_left self.old) }
-        ensures err { OnErr result (self.new ≡ self.old) }
-    {
-        if self.take_number_at_once(value) {
-            return Ok(());
-        }
-        self.answer_later(alloc, Answer::Num(value))
-    }
-
-    /// The same with an answer that is no number and refuses nothing.
-    #[inline(always)]
-    fn answer_nothing(&mut self, alloc: Global, answer: Answer) -> Result<(), NoMemory>
-        requires waiting { IsWaiting self.old }
-        requires accepted { is_refusal answer ≡ false }
-        ensures ok { OnOk result (TakesAnswer self.old answer self.new) }
-        ensures nearer { OnOk result (work_left self.new < work_left self.old) }
-        ensures err { OnErr result (self.new ≡ self.old) }
-    {
-        if self.go_on_at_once(answer) {
-            return Ok(());
-        }
-        self.answer_later(alloc, answer)
-    }
-
-    /// The same where the next operation, or a round that begins with one, follows and nothing is printed. Returns
-    /// whether that is so.
-    #[inline(always)]
-    fn take_number_at_once(&mut self, value: u64) -> bool
-        requires { IsWaiting self.old }
-        ensures taken { IsTrue result → TakesAnswer self.old (answer.Num value) self.new }
-        ensures nearer { IsTrue result → work_left self.new < work_left self.old }
-        ensures refused { result ≡ false → self.new ≡ self.old }
-    {
-        let at = self.running.at();
-        let Node::Line {
-            instruction,
-            next,
-            ..
-        } = self.tree.node(at)
-        else {
-            unreachable!()
-        };
-        let sequel = self.tree.sequel(at);
-        self.running
-            .take_number_at_once(&self.tree, sequel, next, instruction, value)
-    }
-
-    /// The same with an answer that is no number and refuses nothing.
-    #[inline(always)]
-    fn go_on_at_once(&mut self, answer: Answer) -> bool
-        requires waiting { IsWaiting self.old }
-        requires accepted { is_refusal answer ≡ false }
-        ensures taken { IsTrue result → TakesAnswer self.old answer self.new }
-        ensures nearer { IsTrue result → work_left self.new < work_left self.old }
-        ensures refused { result ≡ false → self.new ≡ self.old }
-    {
-        let at = self.running.at();
-        let Node::Line {
-            instruction,
-            next,
-            ..
-        } = self.tree.node(at)
-        else {
-            unreachable!()
-        };
-        let sequel = self.tree.sequel(at);
-        self.running
-            .go_on_at_once(&self.tree, sequel, next, instruction, answer)
-    }
-
-    /// The same where other lines come next, or something is printed.
-    #[inline(never)]
-    fn answer_later(&mut self, alloc: Global, answer: Answer) -> Result<(), NoMemory>
-        requires { IsWaiting self.old }
-        ensures ok { OnOk result (TakesAnswer self.old answer self.new) }
-        ensures nearer { OnOk result (work_left self.new < work_left self.old) }
-        ensures err { OnErr result (self.new ≡ self.old) }
-    {
-        if self.answer_quietly(answer) {
+        if self.answer_silently(answer) {
             return Ok(());
         }
         self.answer_ahead(alloc, answer)
     }
 
     /// The same where the next operation comes before anything is printed, with at most one block left. Returns whether
-    /// it does.
-    fn answer_quietly(&mut self, answer: Answer) -> bool
+    /// it does. No memory is taken.
+    #[inline(always)]
+    fn answer_silently(&mut self, answer: Answer) -> bool
         requires { IsWaiting self.old }
         ensures taken { IsTrue result → TakesAnswer self.old answer self.new }
         ensures nearer { IsTrue result → work_left self.new < work_left self.old }
         ensures refused { result ≡ false → self.new ≡ self.old }
     {
-        let Node::Line {
-            instruction,
-            next,
-            ..
-        } = self.tree.node(self.running.at())
-        else {
+        let at = self.running.at();
+        let Node::Line { next, .. } = self.tree.node(at) else {
             unreachable!()
         };
-        instruction.is_silent(answer)
-            && self
-                .running
-                .take_to_op(&self.tree, next, instruction, answer)
+        let sequel = self.tree.sequel(at);
+        let instruction = self.tree.instruction(at);
+        self.running
+            .answer_silently(&self.tree, sequel, next, instruction, answer)
     }
 
     /// The same, run on a copy first, so that no memory leaves the script as it was.

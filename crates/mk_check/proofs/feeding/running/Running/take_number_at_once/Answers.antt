@@ -7,7 +7,7 @@ use Rattle.mk_check.proofs.feeding.running.Running.take_number_at_once.Goals as 
 pub returns-in-KeptThenAsks-clause-taken : goal.returns-in-KeptThenAsks-clause-taken
 returns-in-KeptThenAsks-clause-taken c =
     let at = c.args.next in
-    λ t. number_at_line c.args.tree.now c.args.self.now at c.args.instruction c.requires.tree c.requires.within
+    λ t. number_at_line c.args.tree.now c.args.self.now at c.args.instruction.now c.requires.tree c.requires.within
     c.args.sequel c.requires.sequel c.in-KeptThenAsks.number c.args.value _ c.in-KeptThenAsks.is
     (ap (λ (q : Place). let x : Place = record q { at = at } in x) (c.self.view_is ∙ c.set.ensures))
 
@@ -18,6 +18,6 @@ returns-then-begun-clause-taken c =
     let b = c.begin_round-begun.ensures.begun c.if-begun.true in
     let q = c.begin_round-begun.new.self in
     let same = ap (λ (x : Place). with_kept q (with_value (kept_in x) l.number c.args.value)) b.is in
-    λ t. number_in_round c.args.tree.now p c.args.next c.args.instruction c.requires.tree c.requires.within
+    λ t. number_in_round c.args.tree.now p c.args.next c.args.instruction.now c.requires.tree c.requires.within
     c.args.sequel c.requires.sequel l.number c.args.value q c.set-then-begun.new.self l.is b
     (c.set-then-begun.ensures ∙ same)
