@@ -24,7 +24,6 @@ pub mod NewlyReleased
 pub mod ReleasedCounts
 pub mod CountedPages
 pub mod TallySteps
-pub mod HeldPages
 pub mod FinishedCycles
 pub mod Sweepless
 pub mod Told

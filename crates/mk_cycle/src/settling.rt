@@ -1,23 +1,20 @@
-//! Page by page, what was released is counted and given back, pages on which nothing is left are freed, and what is
-//! held is counted: in one pass, which looks at no free page.
+//! Page by page, what was released is counted and given back, and pages on which nothing is left are freed: in one pass,
+//! which looks at no free page.
 ghost use Rattle.std.specs.Prelude.{◌≡◌, ◌<◌, ◌≤◌, ℕ};
 ghost use Rattle.mk_core.specs.Cells.{head_page, left_unmarked};
-ghost use Rattle.mk_core.specs.TurnConditions.{held_by_pages};
 ghost use Rattle.mk_core.specs.Words.{header_at};
 ghost use Rattle.mk_words.specs.States.{now_of};
 ghost use Rattle.mk_cycle.specs.EngineLaw.{IsFreeForCycle, IsAtPhase};
 ghost use Rattle.mk_cycle.specs.Freeing.{Frees, FreesPage, HasFreeCells, IsSettledPage};
-ghost use Rattle.mk_cycle.specs.HeldPages.{held_at};
-ghost use Rattle.mk_cycle.specs.ReleasedPages.{IsOfOnePage, released_below, released_on};
+ghost use Rattle.mk_cycle.specs.ReleasedPages.{IsOfOnePage, held_below, held_unmarked, released_below, released_on};
 
-use crate::counting::held_on;
 use crate::finishing::Released;
 use crate::freeing::release_cells;
 use crate::turn_steps::{free_head, known_page, next_in_use};
 use mk_geom::head_page_under;
 use mk_words::{Turn, Words};
 
-/// What was released, and how many words are held after that.
+/// What was released, and how many of its words were held until then.
 #[derive(Clone, Copy)]
 pub(crate) struct Settled {
     pub(crate) released: Released,
@@ -44,8 +41,10 @@ fn free_unused(turn: &mut Turn, words: &Words, page: u64, head: u64)
 }
 
 /// Gives back the released cells of a page with this header word, and frees it if nothing is left on it.
-fn settle_taken(turn: &mut Turn, words: &Words, page: u64, header: u64) -> Settled
+#[inline(always)]
+fn settle_taken(turn: &mut Turn, words: &Words, pages: u64, page: u64, header: u64) -> Settled
     requires one_table { turn.old.pass.table ≡ words.now }
+    requires pages { pages ≡ words.now.config.pages }
     requires free { IsFreeForCycle turn.old.pass }
     requires phase { IsAtPhase turn.old.pass 4 }
     requires within { page < words.now.config.pages }
@@ -56,18 +55,15 @@ fn settle_taken(turn: &mut Turn, words: &Words, page: u64, header: u64) -> Settl
     ensures frees { FreesPage page turn.old.pass turn.new.pass }
     ensures settled { IsSettledPage turn.new.pass page }
     ensures released { result.released ≡ released_on (now_of turn.old.pass).words page }
-    ensures one { IsOfOnePage result.released }
-    ensures held { result.held ≡ held_at turn.new.pass page }
-    ensures few { result.held ≤ 64 }
+    ensures held { result.held ≡ held_unmarked (now_of turn.old.pass).words page }
+    ensures few { IsOfOnePage result.released }
 {
-    let released = release_cells(turn, words, page, header);
+    let here = release_cells(turn, words, pages, page, header);
     free_unused(turn, words, page, head_page_under(header, page));
-    let held = held_on(turn, page);
-    Settled { released, held }
+    here
 }
 
-/// Gives back all that was released, and counts it, and what the pages hold then. It goes from page in use to page in
-/// use: a free page has nothing.
+/// Gives back all that was released, and counts it. It goes from page in use to page in use: a free page has nothing.
 pub(crate) fn settle_pages(turn: &mut Turn, words: &Words) -> Settled
     requires one_table { turn.old.pass.table ≡ words.now }
     requires free { IsFreeForCycle turn.old.pass }
@@ -77,9 +73,10 @@ pub(crate) fn settle_pages(turn: &mut Turn, words: &Words) -> Settled
     ensures frees { Frees turn.old.pass turn.new.pass }
     ensures settled { (page : ℕ) → page < words.now.config.pages → IsSettledPage turn.new.pass page }
     ensures released { result.released ≡ released_below (now_of turn.old.pass).words words.now.config.pages }
-    ensures held { result.held ≡ held_by_pages (now_of turn.new.pass).words }
+    ensures held { result.held ≡ held_below (now_of turn.old.pass).words words.now.config.pages }
 {
     words.is_within_limits();
+    let pages = words.pages();
     let mut all = Released {
         count: 0,
         words: 0,
@@ -89,7 +86,7 @@ pub(crate) fn settle_pages(turn: &mut Turn, words: &Words) -> Settled
     let mut from = 0;
     while let Some(page) = next_in_use(turn, from) {
         let header = known_page(turn, page).header;
-        let here = settle_taken(turn, words, page, header);
+        let here = settle_taken(turn, words, pages, page, header);
         all.count += here.released.count;
         all.words += here.released.words;
         all.kept += here.released.kept;
