@@ -22,6 +22,7 @@ pub mod SumsBelow
 pub mod CellCounts
 pub mod NewlyReleased
 pub mod ReleasedCounts
+pub mod HeldReleased
 pub mod CountedPages
 pub mod TallySteps
 pub mod FinishedCycles

@@ -14,13 +14,12 @@ use Rattle.mk_core.specs.Words.{Words, header_at, used_at}
 use Rattle.mk_words.specs.States.{PassState, now_of}
 use Rattle.mk_cycle.specs.declared.finishing.Released.{Released}
 use Rattle.mk_cycle.specs.Freeing.{Frees, FreesPage, HasFreeCells, IsSettledPage, PageState, SamePage}
-use Rattle.mk_cycle.specs.HeldPages.{held_at}
-use Rattle.mk_cycle.specs.ReleasedPages.{cells_marked, cells_unmarked, released_below, released_on, sum_below}
-use Rattle.mk_cycle.specs.ReleasedPages.{words_unmarked}
+use Rattle.mk_cycle.specs.ReleasedPages.{cells_marked, cells_unmarked, held_below, held_unmarked, released_below}
+use Rattle.mk_cycle.specs.ReleasedPages.{released_on, words_unmarked}
 use Rattle.mk_cycle.specs.TurnKeeps.{InTurn}
-use Rattle.mk_cycle.proofs.CountedPages.{counted_more, nothing_on, same_released, told_same}
+use Rattle.mk_cycle.proofs.CountedPages.{counted_more, held_more, held_same, none_held, nothing_on, same_released}
+use Rattle.mk_cycle.proofs.CountedPages.{told_same}
 use Rattle.mk_cycle.proofs.FreeingSteps.{frees_nothing, frees_then}
-use Rattle.mk_cycle.proofs.HeldPages.{free_holds, held_more}
 use Rattle.mk_cycle.proofs.SettledPages.{bare_left, bare_snapshot, free_cells_stay, settled_bare, still_settled}
 use Rattle.mk_cycle.proofs.SumsBelow.{sum_past}
 
@@ -31,7 +30,7 @@ pub record AreSettledBelow (p q : PassState) (pages n : ℕ) (all : Released) (h
   pub cells : (r : ℕ) → n ≤ r → r < pages → HasFreeCells q r
   pub same : (r : ℕ) → n ≤ r → SamePage p q r
   pub counted : all ≡ released_below (now_of p).words n
-  pub holds : held ≡ sum_below n (held_at q)
+  pub holds : held ≡ held_below (now_of p).words n
 
 pub settled_none : (p : PassState) (pages : ℕ) → ((r : ℕ) → r < pages → HasFreeCells p r)
     → AreSettledBelow p p pages 0 (record { count = 0; words = 0; kept = 0 }) 0
@@ -58,12 +57,13 @@ module _ (p q r : PassState) (n pages : ℕ) (page : FreesPage n q r) where
   same_on : ((s : ℕ) → n ≤ s → SamePage p q s) → (s : ℕ) → n + 1 ≤ s → SamePage p r s
   same_on before s le = page.others s (λ e. absurd (omega (arith, e, le))) ∙ before s (omega (arith, le))
 
-  pub settled_more : (all here : Released) (held holds : ℕ) → AreSettledBelow p q pages n all held
-      → IsSettledPage r n → here ≡ released_on (now_of q).words n → holds ≡ held_at r n
+  pub settled_more : (all here : Released) (held more : ℕ) → AreSettledBelow p q pages n all held
+      → IsSettledPage r n → here ≡ released_on (now_of q).words n
+      → more ≡ held_unmarked (now_of q).words n
       → AreSettledBelow p r pages (n + 1)
       (record { count = all.count + here.count; words = all.words + here.words; kept = all.kept + here.kept })
-      (held + holds)
-  settled_more all here held holds before settled counted is_held =
+      (held + more)
+  settled_more all here held more before settled counted is_held =
       record {
         frees = frees_then p q r before.frees page.frees;
         settled = settled_on before.settled settled;
@@ -71,7 +71,8 @@ module _ (p q r : PassState) (n pages : ℕ) (page : FreesPage n q r) where
         same = same_on before.same;
         counted = counted_more (now_of p).words n all here before.counted
             (counted ∙ told_same p q n before.frees.marks (before.same n (omega arith)));
-        holds = held_more q r n held holds page before.holds is_held;
+        holds = held_more (now_of p).words n held more before.holds
+            (is_held ∙ held_same p q n before.frees.marks (before.same n (omega arith)));
       }
 
 -- A page that isn't in use has no header,
@@ -89,7 +90,7 @@ free_header h (Some (Later d m)) u is free = cc
 pub no_header : (w : Words) (n : ℕ) → is_in_use w.pages n ≡ false → header_at w n ≡ 0
 no_header w n free = free_header (header_at w n) (header_of (header_at w n)) (used_at w n) refl free
 
--- so it is settled, nothing was released on it, and it holds nothing.
+-- so it is settled, and nothing was released on it.
 module _ (q : PassState) (t : InTurn q) (n : ℕ) (free : is_in_use (now_of q).words.pages n ≡ false) where
   free_is_settled : IsSettledPage q n
   free_is_settled =
@@ -101,10 +102,6 @@ module _ (q : PassState) (t : InTurn q) (n : ℕ) (free : is_in_use (now_of q).w
   nothing_released p same =
       nothing_on (now_of p).words n
       (sym (ap (λ (x : PageState). x.snapshot) same) ∙ bare_snapshot q t n (no_header (now_of q).words n free))
-
-  holds_nothing : held_at q n ≡ 0
-  holds_nothing =
-      sym (free_holds (now_of q).words n (header_at (now_of q).words n) refl (no_header (now_of q).words n free))
 
 -- Free pages are passed over.
 module _ (p q : PassState) (t : InTurn q) (n m : ℕ) (le : n ≤ m)
@@ -137,5 +134,7 @@ module _ (p q : PassState) (t : InTurn q) (n m : ℕ) (le : n ≤ m)
         same = λ r after. before.same r (omega (arith, le, after));
         counted = before.counted ∙ counted_past before.same;
         holds = before.holds
-            ∙ sym (sum_past n m (held_at q) le (λ r after lt. holds_nothing q t r (free r after lt)));
+            ∙ sym (sum_past n m (held_unmarked (now_of p).words) le
+            (λ r after lt. sym (none_held (now_of p).words r
+            (nothing_released q t r (free r after lt) p (before.same r after)))));
       }

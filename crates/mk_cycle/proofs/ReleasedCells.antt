@@ -47,11 +47,11 @@ use Rattle.mk_cycle.specs.EngineLaw.{IsAtPhase}
 use Rattle.mk_cycle.specs.Freeing.{HasFreeCells, IsUnmappedWord, IsZero}
 use Rattle.mk_cycle.specs.TurnKeeps.{InTurn, IsGone}
 
-plus_zero : (n : ℕ) → n + 0 ≡ n
+pub plus_zero : (n : ℕ) → n + 0 ≡ n
 plus_zero n = omega arith
 
 -- What shows an unmapped run shows a large object.
-unmapped_is_large : (o : Object) (x : Option Header) → ShowsPart o 0 x → is_unmapped_header x ≡ true
+pub unmapped_is_large : (o : Object) (x : Option Header) → ShowsPart o 0 x → is_unmapped_header x ≡ true
     → is_small_object o ≡ false
 unmapped_is_large o x (OfBlock first small leaf) h = absurd (true≢false (sym h))
 unmapped_is_large o x (OfLeafBlock first small leaf) h = absurd (true≢false (sym h))
@@ -150,7 +150,7 @@ module _ (d q : PassState) (t : InTurn d) (u : InTurn q) (at : IsAtPhase d 3) (a
       ∙ ap not (unmapped_is_large o _ shows gone))
       ∙ and-false (not y.released)
 
-  gone_there : IsGone d → is_run_gone w.now.words w.now.seats.holding.freed ≡ true
+  pub gone_there : IsGone d → is_run_gone w.now.words w.now.seats.holding.freed ≡ true
   gone_there gone =
       let m = made d step.Release q a.makes in
       let finds : HolderFinds c d.seat (world_of d) w =

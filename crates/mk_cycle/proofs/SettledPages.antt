@@ -113,6 +113,16 @@ bare_left p t page none =
     let no_cells : cells_under (header_in w page) ≡ 0 = ap (λ (n : ℕ). cells_under (header_of n)) none in
     absurd (omega arith)))
 
+-- A page without freed cells has none in its snapshot.
+pub no_snapshot : (p : PassState) → InTurn p → (page : ℕ) → slice_index (now_of p).words.freed page ≡ 0
+    → slice_index (now_of p).words.snapshot page ≡ 0
+no_snapshot p t page none =
+    let w : Words = (now_of p).words in
+    let order = (stands p.table.config p.seen t.history).all.order in
+    zero_from_bits (slice_index w.snapshot page)
+    (λ k. false_from_ne_true (has_bit (slice_index w.snapshot page) k) (λ has.
+    true≢false (sym (order.quarantined.within page k has) ∙ no_bit (slice_index w.freed page) k none)))
+
 pub bare_snapshot : (p : PassState) → InTurn p → (page : ℕ) → header_at (now_of p).words page ≡ 0
     → slice_index (now_of p).words.snapshot page ≡ 0
 bare_snapshot p t page none =

@@ -110,9 +110,8 @@ fn are_zero(marks: u64, blacks: u64, dirty: u64) -> bool
     marks | blacks | dirty == 0
 }
 
-/// Clears what is left of the cycle before on a page, on which these words were found. It isn't inlined, since few
-/// pages need it.
-#[inline(never)]
+/// Clears what is left of the cycle before on a page, on which these words were found.
+#[inline(always)]
 fn clean_words(turn: &mut Turn, words: &Words, page: u64, marks: u64, blacks: u64, dirty: u64)
     requires one_table { turn.old.pass.table ≡ words.now }
     requires free { IsFreeForCycle turn.old.pass }

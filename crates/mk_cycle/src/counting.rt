@@ -1,6 +1,6 @@
 //! What the words of a page say of a cycle: what was released on it, by its snapshot and marks, before that is given
 //! back; and how much of that was held.
-ghost use Rattle.std.specs.Prelude.{◌≡◌, ℕ, ◌*◌, true, false, bit_and, count_ones, if◌then◌else◌};
+ghost use Rattle.std.specs.Prelude.{◌≡◌, ◌≤◌, ◌*◌, true, false, bit_and, count_ones, if◌then◌else◌};
 ghost use Rattle.mk_core.specs.Bits.{without};
 ghost use Rattle.mk_core.specs.Cells.{is_unmapped_header, words_under};
 ghost use Rattle.mk_core.specs.Ranges.{is_word};
@@ -17,15 +17,21 @@ use crate::turn_steps;
 use mk_core::{Word, is_unmapped, without, words_under};
 use mk_words::{Turn, Words};
 
-/// How many bits of a word are 1. It is for words that are 0 mostly.
-#[inline(always)]
-fn ones(word: u64) -> u64
+/// How many cells are in a word that has some. It isn't inlined, so that pages without any don't count.
+#[inline(never)]
+fn some_cells(word: u64) -> u64
     ensures { result ≡ count_ones word }
 {
-    if word == 0 {
-        return 0;
-    }
     u64::from(word.count_ones())
+}
+
+/// How many cells of a snapshot are kept: those that are marked. On most pages none is.
+#[inline(always)]
+fn kept_cells(snapshot: u64, marks: u64) -> u64
+    ensures { result ≡ count_ones (bit_and snapshot marks) }
+{
+    let kept = snapshot & marks;
+    if kept == 0 { 0 } else { some_cells(kept) }
 }
 
 /// What the words of a page say: its released cells, their words, and its marked cells of the snapshot.
@@ -35,18 +41,19 @@ pub(crate) fn released_cells(snapshot: u64, marks: u64, header: u64) -> Released
     ensures kept { result.kept ≡ count_ones (bit_and snapshot marks) }
     ensures few { IsOfOnePage result }
 {
-    let count = ones(without(snapshot, marks));
+    let count = u64::from(without(snapshot, marks).count_ones());
     Released {
         count,
         words: count * words_under(header),
-        kept: ones(snapshot & marks),
+        kept: kept_cells(snapshot, marks),
     }
 }
 
 /// How many of the words that were released on a page with this header were held until then: none of an unmapped run.
 #[inline(always)]
 pub(crate) fn held_words(header: u64, words: u64) -> u64
-    ensures { result ≡ (if is_unmapped_header (header_of header) then 0 else words) }
+    ensures is { result ≡ (if is_unmapped_header (header_of header) then 0 else words) }
+    ensures part { result ≤ words }
 {
     if is_unmapped(header) { 0 } else { words }
 }

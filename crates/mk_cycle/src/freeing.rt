@@ -1,5 +1,5 @@
 //! Released cells are given back page by page, and pages on which nothing is left are free again.
-ghost use Rattle.std.specs.Prelude.{◌≡◌, ◌<◌};
+ghost use Rattle.std.specs.Prelude.{◌≡◌, ◌<◌, ◌≤◌};
 ghost use Rattle.mk_core.specs.Cells.{left_unmarked};
 ghost use Rattle.mk_core.specs.Words.{header_at};
 ghost use Rattle.mk_words.specs.States.{now_of};
@@ -59,6 +59,7 @@ pub(crate) fn release_cells(
     ensures released { result.released ≡ released_on (now_of turn.old.pass).words page }
     ensures held { result.held ≡ held_unmarked (now_of turn.old.pass).words page }
     ensures few { IsOfOnePage result.released }
+    ensures part { result.held ≤ result.released.words }
 {
     let quarantine = counting::look(turn, words, pages, Word::Quar(page));
     let snapshot = quarantine / FREED_END;
@@ -73,9 +74,11 @@ pub(crate) fn release_cells(
     let marks = counting::look(turn, words, pages, Word::Mark(page));
     let released = released_cells(snapshot, marks, header);
     let held = held_words(header, released.words);
+    let here = Settled { released, held };
     let gone = without(snapshot, marks);
-    if gone != 0 {
-        give_back(turn, words, page, header, quarantine, gone);
+    if gone == 0 {
+        return here;
     }
-    Settled { released, held }
+    give_back(turn, words, page, header, quarantine, gone);
+    here
 }

@@ -57,6 +57,7 @@ fn settle_taken(turn: &mut Turn, words: &Words, pages: u64, page: u64, header: u
     ensures released { result.released ≡ released_on (now_of turn.old.pass).words page }
     ensures held { result.held ≡ held_unmarked (now_of turn.old.pass).words page }
     ensures few { IsOfOnePage result.released }
+    ensures part { result.held ≤ result.released.words }
 {
     let here = release_cells(turn, words, pages, page, header);
     free_unused(turn, words, page, head_page_under(header, page));

@@ -1,11 +1,6 @@
-use Rattle.std.proofs.Common.{◌≡◌, ℕ, ◌<◌, List, length, refl, sym, ◌∙◌, ap, arith}
-use Rattle.mk_geom.specs.declared.pages.Page.{Page}
-use Rattle.mk_core.proofs.Lengths.{histories_keep_lengths}
-use Rattle.mk_words.specs.States.{PassState, WordsState, now_of}
-use Rattle.mk_cycle.specs.HeldPages.{held_at}
-use Rattle.mk_cycle.specs.ReleasedPages.{sum_below}
+use Rattle.std.proofs.Common.{◌≡◌, ℕ, ◌<◌, refl, ◌∙◌, ap, arith}
+use Rattle.mk_words.specs.States.{PassState, WordsState}
 use Rattle.mk_cycle.proofs.FreeingSteps.{freed_table}
-use Rattle.mk_cycle.proofs.HeldPages.{held_all}
 use Rattle.mk_cycle.proofs.PageByPage.{AreSettledBelow, settled_more, settled_none, settled_to}
 use Rattle.mk_cycle.proofs.settling.settle_pages.Goals as goal
 use Rattle.mk_cycle.proofs.settling.settle_pages.Goals.{After-known_page-header, In_default}
@@ -54,10 +49,10 @@ loop-page-preserved c =
       settled = settled_more p q c.settle_taken-here.new.turn.pass n pages x.frees c.loop-page.all
           c.settle_taken-here.result.released c.loop-page.held c.settle_taken-here.result.held before x.settled
           x.released x.held;
-      count = omega (arith, i.count, x.one.count, after);
-      words = omega (arith, i.words, x.one.words, after);
-      kept = omega (arith, i.kept, x.one.kept, after);
-      few = omega (arith, i.few, x.few, after);
+      count = omega (arith, i.count, x.few.count, after);
+      words = omega (arith, i.words, x.few.words, after);
+      kept = omega (arith, i.kept, x.few.kept, after);
+      few = omega (arith, i.few, x.part, x.few.words, after);
     }
 
 same_pages : (c : In_default) → c.loop-page.turn.pass.table.config.pages ≡ c.args.words.now.config.pages
@@ -83,10 +78,4 @@ pub returns-clause-released : goal.returns-clause-released
 returns-clause-released c = (to_end (goal.at.returns-clause-released c).In_default).counted
 
 pub returns-clause-held : goal.returns-clause-held
-returns-clause-held c =
-    let x = (goal.at.returns-clause-held c).In_default in
-    let q : PassState = c.loop-page.turn.pass in
-    let pages : List Page = (now_of q).words.pages in
-    let all : length pages ≡ c.args.words.now.config.pages =
-    omega (arith, (histories_keep_lengths q.table.config q.seen).pages, same_pages x) in
-    (to_end x).holds ∙ ap (λ n. sum_below n (held_at q)) (sym all) ∙ held_all pages
+returns-clause-held c = (to_end (goal.at.returns-clause-held c).In_default).holds

@@ -11,7 +11,7 @@ invariant-loop-page l =
       count : l.all.count ≤ 64 * l.from;
       words : l.all.words ≤ 64 * 4096 * l.from;
       kept : l.all.kept ≤ 64 * l.from;
-      few : l.held ≤ 64 * l.from;
+      few : l.held ≤ 64 * 4096 * l.from;
     }
 
 abbrev pub decreases-loop-page : goal.decreases-loop-page
