@@ -38,7 +38,7 @@ returns-clause-told g c =
 
 pub returns-clause-held : goal.returns-clause-held
 returns-clause-held g c =
-    let p = c.args.turn.now.pass in
+    let p = c.args.turn.pass in
     let holds = subst (λ (t : TurnState). HoldsGates p t.pass) (sym c.stopped-stop.ensures) c.hold_gates.ensures.holds
     in
     all_held p c.stopped-stop.result.pass c.release_unmarked.new.stop.pass c.open_gates-turn.result.pass
