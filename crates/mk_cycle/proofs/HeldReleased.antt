@@ -2,7 +2,7 @@
 use Rattle.std.proofs.Common.{◌≡◌, ℕ, zero, suc, ◌+◌, ◌*◌, ◌/◌, ◌++◌, Bool, true, false, cond, List, [], ◌∷◌, get_or, map}
 use Rattle.std.proofs.Common.{sum_by, refl, sym, ap, subst, ◌∙◌, append-nil, arith, inl, inr, zero-add}
 use Rattle.std.specs.Prelude.{◌&&◌, ◌||◌, not, Option, if◌then◌else◌}
-use Rattle.std.proofs.lemmas.Bool.{cases_Bool, false_from_ne_true, not-true, true≢false}
+use Rattle.std.proofs.lemmas.Bool.{cases_Bool, false_from_ne_true, true≢false}
 use Rattle.std.proofs.lemmas.List.Sums.{sum_by-cons}
 use Rattle.std.proofs.Math.Bool.{and-false}
 use Rattle.mk_never.specs.Types.{is_large, kinds_of}
@@ -21,7 +21,6 @@ use Rattle.mk_core.specs.Allocations.{PlacedAllocation, cell_of_allocation, held
 use Rattle.mk_core.specs.Allocations.{placed_at, storage_of, storage_words, unreleased_storage, with_released}
 use Rattle.mk_core.specs.Bounded.{is_some_and}
 use Rattle.mk_core.specs.Cells.{header_in, is_left_unmarked, is_unmapped_header, left_unmarked, pointed_cell, words_under}
-use Rattle.mk_core.specs.Frames.{Steady}
 use Rattle.mk_core.specs.History.{World, IsHistory, left}
 use Rattle.mk_core.specs.NewPlaces.{is_run_gone, is_small_object}
 use Rattle.mk_core.specs.ObjectHeaders.{OfBlock, OfLater, OfLeafBlock, OfLeafRun, OfRun, ShowsPart}
