@@ -73,8 +73,6 @@ impl Pass {
         requires word { word ≡ word_accessed self.old.table.config (now_of self.old) (event_of self.old step) }
         requires access { by ≡ access self.old.table.config (now_of self.old) (event_of self.old step) }
         ensures told { Tells self.old step result self.new }
-        ensures own { Has self.old.seats self.old.seat }
-        ensures history { IsHistory self.new.table.config self.new.seen }
     {
         self.own.perform_among(words, pages, step, word, by)
     }

@@ -169,8 +169,6 @@ impl SeatToken {
         requires word { word ≡ word_accessed self.old.table.config (now_of self.old) (event_of self.old step) }
         requires access { by ≡ access self.old.table.config (now_of self.old) (event_of self.old step) }
         ensures told { Tells self.old step result self.new }
-        ensures own { Has self.old.seats self.old.seat }
-        ensures history { IsHistory self.new.table.config self.new.seen }
     {
         let seat = self.seat;
         perform_as::<Brand>(words, pages, &mut self.token, seat, step, word, by)

@@ -30,10 +30,9 @@ pub overflow_cast-word : goal.overflow_cast-word
 overflow_cast-word c =
     let p = c.args.pass.now in
     let u = c.requires.underway in
-    let h = c.is_in_order.ensures.history in
-    let m = met p u h stage.Probe c.requires.stage c.requires.access refl refl refl in
-    let b = met_bounds p u h c.args.u c.args.i c.requires.value c.requires.offset m in
-    let pages = c.is_within_limits.ensures.pages in
+    let m = met p u stage.Probe c.requires.stage c.requires.access refl refl refl in
+    let b = met_bounds p u c.args.u c.args.i c.requires.value c.requires.offset m in
+    let pages = u.pass.history.within_limits.pages in
     let one = c.requires.one_table in
     omega (arith, b, pages)
 
