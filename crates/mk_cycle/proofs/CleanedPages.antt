@@ -11,7 +11,7 @@ use Rattle.mk_words.specs.States.{PassState, now_of}
 use Rattle.mk_cycle.specs.Cleaning.{Cleans, HasTakenSnapshot, IsClean, IsCleanedPage, WasUndirty}
 use Rattle.mk_cycle.specs.TurnKeeps.{InTurn}
 use Rattle.mk_cycle.proofs.PageByPage.{no_header}
-use Rattle.mk_cycle.proofs.SettledPages.{no_snapshot}
+use Rattle.mk_cycle.proofs.SettledPages.{no_cells, no_snapshot}
 use Rattle.mk_cycle.proofs.Undirty.{undirty_earlier, undirty_later, undirty_now}
 
 pub bare_stays : (p q : PassState) (page : ℕ) → Cleans p q → HasNoMarks (now_of p).words page
@@ -89,12 +89,6 @@ taken_past p from n t before more page lt = elim (cases_lt page from) [
       let freed = no_cells (slice_index (now_of p).words.freed page) (more page high lt) in
       no_snapshot p t page freed ∙ sym freed
 ]
-  where
-    no_cells : (f : ℕ) → not (f == 0) ≡ false → f ≡ 0
-    no_cells f h = elim (cases_Bool (f == 0)) [
-      | inl is ↦ eqb-true f 0 is
-      | inr none ↦ absurd (true≢false (sym (ap not none) ∙ h))
-    ]
 
 pub clean_ready : (o p q : PassState) (page : ℕ) → IsCleanedPage page o p → Cleans p q → HasTakenSnapshot q page
     → IsClean q page

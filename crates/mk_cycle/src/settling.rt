@@ -1,17 +1,22 @@
 //! Page by page, what was released is counted and given back, and pages on which nothing is left are freed: in one pass,
-//! which looks at no free page.
-ghost use Rattle.std.specs.Prelude.{◌≡◌, ◌<◌, ◌≤◌, ℕ};
+//! which looks at the pages that have freed cells, and at the later pages of their runs.
+ghost use Rattle.std.specs.Prelude.{◌≡◌, ◌+◌, ◌<◌, ◌≤◌, ℕ};
 ghost use Rattle.mk_core.specs.Cells.{head_page, left_unmarked};
+ghost use Rattle.mk_core.specs.Counts.{in_a_word};
 ghost use Rattle.mk_core.specs.Words.{header_at};
+ghost use Rattle.mk_geom.specs.Headers.{header_of};
+ghost use Rattle.mk_laws.specs.LayoutScene.{run_count};
+ghost use Rattle.mk_page_map.specs.Members.{IsNext};
 ghost use Rattle.mk_words.specs.States.{now_of};
 ghost use Rattle.mk_cycle.specs.EngineLaw.{IsFreeForCycle, IsAtPhase};
-ghost use Rattle.mk_cycle.specs.Freeing.{Frees, FreesPage, HasFreeCells, IsSettledPage};
+ghost use Rattle.mk_cycle.specs.Freeing.{Frees, FreesPage, HasFreeCells, IsOccupied, IsSettledPage, may_be_unsettled};
 ghost use Rattle.mk_cycle.specs.ReleasedPages.{IsOfOnePage, held_below, held_unmarked, released_below, released_on};
+ghost use Rattle.mk_cycle.specs.TurnKeeps.{InTurn};
 
 use crate::finishing::Released;
 use crate::freeing::release_cells;
-use crate::turn_steps::{free_head, known_page, next_in_use};
-use mk_geom::head_page_under;
+use crate::turn_steps::{free_head, known_page, next_quarantined};
+use mk_geom::{Header, decode, head_page_under};
 use mk_words::{Turn, Words};
 
 /// What was released, and how many of its words were held until then.
@@ -64,12 +69,42 @@ fn settle_taken(turn: &mut Turn, words: &Words, pages: u64, page: u64, header: u
     here
 }
 
-/// Gives back all that was released, and counts it. It goes from page in use to page in use: a free page has nothing.
+/// Where the run ends that has its head at this page, with this header word. Another page's end is the page itself.
+#[inline(always)]
+fn run_end(header: u64, page: u64) -> u64
+    ensures { result ≡ in_a_word (page + run_count (header_of header)) }
+{
+    match decode(header) {
+        Some(Header::Run { pages, .. } | Header::LeafRun { pages }) => page.saturating_add(pages),
+        _ => page,
+    }
+}
+
+/// The next page, from this one on, that may be unsettled: up to the end of a run each may be, and after it those that
+/// have freed cells.
+#[inline(always)]
+fn next_to_settle(turn: &Turn, pages: u64, from: u64, end: u64) -> Option<u64>
+    requires pages { pages ≡ turn.now.pass.table.config.pages }
+    ensures is { InTurn turn.now.pass }
+    ensures next { IsNext (may_be_unsettled (now_of turn.now.pass).words end) from turn.now.pass.table.config.pages
+        result }
+{
+    let next = next_quarantined(turn, from);
+    let known = end.min(pages);
+    if from < known {
+        return Some(from);
+    }
+    next
+}
+
+/// Gives back all that was released, and counts it. It leaves out pages that have no freed cells, but for the later
+/// pages of runs: nothing was released on them, and they are in use.
 pub(crate) fn settle_pages(turn: &mut Turn, words: &Words) -> Settled
     requires one_table { turn.old.pass.table ≡ words.now }
     requires free { IsFreeForCycle turn.old.pass }
     requires phase { IsAtPhase turn.old.pass 4 }
     requires cells { (page : ℕ) → page < words.now.config.pages → HasFreeCells turn.old.pass page }
+    requires occupied { (page : ℕ) → IsOccupied turn.old.pass page }
     ensures op { turn.new.op ≡ turn.old.op }
     ensures frees { Frees turn.old.pass turn.new.pass }
     ensures settled { (page : ℕ) → page < words.now.config.pages → IsSettledPage turn.new.pass page }
@@ -85,13 +120,15 @@ pub(crate) fn settle_pages(turn: &mut Turn, words: &Words) -> Settled
     };
     let mut held: u64 = 0;
     let mut from = 0;
-    while let Some(page) = next_in_use(turn, from) {
+    let mut end = 0;
+    while let Some(page) = next_to_settle(turn, pages, from, end) {
         let header = known_page(turn, page).header;
         let here = settle_taken(turn, words, pages, page, header);
         all.count += here.released.count;
         all.words += here.released.words;
         all.kept += here.released.kept;
         held += here.held;
+        end = end.max(run_end(header, page));
         from = page + 1;
     }
     Settled {

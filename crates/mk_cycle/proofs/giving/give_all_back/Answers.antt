@@ -1,10 +1,10 @@
-use Rattle.std.proofs.Common.{◌<◌, sym, ap, subst}
+use Rattle.std.proofs.Common.{◌<◌, sym, ap, subst, ◌∙◌}
 use Rattle.mk_words.specs.States.{PassState, WordsState, TurnState}
 use Rattle.mk_cycle.specs.Holding.{HoldsGates}
 use Rattle.mk_cycle.specs.Kinds.{is_giving_back, holds_gates}
 use Rattle.mk_cycle.proofs.FreeingSteps.{frees_then}
 use Rattle.mk_cycle.proofs.GivingAll.{all_held, all_told, gives_all_back}
-use Rattle.mk_cycle.proofs.SettledPages.{free_cells_stay}
+use Rattle.mk_cycle.proofs.SettledPages.{free_cells_stay, same_occupied}
 use Rattle.mk_turns.proofs.Sweeping.{does_sweep, sweeps_then}
 use Rattle.mk_cycle.proofs.Sweepless.{giving_marks_nothing, holding_marks_nothing}
 use Rattle.mk_cycle.proofs.Told.{told_earlier, told_later}
@@ -15,6 +15,11 @@ pub settle_pages-settled-requires-clause-cells : goal.settle_pages-settled-requi
 settle_pages-settled-requires-clause-cells g c page lt =
     let opens = c.open_gates-turn.ensures.opens in
     free_cells_stay _ _ page opens.frees (opens.same page) (c.release_unmarked.ensures.cells page)
+
+pub settle_pages-settled-requires-clause-occupied : goal.settle_pages-settled-requires-clause-occupied
+settle_pages-settled-requires-clause-occupied g c page =
+    let opens = c.open_gates-turn.ensures.opens in
+    same_occupied _ _ page (opens.same page) (opens.same _) ∙ c.release_unmarked.ensures.occupied page
 
 pub returns-clause-gives : goal.returns-clause-gives
 returns-clause-gives g c =

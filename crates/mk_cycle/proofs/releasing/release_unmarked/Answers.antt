@@ -9,7 +9,7 @@ use Rattle.mk_cycle.proofs.Allowed.{in_turn, in_turn_after}
 use Rattle.mk_cycle.proofs.HeldReleased.{held_alike, release_holds}
 use Rattle.mk_cycle.proofs.KeptInParts.{free_then, same_config}
 use Rattle.mk_cycle.proofs.ReleasedCounts.{release_tells, told_from}
-use Rattle.mk_cycle.proofs.ReleasedCells.{cells_are_free}
+use Rattle.mk_cycle.proofs.ReleasedCells.{cells_are_free, pages_are_occupied}
 use Rattle.mk_cycle.proofs.ReleaseSteps.{close_leaves, releases_unmarked}
 use Rattle.mk_turns.proofs.Sweeping.{only_seen_by, other_step_sweeps, sweeps_then}
 use Rattle.mk_cycle.proofs.Told.{told_closing, told_earlier, told_later}
@@ -37,6 +37,16 @@ returns-clause-cells g c page =
     cells_are_free c.close_phase.new.self.pass c.release.new.self.pass u
     (in_turn_after c.release.ensures.acts refl)
     close.1 c.release.ensures.acts (free_then _ _ close.0.call free).gone page
+
+pub returns-clause-occupied : goal.returns-clause-occupied
+returns-clause-occupied g c page =
+    let t = in_turn _ _ c.is_in_order-2.ensures.own c.is_in_order-2.ensures.turn c.is_in_order-2.ensures.history in
+    let u = in_turn _ _ c.is_in_order-3.ensures.own c.is_in_order-3.ensures.turn c.is_in_order-3.ensures.history in
+    let free = free_then _ _ c.close_marks.ensures.law.keeps.call c.requires.free in
+    let close = close_leaves _ _ t free c.close_marks.ensures.law.phase c.close_phase.ensures.acts u in
+    pages_are_occupied c.close_phase.new.self.pass c.release.new.self.pass u
+    (in_turn_after c.release.ensures.acts refl)
+    close.1 c.release.ensures.acts (free_then _ _ close.0.call free).unplaced page
 
 pub returns-clause-told : goal.returns-clause-told
 returns-clause-told g c =
