@@ -1,7 +1,7 @@
 -- Pages are cleaned one by one, and others are passed over: what is known of those before goes on.
 use Rattle.std.proofs.Common.{◌≡◌, ℕ, ◌+◌, ◌<◌, ◌≤◌, false, sym, ◌∙◌, ap, below_more, inl, inr, arith}
-use Rattle.std.specs.Prelude.{◌==◌, not, slice_index}
-use Rattle.std.proofs.lemmas.Bool.{cases_Bool, cases_lt, eqb-true, true≢false}
+use Rattle.std.specs.Prelude.{slice_index}
+use Rattle.std.proofs.lemmas.Bool.{cases_lt}
 use Rattle.mk_page_map.specs.Members.{has_freed_cells, is_in_use, page_at}
 use Rattle.mk_core.specs.Frames.{Steady}
 use Rattle.mk_core.specs.Words.{header_at}

@@ -17,23 +17,6 @@ use crate::turn_steps;
 use mk_core::{Word, is_unmapped, without, words_under};
 use mk_words::{Turn, Words};
 
-/// How many cells are in a word that has some. It isn't inlined, so that pages without any don't count.
-#[inline(never)]
-fn some_cells(word: u64) -> u64
-    ensures { result ≡ count_ones word }
-{
-    u64::from(word.count_ones())
-}
-
-/// How many cells of a snapshot are kept: those that are marked. On most pages none is.
-#[inline(always)]
-fn kept_cells(snapshot: u64, marks: u64) -> u64
-    ensures { result ≡ count_ones (bit_and snapshot marks) }
-{
-    let kept = snapshot & marks;
-    if kept == 0 { 0 } else { some_cells(kept) }
-}
-
 /// What the words of a page say: its released cells, their words, and its marked cells of the snapshot.
 pub(crate) fn released_cells(snapshot: u64, marks: u64, header: u64) -> Released
     ensures count { result.count ≡ count_ones (without snapshot marks) }
@@ -45,7 +28,7 @@ pub(crate) fn released_cells(snapshot: u64, marks: u64, header: u64) -> Released
     Released {
         count,
         words: count * words_under(header),
-        kept: kept_cells(snapshot, marks),
+        kept: u64::from((snapshot & marks).count_ones()),
     }
 }
 

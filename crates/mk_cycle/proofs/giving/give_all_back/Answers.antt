@@ -1,5 +1,6 @@
 use Rattle.std.proofs.Common.{◌<◌, sym, ap, subst, ◌∙◌}
-use Rattle.mk_words.specs.States.{PassState, WordsState, TurnState}
+use Rattle.mk_core.specs.Cells.{head_page}
+use Rattle.mk_words.specs.States.{PassState, WordsState, TurnState, now_of}
 use Rattle.mk_cycle.specs.Holding.{HoldsGates}
 use Rattle.mk_cycle.specs.Kinds.{is_giving_back, holds_gates}
 use Rattle.mk_cycle.proofs.FreeingSteps.{frees_then}
@@ -19,7 +20,9 @@ settle_pages-settled-requires-clause-cells g c page lt =
 pub settle_pages-settled-requires-clause-occupied : goal.settle_pages-settled-requires-clause-occupied
 settle_pages-settled-requires-clause-occupied g c page =
     let opens = c.open_gates-turn.ensures.opens in
-    same_occupied _ _ page (opens.same page) (opens.same _) ∙ c.release_unmarked.ensures.occupied page
+    same_occupied c.release_unmarked.new.stop.pass c.open_gates-turn.result.pass page (opens.same page)
+    (opens.same (head_page (now_of c.release_unmarked.new.stop.pass).words page))
+    ∙ c.release_unmarked.ensures.occupied page
 
 pub returns-clause-gives : goal.returns-clause-gives
 returns-clause-gives g c =
