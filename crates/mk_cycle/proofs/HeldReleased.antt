@@ -1,6 +1,6 @@
 -- What a `release` releases is held no longer: of that, the small allocations were held.
-use Rattle.std.proofs.Common.{◌≡◌, ℕ, zero, suc, ◌+◌, ◌*◌, ◌/◌, ◌++◌, Bool, true, false, cond, List, [], ◌∷◌, get_or, map}
-use Rattle.std.proofs.Common.{sum_by, refl, sym, ap, subst, ◌∙◌, append-nil, arith, inl, inr, zero-add}
+use Rattle.std.proofs.Common.{◌≡◌, ℕ, zero, suc, ◌+◌, ◌*◌, ◌/◌, ◌++◌, Bool, true, false, cond, List, [], ◌∷◌, get_or}
+use Rattle.std.proofs.Common.{map, sum_by, refl, sym, ap, subst, ◌∙◌, append-nil, arith, inl, inr, zero-add}
 use Rattle.std.specs.Prelude.{◌&&◌, ◌||◌, not, Option, if◌then◌else◌}
 use Rattle.std.proofs.lemmas.Bool.{cases_Bool, false_from_ne_true, true≢false}
 use Rattle.std.proofs.lemmas.List.Sums.{sum_by-cons}
@@ -17,10 +17,11 @@ use Rattle.mk_core.specs.declared.config.Config.{Config}
 use Rattle.mk_core.specs.declared.events.Event.{Event}
 use Rattle.mk_core.specs.declared.events.Step.TheVariants as step
 use Rattle.mk_core.specs.declared.seats.Object.{Object}
-use Rattle.mk_core.specs.Allocations.{PlacedAllocation, cell_of_allocation, held_by_allocations, is_mapped, never_granted}
-use Rattle.mk_core.specs.Allocations.{placed_at, storage_of, storage_words, unreleased_storage, with_released}
+use Rattle.mk_core.specs.Allocations.{PlacedAllocation, cell_of_allocation, held_by_allocations, is_mapped}
+use Rattle.mk_core.specs.Allocations.{never_granted, placed_at, storage_of, storage_words, unreleased_storage, with_released}
 use Rattle.mk_core.specs.Bounded.{is_some_and}
-use Rattle.mk_core.specs.Cells.{header_in, is_left_unmarked, is_unmapped_header, left_unmarked, pointed_cell, words_under}
+use Rattle.mk_core.specs.Cells.{header_in, is_left_unmarked, is_unmapped_header, left_unmarked, pointed_cell}
+use Rattle.mk_core.specs.Cells.{words_under}
 use Rattle.mk_core.specs.History.{World, IsHistory, left}
 use Rattle.mk_core.specs.NewPlaces.{is_run_gone, is_small_object}
 use Rattle.mk_core.specs.ObjectHeaders.{OfBlock, OfLater, OfLeafBlock, OfLeafRun, OfRun, ShowsPart}
@@ -69,8 +70,8 @@ unfolding unreleased_storage
 held_cons c a xs = held_first c a xs a.released refl
 
 -- where each of a list holds what it does after a change and, if the change releases it, this weight
-held_then : (c : Config) (f : PlacedAllocation → PlacedAllocation) (d : PlacedAllocation) (weight : PlacedAllocation → ℕ)
-    (xs : List PlacedAllocation)
+held_then : (c : Config) (f : PlacedAllocation → PlacedAllocation) (d : PlacedAllocation)
+    (weight : PlacedAllocation → ℕ) (xs : List PlacedAllocation)
     → ((i : ℕ) → held_part c (get_or xs i d)
     ≡ held_part c (f (get_or xs i d)) + cond (is_new f (get_or xs i d)) (weight (get_or xs i d)) 0)
     → held_by_allocations c xs

@@ -23,8 +23,8 @@ use Rattle.mk_cycle.specs.TurnKeeps.{InTurn}
 use Rattle.mk_cycle.proofs.CountedPages.{counted_more, held_more, held_same, none_held, nothing_on, same_released}
 use Rattle.mk_cycle.proofs.CountedPages.{told_same}
 use Rattle.mk_cycle.proofs.FreeingSteps.{frees_nothing, frees_then}
-use Rattle.mk_cycle.proofs.SettledPages.{free_cells_stay, head_elsewhere, no_cells, no_snapshot, none_left, same_occupied}
-use Rattle.mk_cycle.proofs.SettledPages.{still_settled}
+use Rattle.mk_cycle.proofs.SettledPages.{free_cells_stay, head_elsewhere, no_cells, no_snapshot, none_left}
+use Rattle.mk_cycle.proofs.SettledPages.{same_occupied, still_settled}
 use Rattle.mk_cycle.proofs.SumsBelow.{sum_past}
 
 -- The pages below this one are settled and counted, and the others are as they were; those that also aren't before the
@@ -143,7 +143,8 @@ module _ (p q : PassState) (t : InTurn q) (n m end pages : ℕ) (le : n ≤ m) (
       → (r : ℕ) → r < m → IsSettledPage q r
   settled_past before occupied r lt = elim (cases_lt r n) [
     | inl below ↦ before r below
-    | inr above ↦ bare_is_settled q t r (bare_there r above lt) (occupied r above (past_end r above lt) (omega (arith, lt, few)))
+    | inr above ↦ bare_is_settled q t r (bare_there r above lt)
+        (occupied r above (past_end r above lt) (omega (arith, lt, few)))
   ]
 
   counted_past : ((r : ℕ) → n ≤ r → SamePage p q r)
@@ -178,9 +179,12 @@ module _ (p q : PassState) (t : InTurn q) (n m end pages : ℕ) (le : n ≤ m) (
 
 pub next_in_run : (w : Words) (from end count : ℕ) → from < end → from < count
     → IsNext (may_be_unsettled w end) from count (Some from)
-next_in_run w from end count here within =
-    (omega arith, within, ap (λ b. b || has_freed_cells w.freed from) (lt-ltb from end here),
-    λ r after lt. absurd (omega (arith, after, lt)))
+next_in_run w from end count here within = (
+  omega arith,
+  within,
+  ap (λ b. b || has_freed_cells w.freed from) (lt-ltb from end here),
+  λ r after lt. absurd (omega (arith, after, lt)),
+)
 
 pub next_past : (w : Words) (from end count : ℕ) (next : Option ℕ) → (from < end → count ≤ from)
     → IsNext (has_freed_cells w.freed) from count next → IsNext (may_be_unsettled w end) from count next
@@ -194,7 +198,10 @@ next_past w from end count next past is = by next is
 
     by : (next : Option ℕ) → IsNext (has_freed_cells w.freed) from count next
         → IsNext (may_be_unsettled w end) from count next
-    by (Some r) (after, lt, passes, between) =
-        (after, lt, same r after lt ∙ passes,
-        λ s far near. same s far (omega (arith, near, lt)) ∙ between s far near)
+    by (Some r) (after, lt, passes, between) = (
+      after,
+      lt,
+      same r after lt ∙ passes,
+      λ s far near. same s far (omega (arith, near, lt)) ∙ between s far near,
+    )
     by None none = λ r after lt. same r after lt ∙ none r after lt

@@ -1,6 +1,6 @@
 -- Pages are settled one after the other.
-use Rattle.std.proofs.Common.{◌≡◌, ◌≢◌, ◌⊎◌, ℕ, ◌+◌, ◌-◌, ◌*◌, ◌/◌, ◌^◌, ◌<◌, ◌≤◌, Bool, true, false, List, refl, sym, ap}
-use Rattle.std.proofs.Common.{subst, ◌∙◌, arith, inl, inr}
+use Rattle.std.proofs.Common.{◌≡◌, ◌≢◌, ◌⊎◌, ℕ, ◌+◌, ◌-◌, ◌*◌, ◌/◌, ◌^◌, ◌<◌, ◌≤◌, Bool, true, false, List, refl}
+use Rattle.std.proofs.Common.{sym, ap, subst, ◌∙◌, arith, inl, inr}
 use Rattle.std.specs.Prelude.{slice_index, ◌==◌, ◌&&◌, ◌||◌, not, Option, Some}
 use Rattle.std.proofs.lemmas.Bool.{cases_eq, eq-eqb, eqb-true, ne_eqb, and_from, and_parts, true≢false}
 use Rattle.std.proofs.lemmas.Bool.{eqb-false, false_from_ne_true, not-true, or_cases}
@@ -101,19 +101,6 @@ empties_here p t at page h is unused none =
     && (slice_index w.snapshot n == 0)) ≡ true) is
     (and_from _ _ (and_from _ _ (and_from _ _ refl (eq-eqb _ 0 unused)) (eq-eqb _ 0 freed)) (eq-eqb _ 0 snapshot))
 
--- A page without a header has no released cell.
-pub bare_left : (p : PassState) → InTurn p → (page : ℕ) → header_at (now_of p).words page ≡ 0
-    → left_unmarked (now_of p).words page ≡ 0
-bare_left p t page none =
-    let w : Words = (now_of p).words in
-    let order = (stands p.table.config p.seen t.history).all.order in
-    zero_from_bits (left_unmarked w page) (λ k. false_from_ne_true (has_bit (left_unmarked w page) k) (λ has.
-    let in_snapshot = (and_parts (has_bit (slice_index w.snapshot page) k) (not (has_bit (slice_index w.marks page) k))
-    (sym (has_bit_without (slice_index w.snapshot page) (slice_index w.marks page) k) ∙ has)).0 in
-    let small = order.known page k (order.quarantined.within page k in_snapshot) in
-    let no_cells : cells_under (header_in w page) ≡ 0 = ap (λ (n : ℕ). cells_under (header_of n)) none in
-    absurd (omega arith)))
-
 -- A page without freed cells has none in its snapshot.
 pub no_snapshot : (p : PassState) → InTurn p → (page : ℕ) → slice_index (now_of p).words.freed page ≡ 0
     → slice_index (now_of p).words.snapshot page ≡ 0
@@ -137,37 +124,15 @@ none_left p page none =
     let nothing : without 0 marks ≡ 0 = omega arith in
     ap (λ (n : ℕ). without n marks) none ∙ nothing
 
-pub bare_snapshot : (p : PassState) → InTurn p → (page : ℕ) → header_at (now_of p).words page ≡ 0
-    → slice_index (now_of p).words.snapshot page ≡ 0
-bare_snapshot p t page none =
-    let w : Words = (now_of p).words in
-    let order = (stands p.table.config p.seen t.history).all.order in
-    zero_from_bits (slice_index w.snapshot page)
-    (λ k. false_from_ne_true (has_bit (slice_index w.snapshot page) k) (λ has.
-    let small = order.known page k (order.quarantined.within page k has) in
-    let no_cells : cells_under (header_in w page) ≡ 0 = ap (λ (n : ℕ). cells_under (header_of n)) none in
-    absurd (omega arith)))
-
 -- what settles a page
 
 or_left : (a b : Bool) → a ≡ true → (a || b) ≡ true
 or_left a b h = ap (λ (x : Bool). x || b) h
 
-or_right : (a b : Bool) → b ≡ true → (a || b) ≡ true
-or_right true b h = refl
-or_right false b h = h
-
 pub settled_bare : (p : PassState) (page : ℕ) → left_unmarked (now_of p).words page ≡ 0
     → header_at (now_of p).words page ≡ 0 → IsSettledPage p page
 settled_bare p page none bare =
     and_from _ _ (eq-eqb _ 0 none) (or_left (header_at (now_of p).words page == 0) _ (eq-eqb _ 0 bare))
-
-pub settled_used : (p : PassState) (page : ℕ) → left_unmarked (now_of p).words page ≡ 0
-    → used_at (now_of p).words (head_page (now_of p).words page) ≢ 0 → IsSettledPage p page
-settled_used p page none used =
-    and_from _ _ (eq-eqb _ 0 none)
-    (or_right (header_at (now_of p).words page == 0) _
-    (ap not (ne_eqb (used_at (now_of p).words (head_page (now_of p).words page)) 0 used)))
 
 pub settled_left : (p : PassState) (page : ℕ) → IsSettledPage p page → left_unmarked (now_of p).words page ≡ 0
 settled_left p page h = eqb-true _ 0 (and_parts (left_unmarked (now_of p).words page == 0) _ h).0
@@ -257,9 +222,7 @@ pub none_left_on : (a : PassState) (page quarantine : ℕ) → InTurn a
     (slice_index (now_of a).words.snapshot page)
     → quarantine / 2 ^ 32 ≡ 0 → left_unmarked (now_of a).words page ≡ 0
 none_left_on a page quarantine t word none =
-    let marks : ℕ = slice_index (now_of a).words.marks page in
-    let nothing : without 0 marks ≡ 0 = omega arith in
-    ap (λ (n : ℕ). without n marks) (sym (halves a page quarantine t word).snapshot ∙ none) ∙ nothing
+    none_left a page (sym (halves a page quarantine t word).snapshot ∙ none)
 
 -- No cell is released at the head of the page's run: it is the page itself, or one that is settled.
 pub none_at : (p q : PassState) (page h : ℕ) → GivesBack page p q → h ≤ page

@@ -1,5 +1,5 @@
-//! Page by page, what was released is counted and given back, and pages on which nothing is left are freed: in one pass,
-//! which looks at the pages that have freed cells, and at the later pages of their runs.
+//! Page by page, what was released is counted and given back, and pages on which nothing is left are freed: in one
+//! pass, which looks at the pages that have freed cells, and at the later pages of their runs.
 ghost use Rattle.std.specs.Prelude.{◌≡◌, ◌+◌, ◌<◌, ◌≤◌, ℕ};
 ghost use Rattle.mk_core.specs.Cells.{head_page, left_unmarked};
 ghost use Rattle.mk_core.specs.Counts.{in_a_word};

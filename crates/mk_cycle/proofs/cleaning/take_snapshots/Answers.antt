@@ -29,7 +29,8 @@ loop-page-preserved c =
       op = x.op ∙ i.op;
       begun = omega (arith, within, same_pages);
       cleans = cleans_then p q r i.cleans x.cleans;
-      below = taken_more q r n x.cleans (taken_past q c.loop-page.from n c.in-Some.ensures.is i.below next.3) x.snapshot;
+      below = taken_more q r n x.cleans
+          (taken_past q c.loop-page.from n c.in-Some.ensures.is i.below next.3) x.snapshot;
     }
 
 same_pages : (c : In_default) → c.loop-page.turn.pass.table.config.pages ≡ c.args.words.now.config.pages
