@@ -1,8 +1,8 @@
 -- Pages are cleaned one by one, and others are passed over: what is known of those before goes on.
 use Rattle.std.proofs.Common.{◌≡◌, ℕ, ◌+◌, ◌<◌, ◌≤◌, false, sym, ◌∙◌, ap, below_more, inl, inr, arith}
-use Rattle.std.specs.Prelude.{◌==◌, not, slice_index}
-use Rattle.std.proofs.lemmas.Bool.{cases_Bool, cases_lt, eqb-true, true≢false}
-use Rattle.mk_page_map.specs.Members.{has_other_cells, is_in_use, page_at}
+use Rattle.std.specs.Prelude.{slice_index}
+use Rattle.std.proofs.lemmas.Bool.{cases_lt}
+use Rattle.mk_page_map.specs.Members.{has_freed_cells, is_in_use, page_at}
 use Rattle.mk_core.specs.Frames.{Steady}
 use Rattle.mk_core.specs.Words.{header_at}
 use Rattle.mk_laws.proofs.FreePages.{free_pages_have_nothing}
@@ -11,6 +11,7 @@ use Rattle.mk_words.specs.States.{PassState, now_of}
 use Rattle.mk_cycle.specs.Cleaning.{Cleans, HasTakenSnapshot, IsClean, IsCleanedPage, WasUndirty}
 use Rattle.mk_cycle.specs.TurnKeeps.{InTurn}
 use Rattle.mk_cycle.proofs.PageByPage.{no_header}
+use Rattle.mk_cycle.proofs.SettledPages.{no_cells, no_snapshot}
 use Rattle.mk_cycle.proofs.Undirty.{undirty_earlier, undirty_later, undirty_now}
 
 pub bare_stays : (p q : PassState) (page : ℕ) → Cleans p q → HasNoMarks (now_of p).words page
@@ -78,21 +79,16 @@ AreTaken p n = (page : ℕ) → page < n → HasTakenSnapshot p page
 pub taken_more : (p q : PassState) (n : ℕ) → Cleans p q → AreTaken p n → HasTakenSnapshot q n → AreTaken q (n + 1)
 taken_more p q n k before here = below_more _ _ (λ page lt. k.snapshot page (before page lt)) here
 
-pub taken_past : (p : PassState) (from n : ℕ) → AreTaken p from
+pub taken_past : (p : PassState) (from n : ℕ) → InTurn p → AreTaken p from
     → ((page : ℕ) → from ≤ page → page < n
-    → has_other_cells (now_of p).words.freed (now_of p).words.snapshot page ≡ false)
+    → has_freed_cells (now_of p).words.freed page ≡ false)
     → AreTaken p n
-taken_past p from n before more page lt = elim (cases_lt page from) [
+taken_past p from n t before more page lt = elim (cases_lt page from) [
   | inl low ↦ before page low
-  | inr high ↦ same_cells (slice_index (now_of p).words.freed page) (slice_index (now_of p).words.snapshot page)
-      (more page high lt)
+  | inr high ↦
+      let freed = no_cells (slice_index (now_of p).words.freed page) (more page high lt) in
+      no_snapshot p t page freed ∙ sym freed
 ]
-  where
-    same_cells : (f s : ℕ) → not (f == s) ≡ false → s ≡ f
-    same_cells f s h = elim (cases_Bool (f == s)) [
-      | inl is ↦ sym (eqb-true f s is)
-      | inr none ↦ absurd (true≢false (sym (ap not none) ∙ h))
-    ]
 
 pub clean_ready : (o p q : PassState) (page : ℕ) → IsCleanedPage page o p → Cleans p q → HasTakenSnapshot q page
     → IsClean q page

@@ -1,20 +1,21 @@
 -- What was released is counted page by page.
-use Rattle.std.proofs.Common.{◌≡◌, ℕ, zero, suc, ◌+◌, ◌*◌, ◌/◌, ◌^◌, ◌≤◌, bit_and, count_ones, List, refl, sym, ap, ◌∙◌}
-use Rattle.std.proofs.Common.{arith}
-use Rattle.std.specs.Prelude.{slice_index}
+use Rattle.std.proofs.Common.{◌≡◌, ℕ, zero, suc, ◌+◌, ◌*◌, ◌/◌, ◌^◌, ◌≤◌, Bool, true, false, bit_and, count_ones, List}
+use Rattle.std.proofs.Common.{refl, sym, ap, ◌∙◌, arith}
+use Rattle.std.specs.Prelude.{if◌then◌else◌, slice_index}
 use Rattle.mk_geom.specs.Headers.{header_of}
 use Rattle.mk_core.specs.Bits.{without}
 use Rattle.std.proofs.lemmas.Nat.{and_le_l, ones_le_self}
-use Rattle.mk_core.specs.Cells.{header_in, words_under}
+use Rattle.mk_core.specs.Cells.{header_in, is_unmapped_header, words_under}
 use Rattle.mk_core.specs.Words.{Words, header_at, quarantine_word}
 use Rattle.mk_words.specs.States.{PassState, now_of}
 use Rattle.mk_cycle.specs.declared.finishing.Released.{Released}
 use Rattle.mk_cycle.specs.Freeing.{GivesNothingBack, PageState, SamePage}
-use Rattle.mk_cycle.specs.ReleasedPages.{released_below, released_on}
+use Rattle.mk_cycle.specs.ReleasedPages.{held_below, held_unmarked, released_below, released_on, words_unmarked}
 use Rattle.mk_cycle.specs.TurnKeeps.{InTurn}
 use Rattle.mk_cycle.proofs.CleaningSteps.{halves}
 use Rattle.mk_cycle.proofs.GivingSteps.{none_then}
 use Rattle.mk_cycle.proofs.PageSteps.{same_header}
+use Rattle.mk_cycle.proofs.SumsBelow.{sum_same}
 
 pub same_released : (a b : Released) → a.count ≡ b.count → a.words ≡ b.words → a.kept ≡ b.kept → a ≡ b
 same_released a b count words kept =
@@ -120,3 +121,42 @@ told_alike_below p q k zero = refl
 told_alike_below p q k (suc n) =
     ap (λ (r : Released). sum_of r (released_on (now_of q).words n)) (told_alike_below p q k n)
     ∙ ap (λ (r : Released). sum_of (released_below (now_of p).words n) r) (told_alike p q n k)
+
+-- Of its released words those of an unmapped run aren't held.
+
+pub held_by_header : (w : Words) (page header words : ℕ) → header ≡ header_at w page → words ≡ words_unmarked w page
+    → (if is_unmapped_header (header_of header) then 0 else words) ≡ held_unmarked w page
+held_by_header w page header words is counted =
+    ap (λ (n : ℕ). if is_unmapped_header (header_of n) then 0 else words) is
+    ∙ ap (λ (n : ℕ). if is_unmapped_header (header_in w page) then 0 else n) counted
+
+pub none_held : (w : Words) (page : ℕ) → record { count = 0; words = 0; kept = 0 } ≡ released_on w page
+    → 0 ≡ held_unmarked w page
+none_held w page none =
+    either (is_unmapped_header (header_in w page))
+    ∙ ap (λ (r : Released). if is_unmapped_header (header_in w page) then 0 else r.words) none
+  where
+    either : (b : Bool) → ◌≡◌ {A = ℕ} 0 (if b then 0 else 0)
+    either true = refl
+    either false = refl
+
+pub held_same : (p q : PassState) (page : ℕ) → (now_of q).words.marks ≡ (now_of p).words.marks → SamePage p q page
+    → held_unmarked (now_of q).words page ≡ held_unmarked (now_of p).words page
+held_same p q page marks same =
+    sym (held_by_header (now_of q).words page (header_at (now_of q).words page) _ refl refl)
+    ∙ held_by_header (now_of p).words page (header_at (now_of q).words page)
+    (words_unmarked (now_of q).words page) (same_header p q page same)
+    (ap (λ (r : Released). r.words) (told_same p q page marks same))
+
+pub held_alike_below : (p q : PassState) → GivesNothingBack p q → (n : ℕ)
+    → held_below (now_of q).words n ≡ held_below (now_of p).words n
+held_alike_below p q k n =
+    sum_same n (held_unmarked (now_of q).words) (held_unmarked (now_of p).words)
+    (λ page lt. held_same p q page k.frees.marks (k.same page))
+
+pub held_more : (w : Words) (page all here : ℕ) → all ≡ held_below w page → here ≡ held_unmarked w page
+    → all + here ≡ held_below w (page + 1)
+held_more w page all here before now =
+    let next : suc page ≡ page + 1 = omega arith in
+    let one : all + here ≡ held_below w page + held_unmarked w page = omega (arith, before, now) in
+    one ∙ ap (held_below w) next

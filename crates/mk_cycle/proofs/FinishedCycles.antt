@@ -1,11 +1,9 @@
 -- All of a finish: what was released is given back, the cycle ends, and the tallies are set.
-use Rattle.std.proofs.Common.{◌≡◌, ℕ, ◌+◌, ◌<◌, true, List, [], length, map, sym, ap, subst, ◌∙◌, arith}
-use Rattle.std.specs.Prelude.{not, ◌==◌, ◌||◌}
-use Rattle.mk_geom.proofs.HeldWords.{pages_hold_mapped_words}
+use Rattle.std.proofs.Common.{◌≡◌, ℕ, ◌+◌, ◌-◌, ◌<◌, true, List, [], length, map, sym, ap, subst, ◌∙◌, arith}
+use Rattle.std.specs.Prelude.{not, ◌||◌}
 use Rattle.mk_core.specs.declared.config.Config.{Config}
 use Rattle.mk_core.specs.declared.events.Step.TheVariants as step
-use Rattle.mk_core.specs.Allocations.{PlacedAllocation, fresh_words_of, held_by_allocations, unreleased_storage}
-use Rattle.mk_core.specs.Allocations.{with_released}
+use Rattle.mk_core.specs.Allocations.{PlacedAllocation, fresh_words_of, held_by_allocations, with_released}
 use Rattle.mk_geom.specs.Addresses.{address_of}
 use Rattle.mk_core.specs.Bounded.{is_some_and}
 use Rattle.mk_core.specs.Cells.{is_left_unmarked, pointed_cell}
@@ -13,18 +11,14 @@ use Rattle.mk_core.specs.Counts.{TalliesAreExact, TalliesAreTidy, ends, full_ans
 use Rattle.mk_core.specs.Effects.{cycle_ended}
 use Rattle.mk_core.specs.Frames.{CountsAreLeft, Steady, steady_of}
 use Rattle.mk_core.specs.Moments.{is_held, none_is_held}
-use Rattle.mk_core.specs.TurnConditions.{held_by_pages}
 use Rattle.mk_core.specs.Words.{Words}
 use Rattle.mk_core.proofs.AllBelow.{all_below-at}
-use Rattle.mk_laws.specs.SettledPages.{IsSettled}
-use Rattle.mk_laws.proofs.Settled.{gone_is_unmapped}
-use Rattle.mk_laws.proofs.InvariantTheorems.{pages_show_the_storage}
 use Rattle.mk_words.specs.States.{PassState, world_of, now_of}
 use Rattle.mk_words.specs.TurnSteps.{Acts}
 use Rattle.mk_cycle.specs.declared.finishing.Released.{Released}
 use Rattle.mk_cycle.specs.BeginCycle.{BeginsCycle}
 use Rattle.mk_cycle.specs.EngineLaw.{IsAtPhase, IsFreeForCycle, is_pending_free}
-use Rattle.mk_cycle.specs.FinishCycle.{FinishesCycle, HasReleased, newly_released}
+use Rattle.mk_cycle.specs.FinishCycle.{FinishesCycle, HasReleased, HoldsFewer, newly_released}
 use Rattle.mk_cycle.specs.GivingAll.{GivesAllBack}
 use Rattle.mk_cycle.specs.Releasing.{words_released}
 use Rattle.mk_cycle.specs.Tallying.{Sets, with_cycle_counted}
@@ -33,6 +27,7 @@ use Rattle.mk_laws.specs.Protocol.{has_place}
 use Rattle.mk_cycle.proofs.BeginSteps.{all_from, counts_then}
 use Rattle.mk_cycle.proofs.EndSteps.{as_many_fulls, ended_call, ended_done, ended_gates, ended_gone, one_more_end}
 use Rattle.mk_cycle.proofs.EndSteps.{steady_ended}
+use Rattle.mk_cycle.proofs.HeldReleased.{held_alike}
 use Rattle.mk_cycle.proofs.KeptInParts.{calls_then, free_then, gates_then, same_config}
 use Rattle.mk_cycle.proofs.NewlyReleased.{newly_added}
 use Rattle.mk_cycle.proofs.OwnSteps.{same_pass}
@@ -83,7 +78,8 @@ none_held callers v w same h =
 
 module _ (p g e q : PassState) (r : Released) (gives : GivesAllBack p g) (free : IsFreeForCycle p) (t : InTurn g)
     (a : Acts g step.End e)
-    (u : InTurn e) (sets : Sets (with_cycle_counted (now_of e).words r.count) e q) (told : HasReleased p g r) where
+    (u : InTurn e) (held : ℕ) (sets : Sets (with_cycle_counted (now_of e).words held r.count) e q)
+    (told : HasReleased p g r) (fewer : HoldsFewer p g held) where
   abbrev c : Config
   c = p.table.config
 
@@ -110,8 +106,8 @@ module _ (p g e q : PassState) (r : Released) (gives : GivesAllBack p g) (free :
   steady_e = steady_ended g e t gives.phase u a
 
   steady_q : steady_of (world_of q)
-      ≡ with_cycle_counted (now_of e).words r.count (record (steady_of (world_of g)) { phase = 0 })
-  steady_q = sets.steady ∙ ap (λ (s : Steady). with_cycle_counted (now_of e).words r.count s) steady_e
+      ≡ with_cycle_counted (now_of e).words held r.count (record (steady_of (world_of g)) { phase = 0 })
+  steady_q = sets.steady ∙ ap (λ (s : Steady). with_cycle_counted (now_of e).words held r.count s) steady_e
 
   same_g : (world_of q).allocations ≡ (world_of g).allocations
   same_g = ap (λ (s : Steady). s.allocations) steady_q
@@ -129,21 +125,6 @@ module _ (p g e q : PassState) (r : Released) (gives : GivesAllBack p g) (free :
 
   done_e : done_of (now_of e) ≡ record (done_of (now_of g)) { cycle = cycle_ended (now_of g).seats.holding.cycle }
   done_e = ended_done g e t gives.phase u a
-
-  -- nothing is on its way after the `end`
-  settled : IsSettled (world_of e)
-  settled =
-      record {
-        releasing = ap (λ (s : Steady). s.phase == 4) steady_e;
-        placing = ap (λ (x : Done). has_place x.placing) done_e ∙ free_g.unplaced;
-        unmapped = gone_is_unmapped (now_of e).words (now_of e).seats.holding.freed
-            (ended_gone g e t gives.phase u a free_g.gone);
-      }
-
-  held_e : held_by_pages (now_of e).words ≡ held_by_allocations e.table.config (world_of e).allocations
-  held_e =
-      pages_hold_mapped_words (now_of e).words.pages (unreleased_storage e.table.config (world_of e).allocations)
-      (pages_show_the_storage e.table.config e.seen u.history settled)
 
   tallies_g : but_given (steady_of (world_of g)) ≡ but_given (steady_of (world_of p))
   tallies_g = gives_steady p g gives
@@ -163,12 +144,12 @@ module _ (p g e q : PassState) (r : Released) (gives : GivesAllBack p g) (free :
   unfolding but_given
   exact_q x =
       let same : q.table.config ≡ c = same_config p q pass_q in
+      let before : (now_of e).words.held ≡ held_by_allocations c (world_of p).allocations =
+      ap (λ (s : Steady). s.held) steady_e ∙ ap (λ (s : Steady). s.held) tallies_g ∙ x.held in
+      let now : (now_of q).words.held ≡ (now_of e).words.held - held = ap (λ (s : Steady). s.held) sets.steady in
+      let alike = held_alike g q (same ∙ sym (same_config p g pass_g)) same_g in
       record {
-        held =
-            ap (λ (s : Steady). s.held) sets.steady ∙ held_e
-            ∙ ap (λ (d : Config). held_by_allocations d (world_of e).allocations)
-            (sym (ap (λ (y : PassState). y.table.config) sets.call.pass))
-            ∙ ap (λ (s : Steady). held_by_allocations q.table.config s.allocations) (sym sets.steady);
+        held = omega (arith, before, now, alike, fewer);
         fresh =
             ap (λ (s : Steady). s.fresh) steady_q ∙ ap (λ (s : Steady). s.fresh) tallies_g ∙ x.fresh
             ∙ ap in_a_word (sym (ap (λ (d : Config). fresh_words_of d (world_of q).allocations) same ∙ fresh_same));

@@ -1,5 +1,5 @@
 -- The stop and the giving back, joined.
-use Rattle.std.proofs.Common.{◌≡◌, ℕ, ◌<◌, true, sym, ap, subst, ◌∙◌}
+use Rattle.std.proofs.Common.{◌≡◌, ℕ, ◌<◌, true, sym, ap, subst, ◌∙◌, arith}
 use Rattle.std.specs.Prelude.{not}
 use Rattle.std.proofs.lemmas.Bool.{not-true}
 use Rattle.mk_core.specs.declared.config.Config.{Config}
@@ -9,15 +9,16 @@ use Rattle.mk_core.proofs.AllBelow.{all_below-at}
 use Rattle.mk_words.specs.States.{WordsState, PassState, now_of}
 use Rattle.mk_cycle.specs.declared.finishing.Released.{Released}
 use Rattle.mk_cycle.specs.EngineLaw.{IsFreeForCycle, IsAtPhase}
-use Rattle.mk_cycle.specs.FinishCycle.{HasReleased}
+use Rattle.mk_cycle.specs.FinishCycle.{HasReleased, HoldsFewer}
 use Rattle.mk_cycle.specs.Freeing.{Frees, GivesNothingBack, IsSettledPage}
 use Rattle.mk_cycle.specs.GivingAll.{GivesAllBack}
 use Rattle.mk_cycle.specs.Holding.{HoldsGates}
-use Rattle.mk_cycle.specs.ReleasedPages.{released_below}
+use Rattle.mk_cycle.specs.ReleasedPages.{held_below, released_below}
 use Rattle.mk_cycle.specs.Releasing.{ReleasesUnmarked}
 use Rattle.mk_cycle.proofs.BeginSteps.{all_from}
-use Rattle.mk_cycle.proofs.CountedPages.{told_alike_below}
+use Rattle.mk_cycle.proofs.CountedPages.{held_alike_below, told_alike_below}
 use Rattle.mk_cycle.proofs.FreeingSteps.{freed_phase, frees_then}
+use Rattle.mk_cycle.proofs.HeldReleased.{held_alike}
 use Rattle.mk_cycle.proofs.KeptInParts.{free_then}
 use Rattle.mk_cycle.proofs.ReleasedCounts.{told_from, told_to}
 
@@ -69,3 +70,14 @@ all_told p h r o q n counted holds opens frees told is =
     (told_to p r q _ (ap (λ (s : Steady). s.allocations) ((frees_then r o q opens.frees frees).keeps.steady))
     (told_from p h r _ (ap (λ (x : PassState). x.table.config) holds.keeps.call.pass)
     (ap (λ (s : Steady). s.allocations) holds.keeps.steady) told))
+
+pub all_held : (p h r o q : PassState) (n held : ℕ) → HoldsGates p h → GivesNothingBack r o → Frees o q
+    → HoldsFewer h r (held_below (now_of r).words n) → held ≡ held_below (now_of o).words n → HoldsFewer p q held
+all_held p h r o q n held holds opens frees told is =
+    let gives = frees_then r o q opens.frees frees in
+    let before = held_alike p h (ap (λ (x : PassState). x.table.config) holds.keeps.call.pass)
+    (ap (λ (s : Steady). s.allocations) holds.keeps.steady) in
+    let behind = held_alike r q (ap (λ (x : PassState). x.table.config) gives.keeps.call.pass)
+    (ap (λ (s : Steady). s.allocations) gives.keeps.steady) in
+    let same = held_alike_below r o opens n in
+    omega (arith, before, behind, told, same, is)

@@ -22,9 +22,9 @@ pub mod SumsBelow
 pub mod CellCounts
 pub mod NewlyReleased
 pub mod ReleasedCounts
+pub mod HeldReleased
 pub mod CountedPages
 pub mod TallySteps
-pub mod HeldPages
 pub mod FinishedCycles
 pub mod Sweepless
 pub mod Told

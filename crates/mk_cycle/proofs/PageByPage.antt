@@ -1,46 +1,53 @@
--- Pages are settled one by one, and free pages are passed over: what is known of those before, and of those still to
--- come, goes on.
+-- Pages are settled one by one, and pages without freed cells are passed over: what is known of those before, and of
+-- those still to come, goes on.
 use Rattle.std.proofs.Common.{◌≡◌, ℕ, ◌+◌, ◌<◌, ◌≤◌, ◌∙◌, false, ap, arith, below_more, inl, inr, refl, sym}
-use Rattle.std.specs.Prelude.{not, Option, Some, None}
-use Rattle.std.proofs.lemmas.Bool.{cases_lt}
+use Rattle.std.specs.Prelude.{◌||◌, not, nat_lt, Option, Some, None, slice_index}
+use Rattle.std.proofs.lemmas.Bool.{and_from, cases_lt, eq-eqb, le-ltb, lt-ltb, ltb-false, or_parts}
 use Rattle.mk_geom.specs.declared.headers.Header.{Header}
 use Rattle.mk_geom.specs.declared.headers.Header.TheVariants.{Free, Block, Run, Later, LeafBlock, LeafRun}
 use Rattle.mk_geom.specs.Headers.{header_of}
 use Rattle.mk_geom.specs.PageUses.{is_free_page}
 use Rattle.mk_geom.specs.PageWords.{use_under}
 use Rattle.mk_geom.proofs.HeaderLemmas.{word_of-header_of}
-use Rattle.mk_page_map.specs.Members.{is_in_use}
+use Rattle.mk_page_map.specs.Members.{IsNext, has_freed_cells, is_in_use}
+use Rattle.mk_core.specs.Cells.{header_in, head_page, left_unmarked}
 use Rattle.mk_core.specs.Words.{Words, header_at, used_at}
+use Rattle.mk_laws.specs.LayoutScene.{run_count}
 use Rattle.mk_words.specs.States.{PassState, now_of}
 use Rattle.mk_cycle.specs.declared.finishing.Released.{Released}
-use Rattle.mk_cycle.specs.Freeing.{Frees, FreesPage, HasFreeCells, IsSettledPage, PageState, SamePage}
-use Rattle.mk_cycle.specs.HeldPages.{held_at}
-use Rattle.mk_cycle.specs.ReleasedPages.{cells_marked, cells_unmarked, released_below, released_on, sum_below}
-use Rattle.mk_cycle.specs.ReleasedPages.{words_unmarked}
+use Rattle.mk_cycle.specs.Freeing.{Frees, FreesPage, HasFreeCells, IsOccupied, IsSettledPage, PageState, SamePage}
+use Rattle.mk_cycle.specs.Freeing.{may_be_unsettled}
+use Rattle.mk_cycle.specs.ReleasedPages.{cells_marked, cells_unmarked, held_below, held_unmarked, released_below}
+use Rattle.mk_cycle.specs.ReleasedPages.{released_on, words_unmarked}
 use Rattle.mk_cycle.specs.TurnKeeps.{InTurn}
-use Rattle.mk_cycle.proofs.CountedPages.{counted_more, nothing_on, same_released, told_same}
+use Rattle.mk_cycle.proofs.CountedPages.{counted_more, held_more, held_same, none_held, nothing_on, same_released}
+use Rattle.mk_cycle.proofs.CountedPages.{told_same}
 use Rattle.mk_cycle.proofs.FreeingSteps.{frees_nothing, frees_then}
-use Rattle.mk_cycle.proofs.HeldPages.{free_holds, held_more}
-use Rattle.mk_cycle.proofs.SettledPages.{bare_left, bare_snapshot, free_cells_stay, settled_bare, still_settled}
+use Rattle.mk_cycle.proofs.SettledPages.{free_cells_stay, head_elsewhere, no_cells, no_snapshot, none_left}
+use Rattle.mk_cycle.proofs.SettledPages.{same_occupied, still_settled}
 use Rattle.mk_cycle.proofs.SumsBelow.{sum_past}
 
--- The pages below this one are settled and counted, and the others are as they were.
-pub record AreSettledBelow (p q : PassState) (pages n : ℕ) (all : Released) (held : ℕ) : Type 0 where
+-- The pages below this one are settled and counted, and the others are as they were; those that also aren't before the
+-- end of a run are occupied.
+pub record AreSettledBelow (p q : PassState) (pages n end : ℕ) (all : Released) (held : ℕ) : Type 0 where
   pub frees : Frees p q
   pub settled : (r : ℕ) → r < n → IsSettledPage q r
   pub cells : (r : ℕ) → n ≤ r → r < pages → HasFreeCells q r
   pub same : (r : ℕ) → n ≤ r → SamePage p q r
+  pub occupied : (r : ℕ) → n ≤ r → end ≤ r → r < pages → IsOccupied q r
   pub counted : all ≡ released_below (now_of p).words n
-  pub holds : held ≡ sum_below n (held_at q)
+  pub holds : held ≡ held_below (now_of p).words n
 
 pub settled_none : (p : PassState) (pages : ℕ) → ((r : ℕ) → r < pages → HasFreeCells p r)
-    → AreSettledBelow p p pages 0 (record { count = 0; words = 0; kept = 0 }) 0
-settled_none p pages cells =
+    → ((r : ℕ) → IsOccupied p r)
+    → AreSettledBelow p p pages 0 0 (record { count = 0; words = 0; kept = 0 }) 0
+settled_none p pages cells occupied =
     record {
       frees = frees_nothing p;
       settled = λ r lt. absurd (omega arith);
       cells = λ r le lt. cells r lt;
       same = λ r le. refl;
+      occupied = λ r le past lt. occupied r;
       counted = refl;
       holds = refl;
     }
@@ -58,23 +65,40 @@ module _ (p q r : PassState) (n pages : ℕ) (page : FreesPage n q r) where
   same_on : ((s : ℕ) → n ≤ s → SamePage p q s) → (s : ℕ) → n + 1 ≤ s → SamePage p r s
   same_on before s le = page.others s (λ e. absurd (omega (arith, e, le))) ∙ before s (omega (arith, le))
 
-  pub settled_more : (all here : Released) (held holds : ℕ) → AreSettledBelow p q pages n all held
-      → IsSettledPage r n → here ≡ released_on (now_of q).words n → holds ≡ held_at r n
-      → AreSettledBelow p r pages (n + 1)
+  -- A page past the run that is headed there has its head elsewhere, so it stays occupied.
+  occupied_on : InTurn q → (end now : ℕ) → end ≤ now
+      → ((s : ℕ) → now ≤ s → n < s → s < pages → n + run_count (header_in (now_of q).words n) ≤ s)
+      → ((s : ℕ) → n ≤ s → end ≤ s → s < pages → IsOccupied q s)
+      → (s : ℕ) → n + 1 ≤ s → now ≤ s → s < pages → IsOccupied r s
+  occupied_on t end now le past before s after far few =
+      let was = before s (omega (arith, after)) (omega (arith, le, far)) few in
+      let lt : n < s = omega (arith, after) in
+      same_occupied q r s (page.others s (λ e. absurd (omega (arith, e, after))))
+      (page.others (head_page (now_of q).words s) (head_elsewhere q t n s lt (past s far lt few) was))
+      ∙ was
+
+  pub settled_more : InTurn q → (end now : ℕ) → end ≤ now
+      → ((s : ℕ) → now ≤ s → n < s → s < pages → n + run_count (header_in (now_of q).words n) ≤ s)
+      → (all here : Released) (held more : ℕ) → AreSettledBelow p q pages n end all held
+      → IsSettledPage r n → here ≡ released_on (now_of q).words n
+      → more ≡ held_unmarked (now_of q).words n
+      → AreSettledBelow p r pages (n + 1) now
       (record { count = all.count + here.count; words = all.words + here.words; kept = all.kept + here.kept })
-      (held + holds)
-  settled_more all here held holds before settled counted is_held =
+      (held + more)
+  settled_more t end now le past all here held more before settled counted is_held =
       record {
         frees = frees_then p q r before.frees page.frees;
         settled = settled_on before.settled settled;
         cells = cells_on before.cells;
         same = same_on before.same;
+        occupied = occupied_on t end now le past before.occupied;
         counted = counted_more (now_of p).words n all here before.counted
             (counted ∙ told_same p q n before.frees.marks (before.same n (omega arith)));
-        holds = held_more q r n held holds page before.holds is_held;
+        holds = held_more (now_of p).words n held more before.holds
+            (is_held ∙ held_same p q n before.frees.marks (before.same n (omega arith)));
       }
 
--- A page that isn't in use has no header,
+-- A page that isn't in use has no header.
 
 free_header : (h : ℕ) (x : Option Header) (u : ℕ) → header_of h ≡ x → not (is_free_page (use_under x u)) ≡ false
     → h ≡ 0
@@ -89,30 +113,38 @@ free_header h (Some (Later d m)) u is free = cc
 pub no_header : (w : Words) (n : ℕ) → is_in_use w.pages n ≡ false → header_at w n ≡ 0
 no_header w n free = free_header (header_at w n) (header_of (header_at w n)) (used_at w n) refl free
 
--- so it is settled, nothing was released on it, and it holds nothing.
-module _ (q : PassState) (t : InTurn q) (n : ℕ) (free : is_in_use (now_of q).words.pages n ≡ false) where
-  free_is_settled : IsSettledPage q n
-  free_is_settled =
-      let none = no_header (now_of q).words n free in
-      settled_bare q n (bare_left q t n none) none
+not_below : (r end : ℕ) → nat_lt r end ≡ false → end ≤ r
+not_below r end h = ltb-false r end h
+
+-- A page without freed cells that is occupied is settled, and nothing was released on it.
+module _ (q : PassState) (t : InTurn q) (n : ℕ) (bare : has_freed_cells (now_of q).words.freed n ≡ false) where
+  snapshot_none : slice_index (now_of q).words.snapshot n ≡ 0
+  snapshot_none = no_snapshot q t n (no_cells (slice_index (now_of q).words.freed n) bare)
+
+  bare_is_settled : IsOccupied q n → IsSettledPage q n
+  bare_is_settled occupied =
+      and_from _ _ (eq-eqb (left_unmarked (now_of q).words n) 0 (none_left q n snapshot_none)) occupied
 
   nothing_released : (p : PassState) → SamePage p q n
       → ◌≡◌ {A = Released} (record { count = 0; words = 0; kept = 0 }) (released_on (now_of p).words n)
   nothing_released p same =
-      nothing_on (now_of p).words n
-      (sym (ap (λ (x : PageState). x.snapshot) same) ∙ bare_snapshot q t n (no_header (now_of q).words n free))
+      nothing_on (now_of p).words n (sym (ap (λ (x : PageState). x.snapshot) same) ∙ snapshot_none)
 
-  holds_nothing : held_at q n ≡ 0
-  holds_nothing =
-      sym (free_holds (now_of q).words n (header_at (now_of q).words n) refl (no_header (now_of q).words n free))
+-- Pages that aren't unsettled are passed over.
+module _ (p q : PassState) (t : InTurn q) (n m end pages : ℕ) (le : n ≤ m) (few : m ≤ pages)
+    (out : (r : ℕ) → n ≤ r → r < m → may_be_unsettled (now_of q).words end r ≡ false) where
+  bare_there : (r : ℕ) → n ≤ r → r < m → has_freed_cells (now_of q).words.freed r ≡ false
+  bare_there r after lt = (or_parts _ _ (out r after lt)).1
 
--- Free pages are passed over.
-module _ (p q : PassState) (t : InTurn q) (n m : ℕ) (le : n ≤ m)
-    (free : (r : ℕ) → n ≤ r → r < m → is_in_use (now_of q).words.pages r ≡ false) where
-  settled_past : ((r : ℕ) → r < n → IsSettledPage q r) → (r : ℕ) → r < m → IsSettledPage q r
-  settled_past before r lt = elim (cases_lt r n) [
+  past_end : (r : ℕ) → n ≤ r → r < m → end ≤ r
+  past_end r after lt = not_below r end (or_parts _ _ (out r after lt)).0
+
+  settled_past : ((r : ℕ) → r < n → IsSettledPage q r) → ((r : ℕ) → n ≤ r → end ≤ r → r < pages → IsOccupied q r)
+      → (r : ℕ) → r < m → IsSettledPage q r
+  settled_past before occupied r lt = elim (cases_lt r n) [
     | inl below ↦ before r below
-    | inr above ↦ free_is_settled q t r (free r (omega arith) lt)
+    | inr above ↦ bare_is_settled q t r (bare_there r above lt)
+        (occupied r above (past_end r above lt) (omega (arith, lt, few)))
   ]
 
   counted_past : ((r : ℕ) → n ≤ r → SamePage p q r)
@@ -121,21 +153,55 @@ module _ (p q : PassState) (t : InTurn q) (n m : ℕ) (le : n ≤ m)
       let w : Words = (now_of p).words in
       let none : (r : ℕ) → n ≤ r → r < m
       → ◌≡◌ {A = Released} (record { count = 0; words = 0; kept = 0 }) (released_on w r) =
-      λ r after lt. nothing_released q t r (free r after lt) p (same r after) in
+      λ r after lt. nothing_released q t r (bare_there r after lt) p (same r after) in
       same_released (released_below w n) (released_below w m)
       (sym (sum_past n m (cells_unmarked w) le (λ r after lt. sym (ap (λ (x : Released). x.count) (none r after lt)))))
       (sym (sum_past n m (words_unmarked w) le (λ r after lt. sym (ap (λ (x : Released). x.words) (none r after lt)))))
       (sym (sum_past n m (cells_marked w) le (λ r after lt. sym (ap (λ (x : Released). x.kept) (none r after lt)))))
 
-  pub settled_to : (pages : ℕ) (all : Released) (held : ℕ) → AreSettledBelow p q pages n all held
-      → AreSettledBelow p q pages m all held
-  settled_to pages all held before =
+  pub settled_to : (all : Released) (held : ℕ) → AreSettledBelow p q pages n end all held
+      → AreSettledBelow p q pages m end all held
+  settled_to all held before =
       record {
         frees = before.frees;
-        settled = settled_past before.settled;
+        settled = settled_past before.settled before.occupied;
         cells = λ r after lt. before.cells r (omega (arith, le, after)) lt;
         same = λ r after. before.same r (omega (arith, le, after));
+        occupied = λ r after far lt. before.occupied r (omega (arith, le, after)) far lt;
         counted = before.counted ∙ counted_past before.same;
         holds = before.holds
-            ∙ sym (sum_past n m (held_at q) le (λ r after lt. holds_nothing q t r (free r after lt)));
+            ∙ sym (sum_past n m (held_unmarked (now_of p).words) le
+            (λ r after lt. sym (none_held (now_of p).words r
+            (nothing_released q t r (bare_there r after lt) p (before.same r after)))));
       }
+
+-- the next page that may be unsettled: the first, up to the end of a run, and after it the next that has freed cells
+
+pub next_in_run : (w : Words) (from end count : ℕ) → from < end → from < count
+    → IsNext (may_be_unsettled w end) from count (Some from)
+next_in_run w from end count here within = (
+  omega arith,
+  within,
+  ap (λ b. b || has_freed_cells w.freed from) (lt-ltb from end here),
+  λ r after lt. absurd (omega (arith, after, lt)),
+)
+
+pub next_past : (w : Words) (from end count : ℕ) (next : Option ℕ) → (from < end → count ≤ from)
+    → IsNext (has_freed_cells w.freed) from count next → IsNext (may_be_unsettled w end) from count next
+next_past w from end count next past is = by next is
+  where
+    same : (r : ℕ) → from ≤ r → r < count → may_be_unsettled w end r ≡ has_freed_cells w.freed r
+    same r after lt = elim (cases_lt from end) [
+      | inl here ↦ let gone = past here in absurd (omega (arith, gone, after, lt))
+      | inr there ↦ ap (λ b. b || has_freed_cells w.freed r) (le-ltb r end (omega (arith, there, after)))
+    ]
+
+    by : (next : Option ℕ) → IsNext (has_freed_cells w.freed) from count next
+        → IsNext (may_be_unsettled w end) from count next
+    by (Some r) (after, lt, passes, between) = (
+      after,
+      lt,
+      same r after lt ∙ passes,
+      λ s far near. same s far (omega (arith, near, lt)) ∙ between s far near,
+    )
+    by None none = λ r after lt. same r after lt ∙ none r after lt

@@ -2,7 +2,7 @@
 use Rattle.std.proofs.Common.{◌≡◌, ℕ, ◌+◌, ◌*◌, ◌/◌, ◌<◌, ◌++◌, Bool, true, false, List, refl, sym, ap, subst, ◌∙◌}
 use Rattle.std.proofs.Common.{arith, inl, inr}
 use Rattle.std.specs.Prelude.{◌⊎◌, slice_index, ◌==◌, ◌&&◌, ◌||◌, not, map, Option}
-use Rattle.std.proofs.lemmas.Bool.{and_parts, true≢false}
+use Rattle.std.proofs.lemmas.Bool.{and_parts, cases_eq, eq-eqb, ne_eqb, or_right, true≢false}
 use Rattle.std.proofs.Math.Bool.{and-false}
 use Rattle.mk_never.specs.Types.{kinds_of, is_large}
 use Rattle.mk_geom.specs.declared.addresses.Cell.{Cell}
@@ -14,17 +14,19 @@ use Rattle.mk_core.specs.declared.events.Event.{Event}
 use Rattle.mk_core.specs.declared.events.Step.TheVariants as step
 use Rattle.mk_core.specs.declared.seats.Holding.{Holding}
 use Rattle.mk_core.specs.declared.seats.Object.{Object}
+use Rattle.mk_core.specs.declared.seats.Placing.{Placing}
+use Rattle.mk_core.specs.declared.seats.Placing.TheVariants.{Chosen, Granted, Unplaced, Used}
 use Rattle.mk_core.specs.Allocations.{PlacedAllocation, is_mapped, placed_at, storage_of, storage_words, with_released}
 use Rattle.mk_core.specs.Bits.{has_bit}
 use Rattle.mk_core.specs.Cells.{cell_words, first_word, header_in, is_left_unmarked, is_unmapped_header, left_unmarked}
-use Rattle.mk_core.specs.Cells.{words_under}
+use Rattle.mk_core.specs.Cells.{head_page, words_under}
 use Rattle.mk_core.specs.Frames.{Steady}
-use Rattle.mk_core.specs.History.{World}
+use Rattle.mk_core.specs.History.{World, IsHistory}
 use Rattle.mk_core.specs.Moments.{is_phase}
 use Rattle.mk_core.specs.NewPlaces.{is_run_gone, is_small_object, pages_made}
 use Rattle.mk_core.specs.ObjectHeaders.{OfBlock, OfLater, OfLeafBlock, OfLeafRun, OfRun, ShowsPart}
 use Rattle.mk_core.specs.StandingAllocations.{object_placed}
-use Rattle.mk_core.specs.Words.{header_at, phase_of}
+use Rattle.mk_core.specs.Words.{header_at, phase_of, used_at}
 use Rattle.mk_core.proofs.BitsWithout.{has_bit_without}
 use Rattle.mk_core.proofs.ChangedAllocations.{changed_at}
 use Rattle.mk_core.proofs.ObjectHeaders.{header_shows}
@@ -32,7 +34,9 @@ use Rattle.mk_core.proofs.PointedAllocations.{released_where_left}
 use Rattle.mk_core.proofs.Sizes.{large_is_not_small, pages_some}
 use Rattle.mk_core.proofs.StandingAllocations.{cells_begin, placed_cell, typed_size}
 use Rattle.mk_laws.specs.Quarantine.{IsFreedCell}
-use Rattle.mk_laws.specs.LayoutScene.{is_released_in}
+use Rattle.mk_laws.specs.LayoutScene.{InPlot, is_released_in}
+use Rattle.mk_laws.specs.Protocol.{has_place}
+use Rattle.mk_laws.specs.Terrain.{plot_of}
 use Rattle.mk_laws.proofs.InvariantTheorems.{allocations_are_disjoint, allocations_stand}
 use Rattle.mk_laws.proofs.LastEvents.{stands}
 use Rattle.mk_laws.proofs.RunsStill.{HolderFinds, holder_finds}
@@ -44,14 +48,14 @@ use Rattle.mk_words.specs.States.{PassState, now_of, world_of}
 use Rattle.mk_words.specs.TurnSteps.{world_at, Acts}
 use Rattle.mk_words.proofs.Made.{made}
 use Rattle.mk_cycle.specs.EngineLaw.{IsAtPhase}
-use Rattle.mk_cycle.specs.Freeing.{HasFreeCells, IsUnmappedWord, IsZero}
+use Rattle.mk_cycle.specs.Freeing.{HasFreeCells, IsOccupied, IsUnmappedWord, IsZero, is_occupied_page}
 use Rattle.mk_cycle.specs.TurnKeeps.{InTurn, IsGone}
 
-plus_zero : (n : ℕ) → n + 0 ≡ n
+pub plus_zero : (n : ℕ) → n + 0 ≡ n
 plus_zero n = omega arith
 
 -- What shows an unmapped run shows a large object.
-unmapped_is_large : (o : Object) (x : Option Header) → ShowsPart o 0 x → is_unmapped_header x ≡ true
+pub unmapped_is_large : (o : Object) (x : Option Header) → ShowsPart o 0 x → is_unmapped_header x ≡ true
     → is_small_object o ≡ false
 unmapped_is_large o x (OfBlock first small leaf) h = absurd (true≢false (sym h))
 unmapped_is_large o x (OfLeafBlock first small leaf) h = absurd (true≢false (sym h))
@@ -150,7 +154,7 @@ module _ (d q : PassState) (t : InTurn d) (u : InTurn q) (at : IsAtPhase d 3) (a
       ∙ ap not (unmapped_is_large o _ shows gone))
       ∙ and-false (not y.released)
 
-  gone_there : IsGone d → is_run_gone w.now.words w.now.seats.holding.freed ≡ true
+  pub gone_there : IsGone d → is_run_gone w.now.words w.now.seats.holding.freed ≡ true
   gone_there gone =
       let m = made d step.Release q a.makes in
       let finds : HolderFinds c d.seat (world_of d) w =
@@ -234,3 +238,36 @@ module _ (d q : PassState) (t : InTurn d) (u : InTurn q) (at : IsAtPhase d 3) (a
             (zero_there gone page k i (sym (ap (λ (n : ℕ). is_unmapped_header (header_of n)) header) ∙ unmapped)
             (sym (ap (λ (n : ℕ). has_bit n k) left) ∙ has) (subst (λ (n : ℕ). i < n) size lt));
       }
+
+  -- A page with a header has a used cell, a run's at its head: no New has a place.
+  pub pages_are_occupied : has_place (now_of d).seats.holding.placing ≡ false → (page : ℕ) → IsOccupied q page
+  pages_are_occupied none page = ap (λ (x : World). is_occupied_page x.now.words page) a.world ∙ there
+    where
+      history : IsHistory c es
+      history = (made d step.Release q a.makes).history
+
+      unplaced : has_place w.now.seats.holding.placing ≡ false
+      unplaced =
+          ap (λ (h : Holding). has_place h.placing)
+          (holder_finds c d.seat d.seen a.makes.others history (made d step.Release q a.makes).others t.holds).holding
+          ∙ none
+
+      no_plot : (o : Object) (placing : Placing) → has_place placing ≡ false → InPlot (plot_of o placing) page → ⊥
+      no_plot o Unplaced h within = within
+      no_plot o Granted h within = within
+      no_plot o (Chosen place) h within = cc
+      no_plot o (Used place) h within = cc
+
+      there : is_occupied_page w.now.words page ≡ true
+      there = elim (cases_eq (header_at w.now.words page) 0) [
+        | inl bare ↦ ap (λ (b : Bool). b || not (used_at w.now.words (head_page w.now.words page) == 0))
+            (eq-eqb (header_at w.now.words page) 0 bare)
+        | inr some ↦ elim (cases_eq (used_at w.now.words (head_page w.now.words page)) 0) [
+          | inl unused ↦ elim ((stands c es history).all.order.laid.scene.occupied page some unused) [
+            | inl releasing ↦ absurd (true≢false (sym releasing ∙ not_releasing))
+            | inr within ↦ absurd (no_plot _ w.now.seats.holding.placing unplaced within)
+          ]
+          | inr used ↦ or_right (header_at w.now.words page == 0) _
+              (ap not (ne_eqb (used_at w.now.words (head_page w.now.words page)) 0 used))
+        ]
+      ]

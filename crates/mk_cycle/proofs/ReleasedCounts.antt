@@ -56,7 +56,7 @@ module _ (c : Config) (es : List Event) (h : IsHistory c es) (at : phase_of (lef
   abbrev f : PlacedAllocation → PlacedAllocation
   f = with_released c (left c es).now.words
 
-  quiet : phase_of w ≢ 4
+  pub quiet : phase_of w ≢ 4
   quiet four = absurd (omega arith)
 
   cycling : is_cycling (phase_of w) ≡ true
@@ -95,7 +95,7 @@ module _ (c : Config) (es : List Event) (h : IsHistory c es) (at : phase_of (lef
       let both = and_parts a.freed (not a.fresh) (sym (in_snapshot i u) ∙ bit) in
       and_from (is_quarantined a) (not a.fresh) (and_from a.freed (not a.released) both.0 parts.0) both.1
 
-  unmarked_are : AreTheirBits c es (is_new f) (left_unmarked w)
+  pub unmarked_are : AreTheirBits c es (is_new f) (left_unmarked w)
   unmarked_are =
       record {
         none = refl;
@@ -247,10 +247,10 @@ module _ (d q : PassState) (t : InTurn d) (u : InTurn q) (at : IsAtPhase d 3) (a
   there : IsHistory d.table.config (d.seen ++ a.makes.others)
   there = (made d step.Release q a.makes).history
 
-  phase_there : phase_of (world_at a.makes).now.words ≡ 3
+  pub phase_there : phase_of (world_at a.makes).now.words ≡ 3
   phase_there = ap (λ (s : Steady). s.phase) a.turn.steady ∙ at
 
-  same_before : (world_at a.makes).allocations ≡ (world_of d).allocations
+  pub same_before : (world_at a.makes).allocations ≡ (world_of d).allocations
   same_before = ap (λ (s : Steady). s.allocations) a.turn.steady
 
   behind : (world_of q).allocations

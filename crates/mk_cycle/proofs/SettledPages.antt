@@ -1,9 +1,9 @@
 -- Pages are settled one after the other.
-use Rattle.std.proofs.Common.{◌≡◌, ◌≢◌, ◌⊎◌, ℕ, ◌+◌, ◌*◌, ◌/◌, ◌^◌, ◌<◌, ◌≤◌, Bool, true, false, List, refl, sym, ap}
-use Rattle.std.proofs.Common.{subst, ◌∙◌, arith, inl, inr}
+use Rattle.std.proofs.Common.{◌≡◌, ◌≢◌, ◌⊎◌, ℕ, ◌+◌, ◌-◌, ◌*◌, ◌/◌, ◌^◌, ◌<◌, ◌≤◌, Bool, true, false, List, refl}
+use Rattle.std.proofs.Common.{sym, ap, subst, ◌∙◌, arith, inl, inr}
 use Rattle.std.specs.Prelude.{slice_index, ◌==◌, ◌&&◌, ◌||◌, not, Option, Some}
 use Rattle.std.proofs.lemmas.Bool.{cases_eq, eq-eqb, eqb-true, ne_eqb, and_from, and_parts, true≢false}
-use Rattle.std.proofs.lemmas.Bool.{false_from_ne_true}
+use Rattle.std.proofs.lemmas.Bool.{eqb-false, false_from_ne_true, not-true, or_cases}
 use Rattle.mk_geom.specs.declared.headers.Header.{Header}
 use Rattle.mk_geom.specs.declared.headers.Header.TheVariants as header
 use Rattle.mk_geom.specs.declared.addresses.Cell.{Cell}
@@ -18,14 +18,15 @@ use Rattle.mk_core.specs.Words.{Words, header_at, used_at, quarantine_word}
 use Rattle.mk_core.proofs.BitsWithout.{has_bit_without}
 use Rattle.mk_core.proofs.WordBits.{no_bit, zero_from_bits}
 use Rattle.mk_laws.specs.Quarantine.{IsFreedCell}
-use Rattle.mk_laws.specs.LayoutScene.{is_released_in}
+use Rattle.mk_laws.specs.LayoutScene.{is_released_in, run_count}
+use Rattle.mk_laws.proofs.FreePages.{free_pages_have_nothing}
 use Rattle.mk_laws.proofs.InvariantTheorems.{allocations_stand}
 use Rattle.mk_laws.proofs.LastEvents.{stands}
 use Rattle.mk_words.specs.States.{PassState, world_of, now_of}
 use Rattle.mk_cycle.specs.EngineLaw.{IsAtPhase}
-use Rattle.mk_cycle.specs.Freeing.{Frees, GivesNothingBack, FreesPage, GivesBack, HasFreeCells, IsSettledPage}
-use Rattle.mk_cycle.specs.Freeing.{IsUnmappedWord}
-use Rattle.mk_cycle.specs.Freeing.{IsZero, PageState, SamePage, page_state}
+use Rattle.mk_cycle.specs.Freeing.{Frees, GivesNothingBack, FreesPage, GivesBack, HasFreeCells, IsOccupied}
+use Rattle.mk_cycle.specs.Freeing.{IsSettledPage, IsUnmappedWord, IsZero, PageState, SamePage, is_occupied_page}
+use Rattle.mk_cycle.specs.Freeing.{page_state}
 use Rattle.mk_cycle.specs.TurnKeeps.{InTurn}
 use Rattle.mk_cycle.proofs.CleaningSteps.{halves}
 use Rattle.mk_cycle.proofs.GivingSteps.{still_unmapped_word}
@@ -100,50 +101,38 @@ empties_here p t at page h is unused none =
     && (slice_index w.snapshot n == 0)) ≡ true) is
     (and_from _ _ (and_from _ _ (and_from _ _ refl (eq-eqb _ 0 unused)) (eq-eqb _ 0 freed)) (eq-eqb _ 0 snapshot))
 
--- A page without a header has no released cell.
-pub bare_left : (p : PassState) → InTurn p → (page : ℕ) → header_at (now_of p).words page ≡ 0
-    → left_unmarked (now_of p).words page ≡ 0
-bare_left p t page none =
-    let w : Words = (now_of p).words in
-    let order = (stands p.table.config p.seen t.history).all.order in
-    zero_from_bits (left_unmarked w page) (λ k. false_from_ne_true (has_bit (left_unmarked w page) k) (λ has.
-    let in_snapshot = (and_parts (has_bit (slice_index w.snapshot page) k) (not (has_bit (slice_index w.marks page) k))
-    (sym (has_bit_without (slice_index w.snapshot page) (slice_index w.marks page) k) ∙ has)).0 in
-    let small = order.known page k (order.quarantined.within page k in_snapshot) in
-    let no_cells : cells_under (header_in w page) ≡ 0 = ap (λ (n : ℕ). cells_under (header_of n)) none in
-    absurd (omega arith)))
-
-pub bare_snapshot : (p : PassState) → InTurn p → (page : ℕ) → header_at (now_of p).words page ≡ 0
+-- A page without freed cells has none in its snapshot.
+pub no_snapshot : (p : PassState) → InTurn p → (page : ℕ) → slice_index (now_of p).words.freed page ≡ 0
     → slice_index (now_of p).words.snapshot page ≡ 0
-bare_snapshot p t page none =
+no_snapshot p t page none =
     let w : Words = (now_of p).words in
     let order = (stands p.table.config p.seen t.history).all.order in
     zero_from_bits (slice_index w.snapshot page)
     (λ k. false_from_ne_true (has_bit (slice_index w.snapshot page) k) (λ has.
-    let small = order.known page k (order.quarantined.within page k has) in
-    let no_cells : cells_under (header_in w page) ≡ 0 = ap (λ (n : ℕ). cells_under (header_of n)) none in
-    absurd (omega arith)))
+    true≢false (sym (order.quarantined.within page k has) ∙ no_bit (slice_index w.freed page) k none)))
+
+pub no_cells : (f : ℕ) → not (f == 0) ≡ false → f ≡ 0
+no_cells f h = elim (cases_eq f 0) [
+  | inl is ↦ is
+  | inr some ↦ absurd (true≢false (sym (ap not (ne_eqb f 0 some)) ∙ h))
+]
+
+pub none_left : (p : PassState) (page : ℕ) → slice_index (now_of p).words.snapshot page ≡ 0
+    → left_unmarked (now_of p).words page ≡ 0
+none_left p page none =
+    let marks : ℕ = slice_index (now_of p).words.marks page in
+    let nothing : without 0 marks ≡ 0 = omega arith in
+    ap (λ (n : ℕ). without n marks) none ∙ nothing
 
 -- what settles a page
 
 or_left : (a b : Bool) → a ≡ true → (a || b) ≡ true
 or_left a b h = ap (λ (x : Bool). x || b) h
 
-or_right : (a b : Bool) → b ≡ true → (a || b) ≡ true
-or_right true b h = refl
-or_right false b h = h
-
 pub settled_bare : (p : PassState) (page : ℕ) → left_unmarked (now_of p).words page ≡ 0
     → header_at (now_of p).words page ≡ 0 → IsSettledPage p page
 settled_bare p page none bare =
     and_from _ _ (eq-eqb _ 0 none) (or_left (header_at (now_of p).words page == 0) _ (eq-eqb _ 0 bare))
-
-pub settled_used : (p : PassState) (page : ℕ) → left_unmarked (now_of p).words page ≡ 0
-    → used_at (now_of p).words (head_page (now_of p).words page) ≢ 0 → IsSettledPage p page
-settled_used p page none used =
-    and_from _ _ (eq-eqb _ 0 none)
-    (or_right (header_at (now_of p).words page == 0) _
-    (ap not (ne_eqb (used_at (now_of p).words (head_page (now_of p).words page)) 0 used)))
 
 pub settled_left : (p : PassState) (page : ℕ) → IsSettledPage p page → left_unmarked (now_of p).words page ≡ 0
 settled_left p page h = eqb-true _ 0 (and_parts (left_unmarked (now_of p).words page == 0) _ h).0
@@ -156,6 +145,54 @@ head_before _ page = omega arith
 pub head_near : (w : Words) (page : ℕ) → head_page w page ≤ page
 head_near w page = head_before (header_in w page) page
 
+pub head_stays : (p q : PassState) (page : ℕ) → SamePage p q page
+    → head_page (now_of q).words page ≡ head_page (now_of p).words page
+head_stays p q page same = ap (λ (n : ℕ). head_page_under (header_of n) page) (same_header p q page same)
+
+-- A page stays as it is in this while it and its head do.
+pub same_occupied : (p q : PassState) (r : ℕ) → SamePage p q r → SamePage p q (head_page (now_of p).words r)
+    → is_occupied_page (now_of q).words r ≡ is_occupied_page (now_of p).words r
+same_occupied p q r same head_same =
+    ap (λ (n : ℕ). (n == 0) || not (used_at (now_of q).words (head_page (now_of q).words r) == 0))
+    (same_header p q r same)
+    ∙ ap (λ (n : ℕ). (header_at (now_of p).words r == 0) || not (used_at (now_of q).words n == 0))
+    (head_stays p q r same)
+    ∙ ap (λ (n : ℕ). (header_at (now_of p).words r == 0) || not (n == 0))
+    (same_used p q (head_page (now_of p).words r) head_same)
+
+-- A later page of a run isn't past it.
+pub head_elsewhere : (q : PassState) → InTurn q → (n r : ℕ) → n < r
+    → n + run_count (header_in (now_of q).words n) ≤ r → IsOccupied q r → head_page (now_of q).words r ≢ n
+head_elsewhere q t n r after past occupied = by (header_in (now_of q).words r) refl
+  where
+    w : Words
+    w = (now_of q).words
+
+    bare : header_at w n ≡ 0 → head_page w r ≡ n → header_at w r ≡ 0
+    bare none there = elim (or_cases (header_at w r == 0) _ occupied) [
+      | inl z ↦ eqb-true _ 0 z
+      | inr some ↦
+          let unused = (free_pages_have_nothing q.table.config q.seen t.history n none).used in
+          absurd (eqb-false _ 0 (not-true _ some) (ap (used_at w) there ∙ unused))
+    ]
+
+    by : (x : Option Header) → header_in w r ≡ x → head_page_under x r ≢ n
+    by (Some (header.Later distance mapped)) is there =
+        let head = (stands q.table.config q.seen t.history).all.order.laid.scene.later r distance mapped is in
+        let n_is : r - distance ≡ n = there in
+        elim head.1 [
+          | inl near ↦
+              let few = subst (λ (m : ℕ). distance < run_count (header_in w m)) n_is near in
+              let le = head.0 in
+              absurd (omega (arith, few, le, n_is, past))
+          | inr gone ↦
+              let none = bare (subst (λ (m : ℕ). header_at w m ≡ 0) n_is gone.1)
+              (ap (λ (y : Option Header). head_page_under y r) is ∙ there) in
+              let free : header_of 0 ≡ Some (header.Later distance mapped) = sym (ap header_of none) ∙ is in
+              cc
+        ]
+    by _ is there = absurd (omega (arith, after, there))
+
 -- Settled pages stay so while a later one changes.
 pub still_settled : (p q : PassState) (page r : ℕ) → FreesPage page p q → r < page → IsSettledPage p r
     → IsSettledPage q r
@@ -164,17 +201,8 @@ still_settled p q page r k lt h =
     let near = head_near (now_of p).words r in
     let head_same : SamePage p q (head_page (now_of p).words r) =
     k.others (head_page (now_of p).words r) (λ e. absurd (omega arith)) in
-    let head : head_page (now_of q).words r ≡ head_page (now_of p).words r =
-    ap (λ (n : ℕ). head_page_under (header_of n) r) (same_header p q r same) in
-    ap (λ (n : ℕ). (n == 0)
-    && ((header_at (now_of q).words r == 0) || not (used_at (now_of q).words (head_page (now_of q).words r) == 0)))
-    (same_left p q r same k.frees.marks)
-    ∙ ap (λ (n : ℕ). (left_unmarked (now_of p).words r == 0)
-    && ((n == 0) || not (used_at (now_of q).words (head_page (now_of q).words r) == 0))) (same_header p q r same)
-    ∙ ap (λ (n : ℕ). (left_unmarked (now_of p).words r == 0)
-    && ((header_at (now_of p).words r == 0) || not (used_at (now_of q).words n == 0))) head
-    ∙ ap (λ (n : ℕ). (left_unmarked (now_of p).words r == 0) && ((header_at (now_of p).words r == 0) || not (n == 0)))
-    (same_used p q (head_page (now_of p).words r) head_same)
+    ap (λ (n : ℕ). (n == 0) && is_occupied_page (now_of q).words r) (same_left p q r same k.frees.marks)
+    ∙ ap (λ (b : Bool). (left_unmarked (now_of p).words r == 0) && b) (same_occupied p q r same head_same)
     ∙ h
 
 -- what two looks say of the released cells
@@ -194,13 +222,7 @@ pub none_left_on : (a : PassState) (page quarantine : ℕ) → InTurn a
     (slice_index (now_of a).words.snapshot page)
     → quarantine / 2 ^ 32 ≡ 0 → left_unmarked (now_of a).words page ≡ 0
 none_left_on a page quarantine t word none =
-    let marks : ℕ = slice_index (now_of a).words.marks page in
-    let nothing : without 0 marks ≡ 0 = omega arith in
-    ap (λ (n : ℕ). without n marks) (sym (halves a page quarantine t word).snapshot ∙ none) ∙ nothing
-
-pub head_stays : (p q : PassState) (page : ℕ) → SamePage p q page
-    → head_page (now_of q).words page ≡ head_page (now_of p).words page
-head_stays p q page same = ap (λ (n : ℕ). head_page_under (header_of n) page) (same_header p q page same)
+    none_left a page (sym (halves a page quarantine t word).snapshot ∙ none)
 
 -- No cell is released at the head of the page's run: it is the page itself, or one that is settled.
 pub none_at : (p q : PassState) (page h : ℕ) → GivesBack page p q → h ≤ page

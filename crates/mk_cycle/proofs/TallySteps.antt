@@ -1,5 +1,5 @@
 -- Looks and tallies after an `end`.
-use Rattle.std.proofs.Common.{◌≡◌, ℕ, ◌+◌, refl, sym, ap, subst, ◌∙◌}
+use Rattle.std.proofs.Common.{◌≡◌, ℕ, ◌+◌, ◌-◌, refl, sym, ap, subst, ◌∙◌}
 use Rattle.mk_core.specs.declared.config.Config.{Config}
 use Rattle.mk_core.specs.declared.events.Tally.{Tally}
 use Rattle.mk_core.specs.declared.events.Tally.TheVariants as tally
@@ -9,7 +9,6 @@ use Rattle.mk_core.specs.Counts.{in_a_word}
 use Rattle.mk_core.specs.Accesses.{tally_word}
 use Rattle.mk_core.specs.Frames.{Steady, steady_of}
 use Rattle.mk_core.specs.History.{World, world_behind}
-use Rattle.mk_core.specs.TurnConditions.{held_by_pages}
 use Rattle.mk_core.specs.Words.{Words, named_word}
 use Rattle.mk_words.specs.States.{PassState, world_of, now_of, event_of}
 use Rattle.mk_words.specs.TurnSteps.{world_at, Acts}
@@ -88,15 +87,15 @@ same_tally p q tally.Cycles same = ap (λ (s : Steady). s.cycles) same
 same_tally p q tally.Released same = ap (λ (s : Steady). s.released) same
 same_tally p q tally.Full same = ap (λ (s : Steady). s.full) same
 
--- a tally that is raised by what it is found to be
-pub raised : (p a q : PassState) (n : Tally) (x : Word) (found more to : ℕ) → x ≡ tally_word n → Sets unchanged p a
-    → found ≡ named_word (now_of a).words x → to ≡ in_a_word (found + more) → Sets (with_tally n to) a q
-    → Sets (with_tally n (in_a_word (named_word (now_of p).words x + more))) p q
-raised p a q n x found more to is looks finds sum sets =
+-- a tally that is set by what it is found to be
+pub set_by : (p a q : PassState) (n : Tally) (x : Word) (becomes : ℕ → ℕ) (found to : ℕ) → x ≡ tally_word n
+    → Sets unchanged p a → found ≡ named_word (now_of a).words x → to ≡ becomes found → Sets (with_tally n to) a q
+    → Sets (with_tally n (becomes (named_word (now_of p).words x))) p q
+set_by p a q n x becomes found to is looks finds sum sets =
     let same : named_word (now_of a).words x ≡ named_word (now_of p).words x =
     ap (λ (y : Word). named_word (now_of a).words y) is ∙ same_tally p a n looks.steady
     ∙ ap (λ (y : Word). named_word (now_of p).words y) (sym is) in
-    subst (λ (v : ℕ). Sets (with_tally n v) p q) (sum ∙ ap (λ (m : ℕ). in_a_word (m + more)) (finds ∙ same))
+    subst (λ (v : ℕ). Sets (with_tally n v) p q) (sum ∙ ap becomes (finds ∙ same))
     (sets_then unchanged (with_tally n to) p a q looks sets)
 
 -- the three tallies, one after the other
@@ -104,15 +103,15 @@ raised p a q n x found more to is looks finds sum sets =
 with_three : ℕ → ℕ → ℕ → Steady → Steady
 with_three held cycles released s = record s { held = held; cycles = cycles; released = released }
 
-pub cycle_counted : (p a b q : PassState) (released : ℕ)
-    → Sets (with_tally tally.Held (held_by_pages (now_of p).words)) p a
+pub cycle_counted : (p a b q : PassState) (fewer released : ℕ)
+    → Sets (with_tally tally.Held ((now_of p).words.held - fewer)) p a
     → Sets (with_tally tally.Cycles (in_a_word ((now_of a).words.cycles + 1))) a b
     → Sets (with_tally tally.Released (in_a_word ((now_of b).words.released + released))) b q
-    → Sets (with_cycle_counted (now_of p).words released) p q
+    → Sets (with_cycle_counted (now_of p).words fewer released) p q
 unfolding with_three
-cycle_counted p a b q released held cycles more =
+cycle_counted p a b q fewer released held cycles more =
     let v : Words = (now_of p).words in
-    let h : ℕ = held_by_pages v in
+    let h : ℕ = v.held - fewer in
     let c : ℕ = in_a_word ((now_of a).words.cycles + 1) in
     let r : ℕ = in_a_word ((now_of b).words.released + released) in
     let both = sets_then (with_tally tally.Held h) (with_tally tally.Cycles c) p a b held cycles in

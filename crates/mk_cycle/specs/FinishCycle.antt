@@ -1,8 +1,8 @@
 -- What `finish_cycle` makes and leaves, and what it says of the cycle.
-use Rattle.std.specs.Prelude.{◌≡◌, ◌+◌, Bool, true, ◌&&◌, not, List, [], ◌∷◌, length, map, count_by, sum_by}
+use Rattle.std.specs.Prelude.{◌≡◌, ℕ, ◌+◌, Bool, true, ◌&&◌, not, List, [], ◌∷◌, length, map, count_by, sum_by}
 use Rattle.std.specs.Prelude.{if◌then◌else◌}
 use Rattle.mk_core.specs.declared.events.Step.TheVariants as step
-use Rattle.mk_core.specs.Allocations.{PlacedAllocation, storage_words, with_released}
+use Rattle.mk_core.specs.Allocations.{PlacedAllocation, held_by_allocations, storage_words, with_released}
 use Rattle.mk_core.specs.Counts.{TalliesAreExact, TalliesAreTidy}
 use Rattle.mk_core.specs.Cycles.{is_quarantined}
 use Rattle.mk_core.specs.Effects.{cycle_ended}
@@ -61,3 +61,9 @@ pub record HasReleased (p q : PassState) (r : Released) : Type 0 where
   pub words : r.words
       ≡ sum_by (storage_words p.table.config) (newly_released (world_of p).allocations (world_of q).allocations)
   pub kept : count_by is_in_snapshot_of_cycle (world_of p).allocations ≡ r.kept + r.count
+
+-- So many words that were held are held no longer.
+abbrev pub HoldsFewer : PassState → PassState → ℕ → Type 0
+HoldsFewer p q words =
+    held_by_allocations p.table.config (world_of p).allocations
+    ≡ held_by_allocations q.table.config (world_of q).allocations + words

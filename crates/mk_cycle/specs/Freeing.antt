@@ -1,12 +1,13 @@
 -- After a `release` what was released is wiped and given back, page by page.
-use Rattle.std.specs.Prelude.{◌≡◌, ◌≢◌, ℕ, ◌+◌, ◌*◌, ◌<◌, true, false, [], slice_index}
+use Rattle.std.specs.Prelude.{◌≡◌, ◌≢◌, ℕ, ◌+◌, ◌*◌, ◌<◌, Bool, true, false, ◌==◌, ◌||◌, nat_lt, not, [], slice_index}
 use Rattle.mk_geom.specs.declared.pages.Page.{Page}
 use Rattle.mk_core.specs.Bits.{has_bit}
-use Rattle.mk_core.specs.Cells.{header_in, is_unmapped_header, left_unmarked, words_under}
+use Rattle.mk_core.specs.Cells.{head_page, header_in, is_unmapped_header, left_unmarked, words_under}
 use Rattle.mk_core.specs.Frames.{Steady}
 use Rattle.mk_core.specs.Moments.{is_held}
 use Rattle.mk_core.specs.StopConditions.{has_settled_page}
-use Rattle.mk_core.specs.Words.{page_of, header_at, quarantine_word}
+use Rattle.mk_core.specs.Words.{Words, page_of, header_at, quarantine_word, used_at}
+use Rattle.mk_page_map.specs.Members.{has_freed_cells}
 use Rattle.mk_laws.specs.Zeros.{IsWordOfMapped}
 use Rattle.mk_words.specs.States.{PassState, world_of, now_of}
 use Rattle.mk_turns.specs.Doing.{Does}
@@ -88,3 +89,14 @@ pub record GivesBack (page : ℕ) (p q : PassState) : Type 0 where
 -- No cell of the page is released, and its run has a used cell, if it has a header.
 abbrev pub IsSettledPage : PassState → ℕ → Type 0
 IsSettledPage p page = has_settled_page (now_of p).words page ≡ true
+
+-- It has no header, or its run has a used cell.
+abbrev pub is_occupied_page : Words → ℕ → Bool
+is_occupied_page w page = (header_at w page == 0) || not (used_at w (head_page w page) == 0)
+
+abbrev pub IsOccupied : PassState → ℕ → Type 0
+IsOccupied p page = is_occupied_page (now_of p).words page ≡ true
+
+-- It is one of the pages before this end of a run, or has freed cells.
+abbrev pub may_be_unsettled : Words → ℕ → ℕ → Bool
+may_be_unsettled w end page = nat_lt page end || has_freed_cells w.freed page

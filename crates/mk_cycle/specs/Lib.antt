@@ -9,7 +9,6 @@ pub mod Freeing
 pub mod GivingAll
 pub mod FinishCycle
 pub mod ReleasedPages
-pub mod HeldPages
 pub mod Tallying
 pub mod Telling
 pub mod Begun

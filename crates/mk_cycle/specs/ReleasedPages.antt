@@ -1,6 +1,6 @@
 -- What the words of the pages say of a `release`, up to when its cells are given back.
-use Rattle.std.specs.Prelude.{ℕ, zero, suc, ◌+◌, ◌*◌, ◌≤◌, bit_and, count_ones, slice_index}
-use Rattle.mk_core.specs.Cells.{left_unmarked, header_in, words_under}
+use Rattle.std.specs.Prelude.{ℕ, zero, suc, ◌+◌, ◌*◌, ◌≤◌, bit_and, count_ones, if◌then◌else◌, slice_index}
+use Rattle.mk_core.specs.Cells.{left_unmarked, header_in, is_unmapped_header, words_under}
 use Rattle.mk_core.specs.Words.{Words}
 use Rattle.mk_cycle.specs.declared.finishing.Released.{Released}
 
@@ -13,13 +13,17 @@ sum_below (suc n) f = sum_below n f + f n
 abbrev pub left_marked : Words → ℕ → ℕ
 left_marked w p = bit_and (slice_index w.snapshot p) (slice_index w.marks p)
 
--- how many cells of a page are left unmarked, the words of these, and how many are marked
+-- how many cells of a page are left unmarked, the words of these, how many of them are held, and how many cells are
+-- marked
 
 abbrev pub cells_unmarked : Words → ℕ → ℕ
 cells_unmarked w p = count_ones (left_unmarked w p)
 
 abbrev pub words_unmarked : Words → ℕ → ℕ
 words_unmarked w p = cells_unmarked w p * words_under (header_in w p)
+
+abbrev pub held_unmarked : Words → ℕ → ℕ
+held_unmarked w p = if is_unmapped_header (header_in w p) then 0 else words_unmarked w p
 
 abbrev pub cells_marked : Words → ℕ → ℕ
 cells_marked w p = count_ones (left_marked w p)
@@ -36,6 +40,9 @@ released_below w n =
       words = sum_below n (words_unmarked w);
       kept = sum_below n (cells_marked w);
     }
+
+abbrev pub held_below : Words → ℕ → ℕ
+held_below w n = sum_below n (held_unmarked w)
 
 -- A page has few cells, and few words.
 pub record IsOfOnePage (r : Released) : Type 0 where

@@ -1,10 +1,9 @@
 -- The tallies are set after an `end`.
-use Rattle.std.specs.Prelude.{◌≡◌, ℕ, ◌+◌}
+use Rattle.std.specs.Prelude.{◌≡◌, ℕ, ◌+◌, ◌-◌}
 use Rattle.mk_core.specs.declared.events.Tally.{Tally}
 use Rattle.mk_core.specs.declared.events.Tally.TheVariants as tally
 use Rattle.mk_core.specs.Counts.{in_a_word}
 use Rattle.mk_core.specs.Frames.{Steady, steady_of, CountsAreLeft}
-use Rattle.mk_core.specs.TurnConditions.{held_by_pages}
 use Rattle.mk_core.specs.Words.{Words}
 use Rattle.mk_words.specs.States.{PassState, world_of}
 use Rattle.mk_turns.specs.Doing.{Does}
@@ -26,7 +25,7 @@ with_tally tally.Cycles v s = record s { cycles = v }
 with_tally tally.Released v s = record s { released = v }
 with_tally tally.Full v s = record s { full = v }
 
--- one cycle and this many released allocations more, and what the pages hold
-abbrev pub with_cycle_counted : Words → ℕ → Steady → Steady
-with_cycle_counted w released s =
-    record s { held = held_by_pages w; cycles = in_a_word (w.cycles + 1); released = in_a_word (w.released + released) }
+-- so many words held no longer, and one cycle and this many released allocations more
+abbrev pub with_cycle_counted : Words → ℕ → ℕ → Steady → Steady
+with_cycle_counted w held released s =
+    record s { held = w.held - held; cycles = in_a_word (w.cycles + 1); released = in_a_word (w.released + released) }

@@ -1,6 +1,6 @@
 //! What comes before a cycle's `begin`: the marks of the cycle before are cleared, and the snapshot is taken. Pages in
-//! use are looked at, free pages that may be marked, and pages whose freed cells aren't their snapshot. A word that has
-//! the right value already isn't stored to.
+//! use are looked at, free pages that may be marked, and pages that have freed cells. A word that has the right value
+//! already isn't stored to.
 ghost use Rattle.std.specs.Prelude.{◌≡◌, ◌≢◌, ◌<◌, ℕ, true, false};
 ghost use Rattle.mk_core.specs.Ranges.{is_word};
 ghost use Rattle.mk_core.specs.Words.{header_at, named_word};
@@ -13,7 +13,7 @@ ghost use Rattle.mk_cycle.specs.TurnKeeps.{InTurn};
 
 use crate::bits::FREED_END;
 use crate::turn_steps::{
-    clear, look, look_among, next_differing, next_in_use, next_uncleaned, take_snapshot, unblack,
+    clear, look, look_among, next_in_use, next_quarantined, next_uncleaned, take_snapshot, unblack,
     undirty,
 };
 use mk_core::Word;
@@ -110,9 +110,8 @@ fn are_zero(marks: u64, blacks: u64, dirty: u64) -> bool
     marks | blacks | dirty == 0
 }
 
-/// Clears what is left of the cycle before on a page, on which these words were found. It isn't inlined, since few
-/// pages need it.
-#[inline(never)]
+/// Clears what is left of the cycle before on a page, on which these words were found.
+#[inline(always)]
 fn clean_words(turn: &mut Turn, words: &Words, page: u64, marks: u64, blacks: u64, dirty: u64)
     requires one_table { turn.old.pass.table ≡ words.now }
     requires free { IsFreeForCycle turn.old.pass }
@@ -209,7 +208,7 @@ fn clean_pages_in_use(turn: &mut Turn, words: &Words)
     }
 }
 
-/// Makes the freed cells of all pages their snapshots. Those of most are so already.
+/// Makes the freed cells of all pages their snapshots. A page without freed cells has none in its snapshot.
 fn take_snapshots(turn: &mut Turn, words: &Words)
     requires one_table { turn.old.pass.table ≡ words.now }
     requires free { IsFreeForCycle turn.old.pass }
@@ -220,7 +219,7 @@ fn take_snapshots(turn: &mut Turn, words: &Words)
 {
     words.is_within_limits();
     let mut from = 0;
-    while let Some(page) = next_differing(turn, from) {
+    while let Some(page) = next_quarantined(turn, from) {
         copy_freed(turn, words, page);
         from = page + 1;
     }

@@ -1,22 +1,20 @@
 //! What the words of a page say of a cycle: what was released on it, by its snapshot and marks, before that is given
-//! back; and how many words it holds.
-ghost use Rattle.std.specs.Prelude.{◌≡◌, ◌<◌, ◌≤◌, ◌*◌, true, false, bit_and, count_ones};
+//! back; and how much of that was held.
+ghost use Rattle.std.specs.Prelude.{◌≡◌, ◌≤◌, ◌*◌, true, false, bit_and, count_ones, if◌then◌else◌};
 ghost use Rattle.mk_core.specs.Bits.{without};
-ghost use Rattle.mk_core.specs.Cells.{words_under};
+ghost use Rattle.mk_core.specs.Cells.{is_unmapped_header, words_under};
 ghost use Rattle.mk_core.specs.Ranges.{is_word};
 ghost use Rattle.mk_core.specs.Words.{named_word};
 ghost use Rattle.mk_geom.specs.Headers.{header_of};
 ghost use Rattle.mk_words.specs.States.{now_of};
 ghost use Rattle.mk_cycle.specs.ReleasedPages.{IsOfOnePage};
-ghost use Rattle.mk_cycle.specs.HeldPages.{held_at};
 ghost use Rattle.mk_cycle.specs.EngineLaw.{IsFreeForCycle, IsAtPhase, is_register};
 ghost use Rattle.mk_cycle.specs.Freeing.{GivesNothingBack};
 ghost use Rattle.mk_cycle.specs.TurnKeeps.{InTurn};
 
 use crate::finishing::Released;
 use crate::turn_steps;
-use mk_books::held_by_pages;
-use mk_core::{Word, without, words_under};
+use mk_core::{Word, is_unmapped, without, words_under};
 use mk_words::{Turn, Words};
 
 /// What the words of a page say: its released cells, their words, and its marked cells of the snapshot.
@@ -34,10 +32,20 @@ pub(crate) fn released_cells(snapshot: u64, marks: u64, header: u64) -> Released
     }
 }
 
-/// Looks at a word that is no register, while nothing is given back.
+/// How many of the words that were released on a page with this header were held until then: none of an unmapped run.
 #[inline(always)]
-pub(crate) fn look(turn: &mut Turn, words: &Words, x: Word) -> u64
+pub(crate) fn held_words(header: u64, words: u64) -> u64
+    ensures is { result ≡ (if is_unmapped_header (header_of header) then 0 else words) }
+    ensures part { result ≤ words }
+{
+    if is_unmapped(header) { 0 } else { words }
+}
+
+/// Looks at a word that is no register, while nothing is given back, in a table of this many pages.
+#[inline(always)]
+pub(crate) fn look(turn: &mut Turn, words: &Words, pages: u64, x: Word) -> u64
     requires one_table { turn.old.pass.table ≡ words.now }
+    requires pages { pages ≡ words.now.config.pages }
     requires free { IsFreeForCycle turn.old.pass }
     requires phase { IsAtPhase turn.old.pass 4 }
     requires in_range { is_word words.now.config x ≡ true }
@@ -47,15 +55,5 @@ pub(crate) fn look(turn: &mut Turn, words: &Words, x: Word) -> u64
     ensures is { InTurn turn.new.pass }
     ensures reads { result ≡ named_word (now_of turn.new.pass).words x }
 {
-    turn_steps::look(turn, words, x)
-}
-
-/// How many words a page holds. The page map knows it.
-pub(crate) fn held_on(turn: &Turn, page: u64) -> u64
-    requires within { page < turn.now.pass.table.config.pages }
-    ensures exact { result ≡ held_at turn.now.pass page }
-    ensures few { result ≤ 64 }
-{
-    let held = held_by_pages(&[turn.page(page)]);
-    held as u64
+    turn_steps::look_among(turn, words, pages, x)
 }

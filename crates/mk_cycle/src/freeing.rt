@@ -1,15 +1,16 @@
 //! Released cells are given back page by page, and pages on which nothing is left are free again.
-ghost use Rattle.std.specs.Prelude.{◌≡◌, ◌<◌};
+ghost use Rattle.std.specs.Prelude.{◌≡◌, ◌<◌, ◌≤◌};
 ghost use Rattle.mk_core.specs.Cells.{left_unmarked};
 ghost use Rattle.mk_core.specs.Words.{header_at};
 ghost use Rattle.mk_words.specs.States.{now_of};
 ghost use Rattle.mk_cycle.specs.EngineLaw.{IsFreeForCycle, IsAtPhase};
 ghost use Rattle.mk_cycle.specs.Freeing.{GivesBack, HasFreeCells, IsQuarantineWord};
-ghost use Rattle.mk_cycle.specs.ReleasedPages.{IsOfOnePage, released_on};
+ghost use Rattle.mk_cycle.specs.ReleasedPages.{IsOfOnePage, held_unmarked, released_on};
 
 use crate::bits::FREED_END;
-use crate::counting::{self, released_cells};
+use crate::counting::{self, held_words, released_cells};
 use crate::finishing::Released;
+use crate::settling::Settled;
 use crate::turn_steps::{drop_cells, give_cells, look};
 use crate::wiping::wipe_released;
 use mk_core::{Word, without};
@@ -38,8 +39,16 @@ fn give_back(turn: &mut Turn, words: &Words, page: u64, header: u64, quarantine:
 
 /// Gives back the released cells of a page with this header word, and returns what was released on it. Where its
 /// snapshot is empty, no more is looked at.
-pub(crate) fn release_cells(turn: &mut Turn, words: &Words, page: u64, header: u64) -> Released
+#[inline(always)]
+pub(crate) fn release_cells(
+    turn: &mut Turn,
+    words: &Words,
+    pages: u64,
+    page: u64,
+    header: u64,
+) -> Settled
     requires one_table { turn.old.pass.table ≡ words.now }
+    requires pages { pages ≡ words.now.config.pages }
     requires free { IsFreeForCycle turn.old.pass }
     requires phase { IsAtPhase turn.old.pass 4 }
     requires within { page < words.now.config.pages }
@@ -47,24 +56,29 @@ pub(crate) fn release_cells(turn: &mut Turn, words: &Words, page: u64, header: u
     requires cells { HasFreeCells turn.old.pass page }
     ensures op { turn.new.op ≡ turn.old.op }
     ensures gives { GivesBack page turn.old.pass turn.new.pass }
-    ensures exact { result ≡ released_on (now_of turn.old.pass).words page }
-    ensures few { IsOfOnePage result }
+    ensures released { result.released ≡ released_on (now_of turn.old.pass).words page }
+    ensures held { result.held ≡ held_unmarked (now_of turn.old.pass).words page }
+    ensures few { IsOfOnePage result.released }
+    ensures part { result.held ≤ result.released.words }
 {
-    let quarantine = counting::look(turn, words, Word::Quar(page));
+    let quarantine = counting::look(turn, words, pages, Word::Quar(page));
     let snapshot = quarantine / FREED_END;
     if snapshot == 0 {
-        return Released {
+        let released = Released {
             count: 0,
             words: 0,
             kept: 0,
         };
+        return Settled { released, held: 0 };
     }
-    let marks = counting::look(turn, words, Word::Mark(page));
+    let marks = counting::look(turn, words, pages, Word::Mark(page));
     let released = released_cells(snapshot, marks, header);
+    let held = held_words(header, released.words);
+    let here = Settled { released, held };
     let gone = without(snapshot, marks);
     if gone == 0 {
-        return released;
+        return here;
     }
     give_back(turn, words, page, header, quarantine, gone);
-    released
+    here
 }

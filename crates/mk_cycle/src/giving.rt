@@ -1,12 +1,11 @@
 //! The stop of a cycle, and what comes after it up to the `end`.
 ghost use Rattle.std.specs.Prelude.{◌≡◌, true, false};
 ghost use Rattle.mk_core.specs.Moments.{none_is_held};
-ghost use Rattle.mk_core.specs.TurnConditions.{held_by_pages};
 ghost use Rattle.mk_words.specs.States.{now_of};
 ghost use Rattle.mk_turns.specs.Sweeping.{SweepsNothing};
 ghost use Rattle.mk_cycle.specs.Closing.{IsClosedBy};
 ghost use Rattle.mk_cycle.specs.EngineLaw.{IsFreeForCycle, IsAtPhase};
-ghost use Rattle.mk_cycle.specs.FinishCycle.{HasReleased};
+ghost use Rattle.mk_cycle.specs.FinishCycle.{HasReleased, HoldsFewer};
 ghost use Rattle.mk_cycle.specs.Freeing.{GivesNothingBack};
 ghost use Rattle.mk_cycle.specs.GivingAll.{GivesAllBack};
 ghost use Rattle.mk_cycle.specs.Telling.{IsToldAtClose};
@@ -35,7 +34,7 @@ fn open_gates(words: &Words, stop: Stopped) -> Turn
 }
 
 /// Stops all other callers, closes the marks, releases what is unmarked, opens the gates, and gives back what was
-/// released. Returns the counts of it, and how many words are held then.
+/// released. Returns the counts of it.
 pub(crate) fn give_all_back<E: Engine, R: Threads + Wait + Sync>(
     rt: &R,
     words: &Words,
@@ -50,7 +49,7 @@ pub(crate) fn give_all_back<E: Engine, R: Threads + Wait + Sync>(
     ensures made_for { E.made_for engine.new ≡ E.made_for engine.old }
     ensures gives { GivesAllBack turn.pass result.0.pass }
     ensures told { HasReleased turn.pass result.0.pass result.1.released }
-    ensures held { result.1.held ≡ held_by_pages (now_of result.0.pass).words }
+    ensures held { HoldsFewer turn.pass result.0.pass result.1.held }
     ensures reached { E.sweeps ≡ false → SweepsNothing turn.pass result.0.pass }
     ensures told_at_close { IsToldAtClose (E.tells engine.new) turn.pass result.0.pass }
     ensures closed { IsClosedBy (E.closes engine.new) turn.pass result.0.pass }

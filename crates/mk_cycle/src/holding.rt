@@ -38,6 +38,7 @@ fn hold_gate<R: Wait>(rt: &R, turn: &mut Turn, words: &Words, caller: u64)
 }
 
 /// Holds a caller's gate, unless it is the holder's own.
+#[inline(always)]
 fn hold_other<R: Wait>(rt: &R, turn: &mut Turn, words: &Words, caller: u64)
     requires one_table { turn.old.pass.table ≡ words.now }
     requires free { IsFreeForCycle turn.old.pass }
@@ -56,6 +57,7 @@ fn hold_other<R: Wait>(rt: &R, turn: &mut Turn, words: &Words, caller: u64)
 }
 
 /// Holds the gates of all other callers.
+#[inline(always)]
 pub(crate) fn hold_gates<R: Wait>(rt: &R, turn: &mut Turn, words: &Words)
     requires one_table { turn.old.pass.table ≡ words.now }
     requires free { IsFreeForCycle turn.old.pass }

@@ -3,9 +3,9 @@ ghost use Rattle.std.specs.Prelude.{◌≡◌, ℕ, false};
 ghost use Rattle.mk_words.specs.States.{now_of};
 ghost use Rattle.mk_turns.specs.Sweeping.{SweepsNothing};
 ghost use Rattle.mk_cycle.specs.Closing.{IsClosedBy};
-ghost use Rattle.mk_cycle.specs.ReleasedPages.{released_below};
-ghost use Rattle.mk_cycle.specs.FinishCycle.{HasReleased};
-ghost use Rattle.mk_cycle.specs.Freeing.{HasFreeCells};
+ghost use Rattle.mk_cycle.specs.ReleasedPages.{held_below, released_below};
+ghost use Rattle.mk_cycle.specs.FinishCycle.{HasReleased, HoldsFewer};
+ghost use Rattle.mk_cycle.specs.Freeing.{HasFreeCells, IsOccupied};
 ghost use Rattle.mk_cycle.specs.EngineLaw.{IsFreeForCycle, IsAtPhase};
 ghost use Rattle.mk_cycle.specs.Releasing.{ReleasesUnmarked};
 ghost use Rattle.mk_cycle.specs.Telling.{IsToldAtClose};
@@ -30,8 +30,11 @@ pub(crate) fn release_unmarked<E: Engine, R: Threads + Wait + Sync>(
     ensures made_for { E.made_for engine.new ≡ E.made_for engine.old }
     ensures releases { ReleasesUnmarked stop.old.pass stop.new.pass }
     ensures cells { (page : ℕ) → HasFreeCells stop.new.pass page }
+    ensures occupied { (page : ℕ) → IsOccupied stop.new.pass page }
     ensures told { HasReleased stop.old.pass stop.new.pass
         (released_below (now_of stop.new.pass).words words.now.config.pages) }
+    ensures held { HoldsFewer stop.old.pass stop.new.pass
+        (held_below (now_of stop.new.pass).words words.now.config.pages) }
     ensures reached { E.sweeps ≡ false → SweepsNothing stop.old.pass stop.new.pass }
     ensures told_at_close { IsToldAtClose (E.tells engine.new) stop.old.pass stop.new.pass }
     ensures closed { IsClosedBy (E.closes engine.new) stop.old.pass stop.new.pass }

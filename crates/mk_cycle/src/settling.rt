@@ -1,23 +1,25 @@
-//! Page by page, what was released is counted and given back, pages on which nothing is left are freed, and what is
-//! held is counted: in one pass, which looks at no free page.
-ghost use Rattle.std.specs.Prelude.{◌≡◌, ◌<◌, ◌≤◌, ℕ};
+//! Page by page, what was released is counted and given back, and pages on which nothing is left are freed: in one
+//! pass, which looks at the pages that have freed cells, and at the later pages of their runs.
+ghost use Rattle.std.specs.Prelude.{◌≡◌, ◌+◌, ◌<◌, ◌≤◌, ℕ};
 ghost use Rattle.mk_core.specs.Cells.{head_page, left_unmarked};
-ghost use Rattle.mk_core.specs.TurnConditions.{held_by_pages};
+ghost use Rattle.mk_core.specs.Counts.{in_a_word};
 ghost use Rattle.mk_core.specs.Words.{header_at};
+ghost use Rattle.mk_geom.specs.Headers.{header_of};
+ghost use Rattle.mk_laws.specs.LayoutScene.{run_count};
+ghost use Rattle.mk_page_map.specs.Members.{IsNext};
 ghost use Rattle.mk_words.specs.States.{now_of};
 ghost use Rattle.mk_cycle.specs.EngineLaw.{IsFreeForCycle, IsAtPhase};
-ghost use Rattle.mk_cycle.specs.Freeing.{Frees, FreesPage, HasFreeCells, IsSettledPage};
-ghost use Rattle.mk_cycle.specs.HeldPages.{held_at};
-ghost use Rattle.mk_cycle.specs.ReleasedPages.{IsOfOnePage, released_below, released_on};
+ghost use Rattle.mk_cycle.specs.Freeing.{Frees, FreesPage, HasFreeCells, IsOccupied, IsSettledPage, may_be_unsettled};
+ghost use Rattle.mk_cycle.specs.ReleasedPages.{IsOfOnePage, held_below, held_unmarked, released_below, released_on};
+ghost use Rattle.mk_cycle.specs.TurnKeeps.{InTurn};
 
-use crate::counting::held_on;
 use crate::finishing::Released;
 use crate::freeing::release_cells;
-use crate::turn_steps::{free_head, known_page, next_in_use};
-use mk_geom::head_page_under;
+use crate::turn_steps::{free_head, known_page, next_quarantined};
+use mk_geom::{Header, decode, head_page_under};
 use mk_words::{Turn, Words};
 
-/// What was released, and how many words are held after that.
+/// What was released, and how many of its words were held until then.
 #[derive(Clone, Copy)]
 pub(crate) struct Settled {
     pub(crate) released: Released,
@@ -44,8 +46,10 @@ fn free_unused(turn: &mut Turn, words: &Words, page: u64, head: u64)
 }
 
 /// Gives back the released cells of a page with this header word, and frees it if nothing is left on it.
-fn settle_taken(turn: &mut Turn, words: &Words, page: u64, header: u64) -> Settled
+#[inline(always)]
+fn settle_taken(turn: &mut Turn, words: &Words, pages: u64, page: u64, header: u64) -> Settled
     requires one_table { turn.old.pass.table ≡ words.now }
+    requires pages { pages ≡ words.now.config.pages }
     requires free { IsFreeForCycle turn.old.pass }
     requires phase { IsAtPhase turn.old.pass 4 }
     requires within { page < words.now.config.pages }
@@ -56,30 +60,59 @@ fn settle_taken(turn: &mut Turn, words: &Words, page: u64, header: u64) -> Settl
     ensures frees { FreesPage page turn.old.pass turn.new.pass }
     ensures settled { IsSettledPage turn.new.pass page }
     ensures released { result.released ≡ released_on (now_of turn.old.pass).words page }
-    ensures one { IsOfOnePage result.released }
-    ensures held { result.held ≡ held_at turn.new.pass page }
-    ensures few { result.held ≤ 64 }
+    ensures held { result.held ≡ held_unmarked (now_of turn.old.pass).words page }
+    ensures few { IsOfOnePage result.released }
+    ensures part { result.held ≤ result.released.words }
 {
-    let released = release_cells(turn, words, page, header);
+    let here = release_cells(turn, words, pages, page, header);
     free_unused(turn, words, page, head_page_under(header, page));
-    let held = held_on(turn, page);
-    Settled { released, held }
+    here
 }
 
-/// Gives back all that was released, and counts it, and what the pages hold then. It goes from page in use to page in
-/// use: a free page has nothing.
+/// Where the run ends that has its head at this page, with this header word. Another page's end is the page itself.
+#[inline(always)]
+fn run_end(header: u64, page: u64) -> u64
+    ensures { result ≡ in_a_word (page + run_count (header_of header)) }
+{
+    match decode(header) {
+        Some(Header::Run { pages, .. } | Header::LeafRun { pages }) => page.saturating_add(pages),
+        _ => page,
+    }
+}
+
+/// The next page, from this one on, that may be unsettled: up to the end of a run each may be, and after it those that
+/// have freed cells.
+#[inline(always)]
+fn next_to_settle(turn: &Turn, pages: u64, from: u64, end: u64) -> Option<u64>
+    requires pages { pages ≡ turn.now.pass.table.config.pages }
+    ensures is { InTurn turn.now.pass }
+    ensures next { IsNext (may_be_unsettled (now_of turn.now.pass).words end) from turn.now.pass.table.config.pages
+        result }
+{
+    let next = next_quarantined(turn, from);
+    let known = end.min(pages);
+    if from < known {
+        return Some(from);
+    }
+    next
+}
+
+/// Gives back all that was released, and counts it. It leaves out pages that have no freed cells, but for the later
+/// pages of runs: nothing was released on them, and they are in use.
 pub(crate) fn settle_pages(turn: &mut Turn, words: &Words) -> Settled
     requires one_table { turn.old.pass.table ≡ words.now }
     requires free { IsFreeForCycle turn.old.pass }
     requires phase { IsAtPhase turn.old.pass 4 }
     requires cells { (page : ℕ) → page < words.now.config.pages → HasFreeCells turn.old.pass page }
+    requires occupied { (page : ℕ) → IsOccupied turn.old.pass page }
     ensures op { turn.new.op ≡ turn.old.op }
     ensures frees { Frees turn.old.pass turn.new.pass }
     ensures settled { (page : ℕ) → page < words.now.config.pages → IsSettledPage turn.new.pass page }
     ensures released { result.released ≡ released_below (now_of turn.old.pass).words words.now.config.pages }
-    ensures held { result.held ≡ held_by_pages (now_of turn.new.pass).words }
+    ensures held { result.held ≡ held_below (now_of turn.old.pass).words words.now.config.pages }
 {
     words.is_within_limits();
+    let pages = words.pages();
     let mut all = Released {
         count: 0,
         words: 0,
@@ -87,13 +120,15 @@ pub(crate) fn settle_pages(turn: &mut Turn, words: &Words) -> Settled
     };
     let mut held: u64 = 0;
     let mut from = 0;
-    while let Some(page) = next_in_use(turn, from) {
+    let mut end = 0;
+    while let Some(page) = next_to_settle(turn, pages, from, end) {
         let header = known_page(turn, page).header;
-        let here = settle_taken(turn, words, page, header);
+        let here = settle_taken(turn, words, pages, page, header);
         all.count += here.released.count;
         all.words += here.released.words;
         all.kept += here.released.kept;
         held += here.held;
+        end = end.max(run_end(header, page));
         from = page + 1;
     }
     Settled {

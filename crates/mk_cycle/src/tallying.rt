@@ -1,9 +1,8 @@
 //! The tallies are set when a cycle has ended.
-ghost use Rattle.std.specs.Prelude.{◌≡◌, ◌+◌, true, false};
+ghost use Rattle.std.specs.Prelude.{◌≡◌, ◌+◌, ◌-◌, true, false};
 ghost use Rattle.mk_core.specs.Accesses.{tally_word};
 ghost use Rattle.mk_core.specs.Counts.{in_a_word};
 ghost use Rattle.mk_core.specs.Ranges.{is_word};
-ghost use Rattle.mk_core.specs.TurnConditions.{held_by_pages};
 ghost use Rattle.mk_core.specs.Words.{named_word};
 ghost use Rattle.mk_words.specs.States.{now_of};
 ghost use Rattle.mk_cycle.specs.EngineLaw.{IsFreeForCycle, is_register};
@@ -51,15 +50,26 @@ fn raise(turn: &mut Turn, words: &Words, n: Tally, word: Word, by: u64)
     set(turn, words, n, before.saturating_add(by));
 }
 
-/// Counts a cycle that has ended, and how many allocations it released; and how many words the pages hold now.
+/// Lowers a tally, to 0 at least.
+fn lower(turn: &mut Turn, words: &Words, n: Tally, word: Word, by: u64)
+    requires one_table { turn.old.pass.table ≡ words.now }
+    requires free { IsFreeForCycle turn.old.pass }
+    requires word { word ≡ tally_word n }
+    ensures op { turn.new.op ≡ turn.old.op }
+    ensures sets { Sets (with_tally n (named_word (now_of turn.old.pass).words word - by)) turn.old.pass turn.new.pass }
+{
+    let before = look(turn, words, word);
+    set(turn, words, n, before.saturating_sub(by));
+}
+
+/// Counts a cycle that has ended, and how many allocations it released; so many words are held no longer.
 pub(crate) fn count_cycle(turn: &mut Turn, words: &Words, held: u64, released: u64)
     requires one_table { turn.old.pass.table ≡ words.now }
     requires free { IsFreeForCycle turn.old.pass }
-    requires held { held ≡ held_by_pages (now_of turn.old.pass).words }
     ensures op { turn.new.op ≡ turn.old.op }
-    ensures sets { Sets (with_cycle_counted (now_of turn.old.pass).words released) turn.old.pass turn.new.pass }
+    ensures sets { Sets (with_cycle_counted (now_of turn.old.pass).words held released) turn.old.pass turn.new.pass }
 {
-    set(turn, words, Tally::Held, held);
+    lower(turn, words, Tally::Held, Word::Held, held);
     raise(turn, words, Tally::Cycles, Word::Cycles, 1);
     raise(turn, words, Tally::Released, Word::Released, released);
 }

@@ -8,7 +8,7 @@ ghost use Rattle.mk_core.specs.TurnConditions.{gives_back, drops, empties};
 ghost use Rattle.mk_core.specs.Moments.{is_held, is_number_of};
 ghost use Rattle.mk_core.specs.Ranges.{is_word};
 ghost use Rattle.mk_core.specs.Words.{named_word, page_of, quarantine_word};
-ghost use Rattle.mk_page_map.specs.Members.{IsNext, has_other_cells, is_in_use};
+ghost use Rattle.mk_page_map.specs.Members.{IsNext, has_freed_cells, is_in_use};
 ghost use Rattle.mk_words.specs.PageMaps.{IsNextUncleaned};
 ghost use Rattle.mk_words.specs.States.{now_of};
 ghost use Rattle.mk_words.specs.TurnSteps.{Acts};
@@ -75,15 +75,15 @@ pub(crate) fn next_uncleaned(turn: &Turn, from: u64) -> Option<u64>
     turn.next_uncleaned(from)
 }
 
-/// The lowest page whose freed cells aren't those of its snapshot, of those from this one on. The page map knows it.
+/// The lowest page that has freed cells, of those from this one on. The page map knows it.
 #[inline(always)]
-pub(crate) fn next_differing(turn: &Turn, from: u64) -> Option<u64>
+pub(crate) fn next_quarantined(turn: &Turn, from: u64) -> Option<u64>
     ensures is { InTurn turn.now.pass }
-    ensures next { IsNext (has_other_cells (now_of turn.now.pass).words.freed (now_of turn.now.pass).words.snapshot)
-        from turn.now.pass.table.config.pages result }
+    ensures next { IsNext (has_freed_cells (now_of turn.now.pass).words.freed) from turn.now.pass.table.config.pages
+        result }
 {
     turn.is_in_order();
-    turn.next_differing(from)
+    turn.next_quarantined(from)
 }
 
 /// The header and used word of a page. The page map knows them.

@@ -82,7 +82,7 @@ cells_few class known = div-le_self 64 (class_words_of class)
 -- what a put of a page into one set, or out of it, leaves of the others
 abbrev pub OtherSetsStay : List ℕ → List ℕ → ℕ → ℕ → Type 0
 OtherSetsStay before after page place =
-    (other : ℕ) → other < 21 → (other ≡ place → ⊥) → is_member after other page ≡ is_member before other page
+    (other : ℕ) → other < 20 → (other ≡ place → ⊥) → is_member after other page ≡ is_member before other page
 
 pub left_blocks : (before after : List ℕ) (page class place used : ℕ) (leaf : Bool) → class < 8
     → place ≡ class_place class leaf → is_member after place page ≡ false → OtherSetsStay before after page place

@@ -20,7 +20,7 @@ use Rattle.mk_page_map.proofs.Showing.{known_by, member_at}
 -- the first pages are in set 16, and nothing is in another
 abbrev pub HaveFree : List ℕ → ℕ → Type 0
 HaveFree sets pages =
-    (set number : ℕ) → set < 21 → number < 4096 → is_member sets set number ≡ (nat_eq set 16 && nat_lt number pages)
+    (set number : ℕ) → set < 20 → number < 4096 → is_member sets set number ≡ (nat_eq set 16 && nat_lt number pages)
 
 zero_at : (n i : ℕ) → get_or {A = ℕ} (replicate n 0) i 0 ≡ 0
 zero_at n i = elim (cases_lt i n) [
@@ -31,21 +31,21 @@ zero_at n i = elim (cases_lt i n) [
 zero_bit : (n i k : ℕ) → nat_eq (bit_at (get_or (replicate n 0) i 0) k) 1 ≡ false
 zero_bit n i k = ap (λ m. nat_eq (bit_at m k) 1) (zero_at n i) ∙ ap (λ b. nat_eq b 1) (bit_at-zero k)
 
-pub zero_sets : AreSets (replicate 1365 0)
+pub zero_sets : AreSets (replicate 1300 0)
 zero_sets = record {
-  long = length-replicate {A = ℕ} 1365 0;
+  long = length-replicate {A = ℕ} 1300 0;
   summaries = λ set word is_set within.
-      zero_bit 1365 (65 * set) word
-      ∙ sym (ap (λ n. not (nat_eq n 0)) (zero_at 1365 (65 * set + 1 + word)));
+      zero_bit 1300 (65 * set) word
+      ∙ sym (ap (λ n. not (nat_eq n 0)) (zero_at 1300 (65 * set + 1 + word)));
 }
 
 -- no page is in a set of words that are 0
 pub none_in_zeros : (n set number : ℕ) → is_member (replicate n 0) set number ≡ false
 none_in_zeros n set number = zero_bit n (65 * set + 1 + number / 64) (number % 64)
 
-pub none_free : HaveFree (replicate 1365 0) 0
+pub none_free : HaveFree (replicate 1300 0) 0
 none_free set number is_set few =
-    none_in_zeros 1365 set number ∙ sym (and_right (nat_eq set 16) (nat_lt number 0) (le-ltb number 0 (omega arith)))
+    none_in_zeros 1300 set number ∙ sym (and_right (nat_eq set 16) (nat_lt number 0) (le-ltb number 0 (omega arith)))
 
 -- one page more
 pub one_free_more : (before after : List ℕ) (page : ℕ) → HaveFree before page → is_member after 16 page ≡ true
@@ -119,21 +119,15 @@ free_fits n sets few are_sets free =
     }
 
 pub free_shows : (n : ℕ) (sets : List ℕ) → n ≤ 4096 → HaveFree sets n
-    → Shows (known_by (replicate n free_page) sets) (replicate n free_page) (replicate n 0) (replicate n 0)
+    → Shows (known_by (replicate n free_page) sets) (replicate n free_page) (replicate n 0)
 free_shows n sets few free =
     let long : length (replicate n free_page) ≡ n = length-replicate n free_page in
     let zeros : length (replicate {A = ℕ} n 0) ≡ n = length-replicate {A = ℕ} n 0 in
     record {
       page_by_page = refl;
       freed_words = zeros ∙ sym long;
-      snapshot_words = zeros ∙ sym long;
       quarantined = λ number within.
           member_at sets 18 (length (replicate n free_page)) number within
           ∙ free 18 number (omega arith) (omega arith)
           ∙ sym (ap (λ m. not (nat_eq m 0)) (zero_at n number));
-      differing = λ number within.
-          member_at sets 19 (length (replicate n free_page)) number within
-          ∙ free 19 number (omega arith) (omega arith)
-          ∙ sym (ap (λ m. not (nat_eq m (get_or (replicate n 0) number 0))) (zero_at n number)
-          ∙ ap (λ m. not (nat_eq 0 m)) (zero_at n number));
     }

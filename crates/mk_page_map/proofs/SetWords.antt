@@ -11,7 +11,7 @@ after_put sets s page word summary = set (set sets (65 * s + 1 + page / 64) word
 -- what is put: the page's word in the set and the set's summary, as they are then
 pub record Puts (sets : List ℕ) (s page : ℕ) (inside : Bool) (word summary : ℕ) : Type 0 where
   pub are_sets : AreSets sets
-  pub is_set : s < 21
+  pub is_set : s < 20
   pub is_page : page < 4096
   pub bit : nat_eq (bit_at word (page % 64)) 1 ≡ inside
   pub other_bits : (k : ℕ) → k < 64 → (k ≡ page % 64 → ⊥) → bit_at word k ≡ bit_at (word_in_set sets s (page / 64)) k

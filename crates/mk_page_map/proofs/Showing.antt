@@ -5,7 +5,7 @@ use Rattle.std.proofs.lemmas.Bool.{cases_eq}
 use Rattle.std.proofs.lemmas.List.FromFn.{get_or-map-range_with_len}
 use Rattle.mk_geom.specs.declared.pages.Page.{Page}
 use Rattle.mk_page_map.specs.KnownPages.{KnownPages, Shows}
-use Rattle.mk_page_map.specs.Members.{has_freed_cells, has_other_cells}
+use Rattle.mk_page_map.specs.Members.{has_freed_cells}
 use Rattle.mk_page_map.specs.PageSets.{OthersStay, is_member, members}
 
 abbrev pub known_by : List Page → List ℕ → KnownPages
@@ -13,8 +13,7 @@ known_by pages sets =
     record {
       pages = pages;
       quarantined = members sets 18 (length pages);
-      differing = members sets 19 (length pages);
-      uncleaned = members sets 20 (length pages);
+      uncleaned = members sets 19 (length pages);
     }
 
 pub member_at : (sets : List ℕ) (s count number : ℕ) → number < count
@@ -22,31 +21,24 @@ pub member_at : (sets : List ℕ) (s count number : ℕ) → number < count
 member_at sets s count number within =
     get_or-map-range_with_len (is_member sets s) 0 count number number false within (omega arith)
 
-pub member_of_freed : (held pages : List Page) (sets freed snapshot : List ℕ)
-    → Shows (known_by held sets) pages freed snapshot → (number : ℕ) → number < length pages
+pub member_of_freed : (held pages : List Page) (sets freed : List ℕ)
+    → Shows (known_by held sets) pages freed → (number : ℕ) → number < length pages
     → is_member sets 18 number ≡ has_freed_cells freed number
-member_of_freed held pages sets freed snapshot shows number within =
+member_of_freed held pages sets freed shows number within =
     let long : length held ≡ length pages = ap length shows.page_by_page in
     sym (member_at sets 18 (length held) number (omega arith)) ∙ shows.quarantined number within
 
-pub member_of_differing : (held pages : List Page) (sets freed snapshot : List ℕ)
-    → Shows (known_by held sets) pages freed snapshot → (number : ℕ) → number < length pages
-    → is_member sets 19 number ≡ has_other_cells freed snapshot number
-member_of_differing held pages sets freed snapshot shows number within =
-    let long : length held ≡ length pages = ap length shows.page_by_page in
-    sym (member_at sets 19 (length held) number (omega arith)) ∙ shows.differing number within
-
 -- where a page's header or used word changes, and its quarantine stays
-pub changed_shows : (held pages : List Page) (sets after freed snapshot : List ℕ) (page : ℕ) (now : Page)
+pub changed_shows : (held pages : List Page) (sets after freed : List ℕ) (page : ℕ) (now : Page)
     → length held ≤ 4096 → OthersStay sets after page
-    → ((s : ℕ) → 18 ≤ s → s < 20 → is_member after s page ≡ is_member sets s page)
-    → Shows (known_by held sets) pages freed snapshot
-    → Shows (known_by (set held page now) after) (set pages page now) freed snapshot
-changed_shows held pages sets after freed snapshot page now few others same_sets shows =
+    → ((s : ℕ) → 18 ≤ s → s < 19 → is_member after s page ≡ is_member sets s page)
+    → Shows (known_by held sets) pages freed
+    → Shows (known_by (set held page now) after) (set pages page now) freed
+changed_shows held pages sets after freed page now few others same_sets shows =
     let long : length held ≡ length pages = ap length shows.page_by_page in
     let held_long : length (set held page now) ≡ length held = length-set held page now in
     let pages_long : length (set pages page now) ≡ length pages = length-set pages page now in
-    let stays : (s number : ℕ) → 18 ≤ s → s < 20 → number < length pages
+    let stays : (s number : ℕ) → 18 ≤ s → s < 19 → number < length pages
     → is_member after s number ≡ is_member sets s number
     = λ s number quarantine is_set within. elim (cases_eq number page) [
       | inl same ↦ ap (is_member after s) same ∙ same_sets s quarantine is_set ∙ ap (is_member sets s) (sym same)
@@ -55,33 +47,25 @@ changed_shows held pages sets after freed snapshot page now few others same_sets
     record {
       page_by_page = ap (λ ps. set ps page now) shows.page_by_page;
       freed_words = shows.freed_words ∙ sym pages_long;
-      snapshot_words = shows.snapshot_words ∙ sym pages_long;
       quarantined = λ number within.
           member_at after 18 (length (set held page now)) number (omega arith)
           ∙ stays 18 number (omega arith) (omega arith) (omega arith)
-          ∙ member_of_freed held pages sets freed snapshot shows number (omega arith);
-      differing = λ number within.
-          member_at after 19 (length (set held page now)) number (omega arith)
-          ∙ stays 19 number (omega arith) (omega arith) (omega arith)
-          ∙ member_of_differing held pages sets freed snapshot shows number (omega arith);
+          ∙ member_of_freed held pages sets freed shows number (omega arith);
     }
 
 -- where a page's quarantine word changes
-pub quarantine_shows : (held pages : List Page) (sets after freed snapshot : List ℕ) (page cells others : ℕ)
+pub quarantine_shows : (held pages : List Page) (sets after freed : List ℕ) (page cells : ℕ)
     → length held ≤ 4096 → page < length held → OthersStay sets after page
-    → is_member after 18 page ≡ not (nat_eq cells 0) → is_member after 19 page ≡ not (nat_eq cells others)
-    → Shows (known_by held sets) pages freed snapshot
-    → Shows (known_by held after) pages (set freed page cells) (set snapshot page others)
-quarantine_shows held pages sets after freed snapshot page cells others few inside stay quarantined differing shows =
+    → is_member after 18 page ≡ not (nat_eq cells 0)
+    → Shows (known_by held sets) pages freed
+    → Shows (known_by held after) pages (set freed page cells)
+quarantine_shows held pages sets after freed page cells few inside stay quarantined shows =
     let long : length held ≡ length pages = ap length shows.page_by_page in
     let freed_here : get_or (set freed page cells) page 0 ≡ cells =
     get_or-set_same freed page cells 0 (omega (arith, shows.freed_words)) in
-    let snapshot_here : get_or (set snapshot page others) page 0 ≡ others =
-    get_or-set_same snapshot page others 0 (omega (arith, shows.snapshot_words)) in
     record {
       page_by_page = shows.page_by_page;
       freed_words = length-set freed page cells ∙ shows.freed_words;
-      snapshot_words = length-set snapshot page others ∙ shows.snapshot_words;
       quarantined = λ number within.
           member_at after 18 (length held) number (omega arith)
           ∙ elim (cases_eq number page) [
@@ -91,24 +75,7 @@ quarantine_shows held pages sets after freed snapshot page cells others few insi
                 ∙ sym (ap (has_freed_cells (set freed page cells)) same ∙ ap (λ n. not (nat_eq n 0)) freed_here)
             | inr differ ↦
                 stay 18 number (omega arith) (omega arith) differ
-                ∙ member_of_freed held pages sets freed snapshot shows number within
+                ∙ member_of_freed held pages sets freed shows number within
                 ∙ sym (ap (λ n. not (nat_eq n 0)) (get_or-set_other freed page number cells 0 differ))
-          ];
-      differing = λ number within.
-          member_at after 19 (length held) number (omega arith)
-          ∙ elim (cases_eq number page) [
-            | inl same ↦
-                ap (is_member after 19) same
-                ∙ differing
-                ∙ sym (ap (has_other_cells (set freed page cells) (set snapshot page others)) same
-                ∙ ap (λ n. not (nat_eq n (get_or (set snapshot page others) page 0))) freed_here
-                ∙ ap (λ n. not (nat_eq cells n)) snapshot_here)
-            | inr differ ↦
-                stay 19 number (omega arith) (omega arith) differ
-                ∙ member_of_differing held pages sets freed snapshot shows number within
-                ∙ sym (ap (λ n. not (nat_eq n (get_or (set snapshot page others) number 0)))
-                (get_or-set_other freed page number cells 0 differ)
-                ∙ ap (λ n. not (nat_eq (get_or freed number 0) n))
-                (get_or-set_other snapshot page number others 0 differ))
           ];
     }

@@ -24,7 +24,7 @@ pub record Stores (held : List Page) (sets slice after : List ℕ) (resident pag
   pub is_slice : slice ≡ sets
   pub are_sets : AreSets after
   pub sorted : IsInItsSets after page (use_of_page now)
-  pub quarantine : (s : ℕ) → 18 ≤ s → s < 20 → is_member after s page ≡ is_member slice s page
+  pub quarantine : (s : ℕ) → 18 ≤ s → s < 19 → is_member after s page ≡ is_member slice s page
   pub others : OthersStay slice after page
 
 changes_of : (held : List Page) (sets slice after : List ℕ) (resident page : ℕ) (now : Page)
@@ -46,18 +46,18 @@ store_fits held sets slice after vec resident count page now stores written coun
     (fit_changed held sets after page now resident count stores.fit
     (changes_of held sets slice after resident page now stores) counted)
 
-pub store_shows : (known : KnownPages) (held pages : List Page) (sets slice after vec freed snapshot : List ℕ)
+pub store_shows : (known : KnownPages) (held pages : List Page) (sets slice after vec freed : List ℕ)
     (resident page : ℕ) (now stored : Page) → Stores held sets slice after resident page now → vec ≡ after
-    → known_by held sets ≡ known → (held ≡ pages → now ≡ stored) → Shows known pages freed snapshot
-    → Shows (known_by (set held page now) vec) (set pages page stored) freed snapshot
-store_shows known held pages sets slice after vec freed snapshot resident page now stored stores written view same shows
+    → known_by held sets ≡ known → (held ≡ pages → now ≡ stored) → Shows known pages freed
+    → Shows (known_by (set held page now) vec) (set pages page stored) freed
+store_shows known held pages sets slice after vec freed resident page now stored stores written view same shows
     =
-    let shows_before = subst (λ (k : KnownPages). Shows k pages freed snapshot) (sym view) shows in
+    let shows_before = subst (λ (k : KnownPages). Shows k pages freed) (sym view) shows in
     let changes = changes_of held sets slice after resident page now stores in
-    subst (λ (p : Page). Shows (known_by (set held page now) vec) (set pages page p) freed snapshot)
+    subst (λ (p : Page). Shows (known_by (set held page now) vec) (set pages page p) freed)
     (same shows_before.page_by_page)
-    (subst (λ (xs : List ℕ). Shows (known_by (set held page now) xs) (set pages page now) freed snapshot) (sym written)
-    (changed_shows held pages sets after freed snapshot page now stores.fit.few changes.others
+    (subst (λ (xs : List ℕ). Shows (known_by (set held page now) xs) (set pages page now) freed) (sym written)
+    (changed_shows held pages sets after freed page now stores.fit.few changes.others
     (λ s quarantine is_set.
     stores.quarantine s quarantine is_set ∙ ap (λ xs. is_member xs s page) stores.is_slice)
     shows_before))

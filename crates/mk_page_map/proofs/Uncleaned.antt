@@ -12,22 +12,22 @@ use Rattle.mk_page_map.specs.PageSets.{AreSets, FitPages, OthersStay, is_member,
 use Rattle.mk_page_map.proofs.Fitting.{fit_again}
 use Rattle.mk_page_map.proofs.NextPages.{same_next}
 use Rattle.mk_page_map.proofs.Reading.{Reads}
-use Rattle.mk_page_map.proofs.Showing.{known_by, member_at, member_of_differing, member_of_freed}
+use Rattle.mk_page_map.proofs.Showing.{known_by, member_at, member_of_freed}
 
 pub uncleaned_at : (held : List Page) (sets : List ℕ) (number : ℕ) → number < length held
-    → is_uncleaned (known_by held sets) number ≡ is_member sets 20 number
-uncleaned_at held sets number within = member_at sets 20 (length held) number within
+    → is_uncleaned (known_by held sets) number ≡ is_member sets 19 number
+uncleaned_at held sets number within = member_at sets 19 (length held) number within
 
 uncleaned_past : (held : List Page) (sets : List ℕ) (number : ℕ) → length held ≤ number
     → is_uncleaned (known_by held sets) number ≡ false
 uncleaned_past held sets number past =
-    let long : length (members sets 20 (length held)) ≡ length held =
-    length-map (range_with_len 0 (length held)) (is_member sets 20) ∙ length-range_with_len 0 (length held) in
-    get_or_past (members sets 20 (length held)) number false (omega arith)
+    let long : length (members sets 19 (length held)) ≡ length held =
+    length-map (range_with_len 0 (length held)) (is_member sets 19) ∙ length-range_with_len 0 (length held) in
+    get_or_past (members sets 19 (length held)) number false (omega arith)
 
 -- what the set has as before
 pub uncleaned_alike : (held now : List Page) (sets after : List ℕ) (number : ℕ) → length now ≡ length held
-    → (number < length held → is_member after 20 number ≡ is_member sets 20 number)
+    → (number < length held → is_member after 19 number ≡ is_member sets 19 number)
     → is_uncleaned (known_by now after) number ≡ is_uncleaned (known_by held sets) number
 uncleaned_alike held now sets after number long same = elim (cases_lt number (length held)) [
   | inl within ↦
@@ -40,7 +40,7 @@ pub uncleaned_others : (held now : List Page) (sets after : List ℕ) (page numb
     → is_uncleaned (known_by now after) number ≡ is_uncleaned (known_by held sets) number
 uncleaned_others held now sets after page number long few others differ =
     uncleaned_alike held now sets after number long
-    (λ within. others 20 number (omega arith) (omega arith) differ)
+    (λ within. others 19 number (omega arith) (omega arith) differ)
 
 -- where all else of a page stays in the sets
 pub record ChangesUncleaned (held : List Page) (sets slice after : List ℕ) (resident page : ℕ) : Type 0 where
@@ -48,12 +48,12 @@ pub record ChangesUncleaned (held : List Page) (sets slice after : List ℕ) (re
   pub within : page < length held
   pub is_slice : slice ≡ sets
   pub are_sets : AreSets after
-  pub other_sets : (s : ℕ) → s < 21 → (s ≡ 20 → ⊥) → is_member after s page ≡ is_member slice s page
+  pub other_sets : (s : ℕ) → s < 20 → (s ≡ 19 → ⊥) → is_member after s page ≡ is_member slice s page
   pub others : OthersStay slice after page
 
 same_sets : (held : List Page) (sets slice after : List ℕ) (resident page : ℕ)
     → ChangesUncleaned held sets slice after resident page
-    → (s number : ℕ) → s < 20 → number < length held → is_member after s number ≡ is_member sets s number
+    → (s number : ℕ) → s < 19 → number < length held → is_member after s number ≡ is_member sets s number
 same_sets held sets slice after resident page r s number is_set within =
     elim (cases_eq number page) [
       | inl same ↦
@@ -74,27 +74,22 @@ still_fits held sets slice after vec resident page r written =
     (λ s is_set. same_sets held sets slice after resident page r s page (omega arith) r.within)
     (subst (λ (xs : List ℕ). OthersStay xs after page) r.is_slice r.others))
 
-pub still_shows : (known : KnownPages) (held pages : List Page) (sets slice after vec freed snapshot : List ℕ)
+pub still_shows : (known : KnownPages) (held pages : List Page) (sets slice after vec freed : List ℕ)
     (resident page : ℕ) → ChangesUncleaned held sets slice after resident page → vec ≡ after → known_by held sets
     ≡ known
-    → Shows known pages freed snapshot → Shows (known_by held vec) pages freed snapshot
-still_shows known held pages sets slice after vec freed snapshot resident page r written view shows =
-    let before = subst (λ (k : KnownPages). Shows k pages freed snapshot) (sym view) shows in
+    → Shows known pages freed → Shows (known_by held vec) pages freed
+still_shows known held pages sets slice after vec freed resident page r written view shows =
+    let before = subst (λ (k : KnownPages). Shows k pages freed) (sym view) shows in
     let long : length held ≡ length pages = ap length before.page_by_page in
     let stays = same_sets held sets slice after resident page r in
-    subst (λ (xs : List ℕ). Shows (known_by held xs) pages freed snapshot) (sym written)
+    subst (λ (xs : List ℕ). Shows (known_by held xs) pages freed) (sym written)
     (record {
       page_by_page = before.page_by_page;
       freed_words = before.freed_words;
-      snapshot_words = before.snapshot_words;
       quarantined = λ number within.
           member_at after 18 (length held) number (omega arith)
           ∙ stays 18 number (omega arith) (omega arith)
-          ∙ member_of_freed held pages sets freed snapshot before number within;
-      differing = λ number within.
-          member_at after 19 (length held) number (omega arith)
-          ∙ stays 19 number (omega arith) (omega arith)
-          ∙ member_of_differing held pages sets freed snapshot before number within;
+          ∙ member_of_freed held pages sets freed before number within;
     })
 
 pub others_uncleaned : (known : KnownPages) (held : List Page) (sets slice after vec : List ℕ)
@@ -108,7 +103,7 @@ others_uncleaned known held sets slice after vec resident page number r written 
     ∙ ap (λ k. is_uncleaned k number) view
 
 pub this_uncleaned : (held : List Page) (after vec : List ℕ) (page : ℕ) (inside : Bool) → page < length held
-    → vec ≡ after → is_member after 20 page ≡ inside → is_uncleaned (known_by held vec) page ≡ inside
+    → vec ≡ after → is_member after 19 page ≡ inside → is_uncleaned (known_by held vec) page ≡ inside
 this_uncleaned held after vec page inside within written put =
     ap (λ xs. is_uncleaned (known_by held xs) page) written ∙ uncleaned_at held after page within ∙ put
 
@@ -126,7 +121,7 @@ others_kept known held now sets slice after vec page number view is_slice writte
 
 pub all_kept : (known : KnownPages) (held now : List Page) (sets slice after vec : List ℕ) (page number : ℕ)
     → known_by held sets ≡ known → slice ≡ sets → vec ≡ after → length now ≡ length held → length held ≤ 4096
-    → OthersStay slice after page → is_member after 20 page ≡ is_member slice 20 page
+    → OthersStay slice after page → is_member after 19 page ≡ is_member slice 19 page
     → is_uncleaned (known_by now vec) number ≡ is_uncleaned known number
 all_kept known held now sets slice after vec page number view is_slice written long few others same =
     elim (cases_eq number page) [
@@ -136,20 +131,20 @@ all_kept known held now sets slice after vec page number view is_slice written l
           ap (λ xs. is_uncleaned (known_by now xs) number) written
           ∙ uncleaned_alike held now sets after number long
           (λ within.
-          ap (is_member after 20) here
+          ap (is_member after 19) here
           ∙ same
-          ∙ ap (λ xs. is_member xs 20 page) is_slice
-          ∙ ap (is_member sets 20) (sym here))
+          ∙ ap (λ xs. is_member xs 19 page) is_slice
+          ∙ ap (is_member sets 19) (sym here))
           ∙ ap (λ k. is_uncleaned k number) view
     ]
 
 -- the next page of the set
 pub next_of_uncleaned : (known : KnownPages) (held : List Page) (sets slice : List ℕ) (resident count from : ℕ)
     (next : Option ℕ) → Reads known held sets slice resident count
-    → IsNext (is_member slice 20) from count next → IsNext (is_uncleaned known) from (length known.pages) next
+    → IsNext (is_member slice 19) from count next → IsNext (is_uncleaned known) from (length known.pages) next
 next_of_uncleaned known held sets slice resident count from next reads found =
     subst (λ (k : KnownPages). IsNext (is_uncleaned k) from (length k.pages) next) reads.view
-    (same_next (is_member slice 20) (is_uncleaned (known_by held sets)) from (length held) next
+    (same_next (is_member slice 19) (is_uncleaned (known_by held sets)) from (length held) next
     (λ number within.
-    ap (λ xs. is_member xs 20 number) reads.is_slice ∙ sym (uncleaned_at held sets number within))
-    (subst (λ (n : ℕ). IsNext (is_member slice 20) from n next) reads.is_count found))
+    ap (λ xs. is_member xs 19 number) reads.is_slice ∙ sym (uncleaned_at held sets number within))
+    (subst (λ (n : ℕ). IsNext (is_member slice 19) from n next) reads.is_count found))

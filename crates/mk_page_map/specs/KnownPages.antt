@@ -1,29 +1,25 @@
 -- What a page map knows, and what it is to be right about a heap.
 use Rattle.std.specs.Prelude.{◌≡◌, ℕ, ◌<◌, Bool, false, List, length, slice_index_or, slice_set}
 use Rattle.mk_geom.specs.declared.pages.Page.{Page}
-use Rattle.mk_page_map.specs.Members.{page_at, has_freed_cells, has_other_cells}
+use Rattle.mk_page_map.specs.Members.{page_at, has_freed_cells}
 
--- The header and used word of each page; of each whether it has freed cells, whether they are others than those of its
--- snapshot, and whether it is a free page that may be marked.
+-- The header and used word of each page; of each whether it has freed cells, and whether it is a free page that may be
+-- marked.
 pub record KnownPages : Type 0 where
   pub pages : List Page
   pub quarantined : List Bool
-  pub differing : List Bool
   pub uncleaned : List Bool
 
 -- Since it was freed, or marked as a free page, nobody has said that no mark is left on it.
 abbrev pub is_uncleaned : KnownPages → ℕ → Bool
 is_uncleaned known number = slice_index_or known.uncleaned number false
 
--- It is right about a heap that has these pages, freed cells and snapshot.
-pub record Shows (known : KnownPages) (pages : List Page) (freed snapshot : List ℕ) : Type 0 where
+-- It is right about a heap that has these pages and freed cells.
+pub record Shows (known : KnownPages) (pages : List Page) (freed : List ℕ) : Type 0 where
   pub page_by_page : known.pages ≡ pages
   pub freed_words : length freed ≡ length pages
-  pub snapshot_words : length snapshot ≡ length pages
   pub quarantined : (number : ℕ) → number < length pages
       → slice_index_or known.quarantined number false ≡ has_freed_cells freed number
-  pub differing : (number : ℕ) → number < length pages
-      → slice_index_or known.differing number false ≡ has_other_cells freed snapshot number
 
 -- the pages after a store of a header word, and of a used word
 abbrev pub with_header : List Page → ℕ → ℕ → List Page

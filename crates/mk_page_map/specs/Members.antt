@@ -21,10 +21,6 @@ is_in_use pages number = not (is_free_page (use_of_page (page_at pages number)))
 abbrev pub has_freed_cells : List ℕ → ℕ → Bool
 has_freed_cells freed number = not (slice_index freed number == 0)
 
--- the page's freed cells aren't those of its snapshot
-abbrev pub has_other_cells : List ℕ → List ℕ → ℕ → Bool
-has_other_cells freed snapshot number = not (slice_index freed number == slice_index snapshot number)
-
 -- the lowest number that passes, of those from this one on and below a count
 abbrev pub IsNext : (ℕ → Bool) → ℕ → ℕ → Option ℕ → Type 0
 IsNext passes from count (Some number) =

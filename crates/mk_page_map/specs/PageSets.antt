@@ -21,10 +21,10 @@ summary_of sets set = slice_index sets (65 * set)
 abbrev pub is_member : List ℕ → ℕ → ℕ → Bool
 is_member sets set number = bit_at (word_in_set sets set (number / 64)) (number % 64) == 1
 
--- there are 21 sets, and each has its summary
+-- there are 20 sets, and each has its summary
 pub record AreSets (sets : List ℕ) : Type 0 where
-  pub long : length sets ≡ 1365
-  pub summaries : (set word : ℕ) → set < 21 → word < 64
+  pub long : length sets ≡ 1300
+  pub summaries : (set word : ℕ) → set < 20 → word < 64
       → (bit_at (summary_of sets set) word == 1) ≡ not (word_in_set sets set word == 0)
 
 -- Sets 0 to 15 have the blocks with a free cell: those of a class and then the leaf blocks of a class. Set 16 has the
@@ -41,7 +41,7 @@ IsInItsSets sets number stands = (set : ℕ) → set < 18 → is_member sets set
 -- all other pages are in the sets that they were in
 abbrev pub OthersStay : List ℕ → List ℕ → ℕ → Type 0
 OthersStay before after page =
-    (set number : ℕ) → set < 21 → number < 4096 → (number ≡ page → ⊥)
+    (set number : ℕ) → set < 20 → number < 4096 → (number ≡ page → ⊥)
     → is_member after set number ≡ is_member before set number
 
 -- the sets and the count of resident pages fit the pages
@@ -49,7 +49,7 @@ pub record FitPages (pages : List Page) (sets : List ℕ) (resident : ℕ) : Typ
   pub few : length pages ≤ 4096
   pub are_sets : 0 < length pages → AreSets sets
   pub sorted : (number : ℕ) → number < length pages → IsInItsSets sets number (use_of_page (page_at pages number))
-  pub no_others : (set number : ℕ) → set < 21 → length pages ≤ number → number < 4096
+  pub no_others : (set number : ℕ) → set < 20 → length pages ≤ number → number < 4096
       → is_member sets set number ≡ false
   pub counted : resident ≡ resident_pages (uses_of_pages pages)
 

@@ -14,8 +14,8 @@ impl PageMap {
     /// A header word was stored. A page that is freed may be marked.
     pub fn header_stored(&mut self, page: u64, header: u64)
         requires { page < length self.old.pages }
-        ensures shows { (pages : List Page) (freed snapshot : List ℕ) → Shows self.old pages freed snapshot
-            → Shows self.new (with_header pages page header) freed snapshot }
+        ensures shows { (pages : List Page) (freed : List ℕ) → Shows self.old pages freed
+            → Shows self.new (with_header pages page header) freed }
         ensures freed { header ≡ 0 → is_uncleaned self.new page ≡ true }
         ensures others { (number : ℕ) → (number ≡ page → ⊥)
             → is_uncleaned self.new number ≡ is_uncleaned self.old number }
@@ -33,8 +33,8 @@ impl PageMap {
     /// A used word was stored.
     pub fn used_stored(&mut self, page: u64, used: u64)
         requires { page < length self.old.pages }
-        ensures shows { (pages : List Page) (freed snapshot : List ℕ) → Shows self.old pages freed snapshot
-            → Shows self.new (with_used pages page used) freed snapshot }
+        ensures shows { (pages : List Page) (freed : List ℕ) → Shows self.old pages freed
+            → Shows self.new (with_used pages page used) freed }
         ensures uncleaned { (number : ℕ) → is_uncleaned self.new number ≡ is_uncleaned self.old number }
     {
         let place = page as usize;
@@ -43,22 +43,21 @@ impl PageMap {
         sort_by_used(&mut self.sets, page, kind_of(header), used);
     }
 
-    /// A quarantine word was stored, which has these freed cells and this snapshot.
-    pub fn quarantine_stored(&mut self, page: u64, freed: u64, snapshot: u64)
+    /// A quarantine word was stored, which has these freed cells.
+    pub fn quarantine_stored(&mut self, page: u64, freed: u64)
         requires { page < length self.old.pages }
-        ensures shows { (pages : List Page) (freed_words snapshots : List ℕ)
-            → Shows self.old pages freed_words snapshots
-            → Shows self.new pages (slice_set freed_words page freed) (slice_set snapshots page snapshot) }
+        ensures shows { (pages : List Page) (freed_words : List ℕ) → Shows self.old pages freed_words
+            → Shows self.new pages (slice_set freed_words page freed) }
         ensures uncleaned { (number : ℕ) → is_uncleaned self.new number ≡ is_uncleaned self.old number }
     {
-        sort_by_quarantine(&mut self.sets, page, freed, snapshot);
+        sort_by_quarantine(&mut self.sets, page, freed);
     }
 
     /// Puts a page among those that are to be cleaned, or takes it out.
     fn put_uncleaned(&mut self, page: u64, inside: bool)
         requires { page < length self.old.pages }
-        ensures shows { (pages : List Page) (freed snapshot : List ℕ) → Shows self.old pages freed snapshot
-            → Shows self.new pages freed snapshot }
+        ensures shows { (pages : List Page) (freed : List ℕ) → Shows self.old pages freed
+            → Shows self.new pages freed }
         ensures this { is_uncleaned self.new page ≡ inside }
         ensures others { (number : ℕ) → (number ≡ page → ⊥)
             → is_uncleaned self.new number ≡ is_uncleaned self.old number }
@@ -70,8 +69,8 @@ impl PageMap {
     #[inline(always)]
     pub fn marked(&mut self, page: u64)
         requires { page < length self.old.pages }
-        ensures shows { (pages : List Page) (freed snapshot : List ℕ) → Shows self.old pages freed snapshot
-            → Shows self.new pages freed snapshot }
+        ensures shows { (pages : List Page) (freed : List ℕ) → Shows self.old pages freed
+            → Shows self.new pages freed }
         ensures marked { (page_at self.old.pages page).header ≡ 0 → is_uncleaned self.new page ≡ true }
         ensures others { (number : ℕ) → (number ≡ page → ⊥)
             → is_uncleaned self.new number ≡ is_uncleaned self.old number }
@@ -84,8 +83,8 @@ impl PageMap {
     /// Nothing of a page is marked or black.
     pub fn cleaned(&mut self, page: u64)
         requires { page < length self.old.pages }
-        ensures shows { (pages : List Page) (freed snapshot : List ℕ) → Shows self.old pages freed snapshot
-            → Shows self.new pages freed snapshot }
+        ensures shows { (pages : List Page) (freed : List ℕ) → Shows self.old pages freed
+            → Shows self.new pages freed }
         ensures others { (number : ℕ) → (number ≡ page → ⊥)
             → is_uncleaned self.new number ≡ is_uncleaned self.old number }
     {

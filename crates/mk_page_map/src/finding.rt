@@ -4,19 +4,19 @@ ghost use Rattle.mk_geom.specs.declared.pages.Page.{Page};
 ghost use Rattle.mk_geom.specs.PageUses.{first_where, is_free_page, range_start, resident_pages};
 ghost use Rattle.mk_geom.specs.PageWords.{uses_of_pages};
 ghost use Rattle.mk_page_map.specs.KnownPages.{Shows, is_uncleaned};
-ghost use Rattle.mk_page_map.specs.Members.{IsNext, has_free_cell, has_freed_cells, has_other_cells, is_in_use};
+ghost use Rattle.mk_page_map.specs.Members.{IsNext, has_free_cell, has_freed_cells, is_in_use};
 ghost use Rattle.mk_page_map.specs.Members.{page_at};
 ghost use Rattle.mk_page_map.specs.PageSets.{AreSets, is_member};
 
 use crate::page_map::PageMap;
 use crate::sets::next_in;
-use crate::sorting::{DIFFERING, FREE, IN_USE, QUARANTINED, UNCLEANED, block_set};
+use crate::sorting::{FREE, IN_USE, QUARANTINED, UNCLEANED, block_set};
 use mk_geom::Page;
 
 /// The lowest page of a set that isn't below this one, of a map of this many pages.
 fn next_page(count: usize, sets: &[u64], set: usize, from: u64) -> Option<u64>
     requires sets { 0 < count → AreSets sets.now }
-    requires set { set < 21 }
+    requires set { set < 20 }
     requires few { count ≤ 4096 }
     requires no_others { (number : ℕ) → count ≤ number → number < 4096 → is_member sets.now set number ≡ false }
     ensures { IsNext (is_member sets.now set) from count result }
@@ -30,7 +30,7 @@ fn next_page(count: usize, sets: &[u64], set: usize, from: u64) -> Option<u64>
 impl PageMap {
     /// The lowest free page.
     pub fn first_free(&self) -> Option<u64>
-        ensures { (pages : List Page) (freed snapshot : List ℕ) → Shows self.now pages freed snapshot
+        ensures { (pages : List Page) (freed : List ℕ) → Shows self.now pages freed
             → result ≡ first_where is_free_page (uses_of_pages pages) }
     {
         next_page(self.pages.len(), &self.sets, FREE, 0)
@@ -39,7 +39,7 @@ impl PageMap {
     /// The lowest block of a class and sort that has a free cell.
     pub fn first_block(&self, class: u64, leaf: bool) -> Option<u64>
         requires { class < 8 }
-        ensures { (pages : List Page) (freed snapshot : List ℕ) → Shows self.now pages freed snapshot
+        ensures { (pages : List Page) (freed : List ℕ) → Shows self.now pages freed
             → result ≡ first_where (has_free_cell class leaf) (uses_of_pages pages) }
     {
         next_page(self.pages.len(), &self.sets, block_set(class, leaf), 0)
@@ -47,7 +47,7 @@ impl PageMap {
 
     /// The lowest page that isn't free, of those from this one on.
     pub fn next_in_use(&self, from: u64) -> Option<u64>
-        ensures { (pages : List Page) (freed snapshot : List ℕ) → Shows self.now pages freed snapshot
+        ensures { (pages : List Page) (freed : List ℕ) → Shows self.now pages freed
             → IsNext (is_in_use pages) from (length pages) result }
     {
         next_page(self.pages.len(), &self.sets, IN_USE, from)
@@ -55,18 +55,10 @@ impl PageMap {
 
     /// The lowest page that has freed cells, of those from this one on.
     pub fn next_quarantined(&self, from: u64) -> Option<u64>
-        ensures { (pages : List Page) (freed snapshot : List ℕ) → Shows self.now pages freed snapshot
+        ensures { (pages : List Page) (freed : List ℕ) → Shows self.now pages freed
             → IsNext (has_freed_cells freed) from (length pages) result }
     {
         next_page(self.pages.len(), &self.sets, QUARANTINED, from)
-    }
-
-    /// The lowest page whose freed cells aren't those of its snapshot, of those from this one on.
-    pub fn next_differing(&self, from: u64) -> Option<u64>
-        ensures { (pages : List Page) (freed snapshot : List ℕ) → Shows self.now pages freed snapshot
-            → IsNext (has_other_cells freed snapshot) from (length pages) result }
-    {
-        next_page(self.pages.len(), &self.sets, DIFFERING, from)
     }
 
     /// The lowest free page that may be marked, of those from this one on.
@@ -79,7 +71,7 @@ impl PageMap {
     /// The lowest of this many neighbours that are free. It goes from one range of free pages to the next.
     pub fn first_range(&self, count: u64) -> Option<u64>
         requires { 1 ≤ count }
-        ensures { (pages : List Page) (freed snapshot : List ℕ) → Shows self.now pages freed snapshot
+        ensures { (pages : List Page) (freed : List ℕ) → Shows self.now pages freed
             → result ≡ range_start count (uses_of_pages pages) }
     {
         let pages = self.pages.len();
@@ -96,7 +88,7 @@ impl PageMap {
 
     /// How many pages are resident.
     pub fn resident(&self) -> u64
-        ensures { (pages : List Page) (freed snapshot : List ℕ) → Shows self.now pages freed snapshot
+        ensures { (pages : List Page) (freed : List ℕ) → Shows self.now pages freed
             → result ≡ resident_pages (uses_of_pages pages) }
     {
         self.resident
@@ -105,7 +97,7 @@ impl PageMap {
     /// The header and used word of a page.
     pub fn page(&self, page: u64) -> Page
         requires { page < length self.now.pages }
-        ensures { (pages : List Page) (freed snapshot : List ℕ) → Shows self.now pages freed snapshot
+        ensures { (pages : List Page) (freed : List ℕ) → Shows self.now pages freed
             → result ≡ page_at pages page }
     {
         self.pages[page as usize]

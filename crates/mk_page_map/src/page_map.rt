@@ -28,8 +28,7 @@ impl Model for PageMap {
     ghost view = { λ m. record {
       pages = m.pages.items;
       quarantined = members m.sets.items 18 (length m.pages.items);
-      differing = members m.sets.items 19 (length m.pages.items);
-      uncleaned = members m.sets.items 20 (length m.pages.items);
+      uncleaned = members m.sets.items 19 (length m.pages.items);
     } };
 
     ghost invariant = { λ m. FitPages m.pages.items m.sets.items m.resident };
@@ -40,7 +39,7 @@ impl PageMap {
     pub fn new(alloc: Global, pages: u64) -> Result<PageMap, AllocError>
         requires { pages ≤ 4096 }
         ensures { IfOk result
-            (λ map. Shows map (replicate pages free_page) (replicate pages 0) (replicate pages 0)) }
+            (λ map. Shows map (replicate pages free_page) (replicate pages 0)) }
     {
         let sets = free_sets(alloc, pages)?;
         let pages = vec![in alloc; FREE_PAGE; pages as usize]?;

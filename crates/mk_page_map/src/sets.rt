@@ -32,7 +32,7 @@ fn lowest_from(word: u64, from: u64) -> Option<u64>
 /// The lowest page of a set that isn't below this one.
 pub(crate) fn next_in(sets: &[u64], set: usize, from: u64) -> Option<u64>
     requires sets { AreSets sets.now }
-    requires set { set < 21 }
+    requires set { set < 20 }
     ensures { IsNext (is_member sets.now set) from 4096 result }
 {
     let summary = SET_WORDS * set;
@@ -62,11 +62,11 @@ fn with_bit(word: u64, place: u64, is_one: bool) -> u64
 /// Puts a page into a set, or takes it out.
 pub(crate) fn put(sets: &mut [u64], set: usize, page: u64, inside: bool)
     requires sets { AreSets sets.old }
-    requires set { set < 21 }
+    requires set { set < 20 }
     requires page { page < 4096 }
     ensures sets { AreSets sets.new }
     ensures this { is_member sets.new set page ≡ inside }
-    ensures other_sets { (other : ℕ) → other < 21 → (other ≡ set → ⊥)
+    ensures other_sets { (other : ℕ) → other < 20 → (other ≡ set → ⊥)
         → is_member sets.new other page ≡ is_member sets.old other page }
     ensures other_pages { OthersStay sets.old sets.new page }
 {

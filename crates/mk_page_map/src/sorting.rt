@@ -18,14 +18,11 @@ pub(crate) const IN_USE: usize = 17;
 /// The set of the pages that have freed cells.
 pub(crate) const QUARANTINED: usize = 18;
 
-/// The set of the pages whose freed cells aren't those of their snapshot.
-pub(crate) const DIFFERING: usize = 19;
-
 /// The set of the free pages that may be marked.
-pub(crate) const UNCLEANED: usize = 20;
+pub(crate) const UNCLEANED: usize = 19;
 
 /// The number of sets.
-pub(crate) const SETS: usize = 21;
+pub(crate) const SETS: usize = 20;
 
 /// The set of the blocks of a class and sort that have a free cell.
 pub(crate) fn block_set(class: u64, leaf: bool) -> usize
@@ -45,7 +42,7 @@ fn leave_blocks(sets: &mut [u64], page: u64, kind: PageKind)
     requires sorted { (used : ℕ) × IsInItsSets sets.old page (use_of_kind kind used) }
     ensures sets { AreSets sets.new }
     ensures left { (set : ℕ) → set < 16 → is_member sets.new set page ≡ false }
-    ensures other_sets { (set : ℕ) → 16 ≤ set → set < 21 → is_member sets.new set page ≡ is_member sets.old set page }
+    ensures other_sets { (set : ℕ) → 16 ≤ set → set < 20 → is_member sets.new set page ≡ is_member sets.old set page }
     ensures other_pages { OthersStay sets.old sets.new page }
 {
     if let PageKind::Block { class, leaf } = kind {
@@ -61,7 +58,7 @@ fn join_blocks(sets: &mut [u64], page: u64, kind: PageKind, used: u64)
     requires left { (set : ℕ) → set < 16 → is_member sets.old set page ≡ false }
     ensures sets { AreSets sets.new }
     ensures joined { (set : ℕ) → set < 16 → is_member sets.new set page ≡ is_of_set set (use_of_kind kind used) }
-    ensures other_sets { (set : ℕ) → 16 ≤ set → set < 21 → is_member sets.new set page ≡ is_member sets.old set page }
+    ensures other_sets { (set : ℕ) → 16 ≤ set → set < 20 → is_member sets.new set page ≡ is_member sets.old set page }
     ensures other_pages { OthersStay sets.old sets.new page }
 {
     if let PageKind::Block { class, leaf } = kind {
@@ -89,8 +86,8 @@ pub(crate) fn sort_by_header(
     requires sorted { IsInItsSets sets.old page (use_of_kind before used) }
     ensures sets { AreSets sets.new }
     ensures sorted { IsInItsSets sets.new page (use_of_kind after used) }
-    ensures uncleaned { is_member sets.new 20 page ≡ is_free_page (use_of_kind after used) }
-    ensures other_sets { (set : ℕ) → 18 ≤ set → set < 20 → is_member sets.new set page ≡ is_member sets.old set page }
+    ensures uncleaned { is_member sets.new 19 page ≡ is_free_page (use_of_kind after used) }
+    ensures other_sets { (set : ℕ) → 18 ≤ set → set < 19 → is_member sets.new set page ≡ is_member sets.old set page }
     ensures other_pages { OthersStay sets.old sets.new page }
 {
     leave_blocks(sets, page, before);
@@ -109,7 +106,7 @@ pub(crate) fn sort_by_used(sets: &mut [u64], page: u64, kind: PageKind, used: u6
     requires sorted { (before : ℕ) × IsInItsSets sets.old page (use_of_kind kind before) }
     ensures sets { AreSets sets.new }
     ensures sorted { IsInItsSets sets.new page (use_of_kind kind used) }
-    ensures other_sets { (set : ℕ) → 18 ≤ set → set < 21 → is_member sets.new set page ≡ is_member sets.old set page }
+    ensures other_sets { (set : ℕ) → 18 ≤ set → set < 20 → is_member sets.new set page ≡ is_member sets.old set page }
     ensures other_pages { OthersStay sets.old sets.new page }
 {
     if let PageKind::Block { class, leaf } = kind {
@@ -123,25 +120,23 @@ pub(crate) fn sort_by_used(sets: &mut [u64], page: u64, kind: PageKind, used: u6
 }
 
 /// Sorts a page anew whose quarantine word has changed.
-pub(crate) fn sort_by_quarantine(sets: &mut [u64], page: u64, freed: u64, snapshot: u64)
+pub(crate) fn sort_by_quarantine(sets: &mut [u64], page: u64, freed: u64)
     requires sets { AreSets sets.old }
     requires page { page < 4096 }
     ensures sets { AreSets sets.new }
     ensures quarantined { is_member sets.new 18 page ≡ not (freed == 0) }
-    ensures differing { is_member sets.new 19 page ≡ not (freed == snapshot) }
     ensures other_sets { (set : ℕ) → set < 18 → is_member sets.new set page ≡ is_member sets.old set page }
-    ensures uncleaned { is_member sets.new 20 page ≡ is_member sets.old 20 page }
+    ensures uncleaned { is_member sets.new 19 page ≡ is_member sets.old 19 page }
     ensures other_pages { OthersStay sets.old sets.new page }
 {
     put(sets, QUARANTINED, page, freed != 0);
-    put(sets, DIFFERING, page, freed != snapshot);
 }
 
 /// The sets of this many free pages.
 pub(crate) fn free_sets(alloc: Global, pages: u64) -> Result<Vec<u64>, AllocError>
     requires { pages ≤ 4096 }
     ensures sets { IfOk result (λ sets. AreSets sets.items) }
-    ensures members { IfOk result (λ sets. (set number : ℕ) → set < 21 → number < 4096
+    ensures members { IfOk result (λ sets. (set number : ℕ) → set < 20 → number < 4096
         → is_member sets.items set number ≡ (set == 16) && nat_lt number pages) }
 {
     let mut sets = vec![in alloc; 0; SETS * SET_WORDS]?;

@@ -35,17 +35,17 @@ use Rattle.mk_words.proofs.Unmarked.{is_mark, others_unmark, stays_bare}
 -- the words that a page map shows
 
 abbrev pub PageWords : Type 0
-PageWords = List Page × List ℕ × List ℕ
+PageWords = List Page × List ℕ
 
 abbrev pub page_words : Words → PageWords
-page_words w = (w.pages, w.freed, w.snapshot)
+page_words w = (w.pages, w.freed)
 
 abbrev pub steady_page_words : Steady → PageWords
-steady_page_words y = (y.pages, y.freed, y.snapshot)
+steady_page_words y = (y.pages, y.freed)
 
-pub shows_same : (map : KnownPages) (w v : Words) → page_words w ≡ page_words v → Shows map w.pages w.freed w.snapshot
-    → Shows map v.pages v.freed v.snapshot
-shows_same map w v same shows = subst (λ (x : PageWords). Shows map x.0 x.1 x.2) same shows
+pub shows_same : (map : KnownPages) (w v : Words) → page_words w ≡ page_words v → Shows map w.pages w.freed
+    → Shows map v.pages v.freed
+shows_same map w v same shows = subst (λ (x : PageWords). Shows map x.0 x.1) same shows
 
 -- Over an event that is no `mark` and leaves the pages a map shows what it showed.
 pub map_stays : (c : Config) (es : List Event) (e : Event) (map : KnownPages) → IsHistory c (es ++ e ∷ [])

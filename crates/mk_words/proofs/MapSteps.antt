@@ -1,7 +1,7 @@
 -- The page map of a turn is kept in step with what its holder stores.
 use Rattle.std.proofs.Common.{◌≡◌, ℕ, ◌<◌, Bool, true, false, Option, Some, None, List, [], ◌∷◌, ◌++◌, length, refl}
 use Rattle.std.proofs.Common.{sym, ◌∙◌, ap, subst, inl, inr, arith}
-use Rattle.std.specs.Prelude.{◌/◌, ◌%◌, ◌^◌, slice_index, slice_set}
+use Rattle.std.specs.Prelude.{◌%◌, ◌^◌, slice_index, slice_set}
 use Rattle.std.proofs.lemmas.Bool.{cases_eq, ltb-true}
 use Rattle.std.proofs.lemmas.List.{get_or-set_other, get_or-set_same}
 use Rattle.mk_geom.specs.declared.pages.Page.{Page}
@@ -94,24 +94,24 @@ module _ (p : PassState) (s : Step) (q : PassState) (a : Acts p s q) where
 -- What a map shows after the four steps, by what it is told of each.
 
 pub record HeaderIsTold (old : KnownPages) (page header : ℕ) (new : KnownPages) : Type 0 where
-  pub shows : (pages : List Page) (freed snapshot : List ℕ) → Shows old pages freed snapshot
-      → Shows new (with_header pages page header) freed snapshot
+  pub shows : (pages : List Page) (freed : List ℕ) → Shows old pages freed
+      → Shows new (with_header pages page header) freed
   pub freed : header ≡ 0 → is_uncleaned new page ≡ true
   pub others : (number : ℕ) → (number ≡ page → ⊥) → is_uncleaned new number ≡ is_uncleaned old number
 
 pub record UsedIsTold (old : KnownPages) (page used : ℕ) (new : KnownPages) : Type 0 where
-  pub shows : (pages : List Page) (freed snapshot : List ℕ) → Shows old pages freed snapshot
-      → Shows new (with_used pages page used) freed snapshot
+  pub shows : (pages : List Page) (freed : List ℕ) → Shows old pages freed
+      → Shows new (with_used pages page used) freed
   pub uncleaned : (number : ℕ) → is_uncleaned new number ≡ is_uncleaned old number
 
-pub record QuarantineIsTold (old : KnownPages) (page now_freed now_snapshot : ℕ) (new : KnownPages) : Type 0 where
-  pub shows : (pages : List Page) (freed snapshot : List ℕ) → Shows old pages freed snapshot
-      → Shows new pages (slice_set freed page now_freed) (slice_set snapshot page now_snapshot)
+pub record QuarantineIsTold (old : KnownPages) (page now_freed : ℕ) (new : KnownPages) : Type 0 where
+  pub shows : (pages : List Page) (freed : List ℕ) → Shows old pages freed
+      → Shows new pages (slice_set freed page now_freed)
   pub uncleaned : (number : ℕ) → is_uncleaned new number ≡ is_uncleaned old number
 
 pub record MarkIsTold (old : KnownPages) (page : ℕ) (new : KnownPages) : Type 0 where
-  pub shows : (pages : List Page) (freed snapshot : List ℕ) → Shows old pages freed snapshot
-      → Shows new pages freed snapshot
+  pub shows : (pages : List Page) (freed : List ℕ) → Shows old pages freed
+      → Shows new pages freed
   pub marked : (page_at old.pages page).header ≡ 0 → is_uncleaned new page ≡ true
   pub others : (number : ℕ) → (number ≡ page → ⊥) → is_uncleaned new number ≡ is_uncleaned old number
 
@@ -132,7 +132,7 @@ told_header : (w : Words) (page v : ℕ) (old new : KnownPages) → HeaderIsTold
     → IsMapOf old w → IsMapOf new (record w { pages = with_header w.pages page v })
 told_header w page v old new told within m =
     record {
-      words = told.shows w.pages w.freed w.snapshot m.words;
+      words = told.shows w.pages w.freed m.words;
       unmarked = λ number bare cleaned. elim (cases_eq number page) [
         | inl here ↦
             let lt : page < length w.pages =
@@ -155,7 +155,7 @@ told_used : (w : Words) (page v : ℕ) (old new : KnownPages) → UsedIsTold old
     → IsMapOf old w → IsMapOf new (record w { pages = with_used w.pages page v })
 told_used w page v old new told within m =
     record {
-      words = told.shows w.pages w.freed w.snapshot m.words;
+      words = told.shows w.pages w.freed m.words;
       unmarked = λ number bare cleaned.
           let lt : page < length w.pages =
           subst (λ (ps : List Page). page < length ps) m.words.page_by_page within in
@@ -176,7 +176,7 @@ told_mark : (c : Config) (m : Moment) (seat : Seat) (page v : ℕ) (old new : Kn
     → IsMapOf old m.words → IsMapOf new (Behind c m seat (step.Mark page v)).words
 told_mark c m seat page v old new told shows =
     record {
-      words = told.shows m.words.pages m.words.freed m.words.snapshot shows.words;
+      words = told.shows m.words.pages m.words.freed shows.words;
       unmarked = λ number bare cleaned. elim (cases_eq number page) [
         | inl here ↦
             let free : (page_at old.pages page).header ≡ 0 =
@@ -192,12 +192,12 @@ told_mark c m seat page v old new told shows =
 
 -- A page that has no marks may be cleaned.
 pub map_cleaned : (w : Words) (page : ℕ) (old new : KnownPages)
-    → ((pages : List Page) (freed snapshot : List ℕ) → Shows old pages freed snapshot → Shows new pages freed snapshot)
+    → ((pages : List Page) (freed : List ℕ) → Shows old pages freed → Shows new pages freed)
     → ((number : ℕ) → (number ≡ page → ⊥) → is_uncleaned new number ≡ is_uncleaned old number)
     → HasNoMarks w page → IsMapOf old w → IsMapOf new w
 map_cleaned w page old new shows others none m =
     record {
-      words = shows w.pages w.freed w.snapshot m.words;
+      words = shows w.pages w.freed m.words;
       unmarked = λ number bare cleaned. elim (cases_eq number page) [
         | inl here ↦ subst (λ q. HasNoMarks w q) (sym here) none
         | inr ne ↦ m.unmarked number bare (sym (others number ne) ∙ cleaned)
@@ -223,7 +223,7 @@ shows_used p page v q a old new told within shows =
     (told_used (world_at a.makes).now.words page v old new told within (map_then p s q a old shows))
 
 pub shows_quar : (p : PassState) (page v : ℕ) (q : PassState) (a : Acts p (step.Quar page v) q)
-    (old new : KnownPages) → QuarantineIsTold old page (v % 2 ^ 32) (v / 2 ^ 32) new → IsMapOf old (now_of p).words
+    (old new : KnownPages) → QuarantineIsTold old page (v % 2 ^ 32) new → IsMapOf old (now_of p).words
     → IsMapOf new (now_of q).words
 shows_quar p page v q a old new told shows =
     let s : Step = step.Quar page v in
@@ -231,7 +231,7 @@ shows_quar p page v q a old new told shows =
     let m = map_then p s q a old shows in
     map_now p s q a new
     (record {
-      words = told.shows w.pages w.freed w.snapshot m.words;
+      words = told.shows w.pages w.freed m.words;
       unmarked = λ number bare cleaned.
           same_marks w (after p s q a) number refl refl
           (m.unmarked number bare (sym (told.uncleaned number) ∙ cleaned));

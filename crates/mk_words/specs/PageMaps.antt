@@ -12,17 +12,17 @@ pub record HasNoMarks (w : Words) (page : ℕ) : Type 0 where
 
 -- a map of no pages
 abbrev pub no_map : KnownPages
-no_map = record { pages = []; quarantined = []; differing = []; uncleaned = [] }
+no_map = record { pages = []; quarantined = []; uncleaned = [] }
 
 -- the map that lies in a slot, and where none does that of no pages
 abbrev pub map_in : {A : Type 0} → (A → KnownPages) → Option A → KnownPages
 map_in map_of (Some held) = map_of held
 map_in map_of None = no_map
 
--- The map shows the headers, used, freed and snapshot words of all pages. A page without a header has no marks, unless
--- the map has it as uncleaned.
+-- The map shows the header and used words of all pages, and which have freed cells. A page without a header has no
+-- marks, unless the map has it as uncleaned.
 pub record IsMapOf (map : KnownPages) (w : Words) : Type 0 where
-  pub words : Shows map w.pages w.freed w.snapshot
+  pub words : Shows map w.pages w.freed
   pub unmarked : (page : ℕ) → header_at w page ≡ 0 → is_uncleaned map page ≡ false → HasNoMarks w page
 
 -- The next page that may be marked, though it has no header, of those from one on and below a count: no other of them

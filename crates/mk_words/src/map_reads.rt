@@ -3,7 +3,7 @@
 ghost use Rattle.std.specs.Prelude.{◌≡◌, ◌<◌, ◌≤◌};
 ghost use Rattle.mk_geom.specs.PageUses.{first_where, is_free_page, range_start, resident_pages};
 ghost use Rattle.mk_geom.specs.PageWords.{uses_of_pages};
-ghost use Rattle.mk_page_map.specs.Members.{IsNext, has_free_cell, has_freed_cells, has_other_cells, is_in_use};
+ghost use Rattle.mk_page_map.specs.Members.{IsNext, has_free_cell, has_freed_cells, is_in_use};
 ghost use Rattle.mk_core.specs.Words.{page_of};
 ghost use Rattle.mk_words.specs.PageMaps.{HasNoMarks, IsNextUncleaned};
 ghost use Rattle.mk_words.specs.States.{now_of};
@@ -49,14 +49,6 @@ impl Turn {
             result }
     {
         self.carried.map.next_quarantined(from)
-    }
-
-    /// The lowest page whose freed cells aren't those of its snapshot, of those from this one on.
-    pub fn next_differing(&self, from: u64) -> Option<u64>
-        ensures { IsNext (has_other_cells (now_of self.now.pass).words.freed (now_of self.now.pass).words.snapshot) from
-            self.now.pass.table.config.pages result }
-    {
-        self.carried.map.next_differing(from)
     }
 
     /// The next page, from this one on, that may be marked, though it has no header.
@@ -128,14 +120,6 @@ impl Stopped {
             result }
     {
         self.turn.next_quarantined(from)
-    }
-
-    /// The lowest page whose freed cells aren't those of its snapshot, of those from this one on.
-    pub fn next_differing(&self, from: u64) -> Option<u64>
-        ensures { IsNext (has_other_cells (now_of self.now.pass).words.freed (now_of self.now.pass).words.snapshot) from
-            self.now.pass.table.config.pages result }
-    {
-        self.turn.next_differing(from)
     }
 
     /// How many pages are resident.

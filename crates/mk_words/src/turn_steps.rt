@@ -81,9 +81,7 @@ impl Turn {
     {
         let quar = TableWord::Named(Word::Quar(page));
         self.pass.perform(words, Step::Quar { page, value: v }, quar, Access::Store(v));
-        self.carried
-            .map
-            .quarantine_stored(page, v % (1 << 32), v >> 32);
+        self.carried.map.quarantine_stored(page, v % (1 << 32));
     }
 
     /// Clears a page's marks.

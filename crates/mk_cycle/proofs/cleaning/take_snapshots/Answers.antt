@@ -29,7 +29,8 @@ loop-page-preserved c =
       op = x.op ∙ i.op;
       begun = omega (arith, within, same_pages);
       cleans = cleans_then p q r i.cleans x.cleans;
-      below = taken_more q r n x.cleans (taken_past q c.loop-page.from n i.below next.3) x.snapshot;
+      below = taken_more q r n x.cleans
+          (taken_past q c.loop-page.from n c.in-Some.ensures.is i.below next.3) x.snapshot;
     }
 
 same_pages : (c : In_default) → c.loop-page.turn.pass.table.config.pages ≡ c.args.words.now.config.pages
@@ -41,5 +42,6 @@ same_pages c =
 pub returns-clause-snapshot : goal.returns-clause-snapshot
 returns-clause-snapshot c =
     let x = (goal.at.returns-clause-snapshot c).In_default in
-    taken_past c.loop-page.turn.pass c.loop-page.from c.args.words.now.config.pages c.loop-page.invariant.below
+    taken_past c.loop-page.turn.pass c.loop-page.from c.args.words.now.config.pages c.in_default.ensures.is
+    c.loop-page.invariant.below
     (λ page low high. c.in_default.ensures.next page low (omega (arith, high, same_pages x)))

@@ -1,11 +1,7 @@
-use Rattle.std.proofs.Common.{refl, sym, ap, ◌∙◌, append_assoc}
-use Rattle.mk_geom.specs.PageUses.{held_by_uses}
-use Rattle.mk_geom.specs.PageWords.{uses_of_pages}
+use Rattle.std.proofs.Common.{refl, ap, ◌∙◌, append_assoc}
 use Rattle.mk_core.specs.declared.events.Step.TheVariants as step
-use Rattle.mk_core.specs.Frames.{Steady}
 use Rattle.mk_words.specs.States.{PassState}
 use Rattle.mk_cycle.specs.Kinds.{sets_tallies}
-use Rattle.mk_cycle.proofs.EndSteps.{steady_ended}
 use Rattle.mk_cycle.proofs.FinishedCycles.{ended_free, finishes_cycle, gives_call, gives_free, has_released}
 use Rattle.mk_turns.proofs.Sweeping.{does_sweep, only_seen_by, other_step_sweeps, sweeps_then}
 use Rattle.mk_cycle.proofs.Sweepless.{setting_marks_nothing}
@@ -20,26 +16,19 @@ count_cycle-requires-clause-free g c =
     ended_free _ _ x.was c.give_all_back-turn.ensures.gives.phase x.is x.acts
     (gives_free p _ c.give_all_back-turn.ensures.gives c.requires.free)
 
-pub count_cycle-requires-clause-held : goal.count_cycle-requires-clause-held
-count_cycle-requires-clause-held g c =
-    let x = c.end.ensures in
-    c.give_all_back-turn.ensures.held
-    ∙ sym (ap (λ (s : Steady). held_by_uses (uses_of_pages s.pages))
-    (steady_ended _ _ x.was c.give_all_back-turn.ensures.gives.phase x.is x.acts))
-
 pub returns-clause-law : goal.returns-clause-law
 returns-clause-law g c =
     let x = c.end.ensures in
     finishes_cycle c.args.turn.pass _ c.end.new.turn.pass c.count_cycle.new.turn.pass _
     c.give_all_back-turn.ensures.gives c.requires.free
-    x.was x.acts x.is c.count_cycle.ensures.sets c.give_all_back-turn.ensures.told
+    x.was x.acts x.is _ c.count_cycle.ensures.sets c.give_all_back-turn.ensures.told c.give_all_back-turn.ensures.held
 
 pub returns-clause-released : goal.returns-clause-released
 returns-clause-released g c =
     let x = c.end.ensures in
     has_released c.args.turn.pass _ c.end.new.turn.pass c.count_cycle.new.turn.pass _
     c.give_all_back-turn.ensures.gives c.requires.free
-    x.was x.acts x.is c.count_cycle.ensures.sets c.give_all_back-turn.ensures.told
+    x.was x.acts x.is _ c.count_cycle.ensures.sets c.give_all_back-turn.ensures.told c.give_all_back-turn.ensures.held
 
 pub returns-clause-reached : goal.returns-clause-reached
 returns-clause-reached g c none =

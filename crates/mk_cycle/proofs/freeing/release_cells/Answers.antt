@@ -1,11 +1,12 @@
 -- A page's quarantine and mark words are looked at once each, and say what is released on it.
-use Rattle.std.proofs.Common.{◌≡◌, ◌/◌, ◌^◌, sym, ◌∙◌}
+use Rattle.std.proofs.Common.{◌≡◌, ◌/◌, ◌^◌, ap, sym, ◌∙◌}
 use Rattle.mk_core.specs.Cells.{left_unmarked}
 use Rattle.mk_core.specs.Words.{header_at}
 use Rattle.mk_words.specs.States.{PassState, now_of}
 use Rattle.mk_cycle.specs.Freeing.{GivesNothingBack}
-use Rattle.mk_cycle.specs.ReleasedPages.{released_on}
-use Rattle.mk_cycle.proofs.CountedPages.{counted_on, nothing_on, snapshot_told}
+use Rattle.mk_cycle.specs.ReleasedPages.{held_unmarked, released_on}
+use Rattle.mk_cycle.specs.declared.finishing.Released.{Released}
+use Rattle.mk_cycle.proofs.CountedPages.{counted_on, held_by_header, none_held, nothing_on, snapshot_told}
 use Rattle.mk_cycle.proofs.FreeingSteps.{freed_free}
 use Rattle.mk_cycle.proofs.GivingSteps.{none_at_once, none_then}
 use Rattle.mk_cycle.proofs.PageSteps.{same_header}
@@ -13,13 +14,22 @@ use Rattle.mk_cycle.proofs.SettledPages.{free_cells_stay, gives_none, gives_then
 use Rattle.mk_cycle.proofs.freeing.release_cells.Goals as goal
 use Rattle.mk_cycle.proofs.freeing.release_cells.Goals.{After-without-gone}
 
-pub returns-then-snapshot-eq0-clause-exact : goal.returns-then-snapshot-eq0-clause-exact
-returns-then-snapshot-eq0-clause-exact c =
+pub returns-then-snapshot-eq0-clause-released : goal.returns-then-snapshot-eq0-clause-released
+returns-then-snapshot-eq0-clause-released c =
     let x = c.look-quarantine.ensures in
     nothing_on (now_of c.args.turn.now.pass).words c.args.page
     (sym (snapshot_told c.args.turn.now.pass c.look-quarantine.new.turn.pass c.args.page c.look-quarantine.result x.is
     x.frees x.reads)
     ∙ c.if-snapshot-eq0.true)
+
+pub returns-then-snapshot-eq0-clause-held : goal.returns-then-snapshot-eq0-clause-held
+returns-then-snapshot-eq0-clause-held c =
+    let x = c.look-quarantine.ensures in
+    none_held (now_of c.args.turn.now.pass).words c.args.page
+    (nothing_on (now_of c.args.turn.now.pass).words c.args.page
+    (sym (snapshot_told c.args.turn.now.pass c.look-quarantine.new.turn.pass c.args.page c.look-quarantine.result x.is
+    x.frees x.reads)
+    ∙ c.if-snapshot-eq0.true))
 
 pub returns-then-snapshot-eq0-clause-gives : goal.returns-then-snapshot-eq0-clause-gives
 returns-then-snapshot-eq0-clause-gives c =
@@ -59,8 +69,21 @@ counted c =
     (snapshot_told p c.look-quarantine.new.turn.pass c.args.page c.look-quarantine.result x.is x.frees x.reads)
     y.reads (header c) r.count r.words r.kept
 
-pub returns-then-gone-eq0-clause-exact : goal.returns-then-gone-eq0-clause-exact
-returns-then-gone-eq0-clause-exact c = counted (goal.at.returns-then-gone-eq0-clause-exact c).After-without-gone
+held : (c : After-without-gone)
+    → c.held_words-held.result ≡ held_unmarked (now_of c.args.turn.now.pass).words c.args.page
+held c =
+    c.held_words-held.ensures.is
+    ∙ held_by_header (now_of c.args.turn.now.pass).words c.args.page c.args.header
+    c.released_cells-released.result.words c.requires.header (ap (λ (r : Released). r.words) (counted c))
+
+pub returns-then-gone-eq0-clause-held : goal.returns-then-gone-eq0-clause-held
+returns-then-gone-eq0-clause-held c = held (goal.at.returns-then-gone-eq0-clause-held c).After-without-gone
+
+pub returns-clause-held : goal.returns-clause-held
+returns-clause-held c = held (goal.at.returns-clause-held c).After-without-gone
+
+pub returns-then-gone-eq0-clause-released : goal.returns-then-gone-eq0-clause-released
+returns-then-gone-eq0-clause-released c = counted (goal.at.returns-then-gone-eq0-clause-released c).After-without-gone
 
 pub returns-then-gone-eq0-clause-gives : goal.returns-then-gone-eq0-clause-gives
 returns-then-gone-eq0-clause-gives c =
@@ -82,8 +105,8 @@ give_back-requires-clause-cells c =
     let both = both (goal.at.give_back-requires-clause-cells c).After-without-gone in
     free_cells_stay _ _ c.args.page both.frees (both.same c.args.page) c.requires.cells
 
-pub returns-clause-exact : goal.returns-clause-exact
-returns-clause-exact c = counted (goal.at.returns-clause-exact c).After-without-gone
+pub returns-clause-released : goal.returns-clause-released
+returns-clause-released c = counted (goal.at.returns-clause-released c).After-without-gone
 
 pub returns-clause-gives : goal.returns-clause-gives
 returns-clause-gives c =

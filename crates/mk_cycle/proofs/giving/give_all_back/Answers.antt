@@ -1,10 +1,11 @@
-use Rattle.std.proofs.Common.{◌<◌, sym, ap, subst}
-use Rattle.mk_words.specs.States.{PassState, WordsState, TurnState}
+use Rattle.std.proofs.Common.{◌<◌, sym, ap, subst, ◌∙◌}
+use Rattle.mk_core.specs.Cells.{head_page}
+use Rattle.mk_words.specs.States.{PassState, WordsState, TurnState, now_of}
 use Rattle.mk_cycle.specs.Holding.{HoldsGates}
 use Rattle.mk_cycle.specs.Kinds.{is_giving_back, holds_gates}
 use Rattle.mk_cycle.proofs.FreeingSteps.{frees_then}
-use Rattle.mk_cycle.proofs.GivingAll.{all_told, gives_all_back}
-use Rattle.mk_cycle.proofs.SettledPages.{free_cells_stay}
+use Rattle.mk_cycle.proofs.GivingAll.{all_held, all_told, gives_all_back}
+use Rattle.mk_cycle.proofs.SettledPages.{free_cells_stay, same_occupied}
 use Rattle.mk_turns.proofs.Sweeping.{does_sweep, sweeps_then}
 use Rattle.mk_cycle.proofs.Sweepless.{giving_marks_nothing, holding_marks_nothing}
 use Rattle.mk_cycle.proofs.Told.{told_earlier, told_later}
@@ -15,6 +16,13 @@ pub settle_pages-settled-requires-clause-cells : goal.settle_pages-settled-requi
 settle_pages-settled-requires-clause-cells g c page lt =
     let opens = c.open_gates-turn.ensures.opens in
     free_cells_stay _ _ page opens.frees (opens.same page) (c.release_unmarked.ensures.cells page)
+
+pub settle_pages-settled-requires-clause-occupied : goal.settle_pages-settled-requires-clause-occupied
+settle_pages-settled-requires-clause-occupied g c page =
+    let opens = c.open_gates-turn.ensures.opens in
+    same_occupied c.release_unmarked.new.stop.pass c.open_gates-turn.result.pass page (opens.same page)
+    (opens.same (head_page (now_of c.release_unmarked.new.stop.pass).words page))
+    ∙ c.release_unmarked.ensures.occupied page
 
 pub returns-clause-gives : goal.returns-clause-gives
 returns-clause-gives g c =
@@ -35,6 +43,15 @@ returns-clause-told g c =
     all_told p c.stopped-stop.result.pass c.release_unmarked.new.stop.pass c.open_gates-turn.result.pass
     c.settle_pages-settled.new.turn.pass _ _ holds c.open_gates-turn.ensures.opens c.settle_pages-settled.ensures.frees
     c.release_unmarked.ensures.told c.settle_pages-settled.ensures.released
+
+pub returns-clause-held : goal.returns-clause-held
+returns-clause-held g c =
+    let p = c.args.turn.pass in
+    let holds = subst (λ (t : TurnState). HoldsGates p t.pass) (sym c.stopped-stop.ensures) c.hold_gates.ensures.holds
+    in
+    all_held p c.stopped-stop.result.pass c.release_unmarked.new.stop.pass c.open_gates-turn.result.pass
+    c.settle_pages-settled.new.turn.pass _ _ holds c.open_gates-turn.ensures.opens c.settle_pages-settled.ensures.frees
+    c.release_unmarked.ensures.held c.settle_pages-settled.ensures.held
 
 pub returns-clause-reached : goal.returns-clause-reached
 returns-clause-reached g c none =

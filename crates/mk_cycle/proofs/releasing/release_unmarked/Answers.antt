@@ -1,14 +1,15 @@
-use Rattle.std.proofs.Common.{ℕ, refl, ap, subst, ◌∙◌, append_assoc}
+use Rattle.std.proofs.Common.{ℕ, refl, ap, subst, sym, ◌∙◌, append_assoc}
 use Rattle.mk_core.specs.declared.config.Config.{Config}
 use Rattle.mk_core.specs.declared.events.Step.TheVariants as step
 use Rattle.mk_core.specs.Frames.{Steady}
 use Rattle.mk_words.specs.States.{PassState, WordsState, now_of}
-use Rattle.mk_cycle.specs.ReleasedPages.{released_below}
-use Rattle.mk_cycle.specs.FinishCycle.{HasReleased}
+use Rattle.mk_cycle.specs.ReleasedPages.{held_below, released_below}
+use Rattle.mk_cycle.specs.FinishCycle.{HasReleased, HoldsFewer}
 use Rattle.mk_cycle.proofs.Allowed.{in_turn, in_turn_after}
+use Rattle.mk_cycle.proofs.HeldReleased.{held_alike, release_holds}
 use Rattle.mk_cycle.proofs.KeptInParts.{free_then, same_config}
 use Rattle.mk_cycle.proofs.ReleasedCounts.{release_tells, told_from}
-use Rattle.mk_cycle.proofs.ReleasedCells.{cells_are_free}
+use Rattle.mk_cycle.proofs.ReleasedCells.{cells_are_free, pages_are_occupied}
 use Rattle.mk_cycle.proofs.ReleaseSteps.{close_leaves, releases_unmarked}
 use Rattle.mk_turns.proofs.Sweeping.{only_seen_by, other_step_sweeps, sweeps_then}
 use Rattle.mk_cycle.proofs.Told.{told_closing, told_earlier, told_later}
@@ -37,6 +38,16 @@ returns-clause-cells g c page =
     (in_turn_after c.release.ensures.acts refl)
     close.1 c.release.ensures.acts (free_then _ _ close.0.call free).gone page
 
+pub returns-clause-occupied : goal.returns-clause-occupied
+returns-clause-occupied g c page =
+    let t = in_turn _ _ c.is_in_order-2.ensures.own c.is_in_order-2.ensures.turn c.is_in_order-2.ensures.history in
+    let u = in_turn _ _ c.is_in_order-3.ensures.own c.is_in_order-3.ensures.turn c.is_in_order-3.ensures.history in
+    let free = free_then _ _ c.close_marks.ensures.law.keeps.call c.requires.free in
+    let close = close_leaves _ _ t free c.close_marks.ensures.law.phase c.close_phase.ensures.acts u in
+    pages_are_occupied c.close_phase.new.self.pass c.release.new.self.pass u
+    (in_turn_after c.release.ensures.acts refl)
+    close.1 c.release.ensures.acts (free_then _ _ close.0.call free).unplaced page
+
 pub returns-clause-told : goal.returns-clause-told
 returns-clause-told g c =
     let t = in_turn _ _ c.is_in_order-2.ensures.own c.is_in_order-2.ensures.turn c.is_in_order-2.ensures.history in
@@ -55,6 +66,25 @@ returns-clause-told g c =
     (release_tells d c.release.new.self.pass u
     (in_turn_after c.release.ensures.acts refl) close.1
     c.release.ensures.acts))
+
+pub returns-clause-held : goal.returns-clause-held
+returns-clause-held g c =
+    let t = in_turn _ _ c.is_in_order-2.ensures.own c.is_in_order-2.ensures.turn c.is_in_order-2.ensures.history in
+    let u = in_turn _ _ c.is_in_order-3.ensures.own c.is_in_order-3.ensures.turn c.is_in_order-3.ensures.history in
+    let free = free_then _ _ c.close_marks.ensures.law.keeps.call c.requires.free in
+    let marks = c.close_marks.ensures.law.keeps in
+    let p = c.args.stop.now.pass in
+    let b = c.close_marks.new.stop.pass in
+    let d = c.close_phase.new.self.pass in
+    let close = close_leaves b d t free c.close_marks.ensures.law.phase c.close_phase.ensures.acts u in
+    let same = same_config b d close.0.call.pass ∙ same_config p b marks.call.pass in
+    subst (λ (n : ℕ). HoldsFewer p c.release.new.self.pass (held_below (now_of c.release.new.self.pass).words n))
+    (ap (λ (x : Config). x.pages) same ∙ ap (λ (w : WordsState). w.config.pages) c.requires.one_table)
+    (sym (held_alike p d same
+    (ap (λ (s : Steady). s.allocations) close.0.steady ∙ ap (λ (s : Steady). s.allocations) marks.steady))
+    ∙ release_holds d c.release.new.self.pass u
+    (in_turn_after c.release.ensures.acts refl) close.1 c.release.ensures.acts
+    (free_then _ _ close.0.call free).gone)
 
 pub returns-clause-reached : goal.returns-clause-reached
 returns-clause-reached g c none =

@@ -1,11 +1,11 @@
-use Rattle.std.proofs.Common.{◌≡◌, ℕ, ◌<◌, List, length, refl, sym, ◌∙◌, ap, arith}
+use Rattle.std.proofs.Common.{◌≡◌, ℕ, ◌+◌, ◌<◌, refl, ◌∙◌, ap, arith}
 use Rattle.mk_geom.specs.declared.pages.Page.{Page}
-use Rattle.mk_core.proofs.Lengths.{histories_keep_lengths}
+use Rattle.mk_geom.specs.Headers.{header_of}
+use Rattle.mk_core.specs.Cells.{header_in}
+use Rattle.mk_core.specs.Counts.{in_a_word}
+use Rattle.mk_laws.specs.LayoutScene.{run_count}
 use Rattle.mk_words.specs.States.{PassState, WordsState, now_of}
-use Rattle.mk_cycle.specs.HeldPages.{held_at}
-use Rattle.mk_cycle.specs.ReleasedPages.{sum_below}
 use Rattle.mk_cycle.proofs.FreeingSteps.{freed_table}
-use Rattle.mk_cycle.proofs.HeldPages.{held_all}
 use Rattle.mk_cycle.proofs.PageByPage.{AreSettledBelow, settled_more, settled_none, settled_to}
 use Rattle.mk_cycle.proofs.settling.settle_pages.Goals as goal
 use Rattle.mk_cycle.proofs.settling.settle_pages.Goals.{After-known_page-header, In_default}
@@ -15,21 +15,28 @@ loop-page-init c =
     record {
       op = refl;
       begun = omega arith;
-      settled = settled_none c.args.turn.now.pass c.args.words.now.config.pages c.requires.cells;
+      settled = settled_none c.args.turn.now.pass c.args.words.now.config.pages c.requires.cells
+          c.requires.occupied;
       count = omega arith;
       words = omega arith;
       kept = omega arith;
       few = omega arith;
     }
 
--- up to the next page in use
+-- up to the next page that may be unsettled
 to_next : (c : After-known_page-header)
     → AreSettledBelow c.args.turn.now.pass c.loop-page.turn.pass c.args.words.now.config.pages c.in-Some.page
-    c.loop-page.all c.loop-page.held
+    c.loop-page.end c.loop-page.all c.loop-page.held
 to_next c =
     let next = c.in-Some.ensures.next in
-    settled_to c.args.turn.now.pass c.loop-page.turn.pass c.in-Some.ensures.is c.loop-page.from c.in-Some.page next.0
-    next.3 c.args.words.now.config.pages c.loop-page.all c.loop-page.held c.loop-page.invariant.settled
+    let i = c.loop-page.invariant in
+    let same_pages : c.loop-page.turn.pass.table.config.pages ≡ c.args.words.now.config.pages =
+    ap (λ (w : WordsState). w.config.pages)
+    (freed_table c.args.turn.now.pass c.loop-page.turn.pass c.args.words.now i.settled.frees c.requires.one_table) in
+    let within = next.1 in
+    settled_to c.args.turn.now.pass c.loop-page.turn.pass c.in-Some.ensures.is c.loop-page.from c.in-Some.page
+    c.loop-page.end c.args.words.now.config.pages next.0 (omega (arith, within, same_pages)) next.3
+    c.loop-page.all c.loop-page.held i.settled
 
 pub settle_taken-here-requires-clause-settled : goal.settle_taken-here-requires-clause-settled
 settle_taken-here-requires-clause-settled c =
@@ -48,16 +55,23 @@ loop-page-preserved c =
     let same_pages : q.table.config.pages ≡ pages =
     ap (λ (w : WordsState). w.config.pages) (freed_table p q c.args.words.now i.settled.frees c.requires.one_table) in
     let within : n < q.table.config.pages = c.in-Some.ensures.next.1 in
+    let known = ap (λ (y : Page). y.header) c.known_page-header.ensures.page in
+    let end : c.run_end.result ≡ in_a_word (n + run_count (header_in (now_of q).words n)) =
+    c.run_end.ensures ∙ ap (λ (h : ℕ). in_a_word (n + run_count (header_of h))) known in
+    let furthest = c.max-end.ensures in
+    let limits = c.is_within_limits.ensures in
     record {
       op = x.op ∙ i.op;
       begun = omega (arith, within, same_pages);
-      settled = settled_more p q c.settle_taken-here.new.turn.pass n pages x.frees c.loop-page.all
+      settled = settled_more p q c.settle_taken-here.new.turn.pass n pages x.frees c.in-Some.ensures.is c.loop-page.end
+          c.max-end.result (omega (arith, furthest))
+          (λ s far lt few. omega (arith, end, furthest, far, few, limits)) c.loop-page.all
           c.settle_taken-here.result.released c.loop-page.held c.settle_taken-here.result.held before x.settled
           x.released x.held;
-      count = omega (arith, i.count, x.one.count, after);
-      words = omega (arith, i.words, x.one.words, after);
-      kept = omega (arith, i.kept, x.one.kept, after);
-      few = omega (arith, i.few, x.few, after);
+      count = omega (arith, i.count, x.few.count, after);
+      words = omega (arith, i.words, x.few.words, after);
+      kept = omega (arith, i.kept, x.few.kept, after);
+      few = omega (arith, i.few, x.part, x.few.words, after);
     }
 
 same_pages : (c : In_default) → c.loop-page.turn.pass.table.config.pages ≡ c.args.words.now.config.pages
@@ -69,12 +83,12 @@ same_pages c =
 -- and where there is none, up to the end
 to_end : (c : In_default)
     → AreSettledBelow c.args.turn.now.pass c.loop-page.turn.pass c.args.words.now.config.pages
-    c.args.words.now.config.pages c.loop-page.all c.loop-page.held
+    c.args.words.now.config.pages c.loop-page.end c.loop-page.all c.loop-page.held
 to_end c =
     settled_to c.args.turn.now.pass c.loop-page.turn.pass c.in_default.ensures.is c.loop-page.from
-    c.args.words.now.config.pages c.loop-page.invariant.begun
-    (λ r le lt. c.in_default.ensures.next r le (omega (arith, lt, same_pages c)))
-    c.args.words.now.config.pages c.loop-page.all c.loop-page.held c.loop-page.invariant.settled
+    c.args.words.now.config.pages c.loop-page.end c.args.words.now.config.pages c.loop-page.invariant.begun
+    (omega arith) (λ r le lt. c.in_default.ensures.next r le (omega (arith, lt, same_pages c)))
+    c.loop-page.all c.loop-page.held c.loop-page.invariant.settled
 
 pub returns-clause-settled : goal.returns-clause-settled
 returns-clause-settled c = (to_end (goal.at.returns-clause-settled c).In_default).settled
@@ -83,10 +97,4 @@ pub returns-clause-released : goal.returns-clause-released
 returns-clause-released c = (to_end (goal.at.returns-clause-released c).In_default).counted
 
 pub returns-clause-held : goal.returns-clause-held
-returns-clause-held c =
-    let x = (goal.at.returns-clause-held c).In_default in
-    let q : PassState = c.loop-page.turn.pass in
-    let pages : List Page = (now_of q).words.pages in
-    let all : length pages ≡ c.args.words.now.config.pages =
-    omega (arith, (histories_keep_lengths q.table.config q.seen).pages, same_pages x) in
-    (to_end x).holds ∙ ap (λ n. sum_below n (held_at q)) (sym all) ∙ held_all pages
+returns-clause-held c = (to_end (goal.at.returns-clause-held c).In_default).holds

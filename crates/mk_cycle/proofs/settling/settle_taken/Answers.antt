@@ -8,22 +8,22 @@ use Rattle.mk_cycle.proofs.settling.settle_taken.Goals as goal
 
 pub free_unused-requires-clause-free : goal.free_unused-requires-clause-free
 free_unused-requires-clause-free c =
-    freed_free _ _ c.release_cells-released.ensures.gives.frees.frees c.requires.free
+    freed_free _ _ c.release_cells-here.ensures.gives.frees.frees c.requires.free
 
 pub free_unused-requires-clause-head : goal.free_unused-requires-clause-head
 free_unused-requires-clause-head c =
     c.head_page_under.ensures.exact
     ∙ ap (λ (n : ℕ). head_page_under (header_of n) c.args.page)
-    (c.requires.header ∙ sym c.release_cells-released.ensures.gives.header)
+    (c.requires.header ∙ sym c.release_cells-here.ensures.gives.header)
 
 pub free_unused-requires-clause-none_at_head : goal.free_unused-requires-clause-none_at_head
 free_unused-requires-clause-none_at_head c =
-    none_at c.args.turn.now.pass c.release_cells-released.new.turn.pass c.args.page c.head_page_under.result
-    c.release_cells-released.ensures.gives
+    none_at c.args.turn.now.pass c.release_cells-here.new.turn.pass c.args.page c.head_page_under.result
+    c.release_cells-here.ensures.gives
     (subst (λ (n : ℕ). n ≤ c.args.page) (sym c.head_page_under.ensures.exact)
     (head_before (header_of c.args.header) c.args.page))
     c.requires.settled
 
 pub returns-clause-frees : goal.returns-clause-frees
 returns-clause-frees c =
-    page_then c.args.page _ _ _ c.release_cells-released.ensures.gives.frees c.free_unused.ensures.frees
+    page_then c.args.page _ _ _ c.release_cells-here.ensures.gives.frees c.free_unused.ensures.frees

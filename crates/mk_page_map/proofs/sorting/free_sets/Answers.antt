@@ -5,7 +5,7 @@ use Rattle.mk_page_map.proofs.sorting.free_sets.Goals as goal
 
 pub loop-page-init : goal.loop-page-init
 loop-page-init c =
-    let zeros : c.in_ok-sets.sets.items ≡ replicate 1365 0
+    let zeros : c.in_ok-sets.sets.items ≡ replicate 1300 0
     = c.in_ok-sets.ensures.items_if_clones_equal (λ y same. same) in
     record {
       are_sets = subst AreSets (sym zeros) zero_sets;

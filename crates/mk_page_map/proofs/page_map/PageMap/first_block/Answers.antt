@@ -6,9 +6,9 @@ use Rattle.mk_page_map.proofs.Reading.{first_of_set}
 use Rattle.mk_page_map.proofs.page_map.PageMap.first_block.Goals as goal
 
 pub returns : goal.returns
-returns c pages freed snapshot shows =
+returns c pages freed shows =
     first_of_set c.args.self.now c.self.inside.pages.items pages c.self.inside.sets.items c.deref.result.now
-    freed snapshot c.self.inside.resident c.len.result c.block_set.result
+    freed c.self.inside.resident c.len.result c.block_set.result
     (has_free_cell c.args.class c.args.leaf) c.next_page.result
     (record {
       reads = record {

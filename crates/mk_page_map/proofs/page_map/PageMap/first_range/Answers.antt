@@ -79,7 +79,7 @@ from_there c =
     ∙ c.loop-start.invariant.rest
 
 pub returns-then-end-start : goal.returns-then-end-start
-returns-then-end-start c pages freed snapshot shows =
+returns-then-end-start c pages freed shows =
     let x = (goal.at.returns-then-end-start c).After-unwrap_or-end in
     sym (range_is_long c.in-Some.start c.unwrap_or-end.result c.args.count c.self.inside.pages.items c.requires
     (range x) c.if-end-start.true)
@@ -107,7 +107,7 @@ loop-start-preserved c =
     }
 
 pub returns : goal.returns
-returns c pages freed snapshot shows =
+returns c pages freed shows =
     let held = c.self.inside.pages.items in
     let count : c.len-pages.result ≡ length held = omega (arith, c.len-pages.ensures, c.self.inside.pages.ok.0) in
     let none = next_of_held c.args.self.now held c.self.inside.sets.items c.deref.result.now c.self.inside.resident

@@ -78,10 +78,10 @@ invariant_of-self c =
     (omega (arith, was_counted x, is_counted x, enough x))
 
 pub returns-clause-shows : goal.returns-clause-shows
-returns-clause-shows c pages freed snapshot shows =
+returns-clause-shows c pages freed shows =
     let x = (goal.at.returns-clause-shows c).After-from-2 in
     store_shows c.args.self.now c.self.inside.pages.items pages c.self.inside.sets.items c.deref_mut.result.now
-    c.sort_by_header.new.sets _ freed snapshot c.self.inside.resident c.args.page (now x) _ (stores x) (same_sets x)
+    c.sort_by_header.new.sets _ freed c.self.inside.resident c.args.page (now x) _ (stores x) (same_sets x)
     c.self.view_is
     (λ same. ap (λ (n : ℕ). record { header = c.args.header; used = n })
     (ap (λ (p : Page). p.used)

@@ -20,5 +20,5 @@ returns c =
     let free : c.in_ok-pages.pages.items ≡ replicate c.args.pages free_page
     = c.in_ok-pages.ensures.items_if_clones_equal (λ y same. same) in
     subst (λ (ps : List Page). Shows (known_by ps c.in_ok-sets.sets.items) (replicate c.args.pages free_page)
-    (replicate c.args.pages 0) (replicate c.args.pages 0)) (sym free)
+    (replicate c.args.pages 0)) (sym free)
     (free_shows c.args.pages c.in_ok-sets.sets.items c.requires c.in_ok-sets.ensures.members)

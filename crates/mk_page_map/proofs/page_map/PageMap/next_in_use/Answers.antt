@@ -16,9 +16,9 @@ next_page-requires-clause-no_others c =
     (omega arith)
 
 pub returns : goal.returns
-returns c pages freed snapshot shows =
+returns c pages freed shows =
     next_of_set c.args.self.now c.self.inside.pages.items pages c.self.inside.sets.items c.deref.result.now
-    freed snapshot c.self.inside.resident c.len.result 17 c.args.from (is_in_use pages) c.next_page.result
+    freed c.self.inside.resident c.len.result 17 c.args.from (is_in_use pages) c.next_page.result
     (record {
       reads = record {
         view = c.self.view_is;

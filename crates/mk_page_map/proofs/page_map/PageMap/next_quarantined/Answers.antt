@@ -17,9 +17,9 @@ next_page-requires-clause-no_others c =
     (omega arith)
 
 pub returns : goal.returns
-returns c pages freed snapshot shows =
+returns c pages freed shows =
     next_of_quarantine c.args.self.now c.self.inside.pages.items pages c.self.inside.sets.items c.deref.result.now
-    freed snapshot c.self.inside.resident c.len.result 18 c.args.from (has_freed_cells freed) c.next_page.result
+    freed c.self.inside.resident c.len.result 18 c.args.from (has_freed_cells freed) c.next_page.result
     (record {
       reads = record {
         view = c.self.view_is;
@@ -29,4 +29,4 @@ returns c pages freed snapshot shows =
       };
       shows = shows;
     })
-    (member_of_freed c.self.inside.pages.items pages c.self.inside.sets.items freed snapshot) c.next_page.ensures
+    (member_of_freed c.self.inside.pages.items pages c.self.inside.sets.items freed) c.next_page.ensures

@@ -6,7 +6,7 @@ use Rattle.mk_page_map.proofs.page_map.PageMap.next_uncleaned.Goals as goal
 pub next_page-requires-clause-no_others : goal.next_page-requires-clause-no_others
 next_page-requires-clause-no_others c =
     no_others_there c.args.self.now c.self.inside.pages.items c.self.inside.sets.items c.deref.result.now
-    c.self.inside.resident c.len.result 20
+    c.self.inside.resident c.len.result 19
     (record {
       view = c.self.view_is;
       fit = c.self.invariant;

@@ -41,10 +41,10 @@ invariant_of-self c =
     c.self.inside.resident c.args.page (changes x) (same_sets x)
 
 pub returns-clause-shows : goal.returns-clause-shows
-returns-clause-shows c pages freed snapshot shows =
+returns-clause-shows c pages freed shows =
     let x = (goal.at.returns-clause-shows c).After-put in
     still_shows c.args.self.now c.self.inside.pages.items pages c.self.inside.sets.items c.deref_mut.result.now
-    c.put.new.sets _ freed snapshot c.self.inside.resident c.args.page (changes x) (same_sets x) c.self.view_is shows
+    c.put.new.sets _ freed c.self.inside.resident c.args.page (changes x) (same_sets x) c.self.view_is shows
 
 pub returns-clause-this : goal.returns-clause-this
 returns-clause-this c =

@@ -44,14 +44,14 @@ invariant_of-self c =
     (others x))
 
 pub returns-clause-shows : goal.returns-clause-shows
-returns-clause-shows c pages freed_words snapshots shows =
+returns-clause-shows c pages freed_words shows =
     let x = (goal.at.returns-clause-shows c).After-sort_by_quarantine in
-    let before = subst (λ (k : KnownPages). Shows k pages freed_words snapshots) (sym c.self.view_is) shows in
+    let before = subst (λ (k : KnownPages). Shows k pages freed_words) (sym c.self.view_is) shows in
     subst (λ (xs : List ℕ). Shows (known_by c.self.inside.pages.items xs) pages
-    (set freed_words c.args.page c.args.freed) (set snapshots c.args.page c.args.snapshot)) (sym (same_sets x))
+    (set freed_words c.args.page c.args.freed)) (sym (same_sets x))
     (quarantine_shows c.self.inside.pages.items pages c.self.inside.sets.items c.sort_by_quarantine.new.sets
-    freed_words snapshots c.args.page c.args.freed c.args.snapshot c.self.invariant.few (within x) (others x)
-    c.sort_by_quarantine.ensures.quarantined c.sort_by_quarantine.ensures.differing before)
+    freed_words c.args.page c.args.freed c.self.invariant.few (within x) (others x)
+    c.sort_by_quarantine.ensures.quarantined before)
 
 pub returns-clause-uncleaned : goal.returns-clause-uncleaned
 returns-clause-uncleaned c number =

@@ -70,10 +70,10 @@ invariant_of-self c =
     c.kind_of.result (read x) c.kind_of.ensures.kind)
 
 pub returns-clause-shows : goal.returns-clause-shows
-returns-clause-shows c pages freed snapshot shows =
+returns-clause-shows c pages freed shows =
     let x = (goal.at.returns-clause-shows c).After-sort_by_used in
     store_shows c.args.self.now c.self.inside.pages.items pages c.self.inside.sets.items c.deref_mut.result.now
-    c.sort_by_used.new.sets _ freed snapshot c.self.inside.resident c.args.page (now x) _ (stores x)
+    c.sort_by_used.new.sets _ freed c.self.inside.resident c.args.page (now x) _ (stores x)
     (same_sets x) c.self.view_is
     (λ same. ap (λ (n : ℕ). record { header = n; used = c.args.used })
     (ap (λ (p : Page). p.header) (read x)
@@ -87,4 +87,4 @@ returns-clause-uncleaned c number =
     c.self.inside.sets.items c.deref_mut.result.now c.sort_by_used.new.sets _ c.args.page number c.self.view_is
     c.deref_mut.ensures.value (same_sets x) (length-set c.self.inside.pages.items c.args.page (now x))
     c.self.invariant.few c.sort_by_used.ensures.other_pages
-    (c.sort_by_used.ensures.other_sets 20 (omega arith) (omega arith))
+    (c.sort_by_used.ensures.other_sets 19 (omega arith) (omega arith))

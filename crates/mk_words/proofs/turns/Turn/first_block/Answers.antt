@@ -11,4 +11,4 @@ returns c =
     subst (λ (t : TurnState). c.first_block.result
     ≡ first_where (has_free_cell c.args.class c.args.leaf) (uses_of_pages
     (now_of t.pass).words.pages)) c.self.view_is
-    (c.first_block.ensures _ _ _ (as_carried _ _ _ c.deref.ensures c.self.invariant).shows.words)
+    (c.first_block.ensures _ _ (as_carried _ _ _ c.deref.ensures c.self.invariant).shows.words)

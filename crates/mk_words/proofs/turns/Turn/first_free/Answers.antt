@@ -9,4 +9,4 @@ pub returns : goal.returns
 returns c =
     subst (λ (t : TurnState). c.first_free.result
     ≡ first_where is_free_page (uses_of_pages (now_of t.pass).words.pages)) c.self.view_is
-    (c.first_free.ensures _ _ _ (as_carried _ _ _ c.deref.ensures c.self.invariant).shows.words)
+    (c.first_free.ensures _ _ (as_carried _ _ _ c.deref.ensures c.self.invariant).shows.words)

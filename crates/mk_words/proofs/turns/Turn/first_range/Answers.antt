@@ -9,4 +9,4 @@ pub returns : goal.returns
 returns c =
     subst (λ (t : TurnState). c.first_range.result
     ≡ range_start c.args.count (uses_of_pages (now_of t.pass).words.pages)) c.self.view_is
-    (c.first_range.ensures _ _ _ (as_carried _ _ _ c.deref.ensures c.self.invariant).shows.words)
+    (c.first_range.ensures _ _ (as_carried _ _ _ c.deref.ensures c.self.invariant).shows.words)

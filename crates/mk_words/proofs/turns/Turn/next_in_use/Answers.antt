@@ -9,4 +9,4 @@ returns c =
     subst (λ (t : TurnState). IsNext (is_in_use
     (now_of t.pass).words.pages) c.args.from t.pass.table.config.pages c.next_in_use.result) c.self.view_is
     (next_known c.self.inside.pass (is_in_use (now_of c.self.inside.pass).words.pages) c.args.from c.next_in_use.result
-    (c.next_in_use.ensures _ _ _ (as_carried _ _ _ c.deref.ensures c.self.invariant).shows.words))
+    (c.next_in_use.ensures _ _ (as_carried _ _ _ c.deref.ensures c.self.invariant).shows.words))

@@ -10,4 +10,4 @@ returns c =
     (now_of t.pass).words.freed) c.args.from t.pass.table.config.pages c.next_quarantined.result) c.self.view_is
     (next_known c.self.inside.pass (has_freed_cells
     (now_of c.self.inside.pass).words.freed) c.args.from c.next_quarantined.result
-    (c.next_quarantined.ensures _ _ _ (as_carried _ _ _ c.deref.ensures c.self.invariant).shows.words))
+    (c.next_quarantined.ensures _ _ (as_carried _ _ _ c.deref.ensures c.self.invariant).shows.words))

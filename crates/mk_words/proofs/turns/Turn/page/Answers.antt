@@ -13,4 +13,4 @@ page-requires c =
 pub returns : goal.returns
 returns c =
     subst (λ (t : TurnState). c.page.result ≡ page_of (now_of t.pass).words c.args.page) c.self.view_is
-    (c.page.ensures _ _ _ (as_carried _ _ _ c.deref.ensures c.self.invariant).shows.words)
+    (c.page.ensures _ _ (as_carried _ _ _ c.deref.ensures c.self.invariant).shows.words)

@@ -9,4 +9,4 @@ pub returns : goal.returns
 returns c =
     subst (λ (t : TurnState). c.resident.result
     ≡ resident_pages (uses_of_pages (now_of t.pass).words.pages)) c.self.view_is
-    (c.resident.ensures _ _ _ (as_carried _ _ _ c.deref.ensures c.self.invariant).shows.words)
+    (c.resident.ensures _ _ (as_carried _ _ _ c.deref.ensures c.self.invariant).shows.words)

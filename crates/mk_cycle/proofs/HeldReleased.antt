@@ -1,0 +1,244 @@
+-- What a `release` releases is held no longer: of that, the small allocations were held.
+use Rattle.std.proofs.Common.{◌≡◌, ℕ, zero, suc, ◌+◌, ◌*◌, ◌/◌, ◌++◌, Bool, true, false, cond, List, [], ◌∷◌, get_or}
+use Rattle.std.proofs.Common.{map, sum_by, refl, sym, ap, subst, ◌∙◌, append-nil, arith, inl, inr, zero-add}
+use Rattle.std.specs.Prelude.{◌&&◌, ◌||◌, not, Option, if◌then◌else◌}
+use Rattle.std.proofs.lemmas.Bool.{cases_Bool, false_from_ne_true, true≢false}
+use Rattle.std.proofs.lemmas.List.Sums.{sum_by-cons}
+use Rattle.std.proofs.Math.Bool.{and-false}
+use Rattle.mk_never.specs.Types.{is_large, kinds_of}
+use Rattle.mk_geom.specs.declared.addresses.Cell.{Cell}
+use Rattle.mk_geom.specs.declared.headers.Header.{Header}
+use Rattle.mk_geom.specs.Addresses.{address_of}
+use Rattle.mk_geom.specs.PageUses.{is_resident_page}
+use Rattle.mk_geom.specs.PageWords.{use_under}
+use Rattle.mk_geom.specs.Storages.{Storage}
+use Rattle.mk_geom.specs.StorageWords.{held_by_storages}
+use Rattle.mk_core.specs.declared.config.Config.{Config}
+use Rattle.mk_core.specs.declared.events.Event.{Event}
+use Rattle.mk_core.specs.declared.events.Step.TheVariants as step
+use Rattle.mk_core.specs.declared.seats.Object.{Object}
+use Rattle.mk_core.specs.Allocations.{PlacedAllocation, cell_of_allocation, held_by_allocations, is_mapped}
+use Rattle.mk_core.specs.Allocations.{never_granted, placed_at, storage_of, storage_words, unreleased_storage, with_released}
+use Rattle.mk_core.specs.Bounded.{is_some_and}
+use Rattle.mk_core.specs.Cells.{header_in, is_left_unmarked, is_unmapped_header, left_unmarked, pointed_cell}
+use Rattle.mk_core.specs.Cells.{words_under}
+use Rattle.mk_core.specs.History.{World, IsHistory, left}
+use Rattle.mk_core.specs.NewPlaces.{is_run_gone, is_small_object}
+use Rattle.mk_core.specs.ObjectHeaders.{OfBlock, OfLater, OfLeafBlock, OfLeafRun, OfRun, ShowsPart}
+use Rattle.mk_core.specs.StandingAllocations.{object_placed}
+use Rattle.mk_core.specs.Words.{Words, header_at, phase_of, used_at}
+use Rattle.mk_core.proofs.ObjectHeaders.{header_shows}
+use Rattle.mk_core.proofs.Sizes.{pages_some, words_within}
+use Rattle.mk_core.proofs.StandingAllocations.{cells_begin, placed_cell, run_begins, typed_size}
+use Rattle.mk_laws.specs.UnmappedRuns.{is_resident_in}
+use Rattle.mk_laws.proofs.ForImages.{gone_is}
+use Rattle.mk_laws.proofs.InvariantTheorems.{allocations_stand}
+use Rattle.mk_laws.proofs.Settled.{gone_is_unmapped, unmapped_run}
+use Rattle.mk_laws.proofs.UnmappedRuns.{unmapped_runs_take_no_memory}
+use Rattle.mk_words.specs.States.{PassState, world_of, now_of}
+use Rattle.mk_words.specs.TurnSteps.{world_at, Acts}
+use Rattle.mk_words.proofs.Made.{made}
+use Rattle.mk_cycle.specs.EngineLaw.{IsAtPhase}
+use Rattle.mk_cycle.specs.FinishCycle.{HoldsFewer}
+use Rattle.mk_cycle.specs.ReleasedPages.{cells_unmarked, held_below, held_unmarked, sum_below}
+use Rattle.mk_cycle.specs.TurnKeeps.{InTurn, IsGone}
+use Rattle.mk_cycle.proofs.CellCounts.{cells_weigh_as_much}
+use Rattle.mk_cycle.proofs.NewlyReleased.{is_new}
+use Rattle.mk_cycle.proofs.ReleasedCells.{gone_there, plus_zero, unmapped_is_large}
+use Rattle.mk_cycle.proofs.ReleasedCounts.{phase_there, quiet, same_before, unmarked_are}
+use Rattle.mk_cycle.proofs.SumsBelow.{sum_same}
+
+-- what one allocation holds
+abbrev held_part : Config → PlacedAllocation → ℕ
+held_part c a = if is_mapped c a then storage_words c a else 0
+
+abbrev words_mapped : Storage → ℕ
+words_mapped s = if s.mapped then s.words else 0
+
+held_first : (c : Config) (a : PlacedAllocation) (xs : List PlacedAllocation) (b : Bool) → a.released ≡ b
+    → held_by_storages (if b then unreleased_storage c xs else storage_of c a ∷ unreleased_storage c xs)
+    ≡ held_part c a + held_by_allocations c xs
+held_first c a xs true is =
+    let none : held_part c a ≡ 0 = ap (λ r. if not r && not (a.freed && is_large (kinds_of c.types a.ty))
+    then storage_words c a else 0) is in
+    omega arith
+held_first c a xs false is = sum_by-cons words_mapped (storage_of c a) (unreleased_storage c xs)
+
+held_cons : (c : Config) (a : PlacedAllocation) (xs : List PlacedAllocation)
+    → held_by_allocations c (a ∷ xs) ≡ held_part c a + held_by_allocations c xs
+unfolding unreleased_storage
+held_cons c a xs = held_first c a xs a.released refl
+
+-- where each of a list holds what it does after a change and, if the change releases it, this weight
+held_then : (c : Config) (f : PlacedAllocation → PlacedAllocation) (d : PlacedAllocation)
+    (weight : PlacedAllocation → ℕ) (xs : List PlacedAllocation)
+    → ((i : ℕ) → held_part c (get_or xs i d)
+    ≡ held_part c (f (get_or xs i d)) + cond (is_new f (get_or xs i d)) (weight (get_or xs i d)) 0)
+    → held_by_allocations c xs
+    ≡ held_by_allocations c (map f xs) + sum_by (λ a. cond (is_new f a) (weight a) 0) xs
+unfolding unreleased_storage
+held_then c f d weight [] parts = refl
+held_then c f d weight (a ∷ ys) parts =
+    let before = held_cons c a ys in
+    let behind = held_cons c (f a) (map f ys) in
+    let sum = sum_by-cons (λ x. cond (is_new f x) (weight x) 0) a ys in
+    let here = parts zero in
+    let rest = held_then c f d weight ys (λ i. parts (suc i)) in
+    omega arith
+
+-- by whether it was released, and whether it is now
+held_split : (was gone mapped : Bool) (n weight : ℕ)
+    → ((not was && (was || gone)) ≡ true → weight ≡ (if not was && mapped then n else 0))
+    → (if not was && mapped then n else 0)
+    ≡ (if not (was || gone) && mapped then n else 0) + cond (not was && (was || gone)) weight 0
+held_split true gone mapped n weight is = refl
+held_split false true mapped n weight is = sym (is refl) ∙ sym (zero-add weight)
+held_split false false mapped n weight is = sym (plus_zero _)
+
+if_mapped : (mapped : Bool) (n : ℕ) → (if not mapped then 0 else n) ≡ (if mapped then n else 0)
+if_mapped true n = refl
+if_mapped false n = refl
+
+-- A run that isn't resident is unmapped.
+not_resident : (o : Object) (x : Option Header) (used : ℕ) → ShowsPart o 0 x → is_small_object o ≡ false
+    → is_resident_page (use_under x used) ≡ false → is_unmapped_header x ≡ true
+not_resident o x used (OfBlock first small leaf) large out = absurd (true≢false (sym small ∙ large))
+not_resident o x used (OfLeafBlock first small leaf) large out = absurd (true≢false (sym small ∙ large))
+not_resident o x used (OfRun mapped first big leaf) large out = ap not out
+not_resident o x used (OfLeafRun first big leaf) large out = absurd (true≢false out)
+not_resident o x used (OfLater mapped some big) large out = ap not out
+
+weigh : (unmapped : Bool) (cells words : ℕ)
+    → (if unmapped then 0 else cells * words) ≡ cells * (if unmapped then 0 else words)
+weigh true cells words = omega arith
+weigh false cells words = refl
+
+-- a history whose next event may be a `release`
+module _ (c : Config) (es : List Event) (h : IsHistory c es) (at : phase_of (left c es).now.words ≡ 3)
+    (gone : is_run_gone (left c es).now.words (left c es).now.seats.holding.freed ≡ true) where
+  abbrev w : Words
+  w = (left c es).now.words
+
+  abbrev xs : List PlacedAllocation
+  xs = (left c es).allocations
+
+  abbrev f : PlacedAllocation → PlacedAllocation
+  f = with_released c (left c es).now.words
+
+  abbrev page_of_cell : ℕ → ℕ
+  page_of_cell i = (cell_of_allocation c (placed_at xs i)).page
+
+  page_is : (i : ℕ) → (placed_at xs i).released ≡ false → page_of_cell i ≡ (placed_at xs i).base / 64
+  page_is i u =
+      let a : PlacedAllocation = placed_at xs i in
+      let st = allocations_stand c es h i u in
+      ap (λ (cell : Cell). cell.page)
+      (placed_cell c a (typed_size c a h.within_limits st.stands.typed) st.stands.begins)
+
+  -- The header of its page shows it.
+  shows_there : (i : ℕ) → (placed_at xs i).released ≡ false
+      → ShowsPart (object_placed c (placed_at xs i)) 0 (header_in w (page_of_cell i))
+  shows_there i u =
+      let a : PlacedAllocation = placed_at xs i in
+      let o : Object = object_placed c a in
+      let st = allocations_stand c es h i u in
+      let sized = typed_size c a h.within_limits st.stands.typed in
+      let some = pages_some o sized in
+      subst (λ (n : ℕ). ShowsPart o 0 (header_in w n)) (plus_zero _ ∙ sym (page_is i u))
+      (header_shows o 0 (header_at w (a.base / 64 + 0)) sized some (st.headers 0 some))
+
+  not_resident_there : (i : ℕ) → (placed_at xs i).released ≡ false
+      → is_small_object (object_placed c (placed_at xs i)) ≡ false → is_mapped c (placed_at xs i) ≡ false
+      → is_resident_in (left c es) (page_of_cell i) ≡ false
+  not_resident_there i u large unmapped =
+      let a : PlacedAllocation = placed_at xs i in
+      let o : Object = object_placed c a in
+      let st = allocations_stand c es h i u in
+      let sized = typed_size c a h.within_limits st.stands.typed in
+      let aligned = (run_begins o a.base large st.stands.begins).1 in
+      let some = (words_within o sized).0 in
+      let page = page_is i u in
+      unmapped_runs_take_no_memory c es h es [] (page_of_cell i) (sym (append-nil es))
+      (record {
+        number = i;
+        unreleased = u;
+        freed = unmapped;
+        page = (omega (arith, aligned, page), omega (arith, aligned, page, some));
+        unmapped = λ run is there. unmapped_run (left c es) (gone_is_unmapped w _ gone) run is;
+      })
+      refl
+
+  -- so the header of a freed one is that of an unmapped run exactly where it isn't mapped.
+  unmapped_where : (i : ℕ) → (placed_at xs i).released ≡ false → (placed_at xs i).freed ≡ true
+      → is_unmapped_header (header_in w (page_of_cell i)) ≡ not (is_mapped c (placed_at xs i))
+  unmapped_where i u freed =
+      let a : PlacedAllocation = placed_at xs i in
+      let o : Object = object_placed c a in
+      elim (cases_Bool (is_small_object o)) [
+        | inl small ↦
+            let mapped : is_mapped c a ≡ true =
+            gone_is c a u ∙ ap (λ b. not (a.freed && not b)) small ∙ ap not (and-false a.freed) in
+            false_from_ne_true _ (λ un. true≢false (sym small ∙ unmapped_is_large o _ (shows_there i u) un))
+            ∙ sym (ap not mapped)
+        | inr large ↦
+            let unmapped : is_mapped c a ≡ false =
+            gone_is c a u ∙ ap (λ b. not (a.freed && not b)) large ∙ ap (λ b. not (b && true)) freed in
+            not_resident o _ (used_at w (page_of_cell i)) (shows_there i u) large
+            (not_resident_there i u large unmapped)
+            ∙ sym (ap not unmapped)
+      ]
+
+  -- what the released cells of a page hold, each
+  abbrev weight : ℕ → ℕ
+  weight p = if is_unmapped_header (header_in w p) then 0 else words_under (header_in w p)
+
+  weight_is : (i : ℕ) → is_new f (placed_at xs i) ≡ true → weight (page_of_cell i) ≡ held_part c (placed_at xs i)
+  weight_is i new =
+      let a : PlacedAllocation = placed_at xs i in
+      let known = (unmarked_are c es h at).quarantined i new in
+      let st = allocations_stand c es h i known.0 in
+      ap (λ n. if is_unmapped_header (header_in w (page_of_cell i)) then 0 else n)
+      (cells_begin c w a h.within_limits st.stands st.headers).1
+      ∙ ap (λ b. if b then 0 else storage_words c a) (unmapped_where i known.0 known.1)
+      ∙ if_mapped (is_mapped c a) (storage_words c a)
+
+  pub held_told : held_by_allocations c xs ≡ held_by_allocations c (map f xs) + held_below w c.pages
+  held_told =
+      let split = held_then c f never_granted (λ a. weight (cell_of_allocation c a).page) xs
+      (λ i.
+      let a : PlacedAllocation = placed_at xs i in
+      held_split a.released (is_some_and (is_left_unmarked w) (pointed_cell c.pages w.pages (address_of a.base)))
+      (not (a.freed && is_large (kinds_of c.types a.ty))) (storage_words c a) (weight (page_of_cell i))
+      (λ new. weight_is i new)) in
+      let weighed = cells_weigh_as_much c es h (quiet c es h at) (is_new f) (left_unmarked w) (unmarked_are c es h at)
+      weight in
+      let same : held_below w c.pages ≡ sum_below c.pages (λ p. cells_unmarked w p * weight p) =
+      sum_same c.pages (held_unmarked w) (λ p. cells_unmarked w p * weight p)
+      (λ p lt. weigh (is_unmapped_header (header_in w p)) (cells_unmarked w p) (words_under (header_in w p))) in
+      omega (arith, split, weighed, same)
+
+-- Passes that know the same allocations know the same words to be held.
+pub held_alike : (p q : PassState) → q.table.config ≡ p.table.config
+    → (world_of q).allocations ≡ (world_of p).allocations
+    → held_by_allocations q.table.config (world_of q).allocations
+    ≡ held_by_allocations p.table.config (world_of p).allocations
+held_alike p q table same =
+    ap (λ (c : Config). held_by_allocations c (world_of q).allocations) table
+    ∙ ap (λ (xs : List PlacedAllocation). held_by_allocations p.table.config xs) same
+
+-- A pass that made the `release` knows it so.
+module _ (d q : PassState) (t : InTurn d) (u : InTurn q) (at : IsAtPhase d 3) (a : Acts d step.Release q) where
+  pub release_holds : IsGone d → HoldsFewer d q (held_below (now_of q).words d.table.config.pages)
+  release_holds gone =
+      let c : Config = d.table.config in
+      let es : List Event = d.seen ++ a.makes.others in
+      let told = held_told c es (made d step.Release q a.makes).history (phase_there d q t u at a)
+      (gone_there d q t u at a gone) in
+      ap (λ (ys : List PlacedAllocation). held_by_allocations c ys) (sym (same_before d q t u at a))
+      ∙ told
+      ∙ ap (λ n. held_by_allocations c (map (with_released c (world_at a.makes).now.words)
+      (world_at a.makes).allocations) + n)
+      (sym (ap (λ (x : World). held_below x.now.words c.pages) a.world))
+      ∙ ap (λ n. n + held_below (now_of q).words c.pages)
+      (sym (ap (λ (x : World). held_by_allocations c x.allocations) a.world)
+      ∙ sym (ap (λ (x : PassState). held_by_allocations x.table.config (world_of q).allocations) a.makes.is))
