@@ -114,7 +114,8 @@ fn free_stopped(
 }
 
 /// Frees a large object, whose run has this many pages, once all other callers are in no call. Returns whether that is
-/// due.
+/// due. It isn't inlined: a small object needs few registers without it.
+#[inline(never)]
 fn free_run<R: Wait>(
     rt: &R,
     words: &Words,

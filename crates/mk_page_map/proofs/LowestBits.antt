@@ -1,11 +1,13 @@
 -- The lowest 1 of a word, from a place on, and a word with one bit put.
 use Rattle.std.proofs.Common.{◌≡◌, ℕ, ◌-◌, ◌*◌, ◌%◌, ◌^◌, ◌<◌, ◌≤◌, min, true, false, nat_eq, Some, None, bit_and}
-use Rattle.std.proofs.Common.{bit_or}
+use Rattle.std.proofs.Common.{◌+◌, bit_or, not, refl, zero, suc}
 use Rattle.std.proofs.Common.{w64, ap, sym, ◌∙◌, inl, inr, eq-eqb, arith}
 use Rattle.std.specs.Int.{bit_at, bit_not}
+use Rattle.std.specs.Int.Bits.{bit_xor}
+use Rattle.std.proofs.Math.Pow.{pow-lt}
 use Rattle.std.proofs.lemmas.Bool.{cases_lt}
 use Rattle.std.proofs.lemmas.Nat.Bits.{bit_at_and, bit_at-lt, bit_at-zero, bit_at_mask_inside, bit_at_mask_below}
-use Rattle.std.proofs.lemmas.Nat.Bits.{ones_shl}
+use Rattle.std.proofs.lemmas.Nat.Bits.{ones_shl, bit_at_xor, bit_at-pow_same, bit_at-pow_other}
 use Rattle.std.proofs.lemmas.Nat.Bits.{bit_at_set_same, bit_at_set_other, bit_at_clear_same, bit_at_clear_other}
 use Rattle.mk_page_map.specs.Members.{IsNext}
 
@@ -30,7 +32,7 @@ rest_dropped word from k fits below =
     ∙ omega arith
 
 zero_is_no_one : (bit : ℕ) → bit ≡ 0 → nat_eq bit 1 ≡ false
-zero_is_no_one bit zero = ap (λ b. nat_eq b 1) zero
+zero_is_no_one bit is = ap (λ b. nat_eq b 1) is
 
 pub lowest_is_next : (word from place : ℕ) → from < 64 → place < 64 → bit_at (rest_from word from) place ≡ 1
     → ((below : ℕ) → below < place → bit_at (rest_from word from) below ≡ 0)
@@ -47,9 +49,9 @@ lowest_is_next word from place begun within one lowest =
     )
 
 pub none_is_next : (word from : ℕ) → rest_from word from ≡ 0 → IsNext (λ k. nat_eq (bit_at word k) 1) from 64 None
-none_is_next word from zero k low high =
+none_is_next word from none k low high =
     zero_is_no_one (bit_at word k)
-    (sym (rest_kept word from k low high) ∙ ap (λ rest. bit_at rest k) zero ∙ bit_at-zero k)
+    (sym (rest_kept word from k low high) ∙ ap (λ rest. bit_at rest k) none ∙ bit_at-zero k)
 
 -- a word with one bit set or cleared, as the code computes it
 abbrev pub with_one : ℕ → ℕ → ℕ
@@ -70,3 +72,34 @@ set_bit_others word place k within other = bit_at_set_other w64 word place withi
 pub cleared_bit_others : (word place k : ℕ) → place < 64 → k < 64 → (k ≡ place → ⊥)
     → bit_at (with_zero word place) k ≡ bit_at word k
 cleared_bit_others word place k within short other = bit_at_clear_other w64 word place within k short other
+
+-- a word with one bit turned, as the code computes it
+abbrev pub with_other : ℕ → ℕ → ℕ
+with_other word place = bit_xor word (1 * 2 ^ place % 2 ^ 64)
+
+one_at : (place : ℕ) → place < 64 → 1 * 2 ^ place % 2 ^ 64 ≡ 2 ^ place
+one_at place within = let small : 2 ^ place < 2 ^ 64 = pow-lt within in omega (arith, small)
+
+turned : (word place k : ℕ) → place < 64 → bit_at (with_other word place) k ≡ (bit_at word k + bit_at (2 ^ place) k) % 2
+turned word place k within =
+    bit_at_xor word (1 * 2 ^ place % 2 ^ 64) k ∙ ap (λ n. (bit_at word k + bit_at n k) % 2) (one_at place within)
+
+other_bit : (bit : ℕ) → bit < 2 → nat_eq ((bit + 1) % 2) 1 ≡ not (nat_eq bit 1)
+other_bit zero few = refl
+other_bit (suc zero) few = refl
+other_bit (suc (suc bit)) few = absurd (omega arith)
+
+pub turned_bit_is : (word place : ℕ) → place < 64
+    → nat_eq (bit_at (with_other word place) place) 1 ≡ not (nat_eq (bit_at word place) 1)
+turned_bit_is word place within =
+    ap (λ n. nat_eq n 1)
+    (turned word place place within ∙ ap (λ n. (bit_at word place + n) % 2) (bit_at-pow_same place))
+    ∙ other_bit (bit_at word place) (bit_at-lt word place)
+
+pub turned_bit_others : (word place k : ℕ) → place < 64 → (k ≡ place → ⊥)
+    → bit_at (with_other word place) k ≡ bit_at word k
+turned_bit_others word place k within other =
+    turned word place k within
+    ∙ (let none : bit_at (2 ^ place) k ≡ 0 = bit_at-pow_other place k other in
+    let few = bit_at-lt word k in
+    omega arith)

@@ -1,6 +1,6 @@
 //! Sets of page numbers, as bits: 64 pages in a word, and 64 words in a set, after a summary of which of them aren't 0.
 //! So a set's next page is found by two words of it and the summary.
-ghost use Rattle.std.specs.Prelude.{◌≡◌, ℕ, ◌+◌, ◌*◌, ◌<◌, ◌==◌};
+ghost use Rattle.std.specs.Prelude.{◌≡◌, ℕ, ◌+◌, ◌*◌, ◌<◌, ◌==◌, not};
 ghost use Rattle.std.specs.Int.{bit_at};
 ghost use Rattle.mk_page_map.specs.Members.{IsNext};
 ghost use Rattle.mk_page_map.specs.PageSets.{AreSets, OthersStay, is_member};
@@ -59,6 +59,23 @@ fn with_bit(word: u64, place: u64, is_one: bool) -> u64
     if is_one { word | bit } else { word & !bit }
 }
 
+/// Whether the bit at this place is 1.
+fn has_one(word: u64, place: u64) -> bool
+    requires { place < 64 }
+    ensures { result ≡ (bit_at word place == 1) }
+{
+    word >> place & 1 == 1
+}
+
+/// The word with the bit at this place turned.
+fn with_turned(word: u64, place: u64) -> u64
+    requires { place < 64 }
+    ensures this { (bit_at result place == 1) ≡ not (bit_at word place == 1) }
+    ensures others { (other : ℕ) → (other ≡ place → ⊥) → bit_at result other ≡ bit_at word other }
+{
+    word ^ (1u64 << place)
+}
+
 /// Puts a page into a set, or takes it out.
 pub(crate) fn put(sets: &mut [u64], set: usize, page: u64, inside: bool)
     requires sets { AreSets sets.old }
@@ -73,10 +90,10 @@ pub(crate) fn put(sets: &mut [u64], set: usize, page: u64, inside: bool)
     let summary = SET_WORDS * set;
     let at = summary + 1 + (page / 64) as usize;
     let found = sets[at];
-    let word = with_bit(found, page % 64, inside);
-    if word == found {
+    if has_one(found, page % 64) == inside {
         return;
     }
+    let word = with_turned(found, page % 64);
     sets[at] = word;
     sets[summary] = with_bit(sets[summary], page / 64, word != 0);
 }

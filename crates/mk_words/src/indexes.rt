@@ -4,10 +4,14 @@ ghost use Rattle.mk_core.specs.Layout.{count_of_words, index_of, index_of_named,
 
 use mk_core::{TableWord, Word};
 
+/// How many words the largest table has, that of 4,096 pages.
+pub(crate) const MOST_WORDS: usize = 656 + 85 * 4096;
+
 /// How many words a table of this many pages has.
 pub(crate) fn count_of_words(pages: u64) -> usize
     requires { pages ≤ 4096 }
-    ensures { result ≡ count_of_words pages }
+    ensures exact { result ≡ count_of_words pages }
+    ensures most { result ≤ 348816 }
 {
     (656 + 85 * pages) as usize
 }

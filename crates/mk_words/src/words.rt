@@ -1,5 +1,5 @@
 //! The shared words, and the passes to them.
-ghost use Rattle.std.specs.Prelude.{◌≡◌, [], ◌∷◌, ◌++◌, IfOk, false, replicate, true};
+ghost use Rattle.std.specs.Prelude.{◌≡◌, ◌≤◌, [], ◌∷◌, ◌++◌, IfOk, false, replicate, true};
 ghost use Rattle.mk_core.specs.declared.events.Seat.TheVariants.{Host};
 ghost use Rattle.mk_core.specs.Config.{IsWithinLimits};
 ghost use Rattle.mk_core.specs.Growing.{Grows, is_same_seat};
@@ -10,7 +10,7 @@ ghost use Rattle.mk_words.specs.Finals.{history_of, config_of, HasTallies};
 
 use crate::finals::{Final, freed_bits, last_word};
 use crate::homes::{Carried, MapHome};
-use crate::indexes::{count_of_words, index_of};
+use crate::indexes::{MOST_WORDS, count_of_words, index_of};
 use crate::passes::Pass;
 use crate::rule::{OneHistory, View};
 use crate::telling::{HandOver, Handing, Remember, Settle, Together};
@@ -47,11 +47,15 @@ impl Model for Words {
     } };
 }
 
+/// The words of the largest table, before any step. A new table copies its words from here, so that they are made once.
+static ZEROS: [u64; MOST_WORDS] = [0; MOST_WORDS];
+
 /// This many zeros.
-fn zeros(alloc: Global, count: usize) -> Result<Vec<u64>, NoMemory>
-    ensures { IfOk result (λ list. list.items ≡ replicate count 0) }
+fn zeros(count: usize) -> &'static [u64]
+    requires { count ≤ 348816 }
+    ensures { result.now ≡ replicate count 0 }
 {
-    Ok(Vec::from_elem(alloc, 0, count)?)
+    &ZEROS[..count]
 }
 
 impl Words {
@@ -98,7 +102,7 @@ impl Words {
         ensures pass { IfOk result
             (λ made. made.1 ≡ record { table = made.0; seat = Host; seats = all_seats config.now; seen = [] }) }
     {
-        let zeros = zeros(alloc, count_of_words(config.pages))?;
+        let zeros = zeros(count_of_words(config.pages));
         let copy = config.try_clone(alloc)?;
         let pages = PageMap::new(alloc, config.pages)?;
         let first = Carried {
@@ -111,7 +115,7 @@ impl Words {
         slots.push(MapHome {
             carried: Some(carried),
         })?;
-        match Table::new(alloc, zeros.as_slice(), slots, config) {
+        match Table::new(alloc, zeros, slots, config) {
             Ok((table, token)) => Ok((
                 Words {
                     table,

@@ -1,21 +1,36 @@
-use Rattle.std.proofs.Common.{ℕ, ◌%◌, ◌∙◌, ap, nat_eq, sym}
+use Rattle.std.proofs.Common.{◌≡◌, ℕ, Bool, true, false, not, ◌∙◌, ap, refl, sym}
+use mathlib.Core.Bool.{beq}
 use Rattle.std.specs.Int.{bit_at}
 use Rattle.mk_page_map.proofs.SetWords.{Puts, put_are_sets, put_this, put_other_sets, put_other_pages, summary_stays}
 use Rattle.mk_page_map.proofs.sets.put.Goals as goal
 
+same : (a b : Bool) → beq a b ≡ true → a ≡ b
+same true true h = refl
+same true false h = cc
+same false true h = cc
+same false false h = refl
+
+-- of two Booleans that differ, one is the other turned
+turned : (a b : Bool) → beq a b ≡ false → not a ≡ b
+turned true true h = cc
+turned true false h = refl
+turned false true h = refl
+turned false false h = cc
+
 puts : (c : goal.After-with_bit)
-    → Puts c.args.sets.now c.args.set c.args.page c.args.inside c.with_bit-word.result c.with_bit.result
+    → Puts c.args.sets.now c.args.set c.args.page c.args.inside c.with_turned-word.result c.with_bit.result
 puts c = record {
   are_sets = c.requires.sets;
   is_set = c.requires.set;
   is_page = c.requires.page;
-  bit = c.with_bit-word.ensures.this;
-  other_bits = c.with_bit-word.ensures.others;
+  bit = c.with_turned-word.ensures.this ∙ ap not (sym c.has_one.ensures)
+      ∙ turned c.has_one.result c.args.inside c.if-has_one-inside.false;
+  other_bits = λ k within other. c.with_turned-word.ensures.others k other;
   mark = c.with_bit.ensures.this;
   other_marks = λ k within other.
       c.with_bit.ensures.others k within other
       ∙ ap (λ (n : ℕ). bit_at n k)
-      (summary_stays c.args.sets.now c.args.set c.args.page c.with_bit-word.result);
+      (summary_stays c.args.sets.now c.args.set c.args.page c.with_turned-word.result);
 }
 
 pub returns-clause-sets : goal.returns-clause-sets
@@ -31,6 +46,6 @@ pub returns-clause-other_pages : goal.returns-clause-other_pages
 returns-clause-other_pages c = put_other_pages _ _ _ _ _ _ (puts c)
 
 -- the page is as it is to be, so nothing changes
-pub returns-then-word-found-clause-this : goal.returns-then-word-found-clause-this
-returns-then-word-found-clause-this c =
-    ap (λ n. nat_eq (bit_at n (c.args.page % 64)) 1) (sym c.if-word-found.true) ∙ c.with_bit-word.ensures.this
+pub returns-then-has_one-inside-clause-this : goal.returns-then-has_one-inside-clause-this
+returns-then-has_one-inside-clause-this c =
+    sym c.has_one.ensures ∙ same c.has_one.result c.args.inside c.if-has_one-inside.true

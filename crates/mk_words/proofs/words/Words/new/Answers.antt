@@ -10,9 +10,9 @@ use Rattle.mk_words.proofs.words.Words.new.Goals as goal
 pub new-requires-3 : goal.new-requires-3
 new-requires-3 c =
     let one : c.push.new.self.items ≡ c.in_ok-carried.carried.value.map ∷ [] = search rules in
-    first_call c.args.config.now c.as_slice.result.now c.push.new.self.items c.in_ok-carried.carried.value.map
+    first_call c.args.config.now c.zeros-zeros.result.now c.push.new.self.items c.in_ok-carried.carried.value.map
     c.requires
-    (c.as_slice.ensures.value ∙ c.in_ok-zeros.ensures ∙ ap (λ (n : ℕ). replicate {A = ℕ} n 0) c.count_of_words.ensures)
+    (c.zeros-zeros.ensures ∙ ap (λ (n : ℕ). replicate {A = ℕ} n 0) c.count_of_words.ensures.exact)
     one
     (shows_that _ c.in_ok-pages.pages c.in_ok-carried.carried.value.map
     (ap (λ (k : Carried). k.map) c.in_ok-carried.ensures.ok)
