@@ -1,5 +1,5 @@
-//! The run of a large object that a Free has freed: its pages are unmapped, and then its words wiped, while the gates of
-//! all other callers are held.
+//! The run of a large object that a Free has freed: its pages are unmapped, and then its words wiped, while the gates
+//! of all other callers are held.
 ghost use Rattle.std.specs.Prelude.{◌≡◌, ℕ, ◌+◌, ◌<◌, ◌≤◌, true, false, Some};
 ghost use Rattle.mk_core.specs.declared.seats.Stage.TheVariants as stage;
 ghost use Rattle.mk_core.specs.NewPlaces.{unmapped_header};

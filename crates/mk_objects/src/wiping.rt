@@ -1,5 +1,5 @@
-//! The words of the run of a large object that a Free has freed and unmapped are wiped. Most are 0 already, so those of a
-//! group are looked at together first. A word that is 0 isn't stored to.
+//! The words of the run of a large object that a Free has freed and unmapped are wiped. Most are 0 already, so those of
+//! a group are looked at together first. A word that is 0 isn't stored to.
 ghost use Rattle.std.specs.Prelude.{◌≡◌, ◌+◌, ◌*◌, ◌≤◌, true, Some};
 ghost use Rattle.mk_core.specs.declared.seats.Stage.TheVariants as stage;
 ghost use Rattle.mk_core.specs.NewPlaces.{is_run_unmapped};

@@ -131,6 +131,6 @@ pub record IsRunning (on : Bool) (program : List Item) (k : ℕ) (p q : PassStat
   pub fed : IsFedWith program k (answers_in p.table.config k q.seen) s
 
 -- One more answer may be counted.
-pub record HasRoom (s : Counts) : Type 0 where
+pub record CountsHaveRoom (s : Counts) : Type 0 where
   pub ops : s.ops < 18446744073709551615
   pub refused : s.refused ≤ s.ops

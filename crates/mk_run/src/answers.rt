@@ -201,8 +201,8 @@ fn answer_when_open<R: Wait>(rt: &R, caller: &mut Caller, feed: &Feed) -> Answer
     call_until_open(rt, caller, op)
 }
 
-/// Carries out an operation that takes no turn, and returns its answer; none where its gate is held. A New and a Free are
-/// put off. Nothing of it waits, so that the answer is at hand where the call is made.
+/// Carries out an operation that takes no turn, and returns its answer; none where its gate is held. A New and a Free
+/// are put off. Nothing of it waits, so that the answer is at hand where the call is made.
 #[inline(always)]
 pub(crate) fn answer_at_once(caller: &mut Caller, op: Op) -> Option<Answer>
     requires home { caller.old.home ≡ true }

@@ -10,7 +10,7 @@ ghost use Rattle.mk_caller.specs.States.{caller_of_pass};
 ghost use Rattle.mk_turns.specs.Sweeping.{SweepsNothing};
 ghost use Rattle.mk_cycle.specs.Begun.{EachIsBegun};
 ghost use Rattle.mk_run.specs.Running.{answers_in, FollowsScript, EndsScript, IsTextOf};
-ghost use Rattle.mk_run.specs.Scripts.{HasRoom, IsFedWith, ScriptTakesAnswer, script_of};
+ghost use Rattle.mk_run.specs.Scripts.{CountsHaveRoom, IsFedWith, ScriptTakesAnswer, script_of};
 
 use crate::answers::{answer_at_once, answer_put_off};
 use crate::paces::Pace;
@@ -23,8 +23,8 @@ use std::alloc::Global;
 use std::sync::Wait;
 use std::thread::Threads;
 
-/// How many answers a script has had, and how many of those refuse. They stand beside the script, so that a call need not
-/// find them in memory again.
+/// How many answers a script has had, and how many of those refuse. They stand beside the script, so that a call need
+/// not find them in memory again.
 #[derive(Clone, Copy)]
 struct Counts {
     ops: u64,
@@ -37,7 +37,7 @@ impl Counts {
     /// Counts an answer.
     #[inline(always)]
     fn count(&mut self, answer: Answer)
-        requires { HasRoom self.old }
+        requires { CountsHaveRoom self.old }
         ensures ops { self.new.ops ≡ self.old.ops + 1 }
         ensures refused { self.new.refused ≡ count_by is_refusal (answer ∷ []) + self.old.refused }
     {
@@ -57,7 +57,7 @@ fn take_answer(
     answer: Answer,
 ) -> Result<(), NoMemory>
     requires waiting { IsWaiting feed.old }
-    requires room { HasRoom counts.old }
+    requires room { CountsHaveRoom counts.old }
     ensures takes { OnOk result
         (ScriptTakesAnswer answer (script_of feed.old counts.old) (script_of feed.new counts.new)) }
     ensures ops { OnOk result (counts.new.ops ≡ counts.old.ops + 1) }

@@ -1,4 +1,4 @@
-use Rattle.std.proofs.Common.{◌≡◌, ◌+◌, ◌∙◌, List, [], ◌∷◌, refl, sym, ap, subst, arith}
+use Rattle.std.proofs.Common.{◌≡◌, ◌∙◌, List, [], ◌∷◌, refl, sym, ap, subst, arith}
 use Rattle.mk_core.specs.declared.events.Answer.{Answer}
 use Rattle.mk_check.specs.Laws.{IsChecked}
 use Rattle.mk_run.specs.Running.{answers_in}
