@@ -10,7 +10,7 @@ use Rattle.mk_geom.specs.declared.addresses.Cell.{Cell}
 use Rattle.mk_geom.specs.Addresses.{head_page_under}
 use Rattle.mk_geom.specs.Headers.{header_of}
 use Rattle.mk_core.specs.Bits.{has_bit, without}
-use Rattle.mk_core.specs.Cells.{cells_under, head_page, header_in, is_unmapped_header, is_used, left_unmarked}
+use Rattle.mk_core.specs.Cells.{head_page, header_in, is_unmapped_header, is_used, left_unmarked}
 use Rattle.mk_core.specs.Cells.{words_under}
 use Rattle.mk_core.specs.Moments.{is_phase}
 use Rattle.mk_core.specs.TurnConditions.{empties}
