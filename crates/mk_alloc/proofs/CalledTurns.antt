@@ -1,5 +1,4 @@
 -- A call under the turn, from its parts: its caller has one entry more, which one event decides.
-use Rattle.mk_alloc.proofs.Vocabulary.{ℕ}
 use Rattle.mk_laws.proofs.Vocabulary.{calls_from}
 use Rattle.mk_alloc.proofs.Vocabulary.{Answer, AreOfOthers, Bool, CalledInTurn, Caller, Config, Decided, Event, Flight}
 use Rattle.mk_alloc.proofs.Vocabulary.{Has, InTurn, IsFresh, IsHistory, KeepsRegisters, List, Makes, Op, PassState}
@@ -9,7 +8,7 @@ use Rattle.mk_alloc.proofs.Vocabulary.{caller_of_pass, calls, calls_by, calls_in
 use Rattle.mk_alloc.proofs.Vocabulary.{is_one_of, is_same_seat, is_take, left, list_all, made, never_behind}
 use Rattle.mk_alloc.proofs.Vocabulary.{no_more_calls, not, not-true, not_both, now_of, only_one, only_seen}
 use Rattle.mk_alloc.proofs.Vocabulary.{only_seen_by, or_cases, others_add_none, others_one, own_before, own_calls}
-use Rattle.mk_alloc.proofs.Vocabulary.{pass_before, phase_of, refl, subst, sym, true, turn_stays, waits_for, ⊎_elim}
+use Rattle.mk_alloc.proofs.Vocabulary.{pass_before, phase_of, refl, subst, sym, true, turn_stays, waits_for, ℕ, ⊎_elim}
 use Rattle.mk_alloc.proofs.Vocabulary.{◌&&◌, ◌++◌, ◌∙◌, ◌∷◌, ◌≡◌}
 use Rattle.mk_words.proofs.Seats.{others_own}
 use Rattle.mk_words.proofs.TurnSteps.{takes as takes_turn}
@@ -110,7 +109,11 @@ module _ {o : Op} {p taken : PassState} (x : Taken o p taken) where
   taken_turn =
       record {
         own = taking.pass.own;
-        holds = (takes_turn waited (Some o) 0 taken (record { makes = taking; tells = x.takes.takes.finds }) refl).holds;
+        holds = (takes_turn waited (Some o) 0 taken (record {
+          makes = taking;
+          tells =
+              x.takes.takes.finds;
+        }) refl).holds;
         history = taking.pass.history;
       }
 

@@ -2,11 +2,11 @@
 -- holder's is decided, and up to a `release` the unreleased storage stays as it is.
 use Rattle.mk_alloc.proofs.Vocabulary.{AreOfOthers, Caller, Cell, Config, Decided, Event, Flight, Has, List, Moment}
 use Rattle.mk_alloc.proofs.Vocabulary.{Option, PassState, PlacedAllocation, Steady, Step, Storage, World, []}
-use Rattle.mk_alloc.proofs.Vocabulary.{allocations_by, ap, append-nil, append_assoc, caller_of_pass, calls_by, event_of}
-use Rattle.mk_alloc.proofs.Vocabulary.{false, flight_of, freed_where_it_stands, frees_none, is_pending_free, left}
-use Rattle.mk_alloc.proofs.Vocabulary.{left_after, map, no_more_calls, none_freed, only_one, others_add_none}
-use Rattle.mk_alloc.proofs.Vocabulary.{others_one, own_calls, progress, refl, still, subst, sym, true}
-use Rattle.mk_alloc.proofs.Vocabulary.{unreleased_storage, ℕ, ◌++◌, ◌∙◌, ◌∷◌, ◌≡◌, ◌≢◌}
+use Rattle.mk_alloc.proofs.Vocabulary.{allocations_by, ap, caller_of_pass, calls_by, event_of, false, flight_of}
+use Rattle.mk_alloc.proofs.Vocabulary.{freed_where_it_stands, frees_none, is_pending_free, left, left_after, map}
+use Rattle.mk_alloc.proofs.Vocabulary.{no_more_calls, none_freed, only_one, others_add_none, others_one, own_calls}
+use Rattle.mk_alloc.proofs.Vocabulary.{progress, refl, still, sym, true, unreleased_storage, ℕ, ◌++◌, ◌∙◌, ◌∷◌, ◌≡◌}
+use Rattle.mk_alloc.proofs.Vocabulary.{◌≢◌}
 use Rattle.mk_core.proofs.ChangedAllocations.{fresh_storage}
 use Rattle.mk_laws.proofs.Protocols.{protocol_of}
 use Rattle.mk_cycle.proofs.Calm.{calm_still}
@@ -62,12 +62,6 @@ cycle_still c m f n (step.Look x) h free = calm_still c m f n (step.Look x) refl
 cycle_still c m f n (step.Quar p v) h free = calm_still c m f n (step.Quar p v) refl free
 cycle_still c m f n _ h free = cc
 
--- lists one event longer
-
-pub longer : (P : List Event → Type 0) (es done : List Event) (e : Event) → P ((es ++ done) ++ e ∷ [])
-    → P (es ++ (done ++ e ∷ []))
-longer P es done e h = subst P (append_assoc es done (e ∷ [])) h
-
 -- The holder's call stays as it is, and none of its calls is decided.
 pub record GoesUndecided (p : PassState) (es fs : List Event) : Type 0 where
   pub call : call_in p fs ≡ call_in p es
@@ -109,19 +103,12 @@ module _ (p : PassState) (seat : p.seat ≡ Caller (caller_of_pass p)) (own : Ha
   pub goes_undecided : (es more : List Event) → is_pending_free (call_in p es) ≡ false
       → Stretch p is_of_cycles es more → GoesUndecided p es (es ++ more)
   goes_undecided es more free s =
-      along p is_of_cycles cycles_in_turn own es (λ done. GoesUndecided p es (es ++ done))
-      (record {
-        own = λ done x h kind so_far.
-            longer (λ l. GoesUndecided p es l) es done (event_of p x)
-            (undecided_then es (es ++ done) ((es ++ done) ++ event_of p x ∷ []) so_far
-            (own_undecided (es ++ done) x h kind
-            (ap (λ (f : Flight). is_pending_free f) so_far.call ∙ free)));
-        other = λ done e h ne so_far.
-            longer (λ l. GoesUndecided p es l) es done e
-            (undecided_then es (es ++ done) ((es ++ done) ++ e ∷ []) so_far (other_undecided (es ++ done) e h ne));
-      })
-      more s (subst (λ (l : List Event). GoesUndecided p es l) (sym (append-nil es))
-      (record { call = refl; calls = refl }))
+      along p is_of_cycles cycles_in_turn own (λ (l : List Event). GoesUndecided p es l)
+      (λ fs x h kind so_far.
+      undecided_then es fs (fs ++ event_of p x ∷ []) so_far
+      (own_undecided fs x h kind (ap (λ (f : Flight). is_pending_free f) so_far.call ∙ free)))
+      (λ fs e h ne so_far. undecided_then es fs (fs ++ e ∷ []) so_far (other_undecided fs e h ne))
+      es more s (record { call = refl; calls = refl })
 
 -- The unreleased storage
 
@@ -164,22 +151,15 @@ module _ (p : PassState) (seat : p.seat ≡ Caller (caller_of_pass p)) (own : Ha
   pub stays_reserved : (es more : List Event) → is_pending_free (call_in p es) ≡ false
       → Stretch p releases_none es more → StaysReserved p es (es ++ more)
   stays_reserved es more free s =
-      along p releases_none (of_turn of_cycles) own es (λ done. StaysReserved p es (es ++ done))
-      (record {
-        own = λ done x h kind so_far.
-            let pending = ap (λ (f : Flight). is_pending_free f) so_far.call ∙ free in
-            longer (λ l. StaysReserved p es l) es done (event_of p x)
-            (record {
-              call = (own_undecided p seat own (es ++ done) x h (of_cycles x kind) pending).call
-                  ∙ so_far.call;
-              storage = own_storage (es ++ done) x h kind pending ∙ so_far.storage;
-            });
-        other = λ done e h ne so_far.
-            longer (λ l. StaysReserved p es l) es done e
-            (record {
-              call = (other_undecided p seat own (es ++ done) e h ne).call ∙ so_far.call;
-              storage = other_storage (es ++ done) e h ne ∙ so_far.storage;
-            });
+      along p releases_none (of_turn of_cycles) own (λ (l : List Event). StaysReserved p es l)
+      (λ fs x h kind so_far.
+      let pending = ap (λ (f : Flight). is_pending_free f) so_far.call ∙ free in
+      record {
+        call = (own_undecided p seat own fs x h (of_cycles x kind) pending).call ∙ so_far.call;
+        storage = own_storage fs x h kind pending ∙ so_far.storage;
       })
-      more s (subst (λ (l : List Event). StaysReserved p es l) (sym (append-nil es))
-      (record { call = refl; storage = refl }))
+      (λ fs e h ne so_far. record {
+        call = (other_undecided p seat own fs e h ne).call ∙ so_far.call;
+        storage = other_storage fs e h ne ∙ so_far.storage;
+      })
+      es more s (record { call = refl; storage = refl })

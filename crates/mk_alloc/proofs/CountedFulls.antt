@@ -74,7 +74,9 @@ module _ {p p1 p2 : PassState} {n v : ℕ} (quiet : IsQuiet p) (u : IsUnplaced p
     (look : Acts p (step.Look word.Full) p1) (finds : Finds p (step.Look word.Full) n p1)
     (tallies : Acts p1 (step.Tally tally.Full v) p2) where
   k1 : LeavesTurn unchanged p p1
-  k1 = calm_keeps p (step.Look word.Full) p1 look (before_act look) look.makes.pass.history refl quiet.free unchanged refl
+  k1 =
+      calm_keeps p (step.Look word.Full) p1 look
+      (before_act look) look.makes.pass.history refl quiet.free unchanged refl
 
   k2 : LeavesTurn but_full p1 p2
   k2 = calm_keeps p1 (step.Tally tally.Full v) p2 tallies (before_act tallies) tallies.makes.pass.history refl

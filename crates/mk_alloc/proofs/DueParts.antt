@@ -4,6 +4,7 @@ use Rattle.mk_alloc.proofs.Vocabulary.{List, None, PassState, Step, TurnGoesOn, 
 use Rattle.mk_alloc.proofs.Vocabulary.{cases_Bool, false, finishes, has_step, inl, inr, is_begin, is_close, is_end}
 use Rattle.mk_alloc.proofs.Vocabulary.{is_look, or_from, or_parts, refl, subst, sym, true, true≢false, turn_stays, ◌++◌}
 use Rattle.mk_alloc.proofs.Vocabulary.{◌∙◌, ◌∷◌, ◌≡◌, ◌⊎◌}
+use Rattle.mk_laws.proofs.Longer.{longer_at}
 use Rattle.mk_alloc.proofs.CalmStretches.{cycles_in_turn, is_of_cycles}
 use Rattle.mk_alloc.proofs.CycleParts.{BeginIn, EndsIn, begin_done, begin_in, begins_held, finish_done, finish_in}
 use Rattle.mk_alloc.proofs.Going.{IsCallers, begun_on, callers_then, finished_on, look_part, looked_on}
@@ -21,16 +22,6 @@ at_behind kind xs ys at =
       event = at.event;
       behind = at.behind;
       is = ap (λ (l : List Event). xs ++ l) at.is ∙ sym (append_assoc xs at.before (at.event ∷ at.behind));
-      of_kind = at.of_kind;
-    }
-
-pub at_first : (kind : SomeKind) (xs ys : List Event) → At kind xs → At kind (xs ++ ys)
-at_first kind xs ys at =
-    record {
-      before = at.before;
-      event = at.event;
-      behind = at.behind ++ ys;
-      is = ap (λ (l : List Event). l ++ ys) at.is ∙ append_assoc at.before (at.event ∷ at.behind) ys;
       of_kind = at.of_kind;
     }
 
@@ -204,7 +195,7 @@ module _ {on : Bool} {p q : PassState} (t : InTurn p) (seat : IsCallers p) (quie
         none_second = lacks_append is_begin begun.behind rest begun.none_behind none;
         stopped = λ off. ends_behind begun.behind rest (no_close begun.behind begun.finishes_none) (stopped off);
         goes_on = λ keeps. lacks_append finishes begun.behind rest begun.finishes_none (goes_on keeps);
-        older = λ one. at_first is_end old.more begun.before (old.ended one);
+        older = λ one. longer_at begun.before (old.ended one);
       }
 
   -- where the engine keeps on, and where it doesn't

@@ -39,7 +39,8 @@ stay_exact_behind_turns on p o a q own called exact =
     let takes = taking_does p (Some o) called.taken own called.takes in
     let taken = goes_on on p called.taken takes.more takes.is (does_give_none taking_gives_none takes) exact in
     let acts = called.acts in
-    let done = goes_on on called.taken called.done acts.more acts.is (doing_gives called.taken called.done acts) taken in
+    let done =
+    goes_on on called.taken called.done acts.more acts.is (doing_gives called.taken called.done acts) taken in
     let g = called.gives in
     let before = none_more on called.done.table.config called.done.seat called.done.seen g.others
     (others_give called.done.seat called.done.seats g.others (own_before g) g.of_others) done in

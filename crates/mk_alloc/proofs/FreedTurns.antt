@@ -15,7 +15,7 @@ use Rattle.mk_alloc.proofs.FreeTurns.{is_quar, loading_frees, loading_no_quar, n
 use Rattle.mk_alloc.proofs.Going.{IsCallers, callers_then}
 use Rattle.mk_alloc.proofs.Parts.{Part, part_lacks, seen_by}
 use Rattle.mk_alloc.proofs.RetiredTurns.{decided_on, due_in, due_since, freeing_in_turn, rests_exactly, run_or_rest}
-use Rattle.mk_alloc.proofs.RetiredTurns.{runs_exactly, turn}
+use Rattle.mk_alloc.proofs.RetiredTurns.{runs_exactly}
 use Rattle.mk_alloc.proofs.Stretches.{AreOfTurn}
 use Rattle.mk_never.specs.declared.operations.Op.TheVariants as op
 use Rattle.mk_core.specs.declared.events.Answer.TheVariants as answer

@@ -1,18 +1,17 @@
 -- Each own event of a call that is answered Full leaves all but what is released.
-use Rattle.mk_alloc.proofs.Vocabulary.{made}
 use Rattle.mk_laws.proofs.Basics.{WorldBehind, exists_placed, stands_of, unmapped_is}
 use Rattle.mk_laws.proofs.Vocabulary.{Named, Store, Tally, Words, accessed, changed_at, get_or-set_other, holder_may}
 use Rattle.mk_laws.proofs.Vocabulary.{is_mapped, kinds_of, length-map, no_longer_fresh, placed_at, tally_word}
 use Rattle.mk_laws.proofs.Vocabulary.{with_released}
 use Rattle.mk_alloc.proofs.Vocabulary.{Bool, Cell, Config, Event, Flight, Has, IsHistory, List, Makes, Moment, Op}
 use Rattle.mk_alloc.proofs.Vocabulary.{Option, OwnLeaveAllButReleased, PassState, PlacedAllocation, Seat, Some, Step}
-use Rattle.mk_alloc.proofs.Vocabulary.{TakesTurn, World, [], allocations_by, and_parts, ap, append-nil, append_assoc}
-use Rattle.mk_alloc.proofs.Vocabulary.{call_of, comes_last, event_of, false, flight_of, freed_where_it_stands}
-use Rattle.mk_alloc.proofs.Vocabulary.{frees_none, is_pending_free, is_same_seat, is_take, left, left_in_parts, length}
-use Rattle.mk_alloc.proofs.Vocabulary.{list_all, map, never_behind, none_freed, not, not-true, only_seen, own_before}
-use Rattle.mk_alloc.proofs.Vocabulary.{refl, same_seat, slice_index, stands, subst, sym, told_to_images, true}
-use Rattle.mk_alloc.proofs.Vocabulary.{true≢false, waits_for, world_behind, world_of, ℕ, ◌++◌, ◌+◌, ◌<◌, ◌||◌, ◌∙◌, ◌∷◌}
-use Rattle.mk_alloc.proofs.Vocabulary.{◌≡◌, ◌≢◌}
+use Rattle.mk_alloc.proofs.Vocabulary.{TakesTurn, World, [], allocations_by, and_parts, ap, append_assoc, call_of}
+use Rattle.mk_alloc.proofs.Vocabulary.{comes_last, event_of, false, flight_of, freed_where_it_stands, frees_none, inl}
+use Rattle.mk_alloc.proofs.Vocabulary.{inr, is_pending_free, is_same_seat, is_take, left, left_in_parts, length}
+use Rattle.mk_alloc.proofs.Vocabulary.{list_all, made, map, never_behind, none_freed, not, not-true, only_seen}
+use Rattle.mk_alloc.proofs.Vocabulary.{own_before, refl, same_seat, slice_index, stands, subst, sym, told_to_images}
+use Rattle.mk_alloc.proofs.Vocabulary.{true, true≢false, waits_for, world_behind, world_of, ℕ, ◌++◌, ◌+◌, ◌<◌, ◌||◌}
+use Rattle.mk_alloc.proofs.Vocabulary.{◌∙◌, ◌∷◌, ◌≡◌, ◌≢◌, ◌⊎◌}
 use Rattle.mk_core.specs.Growing.{AreOfOthers}
 use Rattle.mk_core.specs.History.{left_from}
 use Rattle.mk_core.specs.TurnConditions.{may_wipe}
@@ -20,11 +19,11 @@ use Rattle.mk_laws.proofs.GrantMoves.{wiped_outside}
 use Rattle.mk_laws.proofs.ImagesBefore.{words_are}
 use Rattle.mk_turns.proofs.Doing.{not_own}
 use Rattle.mk_waiting.proofs.TakesAlone.{own_take}
-use Rattle.mk_alloc.proofs.CalmStretches.{cycles_in_turn, is_of_cycles, longer, other_undecided, own_undecided}
+use Rattle.mk_alloc.proofs.CalmStretches.{cycles_in_turn, goes_undecided, is_of_cycles}
 use Rattle.mk_alloc.proofs.FreeTurns.{is_quar}
 use Rattle.mk_alloc.proofs.Going.{IsCallers}
 use Rattle.mk_alloc.proofs.Parts.{Part, seen_after, seen_by}
-use Rattle.mk_alloc.proofs.Stretches.{Here, Stretch, along, call_in, does_stretch}
+use Rattle.mk_alloc.proofs.Stretches.{First, IsOwn, Stretch, Within, call_in, does_stretch, first_of, first_part}
 use Rattle.mk_alloc.specs.Leaving.{KeepsItsWords, LeavesAllButReleased, OwnLeaveFrom, StaysOrIsReleased}
 use Rattle.mk_core.specs.declared.events.Step.TheVariants as step
 use Rattle.mk_core.specs.declared.events.Tally.TheVariants as tally
@@ -254,48 +253,37 @@ taking_leaves {p} {q} has t =
     (made_leaves t.takes.makes refl refl)
 
 -- a part of such steps as cycles are made of
-pub record Left (p : PassState) (es done : List Event) : Type 0 where
-  pub call : call_in p (es ++ done) ≡ call_in p es
-  pub each : OwnLeaveFrom p.table.config p.seat (left p.table.config es) done
 
-module _ (p : PassState) (seat : IsCallers p) (own : Has p.seats p.seat) (es : List Event)
-    (free : is_pending_free (call_in p es) ≡ false) where
-  own_left : (done : List Event) (x : Step) → Here p (es ++ done) (event_of p x) → is_of_cycles x ≡ true
-      → Left p es done → Left p es (done ++ event_of p x ∷ [])
-  own_left done x h kind so_far =
-      let pending : is_pending_free (call_in p (es ++ done)) ≡ false =
-      ap (λ (f : Flight). is_pending_free f) so_far.call ∙ free in
-      record {
-        call = longer (λ l. call_in p l ≡ call_in p es) es done (event_of p x)
-            ((own_undecided p seat own (es ++ done) x h kind pending).call ∙ so_far.call);
-        each = last_own p.table.config p.seat es done (event_of p x) so_far.each
-            (step_leaves p.table.config (es ++ done) p.seat x h.whole (cycles_of_full x kind) (λ quar. pending));
-      }
-    where
-      cycles_of_full : (x : Step) → is_of_cycles x ≡ true → is_of_full x ≡ true
-      cycles_of_full (step.Take o) h = refl
-      cycles_of_full step.Give h = refl
-      cycles_of_full step.Full h = refl
-      cycles_of_full x h = h
+of_full : Within is_of_cycles is_of_full
+of_full step.Begin h = refl
+of_full _ h = cc
 
-  other_left : (done : List Event) (e : Event) → Here p (es ++ done) e → e.seat ≢ p.seat → Left p es done
-      → Left p es (done ++ e ∷ [])
-  other_left done e h ne so_far =
-      record {
-        call = longer (λ l. call_in p l ≡ call_in p es) es done e
-            ((other_undecided p seat own (es ++ done) e h ne).call ∙ so_far.call);
-        each = own_append p.table.config p.seat (left p.table.config es) done (e ∷ []) so_far.each
-            (one_own p.table.config p.seat (left_from p.table.config (left p.table.config es) done) e
-            (λ same. absurd (ne (sym (same_seat p.seat e.seat same)))));
-      }
+cycles_left : (p : PassState) → IsCallers p → Has p.seats p.seat → (es more : List Event)
+    → is_pending_free (call_in p es) ≡ false → Stretch p is_of_cycles es more
+    → OwnLeaveFrom p.table.config p.seat (left p.table.config es) more
+unfolding OwnLeaveFrom
+cycles_left p seat own es [] free s = tt
+cycles_left p seat own es (e ∷ rest) free s = (
+  λ same. leaves same f.who,
+  subst (λ (w : World). OwnLeaveFrom c p.seat w rest) f.at.behind
+      (cycles_left p seat own (es ++ e ∷ []) rest
+      (ap (λ (x : Flight). is_pending_free x)
+      (goes_undecided p seat own es (e ∷ []) free (first_part p is_of_cycles es (e ∷ []) rest s)).call ∙ free)
+      f.on),
+)
+  where
+    c : Config
+    c = p.table.config
 
-  pub cycles_left : (more : List Event) → Stretch p is_of_cycles es more → Left p es more
-  unfolding OwnLeaveFrom
-  cycles_left more s =
-      along p is_of_cycles cycles_in_turn own es (λ done. Left p es done)
-      (record { own = own_left; other = other_left })
-      more s
-      (record { call = ap (λ (l : List Event). call_in p l) (append-nil es); each = tt })
+    f : First p is_of_cycles es e rest
+    f = first_of p is_of_cycles es e rest cycles_in_turn own s
+
+    leaves : is_same_seat p.seat e.seat ≡ true → IsOwn p is_of_cycles e ⊎ (e.seat ≢ p.seat)
+        → LeavesAllButReleased c (left c es) (world_behind c (left c es) e)
+    leaves same (inl mine) =
+        step_leaves c es e.seat e.step f.at.whole (of_full e.step mine.1)
+        (λ quar. subst (λ (t : Seat). is_pending_free (flight_of (left c es).now t) ≡ false) (sym mine.0) free)
+    leaves same (inr ne) = absurd (ne (sym (same_seat p.seat e.seat same)))
 
 pub cycles_leave : {p q : PassState} → IsCallers p → is_pending_free (call_of p) ≡ false → Part is_of_cycles p q
     → OwnLeaveAllButReleased p q
@@ -303,6 +291,6 @@ cycles_leave {p} {q} seat free x =
     record {
       more = x.does.more;
       is = seen_by x.does;
-      each = (cycles_left p seat x.turn.own p.seen free x.does.more
-          (does_stretch p q is_of_cycles x.does x.history x.turn.holds)).each;
+      each = cycles_left p seat x.turn.own p.seen x.does.more free
+          (does_stretch p q is_of_cycles x.does x.history x.turn.holds);
     }

@@ -3,6 +3,7 @@ use Rattle.mk_laws.proofs.Vocabulary.{Cycle}
 use Rattle.mk_alloc.proofs.Vocabulary.{At, Bool, Event, List, Step, [], ap, append-nil, append_cancel_left, false}
 use Rattle.mk_alloc.proofs.Vocabulary.{has_step, inl, inr, is_begin, is_close, is_end, is_release, list_any-append}
 use Rattle.mk_alloc.proofs.Vocabulary.{refl, sym, true, true≢false, ⊎_elim, ◌++◌, ◌||◌, ◌∙◌, ◌∷◌, ◌≡◌, ◌⊎◌}
+use Rattle.mk_cycle.proofs.InParts as parts
 
 -- An event of a list in two parts stands in the first, or in the second.
 
@@ -17,24 +18,10 @@ pub record InSecond (xs ys before : List Event) (e : Event) (behind : List Event
 
 pub stands : (xs ys before : List Event) (e : Event) (behind : List Event) → xs ++ ys ≡ before ++ e ∷ behind
     → InFirst xs before e ⊎ InSecond xs ys before e behind
-stands [] ys before e behind h = inr (record { rest = before; first = refl; is = h })
-stands (x ∷ xs) ys [] e behind h =
-    let head : x ≡ e = cc in
-    inl (record { behind = xs; is = ap (λ (y : Event). y ∷ xs) head })
-stands (x ∷ xs) ys (b ∷ bs) e behind h =
-    let head : x ≡ b = cc in
-    let tail : xs ++ ys ≡ bs ++ e ∷ behind = cc in
-    ⊎_elim
-    (λ (t : InFirst xs bs e). inl (record {
-      behind = t.behind;
-      is = ap (λ (y : Event). y ∷ xs) head ∙ ap (λ (l : List Event). b ∷ l) t.is;
-    }))
-    (λ (t : InSecond xs ys bs e behind). inr (record {
-      rest = t.rest;
-      first = ap (λ (y : Event). y ∷ bs) (sym head) ∙ ap (λ (l : List Event). x ∷ l) t.first;
-      is = t.is;
-    }))
-    (stands xs ys bs e behind tail)
+stands xs ys before e behind h =
+    ⊎_elim (λ (t : parts.InFirst xs ys before e behind). inl (record { behind = t.rest; is = t.is }))
+    (λ (t : parts.InSecond xs ys before e behind). inr (record { rest = t.rest; first = t.first; is = t.is }))
+    (parts.in_parts xs ys before e behind h)
 
 -- kinds
 

@@ -106,7 +106,8 @@ module _ {d ty : ℕ} {a : Answer} {p taken done q : PassState} (m : NewGiven d 
   one_done : RunsOneCycle m.seeks.on.does.more
   one_done =
       subst (λ (l : List Event). RunsOneCycle l)
-      (append_cancel_left taken.seen m.runs.more m.seeks.on.does.more (sym m.runs.is ∙ seen_by m.seeks.on.does)) m.runs.one
+      (append_cancel_left taken.seen m.runs.more m.seeks.on.does.more (sym m.runs.is
+      ∙ seen_by m.seeks.on.does)) m.runs.one
 
   pub exact : NewIsExact turn o
   exact =
@@ -115,7 +116,8 @@ module _ {d ty : ℕ} {a : Answer} {p taken done q : PassState} (m : NewGiven d 
         ends = room_at is_want (λ x h. or_right (is_begin x) (is_want x) h);
         one = one_before m.seeks.on.does.more m.gives.others one_done (lacks_given given is_begin begins_held);
         keeps =
-            last_before m.seeks.on.does.more m.gives.others (m.seeks.last m.seeks.on.does.more (seen_by m.seeks.on.does))
+            last_before m.seeks.on.does.more m.gives.others (m.seeks.last m.seeks.on.does.more
+            (seen_by m.seeks.on.does))
             (lacks_given given is_grant grants_held) (lacks_given given lets_go lets_go_held);
       }
 

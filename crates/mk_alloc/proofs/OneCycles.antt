@@ -3,8 +3,9 @@ use Rattle.mk_alloc.proofs.Vocabulary.{At, BeginsCycle, BeginsNone, Does, Event,
 use Rattle.mk_alloc.proofs.Vocabulary.{IsPlaced, List, PassState, RunsOne, RunsOneCycle, ap, append_assoc, false}
 use Rattle.mk_alloc.proofs.Vocabulary.{has_step, is_begin, is_end, is_look, is_placing, refl, subst, sym, ⊎_elim, ◌++◌}
 use Rattle.mk_alloc.proofs.Vocabulary.{◌∙◌, ◌∷◌, ◌≡◌}
+use Rattle.mk_laws.proofs.Longer.{longer_at}
 use Rattle.mk_alloc.proofs.CycleParts.{begin_in, begins_held, finish_in}
-use Rattle.mk_alloc.proofs.DueParts.{at_behind, at_first, end_at}
+use Rattle.mk_alloc.proofs.DueParts.{at_behind, end_at}
 use Rattle.mk_alloc.proofs.Going.{look_part, looks_begin_none}
 use Rattle.mk_alloc.proofs.GrantParts.{first_behind}
 use Rattle.mk_alloc.proofs.ListParts.{InFirst, InSecond, Lacks, lacks_append, lacks_at, none_at, only_at, stands}
@@ -42,7 +43,7 @@ one_before xs ys one none b =
         let same : b.behind ≡ rest ++ ys = first_behind xs ys b.before b.event b.behind rest b.is is in
         let h = one (record { before = b.before; event = b.event; behind = rest; is = is; of_kind = b.of_kind }) in (
           ap (λ (l : List Event). has_step is_begin l) same ∙ lacks_append is_begin rest ys h.0 none,
-          subst (λ (l : List Event). At is_end l) (sym same) (at_first is_end rest ys h.1),
+          subst (λ (l : List Event). At is_end l) (sym same) (longer_at ys h.1),
         )
 
 -- a begin and an end
@@ -97,7 +98,7 @@ finish_then_none p q r t law history y =
       more = f.more ++ y.more;
       is = seen_then p.seen q.seen r.seen f.more y.more f.is y.is;
       none = lacks_append is_begin f.more y.more f.begins_none y.none;
-      ended = at_first is_end f.more y.more (end_at f.more f.ends);
+      ended = longer_at y.more (end_at f.more f.ends);
     }
 
 pub begin_then_ends : (p q r : PassState) → InTurn p → BeginsCycle p q → IsHistory q.table.config q.seen

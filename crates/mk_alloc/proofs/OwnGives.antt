@@ -96,7 +96,8 @@ kinds_give kinds c s w [] none all = refl
 kinds_give kinds c s w (e ∷ es) none all =
     let parts = first_gives kinds (is_same_seat s e.seat) (record { event = e; found = found c w.now e })
     (own_from c s (world_behind c w e) es) none all in
-    or_from (own_give s e) (list_any (own_give s) es) parts.0 (kinds_give kinds c s (world_behind c w e) es none parts.1)
+    or_from (own_give s e) (list_any (own_give s) es) parts.0 (kinds_give kinds c s
+    (world_behind c w e) es none parts.1)
 
 pub does_give_none : {kinds : Step → Bool} {p q : PassState} → HaveNoGive kinds → (d : Does kinds p q)
     → GivesNone p.seat d.more

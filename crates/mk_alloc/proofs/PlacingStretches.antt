@@ -3,14 +3,13 @@ use Rattle.mk_laws.proofs.Basics.{Behind, tally_keeps}
 use Rattle.mk_laws.proofs.Vocabulary.{Marker, Progress, cases_eq, decided, ne_eqb, sees_double, target}
 use Rattle.mk_alloc.proofs.Vocabulary.{Bool, Caller, Config, CountsAreLeft, Decided, Event, Flight, Has, Holding, Host}
 use Rattle.mk_alloc.proofs.Vocabulary.{List, Moment, PassState, Seat, Step, World, [], actor_of, answer_decided, ap}
-use Rattle.mk_alloc.proofs.Vocabulary.{append-nil, arith, call_decided, caller_number, calls, calls_more, cond, ends}
-use Rattle.mk_alloc.proofs.Vocabulary.{eq-eqb, event_of, false, first_world, flight_of, found, full_answers}
-use Rattle.mk_alloc.proofs.Vocabulary.{fulls_append, fulls_of, if◌then◌else◌, inl, inr, is_end, is_held, is_placing}
-use Rattle.mk_alloc.proofs.Vocabulary.{left, left_after, progress, refl, slice_index, still, subst, sum_by_push, sym}
-use Rattle.mk_alloc.proofs.Vocabulary.{true, ℕ, ◌++◌, ◌+◌, ◌==◌, ◌∙◌, ◌∷◌, ◌≡◌, ◌≢◌}
+use Rattle.mk_alloc.proofs.Vocabulary.{arith, call_decided, caller_number, calls, calls_more, cond, ends, eq-eqb}
+use Rattle.mk_alloc.proofs.Vocabulary.{event_of, false, first_world, flight_of, found, full_answers, fulls_append}
+use Rattle.mk_alloc.proofs.Vocabulary.{fulls_of, if◌then◌else◌, inl, inr, is_end, is_held, is_placing, left, left_after}
+use Rattle.mk_alloc.proofs.Vocabulary.{progress, refl, slice_index, still, sum_by_push, sym, true, ℕ, ◌++◌, ◌+◌, ◌==◌}
+use Rattle.mk_alloc.proofs.Vocabulary.{◌∙◌, ◌∷◌, ◌≡◌, ◌≢◌}
 use Rattle.mk_core.specs.Effects.{holding_behind}
 use Rattle.mk_laws.proofs.OthersCounts.{answers_full, counts_nothing, entry_fulls}
-use Rattle.mk_alloc.proofs.CalmStretches.{longer}
 use Rattle.mk_alloc.proofs.Stretches.{AreOfTurn, Here, Stretch, along, holds_none}
 use Rattle.mk_core.specs.declared.events.Step.TheVariants as step
 use Rattle.mk_core.specs.declared.events.Answer.TheVariants as answer
@@ -129,16 +128,7 @@ other_beside p es e h ne =
 pub leaves_beside : (p : PassState) (es more : List Event) → Has p.seats p.seat → Stretch p is_placing es more
     → LeavesBeside p es (es ++ more)
 leaves_beside p es more own s =
-    along p is_placing placing_in_turn own es (λ done. LeavesBeside p es (es ++ done))
-    (record {
-      own = λ done x h kind so_far.
-          longer (λ l. LeavesBeside p es l) es done (event_of p x)
-          (beside_then p es (es ++ done) ((es ++ done) ++ event_of p x ∷ []) so_far
-          (own_beside p (es ++ done) x h kind));
-      other = λ done e h ne so_far.
-          longer (λ l. LeavesBeside p es l) es done e
-          (beside_then p es (es ++ done) ((es ++ done) ++ e ∷ []) so_far (other_beside p (es ++ done) e h ne));
-    })
-    more s
-    (subst (λ (l : List Event). LeavesBeside p es l) (sym (append-nil es))
-    (record { gates = λ j. refl; counts = record { ends = refl; fulls = refl }; freed = refl }))
+    along p is_placing placing_in_turn own (λ (l : List Event). LeavesBeside p es l)
+    (λ fs x h kind so_far. beside_then p es fs (fs ++ event_of p x ∷ []) so_far (own_beside p fs x h kind))
+    (λ fs e h ne so_far. beside_then p es fs (fs ++ e ∷ []) so_far (other_beside p fs e h ne))
+    es more s (record { gates = λ j. refl; counts = record { ends = refl; fulls = refl }; freed = refl })

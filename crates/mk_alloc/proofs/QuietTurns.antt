@@ -1,10 +1,9 @@
 -- What keeps a turn quiet, and that a quiet one may look at the phase and, once its call is decided, be given back.
-use Rattle.mk_alloc.proofs.Vocabulary.{ends}
 use Rattle.mk_laws.proofs.Vocabulary.{IsSettled, all_below-at, held_by_pages, is_decided}
 use Rattle.mk_alloc.proofs.Vocabulary.{Acts, BeginsCycle, Config, Done, FinishesCycle, InTurn, IsEnabledTo, IsHistory}
 use Rattle.mk_alloc.proofs.Vocabulary.{IsOutOfStop, IsQuiet, KeepsGates, LeavesTurn, List, Looks, Moment, PassState}
 use Rattle.mk_alloc.proofs.Vocabulary.{PlacedAllocation, Stage, Steady, TalliesAreTidy, and_from, ap, call_of}
-use Rattle.mk_alloc.proofs.Vocabulary.{calm_keeps, does_step, eq-eqb, free_then, fresh_words_of, full_answers}
+use Rattle.mk_alloc.proofs.Vocabulary.{calm_keeps, does_step, ends, eq-eqb, free_then, fresh_words_of, full_answers}
 use Rattle.mk_alloc.proofs.Vocabulary.{gates_behind, gone_is_unmapped, has_place, held_by_allocations, in_a_word, inl}
 use Rattle.mk_alloc.proofs.Vocabulary.{inr, is_held, is_look, is_pending_free, is_run_gone, none_is_held, not, now_of}
 use Rattle.mk_alloc.proofs.Vocabulary.{off_four, or_left, phase_of, refl, releases, same_config, steady_of, subst, sym}

@@ -1,7 +1,4 @@
 -- Where a New asks for room: its cycle's begin and its end come while its object has no place.
-use Rattle.mk_alloc.proofs.CycleParts.{gives_room_back}
-use Rattle.mk_alloc.proofs.CycleParts.{closing}
-use Rattle.mk_alloc.proofs.CycleParts.{ends_marking}
 use Rattle.std.specs.Prelude.{IsSome}
 use Rattle.mk_alloc.proofs.Vocabulary.{AsksRoom, BeginsCycle, Config, Does, Event, FinishesCycle, HasNoPlace, InTurn}
 use Rattle.mk_alloc.proofs.Vocabulary.{IsHistory, List, None, Object, Option, PassState, Place, Some, Storage, [], ap}
@@ -11,7 +8,8 @@ use Rattle.mk_alloc.proofs.Vocabulary.{is_pending_free, is_placing, is_want, or_
 use Rattle.mk_alloc.proofs.Vocabulary.{⊎_elim, ◌++◌, ◌∙◌, ◌∷◌, ◌≡◌}
 use Rattle.mk_geom.specs.Storages.{Fits}
 use Rattle.mk_alloc.proofs.CalmStretches.{of_cycles, of_turn, releases_none, stays_reserved}
-use Rattle.mk_alloc.proofs.CycleParts.{begins_held, gives_room, part_behind_closing, part_closing, wants_held}
+use Rattle.mk_alloc.proofs.CycleParts.{begins_held, closing, ends_marking, gives_room, gives_room_back}
+use Rattle.mk_alloc.proofs.CycleParts.{part_behind_closing, part_closing, wants_held}
 use Rattle.mk_alloc.proofs.Going.{IsCallers}
 use Rattle.mk_alloc.proofs.ListParts.{InFirst, InSecond, lacks_at, stands}
 use Rattle.mk_alloc.proofs.Parts.{Part, part_lacks, seen_behind}

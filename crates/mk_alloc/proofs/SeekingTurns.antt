@@ -129,7 +129,8 @@ seeks_finished p q t u quiet none f history =
     let seat = new_callers p u in
     undecided u quiet (finished_on p q t seat quiet f history)
     (record { turn = t; stays = cycles_in_turn; does = finish_done f; history = history })
-    (finish_room (object_for p) seat quiet.free.decided (no_place p.table.config p.seen (object_for p) none) f t history)
+    (finish_room (object_for p) seat quiet.free.decided (no_place p.table.config p.seen
+    (object_for p) none) f t history)
 
 -- It is still unplaced then.
 

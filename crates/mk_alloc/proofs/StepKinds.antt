@@ -3,10 +3,11 @@
 use Rattle.mk_laws.proofs.Basics.{Actor, AsHolder, AsMarker, InCallOf, is_holders}
 use Rattle.mk_laws.proofs.Vocabulary.{group_of, is_of_turn}
 use Rattle.mk_alloc.proofs.Vocabulary.{Config, Event, Has, HoldsTurn, List, Moment, PassState, Seat, Step, [], actor_of}
-use Rattle.mk_alloc.proofs.Vocabulary.{ap, event_of, false, left, refl, true, view_of, ◌++◌, ◌∷◌, ◌≡◌, ◌≢◌}
+use Rattle.mk_alloc.proofs.Vocabulary.{ap, false, has_step, left, or_from, refl, true, view_of, ⊎_elim, ◌++◌, ◌∷◌, ◌≡◌}
+use Rattle.mk_alloc.proofs.Vocabulary.{◌≢◌}
 use Rattle.mk_laws.proofs.Actors.{CallTakes, HostTakes}
-use Rattle.mk_alloc.proofs.ListParts.{Lacks, SomeKind, lacks_append, lacks_one}
-use Rattle.mk_alloc.proofs.Stretches.{AreOfTurn, Here, SomeKinds, Stretch, along, holds_none}
+use Rattle.mk_alloc.proofs.ListParts.{Lacks, SomeKind}
+use Rattle.mk_alloc.proofs.Stretches.{AreOfTurn, Here, IsOwn, SomeKinds, Stretch, first_of, holds_none}
 use Rattle.mk_core.specs.declared.events.Group.TheVariants as group
 use Rattle.mk_core.specs.declared.events.Step.TheVariants as step
 
@@ -47,12 +48,10 @@ AreApart kinds kind = (x : Step) → kinds x ≡ true → kind x ≡ false
 pub lacks : (p : PassState) (kinds : SomeKinds) (kind : SomeKind) (es more : List Event) → AreOfTurn kinds
     → Has p.seats p.seat
     → IsHolders kind → AreApart kinds kind → Stretch p kinds es more → Lacks kind more
-lacks p kinds kind es more stays own holders apart s =
-    along p kinds stays own es (Lacks kind)
-    (record {
-      own = λ done x h of_kinds none. lacks_append kind done (event_of p x ∷ []) none
-          (lacks_one kind (event_of p x) (apart x of_kinds));
-      other = λ done e h ne none.
-          lacks_append kind done (e ∷ []) none (lacks_one kind e (holders e.step (others_kind p (es ++ done) e h ne)));
-    })
-    more s refl
+lacks p kinds kind es [] stays own holders apart s = refl
+lacks p kinds kind es (e ∷ rest) stays own holders apart s =
+    let f = first_of p kinds es e rest stays own s in
+    or_from (kind e.step) (has_step kind rest)
+    (⊎_elim (λ (mine : IsOwn p kinds e). apart e.step mine.1)
+    (λ (ne : e.seat ≢ p.seat). holders e.step (others_kind p es e f.at ne)) f.who)
+    (lacks p kinds kind (es ++ e ∷ []) rest stays own holders apart f.on)

@@ -145,43 +145,33 @@ first_of p kinds es e rest stays own s = by (is_same_seat p.seat e.seat) refl s.
         true≢false (sym (subst (λ (t : Seat). is_same_seat p.seat t ≡ true) (sym same) (same_self p.seat)) ∙ is) in
         record { at = at; who = inr ne; on = on all (holds_other p es e at ne) }
 
--- What each event keeps: of the events so far after the first list.
-pub record Keeps (p : PassState) (kinds : SomeKinds) (es : List Event) (R : List Event → Type 0) : Type 0 where
-  pub own : (done : List Event) (x : Step) → Here p (es ++ done) (event_of p x) → kinds x ≡ true → R done
-      → R (done ++ event_of p x ∷ [])
-  pub other : (done : List Event) (e : Event) → Here p (es ++ done) e → e.seat ≢ p.seat → R done → R (done ++ e ∷ [])
-
+-- What each event keeps, all keep.
 module _ (p : PassState) (kinds : SomeKinds) (stays : AreOfTurn kinds) (own : Has p.seats p.seat) where
-  module _ (es : List Event) (R : List Event → Type 0) (k : Keeps p kinds es R) where
-    kept : (done : List Event) (e : Event) → Here p (es ++ done) e → IsOwn p kinds e ⊎ (e.seat ≢ p.seat) → R done
-        → R (done ++ e ∷ [])
-    kept done e h (inl mine) r =
-        let own_event : event_of p e.step ≡ e = ap (λ (t : Seat). record { seat = t; step = e.step }) (sym mine.0) in
-        subst (λ (x : Event). R (done ++ x ∷ [])) own_event
-        (k.own done e.step (subst (λ (x : Event). Here p (es ++ done) x) (sym own_event) h) mine.1 r)
-    kept done e h (inr ne) r = k.other done e h ne r
+  pub along : (R : List Event → Type 0)
+      → ((es : List Event) (x : Step) → Here p es (event_of p x) → kinds x ≡ true → R es → R (es ++ event_of p x ∷ []))
+      → ((es : List Event) (e : Event) → Here p es e → e.seat ≢ p.seat → R es → R (es ++ e ∷ []))
+      → (es more : List Event) → Stretch p kinds es more → R es → R (es ++ more)
+  along R mine others es [] s r = subst R (sym (append-nil es)) r
+  along R mine others es (e ∷ rest) s r =
+      subst R (append_assoc es (e ∷ []) rest) (along R mine others (es ++ e ∷ []) rest f.on (by f.who))
+    where
+      f : First p kinds es e rest
+      f = first_of p kinds es e rest stays own s
 
-    along_from : (done rest : List Event) → Stretch p kinds (es ++ done) rest → R done → R (done ++ rest)
-    along_from done [] s r = subst R (sym (append-nil done)) r
-    along_from done (e ∷ rest) s r =
-        let f = first_of p kinds (es ++ done) e rest stays own s in
-        subst R (append_assoc done (e ∷ []) rest)
-        (along_from (done ++ e ∷ []) rest
-        (subst (λ (l : List Event). Stretch p kinds l rest) (append_assoc es done (e ∷ [])) f.on)
-        (kept done e f.at f.who r))
-
-    pub along : (more : List Event) → Stretch p kinds es more → R [] → R more
-    along more s r = along_from [] more (subst (λ (l : List Event). Stretch p kinds l more) (sym (append-nil es)) s) r
+      by : IsOwn p kinds e ⊎ (e.seat ≢ p.seat) → R (es ++ e ∷ [])
+      by (inl is) =
+          let same : event_of p e.step ≡ e = ap (λ (t : Seat). record { seat = t; step = e.step }) (sym is.0) in
+          subst (λ (x : Event). R (es ++ x ∷ [])) same
+          (mine es e.step (subst (λ (x : Event). Here p es x) (sym same) f.at) is.1 r)
+      by (inr ne) = others es e f.at ne r
 
   -- the turn is held after it
   pub holds_behind : (es more : List Event) → Stretch p kinds es more
       → Holds p.table.config (left p.table.config (es ++ more)).now p.seat
-  holds_behind es [] s = subst (λ (l : List Event). Holds p.table.config (left p.table.config l).now p.seat)
-      (sym (append-nil es)) s.holds
-  holds_behind es (e ∷ rest) s =
-      subst (λ (l : List Event). Holds p.table.config (left p.table.config l).now p.seat)
-      (append_assoc es (e ∷ []) rest)
-      (holds_behind (es ++ e ∷ []) rest (first_of p kinds es e rest stays own s).on)
+  holds_behind es more s =
+      along (λ (l : List Event). Holds p.table.config (left p.table.config l).now p.seat)
+      (λ fs x h kind held. holds_own p fs x own h (stays x kind)) (λ fs e h ne held. holds_other p fs e h ne) es more s
+      s.holds
 
 -- parts of a stretch
 

@@ -2,7 +2,7 @@ use Rattle.mk_alloc.proofs.Vocabulary.{CalledInTurn, CallerState, EachIsBegun, I
 use Rattle.mk_alloc.proofs.Vocabulary.{SweepsNothing, begun_then, false, only_seen, subst, sym, turn_stays, ◌∙◌}
 use Rattle.mk_alloc.proofs.BegunTurns.{none_begun, turn_begun}
 use Rattle.mk_alloc.proofs.CalledTurns.{Taken}
-use Rattle.mk_alloc.proofs.NewTurns.{given, NewGiven, census_told, is_answered_full, last_turn, new_called}
+use Rattle.mk_alloc.proofs.NewTurns.{NewGiven, census_told, given, is_answered_full, last_turn, new_called}
 use Rattle.mk_alloc.proofs.OneCycles.{none_runs_one, none_then_one, one_then_none}
 use Rattle.mk_alloc.proofs.SeekingTurns.{misfits_then, seeks_then}
 use Rattle.mk_alloc.proofs.TakenTurns.{took_by}

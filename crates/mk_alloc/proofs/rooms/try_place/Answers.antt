@@ -27,7 +27,8 @@ returns-clause-begins g c =
     let turn = in_turn t.pass t.op i.own i.turn i.history in
     elim (cases_Bool c.place_object-placed.result) [
       | inl placed ↦
-          placed_begins_none t.pass c.place_object-placed.new.turn.pass turn (c.place_object-placed.ensures.placed placed)
+          placed_begins_none t.pass c.place_object-placed.new.turn.pass turn
+          (c.place_object-placed.ensures.placed placed)
           j.history
       | inr misfits ↦ looks_begins_none turn (c.place_object-placed.ensures.nowhere misfits).looks.does j.history
     ]

@@ -23,7 +23,8 @@ returns-clause-unplaced c =
     let q : PassState = c.look-found.new.self.pass in
     looks_unplaced t.pass q
     (looked t.pass q t.op c.args.word c.is_in_order.ensures.turn c.requires.unplaced c.requires.steady
-    c.look-found.ensures.acts c.is_in_order.ensures.own c.look-found.ensures.acts.makes.pass.history) c.requires.unplaced
+    c.look-found.ensures.acts c.is_in_order.ensures.own c.look-found.ensures.acts.makes.pass.history)
+    c.requires.unplaced
 
 pub returns-clause-finds : goal.returns-clause-finds
 returns-clause-finds c =
