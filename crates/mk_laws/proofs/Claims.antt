@@ -1,8 +1,8 @@
 -- The claims of the allocations, by their numbers, and after a change of each.
 use Rattle.mk_laws.proofs.Vocabulary.{Among, AreApart, Cell, Claim, Config, IsAtCell, IsOfOneCell, LeavesPlaces, List}
-use Rattle.mk_laws.proofs.Vocabulary.{Option, PlacedAllocation, RunPages, [], ap, cases_Bool, cell_of_allocation}
+use Rattle.mk_laws.proofs.Vocabulary.{Option, PlacedAllocation, RunPages, ℕ, ap, cases_Bool, cell_of_allocation}
 use Rattle.mk_laws.proofs.Vocabulary.{changed_at, claim_of, claims_of, cond-false, cond-true, false, inl, inr, map}
-use Rattle.mk_laws.proofs.Vocabulary.{object_placed, placed_at, refl, subst, suc, sym, true, true≢false, zero, ℕ, ◌∙◌}
+use Rattle.mk_laws.proofs.Vocabulary.{object_placed, placed_at, refl, subst, suc, sym, true, true≢false, zero, [], ◌∙◌}
 use Rattle.mk_laws.proofs.Vocabulary.{◌∷◌, ◌≡◌, ◌⊎◌}
 
 -- the unreleased allocation whose claim it is

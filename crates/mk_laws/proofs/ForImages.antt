@@ -2,7 +2,7 @@
 use Rattle.mk_laws.proofs.Vocabulary.{Among, AreApart, Bool, Caller, Cell, Claim, Config, Flight, HasHeader, HasZeros}
 use Rattle.mk_laws.proofs.Vocabulary.{ImagePremises, IsClaimedRun, IsOfOneCell, IsPlaceOfNone, IsQuarantined, IsShown}
 use Rattle.mk_laws.proofs.Vocabulary.{LayoutStands, List, MarksAreClosed, None, Object, Option, Place, PlacedAllocation}
-use Rattle.mk_laws.proofs.Vocabulary.{Placing, RunPages, RunStands, Some, Unmapping, Used, World, [], address_of}
+use Rattle.mk_laws.proofs.Vocabulary.{Placing, RunPages, RunStands, Some, Unmapping, Used, World, ℕ, address_of}
 use Rattle.mk_laws.proofs.Vocabulary.{all_below, all_below_more_is, all_below_zero_is, and_parts, ap, arith, base_made}
 use Rattle.mk_laws.proofs.Vocabulary.{cases_Bool, cell_of_allocation, cells_made, claim_of, claims_of, claims_placed}
 use Rattle.mk_laws.proofs.Vocabulary.{eq-eqb, eqb-true, false, flight_of, granted, granted_base_is, granted_object}
@@ -12,20 +12,17 @@ use Rattle.mk_laws.proofs.Vocabulary.{is_undecided_new, is_unmapping, kinds_of, 
 use Rattle.mk_laws.proofs.Vocabulary.{length, lt-ltb, mode_of, not, object_made, object_now, object_placed, pages_made}
 use Rattle.mk_laws.proofs.Vocabulary.{pages_some, phase_of, place_claim, placed_at, pointed_cell, refl}
 use Rattle.mk_laws.proofs.Vocabulary.{run_of_allocation, stands, subst, suc, sym, true, true≢false, typed_size}
-use Rattle.mk_laws.proofs.Vocabulary.{unmapped_header, zero, ℕ, ◌&&◌, ◌+◌, ◌/◌, ◌<◌, ◌==◌, ◌∙◌, ◌∷◌, ◌≡◌, ◌≢◌, ◌≤◌, ◌⊎◌}
-use Rattle.mk_laws.proofs.Claims.{claim_among, front, gone_front, claim_is}
-use Rattle.mk_core.specs.NewPlaces.{place_stands}
-use Rattle.mk_core.proofs.GrantedAllocations.{placed_headers, placed_stands}
-use Rattle.mk_core.proofs.PointedAllocations.{base_points}
+use Rattle.mk_laws.proofs.Vocabulary.{unmapped_header, zero, [], ◌&&◌, ◌+◌, ◌/◌, ◌<◌, ◌==◌, ◌∙◌, ◌∷◌, ◌≡◌, ◌≢◌, ◌≤◌}
+use Rattle.mk_laws.proofs.Vocabulary.{◌⊎◌}
+use Rattle.mk_core.{proofs.GrantedAllocations.placed_headers, proofs.GrantedAllocations.placed_stands}
+use Rattle.mk_core.{proofs.PointedAllocations.base_points, specs.NewPlaces.place_stands}
+use Rattle.mk_laws.proofs.Claims.{claim_among, claim_is, front, gone_front}
 use Rattle.mk_laws.proofs.LayoutHolders.{holding_object, new_has_turn, seat_operands}
+use Rattle.mk_laws.proofs.Released.{IsStanding, all_stand, place_index}
 use Rattle.mk_laws.proofs.Serving.{apart_across, apart_left, own_claim, placed_claim}
-use Rattle.mk_laws.proofs.Released.{all_stand, IsStanding, place_index}
-use Rattle.mk_laws.proofs.Unmapping.{shares_run}
-use Rattle.mk_laws.specs.ImagePremises.{IsFreedRun}
+use Rattle.mk_laws.proofs.{KnownWorlds.KnownWorld, TellImages.zeros_tell_the_images, Unmapping.shares_run}
+use Rattle.mk_laws.specs.{ImagePremises.IsFreedRun, RunGates.HoldsRunGates}
 use Rattle.mk_laws.specs.ImagePremises as images
-use Rattle.mk_laws.proofs.KnownWorlds.{KnownWorld}
-use Rattle.mk_laws.specs.RunGates.{HoldsRunGates}
-use Rattle.mk_laws.proofs.TellImages.{zeros_tell_the_images}
 
 -- Unreleased allocations of one cell are one.
 

@@ -1,11 +1,9 @@
 -- What a `head` finds while a cycle marks, from what the layout says.
-use Rattle.std.proofs.Common.{option_and_then}
-use Rattle.std.proofs.lemmas.Nat.Bits.{bit_at_ones}
-use Rattle.std.proofs.Math.Bool.{or-true}
-use Rattle.mk_laws.proofs.Vocabulary.{Bool, Cell, Config, Flight, GuardPremises, HeadStep, Header, HeaderGoesOn}
+use Rattle.std.proofs.{Common.option_and_then, Math.Bool.or-true, lemmas.Nat.Bits.bit_at_ones}
+use Rattle.mk_laws.proofs.Vocabulary.{Bool, Cell, Config, Flight, GuardPremises, Header, HeaderGoesOn, HeadStep}
 use Rattle.mk_laws.proofs.Vocabulary.{IsMarking, IsSized, IsWithinLimits, ItCarves, ItEmpties, ItUnmaps, None, Object}
 use Rattle.mk_laws.proofs.Vocabulary.{OfBlock, OfLater, OfLeafBlock, OfLeafRun, OfRun, Op, Option, Place, RunPages}
-use Rattle.mk_laws.proofs.Vocabulary.{Seat, ShowsPart, Some, Words, World, [], and_parts, ap, arith, cases_Bool}
+use Rattle.mk_laws.proofs.Vocabulary.{Seat, ShowsPart, Some, Step, Words, World, ℕ, and_parts, ap, arith, cases_Bool}
 use Rattle.mk_laws.proofs.Vocabulary.{cases_eq, cell_at, cell_ends, cells_made, cells_of, cells_under, class_known}
 use Rattle.mk_laws.proofs.Vocabulary.{class_made, class_words_of, cond-false, cond-true, eq-eqb, eqb-true, false}
 use Rattle.mk_laws.proofs.Vocabulary.{fewer_bits, flight_of, has_bit, has_operands, head_step, header_at, header_in}
@@ -15,22 +13,16 @@ use Rattle.mk_laws.proofs.Vocabulary.{large_cells, large_count, large_words, lat
 use Rattle.mk_laws.proofs.Vocabulary.{nat_le, not-true, object_made, or_cases, page_at_address, pages_made, part_cells}
 use Rattle.mk_laws.proofs.Vocabulary.{part_head, part_not_free, part_words, phase_of, place_now, placed_now, refl}
 use Rattle.mk_laws.proofs.Vocabulary.{slice_index, small_cells, small_pages, small_words, subst, sym, true, true≢false}
-use Rattle.mk_laws.proofs.Vocabulary.{undecided_new, unmapped_header, unmapped_is_unmapped, words_made, words_under, ℕ}
+use Rattle.mk_laws.proofs.Vocabulary.{undecided_new, unmapped_header, unmapped_is_unmapped, words_made, words_under, []}
 use Rattle.mk_laws.proofs.Vocabulary.{◌*◌, ◌+◌, ◌-◌, ◌<◌, ◌==◌, ◌||◌, ◌∙◌, ◌≡◌, ◌⊎◌}
-use Rattle.mk_laws.proofs.Basics.{Known, Meets, either_phase, new_holds}
-use Rattle.mk_geom.specs.Addresses.{cell_under, word_at_address}
-use Rattle.mk_geom.proofs.ClassTable.{some_cells}
-use Rattle.mk_core.specs.declared.events.Step.TheVariants as step
-use Rattle.mk_core.specs.Calls.{has_type}
-use Rattle.mk_core.specs.NewPlaces.{bits_made}
+use Rattle.mk_geom.{proofs.ClassTable.some_cells, specs.Addresses.cell_under, specs.Addresses.word_at_address}
 use Rattle.mk_core.proofs.ObjectHeaders.{same_cells, same_words}
-use Rattle.mk_core.proofs.PlacesNow.{NewAtTurn}
-use Rattle.mk_core.proofs.PointedPages.{lies_under, found_under}
-use Rattle.mk_core.proofs.ServingSteps.{Carves}
-use Rattle.mk_core.proofs.PageSteps.{Unmaps}
-use Rattle.mk_core.proofs.WordBits.{without_none}
+use Rattle.mk_core.proofs.PointedPages.{found_under, lies_under}
+use Rattle.mk_core.proofs.{PageSteps.Unmaps, PlacesNow.NewAtTurn, ServingSteps.Carves, WordBits.without_none}
+use Rattle.mk_core.specs.{Calls.has_type, NewPlaces.bits_made}
+use Rattle.mk_laws.proofs.Basics.{Known, Meets, either_phase, new_holds}
+use Rattle.mk_laws.proofs.Headers.{Carved, HeadFinds, Unmapped}
 use Rattle.mk_laws.specs.Kept.{PlaceIsBare, RunHasObject}
-use Rattle.mk_laws.proofs.Headers.{HeadFinds, Carved, Unmapped}
 
 -- What an address on a page of a run points into: cell 0 of its first page.
 
@@ -266,7 +258,7 @@ marking_phase n h (inr two) = elim (or_cases _ (n == 4) h) [
 ]
 
 pub head_finds : (c : Config) (w : World) (seat : Seat) (p n : ℕ) → IsWithinLimits c → Known c w.now
-    → IsMarking w.now.words → GuardPremises c w → Meets c w.now seat (step.Head p n) → HeadFinds c.pages w.now.words p n
+    → IsMarking w.now.words → GuardPremises c w → Meets c w.now seat (Step.Head p n) → HeadFinds c.pages w.now.words p n
 head_finds c w seat p n limits known early say h = by (head_step c w.now (flight_of w.now seat) p n h.holder)
   where
     one : phase_of w.now.words ≡ 1
@@ -276,7 +268,7 @@ head_finds c w seat p n limits known early say h = by (head_step c w.now (flight
         → IsSized (object_made c (flight_of w.now seat).op)
     new_has place now =
         let new = (placed_now c w.now (flight_of w.now seat) place now).new in
-        let own = new_holds c w.now seat (step.Head p n) h new in
+        let own = new_holds c w.now seat (Step.Head p n) h new in
         new_sized c (flight_of w.now seat) limits (rw own.2 (known.operands own.0)) new
 
     by : HeadStep c w.now (flight_of w.now seat) p n → HeadFinds c.pages w.now.words p n

@@ -1,15 +1,12 @@
 -- A page without a header has nothing.
 use Rattle.mk_laws.proofs.Vocabulary.{Config, HasAllocation, Invariant, Leaves, NeverState, OfHistories}
-use Rattle.mk_laws.proofs.Vocabulary.{PlacedAllocation, World, ap, arith, cases_eq, cells_under, has_bit, header_at}
+use Rattle.mk_laws.proofs.Vocabulary.{PlacedAllocation, World, ℕ, ap, arith, cases_eq, cells_under, has_bit, header_at}
 use Rattle.mk_laws.proofs.Vocabulary.{header_in, header_of, inl, inr, left, never_behind, object_placed, placed_at}
-use Rattle.mk_laws.proofs.Vocabulary.{refl, slice_index, storage_words, true, words_made, ℕ, ◌+◌, ◌-◌, ◌/◌, ◌∙◌, ◌≡◌}
-use Rattle.mk_laws.proofs.Vocabulary.{◌≢◌}
+use Rattle.mk_laws.proofs.Vocabulary.{refl, slice_index, storage_words, true, words_made, ◌+◌, ◌-◌, ◌/◌, ◌∙◌, ◌≡◌, ◌≢◌}
 use Rattle.mk_laws.proofs.Basics.{KnownWorld, claimed_some, ends_on_pages, known_world, zero_where_none}
-use Rattle.mk_laws.proofs.LayoutReadings.{free_unused}
-use Rattle.mk_laws.proofs.ForImages.{shown_claim, standing}
-use Rattle.mk_laws.proofs.InvariantHistories.{histories_keep_the_invariant}
+use Rattle.mk_laws.proofs.{DirtyPages.dirty_stands, ForImages.shown_claim, ForImages.standing}
+use Rattle.mk_laws.proofs.{InvariantHistories.histories_keep_the_invariant, LayoutReadings.free_unused}
 use Rattle.mk_laws.specs.FreePages.{DirtyPagesHaveAllocations, FreePagesHaveNothing, HasNothing}
-use Rattle.mk_laws.proofs.DirtyPages.{dirty_stands}
 
 module _ (c : Config) (w : World) (n : NeverState) (known : KnownWorld c w) (all : Invariant c w n) where
   -- Where an allocation stands there is a header.

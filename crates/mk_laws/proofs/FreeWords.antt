@@ -1,19 +1,17 @@
 -- While the phase isn't releasing, a word that isn't 0 is one of an unreleased allocation.
 use Rattle.mk_laws.proofs.Vocabulary.{Config, Invariant, IsFreedWord, IsWordOf, IsWordOfMapped, Leaves, MayHold}
 use Rattle.mk_laws.proofs.Vocabulary.{NeverState, Object, OfFreedRun, OfHistories, OfMapped, OfReleased, Option}
-use Rattle.mk_laws.proofs.Vocabulary.{PlacedAllocation, RunPages, Some, Words, World, all_below-at, and_parts, ap}
+use Rattle.mk_laws.proofs.Vocabulary.{PlacedAllocation, RunPages, Some, Words, World, ℕ, all_below-at, and_parts, ap}
 use Rattle.mk_laws.proofs.Vocabulary.{arith, cases_eq, eqb-true, false, inl, inr, is_run_gone, is_run_unmapped}
 use Rattle.mk_laws.proofs.Vocabulary.{large_words, leb-true, left, ltb-true, object_placed, pages_made, phase_of}
 use Rattle.mk_laws.proofs.Vocabulary.{placed_at, run_begins, run_of_allocation, slice_index, storage_of, sym, true}
-use Rattle.mk_laws.proofs.Vocabulary.{words_are_zero, zero_scene_of, ℕ, ◌%◌, ◌*◌, ◌+◌, ◌-◌, ◌/◌, ◌<◌, ◌==◌, ◌∙◌, ◌≡◌}
-use Rattle.mk_laws.proofs.Vocabulary.{◌≢◌, ◌≤◌}
-use Rattle.mk_laws.proofs.Basics.{KnownWorld, known_world, mapped_stays, none_released}
+use Rattle.mk_laws.proofs.Vocabulary.{words_are_zero, zero_scene_of, ◌%◌, ◌*◌, ◌+◌, ◌-◌, ◌/◌, ◌<◌, ◌==◌, ◌∙◌, ◌≡◌, ◌≢◌}
+use Rattle.mk_laws.proofs.Vocabulary.{◌≤◌}
 use Rattle.mk_core.specs.Cells.{is_in_run}
-use Rattle.mk_laws.proofs.ForImages.{standing}
+use Rattle.mk_laws.proofs.Basics.{KnownWorld, known_world, mapped_stays, none_released}
 use Rattle.mk_laws.proofs.InvariantHistories.{histories_keep_the_invariant}
-use Rattle.mk_laws.proofs.InvariantJoined.{told_to_images}
+use Rattle.mk_laws.proofs.{ForImages.standing, InvariantJoined.told_to_images, ReadingsStands.not_releasing}
 use Rattle.mk_laws.specs.FreeWords.{UnmappedWordsAreZero, WordsOfNoneAreZero}
-use Rattle.mk_laws.proofs.ReadingsStands.{not_releasing}
 
 -- the unreleased allocation that has the word
 pub record IsOfOne (c : Config) (w : World) (x : ℕ) : Type 0 where

@@ -3,23 +3,19 @@ use Rattle.std.proofs.lemmas.List.{map-id}
 use Rattle.mk_laws.proofs.Vocabulary.{Among, Bool, Cell, Claim, Config, HasHeader, Header, IsClaimedRun, IsShown}
 use Rattle.mk_laws.proofs.Vocabulary.{IsSized, IsWithinLimits, None, Object, OfBlock, OfLater, OfLeafBlock, OfLeafRun}
 use Rattle.mk_laws.proofs.Vocabulary.{OfRun, Option, PlacedAllocation, RunPages, RunStands, ShowsPart, Some, Words}
-use Rattle.mk_laws.proofs.Vocabulary.{World, all_below-at, ap, arith, cases_Bool, cell_of_allocation, cells_made}
+use Rattle.mk_laws.proofs.Vocabulary.{World, ℕ, all_below-at, ap, arith, cases_Bool, cell_of_allocation, cells_made}
 use Rattle.mk_laws.proofs.Vocabulary.{cells_under, claim_of, claims_of, claims_on, cond-true, eq-eqb, eqb-true, false}
 use Rattle.mk_laws.proofs.Vocabulary.{first_page_shows, freed_leaves, freed_released, freed_where_it_stands, ground_of}
 use Rattle.mk_laws.proofs.Vocabulary.{header_at, header_in, if◌then◌else◌, inl, inr, is_run_unmapped, is_small_object}
 use Rattle.mk_laws.proofs.Vocabulary.{is_unmapping, layout_scene_of, length, map, mode_of, not, not-true, object_placed}
 use Rattle.mk_laws.proofs.Vocabulary.{pages_made, pages_some, part_cells, placed_at, refl, run_headed, run_of_cell}
 use Rattle.mk_laws.proofs.Vocabulary.{small, stands, stands_in, stands_in_its_cell, subst, sym, true, true≢false}
-use Rattle.mk_laws.proofs.Vocabulary.{unmapped_header, ℕ, ◌&&◌, ◌+◌, ◌/◌, ◌<◌, ◌==◌, ◌∙◌, ◌≡◌, ◌⊎◌}
+use Rattle.mk_laws.proofs.Vocabulary.{unmapped_header, ◌&&◌, ◌+◌, ◌/◌, ◌<◌, ◌==◌, ◌∙◌, ◌≡◌, ◌⊎◌}
 use Rattle.mk_core.proofs.CellsOfAllocations.{stands_in_no_other}
-use Rattle.mk_laws.specs.LayoutScene.{IsUnmappedHeaderOf}
-use Rattle.mk_laws.specs.Terrain.{IsCellOf}
 use Rattle.mk_laws.proofs.Claims.{LeavesCells, changed_among, claim_among}
-use Rattle.mk_laws.proofs.Modes.{Remodes, remoded}
-use Rattle.mk_laws.proofs.LayoutReadings.{one_claim}
-use Rattle.mk_laws.proofs.Released.{all_stand, IsStanding}
-use Rattle.mk_laws.proofs.Serving.{Laid, own_claim}
-use Rattle.mk_laws.proofs.Unmapping.{shares_run}
+use Rattle.mk_laws.proofs.{LayoutReadings.one_claim, Modes.Remodes, Modes.remoded, Released.IsStanding}
+use Rattle.mk_laws.proofs.{Released.all_stand, Serving.Laid, Serving.own_claim, Unmapping.shares_run}
+use Rattle.mk_laws.specs.{LayoutScene.IsUnmappedHeaderOf, Terrain.IsCellOf}
 
 -- the run that the header of an object's first page heads
 run_small : (o : Object) (x : Option Header) (p : ℕ) → ShowsPart o 0 x → is_small_object o ≡ true

@@ -1,10 +1,9 @@
 -- Where nothing is on its way, the headers and used words are those of the unreleased storage.
 use Rattle.std.proofs.Common.{Contains, pow-suc}
-use Rattle.std.proofs.lemmas.List.{get_or_default}
-use Rattle.std.proofs.lemmas.List.Elements.{Contains-get_or}
 use Rattle.std.proofs.lemmas.Nat.Bits.{bit_at_above, bit_at_lowest, same_from_bits}
+use Rattle.std.proofs.{lemmas.List.get_or_default, lemmas.List.Elements.Contains-get_or}
 use Rattle.mk_laws.proofs.Vocabulary.{Bool, Claim, Config, HasHeader, Header, IsClaimed, IsShown, List, None, Object}
-use Rattle.mk_laws.proofs.Vocabulary.{PlacedAllocation, ShowsPart, Storage, Words, [], ap, arith, bit_at, block_header}
+use Rattle.mk_laws.proofs.Vocabulary.{PlacedAllocation, ShowsPart, Storage, Words, ℕ, ap, arith, bit_at, block_header}
 use Rattle.mk_laws.proofs.Vocabulary.{cases_Bool, cases_eq, cases_lt, cell_ends, cell_of_allocation, cells_of}
 use Rattle.mk_laws.proofs.Vocabulary.{cells_under, claim_of, claims_of, class_known, class_made, class_words_of, false}
 use Rattle.mk_laws.proofs.Vocabulary.{false_from_ne_true, free_page, get_or, has_bit, header_at, header_made, inl, inr}
@@ -13,27 +12,22 @@ use Rattle.mk_laws.proofs.Vocabulary.{large_words, later_cells, length, mode_of,
 use Rattle.mk_laws.proofs.Vocabulary.{pages_some, placed_at, refl, run_begins, run_header, shows_on, slice_index_or}
 use Rattle.mk_laws.proofs.Vocabulary.{small, small_cells, small_pages, small_words, standing_has_storage, stands}
 use Rattle.mk_laws.proofs.Vocabulary.{stands_on, storage_is_of, storage_of, storage_words, subst, suc, sym, taken, true}
-use Rattle.mk_laws.proofs.Vocabulary.{true≢false, unreleased_storage, used_at, word_of, words_within, zero, ℕ, ◌%◌}
+use Rattle.mk_laws.proofs.Vocabulary.{true≢false, unreleased_storage, used_at, word_of, words_within, zero, [], ◌%◌}
 use Rattle.mk_laws.proofs.Vocabulary.{◌&&◌, ◌*◌, ◌+◌, ◌-◌, ◌/◌, ◌<◌, ◌^◌, ◌∙◌, ◌∷◌, ◌≡◌, ◌≤◌, ◌⊎◌}
-use Rattle.mk_laws.proofs.Basics.{claim_among, claimed, claimed_some}
-use Rattle.mk_geom.specs.Storages.{AreLaidOut, PagesStandFor, block_page, class_of_storage, first_page, is_cell_taken}
-use Rattle.mk_geom.specs.Storages.{run_page, run_used, taken_cells, used_word, words_of_storages}
-use Rattle.mk_geom.proofs.ClassTable.{class_words_within}
 use Rattle.mk_geom.proofs.Standing.{class_of_words, stands_from}
 use Rattle.mk_geom.proofs.StoredWords.{words_at, words_by_large, words_by_small, words_free}
 use Rattle.mk_geom.proofs.TakenCells.{cell_taken_by, cell_taken_from, get_or-taken_cells, length-taken_cells}
 use Rattle.mk_geom.proofs.TakenCells.{same_from_both, same_index}
-use Rattle.mk_geom.proofs.UsedWords.{bit_at-used_word}
+use Rattle.mk_geom.proofs.{ClassTable.class_words_within, UsedWords.bit_at-used_word}
+use Rattle.mk_geom.specs.Storages.{AreLaidOut, PagesStandFor, block_page, class_of_storage, first_page, is_cell_taken}
+use Rattle.mk_geom.specs.Storages.{run_page, run_used, taken_cells, used_word, words_of_storages}
 use Rattle.mk_core.proofs.ObjectHeaders.{large_header, small_header}
-use Rattle.mk_core.proofs.UnreleasedStorage.{has_its_storage}
-use Rattle.mk_core.proofs.WordBits.{bit_is_none, bit_is_one}
+use Rattle.mk_core.proofs.{UnreleasedStorage.has_its_storage, WordBits.bit_is_none, WordBits.bit_is_one}
 use Rattle.mk_laws.proofs.Apart.{Rests, index_is, lie_apart, lie_in_pairs, on_its_pages, quiet_scene, same_block}
 use Rattle.mk_laws.proofs.Apart.{shown_of, small_is, standing_of}
-use Rattle.mk_laws.proofs.Claims.{claim_is}
-use Rattle.mk_laws.proofs.WholeRuns.{IsOn, on_claim}
-use Rattle.mk_laws.proofs.LayoutReadings.{cellless_unused, free_unused}
-use Rattle.mk_laws.proofs.Released.{large_index}
-use Rattle.mk_laws.proofs.Unmapping.{cells_at_claim, shares_run}
+use Rattle.mk_laws.proofs.{Basics.claim_among, Basics.claimed, Basics.claimed_some, Claims.claim_is}
+use Rattle.mk_laws.proofs.{LayoutReadings.cellless_unused, LayoutReadings.free_unused, Released.large_index}
+use Rattle.mk_laws.proofs.{Unmapping.cells_at_claim, Unmapping.shares_run, WholeRuns.IsOn, WholeRuns.on_claim}
 
 pub laid_out : (c : Config) (w : Words) (xs : List PlacedAllocation) → Rests c w xs
     → AreLaidOut (length w.pages) (unreleased_storage c xs)

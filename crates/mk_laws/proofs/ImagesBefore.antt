@@ -1,16 +1,13 @@
 -- What a step of a caller needs, from the groups.
 use Rattle.mk_laws.proofs.Vocabulary.{Bool, Cell, Config, Flight, IsSafeSet, IsTypedAllocation, List, Mirrors}
-use Rattle.mk_laws.proofs.Vocabulary.{NeverState, None, Option, PlacedAllocation, Some, Words, World, [], address_of}
+use Rattle.mk_laws.proofs.Vocabulary.{NeverState, None, Option, PlacedAllocation, Some, Words, World, ℕ, address_of}
 use Rattle.mk_laws.proofs.Vocabulary.{allocation_at, ap, arith, cases_Bool, cell_of_allocation, false, first_word}
 use Rattle.mk_laws.proofs.Vocabulary.{flight_among, header_at, header_in, image_scene_of, inl, inr, is_unmapped}
 use Rattle.mk_laws.proofs.Vocabulary.{is_unmapped_header, kinds_of, length, placed_at, pointed_cell, storage_holds}
-use Rattle.mk_laws.proofs.Vocabulary.{storage_words, subst, sym, true, words_of, ℕ, ◌+◌, ◌/◌, ◌<◌, ◌∙◌, ◌≡◌, ◌≢◌, ◌≤◌}
-use Rattle.mk_laws.proofs.Known.{HaveOperands, operands_of}
-use Rattle.mk_laws.proofs.ImagesStands.{Stands, is_gone}
-use Rattle.mk_laws.proofs.KnownWorlds.{KnownWorld}
+use Rattle.mk_laws.proofs.Vocabulary.{storage_words, subst, sym, true, words_of, [], ◌+◌, ◌/◌, ◌<◌, ◌∙◌, ◌≡◌, ◌≢◌, ◌≤◌}
 use Rattle.mk_laws.proofs.ImagesKept.{AreApart, AreSmall, exists_placed}
-use Rattle.mk_laws.proofs.Ready.{Ready}
-use Rattle.mk_laws.proofs.Reached.{PagesShow}
+use Rattle.mk_laws.proofs.{ImagesStands.Stands, ImagesStands.is_gone, Known.HaveOperands, Known.operands_of}
+use Rattle.mk_laws.proofs.{KnownWorlds.KnownWorld, Reached.PagesShow, Ready.Ready}
 
 pub small_operands : (c : Config) (fs : List Flight) → HaveOperands c fs → AreSmall fs
 small_operands c fs h j = let o = operands_of c (flight_among fs j).op (h j) in (o.q, o.p, o.r, o.d)

@@ -1,10 +1,8 @@
 -- The images are kept by each move.
-use Rattle.std.proofs.Common.{length-append}
-use Rattle.std.proofs.lemmas.List.{get_or_at}
-use Rattle.std.proofs.Math.ListN.{get_or-map as get_or-map-default}
+use Rattle.std.proofs.{Common.length-append, Math.ListN.get_or-map as get_or-map-default, lemmas.List.get_or_at}
 use Rattle.mk_laws.proofs.Vocabulary.{Bool, Carries, CarriesOwn, Flight, ImageScene, IsMet, IsSound, IsTyped}
 use Rattle.mk_laws.proofs.Vocabulary.{IsTypedAllocation, Kind, List, NeverAllocation, NeverState, Null, Num, Number}
-use Rattle.mk_laws.proofs.Vocabulary.{PlacedAllocation, ProbedOwn, Ptr, Stage, Suits, To, Value, [], address_of}
+use Rattle.mk_laws.proofs.Vocabulary.{PlacedAllocation, ProbedOwn, Ptr, Stage, Suits, To, Value, ℕ, address_of}
 use Rattle.mk_laws.proofs.Vocabulary.{allocation_at, and_right, ap, arith, at_rest, bases_of, cases_Bool, cases_eq}
 use Rattle.mk_laws.proofs.Vocabulary.{cases_lt, d_of, false, flight_among, get_or, get_or-set_other, get_or-set_same}
 use Rattle.mk_laws.proofs.Vocabulary.{get_or_append_left, get_or_past, image_of, inl, inr, is_large, is_past_probe}
@@ -12,15 +10,13 @@ use Rattle.mk_laws.proofs.Vocabulary.{is_put, is_unmapped, kind_in, kinds_of, le
 use Rattle.mk_laws.proofs.Vocabulary.{map-append, never_granted, no_allocation, p_of, placed_at, q_of, r_of, refl}
 use Rattle.mk_laws.proofs.Vocabulary.{register_at, set_by, shown, slice_index, slice_index_or, slice_set, subst, suc}
 use Rattle.mk_laws.proofs.Vocabulary.{sym, true, with_freed, with_global, with_new, with_register, with_word, word_at}
-use Rattle.mk_laws.proofs.Vocabulary.{words_of, zero, ℕ, ◌%◌, ◌*◌, ◌++◌, ◌+◌, ◌/◌, ◌<◌, ◌∙◌, ◌∷◌, ◌≡◌, ◌≢◌}
-use Rattle.mk_never.specs.Types.{zero_of, zero_words}
-use Rattle.mk_never.proofs.Edits.{exists}
-use Rattle.mk_core.specs.declared.seats.Stage.TheVariants as stage
+use Rattle.mk_laws.proofs.Vocabulary.{words_of, zero, [], ◌%◌, ◌*◌, ◌++◌, ◌+◌, ◌/◌, ◌<◌, ◌∙◌, ◌∷◌, ◌≡◌, ◌≢◌}
+use Rattle.mk_never.{proofs.Edits.exists, specs.Types.zero_of, specs.Types.zero_words}
+use Rattle.mk_laws.proofs.ImagesMoves.{Decides, Flies, Frees, Grants, Move, Owes, Pays, Releases, Renews, Rests, Shares}
+use Rattle.mk_laws.proofs.ImagesMoves.{Stores, Wipes, Writes, is_bare}
+use Rattle.mk_laws.proofs.Pairs.{bare_carries, bare_owes_nothing, bare_unprobed, carries_same, image_more, met_same}
+use Rattle.mk_laws.proofs.Pairs.{put_carries, set_both, shows_other, shows_owed, shows_plain}
 use Rattle.mk_laws.specs.Images.{AreImages}
-use Rattle.mk_laws.proofs.ImagesMoves.{is_bare, Decides, Move, Rests, Flies, Owes, Pays, Stores, Shares, Writes, Wipes}
-use Rattle.mk_laws.proofs.ImagesMoves.{Grants, Frees, Renews, Releases}
-use Rattle.mk_laws.proofs.Pairs.{set_both, bare_carries, put_carries, bare_unprobed, shows_plain, shows_owed}
-use Rattle.mk_laws.proofs.Pairs.{shows_other, bare_owes_nothing, image_more, carries_same, met_same}
 
 -- the registers that calls name are of the eight
 abbrev pub AreSmall : List Flight → Type 0
@@ -102,7 +98,7 @@ other_register : (n : NeverState) (k d j r : ℕ) (v : Value) → d < 8 → r < 
 other_register n k d j r v ld lr ne =
     get_or-set_other n.registers (8 * k + d) (8 * j + r) v Null (λ e. absurd (ne (omega arith)))
 
-put_past : (s : Stage) → s ≡ stage.Put → is_past_probe s ≡ false
+put_past : (s : Stage) → s ≡ Stage.Put → is_past_probe s ≡ false
 put_past s e = ap is_past_probe e
 
 module _ (s : ImageScene) (n : NeverState) (h : AreImages s n) (small : AreSmall s.flights) where
@@ -124,7 +120,7 @@ module _ (s : ImageScene) (n : NeverState) (h : AreImages s n) (small : AreSmall
       }
 
   owes_one : (k : ℕ) (f : Flight) (v : Value) → k < length s.flights → 8 * k + 7 < length n.registers
-      → is_put (flight_among s.flights k).stage ≡ false → f.stage ≡ stage.Put → d_of f.op < 8
+      → is_put (flight_among s.flights k).stage ≡ false → f.stage ≡ Stage.Put → d_of f.op < 8
       → f.loaded ≡ image_of bases v
       → AreImages (record s { flights = slice_set s.flights k f }) (with_register n k (d_of f.op) v)
   owes_one k f v there long was put ld is =
@@ -150,7 +146,7 @@ module _ (s : ImageScene) (n : NeverState) (h : AreImages s n) (small : AreSmall
       }
 
   pays : (k : ℕ) (f : Flight) → k < length s.flights → 8 * k + 7 < length s.registers
-      → (flight_among s.flights k).stage ≡ stage.Put → d_of (flight_among s.flights k).op < 8 → is_bare f.stage ≡ true
+      → (flight_among s.flights k).stage ≡ Stage.Put → d_of (flight_among s.flights k).op < 8 → is_bare f.stage ≡ true
       → AreImages (record s {
         flights = slice_set s.flights k f;
         registers = slice_set s.registers (8 * k + d_of (flight_among s.flights k).op)

@@ -1,7 +1,7 @@
 -- What holds before any event and is kept by one event of a history holds of every history.
-use Rattle.mk_laws.proofs.Vocabulary.{AreEnabledFrom, Config, Event, IsHistory, List, OfHistories, [], append-nil}
+use Rattle.mk_laws.proofs.Vocabulary.{AreEnabledFrom, Config, Event, IsHistory, List, OfHistories, append-nil}
 use Rattle.mk_laws.proofs.Vocabulary.{append_assoc, earlier_part_is_history, enabled_in_parts, enabled_meets, left}
-use Rattle.mk_laws.proofs.Vocabulary.{subst, sym, ◌++◌, ◌∷◌, ◌≡◌}
+use Rattle.mk_laws.proofs.Vocabulary.{subst, sym, [], ◌++◌, ◌∷◌, ◌≡◌}
 use Rattle.mk_laws.proofs.Actors.{Meets}
 
 -- The events before one of a history are a history, after which it meets the conditions.

@@ -1,9 +1,9 @@
 -- What a laid out scene says of one page.
 use Rattle.mk_laws.proofs.Vocabulary.{Among, AreApart, Claim, HasHeader, IsHeaderOf, IsLaidOn, IsOfOneCell, IsShown}
-use Rattle.mk_laws.proofs.Vocabulary.{LayoutScene, List, Mapped, Mode, Object, Page, ShowsPart, Unmapping, [], arith}
+use Rattle.mk_laws.proofs.Vocabulary.{LayoutScene, List, Mapped, Mode, Object, Page, ShowsPart, Unmapping, ℕ, arith}
 use Rattle.mk_laws.proofs.Vocabulary.{cells_under, false_from_ne_true, has_bit, head_on, header_on, header_shows, inl}
 use Rattle.mk_laws.proofs.Vocabulary.{inr, no_bit, pages_made, part_head, part_not_free, shows_on, sym, true}
-use Rattle.mk_laws.proofs.Vocabulary.{true≢false, used_on, ℕ, ◌+◌, ◌<◌, ◌∙◌, ◌∷◌, ◌≡◌, ◌≢◌}
+use Rattle.mk_laws.proofs.Vocabulary.{true≢false, used_on, [], ◌+◌, ◌<◌, ◌∙◌, ◌∷◌, ◌≡◌, ◌≢◌}
 use Rattle.mk_core.proofs.WordBits.{zero_from_bits}
 use Rattle.mk_laws.specs.LayoutScene.{Unmapped}
 

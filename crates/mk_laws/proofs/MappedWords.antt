@@ -1,14 +1,12 @@
 -- Words of mapped allocations, after a change of the allocations.
 use Rattle.mk_laws.proofs.Vocabulary.{Bool, Config, HasItsHeaders, IsWithinLimits, IsWordOf, IsWordOfMapped}
-use Rattle.mk_laws.proofs.Vocabulary.{LeavesPlaces, List, PlacedAllocation, StandsOnHeap, Words, [], and_from}
-use Rattle.mk_laws.proofs.Vocabulary.{and_parts, ap, arith, cases_lt, cell_of_allocation, changed_at, false}
-use Rattle.mk_laws.proofs.Vocabulary.{fresh_leaves, get_or_past, inl, inr, is_large, is_left_unmarked, is_mapped}
-use Rattle.mk_laws.proofs.Vocabulary.{kinds_of, length, map, never_granted, no_longer_fresh, not, not-true, placed_at}
-use Rattle.mk_laws.proofs.Vocabulary.{released_leaves, released_where_left, storage_of, storage_words, subst, sym, true}
-use Rattle.mk_laws.proofs.Vocabulary.{true≢false, with_released, words_made, ℕ, ◌&&◌, ◌++◌, ◌+◌, ◌<◌, ◌∙◌, ◌∷◌, ◌≡◌}
-use Rattle.mk_laws.proofs.Vocabulary.{◌≤◌}
-use Rattle.mk_core.specs.NewPlaces.{object_of}
-use Rattle.mk_core.proofs.ChangedAllocations.{earlier_at}
+use Rattle.mk_laws.proofs.Vocabulary.{LeavesPlaces, List, PlacedAllocation, StandsOnHeap, Words, ℕ, and_from, and_parts}
+use Rattle.mk_laws.proofs.Vocabulary.{ap, arith, cases_lt, cell_of_allocation, changed_at, false, fresh_leaves}
+use Rattle.mk_laws.proofs.Vocabulary.{get_or_past, inl, inr, is_large, is_left_unmarked, is_mapped, kinds_of, length}
+use Rattle.mk_laws.proofs.Vocabulary.{map, never_granted, no_longer_fresh, not, not-true, placed_at, released_leaves}
+use Rattle.mk_laws.proofs.Vocabulary.{released_where_left, storage_of, storage_words, subst, sym, true, true≢false}
+use Rattle.mk_laws.proofs.Vocabulary.{with_released, words_made, [], ◌&&◌, ◌++◌, ◌+◌, ◌<◌, ◌∙◌, ◌∷◌, ◌≡◌, ◌≤◌}
+use Rattle.mk_core.{proofs.ChangedAllocations.earlier_at, specs.NewPlaces.object_of}
 
 -- A mapped allocation isn't released, so it is there.
 pub mapped_stays : (c : Config) (a : PlacedAllocation) → is_mapped c a ≡ true → a.released ≡ false

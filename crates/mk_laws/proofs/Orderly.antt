@@ -1,15 +1,13 @@
 -- All is in order: what each move keeps, by what the protocol reads.
-use Rattle.std.specs.Prelude.{count_by}
-use Rattle.std.proofs.lemmas.List.Sums.{sum_by-set, count_by-le-length}
-use Rattle.mk_laws.proofs.Vocabulary.{Caller, Config, Flight, Host, List, Marker, MarkerState, Seat, ap, arith, at_rest}
-use Rattle.mk_laws.proofs.Vocabulary.{cases_eq, cases_lt, cond, false, get_or-set_other, get_or-set_same, get_or_past}
-use Rattle.mk_laws.proofs.Vocabulary.{holder_number, inl, inr, is_attending, is_in, length, length-set, nothing_done}
-use Rattle.mk_laws.proofs.Vocabulary.{outside, refl, set_past, slice_index, slice_index_or, slice_set, sym, true, ℕ}
-use Rattle.mk_laws.proofs.Vocabulary.{◌%◌, ◌*◌, ◌+◌, ◌-◌, ◌<◌, ◌^◌, ◌∙◌, ◌≡◌, ◌≢◌, ◌≤◌, ◌⊎◌}
-use Rattle.mk_laws.proofs.Standings.{Standing, standing, Shows, Resting, UnderTurn}
-use Rattle.mk_laws.proofs.Views.{flights_with, View, flight_in, gate_in, marker_in, flight_at, HoldsTurn}
-use Rattle.mk_laws.proofs.Services.{Served}
-use Rattle.mk_laws.proofs.ProtocolMoves.{MayTake, IdlesOutside}
+use Rattle.std.{proofs.lemmas.List.Sums.count_by-le-length, proofs.lemmas.List.Sums.sum_by-set, specs.Prelude.count_by}
+use Rattle.mk_laws.proofs.Vocabulary.{Caller, Config, Flight, Host, List, Marker, MarkerState, Seat, ℕ, ap, arith}
+use Rattle.mk_laws.proofs.Vocabulary.{at_rest, cases_eq, cases_lt, cond, false, get_or-set_other, get_or-set_same}
+use Rattle.mk_laws.proofs.Vocabulary.{get_or_past, holder_number, inl, inr, is_attending, is_in, length, length-set}
+use Rattle.mk_laws.proofs.Vocabulary.{nothing_done, outside, refl, set_past, slice_index, slice_index_or, slice_set}
+use Rattle.mk_laws.proofs.Vocabulary.{sym, true, ◌%◌, ◌*◌, ◌+◌, ◌-◌, ◌<◌, ◌^◌, ◌∙◌, ◌≡◌, ◌≢◌, ◌≤◌, ◌⊎◌}
+use Rattle.mk_laws.proofs.Standings.{Resting, Shows, Standing, UnderTurn, standing}
+use Rattle.mk_laws.proofs.Views.{HoldsTurn, View, flight_at, flight_in, flights_with, gate_in, marker_in}
+use Rattle.mk_laws.proofs.{ProtocolMoves.IdlesOutside, ProtocolMoves.MayTake, Services.Served}
 
 -- The markers that are in, and the numbers of the phase word.
 

@@ -1,17 +1,16 @@
 -- The phase along a cycle: it marks up to the `close`, and stays where it is up to the `release` and the `end`.
-use Rattle.mk_laws.proofs.Vocabulary.{Config, IsMarking, Moment, Seat, Step, arith, eqb-true, false, inl, inr, is_begin}
-use Rattle.mk_laws.proofs.Vocabulary.{is_close, is_end, is_release, phase_of, refl, sym, true≢false, ℕ, ◌∙◌, ◌≡◌, ◌≤◌}
-use Rattle.mk_laws.proofs.Vocabulary.{◌⊎◌}
+use Rattle.mk_laws.proofs.Vocabulary.{Config, IsMarking, Moment, Seat, Step, ℕ, arith, eqb-true, false, inl, inr}
+use Rattle.mk_laws.proofs.Vocabulary.{is_begin, is_close, is_end, is_release, phase_of, refl, sym, true≢false, ◌∙◌, ◌≡◌}
+use Rattle.mk_laws.proofs.Vocabulary.{◌≤◌, ◌⊎◌}
 use Rattle.mk_laws.proofs.Basics.{Behind, Meets, either_phase, is_grant, over_phase}
-use Rattle.mk_core.specs.declared.events.Step.TheVariants as step
 use Rattle.mk_laws.proofs.Phases.{is_phase_step, phase_stays}
 
 none_begins : (x : Step) → is_phase_step x ≡ false → is_begin x ≡ false
-none_begins step.Begin stays = cc
+none_begins Step.Begin stays = cc
 none_begins _ stays = refl
 
 none_releases : (x : Step) → is_phase_step x ≡ false → is_release x ≡ false
-none_releases step.Release stays = cc
+none_releases Step.Release stays = cc
 none_releases _ stays = refl
 
 pub record GoesOnMarking (c : Config) (m : Moment) (seat : Seat) (x : Step) : Type 0 where
@@ -28,15 +27,15 @@ not_at n p (inr e) at (inr le) = absurd (omega arith)
 -- While it marks, what isn't a `close` leaves it marking.
 pub marking_goes_on : (c : Config) (m : Moment) (seat : Seat) (x : Step) → IsMarking m.words → Meets c m seat x
     → is_close x ≡ false → GoesOnMarking c m seat x
-marking_goes_on c m seat step.Begin early h other = absurd (not_at _ 0 early (eqb-true _ 0 h.phase) (inl refl))
-marking_goes_on c m seat step.Want early h other =
+marking_goes_on c m seat Step.Begin early h other = absurd (not_at _ 0 early (eqb-true _ 0 h.phase) (inl refl))
+marking_goes_on c m seat Step.Want early h other =
     let one = eqb-true _ 1 h.phase in
     record { early = inr (omega arith); begun = refl; released = refl }
-marking_goes_on c m seat step.Close early h other = cc
-marking_goes_on c m seat step.Release early h other =
+marking_goes_on c m seat Step.Close early h other = cc
+marking_goes_on c m seat Step.Release early h other =
     absurd (not_at _ 3 early (eqb-true _ 3 h.phase) (inr (omega arith)))
-marking_goes_on c m seat step.End early h other = absurd (not_at _ 4 early (eqb-true _ 4 h.phase) (inr (omega arith)))
-marking_goes_on c m seat step.Over early h other = absurd (not_at _ 0 early (over_phase c m seat h) (inl refl))
+marking_goes_on c m seat Step.End early h other = absurd (not_at _ 4 early (eqb-true _ 4 h.phase) (inr (omega arith)))
+marking_goes_on c m seat Step.Over early h other = absurd (not_at _ 0 early (over_phase c m seat h) (inl refl))
 marking_goes_on c m seat x early h other = rest x refl
   where
     rest : (x : Step) → is_phase_step x ≡ false → GoesOnMarking c m seat x
@@ -56,13 +55,13 @@ pub record Waits (c : Config) (m : Moment) (seat : Seat) (x : Step) (p : ℕ) : 
 
 waits : (c : Config) (m : Moment) (seat : Seat) (x : Step) (p : ℕ) → 3 ≤ p → phase_of m.words ≡ p → Meets c m seat x
     → (p ≡ 3 → is_release x ≡ false) → (p ≡ 4 → is_end x ≡ false) → Waits c m seat x p
-waits c m seat step.Begin p late at h out past = let z = eqb-true _ 0 h.phase in absurd (omega arith)
-waits c m seat step.Want p late at h out past = let z = eqb-true _ 1 h.phase in absurd (omega arith)
-waits c m seat step.Close p late at h out past = let z = eqb-true _ 2 h.phase in absurd (omega arith)
-waits c m seat step.Release p late at h out past = absurd (true≢false (out (sym at ∙ eqb-true _ 3 h.phase)))
-waits c m seat step.End p late at h out past = absurd (true≢false (past (sym at ∙ eqb-true _ 4 h.phase)))
-waits c m seat step.Over p late at h out past = let z = over_phase c m seat h in absurd (omega arith)
-waits c m seat step.Grant p late at h out past =
+waits c m seat Step.Begin p late at h out past = let z = eqb-true _ 0 h.phase in absurd (omega arith)
+waits c m seat Step.Want p late at h out past = let z = eqb-true _ 1 h.phase in absurd (omega arith)
+waits c m seat Step.Close p late at h out past = let z = eqb-true _ 2 h.phase in absurd (omega arith)
+waits c m seat Step.Release p late at h out past = absurd (true≢false (out (sym at ∙ eqb-true _ 3 h.phase)))
+waits c m seat Step.End p late at h out past = absurd (true≢false (past (sym at ∙ eqb-true _ 4 h.phase)))
+waits c m seat Step.Over p late at h out past = let z = over_phase c m seat h in absurd (omega arith)
+waits c m seat Step.Grant p late at h out past =
     elim (either_phase (phase_of m.words) 0 1 h.phase) [ inl e ↦ absurd (omega arith) | inr e ↦ absurd (omega arith) ]
 waits c m seat x p late at h out past = rest x refl refl
   where

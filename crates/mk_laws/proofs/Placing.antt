@@ -1,18 +1,18 @@
 -- The steps of a New: its place is chosen, its pages get their headers one by one, and its cell is taken.
 use Rattle.mk_laws.proofs.Vocabulary.{Among, AreApart, Bool, Claim, HasItsHead, InPlot, IsClaimed, IsLaidOn}
 use Rattle.mk_laws.proofs.Vocabulary.{IsOfOneCell, IsPlotShown, IsShown, IsSized, Later, LayoutScene, List, Mapped}
-use Rattle.mk_laws.proofs.Vocabulary.{NoPlot, Object, Page, Plotted, ShowsPart, Some, [], ap, arith, cases_eq}
+use Rattle.mk_laws.proofs.Vocabulary.{NoPlot, Object, Page, Plotted, ShowsPart, Some, ℕ, ap, arith, cases_eq}
 use Rattle.mk_laws.proofs.Vocabulary.{cells_made, cells_under, false, has_bit, head_on, header_made, header_of}
 use Rattle.mk_laws.proofs.Vocabulary.{header_on, inl, inr, is_released_on, length, length-set, made_shows, pages_made}
 use Rattle.mk_laws.proofs.Vocabulary.{pages_some, part_cells, refl, run_count, shown_later, shows_on, stands, subst}
-use Rattle.mk_laws.proofs.Vocabulary.{sym, true, true≢false, used_on, ℕ, ◌++◌, ◌+◌, ◌-◌, ◌<◌, ◌^◌, ◌∙◌, ◌∷◌, ◌≡◌, ◌≢◌}
+use Rattle.mk_laws.proofs.Vocabulary.{sym, true, true≢false, used_on, [], ◌++◌, ◌+◌, ◌-◌, ◌<◌, ◌^◌, ◌∙◌, ◌∷◌, ◌≡◌, ◌≢◌}
 use Rattle.mk_laws.proofs.Vocabulary.{◌≤◌, ◌⊎◌}
 use Rattle.mk_core.proofs.WordBits.{added_here, added_other}
-use Rattle.mk_laws.specs.LayoutScene.{IsTakenCell}
-use Rattle.mk_laws.proofs.Releasing.{headed_here, headed_other, headed_used, used_header, used_here, used_other}
-use Rattle.mk_laws.proofs.Releasing.{with_header_on, with_used_on, head_of_other, shown_beside}
 use Rattle.mk_laws.proofs.LayoutReadings.{claimed_head, claimed_some, free_unused, none_set, zero_where_none}
+use Rattle.mk_laws.proofs.Releasing.{head_of_other, headed_here, headed_other, headed_used, shown_beside, used_header}
+use Rattle.mk_laws.proofs.Releasing.{used_here, used_other, with_header_on, with_used_on}
 use Rattle.mk_laws.proofs.Unmapping.{part_count}
+use Rattle.mk_laws.specs.LayoutScene.{IsTakenCell}
 
 -- the place is chosen: its pages are free
 abbrev pub ChosenAt : LayoutScene → ℕ → Object → LayoutScene

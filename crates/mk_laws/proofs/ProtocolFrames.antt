@@ -1,39 +1,29 @@
 -- The frame law: what the events of other seats leave, for one event and for many.
-use Rattle.std.specs.Prelude.{◌/◌}
-use Rattle.std.proofs.lemmas.List.Sums.{sum_by-append}
+use Rattle.std.{proofs.lemmas.List.Sums.sum_by-append, specs.Prelude.◌/◌}
 use Rattle.mk_laws.proofs.Vocabulary.{AreEnabledFrom, AreOfOthers, Caller, Config, Event, Flight, Holds, Host, IsInCall}
 use Rattle.mk_laws.proofs.Vocabulary.{IsLeft, List, Marker, MarkerState, Moment, Named, OnlyGrow, Protocol, Seat, Stage}
-use Rattle.mk_laws.proofs.Vocabulary.{Steady, Step, Store, Tally, TurnIsLeft, Words, World, Written, [], accessed}
+use Rattle.mk_laws.proofs.Vocabulary.{Steady, Step, Store, Tally, TurnIsLeft, Word, Words, World, Written, ℕ, accessed}
 use Rattle.mk_laws.proofs.Vocabulary.{all_below, answer_decided, ap, arith, at_rest, call_decided, caller_number, calls}
 use Rattle.mk_laws.proofs.Vocabulary.{calls_from, cases_lt, cond, d_of, enabled_meets, enabled_parts, ends, eq-eqb}
 use Rattle.mk_laws.proofs.Vocabulary.{false, first_world, flight_of, get_or-set_other, get_or_past, header_in}
 use Rattle.mk_laws.proofs.Vocabulary.{holder_number, inl, inr, is_attending, is_end, is_in, is_number_of, is_one_of}
 use Rattle.mk_laws.proofs.Vocabulary.{is_unmapped_header, left, left_append, left_from, marker_at, others_are_held}
 use Rattle.mk_laws.proofs.Vocabulary.{outside, phase_of, refl, reg_access, register_met, slice_index, slice_set, sym}
-use Rattle.mk_laws.proofs.Vocabulary.{true, world_behind, ℕ, ◌*◌, ◌++◌, ◌+◌, ◌<◌, ◌==◌, ◌||◌, ◌∙◌, ◌∷◌, ◌≡◌, ◌≢◌, ◌≤◌}
+use Rattle.mk_laws.proofs.Vocabulary.{true, world_behind, [], ◌*◌, ◌++◌, ◌+◌, ◌<◌, ◌==◌, ◌||◌, ◌∙◌, ◌∷◌, ◌≡◌, ◌≢◌, ◌≤◌}
 use Rattle.mk_laws.proofs.Vocabulary.{◌⊎◌}
+use Rattle.mk_core.proofs.{Histories.calls_append, RegisterAccesses.tally_leaves_registers}
+use Rattle.mk_core.specs.Frames.{Attends, CountsAreLeft, HoldsAll, IsIn, OthersLeave, OwnIsLeft, ScanIsLeft, written_of}
+use Rattle.mk_core.specs.{Growing.is_same_seat, Readings.is_in_call}
 use Rattle.mk_laws.proofs.Basics.{Behind, Known, Meets, WorldBehind, actor_of, grants_new, in_call_told, known_behind}
 use Rattle.mk_laws.proofs.Basics.{known_left, not_astray, operands_of, others_held, register_small, same_holder}
 use Rattle.mk_laws.proofs.Basics.{standing, turn_of, view_of}
-use Rattle.mk_core.specs.declared.events.Word.TheVariants as word
-use Rattle.mk_core.specs.declared.events.Step.TheVariants as step
-use Rattle.mk_core.specs.declared.seats.Stage.TheVariants as stage
-use Rattle.mk_laws.proofs.Known.{HaveOperands, Operands, holds_turn}
-use Rattle.mk_core.proofs.RegisterAccesses.{tally_leaves_registers}
-use Rattle.mk_core.specs.Growing.{is_same_seat}
-use Rattle.mk_core.specs.Readings.{is_in_call}
-use Rattle.mk_core.specs.Frames.{Attends, IsIn, HoldsAll, OwnIsLeft, written_of, CountsAreLeft, ScanIsLeft, OthersLeave}
-use Rattle.mk_core.proofs.Histories.{calls_append}
-use Rattle.mk_laws.proofs.Standings.{in_call_is}
-use Rattle.mk_laws.proofs.Protocols.{protocol_of}
-use Rattle.mk_laws.proofs.ProtocolReadings.{in_counts}
-use Rattle.mk_laws.proofs.OthersMoves.{with_words_seats, OthersMove, Waits, Calls, Marks, MarkerWrite, ComesIn}
-use Rattle.mk_laws.proofs.OthersMoves.{gate_one, others_move}
-use Rattle.mk_laws.proofs.Growth.{grows_same, grows_joined}
-use Rattle.mk_laws.proofs.TurnFrame.{holding_out, turn_after, turn_same, turn_joined}
-use Rattle.mk_laws.proofs.HeaderSteps.{header_step, stays_mapped}
-use Rattle.mk_laws.proofs.Colours.{colour_step, attending_grows}
-use Rattle.mk_laws.proofs.OthersCounts.{counts_nothing, fulls_of, entry_fulls, fulls_append}
+use Rattle.mk_laws.proofs.OthersCounts.{counts_nothing, entry_fulls, fulls_append, fulls_of}
+use Rattle.mk_laws.proofs.OthersMoves.{Calls, ComesIn, MarkerWrite, Marks, OthersMove, Waits, gate_one, others_move}
+use Rattle.mk_laws.proofs.OthersMoves.{with_words_seats}
+use Rattle.mk_laws.proofs.TurnFrame.{holding_out, turn_after, turn_joined, turn_same}
+use Rattle.mk_laws.proofs.{Colours.attending_grows, Colours.colour_step, Growth.grows_joined, Growth.grows_same}
+use Rattle.mk_laws.proofs.{HeaderSteps.header_step, HeaderSteps.stays_mapped, Known.HaveOperands, Known.Operands}
+use Rattle.mk_laws.proofs.{Known.holds_turn, ProtocolReadings.in_counts, Protocols.protocol_of, Standings.in_call_is}
 
 -- What an event may do to registers: each caller's are its own.
 
@@ -42,23 +32,23 @@ pub data RegisterStep (w : Words) : Seat → List ℕ → Type 0 where
   SetsOwn : {k : ℕ} (r v : ℕ) → r < 8 → RegisterStep w (Caller k) (slice_set w.registers (8 * k + r) v)
 
 reg_registers : (w : Words) (k : ℕ) (f : Flight) (s : Stage) → Operands f.op
-    → RegisterStep w (Caller k) (accessed w (Named (word.Reg k (register_met f s))) (reg_access f s)).registers
-reg_registers w k f stage.Store o = SetsOwn (register_met f stage.Store) _ (register_small f stage.Store o)
-reg_registers w k f stage.Put o = SetsOwn (register_met f stage.Put) _ (register_small f stage.Put o)
+    → RegisterStep w (Caller k) (accessed w (Named (Word.Reg k (register_met f s))) (reg_access f s)).registers
+reg_registers w k f Stage.Store o = SetsOwn (register_met f Stage.Store) _ (register_small f Stage.Store o)
+reg_registers w k f Stage.Put o = SetsOwn (register_met f Stage.Put) _ (register_small f Stage.Put o)
 reg_registers w k f _ o = KeepsRegisters
 
 pub register_step : (c : Config) (m : Moment) (seat : Seat) (x : Step) → HaveOperands c m.seats.flights
     → Meets c m seat x → RegisterStep m.words seat (Behind c m seat x).words.registers
-register_step c m (Caller k) step.Reg ops h =
+register_step c m (Caller k) Step.Reg ops h =
     reg_registers m.words k (flight_of m (Caller k)) (flight_of m (Caller k)).stage
     (operands_of c (flight_of m (Caller k)).op (ops k))
-register_step c m (Marker k) step.Reg ops h = let kind = h.kind in cc
-register_step c m Host step.Reg ops h = let kind = h.kind in cc
-register_step c m (Caller k) step.Grant ops h =
+register_step c m (Marker k) Step.Reg ops h = let kind = h.kind in cc
+register_step c m Host Step.Reg ops h = let kind = h.kind in cc
+register_step c m (Caller k) Step.Grant ops h =
     SetsOwn (d_of (flight_of m (Caller k)).op) _ (operands_of c (flight_of m (Caller k)).op (ops k)).d
-register_step c m (Marker k) step.Grant ops h = let kind = h.kind in cc
-register_step c m Host step.Grant ops h = let new = grants_new c m Host h in cc
-register_step c m seat (step.Tally n v) ops h = rw (tally_leaves_registers m.words n v) KeepsRegisters
+register_step c m (Marker k) Step.Grant ops h = let kind = h.kind in cc
+register_step c m Host Step.Grant ops h = let new = grants_new c m Host h in cc
+register_step c m seat (Step.Tally n v) ops h = rw (tally_leaves_registers m.words n v) KeepsRegisters
 register_step c m seat _ ops h = KeepsRegisters
 
 pub others_registers : (w : Words) (seat : Seat) (rs : List ℕ) (k r : ℕ) → RegisterStep w seat rs → seat ≢ Caller k

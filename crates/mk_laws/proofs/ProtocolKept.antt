@@ -1,20 +1,20 @@
 -- Each move keeps all in order.
-use Rattle.mk_laws.proofs.Vocabulary.{Caller, Config, Flight, Holding, Host, List, Marker, MarkerState, Seat, ap, arith}
-use Rattle.mk_laws.proofs.Vocabulary.{at_rest, cases_eq, false, get_or-set_other, get_or-set_same, holder_number, inl}
-use Rattle.mk_laws.proofs.Vocabulary.{inr, is_attending, length, length-set, nothing_done, outside, refl, slice_index}
-use Rattle.mk_laws.proofs.Vocabulary.{slice_index_or, slice_set, sym, true, ℕ, ◌%◌, ◌*◌, ◌+◌, ◌-◌, ◌<◌, ◌∙◌, ◌≡◌, ◌≢◌}
-use Rattle.mk_laws.proofs.Vocabulary.{◌≤◌, ◌⊎◌}
-use Rattle.mk_laws.proofs.Views.{View, gate_in, marker_in, HoldsTurn, flight_in, flight_at, flights_with}
-use Rattle.mk_laws.proofs.ProtocolMoves.{PhaseStep, Begins, Wants, Closes, Releases, Ends, Stops, IdlesOutside, Move}
-use Rattle.mk_laws.proofs.ProtocolMoves.{Stays, Enters, GoesOn, Leaves, Takes, Gives, Works, Holds, Opens, Phases}
-use Rattle.mk_laws.proofs.ProtocolMoves.{Attends, Quits, Scans}
-use Rattle.mk_laws.proofs.Orderly.{count_in, up_one, down_four, up_five, counted_same, counted_more, counted_less}
-use Rattle.mk_laws.proofs.Orderly.{marker_set, up_eight, down_eight, Orderly, turn_of, few_in, AllShow, all_but_flight}
-use Rattle.mk_laws.proofs.Orderly.{all_but_gate, all_but_both, all_but_seat, length_with, shows_at, holders_flight}
-use Rattle.mk_laws.proofs.Orderly.{holder_shows, giver_shows, taker_shows, taker_number}
-use Rattle.mk_laws.proofs.Standings.{Resting, InCall, standing, Shows, shows_taken, shows_given, shows_held}
-use Rattle.mk_laws.proofs.Standings.{shows_opened}
-use Rattle.mk_laws.proofs.Services.{Served, Service, Goes, service_stands, service_rests, served_on, nothing_served}
+use Rattle.mk_laws.proofs.Vocabulary.{Caller, Config, Flight, Holding, Host, List, Marker, MarkerState, Seat, ℕ, ap}
+use Rattle.mk_laws.proofs.Vocabulary.{arith, at_rest, cases_eq, false, get_or-set_other, get_or-set_same, holder_number}
+use Rattle.mk_laws.proofs.Vocabulary.{inl, inr, is_attending, length, length-set, nothing_done, outside, refl}
+use Rattle.mk_laws.proofs.Vocabulary.{slice_index, slice_index_or, slice_set, sym, true, ◌%◌, ◌*◌, ◌+◌, ◌-◌, ◌<◌, ◌∙◌}
+use Rattle.mk_laws.proofs.Vocabulary.{◌≡◌, ◌≢◌, ◌≤◌, ◌⊎◌}
+use Rattle.mk_laws.proofs.Orderly.{AllShow, Orderly, all_but_both, all_but_flight, all_but_gate, all_but_seat, count_in}
+use Rattle.mk_laws.proofs.Orderly.{counted_less, counted_more, counted_same, down_eight, down_four, few_in, giver_shows}
+use Rattle.mk_laws.proofs.Orderly.{holder_shows, holders_flight, length_with, marker_set, shows_at, taker_number}
+use Rattle.mk_laws.proofs.Orderly.{taker_shows, turn_of, up_eight, up_five, up_one}
+use Rattle.mk_laws.proofs.ProtocolMoves.{Attends, Begins, Closes, Ends, Enters, Gives, GoesOn, Holds, IdlesOutside}
+use Rattle.mk_laws.proofs.ProtocolMoves.{Leaves, Move, Opens, Phases, PhaseStep, Quits, Releases, Scans, Stays, Stops}
+use Rattle.mk_laws.proofs.ProtocolMoves.{Takes, Wants, Works}
+use Rattle.mk_laws.proofs.Services.{Goes, Served, Service, nothing_served, served_on, service_rests, service_stands}
+use Rattle.mk_laws.proofs.Standings.{InCall, Resting, Shows, shows_given, shows_held, shows_opened, shows_taken}
+use Rattle.mk_laws.proofs.Standings.{standing}
+use Rattle.mk_laws.proofs.Views.{HoldsTurn, View, flight_at, flight_in, flights_with, gate_in, marker_in}
 
 -- What a step of the phase leaves.
 

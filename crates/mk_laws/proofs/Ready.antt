@@ -1,17 +1,15 @@
 -- What a step of a caller needs of the state before: images tell values apart.
 use Rattle.mk_laws.proofs.Vocabulary.{Answer, Bool, ImageScene, IsSafe, IsSafeSet, IsSound, IsTyped, IsTypedAllocation}
-use Rattle.mk_laws.proofs.Vocabulary.{List, NeverState, Null, Num, Op, Option, Progress, Ptr, Some, Value, []}
+use Rattle.mk_laws.proofs.Vocabulary.{List, NeverState, Null, Num, Op, Option, Progress, Ptr, Some, Value, ℕ}
 use Rattle.mk_laws.proofs.Vocabulary.{after_calls, allocation_at, answer_of, answered, answers_of, ap, arith, asked}
 use Rattle.mk_laws.proofs.Vocabulary.{bases_of, bit, cases_Bool, cases_eq, entry_of, eq-eqb, false, flagged}
 use Rattle.mk_laws.proofs.Vocabulary.{if◌then◌else◌, image_of, inl, inr, is_same, kinds_of, length, ne_eqb, one_if}
-use Rattle.mk_laws.proofs.Vocabulary.{placed_at, refl, replies_of, slice_set, sym, true, words_of, ℕ, ◌++◌, ◌+◌, ◌<◌}
+use Rattle.mk_laws.proofs.Vocabulary.{placed_at, refl, replies_of, slice_set, sym, true, words_of, [], ◌++◌, ◌+◌, ◌<◌}
 use Rattle.mk_laws.proofs.Vocabulary.{◌==◌, ◌^◌, ◌∙◌, ◌∷◌, ◌≡◌}
+use Rattle.mk_never.proofs.{Sameness.equal_from_same, Sameness.same_from_equal, Soundness.place_is_inside}
 use Rattle.mk_never.specs.NeverHeap.{reply_of}
-use Rattle.mk_never.proofs.Soundness.{place_is_inside}
-use Rattle.mk_never.proofs.Sameness.{equal_from_same, same_from_equal}
+use Rattle.mk_laws.proofs.{ImagesKept.AreApart, ImagesKept.AreSmall, ImagesKept.base_at, ImagesMoves.Move}
 use Rattle.mk_laws.specs.Images.{AreImages}
-use Rattle.mk_laws.proofs.ImagesMoves.{Move}
-use Rattle.mk_laws.proofs.ImagesKept.{AreApart, AreSmall, base_at}
 
 pub record Ready (listed : List ℕ) (safe : ℕ → Bool) (s : ImageScene) (n : NeverState) : Type 0 where
   pub images : AreImages s n

@@ -1,21 +1,19 @@
 -- `release` on the terrain: an allocation is released exactly where its cell is left unmarked.
 use Rattle.mk_laws.proofs.Vocabulary.{Among, BeginsAtCell, Bool, Cell, Claim, Config, HasItsHeaders, IsAtCell, IsShown}
 use Rattle.mk_laws.proofs.Vocabulary.{IsSized, IsWithinLimits, List, None, Object, Option, Place, PlacedAllocation}
-use Rattle.mk_laws.proofs.Vocabulary.{RunPages, RunStands, Some, StandsOnHeap, Words, World, ap, arith, base_made}
+use Rattle.mk_laws.proofs.Vocabulary.{RunPages, RunStands, Some, StandsOnHeap, Words, World, ℕ, ap, arith, base_made}
 use Rattle.mk_laws.proofs.Vocabulary.{cases_Bool, cell_of_allocation, cells_made, claim_of, claims_of, claims_placed}
 use Rattle.mk_laws.proofs.Vocabulary.{false, ground_of, has_bit_without, inl, inr, is_released_in, is_small_object}
 use Rattle.mk_laws.proofs.Vocabulary.{large_cells, large_words, length, map, object_placed, or_parts, pages_made}
 use Rattle.mk_laws.proofs.Vocabulary.{placed_at, refl, released_leaves, released_where_left, run_begins, small}
-use Rattle.mk_laws.proofs.Vocabulary.{small_pages, storage_words, sym, true, true≢false, with_released, words_made, ℕ}
-use Rattle.mk_laws.proofs.Vocabulary.{◌*◌, ◌+◌, ◌/◌, ◌<◌, ◌∙◌, ◌≡◌, ◌≤◌, ◌⊎◌}
+use Rattle.mk_laws.proofs.Vocabulary.{small_pages, storage_words, sym, true, true≢false, with_released, words_made, ◌*◌}
+use Rattle.mk_laws.proofs.Vocabulary.{◌+◌, ◌/◌, ◌<◌, ◌∙◌, ◌≡◌, ◌≤◌, ◌⊎◌}
 use Rattle.mk_core.proofs.StandingAllocations.{cell_ends_within, made_begins, placed_cell, run_cell}
-use Rattle.mk_laws.proofs.LayoutReadings.{header_of_mode}
-use Rattle.mk_laws.proofs.ProtocolKept.{kept}
 use Rattle.mk_laws.proofs.Claims.{LeavesCells, apart_behind, cells_behind, changed_among, claim_among, claim_is}
 use Rattle.mk_laws.proofs.Claims.{was_claim}
-use Rattle.mk_laws.proofs.Serving.{among_back, among_front, among_parts, apart_across, apart_joined, apart_left}
-use Rattle.mk_laws.proofs.Serving.{apart_right, Laid, own_claim, placed_claim}
-use Rattle.mk_laws.proofs.Releasing.{layout_released}
+use Rattle.mk_laws.proofs.Serving.{Laid, among_back, among_front, among_parts, apart_across, apart_joined, apart_left}
+use Rattle.mk_laws.proofs.Serving.{apart_right, own_claim, placed_claim}
+use Rattle.mk_laws.proofs.{LayoutReadings.header_of_mode, ProtocolKept.kept, Releasing.layout_released}
 
 -- An unreleased allocation whose claim is shown stands on the heap with its headers.
 

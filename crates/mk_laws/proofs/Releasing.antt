@@ -1,13 +1,13 @@
 -- The steps that release: `release`, cells given back, pages freed in any order, and `end`.
 use Rattle.mk_laws.proofs.Vocabulary.{Among, AreApart, Bool, Claim, Header, IsClaimed, IsLaidOn, IsShown, Later}
-use Rattle.mk_laws.proofs.Vocabulary.{LayoutScene, List, NoPlot, Option, Page, Plot, PlotStands, Plotted, Some, ap}
+use Rattle.mk_laws.proofs.Vocabulary.{LayoutScene, List, NoPlot, Option, Page, Plot, PlotStands, Plotted, Some, ℕ, ap}
 use Rattle.mk_laws.proofs.Vocabulary.{arith, cases_Bool, cases_eq, cases_lt, cells_under, ends, false, free_page}
 use Rattle.mk_laws.proofs.Vocabulary.{get_or-set_other, get_or-set_same, get_or_past, has_bit, head_on, head_page_under}
 use Rattle.mk_laws.proofs.Vocabulary.{header_of, header_on, inl, inr, is_released_in, is_released_on, length}
 use Rattle.mk_laws.proofs.Vocabulary.{length-set, pages_made, refl, shows_on, slice_set, stands, sym, true, true≢false}
-use Rattle.mk_laws.proofs.Vocabulary.{used_on, ℕ, ◌+◌, ◌-◌, ◌<◌, ◌∙◌, ◌≡◌, ◌≢◌, ◌⊎◌}
-use Rattle.mk_laws.proofs.ProtocolKept.{kept}
+use Rattle.mk_laws.proofs.Vocabulary.{used_on, ◌+◌, ◌-◌, ◌<◌, ◌∙◌, ◌≡◌, ◌≢◌, ◌⊎◌}
 use Rattle.mk_laws.proofs.LayoutReadings.{cellless_unused, claimed_used, free_unused, none_set, zero_where_none}
+use Rattle.mk_laws.proofs.ProtocolKept.{kept}
 
 -- Pages of which one gets another header or used word.
 

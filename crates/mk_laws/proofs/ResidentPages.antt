@@ -1,20 +1,17 @@
 -- How many pages are resident or in a plot, where few change.
-use Rattle.std.proofs.Common.{min}
-use Rattle.std.proofs.lemmas.List.Recursion.{is_count_by}
-use Rattle.std.specs.List.{count_by}
-use Rattle.mk_laws.proofs.Vocabulary.{Block, Bool, Config, Free, Header, Later, LeafBlock, LeafRun, List, NoPlot, None}
-use Rattle.mk_laws.proofs.Vocabulary.{Object, Option, Page, Placing, Plot, Run, Some, World, ap, arith, cases_eq}
+use Rattle.std.{proofs.Common.min, proofs.lemmas.List.Recursion.is_count_by, specs.List.count_by}
+use Rattle.mk_laws.proofs.Vocabulary.{Block, Bool, Config, Free, Header, Later, LeafBlock, LeafRun, List, None, NoPlot}
+use Rattle.mk_laws.proofs.Vocabulary.{Object, Option, Page, Placing, Plot, Run, Some, World, ℕ, ap, arith, cases_eq}
 use Rattle.mk_laws.proofs.Vocabulary.{cases_lt, cond, count_below, false, free_page, get_or-set_other, get_or-set_same}
 use Rattle.mk_laws.proofs.Vocabulary.{header_of, header_on, if◌then◌else◌, inl, inr, is_resident_page}
 use Rattle.mk_laws.proofs.Vocabulary.{is_unmapped_header, leb-true, length, ltb-true, nat_le, nat_lt, object_now}
 use Rattle.mk_laws.proofs.Vocabulary.{or_cases, or_left, or_right, plot_of, refl, resident_pages, set_past, shows_on}
 use Rattle.mk_laws.proofs.Vocabulary.{slice_index_or, suc, sym, true, true≢false, use_under, used_on, uses_of_pages}
-use Rattle.mk_laws.proofs.Vocabulary.{zero, ℕ, ◌&&◌, ◌+◌, ◌-◌, ◌<◌, ◌||◌, ◌∙◌, ◌∷◌, ◌≡◌, ◌≢◌, ◌≤◌}
-use Rattle.mk_laws.proofs.Basics.{with_header_on, with_used_on}
-use Rattle.mk_geom.specs.PageWords.{use_of_page}
-use Rattle.mk_geom.specs.StorageWords.{page_in}
-use Rattle.mk_laws.specs.Room.{HasRoom, in_plot, is_taken_page}
+use Rattle.mk_laws.proofs.Vocabulary.{zero, ◌&&◌, ◌+◌, ◌-◌, ◌<◌, ◌||◌, ◌∙◌, ◌∷◌, ◌≡◌, ◌≢◌, ◌≤◌}
+use Rattle.mk_geom.specs.{PageWords.use_of_page, StorageWords.page_in}
 use Rattle.mk_books.proofs.PlaceLemmas.{count_by-map}
+use Rattle.mk_laws.proofs.Basics.{with_header_on, with_used_on}
+use Rattle.mk_laws.specs.Room.{HasRoom, in_plot, is_taken_page}
 
 -- Counts of the numbers below one that pass a test.
 

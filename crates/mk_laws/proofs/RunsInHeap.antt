@@ -1,18 +1,15 @@
 -- A mapped run that a header shows lies in the heap.
 use Rattle.std.specs.Prelude.{unwrap_or}
 use Rattle.mk_laws.proofs.Vocabulary.{Bool, Config, Flight, Ground, List, None, Object, Option, Page, Place, Run}
-use Rattle.mk_laws.proofs.Vocabulary.{RunPages, Some, Words, World, and_parts, arith, block_header, carves, cases_eq}
+use Rattle.mk_laws.proofs.Vocabulary.{RunPages, Some, Words, World, ℕ, and_parts, arith, block_header, carves, cases_eq}
 use Rattle.mk_laws.proofs.Vocabulary.{class_made, empties, eqb-true, false, free_page, get_or-set_other, header_made}
 use Rattle.mk_laws.proofs.Vocabulary.{header_of, if◌then◌else◌, inl, inr, is_next_header, is_small_object, leb-true}
 use Rattle.mk_laws.proofs.Vocabulary.{object_made, pages_made, place_now, refl, run_header, run_pages_of}
-use Rattle.mk_laws.proofs.Vocabulary.{slice_index_or, slice_set, suc, true, unmapped_header, unmaps, word_of, zero, ℕ}
-use Rattle.mk_laws.proofs.Vocabulary.{◌*◌, ◌+◌, ◌-◌, ◌<◌, ◌==◌, ◌∙◌, ◌≡◌, ◌≢◌, ◌≤◌}
-use Rattle.mk_geom.specs.Classes.{class_for}
-use Rattle.mk_geom.proofs.HeaderLemmas.{word_of-header_of}
-use Rattle.mk_geom.proofs.ClassTable.{class_for-some}
-use Rattle.mk_laws.proofs.HeaderSteps.{page_set, used_set}
-use Rattle.mk_laws.proofs.Ground.{GroundStep, Carves, Unmaps, Empties, TakesCell, GivesBack}
-use Rattle.mk_laws.proofs.NewPlace.{PlaceFits}
+use Rattle.mk_laws.proofs.Vocabulary.{slice_index_or, slice_set, suc, true, unmapped_header, unmaps, word_of, zero, ◌*◌}
+use Rattle.mk_laws.proofs.Vocabulary.{◌+◌, ◌-◌, ◌<◌, ◌==◌, ◌∙◌, ◌≡◌, ◌≢◌, ◌≤◌}
+use Rattle.mk_geom.{proofs.ClassTable.class_for-some, proofs.HeaderLemmas.word_of-header_of, specs.Classes.class_for}
+use Rattle.mk_laws.proofs.Ground.{Carves, Empties, GivesBack, GroundStep, TakesCell, Unmaps}
+use Rattle.mk_laws.proofs.{HeaderSteps.page_set, HeaderSteps.used_set, NewPlace.PlaceFits}
 
 -- what a header word at a page shows ends in the heap
 abbrev pub RunFits : Config → ℕ → ℕ → Type 0

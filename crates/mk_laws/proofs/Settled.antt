@@ -1,17 +1,15 @@
 -- What a laid out world says of its allocations; where nothing is on its way, its pages stand for the unreleased
 -- storage.
-use Rattle.mk_laws.proofs.Vocabulary.{Cell, Claim, Config, Granted, IsSettled, IsWithinLimits, LayoutStands, NoPlot}
-use Rattle.mk_laws.proofs.Vocabulary.{None, Option, PlacedAllocation, Placing, RunPages, Some, Unplaced, Words, World}
+use Rattle.mk_laws.proofs.Vocabulary.{Cell, Claim, Config, Granted, IsSettled, IsWithinLimits, LayoutStands, None}
+use Rattle.mk_laws.proofs.Vocabulary.{NoPlot, Option, PlacedAllocation, Placing, RunPages, Some, Unplaced, Words, World}
 use Rattle.mk_laws.proofs.Vocabulary.{and_parts, ap, append-nil, claim_of, claims_of, claims_placed, false, ground_of}
 use Rattle.mk_laws.proofs.Vocabulary.{has_place, histories_keep_lengths, is_run_gone, is_run_unmapped, left, length}
 use Rattle.mk_laws.proofs.Vocabulary.{object_now, placed_at, plot_of, refl, sym, true, ◌++◌, ◌∙◌, ◌≡◌}
-use Rattle.mk_laws.proofs.Basics.{Laid, all_stand, apart_left, claim_among, gone_terrain, own_claim}
 use Rattle.mk_geom.proofs.Bridge.{same_places}
+use Rattle.mk_laws.proofs.Basics.{Laid, all_stand, apart_left, claim_among, gone_terrain, own_claim}
+use Rattle.mk_laws.proofs.{Apart.Rests, ForImages.numbers_apart, HeadersStand.pages_stand}
 use Rattle.mk_laws.specs.SettledPages.{FirstFitIsThePlace, HeadersStand, UnreleasedAreApart, UnreleasedStand}
 use Rattle.mk_laws.specs.SettledPages.{is_freed_unmapped}
-use Rattle.mk_laws.proofs.Apart.{Rests}
-use Rattle.mk_laws.proofs.HeadersStand.{pages_stand}
-use Rattle.mk_laws.proofs.ForImages.{numbers_apart}
 
 pub unreleased_stand : UnreleasedStand
 unreleased_stand c es limits laid i u =

@@ -1,20 +1,17 @@
 -- From a `begin` up to its `release` the snapshot bits are those of the allocations that were in quarantine then.
 use Rattle.mk_laws.proofs.Vocabulary.{AreEnabledFrom, At, Bool, Cell, Config, Event, IsFreedCell, IsHistory}
-use Rattle.mk_laws.proofs.Vocabulary.{KeepsTheInvariant, List, OfHistories, PlacedAllocation, Step, World, [], and_from}
+use Rattle.mk_laws.proofs.Vocabulary.{KeepsTheInvariant, List, OfHistories, PlacedAllocation, Step, World, ℕ, and_from}
 use Rattle.mk_laws.proofs.Vocabulary.{and_parts, ap, arith, cell_of_allocation, enabled_in_parts, false, has_bit_of}
 use Rattle.mk_laws.proofs.Vocabulary.{is_begin, is_cycling, is_quarantined, is_release, le-leb, left, left_from}
 use Rattle.mk_laws.proofs.Vocabulary.{left_in_parts, list_any, nat_le, never_behind, not, not-true, or_parts, phase_of}
-use Rattle.mk_laws.proofs.Vocabulary.{placed_at, refl, subst, sym, true, world_behind, ℕ, ◌++◌, ◌||◌, ◌∙◌, ◌∷◌, ◌≡◌}
+use Rattle.mk_laws.proofs.Vocabulary.{placed_at, refl, subst, sym, true, world_behind, [], ◌++◌, ◌||◌, ◌∙◌, ◌∷◌, ◌≡◌}
 use Rattle.mk_laws.proofs.Vocabulary.{◌≢◌}
-use Rattle.mk_laws.proofs.Basics.{known_world}
-use Rattle.mk_core.specs.Cells.{is_in_snapshot}
-use Rattle.mk_core.specs.Readings.{SnapshotTells, SnapshotsTell}
-use Rattle.mk_laws.proofs.InvariantHistories.{histories_keep_the_invariant}
-use Rattle.mk_laws.proofs.Quarantines.{snapshot_is_the_cycles}
+use Rattle.mk_core.specs.{Cells.is_in_snapshot, Readings.SnapshotsTell, Readings.SnapshotTells}
 use Rattle.mk_laws.proofs.CyclePhases.{IsUnreleased, NoneIsReleased, begin_is, moves_phase, none_is_released}
 use Rattle.mk_laws.proofs.CyclePhases.{phase_behind}
+use Rattle.mk_laws.proofs.InvariantHistories.{histories_keep_the_invariant}
 use Rattle.mk_laws.proofs.ReadingsKeptPlaces.{StaysPut, keeps_cell, stays_put}
-use Rattle.mk_laws.proofs.ReadingsStands.{freed_cell}
+use Rattle.mk_laws.proofs.{Basics.known_world, Quarantines.snapshot_is_the_cycles, ReadingsStands.freed_cell}
 
 -- the events from a `begin` on, as a part of the list
 

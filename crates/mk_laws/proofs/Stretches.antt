@@ -1,8 +1,8 @@
 -- The parts of a list around the events of a cycle, and what stands along one.
-use Rattle.mk_laws.proofs.Vocabulary.{Bool, Config, Cycle, Event, IsHistory, List, Marking, Releasing, Step, [], ap}
+use Rattle.mk_laws.proofs.Vocabulary.{Bool, Config, Cycle, Event, IsHistory, List, Marking, Releasing, Step, ap}
 use Rattle.mk_laws.proofs.Vocabulary.{append-nil, append_assoc, before_close, before_release, earlier_part_is_history}
-use Rattle.mk_laws.proofs.Vocabulary.{false, list_any, list_any-append, or_from, or_parts, subst, sym, ◌++◌, ◌∙◌, ◌∷◌}
-use Rattle.mk_laws.proofs.Vocabulary.{◌≡◌}
+use Rattle.mk_laws.proofs.Vocabulary.{false, list_any, list_any-append, or_from, or_parts, subst, sym, [], ◌++◌, ◌∙◌}
+use Rattle.mk_laws.proofs.Vocabulary.{◌∷◌, ◌≡◌}
 use Rattle.mk_core.specs.Cycles.{before_end}
 
 -- none of a kind

@@ -4,7 +4,7 @@ use Rattle.mk_laws.proofs.Vocabulary.{Flight, Granted, GuardPremises, HasHeader,
 use Rattle.mk_laws.proofs.Vocabulary.{IsClaimedRun, IsHeaderOf, IsMarking, IsPlaced, IsPlotShown, IsSized, LayoutStands}
 use Rattle.mk_laws.proofs.Vocabulary.{Mapped, Mode, Moment, NoPlot, Object, OfLeafRun, OfRun, Option, Place}
 use Rattle.mk_laws.proofs.Vocabulary.{PlacedAllocation, Placing, Plot, PlotStands, Plotted, Run, RunPages, RunStands}
-use Rattle.mk_laws.proofs.Vocabulary.{Seat, ShowsPart, Some, Unplaced, Used, World, and_parts, ap, arith, at_rest}
+use Rattle.mk_laws.proofs.Vocabulary.{Seat, ShowsPart, Some, Unplaced, Used, World, ℕ, and_parts, ap, arith, at_rest}
 use Rattle.mk_laws.proofs.Vocabulary.{cases_eq, cases_lt, cells_under, claims_of, claims_on, claims_placed, false}
 use Rattle.mk_laws.proofs.Vocabulary.{false≢true, flight_of, get_or_past, ground_of, head_on, head_page}
 use Rattle.mk_laws.proofs.Vocabulary.{head_page_under, header_made, header_of, header_on, heads_run, inl, inr, is_large}
@@ -13,16 +13,14 @@ use Rattle.mk_laws.proofs.Vocabulary.{large_is_not_small, left, lt-ltb, made_sho
 use Rattle.mk_laws.proofs.Vocabulary.{object_made, object_now, object_placed, pages_made, pages_some, part_head}
 use Rattle.mk_laws.proofs.Vocabulary.{phase_of, place_claim, placed_at, placed_now, plot_of, refl, run_count}
 use Rattle.mk_laws.proofs.Vocabulary.{seat_exists, shows_on, slice_index, small_pages, subst, sym, true, true≢false}
-use Rattle.mk_laws.proofs.Vocabulary.{used_on, ℕ, ◌&&◌, ◌*◌, ◌+◌, ◌-◌, ◌/◌, ◌<◌, ◌==◌, ◌∙◌, ◌≡◌, ◌≢◌, ◌≤◌, ◌⊎◌}
+use Rattle.mk_laws.proofs.Vocabulary.{used_on, ◌&&◌, ◌*◌, ◌+◌, ◌-◌, ◌/◌, ◌<◌, ◌==◌, ◌∙◌, ◌≡◌, ◌≢◌, ◌≤◌, ◌⊎◌}
+use Rattle.mk_laws.proofs.BarePages.{Unreleasing, bare_page, plot_page, shown_there}
 use Rattle.mk_laws.proofs.Basics.{Known, KnownWorld, Laid, all_stand, claimed, first_header, holding_object}
 use Rattle.mk_laws.proofs.Basics.{known_world, made_sized, mapped_stays, new_has_turn, placed_claim, zero_where_none}
-use Rattle.mk_laws.proofs.Fits.{fits}
-use Rattle.mk_laws.proofs.WholeRuns.{find_bit}
-use Rattle.mk_laws.proofs.QuarantineByKind.{shown_at}
-use Rattle.mk_laws.proofs.LayoutReadings.{header_of_mode, claimed_head}
-use Rattle.mk_laws.specs.Kept.{PlaceIsBare, RunHasObject, LaterPagesAreKnown, StandsMapped}
+use Rattle.mk_laws.proofs.LayoutReadings.{claimed_head, header_of_mode}
+use Rattle.mk_laws.proofs.{Fits.fits, QuarantineByKind.shown_at, WholeRuns.find_bit}
+use Rattle.mk_laws.specs.Kept.{LaterPagesAreKnown, PlaceIsBare, RunHasObject, StandsMapped}
 use Rattle.mk_laws.specs.ZerosTell.{ZerosTellTheGuard}
-use Rattle.mk_laws.proofs.BarePages.{Unreleasing, shown_there, bare_page, plot_page}
 
 -- The pages of a run after its head
 

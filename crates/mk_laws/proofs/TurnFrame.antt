@@ -1,16 +1,14 @@
 -- What an event of another seat leaves to the turn's holder.
 use Rattle.mk_laws.proofs.Vocabulary.{Caller, Config, Flight, List, MarkerState, Moment, OnlyGrow, Seat, Steady}
-use Rattle.mk_laws.proofs.Vocabulary.{TurnIsLeft, Words, World, ap, arith, at_rest, cases_Bool, cases_eq, cases_lt}
+use Rattle.mk_laws.proofs.Vocabulary.{TurnIsLeft, Words, World, ℕ, ap, arith, at_rest, cases_Bool, cases_eq, cases_lt}
 use Rattle.mk_laws.proofs.Vocabulary.{false, flight_of, get_or-set_other, get_or-set_same, inl, inr, is_attending}
 use Rattle.mk_laws.proofs.Vocabulary.{length, marker_of, phase_of, refl, register_word, set_past, slice_index}
-use Rattle.mk_laws.proofs.Vocabulary.{slice_set, sym, true, ℕ, ◌%◌, ◌*◌, ◌+◌, ◌-◌, ◌<◌, ◌^◌, ◌∙◌, ◌≡◌, ◌≢◌, ◌≤◌}
-use Rattle.mk_laws.proofs.Basics.{Known, marker_set}
-use Rattle.mk_core.specs.Readings.{NoneAttends}
-use Rattle.mk_core.specs.Frames.{steady_of}
-use Rattle.mk_laws.proofs.Growth.{grows_same, grows_joined, grows_more}
-use Rattle.mk_laws.proofs.OthersMoves.{with_words_seats, CallWrite, CallLoads, SetsGate, SetsRegister, SetsDirty}
-use Rattle.mk_laws.proofs.OthersMoves.{MarkerWrite, MarkerLoads, ComesIn, GoesOut, AddsMarks, AddsBlacks, OthersMove}
-use Rattle.mk_laws.proofs.OthersMoves.{Waits, Calls, Marks}
+use Rattle.mk_laws.proofs.Vocabulary.{slice_set, sym, true, ◌%◌, ◌*◌, ◌+◌, ◌-◌, ◌<◌, ◌^◌, ◌∙◌, ◌≡◌, ◌≢◌, ◌≤◌}
+use Rattle.mk_core.specs.{Frames.steady_of, Readings.NoneAttends}
+use Rattle.mk_laws.proofs.OthersMoves.{AddsBlacks, AddsMarks, CallLoads, Calls, CallWrite, ComesIn, GoesOut}
+use Rattle.mk_laws.proofs.OthersMoves.{MarkerLoads, MarkerWrite, Marks, OthersMove, SetsDirty, SetsGate, SetsRegister}
+use Rattle.mk_laws.proofs.OthersMoves.{Waits, with_words_seats}
+use Rattle.mk_laws.proofs.{Basics.Known, Basics.marker_set, Growth.grows_joined, Growth.grows_more, Growth.grows_same}
 
 -- the phase
 up : (p : ℕ) → ((p + 8) % 2 ^ 64) % 8 ≡ p % 8

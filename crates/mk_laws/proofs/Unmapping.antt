@@ -2,15 +2,15 @@
 use Rattle.mk_laws.proofs.Vocabulary.{Among, AreApart, Bool, Claim, HasHeader, HasItsHead, Header, IsClaimed, IsLaidOn}
 use Rattle.mk_laws.proofs.Vocabulary.{IsOfOneCell, IsPlotShown, IsShown, Later, LayoutScene, List, Mode, NoPlot, Object}
 use Rattle.mk_laws.proofs.Vocabulary.{OfBlock, OfLater, OfLeafBlock, OfLeafRun, OfRun, Option, Page, Plot, PlotStands}
-use Rattle.mk_laws.proofs.Vocabulary.{Plotted, ShowsPart, Some, Unmapping, ap, arith, cases_eq, cells_made, cells_under}
-use Rattle.mk_laws.proofs.Vocabulary.{false, head_on, header_made, header_of, header_on, inl, inr, is_released_on}
-use Rattle.mk_laws.proofs.Vocabulary.{is_small_object, large_cells, length, length-set, made_shows, pages_made}
-use Rattle.mk_laws.proofs.Vocabulary.{pages_some, part_cells, part_head, refl, run_count, shown_later, shows_on, stands}
-use Rattle.mk_laws.proofs.Vocabulary.{sym, true, true≢false, unmapped_header, used_on, ℕ, ◌+◌, ◌-◌, ◌<◌, ◌∙◌, ◌≡◌, ◌≢◌}
-use Rattle.mk_laws.proofs.Vocabulary.{◌≤◌, ◌⊎◌}
+use Rattle.mk_laws.proofs.Vocabulary.{Plotted, ShowsPart, Some, Unmapping, ℕ, ap, arith, cases_eq, cells_made}
+use Rattle.mk_laws.proofs.Vocabulary.{cells_under, false, head_on, header_made, header_of, header_on, inl, inr}
+use Rattle.mk_laws.proofs.Vocabulary.{is_released_on, is_small_object, large_cells, length, length-set, made_shows}
+use Rattle.mk_laws.proofs.Vocabulary.{pages_made, pages_some, part_cells, part_head, refl, run_count, shown_later}
+use Rattle.mk_laws.proofs.Vocabulary.{shows_on, stands, sym, true, true≢false, unmapped_header, used_on, ◌+◌, ◌-◌, ◌<◌}
+use Rattle.mk_laws.proofs.Vocabulary.{◌∙◌, ◌≡◌, ◌≢◌, ◌≤◌, ◌⊎◌}
 use Rattle.mk_core.proofs.ObjectHeaders.{later_part, same_cells, unmapped_shows}
-use Rattle.mk_laws.proofs.Releasing.{headed_here, headed_other, headed_used, with_header_on, head_of_other}
-use Rattle.mk_laws.proofs.Releasing.{shown_beside}
+use Rattle.mk_laws.proofs.Releasing.{head_of_other, headed_here, headed_other, headed_used, shown_beside}
+use Rattle.mk_laws.proofs.Releasing.{with_header_on}
 use Rattle.mk_laws.proofs.LayoutReadings.{claimed, claimed_head, claimed_some, none_set, one_claim}
 
 -- How many pages the run has that a header of an object heads.

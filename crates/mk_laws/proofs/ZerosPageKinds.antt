@@ -1,34 +1,29 @@
 -- Steps on the pages: `head`, `used` and `quar`.
-use Rattle.mk_laws.proofs.Vocabulary.{Bool, Cell, Config, Drops, Empties, Flight, GivesBack, HasZeros, HeadStep, Header}
+use Rattle.mk_laws.proofs.Vocabulary.{Bool, Cell, Config, Drops, Empties, Flight, GivesBack, HasZeros, Header, HeadStep}
 use Rattle.mk_laws.proofs.Vocabulary.{IsFreedWord, IsReleasedWord, IsWithinLimits, IsWordOfMapped, ItCarves, ItDrops}
 use Rattle.mk_laws.proofs.Vocabulary.{ItEmpties, ItFrees, ItGivesBack, ItTakes, ItTakesSnapshot, ItUnmaps, Later, List}
 use Rattle.mk_laws.proofs.Vocabulary.{MayHold, None, OfFreedRun, OfMapped, OfReleased, Option, OthersAreZero, Page}
-use Rattle.mk_laws.proofs.Vocabulary.{PlacedAllocation, QuarantineStep, RunPages, Seat, ShowsPart, Some, Storage}
-use Rattle.mk_laws.proofs.Vocabulary.{UsedStep, Words, World, ZeroScene, address_of, all_below-at, and_from, and_parts}
-use Rattle.mk_laws.proofs.Vocabulary.{ap, arith, cases_Bool, cell_at, cell_freed, cell_of_allocation, cell_words}
-use Rattle.mk_laws.proofs.Vocabulary.{eqb-true, false, first_page_shows, first_word, flight_of, free_page, freed_cell}
-use Rattle.mk_laws.proofs.Vocabulary.{freed_leaves, freed_where_it_stands, frees, ground_of, has_bit, has_bit_without}
-use Rattle.mk_laws.proofs.Vocabulary.{head_page, head_page_under, header_at, header_in, header_of, header_on}
-use Rattle.mk_laws.proofs.Vocabulary.{if◌then◌else◌, inl, inr, is_mapped, is_phase, is_released_there, is_run_gone}
-use Rattle.mk_laws.proofs.Vocabulary.{is_run_unmapped, is_small_object, large_words, le-leb, leb-true, lt-ltb, ltb-true}
-use Rattle.mk_laws.proofs.Vocabulary.{map, nat_le, nat_lt, not, object_now, object_placed, or_else, page_at_address}
-use Rattle.mk_laws.proofs.Vocabulary.{pages_made, placed_at, pointed_cell, refl, run_begins, run_of_cell, set_by}
-use Rattle.mk_laws.proofs.Vocabulary.{shows_on, slice_index, slice_set, stands_in, storage_words, subst, sym, target}
-use Rattle.mk_laws.proofs.Vocabulary.{true, true≢false, typed_size, undecided_free, used_at, used_on, without}
-use Rattle.mk_laws.proofs.Vocabulary.{words_are_zero, words_under, zero_scene_with, ℕ, ◌%◌, ◌&&◌, ◌*◌, ◌+◌, ◌-◌, ◌/◌}
-use Rattle.mk_laws.proofs.Vocabulary.{◌<◌, ◌==◌, ◌^◌, ◌∙◌, ◌≡◌, ◌≢◌, ◌≤◌, ◌⊎◌}
+use Rattle.mk_laws.proofs.Vocabulary.{PlacedAllocation, QuarantineStep, RunPages, Seat, ShowsPart, Some, Step, Storage}
+use Rattle.mk_laws.proofs.Vocabulary.{UsedStep, Words, World, ZeroScene, ℕ, address_of, all_below-at, and_from}
+use Rattle.mk_laws.proofs.Vocabulary.{and_parts, ap, arith, cases_Bool, cell_at, cell_freed, cell_of_allocation}
+use Rattle.mk_laws.proofs.Vocabulary.{cell_words, eqb-true, false, first_page_shows, first_word, flight_of, free_page}
+use Rattle.mk_laws.proofs.Vocabulary.{freed_cell, freed_leaves, freed_where_it_stands, frees, ground_of, has_bit}
+use Rattle.mk_laws.proofs.Vocabulary.{has_bit_without, head_page, head_page_under, header_at, header_in, header_of}
+use Rattle.mk_laws.proofs.Vocabulary.{header_on, if◌then◌else◌, inl, inr, is_mapped, is_phase, is_released_there}
+use Rattle.mk_laws.proofs.Vocabulary.{is_run_gone, is_run_unmapped, is_small_object, large_words, le-leb, leb-true}
+use Rattle.mk_laws.proofs.Vocabulary.{lt-ltb, ltb-true, map, nat_le, nat_lt, not, object_now, object_placed, or_else}
+use Rattle.mk_laws.proofs.Vocabulary.{page_at_address, pages_made, placed_at, pointed_cell, refl, run_begins}
+use Rattle.mk_laws.proofs.Vocabulary.{run_of_cell, set_by, shows_on, slice_index, slice_set, stands_in, storage_words}
+use Rattle.mk_laws.proofs.Vocabulary.{subst, sym, target, true, true≢false, typed_size, undecided_free, used_at}
+use Rattle.mk_laws.proofs.Vocabulary.{used_on, without, words_are_zero, words_under, zero_scene_with, ◌%◌, ◌&&◌, ◌*◌}
+use Rattle.mk_laws.proofs.Vocabulary.{◌+◌, ◌-◌, ◌/◌, ◌<◌, ◌==◌, ◌^◌, ◌∙◌, ◌≡◌, ◌≢◌, ◌≤◌, ◌⊎◌}
+use Rattle.mk_core.proofs.ChangedAllocations.{freed_storage}
+use Rattle.mk_core.proofs.{PageSteps.wiped_cell, PointedPages.pointed_head, WordBits.rest_bits}
 use Rattle.mk_laws.proofs.Basics.{IsStanding, Laid, Meets, changed_words, free_has_turn, mapped_stays, none_on_its_way}
 use Rattle.mk_laws.proofs.Basics.{none_set}
-use Rattle.mk_core.proofs.PageSteps.{wiped_cell}
-use Rattle.mk_core.proofs.PointedPages.{pointed_head}
-use Rattle.mk_core.proofs.WordBits.{rest_bits}
+use Rattle.mk_laws.proofs.ChangedScenes.{Before, early_words, here, standing}
+use Rattle.mk_laws.proofs.{Freed.run_large, Freed.standing_cell, LayoutByKind.off_at, MappedWords.word_of_changed}
 use Rattle.mk_laws.specs.Zeros.{first_word_on}
-use Rattle.mk_core.proofs.ChangedAllocations.{freed_storage}
-use Rattle.mk_laws.proofs.Freed.{run_large, standing_cell}
-use Rattle.mk_laws.proofs.MappedWords.{word_of_changed}
-use Rattle.mk_core.specs.declared.events.Step.TheVariants as step
-use Rattle.mk_laws.proofs.LayoutByKind.{off_at}
-use Rattle.mk_laws.proofs.ChangedScenes.{Before, here, standing, early_words}
 
 -- Words of released cells, after the steps of releasing.
 
@@ -269,8 +264,8 @@ first_there : (x y : Option RunPages) (n : ℕ) → IsFreedWord x n → IsFreedW
 first_there None y n f = let e : None ≡ Some f.run = f.there in cc
 first_there (Some run) y n f = f
 
-quar_early : (c : Config) (w : World) (seat : Seat) (p v : ℕ) → Before c w seat (step.Quar p v)
-    → Meets c w.now seat (step.Quar p v) → is_phase w.now.words 4 ≡ false → HasZeros c w
+quar_early : (c : Config) (w : World) (seat : Seat) (p v : ℕ) → Before c w seat (Step.Quar p v)
+    → Meets c w.now seat (Step.Quar p v) → is_phase w.now.words 4 ≡ false → HasZeros c w
     → (cell : Option Cell) → cell_freed c.pages w.now.words (flight_of w.now seat) p v ≡ cell
     → OthersAreZero c (quarantined (is_phase w.now.words 4) w p v cell)
 quar_early c w seat p v b h off z None is =
@@ -296,7 +291,7 @@ quar_early c w seat p v b h off z (Some cell) is =
         let laid : Laid c (object_now c w.now) false w (ground_of w) =
         subst (λ four. Laid c (object_now c w.now) four w (ground_of w)) off b.others.laid_out in
         let u = mapped_stays c (placed_at w.allocations m.number) m.mapped in
-        elim (word_of_freed c w cell n b.limits m (standing c w seat (step.Quar p v) m.number b u)
+        elim (word_of_freed c w cell n b.limits m (standing c w seat (Step.Quar p v) m.number b u)
         (standing_cell c (object_now c w.now) w cell b.lengths.pages (b.others.target cell frees.at) laid m.number u)) [
           | inl stays ↦ OfMapped stays
           | inr freed ↦ OfFreedRun (first_there (run_of_cell w.now.words (Some cell)) w.now.seats.holding.freed n freed)
@@ -309,8 +304,8 @@ quar_late : (c : Config) (w : World) (p v : ℕ)
 quar_late c w p v keeps z = changed_words c _ _ z (λ n ne. ne)
     (λ n m. OfMapped (word_where_none_is_freed c w n m)) (λ n some r. OfReleased (keeps n r)) (λ n some f. OfFreedRun f)
 
-pub quar_kind : (c : Config) (w : World) (seat : Seat) (p v : ℕ) → Before c w seat (step.Quar p v)
-    → Meets c w.now seat (step.Quar p v) → HasZeros c w → QuarantineStep c w.now (flight_of w.now seat) p v
+pub quar_kind : (c : Config) (w : World) (seat : Seat) (p v : ℕ) → Before c w seat (Step.Quar p v)
+    → Meets c w.now seat (Step.Quar p v) → HasZeros c w → QuarantineStep c w.now (flight_of w.now seat) p v
     → OthersAreZero c (quarantined (is_phase w.now.words 4) w p v
     (cell_freed c.pages w.now.words (flight_of w.now seat) p v))
 quar_kind c w seat p v b h z (ItFrees off x) = quar_early c w seat p v b h off z _ refl
