@@ -13,8 +13,7 @@ pub is_there : (xs : List PlacedAllocation) (i : ℕ) → (placed_at xs i).relea
 is_there xs i u = elim (cases_lt i (length xs)) [
   | inl lt ↦ lt
   | inr past ↦
-      let none : placed_at xs i ≡ never_granted = get_or_past xs i never_granted past in
-      absurd (true≢false (sym (rw none) ∙ u))
+      absurd (true≢false (sym (rw (get_or_past xs i never_granted past)) ∙ u))
 ]
 
 -- what a change of each allocation is
@@ -75,8 +74,7 @@ came xs _ x i (Changes g ch) u =
     })
 came xs _ x i (Grants a grant) u = elim (cases_lt i (length xs)) [
   | inl lt ↦
-      let at = earlier_at xs a i lt in
-      Stayed (rw (← at) u) (of_one_same _ _ at)
+      Stayed (rw (← (earlier_at xs a i lt)) u) (of_one_same _ _ (earlier_at xs a i lt))
   | inr past ↦
       let lt = is_there (xs ++ a ∷ []) i u in
       let count = length-append xs (a ∷ []) in
@@ -94,9 +92,8 @@ pub goes_on : (xs ys : List PlacedAllocation) (x : Step) (i : ℕ) → Allocatio
 goes_on xs _ x i Leaves lt = record { there = lt; same = record { base = refl; ty = refl }; stays = λ other u. u }
 goes_on xs _ x i (Changes g ch) lt =
     let at = changed_at g xs i ch.places.none in
-    let count = length-map xs g in
     record {
-      there = omega arith;
+      there = omega (arith, length-map xs g);
       same = record {
         base = ap (λ (a : PlacedAllocation). a.base) at ∙ ch.places.base _;
         ty = ap (λ (a : PlacedAllocation). a.ty) at ∙ ch.places.ty _;

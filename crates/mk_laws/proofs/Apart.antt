@@ -49,8 +49,7 @@ on_its_pages c a p sized b h =
     let parts = stands_parts p (storage_of c a) h in
     let low : a.base / 64 ≤ p = parts.0 in
     let up : p ≤ (a.base + storage_words c a - 1) / 64 = parts.1 in
-    let high : a.base + storage_words c a ≤ 64 * (a.base / 64 + pages_made (object_placed c a)) =
-    ends_on_pages (object_placed c a) a.base sized b in
+    let high = ends_on_pages (object_placed c a) a.base sized b in
     let some : 1 ≤ storage_words c a = (words_within (object_placed c a) sized).0 in
     (low, omega arith)
 
@@ -125,10 +124,8 @@ module _ (c : Config) (w : Words) (xs : List PlacedAllocation) (i j : ℕ) (r : 
   far none =
       let pa = pages_some (object_placed c a) sa.sized in
       let pb = pages_some (object_placed c b) sb.sized in
-      let ha : a.base + storage_words c a ≤ 64 * (a.base / 64 + pages_made (object_placed c a)) =
-      ends_on_pages (object_placed c a) a.base sa.sized ba in
-      let hb : b.base + storage_words c b ≤ 64 * (b.base / 64 + pages_made (object_placed c b)) =
-      ends_on_pages (object_placed c b) b.base sb.sized bb in
+      let ha = ends_on_pages (object_placed c a) a.base sa.sized ba in
+      let hb = ends_on_pages (object_placed c b) b.base sb.sized bb in
       record {
         apart = elim (cases_lt (b.base / 64) (a.base / 64 + pages_made (object_placed c a))) [
           | inr ge ↦ inl (omega arith)
@@ -172,12 +169,10 @@ module _ (c : Config) (w : Words) (xs : List PlacedAllocation) (i j : ℕ) (r : 
   by : (x : Bool) → is_small_object (object_placed c a) ≡ x → (y : Bool) → is_small_object (object_placed c b) ≡ y
       → LieApart (storage_of c a) (storage_of c b)
   by false l y is = far (λ d e ld le at.
-      let same = shares_run (quiet_scene c w xs) (claim_of c None a) (claim_of c None b) d e r.laid
-      (claim_among c None xs i u) (claim_among c None xs j v) l ld le (sym at) in
+      let same = shares_run _ _ _ d e r.laid (claim_among c None xs i u) (claim_among c None xs j v) l ld le (sym at) in
       other (ap (λ (z : Claim). z.page) (sym same), ap (λ (z : Claim). z.index) (sym same)))
   by true s false l = far (λ d e ld le at.
-      let same = shares_run (quiet_scene c w xs) (claim_of c None b) (claim_of c None a) e d r.laid
-      (claim_among c None xs j v) (claim_among c None xs i u) l le ld at in
+      let same = shares_run _ _ _ e d r.laid (claim_among c None xs j v) (claim_among c None xs i u) l le ld at in
       other (ap (λ (z : Claim). z.page) same, ap (λ (z : Claim). z.index) same))
   by true s true s2 = elim (cases_eq (a.base / 64) (b.base / 64)) [
     | inl page ↦ near s s2 page
@@ -213,8 +208,7 @@ lie_in_pairs c (x ∷ xs) apart lie =
         → j < length (unreleased_storage c xs) → LieApart (storage_of c x) (get_or (unreleased_storage c xs) j d)
     beside u ap2 j d lj =
         let h = storage_is_of c xs (get_or _ j d) (Contains-get_or (unreleased_storage c xs) j d lj) in
-        rw h.storage (lie 0 (suc h.number) u h.unreleased
-        (λ same. ap2.0 _ (claim_among c None xs h.number h.unreleased) same))
+        rw h.storage (lie 0 (suc h.number) u h.unreleased (ap2.0 _ (claim_among c None xs h.number h.unreleased)))
 
     cons : x.released ≡ false → AreApart (claim_of c None x ∷ claims_of c None xs)
         → LieInPairs (unreleased_storage c xs) → LieInPairs (storage_of c x ∷ unreleased_storage c xs)

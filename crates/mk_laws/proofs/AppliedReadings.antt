@@ -127,8 +127,7 @@ begin_releases_none = no_others_release one_page freed_after_begin freed_is_hist
 -- Each `release` has its cycle.
 pub release_has_its_cycle : (r : Releasing freed_after_begin) × (before_release r ≡ take 32 freed_after_begin)
 unfolding by c0 host freed_after_begin
-release_has_its_cycle = releases_are_of_cycles one_page freed_after_begin freed_is_history (take 32 freed_after_begin)
-    (drop 33 freed_after_begin) Seat.Host refl
+release_has_its_cycle = releases_are_of_cycles one_page freed_after_begin freed_is_history _ _ Seat.Host refl
 
 -- Words that are 0: those of the cell that was given back,
 

@@ -26,9 +26,8 @@ others_held c m seat h j lt ne = elim (or_cases _ _
 pub other_caller : (c : Config) (seat : Seat) (j : ℕ) → (nat_lt j c.callers && not (is_number_of seat j)) ≡ true
     → (j < c.callers) × (holder_number c seat ≢ j)
 other_caller c seat j h =
-    let p = and_parts _ _ h in
-    let lt = ltb-true j c.callers p.0 in
-    (lt, apart c seat j lt (not-true _ p.1))
+    let lt = ltb-true j c.callers (and_parts _ _ h).0 in
+    (lt, apart c seat j lt (not-true _ (and_parts _ _ h).1))
   where
     apart : (c : Config) (seat : Seat) (j : ℕ) → j < c.callers → is_number_of seat j ≡ false → holder_number c seat ≢ j
     apart c (Caller k) j lt h = eqb-false k j h

@@ -57,7 +57,7 @@ pub stored_words : (c : Config) (s : ZeroScene) (j v : ℕ) → IsWordOfMapped c
     → OthersAreZero c (record s { heap = slice_set s.heap j v })
 stored_words c s j v m z n some =
     set_by (λ x. x ≢ 0 → MayHold c (record s { heap = slice_set s.heap j v }) n) s.heap j n v 0
-    (λ e ne. OfMapped (subst (λ i. IsWordOfMapped c s.allocations i) (sym e) m)) (λ ne. moved (z n ne)) some
+    (λ e ne. OfMapped (subst (IsWordOfMapped c s.allocations) (sym e) m)) (λ ne. moved (z n ne)) some
   where
     moved : MayHold c s n → MayHold c (record s { heap = slice_set s.heap j v }) n
     moved (OfMapped x) = OfMapped x

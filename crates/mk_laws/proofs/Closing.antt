@@ -31,9 +31,8 @@ none_owes c m seat j known h at = elim (cases_lt j c.callers) [
         (not_astray c m known.orderly j lt) in
         let stands : standing (flight_of m (Caller j)) ≡ InCall
         = ap (λ (s : Stage). standing_at s (flight_of m (Caller j)).op) at ∙ calls_stand Stage.Dirty _ refl fine in
-        let one = (shows_at c (view_of m) j InCall known.orderly lt stands).0 in
         let two = others_held c m seat h.gates j lt ne in
-        absurd (omega arith)
+        absurd (omega (arith, (shows_at c (view_of m) j InCall known.orderly lt stands).0))
   ]
 ]
   where
@@ -52,18 +51,15 @@ record ClosedPage (w : Words) (p : ℕ) : Type 0 where
   clean : slice_index w.dirty p ≡ 0
 
 closed_page : (w : Words) (p : ℕ) → has_closed_page w p ≡ true → ClosedPage w p
-closed_page w p h =
-    let parts = and_parts _ _ h in
-    record { black = eqb-true _ 0 parts.0; clean = eqb-true _ 0 parts.1 }
+closed_page w p h = record { black = eqb-true _ 0 (and_parts _ _ h).0; clean = eqb-true _ 0 (and_parts _ _ h).1 }
 
 black_bit : (w : Words) (p k : ℕ) → ClosedPage w p → k < cells_under (header_in w p)
     → has_bit (slice_index w.marks p) k ≡ true → has_bit (slice_index w.blacks p) k ≡ true
 black_bit w p k h lt is =
     fewer_bits (bit_and _ (cell_bits w p)) _ k (without_none (bit_and _ (cell_bits w p)) _ h.black)
-    (eq-eqb (bit_at (bit_and _ (cell_bits w p)) k) 1 (bit_at_and _ (cell_bits w p) k
-    ∙ (let one = eqb-true (bit_at _ k) 1 is in
-    let ones = bit_at_ones _ k lt in
-    let both : min (bit_at (slice_index w.marks p) k) (bit_at (cell_bits w p) k) ≡ 1 = omega arith in
+    (eq-eqb (bit_at (bit_and _ (cell_bits w p)) k) 1 (bit_at_and _ (cell_bits w p) k ∙ (let ones = bit_at_ones _ k lt in
+    let both : min (bit_at (slice_index w.marks p) k) (bit_at (cell_bits w p) k) ≡ 1 =
+    omega (arith, eqb-true (bit_at _ k) 1 is) in
     both)))
 
 pub closed : (c : Config) (m : Moment) (seat : Seat) → Known c m → AreOfPages c.pages m.words

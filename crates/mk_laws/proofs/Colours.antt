@@ -123,14 +123,10 @@ quiet_ends m k early a (inr none) = let f : true ≡ false = sym a ∙ none_at m
 pub attending_grows : (c : Config) (m : Moment) (seat : Seat) (y : Colours) (k : ℕ) → (phase_of m.words ≡ 1)
     ⊎ (phase_of m.words ≡ 2) → is_attending (marker_of m k).presence ≡ true → ColourStep c m seat y
     → OnlyGrow m.words.marks y.marks × OnlyGrow m.words.blacks y.blacks
-attending_grows c m seat y k early a (AddsMarks p bits e h) =
-    (grows_more m.words.marks p bits, grows_same m.words.blacks)
-attending_grows c m seat y k early a (MarksSeen p bits s e f) =
-    (grows_more m.words.marks p bits, grows_same m.words.blacks)
-attending_grows c m seat y k early a (Blackens p bits e h) =
-    (grows_same m.words.marks, grows_more m.words.blacks p bits)
-attending_grows c m seat y k early a (BlackensScanned p bits s e f) =
-    (grows_same m.words.marks, grows_more m.words.blacks p bits)
+attending_grows c m seat y k early a (AddsMarks p bits e h) = (grows_more _ p bits, grows_same _)
+attending_grows c m seat y k early a (MarksSeen p bits s e f) = (grows_more _ p bits, grows_same _)
+attending_grows c m seat y k early a (Blackens p bits e h) = (grows_same _, grows_more _ p bits)
+attending_grows c m seat y k early a (BlackensScanned p bits s e f) = (grows_same _, grows_more _ p bits)
 attending_grows c m seat y k early a (ClearsMarks p z) = absurd (quiet_ends m k early a (inl z))
 attending_grows c m seat y k early a (Whitens p q) = absurd (quiet_ends m k early a q)
 attending_grows c m seat y k early a _ = (grows_same m.words.marks, grows_same m.words.blacks)

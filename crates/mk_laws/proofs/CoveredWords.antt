@@ -8,7 +8,7 @@ use Rattle.mk_laws.specs.Kept.{LaterPagesAreKnown}
 -- a page that is its own head
 own_head : (w : Words) (p : ℕ) (x : Option Header) → header_in w p ≡ x → head_page_under x p ≡ p → (n : ℕ) → n / 64 ≡ p
     → head_page w (n / 64) ≡ p
-own_head w p x is head n at = ap (λ q. head_page w q) at ∙ rw is head
+own_head w p x is head n at = ap (head_page w) at ∙ rw is head
 
 pub covered_word : (w : Words) (p k i : ℕ) → LaterPagesAreKnown w → k < cells_under (header_in w p)
     → has_no_pointers (header_in w p) ≡ false → i < words_under (header_in w p)

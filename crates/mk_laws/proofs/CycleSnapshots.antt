@@ -32,8 +32,7 @@ pushed_new : (xs : List PlacedAllocation) (a : PlacedAllocation) (i : ℕ)
 pushed_new [] a zero = inr (refl, omega arith)
 pushed_new [] a (suc i) = inl refl
 pushed_new (x ∷ xs) a zero = inl refl
-pushed_new (x ∷ xs) a (suc i) =
-    elim (pushed_new xs a i) [ inl e ↦ inl e | inr e ↦ inr (e.0, let le = e.1 in omega arith) ]
+pushed_new (x ∷ xs) a (suc i) = elim (pushed_new xs a i) [ inl e ↦ inl e | inr e ↦ inr (e.0, omega (arith, e.1)) ]
 
 -- `quar` (a): what stands in the cell wasn't freed
 freed_flags : (c : Config) (w : World) (cell : Cell) (n i : ℕ) → FreesHere c w cell n → IsQuarantined c w

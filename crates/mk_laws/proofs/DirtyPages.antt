@@ -168,8 +168,7 @@ none_owes : (c : Config) (m : Moment) → Known c m → phase_of m.words ≡ 3 �
     → (flight_of m (Caller k)).stage ≡ Stage.Dirty → ⊥
 none_owes c m known three k at = elim (cases_lt k c.callers) [
   | inr past ↦
-      let rest : flight_of m (Caller k) ≡ at_rest =
-      get_or_past m.seats.flights k at_rest (omega (arith, known.orderly.flights)) in
+      let rest : flight_of m (Caller k) ≡ at_rest = get_or_past _ k at_rest (omega (arith, known.orderly.flights)) in
       let bad : Stage.Idle ≡ Stage.Dirty = sym (ap (λ (f : Flight). f.stage) rest) ∙ at in
       true≢false (let y : true ≡ false = cc in y)
   | inl lt ↦
@@ -178,9 +177,7 @@ none_owes c m known three k at = elim (cases_lt k c.callers) [
       let stands : standing (flight_of m (Caller k)) ≡ InCall
       = ap (λ (s : Stage). standing_at s (flight_of m (Caller k)).op) at ∙ calls_stand Stage.Dirty _ refl fine in
       let shows = shows_at c (view_of m) k InCall known.orderly lt stands in
-      let one = shows.0 in
-      let two = (protocol_of c m known).stopped three k lt shows.1 in
-      absurd (omega arith)
+      absurd (omega (arith, shows.0, (protocol_of c m known).stopped three k lt shows.1))
 ]
 
 -- A page that is dirty after a step was so before, or the step is its dirty mark.
@@ -194,7 +191,7 @@ dirty_since c m seat (Step.Tally n v) p some =
 dirty_since c m seat (Step.Undirty q) p some = inl (λ z. some (elim (cases_eq p q) [
   | inr ne ↦ get_or-set_other m.words.dirty q p 0 0 ne ∙ z
   | inl e ↦ elim (cases_lt q (length m.words.dirty)) [
-    | inl lt ↦ ap (λ i. slice_index (slice_set m.words.dirty q 0) i) e ∙ get_or-set_same m.words.dirty q 0 0 lt
+    | inl lt ↦ ap (slice_index (slice_set m.words.dirty q 0)) e ∙ get_or-set_same m.words.dirty q 0 0 lt
     | inr past ↦ ap (λ (ys : List ℕ). slice_index ys p) (set_past m.words.dirty q 0 past) ∙ z
   ]
 ]))
@@ -226,7 +223,7 @@ mark_since c m (Caller j) x known h k at = elim (cases_eq k j) [
       ∙ get_or-set_same m.seats.flights j flight at_rest (omega (arith, known.orderly.flights)) in
       elim (owes_since c m _ _ x h.order (ap (λ (f : Flight). f.stage) (sym here) ∙ at)) [
         | inl same ↦ inl (here ∙ same ∙ ap (λ i. flight_of m (Caller i)) (sym e))
-        | inr new ↦ inr (new.0, sym (ap (λ (f : Flight). page_met f) here ∙ new.1))
+        | inr new ↦ inr (new.0, sym (ap page_met here ∙ new.1))
       ]
 ]
   where
@@ -240,10 +237,8 @@ was_clean : (c : Config) (w : World) (seat : Seat) (x : Step) → KnownWorld c w
 was_clean c w seat Step.Close known h d three p = elim (cases_lt p c.pages) [
   | inr past ↦ get_or_past w.now.words.dirty p 0 (omega (arith, known.lengths.dirty))
   | inl lt ↦
-      let roots = and_parts _ _ h.holder in
-      let pages = and_parts _ _ roots.0 in
-      let page = and_parts _ (slice_index w.now.words.dirty p == 0) (all_below-at c.pages p _ pages.1 lt) in
-      eqb-true _ 0 page.1
+      let pages = and_parts _ _ (and_parts _ _ h.holder).0 in
+      eqb-true _ 0 (and_parts _ (slice_index w.now.words.dirty p == 0) (all_below-at c.pages p _ pages.1 lt)).1
 ]
 was_clean c w seat Step.Begin known h d three p = absurd (omega arith)
 was_clean c w seat Step.Want known h d three p = absurd (omega arith)
@@ -299,14 +294,14 @@ module _ (c : Config) (w : World) (seat : Seat) (x : Step) (known : KnownWorld c
       record {
         dirty = λ p some. allocation_stays c w seat x p out (elim (dirty_since c w.now seat x p some) [
           | inl was ↦ d.dirty p was
-          | inr marks ↦ subst (λ q. HasAllocation c w q) marks.1 (mark_has marks.0)
+          | inr marks ↦ subst (HasAllocation c w) marks.1 (mark_has marks.0)
         ]);
         owed = λ k at. allocation_stays c w seat x _ out (elim (mark_since c w.now seat x known.now h k at) [
           | inl same ↦ subst (λ (f : Flight). HasAllocation c w (page_met f)) (sym same)
               (d.owed k (ap (λ (f : Flight). f.stage) (sym same) ∙ at))
           | inr new ↦
               let m = stored new.0 in
-              subst (λ q. HasAllocation c w q) new.1 (record {
+              subst (HasAllocation c w) new.1 (record {
                 number = m.number;
                 unreleased = mapped_stays c (placed_at w.allocations m.number) m.mapped;
                 word = word_met (flight_of w.now seat);

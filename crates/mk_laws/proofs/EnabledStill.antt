@@ -96,8 +96,7 @@ module _ (c : Config) (w : World) (runs : RunsAreWhole c w) where
       by d e is' = elim (cases_eq d 0) [
         | inl first ↦
             let u = under_at c.pages w.now.words (64 * p + i) p y (omega arith) is' in
-            let same : Some h ≡ Some u.0 = sym shown ∙ u.1 in
-            own_run u.0 p _ y (ap heads_run (sym same) ∙ r) u.2
+            own_run u.0 p _ y (ap heads_run (sym (sym shown ∙ u.1)) ∙ r) u.2
         | inr behind ↦
             let headed : heads_run (header_in w.now.words p) ≡ true = ap heads_run shown ∙ r in
             let count : run_count (header_in w.now.words p) ≡ run_count (Some h) = ap run_count shown in
@@ -223,9 +222,8 @@ host_stays_out : (c : Config) (es more : List Event) → IsHistory c (es ++ more
 host_stays_out c es more h others = along_others c (Host ∷ []) (λ xs ys. (left c xs).now.words.turn ≢ 1 + c.callers
     → (left c ys).now.words.turn ≢ 1 + c.callers) (λ xs out. out) (λ xs ys zs f g out. g (f out))
     (λ xs e whole other out.
-    let last = comes_last c xs e whole in
-    rw last.leaves (turn_after c (left c xs).now e.seat
-    e.step last.meets (other_seat Host e.seat other) out)) es more h others
+    rw (comes_last c xs e whole).leaves (turn_after c (left c xs).now e.seat
+    e.step (comes_last c xs e whole).meets (other_seat Host e.seat other) out)) es more h others
 
 -- the order of steps
 order_on : (c : Config) (m n : Moment) (s : Seat) (x : Step) → flight_of n s ≡ flight_of m s
@@ -252,10 +250,8 @@ module _ (c : Config) (es more : List Event) (e : Event) (h : IsHistory c (es ++
   host_same is = elim (cases_Bool (host_has_turn c w.now)) [
     | inl on ↦
         let turn = rw is at left_to in
-        eq-eqb v.now.words.turn (1 + c.callers) (turn.own.holding (eqb-true w.now.words.turn (1 + c.callers) on)).0
-        ∙ sym on
-    | inr off ↦ ne_eqb v.now.words.turn (1 + c.callers) (host_stays_out c es more h (rw is at others)
-        (eqb-false w.now.words.turn (1 + c.callers) off)) ∙ sym off
+        eq-eqb _ _ (turn.own.holding (eqb-true _ _ on)).0 ∙ sym on
+    | inr off ↦ ne_eqb _ _ (host_stays_out c es more h (rw is at others) (eqb-false _ _ off)) ∙ sym off
   ]
 
   -- what is asked of the turn's holder alone

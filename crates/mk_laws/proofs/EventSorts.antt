@@ -50,11 +50,10 @@ module _ (c : Config) (w : World) (n : NeverState) (known : KnownWorld c w) (mir
       → points_well c.pages w.now.words (image_of (bases_of w.allocations) v) ≡ true → IsSafe cut v
   value_cut (Ptr a t o) sound is well =
       let u = ready.set.unreleased a is in
-      let word = pointed_word c.globals safe _ n ready a t o sound in
       let fits = words_fit c w n known mirrors a (exists_placed w.allocations a u) in
       let cell = ap (λ b. pointed_cell c.pages w.now.words.pages (address_of (b + o))) (base_at w.allocations a)
-      ∙ st.cell a o u (omega arith) in
-      and_from (safe a) _ is (ap (λ (x : Option Cell). is_none_or (is_marked w.now.words) x) (sym cell) ∙ well)
+      ∙ st.cell a o u (omega (arith, pointed_word c.globals safe _ n ready a t o sound)) in
+      and_from (safe a) _ is (ap (is_none_or (is_marked w.now.words)) (sym cell) ∙ well)
   value_cut _ sound is well = tt
 
   -- a root that is the image of a value
@@ -65,8 +64,7 @@ module _ (c : Config) (w : World) (n : NeverState) (known : KnownWorld c w) (mir
   some_words : (a : ℕ) → (placed a).released ≡ false → 0 < storage_words c (placed a)
   some_words a u =
       let lt = exists_placed w.allocations a u in
-      let holds = storage_holds c (placed a) known.limits (type_is c w n known mirrors a lt) in
-      holds.1.0
+      (storage_holds c (placed a) known.limits (type_is c w n known mirrors a lt)).1.0
 
   base_cell_is : (a : ℕ) → (placed a).released ≡ false
       → pointed_cell c.pages w.now.words.pages (address_of (placed a).base) ≡ Some (cell_of_allocation c (placed a))

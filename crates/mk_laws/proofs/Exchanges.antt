@@ -65,7 +65,6 @@ histories_compare c es h others before behind k q i p r whole is =
     let mirrors = histories_mirror c before earlier (say_along c before (cas_of k ∷ behind) say) in
     let on = ((enabled_in_parts c before (cas_of k ∷ behind)).0 parts.enabled).1.0 in
     let admitted = ((admitted_in_parts c before (cas_of k ∷ behind)).0 parts.admitted).1 in
-    let compares = compares_values c (left c before) _ k q i p r
-    (known_world c before earlier.within_limits earlier.enabled)
+    let compares = compares_values c _ _ k q i p r (known_world c before earlier.within_limits earlier.enabled)
     (say before (cas_of k ∷ behind) refl) mirrors (enabled_meets c _ (cas_of k) on) is (admitted.0, tt) in
     record { number = compares.number; place = compares.place; target = compares.target; answered = compares.answered }

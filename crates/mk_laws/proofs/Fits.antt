@@ -71,8 +71,7 @@ fits limit pages o place sized at = elim (cases_Bool (is_small_object o)) [ inl 
     small s =
         let class_is = class_for_small o.words sized.0 (leb-true o.words 32 s) in
         let is = cell_place_is limit o.words (class_made o) o.leaf pages place class_is at in
-        let page : slice_index_or pages place.page free_page ≡ is.page =
-        get_or_from_slice_get pages place.page is.page free_page is.at in
+        let page = get_or_from_slice_get pages place.page is.page free_page is.at in
         let one = small_pages o s in
         let inside = slice_get_within pages place.page is.page is.at in
         elim (taken_from is.page.header is.page.used (class_made o) place.index o.leaf _ refl is.may_take) [

@@ -107,8 +107,7 @@ made_bit o k lt = elim (cases_Bool (is_small_object o)) [
       let cells = small_cells o small in
       ap (λ n. has_bit n k) (cond-true _ _ 1 small) ∙ rw (bit_at_ones (cells_of (class_made o)) k (omega arith))
   | inr large ↦
-      let one = large_cells o large in
-      let zero : k ≡ 0 = omega arith in
+      let zero : k ≡ 0 = omega (arith, large_cells o large) in
       ap (λ n. has_bit n k) (cond-false _ _ 1 large) ∙ rw zero
 ]
 
@@ -134,8 +133,7 @@ made_cell pages o first distance value x sized lt on is = (page, index)
     small_index small =
         let one = small_pages o small in
         let zero : distance ≡ 0 = omega arith in
-        let cells : cells_under (header_of (header_made o distance)) ≡ cells_made o
-        = part_cells o (header_of (header_made o distance))
+        let cells = part_cells o (header_of (header_made o distance))
         (subst (λ d. ShowsPart o d (header_of (header_made o distance))) zero part) in
         let shown : cells_under (Some under.0) ≡ cells_made o = rw (← under.1) cells in
         let class = small_cells o small in
@@ -157,10 +155,9 @@ made_cell pages o first distance value x sized lt on is = (page, index)
     index = elim (cases_Bool (is_small_object o)) [
       | inl small ↦ small_index small
       | inr large ↦
-          let one = large_cells o large in
           let zero = run_index (is_heap_address pages value)
           (sym (run_cell_at pages (header_made o distance) value distance o part large) ∙ is) in
-          omega arith
+          omega (arith, large_cells o large)
     ]
 
 first_marked : (w : Words) (o : Object) (place : Place) (k : ℕ) → is_phase w 1 ≡ true → is_marked_first w o place ≡ true
@@ -234,8 +231,7 @@ carves_find c w o found p n sized one bare k = Carved free (λ v x on is.
           let product : j * words_under (header_of n) ≡ j * words_made o = ap (λ a. j * a) shown in
           let first : 64 * p + j * words_under (header_of n) + i ≡ 64 * k.place.page + (j * words_made o + i) =
           omega arith in
-          ap (λ m. slice_index w.heap m) first
-          ∙ b.words (subst (λ q. header_at w q ≡ 0) at free) (j * words_made o + i) within
+          ap (slice_index w.heap) first ∙ b.words (subst (λ q. header_at w q ≡ 0) at free) (j * words_made o + i) within
     ]
 
 -- The object of an undecided New has 1 to 4,096 words.
@@ -245,9 +241,8 @@ new_sized c f limits operands new = by f.op (undecided_new f new) operands
   where
     by : (o : Op) → NewAtTurn f.stage o → has_operands c o ≡ true → IsSized (object_made c o)
     by o at operands =
-        let typed = (and_parts _ (has_type c o) operands).1 in
         subst (λ (x : Op). IsSized (object_made c x)) (sym at.op) (limits.types at.ty []
-        (ltb-true at.ty _ (subst (λ (x : Op). has_type c x ≡ true) at.op typed))).0
+        (ltb-true at.ty _ (subst (λ (x : Op). has_type c x ≡ true) at.op (and_parts _ (has_type c o) operands).1))).0
 
 -- While a cycle marks, a `head` comes before the stop is wanted.
 marking_phase : (n : ℕ) → ((n == 0) || (n == 1) || (n == 4)) ≡ true → (n ≡ 1) ⊎ (n ≡ 2) → n ≡ 1

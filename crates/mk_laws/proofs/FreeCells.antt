@@ -84,13 +84,10 @@ is_free_or_later (inr free) = inr free.0
 run_begins_there : (w : Words) (o : Object) (base n p d : ℕ) → OnPage w o base n → n / 64 ≡ p + d → 1 ≤ d
     → ((mapped : Bool) × (header_in w (p + d) ≡ Some (Later d mapped))) ⊎ (header_at w (p + d) ≡ 0) → base ≡ 64 * p
 run_begins_there w o base n p d x at some (inr free) =
-    absurd (part_not_free o x.distance _ x.part (ap (λ q. header_at w q) at ∙ free))
+    absurd (part_not_free o x.distance _ x.part (ap (header_at w) at ∙ free))
 run_begins_there w o base n p d x at some (inl later) =
-    let is = shown_later o x.distance d later.0 _ x.part (ap (λ q. header_in w q) at ∙ later.1) in
-    let same = is.0 in
-    let page = x.page in
-    let aligned = (run_begins o base is.2 x.begins).1 in
-    omega arith
+    let is = shown_later o x.distance d later.0 _ x.part (ap (header_in w) at ∙ later.1) in
+    omega (arith, is.0, x.page, (run_begins o base is.2 x.begins).1)
 
 -- A small object's words end with its page's cells.
 small_within : (o : Object) (base n : ℕ) (b : BeginsAtCell o base) → is_small_object o ≡ true → n / 64 ≡ base / 64
@@ -99,10 +96,8 @@ small_within o base n b small at to =
     let known : b.index < cells_of (class_made o) = subst (λ k. b.index < k) (small_cells o small) b.known in
     let words = small_words o small in
     let size : b.index * words_made o ≡ b.index * class_words_of (class_made o) = ap (λ k. b.index * k) words in
-    let base_is = base_on_page o base b in
     let size_of : ℕ = class_words_of (class_made o) in
-    let most = mul-le (suc b.index) size_of _ size_of known (le_refl size_of) in
-    omega arith
+    omega (arith, base_on_page o base b, mul-le (suc b.index) size_of _ size_of known (le_refl size_of))
 
 -- What shows a page of an object has the object's words there within its cells.
 within_cells : (o : Object) (distance base n : ℕ) (x : Option Header) → ShowsPart o distance x
@@ -142,11 +137,10 @@ module _ (c : Config) (w : World) (n : NeverState) (known : KnownWorld c w) (all
   taken_by : (cell : Cell) (x : ℕ) (one : IsOfOne c w x) → cell.index < cells_under (header_in w.now.words cell.page)
       → (placed_at w.allocations one.number).base ≡ first_word w.now.words cell → IsTaken w cell
   taken_by cell x one lt first =
-      let a : PlacedAllocation = placed_at w.allocations one.number in
       record {
         number = one.number;
         in_range = lt;
-        stands = and_from _ _ (ap not one.unreleased) (eq-eqb a.base _ first);
+        stands = and_from _ _ (ap not one.unreleased) (eq-eqb (placed_at w.allocations one.number).base _ first);
       }
 
   -- What has a word of a run begins where the run does.
@@ -209,8 +203,7 @@ module _ (c : Config) (w : World) (n : NeverState) (known : KnownWorld c w) (all
         let a : PlacedAllocation = placed_at w.allocations one.number in
         let on = on_page x one in
         let shown : Option Header = header_in w.now.words (x / 64) in
-        let lt = within_cells _ on.distance a.base x shown on.part on.begins (sym on.page) on.to in
-        absurd (omega arith)
+        absurd (omega (arith, within_cells _ on.distance a.base x shown on.part on.begins (sym on.page) on.to))
   ]
 
   free_cells : FreeCellsAreZero c w

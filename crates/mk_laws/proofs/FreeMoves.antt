@@ -50,10 +50,9 @@ module _ (c : Config) (w : World) (n : NeverState) (known : KnownWorld c w) (mir
       → pointed_cell c.pages w.now.words.pages p ≡ Some (cell_of_allocation c (placed a))
   pointer_cell a t o p sound is e =
       let u = ready.set.unreleased a is in
-      let inside = pointed_word c.globals safe (image_scene_of w) n ready a t o sound in
       let fits = words_fit c w n known mirrors a (exists_placed w.allocations a u) in
       ap (pointed_cell c.pages w.now.words.pages) (e ∙ ap (λ b. address_of (b + o)) (base_at w.allocations a))
-      ∙ st.cell a o u (omega arith)
+      ∙ st.cell a o u (omega (arith, pointed_word c.globals safe (image_scene_of w) n ready a t o sound))
 
   -- an allocation with the same first word is the same
   same_first : (a b : ℕ) → (placed a).released ≡ false → (placed b).released ≡ false
@@ -123,10 +122,9 @@ module _ (c : Config) (w : World) (n : NeverState) (known : KnownWorld c w) (mir
       let u = ready.set.unreleased a is in
       let lt = exists_placed w.allocations a u in
       let cells : Some cell ≡ Some (cell_of_allocation c (placed a)) = sym points ∙ (pointer_cell a t x p sound is e) in
-      let first : first_word w.now.words cell ≡ (placed a).base = ap (first_in w.now.words) cells ∙ st.first a u in
       let its : (placed a).freed ≡ true = elim (others.freed cell is_free) [
         | inl at ↦ its_own a at.number u at.unreleased at.freed (sym (st.first at.number at.unreleased)
-            ∙ ap (first_word w.now.words) at.cell ∙ first)
+            ∙ ap (first_word w.now.words) at.cell ∙ (ap (first_in w.now.words) cells ∙ st.first a u))
         | inr released ↦ absurd (false≢true (sym (others.kept a u) ∙ ap (is_released_in w.now.words) (sym cells)
             ∙ released))
       ] in

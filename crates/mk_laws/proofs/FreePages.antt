@@ -20,16 +20,13 @@ module _ (c : Config) (w : World) (n : NeverState) (known : KnownWorld c w) (all
       let of_it = x.of_it in
       let page = x.page in
       let there : a.base / 64 + (p - a.base / 64) ≡ p = omega arith in
-      claimed_some w.now.words.pages _ _ shown (omega arith) (ap (λ q. header_at w.now.words q) there ∙ z)
+      claimed_some w.now.words.pages _ _ shown (omega arith) (ap (header_at w.now.words) there ∙ z)
 
   no_cells : (p : ℕ) → header_at w.now.words p ≡ 0 → cells_under (header_in w.now.words p) ≡ 0
   no_cells p z = ap (λ h. cells_under (header_of h)) z
 
   none_freed : (p : ℕ) → header_at w.now.words p ≡ 0 → (k : ℕ) → has_bit (slice_index w.now.words.freed p) k ≡ true → ⊥
-  none_freed p z k bit =
-      let none = no_cells p z in
-      let known_there = all.order.known p k bit in
-      absurd (omega arith)
+  none_freed p z k bit = absurd (omega (arith, no_cells p z, all.order.known p k bit))
 
   free_page : DirtyPagesHaveAllocations c w → (p : ℕ) → header_at w.now.words p ≡ 0 → HasNothing w.now.words p
   free_page dirty p z =

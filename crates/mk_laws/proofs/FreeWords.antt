@@ -25,9 +25,7 @@ run_word : (base words pages x : ℕ) → base % 64 ≡ 0 → words ≡ 64 * pag
 run_word base words pages x aligned is from to = (omega arith, omega arith)
 
 in_run : (run : RunPages) (x : ℕ) → is_in_run run x ≡ true → (run.page ≤ x / 64) × (x / 64 - run.page < run.count)
-in_run run x h =
-    let parts = and_parts _ _ h in
-    (leb-true run.page (x / 64) parts.0, ltb-true _ run.count parts.1)
+in_run run x h = (leb-true run.page (x / 64) (and_parts _ _ h).0, ltb-true _ run.count (and_parts _ _ h).1)
 
 -- in a run that is gone
 gone_word : (w : Words) (run : RunPages) (x : ℕ) → is_in_run run x ≡ true → is_run_gone w (Some run) ≡ true
@@ -38,7 +36,7 @@ gone_word w run x word gone =
     let from = at.0 in
     let to = at.1 in
     let there : 64 * run.page + (x - 64 * run.page) ≡ x = omega arith in
-    ap (λ i. slice_index w.heap i) (sym there) ∙ eqb-true (slice_index w.heap (64 * run.page + (x - 64 * run.page))) 0
+    ap (slice_index w.heap) (sym there) ∙ eqb-true (slice_index w.heap (64 * run.page + (x - 64 * run.page))) 0
     (all_below-at (64 * run.count) (x - 64 * run.page) (λ i. slice_index w.heap (64 * run.page + i) == 0) parts.1
     (omega arith))
 
@@ -85,7 +83,7 @@ module _ (c : Config) (w : World) (n : NeverState) (known : KnownWorld c w) (all
       by (OfMapped m) = m
       by (OfReleased r) = absurd (none_released c (zero_scene_of w) x (not_releasing w quiet) r)
       by (OfFreedRun f) =
-          let there = ap (λ (r : Option RunPages). is_run_gone w.now.words r) (sym f.there) ∙ gone in
+          let there = ap (is_run_gone w.now.words) (sym f.there) ∙ gone in
           absurd (some (gone_word w.now.words f.run x f.word there))
 
   words_of_none : WordsOfNoneAreZero c w

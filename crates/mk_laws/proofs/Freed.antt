@@ -143,8 +143,7 @@ module _ (c : Config) (o : Object) (w : World) (cell : Cell) (limits : IsWithinL
       absurd (true≢false (sym small ∙ ap (λ (z : Claim). is_small_object z.object) (sym one) ∙ large)))) tt)
   by (inr large) =
       let run : RunPages = record { page = cell.page; count = pages_made (object_placed c a) } in
-      let is_run = run_large _ _ cell.page part large in
-      rw is_run (remoded c o false w.now.words.marks (ground_of w) (Some run) frees st
+      rw (run_large _ _ cell.page part large) (remoded c o false w.now.words.marks (ground_of w) (Some run) frees st
       (modes (Some run) (λ i u h l. eq-eqb cell.page _
       (sym (ap (λ (x : Cell). x.page) (cell_of i u h))))) (claimed_run run refl refl large))
     where
@@ -156,10 +155,9 @@ module _ (c : Config) (o : Object) (w : World) (cell : Cell) (limits : IsWithinL
           let in_cell : stands_in w.now.words cell a ≡ true =
           rw (← own.is) (stands_in_its_cell c w.now.words a limits s.stands s.headers) in
           let freed : PlacedAllocation = record a { freed = true; fresh = true } in
-          let same : freed_where_it_stands w.now.words (Some cell) a ≡ freed = cond-true _ freed a in_cell in
           record {
             claim = claim_of c (Some run) freed;
-            among = rw same at (changed_among c (Some run) frees w.allocations own.number
+            among = rw (cond-true _ freed a in_cell) at (changed_among c (Some run) frees w.allocations own.number
                 (freeing_leaves w.now.words (Some cell)) (keeps a own.unreleased));
             page = page ∙ sym at_page;
             count = sym count;
@@ -207,7 +205,7 @@ gone_terrain c o releasing w unmapped st =
         let large = not-true (is_small_object ob) l in
         let page = eqb-true run.page (a.base / 64) g in
         let x : IsClaimedRun (claims_of c w.now.seats.holding.freed w.allocations) run =
-        subst (λ (y : Option RunPages). RunStands (claims_of c w.now.seats.holding.freed w.allocations) y) is r in
+        subst (RunStands (claims_of c w.now.seats.holding.freed w.allocations)) is r in
         let ix = own_claim c o (ground_of w) x.claim x.among in
         let ia = own_claim c o (ground_of w) (claim_of c w.now.seats.holding.freed a)
         (claim_among c w.now.seats.holding.freed w.allocations i u) in

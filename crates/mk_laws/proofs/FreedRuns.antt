@@ -43,9 +43,7 @@ new_is_undecided _ _ new free = cc
 pub frees_run : (c : Config) (m : Moment) (k : ℕ) (run : RunPages) → Orderly c (view_of m)
     → HoldsTurn c (view_of m) (Caller k) → m.seats.holding.freed ≡ Some run
     → is_decided_free (flight_of m (Caller k)) ≡ true
-frees_run c m k run o hold e =
-    let freed : is_decided_free (flight_in (view_of m) (m.words.turn - 1)) ≡ true = o.served.freed (rw e) in
-    rw (holders_flight c (view_of m) (Caller k) o hold) at freed
+frees_run c m k run o hold e = rw (holders_flight c (view_of m) (Caller k) o hold) at (o.served.freed (rw e))
 
 -- While a New is undecided no run is freed.
 pub new_frees_none : (c : Config) (m : Moment) (k : ℕ) (run : RunPages) → Orderly c (view_of m)
@@ -184,14 +182,13 @@ module _ (c : Config) (w : World) (n : NeverState) (known : KnownWorld c w) (oth
       let sound : IsSound n (Ptr h.number h.ty h.offset) = rw h.is at (mirrors.typed.registers (8 * k + r)) in
       let there : h.number < length n.allocations = sound.0 in
       let longs = length-map w.allocations (λ (x : PlacedAllocation). x.base) in
-      let count = mirrors.twins.count in
       record {
         number = h.number;
         ty = h.ty;
         offset = h.offset;
         is = same ∙ h.is;
-        base = sym (base_at _ h.number) ∙ rw grows.is (get_or_append_left _ grows.more 0 h.number (omega arith)
-            ∙ base_at w.allocations h.number ∙ h.base);
+        base = sym (base_at _ h.number) ∙ rw grows.is (get_or_append_left _ grows.more 0 h.number
+            (omega (arith, mirrors.twins.count)) ∙ base_at w.allocations h.number ∙ h.base);
       }
 
   -- the target of a Free that is a run
@@ -271,11 +268,10 @@ module _ (c : Config) (w : World) (n : NeverState) (known : KnownWorld c w) (oth
       → AreAdmitted c.globals n (asked (call_decided c w.now (event_of (Caller j) x)))
       → w.now.seats.holding.freed ≡ Some run → OwnsBehind (Caller j) x run k
   other_old j k x run ne grows ad old free =
-      let e = event_of (Caller j) x in
-      let same : flight_of (world_behind c w e).now (Caller k) ≡ flight_of w.now (Caller k) =
+      let same : flight_of (world_behind c w (event_of (Caller j) x)).now (Caller k) ≡ flight_of w.now (Caller k) =
       get_or-set_other w.now.seats.flights j k _ at_rest (λ y. ne (sym y)) in
-      rw same (points_on e k _ run grows (admitted_keep c.globals n k _ ad (not_by j k _ _ ne) _ (ready.small k).1)
-      (mirrors.freed_run run old k (rw same at free)))
+      rw same (points_on (event_of (Caller j) x) k _ run grows (admitted_keep c.globals n k _ ad (not_by j k _ _ ne) _
+      (ready.small k).1) (mirrors.freed_run run old k (rw same at free)))
 
   -- a run that is freed by this step
   own_new : (k p v : ℕ) (run : RunPages) (y : Option Cell) → k < c.callers → GrowsBehind (Caller k) (Step.Quar p v)
@@ -346,8 +342,7 @@ module _ (c : Config) (w : World) (n : NeverState) (known : KnownWorld c w) (oth
   owns : (seat : Seat) (x : Step) → Meets c w.now seat x → GrowsBehind seat x
       → AreAdmitted c.globals n (asked (call_decided c w.now (event_of seat x)))
       → OwnsFreedRun (world_behind c w (event_of seat x)) (never_after c w n (event_of seat x))
-  owns (Caller j) x h grows ad run e k free =
-      caller_owns j x h grows ad run (was_freed c w (Caller j) (flight_of w.now (Caller j)) x run e) k free
+  owns (Caller j) x h grows ad run e k free = caller_owns j x h grows ad run (was_freed c w (Caller j) _ x run e) k free
   owns Host x h grows ad run e k free = host_owns x grows run (was_freed c w Host at_rest x run e) k free
   owns (Marker j) x h grows ad run e k free =
       points_on (event_of (Marker j) x) k _ run grows refl (mirrors.freed_run run (marker_freed x e) k free)

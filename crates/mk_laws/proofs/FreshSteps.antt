@@ -87,12 +87,9 @@ module _ (c : Config) (w : World) (cell : Cell) (n : ℕ) (b : Before c w) (off 
       let becomes : freed own ≡ freed_fresh own = cond-true _ _ own x.stands in
       let large = large_is_not_small _ in
       let counted = counted_freed own.released _ small (words_made o) x.own.unreleased large in
-      let now : fresh_part c (freed own) ≡ (if small then words_made o else 0) =
-      ap (λ (y : PlacedAllocation). fresh_part c y) becomes ∙ counted in
-      let was = stale_part c own stale in
-      let added : words_freed w.now.words (Some cell) ≡ (if small then words_made o else 0) =
-      words_of_part o (header_in w.now.words cell.page) part small refl in
-      omega arith
+      let now : fresh_part c (freed own) ≡ (if small then words_made o else 0) = ap (fresh_part c) becomes ∙ counted in
+      let added = words_of_part o (header_in w.now.words cell.page) part small refl in
+      omega (arith, stale_part c own stale)
 
   within : x.own.number < length w.allocations
   within = elim (cases_lt x.own.number (length w.allocations)) [
@@ -121,19 +118,18 @@ quar_told c w seat p n b h order told = by (cell_freed c.pages w.now.words (flig
     by : (cell : Option Cell) → cell_freed c.pages w.now.words (flight_of w.now seat) p n ≡ cell
         → min (w.now.fresh_words + words_freed w.now.words cell) (2 ^ 64 - 1)
         ≡ in_a_word (fresh_words_of c (map (freed_where_it_stands w.now.words cell) w.allocations))
-    by None is = none_added w.now.fresh_words _ told
-        ∙ ap (λ (ys : List PlacedAllocation). in_a_word (fresh_words_of c ys))
+    by None is = none_added _ _ told ∙ ap (λ (ys : List PlacedAllocation). in_a_word (fresh_words_of c ys))
         (sym (none_freed w.now.words w.allocations))
     by (Some cell) is =
         let x = freed_cell c.pages w.now.words _ p n cell is in
         let sum = fresh_freed c w cell n b x.phase order (frees_here c w seat p n cell b h order.laid x) in
-        some_added w.now.fresh_words _ _ _ told sum
+        some_added _ _ _ _ told sum
 
 -- `release`: what is fresh stays
 release_told : (c : Config) (w : World) (seat : Seat) → KeepsSnapshot c w
     → KeepsSnapshot c (WorldBehind c w seat Step.Release) → FreshTold c w
     → FreshTold c (WorldBehind c w seat Step.Release)
-release_told c w seat s now told = told ∙ ap (λ n. in_a_word n) (sym (fresh_kept c _ w.allocations same))
+release_told c w seat s now told = told ∙ ap in_a_word (sym (fresh_kept c _ w.allocations same))
   where
     counted : (released left mapped fresh : Bool) (m : ℕ) → (fresh ≡ true → (released || left) ≡ released)
         → (if (not (released || left) && mapped) && fresh then m else 0)
@@ -153,9 +149,8 @@ release_told c w seat s now told = told ∙ ap (λ n. in_a_word n) (sym (fresh_k
 pub fresh_told_behind : (c : Config) (w : World) (seat : Seat) (x : Step) → Before c w → Meets c w.now seat x
     → StandsInOrder c w → FreshTold c w → FreshTold c (WorldBehind c w seat x)
 fresh_told_behind c w seat (Step.Quar p n) b h order told = quar_told c w seat p n b h order told
-fresh_told_behind c w seat Step.Begin b h order told = ap (λ n. in_a_word n) (sym (none_fresh c w.allocations))
-fresh_told_behind c w seat Step.Grant b h order told =
-    told ∙ ap (λ n. in_a_word n) (sym (fresh_pushed c w.allocations _ refl))
+fresh_told_behind c w seat Step.Begin b h order told = ap in_a_word (sym (none_fresh c w.allocations))
+fresh_told_behind c w seat Step.Grant b h order told = told ∙ ap in_a_word (sym (fresh_pushed c w.allocations _ refl))
 fresh_told_behind c w seat Step.Release b h order told =
     let behind = snapshot_behind c w seat Step.Release b h order.laid order.quarantined order.snapshot in
     release_told c w seat order.snapshot behind told

@@ -77,7 +77,7 @@ module _ (c : Config) (w : World) (n : NeverState) (known : KnownWorld c w) (mir
       elim (or_cases (is_some_and (is_released_cell w.now.words) (pointed_cell c.pages w.now.words.pages
       (address_of x))) (is_in_gone_run w.now.words w.now.seats.holding.freed x) h) [
         | inl r ↦ absurd (false≢true (sym (others.kept a u)
-            ∙ ap (λ (y : Option Cell). is_some_and (is_released_cell w.now.words) y) (sym cell) ∙ r))
+            ∙ ap (is_some_and (is_released_cell w.now.words)) (sym cell) ∙ r))
         | inr g ↦ absurd (true≢false (sym (gone_word w.now.seats.holding.freed refl g) ∙ mapped))
       ]
     where
@@ -95,9 +95,8 @@ module _ (c : Config) (w : World) (n : NeverState) (known : KnownWorld c w) (mir
           let inside = and_parts (nat_le run.page (x / 64)) (nat_lt (x / 64 - run.page) run.count) parts.0 in
           let low = leb-true run.page (x / 64) inside.0 in
           let high = ltb-true (x / 64 - run.page) run.count inside.1 in
-          let word : header_at w.now.words (run.page + (x / 64 - run.page))
-          ≡ unmapped_header run.count (x / 64 - run.page) = eqb-true _ _ (all_below-at run.count (x / 64 - run.page)
-          (stands w.now.words run.page (unmapped_header run.count)) parts.1 high) in
+          let word = eqb-true _ _ (all_below-at run.count (x / 64 - run.page) (stands w.now.words run.page
+          (unmapped_header run.count)) parts.1 high) in
           let place : x / 64 ≡ run.page + (x / 64 - run.page) = omega arith in
           ap (λ p. is_unmapped_header (header_in w.now.words p)) place ∙ ap (λ y. is_unmapped_header (header_of y)) word
           ∙ unmapped_is_unmapped run.count (x / 64 - run.page) (omega arith, omega arith) high

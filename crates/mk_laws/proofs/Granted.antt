@@ -73,9 +73,7 @@ granted_terrain c releasing marks t place a used is st =
         _ (inl refl))
 
     begins : BeginsAtCell (object_placed c a) a.base
-    begins =
-        let made = made_begins _ place shown.sized shown.known in
-        rw is.base made.0
+    begins = rw is.base (made_begins _ place shown.sized shown.known).0
 
     at : (a.base / 64 ≡ place.page) × ((cell_of_allocation c a).index ≡ place.index)
     at = place_index c a place shown.sized is.base shown.known

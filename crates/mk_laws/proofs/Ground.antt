@@ -154,9 +154,7 @@ used_step c w f p n h = by (is_phase w.now.words 4) refl h
         → (if b then gives_back w.now.words p n else not (is_used_once w.now.seats.holding.placing) && takes) ≡ true
         → GroundStep c w f (used_up c w f p n b)
     by true e k = GivesBack p n k (eqb-true _ 4 e)
-    by false e k =
-        let both = and_parts _ takes k in
-        TakesCell p n (not-true _ both.0) both.1 (eqb-false _ 4 e)
+    by false e k = TakesCell p n (not-true _ (and_parts _ takes k).0) (and_parts _ takes k).1 (eqb-false _ 4 e)
 
 quar_step : (c : Config) (w : World) (f : Flight) (p n : ℕ) → may_quarantine c w.now f p n ≡ true
     → GroundStep c w f (with_quarantine w p n (cell_freed c.pages w.now.words f p n))

@@ -67,9 +67,8 @@ own_marker c m k (Step.Mlook x) len h keeps before at =
 own_marker c m k (Step.Claim p i) len h keeps before at =
     marker_kept c m _ _ keeps (claim_stands c m (marker_of m k) p i (and_parts _ _ h.marker).1 (before at))
 own_marker c m k Step.Mload len h keeps before at =
-    let a = and_parts _ _ h.marker in
-    marker_kept c m _ _ keeps (load_stands c m (marker_of m k) _ a.0 (nothing_is (marker_of m k).hand a.1)
-    (λ y e. sym (rw e)) (before at))
+    marker_kept c m _ _ keeps (load_stands c m (marker_of m k) _ (and_parts _ _ h.marker).0
+    (nothing_is (marker_of m k).hand (and_parts _ _ h.marker).1) (λ y e. sym (rw e)) (before at))
 own_marker c m k Step.Mmark len h keeps before at =
     let s = seen_cell c (marker_of m k) h.marker in
     let n = Behind c m (Marker k) Step.Mmark in
@@ -87,10 +86,8 @@ pub markers_stand : (c : Config) (m : Moment) (seat : Seat) (x : Step) → AreOf
     → ((k : ℕ) → is_attending (marker_of m k).presence ≡ true → MarkerStands c m (marker_of m k))
     → (k : ℕ) → is_attending (marker_of (Behind c m seat x) k).presence ≡ true
     → MarkerStands c (Behind c m seat x) (marker_of (Behind c m seat x) k)
-markers_stand c m (Caller k) x len h keeps before j at =
-    marker_kept c m (Behind c m (Caller k) x) (marker_of m j) keeps (before j at)
-markers_stand c m Host x len h keeps before j at =
-    marker_kept c m (Behind c m Host x) (marker_of m j) keeps (before j at)
+markers_stand c m (Caller k) x len h keeps before j at = marker_kept c m (Behind c m (Caller k) x) _ keeps (before j at)
+markers_stand c m Host x len h keeps before j at = marker_kept c m (Behind c m Host x) _ keeps (before j at)
 markers_stand c m (Marker k) x len h keeps before j at = marker_set m.seats.markers k j
     (marker_behind c (found c m (record { seat = Marker k; step = x })) x (marker_of m k))
     (λ (y : MarkerState). is_attending y.presence ≡ true → MarkerStands c (Behind c m (Marker k) x) y)

@@ -48,7 +48,7 @@ unfolding all_below
 turned w pages p value zero h = cc
 turned w pages p value (suc n) h =
     by (blackens pages w p value n) refl (all_below n (λ k. not (blackens pages w p value k)))
-    (λ f. turned w pages p value n f) h
+    (turned w pages p value n) h
   where
     by : (b : Bool) → blackens pages w p value n ≡ b → (r : Bool) → (r ≡ false → Blackened w pages p value)
         → (r && not b) ≡ false → Blackened w pages p value
@@ -100,10 +100,8 @@ mblack_kind c m k known keeps new h g = blackened c m _ _ _ keeps new refl (by (
         → IsGuarded c m (64 * scan_page scan + j * words_under (header_in m.words (scan_page scan)) + i)
     by None e done j is i lt sc li = cc
     by (Some y) e done j is i lt sc li =
-        let st = (g.markers k (work_attends c (marker_of m k) Step.Mblack (known.orderly.idle k) h.marker refl)).scan y
-        e in
-        let none = nothing_is _ own.1 in
-        rw (bit_of_cell y.index j is) (scanned_guarded c m y (rw none at st) done sc i li)
+        let st = (g.markers k (work_attends c _ Step.Mblack (known.orderly.idle k) h.marker refl)).scan y e in
+        rw (bit_of_cell y.index j is) (scanned_guarded c m y (rw (nothing_is _ own.1) at st) done sc i li)
 
 -- `undirty`: in the stop, nothing that is black has a word other than 0 there
 
@@ -125,9 +123,7 @@ undirties c m seat q early h = by (is_phase m.words 2) (stop_wanted m early h.ph
     by : (b : Bool) → b ≡ true → (not b || (none_attends m.seats.markers && (slice_index m.words.blacks q == 0)
         && (slice_index m.words.blacks (head_page m.words q) == 0))) ≡ true → Undirties m q
     by false e own = absurd (true≢false (sym e))
-    by true e own =
-        let a = and_parts _ _ own in
-        record { none = (and_parts _ _ a.0).0; head = eqb-true _ 0 a.1 }
+    by true e own = record { none = (and_parts _ _ (and_parts _ _ own).0).0; head = eqb-true _ 0 (and_parts _ _ own).1 }
 
 pub undirty_kind : (c : Config) (w : World) (seat : Seat) (q : ℕ) → AreOfPages c.pages w.now.words
     → IsMarking w.now.words → GuardPremises c w → Meets c w.now seat (Step.Undirty q)
@@ -253,8 +249,7 @@ begun c m seat known len h =
     white : (p : ℕ) → slice_index m.words.blacks p ≡ 0
     white p = elim (cases_lt p c.pages) [
       | inl lt ↦
-          let a = and_parts _ _ (all_below-at c.pages p _ own lt) in
-          eqb-true _ 0 (and_parts _ _ a.0).1
+          eqb-true _ 0 (and_parts _ _ (and_parts _ _ (all_below-at c.pages p _ own lt)).0).1
       | inr past ↦ get_or_past m.words.blacks p 0 (omega (arith, len.blacks))
     ]
 
@@ -304,9 +299,7 @@ marks_behind c w seat Step.Close limits known len say h g =
 marks_behind c w seat Step.Release limits known len say h g =
     let three = eqb-true _ 3 h.phase in
     past c _ 4 (omega arith) (inr (omega arith))
-marks_behind c w seat Step.End limits known len say h g =
-    let four = eqb-true _ 4 h.phase in
-    past c _ 0 (omega arith) (inl refl)
+marks_behind c w seat Step.End limits known len say h g = past c _ 0 (omega (arith, eqb-true _ 4 h.phase)) (inl refl)
 marks_behind c w seat Step.Over limits known len say h g =
     let zero = over_phase c w.now seat h in
     past c _ 5 (omega arith) (inr (omega arith))

@@ -44,9 +44,7 @@ no_call : (c : Config) (m : Moment) (k : ℕ) → Known c m → phase_of m.words
     → is_call_stage (flight_of m (Caller k)).stage ≡ true → ⊥
 no_call c m k known three lt at =
     let s = shows_at c (view_of m) k InCall known.orderly lt (calls_stand _ _ at (not_astray c m known.orderly k lt)) in
-    let one = s.0 in
-    let two = known.orderly.stopped three k lt s.1 in
-    absurd (omega arith)
+    absurd (omega (arith, s.0, known.orderly.stopped three k lt s.1))
 
 of_callers : (x : Step) → has_stage_of_its_own x ≡ true → group_of x ≡ Group.Callers
 of_callers Step.Leave own = refl

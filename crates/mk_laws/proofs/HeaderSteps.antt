@@ -36,7 +36,7 @@ not_unmapped c w seat k v lt ne one h = elim (or_cases _ _ h) [
 ]
   where
     seat_is : (seat : Seat) (k : ℕ) → is_number_of seat k ≡ true → seat ≡ Caller k
-    seat_is (Caller j) k h = ap (λ i. Caller i) (eqb-true j k h)
+    seat_is (Caller j) k h = ap Caller (eqb-true j k h)
     seat_is _ k h = cc
 
 pub header_step : (c : Config) (m : Moment) (seat : Seat) (x : Step) (k : ℕ) → Meets c m seat x → k < c.callers

@@ -53,9 +53,9 @@ head_keeps c m seat p n len h finds =
         | inr ne ↦ is y (subst (λ a. cell_at c.pages a v ≡ Some y) (other (page_at_address v) ne) at)
       ];
       headers = λ q. elim (cases_eq q p) [
-        | inl e ↦ subst (λ a. HeaderGoesOn c.pages (header_at m.words q) a) (sym (here q e))
+        | inl e ↦ subst (HeaderGoesOn c.pages (header_at m.words q)) (sym (here q e))
             (subst (λ j. HeaderGoesOn c.pages (header_at m.words j) n) (sym e) (goes finds))
-        | inr ne ↦ subst (λ a. HeaderGoesOn c.pages (header_at m.words q) a) (sym (other q ne))
+        | inr ne ↦ subst (HeaderGoesOn c.pages (header_at m.words q)) (sym (other q ne))
             (goes_same c.pages (header_at m.words q))
       ];
       new = λ q k i none lt li. elim (cases_eq q p) [
@@ -98,7 +98,7 @@ head_keeps c m seat p n len h finds =
         let first : 64 * q + k * words_under (header_in (Behind c m seat (Step.Head p n)).words q) + i
         ≡ 64 * p + k * words_under (header_of n) + i = ap (λ a. 64 * q + k * words_under (header_of a) + i) (here q e)
         ∙ ap (λ j. 64 * j + k * words_under (header_of n) + i) e in
-        bare_guarded c (Behind c m seat (Step.Head p n)) _ (ap (λ j. slice_index m.words.heap j) first ∙ bare k i lt li)
+        bare_guarded c (Behind c m seat (Step.Head p n)) _ (ap (slice_index m.words.heap) first ∙ bare k i lt li)
     made (Unmapped some on back still) q k i e none lt li = let z = still none in absurd (omega arith)
 
 -- no other kind makes cells

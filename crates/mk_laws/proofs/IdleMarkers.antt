@@ -28,8 +28,7 @@ seen_attends : (c : Config) (x : Marker) → IdlesOutside x → is_some (cell_se
 seen_attends c x h s = elim (cases_Bool (is_attending x.presence)) [
   | inl e ↦ e
   | inr e ↦
-      let f : false ≡ true = sym (none_seen c x.seen)
-      ∙ ap (λ (v : Option ℕ). is_some (cell_seen c x.seen v)) (sym (h e).hand) ∙ s in
+      let f = sym (none_seen c x.seen) ∙ ap (λ (v : Option ℕ). is_some (cell_seen c x.seen v)) (sym (h e).hand) ∙ s in
       cc
 ]
 

@@ -70,12 +70,11 @@ module _ (listed : List ℕ) (safe : ℕ → Bool) (s : ImageScene) (n : NeverSt
   probe_leads header show o q p r l x is ld a car e ad =
       let was = ap (λ (f : Flight). is_put f.stage) is in
       let table = at_probe o a in
-      let v = register_at n k (q_of o) in
       let unmapped = ap (λ y. is_unmapped_header (header_of y)) (sym e) in
       either_leads safe s n k o s _ _ _
       (λ u. refuses safe s n k o q p r Answer.Fault Unmapped table.access there long was ld refl
-      (unmapped_target listed safe s n h header show v q (i_of o) (λ kind. Unit {0}) (car.q refl) (car.some_q refl)
-      (own_sound (q_of o)) (own_safe (q_of o))
+      (unmapped_target listed safe s n h header show (register_at n k (q_of o)) q (i_of o) (λ kind. Unit {0})
+      (car.q refl) (car.some_q refl) (own_sound (q_of o)) (own_safe (q_of o))
       (access_meets n k o table.access (ad u).access) (unmapped ∙ u)) (λ bs. refl))
       (λ u. flies_on safe s n k o (flight (stage_behind Stage.Probe (steps_of o)) o q p r l) was table.put (record {
         q = λ y. car.q refl;
@@ -83,8 +82,8 @@ module _ (listed : List ℕ) (safe : ℕ → Bool) (s : ImageScene) (n : NeverSt
         p = λ y. car.p (sym table.p ∙ y);
         some_p = λ y. absurd (false≢true (sym table.some_p ∙ y));
         r = λ y. car.r (sym table.r ∙ y);
-      }) (λ y. mapped_met listed safe s n h header show v q (i_of o) (car.q refl) (car.some_q refl) (own_sound (q_of o))
-      (own_safe (q_of o)) (unmapped ∙ u)))
+      }) (λ y. mapped_met listed safe s n h header show (register_at n k (q_of o)) q (i_of o) (car.q refl)
+      (car.some_q refl) (own_sound (q_of o)) (own_safe (q_of o)) (unmapped ∙ u)))
 
   pub read_leads : (o : Op) (q p r l x : ℕ) → flight_among s.flights k ≡ flight Stage.Read o q p r l → d_of o < 8
       → is_astray (standing_at Stage.Read o) ≡ false → CarriesOwn bases n k (flight Stage.Read o q p r l)
@@ -94,9 +93,8 @@ module _ (listed : List ℕ) (safe : ℕ → Bool) (s : ImageScene) (n : NeverSt
       let to = reaches listed safe s n h (register_at n k q') q i IsNumber (car.q refl) (car.some_q refl) (own_sound q')
       (own_safe q') (pro refl) ad.access in
       let word = word_at n to.number to.place in
-      let value : x ≡ number_of word = e ∙ ap (slice_index s.heap) to.word
-      ∙ h.images.heap to.number to.place to.unreleased to.mapped to.inside ∙ of_number n _ word _ to.kind
-      (suits listed safe s n h to.number to.place to.exists to.inside) in
+      let value = e ∙ ap (slice_index s.heap) to.word ∙ h.images.heap to.number to.place to.unreleased to.mapped
+      to.inside ∙ of_number n _ word _ to.kind (suits listed safe s n h to.number to.place to.exists to.inside) in
       decides_nothing safe s n k (Op.GetNum q' i) _ (Answer.Num x) refl (rw is) refl refl (λ bs. ap Answer.Num value
       ∙ ap (λ t. answer_of bs (reply_at t (λ a w. Number (number_of (word_at n a w))))) (sym to.target))
   read_leads (Op.GetPtr d q' i) q p r l x is ld a car pro e ad =

@@ -54,14 +54,10 @@ follows_from c whole done (x ∷ es) w n limits is was on e others mirrors ad =
     let here : ImagePremises c w = rw is (others done (x ∷ es) e) in
     let one : Follows c w n x = one_event c w n x known here mirrors on.0 admitted.0 in
     let behind : v ≡ left c (done ++ x ∷ []) = rw is (sym (left_more c (first_world c) done x)) in
-    let enabled : AreEnabled c (done ++ x ∷ []) = enabled_more c (first_world c) done x was (rw is at on.0) in
-    let rest : FollowsAll c v (never_after c w n x) es =
-    follows_from c whole (done ++ x ∷ []) es v _ limits behind enabled on.1
-    (append_assoc done (x ∷ []) es ∙ e) others one.mirrors admitted.1 in
-    let after : after_calls n (asked (xs ++ ys)) ≡ after_calls (never_after c w n x) (asked ys) =
-    ap (after_calls n) split ∙ after_append n (asked xs) (asked ys) in
+    let rest = follows_from c whole (done ++ x ∷ []) es v _ limits behind (enabled_more c (first_world c) done x was
+    (rw is at on.0)) on.1 (append_assoc done (x ∷ []) es ∙ e) others one.mirrors admitted.1 in
     record {
-      mirrors = rw after rest.mirrors;
+      mirrors = rw (ap (after_calls n) split ∙ after_append n (asked xs) (asked ys)) rest.mirrors;
       bases = record {
         more = one.bases.more ++ rest.bases.more;
         is = rest.bases.is ∙ rw one.bases.is (append_assoc _ one.bases.more rest.bases.more);
@@ -105,8 +101,7 @@ all_follow : (c : Config) (es : List Event) → IsHistory c es → ImagePremises
     → FollowsAll c (first_world c) (never_first c) es
 unfolding left_from AreEnabledFrom
 all_follow c es h others =
-    follows_from c es [] es (first_world c) (never_first c) h.within_limits refl tt h.enabled refl others
-    (first_mirrors c) h.admitted
+    follows_from c es [] es _ _ h.within_limits refl tt h.enabled refl others (first_mirrors c) h.admitted
 
 pub histories_refine : HistoriesRefineNever
 histories_refine c es h others = (all_follow c es h others).right

@@ -12,10 +12,10 @@ use Rattle.mk_laws.proofs.Vocabulary.{world_behind, zero, [], ◌*◌, ◌++◌,
 use Rattle.mk_never.{proofs.Later.calls_stay, proofs.TypedCalls.calls_keep, specs.Types.zero_of}
 use Rattle.mk_laws.proofs.Bases.{IsLonger, bases_grow}
 use Rattle.mk_laws.proofs.Basics.{Frees, Grants, KnownWorld, Move, Releases, Renews, Writes, ready_of, stands_of}
-use Rattle.mk_laws.proofs.ImagesKept.{freed_was, freed_words, fresh_one, images_kept, new_never, new_placed, new_words}
-use Rattle.mk_laws.proofs.ImagesKept.{old_never, old_placed, written_alike}
+use Rattle.mk_laws.proofs.HeapEdits.{freed_was, freed_words, fresh_one, new_never, new_placed, new_words, old_never}
+use Rattle.mk_laws.proofs.HeapEdits.{old_placed, written_alike}
 use Rattle.mk_laws.proofs.ImagesMoves.{Owes, SamePlaces, Shares, Stores}
-use Rattle.mk_laws.proofs.{EventSorts.goes, FreedRuns.freed_run_stays, FreedRuns.never_after}
+use Rattle.mk_laws.proofs.{EventSorts.goes, FreedRuns.freed_run_stays, FreedRuns.never_after, ImagesKept.images_kept}
 use Rattle.mk_laws.specs.{Images.AreTwins, SafeSets.HasSafeSet}
 
 -- There is a safe set after each move, and the two lists of allocations still go together.
@@ -34,7 +34,7 @@ module _ (safe : ℕ → Bool) (s : ImageScene) (n : NeverState) (h : IsSafeSet 
   of_register : (k d : ℕ) (v : Value) → IsSafe safe v → IsSafeSet safe s.allocations (with_register n k d v)
   of_register k d v is =
       record {
-        registers = λ i. set_by (λ x. IsSafe safe x) n.registers (8 * k + d) i v Null (λ e. is) (h.registers i);
+        registers = λ i. set_by (IsSafe safe) n.registers (8 * k + d) i v Null (λ e. is) (h.registers i);
         globals = h.globals;
         closed = h.closed;
         unreleased = h.unreleased;
@@ -44,7 +44,7 @@ module _ (safe : ℕ → Bool) (s : ImageScene) (n : NeverState) (h : IsSafeSet 
   of_global g v is =
       record {
         registers = h.registers;
-        globals = λ i. set_by (λ x. IsSafe safe x) n.globals g i v Null (λ e. is) (h.globals i);
+        globals = λ i. set_by (IsSafe safe) n.globals g i v Null (λ e. is) (h.globals i);
         closed = h.closed;
         unreleased = h.unreleased;
       }
@@ -58,7 +58,7 @@ module _ (safe : ℕ → Bool) (s : ImageScene) (n : NeverState) (h : IsSafeSet 
             let was = h.closed b j sb (sym (written_alike n a i v b).1 ∙ mb) in
             set_by (λ (x : NeverAllocation). IsSafe safe (slice_index_or x.words j Null)) n.allocations a b
             (record (allocation_at n a) { words = slice_set (words_of n a) i v }) no_allocation
-            (λ e. set_by (λ x. IsSafe safe x) (words_of n a) i j v Null (λ e2. is) (rw e at was)) was;
+            (λ e. set_by (IsSafe safe) (words_of n a) i j v Null (λ e2. is) (rw e at was)) was;
         unreleased = h.unreleased;
       }
 

@@ -35,8 +35,7 @@ own_fits c m k x h in_heap =
 markers_fit : (c : Config) (w : World) (seat : Seat) (x : Step) → InHeap c w.now → Meets c w.now seat x → (k : ℕ)
     → MarkerFits c (marker_of (WorldBehind c w seat x).now k)
 markers_fit c w (Marker j) x in_heap h k =
-    marker_set w.now.seats.markers j k _ (λ (y : MarkerState). MarkerFits c y) (λ lt. own_fits c w.now j x h in_heap)
-    (in_heap.markers k)
+    marker_set w.now.seats.markers j k _ (MarkerFits c) (λ lt. own_fits c w.now j x h in_heap) (in_heap.markers k)
 markers_fit c w _ x in_heap h k = in_heap.markers k
 
 in_heap_behind : (c : Config) (w : World) (seat : Seat) (x : Step) → Known c w.now → InHeap c w.now

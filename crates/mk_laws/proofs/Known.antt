@@ -96,8 +96,7 @@ pub record Operands (o : Op) : Type 0 where
 
 pub operands_of : (c : Config) (o : Op) → has_operands c o ≡ true → Operands o
 operands_of c o h =
-    let a = and_parts _ (has_type c o) h in
-    let g = and_parts _ _ a.0 in
+    let g = and_parts _ _ (and_parts _ (has_type c o) h).0 in
     let d = and_parts _ _ g.0 in
     let r = and_parts _ _ d.0 in
     let p = and_parts _ _ r.0 in
@@ -123,11 +122,10 @@ pub record Known (c : Config) (m : Moment) : Type 0 where
 
 pub known_behind : (c : Config) (m : Moment) (e : Event) → Known c m → IsEnabled c m e → Known c (moment_behind c m e)
 known_behind c m e k on =
-    let h = enabled_meets c m e on in
     record {
       small = k.small;
-      orderly = orderly_behind c m e.seat e.step k.small k.orderly h;
-      operands = operands_behind c m e.seat e.step k.operands h;
+      orderly = orderly_behind c m e.seat e.step k.small k.orderly (enabled_meets c m e on);
+      operands = operands_behind c m e.seat e.step k.operands (enabled_meets c m e on);
     }
 
 pub known_from : (c : Config) (w : World) (es : List Event) → Known c w.now → AreEnabledFrom c w es

@@ -55,8 +55,7 @@ head_by c w seat p n b there lt laid (ItUnmaps off x) = rw off (by (place_now c 
         absurd (no_run c w.now seat b.known turn (undecided_new (flight_of w.now seat) placed.new).stage x.run x.there)
     by None at =
         rw (none_chosen w.now.seats.holding.placing) (head_unmaps c (object_now c w.now) false w p n (rw off at laid) x)
-head_by c w seat p n b there lt laid (ItEmpties on x) =
-    rw on (head_empties c (object_now c w.now) w p n lt (rw on at laid) x)
+head_by c w seat p n b there lt laid (ItEmpties on x) = rw on (head_empties c _ w p n lt (rw on at laid) x)
 
 pub head_kind : (c : Config) (w : World) (seat : Seat) (p n : ℕ) → Before c w → Meets c w.now seat (Step.Head p n)
     → LayoutStands c w → LaidNow c w (ground_of (WorldBehind c w seat (Step.Head p n)))
@@ -111,9 +110,7 @@ left_by c w f p n laid step = by step
 
     by : QuarantineStep c w.now f p n → LaidNow c w (with_halves w p n)
     by (ItFrees off x) = still off
-    by (ItTakesSnapshot x) =
-        let z = eqb-true _ 0 x.phase in
-        still (ne_eqb _ 4 (λ e. absurd (omega arith)))
+    by (ItTakesSnapshot x) = still (ne_eqb _ 4 (λ e. absurd (omega (arith, eqb-true _ 0 x.phase))))
     by (ItDrops on x) = rw on (refreed c _ true w.now.words.marks
         (record (ground_of w) { snapshot = slice_set w.now.words.snapshot p (n / 2 ^ 32) })
         _ (dropped c _ w p (n % 2 ^ 32) (n / 2 ^ 32) (rw on at laid) x))
@@ -135,8 +132,7 @@ quar_kind c w seat p n b h laid = by (cell_freed c.pages w.now.words (flight_of 
           run = run_of_cell w.now.words (Some cell);
           allocations = map (freed_where_it_stands w.now.words (Some cell)) w.allocations;
         } in
-        let now : Laid c (object_now c w.now) false w t =
-        freed_terrain c (object_now c w.now) w cell b.limits b.lengths.pages none
+        let now = freed_terrain c (object_now c w.now) w cell b.limits b.lengths.pages none
         (b.others.target seat cell frees.at) was in
         rw frees.phase (rw (first_of_two (run_of_cell w.now.words (Some cell)) w.now.seats.holding.freed none) at
         (unreleasing c (object_now c w.now) w.now.words.marks w.now.words.marks t
@@ -162,8 +158,7 @@ grant_kind c w seat b h laid = by w.now.seats.holding.placing refl h.holder
         let f : Flight = flight_of w.now seat in
         let a : PlacedAllocation = granted c w.now f in
         let made = granted_object c w.now f new in
-        let own : object_now c w.now ≡ object_placed c a =
-        holding_object c w.now seat b.known (new_has_turn c w.now seat h.seat new) ∙ sym made in
+        let own = holding_object c w.now seat b.known (new_has_turn c w.now seat h.seat new) ∙ sym made in
         let base = granted_base_is c f w.now.seats.holding.placing place is in
         rw own (granted_terrain c (is_phase w.now.words 4) w.now.words.marks (ground_of w) place a is (record {
           typed = granted_type c w.now f new (seat_operands c w.now seat b.known);
@@ -192,7 +187,7 @@ mark_kind c w seat p n b h laid =
         let placed = placed_now c w.now (flight_of w.now seat) x.place x.there in
         let own = holding_object c w.now seat b.known (new_has_turn c w.now seat h.seat placed.new) in
         let sized = made_sized c w.now seat b.limits b.known placed.new in
-        let free = ap (λ q. header_at w.now.words q) (sym x.marked.at) ∙ x.marked.free in
+        let free = ap (header_at w.now.words) (sym x.marked.at) ∙ x.marked.free in
         rw x.there (rw own (mark_places c (object_made c (flight_of w.now seat).op) (is_phase w.now.words 4) w x.place
         (rw own at laid) sized placed.placed free (first_header (object_made c (flight_of w.now seat).op) sized)))
 
@@ -209,8 +204,7 @@ begin_kind : (c : Config) (w : World) → LayoutStands c w
     → LaidNow c w (record (ground_of w) { allocations = map no_longer_fresh w.allocations })
 begin_kind c w laid =
     let same = sym (fresh_claims c w.now.seats.holding.freed w.allocations) in
-    let s : LayoutScene =
-    layout_scene_of c (object_now c w.now) (is_phase w.now.words 4) w.now.words.marks (ground_of w) in
+    let s = layout_scene_of c (object_now c w.now) (is_phase w.now.words 4) w.now.words.marks (ground_of w) in
     record {
       scene = rw same at laid.scene;
       gone = rw same at laid.gone;
@@ -268,8 +262,7 @@ give_kind c w seat b h laid =
     unmapped : (x : Option RunPages) {run : RunPages} → x ≡ Some run → is_run_gone w.now.words x ≡ true
         → is_run_unmapped w.now.words run ≡ true
     unmapped x {run} is k =
-        let there : is_run_gone w.now.words (Some run) ≡ true =
-        ap (λ (y : Option RunPages). is_run_gone w.now.words y) (sym is) ∙ k in
+        let there : is_run_gone w.now.words (Some run) ≡ true = ap (is_run_gone w.now.words) (sym is) ∙ k in
         (and_parts (is_run_unmapped w.now.words run) (words_are_zero w.now.words (64 * run.page) (64 * run.count))
         there).0
 

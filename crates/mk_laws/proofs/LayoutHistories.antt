@@ -60,12 +60,12 @@ emptied w p n lt x known q k h = elim (cases_eq q p) [
   where
     none : (y : Option Header) → header_in w.now.words p ≡ y → has_bit (slice_index w.now.words.freed p) k ≡ true
         → slice_index w.now.words.freed (head_page_under (header_in w.now.words p) p) ≡ 0 → ⊥
-    none (Some (Later d m)) is bit z = let lt = known p k bit in let cells = ap (λ y. cells_under y) is in omega arith
+    none (Some (Later d m)) is bit z = let lt = known p k bit in let cells = ap cells_under is in omega arith
     none y is bit z = by y is bit (ap (λ x. slice_index w.now.words.freed (head_page_under x p)) (sym is) ∙ z)
       where
         by : (y : Option Header) → header_in w.now.words p ≡ y → has_bit (slice_index w.now.words.freed p) k ≡ true
             → slice_index w.now.words.freed (head_page_under y p) ≡ 0 → ⊥
-        by (Some (Later d m)) is bit z = let lt = known p k bit in let cells = ap (λ y. cells_under y) is in omega arith
+        by (Some (Later d m)) is bit z = let lt = known p k bit in let cells = ap cells_under is in omega arith
         by _ is bit z = none_set (slice_index w.now.words.freed p) k z bit
 
 abbrev KnownOn : List Page → List ℕ → Type 0
@@ -87,9 +87,8 @@ quar_kind c w f p n lf four (ItTakesSnapshot x) known =
 quar_kind c w f p n lf four (ItDrops on x) known = λ q k h. elim (bit_cases w.now.words.freed p (n % 2 ^ 32) q k lf) [
   | inr other ↦ known q k (sym other.1 ∙ h)
   | inl here ↦
-      let rest : ℕ = slice_index w.now.words.snapshot p - n / 2 ^ 32 in
       let bit = ap (λ v. has_bit v k) (sym x.is) ∙ sym here.1 ∙ h in
-      let was = (and_parts _ _ (sym (has_bit_without _ rest k) ∙ bit)).0 in
+      let was = (and_parts _ _ (sym (has_bit_without _ (slice_index w.now.words.snapshot p - n / 2 ^ 32) k) ∙ bit)).0 in
       known q k (rw here.0 was)
 ]
 
@@ -105,8 +104,7 @@ known_by_kind c w seat (Step.Quar p n) b h on known = quar_kind c w (flight_of w
     (let lt = ltb-true p c.pages h.range in let len = b.lengths.freed in omega arith) on
     (quarantine_step c w.now _ p n h.holder) known
 known_by_kind c w seat Step.Reg b h on known =
-    let g = reg_leaves_ground c w seat in
-    rw g.pages (rw g.freed known)
+    rw (reg_leaves_ground c w seat).pages (rw (reg_leaves_ground c w seat).freed known)
 known_by_kind c w seat (Step.Tally n v) b h on known =
     let g = tally_ground w.now.words n v in
     rw g.pages (rw g.freed known)
@@ -136,7 +134,7 @@ stored_word c w seat p n b there laid (ItCarves off x) =
     (made_shows o (p - x.place.page) (made_sized c w.now seat b.limits b.known placed.new) x.next.near))
 stored_word c w seat p n b there laid (ItUnmaps off x) =
     let r : IsClaimedRun (claims_of c w.now.seats.holding.freed w.allocations) x.run =
-    subst (λ (y : Option RunPages). RunStands (claims_of c w.now.seats.holding.freed w.allocations) y) x.there laid.gone
+    subst (RunStands (claims_of c w.now.seats.holding.freed w.allocations)) x.there laid.gone
     in
     let o : Object = r.claim.object in
     let sized = (laid.scene.shown r.claim (own_claim c (object_now c w.now) (ground_of w) r.claim r.among)).sized in
@@ -158,10 +156,8 @@ words_behind c w seat (Step.Head p n) b h laid words = λ q. elim (cases_eq q p)
 ]
 words_behind c w seat (Step.Used p n) b h laid words =
     λ q. rw (used_header w.now.words.pages p n q (page_within c w p b h.range)) (words q)
-words_behind c w seat Step.Reg b h laid words =
-    subst (λ (ps : List Page). HaveWords ps) (sym (reg_leaves_ground c w seat).pages) words
-words_behind c w seat (Step.Tally n v) b h laid words =
-    subst (λ (ps : List Page). HaveWords ps) (sym (tally_ground w.now.words n v).pages) words
+words_behind c w seat Step.Reg b h laid words = subst HaveWords (sym (reg_leaves_ground c w seat).pages) words
+words_behind c w seat (Step.Tally n v) b h laid words = subst HaveWords (sym (tally_ground w.now.words n v).pages) words
 words_behind c w seat _ b h laid words = words
 
 laid_at_first : (c : Config) → LayoutStands c (first_world c)
@@ -174,9 +170,8 @@ laid_at_first c =
             (rw (free p)) h);
         plot = tt;
         occupied = λ p some empty. absurd (some (ap (λ (x : Page). x.header) (free p)));
-        later = λ p d m is. let e : header_of 0 ≡ Some (Later d m) =
-            sym (ap (λ (x : Page). header_of x.header) (free p))
-            ∙ is in let y : true ≡ false = cc in absurd (true≢false y);
+        later = λ p d m is. let e = sym (ap (λ (x : Page). header_of x.header) (free p)) ∙ is in let y : true ≡ false =
+            cc in absurd (true≢false y);
       };
       gone = tt;
       first = tt;
@@ -213,7 +208,7 @@ in_order_at_first c =
       words = λ p. subst (λ (x : Page). IsHeaderWord x.header) (sym (at_first c.pages p free_page)) refl;
       runs = λ p h. absurd
           (true≢false (sym h ∙ ap (λ (x : Page). heads_run (header_of x.header)) (at_first c.pages p free_page)));
-      room = let none = count_none c.pages _ (λ p. free p) in omega arith;
+      room = let none = count_none c.pages _ free in omega arith;
     }
   where
     free : (p : ℕ) → is_taken_page (replicate c.pages free_page) NoPlot p ≡ false
@@ -234,8 +229,7 @@ quarantine_behind : (c : Config) (w : World) (seat : Seat) (x : Step) → Before
     → LayoutStands c w → IsQuarantined c w → IsQuarantined c (WorldBehind c w seat x)
 quarantine_behind c w seat x b h laid q =
     let v : World = WorldBehind c w seat x in
-    let kind = quarantine_by_kind c w seat x b h laid q in
-    rw (phase_kind c w seat x h) (marks _ refl kind)
+    rw (phase_kind c w seat x h) (marks _ refl (quarantine_by_kind c w seat x b h laid q))
   where
     marks : (r : Bool) → is_releasing_behind x (is_phase w.now.words 4) ≡ r
         → HasQuarantine c r w.now.words.marks (ground_of (WorldBehind c w seat x))

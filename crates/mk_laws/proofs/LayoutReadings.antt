@@ -44,8 +44,7 @@ claimed_some pages x distance shown lt = part_not_free x.object distance _ (clai
 -- a page without cells has no used bit
 pub cellless_unused : (s : LayoutScene) (p : ℕ) → IsLaidOn s → cells_under (shows_on s.pages p) ≡ 0
     → used_on s.pages p ≡ 0
-cellless_unused s p laid none =
-    zero_where_none _ (λ k h. let t = laid.used p k h in let lt = t.0 in absurd (omega arith))
+cellless_unused s p laid none = zero_where_none _ (λ k h. let t = laid.used p k h in absurd (omega (arith, t.0)))
 
 pub free_unused : (s : LayoutScene) (p : ℕ) → IsLaidOn s → header_on s.pages p ≡ 0 → used_on s.pages p ≡ 0
 free_unused s p laid z = cellless_unused s p laid (rw z)

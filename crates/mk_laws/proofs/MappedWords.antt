@@ -39,9 +39,8 @@ word_of_changed c g xs n leaves m stays =
     let at = changed_at g xs m.number leaves.none in
     let base : (placed_at (map g xs) m.number).base ≡ (placed_at xs m.number).base =
     ap (λ (x : PlacedAllocation). x.base) at ∙ leaves.base (placed_at xs m.number) in
-    let words : storage_words c (placed_at (map g xs) m.number) ≡ storage_words c (placed_at xs m.number) =
-    ap (storage_words c) at
-    ∙ ap (λ t. words_made (object_of (kinds_of c.types t))) (leaves.ty (placed_at xs m.number)) in
+    let words = ap (storage_words c) at ∙ ap (λ t. words_made (object_of (kinds_of c.types t)))
+    (leaves.ty (placed_at xs m.number)) in
     let from : (placed_at xs m.number).base ≤ n = m.word.0 in
     let to : n < (placed_at xs m.number).base + storage_words c (placed_at xs m.number) = m.word.1 in
     record { number = m.number; mapped = ap (is_mapped c) at ∙ stays; word = (omega arith, omega arith) }

@@ -227,9 +227,11 @@ module _ (c : Config) (w : World) (n : NeverState) (T : ℕ → Type 0) (precise
               let hand : Option Hand = w.now.seats.holding.hand in
               let h = hand_marks w.now.words c.pages hand p v (left_holds _ _ s.meets.holder unplaced)
               (left_fails (is_some_and (λ (y : Hand). is_unmarked y.source) hand) _ s.unswept unplaced) in
-              let at : pointed_cell c.pages w.now.words.pages h.holds.value ≡ Some cell =
-              h.cell cell.index new.1 ∙ rw (← new.0) in
-              precise.hand h.holds h.there h.unswept b (u, comes_back c w n s.before s.early b h.holds.value u at)
+              precise.hand h.holds h.there h.unswept b (
+                u,
+                comes_back c w n s.before s.early b h.holds.value u
+                    (h.cell cell.index new.1 ∙ rw (← new.0)),
+              )
         ]
       ]
 

@@ -42,8 +42,7 @@ remoded c o releasing marks t run g st r stands =
         ];
         apart = apart_joined _ _ (apart_behind c t.run run g t.allocations r.leaves (apart_left _ _ st.scene.apart))
             (apart_right _ _ st.scene.apart) (λ x y ix iy same.
-            let b = was x ix in
-            apart_across _ _ (record x { mode = b.0 }) y st.scene.apart b.1 iy same);
+            apart_across _ _ (record x { mode = (was x ix).0 }) y st.scene.apart (was x ix).1 iy same);
         headers = λ y i d lt. elim (among_parts _ _ y i) [
           | inl j ↦ headers y j d lt
           | inr j ↦ (st.scene.shown y (placed_claim c o t y j)).headers d lt

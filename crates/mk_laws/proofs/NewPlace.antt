@@ -144,8 +144,7 @@ place_fits_now c m seat x place count fits h now =
     let is = now_is c m (flight_of m seat) place now in
     let own = new_holds c m seat x h is.0 in
     let own_new : is_undecided_new (flight_of m (Caller own.0)) ≡ true = rw own.2 at is.0 in
-    in_fits c m.words.pages (flight_of m seat).op m.seats.holding.placing place count
-    (λ y old. rw own.2 (fits own.0 own.1 own_new y old)) is.1
+    in_fits c _ _ _ place count (λ y old. rw own.2 (fits own.0 own.1 own_new y old)) is.1
 
 pub places_behind : (c : Config) (w : World) (seat : Seat) (x : Step) → Known c w.now
     → length w.now.words.pages ≡ c.pages → PlacesFit c w.now
@@ -170,10 +169,7 @@ places_behind c w seat x known count fits h k lt new place held =
         let is = now_is c w.now (flight_of w.now seat) place now in
         let own = new_holds c w.now seat x h is.0 in
         let own_new : is_undecided_new (flight_of w.now (Caller own.0)) ≡ true = rw own.2 at is.0 in
-        let stands : standing (flight_of w.now (Caller own.0)) ≡ UnderTurn =
-        new_stands (flight_of w.now (Caller own.0)).stage (flight_of w.now (Caller own.0)).op own_new in
-        let mine : standing (flight_of w.now (Caller k)) ≡ UnderTurn =
-        new_stands (flight_of w.now (Caller k)).stage (flight_of w.now (Caller k)).op was in
-        let that : seat ≡ Caller k = own.2
-        ∙ same_holder c (view_of w.now) (Caller own.0) (Caller k) known.orderly (own.1, stands) (lt, mine) in
+        let that : seat ≡ Caller k = own.2 ∙ same_holder c (view_of w.now) (Caller own.0) (Caller k) known.orderly
+        (own.1, (new_stands (flight_of w.now (Caller own.0)).stage (flight_of w.now (Caller own.0)).op own_new))
+        (lt, (new_stands (flight_of w.now (Caller k)).stage (flight_of w.now (Caller k)).op was)) in
         rw that at (place_fits_now c w.now seat x place count fits h now)

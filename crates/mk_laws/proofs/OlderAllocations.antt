@@ -60,7 +60,6 @@ kept_along c start rest i h none kept =
         let w : World = left c (start ++ more) in
         let m = one_more c (start ++ more) e g in
         let on = goes_on_behind c w e.seat e.step i at.there in
-        let left_is : world_behind c w e ≡ left c (start ++ (more ++ e ∷ [])) =
-        sym m.left ∙ ap (λ (xs : List Event). left c xs) (append_assoc start more (e ∷ [])) in
+        let left_is = sym m.left ∙ ap (left c) (append_assoc start more (e ∷ [])) in
         subst (λ (v : World). IsKept v i) left_is
         (record { there = on.there; unreleased = on.stays other at.unreleased })

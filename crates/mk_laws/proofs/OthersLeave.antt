@@ -79,7 +79,6 @@ others_leave_headers c es more s limits on others say a =
 pub others_leave_wells : OthersLeaveWells
 others_leave_wells c es more s limits on others holds u is =
     let turn = ((others_leave c es more s limits on others).turn holds).0 in
-    let pages = ap (λ (x : Steady). x.pages) turn.steady in
     well_is c (left c (es ++ more)).now.words u (wells_from c (left c es).now.words (left c (es ++ more)).now.words
-    (λ p. ap (λ (ps : List Page). (slice_index_or ps p free_page).header) pages) turn.marks_grow u
-    (is_well c (left c es).now.words u is))
+    (λ p. ap (λ (ps : List Page). (slice_index_or ps p free_page).header) (ap (λ (x : Steady). x.pages) turn.steady))
+    turn.marks_grow u (is_well c (left c es).now.words u is))

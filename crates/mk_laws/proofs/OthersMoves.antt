@@ -151,8 +151,7 @@ call_out c w k _ known out lt g h = cc
 in_counts : (c : Config) (m : Moment) (k : ℕ) → Known c m → k < 8 → is_in (marker_of m k) ≡ true → 8 ≤ m.words.phase
 in_counts c m k h lt is =
     let one = count_in-at m.seats.markers k (omega (arith, h.orderly.markers)) is in
-    let p = h.orderly.phase in
-    omega arith
+    omega (arith, h.orderly.phase)
 
 marker_out : (c : Config) (w : World) (k : ℕ) (x : Step) → Known c w.now → k < 8 → group_of x ≡ Group.Markers
     → Meets c w.now (Marker k) x → Outs c w (Marker k) x
@@ -191,7 +190,7 @@ free_move c w seat x known free takes h = by seat x (actor_of c w.now seat x kno
     none seat t = let is = turn_of c (view_of w.now) seat known.orderly t in absurd (omega arith)
 
     by : (seat : Seat) (x : Step) → Actor c w.now seat x → is_take x ≡ false → Meets c w.now seat x → Outs c w seat x
-    by seat x (InCallOf k _ lt g) takes h = call_out c w k x known (λ t. none (Caller k) t) lt g h
+    by seat x (InCallOf k _ lt g) takes h = call_out c w k x known (none (Caller k)) lt g h
     by seat x (AsMarker k _ lt g) takes h = marker_out c w k x known lt g h
     by seat x (AsHolder _ _ t n) takes h = absurd (none seat t)
     by seat x _ takes h = cc

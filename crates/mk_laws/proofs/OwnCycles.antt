@@ -7,7 +7,7 @@ use Rattle.mk_laws.proofs.Vocabulary.{refl, subst, sym, true, [], ◌%◌, ◌++
 use Rattle.mk_core.specs.declared.seats.OwnCycle.TheVariants.{Begun, Ended, NotBegun}
 use Rattle.mk_core.specs.Effects.{cycle_ended}
 use Rattle.mk_laws.proofs.Longer.{longer_at, longer_cycle, longer_marking, longer_releasing, next_at_end, none_more}
-use Rattle.mk_laws.proofs.{Basics.Meets, Basics.WorldBehind, Basics.reg_leaves, Basics.tally_keeps, Behind.over_phase}
+use Rattle.mk_laws.proofs.{Basics.Meets, Basics.WorldBehind, Basics.reg_leaves, Basics.tally_keeps, Phases.over_phase}
 
 -- some event of the kind
 abbrev pub some_of : (Step → Bool) → List Event → Bool
@@ -68,8 +68,7 @@ cycle_step c w seat Step.Reg h =
 cycle_step c w seat (Step.Tally n v) h =
     let same = (tally_keeps w.now.words n v).phase in
     Stays (record { close = refl; release = refl; end = refl }) refl (ap (λ m. m % 8) same)
-cycle_step c w seat Step.Begin h =
-    let e = eqb-true _ 0 h.phase in Begins refl refl (omega arith)
+cycle_step c w seat Step.Begin h = Begins refl refl (omega (arith, eqb-true _ 0 h.phase))
 cycle_step c w seat Step.Want h =
     let e = eqb-true _ 1 h.phase in Wants refl e refl (omega arith)
 cycle_step c w seat Step.Close h =
@@ -79,7 +78,7 @@ cycle_step c w seat Step.Release h =
 cycle_step c w seat Step.End h = Ends refl (eqb-true _ 4 h.phase) refl
 cycle_step c w seat Step.Attend h = Stays (record { close = refl; release = refl; end = refl }) refl (omega arith)
 cycle_step c w seat Step.Quit h = Stays (record { close = refl; release = refl; end = refl }) refl (omega arith)
-cycle_step c w seat Step.Over h = Overs (over_phase c w seat h) refl
+cycle_step c w seat Step.Over h = Overs (over_phase c w.now seat h) refl
 cycle_step c w seat _ h = Stays (record { close = refl; release = refl; end = refl }) refl refl
 
 -- So what is said of the events is told with one more.

@@ -37,7 +37,7 @@ none_to_serve c m f x out = by x
     by : (x : Step) → serves c m f x ≡ false
     by (Step.Head p n) = ap (λ (x : Option Place). not (is_phase m.words 4) && carves_at c m f p n x) none ∙ and-false _
     by (Step.Used p n) = ap (λ (x : Option Place). not (is_phase m.words 4) && takes_at c m f p n x) none ∙ and-false _
-    by (Step.Mark p n) = ap (λ (x : Option Place). marks_at c m f p n x) none
+    by (Step.Mark p n) = ap (marks_at c m f p n) none
     by _ = refl
 
 -- A seat that doesn't hold the turn leaves what its holder has done.
@@ -101,9 +101,8 @@ used_places : (c : Config) (m : Moment) (f : Flight) (p n : ℕ) (b other : Bool
     (if b then m.seats.holding.placing else taken m.seats.holding.placing (place_now c m f))
 used_places c m f p n true other at h = Stays (ap (λ b. not b && takes_at c m f p n (place_now c m f)) at) refl
 used_places c m f p n false other at h =
-    let is = (and_parts _ _ h).1 in
-    let x = takes_is m.words _ _ p n is in
-    let serving = ap (λ b. not b && takes_at c m f p n (place_now c m f)) at ∙ is in
+    let x = takes_is m.words _ _ p n (and_parts _ _ h).1 in
+    let serving = ap (λ b. not b && takes_at c m f p n (place_now c m f)) at ∙ (and_parts _ _ h).1 in
     fixes c m f (Step.Used p n) x.place taken serving at x.there (taken_holds x.place)
 
 not_four : (n : ℕ) → (n == 1) ≡ true → (n == 4) ≡ false
@@ -183,7 +182,7 @@ places_at c w seat x k known h lt was new = by seat h new
     own : Meets c w.now (Caller k) x → HasNew (WorldBehind c w (Caller k) x) k → PlacesAt c w (Caller k) x k
     own h new =
         let set = get_or-set_same w.now.seats.flights k _ at_rest (omega (arith, known.orderly.flights)) in
-        own_places c w k x known h was (ap (λ (f : Flight). is_undecided_new f) (sym set) ∙ new)
+        own_places c w k x known h was (ap is_undecided_new (sym set) ∙ new)
 
     by : (seat : Seat) → Meets c w.now seat x → HasNew (WorldBehind c w seat x) k → PlacesAt c w seat x k
     by (Marker j) h new = others_places c w (Marker j) x k known h holds (λ e. cc)

@@ -72,13 +72,10 @@ stop_begins c T front e h kind marked =
     let m = one_more c front e h in
     let w : World = left c front in
     let is = close_is e.step kind in
-    let meets : Meets c w.now e.seat Step.Close = subst (λ (x : Step). Meets c w.now e.seat x) is m.meets in
-    let two = eqb-true _ 2 meets.phase in
-    let left_is : WorldBehind c w e.seat Step.Close ≡ left c ((front ++ e ∷ []) ++ []) =
-    ap (λ (x : Step). WorldBehind c w e.seat x) (sym is) ∙ sym m.left
-    ∙ ap (λ (xs : List Event). left c xs) (sym (append-nil _)) in
+    let meets : Meets c w.now e.seat Step.Close = subst (Meets c w.now e.seat) is m.meets in
+    let left_is = ap (WorldBehind c w e.seat) (sym is) ∙ sym m.left ∙ ap (left c) (sym (append-nil _)) in
     record {
-      phase = subst (λ (v : World). phase_of v.now.words ≡ 3) left_is (omega arith);
+      phase = subst (λ (v : World). phase_of v.now.words ≡ 3) left_is (omega (arith, eqb-true _ 2 meets.phase));
       marked = subst (λ (v : World). IsMarkedOnly c v T) left_is marked;
       begun = refl;
     }
@@ -137,8 +134,7 @@ kept_is_marked : (c : Config) (w : World) (i : ℕ) → has_bit_of c w.now.words
     → is_left_unmarked w.now.words (cell_of_allocation c (placed_at w.allocations i)) ≡ false
     → is_marked w.now.words (cell_of_allocation c (placed_at w.allocations i)) ≡ true
 kept_is_marked c w i taken kept =
-    let cell : Cell = cell_of_allocation c (placed_at w.allocations i) in
-    not_both _ _ (sym (has_bit_without _ _ cell.index) ∙ kept) taken
+    not_both _ _ (sym (has_bit_without _ _ (cell_of_allocation c (placed_at w.allocations i)).index) ∙ kept) taken
   where
     not_both : (a b : Bool) → (a && not b) ≡ false → a ≡ true → b ≡ true
     not_both true false h e = sym h

@@ -57,9 +57,7 @@ module _ (c : Config) (w : World) (n : NeverState) (known : KnownWorld c w) (all
     | inl e ↦ e
     | inr e ↦
         let s = shows_at c (view_of w.now) k InCall known.now.orderly lt in_call in
-        let g = all.run_gates e k lt s.1 in
-        let one = s.0 in
-        absurd (omega arith)
+        absurd (omega (arith, all.run_gates e k lt s.1, s.0))
   ]
 
   -- so headers tell it what is unmapped.

@@ -14,8 +14,7 @@ use Rattle.mk_laws.specs.Promises.{AtEachMoment, KeepsAllPromises}
 use Rattle.mk_laws.proofs.InvariantTheorems as invariant
 
 at_each : (claim : Config → List Event → Type 0) → OfHistories claim → OfHistories (AtEachMoment claim)
-at_each claim of c es h front more is =
-    of c front (earlier_part_is_history c front more (subst (λ (xs : List Event). IsHistory c xs) is h))
+at_each claim of c es h front more is = of c front (earlier_part_is_history c front more (subst (IsHistory c) is h))
 
 pub histories_keep_all_promises : OfHistories KeepsAllPromises
 histories_keep_all_promises c es h =

@@ -74,8 +74,7 @@ others_out : (c : Config) (w : World) (seat s : Seat) (x : Step) → Known c w.n
     → Holds c w.now s → OthersMove c w seat (WorldBehind c w seat x)
 others_out c w seat s x known h ne holds =
     let t = holds_turn c w.now s known.orderly holds in
-    let turn = turn_of c (view_of w.now) s known.orderly t in
-    others_move c w seat x known (λ e. absurd (omega arith))
+    others_move c w seat x known (λ e. absurd (omega (arith, turn_of c (view_of w.now) s known.orderly t)))
     (λ out. ne (same_holder c (view_of w.now) seat s known.orderly out t)) h
 
 still_holds : (c : Config) (s : Seat) (w v : World) → flight_of v.now s ≡ flight_of w.now s
@@ -122,7 +121,7 @@ in_call_gate c m k known is = elim (cases_lt k c.callers) [
             (in_call_is (standing f) (in_call_told f.stage f.op (not_astray c m known.orderly k lt) ∙ is)),
       )
   | inr past ↦
-      let f : false ≡ true = ap (λ (g : Flight). is_in_call g)
+      let f : false ≡ true = ap is_in_call
       (sym (get_or_past m.seats.flights k at_rest (omega (arith, known.orderly.flights)))) ∙ is in
       cc
 ]
@@ -187,7 +186,7 @@ left_same c s w =
 -- what the seat is in the middle of, it still is
 
 still_calls : (c : Config) (s : Seat) (w u : World) → OwnIsLeft c s w u → IsInCall w.now s → IsInCall u.now s
-still_calls c (Caller k) w u l call = ap (λ (f : Flight). is_in_call f) l.flight ∙ call
+still_calls c (Caller k) w u l call = ap is_in_call l.flight ∙ call
 still_calls c _ w u l call = call
 
 pub still_attends : (c : Config) (s : Seat) (w u : World) → OwnIsLeft c s w u → Attends w.now s → Attends u.now s
@@ -195,7 +194,7 @@ still_attends c (Marker k) w u l a = ap (λ (y : MarkerState). is_attending y.pr
 still_attends c _ w u l a = a
 
 still_in : (c : Config) (s : Seat) (w u : World) → OwnIsLeft c s w u → IsIn w.now s → IsIn u.now s
-still_in c (Marker k) w u l i = ap (λ (y : MarkerState). is_in y) l.marker ∙ i
+still_in c (Marker k) w u l i = ap is_in l.marker ∙ i
 still_in c _ w u l i = i
 
 still_stopped : (c : Config) (s : Seat) (w u : World) → Left c s w u → HoldsAll c w.now s → HoldsAll c u.now s
@@ -218,10 +217,9 @@ left_joined c s w u v a b =
       turn = λ holds. turn_joined w u v (a.turn holds) (b.turn (a.own.holding holds).0);
       stop = λ all. b.stop (still_stopped c s w u a all) ∙ a.stop all;
       scan = λ att.
-          let x = a.scan att in
           let y = b.scan (still_attends c s w u a.own att) in (
-            grows_joined w.now.words.marks u.now.words.marks v.now.words.marks x.0 y.0,
-            grows_joined w.now.words.blacks u.now.words.blacks v.now.words.blacks x.1 y.1,
+            grows_joined w.now.words.marks u.now.words.marks v.now.words.marks (a.scan att).0 y.0,
+            grows_joined w.now.words.blacks u.now.words.blacks v.now.words.blacks (a.scan att).1 y.1,
           );
     }
 
@@ -275,18 +273,15 @@ counts_later c s w (e ∷ es) k on others holds =
 counts_left : (c : Config) (es more : List Event) → CountsNothing c (left c es) more → CountsAreLeft c es (es ++ more)
 counts_left c es more h =
     record {
-      ends = sum_by-append (λ (x : Event). cond {A = ℕ} (is_end x.step) 1 0) es more
-          ∙ (let r = h.none_ends in omega arith);
-      fulls = rw (calls_append c (first_world c) es more) (fulls_append (calls c es) _
-          ∙ (let r = h.none_full in omega arith));
+      ends = sum_by-append (λ (x : Event). cond {A = ℕ} (is_end x.step) 1 0) es more ∙ (omega (arith, h.none_ends));
+      fulls = rw (calls_append c (first_world c) es more) (fulls_append (calls c es) _ ∙ (omega (arith, h.none_full)));
     }
 
 -- the law
 
 scan_left : (c : Config) (s : Seat) (w v : World) → Left c s w v → Protocol c v.now → Attends w.now s → ScanIsLeft w v
 scan_left c s w v l p a =
-    let grow = l.scan a in
-    record { phase = by s (still_attends c s w v l.own a); marks = grow.0; blacks = grow.1 }
+    record { phase = by s (still_attends c s w v l.own a); marks = (l.scan a).0; blacks = (l.scan a).1 }
   where
     by : (s : Seat) → Attends v.now s → (phase_of v.now.words ≡ 1) ⊎ (phase_of v.now.words ≡ 2)
     by (Marker k) a = p.attends k a
@@ -301,7 +296,6 @@ is_left : (c : Config) (s : Seat) (es more : List Event) → Left c s (left c es
     → Known c (left c (es ++ more)).now
     → (Holds c (left c es).now s → CountsAreLeft c es (es ++ more)) → IsLeft c s es (es ++ more)
 is_left c s es more l known counts =
-    let p = protocol_of c _ known in
     record {
       own = l.own;
       in_call = λ k is call. record {
@@ -310,8 +304,8 @@ is_left c s es more l known counts =
       };
       turn = λ holds. (l.turn holds, counts holds);
       stop = l.stop;
-      scan = λ a. scan_left c s (left c es) _ l p a;
-      visit = λ i. visit_left c s _ p (still_in c s (left c es) _ l.own i);
+      scan = λ a. scan_left c s (left c es) _ l (protocol_of c _ known) a;
+      visit = λ i. visit_left c s _ (protocol_of c _ known) (still_in c s (left c es) _ l.own i);
     }
 
 pub others_leave : OthersLeave

@@ -24,7 +24,7 @@ changed gs j x i h = elim (cases_eq i j) [
     | inl lt ↦
         let now : slice_index (slice_set gs j x) i ≡ x = rw e (get_or-set_same gs j x 0 lt) in
         let ne = eqb-false _ _ (not-true _ h) in
-        record { same = e; now = now; other = λ old. ne (now ∙ old ∙ ap (λ k. slice_index gs k) (sym e)) }
+        record { same = e; now = now; other = λ old. ne (now ∙ old ∙ ap (slice_index gs) (sym e)) }
     | inr past ↦ absurd (unchanged gs i (rw (set_past gs j x past) at h))
   ]
   | inr ne ↦ absurd (unchanged gs i (rw (get_or-set_other gs j i x 0 ne) at h))

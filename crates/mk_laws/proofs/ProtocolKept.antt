@@ -24,16 +24,25 @@ pub record PhaseKept (c : Config) (v : View) (p : ℕ) : Type 0 where
   pub stopped : p % 8 ≡ 3 → (k : ℕ) → k < c.callers → v.turn ≢ 1 + k → gate_in v k ≡ 2
   pub attends : (k : ℕ) → is_attending (marker_in v k).presence ≡ true → (p % 8 ≡ 1) ⊎ (p % 8 ≡ 2)
 
-pub phase_kept : (c : Config) (v : View) (seat : Seat) (p : ℕ) → Orderly c v → HoldsTurn c v seat → PhaseStep c v seat p
-    → PhaseKept c v p
-phase_kept c v seat p h t (Begins z) =
-    let n = up_one v.phase _ (v.phase % 8) h.phase h.low (few_in c v h) (omega arith) in
+-- from a phase in which no marker attends to one that isn't the stop
+quiet : (c : Config) (v : View) (p m : ℕ) → Orderly c v → (p % 8 ≡ m) × (p ≡ m + 8 * count_in v.markers) → m ≤ 5 → m ≢ 3
+    → (v.phase % 8 ≡ 0) ⊎ (3 ≤ v.phase % 8) → PhaseKept c v p
+quiet c v p m h n low no_stop idle =
     record {
       phase = omega (arith, n.0, n.1);
       low = omega (arith, n.0);
-      stopped = λ e. absurd (omega (arith, n.0));
-      attends = λ k a. elim (h.attends k a) [ inl e ↦ absurd (omega arith) | inr e ↦ absurd (omega arith) ];
+      stopped = λ e. absurd (no_stop (sym n.0 ∙ e));
+      attends = λ k a. absurd (elim (h.attends k a) [
+        | inl e ↦ elim idle [ inl z ↦ omega arith | inr l ↦ omega arith ]
+        | inr e ↦ elim idle [ inl z ↦ omega arith | inr l ↦ omega arith ]
+      ]);
     }
+
+pub phase_kept : (c : Config) (v : View) (seat : Seat) (p : ℕ) → Orderly c v → HoldsTurn c v seat → PhaseStep c v seat p
+    → PhaseKept c v p
+phase_kept c v seat p h t (Begins z) =
+    quiet c v p _ h (up_one v.phase _ (v.phase % 8) h.phase h.low (few_in c v h) (omega arith)) (omega arith)
+    (λ e. omega arith) (inl z)
 phase_kept c v seat p h t (Wants z) =
     let n = up_one v.phase _ (v.phase % 8) h.phase h.low (few_in c v h) (omega arith) in
     record {
@@ -52,29 +61,12 @@ phase_kept c v seat p h t (Closes z held none) =
       attends = λ k a. let f : true ≡ false = sym a ∙ none k in cc;
     }
 phase_kept c v seat p h t (Releases z) =
-    let n = up_one v.phase _ (v.phase % 8) h.phase h.low (few_in c v h) (omega arith) in
-    record {
-      phase = omega (arith, n.0, n.1);
-      low = omega (arith, n.0);
-      stopped = λ e. absurd (omega (arith, n.0));
-      attends = λ k a. elim (h.attends k a) [ inl e ↦ absurd (omega arith) | inr e ↦ absurd (omega arith) ];
-    }
-phase_kept c v seat p h t (Ends z) =
-    let n = down_four v.phase _ (v.phase % 8) h.phase (few_in c v h) z in
-    record {
-      phase = omega (arith, n.0, n.1);
-      low = omega (arith, n.0);
-      stopped = λ e. absurd (omega (arith, n.0));
-      attends = λ k a. elim (h.attends k a) [ inl e ↦ absurd (omega arith) | inr e ↦ absurd (omega arith) ];
-    }
-phase_kept c v seat p h t (Stops z) =
-    let n = up_five v.phase _ (v.phase % 8) h.phase (few_in c v h) z in
-    record {
-      phase = omega (arith, n.0, n.1);
-      low = omega (arith, n.0);
-      stopped = λ e. absurd (omega (arith, n.0));
-      attends = λ k a. elim (h.attends k a) [ inl e ↦ absurd (omega arith) | inr e ↦ absurd (omega arith) ];
-    }
+    quiet c v p _ h (up_one v.phase _ (v.phase % 8) h.phase h.low (few_in c v h) (omega arith)) (omega arith)
+    (λ e. omega arith) (inr (omega arith))
+phase_kept c v seat p h t (Ends z) = quiet c v p _ h (down_four v.phase _ (v.phase % 8) h.phase (few_in c v h) z)
+    (omega arith) (λ e. omega arith) (inr (omega arith))
+phase_kept c v seat p h t (Stops z) = quiet c v p _ h (up_five v.phase _ (v.phase % 8) h.phase (few_in c v h) z)
+    (omega arith) (λ e. omega arith) (inl z)
 
 flights_kept : (c : Config) (v : View) (seat : Seat) (f : Flight) → Orderly c v
     → length (flights_with v.flights seat f) ≡ c.callers

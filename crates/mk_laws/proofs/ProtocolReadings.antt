@@ -33,8 +33,7 @@ attending_in _ h = cc
 pub in_counts : (c : Config) (m : Moment) (k : ℕ) → Protocol c m → is_in (marker_of m k) ≡ true → 1 ≤ m.words.phase / 8
 in_counts c m k p is = elim (cases_lt k (length m.seats.markers)) [
   | inl lt ↦ let one = count_in-at m.seats.markers k lt is in let high = p.high in omega arith
-  | inr past ↦ let f : false ≡ true =
-      ap (λ (x : MarkerState). is_in x) (sym (get_or_past m.seats.markers k outside past)) ∙ is in cc
+  | inr past ↦ let f = ap is_in (sym (get_or_past m.seats.markers k outside past)) ∙ is in cc
 ]
 
 phase_tells : (c : Config) (m : Moment) → Protocol c m → PhaseTells c m

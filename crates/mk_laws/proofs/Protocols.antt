@@ -31,9 +31,8 @@ told c m o operands =
       turn = o.turn;
       gate = λ k lt. (gates k lt).0;
       in_call = λ k lt.
-          let g = (gates k lt).1 in
           let told = in_call_told (flight_of m (Caller k)).stage (flight_of m (Caller k)).op (not_astray c m o k lt) in
-          (λ x. sym told ∙ g.0 x, λ x. g.1 (told ∙ x));
+          (λ x. sym told ∙ (gates k lt).1.0 x, λ x. (gates k lt).1.1 (told ∙ x));
       held = λ k lt. (gates k lt).2;
       holder = λ k lt.
           let t = shows_turn m.words.turn (gate_in (view_of m) k) k (standing (flight_of m (Caller k))) (o.each k lt) in

@@ -39,10 +39,8 @@ shown_at c w i laid u =
 pub frees_some : (pages : ℕ) (w : Words) (f : Flight) (p n : ℕ) → is_phase w 4 ≡ false
     → frees w (target pages w f) p n ≡ true → cell_freed pages w f p n ≡ None → ⊥
 frees_some pages w f p n off h none =
-    let both : (not (is_phase w 4) && frees w (target pages w f) p n) ≡ true = and_from _ _ (ap not off) h in
-    let at : target pages w f ≡ None = sym (cond-true _ _ None both) ∙ none in
-    let e : true ≡ false = sym h ∙ ap (λ (x : Option Cell). frees w x p n) at in
-    true≢false e
+    let at : target pages w f ≡ None = sym (cond-true _ _ None (and_from _ _ (ap not off) h)) ∙ none in
+    true≢false (sym h ∙ ap (λ (x : Option Cell). frees w x p n) at)
 
 -- a New and a Free aren't the same call
 not_both : (f : Flight) → is_undecided_new f ≡ true → is_undecided_free f ≡ true → ⊥
@@ -65,10 +63,9 @@ quar_none c w f p n lf ls none (ItTakesSnapshot x) q =
     let small = (q.small p).0 in
     let low : n % 2 ^ 32 ≡ slice_index w.now.words.freed p = omega arith in
     let high : n / 2 ^ 32 ≡ slice_index w.now.words.freed p = omega arith in
-    let same : slice_set w.now.words.freed p (n % 2 ^ 32) ≡ w.now.words.freed =
-    rw low (set-get_or w.now.words.freed p 0) in
+    let same : slice_set w.now.words.freed p (n % 2 ^ 32) ≡ w.now.words.freed = rw low (set-get_or _ p 0) in
     let off = off_at w 0 x.phase (λ e. absurd (omega arith)) in
-    rw off (rw same (rw high (snapshot_kept c w.now.words.marks (ground_of w) p ls (rw off at q))))
+    rw off (rw same (rw high (snapshot_kept c _ (ground_of w) p ls (rw off at q))))
 
 -- what a step that frees finds
 pub frees_here : (c : Config) (w : World) (seat : Seat) (p n : ℕ) (cell : Cell) → Before c w
@@ -139,8 +136,7 @@ used_kept c w seat p n pages laid q (ItTakes off once x) =
     rw off (rw x.there (take_kept c w.now.words.marks (ground_of w) pages x.place (λ i u. (shown_at c w i laid u).used)
     (rw (← x.taken.at) x.taken.unused) (rw off at q)))
 used_kept c w seat p n pages laid q (ItGivesBack on x) =
-    rw on (replaced c true w.now.words.marks (ground_of w) pages w.now.seats.holding.placing w.now.seats.holding.freed
-    (λ place e. e) (rw on at q))
+    rw on (replaced c true _ (ground_of w) pages _ _ (λ place e. e) (rw on at q))
 
 -- `mark`
 mark_from : (t : Bool) (placing : Placing) (found : Option Place) (place : Place)
@@ -182,19 +178,16 @@ quarantine_by_kind c w seat (Step.Take o) b h laid q = by (w.now.words.turn == 0
     })
     by false is = q
     by true is = rw (b.known.orderly.free (eqb-true w.now.words.turn 0 is)) at q
-quarantine_by_kind c w seat Step.Give b h laid q =
-    replaced c _ w.now.words.marks (ground_of w) w.now.words.pages Unplaced None (λ place e. cc) q
+quarantine_by_kind c w seat Step.Give b h laid q = replaced c _ _ (ground_of w) _ Unplaced None (λ place e. cc) q
 quarantine_by_kind c w seat Step.Reg b h laid q = kept_ground c w _ (reg_leaves_ground c w seat) q
 quarantine_by_kind c w seat (Step.Tally n v) b h laid q = kept_ground c w _ (tally_ground w.now.words n v) q
 quarantine_by_kind c w seat (Step.Head p n) b h laid q =
-    replaced c _ w.now.words.marks (ground_of w) _ _ w.now.seats.holding.freed
-    (λ place e. head_from _ w.now.seats.holding.placing _ place e) q
+    replaced c _ _ (ground_of w) _ _ _ (λ place e. head_from _ _ _ place e) q
 quarantine_by_kind c w seat (Step.Used p n) b h laid q =
     used_kept c w seat p n _ laid q (used_step c w.now _ p n h.holder)
 quarantine_by_kind c w seat (Step.Quar p n) b h laid q = quar_kept c w seat p n b h laid q
 quarantine_by_kind c w seat Step.Grant b h laid q =
-    let off = grants_early w h.phase in
-    rw off (grant_kept c w.now.words.marks (ground_of w) _ refl (rw off at q))
+    rw (grants_early w h.phase) (grant_kept c w.now.words.marks (ground_of w) _ refl (rw (grants_early w h.phase) at q))
 quarantine_by_kind c w seat (Step.Mark p n) b h laid q =
     replaced c _ w.now.words.marks (ground_of w) _ _ w.now.seats.holding.freed (λ place e.
     mark_from _ w.now.seats.holding.placing _ place e) q

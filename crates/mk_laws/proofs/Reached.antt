@@ -5,7 +5,7 @@ use Rattle.mk_laws.proofs.Vocabulary.{Value, WordOf, ℕ, allocation_at, ap, ari
 use Rattle.mk_laws.proofs.Vocabulary.{header_of, image_of, is_unmapped, is_unmapped_header, kind_in, length, length-map}
 use Rattle.mk_laws.proofs.Vocabulary.{number_of, placed_at, refl, sym, target_of, true, word_at, words_of, ◌++◌, ◌+◌}
 use Rattle.mk_laws.proofs.Vocabulary.{◌-◌, ◌/◌, ◌<◌, ◌∙◌, ◌≡◌, ◌≢◌}
-use Rattle.mk_laws.proofs.{ImagesKept.base_at, Pairs.image_more, Ready.Ready}
+use Rattle.mk_laws.proofs.{HeapEdits.base_at, Pairs.image_more, Ready.Ready}
 
 -- the access through the value, i words on, whose address is in q
 pub record Reaches (safe : ℕ → Bool) (s : ImageScene) (n : NeverState) (v : Value) (q i : ℕ) (P : Kind

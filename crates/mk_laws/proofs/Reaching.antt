@@ -33,8 +33,7 @@ looked_at : (c : Config) (x : Word) → c.callers ≤ 16 → is_word c x ≡ tru
 looked_at c (Word.Gate j) small h = let lt = ltb-true j c.callers h in omega arith
 looked_at c (Word.Reg j r) small h =
     let both = and_parts _ (nat_lt r 8) h in
-    let lt = ltb-true j c.callers both.0 in
-    (omega arith, ltb-true r 8 both.1)
+    (omega (arith, ltb-true j c.callers both.0), ltb-true r 8 both.1)
 looked_at c (Word.Global g) small h = ltb-true g 64 h
 looked_at c (Word.Head p) small h = ltb-true p c.pages h
 looked_at c (Word.Used p) small h = ltb-true p c.pages h
@@ -89,21 +88,16 @@ reaches c m seat (Step.Undirty p) known heap h = ltb-true p c.pages h.range
 reaches c m seat (Step.Black p v) known heap h = ltb-true p c.pages h.range
 reaches c m seat (Step.Unblack p) known heap h = ltb-true p c.pages h.range
 reaches c m seat (Step.Mlook w) known heap h = looked_at c w known.small h.range
-reaches c m seat (Step.Claim p i) known heap h =
-    ltb-true p c.pages (and_parts (nat_lt p c.pages) (nat_lt i 32) h.range).0
-reaches c m seat Step.Mload known heap h = next_in_heap c (marker_at m seat).scan
-    (and_parts (has_next_word (marker_at m seat).scan) (is_none (marker_at m seat).hand) h.marker).0
-    (seat_marker c m seat heap).end
+reaches c m seat (Step.Claim p i) known heap h = ltb-true p c.pages (and_parts _ (nat_lt i 32) h.range).0
+reaches c m seat Step.Mload known heap h = next_in_heap c _ (and_parts _ _ h.marker).0 (seat_marker c m seat heap).end
 reaches c m seat Step.Mmark known heap h = seen_page_in_heap c (marker_at m seat).seen (marker_at m seat).hand h.marker
-reaches c m seat Step.Mblack known heap h = scan_page_in_heap c (marker_at m seat).scan
-    (and_parts (is_scanned (marker_at m seat).scan) (is_none (marker_at m seat).hand) h.marker).0
+reaches c m seat Step.Mblack known heap h = scan_page_in_heap c _ (and_parts _ _ h.marker).0
     (seat_marker c m seat heap).page
 reaches c m seat _ known heap h = tt
 
 pub events_reach_the_table : EventsReachTheTable
 events_reach_the_table c es e limits on now =
-    reaches c (left c es).now e.seat e.step (known_left c es limits on) (in_heap_left c es limits on)
-    (enabled_meets c (left c es).now e now)
+    reaches c _ e.seat e.step (known_left c es limits on) (in_heap_left c es limits on) (enabled_meets c _ e now)
 
 -- the access is the same where the call, the marker and a New's place are
 
@@ -119,9 +113,8 @@ new_in_turn _ _ h = cc
 
 granter_holds : (c : Config) (m : Moment) (seat : Seat) → Meets c m seat Step.Grant → Holds c m seat
 granter_holds c m seat h =
-    let new = grants_new c m seat h in
-    let own = new_holds c m seat Step.Grant h new in
-    rw own.2 (own.1, new_in_turn _ _ (rw own.2 at new))
+    let own = new_holds c m seat Step.Grant h (grants_new c m seat h) in
+    rw own.2 (own.1, new_in_turn _ _ (rw own.2 at (grants_new c m seat h)))
 
 same_access : (c : Config) (m n : Moment) (seat : Seat) (x : Step) → flight_of n seat ≡ flight_of m seat
     → marker_at n seat ≡ marker_at m seat → (is_grant x ≡ true → n.seats.holding ≡ m.seats.holding)

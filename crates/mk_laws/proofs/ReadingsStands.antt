@@ -64,8 +64,7 @@ module _ (c : Config) (w : World) (n : NeverState) (known : KnownWorld c w) (all
       × (cell_of_allocation c (placed_at w.allocations t.number) ≡ cell)
   taken cell t =
       let a : PlacedAllocation = placed_at w.allocations t.number in
-      let u = not-true a.released (and_parts _ _ t.stands).0 in
-      let s = standing c w known all.order.laid t.number u in
+      let s = standing c w known all.order.laid t.number (not-true a.released (and_parts _ _ t.stands).0) in
       taken_cell_is c w cell t (typed_size c a known.limits s.stands.typed) s.headers
 
   words_tell : WordsTellWhatStands w

@@ -8,7 +8,7 @@ use Rattle.mk_laws.proofs.Vocabulary.{placed_at, refl, replies_of, slice_set, sy
 use Rattle.mk_laws.proofs.Vocabulary.{◌==◌, ◌^◌, ◌∙◌, ◌∷◌, ◌≡◌}
 use Rattle.mk_never.proofs.{Sameness.equal_from_same, Sameness.same_from_equal, Soundness.place_is_inside}
 use Rattle.mk_never.specs.NeverHeap.{reply_of}
-use Rattle.mk_laws.proofs.{ImagesKept.AreApart, ImagesKept.AreSmall, ImagesKept.base_at, ImagesMoves.Move}
+use Rattle.mk_laws.proofs.{HeapEdits.base_at, ImagesKept.AreApart, ImagesKept.AreSmall, ImagesMoves.Move}
 use Rattle.mk_laws.specs.Images.{AreImages}
 
 pub record Ready (listed : List ℕ) (safe : ℕ → Bool) (s : ImageScene) (n : NeverState) : Type 0 where
@@ -64,8 +64,7 @@ pub image_test : (listed : List ℕ) (safe : ℕ → Bool) (s : ImageScene) (n :
 image_test listed safe s n h u v su sv fu fv = elim (cases_Bool (is_same u v)) [
   | inl e ↦ eq-eqb _ _ (ap (image_of (bases_of s.allocations)) (equal_from_same u v e)) ∙ sym e
   | inr e ↦ ne_eqb _ _
-      (λ same. let x : true ≡ false = sym (same_from_equal u v (image_same listed safe s n h u v su sv fu fv same))
-      ∙ e in cc) ∙ sym e
+      (λ same. let x = sym (same_from_equal u v (image_same listed safe s n h u v su sv fu fv same)) ∙ e in cc) ∙ sym e
 ]
 
 pub bit_is : (b : Bool) → one_if b ≡ bit b

@@ -10,11 +10,10 @@ use Rattle.mk_laws.proofs.Vocabulary.{subst, sym, true, ◌%◌, ◌*◌, ◌++�
 use Rattle.mk_never.specs.declared.values.Target.TheVariants.{Nothing}
 use Rattle.mk_never.specs.NeverHeap.{free_reply, lea_reply, moved_on}
 use Rattle.mk_core.specs.Calls.{value_for}
-use Rattle.mk_laws.proofs.ImagesMoves.{Flies, Move, Pays, Stores}
 use Rattle.mk_laws.proofs.Ready.{Leads, LeadsBy, Ready, bit_is, either_leads, image_test, image_zero, one_right}
 use Rattle.mk_laws.proofs.Refusals.{accesses, decides_nothing, owes_null, refuses}
-use Rattle.mk_laws.proofs.Standings.{is_astray, standing_at}
-use Rattle.mk_laws.proofs.{ImagesKept.base_at, Pairs.shows_plain, Stages.is_reg_stage}
+use Rattle.mk_laws.proofs.{HeapEdits.base_at, ImagesMoves.Flies, ImagesMoves.Move, ImagesMoves.Pays, ImagesMoves.Stores}
+use Rattle.mk_laws.proofs.{Pairs.shows_plain, Stages.is_reg_stage, Standings.is_astray, Standings.standing_at}
 
 abbrev pub flight : Stage → Op → ℕ → ℕ → ℕ → ℕ → Flight
 flight st o q p r l = record { stage = st; op = o; q = q; p = p; r = r; loaded = l }
@@ -64,10 +63,7 @@ lea_value : (listed : List ℕ) (safe : ℕ → Bool) (s : ImageScene) (n : Neve
 lea_value listed safe s n h Null x i sound is e ne meets = absurd (ne e)
 lea_value listed safe s n h (Num m) x i sound is e ne meets = absurd sound
 lea_value listed safe s n h (Ptr a t o) x i sound is e ne meets =
-    let b = h.bound a (o + i) (h.set.unreleased a is) meets.0 in
-    let ba = base_at s.allocations a in
-    let room = h.room in
-    (omega arith, is, refl)
+    (omega (arith, h.bound a (o + i) (h.set.unreleased a is) meets.0, base_at s.allocations a, h.room), is, refl)
 
 -- the registers after `reg`
 abbrev pub registers_behind : List ℕ → ℕ → Flight → Stage → List ℕ
@@ -120,10 +116,9 @@ module _ (listed : List ℕ) (safe : ℕ → Bool) (s : ImageScene) (n : NeverSt
     reg_q (Op.Same p' q') q p r l x is ld a car e =
         let u = register_at n k p' in
         let v = register_at n k q' in
-        let ep : p ≡ image_of bases u = car.p refl in
         let tests : (p == x) ≡ is_same u v =
-        rw ep (rw e (image_test listed safe s n h u v (h.typed.registers (8 * k + p')) (h.typed.registers (8 * k + q'))
-        (h.set.registers (8 * k + p')) (h.set.registers (8 * k + q')))) in
+        rw (car.p refl) (rw e (image_test listed safe s n h u v (h.typed.registers (8 * k + p'))
+        (h.typed.registers (8 * k + q')) (h.set.registers (8 * k + p')) (h.set.registers (8 * k + q')))) in
         decides_nothing safe s n k (Op.Same p' q') _ (Answer.Num (one_if (p == x))) refl (rw is) refl refl
         (λ bs. rw tests (ap Answer.Num (bit_is (is_same u v))))
     reg_q _ q p r l x is ld a car e = cc

@@ -22,14 +22,9 @@ pub ends_on_pages : (o : Object) (base : ℕ) → IsSized o → BeginsAtCell o b
     → base + words_made o ≤ 64 * (base / 64 + pages_made o)
 ends_on_pages o base sized b = elim (cases_Bool (is_small_object o)) [
   | inl small ↦
-      let ends = cell_ends_within o base sized small b in
-      let one = small_pages o small in
-      let first = b.first in
-      omega arith
+      omega (arith, cell_ends_within o base sized small b, small_pages o small, b.first)
   | inr large ↦
-      let words = large_words o large in
-      let first = (run_begins o base large b).1 in
-      omega arith
+      omega (arith, large_words o large, (run_begins o base large b).1)
 ]
 
 -- what mk_core asks of an allocation
@@ -46,10 +41,9 @@ stands_there c run w a len shown u at =
         unreleased = u;
         begins = at.begins;
         within =
-            let ends = ends_on_pages _ a.base shown.sized at.begins in
             let inside : a.base / 64 + pages_made (object_placed c a) ≤ length w.pages = shown.within in
             let words : storage_words c a ≡ words_made (object_placed c a) = refl in
-            omega arith;
+            omega (arith, ends_on_pages _ a.base shown.sized at.begins);
       };
       headers = λ d lt. header_of_mode _ _ d _ (shown.headers d lt);
     }
@@ -153,8 +147,6 @@ released_terrain c o w limits len st kept =
       | inl j ↦ record { claim = r.claim; among = j; page = r.page; count = r.count; large = r.large; mode = r.mode }
       | inr lost ↦
           let shown = st.scene.shown r.claim (own_claim c o (ground_of w) r.claim r.among) in
-          let one = large_cells r.claim.object r.large in
-          let lt = shown.known in
-          let zero : r.claim.index ≡ 0 = omega arith in
+          let zero : r.claim.index ≡ 0 = omega (arith, large_cells r.claim.object r.large, shown.known) in
           absurd (true≢false (sym lost ∙ rw r.page (rw zero (kept x is))))
     ]

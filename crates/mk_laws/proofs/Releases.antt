@@ -37,23 +37,20 @@ none_begins : (c : Config) (w : World) (b x : Event) (ys zs : List Event) → Ar
     → list_any (λ (e : Event). is_begin e.step) (ys ++ x ∷ zs) ≡ false
 none_begins c w b x ys zs on begins no_close closes no_release =
     let first = moves_phase c w b (ys ++ x ∷ zs) on in
-    let one : phase_of (world_behind c w b).now.words ≡ 1 = first.1
-    ∙ ap (λ (s : Step). phase_behind s (phase_of w.now.words)) (begin_is b.step begins) in
+    let one = first.1 ∙ ap (λ (s : Step). phase_behind s (phase_of w.now.words)) (begin_is b.step begins) in
     let parts = enabled_parts c _ ys (x ∷ zs) first.2 in
     let begun : IsMarking (phase_of (world_behind c w b).now.words) =
     record { least = omega arith; most = omega arith } in
     let marking = marking_goes_on c _ ys parts.0 begun no_close in
     let v : World = left_from c (world_behind c w b) ys in
     let close = moves_phase c v x zs parts.1 in
-    let three : phase_of (world_behind c v x).now.words ≡ 3 = close.1
-    ∙ ap (λ (s : Step). phase_behind s (phase_of v.now.words)) (close_is x.step closes) in
+    let three = close.1 ∙ ap (λ (s : Step). phase_behind s (phase_of v.now.words)) (close_is x.step closes) in
     let closed : IsUnreleased (phase_of (world_behind c v x).now.words) =
     record { least = omega arith; most = omega arith } in
-    let rest = none_is_released c _ zs close.2 closed no_release in
     list_any-append (λ (e : Event). is_begin e.step) ys (x ∷ zs)
     ∙ ap (λ b. b || list_any (λ (e : Event). is_begin e.step) (x ∷ zs)) marking.none_begins
     ∙ ap (λ (s : Step). is_begin s || list_any (λ (e : Event). is_begin e.step) zs) (close_is x.step closes)
-    ∙ rest.none_begins
+    ∙ (none_is_released c _ zs close.2 closed no_release).none_begins
 
 -- A `release` decides no call.
 none_decided : (c : Config) (m : Moment) (e : Event) → e.step ≡ Step.Release → call_decided c m e ≡ []
@@ -93,14 +90,14 @@ module _ (c : Config) (es : List Event) (h : IsHistory c es) (r : Releasing es) 
       ∙ sym (with_rest begin.before close.before last.before (last.event ∷ last.behind) begin.event close.event)
 
   whole : IsHistory c (front ++ last.event ∷ last.behind)
-  whole = subst (λ (xs : List Event). IsHistory c xs) es_is h
+  whole = subst (IsHistory c) es_is h
 
   before_is_history : IsHistory c front
   before_is_history = earlier_part_is_history c front (last.event ∷ last.behind) whole
 
   behind_is_history : IsHistory c (front ++ last.event ∷ [])
   behind_is_history = earlier_part_is_history c _ last.behind
-      (subst (λ (xs : List Event). IsHistory c xs) (sym (append_assoc front (last.event ∷ []) last.behind)) whole)
+      (subst (IsHistory c) (sym (append_assoc front (last.event ∷ []) last.behind)) whole)
 
   -- the `begin`, in the list up to the `release`
   abbrev begin_at : At is_begin front

@@ -35,9 +35,8 @@ pub count_none : (n : ℕ) (test : ℕ → Bool) → ((p : ℕ) → test p ≡ f
 unfolding count_below
 count_none zero test none = refl
 count_none (suc n) test none =
-    let rest = count_none n test none in
     let last : cond {A = ℕ} (test n) 1 0 ≡ 0 = rw (none n) in
-    omega arith
+    omega (arith, count_none n test none)
 
 -- with the numbers of a range besides
 in_range : (n first size : ℕ) (test : ℕ → Bool)
@@ -46,9 +45,8 @@ in_range : (n first size : ℕ) (test : ℕ → Bool)
 unfolding count_below
 in_range zero first size test = omega arith
 in_range (suc n) first size test =
-    let rest = in_range n first size test in
     let last = by (test n) (nat_le first n) (nat_lt n (first + size)) (leb-true first n) (ltb-true n (first + size)) in
-    omega arith
+    omega (arith, in_range n first size test)
   where
     by : (t a b : Bool) → (a ≡ true → first ≤ n) → (b ≡ true → n < first + size)
         → (if t || (a && b) then 1 else 0) + min (n - first) size ≤ (if t then 1 else 0) + min (suc n - first) size
@@ -95,9 +93,7 @@ is_resident pages p = is_resident_page (use_of_page (page_in pages p))
 pub room_fewer : (c : Config) (o u : Object) (pages others : List Page) (placing other : Placing)
     → ((q : ℕ) → q < c.pages → is_taken_page others (plot_of u other) q ≡ true
     → is_taken_page pages (plot_of o placing) q ≡ true) → RoomOn c o pages placing → RoomOn c u others other
-room_fewer c o u pages others placing other fewer room =
-    let less = count_fewer c.pages _ _ fewer in
-    omega arith
+room_fewer c o u pages others placing other fewer room = omega (arith, count_fewer c.pages _ _ fewer)
 
 -- without a plot fewer are
 pub room_unplaced : (c : Config) (o u : Object) (pages others : List Page) (placing other : Placing)

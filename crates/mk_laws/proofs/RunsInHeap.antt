@@ -63,11 +63,8 @@ pub record Next (first page value : ℕ) (wanted : ℕ → ℕ) : Type 0 where
 pub next_is : (w : Words) (first count : ℕ) (wanted : ℕ → ℕ) (page value : ℕ)
     → is_next_header w first count wanted page value ≡ true → Next first page value wanted
 next_is w first count wanted page value h =
-    let last = and_parts _ _ h in
-    let three = and_parts _ _ last.0 in
-    let two = and_parts _ _ three.0 in
-    let one = and_parts _ _ two.0 in
-    record { behind = leb-true first page one.0; is = eqb-true value (wanted (page - first)) last.1 }
+    let one = and_parts _ _ (and_parts _ _ (and_parts _ _ (and_parts _ _ h).0).0).0 in
+    record { behind = leb-true first page one.0; is = eqb-true value (wanted (page - first)) (and_parts _ _ h).1 }
 
 carved_fits : (c : Config) (w : Words) (f : Flight) (place : Option Place) (p n : ℕ)
     → ((x : Place) → place ≡ Some x → PlaceFits c f.op x)
@@ -77,9 +74,7 @@ carved_fits c w f (Some x) p n fits h = λ count shows.
     let o = object_made c f.op in
     let next = next_is w x.page (pages_made o) (header_made o) p n (and_parts _ _ h).0 in
     let made = made_shown o (p - x.page) count (shown_word n count shows ∙ next.is) in
-    let room = fits x refl made.0 in
-    let at = next.behind in
-    omega (arith, made.1, made.2)
+    omega (arith, made.1, made.2, fits x refl made.0, next.behind)
 
 unmapped_fits : (c : Config) (w : Words) (run : Option RunPages) (p n : ℕ) → unmaps w run p n ≡ true → RunFits c p n
 unmapped_fits c w None p n h = cc
@@ -91,9 +86,8 @@ unmapped_fits c w (Some run) p n h = λ count shows.
 
 emptied_fits : (c : Config) (w : Words) (p n : ℕ) → empties w p n ≡ true → RunFits c p n
 emptied_fits c w p n h = λ count shows.
-    let word = shown_word n count shows in
     let zero : n ≡ 0 = eqb-true n 0 (value_zero h) in
-    absurd (omega arith)
+    absurd (omega (arith, shown_word n count shows))
   where
     value_zero : empties w p n ≡ true → (n == 0) ≡ true
     value_zero h = (and_parts (n == 0) _ (and_parts _ _ (and_parts _ _ h).0).0).0
@@ -105,7 +99,7 @@ header_set : (c : Config) (ps : List Page) (p n u : ℕ) → RunFits c p n → R
 header_set c ps p n u fits all q = elim (cases_eq q p) [
   | inl e ↦
       let own : RunFits c p (slice_index_or (slice_set ps p (record { header = n; used = u })) q free_page).header =
-      page_set ps p q (record { header = n; used = u }) (λ y. RunFits c p y) (λ lt. fits)
+      page_set ps p q (record { header = n; used = u }) (RunFits c p) (λ lt. fits)
       (λ count shows. rw e at (all q count shows)) in
       λ count shows. rw e (own count shows)
   | inr ne ↦ page_set_other ps p q (record { header = n; used = u }) ne (all q)

@@ -28,10 +28,8 @@ heap_after : (c : Config) (w : World) (seat : Seat) (x : Step) → (is_wipe x �
 heap_after c w seat Step.Reg no_wipe stored n none = ap (λ (t : Table). slice_index t.heap n) (reg_table c w.now seat)
 heap_after c w seat (Step.Tally t v) no_wipe stored n none =
     ap (λ (t : Table). slice_index t.heap n) (tally_table w.now.words t v)
-heap_after c w seat Step.Write no_wipe stored n none =
-    get_or-set_other w.now.words.heap _ n _ 0 (λ e. none (rw e (stored refl)))
-heap_after c w seat Step.Cas no_wipe stored n none =
-    get_or-set_other w.now.words.heap _ n _ 0 (λ e. none (rw e (stored refl)))
+heap_after c w seat Step.Write no_wipe stored n none = get_or-set_other _ _ n _ 0 (λ e. none (rw e (stored refl)))
+heap_after c w seat Step.Cas no_wipe stored n none = get_or-set_other _ _ n _ 0 (λ e. none (rw e (stored refl)))
 heap_after c w seat _ no_wipe stored n none = cc
 
 gone_after : (c : Config) (w : World) (seat : Seat) (x : Step) (freed : Option RunPages) → KnownWorld c w

@@ -115,9 +115,8 @@ claim_stands c m x p k own h = record { scan = λ s is. by x.seen own h.seen s i
             → (if b then Some (scan_begun p k seen.header) else None) ≡ Some s → ScanStands c m x.hand s
         marked false e is = absurd (none-some _ is)
         marked true e is =
-            let parts = and_parts _ _ own in
-            rw (same_Some _ _ is) at (begun_stands c m x.hand p k seen.header (ltb-true k _ parts.1) e
-            (rw (eqb-true seen.page p parts.0) at (goes seen refl)))
+            rw (same_Some _ _ is) at (begun_stands c m x.hand p k seen.header (ltb-true k _ (and_parts _ _ own).1) e
+            (rw (eqb-true seen.page p (and_parts _ _ own).0) at (goes seen refl)))
 
 -- `mload`: the word loaded is the hand, or points into nothing
 pub load_stands : (c : Config) (m : Moment) (x : Marker) (next : ℕ) → has_next_word x.scan ≡ true → x.hand ≡ None
@@ -183,9 +182,8 @@ seen_well c m x cell value is at h marked =
             → (if b then cell_at c.pages seen.header value else None) ≡ Some cell → IsWell c m.words value
         here false e at = absurd (none-some _ at)
         here true e at =
-            let now = (goes seen refl).cell value cell at in
             let there : cell_at c.pages (header_at m.words (page_at_address value)) value ≡ Some cell
-            = rw (eqb-true seen.page _ e) at now in
+            = rw (eqb-true seen.page _ e) at ((goes seen refl).cell value cell at) in
             λ y is. rw (same_Some _ _ (sym there ∙ is)) at marked
 
 -- `mblack`: the scan is at its end, and no hand is open

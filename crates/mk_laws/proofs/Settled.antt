@@ -14,11 +14,9 @@ use Rattle.mk_laws.specs.SettledPages.{is_freed_unmapped}
 pub unreleased_stand : UnreleasedStand
 unreleased_stand c es limits laid i u =
     let w : World = left c es in
-    let a : PlacedAllocation = placed_at w.allocations i in
-    let x : Claim = claim_of c w.now.seats.holding.freed a in
+    let x : Claim = claim_of c w.now.seats.holding.freed (placed_at w.allocations i) in
     let s = all_stand c _ _ w (histories_keep_lengths c es).pages laid i u in
-    let shown = laid.scene.shown x
-    (own_claim c _ (ground_of w) x (claim_among c w.now.seats.holding.freed w.allocations i u))
+    let shown = laid.scene.shown x (own_claim c _ (ground_of w) x (claim_among c _ w.allocations i u))
     in
     record { stands = s.stands; headers = s.headers; used = shown.used }
 
@@ -36,7 +34,7 @@ gone_is_unmapped w (Some run) gone = (and_parts _ _ gone).0
 
 pub unmapped_run : (w : World) → is_freed_unmapped w.now.words w.now.seats.holding.freed ≡ true → (run : RunPages)
     → w.now.seats.holding.freed ≡ Some run → is_run_unmapped w.now.words run ≡ true
-unmapped_run w unmapped run is = ap (λ (x : Option RunPages). is_freed_unmapped w.now.words x) (sym is) ∙ unmapped
+unmapped_run w unmapped run is = ap (is_freed_unmapped w.now.words) (sym is) ∙ unmapped
 
 settled_rests : (c : Config) (w : World) → IsWithinLimits c → length w.now.words.pages ≡ c.pages → LayoutStands c w
     → IsSettled w → Rests c w.now.words w.allocations

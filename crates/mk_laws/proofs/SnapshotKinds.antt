@@ -15,13 +15,13 @@ use Rattle.mk_laws.proofs.Vocabulary.{with_released, [], ◌%◌, ◌&&◌, ◌+
 use Rattle.mk_laws.proofs.Vocabulary.{◌≤◌, ◌⊎◌}
 use Rattle.mk_core.specs.StopConditions.{may_begin}
 use Rattle.mk_laws.proofs.Basics.{Before, LeavesCells, Meets, WorldBehind, all_stand, apart_left, bit_cases}
-use Rattle.mk_laws.proofs.Basics.{freeing_leaves, grants_new, holding_object, new_has_turn, placed_claim, reg_leaves}
-use Rattle.mk_laws.proofs.Basics.{reg_leaves_ground, releasing_leaves, tally_ground, tally_keeps}
-use Rattle.mk_laws.proofs.Granted.{pushed_any, pushed_at}
+use Rattle.mk_laws.proofs.Basics.{freeing_leaves, grants_new, holding_object, new_has_turn, placed_claim}
+use Rattle.mk_laws.proofs.Basics.{reg_leaves_ground, releasing_leaves, tally_ground}
+use Rattle.mk_laws.proofs.CyclePhases.{AsksPhase, phase_asked, phase_behind, phase_moves}
 use Rattle.mk_laws.proofs.QuarantineByKind.{frees_here, frees_some, shown_at}
 use Rattle.mk_laws.proofs.QuarantineChanges.{FreesHere, before_change, free_halves}
-use Rattle.mk_laws.proofs.{Behind.over_phase, ForImages.numbers_apart, LayoutByKind.fresh_cells, LayoutByKind.off_at}
-use Rattle.mk_laws.proofs.{QuarantineSteps.and_both, Released.left_is, Released.place_index}
+use Rattle.mk_laws.proofs.{ForImages.numbers_apart, Granted.pushed_any, Granted.pushed_at, LayoutByKind.fresh_cells}
+use Rattle.mk_laws.proofs.{LayoutByKind.off_at, QuarantineSteps.and_both, Released.left_is, Released.place_index}
 use Rattle.mk_laws.specs.Quarantine.{HasSnapshot}
 
 -- What is fresh and what is in the snapshot, after a `quar`.
@@ -158,40 +158,19 @@ is_cycling_behind Step.Begin b = true
 is_cycling_behind Step.End b = false
 is_cycling_behind _ b = b
 
-to_phase : (n m p q : ℕ) → n % 8 ≡ p → m % 8 ≡ q → is_cycling p ≡ is_cycling q → is_cycling (n % 8) ≡ is_cycling (m % 8)
-to_phase n m p q en em same = rw en (same ∙ sym (rw em))
+cycling_step : (x : Step) (p : ℕ) → AsksPhase x p → is_cycling (phase_behind x p) ≡ is_cycling_behind x (is_cycling p)
+cycling_step Step.Begin p asks = refl
+cycling_step Step.Want p asks = ap is_cycling (sym asks)
+cycling_step Step.Close p asks = ap is_cycling (sym asks)
+cycling_step Step.Release p asks = ap is_cycling (sym asks)
+cycling_step Step.End p asks = refl
+cycling_step Step.Over p asks = ap is_cycling (sym asks)
+cycling_step _ p asks = refl
 
 pub cycle_kind : (c : Config) (w : World) (seat : Seat) (x : Step) → Meets c w.now seat x
     → is_cycling (phase_of (WorldBehind c w seat x).now.words) ≡ is_cycling_behind x (is_cycling (phase_of w.now.words))
-cycle_kind c w seat Step.Reg h = ap (λ n. is_cycling (n % 8)) (reg_leaves c w seat).phase
-cycle_kind c w seat (Step.Tally n v) h = ap (λ m. is_cycling (m % 8)) (tally_keeps w.now.words n v).phase
-cycle_kind c w seat Step.Begin h =
-    let e = eqb-true (w.now.words.phase % 8) 0 h.phase in
-    let f : (w.now.words.phase + 1) % 2 ^ 64 % 8 ≡ 1 = omega arith in
-    ap (λ k. is_cycling k) f
-cycle_kind c w seat Step.Want h =
-    let e = eqb-true (w.now.words.phase % 8) 1 h.phase in
-    to_phase ((w.now.words.phase + 1) % 2 ^ 64) w.now.words.phase 2 1 (omega arith) e refl
-cycle_kind c w seat Step.Close h =
-    let e = eqb-true (w.now.words.phase % 8) 2 h.phase in
-    to_phase ((w.now.words.phase + 1) % 2 ^ 64) w.now.words.phase 3 2 (omega arith) e refl
-cycle_kind c w seat Step.Release h =
-    let e = eqb-true (w.now.words.phase % 8) 3 h.phase in
-    to_phase ((w.now.words.phase + 1) % 2 ^ 64) w.now.words.phase 4 3 (omega arith) e refl
-cycle_kind c w seat Step.End h =
-    let e = eqb-true (w.now.words.phase % 8) 4 h.phase in
-    let f : (w.now.words.phase + (2 ^ 64 - 4)) % 2 ^ 64 % 8 ≡ 0 = omega arith in
-    ap (λ k. is_cycling k) f
-cycle_kind c w seat Step.Attend h =
-    let f : (w.now.words.phase + 8) % 2 ^ 64 % 8 ≡ w.now.words.phase % 8 = omega arith in
-    ap (λ k. is_cycling k) f
-cycle_kind c w seat Step.Quit h =
-    let f : (w.now.words.phase + (2 ^ 64 - 8)) % 2 ^ 64 % 8 ≡ w.now.words.phase % 8 = omega arith in
-    ap (λ k. is_cycling k) f
-cycle_kind c w seat Step.Over h =
-    let e = over_phase c w seat h in
-    to_phase ((w.now.words.phase + 5) % 2 ^ 64) w.now.words.phase 5 0 (omega arith) e refl
-cycle_kind c w seat _ h = refl
+cycle_kind c w seat x h =
+    ap is_cycling (phase_moves c w.now seat x h) ∙ cycling_step x _ (phase_asked c w.now seat x h)
 
 -- `begin`: what is freed is in the snapshot, and nothing is fresh
 begin_kind : (c : Config) (w : World) → Before c w → is_phase w.now.words 0 ≡ true

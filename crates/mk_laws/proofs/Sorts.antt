@@ -190,8 +190,7 @@ onward_from c m k x h own is was =
 pub call_moves : (c : Config) (m : Moment) (k : ℕ) (x : Step) → k < c.callers → group_of x ≡ Group.Callers
     → is_astray (standing (flight_of m (Caller k))) ≡ false → Meets c m (Caller k) x → Moves c m (Caller k) x
 call_moves c m k (Step.Enter o) lt g a h =
-    let s = at_enter _ _ o h.order in
-    enter_move c m k o lt (rw s.0) s.1
+    enter_move c m k o lt (rw (at_enter _ _ o h.order).0) (at_enter _ _ o h.order).1
 call_moves c m k Step.Leave lt g a h = Leaves lt (on c m k Step.Leave h refl refl a)
 call_moves c m k Step.Reg lt g a h = reg_move c m k lt (at_reg _ _ h.order) a
 call_moves c m k Step.Probe lt g a h =

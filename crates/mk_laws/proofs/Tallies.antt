@@ -51,7 +51,7 @@ fresh_is_told = holds_of_histories FreshIsTold fresh_at_first fresh_kept
 -- At a `give` nothing is on its way.
 
 decided_no_new : (f : Flight) → is_decided f.stage ≡ true → is_undecided_new f ≡ true → ⊥
-decided_no_new f decided new = true≢false (sym decided ∙ ap (λ (s : Stage). is_decided s) (undecided_new f new).stage)
+decided_no_new f decided new = true≢false (sym decided ∙ ap is_decided (undecided_new f new).stage)
 
 giving : (phase : ℕ) → (phase ≤ 1) ⊎ (phase ≡ 5) → (phase == 4) ≡ false
 giving phase (inl low) = ne_eqb phase 4 (λ four. omega arith)

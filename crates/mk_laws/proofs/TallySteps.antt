@@ -29,8 +29,7 @@ alike c w seat Step.Begin is = cc
 alike c w seat Step.Release is = cc
 alike c w seat Step.Reg is =
     let f : Flight = flight_of w.now seat in
-    let access = reg_access f f.stage in
-    record { tallies = register_leaves_tallies w.now.words _ _ access; allocations = refl }
+    record { tallies = register_leaves_tallies w.now.words _ _ (reg_access f f.stage); allocations = refl }
 alike c w seat _ is =
     record {
       tallies = record { held = refl; fresh = refl; cycles = refl; released = refl; full = refl };
@@ -82,8 +81,8 @@ pub record CountsNothing (c : Config) (w : World) (e : Event) : Type 0 where
 pub give_counts_nothing : (c : Config) (w : World) (e : Event) → e.step ≡ Step.Give → CountsNothing c w e
 give_counts_nothing c w e is =
     record {
-      alike = alike c w e.seat e.step (ap (λ (x : Step). counts_alike x) is);
-      no_end = ap (λ (x : Step). is_end x) is;
+      alike = alike c w e.seat e.step (ap counts_alike is);
+      no_end = ap is_end is;
       no_full = ap (λ (x : Step). answers_full (answer_decided c w.now (record { seat = e.seat; step = x }))) is
           ∙ give_answers c w.now e.seat;
     }

@@ -48,7 +48,7 @@ gives_off c w (Caller j) x k known lt new = false_from_ne_true _
         let rests = get_or-set_same w.now.seats.flights k at_rest at_rest (omega (arith, known.orderly.flights)) in
         let mine : HasNew (WorldBehind c w (Caller k) Step.Give) k =
         subst (λ i. HasNew (WorldBehind c w (Caller i) Step.Give) k) (sym own) new in
-        true≢false (sym mine ∙ ap (λ (f : Flight). is_undecided_new f) rests)
+        true≢false (sym mine ∙ ap is_undecided_new rests)
     by j _ own is new = cc
 gives_off c w _ x k known lt new = refl
 
@@ -62,8 +62,8 @@ unplaced_settles c es k h lt new off at =
     (new_holds_turn c w k lt new) (undecided_new (flight_of w.now (Caller k)) new).stage in
     record {
       releasing = off;
-      placing = ap (λ (p : Placing). has_place p) at;
-      unmapped = ap (λ (run : Option RunPages). is_freed_unmapped w.now.words run) none;
+      placing = ap has_place at;
+      unmapped = ap (is_freed_unmapped w.now.words) none;
     }
 
 -- and first fit over the words is the place among the allocations.

@@ -95,8 +95,7 @@ not_that gs k j le is e = let g : slice_index gs j ≡ slice_index gs k = rw e i
 
 callers_out : (c : Config) (w : World) (seat : Seat) (v : World) → OthersMove c w seat v → (j : ℕ)
     → slice_index w.now.words.gates j ≡ 2 → flight_of v.now (Caller j) ≡ flight_of w.now (Caller j)
-callers_out c w seat v (Calls {k} f {x} lt le write) j is =
-    get_or-set_other w.now.seats.flights k j f at_rest (not_that w.now.words.gates k j le is)
+callers_out c w seat v (Calls {k} f {x} lt le write) j is = get_or-set_other _ k j f at_rest (not_that _ k j le is)
 callers_out c w seat v _ j is = refl
 
 registers_call : (k : ℕ) (w x : Words) (j r : ℕ) → CallWrite k w x → r < 8 → j ≢ k
@@ -196,15 +195,14 @@ dirty_out c w seat v (Marks {k} y {x} lt write) p is = λ z. is (rw (← (same_w
 pub turn_after : (c : Config) (w : World) (seat : Seat) (v : World) → Known c w.now → OthersMove c w seat v
     → TurnIsLeft w v
 turn_after c w seat v known move =
-    let grow = grow_out c w seat v move in
     record {
       steady = steady_out c w seat v move;
       held_gates = held_out c w seat v move;
       other_gates = free_out c w seat v move;
       held_callers = callers_out c w seat v move;
       held_registers = registers_out c w seat v move;
-      marks_grow = grow.0;
-      blacks_grow = grow.1;
+      marks_grow = (grow_out c w seat v move).0;
+      blacks_grow = (grow_out c w seat v move).1;
       unmarked = unmarked_out c w seat v known move;
       stopped = stopped_out c w seat v move;
       dirty = dirty_out c w seat v move;
@@ -237,9 +235,8 @@ turn_joined w u v a b =
       marks_grow = grows_joined w.now.words.marks u.now.words.marks v.now.words.marks a.marks_grow b.marks_grow;
       blacks_grow = grows_joined w.now.words.blacks u.now.words.blacks v.now.words.blacks a.blacks_grow b.blacks_grow;
       unmarked = λ n1 n2.
-          let x = a.unmarked n1 n2 in
           let y = b.unmarked (λ e. n1 (sym phase ∙ e)) (λ e. n2 (sym phase ∙ e)) in
-          (y.0 ∙ x.0, y.1 ∙ x.1);
+          (y.0 ∙ (a.unmarked n1 n2).0, y.1 ∙ (a.unmarked n1 n2).1);
       stopped = λ two none.
           let x = a.stopped two none in
           let y = b.stopped (phase ∙ two) x.0 in

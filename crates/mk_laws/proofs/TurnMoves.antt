@@ -15,7 +15,7 @@ use Rattle.mk_laws.proofs.Basics.{Grants, HoldsTurn, KnownWorld, Leads, Move, Re
 use Rattle.mk_laws.proofs.Basics.{goes_bare, operands_of, view_of}
 use Rattle.mk_laws.proofs.CallSorts.{own_registers, own_words, stays, there_is}
 use Rattle.mk_laws.proofs.{FreeMoves.double_by, FreeMoves.free_by, FreedRuns.new_frees_none, GrantMoves.fills_cell}
-use Rattle.mk_laws.proofs.{GrantMoves.place_is_zero, ImagesKept.fresh_one, Ready.one_right}
+use Rattle.mk_laws.proofs.{GrantMoves.place_is_zero, HeapEdits.fresh_one, Ready.one_right}
 
 -- what a look at a cell that is freed already shows
 record SeesFreed (w : Words) (t : Option Cell) : Type 0 where
@@ -72,8 +72,7 @@ module _ (c : Config) (w : World) (n : NeverState) (known : KnownWorld c w) (mir
               bare = refl;
             }) (own_words c w n known mirrors safe ready k lt) (operands_of c (Op.New d ty full) operands).d
             (λ i li. zero_there i
-            (let small = subst (λ (types : List (List Kind)). i < length (kinds_of types ty)) mirrors.types li
-            in omega arith))),
+            (omega (arith, subst (λ (types : List (List Kind)). i < length (kinds_of types ty)) mirrors.types li)))),
         λ more. refl,
       )
   grant_by _ _ q p r l _ is next used placed hold phase operands = cc
@@ -118,9 +117,8 @@ module _ (c : Config) (w : World) (n : NeverState) (known : KnownWorld c w) (mir
       (record (image_scene_of w) { flights = slice_set w.now.seats.flights k (flight Stage.Give o q p r l) })
       (Some Answer.Double)
   twice_by Stage.Turn (Op.Free p') q p r l cell is undecided points is_free car =
-      let f = flight Stage.Give (Op.Free p') q p r l in
-      let free = double_by c w n known mirrors safe ready st others k f p cell (register_at n k p')
-      (ap (λ (g : Flight). is_put g.stage) is) refl
+      let free = double_by c w n known mirrors safe ready st others k (flight Stage.Give (Op.Free p') q p r l) p cell
+      (register_at n k p') (ap (λ (g : Flight). is_put g.stage) is) refl
       (mirrors.typed.registers (8 * k + p')) (ready.set.registers (8 * k + p')) (car.p refl) (car.some_p refl) points
       is_free in (
         free.0,

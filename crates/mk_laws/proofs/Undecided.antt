@@ -33,7 +33,7 @@ own_call : (fs : List Flight) (k : ℕ) (f : Flight) → (is_undecided_new f ≡
 own_call fs k f same new = elim (cases_lt k (length fs)) [
   | inl lt ↦
       let now : call_in (slice_set fs k f) k ≡ f = get_or-set_same fs k f at_rest lt in
-      now ∙ same (ap (λ (x : Flight). is_undecided_new x) (sym now) ∙ new)
+      now ∙ same (ap is_undecided_new (sym now) ∙ new)
   | inr past ↦ ap (λ (xs : List Flight). call_in xs k) (set_past fs k f past)
 ]
 
@@ -60,8 +60,7 @@ taken_by_take : (c : Config) (w : World) (seat : Seat) (x : Step) (n : ℕ) → 
 taken_by_take c w seat (Step.Take o) n free now = record { op = o; is = refl }
 taken_by_take c w seat Step.Give n free now = absurd (omega arith)
 taken_by_take c w seat Step.Reg n free now = let same = (reg_leaves c w seat).turn in absurd (omega arith)
-taken_by_take c w seat (Step.Tally t v) n free now =
-    let same = (tally_keeps w.now.words t v).turn in absurd (omega arith)
+taken_by_take c w seat (Step.Tally t v) n free now = absurd (omega (arith, (tally_keeps w.now.words t v).turn))
 taken_by_take c w seat _ n free now = absurd (omega arith)
 
 -- where an undecided New comes from

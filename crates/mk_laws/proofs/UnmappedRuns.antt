@@ -120,7 +120,7 @@ module _ (c : Config) (w : World) (n : NeverState) (known : KnownWorld c w) (all
       by : (freed : Option RunPages) → is_unmapping freed (a.base / 64) ≡ false → HasHeader (claim_of c freed a).mode
           o on_run.distance (header_at w.now.words (a.base / 64 + on_run.distance)) → header_at w.now.words p
           ≡ unmapped_header (pages_made o) on_run.distance
-      by freed other has = ap (λ q. header_at w.now.words q) (sym on_run.there)
+      by freed other has = ap (header_at w.now.words) (sym on_run.there)
           ∙ unmapped_mode (a.freed && not (is_small_object o)) _ o on_run.distance _ gone other has
 
   not_resident : is_resident_in w p ≡ false

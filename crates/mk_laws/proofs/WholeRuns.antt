@@ -227,14 +227,14 @@ emptied w plot p n lt x whole q h = elim (cases_eq q p) [
           free.2,
         )
         page d (inl at) (inr free) = inr (
-          ap (λ i. header_on (with_header_on w.pages p n) i) at ∙ headed_here w.pages p n lt ∙ x.is,
+          ap (header_on (with_header_on w.pages p n)) at ∙ headed_here w.pages p n lt ∙ x.is,
           headed_used w.pages p n q lt ∙ free.1,
           free.2,
         )
         page d (inl at) (inl is) =
             let head : head_page w p ≡ q = rw (← at) (rw is.1 (let back : q + d - d ≡ q = omega arith in back)) in
             inr (
-              ap (λ i. header_on (with_header_on w.pages p n) i) at ∙ headed_here w.pages p n lt ∙ x.is,
+              ap (header_on (with_header_on w.pages p n)) at ∙ headed_here w.pages p n lt ∙ x.is,
               headed_used w.pages p n q lt ∙ rw (← head) x.unused,
               inl refl,
             )
@@ -294,7 +294,6 @@ whole_behind c w seat x b h whole laid =
     let v : World = WorldBehind c w seat x in
     let plot : Plot = plot_of (object_now c v.now) v.now.seats.holding.placing in
     elim (cases_Bool (is_releasing_behind x (is_phase w.now.words 4))) [
-      | inl on ↦ rw (phase_kind c w seat x h ∙ on) (whole_by_kind c w seat x plot b h on
-          (replotted w.now.words.pages _ plot _ whole))
+      | inl on ↦ rw (phase_kind c w seat x h ∙ on) (whole_by_kind c w seat x plot b h on (replotted _ _ plot _ whole))
       | inr off ↦ whole_quiet _ laid.scene (phase_kind c w seat x h ∙ off)
     ]

@@ -41,11 +41,9 @@ give_kind c w seat h z = changed_words c (here w) (record (here w) { run = None 
   where
     gone : is_run_gone w.now.words w.now.seats.holding.freed ≡ true
     gone =
-        let decided : Bool = is_decided (flight_of w.now seat).stage in
         let gone : Bool = is_run_gone w.now.words w.now.seats.holding.freed in
         let counts : Bool = w.now.words.held == held_by_pages w.now.words in
-        let a = and_parts _ _ h.holder in
-        (and_parts decided gone (and_parts _ counts a.0).0).1
+        (and_parts (is_decided (flight_of w.now seat).stage) gone (and_parts _ counts (and_parts _ _ h.holder).0).0).1
 
 -- `grant` and `begin`
 abbrev with_allocations : World → List PlacedAllocation → ZeroScene
@@ -101,8 +99,7 @@ end_kind c w own z = changed_words c (here w) _ z (λ n ne. ne) (λ n m. OfMappe
     left n r =
         let lt = (pointed_within c.pages w.now.words (address_of n) r.cell r.pointed).0 in
         let none = (settled_page w.now.words c.pages r.cell.page own lt).none r.cell.index in
-        let is = (and_parts (is_phase w.now.words 4) _ r.released).1 in
-        true≢false (sym is ∙ has_bit_without _ _ r.cell.index ∙ none)
+        true≢false (sym (and_parts (is_phase w.now.words 4) _ r.released).1 ∙ has_bit_without _ _ r.cell.index ∙ none)
 
 -- each kind of event, whatever the seat
 pub by_kind : (c : Config) (w : World) (seat : Seat) (x : Step) → Before c w seat x → Meets c w.now seat x

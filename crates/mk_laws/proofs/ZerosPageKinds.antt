@@ -72,21 +72,20 @@ emptied_word c w is_gone p v n h r =
         (λ e. absurd (ne e)) refl
 
     unused : head_page w.now.words p ≡ r.cell.page → ⊥
-    unused e = none_set _ r.cell.index (ap (λ q. used_at w.now.words q) (sym e) ∙ h.unused) r.used
+    unused e = none_set _ r.cell.index (ap (used_at w.now.words) (sym e) ∙ h.unused) r.used
 
     not_here : page_at_address (address_of n) ≢ p
-    not_here e = unused (ap (λ q. head_page w.now.words q) (sym e)
+    not_here e = unused (ap (head_page w.now.words) (sym e)
         ∙ sym (pointed_head c.pages w.now.words (address_of n) r.cell r.pointed))
 
     not_there : r.cell.page ≢ p
-    not_there e = unused (ap (λ q. head_page w.now.words q) (sym e) ∙ own_head _ r.cell.page _ n r.to r.from)
+    not_there e = unused (ap (head_page w.now.words) (sym e) ∙ own_head _ r.cell.page _ n r.to r.from)
 
 -- A used word's step leaves all headers.
 pub same_headers : (pages : List Page) (p v q : ℕ)
     → header_on (slice_set pages p (record { header = header_on pages p; used = v })) q ≡ header_on pages q
 same_headers pages p v q =
-    set_by (λ (x : Page). x.header ≡ header_on pages q) pages p q _ free_page (λ e. ap (λ i. header_on pages i) (sym e))
-    refl
+    set_by (λ (x : Page). x.header ≡ header_on pages q) pages p q _ free_page (λ e. ap (header_on pages) (sym e)) refl
 
 -- `used` (b): the words of a cell that is given back are 0
 pub unwiped_word : (c : Config) (w : World) (is_gone : Cell → Bool) (p v n : ℕ) → GivesBack w.now.words p v
@@ -111,7 +110,7 @@ unwiped_word c w is_gone p v n h some r = kept_word c w.now.words.pages
         let from = r.from in
         let to = r.to in
         let at : first_word w.now.words cell + (n - first_word w.now.words cell) ≡ n = omega arith in
-        some (ap (λ i. slice_index w.now.words.heap i) (sym at) ∙ eqb-true _ 0 (all_below-at _ _
+        some (ap (slice_index w.now.words.heap) (sym at) ∙ eqb-true _ 0 (all_below-at _ _
         (λ i. slice_index w.now.words.heap (first_word w.now.words cell + i) == 0) zero (omega arith)))
 
     still : r.cell.page ≡ p → has_bit v r.cell.index ≡ true
@@ -128,7 +127,7 @@ dropped_word c w p f v n h r =
       cell = r.cell;
       small = r.small;
       released = set_by (λ x. has_bit (without x (slice_index w.now.words.marks r.cell.page)) r.cell.index ≡ true)
-          w.now.words.snapshot p r.cell.page v 0 still r.released;
+          _ p r.cell.page v 0 still r.released;
       used = r.used;
       pointed = r.pointed;
       from = r.from;
@@ -137,17 +136,16 @@ dropped_word c w p f v n h r =
   where
     bits : (has_bit (slice_index w.now.words.snapshot r.cell.page) r.cell.index ≡ true)
         × (not (has_bit (slice_index w.now.words.marks r.cell.page) r.cell.index) ≡ true)
-    bits = and_parts _ _ (sym (has_bit_without _ _ r.cell.index) ∙ r.released)
+    bits = and_parts _ _ (sym (has_bit_without _ _ _) ∙ r.released)
 
     still : r.cell.page ≡ p → has_bit (without v (slice_index w.now.words.marks r.cell.page)) r.cell.index ≡ true
-    still e = has_bit_without v _ r.cell.index ∙ and_from _ _
-        kept bits.1
+    still e = has_bit_without v _ _ ∙ and_from _ _ kept bits.1
       where
         kept : has_bit v r.cell.index ≡ true
         kept = elim (cases_Bool (has_bit v r.cell.index)) [
           | inl in_it ↦ in_it
           | inr out ↦
-              let gone = h.gone r.cell.index
+              let gone = h.gone _
               (ap (λ q. has_bit (slice_index w.now.words.snapshot q) r.cell.index) (sym e) ∙ bits.0) out in
               absurd (true≢false (sym r.used ∙ ap (λ q. has_bit (used_at w.now.words q) r.cell.index) e ∙ gone.1))
         ]
@@ -159,13 +157,13 @@ pub gone_word : (w : Words) (freed : Option RunPages) (n : ℕ) → is_run_gone 
     → slice_index w.heap n ≡ 0
 gone_word w freed n gone f =
     let run : RunPages = f.run in
-    let there : is_run_gone w (Some run) ≡ true = ap (λ (x : Option RunPages). is_run_gone w x) (sym f.there) ∙ gone in
+    let there : is_run_gone w (Some run) ≡ true = ap (is_run_gone w) (sym f.there) ∙ gone in
     let zero = (and_parts (is_run_unmapped w run) (words_are_zero w (64 * run.page) (64 * run.count)) there).1 in
     let parts = and_parts (nat_le run.page (n / 64)) (nat_lt (n / 64 - run.page) run.count) f.word in
     let from = leb-true run.page (n / 64) parts.0 in
     let to = ltb-true (n / 64 - run.page) run.count parts.1 in
     let at : 64 * run.page + (n - 64 * run.page) ≡ n = omega arith in
-    ap (λ i. slice_index w.heap i) (sym at) ∙ eqb-true (slice_index w.heap (64 * run.page + (n - 64 * run.page))) 0
+    ap (slice_index w.heap) (sym at) ∙ eqb-true (slice_index w.heap (64 * run.page + (n - 64 * run.page))) 0
     (all_below-at (64 * run.count) (n - 64 * run.page) (λ i. slice_index w.heap (64 * run.page + i) == 0) zero
     (omega arith))
 
