@@ -1,7 +1,8 @@
 -- Steps that come to an operation before anything is printed, and before a block ends.
 use Rattle.std.proofs.Common.{◌≡◌, ℕ, zero, suc, ◌+◌, ◌-◌, ◌<◌, Bool, true, false, List, [], ◌∷◌, ◌++◌, length}
 use Rattle.std.proofs.Common.{refl, ap, sym, ◌∙◌, subst, arith, take, IsTrue}
-use Rattle.std.specs.Prelude.{if◌then◌else◌, slice_index, ◌==◌, not, ◌&&◌, ◌||◌, is_some, Option, Some, None, slice_get, slice_set}
+use Rattle.std.specs.Prelude.{if◌then◌else◌, slice_index, ◌==◌, not, ◌&&◌, ◌||◌, is_some, Option, Some, None, slice_get}
+use Rattle.std.specs.Prelude.{slice_set}
 use Rattle.std.proofs.lemmas.Bool.{and_parts}
 use Rattle.std.proofs.lemmas.List.{length_push, take_all, take_more, set_split, drop_all}
 use Rattle.std.proofs.lemmas.Option.{slice_get_within, get_or_from_slice_get, slice_get-get_or}

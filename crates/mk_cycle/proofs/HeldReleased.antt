@@ -18,7 +18,8 @@ use Rattle.mk_core.specs.declared.events.Event.{Event}
 use Rattle.mk_core.specs.declared.events.Step.TheVariants as step
 use Rattle.mk_core.specs.declared.seats.Object.{Object}
 use Rattle.mk_core.specs.Allocations.{PlacedAllocation, cell_of_allocation, held_by_allocations, is_mapped}
-use Rattle.mk_core.specs.Allocations.{never_granted, placed_at, storage_of, storage_words, unreleased_storage, with_released}
+use Rattle.mk_core.specs.Allocations.{never_granted, placed_at, storage_of, storage_words, unreleased_storage}
+use Rattle.mk_core.specs.Allocations.{with_released}
 use Rattle.mk_core.specs.Bounded.{is_some_and}
 use Rattle.mk_core.specs.Cells.{header_in, is_left_unmarked, is_unmapped_header, left_unmarked, pointed_cell}
 use Rattle.mk_core.specs.Cells.{words_under}

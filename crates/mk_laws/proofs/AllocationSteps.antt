@@ -1,23 +1,19 @@
 -- What one event leaves of the allocations: each keeps its place, and a grant adds one.
-use Rattle.std.proofs.Common.{Option}
-use Rattle.std.proofs.lemmas.List.{length-append}
-use Rattle.mk_laws.proofs.Vocabulary.{Cell, Config, Flight, LeavesPlaces, List, Moment, PlacedAllocation, Step, []}
+use Rattle.std.proofs.{Common.Option, lemmas.List.length-append}
+use Rattle.mk_laws.proofs.Vocabulary.{Cell, Config, Flight, LeavesPlaces, List, Moment, PlacedAllocation, Step, ℕ}
 use Rattle.mk_laws.proofs.Vocabulary.{address_of, ap, arith, cases_lt, cell_freed, changed_at, false, freed_leaves}
 use Rattle.mk_laws.proofs.Vocabulary.{freed_released, freed_where_it_stands, fresh_leaves, get_or_past, granted, inl}
 use Rattle.mk_laws.proofs.Vocabulary.{inr, is_release, length, length-map, map, never_granted, no_longer_fresh}
 use Rattle.mk_laws.proofs.Vocabulary.{or_parts, placed_at, pointed_cell, refl, released_leaves, sym, true≢false}
-use Rattle.mk_laws.proofs.Vocabulary.{with_released, ℕ, ◌++◌, ◌<◌, ◌∙◌, ◌∷◌, ◌≡◌}
-use Rattle.mk_core.specs.Allocations.{allocations_by}
-use Rattle.mk_core.specs.declared.events.Step.TheVariants as step
-use Rattle.mk_core.proofs.ChangedAllocations.{earlier_at}
+use Rattle.mk_laws.proofs.Vocabulary.{with_released, [], ◌++◌, ◌<◌, ◌∙◌, ◌∷◌, ◌≡◌}
+use Rattle.mk_core.{proofs.ChangedAllocations.earlier_at, specs.Allocations.allocations_by}
 
 -- An unreleased allocation is one of the list.
 pub is_there : (xs : List PlacedAllocation) (i : ℕ) → (placed_at xs i).released ≡ false → i < length xs
 is_there xs i u = elim (cases_lt i (length xs)) [
   | inl lt ↦ lt
   | inr past ↦
-      let none : placed_at xs i ≡ never_granted = get_or_past xs i never_granted past in
-      absurd (true≢false (sym (rw none) ∙ u))
+      absurd (true≢false (sym (rw (get_or_past xs i never_granted past)) ∙ u))
 ]
 
 -- what a change of each allocation is
@@ -29,20 +25,20 @@ pub record ChangesOne (x : Step) (g : PlacedAllocation → PlacedAllocation) : T
 pub data AllocationStep (xs : List PlacedAllocation) (x : Step) : List PlacedAllocation → Type 0 where
   Leaves : AllocationStep xs x xs
   Changes : (g : PlacedAllocation → PlacedAllocation) → ChangesOne x g → AllocationStep xs x (map g xs)
-  Grants : (a : PlacedAllocation) → x ≡ step.Grant → AllocationStep xs x (xs ++ a ∷ [])
+  Grants : (a : PlacedAllocation) → x ≡ Step.Grant → AllocationStep xs x (xs ++ a ∷ [])
 
 pub allocation_step : (c : Config) (m : Moment) (f : Flight) (x : Step) (xs : List PlacedAllocation)
     → AllocationStep xs x (allocations_by c m f x xs)
-allocation_step c m f step.Grant xs = Grants (granted c m f) refl
-allocation_step c m f (step.Quar p v) xs =
+allocation_step c m f Step.Grant xs = Grants (granted c m f) refl
+allocation_step c m f (Step.Quar p v) xs =
     Changes (freed_where_it_stands m.words (cell_freed c.pages m.words f p v)) (record {
       places = freed_leaves m.words _;
       was = λ a u. sym (freed_released m.words _ a) ∙ u;
       stays = λ other a u. freed_released m.words _ a ∙ u;
     })
-allocation_step c m f step.Begin xs =
+allocation_step c m f Step.Begin xs =
     Changes no_longer_fresh (record { places = fresh_leaves; was = λ a u. u; stays = λ other a u. u })
-allocation_step c m f step.Release xs = Changes (with_released c m.words) (record {
+allocation_step c m f Step.Release xs = Changes (with_released c m.words) (record {
   places = released_leaves c m.words;
   was = λ a u.
       let cell : Option Cell = pointed_cell c.pages m.words.pages (address_of a.base) in
@@ -65,7 +61,7 @@ of_one_joined a b d x y = record { base = y.base ∙ x.base; ty = y.ty ∙ x.ty 
 -- Where allocation i is unreleased after a step, it was there and unreleased, or it is the one granted.
 pub data Came (xs ys : List PlacedAllocation) (x : Step) (i : ℕ) : Type 0 where
   Stayed : (placed_at xs i).released ≡ false → AreOfOne (placed_at xs i) (placed_at ys i) → Came xs ys x i
-  IsNew : x ≡ step.Grant → i ≡ length xs → Came xs ys x i
+  IsNew : x ≡ Step.Grant → i ≡ length xs → Came xs ys x i
 
 pub came : (xs ys : List PlacedAllocation) (x : Step) (i : ℕ) → AllocationStep xs x ys
     → (placed_at ys i).released ≡ false → Came xs ys x i
@@ -78,8 +74,7 @@ came xs _ x i (Changes g ch) u =
     })
 came xs _ x i (Grants a grant) u = elim (cases_lt i (length xs)) [
   | inl lt ↦
-      let at = earlier_at xs a i lt in
-      Stayed (rw (← at) u) (of_one_same _ _ at)
+      Stayed (rw (← (earlier_at xs a i lt)) u) (of_one_same _ _ (earlier_at xs a i lt))
   | inr past ↦
       let lt = is_there (xs ++ a ∷ []) i u in
       let count = length-append xs (a ∷ []) in
@@ -97,9 +92,8 @@ pub goes_on : (xs ys : List PlacedAllocation) (x : Step) (i : ℕ) → Allocatio
 goes_on xs _ x i Leaves lt = record { there = lt; same = record { base = refl; ty = refl }; stays = λ other u. u }
 goes_on xs _ x i (Changes g ch) lt =
     let at = changed_at g xs i ch.places.none in
-    let count = length-map xs g in
     record {
-      there = omega arith;
+      there = omega (arith, length-map xs g);
       same = record {
         base = ap (λ (a : PlacedAllocation). a.base) at ∙ ch.places.base _;
         ty = ap (λ (a : PlacedAllocation). a.ty) at ∙ ch.places.ty _;

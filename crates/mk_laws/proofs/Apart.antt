@@ -1,26 +1,20 @@
 -- The storages of unreleased allocations lie apart, where nothing is on its way.
-use Rattle.std.proofs.Common.{le_refl}
-use Rattle.std.proofs.lemmas.Bool.{cases_order}
-use Rattle.std.proofs.lemmas.List.Elements.{Contains-get_or}
+use Rattle.std.proofs.{Common.le_refl, lemmas.Bool.cases_order, lemmas.List.Elements.Contains-get_or}
 use Rattle.mk_laws.proofs.Vocabulary.{AreApart, BeginsAtCell, Bool, Cell, Claim, Config, Header, IsAtCell, IsLaidOn}
-use Rattle.mk_laws.proofs.Vocabulary.{IsOfOneCell, IsShown, IsSized, IsWithinLimits, LayoutScene, List, NoPlot, None}
+use Rattle.mk_laws.proofs.Vocabulary.{IsOfOneCell, IsShown, IsSized, IsWithinLimits, LayoutScene, List, None, NoPlot}
 use Rattle.mk_laws.proofs.Vocabulary.{Object, OfBlock, OfLater, OfLeafBlock, OfLeafRun, OfRun, Option, PlacedAllocation}
-use Rattle.mk_laws.proofs.Vocabulary.{ShowsPart, Storage, Words, [], ap, arith, cases_Bool, cases_eq, cases_lt}
+use Rattle.mk_laws.proofs.Vocabulary.{ShowsPart, Storage, Words, ℕ, ap, arith, cases_Bool, cases_eq, cases_lt}
 use Rattle.mk_laws.proofs.Vocabulary.{cell_of_allocation, claim_of, claims_of, class_made, class_words_of, false}
 use Rattle.mk_laws.proofs.Vocabulary.{first_page_shows, get_or, header_in, inl, inr, is_small, is_small_object, length}
 use Rattle.mk_laws.proofs.Vocabulary.{mul-le, object_placed, pages_made, pages_some, placed_at, refl, small_pages}
 use Rattle.mk_laws.proofs.Vocabulary.{small_words, stands_on, storage_is_of, storage_of, storage_words, suc, sym, true}
-use Rattle.mk_laws.proofs.Vocabulary.{true≢false, unreleased_storage, words_within, zero, ℕ, ◌%◌, ◌*◌, ◌+◌, ◌-◌, ◌/◌}
+use Rattle.mk_laws.proofs.Vocabulary.{true≢false, unreleased_storage, words_within, zero, [], ◌%◌, ◌*◌, ◌+◌, ◌-◌, ◌/◌}
 use Rattle.mk_laws.proofs.Vocabulary.{◌<◌, ◌∙◌, ◌∷◌, ◌≡◌, ◌≢◌, ◌≤◌, ◌⊎◌}
-use Rattle.mk_laws.proofs.Basics.{IsStanding, claim_among, ends_on_pages}
-use Rattle.mk_geom.specs.Storages.{LieApart}
-use Rattle.mk_geom.proofs.Standing.{stands_parts}
-use Rattle.mk_core.proofs.Sizes.{words_are_small}
-use Rattle.mk_core.proofs.StandingAllocations.{placed_cell}
+use Rattle.mk_geom.{proofs.Standing.stands_parts, specs.Storages.LieApart}
 use Rattle.mk_core.proofs.UnreleasedStorage.{released_front, unreleased_front}
-use Rattle.mk_laws.proofs.Claims.{front, gone_front}
-use Rattle.mk_laws.proofs.Released.{stands_there}
-use Rattle.mk_laws.proofs.Unmapping.{shares_run}
+use Rattle.mk_core.proofs.{Sizes.words_are_small, StandingAllocations.placed_cell}
+use Rattle.mk_laws.proofs.Basics.{IsStanding, claim_among, ends_on_pages}
+use Rattle.mk_laws.proofs.{Claims.front, Claims.gone_front, Released.stands_there, Unmapping.shares_run}
 
 -- a scene in which nothing is on its way: no place, no run, no released cell
 abbrev pub quiet_scene : Config → Words → List PlacedAllocation → LayoutScene
@@ -55,8 +49,7 @@ on_its_pages c a p sized b h =
     let parts = stands_parts p (storage_of c a) h in
     let low : a.base / 64 ≤ p = parts.0 in
     let up : p ≤ (a.base + storage_words c a - 1) / 64 = parts.1 in
-    let high : a.base + storage_words c a ≤ 64 * (a.base / 64 + pages_made (object_placed c a)) =
-    ends_on_pages (object_placed c a) a.base sized b in
+    let high = ends_on_pages (object_placed c a) a.base sized b in
     let some : 1 ≤ storage_words c a = (words_within (object_placed c a) sized).0 in
     (low, omega arith)
 
@@ -131,10 +124,8 @@ module _ (c : Config) (w : Words) (xs : List PlacedAllocation) (i j : ℕ) (r : 
   far none =
       let pa = pages_some (object_placed c a) sa.sized in
       let pb = pages_some (object_placed c b) sb.sized in
-      let ha : a.base + storage_words c a ≤ 64 * (a.base / 64 + pages_made (object_placed c a)) =
-      ends_on_pages (object_placed c a) a.base sa.sized ba in
-      let hb : b.base + storage_words c b ≤ 64 * (b.base / 64 + pages_made (object_placed c b)) =
-      ends_on_pages (object_placed c b) b.base sb.sized bb in
+      let ha = ends_on_pages (object_placed c a) a.base sa.sized ba in
+      let hb = ends_on_pages (object_placed c b) b.base sb.sized bb in
       record {
         apart = elim (cases_lt (b.base / 64) (a.base / 64 + pages_made (object_placed c a))) [
           | inr ge ↦ inl (omega arith)
@@ -178,12 +169,10 @@ module _ (c : Config) (w : Words) (xs : List PlacedAllocation) (i j : ℕ) (r : 
   by : (x : Bool) → is_small_object (object_placed c a) ≡ x → (y : Bool) → is_small_object (object_placed c b) ≡ y
       → LieApart (storage_of c a) (storage_of c b)
   by false l y is = far (λ d e ld le at.
-      let same = shares_run (quiet_scene c w xs) (claim_of c None a) (claim_of c None b) d e r.laid
-      (claim_among c None xs i u) (claim_among c None xs j v) l ld le (sym at) in
+      let same = shares_run _ _ _ d e r.laid (claim_among c None xs i u) (claim_among c None xs j v) l ld le (sym at) in
       other (ap (λ (z : Claim). z.page) (sym same), ap (λ (z : Claim). z.index) (sym same)))
   by true s false l = far (λ d e ld le at.
-      let same = shares_run (quiet_scene c w xs) (claim_of c None b) (claim_of c None a) e d r.laid
-      (claim_among c None xs j v) (claim_among c None xs i u) l le ld at in
+      let same = shares_run _ _ _ e d r.laid (claim_among c None xs j v) (claim_among c None xs i u) l le ld at in
       other (ap (λ (z : Claim). z.page) same, ap (λ (z : Claim). z.index) same))
   by true s true s2 = elim (cases_eq (a.base / 64) (b.base / 64)) [
     | inl page ↦ near s s2 page
@@ -219,8 +208,7 @@ lie_in_pairs c (x ∷ xs) apart lie =
         → j < length (unreleased_storage c xs) → LieApart (storage_of c x) (get_or (unreleased_storage c xs) j d)
     beside u ap2 j d lj =
         let h = storage_is_of c xs (get_or _ j d) (Contains-get_or (unreleased_storage c xs) j d lj) in
-        rw h.storage (lie 0 (suc h.number) u h.unreleased
-        (λ same. ap2.0 _ (claim_among c None xs h.number h.unreleased) same))
+        rw h.storage (lie 0 (suc h.number) u h.unreleased (ap2.0 _ (claim_among c None xs h.number h.unreleased)))
 
     cons : x.released ≡ false → AreApart (claim_of c None x ∷ claims_of c None xs)
         → LieInPairs (unreleased_storage c xs) → LieInPairs (storage_of c x ∷ unreleased_storage c xs)

@@ -1,16 +1,13 @@
 -- What is promised of pages, and of words that nobody has, on the schedule of a large object, read off from the
 -- theorems.
-use Rattle.mk_laws.proofs.Vocabulary.{Bool, Event, HasAllocation, IsHistory, List, Step, all_below, ap, arith, by, c0}
-use Rattle.mk_laws.proofs.Vocabulary.{drop, earlier_part_is_history, false, large_freed, large_is_history, leb-true}
+use Rattle.mk_laws.proofs.Vocabulary.{Bool, Event, HasAllocation, IsHistory, List, Step, ℕ, all_below, ap, arith, by}
+use Rattle.mk_laws.proofs.Vocabulary.{c0, drop, earlier_part_is_history, false, large_freed, large_is_history, leb-true}
 use Rattle.mk_laws.proofs.Vocabulary.{left, left_from, list_any, list_any-append, ltb-true, may_turn_black, or_parts}
 use Rattle.mk_laws.proofs.Vocabulary.{pointed_cell, refl, register_word, slice_index, sym, take, three_pages, true}
-use Rattle.mk_laws.proofs.Vocabulary.{true≢false, ℕ, ◌∙◌, ◌∷◌, ◌≡◌}
-use Rattle.mk_core.specs.declared.events.Step.TheVariants as step
+use Rattle.mk_laws.proofs.Vocabulary.{true≢false, ◌∙◌, ◌∷◌, ◌≡◌}
 use Rattle.mk_core.proofs.EventsAt.{events_from}
-use Rattle.mk_laws.proofs.Settled.{unmapped_run}
-use Rattle.mk_laws.specs.UnmappedRuns.{IsOfUnmappedRun, is_resident_in}
-use Rattle.mk_laws.specs.UnsetWords.{IsNeverSet}
-use Rattle.mk_laws.proofs.AppliedTheorems.{unmapped_is_settled}
+use Rattle.mk_laws.proofs.{AppliedTheorems.unmapped_is_settled, Settled.unmapped_run}
+use Rattle.mk_laws.specs.{UnmappedRuns.IsOfUnmappedRun, UnmappedRuns.is_resident_in, UnsetWords.IsNeverSet}
 use Rattle.mk_laws.proofs.FreePages as pages
 use Rattle.mk_laws.proofs.UnmappedRuns as runs
 use Rattle.mk_laws.proofs.UnsetWords as words
@@ -44,7 +41,7 @@ third_has_no_register =
     words.registers_of_no_caller_are_zero three_pages large_freed large_is_history 2 0 (leb-true 2 2 refl)
 
 is_setg : Step → Bool
-is_setg step.Setg = true
+is_setg Step.Setg = true
 is_setg _ = false
 
 none_is_set : list_any (λ (e : Event). is_setg e.step) large_freed ≡ false
@@ -55,7 +52,7 @@ never_set : (g : ℕ) → IsNeverSet three_pages large_freed g
 unfolding is_setg
 never_set g front rest seat is set =
     let parts = list_any-append (λ (e : Event). is_setg e.step) front
-    (record { seat = seat; step = step.Setg } ∷ rest) in
+    (record { seat = seat; step = Step.Setg } ∷ rest) in
     let none = or_parts (list_any (λ (e : Event). is_setg e.step) front) true
     (sym parts ∙ ap (λ (es : List Event). list_any (λ (e : Event). is_setg e.step) es) (sym is) ∙ none_is_set) in
     true≢false none.1

@@ -1,16 +1,13 @@
 -- The promises on placement and tallies, applied to a small schedule: what each says there, read off.
 use Rattle.std.proofs.Common.{Some}
-use Rattle.mk_laws.proofs.Vocabulary.{Event, List, Place, TurnOf, all_below, base_made, by, c0, drop, event_number}
+use Rattle.mk_laws.proofs.Vocabulary.{Event, List, Place, TurnOf, ℕ, all_below, base_made, by, c0, drop, event_number}
 use Rattle.mk_laws.proofs.Vocabulary.{fresh_words_of, in_a_word, left, left_from, may_turn_black, one_page}
-use Rattle.mk_laws.proofs.Vocabulary.{pointed_cell, refl, sym, take, true, ℕ, ◌≡◌}
+use Rattle.mk_laws.proofs.Vocabulary.{pointed_cell, refl, sym, take, true, ◌≡◌}
+use Rattle.mk_core.proofs.{EvaluatedHistories.full_is_history, MoreSchedules.full_then_reused}
 use Rattle.mk_core.specs.Allocations.{FitsAmongAllocations, held_by_allocations}
-use Rattle.mk_core.specs.Counts.{TalliesAreExact}
-use Rattle.mk_core.specs.Cycles.{BeginsAndEndsIn}
 use Rattle.mk_core.specs.Placement.{FindsNoPlace, StandsAtItsPlace, before_served, object_at, place_after}
-use Rattle.mk_core.proofs.EvaluatedHistories.{full_is_history}
-use Rattle.mk_core.proofs.MoreSchedules.{full_then_reused}
-use Rattle.mk_laws.specs.Promises.{KeepsAllPromises}
-use Rattle.mk_laws.proofs.Promises.{histories_keep_all_promises}
+use Rattle.mk_core.specs.{Counts.TalliesAreExact, Cycles.BeginsAndEndsIn}
+use Rattle.mk_laws.{proofs.Promises.histories_keep_all_promises, specs.Promises.KeepsAllPromises}
 
 kept : KeepsAllPromises one_page full_then_reused
 kept = histories_keep_all_promises one_page full_then_reused full_is_history

@@ -1,32 +1,26 @@
 -- What headers, snapshots, releases and free words tell on small schedules, read off from the theorems.
 use Rattle.std.proofs.Common.{Some}
-use Rattle.mk_laws.proofs.Vocabulary.{At, Cell, IsHistory, IsTaken, Releasing, RunPages, World, all_below}
-use Rattle.mk_laws.proofs.Vocabulary.{before_release, begun_in_stop, by, c0, calls_from, cell_of_allocation, drop}
-use Rattle.mk_laws.proofs.Vocabulary.{earlier_part_is_history, eqb-false, event_number, false, false≢true, header_in}
-use Rattle.mk_laws.proofs.Vocabulary.{is_begin, is_freed, is_quarantined, large_freed, large_is_history, leb-true, left}
-use Rattle.mk_laws.proofs.Vocabulary.{left_from, ltb-true, marked_in_stop, may_turn_black, one_page, placed_at}
-use Rattle.mk_laws.proofs.Vocabulary.{pointed_cell, refl, run_headed, slice_index, small, stands_in, stopped_cycle}
-use Rattle.mk_laws.proofs.Vocabulary.{stopped_is_history, suc, sym, take, three_objects, three_pages, true}
-use Rattle.mk_laws.proofs.Vocabulary.{words_are_zero, zero, ℕ, ◌<◌, ◌≡◌, ◌≤◌}
+use Rattle.mk_laws.proofs.Vocabulary.{At, Cell, IsHistory, IsTaken, Releasing, RunPages, Seat, Step, World, ℕ}
+use Rattle.mk_laws.proofs.Vocabulary.{all_below, before_release, begun_in_stop, by, c0, calls_from, cell_of_allocation}
+use Rattle.mk_laws.proofs.Vocabulary.{drop, earlier_part_is_history, eqb-false, event_number, false, false≢true}
+use Rattle.mk_laws.proofs.Vocabulary.{header_in, is_begin, is_freed, is_quarantined, large_freed, large_is_history}
+use Rattle.mk_laws.proofs.Vocabulary.{leb-true, left, left_from, ltb-true, marked_in_stop, may_turn_black, one_page}
+use Rattle.mk_laws.proofs.Vocabulary.{placed_at, pointed_cell, refl, run_headed, slice_index, small, stands_in}
+use Rattle.mk_laws.proofs.Vocabulary.{stopped_cycle, stopped_is_history, suc, sym, take, three_objects, three_pages}
+use Rattle.mk_laws.proofs.Vocabulary.{true, words_are_zero, zero, ◌<◌, ◌≡◌, ◌≤◌}
 use Rattle.mk_never.specs.Reach.{by_register, by_word}
-use Rattle.mk_core.specs.declared.events.Seat.TheVariants as seat
-use Rattle.mk_core.specs.declared.events.Step.TheVariants as step
-use Rattle.mk_core.specs.Cells.{is_in_snapshot}
-use Rattle.mk_core.specs.Readings.{SnapshotTells}
 use Rattle.mk_core.proofs.EvaluatedCycles.{cycle_of_blackened, first_cycle, in_first_snapshot, not_in_first_snapshot}
 use Rattle.mk_core.proofs.EvaluatedFreed.{third_cell, third_is_freed}
 use Rattle.mk_core.proofs.EvaluatedHistories.{blackened_is_history, freed_is_history, marking_is_history}
-use Rattle.mk_core.proofs.EventsAt.{at_number}
-use Rattle.mk_core.proofs.MoreSchedules.{granted_while_marking, two_pages}
 use Rattle.mk_core.proofs.Schedules.{blackened_before_the_move, freed_after_begin, host, m0, pointer_page}
-use Rattle.mk_laws.specs.FreeWords.{IsOfNoneMapped}
-use Rattle.mk_laws.specs.Releases.{allocation_behind}
-use Rattle.mk_laws.proofs.FreeCells as cells
+use Rattle.mk_core.proofs.{EventsAt.at_number, MoreSchedules.granted_while_marking, MoreSchedules.two_pages}
+use Rattle.mk_core.specs.{Cells.is_in_snapshot, Readings.SnapshotTells}
 use Rattle.mk_laws.proofs.FreeWords.{unmapped_words_are_zero}
-use Rattle.mk_laws.proofs.ReleasedCycles.{releases_are_of_cycles}
 use Rattle.mk_laws.proofs.Releases.{no_others_release, releases_are_exact, releases_none_reached}
+use Rattle.mk_laws.proofs.{ReadingsStands.headers_and_quarantine_tell, ReleasedCycles.releases_are_of_cycles}
+use Rattle.mk_laws.specs.{FreeWords.IsOfNoneMapped, Releases.allocation_behind}
+use Rattle.mk_laws.proofs.FreeCells as cells
 use Rattle.mk_laws.proofs.Snapshots as snapshots
-use Rattle.mk_laws.proofs.ReadingsStands.{headers_and_quarantine_tell}
 
 -- what the lists leave that several theorems are applied to
 
@@ -128,13 +122,12 @@ reached_is_not_released =
 pub begin_releases_none : (placed_at (left one_page (take 16 freed_after_begin)).allocations 0).released ≡ false
 unfolding by c0 host all_below pointed_cell one_page freed_after_begin left_from
 begin_releases_none = no_others_release one_page freed_after_begin freed_is_history (take 15 freed_after_begin)
-    (drop 16 freed_after_begin) (record { seat = c0; step = step.Begin }) refl refl 0 refl
+    (drop 16 freed_after_begin) (record { seat = c0; step = Step.Begin }) refl refl 0 refl
 
 -- Each `release` has its cycle.
 pub release_has_its_cycle : (r : Releasing freed_after_begin) × (before_release r ≡ take 32 freed_after_begin)
 unfolding by c0 host freed_after_begin
-release_has_its_cycle = releases_are_of_cycles one_page freed_after_begin freed_is_history (take 32 freed_after_begin)
-    (drop 33 freed_after_begin) seat.Host refl
+release_has_its_cycle = releases_are_of_cycles one_page freed_after_begin freed_is_history _ _ Seat.Host refl
 
 -- Words that are 0: those of the cell that was given back,
 

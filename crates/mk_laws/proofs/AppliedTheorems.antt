@@ -1,32 +1,28 @@
 -- The theorems over all histories, applied to small schedules: what each says there, read off by computation.
-use Rattle.std.proofs.Common.{replicate, None, Some}
-use Rattle.mk_laws.proofs.Vocabulary.{DirtyIsOwed, Event, IsGuarded, IsHeaderWord, IsHistory, IsSettled, IsWordOf}
-use Rattle.mk_laws.proofs.Vocabulary.{KeepsTheInvariant, List, NeverState, Null, OwesDirty, PageIsDirty, PointsWell}
-use Rattle.mk_laws.proofs.Vocabulary.{Value, WordOf, World, [], all_below, answers_of, ap, append_assoc, arith, asked}
-use Rattle.mk_laws.proofs.Vocabulary.{bases_of, begun_in_stop, by, c0, calls, calls_from, cell_of_allocation, drop}
-use Rattle.mk_laws.proofs.Vocabulary.{earlier_part_is_history, eqb-false, event_number, false, false≢true, free_page}
-use Rattle.mk_laws.proofs.Vocabulary.{has_bit_of, header_at, inl, is_begin, is_run_gone, large_freed, large_is_history}
-use Rattle.mk_laws.proofs.Vocabulary.{leb-true, left, left_from, ltb-true, marked_in_stop, may_turn_black, never_behind}
-use Rattle.mk_laws.proofs.Vocabulary.{one_page, placed_at, pointed_cell, points_well, refl, register_at, replies_of}
-use Rattle.mk_laws.proofs.Vocabulary.{resident_pages, slice_index, small, stopped_cycle, stopped_is_history, storage_of}
-use Rattle.mk_laws.proofs.Vocabulary.{subst, sym, take, three_objects, three_pages, true, unreleased_storage}
-use Rattle.mk_laws.proofs.Vocabulary.{uses_of_pages, word_at, word_points_well, ℕ, ◌++◌, ◌∙◌, ◌∷◌, ◌≡◌, ◌≤◌}
-use Rattle.mk_never.specs.declared.values.Target.{Target}
+use Rattle.std.proofs.Common.{None, Some, replicate}
+use Rattle.mk_laws.proofs.Vocabulary.{Answer, DirtyIsOwed, Event, IsGuarded, IsHeaderWord, IsHistory, IsSettled}
+use Rattle.mk_laws.proofs.Vocabulary.{IsWordOf, KeepsTheInvariant, List, NeverState, Null, OwesDirty, PageIsDirty}
+use Rattle.mk_laws.proofs.Vocabulary.{PointsWell, Seat, Value, WordOf, World, ℕ, all_below, answers_of, ap}
+use Rattle.mk_laws.proofs.Vocabulary.{append_assoc, arith, asked, bases_of, begun_in_stop, by, c0, calls, calls_from}
+use Rattle.mk_laws.proofs.Vocabulary.{cell_of_allocation, drop, earlier_part_is_history, eqb-false, event_number, false}
+use Rattle.mk_laws.proofs.Vocabulary.{false≢true, free_page, has_bit_of, header_at, inl, is_begin, is_run_gone}
+use Rattle.mk_laws.proofs.Vocabulary.{large_freed, large_is_history, leb-true, left, left_from, ltb-true}
+use Rattle.mk_laws.proofs.Vocabulary.{marked_in_stop, may_turn_black, never_behind, one_page, placed_at, pointed_cell}
+use Rattle.mk_laws.proofs.Vocabulary.{points_well, refl, register_at, replies_of, resident_pages, slice_index, small}
+use Rattle.mk_laws.proofs.Vocabulary.{stopped_cycle, stopped_is_history, storage_of, subst, sym, take, three_objects}
+use Rattle.mk_laws.proofs.Vocabulary.{three_pages, true, unreleased_storage, uses_of_pages, word_at, word_points_well}
+use Rattle.mk_laws.proofs.Vocabulary.{[], ◌++◌, ◌∙◌, ◌∷◌, ◌≡◌, ◌≤◌}
 use Rattle.mk_geom.specs.Storages.{words_of_storages}
-use Rattle.mk_core.specs.declared.events.Answer.TheVariants as answer
-use Rattle.mk_core.specs.declared.events.Seat.TheVariants as seat
-use Rattle.mk_core.specs.Allocations.{place_among_allocations}
-use Rattle.mk_core.specs.Cells.{is_used}
-use Rattle.mk_core.specs.History.{never_first}
+use Rattle.mk_never.specs.declared.values.Target.{Target}
 use Rattle.mk_core.proofs.EvaluatedGuards.{page_is_clean, written_points_badly}
 use Rattle.mk_core.proofs.EvaluatedHistories.{exchanged_is_history, freed_is_history, full_is_history, swept_is_history}
 use Rattle.mk_core.proofs.EvaluatedReach.{first_is_reached, second_is_reached}
-use Rattle.mk_core.proofs.EventsAt.{at_number}
 use Rattle.mk_core.proofs.MoreSchedules.{before_the_sweep, exchanged, full_then_reused, sweeping_mark}
-use Rattle.mk_core.proofs.Schedules.{answers_freed, host, freed_after_begin, pointer_page}
+use Rattle.mk_core.proofs.Schedules.{answers_freed, freed_after_begin, host, pointer_page}
 use Rattle.mk_core.proofs.SmallCycles.{marked_beside, page_dirtied, scanned_again, second_cleared, third_released}
 use Rattle.mk_core.proofs.SmallCycles.{written_beside}
-use Rattle.mk_core.proofs.SmallHistories.{beside_is_history}
+use Rattle.mk_core.proofs.{EventsAt.at_number, SmallHistories.beside_is_history}
+use Rattle.mk_core.specs.{Allocations.place_among_allocations, Cells.is_used, History.never_first}
 use Rattle.mk_laws.proofs.InvariantHistories.{events_keep_the_invariant, histories_keep_the_invariant}
 use Rattle.mk_laws.proofs.Quarantines as quarantines
 use Rattle.mk_laws.proofs.InvariantTheorems as theorems
@@ -54,7 +50,7 @@ marking = left one_page (take 31 freed_after_begin)
 -- The images of the replies are these answers.
 pub images_of_replies : answers_of (bases_of (left one_page freed_after_begin).allocations)
     (replies_of (never_first one_page) (asked (calls one_page freed_after_begin)))
-    ≡ replicate 7 answer.Done ++ answer.Num 0 ∷ []
+    ≡ replicate 7 Answer.Done ++ Answer.Num 0 ∷ []
 images_of_replies = sym (theorems.histories_refine_never one_page freed_after_begin freed_is_history) ∙ answers_freed
 
 -- An object that a register leads to is unreleased, and so is one that it leads to by a word.
@@ -83,7 +79,7 @@ first_compares_equal =
     0 0 0 2 1 refl refl in
     ap (word_of_target (never_behind pointer_page (take 16 exchanged))) compares.target ∙ compares.answered.0 refl
 
-answered_zero : Some (answer.Num 0) ≡ Some (answer.Num 1) → ⊥
+answered_zero : Some (Answer.Num 0) ≡ Some (Answer.Num 1) → ⊥
 answered_zero h = let no : ◌≡◌ {A = ℕ} 0 1 = cc in omega arith
 
 pub second_compares_unequal : word_at (never_behind pointer_page (take 24 exchanged)) 0 0
@@ -185,7 +181,7 @@ pub word_points_well_at_close : word_points_well small.pages (stopped 47).now.wo
 unfolding left_from all_below pointed_cell begun_in_stop three_objects marked_in_stop
 word_points_well_at_close =
     (theorems.closes_find_marks_closed small stopped_cycle stopped_is_history (take 47 stopped_cycle)
-    (drop 48 stopped_cycle) seat.Host refl).words 0 0 refl refl (leb-true 0 0 refl, ltb-true 0 2 refl)
+    (drop 48 stopped_cycle) Seat.Host refl).words 0 0 refl refl (leb-true 0 0 refl, ltb-true 0 2 refl)
 
 closed_is_history : IsHistory small (take 48 stopped_cycle)
 unfolding begun_in_stop three_objects marked_in_stop

@@ -1,13 +1,11 @@
 -- What the conditions on gates, phases and markers say.
-use Rattle.mk_laws.proofs.Vocabulary.{Caller, Config, Host, List, Marker, MarkerState, Moment, Seat, Words, []}
+use Rattle.mk_laws.proofs.Vocabulary.{Caller, Config, Host, List, Marker, MarkerState, Moment, Seat, Words, ℕ}
 use Rattle.mk_laws.proofs.Vocabulary.{all_below-at, and_parts, arith, eqb-false, eqb-true, false, holder_number, inl}
 use Rattle.mk_laws.proofs.Vocabulary.{inr, is_attending, is_held, is_number_of, ltb-true, nat_lt, none_attends, not}
 use Rattle.mk_laws.proofs.Vocabulary.{not-true, or_cases, others_are_held, outside, refl, slice_index, slice_index_or}
-use Rattle.mk_laws.proofs.Vocabulary.{suc, true, zero, ℕ, ◌&&◌, ◌<◌, ◌==◌, ◌||◌, ◌∷◌, ◌≡◌, ◌≢◌, ◌≤◌, ◌⊎◌}
-use Rattle.mk_core.specs.Moments.{none_is_held}
-use Rattle.mk_core.specs.StopConditions.{may_close}
-use Rattle.mk_laws.proofs.Views.{view_of}
-use Rattle.mk_laws.proofs.ProtocolMoves.{OthersAreHeld}
+use Rattle.mk_laws.proofs.Vocabulary.{suc, true, zero, [], ◌&&◌, ◌<◌, ◌==◌, ◌||◌, ◌∷◌, ◌≡◌, ◌≢◌, ◌≤◌, ◌⊎◌}
+use Rattle.mk_core.specs.{Moments.none_is_held, StopConditions.may_close}
+use Rattle.mk_laws.proofs.{ProtocolMoves.OthersAreHeld, Views.view_of}
 
 pub none_held : (c : Config) (w : Words) → none_is_held c.callers w ≡ true → (j : ℕ) → j < c.callers
     → slice_index w.gates j ≢ 2
@@ -28,9 +26,8 @@ others_held c m seat h j lt ne = elim (or_cases _ _
 pub other_caller : (c : Config) (seat : Seat) (j : ℕ) → (nat_lt j c.callers && not (is_number_of seat j)) ≡ true
     → (j < c.callers) × (holder_number c seat ≢ j)
 other_caller c seat j h =
-    let p = and_parts _ _ h in
-    let lt = ltb-true j c.callers p.0 in
-    (lt, apart c seat j lt (not-true _ p.1))
+    let lt = ltb-true j c.callers (and_parts _ _ h).0 in
+    (lt, apart c seat j lt (not-true _ (and_parts _ _ h).1))
   where
     apart : (c : Config) (seat : Seat) (j : ℕ) → j < c.callers → is_number_of seat j ≡ false → holder_number c seat ≢ j
     apart c (Caller k) j lt h = eqb-false k j h

@@ -1,12 +1,12 @@
 -- While no cell is released, words that aren't 0 lie on the pages of unreleased allocations; on all others they are 0.
 use Rattle.mk_laws.proofs.Vocabulary.{Among, Claim, Config, HasZeros, IsClaimedRun, IsFreedWord, IsPlotShown, IsShown}
 use Rattle.mk_laws.proofs.Vocabulary.{IsWordOfMapped, MayHold, Object, OfFreedRun, OfMapped, OfReleased, Option}
-use Rattle.mk_laws.proofs.Vocabulary.{PlacedAllocation, RunPages, RunStands, ShowsPart, World, and_parts, ap, arith}
+use Rattle.mk_laws.proofs.Vocabulary.{PlacedAllocation, RunPages, RunStands, ShowsPart, World, ℕ, and_parts, ap, arith}
 use Rattle.mk_laws.proofs.Vocabulary.{cases_eq, claim_of, claims_of, false, ground_of, head_on, header_made, header_of}
 use Rattle.mk_laws.proofs.Vocabulary.{header_on, inl, inr, is_phase, leb-true, ltb-true, made_shows, object_now}
 use Rattle.mk_laws.proofs.Vocabulary.{object_placed, pages_made, pages_some, part_head, placed_at, refl, shows_on}
-use Rattle.mk_laws.proofs.Vocabulary.{slice_index, storage_words, subst, sym, used_on, words_made, zero_scene_of, ℕ}
-use Rattle.mk_laws.proofs.Vocabulary.{◌+◌, ◌-◌, ◌/◌, ◌<◌, ◌∙◌, ◌≡◌, ◌≢◌, ◌≤◌}
+use Rattle.mk_laws.proofs.Vocabulary.{slice_index, storage_words, subst, sym, used_on, words_made, zero_scene_of, ◌+◌}
+use Rattle.mk_laws.proofs.Vocabulary.{◌-◌, ◌/◌, ◌<◌, ◌∙◌, ◌≡◌, ◌≢◌, ◌≤◌}
 use Rattle.mk_laws.proofs.Basics.{Laid, claim_among, claimed_some, ends_on_pages, mapped_stays, none_released, none_set}
 use Rattle.mk_laws.proofs.Basics.{own_claim}
 use Rattle.mk_laws.proofs.LayoutReadings.{claimed_head}
@@ -35,8 +35,7 @@ mapped_on c w n q m =
     let a : PlacedAllocation = placed_at w.allocations m.number in
     let u = mapped_stays c a m.mapped in
     let x : Claim = claim_of c w.now.seats.holding.freed a in
-    let i : Among x (claims_of c w.now.seats.holding.freed w.allocations) =
-    claim_among c w.now.seats.holding.freed w.allocations m.number u in
+    let i = claim_among c w.now.seats.holding.freed w.allocations m.number u in
     let ends = ends_on_pages _ a.base (shown_there c w x q i).sized (q.laid.cells m.number u).begins
     in
     let words : storage_words c a ≡ words_made (object_placed c a) = refl in
@@ -48,8 +47,7 @@ freed_on : (c : Config) (w : World) (n : ℕ) → Unreleasing c w → IsFreedWor
     → IsOnAllocation c w (n / 64)
 freed_on c w n q f =
     let x : IsClaimedRun (claims_of c w.now.seats.holding.freed w.allocations) f.run =
-    subst (λ (r : Option RunPages). RunStands (claims_of c w.now.seats.holding.freed w.allocations) r) f.there
-    q.laid.gone in
+    subst (RunStands (claims_of c w.now.seats.holding.freed w.allocations)) f.there q.laid.gone in
     let parts = and_parts _ _ f.word in
     let from = leb-true f.run.page (n / 64) parts.0 in
     let to = ltb-true _ f.run.count parts.1 in
@@ -97,6 +95,6 @@ plot_page c w first o distance n q plot lt at = elim (plot.headers distance lt) 
         let some = pages_some o plot.sized in
         let zero : first + 0 ≡ first = omega arith in
         let page : x.claim.page ≡ first = sym (claimed_head w.now.words.pages x.claim x.distance shown x.near)
-        ∙ ap (λ p. head_on w.now.words.pages p) (x.at ∙ at) ∙ part_head o distance first _ part in
+        ∙ ap (head_on w.now.words.pages) (x.at ∙ at) ∙ part_head o distance first _ part in
         none_set _ x.claim.index
-        (ap (λ p. used_on w.now.words.pages p) (page ∙ sym zero) ∙ plot.used 0 (omega arith)) shown.used
+        (ap (used_on w.now.words.pages) (page ∙ sym zero) ∙ plot.used 0 (omega arith)) shown.used

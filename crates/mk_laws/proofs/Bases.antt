@@ -1,6 +1,6 @@
 -- Bases are added after the others, and stay.
-use Rattle.mk_laws.proofs.Vocabulary.{Bool, ImageScene, List, NeverState, PlacedAllocation, [], append-nil, bases_of}
-use Rattle.mk_laws.proofs.Vocabulary.{map-append, sym, ℕ, ◌++◌, ◌∙◌, ◌∷◌, ◌≡◌}
+use Rattle.mk_laws.proofs.Vocabulary.{Bool, ImageScene, List, NeverState, PlacedAllocation, ℕ, append-nil, bases_of}
+use Rattle.mk_laws.proofs.Vocabulary.{map-append, sym, [], ◌++◌, ◌∙◌, ◌∷◌, ◌≡◌}
 use Rattle.mk_laws.proofs.Basics.{Frees, Grants, Move, Releases, Renews, Writes}
 
 pub record IsLonger (xs ys : List ℕ) : Type 0 where

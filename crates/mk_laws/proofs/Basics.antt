@@ -9,7 +9,7 @@ pub use Rattle.mk_laws.proofs.Freed.{freeing_leaves, gone_terrain}
 pub use Rattle.mk_laws.proofs.Ground.{tally_ground}
 pub use Rattle.mk_laws.proofs.Grown.{along_others}
 pub use Rattle.mk_laws.proofs.ImagesBefore.{ready_of, unmapped_is, words_fit}
-pub use Rattle.mk_laws.proofs.ImagesKept.{base_at, exists_placed}
+pub use Rattle.mk_laws.proofs.HeapEdits.{base_at, exists_placed}
 pub use Rattle.mk_laws.proofs.ImagesMoves.{Frees, Grants, Move, Releases, Renews, Writes}
 pub use Rattle.mk_laws.proofs.ImagesStands.{Stands, stands_of}
 pub use Rattle.mk_laws.proofs.Induction.{KeptByEvents, before_it, holds_of_histories}

@@ -1,54 +1,31 @@
 -- One event: what stands on the pages after it.
 use Rattle.mk_laws.proofs.Vocabulary.{Bool, Chosen, Config, HasLayout, LayoutStands, Marker, Moment, None, Option}
-use Rattle.mk_laws.proofs.Vocabulary.{Placing, Seat, SeenHeader, Some, Step, World, and_parts, ap, arith, cases_Bool}
-use Rattle.mk_laws.proofs.Vocabulary.{cell_seen, eq-eqb, eqb-true, false, ground_of, has_place, holder_number}
-use Rattle.mk_laws.proofs.Vocabulary.{if◌then◌else◌, inl, inr, is_attending, is_phase, is_some, marker_at, marker_of}
-use Rattle.mk_laws.proofs.Vocabulary.{ne_eqb, nothing_done, object_now, phase_of, refl, sym, true, ℕ, ◌%◌, ◌+◌, ◌-◌}
-use Rattle.mk_laws.proofs.Vocabulary.{◌==◌, ◌∙◌, ◌≡◌, ◌≢◌, ◌⊎◌}
+use Rattle.mk_laws.proofs.Vocabulary.{Placing, Seat, SeenHeader, Some, Step, World, ℕ, ap, arith, cases_Bool, cell_seen}
+use Rattle.mk_laws.proofs.Vocabulary.{eqb-true, false, ground_of, has_place, holder_number, if◌then◌else◌, inl, inr}
+use Rattle.mk_laws.proofs.Vocabulary.{is_attending, is_phase, is_some, marker_at, marker_of, nothing_done, object_now}
+use Rattle.mk_laws.proofs.Vocabulary.{phase_of, refl, sym, true, ◌+◌, ◌-◌, ◌==◌, ◌∙◌, ◌≡◌, ◌⊎◌}
 use Rattle.mk_laws.proofs.Basics.{Before, Known, Meets, WorldBehind, actor_of, held_place, is_releasing_behind}
 use Rattle.mk_laws.proofs.Basics.{not_astray, reg_leaves, tally_keeps, view_of}
-use Rattle.mk_core.specs.declared.events.Step.TheVariants as step
-use Rattle.mk_laws.proofs.Colours.{AddsMarks, ClearsMarks, ColourStep, Colours, MarksSeen, colour_step}
-use Rattle.mk_laws.proofs.NewPlace.{new_was}
-use Rattle.mk_laws.proofs.OrderlyLists.{orderly_behind}
-use Rattle.mk_laws.proofs.Sorts.{moves}
+use Rattle.mk_laws.proofs.Colours.{AddsMarks, ClearsMarks, Colours, ColourStep, MarksSeen, colour_step}
+use Rattle.mk_laws.proofs.CyclePhases.{AsksPhase, phase_asked, phase_behind, phase_moves}
 use Rattle.mk_laws.proofs.LayoutByKind.{by_kind, placeless}
-use Rattle.mk_laws.proofs.Dropped.{unreleasing}
+use Rattle.mk_laws.proofs.{Dropped.unreleasing, NewPlace.new_was, OrderlyLists.orderly_behind, Sorts.moves}
 
 -- whether the phase is releasing
 
-not_four : (n m : ℕ) → n % 8 ≢ 4 → m % 8 ≢ 4 → (n % 8 == 4) ≡ (m % 8 == 4)
-not_four n m hn hm = ne_eqb (n % 8) 4 hn ∙ sym (ne_eqb (m % 8) 4 hm)
-
-same_low : (n m : ℕ) → n % 8 ≡ m % 8 → (n % 8 == 4) ≡ (m % 8 == 4)
-same_low n m e = rw e
-
-pub over_phase : (c : Config) (w : World) (seat : Seat) → Meets c w.now seat step.Over → w.now.words.phase % 8 ≡ 0
-over_phase c w seat h = eqb-true _ 0 (and_parts _ _ h.holder).1
+releasing_step : (x : Step) (p : ℕ) → AsksPhase x p → (phase_behind x p == 4) ≡ is_releasing_behind x (p == 4)
+releasing_step Step.Begin p asks = ap (λ n. n == 4) (sym asks)
+releasing_step Step.Want p asks = ap (λ n. n == 4) (sym asks)
+releasing_step Step.Close p asks = ap (λ n. n == 4) (sym asks)
+releasing_step Step.Release p asks = refl
+releasing_step Step.End p asks = refl
+releasing_step Step.Over p asks = ap (λ n. n == 4) (sym asks)
+releasing_step _ p asks = refl
 
 pub phase_kind : (c : Config) (w : World) (seat : Seat) (x : Step) → Meets c w.now seat x
     → is_phase (WorldBehind c w seat x).now.words 4 ≡ is_releasing_behind x (is_phase w.now.words 4)
-phase_kind c w seat step.Reg h = same_low _ _ (rw (reg_leaves c w seat).phase)
-phase_kind c w seat (step.Tally n v) h = same_low _ _ (rw (tally_keeps w.now.words n v).phase)
-phase_kind c w seat step.Begin h =
-    let e = eqb-true _ 0 h.phase in
-    not_four _ w.now.words.phase (λ x. omega arith) (λ x. omega arith)
-phase_kind c w seat step.Want h =
-    let e = eqb-true _ 1 h.phase in
-    not_four _ w.now.words.phase (λ x. omega arith) (λ x. omega arith)
-phase_kind c w seat step.Close h =
-    let e = eqb-true _ 2 h.phase in
-    not_four _ w.now.words.phase (λ x. omega arith) (λ x. omega arith)
-phase_kind c w seat step.Release h = let e = eqb-true _ 3 h.phase in eq-eqb _ 4 (omega arith)
-phase_kind c w seat step.End h =
-    let e = eqb-true _ 4 h.phase in
-    ne_eqb _ 4 (λ x. omega arith)
-phase_kind c w seat step.Attend h = same_low _ w.now.words.phase (omega arith)
-phase_kind c w seat step.Quit h = same_low _ w.now.words.phase (omega arith)
-phase_kind c w seat step.Over h =
-    let e = over_phase c w seat h in
-    not_four _ w.now.words.phase (λ x. omega arith) (λ x. omega arith)
-phase_kind c w seat _ h = refl
+phase_kind c w seat x h =
+    ap (λ n. n == 4) (phase_moves c w.now seat x h) ∙ releasing_step x _ (phase_asked c w.now seat x h)
 
 -- While released cells are there, no mark changes: nobody marks then.
 seen_attends : (c : Config) (m : Moment) (seat : Seat) → Known c m
@@ -76,28 +53,28 @@ marks_stay c m seat y known four _ = refl
 pub releasing_marks : (c : Config) (w : World) (seat : Seat) (x : Step) → Known c w.now → Meets c w.now seat x
     → is_releasing_behind x (is_phase w.now.words 4) ≡ true
     → (WorldBehind c w seat x).now.words.marks ≡ w.now.words.marks
-releasing_marks c w seat step.Release known h on = refl
-releasing_marks c w seat step.End known h on = refl
+releasing_marks c w seat Step.Release known h on = refl
+releasing_marks c w seat Step.End known h on = refl
 releasing_marks c w seat x known h on = by x h on
   where
     by : (x : Step) → Meets c w.now seat x → is_releasing_behind x (is_phase w.now.words 4) ≡ true
         → (WorldBehind c w seat x).now.words.marks ≡ w.now.words.marks
-    by step.Release h on = refl
-    by step.End h on = refl
+    by Step.Release h on = refl
+    by Step.End h on = refl
     by x h on = marks_stay c w.now seat _ known (eqb-true _ 4 on) (colour_step c w.now seat x h)
 
 -- Where there is a place after, the turn is the same,
 turn_kind : (c : Config) (w : World) (seat : Seat) (x : Step) → Meets c w.now seat x
     → has_place (WorldBehind c w seat x).now.seats.holding.placing ≡ true
     → (WorldBehind c w seat x).now.words.turn ≡ w.now.words.turn
-turn_kind c w seat (step.Take o) h has = by (w.now.words.turn == 0) has
+turn_kind c w seat (Step.Take o) h has = by (w.now.words.turn == 0) has
   where
     by : (b : Bool) → has_place (if b then nothing_done else w.now.seats.holding).placing ≡ true
         → (if b then 1 + holder_number c seat else w.now.words.turn) ≡ w.now.words.turn
     by true has = cc
     by false has = refl
-turn_kind c w seat step.Reg h has = (reg_leaves c w seat).turn
-turn_kind c w seat (step.Tally n v) h has = (tally_keeps w.now.words n v).turn
+turn_kind c w seat Step.Reg h has = (reg_leaves c w seat).turn
+turn_kind c w seat (Step.Tally n v) h has = (tally_keeps w.now.words n v).turn
 turn_kind c w seat _ h has = cc
 
 -- and so is the object whose place it is.
@@ -110,11 +87,9 @@ pub object_kind : (c : Config) (w : World) (seat : Seat) (x : Step) → Known c 
     → object_now c (WorldBehind c w seat x).now ≡ object_now c w.now
 object_kind c w seat x known h has =
     let v : World = WorldBehind c w seat x in
-    let k : ℕ = v.now.words.turn - 1 in
-    let orderly = orderly_behind c w.now seat x known.small known.orderly h in
-    let new = orderly.served.placed has in
+    let new = (orderly_behind c w.now seat x known.small known.orderly h).served.placed has in
     let move = moves c w.now seat x (not_astray c w.now known.orderly) (actor_of c w.now seat x known.orderly h) h in
-    elim (new_was c (view_of w.now) seat (view_of v.now) k move new) [
+    elim (new_was c (view_of w.now) seat (view_of v.now) (v.now.words.turn - 1) move new) [
       | inl same ↦ rw same (rw (turn_kind c w seat x h has))
       | inr none ↦ absurd (held_none v.now.seats.holding.placing has none)
     ]

@@ -1,26 +1,18 @@
 -- Each step of a caller's call outside the turn leads to what the images allow.
 use Rattle.mk_laws.proofs.Vocabulary.{Answer, AreAdmitted, Bool, Caller, CarriesOwn, Config, Flight, IsAdmitted, List}
-use Rattle.mk_laws.proofs.Vocabulary.{MeetsAll, Mirrors, Named, NeverState, None, Op, Some, Stage, Step, Words, World}
-use Rattle.mk_laws.proofs.Vocabulary.{accessed, answer_decided, ap, arith, asked, at_rest, begun, call_decided, d_of}
-use Rattle.mk_laws.proofs.Vocabulary.{entry_of, false, flagged, flight_of, g_of, header_at, if◌then◌else◌}
-use Rattle.mk_laws.proofs.Vocabulary.{image_scene_of, is_past_probe, is_put, is_under_turn, length, ltb-true, onward}
-use Rattle.mk_laws.proofs.Vocabulary.{page_met, progress_read, refl, refused, reg_access, register_met, register_word}
-use Rattle.mk_laws.proofs.Vocabulary.{slice_index, slice_set, subst, sym, true, word_met, world_behind, ℕ, ◌*◌, ◌+◌}
-use Rattle.mk_laws.proofs.Vocabulary.{◌<◌, ◌==◌, ◌∙◌, ◌≡◌}
+use Rattle.mk_laws.proofs.Vocabulary.{MeetsAll, Mirrors, Named, NeverState, None, Op, Some, Stage, Step, Word, Words}
+use Rattle.mk_laws.proofs.Vocabulary.{World, ℕ, accessed, answer_decided, ap, arith, asked, at_rest, begun}
+use Rattle.mk_laws.proofs.Vocabulary.{call_decided, d_of, entry_of, false, flagged, flight_of, g_of, header_at}
+use Rattle.mk_laws.proofs.Vocabulary.{if◌then◌else◌, image_scene_of, is_past_probe, is_put, is_under_turn, length}
+use Rattle.mk_laws.proofs.Vocabulary.{ltb-true, onward, page_met, progress_read, refl, refused, reg_access}
+use Rattle.mk_laws.proofs.Vocabulary.{register_met, register_word, slice_index, slice_set, subst, sym, true, word_met}
+use Rattle.mk_laws.proofs.Vocabulary.{world_behind, ◌*◌, ◌+◌, ◌<◌, ◌==◌, ◌∙◌, ◌≡◌}
+use Rattle.mk_core.specs.Effects.{begins_where_free, progress_probe}
 use Rattle.mk_laws.proofs.Basics.{KnownWorld, Leads, PagesShow, Ready, at_its_stage, at_reg, either_leads, flight}
 use Rattle.mk_laws.proofs.Basics.{goes_bare, is_astray, is_call_stage, not_astray, operands_of, standing, standing_at}
-use Rattle.mk_never.specs.declared.operations.Op.TheVariants as op
-use Rattle.mk_core.specs.declared.events.Answer.TheVariants as answer
-use Rattle.mk_core.specs.declared.events.Word.TheVariants as word
-use Rattle.mk_core.specs.declared.events.Step.TheVariants as step
-use Rattle.mk_core.specs.declared.seats.Stage.TheVariants as stage
-use Rattle.mk_core.specs.Effects.{progress_probe, begins_where_free}
-use Rattle.mk_laws.proofs.NextSteps.{at_enter}
-use Rattle.mk_laws.proofs.ImagesMoves.{is_bare, Flies}
-use Rattle.mk_laws.proofs.ImagesKept.{own_plain}
-use Rattle.mk_laws.proofs.Ready.{LeadsBy}
-use Rattle.mk_laws.proofs.RegMoves.{flies_on, registers_behind, reg_leads}
-use Rattle.mk_laws.proofs.ImagesCallMoves.{probe_leads, read_leads, write_leads, cas_leads, getg_leads, setg_leads}
+use Rattle.mk_laws.proofs.ImagesCallMoves.{cas_leads, getg_leads, probe_leads, read_leads, setg_leads, write_leads}
+use Rattle.mk_laws.proofs.{ImagesKept.own_plain, ImagesMoves.Flies, ImagesMoves.is_bare, NextSteps.at_enter}
+use Rattle.mk_laws.proofs.{Ready.LeadsBy, RegMoves.flies_on, RegMoves.reg_leads, RegMoves.registers_behind}
 
 abbrev pub LeadsAt : Config → World → NeverState → (ℕ → Bool) → ℕ → Step → Type 0
 LeadsAt c w n safe k x = Leads safe (image_scene_of w) n k (flight_of w.now (Caller k)).op
@@ -34,26 +26,26 @@ abbrev pub Meets : Config → World → ℕ → Step → Type 0
 Meets c w k x = MeetsAll c w.now (record { seat = Caller k; step = x })
 
 pub flag_is : (o : Op) (a : Answer) → is_under_turn o ≡ false → flagged o a ≡ o
-flag_is (op.New d ty full) a h = cc
+flag_is (Op.New d ty full) a h = cc
 flag_is _ a h = refl
 
 -- a call outside the turn
 pub call_outside : (o : Op) (s : Stage) → is_call_stage s ≡ true → is_astray (standing_at s o) ≡ false
     → is_under_turn o ≡ false
-call_outside (op.GetNum q i) stage.Idle h a = cc
-call_outside (op.SetNum q i m) stage.Idle h a = cc
-call_outside (op.GetPtr d q i) stage.Idle h a = cc
-call_outside (op.SetPtr q i p) stage.Idle h a = cc
-call_outside (op.CasPtr q i p r) stage.Idle h a = cc
-call_outside (op.Lea d q i) stage.Idle h a = cc
-call_outside (op.Move d q) stage.Idle h a = cc
-call_outside (op.Clear d) stage.Idle h a = cc
-call_outside (op.GetGlobal d g) stage.Idle h a = cc
-call_outside (op.SetGlobal g p) stage.Idle h a = cc
-call_outside (op.Same p q) stage.Idle h a = cc
-call_outside (op.IsNull p) stage.Idle h a = cc
-call_outside (op.New d ty full) stage.Idle h a = cc
-call_outside (op.Free p) stage.Idle h a = cc
+call_outside (Op.GetNum q i) Stage.Idle h a = cc
+call_outside (Op.SetNum q i m) Stage.Idle h a = cc
+call_outside (Op.GetPtr d q i) Stage.Idle h a = cc
+call_outside (Op.SetPtr q i p) Stage.Idle h a = cc
+call_outside (Op.CasPtr q i p r) Stage.Idle h a = cc
+call_outside (Op.Lea d q i) Stage.Idle h a = cc
+call_outside (Op.Move d q) Stage.Idle h a = cc
+call_outside (Op.Clear d) Stage.Idle h a = cc
+call_outside (Op.GetGlobal d g) Stage.Idle h a = cc
+call_outside (Op.SetGlobal g p) Stage.Idle h a = cc
+call_outside (Op.Same p q) Stage.Idle h a = cc
+call_outside (Op.IsNull p) Stage.Idle h a = cc
+call_outside (Op.New d ty full) Stage.Idle h a = cc
+call_outside (Op.Free p) Stage.Idle h a = cc
 call_outside _ _ h a = cc
 
 pub admitted_call : (listed : List ℕ) (n : NeverState) (k : ℕ) (o : Op) (a : Answer) → is_under_turn o ≡ false
@@ -62,12 +54,12 @@ admitted_call listed n k o a out ad = rw (flag_is o a out) at ad.0
 
 read_admitted : (listed : List ℕ) (n : NeverState) (k : ℕ) (f : Flight) (o : Op) (x : ℕ) → is_under_turn o ≡ false
     → AreAdmitted listed n (asked (entry_of k o (progress_read f o x).answer)) → IsAdmitted listed n k o
-read_admitted listed n k f (op.GetPtr d q i) x out ad = ad.0
-read_admitted listed n k f o x out ad = admitted_call listed n k o (answer.Num x) out (by o ad)
+read_admitted listed n k f (Op.GetPtr d q i) x out ad = ad.0
+read_admitted listed n k f o x out ad = admitted_call listed n k o (Answer.Num x) out (by o ad)
   where
     by : (o : Op) → AreAdmitted listed n (asked (entry_of k o (progress_read f o x).answer))
-        → AreAdmitted listed n (asked (entry_of k o (Some (answer.Num x))))
-    by (op.GetPtr d q i) ad = ad
+        → AreAdmitted listed n (asked (entry_of k o (Some (Answer.Num x))))
+    by (Op.GetPtr d q i) ad = ad
     by _ ad = ad
 
 pub literal : (f : Flight) (st : Stage) → f.stage ≡ st → f ≡ flight st f.op f.q f.p f.r f.loaded
@@ -75,33 +67,33 @@ literal f st e = rw e
 
 -- the words after `reg`
 reg_registers : (w : Words) (k : ℕ) (f : Flight) (st : Stage)
-    → (accessed w (Named (word.Reg k (register_met f st))) (reg_access f st)).registers
+    → (accessed w (Named (Word.Reg k (register_met f st))) (reg_access f st)).registers
     ≡ registers_behind w.registers k f st
-reg_registers w k f stage.Store = refl
+reg_registers w k f Stage.Store = refl
 reg_registers w k f _ = cc
 
 reg_globals : (w : Words) (k : ℕ) (f : Flight) (st : Stage)
-    → (accessed w (Named (word.Reg k (register_met f st))) (reg_access f st)).globals ≡ w.globals
-reg_globals w k f stage.Store = refl
+    → (accessed w (Named (Word.Reg k (register_met f st))) (reg_access f st)).globals ≡ w.globals
+reg_globals w k f Stage.Store = refl
 reg_globals w k f _ = cc
 
 reg_heap : (w : Words) (k : ℕ) (f : Flight) (st : Stage)
-    → (accessed w (Named (word.Reg k (register_met f st))) (reg_access f st)).heap ≡ w.heap
-reg_heap w k f stage.Store = refl
+    → (accessed w (Named (Word.Reg k (register_met f st))) (reg_access f st)).heap ≡ w.heap
+reg_heap w k f Stage.Store = refl
 reg_heap w k f _ = cc
 
 -- a begun call has loaded nothing
 begun_carries : (bs : List ℕ) (o : Op) (n : NeverState) (k : ℕ) → CarriesOwn bs n k (begun o)
-begun_carries bs (op.New d ty full) n k =
+begun_carries bs (Op.New d ty full) n k =
     record { q = λ e. cc; some_q = λ e. cc; p = λ e. cc; some_p = λ e. cc; r = λ e. cc }
 begun_carries bs _ n k = record { q = λ e. cc; some_q = λ e. cc; p = λ e. cc; some_p = λ e. cc; r = λ e. cc }
 
 begun_unprobed : (o : Op) → is_past_probe (begun o).stage ≡ false
-begun_unprobed (op.New d ty full) = refl
+begun_unprobed (Op.New d ty full) = refl
 begun_unprobed _ = refl
 
 begun_not_put : (o : Op) → is_put (begun o).stage ≡ false
-begun_not_put (op.New d ty full) = refl
+begun_not_put (Op.New d ty full) = refl
 begun_not_put _ = refl
 
 module _ (c : Config) (w : World) (n : NeverState) (known : KnownWorld c w) (mirrors : Mirrors c w n) (safe : ℕ
@@ -149,31 +141,31 @@ module _ (c : Config) (w : World) (n : NeverState) (known : KnownWorld c w) (mir
       → is_put (flight_of w.now (Caller k)).stage ≡ false
   stage_put k st e h = ap is_put e ∙ h
 
-  pub enter_leads : (k : ℕ) (o : Op) → Meets c w k (step.Enter o) → LeadsAt c w n safe k (step.Enter o)
+  pub enter_leads : (k : ℕ) (o : Op) → Meets c w k (Step.Enter o) → LeadsAt c w n safe k (Step.Enter o)
   enter_leads k o h =
       let f = flight_of w.now (Caller k) in
       begins k f.op o _ (ap is_put (at_enter f.stage f.op o h.order).0)
 
-  pub leave_leads : (k : ℕ) → Meets c w k step.Leave → LeadsAt c w n safe k step.Leave
+  pub leave_leads : (k : ℕ) → Meets c w k Step.Leave → LeadsAt c w n safe k Step.Leave
   leave_leads k h = let f = flight_of w.now (Caller k) in bare_on k f.op at_rest
-      (stage_put k stage.Leave (at_its_stage f.stage f.op step.Leave refl h.order) refl) refl
+      (stage_put k Stage.Leave (at_its_stage f.stage f.op Step.Leave refl h.order) refl) refl
 
-  pub dirty_leads : (k : ℕ) → Meets c w k step.Dirty → LeadsAt c w n safe k step.Dirty
+  pub dirty_leads : (k : ℕ) → Meets c w k Step.Dirty → LeadsAt c w n safe k Step.Dirty
   dirty_leads k h =
       let f = flight_of w.now (Caller k) in
-      let e = literal f stage.Dirty (at_its_stage f.stage f.op step.Dirty refl h.order) in
+      let e = literal f Stage.Dirty (at_its_stage f.stage f.op Step.Dirty refl h.order) in
       rw e (dirty_by f.op f.q f.p f.r f.loaded (rw e at (own_astray k (ltb-true k c.callers h.seat))) (rw e))
     where
-      dirty_by : (o : Op) (q p r l : ℕ) → is_astray (standing_at stage.Dirty o) ≡ false
+      dirty_by : (o : Op) (q p r l : ℕ) → is_astray (standing_at Stage.Dirty o) ≡ false
           → is_put (flight_of w.now (Caller k)).stage ≡ false → Leads safe (image_scene_of w) n k o
           (record (image_scene_of w)
-          { flights = slice_set w.now.seats.flights k (onward (flight stage.Dirty o q p r l) None).flight }) None
-      dirty_by (op.SetNum q' i m) q p r l a was = bare_on k (op.SetNum q' i m) _ was refl
-      dirty_by (op.SetPtr q' i p') q p r l a was = bare_on k (op.SetPtr q' i p') _ was refl
-      dirty_by (op.CasPtr q' i p' r') q p r l a was = bare_on k (op.CasPtr q' i p' r') _ was refl
+          { flights = slice_set w.now.seats.flights k (onward (flight Stage.Dirty o q p r l) None).flight }) None
+      dirty_by (Op.SetNum q' i m) q p r l a was = bare_on k (Op.SetNum q' i m) _ was refl
+      dirty_by (Op.SetPtr q' i p') q p r l a was = bare_on k (Op.SetPtr q' i p') _ was refl
+      dirty_by (Op.CasPtr q' i p' r') q p r l a was = bare_on k (Op.CasPtr q' i p' r') _ was refl
       dirty_by _ q p r l a was = cc
 
-  pub reg_leads_at : (k : ℕ) → Meets c w k step.Reg → AdmittedAt c w n k step.Reg → LeadsAt c w n safe k step.Reg
+  pub reg_leads_at : (k : ℕ) → Meets c w k Step.Reg → AdmittedAt c w n k Step.Reg → LeadsAt c w n safe k Step.Reg
   reg_leads_at k h ad =
       let f = flight_of w.now (Caller k) in
       let lt = ltb-true k c.callers h.seat in
@@ -185,33 +177,33 @@ module _ (c : Config) (w : World) (n : NeverState) (known : KnownWorld c w) (mir
       (ready.images.carried k) (λ np. own_plain _ n ready.images k _ (register_small_here k f.stage) np) ad)))
     where
       register_small_here : (k : ℕ) (s : Stage) → register_met (flight_of w.now (Caller k)) s < 8
-      register_small_here k stage.LoadQ = (ready.small k).0
-      register_small_here k stage.LoadP = (ready.small k).1
-      register_small_here k stage.LoadR = (ready.small k).2
+      register_small_here k Stage.LoadQ = (ready.small k).0
+      register_small_here k Stage.LoadP = (ready.small k).1
+      register_small_here k Stage.LoadR = (ready.small k).2
       register_small_here k _ = (ready.small k).3
 
-  pub probe_leads_at : (k : ℕ) → PagesShow (header_at w.now.words) (image_scene_of w) n → Meets c w k step.Probe
-      → AdmittedAt c w n k step.Probe → LeadsAt c w n safe k step.Probe
+  pub probe_leads_at : (k : ℕ) → PagesShow (header_at w.now.words) (image_scene_of w) n → Meets c w k Step.Probe
+      → AdmittedAt c w n k Step.Probe → LeadsAt c w n safe k Step.Probe
   probe_leads_at k show h ad =
       let f = flight_of w.now (Caller k) in
       let lt = ltb-true k c.callers h.seat in
-      let st = at_its_stage f.stage f.op step.Probe refl h.order in
-      let e = literal f stage.Probe st in
+      let st = at_its_stage f.stage f.op Step.Probe refl h.order in
+      let e = literal f Stage.Probe st in
       let out = call_outside f.op f.stage (ap is_call_stage st) (own_astray k lt) in
       subst (λ (g : Flight). LeadsBy safe (image_scene_of w) n k g.op (image_scene_of w)
       (progress_probe g (header_at w.now.words (page_met f)))) (sym e)
       (probe_leads c.globals safe (image_scene_of w) n k ready (there_is k lt) (own_registers k lt)
       (header_at w.now.words) show f.op f.q f.p f.r f.loaded (header_at w.now.words (page_met f)) e (own_d k)
       (rw e at (own_astray k lt)) (rw e at (ready.images.carried k)) refl
-      (λ u. admitted_call c.globals n k f.op answer.Fault out (subst (λ b. AreAdmitted c.globals n
-      (asked (entry_of k f.op (if b then refused f answer.Fault else onward f None).answer))) u ad)))
+      (λ u. admitted_call c.globals n k f.op Answer.Fault out (subst (λ b. AreAdmitted c.globals n
+      (asked (entry_of k f.op (if b then refused f Answer.Fault else onward f None).answer))) u ad)))
 
-  pub read_leads_at : (k : ℕ) → Meets c w k step.Read → AdmittedAt c w n k step.Read → LeadsAt c w n safe k step.Read
+  pub read_leads_at : (k : ℕ) → Meets c w k Step.Read → AdmittedAt c w n k Step.Read → LeadsAt c w n safe k Step.Read
   read_leads_at k h ad =
       let f = flight_of w.now (Caller k) in
       let lt = ltb-true k c.callers h.seat in
-      let st = at_its_stage f.stage f.op step.Read refl h.order in
-      let e = literal f stage.Read st in
+      let st = at_its_stage f.stage f.op Step.Read refl h.order in
+      let e = literal f Stage.Read st in
       let out = call_outside f.op f.stage (ap is_call_stage st) (own_astray k lt) in
       let x = slice_index w.now.words.heap (word_met f) in
       subst (λ (g : Flight). LeadsBy safe (image_scene_of w) n k g.op (image_scene_of w) (progress_read g g.op x))
@@ -220,44 +212,44 @@ module _ (c : Config) (w : World) (n : NeverState) (known : KnownWorld c w) (mir
       (rw e at (ready.images.carried k)) (rw e at (ready.images.probed k)) refl
       (read_admitted c.globals n k f f.op x out ad))
 
-  pub write_leads_at : (k : ℕ) → Meets c w k step.Write → AdmittedAt c w n k step.Write
-      → LeadsAt c w n safe k step.Write
+  pub write_leads_at : (k : ℕ) → Meets c w k Step.Write → AdmittedAt c w n k Step.Write
+      → LeadsAt c w n safe k Step.Write
   write_leads_at k h ad =
       let f = flight_of w.now (Caller k) in
       let lt = ltb-true k c.callers h.seat in
-      let st = at_its_stage f.stage f.op step.Write refl h.order in
-      let e = literal f stage.Write st in
+      let st = at_its_stage f.stage f.op Step.Write refl h.order in
+      let e = literal f Stage.Write st in
       let out = call_outside f.op f.stage (ap is_call_stage st) (own_astray k lt) in
       rw e (write_leads c.globals safe _ n k ready (there_is k lt)
       (own_registers k lt) f.op f.q f.p f.r f.loaded e (rw e at (own_astray k lt)) (rw e at (ready.images.carried k))
-      (rw e at (ready.images.probed k)) (admitted_call c.globals n k f.op answer.Done out ad))
+      (rw e at (ready.images.probed k)) (admitted_call c.globals n k f.op Answer.Done out ad))
 
-  pub cas_leads_at : (k : ℕ) → Meets c w k step.Cas → AdmittedAt c w n k step.Cas → LeadsAt c w n safe k step.Cas
+  pub cas_leads_at : (k : ℕ) → Meets c w k Step.Cas → AdmittedAt c w n k Step.Cas → LeadsAt c w n safe k Step.Cas
   cas_leads_at k h ad =
       let f = flight_of w.now (Caller k) in
       let lt = ltb-true k c.callers h.seat in
-      let st = at_its_stage f.stage f.op step.Cas refl h.order in
-      let e = literal f stage.Cas st in
+      let st = at_its_stage f.stage f.op Step.Cas refl h.order in
+      let e = literal f Stage.Cas st in
       let out = call_outside f.op f.stage (ap is_call_stage st) (own_astray k lt) in
       let x = slice_index w.now.words.heap (word_met f) in
       rw e (cas_leads c.globals safe _ n k ready (there_is k lt)
       (own_registers k lt) f.op f.q f.p f.r f.loaded x e (rw e at (own_astray k lt)) (rw e at (ready.images.carried k))
       (rw e at (ready.images.probed k)) refl (admitted_call c.globals n k f.op _ out ad))
 
-  pub getg_leads_at : (k : ℕ) → Meets c w k step.Getg → LeadsAt c w n safe k step.Getg
+  pub getg_leads_at : (k : ℕ) → Meets c w k Step.Getg → LeadsAt c w n safe k Step.Getg
   getg_leads_at k h =
       let f = flight_of w.now (Caller k) in
       let lt = ltb-true k c.callers h.seat in
-      let e = literal f stage.Getg (at_its_stage f.stage f.op step.Getg refl h.order) in
+      let e = literal f Stage.Getg (at_its_stage f.stage f.op Step.Getg refl h.order) in
       let x = slice_index w.now.words.globals (g_of f.op) in
       rw e (getg_leads c.globals safe _ n k ready (there_is k lt)
       (own_registers k lt) f.op f.q f.p f.r f.loaded x e (own_d k) (rw e at (own_astray k lt)) refl)
 
-  pub setg_leads_at : (k : ℕ) → Meets c w k step.Setg → LeadsAt c w n safe k step.Setg
+  pub setg_leads_at : (k : ℕ) → Meets c w k Step.Setg → LeadsAt c w n safe k Step.Setg
   setg_leads_at k h =
       let f = flight_of w.now (Caller k) in
       let lt = ltb-true k c.callers h.seat in
-      let e = literal f stage.Setg (at_its_stage f.stage f.op step.Setg refl h.order) in
+      let e = literal f Stage.Setg (at_its_stage f.stage f.op Step.Setg refl h.order) in
       let small = (operands_of c f.op (known.now.operands k)).g in
       let lg = known.lengths.globals in
       let ln = mirrors.global_count in

@@ -1,13 +1,12 @@
 -- What a change of the scene leaves to show, and steps that store to the heap.
 use Rattle.mk_laws.proofs.Vocabulary.{AreOfPages, Config, HasZeros, IsFreedWord, IsReleasedWord, IsWithinLimits}
 use Rattle.mk_laws.proofs.Vocabulary.{IsWordOfMapped, List, MayHold, OfFreedRun, OfMapped, OfReleased, OthersAreZero}
-use Rattle.mk_laws.proofs.Vocabulary.{Page, Seat, Step, Words, World, ZeroScene, and_parts, false, has_bit, is_phase}
+use Rattle.mk_laws.proofs.Vocabulary.{Page, Seat, Step, Words, World, ZeroScene, ℕ, and_parts, false, has_bit, is_phase}
 use Rattle.mk_laws.proofs.Vocabulary.{is_released_there, placed_at, refl, set_by, slice_index, slice_set, subst, sym}
-use Rattle.mk_laws.proofs.Vocabulary.{true≢false, without, zero_scene_with, ℕ, ◌∙◌, ◌≡◌, ◌≢◌}
-use Rattle.mk_laws.proofs.Known.{Known}
-use Rattle.mk_laws.proofs.Released.{all_stand, IsStanding}
-use Rattle.mk_laws.specs.ZeroLaws.{ZeroPremises}
+use Rattle.mk_laws.proofs.Vocabulary.{true≢false, without, zero_scene_with, ◌∙◌, ◌≡◌, ◌≢◌}
 use Rattle.mk_core.proofs.RegisterAccesses.{LeavesTable}
+use Rattle.mk_laws.proofs.{Known.Known, Released.IsStanding, Released.all_stand}
+use Rattle.mk_laws.specs.ZeroLaws.{ZeroPremises}
 
 -- all that is known of the world before
 pub record Before (c : Config) (w : World) (seat : Seat) (x : Step) : Type 0 where
@@ -58,7 +57,7 @@ pub stored_words : (c : Config) (s : ZeroScene) (j v : ℕ) → IsWordOfMapped c
     → OthersAreZero c (record s { heap = slice_set s.heap j v })
 stored_words c s j v m z n some =
     set_by (λ x. x ≢ 0 → MayHold c (record s { heap = slice_set s.heap j v }) n) s.heap j n v 0
-    (λ e ne. OfMapped (subst (λ i. IsWordOfMapped c s.allocations i) (sym e) m)) (λ ne. moved (z n ne)) some
+    (λ e ne. OfMapped (subst (IsWordOfMapped c s.allocations) (sym e) m)) (λ ne. moved (z n ne)) some
   where
     moved : MayHold c s n → MayHold c (record s { heap = slice_set s.heap j v }) n
     moved (OfMapped x) = OfMapped x

@@ -1,26 +1,16 @@
 -- What each kind of step changes of what the guard reads.
 use Rattle.mk_laws.proofs.Vocabulary.{Access, AreOfPages, Bool, Caller, Config, DirtyIsOwed, Flight, Host, IsGuarded}
 use Rattle.mk_laws.proofs.Vocabulary.{IsMarking, List, Load, Marker, Moment, Named, OnlyGrow, Op, OwesDirty, Page, Seat}
-use Rattle.mk_laws.proofs.Vocabulary.{Stage, Step, Store, Tally, Words, accessed, and_parts, ap, arith, at_rest}
-use Rattle.mk_laws.proofs.Vocabulary.{cases_eq, cases_lt, comes_next, false, flight_of, found, free_page}
+use Rattle.mk_laws.proofs.Vocabulary.{Stage, Step, Store, Tally, Word, Words, ℕ, accessed, and_parts, ap, arith}
+use Rattle.mk_laws.proofs.Vocabulary.{at_rest, cases_eq, cases_lt, comes_next, false, flight_of, found, free_page}
 use Rattle.mk_laws.proofs.Vocabulary.{get_or-set_other, get_or-set_same, header_at, inl, inr, length, ltb-true, nat_le}
 use Rattle.mk_laws.proofs.Vocabulary.{nat_lt, no_bit, page_met, progress, refl, set_past, slice_index, slice_index_or}
 use Rattle.mk_laws.proofs.Vocabulary.{slice_set, stage_behind, steps_of, subst, sym, tally_word, true, true≢false}
-use Rattle.mk_laws.proofs.Vocabulary.{word_met, ℕ, ◌*◌, ◌<◌, ◌∙◌, ◌≡◌, ◌⊎◌}
-use Rattle.mk_never.specs.declared.operations.Op.TheVariants as op
-use Rattle.mk_core.specs.declared.events.Tally.TheVariants as tally
-use Rattle.mk_core.specs.declared.events.Word.TheVariants as word
-use Rattle.mk_core.specs.declared.events.Step.TheVariants as step
-use Rattle.mk_core.specs.declared.seats.Stage.TheVariants as stage
-use Rattle.mk_laws.proofs.Standings.{standing_at, is_astray}
-use Rattle.mk_laws.proofs.NextSteps.{at_its_stage}
-use Rattle.mk_laws.proofs.Actors.{Meets}
-use Rattle.mk_laws.proofs.SameWords.{Behind}
-use Rattle.mk_laws.proofs.OrderlyLists.{not_astray}
-use Rattle.mk_laws.proofs.Known.{Known}
-use Rattle.mk_laws.proofs.Growth.{grows_same, grows_more}
-use Rattle.mk_laws.proofs.Colours.{Colours, ColourStep, ClearsMarks, AddsMarks, MarksSeen, colour_step}
-use Rattle.mk_laws.proofs.Wells.{bare_guarded}
+use Rattle.mk_laws.proofs.Vocabulary.{word_met, ◌*◌, ◌<◌, ◌∙◌, ◌≡◌, ◌⊎◌}
+use Rattle.mk_laws.proofs.Colours.{AddsMarks, ClearsMarks, Colours, ColourStep, MarksSeen, colour_step}
+use Rattle.mk_laws.proofs.Growth.{grows_more, grows_same}
+use Rattle.mk_laws.proofs.{Actors.Meets, Known.Known, NextSteps.at_its_stage, OrderlyLists.not_astray, SameWords.Behind}
+use Rattle.mk_laws.proofs.{Standings.is_astray, Standings.standing_at, Wells.bare_guarded}
 
 -- the words that only a few kinds change
 pub record Table : Type 0 where
@@ -43,32 +33,32 @@ table_of w = record {
   heap = w.heap;
 }
 
-register_table : (w : Words) (k r : ℕ) (a : Access) → table_of (accessed w (Named (word.Reg k r)) a) ≡ table_of w
+register_table : (w : Words) (k r : ℕ) (a : Access) → table_of (accessed w (Named (Word.Reg k r)) a) ≡ table_of w
 register_table w k r Load = refl
 register_table w k r _ = refl
 
 pub tally_table : (w : Words) (n : Tally) (v : ℕ) → table_of (accessed w (Named (tally_word n)) (Store v)) ≡ table_of w
-tally_table w tally.Held v = refl
+tally_table w Tally.Held v = refl
 tally_table w _ v = refl
 
-pub reg_table : (c : Config) (m : Moment) (seat : Seat) → table_of (Behind c m seat step.Reg).words ≡ table_of m.words
+pub reg_table : (c : Config) (m : Moment) (seat : Seat) → table_of (Behind c m seat Step.Reg).words ≡ table_of m.words
 reg_table c m seat = register_table m.words _ _ _
 
 -- A call that has written, or exchanged, owes the dirty word after it.
 
-wrote : (o : Op) → is_astray (standing_at stage.Write o) ≡ false → stage_behind stage.Write (steps_of o) ≡ stage.Dirty
-wrote (op.SetNum q i n) h = refl
+wrote : (o : Op) → is_astray (standing_at Stage.Write o) ≡ false → stage_behind Stage.Write (steps_of o) ≡ Stage.Dirty
+wrote (Op.SetNum q i n) h = refl
 wrote _ h = cc
 
-swapped : (o : Op) → is_astray (standing_at stage.Cas o) ≡ false → stage_behind stage.Cas (steps_of o) ≡ stage.Dirty
-swapped (op.CasPtr q i p r) h = refl
+swapped : (o : Op) → is_astray (standing_at Stage.Cas o) ≡ false → stage_behind Stage.Cas (steps_of o) ≡ Stage.Dirty
+swapped (Op.CasPtr q i p r) h = refl
 swapped _ h = cc
 
 -- heap words: one that changes is owed, or is 0
 
 stored : (c : Config) (m : Moment) (k : ℕ) (x : Step) (n y : ℕ) (f : Flight) → k < length m.seats.flights
     → (Behind c m (Caller k) x).words.heap ≡ slice_set m.words.heap (word_met (flight_of m (Caller k))) n
-    → (Behind c m (Caller k) x).seats.flights ≡ slice_set m.seats.flights k f → f.stage ≡ stage.Dirty
+    → (Behind c m (Caller k) x).seats.flights ≡ slice_set m.seats.flights k f → f.stage ≡ Stage.Dirty
     → word_met f ≡ word_met (flight_of m (Caller k))
     → (slice_index (Behind c m (Caller k) x).words.heap y ≡ slice_index m.words.heap y)
     ⊎ IsGuarded c (Behind c m (Caller k) x) y
@@ -82,31 +72,31 @@ stored c m k x n y f lt heap flights at same = elim (cases_eq y (word_met (fligh
 
 pub heap_kind : (c : Config) (m : Moment) (seat : Seat) (x : Step) → Known c m → Meets c m seat x → (y : ℕ)
     → (slice_index (Behind c m seat x).words.heap y ≡ slice_index m.words.heap y) ⊎ IsGuarded c (Behind c m seat x) y
-heap_kind c m seat step.Reg known h y = inl (ap (λ (t : Table). slice_index t.heap y) (reg_table c m seat))
-heap_kind c m seat (step.Tally n v) known h y = inl (ap (λ (t : Table). slice_index t.heap y) (tally_table m.words n v))
-heap_kind c m (Caller k) step.Write known h y =
+heap_kind c m seat Step.Reg known h y = inl (ap (λ (t : Table). slice_index t.heap y) (reg_table c m seat))
+heap_kind c m seat (Step.Tally n v) known h y = inl (ap (λ (t : Table). slice_index t.heap y) (tally_table m.words n v))
+heap_kind c m (Caller k) Step.Write known h y =
     let lt = ltb-true k c.callers h.seat in
-    let at = at_its_stage _ _ step.Write refl h.order in
+    let at = at_its_stage _ _ Step.Write refl h.order in
     let fine = subst (λ (s : Stage). is_astray (standing_at s (flight_of m (Caller k)).op) ≡ false) at
     (not_astray c m known.orderly k lt) in
-    stored c m k step.Write _ y
-    (progress c m (flight_of m (Caller k)) (found c m (record { seat = Caller k; step = step.Write }))
-    step.Write).flight (omega (arith, lt, known.orderly.flights)) refl refl
+    stored c m k Step.Write _ y
+    (progress c m (flight_of m (Caller k)) (found c m (record { seat = Caller k; step = Step.Write }))
+    Step.Write).flight (omega (arith, lt, known.orderly.flights)) refl refl
     (ap (λ (s : Stage). stage_behind s (steps_of (flight_of m (Caller k)).op)) at ∙ wrote _ fine) refl
-heap_kind c m (Caller k) step.Cas known h y =
+heap_kind c m (Caller k) Step.Cas known h y =
     let lt = ltb-true k c.callers h.seat in
-    let at = at_its_stage _ _ step.Cas refl h.order in
+    let at = at_its_stage _ _ Step.Cas refl h.order in
     let fine = subst (λ (s : Stage). is_astray (standing_at s (flight_of m (Caller k)).op) ≡ false) at
     (not_astray c m known.orderly k lt) in
-    stored c m k step.Cas _ y
-    (progress c m (flight_of m (Caller k)) (found c m (record { seat = Caller k; step = step.Cas })) step.Cas).flight
+    stored c m k Step.Cas _ y
+    (progress c m (flight_of m (Caller k)) (found c m (record { seat = Caller k; step = Step.Cas })) Step.Cas).flight
     (omega (arith, lt, known.orderly.flights)) refl refl
     (ap (λ (s : Stage). stage_behind s (steps_of (flight_of m (Caller k)).op)) at ∙ swapped _ fine) refl
-heap_kind c m (Marker k) step.Write known h y = let kind = h.kind in cc
-heap_kind c m Host step.Write known h y = let kind = h.kind in cc
-heap_kind c m (Marker k) step.Cas known h y = let kind = h.kind in cc
-heap_kind c m Host step.Cas known h y = let kind = h.kind in cc
-heap_kind c m seat (step.Wipe n) known h y = elim (cases_eq y n) [
+heap_kind c m (Marker k) Step.Write known h y = let kind = h.kind in cc
+heap_kind c m Host Step.Write known h y = let kind = h.kind in cc
+heap_kind c m (Marker k) Step.Cas known h y = let kind = h.kind in cc
+heap_kind c m Host Step.Cas known h y = let kind = h.kind in cc
+heap_kind c m seat (Step.Wipe n) known h y = elim (cases_eq y n) [
   | inl e ↦ elim (cases_lt n (length m.words.heap)) [
     | inl lt ↦
         let bare = ap (λ i. slice_index (slice_set m.words.heap n 0) i) e ∙ get_or-set_same m.words.heap n 0 0 lt in
@@ -120,31 +110,31 @@ heap_kind c m seat _ known h y = inl refl
 -- dirty words
 
 abbrev pub is_undirty : Step → Bool
-is_undirty (step.Undirty p) = true
+is_undirty (Step.Undirty p) = true
 is_undirty _ = false
 
 pub dirty_kind : (c : Config) (m : Moment) (seat : Seat) (x : Step) → is_undirty x ≡ false → (p : ℕ)
     → slice_index m.words.dirty p ≡ 1 → slice_index (Behind c m seat x).words.dirty p ≡ 1
-dirty_kind c m seat step.Reg u p h = ap (λ (t : Table). slice_index t.dirty p) (reg_table c m seat) ∙ h
-dirty_kind c m seat (step.Tally n v) u p h = ap (λ (t : Table). slice_index t.dirty p) (tally_table m.words n v) ∙ h
-dirty_kind c m seat step.Dirty u p h = elim (cases_eq p (page_met (flight_of m seat))) [
+dirty_kind c m seat Step.Reg u p h = ap (λ (t : Table). slice_index t.dirty p) (reg_table c m seat) ∙ h
+dirty_kind c m seat (Step.Tally n v) u p h = ap (λ (t : Table). slice_index t.dirty p) (tally_table m.words n v) ∙ h
+dirty_kind c m seat Step.Dirty u p h = elim (cases_eq p (page_met (flight_of m seat))) [
   | inl e ↦ elim (cases_lt (page_met (flight_of m seat)) (length m.words.dirty)) [
     | inl lt ↦ rw e (get_or-set_same m.words.dirty _ 1 0 lt)
     | inr past ↦ rw (set_past m.words.dirty _ 1 past) h
   ]
   | inr ne ↦ get_or-set_other m.words.dirty _ p 1 0 ne ∙ h
 ]
-dirty_kind c m seat (step.Undirty q) u p h = cc
+dirty_kind c m seat (Step.Undirty q) u p h = cc
 dirty_kind c m seat _ u p h = h
 
 -- A call that owes a dirty word has no other step next.
 
 abbrev pub is_dirty : Step → Bool
-is_dirty step.Dirty = true
+is_dirty Step.Dirty = true
 is_dirty _ = false
 
-pub at_owed : (o : Op) (x : Step) → comes_next stage.Dirty o x ≡ true → is_dirty x ≡ true
-at_owed o step.Dirty h = refl
+pub at_owed : (o : Op) (x : Step) → comes_next Stage.Dirty o x ≡ true → is_dirty x ≡ true
+at_owed o Step.Dirty h = refl
 at_owed o _ h = cc
 
 pub owed_kind : (c : Config) (m : Moment) (seat : Seat) (x : Step) → AreOfPages c.pages m.words → Meets c m seat x
@@ -157,14 +147,14 @@ owed_kind c m (Caller k) x len h j p owes = elim (cases_eq j k) [
       in
       inl (rw is owes.0, rw is owes.1)
   | inl e ↦
-      let own : (flight_of m (Caller k)).stage ≡ stage.Dirty = rw e at owes.0 in
+      let own : (flight_of m (Caller k)).stage ≡ Stage.Dirty = rw e at owes.0 in
       let page : page_met (flight_of m (Caller k)) ≡ p = rw e at owes.1 in
       inr (rw page at (paid x h (at_owed (flight_of m (Caller k)).op x (rw own at h.order))))
 ]
   where
     paid : (x : Step) → Meets c m (Caller k) x → is_dirty x ≡ true
         → slice_index (Behind c m (Caller k) x).words.dirty (page_met (flight_of m (Caller k))) ≡ 1
-    paid step.Dirty h is =
+    paid Step.Dirty h is =
         let met = (and_parts (nat_le 65536 (flight_of m (Caller k)).q)
         (nat_lt (word_met (flight_of m (Caller k))) (64 * c.pages)) h.range).1 in
         let lt = ltb-true (word_met (flight_of m (Caller k))) (64 * c.pages) met in
@@ -175,16 +165,16 @@ owed_kind c m _ x len h j p owes = inl owes
 -- headers
 
 abbrev pub is_head : Step → Bool
-is_head (step.Head p n) = true
+is_head (Step.Head p n) = true
 is_head _ = false
 
 pub headers_kind : (c : Config) (m : Moment) (seat : Seat) (x : Step) → is_head x ≡ false → (p : ℕ)
     → header_at (Behind c m seat x).words p ≡ header_at m.words p
-headers_kind c m seat step.Reg u p =
+headers_kind c m seat Step.Reg u p =
     ap (λ (t : Table). (slice_index_or t.pages p free_page).header) (reg_table c m seat)
-headers_kind c m seat (step.Tally n v) u p =
+headers_kind c m seat (Step.Tally n v) u p =
     ap (λ (t : Table). (slice_index_or t.pages p free_page).header) (tally_table m.words n v)
-headers_kind c m seat (step.Used q n) u p = elim (cases_eq p q) [
+headers_kind c m seat (Step.Used q n) u p = elim (cases_eq p q) [
   | inl e ↦ elim (cases_lt q (length m.words.pages)) [
     | inl lt ↦ rw e (ap (λ (y : Page). y.header)
         (get_or-set_same m.words.pages q (record { header = header_at m.words q; used = n }) free_page lt) ∙ rw (← e))
@@ -210,19 +200,19 @@ marks_kind c m seat x early h = marks_grow c m seat _ early (colour_step c m sea
 
 -- black words: bits are added by two kinds
 abbrev pub is_blackening : Step → Bool
-is_blackening (step.Black p n) = true
-is_blackening step.Mblack = true
+is_blackening (Step.Black p n) = true
+is_blackening Step.Mblack = true
 is_blackening _ = false
 
 pub blacks_kind : (c : Config) (m : Moment) (seat : Seat) (x : Step) → is_blackening x ≡ false
     → OnlyGrow (Behind c m seat x).words.blacks m.words.blacks
-blacks_kind c m seat step.Reg u = subst (λ (t : Table). OnlyGrow t.blacks m.words.blacks) (sym (reg_table c m seat))
+blacks_kind c m seat Step.Reg u = subst (λ (t : Table). OnlyGrow t.blacks m.words.blacks) (sym (reg_table c m seat))
     (grows_same m.words.blacks)
-blacks_kind c m seat (step.Tally n v) u =
+blacks_kind c m seat (Step.Tally n v) u =
     subst (λ (t : Table). OnlyGrow t.blacks m.words.blacks) (sym (tally_table m.words n v)) (grows_same m.words.blacks)
-blacks_kind c m seat (step.Black p n) u = cc
-blacks_kind c m seat step.Mblack u = cc
-blacks_kind c m seat (step.Unblack q) u = λ p k is. elim (cases_eq p q) [
+blacks_kind c m seat (Step.Black p n) u = cc
+blacks_kind c m seat Step.Mblack u = cc
+blacks_kind c m seat (Step.Unblack q) u = λ p k is. elim (cases_eq p q) [
   | inl e ↦ elim (cases_lt q (length m.words.blacks)) [
     | inl lt ↦
         let none = ap (λ i. slice_index (slice_set m.words.blacks q 0) i) e ∙ get_or-set_same m.words.blacks q 0 0 lt in

@@ -1,8 +1,8 @@
 -- The claims of the allocations, by their numbers, and after a change of each.
 use Rattle.mk_laws.proofs.Vocabulary.{Among, AreApart, Cell, Claim, Config, IsAtCell, IsOfOneCell, LeavesPlaces, List}
-use Rattle.mk_laws.proofs.Vocabulary.{Option, PlacedAllocation, RunPages, [], ap, cases_Bool, cell_of_allocation}
+use Rattle.mk_laws.proofs.Vocabulary.{Option, PlacedAllocation, RunPages, ℕ, ap, cases_Bool, cell_of_allocation}
 use Rattle.mk_laws.proofs.Vocabulary.{changed_at, claim_of, claims_of, cond-false, cond-true, false, inl, inr, map}
-use Rattle.mk_laws.proofs.Vocabulary.{object_placed, placed_at, refl, subst, suc, sym, true, true≢false, zero, ℕ, ◌∙◌}
+use Rattle.mk_laws.proofs.Vocabulary.{object_placed, placed_at, refl, subst, suc, sym, true, true≢false, zero, [], ◌∙◌}
 use Rattle.mk_laws.proofs.Vocabulary.{◌∷◌, ◌≡◌, ◌⊎◌}
 
 -- the unreleased allocation whose claim it is
@@ -78,7 +78,7 @@ was_claim c run g xs y leaves i =
       number = x.number;
       unreleased = u;
       was = leaves.released _ u;
-      is = x.is ∙ ap (λ (a : PlacedAllocation). claim_of c run a) at;
+      is = x.is ∙ ap (claim_of c run) at;
     }
 
 pub changed_among : (c : Config) (run : Option RunPages) (g : PlacedAllocation
@@ -95,7 +95,7 @@ pub apart_behind : (c : Config) (old new : Option RunPages) (g : PlacedAllocatio
     → AreApart (claims_of c old xs) → AreApart (claims_of c new (map g xs))
 apart_behind c old new g [] leaves apart = apart
 apart_behind c old new g (a ∷ xs) leaves apart =
-    by (cases_Bool (g a).released) (cases_Bool a.released) (λ before. apart_behind c old new g xs leaves before)
+    by (cases_Bool (g a).released) (cases_Bool a.released) (apart_behind c old new g xs leaves)
   where
     by : ((g a).released ≡ true) ⊎ ((g a).released ≡ false) → (a.released ≡ true) ⊎ (a.released ≡ false)
         → (AreApart (claims_of c old xs) → AreApart (claims_of c new (map g xs)))
@@ -131,6 +131,5 @@ pub cells_behind : (c : Config) (g : PlacedAllocation → PlacedAllocation) (xs 
     → (i : ℕ) → (placed_at (map g xs) i).released ≡ false → IsAtCell c (placed_at (map g xs) i)
 cells_behind c g xs leaves cells i u =
     let at = changed_at g xs i leaves.places.none in
-    let v = leaves.released (placed_at xs i) (rw (← at) u) in
     rw at (at_cell c (placed_at xs i) (g (placed_at xs i)) (leaves.places.base (placed_at xs i))
-    (leaves.places.ty (placed_at xs i)) (cells i v))
+    (leaves.places.ty (placed_at xs i)) (cells i (leaves.released (placed_at xs i) (rw (← at) u))))

@@ -1,33 +1,28 @@
 -- `close`: no dirty word, nothing owed, marked cells black; so the marks are closed.
-use Rattle.std.specs.Prelude.{min, bit_and}
-use Rattle.std.specs.List.{list_all}
 use Rattle.std.proofs.lemmas.Nat.Bits.{bit_at_and, bit_at_ones}
+use Rattle.std.specs.{List.list_all, Prelude.bit_and, Prelude.min}
 use Rattle.mk_laws.proofs.Vocabulary.{AreOfPages, BlackIsGuarded, Caller, CellsAreClosed, Config, DirtyIsOwed, Host}
-use Rattle.mk_laws.proofs.Vocabulary.{IsGuarded, Marker, Moment, Page, PageIsDirty, PointsWell, Seat, Stage, Words}
-use Rattle.mk_laws.proofs.Vocabulary.{all_below, all_below-at, and_parts, ap, arith, at_rest, bit_at, cases_eq}
-use Rattle.mk_laws.proofs.Vocabulary.{cases_lt, cells_under, eq-eqb, eqb-true, false, fewer_bits, flight_of, free_page}
-use Rattle.mk_laws.proofs.Vocabulary.{get_or_past, has_bit, has_closed_page, header_in, header_of, holder_number, inl}
-use Rattle.mk_laws.proofs.Vocabulary.{inr, none_attends, points_well, refl, roots_point_well, slice_index}
-use Rattle.mk_laws.proofs.Vocabulary.{slice_index_or, subst, sym, true, true≢false, without, word_points_well, ℕ, ◌/◌}
-use Rattle.mk_laws.proofs.Vocabulary.{◌<◌, ◌∙◌, ◌≡◌}
+use Rattle.mk_laws.proofs.Vocabulary.{IsGuarded, Marker, Moment, Page, PageIsDirty, PointsWell, Seat, Stage, Step}
+use Rattle.mk_laws.proofs.Vocabulary.{Words, ℕ, all_below, all_below-at, and_parts, ap, arith, at_rest, bit_at}
+use Rattle.mk_laws.proofs.Vocabulary.{cases_eq, cases_lt, cells_under, eq-eqb, eqb-true, false, fewer_bits, flight_of}
+use Rattle.mk_laws.proofs.Vocabulary.{free_page, get_or_past, has_bit, has_closed_page, header_in, header_of}
+use Rattle.mk_laws.proofs.Vocabulary.{holder_number, inl, inr, none_attends, points_well, refl, roots_point_well}
+use Rattle.mk_laws.proofs.Vocabulary.{slice_index, slice_index_or, subst, sym, true, true≢false, without}
+use Rattle.mk_laws.proofs.Vocabulary.{word_points_well, ◌/◌, ◌<◌, ◌∙◌, ◌≡◌}
+use Rattle.mk_core.proofs.{ListTests.list_all-at, MarkTests.null_points_well, WordBits.without_none}
+use Rattle.mk_core.specs.Cells.{cell_bits}
 use Rattle.mk_laws.proofs.Basics.{InCall, Known, Meets, calls_stand, is_astray, not_astray, others_held, shows_at}
 use Rattle.mk_laws.proofs.Basics.{standing, standing_at, view_of}
-use Rattle.mk_core.specs.declared.events.Step.TheVariants as step
-use Rattle.mk_core.specs.declared.seats.Stage.TheVariants as stage
-use Rattle.mk_core.specs.Cells.{cell_bits}
-use Rattle.mk_core.proofs.ListTests.{list_all-at}
-use Rattle.mk_core.proofs.WordBits.{without_none}
-use Rattle.mk_core.proofs.MarkTests.{null_points_well}
 use Rattle.mk_laws.proofs.Changes.{at_owed}
 
 -- where a `close` is enabled, no call owes a dirty word
-none_owes : (c : Config) (m : Moment) (seat : Seat) (j : ℕ) → Known c m → Meets c m seat step.Close
-    → (flight_of m (Caller j)).stage ≡ stage.Dirty → ⊥
+none_owes : (c : Config) (m : Moment) (seat : Seat) (j : ℕ) → Known c m → Meets c m seat Step.Close
+    → (flight_of m (Caller j)).stage ≡ Stage.Dirty → ⊥
 none_owes c m seat j known h at = elim (cases_lt j c.callers) [
   | inr past ↦
       let rest : flight_of m (Caller j) ≡ at_rest =
       get_or_past m.seats.flights j at_rest (omega (arith, known.orderly.flights)) in
-      let bad : stage.Idle ≡ stage.Dirty = sym (rw rest) ∙ at in
+      let bad : Stage.Idle ≡ Stage.Dirty = sym (rw rest) ∙ at in
       true≢false (let y : true ≡ false = cc in y)
   | inl lt ↦ elim (cases_eq (holder_number c seat) j) [
     | inl e ↦ own seat e lt h
@@ -35,18 +30,17 @@ none_owes c m seat j known h at = elim (cases_lt j c.callers) [
         let fine = subst (λ (s : Stage). is_astray (standing_at s (flight_of m (Caller j)).op) ≡ false) at
         (not_astray c m known.orderly j lt) in
         let stands : standing (flight_of m (Caller j)) ≡ InCall
-        = ap (λ (s : Stage). standing_at s (flight_of m (Caller j)).op) at ∙ calls_stand stage.Dirty _ refl fine in
-        let one = (shows_at c (view_of m) j InCall known.orderly lt stands).0 in
+        = ap (λ (s : Stage). standing_at s (flight_of m (Caller j)).op) at ∙ calls_stand Stage.Dirty _ refl fine in
         let two = others_held c m seat h.gates j lt ne in
-        absurd (omega arith)
+        absurd (omega (arith, (shows_at c (view_of m) j InCall known.orderly lt stands).0))
   ]
 ]
   where
-    own : (seat : Seat) → holder_number c seat ≡ j → j < c.callers → Meets c m seat step.Close → ⊥
+    own : (seat : Seat) → holder_number c seat ≡ j → j < c.callers → Meets c m seat Step.Close → ⊥
     own (Caller k) e lt h =
-        let here : (flight_of m (Caller k)).stage ≡ stage.Dirty =
-        subst (λ i. (flight_of m (Caller i)).stage ≡ stage.Dirty) (sym e) at in
-        true≢false (sym (at_owed (flight_of m (Caller k)).op step.Close (rw here at h.order)))
+        let here : (flight_of m (Caller k)).stage ≡ Stage.Dirty =
+        subst (λ i. (flight_of m (Caller i)).stage ≡ Stage.Dirty) (sym e) at in
+        true≢false (sym (at_owed (flight_of m (Caller k)).op Step.Close (rw here at h.order)))
     own (Marker k) e lt h = absurd (omega arith)
     own Host e lt h = absurd (omega arith)
 
@@ -57,22 +51,19 @@ record ClosedPage (w : Words) (p : ℕ) : Type 0 where
   clean : slice_index w.dirty p ≡ 0
 
 closed_page : (w : Words) (p : ℕ) → has_closed_page w p ≡ true → ClosedPage w p
-closed_page w p h =
-    let parts = and_parts _ _ h in
-    record { black = eqb-true _ 0 parts.0; clean = eqb-true _ 0 parts.1 }
+closed_page w p h = record { black = eqb-true _ 0 (and_parts _ _ h).0; clean = eqb-true _ 0 (and_parts _ _ h).1 }
 
 black_bit : (w : Words) (p k : ℕ) → ClosedPage w p → k < cells_under (header_in w p)
     → has_bit (slice_index w.marks p) k ≡ true → has_bit (slice_index w.blacks p) k ≡ true
 black_bit w p k h lt is =
     fewer_bits (bit_and _ (cell_bits w p)) _ k (without_none (bit_and _ (cell_bits w p)) _ h.black)
-    (eq-eqb (bit_at (bit_and _ (cell_bits w p)) k) 1 (bit_at_and _ (cell_bits w p) k
-    ∙ (let one = eqb-true (bit_at _ k) 1 is in
-    let ones = bit_at_ones _ k lt in
-    let both : min (bit_at (slice_index w.marks p) k) (bit_at (cell_bits w p) k) ≡ 1 = omega arith in
+    (eq-eqb (bit_at (bit_and _ (cell_bits w p)) k) 1 (bit_at_and _ (cell_bits w p) k ∙ (let ones = bit_at_ones _ k lt in
+    let both : min (bit_at (slice_index w.marks p) k) (bit_at (cell_bits w p) k) ≡ 1 =
+    omega (arith, eqb-true (bit_at _ k) 1 is) in
     both)))
 
 pub closed : (c : Config) (m : Moment) (seat : Seat) → Known c m → AreOfPages c.pages m.words
-    → Meets c m seat step.Close → BlackIsGuarded c m → CellsAreClosed c m.words
+    → Meets c m seat Step.Close → BlackIsGuarded c m → CellsAreClosed c m.words
 closed c m seat known len h black =
     record {
       registers = λ i. list_all-at _ m.words.registers 0 roots.0 (null_points_well c m.words) i;

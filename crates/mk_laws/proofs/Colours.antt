@@ -1,22 +1,14 @@
 -- What an event may do to marks, blacks and dirty words, and to the hand of the turn's holder.
 use Rattle.mk_laws.proofs.Vocabulary.{Access, Bool, Config, Hand, List, Load, Moment, Named, None, OnlyGrow, Option}
-use Rattle.mk_laws.proofs.Vocabulary.{Seat, Step, Store, Tally, Word, Words, accessed, and_parts, arith, bit_or}
+use Rattle.mk_laws.proofs.Vocabulary.{Seat, Step, Store, Tally, Word, Words, ℕ, accessed, and_parts, arith, bit_or}
 use Rattle.mk_laws.proofs.Vocabulary.{cell_seen, eqb-true, false, flight_of, found, head_page, if◌then◌else◌, inl, inr}
 use Rattle.mk_laws.proofs.Vocabulary.{is_attending, is_phase, is_some, marker_at, marker_of, none_attends, not}
 use Rattle.mk_laws.proofs.Vocabulary.{not-true, nothing_done, or_cases, or_else, page_met, phase_of, refl, scan_page}
-use Rattle.mk_laws.proofs.Vocabulary.{seen_bit, seen_page, slice_index, slice_set, sym, tally_word, true, ℕ, ◌&&◌, ◌==◌}
+use Rattle.mk_laws.proofs.Vocabulary.{seen_bit, seen_page, slice_index, slice_set, sym, tally_word, true, ◌&&◌, ◌==◌}
 use Rattle.mk_laws.proofs.Vocabulary.{◌||◌, ◌∙◌, ◌≡◌, ◌⊎◌}
-use Rattle.mk_core.specs.declared.events.Tally.TheVariants as tally
-use Rattle.mk_core.specs.declared.events.Word.TheVariants as word
-use Rattle.mk_core.specs.declared.events.Step.TheVariants as step
-use Rattle.mk_core.specs.StopConditions.{may_mark, may_undirty, may_black}
-use Rattle.mk_core.specs.MarkerConditions.{may_mblack}
-use Rattle.mk_core.specs.Accesses.{scan_bit}
-use Rattle.mk_core.specs.Effects.{hand_given}
-use Rattle.mk_laws.proofs.Asked.{none_at}
-use Rattle.mk_laws.proofs.Actors.{Meets}
-use Rattle.mk_laws.proofs.SameWords.{Behind}
-use Rattle.mk_laws.proofs.Growth.{grows_same, grows_more}
+use Rattle.mk_core.specs.StopConditions.{may_black, may_mark, may_undirty}
+use Rattle.mk_core.specs.{Accesses.scan_bit, Effects.hand_given, MarkerConditions.may_mblack}
+use Rattle.mk_laws.proofs.{Actors.Meets, Asked.none_at, Growth.grows_more, Growth.grows_same, SameWords.Behind}
 
 pub record Colours : Type 0 where
   pub marks : List ℕ
@@ -57,17 +49,17 @@ pub data ColourStep (c : Config) (m : Moment) (seat : Seat) : Colours → Type 0
   Cleans : (p : ℕ) → IsQuiet m → may_undirty m p ≡ true
       → ColourStep c m seat (record (colours_of m) { dirty = slice_set m.words.dirty p 0 })
   TakesHand : (x : Word) → ColourStep c m seat (colours_with m.words
-      (or_else (hand_given c m seat x (found c m (record { seat = seat; step = step.Look x }))) m.seats.holding.hand))
+      (or_else (hand_given c m seat x (found c m (record { seat = seat; step = Step.Look x }))) m.seats.holding.hand))
   DropsHand : ColourStep c m seat (record (colours_of m) { hand = None })
 
 pub reg_colours : (w : Words) (k r : ℕ) (a : Access) (hand : Option Hand)
-    → colours_with (accessed w (Named (word.Reg k r)) a) hand ≡ colours_with w hand
+    → colours_with (accessed w (Named (Word.Reg k r)) a) hand ≡ colours_with w hand
 reg_colours w k r Load hand = refl
 reg_colours w k r _ hand = refl
 
 pub tally_colours : (w : Words) (n : Tally) (v : ℕ) (hand : Option Hand)
     → colours_with (accessed w (Named (tally_word n)) (Store v)) hand ≡ colours_with w hand
-tally_colours w tally.Held v hand = refl
+tally_colours w Tally.Held v hand = refl
 tally_colours w _ v hand = refl
 
 marking : (n : ℕ) → ((n == 1) || (n == 2)) ≡ true → (n ≡ 1) ⊎ (n ≡ 2)
@@ -103,22 +95,22 @@ takes_or_not c m seat false = Leaves
 -- all kinds, whatever the seat
 pub colour_step : (c : Config) (m : Moment) (seat : Seat) (x : Step) → Meets c m seat x
     → ColourStep c m seat (colours_of (Behind c m seat x))
-colour_step c m seat step.Reg h =
+colour_step c m seat Step.Reg h =
     let f = flight_of m seat in
     rw (reg_colours m.words _ _ _ m.seats.holding.hand) Leaves
-colour_step c m seat (step.Tally n v) h = rw (tally_colours m.words n v m.seats.holding.hand) Leaves
-colour_step c m seat (step.Take o) h = takes_or_not c m seat _
-colour_step c m seat step.Give h = DropsHand
-colour_step c m seat (step.Look w) h = TakesHand w
-colour_step c m seat step.Begin h = DropsHand
-colour_step c m seat step.Dirty h = Dirties
-colour_step c m seat (step.Clear p) h = ClearsMarks p (eqb-true _ 0 h.phase)
-colour_step c m seat (step.Mark p v) h = AddsMarks p v (marking (phase_of m.words) h.phase) h.holder
-colour_step c m seat step.Mmark h = MarksSeen _ _ h.marker refl refl
-colour_step c m seat (step.Black p v) h = Blackens p v (eqb-true _ 2 h.phase) h.holder
-colour_step c m seat step.Mblack h = BlackensScanned _ _ h.marker refl refl
-colour_step c m seat (step.Unblack p) h = Whitens p (quiet m true h.phase (rw (← (and_true _)) h.holder))
-colour_step c m seat (step.Undirty p) h = Cleans p (quiet m (is_blank m p) h.phase (rw (← (and_moved _ _
+colour_step c m seat (Step.Tally n v) h = rw (tally_colours m.words n v m.seats.holding.hand) Leaves
+colour_step c m seat (Step.Take o) h = takes_or_not c m seat _
+colour_step c m seat Step.Give h = DropsHand
+colour_step c m seat (Step.Look w) h = TakesHand w
+colour_step c m seat Step.Begin h = DropsHand
+colour_step c m seat Step.Dirty h = Dirties
+colour_step c m seat (Step.Clear p) h = ClearsMarks p (eqb-true _ 0 h.phase)
+colour_step c m seat (Step.Mark p v) h = AddsMarks p v (marking (phase_of m.words) h.phase) h.holder
+colour_step c m seat Step.Mmark h = MarksSeen _ _ h.marker refl refl
+colour_step c m seat (Step.Black p v) h = Blackens p v (eqb-true _ 2 h.phase) h.holder
+colour_step c m seat Step.Mblack h = BlackensScanned _ _ h.marker refl refl
+colour_step c m seat (Step.Unblack p) h = Whitens p (quiet m true h.phase (rw (← (and_true _)) h.holder))
+colour_step c m seat (Step.Undirty p) h = Cleans p (quiet m (is_blank m p) h.phase (rw (← (and_moved _ _
     _)) h.holder)) h.holder
 colour_step c m seat _ h = Leaves
 
@@ -131,14 +123,10 @@ quiet_ends m k early a (inr none) = let f : true ≡ false = sym a ∙ none_at m
 pub attending_grows : (c : Config) (m : Moment) (seat : Seat) (y : Colours) (k : ℕ) → (phase_of m.words ≡ 1)
     ⊎ (phase_of m.words ≡ 2) → is_attending (marker_of m k).presence ≡ true → ColourStep c m seat y
     → OnlyGrow m.words.marks y.marks × OnlyGrow m.words.blacks y.blacks
-attending_grows c m seat y k early a (AddsMarks p bits e h) =
-    (grows_more m.words.marks p bits, grows_same m.words.blacks)
-attending_grows c m seat y k early a (MarksSeen p bits s e f) =
-    (grows_more m.words.marks p bits, grows_same m.words.blacks)
-attending_grows c m seat y k early a (Blackens p bits e h) =
-    (grows_same m.words.marks, grows_more m.words.blacks p bits)
-attending_grows c m seat y k early a (BlackensScanned p bits s e f) =
-    (grows_same m.words.marks, grows_more m.words.blacks p bits)
+attending_grows c m seat y k early a (AddsMarks p bits e h) = (grows_more _ p bits, grows_same _)
+attending_grows c m seat y k early a (MarksSeen p bits s e f) = (grows_more _ p bits, grows_same _)
+attending_grows c m seat y k early a (Blackens p bits e h) = (grows_same _, grows_more _ p bits)
+attending_grows c m seat y k early a (BlackensScanned p bits s e f) = (grows_same _, grows_more _ p bits)
 attending_grows c m seat y k early a (ClearsMarks p z) = absurd (quiet_ends m k early a (inl z))
 attending_grows c m seat y k early a (Whitens p q) = absurd (quiet_ends m k early a q)
 attending_grows c m seat y k early a _ = (grows_same m.words.marks, grows_same m.words.blacks)

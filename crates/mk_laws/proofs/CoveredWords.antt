@@ -1,14 +1,14 @@
 -- A word of a scanned cell that isn't 0 lies on a page that leads to the cell's page.
-use Rattle.mk_laws.proofs.Vocabulary.{Block, Free, Header, Later, None, Option, Run, Some, Words, ap, arith, cases_eq}
-use Rattle.mk_laws.proofs.Vocabulary.{cell_ends, cells_under, false, has_no_pointers, head_page, head_page_under}
-use Rattle.mk_laws.proofs.Vocabulary.{header_in, inl, inr, refl, slice_index, true, words_under, ℕ, ◌%◌, ◌*◌, ◌+◌, ◌/◌}
-use Rattle.mk_laws.proofs.Vocabulary.{◌<◌, ◌∙◌, ◌≡◌, ◌≢◌}
+use Rattle.mk_laws.proofs.Vocabulary.{Block, Free, Header, Later, None, Option, Run, Some, Words, ℕ, ap, arith}
+use Rattle.mk_laws.proofs.Vocabulary.{cases_eq, cell_ends, cells_under, false, has_no_pointers, head_page}
+use Rattle.mk_laws.proofs.Vocabulary.{head_page_under, header_in, inl, inr, refl, slice_index, true, words_under, ◌%◌}
+use Rattle.mk_laws.proofs.Vocabulary.{◌*◌, ◌+◌, ◌/◌, ◌<◌, ◌∙◌, ◌≡◌, ◌≢◌}
 use Rattle.mk_laws.specs.Kept.{LaterPagesAreKnown}
 
 -- a page that is its own head
 own_head : (w : Words) (p : ℕ) (x : Option Header) → header_in w p ≡ x → head_page_under x p ≡ p → (n : ℕ) → n / 64 ≡ p
     → head_page w (n / 64) ≡ p
-own_head w p x is head n at = ap (λ q. head_page w q) at ∙ rw is head
+own_head w p x is head n at = ap (head_page w) at ∙ rw is head
 
 pub covered_word : (w : Words) (p k i : ℕ) → LaterPagesAreKnown w → k < cells_under (header_in w p)
     → has_no_pointers (header_in w p) ≡ false → i < words_under (header_in w p)

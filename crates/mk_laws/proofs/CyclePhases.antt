@@ -57,7 +57,7 @@ pub record IsMarking (p : ℕ) : Type 0 where
   pub least : 1 ≤ p
   pub most : p ≤ 2
 
-marking_step : (x : Step) (p : ℕ) → AsksPhase x p → IsMarking p → is_close x ≡ false
+pub marking_step : (x : Step) (p : ℕ) → AsksPhase x p → IsMarking p → is_close x ≡ false
     → IsMarking (phase_behind x p) × (is_begin x ≡ false) × (is_release x ≡ false)
 marking_step step.Begin p asks m out = let least = m.least in absurd (omega arith)
 marking_step step.Want p asks m out = (record { least = omega arith; most = omega arith }, refl, refl)

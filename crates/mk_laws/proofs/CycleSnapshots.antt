@@ -2,22 +2,20 @@
 use Rattle.std.proofs.lemmas.List.{length-append}
 use Rattle.mk_laws.proofs.Vocabulary.{AreEnabledFrom, AreOfPages, Bool, Cell, Config, Event, IsQuarantined}
 use Rattle.mk_laws.proofs.Vocabulary.{IsWithinLimits, LayoutPremisesFrom, LayoutStands, List, None, Option}
-use Rattle.mk_laws.proofs.Vocabulary.{PlacedAllocation, Seat, Some, StandsInOrder, Step, World, [], access}
+use Rattle.mk_laws.proofs.Vocabulary.{PlacedAllocation, Seat, Some, StandsInOrder, Step, World, ℕ, access}
 use Rattle.mk_laws.proofs.Vocabulary.{accessed_lengths, ap, arith, cell_freed, enabled_meets, false, false_from_ne_true}
 use Rattle.mk_laws.proofs.Vocabulary.{first_world, flight_of, freed_cell, freed_where_it_stands, get_or_past, granted}
 use Rattle.mk_laws.proofs.Vocabulary.{has_bit, if◌then◌else◌, inl, inr, is_begin, is_quarantined, left, left_append}
 use Rattle.mk_laws.proofs.Vocabulary.{left_from, length, length-map, list_any, map, never_granted, no_longer_fresh}
 use Rattle.mk_laws.proofs.Vocabulary.{none_freed, not, or_parts, placed_at, refl, slice_index, stands_in, suc, sym}
 use Rattle.mk_laws.proofs.Vocabulary.{true, true≢false, with_released, word_accessed, world_behind, zero, zero_lengths}
-use Rattle.mk_laws.proofs.Vocabulary.{ℕ, ◌&&◌, ◌++◌, ◌∙◌, ◌∷◌, ◌≡◌, ◌≤◌, ◌⊎◌}
+use Rattle.mk_laws.proofs.Vocabulary.{[], ◌&&◌, ◌++◌, ◌∙◌, ◌∷◌, ◌≡◌, ◌≤◌, ◌⊎◌}
 use Rattle.mk_laws.proofs.Basics.{Before, Known, Meets, WorldBehind, begin_is, freeing_leaves, known_at_first}
 use Rattle.mk_laws.proofs.Basics.{known_behind, releasing_leaves}
-use Rattle.mk_core.specs.declared.events.Step.TheVariants as step
-use Rattle.mk_laws.specs.Snapshots.{SnapshotsAreOfCycles}
-use Rattle.mk_laws.proofs.LayoutByKind.{fresh_cells}
 use Rattle.mk_laws.proofs.LayoutHistories.{in_order_at_first, known_before, order_behind}
-use Rattle.mk_laws.proofs.QuarantineByKind.{frees_here}
 use Rattle.mk_laws.proofs.QuarantineChanges.{FreesHere, before_change}
+use Rattle.mk_laws.proofs.{LayoutByKind.fresh_cells, QuarantineByKind.frees_here}
+use Rattle.mk_laws.specs.Snapshots.{SnapshotsAreOfCycles}
 
 -- freed, and not after the last `begin`
 abbrev is_freed_before : PlacedAllocation → Bool
@@ -34,8 +32,7 @@ pushed_new : (xs : List PlacedAllocation) (a : PlacedAllocation) (i : ℕ)
 pushed_new [] a zero = inr (refl, omega arith)
 pushed_new [] a (suc i) = inl refl
 pushed_new (x ∷ xs) a zero = inl refl
-pushed_new (x ∷ xs) a (suc i) =
-    elim (pushed_new xs a i) [ inl e ↦ inl e | inr e ↦ inr (e.0, let le = e.1 in omega arith) ]
+pushed_new (x ∷ xs) a (suc i) = elim (pushed_new xs a i) [ inl e ↦ inl e | inr e ↦ inr (e.0, omega (arith, e.1)) ]
 
 -- `quar` (a): what stands in the cell wasn't freed
 freed_flags : (c : Config) (w : World) (cell : Cell) (n i : ℕ) → FreesHere c w cell n → IsQuarantined c w
@@ -52,20 +49,20 @@ freed_flags c w cell n i x q u false is =
     let a : PlacedAllocation = placed_at w.allocations i in
     rw is
 
-quar_flags : (c : Config) (w : World) (seat : Seat) (p n i : ℕ) → Before c w → Meets c w.now seat (step.Quar p n)
+quar_flags : (c : Config) (w : World) (seat : Seat) (p n i : ℕ) → Before c w → Meets c w.now seat (Step.Quar p n)
     → LayoutStands c w → IsQuarantined c w
-    → (placed_at (WorldBehind c w seat (step.Quar p n)).allocations i).released ≡ false
-    → FlagsStep w (WorldBehind c w seat (step.Quar p n)) i
+    → (placed_at (WorldBehind c w seat (Step.Quar p n)).allocations i).released ≡ false
+    → FlagsStep w (WorldBehind c w seat (Step.Quar p n)) i
 quar_flags c w seat p n i b h laid q u = by (cell_freed c.pages w.now.words (flight_of w.now seat) p n) refl
   where
     by : (cell : Option Cell) → cell_freed c.pages w.now.words (flight_of w.now seat) p n ≡ cell
-        → FlagsStep w (WorldBehind c w seat (step.Quar p n)) i
+        → FlagsStep w (WorldBehind c w seat (Step.Quar p n)) i
     by None is =
-        let same : (WorldBehind c w seat (step.Quar p n)).allocations ≡ w.allocations =
+        let same : (WorldBehind c w seat (Step.Quar p n)).allocations ≡ w.allocations =
         rw is (none_freed w.now.words w.allocations) in
         Stays (rw (← same) u) (rw same)
     by (Some cell) is =
-        let same : (WorldBehind c w seat (step.Quar p n)).allocations
+        let same : (WorldBehind c w seat (Step.Quar p n)).allocations
         ≡ map (freed_where_it_stands w.now.words (Some cell)) w.allocations = rw is in
         let frees = frees_here c w seat p n cell b h laid (freed_cell c.pages w.now.words _ p n cell is) in
         let x = before_change c _ w.allocations i (freeing_leaves w.now.words (Some cell)) (rw (← same) u) in
@@ -74,13 +71,13 @@ quar_flags c w seat p n i b h laid q u = by (cell_freed c.pages w.now.words (fli
 flags_step : (c : Config) (w : World) (seat : Seat) (x : Step) (i : ℕ) → Before c w → Meets c w.now seat x
     → LayoutStands c w → IsQuarantined c w → is_begin x ≡ false
     → (placed_at (WorldBehind c w seat x).allocations i).released ≡ false → FlagsStep w (WorldBehind c w seat x) i
-flags_step c w seat (step.Quar p n) i b h laid q out u = quar_flags c w seat p n i b h laid q u
-flags_step c w seat step.Begin i b h laid q out u = absurd (true≢false out)
-flags_step c w seat step.Grant i b h laid q out u = elim (pushed_new w.allocations _ i) [
+flags_step c w seat (Step.Quar p n) i b h laid q out u = quar_flags c w seat p n i b h laid q u
+flags_step c w seat Step.Begin i b h laid q out u = absurd (true≢false out)
+flags_step c w seat Step.Grant i b h laid q out u = elim (pushed_new w.allocations _ i) [
   | inl old ↦ Stays (rw (← old) u) (rw old)
   | inr new ↦ IsNew new.1 (rw new.0)
 ]
-flags_step c w seat step.Release i b h laid q out u =
+flags_step c w seat Step.Release i b h laid q out u =
     let x = before_change c _ w.allocations i (releasing_leaves c w.now.words) u in
     Stays x.was (rw x.now)
 flags_step c w seat _ i b h laid q out u = Stays u refl
@@ -88,11 +85,11 @@ flags_step c w seat _ i b h laid q out u = Stays u refl
 -- allocations are never lost
 longer : (c : Config) (w : World) (seat : Seat) (x : Step)
     → length w.allocations ≤ length (WorldBehind c w seat x).allocations
-longer c w seat (step.Quar p n) = let e = length-map w.allocations
+longer c w seat (Step.Quar p n) = let e = length-map w.allocations
     (freed_where_it_stands w.now.words (cell_freed c.pages w.now.words (flight_of w.now seat) p n)) in omega arith
-longer c w seat step.Begin = let e = length-map w.allocations no_longer_fresh in omega arith
-longer c w seat step.Grant = omega (arith, length-append w.allocations (granted c w.now (flight_of w.now seat) ∷ []))
-longer c w seat step.Release = let e = length-map w.allocations (with_released c w.now.words) in omega arith
+longer c w seat Step.Begin = let e = length-map w.allocations no_longer_fresh in omega arith
+longer c w seat Step.Grant = omega (arith, length-append w.allocations (granted c w.now (flight_of w.now seat) ∷ []))
+longer c w seat Step.Release = let e = length-map w.allocations (with_released c w.now.words) in omega arith
 longer c w seat _ = omega arith
 
 -- what these allocations had in quarantine, another world's flags say
@@ -118,10 +115,10 @@ tells_behind c xs w seat x b h laid q out t =
         none ∙ sym (rw (get_or_past xs i never_granted (omega arith)))
 
 -- at the `begin`
-tells_at_begin : (c : Config) (w : World) (seat : Seat) → Tells w.allocations (WorldBehind c w seat step.Begin)
+tells_at_begin : (c : Config) (w : World) (seat : Seat) → Tells w.allocations (WorldBehind c w seat Step.Begin)
 tells_at_begin c w seat =
     record {
-      longer = longer c w seat step.Begin;
+      longer = longer c w seat Step.Begin;
       flags = λ i u.
           let x = before_change c no_longer_fresh w.allocations i fresh_cells u in
           let a : PlacedAllocation = placed_at w.allocations i in

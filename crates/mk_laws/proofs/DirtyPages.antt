@@ -2,7 +2,7 @@
 -- that, and at a `release` no page is dirty and no mark is owed.
 use Rattle.mk_laws.proofs.Vocabulary.{Answer, AreAdmitted, AreEnabledFrom, Bool, Call, Caller, Cell, Config, Decided}
 use Rattle.mk_laws.proofs.Vocabulary.{Event, Flight, HasAllocation, Host, IsHistory, IsWordOfMapped, List, Marker}
-use Rattle.mk_laws.proofs.Vocabulary.{Moment, None, OfHistories, Op, Option, Seat, Some, Stage, Step, World, []}
+use Rattle.mk_laws.proofs.Vocabulary.{Moment, None, OfHistories, Op, Option, Seat, Some, Stage, Step, World, ℕ}
 use Rattle.mk_laws.proofs.Vocabulary.{admitted_in_parts, all_below-at, and_parts, ap, append-nil, arith, asked, at_rest}
 use Rattle.mk_laws.proofs.Vocabulary.{begun, call_decided, calls_from, cases_eq, cases_lt, comes_next, decided}
 use Rattle.mk_laws.proofs.Vocabulary.{earlier_part_is_history, enabled_in_parts, eqb-true, false, first_world}
@@ -11,103 +11,95 @@ use Rattle.mk_laws.proofs.Vocabulary.{inl, inr, is_heap_store, is_release, left,
 use Rattle.mk_laws.proofs.Vocabulary.{never_behind, onward, page_met, phase_of, placed_at, progress, progress_freed}
 use Rattle.mk_laws.proofs.Vocabulary.{progress_p, progress_q, progress_read, progress_reg, refl, refused, set_past}
 use Rattle.mk_laws.proofs.Vocabulary.{slice_index, slice_index_or, slice_set, stage_behind, stage_refused, steps_of}
-use Rattle.mk_laws.proofs.Vocabulary.{still, storage_words, subst, sym, true, true≢false, word_met, ℕ, ◌++◌, ◌==◌, ◌∙◌}
+use Rattle.mk_laws.proofs.Vocabulary.{still, storage_words, subst, sym, true, true≢false, word_met, [], ◌++◌, ◌==◌, ◌∙◌}
 use Rattle.mk_laws.proofs.Vocabulary.{◌∷◌, ◌≡◌, ◌≢◌, ◌⊎◌}
+use Rattle.mk_core.specs.Calls.{first_of}
 use Rattle.mk_laws.proofs.Basics.{Behind, InCall, KeptByEvents, Known, KnownWorld, Meets, Table, WorldBehind, at_first}
 use Rattle.mk_laws.proofs.Basics.{at_its_stage, at_reg, before_it, calls_stand, holds_of_histories, is_astray}
 use Rattle.mk_laws.proofs.Basics.{known_world, mapped_stays, not_astray, reg_table, shows_at, standing, standing_at}
 use Rattle.mk_laws.proofs.Basics.{tally_table, view_of}
-use Rattle.mk_never.specs.declared.operations.Op.TheVariants as op
-use Rattle.mk_core.specs.declared.events.Answer.TheVariants as answer
-use Rattle.mk_core.specs.declared.events.Step.TheVariants as step
-use Rattle.mk_core.specs.declared.seats.Stage.TheVariants as stage
-use Rattle.mk_core.specs.Calls.{first_of}
-use Rattle.mk_laws.proofs.Stages.{is_reg_stage}
-use Rattle.mk_laws.proofs.Protocols.{protocol_of}
-use Rattle.mk_laws.proofs.Changes.{is_dirty}
-use Rattle.mk_laws.proofs.InvariantHistories.{histories_keep_the_invariant}
-use Rattle.mk_laws.proofs.InvariantJoined.{told_to_zeros}
+use Rattle.mk_laws.proofs.{Changes.is_dirty, CyclePhases.phase_asked, CyclePhases.phase_behind, CyclePhases.phase_moves}
+use Rattle.mk_laws.proofs.{InvariantHistories.histories_keep_the_invariant, InvariantJoined.told_to_zeros}
+use Rattle.mk_laws.proofs.{Protocols.protocol_of, ReadingsKeptPlaces.put_step, Stages.is_reg_stage}
 use Rattle.mk_laws.specs.FreePages.{DirtyPagesHaveAllocations}
-use Rattle.mk_laws.proofs.CyclePhases.{phase_asked, phase_behind, phase_moves}
-use Rattle.mk_laws.proofs.ReadingsKeptPlaces.{put_step}
 
 -- Which steps bring a call to where it owes a dirty mark: a store and an exchange.
 
 -- the call has its store, or its exchange, next
 abbrev is_storing : Stage → Bool
-is_storing stage.Write = true
-is_storing stage.Cas = true
+is_storing Stage.Write = true
+is_storing Stage.Cas = true
 is_storing _ = false
 
-behind_is_dirty : (o : Op) (s : Stage) → stage_behind s (steps_of o) ≡ stage.Dirty → is_storing s ≡ true
-behind_is_dirty o stage.Write h = refl
-behind_is_dirty o stage.Cas h = refl
-behind_is_dirty (op.New d ty full) s h = cc
+behind_is_dirty : (o : Op) (s : Stage) → stage_behind s (steps_of o) ≡ Stage.Dirty → is_storing s ≡ true
+behind_is_dirty o Stage.Write h = refl
+behind_is_dirty o Stage.Cas h = refl
+behind_is_dirty (Op.New d ty full) s h = cc
 behind_is_dirty _ s h = cc
 
-first_not_dirty : (o : Op) → first_of (steps_of o) ≡ stage.Dirty → ⊥
-first_not_dirty (op.New d ty full) h = cc
+first_not_dirty : (o : Op) → first_of (steps_of o) ≡ Stage.Dirty → ⊥
+first_not_dirty (Op.New d ty full) h = cc
 first_not_dirty _ h = cc
 
-refusal_not_dirty : (o : Op) → stage_refused o ≡ stage.Dirty → ⊥
-refusal_not_dirty (op.GetPtr d q i) h = cc
+refusal_not_dirty : (o : Op) → stage_refused o ≡ Stage.Dirty → ⊥
+refusal_not_dirty (Op.GetPtr d q i) h = cc
 refusal_not_dirty _ h = cc
 
 reg_is_no_store : (s : Stage) → is_reg_stage s ≡ true → is_storing s ≡ false
-reg_is_no_store stage.Write h = cc
+reg_is_no_store Stage.Write h = cc
 reg_is_no_store _ h = cc
 
-onward_not_dirty : (f : Flight) → is_storing f.stage ≡ false → stage_behind f.stage (steps_of f.op) ≡ stage.Dirty → ⊥
+onward_not_dirty : (f : Flight) → is_storing f.stage ≡ false → stage_behind f.stage (steps_of f.op) ≡ Stage.Dirty → ⊥
 onward_not_dirty f off h = true≢false (sym (behind_is_dirty f.op f.stage h) ∙ off)
 
 -- A call goes on from here, or is refused.
 refused_or_onward : (b : Bool) (f : Flight) (a : Answer) → is_storing f.stage ≡ false
-    → (if b then refused f a else onward f None).flight.stage ≡ stage.Dirty → ⊥
+    → (if b then refused f a else onward f None).flight.stage ≡ Stage.Dirty → ⊥
 refused_or_onward true f a off h = refusal_not_dirty f.op h
 refused_or_onward false f a off h = onward_not_dirty f off h
 
 q_not_dirty : (f : Flight) (o : Op) (n : ℕ) → is_storing f.stage ≡ false
-    → (progress_q f o n).flight.stage ≡ stage.Dirty → ⊥
-q_not_dirty f (op.Move d q) n off h = onward_not_dirty (record f { q = n }) off h
-q_not_dirty f (op.Same p q) n off h = onward_not_dirty (record f { q = n }) off h
-q_not_dirty f _ n off h = refused_or_onward (n == 0) (record f { q = n }) answer.Null off h
+    → (progress_q f o n).flight.stage ≡ Stage.Dirty → ⊥
+q_not_dirty f (Op.Move d q) n off h = onward_not_dirty (record f { q = n }) off h
+q_not_dirty f (Op.Same p q) n off h = onward_not_dirty (record f { q = n }) off h
+q_not_dirty f _ n off h = refused_or_onward (n == 0) (record f { q = n }) Answer.Null off h
 
 p_not_dirty : (f : Flight) (o : Op) (n : ℕ) → is_storing f.stage ≡ false
-    → (progress_p f o n).flight.stage ≡ stage.Dirty → ⊥
-p_not_dirty f (op.IsNull p) n off h = onward_not_dirty (record f { p = n }) off h
-p_not_dirty f (op.Free p) n off h = by (n == 0) h
+    → (progress_p f o n).flight.stage ≡ Stage.Dirty → ⊥
+p_not_dirty f (Op.IsNull p) n off h = onward_not_dirty (record f { p = n }) off h
+p_not_dirty f (Op.Free p) n off h = by (n == 0) h
   where
-    by : (b : Bool) → (if b then record { flight = record f { stage = stage.Give; p = n }; answer = Some answer.Done }
-        else onward (record f { p = n }) None).flight.stage ≡ stage.Dirty → ⊥
+    by : (b : Bool) → (if b then record { flight = record f { stage = Stage.Give; p = n }; answer = Some Answer.Done }
+        else onward (record f { p = n }) None).flight.stage ≡ Stage.Dirty → ⊥
     by true h = cc
     by false h = onward_not_dirty (record f { p = n }) off h
 p_not_dirty f _ n off h = onward_not_dirty (record f { p = n }) off h
 
 read_not_dirty : (f : Flight) (o : Op) (n : ℕ) → is_storing f.stage ≡ false
-    → (progress_read f o n).flight.stage ≡ stage.Dirty → ⊥
-read_not_dirty f (op.GetPtr d q i) n off h = onward_not_dirty (record f { loaded = n }) off h
+    → (progress_read f o n).flight.stage ≡ Stage.Dirty → ⊥
+read_not_dirty f (Op.GetPtr d q i) n off h = onward_not_dirty (record f { loaded = n }) off h
 read_not_dirty f _ n off h = onward_not_dirty f off h
 
 reg_stays : (f : Flight) (s : Stage) (n : ℕ) → is_storing f.stage ≡ false
-    → (progress_reg f s n).flight.stage ≡ stage.Dirty → (progress_reg f s n).flight ≡ f
-reg_stays f stage.LoadQ n off h = absurd (q_not_dirty f f.op n off h)
-reg_stays f stage.LoadP n off h = absurd (p_not_dirty f f.op n off h)
-reg_stays f stage.LoadR n off h = absurd (onward_not_dirty (record f { r = n }) off h)
-reg_stays f stage.Store n off h = absurd (onward_not_dirty f off h)
+    → (progress_reg f s n).flight.stage ≡ Stage.Dirty → (progress_reg f s n).flight ≡ f
+reg_stays f Stage.LoadQ n off h = absurd (q_not_dirty f f.op n off h)
+reg_stays f Stage.LoadP n off h = absurd (p_not_dirty f f.op n off h)
+reg_stays f Stage.LoadR n off h = absurd (onward_not_dirty (record f { r = n }) off h)
+reg_stays f Stage.Store n off h = absurd (onward_not_dirty f off h)
 reg_stays f _ n off h = cc
 
 begins_stays : (b : Bool) (f : Flight) (o : Op)
-    → (if b then record { flight = begun o; answer = None } else still f).flight.stage ≡ stage.Dirty
+    → (if b then record { flight = begun o; answer = None } else still f).flight.stage ≡ Stage.Dirty
     → (if b then record { flight = begun o; answer = None } else still f).flight ≡ f
 begins_stays true f o h = absurd (first_not_dirty o h)
 begins_stays false f o h = refl
 
-double_stays : (b : Bool) (f : Flight) → (if b then decided f answer.Double else still f).flight.stage ≡ stage.Dirty
-    → (if b then decided f answer.Double else still f).flight ≡ f
+double_stays : (b : Bool) (f : Flight) → (if b then decided f Answer.Double else still f).flight.stage ≡ Stage.Dirty
+    → (if b then decided f Answer.Double else still f).flight ≡ f
 double_stays true f h = cc
 double_stays false f h = refl
 
-freed_stays : (f : Flight) (cell : Option Cell) → (progress_freed f cell).flight.stage ≡ stage.Dirty
+freed_stays : (f : Flight) (cell : Option Cell) → (progress_freed f cell).flight.stage ≡ Stage.Dirty
     → (progress_freed f cell).flight ≡ f
 freed_stays f (Some cell) h = cc
 freed_stays f None h = refl
@@ -117,33 +109,33 @@ abbrev pub OwesSince : Flight → Step → Flight → Type 0
 OwesSince f x g = (g ≡ f) ⊎ ((is_heap_store x ≡ true) × (page_met g ≡ page_met f))
 
 pub owes_since : (c : Config) (m : Moment) (f : Flight) (n : ℕ) (x : Step) → comes_next f.stage f.op x ≡ true
-    → (progress c m f n x).flight.stage ≡ stage.Dirty → OwesSince f x (progress c m f n x).flight
-owes_since c m f n (step.Enter o) next h = inl (begins_stays (n == 0) f o h)
-owes_since c m f n (step.Take (Some o)) next h = inl (begins_stays (n == 0) f o h)
-owes_since c m f n step.Leave next h = cc
-owes_since c m f n step.Give next h = cc
-owes_since c m f n step.Grant next h = cc
-owes_since c m f n step.Full next h = cc
-owes_since c m f n step.Reg next h = inl (reg_stays f f.stage n (reg_is_no_store f.stage (at_reg f.stage f.op next)) h)
-owes_since c m f n step.Probe next h = absurd (refused_or_onward _ f answer.Fault
-    (ap is_storing (at_its_stage f.stage f.op step.Probe refl next)) h)
-owes_since c m f n step.Read next h =
-    absurd (read_not_dirty f f.op n (ap is_storing (at_its_stage f.stage f.op step.Read refl next)) h)
-owes_since c m f n step.Getg next h = absurd (onward_not_dirty (record f { loaded = n })
-    (ap is_storing (at_its_stage f.stage f.op step.Getg refl next)) h)
-owes_since c m f n step.Setg next h =
-    absurd (onward_not_dirty f (ap is_storing (at_its_stage f.stage f.op step.Setg refl next)) h)
-owes_since c m f n step.Dirty next h =
-    absurd (onward_not_dirty f (ap is_storing (at_its_stage f.stage f.op step.Dirty refl next)) h)
-owes_since c m f n step.Write next h = inr (refl, refl)
-owes_since c m f n step.Cas next h = inr (refl, refl)
-owes_since c m f n (step.Look x) next h = inl (double_stays _ f h)
-owes_since c m f n (step.Quar p v) next h = inl (freed_stays f _ h)
+    → (progress c m f n x).flight.stage ≡ Stage.Dirty → OwesSince f x (progress c m f n x).flight
+owes_since c m f n (Step.Enter o) next h = inl (begins_stays (n == 0) f o h)
+owes_since c m f n (Step.Take (Some o)) next h = inl (begins_stays (n == 0) f o h)
+owes_since c m f n Step.Leave next h = cc
+owes_since c m f n Step.Give next h = cc
+owes_since c m f n Step.Grant next h = cc
+owes_since c m f n Step.Full next h = cc
+owes_since c m f n Step.Reg next h = inl (reg_stays f f.stage n (reg_is_no_store f.stage (at_reg f.stage f.op next)) h)
+owes_since c m f n Step.Probe next h = absurd (refused_or_onward _ f Answer.Fault
+    (ap is_storing (at_its_stage f.stage f.op Step.Probe refl next)) h)
+owes_since c m f n Step.Read next h =
+    absurd (read_not_dirty f f.op n (ap is_storing (at_its_stage f.stage f.op Step.Read refl next)) h)
+owes_since c m f n Step.Getg next h = absurd (onward_not_dirty (record f { loaded = n })
+    (ap is_storing (at_its_stage f.stage f.op Step.Getg refl next)) h)
+owes_since c m f n Step.Setg next h =
+    absurd (onward_not_dirty f (ap is_storing (at_its_stage f.stage f.op Step.Setg refl next)) h)
+owes_since c m f n Step.Dirty next h =
+    absurd (onward_not_dirty f (ap is_storing (at_its_stage f.stage f.op Step.Dirty refl next)) h)
+owes_since c m f n Step.Write next h = inr (refl, refl)
+owes_since c m f n Step.Cas next h = inr (refl, refl)
+owes_since c m f n (Step.Look x) next h = inl (double_stays _ f h)
+owes_since c m f n (Step.Quar p v) next h = inl (freed_stays f _ h)
 owes_since c m f n _ next h = inl refl
 
 pub record DirtyStands (c : Config) (w : World) : Type 0 where
   pub dirty : DirtyPagesHaveAllocations c w
-  pub owed : (k : ℕ) → (flight_of w.now (Caller k)).stage ≡ stage.Dirty
+  pub owed : (k : ℕ) → (flight_of w.now (Caller k)).stage ≡ Stage.Dirty
       → HasAllocation c w (page_met (flight_of w.now (Caller k)))
   -- From `close` to `release` no page is dirty.
   pub clean : phase_of w.now.words ≡ 3 → (p : ℕ) → slice_index w.now.words.dirty p ≡ 0
@@ -173,40 +165,37 @@ allocation_stays c w seat x p out a =
 
 -- While the marks are closed, up to the `release`, no call owes a mark.
 none_owes : (c : Config) (m : Moment) → Known c m → phase_of m.words ≡ 3 → (k : ℕ)
-    → (flight_of m (Caller k)).stage ≡ stage.Dirty → ⊥
+    → (flight_of m (Caller k)).stage ≡ Stage.Dirty → ⊥
 none_owes c m known three k at = elim (cases_lt k c.callers) [
   | inr past ↦
-      let rest : flight_of m (Caller k) ≡ at_rest =
-      get_or_past m.seats.flights k at_rest (omega (arith, known.orderly.flights)) in
-      let bad : stage.Idle ≡ stage.Dirty = sym (ap (λ (f : Flight). f.stage) rest) ∙ at in
+      let rest : flight_of m (Caller k) ≡ at_rest = get_or_past _ k at_rest (omega (arith, known.orderly.flights)) in
+      let bad : Stage.Idle ≡ Stage.Dirty = sym (ap (λ (f : Flight). f.stage) rest) ∙ at in
       true≢false (let y : true ≡ false = cc in y)
   | inl lt ↦
       let fine = subst (λ (s : Stage). is_astray (standing_at s (flight_of m (Caller k)).op) ≡ false) at
       (not_astray c m known.orderly k lt) in
       let stands : standing (flight_of m (Caller k)) ≡ InCall
-      = ap (λ (s : Stage). standing_at s (flight_of m (Caller k)).op) at ∙ calls_stand stage.Dirty _ refl fine in
+      = ap (λ (s : Stage). standing_at s (flight_of m (Caller k)).op) at ∙ calls_stand Stage.Dirty _ refl fine in
       let shows = shows_at c (view_of m) k InCall known.orderly lt stands in
-      let one = shows.0 in
-      let two = (protocol_of c m known).stopped three k lt shows.1 in
-      absurd (omega arith)
+      absurd (omega (arith, shows.0, (protocol_of c m known).stopped three k lt shows.1))
 ]
 
 -- A page that is dirty after a step was so before, or the step is its dirty mark.
 dirty_since : (c : Config) (m : Moment) (seat : Seat) (x : Step) (p : ℕ)
     → slice_index (Behind c m seat x).words.dirty p ≢ 0
     → (slice_index m.words.dirty p ≢ 0) ⊎ ((is_dirty x ≡ true) × (page_met (flight_of m seat) ≡ p))
-dirty_since c m seat step.Reg p some =
+dirty_since c m seat Step.Reg p some =
     inl (λ z. some (ap (λ (t : Table). slice_index t.dirty p) (reg_table c m seat) ∙ z))
-dirty_since c m seat (step.Tally n v) p some =
+dirty_since c m seat (Step.Tally n v) p some =
     inl (λ z. some (ap (λ (t : Table). slice_index t.dirty p) (tally_table m.words n v) ∙ z))
-dirty_since c m seat (step.Undirty q) p some = inl (λ z. some (elim (cases_eq p q) [
+dirty_since c m seat (Step.Undirty q) p some = inl (λ z. some (elim (cases_eq p q) [
   | inr ne ↦ get_or-set_other m.words.dirty q p 0 0 ne ∙ z
   | inl e ↦ elim (cases_lt q (length m.words.dirty)) [
-    | inl lt ↦ ap (λ i. slice_index (slice_set m.words.dirty q 0) i) e ∙ get_or-set_same m.words.dirty q 0 0 lt
+    | inl lt ↦ ap (slice_index (slice_set m.words.dirty q 0)) e ∙ get_or-set_same m.words.dirty q 0 0 lt
     | inr past ↦ ap (λ (ys : List ℕ). slice_index ys p) (set_past m.words.dirty q 0 past) ∙ z
   ]
 ]))
-dirty_since c m seat step.Dirty p some = elim (cases_eq p (page_met (flight_of m seat))) [
+dirty_since c m seat Step.Dirty p some = elim (cases_eq p (page_met (flight_of m seat))) [
   | inl e ↦ inr (refl, sym e)
   | inr ne ↦ inl (λ z. some (get_or-set_other m.words.dirty _ p 1 0 ne ∙ z))
 ]
@@ -214,15 +203,15 @@ dirty_since c m seat _ p some = inl some
 
 -- The step is of a caller that owes the mark.
 owes_now : (c : Config) (m : Moment) (seat : Seat) (x : Step) → Meets c m seat x → is_dirty x ≡ true
-    → (k : ℕ) × (seat ≡ Caller k) × ((flight_of m (Caller k)).stage ≡ stage.Dirty)
-owes_now c m (Caller k) step.Dirty h is = (k, refl, at_its_stage _ _ step.Dirty refl h.order)
-owes_now c m (Marker k) step.Dirty h is = let kind = h.kind in cc
-owes_now c m Host step.Dirty h is = let kind = h.kind in cc
+    → (k : ℕ) × (seat ≡ Caller k) × ((flight_of m (Caller k)).stage ≡ Stage.Dirty)
+owes_now c m (Caller k) Step.Dirty h is = (k, refl, at_its_stage _ _ Step.Dirty refl h.order)
+owes_now c m (Marker k) Step.Dirty h is = let kind = h.kind in cc
+owes_now c m Host Step.Dirty h is = let kind = h.kind in cc
 owes_now c m seat _ h is = cc
 
 -- A call that owes a mark after a step owed it before, or the step is its store.
 mark_since : (c : Config) (m : Moment) (seat : Seat) (x : Step) → Known c m → Meets c m seat x → (k : ℕ)
-    → (flight_of (Behind c m seat x) (Caller k)).stage ≡ stage.Dirty
+    → (flight_of (Behind c m seat x) (Caller k)).stage ≡ Stage.Dirty
     → (flight_of (Behind c m seat x) (Caller k) ≡ flight_of m (Caller k))
     ⊎ ((is_heap_store x ≡ true) × (page_met (flight_of m seat) ≡ page_met (flight_of (Behind c m seat x) (Caller k))))
 mark_since c m (Caller j) x known h k at = elim (cases_eq k j) [
@@ -234,7 +223,7 @@ mark_since c m (Caller j) x known h k at = elim (cases_eq k j) [
       ∙ get_or-set_same m.seats.flights j flight at_rest (omega (arith, known.orderly.flights)) in
       elim (owes_since c m _ _ x h.order (ap (λ (f : Flight). f.stage) (sym here) ∙ at)) [
         | inl same ↦ inl (here ∙ same ∙ ap (λ i. flight_of m (Caller i)) (sym e))
-        | inr new ↦ inr (new.0, sym (ap (λ (f : Flight). page_met f) here ∙ new.1))
+        | inr new ↦ inr (new.0, sym (ap page_met here ∙ new.1))
       ]
 ]
   where
@@ -245,23 +234,21 @@ mark_since c m _ x known h k at = inl refl
 -- Where the marks are closed after a step, no page was dirty before it.
 was_clean : (c : Config) (w : World) (seat : Seat) (x : Step) → KnownWorld c w → Meets c w.now seat x
     → DirtyStands c w → phase_behind x (phase_of w.now.words) ≡ 3 → (p : ℕ) → slice_index w.now.words.dirty p ≡ 0
-was_clean c w seat step.Close known h d three p = elim (cases_lt p c.pages) [
+was_clean c w seat Step.Close known h d three p = elim (cases_lt p c.pages) [
   | inr past ↦ get_or_past w.now.words.dirty p 0 (omega (arith, known.lengths.dirty))
   | inl lt ↦
-      let roots = and_parts _ _ h.holder in
-      let pages = and_parts _ _ roots.0 in
-      let page = and_parts _ (slice_index w.now.words.dirty p == 0) (all_below-at c.pages p _ pages.1 lt) in
-      eqb-true _ 0 page.1
+      let pages = and_parts _ _ (and_parts _ _ h.holder).0 in
+      eqb-true _ 0 (and_parts _ (slice_index w.now.words.dirty p == 0) (all_below-at c.pages p _ pages.1 lt)).1
 ]
-was_clean c w seat step.Begin known h d three p = absurd (omega arith)
-was_clean c w seat step.Want known h d three p = absurd (omega arith)
-was_clean c w seat step.Release known h d three p = absurd (omega arith)
-was_clean c w seat step.End known h d three p = absurd (omega arith)
-was_clean c w seat step.Over known h d three p = absurd (omega arith)
+was_clean c w seat Step.Begin known h d three p = absurd (omega arith)
+was_clean c w seat Step.Want known h d three p = absurd (omega arith)
+was_clean c w seat Step.Release known h d three p = absurd (omega arith)
+was_clean c w seat Step.End known h d three p = absurd (omega arith)
+was_clean c w seat Step.Over known h d three p = absurd (omega arith)
 was_clean c w seat _ known h d three p = d.clean three p
 
 not_closing : (x : Step) (n : ℕ) → is_dirty x ≡ true → phase_behind x n ≡ n
-not_closing step.Dirty n is = refl
+not_closing Step.Dirty n is = refl
 not_closing _ n is = cc
 
 module _ (c : Config) (w : World) (seat : Seat) (x : Step) (known : KnownWorld c w) (h : Meets c w.now seat x)
@@ -307,14 +294,14 @@ module _ (c : Config) (w : World) (seat : Seat) (x : Step) (known : KnownWorld c
       record {
         dirty = λ p some. allocation_stays c w seat x p out (elim (dirty_since c w.now seat x p some) [
           | inl was ↦ d.dirty p was
-          | inr marks ↦ subst (λ q. HasAllocation c w q) marks.1 (mark_has marks.0)
+          | inr marks ↦ subst (HasAllocation c w) marks.1 (mark_has marks.0)
         ]);
         owed = λ k at. allocation_stays c w seat x _ out (elim (mark_since c w.now seat x known.now h k at) [
           | inl same ↦ subst (λ (f : Flight). HasAllocation c w (page_met f)) (sym same)
               (d.owed k (ap (λ (f : Flight). f.stage) (sym same) ∙ at))
           | inr new ↦
               let m = stored new.0 in
-              subst (λ q. HasAllocation c w q) new.1 (record {
+              subst (HasAllocation c w) new.1 (record {
                 number = m.number;
                 unreleased = mapped_stays c (placed_at w.allocations m.number) m.mapped;
                 word = word_met (flight_of w.now seat);
@@ -329,8 +316,8 @@ module _ (c : Config) (w : World) (seat : Seat) (x : Step) (known : KnownWorld c
 by_event : (c : Config) (w : World) (seat : Seat) (x : Step) → KnownWorld c w → Meets c w.now seat x → DirtyStands c w
     → (is_heap_store x ≡ true → IsWordOfMapped c w.allocations (word_met (flight_of w.now seat)))
     → DirtyStands c (WorldBehind c w seat x)
-by_event c w seat step.Release known h d stored =
-    stands_at_release c w seat step.Release known h d (phase_asked c w.now seat step.Release h) refl refl
+by_event c w seat Step.Release known h d stored =
+    stands_at_release c w seat Step.Release known h d (phase_asked c w.now seat Step.Release h) refl refl
 by_event c w seat x known h d stored = stands_behind c w seat x known h d refl stored
 
 abbrev Stands : Config → List Event → Type 0
@@ -342,7 +329,7 @@ first_stands c =
     record {
       dirty = λ p some. absurd (some (at_first c.pages p 0));
       owed = λ k at.
-          let bad : stage.Idle ≡ stage.Dirty = sym (ap (λ (f : Flight). f.stage) (at_first c.callers k at_rest)) ∙ at in
+          let bad : Stage.Idle ≡ Stage.Dirty = sym (ap (λ (f : Flight). f.stage) (at_first c.callers k at_rest)) ∙ at in
           absurd (true≢false (let y : true ≡ false = cc in y));
       clean = λ three p. at_first c.pages p 0;
     }

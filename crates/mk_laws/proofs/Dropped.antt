@@ -1,12 +1,11 @@
 -- `quar` (b) and (c), and `end`, on the terrain.
-use Rattle.mk_laws.proofs.Vocabulary.{Bool, Config, Drops, Ground, HasLayout, IsClaimed, List, Object, Words, World}
+use Rattle.mk_laws.proofs.Vocabulary.{Bool, Config, Drops, Ground, HasLayout, IsClaimed, List, Object, Words, World, ℕ}
 use Rattle.mk_laws.proofs.Vocabulary.{all_below-at, and_parts, arith, cases_Bool, cases_eq, cases_lt, claims_on}
 use Rattle.mk_laws.proofs.Vocabulary.{eqb-false, eqb-true, false, get_or-set_other, get_or-set_same, ground_of, has_bit}
 use Rattle.mk_laws.proofs.Vocabulary.{has_bit_without, head_page, header_at, inl, inr, is_released_in, length, may_end}
 use Rattle.mk_laws.proofs.Vocabulary.{no_bit, not, not-true, or_cases, set_past, slice_index, slice_set, sym, true}
-use Rattle.mk_laws.proofs.Vocabulary.{true≢false, used_at, ℕ, ◌<◌, ◌==◌, ◌||◌, ◌∙◌, ◌≡◌, ◌≢◌, ◌⊎◌}
-use Rattle.mk_laws.proofs.Releasing.{layout_ended}
-use Rattle.mk_laws.proofs.Serving.{Laid}
+use Rattle.mk_laws.proofs.Vocabulary.{true≢false, used_at, ◌<◌, ◌==◌, ◌||◌, ◌∙◌, ◌≡◌, ◌≢◌, ◌⊎◌}
+use Rattle.mk_laws.proofs.{Releasing.layout_ended, Serving.Laid}
 
 -- While the phase isn't releasing, no cell is released, whatever the snapshot, the freed cells and the marks.
 pub unreleasing : (c : Config) (o : Object) (marks other : List ℕ) (t : Ground) (freed snapshot : List ℕ)

@@ -3,7 +3,7 @@ use Rattle.std.proofs.lemmas.Nat.{div-mul-add}
 use Rattle.mk_laws.proofs.Vocabulary.{AreOfOthers, Block, Bool, Caller, Cell, Config, Event, Flight, Free, Header, Host}
 use Rattle.mk_laws.proofs.Vocabulary.{Invariant, IsEnabled, IsHistory, IsLeft, IsWordOfMapped, Later, LeafBlock}
 use Rattle.mk_laws.proofs.Vocabulary.{LeafRun, List, Marker, MeetsAll, Moment, NeverState, None, Op, Option, Page}
-use Rattle.mk_laws.proofs.Vocabulary.{PlacedAllocation, Run, Seat, Some, Step, Words, World, [], address_of, and_from}
+use Rattle.mk_laws.proofs.Vocabulary.{PlacedAllocation, Run, Seat, Some, Step, Words, World, ℕ, address_of, and_from}
 use Rattle.mk_laws.proofs.Vocabulary.{ap, arith, cases_Bool, cases_eq, cell_ends, cell_words, cells_of, cells_under}
 use Rattle.mk_laws.proofs.Vocabulary.{class_words_of, comes_next, earlier_part_is_history, enabled_meets, eq-eqb}
 use Rattle.mk_laws.proofs.Vocabulary.{eqb-false, eqb-true, false, first_word, flight_of, gives_back, has_bit}
@@ -11,27 +11,19 @@ use Rattle.mk_laws.proofs.Vocabulary.{has_bit_without, has_gates, has_phase, hea
 use Rattle.mk_laws.proofs.Vocabulary.{holder_may, host_has_turn, if◌then◌else◌, inl, inr, is_phase, is_released_cell}
 use Rattle.mk_laws.proofs.Vocabulary.{left, ltb-true, nat_le, nat_lt, ne_eqb, no_bit, not, or_left, or_right}
 use Rattle.mk_laws.proofs.Vocabulary.{page_at_address, phase_of, placed_at, pointed_cell, refl, run_count, slice_index}
-use Rattle.mk_laws.proofs.Vocabulary.{sym, true, true≢false, used_at, word_points, words_are_zero, words_under, ℕ, ◌%◌}
+use Rattle.mk_laws.proofs.Vocabulary.{sym, true, true≢false, used_at, word_points, words_are_zero, words_under, [], ◌%◌}
 use Rattle.mk_laws.proofs.Vocabulary.{◌*◌, ◌++◌, ◌+◌, ◌-◌, ◌/◌, ◌<◌, ◌==◌, ◌||◌, ◌∙◌, ◌∷◌, ◌≡◌, ◌≢◌}
+use Rattle.mk_geom.specs.Addresses.{cell_of_block, cell_under, word_at_address}
+use Rattle.mk_core.{proofs.Conditions.meets_enabled, proofs.PageSteps.gives_back_is, proofs.PageSteps.left_bits}
+use Rattle.mk_core.{proofs.PointedPages.found_under, specs.Order.is_in_order, specs.TurnConditions.are_wiped}
 use Rattle.mk_laws.proofs.Basics.{Behind, KnownWorld, Meets, actor_of, along_others, mapped_stays, reg_keeps}
 use Rattle.mk_laws.proofs.Basics.{tally_keeps}
-use Rattle.mk_geom.specs.Addresses.{cell_of_block, cell_under, word_at_address}
-use Rattle.mk_core.specs.TurnConditions.{are_wiped}
-use Rattle.mk_core.proofs.PageSteps.{gives_back_is, left_bits}
-use Rattle.mk_core.proofs.PointedPages.{found_under}
-use Rattle.mk_laws.specs.WholeRuns.{RunsAreWhole}
-use Rattle.mk_laws.proofs.ForImages.{laid_out}
-use Rattle.mk_laws.proofs.InvariantJoined.{told_to_images}
-use Rattle.mk_laws.proofs.Tests.{all_below_on}
-use Rattle.mk_core.specs.declared.events.Step.TheVariants as step
-use Rattle.mk_core.specs.Order.{is_in_order}
-use Rattle.mk_core.proofs.Conditions.{meets_enabled}
-use Rattle.mk_laws.proofs.ProtocolFrames.{other_seat, others_leave}
-use Rattle.mk_laws.proofs.GatesStill.{gates_on, pages_same, phase_same}
-use Rattle.mk_laws.proofs.HolderStill.{holder_on}
 use Rattle.mk_laws.proofs.FramesHolders.{Asks, OfHolder, OfNone, asks, holds_is}
-use Rattle.mk_laws.proofs.LastEvents.{comes_last, stands}
-use Rattle.mk_laws.proofs.RunsStill.{holder_finds}
+use Rattle.mk_laws.proofs.GatesStill.{gates_on, pages_same, phase_same}
+use Rattle.mk_laws.proofs.ProtocolFrames.{other_seat, others_leave}
+use Rattle.mk_laws.proofs.{ForImages.laid_out, HolderStill.holder_on, InvariantJoined.told_to_images}
+use Rattle.mk_laws.proofs.{LastEvents.comes_last, LastEvents.stands, RunsStill.holder_finds, Tests.all_below_on}
+use Rattle.mk_laws.specs.WholeRuns.{RunsAreWhole}
 
 -- The words of released cells are in no mapped allocation: what is wiped stays so.
 
@@ -104,8 +96,7 @@ module _ (c : Config) (w : World) (runs : RunsAreWhole c w) where
       by d e is' = elim (cases_eq d 0) [
         | inl first ↦
             let u = under_at c.pages w.now.words (64 * p + i) p y (omega arith) is' in
-            let same : Some h ≡ Some u.0 = sym shown ∙ u.1 in
-            own_run u.0 p _ y (ap heads_run (sym same) ∙ r) u.2
+            own_run u.0 p _ y (ap heads_run (sym (sym shown ∙ u.1)) ∙ r) u.2
         | inr behind ↦
             let headed : heads_run (header_in w.now.words p) ≡ true = ap heads_run shown ∙ r in
             let count : run_count (header_in w.now.words p) ≡ run_count (Some h) = ap run_count shown in
@@ -208,8 +199,8 @@ module _ (c : Config) (w v : World) (n : NeverState) (known : KnownWorld c w) (a
 
 -- Nobody but the host takes the turn for the host.
 
-taken_turn : (c : Config) (m : Moment) (seat : Seat) (o : Option Op) → Meets c m seat (step.Take o) → seat ≢ Host
-    → m.words.turn ≢ 1 + c.callers → (Behind c m seat (step.Take o)).words.turn ≢ 1 + c.callers
+taken_turn : (c : Config) (m : Moment) (seat : Seat) (o : Option Op) → Meets c m seat (Step.Take o) → seat ≢ Host
+    → m.words.turn ≢ 1 + c.callers → (Behind c m seat (Step.Take o)).words.turn ≢ 1 + c.callers
 taken_turn c m (Caller k) o h ne out = by (m.words.turn == 0)
   where
     by : (b : Bool) → (if b then 1 + k else m.words.turn) ≢ 1 + c.callers
@@ -220,10 +211,10 @@ taken_turn c m Host o h ne out = absurd (ne refl)
 
 turn_after : (c : Config) (m : Moment) (seat : Seat) (x : Step) → Meets c m seat x → seat ≢ Host
     → m.words.turn ≢ 1 + c.callers → (Behind c m seat x).words.turn ≢ 1 + c.callers
-turn_after c m seat (step.Take o) h ne out = taken_turn c m seat o h ne out
-turn_after c m seat step.Give h ne out = λ e. absurd (omega arith)
-turn_after c m seat step.Reg h ne out = λ e. out (sym (reg_keeps m.words _ _ _).turn ∙ e)
-turn_after c m seat (step.Tally n v) h ne out = λ e. out (sym (tally_keeps m.words n v).turn ∙ e)
+turn_after c m seat (Step.Take o) h ne out = taken_turn c m seat o h ne out
+turn_after c m seat Step.Give h ne out = λ e. absurd (omega arith)
+turn_after c m seat Step.Reg h ne out = λ e. out (sym (reg_keeps m.words _ _ _).turn ∙ e)
+turn_after c m seat (Step.Tally n v) h ne out = λ e. out (sym (tally_keeps m.words n v).turn ∙ e)
 turn_after c m seat _ h ne out = out
 
 host_stays_out : (c : Config) (es more : List Event) → IsHistory c (es ++ more) → AreOfOthers (Host ∷ []) more
@@ -231,9 +222,8 @@ host_stays_out : (c : Config) (es more : List Event) → IsHistory c (es ++ more
 host_stays_out c es more h others = along_others c (Host ∷ []) (λ xs ys. (left c xs).now.words.turn ≢ 1 + c.callers
     → (left c ys).now.words.turn ≢ 1 + c.callers) (λ xs out. out) (λ xs ys zs f g out. g (f out))
     (λ xs e whole other out.
-    let last = comes_last c xs e whole in
-    rw last.leaves (turn_after c (left c xs).now e.seat
-    e.step last.meets (other_seat Host e.seat other) out)) es more h others
+    rw (comes_last c xs e whole).leaves (turn_after c (left c xs).now e.seat
+    e.step (comes_last c xs e whole).meets (other_seat Host e.seat other) out)) es more h others
 
 -- the order of steps
 order_on : (c : Config) (m n : Moment) (s : Seat) (x : Step) → flight_of n s ≡ flight_of m s
@@ -260,10 +250,8 @@ module _ (c : Config) (es more : List Event) (e : Event) (h : IsHistory c (es ++
   host_same is = elim (cases_Bool (host_has_turn c w.now)) [
     | inl on ↦
         let turn = rw is at left_to in
-        eq-eqb v.now.words.turn (1 + c.callers) (turn.own.holding (eqb-true w.now.words.turn (1 + c.callers) on)).0
-        ∙ sym on
-    | inr off ↦ ne_eqb v.now.words.turn (1 + c.callers) (host_stays_out c es more h (rw is at others)
-        (eqb-false w.now.words.turn (1 + c.callers) off)) ∙ sym off
+        eq-eqb _ _ (turn.own.holding (eqb-true _ _ on)).0 ∙ sym on
+    | inr off ↦ ne_eqb _ _ (host_stays_out c es more h (rw is at others) (eqb-false _ _ off)) ∙ sym off
   ]
 
   -- what is asked of the turn's holder alone

@@ -1,18 +1,13 @@
 -- The laws on a small cycle: its third allocation is freed and not touched, so it is released, and its storage free.
-use Rattle.mk_laws.proofs.Vocabulary.{Cycle, Releasing, [], all_below, begun_in_stop, left, left_from, marked_in_stop}
-use Rattle.mk_laws.proofs.Vocabulary.{placed_at, pointed_cell, refl, small, stopped_cycle, stopped_is_history}
-use Rattle.mk_laws.proofs.Vocabulary.{storage_of, three_objects, through, through_release, true, unreleased_storage}
-use Rattle.mk_laws.proofs.Vocabulary.{◌∷◌, ◌≡◌}
-use Rattle.mk_core.specs.Cycles.{NoneSweeps}
-use Rattle.mk_core.specs.declared.events.Seat.TheVariants as seat
-use Rattle.mk_core.specs.declared.events.Step.TheVariants as step
-use Rattle.mk_core.specs.declared.events.Tally.TheVariants as tally
-use Rattle.mk_core.proofs.EvaluatedCycles.{any_sweeps, none_sweeps}
+use Rattle.mk_laws.proofs.Vocabulary.{Cycle, Releasing, Seat, Step, Tally, all_below, begun_in_stop, left, left_from}
+use Rattle.mk_laws.proofs.Vocabulary.{marked_in_stop, placed_at, pointed_cell, refl, small, stopped_cycle}
+use Rattle.mk_laws.proofs.Vocabulary.{stopped_is_history, storage_of, three_objects, through, through_release, true}
+use Rattle.mk_laws.proofs.Vocabulary.{unreleased_storage, [], ◌∷◌, ◌≡◌}
 use Rattle.mk_core.proofs.EvaluatedTouched.{marking, third_is_in_snapshot, third_is_untouched}
-use Rattle.mk_core.proofs.SmallCycles.{by_host}
+use Rattle.mk_core.proofs.{EvaluatedCycles.any_sweeps, EvaluatedCycles.none_sweeps, SmallCycles.by_host}
+use Rattle.mk_core.specs.Cycles.{NoneSweeps}
+use Rattle.mk_laws.proofs.{PrecisionFreeing.frees_the_untouched, PrecisionStopped.releases_the_untouched}
 use Rattle.mk_laws.specs.Precision.{CountsAsFree, through_end}
-use Rattle.mk_laws.proofs.PrecisionFreeing.{frees_the_untouched}
-use Rattle.mk_laws.proofs.PrecisionStopped.{releases_the_untouched}
 
 abbrev releasing : Releasing stopped_cycle
 releasing = record {
@@ -20,9 +15,9 @@ releasing = record {
   release = record {
     at = record {
       before = [];
-      event = record { seat = seat.Host; step = step.Release };
+      event = record { seat = Seat.Host; step = Step.Release };
       behind = by_host
-          (step.Used 0 3 ∷ step.Quar 0 0 ∷ step.Tally tally.Held 4 ∷ step.End ∷ step.Open 0 ∷ step.Give ∷ []);
+          (Step.Used 0 3 ∷ Step.Quar 0 0 ∷ Step.Tally Tally.Held 4 ∷ Step.End ∷ Step.Open 0 ∷ Step.Give ∷ []);
       is = refl;
       of_kind = refl;
     };
@@ -35,9 +30,9 @@ cycle = record {
   releasing = releasing;
   end = record {
     at = record {
-      before = by_host (step.Used 0 3 ∷ step.Quar 0 0 ∷ step.Tally tally.Held 4 ∷ []);
-      event = record { seat = seat.Host; step = step.End };
-      behind = by_host (step.Open 0 ∷ step.Give ∷ []);
+      before = by_host (Step.Used 0 3 ∷ Step.Quar 0 0 ∷ Step.Tally Tally.Held 4 ∷ []);
+      event = record { seat = Seat.Host; step = Step.End };
+      behind = by_host (Step.Open 0 ∷ Step.Give ∷ []);
       is = refl;
       of_kind = refl;
     };

@@ -1,45 +1,35 @@
 -- Each enabled and admitted event leads to what the images allow.
-use Rattle.mk_laws.proofs.Vocabulary.{AreAdmitted, Bool, Caller, Cell, Config, Event, Host, ImagePremises, ImageScene}
-use Rattle.mk_laws.proofs.Vocabulary.{IsSafe, IsSafeSet, IsSound, IsTypedAllocation, Kind, List, Marker, MarksAreClosed}
-use Rattle.mk_laws.proofs.Vocabulary.{MeetsAll, Mirrors, Named, NeverState, None, Null, Num, Number, Option}
-use Rattle.mk_laws.proofs.Vocabulary.{PlacedAllocation, Ptr, Seat, Some, Stage, Step, Store, Suits, Tally, To, Value}
-use Rattle.mk_laws.proofs.Vocabulary.{World, accessed, address_of, allocation_at, and_from, and_parts, and_right}
-use Rattle.mk_laws.proofs.Vocabulary.{answer_decided, ap, arith, asked, at_rest, bases_of, call_decided, caller_number}
-use Rattle.mk_laws.proofs.Vocabulary.{cases_Bool, cases_eq, cases_lt, cell_of_allocation, changed_at, eqb-true, false}
-use Rattle.mk_laws.proofs.Vocabulary.{false≢true, flight_among, flight_of, fresh_leaves, get_or_past, global_at}
-use Rattle.mk_laws.proofs.Vocabulary.{has_bit, has_bit_without, if◌then◌else◌, image_of, image_scene_of, inl, inr}
-use Rattle.mk_laws.proofs.Vocabulary.{is_left_unmarked, is_marked, is_none_or, is_open_to, is_past_probe, is_put}
+use Rattle.mk_laws.proofs.Vocabulary.{AreAdmitted, Bool, Caller, Cell, Config, Event, Group, Host, ImagePremises}
+use Rattle.mk_laws.proofs.Vocabulary.{ImageScene, IsSafe, IsSafeSet, IsSound, IsTypedAllocation, Kind, List, Marker}
+use Rattle.mk_laws.proofs.Vocabulary.{MarksAreClosed, MeetsAll, Mirrors, Named, NeverState, None, Null, Num, Number}
+use Rattle.mk_laws.proofs.Vocabulary.{Option, PlacedAllocation, Ptr, Seat, Some, Stage, Step, Store, Suits, Tally, To}
+use Rattle.mk_laws.proofs.Vocabulary.{Value, World, ℕ, accessed, address_of, allocation_at, and_from, and_parts}
+use Rattle.mk_laws.proofs.Vocabulary.{and_right, answer_decided, ap, arith, asked, at_rest, bases_of, call_decided}
+use Rattle.mk_laws.proofs.Vocabulary.{caller_number, cases_Bool, cases_eq, cases_lt, cell_of_allocation, changed_at}
+use Rattle.mk_laws.proofs.Vocabulary.{eqb-true, false, false≢true, flight_among, flight_of, fresh_leaves, get_or_past}
+use Rattle.mk_laws.proofs.Vocabulary.{global_at, has_bit, has_bit_without, if◌then◌else◌, image_of, image_scene_of, inl}
+use Rattle.mk_laws.proofs.Vocabulary.{inr, is_left_unmarked, is_marked, is_none_or, is_open_to, is_past_probe, is_put}
 use Rattle.mk_laws.proofs.Vocabulary.{is_run_cell, is_run_gone, is_some_and, is_unmapped, kinds_of, length, ltb-true}
 use Rattle.mk_laws.proofs.Vocabulary.{map, no_longer_fresh, none_freed, not, or_cases, or_parts, others_are_held}
 use Rattle.mk_laws.proofs.Vocabulary.{placed_at, pointed_cell, points_well, refl, released_leaves, set-get_or}
 use Rattle.mk_laws.proofs.Vocabulary.{slice_index, slice_index_or, slice_set, storage_holds, storage_words, subst, sym}
-use Rattle.mk_laws.proofs.Vocabulary.{tally_word, target, true, with_released, word_at, words_of, world_behind, ℕ, ◌%◌}
+use Rattle.mk_laws.proofs.Vocabulary.{tally_word, target, true, with_released, word_at, words_of, world_behind, ◌%◌}
 use Rattle.mk_laws.proofs.Vocabulary.{◌&&◌, ◌+◌, ◌/◌, ◌<◌, ◌==◌, ◌||◌, ◌∙◌, ◌≡◌, ◌≢◌}
+use Rattle.mk_never.specs.Types.{is_leaf, is_number}
+use Rattle.mk_core.proofs.ListTests.{list_all-at}
+use Rattle.mk_core.specs.ClosedMarks.{is_marked_allocation, is_scanned_allocation}
 use Rattle.mk_laws.proofs.Basics.{InCall, KnownWorld, Leads, Move, Ready, Releases, Renews, Stands, at_its_stage}
 use Rattle.mk_laws.proofs.Basics.{at_no_take, base_at, calls_stand, exists_placed, gate_in, grants_new, is_astray}
 use Rattle.mk_laws.proofs.Basics.{is_call_stage, not_astray, others_held, pointed_word, standing, unmapped_is, view_of}
 use Rattle.mk_laws.proofs.Basics.{words_fit}
-use Rattle.mk_never.specs.Types.{is_number, is_leaf}
-use Rattle.mk_core.proofs.ListTests.{list_all-at}
-use Rattle.mk_core.specs.ClosedMarks.{is_marked_allocation, is_scanned_allocation}
-use Rattle.mk_laws.proofs.Pairs.{shows_plain}
-use Rattle.mk_laws.proofs.ImagesBefore.{type_is, pages_show}
-use Rattle.mk_laws.proofs.FreeMoves.{same_places}
-use Rattle.mk_core.specs.declared.events.Group.TheVariants as group
-use Rattle.mk_core.specs.declared.events.Step.TheVariants as step
-use Rattle.mk_core.specs.declared.events.Tally.TheVariants as tally
-use Rattle.mk_core.specs.declared.seats.Stage.TheVariants as stage
-use Rattle.mk_laws.proofs.Standings.{Shows}
-use Rattle.mk_laws.proofs.Stages.{is_turn_stage, new_stands}
-use Rattle.mk_laws.proofs.NextSteps.{of_turn, at_take}
-use Rattle.mk_laws.proofs.ImagesStands.{gone_shows}
-use Rattle.mk_laws.proofs.ImagesMoves.{Rests, Wipes}
-use Rattle.mk_laws.proofs.ImagesHeldGates.{others_idle}
-use Rattle.mk_laws.proofs.GrantMoves.{wiped_outside}
-use Rattle.mk_laws.proofs.CallSorts.{begins, bare_on, enter_leads, leave_leads, dirty_leads, reg_leads_at}
-use Rattle.mk_laws.proofs.CallSorts.{probe_leads_at, read_leads_at, write_leads_at, cas_leads_at, getg_leads_at}
-use Rattle.mk_laws.proofs.CallSorts.{setg_leads_at}
-use Rattle.mk_laws.proofs.TurnMoves.{grant_by, full_by, quar_by, look_by}
+use Rattle.mk_laws.proofs.CallSorts.{bare_on, begins, cas_leads_at, dirty_leads, enter_leads, getg_leads_at}
+use Rattle.mk_laws.proofs.CallSorts.{leave_leads, probe_leads_at, read_leads_at, reg_leads_at, setg_leads_at}
+use Rattle.mk_laws.proofs.CallSorts.{write_leads_at}
+use Rattle.mk_laws.proofs.TurnMoves.{full_by, grant_by, look_by, quar_by}
+use Rattle.mk_laws.proofs.{FreeMoves.same_places, GrantMoves.wiped_outside, ImagesBefore.pages_show}
+use Rattle.mk_laws.proofs.{ImagesBefore.type_is, ImagesHeldGates.others_idle, ImagesMoves.Rests, ImagesMoves.Wipes}
+use Rattle.mk_laws.proofs.{ImagesStands.gone_shows, NextSteps.at_take, NextSteps.of_turn, Pairs.shows_plain}
+use Rattle.mk_laws.proofs.{Stages.is_turn_stage, Stages.new_stands, Standings.Shows}
 
 -- A release cuts the safe set to the marked allocations.
 
@@ -60,11 +50,10 @@ module _ (c : Config) (w : World) (n : NeverState) (known : KnownWorld c w) (mir
       → points_well c.pages w.now.words (image_of (bases_of w.allocations) v) ≡ true → IsSafe cut v
   value_cut (Ptr a t o) sound is well =
       let u = ready.set.unreleased a is in
-      let word = pointed_word c.globals safe _ n ready a t o sound in
       let fits = words_fit c w n known mirrors a (exists_placed w.allocations a u) in
       let cell = ap (λ b. pointed_cell c.pages w.now.words.pages (address_of (b + o))) (base_at w.allocations a)
-      ∙ st.cell a o u (omega arith) in
-      and_from (safe a) _ is (ap (λ (x : Option Cell). is_none_or (is_marked w.now.words) x) (sym cell) ∙ well)
+      ∙ st.cell a o u (omega (arith, pointed_word c.globals safe _ n ready a t o sound)) in
+      and_from (safe a) _ is (ap (is_none_or (is_marked w.now.words)) (sym cell) ∙ well)
   value_cut _ sound is well = tt
 
   -- a root that is the image of a value
@@ -75,8 +64,7 @@ module _ (c : Config) (w : World) (n : NeverState) (known : KnownWorld c w) (mir
   some_words : (a : ℕ) → (placed a).released ≡ false → 0 < storage_words c (placed a)
   some_words a u =
       let lt = exists_placed w.allocations a u in
-      let holds = storage_holds c (placed a) known.limits (type_is c w n known mirrors a lt) in
-      holds.1.0
+      (storage_holds c (placed a) known.limits (type_is c w n known mirrors a lt)).1.0
 
   base_cell_is : (a : ℕ) → (placed a).released ≡ false
       → pointed_cell c.pages w.now.words.pages (address_of (placed a).base) ≡ Some (cell_of_allocation c (placed a))
@@ -172,12 +160,12 @@ AdmittedOf c w n e = AreAdmitted c.globals n (asked (call_decided c w.now e))
 
 -- a kind that is for the turn's holder and leaves its flight alone, or for others
 abbrev is_still : Step → Bool
-is_still step.Reg = false
-is_still step.Write = false
-is_still step.Cas = false
-is_still step.Setg = false
-is_still (step.Quar p v) = false
-is_still step.Grant = false
+is_still Step.Reg = false
+is_still Step.Write = false
+is_still Step.Cas = false
+is_still Step.Setg = false
+is_still (Step.Quar p v) = false
+is_still Step.Grant = false
 is_still x = true
 
 -- what is after it but for the flights
@@ -186,10 +174,10 @@ still_scene c w seat x =
     record (image_scene_of (world_behind c w (record { seat = seat; step = x }))) { flights = w.now.seats.flights }
 
 turn_plain : (s : Stage) → is_turn_stage s ≡ true → is_put s ≡ false
-turn_plain stage.Put h = cc
+turn_plain Stage.Put h = cc
 turn_plain _ h = refl
 
-idle_plain : (s : Stage) → s ≡ stage.Idle → is_put s ≡ false
+idle_plain : (s : Stage) → s ≡ Stage.Idle → is_put s ≡ false
 idle_plain s e = ap is_put e
 
 tally_scene : (w : World) (t : Tally) (v : ℕ) → image_scene_of w ≡ record {
@@ -199,7 +187,7 @@ tally_scene : (w : World) (t : Tally) (v : ℕ) → image_scene_of w ≡ record 
   flights = w.now.seats.flights;
   allocations = w.allocations;
 }
-tally_scene w tally.Held v = refl
+tally_scene w Tally.Held v = refl
 tally_scene w _ v = refl
 
 abbrev no_cell : Option Cell
@@ -213,12 +201,12 @@ module _ (c : Config) (w : World) (n : NeverState) (known : KnownWorld c w) (mir
     (others : ImagePremises c w) (safe : ℕ
     → Bool) (ready : Ready c.globals safe (image_scene_of w) n) (st : Stands c w.now.words w.allocations) where
   -- at a release nothing is owed
-  plain_at : (seat : Seat) → is_open_to seat group.Turn ≡ true → MeetsOf c w seat step.Release → (j : ℕ)
+  plain_at : (seat : Seat) → is_open_to seat Group.Turn ≡ true → MeetsOf c w seat Step.Release → (j : ℕ)
       → is_put (flight_among w.now.seats.flights j).stage ≡ false
   plain_at (Caller k) o h j = elim (cases_eq j k) [
     | inl e ↦
         let f = flight_of w.now (Caller k) in
-        rw e (turn_plain f.stage (of_turn f.stage f.op step.Release refl refl h.order))
+        rw e (turn_plain f.stage (of_turn f.stage f.op Step.Release refl refl h.order))
     | inr ne ↦ idle_plain _
         (others_idle c (view_of w.now) k known.now.orderly (others_held c w.now (Caller k) h.gates) j ne)
   ]
@@ -232,20 +220,20 @@ module _ (c : Config) (w : World) (n : NeverState) (known : KnownWorld c w) (mir
 
   still_moves : (seat : Seat) (x : Step) → is_still x ≡ true → MeetsOf c w seat x
       → Move safe (image_scene_of w) n (still_scene c w seat x) n
-  still_moves seat step.Reg s h = absurd (false≢true s)
-  still_moves seat step.Write s h = absurd (false≢true s)
-  still_moves seat step.Cas s h = absurd (false≢true s)
-  still_moves seat step.Setg s h = absurd (false≢true s)
-  still_moves seat (step.Quar p v) s h = absurd (false≢true s)
-  still_moves seat step.Grant s h = absurd (false≢true s)
-  still_moves seat (step.Tally t v) s h =
+  still_moves seat Step.Reg s h = absurd (false≢true s)
+  still_moves seat Step.Write s h = absurd (false≢true s)
+  still_moves seat Step.Cas s h = absurd (false≢true s)
+  still_moves seat Step.Setg s h = absurd (false≢true s)
+  still_moves seat (Step.Quar p v) s h = absurd (false≢true s)
+  still_moves seat Step.Grant s h = absurd (false≢true s)
+  still_moves seat (Step.Tally t v) s h =
       subst (λ (x : ImageScene). Move safe (image_scene_of w) n x n) (tally_scene w t v) Rests
-  still_moves seat (step.Wipe x) s h = Wipes x (wiped_outside c w n known mirrors others st x (h.holder))
-  still_moves seat step.Begin s h =
+  still_moves seat (Step.Wipe x) s h = Wipes x (wiped_outside c w n known mirrors others st x (h.holder))
+  still_moves seat Step.Begin s h =
       Renews (map no_longer_fresh w.allocations) (same_places no_longer_fresh w.allocations fresh_leaves)
       (λ a. rw (changed_at no_longer_fresh w.allocations a refl))
       (λ a. rw (changed_at no_longer_fresh w.allocations a refl))
-  still_moves seat step.Release s h =
+  still_moves seat Step.Release s h =
       releases c w n known mirrors safe ready st (others.marks (eqb-true _ 3 h.phase)) (plain_at seat h.kind h)
   still_moves seat _ s h = Rests
 
@@ -271,7 +259,7 @@ module _ (c : Config) (w : World) (n : NeverState) (known : KnownWorld c w) (mir
         absurd (omega arith)
   ]
 
-  quiet_at : (k p v : ℕ) → MeetsOf c w (Caller k) (step.Quar p v)
+  quiet_at : (k p v : ℕ) → MeetsOf c w (Caller k) (Step.Quar p v)
       → is_run_cell w.now.words (target c.pages w.now.words (flight_of w.now (Caller k))) ≡ true → (j : ℕ) → j ≢ k
       → is_past_probe (flight_among w.now.seats.flights j).stage ≡ false
   quiet_at k p v h run j ne =
@@ -291,74 +279,74 @@ module _ (c : Config) (w : World) (n : NeverState) (known : KnownWorld c w) (mir
 
   caller_goes : (k : ℕ) (x : Step) → MeetsOf c w (Caller k) x → AdmittedOf c w n (record { seat = Caller k; step = x })
       → Goes c w n safe (record { seat = Caller k; step = x })
-  caller_goes k (step.Enter o) h ad = enter_leads c w n known mirrors safe ready k o h
-  caller_goes k step.Leave h ad = leave_leads c w n known mirrors safe ready k h
-  caller_goes k step.Reg h ad = reg_leads_at c w n known mirrors safe ready k h ad
-  caller_goes k step.Probe h ad =
+  caller_goes k (Step.Enter o) h ad = enter_leads c w n known mirrors safe ready k o h
+  caller_goes k Step.Leave h ad = leave_leads c w n known mirrors safe ready k h
+  caller_goes k Step.Reg h ad = reg_leads_at c w n known mirrors safe ready k h ad
+  caller_goes k Step.Probe h ad =
       let f = flight_of w.now (Caller k) in
       let lt = ltb-true k c.callers h.seat in
-      let in_call = calls_stand f.stage f.op (ap is_call_stage (at_its_stage f.stage f.op step.Probe refl h.order))
+      let in_call = calls_stand f.stage f.op (ap is_call_stage (at_its_stage f.stage f.op Step.Probe refl h.order))
       (astray_not k lt) in
       probe_leads_at c w n known mirrors safe ready k
       (pages_show c w n known mirrors st (gone_shows c w known.limits others (gone_for k lt in_call))) h ad
-  caller_goes k step.Read h ad = read_leads_at c w n known mirrors safe ready k h ad
-  caller_goes k step.Write h ad = write_leads_at c w n known mirrors safe ready k h ad
-  caller_goes k step.Cas h ad = cas_leads_at c w n known mirrors safe ready k h ad
-  caller_goes k step.Getg h ad = getg_leads_at c w n known mirrors safe ready k h
-  caller_goes k step.Setg h ad = setg_leads_at c w n known mirrors safe ready k h
-  caller_goes k step.Dirty h ad = dirty_leads c w n known mirrors safe ready k h
-  caller_goes k (step.Take (Some o)) h ad =
+  caller_goes k Step.Read h ad = read_leads_at c w n known mirrors safe ready k h ad
+  caller_goes k Step.Write h ad = write_leads_at c w n known mirrors safe ready k h ad
+  caller_goes k Step.Cas h ad = cas_leads_at c w n known mirrors safe ready k h ad
+  caller_goes k Step.Getg h ad = getg_leads_at c w n known mirrors safe ready k h
+  caller_goes k Step.Setg h ad = setg_leads_at c w n known mirrors safe ready k h
+  caller_goes k Step.Dirty h ad = dirty_leads c w n known mirrors safe ready k h
+  caller_goes k (Step.Take (Some o)) h ad =
       let f = flight_of w.now (Caller k) in
       begins c w n known mirrors safe ready k f.op o _ (ap is_put (at_take f.stage f.op o h.order).0)
-  caller_goes k (step.Take None) h ad = absurd (at_no_take _ _ h.order)
-  caller_goes k step.Give h ad = let f =
+  caller_goes k (Step.Take None) h ad = absurd (at_no_take _ _ h.order)
+  caller_goes k Step.Give h ad = let f =
       flight_of w.now (Caller k) in bare_on c w n known mirrors safe ready k f.op at_rest
-      (turn_plain f.stage (of_turn f.stage f.op step.Give refl refl h.order)) refl
-  caller_goes k (step.Look x) h ad = look_by c w n known mirrors others safe ready st k (ltb-true k c.callers h.seat)
+      (turn_plain f.stage (of_turn f.stage f.op Step.Give refl refl h.order)) refl
+  caller_goes k (Step.Look x) h ad = look_by c w n known mirrors others safe ready st k (ltb-true k c.callers h.seat)
       _ x refl
-  caller_goes k (step.Quar p v) h ad =
+  caller_goes k (Step.Quar p v) h ad =
       quar_by c w n known mirrors others safe ready st k (ltb-true k c.callers h.seat) _ p v
       _ refl refl (quiet_at k p v h)
-  caller_goes k step.Grant h ad =
+  caller_goes k Step.Grant h ad =
       let f = flight_of w.now (Caller k) in
       let lt = ltb-true k c.callers h.seat in
       grant_by c w n known mirrors others safe ready st k lt f.stage f.op f.q f.p f.r f.loaded
       w.now.seats.holding.placing refl h.order (h.holder) refl
       (lt, new_stands f.stage f.op (grants_new c w.now (Caller k) h)) (grant_phase _ h.phase) (known.now.operands k)
-  caller_goes k step.Full h ad =
+  caller_goes k Step.Full h ad =
       let f = flight_of w.now (Caller k) in
       full_by c w n known mirrors others safe ready st k (ltb-true k c.callers h.seat) f.stage f.op f.q f.p f.r f.loaded
       refl h.order
-  caller_goes k step.Attend h ad = absurd (false≢true h.kind)
-  caller_goes k step.Quit h ad = absurd (false≢true h.kind)
-  caller_goes k (step.Mlook x) h ad = absurd (false≢true h.kind)
-  caller_goes k (step.Claim p i) h ad = absurd (false≢true h.kind)
-  caller_goes k step.Mload h ad = absurd (false≢true h.kind)
-  caller_goes k step.Mmark h ad = absurd (false≢true h.kind)
-  caller_goes k step.Mblack h ad = absurd (false≢true h.kind)
-  caller_goes k step.Over h ad = absurd (false≢true h.kind)
+  caller_goes k Step.Attend h ad = absurd (false≢true h.kind)
+  caller_goes k Step.Quit h ad = absurd (false≢true h.kind)
+  caller_goes k (Step.Mlook x) h ad = absurd (false≢true h.kind)
+  caller_goes k (Step.Claim p i) h ad = absurd (false≢true h.kind)
+  caller_goes k Step.Mload h ad = absurd (false≢true h.kind)
+  caller_goes k Step.Mmark h ad = absurd (false≢true h.kind)
+  caller_goes k Step.Mblack h ad = absurd (false≢true h.kind)
+  caller_goes k Step.Over h ad = absurd (false≢true h.kind)
   caller_goes k x h ad = still_leads k _ (still_moves (Caller k) x refl h) refl
 
   host_goes : (x : Step) → MeetsOf c w Host x → Goes c w n safe (record { seat = Host; step = x })
-  host_goes step.Reg h = absurd (false≢true h.kind)
-  host_goes step.Write h = absurd (false≢true h.kind)
-  host_goes step.Cas h = absurd (false≢true h.kind)
-  host_goes step.Setg h = absurd (false≢true h.kind)
-  host_goes step.Grant h = absurd (no_holder _ h.order)
+  host_goes Step.Reg h = absurd (false≢true h.kind)
+  host_goes Step.Write h = absurd (false≢true h.kind)
+  host_goes Step.Cas h = absurd (false≢true h.kind)
+  host_goes Step.Setg h = absurd (false≢true h.kind)
+  host_goes Step.Grant h = absurd (no_holder _ h.order)
     where
       no_holder : (b : Bool) → (b && false) ≡ true → ⊥
       no_holder true e = false≢true e
       no_holder false e = false≢true e
-  host_goes (step.Quar p v) h = (rw (none_target _) (rw (none_freed w.now.words w.allocations) Rests), λ more. refl)
+  host_goes (Step.Quar p v) h = (rw (none_target _) (rw (none_freed w.now.words w.allocations) Rests), λ more. refl)
   host_goes x h = (still_moves Host x refl h, λ more. refl)
 
   marker_goes : (k : ℕ) (x : Step) → MeetsOf c w (Marker k) x → Goes c w n safe (record { seat = Marker k; step = x })
-  marker_goes k step.Reg h = absurd (false≢true h.kind)
-  marker_goes k step.Write h = absurd (false≢true h.kind)
-  marker_goes k step.Cas h = absurd (false≢true h.kind)
-  marker_goes k step.Setg h = absurd (false≢true h.kind)
-  marker_goes k step.Grant h = absurd (false≢true h.kind)
-  marker_goes k (step.Quar p v) h = absurd (false≢true h.kind)
+  marker_goes k Step.Reg h = absurd (false≢true h.kind)
+  marker_goes k Step.Write h = absurd (false≢true h.kind)
+  marker_goes k Step.Cas h = absurd (false≢true h.kind)
+  marker_goes k Step.Setg h = absurd (false≢true h.kind)
+  marker_goes k Step.Grant h = absurd (false≢true h.kind)
+  marker_goes k (Step.Quar p v) h = absurd (false≢true h.kind)
   marker_goes k x h = (still_moves (Marker k) x refl h, λ more. refl)
 
   pub goes : (seat : Seat) (x : Step) → MeetsOf c w seat x → AdmittedOf c w n (record { seat = seat; step = x })

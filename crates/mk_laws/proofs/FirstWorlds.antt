@@ -1,6 +1,6 @@
 -- What is asked of the others holds of the first world.
 use Rattle.std.proofs.lemmas.Nat.Bits.{bit_at-zero}
-use Rattle.mk_laws.proofs.Vocabulary.{Config, ImagePremises, ap, arith, false, false≢true, first_world, has_bit, sym, ℕ}
+use Rattle.mk_laws.proofs.Vocabulary.{Config, ImagePremises, ℕ, ap, arith, false, false≢true, first_world, has_bit, sym}
 use Rattle.mk_laws.proofs.Vocabulary.{◌*◌, ◌∙◌, ◌≡◌}
 use Rattle.mk_laws.proofs.Basics.{at_first}
 

@@ -2,7 +2,7 @@
 use Rattle.mk_laws.proofs.Vocabulary.{Among, AreApart, Bool, Caller, Cell, Claim, Config, Flight, HasHeader, HasZeros}
 use Rattle.mk_laws.proofs.Vocabulary.{ImagePremises, IsClaimedRun, IsOfOneCell, IsPlaceOfNone, IsQuarantined, IsShown}
 use Rattle.mk_laws.proofs.Vocabulary.{LayoutStands, List, MarksAreClosed, None, Object, Option, Place, PlacedAllocation}
-use Rattle.mk_laws.proofs.Vocabulary.{Placing, RunPages, RunStands, Some, Unmapping, Used, World, [], address_of}
+use Rattle.mk_laws.proofs.Vocabulary.{Placing, RunPages, RunStands, Some, Unmapping, Used, World, ℕ, address_of}
 use Rattle.mk_laws.proofs.Vocabulary.{all_below, all_below_more_is, all_below_zero_is, and_parts, ap, arith, base_made}
 use Rattle.mk_laws.proofs.Vocabulary.{cases_Bool, cell_of_allocation, cells_made, claim_of, claims_of, claims_placed}
 use Rattle.mk_laws.proofs.Vocabulary.{eq-eqb, eqb-true, false, flight_of, granted, granted_base_is, granted_object}
@@ -12,20 +12,17 @@ use Rattle.mk_laws.proofs.Vocabulary.{is_undecided_new, is_unmapping, kinds_of, 
 use Rattle.mk_laws.proofs.Vocabulary.{length, lt-ltb, mode_of, not, object_made, object_now, object_placed, pages_made}
 use Rattle.mk_laws.proofs.Vocabulary.{pages_some, phase_of, place_claim, placed_at, pointed_cell, refl}
 use Rattle.mk_laws.proofs.Vocabulary.{run_of_allocation, stands, subst, suc, sym, true, true≢false, typed_size}
-use Rattle.mk_laws.proofs.Vocabulary.{unmapped_header, zero, ℕ, ◌&&◌, ◌+◌, ◌/◌, ◌<◌, ◌==◌, ◌∙◌, ◌∷◌, ◌≡◌, ◌≢◌, ◌≤◌, ◌⊎◌}
-use Rattle.mk_laws.proofs.Claims.{claim_among, front, gone_front, claim_is}
-use Rattle.mk_core.specs.NewPlaces.{place_stands}
-use Rattle.mk_core.proofs.GrantedAllocations.{placed_headers, placed_stands}
-use Rattle.mk_core.proofs.PointedAllocations.{base_points}
+use Rattle.mk_laws.proofs.Vocabulary.{unmapped_header, zero, [], ◌&&◌, ◌+◌, ◌/◌, ◌<◌, ◌==◌, ◌∙◌, ◌∷◌, ◌≡◌, ◌≢◌, ◌≤◌}
+use Rattle.mk_laws.proofs.Vocabulary.{◌⊎◌}
+use Rattle.mk_core.{proofs.GrantedAllocations.placed_headers, proofs.GrantedAllocations.placed_stands}
+use Rattle.mk_core.{proofs.PointedAllocations.base_points, specs.NewPlaces.place_stands}
+use Rattle.mk_laws.proofs.Claims.{claim_among, claim_is, front, gone_front}
 use Rattle.mk_laws.proofs.LayoutHolders.{holding_object, new_has_turn, seat_operands}
+use Rattle.mk_laws.proofs.Released.{IsStanding, all_stand, place_index}
 use Rattle.mk_laws.proofs.Serving.{apart_across, apart_left, own_claim, placed_claim}
-use Rattle.mk_laws.proofs.Released.{all_stand, IsStanding, place_index}
-use Rattle.mk_laws.proofs.Unmapping.{shares_run}
-use Rattle.mk_laws.specs.ImagePremises.{IsFreedRun}
+use Rattle.mk_laws.proofs.{KnownWorlds.KnownWorld, TellImages.zeros_tell_the_images, Unmapping.shares_run}
+use Rattle.mk_laws.specs.{ImagePremises.IsFreedRun, RunGates.HoldsRunGates}
 use Rattle.mk_laws.specs.ImagePremises as images
-use Rattle.mk_laws.proofs.KnownWorlds.{KnownWorld}
-use Rattle.mk_laws.specs.RunGates.{HoldsRunGates}
-use Rattle.mk_laws.proofs.TellImages.{zeros_tell_the_images}
 
 -- Unreleased allocations of one cell are one.
 
@@ -46,8 +43,7 @@ numbers_apart c run (x ∷ xs) i j apart u v same =
     by gone zero zero u v same rest = refl
     by (inl r) zero (suc n) u v same rest = absurd (true≢false (sym r ∙ u))
     by (inl r) (suc m) zero u v same rest = absurd (true≢false (sym r ∙ v))
-    by (inl r) (suc m) (suc n) u v same rest =
-        ap (λ k. suc k) (rest (rw (gone_front c run x xs r) at apart) m n u v same)
+    by (inl r) (suc m) (suc n) u v same rest = ap suc (rest (rw (gone_front c run x xs r) at apart) m n u v same)
     by (inr t) zero (suc n) u v same rest =
         let ap2 : AreApart (claim_of c run x ∷ claims_of c run xs) = rw (front c run x xs t) at apart in
         absurd (ap2.0 _ (claim_among c run xs n v) same)
@@ -111,8 +107,7 @@ module _ (c : Config) (w : World) (known : KnownWorld c w) (laid : LayoutStands 
       let sj = standing j v in
       let one = base_points c w.now.words _ known.limits si.stands si.headers in
       let two = base_points c w.now.words _ known.limits sj.stands sj.headers in
-      let both : Some (cell_of_allocation c (placed_at xs i)) ≡ Some (cell_of_allocation c (placed_at xs j)) = sym one
-      ∙ ap (λ n. pointed_cell c.pages w.now.words.pages (address_of n)) same ∙ two in
+      let both = sym one ∙ ap (λ n. pointed_cell c.pages w.now.words.pages (address_of n)) same ∙ two in
       let cells : cell_of_allocation c (placed_at xs i) ≡ cell_of_allocation c (placed_at xs j) = cc in
       ne (numbers_apart c run xs i j (apart_left _ _ laid.scene.apart) u v
       (ap (λ (x : Cell). x.page) cells, ap (λ (x : Cell). x.index) cells))
@@ -120,18 +115,16 @@ module _ (c : Config) (w : World) (known : KnownWorld c w) (laid : LayoutStands 
   -- The run that the call frees
 
   pub run_of : (r : RunPages) → run ≡ Some r → IsClaimedRun (claims_of c run xs) r
-  run_of r e = subst (λ (x : Option RunPages). RunStands (claims_of c run xs) x) e laid.gone
+  run_of r e = subst (RunStands (claims_of c run xs)) e laid.gone
 
   freed_run : (r : RunPages) → run ≡ Some r → IsFreedRun c w r
   freed_run r e =
       let x = run_of r e in
       let n = claim_is c run xs x.claim x.among in
       let a : PlacedAllocation = placed_at xs n.number in
-      let gone : (a.freed && not (is_small_object (object_placed c a))) ≡ true =
-      mode_unmapping _ _ (ap (λ (y : Claim). y.mode) (sym n.is) ∙ x.mode) in
+      let gone = mode_unmapping _ _ (ap (λ (y : Claim). y.mode) (sym n.is) ∙ x.mode) in
       let page : r.page ≡ a.base / 64 = sym x.page ∙ ap (λ (y : Claim). y.page) n.is in
-      let count : r.count ≡ pages_made (object_placed c a) = sym x.count
-      ∙ ap (λ (y : Claim). pages_made y.object) n.is in
+      let count = sym x.count ∙ ap (λ (y : Claim). pages_made y.object) n.is in
       record {
         number = n.number;
         unreleased = n.unreleased;
@@ -161,20 +154,18 @@ module _ (c : Config) (w : World) (known : KnownWorld c w) (laid : LayoutStands 
             let same : x.claim ≡ claim_of c run a =
             shares_run (layout_scene_of c (object_now c w.now) (is_phase w.now.words 4) w.now.words.marks (ground_of w))
             (claim_of c run a) x.claim 0 0 laid.scene mine his large (omega arith) (omega arith) (omega arith) in
-            let count : r.count ≡ pages_made (object_placed c a) = sym x.count
-            ∙ ap (λ (y : Claim). pages_made y.object) same in
-            absurd (other (e ∙ ap (λ (y : RunPages). Some y) (ap (λ p. record { page = p; count = r.count }) there
+            let count = sym x.count ∙ ap (λ (y : Claim). pages_made y.object) same in
+            absurd (other (e ∙ ap Some (ap (λ p. record { page = p; count = r.count }) there
             ∙ ap (λ k. record { page = a.base / 64; count = k }) count)))
       ]
 
   pub laid_out : (i : ℕ) → (placed_at xs i).released ≡ false → images.IsLaidOut c w.now.words run (placed_at xs i)
   laid_out i u =
       let a : PlacedAllocation = placed_at xs i in
-      let s = standing i u in
       let gone : is_mapped c a ≡ not (a.freed && not (is_small_object (object_placed c a))) = gone_is c a u in
       record {
-        stands = s.stands;
-        headers = s.headers;
+        stands = (standing i u).stands;
+        headers = (standing i u).headers;
         mapped = λ m d lt. mode_mapped _ _ (object_placed c a) d _ (sym gone ∙ m) ((shown_claim i u).headers d lt);
         unmapped = λ m other d lt.
             let off : not (a.freed && not (is_small_object (object_placed c a))) ≡ false = sym gone ∙ m in
@@ -207,8 +198,7 @@ module _ (c : Config) (w : World) (known : KnownWorld c w) (laid : LayoutStands 
       let one = base_points c w.now.words a known.limits s.stands s.headers in
       let two = base_points c w.now.words b known.limits (placed_stands c b place known.limits typed v base cell pages)
       (placed_headers c w.now.words b place known.limits typed base cell stand) in
-      let both : Some (cell_of_allocation c a) ≡ Some (cell_of_allocation c b) =
-      sym one ∙ ap (λ n. pointed_cell c.pages w.now.words.pages (address_of n)) (same ∙ sym base) ∙ two in
+      let both = sym one ∙ ap (λ n. pointed_cell c.pages w.now.words.pages (address_of n)) (same ∙ sym base) ∙ two in
       let cells : cell_of_allocation c a ≡ cell_of_allocation c b = cc in
       let at = place_index c b place (typed_size c b known.limits typed) base cell in
       let among : Among (place_claim (object_now c w.now) place)

@@ -1,11 +1,9 @@
 -- What a `head` finds while a cycle marks, from what the layout says.
-use Rattle.std.proofs.Common.{option_and_then}
-use Rattle.std.proofs.lemmas.Nat.Bits.{bit_at_ones}
-use Rattle.std.proofs.Math.Bool.{or-true}
-use Rattle.mk_laws.proofs.Vocabulary.{Bool, Cell, Config, Flight, GuardPremises, HeadStep, Header, HeaderGoesOn}
+use Rattle.std.proofs.{Common.option_and_then, Math.Bool.or-true, lemmas.Nat.Bits.bit_at_ones}
+use Rattle.mk_laws.proofs.Vocabulary.{Bool, Cell, Config, Flight, GuardPremises, Header, HeaderGoesOn, HeadStep}
 use Rattle.mk_laws.proofs.Vocabulary.{IsMarking, IsSized, IsWithinLimits, ItCarves, ItEmpties, ItUnmaps, None, Object}
 use Rattle.mk_laws.proofs.Vocabulary.{OfBlock, OfLater, OfLeafBlock, OfLeafRun, OfRun, Op, Option, Place, RunPages}
-use Rattle.mk_laws.proofs.Vocabulary.{Seat, ShowsPart, Some, Words, World, [], and_parts, ap, arith, cases_Bool}
+use Rattle.mk_laws.proofs.Vocabulary.{Seat, ShowsPart, Some, Step, Words, World, ℕ, and_parts, ap, arith, cases_Bool}
 use Rattle.mk_laws.proofs.Vocabulary.{cases_eq, cell_at, cell_ends, cells_made, cells_of, cells_under, class_known}
 use Rattle.mk_laws.proofs.Vocabulary.{class_made, class_words_of, cond-false, cond-true, eq-eqb, eqb-true, false}
 use Rattle.mk_laws.proofs.Vocabulary.{fewer_bits, flight_of, has_bit, has_operands, head_step, header_at, header_in}
@@ -15,22 +13,16 @@ use Rattle.mk_laws.proofs.Vocabulary.{large_cells, large_count, large_words, lat
 use Rattle.mk_laws.proofs.Vocabulary.{nat_le, not-true, object_made, or_cases, page_at_address, pages_made, part_cells}
 use Rattle.mk_laws.proofs.Vocabulary.{part_head, part_not_free, part_words, phase_of, place_now, placed_now, refl}
 use Rattle.mk_laws.proofs.Vocabulary.{slice_index, small_cells, small_pages, small_words, subst, sym, true, true≢false}
-use Rattle.mk_laws.proofs.Vocabulary.{undecided_new, unmapped_header, unmapped_is_unmapped, words_made, words_under, ℕ}
+use Rattle.mk_laws.proofs.Vocabulary.{undecided_new, unmapped_header, unmapped_is_unmapped, words_made, words_under, []}
 use Rattle.mk_laws.proofs.Vocabulary.{◌*◌, ◌+◌, ◌-◌, ◌<◌, ◌==◌, ◌||◌, ◌∙◌, ◌≡◌, ◌⊎◌}
-use Rattle.mk_laws.proofs.Basics.{Known, Meets, either_phase, new_holds}
-use Rattle.mk_geom.specs.Addresses.{cell_under, word_at_address}
-use Rattle.mk_geom.proofs.ClassTable.{some_cells}
-use Rattle.mk_core.specs.declared.events.Step.TheVariants as step
-use Rattle.mk_core.specs.Calls.{has_type}
-use Rattle.mk_core.specs.NewPlaces.{bits_made}
+use Rattle.mk_geom.{proofs.ClassTable.some_cells, specs.Addresses.cell_under, specs.Addresses.word_at_address}
 use Rattle.mk_core.proofs.ObjectHeaders.{same_cells, same_words}
-use Rattle.mk_core.proofs.PlacesNow.{NewAtTurn}
-use Rattle.mk_core.proofs.PointedPages.{lies_under, found_under}
-use Rattle.mk_core.proofs.ServingSteps.{Carves}
-use Rattle.mk_core.proofs.PageSteps.{Unmaps}
-use Rattle.mk_core.proofs.WordBits.{without_none}
+use Rattle.mk_core.proofs.PointedPages.{found_under, lies_under}
+use Rattle.mk_core.proofs.{PageSteps.Unmaps, PlacesNow.NewAtTurn, ServingSteps.Carves, WordBits.without_none}
+use Rattle.mk_core.specs.{Calls.has_type, NewPlaces.bits_made}
+use Rattle.mk_laws.proofs.Basics.{Known, Meets, either_phase, new_holds}
+use Rattle.mk_laws.proofs.Headers.{Carved, HeadFinds, Unmapped}
 use Rattle.mk_laws.specs.Kept.{PlaceIsBare, RunHasObject}
-use Rattle.mk_laws.proofs.Headers.{HeadFinds, Carved, Unmapped}
 
 -- What an address on a page of a run points into: cell 0 of its first page.
 
@@ -115,8 +107,7 @@ made_bit o k lt = elim (cases_Bool (is_small_object o)) [
       let cells = small_cells o small in
       ap (λ n. has_bit n k) (cond-true _ _ 1 small) ∙ rw (bit_at_ones (cells_of (class_made o)) k (omega arith))
   | inr large ↦
-      let one = large_cells o large in
-      let zero : k ≡ 0 = omega arith in
+      let zero : k ≡ 0 = omega (arith, large_cells o large) in
       ap (λ n. has_bit n k) (cond-false _ _ 1 large) ∙ rw zero
 ]
 
@@ -142,8 +133,7 @@ made_cell pages o first distance value x sized lt on is = (page, index)
     small_index small =
         let one = small_pages o small in
         let zero : distance ≡ 0 = omega arith in
-        let cells : cells_under (header_of (header_made o distance)) ≡ cells_made o
-        = part_cells o (header_of (header_made o distance))
+        let cells = part_cells o (header_of (header_made o distance))
         (subst (λ d. ShowsPart o d (header_of (header_made o distance))) zero part) in
         let shown : cells_under (Some under.0) ≡ cells_made o = rw (← under.1) cells in
         let class = small_cells o small in
@@ -165,10 +155,9 @@ made_cell pages o first distance value x sized lt on is = (page, index)
     index = elim (cases_Bool (is_small_object o)) [
       | inl small ↦ small_index small
       | inr large ↦
-          let one = large_cells o large in
           let zero = run_index (is_heap_address pages value)
           (sym (run_cell_at pages (header_made o distance) value distance o part large) ∙ is) in
-          omega arith
+          omega (arith, large_cells o large)
     ]
 
 first_marked : (w : Words) (o : Object) (place : Place) (k : ℕ) → is_phase w 1 ≡ true → is_marked_first w o place ≡ true
@@ -242,8 +231,7 @@ carves_find c w o found p n sized one bare k = Carved free (λ v x on is.
           let product : j * words_under (header_of n) ≡ j * words_made o = ap (λ a. j * a) shown in
           let first : 64 * p + j * words_under (header_of n) + i ≡ 64 * k.place.page + (j * words_made o + i) =
           omega arith in
-          ap (λ m. slice_index w.heap m) first
-          ∙ b.words (subst (λ q. header_at w q ≡ 0) at free) (j * words_made o + i) within
+          ap (slice_index w.heap) first ∙ b.words (subst (λ q. header_at w q ≡ 0) at free) (j * words_made o + i) within
     ]
 
 -- The object of an undecided New has 1 to 4,096 words.
@@ -253,9 +241,8 @@ new_sized c f limits operands new = by f.op (undecided_new f new) operands
   where
     by : (o : Op) → NewAtTurn f.stage o → has_operands c o ≡ true → IsSized (object_made c o)
     by o at operands =
-        let typed = (and_parts _ (has_type c o) operands).1 in
         subst (λ (x : Op). IsSized (object_made c x)) (sym at.op) (limits.types at.ty []
-        (ltb-true at.ty _ (subst (λ (x : Op). has_type c x ≡ true) at.op typed))).0
+        (ltb-true at.ty _ (subst (λ (x : Op). has_type c x ≡ true) at.op (and_parts _ (has_type c o) operands).1))).0
 
 -- While a cycle marks, a `head` comes before the stop is wanted.
 marking_phase : (n : ℕ) → ((n == 0) || (n == 1) || (n == 4)) ≡ true → (n ≡ 1) ⊎ (n ≡ 2) → n ≡ 1
@@ -266,7 +253,7 @@ marking_phase n h (inr two) = elim (or_cases _ (n == 4) h) [
 ]
 
 pub head_finds : (c : Config) (w : World) (seat : Seat) (p n : ℕ) → IsWithinLimits c → Known c w.now
-    → IsMarking w.now.words → GuardPremises c w → Meets c w.now seat (step.Head p n) → HeadFinds c.pages w.now.words p n
+    → IsMarking w.now.words → GuardPremises c w → Meets c w.now seat (Step.Head p n) → HeadFinds c.pages w.now.words p n
 head_finds c w seat p n limits known early say h = by (head_step c w.now (flight_of w.now seat) p n h.holder)
   where
     one : phase_of w.now.words ≡ 1
@@ -276,7 +263,7 @@ head_finds c w seat p n limits known early say h = by (head_step c w.now (flight
         → IsSized (object_made c (flight_of w.now seat).op)
     new_has place now =
         let new = (placed_now c w.now (flight_of w.now seat) place now).new in
-        let own = new_holds c w.now seat (step.Head p n) h new in
+        let own = new_holds c w.now seat (Step.Head p n) h new in
         new_sized c (flight_of w.now seat) limits (rw own.2 (known.operands own.0)) new
 
     by : HeadStep c w.now (flight_of w.now seat) p n → HeadFinds c.pages w.now.words p n

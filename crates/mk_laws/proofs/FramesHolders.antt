@@ -1,11 +1,9 @@
 -- Who steps: the turn's holder, or a seat whose step no gate, phase or word of the turn's is asked for.
-use Rattle.mk_laws.proofs.Vocabulary.{Caller, Config, Flight, Holds, Marker, Moment, Seat, Step, ap, false, group_of}
-use Rattle.mk_laws.proofs.Vocabulary.{has_gates, has_phase, holder_may, is_of_turn, refl, sym, true, true≢false, ℕ, ◌∙◌}
-use Rattle.mk_laws.proofs.Vocabulary.{◌≡◌}
+use Rattle.mk_laws.proofs.Vocabulary.{Caller, Config, Flight, Group, Holds, Marker, Moment, Seat, Step, ℕ, ap, false}
+use Rattle.mk_laws.proofs.Vocabulary.{group_of, has_gates, has_phase, holder_may, is_of_turn, refl, sym, true}
+use Rattle.mk_laws.proofs.Vocabulary.{true≢false, ◌∙◌, ◌≡◌}
 use Rattle.mk_laws.proofs.Basics.{Actor, AsHolder, AsMarker, HoldsTurn, InCallOf, Orderly, is_holders, not_astray}
 use Rattle.mk_laws.proofs.Basics.{view_of}
-use Rattle.mk_core.specs.declared.events.Group.TheVariants as group
-use Rattle.mk_core.specs.declared.events.Step.TheVariants as step
 use Rattle.mk_laws.proofs.Standings.{in_turn_told, is_standing_under_turn}
 
 -- who holds the turn by what the protocol reads holds it by its call
@@ -16,14 +14,14 @@ holds_is c m _ o t = t
 
 -- A holder's kind of step is the holder's.
 
-calls_kind : (x : Step) → group_of x ≡ group.Callers → is_holders x ≡ false
-calls_kind (step.Take o) g = cc
-calls_kind step.Over g = cc
+calls_kind : (x : Step) → group_of x ≡ Group.Callers → is_holders x ≡ false
+calls_kind (Step.Take o) g = cc
+calls_kind Step.Over g = cc
 calls_kind x g = ap is_of_turn g
 
-markers_kind : (x : Step) → group_of x ≡ group.Markers → is_holders x ≡ false
-markers_kind (step.Take o) g = cc
-markers_kind step.Over g = cc
+markers_kind : (x : Step) → group_of x ≡ Group.Markers → is_holders x ≡ false
+markers_kind (Step.Take o) g = cc
+markers_kind Step.Over g = cc
 markers_kind x g = ap is_of_turn g
 
 pub acts_as_holder : (c : Config) (m : Moment) (seat : Seat) (x : Step) → Actor c m seat x → is_holders x ≡ true
@@ -39,29 +37,29 @@ pub record AsksNothing (c : Config) (m : Moment) (s : Seat) (f : Flight) (n : �
   pub phase : has_phase n x ≡ true
   pub holder : holder_may c m f x ≡ true
 
-call_asks_nothing : (c : Config) (m : Moment) (s : Seat) (f : Flight) (n : ℕ) (x : Step) → group_of x ≡ group.Callers
+call_asks_nothing : (c : Config) (m : Moment) (s : Seat) (f : Flight) (n : ℕ) (x : Step) → group_of x ≡ Group.Callers
     → AsksNothing c m s f n x
-call_asks_nothing c m s f n (step.Enter o) g = record { gates = refl; phase = refl; holder = refl }
-call_asks_nothing c m s f n step.Leave g = record { gates = refl; phase = refl; holder = refl }
-call_asks_nothing c m s f n step.Reg g = record { gates = refl; phase = refl; holder = refl }
-call_asks_nothing c m s f n step.Probe g = record { gates = refl; phase = refl; holder = refl }
-call_asks_nothing c m s f n step.Read g = record { gates = refl; phase = refl; holder = refl }
-call_asks_nothing c m s f n step.Write g = record { gates = refl; phase = refl; holder = refl }
-call_asks_nothing c m s f n step.Cas g = record { gates = refl; phase = refl; holder = refl }
-call_asks_nothing c m s f n step.Getg g = record { gates = refl; phase = refl; holder = refl }
-call_asks_nothing c m s f n step.Setg g = record { gates = refl; phase = refl; holder = refl }
-call_asks_nothing c m s f n step.Dirty g = record { gates = refl; phase = refl; holder = refl }
+call_asks_nothing c m s f n (Step.Enter o) g = record { gates = refl; phase = refl; holder = refl }
+call_asks_nothing c m s f n Step.Leave g = record { gates = refl; phase = refl; holder = refl }
+call_asks_nothing c m s f n Step.Reg g = record { gates = refl; phase = refl; holder = refl }
+call_asks_nothing c m s f n Step.Probe g = record { gates = refl; phase = refl; holder = refl }
+call_asks_nothing c m s f n Step.Read g = record { gates = refl; phase = refl; holder = refl }
+call_asks_nothing c m s f n Step.Write g = record { gates = refl; phase = refl; holder = refl }
+call_asks_nothing c m s f n Step.Cas g = record { gates = refl; phase = refl; holder = refl }
+call_asks_nothing c m s f n Step.Getg g = record { gates = refl; phase = refl; holder = refl }
+call_asks_nothing c m s f n Step.Setg g = record { gates = refl; phase = refl; holder = refl }
+call_asks_nothing c m s f n Step.Dirty g = record { gates = refl; phase = refl; holder = refl }
 call_asks_nothing c m s f n _ g = cc
 
-marker_asks_nothing : (c : Config) (m : Moment) (s : Seat) (f : Flight) (n : ℕ) (x : Step) → group_of x ≡ group.Markers
+marker_asks_nothing : (c : Config) (m : Moment) (s : Seat) (f : Flight) (n : ℕ) (x : Step) → group_of x ≡ Group.Markers
     → AsksNothing c m s f n x
-marker_asks_nothing c m s f n step.Attend g = record { gates = refl; phase = refl; holder = refl }
-marker_asks_nothing c m s f n step.Quit g = record { gates = refl; phase = refl; holder = refl }
-marker_asks_nothing c m s f n (step.Mlook w) g = record { gates = refl; phase = refl; holder = refl }
-marker_asks_nothing c m s f n (step.Claim p i) g = record { gates = refl; phase = refl; holder = refl }
-marker_asks_nothing c m s f n step.Mload g = record { gates = refl; phase = refl; holder = refl }
-marker_asks_nothing c m s f n step.Mmark g = record { gates = refl; phase = refl; holder = refl }
-marker_asks_nothing c m s f n step.Mblack g = record { gates = refl; phase = refl; holder = refl }
+marker_asks_nothing c m s f n Step.Attend g = record { gates = refl; phase = refl; holder = refl }
+marker_asks_nothing c m s f n Step.Quit g = record { gates = refl; phase = refl; holder = refl }
+marker_asks_nothing c m s f n (Step.Mlook w) g = record { gates = refl; phase = refl; holder = refl }
+marker_asks_nothing c m s f n (Step.Claim p i) g = record { gates = refl; phase = refl; holder = refl }
+marker_asks_nothing c m s f n Step.Mload g = record { gates = refl; phase = refl; holder = refl }
+marker_asks_nothing c m s f n Step.Mmark g = record { gates = refl; phase = refl; holder = refl }
+marker_asks_nothing c m s f n Step.Mblack g = record { gates = refl; phase = refl; holder = refl }
 marker_asks_nothing c m s f n _ g = cc
 
 -- A step is its holder's, or nothing is asked for it, at whatever moment.

@@ -1,43 +1,33 @@
 -- The law on longer lists.
 use Rattle.mk_laws.proofs.Vocabulary.{Answer, AreAdmitted, AreOfOthers, Bool, Caller, Cell, Config, Event, Flight}
 use Rattle.mk_laws.proofs.Vocabulary.{Holds, IsEnabled, IsHistory, IsInCall, IsLeft, IsTidy, List, Moment, None, Op}
-use Rattle.mk_laws.proofs.Vocabulary.{Option, Seat, Some, Steady, Step, TalliesAreTidy, TurnIsLeft, Word, Words, World}
-use Rattle.mk_laws.proofs.Vocabulary.{[], answer_decided, ap, asked, begun, call_decided, cases_Bool, cell_freed}
+use Rattle.mk_laws.proofs.Vocabulary.{Option, Seat, Some, Stage, Steady, Step, TalliesAreTidy, TurnIsLeft, Word, Words}
+use Rattle.mk_laws.proofs.Vocabulary.{World, ℕ, answer_decided, ap, asked, begun, call_decided, cases_Bool, cell_freed}
 use Rattle.mk_laws.proofs.Vocabulary.{decided, enabled_meets, entry_of, false, flight_of, found, frees, header_in}
 use Rattle.mk_laws.proofs.Vocabulary.{header_of, if◌then◌else◌, in_a_word, inl, inr, is_some, is_unmapped_header, left}
 use Rattle.mk_laws.proofs.Vocabulary.{ltb-true, never_behind, not, onward, page_met, progress, progress_freed}
 use Rattle.mk_laws.proofs.Vocabulary.{progress_read, progress_reg, q_of, refl, refused, sees_double, still, subst, sym}
-use Rattle.mk_laws.proofs.Vocabulary.{target, true, word_accessed, ℕ, ◌&&◌, ◌++◌, ◌<◌, ◌==◌, ◌∙◌, ◌∷◌, ◌≡◌}
+use Rattle.mk_laws.proofs.Vocabulary.{target, true, word_accessed, [], ◌&&◌, ◌++◌, ◌<◌, ◌==◌, ◌∙◌, ◌∷◌, ◌≡◌}
+use Rattle.mk_core.specs.{Counts.releases, Effects.begins_where_free, Frames.CountsAreLeft, LongerLists.LongerListsGoOn}
 use Rattle.mk_laws.proofs.Basics.{InCall, Meets, actor_of, at_its_stage, calls_stand, in_call_told, is_call_stage}
 use Rattle.mk_laws.proofs.Basics.{is_holders, not_astray, operands_of, register_small, standing}
-use Rattle.mk_never.specs.declared.operations.Op.TheVariants as op
-use Rattle.mk_core.specs.declared.events.Answer.TheVariants as answer
-use Rattle.mk_core.specs.declared.events.Step.TheVariants as step
-use Rattle.mk_core.specs.Effects.{begins_where_free}
-use Rattle.mk_core.specs.declared.seats.Stage.TheVariants as stage
-use Rattle.mk_laws.proofs.Reaching.{others_leave_accesses, events_reach_the_table}
-use Rattle.mk_laws.proofs.Standings.{is_standing_in_call}
-use Rattle.mk_laws.proofs.CallSorts.{admitted_call, call_outside}
-use Rattle.mk_laws.proofs.AdmittedStill.{call_on}
-use Rattle.mk_laws.proofs.EnabledStill.{before, left_to, enabled_still}
-use Rattle.mk_laws.proofs.FramesHolders.{acts_as_holder, holds_is}
-use Rattle.mk_laws.proofs.LastEvents.{Stands, stands, comes_last, goes_on_by}
-use Rattle.mk_laws.proofs.OtherCalls.{never_continues, registers_are_left}
-use Rattle.mk_laws.proofs.ProbesStill.{probe_still}
-use Rattle.mk_core.specs.Counts.{releases}
-use Rattle.mk_core.specs.Frames.{CountsAreLeft}
-use Rattle.mk_core.specs.LongerLists.{LongerListsGoOn}
+use Rattle.mk_laws.proofs.EnabledStill.{before, enabled_still, left_to}
+use Rattle.mk_laws.proofs.LastEvents.{Stands, comes_last, goes_on_by, stands}
+use Rattle.mk_laws.proofs.Reaching.{events_reach_the_table, others_leave_accesses}
+use Rattle.mk_laws.proofs.{AdmittedStill.call_on, CallSorts.admitted_call, CallSorts.call_outside}
+use Rattle.mk_laws.proofs.{FramesHolders.acts_as_holder, FramesHolders.holds_is, OtherCalls.never_continues}
+use Rattle.mk_laws.proofs.{OtherCalls.registers_are_left, ProbesStill.probe_still, Standings.is_standing_in_call}
 
 -- What a step asks of the heap that never reuses storage it asks after a longer list too: what it finds may differ,
 -- and so the answer, but not whether it decides, nor what for.
 
 -- What two moments have in common where the answer reads it: an own register, whether a page is unmapped, the target.
 pub record SeesTheSame (c : Config) (m n : Moment) (f : Flight) (found find : ℕ) (x : Step) : Type 0 where
-  pub reg : x ≡ step.Reg → find ≡ found
-  pub probe : x ≡ step.Probe → is_unmapped_header (header_of find) ≡ is_unmapped_header (header_of found)
-  pub look : (y : Word) → x ≡ step.Look y
+  pub reg : x ≡ Step.Reg → find ≡ found
+  pub probe : x ≡ Step.Probe → is_unmapped_header (header_of find) ≡ is_unmapped_header (header_of found)
+  pub look : (y : Word) → x ≡ Step.Look y
       → sees_double n.words (target c.pages n.words f) y ≡ sees_double m.words (target c.pages m.words f) y
-  pub quar : (p v : ℕ) → x ≡ step.Quar p v → cell_freed c.pages n.words f p v ≡ cell_freed c.pages m.words f p v
+  pub quar : (p v : ℕ) → x ≡ Step.Quar p v → cell_freed c.pages n.words f p v ≡ cell_freed c.pages m.words f p v
 
 pub begins_nothing : (f : Flight) (o : Op) (n : ℕ) → (begins_where_free f o n).answer ≡ None
 begins_nothing f o n = by (n == 0)
@@ -47,38 +37,38 @@ begins_nothing f o n = by (n == 0)
     by false = refl
 
 numbered : (k : ℕ) (o : Op) (x y : ℕ)
-    → asked (entry_of k o (Some (answer.Num x))) ≡ asked (entry_of k o (Some (answer.Num y)))
-numbered k (op.New d ty full) x y = refl
+    → asked (entry_of k o (Some (Answer.Num x))) ≡ asked (entry_of k o (Some (Answer.Num y)))
+numbered k (Op.New d ty full) x y = refl
 numbered k _ x y = refl
 
 worded : (k : ℕ) (o : Op) (x y : ℕ)
-    → asked (entry_of k o (Some (answer.Word x))) ≡ asked (entry_of k o (Some (answer.Word y)))
-worded k (op.New d ty full) x y = refl
+    → asked (entry_of k o (Some (Answer.Word x))) ≡ asked (entry_of k o (Some (Answer.Word y)))
+worded k (Op.New d ty full) x y = refl
 worded k _ x y = refl
 
 read_asked : (k : ℕ) (f : Flight) (o : Op) (x y : ℕ)
     → asked (entry_of k o (progress_read f o x).answer) ≡ asked (entry_of k o (progress_read f o y).answer)
-read_asked k f (op.GetPtr d q i) x y = refl
+read_asked k f (Op.GetPtr d q i) x y = refl
 read_asked k f _ x y = cc
 
 pub asked_the_same : (c : Config) (m n : Moment) (k : ℕ) (f : Flight) (found find : ℕ) (x : Step)
     → SeesTheSame c m n f found find x
     → asked (entry_of k f.op (progress c n f find x).answer) ≡ asked (entry_of k f.op (progress c m f found x).answer)
-asked_the_same c m n k f found find (step.Enter o) s =
+asked_the_same c m n k f found find (Step.Enter o) s =
     ap (λ (a : Option Answer). asked (entry_of k f.op a)) (begins_nothing f o find ∙ sym (begins_nothing f o found))
-asked_the_same c m n k f found find (step.Take (Some o)) s =
+asked_the_same c m n k f found find (Step.Take (Some o)) s =
     ap (λ (a : Option Answer). asked (entry_of k f.op a)) (begins_nothing f o find ∙ sym (begins_nothing f o found))
-asked_the_same c m n k f found find step.Reg s =
+asked_the_same c m n k f found find Step.Reg s =
     ap (λ i. asked (entry_of k f.op (progress_reg f f.stage i).answer)) (s.reg refl)
-asked_the_same c m n k f found find step.Probe s =
-    ap (λ (b : Bool). asked (entry_of k f.op (if b then refused f answer.Fault else onward f None).answer))
+asked_the_same c m n k f found find Step.Probe s =
+    ap (λ (b : Bool). asked (entry_of k f.op (if b then refused f Answer.Fault else onward f None).answer))
     (s.probe refl)
-asked_the_same c m n k f found find step.Read s = read_asked k f f.op find found
-asked_the_same c m n k f found find step.Cas s = numbered k f.op _ _
-asked_the_same c m n k f found find step.Getg s = worded k f.op find found
-asked_the_same c m n k f found find (step.Look y) s =
-    ap (λ (b : Bool). asked (entry_of k f.op (if b then decided f answer.Double else still f).answer)) (s.look y refl)
-asked_the_same c m n k f found find (step.Quar p v) s =
+asked_the_same c m n k f found find Step.Read s = read_asked k f f.op find found
+asked_the_same c m n k f found find Step.Cas s = numbered k f.op _ _
+asked_the_same c m n k f found find Step.Getg s = worded k f.op find found
+asked_the_same c m n k f found find (Step.Look y) s =
+    ap (λ (b : Bool). asked (entry_of k f.op (if b then decided f Answer.Double else still f).answer)) (s.look y refl)
+asked_the_same c m n k f found find (Step.Quar p v) s =
     ap (λ (o : Option Cell). asked (entry_of k f.op (progress_freed f o).answer)) (s.quar p v refl)
 asked_the_same c m n k f found find _ s = refl
 
@@ -129,55 +119,55 @@ module _ (c : Config) (es more : List Event) (k : ℕ) (x : Step) (h : IsHistory
   same_word = (others_leave_accesses c es more (of_caller k x) h.within_limits h.enabled others on).word
 
   -- An own register shows what it did.
-  finds_register : x ≡ step.Reg → found c v.now (of_caller k x) ≡ found c w.now (of_caller k x)
+  finds_register : x ≡ Step.Reg → found c v.now (of_caller k x) ≡ found c w.now (of_caller k x)
   finds_register is = rw same_word (rw is (kept.own.registers k _ refl
       (register_small f f.stage (operands_of c f.op (here.known.now.operands k)))))
 
   -- A page shows the call whether it is unmapped, as it did.
 
-  at_probe : x ≡ step.Probe → f.stage ≡ stage.Probe
-  at_probe is = at_its_stage f.stage f.op step.Probe refl (rw is at meets).order
+  at_probe : x ≡ Step.Probe → f.stage ≡ Stage.Probe
+  at_probe is = at_its_stage f.stage f.op Step.Probe refl (rw is at meets).order
 
-  in_call : x ≡ step.Probe → standing f ≡ InCall
+  in_call : x ≡ Step.Probe → standing f ≡ InCall
   in_call is = calls_stand f.stage f.op (ap is_call_stage (at_probe is))
       (not_astray c w.now here.known.now.orderly k lt)
 
-  is_in : x ≡ step.Probe → IsInCall w.now (Caller k)
+  is_in : x ≡ Step.Probe → IsInCall w.now (Caller k)
   is_in is = sym (in_call_told f.stage f.op (not_astray c w.now here.known.now.orderly k lt))
       ∙ ap is_standing_in_call (in_call is)
 
-  pub probes_the_same : x ≡ step.Probe → probed v.now.words f ≡ probed w.now.words f
+  pub probes_the_same : x ≡ Step.Probe → probed v.now.words f ≡ probed w.now.words f
   probes_the_same is = elim (cases_Bool (probed w.now.words f)) [
     | inr mapped ↦ (kept.in_call k refl (is_in is)).mapped (page_met f) mapped ∙ sym mapped
     | inl unmapped ↦
         let out = call_outside f.op f.stage (ap is_call_stage (at_probe is))
         (not_astray c w.now here.known.now.orderly k lt) in
-        let decides : AreAdmitted c.globals (never_behind c es) (asked (entry_of k f.op (Some answer.Fault))) =
+        let decides : AreAdmitted c.globals (never_behind c es) (asked (entry_of k f.op (Some Answer.Fault))) =
         subst (λ (b : Bool). AreAdmitted c.globals (never_behind c es)
-        (asked (entry_of k f.op (if b then refused f answer.Fault else onward f None).answer))) unmapped
+        (asked (entry_of k f.op (if b then refused f Answer.Fault else onward f None).answer))) unmapped
         (subst (λ (s : Step). AreAdmitted c.globals (never_behind c es) (asked (call_decided c w.now (of_caller k s))))
         is admitted) in
         let register =
         registers_are_left c es more k h others (q_of f.op) (operands_of c f.op (here.known.now.operands k)).q in
         probe_still c w v _ _ here.known there.known here.all there.all k lt kept.own.flight (at_probe is)
-        (never_continues c es more) register (admitted_call c.globals _ k f.op answer.Fault out decides) unmapped
+        (never_continues c es more) register (admitted_call c.globals _ k f.op Answer.Fault out decides) unmapped
         ∙ sym unmapped
   ]
 
-  finds_header : x ≡ step.Probe → is_unmapped_header (header_of (found c v.now (of_caller k x)))
+  finds_header : x ≡ Step.Probe → is_unmapped_header (header_of (found c v.now (of_caller k x)))
       ≡ is_unmapped_header (header_of (found c w.now (of_caller k x)))
   finds_header is = rw same_word (rw is (probes_the_same is))
 
   -- The turn's holder sees the same freed bits and target.
 
-  sees_freed : (y : Word) → x ≡ step.Look y
+  sees_freed : (y : Word) → x ≡ Step.Look y
       → sees_double v.now.words (target c.pages v.now.words f) y ≡ sees_double w.now.words
       (target c.pages w.now.words f) y
   sees_freed y is = ap (λ (s : Steady). sees_double (record w.now.words { pages = s.pages; freed = s.freed })
       (target c.pages (record w.now.words { pages = s.pages; freed = s.freed }) f) y)
       (kept.turn (holding (ap is_holders is))).0.steady
 
-  frees_the_same : (p n : ℕ) → x ≡ step.Quar p n
+  frees_the_same : (p n : ℕ) → x ≡ Step.Quar p n
       → cell_freed c.pages v.now.words f p n ≡ cell_freed c.pages w.now.words f p n
   frees_the_same p n is = ap (λ (s : Steady). if not (s.phase == 4)
       && frees (record w.now.words { pages = s.pages; freed = s.freed; snapshot = s.snapshot })
@@ -197,13 +187,13 @@ module _ (c : Config) (es more : List Event) (k : ℕ) (x : Step) (h : IsHistory
       (registers_are_left c es more k h others) here.all.mirrors.typed f.op _ admitted)
 
   -- whether a `probe` decides
-  pub caller_decides_the_same : x ≡ step.Probe
+  pub caller_decides_the_same : x ≡ Step.Probe
       → is_some (answer_decided c v.now (of_caller k x)) ≡ is_some (answer_decided c w.now (of_caller k x))
   caller_decides_the_same is = subst (λ (s : Step). is_some (answer_decided c v.now (of_caller k s))
       ≡ is_some (answer_decided c w.now (of_caller k s))) (sym is)
-      (ap (λ (g : Flight). is_some (if probed v.now.words g then refused g answer.Fault else onward g
+      (ap (λ (g : Flight). is_some (if probed v.now.words g then refused g Answer.Fault else onward g
       None).answer) kept.own.flight
-      ∙ ap (λ (b : Bool). is_some (if b then refused f answer.Fault else onward f None).answer) (probes_the_same is))
+      ∙ ap (λ (b : Bool). is_some (if b then refused f Answer.Fault else onward f None).answer) (probes_the_same is))
 
 pub still_admitted : (c : Config) (es more : List Event) (seat : Seat) (x : Step) → IsHistory c (es ++ more)
     → AreOfOthers (seat ∷ []) more → IsEnabled c (left c es).now (record { seat = seat; step = x })
@@ -217,7 +207,7 @@ still_admitted c es more _ x h others on admitted = tt
 pub still_decides : (c : Config) (es more : List Event) (seat : Seat) (x : Step) → IsHistory c (es ++ more)
     → AreOfOthers (seat ∷ []) more → IsEnabled c (left c es).now (record { seat = seat; step = x })
     → AreAdmitted c.globals (never_behind c es)
-    (asked (call_decided c (left c es).now (record { seat = seat; step = x }))) → x ≡ step.Probe
+    (asked (call_decided c (left c es).now (record { seat = seat; step = x }))) → x ≡ Step.Probe
     → is_some (answer_decided c (left c (es ++ more)).now (record { seat = seat; step = x }))
     ≡ is_some (answer_decided c (left c es).now (record { seat = seat; step = x }))
 still_decides c es more (Caller k) x h others on admitted is =
@@ -257,7 +247,7 @@ tallies_on c es fs kept counts tidy =
     }
 
 -- The tallies are as they should be before each `give` of the longer list, and before the event where it is one.
-pub tidy_by_last : (c : Config) (xs : List Event) (e : Event) → IsTidy c xs → (e.step ≡ step.Give → TalliesAreTidy c xs)
+pub tidy_by_last : (c : Config) (xs : List Event) (e : Event) → IsTidy c xs → (e.step ≡ Step.Give → TalliesAreTidy c xs)
     → IsTidy c (xs ++ e ∷ [])
 tidy_by_last c xs e tidy last before x behind is give = by (splits_last xs e before x behind is)
   where
@@ -267,7 +257,7 @@ tidy_by_last c xs e tidy last before x behind is give = by (splits_last xs e bef
 
 -- A `give` finds the tallies as its seat has found them.
 give_finds : (c : Config) (es more : List Event) (e : Event) → IsHistory c (es ++ e ∷ []) → IsHistory c (es ++ more)
-    → AreOfOthers (e.seat ∷ []) more → IsTidy c (es ++ e ∷ []) → e.step ≡ step.Give → TalliesAreTidy c (es ++ more)
+    → AreOfOthers (e.seat ∷ []) more → IsTidy c (es ++ e ∷ []) → e.step ≡ Step.Give → TalliesAreTidy c (es ++ more)
 give_finds c es more e one h others tidy give =
     let last = comes_last c es e one in
     let orderly = (stands c es last.before).known.now.orderly in

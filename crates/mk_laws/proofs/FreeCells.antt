@@ -1,21 +1,19 @@
 -- The words of a cell in which no unreleased allocation stands, and those after a page's cells, are of none.
-use Rattle.std.proofs.Common.{le_refl}
-use Rattle.std.proofs.lemmas.Bool.{cases_order}
+use Rattle.std.proofs.{Common.le_refl, lemmas.Bool.cases_order}
 use Rattle.mk_laws.proofs.Vocabulary.{BeginsAtCell, Block, Bool, Cell, Config, Free, Header, Invariant, IsSized}
 use Rattle.mk_laws.proofs.Vocabulary.{IsTaken, Later, LeafBlock, LeafRun, Leaves, NeverState, None, Object, OfBlock}
 use Rattle.mk_laws.proofs.Vocabulary.{OfHistories, OfLater, OfLeafBlock, OfLeafRun, OfRun, Option, PlacedAllocation}
-use Rattle.mk_laws.proofs.Vocabulary.{Run, ShowsPart, Some, Words, World, all_below_more_is, all_below_zero_is}
+use Rattle.mk_laws.proofs.Vocabulary.{Run, ShowsPart, Some, Words, World, ℕ, all_below_more_is, all_below_zero_is}
 use Rattle.mk_laws.proofs.Vocabulary.{and_from, ap, arith, cases_eq, cell_ends, cell_words, cells_of, cells_under}
 use Rattle.mk_laws.proofs.Vocabulary.{class_made, class_words_of, eq-eqb, first_word, header_at, header_in}
 use Rattle.mk_laws.proofs.Vocabulary.{header_shows, heads_run, inl, inr, is_small_object, later_cells, mul-le, not}
 use Rattle.mk_laws.proofs.Vocabulary.{object_placed, pages_made, part_not_free, part_words, phase_of, placed_at, refl}
 use Rattle.mk_laws.proofs.Vocabulary.{run_begins, run_count, shown_later, slice_index, small_cells, small_words, subst}
-use Rattle.mk_laws.proofs.Vocabulary.{suc, sym, true, typed_size, words_are_zero, words_made, words_under, zero, ℕ, ◌%◌}
+use Rattle.mk_laws.proofs.Vocabulary.{suc, sym, true, typed_size, words_are_zero, words_made, words_under, zero, ◌%◌}
 use Rattle.mk_laws.proofs.Vocabulary.{◌*◌, ◌+◌, ◌-◌, ◌/◌, ◌<◌, ◌==◌, ◌∙◌, ◌≡◌, ◌≢◌, ◌≤◌, ◌⊎◌}
-use Rattle.mk_laws.proofs.Basics.{KnownWorld, ends_on_pages}
-use Rattle.mk_laws.proofs.ForImages.{standing}
-use Rattle.mk_laws.specs.FreeWords.{FreeCellsAreZero, WordsBehindCellsAreZero, words_in_cells}
 use Rattle.mk_laws.proofs.FreeWords.{IsOfOne, of_one, of_worlds}
+use Rattle.mk_laws.proofs.{Basics.KnownWorld, Basics.ends_on_pages, ForImages.standing}
+use Rattle.mk_laws.specs.FreeWords.{FreeCellsAreZero, WordsBehindCellsAreZero, words_in_cells}
 
 -- A number is in one of equal parts alone.
 one_part : (size i j n : ℕ) → i * size ≤ n → n < i * size + size → j * size ≤ n → n < j * size + size → i ≡ j
@@ -86,13 +84,10 @@ is_free_or_later (inr free) = inr free.0
 run_begins_there : (w : Words) (o : Object) (base n p d : ℕ) → OnPage w o base n → n / 64 ≡ p + d → 1 ≤ d
     → ((mapped : Bool) × (header_in w (p + d) ≡ Some (Later d mapped))) ⊎ (header_at w (p + d) ≡ 0) → base ≡ 64 * p
 run_begins_there w o base n p d x at some (inr free) =
-    absurd (part_not_free o x.distance _ x.part (ap (λ q. header_at w q) at ∙ free))
+    absurd (part_not_free o x.distance _ x.part (ap (header_at w) at ∙ free))
 run_begins_there w o base n p d x at some (inl later) =
-    let is = shown_later o x.distance d later.0 _ x.part (ap (λ q. header_in w q) at ∙ later.1) in
-    let same = is.0 in
-    let page = x.page in
-    let aligned = (run_begins o base is.2 x.begins).1 in
-    omega arith
+    let is = shown_later o x.distance d later.0 _ x.part (ap (header_in w) at ∙ later.1) in
+    omega (arith, is.0, x.page, (run_begins o base is.2 x.begins).1)
 
 -- A small object's words end with its page's cells.
 small_within : (o : Object) (base n : ℕ) (b : BeginsAtCell o base) → is_small_object o ≡ true → n / 64 ≡ base / 64
@@ -101,10 +96,8 @@ small_within o base n b small at to =
     let known : b.index < cells_of (class_made o) = subst (λ k. b.index < k) (small_cells o small) b.known in
     let words = small_words o small in
     let size : b.index * words_made o ≡ b.index * class_words_of (class_made o) = ap (λ k. b.index * k) words in
-    let base_is = base_on_page o base b in
     let size_of : ℕ = class_words_of (class_made o) in
-    let most = mul-le (suc b.index) size_of _ size_of known (le_refl size_of) in
-    omega arith
+    omega (arith, base_on_page o base b, mul-le (suc b.index) size_of _ size_of known (le_refl size_of))
 
 -- What shows a page of an object has the object's words there within its cells.
 within_cells : (o : Object) (distance base n : ℕ) (x : Option Header) → ShowsPart o distance x
@@ -144,11 +137,10 @@ module _ (c : Config) (w : World) (n : NeverState) (known : KnownWorld c w) (all
   taken_by : (cell : Cell) (x : ℕ) (one : IsOfOne c w x) → cell.index < cells_under (header_in w.now.words cell.page)
       → (placed_at w.allocations one.number).base ≡ first_word w.now.words cell → IsTaken w cell
   taken_by cell x one lt first =
-      let a : PlacedAllocation = placed_at w.allocations one.number in
       record {
         number = one.number;
         in_range = lt;
-        stands = and_from _ _ (ap not one.unreleased) (eq-eqb a.base _ first);
+        stands = and_from _ _ (ap not one.unreleased) (eq-eqb (placed_at w.allocations one.number).base _ first);
       }
 
   -- What has a word of a run begins where the run does.
@@ -211,8 +203,7 @@ module _ (c : Config) (w : World) (n : NeverState) (known : KnownWorld c w) (all
         let a : PlacedAllocation = placed_at w.allocations one.number in
         let on = on_page x one in
         let shown : Option Header = header_in w.now.words (x / 64) in
-        let lt = within_cells _ on.distance a.base x shown on.part on.begins (sym on.page) on.to in
-        absurd (omega arith)
+        absurd (omega (arith, within_cells _ on.distance a.base x shown on.part on.begins (sym on.page) on.to))
   ]
 
   free_cells : FreeCellsAreZero c w

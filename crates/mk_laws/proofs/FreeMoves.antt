@@ -1,20 +1,19 @@
 -- What a Free frees, and the answer Double.
 use Rattle.mk_laws.proofs.Vocabulary.{Bool, Cell, Config, Flight, ImagePremises, IsSafe, IsSound, LeavesPlaces, List}
 use Rattle.mk_laws.proofs.Vocabulary.{Mirrors, NeverAllocation, NeverState, None, Null, Num, Op, Option}
-use Rattle.mk_laws.proofs.Vocabulary.{PlacedAllocation, Ptr, Some, Value, Words, World, [], address_of, after_free}
+use Rattle.mk_laws.proofs.Vocabulary.{PlacedAllocation, Ptr, Some, Value, Words, World, ℕ, address_of, after_free}
 use Rattle.mk_laws.proofs.Vocabulary.{allocation_at, and_from, and_parts, ap, arith, bases_of, cases_Bool, cases_eq}
 use Rattle.mk_laws.proofs.Vocabulary.{cell_of_allocation, changed_at, eq-eqb, eqb-true, false, false≢true, first_word}
 use Rattle.mk_laws.proofs.Vocabulary.{flight_among, freed_leaves, freed_released, freed_where_it_stands, if◌then◌else◌}
 use Rattle.mk_laws.proofs.Vocabulary.{image_of, image_scene_of, inl, inr, is_freed, is_past_probe, is_put}
 use Rattle.mk_laws.proofs.Vocabulary.{is_released_cell, is_run_cell, length-map, map, nat_lt, no_allocation, not}
 use Rattle.mk_laws.proofs.Vocabulary.{not-true, placed_at, pointed_cell, refl, set-get_or, slice_set, stands_in, subst}
-use Rattle.mk_laws.proofs.Vocabulary.{sym, true, with_freed as never_freed, ℕ, ◌+◌, ◌==◌, ◌∙◌, ◌∷◌, ◌≡◌, ◌≢◌}
+use Rattle.mk_laws.proofs.Vocabulary.{sym, true, with_freed as never_freed, [], ◌+◌, ◌==◌, ◌∙◌, ◌∷◌, ◌≡◌, ◌≢◌}
+use Rattle.mk_never.specs.{NeverHeap.free_reply, declared.operations.Reply.Reply}
 use Rattle.mk_laws.proofs.Basics.{Frees, KnownWorld, Move, Ready, Stands, base_at, exists_placed, goes_bare}
 use Rattle.mk_laws.proofs.Basics.{pointed_word, words_fit}
-use Rattle.mk_laws.proofs.ImagesMoves.{SamePlaces, is_bare, Decides}
-use Rattle.mk_never.specs.declared.operations.Reply.TheVariants as reply
-use Rattle.mk_never.specs.NeverHeap.{free_reply}
-use Rattle.mk_laws.proofs.ImagesBefore.{words_are, first_in}
+use Rattle.mk_laws.proofs.ImagesMoves.{Decides, SamePlaces, is_bare}
+use Rattle.mk_laws.proofs.ImagesBefore.{first_in, words_are}
 
 -- Allocations that change one by one, and stay at their places.
 
@@ -51,10 +50,9 @@ module _ (c : Config) (w : World) (n : NeverState) (known : KnownWorld c w) (mir
       → pointed_cell c.pages w.now.words.pages p ≡ Some (cell_of_allocation c (placed a))
   pointer_cell a t o p sound is e =
       let u = ready.set.unreleased a is in
-      let inside = pointed_word c.globals safe (image_scene_of w) n ready a t o sound in
       let fits = words_fit c w n known mirrors a (exists_placed w.allocations a u) in
       ap (pointed_cell c.pages w.now.words.pages) (e ∙ ap (λ b. address_of (b + o)) (base_at w.allocations a))
-      ∙ st.cell a o u (omega arith)
+      ∙ st.cell a o u (omega (arith, pointed_word c.globals safe (image_scene_of w) n ready a t o sound))
 
   -- an allocation with the same first word is the same
   same_first : (a b : ℕ) → (placed a).released ≡ false → (placed b).released ≡ false
@@ -69,7 +67,7 @@ module _ (c : Config) (w : World) (n : NeverState) (known : KnownWorld c w) (mir
       (record (image_scene_of w) {
         flights = slice_set w.now.seats.flights k f;
         allocations = map (freed_where_it_stands w.now.words (Some cell)) w.allocations;
-      }) (after_free n v) × (free_reply n v ≡ reply.Done)
+      }) (after_free n v) × (free_reply n v ≡ Reply.Done)
   free_by others k o f p cell Null at sound is e ne points not_freed quiet = absurd (ne e)
   free_by others k o f p cell (Num m) at sound is e ne points not_freed quiet = absurd sound
   free_by others k o f p cell (Ptr a t x) at sound is e ne points not_freed quiet =
@@ -99,7 +97,7 @@ module _ (c : Config) (w : World) (n : NeverState) (known : KnownWorld c w) (mir
             (eq-eqb (placed a).base (first_word w.now.words cell) (sym first))))
             (λ un. quiet (ap (is_run_cell w.now.words) cells
             ∙ st.run a u (ap (λ l. nat_lt 32 l) (sym (words_are c w n known mirrors a lt)) ∙ un))),
-        ap (λ b. if b then reply.Double else reply.Done) (sym (mirrors.twins.freed a lt) ∙ its),
+        ap (λ b. if b then Reply.Double else Reply.Done) (sym (mirrors.twins.freed a lt) ∙ its),
       )
     where
       apart_from : (b a : ℕ) (cell : Cell) → (placed a).released ≡ false → first_word w.now.words cell ≡ (placed a).base
@@ -117,17 +115,16 @@ module _ (c : Config) (w : World) (n : NeverState) (known : KnownWorld c w) (mir
       → p ≡ image_of (bases_of w.allocations) v → p ≢ 0 → pointed_cell c.pages w.now.words.pages p ≡ Some cell
       → is_freed w.now.words cell ≡ true → Move safe (image_scene_of w) n (record (image_scene_of w) {
         flights = slice_set w.now.seats.flights k f;
-      }) (after_free n v) × (free_reply n v ≡ reply.Double)
+      }) (after_free n v) × (free_reply n v ≡ Reply.Double)
   double_by others k f p cell Null was bare sound is e ne points is_free = absurd (ne e)
   double_by others k f p cell (Num m) was bare sound is e ne points is_free = absurd sound
   double_by others k f p cell (Ptr a t x) was bare sound is e ne points is_free =
       let u = ready.set.unreleased a is in
       let lt = exists_placed w.allocations a u in
       let cells : Some cell ≡ Some (cell_of_allocation c (placed a)) = sym points ∙ (pointer_cell a t x p sound is e) in
-      let first : first_word w.now.words cell ≡ (placed a).base = ap (first_in w.now.words) cells ∙ st.first a u in
       let its : (placed a).freed ≡ true = elim (others.freed cell is_free) [
         | inl at ↦ its_own a at.number u at.unreleased at.freed (sym (st.first at.number at.unreleased)
-            ∙ ap (first_word w.now.words) at.cell ∙ first)
+            ∙ ap (first_word w.now.words) at.cell ∙ (ap (first_in w.now.words) cells ∙ st.first a u))
         | inr released ↦ absurd (false≢true (sym (others.kept a u) ∙ ap (is_released_in w.now.words) (sym cells)
             ∙ released))
       ] in
@@ -135,7 +132,7 @@ module _ (c : Config) (w : World) (n : NeverState) (known : KnownWorld c w) (mir
         subst (λ (m : NeverState). Move safe (image_scene_of w) n
             (record (image_scene_of w) { flights = slice_set w.now.seats.flights k f }) m) (sym (same_never a never))
             (goes_bare safe (image_scene_of w) n k f was bare),
-        ap (λ b. if b then reply.Double else reply.Done) never,
+        ap (λ b. if b then Reply.Double else Reply.Done) never,
       )
     where
       its_own : (a b : ℕ) → (placed a).released ≡ false → (placed b).released ≡ false → (placed b).freed ≡ true

@@ -1,15 +1,12 @@
 -- A page without a header has nothing.
 use Rattle.mk_laws.proofs.Vocabulary.{Config, HasAllocation, Invariant, Leaves, NeverState, OfHistories}
-use Rattle.mk_laws.proofs.Vocabulary.{PlacedAllocation, World, ap, arith, cases_eq, cells_under, has_bit, header_at}
+use Rattle.mk_laws.proofs.Vocabulary.{PlacedAllocation, World, ℕ, ap, arith, cases_eq, cells_under, has_bit, header_at}
 use Rattle.mk_laws.proofs.Vocabulary.{header_in, header_of, inl, inr, left, never_behind, object_placed, placed_at}
-use Rattle.mk_laws.proofs.Vocabulary.{refl, slice_index, storage_words, true, words_made, ℕ, ◌+◌, ◌-◌, ◌/◌, ◌∙◌, ◌≡◌}
-use Rattle.mk_laws.proofs.Vocabulary.{◌≢◌}
+use Rattle.mk_laws.proofs.Vocabulary.{refl, slice_index, storage_words, true, words_made, ◌+◌, ◌-◌, ◌/◌, ◌∙◌, ◌≡◌, ◌≢◌}
 use Rattle.mk_laws.proofs.Basics.{KnownWorld, claimed_some, ends_on_pages, known_world, zero_where_none}
-use Rattle.mk_laws.proofs.LayoutReadings.{free_unused}
-use Rattle.mk_laws.proofs.ForImages.{shown_claim, standing}
-use Rattle.mk_laws.proofs.InvariantHistories.{histories_keep_the_invariant}
+use Rattle.mk_laws.proofs.{DirtyPages.dirty_stands, ForImages.shown_claim, ForImages.standing}
+use Rattle.mk_laws.proofs.{InvariantHistories.histories_keep_the_invariant, LayoutReadings.free_unused}
 use Rattle.mk_laws.specs.FreePages.{DirtyPagesHaveAllocations, FreePagesHaveNothing, HasNothing}
-use Rattle.mk_laws.proofs.DirtyPages.{dirty_stands}
 
 module _ (c : Config) (w : World) (n : NeverState) (known : KnownWorld c w) (all : Invariant c w n) where
   -- Where an allocation stands there is a header.
@@ -23,16 +20,13 @@ module _ (c : Config) (w : World) (n : NeverState) (known : KnownWorld c w) (all
       let of_it = x.of_it in
       let page = x.page in
       let there : a.base / 64 + (p - a.base / 64) ≡ p = omega arith in
-      claimed_some w.now.words.pages _ _ shown (omega arith) (ap (λ q. header_at w.now.words q) there ∙ z)
+      claimed_some w.now.words.pages _ _ shown (omega arith) (ap (header_at w.now.words) there ∙ z)
 
   no_cells : (p : ℕ) → header_at w.now.words p ≡ 0 → cells_under (header_in w.now.words p) ≡ 0
   no_cells p z = ap (λ h. cells_under (header_of h)) z
 
   none_freed : (p : ℕ) → header_at w.now.words p ≡ 0 → (k : ℕ) → has_bit (slice_index w.now.words.freed p) k ≡ true → ⊥
-  none_freed p z k bit =
-      let none = no_cells p z in
-      let known_there = all.order.known p k bit in
-      absurd (omega arith)
+  none_freed p z k bit = absurd (omega (arith, no_cells p z, all.order.known p k bit))
 
   free_page : DirtyPagesHaveAllocations c w → (p : ℕ) → header_at w.now.words p ≡ 0 → HasNothing w.now.words p
   free_page dirty p z =

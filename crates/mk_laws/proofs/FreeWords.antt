@@ -1,19 +1,17 @@
 -- While the phase isn't releasing, a word that isn't 0 is one of an unreleased allocation.
 use Rattle.mk_laws.proofs.Vocabulary.{Config, Invariant, IsFreedWord, IsWordOf, IsWordOfMapped, Leaves, MayHold}
 use Rattle.mk_laws.proofs.Vocabulary.{NeverState, Object, OfFreedRun, OfHistories, OfMapped, OfReleased, Option}
-use Rattle.mk_laws.proofs.Vocabulary.{PlacedAllocation, RunPages, Some, Words, World, all_below-at, and_parts, ap}
+use Rattle.mk_laws.proofs.Vocabulary.{PlacedAllocation, RunPages, Some, Words, World, ℕ, all_below-at, and_parts, ap}
 use Rattle.mk_laws.proofs.Vocabulary.{arith, cases_eq, eqb-true, false, inl, inr, is_run_gone, is_run_unmapped}
 use Rattle.mk_laws.proofs.Vocabulary.{large_words, leb-true, left, ltb-true, object_placed, pages_made, phase_of}
 use Rattle.mk_laws.proofs.Vocabulary.{placed_at, run_begins, run_of_allocation, slice_index, storage_of, sym, true}
-use Rattle.mk_laws.proofs.Vocabulary.{words_are_zero, zero_scene_of, ℕ, ◌%◌, ◌*◌, ◌+◌, ◌-◌, ◌/◌, ◌<◌, ◌==◌, ◌∙◌, ◌≡◌}
-use Rattle.mk_laws.proofs.Vocabulary.{◌≢◌, ◌≤◌}
-use Rattle.mk_laws.proofs.Basics.{KnownWorld, known_world, mapped_stays, none_released}
+use Rattle.mk_laws.proofs.Vocabulary.{words_are_zero, zero_scene_of, ◌%◌, ◌*◌, ◌+◌, ◌-◌, ◌/◌, ◌<◌, ◌==◌, ◌∙◌, ◌≡◌, ◌≢◌}
+use Rattle.mk_laws.proofs.Vocabulary.{◌≤◌}
 use Rattle.mk_core.specs.Cells.{is_in_run}
-use Rattle.mk_laws.proofs.ForImages.{standing}
+use Rattle.mk_laws.proofs.Basics.{KnownWorld, known_world, mapped_stays, none_released}
 use Rattle.mk_laws.proofs.InvariantHistories.{histories_keep_the_invariant}
-use Rattle.mk_laws.proofs.InvariantJoined.{told_to_images}
+use Rattle.mk_laws.proofs.{ForImages.standing, InvariantJoined.told_to_images, ReadingsStands.not_releasing}
 use Rattle.mk_laws.specs.FreeWords.{UnmappedWordsAreZero, WordsOfNoneAreZero}
-use Rattle.mk_laws.proofs.ReadingsStands.{not_releasing}
 
 -- the unreleased allocation that has the word
 pub record IsOfOne (c : Config) (w : World) (x : ℕ) : Type 0 where
@@ -27,9 +25,7 @@ run_word : (base words pages x : ℕ) → base % 64 ≡ 0 → words ≡ 64 * pag
 run_word base words pages x aligned is from to = (omega arith, omega arith)
 
 in_run : (run : RunPages) (x : ℕ) → is_in_run run x ≡ true → (run.page ≤ x / 64) × (x / 64 - run.page < run.count)
-in_run run x h =
-    let parts = and_parts _ _ h in
-    (leb-true run.page (x / 64) parts.0, ltb-true _ run.count parts.1)
+in_run run x h = (leb-true run.page (x / 64) (and_parts _ _ h).0, ltb-true _ run.count (and_parts _ _ h).1)
 
 -- in a run that is gone
 gone_word : (w : Words) (run : RunPages) (x : ℕ) → is_in_run run x ≡ true → is_run_gone w (Some run) ≡ true
@@ -40,7 +36,7 @@ gone_word w run x word gone =
     let from = at.0 in
     let to = at.1 in
     let there : 64 * run.page + (x - 64 * run.page) ≡ x = omega arith in
-    ap (λ i. slice_index w.heap i) (sym there) ∙ eqb-true (slice_index w.heap (64 * run.page + (x - 64 * run.page))) 0
+    ap (slice_index w.heap) (sym there) ∙ eqb-true (slice_index w.heap (64 * run.page + (x - 64 * run.page))) 0
     (all_below-at (64 * run.count) (x - 64 * run.page) (λ i. slice_index w.heap (64 * run.page + i) == 0) parts.1
     (omega arith))
 
@@ -87,7 +83,7 @@ module _ (c : Config) (w : World) (n : NeverState) (known : KnownWorld c w) (all
       by (OfMapped m) = m
       by (OfReleased r) = absurd (none_released c (zero_scene_of w) x (not_releasing w quiet) r)
       by (OfFreedRun f) =
-          let there = ap (λ (r : Option RunPages). is_run_gone w.now.words r) (sym f.there) ∙ gone in
+          let there = ap (is_run_gone w.now.words) (sym f.there) ∙ gone in
           absurd (some (gone_word w.now.words f.run x f.word there))
 
   words_of_none : WordsOfNoneAreZero c w

@@ -3,23 +3,19 @@ use Rattle.std.proofs.lemmas.List.{map-id}
 use Rattle.mk_laws.proofs.Vocabulary.{Among, Bool, Cell, Claim, Config, HasHeader, Header, IsClaimedRun, IsShown}
 use Rattle.mk_laws.proofs.Vocabulary.{IsSized, IsWithinLimits, None, Object, OfBlock, OfLater, OfLeafBlock, OfLeafRun}
 use Rattle.mk_laws.proofs.Vocabulary.{OfRun, Option, PlacedAllocation, RunPages, RunStands, ShowsPart, Some, Words}
-use Rattle.mk_laws.proofs.Vocabulary.{World, all_below-at, ap, arith, cases_Bool, cell_of_allocation, cells_made}
+use Rattle.mk_laws.proofs.Vocabulary.{World, ℕ, all_below-at, ap, arith, cases_Bool, cell_of_allocation, cells_made}
 use Rattle.mk_laws.proofs.Vocabulary.{cells_under, claim_of, claims_of, claims_on, cond-true, eq-eqb, eqb-true, false}
 use Rattle.mk_laws.proofs.Vocabulary.{first_page_shows, freed_leaves, freed_released, freed_where_it_stands, ground_of}
 use Rattle.mk_laws.proofs.Vocabulary.{header_at, header_in, if◌then◌else◌, inl, inr, is_run_unmapped, is_small_object}
 use Rattle.mk_laws.proofs.Vocabulary.{is_unmapping, layout_scene_of, length, map, mode_of, not, not-true, object_placed}
 use Rattle.mk_laws.proofs.Vocabulary.{pages_made, pages_some, part_cells, placed_at, refl, run_headed, run_of_cell}
 use Rattle.mk_laws.proofs.Vocabulary.{small, stands, stands_in, stands_in_its_cell, subst, sym, true, true≢false}
-use Rattle.mk_laws.proofs.Vocabulary.{unmapped_header, ℕ, ◌&&◌, ◌+◌, ◌/◌, ◌<◌, ◌==◌, ◌∙◌, ◌≡◌, ◌⊎◌}
+use Rattle.mk_laws.proofs.Vocabulary.{unmapped_header, ◌&&◌, ◌+◌, ◌/◌, ◌<◌, ◌==◌, ◌∙◌, ◌≡◌, ◌⊎◌}
 use Rattle.mk_core.proofs.CellsOfAllocations.{stands_in_no_other}
-use Rattle.mk_laws.specs.LayoutScene.{IsUnmappedHeaderOf}
-use Rattle.mk_laws.specs.Terrain.{IsCellOf}
 use Rattle.mk_laws.proofs.Claims.{LeavesCells, changed_among, claim_among}
-use Rattle.mk_laws.proofs.Modes.{Remodes, remoded}
-use Rattle.mk_laws.proofs.LayoutReadings.{one_claim}
-use Rattle.mk_laws.proofs.Released.{all_stand, IsStanding}
-use Rattle.mk_laws.proofs.Serving.{Laid, own_claim}
-use Rattle.mk_laws.proofs.Unmapping.{shares_run}
+use Rattle.mk_laws.proofs.{LayoutReadings.one_claim, Modes.Remodes, Modes.remoded, Released.IsStanding}
+use Rattle.mk_laws.proofs.{Released.all_stand, Serving.Laid, Serving.own_claim, Unmapping.shares_run}
+use Rattle.mk_laws.specs.{LayoutScene.IsUnmappedHeaderOf, Terrain.IsCellOf}
 
 -- the run that the header of an object's first page heads
 run_small : (o : Object) (x : Option Header) (p : ℕ) → ShowsPart o 0 x → is_small_object o ≡ true
@@ -147,8 +143,7 @@ module _ (c : Config) (o : Object) (w : World) (cell : Cell) (limits : IsWithinL
       absurd (true≢false (sym small ∙ ap (λ (z : Claim). is_small_object z.object) (sym one) ∙ large)))) tt)
   by (inr large) =
       let run : RunPages = record { page = cell.page; count = pages_made (object_placed c a) } in
-      let is_run = run_large _ _ cell.page part large in
-      rw is_run (remoded c o false w.now.words.marks (ground_of w) (Some run) frees st
+      rw (run_large _ _ cell.page part large) (remoded c o false w.now.words.marks (ground_of w) (Some run) frees st
       (modes (Some run) (λ i u h l. eq-eqb cell.page _
       (sym (ap (λ (x : Cell). x.page) (cell_of i u h))))) (claimed_run run refl refl large))
     where
@@ -160,10 +155,9 @@ module _ (c : Config) (o : Object) (w : World) (cell : Cell) (limits : IsWithinL
           let in_cell : stands_in w.now.words cell a ≡ true =
           rw (← own.is) (stands_in_its_cell c w.now.words a limits s.stands s.headers) in
           let freed : PlacedAllocation = record a { freed = true; fresh = true } in
-          let same : freed_where_it_stands w.now.words (Some cell) a ≡ freed = cond-true _ freed a in_cell in
           record {
             claim = claim_of c (Some run) freed;
-            among = rw same at (changed_among c (Some run) frees w.allocations own.number
+            among = rw (cond-true _ freed a in_cell) at (changed_among c (Some run) frees w.allocations own.number
                 (freeing_leaves w.now.words (Some cell)) (keeps a own.unreleased));
             page = page ∙ sym at_page;
             count = sym count;
@@ -211,7 +205,7 @@ gone_terrain c o releasing w unmapped st =
         let large = not-true (is_small_object ob) l in
         let page = eqb-true run.page (a.base / 64) g in
         let x : IsClaimedRun (claims_of c w.now.seats.holding.freed w.allocations) run =
-        subst (λ (y : Option RunPages). RunStands (claims_of c w.now.seats.holding.freed w.allocations) y) is r in
+        subst (RunStands (claims_of c w.now.seats.holding.freed w.allocations)) is r in
         let ix = own_claim c o (ground_of w) x.claim x.among in
         let ia = own_claim c o (ground_of w) (claim_of c w.now.seats.holding.freed a)
         (claim_among c w.now.seats.holding.freed w.allocations i u) in

@@ -2,7 +2,7 @@
 use Rattle.mk_laws.proofs.Vocabulary.{Answer, AreAdmitted, Bool, Caller, CarriesOwn, Cell, Config, Event, Flight}
 use Rattle.mk_laws.proofs.Vocabulary.{Header, Holding, Host, ImagePremises, IsSafe, IsSound, LeafRun, Marker, Mirrors}
 use Rattle.mk_laws.proofs.Vocabulary.{Moment, NeverState, None, Null, Num, Op, Option, PlacedAllocation, Ptr, Run}
-use Rattle.mk_laws.proofs.Vocabulary.{RunPages, Seat, Some, Stage, Step, Value, Word, Words, World, admitted_keep}
+use Rattle.mk_laws.proofs.Vocabulary.{RunPages, Seat, Some, Stage, Step, Value, Word, Words, World, ℕ, admitted_keep}
 use Rattle.mk_laws.proofs.Vocabulary.{after_calls, after_free, ap, arith, asked, at_rest, bases_of, call_decided}
 use Rattle.mk_laws.proofs.Vocabulary.{cases_Bool, cases_eq, cases_lt, cell_freed, cell_of_allocation, decided, entry_of}
 use Rattle.mk_laws.proofs.Vocabulary.{false, false≢true, first_page_shows, flight_of, found, freed_cell}
@@ -13,50 +13,37 @@ use Rattle.mk_laws.proofs.Vocabulary.{is_undecided_new, length, length-map, ltb-
 use Rattle.mk_laws.proofs.Vocabulary.{or_else, p_of, placed_at, pointed_cell, progress, progress_freed, refl}
 use Rattle.mk_laws.proofs.Vocabulary.{register_at, run_begins, run_headed, run_of_cell, sees_double, set_by}
 use Rattle.mk_laws.proofs.Vocabulary.{slice_index_or, slice_set, small_heads_none, still, subst, sym, true, typed_size}
-use Rattle.mk_laws.proofs.Vocabulary.{world_behind, ℕ, ◌%◌, ◌&&◌, ◌*◌, ◌+◌, ◌-◌, ◌/◌, ◌<◌, ◌∙◌, ◌≡◌, ◌≢◌, ◌⊎◌}
+use Rattle.mk_laws.proofs.Vocabulary.{world_behind, ◌%◌, ◌&&◌, ◌*◌, ◌+◌, ◌-◌, ◌/◌, ◌<◌, ◌∙◌, ◌≡◌, ◌≢◌, ◌⊎◌}
+use Rattle.mk_never.specs.Laws.{AreNotBy}
+use Rattle.mk_core.specs.{Effects.holding_behind, Order.is_of_any_holder}
 use Rattle.mk_laws.proofs.Basics.{HoldsTurn, InCall, KnownWorld, Meets, Orderly, Ready, Stands, View, actor_of, base_at}
 use Rattle.mk_laws.proofs.Basics.{flight, flight_in, not_astray, ready_of, standing, standing_at, stands_of, turn_of}
 use Rattle.mk_laws.proofs.Basics.{view_of}
-use Rattle.mk_never.specs.declared.operations.Op.TheVariants as op
-use Rattle.mk_core.specs.declared.seats.Stage.TheVariants as stage
-use Rattle.mk_laws.proofs.Standings.{UnderTurn, Standing, Resting}
-use Rattle.mk_laws.proofs.Orderly.{holders_flight}
-use Rattle.mk_never.specs.Laws.{AreNotBy}
-use Rattle.mk_core.specs.declared.events.Answer.TheVariants as answer
-use Rattle.mk_core.specs.declared.events.Word.TheVariants as word
-use Rattle.mk_core.specs.declared.events.Step.TheVariants as step
-use Rattle.mk_core.specs.Order.{is_of_any_holder}
-use Rattle.mk_core.specs.Effects.{holding_behind}
-use Rattle.mk_laws.proofs.ProtocolMoves.{Move as ProtocolMove, Enters, GoesOn, Leaves, Takes, Gives, Works, Holds}
-use Rattle.mk_laws.proofs.ProtocolMoves.{Opens, Phases}
-use Rattle.mk_laws.proofs.Stages.{turns_stand}
-use Rattle.mk_laws.proofs.NextSteps.{of_turn}
-use Rattle.mk_laws.proofs.Sorts.{moves}
-use Rattle.mk_laws.specs.Mirrors.{PointsAtRun, OwnsFreedRun}
-use Rattle.mk_laws.proofs.Bases.{IsLonger}
-use Rattle.mk_laws.proofs.FreeMoves.{pointer_cell}
-use Rattle.mk_laws.proofs.CallSorts.{literal}
+use Rattle.mk_laws.proofs.ProtocolMoves.{Enters, Gives, GoesOn, Holds, Leaves, Move as ProtocolMove, Opens, Phases}
+use Rattle.mk_laws.proofs.ProtocolMoves.{Takes, Works}
+use Rattle.mk_laws.proofs.Standings.{Resting, Standing, UnderTurn}
+use Rattle.mk_laws.proofs.{Bases.IsLonger, CallSorts.literal, FreeMoves.pointer_cell, NextSteps.of_turn}
+use Rattle.mk_laws.proofs.{Orderly.holders_flight, Sorts.moves, Stages.turns_stand}
+use Rattle.mk_laws.specs.Mirrors.{OwnsFreedRun, PointsAtRun}
 
 -- Only a Free that is decided unmaps a run, and that call holds the turn.
 
 pub decided_free_stands : (s : Stage) (o : Op) → is_decided_free_at s o ≡ true → standing_at s o ≡ UnderTurn
-decided_free_stands stage.Give (op.Free p) h = refl
+decided_free_stands Stage.Give (Op.Free p) h = refl
 decided_free_stands _ _ h = cc
 
-pub decided_free_gives : (s : Stage) (o : Op) → is_decided_free_at s o ≡ true → s ≡ stage.Give
-decided_free_gives stage.Give o h = refl
+pub decided_free_gives : (s : Stage) (o : Op) → is_decided_free_at s o ≡ true → s ≡ Stage.Give
+decided_free_gives Stage.Give o h = refl
 decided_free_gives _ _ h = cc
 
 new_is_undecided : (s : Stage) (o : Op) → is_new_at s o ≡ true → is_decided_free_at s o ≡ true → ⊥
-new_is_undecided stage.Give (op.Free p) new free = cc
+new_is_undecided Stage.Give (Op.Free p) new free = cc
 new_is_undecided _ _ new free = cc
 
 pub frees_run : (c : Config) (m : Moment) (k : ℕ) (run : RunPages) → Orderly c (view_of m)
     → HoldsTurn c (view_of m) (Caller k) → m.seats.holding.freed ≡ Some run
     → is_decided_free (flight_of m (Caller k)) ≡ true
-frees_run c m k run o hold e =
-    let freed : is_decided_free (flight_in (view_of m) (m.words.turn - 1)) ≡ true = o.served.freed (rw e) in
-    rw (holders_flight c (view_of m) (Caller k) o hold) at freed
+frees_run c m k run o hold e = rw (holders_flight c (view_of m) (Caller k) o hold) at (o.served.freed (rw e))
 
 -- While a New is undecided no run is freed.
 pub new_frees_none : (c : Config) (m : Moment) (k : ℕ) (run : RunPages) → Orderly c (view_of m)
@@ -77,14 +64,14 @@ freed_behind c w seat f x =
     (holding_behind c w.now seat f (found c w.now (event_of seat x)) x w.now.seats.holding).freed
 
 abbrev gives : Step → Bool
-gives step.Give = true
+gives Step.Give = true
 gives _ = false
 
 -- It was freed before, or is freed by this step.
 data WasFreed (c : Config) (w : World) (f : Flight) (run : RunPages) : Step → Type 0 where
   Before : {x : Step} → w.now.seats.holding.freed ≡ Some run → gives x ≡ false → WasFreed c w f run x
   Now : (p v : ℕ) → run_of_cell w.now.words (cell_freed c.pages w.now.words f p v) ≡ Some run
-      → WasFreed c w f run (step.Quar p v)
+      → WasFreed c w f run (Step.Quar p v)
 
 take_freed : (b : Bool) (h : Holding) (run : RunPages) → (if b then nothing_done else h).freed ≡ Some run
     → h.freed ≡ Some run
@@ -97,9 +84,9 @@ else_freed (Some r) y run e = inl e
 
 was_freed : (c : Config) (w : World) (seat : Seat) (f : Flight) (x : Step) (run : RunPages)
     → freed_behind c w seat f x ≡ Some run → WasFreed c w f run x
-was_freed c w seat f (step.Take o) run e = Before (take_freed _ w.now.seats.holding run e) refl
-was_freed c w seat f step.Give run e = cc
-was_freed c w seat f (step.Quar p v) run e = elim (else_freed _ w.now.seats.holding.freed run e) [
+was_freed c w seat f (Step.Take o) run e = Before (take_freed _ w.now.seats.holding run e) refl
+was_freed c w seat f Step.Give run e = cc
+was_freed c w seat f (Step.Quar p v) run e = elim (else_freed _ w.now.seats.holding.freed run e) [
   | inl new ↦ Now p v new
   | inr old ↦ Before old refl
 ]
@@ -139,15 +126,15 @@ none_freed_at true f = refl
 none_freed_at false f = refl
 
 none_seen : (w : Words) (x : Word) → sees_double w None x ≡ false
-none_seen w (word.Quar p) = refl
+none_seen w (Word.Quar p) = refl
 none_seen w _ = refl
 
 give_still : (c : Config) (m : Moment) (o : Op) (q p r l n : ℕ) (x : Step) → is_of_any_holder x ≡ true → gives x ≡ false
-    → progress c m (flight stage.Give o q p r l) n x ≡ still (flight stage.Give o q p r l)
-give_still c m o q p r l n (step.Quar y v) h g = none_freed_at _ _
-give_still c m o q p r l n (step.Look x) h g =
-    let f = flight stage.Give o q p r l in
-    ap (λ (b : Bool). if b then decided f answer.Double else still f) (none_seen m.words x)
+    → progress c m (flight Stage.Give o q p r l) n x ≡ still (flight Stage.Give o q p r l)
+give_still c m o q p r l n (Step.Quar y v) h g = none_freed_at _ _
+give_still c m o q p r l n (Step.Look x) h g =
+    let f = flight Stage.Give o q p r l in
+    ap (λ (b : Bool). if b then decided f Answer.Double else still f) (none_seen m.words x)
 give_still c m o q p r l n _ h g = cc
 
 no_run : (w : Words) (b : Bool) (run : RunPages) → run_of_cell w (if b && false then None else None) ≡ Some run → ⊥
@@ -195,14 +182,13 @@ module _ (c : Config) (w : World) (n : NeverState) (known : KnownWorld c w) (oth
       let sound : IsSound n (Ptr h.number h.ty h.offset) = rw h.is at (mirrors.typed.registers (8 * k + r)) in
       let there : h.number < length n.allocations = sound.0 in
       let longs = length-map w.allocations (λ (x : PlacedAllocation). x.base) in
-      let count = mirrors.twins.count in
       record {
         number = h.number;
         ty = h.ty;
         offset = h.offset;
         is = same ∙ h.is;
-        base = sym (base_at _ h.number) ∙ rw grows.is (get_or_append_left _ grows.more 0 h.number (omega arith)
-            ∙ base_at w.allocations h.number ∙ h.base);
+        base = sym (base_at _ h.number) ∙ rw grows.is (get_or_append_left _ grows.more 0 h.number
+            (omega (arith, mirrors.twins.count)) ∙ base_at w.allocations h.number ∙ h.base);
       }
 
   -- the target of a Free that is a run
@@ -232,8 +218,8 @@ module _ (c : Config) (w : World) (n : NeverState) (known : KnownWorld c w) (oth
       → is_undecided_free (flight s o q p r l) ≡ true → pointed_cell c.pages w.now.words.pages p ≡ Some cell
       → run_of_cell w.now.words (Some cell) ≡ Some run → CarriesOwn (bases_of w.allocations) n k (flight s o q p r l)
       → PointsAtRun w n k (p_of o) run
-      × (register_at (after_calls n (asked (entry_of k o (Some answer.Done)))) k (p_of o) ≡ register_at n k (p_of o))
-  new_by k stage.Turn (op.Free p') q p r l cell run undecided points heads car = (
+      × (register_at (after_calls n (asked (entry_of k o (Some Answer.Done)))) k (p_of o) ≡ register_at n k (p_of o))
+  new_by k Stage.Turn (Op.Free p') q p r l cell run undecided points heads car = (
     run_target k p' _ p cell run refl (mirrors.typed.registers (8 * k + p'))
         (mirrors.safe.1.registers (8 * k + p')) (car.p refl) (car.some_p refl) points heads,
     free_keeps n _ k p',
@@ -267,7 +253,7 @@ module _ (c : Config) (w : World) (n : NeverState) (known : KnownWorld c w) (oth
       (actor_of c w.now (Caller k) x known.now.orderly h) h) refl (turn_taken run old) under in
       let was_free = frees_run c w.now k run known.now.orderly (lt, was) old in
       let at_give = decided_free_gives f.stage f.op was_free in
-      let lit = literal f stage.Give at_give in
+      let lit = literal f Stage.Give at_give in
       let any : is_of_any_holder x ≡ true = rw at_give at h.order in
       let stays : progress c w.now f (found c w.now e) x ≡ still f =
       subst (λ (y : Flight). progress c w.now y (found c w.now e) x ≡ still y) (sym lit)
@@ -282,19 +268,18 @@ module _ (c : Config) (w : World) (n : NeverState) (known : KnownWorld c w) (oth
       → AreAdmitted c.globals n (asked (call_decided c w.now (event_of (Caller j) x)))
       → w.now.seats.holding.freed ≡ Some run → OwnsBehind (Caller j) x run k
   other_old j k x run ne grows ad old free =
-      let e = event_of (Caller j) x in
-      let same : flight_of (world_behind c w e).now (Caller k) ≡ flight_of w.now (Caller k) =
+      let same : flight_of (world_behind c w (event_of (Caller j) x)).now (Caller k) ≡ flight_of w.now (Caller k) =
       get_or-set_other w.now.seats.flights j k _ at_rest (λ y. ne (sym y)) in
-      rw same (points_on e k _ run grows (admitted_keep c.globals n k _ ad (not_by j k _ _ ne) _ (ready.small k).1)
-      (mirrors.freed_run run old k (rw same at free)))
+      rw same (points_on (event_of (Caller j) x) k _ run grows (admitted_keep c.globals n k _ ad (not_by j k _ _ ne) _
+      (ready.small k).1) (mirrors.freed_run run old k (rw same at free)))
 
   -- a run that is freed by this step
-  own_new : (k p v : ℕ) (run : RunPages) (y : Option Cell) → k < c.callers → GrowsBehind (Caller k) (step.Quar p v)
+  own_new : (k p v : ℕ) (run : RunPages) (y : Option Cell) → k < c.callers → GrowsBehind (Caller k) (Step.Quar p v)
       → cell_freed c.pages w.now.words (flight_of w.now (Caller k)) p v ≡ y
-      → run_of_cell w.now.words y ≡ Some run → OwnsBehind (Caller k) (step.Quar p v) run k
+      → run_of_cell w.now.words y ≡ Some run → OwnsBehind (Caller k) (Step.Quar p v) run k
   own_new k p v run None lt grows e heads free = cc
   own_new k p v run (Some cell) lt grows e heads free =
-      let ev = event_of (Caller k) (step.Quar p v) in
+      let ev = event_of (Caller k) (Step.Quar p v) in
       let f = flight_of w.now (Caller k) in
       let freed = freed_cell c.pages w.now.words f p v cell e in
       let new = new_by k f.stage f.op f.q f.p f.r f.loaded cell run freed.free freed.pointed heads
@@ -303,24 +288,24 @@ module _ (c : Config) (w : World) (n : NeverState) (known : KnownWorld c w) (oth
       let same : (flight_of (world_behind c w ev).now (Caller k)).op ≡ f.op =
       ap (λ (y : Flight). y.op) (get_or-set_same w.now.seats.flights k _ at_rest there)
       ∙ ap (λ (y : Option Cell). (progress_freed f y).flight.op) e in
-      let never : never_after c w n ev ≡ after_calls n (asked (entry_of k f.op (Some answer.Done))) =
+      let never : never_after c w n ev ≡ after_calls n (asked (entry_of k f.op (Some Answer.Done))) =
       ap (λ (y : Option Cell). after_calls n (asked (entry_of k f.op (progress_freed f y).answer))) e in
       subst (λ (o : Op). PointsAtRun (world_behind c w ev) (never_after c w n ev) k (p_of o) run) (sym same)
       (points_on ev k (p_of f.op) run grows (ap (λ m. register_at m k (p_of f.op)) never ∙ new.1) new.0)
 
   -- Two callers are never under the turn.
-  other_new : (j k p v : ℕ) (run : RunPages) → j ≢ k → Meets c w.now (Caller j) (step.Quar p v)
-      → OwnsBehind (Caller j) (step.Quar p v) run k
+  other_new : (j k p v : ℕ) (run : RunPages) → j ≢ k → Meets c w.now (Caller j) (Step.Quar p v)
+      → OwnsBehind (Caller j) (Step.Quar p v) run k
   other_new j k p v run ne h free =
       let f = flight_of w.now (Caller j) in
       let lj = ltb-true j c.callers h.seat in
-      let same : flight_of (world_behind c w (event_of (Caller j) (step.Quar p v))).now (Caller k)
+      let same : flight_of (world_behind c w (event_of (Caller j) (Step.Quar p v))).now (Caller k)
       ≡ flight_of w.now (Caller k) = get_or-set_other w.now.seats.flights j k _ at_rest (λ y. ne (sym y)) in
       let was : is_decided_free (flight_of w.now (Caller k)) ≡ true = rw same at free in
       let lk : k < c.callers = there k was in
       let tj = turn_of c (view_of w.now) (Caller j) known.now.orderly (
         lj,
-        turns_stand f.stage f.op (of_turn f.stage f.op (step.Quar p v) refl refl h.order)
+        turns_stand f.stage f.op (of_turn f.stage f.op (Step.Quar p v) refl refl h.order)
             (not_astray c w.now known.now.orderly j lj),
       ) in
       let tk = turn_of c (view_of w.now) (Caller k) known.now.orderly (holds k lk was) in
@@ -342,7 +327,7 @@ module _ (c : Config) (w : World) (n : NeverState) (known : KnownWorld c w) (oth
     | inr ne ↦ other_old j k x run ne grows ad old
   ]
   caller_owns j x h grows ad run (Now p v heads) k = elim (cases_eq j k) [
-    | inl e ↦ subst (λ (i : ℕ). OwnsBehind (Caller j) (step.Quar p v) run i) e
+    | inl e ↦ subst (λ (i : ℕ). OwnsBehind (Caller j) (Step.Quar p v) run i) e
         (own_new j p v run (cell_freed c.pages w.now.words (flight_of w.now (Caller j)) p v)
         (ltb-true j c.callers h.seat) grows refl heads)
     | inr ne ↦ other_new j k p v run ne h
@@ -357,8 +342,7 @@ module _ (c : Config) (w : World) (n : NeverState) (known : KnownWorld c w) (oth
   owns : (seat : Seat) (x : Step) → Meets c w.now seat x → GrowsBehind seat x
       → AreAdmitted c.globals n (asked (call_decided c w.now (event_of seat x)))
       → OwnsFreedRun (world_behind c w (event_of seat x)) (never_after c w n (event_of seat x))
-  owns (Caller j) x h grows ad run e k free =
-      caller_owns j x h grows ad run (was_freed c w (Caller j) (flight_of w.now (Caller j)) x run e) k free
+  owns (Caller j) x h grows ad run e k free = caller_owns j x h grows ad run (was_freed c w (Caller j) _ x run e) k free
   owns Host x h grows ad run e k free = host_owns x grows run (was_freed c w Host at_rest x run e) k free
   owns (Marker j) x h grows ad run e k free =
       points_on (event_of (Marker j) x) k _ run grows refl (mirrors.freed_run run (marker_freed x e) k free)

@@ -1,7 +1,7 @@
 -- The count of fresh words that is kept beside the table is that of the allocations, after each kind of event.
 use Rattle.std.specs.Prelude.{min}
 use Rattle.mk_laws.proofs.Vocabulary.{Bool, Cell, Config, Header, KeepsSnapshot, List, None, Object, Option}
-use Rattle.mk_laws.proofs.Vocabulary.{PlacedAllocation, Seat, ShowsPart, Some, StandsInOrder, Step, World, and_parts}
+use Rattle.mk_laws.proofs.Vocabulary.{PlacedAllocation, Seat, ShowsPart, Some, StandsInOrder, Step, World, ℕ, and_parts}
 use Rattle.mk_laws.proofs.Vocabulary.{ap, arith, cases_lt, cell_freed, cell_of_allocation, changed_at, cond-true, false}
 use Rattle.mk_laws.proofs.Vocabulary.{false_from_ne_true, first_page_shows, flight_of, freed_cell}
 use Rattle.mk_laws.proofs.Vocabulary.{freed_where_it_stands, fresh_words_of, get_or_past, ground_of, has_bit, header_in}
@@ -9,18 +9,14 @@ use Rattle.mk_laws.proofs.Vocabulary.{heads_run, if◌then◌else◌, in_a_word,
 use Rattle.mk_laws.proofs.Vocabulary.{is_small_object, kinds_of, large_is_not_small, length, map, never_granted}
 use Rattle.mk_laws.proofs.Vocabulary.{none_freed, not, not-true, object_now, object_placed, part_words, placed_at, refl}
 use Rattle.mk_laws.proofs.Vocabulary.{released_leaves, slice_index, small_heads_none, stands_in, subst, sym, true}
-use Rattle.mk_laws.proofs.Vocabulary.{true≢false, with_released, words_made, words_under, ℕ, ◌&&◌, ◌+◌, ◌-◌, ◌<◌, ◌^◌}
+use Rattle.mk_laws.proofs.Vocabulary.{true≢false, with_released, words_made, words_under, ◌&&◌, ◌+◌, ◌-◌, ◌<◌, ◌^◌}
 use Rattle.mk_laws.proofs.Vocabulary.{◌||◌, ◌∙◌, ◌≡◌, ◌≢◌}
+use Rattle.mk_core.{proofs.ObjectHeaders.part_heads_run, specs.Effects.words_freed}
 use Rattle.mk_laws.proofs.Basics.{Before, Laid, Meets, WorldBehind, all_stand, apart_left}
-use Rattle.mk_core.specs.declared.events.Step.TheVariants as step
-use Rattle.mk_core.specs.Effects.{words_freed}
-use Rattle.mk_core.proofs.ObjectHeaders.{part_heads_run}
-use Rattle.mk_laws.proofs.ForImages.{numbers_apart}
-use Rattle.mk_laws.proofs.QuarantineByKind.{frees_here, shown_at}
-use Rattle.mk_laws.proofs.QuarantineChanges.{FreesHere}
-use Rattle.mk_laws.proofs.SnapshotKinds.{snapshot_behind}
 use Rattle.mk_laws.proofs.FreshWords.{CountsAsBefore, fresh_kept, fresh_more, fresh_part, fresh_pushed, no_part}
 use Rattle.mk_laws.proofs.FreshWords.{none_fresh, stale_part}
+use Rattle.mk_laws.proofs.QuarantineByKind.{frees_here, shown_at}
+use Rattle.mk_laws.proofs.{ForImages.numbers_apart, QuarantineChanges.FreesHere, SnapshotKinds.snapshot_behind}
 
 -- The count is that of the allocations, as it stands in a word.
 abbrev pub FreshTold : Config → World → Type 0
@@ -91,12 +87,9 @@ module _ (c : Config) (w : World) (cell : Cell) (n : ℕ) (b : Before c w) (off 
       let becomes : freed own ≡ freed_fresh own = cond-true _ _ own x.stands in
       let large = large_is_not_small _ in
       let counted = counted_freed own.released _ small (words_made o) x.own.unreleased large in
-      let now : fresh_part c (freed own) ≡ (if small then words_made o else 0) =
-      ap (λ (y : PlacedAllocation). fresh_part c y) becomes ∙ counted in
-      let was = stale_part c own stale in
-      let added : words_freed w.now.words (Some cell) ≡ (if small then words_made o else 0) =
-      words_of_part o (header_in w.now.words cell.page) part small refl in
-      omega arith
+      let now : fresh_part c (freed own) ≡ (if small then words_made o else 0) = ap (fresh_part c) becomes ∙ counted in
+      let added = words_of_part o (header_in w.now.words cell.page) part small refl in
+      omega (arith, stale_part c own stale)
 
   within : x.own.number < length w.allocations
   within = elim (cases_lt x.own.number (length w.allocations)) [
@@ -118,26 +111,25 @@ none_added n s is = omega arith
 some_added : (n s d t : ℕ) → n ≡ in_a_word s → t ≡ s + d → min (n + d) (2 ^ 64 - 1) ≡ in_a_word t
 some_added n s d t is sum = omega arith
 
-quar_told : (c : Config) (w : World) (seat : Seat) (p n : ℕ) → Before c w → Meets c w.now seat (step.Quar p n)
-    → StandsInOrder c w → FreshTold c w → FreshTold c (WorldBehind c w seat (step.Quar p n))
+quar_told : (c : Config) (w : World) (seat : Seat) (p n : ℕ) → Before c w → Meets c w.now seat (Step.Quar p n)
+    → StandsInOrder c w → FreshTold c w → FreshTold c (WorldBehind c w seat (Step.Quar p n))
 quar_told c w seat p n b h order told = by (cell_freed c.pages w.now.words (flight_of w.now seat) p n) refl
   where
     by : (cell : Option Cell) → cell_freed c.pages w.now.words (flight_of w.now seat) p n ≡ cell
         → min (w.now.fresh_words + words_freed w.now.words cell) (2 ^ 64 - 1)
         ≡ in_a_word (fresh_words_of c (map (freed_where_it_stands w.now.words cell) w.allocations))
-    by None is = none_added w.now.fresh_words _ told
-        ∙ ap (λ (ys : List PlacedAllocation). in_a_word (fresh_words_of c ys))
+    by None is = none_added _ _ told ∙ ap (λ (ys : List PlacedAllocation). in_a_word (fresh_words_of c ys))
         (sym (none_freed w.now.words w.allocations))
     by (Some cell) is =
         let x = freed_cell c.pages w.now.words _ p n cell is in
         let sum = fresh_freed c w cell n b x.phase order (frees_here c w seat p n cell b h order.laid x) in
-        some_added w.now.fresh_words _ _ _ told sum
+        some_added _ _ _ _ told sum
 
 -- `release`: what is fresh stays
 release_told : (c : Config) (w : World) (seat : Seat) → KeepsSnapshot c w
-    → KeepsSnapshot c (WorldBehind c w seat step.Release) → FreshTold c w
-    → FreshTold c (WorldBehind c w seat step.Release)
-release_told c w seat s now told = told ∙ ap (λ n. in_a_word n) (sym (fresh_kept c _ w.allocations same))
+    → KeepsSnapshot c (WorldBehind c w seat Step.Release) → FreshTold c w
+    → FreshTold c (WorldBehind c w seat Step.Release)
+release_told c w seat s now told = told ∙ ap in_a_word (sym (fresh_kept c _ w.allocations same))
   where
     counted : (released left mapped fresh : Bool) (m : ℕ) → (fresh ≡ true → (released || left) ≡ released)
         → (if (not (released || left) && mapped) && fresh then m else 0)
@@ -156,11 +148,10 @@ release_told c w seat s now told = told ∙ ap (λ n. in_a_word n) (sym (fresh_k
 -- each kind of event, whatever the seat
 pub fresh_told_behind : (c : Config) (w : World) (seat : Seat) (x : Step) → Before c w → Meets c w.now seat x
     → StandsInOrder c w → FreshTold c w → FreshTold c (WorldBehind c w seat x)
-fresh_told_behind c w seat (step.Quar p n) b h order told = quar_told c w seat p n b h order told
-fresh_told_behind c w seat step.Begin b h order told = ap (λ n. in_a_word n) (sym (none_fresh c w.allocations))
-fresh_told_behind c w seat step.Grant b h order told =
-    told ∙ ap (λ n. in_a_word n) (sym (fresh_pushed c w.allocations _ refl))
-fresh_told_behind c w seat step.Release b h order told =
-    let behind = snapshot_behind c w seat step.Release b h order.laid order.quarantined order.snapshot in
+fresh_told_behind c w seat (Step.Quar p n) b h order told = quar_told c w seat p n b h order told
+fresh_told_behind c w seat Step.Begin b h order told = ap in_a_word (sym (none_fresh c w.allocations))
+fresh_told_behind c w seat Step.Grant b h order told = told ∙ ap in_a_word (sym (fresh_pushed c w.allocations _ refl))
+fresh_told_behind c w seat Step.Release b h order told =
+    let behind = snapshot_behind c w seat Step.Release b h order.laid order.quarantined order.snapshot in
     release_told c w seat order.snapshot behind told
 fresh_told_behind c w seat _ b h order told = told

@@ -1,10 +1,9 @@
 -- The words of fresh allocations, as a sum over all.
+use Rattle.std.proofs.{Math.Bool.and-false, lemmas.List.Sums.sum_by-cons}
 use Rattle.std.specs.Prelude.{filter, sum_by}
-use Rattle.std.proofs.lemmas.List.Sums.{sum_by-cons}
-use Rattle.std.proofs.Math.Bool.{and-false}
-use Rattle.mk_laws.proofs.Vocabulary.{Bool, Config, List, PlacedAllocation, [], ap, arith, false, fresh_words_of}
+use Rattle.mk_laws.proofs.Vocabulary.{Bool, Config, List, PlacedAllocation, ℕ, ap, arith, false, fresh_words_of}
 use Rattle.mk_laws.proofs.Vocabulary.{if◌then◌else◌, is_mapped, length, map, no_longer_fresh, placed_at, refl}
-use Rattle.mk_laws.proofs.Vocabulary.{storage_words, suc, sym, true, zero, ℕ, ◌&&◌, ◌++◌, ◌+◌, ◌<◌, ◌∙◌, ◌∷◌, ◌≡◌, ◌≢◌}
+use Rattle.mk_laws.proofs.Vocabulary.{storage_words, suc, sym, true, zero, [], ◌&&◌, ◌++◌, ◌+◌, ◌<◌, ◌∙◌, ◌∷◌, ◌≡◌, ◌≢◌}
 
 -- what one allocation counts
 abbrev pub fresh_part : Config → PlacedAllocation → ℕ
@@ -41,10 +40,8 @@ fresh_pushed c (x ∷ xs) a stale =
 pub none_fresh : (c : Config) (xs : List PlacedAllocation) → fresh_words_of c (map no_longer_fresh xs) ≡ 0
 none_fresh c [] = refl
 none_fresh c (a ∷ xs) =
-    let all = fresh_cons c (no_longer_fresh a) (map no_longer_fresh xs) in
-    let first = stale_part c (no_longer_fresh a) refl in
     let rest = none_fresh c xs in
-    omega arith
+    omega (arith, fresh_cons c (no_longer_fresh a) (map no_longer_fresh xs), stale_part c (no_longer_fresh a) refl)
 
 module _ (c : Config) (change : PlacedAllocation → PlacedAllocation) where
   -- The allocation counts after the change what it did.
@@ -56,11 +53,8 @@ module _ (c : Config) (change : PlacedAllocation → PlacedAllocation) where
       → fresh_words_of c (map change xs) ≡ fresh_words_of c xs
   fresh_kept [] same = refl
   fresh_kept (a ∷ xs) same =
-      let first = same 0 in
-      let rest = fresh_kept xs (λ i. same (suc i)) in
-      let now = fresh_cons c (change a) (map change xs) in
       let was = fresh_cons c a xs in
-      omega arith
+      omega (arith, same 0, fresh_kept xs (λ i. same (suc i)), fresh_cons c (change a) (map change xs))
 
   -- where one of them counts so much more
   pub fresh_more : (xs : List PlacedAllocation) (j more : ℕ) → j < length xs
@@ -70,12 +64,8 @@ module _ (c : Config) (change : PlacedAllocation → PlacedAllocation) where
   fresh_more [] j more lt same one = absurd (omega arith)
   fresh_more (a ∷ xs) zero more lt same one =
       let rest = fresh_kept xs (λ i. same (suc i) (λ e. omega arith)) in
-      let now = fresh_cons c (change a) (map change xs) in
-      let was = fresh_cons c a xs in
-      omega arith
+      omega (arith, fresh_cons c (change a) (map change xs), fresh_cons c a xs)
   fresh_more (a ∷ xs) (suc j) more lt same one =
       let rest = fresh_more xs j more (omega arith) (λ i ne. same (suc i) (λ e. ne (omega arith))) one in
       let first = same 0 (λ e. omega arith) in
-      let now = fresh_cons c (change a) (map change xs) in
-      let was = fresh_cons c a xs in
-      omega arith
+      omega (arith, fresh_cons c (change a) (map change xs), fresh_cons c a xs)

@@ -1,9 +1,7 @@
 -- The gates that a step of the turn's holder asks for are as it asks, whatever others did since.
-use Rattle.mk_laws.proofs.Vocabulary.{Config, Flight, Seat, Steady, Step, TurnIsLeft, World, ap, eq-eqb, eqb-false}
-use Rattle.mk_laws.proofs.Vocabulary.{eqb-true, has_gates, is_held, is_number_of, is_phase, is_run_cell, ne_eqb, not}
-use Rattle.mk_laws.proofs.Vocabulary.{not-true, others_are_held, phase_of, target, true, ℕ, ◌||◌, ◌∙◌, ◌≡◌}
-use Rattle.mk_core.specs.declared.events.Step.TheVariants as step
-use Rattle.mk_core.specs.declared.events.Word.TheVariants as word
+use Rattle.mk_laws.proofs.Vocabulary.{Config, Flight, Seat, Steady, Step, TurnIsLeft, Word, World, ℕ, ap, eq-eqb}
+use Rattle.mk_laws.proofs.Vocabulary.{eqb-false, eqb-true, has_gates, is_held, is_number_of, is_phase, is_run_cell}
+use Rattle.mk_laws.proofs.Vocabulary.{ne_eqb, not, not-true, others_are_held, phase_of, target, true, ◌||◌, ◌∙◌, ◌≡◌}
 use Rattle.mk_core.specs.Moments.{none_is_held}
 use Rattle.mk_laws.proofs.Tests.{all_below_on, or_on}
 
@@ -39,16 +37,16 @@ module _ (c : Config) (w v : World) (kept : TurnIsLeft w v) where
 
   pub gates_on : (s : Seat) (f : Flight) (x : Step) → has_gates c w.now.words s f x ≡ true
       → has_gates c v.now.words s f x ≡ true
-  gates_on s f step.Give h = none_on h
-  gates_on s f (step.Look (word.Reg j r)) h = or_on _ _ (is_number_of s j) _ (λ e. e) (held_on j) h
-  gates_on s f (step.Head p n) h = or_on _ _ _ _ (λ e. e) (others_on s) h
-  gates_on s f (step.Quar p n) h = or_on _ _ _ _ (λ e. ap not (run_cell_same f) ∙ e) (others_on s) h
-  gates_on s f (step.Hold j) h = free_on j h
-  gates_on s f (step.Open j) h = held_on j h
-  gates_on s f step.Close h = others_on s h
-  gates_on s f step.Release h = others_on s h
-  gates_on s f step.Want h = others_on s h
-  gates_on s f (step.Undirty p) h = two_or s h
-  gates_on s f (step.Black p n) h = others_on s h
-  gates_on s f (step.Unblack p) h = two_or s h
+  gates_on s f Step.Give h = none_on h
+  gates_on s f (Step.Look (Word.Reg j r)) h = or_on _ _ (is_number_of s j) _ (λ e. e) (held_on j) h
+  gates_on s f (Step.Head p n) h = or_on _ _ _ _ (λ e. e) (others_on s) h
+  gates_on s f (Step.Quar p n) h = or_on _ _ _ _ (λ e. ap not (run_cell_same f) ∙ e) (others_on s) h
+  gates_on s f (Step.Hold j) h = free_on j h
+  gates_on s f (Step.Open j) h = held_on j h
+  gates_on s f Step.Close h = others_on s h
+  gates_on s f Step.Release h = others_on s h
+  gates_on s f Step.Want h = others_on s h
+  gates_on s f (Step.Undirty p) h = two_or s h
+  gates_on s f (Step.Black p n) h = others_on s h
+  gates_on s f (Step.Unblack p) h = two_or s h
   gates_on s f _ h = cc

@@ -1,22 +1,20 @@
 -- The words of the place of a New are 0 when it is granted, and a wiped word is in no mapped allocation.
 use Rattle.mk_laws.proofs.Vocabulary.{Bool, Cell, Config, ImagePremises, IsPlaceOfNone, MayHoldWords, Mirrors}
 use Rattle.mk_laws.proofs.Vocabulary.{NeverState, None, Option, Place, PlacedAllocation, RunPages, Some, Words, World}
-use Rattle.mk_laws.proofs.Vocabulary.{address_of, all_below-at, allocation_at, and_parts, ap, arith, base_made}
+use Rattle.mk_laws.proofs.Vocabulary.{ℕ, address_of, all_below-at, allocation_at, and_parts, ap, arith, base_made}
 use Rattle.mk_laws.proofs.Vocabulary.{cases_eq, cell_of_allocation, cells_begin, eqb-true, false, false≢true}
 use Rattle.mk_laws.proofs.Vocabulary.{first_word, header_at, header_in, header_of, inl, inr, is_left_unmarked, is_phase}
 use Rattle.mk_laws.proofs.Vocabulary.{is_released_cell, is_run_unmapped, is_some_and, is_unmapped, is_unmapped_header}
 use Rattle.mk_laws.proofs.Vocabulary.{large_count, leb-true, length, ltb-true, nat_le, nat_lt, not, object_placed}
 use Rattle.mk_laws.proofs.Vocabulary.{or_cases, pages_made, phase_of, placed_at, pointed_cell, refl, slice_index}
 use Rattle.mk_laws.proofs.Vocabulary.{stands, storage_words, sym, true, true≢false, typed_size, unmapped_header}
-use Rattle.mk_laws.proofs.Vocabulary.{unmapped_is_unmapped, word_points, words_of, ℕ, ◌&&◌, ◌*◌, ◌+◌, ◌-◌, ◌/◌, ◌<◌}
-use Rattle.mk_laws.proofs.Vocabulary.{◌∙◌, ◌≡◌, ◌≢◌, ◌≤◌}
+use Rattle.mk_laws.proofs.Vocabulary.{unmapped_is_unmapped, word_points, words_of, ◌&&◌, ◌*◌, ◌+◌, ◌-◌, ◌/◌, ◌<◌, ◌∙◌}
+use Rattle.mk_laws.proofs.Vocabulary.{◌≡◌, ◌≢◌, ◌≤◌}
+use Rattle.mk_core.proofs.GrantedAllocations.{placed_headers, placed_stands}
+use Rattle.mk_core.specs.{Cells.is_in_run, TurnConditions.is_in_gone_run, TurnConditions.may_wipe}
 use Rattle.mk_laws.proofs.Basics.{KnownWorld, Stands, exists_placed, unmapped_is, words_fit}
-use Rattle.mk_core.specs.Cells.{is_in_run}
-use Rattle.mk_core.specs.TurnConditions.{may_wipe, is_in_gone_run}
-use Rattle.mk_core.proofs.GrantedAllocations.{placed_stands, placed_headers}
-use Rattle.mk_laws.specs.ImagePremises.{OfMapped, OfReleased, OfFreedRun}
-use Rattle.mk_laws.proofs.ImagesStands.{is_gone}
-use Rattle.mk_laws.proofs.ImagesBefore.{first_in}
+use Rattle.mk_laws.proofs.{ImagesBefore.first_in, ImagesStands.is_gone}
+use Rattle.mk_laws.specs.ImagePremises.{OfFreedRun, OfMapped, OfReleased}
 
 -- the cell of a place, by the allocation that is granted there
 pub record FillsCell (c : Config) (w : Words) (a : PlacedAllocation) : Type 0 where
@@ -79,7 +77,7 @@ module _ (c : Config) (w : World) (n : NeverState) (known : KnownWorld c w) (mir
       elim (or_cases (is_some_and (is_released_cell w.now.words) (pointed_cell c.pages w.now.words.pages
       (address_of x))) (is_in_gone_run w.now.words w.now.seats.holding.freed x) h) [
         | inl r ↦ absurd (false≢true (sym (others.kept a u)
-            ∙ ap (λ (y : Option Cell). is_some_and (is_released_cell w.now.words) y) (sym cell) ∙ r))
+            ∙ ap (is_some_and (is_released_cell w.now.words)) (sym cell) ∙ r))
         | inr g ↦ absurd (true≢false (sym (gone_word w.now.seats.holding.freed refl g) ∙ mapped))
       ]
     where
@@ -97,9 +95,8 @@ module _ (c : Config) (w : World) (n : NeverState) (known : KnownWorld c w) (mir
           let inside = and_parts (nat_le run.page (x / 64)) (nat_lt (x / 64 - run.page) run.count) parts.0 in
           let low = leb-true run.page (x / 64) inside.0 in
           let high = ltb-true (x / 64 - run.page) run.count inside.1 in
-          let word : header_at w.now.words (run.page + (x / 64 - run.page))
-          ≡ unmapped_header run.count (x / 64 - run.page) = eqb-true _ _ (all_below-at run.count (x / 64 - run.page)
-          (stands w.now.words run.page (unmapped_header run.count)) parts.1 high) in
+          let word = eqb-true _ _ (all_below-at run.count (x / 64 - run.page) (stands w.now.words run.page
+          (unmapped_header run.count)) parts.1 high) in
           let place : x / 64 ≡ run.page + (x / 64 - run.page) = omega arith in
           ap (λ p. is_unmapped_header (header_in w.now.words p)) place ∙ ap (λ y. is_unmapped_header (header_of y)) word
           ∙ unmapped_is_unmapped run.count (x / 64 - run.page) (omega arith, omega arith) high

@@ -1,13 +1,12 @@
 -- `grant` on the terrain: what is granted is the claim of its place.
 use Rattle.mk_laws.proofs.Vocabulary.{BeginsAtCell, Bool, Config, Granted, Ground, HasLayout, IsLaidOn, IsShown, List}
-use Rattle.mk_laws.proofs.Vocabulary.{NoPlot, None, Option, Place, PlacedAllocation, RunPages, RunStands, Some, Used}
-use Rattle.mk_laws.proofs.Vocabulary.{[], append-nil, base_made, cell_of_allocation, claim_of, claims_of, cond-false}
-use Rattle.mk_laws.proofs.Vocabulary.{false, if◌then◌else◌, inl, inr, layout_scene_of, length, object_placed}
-use Rattle.mk_laws.proofs.Vocabulary.{place_claim, placed_at, refl, suc, sym, true, true≢false, zero, ℕ, ◌++◌, ◌/◌, ◌<◌}
-use Rattle.mk_laws.proofs.Vocabulary.{◌∙◌, ◌∷◌, ◌≡◌, ◌⊎◌}
+use Rattle.mk_laws.proofs.Vocabulary.{None, NoPlot, Option, Place, PlacedAllocation, RunPages, RunStands, Some, Used, ℕ}
+use Rattle.mk_laws.proofs.Vocabulary.{append-nil, base_made, cell_of_allocation, claim_of, claims_of, cond-false, false}
+use Rattle.mk_laws.proofs.Vocabulary.{if◌then◌else◌, inl, inr, layout_scene_of, length, object_placed, place_claim}
+use Rattle.mk_laws.proofs.Vocabulary.{placed_at, refl, suc, sym, true, true≢false, zero, [], ◌++◌, ◌/◌, ◌<◌, ◌∙◌, ◌∷◌}
+use Rattle.mk_laws.proofs.Vocabulary.{◌≡◌, ◌⊎◌}
 use Rattle.mk_core.proofs.StandingAllocations.{made_begins}
-use Rattle.mk_laws.proofs.Serving.{among_back, among_front}
-use Rattle.mk_laws.proofs.Released.{place_index}
+use Rattle.mk_laws.proofs.{Released.place_index, Serving.among_back, Serving.among_front}
 
 -- An allocation after a `grant` is one from before, or the new one.
 pub pushed_at : (xs : List PlacedAllocation) (a : PlacedAllocation) (i : ℕ)
@@ -74,9 +73,7 @@ granted_terrain c releasing marks t place a used is st =
         _ (inl refl))
 
     begins : BeginsAtCell (object_placed c a) a.base
-    begins =
-        let made = made_begins _ place shown.sized shown.known in
-        rw is.base made.0
+    begins = rw is.base (made_begins _ place shown.sized shown.known).0
 
     at : (a.base / 64 ≡ place.page) × ((cell_of_allocation c a).index ≡ place.index)
     at = place_index c a place shown.sized is.base shown.known

@@ -1,22 +1,17 @@
 -- What an event may do to what stands on the pages and to the quarantine, by the conditions under which it does so.
 use Rattle.mk_laws.proofs.Vocabulary.{Access, Bool, Caller, Cell, Config, Flight, Granted, Ground, List, Load, Moment}
-use Rattle.mk_laws.proofs.Vocabulary.{Named, None, Op, Option, Page, Seat, Some, Step, Store, Tally, Unplaced, Words}
-use Rattle.mk_laws.proofs.Vocabulary.{World, [], accessed, and_parts, carves, cell_freed, chosen, empties, eqb-false}
-use Rattle.mk_laws.proofs.Vocabulary.{eqb-true, false, flight_of, freed_where_it_stands, frees, gives_back, granted}
-use Rattle.mk_laws.proofs.Vocabulary.{ground_of, header_at, if◌then◌else◌, inl, inr, is_phase, is_undecided_new}
-use Rattle.mk_laws.proofs.Vocabulary.{is_used_once, map, marks_place, no_longer_fresh, not, not-true, nothing_done}
-use Rattle.mk_laws.proofs.Vocabulary.{object_made, or_cases, or_else, phase_of, place_now, refl, run_of_cell, slice_set}
-use Rattle.mk_laws.proofs.Vocabulary.{taken, takes_cell, tally_word, target, true, unmaps, used_at, with_released, ℕ}
-use Rattle.mk_laws.proofs.Vocabulary.{◌%◌, ◌&&◌, ◌++◌, ◌/◌, ◌==◌, ◌^◌, ◌||◌, ◌∷◌, ◌≡◌, ◌≢◌, ◌≤◌, ◌⊎◌}
-use Rattle.mk_core.specs.declared.events.Tally.TheVariants as tally
-use Rattle.mk_core.specs.declared.events.Word.TheVariants as word
-use Rattle.mk_core.specs.declared.events.Step.TheVariants as step
-use Rattle.mk_core.specs.declared.seats.Stage.TheVariants as stage
-use Rattle.mk_core.specs.TurnConditions.{may_give, may_head, may_use, may_quarantine, takes_snapshot, drops}
-use Rattle.mk_laws.proofs.Asked.{give_phase}
-use Rattle.mk_laws.proofs.NextSteps.{at_take, at_no_take}
+use Rattle.mk_laws.proofs.Vocabulary.{Named, None, Op, Option, Page, Seat, Some, Stage, Step, Store, Tally, Unplaced}
+use Rattle.mk_laws.proofs.Vocabulary.{Word, Words, World, ℕ, accessed, and_parts, carves, cell_freed, chosen, empties}
+use Rattle.mk_laws.proofs.Vocabulary.{eqb-false, eqb-true, false, flight_of, freed_where_it_stands, frees, gives_back}
+use Rattle.mk_laws.proofs.Vocabulary.{granted, ground_of, header_at, if◌then◌else◌, inl, inr, is_phase}
+use Rattle.mk_laws.proofs.Vocabulary.{is_undecided_new, is_used_once, map, marks_place, no_longer_fresh, not, not-true}
+use Rattle.mk_laws.proofs.Vocabulary.{nothing_done, object_made, or_cases, or_else, phase_of, place_now, refl}
+use Rattle.mk_laws.proofs.Vocabulary.{run_of_cell, slice_set, taken, takes_cell, tally_word, target, true, unmaps}
+use Rattle.mk_laws.proofs.Vocabulary.{used_at, with_released, [], ◌%◌, ◌&&◌, ◌++◌, ◌/◌, ◌==◌, ◌^◌, ◌||◌, ◌∷◌, ◌≡◌, ◌≢◌}
+use Rattle.mk_laws.proofs.Vocabulary.{◌≤◌, ◌⊎◌}
+use Rattle.mk_core.specs.TurnConditions.{drops, may_give, may_head, may_quarantine, may_use, takes_snapshot}
 use Rattle.mk_laws.proofs.Actors.{Meets, grants_new}
-use Rattle.mk_laws.proofs.OthersMoves.{WorldBehind}
+use Rattle.mk_laws.proofs.{Asked.give_phase, NextSteps.at_no_take, NextSteps.at_take, OthersMoves.WorldBehind}
 
 abbrev pub with_header : Words → ℕ → ℕ → List Page
 with_header w p n = slice_set w.pages p (record { header = n; used = used_at w p })
@@ -66,7 +61,7 @@ begun_by w b =
 -- where a seat steps whose call is f
 pub data GroundStep (c : Config) (w : World) (f : Flight) : Ground → Type 0 where
   Rests : GroundStep c w f (ground_of w)
-  Starts : w.now.words.turn ≡ 0 → f.stage ≡ stage.Idle
+  Starts : w.now.words.turn ≡ 0 → f.stage ≡ Stage.Idle
       → GroundStep c w f (record (ground_of w) { placing = Unplaced; run = None })
   Gives : may_give w.now f ≡ true → (phase_of w.now.words ≤ 1) ⊎ (phase_of w.now.words ≡ 5)
       → GroundStep c w f (record (ground_of w) { placing = Unplaced; run = None })
@@ -117,10 +112,10 @@ pub record KeepsGround (w x : Words) : Type 0 where
   pub snapshot : x.snapshot ≡ w.snapshot
 
 pub tally_ground : (w : Words) (n : Tally) (v : ℕ) → KeepsGround w (accessed w (Named (tally_word n)) (Store v))
-tally_ground w tally.Held v = record { pages = refl; freed = refl; snapshot = refl }
+tally_ground w Tally.Held v = record { pages = refl; freed = refl; snapshot = refl }
 tally_ground w _ v = record { pages = refl; freed = refl; snapshot = refl }
 
-pub reg_ground : (w : Words) (k r : ℕ) (a : Access) → KeepsGround w (accessed w (Named (word.Reg k r)) a)
+pub reg_ground : (w : Words) (k r : ℕ) (a : Access) → KeepsGround w (accessed w (Named (Word.Reg k r)) a)
 reg_ground w k r Load = record { pages = refl; freed = refl; snapshot = refl }
 reg_ground w k r _ = record { pages = refl; freed = refl; snapshot = refl }
 
@@ -159,9 +154,7 @@ used_step c w f p n h = by (is_phase w.now.words 4) refl h
         → (if b then gives_back w.now.words p n else not (is_used_once w.now.seats.holding.placing) && takes) ≡ true
         → GroundStep c w f (used_up c w f p n b)
     by true e k = GivesBack p n k (eqb-true _ 4 e)
-    by false e k =
-        let both = and_parts _ takes k in
-        TakesCell p n (not-true _ both.0) both.1 (eqb-false _ 4 e)
+    by false e k = TakesCell p n (not-true _ (and_parts _ takes k).0) (and_parts _ takes k).1 (eqb-false _ 4 e)
 
 quar_step : (c : Config) (w : World) (f : Flight) (p n : ℕ) → may_quarantine c w.now f p n ≡ true
     → GroundStep c w f (with_quarantine w p n (cell_freed c.pages w.now.words f p n))
@@ -191,7 +184,7 @@ mark_step c w f p n = by (marks_place w.now.words (object_made c f.op) (place_no
     by true e = Places p n e
     by false e = Rests
 
-take_step : (c : Config) (w : World) (f : Flight) → f.stage ≡ stage.Idle
+take_step : (c : Config) (w : World) (f : Flight) → f.stage ≡ Stage.Idle
     → GroundStep c w f (begun_by w (w.now.words.turn == 0))
 take_step c w f idle = by (w.now.words.turn == 0) refl
   where
@@ -199,8 +192,8 @@ take_step c w f idle = by (w.now.words.turn == 0) refl
     by true e = Starts (eqb-true w.now.words.turn 0 e) idle
     by false e = Rests
 
-taker_idle : (c : Config) (m : Moment) (seat : Seat) (o : Option Op) → Meets c m seat (step.Take o)
-    → (flight_of m seat).stage ≡ stage.Idle
+taker_idle : (c : Config) (m : Moment) (seat : Seat) (o : Option Op) → Meets c m seat (Step.Take o)
+    → (flight_of m seat).stage ≡ Stage.Idle
 taker_idle c m (Caller k) (Some o) h = (at_take _ _ o h.order).0
 taker_idle c m (Caller k) None h = absurd (at_no_take _ _ h.order)
 taker_idle c m _ o h = refl
@@ -208,15 +201,15 @@ taker_idle c m _ o h = refl
 -- all kinds, whatever the seat
 pub ground_step : (c : Config) (w : World) (seat : Seat) (x : Step) → Meets c w.now seat x
     → GroundStep c w (flight_of w.now seat) (ground_of (WorldBehind c w seat x))
-ground_step c w seat (step.Take o) h = take_step c w (flight_of w.now seat) (taker_idle c w.now seat o h)
-ground_step c w seat step.Give h = Gives h.holder (give_phase _ h.phase)
-ground_step c w seat step.Reg h = rests c w (flight_of w.now seat) _ (reg_ground w.now.words _ _ _)
-ground_step c w seat (step.Tally n v) h = rests c w (flight_of w.now seat) _ (tally_ground w.now.words n v)
-ground_step c w seat (step.Head p n) h = head_step c w (flight_of w.now seat) p n h.holder
-ground_step c w seat (step.Used p n) h = used_step c w (flight_of w.now seat) p n h.holder
-ground_step c w seat (step.Quar p n) h = quar_step c w (flight_of w.now seat) p n h.holder
-ground_step c w seat step.Grant h = Grants (grants_new c w.now seat h) h.holder
-ground_step c w seat (step.Mark p n) h = mark_step c w (flight_of w.now seat) p n
-ground_step c w seat step.Begin h = Freshens (eqb-true _ 0 h.phase)
-ground_step c w seat step.Release h = Releases (eqb-true _ 3 h.phase)
+ground_step c w seat (Step.Take o) h = take_step c w (flight_of w.now seat) (taker_idle c w.now seat o h)
+ground_step c w seat Step.Give h = Gives h.holder (give_phase _ h.phase)
+ground_step c w seat Step.Reg h = rests c w (flight_of w.now seat) _ (reg_ground w.now.words _ _ _)
+ground_step c w seat (Step.Tally n v) h = rests c w (flight_of w.now seat) _ (tally_ground w.now.words n v)
+ground_step c w seat (Step.Head p n) h = head_step c w (flight_of w.now seat) p n h.holder
+ground_step c w seat (Step.Used p n) h = used_step c w (flight_of w.now seat) p n h.holder
+ground_step c w seat (Step.Quar p n) h = quar_step c w (flight_of w.now seat) p n h.holder
+ground_step c w seat Step.Grant h = Grants (grants_new c w.now seat h) h.holder
+ground_step c w seat (Step.Mark p n) h = mark_step c w (flight_of w.now seat) p n
+ground_step c w seat Step.Begin h = Freshens (eqb-true _ 0 h.phase)
+ground_step c w seat Step.Release h = Releases (eqb-true _ 3 h.phase)
 ground_step c w seat _ h = Rests

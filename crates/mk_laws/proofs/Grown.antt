@@ -1,6 +1,6 @@
 -- What holds along a history that goes on by events of others, from what one such event keeps.
-use Rattle.mk_laws.proofs.Vocabulary.{AreOfOthers, Config, Event, IsHistory, List, Seat, [], append-nil, append_assoc}
-use Rattle.mk_laws.proofs.Vocabulary.{earlier_part_is_history, false, is_one_of, sym, ◌++◌, ◌∷◌, ◌≡◌}
+use Rattle.mk_laws.proofs.Vocabulary.{AreOfOthers, Config, Event, IsHistory, List, Seat, append-nil, append_assoc}
+use Rattle.mk_laws.proofs.Vocabulary.{earlier_part_is_history, false, is_one_of, sym, [], ◌++◌, ◌∷◌, ◌≡◌}
 
 pub along_others : (c : Config) (seats : List Seat) (R : List Event → List Event → Type 0)
     → ((es : List Event) → R es es) → ((es fs gs : List Event) → R es fs → R fs gs → R es gs)

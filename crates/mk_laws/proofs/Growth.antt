@@ -1,9 +1,8 @@
 -- Bits are added to a word of a list, and no bit is cleared.
-use Rattle.std.specs.Prelude.{max}
-use Rattle.std.proofs.lemmas.Nat.Bits.{bit_at_or}
-use Rattle.mk_laws.proofs.Vocabulary.{List, OnlyGrow, ap, arith, bit_at, bit_or, cases_eq, cases_lt, eq-eqb, eqb-true}
-use Rattle.mk_laws.proofs.Vocabulary.{get_or-set_other, get_or-set_same, has_bit, inl, inr, length, set_past}
-use Rattle.mk_laws.proofs.Vocabulary.{slice_index, slice_set, sym, true, ℕ, ◌∙◌, ◌≡◌, ◌≤◌}
+use Rattle.std.{proofs.lemmas.Nat.Bits.bit_at_or, specs.Prelude.max}
+use Rattle.mk_laws.proofs.Vocabulary.{List, OnlyGrow, ℕ, ap, arith, bit_at, bit_or, cases_eq, cases_lt, eq-eqb}
+use Rattle.mk_laws.proofs.Vocabulary.{eqb-true, get_or-set_other, get_or-set_same, has_bit, inl, inr, length, set_past}
+use Rattle.mk_laws.proofs.Vocabulary.{slice_index, slice_set, sym, true, ◌∙◌, ◌≡◌, ◌≤◌}
 
 more : (a b k : ℕ) → has_bit a k ≡ true → has_bit (bit_or a b) k ≡ true
 more a b k is =

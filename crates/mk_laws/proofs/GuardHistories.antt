@@ -1,24 +1,21 @@
 -- What stands while a cycle marks and stops, after every enabled list.
 use Rattle.mk_laws.proofs.Vocabulary.{AreEnabledFrom, AreOfPages, CellsAreClosed, Config, Event, GuardPremisesFrom}
 use Rattle.mk_laws.proofs.Vocabulary.{HasItsHeaders, IsWithinLimits, IsWordOf, List, MarksAreClosed, PlacedAllocation}
-use Rattle.mk_laws.proofs.Vocabulary.{Words, World, [], access, accessed_lengths, and_parts, arith, cell_words}
+use Rattle.mk_laws.proofs.Vocabulary.{Step, Words, World, ℕ, access, accessed_lengths, and_parts, arith, cell_words}
 use Rattle.mk_laws.proofs.Vocabulary.{cells_begin, enabled_meets, eqb-true, false, first_moment, first_page_shows}
 use Rattle.mk_laws.proofs.Vocabulary.{first_word, first_world, has_no_pointers, header_at, header_in, header_made}
 use Rattle.mk_laws.proofs.Vocabulary.{histories_keep_lengths, inl, inr, is_mapped, left, left_from, made_is_mapped}
 use Rattle.mk_laws.proofs.Vocabulary.{not-true, object_placed, pages_some, part_has_no_pointers, placed_at, storage_of}
 use Rattle.mk_laws.proofs.Vocabulary.{storage_words, subst, sym, true, typed_size, word_accessed, word_points_well}
-use Rattle.mk_laws.proofs.Vocabulary.{world_behind, zero_lengths, ℕ, ◌+◌, ◌-◌, ◌/◌, ◌∙◌, ◌∷◌, ◌≡◌, ◌⊎◌}
-use Rattle.mk_laws.proofs.Basics.{Known, known_at_first, known_behind, known_left}
+use Rattle.mk_laws.proofs.Vocabulary.{world_behind, zero_lengths, [], ◌+◌, ◌-◌, ◌/◌, ◌∙◌, ◌∷◌, ◌≡◌, ◌⊎◌}
 use Rattle.mk_geom.specs.StorageWords.{cell_of_storage}
+use Rattle.mk_core.proofs.{PointedAllocations.marked_where_its_cell_is, StandingAllocations.cell_is_known}
 use Rattle.mk_core.specs.ClosedMarks.{is_marked_allocation}
-use Rattle.mk_core.proofs.StandingAllocations.{cell_is_known}
-use Rattle.mk_core.proofs.PointedAllocations.{marked_where_its_cell_is}
-use Rattle.mk_laws.specs.Kept.{StandsMapped, GuardPremisesAtFirst, EventsKeepTheMarks, MarksStandBehindLists}
-use Rattle.mk_laws.specs.Kept.{CloseFindsMarksClosed, StoppedMarksAreClosed, MarkingGuards}
-use Rattle.mk_core.specs.declared.events.Step.TheVariants as step
+use Rattle.mk_laws.proofs.Basics.{Known, known_at_first, known_behind, known_left}
+use Rattle.mk_laws.proofs.{Closing.closed, GuardOneEvent.marks_behind}
+use Rattle.mk_laws.specs.Kept.{CloseFindsMarksClosed, EventsKeepTheMarks, GuardPremisesAtFirst, MarkingGuards}
+use Rattle.mk_laws.specs.Kept.{MarksStandBehindLists, StandsMapped, StoppedMarksAreClosed}
 use Rattle.mk_laws.specs.Guard.{MarksStand}
-use Rattle.mk_laws.proofs.Closing.{closed}
-use Rattle.mk_laws.proofs.GuardOneEvent.{marks_behind}
 
 -- Where cells are closed, so are the allocations that stand there.
 
@@ -92,7 +89,7 @@ marks_stand_behind_lists c es limits on say =
 
 pub close_finds_marks_closed : CloseFindsMarksClosed
 close_finds_marks_closed c es seat limits on enabled say g =
-    let h = enabled_meets c (left c es).now (record { seat = seat; step = step.Close }) enabled in
+    let h = enabled_meets c (left c es).now (record { seat = seat; step = Step.Close }) enabled in
     closed_allocations c (left c es) limits say.mapped
     (closed c (left c es).now seat (known_left c es limits on) (histories_keep_lengths c es) h
     (g.guarded (inr (eqb-true _ 2 h.phase))).black)

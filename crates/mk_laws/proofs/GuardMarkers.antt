@@ -1,19 +1,16 @@
 -- What the markers are in the middle of stands after an event that keeps what is guarded.
 use Rattle.mk_laws.proofs.Vocabulary.{AreOfPages, Bool, Caller, Cell, Config, Host, List, Marker, MarkerStands}
-use Rattle.mk_laws.proofs.Vocabulary.{MarkerState, Moment, None, Option, Seat, SeenHeader, Some, Step, Word, and_parts}
-use Rattle.mk_laws.proofs.Vocabulary.{arith, behind_mlook, bit_or, cell_at, cell_seen, false, found, header_at}
-use Rattle.mk_laws.proofs.Vocabulary.{if◌then◌else◌, is_attending, is_none, is_some, marker_behind, marker_of}
-use Rattle.mk_laws.proofs.Vocabulary.{page_at_address, refl, slice_index, slice_set, sym, true, ℕ, ◌<◌, ◌==◌, ◌≡◌}
-use Rattle.mk_laws.proofs.Basics.{Behind, Keeps, Meets, marker_set}
-use Rattle.mk_core.specs.declared.events.Step.TheVariants as step
-use Rattle.mk_core.specs.declared.events.Word.TheVariants as word
+use Rattle.mk_laws.proofs.Vocabulary.{MarkerState, Moment, None, Option, Seat, SeenHeader, Some, Step, Word, ℕ}
+use Rattle.mk_laws.proofs.Vocabulary.{and_parts, arith, behind_mlook, bit_or, cell_at, cell_seen, false, found}
+use Rattle.mk_laws.proofs.Vocabulary.{header_at, if◌then◌else◌, is_attending, is_none, is_some, marker_behind}
+use Rattle.mk_laws.proofs.Vocabulary.{marker_of, page_at_address, refl, slice_index, slice_set, sym, true, ◌<◌, ◌==◌}
+use Rattle.mk_laws.proofs.Vocabulary.{◌≡◌}
 use Rattle.mk_core.specs.declared.seats.Presence.TheVariants.{Out}
+use Rattle.mk_core.proofs.{PointedPages.cell_within, WordBits.bit_for_has, WordBits.bits_added}
 use Rattle.mk_core.specs.MarkerConditions.{is_markers_word}
-use Rattle.mk_core.proofs.PointedPages.{cell_within}
-use Rattle.mk_core.proofs.WordBits.{bit_for_has, bits_added}
-use Rattle.mk_laws.proofs.KeptGuard.{marker_kept}
-use Rattle.mk_laws.proofs.Scans.{look_stands, unseen_stands, unscanning_stands, idle_stands, claim_stands, load_stands}
-use Rattle.mk_laws.proofs.Scans.{mark_stands, seen_well}
+use Rattle.mk_laws.proofs.Scans.{claim_stands, idle_stands, load_stands, look_stands, mark_stands, seen_well}
+use Rattle.mk_laws.proofs.Scans.{unscanning_stands, unseen_stands}
+use Rattle.mk_laws.proofs.{Basics.Behind, Basics.Keeps, Basics.Meets, Basics.marker_set, KeptGuard.marker_kept}
 
 pub nothing_is : {A : Type 0} (x : Option A) → is_none x ≡ true → x ≡ None
 nothing_is None h = refl
@@ -46,9 +43,9 @@ seen_cell c x own = by x.seen x.hand refl refl own
     by _ _ es eh own = cc
 
 looks : (c : Config) (m : Moment) (x : Word) (y : MarkerState) (f : ℕ)
-    → ((p : ℕ) → x ≡ word.Head p → f ≡ header_at m.words p) → MarkerStands c m y
+    → ((p : ℕ) → x ≡ Word.Head p → f ≡ header_at m.words p) → MarkerStands c m y
     → MarkerStands c m (behind_mlook c f x y)
-looks c m (word.Head p) y f is h = rw (is p refl) (look_stands c m p y h)
+looks c m (Word.Head p) y f is h = rw (is p refl) (look_stands c m p y h)
 looks c m _ y f is h = unseen_stands c m y h
 
 -- the marks with these bits more on a page
@@ -62,25 +59,24 @@ own_marker : (c : Config) (m : Moment) (k : ℕ) (x : Step) → AreOfPages c.pag
     → is_attending (marker_behind c (found c m (record { seat = Marker k; step = x })) x (marker_of m k)).presence
     ≡ true → MarkerStands c (Behind c m (Marker k) x)
     (marker_behind c (found c m (record { seat = Marker k; step = x })) x (marker_of m k))
-own_marker c m k step.Attend len h keeps before at = idle_stands c _ _
-own_marker c m k step.Quit len h keeps before at = idle_stands c _ Out
-own_marker c m k (step.Mlook x) len h keeps before at =
-    marker_kept c m _ _ keeps (looks c m x (marker_of m k) (found c m (record { seat = Marker k; step = step.Mlook x }))
+own_marker c m k Step.Attend len h keeps before at = idle_stands c _ _
+own_marker c m k Step.Quit len h keeps before at = idle_stands c _ Out
+own_marker c m k (Step.Mlook x) len h keeps before at =
+    marker_kept c m _ _ keeps (looks c m x (marker_of m k) (found c m (record { seat = Marker k; step = Step.Mlook x }))
     (λ p e. rw e) (before ((and_parts _ (is_markers_word x) h.marker).0)))
-own_marker c m k (step.Claim p i) len h keeps before at =
+own_marker c m k (Step.Claim p i) len h keeps before at =
     marker_kept c m _ _ keeps (claim_stands c m (marker_of m k) p i (and_parts _ _ h.marker).1 (before at))
-own_marker c m k step.Mload len h keeps before at =
-    let a = and_parts _ _ h.marker in
-    marker_kept c m _ _ keeps (load_stands c m (marker_of m k) _ a.0 (nothing_is (marker_of m k).hand a.1)
-    (λ y e. sym (rw e)) (before at))
-own_marker c m k step.Mmark len h keeps before at =
+own_marker c m k Step.Mload len h keeps before at =
+    marker_kept c m _ _ keeps (load_stands c m (marker_of m k) _ (and_parts _ _ h.marker).0
+    (nothing_is (marker_of m k).hand (and_parts _ _ h.marker).1) (λ y e. sym (rw e)) (before at))
+own_marker c m k Step.Mmark len h keeps before at =
     let s = seen_cell c (marker_of m k) h.marker in
-    let n = Behind c m (Marker k) step.Mmark in
+    let n = Behind c m (Marker k) Step.Mmark in
     let there : MarkerStands c n (marker_of m k) = marker_kept c m n (marker_of m k) keeps (before at) in
     mark_stands c n (marker_of m k) s.value s.hand (seen_well c n (marker_of m k) s.cell s.value s.hand s.is there
     (rw s.is (bits_added m.words.marks s.cell.page _ s.cell.index
     (let lt = s.page in omega (arith, len.marks, lt)) (bit_for_has s.cell.index s.index)))) there
-own_marker c m k step.Mblack len h keeps before at =
+own_marker c m k Step.Mblack len h keeps before at =
     marker_kept c m _ _ keeps (unscanning_stands c m (marker_of m k) (before at))
 own_marker c m k _ len h keeps before at = let kind = h.kind in cc
 
@@ -90,10 +86,8 @@ pub markers_stand : (c : Config) (m : Moment) (seat : Seat) (x : Step) → AreOf
     → ((k : ℕ) → is_attending (marker_of m k).presence ≡ true → MarkerStands c m (marker_of m k))
     → (k : ℕ) → is_attending (marker_of (Behind c m seat x) k).presence ≡ true
     → MarkerStands c (Behind c m seat x) (marker_of (Behind c m seat x) k)
-markers_stand c m (Caller k) x len h keeps before j at =
-    marker_kept c m (Behind c m (Caller k) x) (marker_of m j) keeps (before j at)
-markers_stand c m Host x len h keeps before j at =
-    marker_kept c m (Behind c m Host x) (marker_of m j) keeps (before j at)
+markers_stand c m (Caller k) x len h keeps before j at = marker_kept c m (Behind c m (Caller k) x) _ keeps (before j at)
+markers_stand c m Host x len h keeps before j at = marker_kept c m (Behind c m Host x) _ keeps (before j at)
 markers_stand c m (Marker k) x len h keeps before j at = marker_set m.seats.markers k j
     (marker_behind c (found c m (record { seat = Marker k; step = x })) x (marker_of m k))
     (λ (y : MarkerState). is_attending y.presence ≡ true → MarkerStands c (Behind c m (Marker k) x) y)

@@ -2,35 +2,25 @@
 use Rattle.mk_laws.proofs.Vocabulary.{AreOfPages, BlackIsGuarded, Bool, Caller, Config, DirtyIsOwed, GuardPremises}
 use Rattle.mk_laws.proofs.Vocabulary.{Host, IsGuarded, IsMarking, IsWithinLimits, Marker, MarkerStands, MarkerState}
 use Rattle.mk_laws.proofs.Vocabulary.{Moment, None, Option, PageIsDirty, PointsWell, Scan, Seat, Some, Step, Words}
-use Rattle.mk_laws.proofs.Vocabulary.{World, all_below, all_below-at, and_parts, arith, bit_or, cases_eq, cases_lt}
+use Rattle.mk_laws.proofs.Vocabulary.{World, ℕ, all_below, all_below-at, and_parts, arith, bit_or, cases_eq, cases_lt}
 use Rattle.mk_laws.proofs.Vocabulary.{cell_words, cells_under, eq-eqb, eqb-true, false, first_word, get_or-set_other}
 use Rattle.mk_laws.proofs.Vocabulary.{get_or_past, has_bit, has_clean_page, has_no_pointers, head_page, header_at}
 use Rattle.mk_laws.proofs.Vocabulary.{header_in, inl, inr, is_attending, is_marked, is_none, is_phase, is_scanned}
 use Rattle.mk_laws.proofs.Vocabulary.{marker_of, may_turn_black, nat_lt, no_bit, none_attends, not, not-true, or_cases}
 use Rattle.mk_laws.proofs.Vocabulary.{phase_of, refl, scan_page, slice_index, slice_set, subst, suc, sym, true}
-use Rattle.mk_laws.proofs.Vocabulary.{true≢false, word_points_well, words_under, zero, ℕ, ◌&&◌, ◌*◌, ◌+◌, ◌/◌, ◌<◌}
-use Rattle.mk_laws.proofs.Vocabulary.{◌==◌, ◌^◌, ◌||◌, ◌∙◌, ◌≡◌, ◌≢◌, ◌≤◌, ◌⊎◌}
-use Rattle.mk_laws.proofs.Basics.{Behind, Keeps, Known, Meets, either_phase, headers_kind, is_head, over_phase}
-use Rattle.mk_laws.proofs.Basics.{wells_from}
-use Rattle.mk_core.specs.declared.events.Step.TheVariants as step
-use Rattle.mk_core.specs.Cells.{words_point_well}
-use Rattle.mk_core.specs.Accesses.{scan_bit}
-use Rattle.mk_core.specs.StopConditions.{blackens}
-use Rattle.mk_core.proofs.WordBits.{bit_of_power, bit_of_cell, more_bits}
-use Rattle.mk_laws.proofs.IdleMarkers.{work_attends}
-use Rattle.mk_laws.specs.Guard.{Guard, MarksStand}
-use Rattle.mk_laws.proofs.Wells.{bare_guarded}
+use Rattle.mk_laws.proofs.Vocabulary.{true≢false, word_points_well, words_under, zero, ◌&&◌, ◌*◌, ◌+◌, ◌/◌, ◌<◌, ◌==◌}
+use Rattle.mk_laws.proofs.Vocabulary.{◌^◌, ◌||◌, ◌∙◌, ◌≡◌, ◌≢◌, ◌≤◌, ◌⊎◌}
+use Rattle.mk_core.proofs.WordBits.{bit_of_cell, bit_of_power, more_bits}
+use Rattle.mk_core.specs.{Accesses.scan_bit, Cells.words_point_well, StopConditions.blackens}
+use Rattle.mk_laws.proofs.Changes.{blacks_kind, dirty_kind, heap_kind, is_blackening, is_undirty, marks_kind, owed_kind}
+use Rattle.mk_laws.proofs.GuardStopped.{leaves_closed, stays_closed}
 use Rattle.mk_laws.proofs.KeptGuard.{NewCellsAreGuarded, black_kept, goes_equal}
-use Rattle.mk_laws.proofs.Changes.{owed_kind, heap_kind, dirty_kind, marks_kind, blacks_kind, is_undirty, is_blackening}
-use Rattle.mk_laws.proofs.CoveredWords.{covered_word}
-use Rattle.mk_laws.proofs.Scans.{scanned_guarded}
-use Rattle.mk_laws.proofs.GuardMarkers.{nothing_is, markers_stand}
-use Rattle.mk_laws.proofs.Asked.{none_at}
-use Rattle.mk_laws.proofs.Phases.{is_phase_step, phase_stays}
-use Rattle.mk_laws.proofs.FoundHeaders.{head_finds}
-use Rattle.mk_laws.proofs.Headers.{head_keeps, no_new_cells}
-use Rattle.mk_laws.proofs.Closing.{closed}
-use Rattle.mk_laws.proofs.GuardStopped.{stays_closed, leaves_closed}
+use Rattle.mk_laws.proofs.{Asked.none_at, Basics.Behind, Basics.Keeps, Basics.Known, Basics.Meets, Basics.either_phase}
+use Rattle.mk_laws.proofs.{Basics.headers_kind, Basics.is_head, Basics.over_phase, Basics.wells_from, Closing.closed}
+use Rattle.mk_laws.proofs.{CoveredWords.covered_word, FoundHeaders.head_finds, GuardMarkers.markers_stand}
+use Rattle.mk_laws.proofs.{GuardMarkers.nothing_is, Headers.head_keeps, Headers.no_new_cells, IdleMarkers.work_attends}
+use Rattle.mk_laws.proofs.{Phases.is_phase_step, Phases.phase_stays, Scans.scanned_guarded, Wells.bare_guarded}
+use Rattle.mk_laws.specs.Guard.{Guard, MarksStand}
 
 -- The words of black cells stay guarded: cells that turn black, and pages that are made clean.
 
@@ -58,7 +48,7 @@ unfolding all_below
 turned w pages p value zero h = cc
 turned w pages p value (suc n) h =
     by (blackens pages w p value n) refl (all_below n (λ k. not (blackens pages w p value k)))
-    (λ f. turned w pages p value n f) h
+    (turned w pages p value n) h
   where
     by : (b : Bool) → blackens pages w p value n ≡ b → (r : Bool) → (r ≡ false → Blackened w pages p value)
         → (r && not b) ≡ false → Blackened w pages p value
@@ -79,8 +69,8 @@ turned_words pages w p k h sc =
     ]
 
 pub black_kind : (c : Config) (m : Moment) (seat : Seat) (p value : ℕ)
-    → Keeps c m (Behind c m seat (step.Black p value)) → NewCellsAreGuarded c m (Behind c m seat (step.Black p value))
-    → Meets c m seat (step.Black p value) → BlackIsGuarded c m → BlackIsGuarded c (Behind c m seat (step.Black p value))
+    → Keeps c m (Behind c m seat (Step.Black p value)) → NewCellsAreGuarded c m (Behind c m seat (Step.Black p value))
+    → Meets c m seat (Step.Black p value) → BlackIsGuarded c m → BlackIsGuarded c (Behind c m seat (Step.Black p value))
 black_kind c m seat p value keeps new h black =
     let own = and_parts _ (not (all_below 32 (λ k. not (blackens c.pages m.words p value k)))) h.holder in
     let t = turned m.words c.pages p value 32
@@ -95,9 +85,9 @@ black_kind c m seat p value keeps new h black =
     rw e (PointsWell at)) black
 
 -- `mblack`: the marker's scan is at its end
-pub mblack_kind : (c : Config) (m : Moment) (k : ℕ) → Known c m → Keeps c m (Behind c m (Marker k) step.Mblack)
-    → NewCellsAreGuarded c m (Behind c m (Marker k) step.Mblack)
-    → Meets c m (Marker k) step.Mblack → Guard c m → BlackIsGuarded c (Behind c m (Marker k) step.Mblack)
+pub mblack_kind : (c : Config) (m : Moment) (k : ℕ) → Known c m → Keeps c m (Behind c m (Marker k) Step.Mblack)
+    → NewCellsAreGuarded c m (Behind c m (Marker k) Step.Mblack)
+    → Meets c m (Marker k) Step.Mblack → Guard c m → BlackIsGuarded c (Behind c m (Marker k) Step.Mblack)
 mblack_kind c m k known keeps new h g = blackened c m _ _ _ keeps new refl (by (marker_of m k).scan refl own.0) g.black
   where
     own : (is_scanned (marker_of m k).scan ≡ true) × (is_none (marker_of m k).hand ≡ true)
@@ -110,10 +100,8 @@ mblack_kind c m k known keeps new h g = blackened c m _ _ _ keeps new refl (by (
         → IsGuarded c m (64 * scan_page scan + j * words_under (header_in m.words (scan_page scan)) + i)
     by None e done j is i lt sc li = cc
     by (Some y) e done j is i lt sc li =
-        let st = (g.markers k (work_attends c (marker_of m k) step.Mblack (known.orderly.idle k) h.marker refl)).scan y
-        e in
-        let none = nothing_is _ own.1 in
-        rw (bit_of_cell y.index j is) (scanned_guarded c m y (rw none at st) done sc i li)
+        let st = (g.markers k (work_attends c _ Step.Mblack (known.orderly.idle k) h.marker refl)).scan y e in
+        rw (bit_of_cell y.index j is) (scanned_guarded c m y (rw (nothing_is _ own.1) at st) done sc i li)
 
 -- `undirty`: in the stop, nothing that is black has a word other than 0 there
 
@@ -128,20 +116,18 @@ pub record Undirties (m : Moment) (q : ℕ) : Type 0 where
   pub none : none_attends m.seats.markers ≡ true
   pub head : slice_index m.words.blacks (head_page m.words q) ≡ 0
 
-pub undirties : (c : Config) (m : Moment) (seat : Seat) (q : ℕ) → IsMarking m.words → Meets c m seat (step.Undirty q)
+pub undirties : (c : Config) (m : Moment) (seat : Seat) (q : ℕ) → IsMarking m.words → Meets c m seat (Step.Undirty q)
     → Undirties m q
 undirties c m seat q early h = by (is_phase m.words 2) (stop_wanted m early h.phase) h.holder
   where
     by : (b : Bool) → b ≡ true → (not b || (none_attends m.seats.markers && (slice_index m.words.blacks q == 0)
         && (slice_index m.words.blacks (head_page m.words q) == 0))) ≡ true → Undirties m q
     by false e own = absurd (true≢false (sym e))
-    by true e own =
-        let a = and_parts _ _ own in
-        record { none = (and_parts _ _ a.0).0; head = eqb-true _ 0 a.1 }
+    by true e own = record { none = (and_parts _ _ (and_parts _ _ own).0).0; head = eqb-true _ 0 (and_parts _ _ own).1 }
 
 pub undirty_kind : (c : Config) (w : World) (seat : Seat) (q : ℕ) → AreOfPages c.pages w.now.words
-    → IsMarking w.now.words → GuardPremises c w → Meets c w.now seat (step.Undirty q)
-    → BlackIsGuarded c w.now → BlackIsGuarded c (Behind c w.now seat (step.Undirty q))
+    → IsMarking w.now.words → GuardPremises c w → Meets c w.now seat (Step.Undirty q)
+    → BlackIsGuarded c w.now → BlackIsGuarded c (Behind c w.now seat (Step.Undirty q))
 undirty_kind c w seat q len early say h black p k i lt is scanned li =
     elim (cases_eq (slice_index w.now.words.heap (64 * p + k * words_under (header_in w.now.words p) + i)) 0) [
       | inl z ↦ bare_guarded c _ _ z
@@ -154,10 +140,10 @@ undirty_kind c w seat q len early say h black p k i lt is scanned li =
       ]
     ]
   where
-    by : {x : ℕ} → IsGuarded c w.now x → x / 64 ≢ q → IsGuarded c (Behind c w.now seat (step.Undirty q)) x
+    by : {x : ℕ} → IsGuarded c w.now x → x / 64 ≢ q → IsGuarded c (Behind c w.now seat (Step.Undirty q)) x
     by {x} (PointsWell h) ne = PointsWell h
     by {x} (PageIsDirty d) ne = PageIsDirty (get_or-set_other w.now.words.dirty q (x / 64) 0 0 ne ∙ d)
-    by {x} (DirtyIsOwed j owes) ne = elim (owed_kind c w.now seat (step.Undirty q) len h j (x / 64) owes) [
+    by {x} (DirtyIsOwed j owes) ne = elim (owed_kind c w.now seat (Step.Undirty q) len h j (x / 64) owes) [
       | inl o ↦ DirtyIsOwed j o
       | inr d ↦ PageIsDirty d
     ]
@@ -179,35 +165,35 @@ keeps_of c m seat x known len early h no_head no_clean =
     }
 
 keeps_head : (c : Config) (w : World) (seat : Seat) (p n : ℕ) → IsWithinLimits c → Known c w.now
-    → AreOfPages c.pages w.now.words → IsMarking w.now.words → GuardPremises c w → Meets c w.now seat (step.Head p n)
-    → Keeps c w.now (Behind c w.now seat (step.Head p n))
+    → AreOfPages c.pages w.now.words → IsMarking w.now.words → GuardPremises c w → Meets c w.now seat (Step.Head p n)
+    → Keeps c w.now (Behind c w.now seat (Step.Head p n))
 keeps_head c w seat p n limits known len early say h =
     let s = head_keeps c w.now seat p n len h (head_finds c w seat p n limits known early say h) in
     record {
       wells = s.wells;
-      heap = heap_kind c w.now seat (step.Head p n) known h;
-      dirty = dirty_kind c w.now seat (step.Head p n) refl;
-      owed = owed_kind c w.now seat (step.Head p n) len h;
+      heap = heap_kind c w.now seat (Step.Head p n) known h;
+      dirty = dirty_kind c w.now seat (Step.Head p n) refl;
+      owed = owed_kind c w.now seat (Step.Head p n) len h;
       headers = s.headers;
-      marks = marks_kind c w.now seat (step.Head p n) early h;
+      marks = marks_kind c w.now seat (Step.Head p n) early h;
     }
 
 black_behind : (c : Config) (w : World) (seat : Seat) (x : Step) → IsWithinLimits c → Known c w.now
     → AreOfPages c.pages w.now.words → IsMarking w.now.words → GuardPremises c w → Meets c w.now seat x → Guard c w.now
     → BlackIsGuarded c (Behind c w.now seat x)
-black_behind c w seat (step.Head p n) limits known len early say h g =
+black_behind c w seat (Step.Head p n) limits known len early say h g =
     black_kept c w.now _ (keeps_head c w seat p n limits known len early say h)
     (head_keeps c w.now seat p n len h (head_finds c w seat p n limits known early say h)).new
-    (λ q k is. inl (blacks_kind c w.now seat (step.Head p n) refl q k is)) g.black
-black_behind c w seat (step.Undirty q) limits known len early say h g = undirty_kind c w seat q len early say h g.black
-black_behind c w seat (step.Black p n) limits known len early say h g =
-    black_kind c w.now seat p n (keeps_of c w.now seat (step.Black p n) known len early h refl refl)
-    (no_new_cells c w.now seat (step.Black p n) refl) h g.black
-black_behind c w (Marker k) step.Mblack limits known len early say h g =
-    mblack_kind c w.now k known (keeps_of c w.now (Marker k) step.Mblack known len early h refl refl)
-    (no_new_cells c w.now (Marker k) step.Mblack refl) h g
-black_behind c w (Caller k) step.Mblack limits known len early say h g = let kind = h.kind in cc
-black_behind c w Host step.Mblack limits known len early say h g = let kind = h.kind in cc
+    (λ q k is. inl (blacks_kind c w.now seat (Step.Head p n) refl q k is)) g.black
+black_behind c w seat (Step.Undirty q) limits known len early say h g = undirty_kind c w seat q len early say h g.black
+black_behind c w seat (Step.Black p n) limits known len early say h g =
+    black_kind c w.now seat p n (keeps_of c w.now seat (Step.Black p n) known len early h refl refl)
+    (no_new_cells c w.now seat (Step.Black p n) refl) h g.black
+black_behind c w (Marker k) Step.Mblack limits known len early say h g =
+    mblack_kind c w.now k known (keeps_of c w.now (Marker k) Step.Mblack known len early h refl refl)
+    (no_new_cells c w.now (Marker k) Step.Mblack refl) h g
+black_behind c w (Caller k) Step.Mblack limits known len early say h g = let kind = h.kind in cc
+black_behind c w Host Step.Mblack limits known len early say h g = let kind = h.kind in cc
 black_behind c w seat x limits known len early say h g = rest x h refl refl refl
   where
     rest : (x : Step) → Meets c w.now seat x → is_head x ≡ false → is_undirty x ≡ false → is_blackening x ≡ false
@@ -216,8 +202,8 @@ black_behind c w seat x limits known len early say h g = rest x h refl refl refl
         black_kept c w.now _ (keeps_of c w.now seat x known len early h no_head no_clean)
         (no_new_cells c w.now seat x no_head) (λ p k is. inl (blacks_kind c w.now seat x no_black p k is)) g.black
 
-same_markers : (c : Config) (m : Moment) (seat : Seat) (q j : ℕ) → Meets c m seat (step.Undirty q)
-    → marker_of (Behind c m seat (step.Undirty q)) j ≡ marker_of m j
+same_markers : (c : Config) (m : Moment) (seat : Seat) (q j : ℕ) → Meets c m seat (Step.Undirty q)
+    → marker_of (Behind c m seat (Step.Undirty q)) j ≡ marker_of m j
 same_markers c m (Marker k) q j h = let kind = h.kind in cc
 same_markers c m _ q j h = refl
 
@@ -225,10 +211,10 @@ markers_behind : (c : Config) (w : World) (seat : Seat) (x : Step) → IsWithinL
     → AreOfPages c.pages w.now.words → IsMarking w.now.words → GuardPremises c w → Meets c w.now seat x → Guard c w.now
     → (j : ℕ) → is_attending (marker_of (Behind c w.now seat x) j).presence ≡ true
     → MarkerStands c (Behind c w.now seat x) (marker_of (Behind c w.now seat x) j)
-markers_behind c w seat (step.Head p n) limits known len early say h g j at =
-    markers_stand c w.now seat (step.Head p n) len h (keeps_head c w seat p n limits known len early say h) g.markers j
+markers_behind c w seat (Step.Head p n) limits known len early say h g j at =
+    markers_stand c w.now seat (Step.Head p n) len h (keeps_head c w seat p n limits known len early say h) g.markers j
     at
-markers_behind c w seat (step.Undirty q) limits known len early say h g j at = absurd (true≢false (sym
+markers_behind c w seat (Step.Undirty q) limits known len early say h g j at = absurd (true≢false (sym
     (subst (λ (y : MarkerState). is_attending y.presence ≡ true) (same_markers c w.now seat q j h) at)
     ∙ none_at w.now.seats.markers j (undirties c w.now seat q early h).none))
 markers_behind c w seat x limits known len early say h g j at = rest x h refl refl at
@@ -249,8 +235,8 @@ guard_behind c w seat x limits known len early say h g =
     }
 
 -- `begin`: nothing is black, and no marker attends
-begun : (c : Config) (m : Moment) (seat : Seat) → Known c m → AreOfPages c.pages m.words → Meets c m seat step.Begin
-    → Guard c (Behind c m seat step.Begin)
+begun : (c : Config) (m : Moment) (seat : Seat) → Known c m → AreOfPages c.pages m.words → Meets c m seat Step.Begin
+    → Guard c (Behind c m seat Step.Begin)
 begun c m seat known len h =
     record {
       black = λ p k i lt is sc li. absurd (true≢false (sym is ∙ no_bit _ k (white p)));
@@ -263,19 +249,18 @@ begun c m seat known len h =
     white : (p : ℕ) → slice_index m.words.blacks p ≡ 0
     white p = elim (cases_lt p c.pages) [
       | inl lt ↦
-          let a = and_parts _ _ (all_below-at c.pages p _ own lt) in
-          eqb-true _ 0 (and_parts _ _ a.0).1
+          eqb-true _ 0 (and_parts _ _ (and_parts _ _ (all_below-at c.pages p _ own lt)).0).1
       | inr past ↦ get_or_past m.words.blacks p 0 (omega (arith, len.blacks))
     ]
 
-    quiet : (j : ℕ) → Meets c m seat step.Begin → is_attending (marker_of m j).presence ≡ true → ⊥
+    quiet : (j : ℕ) → Meets c m seat Step.Begin → is_attending (marker_of m j).presence ≡ true → ⊥
     quiet j h at = let z = eqb-true _ 0 h.phase in elim (known.orderly.attends j at) [
       | inl e ↦ absurd (omega arith)
       | inr e ↦ absurd (omega arith)
     ]
 
-    alone : (seat : Seat) → Meets c m seat step.Begin → (j : ℕ)
-        → is_attending (marker_of (Behind c m seat step.Begin) j).presence ≡ true → ⊥
+    alone : (seat : Seat) → Meets c m seat Step.Begin → (j : ℕ)
+        → is_attending (marker_of (Behind c m seat Step.Begin) j).presence ≡ true → ⊥
     alone (Caller k) hh j at = quiet j h at
     alone Host hh j at = quiet j h at
     alone (Marker k) hh j at = let kind = hh.kind in cc
@@ -294,30 +279,28 @@ past c m n is out =
 pub marks_behind : (c : Config) (w : World) (seat : Seat) (x : Step) → IsWithinLimits c → Known c w.now
     → AreOfPages c.pages w.now.words
     → GuardPremises c w → Meets c w.now seat x → MarksStand c w.now → MarksStand c (Behind c w.now seat x)
-marks_behind c w seat step.Begin limits known len say h g =
+marks_behind c w seat Step.Begin limits known len say h g =
     let z = eqb-true _ 0 h.phase in
     record { guarded = λ early. begun c w.now seat known len h; closed = λ three. absurd (omega arith) }
-marks_behind c w seat step.Want limits known len say h g =
+marks_behind c w seat Step.Want limits known len say h g =
     let one = eqb-true _ 1 h.phase in
     record {
-      guarded = λ early. guard_behind c w seat step.Want limits known len (inl one) say h (g.guarded (inl one));
+      guarded = λ early. guard_behind c w seat Step.Want limits known len (inl one) say h (g.guarded (inl one));
       closed = λ three. absurd (omega arith);
     }
-marks_behind c w seat step.Close limits known len say h g =
+marks_behind c w seat Step.Close limits known len say h g =
     let two = eqb-true _ 2 h.phase in
     record {
-      guarded = λ early. guard_behind c w seat step.Close limits known len (inr two) say h (g.guarded (inr two));
+      guarded = λ early. guard_behind c w seat Step.Close limits known len (inr two) say h (g.guarded (inr two));
       closed = λ three. stays_closed c w.now.words _
           (record { registers = refl; globals = refl; headers = λ p. refl; marks = refl; heap = λ n. inl refl })
           (closed c w.now seat known len h (g.guarded (inr two)).black);
     }
-marks_behind c w seat step.Release limits known len say h g =
+marks_behind c w seat Step.Release limits known len say h g =
     let three = eqb-true _ 3 h.phase in
     past c _ 4 (omega arith) (inr (omega arith))
-marks_behind c w seat step.End limits known len say h g =
-    let four = eqb-true _ 4 h.phase in
-    past c _ 0 (omega arith) (inl refl)
-marks_behind c w seat step.Over limits known len say h g =
+marks_behind c w seat Step.End limits known len say h g = past c _ 0 (omega (arith, eqb-true _ 4 h.phase)) (inl refl)
+marks_behind c w seat Step.Over limits known len say h g =
     let zero = over_phase c w.now seat h in
     past c _ 5 (omega arith) (inr (omega arith))
 marks_behind c w seat x limits known len say h g = rest x h refl

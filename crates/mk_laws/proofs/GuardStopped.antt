@@ -1,23 +1,16 @@
 -- From `close` to `release` the marks stay closed: nothing changes but words that are wiped.
 use Rattle.mk_laws.proofs.Vocabulary.{Caller, CellsAreClosed, Config, Flight, Host, Marker, Moment, Named, Seat, Stage}
-use Rattle.mk_laws.proofs.Vocabulary.{Step, Tally, Words, accessed, ap, arith, cases_Bool, cases_eq, cases_lt, eqb-true}
-use Rattle.mk_laws.proofs.Vocabulary.{false, first_word, flight_of, get_or-set_other, get_or-set_same, group_of}
-use Rattle.mk_laws.proofs.Vocabulary.{header_at, inl, inr, is_open_to, length, ltb-true, marker_of, or_cases, phase_of}
-use Rattle.mk_laws.proofs.Vocabulary.{points_well, refl, reg_access, register_met, set_past, slice_index, subst, sym}
-use Rattle.mk_laws.proofs.Vocabulary.{true, true≢false, word_points_well, ℕ, ◌<◌, ◌==◌, ◌||◌, ◌∙◌, ◌≡◌, ◌⊎◌}
+use Rattle.mk_laws.proofs.Vocabulary.{Step, Tally, Word, Words, ℕ, accessed, ap, arith, cases_Bool, cases_eq, cases_lt}
+use Rattle.mk_laws.proofs.Vocabulary.{eqb-true, false, first_word, flight_of, get_or-set_other, get_or-set_same}
+use Rattle.mk_laws.proofs.Vocabulary.{group_of, header_at, inl, inr, is_open_to, length, ltb-true, marker_of, or_cases}
+use Rattle.mk_laws.proofs.Vocabulary.{phase_of, points_well, refl, reg_access, register_met, set_past, slice_index}
+use Rattle.mk_laws.proofs.Vocabulary.{subst, sym, true, true≢false, word_points_well, ◌<◌, ◌==◌, ◌||◌, ◌∙◌, ◌≡◌, ◌⊎◌}
+use Rattle.mk_core.{proofs.RegisterAccesses.tally_leaves_registers, specs.declared.events.Group.Group}
 use Rattle.mk_laws.proofs.Basics.{Behind, InCall, Known, Meets, Table, at_its_stage, at_reg, calls_stand, either_phase}
 use Rattle.mk_laws.proofs.Basics.{headers_kind, is_call_stage, is_head, not_astray, reg_table, shows_at, tally_table}
 use Rattle.mk_laws.proofs.Basics.{view_of, wells_from}
-use Rattle.mk_core.specs.declared.events.Word.TheVariants as word
-use Rattle.mk_core.specs.declared.events.Group.{Group}
-use Rattle.mk_core.specs.declared.events.Group.TheVariants as group
-use Rattle.mk_core.specs.declared.events.Step.TheVariants as step
-use Rattle.mk_core.specs.declared.seats.Stage.TheVariants as stage
-use Rattle.mk_laws.proofs.Stages.{is_reg_stage}
-use Rattle.mk_laws.proofs.NextSteps.{stage_of, has_stage_of_its_own}
-use Rattle.mk_laws.proofs.IdleMarkers.{work_attends}
-use Rattle.mk_laws.proofs.Wells.{well_is, is_well, bare_word_well}
-use Rattle.mk_core.proofs.RegisterAccesses.{tally_leaves_registers}
+use Rattle.mk_laws.proofs.{IdleMarkers.work_attends, NextSteps.has_stage_of_its_own, NextSteps.stage_of}
+use Rattle.mk_laws.proofs.{Stages.is_reg_stage, Wells.bare_word_well, Wells.is_well, Wells.well_is}
 
 -- what leaves closed marks closed
 pub record LeavesClosed (w v : Words) : Type 0 where
@@ -51,12 +44,10 @@ no_call : (c : Config) (m : Moment) (k : ℕ) → Known c m → phase_of m.words
     → is_call_stage (flight_of m (Caller k)).stage ≡ true → ⊥
 no_call c m k known three lt at =
     let s = shows_at c (view_of m) k InCall known.orderly lt (calls_stand _ _ at (not_astray c m known.orderly k lt)) in
-    let one = s.0 in
-    let two = known.orderly.stopped three k lt s.1 in
-    absurd (omega arith)
+    absurd (omega (arith, s.0, known.orderly.stopped three k lt s.1))
 
-of_callers : (x : Step) → has_stage_of_its_own x ≡ true → group_of x ≡ group.Callers
-of_callers step.Leave own = refl
+of_callers : (x : Step) → has_stage_of_its_own x ≡ true → group_of x ≡ Group.Callers
+of_callers Step.Leave own = refl
 of_callers _ own = cc
 
 no_step : (c : Config) (m : Moment) (seat : Seat) (x : Step) → Known c m → phase_of m.words ≡ 3 → Meets c m seat x
@@ -71,12 +62,12 @@ no_step c m Host x known three h own at =
 
 -- `reg` only loads
 load_alone : (w : Words) (k r : ℕ) (f : Flight) (s : Stage) → is_reg_stage s ≡ true → is_call_stage s ≡ false
-    → (accessed w (Named (word.Reg k r)) (reg_access f s)).registers ≡ w.registers
-load_alone w k r f stage.LoadP reg out = refl
+    → (accessed w (Named (Word.Reg k r)) (reg_access f s)).registers ≡ w.registers
+load_alone w k r f Stage.LoadP reg out = refl
 load_alone w k r f _ reg out = cc
 
-reg_still : (c : Config) (m : Moment) (seat : Seat) → Known c m → phase_of m.words ≡ 3 → Meets c m seat step.Reg
-    → (Behind c m seat step.Reg).words.registers ≡ m.words.registers
+reg_still : (c : Config) (m : Moment) (seat : Seat) → Known c m → phase_of m.words ≡ 3 → Meets c m seat Step.Reg
+    → (Behind c m seat Step.Reg).words.registers ≡ m.words.registers
 reg_still c m (Caller k) known three h = elim (cases_Bool (is_call_stage (flight_of m (Caller k)).stage)) [
   | inl at ↦ absurd (no_call c m k known three (ltb-true k c.callers h.seat) at)
   | inr out ↦ load_alone m.words k (register_met (flight_of m (Caller k)) (flight_of m (Caller k)).stage)
@@ -87,28 +78,28 @@ reg_still c m _ known three h = let kind = h.kind in cc
 
 registers_still : (c : Config) (m : Moment) (seat : Seat) (x : Step) → Known c m → phase_of m.words ≡ 3
     → Meets c m seat x → (Behind c m seat x).words.registers ≡ m.words.registers
-registers_still c m seat step.Reg known three h = reg_still c m seat known three h
-registers_still c m seat (step.Tally n v) known three h = tally_leaves_registers m.words n v
-registers_still c m seat step.Grant known three h =
+registers_still c m seat Step.Reg known three h = reg_still c m seat known three h
+registers_still c m seat (Step.Tally n v) known three h = tally_leaves_registers m.words n v
+registers_still c m seat Step.Grant known three h =
     elim (either_phase (phase_of m.words) 0 1 h.phase) [ inl e ↦ absurd (omega arith) | inr e ↦ absurd (omega arith) ]
 registers_still c m seat _ known three h = refl
 
 globals_still : (c : Config) (m : Moment) (seat : Seat) (x : Step) → Known c m → phase_of m.words ≡ 3 → Meets c m seat x
     → (Behind c m seat x).words.globals ≡ m.words.globals
-globals_still c m seat step.Reg known three h = ap (λ (t : Table). t.globals) (reg_table c m seat)
-globals_still c m seat (step.Tally n v) known three h = ap (λ (t : Table). t.globals) (tally_table m.words n v)
-globals_still c m seat step.Setg known three h = absurd (no_step c m seat step.Setg known three h refl refl)
+globals_still c m seat Step.Reg known three h = ap (λ (t : Table). t.globals) (reg_table c m seat)
+globals_still c m seat (Step.Tally n v) known three h = ap (λ (t : Table). t.globals) (tally_table m.words n v)
+globals_still c m seat Step.Setg known three h = absurd (no_step c m seat Step.Setg known three h refl refl)
 globals_still c m seat _ known three h = refl
 
 heap_still : (c : Config) (m : Moment) (seat : Seat) (x : Step) → Known c m → phase_of m.words ≡ 3 → Meets c m seat x
     → (n : ℕ) → (slice_index (Behind c m seat x).words.heap n ≡ slice_index m.words.heap n)
     ⊎ (slice_index (Behind c m seat x).words.heap n ≡ 0)
-heap_still c m seat step.Reg known three h n = inl (ap (λ (t : Table). slice_index t.heap n) (reg_table c m seat))
-heap_still c m seat (step.Tally t v) known three h n =
+heap_still c m seat Step.Reg known three h n = inl (ap (λ (t : Table). slice_index t.heap n) (reg_table c m seat))
+heap_still c m seat (Step.Tally t v) known three h n =
     inl (ap (λ (t : Table). slice_index t.heap n) (tally_table m.words t v))
-heap_still c m seat step.Write known three h n = absurd (no_step c m seat step.Write known three h refl refl)
-heap_still c m seat step.Cas known three h n = absurd (no_step c m seat step.Cas known three h refl refl)
-heap_still c m seat (step.Wipe i) known three h n = elim (cases_eq n i) [
+heap_still c m seat Step.Write known three h n = absurd (no_step c m seat Step.Write known three h refl refl)
+heap_still c m seat Step.Cas known three h n = absurd (no_step c m seat Step.Cas known three h refl refl)
+heap_still c m seat (Step.Wipe i) known three h n = elim (cases_eq n i) [
   | inl e ↦ elim (cases_lt i (length m.words.heap)) [
     | inl lt ↦ inr (rw e (get_or-set_same m.words.heap i 0 0 lt))
     | inr past ↦ inl (rw (set_past m.words.heap i 0 past))
@@ -118,20 +109,20 @@ heap_still c m seat (step.Wipe i) known three h n = elim (cases_eq n i) [
 heap_still c m seat _ known three h n = inl refl
 
 -- marks: no marker attends
-no_mark : (c : Config) (m : Moment) (seat : Seat) → Known c m → phase_of m.words ≡ 3 → Meets c m seat step.Mmark → ⊥
+no_mark : (c : Config) (m : Moment) (seat : Seat) → Known c m → phase_of m.words ≡ 3 → Meets c m seat Step.Mmark → ⊥
 no_mark c m (Marker k) known three h =
-    elim (known.orderly.attends k (work_attends c (marker_of m k) step.Mmark (known.orderly.idle k) h.marker refl))
+    elim (known.orderly.attends k (work_attends c (marker_of m k) Step.Mmark (known.orderly.idle k) h.marker refl))
     [ inl e ↦ absurd (omega arith) | inr e ↦ absurd (omega arith) ]
 no_mark c m _ known three h = true≢false (sym h.kind)
 
 marks_still : (c : Config) (m : Moment) (seat : Seat) (x : Step) → Known c m → phase_of m.words ≡ 3 → Meets c m seat x
     → (Behind c m seat x).words.marks ≡ m.words.marks
-marks_still c m seat step.Reg known three h = ap (λ (t : Table). t.marks) (reg_table c m seat)
-marks_still c m seat (step.Tally n v) known three h = ap (λ (t : Table). t.marks) (tally_table m.words n v)
-marks_still c m seat (step.Clear p) known three h = let z = eqb-true _ 0 h.phase in absurd (omega arith)
-marks_still c m seat (step.Mark p v) known three h =
+marks_still c m seat Step.Reg known three h = ap (λ (t : Table). t.marks) (reg_table c m seat)
+marks_still c m seat (Step.Tally n v) known three h = ap (λ (t : Table). t.marks) (tally_table m.words n v)
+marks_still c m seat (Step.Clear p) known three h = let z = eqb-true _ 0 h.phase in absurd (omega arith)
+marks_still c m seat (Step.Mark p v) known three h =
     elim (either_phase (phase_of m.words) 1 2 h.phase) [ inl e ↦ absurd (omega arith) | inr e ↦ absurd (omega arith) ]
-marks_still c m seat step.Mmark known three h = absurd (no_mark c m seat known three h)
+marks_still c m seat Step.Mmark known three h = absurd (no_mark c m seat known three h)
 marks_still c m seat _ known three h = refl
 
 -- no header is stored
@@ -143,7 +134,7 @@ no_head n three h = elim (or_cases _ (n == 4) h) [
 
 headers_still : (c : Config) (m : Moment) (seat : Seat) (x : Step) → phase_of m.words ≡ 3 → Meets c m seat x → (p : ℕ)
     → header_at (Behind c m seat x).words p ≡ header_at m.words p
-headers_still c m seat (step.Head q n) three h p = absurd (no_head _ three h.phase)
+headers_still c m seat (Step.Head q n) three h p = absurd (no_head _ three h.phase)
 headers_still c m seat x three h p = rest x h refl
   where
     rest : (x : Step) → Meets c m seat x → is_head x ≡ false

@@ -1,14 +1,11 @@
 -- What an event may do to headers while a call of another seat is in flight outside the turn: it unmaps no page.
 use Rattle.mk_laws.proofs.Vocabulary.{Access, Caller, Config, List, Load, Moment, Named, Page, Seat, Step, Store, Tally}
-use Rattle.mk_laws.proofs.Vocabulary.{Words, accessed, all_below-at, ap, arith, cases_eq, cases_lt, eqb-true, false}
-use Rattle.mk_laws.proofs.Vocabulary.{free_page, get_or-set_other, get_or-set_same, header_at, header_in, header_of}
-use Rattle.mk_laws.proofs.Vocabulary.{inl, inr, is_held, is_number_of, is_unmapped_header, length, not, not-true}
-use Rattle.mk_laws.proofs.Vocabulary.{or_cases, others_are_held, refl, set_past, slice_index, slice_index_or, slice_set}
-use Rattle.mk_laws.proofs.Vocabulary.{tally_word, true, used_at, ℕ, ◌<◌, ◌||◌, ◌∙◌, ◌≡◌, ◌≢◌}
+use Rattle.mk_laws.proofs.Vocabulary.{Word, Words, ℕ, accessed, all_below-at, ap, arith, cases_eq, cases_lt, eqb-true}
+use Rattle.mk_laws.proofs.Vocabulary.{false, free_page, get_or-set_other, get_or-set_same, header_at, header_in}
+use Rattle.mk_laws.proofs.Vocabulary.{header_of, inl, inr, is_held, is_number_of, is_unmapped_header, length, not}
+use Rattle.mk_laws.proofs.Vocabulary.{not-true, or_cases, others_are_held, refl, set_past, slice_index, slice_index_or}
+use Rattle.mk_laws.proofs.Vocabulary.{slice_set, tally_word, true, used_at, ◌<◌, ◌||◌, ◌∙◌, ◌≡◌, ◌≢◌}
 use Rattle.mk_laws.proofs.Basics.{Behind, Meets}
-use Rattle.mk_core.specs.declared.events.Tally.TheVariants as tally
-use Rattle.mk_core.specs.declared.events.Word.TheVariants as word
-use Rattle.mk_core.specs.declared.events.Step.TheVariants as step
 
 -- what becomes of the pages
 pub data HeaderStep (w : Words) : List Page → Type 0 where
@@ -18,10 +15,10 @@ pub data HeaderStep (w : Words) : List Page → Type 0 where
       → HeaderStep w (slice_set w.pages p (record { header = v; used = used_at w p }))
 
 pub tally_pages : (w : Words) (n : Tally) (v : ℕ) → (accessed w (Named (tally_word n)) (Store v)).pages ≡ w.pages
-tally_pages w tally.Held v = refl
+tally_pages w Tally.Held v = refl
 tally_pages w _ v = refl
 
-pub reg_pages : (w : Words) (k r : ℕ) (a : Access) → (accessed w (Named (word.Reg k r)) a).pages ≡ w.pages
+pub reg_pages : (w : Words) (k r : ℕ) (a : Access) → (accessed w (Named (Word.Reg k r)) a).pages ≡ w.pages
 reg_pages w k r Load = refl
 reg_pages w k r _ = refl
 
@@ -39,15 +36,15 @@ not_unmapped c w seat k v lt ne one h = elim (or_cases _ _ h) [
 ]
   where
     seat_is : (seat : Seat) (k : ℕ) → is_number_of seat k ≡ true → seat ≡ Caller k
-    seat_is (Caller j) k h = ap (λ i. Caller i) (eqb-true j k h)
+    seat_is (Caller j) k h = ap Caller (eqb-true j k h)
     seat_is _ k h = cc
 
 pub header_step : (c : Config) (m : Moment) (seat : Seat) (x : Step) (k : ℕ) → Meets c m seat x → k < c.callers
     → seat ≢ Caller k → slice_index m.words.gates k ≡ 1 → HeaderStep m.words (Behind c m seat x).words.pages
-header_step c m seat (step.Head p v) k h lt ne one = SetsHeader p v (not_unmapped c m.words seat k v lt ne one h.gates)
-header_step c m seat (step.Used p v) k h lt ne one = SetsUsed p v
-header_step c m seat (step.Tally n v) k h lt ne one = rw (tally_pages m.words n v) KeepsPages
-header_step c m seat step.Reg k h lt ne one = rw (reg_pages m.words _ _ _) KeepsPages
+header_step c m seat (Step.Head p v) k h lt ne one = SetsHeader p v (not_unmapped c m.words seat k v lt ne one h.gates)
+header_step c m seat (Step.Used p v) k h lt ne one = SetsUsed p v
+header_step c m seat (Step.Tally n v) k h lt ne one = rw (tally_pages m.words n v) KeepsPages
+header_step c m seat Step.Reg k h lt ne one = rw (reg_pages m.words _ _ _) KeepsPages
 header_step c m seat _ k h lt ne one = KeepsPages
 
 -- a page's header after a change of one page

@@ -1,14 +1,12 @@
 -- A `head` while a cycle marks, from what it finds: headers go on, and what points well goes on doing so.
 use Rattle.mk_laws.proofs.Vocabulary.{AreOfPages, Bool, Cell, Config, HeaderGoesOn, IsGuarded, Moment, None, Page, Seat}
-use Rattle.mk_laws.proofs.Vocabulary.{Some, Step, Words, ap, arith, cases_eq, cell_at, cells_under, false, free_page}
+use Rattle.mk_laws.proofs.Vocabulary.{Some, Step, Words, ℕ, ap, arith, cases_eq, cell_at, cells_under, false, free_page}
 use Rattle.mk_laws.proofs.Vocabulary.{get_or-set_other, get_or-set_same, header_at, header_in, header_of, if◌then◌else◌}
 use Rattle.mk_laws.proofs.Vocabulary.{inl, inr, is_heap_address, is_marked, ltb-true, none-some, page_at_address, refl}
-use Rattle.mk_laws.proofs.Vocabulary.{slice_index, slice_index_or, slice_set, subst, sym, true, used_at, words_under, ℕ}
+use Rattle.mk_laws.proofs.Vocabulary.{slice_index, slice_index_or, slice_set, subst, sym, true, used_at, words_under}
 use Rattle.mk_laws.proofs.Vocabulary.{◌*◌, ◌+◌, ◌<◌, ◌∙◌, ◌≡◌, ◌≢◌}
 use Rattle.mk_laws.proofs.Basics.{Behind, Meets, headers_kind, is_head}
-use Rattle.mk_core.specs.declared.events.Step.TheVariants as step
-use Rattle.mk_laws.proofs.Wells.{IsWell, bare_guarded}
-use Rattle.mk_laws.proofs.KeptGuard.{NewCellsAreGuarded, goes_same}
+use Rattle.mk_laws.proofs.{KeptGuard.NewCellsAreGuarded, KeptGuard.goes_same, Wells.IsWell, Wells.bare_guarded}
 
 -- It finds no header on its page, marked cells and words 0; or it unmaps, which shows the same.
 pub data HeadFinds (pages : ℕ) (w : Words) (p header : ℕ) : Type 0 where
@@ -43,7 +41,7 @@ pub record HeadKeeps (c : Config) (m n : Moment) : Type 0 where
   pub new : NewCellsAreGuarded c m n
 
 pub head_keeps : (c : Config) (m : Moment) (seat : Seat) (p n : ℕ) → AreOfPages c.pages m.words
-    → Meets c m seat (step.Head p n) → HeadFinds c.pages m.words p n → HeadKeeps c m (Behind c m seat (step.Head p n))
+    → Meets c m seat (Step.Head p n) → HeadFinds c.pages m.words p n → HeadKeeps c m (Behind c m seat (Step.Head p n))
 head_keeps c m seat p n len h finds =
     record {
       some = λ q not_free. elim (cases_eq q p) [
@@ -55,9 +53,9 @@ head_keeps c m seat p n len h finds =
         | inr ne ↦ is y (subst (λ a. cell_at c.pages a v ≡ Some y) (other (page_at_address v) ne) at)
       ];
       headers = λ q. elim (cases_eq q p) [
-        | inl e ↦ subst (λ a. HeaderGoesOn c.pages (header_at m.words q) a) (sym (here q e))
+        | inl e ↦ subst (HeaderGoesOn c.pages (header_at m.words q)) (sym (here q e))
             (subst (λ j. HeaderGoesOn c.pages (header_at m.words j) n) (sym e) (goes finds))
-        | inr ne ↦ subst (λ a. HeaderGoesOn c.pages (header_at m.words q) a) (sym (other q ne))
+        | inr ne ↦ subst (HeaderGoesOn c.pages (header_at m.words q)) (sym (other q ne))
             (goes_same c.pages (header_at m.words q))
       ];
       new = λ q k i none lt li. elim (cases_eq q p) [
@@ -69,13 +67,13 @@ head_keeps c m seat p n len h finds =
       ];
     }
   where
-    here : (q : ℕ) → q ≡ p → header_at (Behind c m seat (step.Head p n)).words q ≡ n
+    here : (q : ℕ) → q ≡ p → header_at (Behind c m seat (Step.Head p n)).words q ≡ n
     here q e = ap (λ j. (slice_index_or (slice_set m.words.pages p (record { header = n; used = used_at m.words p })) j
         free_page).header) e ∙ ap (λ (y : Page). y.header)
         (get_or-set_same m.words.pages p (record { header = n; used = used_at m.words p }) free_page
         (omega (arith, ltb-true p c.pages h.range, len.pages)))
 
-    other : (q : ℕ) → q ≢ p → header_at (Behind c m seat (step.Head p n)).words q ≡ header_at m.words q
+    other : (q : ℕ) → q ≢ p → header_at (Behind c m seat (Step.Head p n)).words q ≡ header_at m.words q
     other q ne = ap (λ (y : Page). y.header)
         (get_or-set_other m.words.pages p q (record { header = n; used = used_at m.words p }) free_page ne)
 
@@ -94,13 +92,13 @@ head_keeps c m seat p n len h finds =
         is y (subst (λ j. cell_at c.pages (header_at m.words j) v ≡ Some y) (sym e) (back v y e at))
 
     made : HeadFinds c.pages m.words p n → (q k i : ℕ) → q ≡ p → cells_under (header_in m.words p) ≡ 0
-        → k < cells_under (header_of n) → i < words_under (header_of n) → IsGuarded c (Behind c m seat (step.Head p n))
-        (64 * q + k * words_under (header_in (Behind c m seat (step.Head p n)).words q) + i)
+        → k < cells_under (header_of n) → i < words_under (header_of n) → IsGuarded c (Behind c m seat (Step.Head p n))
+        (64 * q + k * words_under (header_in (Behind c m seat (Step.Head p n)).words q) + i)
     made (Carved free marked bare) q k i e none lt li =
-        let first : 64 * q + k * words_under (header_in (Behind c m seat (step.Head p n)).words q) + i
+        let first : 64 * q + k * words_under (header_in (Behind c m seat (Step.Head p n)).words q) + i
         ≡ 64 * p + k * words_under (header_of n) + i = ap (λ a. 64 * q + k * words_under (header_of a) + i) (here q e)
         ∙ ap (λ j. 64 * j + k * words_under (header_of n) + i) e in
-        bare_guarded c (Behind c m seat (step.Head p n)) _ (ap (λ j. slice_index m.words.heap j) first ∙ bare k i lt li)
+        bare_guarded c (Behind c m seat (Step.Head p n)) _ (ap (slice_index m.words.heap) first ∙ bare k i lt li)
     made (Unmapped some on back still) q k i e none lt li = let z = still none in absurd (omega arith)
 
 -- no other kind makes cells

@@ -1,10 +1,9 @@
 -- Where nothing is on its way, the headers and used words are those of the unreleased storage.
 use Rattle.std.proofs.Common.{Contains, pow-suc}
-use Rattle.std.proofs.lemmas.List.{get_or_default}
-use Rattle.std.proofs.lemmas.List.Elements.{Contains-get_or}
 use Rattle.std.proofs.lemmas.Nat.Bits.{bit_at_above, bit_at_lowest, same_from_bits}
+use Rattle.std.proofs.{lemmas.List.get_or_default, lemmas.List.Elements.Contains-get_or}
 use Rattle.mk_laws.proofs.Vocabulary.{Bool, Claim, Config, HasHeader, Header, IsClaimed, IsShown, List, None, Object}
-use Rattle.mk_laws.proofs.Vocabulary.{PlacedAllocation, ShowsPart, Storage, Words, [], ap, arith, bit_at, block_header}
+use Rattle.mk_laws.proofs.Vocabulary.{PlacedAllocation, ShowsPart, Storage, Words, ℕ, ap, arith, bit_at, block_header}
 use Rattle.mk_laws.proofs.Vocabulary.{cases_Bool, cases_eq, cases_lt, cell_ends, cell_of_allocation, cells_of}
 use Rattle.mk_laws.proofs.Vocabulary.{cells_under, claim_of, claims_of, class_known, class_made, class_words_of, false}
 use Rattle.mk_laws.proofs.Vocabulary.{false_from_ne_true, free_page, get_or, has_bit, header_at, header_made, inl, inr}
@@ -13,27 +12,22 @@ use Rattle.mk_laws.proofs.Vocabulary.{large_words, later_cells, length, mode_of,
 use Rattle.mk_laws.proofs.Vocabulary.{pages_some, placed_at, refl, run_begins, run_header, shows_on, slice_index_or}
 use Rattle.mk_laws.proofs.Vocabulary.{small, small_cells, small_pages, small_words, standing_has_storage, stands}
 use Rattle.mk_laws.proofs.Vocabulary.{stands_on, storage_is_of, storage_of, storage_words, subst, suc, sym, taken, true}
-use Rattle.mk_laws.proofs.Vocabulary.{true≢false, unreleased_storage, used_at, word_of, words_within, zero, ℕ, ◌%◌}
+use Rattle.mk_laws.proofs.Vocabulary.{true≢false, unreleased_storage, used_at, word_of, words_within, zero, [], ◌%◌}
 use Rattle.mk_laws.proofs.Vocabulary.{◌&&◌, ◌*◌, ◌+◌, ◌-◌, ◌/◌, ◌<◌, ◌^◌, ◌∙◌, ◌∷◌, ◌≡◌, ◌≤◌, ◌⊎◌}
-use Rattle.mk_laws.proofs.Basics.{claim_among, claimed, claimed_some}
-use Rattle.mk_geom.specs.Storages.{AreLaidOut, PagesStandFor, block_page, class_of_storage, first_page, is_cell_taken}
-use Rattle.mk_geom.specs.Storages.{run_page, run_used, taken_cells, used_word, words_of_storages}
-use Rattle.mk_geom.proofs.ClassTable.{class_words_within}
 use Rattle.mk_geom.proofs.Standing.{class_of_words, stands_from}
 use Rattle.mk_geom.proofs.StoredWords.{words_at, words_by_large, words_by_small, words_free}
 use Rattle.mk_geom.proofs.TakenCells.{cell_taken_by, cell_taken_from, get_or-taken_cells, length-taken_cells}
 use Rattle.mk_geom.proofs.TakenCells.{same_from_both, same_index}
-use Rattle.mk_geom.proofs.UsedWords.{bit_at-used_word}
+use Rattle.mk_geom.proofs.{ClassTable.class_words_within, UsedWords.bit_at-used_word}
+use Rattle.mk_geom.specs.Storages.{AreLaidOut, PagesStandFor, block_page, class_of_storage, first_page, is_cell_taken}
+use Rattle.mk_geom.specs.Storages.{run_page, run_used, taken_cells, used_word, words_of_storages}
 use Rattle.mk_core.proofs.ObjectHeaders.{large_header, small_header}
-use Rattle.mk_core.proofs.UnreleasedStorage.{has_its_storage}
-use Rattle.mk_core.proofs.WordBits.{bit_is_none, bit_is_one}
+use Rattle.mk_core.proofs.{UnreleasedStorage.has_its_storage, WordBits.bit_is_none, WordBits.bit_is_one}
 use Rattle.mk_laws.proofs.Apart.{Rests, index_is, lie_apart, lie_in_pairs, on_its_pages, quiet_scene, same_block}
 use Rattle.mk_laws.proofs.Apart.{shown_of, small_is, standing_of}
-use Rattle.mk_laws.proofs.Claims.{claim_is}
-use Rattle.mk_laws.proofs.WholeRuns.{IsOn, on_claim}
-use Rattle.mk_laws.proofs.LayoutReadings.{cellless_unused, free_unused}
-use Rattle.mk_laws.proofs.Released.{large_index}
-use Rattle.mk_laws.proofs.Unmapping.{cells_at_claim, shares_run}
+use Rattle.mk_laws.proofs.{Basics.claim_among, Basics.claimed, Basics.claimed_some, Claims.claim_is}
+use Rattle.mk_laws.proofs.{LayoutReadings.cellless_unused, LayoutReadings.free_unused, Released.large_index}
+use Rattle.mk_laws.proofs.{Unmapping.cells_at_claim, Unmapping.shares_run, WholeRuns.IsOn, WholeRuns.on_claim}
 
 pub laid_out : (c : Config) (w : Words) (xs : List PlacedAllocation) → Rests c w xs
     → AreLaidOut (length w.pages) (unreleased_storage c xs)
@@ -50,7 +44,7 @@ laid_out c w xs r =
 
 one_bit : (n : ℕ) → has_bit n 0 ≡ true → ((k : ℕ) → has_bit n k ≡ true → k ≡ 0) → n ≡ 1
 one_bit n low only = same_from_bits n 1 (λ k. elim (cases_eq k 0) [
-  | inl z ↦ ap (λ i. bit_at n i) z ∙ bit_is_one n 0 low ∙ sym (bit_at_lowest 1) ∙ ap (λ i. bit_at 1 i) (sym z)
+  | inl z ↦ ap (bit_at n) z ∙ bit_is_one n 0 low ∙ sym (bit_at_lowest 1) ∙ ap (bit_at 1) (sym z)
   | inr ne ↦ elim (cases_Bool (has_bit n k)) [
     | inl is ↦ absurd (ne (only k is))
     | inr out ↦ bit_is_none n k out ∙ sym (bit_at_above 1 1 k (omega arith) (omega arith))
@@ -65,7 +59,7 @@ unmapped_run count _ _ = cc
 run_word : (o : Object) (freed : Bool) (d h : ℕ) → is_small_object o ≡ false
     → HasHeader (mode_of (freed && true) false) o d h
     → h ≡ word_of (run_header (pages_made o) (not (freed && true)) o.leaf d)
-run_word o true d h large has = has.1 ∙ ap (λ (x : Header). word_of x) (unmapped_run (pages_made o) o.leaf d)
+run_word o true d h large has = has.1 ∙ ap word_of (unmapped_run (pages_made o) o.leaf d)
 run_word o false d h large has = has ∙ large_header o d large
 
 mapped_is : (c : Config) (a : PlacedAllocation) → a.released ≡ false → is_small_object (object_placed c a) ≡ false
@@ -178,9 +172,8 @@ module _ (c : Config) (w : Words) (xs : List PlacedAllocation) (i p : ℕ) (r : 
       let sized = (shown_of c w xs i r u).sized in
       let some : 1 ≤ storage_words c a = (words_within o sized).0 in
       let stands : stands_on p s ≡ true = stands_from p s (omega arith) (omega arith) in
-      let same : class_of_storage s ≡ class =
-      class_of_words s class (class_known o sized small).0 (small_words o small) in
-      ap (λ h. record { header = h; used = used_at w p }) (ap (λ q. header_at w q) (sym at)
+      let same = class_of_words s class (class_known o sized small).0 (small_words o small) in
+      ap (λ h. record { header = h; used = used_at w p }) (ap (header_at w) (sym at)
       ∙ block_shown c w xs i r u small)
       ∙ ap (λ v. record { header = word_of (block_header class o.leaf); used = v }) used
       ∙ ap (λ m. block_page m o.leaf (used_word (taken_cells (unreleased_storage c xs) p m))) (sym same)
@@ -203,7 +196,7 @@ module _ (c : Config) (w : Words) (xs : List PlacedAllocation) (i p : ℕ) (r : 
       begins_at j v s same =
           let b = (r.cells j v).begins in
           let o : Object = object_placed c (placed_at xs j) in
-          b.first ∙ ap (λ n. b.index * n) (small_words o s ∙ ap (λ m. class_words_of m) same)
+          b.first ∙ ap (λ n. b.index * n) (small_words o s ∙ ap class_words_of same)
           ∙ ap (λ n. n * class_words_of class) (sym (index_is c (placed_at xs j) (shown_of c w xs j r v).sized b))
 
       -- whose cell it is
@@ -221,8 +214,7 @@ module _ (c : Config) (w : Words) (xs : List PlacedAllocation) (i p : ℕ) (r : 
               let index : (cell_of_allocation c (placed_at xs j)).index ≡ n = ap (λ (z : Claim). z.index) (sym y.is)
               ∙ x.index in
               let same = alike_at c w xs i j p r u y.unreleased small at page in
-              let first : (placed_at xs j).base % 64 ≡ n * class_words_of class = begins_at j y.unreleased same.0 same.1
-              ∙ ap (λ m. m * class_words_of class) index in
+              let first = begins_at j y.unreleased same.0 same.1 ∙ ap (λ m. m * class_words_of class) index in
               cell_taken_from p (class_words_of class) n (unreleased_storage c xs) (storage_of c (placed_at xs j))
               (has_its_storage c xs j y.unreleased) (omega arith)
 
@@ -274,7 +266,7 @@ nothing_there c w xs p r z s inside stands =
     let low = range.0 in
     let high = range.1 in
     let at : a.base / 64 + (p - a.base / 64) ≡ p = omega arith in
-    claimed_some w.pages _ _ shown (omega arith) (ap (λ q. header_at w q) at ∙ z)
+    claimed_some w.pages _ _ shown (omega arith) (ap (header_at w) at ∙ z)
 
 on_page : (c : Config) (w : Words) (xs : List PlacedAllocation) (p : ℕ) → Rests c w xs → IsOn (quiet_scene c w xs) p
     → slice_index_or w.pages p free_page ≡ words_of_storages (unreleased_storage c xs) p
@@ -297,7 +289,7 @@ pages_stand c w xs r =
       words = λ p d lt. get_or_default w.pages p d free_page lt ∙ elim (cases_eq (header_at w p) 0) [
         | inl z ↦ ap (λ h. record { header = h; used = used_at w p }) z
             ∙ rw (free_unused _ p r.laid z) (sym (words_free p _
-            (λ s inside. false_from_ne_true (stands_on p s) (λ stands. nothing_there c w xs p r z s inside stands))))
+            (λ s inside. false_from_ne_true (stands_on p s) (nothing_there c w xs p r z s inside))))
         | inr some ↦ on_page c w xs p r (on_claim _ p r.laid refl refl some)
       ];
     }

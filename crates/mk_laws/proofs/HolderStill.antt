@@ -1,28 +1,23 @@
 -- What a step of the turn's holder asks of the words still holds, whatever others did since.
 use Rattle.std.specs.Prelude.{bit_and}
 use Rattle.mk_laws.proofs.Vocabulary.{Bool, Cell, Config, Flight, Holding, List, Object, Option, Page, Place, Seat}
-use Rattle.mk_laws.proofs.Vocabulary.{Steady, Step, TurnIsLeft, Words, World, Written, all_below, and_parts, ap, arith}
-use Rattle.mk_laws.proofs.Vocabulary.{carves, cases_Bool, empties, eqb-true, frees, gives_back, has_closed_page}
+use Rattle.mk_laws.proofs.Vocabulary.{Steady, Step, TurnIsLeft, Words, World, Written, ℕ, all_below, and_parts, ap}
+use Rattle.mk_laws.proofs.Vocabulary.{arith, carves, cases_Bool, empties, eqb-true, frees, gives_back, has_closed_page}
 use Rattle.mk_laws.proofs.Vocabulary.{has_gates, has_phase, head_page, header_at, header_made, held_by_pages}
 use Rattle.mk_laws.proofs.Vocabulary.{holder_may, if◌then◌else◌, inl, inr, is_decided, is_left_unmarked}
 use Rattle.mk_laws.proofs.Vocabulary.{is_marked_first, is_next_header, is_phase, is_released_cell, is_run_gone}
 use Rattle.mk_laws.proofs.Vocabulary.{is_some_and, is_used_once, marks_place, may_answer_full, may_end, may_turn_black}
 use Rattle.mk_laws.proofs.Vocabulary.{none_attends, not, object_made, or_left, or_right, others_are_held, pages_made}
 use Rattle.mk_laws.proofs.Vocabulary.{phase_of, place_now, quarantine_word, refl, roots_point_well, slice_index, sym}
-use Rattle.mk_laws.proofs.Vocabulary.{takes_cell, target, true, unmaps, used_at, ℕ, ◌%◌, ◌&&◌, ◌+◌, ◌-◌, ◌/◌, ◌==◌, ◌^◌}
+use Rattle.mk_laws.proofs.Vocabulary.{takes_cell, target, true, unmaps, used_at, ◌%◌, ◌&&◌, ◌+◌, ◌-◌, ◌/◌, ◌==◌, ◌^◌}
 use Rattle.mk_laws.proofs.Vocabulary.{◌||◌, ◌∙◌, ◌≡◌, ◌≢◌}
-use Rattle.mk_core.specs.declared.events.Step.TheVariants as step
-use Rattle.mk_core.specs.Cells.{are_left_unmarked}
-use Rattle.mk_core.specs.Frames.{written_of}
-use Rattle.mk_core.specs.MarkerConditions.{may_end_all}
-use Rattle.mk_core.specs.NewPlaces.{bits_made}
 use Rattle.mk_core.specs.StopConditions.{blackens, marks_by_hand, may_begin, may_black, may_close, may_mark}
 use Rattle.mk_core.specs.StopConditions.{may_unblack, may_undirty}
 use Rattle.mk_core.specs.TurnConditions.{are_wiped, drops, is_in_gone_run, may_give, may_head, may_quarantine, may_use}
 use Rattle.mk_core.specs.TurnConditions.{may_wipe, takes_snapshot}
-use Rattle.mk_laws.proofs.Asked.{none_at}
+use Rattle.mk_core.specs.{Cells.are_left_unmarked, Frames.written_of, MarkerConditions.may_end_all, NewPlaces.bits_made}
 use Rattle.mk_laws.proofs.Tests.{and_on, if_on, none_from, or_on, some_on, without_on}
-use Rattle.mk_laws.proofs.GatesStill.{pages_same, phase_same}
+use Rattle.mk_laws.proofs.{Asked.none_at, GatesStill.pages_same, GatesStill.phase_same}
 
 module _ (c : Config) (w v : World) (kept : TurnIsLeft w v) (own : v.now.seats.holding ≡ w.now.seats.holding) where
   abbrev a : Words
@@ -256,21 +251,21 @@ module _ (c : Config) (w v : World) (kept : TurnIsLeft w v) (own : v.now.seats.h
       → (is_run_gone a w.now.seats.holding.freed ≡ true → is_run_gone b w.now.seats.holding.freed ≡ true)
       → ((p n : ℕ) → is_phase a 4 ≡ true → gives_back a p n ≡ true → are_wiped b p (used_at b p - n) ≡ true)
       → holder_may c w.now f x ≡ true → holder_may c v.now f x ≡ true
-  holder_on s f step.Give gates at written gone wiped h = give_on f gone h
-  holder_on s f (step.Head p n) gates at written gone wiped h = head_on f p n h
-  holder_on s f (step.Used p n) gates at written gone wiped h = used_on f p n (wiped p n) h
-  holder_on s f (step.Quar p n) gates at written gone wiped h = quarantine_on f p n h
-  holder_on s f step.Grant gates at written gone wiped h = ap (λ (x : Holding). is_used_once x.placing) own ∙ h
-  holder_on s f (step.Open j) gates at written gone wiped h = ap (λ (x : Holding). is_run_gone b x.freed) own ∙ gone h
-  holder_on s f (step.Mark p n) gates at written gone wiped h = mark_same f p n ∙ h
-  holder_on s f (step.Wipe n) gates at written gone wiped h = wipe_on n h
-  holder_on s f step.Full gates at written gone wiped h = full_same f ∙ h
-  holder_on s f step.Begin gates at written gone wiped h = begin_on (eqb-true (phase_of a) 0 at) h
-  holder_on s f step.Close gates at written gone wiped h = close_on (eqb-true (phase_of a) 2 at) (written gates) h
-  holder_on s f step.End gates at written gone wiped h = end_on (eqb-true (phase_of a) 4 at) h
-  holder_on s f (step.Undirty p) gates at written gone wiped h = undirty_on p h
-  holder_on s f (step.Black p n) gates at written gone wiped h =
+  holder_on s f Step.Give gates at written gone wiped h = give_on f gone h
+  holder_on s f (Step.Head p n) gates at written gone wiped h = head_on f p n h
+  holder_on s f (Step.Used p n) gates at written gone wiped h = used_on f p n (wiped p n) h
+  holder_on s f (Step.Quar p n) gates at written gone wiped h = quarantine_on f p n h
+  holder_on s f Step.Grant gates at written gone wiped h = ap (λ (x : Holding). is_used_once x.placing) own ∙ h
+  holder_on s f (Step.Open j) gates at written gone wiped h = ap (λ (x : Holding). is_run_gone b x.freed) own ∙ gone h
+  holder_on s f (Step.Mark p n) gates at written gone wiped h = mark_same f p n ∙ h
+  holder_on s f (Step.Wipe n) gates at written gone wiped h = wipe_on n h
+  holder_on s f Step.Full gates at written gone wiped h = full_same f ∙ h
+  holder_on s f Step.Begin gates at written gone wiped h = begin_on (eqb-true (phase_of a) 0 at) h
+  holder_on s f Step.Close gates at written gone wiped h = close_on (eqb-true (phase_of a) 2 at) (written gates) h
+  holder_on s f Step.End gates at written gone wiped h = end_on (eqb-true (phase_of a) 4 at) h
+  holder_on s f (Step.Undirty p) gates at written gone wiped h = undirty_on p h
+  holder_on s f (Step.Black p n) gates at written gone wiped h =
       black_on p n (eqb-true (phase_of a) 2 at) (written gates) h
-  holder_on s f (step.Unblack p) gates at written gone wiped h = unblack_on h
-  holder_on s f step.Over gates at written gone wiped h = over_on h
+  holder_on s f (Step.Unblack p) gates at written gone wiped h = unblack_on h
+  holder_on s f Step.Over gates at written gone wiped h = over_on h
   holder_on s f _ gates at written gone wiped h = refl

@@ -1,10 +1,8 @@
 -- A marker that doesn't attend is in the middle of nothing, and stays so.
 use Rattle.mk_laws.proofs.Vocabulary.{Bool, Config, MarkerState as Marker, None, Option, SeenHeader, Some, Step, Word}
-use Rattle.mk_laws.proofs.Vocabulary.{and_parts, ap, behind_mlook, cases_Bool, cell_seen, false, has_next_word, inl}
+use Rattle.mk_laws.proofs.Vocabulary.{ℕ, and_parts, ap, behind_mlook, cases_Bool, cell_seen, false, has_next_word, inl}
 use Rattle.mk_laws.proofs.Vocabulary.{inr, is_attending, is_scanned, is_some, marker_behind, marker_may, refl, sym}
-use Rattle.mk_laws.proofs.Vocabulary.{true, ℕ, ◌∙◌, ◌≡◌}
-use Rattle.mk_core.specs.declared.events.Step.TheVariants as step
-use Rattle.mk_core.specs.declared.events.Word.TheVariants as word
+use Rattle.mk_laws.proofs.Vocabulary.{true, ◌∙◌, ◌≡◌}
 use Rattle.mk_laws.proofs.ProtocolMoves.{IdlesOutside}
 
 -- what a marker has only while it attends
@@ -30,38 +28,37 @@ seen_attends : (c : Config) (x : Marker) → IdlesOutside x → is_some (cell_se
 seen_attends c x h s = elim (cases_Bool (is_attending x.presence)) [
   | inl e ↦ e
   | inr e ↦
-      let f : false ≡ true = sym (none_seen c x.seen)
-      ∙ ap (λ (v : Option ℕ). is_some (cell_seen c x.seen v)) (sym (h e).hand) ∙ s in
+      let f = sym (none_seen c x.seen) ∙ ap (λ (v : Option ℕ). is_some (cell_seen c x.seen v)) (sym (h e).hand) ∙ s in
       cc
 ]
 
 -- Whoever looks, claims, loads, marks or blackens attends.
 abbrev pub is_work : Step → Bool
-is_work (step.Mlook w) = true
-is_work (step.Claim p i) = true
-is_work step.Mload = true
-is_work step.Mmark = true
-is_work step.Mblack = true
+is_work (Step.Mlook w) = true
+is_work (Step.Claim p i) = true
+is_work Step.Mload = true
+is_work Step.Mmark = true
+is_work Step.Mblack = true
 is_work _ = false
 
 pub work_attends : (c : Config) (x : Marker) (s : Step) → IdlesOutside x → marker_may c x s ≡ true → is_work s ≡ true
     → is_attending x.presence ≡ true
-work_attends c x (step.Mlook w) h m k = (and_parts _ _ m).0
-work_attends c x (step.Claim p i) h m k = (and_parts _ _ (and_parts _ _ m).0).0
-work_attends c x step.Mload h m k = next_attends x h (and_parts _ _ m).0
-work_attends c x step.Mmark h m k = seen_attends c x h m
-work_attends c x step.Mblack h m k = scanned_attends x h (and_parts _ _ m).0
+work_attends c x (Step.Mlook w) h m k = (and_parts _ _ m).0
+work_attends c x (Step.Claim p i) h m k = (and_parts _ _ (and_parts _ _ m).0).0
+work_attends c x Step.Mload h m k = next_attends x h (and_parts _ _ m).0
+work_attends c x Step.Mmark h m k = seen_attends c x h m
+work_attends c x Step.Mblack h m k = scanned_attends x h (and_parts _ _ m).0
 work_attends c x _ h m k = cc
 
 -- it keeps its presence, so all is said
 
 pub look_stays : (c : Config) (n : ℕ) (w : Word) (x : Marker) → (behind_mlook c n w x).presence ≡ x.presence
-look_stays c n (word.Head p) x = refl
+look_stays c n (Word.Head p) x = refl
 look_stays c n _ x = refl
 
 pub work_stays : (c : Config) (n : ℕ) (s : Step) (x : Marker) → is_work s ≡ true
     → (marker_behind c n s x).presence ≡ x.presence
-work_stays c n (step.Mlook w) x k = look_stays c n w x
+work_stays c n (Step.Mlook w) x k = look_stays c n w x
 work_stays c n _ x k = cc
 
 pub work_idles : (c : Config) (n : ℕ) (s : Step) (x : Marker) → marker_may c x s ≡ true → is_work s ≡ true

@@ -1,16 +1,13 @@
 -- What a step of a caller needs, from the groups.
 use Rattle.mk_laws.proofs.Vocabulary.{Bool, Cell, Config, Flight, IsSafeSet, IsTypedAllocation, List, Mirrors}
-use Rattle.mk_laws.proofs.Vocabulary.{NeverState, None, Option, PlacedAllocation, Some, Words, World, [], address_of}
+use Rattle.mk_laws.proofs.Vocabulary.{NeverState, None, Option, PlacedAllocation, Some, Words, World, ℕ, address_of}
 use Rattle.mk_laws.proofs.Vocabulary.{allocation_at, ap, arith, cases_Bool, cell_of_allocation, false, first_word}
 use Rattle.mk_laws.proofs.Vocabulary.{flight_among, header_at, header_in, image_scene_of, inl, inr, is_unmapped}
 use Rattle.mk_laws.proofs.Vocabulary.{is_unmapped_header, kinds_of, length, placed_at, pointed_cell, storage_holds}
-use Rattle.mk_laws.proofs.Vocabulary.{storage_words, subst, sym, true, words_of, ℕ, ◌+◌, ◌/◌, ◌<◌, ◌∙◌, ◌≡◌, ◌≢◌, ◌≤◌}
-use Rattle.mk_laws.proofs.Known.{HaveOperands, operands_of}
-use Rattle.mk_laws.proofs.ImagesStands.{Stands, is_gone}
-use Rattle.mk_laws.proofs.KnownWorlds.{KnownWorld}
-use Rattle.mk_laws.proofs.ImagesKept.{AreApart, AreSmall, exists_placed}
-use Rattle.mk_laws.proofs.Ready.{Ready}
-use Rattle.mk_laws.proofs.Reached.{PagesShow}
+use Rattle.mk_laws.proofs.Vocabulary.{storage_words, subst, sym, true, words_of, [], ◌+◌, ◌/◌, ◌<◌, ◌∙◌, ◌≡◌, ◌≢◌, ◌≤◌}
+use Rattle.mk_laws.proofs.ImagesKept.{AreApart, AreSmall}
+use Rattle.mk_laws.proofs.{HeapEdits.exists_placed, ImagesStands.Stands, ImagesStands.is_gone, Known.HaveOperands}
+use Rattle.mk_laws.proofs.{Known.operands_of, KnownWorlds.KnownWorld, Reached.PagesShow, Ready.Ready}
 
 pub small_operands : (c : Config) (fs : List Flight) → HaveOperands c fs → AreSmall fs
 small_operands c fs h j = let o = operands_of c (flight_among fs j).op (h j) in (o.q, o.p, o.r, o.d)
@@ -37,9 +34,7 @@ module _ (c : Config) (w : World) (n : NeverState) (known : KnownWorld c w) (mir
       rw mirrors.types at (subst (λ ty. ty < length n.types) (sym (mirrors.twins.ty a lt)) typed.ty)
 
   pub words_fit : (a : ℕ) → a < length w.allocations → length (words_of n a) ≤ storage_words c (placed a)
-  words_fit a lt =
-      let holds = (storage_holds c (placed a) known.limits (type_is a lt)).0 in
-      omega (arith, words_are a lt)
+  words_fit a lt = omega (arith, words_are a lt, (storage_holds c (placed a) known.limits (type_is a lt)).0)
 
   pub unmapped_is : (a : ℕ) → a < length w.allocations → is_unmapped (allocation_at n a) ≡ is_gone c (placed a)
   unmapped_is a lt = rw (← (mirrors.twins.freed a lt)) (rw (words_are a lt))

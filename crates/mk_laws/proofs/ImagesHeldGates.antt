@@ -1,17 +1,16 @@
 -- A caller whose gate is held is between calls.
-use Rattle.mk_laws.proofs.Vocabulary.{Bool, Config, Op, Stage, arith, at_rest, cases_lt, get_or_past, inl, inr, refl}
-use Rattle.mk_laws.proofs.Vocabulary.{sym, true, ℕ, ◌<◌, ◌≡◌, ◌≢◌}
+use Rattle.mk_laws.proofs.Vocabulary.{Bool, Config, Op, Stage, ℕ, arith, at_rest, cases_lt, get_or_past, inl, inr, refl}
+use Rattle.mk_laws.proofs.Vocabulary.{sym, true, ◌<◌, ◌≡◌, ◌≢◌}
 use Rattle.mk_laws.proofs.Basics.{Orderly, View, flight_in, gate_in, standing_at}
-use Rattle.mk_core.specs.declared.seats.Stage.TheVariants as stage
+use Rattle.mk_laws.proofs.Standings.{Astray, Resting, Shows, Standing, standing_in}
 use Rattle.mk_laws.specs.Protocol.{has_stage}
-use Rattle.mk_laws.proofs.Standings.{Standing, Resting, Astray, standing_in, Shows}
 
 never_rests : (b u : Bool) → standing_in b u ≡ Resting → ⊥
 never_rests true true h = cc
 never_rests _ _ h = cc
 
-pub resting_idle : (o : Op) (s : Stage) → standing_at s o ≡ Resting → s ≡ stage.Idle
-resting_idle o stage.Idle h = refl
+pub resting_idle : (o : Op) (s : Stage) → standing_at s o ≡ Resting → s ≡ Stage.Idle
+resting_idle o Stage.Idle h = refl
 resting_idle o s h = absurd (never_rests (has_stage o s) _ h)
 
 held_resting : (t k : ℕ) (s : Standing) (g : ℕ) → g ≡ 2 → Shows t g k s → s ≡ Resting
@@ -20,12 +19,12 @@ held_resting t k Astray g e h = absurd h
 held_resting t k _ g e h = absurd (let x = h.0 in omega arith)
 
 pub held_idle : (c : Config) (v : View) (j : ℕ) → Orderly c v → j < c.callers → gate_in v j ≡ 2
-    → (flight_in v j).stage ≡ stage.Idle
+    → (flight_in v j).stage ≡ Stage.Idle
 held_idle c v j p lt e = resting_idle _ _ (held_resting v.turn j _ (gate_in v j) e (p.each j lt))
 
 -- Where the gates of all others are held, all but one are idle.
 pub others_idle : (c : Config) (v : View) (k : ℕ) → Orderly c v → ((j : ℕ) → j < c.callers → k ≢ j → gate_in v j ≡ 2)
-    → (j : ℕ) → j ≢ k → (flight_in v j).stage ≡ stage.Idle
+    → (j : ℕ) → j ≢ k → (flight_in v j).stage ≡ Stage.Idle
 others_idle c v k p held j ne = elim (cases_lt j c.callers) [
   | inl lt ↦ held_idle c v j p lt (held j lt (λ e. ne (sym e)))
   | inr le ↦ rw (get_or_past v.flights j at_rest (let e = p.flights in omega (arith, e)))

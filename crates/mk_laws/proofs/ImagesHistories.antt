@@ -2,25 +2,19 @@
 use Rattle.std.proofs.lemmas.List.{length-replicate}
 use Rattle.mk_laws.proofs.Vocabulary.{Answer, AreAdmitted, AreEnabled, AreEnabledFrom, Bool, Call, Config, Decided}
 use Rattle.mk_laws.proofs.Vocabulary.{Event, ImagePremises, ImagePremisesAlong, IsHistory, IsSafe, IsWithinLimits, List}
-use Rattle.mk_laws.proofs.Vocabulary.{Mirrors, NeverState, Null, Ptr, Value, World, [], after_calls, answer_of}
-use Rattle.mk_laws.proofs.Vocabulary.{answered, answers_of, ap, append-nil, append_assoc, arith, asked, at_rest}
-use Rattle.mk_laws.proofs.Vocabulary.{bases_of, call_decided, calls_from, false, first_world, image_of, left, left_from}
-use Rattle.mk_laws.proofs.Vocabulary.{left_more, map-append, refl, replies_of, sym, true, world_behind, ℕ, ◌*◌, ◌++◌}
+use Rattle.mk_laws.proofs.Vocabulary.{Mirrors, NeverState, Null, Ptr, Value, World, ℕ, after_calls, answer_of, answered}
+use Rattle.mk_laws.proofs.Vocabulary.{answers_of, ap, append-nil, append_assoc, arith, asked, at_rest, bases_of}
+use Rattle.mk_laws.proofs.Vocabulary.{call_decided, calls_from, false, first_world, image_of, left, left_from}
+use Rattle.mk_laws.proofs.Vocabulary.{left_more, map-append, refl, replies_of, sym, true, world_behind, [], ◌*◌, ◌++◌}
 use Rattle.mk_laws.proofs.Vocabulary.{◌/◌, ◌∙◌, ◌∷◌, ◌≡◌}
+use Rattle.mk_never.{proofs.Parts.admitted_split, proofs.Parts.after_append, proofs.Parts.replies_append}
+use Rattle.mk_never.{proofs.Reached.reached_is_in, proofs.TypedCalls.start_is_typed, specs.Reach.LeadsTo}
+use Rattle.mk_core.{proofs.Histories.enabled_more, specs.History.never_first}
 use Rattle.mk_laws.proofs.Basics.{KnownWorld, at_first, known_world}
-use Rattle.mk_never.specs.Reach.{LeadsTo}
-use Rattle.mk_never.proofs.TypedCalls.{start_is_typed}
-use Rattle.mk_never.proofs.Parts.{after_append, replies_append, admitted_split}
-use Rattle.mk_never.proofs.Reached.{reached_is_in}
-use Rattle.mk_core.specs.History.{never_first}
-use Rattle.mk_core.proofs.Histories.{enabled_more}
-use Rattle.mk_laws.specs.SafeSets.{HasSafeSet}
-use Rattle.mk_laws.specs.Laws.{HistoriesRefineNever, HistoriesMirrorNever, ReachedIsUnreleased, HistoriesTellOthers}
-use Rattle.mk_laws.proofs.Pairs.{bare_carries}
 use Rattle.mk_laws.proofs.ImagesOneEvent.{Follows, one_event}
-use Rattle.mk_laws.proofs.Saying.{images_say}
-use Rattle.mk_laws.proofs.Bases.{IsLonger}
-use Rattle.mk_laws.proofs.FreedRuns.{never_after}
+use Rattle.mk_laws.proofs.{Bases.IsLonger, FreedRuns.never_after, Pairs.bare_carries, Saying.images_say}
+use Rattle.mk_laws.specs.Laws.{HistoriesMirrorNever, HistoriesRefineNever, HistoriesTellOthers, ReachedIsUnreleased}
+use Rattle.mk_laws.specs.SafeSets.{HasSafeSet}
 
 -- what events leave and decide, from a world on
 record FollowsAll (c : Config) (w : World) (n : NeverState) (es : List Event) : Type 0 where
@@ -60,14 +54,10 @@ follows_from c whole done (x ∷ es) w n limits is was on e others mirrors ad =
     let here : ImagePremises c w = rw is (others done (x ∷ es) e) in
     let one : Follows c w n x = one_event c w n x known here mirrors on.0 admitted.0 in
     let behind : v ≡ left c (done ++ x ∷ []) = rw is (sym (left_more c (first_world c) done x)) in
-    let enabled : AreEnabled c (done ++ x ∷ []) = enabled_more c (first_world c) done x was (rw is at on.0) in
-    let rest : FollowsAll c v (never_after c w n x) es =
-    follows_from c whole (done ++ x ∷ []) es v _ limits behind enabled on.1
-    (append_assoc done (x ∷ []) es ∙ e) others one.mirrors admitted.1 in
-    let after : after_calls n (asked (xs ++ ys)) ≡ after_calls (never_after c w n x) (asked ys) =
-    ap (after_calls n) split ∙ after_append n (asked xs) (asked ys) in
+    let rest = follows_from c whole (done ++ x ∷ []) es v _ limits behind (enabled_more c (first_world c) done x was
+    (rw is at on.0)) on.1 (append_assoc done (x ∷ []) es ∙ e) others one.mirrors admitted.1 in
     record {
-      mirrors = rw after rest.mirrors;
+      mirrors = rw (ap (after_calls n) split ∙ after_append n (asked xs) (asked ys)) rest.mirrors;
       bases = record {
         more = one.bases.more ++ rest.bases.more;
         is = rest.bases.is ∙ rw one.bases.is (append_assoc _ one.bases.more rest.bases.more);
@@ -111,8 +101,7 @@ all_follow : (c : Config) (es : List Event) → IsHistory c es → ImagePremises
     → FollowsAll c (first_world c) (never_first c) es
 unfolding left_from AreEnabledFrom
 all_follow c es h others =
-    follows_from c es [] es (first_world c) (never_first c) h.within_limits refl tt h.enabled refl others
-    (first_mirrors c) h.admitted
+    follows_from c es [] es _ _ h.within_limits refl tt h.enabled refl others (first_mirrors c) h.admitted
 
 pub histories_refine : HistoriesRefineNever
 histories_refine c es h others = (all_follow c es h others).right

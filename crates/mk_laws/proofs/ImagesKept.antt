@@ -1,26 +1,23 @@
 -- The images are kept by each move.
-use Rattle.std.proofs.Common.{length-append}
-use Rattle.std.proofs.lemmas.List.{get_or_at}
-use Rattle.std.proofs.Math.ListN.{get_or-map as get_or-map-default}
 use Rattle.mk_laws.proofs.Vocabulary.{Bool, Carries, CarriesOwn, Flight, ImageScene, IsMet, IsSound, IsTyped}
-use Rattle.mk_laws.proofs.Vocabulary.{IsTypedAllocation, Kind, List, NeverAllocation, NeverState, Null, Num, Number}
-use Rattle.mk_laws.proofs.Vocabulary.{PlacedAllocation, ProbedOwn, Ptr, Stage, Suits, To, Value, [], address_of}
-use Rattle.mk_laws.proofs.Vocabulary.{allocation_at, and_right, ap, arith, at_rest, bases_of, cases_Bool, cases_eq}
-use Rattle.mk_laws.proofs.Vocabulary.{cases_lt, d_of, false, flight_among, get_or, get_or-set_other, get_or-set_same}
-use Rattle.mk_laws.proofs.Vocabulary.{get_or_append_left, get_or_past, image_of, inl, inr, is_large, is_past_probe}
-use Rattle.mk_laws.proofs.Vocabulary.{is_put, is_unmapped, kind_in, kinds_of, length, length-map, length-set, map}
-use Rattle.mk_laws.proofs.Vocabulary.{map-append, never_granted, no_allocation, p_of, placed_at, q_of, r_of, refl}
-use Rattle.mk_laws.proofs.Vocabulary.{register_at, set_by, shown, slice_index, slice_index_or, slice_set, subst, suc}
-use Rattle.mk_laws.proofs.Vocabulary.{sym, true, with_freed, with_global, with_new, with_register, with_word, word_at}
-use Rattle.mk_laws.proofs.Vocabulary.{words_of, zero, ℕ, ◌%◌, ◌*◌, ◌++◌, ◌+◌, ◌/◌, ◌<◌, ◌∙◌, ◌∷◌, ◌≡◌, ◌≢◌}
-use Rattle.mk_never.specs.Types.{zero_of, zero_words}
-use Rattle.mk_never.proofs.Edits.{exists}
-use Rattle.mk_core.specs.declared.seats.Stage.TheVariants as stage
+use Rattle.mk_laws.proofs.Vocabulary.{IsTypedAllocation, List, NeverAllocation, NeverState, Null, PlacedAllocation}
+use Rattle.mk_laws.proofs.Vocabulary.{ProbedOwn, Ptr, Stage, Value, ℕ, address_of, allocation_at, ap, arith, at_rest}
+use Rattle.mk_laws.proofs.Vocabulary.{bases_of, cases_Bool, cases_eq, d_of, false, flight_among, get_or-set_other}
+use Rattle.mk_laws.proofs.Vocabulary.{get_or-set_same, image_of, inl, inr, is_past_probe, is_put, is_unmapped, kind_in}
+use Rattle.mk_laws.proofs.Vocabulary.{kinds_of, length, length-map, p_of, placed_at, q_of, r_of, refl, register_at}
+use Rattle.mk_laws.proofs.Vocabulary.{set_by, shown, slice_index, slice_index_or, slice_set, subst, sym, true}
+use Rattle.mk_laws.proofs.Vocabulary.{with_freed, with_global, with_new, with_register, with_word, word_at, words_of}
+use Rattle.mk_laws.proofs.Vocabulary.{[], ◌%◌, ◌*◌, ◌++◌, ◌+◌, ◌/◌, ◌<◌, ◌∙◌, ◌∷◌, ◌≡◌, ◌≢◌}
+use Rattle.mk_never.{proofs.Edits.exists, specs.Types.zero_of, specs.Types.zero_words}
+use Rattle.mk_laws.proofs.HeapEdits.{AreAlike, freed_is, freed_was, freed_words, fresh_one, image_grown, meets_new}
+use Rattle.mk_laws.proofs.HeapEdits.{new_image, new_never, new_placed, new_words, old_never, old_placed, same_base}
+use Rattle.mk_laws.proofs.HeapEdits.{suits_grown, word_elsewhere, word_other, word_same, written_alike, zero_image}
+use Rattle.mk_laws.proofs.ImagesMoves.{Decides, Flies, Frees, Grants, Move, Owes, Pays, Releases, Renews, Rests, Shares}
+use Rattle.mk_laws.proofs.ImagesMoves.{Stores, Wipes, Writes, is_bare}
+use Rattle.mk_laws.proofs.Pairs.{bare_carries, bare_owes_nothing, bare_unprobed, carries_same, met_same, put_carries}
+use Rattle.mk_laws.proofs.Pairs.{set_both, shows_other, shows_owed, shows_plain}
 use Rattle.mk_laws.specs.Images.{AreImages}
-use Rattle.mk_laws.proofs.ImagesMoves.{is_bare, Decides, Move, Rests, Flies, Owes, Pays, Stores, Shares, Writes, Wipes}
-use Rattle.mk_laws.proofs.ImagesMoves.{Grants, Frees, Renews, Releases}
-use Rattle.mk_laws.proofs.Pairs.{set_both, bare_carries, put_carries, bare_unprobed, shows_plain, shows_owed}
-use Rattle.mk_laws.proofs.Pairs.{shows_other, bare_owes_nothing, image_more, carries_same, met_same}
+pub use Rattle.mk_laws.proofs.HeapEdits.{base_at, exists_placed}
 
 -- the registers that calls name are of the eight
 abbrev pub AreSmall : List Flight → Type 0
@@ -32,11 +29,6 @@ abbrev pub AreApart : List PlacedAllocation → NeverState → Type 0
 AreApart xs n = (a b i j : ℕ) → (placed_at xs a).released ≡ false → (placed_at xs b).released ≡ false
     → i < length (words_of n a) → j < length (words_of n b) → a ≢ b
     → (placed_at xs a).base + i ≢ (placed_at xs b).base + j
-
--- of each allocation the length and whether it is unmapped are the same
-abbrev pub AreAlike : NeverState → NeverState → Type 0
-AreAlike n m = (a : ℕ) → (length (words_of m a) ≡ length (words_of n a))
-    × (is_unmapped (allocation_at m a) ≡ is_unmapped (allocation_at n a))
 
 -- the registers, where one flight is set, from the caller's own and the others
 registers_from : (cs : List ℕ) (fs : List Flight) (k : ℕ) (f : Flight) (ys : List ℕ) (vs : List Value) → k < length fs
@@ -102,7 +94,7 @@ other_register : (n : NeverState) (k d j r : ℕ) (v : Value) → d < 8 → r < 
 other_register n k d j r v ld lr ne =
     get_or-set_other n.registers (8 * k + d) (8 * j + r) v Null (λ e. absurd (ne (omega arith)))
 
-put_past : (s : Stage) → s ≡ stage.Put → is_past_probe s ≡ false
+put_past : (s : Stage) → s ≡ Stage.Put → is_past_probe s ≡ false
 put_past s e = ap is_past_probe e
 
 module _ (s : ImageScene) (n : NeverState) (h : AreImages s n) (small : AreSmall s.flights) where
@@ -124,7 +116,7 @@ module _ (s : ImageScene) (n : NeverState) (h : AreImages s n) (small : AreSmall
       }
 
   owes_one : (k : ℕ) (f : Flight) (v : Value) → k < length s.flights → 8 * k + 7 < length n.registers
-      → is_put (flight_among s.flights k).stage ≡ false → f.stage ≡ stage.Put → d_of f.op < 8
+      → is_put (flight_among s.flights k).stage ≡ false → f.stage ≡ Stage.Put → d_of f.op < 8
       → f.loaded ≡ image_of bases v
       → AreImages (record s { flights = slice_set s.flights k f }) (with_register n k (d_of f.op) v)
   owes_one k f v there long was put ld is =
@@ -150,7 +142,7 @@ module _ (s : ImageScene) (n : NeverState) (h : AreImages s n) (small : AreSmall
       }
 
   pays : (k : ℕ) (f : Flight) → k < length s.flights → 8 * k + 7 < length s.registers
-      → (flight_among s.flights k).stage ≡ stage.Put → d_of (flight_among s.flights k).op < 8 → is_bare f.stage ≡ true
+      → (flight_among s.flights k).stage ≡ Stage.Put → d_of (flight_among s.flights k).op < 8 → is_bare f.stage ≡ true
       → AreImages (record s {
         flights = slice_set s.flights k f;
         registers = slice_set s.registers (8 * k + d_of (flight_among s.flights k).op)
@@ -243,31 +235,6 @@ module _ (s : ImageScene) (n : NeverState) (h : AreImages s n) (small : AreSmall
         probed = h.probed;
       }
 
--- a store to a word
-pub written_alike : (n : NeverState) (a i : ℕ) (v : Value) → AreAlike n (with_word n a i v)
-written_alike n a i v b = set_by (λ (x : NeverAllocation). (length x.words ≡ length (words_of n b))
-    × (is_unmapped x ≡ is_unmapped (allocation_at n b))) n.allocations a b
-    (record (allocation_at n a) { words = slice_set (words_of n a) i v }) no_allocation (λ e. (
-      length-set (words_of n a) i v ∙ rw (← e),
-      rw (length-set (words_of n a) i v) (rw (← e)),
-    )) (refl, refl)
-
-word_same : (n : NeverState) (a i : ℕ) (v : Value) → i < length (words_of n a) → word_at (with_word n a i v) a i ≡ v
-word_same n a i v lt = ap (λ (x : NeverAllocation). slice_index_or x.words i Null)
-    (get_or-set_same n.allocations a (record (allocation_at n a) { words = slice_set (words_of n a) i v })
-    no_allocation (exists n a i lt)) ∙ get_or-set_same (words_of n a) i v Null lt
-
-word_other : (n : NeverState) (a i j : ℕ) (v : Value) → i < length (words_of n a) → j ≢ i
-    → word_at (with_word n a i v) a j ≡ word_at n a j
-word_other n a i j v lt ne = ap (λ (x : NeverAllocation). slice_index_or x.words j Null)
-    (get_or-set_same n.allocations a (record (allocation_at n a) { words = slice_set (words_of n a) i v })
-    no_allocation (exists n a i lt)) ∙ get_or-set_other (words_of n a) i j v Null ne
-
-word_elsewhere : (n : NeverState) (a i b j : ℕ) (v : Value) → b ≢ a → word_at (with_word n a i v) b j ≡ word_at n b j
-word_elsewhere n a i b j v ne = ap (λ (x : NeverAllocation). slice_index_or x.words j Null)
-    (get_or-set_other n.allocations a b (record (allocation_at n a) { words = slice_set (words_of n a) i v })
-    no_allocation ne)
-
 module _ (s : ImageScene) (n : NeverState) (h : AreImages s n) (small : AreSmall s.flights) where
   writes : AreApart s.allocations n → (k a i x : ℕ) (f : Flight) (v : Value) → Decides s n k f
       → (placed_at s.allocations a).released ≡ false → i < length (words_of n a)
@@ -311,14 +278,6 @@ module _ (s : ImageScene) (n : NeverState) (h : AreImages s n) (small : AreSmall
             (λ j r ne lr. refl) (λ j ne past v' i' m. meets_alike n (with_word n a i v) alike v' i' m) h.probed;
       }
 
--- the allocations change, and their places don't
-pub base_at : (xs : List PlacedAllocation) (a : ℕ) → slice_index (bases_of xs) a ≡ (placed_at xs a).base
-base_at xs a = get_or-map-default (λ (x : PlacedAllocation). x.base) xs a never_granted
-
-pub same_base : (xs ys : List PlacedAllocation) → bases_of ys ≡ bases_of xs → (a : ℕ)
-    → (placed_at ys a).base ≡ (placed_at xs a).base
-same_base xs ys e a = sym (base_at ys a) ∙ rw e (base_at xs a)
-
 module _ (s : ImageScene) (n : NeverState) (h : AreImages s n) where
   pub rebased : (xs : List PlacedAllocation) → bases_of xs ≡ bases_of s.allocations
       → ((a : ℕ) → (placed_at xs a).released ≡ false → (placed_at s.allocations a).released ≡ false)
@@ -331,22 +290,6 @@ module _ (s : ImageScene) (n : NeverState) (h : AreImages s n) where
         carried = λ j. rw e (h.carried j);
         probed = h.probed;
       }
-
--- an allocation is freed
-pub freed_words : (n : NeverState) (a b : ℕ) → words_of (with_freed n a) b ≡ words_of n b
-freed_words n a b = set_by (λ (x : NeverAllocation). x.words ≡ words_of n b) n.allocations a b
-    (record (allocation_at n a) { freed = true }) no_allocation (λ e. rw (← e)) refl
-
-pub freed_was : (n : NeverState) (a b : ℕ) → is_unmapped (allocation_at (with_freed n a) b) ≡ false
-    → is_unmapped (allocation_at n b) ≡ false
-freed_was n a b = set_by (λ (x : NeverAllocation). is_unmapped x ≡ false
-    → is_unmapped (allocation_at n b) ≡ false) n.allocations a b (record (allocation_at n a) { freed = true })
-    no_allocation (λ e u. rw e (and_right _ (is_large (words_of n a)) u)) (λ u. u)
-
-freed_is : (n : NeverState) (a b : ℕ) → is_unmapped (record (allocation_at n a) { freed = true }) ≡ false
-    → is_unmapped (allocation_at n b) ≡ false → is_unmapped (allocation_at (with_freed n a) b) ≡ false
-freed_is n a b s u = set_by (λ (x : NeverAllocation). is_unmapped x ≡ false) n.allocations a b
-    (record (allocation_at n a) { freed = true }) no_allocation (λ e. s) u
 
 module _ (s : ImageScene) (n : NeverState) (h : AreImages s n) (small : AreSmall s.flights) where
   frees : (k a : ℕ) (f : Flight) → Decides s n k f
@@ -368,80 +311,6 @@ module _ (s : ImageScene) (n : NeverState) (h : AreImages s n) (small : AreSmall
               | inr e ↦ met_same n (with_freed n a) v i (λ b. rw (freed_words n a b)) (λ b u. freed_is n a b e u) m
             ]) h.probed;
       }
-
--- a new allocation
-image_grown : (n : NeverState) (xs : List PlacedAllocation) (y : PlacedAllocation) (v : Value)
-    → length xs ≡ length n.allocations → IsSound n v → image_of (bases_of (xs ++ y ∷ [])) v ≡ image_of (bases_of xs) v
-image_grown n xs y v e s = rw (map-append (λ (x : PlacedAllocation). x.base) xs (y ∷ []))
-    (image_more n (bases_of xs) (y.base ∷ []) v (length-map xs (λ (x : PlacedAllocation). x.base) ∙ e) s)
-
-suits_grown : (n : NeverState) (xs : List PlacedAllocation) (y : PlacedAllocation) (v : Value) (kind : Kind)
-    → length xs ≡ length n.allocations → Suits n v kind
-    → image_of (bases_of (xs ++ y ∷ [])) v ≡ image_of (bases_of xs) v
-suits_grown n xs y (Num m) Number e s = refl
-suits_grown n xs y Null Number e s = refl
-suits_grown n xs y (Ptr a t o) Number e s = absurd s
-suits_grown n xs y v (To t o) e s = image_grown n xs y v e s.0
-
-new_image : (xs : List PlacedAllocation) (y : PlacedAllocation) (m ty : ℕ) → length xs ≡ m
-    → image_of (bases_of (xs ++ y ∷ [])) (Ptr m ty 0) ≡ address_of y.base
-new_image xs y m ty e =
-    let at : slice_index (bases_of (xs ++ y ∷ [])) m ≡ y.base =
-    rw (map-append (λ (x : PlacedAllocation). x.base) xs (y ∷ []))
-    (get_or_at (bases_of xs) y.base [] 0 m (length-map xs (λ (x : PlacedAllocation). x.base) ∙ e)) in
-    ap (λ b. address_of (b + 0)) at ∙ (omega arith)
-
-zero_image : (bs : List ℕ) (kinds : List Kind) (i : ℕ) → image_of bs (get_or (map zero_of kinds) i Null) ≡ 0
-zero_image bs [] i = refl
-zero_image bs (Number ∷ kinds) zero = refl
-zero_image bs (To t o ∷ kinds) zero = refl
-zero_image bs (kind ∷ kinds) (suc i) = zero_image bs kinds i
-
-abbrev pub fresh_one : ℕ → ℕ → PlacedAllocation
-fresh_one base ty = record { base = base; ty = ty; freed = false; fresh = false; released = false }
-
-abbrev pub new_words : NeverState → ℕ → NeverAllocation
-new_words n ty = record { ty = ty; words = zero_words (kinds_of n.types ty); freed = false }
-
--- an allocation that isn't the new one
-pub old_never : (n : NeverState) (ty b : ℕ) → b ≢ length n.allocations
-    → allocation_at (with_new n ty) b ≡ allocation_at n b
-old_never n ty b ne = elim (cases_lt b (length n.allocations)) [
-  | inl lt ↦ get_or_append_left n.allocations _ no_allocation b lt
-  | inr le ↦ get_or_past (n.allocations ++ new_words n ty ∷ []) b no_allocation
-      (omega (arith, length-append n.allocations (new_words n ty ∷ [])))
-      ∙ sym (get_or_past n.allocations b no_allocation le)
-]
-
-pub new_never : (n : NeverState) (ty : ℕ) → allocation_at (with_new n ty) (length n.allocations) ≡ new_words n ty
-new_never n ty = get_or_at n.allocations _ [] no_allocation (length n.allocations) refl
-
-pub old_placed : (xs : List PlacedAllocation) (y : PlacedAllocation) (b : ℕ) → b ≢ length xs
-    → placed_at (xs ++ y ∷ []) b ≡ placed_at xs b
-old_placed xs y b ne = elim (cases_lt b (length xs)) [
-  | inl lt ↦ get_or_append_left xs (y ∷ []) never_granted b lt
-  | inr le ↦ get_or_past (xs ++ y ∷ []) b never_granted (omega (arith, length-append xs (y ∷ [])))
-      ∙ sym (get_or_past xs b never_granted le)
-]
-
-pub new_placed : (xs : List PlacedAllocation) (y : PlacedAllocation) → placed_at (xs ++ y ∷ []) (length xs) ≡ y
-new_placed xs y = get_or_at xs y [] never_granted (length xs) refl
-
-meets_new : (n : NeverState) (ty : ℕ) (v : Value) (i : ℕ) → IsMet n v i → IsMet (with_new n ty) v i
-meets_new n ty (Ptr a t o) i h = λ lt. elim (cases_eq a (length n.allocations)) [
-  | inl e ↦ rw e (rw (new_never n ty))
-  | inr ne ↦ rw (old_never n ty a ne)
-      (h (subst (λ (x : NeverAllocation). o + i < length x.words) (old_never n ty a ne) lt))
-]
-meets_new n ty _ i h = tt
-
--- a word of what is granted, and of what was
-pub exists_placed : (xs : List PlacedAllocation) (a : ℕ) → (placed_at xs a).released ≡ false → a < length xs
-exists_placed xs a h = elim (cases_lt a (length xs)) [
-  | inl lt ↦ lt
-  | inr le ↦ let x : true ≡ false = ap (λ (y : PlacedAllocation). y.released) (sym (get_or_past xs a never_granted le))
-      ∙ h in absurd (cc)
-]
 
 module _ (globals : List ℕ) (s : ImageScene) (n : NeverState) (h : AreImages s n) (small : AreSmall s.flights)
     (typed : IsTyped globals n) (same : length s.allocations ≡ length n.allocations) where

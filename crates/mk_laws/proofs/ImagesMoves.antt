@@ -1,20 +1,19 @@
 -- The moves of the images: what an event may do to what they read.
 use Rattle.std.specs.Prelude.{Bool}
 use Rattle.mk_laws.proofs.Vocabulary.{CarriesOwn, Flight, ImageScene, IsSafe, IsSafeSet, List, NeverState}
-use Rattle.mk_laws.proofs.Vocabulary.{PlacedAllocation, ProbedOwn, Ptr, Stage, Value, [], address_of, allocation_at}
+use Rattle.mk_laws.proofs.Vocabulary.{PlacedAllocation, ProbedOwn, Ptr, Stage, Value, ℕ, address_of, allocation_at}
 use Rattle.mk_laws.proofs.Vocabulary.{bases_of, d_of, false, flight_among, image_of, is_past_probe, is_put, is_unmapped}
 use Rattle.mk_laws.proofs.Vocabulary.{kinds_of, length, placed_at, shown, slice_index, slice_set, true, with_freed}
-use Rattle.mk_laws.proofs.Vocabulary.{with_global, with_new, with_register, with_word, words_of, ℕ, ◌*◌, ◌++◌, ◌+◌, ◌<◌}
-use Rattle.mk_laws.proofs.Vocabulary.{◌∷◌, ◌≡◌, ◌≢◌}
-use Rattle.mk_core.specs.declared.seats.Stage.TheVariants as stage
+use Rattle.mk_laws.proofs.Vocabulary.{with_global, with_new, with_register, with_word, words_of, [], ◌*◌, ◌++◌, ◌+◌}
+use Rattle.mk_laws.proofs.Vocabulary.{◌<◌, ◌∷◌, ◌≡◌, ◌≢◌}
 
 -- nothing is carried, and nothing owed
 abbrev pub is_bare : Stage → Bool
-is_bare stage.Idle = true
-is_bare stage.Getg = true
-is_bare stage.Dirty = true
-is_bare stage.Leave = true
-is_bare stage.Give = true
+is_bare Stage.Idle = true
+is_bare Stage.Getg = true
+is_bare Stage.Dirty = true
+is_bare Stage.Leave = true
+is_bare Stage.Give = true
 is_bare _ = false
 
 -- the caller's call, of which nothing is owed, is over or decided after the event
@@ -43,11 +42,11 @@ pub data Move (safe : ℕ → Bool) (s : ImageScene) (n : NeverState) : ImageSce
       → CarriesOwn (bases_of s.allocations) n k f → ProbedOwn n k f
       → Move safe s n (record s { flights = slice_set s.flights k f }) n
   Owes : (k : ℕ) (f : Flight) (v : Value) → k < length s.flights → 8 * k + 7 < length n.registers
-      → is_put (flight_among s.flights k).stage ≡ false → f.stage ≡ stage.Put → d_of f.op < 8
+      → is_put (flight_among s.flights k).stage ≡ false → f.stage ≡ Stage.Put → d_of f.op < 8
       → f.loaded ≡ image_of (bases_of s.allocations) v → IsSafe safe v
       → Move safe s n (record s { flights = slice_set s.flights k f }) (with_register n k (d_of f.op) v)
   Pays : (k : ℕ) (f : Flight) → k < length s.flights → 8 * k + 7 < length s.registers
-      → (flight_among s.flights k).stage ≡ stage.Put → d_of (flight_among s.flights k).op < 8 → is_bare f.stage ≡ true
+      → (flight_among s.flights k).stage ≡ Stage.Put → d_of (flight_among s.flights k).op < 8 → is_bare f.stage ≡ true
       → Move safe s n (record s {
         flights = slice_set s.flights k f;
         registers = slice_set s.registers (8 * k + d_of (flight_among s.flights k).op)

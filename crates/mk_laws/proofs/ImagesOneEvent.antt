@@ -2,25 +2,21 @@
 use Rattle.std.proofs.Common.{length-append}
 use Rattle.mk_laws.proofs.Vocabulary.{AreAdmitted, Bool, Config, Continues, Event, ImagePremises, ImageScene, IsEnabled}
 use Rattle.mk_laws.proofs.Vocabulary.{IsSafe, IsSafeSet, Kind, List, Mirrors, NeverAllocation, NeverState, Null, Number}
-use Rattle.mk_laws.proofs.Vocabulary.{PlacedAllocation, Ptr, To, Value, World, [], allocation_at, answered, answers_of}
+use Rattle.mk_laws.proofs.Vocabulary.{PlacedAllocation, Ptr, To, Value, World, ℕ, allocation_at, answered, answers_of}
 use Rattle.mk_laws.proofs.Vocabulary.{ap, arith, asked, bases_of, call_decided, cases_eq, enabled_meets, eq-eqb}
 use Rattle.mk_laws.proofs.Vocabulary.{eqb-true, get_or, get_or-set_other, get_or-set_same, image_scene_of, inl, inr}
 use Rattle.mk_laws.proofs.Vocabulary.{kinds_of, length, length-set, map, no_allocation, or_cases, or_left, or_right}
 use Rattle.mk_laws.proofs.Vocabulary.{placed_at, refl, replies_of, set_by, slice_index_or, slice_set, subst, suc, sym}
 use Rattle.mk_laws.proofs.Vocabulary.{true, with_freed, with_global, with_new, with_register, with_word, words_of}
-use Rattle.mk_laws.proofs.Vocabulary.{world_behind, zero, ℕ, ◌*◌, ◌++◌, ◌+◌, ◌<◌, ◌==◌, ◌||◌, ◌∙◌, ◌∷◌, ◌≡◌, ◌≢◌}
-use Rattle.mk_laws.proofs.Basics.{Frees, Grants, KnownWorld, Move, Releases, Renews, Writes, ready_of, stands_of}
-use Rattle.mk_never.specs.Types.{zero_of}
-use Rattle.mk_laws.specs.Images.{AreTwins}
-use Rattle.mk_laws.specs.SafeSets.{HasSafeSet}
-use Rattle.mk_laws.proofs.ImagesMoves.{SamePlaces, Owes, Stores, Shares}
-use Rattle.mk_laws.proofs.ImagesKept.{freed_words, freed_was, written_alike, old_never, new_never, old_placed}
-use Rattle.mk_laws.proofs.ImagesKept.{new_placed, new_words, fresh_one, images_kept}
-use Rattle.mk_never.proofs.Later.{calls_stay}
-use Rattle.mk_never.proofs.TypedCalls.{calls_keep}
+use Rattle.mk_laws.proofs.Vocabulary.{world_behind, zero, [], ◌*◌, ◌++◌, ◌+◌, ◌<◌, ◌==◌, ◌||◌, ◌∙◌, ◌∷◌, ◌≡◌, ◌≢◌}
+use Rattle.mk_never.{proofs.Later.calls_stay, proofs.TypedCalls.calls_keep, specs.Types.zero_of}
 use Rattle.mk_laws.proofs.Bases.{IsLonger, bases_grow}
-use Rattle.mk_laws.proofs.FreedRuns.{never_after, freed_run_stays}
-use Rattle.mk_laws.proofs.EventSorts.{goes}
+use Rattle.mk_laws.proofs.Basics.{Frees, Grants, KnownWorld, Move, Releases, Renews, Writes, ready_of, stands_of}
+use Rattle.mk_laws.proofs.HeapEdits.{freed_was, freed_words, fresh_one, new_never, new_placed, new_words, old_never}
+use Rattle.mk_laws.proofs.HeapEdits.{old_placed, written_alike}
+use Rattle.mk_laws.proofs.ImagesMoves.{Owes, SamePlaces, Shares, Stores}
+use Rattle.mk_laws.proofs.{EventSorts.goes, FreedRuns.freed_run_stays, FreedRuns.never_after, ImagesKept.images_kept}
+use Rattle.mk_laws.specs.{Images.AreTwins, SafeSets.HasSafeSet}
 
 -- There is a safe set after each move, and the two lists of allocations still go together.
 
@@ -38,7 +34,7 @@ module _ (safe : ℕ → Bool) (s : ImageScene) (n : NeverState) (h : IsSafeSet 
   of_register : (k d : ℕ) (v : Value) → IsSafe safe v → IsSafeSet safe s.allocations (with_register n k d v)
   of_register k d v is =
       record {
-        registers = λ i. set_by (λ x. IsSafe safe x) n.registers (8 * k + d) i v Null (λ e. is) (h.registers i);
+        registers = λ i. set_by (IsSafe safe) n.registers (8 * k + d) i v Null (λ e. is) (h.registers i);
         globals = h.globals;
         closed = h.closed;
         unreleased = h.unreleased;
@@ -48,7 +44,7 @@ module _ (safe : ℕ → Bool) (s : ImageScene) (n : NeverState) (h : IsSafeSet 
   of_global g v is =
       record {
         registers = h.registers;
-        globals = λ i. set_by (λ x. IsSafe safe x) n.globals g i v Null (λ e. is) (h.globals i);
+        globals = λ i. set_by (IsSafe safe) n.globals g i v Null (λ e. is) (h.globals i);
         closed = h.closed;
         unreleased = h.unreleased;
       }
@@ -62,7 +58,7 @@ module _ (safe : ℕ → Bool) (s : ImageScene) (n : NeverState) (h : IsSafeSet 
             let was = h.closed b j sb (sym (written_alike n a i v b).1 ∙ mb) in
             set_by (λ (x : NeverAllocation). IsSafe safe (slice_index_or x.words j Null)) n.allocations a b
             (record (allocation_at n a) { words = slice_set (words_of n a) i v }) no_allocation
-            (λ e. set_by (λ x. IsSafe safe x) (words_of n a) i j v Null (λ e2. is) (rw e at was)) was;
+            (λ e. set_by (IsSafe safe) (words_of n a) i j v Null (λ e2. is) (rw e at was)) was;
         unreleased = h.unreleased;
       }
 

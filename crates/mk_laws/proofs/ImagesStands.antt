@@ -1,16 +1,15 @@
 -- What stands where, as lookups show it.
 use Rattle.mk_laws.proofs.Vocabulary.{BeginsAtCell, Bool, Config, ImagePremises, IsSized, IsWithinLimits, List, None}
-use Rattle.mk_laws.proofs.Vocabulary.{Option, PlacedAllocation, RunPages, Some, Words, World, address_of, all_below-at}
-use Rattle.mk_laws.proofs.Vocabulary.{and_from, and_parts, ap, arith, cases_Bool, cell_of_allocation, cells_begin}
-use Rattle.mk_laws.proofs.Vocabulary.{eq-eqb, eqb-true, false, first_page_shows, first_word, header_at, header_in}
-use Rattle.mk_laws.proofs.Vocabulary.{header_of, heads_run, inl, inr, is_large, is_mapped, is_run_gone, is_small_object}
-use Rattle.mk_laws.proofs.Vocabulary.{is_unmapped_header, kinds_of, large_count, large_is_not_small, large_words}
-use Rattle.mk_laws.proofs.Vocabulary.{made_is_mapped, not, not-true, object_placed, pages_made, placed_at, pointed_cell}
-use Rattle.mk_laws.proofs.Vocabulary.{run_begins, run_of_allocation, small_pages, stands, storage_words, sym, true}
-use Rattle.mk_laws.proofs.Vocabulary.{true≢false, typed_size, unmapped_header, unmapped_is_unmapped, word_points, ℕ}
-use Rattle.mk_laws.proofs.Vocabulary.{◌&&◌, ◌*◌, ◌+◌, ◌/◌, ◌<◌, ◌==◌, ◌∙◌, ◌≡◌, ◌≢◌, ◌≤◌}
-use Rattle.mk_core.proofs.ObjectHeaders.{part_heads_run}
-use Rattle.mk_core.proofs.StandingAllocations.{cell_ends_within}
+use Rattle.mk_laws.proofs.Vocabulary.{Option, PlacedAllocation, RunPages, Some, Words, World, ℕ, address_of}
+use Rattle.mk_laws.proofs.Vocabulary.{all_below-at, and_from, and_parts, ap, arith, cases_Bool, cell_of_allocation}
+use Rattle.mk_laws.proofs.Vocabulary.{cells_begin, eq-eqb, eqb-true, false, first_page_shows, first_word, header_at}
+use Rattle.mk_laws.proofs.Vocabulary.{header_in, header_of, heads_run, inl, inr, is_large, is_mapped, is_run_gone}
+use Rattle.mk_laws.proofs.Vocabulary.{is_small_object, is_unmapped_header, kinds_of, large_count, large_is_not_small}
+use Rattle.mk_laws.proofs.Vocabulary.{large_words, made_is_mapped, not, not-true, object_placed, pages_made, placed_at}
+use Rattle.mk_laws.proofs.Vocabulary.{pointed_cell, run_begins, run_of_allocation, small_pages, stands, storage_words}
+use Rattle.mk_laws.proofs.Vocabulary.{sym, true, true≢false, typed_size, unmapped_header, unmapped_is_unmapped}
+use Rattle.mk_laws.proofs.Vocabulary.{word_points, ◌&&◌, ◌*◌, ◌+◌, ◌/◌, ◌<◌, ◌==◌, ◌∙◌, ◌≡◌, ◌≢◌, ◌≤◌}
+use Rattle.mk_core.proofs.{ObjectHeaders.part_heads_run, StandingAllocations.cell_ends_within}
 use Rattle.mk_laws.specs.ImagePremises.{IsLaidOut}
 
 -- A large allocation that was freed is unmapped.

@@ -1,17 +1,14 @@
 -- Runs, places and scans lie in the heap, after every enabled list.
 use Rattle.mk_laws.proofs.Vocabulary.{AreEnabled, AreEnabledFrom, AreOfPages, Config, Event, IsWithinLimits, List}
-use Rattle.mk_laws.proofs.Vocabulary.{Marker, MarkerState, Moment, Seat, Step, World, [], access, accessed_lengths}
+use Rattle.mk_laws.proofs.Vocabulary.{Marker, MarkerState, Moment, Seat, Step, Word, World, ℕ, access, accessed_lengths}
 use Rattle.mk_laws.proofs.Vocabulary.{and_parts, enabled_meets, first_moment, first_world, flight_of, found, free_page}
 use Rattle.mk_laws.proofs.Vocabulary.{ground_of, is_in_range, left, left_from, ltb-true, marker_behind, marker_of}
-use Rattle.mk_laws.proofs.Vocabulary.{nat_lt, outside, refl, true, word_accessed, world_behind, zero_lengths, ℕ, ◌<◌}
+use Rattle.mk_laws.proofs.Vocabulary.{nat_lt, outside, refl, true, word_accessed, world_behind, zero_lengths, [], ◌<◌}
 use Rattle.mk_laws.proofs.Vocabulary.{◌∷◌, ◌≡◌}
 use Rattle.mk_laws.proofs.Basics.{Known, Meets, WorldBehind, at_first, known_at_first, known_behind, marker_set}
-use Rattle.mk_core.specs.declared.events.Step.TheVariants as step
-use Rattle.mk_core.specs.declared.events.Word.TheVariants as word
-use Rattle.mk_laws.proofs.Ground.{ground_step}
 use Rattle.mk_laws.proofs.NewPlace.{PlacesFit, place_fits_now, places_behind}
-use Rattle.mk_laws.proofs.RunsInHeap.{RunFits, RunsFit, runs_behind}
-use Rattle.mk_laws.proofs.ScansInHeap.{MarkerFits, nothing_fits, marker_fits_behind}
+use Rattle.mk_laws.proofs.ScansInHeap.{MarkerFits, marker_fits_behind, nothing_fits}
+use Rattle.mk_laws.proofs.{Ground.ground_step, RunsInHeap.RunFits, RunsInHeap.RunsFit, RunsInHeap.runs_behind}
 
 pub record InHeap (c : Config) (m : Moment) : Type 0 where
   pub lengths : AreOfPages c.pages m.words
@@ -25,11 +22,11 @@ own_fits c m k x h in_heap =
     marker_fits_behind c (found c m (record { seat = Marker k; step = x })) x (marker_of m k) (looked x)
     (claimed x h.range) h.marker (in_heap.markers k)
   where
-    looked : (x : Step) (p : ℕ) → x ≡ step.Mlook (word.Head p)
+    looked : (x : Step) (p : ℕ) → x ≡ Step.Mlook (Word.Head p)
         → RunFits c p (found c m (record { seat = Marker k; step = x }))
     looked x p e = rw e (in_heap.runs p)
 
-    claimed : (x : Step) → is_in_range c (Marker k) (flight_of m (Marker k)) x ≡ true → (p i : ℕ) → x ≡ step.Claim p i
+    claimed : (x : Step) → is_in_range c (Marker k) (flight_of m (Marker k)) x ≡ true → (p i : ℕ) → x ≡ Step.Claim p i
         → p < c.pages
     claimed x range p i e =
         let r = rw e at range in
@@ -38,8 +35,7 @@ own_fits c m k x h in_heap =
 markers_fit : (c : Config) (w : World) (seat : Seat) (x : Step) → InHeap c w.now → Meets c w.now seat x → (k : ℕ)
     → MarkerFits c (marker_of (WorldBehind c w seat x).now k)
 markers_fit c w (Marker j) x in_heap h k =
-    marker_set w.now.seats.markers j k _ (λ (y : MarkerState). MarkerFits c y) (λ lt. own_fits c w.now j x h in_heap)
-    (in_heap.markers k)
+    marker_set w.now.seats.markers j k _ (MarkerFits c) (λ lt. own_fits c w.now j x h in_heap) (in_heap.markers k)
 markers_fit c w _ x in_heap h k = in_heap.markers k
 
 in_heap_behind : (c : Config) (w : World) (seat : Seat) (x : Step) → Known c w.now → InHeap c w.now

@@ -1,17 +1,14 @@
 -- The invariant over all histories.
 use Rattle.mk_laws.proofs.Vocabulary.{AreAdmitted, AreEnabledFrom, Call, Decided, Invariant, KeepsTheInvariant, List}
-use Rattle.mk_laws.proofs.Vocabulary.{NeverState, OfHistories, World, [], admitted_in_parts, after_calls, ap}
-use Rattle.mk_laws.proofs.Vocabulary.{append-nil, asked, call_decided, calls_from, earlier_part_is_history}
-use Rattle.mk_laws.proofs.Vocabulary.{enabled_in_parts, left, left_from, left_in_parts, never_behind, never_in_parts}
-use Rattle.mk_laws.proofs.Vocabulary.{subst, sym, true≢false, world_behind, ◌++◌, ◌∙◌, ◌∷◌, ◌≡◌}
+use Rattle.mk_laws.proofs.Vocabulary.{NeverState, OfHistories, World, admitted_in_parts, after_calls, ap, append-nil}
+use Rattle.mk_laws.proofs.Vocabulary.{asked, call_decided, calls_from, earlier_part_is_history, enabled_in_parts, left}
+use Rattle.mk_laws.proofs.Vocabulary.{left_from, left_in_parts, never_behind, never_in_parts, subst, sym, true≢false}
+use Rattle.mk_laws.proofs.Vocabulary.{world_behind, [], ◌++◌, ◌∙◌, ◌∷◌, ◌≡◌}
 use Rattle.mk_laws.proofs.Basics.{holds_of_histories, known_world}
-use Rattle.mk_laws.proofs.LayoutHistories.{in_order_at_first}
-use Rattle.mk_laws.proofs.FreedRuns.{never_after}
-use Rattle.mk_laws.proofs.ImagesHistories.{first_mirrors}
 use Rattle.mk_laws.proofs.GuardHistories.{marks_at_first}
-use Rattle.mk_laws.proofs.ZerosHistories.{zeros_at_first}
+use Rattle.mk_laws.proofs.{FreedRuns.never_after, ImagesHistories.first_mirrors, InvariantJoined.invariant_behind}
+use Rattle.mk_laws.proofs.{LayoutHistories.in_order_at_first, ZerosHistories.zeros_at_first}
 use Rattle.mk_laws.specs.Theorems.{EventsKeepTheInvariant, InvariantAtFirst}
-use Rattle.mk_laws.proofs.InvariantJoined.{invariant_behind}
 
 pub invariant_at_first : InvariantAtFirst
 invariant_at_first c =

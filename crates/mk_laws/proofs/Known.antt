@@ -1,23 +1,16 @@
 -- All that is known of a moment after an enabled list, of whatever calls.
 use Rattle.mk_laws.proofs.Vocabulary.{AreEnabled, AreEnabledFrom, Bool, Caller, Cell, Config, Event, Flight, Holds}
 use Rattle.mk_laws.proofs.Vocabulary.{IsEnabled, IsWithinLimits, List, Moment, None, Op, Option, Progress, Seat, Some}
-use Rattle.mk_laws.proofs.Vocabulary.{Stage, Step, World, [], and_parts, ap, at_rest, cases_eq, cases_lt, d_of}
+use Rattle.mk_laws.proofs.Vocabulary.{Stage, Step, World, ℕ, and_parts, ap, at_rest, cases_eq, cases_lt, d_of}
 use Rattle.mk_laws.proofs.Vocabulary.{enabled_meets, false, first_moment, first_world, found, g_of, get_or-set_other}
 use Rattle.mk_laws.proofs.Vocabulary.{get_or-set_same, has_operands, if◌then◌else◌, inl, inr, is_in_range, left}
 use Rattle.mk_laws.proofs.Vocabulary.{left_from, length, ltb-true, p_of, progress, progress_freed, progress_p}
 use Rattle.mk_laws.proofs.Vocabulary.{progress_q, progress_read, progress_reg, q_of, r_of, refl, register_met, set_past}
-use Rattle.mk_laws.proofs.Vocabulary.{slice_index_or, slice_set, true, world_behind, ℕ, ◌<◌, ◌==◌, ◌∙◌, ◌∷◌, ◌≡◌, ◌≤◌}
-use Rattle.mk_never.specs.declared.operations.Op.TheVariants as op
-use Rattle.mk_core.specs.declared.events.Step.TheVariants as step
-use Rattle.mk_core.specs.declared.seats.Stage.TheVariants as stage
-use Rattle.mk_core.specs.Calls.{has_type}
-use Rattle.mk_laws.proofs.Actors.{Meets}
-use Rattle.mk_laws.proofs.SameWords.{Behind}
-use Rattle.mk_core.specs.Effects.{moment_behind}
+use Rattle.mk_laws.proofs.Vocabulary.{slice_index_or, slice_set, true, world_behind, [], ◌<◌, ◌==◌, ◌∙◌, ◌∷◌, ◌≡◌, ◌≤◌}
+use Rattle.mk_core.specs.{Calls.has_type, Effects.moment_behind}
+use Rattle.mk_laws.proofs.OrderlyLists.{at_first, not_astray, orderly_at_first, orderly_behind}
 use Rattle.mk_laws.proofs.Standings.{in_turn_told, under_turn_is}
-use Rattle.mk_laws.proofs.Views.{view_of, HoldsTurn}
-use Rattle.mk_laws.proofs.Orderly.{Orderly}
-use Rattle.mk_laws.proofs.OrderlyLists.{not_astray, orderly_behind, orderly_at_first, at_first}
+use Rattle.mk_laws.proofs.{Actors.Meets, Orderly.Orderly, SameWords.Behind, Views.HoldsTurn, Views.view_of}
 
 -- The operands of each call in flight are in range.
 
@@ -32,22 +25,22 @@ either_op c old true p q hp hq = hp
 either_op c old false p q hp hq = hq
 
 q_op : (c : Config) (f : Flight) (o : Op) (x : ℕ) → OpStep c f.op (progress_q f o x).flight.op
-q_op c f (op.Move d q) x = Same
-q_op c f (op.Same p q) x = Same
+q_op c f (Op.Move d q) x = Same
+q_op c f (Op.Same p q) x = Same
 q_op c f _ x = either_op c f.op (x == 0) _ _ Same Same
 
 p_op : (c : Config) (f : Flight) (o : Op) (x : ℕ) → OpStep c f.op (progress_p f o x).flight.op
-p_op c f (op.IsNull p) x = Same
-p_op c f (op.Free p) x = either_op c f.op (x == 0) _ _ Same Same
+p_op c f (Op.IsNull p) x = Same
+p_op c f (Op.Free p) x = either_op c f.op (x == 0) _ _ Same Same
 p_op c f _ x = Same
 
 reg_op : (c : Config) (f : Flight) (s : Stage) (x : ℕ) → OpStep c f.op (progress_reg f s x).flight.op
-reg_op c f stage.LoadQ x = q_op c f f.op x
-reg_op c f stage.LoadP x = p_op c f f.op x
+reg_op c f Stage.LoadQ x = q_op c f f.op x
+reg_op c f Stage.LoadP x = p_op c f f.op x
 reg_op c f _ x = Same
 
 read_op : (c : Config) (f : Flight) (o : Op) (x : ℕ) → OpStep c f.op (progress_read f o x).flight.op
-read_op c f (op.GetPtr d q i) x = Same
+read_op c f (Op.GetPtr d q i) x = Same
 read_op c f _ x = Same
 
 freed_op : (c : Config) (f : Flight) (x : Option Cell) → OpStep c f.op (progress_freed f x).flight.op
@@ -57,16 +50,16 @@ freed_op c f None = Same
 -- all kinds
 op_step : (c : Config) (m : Moment) (seat : Seat) (f : Flight) (n : ℕ) (x : Step) → is_in_range c seat f x ≡ true
     → OpStep c f.op (progress c m f n x).flight.op
-op_step c m seat f n (step.Enter o) h = either_op c f.op (n == 0) _ _ (Checked h) Same
-op_step c m seat f n (step.Take (Some o)) h = either_op c f.op (n == 0) _ _ (Checked h) Same
-op_step c m seat f n (step.Take None) h = Same
-op_step c m seat f n step.Leave h = Checked refl
-op_step c m seat f n step.Give h = Checked refl
-op_step c m seat f n step.Reg h = reg_op c f f.stage n
-op_step c m seat f n step.Probe h = either_op c f.op _ _ _ Same Same
-op_step c m seat f n step.Read h = read_op c f f.op n
-op_step c m seat f n (step.Look x) h = either_op c f.op _ _ _ Same Same
-op_step c m seat f n (step.Quar p v) h = freed_op c f _
+op_step c m seat f n (Step.Enter o) h = either_op c f.op (n == 0) _ _ (Checked h) Same
+op_step c m seat f n (Step.Take (Some o)) h = either_op c f.op (n == 0) _ _ (Checked h) Same
+op_step c m seat f n (Step.Take None) h = Same
+op_step c m seat f n Step.Leave h = Checked refl
+op_step c m seat f n Step.Give h = Checked refl
+op_step c m seat f n Step.Reg h = reg_op c f f.stage n
+op_step c m seat f n Step.Probe h = either_op c f.op _ _ _ Same Same
+op_step c m seat f n Step.Read h = read_op c f f.op n
+op_step c m seat f n (Step.Look x) h = either_op c f.op _ _ _ Same Same
+op_step c m seat f n (Step.Quar p v) h = freed_op c f _
 op_step c m seat f n _ h = Same
 
 abbrev pub HaveOperands : Config → List Flight → Type 0
@@ -103,8 +96,7 @@ pub record Operands (o : Op) : Type 0 where
 
 pub operands_of : (c : Config) (o : Op) → has_operands c o ≡ true → Operands o
 operands_of c o h =
-    let a = and_parts _ (has_type c o) h in
-    let g = and_parts _ _ a.0 in
+    let g = and_parts _ _ (and_parts _ (has_type c o) h).0 in
     let d = and_parts _ _ g.0 in
     let r = and_parts _ _ d.0 in
     let p = and_parts _ _ r.0 in
@@ -118,9 +110,9 @@ operands_of c o h =
 
 -- the register that a `reg` step meets is one of the eight
 pub register_small : (f : Flight) (s : Stage) → Operands f.op → register_met f s < 8
-register_small f stage.LoadQ h = h.q
-register_small f stage.LoadP h = h.p
-register_small f stage.LoadR h = h.r
+register_small f Stage.LoadQ h = h.q
+register_small f Stage.LoadP h = h.p
+register_small f Stage.LoadR h = h.r
 register_small f _ h = h.d
 
 pub record Known (c : Config) (m : Moment) : Type 0 where
@@ -130,11 +122,10 @@ pub record Known (c : Config) (m : Moment) : Type 0 where
 
 pub known_behind : (c : Config) (m : Moment) (e : Event) → Known c m → IsEnabled c m e → Known c (moment_behind c m e)
 known_behind c m e k on =
-    let h = enabled_meets c m e on in
     record {
       small = k.small;
-      orderly = orderly_behind c m e.seat e.step k.small k.orderly h;
-      operands = operands_behind c m e.seat e.step k.operands h;
+      orderly = orderly_behind c m e.seat e.step k.small k.orderly (enabled_meets c m e on);
+      operands = operands_behind c m e.seat e.step k.operands (enabled_meets c m e on);
     }
 
 pub known_from : (c : Config) (w : World) (es : List Event) → Known c w.now → AreEnabledFrom c w es

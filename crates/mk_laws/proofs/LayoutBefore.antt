@@ -1,13 +1,10 @@
 -- What is known of a world before an event, and what is to show after it.
 use Rattle.mk_laws.proofs.Vocabulary.{Among, AreOfPages, Bool, Claim, Config, Flight, Ground, IsWithinLimits}
-use Rattle.mk_laws.proofs.Vocabulary.{LayoutPremises, Seat, Step, World, arith, claims_on, false, flight_of, ground_of}
-use Rattle.mk_laws.proofs.Vocabulary.{is_phase, is_released_in, length, ltb-true, nat_lt, object_now, true, ℕ, ◌<◌, ◌≡◌}
-use Rattle.mk_core.specs.declared.events.Step.TheVariants as step
+use Rattle.mk_laws.proofs.Vocabulary.{LayoutPremises, Seat, Step, World, ℕ, arith, claims_on, false, flight_of}
+use Rattle.mk_laws.proofs.Vocabulary.{ground_of, is_phase, is_released_in, length, ltb-true, nat_lt, object_now, true}
+use Rattle.mk_laws.proofs.Vocabulary.{◌<◌, ◌≡◌}
 use Rattle.mk_laws.proofs.Ground.{KeepsGround, reg_ground}
-use Rattle.mk_laws.proofs.Known.{Known}
-use Rattle.mk_laws.proofs.OthersMoves.{WorldBehind}
-use Rattle.mk_laws.proofs.SameWords.{reg_keeps, Keeps}
-use Rattle.mk_laws.proofs.Serving.{Laid}
+use Rattle.mk_laws.proofs.{Known.Known, OthersMoves.WorldBehind, SameWords.Keeps, SameWords.reg_keeps, Serving.Laid}
 
 -- all that is known of the world before
 pub record Before (c : Config) (w : World) : Type 0 where
@@ -26,8 +23,8 @@ LaidNow c w t = Laid c (object_now c w.now) (is_phase w.now.words 4) w t
 
 -- whether released cells are there after a step
 abbrev pub is_releasing_behind : Step → Bool → Bool
-is_releasing_behind step.Release b = true
-is_releasing_behind step.End b = false
+is_releasing_behind Step.Release b = true
+is_releasing_behind Step.End b = false
 is_releasing_behind _ b = b
 
 abbrev pub LaidBehind : Config → World → Step → Ground → Type 0
@@ -37,13 +34,13 @@ pub page_within : (c : Config) (w : World) (p : ℕ) → Before c w → nat_lt p
 page_within c w p b h = let lt = ltb-true p c.pages h in let len = b.lengths.pages in omega arith
 
 -- A `reg` leaves the protocol's words, and the ground's.
-pub reg_leaves : (c : Config) (w : World) (seat : Seat) → Keeps w.now.words (WorldBehind c w seat step.Reg).now.words
+pub reg_leaves : (c : Config) (w : World) (seat : Seat) → Keeps w.now.words (WorldBehind c w seat Step.Reg).now.words
 reg_leaves c w seat =
     let f : Flight = flight_of w.now seat in
     reg_keeps w.now.words _ _ _
 
 pub reg_leaves_ground : (c : Config) (w : World) (seat : Seat)
-    → KeepsGround w.now.words (WorldBehind c w seat step.Reg).now.words
+    → KeepsGround w.now.words (WorldBehind c w seat Step.Reg).now.words
 reg_leaves_ground c w seat =
     let f : Flight = flight_of w.now seat in
     reg_ground w.now.words _ _ _

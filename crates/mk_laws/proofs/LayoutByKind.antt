@@ -3,7 +3,7 @@ use Rattle.mk_laws.proofs.Vocabulary.{Bool, Cell, Config, Flight, Granted, Groun
 use Rattle.mk_laws.proofs.Vocabulary.{ItDrops, ItEmpties, ItFrees, ItGivesBack, ItTakes, ItTakesSnapshot, ItUnmaps}
 use Rattle.mk_laws.proofs.Vocabulary.{LayoutScene, LayoutStands, List, None, Object, Op, Option, Place}
 use Rattle.mk_laws.proofs.Vocabulary.{PlacedAllocation, Placing, QuarantineStep, RunPages, Seat, Some, Step, Unplaced}
-use Rattle.mk_laws.proofs.Vocabulary.{Used, UsedStep, Words, World, [], and_parts, and_right, ap, arith, cell_freed}
+use Rattle.mk_laws.proofs.Vocabulary.{Used, UsedStep, Words, World, ℕ, and_parts, and_right, ap, arith, cell_freed}
 use Rattle.mk_laws.proofs.Vocabulary.{chosen, claims_of, decided, eqb-true, false, false_from_ne_true, flight_of}
 use Rattle.mk_laws.proofs.Vocabulary.{freed_cell, freed_where_it_stands, fresh_leaves, granted, granted_base_is}
 use Rattle.mk_laws.proofs.Vocabulary.{granted_object, granted_type, ground_of, has_place, head_step, header_at}
@@ -13,21 +13,16 @@ use Rattle.mk_laws.proofs.Vocabulary.{marks_place, may_end, ne_eqb, no_longer_fr
 use Rattle.mk_laws.proofs.Vocabulary.{object_made, object_now, object_placed, or_else, place_now, placed_now}
 use Rattle.mk_laws.proofs.Vocabulary.{quarantine_step, refl, run_of_cell, seat_exists, slice_set, sym, taken, true}
 use Rattle.mk_laws.proofs.Vocabulary.{true≢false, undecided_free, undecided_new, used_step, with_released}
-use Rattle.mk_laws.proofs.Vocabulary.{words_are_zero, ℕ, ◌%◌, ◌&&◌, ◌*◌, ◌++◌, ◌/◌, ◌<◌, ◌==◌, ◌^◌, ◌∙◌, ◌∷◌, ◌≡◌, ◌≢◌}
+use Rattle.mk_laws.proofs.Vocabulary.{words_are_zero, [], ◌%◌, ◌&&◌, ◌*◌, ◌++◌, ◌/◌, ◌<◌, ◌==◌, ◌^◌, ◌∙◌, ◌∷◌, ◌≡◌, ◌≢◌}
 use Rattle.mk_laws.proofs.Basics.{Before, Laid, LeavesCells, Meets, WorldBehind, first_header, free_has_turn}
 use Rattle.mk_laws.proofs.Basics.{gone_terrain, grants_new, holding_object, made_sized, new_has_turn, no_run}
 use Rattle.mk_laws.proofs.Basics.{none_on_its_way, page_within, placed_undecided, reg_leaves_ground, tally_ground}
 use Rattle.mk_laws.proofs.Basics.{with_header_on, with_used_on}
-use Rattle.mk_core.specs.declared.events.Step.TheVariants as step
-use Rattle.mk_laws.proofs.LayoutBefore.{LaidNow, LaidBehind}
-use Rattle.mk_laws.proofs.Dropped.{dropped, refreed, unreleasing, ended}
-use Rattle.mk_laws.proofs.Freed.{freed_terrain}
-use Rattle.mk_laws.proofs.Serving.{head_carves, head_empties, head_unmaps, used_gives_back, used_takes, mark_places}
-use Rattle.mk_laws.proofs.Ground.{with_quarantine, KeepsGround}
-use Rattle.mk_laws.proofs.Claims.{cells_behind}
-use Rattle.mk_laws.proofs.Granted.{granted_terrain}
-use Rattle.mk_laws.proofs.LayoutHolders.{giver_has_turn, seat_operands}
-use Rattle.mk_laws.proofs.Released.{released_terrain}
+use Rattle.mk_laws.proofs.Dropped.{dropped, ended, refreed, unreleasing}
+use Rattle.mk_laws.proofs.Serving.{head_carves, head_empties, head_unmaps, mark_places, used_gives_back, used_takes}
+use Rattle.mk_laws.proofs.{Claims.cells_behind, Freed.freed_terrain, Granted.granted_terrain, Ground.KeepsGround}
+use Rattle.mk_laws.proofs.{Ground.with_quarantine, LayoutBefore.LaidBehind, LayoutBefore.LaidNow}
+use Rattle.mk_laws.proofs.{LayoutHolders.giver_has_turn, LayoutHolders.seat_operands, Released.released_terrain}
 
 -- What the steps that store a page's words make of the terrain: `head`, `used`, `quar`.
 
@@ -60,11 +55,10 @@ head_by c w seat p n b there lt laid (ItUnmaps off x) = rw off (by (place_now c 
         absurd (no_run c w.now seat b.known turn (undecided_new (flight_of w.now seat) placed.new).stage x.run x.there)
     by None at =
         rw (none_chosen w.now.seats.holding.placing) (head_unmaps c (object_now c w.now) false w p n (rw off at laid) x)
-head_by c w seat p n b there lt laid (ItEmpties on x) =
-    rw on (head_empties c (object_now c w.now) w p n lt (rw on at laid) x)
+head_by c w seat p n b there lt laid (ItEmpties on x) = rw on (head_empties c _ w p n lt (rw on at laid) x)
 
-pub head_kind : (c : Config) (w : World) (seat : Seat) (p n : ℕ) → Before c w → Meets c w.now seat (step.Head p n)
-    → LayoutStands c w → LaidNow c w (ground_of (WorldBehind c w seat (step.Head p n)))
+pub head_kind : (c : Config) (w : World) (seat : Seat) (p n : ℕ) → Before c w → Meets c w.now seat (Step.Head p n)
+    → LayoutStands c w → LaidNow c w (ground_of (WorldBehind c w seat (Step.Head p n)))
 head_kind c w seat p n b h laid = head_by c w seat p n b h.seat (page_within c w p b h.range) laid
     (head_step c w.now _ p n h.holder)
 
@@ -88,8 +82,8 @@ used_by c w seat p n b there lt laid (ItTakes off once x) =
 used_by c w seat p n b there lt laid (ItGivesBack on x) =
     rw on (used_gives_back c (object_now c w.now) w p n lt (rw on at laid) x (b.unreleased on))
 
-pub used_kind : (c : Config) (w : World) (seat : Seat) (p n : ℕ) → Before c w → Meets c w.now seat (step.Used p n)
-    → LayoutStands c w → LaidNow c w (ground_of (WorldBehind c w seat (step.Used p n)))
+pub used_kind : (c : Config) (w : World) (seat : Seat) (p n : ℕ) → Before c w → Meets c w.now seat (Step.Used p n)
+    → LayoutStands c w → LaidNow c w (ground_of (WorldBehind c w seat (Step.Used p n)))
 used_kind c w seat p n b h laid = used_by c w seat p n b h.seat (page_within c w p b h.range) laid
     (used_step c w.now _ p n h.holder)
 
@@ -116,15 +110,13 @@ left_by c w f p n laid step = by step
 
     by : QuarantineStep c w.now f p n → LaidNow c w (with_halves w p n)
     by (ItFrees off x) = still off
-    by (ItTakesSnapshot x) =
-        let z = eqb-true _ 0 x.phase in
-        still (ne_eqb _ 4 (λ e. absurd (omega arith)))
+    by (ItTakesSnapshot x) = still (ne_eqb _ 4 (λ e. absurd (omega (arith, eqb-true _ 0 x.phase))))
     by (ItDrops on x) = rw on (refreed c _ true w.now.words.marks
         (record (ground_of w) { snapshot = slice_set w.now.words.snapshot p (n / 2 ^ 32) })
         _ (dropped c _ w p (n % 2 ^ 32) (n / 2 ^ 32) (rw on at laid) x))
 
-pub quar_kind : (c : Config) (w : World) (seat : Seat) (p n : ℕ) → Before c w → Meets c w.now seat (step.Quar p n)
-    → LayoutStands c w → LaidNow c w (ground_of (WorldBehind c w seat (step.Quar p n)))
+pub quar_kind : (c : Config) (w : World) (seat : Seat) (p n : ℕ) → Before c w → Meets c w.now seat (Step.Quar p n)
+    → LayoutStands c w → LaidNow c w (ground_of (WorldBehind c w seat (Step.Quar p n)))
 quar_kind c w seat p n b h laid = by (cell_freed c.pages w.now.words (flight_of w.now seat) p n) refl
   where
     by : (cell : Option Cell) → cell_freed c.pages w.now.words (flight_of w.now seat) p n ≡ cell
@@ -140,15 +132,14 @@ quar_kind c w seat p n b h laid = by (cell_freed c.pages w.now.words (flight_of 
           run = run_of_cell w.now.words (Some cell);
           allocations = map (freed_where_it_stands w.now.words (Some cell)) w.allocations;
         } in
-        let now : Laid c (object_now c w.now) false w t =
-        freed_terrain c (object_now c w.now) w cell b.limits b.lengths.pages none
+        let now = freed_terrain c (object_now c w.now) w cell b.limits b.lengths.pages none
         (b.others.target seat cell frees.at) was in
         rw frees.phase (rw (first_of_two (run_of_cell w.now.words (Some cell)) w.now.seats.holding.freed none) at
         (unreleasing c (object_now c w.now) w.now.words.marks w.now.words.marks t
         (slice_set w.now.words.freed p (n % 2 ^ 32)) (slice_set w.now.words.snapshot p (n / 2 ^ 32)) now))
 
 -- `grant`
-grant_kind : (c : Config) (w : World) (seat : Seat) → Before c w → Meets c w.now seat step.Grant → LayoutStands c w
+grant_kind : (c : Config) (w : World) (seat : Seat) → Before c w → Meets c w.now seat Step.Grant → LayoutStands c w
     → LaidNow c w (record (ground_of w) {
       placing = Granted;
       allocations = w.allocations ++ granted c w.now (flight_of w.now seat) ∷ [];
@@ -167,8 +158,7 @@ grant_kind c w seat b h laid = by w.now.seats.holding.placing refl h.holder
         let f : Flight = flight_of w.now seat in
         let a : PlacedAllocation = granted c w.now f in
         let made = granted_object c w.now f new in
-        let own : object_now c w.now ≡ object_placed c a =
-        holding_object c w.now seat b.known (new_has_turn c w.now seat h.seat new) ∙ sym made in
+        let own = holding_object c w.now seat b.known (new_has_turn c w.now seat h.seat new) ∙ sym made in
         let base = granted_base_is c f w.now.seats.holding.placing place is in
         rw own (granted_terrain c (is_phase w.now.words 4) w.now.words.marks (ground_of w) place a is (record {
           typed = granted_type c w.now f new (seat_operands c w.now seat b.known);
@@ -179,8 +169,8 @@ grant_kind c w seat b h laid = by w.now.seats.holding.placing refl h.holder
     by _ is k = cc
 
 -- `mark`
-mark_kind : (c : Config) (w : World) (seat : Seat) (p n : ℕ) → Before c w → Meets c w.now seat (step.Mark p n)
-    → LayoutStands c w → LaidNow c w (ground_of (WorldBehind c w seat (step.Mark p n)))
+mark_kind : (c : Config) (w : World) (seat : Seat) (p n : ℕ) → Before c w → Meets c w.now seat (Step.Mark p n)
+    → LayoutStands c w → LaidNow c w (ground_of (WorldBehind c w seat (Step.Mark p n)))
 mark_kind c w seat p n b h laid =
     by (marks_place w.now.words (object_made c (flight_of w.now seat).op) (place_now c w.now (flight_of w.now seat)) p
     n) refl
@@ -197,7 +187,7 @@ mark_kind c w seat p n b h laid =
         let placed = placed_now c w.now (flight_of w.now seat) x.place x.there in
         let own = holding_object c w.now seat b.known (new_has_turn c w.now seat h.seat placed.new) in
         let sized = made_sized c w.now seat b.limits b.known placed.new in
-        let free = ap (λ q. header_at w.now.words q) (sym x.marked.at) ∙ x.marked.free in
+        let free = ap (header_at w.now.words) (sym x.marked.at) ∙ x.marked.free in
         rw x.there (rw own (mark_places c (object_made c (flight_of w.now seat).op) (is_phase w.now.words 4) w x.place
         (rw own at laid) sized placed.placed free (first_header (object_made c (flight_of w.now seat).op) sized)))
 
@@ -214,8 +204,7 @@ begin_kind : (c : Config) (w : World) → LayoutStands c w
     → LaidNow c w (record (ground_of w) { allocations = map no_longer_fresh w.allocations })
 begin_kind c w laid =
     let same = sym (fresh_claims c w.now.seats.holding.freed w.allocations) in
-    let s : LayoutScene =
-    layout_scene_of c (object_now c w.now) (is_phase w.now.words 4) w.now.words.marks (ground_of w) in
+    let s = layout_scene_of c (object_now c w.now) (is_phase w.now.words 4) w.now.words.marks (ground_of w) in
     record {
       scene = rw same at laid.scene;
       gone = rw same at laid.gone;
@@ -248,7 +237,7 @@ placeless c o other releasing marks t placing is none st = by placing is none (r
 undecided_waits : (f : Flight) → is_undecided_new f ≡ true → is_decided f.stage ≡ true → ⊥
 undecided_waits f new decided = true≢false (sym decided ∙ rw (undecided_new f new).stage)
 
-give_kind : (c : Config) (w : World) (seat : Seat) → Before c w → Meets c w.now seat step.Give → LayoutStands c w
+give_kind : (c : Config) (w : World) (seat : Seat) → Before c w → Meets c w.now seat Step.Give → LayoutStands c w
     → LaidNow c w (record (ground_of w) { placing = Unplaced; run = None })
 give_kind c w seat b h laid =
     (placeless c (object_now c w.now) (object_now c w.now) (is_phase w.now.words 4) w.now.words.marks
@@ -273,14 +262,13 @@ give_kind c w seat b h laid =
     unmapped : (x : Option RunPages) {run : RunPages} → x ≡ Some run → is_run_gone w.now.words x ≡ true
         → is_run_unmapped w.now.words run ≡ true
     unmapped x {run} is k =
-        let there : is_run_gone w.now.words (Some run) ≡ true =
-        ap (λ (y : Option RunPages). is_run_gone w.now.words y) (sym is) ∙ k in
+        let there : is_run_gone w.now.words (Some run) ≡ true = ap (is_run_gone w.now.words) (sym is) ∙ k in
         (and_parts (is_run_unmapped w.now.words run) (words_are_zero w.now.words (64 * run.page) (64 * run.count))
         there).0
 
 -- `take`: where the turn is free, nothing is on its way
 take_kind : (c : Config) (w : World) (seat : Seat) (x : Option Op) → Before c w → LayoutStands c w
-    → LaidNow c w (ground_of (WorldBehind c w seat (step.Take x)))
+    → LaidNow c w (ground_of (WorldBehind c w seat (Step.Take x)))
 take_kind c w seat x b laid = by (w.now.words.turn == 0) refl
   where
     by : (t : Bool) → (w.now.words.turn == 0) ≡ t → LaidNow c w (record (ground_of w) {
@@ -313,16 +301,16 @@ end_kind c w b four own laid = ended c _ w b.lengths.pages (rw four at laid) own
 -- each kind of event, whatever the seat
 pub by_kind : (c : Config) (w : World) (seat : Seat) (x : Step) → Before c w → Meets c w.now seat x → LayoutStands c w
     → LaidBehind c w x (ground_of (WorldBehind c w seat x))
-by_kind c w seat (step.Take o) b h laid = take_kind c w seat o b laid
-by_kind c w seat step.Give b h laid = give_kind c w seat b h laid
-by_kind c w seat step.Reg b h laid = kept_ground c w _ (reg_leaves_ground c w seat) laid
-by_kind c w seat (step.Tally n v) b h laid = kept_ground c w _ (tally_ground w.now.words n v) laid
-by_kind c w seat (step.Head p n) b h laid = head_kind c w seat p n b h laid
-by_kind c w seat (step.Used p n) b h laid = used_kind c w seat p n b h laid
-by_kind c w seat (step.Quar p n) b h laid = quar_kind c w seat p n b h laid
-by_kind c w seat step.Grant b h laid = grant_kind c w seat b h laid
-by_kind c w seat (step.Mark p n) b h laid = mark_kind c w seat p n b h laid
-by_kind c w seat step.Begin b h laid = begin_kind c w laid
-by_kind c w seat step.Release b h laid = release_kind c w b h.phase laid
-by_kind c w seat step.End b h laid = end_kind c w b h.phase h.holder laid
+by_kind c w seat (Step.Take o) b h laid = take_kind c w seat o b laid
+by_kind c w seat Step.Give b h laid = give_kind c w seat b h laid
+by_kind c w seat Step.Reg b h laid = kept_ground c w _ (reg_leaves_ground c w seat) laid
+by_kind c w seat (Step.Tally n v) b h laid = kept_ground c w _ (tally_ground w.now.words n v) laid
+by_kind c w seat (Step.Head p n) b h laid = head_kind c w seat p n b h laid
+by_kind c w seat (Step.Used p n) b h laid = used_kind c w seat p n b h laid
+by_kind c w seat (Step.Quar p n) b h laid = quar_kind c w seat p n b h laid
+by_kind c w seat Step.Grant b h laid = grant_kind c w seat b h laid
+by_kind c w seat (Step.Mark p n) b h laid = mark_kind c w seat p n b h laid
+by_kind c w seat Step.Begin b h laid = begin_kind c w laid
+by_kind c w seat Step.Release b h laid = release_kind c w b h.phase laid
+by_kind c w seat Step.End b h laid = end_kind c w b h.phase h.holder laid
 by_kind c w seat _ b h laid = laid

@@ -1,12 +1,12 @@
 -- All is in order after every list of enabled events.
 use Rattle.std.specs.Prelude.{IsSome, replicate}
 use Rattle.mk_laws.proofs.Vocabulary.{AreEnabledFrom, AreOfPages, Bool, Cell, Config, Empties, Event, Flight}
-use Rattle.mk_laws.proofs.Vocabulary.{HasQuarantine, HeadStep, Header, IsClaimedRun, IsEnabled, IsHeaderWord}
+use Rattle.mk_laws.proofs.Vocabulary.{HasQuarantine, Header, HeadStep, IsClaimedRun, IsEnabled, IsHeaderWord}
 use Rattle.mk_laws.proofs.Vocabulary.{IsQuarantined, IsWithinLimits, ItCarves, ItDrops, ItEmpties, ItFrees}
 use Rattle.mk_laws.proofs.Vocabulary.{ItTakesSnapshot, ItUnmaps, Later, LayoutPremises, LayoutPremisesFrom}
 use Rattle.mk_laws.proofs.Vocabulary.{LayoutStands, List, NoPlot, Object, OfBlock, Option, Page, PlacedAllocation}
 use Rattle.mk_laws.proofs.Vocabulary.{QuarantineStep, RunPages, RunStands, Seat, ShowsPart, Some, StandsInOrder, Step}
-use Rattle.mk_laws.proofs.Vocabulary.{World, [], access, accessed_lengths, and_parts, ap, arith, cases_Bool, cases_eq}
+use Rattle.mk_laws.proofs.Vocabulary.{World, ℕ, access, accessed_lengths, and_parts, ap, arith, cases_Bool, cases_eq}
 use Rattle.mk_laws.proofs.Vocabulary.{cell_of_allocation, cells_made, cells_under, claim_of, claims_of, enabled_meets}
 use Rattle.mk_laws.proofs.Vocabulary.{false, first_world, flight_of, free_page, ground_of, has_bit, has_bit_without}
 use Rattle.mk_laws.proofs.Vocabulary.{head_page_under, head_step, header_in, header_made, header_of, header_on}
@@ -14,28 +14,20 @@ use Rattle.mk_laws.proofs.Vocabulary.{heads_run, histories_keep_lengths, inl, in
 use Rattle.mk_laws.proofs.Vocabulary.{left_from, length, ltb-true, made_shows, object_made, object_now, object_placed}
 use Rattle.mk_laws.proofs.Vocabulary.{pages_made, placed_at, placed_now, quarantine_step, refl, seat_exists, shows_on}
 use Rattle.mk_laws.proofs.Vocabulary.{slice_index, slice_index_or, slice_set, subst, sym, true, true≢false}
-use Rattle.mk_laws.proofs.Vocabulary.{unmapped_header, word_accessed, world_behind, zero_lengths, ℕ, ◌%◌, ◌-◌, ◌/◌, ◌<◌}
-use Rattle.mk_laws.proofs.Vocabulary.{◌^◌, ◌∙◌, ◌∷◌, ◌≡◌}
+use Rattle.mk_laws.proofs.Vocabulary.{unmapped_header, word_accessed, world_behind, zero_lengths, [], ◌%◌, ◌-◌, ◌/◌}
+use Rattle.mk_laws.proofs.Vocabulary.{◌<◌, ◌^◌, ◌∙◌, ◌∷◌, ◌≡◌}
+use Rattle.mk_core.proofs.{EvaluatedHistories.enabled, ObjectHeaders.unmapped_shows}
 use Rattle.mk_laws.proofs.Basics.{Before, Known, Meets, WorldBehind, at_first, bit_cases, headed_other}
 use Rattle.mk_laws.proofs.Basics.{is_releasing_behind, known_at_first, known_behind, known_left, made_sized, none_set}
 use Rattle.mk_laws.proofs.Basics.{own_claim, page_within, reg_leaves_ground, tally_ground, used_header, with_header_on}
-use Rattle.mk_core.specs.declared.events.Step.TheVariants as step
-use Rattle.mk_laws.specs.Quarantine.{FreedCellsAreKnown}
-use Rattle.mk_laws.proofs.Behind.{phase_kind, layout_behind, releasing_marks}
-use Rattle.mk_laws.proofs.LayoutByKind.{off_at}
-use Rattle.mk_laws.proofs.QuarantineByKind.{shown_at, quarantine_by_kind}
-use Rattle.mk_laws.proofs.Unmapping.{cells_at_claim}
-use Rattle.mk_core.proofs.ObjectHeaders.{unmapped_shows}
-use Rattle.mk_laws.specs.Room.{HasHeaderWords, is_taken_page}
-use Rattle.mk_laws.proofs.Releasing.{headed_here}
-use Rattle.mk_core.proofs.EvaluatedHistories.{enabled}
-use Rattle.mk_laws.specs.LayoutLaws.{EventsKeepTheLayout, LayoutHasFewResidentPages, HistoriesAreLaidOut}
+use Rattle.mk_laws.proofs.Behind.{layout_behind, phase_kind, releasing_marks}
+use Rattle.mk_laws.proofs.{LayoutByKind.off_at, QuarantineByKind.quarantine_by_kind, QuarantineByKind.shown_at}
+use Rattle.mk_laws.proofs.{QuarantineSteps.none_released, QuarantineSteps.unmarked, Releasing.headed_here}
+use Rattle.mk_laws.proofs.{ResidentPages.count_none, ResidentPages.resident_few, Rooms.room_behind}
+use Rattle.mk_laws.proofs.{SnapshotKinds.snapshot_behind, Unmapping.cells_at_claim, WholeRuns.whole_behind}
+use Rattle.mk_laws.specs.LayoutLaws.{EventsKeepTheLayout, HistoriesAreLaidOut, LayoutHasFewResidentPages}
 use Rattle.mk_laws.specs.LayoutLaws.{LayoutHasHeaderWords}
-use Rattle.mk_laws.proofs.ResidentPages.{count_none, resident_few}
-use Rattle.mk_laws.proofs.QuarantineSteps.{none_released, unmarked}
-use Rattle.mk_laws.proofs.Rooms.{room_behind}
-use Rattle.mk_laws.proofs.SnapshotKinds.{snapshot_behind}
-use Rattle.mk_laws.proofs.WholeRuns.{whole_behind}
+use Rattle.mk_laws.specs.{Quarantine.FreedCellsAreKnown, Room.HasHeaderWords, Room.is_taken_page}
 
 -- Each freed bit is that of a cell of its page, after each event.
 
@@ -68,12 +60,12 @@ emptied w p n lt x known q k h = elim (cases_eq q p) [
   where
     none : (y : Option Header) → header_in w.now.words p ≡ y → has_bit (slice_index w.now.words.freed p) k ≡ true
         → slice_index w.now.words.freed (head_page_under (header_in w.now.words p) p) ≡ 0 → ⊥
-    none (Some (Later d m)) is bit z = let lt = known p k bit in let cells = ap (λ y. cells_under y) is in omega arith
+    none (Some (Later d m)) is bit z = let lt = known p k bit in let cells = ap cells_under is in omega arith
     none y is bit z = by y is bit (ap (λ x. slice_index w.now.words.freed (head_page_under x p)) (sym is) ∙ z)
       where
         by : (y : Option Header) → header_in w.now.words p ≡ y → has_bit (slice_index w.now.words.freed p) k ≡ true
             → slice_index w.now.words.freed (head_page_under y p) ≡ 0 → ⊥
-        by (Some (Later d m)) is bit z = let lt = known p k bit in let cells = ap (λ y. cells_under y) is in omega arith
+        by (Some (Later d m)) is bit z = let lt = known p k bit in let cells = ap cells_under is in omega arith
         by _ is bit z = none_set (slice_index w.now.words.freed p) k z bit
 
 abbrev KnownOn : List Page → List ℕ → Type 0
@@ -95,9 +87,8 @@ quar_kind c w f p n lf four (ItTakesSnapshot x) known =
 quar_kind c w f p n lf four (ItDrops on x) known = λ q k h. elim (bit_cases w.now.words.freed p (n % 2 ^ 32) q k lf) [
   | inr other ↦ known q k (sym other.1 ∙ h)
   | inl here ↦
-      let rest : ℕ = slice_index w.now.words.snapshot p - n / 2 ^ 32 in
       let bit = ap (λ v. has_bit v k) (sym x.is) ∙ sym here.1 ∙ h in
-      let was = (and_parts _ _ (sym (has_bit_without _ rest k) ∙ bit)).0 in
+      let was = (and_parts _ _ (sym (has_bit_without _ (slice_index w.now.words.snapshot p - n / 2 ^ 32) k) ∙ bit)).0 in
       known q k (rw here.0 was)
 ]
 
@@ -105,17 +96,16 @@ quar_kind c w f p n lf four (ItDrops on x) known = λ q k h. elim (bit_cases w.n
 known_by_kind : (c : Config) (w : World) (seat : Seat) (x : Step) → Before c w → Meets c w.now seat x
     → is_releasing_behind x (is_phase w.now.words 4) ≡ true → FreedCellsAreKnown w
     → KnownOn (WorldBehind c w seat x).now.words.pages (WorldBehind c w seat x).now.words.freed
-known_by_kind c w seat (step.Head p n) b h on known =
+known_by_kind c w seat (Step.Head p n) b h on known =
     head_kind c w (flight_of w.now seat) p n (page_within c w p b h.range) on (head_step c w.now _ p n h.holder) known
-known_by_kind c w seat (step.Used p n) b h on known =
+known_by_kind c w seat (Step.Used p n) b h on known =
     λ q k bit. rw (used_header w.now.words.pages p n q (page_within c w p b h.range)) (known q k bit)
-known_by_kind c w seat (step.Quar p n) b h on known = quar_kind c w (flight_of w.now seat) p n
+known_by_kind c w seat (Step.Quar p n) b h on known = quar_kind c w (flight_of w.now seat) p n
     (let lt = ltb-true p c.pages h.range in let len = b.lengths.freed in omega arith) on
     (quarantine_step c w.now _ p n h.holder) known
-known_by_kind c w seat step.Reg b h on known =
-    let g = reg_leaves_ground c w seat in
-    rw g.pages (rw g.freed known)
-known_by_kind c w seat (step.Tally n v) b h on known =
+known_by_kind c w seat Step.Reg b h on known =
+    rw (reg_leaves_ground c w seat).pages (rw (reg_leaves_ground c w seat).freed known)
+known_by_kind c w seat (Step.Tally n v) b h on known =
     let g = tally_ground w.now.words n v in
     rw g.pages (rw g.freed known)
 known_by_kind c w seat _ b h on known = known
@@ -144,7 +134,7 @@ stored_word c w seat p n b there laid (ItCarves off x) =
     (made_shows o (p - x.place.page) (made_sized c w.now seat b.limits b.known placed.new) x.next.near))
 stored_word c w seat p n b there laid (ItUnmaps off x) =
     let r : IsClaimedRun (claims_of c w.now.seats.holding.freed w.allocations) x.run =
-    subst (λ (y : Option RunPages). RunStands (claims_of c w.now.seats.holding.freed w.allocations) y) x.there laid.gone
+    subst (RunStands (claims_of c w.now.seats.holding.freed w.allocations)) x.there laid.gone
     in
     let o : Object = r.claim.object in
     let sized = (laid.scene.shown r.claim (own_claim c (object_now c w.now) (ground_of w) r.claim r.among)).sized in
@@ -159,17 +149,15 @@ HaveWords pages = (p : ℕ) → IsHeaderWord (header_on pages p)
 
 pub words_behind : (c : Config) (w : World) (seat : Seat) (x : Step) → Before c w → Meets c w.now seat x
     → LayoutStands c w → HasHeaderWords w → HasHeaderWords (WorldBehind c w seat x)
-words_behind c w seat (step.Head p n) b h laid words = λ q. elim (cases_eq q p) [
+words_behind c w seat (Step.Head p n) b h laid words = λ q. elim (cases_eq q p) [
   | inl e ↦ rw e (rw (headed_here w.now.words.pages p n (page_within c w p b h.range))
       (stored_word c w seat p n b h.seat laid (head_step c w.now _ p n h.holder)))
   | inr ne ↦ rw (headed_other w.now.words.pages p n q ne) (words q)
 ]
-words_behind c w seat (step.Used p n) b h laid words =
+words_behind c w seat (Step.Used p n) b h laid words =
     λ q. rw (used_header w.now.words.pages p n q (page_within c w p b h.range)) (words q)
-words_behind c w seat step.Reg b h laid words =
-    subst (λ (ps : List Page). HaveWords ps) (sym (reg_leaves_ground c w seat).pages) words
-words_behind c w seat (step.Tally n v) b h laid words =
-    subst (λ (ps : List Page). HaveWords ps) (sym (tally_ground w.now.words n v).pages) words
+words_behind c w seat Step.Reg b h laid words = subst HaveWords (sym (reg_leaves_ground c w seat).pages) words
+words_behind c w seat (Step.Tally n v) b h laid words = subst HaveWords (sym (tally_ground w.now.words n v).pages) words
 words_behind c w seat _ b h laid words = words
 
 laid_at_first : (c : Config) → LayoutStands c (first_world c)
@@ -182,9 +170,8 @@ laid_at_first c =
             (rw (free p)) h);
         plot = tt;
         occupied = λ p some empty. absurd (some (ap (λ (x : Page). x.header) (free p)));
-        later = λ p d m is. let e : header_of 0 ≡ Some (Later d m) =
-            sym (ap (λ (x : Page). header_of x.header) (free p))
-            ∙ is in let y : true ≡ false = cc in absurd (true≢false y);
+        later = λ p d m is. let e = sym (ap (λ (x : Page). header_of x.header) (free p)) ∙ is in let y : true ≡ false =
+            cc in absurd (true≢false y);
       };
       gone = tt;
       first = tt;
@@ -221,7 +208,7 @@ in_order_at_first c =
       words = λ p. subst (λ (x : Page). IsHeaderWord x.header) (sym (at_first c.pages p free_page)) refl;
       runs = λ p h. absurd
           (true≢false (sym h ∙ ap (λ (x : Page). heads_run (header_of x.header)) (at_first c.pages p free_page)));
-      room = let none = count_none c.pages _ (λ p. free p) in omega arith;
+      room = let none = count_none c.pages _ free in omega arith;
     }
   where
     free : (p : ℕ) → is_taken_page (replicate c.pages free_page) NoPlot p ≡ false
@@ -242,8 +229,7 @@ quarantine_behind : (c : Config) (w : World) (seat : Seat) (x : Step) → Before
     → LayoutStands c w → IsQuarantined c w → IsQuarantined c (WorldBehind c w seat x)
 quarantine_behind c w seat x b h laid q =
     let v : World = WorldBehind c w seat x in
-    let kind = quarantine_by_kind c w seat x b h laid q in
-    rw (phase_kind c w seat x h) (marks _ refl kind)
+    rw (phase_kind c w seat x h) (marks _ refl (quarantine_by_kind c w seat x b h laid q))
   where
     marks : (r : Bool) → is_releasing_behind x (is_phase w.now.words 4) ≡ r
         → HasQuarantine c r w.now.words.marks (ground_of (WorldBehind c w seat x))

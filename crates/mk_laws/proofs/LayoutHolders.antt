@@ -1,27 +1,19 @@
 -- Who serves: the holder of the turn, its object, and how far it is.
-use Rattle.mk_laws.proofs.Vocabulary.{Caller, Config, IsSized, IsWithinLimits, Moment, None, Object, Op, Option}
+use Rattle.mk_laws.proofs.Vocabulary.{Caller, Config, Group, IsSized, IsWithinLimits, Moment, None, Object, Op, Option}
 use Rattle.mk_laws.proofs.Vocabulary.{RunPages, Seat, Some, Stage, Step, arith, false, flight_of, group_of}
 use Rattle.mk_laws.proofs.Vocabulary.{has_operands, has_place, header_made, is_decided_free_at, is_free_at}
 use Rattle.mk_laws.proofs.Vocabulary.{is_undecided_free, is_undecided_new, ltb-true, made_shows, object_made}
 use Rattle.mk_laws.proofs.Vocabulary.{object_now, pages_some, part_not_free, refl, seat_exists, sym, true, ◌-◌, ◌∙◌}
 use Rattle.mk_laws.proofs.Vocabulary.{◌≡◌, ◌≢◌}
-use Rattle.mk_never.specs.declared.operations.Op.TheVariants as op
-use Rattle.mk_core.specs.declared.events.Group.TheVariants as group
-use Rattle.mk_core.specs.declared.events.Step.TheVariants as step
-use Rattle.mk_core.specs.declared.seats.Stage.TheVariants as stage
 use Rattle.mk_core.proofs.GrantedAllocations.{new_sized}
 use Rattle.mk_laws.proofs.Actors.{Actor, AsHolder, AsMarker, CallTakes, HostTakes, InCallOf, Meets}
-use Rattle.mk_laws.proofs.Known.{Known}
-use Rattle.mk_laws.proofs.NextSteps.{is_take}
-use Rattle.mk_laws.proofs.Orderly.{holders_flight}
-use Rattle.mk_laws.proofs.OrderlyLists.{actor_of}
-use Rattle.mk_laws.proofs.Stages.{new_stands}
-use Rattle.mk_laws.proofs.Standings.{UnderTurn, standing_at}
 use Rattle.mk_laws.proofs.Views.{HoldsTurn, flight_is, view_of}
+use Rattle.mk_laws.proofs.{Known.Known, NextSteps.is_take, Orderly.holders_flight, OrderlyLists.actor_of}
+use Rattle.mk_laws.proofs.{Stages.new_stands, Standings.UnderTurn, Standings.standing_at}
 
 -- A seat with an undecided New or Free holds the turn.
 free_stands : (s : Stage) (o : Op) → is_free_at s o ≡ true → standing_at s o ≡ UnderTurn
-free_stands stage.Turn (op.Free p) h = refl
+free_stands Stage.Turn (Op.Free p) h = refl
 free_stands _ _ h = cc
 
 pub new_has_turn : (c : Config) (m : Moment) (seat : Seat) → seat_exists c seat ≡ true
@@ -36,16 +28,16 @@ free_has_turn c m _ there u = cc
 
 -- So does a seat whose step is of the turn's kinds, but for `take`.
 holder_of : (c : Config) (m : Moment) (seat : Seat) (x : Step) → Actor c m seat x → is_take x ≡ false
-    → group_of x ≡ group.Turn → HoldsTurn c (view_of m) seat
+    → group_of x ≡ Group.Turn → HoldsTurn c (view_of m) seat
 holder_of c m seat x (InCallOf k y lt g) t is = cc
 holder_of c m seat x (AsMarker k y lt g) t is = cc
 holder_of c m seat x (CallTakes k o lt idle under) t is = cc
 holder_of c m seat x (HostTakes away) t is = cc
 holder_of c m seat x (AsHolder s y holds n) t is = holds
 
-pub giver_has_turn : (c : Config) (m : Moment) (seat : Seat) → Known c m → Meets c m seat step.Give
+pub giver_has_turn : (c : Config) (m : Moment) (seat : Seat) → Known c m → Meets c m seat Step.Give
     → HoldsTurn c (view_of m) seat
-giver_has_turn c m seat known h = holder_of c m seat step.Give (actor_of c m seat step.Give known.orderly h) refl refl
+giver_has_turn c m seat known h = holder_of c m seat Step.Give (actor_of c m seat Step.Give known.orderly h) refl refl
 
 -- The call that the turn word names is the seat's.
 pub holding_flight : (c : Config) (m : Moment) (seat : Seat) → Known c m → HoldsTurn c (view_of m) seat
@@ -57,18 +49,18 @@ pub holding_object : (c : Config) (m : Moment) (seat : Seat) → Known c m → H
 holding_object c m seat known t = rw (holding_flight c m seat known t)
 
 -- While it has a run on its way, it has decided a Free, and while it has a place, it hasn't decided its New.
-decided_later : (o : Op) (s : Stage) → s ≡ stage.Turn → is_decided_free_at s o ≡ true → ⊥
-decided_later o stage.Turn at h = cc
+decided_later : (o : Op) (s : Stage) → s ≡ Stage.Turn → is_decided_free_at s o ≡ true → ⊥
+decided_later o Stage.Turn at h = cc
 decided_later o _ at h = cc
 
 pub no_run : (c : Config) (m : Moment) (seat : Seat) → Known c m → HoldsTurn c (view_of m) seat
-    → (flight_of m seat).stage ≡ stage.Turn → (run : RunPages) → m.seats.holding.freed ≡ Some run → ⊥
+    → (flight_of m seat).stage ≡ Stage.Turn → (run : RunPages) → m.seats.holding.freed ≡ Some run → ⊥
 no_run c m seat known t at run is =
     let decided = known.orderly.served.freed (rw is) in
     decided_later (flight_of m seat).op (flight_of m seat).stage at (rw (← (holding_flight c m seat known t)) decided)
 
 pub none_on_its_way : (c : Config) (m : Moment) (seat : Seat) → Known c m → HoldsTurn c (view_of m) seat
-    → (flight_of m seat).stage ≡ stage.Turn → m.seats.holding.freed ≡ None
+    → (flight_of m seat).stage ≡ Stage.Turn → m.seats.holding.freed ≡ None
 none_on_its_way c m seat known t at = by m.seats.holding.freed (no_run c m seat known t at)
   where
     by : (x : Option RunPages) → ((run : RunPages) → x ≡ Some run → ⊥) → x ≡ None

@@ -1,9 +1,9 @@
 -- What a laid out scene says of one page.
 use Rattle.mk_laws.proofs.Vocabulary.{Among, AreApart, Claim, HasHeader, IsHeaderOf, IsLaidOn, IsOfOneCell, IsShown}
-use Rattle.mk_laws.proofs.Vocabulary.{LayoutScene, List, Mapped, Mode, Object, Page, ShowsPart, Unmapping, [], arith}
+use Rattle.mk_laws.proofs.Vocabulary.{LayoutScene, List, Mapped, Mode, Object, Page, ShowsPart, Unmapping, ℕ, arith}
 use Rattle.mk_laws.proofs.Vocabulary.{cells_under, false_from_ne_true, has_bit, head_on, header_on, header_shows, inl}
 use Rattle.mk_laws.proofs.Vocabulary.{inr, no_bit, pages_made, part_head, part_not_free, shows_on, sym, true}
-use Rattle.mk_laws.proofs.Vocabulary.{true≢false, used_on, ℕ, ◌+◌, ◌<◌, ◌∙◌, ◌∷◌, ◌≡◌, ◌≢◌}
+use Rattle.mk_laws.proofs.Vocabulary.{true≢false, used_on, [], ◌+◌, ◌<◌, ◌∙◌, ◌∷◌, ◌≡◌, ◌≢◌}
 use Rattle.mk_core.proofs.WordBits.{zero_from_bits}
 use Rattle.mk_laws.specs.LayoutScene.{Unmapped}
 
@@ -44,8 +44,7 @@ claimed_some pages x distance shown lt = part_not_free x.object distance _ (clai
 -- a page without cells has no used bit
 pub cellless_unused : (s : LayoutScene) (p : ℕ) → IsLaidOn s → cells_under (shows_on s.pages p) ≡ 0
     → used_on s.pages p ≡ 0
-cellless_unused s p laid none =
-    zero_where_none _ (λ k h. let t = laid.used p k h in let lt = t.0 in absurd (omega arith))
+cellless_unused s p laid none = zero_where_none _ (λ k h. let t = laid.used p k h in absurd (omega (arith, t.0)))
 
 pub free_unused : (s : LayoutScene) (p : ℕ) → IsLaidOn s → header_on s.pages p ≡ 0 → used_on s.pages p ≡ 0
 free_unused s p laid z = cellless_unused s p laid (rw z)

@@ -47,6 +47,7 @@ pub mod GuardStopped
 pub mod Wells
 pub mod ImagesMoves
 pub mod Pairs
+pub mod HeapEdits
 pub mod ImagesKept
 pub mod Ready
 pub mod Refusals

@@ -1,12 +1,10 @@
 -- Cycles and turns in lists that go on.
 use Rattle.mk_laws.proofs.Vocabulary.{At, Bool, Config, Cycle, Event, List, Marking, Releasing, Seat, Step, TurnOf}
-use Rattle.mk_laws.proofs.Vocabulary.{World, [], ap, append_assoc, false, first_world, left, left_append, left_from}
-use Rattle.mk_laws.proofs.Vocabulary.{list_any, list_any-append, refl, sym, true, world_behind, ◌&&◌, ◌++◌, ◌||◌, ◌∙◌}
-use Rattle.mk_laws.proofs.Vocabulary.{◌∷◌, ◌≡◌}
-use Rattle.mk_core.specs.Cycles.{Next, is_give}
-use Rattle.mk_core.specs.declared.events.Step.TheVariants as step
-use Rattle.mk_core.specs.Growing.{is_same_seat}
+use Rattle.mk_laws.proofs.Vocabulary.{World, ap, append_assoc, false, first_world, left, left_append, left_from}
+use Rattle.mk_laws.proofs.Vocabulary.{list_any, list_any-append, refl, sym, true, world_behind, [], ◌&&◌, ◌++◌, ◌||◌}
+use Rattle.mk_laws.proofs.Vocabulary.{◌∙◌, ◌∷◌, ◌≡◌}
 use Rattle.mk_core.specs.Placement.{FirstServed, NoneServesFrom, event_serves}
+use Rattle.mk_core.specs.{Cycles.Next, Cycles.is_give, Growing.is_same_seat}
 
 -- Cycles in lists that go on.
 
@@ -58,7 +56,7 @@ gives_turn s e = is_same_seat s e.seat && is_give e.step
 -- A turn goes on by an event that doesn't give it back, and what served it first stays so.
 
 abbrev pub taken : {c : Config} {s : Seat} {es : List Event} → TurnOf c s es → Event
-taken {s = s} t = record { seat = s; step = step.Take t.op }
+taken {s = s} t = record { seat = s; step = Step.Take t.op }
 
 abbrev pub longer_turn : {c : Config} {s : Seat} {es : List Event} (t : TurnOf c s es) (e : Event)
     → gives_turn s e ≡ false → TurnOf c s (es ++ e ∷ [])

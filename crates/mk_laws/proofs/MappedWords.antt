@@ -1,14 +1,12 @@
 -- Words of mapped allocations, after a change of the allocations.
 use Rattle.mk_laws.proofs.Vocabulary.{Bool, Config, HasItsHeaders, IsWithinLimits, IsWordOf, IsWordOfMapped}
-use Rattle.mk_laws.proofs.Vocabulary.{LeavesPlaces, List, PlacedAllocation, StandsOnHeap, Words, [], and_from}
-use Rattle.mk_laws.proofs.Vocabulary.{and_parts, ap, arith, cases_lt, cell_of_allocation, changed_at, false}
-use Rattle.mk_laws.proofs.Vocabulary.{fresh_leaves, get_or_past, inl, inr, is_large, is_left_unmarked, is_mapped}
-use Rattle.mk_laws.proofs.Vocabulary.{kinds_of, length, map, never_granted, no_longer_fresh, not, not-true, placed_at}
-use Rattle.mk_laws.proofs.Vocabulary.{released_leaves, released_where_left, storage_of, storage_words, subst, sym, true}
-use Rattle.mk_laws.proofs.Vocabulary.{true≢false, with_released, words_made, ℕ, ◌&&◌, ◌++◌, ◌+◌, ◌<◌, ◌∙◌, ◌∷◌, ◌≡◌}
-use Rattle.mk_laws.proofs.Vocabulary.{◌≤◌}
-use Rattle.mk_core.specs.NewPlaces.{object_of}
-use Rattle.mk_core.proofs.ChangedAllocations.{earlier_at}
+use Rattle.mk_laws.proofs.Vocabulary.{LeavesPlaces, List, PlacedAllocation, StandsOnHeap, Words, ℕ, and_from, and_parts}
+use Rattle.mk_laws.proofs.Vocabulary.{ap, arith, cases_lt, cell_of_allocation, changed_at, false, fresh_leaves}
+use Rattle.mk_laws.proofs.Vocabulary.{get_or_past, inl, inr, is_large, is_left_unmarked, is_mapped, kinds_of, length}
+use Rattle.mk_laws.proofs.Vocabulary.{map, never_granted, no_longer_fresh, not, not-true, placed_at, released_leaves}
+use Rattle.mk_laws.proofs.Vocabulary.{released_where_left, storage_of, storage_words, subst, sym, true, true≢false}
+use Rattle.mk_laws.proofs.Vocabulary.{with_released, words_made, [], ◌&&◌, ◌++◌, ◌+◌, ◌<◌, ◌∙◌, ◌∷◌, ◌≡◌, ◌≤◌}
+use Rattle.mk_core.{proofs.ChangedAllocations.earlier_at, specs.NewPlaces.object_of}
 
 -- A mapped allocation isn't released, so it is there.
 pub mapped_stays : (c : Config) (a : PlacedAllocation) → is_mapped c a ≡ true → a.released ≡ false
@@ -41,9 +39,8 @@ word_of_changed c g xs n leaves m stays =
     let at = changed_at g xs m.number leaves.none in
     let base : (placed_at (map g xs) m.number).base ≡ (placed_at xs m.number).base =
     ap (λ (x : PlacedAllocation). x.base) at ∙ leaves.base (placed_at xs m.number) in
-    let words : storage_words c (placed_at (map g xs) m.number) ≡ storage_words c (placed_at xs m.number) =
-    ap (storage_words c) at
-    ∙ ap (λ t. words_made (object_of (kinds_of c.types t))) (leaves.ty (placed_at xs m.number)) in
+    let words = ap (storage_words c) at ∙ ap (λ t. words_made (object_of (kinds_of c.types t)))
+    (leaves.ty (placed_at xs m.number)) in
     let from : (placed_at xs m.number).base ≤ n = m.word.0 in
     let to : n < (placed_at xs m.number).base + storage_words c (placed_at xs m.number) = m.word.1 in
     record { number = m.number; mapped = ap (is_mapped c) at ∙ stays; word = (omega arith, omega arith) }

@@ -1,42 +1,38 @@
 -- What a step marks is touched: what the holder's hand or a marker's points into, or a cell without an allocation.
 use Rattle.mk_laws.proofs.Vocabulary.{Bool, Caller, Cell, Config, Flight, Hand, Host, Marker, MarkerStands, MarkerState}
 use Rattle.mk_laws.proofs.Vocabulary.{Moment, NeverState, None, Null, Object, Option, Place, PlacedAllocation}
-use Rattle.mk_laws.proofs.Vocabulary.{PointsInto, Seat, SeenHeader, Some, Step, Words, World, address_of, and_parts, ap}
-use Rattle.mk_laws.proofs.Vocabulary.{arith, at_rest, bases_of, bit, cases_Bool, cell_at, cell_of_allocation, cell_seen}
-use Rattle.mk_laws.proofs.Vocabulary.{d_of, eqb-true, false, false≢true, first_page_shows, flight_among, flight_of}
-use Rattle.mk_laws.proofs.Vocabulary.{get_or-set_same, granted, granted_base, has_bit, header_at, if◌then◌else◌}
-use Rattle.mk_laws.proofs.Vocabulary.{image_of, inl, inr, is_marked, is_some, is_some_and, is_unmarked, length}
-use Rattle.mk_laws.proofs.Vocabulary.{ltb-true, marker_of, marks_place, not, object_made, object_placed}
-use Rattle.mk_laws.proofs.Vocabulary.{page_at_address, part_not_free, place_now, placed_at, pointed_cell, refl}
-use Rattle.mk_laws.proofs.Vocabulary.{seen_bit, seen_page, shown, slice_index, slice_index_or, storage_of, subst, sym}
-use Rattle.mk_laws.proofs.Vocabulary.{true, words_within, zero, ℕ, ◌%◌, ◌&&◌, ◌*◌, ◌+◌, ◌/◌, ◌<◌, ◌==◌, ◌^◌, ◌||◌, ◌∙◌}
-use Rattle.mk_laws.proofs.Vocabulary.{◌≡◌, ◌≢◌}
-use Rattle.mk_laws.proofs.Basics.{Behind, Came, IsNew, Stayed, Table, WorldBehind, reg_table, same_cell, tally_table}
+use Rattle.mk_laws.proofs.Vocabulary.{PointsInto, Seat, SeenHeader, Some, Stage, Step, Words, World, ℕ, address_of}
+use Rattle.mk_laws.proofs.Vocabulary.{and_parts, ap, arith, at_rest, bases_of, bit, cases_Bool, cell_at}
+use Rattle.mk_laws.proofs.Vocabulary.{cell_of_allocation, cell_seen, d_of, eqb-true, false, false≢true}
+use Rattle.mk_laws.proofs.Vocabulary.{first_page_shows, flight_among, flight_of, get_or-set_same, granted, granted_base}
+use Rattle.mk_laws.proofs.Vocabulary.{has_bit, header_at, if◌then◌else◌, image_of, inl, inr, is_marked, is_some}
+use Rattle.mk_laws.proofs.Vocabulary.{is_some_and, is_unmarked, length, ltb-true, marker_of, marks_place, not}
+use Rattle.mk_laws.proofs.Vocabulary.{object_made, object_placed, page_at_address, part_not_free, place_now, placed_at}
+use Rattle.mk_laws.proofs.Vocabulary.{pointed_cell, refl, seen_bit, seen_page, shown, slice_index, slice_index_or}
+use Rattle.mk_laws.proofs.Vocabulary.{storage_of, subst, sym, true, words_within, zero, ◌%◌, ◌&&◌, ◌*◌, ◌+◌, ◌/◌, ◌<◌}
+use Rattle.mk_laws.proofs.Vocabulary.{◌==◌, ◌^◌, ◌||◌, ◌∙◌, ◌≡◌, ◌≢◌}
 use Rattle.mk_geom.proofs.PointedCells.{address_points_into}
-use Rattle.mk_core.specs.declared.events.Step.TheVariants as step
-use Rattle.mk_core.specs.declared.seats.Stage.TheVariants as stage
-use Rattle.mk_core.proofs.ChangedAllocations.{granted_at}
-use Rattle.mk_core.proofs.RegisterAccesses.{register_is_small}
-use Rattle.mk_laws.proofs.Precise.{PointsOnlyInto, Steps, came_behind, points_before, IsPrecise}
-use Rattle.mk_laws.proofs.Worlds.{sized, stands, Told, comes_back, headers}
-use Rattle.mk_core.specs.StopConditions.{is_bit_of, marks_by_hand}
-use Rattle.mk_core.proofs.ServingSteps.{place_marked}
 use Rattle.mk_core.proofs.WordBits.{bit_of_cell, bit_of_power, more_bits}
+use Rattle.mk_core.proofs.{ChangedAllocations.granted_at, RegisterAccesses.register_is_small, ServingSteps.place_marked}
+use Rattle.mk_core.specs.StopConditions.{is_bit_of, marks_by_hand}
+use Rattle.mk_laws.proofs.Basics.{Behind, Came, IsNew, Stayed, Table, WorldBehind, reg_table, same_cell, tally_table}
+use Rattle.mk_laws.proofs.Precise.{IsPrecise, PointsOnlyInto, Steps, came_behind, points_before}
+use Rattle.mk_laws.proofs.Worlds.{Told, comes_back, headers, sized, stands}
 
 -- The allocation that a grant adds is touched: its caller's register points to it at the moment after.
 
 -- a register that a call has and doesn't owe
-given : (f : Flight) (d r x : ℕ) → f.stage ≡ stage.Give → shown f r x ≡ x
+given : (f : Flight) (d r x : ℕ) → f.stage ≡ Stage.Give → shown f r x ≡ x
 given f d r x at = ap (λ s. shown (record f { stage = s }) r x) at
 
 granted_points : (c : Config) (w : World) (n : NeverState) (k : ℕ) (after : NeverState) (T : ℕ → Type 0)
-    → Steps c w n (Caller k) step.Grant after T
-    → (placed_at (WorldBehind c w (Caller k) step.Grant).allocations (length w.allocations)).released ≡ false
+    → Steps c w n (Caller k) Step.Grant after T
+    → (placed_at (WorldBehind c w (Caller k) Step.Grant).allocations (length w.allocations)).released ≡ false
     → T (length w.allocations)
 granted_points c w n k after T s u = s.there.registers (8 * k + d) i (u, rw image into)
   where
     v : World
-    v = WorldBehind c w (Caller k) step.Grant
+    v = WorldBehind c w (Caller k) Step.Grant
 
     i : ℕ
     i = length w.allocations
@@ -51,7 +47,7 @@ granted_points c w n k after T s u = s.there.registers (8 * k + d) i (u, rw imag
     d = d_of f.op
 
     d_small : d < 8
-    d_small = register_is_small c f stage.Put (s.before.known.now.operands k)
+    d_small = register_is_small c f Stage.Put (s.before.known.now.operands k)
 
     there : k < c.callers
     there = ltb-true k c.callers s.meets.seat
@@ -75,14 +71,14 @@ granted_points c w n k after T s u = s.there.registers (8 * k + d) i (u, rw imag
         let pages = s.before.known.limits.pages in
         omega arith
 
-    flight : flight_among v.now.seats.flights k ≡ record f { stage = stage.Give }
-    flight = get_or-set_same w.now.seats.flights k (record f { stage = stage.Give }) at_rest
+    flight : flight_among v.now.seats.flights k ≡ record f { stage = Stage.Give }
+    flight = get_or-set_same w.now.seats.flights k (record f { stage = Stage.Give }) at_rest
         (let count = s.before.known.now.orderly.flights in omega (arith, there))
 
     image : image_of (bases_of v.allocations) (slice_index_or after.registers (8 * k + d) Null) ≡ address_of base
     image =
         let own : (8 * k + d) / 8 ≡ k = let lt = d_small in omega arith in
-        let stage : (flight_among v.now.seats.flights ((8 * k + d) / 8)).stage ≡ stage.Give = rw own (rw flight) in
+        let stage : (flight_among v.now.seats.flights ((8 * k + d) / 8)).stage ≡ Stage.Give = rw own (rw flight) in
         sym (s.behind.all.mirrors.images.registers (8 * k + d))
         ∙ given (flight_among v.now.seats.flights ((8 * k + d) / 8)) d ((8 * k + d) % 8) _ stage ∙ word ∙ fits
 
@@ -94,12 +90,12 @@ granted_points c w n k after T s u = s.there.registers (8 * k + d) i (u, rw imag
         ((address_points_into a.base (storage_of c a)).1 (omega arith, omega arith))
 
 pub new_is_touched : (c : Config) (w : World) (n : NeverState) (seat : Seat) (x : Step) (after : NeverState)
-    (T : ℕ → Type 0) (i : ℕ) → Steps c w n seat x after T → x ≡ step.Grant → i ≡ length w.allocations
+    (T : ℕ → Type 0) (i : ℕ) → Steps c w n seat x after T → x ≡ Step.Grant → i ≡ length w.allocations
     → (placed_at (WorldBehind c w seat x).allocations i).released ≡ false → T i
-new_is_touched c w n (Caller k) step.Grant after T i s is at u = subst T (sym at) (granted_points c w n k after T s
-    (subst (λ j. (placed_at (WorldBehind c w (Caller k) step.Grant).allocations j).released ≡ false) at u))
-new_is_touched c w n (Marker k) step.Grant after T i s is at u = let kind = s.meets.kind in cc
-new_is_touched c w n Host step.Grant after T i s is at u = absurd (false≢true (and_parts _ false s.meets.order).1)
+new_is_touched c w n (Caller k) Step.Grant after T i s is at u = subst T (sym at) (granted_points c w n k after T s
+    (subst (λ j. (placed_at (WorldBehind c w (Caller k) Step.Grant).allocations j).released ≡ false) at u))
+new_is_touched c w n (Marker k) Step.Grant after T i s is at u = let kind = s.meets.kind in cc
+new_is_touched c w n Host Step.Grant after T i s is at u = absurd (false≢true (and_parts _ false s.meets.order).1)
 new_is_touched c w n seat _ after T i s is at u = cc
 
 -- What pointed into members alone still does after a step.
@@ -114,15 +110,15 @@ points_behind c w n seat x after T v s only b points = by (came_behind c w seat 
 
 -- three kinds change marks
 abbrev pub is_of_marks : Step → Bool
-is_of_marks (step.Clear p) = true
-is_of_marks (step.Mark p v) = true
-is_of_marks step.Mmark = true
+is_of_marks (Step.Clear p) = true
+is_of_marks (Step.Mark p v) = true
+is_of_marks Step.Mmark = true
 is_of_marks _ = false
 
 pub marks_same : (c : Config) (m : Moment) (seat : Seat) (x : Step) → is_of_marks x ≡ false
     → (Behind c m seat x).words.marks ≡ m.words.marks
-marks_same c m seat step.Reg out = ap (λ (t : Table). t.marks) (reg_table c m seat)
-marks_same c m seat (step.Tally n v) out = ap (λ (t : Table). t.marks) (tally_table m.words n v)
+marks_same c m seat Step.Reg out = ap (λ (t : Table). t.marks) (reg_table c m seat)
+marks_same c m seat (Step.Tally n v) out = ap (λ (t : Table). t.marks) (tally_table m.words n v)
 marks_same c m seat _ out = cc
 
 -- A cell of an unreleased allocation has a header on its page.
@@ -216,8 +212,8 @@ module _ (c : Config) (w : World) (n : NeverState) (T : ℕ → Type 0) (precise
       (cell_of_allocation c (placed_at w.allocations b)).page)
       (cell_of_allocation c (placed_at w.allocations b)).index ≡ true → T b
 
-  mark_step : (seat : Seat) (p v : ℕ) (after : NeverState) → Steps c w n seat (step.Mark p v) after T
-      → MarksTouched seat (step.Mark p v)
+  mark_step : (seat : Seat) (p v : ℕ) (after : NeverState) → Steps c w n seat (Step.Mark p v) after T
+      → MarksTouched seat (Step.Mark p v)
   mark_step seat p v after s b u bit =
       let cell : Cell = cell_of_allocation c (placed_at w.allocations b) in
       let o : Object = object_made c (flight_of w.now seat).op in
@@ -231,14 +227,16 @@ module _ (c : Config) (w : World) (n : NeverState) (T : ℕ → Type 0) (precise
               let hand : Option Hand = w.now.seats.holding.hand in
               let h = hand_marks w.now.words c.pages hand p v (left_holds _ _ s.meets.holder unplaced)
               (left_fails (is_some_and (λ (y : Hand). is_unmarked y.source) hand) _ s.unswept unplaced) in
-              let at : pointed_cell c.pages w.now.words.pages h.holds.value ≡ Some cell =
-              h.cell cell.index new.1 ∙ rw (← new.0) in
-              precise.hand h.holds h.there h.unswept b (u, comes_back c w n s.before s.early b h.holds.value u at)
+              precise.hand h.holds h.there h.unswept b (
+                u,
+                comes_back c w n s.before s.early b h.holds.value u
+                    (h.cell cell.index new.1 ∙ rw (← new.0)),
+              )
         ]
       ]
 
   mmark_step : (j : ℕ) (after : NeverState) → MarkerStands c w.now (marker_of w.now j)
-      → Steps c w n (Marker j) step.Mmark after T → MarksTouched (Marker j) step.Mmark
+      → Steps c w n (Marker j) Step.Mmark after T → MarksTouched (Marker j) Step.Mmark
   mmark_step j after stand s b u bit =
       elim (more_bits w.now.words.marks (seen_page y) (seen_bit y) cell.page cell.index bit) [
         | inl old ↦ precise.marked b u old
@@ -256,11 +254,11 @@ module _ (c : Config) (w : World) (n : NeverState) (T : ℕ → Type 0) (precise
 
   marks_touched : (seat : Seat) (x : Step) (after : NeverState) → ((j : ℕ) → MarkerStands c w.now (marker_of w.now j))
       → Steps c w n seat x after T → MarksTouched seat x
-  marks_touched seat (step.Mark p v) after stand s b u bit = mark_step seat p v after s b u bit
-  marks_touched (Marker j) step.Mmark after stand s b u bit = mmark_step j after (stand j) s b u bit
-  marks_touched (Caller j) step.Mmark after stand s b u bit = let kind = s.meets.kind in cc
-  marks_touched Host step.Mmark after stand s b u bit = let kind = s.meets.kind in cc
-  marks_touched seat (step.Clear p) after stand s b u bit =
+  marks_touched seat (Step.Mark p v) after stand s b u bit = mark_step seat p v after s b u bit
+  marks_touched (Marker j) Step.Mmark after stand s b u bit = mmark_step j after (stand j) s b u bit
+  marks_touched (Caller j) Step.Mmark after stand s b u bit = let kind = s.meets.kind in cc
+  marks_touched Host Step.Mmark after stand s b u bit = let kind = s.meets.kind in cc
+  marks_touched seat (Step.Clear p) after stand s b u bit =
       let zero = eqb-true _ 0 s.meets.phase in
       elim s.early [ inl e ↦ absurd (omega arith) | inr e ↦ absurd (omega arith) ]
   marks_touched seat x after stand s b u bit = rest x refl b u bit

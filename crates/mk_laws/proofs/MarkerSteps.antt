@@ -2,7 +2,7 @@
 use Rattle.mk_laws.proofs.Vocabulary.{Block, Bool, Caller, Cell, Config, Free, Header, Host, IsIdle, IsWordOf, Later}
 use Rattle.mk_laws.proofs.Vocabulary.{LeafBlock, LeafRun, Marker, MarkerStands, MarkerState, NeverState, None, Option}
 use Rattle.mk_laws.proofs.Vocabulary.{PlacedAllocation, Run, Scan, ScanStands, Seat, SeenHeader, Some, Step, Word}
-use Rattle.mk_laws.proofs.Vocabulary.{World, address_of, and_parts, ap, arith, behind_mlook, cases_eq, cases_lt}
+use Rattle.mk_laws.proofs.Vocabulary.{World, ℕ, address_of, and_parts, ap, arith, behind_mlook, cases_eq, cases_lt}
 use Rattle.mk_laws.proofs.Vocabulary.{cell_at, cell_ends, cell_of_allocation, cell_words, cells_begin, cells_under}
 use Rattle.mk_laws.proofs.Vocabulary.{eqb-true, false, first_word, found, has_bit, has_next_word, has_no_pointers}
 use Rattle.mk_laws.proofs.Vocabulary.{has_seen_cell, head_page, head_page_under, header_at, header_in, header_of}
@@ -10,20 +10,14 @@ use Rattle.mk_laws.proofs.Vocabulary.{heads_run, if◌then◌else◌, inl, inr, 
 use Rattle.mk_laws.proofs.Vocabulary.{marker_behind, marker_of, mul-le, nat_lt, next_word, none-some, page_at_address}
 use Rattle.mk_laws.proofs.Vocabulary.{placed_at, pointed_cell, refl, run_count, same_Some, scan_begun, scan_claimed}
 use Rattle.mk_laws.proofs.Vocabulary.{scan_onward, slice_index, storage_of, storage_words, subst, sym, true}
-use Rattle.mk_laws.proofs.Vocabulary.{word_points, words_under, ℕ, ◌&&◌, ◌*◌, ◌+◌, ◌-◌, ◌/◌, ◌<◌, ◌==◌, ◌∙◌, ◌≡◌, ◌≢◌}
-use Rattle.mk_laws.proofs.Vocabulary.{◌≤◌}
-use Rattle.mk_laws.proofs.Basics.{WorldBehind, marker_set}
-use Rattle.mk_core.proofs.PointedPages.{pointed_head}
-use Rattle.mk_laws.proofs.Worlds.{Told, headers, stands, IsHeld, held}
-use Rattle.mk_laws.proofs.Headers.{free_shows}
-use Rattle.mk_core.specs.Effects.{hand_behind_look, open_hand}
-use Rattle.mk_core.specs.declared.events.Step.TheVariants as step
-use Rattle.mk_core.specs.declared.events.Word.TheVariants as word
-use Rattle.mk_laws.specs.Guard.{EndsItsCell, cell_scanned}
-use Rattle.mk_laws.proofs.MarkSteps.{points_behind}
+use Rattle.mk_laws.proofs.Vocabulary.{word_points, words_under, ◌&&◌, ◌*◌, ◌+◌, ◌-◌, ◌/◌, ◌<◌, ◌==◌, ◌∙◌, ◌≡◌, ◌≢◌, ◌≤◌}
+use Rattle.mk_core.{proofs.PointedPages.pointed_head, specs.Effects.hand_behind_look, specs.Effects.open_hand}
 use Rattle.mk_laws.proofs.NoLeaves.{no_leaf_behind, scanned_has_none}
 use Rattle.mk_laws.proofs.Precise.{HasNoLeaf, IsPrecise, MarkerIsPrecise, PointsOnlyInto, PrecisionScene, Steps}
 use Rattle.mk_laws.proofs.Precise.{precision_scene_of}
+use Rattle.mk_laws.proofs.Worlds.{IsHeld, Told, headers, held, stands}
+use Rattle.mk_laws.proofs.{Basics.WorldBehind, Basics.marker_set, Headers.free_shows, MarkSteps.points_behind}
+use Rattle.mk_laws.specs.Guard.{EndsItsCell, cell_scanned}
 
 -- A scanned word that isn't 0 is one of the unreleased allocation of the cell.
 
@@ -157,7 +151,7 @@ marker_kept c w n seat x after T y s stand precise =
 -- `mlook`
 look_precise : (c : Config) (w : World) (n : NeverState) (T : ℕ → Type 0) (y : MarkerState) (p f : ℕ) → Told c w n
     → f ≡ header_at w.now.words p → MarkerIsPrecise c (precision_scene_of w) T y
-    → MarkerIsPrecise c (precision_scene_of w) T (behind_mlook c f (word.Head p) y)
+    → MarkerIsPrecise c (precision_scene_of w) T (behind_mlook c f (Word.Head p) y)
 look_precise c w n T y p f t is m =
     record {
       hand = λ v at. m.hand v (kept y.hand v at);
@@ -184,9 +178,9 @@ unseen_precise : (c : Config) (w : World) (T : ℕ → Type 0) (y : MarkerState)
 unseen_precise c w T y m = record { hand = m.hand; scan = m.scan; seen = λ s is. absurd (none-some _ is) }
 
 looks : (c : Config) (w : World) (n : NeverState) (T : ℕ → Type 0) (y : MarkerState) (x : Word) (f : ℕ) → Told c w n
-    → ((p : ℕ) → x ≡ word.Head p → f ≡ header_at w.now.words p) → MarkerIsPrecise c (precision_scene_of w) T y
+    → ((p : ℕ) → x ≡ Word.Head p → f ≡ header_at w.now.words p) → MarkerIsPrecise c (precision_scene_of w) T y
     → MarkerIsPrecise c (precision_scene_of w) T (behind_mlook c f x y)
-looks c w n T y (word.Head p) f t is m = look_precise c w n T y p f t (is p refl) m
+looks c w n T y (Word.Head p) f t is m = look_precise c w n T y p f t (is p refl) m
 looks c w n T y _ f t is m = unseen_precise c w T y m
 
 -- `claim`: words are scanned only under a header that shows no leaf
@@ -304,22 +298,22 @@ own_marker : (c : Config) (w : World) (n : NeverState) (k : ℕ) (x : Step) (aft
     → Steps c w n (Marker k) x after T → IsPrecise c w T → MarkerStands c w.now (marker_of w.now k)
     → MarkerIsPrecise c (precision_scene_of (WorldBehind c w (Marker k) x)) T
     (marker_behind c (found c w.now (record { seat = Marker k; step = x })) x (marker_of w.now k))
-own_marker c w n k step.Attend after T s precise stand =
+own_marker c w n k Step.Attend after T s precise stand =
     idle_is_precise c _ T _ (record { scan = refl; hand = refl; seen = refl })
-own_marker c w n k step.Quit after T s precise stand =
+own_marker c w n k Step.Quit after T s precise stand =
     idle_is_precise c _ T _ (record { scan = refl; hand = refl; seen = refl })
-own_marker c w n k (step.Mlook x) after T s precise stand =
-    looks c w n T _ x (found c w.now (record { seat = Marker k; step = step.Mlook x })) s.before
+own_marker c w n k (Step.Mlook x) after T s precise stand =
+    looks c w n T _ x (found c w.now (record { seat = Marker k; step = Step.Mlook x })) s.before
     (λ p e. rw e) (precise.markers k)
-own_marker c w n k (step.Claim p i) after T s precise stand =
+own_marker c w n k (Step.Claim p i) after T s precise stand =
     claim_precise c w T _ p i _ (and_parts _ _ s.meets.marker).1 (precise.markers k)
-own_marker c w n k step.Mload after T s precise stand =
+own_marker c w n k Step.Mload after T s precise stand =
     let a = and_parts _ _ s.meets.marker in
-    load_precise c w n (Marker k) step.Mload after T _ s precise stand a.0 (precise.markers k)
-own_marker c w n k step.Mmark after T s precise stand =
+    load_precise c w n (Marker k) Step.Mload after T _ s precise stand a.0 (precise.markers k)
+own_marker c w n k Step.Mmark after T s precise stand =
     let m = precise.markers k in
     record { hand = λ v is. absurd (none-some _ is); scan = m.scan; seen = m.seen }
-own_marker c w n k step.Mblack after T s precise stand =
+own_marker c w n k Step.Mblack after T s precise stand =
     let m = precise.markers k in
     record { hand = m.hand; scan = λ z is. absurd (none-some _ is); seen = m.seen }
 own_marker c w n k _ after T s precise stand = let kind = s.meets.kind in cc

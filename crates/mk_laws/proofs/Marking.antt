@@ -1,18 +1,15 @@
 -- Along the marking of a cycle without a sweeping mark, all that is marked or held is touched.
 use Rattle.mk_laws.proofs.Vocabulary.{AreEnabledFrom, Config, Event, IsHistory, IsMarking, List, Marking, Step, World}
-use Rattle.mk_laws.proofs.Vocabulary.{[], ap, append-nil, append_assoc, arith, before_close, earlier_part_is_history}
+use Rattle.mk_laws.proofs.Vocabulary.{ℕ, ap, append-nil, append_assoc, arith, before_close, earlier_part_is_history}
 use Rattle.mk_laws.proofs.Vocabulary.{enabled_in_parts, enabled_meets, eqb-true, false, first_world, flight_of, inl}
 use Rattle.mk_laws.proofs.Vocabulary.{is_begin, is_close, is_release, left, left_more, list_any, never_behind, or_from}
-use Rattle.mk_laws.proofs.Vocabulary.{or_parts, refl, subst, sym, through, world_behind, ℕ, ◌++◌, ◌∙◌, ◌∷◌, ◌≡◌}
-use Rattle.mk_laws.proofs.Basics.{Meets, WorldBehind, begin_is, known_world}
-use Rattle.mk_core.specs.Cycles.{NoneSweepsFrom, sweeps}
+use Rattle.mk_laws.proofs.Vocabulary.{or_parts, refl, subst, sym, through, world_behind, [], ◌++◌, ◌∙◌, ◌∷◌, ◌≡◌}
 use Rattle.mk_core.specs.Touched.{IsTouched, LeadsToMoment, by_global, by_register, by_word}
-use Rattle.mk_core.specs.declared.events.Step.TheVariants as step
-use Rattle.mk_laws.proofs.InvariantHistories.{histories_keep_the_invariant}
+use Rattle.mk_core.specs.Cycles.{NoneSweepsFrom, sweeps}
+use Rattle.mk_laws.proofs.Basics.{Meets, WorldBehind, begin_is, known_world}
 use Rattle.mk_laws.proofs.OneStep.{precise_begun, precise_behind}
-use Rattle.mk_laws.proofs.PhaseSteps.{marking_goes_on}
 use Rattle.mk_laws.proofs.Precise.{IsClosedIn, IsPrecise, Steps}
-use Rattle.mk_laws.proofs.Worlds.{Told}
+use Rattle.mk_laws.proofs.{InvariantHistories.histories_keep_the_invariant, PhaseSteps.marking_goes_on, Worlds.Told}
 
 -- what is known after a history
 pub told : (c : Config) (es : List Event) → IsHistory c es → Told c (left c es) (never_behind c es)
@@ -123,9 +120,9 @@ at_begin c es k h =
     let m = one_more c k.begin.before e h in
     let w : World = left c k.begin.before in
     let is = begin_is e.step k.begin.of_kind in
-    let meets : Meets c w.now e.seat step.Begin = subst (λ (x : Step). Meets c w.now e.seat x) is m.meets in
+    let meets : Meets c w.now e.seat Step.Begin = subst (λ (x : Step). Meets c w.now e.seat x) is m.meets in
     let zero = eqb-true _ 0 meets.phase in
-    let left_is : WorldBehind c w e.seat step.Begin ≡ left c (through k.begin) =
+    let left_is : WorldBehind c w e.seat Step.Begin ≡ left c (through k.begin) =
     ap (λ (x : Step). WorldBehind c w e.seat x) (sym is) ∙ sym m.left in
     record {
       history = h;

@@ -1,13 +1,12 @@
 -- Allocations whose claims change at most how far they are unmapped.
 use Rattle.mk_laws.proofs.Vocabulary.{Among, Bool, Claim, Config, Ground, HasHeader, HasLayout, List, Mode, Object}
-use Rattle.mk_laws.proofs.Vocabulary.{Option, PlacedAllocation, RunPages, RunStands, ap, claim_of, claims_of, false}
-use Rattle.mk_laws.proofs.Vocabulary.{header_on, inl, inr, map, object_placed, pages_made, placed_at, stands, sym, ℕ}
-use Rattle.mk_laws.proofs.Vocabulary.{◌+◌, ◌/◌, ◌<◌, ◌∙◌, ◌≡◌}
-use Rattle.mk_laws.proofs.Claims.{LeavesCells, apart_behind, cells_behind, changed_among, claim_among, claim_is}
-use Rattle.mk_laws.proofs.Claims.{was_claim}
+use Rattle.mk_laws.proofs.Vocabulary.{Option, PlacedAllocation, RunPages, RunStands, ℕ, ap, claim_of, claims_of, false}
+use Rattle.mk_laws.proofs.Vocabulary.{header_on, inl, inr, map, object_placed, pages_made, placed_at, stands, sym, ◌+◌}
+use Rattle.mk_laws.proofs.Vocabulary.{◌/◌, ◌<◌, ◌∙◌, ◌≡◌}
 use Rattle.mk_laws.proofs.Serving.{among_back, among_front, among_parts, apart_across, apart_joined, apart_left}
 use Rattle.mk_laws.proofs.Serving.{apart_right, own_claim, placed_claim}
-use Rattle.mk_laws.proofs.Unmapping.{layout_changed}
+use Rattle.mk_laws.proofs.{Claims.LeavesCells, Claims.apart_behind, Claims.cells_behind, Claims.changed_among}
+use Rattle.mk_laws.proofs.{Claims.claim_among, Claims.claim_is, Claims.was_claim, Unmapping.layout_changed}
 
 pub record Remodes (c : Config) (t : Ground) (run : Option RunPages) (g : PlacedAllocation
     → PlacedAllocation) : Type 0 where
@@ -43,8 +42,7 @@ remoded c o releasing marks t run g st r stands =
         ];
         apart = apart_joined _ _ (apart_behind c t.run run g t.allocations r.leaves (apart_left _ _ st.scene.apart))
             (apart_right _ _ st.scene.apart) (λ x y ix iy same.
-            let b = was x ix in
-            apart_across _ _ (record x { mode = b.0 }) y st.scene.apart b.1 iy same);
+            apart_across _ _ (record x { mode = (was x ix).0 }) y st.scene.apart (was x ix).1 iy same);
         headers = λ y i d lt. elim (among_parts _ _ y i) [
           | inl j ↦ headers y j d lt
           | inr j ↦ (st.scene.shown y (placed_claim c o t y j)).headers d lt

@@ -1,25 +1,20 @@
 -- The place of an undecided New lies in the heap.
 use Rattle.std.proofs.lemmas.Bool.{leb-false}
 use Rattle.mk_laws.proofs.Vocabulary.{Bool, Caller, Chosen, Config, Flight, Granted, Ground, Holding, List, Moment}
-use Rattle.mk_laws.proofs.Vocabulary.{None, Object, Op, Option, Page, Place, Placing, Seat, Some, Step, Unplaced, Used}
-use Rattle.mk_laws.proofs.Vocabulary.{World, ap, at_rest, cases_eq, cases_lt, chosen, false, flight_of}
+use Rattle.mk_laws.proofs.Vocabulary.{None, Object, Op, Option, Page, Place, Placing, Seat, Some, Stage, Step, Unplaced}
+use Rattle.mk_laws.proofs.Vocabulary.{Used, World, ℕ, ap, at_rest, cases_eq, cases_lt, chosen, false, flight_of}
 use Rattle.mk_laws.proofs.Vocabulary.{get_or-set_other, get_or-set_same, if◌then◌else◌, inl, inr, is_new_at}
 use Rattle.mk_laws.proofs.Vocabulary.{is_small_object, is_undecided_new, length, ltb-true, object_made}
 use Rattle.mk_laws.proofs.Vocabulary.{place_by_placing, place_now, place_on_pages, refl, run_pages_of, set_past}
-use Rattle.mk_laws.proofs.Vocabulary.{slice_index_or, slice_set, sym, taken, true, ℕ, ◌+◌, ◌<◌, ◌∙◌, ◌≡◌, ◌≤◌, ◌⊎◌}
+use Rattle.mk_laws.proofs.Vocabulary.{slice_index_or, slice_set, sym, taken, true, ◌+◌, ◌<◌, ◌∙◌, ◌≡◌, ◌≤◌, ◌⊎◌}
 use Rattle.mk_geom.proofs.FirstFit.{run_place_is}
-use Rattle.mk_core.specs.declared.seats.Stage.TheVariants as stage
-use Rattle.mk_laws.proofs.Standings.{InCall, UnderTurn, standing}
-use Rattle.mk_laws.proofs.Stages.{new_stands}
-use Rattle.mk_laws.proofs.Services.{Service, Goes, Loads, Places as PlacesNew}
-use Rattle.mk_laws.proofs.Views.{View, view_of, flight_in, flight_at, flights_with, HoldsTurn}
-use Rattle.mk_laws.proofs.ProtocolMoves.{Move, Enters, GoesOn, Leaves, Takes, Gives as GivesTurn, Works}
-use Rattle.mk_laws.proofs.Orderly.{same_holder}
-use Rattle.mk_laws.proofs.Actors.{Meets}
+use Rattle.mk_laws.proofs.Ground.{Carves, Gives, Grants, GroundStep, Places, Starts, TakesCell, Unmaps, ground_step}
 use Rattle.mk_laws.proofs.OrderlyLists.{event_moves}
-use Rattle.mk_laws.proofs.Known.{Known}
-use Rattle.mk_laws.proofs.OthersMoves.{WorldBehind}
-use Rattle.mk_laws.proofs.Ground.{GroundStep, Starts, Gives, Carves, Unmaps, TakesCell, Grants, Places, ground_step}
+use Rattle.mk_laws.proofs.ProtocolMoves.{Enters, Gives as GivesTurn, GoesOn, Leaves, Move, Takes, Works}
+use Rattle.mk_laws.proofs.Services.{Goes, Loads, Places as PlacesNew, Service}
+use Rattle.mk_laws.proofs.Standings.{InCall, UnderTurn, standing}
+use Rattle.mk_laws.proofs.Views.{HoldsTurn, View, flight_at, flight_in, flights_with, view_of}
+use Rattle.mk_laws.proofs.{Actors.Meets, Known.Known, Orderly.same_holder, OthersMoves.WorldBehind, Stages.new_stands}
 
 abbrev pub held_place : Placing → Option Place
 held_place (Chosen place) = Some place
@@ -107,7 +102,7 @@ call_no_new f is new = let e : InCall ≡ UnderTurn = sym is ∙ new_stands f.st
     apart : InCall ≡ UnderTurn → ⊥
     apart e = cc
 
-pub give_no_new : (o : Op) → is_new_at stage.Give o ≡ true → ⊥
+pub give_no_new : (o : Op) → is_new_at Stage.Give o ≡ true → ⊥
 give_no_new o h = cc
 
 pub service_new : (f : Flight) (h : Holding) (g : Flight) (i : Holding) → Service f h g i → is_undecided_new g ≡ true
@@ -149,8 +144,7 @@ place_fits_now c m seat x place count fits h now =
     let is = now_is c m (flight_of m seat) place now in
     let own = new_holds c m seat x h is.0 in
     let own_new : is_undecided_new (flight_of m (Caller own.0)) ≡ true = rw own.2 at is.0 in
-    in_fits c m.words.pages (flight_of m seat).op m.seats.holding.placing place count
-    (λ y old. rw own.2 (fits own.0 own.1 own_new y old)) is.1
+    in_fits c _ _ _ place count (λ y old. rw own.2 (fits own.0 own.1 own_new y old)) is.1
 
 pub places_behind : (c : Config) (w : World) (seat : Seat) (x : Step) → Known c w.now
     → length w.now.words.pages ≡ c.pages → PlacesFit c w.now
@@ -175,10 +169,7 @@ places_behind c w seat x known count fits h k lt new place held =
         let is = now_is c w.now (flight_of w.now seat) place now in
         let own = new_holds c w.now seat x h is.0 in
         let own_new : is_undecided_new (flight_of w.now (Caller own.0)) ≡ true = rw own.2 at is.0 in
-        let stands : standing (flight_of w.now (Caller own.0)) ≡ UnderTurn =
-        new_stands (flight_of w.now (Caller own.0)).stage (flight_of w.now (Caller own.0)).op own_new in
-        let mine : standing (flight_of w.now (Caller k)) ≡ UnderTurn =
-        new_stands (flight_of w.now (Caller k)).stage (flight_of w.now (Caller k)).op was in
-        let that : seat ≡ Caller k = own.2
-        ∙ same_holder c (view_of w.now) (Caller own.0) (Caller k) known.orderly (own.1, stands) (lt, mine) in
+        let that : seat ≡ Caller k = own.2 ∙ same_holder c (view_of w.now) (Caller own.0) (Caller k) known.orderly
+        (own.1, (new_stands (flight_of w.now (Caller own.0)).stage (flight_of w.now (Caller own.0)).op own_new))
+        (lt, (new_stands (flight_of w.now (Caller k)).stage (flight_of w.now (Caller k)).op was)) in
         rw that at (place_fits_now c w.now seat x place count fits h now)

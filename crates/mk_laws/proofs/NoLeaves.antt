@@ -1,19 +1,17 @@
 -- Pages where no leaf begins, and that they stay so while they show cells.
-use Rattle.mk_laws.proofs.Vocabulary.{Config, HeadStep, Header, IsMarking, ItCarves, ItEmpties, ItUnmaps, LeafBlock}
-use Rattle.mk_laws.proofs.Vocabulary.{NeverState, Object, Option, Page, PlacedAllocation, Seat, Some, Step, World, ap}
-use Rattle.mk_laws.proofs.Vocabulary.{arith, cases_eq, cells_under, eqb-true, false, first_page_shows, flight_of}
+use Rattle.mk_laws.proofs.Vocabulary.{Config, Header, HeadStep, IsMarking, ItCarves, ItEmpties, ItUnmaps, LeafBlock}
+use Rattle.mk_laws.proofs.Vocabulary.{NeverState, Object, Option, Page, PlacedAllocation, Seat, Some, Step, World, ℕ}
+use Rattle.mk_laws.proofs.Vocabulary.{ap, arith, cases_eq, cells_under, eqb-true, false, first_page_shows, flight_of}
 use Rattle.mk_laws.proofs.Vocabulary.{free_page, get_or-set_other, get_or-set_same, has_no_pointers, head_step}
 use Rattle.mk_laws.proofs.Vocabulary.{header_at, header_in, header_made, header_of, inl, inr, is_leaf_header, is_mapped}
 use Rattle.mk_laws.proofs.Vocabulary.{is_unmapped_header, large_count, length, ltb-true, made_is_mapped, object_made}
 use Rattle.mk_laws.proofs.Vocabulary.{object_placed, or_parts, pages_some, part_has_no_pointers, placed_at, refl, shown}
 use Rattle.mk_laws.proofs.Vocabulary.{slice_index_or, slice_set, storage_of, subst, sym, true, unmapped_is_unmapped}
-use Rattle.mk_laws.proofs.Vocabulary.{used_at, ℕ, ◌+◌, ◌-◌, ◌/◌, ◌∙◌, ◌≡◌, ◌≢◌}
-use Rattle.mk_laws.proofs.Basics.{Came, IsNew, Meets, Stayed, WorldBehind, headers_kind, is_head}
-use Rattle.mk_core.specs.declared.events.Step.TheVariants as step
+use Rattle.mk_laws.proofs.Vocabulary.{used_at, ◌+◌, ◌-◌, ◌/◌, ◌∙◌, ◌≡◌, ◌≢◌}
 use Rattle.mk_core.proofs.ChangedAllocations.{granted_at}
-use Rattle.mk_laws.proofs.InvariantJoined.{told_to_guard}
-use Rattle.mk_laws.proofs.Precise.{HasNoLeaf, Steps, came_behind, same_leaf, precision_scene_of}
-use Rattle.mk_laws.proofs.Worlds.{Told, headers, not_leaf, sized}
+use Rattle.mk_laws.proofs.Basics.{Came, IsNew, Meets, Stayed, WorldBehind, headers_kind, is_head}
+use Rattle.mk_laws.proofs.Precise.{HasNoLeaf, Steps, came_behind, precision_scene_of, same_leaf}
+use Rattle.mk_laws.proofs.{InvariantJoined.told_to_guard, Worlds.Told, Worlds.headers, Worlds.not_leaf, Worlds.sized}
 
 -- What a header that is scanned shows.
 pub scanned_has_none : (c : Config) (w : World) (n : NeverState) (p : ℕ) → Told c w n
@@ -50,7 +48,7 @@ unmapped_no_leaf _ h = cc
 
 -- a header that a `head` stores while the cycle marks
 stored_no_leaf : (c : Config) (w : World) (n : NeverState) (seat : Seat) (p v : ℕ) → Told c w n
-    → IsMarking w.now.words → Meets c w.now seat (step.Head p v)
+    → IsMarking w.now.words → Meets c w.now seat (Step.Head p v)
     → cells_under (header_in w.now.words p) ≢ 0 → is_leaf_header (header_of v) ≡ false
 stored_no_leaf c w n seat p v t early h cells = by (head_step c w.now _ p v h.holder)
   where
@@ -90,9 +88,9 @@ module _ (c : Config) (w : World) (n : NeverState) (seat : Seat) (x : Step) (aft
 
       by : (y : Step) → x ≡ y → Meets c w.now seat y
           → is_leaf_header (header_in (WorldBehind c w seat y).now.words p) ≡ false
-      by (step.Head q v) is h = elim (cases_eq p q) [
+      by (Step.Head q v) is h = elim (cases_eq p q) [
         | inl e ↦
-            let at : header_at (WorldBehind c w seat (step.Head q v)).now.words p ≡ v =
+            let at : header_at (WorldBehind c w seat (Step.Head q v)).now.words p ≡ v =
             ap (λ i. (slice_index_or (slice_set w.now.words.pages q (stored q v)) i free_page).header) e
             ∙ ap (λ (y : Page). y.header) (get_or-set_same w.now.words.pages q (stored q v) free_page
             (omega (arith, ltb-true q c.pages h.range, s.before.known.lengths.pages))) in
@@ -124,6 +122,6 @@ module _ (c : Config) (w : World) (n : NeverState) (seat : Seat) (x : Step) (aft
       by a u at (IsNew grant is) = mapped_not_leaf c v after a s.behind u (new_is_mapped a grant is)
           (ap (λ q. is_leaf_header (header_in v.now.words q)) at ∙ header_behind p cells none.header)
         where
-          new_is_mapped : (a : ℕ) → x ≡ step.Grant → a ≡ length w.allocations
+          new_is_mapped : (a : ℕ) → x ≡ Step.Grant → a ≡ length w.allocations
               → is_mapped c (placed_at v.allocations a) ≡ true
           new_is_mapped a grant is = rw is (rw grant (rw (granted_at w.allocations _)))

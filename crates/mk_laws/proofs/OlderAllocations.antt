@@ -1,12 +1,10 @@
 -- Allocations after events that grant none: what is unreleased was so before, and each keeps its place.
-use Rattle.mk_laws.proofs.Vocabulary.{Config, Event, IsHistory, List, PlacedAllocation, Seat, Step, World, [], ap}
+use Rattle.mk_laws.proofs.Vocabulary.{Config, Event, IsHistory, List, PlacedAllocation, Seat, Step, World, ℕ, ap}
 use Rattle.mk_laws.proofs.Vocabulary.{append-nil, append_assoc, false, flight_of, is_release, left, length, placed_at}
-use Rattle.mk_laws.proofs.Vocabulary.{refl, subst, sym, true≢false, world_behind, ℕ, ◌++◌, ◌<◌, ◌∙◌, ◌∷◌, ◌≡◌}
-use Rattle.mk_laws.proofs.Basics.{Came, IsNew, Stayed, WorldBehind, is_grant}
+use Rattle.mk_laws.proofs.Vocabulary.{refl, subst, sym, true≢false, world_behind, [], ◌++◌, ◌<◌, ◌∙◌, ◌∷◌, ◌≡◌}
 use Rattle.mk_laws.proofs.AllocationSteps.{AreOfOne, GoesOn, allocation_step, goes_on, of_one_joined}
-use Rattle.mk_laws.proofs.Marking.{one_more}
-use Rattle.mk_laws.proofs.Precise.{came_behind}
-use Rattle.mk_laws.proofs.Stretches.{None_of, along_without}
+use Rattle.mk_laws.proofs.Basics.{Came, IsNew, Stayed, WorldBehind, is_grant}
+use Rattle.mk_laws.proofs.{Marking.one_more, Precise.came_behind, Stretches.None_of, Stretches.along_without}
 
 pub record AreOlder (xs ys : List PlacedAllocation) : Type 0 where
   pub was : (j : ℕ) → (placed_at ys j).released ≡ false → (placed_at xs j).released ≡ false
@@ -62,7 +60,6 @@ kept_along c start rest i h none kept =
         let w : World = left c (start ++ more) in
         let m = one_more c (start ++ more) e g in
         let on = goes_on_behind c w e.seat e.step i at.there in
-        let left_is : world_behind c w e ≡ left c (start ++ (more ++ e ∷ [])) =
-        sym m.left ∙ ap (λ (xs : List Event). left c xs) (append_assoc start more (e ∷ [])) in
+        let left_is = sym m.left ∙ ap (left c) (append_assoc start more (e ∷ [])) in
         subst (λ (v : World). IsKept v i) left_is
         (record { there = on.there; unreleased = on.stays other at.unreleased })

@@ -2,35 +2,30 @@
 use Rattle.std.specs.Prelude.{option_and_then}
 use Rattle.mk_laws.proofs.Vocabulary.{Bool, Caller, Cell, Config, Hand, Host, IsIdle, Marker, MarkerStands, MarkerState}
 use Rattle.mk_laws.proofs.Vocabulary.{Moment, NeverState, None, Null, Op, Option, PlacedAllocation, Placing, Seat, Some}
-use Rattle.mk_laws.proofs.Vocabulary.{Stage, Step, Word, Words, World, address_of, all_below, all_below-at, and_parts}
-use Rattle.mk_laws.proofs.Vocabulary.{ap, arith, bases_of, cases_Bool, cases_lt, cell_of_allocation, comes_next}
-use Rattle.mk_laws.proofs.Vocabulary.{eqb-true, false, flight_of, found, get_or_past, has_clean_page, has_no_pointers}
-use Rattle.mk_laws.proofs.Vocabulary.{header_in, if◌then◌else◌, image_of, inl, inr, is_attending, is_marked}
-use Rattle.mk_laws.proofs.Vocabulary.{is_number_of, is_put, is_unmarked, ltb-true, marker_of, nat_lt, no_bit, none-some}
-use Rattle.mk_laws.proofs.Vocabulary.{nothing_done, or_cases, or_else, placed_at, pointed_cell, refl, register_word}
-use Rattle.mk_laws.proofs.Vocabulary.{same_Some, slice_index, slice_index_or, subst, sym, true, true≢false, word_points}
-use Rattle.mk_laws.proofs.Vocabulary.{ℕ, ◌%◌, ◌&&◌, ◌*◌, ◌+◌, ◌/◌, ◌∙◌, ◌≡◌, ◌≢◌, ◌≤◌, ◌⊎◌}
-use Rattle.mk_laws.proofs.Basics.{Behind, KnownWorld, Meets, WorldBehind, view_of}
-use Rattle.mk_core.specs.Effects.{hand_given, hand_of_cell, is_in_stop, is_mapped_cell}
-use Rattle.mk_core.specs.declared.events.Step.TheVariants as step
-use Rattle.mk_core.specs.declared.events.Word.TheVariants as word
+use Rattle.mk_laws.proofs.Vocabulary.{Stage, Step, Word, Words, World, ℕ, address_of, all_below, all_below-at}
+use Rattle.mk_laws.proofs.Vocabulary.{and_parts, ap, arith, bases_of, cases_Bool, cases_lt, cell_of_allocation}
+use Rattle.mk_laws.proofs.Vocabulary.{comes_next, eqb-true, false, flight_of, found, get_or_past, has_clean_page}
+use Rattle.mk_laws.proofs.Vocabulary.{has_no_pointers, header_in, if◌then◌else◌, image_of, inl, inr, is_attending}
+use Rattle.mk_laws.proofs.Vocabulary.{is_marked, is_number_of, is_put, is_unmarked, ltb-true, marker_of, nat_lt, no_bit}
+use Rattle.mk_laws.proofs.Vocabulary.{none-some, nothing_done, or_cases, or_else, placed_at, pointed_cell, refl}
+use Rattle.mk_laws.proofs.Vocabulary.{register_word, same_Some, slice_index, slice_index_or, subst, sym, true}
+use Rattle.mk_laws.proofs.Vocabulary.{true≢false, word_points, ◌%◌, ◌&&◌, ◌*◌, ◌+◌, ◌/◌, ◌∙◌, ◌≡◌, ◌≢◌, ◌≤◌, ◌⊎◌}
 use Rattle.mk_core.specs.declared.seats.Source.TheVariants.{Marked, Root, Unmarked}
-use Rattle.mk_core.specs.declared.seats.Stage.TheVariants as stage
-use Rattle.mk_laws.proofs.Pairs.{shows_plain}
-use Rattle.mk_laws.proofs.ImagesHeldGates.{held_idle}
-use Rattle.mk_laws.proofs.MarkSteps.{points_behind, marked_behind}
-use Rattle.mk_laws.proofs.Precise.{IsPrecise, PointsOnlyInto, Steps, MarkerIsPrecise, PrecisionScene}
+use Rattle.mk_core.specs.Effects.{hand_given, hand_of_cell, is_in_stop, is_mapped_cell}
+use Rattle.mk_core.specs.Touched.{PointsIntoAllocation}
+use Rattle.mk_laws.proofs.Basics.{Behind, KnownWorld, Meets, WorldBehind, view_of}
+use Rattle.mk_laws.proofs.Precise.{IsPrecise, MarkerIsPrecise, PointsOnlyInto, PrecisionScene, Steps}
 use Rattle.mk_laws.proofs.Precise.{precision_scene_of}
 use Rattle.mk_laws.proofs.Worlds.{Told, headers, held, not_leaf, stands}
-use Rattle.mk_core.specs.Touched.{PointsIntoAllocation}
-use Rattle.mk_laws.proofs.MarkerSteps.{idle_is_precise, markers_behind}
+use Rattle.mk_laws.proofs.{ImagesHeldGates.held_idle, MarkSteps.marked_behind, MarkSteps.points_behind}
+use Rattle.mk_laws.proofs.{MarkerSteps.idle_is_precise, MarkerSteps.markers_behind, Pairs.shows_plain}
 
 -- What the turn holder's hand holds is touched: a root's image, or a word of a marked cell that is scanned.
 
 -- any other step leaves the hand, or drops it
 
 abbrev pub is_look : Step → Bool
-is_look (step.Look y) = true
+is_look (Step.Look y) = true
 is_look _ = false
 
 take_drops : (m : Moment) (b : Bool) → ((if b then nothing_done else m.seats.holding).hand ≡ m.seats.holding.hand)
@@ -40,23 +35,23 @@ take_drops m false = inl refl
 
 pub hand_kept : (c : Config) (m : Moment) (seat : Seat) (x : Step) → is_look x ≡ false
     → ((Behind c m seat x).seats.holding.hand ≡ m.seats.holding.hand) ⊎ ((Behind c m seat x).seats.holding.hand ≡ None)
-hand_kept c m seat (step.Look y) out = cc
-hand_kept c m seat (step.Take o) out = take_drops m _
-hand_kept c m seat step.Give out = inr refl
-hand_kept c m seat step.Begin out = inr refl
+hand_kept c m seat (Step.Look y) out = cc
+hand_kept c m seat (Step.Take o) out = take_drops m _
+hand_kept c m seat Step.Give out = inr refl
+hand_kept c m seat Step.Begin out = inr refl
 hand_kept c m seat _ out = inl refl
 
 -- Registers that a look may reach are images: their caller owes out register.
 
-look_stage : (s : Stage) (o : Op) (y : Word) → comes_next s o (step.Look y) ≡ true → is_put s ≡ false
-look_stage stage.Put o y h = cc
+look_stage : (s : Stage) (o : Op) (y : Word) → comes_next s o (Step.Look y) ≡ true → is_put s ≡ false
+look_stage Stage.Put o y h = cc
 look_stage _ o y h = refl
 
-idle_owes_none : (s : Stage) → s ≡ stage.Idle → is_put s ≡ false
+idle_owes_none : (s : Stage) → s ≡ Stage.Idle → is_put s ≡ false
 idle_owes_none s is = ap is_put is
 
 module _ (c : Config) (w : World) (n : NeverState) (t : Told c w n) where
-  looked_owes_none : (seat : Seat) (j r : ℕ) → Meets c w.now seat (step.Look (word.Reg j r))
+  looked_owes_none : (seat : Seat) (j r : ℕ) → Meets c w.now seat (Step.Look (Word.Reg j r))
       → is_put (flight_of w.now (Caller j)).stage ≡ false
   looked_owes_none seat j r h = elim (or_cases _ _ h.gates) [
     | inl own ↦ by seat own h
@@ -65,14 +60,14 @@ module _ (c : Config) (w : World) (n : NeverState) (t : Told c w n) where
         idle_owes_none _ (held_idle c (view_of w.now) j t.known.now.orderly lt (eqb-true _ 2 gate))
   ]
     where
-      by : (seat : Seat) → is_number_of seat j ≡ true → Meets c w.now seat (step.Look (word.Reg j r))
+      by : (seat : Seat) → is_number_of seat j ≡ true → Meets c w.now seat (Step.Look (Word.Reg j r))
           → is_put (flight_of w.now (Caller j)).stage ≡ false
       by (Caller k) own h =
           let same : k ≡ j = eqb-true k j own in
-          rw same at (look_stage _ _ (word.Reg j r) h.order)
+          rw same at (look_stage _ _ (Word.Reg j r) h.order)
       by _ own h = cc
 
-  register_image : (seat : Seat) (j r : ℕ) → Meets c w.now seat (step.Look (word.Reg j r))
+  register_image : (seat : Seat) (j r : ℕ) → Meets c w.now seat (Step.Look (Word.Reg j r))
       → register_word w.now.words j r ≡ image_of (bases_of w.allocations) (slice_index_or n.registers (8 * j + r) Null)
   register_image seat j r h =
       let lt = ltb-true r 8 (and_parts (nat_lt j c.callers) (nat_lt r 8) h.range).1 in
@@ -108,8 +103,8 @@ cell_hand w stop placing cell value h is out =
 
 module _ (c : Config) (w : World) (n : NeverState) (T : ℕ → Type 0) (precise : IsPrecise c w T) where
   -- a word of a marked cell that is scanned
-  heap_hand : (seat : Seat) (x : ℕ) (after : NeverState) (h : Hand) → Steps c w n seat (step.Look (word.Heap x)) after T
-      → hand_given c w.now seat (word.Heap x) (slice_index w.now.words.heap x) ≡ Some h → is_unmarked h.source ≡ false
+  heap_hand : (seat : Seat) (x : ℕ) (after : NeverState) (h : Hand) → Steps c w n seat (Step.Look (Word.Heap x)) after T
+      → hand_given c w.now seat (Word.Heap x) (slice_index w.now.words.heap x) ≡ Some h → is_unmarked h.source ≡ false
       → PointsOnlyInto c w.allocations T h.value
   heap_hand seat x after h s is out = by (pointed_cell c.pages w.now.words.pages (address_of x)) refl is
     where
@@ -146,23 +141,23 @@ module _ (c : Config) (w : World) (n : NeverState) (T : ℕ → Type 0) (precise
       rw (ap (λ (y : Hand). y.value) e) at only
 
   -- what a look gives
-  look_hand : (seat : Seat) (y : Word) (after : NeverState) (h : Hand) → Steps c w n seat (step.Look y) after T
-      → hand_given c w.now seat y (found c w.now (record { seat = seat; step = step.Look y })) ≡ Some h
+  look_hand : (seat : Seat) (y : Word) (after : NeverState) (h : Hand) → Steps c w n seat (Step.Look y) after T
+      → hand_given c w.now seat y (found c w.now (record { seat = seat; step = Step.Look y })) ≡ Some h
       → is_unmarked h.source ≡ false → PointsOnlyInto c w.allocations T h.value
-  look_hand seat (word.Reg j r) after h s is out =
+  look_hand seat (Word.Reg j r) after h s is out =
       root_hand _ h (rw (register_image c w n s.before seat j r s.meets) (s.here.registers (8 * j + r))) is
-  look_hand seat (word.Global g) after h s is out = root_hand _ h (s.here.globals g) is
-  look_hand seat (word.Heap x) after h s is out = heap_hand seat x after h s is out
+  look_hand seat (Word.Global g) after h s is out = root_hand _ h (s.here.globals g) is
+  look_hand seat (Word.Heap x) after h s is out = heap_hand seat x after h s is out
   look_hand seat _ after h s is out = cc
 
   pub hand_behind : (seat : Seat) (x : Step) (after : NeverState) → Steps c w n seat x after T → (h : Hand)
       → (WorldBehind c w seat x).now.seats.holding.hand ≡ Some h → is_unmarked h.source ≡ false
       → PointsOnlyInto c (WorldBehind c w seat x).allocations T h.value
-  hand_behind seat (step.Look y) after s h is out =
-      by (hand_given c w.now seat y (found c w.now (record { seat = seat; step = step.Look y }))) refl is
+  hand_behind seat (Step.Look y) after s h is out =
+      by (hand_given c w.now seat y (found c w.now (record { seat = seat; step = Step.Look y }))) refl is
     where
       by : (given : Option Hand)
-          → hand_given c w.now seat y (found c w.now (record { seat = seat; step = step.Look y })) ≡ given
+          → hand_given c w.now seat y (found c w.now (record { seat = seat; step = Step.Look y })) ≡ given
           → or_else given w.now.seats.holding.hand ≡ Some h → PointsOnlyInto c w.allocations T h.value
       by None e is = precise.hand h is out
       by (Some k) e is = look_hand seat y after h s (e ∙ is) out
@@ -204,11 +199,11 @@ precise_behind c w n seat x after T s precise =
 
 -- after `begin`
 pub precise_begun : (c : Config) (w : World) (seat : Seat) (T : ℕ → Type 0) → KnownWorld c w
-    → Meets c w.now seat step.Begin → IsPrecise c (WorldBehind c w seat step.Begin) T
+    → Meets c w.now seat Step.Begin → IsPrecise c (WorldBehind c w seat Step.Begin) T
 precise_begun c w seat T known h =
     record {
       marked = λ b u is.
-          let cell : Cell = cell_of_allocation c (placed_at (WorldBehind c w seat step.Begin).allocations b) in
+          let cell : Cell = cell_of_allocation c (placed_at (WorldBehind c w seat Step.Begin).allocations b) in
           absurd (true≢false (sym is ∙ no_bit _ cell.index (unmarked cell.page)));
       hand = λ k is. absurd (none-some _ is);
       markers = λ j. by seat h j;
@@ -233,9 +228,9 @@ precise_begun c w seat T known h =
           elim (known.now.orderly.attends j at) [ inl e ↦ absurd (omega arith) | inr e ↦ absurd (omega arith) ]
     ]
 
-    by : (seat : Seat) → Meets c w.now seat step.Begin → (j : ℕ)
-        → MarkerIsPrecise c (precision_scene_of (WorldBehind c w seat step.Begin)) T
-        (marker_of (WorldBehind c w seat step.Begin).now j)
+    by : (seat : Seat) → Meets c w.now seat Step.Begin → (j : ℕ)
+        → MarkerIsPrecise c (precision_scene_of (WorldBehind c w seat Step.Begin)) T
+        (marker_of (WorldBehind c w seat Step.Begin).now j)
     by (Caller k) on j = quiet j _
     by Host on j = quiet j _
     by (Marker k) on j = let kind = on.kind in cc

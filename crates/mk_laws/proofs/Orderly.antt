@@ -1,15 +1,13 @@
 -- All is in order: what each move keeps, by what the protocol reads.
-use Rattle.std.specs.Prelude.{count_by}
-use Rattle.std.proofs.lemmas.List.Sums.{sum_by-set, count_by-le-length}
-use Rattle.mk_laws.proofs.Vocabulary.{Caller, Config, Flight, Host, List, Marker, MarkerState, Seat, ap, arith, at_rest}
-use Rattle.mk_laws.proofs.Vocabulary.{cases_eq, cases_lt, cond, false, get_or-set_other, get_or-set_same, get_or_past}
-use Rattle.mk_laws.proofs.Vocabulary.{holder_number, inl, inr, is_attending, is_in, length, length-set, nothing_done}
-use Rattle.mk_laws.proofs.Vocabulary.{outside, refl, set_past, slice_index, slice_index_or, slice_set, sym, true, ℕ}
-use Rattle.mk_laws.proofs.Vocabulary.{◌%◌, ◌*◌, ◌+◌, ◌-◌, ◌<◌, ◌^◌, ◌∙◌, ◌≡◌, ◌≢◌, ◌≤◌, ◌⊎◌}
-use Rattle.mk_laws.proofs.Standings.{Standing, standing, Shows, Resting, UnderTurn}
-use Rattle.mk_laws.proofs.Views.{flights_with, View, flight_in, gate_in, marker_in, flight_at, HoldsTurn}
-use Rattle.mk_laws.proofs.Services.{Served}
-use Rattle.mk_laws.proofs.ProtocolMoves.{MayTake, IdlesOutside}
+use Rattle.std.{proofs.lemmas.List.Sums.count_by-le-length, proofs.lemmas.List.Sums.sum_by-set, specs.Prelude.count_by}
+use Rattle.mk_laws.proofs.Vocabulary.{Caller, Config, Flight, Host, List, Marker, MarkerState, Seat, ℕ, ap, arith}
+use Rattle.mk_laws.proofs.Vocabulary.{at_rest, cases_eq, cases_lt, cond, false, get_or-set_other, get_or-set_same}
+use Rattle.mk_laws.proofs.Vocabulary.{get_or_past, holder_number, inl, inr, is_attending, is_in, length, length-set}
+use Rattle.mk_laws.proofs.Vocabulary.{nothing_done, outside, refl, set_past, slice_index, slice_index_or, slice_set}
+use Rattle.mk_laws.proofs.Vocabulary.{sym, true, ◌%◌, ◌*◌, ◌+◌, ◌-◌, ◌<◌, ◌^◌, ◌∙◌, ◌≡◌, ◌≢◌, ◌≤◌, ◌⊎◌}
+use Rattle.mk_laws.proofs.Standings.{Resting, Shows, Standing, UnderTurn, standing}
+use Rattle.mk_laws.proofs.Views.{HoldsTurn, View, flight_at, flight_in, flights_with, gate_in, marker_in}
+use Rattle.mk_laws.proofs.{ProtocolMoves.IdlesOutside, ProtocolMoves.MayTake, Services.Served}
 
 -- The markers that are in, and the numbers of the phase word.
 
@@ -25,25 +23,22 @@ counted xs k x lt = sum_by-set (λ (y : MarkerState). cond {A = ℕ} (is_in y) 1
 pub counted_same : (xs : List MarkerState) (k : ℕ) (x : MarkerState) → k < length xs
     → x.presence ≡ (slice_index_or xs k outside).presence → count_in (slice_set xs k x) ≡ count_in xs
 counted_same xs k x lt same =
-    let s = counted xs k x lt in
     let e : cond {A = ℕ} (is_in x) 1 0 ≡ cond {A = ℕ} (is_in (slice_index_or xs k outside)) 1 0 = rw same in
-    omega arith
+    omega (arith, counted xs k x lt)
 
 pub counted_more : (xs : List MarkerState) (k : ℕ) (x : MarkerState) → k < length xs
     → is_in (slice_index_or xs k outside) ≡ false → is_in x ≡ true → count_in (slice_set xs k x) ≡ count_in xs + 1
 counted_more xs k x lt was is =
-    let s = counted xs k x lt in
     let a : cond {A = ℕ} (is_in (slice_index_or xs k outside)) 1 0 ≡ 0 = rw was in
     let b : cond {A = ℕ} (is_in x) 1 0 ≡ 1 = rw is in
-    omega arith
+    omega (arith, counted xs k x lt)
 
 pub counted_less : (xs : List MarkerState) (k : ℕ) (x : MarkerState) → k < length xs
     → is_in (slice_index_or xs k outside) ≡ true → is_in x ≡ false → count_in (slice_set xs k x) + 1 ≡ count_in xs
 counted_less xs k x lt was is =
-    let s = counted xs k x lt in
     let a : cond {A = ℕ} (is_in (slice_index_or xs k outside)) 1 0 ≡ 1 = rw was in
     let b : cond {A = ℕ} (is_in x) 1 0 ≡ 0 = rw is in
-    omega arith
+    omega (arith, counted xs k x lt)
 
 -- a marker that is in counts
 pub count_in-at : (xs : List MarkerState) (k : ℕ) → k < length xs → is_in (slice_index_or xs k outside) ≡ true
@@ -182,9 +177,8 @@ same_holder c v a b p ha hb =
 pub holders_flight : (c : Config) (v : View) (seat : Seat) → Orderly c v → HoldsTurn c v seat
     → flight_in v (v.turn - 1) ≡ flight_at v.flights seat
 holders_flight c v (Caller k) h t =
-    let turn = turn_of c v (Caller k) h t in
-    let e : v.turn - 1 ≡ k = omega arith in
-    ap (λ i. flight_in v i) e
+    let e : v.turn - 1 ≡ k = omega (arith, turn_of c v (Caller k) h t) in
+    ap (flight_in v) e
 holders_flight c v (Marker k) h t = absurd t
 holders_flight c v Host h t =
     get_or_past v.flights (v.turn - 1) at_rest (let e : v.turn ≡ 1 + c.callers = t in omega (arith, h.flights))
@@ -208,8 +202,7 @@ giver_shows c v _ h t = tt
 
 pub taker_shows : (c : Config) (v : View) (seat : Seat) (f : Flight) → Orderly c v → v.turn ≡ 0 → MayTake c v seat f
     → OwnShows c v.flights (1 + holder_number c seat) v.gates seat (standing f)
-taker_shows c v (Caller k) f h z t =
-    let s = shows_at c v k Resting h t.0 t.1 in (rw h.flights t.0, rw t.2 (s.2 z, refl))
+taker_shows c v (Caller k) f h z t = (rw h.flights t.0, rw t.2 ((shows_at c v k Resting h t.0 t.1).2 z, refl))
 taker_shows c v _ f h z t = tt
 
 pub taker_number : (c : Config) (v : View) (seat : Seat) (f : Flight) → MayTake c v seat f

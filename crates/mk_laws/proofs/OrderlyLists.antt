@@ -1,18 +1,11 @@
 -- All is in order after every enabled list.
-use Rattle.std.specs.Prelude.{replicate}
-use Rattle.std.proofs.lemmas.List.{length-replicate, get_or-replicate}
-use Rattle.mk_laws.proofs.Vocabulary.{Caller, Config, MarkerState as Marker, Moment, Seat, Step, ap, arith, at_rest}
+use Rattle.std.{proofs.lemmas.List.get_or-replicate, proofs.lemmas.List.length-replicate, specs.Prelude.replicate}
+use Rattle.mk_laws.proofs.Vocabulary.{Caller, Config, MarkerState as Marker, Moment, Seat, Step, ℕ, ap, arith, at_rest}
 use Rattle.mk_laws.proofs.Vocabulary.{cases_lt, false, first_moment, flight_of, get_or_past, inl, inr, is_attending}
-use Rattle.mk_laws.proofs.Vocabulary.{outside, refl, slice_index_or, subst, sym, true, ℕ, ◌<◌, ◌∙◌, ◌≡◌, ◌≤◌}
-use Rattle.mk_laws.proofs.Standings.{Resting, standing, is_astray, Shows, shown_not_astray}
-use Rattle.mk_laws.proofs.Services.{nothing_served}
-use Rattle.mk_laws.proofs.Views.{view_of}
-use Rattle.mk_laws.proofs.ProtocolMoves.{Move}
-use Rattle.mk_laws.proofs.Orderly.{Orderly}
-use Rattle.mk_laws.proofs.ProtocolKept.{kept}
-use Rattle.mk_laws.proofs.Actors.{Meets, Actor, acts}
-use Rattle.mk_laws.proofs.SameWords.{Behind}
-use Rattle.mk_laws.proofs.Sorts.{moves}
+use Rattle.mk_laws.proofs.Vocabulary.{outside, refl, slice_index_or, subst, sym, true, ◌<◌, ◌∙◌, ◌≡◌, ◌≤◌}
+use Rattle.mk_laws.proofs.Standings.{Resting, Shows, is_astray, shown_not_astray, standing}
+use Rattle.mk_laws.proofs.{Actors.Actor, Actors.Meets, Actors.acts, Orderly.Orderly, ProtocolKept.kept}
+use Rattle.mk_laws.proofs.{ProtocolMoves.Move, SameWords.Behind, Services.nothing_served, Sorts.moves, Views.view_of}
 
 -- no call is astray, so each event is someone's
 

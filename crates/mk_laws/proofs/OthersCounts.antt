@@ -1,19 +1,13 @@
 -- While a seat holds the turn, no other ends a cycle, and none is answered Full.
-use Rattle.std.specs.Prelude.{count_by}
-use Rattle.std.proofs.lemmas.List.Sums.{sum_by-append}
-use Rattle.mk_laws.proofs.Vocabulary.{Answer, Bool, Caller, Config, Decided, Flight, List, Moment, None, Op, Option}
-use Rattle.mk_laws.proofs.Vocabulary.{Progress, Seat, Some, Stage, Step, answer_decided, answered, begun, cond}
-use Rattle.mk_laws.proofs.Vocabulary.{entry_of, false, flight_of, found, group_of, header_of, if◌then◌else◌, is_end}
-use Rattle.mk_laws.proofs.Vocabulary.{is_some_and, is_unmapped_header, map-append, onward, progress, progress_p}
-use Rattle.mk_laws.proofs.Vocabulary.{progress_q, progress_read, progress_reg, refl, refused, still, true, ℕ, ◌++◌, ◌+◌}
+use Rattle.std.{proofs.lemmas.List.Sums.sum_by-append, specs.Prelude.count_by}
+use Rattle.mk_laws.proofs.Vocabulary.{Answer, Bool, Caller, Config, Decided, Flight, Group, List, Moment, None, Op}
+use Rattle.mk_laws.proofs.Vocabulary.{Option, Progress, Seat, Some, Stage, Step, ℕ, answer_decided, answered, begun}
+use Rattle.mk_laws.proofs.Vocabulary.{cond, entry_of, false, flight_of, found, group_of, header_of, if◌then◌else◌}
+use Rattle.mk_laws.proofs.Vocabulary.{is_end, is_some_and, is_unmapped_header, map-append, onward, progress, progress_p}
+use Rattle.mk_laws.proofs.Vocabulary.{progress_q, progress_read, progress_reg, refl, refused, still, true, ◌++◌, ◌+◌}
 use Rattle.mk_laws.proofs.Vocabulary.{◌==◌, ◌≡◌}
-use Rattle.mk_laws.proofs.Basics.{Actor, AsHolder, AsMarker, HoldsTurn, InCallOf, view_of}
-use Rattle.mk_never.specs.declared.operations.Op.TheVariants as op
-use Rattle.mk_core.specs.declared.events.Answer.TheVariants as answer
-use Rattle.mk_core.specs.declared.events.Group.TheVariants as group
-use Rattle.mk_core.specs.declared.events.Step.TheVariants as step
-use Rattle.mk_core.specs.declared.seats.Stage.TheVariants as stage
 use Rattle.mk_core.specs.Counts.{is_full_answer}
+use Rattle.mk_laws.proofs.Basics.{Actor, AsHolder, AsMarker, HoldsTurn, InCallOf, view_of}
 use Rattle.mk_laws.proofs.Actors.{CallTakes, HostTakes}
 
 abbrev pub answers_full : Option Answer → Bool
@@ -25,39 +19,39 @@ either_answer true p q hp hq = hp
 either_answer false p q hp hq = hq
 
 q_answer : (f : Flight) (o : Op) (n : ℕ) → answers_full (progress_q f o n).answer ≡ false
-q_answer f (op.Move d q) n = refl
-q_answer f (op.Same p q) n = refl
+q_answer f (Op.Move d q) n = refl
+q_answer f (Op.Same p q) n = refl
 q_answer f _ n = either_answer (n == 0) _ _ refl refl
 
 p_answer : (f : Flight) (o : Op) (n : ℕ) → answers_full (progress_p f o n).answer ≡ false
-p_answer f (op.Free p) n = either_answer (n == 0) _ _ refl refl
+p_answer f (Op.Free p) n = either_answer (n == 0) _ _ refl refl
 p_answer f _ n = cc
 
 reg_answer : (f : Flight) (s : Stage) (n : ℕ) → answers_full (progress_reg f s n).answer ≡ false
-reg_answer f stage.LoadQ n = q_answer f f.op n
-reg_answer f stage.LoadP n = p_answer f f.op n
+reg_answer f Stage.LoadQ n = q_answer f f.op n
+reg_answer f Stage.LoadP n = p_answer f f.op n
 reg_answer f _ n = refl
 
 read_answer : (f : Flight) (o : Op) (n : ℕ) → answers_full (progress_read f o n).answer ≡ false
-read_answer f (op.GetPtr d q i) n = refl
+read_answer f (Op.GetPtr d q i) n = refl
 read_answer f _ n = refl
 
-call_answer : (c : Config) (m : Moment) (f : Flight) (n : ℕ) (x : Step) → group_of x ≡ group.Callers
+call_answer : (c : Config) (m : Moment) (f : Flight) (n : ℕ) (x : Step) → group_of x ≡ Group.Callers
     → answers_full (progress c m f n x).answer ≡ false
-call_answer c m f n (step.Enter o) g = either_answer (n == 0) (record { flight = begun o; answer = None })
+call_answer c m f n (Step.Enter o) g = either_answer (n == 0) (record { flight = begun o; answer = None })
     (still f) refl refl
-call_answer c m f n step.Reg g = reg_answer f f.stage n
-call_answer c m f n step.Probe g = either_answer (is_unmapped_header (header_of n)) (refused f answer.Fault)
+call_answer c m f n Step.Reg g = reg_answer f f.stage n
+call_answer c m f n Step.Probe g = either_answer (is_unmapped_header (header_of n)) (refused f Answer.Fault)
     (onward f None) refl refl
-call_answer c m f n step.Read g = read_answer f f.op n
+call_answer c m f n Step.Read g = read_answer f f.op n
 call_answer c m f n _ g = cc
 
-call_no_end : (x : Step) → group_of x ≡ group.Callers → is_end x ≡ false
-call_no_end step.End g = cc
+call_no_end : (x : Step) → group_of x ≡ Group.Callers → is_end x ≡ false
+call_no_end Step.End g = cc
 call_no_end _ g = refl
 
-marker_no_end : (x : Step) → group_of x ≡ group.Markers → is_end x ≡ false
-marker_no_end step.End g = cc
+marker_no_end : (x : Step) → group_of x ≡ Group.Markers → is_end x ≡ false
+marker_no_end Step.End g = cc
 marker_no_end _ g = refl
 
 -- one event of a seat that doesn't hold the turn
@@ -81,7 +75,7 @@ abbrev pub fulls_of : List Decided → ℕ
 fulls_of ds = count_by is_full_answer (answered ds)
 
 pub entry_fulls : (k : ℕ) (o : Op) (a : Option Answer) → answers_full a ≡ false → fulls_of (entry_of k o a) ≡ 0
-entry_fulls k o (Some answer.Full) h = cc
+entry_fulls k o (Some Answer.Full) h = cc
 entry_fulls k o _ h = refl
 
 pub fulls_append : (xs ys : List Decided) → fulls_of (xs ++ ys) ≡ fulls_of xs + fulls_of ys

@@ -1,20 +1,17 @@
 -- Events of others take no header back while a marker attends, and what points well still does.
 use Rattle.mk_laws.proofs.Vocabulary.{AreEnabledFrom, AreOfOthers, AreOfPages, Config, Event, GuardPremises}
 use Rattle.mk_laws.proofs.Vocabulary.{GuardPremisesFrom, IsMarking, IsWithinLimits, List, Marker, Moment, Page, Seat}
-use Rattle.mk_laws.proofs.Vocabulary.{Steady, Step, World, [], access, accessed_lengths, ap, enabled_meets}
-use Rattle.mk_laws.proofs.Vocabulary.{enabled_parts, false, first_world, free_page, histories_keep_lengths, left}
-use Rattle.mk_laws.proofs.Vocabulary.{left_append, left_from, refl, slice_index_or, sym, word_accessed, world_behind}
-use Rattle.mk_laws.proofs.Vocabulary.{◌++◌, ◌∙◌, ◌∷◌, ◌≡◌}
+use Rattle.mk_laws.proofs.Vocabulary.{Steady, Step, World, access, accessed_lengths, ap, enabled_meets, enabled_parts}
+use Rattle.mk_laws.proofs.Vocabulary.{false, first_world, free_page, histories_keep_lengths, left, left_append}
+use Rattle.mk_laws.proofs.Vocabulary.{left_from, refl, slice_index_or, sym, word_accessed, world_behind, [], ◌++◌, ◌∙◌}
+use Rattle.mk_laws.proofs.Vocabulary.{◌∷◌, ◌≡◌}
+use Rattle.mk_core.specs.Frames.{Attends, HeadersAreLeft}
 use Rattle.mk_laws.proofs.Basics.{Known, Meets, WorldBehind, headers_kind, is_head, known_behind, known_left}
 use Rattle.mk_laws.proofs.Basics.{wells_from}
-use Rattle.mk_core.specs.declared.events.Step.TheVariants as step
-use Rattle.mk_core.specs.Frames.{Attends, HeadersAreLeft}
-use Rattle.mk_laws.proofs.ProtocolFrames.{left_after, still_attends, other_seat, others_leave}
+use Rattle.mk_laws.proofs.ProtocolFrames.{left_after, other_seat, others_leave, still_attends}
+use Rattle.mk_laws.proofs.Wells.{is_well, well_is}
+use Rattle.mk_laws.proofs.{Changes.marks_kind, FoundHeaders.head_finds, Headers.head_keeps}
 use Rattle.mk_laws.specs.Left.{OthersLeaveHeaders, OthersLeaveWells}
-use Rattle.mk_laws.proofs.Wells.{well_is, is_well}
-use Rattle.mk_laws.proofs.Changes.{marks_kind}
-use Rattle.mk_laws.proofs.Headers.{head_keeps}
-use Rattle.mk_laws.proofs.FoundHeaders.{head_finds}
 
 headers_same : (c : Config) (w : World) → HeadersAreLeft c w w
 headers_same c w = record { some = λ p n. n; cells = λ p u cell is. is; well = λ u is. is }
@@ -31,12 +28,12 @@ headers_joined c w u v a b =
 pub headers_after : (c : Config) (w : World) (seat : Seat) (x : Step) → IsWithinLimits c → Known c w.now
     → AreOfPages c.pages w.now.words → IsMarking w.now.words → GuardPremises c w
     → Meets c w.now seat x → HeadersAreLeft c w (WorldBehind c w seat x)
-headers_after c w seat (step.Head p n) limits known len early say h =
+headers_after c w seat (Step.Head p n) limits known len early say h =
     let s = head_keeps c w.now seat p n len h (head_finds c w seat p n limits known early say h) in
     record {
       some = s.some;
       cells = λ q u cell is. (s.headers q).cell u cell is;
-      well = λ u is. well_is c (WorldBehind c w seat (step.Head p n)).now.words u
+      well = λ u is. well_is c (WorldBehind c w seat (Step.Head p n)).now.words u
           (s.wells u (is_well c w.now.words u is));
     }
 headers_after c w seat x limits known len early say h = rest x h refl
@@ -82,7 +79,6 @@ others_leave_headers c es more s limits on others say a =
 pub others_leave_wells : OthersLeaveWells
 others_leave_wells c es more s limits on others holds u is =
     let turn = ((others_leave c es more s limits on others).turn holds).0 in
-    let pages = ap (λ (x : Steady). x.pages) turn.steady in
     well_is c (left c (es ++ more)).now.words u (wells_from c (left c es).now.words (left c (es ++ more)).now.words
-    (λ p. ap (λ (ps : List Page). (slice_index_or ps p free_page).header) pages) turn.marks_grow u
-    (is_well c (left c es).now.words u is))
+    (λ p. ap (λ (ps : List Page). (slice_index_or ps p free_page).header) (ap (λ (x : Steady). x.pages) turn.steady))
+    turn.marks_grow u (is_well c (left c es).now.words u is))

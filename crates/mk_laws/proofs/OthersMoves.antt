@@ -1,25 +1,19 @@
 -- What an event may do whose seat doesn't hold the turn, while another holds it.
-use Rattle.mk_laws.proofs.Vocabulary.{Bool, Caller, Config, Flight, Host, Marker, MarkerState, Moment, Named, None, Op}
-use Rattle.mk_laws.proofs.Vocabulary.{Seat, Some, Stage, Step, Words, World, accessed, ap, arith, at_rest, begun}
-use Rattle.mk_laws.proofs.Vocabulary.{bit_or, cases_eq, eq-eqb, false, flight_of, found, group_of, if◌then◌else◌, inl}
-use Rattle.mk_laws.proofs.Vocabulary.{inr, is_attending, is_in, marker_of, ne_eqb, outside, refl, reg_access}
-use Rattle.mk_laws.proofs.Vocabulary.{register_met, set-get_or, slice_index, slice_set, still, sym, true, world_behind}
-use Rattle.mk_laws.proofs.Vocabulary.{ℕ, ◌%◌, ◌*◌, ◌+◌, ◌-◌, ◌<◌, ◌^◌, ◌∙◌, ◌≡◌, ◌≢◌, ◌≤◌}
-use Rattle.mk_core.specs.declared.events.Group.TheVariants as group
-use Rattle.mk_core.specs.declared.events.Word.TheVariants as word
-use Rattle.mk_core.specs.declared.events.Step.TheVariants as step
-use Rattle.mk_core.specs.declared.seats.Stage.TheVariants as stage
+use Rattle.mk_laws.proofs.Vocabulary.{Bool, Caller, Config, Flight, Group, Host, Marker, MarkerState, Moment, Named}
+use Rattle.mk_laws.proofs.Vocabulary.{None, Op, Seat, Some, Stage, Step, Word, Words, World, ℕ, accessed, ap, arith}
+use Rattle.mk_laws.proofs.Vocabulary.{at_rest, begun, bit_or, cases_eq, eq-eqb, false, flight_of, found, group_of}
+use Rattle.mk_laws.proofs.Vocabulary.{if◌then◌else◌, inl, inr, is_attending, is_in, marker_of, ne_eqb, outside, refl}
+use Rattle.mk_laws.proofs.Vocabulary.{reg_access, register_met, set-get_or, slice_index, slice_set, still, sym, true}
+use Rattle.mk_laws.proofs.Vocabulary.{world_behind, ◌%◌, ◌*◌, ◌+◌, ◌-◌, ◌<◌, ◌^◌, ◌∙◌, ◌≡◌, ◌≢◌, ◌≤◌}
 use Rattle.mk_core.specs.Moments.{Seats}
-use Rattle.mk_laws.proofs.Standings.{Standing, Resting, InCall, UnderTurn, Astray, standing, is_astray}
-use Rattle.mk_laws.proofs.Stages.{is_call_stage, is_reg_stage, calls_stand, regs_work}
-use Rattle.mk_laws.proofs.NextSteps.{stage_of, has_stage_of_its_own, at_its_stage, at_reg, is_take}
-use Rattle.mk_laws.proofs.Views.{view_of, HoldsTurn}
-use Rattle.mk_laws.proofs.Orderly.{shows_at, turn_of, count_in-at}
-use Rattle.mk_laws.proofs.Actors.{Meets, Actor, InCallOf, AsMarker, CallTakes, HostTakes, AsHolder}
-use Rattle.mk_laws.proofs.IdleMarkers.{work_attends, look_stays}
-use Rattle.mk_laws.proofs.Sorts.{attends_at}
-use Rattle.mk_laws.proofs.OrderlyLists.{not_astray, actor_of}
-use Rattle.mk_laws.proofs.Known.{Operands, operands_of, register_small, Known}
+use Rattle.mk_laws.proofs.Actors.{Actor, AsHolder, AsMarker, CallTakes, HostTakes, InCallOf, Meets}
+use Rattle.mk_laws.proofs.Known.{Known, Operands, operands_of, register_small}
+use Rattle.mk_laws.proofs.NextSteps.{at_its_stage, at_reg, has_stage_of_its_own, is_take, stage_of}
+use Rattle.mk_laws.proofs.Orderly.{count_in-at, shows_at, turn_of}
+use Rattle.mk_laws.proofs.Stages.{calls_stand, is_call_stage, is_reg_stage, regs_work}
+use Rattle.mk_laws.proofs.Standings.{Astray, InCall, Resting, Standing, UnderTurn, is_astray, standing}
+use Rattle.mk_laws.proofs.{IdleMarkers.look_stays, IdleMarkers.work_attends, OrderlyLists.actor_of}
+use Rattle.mk_laws.proofs.{OrderlyLists.not_astray, Sorts.attends_at, Views.HoldsTurn, Views.view_of}
 
 -- the words and the seats of a world are others
 abbrev pub with_words_seats : World → Words → Seats → World
@@ -84,17 +78,17 @@ entered w k o b = with_words_seats w (record w.now.words
     { gates = slice_set w.now.words.gates k (if b then 1 else slice_index w.now.words.gates k) })
     (record w.now.seats { flights = slice_set w.now.seats.flights k (begun_if b o (flight_of w.now (Caller k))) })
 
-enter_out : (c : Config) (w : World) (k : ℕ) (o : Op) → k < c.callers → Outs c w (Caller k) (step.Enter o)
+enter_out : (c : Config) (w : World) (k : ℕ) (o : Op) → k < c.callers → Outs c w (Caller k) (Step.Enter o)
 enter_out c w k o lt = elim (cases_eq (slice_index w.now.words.gates k) 0) [
   | inl z ↦ rw (eq-eqb _ 0 z) (Calls (begun o) lt (omega arith) (SetsGate 1 (omega arith)))
   | inr ne ↦ rw (ne_eqb _ 0 ne) (rw (set-get_or w.now.words.gates k 0) (waits_flight c w k))
 ]
 
 -- the turn is held, so nobody takes it
-take_out : (c : Config) (w : World) (k : ℕ) (o : Op) → w.now.words.turn ≢ 0 → Outs c w (Caller k) (step.Take (Some o))
+take_out : (c : Config) (w : World) (k : ℕ) (o : Op) → w.now.words.turn ≢ 0 → Outs c w (Caller k) (Step.Take (Some o))
 take_out c w k o ne = rw (ne_eqb w.now.words.turn 0 ne) (waits_flight c w k)
 
-host_take_out : (c : Config) (w : World) → w.now.words.turn ≢ 0 → Outs c w Host (step.Take None)
+host_take_out : (c : Config) (w : World) → w.now.words.turn ≢ 0 → Outs c w Host (Step.Take None)
 host_take_out c w ne = rw (ne_eqb w.now.words.turn 0 ne) Waits
 
 -- the gate of a caller in a call
@@ -126,30 +120,30 @@ reg_in_call c m k known lt is free = let g =
     by Astray e = let y : true ≡ false = ap is_astray (sym e) ∙ not_astray c m known.orderly k lt in cc
 
 reg_write : (w : Words) (k : ℕ) (f : Flight) (s : Stage) → Operands f.op
-    → CallWrite k w (accessed w (Named (word.Reg k (register_met f s))) (reg_access f s))
-reg_write w k f stage.Store o = SetsRegister (register_met f stage.Store) _ (register_small f stage.Store o)
-reg_write w k f stage.Put o = SetsRegister (register_met f stage.Put) _ (register_small f stage.Put o)
+    → CallWrite k w (accessed w (Named (Word.Reg k (register_met f s))) (reg_access f s))
+reg_write w k f Stage.Store o = SetsRegister (register_met f Stage.Store) _ (register_small f Stage.Store o)
+reg_write w k f Stage.Put o = SetsRegister (register_met f Stage.Put) _ (register_small f Stage.Put o)
 reg_write w k f _ o = CallLoads
 
 call_out : (c : Config) (w : World) (k : ℕ) (x : Step) → Known c w.now → (HoldsTurn c (view_of w.now) (Caller k) → ⊥)
-    → k < c.callers → group_of x ≡ group.Callers → Meets c w.now (Caller k) x → Outs c w (Caller k) x
-call_out c w k (step.Enter o) known out lt g h = enter_out c w k o lt
-call_out c w k step.Leave known out lt g h =
-    Calls _ lt (in_call c w.now k step.Leave known lt h refl refl) (SetsGate 0 (omega arith))
-call_out c w k step.Reg known out lt g h =
+    → k < c.callers → group_of x ≡ Group.Callers → Meets c w.now (Caller k) x → Outs c w (Caller k) x
+call_out c w k (Step.Enter o) known out lt g h = enter_out c w k o lt
+call_out c w k Step.Leave known out lt g h =
+    Calls _ lt (in_call c w.now k Step.Leave known lt h refl refl) (SetsGate 0 (omega arith))
+call_out c w k Step.Reg known out lt g h =
     let f = flight_of w.now (Caller k) in
     Calls _ lt (reg_in_call c w.now k known lt (at_reg f.stage f.op h.order) out)
     (reg_write w.now.words k f f.stage (operands_of c f.op (known.operands k)))
-call_out c w k step.Probe known out lt g h = Calls _ lt (in_call c w.now k step.Probe known lt h refl refl) CallLoads
-call_out c w k step.Read known out lt g h = Calls _ lt (in_call c w.now k step.Read known lt h refl refl) CallLoads
-call_out c w k step.Write known out lt g h =
-    Calls _ lt (in_call c w.now k step.Write known lt h refl refl) (SetsHeap _ _)
-call_out c w k step.Cas known out lt g h = Calls _ lt (in_call c w.now k step.Cas known lt h refl refl) (SetsHeap _ _)
-call_out c w k step.Getg known out lt g h = Calls _ lt (in_call c w.now k step.Getg known lt h refl refl) CallLoads
-call_out c w k step.Setg known out lt g h =
-    Calls _ lt (in_call c w.now k step.Setg known lt h refl refl) (SetsGlobal _ _)
-call_out c w k step.Dirty known out lt g h =
-    Calls _ lt (in_call c w.now k step.Dirty known lt h refl refl) (SetsDirty _)
+call_out c w k Step.Probe known out lt g h = Calls _ lt (in_call c w.now k Step.Probe known lt h refl refl) CallLoads
+call_out c w k Step.Read known out lt g h = Calls _ lt (in_call c w.now k Step.Read known lt h refl refl) CallLoads
+call_out c w k Step.Write known out lt g h =
+    Calls _ lt (in_call c w.now k Step.Write known lt h refl refl) (SetsHeap _ _)
+call_out c w k Step.Cas known out lt g h = Calls _ lt (in_call c w.now k Step.Cas known lt h refl refl) (SetsHeap _ _)
+call_out c w k Step.Getg known out lt g h = Calls _ lt (in_call c w.now k Step.Getg known lt h refl refl) CallLoads
+call_out c w k Step.Setg known out lt g h =
+    Calls _ lt (in_call c w.now k Step.Setg known lt h refl refl) (SetsGlobal _ _)
+call_out c w k Step.Dirty known out lt g h =
+    Calls _ lt (in_call c w.now k Step.Dirty known lt h refl refl) (SetsDirty _)
 call_out c w k _ known out lt g h = cc
 
 -- markers, whoever holds the turn
@@ -157,21 +151,20 @@ call_out c w k _ known out lt g h = cc
 in_counts : (c : Config) (m : Moment) (k : ℕ) → Known c m → k < 8 → is_in (marker_of m k) ≡ true → 8 ≤ m.words.phase
 in_counts c m k h lt is =
     let one = count_in-at m.seats.markers k (omega (arith, h.orderly.markers)) is in
-    let p = h.orderly.phase in
-    omega arith
+    omega (arith, h.orderly.phase)
 
-marker_out : (c : Config) (w : World) (k : ℕ) (x : Step) → Known c w.now → k < 8 → group_of x ≡ group.Markers
+marker_out : (c : Config) (w : World) (k : ℕ) (x : Step) → Known c w.now → k < 8 → group_of x ≡ Group.Markers
     → Meets c w.now (Marker k) x → Outs c w (Marker k) x
-marker_out c w k step.Attend known lt g h = Marks _ lt (ComesIn (attends_at w.now.words.phase))
-marker_out c w k step.Quit known lt g h = Marks outside lt (GoesOut refl (in_counts c w.now k known lt h.marker))
-marker_out c w k (step.Mlook y) known lt g h =
-    Marks _ lt (MarkerLoads (look_stays c (finds c w (Marker k) (step.Mlook y)) y (marker_of w.now k)))
-marker_out c w k (step.Claim p i) known lt g h = Marks _ lt (MarkerLoads refl)
-marker_out c w k step.Mload known lt g h = Marks _ lt (MarkerLoads refl)
-marker_out c w k step.Mmark known lt g h =
-    Marks _ lt (AddsMarks _ _ (work_attends c (marker_of w.now k) step.Mmark (known.orderly.idle k) h.marker refl) refl)
-marker_out c w k step.Mblack known lt g h =
-    Marks _ lt (AddsBlacks _ _ (work_attends c (marker_of w.now k) step.Mblack (known.orderly.idle k) h.marker refl)
+marker_out c w k Step.Attend known lt g h = Marks _ lt (ComesIn (attends_at w.now.words.phase))
+marker_out c w k Step.Quit known lt g h = Marks outside lt (GoesOut refl (in_counts c w.now k known lt h.marker))
+marker_out c w k (Step.Mlook y) known lt g h =
+    Marks _ lt (MarkerLoads (look_stays c (finds c w (Marker k) (Step.Mlook y)) y (marker_of w.now k)))
+marker_out c w k (Step.Claim p i) known lt g h = Marks _ lt (MarkerLoads refl)
+marker_out c w k Step.Mload known lt g h = Marks _ lt (MarkerLoads refl)
+marker_out c w k Step.Mmark known lt g h =
+    Marks _ lt (AddsMarks _ _ (work_attends c (marker_of w.now k) Step.Mmark (known.orderly.idle k) h.marker refl) refl)
+marker_out c w k Step.Mblack known lt g h =
+    Marks _ lt (AddsBlacks _ _ (work_attends c (marker_of w.now k) Step.Mblack (known.orderly.idle k) h.marker refl)
     refl)
 marker_out c w k _ known lt g h = cc
 
@@ -197,7 +190,7 @@ free_move c w seat x known free takes h = by seat x (actor_of c w.now seat x kno
     none seat t = let is = turn_of c (view_of w.now) seat known.orderly t in absurd (omega arith)
 
     by : (seat : Seat) (x : Step) → Actor c w.now seat x → is_take x ≡ false → Meets c w.now seat x → Outs c w seat x
-    by seat x (InCallOf k _ lt g) takes h = call_out c w k x known (λ t. none (Caller k) t) lt g h
+    by seat x (InCallOf k _ lt g) takes h = call_out c w k x known (none (Caller k)) lt g h
     by seat x (AsMarker k _ lt g) takes h = marker_out c w k x known lt g h
     by seat x (AsHolder _ _ t n) takes h = absurd (none seat t)
     by seat x _ takes h = cc

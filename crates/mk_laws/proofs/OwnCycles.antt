@@ -1,15 +1,13 @@
 -- The cycle that the turn's holder has begun, and how far it is.
 use Rattle.std.specs.Prelude.{⊤}
 use Rattle.mk_laws.proofs.Vocabulary.{At, Bool, Config, Cycle, Event, Holding, List, Marking, Op, Option, OwnCycle}
-use Rattle.mk_laws.proofs.Vocabulary.{Releasing, Seat, Step, World, [], ap, arith, eqb-true, false, if◌then◌else◌, inl}
+use Rattle.mk_laws.proofs.Vocabulary.{Releasing, Seat, Step, World, ℕ, ap, arith, eqb-true, false, if◌then◌else◌, inl}
 use Rattle.mk_laws.proofs.Vocabulary.{inr, is_begin, is_close, is_end, is_release, list_any, nothing_done, phase_of}
-use Rattle.mk_laws.proofs.Vocabulary.{refl, subst, sym, true, ℕ, ◌%◌, ◌++◌, ◌==◌, ◌∙◌, ◌∷◌, ◌≡◌, ◌⊎◌}
-use Rattle.mk_laws.proofs.Basics.{Meets, WorldBehind, reg_leaves, tally_keeps}
-use Rattle.mk_core.specs.declared.events.Step.TheVariants as step
+use Rattle.mk_laws.proofs.Vocabulary.{refl, subst, sym, true, [], ◌%◌, ◌++◌, ◌==◌, ◌∙◌, ◌∷◌, ◌≡◌, ◌⊎◌}
 use Rattle.mk_core.specs.declared.seats.OwnCycle.TheVariants.{Begun, Ended, NotBegun}
 use Rattle.mk_core.specs.Effects.{cycle_ended}
-use Rattle.mk_laws.proofs.Behind.{over_phase}
 use Rattle.mk_laws.proofs.Longer.{longer_at, longer_cycle, longer_marking, longer_releasing, next_at_end, none_more}
+use Rattle.mk_laws.proofs.{Basics.Meets, Basics.WorldBehind, Basics.reg_leaves, Basics.tally_keeps, Phases.over_phase}
 
 -- some event of the kind
 abbrev pub some_of : (Step → Bool) → List Event → Bool
@@ -57,31 +55,30 @@ begun_if w b =
     record w { now = record w.now { seats = record w.now.seats { holding = holding } } }
 
 take_step : (c : Config) (w : World) (seat : Seat) (o : Option Op) (b : Bool)
-    → StepsAt c w seat (step.Take o) (begun_if w b)
+    → StepsAt c w seat (Step.Take o) (begun_if w b)
 take_step c w seat o true = Drops refl
 take_step c w seat o false = Stays (record { close = refl; release = refl; end = refl }) refl refl
 
 pub cycle_step : (c : Config) (w : World) (seat : Seat) (x : Step) → Meets c w.now seat x
     → StepsAt c w seat x (WorldBehind c w seat x)
-cycle_step c w seat (step.Take o) h = take_step c w seat o (w.now.words.turn == 0)
-cycle_step c w seat step.Give h = Drops refl
-cycle_step c w seat step.Reg h =
+cycle_step c w seat (Step.Take o) h = take_step c w seat o (w.now.words.turn == 0)
+cycle_step c w seat Step.Give h = Drops refl
+cycle_step c w seat Step.Reg h =
     Stays (record { close = refl; release = refl; end = refl }) refl (ap (λ n. n % 8) (reg_leaves c w seat).phase)
-cycle_step c w seat (step.Tally n v) h =
+cycle_step c w seat (Step.Tally n v) h =
     let same = (tally_keeps w.now.words n v).phase in
     Stays (record { close = refl; release = refl; end = refl }) refl (ap (λ m. m % 8) same)
-cycle_step c w seat step.Begin h =
-    let e = eqb-true _ 0 h.phase in Begins refl refl (omega arith)
-cycle_step c w seat step.Want h =
+cycle_step c w seat Step.Begin h = Begins refl refl (omega (arith, eqb-true _ 0 h.phase))
+cycle_step c w seat Step.Want h =
     let e = eqb-true _ 1 h.phase in Wants refl e refl (omega arith)
-cycle_step c w seat step.Close h =
+cycle_step c w seat Step.Close h =
     let e = eqb-true _ 2 h.phase in Closes refl e refl (omega arith)
-cycle_step c w seat step.Release h =
+cycle_step c w seat Step.Release h =
     let e = eqb-true _ 3 h.phase in Frees refl e refl (omega arith)
-cycle_step c w seat step.End h = Ends refl (eqb-true _ 4 h.phase) refl
-cycle_step c w seat step.Attend h = Stays (record { close = refl; release = refl; end = refl }) refl (omega arith)
-cycle_step c w seat step.Quit h = Stays (record { close = refl; release = refl; end = refl }) refl (omega arith)
-cycle_step c w seat step.Over h = Overs (over_phase c w seat h) refl
+cycle_step c w seat Step.End h = Ends refl (eqb-true _ 4 h.phase) refl
+cycle_step c w seat Step.Attend h = Stays (record { close = refl; release = refl; end = refl }) refl (omega arith)
+cycle_step c w seat Step.Quit h = Stays (record { close = refl; release = refl; end = refl }) refl (omega arith)
+cycle_step c w seat Step.Over h = Overs (over_phase c w.now seat h) refl
 cycle_step c w seat _ h = Stays (record { close = refl; release = refl; end = refl }) refl refl
 
 -- So what is said of the events is told with one more.

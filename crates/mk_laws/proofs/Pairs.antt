@@ -1,13 +1,11 @@
 -- Two lists that are changed at one place together, and facts on images under changes of what they read.
 use Rattle.std.proofs.Common.{set}
-use Rattle.mk_laws.proofs.Vocabulary.{Carries, Flight, IsMet, IsSound, List, NeverState, Op, Ptr, Stage, Value}
+use Rattle.mk_laws.proofs.Vocabulary.{Carries, Flight, IsMet, IsSound, List, NeverState, Op, Ptr, Stage, Value, ℕ}
 use Rattle.mk_laws.proofs.Vocabulary.{address_of, allocation_at, ap, arith, cases_eq, d_of, eq-eqb, false, get_or}
 use Rattle.mk_laws.proofs.Vocabulary.{get_or-set_other, get_or-set_same, get_or_append_left, has_p, has_r, has_some_p}
 use Rattle.mk_laws.proofs.Vocabulary.{image_of, inl, inr, is_past_probe, is_put, is_unmapped, length, ne_eqb, refl}
-use Rattle.mk_laws.proofs.Vocabulary.{shown, sym, true, words_of, ℕ, ◌++◌, ◌+◌, ◌<◌, ◌∙◌, ◌≡◌, ◌≢◌}
-use Rattle.mk_core.specs.declared.seats.Stage.TheVariants as stage
-use Rattle.mk_laws.specs.Images.{has_q, has_some_q, owes}
-use Rattle.mk_laws.proofs.ImagesMoves.{is_bare}
+use Rattle.mk_laws.proofs.Vocabulary.{shown, sym, true, words_of, ◌++◌, ◌+◌, ◌<◌, ◌∙◌, ◌≡◌, ◌≢◌}
+use Rattle.mk_laws.{proofs.ImagesMoves.is_bare, specs.Images.has_q, specs.Images.has_some_q, specs.Images.owes}
 
 pub set_both : {A B : Type 0} (P : A → B → Type 0) (xs : List A) (ys : List B) (k i : ℕ) (x dx : A) (y dy : B)
     → k < length xs → k < length ys → (i ≡ k → P x y) → (i ≢ k → P (get_or xs i dx) (get_or ys i dy))
@@ -31,25 +29,25 @@ bare_carries bs f a b d h =
   where
     none : (s : Stage) (o : Op) → is_bare s ≡ true → (has_q s o ≡ false) × (has_some_q s o ≡ false)
         × (has_p s o ≡ false) × (has_some_p s o ≡ false) × (has_r s o ≡ false)
-    none stage.Idle o h = (refl, refl, refl, refl, refl)
-    none stage.Getg o h = (refl, refl, refl, refl, refl)
-    none stage.Dirty o h = (refl, refl, refl, refl, refl)
-    none stage.Leave o h = (refl, refl, refl, refl, refl)
-    none stage.Give o h = (refl, refl, refl, refl, refl)
+    none Stage.Idle o h = (refl, refl, refl, refl, refl)
+    none Stage.Getg o h = (refl, refl, refl, refl, refl)
+    none Stage.Dirty o h = (refl, refl, refl, refl, refl)
+    none Stage.Leave o h = (refl, refl, refl, refl, refl)
+    none Stage.Give o h = (refl, refl, refl, refl, refl)
     none _ o h = cc
 
-pub put_carries : (bs : List ℕ) (f : Flight) (a b d : Value) → f.stage ≡ stage.Put → Carries bs f a b d
+pub put_carries : (bs : List ℕ) (f : Flight) (a b d : Value) → f.stage ≡ Stage.Put → Carries bs f a b d
 put_carries bs f a b d h =
     record {
-      q = λ e. let x : has_q stage.Put f.op ≡ true = rw h at e in cc;
-      some_q = λ e. let x : has_some_q stage.Put f.op ≡ true = rw h at e in cc;
-      p = λ e. let x : has_p stage.Put f.op ≡ true = rw h at e in cc;
-      some_p = λ e. let x : has_some_p stage.Put f.op ≡ true = rw h at e in cc;
-      r = λ e. let x : has_r stage.Put f.op ≡ true = rw h at e in cc;
+      q = λ e. let x : has_q Stage.Put f.op ≡ true = rw h at e in cc;
+      some_q = λ e. let x : has_some_q Stage.Put f.op ≡ true = rw h at e in cc;
+      p = λ e. let x : has_p Stage.Put f.op ≡ true = rw h at e in cc;
+      some_p = λ e. let x : has_some_p Stage.Put f.op ≡ true = rw h at e in cc;
+      r = λ e. let x : has_r Stage.Put f.op ≡ true = rw h at e in cc;
     }
 
 pub bare_unprobed : (s : Stage) → is_bare s ≡ true → is_past_probe s ≡ false
-bare_unprobed stage.Read h = cc
+bare_unprobed Stage.Read h = cc
 bare_unprobed _ h = cc
 
 -- what a flight shows of a register
@@ -57,17 +55,17 @@ pub shows_plain : (f : Flight) (r x : ℕ) → is_put f.stage ≡ false → show
 shows_plain f r x h = rw (none f.stage (d_of f.op) r h)
   where
     none : (s : Stage) (d r : ℕ) → is_put s ≡ false → owes s d r ≡ false
-    none stage.Put d r h = cc
+    none Stage.Put d r h = cc
     none _ d r h = refl
 
-pub shows_owed : (f : Flight) (x : ℕ) → f.stage ≡ stage.Put → shown f (d_of f.op) x ≡ f.loaded
+pub shows_owed : (f : Flight) (x : ℕ) → f.stage ≡ Stage.Put → shown f (d_of f.op) x ≡ f.loaded
 shows_owed f x h = rw h (rw (eq-eqb (d_of f.op) (d_of f.op) refl))
 
-pub shows_other : (f : Flight) (r x : ℕ) → f.stage ≡ stage.Put → d_of f.op ≢ r → shown f r x ≡ x
+pub shows_other : (f : Flight) (r x : ℕ) → f.stage ≡ Stage.Put → d_of f.op ≢ r → shown f r x ≡ x
 shows_other f r x h ne = rw h (rw (ne_eqb (d_of f.op) r ne))
 
 pub bare_owes_nothing : (s : Stage) → is_bare s ≡ true → is_put s ≡ false
-bare_owes_nothing stage.Put h = cc
+bare_owes_nothing Stage.Put h = cc
 bare_owes_nothing _ h = refl
 
 -- images with one more base

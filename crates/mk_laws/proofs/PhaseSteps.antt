@@ -1,52 +1,33 @@
 -- The phase along a cycle: it marks up to the `close`, and stays where it is up to the `release` and the `end`.
-use Rattle.mk_laws.proofs.Vocabulary.{Config, IsMarking, Moment, Seat, Step, arith, eqb-true, false, inl, inr, is_begin}
-use Rattle.mk_laws.proofs.Vocabulary.{is_close, is_end, is_release, phase_of, refl, sym, true≢false, ℕ, ◌∙◌, ◌≡◌, ◌≤◌}
-use Rattle.mk_laws.proofs.Vocabulary.{◌⊎◌}
-use Rattle.mk_laws.proofs.Basics.{Behind, Meets, either_phase, is_grant, over_phase}
-use Rattle.mk_core.specs.declared.events.Step.TheVariants as step
-use Rattle.mk_laws.proofs.Phases.{is_phase_step, phase_stays}
-
-none_begins : (x : Step) → is_phase_step x ≡ false → is_begin x ≡ false
-none_begins step.Begin stays = cc
-none_begins _ stays = refl
-
-none_releases : (x : Step) → is_phase_step x ≡ false → is_release x ≡ false
-none_releases step.Release stays = cc
-none_releases _ stays = refl
+use Rattle.mk_laws.proofs.Vocabulary.{Config, IsMarking, Moment, Seat, Step, ℕ, ap, arith, cases_lt, false, inl, inr}
+use Rattle.mk_laws.proofs.Vocabulary.{is_begin, is_close, is_end, is_release, phase_of, refl, subst, sym, true≢false}
+use Rattle.mk_laws.proofs.Vocabulary.{◌∙◌, ◌≡◌, ◌≤◌, ◌⊎◌}
+use Rattle.mk_laws.proofs.CyclePhases.{AsksPhase, IsMarking as IsMarkingPhase, marking_step, phase_asked, phase_behind}
+use Rattle.mk_laws.proofs.CyclePhases.{phase_moves}
+use Rattle.mk_laws.proofs.Basics.{Behind, Meets, either_phase, is_grant}
 
 pub record GoesOnMarking (c : Config) (m : Moment) (seat : Seat) (x : Step) : Type 0 where
   pub early : IsMarking (Behind c m seat x).words
   pub begun : is_begin x ≡ false
   pub released : is_release x ≡ false
 
-not_at : (n p : ℕ) → (n ≡ 1) ⊎ (n ≡ 2) → n ≡ p → (p ≡ 0) ⊎ (3 ≤ p) → ⊥
-not_at n p (inl e) at (inl z) = absurd (omega arith)
-not_at n p (inl e) at (inr le) = absurd (omega arith)
-not_at n p (inr e) at (inl z) = absurd (omega arith)
-not_at n p (inr e) at (inr le) = absurd (omega arith)
+within : (n : ℕ) → (n ≡ 1) ⊎ (n ≡ 2) → IsMarkingPhase n
+within n (inl e) = record { least = omega arith; most = omega arith }
+within n (inr e) = record { least = omega arith; most = omega arith }
+
+one_of : (n : ℕ) → IsMarkingPhase n → (n ≡ 1) ⊎ (n ≡ 2)
+one_of n m = elim (cases_lt n 2) [ inl lt ↦ inl (omega (arith, m.least)) | inr le ↦ inr (omega (arith, m.most)) ]
 
 -- While it marks, what isn't a `close` leaves it marking.
 pub marking_goes_on : (c : Config) (m : Moment) (seat : Seat) (x : Step) → IsMarking m.words → Meets c m seat x
     → is_close x ≡ false → GoesOnMarking c m seat x
-marking_goes_on c m seat step.Begin early h other = absurd (not_at _ 0 early (eqb-true _ 0 h.phase) (inl refl))
-marking_goes_on c m seat step.Want early h other =
-    let one = eqb-true _ 1 h.phase in
-    record { early = inr (omega arith); begun = refl; released = refl }
-marking_goes_on c m seat step.Close early h other = cc
-marking_goes_on c m seat step.Release early h other =
-    absurd (not_at _ 3 early (eqb-true _ 3 h.phase) (inr (omega arith)))
-marking_goes_on c m seat step.End early h other = absurd (not_at _ 4 early (eqb-true _ 4 h.phase) (inr (omega arith)))
-marking_goes_on c m seat step.Over early h other = absurd (not_at _ 0 early (over_phase c m seat h) (inl refl))
-marking_goes_on c m seat x early h other = rest x refl
-  where
-    rest : (x : Step) → is_phase_step x ≡ false → GoesOnMarking c m seat x
-    rest x stays =
-        let same = phase_stays c m seat x stays in
-        record {
-          early = elim early [ inl e ↦ inl (same ∙ e) | inr e ↦ inr (same ∙ e) ];
-          begun = none_begins x stays;
-          released = none_releases x stays;
-        }
+marking_goes_on c m seat x early h other =
+    let one = marking_step x _ (phase_asked c m seat x h) (within _ early) other in
+    record {
+      early = one_of _ (subst IsMarkingPhase (sym (phase_moves c m seat x h)) one.0);
+      begun = one.1;
+      released = one.2;
+    }
 
 -- After the `close` neither a `begin` nor a grant comes: the phase waits for the `release`, and then for the `end`.
 pub record Waits (c : Config) (m : Moment) (seat : Seat) (x : Step) (p : ℕ) : Type 0 where
@@ -54,21 +35,31 @@ pub record Waits (c : Config) (m : Moment) (seat : Seat) (x : Step) (p : ℕ) : 
   pub begun : is_begin x ≡ false
   pub granted : is_grant x ≡ false
 
+waiting_step : (x : Step) (p : ℕ) → 3 ≤ p → AsksPhase x p → (p ≡ 3 → is_release x ≡ false) → (p ≡ 4 → is_end x ≡ false)
+    → (phase_behind x p ≡ p) × (is_begin x ≡ false)
+waiting_step Step.Begin p late asks out past = absurd (omega arith)
+waiting_step Step.Want p late asks out past = absurd (omega arith)
+waiting_step Step.Close p late asks out past = absurd (omega arith)
+waiting_step Step.Release p late asks out past = absurd (true≢false (out asks))
+waiting_step Step.End p late asks out past = absurd (true≢false (past asks))
+waiting_step Step.Over p late asks out past = absurd (omega arith)
+waiting_step _ p late asks out past = (refl, refl)
+
+no_grant : (c : Config) (m : Moment) (seat : Seat) (x : Step) → 3 ≤ phase_of m.words → Meets c m seat x
+    → is_grant x ≡ false
+no_grant c m seat Step.Grant late h =
+    elim (either_phase (phase_of m.words) 0 1 h.phase) [ inl e ↦ absurd (omega arith) | inr e ↦ absurd (omega arith) ]
+no_grant c m seat _ late h = refl
+
 waits : (c : Config) (m : Moment) (seat : Seat) (x : Step) (p : ℕ) → 3 ≤ p → phase_of m.words ≡ p → Meets c m seat x
     → (p ≡ 3 → is_release x ≡ false) → (p ≡ 4 → is_end x ≡ false) → Waits c m seat x p
-waits c m seat step.Begin p late at h out past = let z = eqb-true _ 0 h.phase in absurd (omega arith)
-waits c m seat step.Want p late at h out past = let z = eqb-true _ 1 h.phase in absurd (omega arith)
-waits c m seat step.Close p late at h out past = let z = eqb-true _ 2 h.phase in absurd (omega arith)
-waits c m seat step.Release p late at h out past = absurd (true≢false (out (sym at ∙ eqb-true _ 3 h.phase)))
-waits c m seat step.End p late at h out past = absurd (true≢false (past (sym at ∙ eqb-true _ 4 h.phase)))
-waits c m seat step.Over p late at h out past = let z = over_phase c m seat h in absurd (omega arith)
-waits c m seat step.Grant p late at h out past =
-    elim (either_phase (phase_of m.words) 0 1 h.phase) [ inl e ↦ absurd (omega arith) | inr e ↦ absurd (omega arith) ]
-waits c m seat x p late at h out past = rest x refl refl
-  where
-    rest : (x : Step) → is_phase_step x ≡ false → is_grant x ≡ false → Waits c m seat x p
-    rest x stays other =
-        record { phase = phase_stays c m seat x stays ∙ at; begun = none_begins x stays; granted = other }
+waits c m seat x p late at h out past =
+    let one = waiting_step x p late (subst (AsksPhase x) at (phase_asked c m seat x h)) out past in
+    record {
+      phase = phase_moves c m seat x h ∙ ap (phase_behind x) at ∙ one.0;
+      begun = one.1;
+      granted = no_grant c m seat x (omega arith) h;
+    }
 
 pub stopped_waits : (c : Config) (m : Moment) (seat : Seat) (x : Step) → phase_of m.words ≡ 3 → Meets c m seat x
     → is_release x ≡ false → Waits c m seat x 3

@@ -1,10 +1,7 @@
 -- The phase that a condition names, and the phase after a step.
-use Rattle.mk_laws.proofs.Vocabulary.{Bool, Config, Moment, Seat, Step, and_parts, ap, arith, eqb-true, false, inl, inr}
-use Rattle.mk_laws.proofs.Vocabulary.{or_cases, phase_of, true, ℕ, ◌%◌, ◌==◌, ◌||◌, ◌≡◌, ◌⊎◌}
-use Rattle.mk_core.specs.declared.events.Step.TheVariants as step
-use Rattle.mk_laws.proofs.Actors.{Meets}
-use Rattle.mk_laws.proofs.SameWords.{Behind}
-use Rattle.mk_laws.proofs.Changes.{Table, reg_table, tally_table}
+use Rattle.mk_laws.proofs.Vocabulary.{Bool, Config, Moment, Seat, Step, ℕ, and_parts, ap, arith, eqb-true, false, inl}
+use Rattle.mk_laws.proofs.Vocabulary.{inr, or_cases, phase_of, true, ◌%◌, ◌==◌, ◌||◌, ◌≡◌, ◌⊎◌}
+use Rattle.mk_laws.proofs.{Actors.Meets, Changes.Table, Changes.reg_table, Changes.tally_table, SameWords.Behind}
 
 pub either_phase : (n a b : ℕ) → ((n == a) || (n == b)) ≡ true → (n ≡ a) ⊎ (n ≡ b)
 either_phase n a b h = elim (or_cases (n == a) (n == b) h) [
@@ -15,21 +12,21 @@ either_phase n a b h = elim (or_cases (n == a) (n == b) h) [
 -- six kinds change it
 
 abbrev pub is_phase_step : Step → Bool
-is_phase_step step.Begin = true
-is_phase_step step.Want = true
-is_phase_step step.Close = true
-is_phase_step step.Release = true
-is_phase_step step.End = true
-is_phase_step step.Over = true
+is_phase_step Step.Begin = true
+is_phase_step Step.Want = true
+is_phase_step Step.Close = true
+is_phase_step Step.Release = true
+is_phase_step Step.End = true
+is_phase_step Step.Over = true
 is_phase_step _ = false
 
 pub phase_stays : (c : Config) (m : Moment) (seat : Seat) (x : Step) → is_phase_step x ≡ false
     → phase_of (Behind c m seat x).words ≡ phase_of m.words
-phase_stays c m seat step.Reg no_change = ap (λ (t : Table). t.phase % 8) (reg_table c m seat)
-phase_stays c m seat (step.Tally n v) no_change = ap (λ (t : Table). t.phase % 8) (tally_table m.words n v)
-phase_stays c m seat step.Attend no_change = omega arith
-phase_stays c m seat step.Quit no_change = omega arith
+phase_stays c m seat Step.Reg no_change = ap (λ (t : Table). t.phase % 8) (reg_table c m seat)
+phase_stays c m seat (Step.Tally n v) no_change = ap (λ (t : Table). t.phase % 8) (tally_table m.words n v)
+phase_stays c m seat Step.Attend no_change = omega arith
+phase_stays c m seat Step.Quit no_change = omega arith
 phase_stays c m seat _ no_change = cc
 
-pub over_phase : (c : Config) (m : Moment) (seat : Seat) → Meets c m seat step.Over → phase_of m.words ≡ 0
+pub over_phase : (c : Config) (m : Moment) (seat : Seat) → Meets c m seat Step.Over → phase_of m.words ≡ 0
 over_phase c m seat h = eqb-true _ 0 (and_parts _ _ h.holder).1

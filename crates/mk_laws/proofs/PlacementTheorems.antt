@@ -2,19 +2,15 @@
 use Rattle.std.specs.Prelude.{IsSome}
 use Rattle.mk_laws.proofs.Vocabulary.{Caller, Config, Event, Holding, IsHistory, List, Moment, None, Object}
 use Rattle.mk_laws.proofs.Vocabulary.{OfHistories, Option, OwnCycle, Page, Place, Placing, Seat, Some, Step, Unplaced}
-use Rattle.mk_laws.proofs.Vocabulary.{Used, World, ap, arith, eqb-true, false, flight_of, granted_base, is_none}
+use Rattle.mk_laws.proofs.Vocabulary.{Used, World, ℕ, ap, arith, eqb-true, false, flight_of, granted_base, is_none}
 use Rattle.mk_laws.proofs.Vocabulary.{is_phase, is_undecided_new, is_used_once, left, may_answer_full, ne_eqb, phase_of}
-use Rattle.mk_laws.proofs.Vocabulary.{place_on_pages, refl, subst, sym, true, true≢false, ℕ, ◌++◌, ◌<◌, ◌∙◌, ◌∷◌, ◌≡◌}
-use Rattle.mk_laws.proofs.Basics.{Meets, before_it, grants_new, held_place, new_holds}
-use Rattle.mk_core.specs.declared.events.Step.TheVariants as step
+use Rattle.mk_laws.proofs.Vocabulary.{place_on_pages, refl, subst, sym, true, true≢false, ◌++◌, ◌<◌, ◌∙◌, ◌∷◌, ◌≡◌}
 use Rattle.mk_core.specs.declared.seats.OwnCycle.TheVariants.{Ended}
-use Rattle.mk_core.specs.Placement.{FullsFitNowhere, GrantsStandAtTheirPlaces, FindsNoPlace, StandsAtItsPlace}
+use Rattle.mk_core.specs.Placement.{FindsNoPlace, FullsFitNowhere, GrantsStandAtTheirPlaces, StandsAtItsPlace}
 use Rattle.mk_core.specs.Placement.{object_at}
-use Rattle.mk_laws.proofs.Actors.{fills_new}
-use Rattle.mk_laws.proofs.InvariantTheorems.{first_fit_finds_the_place}
-use Rattle.mk_laws.proofs.OwnCycles.{HasCycle}
-use Rattle.mk_laws.proofs.Tracked.{HasPlace, news_are_tracked, unplaced_settles}
-use Rattle.mk_laws.proofs.Undecided.{HasNew}
+use Rattle.mk_laws.proofs.Basics.{Meets, before_it, grants_new, held_place, new_holds}
+use Rattle.mk_laws.proofs.{Actors.fills_new, InvariantTheorems.first_fit_finds_the_place, OwnCycles.HasCycle}
+use Rattle.mk_laws.proofs.{Tracked.HasPlace, Tracked.news_are_tracked, Tracked.unplaced_settles, Undecided.HasNew}
 
 -- What holds where a caller with an undecided New makes a step of this kind holds where any seat makes it.
 at_each : (c : Config) (x : Step) (claim : List Event → Seat → Type 0)
@@ -26,17 +22,16 @@ at_each : (c : Config) (x : Step) (claim : List Event → Seat → Type 0)
 at_each c x claim news there es before e behind h is kind =
     let here = before_it c es before e behind h is in
     let m : Moment = (left c before).now in
-    let meets : Meets c m e.seat x = subst (λ (y : Step). Meets c m e.seat y) kind here.1 in
-    let new = news m e.seat meets in
-    let own = new_holds c m e.seat x meets new in
-    subst (λ (s : Seat). claim before s) (sym own.2)
-    (there before own.0 here.0 own.1 (subst (λ (s : Seat). is_undecided_new (flight_of m s) ≡ true) own.2 new)
-    (subst (λ (s : Seat). Meets c m s x) own.2 meets))
+    let meets : Meets c m e.seat x = subst (Meets c m e.seat) kind here.1 in
+    let own = new_holds c m e.seat x meets (news m e.seat meets) in
+    subst (claim before) (sym own.2)
+    (there before own.0 here.0 own.1 (subst (λ (s : Seat). is_undecided_new (flight_of m s) ≡ true) own.2
+    (news m e.seat meets)) (subst (λ (s : Seat). Meets c m s x) own.2 meets))
 
 -- `grant`
 
 granted_there : (c : Config) (es : List Event) (k : ℕ) → IsHistory c es → k < c.callers → HasNew (left c es) k
-    → Meets c (left c es).now (Caller k) step.Grant → StandsAtItsPlace c es (Caller k)
+    → Meets c (left c es).now (Caller k) Step.Grant → StandsAtItsPlace c es (Caller k)
 granted_there c es k h lt new meets = by (left c es).now.seats.holding.placing refl meets.holder
   where
     o : Object
@@ -59,7 +54,7 @@ granted_there c es k h lt new meets = by (left c es).now.seats.holding.placing r
 
 pub grants_stand_at_their_places : OfHistories GrantsStandAtTheirPlaces
 grants_stand_at_their_places c es h before e behind is =
-    at_each c step.Grant (StandsAtItsPlace c) (grants_new c) (granted_there c) es before e behind h is
+    at_each c Step.Grant (StandsAtItsPlace c) (grants_new c) (granted_there c) es before e behind h is
 
 -- `full`
 
@@ -74,7 +69,7 @@ none_is_there None is some = true≢false (sym some)
 none_is_there (Some place) is some = true≢false (sym is)
 
 full_there : (c : Config) (es : List Event) (k : ℕ) → IsHistory c es → k < c.callers → HasNew (left c es) k
-    → Meets c (left c es).now (Caller k) step.Full → FindsNoPlace c es (Caller k)
+    → Meets c (left c es).now (Caller k) Step.Full → FindsNoPlace c es (Caller k)
 full_there c es k h lt new meets =
     let w : World = left c es in
     let o : Object = object_at c es (Caller k) in
@@ -92,4 +87,4 @@ full_there c es k h lt new meets =
 
 pub fulls_fit_nowhere : OfHistories FullsFitNowhere
 fulls_fit_nowhere c es h before e behind is =
-    at_each c step.Full (FindsNoPlace c) (fills_new c) (full_there c) es before e behind h is
+    at_each c Step.Full (FindsNoPlace c) (fills_new c) (full_there c) es before e behind h is

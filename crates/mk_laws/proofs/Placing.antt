@@ -1,18 +1,18 @@
 -- The steps of a New: its place is chosen, its pages get their headers one by one, and its cell is taken.
 use Rattle.mk_laws.proofs.Vocabulary.{Among, AreApart, Bool, Claim, HasItsHead, InPlot, IsClaimed, IsLaidOn}
 use Rattle.mk_laws.proofs.Vocabulary.{IsOfOneCell, IsPlotShown, IsShown, IsSized, Later, LayoutScene, List, Mapped}
-use Rattle.mk_laws.proofs.Vocabulary.{NoPlot, Object, Page, Plotted, ShowsPart, Some, [], ap, arith, cases_eq}
+use Rattle.mk_laws.proofs.Vocabulary.{NoPlot, Object, Page, Plotted, ShowsPart, Some, ℕ, ap, arith, cases_eq}
 use Rattle.mk_laws.proofs.Vocabulary.{cells_made, cells_under, false, has_bit, head_on, header_made, header_of}
 use Rattle.mk_laws.proofs.Vocabulary.{header_on, inl, inr, is_released_on, length, length-set, made_shows, pages_made}
 use Rattle.mk_laws.proofs.Vocabulary.{pages_some, part_cells, refl, run_count, shown_later, shows_on, stands, subst}
-use Rattle.mk_laws.proofs.Vocabulary.{sym, true, true≢false, used_on, ℕ, ◌++◌, ◌+◌, ◌-◌, ◌<◌, ◌^◌, ◌∙◌, ◌∷◌, ◌≡◌, ◌≢◌}
+use Rattle.mk_laws.proofs.Vocabulary.{sym, true, true≢false, used_on, [], ◌++◌, ◌+◌, ◌-◌, ◌<◌, ◌^◌, ◌∙◌, ◌∷◌, ◌≡◌, ◌≢◌}
 use Rattle.mk_laws.proofs.Vocabulary.{◌≤◌, ◌⊎◌}
 use Rattle.mk_core.proofs.WordBits.{added_here, added_other}
-use Rattle.mk_laws.specs.LayoutScene.{IsTakenCell}
-use Rattle.mk_laws.proofs.Releasing.{headed_here, headed_other, headed_used, used_header, used_here, used_other}
-use Rattle.mk_laws.proofs.Releasing.{with_header_on, with_used_on, head_of_other, shown_beside}
 use Rattle.mk_laws.proofs.LayoutReadings.{claimed_head, claimed_some, free_unused, none_set, zero_where_none}
+use Rattle.mk_laws.proofs.Releasing.{head_of_other, headed_here, headed_other, headed_used, shown_beside, used_header}
+use Rattle.mk_laws.proofs.Releasing.{used_here, used_other, with_header_on, with_used_on}
 use Rattle.mk_laws.proofs.Unmapping.{part_count}
+use Rattle.mk_laws.specs.LayoutScene.{IsTakenCell}
 
 -- the place is chosen: its pages are free
 abbrev pub ChosenAt : LayoutScene → ℕ → Object → LayoutScene
@@ -55,7 +55,7 @@ layout_carved s first o d laid plotted off next =
     let n : ℕ = header_made o d in
     record {
       shown = λ x among. shown_beside s.pages p n x lt (laid.shown x among)
-          (λ e le at. claimed_some s.pages x e (laid.shown x among) le (ap (λ q. header_on s.pages q) at ∙ was));
+          (λ e le at. claimed_some s.pages x e (laid.shown x among) le (ap (header_on s.pages) at ∙ was));
       apart = laid.apart;
       used = λ q k h. elim (cases_eq q p) [
         | inl e ↦ absurd (none_set (used_on s.pages p) k (free_unused s p laid was) (rw (← e) (old q k h)))
@@ -233,10 +233,9 @@ module _ (s : LayoutScene) (x : Claim) (n : ℕ) (laid : IsLaidOn s) (t : Takes 
   used : (p k : ℕ) → has_bit (used_on after p) k ≡ true → IsTakenCell (Taken s x n) p k
   used p k h = elim (both (cases_eq p x.page) (cases_eq k x.index)) [
     | inl at ↦
-        let inside = t.index in
         let cells = cells_here in (
           rw (ap (λ h. cells_under (header_of h)) (used_header s.pages x.page n p lt)
-              ∙ ap (λ i. cells_under (shows_on s.pages i)) at.0 ∙ cells) (let e = at.1 in omega arith),
+              ∙ ap (λ i. cells_under (shows_on s.pages i)) at.0 ∙ cells) (let e = at.1 in omega (arith, t.index)),
           inl (record { claim = x; among = among_last s.claims x; page = sym at.0; index = sym at.1 }),
         )
     | inr other ↦
@@ -270,7 +269,7 @@ module _ (s : LayoutScene) (x : Claim) (n : ℕ) (laid : IsLaidOn s) (t : Takes 
       let high = here.1 in
       let at : x.page + (q - x.page) ≡ q = omega arith in
       let head : head_on after q ≡ x.page = rw (← at) (claimed_head after x (q - x.page) own (omega arith)) in
-      none_set _ x.index (ap (λ i. used_on after i) (sym head) ∙ empty) here_set
+      none_set _ x.index (ap (used_on after) (sym head) ∙ empty) here_set
 
   pub layout_taken : IsLaidOn (Taken s x n)
   layout_taken =

@@ -2,24 +2,18 @@
 use Rattle.std.proofs.Math.Bool.{and-false}
 use Rattle.mk_laws.proofs.Vocabulary.{AsChosen, AsUsed, Bool, ByFit, Caller, Chosen, Config, Flight, Holding, Host}
 use Rattle.mk_laws.proofs.Vocabulary.{IsPlaced, Marker, Moment, None, Object, Option, Place, Placing, RunPages, Seat}
-use Rattle.mk_laws.proofs.Vocabulary.{Some, Step, Unplaced, Used, World, and_parts, ap, arith, at_rest, carves}
-use Rattle.mk_laws.proofs.Vocabulary.{cases_eq, chosen, eqb-true, false, false_from_ne_true, flight_of, found}
+use Rattle.mk_laws.proofs.Vocabulary.{Some, Stage, Step, Unplaced, Used, World, ℕ, and_parts, ap, arith, at_rest}
+use Rattle.mk_laws.proofs.Vocabulary.{carves, cases_eq, chosen, eqb-true, false, false_from_ne_true, flight_of, found}
 use Rattle.mk_laws.proofs.Vocabulary.{get_or-set_same, if◌then◌else◌, inl, inr, is_phase, is_undecided_new}
 use Rattle.mk_laws.proofs.Vocabulary.{is_used_once, marks_is, marks_place, ne_eqb, not, object_made, or_cases, phase_of}
 use Rattle.mk_laws.proofs.Vocabulary.{place_by_placing, place_now, place_on_pages, placed_now, progress, refl, subst}
-use Rattle.mk_laws.proofs.Vocabulary.{sym, taken, takes_cell, true, true≢false, undecided_new, unmaps, ℕ, ◌&&◌, ◌<◌}
-use Rattle.mk_laws.proofs.Vocabulary.{◌==◌, ◌||◌, ◌∙◌, ◌≡◌, ◌≢◌}
+use Rattle.mk_laws.proofs.Vocabulary.{sym, taken, takes_cell, true, true≢false, undecided_new, unmaps, ◌&&◌, ◌<◌, ◌==◌}
+use Rattle.mk_laws.proofs.Vocabulary.{◌||◌, ◌∙◌, ◌≡◌, ◌≢◌}
+use Rattle.mk_core.{proofs.ServingSteps.carves_is, proofs.ServingSteps.takes_is, specs.Placement.serves}
 use Rattle.mk_laws.proofs.Basics.{HoldsTurn, Known, Meets, WorldBehind, at_no_take, held_place, new_has_turn}
 use Rattle.mk_laws.proofs.Basics.{none_on_its_way, same_holder, turn_of, view_of}
-use Rattle.mk_core.specs.declared.events.Step.TheVariants as step
-use Rattle.mk_core.specs.declared.seats.Stage.TheVariants as stage
-use Rattle.mk_core.specs.Placement.{serves}
-use Rattle.mk_core.proofs.ServingSteps.{carves_is, takes_is}
-use Rattle.mk_laws.proofs.NewPlace.{give_no_new}
-use Rattle.mk_laws.proofs.NextSteps.{at_take}
-use Rattle.mk_laws.proofs.OthersMoves.{others_move}
 use Rattle.mk_laws.proofs.Undecided.{HasNew, new_holds_turn, new_object}
-use Rattle.mk_laws.proofs.TurnFrame.{holding_out}
+use Rattle.mk_laws.proofs.{NewPlace.give_no_new, NextSteps.at_take, OthersMoves.others_move, TurnFrame.holding_out}
 
 -- the tests of a step that serves, where the place of now is this one
 
@@ -41,9 +35,9 @@ none_to_serve c m f x out = by x
         (object_made c f.op) m.seats.holding.placing else None) out
 
     by : (x : Step) → serves c m f x ≡ false
-    by (step.Head p n) = ap (λ (x : Option Place). not (is_phase m.words 4) && carves_at c m f p n x) none ∙ and-false _
-    by (step.Used p n) = ap (λ (x : Option Place). not (is_phase m.words 4) && takes_at c m f p n x) none ∙ and-false _
-    by (step.Mark p n) = ap (λ (x : Option Place). marks_at c m f p n x) none
+    by (Step.Head p n) = ap (λ (x : Option Place). not (is_phase m.words 4) && carves_at c m f p n x) none ∙ and-false _
+    by (Step.Used p n) = ap (λ (x : Option Place). not (is_phase m.words 4) && takes_at c m f p n x) none ∙ and-false _
+    by (Step.Mark p n) = ap (marks_at c m f p n) none
     by _ = refl
 
 -- A seat that doesn't hold the turn leaves what its holder has done.
@@ -90,46 +84,45 @@ taken_holds place = record { first = refl; chosen = refl; used = refl }
 head_places : (c : Config) (m : Moment) (f : Flight) (p n : ℕ) (b other : Bool) → is_phase m.words 4 ≡ b
     → m.seats.holding.freed ≡ None
     → (if b then other else carves_at c m f p n (place_now c m f) || unmaps m.words m.seats.holding.freed p n) ≡ true
-    → Placed c m f (step.Head p n)
+    → Placed c m f (Step.Head p n)
     (if b then m.seats.holding.placing else chosen m.seats.holding.placing (place_now c m f))
 head_places c m f p n true other at none h = Stays (ap (λ b. not b && carves_at c m f p n (place_now c m f)) at) refl
 head_places c m f p n false other at none h = elim (or_cases _ _ h) [
   | inl is ↦
       let x = carves_is m.words _ _ p n is in
       let serving = ap (λ b. not b && carves_at c m f p n (place_now c m f)) at ∙ is in
-      fixes c m f (step.Head p n) x.place chosen serving at x.there (chosen_holds x.place)
+      fixes c m f (Step.Head p n) x.place chosen serving at x.there (chosen_holds x.place)
   | inr is ↦ absurd (true≢false (sym is ∙ ap (λ (run : Option RunPages). unmaps m.words run p n) none))
 ]
 
 used_places : (c : Config) (m : Moment) (f : Flight) (p n : ℕ) (b other : Bool) → is_phase m.words 4 ≡ b
     → (if b then other else not (is_used_once m.seats.holding.placing) && takes_at c m f p n (place_now c m f)) ≡ true
-    → Placed c m f (step.Used p n)
+    → Placed c m f (Step.Used p n)
     (if b then m.seats.holding.placing else taken m.seats.holding.placing (place_now c m f))
 used_places c m f p n true other at h = Stays (ap (λ b. not b && takes_at c m f p n (place_now c m f)) at) refl
 used_places c m f p n false other at h =
-    let is = (and_parts _ _ h).1 in
-    let x = takes_is m.words _ _ p n is in
-    let serving = ap (λ b. not b && takes_at c m f p n (place_now c m f)) at ∙ is in
-    fixes c m f (step.Used p n) x.place taken serving at x.there (taken_holds x.place)
+    let x = takes_is m.words _ _ p n (and_parts _ _ h).1 in
+    let serving = ap (λ b. not b && takes_at c m f p n (place_now c m f)) at ∙ (and_parts _ _ h).1 in
+    fixes c m f (Step.Used p n) x.place taken serving at x.there (taken_holds x.place)
 
 not_four : (n : ℕ) → (n == 1) ≡ true → (n == 4) ≡ false
 not_four n one = let e = eqb-true n 1 one in ne_eqb n 4 (λ four. omega arith)
 
 mark_places : (c : Config) (m : Moment) (f : Flight) (p n : ℕ) (b : Bool) → marks_at c m f p n (place_now c m f) ≡ b
-    → Placed c m f (step.Mark p n)
+    → Placed c m f (Step.Mark p n)
     (if b then chosen m.seats.holding.placing (place_now c m f) else m.seats.holding.placing)
 mark_places c m f p n false is = Stays is refl
 mark_places c m f p n true is =
     let x = marks_is m.words (object_made c f.op) (place_now c m f) p n is in
     let off = not_four (phase_of m.words) x.marked.phase in
-    fixes c m f (step.Mark p n) x.place chosen is off x.there (chosen_holds x.place)
+    fixes c m f (Step.Mark p n) x.place chosen is off x.there (chosen_holds x.place)
 
 -- each kind of step of a caller whose New is undecided, and stays so
 
-idle_no_new : (f : Flight) → f.stage ≡ stage.Idle → is_undecided_new f ≡ true → ⊥
-idle_no_new f idle new = let e : stage.Idle ≡ stage.Turn = sym idle ∙ (undecided_new f new).stage in absurd (apart e)
+idle_no_new : (f : Flight) → f.stage ≡ Stage.Idle → is_undecided_new f ≡ true → ⊥
+idle_no_new f idle new = let e : Stage.Idle ≡ Stage.Turn = sym idle ∙ (undecided_new f new).stage in absurd (apart e)
   where
-    apart : stage.Idle ≡ stage.Turn → ⊥
+    apart : Stage.Idle ≡ Stage.Turn → ⊥
     apart e = cc
 
 abbrev flight_behind : Config → World → ℕ → Step → Flight
@@ -139,21 +132,21 @@ flight_behind c w k x =
 own_places : (c : Config) (w : World) (k : ℕ) (x : Step) → Known c w.now → Meets c w.now (Caller k) x → HasNew w k
     → is_undecided_new (flight_behind c w k x) ≡ true
     → Placed c w.now (flight_of w.now (Caller k)) x (WorldBehind c w (Caller k) x).now.seats.holding.placing
-own_places c w k (step.Take (Some o)) known h new stays =
+own_places c w k (Step.Take (Some o)) known h new stays =
     let f : Flight = flight_of w.now (Caller k) in
     absurd (idle_no_new f (at_take f.stage f.op o h.order).0 new)
-own_places c w k (step.Take None) known h new stays =
+own_places c w k (Step.Take None) known h new stays =
     absurd (at_no_take (flight_of w.now (Caller k)).stage (flight_of w.now (Caller k)).op h.order)
-own_places c w k step.Give known h new stays = cc
-own_places c w k step.Grant known h new stays = absurd (give_no_new (flight_of w.now (Caller k)).op stays)
-own_places c w k (step.Head p n) known h new stays =
+own_places c w k Step.Give known h new stays = cc
+own_places c w k Step.Grant known h new stays = absurd (give_no_new (flight_of w.now (Caller k)).op stays)
+own_places c w k (Step.Head p n) known h new stays =
     let f : Flight = flight_of w.now (Caller k) in
     let holds = new_has_turn c w.now (Caller k) h.seat new in
     let none = none_on_its_way c w.now (Caller k) known holds (undecided_new f new).stage in
     head_places c w.now f p n (is_phase w.now.words 4) _ refl none h.holder
-own_places c w k (step.Used p n) known h new stays =
+own_places c w k (Step.Used p n) known h new stays =
     used_places c w.now (flight_of w.now (Caller k)) p n (is_phase w.now.words 4) _ refl h.holder
-own_places c w k (step.Mark p n) known h new stays =
+own_places c w k (Step.Mark p n) known h new stays =
     let f : Flight = flight_of w.now (Caller k) in
     mark_places c w.now f p n (marks_at c w.now f p n (place_now c w.now f)) refl
 own_places c w k _ known h new stays = Stays refl refl
@@ -189,7 +182,7 @@ places_at c w seat x k known h lt was new = by seat h new
     own : Meets c w.now (Caller k) x → HasNew (WorldBehind c w (Caller k) x) k → PlacesAt c w (Caller k) x k
     own h new =
         let set = get_or-set_same w.now.seats.flights k _ at_rest (omega (arith, known.orderly.flights)) in
-        own_places c w k x known h was (ap (λ (f : Flight). is_undecided_new f) (sym set) ∙ new)
+        own_places c w k x known h was (ap is_undecided_new (sym set) ∙ new)
 
     by : (seat : Seat) → Meets c w.now seat x → HasNew (WorldBehind c w seat x) k → PlacesAt c w seat x k
     by (Marker j) h new = others_places c w (Marker j) x k known h holds (λ e. cc)

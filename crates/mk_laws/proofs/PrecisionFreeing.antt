@@ -1,30 +1,25 @@
 -- After a cycle's `end` what its `release` released counts as free: no unreleased storage has a word of it.
 use Rattle.std.specs.Prelude.{Contains}
 use Rattle.mk_laws.proofs.Vocabulary.{Config, Cycle, Event, IsHistory, IsStorage, IsWordOf, List, OfHistories}
-use Rattle.mk_laws.proofs.Vocabulary.{PlacedAllocation, Releasing, Step, Storage, World, [], and_parts, ap, append-nil}
+use Rattle.mk_laws.proofs.Vocabulary.{PlacedAllocation, Releasing, Step, Storage, World, ℕ, and_parts, ap, append-nil}
 use Rattle.mk_laws.proofs.Vocabulary.{append_assoc, arith, before_release, cases_Bool, cases_lt}
 use Rattle.mk_laws.proofs.Vocabulary.{earlier_part_is_history, eqb-true, false, inl, inr, is_end, is_release, is_small}
 use Rattle.mk_laws.proofs.Vocabulary.{left, list_any, not, not-true, or_from, phase_of, placed_at, refl}
 use Rattle.mk_laws.proofs.Vocabulary.{standing_has_storage, stands_on, storage_is_of, storage_of, storage_words, subst}
-use Rattle.mk_laws.proofs.Vocabulary.{sym, through_release, true, true≢false, unreleased_storage, world_behind, ℕ, ◌%◌}
+use Rattle.mk_laws.proofs.Vocabulary.{sym, through_release, true, true≢false, unreleased_storage, world_behind, [], ◌%◌}
 use Rattle.mk_laws.proofs.Vocabulary.{◌*◌, ◌++◌, ◌+◌, ◌==◌, ◌∙◌, ◌∷◌, ◌≡◌, ◌≤◌}
-use Rattle.mk_laws.proofs.Basics.{WorldBehind, begin_is, is_grant, release_is}
-use Rattle.mk_geom.specs.Storages.{IsRun, is_cell_taken}
+use Rattle.mk_geom.proofs.Standing.{has_words, large_is_run, stands_parts}
 use Rattle.mk_geom.proofs.ListSearch.{find_cases, list_any_found}
-use Rattle.mk_geom.proofs.Standing.{stands_parts, has_words, large_is_run}
-use Rattle.mk_laws.specs.Precision.{CountsAsFree, FreesTheUntouched, through_end}
+use Rattle.mk_geom.specs.Storages.{IsRun, is_cell_taken}
 use Rattle.mk_core.specs.Cycles.{before_begin, before_end}
-use Rattle.mk_core.specs.declared.events.Step.TheVariants as step
-use Rattle.mk_laws.proofs.InvariantTheorems.{allocations_are_disjoint}
-use Rattle.mk_laws.proofs.AllocationSteps.{is_there}
-use Rattle.mk_laws.proofs.Marking.{one_more, told}
-use Rattle.mk_laws.proofs.ProtocolStepKinds.{end_is}
+use Rattle.mk_laws.proofs.Basics.{WorldBehind, begin_is, is_grant, release_is}
 use Rattle.mk_laws.proofs.OlderAllocations.{AreOlder, IsKept, kept_along, older_behind, older_joined, older_same}
-use Rattle.mk_laws.proofs.PhaseSteps.{releasing_waits}
 use Rattle.mk_laws.proofs.Precise.{same_word, same_words}
 use Rattle.mk_laws.proofs.PrecisionStopped.{AtRelease, at_the_release, last_begin, releases_the_untouched}
 use Rattle.mk_laws.proofs.Stretches.{along_without, at_end, at_release, history_through}
-use Rattle.mk_laws.proofs.Worlds.{stands}
+use Rattle.mk_laws.proofs.{AllocationSteps.is_there, InvariantTheorems.allocations_are_disjoint, Marking.one_more}
+use Rattle.mk_laws.proofs.{Marking.told, PhaseSteps.releasing_waits, ProtocolStepKinds.end_is, Worlds.stands}
+use Rattle.mk_laws.specs.Precision.{CountsAsFree, FreesTheUntouched, through_end}
 
 -- Storage of which no other has a word counts as free.
 
@@ -85,8 +80,7 @@ releasing_goes_on c start more e h other at =
     let m = one_more c (start ++ more) e h in
     let w : World = left c (start ++ more) in
     let waits = releasing_waits c w.now e.seat e.step at.phase m.meets other in
-    let left_is : world_behind c w e ≡ left c (start ++ (more ++ e ∷ [])) =
-    sym m.left ∙ ap (λ (xs : List Event). left c xs) (append_assoc start more (e ∷ [])) in
+    let left_is = sym m.left ∙ ap (left c) (append_assoc start more (e ∷ [])) in
     record {
       phase = subst (λ (v : World). phase_of v.now.words ≡ 4) left_is waits.phase;
       older = subst (λ (v : World). AreOlder (left c start).allocations v.allocations) left_is
@@ -108,14 +102,12 @@ released c es k h at =
     let start : List Event = through_release k.releasing in
     let releasing = history_through c es front k.releasing.release.at.behind e h (at_release k.releasing) in
     let m = one_more c front e releasing in
-    let left_is : WorldBehind c w e.seat step.Release ≡ left c start =
-    ap (λ (x : Step). WorldBehind c w e.seat x) (sym (release_is e.step k.releasing.release.at.of_kind)) ∙ sym m.left in
-    let three = at.phase in
+    let left_is = ap (WorldBehind c w e.seat) (sym (release_is e.step k.releasing.release.at.of_kind)) ∙ sym m.left in
     let four : phase_of (left c start).now.words ≡ 4 =
-    subst (λ (v : World). phase_of v.now.words ≡ 4) left_is (omega arith) in
+    subst (λ (v : World). phase_of v.now.words ≡ 4) left_is (omega (arith, at.phase)) in
     let same : start ++ more ≡ before_end k = append_assoc front (e ∷ []) more in
     let ending = history_through c es (before_end k) k.end.at.behind k.end.at.event h (at_end k) in
-    let whole : IsHistory c (start ++ more) = subst (λ (xs : List Event). IsHistory c xs) (sym same)
+    let whole : IsHistory c (start ++ more) = subst (IsHistory c) (sym same)
     (earlier_part_is_history c (before_end k) (k.end.at.event ∷ []) ending) in
     let first : WhileReleasing c start [] =
     record {
@@ -123,14 +115,13 @@ released c es k h at =
       older = subst (λ (xs : List Event). AreOlder (left c start).allocations (left c xs).allocations)
           (sym (append-nil start)) (older_same _);
     } in
-    let along : WhileReleasing c start more =
-    along_without c is_end (λ (xs : List Event). WhileReleasing c start xs) start [] more
-    (λ xs d g other. releasing_goes_on c start xs d g other) whole k.end.none_before first in
+    let along = along_without c is_end (WhileReleasing c start) start [] more (λ xs d g other. releasing_goes_on c
+    start xs d g other) whole k.end.none_before first in
     let last = one_more c (before_end k) k.end.at.event ending in
     let v : World = left c (before_end k) in
     record {
       release = subst (λ (y : World). AreOlder w.allocations y.allocations) left_is
-          (older_behind c w e.seat step.Release refl);
+          (older_behind c w e.seat Step.Release refl);
       end = older_joined _ v.allocations _
           (subst (λ (xs : List Event). AreOlder (left c start).allocations (left c xs).allocations) same along.older)
           (subst (λ (y : World). AreOlder v.allocations y.allocations) (sym last.left)
@@ -145,8 +136,7 @@ kept_to_release : (c : Config) (es : List Event) (k : Releasing es) (i : ℕ) �
 kept_to_release c es k i h at u =
     let b = last_begin k in
     let e : Event = k.release.at.event in
-    let releasing = history_through c es _ k.release.at.behind e h (at_release k) in
-    let whole = earlier_part_is_history c _ (e ∷ []) releasing in
+    let whole = earlier_part_is_history c _ (e ∷ []) (history_through c es _ k.release.at.behind e h (at_release k)) in
     rw b.is (kept_along c b.before (b.event ∷ b.behind) i (rw b.is at whole)
     (or_from _ (list_any (λ (x : Event). is_release x.step) b.behind)
     (ap is_release (begin_is b.event.step b.of_kind)) at.released) (record { there = is_there _ i u; unreleased = u }))

@@ -1,26 +1,20 @@
 -- From a cycle's `close` to its `release` all that is marked is touched. The `release` releases the rest of the
 -- snapshot.
 use Rattle.mk_laws.proofs.Vocabulary.{At, Bool, Cell, Config, Event, IsHistory, List, OfHistories, PlacedAllocation}
-use Rattle.mk_laws.proofs.Vocabulary.{Releasing, Seat, Step, World, [], ap, append-nil, append_assoc, arith}
+use Rattle.mk_laws.proofs.Vocabulary.{Releasing, Seat, Step, World, ℕ, ap, append-nil, append_assoc, arith}
 use Rattle.mk_laws.proofs.Vocabulary.{before_close, before_release, cases_Bool, cell_of_allocation, changed_at}
 use Rattle.mk_laws.proofs.Vocabulary.{earlier_part_is_history, eqb-true, false, has_bit_of, has_bit_without, inl, inr}
 use Rattle.mk_laws.proofs.Vocabulary.{is_begin, is_close, is_cycling, is_left_unmarked, is_marked, is_release, left}
 use Rattle.mk_laws.proofs.Vocabulary.{list_any, not, or_from, or_parts, phase_of, placed_at, refl, released_where_left}
 use Rattle.mk_laws.proofs.Vocabulary.{subst, sym, through, through_release, true, true≢false, with_released}
-use Rattle.mk_laws.proofs.Vocabulary.{world_behind, ℕ, ◌&&◌, ◌++◌, ◌∙◌, ◌∷◌, ◌≡◌}
+use Rattle.mk_laws.proofs.Vocabulary.{world_behind, [], ◌&&◌, ◌++◌, ◌∙◌, ◌∷◌, ◌≡◌}
+use Rattle.mk_core.specs.{Cycles.NoneSweeps, Touched.IsTouched}
 use Rattle.mk_laws.proofs.Basics.{Came, IsNew, Known, Meets, Stayed, WorldBehind, is_grant, release_is, same_cell}
-use Rattle.mk_core.specs.Cycles.{NoneSweeps}
-use Rattle.mk_core.specs.Touched.{IsTouched}
-use Rattle.mk_core.specs.declared.events.Step.TheVariants as step
-use Rattle.mk_laws.proofs.GuardStopped.{leaves_closed}
-use Rattle.mk_laws.proofs.Quarantines.{snapshot_is_the_cycles}
-use Rattle.mk_laws.specs.Precision.{KeepsOnlyTheTouched, ReleasesTheUntouched}
-use Rattle.mk_laws.proofs.Marking.{marked_at_close, one_more, told}
-use Rattle.mk_laws.proofs.ProtocolStepKinds.{close_is}
-use Rattle.mk_laws.proofs.PhaseSteps.{stopped_waits}
-use Rattle.mk_laws.proofs.Precise.{came_behind}
 use Rattle.mk_laws.proofs.Stretches.{None_of, along_without, at_close, at_release, history_through, none_joined}
-use Rattle.mk_laws.proofs.Worlds.{headers, stands}
+use Rattle.mk_laws.proofs.{GuardStopped.leaves_closed, Marking.marked_at_close, Marking.one_more, Marking.told}
+use Rattle.mk_laws.proofs.{PhaseSteps.stopped_waits, Precise.came_behind, ProtocolStepKinds.close_is}
+use Rattle.mk_laws.proofs.{Quarantines.snapshot_is_the_cycles, Worlds.headers, Worlds.stands}
+use Rattle.mk_laws.specs.Precision.{KeepsOnlyTheTouched, ReleasesTheUntouched}
 
 -- All that is marked is of the set.
 abbrev pub IsMarkedOnly : Config → World → (ℕ → Type 0) → Type 0
@@ -33,7 +27,7 @@ record AtStop (c : Config) (T : ℕ → Type 0) (start more : List Event) : Type
   marked : IsMarkedOnly c (left c (start ++ more)) T
   begun : None_of is_begin more
 
-not_granted : (x : Step) → is_grant x ≡ false → x ≡ step.Grant → ⊥
+not_granted : (x : Step) → is_grant x ≡ false → x ≡ Step.Grant → ⊥
 not_granted x out is = true≢false (sym (ap is_grant is) ∙ out)
 
 -- one event that isn't the `release`
@@ -78,13 +72,10 @@ stop_begins c T front e h kind marked =
     let m = one_more c front e h in
     let w : World = left c front in
     let is = close_is e.step kind in
-    let meets : Meets c w.now e.seat step.Close = subst (λ (x : Step). Meets c w.now e.seat x) is m.meets in
-    let two = eqb-true _ 2 meets.phase in
-    let left_is : WorldBehind c w e.seat step.Close ≡ left c ((front ++ e ∷ []) ++ []) =
-    ap (λ (x : Step). WorldBehind c w e.seat x) (sym is) ∙ sym m.left
-    ∙ ap (λ (xs : List Event). left c xs) (sym (append-nil _)) in
+    let meets : Meets c w.now e.seat Step.Close = subst (Meets c w.now e.seat) is m.meets in
+    let left_is = ap (WorldBehind c w e.seat) (sym is) ∙ sym m.left ∙ ap (left c) (sym (append-nil _)) in
     record {
-      phase = subst (λ (v : World). phase_of v.now.words ≡ 3) left_is (omega arith);
+      phase = subst (λ (v : World). phase_of v.now.words ≡ 3) left_is (omega (arith, eqb-true _ 2 meets.phase));
       marked = subst (λ (v : World). IsMarkedOnly c v T) left_is marked;
       begun = refl;
     }
@@ -143,8 +134,7 @@ kept_is_marked : (c : Config) (w : World) (i : ℕ) → has_bit_of c w.now.words
     → is_left_unmarked w.now.words (cell_of_allocation c (placed_at w.allocations i)) ≡ false
     → is_marked w.now.words (cell_of_allocation c (placed_at w.allocations i)) ≡ true
 kept_is_marked c w i taken kept =
-    let cell : Cell = cell_of_allocation c (placed_at w.allocations i) in
-    not_both _ _ (sym (has_bit_without _ _ cell.index) ∙ kept) taken
+    not_both _ _ (sym (has_bit_without _ _ (cell_of_allocation c (placed_at w.allocations i)).index) ∙ kept) taken
   where
     not_both : (a b : Bool) → (a && not b) ≡ false → a ≡ true → b ≡ true
     not_both true false h e = sym h
@@ -158,7 +148,7 @@ keeps_only_the_touched c es h k unswept i quarantined unreleased =
     let releasing = history_through c es (before_release k) k.release.at.behind e h (at_release k) in
     let m = one_more c (before_release k) e releasing in
     let at = at_the_release c es k h unswept in
-    let left_is : left c (through_release k) ≡ WorldBehind c w e.seat step.Release =
+    let left_is : left c (through_release k) ≡ WorldBehind c w e.seat Step.Release =
     m.left ∙ ap (λ (x : Step). WorldBehind c w e.seat x) (release_is e.step k.release.at.of_kind) in
     let now : (with_released c w.now.words a).released ≡ false =
     ap (λ (x : PlacedAllocation). x.released) (sym (changed_at (with_released c w.now.words) w.allocations i refl))

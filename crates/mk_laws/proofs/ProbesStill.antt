@@ -1,24 +1,20 @@
 -- A run that a `probe` finds unmapped stays so: the call's own register points into its allocation.
 use Rattle.mk_laws.proofs.Vocabulary.{AccessIsAdmitted, Bool, Caller, CarriesOwn, Config, Continues, Flight}
 use Rattle.mk_laws.proofs.Vocabulary.{ImagePremises, Invariant, IsAdmitted, IsMet, IsSound, Meets, NeverState, Op, Ptr}
-use Rattle.mk_laws.proofs.Vocabulary.{Stage, Unmapped, Value, WordOf, World, allocation_at, and_from, and_parts, ap}
+use Rattle.mk_laws.proofs.Vocabulary.{Stage, Unmapped, Value, WordOf, World, ℕ, allocation_at, and_from, and_parts, ap}
 use Rattle.mk_laws.proofs.Vocabulary.{arith, bases_of, cases_Bool, false, flight_of, header_at, header_in, i_of}
 use Rattle.mk_laws.proofs.Vocabulary.{if◌then◌else◌, image_scene_of, inl, inr, is_large, is_run_gone, is_unmapped}
 use Rattle.mk_laws.proofs.Vocabulary.{is_unmapped_header, length, page_met, q_of, refl, register_at, subst, sym}
-use Rattle.mk_laws.proofs.Vocabulary.{target_of, true, true≢false, words_of, ℕ, ◌*◌, ◌+◌, ◌<◌, ◌∙◌, ◌≡◌}
+use Rattle.mk_laws.proofs.Vocabulary.{target_of, true, true≢false, words_of, ◌*◌, ◌+◌, ◌<◌, ◌∙◌, ◌≡◌}
 use Rattle.mk_laws.proofs.Basics.{InCall, KnownWorld, PagesShow, Ready, Stands, calls_stand, flight, is_astray}
 use Rattle.mk_laws.proofs.Basics.{is_call_stage, not_astray, ready_of, shows_at, standing, standing_at, stands_of}
 use Rattle.mk_laws.proofs.Basics.{view_of}
-use Rattle.mk_core.specs.declared.seats.Stage.TheVariants as stage
-use Rattle.mk_laws.proofs.ImagesBefore.{pages_show}
-use Rattle.mk_laws.proofs.CallSorts.{literal}
-use Rattle.mk_laws.proofs.Reached.{mapped_met, unmapped_target}
-use Rattle.mk_laws.proofs.ImagesStands.{gone_shows}
-use Rattle.mk_laws.proofs.InvariantJoined.{told_to_images}
 use Rattle.mk_laws.proofs.ImagesCallMoves.{access_meets, at_probe}
+use Rattle.mk_laws.proofs.{CallSorts.literal, ImagesBefore.pages_show, ImagesStands.gone_shows}
+use Rattle.mk_laws.proofs.{InvariantJoined.told_to_images, Reached.mapped_met, Reached.unmapped_target}
 
 -- the access of an operation with a `probe`
-probe_meets : (n : NeverState) (k : ℕ) (o : Op) → is_astray (standing_at stage.Probe o) ≡ false → AccessIsAdmitted n k o
+probe_meets : (n : NeverState) (k : ℕ) (o : Op) → is_astray (standing_at Stage.Probe o) ≡ false → AccessIsAdmitted n k o
     → Meets n (register_at n k (q_of o)) (i_of o) (λ kind. Unit {0})
 probe_meets n k o a h = access_meets n k o (at_probe o a).access h
 
@@ -61,9 +57,7 @@ module _ (c : Config) (w : World) (n : NeverState) (known : KnownWorld c w) (all
     | inl e ↦ e
     | inr e ↦
         let s = shows_at c (view_of w.now) k InCall known.now.orderly lt in_call in
-        let g = all.run_gates e k lt s.1 in
-        let one = s.0 in
-        absurd (omega arith)
+        absurd (omega (arith, all.run_gates e k lt s.1, s.0))
   ]
 
   -- so headers tell it what is unmapped.
@@ -77,12 +71,12 @@ module _ (c : Config) (w : World) (n : NeverState) (known : KnownWorld c w) (all
 
   -- What a `probe` finds unmapped is so to the heap that never reuses storage,
   finds_unmapped : (k : ℕ) (o : Op) (q p r l : ℕ) → k < c.callers
-      → flight_of w.now (Caller k) ≡ flight stage.Probe o q p r l → standing (flight_of w.now (Caller k)) ≡ InCall
+      → flight_of w.now (Caller k) ≡ flight Stage.Probe o q p r l → standing (flight_of w.now (Caller k)) ≡ InCall
       → Meets n (register_at n k (q_of o)) (i_of o) (λ kind. Unit {0})
-      → is_unmapped_header (header_in w.now.words (page_met (flight stage.Probe o q p r l))) ≡ true
+      → is_unmapped_header (header_in w.now.words (page_met (flight Stage.Probe o q p r l))) ≡ true
       → target_of n (register_at n k (q_of o)) (i_of o) ≡ Unmapped
   finds_unmapped k o q p r l lt is in_call meets u =
-      let car : CarriesOwn (bases_of w.allocations) n k (flight stage.Probe o q p r l) =
+      let car : CarriesOwn (bases_of w.allocations) n k (flight Stage.Probe o q p r l) =
       rw is at (all.mirrors.images.carried k) in
       unmapped_target c.globals all.mirrors.safe.0 (image_scene_of w) n ready (header_at w.now.words)
       (pages_tell k lt in_call) _ q (i_of o) (λ kind. Unit {0})
@@ -90,11 +84,11 @@ module _ (c : Config) (w : World) (n : NeverState) (known : KnownWorld c w) (all
 
   -- and what it finds mapped isn't.
   finds_mapped : (k : ℕ) (o : Op) (q p r l : ℕ) → k < c.callers
-      → flight_of w.now (Caller k) ≡ flight stage.Probe o q p r l → standing (flight_of w.now (Caller k)) ≡ InCall
-      → is_unmapped_header (header_in w.now.words (page_met (flight stage.Probe o q p r l))) ≡ false
+      → flight_of w.now (Caller k) ≡ flight Stage.Probe o q p r l → standing (flight_of w.now (Caller k)) ≡ InCall
+      → is_unmapped_header (header_in w.now.words (page_met (flight Stage.Probe o q p r l))) ≡ false
       → IsMet n (register_at n k (q_of o)) (i_of o)
   finds_mapped k o q p r l lt is in_call u =
-      let car : CarriesOwn (bases_of w.allocations) n k (flight stage.Probe o q p r l) =
+      let car : CarriesOwn (bases_of w.allocations) n k (flight Stage.Probe o q p r l) =
       rw is at (all.mirrors.images.carried k) in
       mapped_met c.globals all.mirrors.safe.0 (image_scene_of w) n ready (header_at w.now.words)
       (pages_tell k lt in_call) _ q (i_of o)
@@ -102,13 +96,13 @@ module _ (c : Config) (w : World) (n : NeverState) (known : KnownWorld c w) (all
 
 pub probe_still : (c : Config) (w v : World) (n m : NeverState) (kw : KnownWorld c w) (kv : KnownWorld c v)
     (aw : Invariant c w n) (av : Invariant c v m) (k : ℕ) → k < c.callers
-    → flight_of v.now (Caller k) ≡ flight_of w.now (Caller k) → (flight_of w.now (Caller k)).stage ≡ stage.Probe
+    → flight_of v.now (Caller k) ≡ flight_of w.now (Caller k) → (flight_of w.now (Caller k)).stage ≡ Stage.Probe
     → Continues n m → register_at m k (q_of (flight_of w.now (Caller k)).op)
     ≡ register_at n k (q_of (flight_of w.now (Caller k)).op) → IsAdmitted c.globals n k (flight_of w.now (Caller k)).op
     → is_unmapped_header (header_in w.now.words (page_met (flight_of w.now (Caller k)))) ≡ true
     → is_unmapped_header (header_in v.now.words (page_met (flight_of w.now (Caller k)))) ≡ true
 probe_still c w v n m kw kv aw av k lt same at on own admitted u =
-    let lit : f ≡ flight stage.Probe f.op f.q f.p f.r f.loaded = literal f stage.Probe at in
+    let lit : f ≡ flight Stage.Probe f.op f.q f.p f.r f.loaded = literal f Stage.Probe at in
     let in_call : standing f ≡ InCall = calls_stand f.stage f.op (ap is_call_stage at) astray in
     elim (cases_Bool (is_unmapped_header (header_in v.now.words (page_met f)))) [
       | inl is ↦ is

@@ -1,25 +1,20 @@
 -- All promises, from the theorems.
 use Rattle.std.specs.Prelude.{List}
 use Rattle.mk_laws.proofs.Vocabulary.{Config, Event, IsHistory, OfHistories, earlier_part_is_history, subst}
-use Rattle.mk_laws.proofs.Quarantines.{few_pages_are_resident}
-use Rattle.mk_laws.proofs.InvariantTheorems as invariant
-use Rattle.mk_laws.proofs.Tallies.{tallies_are_exact_at_gives}
-use Rattle.mk_laws.proofs.PlacementTheorems.{fulls_fit_nowhere, grants_stand_at_their_places}
-use Rattle.mk_laws.proofs.PrecisionFreeing.{frees_the_untouched}
-use Rattle.mk_laws.proofs.PrecisionStopped.{releases_the_untouched}
-use Rattle.mk_laws.proofs.FreePages.{dirty_pages_have_allocations, free_pages_have_nothing}
 use Rattle.mk_laws.proofs.FreeCells.{free_cells_are_zero, words_behind_cells_are_zero}
-use Rattle.mk_laws.proofs.ReleasedCycles.{releases_are_of_cycles}
+use Rattle.mk_laws.proofs.FreePages.{dirty_pages_have_allocations, free_pages_have_nothing}
+use Rattle.mk_laws.proofs.PlacementTheorems.{fulls_fit_nowhere, grants_stand_at_their_places}
 use Rattle.mk_laws.proofs.Releases.{no_others_release, releases_are_exact, releases_none_reached}
-use Rattle.mk_laws.proofs.Snapshots.{snapshots_tell}
-use Rattle.mk_laws.proofs.ReadingsStands.{headers_and_quarantine_tell}
-use Rattle.mk_laws.proofs.UnmappedRuns.{unmapped_runs_take_no_memory}
 use Rattle.mk_laws.proofs.UnsetWords.{registers_of_no_caller_are_zero, unset_globals_are_zero}
+use Rattle.mk_laws.proofs.{PrecisionFreeing.frees_the_untouched, PrecisionStopped.releases_the_untouched}
+use Rattle.mk_laws.proofs.{Quarantines.few_pages_are_resident, ReadingsStands.headers_and_quarantine_tell}
+use Rattle.mk_laws.proofs.{ReleasedCycles.releases_are_of_cycles, Snapshots.snapshots_tell}
+use Rattle.mk_laws.proofs.{Tallies.tallies_are_exact_at_gives, UnmappedRuns.unmapped_runs_take_no_memory}
 use Rattle.mk_laws.specs.Promises.{AtEachMoment, KeepsAllPromises}
+use Rattle.mk_laws.proofs.InvariantTheorems as invariant
 
 at_each : (claim : Config → List Event → Type 0) → OfHistories claim → OfHistories (AtEachMoment claim)
-at_each claim of c es h front more is =
-    of c front (earlier_part_is_history c front more (subst (λ (xs : List Event). IsHistory c xs) is h))
+at_each claim of c es h front more is = of c front (earlier_part_is_history c front more (subst (IsHistory c) is h))
 
 pub histories_keep_all_promises : OfHistories KeepsAllPromises
 histories_keep_all_promises c es h =

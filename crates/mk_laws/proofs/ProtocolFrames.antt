@@ -1,39 +1,29 @@
 -- The frame law: what the events of other seats leave, for one event and for many.
-use Rattle.std.specs.Prelude.{◌/◌}
-use Rattle.std.proofs.lemmas.List.Sums.{sum_by-append}
+use Rattle.std.{proofs.lemmas.List.Sums.sum_by-append, specs.Prelude.◌/◌}
 use Rattle.mk_laws.proofs.Vocabulary.{AreEnabledFrom, AreOfOthers, Caller, Config, Event, Flight, Holds, Host, IsInCall}
 use Rattle.mk_laws.proofs.Vocabulary.{IsLeft, List, Marker, MarkerState, Moment, Named, OnlyGrow, Protocol, Seat, Stage}
-use Rattle.mk_laws.proofs.Vocabulary.{Steady, Step, Store, Tally, TurnIsLeft, Words, World, Written, [], accessed}
+use Rattle.mk_laws.proofs.Vocabulary.{Steady, Step, Store, Tally, TurnIsLeft, Word, Words, World, Written, ℕ, accessed}
 use Rattle.mk_laws.proofs.Vocabulary.{all_below, answer_decided, ap, arith, at_rest, call_decided, caller_number, calls}
 use Rattle.mk_laws.proofs.Vocabulary.{calls_from, cases_lt, cond, d_of, enabled_meets, enabled_parts, ends, eq-eqb}
 use Rattle.mk_laws.proofs.Vocabulary.{false, first_world, flight_of, get_or-set_other, get_or_past, header_in}
 use Rattle.mk_laws.proofs.Vocabulary.{holder_number, inl, inr, is_attending, is_end, is_in, is_number_of, is_one_of}
 use Rattle.mk_laws.proofs.Vocabulary.{is_unmapped_header, left, left_append, left_from, marker_at, others_are_held}
 use Rattle.mk_laws.proofs.Vocabulary.{outside, phase_of, refl, reg_access, register_met, slice_index, slice_set, sym}
-use Rattle.mk_laws.proofs.Vocabulary.{true, world_behind, ℕ, ◌*◌, ◌++◌, ◌+◌, ◌<◌, ◌==◌, ◌||◌, ◌∙◌, ◌∷◌, ◌≡◌, ◌≢◌, ◌≤◌}
+use Rattle.mk_laws.proofs.Vocabulary.{true, world_behind, [], ◌*◌, ◌++◌, ◌+◌, ◌<◌, ◌==◌, ◌||◌, ◌∙◌, ◌∷◌, ◌≡◌, ◌≢◌, ◌≤◌}
 use Rattle.mk_laws.proofs.Vocabulary.{◌⊎◌}
+use Rattle.mk_core.proofs.{Histories.calls_append, RegisterAccesses.tally_leaves_registers}
+use Rattle.mk_core.specs.Frames.{Attends, CountsAreLeft, HoldsAll, IsIn, OthersLeave, OwnIsLeft, ScanIsLeft, written_of}
+use Rattle.mk_core.specs.{Growing.is_same_seat, Readings.is_in_call}
 use Rattle.mk_laws.proofs.Basics.{Behind, Known, Meets, WorldBehind, actor_of, grants_new, in_call_told, known_behind}
 use Rattle.mk_laws.proofs.Basics.{known_left, not_astray, operands_of, others_held, register_small, same_holder}
 use Rattle.mk_laws.proofs.Basics.{standing, turn_of, view_of}
-use Rattle.mk_core.specs.declared.events.Word.TheVariants as word
-use Rattle.mk_core.specs.declared.events.Step.TheVariants as step
-use Rattle.mk_core.specs.declared.seats.Stage.TheVariants as stage
-use Rattle.mk_laws.proofs.Known.{HaveOperands, Operands, holds_turn}
-use Rattle.mk_core.proofs.RegisterAccesses.{tally_leaves_registers}
-use Rattle.mk_core.specs.Growing.{is_same_seat}
-use Rattle.mk_core.specs.Readings.{is_in_call}
-use Rattle.mk_core.specs.Frames.{Attends, IsIn, HoldsAll, OwnIsLeft, written_of, CountsAreLeft, ScanIsLeft, OthersLeave}
-use Rattle.mk_core.proofs.Histories.{calls_append}
-use Rattle.mk_laws.proofs.Standings.{in_call_is}
-use Rattle.mk_laws.proofs.Protocols.{protocol_of}
-use Rattle.mk_laws.proofs.ProtocolReadings.{in_counts}
-use Rattle.mk_laws.proofs.OthersMoves.{with_words_seats, OthersMove, Waits, Calls, Marks, MarkerWrite, ComesIn}
-use Rattle.mk_laws.proofs.OthersMoves.{gate_one, others_move}
-use Rattle.mk_laws.proofs.Growth.{grows_same, grows_joined}
-use Rattle.mk_laws.proofs.TurnFrame.{holding_out, turn_after, turn_same, turn_joined}
-use Rattle.mk_laws.proofs.HeaderSteps.{header_step, stays_mapped}
-use Rattle.mk_laws.proofs.Colours.{colour_step, attending_grows}
-use Rattle.mk_laws.proofs.OthersCounts.{counts_nothing, fulls_of, entry_fulls, fulls_append}
+use Rattle.mk_laws.proofs.OthersCounts.{counts_nothing, entry_fulls, fulls_append, fulls_of}
+use Rattle.mk_laws.proofs.OthersMoves.{Calls, ComesIn, MarkerWrite, Marks, OthersMove, Waits, gate_one, others_move}
+use Rattle.mk_laws.proofs.OthersMoves.{with_words_seats}
+use Rattle.mk_laws.proofs.TurnFrame.{holding_out, turn_after, turn_joined, turn_same}
+use Rattle.mk_laws.proofs.{Colours.attending_grows, Colours.colour_step, Growth.grows_joined, Growth.grows_same}
+use Rattle.mk_laws.proofs.{HeaderSteps.header_step, HeaderSteps.stays_mapped, Known.HaveOperands, Known.Operands}
+use Rattle.mk_laws.proofs.{Known.holds_turn, ProtocolReadings.in_counts, Protocols.protocol_of, Standings.in_call_is}
 
 -- What an event may do to registers: each caller's are its own.
 
@@ -42,23 +32,23 @@ pub data RegisterStep (w : Words) : Seat → List ℕ → Type 0 where
   SetsOwn : {k : ℕ} (r v : ℕ) → r < 8 → RegisterStep w (Caller k) (slice_set w.registers (8 * k + r) v)
 
 reg_registers : (w : Words) (k : ℕ) (f : Flight) (s : Stage) → Operands f.op
-    → RegisterStep w (Caller k) (accessed w (Named (word.Reg k (register_met f s))) (reg_access f s)).registers
-reg_registers w k f stage.Store o = SetsOwn (register_met f stage.Store) _ (register_small f stage.Store o)
-reg_registers w k f stage.Put o = SetsOwn (register_met f stage.Put) _ (register_small f stage.Put o)
+    → RegisterStep w (Caller k) (accessed w (Named (Word.Reg k (register_met f s))) (reg_access f s)).registers
+reg_registers w k f Stage.Store o = SetsOwn (register_met f Stage.Store) _ (register_small f Stage.Store o)
+reg_registers w k f Stage.Put o = SetsOwn (register_met f Stage.Put) _ (register_small f Stage.Put o)
 reg_registers w k f _ o = KeepsRegisters
 
 pub register_step : (c : Config) (m : Moment) (seat : Seat) (x : Step) → HaveOperands c m.seats.flights
     → Meets c m seat x → RegisterStep m.words seat (Behind c m seat x).words.registers
-register_step c m (Caller k) step.Reg ops h =
+register_step c m (Caller k) Step.Reg ops h =
     reg_registers m.words k (flight_of m (Caller k)) (flight_of m (Caller k)).stage
     (operands_of c (flight_of m (Caller k)).op (ops k))
-register_step c m (Marker k) step.Reg ops h = let kind = h.kind in cc
-register_step c m Host step.Reg ops h = let kind = h.kind in cc
-register_step c m (Caller k) step.Grant ops h =
+register_step c m (Marker k) Step.Reg ops h = let kind = h.kind in cc
+register_step c m Host Step.Reg ops h = let kind = h.kind in cc
+register_step c m (Caller k) Step.Grant ops h =
     SetsOwn (d_of (flight_of m (Caller k)).op) _ (operands_of c (flight_of m (Caller k)).op (ops k)).d
-register_step c m (Marker k) step.Grant ops h = let kind = h.kind in cc
-register_step c m Host step.Grant ops h = let new = grants_new c m Host h in cc
-register_step c m seat (step.Tally n v) ops h = rw (tally_leaves_registers m.words n v) KeepsRegisters
+register_step c m (Marker k) Step.Grant ops h = let kind = h.kind in cc
+register_step c m Host Step.Grant ops h = let new = grants_new c m Host h in cc
+register_step c m seat (Step.Tally n v) ops h = rw (tally_leaves_registers m.words n v) KeepsRegisters
 register_step c m seat _ ops h = KeepsRegisters
 
 pub others_registers : (w : Words) (seat : Seat) (rs : List ℕ) (k r : ℕ) → RegisterStep w seat rs → seat ≢ Caller k
@@ -84,8 +74,7 @@ others_out : (c : Config) (w : World) (seat s : Seat) (x : Step) → Known c w.n
     → Holds c w.now s → OthersMove c w seat (WorldBehind c w seat x)
 others_out c w seat s x known h ne holds =
     let t = holds_turn c w.now s known.orderly holds in
-    let turn = turn_of c (view_of w.now) s known.orderly t in
-    others_move c w seat x known (λ e. absurd (omega arith))
+    others_move c w seat x known (λ e. absurd (omega (arith, turn_of c (view_of w.now) s known.orderly t)))
     (λ out. ne (same_holder c (view_of w.now) seat s known.orderly out t)) h
 
 still_holds : (c : Config) (s : Seat) (w v : World) → flight_of v.now s ≡ flight_of w.now s
@@ -132,7 +121,7 @@ in_call_gate c m k known is = elim (cases_lt k c.callers) [
             (in_call_is (standing f) (in_call_told f.stage f.op (not_astray c m known.orderly k lt) ∙ is)),
       )
   | inr past ↦
-      let f : false ≡ true = ap (λ (g : Flight). is_in_call g)
+      let f : false ≡ true = ap is_in_call
       (sym (get_or_past m.seats.flights k at_rest (omega (arith, known.orderly.flights)))) ∙ is in
       cc
 ]
@@ -197,7 +186,7 @@ left_same c s w =
 -- what the seat is in the middle of, it still is
 
 still_calls : (c : Config) (s : Seat) (w u : World) → OwnIsLeft c s w u → IsInCall w.now s → IsInCall u.now s
-still_calls c (Caller k) w u l call = ap (λ (f : Flight). is_in_call f) l.flight ∙ call
+still_calls c (Caller k) w u l call = ap is_in_call l.flight ∙ call
 still_calls c _ w u l call = call
 
 pub still_attends : (c : Config) (s : Seat) (w u : World) → OwnIsLeft c s w u → Attends w.now s → Attends u.now s
@@ -205,7 +194,7 @@ still_attends c (Marker k) w u l a = ap (λ (y : MarkerState). is_attending y.pr
 still_attends c _ w u l a = a
 
 still_in : (c : Config) (s : Seat) (w u : World) → OwnIsLeft c s w u → IsIn w.now s → IsIn u.now s
-still_in c (Marker k) w u l i = ap (λ (y : MarkerState). is_in y) l.marker ∙ i
+still_in c (Marker k) w u l i = ap is_in l.marker ∙ i
 still_in c _ w u l i = i
 
 still_stopped : (c : Config) (s : Seat) (w u : World) → Left c s w u → HoldsAll c w.now s → HoldsAll c u.now s
@@ -228,10 +217,9 @@ left_joined c s w u v a b =
       turn = λ holds. turn_joined w u v (a.turn holds) (b.turn (a.own.holding holds).0);
       stop = λ all. b.stop (still_stopped c s w u a all) ∙ a.stop all;
       scan = λ att.
-          let x = a.scan att in
           let y = b.scan (still_attends c s w u a.own att) in (
-            grows_joined w.now.words.marks u.now.words.marks v.now.words.marks x.0 y.0,
-            grows_joined w.now.words.blacks u.now.words.blacks v.now.words.blacks x.1 y.1,
+            grows_joined w.now.words.marks u.now.words.marks v.now.words.marks (a.scan att).0 y.0,
+            grows_joined w.now.words.blacks u.now.words.blacks v.now.words.blacks (a.scan att).1 y.1,
           );
     }
 
@@ -285,18 +273,15 @@ counts_later c s w (e ∷ es) k on others holds =
 counts_left : (c : Config) (es more : List Event) → CountsNothing c (left c es) more → CountsAreLeft c es (es ++ more)
 counts_left c es more h =
     record {
-      ends = sum_by-append (λ (x : Event). cond {A = ℕ} (is_end x.step) 1 0) es more
-          ∙ (let r = h.none_ends in omega arith);
-      fulls = rw (calls_append c (first_world c) es more) (fulls_append (calls c es) _
-          ∙ (let r = h.none_full in omega arith));
+      ends = sum_by-append (λ (x : Event). cond {A = ℕ} (is_end x.step) 1 0) es more ∙ (omega (arith, h.none_ends));
+      fulls = rw (calls_append c (first_world c) es more) (fulls_append (calls c es) _ ∙ (omega (arith, h.none_full)));
     }
 
 -- the law
 
 scan_left : (c : Config) (s : Seat) (w v : World) → Left c s w v → Protocol c v.now → Attends w.now s → ScanIsLeft w v
 scan_left c s w v l p a =
-    let grow = l.scan a in
-    record { phase = by s (still_attends c s w v l.own a); marks = grow.0; blacks = grow.1 }
+    record { phase = by s (still_attends c s w v l.own a); marks = (l.scan a).0; blacks = (l.scan a).1 }
   where
     by : (s : Seat) → Attends v.now s → (phase_of v.now.words ≡ 1) ⊎ (phase_of v.now.words ≡ 2)
     by (Marker k) a = p.attends k a
@@ -311,7 +296,6 @@ is_left : (c : Config) (s : Seat) (es more : List Event) → Left c s (left c es
     → Known c (left c (es ++ more)).now
     → (Holds c (left c es).now s → CountsAreLeft c es (es ++ more)) → IsLeft c s es (es ++ more)
 is_left c s es more l known counts =
-    let p = protocol_of c _ known in
     record {
       own = l.own;
       in_call = λ k is call. record {
@@ -320,8 +304,8 @@ is_left c s es more l known counts =
       };
       turn = λ holds. (l.turn holds, counts holds);
       stop = l.stop;
-      scan = λ a. scan_left c s (left c es) _ l p a;
-      visit = λ i. visit_left c s _ p (still_in c s (left c es) _ l.own i);
+      scan = λ a. scan_left c s (left c es) _ l (protocol_of c _ known) a;
+      visit = λ i. visit_left c s _ (protocol_of c _ known) (still_in c s (left c es) _ l.own i);
     }
 
 pub others_leave : OthersLeave

@@ -1,12 +1,12 @@
 -- A gate is 2 exactly where the last event that changed it is a `hold`.
-use Rattle.mk_laws.proofs.Vocabulary.{Bool, Config, Event, List, Moment, Seat, Step, World, [], ap, caller_number}
+use Rattle.mk_laws.proofs.Vocabulary.{Bool, Config, Event, List, Moment, Seat, Step, World, ℕ, ap, caller_number}
 use Rattle.mk_laws.proofs.Vocabulary.{cases_eq, cases_lt, eq-eqb, eqb-false, eqb-true, false, first_world, flight_of}
 use Rattle.mk_laws.proofs.Vocabulary.{get_or-set_other, get_or-set_same, if◌then◌else◌, inl, inr, left, left_from}
 use Rattle.mk_laws.proofs.Vocabulary.{length, ne_eqb, not, not-true, refl, reg_access, register_met, set_past}
-use Rattle.mk_laws.proofs.Vocabulary.{slice_index, slice_set, sym, true, world_behind, ℕ, ◌==◌, ◌↔◌, ◌∙◌, ◌∷◌, ◌≡◌, ◌≢◌}
+use Rattle.mk_laws.proofs.Vocabulary.{slice_index, slice_set, sym, true, world_behind, [], ◌==◌, ◌↔◌, ◌∙◌, ◌∷◌, ◌≡◌}
+use Rattle.mk_laws.proofs.Vocabulary.{◌≢◌}
+use Rattle.mk_core.specs.HeldGates.{changes_gate, is_gate_held, is_gate_held_from, is_hold_of}
 use Rattle.mk_laws.proofs.Basics.{Behind, at_first, reg_keeps, tally_keeps}
-use Rattle.mk_core.specs.declared.events.Step.TheVariants as step
-use Rattle.mk_core.specs.HeldGates.{is_hold_of, changes_gate, is_gate_held_from, is_gate_held}
 
 -- a gate that changes has the value that was set
 unchanged : (gs : List ℕ) (i : ℕ) → not (slice_index gs i == slice_index gs i) ≡ true → ⊥
@@ -24,7 +24,7 @@ changed gs j x i h = elim (cases_eq i j) [
     | inl lt ↦
         let now : slice_index (slice_set gs j x) i ≡ x = rw e (get_or-set_same gs j x 0 lt) in
         let ne = eqb-false _ _ (not-true _ h) in
-        record { same = e; now = now; other = λ old. ne (now ∙ old ∙ ap (λ k. slice_index gs k) (sym e)) }
+        record { same = e; now = now; other = λ old. ne (now ∙ old ∙ ap (slice_index gs) (sym e)) }
     | inr past ↦ absurd (unchanged gs i (rw (set_past gs j x past) at h))
   ]
   | inr ne ↦ absurd (unchanged gs i (rw (get_or-set_other gs j i x 0 ne) at h))
@@ -54,17 +54,17 @@ exchange_told gs j n i h =
 gate_told : (c : Config) (m : Moment) (seat : Seat) (x : Step) (i : ℕ)
     → not (slice_index (Behind c m seat x).words.gates i == slice_index m.words.gates i) ≡ true
     → (slice_index (Behind c m seat x).words.gates i == 2) ≡ is_hold_of i x
-gate_told c m seat (step.Enter o) i h = ap (λ y. y == 2) (exchange_told m.words.gates (caller_number seat) 1 i h).1
-gate_told c m seat step.Leave i h = set_told m.words.gates (caller_number seat) 0 i refl h
-gate_told c m seat (step.Hold j) i h =
+gate_told c m seat (Step.Enter o) i h = ap (λ y. y == 2) (exchange_told m.words.gates (caller_number seat) 1 i h).1
+gate_told c m seat Step.Leave i h = set_told m.words.gates (caller_number seat) 0 i refl h
+gate_told c m seat (Step.Hold j) i h =
     let e = exchange_told m.words.gates j 2 i h in
     ap (λ y. y == 2) e.1 ∙ sym (eq-eqb i j e.0)
-gate_told c m seat (step.Open j) i h = set_told m.words.gates j 0 i refl h
-gate_told c m seat step.Reg i h =
+gate_told c m seat (Step.Open j) i h = set_told m.words.gates j 0 i refl h
+gate_told c m seat Step.Reg i h =
     let same = (reg_keeps m.words (caller_number seat) (register_met (flight_of m seat) (flight_of m seat).stage)
     (reg_access (flight_of m seat) (flight_of m seat).stage)).gates in
     absurd (unchanged m.words.gates i (rw same at h))
-gate_told c m seat (step.Tally n v) i h = absurd (unchanged m.words.gates i (rw (tally_keeps m.words n v).gates at h))
+gate_told c m seat (Step.Tally n v) i h = absurd (unchanged m.words.gates i (rw (tally_keeps m.words n v).gates at h))
 gate_told c m seat _ i h = absurd (unchanged m.words.gates i h)
 
 -- one event, and many

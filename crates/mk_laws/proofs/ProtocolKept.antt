@@ -1,20 +1,20 @@
 -- Each move keeps all in order.
-use Rattle.mk_laws.proofs.Vocabulary.{Caller, Config, Flight, Holding, Host, List, Marker, MarkerState, Seat, ap, arith}
-use Rattle.mk_laws.proofs.Vocabulary.{at_rest, cases_eq, false, get_or-set_other, get_or-set_same, holder_number, inl}
-use Rattle.mk_laws.proofs.Vocabulary.{inr, is_attending, length, length-set, nothing_done, outside, refl, slice_index}
-use Rattle.mk_laws.proofs.Vocabulary.{slice_index_or, slice_set, sym, true, ℕ, ◌%◌, ◌*◌, ◌+◌, ◌-◌, ◌<◌, ◌∙◌, ◌≡◌, ◌≢◌}
-use Rattle.mk_laws.proofs.Vocabulary.{◌≤◌, ◌⊎◌}
-use Rattle.mk_laws.proofs.Views.{View, gate_in, marker_in, HoldsTurn, flight_in, flight_at, flights_with}
-use Rattle.mk_laws.proofs.ProtocolMoves.{PhaseStep, Begins, Wants, Closes, Releases, Ends, Stops, IdlesOutside, Move}
-use Rattle.mk_laws.proofs.ProtocolMoves.{Stays, Enters, GoesOn, Leaves, Takes, Gives, Works, Holds, Opens, Phases}
-use Rattle.mk_laws.proofs.ProtocolMoves.{Attends, Quits, Scans}
-use Rattle.mk_laws.proofs.Orderly.{count_in, up_one, down_four, up_five, counted_same, counted_more, counted_less}
-use Rattle.mk_laws.proofs.Orderly.{marker_set, up_eight, down_eight, Orderly, turn_of, few_in, AllShow, all_but_flight}
-use Rattle.mk_laws.proofs.Orderly.{all_but_gate, all_but_both, all_but_seat, length_with, shows_at, holders_flight}
-use Rattle.mk_laws.proofs.Orderly.{holder_shows, giver_shows, taker_shows, taker_number}
-use Rattle.mk_laws.proofs.Standings.{Resting, InCall, standing, Shows, shows_taken, shows_given, shows_held}
-use Rattle.mk_laws.proofs.Standings.{shows_opened}
-use Rattle.mk_laws.proofs.Services.{Served, Service, Goes, service_stands, service_rests, served_on, nothing_served}
+use Rattle.mk_laws.proofs.Vocabulary.{Caller, Config, Flight, Holding, Host, List, Marker, MarkerState, Seat, ℕ, ap}
+use Rattle.mk_laws.proofs.Vocabulary.{arith, at_rest, cases_eq, false, get_or-set_other, get_or-set_same, holder_number}
+use Rattle.mk_laws.proofs.Vocabulary.{inl, inr, is_attending, length, length-set, nothing_done, outside, refl}
+use Rattle.mk_laws.proofs.Vocabulary.{slice_index, slice_index_or, slice_set, sym, true, ◌%◌, ◌*◌, ◌+◌, ◌-◌, ◌<◌, ◌∙◌}
+use Rattle.mk_laws.proofs.Vocabulary.{◌≡◌, ◌≢◌, ◌≤◌, ◌⊎◌}
+use Rattle.mk_laws.proofs.Orderly.{AllShow, Orderly, all_but_both, all_but_flight, all_but_gate, all_but_seat, count_in}
+use Rattle.mk_laws.proofs.Orderly.{counted_less, counted_more, counted_same, down_eight, down_four, few_in, giver_shows}
+use Rattle.mk_laws.proofs.Orderly.{holder_shows, holders_flight, length_with, marker_set, shows_at, taker_number}
+use Rattle.mk_laws.proofs.Orderly.{taker_shows, turn_of, up_eight, up_five, up_one}
+use Rattle.mk_laws.proofs.ProtocolMoves.{Attends, Begins, Closes, Ends, Enters, Gives, GoesOn, Holds, IdlesOutside}
+use Rattle.mk_laws.proofs.ProtocolMoves.{Leaves, Move, Opens, Phases, PhaseStep, Quits, Releases, Scans, Stays, Stops}
+use Rattle.mk_laws.proofs.ProtocolMoves.{Takes, Wants, Works}
+use Rattle.mk_laws.proofs.Services.{Goes, Served, Service, nothing_served, served_on, service_rests, service_stands}
+use Rattle.mk_laws.proofs.Standings.{InCall, Resting, Shows, shows_given, shows_held, shows_opened, shows_taken}
+use Rattle.mk_laws.proofs.Standings.{standing}
+use Rattle.mk_laws.proofs.Views.{HoldsTurn, View, flight_at, flight_in, flights_with, gate_in, marker_in}
 
 -- What a step of the phase leaves.
 
@@ -24,16 +24,25 @@ pub record PhaseKept (c : Config) (v : View) (p : ℕ) : Type 0 where
   pub stopped : p % 8 ≡ 3 → (k : ℕ) → k < c.callers → v.turn ≢ 1 + k → gate_in v k ≡ 2
   pub attends : (k : ℕ) → is_attending (marker_in v k).presence ≡ true → (p % 8 ≡ 1) ⊎ (p % 8 ≡ 2)
 
-pub phase_kept : (c : Config) (v : View) (seat : Seat) (p : ℕ) → Orderly c v → HoldsTurn c v seat → PhaseStep c v seat p
-    → PhaseKept c v p
-phase_kept c v seat p h t (Begins z) =
-    let n = up_one v.phase _ (v.phase % 8) h.phase h.low (few_in c v h) (omega arith) in
+-- from a phase in which no marker attends to one that isn't the stop
+quiet : (c : Config) (v : View) (p m : ℕ) → Orderly c v → (p % 8 ≡ m) × (p ≡ m + 8 * count_in v.markers) → m ≤ 5 → m ≢ 3
+    → (v.phase % 8 ≡ 0) ⊎ (3 ≤ v.phase % 8) → PhaseKept c v p
+quiet c v p m h n low no_stop idle =
     record {
       phase = omega (arith, n.0, n.1);
       low = omega (arith, n.0);
-      stopped = λ e. absurd (omega (arith, n.0));
-      attends = λ k a. elim (h.attends k a) [ inl e ↦ absurd (omega arith) | inr e ↦ absurd (omega arith) ];
+      stopped = λ e. absurd (no_stop (sym n.0 ∙ e));
+      attends = λ k a. absurd (elim (h.attends k a) [
+        | inl e ↦ elim idle [ inl z ↦ omega arith | inr l ↦ omega arith ]
+        | inr e ↦ elim idle [ inl z ↦ omega arith | inr l ↦ omega arith ]
+      ]);
     }
+
+pub phase_kept : (c : Config) (v : View) (seat : Seat) (p : ℕ) → Orderly c v → HoldsTurn c v seat → PhaseStep c v seat p
+    → PhaseKept c v p
+phase_kept c v seat p h t (Begins z) =
+    quiet c v p _ h (up_one v.phase _ (v.phase % 8) h.phase h.low (few_in c v h) (omega arith)) (omega arith)
+    (λ e. omega arith) (inl z)
 phase_kept c v seat p h t (Wants z) =
     let n = up_one v.phase _ (v.phase % 8) h.phase h.low (few_in c v h) (omega arith) in
     record {
@@ -52,29 +61,12 @@ phase_kept c v seat p h t (Closes z held none) =
       attends = λ k a. let f : true ≡ false = sym a ∙ none k in cc;
     }
 phase_kept c v seat p h t (Releases z) =
-    let n = up_one v.phase _ (v.phase % 8) h.phase h.low (few_in c v h) (omega arith) in
-    record {
-      phase = omega (arith, n.0, n.1);
-      low = omega (arith, n.0);
-      stopped = λ e. absurd (omega (arith, n.0));
-      attends = λ k a. elim (h.attends k a) [ inl e ↦ absurd (omega arith) | inr e ↦ absurd (omega arith) ];
-    }
-phase_kept c v seat p h t (Ends z) =
-    let n = down_four v.phase _ (v.phase % 8) h.phase (few_in c v h) z in
-    record {
-      phase = omega (arith, n.0, n.1);
-      low = omega (arith, n.0);
-      stopped = λ e. absurd (omega (arith, n.0));
-      attends = λ k a. elim (h.attends k a) [ inl e ↦ absurd (omega arith) | inr e ↦ absurd (omega arith) ];
-    }
-phase_kept c v seat p h t (Stops z) =
-    let n = up_five v.phase _ (v.phase % 8) h.phase (few_in c v h) z in
-    record {
-      phase = omega (arith, n.0, n.1);
-      low = omega (arith, n.0);
-      stopped = λ e. absurd (omega (arith, n.0));
-      attends = λ k a. elim (h.attends k a) [ inl e ↦ absurd (omega arith) | inr e ↦ absurd (omega arith) ];
-    }
+    quiet c v p _ h (up_one v.phase _ (v.phase % 8) h.phase h.low (few_in c v h) (omega arith)) (omega arith)
+    (λ e. omega arith) (inr (omega arith))
+phase_kept c v seat p h t (Ends z) = quiet c v p _ h (down_four v.phase _ (v.phase % 8) h.phase (few_in c v h) z)
+    (omega arith) (λ e. omega arith) (inr (omega arith))
+phase_kept c v seat p h t (Stops z) = quiet c v p _ h (up_five v.phase _ (v.phase % 8) h.phase (few_in c v h) z)
+    (omega arith) (λ e. omega arith) (inl z)
 
 flights_kept : (c : Config) (v : View) (seat : Seat) (f : Flight) → Orderly c v
     → length (flights_with v.flights seat f) ≡ c.callers

@@ -1,10 +1,10 @@
 -- The moves of the protocol: what an event may do to what it reads.
-use Rattle.mk_laws.proofs.Vocabulary.{Caller, Config, Flight, Holding, Host, IsIdle, Marker, MarkerState, Seat, at_rest}
-use Rattle.mk_laws.proofs.Vocabulary.{false, holder_number, is_attending, is_in, nothing_done, outside, slice_set, true}
-use Rattle.mk_laws.proofs.Vocabulary.{ℕ, ◌%◌, ◌+◌, ◌-◌, ◌<◌, ◌^◌, ◌≡◌, ◌≢◌, ◌≤◌, ◌⊎◌}
-use Rattle.mk_laws.proofs.Standings.{Resting, InCall, UnderTurn, standing}
+use Rattle.mk_laws.proofs.Vocabulary.{Caller, Config, Flight, Holding, Host, IsIdle, Marker, MarkerState, Seat, ℕ}
+use Rattle.mk_laws.proofs.Vocabulary.{at_rest, false, holder_number, is_attending, is_in, nothing_done, outside}
+use Rattle.mk_laws.proofs.Vocabulary.{slice_set, true, ◌%◌, ◌+◌, ◌-◌, ◌<◌, ◌^◌, ◌≡◌, ◌≢◌, ◌≤◌, ◌⊎◌}
+use Rattle.mk_laws.proofs.Standings.{InCall, Resting, UnderTurn, standing}
+use Rattle.mk_laws.proofs.Views.{HoldsTurn, View, flight_at, flight_in, flights_with, gate_in, marker_in}
 use Rattle.mk_laws.proofs.Services.{Service}
-use Rattle.mk_laws.proofs.Views.{View, flight_in, gate_in, marker_in, flight_at, flights_with, HoldsTurn}
 
 -- the seat may take the turn, with this call
 abbrev pub MayTake : Config → View → Seat → Flight → Type 0

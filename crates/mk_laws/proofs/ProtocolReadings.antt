@@ -1,15 +1,12 @@
 -- What a look at the turn, at a gate and at the phase says.
 use Rattle.mk_laws.proofs.Vocabulary.{Caller, Config, Event, Holds, Host, List, Marker, MarkerState, Moment, Presence}
-use Rattle.mk_laws.proofs.Vocabulary.{Protocol, Seat, ap, arith, cases_Bool, cases_eq, cases_lt, false, get_or_past}
+use Rattle.mk_laws.proofs.Vocabulary.{Protocol, Seat, ℕ, ap, arith, cases_Bool, cases_eq, cases_lt, false, get_or_past}
 use Rattle.mk_laws.proofs.Vocabulary.{inl, inr, is_attending, is_in, left, length, marker_of, not, outside, refl, sym}
-use Rattle.mk_laws.proofs.Vocabulary.{true, ℕ, ◌-◌, ◌/◌, ◌<◌, ◌∙◌, ◌≡◌, ◌≤◌}
+use Rattle.mk_laws.proofs.Vocabulary.{true, ◌-◌, ◌/◌, ◌<◌, ◌∙◌, ◌≡◌, ◌≤◌}
 use Rattle.mk_core.specs.declared.seats.Presence.TheVariants.{Attending}
-use Rattle.mk_core.specs.MarkerConditions.{is_out}
-use Rattle.mk_core.specs.Readings.{TurnTells, GateTells, PhaseTells}
+use Rattle.mk_core.specs.{MarkerConditions.is_out, Readings.GateTells, Readings.PhaseTells, Readings.TurnTells}
+use Rattle.mk_laws.proofs.{Orderly.count_in-at, ProtocolHeldGates.gates_tell_holds, Protocols.lists_keep_the_protocol}
 use Rattle.mk_laws.specs.HolderReadings.{WordsTell}
-use Rattle.mk_laws.proofs.Orderly.{count_in-at}
-use Rattle.mk_laws.proofs.ProtocolHeldGates.{gates_tell_holds}
-use Rattle.mk_laws.proofs.Protocols.{lists_keep_the_protocol}
 
 turn_tells : (c : Config) (m : Moment) → Protocol c m → TurnTells c m
 turn_tells c m p = record { least = p.turn; caller = p.holder; nobody = (held, free) }
@@ -36,8 +33,7 @@ attending_in _ h = cc
 pub in_counts : (c : Config) (m : Moment) (k : ℕ) → Protocol c m → is_in (marker_of m k) ≡ true → 1 ≤ m.words.phase / 8
 in_counts c m k p is = elim (cases_lt k (length m.seats.markers)) [
   | inl lt ↦ let one = count_in-at m.seats.markers k lt is in let high = p.high in omega arith
-  | inr past ↦ let f : false ≡ true =
-      ap (λ (x : MarkerState). is_in x) (sym (get_or_past m.seats.markers k outside past)) ∙ is in cc
+  | inr past ↦ let f = ap is_in (sym (get_or_past m.seats.markers k outside past)) ∙ is in cc
 ]
 
 phase_tells : (c : Config) (m : Moment) → Protocol c m → PhaseTells c m

@@ -1,12 +1,12 @@
 -- The protocol holds after every enabled list.
-use Rattle.mk_laws.proofs.Vocabulary.{Bool, Caller, Config, Flight, Moment, Protocol, ap, arith, at_rest, cases_lt}
+use Rattle.mk_laws.proofs.Vocabulary.{Bool, Caller, Config, Flight, Moment, Protocol, ℕ, ap, arith, at_rest, cases_lt}
 use Rattle.mk_laws.proofs.Vocabulary.{false, flight_of, get_or_past, inl, inr, is_decided_free, is_undecided_new, left}
-use Rattle.mk_laws.proofs.Vocabulary.{refl, sym, true, ℕ, ◌+◌, ◌-◌, ◌<◌, ◌↔◌, ◌∙◌, ◌≡◌, ◌≢◌, ◌≤◌}
+use Rattle.mk_laws.proofs.Vocabulary.{refl, sym, true, ◌+◌, ◌-◌, ◌<◌, ◌↔◌, ◌∙◌, ◌≡◌, ◌≢◌, ◌≤◌}
 use Rattle.mk_laws.proofs.Basics.{Known, Orderly, flight_in, gate_in, in_call_told, known_left, not_astray, standing}
 use Rattle.mk_laws.proofs.Basics.{view_of}
-use Rattle.mk_laws.specs.Protocol.{is_decided_new, SomeCaller, ListsKeepTheProtocol}
-use Rattle.mk_laws.proofs.Standings.{is_standing_in_call, shows_turn, shows_gate, in_turn_told, stage_told}
+use Rattle.mk_laws.proofs.Standings.{in_turn_told, is_standing_in_call, shows_gate, shows_turn, stage_told}
 use Rattle.mk_laws.proofs.Known.{HaveOperands}
+use Rattle.mk_laws.specs.Protocol.{ListsKeepTheProtocol, SomeCaller, is_decided_new}
 
 -- what is in order is as the protocol says
 
@@ -31,9 +31,8 @@ told c m o operands =
       turn = o.turn;
       gate = λ k lt. (gates k lt).0;
       in_call = λ k lt.
-          let g = (gates k lt).1 in
           let told = in_call_told (flight_of m (Caller k)).stage (flight_of m (Caller k)).op (not_astray c m o k lt) in
-          (λ x. sym told ∙ g.0 x, λ x. g.1 (told ∙ x));
+          (λ x. sym told ∙ (gates k lt).1.0 x, λ x. (gates k lt).1.1 (told ∙ x));
       held = λ k lt. (gates k lt).2;
       holder = λ k lt.
           let t = shows_turn m.words.turn (gate_in (view_of m) k) k (standing (flight_of m (Caller k))) (o.each k lt) in

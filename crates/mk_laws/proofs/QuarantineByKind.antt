@@ -1,29 +1,24 @@
 -- What each kind of event makes of the quarantine.
 use Rattle.mk_laws.proofs.Vocabulary.{Bool, Cell, Claim, Config, Flight, Ground, HasQuarantine, IsQuarantined, IsShown}
 use Rattle.mk_laws.proofs.Vocabulary.{ItDrops, ItFrees, ItGivesBack, ItTakes, ItTakesSnapshot, LayoutStands, List, None}
-use Rattle.mk_laws.proofs.Vocabulary.{Option, Page, Place, PlacedAllocation, Placing, QuarantineStep, Seat, Some, Step}
-use Rattle.mk_laws.proofs.Vocabulary.{Unplaced, Used, UsedStep, Words, World, and_from, ap, arith, cases_lt, cell_freed}
-use Rattle.mk_laws.proofs.Vocabulary.{cell_of_allocation, chosen, claim_of, cond-true, eqb-true, false}
+use Rattle.mk_laws.proofs.Vocabulary.{Op, Option, Page, Place, PlacedAllocation, Placing, QuarantineStep, Seat, Some}
+use Rattle.mk_laws.proofs.Vocabulary.{Step, Unplaced, Used, UsedStep, Words, World, ℕ, and_from, ap, arith, cases_lt}
+use Rattle.mk_laws.proofs.Vocabulary.{cell_freed, cell_of_allocation, chosen, claim_of, cond-true, eqb-true, false}
 use Rattle.mk_laws.proofs.Vocabulary.{false_from_ne_true, flight_of, found, freed_cell, frees, get_or_past, ground_of}
 use Rattle.mk_laws.proofs.Vocabulary.{has_place, if◌then◌else◌, inl, inr, is_phase, is_released_in, is_undecided_free}
 use Rattle.mk_laws.proofs.Vocabulary.{is_undecided_new, length, ltb-true, may_end, none_freed, not, nothing_done}
 use Rattle.mk_laws.proofs.Vocabulary.{object_now, object_placed, or_cases, phase_of, place_now, placed_at}
 use Rattle.mk_laws.proofs.Vocabulary.{quarantine_step, refl, set-get_or, slice_index, slice_set, stands_in}
 use Rattle.mk_laws.proofs.Vocabulary.{stands_in_its_cell, sym, taken, target, true, true≢false, undecided_free}
-use Rattle.mk_laws.proofs.Vocabulary.{undecided_new, used_step, ℕ, ◌%◌, ◌&&◌, ◌/◌, ◌<◌, ◌==◌, ◌^◌, ◌||◌, ◌∙◌, ◌≡◌}
+use Rattle.mk_laws.proofs.Vocabulary.{undecided_new, used_step, ◌%◌, ◌&&◌, ◌/◌, ◌<◌, ◌==◌, ◌^◌, ◌||◌, ◌∙◌, ◌≡◌}
+use Rattle.mk_core.proofs.{EvaluatedPlaces.full, PlacesNow.FreesCell, PlacesNow.chosen_used}
 use Rattle.mk_laws.proofs.Basics.{Before, Laid, Meets, WorldBehind, all_stand, claim_among, free_has_turn}
 use Rattle.mk_laws.proofs.Basics.{is_releasing_behind, none_set, own_claim, placed_undecided, reg_leaves_ground}
 use Rattle.mk_laws.proofs.Basics.{tally_ground}
-use Rattle.mk_never.specs.declared.operations.Op.TheVariants as op
-use Rattle.mk_core.specs.declared.events.Step.TheVariants as step
-use Rattle.mk_core.proofs.EvaluatedPlaces.{full}
-use Rattle.mk_core.proofs.PlacesNow.{FreesCell, chosen_used}
 use Rattle.mk_laws.proofs.Ground.{KeepsGround, with_quarantine}
-use Rattle.mk_laws.proofs.LayoutByKind.{off_at, with_halves}
-use Rattle.mk_laws.proofs.Dropped.{settled_page}
-use Rattle.mk_laws.proofs.Freed.{standing_cell}
 use Rattle.mk_laws.proofs.QuarantineChanges.{FreesHere, begin_kept, free_kept, grant_kept, index_small, release_kept}
 use Rattle.mk_laws.proofs.QuarantineSteps.{drop_kept, end_kept, released_bits, replaced, snapshot_kept, take_kept}
+use Rattle.mk_laws.proofs.{Dropped.settled_page, Freed.standing_cell, LayoutByKind.off_at, LayoutByKind.with_halves}
 
 abbrev pub QuarantinedAs : Config → Bool → World → Ground → Type 0
 QuarantinedAs c releasing w t = HasQuarantine c releasing w.now.words.marks t
@@ -44,20 +39,18 @@ shown_at c w i laid u =
 pub frees_some : (pages : ℕ) (w : Words) (f : Flight) (p n : ℕ) → is_phase w 4 ≡ false
     → frees w (target pages w f) p n ≡ true → cell_freed pages w f p n ≡ None → ⊥
 frees_some pages w f p n off h none =
-    let both : (not (is_phase w 4) && frees w (target pages w f) p n) ≡ true = and_from _ _ (ap not off) h in
-    let at : target pages w f ≡ None = sym (cond-true _ _ None both) ∙ none in
-    let e : true ≡ false = sym h ∙ ap (λ (x : Option Cell). frees w x p n) at in
-    true≢false e
+    let at : target pages w f ≡ None = sym (cond-true _ _ None (and_from _ _ (ap not off) h)) ∙ none in
+    true≢false (sym h ∙ ap (λ (x : Option Cell). frees w x p n) at)
 
 -- a New and a Free aren't the same call
 not_both : (f : Flight) → is_undecided_new f ≡ true → is_undecided_free f ≡ true → ⊥
 not_both f new free =
     let a = undecided_new f new in
     let b = undecided_free f free in
-    let e : op.New a.d a.ty a.full ≡ op.Free b.p = sym a.op ∙ b.op in
+    let e : Op.New a.d a.ty a.full ≡ Op.Free b.p = sym a.op ∙ b.op in
     apart a.d a.ty a.full b.p e
   where
-    apart : (d ty : ℕ) (full : Bool) (p : ℕ) → op.New d ty full ≡ op.Free p → ⊥
+    apart : (d ty : ℕ) (full : Bool) (p : ℕ) → Op.New d ty full ≡ Op.Free p → ⊥
     apart d ty full p e = cc
 
 quar_none : (c : Config) (w : World) (f : Flight) (p n : ℕ) → p < length w.now.words.freed
@@ -70,14 +63,13 @@ quar_none c w f p n lf ls none (ItTakesSnapshot x) q =
     let small = (q.small p).0 in
     let low : n % 2 ^ 32 ≡ slice_index w.now.words.freed p = omega arith in
     let high : n / 2 ^ 32 ≡ slice_index w.now.words.freed p = omega arith in
-    let same : slice_set w.now.words.freed p (n % 2 ^ 32) ≡ w.now.words.freed =
-    rw low (set-get_or w.now.words.freed p 0) in
+    let same : slice_set w.now.words.freed p (n % 2 ^ 32) ≡ w.now.words.freed = rw low (set-get_or _ p 0) in
     let off = off_at w 0 x.phase (λ e. absurd (omega arith)) in
-    rw off (rw same (rw high (snapshot_kept c w.now.words.marks (ground_of w) p ls (rw off at q))))
+    rw off (rw same (rw high (snapshot_kept c _ (ground_of w) p ls (rw off at q))))
 
 -- what a step that frees finds
 pub frees_here : (c : Config) (w : World) (seat : Seat) (p n : ℕ) (cell : Cell) → Before c w
-    → Meets c w.now seat (step.Quar p n) → LayoutStands c w
+    → Meets c w.now seat (Step.Quar p n) → LayoutStands c w
     → FreesCell c.pages w.now.words (flight_of w.now seat) p n cell → FreesHere c w cell n
 frees_here c w seat p n cell b h laid x =
     let own = b.others.target seat cell x.at in
@@ -107,8 +99,8 @@ frees_here c w seat p n cell b h laid x =
           (λ has. not_both (flight_of w.now seat) (placed_undecided c w.now seat b.known turn has) x.free);
     }
 
-quar_kept : (c : Config) (w : World) (seat : Seat) (p n : ℕ) → Before c w → Meets c w.now seat (step.Quar p n)
-    → LayoutStands c w → IsQuarantined c w → QuarantinedNow c w (ground_of (WorldBehind c w seat (step.Quar p n)))
+quar_kept : (c : Config) (w : World) (seat : Seat) (p n : ℕ) → Before c w → Meets c w.now seat (Step.Quar p n)
+    → LayoutStands c w → IsQuarantined c w → QuarantinedNow c w (ground_of (WorldBehind c w seat (Step.Quar p n)))
 quar_kept c w seat p n b h laid q = by (cell_freed c.pages w.now.words (flight_of w.now seat) p n) refl
   where
     lf : p < length w.now.words.freed
@@ -144,8 +136,7 @@ used_kept c w seat p n pages laid q (ItTakes off once x) =
     rw off (rw x.there (take_kept c w.now.words.marks (ground_of w) pages x.place (λ i u. (shown_at c w i laid u).used)
     (rw (← x.taken.at) x.taken.unused) (rw off at q)))
 used_kept c w seat p n pages laid q (ItGivesBack on x) =
-    rw on (replaced c true w.now.words.marks (ground_of w) pages w.now.seats.holding.placing w.now.seats.holding.freed
-    (λ place e. e) (rw on at q))
+    rw on (replaced c true _ (ground_of w) pages _ _ (λ place e. e) (rw on at q))
 
 -- `mark`
 mark_from : (t : Bool) (placing : Placing) (found : Option Place) (place : Place)
@@ -179,7 +170,7 @@ none_left c w b own p k = elim (cases_lt p c.pages) [
 pub quarantine_by_kind : (c : Config) (w : World) (seat : Seat) (x : Step) → Before c w → Meets c w.now seat x
     → LayoutStands c w → IsQuarantined c w
     → QuarantinedAs c (is_releasing_behind x (is_phase w.now.words 4)) w (ground_of (WorldBehind c w seat x))
-quarantine_by_kind c w seat (step.Take o) b h laid q = by (w.now.words.turn == 0) refl
+quarantine_by_kind c w seat (Step.Take o) b h laid q = by (w.now.words.turn == 0) refl
   where
     by : (t : Bool) → (w.now.words.turn == 0) ≡ t → QuarantinedNow c w (record (ground_of w) {
       placing = (if t then nothing_done else w.now.seats.holding).placing;
@@ -187,26 +178,23 @@ quarantine_by_kind c w seat (step.Take o) b h laid q = by (w.now.words.turn == 0
     })
     by false is = q
     by true is = rw (b.known.orderly.free (eqb-true w.now.words.turn 0 is)) at q
-quarantine_by_kind c w seat step.Give b h laid q =
-    replaced c _ w.now.words.marks (ground_of w) w.now.words.pages Unplaced None (λ place e. cc) q
-quarantine_by_kind c w seat step.Reg b h laid q = kept_ground c w _ (reg_leaves_ground c w seat) q
-quarantine_by_kind c w seat (step.Tally n v) b h laid q = kept_ground c w _ (tally_ground w.now.words n v) q
-quarantine_by_kind c w seat (step.Head p n) b h laid q =
-    replaced c _ w.now.words.marks (ground_of w) _ _ w.now.seats.holding.freed
-    (λ place e. head_from _ w.now.seats.holding.placing _ place e) q
-quarantine_by_kind c w seat (step.Used p n) b h laid q =
+quarantine_by_kind c w seat Step.Give b h laid q = replaced c _ _ (ground_of w) _ Unplaced None (λ place e. cc) q
+quarantine_by_kind c w seat Step.Reg b h laid q = kept_ground c w _ (reg_leaves_ground c w seat) q
+quarantine_by_kind c w seat (Step.Tally n v) b h laid q = kept_ground c w _ (tally_ground w.now.words n v) q
+quarantine_by_kind c w seat (Step.Head p n) b h laid q =
+    replaced c _ _ (ground_of w) _ _ _ (λ place e. head_from _ _ _ place e) q
+quarantine_by_kind c w seat (Step.Used p n) b h laid q =
     used_kept c w seat p n _ laid q (used_step c w.now _ p n h.holder)
-quarantine_by_kind c w seat (step.Quar p n) b h laid q = quar_kept c w seat p n b h laid q
-quarantine_by_kind c w seat step.Grant b h laid q =
-    let off = grants_early w h.phase in
-    rw off (grant_kept c w.now.words.marks (ground_of w) _ refl (rw off at q))
-quarantine_by_kind c w seat (step.Mark p n) b h laid q =
+quarantine_by_kind c w seat (Step.Quar p n) b h laid q = quar_kept c w seat p n b h laid q
+quarantine_by_kind c w seat Step.Grant b h laid q =
+    rw (grants_early w h.phase) (grant_kept c w.now.words.marks (ground_of w) _ refl (rw (grants_early w h.phase) at q))
+quarantine_by_kind c w seat (Step.Mark p n) b h laid q =
     replaced c _ w.now.words.marks (ground_of w) _ _ w.now.seats.holding.freed (λ place e.
     mark_from _ w.now.seats.holding.placing _ place e) q
-quarantine_by_kind c w seat step.Begin b h laid q = begin_kept c _ w.now.words.marks (ground_of w) q
-quarantine_by_kind c w seat step.Release b h laid q =
+quarantine_by_kind c w seat Step.Begin b h laid q = begin_kept c _ w.now.words.marks (ground_of w) q
+quarantine_by_kind c w seat Step.Release b h laid q =
     let off = off_at w 3 h.phase (λ e. absurd (omega arith)) in
     release_kept c w b.limits (all_stand c _ false w b.lengths.pages (rw off at laid)) (rw off at q)
-quarantine_by_kind c w seat step.End b h laid q =
+quarantine_by_kind c w seat Step.End b h laid q =
     end_kept c w.now.words.marks (ground_of w) (none_left c w b h.holder) (rw h.phase at q)
 quarantine_by_kind c w seat _ b h laid q = q

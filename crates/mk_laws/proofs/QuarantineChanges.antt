@@ -1,24 +1,20 @@
 -- The quarantine after the steps that change allocations: `release`, `quar` (a), `grant`, `begin`.
-use Rattle.std.proofs.Common.{pow-suc}
-use Rattle.std.proofs.Math.Pow.{pow_mono}
-use Rattle.std.proofs.lemmas.Nat.{or_lt}
+use Rattle.std.proofs.{Common.pow-suc, Math.Pow.pow_mono, lemmas.Nat.or_lt}
 use Rattle.mk_laws.proofs.Vocabulary.{Bool, Cell, Config, Granted, Ground, HasQuarantine, IsFreedCell, IsSized}
 use Rattle.mk_laws.proofs.Vocabulary.{IsWithinLimits, List, Object, Option, PlacedAllocation, Placing, RunPages, Some}
-use Rattle.mk_laws.proofs.Vocabulary.{Words, World, [], ap, arith, cases_Bool, cases_eq, cell_ends, cell_of_allocation}
+use Rattle.mk_laws.proofs.Vocabulary.{Words, World, ℕ, ap, arith, cases_Bool, cases_eq, cell_ends, cell_of_allocation}
 use Rattle.mk_laws.proofs.Vocabulary.{cells_made, changed_at, class_known, class_made, class_words_of, cond-true, false}
 use Rattle.mk_laws.proofs.Vocabulary.{freed_released, freed_where_it_stands, ground_of, has_bit, has_place}
 use Rattle.mk_laws.proofs.Vocabulary.{if◌then◌else◌, inl, inr, is_released_in, is_small_object, large_cells, length}
 use Rattle.mk_laws.proofs.Vocabulary.{map, mul-le, no_longer_fresh, placed_at, quarantine_word, refl, slice_index}
 use Rattle.mk_laws.proofs.Vocabulary.{slice_set, small, small_cells, stands_in, suc, sym, true, true≢false}
-use Rattle.mk_laws.proofs.Vocabulary.{with_released, ℕ, ◌%◌, ◌*◌, ◌++◌, ◌+◌, ◌/◌, ◌<◌, ◌^◌, ◌∙◌, ◌∷◌, ◌≡◌, ◌≤◌, ◌⊎◌}
-use Rattle.mk_laws.proofs.Basics.{IsStanding, LeavesCells, bit_cases, freeing_leaves, releasing_leaves, same_cell}
+use Rattle.mk_laws.proofs.Vocabulary.{with_released, [], ◌%◌, ◌*◌, ◌++◌, ◌+◌, ◌/◌, ◌<◌, ◌^◌, ◌∙◌, ◌∷◌, ◌≡◌, ◌≤◌, ◌⊎◌}
 use Rattle.mk_geom.proofs.ClassTable.{class_words_within}
 use Rattle.mk_core.proofs.WordBits.{added_here, added_other, sum_is_or}
-use Rattle.mk_laws.specs.Terrain.{IsCellOf}
-use Rattle.mk_laws.proofs.LayoutByKind.{fresh_cells}
+use Rattle.mk_laws.proofs.Basics.{IsStanding, LeavesCells, bit_cases, freeing_leaves, releasing_leaves, same_cell}
 use Rattle.mk_laws.proofs.Granted.{pushed_at, still_at}
-use Rattle.mk_laws.proofs.QuarantineSteps.{least_set}
-use Rattle.mk_laws.proofs.Released.{left_is}
+use Rattle.mk_laws.proofs.{LayoutByKind.fresh_cells, QuarantineSteps.least_set, Released.left_is}
+use Rattle.mk_laws.specs.Terrain.{IsCellOf}
 
 -- A freed cell after a change that leaves its allocation unreleased, and freed.
 pub freed_behind : (c : Config) (g : PlacedAllocation → PlacedAllocation) (xs : List PlacedAllocation) (p k : ℕ)

@@ -1,13 +1,11 @@
 -- The word that an access reaches: one of a mapped allocation.
 use Rattle.mk_laws.proofs.Vocabulary.{Bool, ImageScene, IsMet, IsNumber, IsSafe, IsSound, IsTypedAllocation, Kind, List}
 use Rattle.mk_laws.proofs.Vocabulary.{Meets, NeverState, Null, Num, Number, PlacedAllocation, Ptr, Suits, To, Unmapped}
-use Rattle.mk_laws.proofs.Vocabulary.{Value, WordOf, allocation_at, ap, arith, bases_of, false, false≢true, header_of}
-use Rattle.mk_laws.proofs.Vocabulary.{image_of, is_unmapped, is_unmapped_header, kind_in, length, length-map, number_of}
-use Rattle.mk_laws.proofs.Vocabulary.{placed_at, refl, sym, target_of, true, word_at, words_of, ℕ, ◌++◌, ◌+◌, ◌-◌, ◌/◌}
-use Rattle.mk_laws.proofs.Vocabulary.{◌<◌, ◌∙◌, ◌≡◌, ◌≢◌}
-use Rattle.mk_laws.proofs.Pairs.{image_more}
-use Rattle.mk_laws.proofs.ImagesKept.{base_at}
-use Rattle.mk_laws.proofs.Ready.{Ready}
+use Rattle.mk_laws.proofs.Vocabulary.{Value, WordOf, ℕ, allocation_at, ap, arith, bases_of, false, false≢true}
+use Rattle.mk_laws.proofs.Vocabulary.{header_of, image_of, is_unmapped, is_unmapped_header, kind_in, length, length-map}
+use Rattle.mk_laws.proofs.Vocabulary.{number_of, placed_at, refl, sym, target_of, true, word_at, words_of, ◌++◌, ◌+◌}
+use Rattle.mk_laws.proofs.Vocabulary.{◌-◌, ◌/◌, ◌<◌, ◌∙◌, ◌≡◌, ◌≢◌}
+use Rattle.mk_laws.proofs.{HeapEdits.base_at, Pairs.image_more, Ready.Ready}
 
 -- the access through the value, i words on, whose address is in q
 pub record Reaches (safe : ℕ → Bool) (s : ImageScene) (n : NeverState) (v : Value) (q i : ℕ) (P : Kind

@@ -1,26 +1,17 @@
 -- Which word an enabled event reaches, and how.
 use Rattle.mk_laws.proofs.Vocabulary.{Bool, Caller, Config, Flight, Holding, Holds, Host, Marker, MarkerState, Moment}
-use Rattle.mk_laws.proofs.Vocabulary.{Op, Placing, Seat, Stage, Step, Tally, Word, access, and_parts, ap, arith}
+use Rattle.mk_laws.proofs.Vocabulary.{Op, Placing, Seat, Stage, Step, Tally, Word, ℕ, access, and_parts, ap, arith}
 use Rattle.mk_laws.proofs.Vocabulary.{caller_number, enabled_meets, false, flight_of, has_next_word, holder_number}
 use Rattle.mk_laws.proofs.Vocabulary.{is_new_at, is_none, is_number_of, is_scanned, is_under_turn, left, ltb-true}
 use Rattle.mk_laws.proofs.Vocabulary.{marker_at, nat_lt, not, outside, page_met, refl, seat_exists, tally_word, true}
-use Rattle.mk_laws.proofs.Vocabulary.{word_accessed, word_met, ℕ, ◌&&◌, ◌*◌, ◌++◌, ◌<◌, ◌∙◌, ◌≡◌, ◌≤◌}
+use Rattle.mk_laws.proofs.Vocabulary.{word_accessed, word_met, ◌&&◌, ◌*◌, ◌++◌, ◌<◌, ◌∙◌, ◌≡◌, ◌≤◌}
+use Rattle.mk_core.specs.Accesses.{access_by, word_reached}
+use Rattle.mk_core.specs.{Layout.IsOfTable, Layout.NamesWord, Ranges.is_word, Ranges.is_word_met, Readings.is_idle}
 use Rattle.mk_laws.proofs.Basics.{Known, Meets, grants_new, is_grant, known_left, new_holds, operands_of}
 use Rattle.mk_laws.proofs.Basics.{register_small}
-use Rattle.mk_never.specs.declared.operations.Op.TheVariants as op
-use Rattle.mk_core.specs.declared.seats.Stage.TheVariants as stage
-use Rattle.mk_core.specs.Readings.{is_idle}
-use Rattle.mk_core.specs.declared.events.Step.TheVariants as step
-use Rattle.mk_core.specs.declared.events.Tally.TheVariants as tally
-use Rattle.mk_core.specs.declared.events.Word.TheVariants as word
-use Rattle.mk_core.specs.Layout.{NamesWord, IsOfTable}
-use Rattle.mk_core.specs.Ranges.{is_word, is_word_met}
-use Rattle.mk_core.specs.Accesses.{word_reached, access_by}
+use Rattle.mk_laws.proofs.ScansInHeap.{MarkerFits, next_in_heap, nothing_fits, scan_page_in_heap, seen_page_in_heap}
+use Rattle.mk_laws.proofs.{InHeap.InHeap, InHeap.in_heap_left, Known.Operands, ProtocolFrames.others_leave}
 use Rattle.mk_laws.specs.Reaching.{EventsReachTheTable, OthersLeaveAccesses}
-use Rattle.mk_laws.proofs.Known.{Operands}
-use Rattle.mk_laws.proofs.ScansInHeap.{MarkerFits, nothing_fits, next_in_heap, scan_page_in_heap, seen_page_in_heap}
-use Rattle.mk_laws.proofs.InHeap.{InHeap, in_heap_left}
-use Rattle.mk_laws.proofs.ProtocolFrames.{others_leave}
 
 -- what is known of a seat
 
@@ -39,23 +30,22 @@ seat_marker c m _ h = nothing_fits c outside refl refl
 
 -- a word that is looked at
 looked_at : (c : Config) (x : Word) → c.callers ≤ 16 → is_word c x ≡ true → NamesWord c.pages x
-looked_at c (word.Gate j) small h = let lt = ltb-true j c.callers h in omega arith
-looked_at c (word.Reg j r) small h =
+looked_at c (Word.Gate j) small h = let lt = ltb-true j c.callers h in omega arith
+looked_at c (Word.Reg j r) small h =
     let both = and_parts _ (nat_lt r 8) h in
-    let lt = ltb-true j c.callers both.0 in
-    (omega arith, ltb-true r 8 both.1)
-looked_at c (word.Global g) small h = ltb-true g 64 h
-looked_at c (word.Head p) small h = ltb-true p c.pages h
-looked_at c (word.Used p) small h = ltb-true p c.pages h
-looked_at c (word.Quar p) small h = ltb-true p c.pages h
-looked_at c (word.Mark p) small h = ltb-true p c.pages h
-looked_at c (word.Black p) small h = ltb-true p c.pages h
-looked_at c (word.Dirty p) small h = ltb-true p c.pages h
-looked_at c (word.Heap n) small h = ltb-true n (64 * c.pages) h
+    (omega (arith, ltb-true j c.callers both.0), ltb-true r 8 both.1)
+looked_at c (Word.Global g) small h = ltb-true g 64 h
+looked_at c (Word.Head p) small h = ltb-true p c.pages h
+looked_at c (Word.Used p) small h = ltb-true p c.pages h
+looked_at c (Word.Quar p) small h = ltb-true p c.pages h
+looked_at c (Word.Mark p) small h = ltb-true p c.pages h
+looked_at c (Word.Black p) small h = ltb-true p c.pages h
+looked_at c (Word.Dirty p) small h = ltb-true p c.pages h
+looked_at c (Word.Heap n) small h = ltb-true n (64 * c.pages) h
 looked_at c _ small h = tt
 
 tallied : (pages : ℕ) (t : Tally) → NamesWord pages (tally_word t)
-tallied pages tally.Held = tt
+tallied pages Tally.Held = tt
 tallied pages _ = tt
 
 -- the word that a call accesses
@@ -70,67 +60,61 @@ other_gate c seat j small h = let lt = ltb-true j c.callers (and_parts _ _ h).0 
 
 reaches : (c : Config) (m : Moment) (seat : Seat) (x : Step) → Known c m → InHeap c m → Meets c m seat x
     → IsOfTable c.pages (word_accessed c m (record { seat = seat; step = x }))
-reaches c m seat (step.Enter o) known heap h = number_small c seat known.small h.seat
-reaches c m seat step.Leave known heap h = number_small c seat known.small h.seat
-reaches c m seat step.Reg known heap h = (
+reaches c m seat (Step.Enter o) known heap h = number_small c seat known.small h.seat
+reaches c m seat Step.Leave known heap h = number_small c seat known.small h.seat
+reaches c m seat Step.Reg known heap h = (
   number_small c seat known.small h.seat,
   register_small (flight_of m seat) (flight_of m seat).stage (seat_operands c m seat known),
 )
-reaches c m seat step.Probe known heap h = (met c (flight_of m seat) h.range).1
-reaches c m seat step.Read known heap h = (met c (flight_of m seat) h.range).0
-reaches c m seat step.Write known heap h = (met c (flight_of m seat) h.range).0
-reaches c m seat step.Cas known heap h = (met c (flight_of m seat) h.range).0
-reaches c m seat step.Getg known heap h = (seat_operands c m seat known).g
-reaches c m seat step.Setg known heap h = (seat_operands c m seat known).g
-reaches c m seat step.Dirty known heap h = (met c (flight_of m seat) h.range).1
-reaches c m seat (step.Look w) known heap h = looked_at c w known.small h.range
-reaches c m seat (step.Head p v) known heap h = ltb-true p c.pages h.range
-reaches c m seat (step.Used p v) known heap h = ltb-true p c.pages h.range
-reaches c m seat (step.Quar p v) known heap h = ltb-true p c.pages h.range
-reaches c m seat step.Grant known heap h = (number_small c seat known.small h.seat, (seat_operands c m seat known).d)
-reaches c m seat (step.Tally n v) known heap h = tallied c.pages n
-reaches c m seat (step.Hold j) known heap h = other_gate c seat j known.small h.range
-reaches c m seat (step.Open j) known heap h = other_gate c seat j known.small h.range
-reaches c m seat (step.Clear p) known heap h = ltb-true p c.pages h.range
-reaches c m seat (step.Mark p v) known heap h = ltb-true p c.pages h.range
-reaches c m seat (step.Wipe n) known heap h = ltb-true n (64 * c.pages) h.range
-reaches c m seat (step.Undirty p) known heap h = ltb-true p c.pages h.range
-reaches c m seat (step.Black p v) known heap h = ltb-true p c.pages h.range
-reaches c m seat (step.Unblack p) known heap h = ltb-true p c.pages h.range
-reaches c m seat (step.Mlook w) known heap h = looked_at c w known.small h.range
-reaches c m seat (step.Claim p i) known heap h =
-    ltb-true p c.pages (and_parts (nat_lt p c.pages) (nat_lt i 32) h.range).0
-reaches c m seat step.Mload known heap h = next_in_heap c (marker_at m seat).scan
-    (and_parts (has_next_word (marker_at m seat).scan) (is_none (marker_at m seat).hand) h.marker).0
-    (seat_marker c m seat heap).end
-reaches c m seat step.Mmark known heap h = seen_page_in_heap c (marker_at m seat).seen (marker_at m seat).hand h.marker
-reaches c m seat step.Mblack known heap h = scan_page_in_heap c (marker_at m seat).scan
-    (and_parts (is_scanned (marker_at m seat).scan) (is_none (marker_at m seat).hand) h.marker).0
+reaches c m seat Step.Probe known heap h = (met c (flight_of m seat) h.range).1
+reaches c m seat Step.Read known heap h = (met c (flight_of m seat) h.range).0
+reaches c m seat Step.Write known heap h = (met c (flight_of m seat) h.range).0
+reaches c m seat Step.Cas known heap h = (met c (flight_of m seat) h.range).0
+reaches c m seat Step.Getg known heap h = (seat_operands c m seat known).g
+reaches c m seat Step.Setg known heap h = (seat_operands c m seat known).g
+reaches c m seat Step.Dirty known heap h = (met c (flight_of m seat) h.range).1
+reaches c m seat (Step.Look w) known heap h = looked_at c w known.small h.range
+reaches c m seat (Step.Head p v) known heap h = ltb-true p c.pages h.range
+reaches c m seat (Step.Used p v) known heap h = ltb-true p c.pages h.range
+reaches c m seat (Step.Quar p v) known heap h = ltb-true p c.pages h.range
+reaches c m seat Step.Grant known heap h = (number_small c seat known.small h.seat, (seat_operands c m seat known).d)
+reaches c m seat (Step.Tally n v) known heap h = tallied c.pages n
+reaches c m seat (Step.Hold j) known heap h = other_gate c seat j known.small h.range
+reaches c m seat (Step.Open j) known heap h = other_gate c seat j known.small h.range
+reaches c m seat (Step.Clear p) known heap h = ltb-true p c.pages h.range
+reaches c m seat (Step.Mark p v) known heap h = ltb-true p c.pages h.range
+reaches c m seat (Step.Wipe n) known heap h = ltb-true n (64 * c.pages) h.range
+reaches c m seat (Step.Undirty p) known heap h = ltb-true p c.pages h.range
+reaches c m seat (Step.Black p v) known heap h = ltb-true p c.pages h.range
+reaches c m seat (Step.Unblack p) known heap h = ltb-true p c.pages h.range
+reaches c m seat (Step.Mlook w) known heap h = looked_at c w known.small h.range
+reaches c m seat (Step.Claim p i) known heap h = ltb-true p c.pages (and_parts _ (nat_lt i 32) h.range).0
+reaches c m seat Step.Mload known heap h = next_in_heap c _ (and_parts _ _ h.marker).0 (seat_marker c m seat heap).end
+reaches c m seat Step.Mmark known heap h = seen_page_in_heap c (marker_at m seat).seen (marker_at m seat).hand h.marker
+reaches c m seat Step.Mblack known heap h = scan_page_in_heap c _ (and_parts _ _ h.marker).0
     (seat_marker c m seat heap).page
 reaches c m seat _ known heap h = tt
 
 pub events_reach_the_table : EventsReachTheTable
 events_reach_the_table c es e limits on now =
-    reaches c (left c es).now e.seat e.step (known_left c es limits on) (in_heap_left c es limits on)
-    (enabled_meets c (left c es).now e now)
+    reaches c _ e.seat e.step (known_left c es limits on) (in_heap_left c es limits on) (enabled_meets c _ e now)
 
 -- the access is the same where the call, the marker and a New's place are
 
 placing_apart : (c : Config) (n : ℕ) (f : Flight) (p q : Placing) (x : MarkerState) (s : Step) → is_grant s ≡ false
     → access_by c n f p x s ≡ access_by c n f q x s
-placing_apart c n f p q x step.Grant g = cc
+placing_apart c n f p q x Step.Grant g = cc
 placing_apart c n f p q x _ g = refl
 
 -- whoever is in a New holds the turn
 new_in_turn : (s : Stage) (o : Op) → is_new_at s o ≡ true → (not (is_idle s) && is_under_turn o) ≡ true
-new_in_turn stage.Turn (op.New d ty full) h = refl
+new_in_turn Stage.Turn (Op.New d ty full) h = refl
 new_in_turn _ _ h = cc
 
-granter_holds : (c : Config) (m : Moment) (seat : Seat) → Meets c m seat step.Grant → Holds c m seat
+granter_holds : (c : Config) (m : Moment) (seat : Seat) → Meets c m seat Step.Grant → Holds c m seat
 granter_holds c m seat h =
-    let new = grants_new c m seat h in
-    let own = new_holds c m seat step.Grant h new in
-    rw own.2 (own.1, new_in_turn _ _ (rw own.2 at new))
+    let own = new_holds c m seat Step.Grant h (grants_new c m seat h) in
+    rw own.2 (own.1, new_in_turn _ _ (rw own.2 at (grants_new c m seat h)))
 
 same_access : (c : Config) (m n : Moment) (seat : Seat) (x : Step) → flight_of n seat ≡ flight_of m seat
     → marker_at n seat ≡ marker_at m seat → (is_grant x ≡ true → n.seats.holding ≡ m.seats.holding)
@@ -159,5 +143,5 @@ others_leave_accesses c es more e limits on others now =
     }
   where
     granting : (x : Step) → is_grant x ≡ true → Meets c (left c es).now e.seat x → Holds c (left c es).now e.seat
-    granting step.Grant g h = granter_holds c (left c es).now e.seat h
+    granting Step.Grant g h = granter_holds c (left c es).now e.seat h
     granting _ g h = cc

@@ -1,11 +1,9 @@
 -- An unreleased allocation keeps its place, and stays unreleased, up to a `release`.
-use Rattle.mk_laws.proofs.Vocabulary.{Config, Event, LeavesPlaces, List, PlacedAllocation, Seat, Step, World, [], ap}
+use Rattle.mk_laws.proofs.Vocabulary.{Config, Event, LeavesPlaces, List, PlacedAllocation, Seat, Step, World, ℕ, ap}
 use Rattle.mk_laws.proofs.Vocabulary.{cell_of_allocation, changed_at, false, freed_leaves, freed_released, fresh_leaves}
 use Rattle.mk_laws.proofs.Vocabulary.{is_release, left_from, list_any, map, no_longer_fresh, or_parts, placed_at, refl}
-use Rattle.mk_laws.proofs.Vocabulary.{world_behind, ℕ, ◌∙◌, ◌∷◌, ◌≡◌}
-use Rattle.mk_laws.proofs.Basics.{WorldBehind, same_cell}
-use Rattle.mk_core.specs.declared.events.Step.TheVariants as step
-use Rattle.mk_laws.proofs.Granted.{still_at}
+use Rattle.mk_laws.proofs.Vocabulary.{world_behind, [], ◌∙◌, ◌∷◌, ◌≡◌}
+use Rattle.mk_laws.proofs.{Basics.WorldBehind, Basics.same_cell, Granted.still_at}
 
 pub record StaysPut (a b : PlacedAllocation) : Type 0 where
   pub base : b.base ≡ a.base
@@ -30,17 +28,17 @@ changed_puts g xs i leaves u =
 pub put_step : (c : Config) (w : World) (seat : Seat) (x : Step) (i : ℕ) → is_release x ≡ false
     → (placed_at w.allocations i).released ≡ false
     → StaysPut (placed_at w.allocations i) (placed_at (WorldBehind c w seat x).allocations i)
-put_step c w seat (step.Quar p n) i out u = changed_puts _ w.allocations i (freed_leaves w.now.words _)
+put_step c w seat (Step.Quar p n) i out u = changed_puts _ w.allocations i (freed_leaves w.now.words _)
     (freed_released w.now.words _ _ ∙ u)
-put_step c w seat step.Begin i out u = changed_puts no_longer_fresh w.allocations i fresh_leaves u
-put_step c w seat step.Grant i out u =
+put_step c w seat Step.Begin i out u = changed_puts no_longer_fresh w.allocations i fresh_leaves u
+put_step c w seat Step.Grant i out u =
     let still = still_at w.allocations _ i u in
     record {
       base = ap (λ (a : PlacedAllocation). a.base) still;
       ty = ap (λ (a : PlacedAllocation). a.ty) still;
       unreleased = ap (λ (a : PlacedAllocation). a.released) still ∙ u;
     }
-put_step c w seat step.Release i out u = cc
+put_step c w seat Step.Release i out u = cc
 put_step c w seat _ i out u = record { base = refl; ty = refl; unreleased = u }
 
 pub stays_put : (c : Config) (w : World) (es : List Event) (i : ℕ)

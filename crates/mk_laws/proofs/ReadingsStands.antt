@@ -1,17 +1,14 @@
 -- What headers and freed bits say of the allocations, after each history.
 use Rattle.std.specs.Prelude.{◌-◌}
 use Rattle.mk_laws.proofs.Vocabulary.{Bool, Cell, Config, HasItsHead, Header, Invariant, IsFreedCell, IsTaken, LeafRun}
-use Rattle.mk_laws.proofs.Vocabulary.{NeverState, OfHistories, Option, PlacedAllocation, Run, RunPages, Some, World}
+use Rattle.mk_laws.proofs.Vocabulary.{NeverState, OfHistories, Option, PlacedAllocation, Run, RunPages, Some, World, ℕ}
 use Rattle.mk_laws.proofs.Vocabulary.{and_parts, ap, arith, cell_of_allocation, false, header_in, inl, inr, is_freed}
 use Rattle.mk_laws.proofs.Vocabulary.{is_phase, is_released_in, left, ne_eqb, not-true, phase_of, placed_at, refl}
 use Rattle.mk_laws.proofs.Vocabulary.{run_count, run_headed, stands_in, stands_in_its_cell, sym, true, true≢false}
-use Rattle.mk_laws.proofs.Vocabulary.{typed_size, ℕ, ◌<◌, ◌∙◌, ◌≡◌, ◌≢◌, ◌≤◌, ◌⊎◌}
-use Rattle.mk_laws.proofs.Basics.{KnownWorld, known_world}
-use Rattle.mk_core.specs.Readings.{WordsTellWhatStands}
-use Rattle.mk_core.proofs.PointedAllocations.{taken_cell_is}
-use Rattle.mk_laws.proofs.ForImages.{standing}
-use Rattle.mk_laws.proofs.InvariantHistories.{histories_keep_the_invariant}
-use Rattle.mk_laws.specs.WordReadings.{HeadersAndQuarantineTell}
+use Rattle.mk_laws.proofs.Vocabulary.{typed_size, ◌<◌, ◌∙◌, ◌≡◌, ◌≢◌, ◌≤◌, ◌⊎◌}
+use Rattle.mk_core.{proofs.PointedAllocations.taken_cell_is, specs.Readings.WordsTellWhatStands}
+use Rattle.mk_laws.{proofs.Basics.KnownWorld, proofs.Basics.known_world, proofs.ForImages.standing}
+use Rattle.mk_laws.{proofs.InvariantHistories.histories_keep_the_invariant, specs.WordReadings.HeadersAndQuarantineTell}
 
 -- a header that heads a run of more pages than this
 run_there : (x : Option Header) (page distance : ℕ) → distance < run_count x
@@ -67,8 +64,7 @@ module _ (c : Config) (w : World) (n : NeverState) (known : KnownWorld c w) (all
       × (cell_of_allocation c (placed_at w.allocations t.number) ≡ cell)
   taken cell t =
       let a : PlacedAllocation = placed_at w.allocations t.number in
-      let u = not-true a.released (and_parts _ _ t.stands).0 in
-      let s = standing c w known all.order.laid t.number u in
+      let s = standing c w known all.order.laid t.number (not-true a.released (and_parts _ _ t.stands).0) in
       taken_cell_is c w cell t (typed_size c a known.limits s.stands.typed) s.headers
 
   words_tell : WordsTellWhatStands w

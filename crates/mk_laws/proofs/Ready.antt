@@ -1,17 +1,15 @@
 -- What a step of a caller needs of the state before: images tell values apart.
 use Rattle.mk_laws.proofs.Vocabulary.{Answer, Bool, ImageScene, IsSafe, IsSafeSet, IsSound, IsTyped, IsTypedAllocation}
-use Rattle.mk_laws.proofs.Vocabulary.{List, NeverState, Null, Num, Op, Option, Progress, Ptr, Some, Value, []}
+use Rattle.mk_laws.proofs.Vocabulary.{List, NeverState, Null, Num, Op, Option, Progress, Ptr, Some, Value, ℕ}
 use Rattle.mk_laws.proofs.Vocabulary.{after_calls, allocation_at, answer_of, answered, answers_of, ap, arith, asked}
 use Rattle.mk_laws.proofs.Vocabulary.{bases_of, bit, cases_Bool, cases_eq, entry_of, eq-eqb, false, flagged}
 use Rattle.mk_laws.proofs.Vocabulary.{if◌then◌else◌, image_of, inl, inr, is_same, kinds_of, length, ne_eqb, one_if}
-use Rattle.mk_laws.proofs.Vocabulary.{placed_at, refl, replies_of, slice_set, sym, true, words_of, ℕ, ◌++◌, ◌+◌, ◌<◌}
+use Rattle.mk_laws.proofs.Vocabulary.{placed_at, refl, replies_of, slice_set, sym, true, words_of, [], ◌++◌, ◌+◌, ◌<◌}
 use Rattle.mk_laws.proofs.Vocabulary.{◌==◌, ◌^◌, ◌∙◌, ◌∷◌, ◌≡◌}
+use Rattle.mk_never.proofs.{Sameness.equal_from_same, Sameness.same_from_equal, Soundness.place_is_inside}
 use Rattle.mk_never.specs.NeverHeap.{reply_of}
-use Rattle.mk_never.proofs.Soundness.{place_is_inside}
-use Rattle.mk_never.proofs.Sameness.{equal_from_same, same_from_equal}
+use Rattle.mk_laws.proofs.{HeapEdits.base_at, ImagesKept.AreApart, ImagesKept.AreSmall, ImagesMoves.Move}
 use Rattle.mk_laws.specs.Images.{AreImages}
-use Rattle.mk_laws.proofs.ImagesMoves.{Move}
-use Rattle.mk_laws.proofs.ImagesKept.{AreApart, AreSmall, base_at}
 
 pub record Ready (listed : List ℕ) (safe : ℕ → Bool) (s : ImageScene) (n : NeverState) : Type 0 where
   pub images : AreImages s n
@@ -66,8 +64,7 @@ pub image_test : (listed : List ℕ) (safe : ℕ → Bool) (s : ImageScene) (n :
 image_test listed safe s n h u v su sv fu fv = elim (cases_Bool (is_same u v)) [
   | inl e ↦ eq-eqb _ _ (ap (image_of (bases_of s.allocations)) (equal_from_same u v e)) ∙ sym e
   | inr e ↦ ne_eqb _ _
-      (λ same. let x : true ≡ false = sym (same_from_equal u v (image_same listed safe s n h u v su sv fu fv same))
-      ∙ e in cc) ∙ sym e
+      (λ same. let x = sym (same_from_equal u v (image_same listed safe s n h u v su sv fu fv same)) ∙ e in cc) ∙ sym e
 ]
 
 pub bit_is : (b : Bool) → one_if b ≡ bit b

@@ -1,26 +1,23 @@
 -- A call that is decided and changes nothing, or is refused.
 use Rattle.mk_laws.proofs.Vocabulary.{Answer, Bool, Done, Flight, ImageScene, List, NeverState, Null, Num, Op, Some}
-use Rattle.mk_laws.proofs.Vocabulary.{Stage, WordOf, answer_of, ap, arith, bases_of, bit, d_of, false, flagged}
+use Rattle.mk_laws.proofs.Vocabulary.{Stage, WordOf, ℕ, answer_of, ap, arith, bases_of, bit, d_of, false, flagged}
 use Rattle.mk_laws.proofs.Vocabulary.{flight_among, i_of, if◌then◌else◌, is_put, is_same, length, number_of, q_of, refl}
 use Rattle.mk_laws.proofs.Vocabulary.{register_at, slice_set, stage_refused, subst, sym, target_of, true, with_register}
-use Rattle.mk_laws.proofs.Vocabulary.{with_word, word_at, ℕ, ◌*◌, ◌++◌, ◌+◌, ◌<◌, ◌∙◌, ◌≡◌}
-use Rattle.mk_never.specs.declared.operations.Op.TheVariants as op
-use Rattle.mk_never.specs.declared.operations.Reply.{Reply}
+use Rattle.mk_laws.proofs.Vocabulary.{with_word, word_at, ◌*◌, ◌++◌, ◌+◌, ◌<◌, ◌∙◌, ◌≡◌}
 use Rattle.mk_never.specs.declared.operations.Reply.TheVariants.{Num as Number, Val}
-use Rattle.mk_never.specs.declared.values.Target.{Target}
 use Rattle.mk_never.specs.declared.values.Target.TheVariants.{Nothing}
-use Rattle.mk_never.specs.NeverHeap.{reply_at, left_at, reply_of, after_op}
-use Rattle.mk_core.specs.declared.seats.Stage.TheVariants as stage
-use Rattle.mk_laws.proofs.ImagesMoves.{is_bare, Move, Flies, Owes}
-use Rattle.mk_laws.proofs.Pairs.{bare_carries, bare_unprobed, shows_plain, bare_owes_nothing}
+use Rattle.mk_never.specs.NeverHeap.{after_op, left_at, reply_at, reply_of}
+use Rattle.mk_never.specs.{declared.operations.Reply.Reply, declared.values.Target.Target}
+use Rattle.mk_laws.proofs.ImagesMoves.{Flies, Move, Owes, is_bare}
+use Rattle.mk_laws.proofs.Pairs.{bare_carries, bare_owes_nothing, bare_unprobed, shows_plain}
 use Rattle.mk_laws.proofs.Ready.{Leads, one_right}
 
 abbrev pub accesses : Op → Bool
-accesses (op.GetNum q i) = true
-accesses (op.SetNum q i m) = true
-accesses (op.GetPtr d q i) = true
-accesses (op.SetPtr q i p) = true
-accesses (op.CasPtr q i p r) = true
+accesses (Op.GetNum q i) = true
+accesses (Op.SetNum q i m) = true
+accesses (Op.GetPtr d q i) = true
+accesses (Op.SetPtr q i p) = true
+accesses (Op.CasPtr q i p r) = true
 accesses _ = false
 
 abbrev pub is_word : Target → Bool
@@ -50,7 +47,7 @@ decides_nothing safe s n k o f a flag was bare stays is = (
 -- a refused call whose register becomes null, which is still to be stored
 pub owes_null : (safe : ℕ → Bool) (s : ImageScene) (n : NeverState) (k d : ℕ) (o : Op) (f : Flight) (a : Answer)
     → flagged o a ≡ o → k < length s.flights → 8 * k + 7 < length n.registers
-    → is_put (flight_among s.flights k).stage ≡ false → f.stage ≡ stage.Put → d_of f.op ≡ d → d < 8 → f.loaded ≡ 0
+    → is_put (flight_among s.flights k).stage ≡ false → f.stage ≡ Stage.Put → d_of f.op ≡ d → d < 8 → f.loaded ≡ 0
     → after_op n k o ≡ with_register n k d Null → ((bs : List ℕ) → a ≡ answer_of bs (reply_of n k o))
     → Leads safe s n k o (record s { flights = slice_set s.flights k f }) (Some a)
 owes_null safe s n k d o f a flag there long was put isd ld zero stays is = (
@@ -87,24 +84,24 @@ pub refuses : (safe : ℕ → Bool) (s : ImageScene) (n : NeverState) (k : ℕ) 
     → ((bs : List ℕ) → a ≡ answer_of bs (reply_at t (λ a w. Done))) → Leads safe s n k o (record s {
       flights = slice_set s.flights k (record { stage = stage_refused o; op = o; q = q; p = p; r = r; loaded = 0 });
     }) (Some a)
-refuses safe s n k (op.GetNum q' i) q p r a t is there long was ld none e answer =
-    decides_nothing safe s n k (op.GetNum q' i) _ a refl was refl refl (λ bs. answer bs ∙ ap (answer_of bs)
+refuses safe s n k (Op.GetNum q' i) q p r a t is there long was ld none e answer =
+    decides_nothing safe s n k (Op.GetNum q' i) _ a refl was refl refl (λ bs. answer bs ∙ ap (answer_of bs)
     (sym (refused_reply _ t (λ a w. Number (number_of (word_at n a w))) e none)))
-refuses safe s n k (op.SetNum q' i m) q p r a t is there long was ld none e answer =
-    decides_nothing safe s n k (op.SetNum q' i m) _ a refl was refl
+refuses safe s n k (Op.SetNum q' i m) q p r a t is there long was ld none e answer =
+    decides_nothing safe s n k (Op.SetNum q' i m) _ a refl was refl
     (refused_left _ t n (λ a w. with_word n a w (Num m)) e none) (λ bs. answer bs ∙ ap (answer_of bs)
     (sym (refused_reply _ t (λ a w. Done) e none)))
-refuses safe s n k (op.SetPtr q' i p') q p r a t is there long was ld none e answer =
-    decides_nothing safe s n k (op.SetPtr q' i p') _ a refl was refl
+refuses safe s n k (Op.SetPtr q' i p') q p r a t is there long was ld none e answer =
+    decides_nothing safe s n k (Op.SetPtr q' i p') _ a refl was refl
     (refused_left _ t n (λ a w. with_word n a w (register_at n k p')) e none) (λ bs. answer bs ∙ ap (answer_of bs)
     (sym (refused_reply _ t (λ a w. Done) e none)))
-refuses safe s n k (op.CasPtr q' i p' r') q p r a t is there long was ld none e answer =
-    decides_nothing safe s n k (op.CasPtr q' i p' r') _ a refl was refl (refused_left _ t n
+refuses safe s n k (Op.CasPtr q' i p' r') q p r a t is there long was ld none e answer =
+    decides_nothing safe s n k (Op.CasPtr q' i p' r') _ a refl was refl (refused_left _ t n
     (λ a w. if is_same (word_at n a w) (register_at n k p') then with_word n a w (register_at n k r') else n) e none)
     (λ bs. answer bs ∙ ap (answer_of bs) (sym (refused_reply _ t
     (λ a w. Number (bit (is_same (word_at n a w) (register_at n k p')))) e none)))
-refuses safe s n k (op.GetPtr d q' i) q p r a t is there long was ld none e answer =
-    owes_null safe s n k d (op.GetPtr d q' i) _ a refl there long was refl refl ld refl (refused_left _ t _
+refuses safe s n k (Op.GetPtr d q' i) q p r a t is there long was ld none e answer =
+    owes_null safe s n k d (Op.GetPtr d q' i) _ a refl there long was refl refl ld refl (refused_left _ t _
     (λ a w. with_register n k d (word_at n a w)) e none) (λ bs. answer bs ∙ ap (answer_of bs)
     (sym (refused_reply _ t (λ a w. Val (word_at n a w)) e none)))
 refuses safe s n k _ q p r a t is there long was ld none e answer = cc

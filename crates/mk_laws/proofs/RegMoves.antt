@@ -1,25 +1,19 @@
 -- `reg` leads to what the images allow, at each stage.
-use Rattle.mk_laws.proofs.Vocabulary.{AreAdmitted, Bool, Carries, CarriesOwn, Done, Flight, ImageScene, IsAdmitted}
-use Rattle.mk_laws.proofs.Vocabulary.{IsSafe, IsSound, List, Meets, NeverState, None, Null, Num, Op, ProbedOwn, Ptr}
-use Rattle.mk_laws.proofs.Vocabulary.{Some, Stage, Value, answer_of, ap, arith, asked, bases_of, d_of, entry_of}
-use Rattle.mk_laws.proofs.Vocabulary.{eqb-false, eqb-true, false, false≢true, flight_among, has_p, has_r, has_some_p}
-use Rattle.mk_laws.proofs.Vocabulary.{if◌then◌else◌, image_of, is_past_probe, is_put, is_same, length, one_if, onward}
-use Rattle.mk_laws.proofs.Vocabulary.{p_of, progress_p, progress_q, progress_reg, q_of, r_of, refl, refused}
-use Rattle.mk_laws.proofs.Vocabulary.{register_at, register_met, slice_set, stage_behind, steps_of, subst, sym, true, ℕ}
-use Rattle.mk_laws.proofs.Vocabulary.{◌%◌, ◌*◌, ◌++◌, ◌+◌, ◌<◌, ◌==◌, ◌^◌, ◌∙◌, ◌≡◌, ◌≢◌}
-use Rattle.mk_never.specs.declared.operations.Op.TheVariants as op
+use Rattle.mk_laws.proofs.Vocabulary.{Answer, AreAdmitted, Bool, Carries, CarriesOwn, Done, Flight, ImageScene}
+use Rattle.mk_laws.proofs.Vocabulary.{IsAdmitted, IsSafe, IsSound, List, Meets, NeverState, None, Null, Num, Op}
+use Rattle.mk_laws.proofs.Vocabulary.{ProbedOwn, Ptr, Some, Stage, Value, ℕ, answer_of, ap, arith, asked, bases_of}
+use Rattle.mk_laws.proofs.Vocabulary.{d_of, entry_of, eqb-false, eqb-true, false, false≢true, flight_among, has_p}
+use Rattle.mk_laws.proofs.Vocabulary.{has_r, has_some_p, if◌then◌else◌, image_of, is_past_probe, is_put, is_same}
+use Rattle.mk_laws.proofs.Vocabulary.{length, one_if, onward, p_of, progress_p, progress_q, progress_reg, q_of, r_of}
+use Rattle.mk_laws.proofs.Vocabulary.{refl, refused, register_at, register_met, slice_set, stage_behind, steps_of}
+use Rattle.mk_laws.proofs.Vocabulary.{subst, sym, true, ◌%◌, ◌*◌, ◌++◌, ◌+◌, ◌<◌, ◌==◌, ◌^◌, ◌∙◌, ◌≡◌, ◌≢◌}
 use Rattle.mk_never.specs.declared.values.Target.TheVariants.{Nothing}
 use Rattle.mk_never.specs.NeverHeap.{free_reply, lea_reply, moved_on}
-use Rattle.mk_core.specs.declared.events.Answer.TheVariants as answer
-use Rattle.mk_core.specs.declared.seats.Stage.TheVariants as stage
 use Rattle.mk_core.specs.Calls.{value_for}
-use Rattle.mk_laws.proofs.Standings.{standing_at, is_astray}
-use Rattle.mk_laws.proofs.Stages.{is_reg_stage}
-use Rattle.mk_laws.proofs.ImagesMoves.{Move, Flies, Pays, Stores}
-use Rattle.mk_laws.proofs.Pairs.{shows_plain}
-use Rattle.mk_laws.proofs.ImagesKept.{base_at}
-use Rattle.mk_laws.proofs.Ready.{Ready, image_zero, image_test, bit_is, Leads, LeadsBy, either_leads, one_right}
-use Rattle.mk_laws.proofs.Refusals.{accesses, refuses, decides_nothing, owes_null}
+use Rattle.mk_laws.proofs.Ready.{Leads, LeadsBy, Ready, bit_is, either_leads, image_test, image_zero, one_right}
+use Rattle.mk_laws.proofs.Refusals.{accesses, decides_nothing, owes_null, refuses}
+use Rattle.mk_laws.proofs.{HeapEdits.base_at, ImagesMoves.Flies, ImagesMoves.Move, ImagesMoves.Pays, ImagesMoves.Stores}
+use Rattle.mk_laws.proofs.{Pairs.shows_plain, Stages.is_reg_stage, Standings.is_astray, Standings.standing_at}
 
 abbrev pub flight : Stage → Op → ℕ → ℕ → ℕ → ℕ → Flight
 flight st o q p r l = record { stage = st; op = o; q = q; p = p; r = r; loaded = l }
@@ -43,12 +37,12 @@ record BehindLoadQ (s : Stage) (o : Op) : Type 0 where
   pub put : is_put s ≡ false
   pub probed : is_past_probe s ≡ false
 
-behind_load_q : (o : Op) → accesses o ≡ true → BehindLoadQ (stage_behind stage.LoadQ (steps_of o)) o
-behind_load_q (op.GetNum q i) h = record { p = refl; some_p = refl; r = refl; put = refl; probed = refl }
-behind_load_q (op.SetNum q i m) h = record { p = refl; some_p = refl; r = refl; put = refl; probed = refl }
-behind_load_q (op.GetPtr d q i) h = record { p = refl; some_p = refl; r = refl; put = refl; probed = refl }
-behind_load_q (op.SetPtr q i p) h = record { p = refl; some_p = refl; r = refl; put = refl; probed = refl }
-behind_load_q (op.CasPtr q i p r) h = record { p = refl; some_p = refl; r = refl; put = refl; probed = refl }
+behind_load_q : (o : Op) → accesses o ≡ true → BehindLoadQ (stage_behind Stage.LoadQ (steps_of o)) o
+behind_load_q (Op.GetNum q i) h = record { p = refl; some_p = refl; r = refl; put = refl; probed = refl }
+behind_load_q (Op.SetNum q i m) h = record { p = refl; some_p = refl; r = refl; put = refl; probed = refl }
+behind_load_q (Op.GetPtr d q i) h = record { p = refl; some_p = refl; r = refl; put = refl; probed = refl }
+behind_load_q (Op.SetPtr q i p) h = record { p = refl; some_p = refl; r = refl; put = refl; probed = refl }
+behind_load_q (Op.CasPtr q i p r) h = record { p = refl; some_p = refl; r = refl; put = refl; probed = refl }
 behind_load_q _ h = absurd (false≢true h)
 
 -- a flight that goes on undecided
@@ -69,15 +63,12 @@ lea_value : (listed : List ℕ) (safe : ℕ → Bool) (s : ImageScene) (n : Neve
 lea_value listed safe s n h Null x i sound is e ne meets = absurd (ne e)
 lea_value listed safe s n h (Num m) x i sound is e ne meets = absurd sound
 lea_value listed safe s n h (Ptr a t o) x i sound is e ne meets =
-    let b = h.bound a (o + i) (h.set.unreleased a is) meets.0 in
-    let ba = base_at s.allocations a in
-    let room = h.room in
-    (omega arith, is, refl)
+    (omega (arith, h.bound a (o + i) (h.set.unreleased a is) meets.0, base_at s.allocations a, h.room), is, refl)
 
 -- the registers after `reg`
 abbrev pub registers_behind : List ℕ → ℕ → Flight → Stage → List ℕ
-registers_behind xs k f stage.Store = slice_set xs (8 * k + d_of f.op) (value_for f f.op)
-registers_behind xs k f stage.Put = slice_set xs (8 * k + d_of f.op) f.loaded
+registers_behind xs k f Stage.Store = slice_set xs (8 * k + d_of f.op) (value_for f f.op)
+registers_behind xs k f Stage.Put = slice_set xs (8 * k + d_of f.op) f.loaded
 registers_behind xs k f _ = xs
 
 module _ (listed : List ℕ) (safe : ℕ → Bool) (s : ImageScene) (n : NeverState) (k : ℕ) (h : Ready listed safe s n)
@@ -90,83 +81,82 @@ module _ (listed : List ℕ) (safe : ℕ → Bool) (s : ImageScene) (n : NeverSt
     null_at q x e z = image_zero n _ (register_at n k q) (h.typed.registers (8 * k + q)) (sym e ∙ eqb-true x 0 z)
 
     -- an access loads its pointer, or is refused
-    load_q : (o : Op) (q p r l x : ℕ) → accesses o ≡ true → flight_among s.flights k ≡ flight stage.LoadQ o q p r l
+    load_q : (o : Op) (q p r l x : ℕ) → accesses o ≡ true → flight_among s.flights k ≡ flight Stage.LoadQ o q p r l
         → d_of o < 8 → x ≡ image_of bases (register_at n k (q_of o))
-        → LeadsBy safe s n k o s (if x == 0 then refused (flight stage.LoadQ o x p r l) answer.Null
-        else onward (flight stage.LoadQ o x p r l) None)
+        → LeadsBy safe s n k o s (if x == 0 then refused (flight Stage.LoadQ o x p r l) Answer.Null
+        else onward (flight Stage.LoadQ o x p r l) None)
     load_q o q p r l x access is ld e =
         let was = ap (λ (f : Flight). is_put f.stage) is in
         let next = behind_load_q o access in
         either_leads safe s n k o s (x == 0) _ _
-        (λ z. refuses safe s n k o x p r answer.Null Nothing access there long was ld refl
+        (λ z. refuses safe s n k o x p r Answer.Null Nothing access there long was ld refl
         (rw (null_at (q_of o) x e z)) (λ bs. refl))
-        (λ nz. flies_on safe s n k o (flight (stage_behind stage.LoadQ (steps_of o)) o x p r l) was next.put
+        (λ nz. flies_on safe s n k o (flight (stage_behind Stage.LoadQ (steps_of o)) o x p r l) was next.put
         (carries_q _ _ _ _ _ e (eqb-false x 0 nz) next.p next.some_p next.r)
         (λ y. absurd (false≢true (sym next.probed ∙ y))))
 
-    reg_q : (o : Op) (q p r l x : ℕ) → flight_among s.flights k ≡ flight stage.LoadQ o q p r l → d_of o < 8
-        → is_astray (standing_at stage.LoadQ o) ≡ false → CarriesOwn bases n k (flight stage.LoadQ o q p r l)
+    reg_q : (o : Op) (q p r l x : ℕ) → flight_among s.flights k ≡ flight Stage.LoadQ o q p r l → d_of o < 8
+        → is_astray (standing_at Stage.LoadQ o) ≡ false → CarriesOwn bases n k (flight Stage.LoadQ o q p r l)
         → x ≡ image_of bases (register_at n k (q_of o))
-        → LeadsBy safe s n k o s (progress_q (flight stage.LoadQ o q p r l) o x)
-    reg_q (op.GetNum q' i) q p r l x is ld a car e = load_q (op.GetNum q' i) q p r l x refl is ld e
-    reg_q (op.SetNum q' i m) q p r l x is ld a car e = load_q (op.SetNum q' i m) q p r l x refl is ld e
-    reg_q (op.GetPtr d q' i) q p r l x is ld a car e = load_q (op.GetPtr d q' i) q p r l x refl is ld e
-    reg_q (op.SetPtr q' i p') q p r l x is ld a car e = load_q (op.SetPtr q' i p') q p r l x refl is ld e
-    reg_q (op.CasPtr q' i p' r') q p r l x is ld a car e = load_q (op.CasPtr q' i p' r') q p r l x refl is ld e
-    reg_q (op.Lea d q' i) q p r l x is ld a car e =
+        → LeadsBy safe s n k o s (progress_q (flight Stage.LoadQ o q p r l) o x)
+    reg_q (Op.GetNum q' i) q p r l x is ld a car e = load_q (Op.GetNum q' i) q p r l x refl is ld e
+    reg_q (Op.SetNum q' i m) q p r l x is ld a car e = load_q (Op.SetNum q' i m) q p r l x refl is ld e
+    reg_q (Op.GetPtr d q' i) q p r l x is ld a car e = load_q (Op.GetPtr d q' i) q p r l x refl is ld e
+    reg_q (Op.SetPtr q' i p') q p r l x is ld a car e = load_q (Op.SetPtr q' i p') q p r l x refl is ld e
+    reg_q (Op.CasPtr q' i p' r') q p r l x is ld a car e = load_q (Op.CasPtr q' i p' r') q p r l x refl is ld e
+    reg_q (Op.Lea d q' i) q p r l x is ld a car e =
         let was = ap (λ (f : Flight). is_put f.stage) is in
-        either_leads safe s n k (op.Lea d q' i) s (x == 0) _ _
-        (λ z. owes_null safe s n k d (op.Lea d q' i) _ answer.Null refl there long was refl refl ld refl
+        either_leads safe s n k (Op.Lea d q' i) s (x == 0) _ _
+        (λ z. owes_null safe s n k d (Op.Lea d q' i) _ Answer.Null refl there long was refl refl ld refl
         (rw (null_at q' x e z)) (λ bs. ap (λ v. answer_of bs (lea_reply v)) (sym (null_at q' x e z))))
-        (λ nz. flies_on safe s n k (op.Lea d q' i) _ was refl
+        (λ nz. flies_on safe s n k (Op.Lea d q' i) _ was refl
         (carries_q _ _ _ _ _ e (eqb-false x 0 nz) refl refl refl) (λ y. cc))
-    reg_q (op.Move d q') q p r l x is ld a car e = flies_on safe s n k (op.Move d q') _ (rw is) refl
+    reg_q (Op.Move d q') q p r l x is ld a car e = flies_on safe s n k (Op.Move d q') _ (rw is) refl
         (record { q = λ y. e; some_q = λ y. cc; p = λ y. cc; some_p = λ y. cc; r = λ y. cc }) (λ y. cc)
-    reg_q (op.Same p' q') q p r l x is ld a car e =
+    reg_q (Op.Same p' q') q p r l x is ld a car e =
         let u = register_at n k p' in
         let v = register_at n k q' in
-        let ep : p ≡ image_of bases u = car.p refl in
         let tests : (p == x) ≡ is_same u v =
-        rw ep (rw e (image_test listed safe s n h u v (h.typed.registers (8 * k + p')) (h.typed.registers (8 * k + q'))
-        (h.set.registers (8 * k + p')) (h.set.registers (8 * k + q')))) in
-        decides_nothing safe s n k (op.Same p' q') _ (answer.Num (one_if (p == x))) refl (rw is) refl refl
-        (λ bs. rw tests (ap answer.Num (bit_is (is_same u v))))
+        rw (car.p refl) (rw e (image_test listed safe s n h u v (h.typed.registers (8 * k + p'))
+        (h.typed.registers (8 * k + q')) (h.set.registers (8 * k + p')) (h.set.registers (8 * k + q')))) in
+        decides_nothing safe s n k (Op.Same p' q') _ (Answer.Num (one_if (p == x))) refl (rw is) refl refl
+        (λ bs. rw tests (ap Answer.Num (bit_is (is_same u v))))
     reg_q _ q p r l x is ld a car e = cc
 
-    reg_p : (o : Op) (q p r l x : ℕ) → flight_among s.flights k ≡ flight stage.LoadP o q p r l
-        → is_astray (standing_at stage.LoadP o) ≡ false → CarriesOwn bases n k (flight stage.LoadP o q p r l)
+    reg_p : (o : Op) (q p r l x : ℕ) → flight_among s.flights k ≡ flight Stage.LoadP o q p r l
+        → is_astray (standing_at Stage.LoadP o) ≡ false → CarriesOwn bases n k (flight Stage.LoadP o q p r l)
         → x ≡ image_of bases (register_at n k (p_of o))
-        → LeadsBy safe s n k o s (progress_p (flight stage.LoadP o q p r l) o x)
-    reg_p (op.SetPtr q' i p') q p r l x is a car e = flies_on safe s n k (op.SetPtr q' i p') _ (rw is) refl
+        → LeadsBy safe s n k o s (progress_p (flight Stage.LoadP o q p r l) o x)
+    reg_p (Op.SetPtr q' i p') q p r l x is a car e = flies_on safe s n k (Op.SetPtr q' i p') _ (rw is) refl
         (record { q = λ y. car.q refl; some_q = λ y. car.some_q refl; p = λ y. e; some_p = λ y. cc; r = λ y. cc })
         (λ y. cc)
-    reg_p (op.CasPtr q' i p' r') q p r l x is a car e = flies_on safe s n k (op.CasPtr q' i p' r') _ (rw is) refl
+    reg_p (Op.CasPtr q' i p' r') q p r l x is a car e = flies_on safe s n k (Op.CasPtr q' i p' r') _ (rw is) refl
         (record { q = λ y. car.q refl; some_q = λ y. car.some_q refl; p = λ y. e; some_p = λ y. cc; r = λ y. cc })
         (λ y. cc)
-    reg_p (op.SetGlobal g p') q p r l x is a car e = flies_on safe s n k (op.SetGlobal g p') _ (rw is) refl
+    reg_p (Op.SetGlobal g p') q p r l x is a car e = flies_on safe s n k (Op.SetGlobal g p') _ (rw is) refl
         (record { q = λ y. cc; some_q = λ y. cc; p = λ y. e; some_p = λ y. cc; r = λ y. cc }) (λ y. cc)
-    reg_p (op.Same p' q') q p r l x is a car e = flies_on safe s n k (op.Same p' q') _ (rw is) refl
+    reg_p (Op.Same p' q') q p r l x is a car e = flies_on safe s n k (Op.Same p' q') _ (rw is) refl
         (record { q = λ y. cc; some_q = λ y. cc; p = λ y. e; some_p = λ y. cc; r = λ y. cc }) (λ y. cc)
-    reg_p (op.IsNull p') q p r l x is a car e =
+    reg_p (Op.IsNull p') q p r l x is a car e =
         let v = register_at n k p' in
         let tests : (x == 0) ≡ is_same v Null = rw e
         (image_test listed safe s n h v Null (h.typed.registers (8 * k + p')) tt (h.set.registers (8 * k + p')) tt) in
-        decides_nothing safe s n k (op.IsNull p') _ (answer.Num (one_if (x == 0))) refl (rw is) refl refl
-        (λ bs. rw tests (ap answer.Num (bit_is _)))
-    reg_p (op.Free p') q p r l x is a car e =
+        decides_nothing safe s n k (Op.IsNull p') _ (Answer.Num (one_if (x == 0))) refl (rw is) refl refl
+        (λ bs. rw tests (ap Answer.Num (bit_is _)))
+    reg_p (Op.Free p') q p r l x is a car e =
         let was = ap (λ (f : Flight). is_put f.stage) is in
-        either_leads safe s n k (op.Free p') s (x == 0) _ _
-        (λ z. decides_nothing safe s n k (op.Free p') _ answer.Done refl was refl (rw (null_at p' x e z))
+        either_leads safe s n k (Op.Free p') s (x == 0) _ _
+        (λ z. decides_nothing safe s n k (Op.Free p') _ Answer.Done refl was refl (rw (null_at p' x e z))
         (λ bs. ap (λ v. answer_of bs (free_reply n v)) (sym (null_at p' x e z))))
-        (λ nz. flies_on safe s n k (op.Free p') _ was refl
+        (λ nz. flies_on safe s n k (Op.Free p') _ was refl
         (record { q = λ y. cc; some_q = λ y. cc; p = λ y. e; some_p = λ y. eqb-false x 0 nz; r = λ y. cc }) (λ y. cc))
     reg_p _ q p r l x is a car e = cc
 
-    reg_r : (o : Op) (q p r l x : ℕ) → flight_among s.flights k ≡ flight stage.LoadR o q p r l
-        → is_astray (standing_at stage.LoadR o) ≡ false → CarriesOwn bases n k (flight stage.LoadR o q p r l)
+    reg_r : (o : Op) (q p r l x : ℕ) → flight_among s.flights k ≡ flight Stage.LoadR o q p r l
+        → is_astray (standing_at Stage.LoadR o) ≡ false → CarriesOwn bases n k (flight Stage.LoadR o q p r l)
         → x ≡ image_of bases (register_at n k (r_of o))
-        → LeadsBy safe s n k o s (onward (record (flight stage.LoadR o q p r l) { r = x }) None)
-    reg_r (op.CasPtr q' i p' r') q p r l x is a car e = flies_on safe s n k (op.CasPtr q' i p' r') _ (rw is) refl
+        → LeadsBy safe s n k o s (onward (record (flight Stage.LoadR o q p r l) { r = x }) None)
+    reg_r (Op.CasPtr q' i p' r') q p r l x is a car e = flies_on safe s n k (Op.CasPtr q' i p' r') _ (rw is) refl
         (record {
           q = λ y. car.q refl;
           some_q = λ y. car.some_q refl;
@@ -176,22 +166,22 @@ module _ (listed : List ℕ) (safe : ℕ → Bool) (s : ImageScene) (n : NeverSt
         }) (λ y. cc)
     reg_r _ q p r l x is a car e = cc
 
-    reg_store : (o : Op) (q p r l : ℕ) → flight_among s.flights k ≡ flight stage.Store o q p r l → d_of o < 8
-        → is_astray (standing_at stage.Store o) ≡ false → CarriesOwn bases n k (flight stage.Store o q p r l)
-        → AreAdmitted listed n (asked (entry_of k o (Some answer.Done))) → LeadsBy safe s n k o
-        (record s { registers = slice_set s.registers (8 * k + d_of o) (value_for (flight stage.Store o q p r l) o) })
-        (onward (flight stage.Store o q p r l) (Some answer.Done))
-    reg_store (op.Lea d q' i) q p r l is ld a car ad =
-        let admitted : IsAdmitted listed n k (op.Lea d q' i) = ad.0 in
+    reg_store : (o : Op) (q p r l : ℕ) → flight_among s.flights k ≡ flight Stage.Store o q p r l → d_of o < 8
+        → is_astray (standing_at Stage.Store o) ≡ false → CarriesOwn bases n k (flight Stage.Store o q p r l)
+        → AreAdmitted listed n (asked (entry_of k o (Some Answer.Done))) → LeadsBy safe s n k o
+        (record s { registers = slice_set s.registers (8 * k + d_of o) (value_for (flight Stage.Store o q p r l) o) })
+        (onward (flight Stage.Store o q p r l) (Some Answer.Done))
+    reg_store (Op.Lea d q' i) q p r l is ld a car ad =
+        let admitted : IsAdmitted listed n k (Op.Lea d q' i) = ad.0 in
         let lea = lea_value listed safe s n h (register_at n k q') q i (h.typed.registers (8 * k + q'))
         (h.set.registers (8 * k + q')) (car.q refl) (car.some_q refl) admitted.access in (
-          Stores k d _ (flight stage.Leave (op.Lea d q' i) q p r l) (moved_on (register_at n k q') i)
+          Stores k d _ (flight Stage.Leave (Op.Lea d q' i) q p r l) (moved_on (register_at n k q') i)
               (record { there = there; registers = long; was = rw is; bare = refl }) longs ld lea.0 lea.1,
-          λ more. one_right (bases_of s.allocations ++ more) answer.Done n k (op.Lea d q' i)
+          λ more. one_right (bases_of s.allocations ++ more) Answer.Done n k (Op.Lea d q' i)
               (ap (answer_of (bases_of s.allocations ++ more)) (sym lea.2)),
         )
-    reg_store (op.Move d q') q p r l is ld a car ad = (
-      Stores k d _ (flight stage.Leave (op.Move d q') q p r l) (register_at n k q') (record {
+    reg_store (Op.Move d q') q p r l is ld a car ad = (
+      Stores k d _ (flight Stage.Leave (Op.Move d q') q p r l) (register_at n k q') (record {
         there = there;
         registers = long;
         was = rw is;
@@ -199,23 +189,23 @@ module _ (listed : List ℕ) (safe : ℕ → Bool) (s : ImageScene) (n : NeverSt
       }) longs ld (car.q refl) (h.set.registers (8 * k + q')),
       λ more. refl,
     )
-    reg_store (op.Clear d) q p r l is ld a car ad = (
-      Stores k d 0 (flight stage.Leave (op.Clear d) q p r l) Null
+    reg_store (Op.Clear d) q p r l is ld a car ad = (
+      Stores k d 0 (flight Stage.Leave (Op.Clear d) q p r l) Null
           (record { there = there; registers = long; was = rw is; bare = refl }) longs ld refl tt,
       λ more. refl,
     )
     reg_store _ q p r l is ld a car ad = cc
 
-    reg_put : (o : Op) (q p r l : ℕ) → flight_among s.flights k ≡ flight stage.Put o q p r l → d_of o < 8
+    reg_put : (o : Op) (q p r l : ℕ) → flight_among s.flights k ≡ flight Stage.Put o q p r l → d_of o < 8
         → Leads safe s n k o (record s {
           registers = slice_set s.registers (8 * k + d_of o) l;
-          flights = slice_set s.flights k (flight stage.Leave o q p r l);
+          flights = slice_set s.flights k (flight Stage.Leave o q p r l);
         }) None
     reg_put o q p r l is ld = (
       subst (λ (g : Flight). Move safe s n (record s {
         registers = slice_set s.registers (8 * k + d_of g.op) g.loaded;
-        flights = slice_set s.flights k (flight stage.Leave o q p r l);
-      }) n) is (Pays k (flight stage.Leave o q p r l) there longs (rw is) (rw is ld) refl),
+        flights = slice_set s.flights k (flight Stage.Leave o q p r l);
+      }) n) is (Pays k (flight Stage.Leave o q p r l) there longs (rw is) (rw is ld) refl),
       λ more. refl,
     )
 
@@ -225,9 +215,9 @@ module _ (listed : List ℕ) (safe : ℕ → Bool) (s : ImageScene) (n : NeverSt
         → AreAdmitted listed n (asked (entry_of k o (progress_reg (flight st o q p r l) st x).answer))
         → LeadsBy safe s n k o (record s { registers = registers_behind s.registers k (flight st o q p r l) st })
         (progress_reg (flight st o q p r l) st x)
-    reg_leads stage.LoadQ o q p r l x is ld rs a car e ad = reg_q o q p r l x is ld a car (e refl)
-    reg_leads stage.LoadP o q p r l x is ld rs a car e ad = reg_p o q p r l x is a car (e refl)
-    reg_leads stage.LoadR o q p r l x is ld rs a car e ad = reg_r o q p r l x is a car (e refl)
-    reg_leads stage.Store o q p r l x is ld rs a car e ad = reg_store o q p r l is ld a car ad
-    reg_leads stage.Put o q p r l x is ld rs a car e ad = reg_put o q p r l is ld
+    reg_leads Stage.LoadQ o q p r l x is ld rs a car e ad = reg_q o q p r l x is ld a car (e refl)
+    reg_leads Stage.LoadP o q p r l x is ld rs a car e ad = reg_p o q p r l x is a car (e refl)
+    reg_leads Stage.LoadR o q p r l x is ld rs a car e ad = reg_r o q p r l x is a car (e refl)
+    reg_leads Stage.Store o q p r l x is ld rs a car e ad = reg_store o q p r l is ld a car ad
+    reg_leads Stage.Put o q p r l x is ld rs a car e ad = reg_put o q p r l is ld
     reg_leads _ o q p r l x is ld rs a car e ad = cc

@@ -1,21 +1,19 @@
 -- `release` on the terrain: an allocation is released exactly where its cell is left unmarked.
 use Rattle.mk_laws.proofs.Vocabulary.{Among, BeginsAtCell, Bool, Cell, Claim, Config, HasItsHeaders, IsAtCell, IsShown}
 use Rattle.mk_laws.proofs.Vocabulary.{IsSized, IsWithinLimits, List, None, Object, Option, Place, PlacedAllocation}
-use Rattle.mk_laws.proofs.Vocabulary.{RunPages, RunStands, Some, StandsOnHeap, Words, World, ap, arith, base_made}
+use Rattle.mk_laws.proofs.Vocabulary.{RunPages, RunStands, Some, StandsOnHeap, Words, World, ℕ, ap, arith, base_made}
 use Rattle.mk_laws.proofs.Vocabulary.{cases_Bool, cell_of_allocation, cells_made, claim_of, claims_of, claims_placed}
 use Rattle.mk_laws.proofs.Vocabulary.{false, ground_of, has_bit_without, inl, inr, is_released_in, is_small_object}
 use Rattle.mk_laws.proofs.Vocabulary.{large_cells, large_words, length, map, object_placed, or_parts, pages_made}
 use Rattle.mk_laws.proofs.Vocabulary.{placed_at, refl, released_leaves, released_where_left, run_begins, small}
-use Rattle.mk_laws.proofs.Vocabulary.{small_pages, storage_words, sym, true, true≢false, with_released, words_made, ℕ}
-use Rattle.mk_laws.proofs.Vocabulary.{◌*◌, ◌+◌, ◌/◌, ◌<◌, ◌∙◌, ◌≡◌, ◌≤◌, ◌⊎◌}
+use Rattle.mk_laws.proofs.Vocabulary.{small_pages, storage_words, sym, true, true≢false, with_released, words_made, ◌*◌}
+use Rattle.mk_laws.proofs.Vocabulary.{◌+◌, ◌/◌, ◌<◌, ◌∙◌, ◌≡◌, ◌≤◌, ◌⊎◌}
 use Rattle.mk_core.proofs.StandingAllocations.{cell_ends_within, made_begins, placed_cell, run_cell}
-use Rattle.mk_laws.proofs.LayoutReadings.{header_of_mode}
-use Rattle.mk_laws.proofs.ProtocolKept.{kept}
 use Rattle.mk_laws.proofs.Claims.{LeavesCells, apart_behind, cells_behind, changed_among, claim_among, claim_is}
 use Rattle.mk_laws.proofs.Claims.{was_claim}
-use Rattle.mk_laws.proofs.Serving.{among_back, among_front, among_parts, apart_across, apart_joined, apart_left}
-use Rattle.mk_laws.proofs.Serving.{apart_right, Laid, own_claim, placed_claim}
-use Rattle.mk_laws.proofs.Releasing.{layout_released}
+use Rattle.mk_laws.proofs.Serving.{Laid, among_back, among_front, among_parts, apart_across, apart_joined, apart_left}
+use Rattle.mk_laws.proofs.Serving.{apart_right, own_claim, placed_claim}
+use Rattle.mk_laws.proofs.{LayoutReadings.header_of_mode, ProtocolKept.kept, Releasing.layout_released}
 
 -- An unreleased allocation whose claim is shown stands on the heap with its headers.
 
@@ -24,14 +22,9 @@ pub ends_on_pages : (o : Object) (base : ℕ) → IsSized o → BeginsAtCell o b
     → base + words_made o ≤ 64 * (base / 64 + pages_made o)
 ends_on_pages o base sized b = elim (cases_Bool (is_small_object o)) [
   | inl small ↦
-      let ends = cell_ends_within o base sized small b in
-      let one = small_pages o small in
-      let first = b.first in
-      omega arith
+      omega (arith, cell_ends_within o base sized small b, small_pages o small, b.first)
   | inr large ↦
-      let words = large_words o large in
-      let first = (run_begins o base large b).1 in
-      omega arith
+      omega (arith, large_words o large, (run_begins o base large b).1)
 ]
 
 -- what mk_core asks of an allocation
@@ -48,10 +41,9 @@ stands_there c run w a len shown u at =
         unreleased = u;
         begins = at.begins;
         within =
-            let ends = ends_on_pages _ a.base shown.sized at.begins in
             let inside : a.base / 64 + pages_made (object_placed c a) ≤ length w.pages = shown.within in
             let words : storage_words c a ≡ words_made (object_placed c a) = refl in
-            omega arith;
+            omega (arith, ends_on_pages _ a.base shown.sized at.begins);
       };
       headers = λ d lt. header_of_mode _ _ d _ (shown.headers d lt);
     }
@@ -155,8 +147,6 @@ released_terrain c o w limits len st kept =
       | inl j ↦ record { claim = r.claim; among = j; page = r.page; count = r.count; large = r.large; mode = r.mode }
       | inr lost ↦
           let shown = st.scene.shown r.claim (own_claim c o (ground_of w) r.claim r.among) in
-          let one = large_cells r.claim.object r.large in
-          let lt = shown.known in
-          let zero : r.claim.index ≡ 0 = omega arith in
+          let zero : r.claim.index ≡ 0 = omega (arith, large_cells r.claim.object r.large, shown.known) in
           absurd (true≢false (sym lost ∙ rw r.page (rw zero (kept x is))))
     ]

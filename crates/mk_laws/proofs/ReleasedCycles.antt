@@ -1,14 +1,13 @@
 -- Each `release` of a history is that of a cycle.
 use Rattle.mk_laws.proofs.Vocabulary.{AreEnabledFrom, At, Config, Event, IsHistory, List, Marking, OfHistories}
-use Rattle.mk_laws.proofs.Vocabulary.{Releasing, Seat, Step, World, [], ap, append-nil, append_assoc, arith}
+use Rattle.mk_laws.proofs.Vocabulary.{Releasing, Seat, Step, World, ℕ, ap, append-nil, append_assoc, arith}
 use Rattle.mk_laws.proofs.Vocabulary.{before_release, earlier_part_is_history, enabled_in_parts, false, first_world}
 use Rattle.mk_laws.proofs.Vocabulary.{is_begin, is_close, is_release, left, left_from, left_more, list_any, phase_of}
-use Rattle.mk_laws.proofs.Vocabulary.{refl, subst, sym, true, world_behind, ℕ, ◌++◌, ◌∙◌, ◌∷◌, ◌≡◌}
-use Rattle.mk_core.specs.declared.events.Step.TheVariants as step
-use Rattle.mk_laws.specs.Releases.{ReleasesAreOfCycles}
+use Rattle.mk_laws.proofs.Vocabulary.{refl, subst, sym, true, world_behind, [], ◌++◌, ◌∙◌, ◌∷◌, ◌≡◌}
 use Rattle.mk_laws.proofs.CyclePhases.{AsksPhase, IsMarking, moves_phase, phase_behind}
-use Rattle.mk_laws.proofs.Releases.{up_to_release}
 use Rattle.mk_laws.proofs.Longer.{at_end, longer_at, longer_marking, none_more}
+use Rattle.mk_laws.proofs.Releases.{up_to_release}
+use Rattle.mk_laws.specs.Releases.{ReleasesAreOfCycles}
 
 -- While marking, a cycle is begun and not closed; where marks are closed, it isn't released.
 
@@ -53,28 +52,28 @@ closed_here es e is b =
 
 so_far : (seat : Seat) (x : Step) (p : ℕ) (es : List Event) → AsksPhase x p → CycleSoFar p es
     → CycleSoFar (phase_behind x p) (es ++ record { seat = seat; step = x } ∷ [])
-so_far seat step.Begin p es asks k =
+so_far seat Step.Begin p es asks k =
     record {
-      begun = λ m. begun_here es (record { seat = seat; step = step.Begin }) refl;
+      begun = λ m. begun_here es (record { seat = seat; step = Step.Begin }) refl;
       closed = λ e. absurd (omega arith);
     }
-so_far seat step.Want p es asks k =
+so_far seat Step.Want p es asks k =
     let m : IsMarking p = record { least = omega arith; most = omega arith } in
     record {
-      begun = λ n. begun_longer es (record { seat = seat; step = step.Want }) refl (k.begun m);
+      begun = λ n. begun_longer es (record { seat = seat; step = Step.Want }) refl (k.begun m);
       closed = λ e. absurd (omega arith);
     }
-so_far seat step.Close p es asks k =
+so_far seat Step.Close p es asks k =
     let m : IsMarking p = record { least = omega arith; most = omega arith } in
     record {
       begun = λ n. let most = n.most in absurd (omega arith);
-      closed = λ e. closed_here es (record { seat = seat; step = step.Close }) refl (k.begun m);
+      closed = λ e. closed_here es (record { seat = seat; step = Step.Close }) refl (k.begun m);
     }
-so_far seat step.Release p es asks k =
+so_far seat Step.Release p es asks k =
     record { begun = λ n. let most = n.most in absurd (omega arith); closed = λ e. absurd (omega arith) }
-so_far seat step.End p es asks k =
+so_far seat Step.End p es asks k =
     record { begun = λ n. let least = n.least in absurd (omega arith); closed = λ e. absurd (omega arith) }
-so_far seat step.Over p es asks k =
+so_far seat Step.Over p es asks k =
     record { begun = λ n. let most = n.most in absurd (omega arith); closed = λ e. absurd (omega arith) }
 so_far seat _ p es asks k =
     record { begun = λ m. begun_longer es _ refl (k.begun m); closed = λ e. closed_longer es _ refl (k.closed e) }
@@ -121,7 +120,7 @@ releases_are_of_cycles c es h front rest seat is =
     )
   where
     e : Event
-    e = record { seat = seat; step = step.Release }
+    e = record { seat = seat; step = Step.Release }
 
     whole : IsHistory c (front ++ e ∷ rest)
     whole = subst (λ (xs : List Event). IsHistory c xs) is h

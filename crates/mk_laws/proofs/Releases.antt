@@ -2,25 +2,23 @@
 use Rattle.std.specs.Prelude.{◌↔◌}
 use Rattle.mk_laws.proofs.Vocabulary.{AreEnabledFrom, At, Bool, Caller, Cell, Config, Decided, Event, IsHistory, List}
 use Rattle.mk_laws.proofs.Vocabulary.{Moment, NeverState, OfHistories, PlacedAllocation, Releasing, Seat, Step, World}
-use Rattle.mk_laws.proofs.Vocabulary.{[], after_calls, and_from, and_parts, ap, append_assoc, arith, asked}
+use Rattle.mk_laws.proofs.Vocabulary.{ℕ, after_calls, and_from, and_parts, ap, append_assoc, arith, asked}
 use Rattle.mk_laws.proofs.Vocabulary.{before_release, call_decided, calls_from, cell_of_allocation, changed_at}
 use Rattle.mk_laws.proofs.Vocabulary.{earlier_part_is_history, enabled_in_parts, enabled_parts, false, flight_of}
 use Rattle.mk_laws.proofs.Vocabulary.{has_bit_of, has_bit_without, is_begin, is_close, is_marked, is_quarantined}
 use Rattle.mk_laws.proofs.Vocabulary.{is_release, left, left_from, left_in_parts, list_any, list_any-append, map}
 use Rattle.mk_laws.proofs.Vocabulary.{never_behind, never_in_parts, not, not-true, phase_of, placed_at, refl}
 use Rattle.mk_laws.proofs.Vocabulary.{released_leaves, released_where_left, subst, sym, true, with_released}
-use Rattle.mk_laws.proofs.Vocabulary.{world_behind, ℕ, ◌&&◌, ◌++◌, ◌||◌, ◌∙◌, ◌∷◌, ◌≡◌}
+use Rattle.mk_laws.proofs.Vocabulary.{world_behind, [], ◌&&◌, ◌++◌, ◌||◌, ◌∙◌, ◌∷◌, ◌≡◌}
 use Rattle.mk_never.specs.Reach.{IsReachable}
-use Rattle.mk_core.specs.declared.events.Step.TheVariants as step
 use Rattle.mk_core.specs.Allocations.{allocations_by}
-use Rattle.mk_laws.proofs.Quarantines.{snapshot_is_the_cycles}
+use Rattle.mk_laws.proofs.CyclePhases.{AsksPhase, IsMarking, IsUnreleased, begin_is, close_is, marking_goes_on}
+use Rattle.mk_laws.proofs.CyclePhases.{moves_phase, none_is_released, phase_behind, release_is}
 use Rattle.mk_laws.proofs.InvariantTheorems.{allocations_stand, reach_is_kept}
+use Rattle.mk_laws.proofs.Snapshots.{enabled_at, unreleased_cycles}
+use Rattle.mk_laws.proofs.{Quarantines.snapshot_is_the_cycles, ReadingsKeptPlaces.stays_put}
 use Rattle.mk_laws.specs.Releases.{NoOthersRelease, ReleasesAreExact, ReleasesNoneReached, allocation_before}
 use Rattle.mk_laws.specs.Releases.{allocation_behind}
-use Rattle.mk_laws.proofs.CyclePhases.{IsMarking, IsUnreleased, begin_is, close_is, marking_goes_on, moves_phase}
-use Rattle.mk_laws.proofs.CyclePhases.{none_is_released, phase_behind, release_is, AsksPhase}
-use Rattle.mk_laws.proofs.ReadingsKeptPlaces.{stays_put}
-use Rattle.mk_laws.proofs.Snapshots.{enabled_at, unreleased_cycles}
 
 -- The parts of a list up to a cycle's `release`, nested as the cycle has them.
 pub up_to_release : {X : Type 0} (xs ys zs : List X) (b x : X)
@@ -39,29 +37,26 @@ none_begins : (c : Config) (w : World) (b x : Event) (ys zs : List Event) → Ar
     → list_any (λ (e : Event). is_begin e.step) (ys ++ x ∷ zs) ≡ false
 none_begins c w b x ys zs on begins no_close closes no_release =
     let first = moves_phase c w b (ys ++ x ∷ zs) on in
-    let one : phase_of (world_behind c w b).now.words ≡ 1 = first.1
-    ∙ ap (λ (s : Step). phase_behind s (phase_of w.now.words)) (begin_is b.step begins) in
+    let one = first.1 ∙ ap (λ (s : Step). phase_behind s (phase_of w.now.words)) (begin_is b.step begins) in
     let parts = enabled_parts c _ ys (x ∷ zs) first.2 in
     let begun : IsMarking (phase_of (world_behind c w b).now.words) =
     record { least = omega arith; most = omega arith } in
     let marking = marking_goes_on c _ ys parts.0 begun no_close in
     let v : World = left_from c (world_behind c w b) ys in
     let close = moves_phase c v x zs parts.1 in
-    let three : phase_of (world_behind c v x).now.words ≡ 3 = close.1
-    ∙ ap (λ (s : Step). phase_behind s (phase_of v.now.words)) (close_is x.step closes) in
+    let three = close.1 ∙ ap (λ (s : Step). phase_behind s (phase_of v.now.words)) (close_is x.step closes) in
     let closed : IsUnreleased (phase_of (world_behind c v x).now.words) =
     record { least = omega arith; most = omega arith } in
-    let rest = none_is_released c _ zs close.2 closed no_release in
     list_any-append (λ (e : Event). is_begin e.step) ys (x ∷ zs)
     ∙ ap (λ b. b || list_any (λ (e : Event). is_begin e.step) (x ∷ zs)) marking.none_begins
     ∙ ap (λ (s : Step). is_begin s || list_any (λ (e : Event). is_begin e.step) zs) (close_is x.step closes)
-    ∙ rest.none_begins
+    ∙ (none_is_released c _ zs close.2 closed no_release).none_begins
 
 -- A `release` decides no call.
-none_decided : (c : Config) (m : Moment) (e : Event) → e.step ≡ step.Release → call_decided c m e ≡ []
+none_decided : (c : Config) (m : Moment) (e : Event) → e.step ≡ Step.Release → call_decided c m e ≡ []
 none_decided c m e is = ap (λ (x : Step). call_decided c m (record { seat = e.seat; step = x })) is ∙ by e.seat
   where
-    by : (seat : Seat) → call_decided c m (record { seat = seat; step = step.Release }) ≡ []
+    by : (seat : Seat) → call_decided c m (record { seat = seat; step = Step.Release }) ≡ []
     by (Caller k) = refl
     by _ = cc
 
@@ -95,14 +90,14 @@ module _ (c : Config) (es : List Event) (h : IsHistory c es) (r : Releasing es) 
       ∙ sym (with_rest begin.before close.before last.before (last.event ∷ last.behind) begin.event close.event)
 
   whole : IsHistory c (front ++ last.event ∷ last.behind)
-  whole = subst (λ (xs : List Event). IsHistory c xs) es_is h
+  whole = subst (IsHistory c) es_is h
 
   before_is_history : IsHistory c front
   before_is_history = earlier_part_is_history c front (last.event ∷ last.behind) whole
 
   behind_is_history : IsHistory c (front ++ last.event ∷ [])
   behind_is_history = earlier_part_is_history c _ last.behind
-      (subst (λ (xs : List Event). IsHistory c xs) (sym (append_assoc front (last.event ∷ []) last.behind)) whole)
+      (subst (IsHistory c) (sym (append_assoc front (last.event ∷ []) last.behind)) whole)
 
   -- the `begin`, in the list up to the `release`
   abbrev begin_at : At is_begin front
@@ -120,7 +115,7 @@ module _ (c : Config) (es : List Event) (h : IsHistory c es) (r : Releasing es) 
       (enabled_at c front is_begin begin_at before_is_history)
       begin.of_kind r.marking.close.none_before close.of_kind r.release.none_before
 
-  releases : last.event.step ≡ step.Release
+  releases : last.event.step ≡ Step.Release
   releases = release_is last.event.step last.of_kind
 
   stopped : phase_of w.now.words ≡ 3

@@ -1,13 +1,13 @@
 -- The steps that release: `release`, cells given back, pages freed in any order, and `end`.
 use Rattle.mk_laws.proofs.Vocabulary.{Among, AreApart, Bool, Claim, Header, IsClaimed, IsLaidOn, IsShown, Later}
-use Rattle.mk_laws.proofs.Vocabulary.{LayoutScene, List, NoPlot, Option, Page, Plot, PlotStands, Plotted, Some, ap}
+use Rattle.mk_laws.proofs.Vocabulary.{LayoutScene, List, NoPlot, Option, Page, Plot, PlotStands, Plotted, Some, ℕ, ap}
 use Rattle.mk_laws.proofs.Vocabulary.{arith, cases_Bool, cases_eq, cases_lt, cells_under, ends, false, free_page}
 use Rattle.mk_laws.proofs.Vocabulary.{get_or-set_other, get_or-set_same, get_or_past, has_bit, head_on, head_page_under}
 use Rattle.mk_laws.proofs.Vocabulary.{header_of, header_on, inl, inr, is_released_in, is_released_on, length}
 use Rattle.mk_laws.proofs.Vocabulary.{length-set, pages_made, refl, shows_on, slice_set, stands, sym, true, true≢false}
-use Rattle.mk_laws.proofs.Vocabulary.{used_on, ℕ, ◌+◌, ◌-◌, ◌<◌, ◌∙◌, ◌≡◌, ◌≢◌, ◌⊎◌}
-use Rattle.mk_laws.proofs.ProtocolKept.{kept}
+use Rattle.mk_laws.proofs.Vocabulary.{used_on, ◌+◌, ◌-◌, ◌<◌, ◌∙◌, ◌≡◌, ◌≢◌, ◌⊎◌}
 use Rattle.mk_laws.proofs.LayoutReadings.{cellless_unused, claimed_used, free_unused, none_set, zero_where_none}
+use Rattle.mk_laws.proofs.ProtocolKept.{kept}
 
 -- Pages of which one gets another header or used word.
 
@@ -96,12 +96,11 @@ plot_emptied pages p (Plotted first o) lt stands =
 pub layout_emptied : (s : LayoutScene) (p : ℕ) → IsLaidOn s → p < length s.pages → s.releasing ≡ true
     → used_on s.pages (head_on s.pages p) ≡ 0 → IsLaidOn (Emptied s p)
 layout_emptied s p laid lt on z =
-    let unused : used_on s.pages p ≡ 0 = unused_by (shows_on s.pages p) refl z in
     record {
       shown = λ x among. shown_beside s.pages p 0 x lt (laid.shown x among) (unclaimed s p laid z x among);
       apart = laid.apart;
       used = λ q k h. elim (cases_eq q p) [
-        | inl e ↦ absurd (none_set (used_on s.pages p) k unused (rw (← e) (old q k h)))
+        | inl e ↦ absurd (none_set (used_on s.pages p) k (unused_by (shows_on s.pages p) refl z) (rw (← e) (old q k h)))
         | inr ne ↦ let t = laid.used q k (old q k h) in (
           rw (ap (λ h. cells_under (header_of h)) (sym (headed_other s.pages p 0 q ne))) at t.0,
           t.1,
@@ -110,7 +109,7 @@ layout_emptied s p laid lt on z =
       plot = plot_emptied s.pages p s.plot lt laid.plot;
       occupied = λ q some empty. inl on;
       later = λ q d m is. elim (cases_eq q p) [
-        | inl e ↦ absurd (not_later m d (ap (λ i. shows_on (with_header_on s.pages p 0) i) (sym e) ∙ is))
+        | inl e ↦ absurd (not_later m d (ap (shows_on (with_header_on s.pages p 0)) (sym e) ∙ is))
         | inr ne ↦
             let l = laid.later q d m (rw (← (headed_other s.pages p 0 q ne)) is) in (
               l.0,
@@ -273,10 +272,8 @@ layout_ended s laid ends =
     by p k h (inr r) = absurd (true≢false (sym r ∙ ends.none p k (with_bit p k h)))
 
     not_free : (d : ℕ) (m : Bool) (p : ℕ) → shows_on s.pages p ≡ Some (Later d m) → header_on s.pages p ≢ 0
-    not_free d m p is z = let e : header_of 0 ≡ Some (Later d m) = ap header_of (sym z)
-        ∙ is in true≢false (let y : true ≡ false = cc in y)
+    not_free d m p is z = let e = ap header_of (sym z) ∙ is in true≢false (let y : true ≡ false = cc in y)
 
     headless : (p d : ℕ) (m : Bool) → shows_on s.pages p ≡ Some (Later d m) → header_on s.pages (p - d) ≡ 0 → ⊥
     headless p d m is z =
-        let some = not_free d m p is in
-        ends.settled p (inside p some) some (rw is (free_unused s (p - d) laid z))
+        ends.settled p (inside p (not_free d m p is)) (not_free d m p is) (rw is (free_unused s (p - d) laid z))

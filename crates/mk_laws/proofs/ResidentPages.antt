@@ -1,20 +1,17 @@
 -- How many pages are resident or in a plot, where few change.
-use Rattle.std.proofs.Common.{min}
-use Rattle.std.proofs.lemmas.List.Recursion.{is_count_by}
-use Rattle.std.specs.List.{count_by}
-use Rattle.mk_laws.proofs.Vocabulary.{Block, Bool, Config, Free, Header, Later, LeafBlock, LeafRun, List, NoPlot, None}
-use Rattle.mk_laws.proofs.Vocabulary.{Object, Option, Page, Placing, Plot, Run, Some, World, ap, arith, cases_eq}
+use Rattle.std.{proofs.Common.min, proofs.lemmas.List.Recursion.is_count_by, specs.List.count_by}
+use Rattle.mk_laws.proofs.Vocabulary.{Block, Bool, Config, Free, Header, Later, LeafBlock, LeafRun, List, None, NoPlot}
+use Rattle.mk_laws.proofs.Vocabulary.{Object, Option, Page, Placing, Plot, Run, Some, World, ℕ, ap, arith, cases_eq}
 use Rattle.mk_laws.proofs.Vocabulary.{cases_lt, cond, count_below, false, free_page, get_or-set_other, get_or-set_same}
 use Rattle.mk_laws.proofs.Vocabulary.{header_of, header_on, if◌then◌else◌, inl, inr, is_resident_page}
 use Rattle.mk_laws.proofs.Vocabulary.{is_unmapped_header, leb-true, length, ltb-true, nat_le, nat_lt, object_now}
 use Rattle.mk_laws.proofs.Vocabulary.{or_cases, or_left, or_right, plot_of, refl, resident_pages, set_past, shows_on}
 use Rattle.mk_laws.proofs.Vocabulary.{slice_index_or, suc, sym, true, true≢false, use_under, used_on, uses_of_pages}
-use Rattle.mk_laws.proofs.Vocabulary.{zero, ℕ, ◌&&◌, ◌+◌, ◌-◌, ◌<◌, ◌||◌, ◌∙◌, ◌∷◌, ◌≡◌, ◌≢◌, ◌≤◌}
-use Rattle.mk_laws.proofs.Basics.{with_header_on, with_used_on}
-use Rattle.mk_geom.specs.PageWords.{use_of_page}
-use Rattle.mk_geom.specs.StorageWords.{page_in}
-use Rattle.mk_laws.specs.Room.{HasRoom, in_plot, is_taken_page}
+use Rattle.mk_laws.proofs.Vocabulary.{zero, ◌&&◌, ◌+◌, ◌-◌, ◌<◌, ◌||◌, ◌∙◌, ◌∷◌, ◌≡◌, ◌≢◌, ◌≤◌}
+use Rattle.mk_geom.specs.{PageWords.use_of_page, StorageWords.page_in}
 use Rattle.mk_books.proofs.PlaceLemmas.{count_by-map}
+use Rattle.mk_laws.proofs.Basics.{with_header_on, with_used_on}
+use Rattle.mk_laws.specs.Room.{HasRoom, in_plot, is_taken_page}
 
 -- Counts of the numbers below one that pass a test.
 
@@ -38,9 +35,8 @@ pub count_none : (n : ℕ) (test : ℕ → Bool) → ((p : ℕ) → test p ≡ f
 unfolding count_below
 count_none zero test none = refl
 count_none (suc n) test none =
-    let rest = count_none n test none in
     let last : cond {A = ℕ} (test n) 1 0 ≡ 0 = rw (none n) in
-    omega arith
+    omega (arith, count_none n test none)
 
 -- with the numbers of a range besides
 in_range : (n first size : ℕ) (test : ℕ → Bool)
@@ -49,9 +45,8 @@ in_range : (n first size : ℕ) (test : ℕ → Bool)
 unfolding count_below
 in_range zero first size test = omega arith
 in_range (suc n) first size test =
-    let rest = in_range n first size test in
     let last = by (test n) (nat_le first n) (nat_lt n (first + size)) (leb-true first n) (ltb-true n (first + size)) in
-    omega arith
+    omega (arith, in_range n first size test)
   where
     by : (t a b : Bool) → (a ≡ true → first ≤ n) → (b ≡ true → n < first + size)
         → (if t || (a && b) then 1 else 0) + min (n - first) size ≤ (if t then 1 else 0) + min (suc n - first) size
@@ -98,9 +93,7 @@ is_resident pages p = is_resident_page (use_of_page (page_in pages p))
 pub room_fewer : (c : Config) (o u : Object) (pages others : List Page) (placing other : Placing)
     → ((q : ℕ) → q < c.pages → is_taken_page others (plot_of u other) q ≡ true
     → is_taken_page pages (plot_of o placing) q ≡ true) → RoomOn c o pages placing → RoomOn c u others other
-room_fewer c o u pages others placing other fewer room =
-    let less = count_fewer c.pages _ _ fewer in
-    omega arith
+room_fewer c o u pages others placing other fewer room = omega (arith, count_fewer c.pages _ _ fewer)
 
 -- without a plot fewer are
 pub room_unplaced : (c : Config) (o u : Object) (pages others : List Page) (placing other : Placing)

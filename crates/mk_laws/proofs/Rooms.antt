@@ -1,27 +1,24 @@
 -- No more pages are resident than may be, after each event.
 use Rattle.mk_laws.proofs.Vocabulary.{Among, AsChosen, AsUsed, Bool, ByFit, Chosen, Config, Granted, HeadStep}
 use Rattle.mk_laws.proofs.Vocabulary.{IsClaimedRun, IsNextHeader, IsPlaced, IsSized, ItCarves, ItEmpties, ItUnmaps}
-use Rattle.mk_laws.proofs.Vocabulary.{LayoutStands, List, NoPlot, None, Object, Option, Page, Place, Placing, Plotted}
-use Rattle.mk_laws.proofs.Vocabulary.{RunPages, RunStands, Seat, Some, Step, Unplaced, Used, World, and_from, ap, arith}
-use Rattle.mk_laws.proofs.Vocabulary.{cases_Bool, cases_eq, chosen, claims_of, claims_placed, count_below, false}
+use Rattle.mk_laws.proofs.Vocabulary.{LayoutStands, List, None, NoPlot, Object, Option, Page, Place, Placing, Plotted}
+use Rattle.mk_laws.proofs.Vocabulary.{RunPages, RunStands, Seat, Some, Step, Unplaced, Used, World, ℕ, and_from, ap}
+use Rattle.mk_laws.proofs.Vocabulary.{arith, cases_Bool, cases_eq, chosen, claims_of, claims_placed, count_below, false}
 use Rattle.mk_laws.proofs.Vocabulary.{flight_of, found, ground_of, has_place, head_step, header_at, header_made}
 use Rattle.mk_laws.proofs.Vocabulary.{header_of, if◌then◌else◌, inl, inr, is_phase, is_resident_page}
 use Rattle.mk_laws.proofs.Vocabulary.{is_unmapped_header, large_count, le-leb, length, lt-ltb, marks_is, marks_place}
 use Rattle.mk_laws.proofs.Vocabulary.{nat_le, nat_lt, nothing_done, object_made, object_now, or_left, or_right}
 use Rattle.mk_laws.proofs.Vocabulary.{pages_made, place_claim, place_now, placed_now, plot_of, refl, resident_pages}
 use Rattle.mk_laws.proofs.Vocabulary.{seat_exists, small_pages, subst, sym, taken, true, undecided_new}
-use Rattle.mk_laws.proofs.Vocabulary.{unmapped_is_unmapped, use_under, used_on, uses_of_pages, ℕ, ◌+◌, ◌-◌, ◌<◌, ◌==◌}
-use Rattle.mk_laws.proofs.Vocabulary.{◌∙◌, ◌≡◌}
+use Rattle.mk_laws.proofs.Vocabulary.{unmapped_is_unmapped, use_under, used_on, uses_of_pages, ◌+◌, ◌-◌, ◌<◌, ◌==◌, ◌∙◌}
+use Rattle.mk_laws.proofs.Vocabulary.{◌≡◌}
 use Rattle.mk_laws.proofs.Basics.{Before, Laid, Meets, WorldBehind, first_header, holding_object, made_sized}
 use Rattle.mk_laws.proofs.Basics.{new_has_turn, no_run, own_claim, page_within, placed_claim, reg_leaves_ground}
 use Rattle.mk_laws.proofs.Basics.{tally_ground, with_header_on, with_used_on}
-use Rattle.mk_core.specs.declared.events.Step.TheVariants as step
-use Rattle.mk_laws.specs.Room.{HasRoom, in_plot}
-use Rattle.mk_laws.proofs.Behind.{object_kind}
-use Rattle.mk_laws.proofs.ResidentPages.{count_range, RoomOn, is_resident, resident_count, resident_gone}
+use Rattle.mk_laws.proofs.ResidentPages.{RoomOn, count_range, is_resident, resident_count, resident_gone}
 use Rattle.mk_laws.proofs.ResidentPages.{resident_other, resident_used, room_same, room_unplaced, unmapped_use}
-use Rattle.mk_laws.proofs.Fits.{FitsOnFreePages, fits}
-use Rattle.mk_laws.proofs.LayoutByKind.{none_chosen}
+use Rattle.mk_laws.proofs.{Behind.object_kind, Fits.FitsOnFreePages, Fits.fits, LayoutByKind.none_chosen}
+use Rattle.mk_laws.specs.Room.{HasRoom, in_plot}
 
 -- The place is chosen, where this many pages are free.
 chosen_room : (c : Config) (o : Object) (pages : List Page) (place : Place) → length pages ≡ c.pages
@@ -187,27 +184,27 @@ used_room c w p n four found room = by four found
 room_by_kind : (c : Config) (w : World) (seat : Seat) (x : Step) → Before c w → Meets c w.now seat x → LayoutStands c w
     → HasRoom c w → RoomOn c (object_now c w.now) (WorldBehind c w seat x).now.words.pages
     (WorldBehind c w seat x).now.seats.holding.placing
-room_by_kind c w seat (step.Take o) b h laid room = by (w.now.words.turn == 0)
+room_by_kind c w seat (Step.Take o) b h laid room = by (w.now.words.turn == 0)
   where
     by : (t : Bool) → RoomOn c (object_now c w.now) w.now.words.pages (if t then nothing_done
         else w.now.seats.holding).placing
     by true = room_unplaced c (object_now c w.now) (object_now c w.now) w.now.words.pages w.now.words.pages
         w.now.seats.holding.placing Unplaced refl (λ q lt r. r) room
     by false = room
-room_by_kind c w seat step.Give b h laid room =
+room_by_kind c w seat Step.Give b h laid room =
     room_unplaced c (object_now c w.now) (object_now c w.now) w.now.words.pages w.now.words.pages
     w.now.seats.holding.placing Unplaced refl (λ q lt r. r) room
-room_by_kind c w seat step.Reg b h laid room = rw (reg_leaves_ground c w seat).pages room
-room_by_kind c w seat (step.Tally n v) b h laid room = rw (tally_ground w.now.words n v).pages room
-room_by_kind c w seat (step.Head p n) b h laid room =
+room_by_kind c w seat Step.Reg b h laid room = rw (reg_leaves_ground c w seat).pages room
+room_by_kind c w seat (Step.Tally n v) b h laid room = rw (tally_ground w.now.words n v).pages room
+room_by_kind c w seat (Step.Head p n) b h laid room =
     head_room c w seat p n b h.seat (page_within c w p b h.range) laid room
     (head_step c w.now (flight_of w.now seat) p n h.holder)
-room_by_kind c w seat (step.Used p n) b h laid room =
+room_by_kind c w seat (Step.Used p n) b h laid room =
     used_room c w p n (is_phase w.now.words 4) (place_now c w.now (flight_of w.now seat)) room
-room_by_kind c w seat step.Grant b h laid room =
+room_by_kind c w seat Step.Grant b h laid room =
     room_unplaced c (object_now c w.now) (object_now c w.now) w.now.words.pages w.now.words.pages
     w.now.seats.holding.placing Granted refl (λ q lt r. r) room
-room_by_kind c w seat (step.Mark p n) b h laid room = mark_room c w seat p n b h.seat room
+room_by_kind c w seat (Step.Mark p n) b h laid room = mark_room c w seat p n b h.seat room
     (marks_place w.now.words (object_made c (flight_of w.now seat).op) (place_now c w.now (flight_of w.now seat)) p
     n) refl
 room_by_kind c w seat _ b h laid room = room

@@ -1,24 +1,22 @@
 -- While a run isn't unmapped and wiped, the gates of all but the turn's holder are held: after one event.
 use Rattle.std.specs.Prelude.{Bool}
 use Rattle.mk_laws.proofs.Vocabulary.{Bool, Caller, Cell, Config, Header, Host, IsWordOfMapped, LayoutStands, List}
-use Rattle.mk_laws.proofs.Vocabulary.{Marker, Moment, None, Option, Run, RunPages, Seat, Some, Step, Words, World, ap}
-use Rattle.mk_laws.proofs.Vocabulary.{cases_Bool, cases_eq, cases_lt, cell_freed, false, flight_of, freed_cell}
-use Rattle.mk_laws.proofs.Vocabulary.{get_or-set_other, get_or-set_same, heads_run, holder_number, if◌then◌else◌, inl}
-use Rattle.mk_laws.proofs.Vocabulary.{inr, is_heap_store, is_run_cell, is_run_gone, length, not, nothing_done, or_else}
-use Rattle.mk_laws.proofs.Vocabulary.{refl, run_headed, run_of_cell, set_past, slice_index, slice_set, subst, sym}
-use Rattle.mk_laws.proofs.Vocabulary.{target, true, true≢false, word_met, ℕ, ◌+◌, ◌<◌, ◌==◌, ◌||◌, ◌∙◌, ◌≡◌, ◌≢◌}
+use Rattle.mk_laws.proofs.Vocabulary.{Marker, Moment, None, Option, Run, RunPages, Seat, Some, Stage, Step, Words}
+use Rattle.mk_laws.proofs.Vocabulary.{World, ℕ, ap, cases_Bool, cases_eq, cases_lt, cell_freed, false, flight_of}
+use Rattle.mk_laws.proofs.Vocabulary.{freed_cell, get_or-set_other, get_or-set_same, heads_run, holder_number}
+use Rattle.mk_laws.proofs.Vocabulary.{if◌then◌else◌, inl, inr, is_heap_store, is_run_cell, is_run_gone, length, not}
+use Rattle.mk_laws.proofs.Vocabulary.{nothing_done, or_else, refl, run_headed, run_of_cell, set_past, slice_index}
+use Rattle.mk_laws.proofs.Vocabulary.{slice_set, subst, sym, target, true, true≢false, word_met, ◌+◌, ◌<◌, ◌==◌, ◌||◌}
+use Rattle.mk_laws.proofs.Vocabulary.{◌∙◌, ◌≡◌, ◌≢◌}
 use Rattle.mk_laws.proofs.Basics.{Behind, Known, KnownWorld, Meets, at_its_stage, free_has_turn, others_held, reg_keeps}
 use Rattle.mk_laws.proofs.Basics.{tally_keeps, turn_of, view_of}
-use Rattle.mk_core.specs.declared.events.Step.TheVariants as step
-use Rattle.mk_core.specs.declared.seats.Stage.TheVariants as stage
-use Rattle.mk_laws.proofs.ImagesHeldGates.{held_idle}
+use Rattle.mk_laws.proofs.{ImagesHeldGates.held_idle, RunWords.gone_behind}
 use Rattle.mk_laws.specs.RunGates.{HoldsRunGates}
-use Rattle.mk_laws.proofs.RunWords.{gone_behind}
 
 -- Gates that are held stay so after any step but `open`.
 
 abbrev pub is_open : Step → Bool
-is_open (step.Open j) = true
+is_open (Step.Open j) = true
 is_open _ = false
 
 -- the gates of all but the turn's holder are held
@@ -40,43 +38,43 @@ exchanged gs n j k held e = ap (λ g. if g == 0 then n else g) (ap (λ i. slice_
 
 pub gates_stay : (c : Config) (m : Moment) (seat : Seat) (x : Step) → Known c m → Meets c m seat x → is_open x ≡ false
     → (k : ℕ) → k < c.callers → slice_index m.words.gates k ≡ 2 → slice_index (Behind c m seat x).words.gates k ≡ 2
-gates_stay c m seat (step.Enter o) known h out k lt held =
+gates_stay c m seat (Step.Enter o) known h out k lt held =
     set_gate m.words.gates _ _ k held (exchanged m.words.gates 1 _ k held)
-gates_stay c m seat (step.Hold j) known h out k lt held =
+gates_stay c m seat (Step.Hold j) known h out k lt held =
     set_gate m.words.gates j _ k held (exchanged m.words.gates 2 j k held)
-gates_stay c m (Caller j) step.Leave known h out k lt held = set_gate m.words.gates j 0 k held own
+gates_stay c m (Caller j) Step.Leave known h out k lt held = set_gate m.words.gates j 0 k held own
   where
     own : k ≡ j → ◌≡◌ {A = ℕ} 0 2
     own e =
-        let at = at_its_stage _ _ step.Leave refl h.order in
-        let here : (flight_of m (Caller j)).stage ≡ stage.Idle =
-        subst (λ i. (flight_of m (Caller i)).stage ≡ stage.Idle) e (held_idle c (view_of m) k known.orderly lt held) in
+        let at = at_its_stage _ _ Step.Leave refl h.order in
+        let here : (flight_of m (Caller j)).stage ≡ Stage.Idle =
+        subst (λ i. (flight_of m (Caller i)).stage ≡ Stage.Idle) e (held_idle c (view_of m) k known.orderly lt held) in
         cc
-gates_stay c m (Marker j) step.Leave known h out k lt held = let kind = h.kind in cc
-gates_stay c m Host step.Leave known h out k lt held = let kind = h.kind in cc
-gates_stay c m seat (step.Open j) known h out k lt held = cc
-gates_stay c m seat step.Reg known h out k lt held = ap (λ (gs : List ℕ). slice_index gs k) (reg_keeps m.words _ _
+gates_stay c m (Marker j) Step.Leave known h out k lt held = let kind = h.kind in cc
+gates_stay c m Host Step.Leave known h out k lt held = let kind = h.kind in cc
+gates_stay c m seat (Step.Open j) known h out k lt held = cc
+gates_stay c m seat Step.Reg known h out k lt held = ap (λ (gs : List ℕ). slice_index gs k) (reg_keeps m.words _ _
     _).gates ∙ held
-gates_stay c m seat (step.Tally n v) known h out k lt held =
+gates_stay c m seat (Step.Tally n v) known h out k lt held =
     ap (λ (gs : List ℕ). slice_index gs k) (tally_keeps m.words n v).gates ∙ held
 gates_stay c m seat _ known h out k lt held = held
 
 -- the kinds that change what the holder has freed, or whose turn it is
 abbrev moves_run : Step → Bool
-moves_run (step.Take o) = true
-moves_run step.Give = true
-moves_run (step.Quar p n) = true
+moves_run (Step.Take o) = true
+moves_run Step.Give = true
+moves_run (Step.Quar p n) = true
 moves_run _ = false
 
 freed_kind : (c : Config) (m : Moment) (seat : Seat) (x : Step) → moves_run x ≡ false
     → (Behind c m seat x).seats.holding.freed ≡ m.seats.holding.freed
-freed_kind c m seat (step.Take o) out = cc
+freed_kind c m seat (Step.Take o) out = cc
 freed_kind c m seat _ out = cc
 
 turn_kind : (c : Config) (m : Moment) (seat : Seat) (x : Step) → moves_run x ≡ false
     → (Behind c m seat x).words.turn ≡ m.words.turn
-turn_kind c m seat step.Reg out = (reg_keeps m.words _ _ _).turn
-turn_kind c m seat (step.Tally n v) out = (tally_keeps m.words n v).turn
+turn_kind c m seat Step.Reg out = (reg_keeps m.words _ _ _).turn
+turn_kind c m seat (Step.Tally n v) out = (tally_keeps m.words n v).turn
 turn_kind c m seat _ out = cc
 
 -- A cell that heads a run is a run's.
@@ -116,8 +114,8 @@ module _ (c : Config) (w : World) (known : KnownWorld c w) (laid : LayoutStands 
   ]
 
   -- A Free of a run finds them held.
-  freeing : (seat : Seat) (p n : ℕ) → Meets c w.now seat (step.Quar p n)
-      → (is_heap_store (step.Quar p n) ≡ true → IsWordOfMapped c w.allocations (word_met (flight_of w.now seat)))
+  freeing : (seat : Seat) (p n : ℕ) → Meets c w.now seat (Step.Quar p n)
+      → (is_heap_store (Step.Quar p n) ≡ true → IsWordOfMapped c w.allocations (word_met (flight_of w.now seat)))
       → is_run_gone w.now.words
       (or_else (run_of_cell w.now.words (cell_freed c.pages w.now.words (flight_of w.now seat) p n))
       w.now.seats.holding.freed) ≡ false → OthersHeld c w.now
@@ -142,17 +140,17 @@ module _ (c : Config) (w : World) (known : KnownWorld c w) (laid : LayoutStands 
       → (is_heap_store x ≡ true → IsWordOfMapped c w.allocations (word_met (flight_of w.now seat)))
       → is_run_gone (Behind c w.now seat x).words (Behind c w.now seat x).seats.holding.freed ≡ false
       → OthersHeld c (Behind c w.now seat x)
-  run_gates_behind seat (step.Take o) h stored off = by (w.now.words.turn == 0) off
+  run_gates_behind seat (Step.Take o) h stored off = by (w.now.words.turn == 0) off
     where
       by : (b : Bool) → is_run_gone w.now.words (if b then nothing_done else w.now.seats.holding).freed ≡ false
           → (k : ℕ) → k < c.callers
           → (if b then 1 + holder_number c seat else w.now.words.turn) ≢ 1 + k → slice_index w.now.words.gates k ≡ 2
       by true off k lt other = absurd (true≢false off)
       by false off k lt other = gates off k lt other
-  run_gates_behind seat step.Give h stored off = absurd (true≢false off)
-  run_gates_behind seat (step.Quar p n) h stored off = freeing seat p n h stored off
-  run_gates_behind seat (step.Open j) h stored off =
-      absurd (true≢false (sym h.holder ∙ before seat (step.Open j) h stored off))
+  run_gates_behind seat Step.Give h stored off = absurd (true≢false off)
+  run_gates_behind seat (Step.Quar p n) h stored off = freeing seat p n h stored off
+  run_gates_behind seat (Step.Open j) h stored off =
+      absurd (true≢false (sym h.holder ∙ before seat (Step.Open j) h stored off))
   run_gates_behind seat x h stored off = rest x h stored refl refl off
     where
       rest : (x : Step) → Meets c w.now seat x

@@ -2,20 +2,18 @@
 use Rattle.std.specs.Prelude.{List}
 use Rattle.mk_laws.proofs.Vocabulary.{Bool, Config, HeadStep, IsNextHeader, IsWordOfMapped, ItCarves, ItEmpties}
 use Rattle.mk_laws.proofs.Vocabulary.{ItUnmaps, LayoutStands, Option, Page, PlacedAllocation, RunPages, Seat, Some}
-use Rattle.mk_laws.proofs.Vocabulary.{Step, Words, World, all_below, all_below-at, all_below_more_is, all_below_zero_is}
-use Rattle.mk_laws.proofs.Vocabulary.{and_parts, ap, arith, cases_eq, cases_lt, eq-eqb, eqb-true, false, flight_of}
-use Rattle.mk_laws.proofs.Vocabulary.{free_page, get_or-set_other, get_or-set_same, ground_of, head_page, head_step}
-use Rattle.mk_laws.proofs.Vocabulary.{header_at, header_of, inl, inr, is_heap_store, is_run_gone, is_run_unmapped}
-use Rattle.mk_laws.proofs.Vocabulary.{is_unmapped_header, large_count, length, made_is_mapped, object_now}
-use Rattle.mk_laws.proofs.Vocabulary.{object_placed, pages_made, placed_at, placed_now, refl, set_past, slice_index}
-use Rattle.mk_laws.proofs.Vocabulary.{slice_set, stands, subst, suc, sym, true, true≢false, typed_size, undecided_new}
-use Rattle.mk_laws.proofs.Vocabulary.{unmapped_header, unmapped_is_unmapped, used_at, word_met, words_are_zero, zero, ℕ}
-use Rattle.mk_laws.proofs.Vocabulary.{◌&&◌, ◌*◌, ◌+◌, ◌-◌, ◌/◌, ◌<◌, ◌∙◌, ◌≡◌, ◌≢◌}
+use Rattle.mk_laws.proofs.Vocabulary.{Step, Words, World, ℕ, all_below, all_below-at, all_below_more_is}
+use Rattle.mk_laws.proofs.Vocabulary.{all_below_zero_is, and_parts, ap, arith, cases_eq, cases_lt, eq-eqb, eqb-true}
+use Rattle.mk_laws.proofs.Vocabulary.{false, flight_of, free_page, get_or-set_other, get_or-set_same, ground_of}
+use Rattle.mk_laws.proofs.Vocabulary.{head_page, head_step, header_at, header_of, inl, inr, is_heap_store, is_run_gone}
+use Rattle.mk_laws.proofs.Vocabulary.{is_run_unmapped, is_unmapped_header, large_count, length, made_is_mapped}
+use Rattle.mk_laws.proofs.Vocabulary.{object_now, object_placed, pages_made, placed_at, placed_now, refl, set_past}
+use Rattle.mk_laws.proofs.Vocabulary.{slice_index, slice_set, stands, subst, suc, sym, true, true≢false, typed_size}
+use Rattle.mk_laws.proofs.Vocabulary.{undecided_new, unmapped_header, unmapped_is_unmapped, used_at, word_met}
+use Rattle.mk_laws.proofs.Vocabulary.{words_are_zero, zero, ◌&&◌, ◌*◌, ◌+◌, ◌-◌, ◌/◌, ◌<◌, ◌∙◌, ◌≡◌, ◌≢◌}
 use Rattle.mk_laws.proofs.Basics.{Behind, KnownWorld, Meets, Table, ends_on_pages, headers_kind, is_head, mapped_stays}
 use Rattle.mk_laws.proofs.Basics.{new_has_turn, no_run, own_claim, reg_table, tally_table}
-use Rattle.mk_core.specs.declared.events.Step.TheVariants as step
-use Rattle.mk_laws.proofs.LayoutReadings.{claimed_used}
-use Rattle.mk_laws.proofs.ForImages.{laid_out, run_of}
+use Rattle.mk_laws.proofs.{ForImages.laid_out, ForImages.run_of, LayoutReadings.claimed_used}
 
 all_below_from : (n : ℕ) (test : ℕ → Bool) → ((k : ℕ) → k < n → test k ≡ true) → all_below n test ≡ true
 all_below_from zero test h = all_below_zero_is test
@@ -44,7 +42,7 @@ module _ (c : Config) (w : World) (known : KnownWorld c w) (laid : LayoutStands 
   words_gone i lt = eqb-true _ _ (all_below-at (64 * r.count) i _ gone_parts.1 lt)
 
   -- No page of it gets another header.
-  head_elsewhere : (seat : Seat) (p n : ℕ) → Meets c w.now seat (step.Head p n) → (d : ℕ) → d < r.count → r.page + d ≢ p
+  head_elsewhere : (seat : Seat) (p n : ℕ) → Meets c w.now seat (Step.Head p n) → (d : ℕ) → d < r.count → r.page + d ≢ p
   head_elsewhere seat p n h d lt at = by (head_step c w.now (flight_of w.now seat) p n h.holder)
     where
       by : HeadStep c w.now (flight_of w.now seat) p n → ⊥
@@ -94,7 +92,7 @@ module _ (c : Config) (w : World) (known : KnownWorld c w) (laid : LayoutStands 
 
   headers_behind : (seat : Seat) (x : Step) → Meets c w.now seat x → (d : ℕ) → d < r.count
       → header_at (Behind c w.now seat x).words (r.page + d) ≡ unmapped_header r.count d
-  headers_behind seat (step.Head p n) h d lt = ap (λ (y : Page). y.header)
+  headers_behind seat (Step.Head p n) h d lt = ap (λ (y : Page). y.header)
       (get_or-set_other w.now.words.pages p (r.page + d) (record { header = n; used = used_at w.now.words p })
       free_page (head_elsewhere seat p n h d lt)) ∙ headers_gone d lt
   headers_behind seat x h d lt = rest x refl
@@ -106,15 +104,15 @@ module _ (c : Config) (w : World) (known : KnownWorld c w) (laid : LayoutStands 
   words_behind : (seat : Seat) (x : Step) → Meets c w.now seat x
       → (is_heap_store x ≡ true → IsWordOfMapped c w.allocations (word_met (flight_of w.now seat)))
       → (i : ℕ) → i < 64 * r.count → slice_index (Behind c w.now seat x).words.heap (64 * r.page + i) ≡ 0
-  words_behind seat step.Reg h stored i lt =
+  words_behind seat Step.Reg h stored i lt =
       ap (λ (t : Table). slice_index t.heap (64 * r.page + i)) (reg_table c w.now seat) ∙ words_gone i lt
-  words_behind seat (step.Tally n v) h stored i lt =
+  words_behind seat (Step.Tally n v) h stored i lt =
       ap (λ (t : Table). slice_index t.heap (64 * r.page + i)) (tally_table w.now.words n v) ∙ words_gone i lt
-  words_behind seat step.Write h stored i lt = get_or-set_other w.now.words.heap _ _ _ 0
+  words_behind seat Step.Write h stored i lt = get_or-set_other w.now.words.heap _ _ _ 0
       (λ e. not_mapped i lt (subst (λ n. IsWordOfMapped c w.allocations n) (sym e) (stored refl))) ∙ words_gone i lt
-  words_behind seat step.Cas h stored i lt = get_or-set_other w.now.words.heap _ _ _ 0
+  words_behind seat Step.Cas h stored i lt = get_or-set_other w.now.words.heap _ _ _ 0
       (λ e. not_mapped i lt (subst (λ n. IsWordOfMapped c w.allocations n) (sym e) (stored refl))) ∙ words_gone i lt
-  words_behind seat (step.Wipe n) h stored i lt = elim (cases_eq (64 * r.page + i) n) [
+  words_behind seat (Step.Wipe n) h stored i lt = elim (cases_eq (64 * r.page + i) n) [
     | inr ne ↦ get_or-set_other w.now.words.heap n _ 0 0 ne ∙ words_gone i lt
     | inl e ↦ elim (cases_lt n (length w.now.words.heap)) [
       | inl near ↦ ap (λ k. slice_index (slice_set w.now.words.heap n 0) k) e

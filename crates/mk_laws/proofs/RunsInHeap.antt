@@ -1,18 +1,15 @@
 -- A mapped run that a header shows lies in the heap.
 use Rattle.std.specs.Prelude.{unwrap_or}
 use Rattle.mk_laws.proofs.Vocabulary.{Bool, Config, Flight, Ground, List, None, Object, Option, Page, Place, Run}
-use Rattle.mk_laws.proofs.Vocabulary.{RunPages, Some, Words, World, and_parts, arith, block_header, carves, cases_eq}
+use Rattle.mk_laws.proofs.Vocabulary.{RunPages, Some, Words, World, ℕ, and_parts, arith, block_header, carves, cases_eq}
 use Rattle.mk_laws.proofs.Vocabulary.{class_made, empties, eqb-true, false, free_page, get_or-set_other, header_made}
 use Rattle.mk_laws.proofs.Vocabulary.{header_of, if◌then◌else◌, inl, inr, is_next_header, is_small_object, leb-true}
 use Rattle.mk_laws.proofs.Vocabulary.{object_made, pages_made, place_now, refl, run_header, run_pages_of}
-use Rattle.mk_laws.proofs.Vocabulary.{slice_index_or, slice_set, suc, true, unmapped_header, unmaps, word_of, zero, ℕ}
-use Rattle.mk_laws.proofs.Vocabulary.{◌*◌, ◌+◌, ◌-◌, ◌<◌, ◌==◌, ◌∙◌, ◌≡◌, ◌≢◌, ◌≤◌}
-use Rattle.mk_geom.specs.Classes.{class_for}
-use Rattle.mk_geom.proofs.HeaderLemmas.{word_of-header_of}
-use Rattle.mk_geom.proofs.ClassTable.{class_for-some}
-use Rattle.mk_laws.proofs.HeaderSteps.{page_set, used_set}
-use Rattle.mk_laws.proofs.Ground.{GroundStep, Carves, Unmaps, Empties, TakesCell, GivesBack}
-use Rattle.mk_laws.proofs.NewPlace.{PlaceFits}
+use Rattle.mk_laws.proofs.Vocabulary.{slice_index_or, slice_set, suc, true, unmapped_header, unmaps, word_of, zero, ◌*◌}
+use Rattle.mk_laws.proofs.Vocabulary.{◌+◌, ◌-◌, ◌<◌, ◌==◌, ◌∙◌, ◌≡◌, ◌≢◌, ◌≤◌}
+use Rattle.mk_geom.{proofs.ClassTable.class_for-some, proofs.HeaderLemmas.word_of-header_of, specs.Classes.class_for}
+use Rattle.mk_laws.proofs.Ground.{Carves, Empties, GivesBack, GroundStep, TakesCell, Unmaps}
+use Rattle.mk_laws.proofs.{HeaderSteps.page_set, HeaderSteps.used_set, NewPlace.PlaceFits}
 
 -- what a header word at a page shows ends in the heap
 abbrev pub RunFits : Config → ℕ → ℕ → Type 0
@@ -66,11 +63,8 @@ pub record Next (first page value : ℕ) (wanted : ℕ → ℕ) : Type 0 where
 pub next_is : (w : Words) (first count : ℕ) (wanted : ℕ → ℕ) (page value : ℕ)
     → is_next_header w first count wanted page value ≡ true → Next first page value wanted
 next_is w first count wanted page value h =
-    let last = and_parts _ _ h in
-    let three = and_parts _ _ last.0 in
-    let two = and_parts _ _ three.0 in
-    let one = and_parts _ _ two.0 in
-    record { behind = leb-true first page one.0; is = eqb-true value (wanted (page - first)) last.1 }
+    let one = and_parts _ _ (and_parts _ _ (and_parts _ _ (and_parts _ _ h).0).0).0 in
+    record { behind = leb-true first page one.0; is = eqb-true value (wanted (page - first)) (and_parts _ _ h).1 }
 
 carved_fits : (c : Config) (w : Words) (f : Flight) (place : Option Place) (p n : ℕ)
     → ((x : Place) → place ≡ Some x → PlaceFits c f.op x)
@@ -80,9 +74,7 @@ carved_fits c w f (Some x) p n fits h = λ count shows.
     let o = object_made c f.op in
     let next = next_is w x.page (pages_made o) (header_made o) p n (and_parts _ _ h).0 in
     let made = made_shown o (p - x.page) count (shown_word n count shows ∙ next.is) in
-    let room = fits x refl made.0 in
-    let at = next.behind in
-    omega (arith, made.1, made.2)
+    omega (arith, made.1, made.2, fits x refl made.0, next.behind)
 
 unmapped_fits : (c : Config) (w : Words) (run : Option RunPages) (p n : ℕ) → unmaps w run p n ≡ true → RunFits c p n
 unmapped_fits c w None p n h = cc
@@ -94,9 +86,8 @@ unmapped_fits c w (Some run) p n h = λ count shows.
 
 emptied_fits : (c : Config) (w : Words) (p n : ℕ) → empties w p n ≡ true → RunFits c p n
 emptied_fits c w p n h = λ count shows.
-    let word = shown_word n count shows in
     let zero : n ≡ 0 = eqb-true n 0 (value_zero h) in
-    absurd (omega arith)
+    absurd (omega (arith, shown_word n count shows))
   where
     value_zero : empties w p n ≡ true → (n == 0) ≡ true
     value_zero h = (and_parts (n == 0) _ (and_parts _ _ (and_parts _ _ h).0).0).0
@@ -108,7 +99,7 @@ header_set : (c : Config) (ps : List Page) (p n u : ℕ) → RunFits c p n → R
 header_set c ps p n u fits all q = elim (cases_eq q p) [
   | inl e ↦
       let own : RunFits c p (slice_index_or (slice_set ps p (record { header = n; used = u })) q free_page).header =
-      page_set ps p q (record { header = n; used = u }) (λ y. RunFits c p y) (λ lt. fits)
+      page_set ps p q (record { header = n; used = u }) (RunFits c p) (λ lt. fits)
       (λ count shows. rw e at (all q count shows)) in
       λ count shows. rw e (own count shows)
   | inr ne ↦ page_set_other ps p q (record { header = n; used = u }) ne (all q)

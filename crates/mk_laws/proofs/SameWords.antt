@@ -1,11 +1,8 @@
 -- The moment after an event, and steps that leave the words of the protocol as they are.
 use Rattle.mk_laws.proofs.Vocabulary.{Access, Config, Flight, Holding, List, Load, MarkerState, Moment, Named, Seat}
-use Rattle.mk_laws.proofs.Vocabulary.{Step, Store, Tally, Words, accessed, found, refl, tally_word, ℕ, ◌≡◌}
-use Rattle.mk_core.specs.declared.events.Tally.TheVariants as tally
-use Rattle.mk_core.specs.declared.events.Word.TheVariants as word
+use Rattle.mk_laws.proofs.Vocabulary.{Step, Store, Tally, Word, Words, ℕ, accessed, found, refl, tally_word, ◌≡◌}
 use Rattle.mk_core.specs.Effects.{moment_behind}
-use Rattle.mk_laws.proofs.Views.{View, view_of}
-use Rattle.mk_laws.proofs.ProtocolMoves.{Move}
+use Rattle.mk_laws.proofs.{ProtocolMoves.Move, Views.View, Views.view_of}
 
 abbrev pub Behind : Config → Moment → Seat → Step → Moment
 Behind c m seat x = moment_behind c m (record { seat = seat; step = x })
@@ -22,12 +19,12 @@ pub record Keeps (w x : Words) : Type 0 where
   pub phase : x.phase ≡ w.phase
   pub gates : x.gates ≡ w.gates
 
-pub reg_keeps : (w : Words) (k r : ℕ) (a : Access) → Keeps w (accessed w (Named (word.Reg k r)) a)
+pub reg_keeps : (w : Words) (k r : ℕ) (a : Access) → Keeps w (accessed w (Named (Word.Reg k r)) a)
 reg_keeps w k r Load = record { turn = refl; phase = refl; gates = refl }
 reg_keeps w k r _ = record { turn = refl; phase = refl; gates = refl }
 
 pub tally_keeps : (w : Words) (n : Tally) (v : ℕ) → Keeps w (accessed w (Named (tally_word n)) (Store v))
-tally_keeps w tally.Held v = record { turn = refl; phase = refl; gates = refl }
+tally_keeps w Tally.Held v = record { turn = refl; phase = refl; gates = refl }
 tally_keeps w _ v = record { turn = refl; phase = refl; gates = refl }
 
 -- a move, where the words of the protocol are the same

@@ -2,26 +2,19 @@
 use Rattle.mk_laws.proofs.Vocabulary.{AreAdmitted, Caller, CarriesOwn, Cell, Config, ImagePremises, ImagesSay}
 use Rattle.mk_laws.proofs.Vocabulary.{IsAdmitted, IsNumber, IsPointer, IsSafe, IsSound, Kind, MeetsAll, Mirrors}
 use Rattle.mk_laws.proofs.Vocabulary.{NeverState, Null, Num, Op, Option, ProbedOwn, Ptr, RunPages, Seat, Some, Stage}
-use Rattle.mk_laws.proofs.Vocabulary.{Step, Value, World, ap, arith, asked, bases_of, call_decided, cases_eq}
+use Rattle.mk_laws.proofs.Vocabulary.{Step, Value, World, ℕ, ap, arith, asked, bases_of, call_decided, cases_eq}
 use Rattle.mk_laws.proofs.Vocabulary.{cell_of_allocation, enabled_meets, false, false≢true, flight_of, i_of, image_of}
 use Rattle.mk_laws.proofs.Vocabulary.{image_scene_of, inl, inr, is_marked, is_none_or, is_put, is_undecided_free}
 use Rattle.mk_laws.proofs.Vocabulary.{ltb-true, not, object_placed, p_of, phase_of, placed_at, pointed_cell, refl}
-use Rattle.mk_laws.proofs.Vocabulary.{register_at, run_begins, subst, sym, target, true, typed_size, word_met, ℕ, ◌*◌}
-use Rattle.mk_laws.proofs.Vocabulary.{◌+◌, ◌-◌, ◌/◌, ◌∙◌, ◌≡◌, ◌≢◌, ◌⊎◌}
+use Rattle.mk_laws.proofs.Vocabulary.{register_at, run_begins, subst, sym, target, true, typed_size, word_met, ◌*◌, ◌+◌}
+use Rattle.mk_laws.proofs.Vocabulary.{◌-◌, ◌/◌, ◌∙◌, ◌≡◌, ◌≢◌, ◌⊎◌}
+use Rattle.mk_core.proofs.{PlacesNow.target_is, StandingAllocations.run_cell}
 use Rattle.mk_laws.proofs.Basics.{KnownWorld, Ready, Stands, at_its_stage, exists_placed, flight, is_astray}
 use Rattle.mk_laws.proofs.Basics.{is_call_stage, not_astray, ready_of, standing_at, stands_of, unmapped_is, words_fit}
-use Rattle.mk_never.specs.declared.operations.Op.TheVariants as op
-use Rattle.mk_core.specs.declared.events.Step.TheVariants as step
-use Rattle.mk_core.specs.declared.seats.Stage.TheVariants as stage
-use Rattle.mk_core.proofs.PlacesNow.{target_is}
-use Rattle.mk_core.proofs.StandingAllocations.{run_cell}
-use Rattle.mk_laws.proofs.Protocols.{protocol_of}
+use Rattle.mk_laws.proofs.CallSorts.{admitted_call, call_outside, literal}
+use Rattle.mk_laws.proofs.{FreeMoves.pointer_cell, FreedRuns.decided_free_gives, ImagesKept.own_plain}
+use Rattle.mk_laws.proofs.{Protocols.protocol_of, Reached.Reaches, Reached.reaches}
 use Rattle.mk_laws.specs.ImagesSay.{IsCellOfUnreleased, IsMappedWord}
-use Rattle.mk_laws.proofs.ImagesKept.{own_plain}
-use Rattle.mk_laws.proofs.Reached.{Reaches, reaches}
-use Rattle.mk_laws.proofs.FreedRuns.{decided_free_gives}
-use Rattle.mk_laws.proofs.FreeMoves.{pointer_cell}
-use Rattle.mk_laws.proofs.CallSorts.{call_outside, admitted_call, literal}
 
 module _ (c : Config) (w : World) (n : NeverState) (known : KnownWorld c w) (others : ImagePremises c w)
     (mirrors : Mirrors c w n) where
@@ -52,7 +45,7 @@ module _ (c : Config) (w : World) (n : NeverState) (known : KnownWorld c w) (oth
   free_target : (k : ℕ) (s : Stage) (o : Op) (q p r l : ℕ) (cell : Cell) → is_undecided_free (flight s o q p r l) ≡ true
       → pointed_cell c.pages w.now.words.pages p ≡ Some cell
       → CarriesOwn (bases_of w.allocations) n k (flight s o q p r l) → IsCellOfUnreleased c w cell
-  free_target k stage.Turn (op.Free p') q p r l cell undecided points car =
+  free_target k Stage.Turn (Op.Free p') q p r l cell undecided points car =
       value_cell _ p cell (own_sound k p') (own_safe k p') (car.p refl) (car.some_p refl) points
   free_target k _ _ q p r l cell undecided points car = absurd (false≢true undecided)
 
@@ -113,44 +106,44 @@ module _ (c : Config) (w : World) (n : NeverState) (known : KnownWorld c w) (oth
       let inside = to.inside in
       record { number = to.number; mapped = rw to.unreleased (ap not gone); word = (omega arith, omega arith) }
 
-  write_word : (k : ℕ) (o : Op) (q p r l : ℕ) → is_astray (standing_at stage.Write o) ≡ false
-      → CarriesOwn (bases_of w.allocations) n k (flight stage.Write o q p r l)
-      → ProbedOwn n k (flight stage.Write o q p r l)
+  write_word : (k : ℕ) (o : Op) (q p r l : ℕ) → is_astray (standing_at Stage.Write o) ≡ false
+      → CarriesOwn (bases_of w.allocations) n k (flight Stage.Write o q p r l)
+      → ProbedOwn n k (flight Stage.Write o q p r l)
       → IsAdmitted c.globals n k o → IsMappedWord c w ((q - 65536) / 8 + i_of o)
-  write_word k (op.SetNum q' i m) q p r l a car pro ad = reached_word k i q _ IsNumber
+  write_word k (Op.SetNum q' i m) q p r l a car pro ad = reached_word k i q _ IsNumber
       (reaches c.globals mirrors.safe.0 _ n ready _ q i IsNumber (car.q refl)
       (car.some_q refl) (own_sound k q') (own_safe k q') (pro refl) ad.access)
-  write_word k (op.SetPtr q' i p') q p r l a car pro ad = reached_word k i q _ IsPointer
+  write_word k (Op.SetPtr q' i p') q p r l a car pro ad = reached_word k i q _ IsPointer
       (reaches c.globals mirrors.safe.0 _ n ready _ q i IsPointer (car.q refl)
       (car.some_q refl) (own_sound k q') (own_safe k q') (pro refl) ad.access)
   write_word k _ q p r l a car pro ad = cc
 
-  cas_word : (k : ℕ) (o : Op) (q p r l : ℕ) → is_astray (standing_at stage.Cas o) ≡ false
-      → CarriesOwn (bases_of w.allocations) n k (flight stage.Cas o q p r l)
-      → ProbedOwn n k (flight stage.Cas o q p r l)
+  cas_word : (k : ℕ) (o : Op) (q p r l : ℕ) → is_astray (standing_at Stage.Cas o) ≡ false
+      → CarriesOwn (bases_of w.allocations) n k (flight Stage.Cas o q p r l)
+      → ProbedOwn n k (flight Stage.Cas o q p r l)
       → IsAdmitted c.globals n k o → IsMappedWord c w ((q - 65536) / 8 + i_of o)
-  cas_word k (op.CasPtr q' i p' r') q p r l a car pro ad = reached_word k i q _ IsPointer
+  cas_word k (Op.CasPtr q' i p' r') q p r l a car pro ad = reached_word k i q _ IsPointer
       (reaches c.globals mirrors.safe.0 _ n ready _ q i IsPointer (car.q refl)
       (car.some_q refl) (own_sound k q') (own_safe k q') (pro refl) ad.access)
   cas_word k _ q p r l a car pro ad = cc
 
-  stored_word : (k : ℕ) (x : Step) → (x ≡ step.Write) ⊎ (x ≡ step.Cas)
+  stored_word : (k : ℕ) (x : Step) → (x ≡ Step.Write) ⊎ (x ≡ Step.Cas)
       → MeetsAll c w.now (record { seat = Caller k; step = x })
       → AreAdmitted c.globals n (asked (call_decided c w.now (record { seat = Caller k; step = x })))
       → IsMappedWord c w (word_met (flight_of w.now (Caller k)))
-  stored_word k step.Write is h ad =
+  stored_word k Step.Write is h ad =
       let f = flight_of w.now (Caller k) in
-      let at = at_its_stage f.stage f.op step.Write refl h.order in
+      let at = at_its_stage f.stage f.op Step.Write refl h.order in
       let a = not_astray c w.now known.now.orderly k (ltb-true k c.callers h.seat) in
-      let lit = literal f stage.Write at in
+      let lit = literal f Stage.Write at in
       write_word k f.op f.q f.p f.r f.loaded (subst (λ (s : Stage). is_astray (standing_at s f.op) ≡ false) at a)
       (rw lit at (ready.images.carried k)) (rw lit at (ready.images.probed k))
       (admitted_call c.globals n k f.op _ (call_outside f.op f.stage (ap is_call_stage at) a) ad)
-  stored_word k step.Cas is h ad =
+  stored_word k Step.Cas is h ad =
       let f = flight_of w.now (Caller k) in
-      let at = at_its_stage f.stage f.op step.Cas refl h.order in
+      let at = at_its_stage f.stage f.op Step.Cas refl h.order in
       let a = not_astray c w.now known.now.orderly k (ltb-true k c.callers h.seat) in
-      let lit = literal f stage.Cas at in
+      let lit = literal f Stage.Cas at in
       cas_word k f.op f.q f.p f.r f.loaded (subst (λ (s : Stage). is_astray (standing_at s f.op) ≡ false) at a)
       (rw lit at (ready.images.carried k)) (rw lit at (ready.images.probed k))
       (admitted_call c.globals n k f.op _ (call_outside f.op f.stage (ap is_call_stage at) a) ad)

@@ -1,16 +1,14 @@
 -- What a marker's own step makes of its scan, its hand and the header that it has seen, in the words as they are.
 use Rattle.mk_laws.proofs.Vocabulary.{Bool, Cell, Config, HeaderGoesOn, IsGuarded, MarkerStands, MarkerState as Marker}
-use Rattle.mk_laws.proofs.Vocabulary.{Moment, None, Option, Presence, Scan, ScanStands, SeenHeader, Some, Words}
+use Rattle.mk_laws.proofs.Vocabulary.{Moment, None, Option, Presence, Scan, ScanStands, SeenHeader, Some, Words, ℕ}
 use Rattle.mk_laws.proofs.Vocabulary.{and_parts, ap, arith, cases_eq, cases_lt, cell_at, cell_seen, cells_under}
 use Rattle.mk_laws.proofs.Vocabulary.{eqb-true, false, has_bit, has_next_word, has_no_pointers, has_seen_cell}
 use Rattle.mk_laws.proofs.Vocabulary.{header_at, header_in, header_of, if◌then◌else◌, inl, inr, is_heap_address}
 use Rattle.mk_laws.proofs.Vocabulary.{is_marked, is_scanned, lt-ltb, ltb-true, nat_lt, none-some, not, page_at_address}
 use Rattle.mk_laws.proofs.Vocabulary.{refl, same_Some, scan_begun, scan_claimed, scan_onward, slice_index, subst, sym}
-use Rattle.mk_laws.proofs.Vocabulary.{true, true≢false, words_under, ℕ, ◌*◌, ◌+◌, ◌<◌, ◌==◌, ◌∙◌, ◌≡◌, ◌≢◌, ◌≤◌, ◌⊎◌}
-use Rattle.mk_core.specs.Effects.{open_hand, hand_behind_look}
-use Rattle.mk_laws.specs.Guard.{EndsItsCell}
-use Rattle.mk_laws.proofs.Wells.{IsWell, well_guarded}
-use Rattle.mk_laws.proofs.KeptGuard.{goes_same}
+use Rattle.mk_laws.proofs.Vocabulary.{true, true≢false, words_under, ◌*◌, ◌+◌, ◌<◌, ◌==◌, ◌∙◌, ◌≡◌, ◌≢◌, ◌≤◌, ◌⊎◌}
+use Rattle.mk_core.specs.Effects.{hand_behind_look, open_hand}
+use Rattle.mk_laws.{proofs.KeptGuard.goes_same, proofs.Wells.IsWell, proofs.Wells.well_guarded, specs.Guard.EndsItsCell}
 
 -- outside the heap a value points into nothing
 outside_well : (c : Config) (w : Words) (v : ℕ) → is_heap_address c.pages v ≡ false → IsWell c w v
@@ -117,9 +115,8 @@ claim_stands c m x p k own h = record { scan = λ s is. by x.seen own h.seen s i
             → (if b then Some (scan_begun p k seen.header) else None) ≡ Some s → ScanStands c m x.hand s
         marked false e is = absurd (none-some _ is)
         marked true e is =
-            let parts = and_parts _ _ own in
-            rw (same_Some _ _ is) at (begun_stands c m x.hand p k seen.header (ltb-true k _ parts.1) e
-            (rw (eqb-true seen.page p parts.0) at (goes seen refl)))
+            rw (same_Some _ _ is) at (begun_stands c m x.hand p k seen.header (ltb-true k _ (and_parts _ _ own).1) e
+            (rw (eqb-true seen.page p (and_parts _ _ own).0) at (goes seen refl)))
 
 -- `mload`: the word loaded is the hand, or points into nothing
 pub load_stands : (c : Config) (m : Moment) (x : Marker) (next : ℕ) → has_next_word x.scan ≡ true → x.hand ≡ None
@@ -185,9 +182,8 @@ seen_well c m x cell value is at h marked =
             → (if b then cell_at c.pages seen.header value else None) ≡ Some cell → IsWell c m.words value
         here false e at = absurd (none-some _ at)
         here true e at =
-            let now = (goes seen refl).cell value cell at in
             let there : cell_at c.pages (header_at m.words (page_at_address value)) value ≡ Some cell
-            = rw (eqb-true seen.page _ e) at now in
+            = rw (eqb-true seen.page _ e) at ((goes seen refl).cell value cell at) in
             λ y is. rw (same_Some _ _ (sym there ∙ is)) at marked
 
 -- `mblack`: the scan is at its end, and no hand is open

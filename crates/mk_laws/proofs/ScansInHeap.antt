@@ -1,15 +1,13 @@
 -- What a marker scans lies in the heap.
 use Rattle.mk_laws.proofs.Vocabulary.{Block, Bool, Cell, Config, Header, LeafBlock, LeafRun, MarkerState as Marker}
-use Rattle.mk_laws.proofs.Vocabulary.{None, Option, Run, Scan, SeenHeader, Some, Step, Word, and_parts, arith}
+use Rattle.mk_laws.proofs.Vocabulary.{None, Option, Run, Scan, SeenHeader, Some, Step, Word, ℕ, and_parts, arith}
 use Rattle.mk_laws.proofs.Vocabulary.{behind_mlook, cell_at, cell_ends, cell_seen, cells_under, eqb-true, false}
 use Rattle.mk_laws.proofs.Vocabulary.{has_bit, has_next_word, has_no_pointers, has_seen_cell, header_of, if◌then◌else◌}
 use Rattle.mk_laws.proofs.Vocabulary.{is_scanned, is_some, ltb-true, marker_behind, marker_may, next_word}
 use Rattle.mk_laws.proofs.Vocabulary.{page_at_address, refl, scan_begun, scan_claimed, scan_onward, scan_page}
-use Rattle.mk_laws.proofs.Vocabulary.{seen_page, subst, sym, true, words_under, ℕ, ◌*◌, ◌+◌, ◌<◌, ◌==◌, ◌∙◌, ◌≡◌, ◌≤◌}
-use Rattle.mk_core.specs.declared.events.Step.TheVariants as step
-use Rattle.mk_core.specs.declared.events.Word.TheVariants as word
-use Rattle.mk_laws.proofs.RunsInHeap.{RunFits}
+use Rattle.mk_laws.proofs.Vocabulary.{seen_page, subst, sym, true, words_under, ◌*◌, ◌+◌, ◌<◌, ◌==◌, ◌∙◌, ◌≡◌, ◌≤◌}
 use Rattle.mk_core.proofs.PointedPages.{cell_within}
+use Rattle.mk_laws.proofs.RunsInHeap.{RunFits}
 
 pub record MarkerFits (c : Config) (x : Marker) : Type 0 where
   pub seen : (s : SeenHeader) → x.seen ≡ Some s → RunFits c s.page s.header
@@ -104,9 +102,9 @@ loads c hand x h = record {
         same a b e = cc
     by_end None k s e = cc
 
-looks : (c : Config) (n : ℕ) (w : Word) (x : Marker) → ((p : ℕ) → w ≡ word.Head p → RunFits c p n) → MarkerFits c x
+looks : (c : Config) (n : ℕ) (w : Word) (x : Marker) → ((p : ℕ) → w ≡ Word.Head p → RunFits c p n) → MarkerFits c x
     → MarkerFits c (behind_mlook c n w x)
-looks c n (word.Head p) x fits h =
+looks c n (Word.Head p) x fits h =
     record {
       seen = λ s e. subst (λ (t : SeenHeader). RunFits c t.page t.header) (same _ s e) (fits p refl);
       page = h.page;
@@ -119,15 +117,15 @@ looks c n _ x fits h = record { seen = λ s e. cc; page = h.page; end = h.end }
 
 -- where a marker steps that finds n
 pub marker_fits_behind : (c : Config) (n : ℕ) (s : Step) (x : Marker)
-    → ((p : ℕ) → s ≡ step.Mlook (word.Head p) → RunFits c p n) → ((p i : ℕ) → s ≡ step.Claim p i → p < c.pages)
+    → ((p : ℕ) → s ≡ Step.Mlook (Word.Head p) → RunFits c p n) → ((p i : ℕ) → s ≡ Step.Claim p i → p < c.pages)
     → marker_may c x s ≡ true → MarkerFits c x → MarkerFits c (marker_behind c n s x)
-marker_fits_behind c n step.Attend x looked claimed m h = nothing_fits c _ refl refl
-marker_fits_behind c n step.Quit x looked claimed m h = nothing_fits c _ refl refl
-marker_fits_behind c n (step.Mlook w) x looked claimed m h = looks c n w x (λ p e. looked p (rw e)) h
-marker_fits_behind c n (step.Claim p i) x looked claimed m h = claims c p i n x (claimed p i refl) (and_parts _ _ m).1 h
-marker_fits_behind c n step.Mload x looked claimed m h = loads c _ x h
-marker_fits_behind c n step.Mmark x looked claimed m h = record { seen = h.seen; page = h.page; end = h.end }
-marker_fits_behind c n step.Mblack x looked claimed m h = record { seen = h.seen; page = λ s e. cc; end = λ s e. cc }
+marker_fits_behind c n Step.Attend x looked claimed m h = nothing_fits c _ refl refl
+marker_fits_behind c n Step.Quit x looked claimed m h = nothing_fits c _ refl refl
+marker_fits_behind c n (Step.Mlook w) x looked claimed m h = looks c n w x (λ p e. looked p (rw e)) h
+marker_fits_behind c n (Step.Claim p i) x looked claimed m h = claims c p i n x (claimed p i refl) (and_parts _ _ m).1 h
+marker_fits_behind c n Step.Mload x looked claimed m h = loads c _ x h
+marker_fits_behind c n Step.Mmark x looked claimed m h = record { seen = h.seen; page = h.page; end = h.end }
+marker_fits_behind c n Step.Mblack x looked claimed m h = record { seen = h.seen; page = λ s e. cc; end = λ s e. cc }
 marker_fits_behind c n _ x looked claimed m h = h
 
 -- the words that a scan and a hand reach

@@ -2,36 +2,27 @@
 use Rattle.mk_laws.proofs.Vocabulary.{AreOfOthers, Call, Caller, Config, Event, Flight, GuardPremisesFrom, Holds, Host}
 use Rattle.mk_laws.proofs.Vocabulary.{IsHistory, IsInCall, IsSound, KeepsRegisters, List, Marker, Moment, NeverState}
 use Rattle.mk_laws.proofs.Vocabulary.{None, Null, Num, Op, PlacedAllocation, Ptr, Seat, Some, Stage, Step, Value, World}
-use Rattle.mk_laws.proofs.Vocabulary.{Written, [], admitted_keep, after_calls, and_from, and_parts, ap, append-nil}
+use Rattle.mk_laws.proofs.Vocabulary.{Written, ℕ, admitted_keep, after_calls, and_from, and_parts, ap, append-nil}
 use Rattle.mk_laws.proofs.Vocabulary.{append_assoc, arith, asked, at_rest, bases_of, call_decided, cases_eq, cases_lt}
 use Rattle.mk_laws.proofs.Vocabulary.{comes_next, earlier_part_is_history, false, false≢true, flight_of, found}
 use Rattle.mk_laws.proofs.Vocabulary.{get_or_append_left, get_or_past, header_at, header_in, holder_number}
 use Rattle.mk_laws.proofs.Vocabulary.{image_scene_of, inl, inr, is_mapped, is_one_of, is_unmapped_header, left, length}
 use Rattle.mk_laws.proofs.Vocabulary.{length-map, ltb-true, never_behind, not, not-true, placed_at, progress, refl}
-use Rattle.mk_laws.proofs.Vocabulary.{register_at, slice_index, sym, true, ℕ, ◌*◌, ◌++◌, ◌+◌, ◌/◌, ◌<◌, ◌∙◌, ◌∷◌, ◌≡◌}
+use Rattle.mk_laws.proofs.Vocabulary.{register_at, slice_index, sym, true, [], ◌*◌, ◌++◌, ◌+◌, ◌/◌, ◌<◌, ◌∙◌, ◌∷◌, ◌≡◌}
 use Rattle.mk_laws.proofs.Vocabulary.{◌≢◌}
+use Rattle.mk_never.specs.Reach.{LeadsTo, by_register}
+use Rattle.mk_core.specs.Frames.{AdmittedOthersLeave, HeapIsLeft, HoldsAll, TargetsAreLeft}
+use Rattle.mk_core.specs.Readings.{is_in_call}
 use Rattle.mk_laws.proofs.Basics.{InCall, Known, Meets, PagesShow, along_others, base_at, exists_placed, in_call_told}
 use Rattle.mk_laws.proofs.Basics.{not_astray, others_held, pointed_word, standing, unmapped_is, view_of}
-use Rattle.mk_never.specs.Reach.{LeadsTo, by_register}
-use Rattle.mk_core.specs.Frames.{TargetsAreLeft, HoldsAll, AdmittedOthersLeave, HeapIsLeft}
-use Rattle.mk_core.specs.Readings.{is_in_call}
-use Rattle.mk_laws.proofs.ProtocolFrames.{others_leave, left_after, other_seat}
-use Rattle.mk_laws.proofs.Standings.{in_call_is}
-use Rattle.mk_laws.proofs.Bases.{IsLonger}
-use Rattle.mk_laws.proofs.ImagesOneEvent.{one_event}
-use Rattle.mk_laws.proofs.ImagesStands.{is_gone}
-use Rattle.mk_laws.proofs.InvariantJoined.{told_to_images, told_to_guard}
-use Rattle.mk_laws.proofs.InvariantTheorems.{reach_is_kept}
+use Rattle.mk_laws.proofs.InvariantJoined.{told_to_guard, told_to_images}
 use Rattle.mk_laws.proofs.LastEvents.{Stands, comes_last, stands}
-use Rattle.mk_laws.proofs.OtherCalls.{registers_are_left, call_not_by}
-use Rattle.mk_laws.proofs.ProbesStill.{pages_tell, ready}
-use Rattle.mk_core.specs.declared.events.Step.TheVariants as step
-use Rattle.mk_core.specs.declared.seats.Stage.TheVariants as stage
-use Rattle.mk_laws.proofs.FreedRuns.{never_after}
-use Rattle.mk_laws.proofs.ImagesHeldGates.{held_idle}
-use Rattle.mk_laws.proofs.FramesLongerLists.{begins_nothing}
 use Rattle.mk_laws.proofs.OthersLeave.{others_leave_headers, others_leave_wells}
-use Rattle.mk_laws.proofs.RunsStill.{holder_finds}
+use Rattle.mk_laws.proofs.ProtocolFrames.{left_after, other_seat, others_leave}
+use Rattle.mk_laws.proofs.{Bases.IsLonger, FramesLongerLists.begins_nothing, FreedRuns.never_after}
+use Rattle.mk_laws.proofs.{ImagesHeldGates.held_idle, ImagesOneEvent.one_event, ImagesStands.is_gone}
+use Rattle.mk_laws.proofs.{InvariantTheorems.reach_is_kept, OtherCalls.call_not_by, OtherCalls.registers_are_left}
+use Rattle.mk_laws.proofs.{ProbesStill.pages_tell, ProbesStill.ready, RunsStill.holder_finds, Standings.in_call_is}
 
 -- An allocation to which a caller's register leads stays unreleased, where it is, and in a call of the caller mapped.
 
@@ -142,10 +133,10 @@ module _ (c : Config) (es more : List Event) (k : ℕ) (h : IsHistory c (es ++ m
 -- and where all gates are held, all of that heap does.
 
 -- Between calls nothing is decided.
-idle_decides_nothing : (c : Config) (m : Moment) (f : Flight) (s : Stage) (o : Op) (n : ℕ) (x : Step) → s ≡ stage.Idle
+idle_decides_nothing : (c : Config) (m : Moment) (f : Flight) (s : Stage) (o : Op) (n : ℕ) (x : Step) → s ≡ Stage.Idle
     → comes_next s o x ≡ true → (progress c m f n x).answer ≡ None
-idle_decides_nothing c m f stage.Idle o n (step.Enter next) is h = begins_nothing f next n
-idle_decides_nothing c m f stage.Idle o n (step.Take (Some next)) is h = begins_nothing f next n
+idle_decides_nothing c m f Stage.Idle o n (Step.Enter next) is h = begins_nothing f next n
+idle_decides_nothing c m f Stage.Idle o n (Step.Take (Some next)) is h = begins_nothing f next n
 idle_decides_nothing c m f _ o n _ is h = cc
 
 held_decides_nothing : (c : Config) (m : Moment) (k : ℕ) (x : Step) → Known c m → Meets c m (Caller k) x

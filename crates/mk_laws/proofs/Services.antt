@@ -2,11 +2,8 @@
 use Rattle.mk_laws.proofs.Vocabulary.{Flight, Granted, Holding, None, Op, Option, Placing, RunPages, Stage, Unplaced}
 use Rattle.mk_laws.proofs.Vocabulary.{ap, false, has_place, is_decided_free_at, is_free_at, is_new_at, is_some}
 use Rattle.mk_laws.proofs.Vocabulary.{is_undecided_free, is_undecided_new, refl, sym, true, ◌∙◌, ◌≡◌}
-use Rattle.mk_never.specs.declared.operations.Op.TheVariants as op
-use Rattle.mk_core.specs.declared.seats.Stage.TheVariants as stage
-use Rattle.mk_laws.specs.Protocol.{is_granted, is_decided_new_at}
-use Rattle.mk_laws.proofs.Standings.{UnderTurn, standing}
-use Rattle.mk_laws.proofs.Stages.{gives_stand}
+use Rattle.mk_laws.proofs.{Stages.gives_stand, Standings.UnderTurn, Standings.standing}
+use Rattle.mk_laws.specs.Protocol.{is_decided_new_at, is_granted}
 
 -- what is done is done for a call at this stage
 pub record Serves (s : Stage) (o : Op) (placing : Placing) (run : Option RunPages) : Type 0 where
@@ -20,13 +17,13 @@ Served f h = Serves f.stage f.op h.placing h.freed
 -- how the holder's call and what it has done go on
 pub data Service (f : Flight) (h : Holding) : Flight → Holding → Type 0 where
   Goes : (g : Holding) → g.placing ≡ h.placing → g.freed ≡ h.freed → Service f h f g
-  Loads : (g : Flight) → f.stage ≡ stage.LoadP → standing g ≡ UnderTurn → is_undecided_new g ≡ false → Service f h g h
+  Loads : (g : Flight) → f.stage ≡ Stage.LoadP → standing g ≡ UnderTurn → is_undecided_new g ≡ false → Service f h g h
   Places : (g : Holding) → is_undecided_new f ≡ true → (is_granted g.placing ≡ true → is_granted h.placing ≡ true)
       → g.freed ≡ h.freed → Service f h f g
-  Fills : is_undecided_new f ≡ true → h.placing ≡ Unplaced → Service f h (record f { stage = stage.Give }) h
-  Grants : is_undecided_new f ≡ true → Service f h (record f { stage = stage.Give }) (record h { placing = Granted })
+  Fills : is_undecided_new f ≡ true → h.placing ≡ Unplaced → Service f h (record f { stage = Stage.Give }) h
+  Grants : is_undecided_new f ≡ true → Service f h (record f { stage = Stage.Give }) (record h { placing = Granted })
   Frees : (g : Holding) → is_undecided_free f ≡ true → g.placing ≡ h.placing
-      → Service f h (record f { stage = stage.Give }) g
+      → Service f h (record f { stage = Stage.Give }) g
 
 -- the call stays under the turn, and a seat without a call has none
 
@@ -37,9 +34,9 @@ service_stands f h g i is (Loads _ at stands no_new) = stands
 service_stands f h g i is (Places _ new p q) = is
 service_stands f h g i is _ = gives_stand f.stage f.op is
 
-pub service_rests : (f : Flight) (h : Holding) (g : Flight) (i : Holding) → f.stage ≡ stage.Idle → Service f h g i
+pub service_rests : (f : Flight) (h : Holding) (g : Flight) (i : Holding) → f.stage ≡ Stage.Idle → Service f h g i
     → g ≡ f
-service_rests f h g i idle (Loads _ at stands no_new) = let e : stage.Idle ≡ stage.LoadP = sym idle ∙ at in cc
+service_rests f h g i idle (Loads _ at stands no_new) = let e : Stage.Idle ≡ Stage.LoadP = sym idle ∙ at in cc
 service_rests f h g i idle (Fills new p) = let e : false ≡ true = ap (λ (s : Stage). is_new_at s f.op) (sym idle)
     ∙ new in cc
 service_rests f h g i idle (Grants new) = let e : false ≡ true = ap (λ (s : Stage). is_new_at s f.op) (sym idle)
@@ -50,27 +47,27 @@ service_rests f h g i idle _ = refl
 
 -- what the stages exclude
 
-new_decided : (s : Stage) (o : Op) → is_new_at s o ≡ true → is_decided_new_at stage.Give o ≡ true
-new_decided stage.Turn (op.New d ty full) h = refl
+new_decided : (s : Stage) (o : Op) → is_new_at s o ≡ true → is_decided_new_at Stage.Give o ≡ true
+new_decided Stage.Turn (Op.New d ty full) h = refl
 new_decided _ _ h = cc
 
-free_decided : (s : Stage) (o : Op) → is_free_at s o ≡ true → is_decided_free_at stage.Give o ≡ true
-free_decided stage.Turn (op.Free p) h = refl
+free_decided : (s : Stage) (o : Op) → is_free_at s o ≡ true → is_decided_free_at Stage.Give o ≡ true
+free_decided Stage.Turn (Op.Free p) h = refl
 free_decided _ _ h = cc
 
 new_gives_none : (s : Stage) (o : Op) → is_new_at s o ≡ true
     → (is_decided_new_at s o ≡ false) × (is_decided_free_at s o ≡ false)
-new_gives_none stage.Turn (op.New d ty full) h = (refl, refl)
+new_gives_none Stage.Turn (Op.New d ty full) h = (refl, refl)
 new_gives_none _ _ h = cc
 
 free_gives_none : (s : Stage) (o : Op) → is_free_at s o ≡ true
     → (is_new_at s o ≡ false) × (is_decided_new_at s o ≡ false)
-free_gives_none stage.Turn (op.Free p) h = (refl, refl)
+free_gives_none Stage.Turn (Op.Free p) h = (refl, refl)
 free_gives_none _ _ h = cc
 
-load_gives_none : (s : Stage) (o : Op) → s ≡ stage.LoadP
+load_gives_none : (s : Stage) (o : Op) → s ≡ Stage.LoadP
     → (is_new_at s o ≡ false) × (is_decided_new_at s o ≡ false) × (is_decided_free_at s o ≡ false)
-load_gives_none stage.LoadP o h = (refl, refl, refl)
+load_gives_none Stage.LoadP o h = (refl, refl, refl)
 load_gives_none _ o h = cc
 
 pub served_on : (f : Flight) (h : Holding) (g : Flight) (i : Holding) → Served f h → Service f h g i → Served g i

@@ -3,18 +3,15 @@ use Rattle.mk_laws.proofs.Vocabulary.{Among, AreApart, AsChosen, AsUsed, Bool, B
 use Rattle.mk_laws.proofs.Vocabulary.{GivesBack, Granted, Ground, HasLayout, InPlot, IsClaimedRun, IsLaidOn}
 use Rattle.mk_laws.proofs.Vocabulary.{IsNextHeader, IsOfOneCell, IsPlaced, IsPlotShown, IsSized, LayoutScene, List}
 use Rattle.mk_laws.proofs.Vocabulary.{Object, Option, Place, Placing, Plotted, RunPages, RunStands, Some, Unplaced}
-use Rattle.mk_laws.proofs.Vocabulary.{Used, World, [], ap, append-nil, arith, cells_made, chosen, claims_of, claims_on}
+use Rattle.mk_laws.proofs.Vocabulary.{Used, World, ℕ, ap, append-nil, arith, cells_made, chosen, claims_of, claims_on}
 use Rattle.mk_laws.proofs.Vocabulary.{claims_placed, false, fewer_bits, ground_of, header_at, header_made, inl, inr}
 use Rattle.mk_laws.proofs.Vocabulary.{is_released_in, is_used_once, layout_scene_of, length, not, pages_made}
 use Rattle.mk_laws.proofs.Vocabulary.{pages_some, place_claim, plot_of, refl, small_pages, subst, sym, true}
-use Rattle.mk_laws.proofs.Vocabulary.{unmapped_header, ℕ, ◌++◌, ◌+◌, ◌-◌, ◌<◌, ◌∙◌, ◌∷◌, ◌≡◌, ◌≢◌, ◌≤◌, ◌⊎◌}
-use Rattle.mk_core.proofs.PageSteps.{Unmaps}
-use Rattle.mk_core.proofs.ServingSteps.{IsCellTaken}
-use Rattle.mk_core.proofs.Sizes.{cells_some}
-use Rattle.mk_laws.proofs.Fits.{FitsOnFreePages, fits}
-use Rattle.mk_laws.proofs.Releasing.{with_header_on, with_used_on, layout_emptied, layout_given_back}
+use Rattle.mk_laws.proofs.Vocabulary.{unmapped_header, [], ◌++◌, ◌+◌, ◌-◌, ◌<◌, ◌∙◌, ◌∷◌, ◌≡◌, ◌≢◌, ◌≤◌, ◌⊎◌}
+use Rattle.mk_core.proofs.{PageSteps.Unmaps, ServingSteps.IsCellTaken, Sizes.cells_some}
 use Rattle.mk_laws.proofs.Placing.{layout_carved, layout_chosen, layout_taken}
-use Rattle.mk_laws.proofs.Unmapping.{layout_page_unmapped}
+use Rattle.mk_laws.proofs.Releasing.{layout_emptied, layout_given_back, with_header_on, with_used_on}
+use Rattle.mk_laws.proofs.{Fits.FitsOnFreePages, Fits.fits, Unmapping.layout_page_unmapped}
 
 -- Lists of claims that are joined.
 

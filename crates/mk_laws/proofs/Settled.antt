@@ -1,26 +1,22 @@
 -- What a laid out world says of its allocations; where nothing is on its way, its pages stand for the unreleased
 -- storage.
-use Rattle.mk_laws.proofs.Vocabulary.{Cell, Claim, Config, Granted, IsSettled, IsWithinLimits, LayoutStands, NoPlot}
-use Rattle.mk_laws.proofs.Vocabulary.{None, Option, PlacedAllocation, Placing, RunPages, Some, Unplaced, Words, World}
+use Rattle.mk_laws.proofs.Vocabulary.{Cell, Claim, Config, Granted, IsSettled, IsWithinLimits, LayoutStands, None}
+use Rattle.mk_laws.proofs.Vocabulary.{NoPlot, Option, PlacedAllocation, Placing, RunPages, Some, Unplaced, Words, World}
 use Rattle.mk_laws.proofs.Vocabulary.{and_parts, ap, append-nil, claim_of, claims_of, claims_placed, false, ground_of}
 use Rattle.mk_laws.proofs.Vocabulary.{has_place, histories_keep_lengths, is_run_gone, is_run_unmapped, left, length}
 use Rattle.mk_laws.proofs.Vocabulary.{object_now, placed_at, plot_of, refl, sym, true, ◌++◌, ◌∙◌, ◌≡◌}
-use Rattle.mk_laws.proofs.Basics.{Laid, all_stand, apart_left, claim_among, gone_terrain, own_claim}
 use Rattle.mk_geom.proofs.Bridge.{same_places}
+use Rattle.mk_laws.proofs.Basics.{Laid, all_stand, apart_left, claim_among, gone_terrain, own_claim}
+use Rattle.mk_laws.proofs.{Apart.Rests, ForImages.numbers_apart, HeadersStand.pages_stand}
 use Rattle.mk_laws.specs.SettledPages.{FirstFitIsThePlace, HeadersStand, UnreleasedAreApart, UnreleasedStand}
 use Rattle.mk_laws.specs.SettledPages.{is_freed_unmapped}
-use Rattle.mk_laws.proofs.Apart.{Rests}
-use Rattle.mk_laws.proofs.HeadersStand.{pages_stand}
-use Rattle.mk_laws.proofs.ForImages.{numbers_apart}
 
 pub unreleased_stand : UnreleasedStand
 unreleased_stand c es limits laid i u =
     let w : World = left c es in
-    let a : PlacedAllocation = placed_at w.allocations i in
-    let x : Claim = claim_of c w.now.seats.holding.freed a in
+    let x : Claim = claim_of c w.now.seats.holding.freed (placed_at w.allocations i) in
     let s = all_stand c _ _ w (histories_keep_lengths c es).pages laid i u in
-    let shown = laid.scene.shown x
-    (own_claim c _ (ground_of w) x (claim_among c w.now.seats.holding.freed w.allocations i u))
+    let shown = laid.scene.shown x (own_claim c _ (ground_of w) x (claim_among c _ w.allocations i u))
     in
     record { stands = s.stands; headers = s.headers; used = shown.used }
 
@@ -38,7 +34,7 @@ gone_is_unmapped w (Some run) gone = (and_parts _ _ gone).0
 
 pub unmapped_run : (w : World) → is_freed_unmapped w.now.words w.now.seats.holding.freed ≡ true → (run : RunPages)
     → w.now.seats.holding.freed ≡ Some run → is_run_unmapped w.now.words run ≡ true
-unmapped_run w unmapped run is = ap (λ (x : Option RunPages). is_freed_unmapped w.now.words x) (sym is) ∙ unmapped
+unmapped_run w unmapped run is = ap (is_freed_unmapped w.now.words) (sym is) ∙ unmapped
 
 settled_rests : (c : Config) (w : World) → IsWithinLimits c → length w.now.words.pages ≡ c.pages → LayoutStands c w
     → IsSettled w → Rests c w.now.words w.allocations

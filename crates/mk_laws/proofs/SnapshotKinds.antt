@@ -2,7 +2,7 @@
 use Rattle.mk_laws.proofs.Vocabulary.{Among, Bool, Cell, Config, Drops, Flight, Ground, HasQuarantine, IsQuarantined}
 use Rattle.mk_laws.proofs.Vocabulary.{ItDrops, ItFrees, ItTakesSnapshot, KeepsSnapshot, LayoutStands, List, None}
 use Rattle.mk_laws.proofs.Vocabulary.{Object, Option, PlacedAllocation, Placing, QuarantineStep, Seat, Some, Step, Used}
-use Rattle.mk_laws.proofs.Vocabulary.{World, [], all_below, all_below-at, and_parts, ap, arith, cases_Bool, cell_freed}
+use Rattle.mk_laws.proofs.Vocabulary.{World, ℕ, all_below, all_below-at, and_parts, ap, arith, cases_Bool, cell_freed}
 use Rattle.mk_laws.proofs.Vocabulary.{cell_of_allocation, changed_at, claims_of, claims_placed, eqb-true, false}
 use Rattle.mk_laws.proofs.Vocabulary.{false_from_ne_true, fewer_bits, flight_of, freed_cell, freed_leaves}
 use Rattle.mk_laws.proofs.Vocabulary.{freed_where_it_stands, granted, granted_base_is, granted_object, ground_of}
@@ -11,22 +11,18 @@ use Rattle.mk_laws.proofs.Vocabulary.{is_phase, is_undecided_new, is_used_once, 
 use Rattle.mk_laws.proofs.Vocabulary.{none_freed, not, not-true, object_now, object_placed, pages_made, pages_some}
 use Rattle.mk_laws.proofs.Vocabulary.{phase_of, place_claim, placed_at, quarantine_step, refl, released_leaves}
 use Rattle.mk_laws.proofs.Vocabulary.{set-get_or, slice_index, slice_set, stands_in, sym, true, true≢false}
-use Rattle.mk_laws.proofs.Vocabulary.{with_released, ℕ, ◌%◌, ◌&&◌, ◌++◌, ◌+◌, ◌-◌, ◌/◌, ◌<◌, ◌==◌, ◌^◌, ◌∙◌, ◌∷◌, ◌≡◌}
+use Rattle.mk_laws.proofs.Vocabulary.{with_released, [], ◌%◌, ◌&&◌, ◌++◌, ◌+◌, ◌-◌, ◌/◌, ◌<◌, ◌==◌, ◌^◌, ◌∙◌, ◌∷◌, ◌≡◌}
 use Rattle.mk_laws.proofs.Vocabulary.{◌≤◌, ◌⊎◌}
+use Rattle.mk_core.specs.StopConditions.{may_begin}
 use Rattle.mk_laws.proofs.Basics.{Before, LeavesCells, Meets, WorldBehind, all_stand, apart_left, bit_cases}
-use Rattle.mk_laws.proofs.Basics.{freeing_leaves, grants_new, holding_object, new_has_turn, placed_claim, reg_leaves}
-use Rattle.mk_laws.proofs.Basics.{reg_leaves_ground, releasing_leaves, tally_ground, tally_keeps}
-use Rattle.mk_core.specs.declared.events.Step.TheVariants as step
-use Rattle.mk_laws.specs.Quarantine.{HasSnapshot}
+use Rattle.mk_laws.proofs.Basics.{freeing_leaves, grants_new, holding_object, new_has_turn, placed_claim}
+use Rattle.mk_laws.proofs.Basics.{reg_leaves_ground, releasing_leaves, tally_ground}
+use Rattle.mk_laws.proofs.CyclePhases.{AsksPhase, phase_asked, phase_behind, phase_moves}
 use Rattle.mk_laws.proofs.QuarantineByKind.{frees_here, frees_some, shown_at}
 use Rattle.mk_laws.proofs.QuarantineChanges.{FreesHere, before_change, free_halves}
-use Rattle.mk_laws.proofs.QuarantineSteps.{and_both}
-use Rattle.mk_laws.proofs.Behind.{over_phase}
-use Rattle.mk_core.specs.StopConditions.{may_begin}
-use Rattle.mk_laws.proofs.LayoutByKind.{fresh_cells, off_at}
-use Rattle.mk_laws.proofs.Granted.{pushed_any, pushed_at}
-use Rattle.mk_laws.proofs.ForImages.{numbers_apart}
-use Rattle.mk_laws.proofs.Released.{left_is, place_index}
+use Rattle.mk_laws.proofs.{ForImages.numbers_apart, Granted.pushed_any, Granted.pushed_at, LayoutByKind.fresh_cells}
+use Rattle.mk_laws.proofs.{LayoutByKind.off_at, QuarantineSteps.and_both, Released.left_is, Released.place_index}
+use Rattle.mk_laws.specs.Quarantine.{HasSnapshot}
 
 -- What is fresh and what is in the snapshot, after a `quar`.
 
@@ -137,7 +133,7 @@ quar_frees c w cell n x q s =
         s.quarantined on i u ∙ sym (rw is)
 
 pub snapshot_of_quar : (c : Config) (w : World) (seat : Seat) (p n : ℕ) → Before c w
-    → Meets c w.now seat (step.Quar p n) → LayoutStands c w → IsQuarantined c w → KeepsSnapshot c w
+    → Meets c w.now seat (Step.Quar p n) → LayoutStands c w → IsQuarantined c w → KeepsSnapshot c w
     → HasSnapshot c (is_cycling (phase_of w.now.words)) (slice_set w.now.words.snapshot p (n / 2 ^ 32))
     (map (freed_where_it_stands w.now.words (cell_freed c.pages w.now.words (flight_of w.now seat) p n)) w.allocations)
 snapshot_of_quar c w seat p n b h laid q s = by (cell_freed c.pages w.now.words (flight_of w.now seat) p n) refl
@@ -158,44 +154,23 @@ snapshot_of_quar c w seat p n b h laid q s = by (cell_freed c.pages w.now.words 
 
 -- whether the phase is one of a cycle's after a step
 abbrev pub is_cycling_behind : Step → Bool → Bool
-is_cycling_behind step.Begin b = true
-is_cycling_behind step.End b = false
+is_cycling_behind Step.Begin b = true
+is_cycling_behind Step.End b = false
 is_cycling_behind _ b = b
 
-to_phase : (n m p q : ℕ) → n % 8 ≡ p → m % 8 ≡ q → is_cycling p ≡ is_cycling q → is_cycling (n % 8) ≡ is_cycling (m % 8)
-to_phase n m p q en em same = rw en (same ∙ sym (rw em))
+cycling_step : (x : Step) (p : ℕ) → AsksPhase x p → is_cycling (phase_behind x p) ≡ is_cycling_behind x (is_cycling p)
+cycling_step Step.Begin p asks = refl
+cycling_step Step.Want p asks = ap is_cycling (sym asks)
+cycling_step Step.Close p asks = ap is_cycling (sym asks)
+cycling_step Step.Release p asks = ap is_cycling (sym asks)
+cycling_step Step.End p asks = refl
+cycling_step Step.Over p asks = ap is_cycling (sym asks)
+cycling_step _ p asks = refl
 
 pub cycle_kind : (c : Config) (w : World) (seat : Seat) (x : Step) → Meets c w.now seat x
     → is_cycling (phase_of (WorldBehind c w seat x).now.words) ≡ is_cycling_behind x (is_cycling (phase_of w.now.words))
-cycle_kind c w seat step.Reg h = ap (λ n. is_cycling (n % 8)) (reg_leaves c w seat).phase
-cycle_kind c w seat (step.Tally n v) h = ap (λ m. is_cycling (m % 8)) (tally_keeps w.now.words n v).phase
-cycle_kind c w seat step.Begin h =
-    let e = eqb-true (w.now.words.phase % 8) 0 h.phase in
-    let f : (w.now.words.phase + 1) % 2 ^ 64 % 8 ≡ 1 = omega arith in
-    ap (λ k. is_cycling k) f
-cycle_kind c w seat step.Want h =
-    let e = eqb-true (w.now.words.phase % 8) 1 h.phase in
-    to_phase ((w.now.words.phase + 1) % 2 ^ 64) w.now.words.phase 2 1 (omega arith) e refl
-cycle_kind c w seat step.Close h =
-    let e = eqb-true (w.now.words.phase % 8) 2 h.phase in
-    to_phase ((w.now.words.phase + 1) % 2 ^ 64) w.now.words.phase 3 2 (omega arith) e refl
-cycle_kind c w seat step.Release h =
-    let e = eqb-true (w.now.words.phase % 8) 3 h.phase in
-    to_phase ((w.now.words.phase + 1) % 2 ^ 64) w.now.words.phase 4 3 (omega arith) e refl
-cycle_kind c w seat step.End h =
-    let e = eqb-true (w.now.words.phase % 8) 4 h.phase in
-    let f : (w.now.words.phase + (2 ^ 64 - 4)) % 2 ^ 64 % 8 ≡ 0 = omega arith in
-    ap (λ k. is_cycling k) f
-cycle_kind c w seat step.Attend h =
-    let f : (w.now.words.phase + 8) % 2 ^ 64 % 8 ≡ w.now.words.phase % 8 = omega arith in
-    ap (λ k. is_cycling k) f
-cycle_kind c w seat step.Quit h =
-    let f : (w.now.words.phase + (2 ^ 64 - 8)) % 2 ^ 64 % 8 ≡ w.now.words.phase % 8 = omega arith in
-    ap (λ k. is_cycling k) f
-cycle_kind c w seat step.Over h =
-    let e = over_phase c w seat h in
-    to_phase ((w.now.words.phase + 5) % 2 ^ 64) w.now.words.phase 5 0 (omega arith) e refl
-cycle_kind c w seat _ h = refl
+cycle_kind c w seat x h =
+    ap is_cycling (phase_moves c w.now seat x h) ∙ cycling_step x _ (phase_asked c w.now seat x h)
 
 -- `begin`: what is freed is in the snapshot, and nothing is fresh
 begin_kind : (c : Config) (w : World) → Before c w → is_phase w.now.words 0 ≡ true
@@ -248,7 +223,7 @@ begin_kind c w b quiet own laid q =
         ]) ∙ sym (rw f)
 
 -- `grant`: the new cell isn't in the snapshot
-grant_kind : (c : Config) (w : World) (seat : Seat) → Before c w → Meets c w.now seat step.Grant → LayoutStands c w
+grant_kind : (c : Config) (w : World) (seat : Seat) → Before c w → Meets c w.now seat Step.Grant → LayoutStands c w
     → IsQuarantined c w → KeepsSnapshot c w → HasSnapshot c (is_cycling (phase_of w.now.words)) w.now.words.snapshot
     (w.allocations ++ granted c w.now (flight_of w.now seat) ∷ [])
 grant_kind c w seat b h laid q s =
@@ -333,13 +308,13 @@ pub snapshot_by_kind : (c : Config) (w : World) (seat : Seat) (x : Step) → Bef
     → LayoutStands c w → IsQuarantined c w → KeepsSnapshot c w
     → HasSnapshot c (is_cycling_behind x (is_cycling (phase_of w.now.words)))
     (WorldBehind c w seat x).now.words.snapshot (WorldBehind c w seat x).allocations
-snapshot_by_kind c w seat step.Reg b h laid q s = rw (reg_leaves_ground c w seat).snapshot s
-snapshot_by_kind c w seat (step.Tally n v) b h laid q s = rw (tally_ground w.now.words n v).snapshot s
-snapshot_by_kind c w seat (step.Quar p n) b h laid q s = snapshot_of_quar c w seat p n b h laid q s
-snapshot_by_kind c w seat step.Begin b h laid q s = begin_kind c w b h.phase h.holder laid q
-snapshot_by_kind c w seat step.Grant b h laid q s = grant_kind c w seat b h laid q s
-snapshot_by_kind c w seat step.Release b h laid q s = release_kind c w b h.phase laid s
-snapshot_by_kind c w seat step.End b h laid q s =
+snapshot_by_kind c w seat Step.Reg b h laid q s = rw (reg_leaves_ground c w seat).snapshot s
+snapshot_by_kind c w seat (Step.Tally n v) b h laid q s = rw (tally_ground w.now.words n v).snapshot s
+snapshot_by_kind c w seat (Step.Quar p n) b h laid q s = snapshot_of_quar c w seat p n b h laid q s
+snapshot_by_kind c w seat Step.Begin b h laid q s = begin_kind c w b h.phase h.holder laid q
+snapshot_by_kind c w seat Step.Grant b h laid q s = grant_kind c w seat b h laid q s
+snapshot_by_kind c w seat Step.Release b h laid q s = release_kind c w b h.phase laid s
+snapshot_by_kind c w seat Step.End b h laid q s =
     record { fresh = s.fresh; quarantined = λ on. absurd (true≢false (sym on)) }
 snapshot_by_kind c w seat _ b h laid q s = s
 

@@ -1,31 +1,28 @@
 -- From a `begin` up to its `release` the snapshot bits are those of the allocations that were in quarantine then.
 use Rattle.mk_laws.proofs.Vocabulary.{AreEnabledFrom, At, Bool, Cell, Config, Event, IsFreedCell, IsHistory}
-use Rattle.mk_laws.proofs.Vocabulary.{KeepsTheInvariant, List, OfHistories, PlacedAllocation, Step, World, [], and_from}
+use Rattle.mk_laws.proofs.Vocabulary.{KeepsTheInvariant, List, OfHistories, PlacedAllocation, Step, World, ℕ, and_from}
 use Rattle.mk_laws.proofs.Vocabulary.{and_parts, ap, arith, cell_of_allocation, enabled_in_parts, false, has_bit_of}
 use Rattle.mk_laws.proofs.Vocabulary.{is_begin, is_cycling, is_quarantined, is_release, le-leb, left, left_from}
 use Rattle.mk_laws.proofs.Vocabulary.{left_in_parts, list_any, nat_le, never_behind, not, not-true, or_parts, phase_of}
-use Rattle.mk_laws.proofs.Vocabulary.{placed_at, refl, subst, sym, true, world_behind, ℕ, ◌++◌, ◌||◌, ◌∙◌, ◌∷◌, ◌≡◌}
+use Rattle.mk_laws.proofs.Vocabulary.{placed_at, refl, subst, sym, true, world_behind, [], ◌++◌, ◌||◌, ◌∙◌, ◌∷◌, ◌≡◌}
 use Rattle.mk_laws.proofs.Vocabulary.{◌≢◌}
-use Rattle.mk_laws.proofs.Basics.{known_world}
-use Rattle.mk_core.specs.Cells.{is_in_snapshot}
-use Rattle.mk_core.specs.Readings.{SnapshotTells, SnapshotsTell}
-use Rattle.mk_laws.proofs.InvariantHistories.{histories_keep_the_invariant}
-use Rattle.mk_laws.proofs.Quarantines.{snapshot_is_the_cycles}
+use Rattle.mk_core.specs.{Cells.is_in_snapshot, Readings.SnapshotsTell, Readings.SnapshotTells}
 use Rattle.mk_laws.proofs.CyclePhases.{IsUnreleased, NoneIsReleased, begin_is, moves_phase, none_is_released}
 use Rattle.mk_laws.proofs.CyclePhases.{phase_behind}
+use Rattle.mk_laws.proofs.InvariantHistories.{histories_keep_the_invariant}
 use Rattle.mk_laws.proofs.ReadingsKeptPlaces.{StaysPut, keeps_cell, stays_put}
-use Rattle.mk_laws.proofs.ReadingsStands.{freed_cell}
+use Rattle.mk_laws.proofs.{Basics.known_world, Quarantines.snapshot_is_the_cycles, ReadingsStands.freed_cell}
 
 -- the events from a `begin` on, as a part of the list
 
 pub at_event : (c : Config) (es : List Event) (kind : Step → Bool) (at : At kind es)
     → left c es ≡ left_from c (left c at.before) (at.event ∷ at.behind)
-at_event c es kind at = ap (λ (xs : List Event). left c xs) at.is ∙ left_in_parts c at.before (at.event ∷ at.behind)
+at_event c es kind at = ap (left c) at.is ∙ left_in_parts c at.before (at.event ∷ at.behind)
 
 pub enabled_at : (c : Config) (es : List Event) (kind : Step → Bool) (at : At kind es) → IsHistory c es
     → AreEnabledFrom c (left c at.before) (at.event ∷ at.behind)
 enabled_at c es kind at h =
-    let split : IsHistory c (at.before ++ at.event ∷ at.behind) = subst (λ (xs : List Event). IsHistory c xs) at.is h in
+    let split : IsHistory c (at.before ++ at.event ∷ at.behind) = subst (IsHistory c) at.is h in
     ((enabled_in_parts c at.before (at.event ∷ at.behind)).0 split.enabled).1
 
 -- An unreleased phase is one of a cycle's.
@@ -40,17 +37,15 @@ pub begun_world : (c : Config) (w : World) (e : Event) (es : List Event) → Are
     → list_any (λ (x : Event). is_release x.step) es ≡ false → NoneIsReleased c (world_behind c w e) es
 begun_world c w e es on is none =
     let moves = moves_phase c w e es on in
-    let first : phase_of (world_behind c w e).now.words ≡ 1 = moves.1
-    ∙ ap (λ (x : Step). phase_behind x (phase_of w.now.words)) (begin_is e.step is) in
+    let first = moves.1 ∙ ap (λ (x : Step). phase_behind x (phase_of w.now.words)) (begin_is e.step is) in
     none_is_released c _ es moves.2 (record { least = omega arith; most = omega arith }) none
 
 either_kind : (es : List Event) → list_any (λ (e : Event). is_begin e.step || is_release e.step) es ≡ false
     → (list_any (λ (e : Event). is_begin e.step) es ≡ false) × (list_any (λ (e : Event). is_release e.step) es ≡ false)
 either_kind [] none = (refl, refl)
 either_kind (e ∷ es) none =
-    let parts = or_parts _ _ none in
-    let kinds = or_parts _ _ parts.0 in
-    let rest = either_kind es parts.1 in (
+    let kinds = or_parts _ _ (or_parts _ _ none).0 in
+    let rest = either_kind es (or_parts _ _ none).1 in (
       ap (λ b. b || list_any (λ (x : Event). is_begin x.step) es) kinds.0 ∙ rest.0,
       ap (λ b. b || list_any (λ (x : Event). is_release x.step) es) kinds.1 ∙ rest.1,
     )

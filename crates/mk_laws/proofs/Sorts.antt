@@ -1,39 +1,33 @@
 -- Each enabled event is one of the moves of the protocol.
-use Rattle.std.specs.Prelude.{ℕ}
-use Rattle.std.proofs.lemmas.Bool.{not_from_true}
-use Rattle.mk_laws.proofs.Vocabulary.{Bool, Caller, Cell, Config, Event, Flight, Hand, Holding, Host, List, Marker}
-use Rattle.mk_laws.proofs.Vocabulary.{Moment, Named, None, Object, Op, Option, OwnCycle, Page, Place, Placing, Seat}
-use Rattle.mk_laws.proofs.Vocabulary.{Some, Step, Store, Unplaced, Word, Words, accessed, and_parts, ap, at_rest, begun}
-use Rattle.mk_laws.proofs.Vocabulary.{cases_Bool, cases_eq, cell_freed, chosen, decided, eq-eqb, eqb-false, eqb-true}
-use Rattle.mk_laws.proofs.Vocabulary.{false, flight_of, found, frees, group_of, holder_number, host_has_turn}
-use Rattle.mk_laws.proofs.Vocabulary.{if◌then◌else◌, inl, inr, is_attending, is_in, is_phase, is_some}
-use Rattle.mk_laws.proofs.Vocabulary.{is_undecided_free, is_undecided_new, is_under_turn, marker_of, marks_place}
-use Rattle.mk_laws.proofs.Vocabulary.{may_answer_full, ne_eqb, not, not-true, nothing_done, object_made, onward}
-use Rattle.mk_laws.proofs.Vocabulary.{or_else, phase_of, place_by_placing, place_now, progress, progress_freed}
+use Rattle.std.{proofs.lemmas.Bool.not_from_true, specs.Prelude.ℕ}
+use Rattle.mk_laws.proofs.Vocabulary.{Answer, Bool, Caller, Cell, Config, Event, Flight, Group, Hand, Holding, Host}
+use Rattle.mk_laws.proofs.Vocabulary.{List, Marker, Moment, Named, None, Object, Op, Option, OwnCycle, Page, Place}
+use Rattle.mk_laws.proofs.Vocabulary.{Placing, Seat, Some, Stage, Step, Store, Unplaced, Word, Words, ℕ, accessed}
+use Rattle.mk_laws.proofs.Vocabulary.{and_parts, ap, at_rest, begun, cases_Bool, cases_eq, cell_freed, chosen, decided}
+use Rattle.mk_laws.proofs.Vocabulary.{eq-eqb, eqb-false, eqb-true, false, flight_of, found, frees, group_of}
+use Rattle.mk_laws.proofs.Vocabulary.{holder_number, host_has_turn, if◌then◌else◌, inl, inr, is_attending, is_in}
+use Rattle.mk_laws.proofs.Vocabulary.{is_phase, is_some, is_undecided_free, is_undecided_new, is_under_turn, marker_of}
+use Rattle.mk_laws.proofs.Vocabulary.{marks_place, may_answer_full, ne_eqb, not, not-true, nothing_done, object_made}
+use Rattle.mk_laws.proofs.Vocabulary.{onward, or_else, phase_of, place_by_placing, place_now, progress, progress_freed}
 use Rattle.mk_laws.proofs.Vocabulary.{progress_reg, refl, run_of_cell, sees_double, set-get_or, slice_index, slice_set}
-use Rattle.mk_laws.proofs.Vocabulary.{stage_behind, steps_of, still, subst, sym, taken, tally_word, target, true, ℕ}
-use Rattle.mk_laws.proofs.Vocabulary.{◌%◌, ◌&&◌, ◌+◌, ◌<◌, ◌==◌, ◌∙◌, ◌≡◌, ◌≢◌}
-use Rattle.mk_core.specs.declared.events.Answer.TheVariants as answer
-use Rattle.mk_core.specs.declared.events.Word.TheVariants as word
+use Rattle.mk_laws.proofs.Vocabulary.{stage_behind, steps_of, still, subst, sym, taken, tally_word, target, true, ◌%◌}
+use Rattle.mk_laws.proofs.Vocabulary.{◌&&◌, ◌+◌, ◌<◌, ◌==◌, ◌∙◌, ◌≡◌, ◌≢◌}
+use Rattle.mk_core.specs.declared.seats.Presence.TheVariants.{Attending, Visiting}
+use Rattle.mk_laws.proofs.Actors.{Actor, AsHolder, AsMarker, CallTakes, HostTakes, InCallOf, Meets, fills_new}
+use Rattle.mk_laws.proofs.Actors.{grants_new, is_holders}
+use Rattle.mk_laws.proofs.Asked.{closing_alone, give_phase, none_at, none_held, other_caller, others_held}
+use Rattle.mk_laws.proofs.NextSteps.{at_enter, at_its_stage, at_reg, has_stage_of_its_own, stage_of}
+use Rattle.mk_laws.proofs.ProtocolMoves.{Attends, Begins, Closes, Ends, Enters, Gives, GoesOn, Holds, Leaves, Move}
+use Rattle.mk_laws.proofs.ProtocolMoves.{Opens, Phases, Quits, Releases, Scans, Stays, Stops, Takes, Wants, Works}
+use Rattle.mk_laws.proofs.SameWords.{Behind, Moves, finds, reg_keeps, tally_keeps, with_words}
+use Rattle.mk_laws.proofs.Services.{Fills, Frees, Goes, Grants, Loads, Places, Service}
+use Rattle.mk_laws.proofs.Stages.{begun_in_call, begun_under_turn, calls_stand, either_stands, goes_on, is_call_stage}
+use Rattle.mk_laws.proofs.Stages.{is_reg_stage, loads_under_turn, onward_stands, read_stands, refused_stands}
+use Rattle.mk_laws.proofs.Stages.{reg_no_new, reg_stands, regs_work}
+use Rattle.mk_laws.proofs.Standings.{Astray, InCall, Resting, Standing, UnderTurn, is_astray, standing, standing_at}
+use Rattle.mk_laws.proofs.Views.{HoldsTurn, View, flight_in, flight_is, flights_with, gate_in, view_of}
+use Rattle.mk_laws.proofs.IdleMarkers.{work_idles, work_stays}
 use Rattle.mk_laws.specs.Protocol.{is_granted}
-use Rattle.mk_laws.proofs.Services.{Service, Goes, Places, Frees, Loads, Fills, Grants}
-use Rattle.mk_core.specs.declared.events.Group.TheVariants as group
-use Rattle.mk_core.specs.declared.events.Step.TheVariants as step
-use Rattle.mk_laws.proofs.Standings.{Standing, Resting, InCall, UnderTurn, Astray, standing_at, standing, is_astray}
-use Rattle.mk_laws.proofs.Stages.{is_call_stage, is_reg_stage, goes_on, calls_stand, onward_stands, refused_stands}
-use Rattle.mk_laws.proofs.Stages.{regs_work, loads_under_turn, begun_in_call, read_stands, either_stands, reg_stands}
-use Rattle.mk_laws.proofs.Stages.{reg_no_new, begun_under_turn}
-use Rattle.mk_laws.proofs.NextSteps.{stage_of, has_stage_of_its_own, at_its_stage, at_reg, at_enter}
-use Rattle.mk_laws.proofs.Views.{View, view_of, flight_in, gate_in, flights_with, flight_is, HoldsTurn}
-use Rattle.mk_laws.proofs.ProtocolMoves.{Move, Stays, Enters, GoesOn, Leaves, Works, Attends, Quits, Scans, Begins}
-use Rattle.mk_laws.proofs.ProtocolMoves.{Wants, Closes, Releases, Ends, Stops, Takes, Gives, Holds, Opens, Phases}
-use Rattle.mk_laws.proofs.Actors.{Meets, is_holders, Actor, InCallOf, AsMarker, CallTakes, HostTakes, AsHolder}
-use Rattle.mk_laws.proofs.Actors.{grants_new, fills_new}
-use Rattle.mk_laws.proofs.SameWords.{Moves, finds, reg_keeps, with_words, Behind, tally_keeps}
-use Rattle.mk_core.specs.declared.seats.Presence.TheVariants.{Visiting, Attending}
-use Rattle.mk_laws.proofs.IdleMarkers.{work_stays, work_idles}
-use Rattle.mk_core.specs.declared.seats.Stage.TheVariants as stage
-use Rattle.mk_laws.proofs.Asked.{none_held, others_held, other_caller, give_phase, none_at, closing_alone}
 
 -- How a step of the turn's holder serves its call.
 
@@ -60,17 +54,17 @@ freed_free pages w f p v cell e =
 
 double_some : (w : Words) (cell : Option Cell) (x : Word) → sees_double w cell x ≡ true → is_some cell ≡ true
 double_some w (Some cell) x h = refl
-double_some w None (word.Quar p) h = cc
+double_some w None (Word.Quar p) h = cc
 double_some w None _ h = cc
 
 -- `look`
 pub looks : (pages : ℕ) (w : Words) (f : Flight) (h : Holding) (x : Word) (hand : Option Hand)
-    → Service f h (if sees_double w (target pages w f) x then decided f answer.Double else still f).flight
+    → Service f h (if sees_double w (target pages w f) x then decided f Answer.Double else still f).flight
     (record h { hand = hand })
 looks pages w f h x hand = by (sees_double w (target pages w f) x) refl
   where
     by : (b : Bool) → sees_double w (target pages w f) x ≡ b
-        → Service f h (if b then decided f answer.Double else still f).flight (record h { hand = hand })
+        → Service f h (if b then decided f Answer.Double else still f).flight (record h { hand = hand })
     by true e = Frees (record h { hand = hand }) (target_free pages w f (double_some w (target pages w f) x e)) refl
     by false e = Goes (record h { hand = hand }) refl refl
 
@@ -147,7 +141,7 @@ entered v k o b =
     }
 
 enter_move : (c : Config) (m : Moment) (k : ℕ) (o : Op) → k < c.callers → standing (flight_of m (Caller k)) ≡ Resting
-    → is_under_turn o ≡ false → Moves c m (Caller k) (step.Enter o)
+    → is_under_turn o ≡ false → Moves c m (Caller k) (Step.Enter o)
 enter_move c m k o lt was out = elim (cases_eq (slice_index m.words.gates k) 0) [
   | inl z ↦ rw (eq-eqb _ 0 z) (Enters (begun o) lt z was (begun_in_call o out))
   | inr ne ↦ rw (ne_eqb _ 0 ne) (rw (same_both (view_of m) k) Stays)
@@ -155,19 +149,19 @@ enter_move c m k o lt was out = elim (cases_eq (slice_index m.words.gates k) 0) 
 
 -- `reg`, in a call outside the turn or of a Free
 reg_move : (c : Config) (m : Moment) (k : ℕ) → k < c.callers → is_reg_stage (flight_of m (Caller k)).stage ≡ true
-    → is_astray (standing (flight_of m (Caller k))) ≡ false → Moves c m (Caller k) step.Reg
+    → is_astray (standing (flight_of m (Caller k))) ≡ false → Moves c m (Caller k) Step.Reg
 reg_move c m k lt is a = with_words c (view_of m) (Caller k) m.words _ _ m.seats.holding m.seats.markers
     (reg_keeps m.words k _ _) (by (standing f) refl (reg_stands f.stage f.op f.q f.p f.r f.loaded (found c m e) is a))
   where
     e : Event
-    e = record { seat = Caller k; step = step.Reg }
+    e = record { seat = Caller k; step = Step.Reg }
 
     f : Flight
     f = flight_of m (Caller k)
 
     g : Flight
     g = (progress_reg (flight_of m (Caller k)) (flight_of m (Caller k)).stage
-        (found c m (record { seat = Caller k; step = step.Reg }))).flight
+        (found c m (record { seat = Caller k; step = Step.Reg }))).flight
 
     by : (s : Standing) → standing (flight_of m (Caller k)) ≡ s → standing g ≡ standing (flight_of m (Caller k))
         → Move c (view_of m) (Caller k) (record (view_of m) { flights = slice_set m.seats.flights k g })
@@ -193,32 +187,31 @@ onward_from c m k x h own is was =
     let f = flight_of m (Caller k) in
     onward_stands f.stage f.op was (ap goes_on (at_its_stage f.stage f.op x own h.order) ∙ is)
 
-pub call_moves : (c : Config) (m : Moment) (k : ℕ) (x : Step) → k < c.callers → group_of x ≡ group.Callers
+pub call_moves : (c : Config) (m : Moment) (k : ℕ) (x : Step) → k < c.callers → group_of x ≡ Group.Callers
     → is_astray (standing (flight_of m (Caller k))) ≡ false → Meets c m (Caller k) x → Moves c m (Caller k) x
-call_moves c m k (step.Enter o) lt g a h =
-    let s = at_enter _ _ o h.order in
-    enter_move c m k o lt (rw s.0) s.1
-call_moves c m k step.Leave lt g a h = Leaves lt (on c m k step.Leave h refl refl a)
-call_moves c m k step.Reg lt g a h = reg_move c m k lt (at_reg _ _ h.order) a
-call_moves c m k step.Probe lt g a h =
+call_moves c m k (Step.Enter o) lt g a h =
+    enter_move c m k o lt (rw (at_enter _ _ o h.order).0) (at_enter _ _ o h.order).1
+call_moves c m k Step.Leave lt g a h = Leaves lt (on c m k Step.Leave h refl refl a)
+call_moves c m k Step.Reg lt g a h = reg_move c m k lt (at_reg _ _ h.order) a
+call_moves c m k Step.Probe lt g a h =
     let f = flight_of m (Caller k) in
-    let was = on c m k step.Probe h refl refl a in
+    let was = on c m k Step.Probe h refl refl a in
     GoesOn _ lt was (either_stands _ _
-    (onward f None) InCall (refused_stands f.stage f.op was) (onward_from c m k step.Probe h refl refl was))
-call_moves c m k step.Read lt g a h =
+    (onward f None) InCall (refused_stands f.stage f.op was) (onward_from c m k Step.Probe h refl refl was))
+call_moves c m k Step.Read lt g a h =
     let f = flight_of m (Caller k) in
-    let was = on c m k step.Read h refl refl a in
-    GoesOn _ lt was (read_stands f f.op _ ∙ onward_from c m k step.Read h refl refl was)
-call_moves c m k step.Write lt g a h = let was =
-    on c m k step.Write h refl refl a in GoesOn _ lt was (onward_from c m k step.Write h refl refl was)
-call_moves c m k step.Cas lt g a h = let was =
-    on c m k step.Cas h refl refl a in GoesOn _ lt was (onward_from c m k step.Cas h refl refl was)
-call_moves c m k step.Getg lt g a h = let was =
-    on c m k step.Getg h refl refl a in GoesOn _ lt was (onward_from c m k step.Getg h refl refl was)
-call_moves c m k step.Setg lt g a h = let was =
-    on c m k step.Setg h refl refl a in GoesOn _ lt was (onward_from c m k step.Setg h refl refl was)
-call_moves c m k step.Dirty lt g a h = let was =
-    on c m k step.Dirty h refl refl a in GoesOn _ lt was (onward_from c m k step.Dirty h refl refl was)
+    let was = on c m k Step.Read h refl refl a in
+    GoesOn _ lt was (read_stands f f.op _ ∙ onward_from c m k Step.Read h refl refl was)
+call_moves c m k Step.Write lt g a h = let was =
+    on c m k Step.Write h refl refl a in GoesOn _ lt was (onward_from c m k Step.Write h refl refl was)
+call_moves c m k Step.Cas lt g a h = let was =
+    on c m k Step.Cas h refl refl a in GoesOn _ lt was (onward_from c m k Step.Cas h refl refl was)
+call_moves c m k Step.Getg lt g a h = let was =
+    on c m k Step.Getg h refl refl a in GoesOn _ lt was (onward_from c m k Step.Getg h refl refl was)
+call_moves c m k Step.Setg lt g a h = let was =
+    on c m k Step.Setg h refl refl a in GoesOn _ lt was (onward_from c m k Step.Setg h refl refl was)
+call_moves c m k Step.Dirty lt g a h = let was =
+    on c m k Step.Dirty h refl refl a in GoesOn _ lt was (onward_from c m k Step.Dirty h refl refl was)
 call_moves c m k _ lt g a h = cc
 
 -- Each step of a marker's is a move.
@@ -234,24 +227,24 @@ attends_at n h = elim (cases_Bool (n % 8 == 1)) [
   | inr e ↦ let f : false ≡ true = ap (λ (b : Bool). is_attending (if b then Attending else Visiting)) (sym e) ∙ h in cc
 ]
 
-pub marker_moves : (c : Config) (m : Moment) (k : ℕ) (x : Step) → k < 8 → group_of x ≡ group.Markers
+pub marker_moves : (c : Config) (m : Moment) (k : ℕ) (x : Step) → k < 8 → group_of x ≡ Group.Markers
     → Meets c m (Marker k) x → Moves c m (Marker k) x
-marker_moves c m k step.Attend lt g h =
+marker_moves c m k Step.Attend lt g h =
     Attends _ lt (not_from_true _ h.marker) (attends_in (m.words.phase % 8 == 1)) (attends_at m.words.phase)
     (record { scan = refl; hand = refl; seen = refl })
-marker_moves c m k step.Quit lt g h = Quits lt h.marker
-marker_moves c m k (step.Mlook w) lt g h =
-    Scans _ lt (work_stays c (finds c m (Marker k) (step.Mlook w)) (step.Mlook w) (marker_of m k) refl)
-    (work_idles c (finds c m (Marker k) (step.Mlook w)) (step.Mlook w) (marker_of m k) h.marker refl)
-marker_moves c m k (step.Claim p i) lt g h =
-    Scans _ lt refl (work_idles c (finds c m (Marker k) (step.Claim p i)) (step.Claim p i) (marker_of m k) h.marker
+marker_moves c m k Step.Quit lt g h = Quits lt h.marker
+marker_moves c m k (Step.Mlook w) lt g h =
+    Scans _ lt (work_stays c (finds c m (Marker k) (Step.Mlook w)) (Step.Mlook w) (marker_of m k) refl)
+    (work_idles c (finds c m (Marker k) (Step.Mlook w)) (Step.Mlook w) (marker_of m k) h.marker refl)
+marker_moves c m k (Step.Claim p i) lt g h =
+    Scans _ lt refl (work_idles c (finds c m (Marker k) (Step.Claim p i)) (Step.Claim p i) (marker_of m k) h.marker
     refl)
-marker_moves c m k step.Mload lt g h =
-    Scans _ lt refl (work_idles c (finds c m (Marker k) step.Mload) step.Mload (marker_of m k) h.marker refl)
-marker_moves c m k step.Mmark lt g h =
-    Scans _ lt refl (work_idles c (finds c m (Marker k) step.Mmark) step.Mmark (marker_of m k) h.marker refl)
-marker_moves c m k step.Mblack lt g h =
-    Scans _ lt refl (work_idles c (finds c m (Marker k) step.Mblack) step.Mblack (marker_of m k) h.marker refl)
+marker_moves c m k Step.Mload lt g h =
+    Scans _ lt refl (work_idles c (finds c m (Marker k) Step.Mload) Step.Mload (marker_of m k) h.marker refl)
+marker_moves c m k Step.Mmark lt g h =
+    Scans _ lt refl (work_idles c (finds c m (Marker k) Step.Mmark) Step.Mmark (marker_of m k) h.marker refl)
+marker_moves c m k Step.Mblack lt g h =
+    Scans _ lt refl (work_idles c (finds c m (Marker k) Step.Mblack) Step.Mblack (marker_of m k) h.marker refl)
 marker_moves c m k _ lt g h = cc
 
 -- who takes the turn
@@ -266,7 +259,7 @@ taken_by v k o b =
     }
 
 pub call_takes : (c : Config) (m : Moment) (k : ℕ) (o : Op) → k < c.callers
-    → (flight_of m (Caller k)).stage ≡ stage.Idle → is_under_turn o ≡ true → Moves c m (Caller k) (step.Take (Some o))
+    → (flight_of m (Caller k)).stage ≡ Stage.Idle → is_under_turn o ≡ true → Moves c m (Caller k) (Step.Take (Some o))
 call_takes c m k o lt idle is = elim (cases_eq m.words.turn 0) [
   | inl z ↦
       subst (λ (b : Bool). Move c (view_of m) (Caller k) (taken_by (view_of m) k o b)) (sym (eq-eqb m.words.turn 0 z))
@@ -280,7 +273,7 @@ taken_by_host c v b = record v {
   holding = if b then nothing_done else v.holding;
 }
 
-pub host_takes : (c : Config) (m : Moment) → Moves c m Host (step.Take None)
+pub host_takes : (c : Config) (m : Moment) → Moves c m Host (Step.Take None)
 host_takes c m = elim (cases_eq m.words.turn 0) [
   | inl z ↦ rw (eq-eqb m.words.turn 0 z) (Takes at_rest z tt)
   | inr ne ↦ rw (ne_eqb m.words.turn 0 ne) Stays
@@ -332,55 +325,55 @@ hold_move c m seat j t lj ne = elim (cases_eq (slice_index m.words.gates j) 0) [
 
 by_kind : (c : Config) (m : Moment) (seat : Seat) (x : Step) → HoldsTurn c (view_of m) seat → is_holders x ≡ true
     → Meets c m seat x → HolderMoves c m seat x
-by_kind c m seat step.Give t n h = Gives t (none_held c m.words h.gates) (give_phase (phase_of m.words) h.phase)
-by_kind c m seat (step.Look w) t n h =
+by_kind c m seat Step.Give t n h = Gives t (none_held c m.words h.gates) (give_phase (phase_of m.words) h.phase)
+by_kind c m seat (Step.Look w) t n h =
     works c m seat _ _ t (looks c.pages m.words (flight_of m seat) m.seats.holding w _)
-by_kind c m seat (step.Head p v) t n h = works c m seat _ _ t
+by_kind c m seat (Step.Head p v) t n h = works c m seat _ _ t
     (either_place (flight_of m seat) m.seats.holding (is_phase m.words 4) m.seats.holding.placing
     (chosen m.seats.holding.placing (place_now c m (flight_of m seat)))
     (Goes m.seats.holding refl refl) (chooses c m (flight_of m seat)))
-by_kind c m seat (step.Used p v) t n h = works c m seat _ _ t
+by_kind c m seat (Step.Used p v) t n h = works c m seat _ _ t
     (either_place (flight_of m seat) m.seats.holding (is_phase m.words 4) m.seats.holding.placing
     (taken m.seats.holding.placing (place_now c m (flight_of m seat)))
     (Goes m.seats.holding refl refl) (takes c m (flight_of m seat)))
-by_kind c m seat (step.Quar p v) t n h =
+by_kind c m seat (Step.Quar p v) t n h =
     works c m seat _ _ t (quarantines c.pages m.words (flight_of m seat) m.seats.holding p v)
-by_kind c m seat step.Grant t n h = works c m seat _ _ t (Grants (grants_new c m seat h))
-by_kind c m seat (step.Tally n v) t _ h =
+by_kind c m seat Step.Grant t n h = works c m seat _ _ t (Grants (grants_new c m seat h))
+by_kind c m seat (Step.Tally n v) t _ h =
     with_words c (view_of m) seat m.words (accessed m.words (Named (tally_word n)) (Store v)) _ m.seats.holding
     m.seats.markers (tally_keeps m.words n v) (works_on c m seat t)
-by_kind c m seat (step.Hold j) t n h =
-    let o = other_caller c seat j h.range in stays_at c m seat (view_of (Behind c m seat (step.Hold j)))
+by_kind c m seat (Step.Hold j) t n h =
+    let o = other_caller c seat j h.range in stays_at c m seat (view_of (Behind c m seat (Step.Hold j)))
     (hold_move c m seat j t o.0 o.1)
-by_kind c m seat (step.Open j) t n h =
+by_kind c m seat (Step.Open j) t n h =
     let o = other_caller c seat j h.range in
-    stays_at c m seat (view_of (Behind c m seat (step.Open j)))
+    stays_at c m seat (view_of (Behind c m seat (Step.Open j)))
     (Opens j t o.0 o.1 (eqb-true (slice_index m.words.gates j) 2 h.gates)
     (eqb-false (phase_of m.words) 3 (not-true (phase_of m.words == 3) h.phase)))
-by_kind c m seat (step.Clear p) t n h = works_on c m seat t
-by_kind c m seat (step.Mark p v) t n h = works c m seat _ _ t (either_place (flight_of m seat) m.seats.holding
+by_kind c m seat (Step.Clear p) t n h = works_on c m seat t
+by_kind c m seat (Step.Mark p v) t n h = works c m seat _ _ t (either_place (flight_of m seat) m.seats.holding
     (marks_place m.words (object_made c (flight_of m seat).op) (place_now c m (flight_of m seat)) p v)
     (chosen m.seats.holding.placing (place_now c m (flight_of m seat))) m.seats.holding.placing
     (chooses c m (flight_of m seat)) (Goes m.seats.holding refl refl))
-by_kind c m seat (step.Wipe i) t n h = works_on c m seat t
-by_kind c m seat step.Full t n h = works c m seat _ _ t (Fills (fills_new c m seat h)
+by_kind c m seat (Step.Wipe i) t n h = works_on c m seat t
+by_kind c m seat Step.Full t n h = works c m seat _ _ t (Fills (fills_new c m seat h)
     (full_unplaced c.resident m.words.pages (object_made c (flight_of m seat).op) m.seats.holding.placing
     m.seats.holding.cycle h.holder))
-by_kind c m seat step.Begin t n h = stays_at c m seat (view_of (Behind c m seat step.Begin))
+by_kind c m seat Step.Begin t n h = stays_at c m seat (view_of (Behind c m seat Step.Begin))
     (Phases _ t refl refl (Begins (eqb-true (phase_of m.words) 0 h.phase)))
-by_kind c m seat step.Close t n h = stays_at c m seat (view_of (Behind c m seat step.Close)) (Phases _ t refl refl
+by_kind c m seat Step.Close t n h = stays_at c m seat (view_of (Behind c m seat Step.Close)) (Phases _ t refl refl
     (Closes (eqb-true (phase_of m.words) 2 h.phase) (others_held c m seat h.gates)
     (λ i. none_at m.seats.markers i (closing_alone c m h.holder))))
-by_kind c m seat step.Release t n h = stays_at c m seat (view_of (Behind c m seat step.Release))
+by_kind c m seat Step.Release t n h = stays_at c m seat (view_of (Behind c m seat Step.Release))
     (Phases _ t refl refl (Releases (eqb-true (phase_of m.words) 3 h.phase)))
-by_kind c m seat step.End t n h = stays_at c m seat (view_of (Behind c m seat step.End))
+by_kind c m seat Step.End t n h = stays_at c m seat (view_of (Behind c m seat Step.End))
     (Phases _ t refl refl (Ends (eqb-true (phase_of m.words) 4 h.phase)))
-by_kind c m seat step.Want t n h = stays_at c m seat (view_of (Behind c m seat step.Want))
+by_kind c m seat Step.Want t n h = stays_at c m seat (view_of (Behind c m seat Step.Want))
     (Phases _ t refl refl (Wants (eqb-true (phase_of m.words) 1 h.phase)))
-by_kind c m seat (step.Undirty p) t n h = works_on c m seat t
-by_kind c m seat (step.Black p v) t n h = works_on c m seat t
-by_kind c m seat (step.Unblack p) t n h = works_on c m seat t
-by_kind c m seat step.Over t n h = stays_at c m seat (view_of (Behind c m seat step.Over)) (Phases _ t refl refl
+by_kind c m seat (Step.Undirty p) t n h = works_on c m seat t
+by_kind c m seat (Step.Black p v) t n h = works_on c m seat t
+by_kind c m seat (Step.Unblack p) t n h = works_on c m seat t
+by_kind c m seat Step.Over t n h = stays_at c m seat (view_of (Behind c m seat Step.Over)) (Phases _ t refl refl
     (Stops (eqb-true (phase_of m.words) 0 (and_parts (host_has_turn c m) (is_phase m.words 0) h.holder).1)))
 by_kind c m seat _ t n h = cc
 

@@ -1,95 +1,93 @@
 -- How the stages of a call follow one another.
-use Rattle.mk_laws.proofs.Vocabulary.{Bool, Flight, Op, Progress, Stage, begun, false, if◌then◌else◌, is_new_at}
+use Rattle.mk_laws.proofs.Vocabulary.{Bool, Flight, Op, Progress, Stage, ℕ, begun, false, if◌then◌else◌, is_new_at}
 use Rattle.mk_laws.proofs.Vocabulary.{is_undecided_new, is_under_turn, progress_read, progress_reg, refl, stage_behind}
-use Rattle.mk_laws.proofs.Vocabulary.{stage_refused, steps_of, true, ℕ, ◌==◌, ◌≡◌}
-use Rattle.mk_never.specs.declared.operations.Op.TheVariants as op
-use Rattle.mk_core.specs.declared.seats.Stage.TheVariants as stage
-use Rattle.mk_laws.proofs.Standings.{Standing, Resting, InCall, UnderTurn, standing_at, standing, is_astray}
+use Rattle.mk_laws.proofs.Vocabulary.{stage_refused, steps_of, true, ◌==◌, ◌≡◌}
+use Rattle.mk_laws.proofs.Standings.{InCall, Resting, Standing, UnderTurn, is_astray, standing, standing_at}
 
 -- the stages of calls outside the turn, those of the turn's steps, and those of `reg`
 
 abbrev pub is_call_stage : Stage → Bool
-is_call_stage stage.Idle = false
-is_call_stage stage.LoadP = false
-is_call_stage stage.Turn = false
-is_call_stage stage.Give = false
+is_call_stage Stage.Idle = false
+is_call_stage Stage.LoadP = false
+is_call_stage Stage.Turn = false
+is_call_stage Stage.Give = false
 is_call_stage _ = true
 
 abbrev pub is_turn_stage : Stage → Bool
-is_turn_stage stage.Turn = true
-is_turn_stage stage.Give = true
+is_turn_stage Stage.Turn = true
+is_turn_stage Stage.Give = true
 is_turn_stage _ = false
 
 abbrev pub is_reg_stage : Stage → Bool
-is_reg_stage stage.LoadQ = true
-is_reg_stage stage.LoadP = true
-is_reg_stage stage.LoadR = true
-is_reg_stage stage.Store = true
-is_reg_stage stage.Put = true
+is_reg_stage Stage.LoadQ = true
+is_reg_stage Stage.LoadP = true
+is_reg_stage Stage.LoadR = true
+is_reg_stage Stage.Store = true
+is_reg_stage Stage.Put = true
 is_reg_stage _ = false
 
 -- `leave` ends a call, and `reg` at the last store goes to it at once
 abbrev pub goes_on : Stage → Bool
-goes_on stage.Leave = false
-goes_on stage.Put = false
+goes_on Stage.Leave = false
+goes_on Stage.Put = false
 goes_on _ = true
 
 -- what a stage says of the standing, where the call isn't astray
 
 pub calls_stand : (s : Stage) (o : Op) → is_call_stage s ≡ true → is_astray (standing_at s o) ≡ false
     → standing_at s o ≡ InCall
-calls_stand stage.Idle _ c h = cc
-calls_stand _ (op.Free p) c h = cc
+calls_stand Stage.Idle _ c h = cc
+calls_stand _ (Op.Free p) c h = cc
 calls_stand _ _ c h = cc
 
 pub turns_stand : (s : Stage) (o : Op) → is_turn_stage s ≡ true → is_astray (standing_at s o) ≡ false
     → standing_at s o ≡ UnderTurn
-turns_stand stage.Idle _ c h = cc
-turns_stand _ (op.Free p) c h = cc
+turns_stand Stage.Idle _ c h = cc
+turns_stand _ (Op.Free p) c h = cc
 turns_stand _ _ c h = cc
 
-pub gives_stand : (s : Stage) (o : Op) → standing_at s o ≡ UnderTurn → standing_at stage.Give o ≡ UnderTurn
-gives_stand stage.Idle _ h = cc
-gives_stand _ (op.Free p) h = cc
+pub gives_stand : (s : Stage) (o : Op) → standing_at s o ≡ UnderTurn → standing_at Stage.Give o ≡ UnderTurn
+gives_stand Stage.Idle _ h = cc
+gives_stand _ (Op.Free p) h = cc
 gives_stand _ _ h = cc
 
 -- a stage of `reg` is in a call
 pub regs_work : (s : Stage) (o : Op) → is_reg_stage s ≡ true → standing_at s o ≡ Resting → ⊥
-regs_work stage.Idle _ c h = cc
-regs_work _ (op.Free p) c h = cc
+regs_work Stage.Idle _ c h = cc
+regs_work _ (Op.Free p) c h = cc
 regs_work _ _ c h = cc
 
 -- under the turn it is the load of a Free's register
-pub loads_under_turn : (s : Stage) (o : Op) → is_reg_stage s ≡ true → standing_at s o ≡ UnderTurn → s ≡ stage.LoadP
-loads_under_turn stage.Idle _ c h = cc
-loads_under_turn stage.LoadP _ c h = refl
-loads_under_turn _ (op.Free p) c h = cc
+pub loads_under_turn : (s : Stage) (o : Op) → is_reg_stage s ≡ true → standing_at s o ≡ UnderTurn → s ≡ Stage.LoadP
+loads_under_turn Stage.Idle _ c h = cc
+loads_under_turn Stage.LoadP _ c h = refl
+loads_under_turn _ (Op.Free p) c h = cc
 loads_under_turn _ _ c h = cc
 
 -- what follows a stage of a call stands in the call, before its end
 
 pub onward_stands : (s : Stage) (o : Op) → standing_at s o ≡ InCall → goes_on s ≡ true
     → standing_at (stage_behind s (steps_of o)) o ≡ InCall
-onward_stands stage.Idle _ h g = cc
-onward_stands _ (op.Free p) h g = cc
+onward_stands Stage.Idle _ h g = cc
+onward_stands _ (Op.Free p) h g = cc
 onward_stands _ _ h g = cc
 
 pub refused_stands : (s : Stage) (o : Op) → standing_at s o ≡ InCall → standing_at (stage_refused o) o ≡ InCall
-refused_stands stage.Idle _ h = cc
-refused_stands _ (op.Free p) h = cc
+refused_stands Stage.Idle _ h = cc
+refused_stands _ (Op.Free p) h = cc
 refused_stands _ _ h = cc
 
 pub begun_in_call : (o : Op) → is_under_turn o ≡ false → standing (begun o) ≡ InCall
-begun_in_call (op.New d ty full) h = cc
+begun_in_call (Op.New d ty full) h = cc
 begun_in_call _ h = cc
 
 pub begun_under_turn : (o : Op) → is_under_turn o ≡ true → standing (begun o) ≡ UnderTurn
-begun_under_turn (op.New d ty full) h = cc
+begun_under_turn (Op.New d ty full) h = cc
 begun_under_turn _ h = cc
 
 pub read_stands : (f : Flight) (o : Op) (x : ℕ)
     → standing (progress_read f o x).flight ≡ standing_at (stage_behind f.stage (steps_of f.op)) f.op
-read_stands f (op.GetPtr d q i) x = refl
+read_stands f (Op.GetPtr d q i) x = refl
 read_stands f _ x = refl
 
 -- `reg` leaves a call where it stands
@@ -104,15 +102,15 @@ behind_reg s o q p r l x = (progress_reg (record { stage = s; op = o; q = q; p =
 
 pub reg_stands : (s : Stage) (o : Op) (q p r l x : ℕ) → is_reg_stage s ≡ true → is_astray (standing_at s o) ≡ false
     → standing (behind_reg s o q p r l x) ≡ standing_at s o
-reg_stands stage.LoadQ (op.GetNum q' i') q p r l x c h = either_stands (x == 0) _ _ InCall refl refl
-reg_stands stage.LoadQ (op.GetPtr d' q' i') q p r l x c h = either_stands (x == 0) _ _ InCall refl refl
-reg_stands stage.LoadQ (op.SetNum q' i' n') q p r l x c h = either_stands (x == 0) _ _ InCall refl refl
-reg_stands stage.LoadQ (op.SetPtr q' i' p') q p r l x c h = either_stands (x == 0) _ _ InCall refl refl
-reg_stands stage.LoadQ (op.CasPtr q' i' p' r') q p r l x c h = either_stands (x == 0) _ _ InCall refl refl
-reg_stands stage.LoadQ (op.Lea d' q' i') q p r l x c h = either_stands (x == 0) _ _ InCall refl refl
-reg_stands stage.LoadP (op.Free p') q p r l x c h = either_stands (x == 0) _ _ UnderTurn refl refl
-reg_stands _ (op.Free p') q p r l x c h = cc
-reg_stands stage.Idle _ q p r l x c h = cc
+reg_stands Stage.LoadQ (Op.GetNum q' i') q p r l x c h = either_stands (x == 0) _ _ InCall refl refl
+reg_stands Stage.LoadQ (Op.GetPtr d' q' i') q p r l x c h = either_stands (x == 0) _ _ InCall refl refl
+reg_stands Stage.LoadQ (Op.SetNum q' i' n') q p r l x c h = either_stands (x == 0) _ _ InCall refl refl
+reg_stands Stage.LoadQ (Op.SetPtr q' i' p') q p r l x c h = either_stands (x == 0) _ _ InCall refl refl
+reg_stands Stage.LoadQ (Op.CasPtr q' i' p' r') q p r l x c h = either_stands (x == 0) _ _ InCall refl refl
+reg_stands Stage.LoadQ (Op.Lea d' q' i') q p r l x c h = either_stands (x == 0) _ _ InCall refl refl
+reg_stands Stage.LoadP (Op.Free p') q p r l x c h = either_stands (x == 0) _ _ UnderTurn refl refl
+reg_stands _ (Op.Free p') q p r l x c h = cc
+reg_stands Stage.Idle _ q p r l x c h = cc
 reg_stands _ _ q p r l x c h = cc
 
 -- and makes no New
@@ -124,12 +122,12 @@ either_no_new false p q hp hq = hq
 
 pub reg_no_new : (s : Stage) (o : Op) (q p r l x : ℕ) → is_reg_stage s ≡ true → standing_at s o ≡ UnderTurn
     → is_undecided_new (behind_reg s o q p r l x) ≡ false
-reg_no_new stage.LoadP (op.Free p') q p r l x c h = either_no_new (x == 0) _ _ refl refl
-reg_no_new _ (op.Free p') q p r l x c h = cc
-reg_no_new stage.Idle _ q p r l x c h = cc
+reg_no_new Stage.LoadP (Op.Free p') q p r l x c h = either_no_new (x == 0) _ _ refl refl
+reg_no_new _ (Op.Free p') q p r l x c h = cc
+reg_no_new Stage.Idle _ q p r l x c h = cc
 reg_no_new _ _ q p r l x c h = cc
 
 -- where a New stands
 pub new_stands : (s : Stage) (o : Op) → is_new_at s o ≡ true → standing_at s o ≡ UnderTurn
-new_stands stage.Turn (op.New d ty full) h = refl
+new_stands Stage.Turn (Op.New d ty full) h = refl
 new_stands _ _ h = cc

@@ -1,7 +1,6 @@
 -- Where a caller stands, and what the turn word and its gate show of it.
-use Rattle.mk_laws.proofs.Vocabulary.{Bool, Flight, Op, Stage, arith, false, is_under_turn, not, refl, true, ℕ, ◌&&◌}
+use Rattle.mk_laws.proofs.Vocabulary.{Bool, Flight, Op, Stage, ℕ, arith, false, is_under_turn, not, refl, true, ◌&&◌}
 use Rattle.mk_laws.proofs.Vocabulary.{◌+◌, ◌↔◌, ◌≡◌, ◌≢◌, ◌≤◌}
-use Rattle.mk_core.specs.declared.seats.Stage.TheVariants as stage
 use Rattle.mk_core.specs.Readings.{is_idle}
 use Rattle.mk_laws.specs.Protocol.{has_stage}
 
@@ -15,7 +14,7 @@ standing_in true false = InCall
 standing_in true true = UnderTurn
 
 abbrev pub standing_at : Stage → Op → Standing
-standing_at stage.Idle o = Resting
+standing_at Stage.Idle o = Resting
 standing_at s o = standing_in (has_stage o s) (is_under_turn o)
 
 abbrev pub standing : Flight → Standing
@@ -53,7 +52,7 @@ in_call_by _ _ h = cc
 
 pub in_call_told : (s : Stage) (o : Op) → is_astray (standing_at s o) ≡ false
     → is_standing_in_call (standing_at s o) ≡ (not (is_idle s) && not (is_under_turn o))
-in_call_told stage.Idle o h = refl
+in_call_told Stage.Idle o h = refl
 in_call_told s o h = in_call_by (has_stage o s) _ h
 
 in_turn_by : (b u : Bool) → is_astray (standing_in b u) ≡ false → is_standing_under_turn (standing_in b u) ≡ (true && u)
@@ -62,7 +61,7 @@ in_turn_by _ _ h = cc
 
 pub in_turn_told : (s : Stage) (o : Op) → is_astray (standing_at s o) ≡ false
     → is_standing_under_turn (standing_at s o) ≡ (not (is_idle s) && is_under_turn o)
-in_turn_told stage.Idle o h = refl
+in_turn_told Stage.Idle o h = refl
 in_turn_told s o h = in_turn_by (has_stage o s) _ h
 
 stage_by : (b u : Bool) → is_astray (standing_in b u) ≡ false → b ≡ true
@@ -70,7 +69,7 @@ stage_by true u h = refl
 stage_by false u h = cc
 
 pub stage_told : (s : Stage) (o : Op) → is_astray (standing_at s o) ≡ false → has_stage o s ≡ true
-stage_told stage.Idle o h = refl
+stage_told Stage.Idle o h = refl
 stage_told s o h = stage_by (has_stage o s) _ h
 
 pub under_turn_is : (s : Standing) → is_standing_under_turn s ≡ true → s ≡ UnderTurn

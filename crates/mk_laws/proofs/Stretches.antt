@@ -1,8 +1,8 @@
 -- The parts of a list around the events of a cycle, and what stands along one.
-use Rattle.mk_laws.proofs.Vocabulary.{Bool, Config, Cycle, Event, IsHistory, List, Marking, Releasing, Step, [], ap}
+use Rattle.mk_laws.proofs.Vocabulary.{Bool, Config, Cycle, Event, IsHistory, List, Marking, Releasing, Step, ap}
 use Rattle.mk_laws.proofs.Vocabulary.{append-nil, append_assoc, before_close, before_release, earlier_part_is_history}
-use Rattle.mk_laws.proofs.Vocabulary.{false, list_any, list_any-append, or_from, or_parts, subst, sym, ◌++◌, ◌∙◌, ◌∷◌}
-use Rattle.mk_laws.proofs.Vocabulary.{◌≡◌}
+use Rattle.mk_laws.proofs.Vocabulary.{false, list_any, list_any-append, or_from, or_parts, subst, sym, [], ◌++◌, ◌∙◌}
+use Rattle.mk_laws.proofs.Vocabulary.{◌∷◌, ◌≡◌}
 use Rattle.mk_core.specs.Cycles.{before_end}
 
 -- none of a kind
@@ -31,14 +31,12 @@ at_release {es} k = next_part es _ k.release.at.before k.release.at.behind
     k.marking.close.at.event k.release.at.event k.marking.close.at.behind (at_close k.marking) k.release.at.is
 
 pub at_end : {es : List Event} (k : Cycle es) → es ≡ before_end k ++ k.end.at.event ∷ k.end.at.behind
-at_end {es} k = next_part es _ k.end.at.before k.end.at.behind
-    k.releasing.release.at.event k.end.at.event k.releasing.release.at.behind (at_release k.releasing) k.end.at.is
+at_end {es} k = next_part es _ _ k.end.at.behind _ _ _ (at_release k.releasing) k.end.at.is
 
 -- The part through an event of a history is one.
 pub history_through : (c : Config) (es xs ys : List Event) (e : Event) → IsHistory c es → es ≡ xs ++ e ∷ ys
     → IsHistory c (xs ++ e ∷ [])
-history_through c es xs ys e h is =
-    earlier_part_is_history c (xs ++ e ∷ []) ys (rw (is ∙ sym (append_assoc xs (e ∷ []) ys)) at h)
+history_through c es xs ys e h is = earlier_part_is_history c _ ys (rw (is ∙ sym (append_assoc xs (e ∷ []) ys)) at h)
 
 -- What each event that isn't of a kind keeps, stands after a list without one.
 pub along_without : (c : Config) (kind : Step → Bool) (P : List Event → Type 0) (start done rest : List Event)

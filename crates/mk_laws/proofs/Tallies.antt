@@ -1,33 +1,26 @@
 -- What the tallies count: before each `give`, and where nobody holds the turn.
 use Rattle.std.proofs.lemmas.List.Sums.{sum_by_push}
 use Rattle.mk_laws.proofs.Vocabulary.{Bool, Config, Decided, Event, Flight, IsHistory, IsSettled, IsTidy, List, Moment}
-use Rattle.mk_laws.proofs.Vocabulary.{OfHistories, PlacedAllocation, Seat, Stage, Step, TalliesAreTidy, Words, World}
-use Rattle.mk_laws.proofs.Vocabulary.{[], and_parts, ap, append_assoc, arith, call_decided, calls, calls_from, cond}
-use Rattle.mk_laws.proofs.Vocabulary.{ends, eqb-true, false, false_from_ne_true, first_world, flight_of, fresh_words_of}
+use Rattle.mk_laws.proofs.Vocabulary.{OfHistories, PlacedAllocation, Seat, Stage, Step, TalliesAreTidy, Words, World, ℕ}
+use Rattle.mk_laws.proofs.Vocabulary.{and_parts, ap, append_assoc, arith, call_decided, calls, calls_from, cond, ends}
+use Rattle.mk_laws.proofs.Vocabulary.{eqb-true, false, false_from_ne_true, first_world, flight_of, fresh_words_of}
 use Rattle.mk_laws.proofs.Vocabulary.{held_by_pages, histories_keep_lengths, in_a_word, inl, inr, is_decided, is_end}
 use Rattle.mk_laws.proofs.Vocabulary.{is_run_gone, is_undecided_new, left, left_from, left_more, ne_eqb, refl, subst}
-use Rattle.mk_laws.proofs.Vocabulary.{sym, true, true≢false, undecided_new, unreleased_storage, world_behind, ℕ, ◌++◌}
+use Rattle.mk_laws.proofs.Vocabulary.{sym, true, true≢false, undecided_new, unreleased_storage, world_behind, [], ◌++◌}
 use Rattle.mk_laws.proofs.Vocabulary.{◌+◌, ◌==◌, ◌∙◌, ◌∷◌, ◌≡◌, ◌≤◌, ◌⊎◌}
+use Rattle.mk_geom.proofs.HeldWords.{pages_hold_mapped_words}
+use Rattle.mk_core.{proofs.Histories.calls_more, specs.Allocations.held_by_allocations, specs.Counts.TalliesAreExact}
+use Rattle.mk_core.{specs.Counts.full_answers, specs.Counts.releases, specs.Readings.TalliesTell}
 use Rattle.mk_laws.proofs.Basics.{Before, KeptByEvents, Known, Meets, before_it, holds_of_histories, known_left}
 use Rattle.mk_laws.proofs.Basics.{known_world, placed_undecided}
-use Rattle.mk_geom.proofs.HeldWords.{pages_hold_mapped_words}
-use Rattle.mk_core.specs.declared.events.Step.TheVariants as step
-use Rattle.mk_core.specs.Allocations.{held_by_allocations}
-use Rattle.mk_core.specs.Counts.{TalliesAreExact, full_answers, releases}
-use Rattle.mk_core.specs.Readings.{TalliesTell}
-use Rattle.mk_core.proofs.Histories.{calls_more}
-use Rattle.mk_laws.proofs.Asked.{give_phase}
-use Rattle.mk_laws.proofs.OthersCounts.{entry_fulls, fulls_append, fulls_of}
-use Rattle.mk_laws.proofs.Settled.{gone_is_unmapped}
-use Rattle.mk_laws.proofs.LayoutHistories.{known_before}
-use Rattle.mk_laws.proofs.LayoutHolders.{giver_has_turn}
-use Rattle.mk_laws.proofs.InvariantHistories.{histories_keep_the_invariant}
-use Rattle.mk_laws.proofs.InvariantJoined.{told_to_layout}
-use Rattle.mk_laws.proofs.InvariantTheorems.{pages_show_the_storage}
-use Rattle.mk_laws.specs.ExactTallies.{TalliesAreExactAtGives}
 use Rattle.mk_laws.proofs.FreshSteps.{FreshTold, fresh_told_behind}
+use Rattle.mk_laws.proofs.InvariantHistories.{histories_keep_the_invariant}
+use Rattle.mk_laws.proofs.OthersCounts.{entry_fulls, fulls_append, fulls_of}
 use Rattle.mk_laws.proofs.TallySteps.{CountsNothing, Gives, Leaves, Takes, TurnStep, give_counts_nothing}
 use Rattle.mk_laws.proofs.TallySteps.{others_count_nothing, turn_step}
+use Rattle.mk_laws.proofs.{Asked.give_phase, InvariantJoined.told_to_layout, InvariantTheorems.pages_show_the_storage}
+use Rattle.mk_laws.proofs.{LayoutHistories.known_before, LayoutHolders.giver_has_turn, Settled.gone_is_unmapped}
+use Rattle.mk_laws.specs.ExactTallies.{TalliesAreExactAtGives}
 
 -- The fresh count of the moment is that of the allocations, after every history.
 
@@ -58,13 +51,13 @@ fresh_is_told = holds_of_histories FreshIsTold fresh_at_first fresh_kept
 -- At a `give` nothing is on its way.
 
 decided_no_new : (f : Flight) → is_decided f.stage ≡ true → is_undecided_new f ≡ true → ⊥
-decided_no_new f decided new = true≢false (sym decided ∙ ap (λ (s : Stage). is_decided s) (undecided_new f new).stage)
+decided_no_new f decided new = true≢false (sym decided ∙ ap is_decided (undecided_new f new).stage)
 
 giving : (phase : ℕ) → (phase ≤ 1) ⊎ (phase ≡ 5) → (phase == 4) ≡ false
 giving phase (inl low) = ne_eqb phase 4 (λ four. omega arith)
 giving phase (inr over) = ne_eqb phase 4 (λ four. omega arith)
 
-exact_at_give : (c : Config) (es : List Event) (seat : Seat) → IsHistory c es → Meets c (left c es).now seat step.Give
+exact_at_give : (c : Config) (es : List Event) (seat : Seat) → IsHistory c es → Meets c (left c es).now seat Step.Give
     → TalliesAreExact c es
 exact_at_give c es seat h meets =
     let m : Moment = (left c es).now in

@@ -1,20 +1,19 @@
 -- What events leave to the tallies, and to the allocations that they count.
-use Rattle.mk_laws.proofs.Vocabulary.{Bool, Caller, Config, Event, Flight, Moment, Seat, Step, World, answer_decided}
+use Rattle.mk_laws.proofs.Vocabulary.{Bool, Caller, Config, Event, Flight, Moment, Seat, Step, World, ℕ, answer_decided}
 use Rattle.mk_laws.proofs.Vocabulary.{ap, arith, false, flight_of, group_of, holder_number, if◌then◌else◌, is_end}
-use Rattle.mk_laws.proofs.Vocabulary.{is_of_turn, refl, reg_access, true, world_behind, ℕ, ◌+◌, ◌==◌, ◌∙◌, ◌≡◌, ◌≢◌}
+use Rattle.mk_laws.proofs.Vocabulary.{is_of_turn, refl, reg_access, true, world_behind, ◌+◌, ◌==◌, ◌∙◌, ◌≡◌, ◌≢◌}
+use Rattle.mk_core.proofs.RegisterAccesses.{LeavesTallies, register_leaves_tallies}
 use Rattle.mk_laws.proofs.Basics.{Actor, AsHolder, AsMarker, HoldsTurn, InCallOf, Known, Meets, WorldBehind, actor_of}
 use Rattle.mk_laws.proofs.Basics.{reg_leaves, tally_keeps, turn_of, view_of}
-use Rattle.mk_core.specs.declared.events.Step.TheVariants as step
-use Rattle.mk_core.proofs.RegisterAccesses.{LeavesTallies, register_leaves_tallies}
 use Rattle.mk_laws.proofs.OthersCounts.{answers_full, counts_nothing}
 
 -- The step changes no tally, and no allocation.
 abbrev pub counts_alike : Step → Bool
-counts_alike (step.Tally n v) = false
-counts_alike (step.Quar p n) = false
-counts_alike step.Grant = false
-counts_alike step.Begin = false
-counts_alike step.Release = false
+counts_alike (Step.Tally n v) = false
+counts_alike (Step.Quar p n) = false
+counts_alike Step.Grant = false
+counts_alike Step.Begin = false
+counts_alike Step.Release = false
 counts_alike _ = true
 
 pub record CountsAlike (w v : World) : Type 0 where
@@ -23,15 +22,14 @@ pub record CountsAlike (w v : World) : Type 0 where
 
 alike : (c : Config) (w : World) (seat : Seat) (x : Step) → counts_alike x ≡ true
     → CountsAlike w (WorldBehind c w seat x)
-alike c w seat (step.Tally n v) is = cc
-alike c w seat (step.Quar p n) is = cc
-alike c w seat step.Grant is = cc
-alike c w seat step.Begin is = cc
-alike c w seat step.Release is = cc
-alike c w seat step.Reg is =
+alike c w seat (Step.Tally n v) is = cc
+alike c w seat (Step.Quar p n) is = cc
+alike c w seat Step.Grant is = cc
+alike c w seat Step.Begin is = cc
+alike c w seat Step.Release is = cc
+alike c w seat Step.Reg is =
     let f : Flight = flight_of w.now seat in
-    let access = reg_access f f.stage in
-    record { tallies = register_leaves_tallies w.now.words _ _ access; allocations = refl }
+    record { tallies = register_leaves_tallies w.now.words _ _ (reg_access f f.stage); allocations = refl }
 alike c w seat _ is =
     record {
       tallies = record { held = refl; fresh = refl; cycles = refl; released = refl; full = refl };
@@ -41,25 +39,25 @@ alike c w seat _ is =
 -- What an event does to the turn: it takes one that is free, gives it back, or leaves it.
 pub data TurnStep (x : Step) (turn now : ℕ) : Type 0 where
   Takes : now ≢ 0 → TurnStep x turn now
-  Gives : x ≡ step.Give → TurnStep x turn now
+  Gives : x ≡ Step.Give → TurnStep x turn now
   Leaves : now ≡ turn → TurnStep x turn now
 
 pub turn_step : (c : Config) (w : World) (seat : Seat) (x : Step)
     → TurnStep x w.now.words.turn (WorldBehind c w seat x).now.words.turn
-turn_step c w seat (step.Take o) = by (w.now.words.turn == 0)
+turn_step c w seat (Step.Take o) = by (w.now.words.turn == 0)
   where
-    by : (b : Bool) → TurnStep (step.Take o) w.now.words.turn (if b then 1 + holder_number c seat else w.now.words.turn)
+    by : (b : Bool) → TurnStep (Step.Take o) w.now.words.turn (if b then 1 + holder_number c seat else w.now.words.turn)
     by true = Takes (λ z. omega arith)
     by false = Leaves refl
-turn_step c w seat step.Give = Gives refl
-turn_step c w seat step.Reg = Leaves (reg_leaves c w seat).turn
-turn_step c w seat (step.Tally n v) = Leaves (tally_keeps w.now.words n v).turn
+turn_step c w seat Step.Give = Gives refl
+turn_step c w seat Step.Reg = Leaves (reg_leaves c w seat).turn
+turn_step c w seat (Step.Tally n v) = Leaves (tally_keeps w.now.words n v).turn
 turn_step c w seat _ = Leaves refl
 
 -- A seat that doesn't hold the turn leaves them, and so does `give`.
 
 of_no_turn : (x : Step) → is_of_turn (group_of x) ≡ false → counts_alike x ≡ true
-of_no_turn (step.Tally n v) g = cc
+of_no_turn (Step.Tally n v) g = cc
 of_no_turn _ g = cc
 
 outside_alike : (c : Config) (m : Moment) (seat : Seat) (x : Step) → (HoldsTurn c (view_of m) seat → ⊥)
@@ -70,7 +68,7 @@ outside_alike c m seat x out (AsHolder s y holds n) = absurd (out holds)
 outside_alike c m seat x out _ = refl
 
 give_answers : (c : Config) (m : Moment) (seat : Seat)
-    → answers_full (answer_decided c m (record { seat = seat; step = step.Give })) ≡ false
+    → answers_full (answer_decided c m (record { seat = seat; step = Step.Give })) ≡ false
 give_answers c m (Caller k) = refl
 give_answers c m _ = cc
 
@@ -80,11 +78,11 @@ pub record CountsNothing (c : Config) (w : World) (e : Event) : Type 0 where
   pub no_end : is_end e.step ≡ false
   pub no_full : answers_full (answer_decided c w.now e) ≡ false
 
-pub give_counts_nothing : (c : Config) (w : World) (e : Event) → e.step ≡ step.Give → CountsNothing c w e
+pub give_counts_nothing : (c : Config) (w : World) (e : Event) → e.step ≡ Step.Give → CountsNothing c w e
 give_counts_nothing c w e is =
     record {
-      alike = alike c w e.seat e.step (ap (λ (x : Step). counts_alike x) is);
-      no_end = ap (λ (x : Step). is_end x) is;
+      alike = alike c w e.seat e.step (ap counts_alike is);
+      no_end = ap is_end is;
       no_full = ap (λ (x : Step). answers_full (answer_decided c w.now (record { seat = e.seat; step = x }))) is
           ∙ give_answers c w.now e.seat;
     }

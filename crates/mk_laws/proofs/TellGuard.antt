@@ -4,7 +4,7 @@ use Rattle.mk_laws.proofs.Vocabulary.{Flight, Granted, GuardPremises, HasHeader,
 use Rattle.mk_laws.proofs.Vocabulary.{IsClaimedRun, IsHeaderOf, IsMarking, IsPlaced, IsPlotShown, IsSized, LayoutStands}
 use Rattle.mk_laws.proofs.Vocabulary.{Mapped, Mode, Moment, NoPlot, Object, OfLeafRun, OfRun, Option, Place}
 use Rattle.mk_laws.proofs.Vocabulary.{PlacedAllocation, Placing, Plot, PlotStands, Plotted, Run, RunPages, RunStands}
-use Rattle.mk_laws.proofs.Vocabulary.{Seat, ShowsPart, Some, Unplaced, Used, World, and_parts, ap, arith, at_rest}
+use Rattle.mk_laws.proofs.Vocabulary.{Seat, ShowsPart, Some, Unplaced, Used, World, ℕ, and_parts, ap, arith, at_rest}
 use Rattle.mk_laws.proofs.Vocabulary.{cases_eq, cases_lt, cells_under, claims_of, claims_on, claims_placed, false}
 use Rattle.mk_laws.proofs.Vocabulary.{false≢true, flight_of, get_or_past, ground_of, head_on, head_page}
 use Rattle.mk_laws.proofs.Vocabulary.{head_page_under, header_made, header_of, header_on, heads_run, inl, inr, is_large}
@@ -13,16 +13,14 @@ use Rattle.mk_laws.proofs.Vocabulary.{large_is_not_small, left, lt-ltb, made_sho
 use Rattle.mk_laws.proofs.Vocabulary.{object_made, object_now, object_placed, pages_made, pages_some, part_head}
 use Rattle.mk_laws.proofs.Vocabulary.{phase_of, place_claim, placed_at, placed_now, plot_of, refl, run_count}
 use Rattle.mk_laws.proofs.Vocabulary.{seat_exists, shows_on, slice_index, small_pages, subst, sym, true, true≢false}
-use Rattle.mk_laws.proofs.Vocabulary.{used_on, ℕ, ◌&&◌, ◌*◌, ◌+◌, ◌-◌, ◌/◌, ◌<◌, ◌==◌, ◌∙◌, ◌≡◌, ◌≢◌, ◌≤◌, ◌⊎◌}
+use Rattle.mk_laws.proofs.Vocabulary.{used_on, ◌&&◌, ◌*◌, ◌+◌, ◌-◌, ◌/◌, ◌<◌, ◌==◌, ◌∙◌, ◌≡◌, ◌≢◌, ◌≤◌, ◌⊎◌}
+use Rattle.mk_laws.proofs.BarePages.{Unreleasing, bare_page, plot_page, shown_there}
 use Rattle.mk_laws.proofs.Basics.{Known, KnownWorld, Laid, all_stand, claimed, first_header, holding_object}
 use Rattle.mk_laws.proofs.Basics.{known_world, made_sized, mapped_stays, new_has_turn, placed_claim, zero_where_none}
-use Rattle.mk_laws.proofs.Fits.{fits}
-use Rattle.mk_laws.proofs.WholeRuns.{find_bit}
-use Rattle.mk_laws.proofs.QuarantineByKind.{shown_at}
-use Rattle.mk_laws.proofs.LayoutReadings.{header_of_mode, claimed_head}
-use Rattle.mk_laws.specs.Kept.{PlaceIsBare, RunHasObject, LaterPagesAreKnown, StandsMapped}
+use Rattle.mk_laws.proofs.LayoutReadings.{claimed_head, header_of_mode}
+use Rattle.mk_laws.proofs.{Fits.fits, QuarantineByKind.shown_at, WholeRuns.find_bit}
+use Rattle.mk_laws.specs.Kept.{LaterPagesAreKnown, PlaceIsBare, RunHasObject, StandsMapped}
 use Rattle.mk_laws.specs.ZerosTell.{ZerosTellTheGuard}
-use Rattle.mk_laws.proofs.BarePages.{Unreleasing, shown_there, bare_page, plot_page}
 
 -- The pages of a run after its head
 
@@ -37,7 +35,7 @@ pub later_pages : (c : Config) (w : World) → Unreleasing c w → LaterPagesAre
 later_pages c w q p count distance is some lt =
     let own : head_on w.now.words.pages p ≡ p = ap (λ (x : Option Header). head_page_under x p) is in
     elim (cases_eq (used_on w.now.words.pages p) 0) [
-      | inl empty ↦ elim (q.laid.scene.occupied p headed (ap (λ i. used_on w.now.words.pages i) own ∙ empty)) [
+      | inl empty ↦ elim (q.laid.scene.occupied p headed (ap (used_on w.now.words.pages) own ∙ empty)) [
         | inl on ↦ absurd (false≢true on)
         | inr here ↦ by_plot (plot_of (object_now c w.now) w.now.seats.holding.placing) q.laid.scene.plot here
       ]
@@ -74,10 +72,10 @@ later_pages c w q p count distance is some lt =
     in_plot first o plot low high =
         let at : first + (p - first) ≡ p = omega arith in
         elim (plot.headers (p - first) (omega arith)) [
-          | inl free ↦ absurd (headed (ap (λ i. header_on w.now.words.pages i) (sym at) ∙ free))
+          | inl free ↦ absurd (headed (ap (header_on w.now.words.pages) (sym at) ∙ free))
           | inr made ↦
               let part : ShowsPart o (p - first) (shows_on w.now.words.pages p) =
-              subst (λ h. ShowsPart o (p - first) (header_of h)) (sym (ap (λ i. header_on w.now.words.pages i) (sym at)
+              subst (λ h. ShowsPart o (p - first) (header_of h)) (sym (ap (header_on w.now.words.pages) (sym at)
               ∙ made)) (made_shows o (p - first) plot.sized (omega arith)) in
               let head = run_part o (p - first) count true (shows_on w.now.words.pages p) part is in
               let zero = head.0 in
@@ -111,7 +109,7 @@ new_exists c m (Caller k) known new = elim (cases_lt k c.callers) [
   | inl lt ↦ lt-ltb k c.callers lt
   | inr past ↦
       let none = get_or_past m.seats.flights k at_rest (let count = known.orderly.flights in omega arith) in
-      absurd (false≢true (sym (ap (λ (f : Flight). is_undecided_new f) none) ∙ new))
+      absurd (false≢true (sym (ap is_undecided_new none) ∙ new))
 ]
 new_exists c m _ known new = absurd (false≢true new)
 
@@ -132,10 +130,9 @@ bare_place c w o place q st sized placed = by w.now.seats.holding.placing refl p
       }
       | inr fit ↦ record {
         headers = λ d lt.
-            let one = small_pages o fit.small in
-            let first : d ≡ 0 = omega arith in
+            let first : d ≡ 0 = omega (arith, small_pages o fit.small) in
             inr (ap (λ j. header_on w.now.words.pages (place.page + j)) first
-            ∙ ap (λ p. header_on w.now.words.pages p) zero ∙ fit.header ∙ ap (λ j. header_made o j) (sym first));
+            ∙ ap (header_on w.now.words.pages) zero ∙ fit.header ∙ ap (header_made o) (sym first));
         words = λ free i li. absurd (first_header o sized (sym fit.header ∙ free));
       }
     ]
@@ -150,11 +147,10 @@ bare_place c w o place q st sized placed = by w.now.seats.holding.placing refl p
         let own : Among (place_claim o place) (claims_placed o w.now.seats.holding.placing) =
         subst (λ (x : Placing). Among (place_claim o place) (claims_placed o x)) (sym is) (inl refl) in
         let shown = st.scene.shown (place_claim o place) (placed_claim c o (ground_of w) _ own) in
-        let some = pages_some o sized in
         record {
           headers = λ d lt. inr (shown.headers d lt);
-          words = λ free i li. absurd (first_header o sized (sym (shown.headers 0 (omega arith))
-              ∙ ap (λ p. header_on w.now.words.pages p) zero ∙ free));
+          words = λ free i li. absurd (first_header o sized (sym (shown.headers 0 (omega (arith, pages_some o sized)))
+              ∙ ap (header_on w.now.words.pages) zero ∙ free));
         }
     by Granted is out = elim out [ ]
 
@@ -164,7 +160,7 @@ run_has_object : (c : Config) (w : World) (run : RunPages) → Unreleasing c w �
     → RunHasObject w.now.words run
 run_has_object c w run q is =
     let x : IsClaimedRun (claims_of c w.now.seats.holding.freed w.allocations) run =
-    subst (λ (r : Option RunPages). RunStands (claims_of c w.now.seats.holding.freed w.allocations) r) is q.laid.gone in
+    subst (RunStands (claims_of c w.now.seats.holding.freed w.allocations)) is q.laid.gone in
     let shown = shown_there c w x.claim q x.among in
     let count = x.count in
     record {
@@ -180,16 +176,15 @@ mapped_stands : (c : Config) (w : World) (i : ℕ) → AreOfPages c.pages w.now.
     → is_mapped c (placed_at w.allocations i) ≡ true → StandsMapped c w.now.words (placed_at w.allocations i)
 mapped_stands c w i lengths laid mapped =
     let a : PlacedAllocation = placed_at w.allocations i in
-    let u = mapped_stays c a mapped in
     let going : Bool = is_unmapping w.now.seats.holding.freed (a.base / 64) in
     let unmapped : (a.freed && is_large (kinds_of c.types a.ty)) ≡ false = not-true _ (and_parts _ _ mapped).1 in
     let mode : mode_of (a.freed && not (is_small_object (object_placed c a))) going ≡ Mapped =
     ap (λ b. mode_of (a.freed && b) going) (sym (large_is_not_small _)) ∙ ap (λ b. mode_of b going) unmapped in
     record {
-      stands = (all_stand c _ _ w lengths.pages laid i u).stands;
+      stands = (all_stand c _ _ w lengths.pages laid i (mapped_stays c a mapped)).stands;
       headers = λ d lt. subst
           (λ (x : Mode). HasHeader x (object_placed c a) d (header_on w.now.words.pages (a.base / 64 + d))) mode
-          ((shown_at c w i laid u).headers d lt);
+          ((shown_at c w i laid (mapped_stays c a mapped)).headers d lt);
     }
 
 -- All of it

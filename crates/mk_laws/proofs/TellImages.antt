@@ -1,12 +1,11 @@
 -- What the zero words tell the images, and the images them.
 use Rattle.mk_laws.proofs.Vocabulary.{AreAdmitted, Caller, Config, Host, ImagesSay, IsEnabled, IsWordOfMapped, Marker}
 use Rattle.mk_laws.proofs.Vocabulary.{MayHold, MayHoldWords, NeverState, OfFreedRun, OfMapped, OfReleased, Seat, Step}
-use Rattle.mk_laws.proofs.Vocabulary.{World, asked, call_decided, enabled_meets, false≢true, flight_of, inl, inr}
-use Rattle.mk_laws.proofs.Vocabulary.{is_heap_store, refl, true, word_met, zero_scene_of, ℕ, ◌≡◌}
-use Rattle.mk_core.specs.declared.events.Step.TheVariants as step
+use Rattle.mk_laws.proofs.Vocabulary.{World, ℕ, asked, call_decided, enabled_meets, false≢true, flight_of, inl, inr}
+use Rattle.mk_laws.proofs.Vocabulary.{is_heap_store, refl, true, word_met, zero_scene_of, ◌≡◌}
+use Rattle.mk_laws.specs.ZerosTell.{ImagesTellTheZeros, ZerosTellTheImages}
 use Rattle.mk_laws.specs.ImagePremises as images
 use Rattle.mk_laws.specs.ImagesSay as said
-use Rattle.mk_laws.specs.ZerosTell.{ZerosTellTheImages, ImagesTellTheZeros}
 
 pub zeros_tell_the_images : ZerosTellTheImages
 zeros_tell_the_images c w z n some = by (z n some)
@@ -24,18 +23,18 @@ stored_by : (c : Config) (w : World) (n : NeverState) (seat : Seat) (x : Step) �
     → IsEnabled c w.now (record { seat = seat; step = x })
     → AreAdmitted c.globals n (asked (call_decided c w.now (record { seat = seat; step = x }))) → is_heap_store x ≡ true
     → IsWordOfMapped c w.allocations (word_met (flight_of w.now seat))
-stored_by c w n (Caller k) step.Write say on ad s =
-    mapped_word c w _ (say.stored k step.Write (record { step = inl refl; enabled = on; admitted = ad }))
-stored_by c w n (Caller k) step.Cas say on ad s =
-    mapped_word c w _ (say.stored k step.Cas (record { step = inr refl; enabled = on; admitted = ad }))
-stored_by c w n (Marker k) step.Write say on ad s =
-    absurd (false≢true (enabled_meets c w.now (record { seat = Marker k; step = step.Write }) on).kind)
-stored_by c w n (Marker k) step.Cas say on ad s =
-    absurd (false≢true (enabled_meets c w.now (record { seat = Marker k; step = step.Cas }) on).kind)
-stored_by c w n Host step.Write say on ad s =
-    absurd (false≢true (enabled_meets c w.now (record { seat = Host; step = step.Write }) on).kind)
-stored_by c w n Host step.Cas say on ad s =
-    absurd (false≢true (enabled_meets c w.now (record { seat = Host; step = step.Cas }) on).kind)
+stored_by c w n (Caller k) Step.Write say on ad s =
+    mapped_word c w _ (say.stored k Step.Write (record { step = inl refl; enabled = on; admitted = ad }))
+stored_by c w n (Caller k) Step.Cas say on ad s =
+    mapped_word c w _ (say.stored k Step.Cas (record { step = inr refl; enabled = on; admitted = ad }))
+stored_by c w n (Marker k) Step.Write say on ad s =
+    absurd (false≢true (enabled_meets c w.now (record { seat = Marker k; step = Step.Write }) on).kind)
+stored_by c w n (Marker k) Step.Cas say on ad s =
+    absurd (false≢true (enabled_meets c w.now (record { seat = Marker k; step = Step.Cas }) on).kind)
+stored_by c w n Host Step.Write say on ad s =
+    absurd (false≢true (enabled_meets c w.now (record { seat = Host; step = Step.Write }) on).kind)
+stored_by c w n Host Step.Cas say on ad s =
+    absurd (false≢true (enabled_meets c w.now (record { seat = Host; step = Step.Cas }) on).kind)
 stored_by c w n _ _ say on ad s = absurd (false≢true s)
 
 pub images_tell_the_zeros : ImagesTellTheZeros

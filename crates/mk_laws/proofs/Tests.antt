@@ -1,9 +1,9 @@
 -- Tests that still hold where their parts do.
-use Rattle.mk_laws.proofs.Vocabulary.{Bool, List, MarkerState as Marker, None, Option, Some, [], all_below}
-use Rattle.mk_laws.proofs.Vocabulary.{all_below-at, and_from, and_parts, ap, arith, cases_Bool, eq-eqb, eqb-true, false}
-use Rattle.mk_laws.proofs.Vocabulary.{has_bit, has_bit_without, if◌then◌else◌, inl, inr, is_attending, is_some_and}
-use Rattle.mk_laws.proofs.Vocabulary.{no_bit, none_attends, not, outside, refl, slice_index_or, suc, sym, true}
-use Rattle.mk_laws.proofs.Vocabulary.{true≢false, without, zero, ℕ, ◌&&◌, ◌<◌, ◌==◌, ◌||◌, ◌∙◌, ◌∷◌, ◌≡◌}
+use Rattle.mk_laws.proofs.Vocabulary.{Bool, List, MarkerState as Marker, None, Option, Some, ℕ, all_below, all_below-at}
+use Rattle.mk_laws.proofs.Vocabulary.{and_from, and_parts, ap, arith, cases_Bool, eq-eqb, eqb-true, false, has_bit}
+use Rattle.mk_laws.proofs.Vocabulary.{has_bit_without, if◌then◌else◌, inl, inr, is_attending, is_some_and, no_bit}
+use Rattle.mk_laws.proofs.Vocabulary.{none_attends, not, outside, refl, slice_index_or, suc, sym, true, true≢false}
+use Rattle.mk_laws.proofs.Vocabulary.{without, zero, [], ◌&&◌, ◌<◌, ◌==◌, ◌||◌, ◌∙◌, ◌∷◌, ◌≡◌}
 use Rattle.mk_core.proofs.WordBits.{zero_from_bits}
 
 pub or_on : (a b x y : Bool) → (a ≡ true → x ≡ true) → (b ≡ true → y ≡ true) → (a || b) ≡ true → (x || y) ≡ true

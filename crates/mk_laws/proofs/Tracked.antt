@@ -1,23 +1,21 @@
 -- What is said of a turn while its New is undecided, after every history.
 use Rattle.mk_laws.proofs.Vocabulary.{Caller, Config, Event, Flight, Holding, IsHistory, IsSettled, List, None, Object}
 use Rattle.mk_laws.proofs.Vocabulary.{OfHistories, Option, Place, Placing, RunPages, Seat, Some, Step, TurnOf, Unplaced}
-use Rattle.mk_laws.proofs.Vocabulary.{World, [], and_parts, ap, arith, at_rest, eqb-true, false, false_from_ne_true}
+use Rattle.mk_laws.proofs.Vocabulary.{World, ℕ, and_parts, ap, arith, at_rest, eqb-true, false, false_from_ne_true}
 use Rattle.mk_laws.proofs.Vocabulary.{first_world, flight_of, get_or-set_same, has_place, is_phase, is_undecided_new}
 use Rattle.mk_laws.proofs.Vocabulary.{left, left_from, left_more, object_made, phase_of, place_on_pages, refl, subst}
-use Rattle.mk_laws.proofs.Vocabulary.{sym, true, true≢false, undecided_new, world_behind, ℕ, ◌++◌, ◌<◌, ◌==◌, ◌∙◌, ◌∷◌}
+use Rattle.mk_laws.proofs.Vocabulary.{sym, true, true≢false, undecided_new, world_behind, [], ◌++◌, ◌<◌, ◌==◌, ◌∙◌, ◌∷◌}
 use Rattle.mk_laws.proofs.Vocabulary.{◌≡◌}
+use Rattle.mk_core.specs.Placement.{FirstServed, NoneServesFrom, before_served, event_serves, place_after}
+use Rattle.mk_core.specs.{Allocations.place_among_allocations, Cycles.is_give}
 use Rattle.mk_laws.proofs.Basics.{KeptByEvents, Known, Meets, WorldBehind, at_first, before_it, held_place}
 use Rattle.mk_laws.proofs.Basics.{holds_of_histories, known_left, none_on_its_way}
-use Rattle.mk_core.specs.declared.events.Step.TheVariants as step
-use Rattle.mk_core.specs.Allocations.{place_among_allocations}
-use Rattle.mk_core.specs.Cycles.{is_give}
-use Rattle.mk_core.specs.Placement.{FirstServed, NoneServesFrom, before_served, event_serves, place_after}
-use Rattle.mk_laws.specs.SettledPages.{is_freed_unmapped}
-use Rattle.mk_laws.proofs.InvariantTheorems.{first_fit_finds_the_place}
 use Rattle.mk_laws.proofs.Longer.{gives_turn, left_in_turn, longer_first, longer_turn, none_serves_more, taken}
 use Rattle.mk_laws.proofs.OwnCycles.{HasCycle, cycle_more, cycle_step}
 use Rattle.mk_laws.proofs.Placings.{Fixes, GoesOn, PlacingStep, Stays, places_at}
 use Rattle.mk_laws.proofs.Undecided.{HasNew, IsTaken, NewCame, WasNew, new_came, new_holds_turn, new_object}
+use Rattle.mk_laws.proofs.InvariantTheorems.{first_fit_finds_the_place}
+use Rattle.mk_laws.specs.SettledPages.{is_freed_unmapped}
 
 -- A step of the turn has served its New first, where the place was this one.
 pub record ServedFirst (c : Config) (s : Seat) {es : List Event} (t : TurnOf c s es) (o : Object) (place : Place)
@@ -46,11 +44,11 @@ gives_off c w (Caller j) x k known lt new = false_from_ne_true _
     (λ is. let both = and_parts (k == j) (is_give x) is in by j x (eqb-true k j both.0) both.1 new)
   where
     by : (j : ℕ) (x : Step) → k ≡ j → is_give x ≡ true → HasNew (WorldBehind c w (Caller j) x) k → ⊥
-    by j step.Give own is new =
+    by j Step.Give own is new =
         let rests = get_or-set_same w.now.seats.flights k at_rest at_rest (omega (arith, known.orderly.flights)) in
-        let mine : HasNew (WorldBehind c w (Caller k) step.Give) k =
-        subst (λ i. HasNew (WorldBehind c w (Caller i) step.Give) k) (sym own) new in
-        true≢false (sym mine ∙ ap (λ (f : Flight). is_undecided_new f) rests)
+        let mine : HasNew (WorldBehind c w (Caller k) Step.Give) k =
+        subst (λ i. HasNew (WorldBehind c w (Caller i) Step.Give) k) (sym own) new in
+        true≢false (sym mine ∙ ap is_undecided_new rests)
     by j _ own is new = cc
 gives_off c w _ x k known lt new = refl
 
@@ -64,8 +62,8 @@ unplaced_settles c es k h lt new off at =
     (new_holds_turn c w k lt new) (undecided_new (flight_of w.now (Caller k)) new).stage in
     record {
       releasing = off;
-      placing = ap (λ (p : Placing). has_place p) at;
-      unmapped = ap (λ (run : Option RunPages). is_freed_unmapped w.now.words run) none;
+      placing = ap has_place at;
+      unmapped = ap (is_freed_unmapped w.now.words) none;
     }
 
 -- and first fit over the words is the place among the allocations.

@@ -1,16 +1,14 @@
 -- What an event of another seat leaves to the turn's holder.
 use Rattle.mk_laws.proofs.Vocabulary.{Caller, Config, Flight, List, MarkerState, Moment, OnlyGrow, Seat, Steady}
-use Rattle.mk_laws.proofs.Vocabulary.{TurnIsLeft, Words, World, ap, arith, at_rest, cases_Bool, cases_eq, cases_lt}
+use Rattle.mk_laws.proofs.Vocabulary.{TurnIsLeft, Words, World, ℕ, ap, arith, at_rest, cases_Bool, cases_eq, cases_lt}
 use Rattle.mk_laws.proofs.Vocabulary.{false, flight_of, get_or-set_other, get_or-set_same, inl, inr, is_attending}
 use Rattle.mk_laws.proofs.Vocabulary.{length, marker_of, phase_of, refl, register_word, set_past, slice_index}
-use Rattle.mk_laws.proofs.Vocabulary.{slice_set, sym, true, ℕ, ◌%◌, ◌*◌, ◌+◌, ◌-◌, ◌<◌, ◌^◌, ◌∙◌, ◌≡◌, ◌≢◌, ◌≤◌}
-use Rattle.mk_laws.proofs.Basics.{Known, marker_set}
-use Rattle.mk_core.specs.Readings.{NoneAttends}
-use Rattle.mk_core.specs.Frames.{steady_of}
-use Rattle.mk_laws.proofs.Growth.{grows_same, grows_joined, grows_more}
-use Rattle.mk_laws.proofs.OthersMoves.{with_words_seats, CallWrite, CallLoads, SetsGate, SetsRegister, SetsDirty}
-use Rattle.mk_laws.proofs.OthersMoves.{MarkerWrite, MarkerLoads, ComesIn, GoesOut, AddsMarks, AddsBlacks, OthersMove}
-use Rattle.mk_laws.proofs.OthersMoves.{Waits, Calls, Marks}
+use Rattle.mk_laws.proofs.Vocabulary.{slice_set, sym, true, ◌%◌, ◌*◌, ◌+◌, ◌-◌, ◌<◌, ◌^◌, ◌∙◌, ◌≡◌, ◌≢◌, ◌≤◌}
+use Rattle.mk_core.specs.{Frames.steady_of, Readings.NoneAttends}
+use Rattle.mk_laws.proofs.OthersMoves.{AddsBlacks, AddsMarks, CallLoads, Calls, CallWrite, ComesIn, GoesOut}
+use Rattle.mk_laws.proofs.OthersMoves.{MarkerLoads, MarkerWrite, Marks, OthersMove, SetsDirty, SetsGate, SetsRegister}
+use Rattle.mk_laws.proofs.OthersMoves.{Waits, with_words_seats}
+use Rattle.mk_laws.proofs.{Basics.Known, Basics.marker_set, Growth.grows_joined, Growth.grows_more, Growth.grows_same}
 
 -- the phase
 up : (p : ℕ) → ((p + 8) % 2 ^ 64) % 8 ≡ p % 8
@@ -97,8 +95,7 @@ not_that gs k j le is e = let g : slice_index gs j ≡ slice_index gs k = rw e i
 
 callers_out : (c : Config) (w : World) (seat : Seat) (v : World) → OthersMove c w seat v → (j : ℕ)
     → slice_index w.now.words.gates j ≡ 2 → flight_of v.now (Caller j) ≡ flight_of w.now (Caller j)
-callers_out c w seat v (Calls {k} f {x} lt le write) j is =
-    get_or-set_other w.now.seats.flights k j f at_rest (not_that w.now.words.gates k j le is)
+callers_out c w seat v (Calls {k} f {x} lt le write) j is = get_or-set_other _ k j f at_rest (not_that _ k j le is)
 callers_out c w seat v _ j is = refl
 
 registers_call : (k : ℕ) (w x : Words) (j r : ℕ) → CallWrite k w x → r < 8 → j ≢ k
@@ -198,15 +195,14 @@ dirty_out c w seat v (Marks {k} y {x} lt write) p is = λ z. is (rw (← (same_w
 pub turn_after : (c : Config) (w : World) (seat : Seat) (v : World) → Known c w.now → OthersMove c w seat v
     → TurnIsLeft w v
 turn_after c w seat v known move =
-    let grow = grow_out c w seat v move in
     record {
       steady = steady_out c w seat v move;
       held_gates = held_out c w seat v move;
       other_gates = free_out c w seat v move;
       held_callers = callers_out c w seat v move;
       held_registers = registers_out c w seat v move;
-      marks_grow = grow.0;
-      blacks_grow = grow.1;
+      marks_grow = (grow_out c w seat v move).0;
+      blacks_grow = (grow_out c w seat v move).1;
       unmarked = unmarked_out c w seat v known move;
       stopped = stopped_out c w seat v move;
       dirty = dirty_out c w seat v move;
@@ -239,9 +235,8 @@ turn_joined w u v a b =
       marks_grow = grows_joined w.now.words.marks u.now.words.marks v.now.words.marks a.marks_grow b.marks_grow;
       blacks_grow = grows_joined w.now.words.blacks u.now.words.blacks v.now.words.blacks a.blacks_grow b.blacks_grow;
       unmarked = λ n1 n2.
-          let x = a.unmarked n1 n2 in
           let y = b.unmarked (λ e. n1 (sym phase ∙ e)) (λ e. n2 (sym phase ∙ e)) in
-          (y.0 ∙ x.0, y.1 ∙ x.1);
+          (y.0 ∙ (a.unmarked n1 n2).0, y.1 ∙ (a.unmarked n1 n2).1);
       stopped = λ two none.
           let x = a.stopped two none in
           let y = b.stopped (phase ∙ two) x.0 in

@@ -1,31 +1,21 @@
 -- Each step that the turn's holder takes leads to what the images allow.
-use Rattle.mk_laws.proofs.Vocabulary.{Bool, Caller, CarriesOwn, Cell, Config, Flight, ImagePremises, IsPlaceOfNone}
-use Rattle.mk_laws.proofs.Vocabulary.{Kind, List, Mirrors, NeverState, None, Op, Option, PlacedAllocation, Placing, Ptr}
-use Rattle.mk_laws.proofs.Vocabulary.{Some, Stage, Used, Word, Words, World, [], address_of, and_parts, answer_of, ap}
-use Rattle.mk_laws.proofs.Vocabulary.{arith, base_made, bases_of, cell_freed, comes_next, d_of, decided, false}
-use Rattle.mk_laws.proofs.Vocabulary.{false≢true, flight_among, flight_of, freed_cell, freed_where_it_stands}
-use Rattle.mk_laws.proofs.Vocabulary.{granted_base, granted_type, has_operands, image_scene_of, is_freed, is_past_probe}
-use Rattle.mk_laws.proofs.Vocabulary.{is_put, is_run_cell, is_undecided_free, is_undecided_new, is_used_once, kinds_of}
-use Rattle.mk_laws.proofs.Vocabulary.{length, map, none_freed, object_made, phase_of, pointed_cell, progress_freed}
-use Rattle.mk_laws.proofs.Vocabulary.{refl, register_at, sees_double, slice_set, still, storage_holds, subst, sym}
-use Rattle.mk_laws.proofs.Vocabulary.{target, true, with_new, with_register, ℕ, ◌%◌, ◌*◌, ◌++◌, ◌+◌, ◌<◌, ◌^◌, ◌∙◌, ◌∷◌}
-use Rattle.mk_laws.proofs.Vocabulary.{◌≡◌, ◌≢◌}
+use Rattle.mk_laws.proofs.Vocabulary.{Answer, Bool, Caller, CarriesOwn, Cell, Config, Flight, ImagePremises}
+use Rattle.mk_laws.proofs.Vocabulary.{IsPlaceOfNone, Kind, List, Mirrors, NeverState, None, Op, Option}
+use Rattle.mk_laws.proofs.Vocabulary.{PlacedAllocation, Placing, Ptr, Some, Stage, Step, Used, Word, Words, World, ℕ}
+use Rattle.mk_laws.proofs.Vocabulary.{address_of, and_parts, answer_of, ap, arith, base_made, bases_of, cell_freed}
+use Rattle.mk_laws.proofs.Vocabulary.{comes_next, d_of, decided, false, false≢true, flight_among, flight_of, freed_cell}
+use Rattle.mk_laws.proofs.Vocabulary.{freed_where_it_stands, granted_base, granted_type, has_operands, image_scene_of}
+use Rattle.mk_laws.proofs.Vocabulary.{is_freed, is_past_probe, is_put, is_run_cell, is_undecided_free, is_undecided_new}
+use Rattle.mk_laws.proofs.Vocabulary.{is_used_once, kinds_of, length, map, none_freed, object_made, phase_of}
+use Rattle.mk_laws.proofs.Vocabulary.{pointed_cell, progress_freed, refl, register_at, sees_double, slice_set, still}
+use Rattle.mk_laws.proofs.Vocabulary.{storage_holds, subst, sym, target, true, with_new, with_register, [], ◌%◌, ◌*◌}
+use Rattle.mk_laws.proofs.Vocabulary.{◌++◌, ◌+◌, ◌<◌, ◌^◌, ◌∙◌, ◌∷◌, ◌≡◌, ◌≢◌}
+use Rattle.mk_core.{proofs.PlacesNow.target_is, specs.Allocations.type_made, specs.Effects.progress_look}
 use Rattle.mk_laws.proofs.Basics.{Grants, HoldsTurn, KnownWorld, Leads, Move, Ready, Stands, either_leads, flight}
 use Rattle.mk_laws.proofs.Basics.{goes_bare, operands_of, view_of}
-use Rattle.mk_never.specs.declared.operations.Op.TheVariants as op
-use Rattle.mk_core.specs.declared.events.Answer.TheVariants as answer
-use Rattle.mk_core.specs.declared.events.Word.TheVariants as word
-use Rattle.mk_core.specs.declared.events.Step.TheVariants as step
-use Rattle.mk_core.specs.declared.seats.Stage.TheVariants as stage
-use Rattle.mk_core.specs.Allocations.{type_made}
-use Rattle.mk_core.specs.Effects.{progress_look}
-use Rattle.mk_core.proofs.PlacesNow.{target_is}
-use Rattle.mk_laws.proofs.FreedRuns.{new_frees_none}
-use Rattle.mk_laws.proofs.ImagesKept.{fresh_one}
-use Rattle.mk_laws.proofs.GrantMoves.{fills_cell, place_is_zero}
-use Rattle.mk_laws.proofs.Ready.{one_right}
-use Rattle.mk_laws.proofs.FreeMoves.{free_by, double_by}
-use Rattle.mk_laws.proofs.CallSorts.{stays, own_registers, own_words, there_is}
+use Rattle.mk_laws.proofs.CallSorts.{own_registers, own_words, stays, there_is}
+use Rattle.mk_laws.proofs.{FreeMoves.double_by, FreeMoves.free_by, FreedRuns.new_frees_none, GrantMoves.fills_cell}
+use Rattle.mk_laws.proofs.{GrantMoves.place_is_zero, HeapEdits.fresh_one, Ready.one_right}
 
 -- what a look at a cell that is freed already shows
 record SeesFreed (w : Words) (t : Option Cell) : Type 0 where
@@ -34,9 +24,9 @@ record SeesFreed (w : Words) (t : Option Cell) : Type 0 where
   pub freed : is_freed w cell ≡ true
 
 sees_freed : (w : Words) (t : Option Cell) (x : Word) → sees_double w t x ≡ true → SeesFreed w t
-sees_freed w (Some cell) (word.Quar p) h =
+sees_freed w (Some cell) (Word.Quar p) h =
     record { cell = cell; is = refl; freed = (and_parts _ _ h).1 }
-sees_freed w None (word.Quar p) h = cc
+sees_freed w None (Word.Quar p) h = cc
 sees_freed w _ _ h = cc
 
 module _ (c : Config) (w : World) (n : NeverState) (known : KnownWorld c w) (mirrors : Mirrors c w n)
@@ -44,19 +34,19 @@ module _ (c : Config) (w : World) (n : NeverState) (known : KnownWorld c w) (mir
     → Bool) (ready : Ready c.globals safe (image_scene_of w) n) (st : Stands c w.now.words w.allocations)
     (k : ℕ) (lt : k < c.callers) where
   pub grant_by : (s : Stage) (o : Op) (q p r l : ℕ) (placing : Placing)
-      → flight_of w.now (Caller k) ≡ flight s o q p r l → comes_next s o step.Grant ≡ true → is_used_once placing ≡ true
+      → flight_of w.now (Caller k) ≡ flight s o q p r l → comes_next s o Step.Grant ≡ true → is_used_once placing ≡ true
       → w.now.seats.holding.placing ≡ placing → HoldsTurn c (view_of w.now) (Caller k) → phase_of w.now.words ≢ 4
       → has_operands c o ≡ true → Leads safe (image_scene_of w) n k o (record {
         registers = slice_set w.now.words.registers (8 * k + d_of o)
             (address_of (granted_base c (flight s o q p r l) placing) % 2 ^ 64);
         globals = w.now.words.globals;
         heap = w.now.words.heap;
-        flights = slice_set w.now.seats.flights k (flight stage.Give o q p r l);
+        flights = slice_set w.now.seats.flights k (flight Stage.Give o q p r l);
         allocations = w.allocations ++ fresh_one (granted_base c (flight s o q p r l) placing) (type_made o) ∷ [];
-      }) (Some answer.Done)
-  grant_by stage.Turn (op.New d ty full) q p r l (Used place) is next used placed hold phase operands =
-      let o = object_made c (op.New d ty full) in
-      let f = flight stage.Turn (op.New d ty full) q p r l in
+      }) (Some Answer.Done)
+  grant_by Stage.Turn (Op.New d ty full) q p r l (Used place) is next used placed hold phase operands =
+      let o = object_made c (Op.New d ty full) in
+      let f = flight Stage.Turn (Op.New d ty full) q p r l in
       let a = fresh_one (base_made o place) ty in
       let new : is_undecided_new (flight_of w.now (Caller k)) ≡ true = rw is in
       let typed : ty < length c.types = granted_type c w.now f refl operands in
@@ -72,27 +62,26 @@ module _ (c : Config) (w : World) (n : NeverState) (known : KnownWorld c w) (mir
           registers = slice_set w.now.words.registers (8 * k + d) x;
           globals = w.now.words.globals;
           heap = w.now.words.heap;
-          flights = slice_set w.now.seats.flights k (flight stage.Give (op.New d ty full) q p r l);
+          flights = slice_set w.now.seats.flights k (flight Stage.Give (Op.New d ty full) q p r l);
           allocations = w.allocations ++ a ∷ [];
         }) (with_register (with_new n ty) k d (Ptr (length n.allocations) ty 0))) word
-            (Grants k d (base_made o place) ty (flight stage.Give (op.New d ty full) q p r l) (record {
+            (Grants k d (base_made o place) ty (flight Stage.Give (Op.New d ty full) q p r l) (record {
               there = there_is c w n known mirrors safe ready k lt;
               registers = own_registers c w n known mirrors safe ready k lt;
               was = rw is;
               bare = refl;
-            }) (own_words c w n known mirrors safe ready k lt) (operands_of c (op.New d ty full) operands).d
+            }) (own_words c w n known mirrors safe ready k lt) (operands_of c (Op.New d ty full) operands).d
             (λ i li. zero_there i
-            (let small = subst (λ (types : List (List Kind)). i < length (kinds_of types ty)) mirrors.types li
-            in omega arith))),
+            (omega (arith, subst (λ (types : List (List Kind)). i < length (kinds_of types ty)) mirrors.types li)))),
         λ more. refl,
       )
   grant_by _ _ q p r l _ is next used placed hold phase operands = cc
 
   pub full_by : (s : Stage) (o : Op) (q p r l : ℕ) → flight_among w.now.seats.flights k ≡ flight s o q p r l
-      → comes_next s o step.Full ≡ true → Leads safe (image_scene_of w) n k o
-      (record (image_scene_of w) { flights = slice_set w.now.seats.flights k (flight stage.Give o q p r l) })
-      (Some answer.Full)
-  full_by stage.Turn (op.New d ty full) q p r l is next = (goes_bare safe _ n k _ (rw is) refl, λ more. refl)
+      → comes_next s o Step.Full ≡ true → Leads safe (image_scene_of w) n k o
+      (record (image_scene_of w) { flights = slice_set w.now.seats.flights k (flight Stage.Give o q p r l) })
+      (Some Answer.Full)
+  full_by Stage.Turn (Op.New d ty full) q p r l is next = (goes_bare safe _ n k _ (rw is) refl, λ more. refl)
   full_by _ _ q p r l is next = absurd (false≢true next)
 
   freed_by : (s : Stage) (o : Op) (q p r l : ℕ) (cell : Cell) → flight_among w.now.seats.flights k ≡ flight s o q p r l
@@ -101,12 +90,12 @@ module _ (c : Config) (w : World) (n : NeverState) (known : KnownWorld c w) (mir
       → is_past_probe (flight_among w.now.seats.flights j).stage ≡ false)
       → CarriesOwn (bases_of w.allocations) n k (flight s o q p r l) → Leads safe (image_scene_of w) n k o
       (record (image_scene_of w) {
-        flights = slice_set w.now.seats.flights k (flight stage.Give o q p r l);
+        flights = slice_set w.now.seats.flights k (flight Stage.Give o q p r l);
         allocations = map (freed_where_it_stands w.now.words (Some cell)) w.allocations;
-      }) (Some answer.Done)
-  freed_by stage.Turn (op.Free p') q p r l cell is undecided points fresh quiet car =
-      let f = flight stage.Give (op.Free p') q p r l in
-      let free = free_by c w n known mirrors safe ready st others k (op.Free p') f p cell (register_at n k p') (record {
+      }) (Some Answer.Done)
+  freed_by Stage.Turn (Op.Free p') q p r l cell is undecided points fresh quiet car =
+      let f = flight Stage.Give (Op.Free p') q p r l in
+      let free = free_by c w n known mirrors safe ready st others k (Op.Free p') f p cell (register_at n k p') (record {
         there = there_is c w n known mirrors safe ready k lt;
         registers = own_registers c w n known mirrors safe ready k lt;
         was = ap (λ (g : Flight). is_put g.stage) is;
@@ -115,7 +104,7 @@ module _ (c : Config) (w : World) (n : NeverState) (known : KnownWorld c w) (mir
       fresh quiet in (
         free.0,
         λ more. one_right (bases_of (map (freed_where_it_stands w.now.words (Some cell)) w.allocations) ++ more)
-            answer.Done n k (op.Free p')
+            Answer.Done n k (Op.Free p')
             (ap (answer_of (bases_of (map (freed_where_it_stands w.now.words (Some cell)) w.allocations) ++ more))
             (sym free.1)),
       )
@@ -125,16 +114,15 @@ module _ (c : Config) (w : World) (n : NeverState) (known : KnownWorld c w) (mir
       → is_undecided_free (flight s o q p r l) ≡ true → pointed_cell c.pages w.now.words.pages p ≡ Some cell
       → is_freed w.now.words cell ≡ true → CarriesOwn (bases_of w.allocations) n k (flight s o q p r l)
       → Leads safe (image_scene_of w) n k o
-      (record (image_scene_of w) { flights = slice_set w.now.seats.flights k (flight stage.Give o q p r l) })
-      (Some answer.Double)
-  twice_by stage.Turn (op.Free p') q p r l cell is undecided points is_free car =
-      let f = flight stage.Give (op.Free p') q p r l in
-      let free = double_by c w n known mirrors safe ready st others k f p cell (register_at n k p')
-      (ap (λ (g : Flight). is_put g.stage) is) refl
+      (record (image_scene_of w) { flights = slice_set w.now.seats.flights k (flight Stage.Give o q p r l) })
+      (Some Answer.Double)
+  twice_by Stage.Turn (Op.Free p') q p r l cell is undecided points is_free car =
+      let free = double_by c w n known mirrors safe ready st others k (flight Stage.Give (Op.Free p') q p r l) p cell
+      (register_at n k p') (ap (λ (g : Flight). is_put g.stage) is) refl
       (mirrors.typed.registers (8 * k + p')) (ready.set.registers (8 * k + p')) (car.p refl) (car.some_p refl) points
       is_free in (
         free.0,
-        λ more. one_right (bases_of w.allocations ++ more) answer.Double n k (op.Free p')
+        λ more. one_right (bases_of w.allocations ++ more) Answer.Double n k (Op.Free p')
             (ap (answer_of (bases_of w.allocations ++ more)) (sym free.1)),
       )
   twice_by _ _ q p r l cell is undecided points is_free car = absurd (false≢true undecided)
@@ -165,7 +153,7 @@ module _ (c : Config) (w : World) (n : NeverState) (known : KnownWorld c w) (mir
       (record (image_scene_of w) { flights = slice_set w.now.seats.flights k (progress_look c w.now.words f x).flight })
       (progress_look c w.now.words f x).answer
   look_by f x is = either_leads safe (image_scene_of w) n k f.op (image_scene_of w) (sees_double w.now.words
-      (target c.pages w.now.words f) x) (decided f answer.Double) (still f) (λ sees.
+      (target c.pages w.now.words f) x) (decided f Answer.Double) (still f) (λ sees.
       let t = sees_freed w.now.words (target c.pages w.now.words f) x sees in
       let points = target_is c.pages w.now.words f t.cell t.is in
       twice_by f.stage f.op f.q f.p f.r f.loaded t.cell is points.free points.pointed t.freed

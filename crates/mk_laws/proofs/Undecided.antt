@@ -1,16 +1,13 @@
 -- Where an undecided New comes from: its call was so before the event, or the event is its `take`.
 use Rattle.mk_laws.proofs.Vocabulary.{Bool, Caller, Config, Flight, List, None, Object, Op, Option, Seat, Some, Step}
-use Rattle.mk_laws.proofs.Vocabulary.{World, ap, arith, at_rest, cases_eq, cases_lt, eq-eqb, flight_of}
+use Rattle.mk_laws.proofs.Vocabulary.{World, ℕ, ap, arith, at_rest, cases_eq, cases_lt, eq-eqb, flight_of}
 use Rattle.mk_laws.proofs.Vocabulary.{get_or-set_other, get_or-set_same, if◌then◌else◌, inl, inr, is_undecided_new}
 use Rattle.mk_laws.proofs.Vocabulary.{length, nothing_done, object_made, refl, set_past, slice_index_or, slice_set}
-use Rattle.mk_laws.proofs.Vocabulary.{subst, sym, true, ℕ, ◌+◌, ◌<◌, ◌∙◌, ◌≡◌, ◌⊎◌}
+use Rattle.mk_laws.proofs.Vocabulary.{subst, sym, true, ◌+◌, ◌<◌, ◌∙◌, ◌≡◌, ◌⊎◌}
 use Rattle.mk_laws.proofs.Basics.{HoldsTurn, Known, Meets, View, WorldBehind, at_no_take, flight_in, reg_leaves}
 use Rattle.mk_laws.proofs.Basics.{tally_keeps, view_of}
-use Rattle.mk_core.specs.declared.events.Step.TheVariants as step
-use Rattle.mk_laws.proofs.ProtocolMoves.{Move, Enters, GoesOn, Gives, Leaves, Stays, Takes, Works}
-use Rattle.mk_laws.proofs.OrderlyLists.{event_moves}
-use Rattle.mk_laws.proofs.Stages.{new_stands}
-use Rattle.mk_laws.proofs.NewPlace.{call_no_new, service_new}
+use Rattle.mk_laws.proofs.ProtocolMoves.{Enters, Gives, GoesOn, Leaves, Move, Stays, Takes, Works}
+use Rattle.mk_laws.proofs.{NewPlace.call_no_new, NewPlace.service_new, OrderlyLists.event_moves, Stages.new_stands}
 
 -- The caller has an undecided New,
 abbrev pub HasNew : World → ℕ → Type 0
@@ -36,7 +33,7 @@ own_call : (fs : List Flight) (k : ℕ) (f : Flight) → (is_undecided_new f ≡
 own_call fs k f same new = elim (cases_lt k (length fs)) [
   | inl lt ↦
       let now : call_in (slice_set fs k f) k ≡ f = get_or-set_same fs k f at_rest lt in
-      now ∙ same (ap (λ (x : Flight). is_undecided_new x) (sym now) ∙ new)
+      now ∙ same (ap is_undecided_new (sym now) ∙ new)
   | inr past ↦ ap (λ (xs : List Flight). call_in xs k) (set_past fs k f past)
 ]
 
@@ -56,21 +53,20 @@ came c v k n _ new = inl refl
 
 record IsTake (x : Step) : Type 0 where
   op : Option Op
-  is : x ≡ step.Take op
+  is : x ≡ Step.Take op
 
 taken_by_take : (c : Config) (w : World) (seat : Seat) (x : Step) (n : ℕ) → w.now.words.turn ≡ 0
     → (WorldBehind c w seat x).now.words.turn ≡ 1 + n → IsTake x
-taken_by_take c w seat (step.Take o) n free now = record { op = o; is = refl }
-taken_by_take c w seat step.Give n free now = absurd (omega arith)
-taken_by_take c w seat step.Reg n free now = let same = (reg_leaves c w seat).turn in absurd (omega arith)
-taken_by_take c w seat (step.Tally t v) n free now =
-    let same = (tally_keeps w.now.words t v).turn in absurd (omega arith)
+taken_by_take c w seat (Step.Take o) n free now = record { op = o; is = refl }
+taken_by_take c w seat Step.Give n free now = absurd (omega arith)
+taken_by_take c w seat Step.Reg n free now = let same = (reg_leaves c w seat).turn in absurd (omega arith)
+taken_by_take c w seat (Step.Tally t v) n free now = absurd (omega (arith, (tally_keeps w.now.words t v).turn))
 taken_by_take c w seat _ n free now = absurd (omega arith)
 
 -- where an undecided New comes from
 pub data NewCame (c : Config) (w : World) (seat : Seat) (x : Step) (k : ℕ) : Type 0 where
   WasNew : flight_of (WorldBehind c w seat x).now (Caller k) ≡ flight_of w.now (Caller k) → NewCame c w seat x k
-  IsTaken : (o : Op) → seat ≡ Caller k → x ≡ step.Take (Some o) → w.now.words.turn ≡ 0
+  IsTaken : (o : Op) → seat ≡ Caller k → x ≡ Step.Take (Some o) → w.now.words.turn ≡ 0
       → (WorldBehind c w seat x).now.seats.holding ≡ nothing_done → NewCame c w seat x k
 
 own_came : (c : Config) (w : World) (k : ℕ) (x : Step) → Known c w.now → Meets c w.now (Caller k) x
@@ -85,8 +81,8 @@ own_came c w k x known h new =
           (taken take.op free.0 (subst (λ (y : Step). Meets c w.now (Caller k) y) take.is h))
     ]
   where
-    taken : (o : Option Op) → w.now.words.turn ≡ 0 → Meets c w.now (Caller k) (step.Take o)
-        → NewCame c w (Caller k) (step.Take o) k
+    taken : (o : Option Op) → w.now.words.turn ≡ 0 → Meets c w.now (Caller k) (Step.Take o)
+        → NewCame c w (Caller k) (Step.Take o) k
     taken (Some o) free h = IsTaken o refl refl free
         (ap (λ (b : Bool). if b then nothing_done else w.now.seats.holding) (eq-eqb w.now.words.turn 0 free))
     taken None free h = absurd (at_no_take _ _ h.order)

@@ -1,20 +1,19 @@
 -- The pages of a freed large allocation aren't resident, until they get other headers.
 use Rattle.mk_laws.proofs.Vocabulary.{Bool, Config, Event, HasHeader, Invariant, IsHistory, IsShown, List, Moment}
 use Rattle.mk_laws.proofs.Vocabulary.{NeverState, None, Object, OfHistories, Option, Page, PlacedAllocation, RunPages}
-use Rattle.mk_laws.proofs.Vocabulary.{Seat, Some, Step, World, [], and_from, and_parts, ap, arith, cases_Bool, cases_eq}
+use Rattle.mk_laws.proofs.Vocabulary.{Seat, Some, Step, World, ℕ, and_from, and_parts, ap, arith, cases_Bool, cases_eq}
 use Rattle.mk_laws.proofs.Vocabulary.{cases_lt, claim_of, earlier_part_is_history, eq-eqb, eqb-true, false}
 use Rattle.mk_laws.proofs.Vocabulary.{false_from_ne_true, first_world, ground_of, header_at, header_of, inl, inr}
 use Rattle.mk_laws.proofs.Vocabulary.{is_phase, is_resident_page, is_small_object, is_unmapped_header, is_unmapping}
 use Rattle.mk_laws.proofs.Vocabulary.{large_count, large_words, left, left_append, left_from, length, list_any, mode_of}
 use Rattle.mk_laws.proofs.Vocabulary.{ne_eqb, not, not-true, object_now, object_placed, or_parts, pages_made, placed_at}
 use Rattle.mk_laws.proofs.Vocabulary.{refl, run_begins, set_past, storage_words, subst, sym, true, true≢false}
-use Rattle.mk_laws.proofs.Vocabulary.{unmapped_header, unmapped_is_unmapped, use_under, used_on, world_behind, ℕ, ◌&&◌}
+use Rattle.mk_laws.proofs.Vocabulary.{unmapped_header, unmapped_is_unmapped, use_under, used_on, world_behind, [], ◌&&◌}
 use Rattle.mk_laws.proofs.Vocabulary.{◌*◌, ◌+◌, ◌-◌, ◌/◌, ◌<◌, ◌==◌, ◌∙◌, ◌∷◌, ◌≡◌}
 use Rattle.mk_laws.proofs.Basics.{Behind, KnownWorld, Laid, Table, claim_among, gone_terrain, known_world, own_claim}
 use Rattle.mk_laws.proofs.Basics.{reg_table, tally_table}
-use Rattle.mk_core.specs.declared.events.Step.TheVariants as step
-use Rattle.mk_laws.proofs.ResidentPages.{is_resident, resident_gone, resident_other, resident_used, unmapped_use}
 use Rattle.mk_laws.proofs.ForImages.{gone_is, shown_claim, standing}
+use Rattle.mk_laws.proofs.ResidentPages.{is_resident, resident_gone, resident_other, resident_used, unmapped_use}
 use Rattle.mk_laws.proofs.InvariantHistories.{histories_keep_the_invariant}
 use Rattle.mk_laws.specs.UnmappedRuns.{IsOfUnmappedRun, UnmappedRunsTakeNoMemory, gives_header, is_resident_in}
 
@@ -22,12 +21,12 @@ use Rattle.mk_laws.specs.UnmappedRuns.{IsOfUnmappedRun, UnmappedRunsTakeNoMemory
 
 stays_out : (c : Config) (m : Moment) (seat : Seat) (x : Step) (p : ℕ) → gives_header p x ≡ false
     → is_resident m.words.pages p ≡ false → is_resident (Behind c m seat x).words.pages p ≡ false
-stays_out c m seat step.Reg p none out = ap (λ (t : Table). is_resident t.pages p) (reg_table c m seat) ∙ out
-stays_out c m seat (step.Tally n v) p none out =
+stays_out c m seat Step.Reg p none out = ap (λ (t : Table). is_resident t.pages p) (reg_table c m seat) ∙ out
+stays_out c m seat (Step.Tally n v) p none out =
     ap (λ (t : Table). is_resident t.pages p) (tally_table m.words n v) ∙ out
-stays_out c m seat (step.Used q n) p none out = false_from_ne_true _
+stays_out c m seat (Step.Used q n) p none out = false_from_ne_true _
     (λ resident. true≢false (sym (resident_used m.words.pages q n p resident) ∙ out))
-stays_out c m seat (step.Head q n) p none out = false_from_ne_true _ (λ resident. true≢false (sym (was resident) ∙ out))
+stays_out c m seat (Step.Head q n) p none out = false_from_ne_true _ (λ resident. true≢false (sym (was resident) ∙ out))
   where
     zero_there : p ≡ q → n ≡ 0
     zero_there e = elim (cases_eq n 0) [
@@ -36,7 +35,7 @@ stays_out c m seat (step.Head q n) p none out = false_from_ne_true _ (λ residen
           (ap not (ne_eqb n 0 some))) ∙ none))
     ]
 
-    was : is_resident (Behind c m seat (step.Head q n)).words.pages p ≡ true → is_resident m.words.pages p ≡ true
+    was : is_resident (Behind c m seat (Step.Head q n)).words.pages p ≡ true → is_resident m.words.pages p ≡ true
     was resident = elim (cases_eq p q) [
       | inr ne ↦ resident_other m.words.pages q n p ne resident
       | inl e ↦ elim (cases_lt q (length m.words.pages)) [
@@ -121,7 +120,7 @@ module _ (c : Config) (w : World) (n : NeverState) (known : KnownWorld c w) (all
       by : (freed : Option RunPages) → is_unmapping freed (a.base / 64) ≡ false → HasHeader (claim_of c freed a).mode
           o on_run.distance (header_at w.now.words (a.base / 64 + on_run.distance)) → header_at w.now.words p
           ≡ unmapped_header (pages_made o) on_run.distance
-      by freed other has = ap (λ q. header_at w.now.words q) (sym on_run.there)
+      by freed other has = ap (header_at w.now.words) (sym on_run.there)
           ∙ unmapped_mode (a.freed && not (is_small_object o)) _ o on_run.distance _ gone other has
 
   not_resident : is_resident_in w p ≡ false

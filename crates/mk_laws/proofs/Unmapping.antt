@@ -2,15 +2,15 @@
 use Rattle.mk_laws.proofs.Vocabulary.{Among, AreApart, Bool, Claim, HasHeader, HasItsHead, Header, IsClaimed, IsLaidOn}
 use Rattle.mk_laws.proofs.Vocabulary.{IsOfOneCell, IsPlotShown, IsShown, Later, LayoutScene, List, Mode, NoPlot, Object}
 use Rattle.mk_laws.proofs.Vocabulary.{OfBlock, OfLater, OfLeafBlock, OfLeafRun, OfRun, Option, Page, Plot, PlotStands}
-use Rattle.mk_laws.proofs.Vocabulary.{Plotted, ShowsPart, Some, Unmapping, ap, arith, cases_eq, cells_made, cells_under}
-use Rattle.mk_laws.proofs.Vocabulary.{false, head_on, header_made, header_of, header_on, inl, inr, is_released_on}
-use Rattle.mk_laws.proofs.Vocabulary.{is_small_object, large_cells, length, length-set, made_shows, pages_made}
-use Rattle.mk_laws.proofs.Vocabulary.{pages_some, part_cells, part_head, refl, run_count, shown_later, shows_on, stands}
-use Rattle.mk_laws.proofs.Vocabulary.{sym, true, true≢false, unmapped_header, used_on, ℕ, ◌+◌, ◌-◌, ◌<◌, ◌∙◌, ◌≡◌, ◌≢◌}
-use Rattle.mk_laws.proofs.Vocabulary.{◌≤◌, ◌⊎◌}
+use Rattle.mk_laws.proofs.Vocabulary.{Plotted, ShowsPart, Some, Unmapping, ℕ, ap, arith, cases_eq, cells_made}
+use Rattle.mk_laws.proofs.Vocabulary.{cells_under, false, head_on, header_made, header_of, header_on, inl, inr}
+use Rattle.mk_laws.proofs.Vocabulary.{is_released_on, is_small_object, large_cells, length, length-set, made_shows}
+use Rattle.mk_laws.proofs.Vocabulary.{pages_made, pages_some, part_cells, part_head, refl, run_count, shown_later}
+use Rattle.mk_laws.proofs.Vocabulary.{shows_on, stands, sym, true, true≢false, unmapped_header, used_on, ◌+◌, ◌-◌, ◌<◌}
+use Rattle.mk_laws.proofs.Vocabulary.{◌∙◌, ◌≡◌, ◌≢◌, ◌≤◌, ◌⊎◌}
 use Rattle.mk_core.proofs.ObjectHeaders.{later_part, same_cells, unmapped_shows}
-use Rattle.mk_laws.proofs.Releasing.{headed_here, headed_other, headed_used, with_header_on, head_of_other}
-use Rattle.mk_laws.proofs.Releasing.{shown_beside}
+use Rattle.mk_laws.proofs.Releasing.{head_of_other, headed_here, headed_other, headed_used, shown_beside}
+use Rattle.mk_laws.proofs.Releasing.{with_header_on}
 use Rattle.mk_laws.proofs.LayoutReadings.{claimed, claimed_head, claimed_some, none_set, one_claim}
 
 -- How many pages the run has that a header of an object heads.
@@ -48,8 +48,7 @@ pub cells_at_claim : (s : LayoutScene) (x : Claim) → IsShown s.pages x
     → cells_under (shows_on s.pages x.page) ≡ cells_made x.object
 cells_at_claim s x shown =
     let zero : x.page + 0 ≡ x.page = omega arith in
-    rw (← zero) (part_cells x.object _
-    (claimed s.pages x 0 shown (let some = pages_some x.object shown.sized in omega arith)))
+    rw (← zero) (part_cells x.object _ (claimed s.pages x 0 shown (omega (arith, pages_some x.object shown.sized))))
 
 -- a claim that shares a page with a run's is the run's
 pub shares_run : (s : LayoutScene) (x y : Claim) (d e : ℕ) → IsLaidOn s → Among x s.claims → Among y s.claims
@@ -58,21 +57,18 @@ pub shares_run : (s : LayoutScene) (x y : Claim) (d e : ℕ) → IsLaidOn s → 
 shares_run s x y d e laid ix iy large ld le at =
     let sx = laid.shown x ix in
     let sy = laid.shown y iy in
-    let page : y.page ≡ x.page = sym (claimed_head s.pages y e sy le) ∙ ap (λ q. head_on s.pages q) at
-    ∙ claimed_head s.pages x d sx ld in
-    let one = large_cells x.object large in
-    let cells = cells_at_claim s x sx in
+    let page = sym (claimed_head s.pages y e sy le) ∙ ap (head_on s.pages) at ∙ claimed_head s.pages x d sx ld in
     let cells_y : cells_under (shows_on s.pages x.page) ≡ cells_made y.object = rw (← page) (cells_at_claim s y sy) in
     let iix = sx.known in
     let iiy = sy.known in
-    one_claim s.claims y x laid.apart iy ix (page, omega arith)
+    one_claim s.claims y x laid.apart iy ix (page, omega (arith, large_cells x.object large, cells_at_claim s x sx))
 
 -- and the page isn't one of a plot
 pub apart_of_plot : (s : LayoutScene) (x : Claim) (d first e : ℕ) (o : Object) → IsLaidOn s → Among x s.claims
     → d < pages_made x.object → IsPlotShown s.pages first o → e < pages_made o → first + e ≢ x.page + d
 apart_of_plot s x d first e o laid ix ld plot le at =
     let sx = laid.shown x ix in
-    let head : head_on s.pages (first + e) ≡ x.page = ap (λ q. head_on s.pages q) at ∙ claimed_head s.pages x d sx ld in
+    let head : head_on s.pages (first + e) ≡ x.page = ap (head_on s.pages) at ∙ claimed_head s.pages x d sx ld in
     by head (plot.headers e le)
   where
     by : head_on s.pages (first + e) ≡ x.page
@@ -82,7 +78,7 @@ apart_of_plot s x d first e o laid ix ld plot le at =
         let own : head_on s.pages (first + e) ≡ first =
         rw is (part_head o e first (header_of (header_made o e)) (made_shows o e plot.sized le)) in
         let zero : first + 0 ≡ first = omega arith in
-        none_set (used_on s.pages x.page) x.index (ap (λ p. used_on s.pages p) (sym head ∙ own ∙ sym zero)
+        none_set (used_on s.pages x.page) x.index (ap (used_on s.pages) (sym head ∙ own ∙ sym zero)
         ∙ plot.used 0 (let some = pages_some o plot.sized in omega arith)) (laid.shown x ix).used
 
 -- `head` (c): a page of the run that is unmapping gets its header

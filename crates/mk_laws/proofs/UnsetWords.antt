@@ -1,15 +1,12 @@
 -- Registers of no caller, and globals that nobody has stored to.
 use Rattle.mk_laws.proofs.Vocabulary.{Bool, Config, Event, Flight, Invariant, Leaves, List, Moment, NeverState, Null}
-use Rattle.mk_laws.proofs.Vocabulary.{OfHistories, Seat, Step, Value, World, [], ap, append_assoc, arith, at_rest}
+use Rattle.mk_laws.proofs.Vocabulary.{OfHistories, Seat, Step, Value, World, ℕ, ap, append_assoc, arith, at_rest}
 use Rattle.mk_laws.proofs.Vocabulary.{bases_of, false, first_world, flight_of, g_of, get_or-set_other, get_or_past}
-use Rattle.mk_laws.proofs.Vocabulary.{image_of, left, left_from, left_more, refl, shown, slice_index, sym, true, ℕ, ◌%◌}
-use Rattle.mk_laws.proofs.Vocabulary.{◌*◌, ◌++◌, ◌+◌, ◌/◌, ◌∙◌, ◌∷◌, ◌≡◌}
-use Rattle.mk_laws.proofs.Basics.{Behind, KeptByEvents, KnownWorld, Table, at_first, holds_of_histories, reg_table}
-use Rattle.mk_laws.proofs.Basics.{tally_table}
-use Rattle.mk_core.specs.declared.events.Seat.TheVariants as seat
-use Rattle.mk_core.specs.declared.events.Step.TheVariants as step
+use Rattle.mk_laws.proofs.Vocabulary.{image_of, left, left_from, left_more, refl, shown, slice_index, sym, true, []}
+use Rattle.mk_laws.proofs.Vocabulary.{◌%◌, ◌*◌, ◌++◌, ◌+◌, ◌/◌, ◌∙◌, ◌∷◌, ◌≡◌}
+use Rattle.mk_laws.proofs.{Basics.Behind, Basics.KeptByEvents, Basics.KnownWorld, Basics.Table, Basics.at_first}
+use Rattle.mk_laws.proofs.{Basics.holds_of_histories, Basics.reg_table, Basics.tally_table, FreeWords.of_worlds}
 use Rattle.mk_laws.specs.UnsetWords.{IsNeverSet, RegistersOfNoCallerAreZero, UnsetGlobalsAreZero}
-use Rattle.mk_laws.proofs.FreeWords.{of_worlds}
 
 -- A register is the image of a value of the heap that never reuses storage, and that heap has none for it.
 no_caller : (c : Config) (w : World) (n : NeverState) → KnownWorld c w → Invariant c w n
@@ -17,7 +14,7 @@ no_caller : (c : Config) (w : World) (n : NeverState) → KnownWorld c w → Inv
 no_caller c w n known all k r past =
     let i : ℕ = 8 * k + r in
     let flights = known.now.orderly.flights in
-    let rest : flight_of w.now (seat.Caller (i / 8)) ≡ at_rest =
+    let rest : flight_of w.now (Seat.Caller (i / 8)) ≡ at_rest =
     get_or_past w.now.seats.flights (i / 8) at_rest (omega arith) in
     let plain = ap (λ (f : Flight). shown f (i % 8) (slice_index w.now.words.registers i)) rest in
     let count = all.mirrors.register_count in
@@ -30,19 +27,19 @@ registers_of_no_caller_are_zero = of_worlds no_caller
 -- A `setg` alone stores to globals.
 
 abbrev is_setg : Step → Bool
-is_setg step.Setg = true
+is_setg Step.Setg = true
 is_setg _ = false
 
 globals_stay : (c : Config) (m : Moment) (seat : Seat) (x : Step) → is_setg x ≡ false
     → (Behind c m seat x).words.globals ≡ m.words.globals
-globals_stay c m seat step.Reg out = ap (λ (t : Table). t.globals) (reg_table c m seat)
-globals_stay c m seat (step.Tally n v) out = ap (λ (t : Table). t.globals) (tally_table m.words n v)
+globals_stay c m seat Step.Reg out = ap (λ (t : Table). t.globals) (reg_table c m seat)
+globals_stay c m seat (Step.Tally n v) out = ap (λ (t : Table). t.globals) (tally_table m.words n v)
 globals_stay c m seat _ out = cc
 
 one_more : (c : Config) (es : List Event) (seat : Seat) (x : Step) (g : ℕ)
     → IsNeverSet c (es ++ record { seat = seat; step = x } ∷ []) g → slice_index (left c es).now.words.globals g ≡ 0
     → slice_index (Behind c (left c es).now seat x).words.globals g ≡ 0
-one_more c es seat step.Setg g never zero =
+one_more c es seat Step.Setg g never zero =
     let f = flight_of (left c es).now seat in
     get_or-set_other _ (g_of f.op) g f.p 0 (λ e. never es [] seat refl (sym e)) ∙ zero
 one_more c es seat x g never zero =
@@ -55,7 +52,7 @@ first_unset c g never = at_first 64 g 0
 kept : KeptByEvents UnsetGlobalsAreZero
 kept c es e h unset g never =
     let before : IsNeverSet c es g = λ front rest seat is. never front (rest ++ e ∷ []) seat
-    (ap (λ (xs : List Event). xs ++ e ∷ []) is ∙ append_assoc front (record { seat = seat; step = step.Setg } ∷ rest)
+    (ap (λ (xs : List Event). xs ++ e ∷ []) is ∙ append_assoc front (record { seat = seat; step = Step.Setg } ∷ rest)
     (e ∷ [])) in
     ap (λ (w : World). slice_index w.now.words.globals g) (left_more c (first_world c) es e)
     ∙ one_more c es e.seat e.step g never (unset g before)

@@ -51,6 +51,7 @@ pub use Rattle.mk_core.specs.declared.accesses.TableWord.TheVariants.{Named}
 pub use Rattle.mk_core.specs.declared.config.Config.{Config}
 pub use Rattle.mk_core.specs.declared.events.Answer.{Answer}
 pub use Rattle.mk_core.specs.declared.events.Event.{Event}
+pub use Rattle.mk_core.specs.declared.events.Group.{Group}
 pub use Rattle.mk_core.specs.declared.events.Seat.{Seat}
 pub use Rattle.mk_core.specs.declared.events.Seat.TheVariants.{Caller, Host, Marker}
 pub use Rattle.mk_core.specs.declared.events.Step.{Step}

@@ -1,7 +1,7 @@
 -- Values that point well: each cell that one points into is marked.
 use Rattle.mk_laws.proofs.Vocabulary.{Cell, Config, IsGuarded, Moment, None, OnlyGrow, Option, PointsWell, Some, Words}
-use Rattle.mk_laws.proofs.Vocabulary.{cell_at, header_at, is_marked, is_none_or, page_at_address, pointed_cell}
-use Rattle.mk_laws.proofs.Vocabulary.{points_well, refl, slice_index, true, ℕ, ◌≡◌}
+use Rattle.mk_laws.proofs.Vocabulary.{ℕ, cell_at, header_at, is_marked, is_none_or, page_at_address, pointed_cell}
+use Rattle.mk_laws.proofs.Vocabulary.{points_well, refl, slice_index, true, ◌≡◌}
 
 abbrev pub IsWell : Config → Words → ℕ → Type 0
 IsWell c w value = (x : Cell) → cell_at c.pages (header_at w (page_at_address value)) value ≡ Some x

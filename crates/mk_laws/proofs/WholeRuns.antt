@@ -1,23 +1,21 @@
 -- Runs are whole, after each event.
-use Rattle.mk_laws.proofs.Vocabulary.{Among, Bool, Claim, Config, Empties, Flight, GivesBack, HeadStep, Header, InPlot}
+use Rattle.mk_laws.proofs.Vocabulary.{Among, Bool, Claim, Config, Empties, Flight, GivesBack, Header, HeadStep, InPlot}
 use Rattle.mk_laws.proofs.Vocabulary.{IsClaimed, IsLaidOn, ItCarves, ItEmpties, ItGivesBack, ItTakes, ItUnmaps, Later}
 use Rattle.mk_laws.proofs.Vocabulary.{LayoutScene, LayoutStands, List, NoPlot, Object, Option, Page, Plot, PlotStands}
-use Rattle.mk_laws.proofs.Vocabulary.{Plotted, Run, Seat, ShowsPart, Some, Step, UsedStep, Words, World, ap, arith}
+use Rattle.mk_laws.proofs.Vocabulary.{Plotted, Run, Seat, ShowsPart, Some, Step, UsedStep, Words, World, ℕ, ap, arith}
 use Rattle.mk_laws.proofs.Vocabulary.{cases_Bool, cases_eq, cells_under, false, fewer_bits, flight_of, found, has_bit}
 use Rattle.mk_laws.proofs.Vocabulary.{head_on, head_page, head_page_under, head_step, header_made, header_on, heads_run}
 use Rattle.mk_laws.proofs.Vocabulary.{inl, inr, is_phase, is_released_on, is_small_object, length, length-set}
 use Rattle.mk_laws.proofs.Vocabulary.{made_shows, object_now, pages_made, pages_some, plot_of, refl, run_count}
 use Rattle.mk_laws.proofs.Vocabulary.{shows_on, small_heads_none, stands, subst, suc, sym, true, true≢false, used_on}
-use Rattle.mk_laws.proofs.Vocabulary.{used_step, zero, ℕ, ◌+◌, ◌-◌, ◌<◌, ◌∙◌, ◌≡◌, ◌≢◌, ◌⊎◌}
+use Rattle.mk_laws.proofs.Vocabulary.{used_step, zero, ◌+◌, ◌-◌, ◌<◌, ◌∙◌, ◌≡◌, ◌≢◌, ◌⊎◌}
+use Rattle.mk_core.proofs.ObjectHeaders.{later_part}
 use Rattle.mk_laws.proofs.Basics.{Before, Meets, WorldBehind, claimed, headed_other, is_releasing_behind, none_set}
 use Rattle.mk_laws.proofs.Basics.{page_within, reg_leaves_ground, tally_ground, used_header, with_header_on}
 use Rattle.mk_laws.proofs.Basics.{with_used_on, zero_where_none}
-use Rattle.mk_laws.proofs.Unmapping.{part_count, small_count}
-use Rattle.mk_core.specs.declared.events.Step.TheVariants as step
-use Rattle.mk_core.proofs.ObjectHeaders.{later_part}
-use Rattle.mk_laws.specs.WholeRuns.{HasLaterPage, HaveWholeRuns, RunIsWhole, RunsAreWhole}
-use Rattle.mk_laws.proofs.Behind.{phase_kind}
 use Rattle.mk_laws.proofs.Releasing.{headed_here, headed_used, used_here, used_other}
+use Rattle.mk_laws.proofs.{Behind.phase_kind, Unmapping.part_count, Unmapping.small_count}
+use Rattle.mk_laws.specs.WholeRuns.{HasLaterPage, HaveWholeRuns, RunIsWhole, RunsAreWhole}
 
 -- Where nothing is on its way, each page with a header is one of a claim's.
 
@@ -229,14 +227,14 @@ emptied w plot p n lt x whole q h = elim (cases_eq q p) [
           free.2,
         )
         page d (inl at) (inr free) = inr (
-          ap (λ i. header_on (with_header_on w.pages p n) i) at ∙ headed_here w.pages p n lt ∙ x.is,
+          ap (header_on (with_header_on w.pages p n)) at ∙ headed_here w.pages p n lt ∙ x.is,
           headed_used w.pages p n q lt ∙ free.1,
           free.2,
         )
         page d (inl at) (inl is) =
             let head : head_page w p ≡ q = rw (← at) (rw is.1 (let back : q + d - d ≡ q = omega arith in back)) in
             inr (
-              ap (λ i. header_on (with_header_on w.pages p n) i) at ∙ headed_here w.pages p n lt ∙ x.is,
+              ap (header_on (with_header_on w.pages p n)) at ∙ headed_here w.pages p n lt ∙ x.is,
               headed_used w.pages p n q lt ∙ rw (← head) x.unused,
               inl refl,
             )
@@ -280,14 +278,14 @@ used_whole c w f plot p n lt four (ItGivesBack on x) whole = given_back w.now.wo
 whole_by_kind : (c : Config) (w : World) (seat : Seat) (x : Step) (plot : Plot) → Before c w → Meets c w.now seat x
     → is_releasing_behind x (is_phase w.now.words 4) ≡ true
     → HaveWholeRuns w.now.words.pages true plot → HaveWholeRuns (WorldBehind c w seat x).now.words.pages true plot
-whole_by_kind c w seat (step.Head p n) plot b h on whole =
+whole_by_kind c w seat (Step.Head p n) plot b h on whole =
     head_whole c w (flight_of w.now seat) plot p n (page_within c w p b h.range) on
     (head_step c w.now _ p n h.holder) whole
-whole_by_kind c w seat (step.Used p n) plot b h on whole =
+whole_by_kind c w seat (Step.Used p n) plot b h on whole =
     used_whole c w (flight_of w.now seat) plot p n (page_within c w p b h.range) on
     (used_step c w.now _ p n h.holder) whole
-whole_by_kind c w seat step.Reg plot b h on whole = rw (reg_leaves_ground c w seat).pages whole
-whole_by_kind c w seat (step.Tally n v) plot b h on whole = rw (tally_ground w.now.words n v).pages whole
+whole_by_kind c w seat Step.Reg plot b h on whole = rw (reg_leaves_ground c w seat).pages whole
+whole_by_kind c w seat (Step.Tally n v) plot b h on whole = rw (tally_ground w.now.words n v).pages whole
 whole_by_kind c w seat _ plot b h on whole = whole
 
 pub whole_behind : (c : Config) (w : World) (seat : Seat) (x : Step) → Before c w → Meets c w.now seat x
@@ -296,7 +294,6 @@ whole_behind c w seat x b h whole laid =
     let v : World = WorldBehind c w seat x in
     let plot : Plot = plot_of (object_now c v.now) v.now.seats.holding.placing in
     elim (cases_Bool (is_releasing_behind x (is_phase w.now.words 4))) [
-      | inl on ↦ rw (phase_kind c w seat x h ∙ on) (whole_by_kind c w seat x plot b h on
-          (replotted w.now.words.pages _ plot _ whole))
+      | inl on ↦ rw (phase_kind c w seat x h ∙ on) (whole_by_kind c w seat x plot b h on (replotted _ _ plot _ whole))
       | inr off ↦ whole_quiet _ laid.scene (phase_kind c w seat x h ∙ off)
     ]

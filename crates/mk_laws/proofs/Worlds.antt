@@ -2,22 +2,20 @@
 use Rattle.mk_laws.proofs.Vocabulary.{Block, Config, Free, HasItsHeaders, Header, Invariant, IsMarking, IsSized}
 use Rattle.mk_laws.proofs.Vocabulary.{IsStorage, IsWordOf, Later, LeafBlock, LeafRun, MayHoldWords, NeverState, Object}
 use Rattle.mk_laws.proofs.Vocabulary.{OfBlock, OfLater, OfLeafBlock, OfLeafRun, OfRun, Option, PlacedAllocation}
-use Rattle.mk_laws.proofs.Vocabulary.{PointsInto, Run, RunPages, ShowsPart, Some, StandsOnHeap, World, and_parts, ap}
+use Rattle.mk_laws.proofs.Vocabulary.{PointsInto, Run, RunPages, ShowsPart, Some, StandsOnHeap, World, ℕ, and_parts, ap}
 use Rattle.mk_laws.proofs.Vocabulary.{arith, cell_of_allocation, eqb-true, false, first_page_shows, has_no_pointers}
 use Rattle.mk_laws.proofs.Vocabulary.{head_page_under, header_in, inl, inr, is_left_unmarked, is_phase, is_small_object}
 use Rattle.mk_laws.proofs.Vocabulary.{large_words, leb-true, ltb-true, nat_le, nat_lt, object_placed, or_parts}
 use Rattle.mk_laws.proofs.Vocabulary.{page_at_address, pages_made, part_has_no_pointers, phase_of, placed_at}
 use Rattle.mk_laws.proofs.Vocabulary.{pointed_cell, run_begins, run_count, shown, slice_index, small}
 use Rattle.mk_laws.proofs.Vocabulary.{standing_has_storage, stands_on, storage_of, storage_words, subst, sym, true}
-use Rattle.mk_laws.proofs.Vocabulary.{typed_size, ℕ, ◌*◌, ◌-◌, ◌/◌, ◌<◌, ◌∙◌, ◌≡◌, ◌≢◌, ◌⊎◌}
-use Rattle.mk_laws.proofs.Basics.{KnownWorld, mapped_stays}
+use Rattle.mk_laws.proofs.Vocabulary.{typed_size, ◌*◌, ◌-◌, ◌/◌, ◌<◌, ◌∙◌, ◌≡◌, ◌≢◌, ◌⊎◌}
 use Rattle.mk_geom.proofs.Standing.{stands_at_first, stands_from}
-use Rattle.mk_core.proofs.PointedAllocations.{pointers_come_back}
 use Rattle.mk_core.proofs.PointedPages.{PointsTo, points_to}
-use Rattle.mk_core.proofs.StandingAllocations.{pointers_hit}
-use Rattle.mk_laws.specs.ImagePremises as images
+use Rattle.mk_core.proofs.{PointedAllocations.pointers_come_back, StandingAllocations.pointers_hit}
+use Rattle.mk_laws.proofs.{Basics.KnownWorld, Basics.mapped_stays, InvariantJoined.told_to_images}
 use Rattle.mk_laws.specs.ImagePremises.{OfFreedRun, OfMapped, OfReleased}
-use Rattle.mk_laws.proofs.InvariantJoined.{told_to_images}
+use Rattle.mk_laws.specs.ImagePremises as images
 
 -- all that is known of it
 pub record Told (c : Config) (w : World) (n : NeverState) : Type 0 where

@@ -2,7 +2,7 @@
 use Rattle.mk_laws.proofs.Vocabulary.{AreEnabledFrom, AreOfPages, Bool, Caller, Config, Event, HasZeros, Holding}
 use Rattle.mk_laws.proofs.Vocabulary.{IsEnabled, IsReleasedWord, IsWithinLimits, IsWordOfMapped, List, MayHold, None}
 use Rattle.mk_laws.proofs.Vocabulary.{OfFreedRun, OfMapped, OfReleased, OthersAreZero, PlacedAllocation, Seat, Some}
-use Rattle.mk_laws.proofs.Vocabulary.{Step, World, ZeroScene, [], access, accessed_lengths, address_of, and_parts, ap}
+use Rattle.mk_laws.proofs.Vocabulary.{Step, World, ZeroScene, ℕ, access, accessed_lengths, address_of, and_parts, ap}
 use Rattle.mk_laws.proofs.Vocabulary.{arith, at_rest, caller_number, cases_Bool, cell_of_allocation, cells_begin}
 use Rattle.mk_laws.proofs.Vocabulary.{enabled_meets, eqb-true, false, first_moment, first_world, flight_of, granted}
 use Rattle.mk_laws.proofs.Vocabulary.{has_bit_without, head_step, held_by_pages, histories_keep_lengths, if◌then◌else◌}
@@ -10,24 +10,19 @@ use Rattle.mk_laws.proofs.Vocabulary.{inl, inr, is_decided, is_heap_store, is_le
 use Rattle.mk_laws.proofs.Vocabulary.{is_released_there, is_run_gone, left, left_from, map, may_end, nothing_done}
 use Rattle.mk_laws.proofs.Vocabulary.{object_placed, placed_at, quarantine_step, refl, reg_access, register_met, subst}
 use Rattle.mk_laws.proofs.Vocabulary.{sym, target, true, true≢false, used_step, with_released, word_accessed, word_met}
-use Rattle.mk_laws.proofs.Vocabulary.{word_points, world_behind, zero_lengths, zero_scene_with, ℕ, ◌*◌, ◌++◌, ◌==◌, ◌∙◌}
-use Rattle.mk_laws.proofs.Vocabulary.{◌∷◌, ◌≡◌}
+use Rattle.mk_laws.proofs.Vocabulary.{word_points, world_behind, zero_lengths, zero_scene_with, [], ◌*◌, ◌++◌, ◌==◌}
+use Rattle.mk_laws.proofs.Vocabulary.{◌∙◌, ◌∷◌, ◌≡◌}
+use Rattle.mk_core.proofs.{PointedPages.pointed_within, RegisterAccesses.register_leaves, RegisterAccesses.tally_leaves}
 use Rattle.mk_laws.proofs.Basics.{Known, Meets, WorldBehind, at_first, changed_words, is_releasing_behind}
 use Rattle.mk_laws.proofs.Basics.{known_at_first, known_behind, known_left, mapped_stays, none_released}
-use Rattle.mk_core.specs.declared.events.Step.TheVariants as step
-use Rattle.mk_core.proofs.PointedPages.{pointed_within}
-use Rattle.mk_laws.proofs.LayoutByKind.{off_at}
-use Rattle.mk_laws.proofs.Dropped.{settled_page}
-use Rattle.mk_laws.proofs.QuarantineByKind.{shown_at}
-use Rattle.mk_laws.proofs.QuarantineChanges.{index_small}
-use Rattle.mk_laws.proofs.MappedWords.{word_of_longer, word_of_fresh, word_of_unreleased}
-use Rattle.mk_laws.proofs.ZerosPageKinds.{gone_word, head_kind, used_kind, quar_kind}
-use Rattle.mk_laws.proofs.ChangedScenes.{Before, here, standing, early_words, stored_words, wiped_words, kept_heap}
-use Rattle.mk_core.proofs.RegisterAccesses.{register_leaves, tally_leaves}
-use Rattle.mk_laws.specs.LayoutLaws as layout
-use Rattle.mk_laws.proofs.LayoutHistories.{histories_are_laid_out}
 use Rattle.mk_laws.proofs.Behind.{phase_kind, releasing_marks}
-use Rattle.mk_laws.specs.ZeroLaws.{ZeroPremises, ZeroPremisesFrom, EventsKeepTheZeros, ZerosStandBehindLists}
+use Rattle.mk_laws.proofs.ChangedScenes.{Before, early_words, here, kept_heap, standing, stored_words, wiped_words}
+use Rattle.mk_laws.proofs.MappedWords.{word_of_fresh, word_of_longer, word_of_unreleased}
+use Rattle.mk_laws.proofs.ZerosPageKinds.{gone_word, head_kind, quar_kind, used_kind}
+use Rattle.mk_laws.proofs.{Dropped.settled_page, LayoutByKind.off_at, LayoutHistories.histories_are_laid_out}
+use Rattle.mk_laws.proofs.{QuarantineByKind.shown_at, QuarantineChanges.index_small}
+use Rattle.mk_laws.specs.ZeroLaws.{EventsKeepTheZeros, ZeroPremises, ZeroPremisesFrom, ZerosStandBehindLists}
+use Rattle.mk_laws.specs.LayoutLaws as layout
 
 -- What each kind of event makes of the words that may hold values.
 
@@ -39,18 +34,16 @@ take_kind c w seat x b z false is = z
 take_kind c w seat x b z true is = subst (λ (y : Holding). OthersAreZero c (record (here w) { run = y.freed }))
     (b.known.orderly.free (eqb-true w.now.words.turn 0 is)) z
 
-give_kind : (c : Config) (w : World) (seat : Seat) → Meets c w.now seat step.Give → HasZeros c w
+give_kind : (c : Config) (w : World) (seat : Seat) → Meets c w.now seat Step.Give → HasZeros c w
     → OthersAreZero c (record (here w) { run = None })
 give_kind c w seat h z = changed_words c (here w) (record (here w) { run = None }) z (λ n ne. ne) (λ n m. OfMapped m)
     (λ n some r. OfReleased r) (λ n some f. absurd (some (gone_word w.now.words w.now.seats.holding.freed n gone f)))
   where
     gone : is_run_gone w.now.words w.now.seats.holding.freed ≡ true
     gone =
-        let decided : Bool = is_decided (flight_of w.now seat).stage in
         let gone : Bool = is_run_gone w.now.words w.now.seats.holding.freed in
         let counts : Bool = w.now.words.held == held_by_pages w.now.words in
-        let a = and_parts _ _ h.holder in
-        (and_parts decided gone (and_parts _ counts a.0).0).1
+        (and_parts (is_decided (flight_of w.now seat).stage) gone (and_parts _ counts (and_parts _ _ h.holder).0).0).1
 
 -- `grant` and `begin`
 abbrev with_allocations : World → List PlacedAllocation → ZeroScene
@@ -66,7 +59,7 @@ abbrev released_scene : Config → World → ZeroScene
 released_scene c w =
     record (zero_scene_with true w.now.words.marks w) { allocations = map (with_released c w.now.words) w.allocations }
 
-release_kind : (c : Config) (w : World) (seat : Seat) → Before c w seat step.Release → is_phase w.now.words 3 ≡ true
+release_kind : (c : Config) (w : World) (seat : Seat) → Before c w seat Step.Release → is_phase w.now.words 3 ≡ true
     → HasZeros c w → OthersAreZero c (released_scene c w)
 release_kind c w seat b three z =
     early_words c w (released_scene c w) (off_at w 3 three (λ e. absurd (omega arith))) z (λ n ne. ne) mapped
@@ -76,7 +69,7 @@ release_kind c w seat b three z =
     mapped n m =
         let a : PlacedAllocation = placed_at w.allocations m.number in
         let u = mapped_stays c a m.mapped in
-        let st = standing c w seat step.Release m.number b u in
+        let st = standing c w seat Step.Release m.number b u in
         let shown = shown_at c w m.number b.others.laid_out u in
         let begins = cells_begin c w.now.words a b.limits st.stands st.headers in
         let first = begins.0 in
@@ -106,34 +99,33 @@ end_kind c w own z = changed_words c (here w) _ z (λ n ne. ne) (λ n m. OfMappe
     left n r =
         let lt = (pointed_within c.pages w.now.words (address_of n) r.cell r.pointed).0 in
         let none = (settled_page w.now.words c.pages r.cell.page own lt).none r.cell.index in
-        let is = (and_parts (is_phase w.now.words 4) _ r.released).1 in
-        true≢false (sym is ∙ has_bit_without _ _ r.cell.index ∙ none)
+        true≢false (sym (and_parts (is_phase w.now.words 4) _ r.released).1 ∙ has_bit_without _ _ r.cell.index ∙ none)
 
 -- each kind of event, whatever the seat
 pub by_kind : (c : Config) (w : World) (seat : Seat) (x : Step) → Before c w seat x → Meets c w.now seat x
     → HasZeros c w → OthersAreZero c (zero_scene_with (is_releasing_behind x (is_phase w.now.words 4)) w.now.words.marks
     (WorldBehind c w seat x))
-by_kind c w seat (step.Take o) b h z = take_kind c w seat (step.Take o) b z (w.now.words.turn == 0) refl
-by_kind c w seat step.Give b h z = give_kind c w seat h z
-by_kind c w seat step.Reg b h z = kept_heap c w _
+by_kind c w seat (Step.Take o) b h z = take_kind c w seat (Step.Take o) b z (w.now.words.turn == 0) refl
+by_kind c w seat Step.Give b h z = give_kind c w seat h z
+by_kind c w seat Step.Reg b h z = kept_heap c w _
     (register_leaves w.now.words (caller_number seat) (register_met (flight_of w.now seat) (flight_of w.now seat).stage)
     (reg_access (flight_of w.now seat) (flight_of w.now seat).stage)) z
-by_kind c w seat (step.Tally n v) b h z = kept_heap c w _ (tally_leaves w.now.words n v) z
-by_kind c w seat step.Write b h z = stored_words c (here w) (word_met (flight_of w.now seat)) _ (b.others.stored refl) z
-by_kind c w seat step.Cas b h z = stored_words c (here w) (word_met (flight_of w.now seat)) _ (b.others.stored refl) z
-by_kind c w seat (step.Wipe n) b h z = wiped_words c (here w) n z
-by_kind c w seat (step.Head p v) b h z =
+by_kind c w seat (Step.Tally n v) b h z = kept_heap c w _ (tally_leaves w.now.words n v) z
+by_kind c w seat Step.Write b h z = stored_words c (here w) (word_met (flight_of w.now seat)) _ (b.others.stored refl) z
+by_kind c w seat Step.Cas b h z = stored_words c (here w) (word_met (flight_of w.now seat)) _ (b.others.stored refl) z
+by_kind c w seat (Step.Wipe n) b h z = wiped_words c (here w) n z
+by_kind c w seat (Step.Head p v) b h z =
     head_kind c w (flight_of w.now seat) p v z (head_step c w.now (flight_of w.now seat) p v h.holder)
-by_kind c w seat (step.Used p v) b h z =
+by_kind c w seat (Step.Used p v) b h z =
     used_kind c w (flight_of w.now seat) p v z (used_step c w.now (flight_of w.now seat) p v h.holder)
-by_kind c w seat (step.Quar p v) b h z =
+by_kind c w seat (Step.Quar p v) b h z =
     quar_kind c w seat p v b h z (quarantine_step c w.now (flight_of w.now seat) p v h.holder)
-by_kind c w seat step.Grant b h z =
+by_kind c w seat Step.Grant b h z =
     other_allocations c w (w.allocations ++ granted c w.now (flight_of w.now seat) ∷ []) z
     (word_of_longer c w.allocations (granted c w.now (flight_of w.now seat)))
-by_kind c w seat step.Begin b h z = other_allocations c w _ z (word_of_fresh c w.allocations)
-by_kind c w seat step.Release b h z = release_kind c w seat b h.phase z
-by_kind c w seat step.End b h z = end_kind c w h.holder z
+by_kind c w seat Step.Begin b h z = other_allocations c w _ z (word_of_fresh c w.allocations)
+by_kind c w seat Step.Release b h z = release_kind c w seat b h.phase z
+by_kind c w seat Step.End b h z = end_kind c w h.holder z
 by_kind c w seat _ b h z = z
 
 -- While no cell is released, marks say nothing.

@@ -1,34 +1,29 @@
 -- Steps on the pages: `head`, `used` and `quar`.
-use Rattle.mk_laws.proofs.Vocabulary.{Bool, Cell, Config, Drops, Empties, Flight, GivesBack, HasZeros, HeadStep, Header}
+use Rattle.mk_laws.proofs.Vocabulary.{Bool, Cell, Config, Drops, Empties, Flight, GivesBack, HasZeros, Header, HeadStep}
 use Rattle.mk_laws.proofs.Vocabulary.{IsFreedWord, IsReleasedWord, IsWithinLimits, IsWordOfMapped, ItCarves, ItDrops}
 use Rattle.mk_laws.proofs.Vocabulary.{ItEmpties, ItFrees, ItGivesBack, ItTakes, ItTakesSnapshot, ItUnmaps, Later, List}
 use Rattle.mk_laws.proofs.Vocabulary.{MayHold, None, OfFreedRun, OfMapped, OfReleased, Option, OthersAreZero, Page}
-use Rattle.mk_laws.proofs.Vocabulary.{PlacedAllocation, QuarantineStep, RunPages, Seat, ShowsPart, Some, Storage}
-use Rattle.mk_laws.proofs.Vocabulary.{UsedStep, Words, World, ZeroScene, address_of, all_below-at, and_from, and_parts}
-use Rattle.mk_laws.proofs.Vocabulary.{ap, arith, cases_Bool, cell_at, cell_freed, cell_of_allocation, cell_words}
-use Rattle.mk_laws.proofs.Vocabulary.{eqb-true, false, first_page_shows, first_word, flight_of, free_page, freed_cell}
-use Rattle.mk_laws.proofs.Vocabulary.{freed_leaves, freed_where_it_stands, frees, ground_of, has_bit, has_bit_without}
-use Rattle.mk_laws.proofs.Vocabulary.{head_page, head_page_under, header_at, header_in, header_of, header_on}
-use Rattle.mk_laws.proofs.Vocabulary.{if◌then◌else◌, inl, inr, is_mapped, is_phase, is_released_there, is_run_gone}
-use Rattle.mk_laws.proofs.Vocabulary.{is_run_unmapped, is_small_object, large_words, le-leb, leb-true, lt-ltb, ltb-true}
-use Rattle.mk_laws.proofs.Vocabulary.{map, nat_le, nat_lt, not, object_now, object_placed, or_else, page_at_address}
-use Rattle.mk_laws.proofs.Vocabulary.{pages_made, placed_at, pointed_cell, refl, run_begins, run_of_cell, set_by}
-use Rattle.mk_laws.proofs.Vocabulary.{shows_on, slice_index, slice_set, stands_in, storage_words, subst, sym, target}
-use Rattle.mk_laws.proofs.Vocabulary.{true, true≢false, typed_size, undecided_free, used_at, used_on, without}
-use Rattle.mk_laws.proofs.Vocabulary.{words_are_zero, words_under, zero_scene_with, ℕ, ◌%◌, ◌&&◌, ◌*◌, ◌+◌, ◌-◌, ◌/◌}
-use Rattle.mk_laws.proofs.Vocabulary.{◌<◌, ◌==◌, ◌^◌, ◌∙◌, ◌≡◌, ◌≢◌, ◌≤◌, ◌⊎◌}
+use Rattle.mk_laws.proofs.Vocabulary.{PlacedAllocation, QuarantineStep, RunPages, Seat, ShowsPart, Some, Step, Storage}
+use Rattle.mk_laws.proofs.Vocabulary.{UsedStep, Words, World, ZeroScene, ℕ, address_of, all_below-at, and_from}
+use Rattle.mk_laws.proofs.Vocabulary.{and_parts, ap, arith, cases_Bool, cell_at, cell_freed, cell_of_allocation}
+use Rattle.mk_laws.proofs.Vocabulary.{cell_words, eqb-true, false, first_page_shows, first_word, flight_of, free_page}
+use Rattle.mk_laws.proofs.Vocabulary.{freed_cell, freed_leaves, freed_where_it_stands, frees, ground_of, has_bit}
+use Rattle.mk_laws.proofs.Vocabulary.{has_bit_without, head_page, head_page_under, header_at, header_in, header_of}
+use Rattle.mk_laws.proofs.Vocabulary.{header_on, if◌then◌else◌, inl, inr, is_mapped, is_phase, is_released_there}
+use Rattle.mk_laws.proofs.Vocabulary.{is_run_gone, is_run_unmapped, is_small_object, large_words, le-leb, leb-true}
+use Rattle.mk_laws.proofs.Vocabulary.{lt-ltb, ltb-true, map, nat_le, nat_lt, not, object_now, object_placed, or_else}
+use Rattle.mk_laws.proofs.Vocabulary.{page_at_address, pages_made, placed_at, pointed_cell, refl, run_begins}
+use Rattle.mk_laws.proofs.Vocabulary.{run_of_cell, set_by, shows_on, slice_index, slice_set, stands_in, storage_words}
+use Rattle.mk_laws.proofs.Vocabulary.{subst, sym, target, true, true≢false, typed_size, undecided_free, used_at}
+use Rattle.mk_laws.proofs.Vocabulary.{used_on, without, words_are_zero, words_under, zero_scene_with, ◌%◌, ◌&&◌, ◌*◌}
+use Rattle.mk_laws.proofs.Vocabulary.{◌+◌, ◌-◌, ◌/◌, ◌<◌, ◌==◌, ◌^◌, ◌∙◌, ◌≡◌, ◌≢◌, ◌≤◌, ◌⊎◌}
+use Rattle.mk_core.proofs.ChangedAllocations.{freed_storage}
+use Rattle.mk_core.proofs.{PageSteps.wiped_cell, PointedPages.pointed_head, WordBits.rest_bits}
 use Rattle.mk_laws.proofs.Basics.{IsStanding, Laid, Meets, changed_words, free_has_turn, mapped_stays, none_on_its_way}
 use Rattle.mk_laws.proofs.Basics.{none_set}
-use Rattle.mk_core.proofs.PageSteps.{wiped_cell}
-use Rattle.mk_core.proofs.PointedPages.{pointed_head}
-use Rattle.mk_core.proofs.WordBits.{rest_bits}
+use Rattle.mk_laws.proofs.ChangedScenes.{Before, early_words, here, standing}
+use Rattle.mk_laws.proofs.{Freed.run_large, Freed.standing_cell, LayoutByKind.off_at, MappedWords.word_of_changed}
 use Rattle.mk_laws.specs.Zeros.{first_word_on}
-use Rattle.mk_core.proofs.ChangedAllocations.{freed_storage}
-use Rattle.mk_laws.proofs.Freed.{run_large, standing_cell}
-use Rattle.mk_laws.proofs.MappedWords.{word_of_changed}
-use Rattle.mk_core.specs.declared.events.Step.TheVariants as step
-use Rattle.mk_laws.proofs.LayoutByKind.{off_at}
-use Rattle.mk_laws.proofs.ChangedScenes.{Before, here, standing, early_words}
 
 -- Words of released cells, after the steps of releasing.
 
@@ -77,21 +72,20 @@ emptied_word c w is_gone p v n h r =
         (λ e. absurd (ne e)) refl
 
     unused : head_page w.now.words p ≡ r.cell.page → ⊥
-    unused e = none_set _ r.cell.index (ap (λ q. used_at w.now.words q) (sym e) ∙ h.unused) r.used
+    unused e = none_set _ r.cell.index (ap (used_at w.now.words) (sym e) ∙ h.unused) r.used
 
     not_here : page_at_address (address_of n) ≢ p
-    not_here e = unused (ap (λ q. head_page w.now.words q) (sym e)
+    not_here e = unused (ap (head_page w.now.words) (sym e)
         ∙ sym (pointed_head c.pages w.now.words (address_of n) r.cell r.pointed))
 
     not_there : r.cell.page ≢ p
-    not_there e = unused (ap (λ q. head_page w.now.words q) (sym e) ∙ own_head _ r.cell.page _ n r.to r.from)
+    not_there e = unused (ap (head_page w.now.words) (sym e) ∙ own_head _ r.cell.page _ n r.to r.from)
 
 -- A used word's step leaves all headers.
 pub same_headers : (pages : List Page) (p v q : ℕ)
     → header_on (slice_set pages p (record { header = header_on pages p; used = v })) q ≡ header_on pages q
 same_headers pages p v q =
-    set_by (λ (x : Page). x.header ≡ header_on pages q) pages p q _ free_page (λ e. ap (λ i. header_on pages i) (sym e))
-    refl
+    set_by (λ (x : Page). x.header ≡ header_on pages q) pages p q _ free_page (λ e. ap (header_on pages) (sym e)) refl
 
 -- `used` (b): the words of a cell that is given back are 0
 pub unwiped_word : (c : Config) (w : World) (is_gone : Cell → Bool) (p v n : ℕ) → GivesBack w.now.words p v
@@ -116,7 +110,7 @@ unwiped_word c w is_gone p v n h some r = kept_word c w.now.words.pages
         let from = r.from in
         let to = r.to in
         let at : first_word w.now.words cell + (n - first_word w.now.words cell) ≡ n = omega arith in
-        some (ap (λ i. slice_index w.now.words.heap i) (sym at) ∙ eqb-true _ 0 (all_below-at _ _
+        some (ap (slice_index w.now.words.heap) (sym at) ∙ eqb-true _ 0 (all_below-at _ _
         (λ i. slice_index w.now.words.heap (first_word w.now.words cell + i) == 0) zero (omega arith)))
 
     still : r.cell.page ≡ p → has_bit v r.cell.index ≡ true
@@ -133,7 +127,7 @@ dropped_word c w p f v n h r =
       cell = r.cell;
       small = r.small;
       released = set_by (λ x. has_bit (without x (slice_index w.now.words.marks r.cell.page)) r.cell.index ≡ true)
-          w.now.words.snapshot p r.cell.page v 0 still r.released;
+          _ p r.cell.page v 0 still r.released;
       used = r.used;
       pointed = r.pointed;
       from = r.from;
@@ -142,17 +136,16 @@ dropped_word c w p f v n h r =
   where
     bits : (has_bit (slice_index w.now.words.snapshot r.cell.page) r.cell.index ≡ true)
         × (not (has_bit (slice_index w.now.words.marks r.cell.page) r.cell.index) ≡ true)
-    bits = and_parts _ _ (sym (has_bit_without _ _ r.cell.index) ∙ r.released)
+    bits = and_parts _ _ (sym (has_bit_without _ _ _) ∙ r.released)
 
     still : r.cell.page ≡ p → has_bit (without v (slice_index w.now.words.marks r.cell.page)) r.cell.index ≡ true
-    still e = has_bit_without v _ r.cell.index ∙ and_from _ _
-        kept bits.1
+    still e = has_bit_without v _ _ ∙ and_from _ _ kept bits.1
       where
         kept : has_bit v r.cell.index ≡ true
         kept = elim (cases_Bool (has_bit v r.cell.index)) [
           | inl in_it ↦ in_it
           | inr out ↦
-              let gone = h.gone r.cell.index
+              let gone = h.gone _
               (ap (λ q. has_bit (slice_index w.now.words.snapshot q) r.cell.index) (sym e) ∙ bits.0) out in
               absurd (true≢false (sym r.used ∙ ap (λ q. has_bit (used_at w.now.words q) r.cell.index) e ∙ gone.1))
         ]
@@ -164,13 +157,13 @@ pub gone_word : (w : Words) (freed : Option RunPages) (n : ℕ) → is_run_gone 
     → slice_index w.heap n ≡ 0
 gone_word w freed n gone f =
     let run : RunPages = f.run in
-    let there : is_run_gone w (Some run) ≡ true = ap (λ (x : Option RunPages). is_run_gone w x) (sym f.there) ∙ gone in
+    let there : is_run_gone w (Some run) ≡ true = ap (is_run_gone w) (sym f.there) ∙ gone in
     let zero = (and_parts (is_run_unmapped w run) (words_are_zero w (64 * run.page) (64 * run.count)) there).1 in
     let parts = and_parts (nat_le run.page (n / 64)) (nat_lt (n / 64 - run.page) run.count) f.word in
     let from = leb-true run.page (n / 64) parts.0 in
     let to = ltb-true (n / 64 - run.page) run.count parts.1 in
     let at : 64 * run.page + (n - 64 * run.page) ≡ n = omega arith in
-    ap (λ i. slice_index w.heap i) (sym at) ∙ eqb-true (slice_index w.heap (64 * run.page + (n - 64 * run.page))) 0
+    ap (slice_index w.heap) (sym at) ∙ eqb-true (slice_index w.heap (64 * run.page + (n - 64 * run.page))) 0
     (all_below-at (64 * run.count) (n - 64 * run.page) (λ i. slice_index w.heap (64 * run.page + i) == 0) zero
     (omega arith))
 
@@ -269,8 +262,8 @@ first_there : (x y : Option RunPages) (n : ℕ) → IsFreedWord x n → IsFreedW
 first_there None y n f = let e : None ≡ Some f.run = f.there in cc
 first_there (Some run) y n f = f
 
-quar_early : (c : Config) (w : World) (seat : Seat) (p v : ℕ) → Before c w seat (step.Quar p v)
-    → Meets c w.now seat (step.Quar p v) → is_phase w.now.words 4 ≡ false → HasZeros c w
+quar_early : (c : Config) (w : World) (seat : Seat) (p v : ℕ) → Before c w seat (Step.Quar p v)
+    → Meets c w.now seat (Step.Quar p v) → is_phase w.now.words 4 ≡ false → HasZeros c w
     → (cell : Option Cell) → cell_freed c.pages w.now.words (flight_of w.now seat) p v ≡ cell
     → OthersAreZero c (quarantined (is_phase w.now.words 4) w p v cell)
 quar_early c w seat p v b h off z None is =
@@ -296,7 +289,7 @@ quar_early c w seat p v b h off z (Some cell) is =
         let laid : Laid c (object_now c w.now) false w (ground_of w) =
         subst (λ four. Laid c (object_now c w.now) four w (ground_of w)) off b.others.laid_out in
         let u = mapped_stays c (placed_at w.allocations m.number) m.mapped in
-        elim (word_of_freed c w cell n b.limits m (standing c w seat (step.Quar p v) m.number b u)
+        elim (word_of_freed c w cell n b.limits m (standing c w seat (Step.Quar p v) m.number b u)
         (standing_cell c (object_now c w.now) w cell b.lengths.pages (b.others.target cell frees.at) laid m.number u)) [
           | inl stays ↦ OfMapped stays
           | inr freed ↦ OfFreedRun (first_there (run_of_cell w.now.words (Some cell)) w.now.seats.holding.freed n freed)
@@ -309,8 +302,8 @@ quar_late : (c : Config) (w : World) (p v : ℕ)
 quar_late c w p v keeps z = changed_words c _ _ z (λ n ne. ne)
     (λ n m. OfMapped (word_where_none_is_freed c w n m)) (λ n some r. OfReleased (keeps n r)) (λ n some f. OfFreedRun f)
 
-pub quar_kind : (c : Config) (w : World) (seat : Seat) (p v : ℕ) → Before c w seat (step.Quar p v)
-    → Meets c w.now seat (step.Quar p v) → HasZeros c w → QuarantineStep c w.now (flight_of w.now seat) p v
+pub quar_kind : (c : Config) (w : World) (seat : Seat) (p v : ℕ) → Before c w seat (Step.Quar p v)
+    → Meets c w.now seat (Step.Quar p v) → HasZeros c w → QuarantineStep c w.now (flight_of w.now seat) p v
     → OthersAreZero c (quarantined (is_phase w.now.words 4) w p v
     (cell_freed c.pages w.now.words (flight_of w.now seat) p v))
 quar_kind c w seat p v b h z (ItFrees off x) = quar_early c w seat p v b h off z _ refl

@@ -75,8 +75,8 @@ fn scan_words(
 }
 
 /// Looks at each word of a group of a gray cell, and marks what it points into. It isn't inlined, since few groups have
-/// a word that may be an address of the heap. It is told the group, and not its first word, so that the loop over groups
-/// steps through the heap words alone.
+/// a word that may be an address of the heap. It is told the group, and not its first word, so that the loop over
+/// groups steps through the heap words alone.
 #[inline(never)]
 fn scan_apart(
     words: &Words,

@@ -1,4 +1,4 @@
-use Rattle.mk_laws.proofs.GuardHistories.{marking_guards, close_finds_marks_closed, stopped_marks_are_closed}
+use Rattle.mk_laws.proofs.GuardHistories.{close_finds_marks_closed, marking_guards, stopped_marks_are_closed}
 use Rattle.mk_laws.proofs.guard_laws.marks_are_closed.Goals as goal
 
 pub returns-clause-guarded : goal.returns-clause-guarded

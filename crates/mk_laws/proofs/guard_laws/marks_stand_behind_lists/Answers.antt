@@ -1,4 +1,4 @@
-use Rattle.mk_laws.proofs.GuardHistories.{others_at_first, marks_stand_behind_lists}
+use Rattle.mk_laws.proofs.GuardHistories.{marks_stand_behind_lists, others_at_first}
 use Rattle.mk_laws.proofs.guard_laws.marks_stand_behind_lists.Goals as goal
 
 pub returns-clause-at_first : goal.returns-clause-at_first

@@ -1,5 +1,5 @@
-use Rattle.mk_laws.proofs.FreeCells as cells
 use Rattle.mk_laws.proofs.FreeWords.{unmapped_words_are_zero, words_of_none_are_zero}
+use Rattle.mk_laws.proofs.FreeCells as cells
 use Rattle.mk_laws.proofs.reading_laws.free_cells_are_zero.Goals as goal
 
 pub returns-clause-of_none : goal.returns-clause-of_none

@@ -7,7 +7,8 @@ use Rattle.mk_check.specs.declared.feeding.tree.Node.{Node}
 use Rattle.mk_check.specs.declared.feeding.tree.Node.TheVariants as node
 use Rattle.mk_check.specs.Feed.{refusal_line, refusal_text}
 use Rattle.mk_check.specs.Steps.{op_asked, after_answer, stop_on_answer}
-use Rattle.mk_check.specs.Trees.{IsTree, Place, PlaceFits, PlaceIsWithin, StopsAt, left_in, kept_in, stopped_in, node_at, with_kept}
+use Rattle.mk_check.specs.Trees.{IsTree, Place, PlaceFits, PlaceIsWithin, StopsAt, left_in, kept_in, stopped_in}
+use Rattle.mk_check.specs.Trees.{node_at, with_kept}
 use Rattle.mk_check.specs.Feeding.{FeedState, StandsForSome, IsAtStop, IsFeed, op_of_node, op_in, work_left}
 use Rattle.mk_check.specs.Feeding.{TakesAnswer}
 use Rattle.mk_check.proofs.Moves.{line_fits}
