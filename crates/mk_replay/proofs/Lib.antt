@@ -4,7 +4,6 @@ pub mod RunLaws
 pub mod UnderWay
 pub mod AskedCalls
 pub mod AdmittedSchedules
-mod EntriesRead
 pub mod FormsInTurn
 mod ListedForms
 mod Parts

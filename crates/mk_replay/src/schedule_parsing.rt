@@ -92,6 +92,7 @@ fn text_length(lines: &[&[u8]]) -> usize
 }
 
 /// The events of lines, the first of which has this number.
+#[tactic(auto, unfolding(crate::specs::Schedules::entries_of_lines))]
 fn entries(alloc: Global, first: u64, lines: &[&[u8]]) -> Result<Vec<Entry>, TextStop>
     requires { first + length lines.now < 2 ^ 64 }
     ensures entries { IfOk result (λ entries. entries_of_lines first (texts_of lines.now) ≡ Ok entries.items) }
