@@ -8,6 +8,7 @@
 
 mod call_steps;
 mod finals;
+mod gates;
 mod granting;
 mod handing;
 mod homes;
@@ -30,10 +31,10 @@ mod words;
 
 pub use call_steps::Held;
 pub use finals::Final;
+pub use gates::{AllHeld, AnyGates, Gates};
 pub use laws::{calls_go_on, steps_stand_behind_others, the_end_is_behind_an_over};
 pub use marker_passes::MarkerPass;
 pub use passes::Pass;
 pub use stop_steps::InCall;
-pub use stopped::Stopped;
-pub use turns::{Busy, Turn};
+pub use turns::{Busy, Stopped, Turn, TurnAt};
 pub use words::Words;
