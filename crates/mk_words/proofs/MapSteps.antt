@@ -257,8 +257,7 @@ pub as_carried : {held : Bool} (p : PassState) (carried same : Carried) → same
 as_carried {held} p carried same is turn =
     subst (λ (k : Carried). IsTurnWithMap held p k.op k.cell k.map) (sym is) turn
 
--- A step that takes no cell, and leaves the gates or changes what isn't known, leaves the turn, where its map shows what
--- is left then.
+-- A step that takes no cell leaves the turn, where its map shows what is left then, and the gates are as known.
 pub turn_with_map : {held : Bool} (p : PassState) (s : Step) (q : PassState) (a : Acts p s q) (o : Option Op)
     (cell : Option Cell) (old new : KnownPages) → turn_stays s ≡ true → may_take_cell s ≡ false
     → GatesAre held (record { pass = q; op = o }) → IsMapOf new (now_of q).words → IsTurnWithMap held p o cell old

@@ -20,8 +20,8 @@ use mk_core::{Access, Seat, Step, TableWord};
 use mk_never::Op;
 use std::marker::{Model, PhantomData};
 
-/// The turn of a table while the gates are as `G` says, with the pass of the seat that has it, and the map of the heap's
-/// pages, which travels with it.
+/// The turn of a table while the gates are as `G` says, with the pass of the seat that has it, and the map of the
+/// heap's pages, which travels with it.
 #[derive(Drop)]
 pub struct TurnAt<G: Gates> {
     pub(crate) pass: TurnToken,
@@ -74,7 +74,11 @@ impl Pass {
             Ok((pass, mut carried)) => {
                 pass.is_in_order();
                 carried.begin(op);
-                Ok(TurnAt { pass, carried, gates: PhantomData })
+                Ok(TurnAt {
+                    pass,
+                    carried,
+                    gates: PhantomData,
+                })
             }
             Err((own, found)) => Err((Pass { own }, Busy { holder: found - 1 })),
         }
