@@ -74,7 +74,11 @@ impl Pass {
             Ok((pass, mut carried)) => {
                 pass.is_in_order();
                 carried.begin(op);
-                Ok(TurnAt { pass, carried, gates: PhantomData })
+                Ok(TurnAt {
+                    pass,
+                    carried,
+                    gates: PhantomData,
+                })
             }
             Err((own, found)) => Err((Pass { own }, Busy { holder: found - 1 })),
         }

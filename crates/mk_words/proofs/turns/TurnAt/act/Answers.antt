@@ -1,7 +1,6 @@
-use Rattle.std.proofs.Common.{subst, sym, ap, ◌∙◌, ◌≡◌, Option}
-use Rattle.mk_never.specs.declared.operations.Op.{Op}
+use Rattle.std.proofs.Common.{subst}
 use Rattle.mk_words.specs.States.{TurnState}
-use Rattle.mk_words.specs.TurnSteps.{Acts, GatesAre}
+use Rattle.mk_words.specs.TurnSteps.{Acts}
 use Rattle.mk_words.proofs.TurnSteps.{acts}
 use Rattle.mk_words.proofs.FreeTurns.{hands_none}
 use Rattle.mk_words.proofs.MapSteps.{takes_none, shows_still, turn_with_map}

@@ -25,15 +25,15 @@ invariant_of-self g c =
     turn_still t.pass s f.new.self a c.deref_mut.result.now.op c.deref_mut.result.now.cell c.deref_mut.result.now.map
     c.header_stored.new.self refl refl
     (shows_head t.pass c.args.page c.args.v f.new.self a c.deref_mut.result.now.map c.header_stored.new.self
-          (record {
-            shows = c.header_stored.ensures.shows;
-            freed = c.header_stored.ensures.freed;
-            others = c.header_stored.ensures.others;
-          })
-          (head_known t.pass c.args.page c.args.v c.deref_mut.result.now.map
-          (subst (λ (v : TurnState). IsEnabledTo v.pass (step.Head c.args.page c.args.v)) (sym c.self.view_is)
-          c.requires.enabled) held.shows)
-          held.shows)
+    (record {
+      shows = c.header_stored.ensures.shows;
+      freed = c.header_stored.ensures.freed;
+      others = c.header_stored.ensures.others;
+    })
+    (head_known t.pass c.args.page c.args.v c.deref_mut.result.now.map
+    (subst (λ (v : TurnState). IsEnabledTo v.pass (step.Head c.args.page c.args.v)) (sym c.self.view_is)
+    c.requires.enabled) held.shows)
+    held.shows)
     held
 
 pub returns-clause-acts : goal.returns-clause-acts

@@ -25,12 +25,12 @@ invariant_of-self g c =
     turn_still t.pass s f.new.self a c.deref_mut.result.now.op c.deref_mut.result.now.cell c.deref_mut.result.now.map
     c.marked.new.self refl refl
     (shows_mark t.pass c.args.page c.args.v f.new.self a c.deref_mut.result.now.map c.marked.new.self
-          (record {
-            shows = c.marked.ensures.shows;
-            marked = c.marked.ensures.marked;
-            others = c.marked.ensures.others;
-          })
-          held.shows)
+    (record {
+      shows = c.marked.ensures.shows;
+      marked = c.marked.ensures.marked;
+      others = c.marked.ensures.others;
+    })
+    held.shows)
     held
 
 pub returns-clause-acts : goal.returns-clause-acts

@@ -25,12 +25,12 @@ invariant_of-self g c =
     turn_still t.pass s f.new.self a c.deref_mut.result.now.op c.deref_mut.result.now.cell c.deref_mut.result.now.map
     c.quarantine_stored.new.self refl refl
     (shows_quar t.pass c.args.page c.args.v f.new.self
-          a c.deref_mut.result.now.map c.quarantine_stored.new.self
-          (record {
-            shows = c.quarantine_stored.ensures.shows;
-            uncleaned = c.quarantine_stored.ensures.uncleaned;
-          })
-          held.shows)
+    a c.deref_mut.result.now.map c.quarantine_stored.new.self
+    (record {
+      shows = c.quarantine_stored.ensures.shows;
+      uncleaned = c.quarantine_stored.ensures.uncleaned;
+    })
+    held.shows)
     held
 
 pub returns-clause-acts : goal.returns-clause-acts
