@@ -10,14 +10,14 @@ use Rattle.mk_words.specs.Passes.{state_of, IsInOrder}
 use Rattle.mk_words.specs.Steps.{May, Makes}
 use Rattle.mk_words.proofs.Owed.{same_id}
 use Rattle.mk_words.proofs.HandingCalls.{give_makes, give_order, order_of_view, still_state, took}
-use Rattle.mk_words.proofs.tokens.TurnToken.give.Goals.{After-exchange-empty}
-use Rattle.mk_words.proofs.tokens.TurnToken.give.Goals as goal
+use Rattle.mk_words.proofs.handing.TurnToken.give.Goals.{After-exchange-empty}
+use Rattle.mk_words.proofs.handing.TurnToken.give.Goals as goal
 
 pub exchange-empty-requires : goal.exchange-empty-requires
 exchange-empty-requires c =
     let p = c.self.inside in
     let w = c.words.inside in
-    let slot = c.self.invariant.slot in (
+    let slot = c.self.invariant.slots in (
       same_id c.args.words.now c.args.self w.table.shared.table_id p.token.table_id w.config w.table.shared.key
           p.token.me p.seat c.words.view_is c.self.view_is c.requires.one_table,
       (slot.0, took p.token.me.1 [] slot.0 slot.1),
@@ -40,7 +40,7 @@ same_pass c =
 slot_then : (c : After-exchange-empty) → c.exchange-empty.new.seat.me.1 ≡ (0, c.args.carried.value.map) ∷ []
 slot_then c =
     ap (λ (m : Mine). m.1) c.exchange-empty.ensures.3
-    ∙ ap (λ (l : List (ℕ × KnownPages)). (0, c.args.carried.value.map) ∷ rest l) c.self.invariant.slot.1
+    ∙ ap (λ (l : List (ℕ × KnownPages)). (0, c.args.carried.value.map) ∷ rest l) c.self.invariant.slots.1
 
 pub give_as-requires-clause-order : goal.give_as-requires-clause-order
 give_as-requires-clause-order c = order_then (goal.at.give_as-requires-clause-order c).After-exchange-empty
@@ -79,7 +79,7 @@ invariant_of-result c =
       order =
           give_order x.me f.new.token.me c.self.inside.seat (order_then
           (goal.at.invariant_of-result c).After-exchange-empty) f.ensures.told;
-      no_slot = f.ensures.told.0 ∙ ap rest (slot_then (goal.at.invariant_of-result c).After-exchange-empty);
+      slots = f.ensures.told.0 ∙ ap rest (slot_then (goal.at.invariant_of-result c).After-exchange-empty);
     }
 
 pub returns : goal.returns

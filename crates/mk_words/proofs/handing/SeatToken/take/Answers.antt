@@ -10,8 +10,8 @@ use Rattle.mk_words.specs.Steps.{May, Tells}
 use Rattle.mk_words.proofs.Owed.{same_id}
 use Rattle.mk_words.proofs.HandingCalls.{take_access, take_tells, take_order, taken_learns, order_of_view, took}
 use Rattle.mk_words.proofs.MapSteps.{page_known}
-use Rattle.mk_words.proofs.tokens.SeatToken.take.Goals.{After-exchange-home}
-use Rattle.mk_words.proofs.tokens.SeatToken.take.Goals as goal
+use Rattle.mk_words.proofs.handing.SeatToken.take.Goals.{After-exchange-home}
+use Rattle.mk_words.proofs.handing.SeatToken.take.Goals as goal
 
 pub take_as-found-requires-clause-one_table : goal.take_as-found-requires-clause-one_table
 take_as-found-requires-clause-one_table c =
@@ -64,11 +64,11 @@ invariant_of-taken c =
     record {
       order = order_of_view f.new.token.me c.exchange-home.new.seat.me p.seat (ap (λ (m : Mine). m.0) x.3)
           (take_order p.token.me f.new.token.me p.seat c.args.op f.result c.self.invariant.order f.ensures.told);
-      slot = (
+      slots = (
         no_map,
         ap (λ (m : Mine). m.1) x.3
             ∙ ap (λ (l : List (ℕ × KnownPages)). (0, no_map) ∷ l)
-            (ap rest h.1 ∙ c.self.invariant.no_slot),
+            (ap rest h.1 ∙ c.self.invariant.slots),
       );
     }
 
@@ -97,7 +97,7 @@ invariant_of-back c =
     let f = c.take_as-found in
     record {
       order = take_order p.token.me f.new.token.me p.seat c.args.op f.result c.self.invariant.order f.ensures.told;
-      no_slot = f.ensures.told.2 c.if-found-eq0.false ∙ c.self.invariant.no_slot;
+      slots = f.ensures.told.2 c.if-found-eq0.false ∙ c.self.invariant.slots;
     }
 
 pub returns-else-found-eq0-clause-missed : goal.returns-else-found-eq0-clause-missed

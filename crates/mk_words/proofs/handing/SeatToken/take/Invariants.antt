@@ -1,5 +1,5 @@
 use Rattle.mk_core.specs.declared.events.Step.TheVariants as step
-use Rattle.mk_words.proofs.tokens.SeatToken.take.Given as goal
+use Rattle.mk_words.proofs.handing.SeatToken.take.Given as goal
 
 -- the event of the `take`
 abbrev pub ghosts-take_as : goal.ghosts-take_as

@@ -1,5 +1,5 @@
 use Rattle.mk_core.specs.declared.events.Step.TheVariants as step
-use Rattle.mk_words.proofs.tokens.TurnToken.give.Given as goal
+use Rattle.mk_words.proofs.handing.TurnToken.give.Given as goal
 
 -- the event of the `give`
 abbrev pub ghosts-give_as : goal.ghosts-give_as
