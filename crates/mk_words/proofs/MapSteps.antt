@@ -4,6 +4,8 @@ use Rattle.std.proofs.Common.{sym, ◌∙◌, ap, subst, inl, inr, arith}
 use Rattle.std.specs.Prelude.{◌%◌, ◌^◌, slice_index, slice_set}
 use Rattle.std.proofs.lemmas.Bool.{cases_eq, ltb-true}
 use Rattle.std.proofs.lemmas.List.{get_or-set_other, get_or-set_same}
+use Rattle.mk_never.specs.declared.operations.Op.{Op}
+use Rattle.mk_geom.specs.declared.addresses.Cell.{Cell}
 use Rattle.mk_geom.specs.declared.pages.Page.{Page}
 use Rattle.mk_geom.specs.Storages.{free_page}
 use Rattle.mk_page_map.specs.KnownPages.{KnownPages, Shows, is_uncleaned, with_header, with_used}
@@ -30,11 +32,12 @@ use Rattle.mk_words.specs.declared.homes.Carried.{Carried}
 use Rattle.mk_words.specs.PageMaps.{HasNoMarks, IsMapOf, IsNextUncleaned, is_told}
 use Rattle.mk_words.specs.States.{PassState, now_of, event_of}
 use Rattle.mk_words.specs.Steps.{IsEnabledTo}
-use Rattle.mk_words.specs.TurnSteps.{world_at, Acts, IsTurnWithMap}
+use Rattle.mk_words.specs.TurnSteps.{turn_stays, gates_stay, world_at, Acts, IsTurnWithMap, GatesAre}
 use Rattle.mk_words.proofs.FreeTurns.{map_left, map_stays, page_words}
 use Rattle.mk_words.proofs.Made.{own_before}
 use Rattle.mk_words.proofs.Seats.{others_own}
-use Rattle.mk_words.proofs.TakenCells.{may_take_cell}
+use Rattle.mk_words.proofs.TakenCells.{may_take_cell, knows_still}
+use Rattle.mk_words.proofs.TurnSteps.{still_turn, turn_stays_too, gates_still}
 use Rattle.mk_words.proofs.Unmarked.{is_mark, stays_unmarked}
 
 pub takes_none : (s : Step) → is_told s ≡ false → may_take_cell s ≡ false
@@ -249,9 +252,30 @@ pub shows_that : (w : Words) (map same : KnownPages) → same ≡ map → IsMapO
 shows_that w map same is shows = subst (λ (m : KnownPages). IsMapOf m w) (sym is) shows
 
 -- What is carried with a turn is carried by another name too.
-pub as_carried : (p : PassState) (carried same : Carried) → same ≡ carried
-    → IsTurnWithMap p carried.op carried.cell carried.map → IsTurnWithMap p same.op same.cell same.map
-as_carried p carried same is turn = subst (λ (k : Carried). IsTurnWithMap p k.op k.cell k.map) (sym is) turn
+pub as_carried : {held : Bool} (p : PassState) (carried same : Carried) → same ≡ carried
+    → IsTurnWithMap held p carried.op carried.cell carried.map → IsTurnWithMap held p same.op same.cell same.map
+as_carried {held} p carried same is turn =
+    subst (λ (k : Carried). IsTurnWithMap held p k.op k.cell k.map) (sym is) turn
+
+-- A step that takes no cell leaves the turn, where its map shows what is left then, and the gates are as known.
+pub turn_with_map : {held : Bool} (p : PassState) (s : Step) (q : PassState) (a : Acts p s q) (o : Option Op)
+    (cell : Option Cell) (old new : KnownPages) → turn_stays s ≡ true → may_take_cell s ≡ false
+    → GatesAre held (record { pass = q; op = o }) → IsMapOf new (now_of q).words → IsTurnWithMap held p o cell old
+    → IsTurnWithMap held q o cell new
+turn_with_map p s q a o cell old new stays none gates shows turn = record {
+  turn = still_turn p s q a.makes o stays turn.turn;
+  knows = knows_still p s q a cell stays none turn.knows;
+  shows = shows;
+  gates = gates;
+}
+
+-- Most steps leave the gates.
+pub turn_still : {held : Bool} (p : PassState) (s : Step) (q : PassState) (a : Acts p s q) (o : Option Op)
+    (cell : Option Cell) (old new : KnownPages) → gates_stay s ≡ true → may_take_cell s ≡ false
+    → IsMapOf new (now_of q).words → IsTurnWithMap held p o cell old → IsTurnWithMap held q o cell new
+turn_still {held} p s q a o cell old new stays none shows turn =
+    turn_with_map p s q a o cell old new (turn_stays_too s stays) none
+    (gates_still held (record { pass = p; op = o }) s (record { pass = q; op = o }) a stays turn.gates) shows turn
 
 -- The map has all pages of the heap.
 

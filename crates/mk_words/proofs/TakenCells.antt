@@ -227,8 +227,8 @@ used_placing : (placing : Placing) → is_used_once placing ≡ true → (x : Pl
 used_placing (Used x) h = (x, refl)
 used_placing _ h = cc
 
-pub grants : (p : PassState) (o : Option Op) (cell : Option Cell) (map : KnownPages) → IsTurnWithMap p o cell map
-    → IsEnabledTo p step.Grant → Grants p o cell
+pub grants : {held : Bool} (p : PassState) (o : Option Op) (cell : Option Cell) (map : KnownPages)
+    → IsTurnWithMap held p o cell map → IsEnabledTo p step.Grant → Grants p o cell
 grants p o cell map t on =
     let c : Config = p.table.config in
     let m = enabled_meets c (now_of p) (event_of p step.Grant) on in
@@ -251,9 +251,9 @@ grants p o cell map t on =
     by Host new = cc
 
 -- The value is the one that the event stores.
-pub grant_access : (p : PassState) (o : Option Op) (cell : Option Cell) (map : KnownPages) (config : Config)
-    (base address : ℕ) → IsTurnWithMap p o cell map → IsEnabledTo p step.Grant → config ≡ p.table.config
-    → base ≡ cell_base config o cell → address ≡ address_of base % 2 ^ 64
+pub grant_access : {held : Bool} (p : PassState) (o : Option Op) (cell : Option Cell) (map : KnownPages)
+    (config : Config) (base address : ℕ) → IsTurnWithMap held p o cell map → IsEnabledTo p step.Grant
+    → config ≡ p.table.config → base ≡ cell_base config o cell → address ≡ address_of base % 2 ^ 64
     → Store address ≡ access p.table.config (now_of p) (event_of p step.Grant)
 grant_access p o cell map config base address t on config_is base_is address_is =
     let g = grants p o cell map t on in

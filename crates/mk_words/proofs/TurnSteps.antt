@@ -48,10 +48,10 @@ use Rattle.mk_words.proofs.Tallies.{exact_more, counts_tidy_more, free_tallies}
 use Rattle.mk_laws.proofs.NextSteps.{at_no_take}
 use Rattle.mk_laws.proofs.SameWords.{Behind, reg_keeps, tally_keeps}
 use Rattle.mk_laws.proofs.Protocols.{lists_keep_the_protocol}
-use Rattle.mk_words.specs.States.{PassState, now_of, call_of, world_of, event_of}
+use Rattle.mk_words.specs.States.{PassState, TurnState, now_of, call_of, world_of, event_of}
 use Rattle.mk_words.specs.Steps.{IsEnabledTo, Makes, moment_of, Finds, Tells}
 use Rattle.mk_words.specs.TurnSteps.{op_for, IsTurn, begun_for, IsFresh, turn_stays, gates_stay, world_at, Acts}
-use Rattle.mk_words.specs.TurnSteps.{KnowsCell}
+use Rattle.mk_words.specs.TurnSteps.{KnowsCell, GatesAre}
 use Rattle.mk_words.proofs.FreeTurns.{turn_word_stays, hands_none}
 use Rattle.mk_words.proofs.Made.{Made, made}
 use Rattle.mk_words.proofs.CallSteps.{begins, goes, waits}
@@ -213,6 +213,12 @@ still_stopped p s q a stays all =
     ∙ ap (λ (gs : List ℕ). all_below p.table.config.callers (λ j. is_number_of p.seat j || (slice_index gs j == 2)))
     (gates_left p s q a stays (a.holds, all))
     ∙ all
+
+-- So what is known of the gates stays known.
+pub gates_still : (held : Bool) (t : TurnState) (s : Step) (u : TurnState) → Acts t.pass s u.pass
+    → gates_stay s ≡ true → GatesAre held t → GatesAre held u
+gates_still true t s u a stays all = still_stopped t.pass s u.pass a stays all
+gates_still false t s u a stays any = any
 
 pub turn_stays_too : (s : Step) → gates_stay s ≡ true → turn_stays s ≡ true
 turn_stays_too (step.Hold j) h = cc

@@ -1,5 +1,5 @@
 -- What a pass is made of, and what always holds of it.
-use Rattle.std.specs.Prelude.{◌≡◌, [], ◌∷◌}
+use Rattle.std.specs.Prelude.{◌≡◌, ℕ, List, [], ◌∷◌}
 use Rattle.atomic_table.specs.Seated.{TableId}
 use Rattle.mk_page_map.specs.KnownPages.{KnownPages}
 use Rattle.mk_core.specs.declared.events.Seat.{Seat}
@@ -28,12 +28,15 @@ pub record IsInOrder (me : Mine) (seat : Seat) : Type 0 where
   pub tidy : IsTidy me.0.config me.0.own.seen
   pub before_over : CallersAreBeforeOver me.0.config me.0.own.seats me.0.own.seen
 
--- A pass's token is in order, and holds no slot.
-pub record HasNoSlot (me : Mine) (seat : Seat) : Type 0 where
-  pub order : IsInOrder me seat
-  pub no_slot : me.1 ≡ []
+-- a token that holds no slot, and one that holds that of the page map, in which a blank one lies meanwhile
 
--- A turn's token is in order, and holds the slot of the page map, in which a blank one lies meanwhile.
-pub record HasTheSlot (me : Mine) (seat : Seat) : Type 0 where
+abbrev pub NoSlot : List (ℕ × KnownPages) → Type 0
+NoSlot slots = slots ≡ []
+
+abbrev pub MapSlot : List (ℕ × KnownPages) → Type 0
+MapSlot slots = (blank : KnownPages) × (slots ≡ (0, blank) ∷ [])
+
+-- A token is in order, and holds such slots.
+pub record IsHolding (such : List (ℕ × KnownPages) → Type 0) (me : Mine) (seat : Seat) : Type 0 where
   pub order : IsInOrder me seat
-  pub slot : (blank : KnownPages) × (me.1 ≡ (0, blank) ∷ [])
+  pub slots : such me.1

@@ -89,6 +89,11 @@ gates_stay s = turn_stays s
 abbrev pub IsStopped : TurnState → Type 0
 IsStopped t = others_are_held t.pass.table.config.callers (now_of t.pass).words t.pass.seat ≡ true
 
+-- what is known of the gates: that they are held so, or nothing
+abbrev pub GatesAre : Bool → TurnState → Type 0
+GatesAre true t = IsStopped t
+GatesAre false t = Unit {0}
+
 -- the register of the operation into which an object is put, and the base of the object that it makes in that cell
 
 abbrev pub register_granted : Option Op → ℕ
@@ -107,11 +112,13 @@ KnowsCell p cell = (x : Place) → (now_of p).seats.holding.placing ≡ Used x
     → cell ≡ Some (record { page = x.page; index = x.index })
 
 -- The pass's seat holds the turn, for this operation, and knows the cell that it has taken. Its map shows what is left
--- after all that the pass has seen.
-pub record IsTurnWithMap (p : PassState) (o : Option Op) (cell : Option Cell) (map : KnownPages) : Type 0 where
+-- after all that the pass has seen, and the gates are held, where that is known.
+pub record IsTurnWithMap (held : Bool) (p : PassState) (o : Option Op) (cell : Option Cell) (map : KnownPages)
+    : Type 0 where
   pub turn : IsTurn p o
   pub knows : KnowsCell p cell
   pub shows : IsMapOf map (now_of p).words
+  pub gates : GatesAre held (record { pass = p; op = o })
 
 -- the cell that is known after a `used` that stores a value over this one: one bit more is a cell that is taken
 abbrev pub cell_behind : ℕ → ℕ → ℕ → Option Cell → Option Cell

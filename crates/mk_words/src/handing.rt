@@ -18,12 +18,12 @@ use crate::homes::{Carried, MapHome};
 use crate::indexes::index_of;
 use crate::rule::View;
 use crate::telling::{GiveMap, Making, TakeMap};
-use crate::tokens::{SeatToken, TurnToken};
+use crate::tokens::{SeatToken, TokenWith, TurnToken};
 use crate::words::Words;
 use atomic_table::Seat as Token;
 use mk_core::{Seat, TableWord};
 use mk_never::Op;
-use std::marker::Brand;
+use std::marker::{Brand, PhantomData};
 
 /// Exchanges the turn word, 0 for this number. Where it was 0, the token has the slot.
 #[inline(always)]
@@ -100,15 +100,27 @@ impl SeatToken {
     {
         words.is_within_limits();
         let number = self.turn_word(words);
-        let SeatToken { mut token, seat } = self;
+        let TokenWith {
+            mut token,
+            seat,
+            ..
+        } = self;
         let found = take_as::<Brand>(words, &mut token, seat, op, number);
         if found == 0 {
             let empty = MapHome { carried: None };
             let home = words.table.shared.exchange(&mut token, 0, empty);
-            let taken = TurnToken { token, seat };
+            let taken = TokenWith {
+                token,
+                seat,
+                slots: PhantomData,
+            };
             Ok((taken, home.into_carried()))
         } else {
-            let back = SeatToken { token, seat };
+            let back = TokenWith {
+                token,
+                seat,
+                slots: PhantomData,
+            };
             Err((back, found))
         }
     }
@@ -123,12 +135,20 @@ impl TurnToken {
         requires map { IsMapOf carried.value.map (now_of self).words }
         ensures { Makes self step.Give result }
     {
-        let TurnToken { mut token, seat } = self;
+        let TokenWith {
+            mut token,
+            seat,
+            ..
+        } = self;
         let home = MapHome {
             carried: Some(carried),
         };
         let _empty = words.table.shared.exchange(&mut token, 0, home);
         give_as::<Brand>(words, &mut token, seat);
-        SeatToken { token, seat }
+        TokenWith {
+            token,
+            seat,
+            slots: PhantomData,
+        }
     }
 }

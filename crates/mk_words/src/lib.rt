@@ -1,13 +1,14 @@
 //! The shared words of a heap. Each access to them is one event of one history.
 //!
 //! Whoever has a `Pass` makes the steps of its seat, a `Turn` is the right to the steps of its holder, and `Stopped` to
-//! those while no caller steps. Each step call reaches the word that its event names, and what it ensures holds
-//! whatever others do. Start with `words` and `passes`, then `specs/Rule.antt`: what the table keeps between any two
-//! steps.
+//! those while no caller steps; both are a `TurnAt`, which has the steps that they share. Each step call reaches the
+//! word that its event names, and what it ensures holds whatever others do. Start with `words` and `passes`, then
+//! `specs/Rule.antt`: what the table keeps between any two steps.
 #![tactic(auto)]
 
 mod call_steps;
 mod finals;
+mod gates;
 mod granting;
 mod handing;
 mod homes;
@@ -30,10 +31,10 @@ mod words;
 
 pub use call_steps::Held;
 pub use finals::Final;
+pub use gates::{AllHeld, AnyGates, Gates};
 pub use laws::{calls_go_on, steps_stand_behind_others, the_end_is_behind_an_over};
 pub use marker_passes::MarkerPass;
 pub use passes::Pass;
 pub use stop_steps::InCall;
-pub use stopped::Stopped;
-pub use turns::{Busy, Turn};
+pub use turns::{Busy, Stopped, Turn, TurnAt};
 pub use words::Words;

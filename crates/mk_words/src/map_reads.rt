@@ -8,11 +8,11 @@ ghost use Rattle.mk_core.specs.Words.{page_of};
 ghost use Rattle.mk_words.specs.PageMaps.{HasNoMarks, IsNextUncleaned};
 ghost use Rattle.mk_words.specs.States.{now_of};
 
-use crate::stopped::Stopped;
-use crate::turns::Turn;
+use crate::gates::Gates;
+use crate::turns::TurnAt;
 use mk_geom::Page;
 
-impl Turn {
+impl<G: Gates> TurnAt<G> {
     /// The lowest free page.
     pub fn first_free(&self) -> Option<u64>
         ensures { result ≡ first_where is_free_page (uses_of_pages (now_of self.now.pass).words.pages) }
@@ -80,60 +80,5 @@ impl Turn {
         ensures { result ≡ page_of (now_of self.now.pass).words page }
     {
         self.carried.map.page(page)
-    }
-}
-
-impl Stopped {
-    /// The lowest free page.
-    pub fn first_free(&self) -> Option<u64>
-        ensures { result ≡ first_where is_free_page (uses_of_pages (now_of self.now.pass).words.pages) }
-    {
-        self.turn.first_free()
-    }
-
-    /// The first page of the lowest range of this many free pages.
-    pub fn first_range(&self, count: u64) -> Option<u64>
-        requires { 1 ≤ count }
-        ensures { result ≡ range_start count (uses_of_pages (now_of self.now.pass).words.pages) }
-    {
-        self.turn.first_range(count)
-    }
-
-    /// The lowest block of a class and sort that has a free cell.
-    pub fn first_block(&self, class: u64, leaf: bool) -> Option<u64>
-        requires { class < 8 }
-        ensures { result ≡ first_where (has_free_cell class leaf) (uses_of_pages (now_of self.now.pass).words.pages) }
-    {
-        self.turn.first_block(class, leaf)
-    }
-
-    /// The lowest page that isn't free, of those from this one on.
-    pub fn next_in_use(&self, from: u64) -> Option<u64>
-        ensures { IsNext (is_in_use (now_of self.now.pass).words.pages) from self.now.pass.table.config.pages result }
-    {
-        self.turn.next_in_use(from)
-    }
-
-    /// The lowest page that has freed cells, of those from this one on.
-    pub fn next_quarantined(&self, from: u64) -> Option<u64>
-        ensures { IsNext (has_freed_cells (now_of self.now.pass).words.freed) from self.now.pass.table.config.pages
-            result }
-    {
-        self.turn.next_quarantined(from)
-    }
-
-    /// How many pages are resident.
-    pub fn resident(&self) -> u64
-        ensures { result ≡ resident_pages (uses_of_pages (now_of self.now.pass).words.pages) }
-    {
-        self.turn.resident()
-    }
-
-    /// The header and used word of a page.
-    pub fn page(&self, page: u64) -> Page
-        requires { page < self.now.pass.table.config.pages }
-        ensures { result ≡ page_of (now_of self.now.pass).words page }
-    {
-        self.turn.page(page)
     }
 }

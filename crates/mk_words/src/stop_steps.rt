@@ -7,10 +7,10 @@ ghost use Rattle.mk_words.specs.TurnSteps.{Acts};
 ghost use Rattle.mk_words.specs.Seats.{HasCallers};
 ghost use Rattle.mk_words.specs.States.{now_of};
 
-use crate::stopped::Stopped;
-use crate::turns::Turn;
+use crate::turns::{Stopped, Turn, TurnAt};
 use crate::words::Words;
 use mk_core::{Access, Step, TableWord, Word};
+use std::marker::PhantomData;
 
 /// The caller was in a call, so its gate isn't held.
 #[derive(Clone, Copy, Debug, PartialEq, Eq)]
@@ -28,7 +28,7 @@ impl Turn {
         ensures in_call { OnErr result (Finds self.old.pass (step.Hold caller) 1 self.new.pass) }
         ensures not_held { OnErr result (is_held (now_of self.new.pass).words caller ≡ false) }
     {
-        let found = self.perform(
+        let found = self.act(
             words,
             Step::Hold(caller),
             TableWord::Named(Word::Gate(caller)),
@@ -44,7 +44,7 @@ impl Turn {
         ensures op { self.new.op ≡ self.old.op }
         ensures acts { Acts self.old.pass (step.Open caller) self.new.pass }
     {
-        self.perform(
+        self.act(
             words,
             Step::Open(caller),
             TableWord::Named(Word::Gate(caller)),
@@ -101,6 +101,11 @@ impl Turn {
         requires { others_are_held self.pass.table.config.callers (now_of self.pass).words self.pass.seat ≡ true }
         ensures { result ≡ self }
     {
-        Stopped { turn: self }
+        let TurnAt { pass, carried, .. } = self;
+        TurnAt {
+            pass,
+            carried,
+            gates: PhantomData,
+        }
     }
 }

@@ -18,44 +18,58 @@ use crate::telling::Making;
 use crate::words::Words;
 use atomic_table::Seat as Token;
 use mk_core::{Access, Seat, Step, TableWord};
-use std::marker::{Brand, Model};
+use std::marker::{Brand, Model, PhantomData};
+
+/// The slots that a token holds.
+pub(crate) trait Slots {
+    ghost use Rattle.std.specs.Prelude.{List, ℕ};
+    ghost use Rattle.mk_page_map.specs.KnownPages.{KnownPages};
+
+    ghost such: { List (ℕ × KnownPages) → Type 0 };
+}
+
+/// None.
+pub(crate) struct NoSlot;
+
+impl Slots for NoSlot {
+    ghost use Rattle.mk_words.specs.Passes.{NoSlot};
+
+    ghost such = { NoSlot };
+}
+
+/// That of the page map.
+pub(crate) struct MapSlot;
+
+impl Slots for MapSlot {
+    ghost use Rattle.mk_words.specs.Passes.{MapSlot};
+
+    ghost such = { MapSlot };
+}
+
+/// A token with its seat, which holds the slots that `S` says.
+#[derive(Drop)]
+pub(crate) struct TokenWith<S: Slots> {
+    pub(crate) token: Token<MapHome, View>,
+    pub(crate) seat: Seat,
+    pub(crate) slots: PhantomData<S>,
+}
 
 /// A pass's token with its seat.
-#[derive(Drop)]
-pub(crate) struct SeatToken {
-    pub(crate) token: Token<MapHome, View>,
-    pub(crate) seat: Seat,
-}
-
-impl Model for SeatToken {
-    ghost use Rattle.mk_words.specs.States.{PassState};
-
-    ghost Value = { PassState };
-
-    ghost use Rattle.mk_words.specs.Passes.{state_of, HasNoSlot};
-
-    ghost view = { λ t. state_of t.token.table_id t.token.me t.seat };
-
-    ghost invariant = { λ t. HasNoSlot t.token.me t.seat };
-}
+pub(crate) type SeatToken = TokenWith<NoSlot>;
 
 /// A turn's token with its seat, which holds the slot of the page map.
-#[derive(Drop)]
-pub(crate) struct TurnToken {
-    pub(crate) token: Token<MapHome, View>,
-    pub(crate) seat: Seat,
-}
+pub(crate) type TurnToken = TokenWith<MapSlot>;
 
-impl Model for TurnToken {
+impl<S: Slots> Model for TokenWith<S> {
     ghost use Rattle.mk_words.specs.States.{PassState};
 
     ghost Value = { PassState };
 
-    ghost use Rattle.mk_words.specs.Passes.{state_of, HasTheSlot};
+    ghost use Rattle.mk_words.specs.Passes.{state_of, IsHolding};
 
     ghost view = { λ t. state_of t.token.table_id t.token.me t.seat };
 
-    ghost invariant = { λ t. HasTheSlot t.token.me t.seat };
+    ghost invariant = { λ t. IsHolding S.such t.token.me t.seat };
 }
 
 /// Takes a step of any kind but the two that hand over the turn: the access that the event makes after what the pass
@@ -120,7 +134,7 @@ fn replace_as<J: Making>(
     swap_as::<J>(&words.table.shared, token, index, value)
 }
 
-impl SeatToken {
+impl<S: Slots> TokenWith<S> {
     /// Whose token it is.
     #[inline(always)]
     pub(crate) fn seat(&self) -> Seat
@@ -140,19 +154,7 @@ impl SeatToken {
         let _seat = &self.seat;
     }
 
-    /// The number of the caller whose seat it is.
-    #[inline(always)]
-    pub(crate) fn caller(&self) -> u64
-        requires { is_caller self.now.seat ≡ true }
-        ensures { result ≡ caller_number self.now.seat }
-    {
-        match self.seat {
-            Seat::Caller(caller) => caller,
-            Seat::Marker(_) | Seat::Host => unreachable!(),
-        }
-    }
-
-    /// Takes a step of any kind but a `take`, in a table of this many pages.
+    /// Takes a step of any kind but the two that hand over the turn, in a table of this many pages.
     #[inline(always)]
     pub(crate) fn perform_among(
         &mut self,
@@ -174,7 +176,7 @@ impl SeatToken {
         perform_as::<Brand>(words, pages, &mut self.token, seat, step, word, by)
     }
 
-    /// Takes a step of any kind but a `take`.
+    /// Takes a step of any kind but the two that hand over the turn.
     #[inline(always)]
     pub(crate) fn perform(&mut self, words: &Words, step: Step, word: TableWord, by: Access) -> u64
         requires one_table { self.old.table ≡ words.now }
@@ -188,26 +190,21 @@ impl SeatToken {
     }
 }
 
+impl SeatToken {
+    /// The number of the caller whose seat it is.
+    #[inline(always)]
+    pub(crate) fn caller(&self) -> u64
+        requires { is_caller self.now.seat ≡ true }
+        ensures { result ≡ caller_number self.now.seat }
+    {
+        match self.seat {
+            Seat::Caller(caller) => caller,
+            Seat::Marker(_) | Seat::Host => unreachable!(),
+        }
+    }
+}
+
 impl TurnToken {
-    /// Whose token it is.
-    #[inline(always)]
-    pub(crate) fn seat(&self) -> Seat
-        ensures { result ≡ self.now.seat }
-    {
-        self.seat
-    }
-
-    /// What holds of every token. It does nothing.
-    #[inline(always)]
-    pub(crate) fn is_in_order(&self)
-        ensures own { Has self.now.seats self.now.seat }
-        ensures history { IsHistory self.now.table.config self.now.seen }
-        ensures before_over { CallersAreBeforeOver self.now.table.config self.now.seats self.now.seen }
-        ensures tidy { IsTidy self.now.table.config self.now.seen }
-    {
-        let _seat = &self.seat;
-    }
-
     /// The caller's number, and 0 where the seat is no caller's.
     #[inline(always)]
     pub(crate) fn caller(&self) -> u64
@@ -217,41 +214,6 @@ impl TurnToken {
             Seat::Caller(caller) => caller,
             Seat::Marker(_) | Seat::Host => 0,
         }
-    }
-
-    /// Takes a step of any kind but a `give`, in a table of this many pages.
-    #[inline(always)]
-    pub(crate) fn perform_among(
-        &mut self,
-        words: &Words,
-        pages: u64,
-        step: Step,
-        word: TableWord,
-        by: Access,
-    ) -> u64
-        requires one_table { self.old.table ≡ words.now }
-        requires pages { pages ≡ words.now.config.pages }
-        requires hands_none { is_handing step ≡ false }
-        requires may { May self.old step }
-        requires word { word ≡ word_accessed self.old.table.config (now_of self.old) (event_of self.old step) }
-        requires access { by ≡ access self.old.table.config (now_of self.old) (event_of self.old step) }
-        ensures told { Tells self.old step result self.new }
-    {
-        let seat = self.seat;
-        perform_as::<Brand>(words, pages, &mut self.token, seat, step, word, by)
-    }
-
-    /// Takes a step of any kind but a `give`.
-    #[inline(always)]
-    pub(crate) fn perform(&mut self, words: &Words, step: Step, word: TableWord, by: Access) -> u64
-        requires one_table { self.old.table ≡ words.now }
-        requires hands_none { is_handing step ≡ false }
-        requires may { May self.old step }
-        requires word { word ≡ word_accessed self.old.table.config (now_of self.old) (event_of self.old step) }
-        requires access { by ≡ access self.old.table.config (now_of self.old) (event_of self.old step) }
-        ensures told { Tells self.old step result self.new }
-    {
-        self.perform_among(words, words.config.pages, step, word, by)
     }
 
     /// Takes a step that stores, and returns what the store found.

@@ -9,8 +9,9 @@ ghost use Rattle.mk_words.specs.CallSteps.{register_of};
 ghost use Rattle.mk_words.specs.Steps.{IsEnabledTo, IsAdmittedTo, Finds, Goes, may_decide};
 ghost use Rattle.mk_words.specs.TurnSteps.{Acts};
 
+use crate::gates::Gates;
 use crate::granting::{address_of, cell_base, cell_behind, register_granted};
-use crate::turns::Turn;
+use crate::turns::{Turn, TurnAt};
 use crate::words::Words;
 use mk_core::{Access, Step, TableWord, Tally, Word};
 
@@ -28,7 +29,7 @@ pub(crate) fn tally_word(tally: Tally) -> Word
     }
 }
 
-impl Turn {
+impl<G: Gates> TurnAt<G> {
     /// Looks at a word. After an undecided Free's look at its target's quarantine word the call may be decided.
     #[inline(always)]
     pub fn look(&mut self, words: &Words, x: Word) -> u64
@@ -204,7 +205,9 @@ impl Turn {
         carried.cell = cell_behind(page, v, found, carried.cell);
         carried.map.used_stored(page, v);
     }
+}
 
+impl Turn {
     /// Loads the register of an undecided Free.
     pub fn reg_load(&mut self, words: &Words, r: u8) -> u64
         requires one_table { self.old.pass.table ≡ words.now }

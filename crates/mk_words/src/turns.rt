@@ -7,26 +7,35 @@ ghost use Rattle.mk_core.specs.Counts.{TalliesAreExact, TalliesAreTidy, IsTidy};
 ghost use Rattle.mk_core.specs.History.{IsHistory};
 ghost use Rattle.mk_words.specs.PageMaps.{is_told};
 ghost use Rattle.mk_words.specs.Seats.{CallersAreBeforeOver, Has};
-ghost use Rattle.mk_words.specs.States.{now_of, call_of, event_of};
+ghost use Rattle.mk_words.specs.States.{TurnState, now_of, call_of, event_of};
 ghost use Rattle.mk_words.specs.Steps.{IsEnabledTo, May, Finds, Tells};
-ghost use Rattle.mk_words.specs.TurnSteps.{IsTurn, IsFresh, turn_stays, Acts};
+ghost use Rattle.mk_words.specs.TurnSteps.{IsTurn, IsFresh, turn_stays, gates_stay, GatesAre, Acts};
 
+use crate::gates::{AllHeld, AnyGates, Gates};
 use crate::homes::Carried;
 use crate::passes::Pass;
 use crate::tokens::TurnToken;
 use crate::words::Words;
 use mk_core::{Access, Seat, Step, TableWord};
 use mk_never::Op;
-use std::marker::Model;
+use std::marker::{Model, PhantomData};
 
-/// The turn of a table, with the pass of the seat that has it, and the map of the heap's pages, which travels with it.
+/// The turn of a table while the gates are as `G` says, with the pass of the seat that has it, and the map of the
+/// heap's pages, which travels with it.
 #[derive(Drop)]
-pub struct Turn {
+pub struct TurnAt<G: Gates> {
     pub(crate) pass: TurnToken,
     pub(crate) carried: Box<Carried>,
+    pub(crate) gates: PhantomData<G>,
 }
 
-impl Model for Turn {
+/// The turn of a table.
+pub type Turn = TurnAt<AnyGates>;
+
+/// The turn of a table, while the gates of all callers but its holder are held.
+pub type Stopped = TurnAt<AllHeld>;
+
+impl<G: Gates> Model for TurnAt<G> {
     ghost use Rattle.mk_words.specs.States.{TurnState};
 
     ghost Value = { TurnState };
@@ -35,7 +44,8 @@ impl Model for Turn {
 
     ghost view = { λ t. record { pass = t.pass; op = t.carried.value.op } };
 
-    ghost invariant = { λ t. IsTurnWithMap t.pass t.carried.value.op t.carried.value.cell t.carried.value.map };
+    ghost invariant = { λ t. IsTurnWithMap G.are_held t.pass t.carried.value.op t.carried.value.cell
+        t.carried.value.map };
 }
 
 /// Another seat has the turn, by its number: a caller's own, or for the host the number of callers.
@@ -64,14 +74,18 @@ impl Pass {
             Ok((pass, mut carried)) => {
                 pass.is_in_order();
                 carried.begin(op);
-                Ok(Turn { pass, carried })
+                Ok(TurnAt {
+                    pass,
+                    carried,
+                    gates: PhantomData,
+                })
             }
             Err((own, found)) => Err((Pass { own }, Busy { holder: found - 1 })),
         }
     }
 }
 
-impl Turn {
+impl<G: Gates> TurnAt<G> {
     /// Who has the turn.
     pub fn seat(&self) -> Seat
         ensures { result ≡ self.now.pass.seat }
@@ -94,16 +108,18 @@ impl Turn {
         ensures history { IsHistory self.now.pass.table.config self.now.pass.seen }
         ensures before_over { CallersAreBeforeOver self.now.pass.table.config self.now.pass.seats self.now.pass.seen }
         ensures tidy { IsTidy self.now.pass.table.config self.now.pass.seen }
+        ensures gates { GatesAre G.are_held self.now }
     {
         self.pass.is_in_order();
     }
 
-    /// Takes a step after which the turn goes on, and of which the map isn't told.
+    /// Takes a step after which the turn goes on with its gates, and of which the map isn't told.
     #[inline(always)]
-    pub(crate) fn perform(&mut self, words: &Words, step: Step, word: TableWord, by: Access) -> u64
+    pub(crate) fn act(&mut self, words: &Words, step: Step, word: TableWord, by: Access) -> u64
         requires one_table { self.old.pass.table ≡ words.now }
         requires stays { turn_stays step ≡ true }
         requires untold { is_told step ≡ false }
+        requires gates { (t : TurnState) → Acts self.old.pass step t.pass → GatesAre G.are_held t }
         requires may { May self.old.pass step }
         requires word { word ≡ word_accessed self.old.pass.table.config (now_of self.old.pass)
             (event_of self.old.pass step) }
@@ -115,6 +131,26 @@ impl Turn {
         self.pass.perform(words, step, word, by)
     }
 
+    /// Takes a step that leaves the gates, and of which the map isn't told.
+    #[inline(always)]
+    pub(crate) fn perform(&mut self, words: &Words, step: Step, word: TableWord, by: Access) -> u64
+        requires one_table { self.old.pass.table ≡ words.now }
+        requires stays { gates_stay step ≡ true }
+        requires untold { is_told step ≡ false }
+        requires may { May self.old.pass step }
+        requires word { word ≡ word_accessed self.old.pass.table.config (now_of self.old.pass)
+            (event_of self.old.pass step) }
+        requires access { by ≡ access self.old.pass.table.config (now_of self.old.pass) (event_of self.old.pass step) }
+        ensures told { Tells self.old.pass step result self.new.pass }
+        ensures op { self.new.op ≡ self.old.op }
+        ensures acts { Acts self.old.pass step self.new.pass }
+    {
+        self.is_in_order();
+        self.act(words, step, word, by)
+    }
+}
+
+impl Turn {
     /// Gives the turn back.
     pub fn give(self, words: &Words) -> Pass
         requires one_table { self.pass.table ≡ words.now }
@@ -123,7 +159,7 @@ impl Turn {
         ensures acts { Acts self.pass step.Give result }
         ensures rests { call_of result ≡ at_rest }
     {
-        let Turn { pass, carried } = self;
+        let TurnAt { pass, carried, .. } = self;
         let own = pass.give(words, carried);
         Pass { own }
     }

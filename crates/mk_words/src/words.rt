@@ -14,13 +14,13 @@ use crate::indexes::{MOST_WORDS, count_of_words, index_of};
 use crate::passes::Pass;
 use crate::rule::{OneHistory, View};
 use crate::telling::{HandOver, Handing, Remember, Settle, Together};
-use crate::tokens::SeatToken;
+use crate::tokens::{SeatToken, TokenWith};
 use atomic_table::Table;
 use mk_core::{Config, Seat, TableWord, Word};
 use mk_never::{NoMemory, TypeTable};
 use mk_page_map::PageMap;
 use std::alloc::Global;
-use std::marker::{Brand, Model};
+use std::marker::{Brand, Model, PhantomData};
 
 /// The words of a heap, which threads share. Who has a pass may access them.
 #[derive(Drop)]
@@ -122,9 +122,10 @@ impl Words {
                     config: copy,
                 },
                 Pass {
-                    own: SeatToken {
+                    own: TokenWith {
                         token,
                         seat: Seat::Host,
+                        slots: PhantomData,
                     },
                 },
             )),
@@ -161,9 +162,10 @@ impl Words {
     {
         let token = &mut own.token;
         let shared = &words.table.shared;
-        SeatToken {
+        TokenWith {
             token: shared.split_seat::<HandOver<J>>(token),
             seat,
+            slots: PhantomData,
         }
     }
 
@@ -186,7 +188,7 @@ impl Words {
         ensures own { Grows into.old.seats into.old.seen into.new.seen }
         ensures came { Grows from.seats from.seen into.new.seen }
     {
-        let SeatToken { token, .. } = from;
+        let TokenWith { token, .. } = from;
         let own = &mut into.token;
         let shared = &words.table.shared;
         shared.join_seat::<Together>(own, token);
@@ -224,7 +226,7 @@ impl Words {
         ensures tallies { HasTallies (now_of own).words words.config.pages result }
     {
         let Words { table, config, .. } = words;
-        let SeatToken { mut token, .. } = own;
+        let TokenWith { mut token, .. } = own;
         let memory = table.shared.split_seat::<Remember>(&mut token);
         let mut closed = table.close_with(token);
         let pages = config.pages;

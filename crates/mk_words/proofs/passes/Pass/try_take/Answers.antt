@@ -14,6 +14,7 @@ invariant_of-result c =
           takes p c.args.op 0 h.pass h.ensures.taken refl;
       knows = fresh_knows h.pass c.args.op (takes_fresh p c.args.op 0 h.pass h.ensures.taken refl);
       shows = shows_that _ _ _ (ap (λ (k : Carried). k.map) c.deref_mut.ensures.value) h.ensures.map;
+      gates = tt;
     })
 
 pub returns-in-Ok-clause-made : goal.returns-in-Ok-clause-made

@@ -26,8 +26,7 @@ replace_as-requires-clause-access c =
 pub invariant_of-self : goal.invariant_of-self
 invariant_of-self c = record {
   order = c.replace_as.ensures.order;
-  slot =
-      (c.self.invariant.slot.0, c.replace_as.ensures.slots ∙ c.self.invariant.slot.1);
+  slots = (c.self.invariant.slots.0, c.replace_as.ensures.slots ∙ c.self.invariant.slots.1);
 }
 
 pub returns : goal.returns

@@ -15,7 +15,7 @@ join_seat-requires c =
     let t = join_call w.config w.table.shared.key w.table.shared.table_id.words p.token.id p.token.me q.token.id
     q.token.me p.seat q.seat c.into.invariant.order c.from.invariant.order c.words.invariant.key
     c.words.invariant.words in
-    (mine, theirs, c.from.invariant.no_slot, t.0, t.1)
+    (mine, theirs, c.from.invariant.slots, t.0, t.1)
 
 pub load-requires : goal.load-requires
 load-requires c =
@@ -37,5 +37,5 @@ invariant_of-into c =
     c.load.result c.into.invariant.order c.join_seat.ensures.2 c.load.ensures.2 in
     record {
       order = j.order;
-      no_slot = c.load.ensures.2.0 ∙ ap (λ (m : Mine). m.1) c.join_seat.ensures.2 ∙ c.into.invariant.no_slot;
+      slots = c.load.ensures.2.0 ∙ ap (λ (m : Mine). m.1) c.join_seat.ensures.2 ∙ c.into.invariant.slots;
     }

@@ -27,5 +27,5 @@ new-requires-3 c =
 pub invariant_of-result : goal.invariant_of-result
 invariant_of-result c = record {
   order = first_in_order c.args.config.now c.in-Ok.token.me c.requires c.in-Ok.ensures.ok.4;
-  no_slot = ap (λ (m : Mine). m.1) c.in-Ok.ensures.ok.4;
+  slots = ap (λ (m : Mine). m.1) c.in-Ok.ensures.ok.4;
 }

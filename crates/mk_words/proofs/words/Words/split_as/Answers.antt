@@ -30,7 +30,7 @@ invariant_of-own g c =
     let n = c.split_seat.new.seat.me in
     let mine = ap (λ (r : PassState). r.seat) c.own.view_is ∙ c.requires.host in
     record {
-      no_slot = ap (λ (m : Mine). m.1) c.split_seat.ensures.2 ∙ c.own.invariant.no_slot;
+      slots = ap (λ (m : Mine). m.1) c.split_seat.ensures.2 ∙ c.own.invariant.slots;
       order = kept_by_split p.token.me n p.seat c.args.seat g.J.Handing.seat c.own.invariant.order c.requires.picked
           (rw mine c.requires.another) c.requires.another c.split_seat.ensures.2;
     }
@@ -40,7 +40,7 @@ invariant_of-result g c =
     let p = c.own.inside in
     let n = c.split_seat.result.me in
     record {
-      no_slot = ap (λ (m : Mine). m.1) c.split_seat.ensures.4;
+      slots = ap (λ (m : Mine). m.1) c.split_seat.ensures.4;
       order = made_by_split p.token.me n p.seat c.args.seat g.J.Handing.seat c.own.invariant.order c.requires.picked
           (subst (λ (r : PassState). is_caller c.args.seat ≡ true
           → has_over r.seen ≡ false) (sym c.own.view_is) c.requires.before_over) c.split_seat.ensures.4;

@@ -1,9 +1,0 @@
-use Rattle.std.proofs.Common.{refl}
-use Rattle.mk_core.specs.declared.events.Step.TheVariants as step
-use Rattle.mk_words.proofs.TurnSteps.{still_stopped}
-use Rattle.mk_words.proofs.stopped.Stopped.look_among.Goals as goal
-
-pub invariant_of-self : goal.invariant_of-self
-invariant_of-self c =
-    let f = c.look_among in
-    still_stopped c.self.inside.turn.pass (step.Look c.args.x) f.new.self.pass f.ensures.acts refl c.self.invariant

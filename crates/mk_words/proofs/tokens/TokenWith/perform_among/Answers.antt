@@ -1,0 +1,38 @@
+use Rattle.std.proofs.Common.{◌≡◌, sym, subst}
+use Rattle.mk_core.specs.Accesses.{word_accessed, access}
+use Rattle.mk_words.specs.States.{PassState, now_of, event_of}
+use Rattle.mk_words.specs.Passes.{state_of}
+use Rattle.mk_words.specs.Steps.{May, Tells}
+use Rattle.mk_words.proofs.tokens.TokenWith.perform_among.Goals as goal
+
+pub perform_as-requires-clause-one_table : goal.perform_as-requires-clause-one_table
+perform_as-requires-clause-one_table g c =
+    subst (λ (r : PassState). r.table ≡ c.args.words.now) (sym c.self.view_is) c.requires.one_table
+
+pub perform_as-requires-clause-may : goal.perform_as-requires-clause-may
+perform_as-requires-clause-may g c = subst (λ (r : PassState). May r c.args.step) (sym c.self.view_is) c.requires.may
+
+pub perform_as-requires-clause-word : goal.perform_as-requires-clause-word
+perform_as-requires-clause-word g c =
+    subst (λ (r : PassState). c.args.word ≡ word_accessed r.table.config (now_of r) (event_of r c.args.step))
+    (sym c.self.view_is) c.requires.word
+
+pub perform_as-requires-clause-access : goal.perform_as-requires-clause-access
+perform_as-requires-clause-access g c =
+    subst (λ (r : PassState). c.args.by ≡ access r.table.config (now_of r) (event_of r c.args.step))
+    (sym c.self.view_is) c.requires.access
+
+pub invariant_of-self : goal.invariant_of-self
+invariant_of-self g c =
+    record {
+      order = c.perform_as.ensures.order;
+      slots = subst g.S.Slots.such (sym c.perform_as.ensures.slots) c.self.invariant.slots;
+    }
+
+pub returns : goal.returns
+returns g c =
+    let f = c.perform_as in
+    record {
+      told = subst (λ (r : PassState). Tells r c.args.step f.result
+          (state_of f.new.token.table_id f.new.token.me c.self.inside.seat)) c.self.view_is f.ensures.told;
+    }

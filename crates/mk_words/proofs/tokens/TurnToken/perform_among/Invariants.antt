@@ -1,5 +1,0 @@
-use Rattle.mk_words.proofs.tokens.TurnToken.perform_among.Given as goal
-
--- the event of the step that the call is given
-abbrev pub ghosts-perform_as : goal.ghosts-perform_as
-ghosts-perform_as a = record { event = record { seat = a.seat; step = a.step } }

@@ -1,0 +1,18 @@
+use Rattle.mk_words.proofs.CallSteps.{load_finds, load_goes, load_own}
+use Rattle.mk_words.proofs.turn_steps.Turn.reg_load.Goals as goal
+
+pub returns-clause-finds : goal.returns-clause-finds
+returns-clause-finds c =
+    let f = c.perform in
+    load_finds c.args.self.now.pass f.result f.new.self.pass f.ensures.told c.args.r
+    c.requires.register c.requires.loads
+
+pub returns-clause-goes : goal.returns-clause-goes
+returns-clause-goes c =
+    let f = c.perform in
+    load_goes c.args.self.now.pass f.result f.new.self.pass f.ensures.told c.args.r c.requires.register c.requires.loads
+
+pub returns-clause-own : goal.returns-clause-own
+returns-clause-own c =
+    let f = c.perform in
+    load_own c.args.self.now.pass f.result f.new.self.pass f.ensures.told c.args.r c.requires.register c.requires.loads

@@ -1,0 +1,13 @@
+use Rattle.std.proofs.Common.{subst}
+use Rattle.mk_words.specs.PageMaps.{IsNextUncleaned}
+use Rattle.mk_words.specs.States.{TurnState, now_of}
+use Rattle.mk_words.proofs.MapSteps.{next_is_uncleaned, as_carried}
+use Rattle.mk_words.proofs.turns.TurnAt.next_uncleaned.Goals as goal
+
+pub returns : goal.returns
+returns g c =
+    subst (λ (t : TurnState). IsNextUncleaned (now_of t.pass).words c.args.from t.pass.table.config.pages
+    c.next_uncleaned.result) c.self.view_is
+    (next_is_uncleaned c.self.inside.pass c.deref.result.now.map c.args.from c.next_uncleaned.result
+    (as_carried _ _ _ c.deref.ensures c.self.invariant).shows
+    c.next_uncleaned.ensures)

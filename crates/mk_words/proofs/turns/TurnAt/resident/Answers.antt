@@ -1,0 +1,12 @@
+use Rattle.std.proofs.Common.{◌≡◌, subst}
+use Rattle.mk_geom.specs.PageUses.{resident_pages}
+use Rattle.mk_geom.specs.PageWords.{uses_of_pages}
+use Rattle.mk_words.specs.States.{TurnState, now_of}
+use Rattle.mk_words.proofs.MapSteps.{as_carried}
+use Rattle.mk_words.proofs.turns.TurnAt.resident.Goals as goal
+
+pub returns : goal.returns
+returns g c =
+    subst (λ (t : TurnState). c.resident.result
+    ≡ resident_pages (uses_of_pages (now_of t.pass).words.pages)) c.self.view_is
+    (c.resident.ensures _ _ (as_carried _ _ _ c.deref.ensures c.self.invariant).shows.words)
