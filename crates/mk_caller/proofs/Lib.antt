@@ -1,7 +1,6 @@
 pub mod OwnSteps
 pub mod OneStep
 pub mod Joined
-mod MappedKinds
 pub mod Enabling
 pub mod WordsMet
 pub mod Onward

@@ -7,7 +7,6 @@
 mod accesses;
 mod callers;
 mod calls;
-mod headers;
 mod laws;
 mod refusals;
 mod steps;

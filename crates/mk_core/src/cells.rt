@@ -58,7 +58,16 @@ pub(crate) fn is_bit(index: u64, value: u64) -> bool
 pub fn has_bit(word: u64, index: u64) -> bool
     ensures { result ≡ has_bit word index }
 {
-    index < 64 && (word >> index) & 1 == 1
+    index < 64 && has_cell(word, index)
+}
+
+/// Whether a word of a page has the bit of a cell.
+#[inline(always)]
+pub fn has_cell(word: u64, index: u64) -> bool
+    requires index { index < 64 }
+    ensures { result ≡ has_bit word index }
+{
+    (word >> index) & 1 == 1
 }
 
 /// The bits of a word that another hasn't.
@@ -114,10 +123,20 @@ pub(crate) fn heads_run(header: u64) -> bool
     )
 }
 
-/// Whether the page is one of an unmapped run.
+/// The kinds of the headers on the pages of an unmapped run: its first page, and a later one.
+const UNMAPPED: u64 = 11;
+
+const UNMAPPED_LATER: u64 = 12;
+
+/// Whether the page is one of an unmapped run. Most have another kind, and nothing else is read of them.
+#[inline(always)]
 pub fn is_unmapped(header: u64) -> bool
     ensures { result ≡ is_unmapped_header (header_of header) }
 {
+    let kind = header % 16;
+    if kind != UNMAPPED && kind != UNMAPPED_LATER {
+        return false;
+    }
     matches!(
         decode(header),
         Some(Header::Run { mapped: false, .. } | Header::Later { mapped: false, .. })

@@ -7,10 +7,10 @@ ghost use Rattle.mk_tracing.specs.Grays.{HasNoGray, IsGrayUnder, MarksOn};
 ghost use Rattle.mk_tracing.specs.Noted.{AreNoted, IsNoted};
 ghost use Rattle.mk_tracing.specs.Stops.{IsWanted, still_words};
 
-use crate::noted::{Noted, has_cell, words_scanned};
+use crate::noted::{Noted, words_scanned};
 use crate::stepping::{look_among, look_at, next_in_use};
 use crate::worklist::Worklist;
-use mk_core::{Word, cells_under, without};
+use mk_core::{Word, cells_under, has_cell, without};
 use mk_geom::Cell;
 use mk_words::{Stopped, Words};
 

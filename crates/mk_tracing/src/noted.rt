@@ -1,6 +1,5 @@
 //! What is noted of a marked cell: what follows from its page's header word alone, which is asked once.
 ghost use Rattle.std.specs.Prelude.{◌≡◌, ◌<◌, ◌+◌, Some, None, IfSome, IfNone};
-ghost use Rattle.mk_core.specs.Bits.{has_bit};
 ghost use Rattle.mk_core.specs.Cells.{cells_under};
 ghost use Rattle.mk_geom.specs.Addresses.{cell_of_block};
 ghost use Rattle.mk_geom.specs.Headers.{header_of};
@@ -31,15 +30,6 @@ pub(crate) fn words_scanned(header: u64) -> u64
     } else {
         words_under(header)
     }
-}
-
-/// Whether a word of a page has the bit of a cell.
-#[inline(always)]
-pub(crate) fn has_cell(word: u64, index: u64) -> bool
-    requires index { index < 64 }
-    ensures { result ≡ has_bit word index }
-{
-    (word >> index) & 1 == 1
 }
 
 impl Noted {

@@ -4,9 +4,8 @@ ghost use Rattle.mk_core.specs.Cells.{is_marked};
 ghost use Rattle.mk_tracing.specs.Grays.{HandPointsInto, MarksMore, MarksOn};
 ghost use Rattle.mk_tracing.specs.Stops.{IsWanted, hand_of, still_words};
 
-use crate::noted::has_cell;
 use crate::stepping::{look_among, mark_cell};
-use mk_core::Word;
+use mk_core::{Word, has_cell};
 use mk_geom::Cell;
 use mk_words::{Stopped, Words};
 

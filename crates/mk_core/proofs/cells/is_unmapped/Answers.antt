@@ -1,7 +1,7 @@
 use Rattle.std.proofs.Common.{sym}
 use Rattle.std.specs.Prelude.{◌/◌, ◌%◌}
-use Rattle.mk_caller.proofs.MappedKinds.{mapped_kind}
-use Rattle.mk_caller.proofs.headers.is_unmapped.Goals as goal
+use Rattle.mk_core.proofs.MappedKinds.{mapped_kind}
+use Rattle.mk_core.proofs.cells.is_unmapped.Goals as goal
 
 pub returns-then-kind-ne-UNMAPPED_LATER : goal.returns-then-kind-ne-UNMAPPED_LATER
 returns-then-kind-ne-UNMAPPED_LATER c =
