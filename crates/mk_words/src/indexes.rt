@@ -5,15 +5,15 @@ ghost use Rattle.mk_core.specs.Layout.{count_of_words, index_of, index_of_named,
 use mk_core::{TableWord, Word};
 
 /// How many words the largest table has, that of 4,096 pages.
-pub(crate) const MOST_WORDS: usize = 656 + 85 * 4096;
+pub(crate) const MOST_WORDS: usize = 656 + 77 * 4096;
 
 /// How many words a table of this many pages has.
 pub(crate) fn count_of_words(pages: u64) -> usize
     requires { pages ≤ 4096 }
     ensures exact { result ≡ count_of_words pages }
-    ensures most { result ≤ 348816 }
+    ensures most { result ≤ 316048 }
 {
-    (656 + 85 * pages) as usize
+    (656 + 77 * pages) as usize
 }
 
 /// The index of a word that has a name, in a table of this many pages.
@@ -38,8 +38,8 @@ fn index_of_named(pages: u64, word: Word) -> usize
         Word::Quar(page) => 640 + 2 * pages + page,
         Word::Mark(page) => 640 + 3 * pages + page,
         Word::Black(page) => 640 + 4 * pages + page,
-        Word::Dirty(page) => 656 + 5 * pages + 16 * page,
-        Word::Heap(place) => 656 + 21 * pages + place,
+        Word::Dirty(page) => 720 + 5 * pages + 72 * page,
+        Word::Heap(place) => 656 + 5 * pages + place + 8 * (place / 64),
     }) as usize
 }
 
