@@ -31,8 +31,7 @@ returns-then-gray-eq0-clause-turns c =
     let pages : ℕ = c.args.words.now.config.pages in
     let w = still_words c.args.stop.now.pass in
     gray_turns pages w w c.args.gray.cell c.requires.gray.gray (more_same w w refl)
-    (none_scanned pages w c.args.gray.cell
-    (ap (λ h. words_scanned (header_of h)) (sym c.requires.gray.word) ∙ sym c.args.gray.scanned ∙ c.if-gray-eq0.true))
+    (none_scanned pages w c.args.gray.cell (sym c.requires.gray.words ∙ c.if-gray-eq0.true))
 
 pub returns-clause-turns : goal.returns-clause-turns
 returns-clause-turns c =
