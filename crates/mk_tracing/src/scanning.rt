@@ -139,7 +139,7 @@ fn scan_group(
 }
 
 /// Looks at each word of a gray cell of at least eight words, a group after the other, and marks what it points into.
-#[inline(never)]
+#[inline(always)]
 fn scan_groups(
     words: &Words,
     stop: &mut Stopped,
