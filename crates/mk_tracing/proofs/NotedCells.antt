@@ -56,13 +56,12 @@ pub noted_black : (pages page bits : ℕ) (w v : Words) (work : Worklist) → v 
 noted_black pages page bits w v work is noted k d low lt =
     one_stays pages w v _ (black_stays page bits w v is) (noted k d low lt)
 
-pub last_same : (pages : ℕ) (w v : Words) (last : Option Noted) → v ≡ w → IfSome last (IsNoted pages w)
-    → IfSome last (IsNoted pages v)
-last_same pages w v last same noted = subst (λ (y : Words). IfSome last (IsNoted pages y)) (sym same) noted
+pub one_same : (pages : ℕ) (w v : Words) (noted : Noted) → v ≡ w → IsNoted pages w noted → IsNoted pages v noted
+one_same pages w v noted same is = subst (λ (y : Words). IsNoted pages y noted) (sym same) is
 
-pub last_more : (pages : ℕ) (w v : Words) (last : Option Noted) → MarksMore w v → IfSome last (IsNoted pages w)
-    → IfSome last (IsNoted pages v)
-last_more pages w v last more = last_stays pages w v last (more_stays w v more)
+pub one_more : (pages : ℕ) (w v : Words) (noted : Noted) → MarksMore w v → IsNoted pages w noted
+    → IsNoted pages v noted
+one_more pages w v noted more = one_stays pages w v noted (more_stays w v more)
 
 pub last_black : (pages page bits : ℕ) (w v : Words) (last : Option Noted) → v ≡ with_blacks page bits w
     → IfSome last (IsNoted pages w) → IfSome last (IsNoted pages v)

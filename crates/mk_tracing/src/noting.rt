@@ -101,7 +101,7 @@ fn mark_pointed(
 
 /// The same, for any value in a heap of this many pages. Most are no addresses of the heap, and are passed over.
 #[inline(always)]
-fn mark_value(
+pub(crate) fn mark_value(
     words: &Words,
     stop: &mut Stopped,
     work: &mut Worklist,
@@ -125,8 +125,8 @@ fn mark_value(
     mark_pointed(words, stop, work, pages, page, value)
 }
 
-/// Marks what the hand points into. Returns what was noted last. What was noted before it goes to the list, so that a
-/// chain of objects is traced without the list.
+/// Marks what the hand points into. Returns what was noted last: this, or what is noted now, and then this goes to the
+/// list.
 #[inline(always)]
 pub(crate) fn mark_and_note(
     words: &Words,
@@ -134,25 +134,25 @@ pub(crate) fn mark_and_note(
     work: &mut Worklist,
     pages: u64,
     value: u64,
-    last: Option<Noted>,
-) -> Option<Noted>
+    last: Noted,
+) -> Noted
     requires one_table { stop.old.pass.table ≡ words.now }
     requires pages { pages ≡ words.now.config.pages }
     requires wanted { IsWanted stop.old.pass }
     requires hand { value ≢ 0 → IsInHand stop.old.pass value }
-    requires last { IfSome last (IsNoted words.now.config.pages (still_words stop.old.pass)) }
+    requires last { IsNoted words.now.config.pages (still_words stop.old.pass) last }
     ensures on { MarksOn stop.old stop.new }
     ensures more { MarksMore (still_words stop.old.pass) (still_words stop.new.pass) }
     ensures well { points_well words.now.config.pages (still_words stop.new.pass) value ≡ true }
-    ensures last { IfSome result (IsNoted words.now.config.pages (still_words stop.new.pass)) }
+    ensures last { IsNoted words.now.config.pages (still_words stop.new.pass) result }
     ensures noted { AreNoted words.now.config.pages (still_words stop.old.pass) work.old
         → AreNoted words.now.config.pages (still_words stop.new.pass) work.new }
 {
     let Some(noted) = mark_value(words, stop, work, pages, value) else {
         return last;
     };
-    work.extend(last);
-    Some(noted)
+    work.push(last);
+    noted
 }
 
 /// Marks what the hand points into, and puts what is noted of it into the list. It isn't inlined: it is for values that

@@ -7,7 +7,7 @@ ghost use Rattle.mk_tracing.specs.Noted.{AreNoted, IsNoted};
 ghost use Rattle.mk_tracing.specs.Stops.{IsWanted, still_words};
 
 use crate::noted::Noted;
-use crate::noting::mark_and_note;
+use crate::noting::{mark_and_note, mark_value};
 use crate::stepping::look_at_word;
 use crate::worklist::Worklist;
 use mk_geom::{Cell, HEAP_START};
@@ -45,8 +45,44 @@ fn are_before_heap(
     all < HEAP_START
 }
 
-/// Looks at the words of a gray cell from one on, up to another. What one points into is marked before the next. Returns
-/// what was noted last.
+/// Looks at the words of a gray cell from one on, up to another, where a cell was noted before. What one points into is
+/// marked before the next. Returns what was noted last.
+#[inline(always)]
+fn scan_rest(
+    words: &Words,
+    stop: &mut Stopped,
+    work: &mut Worklist,
+    pages: u64,
+    cell: Cell,
+    size: u64,
+    from: u64,
+    to: u64,
+    noted: Noted,
+) -> Noted
+    requires one_table { stop.old.pass.table ≡ words.now }
+    requires pages { pages ≡ words.now.config.pages }
+    requires wanted { IsWanted stop.old.pass }
+    requires due { IsDue words.now.config.pages (still_words stop.old.pass) cell size }
+    requires to { to ≤ size }
+    requires one { IsNoted words.now.config.pages (still_words stop.old.pass) noted }
+    ensures on { MarksOn stop.old stop.new }
+    ensures more { MarksMore (still_words stop.old.pass) (still_words stop.new.pass) }
+    ensures well { (i : ℕ) → from ≤ i → i < to
+        → WordIsWell words.now.config stop.old.pass stop.new.pass cell i }
+    ensures last { IsNoted words.now.config.pages (still_words stop.new.pass) result }
+    ensures noted { AreNoted words.now.config.pages (still_words stop.old.pass) work.old
+        → AreNoted words.now.config.pages (still_words stop.new.pass) work.new }
+{
+    let mut last = noted;
+    for i in from..to {
+        let value = look_at_word(words, stop, pages, cell, size, i);
+        last = mark_and_note(words, stop, work, pages, value, last);
+    }
+    last
+}
+
+/// The same, where none was noted yet. Returns what was noted last. The loop ends with the first cell that is noted, so
+/// that it carries none.
 #[inline(always)]
 fn scan_words(
     words: &Words,
@@ -71,12 +107,15 @@ fn scan_words(
     ensures noted { AreNoted words.now.config.pages (still_words stop.old.pass) work.old
         → AreNoted words.now.config.pages (still_words stop.new.pass) work.new }
 {
-    let mut last = None;
     for i in from..to {
         let value = look_at_word(words, stop, pages, cell, size, i);
-        last = mark_and_note(words, stop, work, pages, value, last);
+        let noted = mark_value(words, stop, work, pages, value);
+        if let Some(one) = noted {
+            let last = scan_rest(words, stop, work, pages, cell, size, i + 1, to, one);
+            return Some(last);
+        }
     }
-    last
+    None
 }
 
 /// Looks at each word of a group of a gray cell, and marks what it points into. It isn't inlined, since few groups have
