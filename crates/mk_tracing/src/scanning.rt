@@ -1,12 +1,13 @@
 //! The scan of a gray cell: its words are looked at, and what they point into is marked. Most words are null or small
 //! numbers, so those of a group are looked at together first.
-ghost use Rattle.std.specs.Prelude.{◌≡◌, ℕ, ◌+◌, ◌*◌, ◌<◌, ◌≤◌, true, slice_index};
+ghost use Rattle.std.specs.Prelude.{◌≡◌, ℕ, ◌+◌, ◌*◌, ◌<◌, ◌≤◌, true, IfSome, slice_index};
 ghost use Rattle.mk_core.specs.Cells.{first_word, words_point_well};
 ghost use Rattle.mk_tracing.specs.Grays.{IsDue, MarksMore, MarksOn, WordIsWell};
-ghost use Rattle.mk_tracing.specs.Noted.{AreNoted};
+ghost use Rattle.mk_tracing.specs.Noted.{AreNoted, IsNoted};
 ghost use Rattle.mk_tracing.specs.Stops.{IsWanted, still_words};
 
-use crate::noting::mark_and_note;
+use crate::noted::Noted;
+use crate::noting::{mark_and_note, mark_value};
 use crate::stepping::look_at_word;
 use crate::worklist::Worklist;
 use mk_geom::{Cell, HEAP_START};
@@ -44,7 +45,44 @@ fn are_before_heap(
     all < HEAP_START
 }
 
-/// Looks at the words of a gray cell from one on, up to another. What one points into is marked before the next.
+/// Looks at the words of a gray cell from one on, up to another, where a cell was noted before. What one points into is
+/// marked before the next. Returns what was noted last.
+#[inline(always)]
+fn scan_rest(
+    words: &Words,
+    stop: &mut Stopped,
+    work: &mut Worklist,
+    pages: u64,
+    cell: Cell,
+    size: u64,
+    from: u64,
+    to: u64,
+    noted: Noted,
+) -> Noted
+    requires one_table { stop.old.pass.table ≡ words.now }
+    requires pages { pages ≡ words.now.config.pages }
+    requires wanted { IsWanted stop.old.pass }
+    requires due { IsDue words.now.config.pages (still_words stop.old.pass) cell size }
+    requires to { to ≤ size }
+    requires one { IsNoted words.now.config.pages (still_words stop.old.pass) noted }
+    ensures on { MarksOn stop.old stop.new }
+    ensures more { MarksMore (still_words stop.old.pass) (still_words stop.new.pass) }
+    ensures well { (i : ℕ) → from ≤ i → i < to
+        → WordIsWell words.now.config stop.old.pass stop.new.pass cell i }
+    ensures last { IsNoted words.now.config.pages (still_words stop.new.pass) result }
+    ensures noted { AreNoted words.now.config.pages (still_words stop.old.pass) work.old
+        → AreNoted words.now.config.pages (still_words stop.new.pass) work.new }
+{
+    let mut last = noted;
+    for i in from..to {
+        let value = look_at_word(words, stop, pages, cell, size, i);
+        last = mark_and_note(words, stop, work, pages, value, last);
+    }
+    last
+}
+
+/// The same, where none was noted yet. Returns what was noted last. The loop ends with the first cell that is noted, so
+/// that it carries none.
 #[inline(always)]
 fn scan_words(
     words: &Words,
@@ -55,7 +93,7 @@ fn scan_words(
     size: u64,
     from: u64,
     to: u64,
-)
+) -> Option<Noted>
     requires one_table { stop.old.pass.table ≡ words.now }
     requires pages { pages ≡ words.now.config.pages }
     requires wanted { IsWanted stop.old.pass }
@@ -65,13 +103,19 @@ fn scan_words(
     ensures more { MarksMore (still_words stop.old.pass) (still_words stop.new.pass) }
     ensures well { (i : ℕ) → from ≤ i → i < to
         → WordIsWell words.now.config stop.old.pass stop.new.pass cell i }
+    ensures last { IfSome result (IsNoted words.now.config.pages (still_words stop.new.pass)) }
     ensures noted { AreNoted words.now.config.pages (still_words stop.old.pass) work.old
         → AreNoted words.now.config.pages (still_words stop.new.pass) work.new }
 {
     for i in from..to {
         let value = look_at_word(words, stop, pages, cell, size, i);
-        mark_and_note(words, stop, work, pages, value);
+        let noted = mark_value(words, stop, work, pages, value);
+        if let Some(one) = noted {
+            let last = scan_rest(words, stop, work, pages, cell, size, i + 1, to, one);
+            return Some(last);
+        }
     }
+    None
 }
 
 /// Looks at each word of a group of a gray cell, and marks what it points into. It isn't inlined, since few groups have
@@ -100,7 +144,8 @@ fn scan_apart(
         → AreNoted words.now.config.pages (still_words stop.new.pass) work.new }
 {
     let first = GROUP * group;
-    scan_words(words, stop, work, pages, cell, size, first, first + GROUP);
+    let last = scan_words(words, stop, work, pages, cell, size, first, first + GROUP);
+    work.extend(last);
 }
 
 /// Looks at the words of a group of a gray cell, and marks what they point into.
@@ -141,7 +186,7 @@ fn scan_groups(
     pages: u64,
     cell: Cell,
     size: u64,
-)
+) -> Option<Noted>
     requires one_table { stop.old.pass.table ≡ words.now }
     requires pages { pages ≡ words.now.config.pages }
     requires wanted { IsWanted stop.old.pass }
@@ -149,6 +194,7 @@ fn scan_groups(
     ensures on { MarksOn stop.old stop.new }
     ensures more { MarksMore (still_words stop.old.pass) (still_words stop.new.pass) }
     ensures well { words_point_well words.now.config.pages (still_words stop.new.pass) cell ≡ true }
+    ensures last { IfSome result (IsNoted words.now.config.pages (still_words stop.new.pass)) }
     ensures noted { AreNoted words.now.config.pages (still_words stop.old.pass) work.old
         → AreNoted words.now.config.pages (still_words stop.new.pass) work.new }
 {
@@ -156,24 +202,33 @@ fn scan_groups(
     for group in 0..groups {
         scan_group(words, stop, work, pages, cell, size, group);
     }
-    scan_words(words, stop, work, pages, cell, size, GROUP * groups, size);
+    scan_words(words, stop, work, pages, cell, size, GROUP * groups, size)
 }
 
-/// Looks at each word of a gray cell, of this many, and marks what it points into. Most cells have few words.
-pub(crate) fn scan(words: &Words, stop: &mut Stopped, work: &mut Worklist, cell: Cell, size: u64)
+/// Looks at each word of a gray cell, of this many, and marks what it points into. Most cells have few words. Returns
+/// what was noted last.
+#[inline(always)]
+pub(crate) fn scan(
+    words: &Words,
+    stop: &mut Stopped,
+    work: &mut Worklist,
+    pages: u64,
+    cell: Cell,
+    size: u64,
+) -> Option<Noted>
     requires one_table { stop.old.pass.table ≡ words.now }
+    requires pages { pages ≡ words.now.config.pages }
     requires wanted { IsWanted stop.old.pass }
     requires due { IsDue words.now.config.pages (still_words stop.old.pass) cell size }
     ensures on { MarksOn stop.old stop.new }
     ensures more { MarksMore (still_words stop.old.pass) (still_words stop.new.pass) }
     ensures well { words_point_well words.now.config.pages (still_words stop.new.pass) cell ≡ true }
+    ensures last { IfSome result (IsNoted words.now.config.pages (still_words stop.new.pass)) }
     ensures noted { AreNoted words.now.config.pages (still_words stop.old.pass) work.old
         → AreNoted words.now.config.pages (still_words stop.new.pass) work.new }
 {
-    let pages = words.pages();
     if size < GROUP {
-        scan_words(words, stop, work, pages, cell, size, 0, size);
-        return;
+        return scan_words(words, stop, work, pages, cell, size, 0, size);
     }
-    scan_groups(words, stop, work, pages, cell, size);
+    scan_groups(words, stop, work, pages, cell, size)
 }

@@ -100,21 +100,25 @@ pub(crate) fn look_at_word(
     stop.look_among(words, pages, Word::Heap(word))
 }
 
-/// Marks the cell into which the hand points.
-pub(crate) fn mark_cell(words: &Words, stop: &mut Stopped, cell: Cell)
+/// Marks the cell into which the hand points, in a table of this many pages.
+#[inline(always)]
+pub(crate) fn mark_cell(words: &Words, stop: &mut Stopped, pages: u64, cell: Cell)
     requires one_table { stop.old.pass.table ≡ words.now }
+    requires pages { pages ≡ words.now.config.pages }
     requires wanted { IsWanted stop.old.pass }
     requires reached { HandPointsInto stop.old.pass cell }
     ensures on { MarksOn stop.old stop.new }
     ensures words { still_words stop.new.pass ≡ with_marks cell.page (2 ^ cell.index) (still_words stop.old.pass) }
 {
     stop.is_in_order();
-    stop.mark(words, cell.page, bit(cell.index));
+    stop.mark_in_use(words, pages, cell.page, bit(cell.index));
 }
 
-/// Blackens a marked cell, whose words point well or aren't scanned.
-pub(crate) fn blacken_cell(words: &Words, stop: &mut Stopped, cell: Cell)
+/// Blackens a marked cell, whose words point well or aren't scanned, in a table of this many pages.
+#[inline(always)]
+pub(crate) fn blacken_cell(words: &Words, stop: &mut Stopped, pages: u64, cell: Cell)
     requires one_table { stop.old.pass.table ≡ words.now }
+    requires pages { pages ≡ words.now.config.pages }
     requires wanted { IsWanted stop.old.pass }
     requires page { cell.page < words.now.config.pages }
     requires index { cell.index < 32 }
@@ -123,7 +127,7 @@ pub(crate) fn blacken_cell(words: &Words, stop: &mut Stopped, cell: Cell)
     ensures words { still_words stop.new.pass ≡ with_blacks cell.page (2 ^ cell.index) (still_words stop.old.pass) }
 {
     stop.is_in_order();
-    stop.black(words, cell.page, bit(cell.index));
+    stop.black_among(words, pages, cell.page, bit(cell.index));
 }
 
 /// Clears the black word of a page of which a part is dirty.

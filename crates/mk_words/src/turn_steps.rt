@@ -1,10 +1,11 @@
 //! The steps of the turn's holder.
-ghost use Rattle.std.specs.Prelude.{◌≡◌, true};
+ghost use Rattle.std.specs.Prelude.{◌≡◌, ◌≢◌, true};
 ghost use Rattle.mk_core.specs.declared.events.Step.TheVariants as step;
 ghost use Rattle.mk_core.specs.declared.accesses.Access.TheVariants.{Load};
 ghost use Rattle.mk_core.specs.Accesses.{tally_word, register_met, reg_access};
 ghost use Rattle.mk_core.specs.Calls.{progress_reg};
-ghost use Rattle.mk_words.specs.States.{call_of};
+ghost use Rattle.mk_core.specs.Words.{header_at};
+ghost use Rattle.mk_words.specs.States.{call_of, now_of};
 ghost use Rattle.mk_words.specs.CallSteps.{register_of};
 ghost use Rattle.mk_words.specs.Steps.{IsEnabledTo, IsAdmittedTo, Finds, Goes, may_decide};
 ghost use Rattle.mk_words.specs.TurnSteps.{Acts};
@@ -111,6 +112,23 @@ impl<G: Gates> TurnAt<G> {
         self.pass
             .perform(words, Step::Mark { page, value: v }, mark, Access::Or(v));
         self.carried.map.marked(page);
+    }
+
+    /// Marks cells of a page in use, in a table of this many pages. Since the page has a header, the map needn't be
+    /// told.
+    #[inline(always)]
+    pub fn mark_in_use(&mut self, words: &Words, pages: u64, page: u64, v: u64)
+        requires one_table { self.old.pass.table ≡ words.now }
+        requires pages { pages ≡ words.now.config.pages }
+        requires in_use { header_at (now_of self.old.pass).words page ≢ 0 }
+        requires enabled { IsEnabledTo self.old.pass (step.Mark page v) }
+        ensures op { self.new.op ≡ self.old.op }
+        ensures acts { Acts self.old.pass (step.Mark page v) self.new.pass }
+    {
+        let step = Step::Mark { page, value: v };
+        let mark = TableWord::Named(Word::Mark(page));
+        self.pass
+            .perform_among(words, pages, step, mark, Access::Or(v));
     }
 
     /// Wipes a heap word.
