@@ -97,7 +97,7 @@ pub(crate) fn look_at_word(
 {
     stop.is_in_order();
     let word = PAGE_WORDS * cell.page + cell.index * size + i;
-    stop.look_among(words, pages, Word::Heap(word))
+    stop.look_on_page(words, pages, cell.page + i / PAGE_WORDS, Word::Heap(word))
 }
 
 /// Marks the cell into which the hand points, in a table of this many pages.
