@@ -148,9 +148,13 @@ page_under : (p k i : ℕ) (x : Option Header) → k < cells_under x → i < wor
 page_under p k i (Some (Block class)) lk li = let ends = cell_ends k (class_words_of class) lk in omega arith
 page_under p k i (Some (LeafBlock class)) lk li = let ends = cell_ends k (class_words_of class) lk in omega arith
 page_under p k i (Some (Run count mapped)) lk li =
-    let none : k * (64 * count) ≡ 0 = ap (λ j. j * (64 * count)) (omega arith) in omega arith
+    let zero : k ≡ 0 = omega arith in
+    let none : k * (64 * count) ≡ 0 = ap (λ j. j * (64 * count)) zero ∙ omega arith in
+    omega arith
 page_under p k i (Some (LeafRun count)) lk li =
-    let none : k * (64 * count) ≡ 0 = ap (λ j. j * (64 * count)) (omega arith) in omega arith
+    let zero : k ≡ 0 = omega arith in
+    let none : k * (64 * count) ≡ 0 = ap (λ j. j * (64 * count)) zero ∙ omega arith in
+    omega arith
 page_under p k i (Some Free) lk li = absurd (omega arith)
 page_under p k i (Some (Later d m)) lk li = absurd (omega arith)
 page_under p k i None lk li = absurd (omega arith)
