@@ -124,12 +124,7 @@ fn is_gray(words: &Words, stop: &mut Stopped, pages: u64, noted: Noted) -> bool
 
 /// The last gray cell of the list.
 #[inline(always)]
-fn gray_noted(
-    words: &Words,
-    stop: &mut Stopped,
-    work: &mut Worklist,
-    pages: u64,
-) -> Option<Noted>
+fn gray_noted(words: &Words, stop: &mut Stopped, work: &mut Worklist, pages: u64) -> Option<Noted>
     requires one_table { stop.old.pass.table ≡ words.now }
     requires pages { pages ≡ words.now.config.pages }
     requires wanted { IsWanted stop.old.pass }
@@ -166,12 +161,7 @@ fn gray_somewhere(words: &Words, stop: &mut Stopped, from: u64) -> Option<Noted>
 
 /// A gray cell: one of the list, or else one that is found page by page. None where no page has any.
 #[inline(always)]
-fn another_gray(
-    words: &Words,
-    stop: &mut Stopped,
-    work: &mut Worklist,
-    pages: u64,
-) -> Option<Noted>
+fn another_gray(words: &Words, stop: &mut Stopped, work: &mut Worklist, pages: u64) -> Option<Noted>
     requires one_table { stop.old.pass.table ≡ words.now }
     requires pages { pages ≡ words.now.config.pages }
     requires wanted { IsWanted stop.old.pass }

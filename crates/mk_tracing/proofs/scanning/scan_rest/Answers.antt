@@ -1,4 +1,4 @@
-use Rattle.std.proofs.Common.{ℕ, ◌<◌, subst, arith, ◌+◌}
+use Rattle.std.proofs.Common.{ℕ, ◌+◌, arith}
 use Rattle.mk_tracing.specs.Stops.{still_words}
 use Rattle.mk_tracing.proofs.NotedCells.{noted_same, one_same}
 use Rattle.mk_tracing.proofs.ScannedWords.{due_kept, none_scanned_yet, one_scanned, scanned_then}

@@ -1,4 +1,4 @@
-use Rattle.std.proofs.Common.{ℕ, ◌<◌, subst, arith, ◌+◌}
+use Rattle.std.proofs.Common.{ℕ, ◌+◌, subst, arith}
 use Rattle.mk_core.specs.Words.{Words}
 use Rattle.mk_tracing.specs.Grays.{MarksMore}
 use Rattle.mk_tracing.specs.Stops.{still_words}
