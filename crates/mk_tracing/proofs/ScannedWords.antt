@@ -59,24 +59,15 @@ one_scanned pages v y x cell i value same more found well =
           (subst (λ u. points_well pages x u ≡ true) found well);
     }
 
--- Each value below one points well, and so do those from there on.
-pub values_both : (pages : ℕ) (v x : Words) (value : ℕ → ℕ) (i n : ℕ) → MarksMore v x
-    → ((k : ℕ) → k < i → points_well pages v (value k) ≡ true)
-    → ((k : ℕ) → i ≤ k → k < n → points_well pages x (value k) ≡ true)
-    → (k : ℕ) → k < n → points_well pages x (value k) ≡ true
-values_both pages v x value i n more before behind k lt = elim (cases_lt k i) [
-  | inl below ↦ well_more pages v x (value k) more (before k below)
-  | inr past ↦ behind k (omega arith) lt
-]
-
--- Each value of the groups below one points well, and so do those of the next.
-pub values_group : (pages : ℕ) (v x : Words) (value : ℕ → ℕ) (group : ℕ) → MarksMore v x
-    → ((k : ℕ) → k < 8 * group → points_well pages v (value k) ≡ true)
-    → ((i : ℕ) → i < 8 → points_well pages x (value (8 * group + i)) ≡ true)
-    → (k : ℕ) → k < 8 * (group + 1) → points_well pages x (value k) ≡ true
-values_group pages v x value group more before here k lt = elim (cases_lt k (8 * group)) [
-  | inl below ↦ well_more pages v x (value k) more (before k below)
-  | inr past ↦
-      let at : 8 * group + (k - 8 * group) ≡ k = omega arith in
-      subst (λ (j : ℕ). points_well pages x (value j) ≡ true) at (here (k - 8 * group) (omega arith))
-]
+-- A group of words.
+pub group_scanned : (pages : ℕ) (v x : Words) (cell : Cell) (group : ℕ) → MarksMore v x
+    → ((i : ℕ) → i < 8 → points_well pages x (slice_index v.heap (first_word v cell + (8 * group + i))) ≡ true)
+    → ScannedTo pages v x cell (8 * group) (8 * (group + 1))
+group_scanned pages v x cell group more well =
+    record {
+      more = more;
+      well = λ k le lt.
+          let at : 8 * group + (k - 8 * group) ≡ k = omega arith in
+          subst (λ j. points_well pages x (slice_index v.heap (first_word v cell + j)) ≡ true) at
+          (well (k - 8 * group) (omega arith));
+    }

@@ -1,5 +1,5 @@
 //! Steps in the stop, when the close is wanted and no marker attends.
-ghost use Rattle.std.specs.Prelude.{◌≡◌, ◌≢◌, ◌+◌, ◌<◌, ◌^◌, true, false, slice_index, slice_set, bit_or};
+ghost use Rattle.std.specs.Prelude.{◌≡◌, ◌/◌, ◌≢◌, ◌+◌, ◌<◌, ◌^◌, true, false, slice_index, slice_set, bit_or};
 ghost use Rattle.mk_core.specs.Cells.{first_word, head_page};
 ghost use Rattle.mk_core.specs.History.{IsHistory};
 ghost use Rattle.mk_core.specs.Ranges.{is_word};
@@ -73,8 +73,8 @@ pub(crate) fn look_at_root(words: &Words, stop: &mut Stopped, pages: u64, x: Wor
     stop.look_among(words, pages, x)
 }
 
-/// Looks at a word of a gray cell of this many words, whose value is then the hand, if it isn't 0. The table is of this
-/// many pages.
+/// Looks at a word of a gray cell of this many words, whose value is then the hand, if it isn't 0. It stands on this page
+/// of the cell. The table is of this many pages.
 #[inline(always)]
 pub(crate) fn look_at_word(
     words: &Words,
@@ -82,6 +82,7 @@ pub(crate) fn look_at_word(
     pages: u64,
     cell: Cell,
     size: u64,
+    part: u64,
     i: u64,
 ) -> u64
     requires one_table { stop.old.pass.table ≡ words.now }
@@ -89,6 +90,7 @@ pub(crate) fn look_at_word(
     requires wanted { IsWanted stop.old.pass }
     requires due { IsDue words.now.config.pages (still_words stop.old.pass) cell size }
     requires within { i < size }
+    requires part { part ≡ i / 64 }
     ensures on { MarksOn stop.old stop.new }
     ensures words { still_words stop.new.pass ≡ still_words stop.old.pass }
     ensures hand { result ≢ 0 → IsInHand stop.new.pass result }
@@ -97,7 +99,7 @@ pub(crate) fn look_at_word(
 {
     stop.is_in_order();
     let word = PAGE_WORDS * cell.page + cell.index * size + i;
-    stop.look_on_page(words, pages, cell.page + i / PAGE_WORDS, Word::Heap(word))
+    stop.look_on_page(words, pages, cell.page + part, Word::Heap(word))
 }
 
 /// Marks the cell into which the hand points, in a table of this many pages.

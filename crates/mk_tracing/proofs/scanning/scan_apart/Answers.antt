@@ -10,3 +10,6 @@ returns-clause-noted c noted =
     let scan = c.scan_words-last in
     c.extend.ensures.each c.args.words.now.config.pages (still_words scan.new.stop.pass) (scan.ensures.noted noted)
     scan.ensures.last
+
+pub scan_words-last-requires-clause-part : goal.scan_words-last-requires-clause-part
+scan_words-last-requires-clause-part c i le lt = let part = c.requires.part in omega arith

@@ -102,3 +102,9 @@ returns-in-Some-clause-noted c h =
     c.scan_rest-last.ensures.noted (c.mark_value-noted.ensures.noted
     (noted_same pages (still_words c.loop-i.stop.pass) (still_words look.new.stop.pass) c.loop-i.work look.ensures.words
     (c.loop-i.invariant.noted h)))
+
+pub look_at_word-value-requires-clause-part : goal.look_at_word-value-requires-clause-part
+look_at_word-value-requires-clause-part c = c.requires.part c.loop-i.i (omega arith) (omega arith)
+
+pub scan_rest-last-requires-clause-part : goal.scan_rest-last-requires-clause-part
+scan_rest-last-requires-clause-part c j le lt = c.requires.part j (omega arith) lt

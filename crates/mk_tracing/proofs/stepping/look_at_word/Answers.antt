@@ -1,4 +1,4 @@
-use Rattle.std.proofs.Common.{refl, subst, sym, ◌<◌, ◌+◌, ◌*◌, ℕ, arith}
+use Rattle.std.proofs.Common.{refl, subst, sym, ap, ◌∙◌, ◌<◌, ◌+◌, ◌*◌, ℕ, arith}
 use Rattle.mk_core.specs.Cells.{first_word}
 use Rattle.mk_core.specs.declared.events.Step.TheVariants as step
 use Rattle.mk_core.specs.declared.events.Word.TheVariants as word
@@ -28,7 +28,8 @@ look_on_page-requires-clause-enabled c =
 
 pub look_on_page-requires-clause-page : goal.look_on_page-requires-clause-page
 look_on_page-requires-clause-page c =
-    page_of_word (still_words c.args.stop.now.pass) c.args.cell c.args.i c.args.size c.requires.due.gray.index
+    ap (λ k. c.args.cell.page + k) c.requires.part
+    ∙ page_of_word (still_words c.args.stop.now.pass) c.args.cell c.args.i c.args.size c.requires.due.gray.index
     c.requires.due.words c.requires.within
 
 pub overflow_mul-word-2 : goal.overflow_mul-word-2
