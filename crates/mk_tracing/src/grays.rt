@@ -157,9 +157,6 @@ fn gray_somewhere(words: &Words, stop: &mut Stopped, from: u64) -> Option<Noted>
     if let Some(gray) = found {
         return Some(gray);
     }
-    if from == 0 {
-        return None;
-    }
     gray_between(words, stop, 0, from.min(pages))
 }
 
