@@ -142,7 +142,8 @@ fn gray_noted(words: &Words, stop: &mut Stopped, work: &mut Worklist, pages: u64
     None
 }
 
-/// A gray cell, from the page on where the last one was found. None where no page has any.
+/// A gray cell, from the page on where the last one was found, and then from the first page up to it. None where no
+/// page has any.
 fn gray_somewhere(words: &Words, stop: &mut Stopped, from: u64) -> Option<Noted>
     requires one_table { stop.old.pass.table ≡ words.now }
     requires wanted { IsWanted stop.old.pass }

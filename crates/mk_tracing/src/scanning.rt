@@ -88,8 +88,8 @@ fn scan_rest(
     last
 }
 
-/// The same, where none was noted yet. Returns what was noted last. The loop ends with the first cell that is noted, so
-/// that it carries none.
+/// The same, where none was noted yet. The loop ends with the first cell that is noted, so that it carries none: most
+/// cells point into one such cell, or none.
 #[inline(always)]
 fn scan_words(
     words: &Words,
