@@ -5,7 +5,7 @@ use Rattle.std.specs.Prelude.{⊤}
 use Rattle.mk_core.proofs.Vocabulary.{Named, TableWord, Turn, Word}
 use Rattle.mk_core.specs.declared.events.Word.TheVariants as word
 use Rattle.mk_core.specs.Layout.{index_of_named, index_of, count_of_words, NamesWord, IsOfTable, LineGroup, OfPhase}
-use Rattle.mk_core.specs.Layout.{OfTurn, OfTallies, OfGlobals, OfPages, OfHeap, OfGate, OfRegisters, OfDirty}
+use Rattle.mk_core.specs.Layout.{OfTurn, OfTallies, OfGlobals, OfHeaders, OfPage, OfGate, OfRegisters}
 use Rattle.mk_core.specs.Layout.{line_group_of_named, line_group, LineGroupsAreApart}
 
 same_register : (c r d s : ℕ) → r < 8 → s < 8 → 304 + 16 * c + r ≡ 304 + 16 * d + s → word.Reg c r ≡ word.Reg d s
@@ -34,6 +34,8 @@ named_apart pages (word.Mark i) (word.Mark j) hx hy e = ap (λ n. word.Mark n) (
 named_apart pages (word.Black i) (word.Black j) hx hy e = ap (λ n. word.Black n) (omega arith)
 named_apart pages (word.Dirty i) (word.Dirty j) hx hy e = ap (λ n. word.Dirty n) (omega arith)
 named_apart pages (word.Heap i) (word.Heap j) hx hy e = ap (λ n. word.Heap n) (omega arith)
+named_apart pages (word.Heap i) (word.Dirty j) hx hy e = absurd (omega arith)
+named_apart pages (word.Dirty i) (word.Heap j) hx hy e = absurd (omega arith)
 named_apart pages x y hx hy e = absurd (omega arith)
 
 not_turn : (pages : ℕ) (x : Word) → NamesWord pages x → index_of_named pages x ≡ 16 → ⊥
@@ -55,96 +57,95 @@ pub indexes_within : (pages : ℕ) (x : TableWord) → IsOfTable pages x → ind
 indexes_within pages Turn h = omega arith
 indexes_within pages (Named x) h = named_within pages x h
 
--- The groups in their order. One up to the headers begins at sixteen times its rank, a later one 5 words a page after
--- that.
-abbrev rank : ℕ → LineGroup → ℕ
-rank pages OfPhase = 0
-rank pages OfTurn = 1
-rank pages OfTallies = 2
-rank pages (OfGate caller) = 3 + caller
-rank pages (OfRegisters caller) = 19 + caller
-rank pages OfGlobals = 35
-rank pages OfPages = 40
-rank pages (OfDirty page) = 41 + page
-rank pages OfHeap = 41 + pages
+-- The groups in their order, and between which indexes the words of each stand.
+abbrev rank : LineGroup → ℕ
+rank OfPhase = 0
+rank OfTurn = 1
+rank OfTallies = 2
+rank (OfGate caller) = 3 + caller
+rank (OfRegisters caller) = 19 + caller
+rank OfGlobals = 35
+rank OfHeaders = 36
+rank (OfPage page) = 37 + page
 
-abbrev IsGroup : ℕ → LineGroup → Type 0
-IsGroup pages (OfGate caller) = caller < 16
-IsGroup pages (OfRegisters caller) = caller < 16
-IsGroup pages (OfDirty page) = page < pages
-IsGroup pages _ = ⊤
+abbrev first : ℕ → LineGroup → ℕ
+first pages OfPhase = 0
+first pages OfTurn = 16
+first pages OfTallies = 32
+first pages (OfGate caller) = 48 + 16 * caller
+first pages (OfRegisters caller) = 304 + 16 * caller
+first pages OfGlobals = 560
+first pages OfHeaders = 640
+first pages (OfPage page) = 656 + 5 * pages + 72 * page
 
-same_rank : (pages : ℕ) (g h : LineGroup) → IsGroup pages g → IsGroup pages h → rank pages g ≡ rank pages h → g ≡ h
-same_rank pages (OfGate i) (OfGate j) hg hh e = ap (λ n. OfGate n) (omega arith)
-same_rank pages (OfRegisters i) (OfRegisters j) hg hh e = ap (λ n. OfRegisters n) (omega arith)
-same_rank pages (OfDirty i) (OfDirty j) hg hh e = ap (λ n. OfDirty n) (omega arith)
-same_rank pages OfPhase OfPhase hg hh e = refl
-same_rank pages OfTurn OfTurn hg hh e = refl
-same_rank pages OfTallies OfTallies hg hh e = refl
-same_rank pages OfGlobals OfGlobals hg hh e = refl
-same_rank pages OfPages OfPages hg hh e = refl
-same_rank pages OfHeap OfHeap hg hh e = refl
-same_rank pages g h hg hh e = absurd (omega arith)
+abbrev last : ℕ → LineGroup → ℕ
+last pages OfPhase = 0
+last pages OfTurn = 16
+last pages OfTallies = 36
+last pages (OfGate caller) = 48 + 16 * caller
+last pages (OfRegisters caller) = 311 + 16 * caller
+last pages OfGlobals = 623
+last pages OfHeaders = 640 + 5 * pages
+last pages (OfPage page) = 720 + 5 * pages + 72 * page
 
-named_is_group : (pages : ℕ) (x : Word) → NamesWord pages x → IsGroup pages (line_group_of_named x)
-named_is_group pages (word.Gate j) h = h
-named_is_group pages (word.Reg c r) h = h.0
-named_is_group pages (word.Dirty p) h = h
-named_is_group pages x h = tt
+abbrev IsGroup : LineGroup → Type 0
+IsGroup (OfGate caller) = caller < 16
+IsGroup (OfRegisters caller) = caller < 16
+IsGroup _ = ⊤
 
-is_group : (pages : ℕ) (x : TableWord) → IsOfTable pages x → IsGroup pages (line_group x)
-is_group pages Turn h = tt
-is_group pages (Named x) h = named_is_group pages x h
+same_rank : (g h : LineGroup) → IsGroup g → IsGroup h → rank g ≡ rank h → g ≡ h
+same_rank (OfGate i) (OfGate j) hg hh e = ap (λ n. OfGate n) (omega arith)
+same_rank (OfRegisters i) (OfRegisters j) hg hh e = ap (λ n. OfRegisters n) (omega arith)
+same_rank (OfPage i) (OfPage j) hg hh e = ap (λ n. OfPage n) (omega arith)
+same_rank OfPhase OfPhase hg hh e = refl
+same_rank OfTurn OfTurn hg hh e = refl
+same_rank OfTallies OfTallies hg hh e = refl
+same_rank OfGlobals OfGlobals hg hh e = refl
+same_rank OfHeaders OfHeaders hg hh e = refl
+same_rank g h hg hh e = absurd (omega arith)
 
--- where the words of a group stand
-record StandsIn (pages group place : ℕ) : Type 0 where
-  first : 16 * group ≤ place
-  late : 40 < group → 5 * pages + 16 * group ≤ place
-  few : group < 35 → place < 16 * group + 8
-  globals : group ≡ 35 → place < 624
-  between : 35 < group → 40 ≤ group
-  headers : group ≡ 40 → place < 640 + 5 * pages
-  dirty : 40 < group → group < 41 + pages → place ≡ 5 * pages + 16 * group
-  last : group ≤ 41 + pages
+later_group : (pages : ℕ) (g h : LineGroup) → IsGroup g → IsGroup h → rank g < rank h
+    → last pages g + 8 ≤ first pages h
+later_group pages (OfGate i) (OfGate j) hg hh lt = omega arith
+later_group pages (OfRegisters i) (OfRegisters j) hg hh lt = omega arith
+later_group pages (OfPage i) (OfPage j) hg hh lt = omega arith
+later_group pages OfPhase OfPhase hg hh lt = omega arith
+later_group pages OfTurn OfTurn hg hh lt = omega arith
+later_group pages OfTallies OfTallies hg hh lt = omega arith
+later_group pages OfGlobals OfGlobals hg hh lt = omega arith
+later_group pages OfHeaders OfHeaders hg hh lt = omega arith
+later_group pages g h hg hh lt = omega arith
+
+-- a word of a group
+record StandsIn (pages : ℕ) (group : LineGroup) (place : ℕ) : Type 0 where
+  within : IsGroup group
+  first : first pages group ≤ place
+  last : place ≤ last pages group
 
 named_stands_in : (pages : ℕ) (x : Word) → NamesWord pages x
-    → StandsIn pages (rank pages (line_group_of_named x)) (index_of_named pages x)
+    → StandsIn pages (line_group_of_named x) (index_of_named pages x)
+named_stands_in pages (word.Gate caller) h = record { within = h; first = omega arith; last = omega arith }
 named_stands_in pages (word.Reg c r) h =
-    let lc = h.0 in let lr = h.1 in omega arith
-named_stands_in pages x h = omega arith
+    let lc = h.0 in let lr = h.1 in record { within = lc; first = omega arith; last = omega arith }
+named_stands_in pages x h = record { within = tt; first = omega arith; last = omega arith }
 
 stands_in : (pages : ℕ) (x : TableWord) → IsOfTable pages x
-    → StandsIn pages (rank pages (line_group x)) (index_of pages x)
-stands_in pages Turn h = omega arith
+    → StandsIn pages (line_group x) (index_of pages x)
+stands_in pages Turn h = record { within = tt; first = omega arith; last = omega arith }
 stands_in pages (Named x) h = named_stands_in pages x h
 
--- after the globals
-later_page : (pages g h i j : ℕ) → StandsIn pages g i → StandsIn pages h j → g < h → 35 < g → i + 8 ≤ j
-later_page pages g h i j sg sh lt more =
-    let few = sg.between more in
-    let there = sh.late (omega arith) in
-    let last = sh.last in
-    elim (cases_order g 40) as (λ _. i + 8 ≤ j) [
-      | inl same ↦ let here = sg.headers same in omega arith
-      | inr (inl less) ↦ absurd (omega arith)
-      | inr (inr later) ↦ let here = sg.dirty later (omega arith) in omega arith
-    ]
-
-later_group : (pages g h i j : ℕ) → StandsIn pages g i → StandsIn pages h j → g < h → i + 8 ≤ j
-later_group pages g h i j sg sh lt =
-    let first = sh.first in
-    elim (cases_order g 35) as (λ _. i + 8 ≤ j) [
-      | inl same ↦ let few = sg.globals same in let there = sh.between (omega arith) in omega arith
-      | inr (inl less) ↦ let few = sg.few less in omega arith
-      | inr (inr more) ↦ later_page pages g h i j sg sh lt more
-    ]
+in_turn : (pages : ℕ) (g h : LineGroup) (i j : ℕ) → StandsIn pages g i → StandsIn pages h j → rank g < rank h
+    → i + 8 ≤ j
+in_turn pages g h i j sg sh lt =
+    let apart = later_group pages g h sg.within sh.within lt in let here = sg.last in let there = sh.first in omega arith
 
 pub groups_apart : LineGroupsAreApart
 groups_apart pages x y hx hy ne =
-    elim (cases_order (rank pages (line_group x)) (rank pages (line_group y))) as (λ _.
+    let sx = stands_in pages x hx in
+    let sy = stands_in pages y hy in
+    elim (cases_order (rank (line_group x)) (rank (line_group y))) as (λ _.
     (index_of pages x + 8 ≤ index_of pages y) ⊎ (index_of pages y + 8 ≤ index_of pages x)) [
-      | inl same ↦ absurd (ne
-          (same_rank pages (line_group x) (line_group y) (is_group pages x hx) (is_group pages y hy) same))
-      | inr (inl less) ↦ inl (later_group pages _ _ _ _ (stands_in pages x hx) (stands_in pages y hy) less)
-      | inr (inr more) ↦ inr (later_group pages _ _ _ _ (stands_in pages y hy) (stands_in pages x hx) more)
+      | inl same ↦ absurd (ne (same_rank (line_group x) (line_group y) sx.within sy.within same))
+      | inr (inl less) ↦ inl (in_turn pages _ _ _ _ sx sy less)
+      | inr (inr more) ↦ inr (in_turn pages _ _ _ _ sy sx more)
     ]

@@ -33,6 +33,7 @@ mod MappedKinds
 pub mod MarkTests
 pub mod MoreSchedules
 pub mod ObjectHeaders
+pub mod PageByPage
 pub mod PageSteps
 pub mod PhaseTests
 pub mod PlacesNow

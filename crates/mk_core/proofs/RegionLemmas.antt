@@ -12,8 +12,9 @@ use Rattle.mk_core.specs.declared.events.Word.TheVariants as word
 use Rattle.mk_core.specs.declared.accesses.Access.TheVariants.{Exchange, Or, Add, Sub}
 use Rattle.mk_core.specs.Words.{word_in, with_word_in, becomes}
 use Rattle.mk_core.proofs.Spread.{set_later, length_spread, spread_at, spread_set, word_at, word_set}
-use Rattle.mk_core.proofs.Spread.{length_words, words_set, zeros_spread}
-use Rattle.mk_core.specs.Layout.{index_of, IsOfTable, quarantine_words, gap, spread, regions, joined, in_order}
+use Rattle.mk_core.proofs.PageByPage.{length_pages, heap_at, dirty_at, heap_set, dirty_set, zeros}
+use Rattle.mk_core.specs.Layout.{index_of, IsOfTable, quarantine_words, gap, spread, page_by_page, regions, joined}
+use Rattle.mk_core.specs.Layout.{in_order}
 use Rattle.mk_core.specs.Layout.{AreOfPages, WordsStandAtTheirIndexes, ChangesStandAtTheirIndexes, ListHasAllWords}
 use Rattle.mk_core.specs.Layout.{FirstWordsAreZero, AccessesStandAtTheirIndexes}
 
@@ -78,9 +79,11 @@ record Begins (pages : ℕ) (w : Words) : Type 0 where
   quarantine : before (regions w) 12 ≡ 640 + 2 * pages
   marks : before (regions w) 13 ≡ 640 + 3 * pages
   blacks : before (regions w) 14 ≡ 640 + 4 * pages
-  dirty : before (regions w) 16 ≡ 656 + 5 * pages
-  heap : before (regions w) 17 ≡ 656 + 21 * pages
-  all : before (regions w) 18 ≡ 656 + 85 * pages
+  by_page : before (regions w) 16 ≡ 656 + 5 * pages
+  all : before (regions w) 17 ≡ 656 + 77 * pages
+
+words_of_all : {pages : ℕ} (w : Words) → AreOfPages pages w → length w.heap ≡ 64 * length w.dirty
+words_of_all w h = let d = h.dirty in let n = h.heap in omega arith
 
 begins : (pages : ℕ) (w : Words) → AreOfPages pages w → Begins pages w
 begins pages w h =
@@ -93,8 +96,9 @@ begins pages w h =
     ∙ h.pages in
     let q : length (quarantine_words w.freed w.snapshot) ≡ pages = quarantine_length w.freed w.snapshot (h.freed
     ∙ sym h.snapshot) ∙ h.freed in
-    let s : length (spread (length w.dirty) 1 15 w.dirty) ≡ 16 * length w.dirty = length_words w.dirty in
-    let m = h.marks in let b = h.blacks in let d = h.dirty in let n = h.heap in
+    let d = h.dirty in
+    let s : length (page_by_page w.dirty w.heap) ≡ 72 * length w.dirty = length_pages w.dirty w.heap (words_of_all w h) in
+    let m = h.marks in let b = h.blacks in
     omega arith
 
 -- the list with another region j
@@ -158,11 +162,15 @@ module _ (pages : ℕ) (w : Words) (h : AreOfPages pages w) (b : Begins pages w)
   black_place : (p : ℕ) → p < pages → IsPlaceOf w (640 + 4 * pages + p) 14 p
   black_place p t = omega arith
 
-  dirty_place : (p : ℕ) → p < pages → IsPlaceOf w (656 + 5 * pages + 16 * p) 16 (16 * p)
-  dirty_place p t = omega (arith, length_words w.dirty)
+  dirty_place : (p : ℕ) → p < pages → IsPlaceOf w (720 + 5 * pages + 72 * p) 16 (72 * p + 64)
+  dirty_place p t = omega (arith, length_pages w.dirty w.heap (words_of_all w h), h.dirty)
 
-  heap_place : (n : ℕ) → n < 64 * pages → IsPlaceOf w (656 + 21 * pages + n) 17 n
-  heap_place n t = omega arith
+  heap_place : (n : ℕ) → n < 64 * pages
+      → IsPlaceOf w (656 + 5 * pages + n + 8 * (n / 64)) 16 (72 * (n / 64) + n % 64)
+  heap_place n t = omega (arith, length_pages w.dirty w.heap (words_of_all w h), h.dirty)
+
+  whole : (n : ℕ) → 64 * (n / 64) + n % 64 ≡ n
+  whole n = omega arith
 
   named_stands : (x : Word) → IsOfTable pages (Named x)
       → slice_index (in_order w) (index_of pages (Named x)) ≡ word_in w (Named x)
@@ -178,9 +186,11 @@ module _ (pages : ℕ) (w : Words) (h : AreOfPages pages w) (b : Begins pages w)
       ∙ quarantine_at w.freed w.snapshot p (h.freed ∙ sym h.snapshot) (omega arith)
   named_stands (word.Mark p) t = at w _ 13 p (mark_place p t)
   named_stands (word.Black p) t = at w _ 14 p (black_place p t)
-  named_stands (word.Dirty p) t = at w _ 16 (16 * p) (dirty_place p t)
-      ∙ word_at (length w.dirty) w.dirty p refl (omega arith)
-  named_stands (word.Heap n) t = at w _ 17 n (heap_place n t)
+  named_stands (word.Dirty p) t = at w _ 16 (72 * p + 64) (dirty_place p t)
+      ∙ dirty_at w.dirty w.heap p (words_of_all w h) (omega (arith, h.dirty))
+  named_stands (word.Heap n) t = at w _ 16 (72 * (n / 64) + n % 64) (heap_place n t)
+      ∙ heap_at w.dirty w.heap (n / 64) (n % 64) (words_of_all w h) (omega (arith, h.dirty)) (omega arith)
+      ∙ ap (λ k. slice_index w.heap k) (whole n)
   named_stands _ t = refl
 
   named_changes : (x : Word) (v : ℕ) → IsOfTable pages (Named x)
@@ -209,9 +219,14 @@ module _ (pages : ℕ) (w : Words) (h : AreOfPages pages w) (b : Begins pages w)
       ∙ set_at w _ 12 p v (quarantine_place p t)
   named_changes (word.Mark p) v t = set_at w _ 13 p v (mark_place p t)
   named_changes (word.Black p) v t = set_at w _ 14 p v (black_place p t)
-  named_changes (word.Dirty p) v t = ap (λ xs. put w 16 xs) (words_set w.dirty p v (omega arith))
-      ∙ set_at w _ 16 (16 * p) v (dirty_place p t)
-  named_changes (word.Heap n) v t = set_at w _ 17 n v (heap_place n t)
+  named_changes (word.Dirty p) v t =
+      ap (λ xs. put w 16 xs) (sym (dirty_set w.dirty w.heap p v (words_of_all w h) (omega (arith, h.dirty))))
+      ∙ set_at w _ 16 (72 * p + 64) v (dirty_place p t)
+  named_changes (word.Heap n) v t =
+      ap (λ k. put w 16 (page_by_page w.dirty (slice_set w.heap k v))) (sym (whole n))
+      ∙ ap (λ xs. put w 16 xs) (sym (heap_set w.dirty w.heap (n / 64) (n % 64) v (words_of_all w h)
+      (omega (arith, h.dirty)) (omega arith)))
+      ∙ set_at w _ 16 (72 * (n / 64) + n % 64) v (heap_place n t)
   named_changes _ v t = refl
 
 pub words_stand : WordsStandAtTheirIndexes
@@ -252,7 +267,7 @@ unfolding spread
 first_are_zero pages =
     let w = zero_words_of pages in
     let counts : List ℕ = 1 ∷ 15 ∷ 1 ∷ 15 ∷ 5 ∷ 11 ∷ 256 ∷ 256 ∷ 64 ∷ 16 ∷ pages ∷ pages ∷ pages ∷ pages ∷ pages ∷ 16
-    ∷ 16 * pages ∷ 64 * pages ∷ [] in
+    ∷ 72 * pages ∷ [] in
     ap (λ hs. put w 10 hs) (map_replicate (λ (page : Page). page.header) free_page pages)
     ∙ ap (λ us. joined (slice_set (slice_set (regions w) 10 (gap pages)) 11 us))
     (map_replicate (λ (page : Page). page.used) free_page pages)
@@ -260,7 +275,7 @@ first_are_zero pages =
     (no_quarantine pages)
     ∙ ap (λ ds. joined (slice_set (slice_set (slice_set (slice_set (regions w) 10 (gap pages)) 11 (gap pages)) 12
     (gap pages)) 16 ds))
-    (zeros_spread pages)
+    (zeros pages)
     ∙ joined_gaps counts
     ∙ ap gap (omega arith)
 

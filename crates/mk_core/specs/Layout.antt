@@ -1,9 +1,10 @@
 -- The words of the shared table in their order, from index 0: the phase at 0, the turn at 16, the five tallies from 32,
 -- a gate at each sixteenth word from 48, each caller's eight registers at each sixteenth word from 304, the 64 globals
--- from 560. From 640 on the headers, used, quarantine, mark and black words, one a page; after a gap of 16 each page's
--- dirty word, at each sixteenth word; and the heap, 64 a page. The words between are never used, and 0: threads that
--- store to words of one cache line slow one another. With 4,096 pages these are 348,816 words, 2,790,528 bytes.
-use Rattle.std.specs.Prelude.{◌≡◌, ◌≢◌, ℕ, zero, suc, ◌+◌, ◌*◌, ◌<◌, ◌≤◌, ◌⊎◌, List, [], ◌∷◌, ◌++◌, length, map, take}
+-- from 560. From 640 on the headers, used, quarantine, mark and black words, one a page; and after a gap of 16 the
+-- pages: each has its 64 words of the heap, its dirty word, and a gap of 7. The words between are never used, and 0:
+-- threads that store to words of one cache line slow one another. With 4,096 pages these are 316,048 words, 2,528,384
+-- bytes.
+use Rattle.std.specs.Prelude.{◌≡◌, ◌≢◌, ℕ, zero, suc, ◌+◌, ◌*◌, ◌/◌, ◌<◌, ◌≤◌, ◌⊎◌, List, [], ◌∷◌, ◌++◌, length, map, take}
 use Rattle.std.specs.Prelude.{drop, replicate, slice_index, slice_set, ⊤}
 use Rattle.mk_geom.specs.declared.pages.Page.{Page}
 use Rattle.mk_core.specs.declared.events.Word.{Word}
@@ -32,15 +33,15 @@ index_of_named pages (word.Used p) = 640 + pages + p
 index_of_named pages (word.Quar p) = 640 + 2 * pages + p
 index_of_named pages (word.Mark p) = 640 + 3 * pages + p
 index_of_named pages (word.Black p) = 640 + 4 * pages + p
-index_of_named pages (word.Dirty p) = 656 + 5 * pages + 16 * p
-index_of_named pages (word.Heap n) = 656 + 21 * pages + n
+index_of_named pages (word.Dirty p) = 720 + 5 * pages + 72 * p
+index_of_named pages (word.Heap n) = 656 + 5 * pages + n + 8 * (n / 64)
 
 abbrev pub index_of : ℕ → TableWord → ℕ
 index_of pages Turn = 16
 index_of pages (Named name) = index_of_named pages name
 
 abbrev pub count_of_words : ℕ → ℕ
-count_of_words pages = 656 + 85 * pages
+count_of_words pages = 656 + 77 * pages
 
 -- the name is one of a table of this many pages
 abbrev pub NamesWord : ℕ → Word → Type 0
@@ -80,6 +81,12 @@ unfoldable pub spread : ℕ → ℕ → ℕ → List ℕ → List ℕ
 spread zero size between xs = []
 spread (suc groups) size between xs = take size xs ++ (gap between ++ spread groups size between (drop size xs))
 
+-- the words of the heap and the dirty words, page by page
+unfoldable pub page_by_page : List ℕ → List ℕ → List ℕ
+page_by_page [] heap = []
+page_by_page (dirty ∷ others) heap = take 64 heap
+    ++ ((dirty ∷ gap 7) ++ page_by_page others (drop 64 heap))
+
 -- the words region by region, and as one list
 abbrev pub regions : Words → List (List ℕ)
 regions w =
@@ -93,8 +100,7 @@ regions w =
     ∷ map (λ (page : Page). page.used) w.pages
     ∷ quarantine_words w.freed w.snapshot
     ∷ w.marks ∷ w.blacks ∷ gap 16
-    ∷ spread (length w.dirty) 1 15 w.dirty
-    ∷ w.heap ∷ []
+    ∷ page_by_page w.dirty w.heap ∷ []
 
 abbrev pub joined : List (List ℕ) → List ℕ
 joined [] = []
@@ -153,12 +159,13 @@ AccessesStandAtTheirIndexes =
     → in_order (accessed w x a)
     ≡ slice_set (in_order w) (index_of pages x) (becomes a (slice_index (in_order w) (index_of pages x)))
 
--- Words that may share a cache line: those from the headers to the black words may, and so may those of the heap.
+-- Words that may share a cache line: those from the headers to the black words may, and so may those of a page, with
+-- its dirty word.
 pub data LineGroup : Type 0 where
-  OfPhase OfTurn OfTallies OfGlobals OfPages OfHeap : LineGroup
+  OfPhase OfTurn OfTallies OfGlobals OfHeaders : LineGroup
   OfGate : (caller : ℕ) → LineGroup
   OfRegisters : (caller : ℕ) → LineGroup
-  OfDirty : (page : ℕ) → LineGroup
+  OfPage : (page : ℕ) → LineGroup
 
 abbrev pub line_group_of_named : Word → LineGroup
 line_group_of_named word.Phase = OfPhase
@@ -170,9 +177,9 @@ line_group_of_named word.Full = OfTallies
 line_group_of_named (word.Gate caller) = OfGate caller
 line_group_of_named (word.Reg caller r) = OfRegisters caller
 line_group_of_named (word.Global g) = OfGlobals
-line_group_of_named (word.Dirty p) = OfDirty p
-line_group_of_named (word.Heap n) = OfHeap
-line_group_of_named _ = OfPages
+line_group_of_named (word.Dirty p) = OfPage p
+line_group_of_named (word.Heap n) = OfPage (n / 64)
+line_group_of_named _ = OfHeaders
 
 abbrev pub line_group : TableWord → LineGroup
 line_group Turn = OfTurn

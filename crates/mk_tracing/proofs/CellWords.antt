@@ -141,6 +141,31 @@ words_in_heap c es cell i h lt lk scanned li =
     in_heap_under c (left c es).now.words cell.page cell.index i (header_in (left c es).now.words cell.page)
     (in_heap_left c es h.within_limits h.enabled).runs refl lt lk scanned li
 
+-- Those of a block's cell stand on its page, and those of a run 64 on each of its pages.
+
+page_under : (p k i : ℕ) (x : Option Header) → k < cells_under x → i < words_under x
+    → p + i / 64 ≡ (64 * p + k * words_under x + i) / 64
+page_under p k i (Some (Block class)) lk li = let ends = cell_ends k (class_words_of class) lk in omega arith
+page_under p k i (Some (LeafBlock class)) lk li = let ends = cell_ends k (class_words_of class) lk in omega arith
+page_under p k i (Some (Run count mapped)) lk li =
+    let zero : k ≡ 0 = omega arith in
+    let none : k * (64 * count) ≡ 0 = ap (λ j. j * (64 * count)) zero ∙ omega arith in
+    omega arith
+page_under p k i (Some (LeafRun count)) lk li =
+    let zero : k ≡ 0 = omega arith in
+    let none : k * (64 * count) ≡ 0 = ap (λ j. j * (64 * count)) zero ∙ omega arith in
+    omega arith
+page_under p k i (Some Free) lk li = absurd (omega arith)
+page_under p k i (Some (Later d m)) lk li = absurd (omega arith)
+page_under p k i None lk li = absurd (omega arith)
+
+pub page_of_word : (w : Words) (cell : Cell) (i size : ℕ) → cell.index < cells_under (header_in w cell.page)
+    → size ≡ cell_words w cell → i < size
+    → cell.page + i / 64 ≡ (64 * cell.page + cell.index * size + i) / 64
+page_of_word w cell i size lk is li =
+    subst (λ k. cell.page + i / 64 ≡ (64 * cell.page + cell.index * k + i) / 64) (sym is)
+    (page_under cell.page cell.index i (header_in w cell.page) lk (subst (λ k. i < k) is li))
+
 -- and a lookup finds the cell at each that isn't 0.
 
 run_at : (pages : ℕ) (w : Words) (n p count : ℕ) → n < 64 * pages → header_in w p ≡ Some (Run count true)

@@ -17,9 +17,9 @@ use Rattle.mk_tracing.proofs.NoGrays.{no_gray, no_gray_found}
 
 -- what holds of a value that is told where a test holds, and what holds where it doesn't
 
-if_told : (P : ℕ → Type 0) (test : Bool) (x : ℕ) (o : Option ℕ) → o ≡ then_some test x → (test ≡ true → P x)
-    → IfSome o P
-if_told P test x o is told = subst (λ (r : Option ℕ). IfSome r P) (sym is) (by test told)
+pub if_told : {A : Type 0} (P : A → Type 0) (test : Bool) (x : A) (o : Option A) → o ≡ then_some test x
+    → (test ≡ true → P x) → IfSome o P
+if_told {A} P test x o is told = subst (λ (r : Option A). IfSome r P) (sym is) (by test told)
   where
     by : (b : Bool) → (b ≡ true → P x) → IfSome (then_some b x) P
     by true h = h refl

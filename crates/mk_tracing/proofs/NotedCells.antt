@@ -1,6 +1,6 @@
 -- Noted cells stay so while marks are added and cells are blackened, and are gray where they aren't black.
 use Rattle.std.proofs.Common.{◌≡◌, ◌∙◌, ℕ, ◌+◌, ◌-◌, ◌<◌, false, true, List, ap, sym, subst, arith}
-use Rattle.std.specs.Prelude.{slice_index}
+use Rattle.std.specs.Prelude.{Option, Some, None, IfSome, slice_index}
 use Rattle.mk_geom.specs.declared.addresses.Cell.{Cell}
 use Rattle.mk_geom.specs.Headers.{header_of}
 use Rattle.mk_core.specs.Bits.{has_bit}
@@ -9,65 +9,109 @@ use Rattle.mk_core.specs.Frames.{OnlyGrow}
 use Rattle.mk_core.specs.Words.{Words, header_at}
 use Rattle.mk_tracing.specs.declared.noted.Noted.{Noted}
 use Rattle.mk_tracing.specs.declared.worklist.Worklist.{Worklist}
-use Rattle.mk_tracing.specs.Grays.{IsGrayUnder, MarksMore, with_blacks}
-use Rattle.mk_tracing.specs.Noted.{AreNoted, IsNoted}
+use Rattle.mk_tracing.specs.Grays.{MarksMore, with_blacks, words_scanned}
+use Rattle.mk_tracing.specs.Noted.{AreNoted, IsGrayNoted, IsNoted}
 
-noted_under : (pages : ℕ) (w v : Words) (work : Worklist) → ((p : ℕ) → header_at v p ≡ header_at w p)
-    → OnlyGrow w.marks v.marks → AreNoted pages w work → AreNoted pages v work
-noted_under pages w v work headers grow noted k d low lt =
-    let n = noted k d low lt in
-    record { page = n.page; marked = grow _ _ n.marked; word = n.word ∙ sym (headers _) }
+-- Headers stay, and marks are only added.
+record Stays (w v : Words) : Type 0 where
+  headers : (p : ℕ) → header_at v p ≡ header_at w p
+  grow : OnlyGrow w.marks v.marks
+
+more_stays : (w v : Words) → MarksMore w v → Stays w v
+more_stays w v more =
+    record { headers = λ p. ap (λ (y : Words). header_at y p) more.is; grow = more.grow }
+
+black_stays : (page bits : ℕ) (w v : Words) → v ≡ with_blacks page bits w → Stays w v
+black_stays page bits w v is =
+    record {
+      headers = λ p. ap (λ (y : Words). header_at y p) is;
+      grow = λ p k h. subst (λ (ms : List ℕ). has_bit (slice_index ms p) k ≡ true)
+          (sym (ap (λ (y : Words). y.marks) is)) h;
+    }
+
+one_stays : (pages : ℕ) (w v : Words) (noted : Noted) → Stays w v → IsNoted pages w noted → IsNoted pages v noted
+one_stays pages w v noted stays is =
+    let header = sym (stays.headers noted.cell.page) in
+    record {
+      page = is.page;
+      index = subst (λ n. noted.cell.index < cells_under (header_of n)) header is.index;
+      marked = stays.grow _ _ is.marked;
+      words = is.words ∙ ap (λ n. words_scanned (header_of n)) header;
+    }
+
+last_stays : (pages : ℕ) (w v : Words) (last : Option Noted) → Stays w v → IfSome last (IsNoted pages w)
+    → IfSome last (IsNoted pages v)
+last_stays pages w v None stays noted = noted
+last_stays pages w v (Some last) stays noted = one_stays pages w v last stays noted
 
 pub noted_same : (pages : ℕ) (w v : Words) (work : Worklist) → v ≡ w → AreNoted pages w work → AreNoted pages v work
 noted_same pages w v work same noted = subst (λ (y : Words). AreNoted pages y work) (sym same) noted
 
 pub noted_more : (pages : ℕ) (w v : Words) (work : Worklist) → MarksMore w v → AreNoted pages w work
     → AreNoted pages v work
-noted_more pages w v work more =
-    noted_under pages w v work (λ p. ap (λ (y : Words). header_at y p) more.is) more.grow
+noted_more pages w v work more noted k d low lt = one_stays pages w v _ (more_stays w v more) (noted k d low lt)
 
 pub noted_black : (pages page bits : ℕ) (w v : Words) (work : Worklist) → v ≡ with_blacks page bits w
     → AreNoted pages w work → AreNoted pages v work
-noted_black pages page bits w v work is =
-    noted_under pages w v work (λ p. ap (λ (y : Words). header_at y p) is)
-    (λ p k h. subst (λ (ms : List ℕ). has_bit (slice_index ms p) k ≡ true) (sym (ap (λ (y : Words). y.marks) is)) h)
+noted_black pages page bits w v work is noted k d low lt =
+    one_stays pages w v _ (black_stays page bits w v is) (noted k d low lt)
 
--- A cell is noted that is marked, under the header word that was found at its page.
+pub one_same : (pages : ℕ) (w v : Words) (noted : Noted) → v ≡ w → IsNoted pages w noted → IsNoted pages v noted
+one_same pages w v noted same is = subst (λ (y : Words). IsNoted pages y noted) (sym same) is
 
-pub noted_cell : (pages : ℕ) (w v : Words) (noted : Noted) (cell : Cell) (header : ℕ) → v ≡ w → noted.cell ≡ cell
-    → noted.header ≡ header → header ≡ header_at w cell.page → cell.page < pages → is_marked w cell ≡ true
+pub one_more : (pages : ℕ) (w v : Words) (noted : Noted) → MarksMore w v → IsNoted pages w noted
     → IsNoted pages v noted
-noted_cell pages w v noted cell header same at under there within marked =
+one_more pages w v noted more = one_stays pages w v noted (more_stays w v more)
+
+pub last_black : (pages page bits : ℕ) (w v : Words) (last : Option Noted) → v ≡ with_blacks page bits w
+    → IfSome last (IsNoted pages w) → IfSome last (IsNoted pages v)
+last_black pages page bits w v last is = last_stays pages w v last (black_stays page bits w v is)
+
+-- A cell is noted that is marked, by the header word that was found at its page.
+
+pub noted_cell : (pages : ℕ) (w v : Words) (cell : Cell) (header : ℕ) (noted : Option Noted) → v ≡ w
+    → header ≡ header_at w cell.page → cell.page < pages → is_marked w cell ≡ true
+    → IfSome noted (λ (n : Noted). n.cell ≡ cell)
+    → IfSome noted (λ (n : Noted). n.cell.index < cells_under (header_of header))
+    → IfSome noted (λ (n : Noted). n.words ≡ words_scanned (header_of header)) → IfSome noted (IsNoted pages v)
+noted_cell pages w v cell header None same there within marked at known words = at
+noted_cell pages w v cell header (Some noted) same there within marked at known words =
+    let here : header ≡ header_at w noted.cell.page = there ∙ ap (λ (x : Cell). header_at w x.page) (sym at) in
     subst (λ (y : Words). IsNoted pages y noted) (sym same) (record {
       page = subst (λ (x : Cell). x.page < pages) (sym at) within;
+      index = subst (λ n. noted.cell.index < cells_under (header_of n)) here known;
       marked = subst (λ (x : Cell). is_marked w x ≡ true) (sym at) marked;
-      word = under ∙ there ∙ ap (λ (x : Cell). header_at w x.page) (sym at);
+      words = words ∙ ap (λ n. words_scanned (header_of n)) here;
     })
 
 pub noted_marked : (pages : ℕ) (w v x : Words) (noted : Noted) (page header : ℕ) → v ≡ w → MarksMore v x
-    → noted.cell.page ≡ page → noted.header ≡ 1 + (header - 1) → 0 < header → header ≡ header_at w page → page < pages
-    → is_marked x noted.cell ≡ true → IsNoted pages x noted
-noted_marked pages w v x noted page header same more at under some there within marked =
+    → noted.cell.page ≡ page → noted.cell.index < cells_under (header_of (1 + (header - 1)))
+    → noted.words ≡ words_scanned (header_of (1 + (header - 1))) → 0 < header → header ≡ header_at w page
+    → page < pages → is_marked x noted.cell ≡ true → IsNoted pages x noted
+noted_marked pages w v x noted page header same more at known words some there within marked =
     let word : 1 + (header - 1) ≡ header = omega arith in
+    let here : 1 + (header - 1) ≡ header_at x noted.cell.page =
+    word ∙ there ∙ ap (λ p. header_at w p) (sym at)
+    ∙ sym (ap (λ (y : Words). header_at y noted.cell.page) more.is
+    ∙ ap (λ (y : Words). header_at y noted.cell.page) same) in
     record {
       page = subst (λ p. p < pages) (sym at) within;
+      index = subst (λ n. noted.cell.index < cells_under (header_of n)) here known;
       marked = marked;
-      word = under ∙ word ∙ there ∙ ap (λ p. header_at w p) (sym at)
-          ∙ sym (ap (λ (y : Words). header_at y noted.cell.page) more.is
-          ∙ ap (λ (y : Words). header_at y noted.cell.page) same);
+      words = words ∙ ap (λ n. words_scanned (header_of n)) here;
     }
 
 -- A noted cell that isn't black is gray.
 pub noted_gray : (pages : ℕ) (w : Words) (noted : Noted) (blacks : ℕ) → IsNoted pages w noted
     → blacks ≡ slice_index w.blacks noted.cell.page → has_bit blacks noted.cell.index ≡ false
-    → IsGrayUnder pages w noted.cell noted.header
+    → IsGrayNoted pages w noted
 noted_gray pages w noted blacks is found white =
     record {
       gray = record {
         page = is.page;
-        index = subst (λ n. noted.cell.index < cells_under (header_of n)) is.word noted.known;
+        index = is.index;
         marked = is.marked;
         not_black = subst (λ n. has_bit n noted.cell.index ≡ false) found white;
       };
-      word = is.word;
+      words = is.words;
     }

@@ -1,12 +1,13 @@
 -- The words of a cell that is scanned, which point well one after the other.
-use Rattle.std.proofs.Common.{◌≡◌, ℕ, ◌+◌, ◌*◌, ◌-◌, ◌<◌, ◌≤◌, true, sym, ◌∙◌, ap, subst, inl, inr, arith}
+use Rattle.std.proofs.Common.{◌≡◌, ℕ, ◌+◌, ◌*◌, ◌-◌, ◌<◌, ◌≤◌, true, refl, sym, ◌∙◌, ap, subst, inl, inr, arith}
 use Rattle.std.proofs.lemmas.Bool.{cases_lt}
 use Rattle.mk_geom.specs.declared.addresses.Cell.{Cell}
-use Rattle.mk_core.specs.Cells.{cell_words, has_no_pointers, header_in, points_well}
+use Rattle.std.specs.Prelude.{slice_index}
+use Rattle.mk_core.specs.Cells.{cell_words, first_word, has_no_pointers, header_in, points_well}
 use Rattle.mk_core.specs.Words.{Words}
 use Rattle.mk_tracing.specs.Grays.{IsDue, MarksMore}
-use Rattle.mk_tracing.proofs.Blackened.{gray_kept}
-use Rattle.mk_tracing.proofs.MoreMarks.{well_more}
+use Rattle.mk_tracing.proofs.Blackened.{cell_kept, gray_kept}
+use Rattle.mk_tracing.proofs.MoreMarks.{more_same, more_then, well_more}
 
 -- A cell stays due through looks, and after marks.
 
@@ -23,34 +24,50 @@ due_kept pages w v cell size due more =
       words = due.words ∙ sym (ap (λ (y : Words). cell_words y cell) more.is);
     }
 
--- Each value from one on and below another points well, and so does the next.
-pub values_from : (pages : ℕ) (v x : Words) (value : ℕ → ℕ) (from i : ℕ) → MarksMore v x
-    → ((k : ℕ) → from ≤ k → k < i → points_well pages v (value k) ≡ true)
-    → points_well pages x (value i) ≡ true
-    → (k : ℕ) → from ≤ k → k < i + 1 → points_well pages x (value k) ≡ true
-values_from pages v x value from i more before here k le lt = elim (cases_lt k i) [
-  | inl below ↦ well_more pages v x (value k) more (before k le below)
-  | inr past ↦ let at : k ≡ i = omega arith in ap (λ j. points_well pages x (value j)) at ∙ here
-]
+-- The words of a cell from one on, up to another, were scanned: marks were added, and each points well.
+pub record ScannedTo (pages : ℕ) (w v : Words) (cell : Cell) (from i : ℕ) : Type 0 where
+  pub more : MarksMore w v
+  pub well : (k : ℕ) → from ≤ k → k < i
+      → points_well pages v (slice_index w.heap (first_word w cell + k)) ≡ true
 
--- Each value below one points well, and so do those from there on.
-pub values_both : (pages : ℕ) (v x : Words) (value : ℕ → ℕ) (i n : ℕ) → MarksMore v x
-    → ((k : ℕ) → k < i → points_well pages v (value k) ≡ true)
-    → ((k : ℕ) → i ≤ k → k < n → points_well pages x (value k) ≡ true)
-    → (k : ℕ) → k < n → points_well pages x (value k) ≡ true
-values_both pages v x value i n more before behind k lt = elim (cases_lt k i) [
-  | inl below ↦ well_more pages v x (value k) more (before k below)
-  | inr past ↦ behind k (omega arith) lt
-]
+pub none_scanned_yet : (pages : ℕ) (w : Words) (cell : Cell) (from : ℕ) → ScannedTo pages w w cell from from
+none_scanned_yet pages w cell from =
+    record { more = more_same w w refl; well = λ k le lt. absurd (omega arith) }
 
--- Each value of the groups below one points well, and so do those of the next.
-pub values_group : (pages : ℕ) (v x : Words) (value : ℕ → ℕ) (group : ℕ) → MarksMore v x
-    → ((k : ℕ) → k < 8 * group → points_well pages v (value k) ≡ true)
-    → ((i : ℕ) → i < 8 → points_well pages x (value (8 * group + i)) ≡ true)
-    → (k : ℕ) → k < 8 * (group + 1) → points_well pages x (value k) ≡ true
-values_group pages v x value group more before here k lt = elim (cases_lt k (8 * group)) [
-  | inl below ↦ well_more pages v x (value k) more (before k below)
-  | inr past ↦
-      let at : 8 * group + (k - 8 * group) ≡ k = omega arith in
-      subst (λ (j : ℕ). points_well pages x (value j) ≡ true) at (here (k - 8 * group) (omega arith))
-]
+-- Words more, up to another, where all before point well and these do.
+pub scanned_then : (pages : ℕ) (w v x : Words) (cell : Cell) (from i n : ℕ) → ScannedTo pages w v cell from i
+    → ScannedTo pages v x cell i n → ScannedTo pages w x cell from n
+scanned_then pages w v x cell from i n one two =
+    record {
+      more = more_then w v x one.more two.more;
+      well = λ k le lt. elim (cases_lt k i) [
+        | inl below ↦ well_more pages v x _ two.more (one.well k le below)
+        | inr past ↦ subst (λ u. points_well pages x u ≡ true) (cell_kept w v cell k one.more) (two.well k past lt)
+      ];
+    }
+
+-- One word, which was looked at, and what it points into then marked.
+pub one_scanned : (pages : ℕ) (v y x : Words) (cell : Cell) (i value : ℕ) → y ≡ v → MarksMore y x
+    → value ≡ slice_index v.heap (first_word v cell + i) → points_well pages x value ≡ true
+    → ScannedTo pages v x cell i (i + 1)
+one_scanned pages v y x cell i value same more found well =
+    record {
+      more = subst (λ (u : Words). MarksMore u x) same more;
+      well = λ k le lt.
+          let at : i ≡ k = omega arith in
+          subst (λ j. points_well pages x (slice_index v.heap (first_word v cell + j)) ≡ true) at
+          (subst (λ u. points_well pages x u ≡ true) found well);
+    }
+
+-- A group of words.
+pub group_scanned : (pages : ℕ) (v x : Words) (cell : Cell) (group : ℕ) → MarksMore v x
+    → ((i : ℕ) → i < 8 → points_well pages x (slice_index v.heap (first_word v cell + (8 * group + i))) ≡ true)
+    → ScannedTo pages v x cell (8 * group) (8 * (group + 1))
+group_scanned pages v x cell group more well =
+    record {
+      more = more;
+      well = λ k le lt.
+          let at : 8 * group + (k - 8 * group) ≡ k = omega arith in
+          subst (λ j. points_well pages x (slice_index v.heap (first_word v cell + j)) ≡ true) at
+          (well (k - 8 * group) (omega arith));
+    }

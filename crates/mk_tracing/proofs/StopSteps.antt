@@ -20,12 +20,13 @@ use Rattle.mk_core.specs.NewPlaces.{object_made}
 use Rattle.mk_core.specs.StopConditions.{marks_place}
 use Rattle.mk_core.specs.TurnConditions.{place_now}
 use Rattle.std.specs.Prelude.{Bool, ◌&&◌, not}
-use Rattle.mk_core.specs.Words.{Words}
+use Rattle.mk_core.specs.Words.{Words, header_at}
 use Rattle.mk_core.proofs.PointedPages.{pointed_within}
 use Rattle.mk_words.specs.Seats.{Has}
 use Rattle.mk_words.specs.States.{PassState, TurnState, now_of}
 use Rattle.mk_words.specs.Steps.{Finds}
 use Rattle.mk_words.specs.TurnSteps.{Acts}
+use Rattle.mk_words.proofs.Unmarked.{pointed_has_header}
 use Rattle.mk_tracing.specs.Grays.{ReachedMarksSweepNothing, HasDirtyPart, IsGray, IsGrayWord, IsInHand, HandPointsInto}
 use Rattle.mk_tracing.specs.Grays.{MarksOn, MarksReached, TracesReached}
 use Rattle.mk_tracing.specs.Stops.{IsWanted, is_page_word, is_root, still_words}
@@ -166,6 +167,13 @@ module _ (p : PassState) (history : IsHistory p.table.config p.seen) (cell : Cel
 pub reached_within : (p : PassState) (cell : Cell) → HandPointsInto p cell
     → (cell.page < p.table.config.pages) × (cell.index < 64)
 reached_within p cell r = pointed_within p.table.config.pages (still_words p) r.value cell r.points
+
+-- Its page has a header.
+pub reached_in_use : (p : PassState) (cell : Cell) → IsHistory p.table.config p.seen → IsWanted p
+    → HandPointsInto p cell → header_at (now_of p).words cell.page ≢ 0
+reached_in_use p cell history wanted r =
+    pointed_has_header p.table.config p.seen history r.value cell (λ four. (let two = wanted.phase in omega arith))
+    r.points
 
 -- The number of a cell's word is small.
 pub word_near : (p : PassState) → IsHistory p.table.config p.seen → (cell : Cell) (i size : ℕ)

@@ -11,7 +11,7 @@ use Rattle.mk_core.specs.declared.seats.Flight.{Flight}
 use Rattle.mk_core.specs.declared.seats.Hand.{Hand}
 use Rattle.mk_core.specs.Bits.{has_bit, without}
 use Rattle.mk_core.specs.Bounded.{is_some_and}
-use Rattle.mk_core.specs.Words.{Words, header_at, register_word}
+use Rattle.mk_core.specs.Words.{Words, register_word}
 use Rattle.mk_core.specs.Cells.{header_in, head_page, cells_under, cell_bits, first_word, cell_words, is_marked}
 use Rattle.mk_core.specs.Cells.{has_no_pointers, pointed_cell, points_well, words_under}
 use Rattle.mk_core.specs.Cycles.{is_unmarked, sweeps}
@@ -41,11 +41,6 @@ pub record IsDue (pages : ℕ) (w : Words) (cell : Cell) (size : ℕ) : Type 0 w
   pub gray : IsGray pages w cell
   pub scanned : has_no_pointers (header_in w cell.page) ≡ false
   pub words : size ≡ cell_words w cell
-
--- a gray cell, and the header word of its page
-pub record IsGrayUnder (pages : ℕ) (w : Words) (cell : Cell) (header : ℕ) : Type 0 where
-  pub gray : IsGray pages w cell
-  pub word : header ≡ header_at w cell.page
 
 -- a word of one
 pub record IsGrayWord (pages : ℕ) (w : Words) (n : ℕ) : Type 0 where

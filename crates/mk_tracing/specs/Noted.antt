@@ -1,17 +1,24 @@
 -- What is noted of the cells that are still to be scanned.
 use Rattle.std.specs.Prelude.{◌≡◌, ℕ, ◌<◌, true}
 use Rattle.std.specs.List.{AllWithin}
-use Rattle.mk_core.specs.Cells.{is_marked}
-use Rattle.mk_core.specs.Words.{Words, header_at}
+use Rattle.mk_core.specs.Cells.{cells_under, header_in, is_marked}
+use Rattle.mk_core.specs.Words.{Words}
 use Rattle.mk_tracing.specs.declared.noted.Noted.{Noted}
 use Rattle.mk_tracing.specs.declared.worklist.Worklist.{Worklist}
+use Rattle.mk_tracing.specs.Grays.{IsGray, words_scanned}
 
--- The cell is marked, and its page has the header word that is noted.
+-- The cell is one of its page's and marked, and so many of its words are scanned.
 pub record IsNoted (pages : ℕ) (w : Words) (noted : Noted) : Type 0 where
   pub page : noted.cell.page < pages
+  pub index : noted.cell.index < cells_under (header_in w noted.cell.page)
   pub marked : is_marked w noted.cell ≡ true
-  pub word : noted.header ≡ header_at w noted.cell.page
+  pub words : noted.words ≡ words_scanned (header_in w noted.cell.page)
 
 -- So are all cells of a list.
 abbrev pub AreNoted : ℕ → Words → Worklist → Type 0
 AreNoted pages w work = AllWithin (IsNoted pages w) work.cells.items 0 work.count
+
+-- The cell is gray, and so many of its words are scanned.
+pub record IsGrayNoted (pages : ℕ) (w : Words) (noted : Noted) : Type 0 where
+  pub gray : IsGray pages w noted.cell
+  pub words : noted.words ≡ words_scanned (header_in w noted.cell.page)

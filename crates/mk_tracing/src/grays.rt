@@ -3,12 +3,12 @@ ghost use Rattle.std.specs.Prelude.{◌≡◌, ℕ, ◌<◌, ◌≤◌, true, fa
 ghost use Rattle.mk_geom.specs.Headers.{header_of};
 ghost use Rattle.mk_core.specs.Bits.{has_bit, without};
 ghost use Rattle.mk_core.specs.Cells.{cells_under};
-ghost use Rattle.mk_tracing.specs.Grays.{HasNoGray, IsGrayUnder, MarksOn};
-ghost use Rattle.mk_tracing.specs.Noted.{AreNoted, IsNoted};
+ghost use Rattle.mk_tracing.specs.Grays.{HasNoGray, MarksOn};
+ghost use Rattle.mk_tracing.specs.Noted.{AreNoted, IsGrayNoted, IsNoted};
 ghost use Rattle.mk_tracing.specs.Stops.{IsWanted, still_words};
 
 use crate::noted::{Noted, words_scanned};
-use crate::stepping::{look_among, look_at, next_in_use};
+use crate::stepping::{look_among, next_in_use};
 use crate::worklist::Worklist;
 use mk_core::{Word, cells_under, has_cell, without};
 use mk_geom::Cell;
@@ -45,8 +45,7 @@ fn gray_among(
     requires some { 0 < without marks blacks }
     ensures on { MarksOn stop.old stop.new }
     ensures words { still_words stop.new.pass ≡ still_words stop.old.pass }
-    ensures gray { IfSome result
-        (λ gray. IsGrayUnder words.now.config.pages (still_words stop.old.pass) gray.cell gray.header) }
+    ensures gray { IfSome result (IsGrayNoted words.now.config.pages (still_words stop.old.pass)) }
     ensures none { IfNone result (HasNoGray (still_words stop.old.pass) page) }
 {
     let header = look_among(words, stop, pages, Word::Head(page));
@@ -55,7 +54,6 @@ fn gray_among(
     };
     Some(Noted {
         cell: Cell { page, index },
-        header,
         words: words_scanned(header),
     })
 }
@@ -70,8 +68,7 @@ fn gray_on(words: &Words, stop: &mut Stopped, pages: u64, page: u64) -> Option<N
     requires page { page < words.now.config.pages }
     ensures on { MarksOn stop.old stop.new }
     ensures words { still_words stop.new.pass ≡ still_words stop.old.pass }
-    ensures gray { IfSome result
-        (λ gray. IsGrayUnder words.now.config.pages (still_words stop.old.pass) gray.cell gray.header) }
+    ensures gray { IfSome result (IsGrayNoted words.now.config.pages (still_words stop.old.pass)) }
     ensures none { IfNone result (HasNoGray (still_words stop.old.pass) page) }
 {
     let marks = look_among(words, stop, pages, Word::Mark(page));
@@ -92,8 +89,7 @@ fn gray_between(words: &Words, stop: &mut Stopped, from: u64, to: u64) -> Option
     requires to { to ≤ words.now.config.pages }
     ensures on { MarksOn stop.old stop.new }
     ensures words { still_words stop.new.pass ≡ still_words stop.old.pass }
-    ensures gray { IfSome result
-        (λ gray. IsGrayUnder words.now.config.pages (still_words stop.old.pass) gray.cell gray.header) }
+    ensures gray { IfSome result (IsGrayNoted words.now.config.pages (still_words stop.old.pass)) }
     ensures none { IfNone result ((p : ℕ) → from ≤ p → p < to → HasNoGray (still_words stop.old.pass) p) }
 {
     let pages = words.pages();
@@ -111,48 +107,49 @@ fn gray_between(words: &Words, stop: &mut Stopped, from: u64, to: u64) -> Option
     None
 }
 
-/// Whether a cell that was noted is gray. It is marked, and its page has the header word under which it was noted.
+/// Whether a cell that was noted is gray. It is marked.
 #[inline(always)]
-fn is_gray(words: &Words, stop: &mut Stopped, noted: Noted) -> bool
+fn is_gray(words: &Words, stop: &mut Stopped, pages: u64, noted: Noted) -> bool
     requires one_table { stop.old.pass.table ≡ words.now }
+    requires pages { pages ≡ words.now.config.pages }
     requires wanted { IsWanted stop.old.pass }
     requires noted { IsNoted words.now.config.pages (still_words stop.old.pass) noted }
     ensures on { MarksOn stop.old stop.new }
     ensures words { still_words stop.new.pass ≡ still_words stop.old.pass }
-    ensures gray { result ≡ true
-        → IsGrayUnder words.now.config.pages (still_words stop.old.pass) noted.cell noted.header }
+    ensures gray { result ≡ true → IsGrayNoted words.now.config.pages (still_words stop.old.pass) noted }
 {
     let Cell { page, index } = noted.cell;
-    !has_cell(look_at(words, stop, Word::Black(page)), index)
+    !has_cell(look_among(words, stop, pages, Word::Black(page)), index)
 }
 
-/// The gray cell that was noted last.
-fn gray_noted(words: &Words, stop: &mut Stopped, work: &mut Worklist) -> Option<Noted>
+/// The last gray cell of the list.
+#[inline(always)]
+fn gray_noted(words: &Words, stop: &mut Stopped, work: &mut Worklist, pages: u64) -> Option<Noted>
     requires one_table { stop.old.pass.table ≡ words.now }
+    requires pages { pages ≡ words.now.config.pages }
     requires wanted { IsWanted stop.old.pass }
     requires noted { AreNoted words.now.config.pages (still_words stop.old.pass) work.old }
     ensures on { MarksOn stop.old stop.new }
     ensures words { still_words stop.new.pass ≡ still_words stop.old.pass }
     ensures noted { AreNoted words.now.config.pages (still_words stop.new.pass) work.new }
-    ensures gray { IfSome result
-        (λ gray. IsGrayUnder words.now.config.pages (still_words stop.old.pass) gray.cell gray.header) }
+    ensures gray { IfSome result (IsGrayNoted words.now.config.pages (still_words stop.old.pass)) }
 {
     while let Some(noted) = work.pop() {
-        if is_gray(words, stop, noted) {
+        if is_gray(words, stop, pages, noted) {
             return Some(noted);
         }
     }
     None
 }
 
-/// A gray cell, from the page on where the last one was found. None where no page has any.
+/// A gray cell, from the page on where the last one was found, and then from the first page up to it. None where no
+/// page has any.
 fn gray_somewhere(words: &Words, stop: &mut Stopped, from: u64) -> Option<Noted>
     requires one_table { stop.old.pass.table ≡ words.now }
     requires wanted { IsWanted stop.old.pass }
     ensures on { MarksOn stop.old stop.new }
     ensures words { still_words stop.new.pass ≡ still_words stop.old.pass }
-    ensures gray { IfSome result
-        (λ gray. IsGrayUnder words.now.config.pages (still_words stop.old.pass) gray.cell gray.header) }
+    ensures gray { IfSome result (IsGrayNoted words.now.config.pages (still_words stop.old.pass)) }
     ensures none { IfNone result ((p : ℕ) → p < words.now.config.pages → HasNoGray (still_words stop.old.pass) p) }
 {
     let pages = words.pages();
@@ -163,19 +160,20 @@ fn gray_somewhere(words: &Words, stop: &mut Stopped, from: u64) -> Option<Noted>
     gray_between(words, stop, 0, from.min(pages))
 }
 
-/// A gray cell: one that was noted, or else one that is found page by page. None where no page has any.
-pub(crate) fn next_gray(words: &Words, stop: &mut Stopped, work: &mut Worklist) -> Option<Noted>
+/// A gray cell: one of the list, or else one that is found page by page. None where no page has any.
+#[inline(always)]
+fn another_gray(words: &Words, stop: &mut Stopped, work: &mut Worklist, pages: u64) -> Option<Noted>
     requires one_table { stop.old.pass.table ≡ words.now }
+    requires pages { pages ≡ words.now.config.pages }
     requires wanted { IsWanted stop.old.pass }
     requires noted { AreNoted words.now.config.pages (still_words stop.old.pass) work.old }
     ensures on { MarksOn stop.old stop.new }
     ensures words { still_words stop.new.pass ≡ still_words stop.old.pass }
     ensures noted { AreNoted words.now.config.pages (still_words stop.new.pass) work.new }
-    ensures gray { IfSome result
-        (λ gray. IsGrayUnder words.now.config.pages (still_words stop.old.pass) gray.cell gray.header) }
+    ensures gray { IfSome result (IsGrayNoted words.now.config.pages (still_words stop.old.pass)) }
     ensures none { IfNone result ((p : ℕ) → p < words.now.config.pages → HasNoGray (still_words stop.old.pass) p) }
 {
-    let noted = gray_noted(words, stop, work);
+    let noted = gray_noted(words, stop, work, pages);
     if let Some(gray) = noted {
         return Some(gray);
     }
@@ -184,4 +182,32 @@ pub(crate) fn next_gray(words: &Words, stop: &mut Stopped, work: &mut Worklist) 
     };
     work.page = gray.cell.page;
     Some(gray)
+}
+
+/// A gray cell: the one that was noted last, or else another. None where no page has any.
+#[inline(always)]
+pub(crate) fn next_gray(
+    words: &Words,
+    stop: &mut Stopped,
+    work: &mut Worklist,
+    pages: u64,
+    last: Option<Noted>,
+) -> Option<Noted>
+    requires one_table { stop.old.pass.table ≡ words.now }
+    requires pages { pages ≡ words.now.config.pages }
+    requires wanted { IsWanted stop.old.pass }
+    requires last { IfSome last (IsNoted words.now.config.pages (still_words stop.old.pass)) }
+    requires noted { AreNoted words.now.config.pages (still_words stop.old.pass) work.old }
+    ensures on { MarksOn stop.old stop.new }
+    ensures words { still_words stop.new.pass ≡ still_words stop.old.pass }
+    ensures noted { AreNoted words.now.config.pages (still_words stop.new.pass) work.new }
+    ensures gray { IfSome result (IsGrayNoted words.now.config.pages (still_words stop.old.pass)) }
+    ensures none { IfNone result ((p : ℕ) → p < words.now.config.pages → HasNoGray (still_words stop.old.pass) p) }
+{
+    if let Some(noted) = last {
+        if is_gray(words, stop, pages, noted) {
+            return Some(noted);
+        }
+    }
+    another_gray(words, stop, work, pages)
 }

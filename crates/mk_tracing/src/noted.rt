@@ -1,4 +1,4 @@
-//! What is noted of a marked cell: what follows from its page's header word alone, which is asked once.
+//! What is noted of a marked cell: what follows from its page's header word, which is looked at once.
 ghost use Rattle.std.specs.Prelude.{◌≡◌, ◌<◌, ◌+◌, Some, None, IfSome, IfNone};
 ghost use Rattle.mk_core.specs.Cells.{cells_under};
 ghost use Rattle.mk_geom.specs.Addresses.{cell_of_block};
@@ -11,14 +11,11 @@ use mk_geom::{Cell, class_words, index_in_block};
 /// Where the cells of a block end in their page, by class. What comes after them is the block's tail.
 const CELLS_END: [u64; 8] = [64, 64, 60, 64, 60, 64, 48, 64];
 
-/// A cell, a header word under which its page has it, and how many of its words are scanned then.
+/// A cell, and how many of its words are scanned.
 #[derive(Clone, Copy)]
 pub(crate) struct Noted {
     pub(crate) cell: Cell,
-    pub(crate) header: u64,
     pub(crate) words: u64,
-    ghost known: { cell.index < cells_under (header_of header) },
-    ghost scanned: { words ≡ words_scanned (header_of header) },
 }
 
 /// How many words of a cell under the header word are scanned.
@@ -37,7 +34,6 @@ impl Noted {
     pub(crate) fn nothing() -> Noted {
         Noted {
             cell: Cell { page: 0, index: 0 },
-            header: 1,
             words: 2,
         }
     }
@@ -45,17 +41,14 @@ impl Noted {
     /// The cell of a page, if there is one of its index under the header word.
     pub(crate) fn under(header: u64, cell: Cell) -> Option<Noted>
         ensures cell { IfSome result (λ noted. noted.cell ≡ cell) }
-        ensures header { IfSome result (λ noted. noted.header ≡ header) }
+        ensures known { IfSome result (λ noted. noted.cell.index < cells_under (header_of header)) }
+        ensures words { IfSome result (λ noted. noted.words ≡ words_scanned (header_of header)) }
     {
         if cell.index >= cells_under(header) {
             return None;
         }
         let words = words_scanned(header);
-        Some(Noted {
-            cell,
-            header,
-            words,
-        })
+        Some(Noted { cell, words })
     }
 
     /// The cell that has a word of a page, which is a block of this class for objects with pointers. None where the
@@ -66,7 +59,8 @@ impl Noted {
         requires word { word < 64 }
         ensures some { IfSome result (λ noted. cell_of_block class page word ≡ Some noted.cell) }
         ensures page { IfSome result (λ noted. noted.cell.page ≡ page) }
-        ensures header { IfSome result (λ noted. noted.header ≡ 1 + class) }
+        ensures known { IfSome result (λ noted. noted.cell.index < cells_under (header_of (1 + class))) }
+        ensures words { IfSome result (λ noted. noted.words ≡ words_scanned (header_of (1 + class))) }
         ensures none { IfNone result (cell_of_block class page word ≡ None) }
     {
         if word >= CELLS_END[class as usize] {
@@ -77,10 +71,6 @@ impl Noted {
             page,
             index: index_in_block(class, word),
         };
-        Some(Noted {
-            cell,
-            header: 1 + class,
-            words,
-        })
+        Some(Noted { cell, words })
     }
 }

@@ -1,10 +1,10 @@
 //! Marks by the values of words, each noted for the scan that is due then.
-ghost use Rattle.std.specs.Prelude.{◌≡◌, ◌≢◌, ◌<◌, true};
+ghost use Rattle.std.specs.Prelude.{◌≡◌, ◌≢◌, ◌<◌, true, IfSome};
 ghost use Rattle.mk_core.specs.Cells.{is_marked, points_well};
 ghost use Rattle.mk_core.specs.Words.{header_at};
 ghost use Rattle.mk_geom.specs.Addresses.{is_heap_address, page_at_address};
 ghost use Rattle.mk_tracing.specs.Grays.{IsInHand, MarksMore, MarksOn};
-ghost use Rattle.mk_tracing.specs.Noted.{AreNoted};
+ghost use Rattle.mk_tracing.specs.Noted.{AreNoted, IsNoted};
 ghost use Rattle.mk_tracing.specs.Stops.{IsWanted, still_words};
 
 use crate::noted::Noted;
@@ -31,12 +31,10 @@ fn note(words: &Words, stop: &mut Stopped, work: &mut Worklist, pages: u64, cell
         → AreNoted words.now.config.pages (still_words stop.new.pass) work.new }
 {
     let header = look_among(words, stop, pages, Word::Head(cell.page));
-    if let Some(noted) = Noted::under(header, cell) {
-        work.push(noted);
-    }
+    work.extend(Noted::under(header, cell));
 }
 
-/// Marks what the hand points into, whatever its page is by this header word, and notes it.
+/// Marks what the hand points into, whatever its page is by this header word, and notes it, if it wasn't marked yet.
 #[inline(never)]
 fn mark_under(
     words: &Words,
@@ -65,7 +63,8 @@ fn mark_under(
     }
 }
 
-/// Marks what the hand points into, in this page, and notes it. Most pages are blocks for objects with pointers.
+/// Marks what the hand points into, in this page. Most pages are blocks for objects with pointers: then what is noted of
+/// the cell, if it wasn't marked yet, is returned, and stays in registers. Else it goes to the list.
 #[inline(always)]
 fn mark_pointed(
     words: &Words,
@@ -74,7 +73,7 @@ fn mark_pointed(
     pages: u64,
     page: u64,
     value: u64,
-)
+) -> Option<Noted>
     requires one_table { stop.old.pass.table ≡ words.now }
     requires pages { pages ≡ words.now.config.pages }
     requires wanted { IsWanted stop.old.pass }
@@ -85,31 +84,30 @@ fn mark_pointed(
     ensures on { MarksOn stop.old stop.new }
     ensures more { MarksMore (still_words stop.old.pass) (still_words stop.new.pass) }
     ensures well { points_well words.now.config.pages (still_words stop.new.pass) value ≡ true }
+    ensures one { IfSome result (IsNoted words.now.config.pages (still_words stop.new.pass)) }
     ensures noted { AreNoted words.now.config.pages (still_words stop.old.pass) work.old
         → AreNoted words.now.config.pages (still_words stop.new.pass) work.new }
 {
     let header = look_among(words, stop, pages, Word::Head(page));
     if header == 0 || header > LAST_BLOCK {
         mark_under(words, stop, work, pages, header, value);
-        return;
+        return None;
     }
     let Some(noted) = Noted::in_block(header - 1, page, value / WORD_BYTES % PAGE_WORDS) else {
-        return;
+        return None;
     };
-    if mark_white(words, stop, pages, noted.cell) {
-        work.push(noted);
-    }
+    mark_white(words, stop, pages, noted.cell).then_some(noted)
 }
 
 /// The same, for any value in a heap of this many pages. Most are no addresses of the heap, and are passed over.
 #[inline(always)]
-pub(crate) fn mark_and_note(
+pub(crate) fn mark_value(
     words: &Words,
     stop: &mut Stopped,
     work: &mut Worklist,
     pages: u64,
     value: u64,
-)
+) -> Option<Noted>
     requires one_table { stop.old.pass.table ≡ words.now }
     requires pages { pages ≡ words.now.config.pages }
     requires wanted { IsWanted stop.old.pass }
@@ -117,16 +115,48 @@ pub(crate) fn mark_and_note(
     ensures on { MarksOn stop.old stop.new }
     ensures more { MarksMore (still_words stop.old.pass) (still_words stop.new.pass) }
     ensures well { points_well words.now.config.pages (still_words stop.new.pass) value ≡ true }
+    ensures one { IfSome result (IsNoted words.now.config.pages (still_words stop.new.pass)) }
     ensures noted { AreNoted words.now.config.pages (still_words stop.old.pass) work.old
         → AreNoted words.now.config.pages (still_words stop.new.pass) work.new }
 {
     let Some(page) = heap_page(pages, value) else {
-        return;
+        return None;
     };
-    mark_pointed(words, stop, work, pages, page, value);
+    mark_pointed(words, stop, work, pages, page, value)
 }
 
-/// The same, not inlined: for values that seldom are addresses of the heap.
+/// Marks what the hand points into. Returns what was noted last: this, or what is noted now, and then this goes to the
+/// list.
+#[inline(always)]
+pub(crate) fn mark_and_note(
+    words: &Words,
+    stop: &mut Stopped,
+    work: &mut Worklist,
+    pages: u64,
+    value: u64,
+    last: Noted,
+) -> Noted
+    requires one_table { stop.old.pass.table ≡ words.now }
+    requires pages { pages ≡ words.now.config.pages }
+    requires wanted { IsWanted stop.old.pass }
+    requires hand { value ≢ 0 → IsInHand stop.old.pass value }
+    requires last { IsNoted words.now.config.pages (still_words stop.old.pass) last }
+    ensures on { MarksOn stop.old stop.new }
+    ensures more { MarksMore (still_words stop.old.pass) (still_words stop.new.pass) }
+    ensures well { points_well words.now.config.pages (still_words stop.new.pass) value ≡ true }
+    ensures last { IsNoted words.now.config.pages (still_words stop.new.pass) result }
+    ensures noted { AreNoted words.now.config.pages (still_words stop.old.pass) work.old
+        → AreNoted words.now.config.pages (still_words stop.new.pass) work.new }
+{
+    let Some(noted) = mark_value(words, stop, work, pages, value) else {
+        return last;
+    };
+    work.push(last);
+    noted
+}
+
+/// Marks what the hand points into, and puts what is noted of it into the list. It isn't inlined: it is for values that
+/// seldom are addresses of the heap.
 #[inline(never)]
 pub(crate) fn mark_apart(
     words: &Words,
@@ -145,5 +175,6 @@ pub(crate) fn mark_apart(
     ensures noted { AreNoted words.now.config.pages (still_words stop.old.pass) work.old
         → AreNoted words.now.config.pages (still_words stop.new.pass) work.new }
 {
-    mark_and_note(words, stop, work, pages, value);
+    let noted = mark_value(words, stop, work, pages, value);
+    work.extend(noted);
 }

@@ -1,22 +1,26 @@
 //! The scan of a gray cell: its words are looked at, and what they point into is marked. Most words are null or small
 //! numbers, so those of a group are looked at together first.
-ghost use Rattle.std.specs.Prelude.{◌≡◌, ℕ, ◌+◌, ◌*◌, ◌<◌, ◌≤◌, true, slice_index};
+ghost use Rattle.std.specs.Prelude.{◌≡◌, ℕ, ◌+◌, ◌*◌, ◌/◌, ◌<◌, ◌≤◌, true, IfSome, slice_index};
 ghost use Rattle.mk_core.specs.Cells.{first_word, words_point_well};
 ghost use Rattle.mk_tracing.specs.Grays.{IsDue, MarksMore, MarksOn, WordIsWell};
-ghost use Rattle.mk_tracing.specs.Noted.{AreNoted};
+ghost use Rattle.mk_tracing.specs.Noted.{AreNoted, IsNoted};
 ghost use Rattle.mk_tracing.specs.Stops.{IsWanted, still_words};
 
-use crate::noting::mark_and_note;
+use crate::noted::Noted;
+use crate::noting::{mark_and_note, mark_value};
 use crate::stepping::look_at_word;
 use crate::worklist::Worklist;
-use mk_geom::{Cell, HEAP_START};
+use mk_geom::{Cell, HEAP_START, PAGE_WORDS};
 use mk_words::{Stopped, Words};
 
 /// The words of a cell are groups of this many, and at most seven more.
 const GROUP: u64 = 8;
 
-/// Looks at a group of words of a gray cell, from this one on. Returns true only where all are before the heap, as null
-/// is.
+/// How many groups of a cell stand on a page.
+const PAGE_GROUPS: u64 = PAGE_WORDS / GROUP;
+
+/// Looks at a group of words of a gray cell, from this one on, which stand on this page of the cell. Returns true only
+/// where all are before the heap, as null is.
 #[inline(always)]
 fn are_before_heap(
     words: &Words,
@@ -24,6 +28,7 @@ fn are_before_heap(
     pages: u64,
     cell: Cell,
     size: u64,
+    part: u64,
     first: u64,
 ) -> bool
     requires one_table { stop.old.pass.table ≡ words.now }
@@ -31,6 +36,7 @@ fn are_before_heap(
     requires wanted { IsWanted stop.old.pass }
     requires due { IsDue words.now.config.pages (still_words stop.old.pass) cell size }
     requires group { first + 8 ≤ size }
+    requires part { (i : ℕ) → i < 8 → part ≡ (first + i) / 64 }
     ensures on { MarksOn stop.old stop.new }
     ensures words { still_words stop.new.pass ≡ still_words stop.old.pass }
     ensures before { result ≡ true → (i : ℕ) → i < 8
@@ -39,12 +45,51 @@ fn are_before_heap(
 {
     let mut all = 0;
     for i in 0..GROUP {
-        all |= look_at_word(words, stop, pages, cell, size, first + i);
+        all |= look_at_word(words, stop, pages, cell, size, part, first + i);
     }
     all < HEAP_START
 }
 
-/// Looks at the words of a gray cell from one on, up to another. What one points into is marked before the next.
+/// Looks at the words of a gray cell from one on, up to another, which stand on this page of the cell, where a cell was
+/// noted before. What one points into is marked before the next. Returns what was noted last.
+#[inline(always)]
+fn scan_rest(
+    words: &Words,
+    stop: &mut Stopped,
+    work: &mut Worklist,
+    pages: u64,
+    cell: Cell,
+    size: u64,
+    part: u64,
+    from: u64,
+    to: u64,
+    noted: Noted,
+) -> Noted
+    requires one_table { stop.old.pass.table ≡ words.now }
+    requires pages { pages ≡ words.now.config.pages }
+    requires wanted { IsWanted stop.old.pass }
+    requires due { IsDue words.now.config.pages (still_words stop.old.pass) cell size }
+    requires to { to ≤ size }
+    requires part { (i : ℕ) → from ≤ i → i < to → part ≡ i / 64 }
+    requires one { IsNoted words.now.config.pages (still_words stop.old.pass) noted }
+    ensures on { MarksOn stop.old stop.new }
+    ensures more { MarksMore (still_words stop.old.pass) (still_words stop.new.pass) }
+    ensures well { (i : ℕ) → from ≤ i → i < to
+        → WordIsWell words.now.config stop.old.pass stop.new.pass cell i }
+    ensures last { IsNoted words.now.config.pages (still_words stop.new.pass) result }
+    ensures noted { AreNoted words.now.config.pages (still_words stop.old.pass) work.old
+        → AreNoted words.now.config.pages (still_words stop.new.pass) work.new }
+{
+    let mut last = noted;
+    for i in from..to {
+        let value = look_at_word(words, stop, pages, cell, size, part, i);
+        last = mark_and_note(words, stop, work, pages, value, last);
+    }
+    last
+}
+
+/// The same, where none was noted yet. The loop ends with the first cell that is noted, so that it carries none: most
+/// cells point into one such cell, or none.
 #[inline(always)]
 fn scan_words(
     words: &Words,
@@ -53,25 +98,33 @@ fn scan_words(
     pages: u64,
     cell: Cell,
     size: u64,
+    part: u64,
     from: u64,
     to: u64,
-)
+) -> Option<Noted>
     requires one_table { stop.old.pass.table ≡ words.now }
     requires pages { pages ≡ words.now.config.pages }
     requires wanted { IsWanted stop.old.pass }
     requires due { IsDue words.now.config.pages (still_words stop.old.pass) cell size }
     requires to { to ≤ size }
+    requires part { (i : ℕ) → from ≤ i → i < to → part ≡ i / 64 }
     ensures on { MarksOn stop.old stop.new }
     ensures more { MarksMore (still_words stop.old.pass) (still_words stop.new.pass) }
     ensures well { (i : ℕ) → from ≤ i → i < to
         → WordIsWell words.now.config stop.old.pass stop.new.pass cell i }
+    ensures last { IfSome result (IsNoted words.now.config.pages (still_words stop.new.pass)) }
     ensures noted { AreNoted words.now.config.pages (still_words stop.old.pass) work.old
         → AreNoted words.now.config.pages (still_words stop.new.pass) work.new }
 {
     for i in from..to {
-        let value = look_at_word(words, stop, pages, cell, size, i);
-        mark_and_note(words, stop, work, pages, value);
+        let value = look_at_word(words, stop, pages, cell, size, part, i);
+        let noted = mark_value(words, stop, work, pages, value);
+        if let Some(one) = noted {
+            let last = scan_rest(words, stop, work, pages, cell, size, part, i + 1, to, one);
+            return Some(last);
+        }
     }
+    None
 }
 
 /// Looks at each word of a group of a gray cell, and marks what it points into. It isn't inlined, since few groups have
@@ -85,6 +138,7 @@ fn scan_apart(
     pages: u64,
     cell: Cell,
     size: u64,
+    part: u64,
     group: u64,
 )
     requires one_table { stop.old.pass.table ≡ words.now }
@@ -92,6 +146,7 @@ fn scan_apart(
     requires wanted { IsWanted stop.old.pass }
     requires due { IsDue words.now.config.pages (still_words stop.old.pass) cell size }
     requires group { 8 * group + 8 ≤ size }
+    requires part { part ≡ group / 8 }
     ensures on { MarksOn stop.old stop.new }
     ensures more { MarksMore (still_words stop.old.pass) (still_words stop.new.pass) }
     ensures well { (i : ℕ) → i < 8
@@ -100,10 +155,21 @@ fn scan_apart(
         → AreNoted words.now.config.pages (still_words stop.new.pass) work.new }
 {
     let first = GROUP * group;
-    scan_words(words, stop, work, pages, cell, size, first, first + GROUP);
+    let last = scan_words(
+        words,
+        stop,
+        work,
+        pages,
+        cell,
+        size,
+        part,
+        first,
+        first + GROUP,
+    );
+    work.extend(last);
 }
 
-/// Looks at the words of a group of a gray cell, and marks what they point into.
+/// Looks at the words of a group of a gray cell, which stand on this page of the cell, and marks what they point into.
 #[inline(always)]
 fn scan_group(
     words: &Words,
@@ -112,6 +178,7 @@ fn scan_group(
     pages: u64,
     cell: Cell,
     size: u64,
+    part: u64,
     group: u64,
 )
     requires one_table { stop.old.pass.table ≡ words.now }
@@ -119,6 +186,7 @@ fn scan_group(
     requires wanted { IsWanted stop.old.pass }
     requires due { IsDue words.now.config.pages (still_words stop.old.pass) cell size }
     requires group { 8 * group + 8 ≤ size }
+    requires part { part ≡ group / 8 }
     ensures on { MarksOn stop.old stop.new }
     ensures more { MarksMore (still_words stop.old.pass) (still_words stop.new.pass) }
     ensures well { (i : ℕ) → i < 8
@@ -126,13 +194,44 @@ fn scan_group(
     ensures noted { AreNoted words.now.config.pages (still_words stop.old.pass) work.old
         → AreNoted words.now.config.pages (still_words stop.new.pass) work.new }
 {
-    if are_before_heap(words, stop, pages, cell, size, GROUP * group) {
+    if are_before_heap(words, stop, pages, cell, size, part, GROUP * group) {
         return;
     }
-    scan_apart(words, stop, work, pages, cell, size, group);
+    scan_apart(words, stop, work, pages, cell, size, part, group);
 }
 
-/// Looks at each word of a gray cell of at least eight words, a group after the other, and marks what it points into.
+/// Looks at each word of the groups of a gray cell that stand on one page of it, and marks what it points into.
+#[inline(always)]
+fn scan_part(
+    words: &Words,
+    stop: &mut Stopped,
+    work: &mut Worklist,
+    pages: u64,
+    cell: Cell,
+    size: u64,
+    part: u64,
+)
+    requires one_table { stop.old.pass.table ≡ words.now }
+    requires pages { pages ≡ words.now.config.pages }
+    requires wanted { IsWanted stop.old.pass }
+    requires due { IsDue words.now.config.pages (still_words stop.old.pass) cell size }
+    requires part { 64 * part ≤ size }
+    ensures on { MarksOn stop.old stop.new }
+    ensures more { MarksMore (still_words stop.old.pass) (still_words stop.new.pass) }
+    ensures well { (i : ℕ) → 64 * part ≤ i → i < 64 * part + 64 → i < 8 * (size / 8)
+        → WordIsWell words.now.config stop.old.pass stop.new.pass cell i }
+    ensures noted { AreNoted words.now.config.pages (still_words stop.old.pass) work.old
+        → AreNoted words.now.config.pages (still_words stop.new.pass) work.new }
+{
+    let first = PAGE_GROUPS * part;
+    let end = (first + PAGE_GROUPS).min(size / GROUP);
+    for group in first..end {
+        scan_group(words, stop, work, pages, cell, size, part, group);
+    }
+}
+
+/// Looks at each word of a gray cell of at least eight words, a page of it after the other, and marks what it points
+/// into. Returns what was noted last.
 #[inline(always)]
 fn scan_groups(
     words: &Words,
@@ -141,7 +240,7 @@ fn scan_groups(
     pages: u64,
     cell: Cell,
     size: u64,
-)
+) -> Option<Noted>
     requires one_table { stop.old.pass.table ≡ words.now }
     requires pages { pages ≡ words.now.config.pages }
     requires wanted { IsWanted stop.old.pass }
@@ -149,31 +248,52 @@ fn scan_groups(
     ensures on { MarksOn stop.old stop.new }
     ensures more { MarksMore (still_words stop.old.pass) (still_words stop.new.pass) }
     ensures well { words_point_well words.now.config.pages (still_words stop.new.pass) cell ≡ true }
+    ensures last { IfSome result (IsNoted words.now.config.pages (still_words stop.new.pass)) }
     ensures noted { AreNoted words.now.config.pages (still_words stop.old.pass) work.old
         → AreNoted words.now.config.pages (still_words stop.new.pass) work.new }
 {
-    let groups = size / GROUP;
-    for group in 0..groups {
-        scan_group(words, stop, work, pages, cell, size, group);
+    let last = size / PAGE_WORDS;
+    for part in 0..last {
+        scan_part(words, stop, work, pages, cell, size, part);
     }
-    scan_words(words, stop, work, pages, cell, size, GROUP * groups, size);
+    scan_part(words, stop, work, pages, cell, size, last);
+    scan_words(
+        words,
+        stop,
+        work,
+        pages,
+        cell,
+        size,
+        last,
+        GROUP * (size / GROUP),
+        size,
+    )
 }
 
-/// Looks at each word of a gray cell, of this many, and marks what it points into. Most cells have few words.
-pub(crate) fn scan(words: &Words, stop: &mut Stopped, work: &mut Worklist, cell: Cell, size: u64)
+/// Looks at each word of a gray cell, of this many, and marks what it points into. Most cells have few words. Returns
+/// what was noted last.
+#[inline(always)]
+pub(crate) fn scan(
+    words: &Words,
+    stop: &mut Stopped,
+    work: &mut Worklist,
+    pages: u64,
+    cell: Cell,
+    size: u64,
+) -> Option<Noted>
     requires one_table { stop.old.pass.table ≡ words.now }
+    requires pages { pages ≡ words.now.config.pages }
     requires wanted { IsWanted stop.old.pass }
     requires due { IsDue words.now.config.pages (still_words stop.old.pass) cell size }
     ensures on { MarksOn stop.old stop.new }
     ensures more { MarksMore (still_words stop.old.pass) (still_words stop.new.pass) }
     ensures well { words_point_well words.now.config.pages (still_words stop.new.pass) cell ≡ true }
+    ensures last { IfSome result (IsNoted words.now.config.pages (still_words stop.new.pass)) }
     ensures noted { AreNoted words.now.config.pages (still_words stop.old.pass) work.old
         → AreNoted words.now.config.pages (still_words stop.new.pass) work.new }
 {
-    let pages = words.pages();
     if size < GROUP {
-        scan_words(words, stop, work, pages, cell, size, 0, size);
-        return;
+        return scan_words(words, stop, work, pages, cell, size, 0, 0, size);
     }
-    scan_groups(words, stop, work, pages, cell, size);
+    scan_groups(words, stop, work, pages, cell, size)
 }

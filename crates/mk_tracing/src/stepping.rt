@@ -1,5 +1,5 @@
 //! Steps in the stop, when the close is wanted and no marker attends.
-ghost use Rattle.std.specs.Prelude.{◌≡◌, ◌≢◌, ◌+◌, ◌<◌, ◌^◌, true, false, slice_index, slice_set, bit_or};
+ghost use Rattle.std.specs.Prelude.{◌≡◌, ◌/◌, ◌≢◌, ◌+◌, ◌<◌, ◌^◌, true, false, slice_index, slice_set, bit_or};
 ghost use Rattle.mk_core.specs.Cells.{first_word, head_page};
 ghost use Rattle.mk_core.specs.History.{IsHistory};
 ghost use Rattle.mk_core.specs.Ranges.{is_word};
@@ -73,8 +73,8 @@ pub(crate) fn look_at_root(words: &Words, stop: &mut Stopped, pages: u64, x: Wor
     stop.look_among(words, pages, x)
 }
 
-/// Looks at a word of a gray cell of this many words, whose value is then the hand, if it isn't 0. The table is of this
-/// many pages.
+/// Looks at a word of a gray cell of this many words, whose value is then the hand, if it isn't 0. It stands on this page
+/// of the cell. The table is of this many pages.
 #[inline(always)]
 pub(crate) fn look_at_word(
     words: &Words,
@@ -82,6 +82,7 @@ pub(crate) fn look_at_word(
     pages: u64,
     cell: Cell,
     size: u64,
+    part: u64,
     i: u64,
 ) -> u64
     requires one_table { stop.old.pass.table ≡ words.now }
@@ -89,6 +90,7 @@ pub(crate) fn look_at_word(
     requires wanted { IsWanted stop.old.pass }
     requires due { IsDue words.now.config.pages (still_words stop.old.pass) cell size }
     requires within { i < size }
+    requires part { part ≡ i / 64 }
     ensures on { MarksOn stop.old stop.new }
     ensures words { still_words stop.new.pass ≡ still_words stop.old.pass }
     ensures hand { result ≢ 0 → IsInHand stop.new.pass result }
@@ -97,24 +99,28 @@ pub(crate) fn look_at_word(
 {
     stop.is_in_order();
     let word = PAGE_WORDS * cell.page + cell.index * size + i;
-    stop.look_among(words, pages, Word::Heap(word))
+    stop.look_on_page(words, pages, cell.page + part, Word::Heap(word))
 }
 
-/// Marks the cell into which the hand points.
-pub(crate) fn mark_cell(words: &Words, stop: &mut Stopped, cell: Cell)
+/// Marks the cell into which the hand points, in a table of this many pages.
+#[inline(always)]
+pub(crate) fn mark_cell(words: &Words, stop: &mut Stopped, pages: u64, cell: Cell)
     requires one_table { stop.old.pass.table ≡ words.now }
+    requires pages { pages ≡ words.now.config.pages }
     requires wanted { IsWanted stop.old.pass }
     requires reached { HandPointsInto stop.old.pass cell }
     ensures on { MarksOn stop.old stop.new }
     ensures words { still_words stop.new.pass ≡ with_marks cell.page (2 ^ cell.index) (still_words stop.old.pass) }
 {
     stop.is_in_order();
-    stop.mark(words, cell.page, bit(cell.index));
+    stop.mark_in_use(words, pages, cell.page, bit(cell.index));
 }
 
-/// Blackens a marked cell, whose words point well or aren't scanned.
-pub(crate) fn blacken_cell(words: &Words, stop: &mut Stopped, cell: Cell)
+/// Blackens a marked cell, whose words point well or aren't scanned, in a table of this many pages.
+#[inline(always)]
+pub(crate) fn blacken_cell(words: &Words, stop: &mut Stopped, pages: u64, cell: Cell)
     requires one_table { stop.old.pass.table ≡ words.now }
+    requires pages { pages ≡ words.now.config.pages }
     requires wanted { IsWanted stop.old.pass }
     requires page { cell.page < words.now.config.pages }
     requires index { cell.index < 32 }
@@ -123,7 +129,7 @@ pub(crate) fn blacken_cell(words: &Words, stop: &mut Stopped, cell: Cell)
     ensures words { still_words stop.new.pass ≡ with_blacks cell.page (2 ^ cell.index) (still_words stop.old.pass) }
 {
     stop.is_in_order();
-    stop.black(words, cell.page, bit(cell.index));
+    stop.black_among(words, pages, cell.page, bit(cell.index));
 }
 
 /// Clears the black word of a page of which a part is dirty.

@@ -40,6 +40,6 @@ pub(crate) fn mark_white(words: &Words, stop: &mut Stopped, pages: u64, cell: Ce
     if is_marked(words, stop, pages, cell) {
         return false;
     }
-    mark_cell(words, stop, cell);
+    mark_cell(words, stop, pages, cell);
     true
 }

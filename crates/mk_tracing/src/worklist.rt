@@ -42,6 +42,7 @@ impl Worklist {
     }
 
     /// Notes a cell, if there is room.
+    #[inline(always)]
     pub(crate) fn push(&mut self, noted: Noted)
         ensures each { (pages : ℕ) (w : Words) → AreNoted pages w self.old → IsNoted pages w noted
             → AreNoted pages w self.new }
@@ -52,7 +53,19 @@ impl Worklist {
         }
     }
 
+    /// Notes a cell, if there is one, and room for it.
+    #[inline(always)]
+    pub(crate) fn extend(&mut self, noted: Option<Noted>)
+        ensures each { (pages : ℕ) (w : Words) → AreNoted pages w self.old → IfSome noted (IsNoted pages w)
+            → AreNoted pages w self.new }
+    {
+        if let Some(noted) = noted {
+            self.push(noted);
+        }
+    }
+
     /// The cell that was noted last, which the list then has no more.
+    #[inline(always)]
     pub(crate) fn pop(&mut self) -> Option<Noted>
         ensures fewer { IfSome result (λ noted. self.new.count < self.old.count) }
         ensures each { (pages : ℕ) (w : Words) → AreNoted pages w self.old → AreNoted pages w self.new }

@@ -1,5 +1,5 @@
 -- The page map of a turn is kept in step with what its holder stores.
-use Rattle.std.proofs.Common.{◌≡◌, ℕ, ◌<◌, Bool, true, false, Option, Some, None, List, [], ◌∷◌, ◌++◌, length, refl}
+use Rattle.std.proofs.Common.{◌≡◌, ◌≢◌, ℕ, ◌<◌, Bool, true, false, Option, Some, None, List, [], ◌∷◌, ◌++◌, length, refl}
 use Rattle.std.proofs.Common.{sym, ◌∙◌, ap, subst, inl, inr, arith}
 use Rattle.std.specs.Prelude.{◌%◌, ◌^◌, slice_index, slice_set}
 use Rattle.std.proofs.lemmas.Bool.{cases_eq, ltb-true}
@@ -20,7 +20,7 @@ use Rattle.mk_core.specs.declared.events.Step.TheVariants as step
 use Rattle.mk_core.specs.declared.events.Tally.{Tally}
 use Rattle.mk_core.specs.declared.events.Tally.TheVariants as tally
 use Rattle.mk_core.specs.declared.events.Word.TheVariants as word
-use Rattle.mk_core.specs.Words.{Words, accessed}
+use Rattle.mk_core.specs.Words.{Words, accessed, header_at}
 use Rattle.mk_core.specs.Accesses.{caller_number, register_met, reg_access, tally_word}
 use Rattle.mk_core.specs.History.{IsHistory, World}
 use Rattle.mk_core.specs.Moments.{Moment, flight_of}
@@ -246,6 +246,16 @@ shows_mark p page v q a old new told shows =
     let s : Step = step.Mark page v in
     map_now p s q a new
     (told_mark p.table.config (world_at a.makes).now p.seat page v old new told (map_then p s q a old shows))
+
+-- A mark on a page with a header needn't be told.
+pub untold_mark : (map : KnownPages) (w : Words) (page : ℕ) → header_at w page ≢ 0 → IsMapOf map w
+    → MarkIsTold map page map
+untold_mark map w page some shows = record {
+  shows = λ pages freed h. h;
+  marked = λ none. absurd (some
+      (sym (ap (λ (ps : List Page). (page_at ps page).header) shows.words.page_by_page) ∙ none));
+  others = λ number apart. refl;
+}
 
 -- What a map shows it shows by another name too.
 pub shows_that : (w : Words) (map same : KnownPages) → same ≡ map → IsMapOf map w → IsMapOf same w

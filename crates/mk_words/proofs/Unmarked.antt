@@ -24,7 +24,7 @@ use Rattle.mk_core.specs.declared.seats.SeenHeader.{SeenHeader}
 use Rattle.mk_core.specs.declared.seats.Marker.{Marker as MarkerState}
 use Rattle.mk_core.specs.Accesses.{scan_page, seen_page}
 use Rattle.mk_core.specs.Bounded.{all_below}
-use Rattle.mk_core.specs.Cells.{cells_under, header_in, run_headed}
+use Rattle.mk_core.specs.Cells.{cells_under, header_in, pointed_cell, run_headed}
 use Rattle.mk_core.specs.History.{IsHistory, left, first_world}
 use Rattle.mk_core.specs.MarkerConditions.{cell_seen, is_scanned}
 use Rattle.mk_core.specs.Moments.{Moment, marker_at, marker_of}
@@ -212,6 +212,17 @@ module _ (c : Config) (es : List Event) (h : IsHistory c es) where
   not_releasing (inl one) four = absurd (omega arith)
   not_releasing (inr two) four = absurd (omega arith)
 
+  -- The cell that a header word shows at a value has one too.
+  shown_has_header : (page value : ℕ) (cell : Cell) → phase_of m.words ≢ 4 → page ≡ page_at_address value
+      → cell_at c.pages (header_at m.words page) value ≡ Some cell → header_at m.words cell.page ≢ 0
+  shown_has_header page value cell quiet at shown =
+      let under = found_under c.pages (header_at m.words page) value cell shown in
+      let tell : WordsTellWhatStands (left c es) = headers_and_quarantine_tell c es h in
+      cell_has_header m.words page (word_at_address value) cell under.0
+      (λ distance mapped later. (let run = tell.later quiet page distance mapped later in (run.0, run.1)))
+      under.1
+      (subst (λ (q : ℕ). cell_under under.0 q (word_at_address value) ≡ Some cell) (sym at) under.2)
+
   mark_has_header : (k : ℕ) → Meets c m (Marker k) step.Mmark
       → header_at m.words (seen_page (cell_seen c (marker_of m k).seen (marker_of m k).hand)) ≢ 0
   mark_has_header k meets =
@@ -221,16 +232,15 @@ module _ (c : Config) (es : List Event) (h : IsHistory c es) where
       let s : SeenHeader = at.0 in
       let v : ℕ = at.1 in
       let cell : Cell = at.2 in
-      let shown = (st.1.seen s at.3).cell v cell at.5 in
-      let under = found_under c.pages (header_at m.words s.page) v cell shown in
-      let tell : WordsTellWhatStands (left c es) = headers_and_quarantine_tell c es h in
       subst (λ (o : Option Cell). header_at m.words (seen_page o) ≢ 0) (sym at.6)
-      (cell_has_header m.words s.page (word_at_address v) cell under.0
-      (λ distance mapped later.
-      let run = tell.later (not_releasing st.0) s.page distance mapped later in
-      (run.0, run.1))
-      under.1
-      (subst (λ (q : ℕ). cell_under under.0 q (word_at_address v) ≡ Some cell) (sym at.4) under.2))
+      (shown_has_header s.page v cell (not_releasing st.0) at.4 ((st.1.seen s at.3).cell v cell at.5))
+
+  -- So does the cell into which a value points.
+  pub pointed_has_header : (value : ℕ) (cell : Cell) → phase_of m.words ≢ 4
+      → pointed_cell c.pages m.words.pages value ≡ Some cell → header_at m.words cell.page ≢ 0
+  unfolding pointed_cell
+  pointed_has_header value cell quiet points =
+      shown_has_header (page_at_address value) value cell quiet refl points
 
   scan_has_header : (x : MarkerState) (s : Option Scan) → x.scan ≡ s → is_scanned s ≡ true → MarkerStands c m x
       → header_at m.words (scan_page s) ≢ 0

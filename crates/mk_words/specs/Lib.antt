@@ -1,3 +1,4 @@
+pub mod Indexes
 pub mod PageMaps
 pub mod Seats
 pub mod States

@@ -67,8 +67,21 @@ impl Stopped {
         ensures op { self.new.op ≡ self.old.op }
         ensures acts { Acts self.old.pass (step.Black page v) self.new.pass }
     {
-        self.perform(
+        self.black_among(words, words.pages(), page, v);
+    }
+
+    /// Blackens a marked cell as `black` does, in a table of this many pages.
+    #[inline(always)]
+    pub fn black_among(&mut self, words: &Words, pages: u64, page: u64, v: u64)
+        requires one_table { self.old.pass.table ≡ words.now }
+        requires pages { pages ≡ words.now.config.pages }
+        requires enabled { IsEnabledTo self.old.pass (step.Black page v) }
+        ensures op { self.new.op ≡ self.old.op }
+        ensures acts { Acts self.old.pass (step.Black page v) self.new.pass }
+    {
+        self.perform_among(
             words,
+            pages,
             Step::Black { page, value: v },
             TableWord::Named(Word::Black(page)),
             Access::Or(v),

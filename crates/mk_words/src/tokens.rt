@@ -4,6 +4,7 @@ ghost use Rattle.mk_core.specs.Accesses.{caller_number, word_accessed, access};
 ghost use Rattle.mk_core.specs.History.{IsHistory};
 ghost use Rattle.mk_core.specs.Counts.{IsTidy};
 ghost use Rattle.mk_core.specs.declared.accesses.Access.TheVariants.{Store};
+ghost use Rattle.mk_words.specs.Indexes.{IsOnPage};
 ghost use Rattle.mk_words.specs.PageMaps.{is_handing};
 ghost use Rattle.mk_words.specs.Seats.{CallersAreBeforeOver, Has, is_caller};
 ghost use Rattle.mk_words.specs.States.{now_of, event_of};
@@ -11,7 +12,7 @@ ghost use Rattle.mk_words.specs.Passes.{state_of, IsInOrder};
 ghost use Rattle.mk_words.specs.Steps.{May, Tells, Finds};
 
 use crate::homes::MapHome;
-use crate::indexes::index_of;
+use crate::indexes::{index_near, index_of, page_of};
 use crate::performing::{access_as, swap_as};
 use crate::rule::View;
 use crate::telling::Making;
@@ -78,6 +79,7 @@ impl<S: Slots> Model for TokenWith<S> {
 fn perform_as<J: Making>(
     words: &Words,
     pages: u64,
+    page: u64,
     token: &mut Token<MapHome, View>,
     seat: Seat,
     step: Step,
@@ -88,6 +90,7 @@ fn perform_as<J: Making>(
     requires order { IsInOrder token.old.me seat }
     requires one_table { (state_of token.old.table_id token.old.me seat).table ≡ words.now }
     requires pages { pages ≡ words.now.config.pages }
+    requires page { IsOnPage page word }
     requires hands_none { is_handing step ≡ false }
     requires may { May (state_of token.old.table_id token.old.me seat) step }
     requires word { word ≡ word_accessed token.old.me.0.config (now_of (state_of token.old.table_id token.old.me seat))
@@ -101,7 +104,7 @@ fn perform_as<J: Making>(
 {
     words.is_within_limits();
     let shared = &words.table.shared;
-    let index = index_of(pages, word);
+    let index = index_near(pages, page, word);
     access_as::<J>(shared, token, index, by)
 }
 
@@ -154,6 +157,31 @@ impl<S: Slots> TokenWith<S> {
         let _seat = &self.seat;
     }
 
+    /// Takes a step of any kind but the two that hand over the turn, in a table of this many pages. A word of the
+    /// heap is on this page.
+    #[inline(always)]
+    pub(crate) fn perform_near(
+        &mut self,
+        words: &Words,
+        pages: u64,
+        page: u64,
+        step: Step,
+        word: TableWord,
+        by: Access,
+    ) -> u64
+        requires one_table { self.old.table ≡ words.now }
+        requires pages { pages ≡ words.now.config.pages }
+        requires page { IsOnPage page word }
+        requires hands_none { is_handing step ≡ false }
+        requires may { May self.old step }
+        requires word { word ≡ word_accessed self.old.table.config (now_of self.old) (event_of self.old step) }
+        requires access { by ≡ access self.old.table.config (now_of self.old) (event_of self.old step) }
+        ensures told { Tells self.old step result self.new }
+    {
+        let seat = self.seat;
+        perform_as::<Brand>(words, pages, page, &mut self.token, seat, step, word, by)
+    }
+
     /// Takes a step of any kind but the two that hand over the turn, in a table of this many pages.
     #[inline(always)]
     pub(crate) fn perform_among(
@@ -172,8 +200,7 @@ impl<S: Slots> TokenWith<S> {
         requires access { by ≡ access self.old.table.config (now_of self.old) (event_of self.old step) }
         ensures told { Tells self.old step result self.new }
     {
-        let seat = self.seat;
-        perform_as::<Brand>(words, pages, &mut self.token, seat, step, word, by)
+        self.perform_near(words, pages, page_of(word), step, word, by)
     }
 
     /// Takes a step of any kind but the two that hand over the turn.

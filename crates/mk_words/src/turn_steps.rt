@@ -1,16 +1,20 @@
 //! The steps of the turn's holder.
-ghost use Rattle.std.specs.Prelude.{◌≡◌, true};
+ghost use Rattle.std.specs.Prelude.{◌≡◌, ◌≢◌, true};
 ghost use Rattle.mk_core.specs.declared.events.Step.TheVariants as step;
 ghost use Rattle.mk_core.specs.declared.accesses.Access.TheVariants.{Load};
+ghost use Rattle.mk_core.specs.declared.accesses.TableWord.TheVariants.{Named};
 ghost use Rattle.mk_core.specs.Accesses.{tally_word, register_met, reg_access};
 ghost use Rattle.mk_core.specs.Calls.{progress_reg};
-ghost use Rattle.mk_words.specs.States.{call_of};
+ghost use Rattle.mk_core.specs.Words.{header_at};
+ghost use Rattle.mk_words.specs.Indexes.{IsOnPage};
+ghost use Rattle.mk_words.specs.States.{call_of, now_of};
 ghost use Rattle.mk_words.specs.CallSteps.{register_of};
 ghost use Rattle.mk_words.specs.Steps.{IsEnabledTo, IsAdmittedTo, Finds, Goes, may_decide};
 ghost use Rattle.mk_words.specs.TurnSteps.{Acts};
 
 use crate::gates::Gates;
 use crate::granting::{address_of, cell_base, cell_behind, register_granted};
+use crate::indexes::page_of;
 use crate::turns::{Turn, TurnAt};
 use crate::words::Words;
 use mk_core::{Access, Step, TableWord, Tally, Word};
@@ -55,9 +59,25 @@ impl<G: Gates> TurnAt<G> {
         ensures acts { Acts self.old.pass (step.Look x) self.new.pass }
         ensures finds { Finds self.old.pass (step.Look x) result self.new.pass }
     {
+        self.look_on_page(words, pages, page_of(TableWord::Named(x)), x)
+    }
+
+    /// Looks at a word as `look_among` does. One of the heap is on this page. A loop over the words of a page has the
+    /// page at hand, and needn't work it out for each word.
+    #[inline(always)]
+    pub fn look_on_page(&mut self, words: &Words, pages: u64, page: u64, x: Word) -> u64
+        requires one_table { self.old.pass.table ≡ words.now }
+        requires pages { pages ≡ words.now.config.pages }
+        requires page { IsOnPage page (Named x) }
+        requires enabled { IsEnabledTo self.old.pass (step.Look x) }
+        requires admitted { may_decide (step.Look x) ≡ true → IsAdmittedTo self.old.pass (step.Look x) }
+        ensures op { self.new.op ≡ self.old.op }
+        ensures acts { Acts self.old.pass (step.Look x) self.new.pass }
+        ensures finds { Finds self.old.pass (step.Look x) result self.new.pass }
+    {
         let at = TableWord::Named(x);
         self.pass
-            .perform_among(words, pages, Step::Look(x), at, Access::Load)
+            .perform_near(words, pages, page, Step::Look(x), at, Access::Load)
     }
 
     /// Stores a page's header.
@@ -111,6 +131,23 @@ impl<G: Gates> TurnAt<G> {
         self.pass
             .perform(words, Step::Mark { page, value: v }, mark, Access::Or(v));
         self.carried.map.marked(page);
+    }
+
+    /// Marks cells of a page in use, in a table of this many pages. Since the page has a header, the map needn't be
+    /// told.
+    #[inline(always)]
+    pub fn mark_in_use(&mut self, words: &Words, pages: u64, page: u64, v: u64)
+        requires one_table { self.old.pass.table ≡ words.now }
+        requires pages { pages ≡ words.now.config.pages }
+        requires in_use { header_at (now_of self.old.pass).words page ≢ 0 }
+        requires enabled { IsEnabledTo self.old.pass (step.Mark page v) }
+        ensures op { self.new.op ≡ self.old.op }
+        ensures acts { Acts self.old.pass (step.Mark page v) self.new.pass }
+    {
+        let step = Step::Mark { page, value: v };
+        let mark = TableWord::Named(Word::Mark(page));
+        self.pass
+            .perform_among(words, pages, step, mark, Access::Or(v));
     }
 
     /// Wipes a heap word.

@@ -128,7 +128,33 @@ impl<G: Gates> TurnAt<G> {
         ensures op { self.new.op ≡ self.old.op }
         ensures acts { Acts self.old.pass step self.new.pass }
     {
-        self.pass.perform(words, step, word, by)
+        self.act_among(words, words.config.pages, step, word, by)
+    }
+
+    /// The same, in a table of this many pages.
+    #[inline(always)]
+    fn act_among(
+        &mut self,
+        words: &Words,
+        pages: u64,
+        step: Step,
+        word: TableWord,
+        by: Access,
+    ) -> u64
+        requires one_table { self.old.pass.table ≡ words.now }
+        requires pages { pages ≡ words.now.config.pages }
+        requires stays { turn_stays step ≡ true }
+        requires untold { is_told step ≡ false }
+        requires gates { (t : TurnState) → Acts self.old.pass step t.pass → GatesAre G.are_held t }
+        requires may { May self.old.pass step }
+        requires word { word ≡ word_accessed self.old.pass.table.config (now_of self.old.pass)
+            (event_of self.old.pass step) }
+        requires access { by ≡ access self.old.pass.table.config (now_of self.old.pass) (event_of self.old.pass step) }
+        ensures told { Tells self.old.pass step result self.new.pass }
+        ensures op { self.new.op ≡ self.old.op }
+        ensures acts { Acts self.old.pass step self.new.pass }
+    {
+        self.pass.perform_among(words, pages, step, word, by)
     }
 
     /// Takes a step that leaves the gates, and of which the map isn't told.
@@ -145,8 +171,33 @@ impl<G: Gates> TurnAt<G> {
         ensures op { self.new.op ≡ self.old.op }
         ensures acts { Acts self.old.pass step self.new.pass }
     {
+        self.perform_among(words, words.config.pages, step, word, by)
+    }
+
+    /// The same, in a table of this many pages.
+    #[inline(always)]
+    pub(crate) fn perform_among(
+        &mut self,
+        words: &Words,
+        pages: u64,
+        step: Step,
+        word: TableWord,
+        by: Access,
+    ) -> u64
+        requires one_table { self.old.pass.table ≡ words.now }
+        requires pages { pages ≡ words.now.config.pages }
+        requires stays { gates_stay step ≡ true }
+        requires untold { is_told step ≡ false }
+        requires may { May self.old.pass step }
+        requires word { word ≡ word_accessed self.old.pass.table.config (now_of self.old.pass)
+            (event_of self.old.pass step) }
+        requires access { by ≡ access self.old.pass.table.config (now_of self.old.pass) (event_of self.old.pass step) }
+        ensures told { Tells self.old.pass step result self.new.pass }
+        ensures op { self.new.op ≡ self.old.op }
+        ensures acts { Acts self.old.pass step self.new.pass }
+    {
         self.is_in_order();
-        self.act(words, step, word, by)
+        self.act_among(words, pages, step, word, by)
     }
 }
 

@@ -52,7 +52,7 @@ static ZEROS: [u64; MOST_WORDS] = [0; MOST_WORDS];
 
 /// This many zeros.
 fn zeros(count: usize) -> &'static [u64]
-    requires { count ≤ 348816 }
+    requires { count ≤ 316048 }
     ensures { result.now ≡ replicate count 0 }
 {
     &ZEROS[..count]

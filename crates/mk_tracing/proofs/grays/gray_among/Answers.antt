@@ -1,6 +1,8 @@
-use Rattle.std.proofs.Common.{◌≡◌, subst}
+use Rattle.std.proofs.Common.{◌≡◌, ◌∙◌, ap, subst}
 use Rattle.std.specs.Prelude.{false, true}
+use Rattle.mk_geom.specs.Headers.{header_of}
 use Rattle.mk_core.specs.Bits.{has_bit}
+use Rattle.mk_tracing.specs.Grays.{words_scanned}
 use Rattle.mk_tracing.specs.Stops.{still_words}
 use Rattle.mk_tracing.proofs.FirstBits.{gray_there, no_gray_under}
 use Rattle.mk_tracing.proofs.grays.gray_among.Goals as goal
@@ -18,5 +20,5 @@ returns-clause-gray c =
           c.look_among-header.result c.args.marks c.args.blacks c.requires.page c.look_among-header.ensures.found
           c.requires.marks c.requires.blacks c.in-Some.ensures.known
           (subst (λ n. has_bit n c.in-Some.index ≡ true) c.without.ensures c.in-Some.ensures.one);
-      word = c.look_among-header.ensures.found;
+      words = c.words_scanned.ensures ∙ ap (λ n. words_scanned (header_of n)) c.look_among-header.ensures.found;
     }

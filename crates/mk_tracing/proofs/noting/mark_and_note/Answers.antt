@@ -1,17 +1,16 @@
-use Rattle.std.proofs.Common.{ℕ, ◌≡◌, false, subst}
-use Rattle.mk_geom.specs.Addresses.{is_heap_address}
+use Rattle.std.proofs.Common.{ℕ}
 use Rattle.mk_tracing.specs.Stops.{still_words}
-use Rattle.mk_tracing.proofs.MoreMarks.{outside_none, well_none}
-use Rattle.mk_tracing.proofs.StopSteps.{on_from}
+use Rattle.mk_tracing.proofs.NotedCells.{one_more}
 use Rattle.mk_tracing.proofs.noting.mark_and_note.Goals as goal
 
-pub returns-in_default-clause-on : goal.returns-in_default-clause-on
-returns-in_default-clause-on c = on_from c.args.stop.now c.requires.wanted
+pub returns-in_default-clause-last : goal.returns-in_default-clause-last
+returns-in_default-clause-last c =
+    one_more c.args.words.now.config.pages (still_words c.args.stop.now.pass) (still_words c.mark_value.new.stop.pass)
+    c.args.last c.mark_value.ensures.more c.requires.last
 
-pub returns-in_default-clause-well : goal.returns-in_default-clause-well
-returns-in_default-clause-well c =
+pub returns-clause-noted : goal.returns-clause-noted
+returns-clause-noted c noted =
     let pages : ℕ = c.args.words.now.config.pages in
-    let w = still_words c.args.stop.now.pass in
-    well_none pages w c.args.value
-    (outside_none pages w.pages c.args.value
-    (subst (λ n. is_heap_address n c.args.value ≡ false) c.requires.pages c.in_default.ensures.outside))
+    let x = still_words c.mark_value.new.stop.pass in
+    c.push.ensures.each pages x (c.mark_value.ensures.noted noted)
+    (one_more pages (still_words c.args.stop.now.pass) x c.args.last c.mark_value.ensures.more c.requires.last)

@@ -4,6 +4,8 @@ use Rattle.mk_core.specs.Cells.{pointed_cell}
 use Rattle.mk_core.specs.Words.{Words}
 use Rattle.mk_tracing.specs.Grays.{MarksMore}
 use Rattle.mk_tracing.specs.Stops.{still_words}
+use Rattle.mk_tracing.specs.Noted.{IsNoted}
+use Rattle.mk_tracing.proofs.FirstBits.{if_told}
 use Rattle.mk_tracing.proofs.NotedCells.{noted_marked, noted_more, noted_same}
 use Rattle.mk_tracing.proofs.PointedCells.{hand_points, pointed_here, points_on, well_marked, well_nowhere}
 use Rattle.mk_tracing.proofs.StopSteps.{on_then}
@@ -33,12 +35,12 @@ mark_white-requires-clause-reached c =
     (sym (pointed_here c.args.pages w c.args.value c.args.page look.result c.requires.page c.requires.inside
     look.ensures.found (omega arith) (omega arith)) ∙ c.in-Some.ensures.some)))
 
-pub returns-then-mark_white-clause-on : goal.returns-then-mark_white-clause-on
-returns-then-mark_white-clause-on c = on_then c.args.stop.now c.look_among-header.new.stop c.mark_white.new.stop
+pub returns-clause-on : goal.returns-clause-on
+returns-clause-on c = on_then c.args.stop.now c.look_among-header.new.stop c.mark_white.new.stop
     c.look_among-header.ensures.on c.mark_white.ensures.on
 
-pub returns-then-mark_white-clause-well : goal.returns-then-mark_white-clause-well
-returns-then-mark_white-clause-well c =
+pub returns-clause-well : goal.returns-clause-well
+returns-clause-well c =
     let w = still_words c.args.stop.now.pass in
     let x = still_words c.mark_white.new.stop.pass in
     let look = c.look_among-header in
@@ -48,38 +50,32 @@ returns-then-mark_white-clause-well c =
     (sym (pointed_here c.args.pages w c.args.value c.args.page look.result c.requires.page c.requires.inside
     look.ensures.found (omega arith) (omega arith)) ∙ c.in-Some.ensures.some)) c.mark_white.ensures.marked
 
-pub returns-else-mark_white-clause-on : goal.returns-else-mark_white-clause-on
-returns-else-mark_white-clause-on c = on_then c.args.stop.now c.look_among-header.new.stop c.mark_white.new.stop
-    c.look_among-header.ensures.on c.mark_white.ensures.on
-
-pub returns-else-mark_white-clause-well : goal.returns-else-mark_white-clause-well
-returns-else-mark_white-clause-well c =
-    let w = still_words c.args.stop.now.pass in
-    let x = still_words c.mark_white.new.stop.pass in
-    let look = c.look_among-header in
-    well_marked c.args.words.now.config.pages w x c.args.value c.in-Some.noted.cell
-    (subst (λ (y : Words). MarksMore y x) look.ensures.words c.mark_white.ensures.more)
-    (subst (λ n. pointed_cell n w.pages c.args.value ≡ Some c.in-Some.noted.cell) c.requires.pages
-    (sym (pointed_here c.args.pages w c.args.value c.args.page look.result c.requires.page c.requires.inside
-    look.ensures.found (omega arith) (omega arith)) ∙ c.in-Some.ensures.some)) c.mark_white.ensures.marked
-
-pub returns-then-mark_white-clause-noted : goal.returns-then-mark_white-clause-noted
-returns-then-mark_white-clause-noted c noted =
+pub returns-clause-one : goal.returns-clause-one
+returns-clause-one c =
     let pages : ℕ = c.args.words.now.config.pages in
     let w = still_words c.args.stop.now.pass in
     let look = c.look_among-header in
     let v = still_words look.new.stop.pass in
     let x = still_words c.mark_white.new.stop.pass in
-    c.push.ensures.each pages x
-    (noted_more pages v x c.args.work.now c.mark_white.ensures.more
-    (noted_same pages w v c.args.work.now look.ensures.words noted))
-    (noted_marked pages w v x c.in-Some.noted c.args.page look.result look.ensures.words c.mark_white.ensures.more
-    c.in-Some.ensures.page c.in-Some.ensures.header (omega arith) look.ensures.found
-    (subst (λ n. c.args.page < n) c.requires.pages c.requires.within) c.mark_white.ensures.marked)
+    if_told (IsNoted pages x) c.mark_white.result c.in-Some.noted c.then_some.result c.then_some.ensures
+    (λ white. noted_marked pages w v x c.in-Some.noted c.args.page look.result look.ensures.words
+    c.mark_white.ensures.more c.in-Some.ensures.page c.in-Some.ensures.known c.in-Some.ensures.words (omega arith)
+    look.ensures.found (subst (λ n. c.args.page < n) c.requires.pages c.requires.within) c.mark_white.ensures.marked)
 
-pub returns-else-mark_white-clause-noted : goal.returns-else-mark_white-clause-noted
-returns-else-mark_white-clause-noted c noted =
+pub returns-clause-noted : goal.returns-clause-noted
+returns-clause-noted c noted =
     let pages : ℕ = c.args.words.now.config.pages in
     let v = still_words c.look_among-header.new.stop.pass in
     noted_more pages v (still_words c.mark_white.new.stop.pass) c.args.work.now c.mark_white.ensures.more
     (noted_same pages (still_words c.args.stop.now.pass) v c.args.work.now c.look_among-header.ensures.words noted)
+
+pub returns-then-header-eq0-clause-noted : goal.returns-then-header-eq0-clause-noted
+returns-then-header-eq0-clause-noted c noted =
+    c.mark_under.ensures.noted
+    (noted_same c.args.words.now.config.pages (still_words c.args.stop.now.pass)
+    (still_words c.look_among-header.new.stop.pass) c.args.work.now c.look_among-header.ensures.words noted)
+
+pub returns-in_default-clause-noted : goal.returns-in_default-clause-noted
+returns-in_default-clause-noted c =
+    noted_same c.args.words.now.config.pages (still_words c.args.stop.now.pass)
+    (still_words c.look_among-header.new.stop.pass) c.args.work.now c.look_among-header.ensures.words

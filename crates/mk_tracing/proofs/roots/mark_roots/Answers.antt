@@ -30,3 +30,6 @@ returns-clause-roots c =
     (c.mark_registers.ensures.well k (subst (λ (t : WordsState). k < t.config.callers) c.requires.one_table lk) r lr))
     (λ g lg. subst (λ (y : Words). points_well pages x (slice_index y.globals g) ≡ true)
     c.mark_registers.ensures.more.is (c.mark_globals.ensures.well g lg))
+
+pub returns-clause-noted : goal.returns-clause-noted
+returns-clause-noted c noted = c.mark_globals.ensures.noted (c.mark_registers.ensures.noted noted)

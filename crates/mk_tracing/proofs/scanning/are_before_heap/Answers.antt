@@ -41,3 +41,6 @@ returns-clause-before c is i lt =
     let most = c.loop-i.invariant.most i (omega arith) in
     let small = ltb-true c.loop-i.all 65536 is in
     omega arith
+
+pub look_at_word-all-requires-clause-part : goal.look_at_word-all-requires-clause-part
+look_at_word-all-requires-clause-part c = c.requires.part c.loop-i.i (omega arith)

@@ -8,3 +8,6 @@ returns-then-size-lt-GROUP-clause-well c =
     scan_done c.args.words.now.config.pages (still_words c.args.stop.now.pass) (still_words c.scan_words.new.stop.pass)
     c.args.cell c.scan_words.ensures.more
     (λ j lt. c.scan_words.ensures.well j (omega arith) (subst (λ n. j < n) (sym c.requires.due.words) lt))
+
+pub scan_words-requires-clause-part : goal.scan_words-requires-clause-part
+scan_words-requires-clause-part c i le lt = omega arith

@@ -1,4 +1,4 @@
-use Rattle.std.proofs.Common.{◌≡◌, ℕ, ◌+◌, ◌*◌, true, subst}
+use Rattle.std.proofs.Common.{◌≡◌, ℕ, ◌+◌, ◌*◌, true, subst, arith}
 use Rattle.std.specs.Prelude.{slice_index}
 use Rattle.mk_core.specs.Cells.{first_word, points_well}
 use Rattle.mk_core.specs.Words.{Words}
@@ -53,3 +53,6 @@ returns-clause-noted c noted =
     c.scan_apart.ensures.noted
     (noted_same c.args.words.now.config.pages (still_words c.args.stop.now.pass)
     (still_words c.are_before_heap.new.stop.pass) c.args.work.now c.are_before_heap.ensures.words noted)
+
+pub are_before_heap-requires-clause-part : goal.are_before_heap-requires-clause-part
+are_before_heap-requires-clause-part c i lt = let part = c.requires.part in omega arith

@@ -1,73 +1,96 @@
-use Rattle.std.proofs.Common.{◌≡◌, ℕ, ◌+◌, ◌*◌, ◌<◌, true, refl, sym, subst, arith}
-use Rattle.std.specs.Prelude.{slice_index}
-use Rattle.mk_core.specs.Cells.{first_word, points_well}
+use Rattle.std.proofs.Common.{◌≡◌, ℕ, ◌+◌, ◌*◌, ◌/◌, ◌<◌, sym, subst, arith}
 use Rattle.mk_tracing.specs.Stops.{still_words}
-use Rattle.mk_tracing.proofs.Blackened.{cell_kept, scan_done}
-use Rattle.mk_tracing.proofs.MoreMarks.{more_same, more_then}
-use Rattle.mk_tracing.proofs.ScannedWords.{due_kept, values_both, values_group}
+use Rattle.mk_tracing.proofs.Blackened.{scan_done}
+use Rattle.mk_tracing.proofs.ScannedWords.{ScannedTo, due_kept, none_scanned_yet, scanned_then}
 use Rattle.mk_tracing.proofs.StopSteps.{on_from, on_then}
 use Rattle.mk_tracing.proofs.scanning.scan_groups.Goals as goal
+use Rattle.mk_tracing.proofs.scanning.scan_groups.Goals.{After-scan_part-2, After-scan_words}
 
-pub loop-group-init : goal.loop-group-init
-loop-group-init c = record {
+pub loop-part-init : goal.loop-part-init
+loop-part-init c = record {
   on = on_from c.args.stop.now c.requires.wanted;
-  more = more_same (still_words c.args.stop.now.pass) (still_words c.args.stop.now.pass) refl;
+  scanned = none_scanned_yet c.args.words.now.config.pages (still_words c.args.stop.now.pass) c.args.cell 0;
   noted = λ h. h;
-  well = λ j lt. absurd (omega arith);
 }
 
-pub scan_group-requires-clause-due : goal.scan_group-requires-clause-due
-scan_group-requires-clause-due c =
-    due_kept c.args.words.now.config.pages (still_words c.args.stop.now.pass) (still_words c.loop-group.stop.pass)
-    c.args.cell c.args.size c.requires.due c.loop-group.invariant.more
+pub scan_part-requires-clause-due : goal.scan_part-requires-clause-due
+scan_part-requires-clause-due c =
+    due_kept c.args.words.now.config.pages (still_words c.args.stop.now.pass) (still_words c.loop-part.stop.pass)
+    c.args.cell c.args.size c.requires.due c.loop-part.invariant.scanned.more
 
-pub loop-group-preserved : goal.loop-group-preserved
-loop-group-preserved c =
-    let pages : ℕ = c.args.words.now.config.pages in
-    let w = still_words c.args.stop.now.pass in
-    let v = still_words c.loop-group.stop.pass in
-    let x = still_words c.scan_group.new.stop.pass in
-    let value : ℕ → ℕ = λ j. slice_index w.heap (first_word w c.args.cell + j) in
+pub loop-part-preserved : goal.loop-part-preserved
+loop-part-preserved c =
+    let scan = c.scan_part in
+    let part : ℕ = c.loop-part.part in
     record {
-      on = on_then c.args.stop.now c.loop-group.stop c.scan_group.new.stop c.loop-group.invariant.on
-          c.scan_group.ensures.on;
-      more = more_then w v x c.loop-group.invariant.more c.scan_group.ensures.more;
-      noted = λ h. c.scan_group.ensures.noted (c.loop-group.invariant.noted h);
-      well = values_group pages v x value c.loop-group.group c.scan_group.ensures.more c.loop-group.invariant.well
-          (λ i lt. subst (λ n. points_well pages x n ≡ true)
-          (cell_kept w v c.args.cell (8 * c.loop-group.group + i) c.loop-group.invariant.more)
-          (c.scan_group.ensures.well i lt));
+      on = on_then c.args.stop.now c.loop-part.stop scan.new.stop c.loop-part.invariant.on scan.ensures.on;
+      scanned = scanned_then c.args.words.now.config.pages (still_words c.args.stop.now.pass)
+          (still_words c.loop-part.stop.pass) (still_words scan.new.stop.pass) c.args.cell 0 (64 * part)
+          (64 * (part + 1)) c.loop-part.invariant.scanned
+          (record { more = scan.ensures.more; well = λ k le lt. scan.ensures.well k le (omega arith) (omega arith) });
+      noted = λ h. scan.ensures.noted (c.loop-part.invariant.noted h);
     }
+
+pub scan_part-requires-2-clause-due : goal.scan_part-requires-2-clause-due
+scan_part-requires-2-clause-due c =
+    due_kept c.args.words.now.config.pages (still_words c.args.stop.now.pass) (still_words c.loop-part.stop.pass)
+    c.args.cell c.args.size c.requires.due c.loop-part.invariant.scanned.more
+
+-- all groups are scanned
+groups_scanned : (c : After-scan_part-2)
+    → ScannedTo c.args.words.now.config.pages (still_words c.args.stop.now.pass)
+    (still_words c.scan_part-2.new.stop.pass) c.args.cell 0 (8 * (c.args.size / 8))
+groups_scanned c =
+    let end = c.loop-part-test.false in
+    let scan = c.scan_part-2 in
+    let part : ℕ = c.args.size / 64 in
+    let same : c.loop-part.part ≡ part = omega arith in
+    let before = subst (λ n. ScannedTo c.args.words.now.config.pages (still_words c.args.stop.now.pass)
+    (still_words c.loop-part.stop.pass) c.args.cell 0 (64 * n)) same c.loop-part.invariant.scanned in
+    scanned_then c.args.words.now.config.pages (still_words c.args.stop.now.pass) (still_words c.loop-part.stop.pass)
+    (still_words scan.new.stop.pass) c.args.cell 0 (64 * part) (8 * (c.args.size / 8)) before
+    (record { more = scan.ensures.more; well = λ k le lt. scan.ensures.well k le (omega arith) lt })
 
 pub scan_words-requires-clause-due : goal.scan_words-requires-clause-due
 scan_words-requires-clause-due c =
-    due_kept c.args.words.now.config.pages (still_words c.args.stop.now.pass) (still_words c.loop-group.stop.pass)
-    c.args.cell c.args.size c.requires.due c.loop-group.invariant.more
+    due_kept c.args.words.now.config.pages (still_words c.args.stop.now.pass)
+    (still_words c.scan_part-2.new.stop.pass) c.args.cell c.args.size c.requires.due
+    (groups_scanned (goal.at.scan_words-requires-clause-due c).After-scan_part-2).more
+
+pub scan_words-requires-clause-part : goal.scan_words-requires-clause-part
+scan_words-requires-clause-part c i le lt = omega arith
+
+-- and all words
+all_scanned : (c : After-scan_words)
+    → ScannedTo c.args.words.now.config.pages (still_words c.args.stop.now.pass)
+    (still_words c.scan_part-2.new.stop.pass) c.args.cell 0 (8 * (c.args.size / 8))
+    → ScannedTo c.args.words.now.config.pages (still_words c.args.stop.now.pass)
+    (still_words c.scan_words.new.stop.pass) c.args.cell 0 c.args.size
+all_scanned c groups =
+    scanned_then c.args.words.now.config.pages (still_words c.args.stop.now.pass)
+    (still_words c.scan_part-2.new.stop.pass) (still_words c.scan_words.new.stop.pass) c.args.cell 0
+    (8 * (c.args.size / 8)) c.args.size groups
+    (record { more = c.scan_words.ensures.more; well = c.scan_words.ensures.well })
 
 pub returns-clause-on : goal.returns-clause-on
-returns-clause-on c = on_then c.args.stop.now c.loop-group.stop c.scan_words.new.stop c.loop-group.invariant.on
+returns-clause-on c =
+    on_then c.args.stop.now c.scan_part-2.new.stop c.scan_words.new.stop
+    (on_then c.args.stop.now c.loop-part.stop c.scan_part-2.new.stop c.loop-part.invariant.on c.scan_part-2.ensures.on)
     c.scan_words.ensures.on
 
 pub returns-clause-more : goal.returns-clause-more
 returns-clause-more c =
-    more_then (still_words c.args.stop.now.pass) (still_words c.loop-group.stop.pass)
-    (still_words c.scan_words.new.stop.pass) c.loop-group.invariant.more c.scan_words.ensures.more
+    let at = goal.at.returns-clause-more c in
+    (all_scanned at.After-scan_words (groups_scanned at.After-scan_part-2)).more
 
 pub returns-clause-well : goal.returns-clause-well
 returns-clause-well c =
-    let pages : ℕ = c.args.words.now.config.pages in
-    let w = still_words c.args.stop.now.pass in
-    let v = still_words c.loop-group.stop.pass in
-    let x = still_words c.scan_words.new.stop.pass in
-    let value : ℕ → ℕ = λ j. slice_index w.heap (first_word w c.args.cell + j) in
-    let groups : ℕ = c.loop-group.group in
-    let ends = c.loop-group-test.false in
-    scan_done pages w x c.args.cell
-    (more_then w v x c.loop-group.invariant.more c.scan_words.ensures.more)
-    (λ j lt. values_both pages v x value (8 * groups) c.args.size c.scan_words.ensures.more c.loop-group.invariant.well
-    (λ k le below. subst (λ n. points_well pages x n ≡ true) (cell_kept w v c.args.cell k c.loop-group.invariant.more)
-    (c.scan_words.ensures.well k (omega arith) below)) j
-    (subst (λ n. j < n) (sym c.requires.due.words) lt))
+    let at = goal.at.returns-clause-well c in
+    let all = all_scanned at.After-scan_words (groups_scanned at.After-scan_part-2) in
+    scan_done c.args.words.now.config.pages (still_words c.args.stop.now.pass)
+    (still_words c.scan_words.new.stop.pass) c.args.cell all.more
+    (λ j lt. all.well j (omega arith) (subst (λ n. j < n) (sym c.requires.due.words) lt))
 
 pub returns-clause-noted : goal.returns-clause-noted
-returns-clause-noted c noted = c.scan_words.ensures.noted (c.loop-group.invariant.noted noted)
+returns-clause-noted c noted =
+    c.scan_words.ensures.noted (c.scan_part-2.ensures.noted (c.loop-part.invariant.noted noted))

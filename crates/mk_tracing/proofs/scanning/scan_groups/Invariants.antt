@@ -1,14 +1,15 @@
-use Rattle.std.proofs.Common.{ℕ, ◌*◌, ◌<◌}
-use Rattle.mk_tracing.specs.Grays.{MarksMore, MarksOn, WordIsWell}
+use Rattle.std.proofs.Common.{◌*◌}
+use Rattle.mk_tracing.specs.Grays.{MarksOn}
 use Rattle.mk_tracing.specs.Noted.{AreNoted}
 use Rattle.mk_tracing.specs.Stops.{still_words}
+use Rattle.mk_tracing.proofs.ScannedWords.{ScannedTo}
 use Rattle.mk_tracing.proofs.scanning.scan_groups.Given as goal
 
-abbrev pub invariant-loop-group : goal.invariant-loop-group
-invariant-loop-group l = record {
+abbrev pub invariant-loop-part : goal.invariant-loop-part
+invariant-loop-part l = record {
   on : MarksOn l.fn.stop l.stop;
-  more : MarksMore (still_words l.fn.stop.pass) (still_words l.stop.pass);
+  scanned : ScannedTo l.words.config.pages (still_words l.fn.stop.pass) (still_words l.stop.pass) l.cell 0
+      (64 * l.part);
   noted : AreNoted l.words.config.pages (still_words l.fn.stop.pass) l.fn.work
       → AreNoted l.words.config.pages (still_words l.stop.pass) l.work;
-  well : (j : ℕ) → j < 8 * l.group → WordIsWell l.words.config l.fn.stop.pass l.stop.pass l.cell j;
 }

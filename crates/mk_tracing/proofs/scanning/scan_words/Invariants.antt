@@ -1,14 +1,13 @@
-use Rattle.std.proofs.Common.{ℕ, ◌<◌, ◌≤◌}
-use Rattle.mk_tracing.specs.Grays.{MarksMore, MarksOn, WordIsWell}
+use Rattle.mk_tracing.specs.Grays.{MarksOn}
 use Rattle.mk_tracing.specs.Noted.{AreNoted}
 use Rattle.mk_tracing.specs.Stops.{still_words}
+use Rattle.mk_tracing.proofs.ScannedWords.{ScannedTo}
 use Rattle.mk_tracing.proofs.scanning.scan_words.Given as goal
 
 abbrev pub invariant-loop-i : goal.invariant-loop-i
 invariant-loop-i l = record {
   on : MarksOn l.fn.stop l.stop;
-  more : MarksMore (still_words l.fn.stop.pass) (still_words l.stop.pass);
+  scanned : ScannedTo l.words.config.pages (still_words l.fn.stop.pass) (still_words l.stop.pass) l.cell l.from l.i;
   noted : AreNoted l.words.config.pages (still_words l.fn.stop.pass) l.fn.work
       → AreNoted l.words.config.pages (still_words l.stop.pass) l.work;
-  well : (j : ℕ) → l.from ≤ j → j < l.i → WordIsWell l.words.config l.fn.stop.pass l.stop.pass l.cell j;
 }

@@ -10,8 +10,8 @@ use Rattle.mk_tracing.proofs.Stilled.{black_words}
 use Rattle.mk_tracing.proofs.StopSteps.{on_black}
 use Rattle.mk_tracing.proofs.stepping.blacken_cell.Goals as goal
 
-pub black-requires-clause-enabled : goal.black-requires-clause-enabled
-black-requires-clause-enabled c =
+pub black_among-requires-clause-enabled : goal.black_among-requires-clause-enabled
+black_among-requires-clause-enabled c =
     let p = c.args.stop.now.pass in
     subst (λ v. IsEnabledTo p (step.Black c.args.cell.page v)) (sym c.bit.ensures)
     (may_black_cell p c.requires.wanted (c.is_in_order.ensures.turn.holds, c.is_in_order.ensures.gates) c.args.cell
@@ -22,13 +22,13 @@ black-requires-clause-enabled c =
 
 pub returns-clause-on : goal.returns-clause-on
 returns-clause-on c =
-    on_black c.args.stop.now c.black.new.self c.requires.wanted
-    (c.is_in_order.ensures.turn.holds, c.is_in_order.ensures.gates) c.is_in_order.ensures.own c.black.ensures.op
-    c.args.cell.page c.bit.result c.black.ensures.acts
+    on_black c.args.stop.now c.black_among.new.self c.requires.wanted
+    (c.is_in_order.ensures.turn.holds, c.is_in_order.ensures.gates) c.is_in_order.ensures.own c.black_among.ensures.op
+    c.args.cell.page c.bit.result c.black_among.ensures.acts
 
 pub returns-clause-words : goal.returns-clause-words
 returns-clause-words c =
-    black_words c.args.stop.now.pass c.black.new.self.pass c.requires.wanted
+    black_words c.args.stop.now.pass c.black_among.new.self.pass c.requires.wanted
     (c.is_in_order.ensures.turn.holds, c.is_in_order.ensures.gates) c.args.cell.page (2 ^ c.args.cell.index)
-    (subst (λ v. Acts c.args.stop.now.pass (step.Black c.args.cell.page v) c.black.new.self.pass) c.bit.ensures
-    c.black.ensures.acts)
+    (subst (λ v. Acts c.args.stop.now.pass (step.Black c.args.cell.page v) c.black_among.new.self.pass) c.bit.ensures
+    c.black_among.ensures.acts)

@@ -4,14 +4,18 @@ use Rattle.mk_words.specs.Steps.{IsEnabledTo}
 use Rattle.mk_words.specs.TurnSteps.{Acts}
 use Rattle.mk_tracing.proofs.MaySteps.{may_mark_cell}
 use Rattle.mk_tracing.proofs.Stilled.{mark_words}
-use Rattle.mk_tracing.proofs.StopSteps.{on_mark, reached_within}
+use Rattle.mk_tracing.proofs.StopSteps.{on_mark, reached_in_use, reached_within}
 use Rattle.mk_tracing.proofs.stepping.mark_cell.Goals as goal
 
 pub bit-requires : goal.bit-requires
 bit-requires c = (reached_within c.args.stop.now.pass c.args.cell c.requires.reached).1
 
-pub mark-requires-clause-enabled : goal.mark-requires-clause-enabled
-mark-requires-clause-enabled c =
+pub mark_in_use-requires-clause-in_use : goal.mark_in_use-requires-clause-in_use
+mark_in_use-requires-clause-in_use c =
+    reached_in_use c.args.stop.now.pass c.args.cell c.is_in_order.ensures.history c.requires.wanted c.requires.reached
+
+pub mark_in_use-requires-clause-enabled : goal.mark_in_use-requires-clause-enabled
+mark_in_use-requires-clause-enabled c =
     subst (λ v. IsEnabledTo c.args.stop.now.pass (step.Mark c.args.cell.page v)) (sym c.bit.ensures)
     (may_mark_cell c.args.stop.now.pass c.requires.wanted (
       c.is_in_order.ensures.turn.holds,
@@ -21,15 +25,15 @@ mark-requires-clause-enabled c =
 
 pub returns-clause-on : goal.returns-clause-on
 returns-clause-on c =
-    on_mark c.args.stop.now c.mark.new.self c.requires.wanted
-    (c.is_in_order.ensures.turn.holds, c.is_in_order.ensures.gates) c.is_in_order.ensures.own c.mark.ensures.op
+    on_mark c.args.stop.now c.mark_in_use.new.self c.requires.wanted
+    (c.is_in_order.ensures.turn.holds, c.is_in_order.ensures.gates) c.is_in_order.ensures.own c.mark_in_use.ensures.op
     c.args.cell
-    (subst (λ v. Acts c.args.stop.now.pass (step.Mark c.args.cell.page v) c.mark.new.self.pass) c.bit.ensures
-    c.mark.ensures.acts) c.requires.reached
+    (subst (λ v. Acts c.args.stop.now.pass (step.Mark c.args.cell.page v) c.mark_in_use.new.self.pass) c.bit.ensures
+    c.mark_in_use.ensures.acts) c.requires.reached
 
 pub returns-clause-words : goal.returns-clause-words
 returns-clause-words c =
-    mark_words c.args.stop.now.pass c.mark.new.self.pass c.requires.wanted
+    mark_words c.args.stop.now.pass c.mark_in_use.new.self.pass c.requires.wanted
     (c.is_in_order.ensures.turn.holds, c.is_in_order.ensures.gates) c.args.cell.page (2 ^ c.args.cell.index)
-    (subst (λ v. Acts c.args.stop.now.pass (step.Mark c.args.cell.page v) c.mark.new.self.pass) c.bit.ensures
-    c.mark.ensures.acts)
+    (subst (λ v. Acts c.args.stop.now.pass (step.Mark c.args.cell.page v) c.mark_in_use.new.self.pass) c.bit.ensures
+    c.mark_in_use.ensures.acts)

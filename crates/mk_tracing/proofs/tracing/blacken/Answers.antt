@@ -2,7 +2,7 @@ use Rattle.std.proofs.Common.{◌^◌, arith}
 use Rattle.mk_core.specs.Cells.{header_in}
 use Rattle.mk_tracing.specs.Stops.{still_words}
 use Rattle.mk_tracing.proofs.Blackened.{blackens_one, cells_few}
-use Rattle.mk_tracing.proofs.NotedCells.{noted_black}
+use Rattle.mk_tracing.proofs.NotedCells.{last_black, noted_black}
 use Rattle.mk_tracing.proofs.StopSteps.{on_then}
 use Rattle.mk_tracing.proofs.tracing.blacken.Goals as goal
 
@@ -13,17 +13,23 @@ blacken_cell-requires-clause-index c =
     omega arith
 
 pub returns-clause-on : goal.returns-clause-on
-returns-clause-on c = on_then c.args.stop.now c.scan_if_due.new.stop c.blacken_cell.new.stop c.scan_if_due.ensures.on
+returns-clause-on c = on_then c.args.stop.now c.scan_if_due-last.new.stop c.blacken_cell.new.stop c.scan_if_due-last.ensures.on
     c.blacken_cell.ensures.on
 
 pub returns-clause-one : goal.returns-clause-one
 returns-clause-one c =
-    blackens_one (still_words c.args.stop.now.pass) (still_words c.scan_if_due.new.stop.pass)
+    blackens_one (still_words c.args.stop.now.pass) (still_words c.scan_if_due-last.new.stop.pass)
     (still_words c.blacken_cell.new.stop.pass) c.args.gray.cell
-    c.scan_if_due.ensures.more c.blacken_cell.ensures.words
+    c.scan_if_due-last.ensures.more c.blacken_cell.ensures.words
 
 pub returns-clause-noted : goal.returns-clause-noted
 returns-clause-noted c noted =
     noted_black c.args.words.now.config.pages c.args.gray.cell.page (2 ^ c.args.gray.cell.index)
-    (still_words c.scan_if_due.new.stop.pass) (still_words c.blacken_cell.new.stop.pass) c.scan_if_due.new.work
-    c.blacken_cell.ensures.words (c.scan_if_due.ensures.noted noted)
+    (still_words c.scan_if_due-last.new.stop.pass) (still_words c.blacken_cell.new.stop.pass) c.scan_if_due-last.new.work
+    c.blacken_cell.ensures.words (c.scan_if_due-last.ensures.noted noted)
+
+pub returns-clause-last : goal.returns-clause-last
+returns-clause-last c =
+    last_black c.args.words.now.config.pages c.args.gray.cell.page (2 ^ c.args.gray.cell.index)
+    (still_words c.scan_if_due-last.new.stop.pass) (still_words c.blacken_cell.new.stop.pass) c.scan_if_due-last.result
+    c.blacken_cell.ensures.words c.scan_if_due-last.ensures.last

@@ -1,7 +1,6 @@
-use Rattle.std.proofs.Common.{◌≡◌, ◌∙◌, ◌⊎◌, ◌<◌, ℕ, Bool, true, false, refl, ap, sym, subst, inl, inr, arith}
+use Rattle.std.proofs.Common.{◌≡◌, ◌∙◌, ◌⊎◌, ◌<◌, ℕ, Bool, true, false, refl, sym, subst, inl, inr, arith}
 use Rattle.std.specs.Prelude.{if◌then◌else◌}
 use Rattle.mk_geom.specs.declared.addresses.Cell.{Cell}
-use Rattle.mk_geom.specs.Headers.{header_of}
 use Rattle.mk_core.specs.Cells.{cell_words, has_no_pointers, header_in, words_point_well}
 use Rattle.mk_core.specs.Words.{Words}
 use Rattle.mk_tracing.specs.Grays.{words_scanned}
@@ -31,8 +30,7 @@ returns-then-gray-eq0-clause-turns c =
     let pages : ℕ = c.args.words.now.config.pages in
     let w = still_words c.args.stop.now.pass in
     gray_turns pages w w c.args.gray.cell c.requires.gray.gray (more_same w w refl)
-    (none_scanned pages w c.args.gray.cell
-    (ap (λ h. words_scanned (header_of h)) (sym c.requires.gray.word) ∙ sym c.args.gray.scanned ∙ c.if-gray-eq0.true))
+    (none_scanned pages w c.args.gray.cell (sym c.requires.gray.words ∙ c.if-gray-eq0.true))
 
 pub returns-clause-turns : goal.returns-clause-turns
 returns-clause-turns c =

@@ -13,6 +13,7 @@ loop-gray-init c = record {
   on = on_from c.args.stop.now c.requires.wanted;
   more = colours_same
       (still_words c.args.stop.now.pass);
+  last = tt;
   noted = c.requires.noted;
 }
 
@@ -21,10 +22,10 @@ loop-gray-smaller c =
     let p = c.loop-gray.stop.pass in
     let pages : p.table ≡ c.args.words.now = c.loop-gray.invariant.on.table ∙ c.requires.one_table in
     one_fewer_white c.args.words.now.config.pages (still_words p) (still_words c.next_gray.new.stop.pass)
-    (still_words c.blacken.new.stop.pass) c.in-Some.gray.cell
+    (still_words c.blacken-last.new.stop.pass) c.in-Some.gray.cell
     c.in-Some.ensures.gray.gray (sym ((histories_keep_lengths p.table.config p.seen).blacks ∙ ap
     (λ (t : WordsState). t.config.pages) pages))
-    c.next_gray.ensures.words c.blacken.ensures.one
+    c.next_gray.ensures.words c.blacken-last.ensures.one
 
 pub loop-gray-preserved : goal.loop-gray-preserved
 loop-gray-preserved c =
@@ -33,11 +34,12 @@ loop-gray-preserved c =
     let more : ColoursMore w v = subst (λ (y : Words). ColoursMore w y)
     (sym c.next_gray.ensures.words) c.loop-gray.invariant.more in
     record {
-      on = on_then c.args.stop.now c.next_gray.new.stop c.blacken.new.stop
+      on = on_then c.args.stop.now c.next_gray.new.stop c.blacken-last.new.stop
           (on_then c.args.stop.now c.loop-gray.stop c.next_gray.new.stop c.loop-gray.invariant.on
-          c.next_gray.ensures.on) c.blacken.ensures.on;
-      more = colours_then w v (still_words c.blacken.new.stop.pass) c.in-Some.gray.cell more c.blacken.ensures.one;
-      noted = c.blacken.ensures.noted c.next_gray.ensures.noted;
+          c.next_gray.ensures.on) c.blacken-last.ensures.on;
+      more = colours_then w v (still_words c.blacken-last.new.stop.pass) c.in-Some.gray.cell more c.blacken-last.ensures.one;
+      last = c.blacken-last.ensures.last;
+      noted = c.blacken-last.ensures.noted c.next_gray.ensures.noted;
     }
 
 pub returns-clause-on : goal.returns-clause-on

@@ -1,5 +1,6 @@
+use Rattle.std.specs.Prelude.{IfSome}
 use Rattle.mk_tracing.specs.Grays.{ColoursMore, MarksOn}
-use Rattle.mk_tracing.specs.Noted.{AreNoted}
+use Rattle.mk_tracing.specs.Noted.{AreNoted, IsNoted}
 use Rattle.mk_tracing.specs.Stops.{still_words}
 use Rattle.mk_tracing.proofs.Blackened.{white_cells}
 use Rattle.mk_tracing.proofs.tracing.trace.Given as goal
@@ -8,6 +9,7 @@ abbrev pub invariant-loop-gray : goal.invariant-loop-gray
 invariant-loop-gray l = record {
   on : MarksOn l.fn.stop l.stop;
   more : ColoursMore (still_words l.fn.stop.pass) (still_words l.stop.pass);
+  last : IfSome l.last (IsNoted l.words.config.pages (still_words l.stop.pass));
   noted : AreNoted l.words.config.pages (still_words l.stop.pass) l.work;
 }
 

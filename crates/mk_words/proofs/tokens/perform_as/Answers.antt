@@ -15,8 +15,8 @@ index_told : (u v : WordsState) (pages index : ℕ) (word : TableWord) → u ≡
 index_told u v pages index word same number is =
     is ∙ ap (λ (n : ℕ). index_of n word) (pages_told u v pages same number)
 
-pub index_of-index-requires-clause-names : goal.index_of-index-requires-clause-names
-index_of-index-requires-clause-names g c =
+pub index_near-index-requires-clause-names : goal.index_near-index-requires-clause-names
+index_near-index-requires-clause-names g c =
     let w = c.words.inside in
     let t = c.args.token.now in
     subst (λ (n : ℕ). IsOfTable n c.args.word)
@@ -31,11 +31,11 @@ access_as-requires-clause-within g c =
     let t = c.args.token.now in
     (perform_call c.args.words.now (state_of t.table_id t.me c.args.seat) w.table.shared.table_id t.table_id w.config
     w.table.shared.key t.me c.args.seat c.words.view_is refl c.requires.one_table
-    w.table.shared.table_id.words w.table.shared.table_id.slots t.id c.args.step c.index_of-index.result c.args.word
+    w.table.shared.table_id.words w.table.shared.table_id.slots t.id c.args.step c.index_near-index.result c.args.word
     c.args.by g.J.Making.event
     c.requires.order c.words.invariant.key c.words.invariant.words c.requires.picked c.requires.may c.requires.word
-    c.requires.access (index_told _ c.args.words.now c.args.pages c.index_of-index.result c.args.word
-    c.words.view_is c.requires.pages c.index_of-index.ensures) c.requires.hands_none).0
+    c.requires.access (index_told _ c.args.words.now c.args.pages c.index_near-index.result c.args.word
+    c.words.view_is c.requires.pages c.index_near-index.ensures) c.requires.hands_none).0
 
 pub access_as-requires-clause-allowed : goal.access_as-requires-clause-allowed
 access_as-requires-clause-allowed g c =
@@ -43,11 +43,11 @@ access_as-requires-clause-allowed g c =
     let t = c.args.token.now in
     (perform_call c.args.words.now (state_of t.table_id t.me c.args.seat) w.table.shared.table_id t.table_id w.config
     w.table.shared.key t.me c.args.seat c.words.view_is refl c.requires.one_table
-    w.table.shared.table_id.words w.table.shared.table_id.slots t.id c.args.step c.index_of-index.result c.args.word
+    w.table.shared.table_id.words w.table.shared.table_id.slots t.id c.args.step c.index_near-index.result c.args.word
     c.args.by g.J.Making.event
     c.requires.order c.words.invariant.key c.words.invariant.words c.requires.picked c.requires.may c.requires.word
-    c.requires.access (index_told _ c.args.words.now c.args.pages c.index_of-index.result c.args.word
-    c.words.view_is c.requires.pages c.index_of-index.ensures) c.requires.hands_none).1
+    c.requires.access (index_told _ c.args.words.now c.args.pages c.index_near-index.result c.args.word
+    c.words.view_is c.requires.pages c.index_near-index.ensures) c.requires.hands_none).1
 
 pub returns-clause-told : goal.returns-clause-told
 returns-clause-told g c =

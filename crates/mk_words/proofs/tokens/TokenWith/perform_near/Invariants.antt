@@ -1,4 +1,4 @@
-use Rattle.mk_words.proofs.tokens.TokenWith.perform_among.Given as goal
+use Rattle.mk_words.proofs.tokens.TokenWith.perform_near.Given as goal
 
 -- the event of the step that the call is given
 abbrev pub ghosts-perform_as : goal.ghosts-perform_as

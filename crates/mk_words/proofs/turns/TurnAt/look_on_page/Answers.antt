@@ -6,11 +6,11 @@ use Rattle.mk_words.specs.Steps.{Finds}
 use Rattle.mk_words.specs.TurnSteps.{Acts}
 use Rattle.mk_words.proofs.TurnSteps.{acts}
 use Rattle.mk_words.proofs.MapSteps.{shows_still, turn_still}
-use Rattle.mk_words.proofs.turns.TurnAt.look_among.Goals as goal
+use Rattle.mk_words.proofs.turns.TurnAt.look_on_page.Goals as goal
 
 pub invariant_of-self : goal.invariant_of-self
 invariant_of-self g c =
-    let f = c.perform_among in
+    let f = c.perform_near in
     let t = c.self.inside in
     let s : Step = step.Look c.args.x in
     let a = acts t.pass s f.new.self f.ensures.told.makes c.self.invariant.turn.holds in
@@ -19,7 +19,7 @@ invariant_of-self g c =
 
 pub returns-clause-acts : goal.returns-clause-acts
 returns-clause-acts g c =
-    let f = c.perform_among in
+    let f = c.perform_near in
     let t = c.self.inside in
     let s : Step = step.Look c.args.x in
     subst (λ (v : TurnState). Acts v.pass s f.new.self) c.self.view_is
@@ -27,6 +27,6 @@ returns-clause-acts g c =
 
 pub returns-clause-finds : goal.returns-clause-finds
 returns-clause-finds g c =
-    let f = c.perform_among in
+    let f = c.perform_near in
     subst (λ (v : TurnState). Finds v.pass (step.Look c.args.x) f.result f.new.self) c.self.view_is
     (record { makes = f.ensures.told.makes; finds = f.ensures.told.tells })

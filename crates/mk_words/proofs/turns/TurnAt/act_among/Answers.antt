@@ -4,14 +4,14 @@ use Rattle.mk_words.specs.TurnSteps.{Acts}
 use Rattle.mk_words.proofs.TurnSteps.{acts}
 use Rattle.mk_words.proofs.FreeTurns.{hands_none}
 use Rattle.mk_words.proofs.MapSteps.{takes_none, shows_still, turn_with_map}
-use Rattle.mk_words.proofs.turns.TurnAt.act.Goals as goal
+use Rattle.mk_words.proofs.turns.TurnAt.act_among.Goals as goal
 
-pub perform-requires-clause-hands_none : goal.perform-requires-clause-hands_none
-perform-requires-clause-hands_none g c = hands_none c.args.step c.requires.stays
+pub perform_among-requires-clause-hands_none : goal.perform_among-requires-clause-hands_none
+perform_among-requires-clause-hands_none g c = hands_none c.args.step c.requires.stays
 
 pub invariant_of-self : goal.invariant_of-self
 invariant_of-self g c =
-    let f = c.perform in
+    let f = c.perform_among in
     let t = c.self.inside in
     let a = acts t.pass c.args.step f.new.self f.ensures.told.makes c.self.invariant.turn.holds in
     turn_with_map t.pass c.args.step f.new.self a t.carried.value.op t.carried.value.cell t.carried.value.map
@@ -22,7 +22,7 @@ invariant_of-self g c =
 
 pub returns-clause-acts : goal.returns-clause-acts
 returns-clause-acts g c =
-    let f = c.perform in
+    let f = c.perform_among in
     let t = c.self.inside in
     subst (λ (v : TurnState). Acts v.pass c.args.step f.new.self) c.self.view_is
     (acts t.pass c.args.step f.new.self f.ensures.told.makes c.self.invariant.turn.holds)

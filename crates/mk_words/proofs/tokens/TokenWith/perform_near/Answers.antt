@@ -3,7 +3,7 @@ use Rattle.mk_core.specs.Accesses.{word_accessed, access}
 use Rattle.mk_words.specs.States.{PassState, now_of, event_of}
 use Rattle.mk_words.specs.Passes.{state_of}
 use Rattle.mk_words.specs.Steps.{May, Tells}
-use Rattle.mk_words.proofs.tokens.TokenWith.perform_among.Goals as goal
+use Rattle.mk_words.proofs.tokens.TokenWith.perform_near.Goals as goal
 
 pub perform_as-requires-clause-one_table : goal.perform_as-requires-clause-one_table
 perform_as-requires-clause-one_table g c =
