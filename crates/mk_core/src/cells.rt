@@ -137,6 +137,15 @@ pub fn is_unmapped(header: u64) -> bool
     if kind != UNMAPPED && kind != UNMAPPED_LATER {
         return false;
     }
+    decodes_as_unmapped(header)
+}
+
+/// The same by the whole header. A call of it stands where a page is unmapped alone, so that what asks of each word has
+/// the look at the kind and no more.
+#[inline(never)]
+fn decodes_as_unmapped(header: u64) -> bool
+    ensures { result ≡ is_unmapped_header (header_of header) }
+{
     matches!(
         decode(header),
         Some(Header::Run { mapped: false, .. } | Header::Later { mapped: false, .. })
