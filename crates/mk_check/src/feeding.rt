@@ -87,10 +87,26 @@ impl Feed {
         self.running.asked(instruction)
     }
 
-    /// Answers the operation that waits, and runs on to the next, or to the end. Mostly nothing is printed, and no
-    /// memory is taken.
+    /// Answers the operation that waits, and runs on to the next, or to the end.
     #[inline(always)]
     pub fn answer(&mut self, alloc: Global, answer: Answer) -> Result<(), NoMemory>
+        requires { IsWaiting self.old }
+        ensures ok { OnOk result (TakesAnswer self.old answer self.new) }
+        ensures nearer { OnOk result (work_left self.new < work_left self.old) }
+        ensures err { OnErr result (self.new ≡ self.old) }
+    {
+        // Each kind has a way of its own, so that it is chosen where the answer is given, and not again.
+        match answer {
+            Answer::Num(_) => self.answer_at_once(alloc, answer),
+            Answer::Done => self.answer_at_once(alloc, answer),
+            Answer::Word(_) => self.answer_at_once(alloc, answer),
+            _ => self.answer_ahead(alloc, answer),
+        }
+    }
+
+    /// The same, where mostly nothing is printed, and no memory is taken.
+    #[inline(always)]
+    fn answer_at_once(&mut self, alloc: Global, answer: Answer) -> Result<(), NoMemory>
         requires { IsWaiting self.old }
         ensures ok { OnOk result (TakesAnswer self.old answer self.new) }
         ensures nearer { OnOk result (work_left self.new < work_left self.old) }

@@ -1,4 +1,4 @@
--- A header of another kind than those of an unmapped run.
+-- The kind of a header tells whether its page is one of an unmapped run.
 use Rattle.std.proofs.Common.{◌≡◌, ◌≢◌, ℕ, Bool, true, false, refl, arith}
 use Rattle.std.specs.Prelude.{◌==◌, ◌-◌, ◌&&◌, nat_le, if◌then◌else◌, Option, Some, None}
 use Rattle.std.proofs.lemmas.Bool.Decides.{nat_tests}
@@ -35,3 +35,18 @@ mapped_kind kind parameter ne nf =
     (second (kind == 12) _ _ (differs kind 12 nf)
     (either (kind == 13) _ _ (within 0 parameter 7 (LeafBlock parameter) refl)
     (either (kind == 14) _ None (within 1 parameter 64 (LeafRun parameter) refl) refl)))))))
+
+within_so : (b : Bool) (h : Header) → is_unmapped_header (Some h) ≡ true
+    → is_unmapped_header (if b then Some h else None) ≡ b
+within_so true h e = e
+within_so false h e = refl
+
+pub unmapped_kind : (kind parameter : ℕ) → kind ≡ 11
+    → is_unmapped_header (header_with kind parameter) ≡ (nat_le 1 parameter && nat_le parameter 64)
+unmapped_kind kind parameter e =
+    rw e (within_so (nat_le 1 parameter && nat_le parameter 64) (Run parameter false) refl)
+
+pub unmapped_later_kind : (kind parameter : ℕ) → kind ≡ 12
+    → is_unmapped_header (header_with kind parameter) ≡ (nat_le 1 parameter && nat_le parameter 63)
+unmapped_later_kind kind parameter e =
+    rw e (within_so (nat_le 1 parameter && nat_le parameter 63) (Later parameter false) refl)

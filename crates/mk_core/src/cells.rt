@@ -1,5 +1,6 @@
 //! Cells and runs as the words show them.
-ghost use Rattle.std.specs.Prelude.{◌≡◌, ℕ, ◌+◌, ◌-◌, ◌*◌, ◌^◌, ◌<◌, ◌≤◌, ◌==◌, IfSome, IfNone, slice_index};
+ghost use Rattle.std.specs.Prelude.{◌≡◌, ℕ, ◌+◌, ◌-◌, ◌*◌, ◌^◌, ◌<◌, ◌≤◌, ◌==◌, ◌&&◌, nat_le};
+ghost use Rattle.std.specs.Prelude.{IfSome, IfNone, slice_index};
 ghost use Rattle.mk_core.specs.Words.{header_at, used_at};
 ghost use Rattle.mk_geom.specs.Headers.{header_of};
 ghost use Rattle.mk_geom.specs.Addresses.{address_of};
@@ -128,19 +129,28 @@ const UNMAPPED: u64 = 11;
 
 const UNMAPPED_LATER: u64 = 12;
 
+/// How many pages the largest run has.
+const MOST_PAGES: u64 = 64;
+
+fn is_from_one(parameter: u64, most: u64) -> bool
+    ensures { result ≡ (nat_le 1 parameter && nat_le parameter most) }
+{
+    1 <= parameter && parameter <= most
+}
+
 /// Whether the page is one of an unmapped run. Most have another kind, and nothing else is read of them.
 #[inline(always)]
 pub fn is_unmapped(header: u64) -> bool
     ensures { result ≡ is_unmapped_header (header_of header) }
 {
     let kind = header % 16;
-    if kind != UNMAPPED && kind != UNMAPPED_LATER {
-        return false;
+    if kind == UNMAPPED {
+        return is_from_one(header / 16, MOST_PAGES);
     }
-    matches!(
-        decode(header),
-        Some(Header::Run { mapped: false, .. } | Header::Later { mapped: false, .. })
-    )
+    if kind == UNMAPPED_LATER {
+        return is_from_one(header / 16, MOST_PAGES - 1);
+    }
+    false
 }
 
 /// Whether the words of a cell under the header aren't scanned: those of a leaf object, and of an

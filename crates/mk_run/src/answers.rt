@@ -224,7 +224,8 @@ pub(crate) fn answer_at_once(caller: &mut Caller, op: Op) -> Option<Answer>
 }
 
 /// Carries out the operation that a script asks for, where that is put off: a New or a Free in a turn, and another once
-/// its gate is open. The script is asked again then, so that the operation need not be kept for that.
+/// its gate is open. The script is asked again then, so that the operation need not be kept for that, and its kind is
+/// told before all else, so that it is known where the call was made.
 #[inline(always)]
 pub(crate) fn answer_put_off<E: Engine, R: Threads + Wait + Sync>(
     rt: &R,
@@ -247,16 +248,21 @@ pub(crate) fn answer_put_off<E: Engine, R: Threads + Wait + Sync>(
     ensures reached { E.sweeps ≡ false → SweepsNothing caller.old.pass caller.new.pass }
     ensures begun { EachIsBegun E.begins caller.old.pass caller.new.pass }
 {
-    caller.is_idle();
     match op {
-        Op::New { d, ty, .. } => match new_object(rt, caller, bench, d, ty) {
-            Ok(()) => Answer::Done,
-            Err(_) => Answer::Full,
-        },
-        Op::Free { p } => match free_object(rt, caller, bench, p) {
-            Ok(_) => Answer::Done,
-            Err(_) => Answer::Double,
-        },
+        Op::New { d, ty, .. } => {
+            caller.is_idle();
+            match new_object(rt, caller, bench, d, ty) {
+                Ok(()) => Answer::Done,
+                Err(_) => Answer::Full,
+            }
+        }
+        Op::Free { p } => {
+            caller.is_idle();
+            match free_object(rt, caller, bench, p) {
+                Ok(_) => Answer::Done,
+                Err(_) => Answer::Double,
+            }
+        }
         _ => answer_when_open(rt, caller, feed),
     }
 }

@@ -7,6 +7,7 @@ ghost use Rattle.mk_script.specs.Canonical.{canonical_text};
 ghost use Rattle.mk_script.specs.Spaced.{spaced_words, joined_words, operand_text};
 
 use crate::{At, Item, Name, Program, TypeWord};
+use itoa::Buffer;
 use mk_never::NoMemory;
 use std::alloc::Global;
 use std::marker::Model;
@@ -15,7 +16,6 @@ use std::marker::Model;
 #[derive(Drop)]
 struct Printer {
     text: Vec<u8>,
-    alloc: Global,
 }
 
 /// What stands after a line's first word.
@@ -40,7 +40,6 @@ impl Printer {
     {
         Printer {
             text: Vec::new(alloc),
-            alloc,
         }
     }
 
@@ -52,12 +51,20 @@ impl Printer {
         Ok(self)
     }
 
+    /// Appends a space.
+    fn space(mut self) -> Result<Printer, NoMemory>
+        ensures { IfOk result (λ printer. printer ≡ self ++ codes " ") }
+    {
+        self.text.push(b' ')?;
+        Ok(self)
+    }
+
     /// Appends a number's digits.
     fn digits(self, number: u64) -> Result<Printer, NoMemory>
         ensures { IfOk result (λ printer. printer ≡ self ++ decimal number) }
     {
-        let digits = number.to_string(self.alloc)?;
-        self.piece(digits.as_bytes())
+        let mut buffer = Buffer::new();
+        self.piece(buffer.format(number).as_bytes())
     }
 
     /// Appends a place of a type.
@@ -75,14 +82,14 @@ impl Printer {
     fn word(self, word: &[u8]) -> Result<Printer, NoMemory>
         ensures { IfOk result (λ printer. printer ≡ self ++ (codes " " ++ word.now)) }
     {
-        self.piece(b" ")?.piece(word)
+        self.space()?.piece(word)
     }
 
     /// Appends an operand after another word.
     fn operand(self, operand: &Operand) -> Result<Printer, NoMemory>
         ensures { IfOk result (λ printer. printer ≡ self ++ (codes " " ++ operand_text operand.now)) }
     {
-        let behind = self.piece(b" ")?;
+        let behind = self.space()?;
         match operand {
             Operand::Name(name) => behind.piece(name.as_bytes()),
             Operand::Number(number) => behind.digits(*number),
@@ -272,11 +279,19 @@ impl Printer {
         }
     }
 
+    /// Appends a newline.
+    fn newline(mut self) -> Result<Printer, NoMemory>
+        ensures { IfOk result (λ printer. printer ≡ self ++ codes "\n") }
+    {
+        self.text.push(b'\n')?;
+        Ok(self)
+    }
+
     /// Appends a line.
     fn line(self, item: &Item) -> Result<Printer, NoMemory>
         ensures { IfOk result (λ printer. printer ≡ self ++ line_text (words_of_item item.now)) }
     {
-        self.words(item)?.piece(b"\n")
+        self.words(item)?.newline()
     }
 
     /// The text.

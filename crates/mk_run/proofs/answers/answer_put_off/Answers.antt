@@ -24,12 +24,12 @@ returns-in-Err-clause-answers g c =
 pub returns-in-Ok-free_object-clause-answers : goal.returns-in-Ok-free_object-clause-answers
 returns-in-Ok-free_object-clause-answers g c =
     answered_free g.E.Engine.on c.args.caller.now.pass c.args.op c.in-Free.p answer.Done
-    c.free_object.new.caller.pass c.is_idle.ensures.own c.in-Free.is c.in-Ok-free_object.ensures.freed.called
+    c.free_object.new.caller.pass c.is_idle-in-Free.ensures.own c.in-Free.is c.in-Ok-free_object.ensures.freed.called
 
 pub returns-in-Err-free_object-clause-answers : goal.returns-in-Err-free_object-clause-answers
 returns-in-Err-free_object-clause-answers g c =
     answered_free g.E.Engine.on c.args.caller.now.pass c.args.op c.in-Free.p answer.Double
-    c.free_object.new.caller.pass c.is_idle.ensures.own c.in-Free.is c.in-Err-free_object.ensures.double.called
+    c.free_object.new.caller.pass c.is_idle-in-Free.ensures.own c.in-Free.is c.in-Err-free_object.ensures.double.called
 
 pub answer_when_open-requires : goal.answer_when_open-requires
 answer_when_open-requires g c =

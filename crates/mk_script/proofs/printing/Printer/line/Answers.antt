@@ -4,5 +4,5 @@ use Rattle.mk_script.proofs.Spacing.{line_text-joined, then_same}
 use Rattle.mk_script.proofs.printing.Printer.line.Goals as goal
 
 pub returns : goal.returns
-returns c = then_same _ _ _ c.piece.ensures
+returns c = then_same _ _ _ c.newline.ensures
     (rw (line_text-joined (words_of_item c.args.item.now), c.in_ok-words.ensures) (simp append_assoc))
