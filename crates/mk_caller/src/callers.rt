@@ -38,6 +38,16 @@ impl<'h> Model for Caller<'h> {
     ghost invariant = { λ c. IsPassAtRest c.words.now c.number c.pass };
 }
 
+/// Does something with a caller's pass, which is home.
+macro_rules! at_home {
+    ($home:expr, $pass:ident => $call:expr) => {
+        match $home {
+            Some($pass) => $call,
+            None => unreachable!(),
+        }
+    };
+}
+
 impl<'h> Caller<'h> {
     /// A caller with the pass of a caller's seat.
     pub fn new(words: &'h Words, pass: Pass) -> Caller<'h>
@@ -78,10 +88,7 @@ impl<'h> Caller<'h> {
         ensures own { Has self.now.pass.seats self.now.pass.seat }
         ensures history { IsHistory self.now.pass.table.config self.now.pass.seen }
     {
-        match &self.pass {
-            Some(pass) => pass.is_in_order(),
-            None => unreachable!(),
-        }
+        at_home!(&self.pass, pass => pass.is_in_order())
     }
 
     /// Hands the pass out, for calls under the turn.
@@ -91,10 +98,7 @@ impl<'h> Caller<'h> {
         ensures idle { IsIdleCaller result }
         ensures lent { self.new ≡ lent self.old.pass }
     {
-        match self.pass.take() {
-            Some(pass) => pass,
-            None => unreachable!(),
-        }
+        at_home!(self.pass.take(), pass => pass)
     }
 
     /// Takes the pass back.
@@ -114,10 +118,7 @@ impl<'h> Caller<'h> {
         ensures pass { result ≡ self.entry.pass }
         ensures idle { IsIdleCaller self.entry.pass }
     {
-        match self.pass {
-            Some(pass) => pass,
-            None => unreachable!(),
-        }
+        at_home!(self.pass, pass => pass)
     }
 
     /// The number in the word `i` words after the pointer in `q`.
@@ -130,10 +131,7 @@ impl<'h> Caller<'h> {
         ensures reached { OnOk result (ProbesAWord self.old.pass (op.GetNum q i) self.new.pass) }
         ensures refused { IfErr result (λ e. IsRefused self.old.pass (op.GetNum q i) e self.new.pass) }
     {
-        match &mut self.pass {
-            Some(pass) => calls::get_num(self.words, self.number, self.words.pages(), pass, q, i),
-            None => unreachable!(),
-        }
+        at_home!(&mut self.pass, pass => calls::get_num(self.words, self.number, self.words.pages(), pass, q, i))
     }
 
     /// Writes a number to the word `i` words after the pointer in `q`.
@@ -146,18 +144,7 @@ impl<'h> Caller<'h> {
         ensures reached { OnOk result (ProbesAWord self.old.pass (op.SetNum q i n) self.new.pass) }
         ensures refused { IfErr result (λ e. IsRefused self.old.pass (op.SetNum q i n) e self.new.pass) }
     {
-        match &mut self.pass {
-            Some(pass) => calls::set_num(
-                self.words,
-                self.number,
-                self.words.pages(),
-                pass,
-                q,
-                i,
-                n,
-            ),
-            None => unreachable!(),
-        }
+        at_home!(&mut self.pass, pass => calls::set_num(self.words, self.number, self.words.pages(), pass, q, i, n))
     }
 
     /// Sets `d` to the pointer in the word `i` words after the pointer in `q`, or to null where it is refused.
@@ -170,18 +157,7 @@ impl<'h> Caller<'h> {
         ensures reached { OnOk result (ProbesAWord self.old.pass (op.GetPtr d q i) self.new.pass) }
         ensures refused { IfErr result (λ e. IsRefused self.old.pass (op.GetPtr d q i) e self.new.pass) }
     {
-        match &mut self.pass {
-            Some(pass) => calls::get_ptr(
-                self.words,
-                self.number,
-                self.words.pages(),
-                pass,
-                d,
-                q,
-                i,
-            ),
-            None => unreachable!(),
-        }
+        at_home!(&mut self.pass, pass => calls::get_ptr(self.words, self.number, self.words.pages(), pass, d, q, i))
     }
 
     /// Writes the pointer in `p`, or null, to the word `i` words after the pointer in `q`.
@@ -194,18 +170,7 @@ impl<'h> Caller<'h> {
         ensures reached { OnOk result (ProbesAWord self.old.pass (op.SetPtr q i p) self.new.pass) }
         ensures refused { IfErr result (λ e. IsRefused self.old.pass (op.SetPtr q i p) e self.new.pass) }
     {
-        match &mut self.pass {
-            Some(pass) => calls::set_ptr(
-                self.words,
-                self.number,
-                self.words.pages(),
-                pass,
-                q,
-                i,
-                p,
-            ),
-            None => unreachable!(),
-        }
+        at_home!(&mut self.pass, pass => calls::set_ptr(self.words, self.number, self.words.pages(), pass, q, i, p))
     }
 
     /// Writes the pointer in `r` to the word `i` words after the pointer in `q`, where that is the pointer in `p`, and
@@ -220,19 +185,7 @@ impl<'h> Caller<'h> {
         ensures reached { OnOk result (ProbesAWord self.old.pass (op.CasPtr q i p r) self.new.pass) }
         ensures refused { IfErr result (λ e. IsRefused self.old.pass (op.CasPtr q i p r) e self.new.pass) }
     {
-        match &mut self.pass {
-            Some(pass) => calls::cas_ptr(
-                self.words,
-                self.number,
-                self.words.pages(),
-                pass,
-                q,
-                i,
-                p,
-                r,
-            ),
-            None => unreachable!(),
-        }
+        at_home!(&mut self.pass, pass => calls::cas_ptr(self.words, self.number, self.words.pages(), pass, q, i, p, r))
     }
 
     /// Sets `d` to the pointer `i` words after that in `q`, or to null where it is refused.
@@ -246,10 +199,7 @@ impl<'h> Caller<'h> {
         ensures refused { IfErr result (λ e. IsRefused self.old.pass (op.Lea d q i) e self.new.pass) }
         ensures no_fault { IfErr result (λ e. e ≢ refusal.Fault) }
     {
-        match &mut self.pass {
-            Some(pass) => calls::lea(self.words, self.number, pass, d, q, i),
-            None => unreachable!(),
-        }
+        at_home!(&mut self.pass, pass => calls::lea(self.words, self.number, pass, d, q, i))
     }
 
     /// Sets `d` to what is in `q`.
@@ -261,10 +211,7 @@ impl<'h> Caller<'h> {
         ensures called { OnOk result (Called self.old.pass (op.Move d q) answer.Done self.new.pass) }
         ensures held { OnErr result (FindsGateHeld self.old.pass (op.Move d q) self.new.pass) }
     {
-        match &mut self.pass {
-            Some(pass) => calls::move_ptr(self.words, self.number, pass, d, q),
-            None => unreachable!(),
-        }
+        at_home!(&mut self.pass, pass => calls::move_ptr(self.words, self.number, pass, d, q))
     }
 
     /// Sets `d` to null.
@@ -276,10 +223,7 @@ impl<'h> Caller<'h> {
         ensures called { OnOk result (Called self.old.pass (op.Clear d) answer.Done self.new.pass) }
         ensures held { OnErr result (FindsGateHeld self.old.pass (op.Clear d) self.new.pass) }
     {
-        match &mut self.pass {
-            Some(pass) => calls::clear(self.words, self.number, pass, d),
-            None => unreachable!(),
-        }
+        at_home!(&mut self.pass, pass => calls::clear(self.words, self.number, pass, d))
     }
 
     /// Sets `d` to what is in the global.
@@ -291,10 +235,7 @@ impl<'h> Caller<'h> {
         ensures called { OnOk result (IsAnswered self.old.pass (op.GetGlobal d g) self.new.pass) }
         ensures held { OnErr result (FindsGateHeld self.old.pass (op.GetGlobal d g) self.new.pass) }
     {
-        match &mut self.pass {
-            Some(pass) => calls::get_global(self.words, self.number, pass, d, g),
-            None => unreachable!(),
-        }
+        at_home!(&mut self.pass, pass => calls::get_global(self.words, self.number, pass, d, g))
     }
 
     /// Sets the global to what is in `p`.
@@ -306,10 +247,7 @@ impl<'h> Caller<'h> {
         ensures called { OnOk result (Called self.old.pass (op.SetGlobal g p) answer.Done self.new.pass) }
         ensures held { OnErr result (FindsGateHeld self.old.pass (op.SetGlobal g p) self.new.pass) }
     {
-        match &mut self.pass {
-            Some(pass) => calls::set_global(self.words, self.number, pass, g, p),
-            None => unreachable!(),
-        }
+        at_home!(&mut self.pass, pass => calls::set_global(self.words, self.number, pass, g, p))
     }
 
     /// Whether the two registers hold one value.
@@ -322,10 +260,7 @@ impl<'h> Caller<'h> {
         ensures tells { IfOk result (λ same. same ≡ is_same (value_of self.old.pass p) (value_of self.old.pass q)) }
         ensures held { OnErr result (FindsGateHeld self.old.pass (op.Same p q) self.new.pass) }
     {
-        match &mut self.pass {
-            Some(pass) => calls::same(self.words, self.number, pass, p, q),
-            None => unreachable!(),
-        }
+        at_home!(&mut self.pass, pass => calls::same(self.words, self.number, pass, p, q))
     }
 
     /// Whether the register is null.
@@ -338,9 +273,6 @@ impl<'h> Caller<'h> {
         ensures tells { IfOk result (λ null. null ≡ is_same (value_of self.old.pass p) Null) }
         ensures held { OnErr result (FindsGateHeld self.old.pass (op.IsNull p) self.new.pass) }
     {
-        match &mut self.pass {
-            Some(pass) => calls::is_null(self.words, self.number, pass, p),
-            None => unreachable!(),
-        }
+        at_home!(&mut self.pass, pass => calls::is_null(self.words, self.number, pass, p))
     }
 }

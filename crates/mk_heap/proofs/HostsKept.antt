@@ -1,7 +1,7 @@
 -- What always holds of the host holds of the first, and is kept where a caller or a marker is made or joined.
 use Rattle.std.proofs.Common.{◌≡◌, ℕ, ◌+◌, ◌<◌, ◌≤◌, List, [], ◌∷◌, get_or, replicate, refl, sym, ◌∙◌, ap, subst}
 use Rattle.std.proofs.Common.{⊎_elim, arith}
-use Rattle.std.specs.Prelude.{Option, Some}
+use Rattle.std.specs.Prelude.{Option, Some, None, IsSome}
 use Rattle.std.proofs.lemmas.Bool.{ne_eqb, lt-ltb, cases_lt, ltb-true}
 use Rattle.std.proofs.lemmas.List.{get_or-replicate, get_or_past, length-replicate}
 use Rattle.mk_core.specs.declared.config.Config.{Config}
@@ -132,6 +132,10 @@ joined_is_idle h k is joined =
 
 abbrev pub home_host : PassState → ℕ → ℕ → HostState
 home_host p callers markers = record { pass = p; callers = callers; markers = markers }
+
+pub is_home : (x : Option PassState) (callers markers : ℕ) → IsWholeHost x callers markers → IsSome x
+is_home (Some p) callers markers whole = refl
+is_home None callers markers whole = absurd whole
 
 pub home_is : (x : Option PassState) (p : PassState) (callers markers : ℕ) → x ≡ Some p → IsWholeHost x callers markers
     → IsHost (home_host p callers markers)

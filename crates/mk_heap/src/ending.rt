@@ -11,7 +11,7 @@ ghost use Rattle.mk_heap.specs.Ending.{CallersAreJoined, IsIdleTurn, MakesToldCy
 ghost use Rattle.mk_heap.specs.Hosts.{with_seen};
 
 use crate::heaps::Heap;
-use crate::hosts::Host;
+use crate::hosts::{Host, take_home};
 use mk_core::{Phase, Word};
 use mk_cycle::{Bench, Engine, begin_cycle, finish_cycle};
 use mk_waiting::take_turn;
@@ -41,9 +41,7 @@ impl Host {
         ensures reached { E.sweeps ≡ false → SweepsNothing self.old.pass self.new.pass }
     {
         let words = &heap.words;
-        let Some(home) = self.pass.take() else {
-            unreachable!()
-        };
+        let home = take_home(&mut self.pass);
         let mut turn = take_idle_turn(rt, words, home, bench);
         turn.is_in_order();
         turn.over(words);
@@ -74,9 +72,7 @@ impl Host {
         ensures begun { EachIsBegun E.begins self.old.pass self.new.pass }
     {
         let words = &heap.words;
-        let Some(home) = self.pass.take() else {
-            unreachable!()
-        };
+        let home = take_home(&mut self.pass);
         home.is_in_order();
         let mut turn = take_idle_turn(rt, words, home, bench);
         begin_cycle(rt, words, &mut turn, bench);

@@ -62,13 +62,9 @@ impl Heap {
     {
         let Heap { words } = self;
         let Host { pass, .. } = host;
-        let last = match pass {
-            Some(home) => {
-                home.is_in_order();
-                Words::close(words, home)
-            }
-            None => unreachable!(),
-        };
+        let home = pass.unwrap();
+        home.is_in_order();
+        let last = Words::close(words, home);
         Report {
             held: last.held,
             fresh: last.fresh,

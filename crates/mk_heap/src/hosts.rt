@@ -1,5 +1,5 @@
 //! The host: it creates callers and markers, and joins them.
-ghost use Rattle.std.specs.Prelude.{◌≡◌, ◌<◌, [], ◌∷◌, true, false};
+ghost use Rattle.std.specs.Prelude.{◌≡◌, ◌<◌, [], ◌∷◌, Some, IsSome, true, false};
 ghost use Rattle.mk_core.specs.Counts.{IsTidy};
 ghost use Rattle.mk_core.specs.Growing.{Grows};
 ghost use Rattle.mk_core.specs.History.{IsHistory};
@@ -40,6 +40,14 @@ impl Model for Host {
     ghost invariant = { λ h. IsWholeHost h.pass h.callers h.markers };
 }
 
+/// The pass of a host, for a call of it that puts the pass back. It is home between the calls.
+pub(crate) fn take_home(pass: &mut Option<Pass>) -> Pass
+    requires { IsSome pass.old }
+    ensures { pass.old ≡ Some result }
+{
+    pass.take().unwrap()
+}
+
 impl Host {
     /// What holds of every host. It does nothing.
     pub fn is_in_order(&self)
@@ -63,14 +71,11 @@ impl Host {
     {
         let words = &heap.words;
         words.is_within_limits();
-        match &mut self.pass {
-            Some(home) => {
-                let pass = Words::split(words, home, Seat::Caller(self.callers));
-                self.callers += 1;
-                Caller::new(words, pass)
-            }
-            None => unreachable!(),
-        }
+        let mut home = take_home(&mut self.pass);
+        let pass = Words::split(words, &mut home, Seat::Caller(self.callers));
+        self.pass = Some(home);
+        self.callers += 1;
+        Caller::new(words, pass)
     }
 
     /// A caller that was joined, for more calls. It has seen all that the host has.
@@ -83,13 +88,10 @@ impl Host {
         ensures caller { result ≡ at_home (pass_for self.old (seat.Caller caller)) }
     {
         let words = &heap.words;
-        match &mut self.pass {
-            Some(home) => {
-                let pass = Words::split(words, home, Seat::Caller(caller));
-                Caller::new(words, pass)
-            }
-            None => unreachable!(),
-        }
+        let mut home = take_home(&mut self.pass);
+        let pass = Words::split(words, &mut home, Seat::Caller(caller));
+        self.pass = Some(home);
+        Caller::new(words, pass)
     }
 
     /// Takes the pass of a caller back, as its `finish` returned it.
@@ -104,14 +106,11 @@ impl Host {
         ensures reached { SweepsNothing self.old.pass self.new.pass }
         ensures overs { has_over self.new.pass.seen ≡ has_over self.old.pass.seen }
     {
-        match &mut self.pass {
-            Some(home) => {
-                home.is_in_order();
-                Words::join(&heap.words, home, pass);
-                home.is_in_order();
-            }
-            None => unreachable!(),
-        }
+        let mut home = take_home(&mut self.pass);
+        home.is_in_order();
+        Words::join(&heap.words, &mut home, pass);
+        home.is_in_order();
+        self.pass = Some(home);
     }
 
     /// The next marker.
@@ -123,14 +122,11 @@ impl Host {
     {
         let words = &heap.words;
         words.is_within_limits();
-        match &mut self.pass {
-            Some(home) => {
-                let pass = Words::split(words, home, Seat::Marker(self.markers));
-                self.markers += 1;
-                Marker::new(words, pass)
-            }
-            None => unreachable!(),
-        }
+        let mut home = take_home(&mut self.pass);
+        let pass = Words::split(words, &mut home, Seat::Marker(self.markers));
+        self.pass = Some(home);
+        self.markers += 1;
+        Marker::new(words, pass)
     }
 
     /// Takes the pass of a marker back, as its `finish` returned it.
@@ -146,15 +142,12 @@ impl Host {
         ensures reached { SweepsNothing self.old.pass self.new.pass }
         ensures overs { has_over self.new.pass.seen ≡ has_over self.old.pass.seen }
     {
-        match &mut self.pass {
-            Some(home) => {
-                pass.is_in_order();
-                home.is_in_order();
-                Words::join(&heap.words, home, pass);
-                home.is_in_order();
-            }
-            None => unreachable!(),
-        }
+        let mut home = take_home(&mut self.pass);
+        pass.is_in_order();
+        home.is_in_order();
+        Words::join(&heap.words, &mut home, pass);
+        home.is_in_order();
+        self.pass = Some(home);
     }
 
     /// Takes the turn, looks at one word, gives the turn back, and returns the word.
@@ -168,17 +161,13 @@ impl Host {
         ensures overs { has_over self.new.pass.seen ≡ has_over self.old.pass.seen }
     {
         let words = &heap.words;
-        match self.pass.take() {
-            Some(home) => {
-                home.is_in_order();
-                let mut turn = take_turn(rt, words, home, None);
-                turn.is_in_order();
-                let found = turn.look(words, x);
-                let back = turn.give(words);
-                self.pass = Some(back);
-                found
-            }
-            None => unreachable!(),
-        }
+        let home = take_home(&mut self.pass);
+        home.is_in_order();
+        let mut turn = take_turn(rt, words, home, None);
+        turn.is_in_order();
+        let found = turn.look(words, x);
+        let back = turn.give(words);
+        self.pass = Some(back);
+        found
     }
 }

@@ -61,14 +61,14 @@ marker_made w h made = record {
 
 -- One marker more is joined.
 
-pub marker_joined : (on with_cycle : Bool) (program : List Item) (w : WordsState) (j : ℕ) (p : PassState)
-    (before after : Joined)
-    → w.config ≡ config_of program w.config.markers → IsOver on with_cycle program w (j + 1) before
+pub marker_joined : (on with_cycle : Bool) (program : List Item) (markers : ℕ) (w : WordsState) (j : ℕ)
+    (p : PassState) (before after : Joined)
+    → w.config ≡ config_of program markers → IsOver on with_cycle program w (j + 1) before
     → after.host ≡ with_joined before.host p after.host.pass.seen
     → Grows before.host.pass.seats before.host.pass.seen after.host.pass.seen → p.seats ≡ Marker j ∷ []
     → IsHistory after.host.pass.table.config after.host.pass.seen → after.texts ≡ before.texts
     → IsOver on with_cycle program w j after
-marker_joined on with_cycle program w j p before after made over is own alone history same =
+marker_joined on with_cycle program markers w j p before after made over is own alone history same =
     let h = before.host in
     let fs = after.host.pass.seen in
     let still : CallersAreStill h.pass fs = λ k has. of_one h.pass.seats (Caller k) h.pass.seen fs has own in
@@ -81,7 +81,8 @@ marker_joined on with_cycle program w j p before after made over is own alone hi
       own =
           subst (λ (l : List Seat). Has l Host) (sym seats) (has_left h.pass.seats p.seats Host over.own);
       last =
-          still_last w.config with_cycle h.pass fs over.own (all_callers_home on program w h made over.is_host) own
+          still_last w.config with_cycle h.pass fs over.own
+          (all_callers_home on program markers w h made over.is_host) own
           (subst (λ (t : WordsState). IsHistory t.config fs) table history) over.last;
       is_host =
           subst (λ (x : HostState). HasJoined on program w 0 x) (sym is)

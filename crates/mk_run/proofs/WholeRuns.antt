@@ -30,10 +30,10 @@ pub all_callers_joined : (on : Bool) (program : List Item) (w : WordsState) (h :
 all_callers_joined on program w h joined = λ k lt. let n = joined.count in joined.seats k (omega arith) (omega arith)
 
 -- All callers that there are are home.
-pub all_callers_home : (on : Bool) (program : List Item) (w : WordsState) (h : HostState)
-    → w.config ≡ config_of program w.config.markers → HasJoined on program w 0 h → HasCallers w.config h.pass.seats
-all_callers_home on program w h made joined = λ k lt.
-    let few : k < (config_of program w.config.markers).callers = subst (λ (c : Config). k < c.callers) made lt in
+pub all_callers_home : (on : Bool) (program : List Item) (markers : ℕ) (w : WordsState) (h : HostState)
+    → w.config ≡ config_of program markers → HasJoined on program w 0 h → HasCallers w.config h.pass.seats
+all_callers_home on program markers w h made joined = λ k lt.
+    let few : k < (config_of program markers).callers = subst (λ (c : Config). k < c.callers) made lt in
     joined.seats k (omega arith) few
 
 -- What was joined stays so where the callers are still.

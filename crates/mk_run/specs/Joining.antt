@@ -11,16 +11,11 @@ use Rattle.mk_caller.specs.States.{IsIdleCaller}
 use Rattle.mk_heap.specs.Hosts.{HostState}
 use Rattle.mk_script.specs.declared.items.Item.{Item}
 use Rattle.mk_script.specs.Scopes.{script_names}
-use Rattle.mk_check.specs.Declarations.{config_of}
 use Rattle.mk_check.specs.Laws.{IsScript}
 use Rattle.mk_check.specs.declared.text.Text.{Text}
 use Rattle.mk_run.specs.Running.{FollowsScript, EndsScript, IsTextOf}
 use Rattle.mk_run.specs.declared.joining.Ran.{Ran}
 use Rattle.mk_run.specs.declared.joining.Joined.{Joined}
-
--- The heap was made for the program.
-abbrev pub IsHeapOf : List Item → WordsState → Type 0
-IsHeapOf program w = w.config ≡ config_of program w.config.markers
 
 -- The pass of script k's caller, before its first call.
 pub record IsFirstPass (w : WordsState) (k : ℕ) (p : PassState) : Type 0 where

@@ -1,3 +1,4 @@
+pub mod Benches
 pub mod Joining
 pub mod Marking
 pub mod Headline

@@ -5,6 +5,7 @@
 #![tactic(auto)]
 
 mod answers;
+mod benches;
 mod joining;
 mod last_turns;
 pub mod laws;
@@ -12,6 +13,7 @@ mod marking;
 mod outcomes;
 mod paces;
 mod running;
+mod runs;
 mod scripts;
 mod why;
 

@@ -1,26 +1,26 @@
 //! Markers on threads of their own, beside the scripts.
-ghost use Rattle.std.specs.Prelude.{◌≡◌, ◌+◌, ◌≤◌, length, All, true, false};
+ghost use Rattle.std.specs.Prelude.{◌≡◌, ◌+◌, true, false};
 ghost use Rattle.std.specs.Thread.{IsSync};
 ghost use denote.Param.Send.{IsSend};
 ghost use Rattle.mk_marker.specs.Markers.{attends};
-ghost use Rattle.mk_script.specs.Scopes.{script_names};
 ghost use Rattle.mk_run.specs.BegunSeats.{ScriptsBeginCycles};
-ghost use Rattle.mk_run.specs.Joining.{IsHeapOf, HasMade};
+ghost use Rattle.mk_run.specs.Joining.{HasMade};
 ghost use Rattle.mk_run.specs.LastTurns.{TakesLastTurns};
 ghost use Rattle.mk_run.specs.Marking.{IsMarkersPass, IsOver};
+ghost use Rattle.mk_run.specs.Benches.{AreBenchesOf};
 ghost use Rattle.mk_run.specs.UnsweptSeats.{ScriptsSweepNothing};
 
+use crate::benches::Benches;
 use crate::joining::{Joined, run_from};
 use crate::last_turns::take_last_turns;
 use crate::paces::Pace;
-use mk_check::Checked;
+use crate::runs::Run;
 use mk_core::Phase;
 use mk_cycle::{Bench, Engine};
 use mk_heap::{Heap, Host};
 use mk_marker::{Marker, NotMarking, Work};
 use mk_waiting::Patience;
 use mk_words::{Pass, Words};
-use std::alloc::Global;
 use std::sync::Wait;
 use std::thread;
 use std::thread::Threads;
@@ -89,32 +89,27 @@ pub(crate) struct Ended<E: Engine> {
 /// over.
 fn run_scripts<E: Engine + Send, P: Pace + Sync, R: Threads + Wait + Sync>(
     rt: &R,
-    alloc: Global,
-    heap: &Heap,
-    program: &Checked,
+    run: &Run,
     pace: &P,
     host: Host,
-    benches: Vec<Bench<E>>,
-    bench: Bench<E>,
-    with_cycle: bool,
+    benches: Benches<E>,
 ) -> Ended<E>
-    requires heap { IsHeapOf program.now heap.now }
-    requires host { HasMade heap.now 0 host }
-    requires benches { length benches.items ≡ length (script_names program.now) }
-    requires made_for { All (λ bench. E.made_for bench.engine ≡ heap.now.config.pages) benches.items }
-    requires books { All (λ bench. length bench.book ≡ heap.now.config.pages) benches.items }
-    requires own_made_for { E.made_for bench.engine ≡ heap.now.config.pages }
-    requires own_book { length bench.book ≡ heap.now.config.pages }
-    ensures over { IsOver E.on with_cycle program.now heap.now host.markers result.joined }
-    ensures turns { with_cycle ≡ true
-        → TakesLastTurns (E.tells result.bench.engine) heap.now result.joined.host.pass }
+    requires host { HasMade run.now.heap.now 0 host }
+    requires benches { AreBenchesOf E.made_for run.now.heap.now benches }
+    ensures over { IsOver E.on run.now.with_cycle run.now.program.now run.now.heap.now host.markers result.joined }
+    ensures turns { run.now.with_cycle ≡ true
+        → TakesLastTurns (E.tells result.bench.engine) run.now.heap.now result.joined.host.pass }
     ensures reached { E.sweeps ≡ false
-        → ScriptsSweepNothing program.now 0 heap.now.config result.joined.host.pass.seen }
-    ensures begun { ScriptsBeginCycles E.begins program.now 0 heap.now.config result.joined.host.pass.seen }
+        → ScriptsSweepNothing run.now.program.now 0 run.now.heap.now.config result.joined.host.pass.seen }
+    ensures begun { ScriptsBeginCycles E.begins run.now.program.now 0 run.now.heap.now.config
+        result.joined.host.pass.seen }
 {
-    let Joined { mut host, texts } = run_from(rt, alloc, heap, program, pace, 0, host, benches);
-    let mut bench = bench;
-    take_last_turns(rt, heap, &mut host, &mut bench, with_cycle);
+    let Benches {
+        callers,
+        host: mut bench,
+    } = benches;
+    let Joined { mut host, texts } = run_from(rt, run, pace, 0, host, callers);
+    take_last_turns(rt, run.heap, &mut host, &mut bench, run.with_cycle);
     Ended {
         joined: Joined { host, texts },
         bench,
@@ -125,40 +120,28 @@ fn run_scripts<E: Engine + Send, P: Pace + Sync, R: Threads + Wait + Sync>(
 /// thread can't be started finds that all is over.
 pub(crate) fn run_beside<E: Engine + Send, P: Pace + Sync, R: Threads + Wait + Sync>(
     rt: &R,
-    alloc: Global,
-    heap: &Heap,
-    program: &Checked,
+    run: &Run,
     pace: &P,
     number: u64,
-    markers: u64,
     mut host: Host,
-    benches: Vec<Bench<E>>,
-    bench: Bench<E>,
-    with_cycle: bool,
+    benches: Benches<E>,
 ) -> Ended<E>
     requires shared { IsSync R.row × IsSync P.row × IsSend E.row }
-    requires heap { IsHeapOf program.now heap.now }
-    requires few { markers ≤ 8 }
-    requires markers { markers ≡ heap.now.config.markers }
-    requires host { HasMade heap.now 0 host }
+    requires host { HasMade run.now.heap.now 0 host }
     requires number { host.markers ≡ number }
-    requires benches { length benches.items ≡ length (script_names program.now) }
-    requires made_for { All (λ bench. E.made_for bench.engine ≡ heap.now.config.pages) benches.items }
-    requires books { All (λ bench. length bench.book ≡ heap.now.config.pages) benches.items }
-    requires own_made_for { E.made_for bench.engine ≡ heap.now.config.pages }
-    requires own_book { length bench.book ≡ heap.now.config.pages }
-    ensures over { IsOver E.on with_cycle program.now heap.now number result.joined }
-    ensures turns { with_cycle ≡ true
-        → TakesLastTurns (E.tells result.bench.engine) heap.now result.joined.host.pass }
+    requires benches { AreBenchesOf E.made_for run.now.heap.now benches }
+    ensures over { IsOver E.on run.now.with_cycle run.now.program.now run.now.heap.now number result.joined }
+    ensures turns { run.now.with_cycle ≡ true
+        → TakesLastTurns (E.tells result.bench.engine) run.now.heap.now result.joined.host.pass }
     ensures reached { E.sweeps ≡ false
-        → ScriptsSweepNothing program.now 0 heap.now.config result.joined.host.pass.seen }
-    ensures begun { ScriptsBeginCycles E.begins program.now 0 heap.now.config result.joined.host.pass.seen }
+        → ScriptsSweepNothing run.now.program.now 0 run.now.heap.now.config result.joined.host.pass.seen }
+    ensures begun { ScriptsBeginCycles E.begins run.now.program.now 0 run.now.heap.now.config
+        result.joined.host.pass.seen }
 {
-    if number >= markers {
-        return run_scripts(
-            rt, alloc, heap, program, pace, host, benches, bench, with_cycle,
-        );
+    if number >= run.markers {
+        return run_scripts(rt, run, pace, host, benches);
     }
+    let heap = run.heap;
     let pass = host.marker(heap).finish();
     let (pass, ended) = thread::join(
         rt,
@@ -169,38 +152,18 @@ pub(crate) fn run_beside<E: Engine + Send, P: Pace + Sync, R: Threads + Wait + S
         { mark_until_over(rt, heap, pass, number, pace) },
         move || -> Ended<E>
             requires shared { IsSync R.row × IsSync P.row × IsSend E.row }
-            requires heap { IsHeapOf program.now heap.now }
-            requires few { markers ≤ 8 }
-            requires markers { markers ≡ heap.now.config.markers }
-            requires host { HasMade heap.now 0 host }
+            requires host { HasMade run.now.heap.now 0 host }
             requires number { host.markers ≡ number + 1 }
-            requires benches { length benches.items ≡ length (script_names program.now) }
-            requires made_for { All (λ bench. E.made_for bench.engine ≡ heap.now.config.pages) benches.items }
-            requires books { All (λ bench. length bench.book ≡ heap.now.config.pages) benches.items }
-            requires own_made_for { E.made_for bench.engine ≡ heap.now.config.pages }
-            requires own_book { length bench.book ≡ heap.now.config.pages }
-            ensures over { IsOver E.on with_cycle program.entry.now heap.entry.now (number + 1) result.joined }
-            ensures turns { with_cycle ≡ true
-                → TakesLastTurns (E.tells result.bench.engine) heap.entry.now result.joined.host.pass }
-            ensures reached { E.sweeps ≡ false
-                → ScriptsSweepNothing program.entry.now 0 heap.entry.now.config result.joined.host.pass.seen }
-            ensures begun { ScriptsBeginCycles E.begins program.entry.now 0 heap.entry.now.config
+            requires benches { AreBenchesOf E.made_for run.now.heap.now benches }
+            ensures over { IsOver E.on run.entry.now.with_cycle run.entry.now.program.now run.entry.now.heap.now
+                (number + 1) result.joined }
+            ensures turns { run.entry.now.with_cycle ≡ true
+                → TakesLastTurns (E.tells result.bench.engine) run.entry.now.heap.now result.joined.host.pass }
+            ensures reached { E.sweeps ≡ false → ScriptsSweepNothing run.entry.now.program.now 0
+                run.entry.now.heap.now.config result.joined.host.pass.seen }
+            ensures begun { ScriptsBeginCycles E.begins run.entry.now.program.now 0 run.entry.now.heap.now.config
                 result.joined.host.pass.seen }
-        {
-            run_beside(
-                rt,
-                alloc,
-                heap,
-                program,
-                pace,
-                number + 1,
-                markers,
-                host,
-                benches,
-                bench,
-                with_cycle,
-            )
-        },
+        { run_beside(rt, run, pace, number + 1, host, benches) },
     );
     let Ended { joined, bench } = ended;
     let Joined { mut host, texts } = joined;

@@ -1,5 +1,5 @@
 //! The run of a program.
-ghost use Rattle.std.specs.Prelude.{◌≡◌, ◌≤◌, length, All, IfOk, true, false};
+ghost use Rattle.std.specs.Prelude.{◌≡◌, ◌≤◌, IfOk, true, false};
 ghost use Rattle.mk_check.specs.Declarations.{config_of};
 ghost use Rattle.mk_cycle.specs.Begun.{CyclesAreBegun};
 ghost use Rattle.mk_heap.specs.Reports.{history_of};
@@ -7,10 +7,12 @@ ghost use Rattle.mk_run.specs.LastCycle.{EndsWithCycle};
 ghost use Rattle.mk_run.specs.Running.{IsRunOf};
 ghost use Rattle.mk_run.specs.Unswept.{IsUnswept};
 
+use crate::benches::Benches;
 use crate::joining::Joined;
 use crate::marking::{Ended, run_beside};
 use crate::outcomes::Outcome;
 use crate::paces::Pace;
+use crate::runs::Run;
 use mk_check::Checked;
 use mk_cycle::{Bench, Engine};
 use mk_heap::Heap;
@@ -19,22 +21,9 @@ use std::alloc::Global;
 use std::sync::Wait;
 use std::thread::Threads;
 
-/// This many benches for a heap of this many pages.
-fn benches<E: Engine>(alloc: Global, count: u64, pages: u64) -> Result<Vec<Bench<E>>, NoMemory>
-    ensures count { IfOk result (λ benches. length benches.items ≡ count) }
-    ensures made_for { IfOk result (λ benches. All (λ bench. E.made_for bench.engine ≡ pages) benches.items) }
-    ensures books { IfOk result (λ benches. All (λ bench. length bench.book ≡ pages) benches.items) }
-{
-    let mut benches = Vec::new(alloc);
-    for _bench in 0..count {
-        benches.push(Bench::new(alloc, pages)?)?;
-    }
-    Ok(benches)
-}
-
 /// Runs all and closes the heap. Where a last cycle is asked for, the host runs it when the scripts are joined, with
 /// the bench that is returned.
-fn run<E: Engine + Send, P: Pace + Sync, R: Threads + Wait + Sync>(
+fn run_and_close<E: Engine + Send, P: Pace + Sync, R: Threads + Wait + Sync>(
     rt: &R,
     alloc: Global,
     program: &Checked,
@@ -54,12 +43,16 @@ fn run<E: Engine + Send, P: Pace + Sync, R: Threads + Wait + Sync>(
 {
     // No thread is started before all benches are made.
     let config = program.config(alloc, markers)?;
-    let bench: Bench<E> = Bench::new(alloc, config.pages)?;
-    let benches: Vec<Bench<E>> = benches(alloc, config.callers, config.pages)?;
+    let benches: Benches<E> = Benches::new(alloc, config.callers, config.pages)?;
     let (heap, host) = Heap::new(alloc, &config)?;
-    let Ended { joined, bench } = run_beside(
-        rt, alloc, &heap, program, pace, 0, markers, host, benches, bench, with_cycle,
-    );
+    let run = Run {
+        alloc,
+        heap: &heap,
+        program,
+        markers,
+        with_cycle,
+    };
+    let Ended { joined, bench } = run_beside(rt, &run, pace, 0, host, benches);
     let Joined { host, texts } = joined;
     let report = heap.close(host);
     let outcome = Outcome {
@@ -86,7 +79,7 @@ pub fn run_all<E: Engine + Send, P: Pace + Sync, R: Threads + Wait + Sync>(
     ensures begun { IfOk result (λ outcome.
         CyclesAreBegun E.begins (config_of program.now markers) (history_of outcome.report)) }
 {
-    let ran: (Outcome, Bench<E>) = run(rt, alloc, program, markers, pace, false)?;
+    let ran: (Outcome, Bench<E>) = run_and_close(rt, alloc, program, markers, pace, false)?;
     Ok(ran.0)
 }
 
@@ -108,5 +101,5 @@ pub fn run_with_cycle<E: Engine + Send, P: Pace + Sync, R: Threads + Wait + Sync
     ensures begun { IfOk result (λ ran.
         CyclesAreBegun E.begins (config_of program.now markers) (history_of ran.0.report)) }
 {
-    run(rt, alloc, program, markers, pace, true)
+    run_and_close(rt, alloc, program, markers, pace, true)
 }

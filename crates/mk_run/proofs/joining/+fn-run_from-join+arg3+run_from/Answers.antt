@@ -2,12 +2,14 @@ use Rattle.std.proofs.Common.{◌≡◌, ◌∙◌, ◌+◌, ◌<◌, length, sy
 use Rattle.std.specs.Prelude.{Some}
 use Rattle.std.proofs.lemmas.List.Elements.{All-pop}
 use Rattle.mk_script.specs.Scopes.{script_names}
+use Rattle.mk_core.specs.declared.config.Config.{Config}
 use Rattle.mk_core.specs.declared.events.Seat.TheVariants.{Caller, Host}
 use Rattle.mk_words.specs.Seats.{Has}
 use Rattle.mk_words.proofs.Seats.{has_left}
 use Rattle.mk_core.specs.Growing.{Grows}
 use Rattle.mk_heap.specs.Hosts.{HostState, with_joined}
 use Rattle.mk_check.specs.Laws.{IsScript}
+use Rattle.mk_run.specs.Benches.{IsMadeFor, AreBenchesFrom}
 use Rattle.mk_run.specs.Joining.{IsFirstPass, HasMade, HasRun, HasJoined, AreJoined}
 use Rattle.mk_run.proofs.LaterLists.{of_one}
 use Rattle.mk_run.proofs.HostTurns.{host_is_still, unseen_by_host}
@@ -18,32 +20,32 @@ use Rattle.mk_run.proofs.joining.+fn-run_from-join+arg3+run_from.Goals as goal
 
 pub join-ran-requires-after_bounds : goal.join-ran-requires-after_bounds
 join-ran-requires-after_bounds g t c κs within =
-    let w = c.args.heap.now in
+    let w = c.args.run.now.heap.now in
     let k = c.args.k in
     let rest = c.pop.new.self.items in
     let host = c.args.host in
     let shorter : length rest < length c.args.benches.items = omega (arith, c.in-Some.ensures.cases) in
-    let all : k + 1 + length rest ≡ length (script_names c.args.program.now) =
-    omega (arith, c.in-Some.ensures.cases, c.requires.benches) in
-    let script : IsScript c.args.program.now k = omega arith in
+    let scripts = ap (λ (x : Config). x.callers) c.args.run.now.made_for in
+    let script : IsScript c.args.run.now.program.now k =
+    omega (arith, c.in-Some.ensures.cases, c.requires.benches.count, scripts) in
     let first : IsFirstPass w k c.finish-pass.result =
     first_pass w k host c.caller.result c.finish-pass.result c.requires.host c.caller.ensures.caller
     c.finish-pass.ensures.pass c.finish-pass.ensures.idle in
     let next : HasMade w (k + 1) c.caller.new.self =
     subst (λ (h : HostState). HasMade w (k + 1) h) (sym c.caller.ensures.host) (next_made w k host c.requires.host) in
-    let engines =
-    All-pop (λ bench. g.E.Engine.made_for bench.engine ≡ w.config.pages) c.args.benches.items rest
-    (Some c.in-Some.bench)
-    c.in-Some.ensures.items c.requires.made_for in
-    let books = All-pop (λ bench. length bench.book ≡ w.config.pages) c.args.benches.items rest (Some c.in-Some.bench)
-    c.in-Some.ensures.items c.requires.books in
+    let made =
+    All-pop (λ bench. IsMadeFor g.E.Engine.made_for w.config.pages bench) c.args.benches.items rest
+    (Some c.in-Some.bench) c.in-Some.ensures.items c.requires.benches.made in
+    let benches : AreBenchesFrom g.E.Engine.made_for w (k + 1) rest =
+    record { count = omega (arith, c.in-Some.ensures.cases, c.requires.benches.count); made = made.0 } in
+    let bench : IsMadeFor g.E.Engine.made_for w.config.pages c.in-Some.bench = made.1 in
     search rules
 
 pub returns-clause-joined : goal.returns-clause-joined
 returns-clause-joined g t c =
     let on = g.E.Engine.on in
-    let program = c.args.program.now in
-    let w = c.args.heap.now in
+    let program = c.args.run.now.program.now in
+    let w = c.args.run.now.heap.now in
     let k = c.args.k in
     let ran : HasRun on program w k c.join-ran.result.0 = c.join-ran.ensures.first.0 in
     let joined : AreJoined on program w (k + 1) c.caller.new.self.markers c.join-ran.result.1 =
@@ -54,7 +56,8 @@ returns-clause-joined g t c =
     let is : new ≡ with_joined old pass new.pass.seen = c.join_caller.ensures.host in
     let own : Grows old.pass.seats old.pass.seen new.pass.seen = c.join_caller.ensures.own in
     let came : Grows pass.seats pass.seen new.pass.seen = c.join_caller.ensures.came in
-    let few : IsScript program k = omega (arith, c.in-Some.ensures.cases, c.requires.benches) in
+    let scripts = ap (λ (x : Config). x.callers) c.args.run.now.made_for in
+    let few : IsScript program k = omega (arith, c.in-Some.ensures.cases, c.requires.benches.count, scripts) in
     record {
       is_host =
           subst (λ (h : HostState). HasJoined on program w k h) (sym is)
@@ -77,24 +80,32 @@ returns-clause-joined g t c =
 pub returns-in_default-clause-joined : goal.returns-in_default-clause-joined
 returns-in_default-clause-joined g t c =
     let without_host = unseen_by_host c.args.host.pass.seen c.requires.host.seen in
+    let scripts = ap (λ (x : Config). x.callers) c.args.run.now.made_for in
+    let all : c.args.k ≡ length (script_names c.args.run.now.program.now) =
+    omega (arith, c.in_default.ensures.cases, c.requires.benches.count, scripts) in
     search rules
 
 pub returns-in_default-clause-reached : goal.returns-in_default-clause-reached
 returns-in_default-clause-reached g t c =
-    let all : c.args.k ≡ length (script_names c.args.program.now) = search rules in
+    let scripts = ap (λ (x : Config). x.callers) c.args.run.now.made_for in
+    let all : c.args.k ≡ length (script_names c.args.run.now.program.now) =
+    omega (arith, c.in_default.ensures.cases, c.requires.benches.count, scripts) in
     λ none.
-    none_joined c.args.program.now c.args.k c.args.heap.now.config c.args.host.pass.seen c.requires.host.seen all
+    none_joined c.args.run.now.program.now c.args.k c.args.run.now.heap.now.config c.args.host.pass.seen
+    c.requires.host.seen all
 
 pub returns-in_default-clause-begun : goal.returns-in_default-clause-begun
 returns-in_default-clause-begun g t c =
-    let all : c.args.k ≡ length (script_names c.args.program.now) = search rules in
-    begun.none_joined g.E.Engine.begins c.args.program.now c.args.k c.args.heap.now.config c.args.host.pass.seen
-    c.requires.host.seen all
+    let scripts = ap (λ (x : Config). x.callers) c.args.run.now.made_for in
+    let all : c.args.k ≡ length (script_names c.args.run.now.program.now) =
+    omega (arith, c.in_default.ensures.cases, c.requires.benches.count, scripts) in
+    begun.none_joined g.E.Engine.begins c.args.run.now.program.now c.args.k c.args.run.now.heap.now.config
+    c.args.host.pass.seen c.requires.host.seen all
 
 pub returns-clause-begun : goal.returns-clause-begun
 returns-clause-begun g t c =
-    let program = c.args.program.now in
-    let w = c.args.heap.now in
+    let program = c.args.run.now.program.now in
+    let w = c.args.run.now.heap.now in
     let k = c.args.k in
     let ran : HasRun g.E.Engine.on program w k c.join-ran.result.0 = c.join-ran.ensures.first.0 in
     let joined : AreJoined g.E.Engine.on program w (k + 1) c.caller.new.self.markers c.join-ran.result.1 =
@@ -112,8 +123,8 @@ returns-clause-begun g t c =
 
 pub returns-clause-reached : goal.returns-clause-reached
 returns-clause-reached g t c =
-    let program = c.args.program.now in
-    let w = c.args.heap.now in
+    let program = c.args.run.now.program.now in
+    let w = c.args.run.now.heap.now in
     let k = c.args.k in
     let ran : HasRun g.E.Engine.on program w k c.join-ran.result.0 = c.join-ran.ensures.first.0 in
     let joined : AreJoined g.E.Engine.on program w (k + 1) c.caller.new.self.markers c.join-ran.result.1 =

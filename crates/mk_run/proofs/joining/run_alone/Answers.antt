@@ -13,7 +13,7 @@ new-caller-requires-clause-idle g c = c.requires.pass.idle
 pub run_script-text-requires-clause-follows : goal.run_script-text-requires-clause-follows
 run_script-text-requires-clause-follows g c κs within =
     let p = c.new-caller.result.pass in
-    follows_at_first g.E.Engine.on c.args.program.now c.args.k p.table.config p.seen
+    follows_at_first g.E.Engine.on c.args.run.now.program.now c.args.k p.table.config p.seen
     (ap (λ (s : CallerState). s.pass.seen) c.new-caller.ensures ∙ c.requires.pass.seen)
 
 pub run_script-text-requires-clause-no_call : goal.run_script-text-requires-clause-no_call
@@ -31,11 +31,11 @@ run_script-text-requires-clause-alone g c κs within =
 pub returns-clause-reached : goal.returns-clause-reached
 returns-clause-reached g c =
     λ none.
-    script_sweeps c.args.heap.now c.args.k c.args.pass c.new-caller.result c.run_script-text.new.caller.pass
+    script_sweeps c.args.run.now.heap.now c.args.k c.args.pass c.new-caller.result c.run_script-text.new.caller.pass
     c.finish.result c.requires.pass c.new-caller.ensures (c.run_script-text.ensures.reached none) c.finish.ensures.pass
 
 pub returns-clause-begun : goal.returns-clause-begun
 returns-clause-begun g c =
-    script_begun g.E.Engine.begins c.args.heap.now c.args.k c.args.pass c.new-caller.result
+    script_begun g.E.Engine.begins c.args.run.now.heap.now c.args.k c.args.pass c.new-caller.result
     c.run_script-text.new.caller.pass c.finish.result c.requires.pass c.new-caller.ensures
     c.run_script-text.ensures.begun c.finish.ensures.pass

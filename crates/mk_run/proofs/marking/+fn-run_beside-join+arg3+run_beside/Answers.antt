@@ -12,12 +12,12 @@ use Rattle.mk_run.proofs.marking.+fn-run_beside-join+arg3+run_beside.Goals as go
 
 pub join-pass-requires-after_bounds : goal.join-pass-requires-after_bounds
 join-pass-requires-after_bounds g t c κs within =
-    let w = c.args.heap.now in
+    let w = c.args.run.now.heap.now in
     let number = c.args.number in
     let host = c.args.host in
     let new = c.marker.new.self in
-    let more : number < c.args.markers = search rules in
-    let few : number < 8 = omega (arith, c.requires.few) in
+    let more : number < c.args.run.now.markers = search rules in
+    let few : number < 8 = omega (arith, c.args.run.now.few) in
     let pass : IsMarkersPass w number c.finish-pass.result =
     first_marker w number host c.marker.result c.finish-pass.result c.requires.host.table c.requires.host.seen
     c.requires.number few c.marker.ensures.marker c.finish-pass.ensures.pass in
@@ -25,37 +25,38 @@ join-pass-requires-after_bounds g t c κs within =
     subst (λ (h : HostState). HasMade w 0 h) (sym c.marker.ensures.host) (marker_made w host c.requires.host) in
     let count : new.markers ≡ number + 1 =
     ap (λ (h : HostState). h.markers) c.marker.ensures.host ∙ ap (λ n. n + 1) c.requires.number in
-    let fewer : c.args.markers - (number + 1) < t = omega (arith, c.decreases) in
+    let fewer : c.args.run.now.markers - (number + 1) < t = omega (arith, c.decreases) in
     search rules
 
 pub returns-clause-over : goal.returns-clause-over
 returns-clause-over g t c =
-    let w = c.args.heap.now in
+    let w = c.args.run.now.heap.now in
     let number = c.args.number in
     let pass : IsMarkersPass w number c.join-pass.result.0 = c.join-pass.ensures.first in
-    let before : IsOver g.E.Engine.on c.args.with_cycle c.args.program.now w (number + 1)
+    let before : IsOver g.E.Engine.on c.args.run.now.with_cycle c.args.run.now.program.now w (number + 1)
     c.join-pass.result.1.joined = c.join-pass.ensures.second.0 in
-    marker_joined g.E.Engine.on c.args.with_cycle c.args.program.now w number c.join-pass.result.0
+    marker_joined g.E.Engine.on c.args.run.now.with_cycle c.args.run.now.program.now c.args.run.now.markers w number
+    c.join-pass.result.0
     c.join-pass.result.1.joined
-    (record { host = c.join_marker.new.self; texts = c.join-pass.result.1.joined.texts }) c.requires.heap before
+    (record { host = c.join_marker.new.self; texts = c.join-pass.result.1.joined.texts }) c.args.run.now.made_for before
     c.join_marker.ensures.host
     c.join_marker.ensures.own pass.alone c.is_in_order.ensures.history refl
 
 pub returns-clause-turns : goal.returns-clause-turns
 returns-clause-turns g t c asked =
-    last_turns_joined (g.E.Engine.tells c.join-pass.result.1.bench.engine) c.args.heap.now
+    last_turns_joined (g.E.Engine.tells c.join-pass.result.1.bench.engine) c.args.run.now.heap.now
     c.join-pass.result.1.joined.host c.join_marker.new.self c.join-pass.result.0 c.join_marker.ensures.host
     c.join_marker.ensures.own (c.join-pass.ensures.second.1.0 asked)
 
 pub returns-clause-reached : goal.returns-clause-reached
 returns-clause-reached g t c =
-    let w = c.args.heap.now in
-    let before : IsOver g.E.Engine.on c.args.with_cycle c.args.program.now w (c.args.number + 1)
+    let w = c.args.run.now.heap.now in
+    let before : IsOver g.E.Engine.on c.args.run.now.with_cycle c.args.run.now.program.now w (c.args.number + 1)
     c.join-pass.result.1.joined = c.join-pass.ensures.second.0 in
     let old = c.join-pass.result.1.joined.host in
     let new = c.join_marker.new.self in
     λ none.
-    scripts_on c.args.program.now 0 w old.pass new.pass before.is_host.table before.is_host.seat
+    scripts_on c.args.run.now.program.now 0 w old.pass new.pass before.is_host.table before.is_host.seat
     c.join_marker.ensures.reached
     (λ j le is.
     of_one old.pass.seats (Caller j) old.pass.seen new.pass.seen (before.is_host.seats j le is)
@@ -65,12 +66,12 @@ returns-clause-reached g t c =
 pub returns-clause-begun : goal.returns-clause-begun
 returns-clause-begun g t c =
     let begins = g.E.Engine.begins in
-    let w = c.args.heap.now in
-    let before : IsOver g.E.Engine.on c.args.with_cycle c.args.program.now w (c.args.number + 1)
+    let w = c.args.run.now.heap.now in
+    let before : IsOver g.E.Engine.on c.args.run.now.with_cycle c.args.run.now.program.now w (c.args.number + 1)
     c.join-pass.result.1.joined = c.join-pass.ensures.second.0 in
     let old = c.join-pass.result.1.joined.host in
     let new = c.join_marker.new.self in
-    begun.scripts_on begins c.args.program.now 0 w.config old.pass.seen new.pass.seen
+    begun.scripts_on begins c.args.run.now.program.now 0 w.config old.pass.seen new.pass.seen
     (begun.others_on begins w.config Host old.pass.seats old.pass.seen new.pass.seen before.own
     c.join_marker.ensures.own)
     (λ j le is.

@@ -12,19 +12,19 @@ use Rattle.mk_run.proofs.marking.run_scripts.Goals as goal
 
 pub take_last_turns-requires-clause-joined : goal.take_last_turns-requires-clause-joined
 take_last_turns-requires-clause-joined g c κs within =
-    all_callers_joined g.E.Engine.on c.args.program.now c.args.heap.now c.run_from-host.result.host
-    c.run_from-host.ensures.joined.is_host
+    all_callers_joined g.E.Engine.on c.args.run.now.program.now c.args.run.now.heap.now
+    c.run_from-host.result.host c.run_from-host.ensures.joined.is_host
 
 pub take_last_turns-requires-clause-callers : goal.take_last_turns-requires-clause-callers
 take_last_turns-requires-clause-callers g c κs within =
-    all_callers_home g.E.Engine.on c.args.program.now c.args.heap.now c.run_from-host.result.host c.requires.heap
-    c.run_from-host.ensures.joined.is_host
+    all_callers_home g.E.Engine.on c.args.run.now.program.now c.args.run.now.markers c.args.run.now.heap.now
+    c.run_from-host.result.host c.args.run.now.made_for c.run_from-host.ensures.joined.is_host
 
 pub returns-clause-over : goal.returns-clause-over
 returns-clause-over g c =
     let on = g.E.Engine.on in
-    let program = c.args.program.now in
-    let w = c.args.heap.now in
+    let program = c.args.run.now.program.now in
+    let w = c.args.run.now.heap.now in
     let joined = c.run_from-host.ensures.joined in
     let h = c.run_from-host.result.host in
     let new = c.take_last_turns.new.host in
@@ -37,8 +37,9 @@ returns-clause-over g c =
           (still_joined on program w h new.pass.seen joined.is_host still h.pass.seats (λ k has. has));
       own = subst (λ (x : HostState). Has x.pass.seats Host) (sym is) joined.own;
       last =
-          comes_last w.config c.args.with_cycle h.pass new.pass.seen
-          (all_callers_home on program w h c.requires.heap joined.is_host) joined.without_host still
+          comes_last w.config c.args.run.now.with_cycle h.pass new.pass.seen
+          (all_callers_home on program c.args.run.now.markers w h c.args.run.now.made_for joined.is_host)
+          joined.without_host still
           c.take_last_turns.ensures.cycles;
       markers = λ i le lt. absurd (omega arith);
       texts =
@@ -50,18 +51,18 @@ returns-clause-over g c =
 pub returns-clause-begun : goal.returns-clause-begun
 returns-clause-begun g c =
     let begins = g.E.Engine.begins in
-    let w = c.args.heap.now in
+    let w = c.args.run.now.heap.now in
     let joined = c.run_from-host.ensures.joined in
     let h = c.run_from-host.result.host in
     let new = c.take_last_turns.new.host in
-    begun.scripts_on begins c.args.program.now 0 w.config h.pass.seen new.pass.seen
+    begun.scripts_on begins c.args.run.now.program.now 0 w.config h.pass.seen new.pass.seen
     (begun.host_on begins w h.pass new.pass joined.is_host.table joined.is_host.seat c.take_last_turns.ensures.begun)
     (λ j le is. c.take_last_turns.ensures.still j (joined.is_host.seats j le is)) c.run_from-host.ensures.begun
 
 pub returns-clause-reached : goal.returns-clause-reached
 returns-clause-reached g c =
-    let program = c.args.program.now in
-    let w = c.args.heap.now in
+    let program = c.args.run.now.program.now in
+    let w = c.args.run.now.heap.now in
     let joined = c.run_from-host.ensures.joined in
     let h = c.run_from-host.result.host in
     let new = c.take_last_turns.new.host in

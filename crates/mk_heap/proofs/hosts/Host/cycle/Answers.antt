@@ -10,7 +10,7 @@ use Rattle.mk_heap.specs.Hosts.{HostState}
 use Rattle.mk_cycle.specs.Begun.{EachIsBegun}
 use Rattle.mk_heap.proofs.BegunHosts.{cycle_begun}
 use Rattle.mk_heap.proofs.BeforeOver.{hosts_seat, none_by_phase, step_overs}
-use Rattle.mk_heap.proofs.HostsKept.{home_host, home_is, home_view}
+use Rattle.mk_heap.proofs.HostsKept.{home_host, home_is, home_view, is_home}
 use Rattle.mk_heap.proofs.IdleTurns.{cycle_idle}
 use Rattle.mk_heap.proofs.MovedHosts.{begin_moves, finish_moves, idle_moves, moved_is_host, moves_more}
 use Rattle.mk_heap.proofs.Overs.{give_allowed, idle_may_give}
@@ -33,9 +33,9 @@ give-back-requires-clause-enabled g c =
 pub invariant_of-self : goal.invariant_of-self
 invariant_of-self g c =
     let s = c.self.inside in
-    let h : HostState = home_host c.in-Some.home s.callers s.markers in
+    let h : HostState = home_host c.take_home-home.result s.callers s.markers in
     let is =
-    home_is s.pass c.in-Some.home s.callers s.markers (sym c.take.ensures.value ∙ c.in-Some.is) c.self.invariant in
+    home_is s.pass c.take_home-home.result s.callers s.markers c.take_home-home.ensures c.self.invariant in
     let p : PassState = c.take_idle_turn-turn.result.pass in
     let b : PassState = c.begin_cycle.new.turn.pass in
     let r : PassState = c.finish_cycle-turn.result.0.pass in
@@ -49,9 +49,9 @@ invariant_of-self g c =
 pub returns-clause-own : goal.returns-clause-own
 returns-clause-own g c =
     let s = c.self.inside in
-    let h : HostState = home_host c.in-Some.home s.callers s.markers in
+    let h : HostState = home_host c.take_home-home.result s.callers s.markers in
     let is =
-    home_is s.pass c.in-Some.home s.callers s.markers (sym c.take.ensures.value ∙ c.in-Some.is) c.self.invariant in
+    home_is s.pass c.take_home-home.result s.callers s.markers c.take_home-home.ensures c.self.invariant in
     let p : PassState = c.take_idle_turn-turn.result.pass in
     let b : PassState = c.begin_cycle.new.turn.pass in
     let r : PassState = c.finish_cycle-turn.result.0.pass in
@@ -71,8 +71,7 @@ pub returns-clause-cycle : goal.returns-clause-cycle
 returns-clause-cycle g c =
     let s = c.self.inside in
     let t = c.take_idle_turn-turn.ensures.takes in
-    let view = home_view s.pass c.in-Some.home s.callers s.markers c.args.self.now (sym c.take.ensures.value
-    ∙ c.in-Some.is)
+    let view = home_view s.pass c.take_home-home.result s.callers s.markers c.args.self.now c.take_home-home.ensures
     c.self.view_is in
     record {
       makes = record {
@@ -92,9 +91,9 @@ returns-clause-cycle g c =
 pub returns-clause-overs : goal.returns-clause-overs
 returns-clause-overs g c =
     let s = c.self.inside in
-    let h : HostState = home_host c.in-Some.home s.callers s.markers in
+    let h : HostState = home_host c.take_home-home.result s.callers s.markers in
     let is =
-    home_is s.pass c.in-Some.home s.callers s.markers (sym c.take.ensures.value ∙ c.in-Some.is) c.self.invariant in
+    home_is s.pass c.take_home-home.result s.callers s.markers c.take_home-home.ensures c.self.invariant in
     let p : PassState = c.take_idle_turn-turn.result.pass in
     let b : PassState = c.begin_cycle.new.turn.pass in
     let r : PassState = c.finish_cycle-turn.result.0.pass in
@@ -112,7 +111,7 @@ pub returns-clause-reached : goal.returns-clause-reached
 returns-clause-reached g c =
     let s = c.self.inside in
     let view =
-    home_view s.pass c.in-Some.home s.callers s.markers c.args.self.now (sym c.take.ensures.value ∙ c.in-Some.is)
+    home_view s.pass c.take_home-home.result s.callers s.markers c.args.self.now c.take_home-home.ensures
     c.self.view_is in
     let p : PassState = c.take_idle_turn-turn.result.pass in
     let b : PassState = c.begin_cycle.new.turn.pass in
@@ -120,7 +119,7 @@ returns-clause-reached g c =
     let q : PassState = c.give-back.result in
     λ none.
     subst (λ (h : HostState). SweepsNothing h.pass q) view
-    (idle_then_sweeps c.in-Some.home p q c.take_idle_turn-turn.ensures.takes
+    (idle_then_sweeps c.take_home-home.result p q c.take_idle_turn-turn.ensures.takes
     (c.take_idle_turn-turn.ensures.reached none)
     (sweeps_then p b q c.begin_cycle.ensures.law.pass (c.begin_cycle.ensures.reached none)
     (sweeps_then b r q c.finish_cycle-turn.ensures.law.pass (c.finish_cycle-turn.ensures.reached none)
@@ -130,11 +129,14 @@ pub returns-clause-begun : goal.returns-clause-begun
 returns-clause-begun g c =
     let s = c.self.inside in
     let view =
-    home_view s.pass c.in-Some.home s.callers s.markers c.args.self.now (sym c.take.ensures.value ∙ c.in-Some.is)
+    home_view s.pass c.take_home-home.result s.callers s.markers c.args.self.now c.take_home-home.ensures
     c.self.view_is in
     let q : PassState = c.give-back.result in
     subst (λ (h : HostState). EachIsBegun g.E.Engine.begins h.pass q) view
-    (cycle_begun g.E.Engine.begins c.in-Some.home c.take_idle_turn-turn.result.pass c.begin_cycle.new.turn.pass
+    (cycle_begun g.E.Engine.begins c.take_home-home.result c.take_idle_turn-turn.result.pass c.begin_cycle.new.turn.pass
     c.finish_cycle-turn.result.0.pass q c.is_in_order.ensures.own c.take_idle_turn-turn.ensures.takes
     c.begin_cycle.ensures.law c.begin_cycle.ensures.begun c.finish_cycle-turn.ensures.law
     c.give-back.ensures.acts.makes)
+
+pub take_home-home-requires : goal.take_home-home-requires
+take_home-home-requires g c = is_home _ _ _ c.self.invariant

@@ -1,9 +1,9 @@
-use Rattle.std.proofs.Common.{◌≡◌, ◌∙◌, sym, ap, subst}
+use Rattle.std.proofs.Common.{◌≡◌, subst}
 use Rattle.mk_core.specs.declared.events.Seat.TheVariants.{Host}
 use Rattle.mk_core.specs.Counts.{IsTidy}
 use Rattle.mk_core.specs.History.{IsHistory}
 use Rattle.mk_heap.specs.Hosts.{HostState}
-use Rattle.mk_heap.proofs.HostsKept.{home_host, home_is, home_view}
+use Rattle.mk_heap.proofs.HostsKept.{home_is, home_view}
 use Rattle.mk_heap.proofs.hosts.Host.is_in_order.Goals as goal
 
 pub returns-clause-seat : goal.returns-clause-seat

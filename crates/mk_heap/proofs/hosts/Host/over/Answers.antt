@@ -1,4 +1,4 @@
-use Rattle.std.proofs.Common.{refl, sym, ◌∙◌, subst}
+use Rattle.std.proofs.Common.{refl, sym, subst}
 use Rattle.mk_core.specs.declared.events.Step.TheVariants as step
 use Rattle.mk_words.specs.States.{PassState}
 use Rattle.mk_cycle.specs.EngineLaw.{IsAtPhase}
@@ -6,7 +6,7 @@ use Rattle.mk_cycle.proofs.Allowed.{in_turn, in_turn_after}
 use Rattle.mk_heap.specs.Ending.{CallersAreJoined, SaysOver}
 use Rattle.mk_heap.specs.Hosts.{HostState}
 use Rattle.mk_heap.proofs.HomeCallers.{callers_home}
-use Rattle.mk_heap.proofs.HostsKept.{home_host, home_is, home_view}
+use Rattle.mk_heap.proofs.HostsKept.{home_host, home_is, home_view, is_home}
 use Rattle.mk_heap.proofs.IdleTurns.{tidy_kept}
 use Rattle.mk_heap.proofs.MovedHosts.{idle_moves, moved_is_host, moves_more}
 use Rattle.mk_heap.proofs.Overs.{give_allowed, over_keeps, over_may_give}
@@ -37,9 +37,9 @@ give-back-requires-clause-tidy g c =
 pub invariant_of-self : goal.invariant_of-self
 invariant_of-self g c =
     let s = c.self.inside in
-    let h : HostState = home_host c.in-Some.home s.callers s.markers in
+    let h : HostState = home_host c.take_home-home.result s.callers s.markers in
     let is =
-    home_is s.pass c.in-Some.home s.callers s.markers (sym c.take.ensures.value ∙ c.in-Some.is) c.self.invariant in
+    home_is s.pass c.take_home-home.result s.callers s.markers c.take_home-home.ensures c.self.invariant in
     let p : PassState = c.take_idle_turn-turn.result.pass in
     let q : PassState = c.over.new.self.pass in
     let r : PassState = c.give-back.result in
@@ -51,8 +51,8 @@ invariant_of-self g c =
 pub returns-clause-bench : goal.returns-clause-bench
 returns-clause-bench g c none =
     let s = c.self.inside in
-    let home = c.in-Some.home in
-    let some = sym c.take.ensures.value ∙ c.in-Some.is in
+    let home = c.take_home-home.result in
+    let some = c.take_home-home.ensures in
     let view = home_view s.pass home s.callers s.markers c.args.self.now some c.self.view_is in
     c.take_idle_turn-turn.ensures.bench
     (callers_home (home_host home s.callers s.markers) (home_is s.pass home s.callers s.markers some c.self.invariant)
@@ -63,7 +63,7 @@ pub returns-clause-over : goal.returns-clause-over
 returns-clause-over g c =
     let s = c.self.inside in
     let view =
-    home_view s.pass c.in-Some.home s.callers s.markers c.args.self.now (sym c.take.ensures.value ∙ c.in-Some.is)
+    home_view s.pass c.take_home-home.result s.callers s.markers c.args.self.now c.take_home-home.ensures
     c.self.view_is in
     let r : PassState = c.give-back.result in
     let turn = c.take_idle_turn-turn.ensures.takes in
@@ -81,13 +81,16 @@ pub returns-clause-reached : goal.returns-clause-reached
 returns-clause-reached g c =
     let s = c.self.inside in
     let view =
-    home_view s.pass c.in-Some.home s.callers s.markers c.args.self.now (sym c.take.ensures.value ∙ c.in-Some.is)
+    home_view s.pass c.take_home-home.result s.callers s.markers c.args.self.now c.take_home-home.ensures
     c.self.view_is in
     let p : PassState = c.take_idle_turn-turn.result.pass in
     let q : PassState = c.over.new.self.pass in
     let r : PassState = c.give-back.result in
     λ none.
     subst (λ (h : HostState). SweepsNothing h.pass r) view
-    (idle_then_sweeps c.in-Some.home p r c.take_idle_turn-turn.ensures.takes
+    (idle_then_sweeps c.take_home-home.result p r c.take_idle_turn-turn.ensures.takes
     (c.take_idle_turn-turn.ensures.reached none)
     (given_sweeps p q r _ c.over.ensures.acts.makes c.give-back.ensures.acts.makes refl))
+
+pub take_home-home-requires : goal.take_home-home-requires
+take_home-home-requires g c = is_home _ _ _ c.self.invariant

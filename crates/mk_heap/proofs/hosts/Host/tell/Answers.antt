@@ -1,4 +1,4 @@
-use Rattle.std.proofs.Common.{◌≡◌, ◌∙◌, refl, sym, ap, subst}
+use Rattle.std.proofs.Common.{◌≡◌, ◌∙◌, refl, ap, subst}
 use Rattle.mk_core.specs.declared.events.Seat.{Seat}
 use Rattle.mk_core.specs.declared.events.Seat.TheVariants.{Host}
 use Rattle.mk_core.specs.declared.events.Step.TheVariants as step
@@ -6,7 +6,7 @@ use Rattle.mk_words.specs.Seats.{Has, has_over}
 use Rattle.mk_words.specs.States.{PassState}
 use Rattle.mk_heap.specs.Hosts.{HostState}
 use Rattle.mk_heap.proofs.BeforeOver.{hosts_seat, step_overs, taken_overs}
-use Rattle.mk_heap.proofs.HostsKept.{home_host, home_is, home_view}
+use Rattle.mk_heap.proofs.HostsKept.{home_host, home_is, home_view, is_home}
 use Rattle.mk_heap.proofs.MovedHosts.{moved_is_host, moves_more, turn_moves}
 use Rattle.mk_cycle.proofs.Allowed.{in_turn, in_turn_after}
 use Rattle.mk_heap.proofs.Overs.{give_allowed}
@@ -18,23 +18,21 @@ use Rattle.mk_heap.proofs.hosts.Host.tell.Goals as goal
 pub look-found-requires-clause-admitted : goal.look-found-requires-clause-admitted
 look-found-requires-clause-admitted g c = λ decides.
     let s = c.self.inside in
-    let is = home_is s.pass c.in-Some.home s.callers s.markers (sym c.take.ensures.value
-    ∙ c.in-Some.is) c.self.invariant in
+    let is = home_is s.pass c.take_home-home.result s.callers s.markers c.take_home-home.ensures c.self.invariant in
     let p : PassState = c.take_turn-turn.result.pass in
     let host : p.seat ≡ Host =
-    ap (λ (x : PassState). x.seat) (turn_moves c.in-Some.home p c.take_turn-turn.ensures.takes).is ∙ is.seat in
-    look_admitted p c.args.x host c.is_in_order-in-Some.ensures.history
+    ap (λ (x : PassState). x.seat) (turn_moves c.take_home-home.result p c.take_turn-turn.ensures.takes).is ∙ is.seat in
+    look_admitted p c.args.x host c.is_in_order-2.ensures.history
 
 pub give-back-requires-clause-enabled : goal.give-back-requires-clause-enabled
 give-back-requires-clause-enabled g c =
     let s = c.self.inside in
-    let is = home_is s.pass c.in-Some.home s.callers s.markers (sym c.take.ensures.value
-    ∙ c.in-Some.is) c.self.invariant in
+    let is = home_is s.pass c.take_home-home.result s.callers s.markers c.take_home-home.ensures c.self.invariant in
     let p : PassState = c.take_turn-turn.result.pass in
     let q : PassState = c.look-found.new.self.pass in
     let host : p.seat ≡ Host =
-    ap (λ (x : PassState). x.seat) (turn_moves c.in-Some.home p c.take_turn-turn.ensures.takes).is ∙ is.seat in
-    let o = c.is_in_order-in-Some.ensures in
+    ap (λ (x : PassState). x.seat) (turn_moves c.take_home-home.result p c.take_turn-turn.ensures.takes).is ∙ is.seat in
+    let o = c.is_in_order-2.ensures in
     give_allowed q (in_turn_after c.look-found.ensures.acts refl)
     (looked_may_give p q c.args.x host (in_turn p c.take_turn-turn.result.op o.own o.turn o.history)
     c.take_turn-turn.ensures.fresh c.look-found.ensures.acts c.take_turn-turn.ensures.exact)
@@ -42,19 +40,17 @@ give-back-requires-clause-enabled g c =
 pub give-back-requires-clause-tidy : goal.give-back-requires-clause-tidy
 give-back-requires-clause-tidy g c =
     let s = c.self.inside in
-    let is = home_is s.pass c.in-Some.home s.callers s.markers (sym c.take.ensures.value
-    ∙ c.in-Some.is) c.self.invariant in
+    let is = home_is s.pass c.take_home-home.result s.callers s.markers c.take_home-home.ensures c.self.invariant in
     let p : PassState = c.take_turn-turn.result.pass in
     let host : p.seat ≡ Host =
-    ap (λ (x : PassState). x.seat) (turn_moves c.in-Some.home p c.take_turn-turn.ensures.takes).is ∙ is.seat in
+    ap (λ (x : PassState). x.seat) (turn_moves c.take_home-home.result p c.take_turn-turn.ensures.takes).is ∙ is.seat in
     look_tidy p c.look-found.new.self.pass c.args.x c.look-found.ensures.acts host c.take_turn-turn.ensures.tidy
 
 pub invariant_of-self : goal.invariant_of-self
 invariant_of-self g c =
     let s = c.self.inside in
-    let h : HostState = home_host c.in-Some.home s.callers s.markers in
-    let is = home_is s.pass c.in-Some.home s.callers s.markers (sym c.take.ensures.value
-    ∙ c.in-Some.is) c.self.invariant in
+    let h : HostState = home_host c.take_home-home.result s.callers s.markers in
+    let is = home_is s.pass c.take_home-home.result s.callers s.markers c.take_home-home.ensures c.self.invariant in
     let p : PassState = c.take_turn-turn.result.pass in
     let q : PassState = c.look-found.new.self.pass in
     let r : PassState = c.give-back.result in
@@ -68,12 +64,11 @@ invariant_of-self g c =
 pub returns-clause-overs : goal.returns-clause-overs
 returns-clause-overs g c =
     let s = c.self.inside in
-    let h : HostState = home_host c.in-Some.home s.callers s.markers in
-    let is = home_is s.pass c.in-Some.home s.callers s.markers (sym c.take.ensures.value
-    ∙ c.in-Some.is) c.self.invariant in
+    let h : HostState = home_host c.take_home-home.result s.callers s.markers in
+    let is = home_is s.pass c.take_home-home.result s.callers s.markers c.take_home-home.ensures c.self.invariant in
     let view =
-    home_view s.pass c.in-Some.home s.callers s.markers c.args.self.now (sym c.take.ensures.value
-    ∙ c.in-Some.is) c.self.view_is in
+    home_view s.pass c.take_home-home.result s.callers s.markers c.args.self.now
+    c.take_home-home.ensures c.self.view_is in
     let p : PassState = c.take_turn-turn.result.pass in
     let q : PassState = c.look-found.new.self.pass in
     let r : PassState = c.give-back.result in
@@ -83,18 +78,21 @@ returns-clause-overs g c =
     step_overs q r step.Give c.give-back.ensures.acts.makes (hosts_seat h q is own looked) refl
     ∙ step_overs p q (step.Look c.args.x) c.look-found.ensures.acts.makes (hosts_seat h p is own taken) refl
     ∙ taken_overs h.pass p c.take_turn-turn.ensures.takes (subst (λ (x : Seat). Has h.pass.seats x) is.seat own)
-    c.is_in_order-in-Some.ensures.history
+    c.is_in_order-2.ensures.history
     ∙ ap (λ (g : HostState). has_over g.pass.seen) view
 
 pub returns-clause-reached : goal.returns-clause-reached
 returns-clause-reached g c =
     let s = c.self.inside in
     let view =
-    home_view s.pass c.in-Some.home s.callers s.markers c.args.self.now (sym c.take.ensures.value ∙ c.in-Some.is)
+    home_view s.pass c.take_home-home.result s.callers s.markers c.args.self.now c.take_home-home.ensures
     c.self.view_is in
     let p : PassState = c.take_turn-turn.result.pass in
     let q : PassState = c.look-found.new.self.pass in
     let r : PassState = c.give-back.result in
     subst (λ (h : HostState). SweepsNothing h.pass r) view
-    (taken_then_sweeps c.in-Some.home p r c.is_in_order.ensures.own c.take_turn-turn.ensures.takes
+    (taken_then_sweeps c.take_home-home.result p r c.is_in_order.ensures.own c.take_turn-turn.ensures.takes
     (given_sweeps p q r _ c.look-found.ensures.acts.makes c.give-back.ensures.acts.makes refl))
+
+pub take_home-home-requires : goal.take_home-home-requires
+take_home-home-requires g c = is_home _ _ _ c.self.invariant

@@ -1,10 +1,10 @@
 use Rattle.std.proofs.Common.{◌≡◌, length}
 use Rattle.std.specs.Prelude.{All}
-use Rattle.mk_run.proofs.running.benches.Given as goal
+use Rattle.mk_run.specs.Benches.{IsMadeFor}
+use Rattle.mk_run.proofs.benches.Benches.new.Given as goal
 
 abbrev pub invariant-loop-bench : goal.invariant-loop-bench
 invariant-loop-bench g l = record {
   count : length l.benches.items ≡ l._bench;
-  made_for : All (λ bench. g.E.Engine.made_for bench.engine ≡ l.pages) l.benches.items;
-  books : All (λ bench. length bench.book ≡ l.pages) l.benches.items;
+  made : All (λ bench. IsMadeFor g.E.Engine.made_for l.pages bench) l.benches.items;
 }

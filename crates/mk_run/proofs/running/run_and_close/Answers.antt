@@ -1,10 +1,11 @@
-use Rattle.std.proofs.Common.{◌≡◌, ◌∙◌, List, sym, subst}
-use Rattle.std.specs.Prelude.{IfOk}
+use Rattle.std.proofs.Common.{◌≡◌, ◌∙◌, ◌+◌, List, sym, ap, subst, arith}
+use Rattle.std.specs.Prelude.{All, IfOk}
 use Rattle.mk_core.specs.declared.config.Config.{Config}
 use Rattle.mk_core.specs.declared.events.Event.{Event}
 use Rattle.mk_heap.specs.Reports as report
 use Rattle.mk_heap.specs.Reports.{IsWhole}
 use Rattle.mk_check.specs.Declarations.{config_of}
+use Rattle.mk_run.specs.Benches.{IsMadeFor}
 use Rattle.mk_run.specs.Joining.{AreTextsFrom}
 use Rattle.mk_run.specs.BegunSeats.{ScriptsBeginCycles}
 use Rattle.mk_run.specs.UnsweptSeats.{ScriptsSweepNothing}
@@ -12,7 +13,7 @@ use Rattle.mk_run.proofs.BegunScripts.{run_is_begun}
 use Rattle.mk_run.proofs.LastOvers.{run_ends_with_cycle}
 use Rattle.mk_run.proofs.UnsweptScripts.{run_is_unswept}
 use Rattle.mk_run.proofs.WholeRuns.{all_joined, is_run}
-use Rattle.mk_run.proofs.running.run.Goals as goal
+use Rattle.mk_run.proofs.running.run_and_close.Goals as goal
 
 pub close-report-requires-clause-joined : goal.close-report-requires-clause-joined
 close-report-requires-clause-joined g c =
@@ -74,3 +75,20 @@ returns-clause-begun g c =
     (sym c.close-report.ensures.history)
     (subst (λ (d : Config). ScriptsBeginCycles begins program 0 d h.pass.seen) made
     c.run_beside-joined.ensures.begun))
+
+pub run_beside-joined-requires-clause-benches : goal.run_beside-joined-requires-clause-benches
+run_beside-joined-requires-clause-benches g c κs within =
+    let made = c.in_ok-benches.ensures in
+    let is = sym c.in_ok-heap.ensures.config in
+    let callers = ap (λ (x : Config). x.callers) is in
+    record {
+      callers = record {
+        count = omega (arith, made.count, callers);
+        made =
+            subst
+            (λ (x : Config). All (λ bench. IsMadeFor g.E.Engine.made_for x.pages bench)
+            c.in_ok-benches.benches.callers.items) is made.callers;
+      };
+      host =
+          subst (λ (x : Config). IsMadeFor g.E.Engine.made_for x.pages c.in_ok-benches.benches.host) is made.host;
+    }
