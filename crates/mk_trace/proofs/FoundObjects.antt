@@ -1,34 +1,20 @@
 -- What freed bits and globals show between calls.
-use Rattle.std.proofs.Common.{◌≡◌, ◌≢◌, ⊎_elim, inl, inr, ℕ, ◌<◌, Bool, true, false, List, length, sym, ◌∙◌, ap, ◌+◌}
-use Rattle.std.proofs.Common.{refl, subst, arith}
-use Rattle.std.specs.Prelude.{not, nat_le, Some, None, slice_index, if◌then◌else◌}
-use Rattle.std.proofs.lemmas.Bool.{cases_Bool, eqb-true, false_from_ne_true, true≢false}
 use Rattle.std.proofs.Math.ListN.{get_or-map as get_or-map-default}
 use Rattle.mk_trace.proofs.Vocabulary.{AreLater, Cell, Config, Event, IsHistory, IsSound, Kind, NeverState, Null, Num}
 use Rattle.mk_trace.proofs.Vocabulary.{PlacedAllocation, Ptr, Value, Words, address_of, allocation_at}
-use Rattle.mk_trace.proofs.Vocabulary.{cell_of_allocation, cell_words, global_at, is_freed, is_large, is_phase}
-use Rattle.mk_trace.proofs.Vocabulary.{kinds_of, left, never_behind, never_granted, phase_of, placed_at, storage_words}
-use Rattle.mk_trace.proofs.Vocabulary.{unfreed}
-use Rattle.mk_never.specs.Reach.{LeadsTo}
-use Rattle.mk_never.specs.Reach.IsReachable.{by_global}
-use Rattle.mk_never.specs.Typed.{IsPlaceIn}
-use Rattle.mk_geom.specs.StorageWords.{IsWordOf}
-use Rattle.mk_core.specs.Allocations.{storage_of}
-use Rattle.mk_core.specs.Cells.{pointed_cell}
-use Rattle.mk_core.specs.History.{bases_of}
-use Rattle.mk_core.specs.StandingAllocations.{object_placed}
-use Rattle.mk_core.specs.Image.{image_of}
-use Rattle.mk_core.proofs.PointedAllocations.{word_points}
-use Rattle.mk_core.proofs.StandingAllocations.{cells_begin, storage_holds, typed_size}
-use Rattle.mk_core.proofs.Sizes.{large_is_not_small, words_are_small}
-use Rattle.mk_laws.specs.Quarantine.{IsFreedCell, IsQuarantined}
-use Rattle.mk_laws.specs.LayoutScene.{is_released_in}
-use Rattle.mk_laws.proofs.Settled.{unreleased_are_apart}
-use Rattle.mk_laws.proofs.InvariantHistories.{histories_keep_the_invariant}
+use Rattle.mk_trace.proofs.Vocabulary.{cell_of_allocation, cell_words, exists_placed, global_at}
+use Rattle.mk_trace.proofs.Vocabulary.{histories_keep_the_invariant, is_freed, is_large, is_phase, kinds_of, left}
+use Rattle.mk_trace.proofs.Vocabulary.{never_behind, never_granted, phase_of, placed_at, reach_is_kept, storage_words}
+use Rattle.mk_trace.proofs.Vocabulary.{unfreed, ⊎_elim}
+use Rattle.mk_laws.proofs.Vocabulary.{Bool, IsFreedCell, IsQuarantined, IsWordOf, List, Mirrors, None, Some, ℕ, ap}
+use Rattle.mk_laws.proofs.Vocabulary.{arith, bases_of, cases_Bool, cells_begin, eqb-true, false, false_from_ne_true}
+use Rattle.mk_laws.proofs.Vocabulary.{if◌then◌else◌, image_of, inl, inr, is_released_in, large_is_not_small, length}
+use Rattle.mk_laws.proofs.Vocabulary.{nat_le, not, object_placed, refl, slice_index, storage_holds, storage_of, subst}
+use Rattle.mk_laws.proofs.Vocabulary.{sym, true, true≢false, typed_size, word_points, ◌+◌, ◌<◌, ◌∙◌, ◌≡◌, ◌≢◌}
+use Rattle.mk_never.specs.{Reach.LeadsTo, Reach.IsReachable.by_global, Typed.IsPlaceIn}
+use Rattle.mk_core.{proofs.Sizes.words_are_small, specs.Cells.pointed_cell}
+use Rattle.mk_laws.proofs.{InvariantTheorems.allocations_stand, Settled.unreleased_are_apart}
 use Rattle.mk_laws.specs.SettledPages.{StandsUsed}
-use Rattle.mk_laws.specs.Mirrors.{Mirrors}
-use Rattle.mk_laws.proofs.ImagesKept.{exists_placed}
-use Rattle.mk_laws.proofs.InvariantTheorems.{allocations_stand, reach_is_kept}
 
 -- Freed bits between calls: those of the allocations that are freed and unreleased, and no others.
 

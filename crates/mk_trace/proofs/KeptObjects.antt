@@ -1,21 +1,17 @@
 -- The kept objects are those of the quarantined allocations: over a call that frees one, or none, and after it, where
 -- those are let go that were released.
-use Rattle.std.proofs.Common.{◌≡◌, ◌≢◌, inl, inr, ℕ, ◌+◌, ◌≤◌, ◌<◌, Bool, true, false, List, [], ◌∷◌, ◌++◌, length, map}
-use Rattle.std.proofs.Common.{refl, sym, ◌∙◌, ap, subst, arith, append-nil}
-use Rattle.std.specs.Prelude.{◌&&◌, ◌==◌, not, filter, Option, Some, None, option_map, if◌then◌else◌}
-use Rattle.std.proofs.lemmas.Bool.{and_parts, cases_eq, cases_lt, true≢false, not-true}
-use Rattle.std.proofs.lemmas.List.{get_or_past, map-append}
-use Rattle.std.proofs.Math.Bool.{and-false}
 use Rattle.mk_trace.proofs.Vocabulary.{AreFound, AreObjectsOf, AreThose, Config, Event, FlagsBehind, FreedObject}
-use Rattle.mk_trace.proofs.Vocabulary.{IsHistory, PlacedAllocation, Words, age_in_a_word, age_of, aged}
-use Rattle.mk_trace.proofs.Vocabulary.{cell_of_allocation, freed_object_of, in_a_word, is_freed, is_quarantined}
-use Rattle.mk_trace.proofs.Vocabulary.{large_words, left, never_granted, one_if, phase_of, placed_at, storage_words}
-use Rattle.mk_trace.proofs.Vocabulary.{times}
-use Rattle.mk_laws.proofs.ImagesKept.{exists_placed}
-use Rattle.mk_trace.specs.Freeing.{FreesFlag}
-use Rattle.mk_trace.specs.Ledgers.{aged_object, one_or_none}
+use Rattle.mk_trace.proofs.Vocabulary.{IsHistory, PlacedAllocation, Words, age_in_a_word, age_of, aged, and-false}
+use Rattle.mk_trace.proofs.Vocabulary.{cell_of_allocation, exists_placed, filter, freed_object_of, in_a_word, is_freed}
+use Rattle.mk_trace.proofs.Vocabulary.{is_quarantined, large_words, left, never_granted, one_if, option_map, phase_of}
+use Rattle.mk_trace.proofs.Vocabulary.{placed_at, storage_words, times}
+use Rattle.mk_laws.proofs.Vocabulary.{Bool, List, None, Option, Some, ℕ, and_parts, ap, append-nil, arith, cases_eq}
+use Rattle.mk_laws.proofs.Vocabulary.{cases_lt, false, get_or_past, if◌then◌else◌, inl, inr, length, map, map-append}
+use Rattle.mk_laws.proofs.Vocabulary.{not, not-true, refl, subst, sym, true, true≢false, [], ◌&&◌, ◌++◌, ◌+◌, ◌<◌, ◌==◌}
+use Rattle.mk_laws.proofs.Vocabulary.{◌∙◌, ◌∷◌, ◌≡◌, ◌≢◌, ◌≤◌}
 use Rattle.mk_trace.proofs.NumberLists.{equal_is, filters_agree, stands_passes, those_filtered, times_more, unequal_is}
 use Rattle.mk_trace.proofs.FoundObjects.{bit_tells_released, cell_by}
+use Rattle.mk_trace.specs.{Freeing.FreesFlag, Ledgers.aged_object, Ledgers.one_or_none}
 
 -- lists
 

@@ -1,17 +1,13 @@
 -- Lists that have each number once that passes a test.
-use Rattle.std.proofs.Common.{◌≡◌, ℕ, suc, ◌+◌, ◌≤◌, ◌<◌, Bool, true, false, List, [], ◌∷◌, ◌++◌, length, refl, sym}
-use Rattle.std.proofs.Common.{◌∙◌, ap, subst, arith, inl, inr}
-use Rattle.std.specs.Prelude.{◌&&◌, ◌==◌, sum_by, filter, slice_set, if◌then◌else◌}
-use Rattle.std.proofs.lemmas.Bool.{cases_eq, eq-eqb, eqb-true, false_from_ne_true, not-true, and_parts}
-use Rattle.std.proofs.lemmas.List.{get_or-set_same, get_or-set_other}
-use Rattle.std.proofs.lemmas.List.Sums.{sum_by-cons, sum_by-set}
-use Rattle.std.proofs.Math.Bool.{and-false}
-use Rattle.std.proofs.lemmas.Bool.Decides.{nat_tests}
-use Rattle.mk_trace.proofs.Vocabulary.{AreThose, PlacedAllocation, is_quarantined, never_granted, one_if, placed_at}
-use Rattle.mk_trace.proofs.Vocabulary.{times}
-use Rattle.mk_laws.proofs.ImagesKept.{exists_placed}
+use Rattle.std.proofs.lemmas.List.Sums.{sum_by-set}
+use Rattle.mk_trace.proofs.Vocabulary.{AreThose, PlacedAllocation, and-false, exists_placed, filter, is_quarantined}
+use Rattle.mk_trace.proofs.Vocabulary.{nat_tests, never_granted, one_if, placed_at, sum_by, sum_by-cons, times}
+use Rattle.mk_laws.proofs.Vocabulary.{Bool, List, ℕ, and_parts, ap, arith, cases_eq, eq-eqb, eqb-true, false}
+use Rattle.mk_laws.proofs.Vocabulary.{false_from_ne_true, get_or-set_other, get_or-set_same, if◌then◌else◌, inl, inr}
+use Rattle.mk_laws.proofs.Vocabulary.{length, not-true, refl, slice_set, subst, suc, sym, true, [], ◌&&◌, ◌++◌, ◌+◌}
+use Rattle.mk_laws.proofs.Vocabulary.{◌<◌, ◌==◌, ◌∙◌, ◌∷◌, ◌≡◌, ◌≤◌}
+use Rattle.mk_trace.proofs.FreedWords.{part, sum_alike, weighed}
 use Rattle.mk_trace.specs.Numbers.{AreOfQuarantined}
-use Rattle.mk_trace.proofs.FreedWords.{part, weighed, sum_alike}
 
 pub equal_is : (i : ℕ) → (i == i) ≡ true
 equal_is i = eq-eqb i i refl

@@ -1,13 +1,11 @@
-use Rattle.std.proofs.Common.{◌∙◌, ap, subst, sym}
 use Rattle.mk_trace.proofs.Vocabulary.{CallerState, Grows, HasAll, HostState, IsHistory, PassState, StayExact}
 use Rattle.mk_trace.proofs.Vocabulary.{SweepsNothing, WordsState}
+use Rattle.mk_laws.proofs.Vocabulary.{ap, subst, sym, ◌∙◌}
 use Rattle.mk_run.specs.Scripts.{Answers}
-use Rattle.mk_trace.proofs.ExactPlays.{call_stays_exact}
 use Rattle.mk_trace.proofs.FreedCalls.{Does, call_does}
-use Rattle.mk_trace.proofs.JoinedCalls.{Joined}
-use Rattle.mk_trace.proofs.OneCaller.{joined_home, made_seats, made_alone, made_exists, made_admits}
+use Rattle.mk_trace.proofs.OneCaller.{joined_home, made_admits, made_alone, made_exists, made_seats}
+use Rattle.mk_trace.proofs.{ExactPlays.call_stays_exact, JoinedCalls.Joined, calls.call.Goals.After-is_in_order}
 use Rattle.mk_trace.proofs.calls.call.Goals as goal
-use Rattle.mk_trace.proofs.calls.call.Goals.{After-is_in_order}
 
 pub answer_to-answer-requires-clause-exists : goal.answer_to-answer-requires-clause-exists
 answer_to-answer-requires-clause-exists g c κs within =

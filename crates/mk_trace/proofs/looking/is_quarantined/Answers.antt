@@ -1,5 +1,5 @@
-use Rattle.std.proofs.Common.{◌∙◌, ap, arith, subst, sym}
 use Rattle.mk_trace.proofs.Vocabulary.{IsHistory, WordsState}
+use Rattle.mk_laws.proofs.Vocabulary.{ap, arith, subst, sym, ◌∙◌}
 use Rattle.mk_trace.proofs.FoundCells.{none_freed_there, quarantine_tells}
 use Rattle.mk_trace.proofs.looking.is_quarantined.Goals as goal
 

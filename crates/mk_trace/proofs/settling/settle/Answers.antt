@@ -1,5 +1,5 @@
-use Rattle.std.proofs.Common.{◌≡◌, ap, refl, rules}
-use Rattle.mk_trace.proofs.Vocabulary.{Words, ends, in_a_word, left}
+use Rattle.mk_trace.proofs.Vocabulary.{Words, ends, in_a_word, left, rules}
+use Rattle.mk_laws.proofs.Vocabulary.{ap, refl, ◌≡◌}
 use Rattle.mk_trace.proofs.SettledLedgers.{settles_anew}
 use Rattle.mk_trace.proofs.settling.settle.Goals as goal
 
