@@ -238,13 +238,12 @@ splits_last (a ∷ xs) e (y ∷ ys) x zs is = one_longer a y xs e ys x (cc) (spl
 
 pub tallies_on : (c : Config) (es fs : List Event) → TurnIsLeft (left c es) (left c fs) → CountsAreLeft c es fs
     → TalliesAreTidy c es → TalliesAreTidy c fs
-tallies_on c es fs kept counts tidy =
-    record {
-      cycles = ap (λ (s : Steady). s.cycles) kept.steady ∙ tidy.cycles ∙ ap in_a_word (sym counts.ends);
-      released = ap (λ (s : Steady). s.released) kept.steady ∙ tidy.released
-          ∙ ap (λ (s : Steady). in_a_word (releases s.allocations)) (sym kept.steady);
-      full = ap (λ (s : Steady). s.full) kept.steady ∙ tidy.full ∙ ap in_a_word (sym counts.fulls);
-    }
+tallies_on c es fs kept counts tidy = record {
+  cycles = ap (λ (s : Steady). s.cycles) kept.steady ∙ tidy.cycles ∙ ap in_a_word (sym counts.ends);
+  released = ap (λ (s : Steady). s.released) kept.steady ∙ tidy.released
+      ∙ ap (λ (s : Steady). in_a_word (releases s.allocations)) (sym kept.steady);
+  full = ap (λ (s : Steady). s.full) kept.steady ∙ tidy.full ∙ ap in_a_word (sym counts.fulls);
+}
 
 -- The tallies are as they should be before each `give` of the longer list, and before the event where it is one.
 pub tidy_by_last : (c : Config) (xs : List Event) (e : Event) → IsTidy c xs → (e.step ≡ Step.Give → TalliesAreTidy c xs)

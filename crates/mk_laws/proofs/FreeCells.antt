@@ -136,12 +136,11 @@ module _ (c : Config) (w : World) (n : NeverState) (known : KnownWorld c w) (all
 
   taken_by : (cell : Cell) (x : ℕ) (one : IsOfOne c w x) → cell.index < cells_under (header_in w.now.words cell.page)
       → (placed_at w.allocations one.number).base ≡ first_word w.now.words cell → IsTaken w cell
-  taken_by cell x one lt first =
-      record {
-        number = one.number;
-        in_range = lt;
-        stands = and_from _ _ (ap not one.unreleased) (eq-eqb (placed_at w.allocations one.number).base _ first);
-      }
+  taken_by cell x one lt first = record {
+    number = one.number;
+    in_range = lt;
+    stands = and_from _ _ (ap not one.unreleased) (eq-eqb (placed_at w.allocations one.number).base _ first);
+  }
 
   -- What has a word of a run begins where the run does.
   in_run : (o : Object) (base : ℕ) (cell : Cell) (i : ℕ) → OnPage w.now.words o base (first_word w.now.words cell + i)
