@@ -65,8 +65,7 @@ marker_acts c m k x h = by (group_of x) refl
     by : (g : Group) → group_of x ≡ g → Actor c m (Marker k) x
     by Group.Markers g = AsMarker k x (ltb-true k 8 h.seat) g
     by Group.Callers g = let e : false ≡ true = ap (λ (y : Group). is_open_to (Marker k) y) (sym g) ∙ h.kind in cc
-    by Group.Turn g = let e : false ≡ true = ap (λ (y : Group). is_open_to (Marker k) y) (sym g) ∙ h.kind in cc
-    by Group.Host g = let e : false ≡ true = ap (λ (y : Group). is_open_to (Marker k) y) (sym g) ∙ h.kind in cc
+    by _ g = let e : false ≡ true = ap (λ (y : Group). is_open_to (Marker k) y) (sym g) ∙ h.kind in cc
 
 -- the host: `take` with no operation, `over`, and what any holder does
 

@@ -219,8 +219,7 @@ mark_since c m (Caller j) x known h k at = elim (cases_eq k j) [
   | inl e ↦
       let lt = ltb-true j c.callers h.seat in
       let here : flight_of (Behind c m (Caller j) x) (Caller k) ≡ flight =
-      ap (λ i. slice_index_or (slice_set m.seats.flights j flight) i at_rest) e
-      ∙ get_or-set_same m.seats.flights j flight at_rest (omega (arith, known.orderly.flights)) in
+      cc (e, get_or-set_same m.seats.flights j flight at_rest (omega (arith, known.orderly.flights))) in
       elim (owes_since c m _ _ x h.order (ap (λ (f : Flight). f.stage) (sym here) ∙ at)) [
         | inl same ↦ inl (here ∙ same ∙ ap (λ i. flight_of m (Caller i)) (sym e))
         | inr new ↦ inr (new.0, sym (ap page_met here ∙ new.1))

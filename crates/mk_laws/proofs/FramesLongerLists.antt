@@ -133,8 +133,7 @@ module _ (c : Config) (es more : List Event) (k : ℕ) (x : Step) (h : IsHistory
       (not_astray c w.now here.known.now.orderly k lt)
 
   is_in : x ≡ Step.Probe → IsInCall w.now (Caller k)
-  is_in is = sym (in_call_told f.stage f.op (not_astray c w.now here.known.now.orderly k lt))
-      ∙ ap is_standing_in_call (in_call is)
+  is_in is = cc (in_call_told f.stage f.op (not_astray c w.now here.known.now.orderly k lt), in_call is)
 
   pub probes_the_same : x ≡ Step.Probe → probed v.now.words f ≡ probed w.now.words f
   probes_the_same is = elim (cases_Bool (probed w.now.words f)) [

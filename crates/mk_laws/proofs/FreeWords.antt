@@ -48,8 +48,7 @@ module _ (c : Config) (w : World) (n : NeverState) (known : KnownWorld c w) (all
       let o : Object = object_placed c a in
       let stands = (standing c w known all.order.laid run.number run.unreleased).stands in
       let aligned = (run_begins o a.base run.large stands.begins).1 in
-      let word : is_in_run (run_of_allocation c a) x ≡ true = ap (λ (r : RunPages). is_in_run r x) (sym run.is)
-      ∙ f.word in
+      let word : is_in_run (run_of_allocation c a) x ≡ true = cc (run.is, f.word) in
       let at = in_run _ x word in
       record {
         number = run.number;

@@ -94,8 +94,7 @@ head_keeps c m seat p n len h finds = record {
         (64 * q + k * words_under (header_in (Behind c m seat (Step.Head p n)).words q) + i)
     made (Carved free marked bare) q k i e none lt li =
         let first : 64 * q + k * words_under (header_in (Behind c m seat (Step.Head p n)).words q) + i
-        ≡ 64 * p + k * words_under (header_of n) + i = ap (λ a. 64 * q + k * words_under (header_of a) + i) (here q e)
-        ∙ ap (λ j. 64 * j + k * words_under (header_of n) + i) e in
+        ≡ 64 * p + k * words_under (header_of n) + i = cc (here q e, e) in
         bare_guarded c (Behind c m seat (Step.Head p n)) _ (ap (slice_index m.words.heap) first ∙ bare k i lt li)
     made (Unmapped some on back still) q k i e none lt li = let z = still none in absurd (omega arith)
 

@@ -210,8 +210,7 @@ module _ (c : Config) (w : Words) (xs : List PlacedAllocation) (i p : ℕ) (r : 
               let y = claim_is c None xs x.claim x.among in
               let j : ℕ = y.number in
               let page : (placed_at xs j).base / 64 ≡ p = ap (λ (z : Claim). z.page) (sym y.is) ∙ x.page in
-              let index : (cell_of_allocation c (placed_at xs j)).index ≡ n = ap (λ (z : Claim). z.index) (sym y.is)
-              ∙ x.index in
+              let index : (cell_of_allocation c (placed_at xs j)).index ≡ n = cc (y.is, x.index) in
               let same = alike_at c w xs i j p r u y.unreleased small at page in
               let first = begins_at j y.unreleased same.0 same.1 ∙ ap (λ m. m * class_words_of class) index in
               cell_taken_from p (class_words_of class) n (unreleased_storage c xs) (storage_of c (placed_at xs j))
@@ -273,8 +272,7 @@ on_page c w xs p r on =
     let y = claim_is c None xs on.claim on.among in
     let o : Object = object_placed c (placed_at xs y.number) in
     let near : on.distance < pages_made o = rw y.is at on.near in
-    let at : (placed_at xs y.number).base / 64 + on.distance ≡ p = ap (λ (z : Claim). z.page + on.distance) (sym y.is)
-    ∙ on.at in
+    let at : (placed_at xs y.number).base / 64 + on.distance ≡ p = cc (y.is, on.at) in
     elim (cases_Bool (is_small_object o)) [
       | inl s ↦ let one = small_pages o s in block_words c w xs y.number p r y.unreleased s (omega arith)
       | inr l ↦ run_words c w xs y.number p r y.unreleased on.distance l near at

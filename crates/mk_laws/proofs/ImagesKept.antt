@@ -336,10 +336,8 @@ module _ (globals : List ℕ) (s : ImageScene) (n : NeverState) (h : AreImages s
         globals = λ g. h.globals g ∙ sym (grown _ (typed.globals g));
         heap = λ b j u m lj. elim (cases_eq b (length n.allocations)) [
           | inl e ↦
-              let na : allocation_at (with_new n ty) b ≡ new_words n ty = ap (allocation_at (with_new n ty)) e
-              ∙ new_never n ty in
-              let ga : placed_at (s.allocations ++ y ∷ []) b ≡ y = ap (placed_at (s.allocations ++ y ∷ [])) (e
-              ∙ sym same) ∙ granted_at s.allocations y in
+              let na : allocation_at (with_new n ty) b ≡ new_words n ty = cc (e, new_never n ty) in
+              let ga : placed_at (s.allocations ++ y ∷ []) b ≡ y = cc (e, same, granted_at s.allocations y) in
               let lj' : j < length (zero_words (kinds_of n.types ty)) =
               subst (λ (x : NeverAllocation). j < length x.words) na lj in
               rw ga (zero_there j (omega (arith, length-map (kinds_of n.types ty) zero_of))

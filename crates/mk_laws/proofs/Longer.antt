@@ -73,8 +73,7 @@ longer_first t e on first = record {
   before = first.before;
   event = first.event;
   behind = first.behind ++ e ∷ [];
-  is = ap (λ (xs : List Event). xs ++ e ∷ []) first.is
-      ∙ append_assoc first.before (first.event ∷ first.behind) (e ∷ []);
+  is = cc (first.is, append_assoc first.before (first.event ∷ first.behind) (e ∷ []));
   none_before = first.none_before;
   serves = first.serves;
 }

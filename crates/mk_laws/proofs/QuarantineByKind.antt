@@ -90,8 +90,7 @@ frees_here c w seat p n cell b h laid x =
       in_snapshot = omega arith;
       index = omega arith;
       own = own;
-      stands = ap (λ (y : Cell). stands_in w.now.words y a) (sym own.is)
-          ∙ stands_in_its_cell c w.now.words a b.limits s.stands s.headers;
+      stands = cc (own.is, stands_in_its_cell c w.now.words a b.limits s.stands s.headers);
       others = standing_cell c (object_now c w.now) w cell b.lengths.pages own off;
       unset = x.unfreed;
       value = x.value ∙ rw page;

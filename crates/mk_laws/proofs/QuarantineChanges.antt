@@ -27,8 +27,7 @@ freed_behind c g xs p k leaves o u f =
       number = o.number;
       unreleased = ap (λ (b : PlacedAllocation). b.released) at ∙ u;
       freed = ap (λ (b : PlacedAllocation). b.freed) at ∙ f;
-      cell = ap (λ (b : PlacedAllocation). cell_of_allocation c b) at
-          ∙ same_cell c a (g a) (leaves.places.base a) (leaves.places.ty a) ∙ o.cell;
+      cell = cc (at, same_cell c a (g a) (leaves.places.base a) (leaves.places.ty a), o.cell);
     }
 
 -- An unreleased allocation after a change, at its number before it.
@@ -49,8 +48,7 @@ before_change c g xs i leaves u =
       now = at;
       unreleased = v;
       was = leaves.released a v;
-      cell = ap (λ (b : PlacedAllocation). cell_of_allocation c b) at
-          ∙ same_cell c a (g a) (leaves.places.base a) (leaves.places.ty a);
+      cell = cc (at, same_cell c a (g a) (leaves.places.base a) (leaves.places.ty a));
     }
 
 -- `release`: what stays isn't released, and what goes is

@@ -52,8 +52,7 @@ module _ (c : Config) (w : World) (n : NeverState) (known : KnownWorld c w) (all
         record {
           number = o.number;
           in_range = all.order.known cell.page cell.index bit;
-          stands = ap (λ (x : Cell). stands_in w.now.words x a) (sym o.cell)
-              ∙ stands_in_its_cell c w.now.words a known.limits s.stands s.headers;
+          stands = cc (o.cell, stands_in_its_cell c w.now.words a known.limits s.stands s.headers);
         },
         o.freed,
       )

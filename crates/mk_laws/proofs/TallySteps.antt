@@ -81,8 +81,7 @@ pub give_counts_nothing : (c : Config) (w : World) (e : Event) → e.step ≡ St
 give_counts_nothing c w e is = record {
   alike = alike c w e.seat e.step (ap counts_alike is);
   no_end = ap is_end is;
-  no_full = ap (λ (x : Step). answers_full (answer_decided c w.now (record { seat = e.seat; step = x }))) is
-      ∙ give_answers c w.now e.seat;
+  no_full = cc (is, give_answers c w.now e.seat);
 }
 
 pub others_count_nothing : (c : Config) (w : World) (e : Event) → Known c w.now → Meets c w.now e.seat e.step

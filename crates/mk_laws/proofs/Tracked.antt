@@ -141,8 +141,7 @@ tracked_behind c es seat x k (IsTaken o own take free begun) all h meets lt new 
       before = es;
       op = Some o;
       behind = [];
-      is = ap (λ (s : Seat). es ++ record { seat = s; step = x } ∷ []) own
-          ∙ ap (λ (y : Step). es ++ record { seat = Caller k; step = y } ∷ []) take;
+      is = cc (own, take);
       took = free;
       goes_on = refl;
     }
