@@ -1,10 +1,8 @@
 -- A header of another kind than those of an unmapped run.
-use Rattle.std.proofs.Common.{◌≡◌, ◌≢◌, ℕ, Bool, true, false, refl, arith}
-use Rattle.std.specs.Prelude.{◌==◌, ◌-◌, ◌&&◌, nat_le, if◌then◌else◌, Option, Some, None}
-use Rattle.std.proofs.lemmas.Bool.Decides.{nat_tests}
-use Rattle.mk_geom.specs.declared.headers.Header.{Header}
-use Rattle.mk_geom.specs.declared.headers.Header.TheVariants.{Free, Block, Run, Later, LeafBlock, LeafRun}
-use Rattle.mk_geom.specs.Headers.{header_within, header_with}
+use Rattle.mk_core.proofs.Vocabulary.{Block, Bool, Free, Header, Later, LeafBlock, LeafRun, None, Option, Run, Some, ℕ}
+use Rattle.mk_core.proofs.Vocabulary.{arith, false, if◌then◌else◌, nat_le, nat_tests, refl, true, ◌&&◌, ◌-◌, ◌==◌, ◌≡◌}
+use Rattle.mk_core.proofs.Vocabulary.{◌≢◌}
+use Rattle.mk_geom.specs.Headers.{header_with, header_within}
 use Rattle.mk_core.specs.Cells.{is_unmapped_header}
 
 either : (b : Bool) (x y : Option Header) → is_unmapped_header x ≡ false → is_unmapped_header y ≡ false

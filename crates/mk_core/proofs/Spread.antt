@@ -1,10 +1,10 @@
 -- Groups of words with gaps between them: their length, the word r of group i, and a change of it.
-use Rattle.std.proofs.Common.{◌≡◌, ℕ, zero, suc, ◌+◌, ◌*◌, ◌<◌, List, ◌++◌, length, take, drop, slice_index, slice_set}
-use Rattle.std.proofs.Common.{◌∷◌, length-set, refl, sym, ◌∙◌, ap, arith}
-use Rattle.std.proofs.lemmas.List.{get_or_append_left, get_or-append-add, get_or-take, get_or-drop, set-append_left}
-use Rattle.std.proofs.lemmas.List.{set-append_right, take-set-le, drop-set-lt, drop-set-add, length-append, length-drop}
-use Rattle.std.proofs.lemmas.List.{length-take-le, length-replicate, replicate-append-replicate}
-use Rattle.std.proofs.Math.Seq.{take-set-lt}
+use Rattle.std.proofs.Common.{drop-set-lt, get_or-append-add, get_or-drop, get_or-take, length-append, length-drop}
+use Rattle.std.proofs.Common.{length-set, length-take-le}
+use Rattle.std.proofs.{Math.Seq.take-set-lt, lemmas.List.drop-set-add, lemmas.List.replicate-append-replicate}
+use Rattle.std.proofs.{lemmas.List.set-append_left, lemmas.List.set-append_right, lemmas.List.take-set-le}
+use Rattle.mk_core.proofs.Vocabulary.{List, ℕ, ap, arith, drop, get_or_append_left, length, length-replicate, refl}
+use Rattle.mk_core.proofs.Vocabulary.{slice_index, slice_set, suc, sym, take, zero, ◌*◌, ◌++◌, ◌+◌, ◌<◌, ◌∙◌, ◌∷◌, ◌≡◌}
 use Rattle.mk_core.specs.Layout.{gap, spread}
 
 -- a change after the first words
@@ -102,8 +102,7 @@ zeros_apart (suc n) =
 -- as many groups as there are words
 pub words_set : (xs : List ℕ) (j v : ℕ) → j < length xs
     → spread (length (slice_set xs j v)) 1 15 (slice_set xs j v) ≡ slice_set (spread (length xs) 1 15 xs) (16 * j) v
-words_set xs j v lt = ap (λ n. spread n 1 15 (slice_set xs j v)) (length-set xs j v)
-    ∙ word_set (length xs) xs j v refl lt
+words_set xs j v lt = cc (length-set xs j v, word_set (length xs) xs j v refl lt)
 
 pub zeros_spread : (n : ℕ) → spread (length (gap n)) 1 15 (gap n) ≡ gap (16 * n)
 zeros_spread n = ap (λ m. spread m 1 15 (gap n)) (length-replicate n 0) ∙ zeros_apart n

@@ -1,5 +1,4 @@
-use Rattle.std.proofs.Common.{sym}
-use Rattle.std.specs.Prelude.{◌/◌, ◌%◌}
+use Rattle.mk_core.proofs.Vocabulary.{sym, ◌%◌, ◌/◌}
 use Rattle.mk_core.proofs.MappedKinds.{mapped_kind}
 use Rattle.mk_core.proofs.cells.is_unmapped.Goals as goal
 
