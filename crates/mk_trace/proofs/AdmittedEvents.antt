@@ -175,9 +175,8 @@ module _ (slots : List ℕ) where
     link_admitted : (n : NeverState) → 1 ≤ get_or slots slot 0 → Stands n → Points n 0 → Points n 1
         → IsAdmitted listed n 0 (SetPtr 0 0 1)
     link_admitted n some s points linked =
-        admitted_by n (SetPtr 0 0 1) s (omega arith, omega arith)
-        (at_register n s points 0 (omega arith) IsPointer refl)
-        (at_register n s points 0 (omega arith) (IsOfKind (register_at n 0 1)) linked)
+        admitted_by n _ s (omega arith, omega arith) (at_register n s points 0 (omega arith) IsPointer refl)
+        (at_register n s points 0 (omega arith) _ linked)
 
     -- what they leave in registers
 
@@ -198,9 +197,7 @@ module _ (slots : List ℕ) where
         points
 
     linked_same : (n : NeverState) (r : ℕ) → register_at (after_op n 0 (SetPtr 0 0 1)) 0 r ≡ register_at n 0 r
-    linked_same n r =
-        left_at_by (λ m. register_at m 0 r ≡ register_at n 0 r) (target_of n (register_at n 0 0) 0) n _ refl
-        (λ number place e. refl)
+    linked_same n r = left_at_by (λ m. register_at m 0 r ≡ register_at n 0 r) _ n _ refl (λ number place e. refl)
 
     numbered_same : (n : NeverState) (index value r : ℕ)
         → register_at (after_op n 0 (SetNum 0 index value)) 0 r ≡ register_at n 0 r

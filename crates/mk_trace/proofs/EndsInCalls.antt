@@ -65,10 +65,7 @@ own_all : (c : Config) (w : World) (e : Event) (es : List Event) → e.seat ≡ 
     → are_of is_beside_turns (own_from c (Caller 0) w (e ∷ es))
     ≡ is_beside_turns e.step && are_of is_beside_turns (own_from c (Caller 0) (world_behind c w e) es)
 unfolding own_from
-own_all c w e es seat =
-    ap (λ (b : Bool). are_of is_beside_turns (if b
-    then record { event = e; found = found c w.now e } ∷ own_from c (Caller 0) (world_behind c w e) es
-    else own_from c (Caller 0) (world_behind c w e) es)) (ap (is_same_seat (Caller 0)) seat ∙ same_self (Caller 0))
+own_all c w e es seat = cc (seat, same_self (Caller 0))
 
 beside_lacks : (c : Config) (w : World) (away : List Seat) (es : List Event) → OneSeat c away
     → AreMine c away es → are_of is_beside_turns (own_from c (Caller 0) w es) ≡ true → has_step changes es ≡ false
@@ -131,8 +128,7 @@ module _ {on : Bool} {h : HostState} {o : Op} {told : Answer} {q : PassState} {f
           let xs : List Event = before j x turn ++ d.before in
           let ys : List Event = d.behind ++ last j x turn in
           let is : more ≡ (xs ++ d.event ∷ []) ++ ys =
-          in_parts j x turn ∙ ap (λ (l : List Event). before j x turn ++ (l ++ last j x turn)) d.is
-          ∙ freed_list (before j x turn) d.before d.behind (last j x turn) d.event in
+          cc (in_parts j x turn, d.is, freed_list (before j x turn) d.before d.behind (last j x turn) d.event) in
           let there : left c (within_turn turn.ends.turn d.before) ≡ left_from c w xs =
           ap (left c) (within_is turn d.before) ∙ left_in_parts c es xs in
           let freed : decides_freed c (left_from c w xs).now (flight_of (left_from c w xs).now d.event.seat)
@@ -170,10 +166,8 @@ module _ {on : Bool} {h : HostState} {o : Op} {told : Answer} {q : PassState} {f
   beside_leaves out =
       let b = j.answers.beside out in
       let is = only j b.more b.is in
-      subst (LeavesAllocations c es) (sym j.own.is)
-      (leaves_then c es more (enabled j)
-      (ap (has_step changes) is ∙ beside_lacks c (left c es) (elsewhere j) b.more (the_rest j)
-      (subst (AreMine c (elsewhere j)) is (mine j)) b.steps))
+      subst (LeavesAllocations c es) (sym j.own.is) (leaves_then c es more (enabled j) (ap (has_step changes) is ∙
+      beside_lacks c _ (elsewhere j) b.more (the_rest j) (subst (AreMine c (elsewhere j)) is (mine j)) b.steps))
 
   told_by : (x : Op) (said : Answer) → on ≡ false → (is_under_turn x ≡ true → InTurn j (unflagged x))
       → (is_under_turn x ≡ false → LeavesAllocations c es fs)

@@ -78,10 +78,7 @@ module _ (c : Config) (w : World) (xs : List Event) (b : Event) (ys : List Event
       record {
         finds = rest.finds;
         phase = ap (λ (x : World). phase_of x.now.words) left_is ∙ rest.phase;
-        found =
-            found-append c w xs (b ∷ ys)
-            ∙ ap (λ (l : List (List PlacedAllocation)). l ++ found_by_ends_from c first (b ∷ ys)) resting.found
-            ∙ found-none c first b ys none ∙ rest.found;
+        found = cc (found-append c w xs (b ∷ ys), resting.found, found-none c first b ys none, rest.found);
         count = ends-append xs (b ∷ ys) ∙ ap (λ (n : ℕ). n + ends (b ∷ ys)) resting.count
             ∙ (omega (arith, no_end-cons b ys none, rest.count));
         earlier = omega (arith, resting.released.count, grows_by c first b, rest.earlier);
@@ -123,10 +120,7 @@ module _ (c : Config) (es more : List Event) where
 
   pub none_then : Rests c (left c es) more → EndsNone c es (es ++ more)
   none_then h = record {
-    found =
-        found-append c (first_world c) es more
-        ∙ ap (λ (l : List (List PlacedAllocation)). found_by_ends_from c (first_world c) es ++ l) h.found
-        ∙ append-nil (found_by_ends_from c (first_world c) es);
+    found = cc (found-append c (first_world c) es more, h.found, append-nil (found_by_ends_from c (first_world c) es));
     count = ends-append es more ∙ (omega (arith, h.count));
     released = subst (λ (x : World). ReleasesNone (left c es).allocations x.allocations) (sym left_then) h.released;
   }
@@ -134,9 +128,7 @@ module _ (c : Config) (es more : List Event) where
   pub one_then : EndsOnce c (left c es) more → EndsOne c es (es ++ more)
   one_then h = record {
     finds = h.finds;
-    found =
-        found-append c (first_world c) es more
-        ∙ ap (λ (l : List (List PlacedAllocation)). found_by_ends_from c (first_world c) es ++ l) h.found;
+    found = cc (found-append c (first_world c) es more, h.found);
     count = ends-append es more ∙ (omega (arith, h.count));
     earlier = h.earlier;
     freed = subst (λ (x : World). FreesNone h.finds x.allocations) (sym left_then) h.freed;
@@ -167,13 +159,10 @@ module _ (c : Config) (es more : List Event) where
             let next = first_at is_begin more has in
             let b = next.at in
             let h : EndsOnce c (left c es) more =
-            subst (EndsOnce c (left c es)) (sym b.is)
-            (one_cycle c (left c es) b.before b.event b.behind
-            (subst (AreEnabledFrom c (left c es)) b.is on) idle b.of_kind next.none_before
-            (one b).0 (sym (ap (has_step is_over) b.is) ∙ overs)
-            (frees_behind c (left_from c (left c es) b.before) b.event b.behind
-            (frees_second c (left c es) b.before (b.event ∷ b.behind) (subst (FreesNoneFrom c (left c es)) b.is frees)))
-            (has_at is_end b.behind (one b).1)) in
+            subst (EndsOnce c (left c es)) (sym b.is) (one_cycle c _ _ _ _ (subst (AreEnabledFrom c (left c es)) b.is
+            on) idle b.of_kind next.none_before (one b).0 (sym (ap (has_step is_over) b.is) ∙ overs) (frees_behind c _ _
+            _ (frees_second c _ _ (b.event ∷ b.behind) (subst (FreesNoneFrom c (left c es)) b.is frees))) (has_at is_end
+            _ (one b).1)) in
             (idle_then h.phase, inr (one_then h))
 
 -- A list in two parts, with no cycle in the first, and no Free in the second.
@@ -264,9 +253,7 @@ leaves_then c es more on none =
     record {
       phase = ap (λ (x : World). phase_of x.now.words) there ∙ h.phase;
       found =
-          found-append c (first_world c) es more
-          ∙ ap (λ (l : List (List PlacedAllocation)). found_by_ends_from c (first_world c) es ++ l) h.found
-          ∙ append-nil (found_by_ends_from c (first_world c) es);
+          cc (found-append c (first_world c) es more, h.found, append-nil (found_by_ends_from c (first_world c) es));
       count = ends-append es more ∙ (omega (arith, h.count));
       allocations = ap (λ (x : World). x.allocations) there ∙ h.allocations;
     }

@@ -30,9 +30,8 @@ lacks_no_cycle : (s : Seat) (es : List Event) → has_step is_of_cycle es ≡ fa
 lacks_no_cycle s [] h = refl
 lacks_no_cycle s (e ∷ es) h =
     let parts = or_parts (is_of_cycle e.step) (has_step is_of_cycle es) h in
-    or_from (of_cycle s e) (list_any (of_cycle s) es)
-    (ap (λ (b : Bool). is_same_seat s e.seat && b) parts.0 ∙ and-false (is_same_seat s e.seat))
-    (lacks_no_cycle s es parts.1)
+    or_from (of_cycle s e) (list_any (of_cycle s) es) (ap (λ (b : Bool). is_same_seat s e.seat && b) parts.0 ∙ and-false
+    _) (lacks_no_cycle s es parts.1)
 
 others_no_cycle : (s : Seat) (seats : List Seat) (es : List Event) → Has seats s → AreOfOthers seats es
     → MakesNoCycle s es
@@ -117,9 +116,7 @@ module _ {on : Bool} {h : HostState} {o : Op} {told : Answer} {q : PassState} {f
         subst (MakesNoCycle Host) (sym j.own.is)
         (no_cycle_append Host es j.own.more before.host
         (others_no_cycle Host (elsewhere j) j.own.more has_host j.own.of_others));
-    caller_unswept =
-        others_on config (Caller 0) q.seats q.seen fs has_caller j.came
-        (seat_on (pass_for h (Caller 0)) q sweeps before.caller_unswept);
+    caller_unswept = others_on config _ _ _ fs has_caller j.came (seat_on _ q sweeps before.caller_unswept);
     host_unswept = others_on config Host (elsewhere j) es fs has_host j.own before.host_unswept;
   }
 

@@ -209,8 +209,7 @@ kept_at : (n : NeverState) (i : ℕ) (b : Bool) → b ≡ (allocation_at n i).fr
     → ((if b then None else Some i) ≡ Some i → ⊥) → (allocation_at (with_freed n i) i).freed ≡ (allocation_at n i).freed
 kept_at n i false is out = absurd (out refl)
 kept_at n i true is out = elim (cases_lt i (length n.allocations)) [
-  | inl lt ↦ ap (λ (a : Allocation). a.freed)
-      (get_or-set_same n.allocations i (record (allocation_at n i) { freed = true }) no_allocation lt) ∙ is
+  | inl lt ↦ cc (get_or-set_same n.allocations i (record (allocation_at n i) { freed = true }) no_allocation lt, is)
   | inr le ↦ ap (λ (l : List Allocation). (slice_index_or l i no_allocation).freed)
       (set_past n.allocations i (record (allocation_at n i) { freed = true }) le)
 ]

@@ -72,8 +72,7 @@ module _ (c : Config) (es : List Event) (history : IsHistory c es) where
   pub none_freed_there : (cell : Cell) → c.pages ≤ cell.page → is_freed w cell ≡ false
   none_freed_there cell past =
       let lengths = (known_world c es history.within_limits history.enabled).lengths in
-      no_bit (slice_index w.freed cell.page) cell.index
-      (get_or_past w.freed cell.page 0 (omega (arith, past, lengths.freed)))
+      no_bit _ cell.index (get_or_past _ cell.page 0 (omega (arith, past, lengths.freed)))
 
   -- The object of a slot
 
@@ -115,9 +114,7 @@ module _ (c : Config) (es : List Event) (history : IsHistory c es) where
           → object ≡ freed_object_of c xs it.number
       same_object object at words large young =
           let storage : object.storage ≡ storage_words c a = words ∙ it.words in
-          let reserved : object.reserved ≡ large_words c a =
-          large ∙ ap (λ (n : ℕ). if not (nat_le n 32) then n else 0) storage
-          ∙ ap (λ (b : Bool). if b then storage_words c a else 0) (sym it.large) in
+          let reserved : object.reserved ≡ large_words c a = cc (large, storage, it.large) in
           ap (λ (x : Cell). record object { cell = x }) (at ∙ it.is_cell)
           ∙ ap (λ (n : ℕ). record object { cell = cell_of_allocation c a; storage = n }) storage
           ∙ ap (λ (n : ℕ). record object {
@@ -130,6 +127,4 @@ module _ (c : Config) (es : List Event) (history : IsHistory c es) where
           → object.storage ≡ cell_words w cell
           → object.reserved ≡ (if not (nat_le object.storage 32) then object.storage else 0) → object.age ≡ 0
           → Some object ≡ found
-      unfreed_object object is at words large young =
-          ap Some (same_object object at words large young)
-          ∙ ap (option_map (freed_object_of c xs)) (sym (by_bit false is))
+      unfreed_object object is at words large young = cc (same_object object at words large young, by_bit false is)

@@ -21,9 +21,7 @@ use Rattle.mk_laws.specs.SettledPages.{StandsUsed}
 -- The cell follows from the place and the type.
 pub cell_by : (c : Config) (a b : PlacedAllocation) → a.base ≡ b.base → a.ty ≡ b.ty
     → cell_of_allocation c a ≡ cell_of_allocation c b
-cell_by c a b base ty =
-    ap (λ (n : ℕ). cell_of_allocation c (record a { base = n })) base
-    ∙ ap (λ (n : ℕ). cell_of_allocation c (record b { ty = n })) ty
+cell_by c a b base ty = cc
 
 module _ (c : Config) (es : List Event) (history : IsHistory c es) (out : phase_of (left c es).now.words ≢ 4) where
   abbrev placed : List PlacedAllocation
@@ -82,8 +80,7 @@ module _ (c : Config) (es fs : List Event) (before : IsHistory c es) (behind : I
       → is_freed (left c fs).now.words (cell_of_allocation c (placed_at (left c es).allocations i))
       ≡ not (placed_at (left c fs).allocations i).released
   bit_tells_released i unreleased freed = elim (cases_Bool (placed_at (left c fs).allocations i).released) [
-    | inr still ↦ ap (is_freed (left c fs).now.words) (sym (same_cell i (old i freed)))
-        ∙ bit_tells_freed c fs behind out i still ∙ freed ∙ ap (λ (b : Bool). not b) (sym still)
+    | inr still ↦ cc (same_cell i (old i freed), bit_tells_freed c fs behind out i still, freed, still)
     | inl gone ↦
         false_from_ne_true _ (λ is.
         (let x = owner c fs behind out (cell_of_allocation c (placed_at (left c es).allocations i)) is in
@@ -136,9 +133,7 @@ module _ (c : Config) (es : List Event) (history : IsHistory c es) (slot : ℕ) 
     type_is = sound_pointer.1 ∙ sym (mirrors.twins.ty number (exists_placed xs number unreleased))
 
     as_many : length (kinds_of n.types ty) ≡ length (kinds_of c.types a.ty)
-    as_many =
-        ap (λ (l : List (List Kind)). length (kinds_of l ty)) mirrors.types
-        ∙ ap (λ (t : ℕ). length (kinds_of c.types t)) type_is
+    as_many = cc (mirrors.types, type_is)
 
     within : IsPlaceIn (kinds_of n.types ty) offset → offset < storage_words c a
     within (inl first) =
@@ -154,14 +149,11 @@ module _ (c : Config) (es : List Event) (history : IsHistory c es) (slot : ℕ) 
     is_word = let lt = within sound_pointer.2 in (omega arith, omega arith)
 
     image_is : slice_index w.globals slot ≡ address_of (a.base + offset)
-    image_is =
-        shows_image ∙ ap (image_of (bases_of xs)) points ∙ ap (λ (base : ℕ). address_of (base + offset))
-        (get_or-map-default (λ (x : PlacedAllocation). x.base) xs number never_granted)
+    image_is = cc (shows_image, points, get_or-map-default (λ (x : PlacedAllocation). x.base) xs number never_granted)
 
     pub points_into : pointed_cell c.pages w.pages (slice_index w.globals slot) ≡ Some (cell_of_allocation c a)
     points_into =
-        ap (pointed_cell c.pages w.pages) image_is
-        ∙ word_points c w a history.within_limits stands.stands stands.headers (a.base + offset) is_word
+        cc (image_is, word_points c w a history.within_limits stands.stands stands.headers (a.base + offset) is_word)
 
     pub words_shown : cell_words w (cell_of_allocation c a) ≡ storage_words c a
     words_shown = (cells_begin c w a history.within_limits stands.stands stands.headers).1

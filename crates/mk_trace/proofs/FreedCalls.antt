@@ -120,9 +120,7 @@ module _ {on : Bool} {h : HostState} {o : Op} {told : Answer} {q : PassState} {f
         behind = d.behind ++ give;
         is = in_parts j (Op.Free r) turn ∙ ap (λ (l : List Event). prior ++ (l ++ give)) d.is ∙ simp append_assoc;
         none_before = lacks_append is_release prior d.before none_prior (releases_none d.before first.no_cycle);
-        decides =
-            subst (λ (w : World). decides_freed config w.now (flight_of w.now d.event.seat) d.event.step ≡ true)
-            (ap (left config) (within_is turn d.before)) d.due.decides;
+        decides = cc (within_is turn d.before, d.due.decides);
       }
 
   -- A cycle begins in the turn, after what frees, or nothing is released.
@@ -145,26 +143,21 @@ greatest_alike : (c : Config) (f g : List PlacedAllocation → ℕ) → ((xs : L
     → (w : World) (es : List Event) → greatest_from c w f es ≡ greatest_from c w g es
 unfolding greatest_from
 greatest_alike c f g same w [] = same w.allocations
-greatest_alike c f g same w (e ∷ es) =
-    ap (λ (n : ℕ). max n (greatest_from c (world_behind c w e) f es)) (same w.allocations)
-    ∙ ap (max (g w.allocations)) (greatest_alike c f g same (world_behind c w e) es)
+greatest_alike c f g same w (e ∷ es) = cc (same w.allocations, greatest_alike c f g same (world_behind c w e) es)
 
 in_other_words : (c : Config) (measure : List PlacedAllocation → ℕ) (weight : ℕ → ℕ)
     → ((xs : List PlacedAllocation) → measure xs ≡ weighed weight xs) → (es : List Event) (o : Op) (fs : List Event)
     → MostWhereFreed weight c es o fs → IsMostWhereFreed c measure (λ (a : PlacedAllocation). weight a.ty) es o fs
 in_other_words c measure weight same es o fs most =
-    greatest_alike c measure (weighed weight) same (first_world c) fs ∙ most
-    ∙ ap (λ (n : ℕ). max n (weighed weight (left c es).allocations
-    + freed_words c (λ (a : PlacedAllocation). weight a.ty) es o))
-    (sym (greatest_alike c measure (weighed weight) same (first_world c) es))
-    ∙ ap (λ (n : ℕ). max (greatest c measure es) (n + freed_words c (λ (a : PlacedAllocation). weight a.ty) es o))
-    (sym (same (left c es).allocations))
+    greatest_alike c measure (weighed weight) same _ fs ∙ most ∙ ap (λ (n : ℕ). max n (weighed weight (left c
+    es).allocations + freed_words c (λ (a : PlacedAllocation). weight a.ty) es o)) (sym (greatest_alike c measure
+    (weighed weight) same (first_world c) es)) ∙ ap (λ (n : ℕ). max (greatest c measure es) (n + freed_words c (λ (a :
+    PlacedAllocation). weight a.ty) es o)) (sym (same (left c es).allocations))
 
 quarantines_most : (c : Config) (es : List Event) (o : Op) (fs : List Event)
     → ((weight : ℕ → ℕ) → MostWhereFreed weight c es o fs) → QuarantinesMostWhereFreed c es o fs
 quarantines_most c es o fs most = record {
-  quarantined = in_other_words c (quarantined_words c) (storage_weight c) (quarantined_is c) es o fs
-      (most (storage_weight c));
+  quarantined = in_other_words c _ (storage_weight c) (quarantined_is c) es o fs (most (storage_weight c));
   reserved = in_other_words c (reserved_words c) (large_weight c) (reserved_is c) es o fs (most (large_weight c));
 }
 

@@ -34,9 +34,7 @@ freed_part n freed released = grind arith
 
 module _ (weight : ℕ → ℕ) where
   release_falls : (c : Config) (w : Words) (a : PlacedAllocation) → part weight (with_released c w a) ≤ part weight a
-  release_falls c w a =
-      released_part (weight a.ty) a.freed a.released
-      (is_some_and (is_left_unmarked w) (pointed_cell c.pages w.pages (address_of a.base)))
+  release_falls c w a = released_part (weight a.ty) _ a.released _
 
   by_test : (a : PlacedAllocation) (b : Bool)
       → part weight a ≤ part weight (if b then record a { freed = true; fresh = true } else a)
@@ -160,11 +158,10 @@ module _ (weight : ℕ → ℕ) (c : Config) (es more : List Event) (r : ℕ) (a
   adds : has_step is_release more ≡ false → weighed weight (left c (es ++ more)).allocations
       ≡ weighed weight (left c es).allocations + freed_weight weight c es (Op.Free r)
   adds none =
-      freed_adds c es (es ++ more) (earlier_part_is_history c es more whole) whole value reached never
-      (subst (λ (w : World). AreLater (left c es).allocations w.allocations) (sym (left_in_parts c es more))
-      (later_left c (left c es) more))
+      freed_adds c es (es ++ more) (earlier_part_is_history c es more whole) whole value reached never (subst (λ (w :
+      World). AreLater (left c es).allocations w.allocations) (sym (left_in_parts c es more)) (later_left c _ more))
       (subst (λ (w : World). SameReleased (left c es).allocations w.allocations) (sym (left_in_parts c es more))
-      (same_released c (left c es) more none)) weight
+      (same_released c _ more none)) weight
 
   pub most_of_free : has_step is_release more ≡ false → MostWhereFreed weight c es (Op.Free r) (es ++ more)
   most_of_free none =
@@ -199,9 +196,7 @@ module _ (weight : ℕ → ℕ) (c : Config) (es more : List Event) (r : ℕ) (a
   at_is = left_in_parts c es f.before
 
   decides : list_any is_free_call (call_decided c at.now f.event) ≡ true
-  decides =
-      subst (λ (w : World). list_any is_free_call (call_decided c w.now f.event) ≡ true) at_is
-      (frees_decide c (left c (es ++ f.before)).now f.event.seat f.event.step f.decides)
+  decides = cc (at_is, frees_decide c (left c (es ++ f.before)).now f.event.seat f.event.step f.decides)
 
   split : calls_from c (left c es) f.before
       ++ (call_decided c at.now f.event ++ calls_from c (world_behind c at f.event) f.behind)
@@ -212,9 +207,7 @@ module _ (weight : ℕ → ℕ) (c : Config) (es more : List Event) (r : ℕ) (a
 
   three : (calls_from c (left c es) f.before ≡ []) × (call_decided c at.now f.event ≡ entry_of 0 (Op.Free r) (Some a))
       × (calls_from c (world_behind c at f.event) f.behind ≡ [])
-  three =
-      one_of_three (calls_from c (left c es) f.before) (call_decided c at.now f.event)
-      (calls_from c (world_behind c at f.event) f.behind) _ split decides
+  three = one_of_three _ _ _ _ split decides
 
   first_decides : calls_from c (left c es) first ≡ entry_of 0 (Op.Free r) (Some a)
   unfolding calls_from
@@ -235,9 +228,7 @@ module _ (weight : ℕ → ℕ) (c : Config) (es more : List Event) (r : ℕ) (a
 
   mid_is : left c (es ++ first) ≡ world_behind c at f.event
   unfolding left_from
-  mid_is =
-      ap (left c) (sym (append_assoc es f.before (f.event ∷ []))) ∙ left_in_parts c (es ++ f.before) (f.event ∷ [])
-      ∙ ap (λ (w : World). world_behind c w f.event) at_is
+  mid_is = cc (append_assoc es f.before (f.event ∷ []), left_in_parts c (es ++ f.before) (f.event ∷ []), at_is)
 
   falls : greatest_from c (left c (es ++ first)) (weighed weight) f.behind
       ≡ weighed weight (left c (es ++ first)).allocations

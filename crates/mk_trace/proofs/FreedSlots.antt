@@ -23,11 +23,7 @@ module _ (n : NeverState) (count : length n.registers ≡ 8) (slot : ℕ) where
   loaded : (b : Op) (p : ℕ) → b ≡ Op.GetGlobal 0 slot → p ≡ 0
       → register_at (after_calls n (calls_of_caller (b ∷ []))) 0 p
       ≡ global_at (after_calls n (calls_of_caller (b ∷ []))) slot
-  loaded b p is at =
-      subst (λ (x : Op). register_at (after_calls n (calls_of_caller (x ∷ []))) 0 p
-      ≡ global_at (after_calls n (calls_of_caller (x ∷ []))) slot) (sym is)
-      (ap (register_at (after_calls n (calls_of_caller (Op.GetGlobal 0 slot ∷ []))) 0) at
-      ∙ get_or-set_same n.registers (8 * 0 + 0) (global_at n slot) Null (omega (arith, count)))
+  loaded b p is at = cc (is, at, get_or-set_same n.registers (8 * 0 + 0) (global_at n slot) Null (omega (arith, count)))
 
   by_place : (before : List Op) (o : Op) (rest : List Op) (p : ℕ)
       → Op.GetGlobal 0 slot ∷ Op.Free 0 ∷ Op.Clear 0 ∷ [] ≡ before ++ o ∷ rest → o ≡ Op.Free p
@@ -82,7 +78,6 @@ frees_now {event} {items} {i} h o within here frees =
     ap (λ (k : ℕ). get_or ops k o) (omega arith) ∙ sym (get_or-drop 1 ops i o)
     ∙ sym (ap (λ (l : List Op). get_or l i o) h.items_are) ∙ sym here in
     let split : ops ≡ take (i + 1) ops ++ o ∷ drop (i + 1 + 1) ops =
-    sym (take-append-drop (i + 1) ops) ∙ ap (λ (l : List Op). take (i + 1) ops ++ l)
-    (drop_more ops (i + 1) o inside ∙ ap (λ (x : Op). x ∷ drop (i + 1 + 1) ops) at) in
+    cc (take-append-drop (i + 1) ops, drop_more ops (i + 1) o inside, at) in
     subst (λ (n : NeverState). FreesSlot n (slot_of event) o) (sym (never_behind_all h.calls))
     (frees h.full (take (i + 1) ops) o (drop (i + 1 + 1) ops) split)

@@ -117,14 +117,10 @@ module _ (c : Config) (es fs : List Event) (history : IsHistory c es) (whole : I
   n = never_behind c es
 
   count : length xs ≡ length ys
-  count =
-      (twins history).count ∙ sym (as_many_behind n v)
-      ∙ ap (λ (m : NeverState). length m.allocations) (sym never) ∙ sym (twins whole).count
+  count = cc ((twins history).count, as_many_behind n v, never, (twins whole).count)
 
   freed_kept : (i : ℕ) → (unfreed n v ≡ Some i → ⊥) → (placed_at xs i).freed ≡ (placed_at ys i).freed
-  freed_kept i out =
-      is_freed_there history i ∙ sym (others_kept n v i out)
-      ∙ ap (λ (m : NeverState). (allocation_at m i).freed) (sym never) ∙ sym (is_freed_there whole i)
+  freed_kept i out = cc (is_freed_there history i, others_kept n v i out, never, is_freed_there whole i)
 
   past_both : (i : ℕ) → length xs ≤ i → placed_at xs i ≡ placed_at ys i
   past_both i le = get_or_past xs i never_granted le ∙ sym (get_or_past ys i never_granted (omega (arith, le, count)))
@@ -141,9 +137,7 @@ module _ (c : Config) (es fs : List Event) (history : IsHistory c es) (whole : I
     unreleased number is = reach_is_kept c es history number (reached number is)
 
     none_before : (number : ℕ) → unfreed n v ≡ Some number → part weight (placed_at xs number) ≡ 0
-    none_before number is =
-        ap (λ (x : Bool). if x && not (placed_at xs number).released then weight (placed_at xs number).ty else 0)
-        (is_freed_there history number ∙ was_unfreed n v number is)
+    none_before number is = cc (is_freed_there history number, was_unfreed n v number is)
 
     all_behind : (number : ℕ) → unfreed n v ≡ Some number
         → part weight (placed_at ys number) ≡ weight (placed_at xs number).ty
@@ -152,9 +146,7 @@ module _ (c : Config) (es fs : List Event) (history : IsHistory c es) (whole : I
         let freed : (placed_at ys number).freed ≡ true =
         is_freed_there whole number ∙ ap (λ (m : NeverState). (allocation_at m number).freed) never
         ∙ is_freed_behind n v number is (omega (arith, lt, (twins history).count)) in
-        ap (λ (x : Bool). if x && not (placed_at ys number).released then weight (placed_at ys number).ty else 0) freed
-        ∙ ap (λ (x : Bool). if true && not x then weight (placed_at ys number).ty else 0)
-        (same number lt ∙ unreleased number is) ∙ ap weight (later.ty number lt)
+        cc (freed, same number lt, unreleased number is, later.ty number lt)
 
     by_number : (x : Option ℕ) → unfreed n v ≡ x
         → weighed weight ys ≡ weighed weight xs + words_of_some (λ (a : PlacedAllocation). weight a.ty) xs x
@@ -199,9 +191,7 @@ free_falls : (c : Config) (w : Words) (cell : Option Cell) (a : PlacedAllocation
 free_falls c w cell a = free_by_test c a (is_some_and (λ (x : Cell). stands_in w x a) cell)
 
 release_falls : (c : Config) (w : Words) (a : PlacedAllocation) → held_part c (with_released c w a) ≤ held_part c a
-release_falls c w a =
-    released_part (storage_words c a) a.released (not (a.freed && is_large (kinds_of c.types a.ty)))
-    (is_some_and (is_left_unmarked w) (pointed_cell c.pages w.pages (address_of a.base)))
+release_falls c w a = released_part _ a.released (not (a.freed && is_large (kinds_of c.types a.ty))) _
 
 more_rises : (c : Config) (xs : List PlacedAllocation) (a : PlacedAllocation)
     → held_by_allocations c xs ≤ held_by_allocations c (xs ++ a ∷ [])

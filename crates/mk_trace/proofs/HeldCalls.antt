@@ -111,10 +111,8 @@ module _ {on : Bool} {h : HostState} {o : Op} {told : Answer} {q : PassState} {f
 
   pub held_at_end : Calls c es o told fs → HoldsMostAtEnd c es fs
   held_at_end made =
-      subst (HoldsMostAtEnd c es) (sym j.own.is)
-      (most_then c (held_by_allocations c) (held_falls_at c) (held_rises_at c) es j.own.more
-      (last_by o j.answers.in_turn
-      (others_grant_none c (left c es) j.own.more o made.answer (enabled j) (decided j made))))
+      subst (HoldsMostAtEnd c es) (sym j.own.is) (most_then c _ (held_falls_at c) (held_rises_at c) es j.own.more
+      (last_by o j.answers.in_turn (others_grant_none c _ j.own.more o made.answer (enabled j) (decided j made))))
 
 -- Of a heap that nobody has used there are no events.
 nothing_seen : {c : Config} {es : List Event} → Grows (without_seat (Caller 0) (all_seats c)) [] es
@@ -122,8 +120,7 @@ nothing_seen : {c : Config} {es : List Event} → Grows (without_seat (Caller 0)
 nothing_seen {c} {es} own came history =
     let elsewhere : List Seat = without_seat (Caller 0) (all_seats c) in
     let mine : AreMine c elsewhere es =
-    are_mine c (first_world c) elsewhere es history.enabled
-    (subst (AreOfOthers elsewhere) (sym own.is) own.of_others) in
+    are_mine c _ elsewhere es history.enabled (subst (AreOfOthers elsewhere) (sym own.is) own.of_others) in
     none_of_others c elsewhere (Caller 0 ∷ []) es (all_again c (Caller 0) (all_seats c) (has_all c)) mine
     (subst (AreOfOthers (Caller 0 ∷ [])) (sym came.is) came.of_others)
 

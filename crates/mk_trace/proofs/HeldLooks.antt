@@ -23,9 +23,8 @@ exact_taken {q} t own history =
     let es : List Event = w.seen ++ m.others in
     let free : (left c es).now.words.turn ≡ 0 = sym t.takes.finds in
     let told = tallies_tell c es x.history free in
-    subst (λ (r : PassState). TalliesAreExact r.table.config r.seen) (sym m.is)
-    (exact_more c es (event_of w (Step.Take None))
-    (others_count_nothing c (left c es) (event_of w (Step.Take None)) x.known x.meets free) told.0)
+    subst (λ (r : PassState). TalliesAreExact r.table.config r.seen) (sym m.is) (exact_more c es _ (others_count_nothing
+    c _ _ x.known x.meets free) told.0)
 
 -- a kind that isn't what the host does
 pub record IsApart (kind : Step → Bool) : Type 0 where
@@ -117,11 +116,9 @@ module _ {p q : PassState} {x : Word} {n : ℕ} (l : Looked p x n q) where
   pub behind_lacks : (kind : Step → Bool) → IsApart kind → has_step kind behind ≡ false
   behind_lacks kind apart =
       let parts = mine_parts c [] looking giving mine.1 in
-      lacks_append kind looking giving
-      (others_none h.looks.makes.others (event_of taken (Step.Look x)) kind parts.0
-      (of_pass taken h.looks.makes.others taken_same h.looks.makes.of_others) (apart.look x))
-      (others_none h.gives.others (event_of h.looked Step.Give) kind parts.1
-      (of_pass h.looked h.gives.others looked_same h.gives.of_others) apart.give)
+      lacks_append kind looking giving (others_none h.looks.makes.others (event_of taken (Step.Look x)) kind parts.0
+      (of_pass taken h.looks.makes.others taken_same h.looks.makes.of_others) (apart.look x)) (others_none
+      h.gives.others _ kind parts.1 (of_pass h.looked h.gives.others looked_same h.gives.of_others) apart.give)
 
   pub first_lacks : (kind : Step → Bool) → IsApart kind → has_step kind first ≡ false
   first_lacks kind apart =

@@ -21,8 +21,7 @@ maps_agree f g [] agree = refl
 maps_agree {X} f g (x ∷ numbers) agree =
     let first : 1 ≤ one_if (x == x) + times x numbers =
     subst (λ (b : Bool). 1 ≤ one_if b + times x numbers) (sym (equal_is x)) (omega arith) in
-    ap (λ (y : X). y ∷ map f numbers) (agree x first) ∙ ap (λ (l : List X). g x ∷ l)
-    (maps_agree f g numbers (λ i some. agree i (omega (arith, some))))
+    cc (agree x first, maps_agree f g numbers (λ i some. agree i (omega (arith, some))))
 
 filter_head : (f : ℕ → FreedObject) (x : ℕ) (xs : List FreedObject) (numbers : List ℕ) (b : Bool)
     → xs ≡ map f numbers → (if b then f x ∷ xs else xs) ≡ map f (if b then x ∷ numbers else numbers)
@@ -112,9 +111,7 @@ module _ (c : Config) (es fs : List Event) (x : Option ℕ)
       → AreObjectsOf c found xs was_kept (objects ++ freed_object_of c xs k ∷ [])
   one_noted found objects k is ends kept = record {
     numbers = kept.numbers ++ k ∷ [];
-    are = ap (λ (l : List FreedObject). l ++ freed_object_of c xs k ∷ []) kept.are
-        ∙ ap (λ (n : ℕ). map (aged_object c found xs) kept.numbers ++ record (freed_object_of c xs k) { age = n } ∷ [])
-        (sym young) ∙ sym (map-append (aged_object c found xs) kept.numbers (k ∷ []));
+    are = cc (kept.are, young, map-append (aged_object c found xs) kept.numbers (k ∷ []));
     those = those;
   }
     where
@@ -133,9 +130,7 @@ module _ (c : Config) (es fs : List Event) (x : Option ℕ)
 
       those : AreThose was_kept (kept.numbers ++ k ∷ [])
       those i = elim (cases_eq k i) [
-        | inl same ↦ subst (λ (j : ℕ). times j (kept.numbers ++ k ∷ []) ≡ one_if (was_kept j)) same
-            (times_more k kept.numbers k ∙ ap (λ (n : ℕ). n + one_if (k == k)) at_k
-            ∙ ap (λ (b : Bool). 0 + one_if b) (equal_is k) ∙ ap one_if (sym was))
+        | inl same ↦ cc (same, times_more k kept.numbers k, at_k, equal_is k, was)
         | inr ne ↦ times_more i kept.numbers k ∙ ap (λ (b : Bool). times i kept.numbers + one_if b) (unequal_is k i ne)
             ∙ (let rest : times i kept.numbers ≡ one_if (was_kept i) =
             kept.those i ∙ ap (λ (b : Bool). one_if (b && not (placed_at xs i).released))

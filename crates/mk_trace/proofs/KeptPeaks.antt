@@ -137,9 +137,8 @@ module _ (c : Config) (es fs : List Event) (o : Op) (before : IsHistory c es) (b
 
   with_freed : AreObjectsOf c found xs (was_kept c es fs x_number flags) (objects_kept first ++ one_or_none x)
   with_freed =
-      subst (λ (y : Option FreedObject). AreObjectsOf c found xs (was_kept c es fs x_number flags)
-      (objects_kept first ++ one_or_none y)) (sym is)
-      (noted c es fs x_number flags found (objects_kept first) keeps.found keeps.objects)
+      subst (λ (y : Option FreedObject). AreObjectsOf c found xs (was_kept c es fs x_number flags) (objects_kept first
+      ++ one_or_none y)) (sym is) (noted c es fs x_number flags found _ keeps.found keeps.objects)
 
   noted_objects : AreObjectsOf c found xs (was_kept c es fs x_number flags) (objects_kept second)
   noted_objects = subst (AreObjectsOf c found xs (was_kept c es fs x_number flags)) (sym notes.objects) with_freed
@@ -147,9 +146,7 @@ module _ (c : Config) (es fs : List Event) (o : Op) (before : IsHistory c es) (b
   -- No cycle ended.
   module _ (none : EndsNone c es fs) where
     none_gone : Kept found (objects_kept first ++ one_or_none x)
-    none_gone =
-        none_released c es fs x_number flags none.released.released found (objects_kept first ++ one_or_none x)
-        with_freed
+    none_gone = none_released c es fs x_number flags none.released.released found _ with_freed
 
     keeps_none : SettlesWhere true w.freed second third → Keeps c fs third
     keeps_none s = record {

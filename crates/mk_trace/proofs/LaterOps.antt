@@ -79,24 +79,20 @@ module _ (event : TraceEvent) (more : List Answer) where
       → refused_events (events ++ event ∷ []) (answers ++ more)
       ≡ refused_events events answers + one_if (list_any is_refusal more)
   refused_more [] [] count size =
-      ap (λ (l : List Answer). if list_any is_refusal l then 0 + 1 else 0)
-      (ap (λ (n : ℕ). take n more) (sym size) ∙ take_all (length more) more (omega arith))
-      ∙ first_refused (list_any is_refusal more)
+      cc (size, take_all (length more) more (omega arith), first_refused (list_any is_refusal more))
   refused_more [] (a ∷ answers) count size = absurd cc
   refused_more (x ∷ events) answers count size =
       let own : List Op = own_ops x events answers count in
       let left : List Answer = rest x events answers count in
       let fits = within x events answers count in
       let later = refused_events (events ++ event ∷ []) in
-      ap (λ (full : Bool). if list_any is_refusal (take (length (ops_of full x)) (answers ++ more))
-      then later (drop (length (ops_of full x)) (answers ++ more)) + 1
-      else later (drop (length (ops_of full x)) (answers ++ more))) (alike x events answers count more)
-      ∙ ap (λ (l : List Answer). if list_any is_refusal l then later (drop (length own) (answers ++ more)) + 1
-      else later (drop (length own) (answers ++ more))) (take-append-le (length own) answers more fits)
-      ∙ counted_more (list_any is_refusal (take (length own) answers)) (refused_events events left)
-      (later (drop (length own) (answers ++ more))) (one_if (list_any is_refusal more))
-      (ap later (drop-append-le (length own) answers more fits)
-      ∙ refused_more events left (rest_count x events answers count) size)
+      ap (λ (full : Bool). if list_any is_refusal (take (length (ops_of full x)) (answers ++ more)) then later (drop
+      (length (ops_of full x)) (answers ++ more)) + 1 else later (drop (length (ops_of full x)) (answers ++ more)))
+      (alike x events answers count more) ∙ ap (λ (l : List Answer). if list_any is_refusal l then later (drop (length
+      own) (answers ++ more)) + 1 else later (drop (length own) (answers ++ more))) (take-append-le (length own) answers
+      more fits) ∙ counted_more (list_any is_refusal (take (length own) answers)) (refused_events events left) (later
+      (drop (length own) (answers ++ more))) _ (ap later (drop-append-le (length own) answers more fits) ∙ refused_more
+      events left (rest_count x events answers count) size)
 
 -- The operations of an event after its first one, called one by one.
 
@@ -216,8 +212,7 @@ pub begun : {c : Config} {es : List Event} (event : TraceEvent) {o : Op} {told :
 begun event {o} {told} is g =
     let same : is_full_answer told ≡ is_full_answer g.answer = ap is_full_answer g.is_told ∙ full_as_told g.answer in
     let first : ops_of (is_full_answer told) event ≡ flagged o g.answer ∷ drop 1 (ops_of (is_full_answer told) event) =
-    subst (λ (full : Bool). ops_of full event ≡ flagged o g.answer ∷ drop 1 (ops_of full event)) (sym same)
-    (first_of o g.answer event is) in
+    cc (same, first_of o g.answer event is) in
     first_all event (flagged o g.answer) first (calls_first g)
 
 -- What the calls of an event come to.

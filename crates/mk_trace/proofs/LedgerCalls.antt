@@ -44,9 +44,7 @@ first_keeps c es f empty quarantined reserved objects ages ends =
 pub most_of : (trace : Contents) (c : Config) (measure : Config → List PlacedAllocation → ℕ) (es fs : List Event)
     (most : ℕ) → fs ≡ es → c ≡ config_of trace → most ≡ in_a_word (greatest c (measure c) es)
     → most ≡ in_a_word (greatest (config_of trace) (measure (config_of trace)) fs)
-most_of trace c measure es fs most same config is =
-    is ∙ ap (λ (d : Config). in_a_word (greatest d (measure d) es)) config
-    ∙ ap (λ (l : List Event). in_a_word (greatest (config_of trace) (measure (config_of trace)) l)) (sym same)
+most_of trace c measure es fs most same config is = cc
 
 pub ages_of : (trace : Contents) (c : Config) (es : List Event) {fs : List Event} {pairs : List (ℕ × ℕ)} → fs ≡ es
     → c ≡ config_of trace → IsHistory (config_of trace) fs
@@ -154,11 +152,7 @@ module _ (c : Config) (es0 es1 es2 es3 es4 : List Event) (o : Op) (first second 
   told = tells (idle_looked before idle)
 
   is_now : x ≡ option_map (freed_object_of c (left c es1).allocations) (number_freed (never_behind c es1) o)
-  is_now =
-      is ∙ ap (λ (xs : List PlacedAllocation). option_map (freed_object_of c xs) (number_freed (never_behind c es0) o))
-      (sym before.table.allocations)
-      ∙ ap (λ (n : NeverState). option_map (freed_object_of c (left c es1).allocations) (number_freed n o))
-      (sym (never_looked before))
+  is_now = cc (is, before.table.allocations, never_looked before)
 
   settles_now : SettlesFreed (left c es2).now.words.freed (in_a_word (ends es2)) second third
   settles_now =

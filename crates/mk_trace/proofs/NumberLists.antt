@@ -90,9 +90,7 @@ module _ (weight : ℕ → ℕ) (xs : List PlacedAllocation) (n : ℕ) (numbers 
   ys = slice_set xs n gone
 
   at_n : (is_quarantined (placed_at xs n) ≡ true) × (times n numbers ≡ 0)
-  at_n =
-      some_one (times n numbers) (is_quarantined (placed_at xs n))
-      (ap (λ (b : Bool). one_if b + times n numbers) (sym (equal_is n)) ∙ those n)
+  at_n = some_one (times n numbers) _ (ap (λ (b : Bool). one_if b + times n numbers) (sym (equal_is n)) ∙ those n)
 
   exists : n < length xs
   exists = exists_placed xs n (not-true (placed_at xs n).released (and_parts _ _ at_n.0).1)
@@ -105,11 +103,8 @@ module _ (weight : ℕ → ℕ) (xs : List PlacedAllocation) (n : ℕ) (numbers 
 
   pub those_left : AreOfQuarantined ys numbers
   those_left i = elim (cases_eq i n) [
-    | inl same ↦ ap (λ (k : ℕ). times k numbers) same ∙ at_n.1 ∙ ap one_if
-        (sym (ap (λ (k : ℕ). is_quarantined (placed_at ys k)) same ∙ ap is_quarantined set_is
-        ∙ and-false (placed_at xs n).freed))
-    | inr ne ↦ sym (none_more (n == i) (times i numbers) (unequal_is n i (λ e. ne (sym e)))) ∙ those i
-        ∙ ap (λ (a : PlacedAllocation). one_if (is_quarantined a)) (sym (other_is i ne))
+    | inl same ↦ cc (same, at_n.1, set_is, and-false (placed_at xs n).freed)
+    | inr ne ↦ cc (none_more (n == i) (times i numbers) (unequal_is n i (λ e. ne (sym e))), those i, other_is i ne)
   ]
 
   pub types_left : (i : ℕ) → (placed_at ys i).ty ≡ (placed_at xs i).ty

@@ -80,9 +80,7 @@ as_many xs ops is =
 
 any_more : (xs : List Answer) (told a : Answer) → told ≡ as_told a
     → list_any is_refusal (xs ++ a ∷ []) ≡ list_any is_refusal xs || is_refusal told
-any_more xs told a is =
-    list_any-append is_refusal xs (a ∷ []) ∙ ap (λ (b : Bool). list_any is_refusal xs || b)
-    (or_none (is_refusal a) ∙ sym (refused_as_told a) ∙ ap is_refusal (sym is))
+any_more xs told a is = cc (list_any-append is_refusal xs (a ∷ []), or_none (is_refusal a), refused_as_told a, is)
 
 -- the first call of all
 pub calls_first : {c : Config} {es : List Event} {o : Op} {told : Answer} {fs : List Event} → (g : Calls c es o told fs)
@@ -109,9 +107,8 @@ module _ (c : Config) (es : List Event) (full : Bool) (ops : List Op) (refused :
       record {
         more = h.more ++ entry;
         begins =
-            ap begins_full (map-append (λ (x : Decided). x.answer) h.more entry)
-            ∙ begins_alike (answered h.more) (answered entry) (omega (arith, some, as_many h.more ops h.asks))
-            ∙ h.begins;
+            ap begins_full (map-append (λ (x : Decided). x.answer) h.more entry) ∙ begins_alike _ (answered entry)
+            (omega (arith, some, as_many h.more ops h.asks)) ∙ h.begins;
         is = g.entry ∙ ap (λ (l : List Decided). l ++ entry) h.is ∙ append_assoc (calls c es) h.more entry;
         asks = map-append (λ (x : Decided). record { caller = x.caller; op = x.op }) h.more entry
             ∙ ap (λ (l : List Call). l ++ record { caller = 0; op = flagged o g.answer } ∷ []) h.asks

@@ -45,9 +45,8 @@ pub has_mine : (c : Config) (elsewhere seats : List Seat) (e : Event) → HasThe
     → is_mine c elsewhere e ≡ true → Has seats e.seat
 has_mine c elsewhere seats e all mine =
     let parts = and_parts (seat_exists c e.seat) (not (is_one_of elsewhere e.seat)) mine in
-    ⊎_elim
-    (λ (there : Has elsewhere e.seat). absurd (true≢false (sym there ∙ not-true (is_one_of elsewhere e.seat) parts.1)))
-    (λ (here : Has seats e.seat). here) (has_either elsewhere seats e.seat (all e.seat parts.0))
+    ⊎_elim (λ (there : Has elsewhere e.seat). absurd (true≢false (sym there ∙ not-true (is_one_of elsewhere e.seat)
+    parts.1))) (λ (here : Has seats e.seat). here) (has_either elsewhere seats _ (all _ parts.0))
 
 -- So there are no others.
 pub none_of_others : (c : Config) (elsewhere seats : List Seat) (es : List Event) → HasTheRest c elsewhere seats
@@ -71,14 +70,11 @@ waiting_lacks kind c elsewhere p [] apart all mine waits = refl
 waiting_lacks kind c elsewhere p (e ∷ es) apart all mine waits =
     let mines = and_parts (is_mine c elsewhere e) (list_all (is_mine c elsewhere) es) mine in
     let parts = and_parts (waits_for p e) (list_all (waits_for p) es) waits in
-    or_from (kind e.step) (has_step kind es)
-    (⊎_elim
-    (λ (out : not (is_one_of p.seats e.seat) ≡ true).
-    absurd (true≢false (sym (has_mine c elsewhere p.seats e all mines.0) ∙ not-true (is_one_of p.seats e.seat) out)))
-    (λ (take : (is_take e.step && is_same_seat e.seat p.seat) ≡ true).
-    take_alone kind apart e.step (and_parts (is_take e.step) (is_same_seat e.seat p.seat) take).0)
-    (or_cases (not (is_one_of p.seats e.seat)) (is_take e.step && is_same_seat e.seat p.seat) parts.0))
-    (waiting_lacks kind c elsewhere p es apart all mines.1 parts.1)
+    or_from (kind _) (has_step kind es) (⊎_elim (λ (out : not (is_one_of p.seats e.seat) ≡ true). absurd (true≢false
+    (sym (has_mine c elsewhere p.seats e all mines.0) ∙ not-true (is_one_of p.seats e.seat) out))) (λ (take : (is_take
+    e.step && is_same_seat e.seat p.seat) ≡ true). take_alone kind apart e.step (and_parts (is_take e.step)
+    (is_same_seat e.seat p.seat) take).0) (or_cases (not _) _ parts.0)) (waiting_lacks kind c elsewhere p es apart all
+    mines.1 parts.1)
 
 pub others_lack : (kind : Step → Bool) (c : Config) (elsewhere seats : List Seat) (es : List Event)
     → HasTheRest c elsewhere seats → AreMine c elsewhere es → AreOfOthers seats es → has_step kind es ≡ false
@@ -137,8 +133,7 @@ module _ {on : Bool} {p : PassState} {o : Op} {a : Answer} {q : PassState} (h : 
       let before : p.seen ++ before_turn ≡ h.ends.turn.before ++ take ∷ [] =
       append_cancel_right (p.seen ++ before_turn) (h.ends.turn.before ++ take ∷ []) h.ends.turn.behind
       (sym done_seen ∙ h.ends.turn.is ∙ sym (append_assoc h.ends.turn.before (take ∷ []) h.ends.turn.behind)) in
-      sym (append_assoc h.ends.turn.before (take ∷ []) part) ∙ ap (λ (l : List Event). l ++ part) (sym before)
-      ∙ append_assoc p.seen before_turn part
+      cc (append_assoc h.ends.turn.before (take ∷ []) part, before, append_assoc p.seen before_turn part)
 
   taking_others : AreOfOthers p.seats h.takes.takes.makes.others
   taking_others =

@@ -105,10 +105,7 @@ short text small = cond-true _ _ _ (le-leb _ _ small)
 read : (first : List ℕ) (rest : List (List ℕ)) (heap : HeapPages) (written : LinesSoFar)
     → header_line_of (words_of_line first) ≡ Ok heap → written_from 2 rest nothing_written ≡ Ok written
     → trace_of_lines (first ∷ rest) ≡ contents_of heap written
-read first rest heap written header lines =
-    ap (λ found. go_on (text_fault_at 1) found
-    (λ heap'. and_then (written_from 2 rest nothing_written) (contents_of heap'))) header
-    ∙ ap (λ found. and_then found (contents_of heap)) lines
+read first rest heap written header lines = cc (header, lines)
 
 -- the first of these lines, and the others
 pub read_whole : (text : List ℕ) (lines : List (Bor (List ℕ))) (d : Bor (List ℕ)) (heap : HeapPages)

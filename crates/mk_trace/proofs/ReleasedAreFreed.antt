@@ -25,9 +25,8 @@ changed_freed : (change : PlacedAllocation → PlacedAllocation) (xs : List Plac
 changed_freed change xs none same keeps h i lt gone =
     let at = changed_at change xs i none in
     let there : i < length xs = omega (arith, lt, length-map xs change) in
-    ap (λ (a : PlacedAllocation). a.freed) at
-    ∙ keeps (placed_at xs i) (h i there (sym (ap (λ (a : PlacedAllocation). a.released) at ∙ same (placed_at xs i))
-    ∙ gone))
+    ap (λ (a : PlacedAllocation). a.freed) at ∙ keeps _ (h i there (sym (ap (λ (a : PlacedAllocation). a.released) at ∙
+    same _) ∙ gone))
 
 freed_by : (b : Bool) (a : PlacedAllocation) → a.freed ≡ true
     → (if b then record a { freed = true; fresh = true } else a).freed ≡ true
@@ -39,8 +38,7 @@ more_freed : (xs : List PlacedAllocation) (a : PlacedAllocation) → a.released 
 more_freed xs a unreleased h i lt gone = elim (cases_lt i (length xs)) [
   | inl before ↦
       let same = earlier_at xs a i before in
-      ap (λ (x : PlacedAllocation). x.freed) same
-      ∙ h i before (sym (ap (λ (x : PlacedAllocation). x.released) same) ∙ gone)
+      cc (same, h i before (sym (ap (λ (x : PlacedAllocation). x.released) same) ∙ gone))
   | inr le ↦
       let last : i ≡ length xs = omega (arith, lt, le, length-append xs (a ∷ [])) in
       let at : placed_at (xs ++ a ∷ []) i ≡ a = ap (placed_at (xs ++ a ∷ [])) last ∙ granted_at xs a in

@@ -88,9 +88,7 @@ pub settles_anew : (freed shown : List ℕ) (count told : ℕ) (old new : Freed)
     → new.ages.items ≡ fold with_one old.ages.items (ages_let_go shown (map aged found))
     → new.ends ≡ count → SettlesFreed freed told old new
 settles_anew freed shown count told old new found kept at is other all still quarantined reserved objects ages ends =
-    let kept_is : kept ≡ still_kept freed (map aged (objects_kept old)) =
-    still ∙ ap (λ (l : List ℕ). still_kept l (map aged found)) at
-    ∙ ap (λ (l : List FreedObject). still_kept freed (map aged l)) all in
+    let kept_is : kept ≡ still_kept freed (map aged (objects_kept old)) = cc (still, at, all) in
     subst (λ (n : ℕ). SettlesFreed freed n old new) is
     (record {
       ends = ends;

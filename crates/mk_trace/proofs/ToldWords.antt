@@ -27,9 +27,7 @@ most_looked c measure es more looks =
 word_found : (r : PassState) (x : Word) (others : List Event) → others ≡ []
     → found r.table.config (left r.table.config (r.seen ++ others)).now (event_of r (Step.Look x))
     ≡ word_behind r.table.config r.seen x
-word_found r x others none =
-    ap (λ (l : List Event). word_behind r.table.config (r.seen ++ l) x) none
-    ∙ ap (λ (l : List Event). word_behind r.table.config l x) (append-nil r.seen)
+word_found r x others none = cc (append-nil r.seen)
 
 module _ {p q : PassState} {x : Word} {n : ℕ} (l : Looked p x n q) where
   abbrev c : Config
@@ -47,8 +45,7 @@ module _ {p q : PassState} {x : Word} {n : ℕ} (l : Looked p x n q) where
   leaves_table : (es more : List Event) → es ≡ p.seen ++ more → has_step is_no_look more ≡ false
       → LeavesTable (left c p.seen) (left c es)
   leaves_table es more is looks =
-      subst (LeavesTable (left c p.seen)) (sym (ap (left c) is ∙ left_in_parts c p.seen more))
-      (looks_leave c (left c p.seen) more looks)
+      subst (LeavesTable (left c p.seen)) (sym (ap (left c) is ∙ left_in_parts c _ more)) (looks_leave c _ more looks)
 
   leaves_taken : LeavesTable (left c p.seen) (left c at)
   leaves_taken = leaves_table at (first l) (taken_seen l) (first_lacks l is_no_look no_look)
@@ -80,9 +77,7 @@ module _ {p q : PassState} {x : Word} {n : ℕ} (l : Looked p x n q) where
 
   last_is : last ≡ at ++ look ∷ []
   last_is =
-      ap (λ (es : List Event). h.looked.seen ++ es) gives_alone ∙ append-nil h.looked.seen
-      ∙ seen_made h.taken h.looked (Step.Look x) h.looks.makes
-      ∙ ap (λ (es : List Event). at ++ (es ++ look ∷ [])) (looks_alone l)
+      cc (gives_alone, append-nil h.looked.seen, seen_made h.taken h.looked (Step.Look x) h.looks.makes, looks_alone l)
 
   ended : ends (at ++ look ∷ []) ≡ ends p.seen
   ended =
@@ -117,8 +112,7 @@ module _ {p q : PassState} {x : Word} {n : ℕ} (l : Looked p x n q) where
   looks : p.seat ≡ Host → Has p.seats (Caller 0) → c.callers ≡ 1 → SweepsNothing p q → HostOnlyLooks c p.seen q.seen
   looks host joined one sweeps = record {
     calls =
-        same_calls one
-        (earlier_part_is_history c p.seen (first l ++ behind l) (subst (IsHistory c) (seen_is l) l.history))
+        same_calls one (earlier_part_is_history c _ (first l ++ behind l) (subst (IsHistory c) (seen_is l) l.history))
         l.history (caller_is_still l host joined);
     leaves = leaves;
     table = leaves_table q.seen (first l ++ behind l) (seen_is l) (all_lack l is_no_look no_look);

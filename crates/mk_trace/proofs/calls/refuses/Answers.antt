@@ -75,10 +75,9 @@ loop-op-preserved g c =
       keeps = c.in_ok-later.ensures.keeps;
       exact = λ before. c.in_ok-later.ensures.exact (c.loop-op.invariant.exact before);
       calls =
-          called_one_more c.args.heap.now.config c.args.host.now.pass.seen c.args.event ops i c.loop-op.refused
-          c.loop-op.host.pass.seen c.loop-op.invariant.calls o c.loop-op-test.true there c.in_ok-later.later
-          c.answer-in-loop-op.new.host.pass.seen _ c.in_ok-later.ensures.calls
-          (ap (λ (b : Bool). c.loop-op.refused || b) c.is_refusal-also.ensures);
+          called_one_more _ _ _ ops i c.loop-op.refused c.loop-op.host.pass.seen c.loop-op.invariant.calls o
+          c.loop-op-test.true there c.in_ok-later.later c.answer-in-loop-op.new.host.pass.seen _
+          c.in_ok-later.ensures.calls (ap (λ (b : Bool). c.loop-op.refused || b) c.is_refusal-also.ensures);
     }
 
 pub returns-clause-plays : goal.returns-clause-plays

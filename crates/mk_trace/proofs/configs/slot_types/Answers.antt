@@ -20,6 +20,4 @@ returns c =
     let slots = c.args.slots.now in
     let i = c.loop-slot.slot in
     let old : List (List Kind) = c.loop-slot.types in
-    sym (append-nil old)
-    ∙ sym (ap (λ (l : List (List Kind)). old ++ l) (at_drop_all (types_from i) slots i c.loop-slot-test.false))
-    ∙ c.loop-slot.invariant
+    cc (append-nil old, at_drop_all (types_from i) slots i c.loop-slot-test.false, c.loop-slot.invariant)

@@ -14,6 +14,5 @@ pub returns-clause-finds : goal.returns-clause-finds
 returns-clause-finds g c =
     let w = (left c.args.heap.now.config c.args.host.now.pass.seen).now.words in
     let pages = c.pages-pages.ensures ∙ ap (λ (x : WordsState). x.config.pages) c.words.ensures in
-    cell_found c.args.heap.now.config.pages w c.args.address c.look-header.result c.lookup.result
-    (c.look-header.ensures.tells ∙ ap (header_at w) c.in_ok-page.ensures.page)
-    (c.lookup.ensures ∙ ap (λ (n : ℕ). cell_at n c.look-header.result c.args.address) pages)
+    cell_found _ w c.args.address c.look-header.result c.lookup.result (c.look-header.ensures.tells ∙ ap (header_at w)
+    c.in_ok-page.ensures.page) (c.lookup.ensures ∙ ap (λ (n : ℕ). cell_at n c.look-header.result c.args.address) pages)

@@ -47,10 +47,9 @@ look-header-requires-clause-word g c =
 pub returns-then-is_quarantined-clause-finds : goal.returns-then-is_quarantined-clause-finds
 returns-then-is_quarantined-clause-finds g c =
     let x = goal.at.returns-then-is_quarantined-clause-finds g c in
-    freed_object c.args.heap.now.config c.args.host.now.pass.seen (before g x.After-is_in_order) c.args.slot
-    c.requires.idle c.in-Some.cell (sym c.in-Some.is ∙ found g x.After-cell_at)
-    (sym c.if-is_quarantined.true ∙ c.is_quarantined.ensures.finds ∙ freed_looked
-    (looked_last g x.After-is_quarantined) c.in-Some.cell)
+    freed_object _ _ (before g x.After-is_in_order) c.args.slot c.requires.idle c.in-Some.cell (sym c.in-Some.is ∙ found
+    g x.After-cell_at) (sym c.if-is_quarantined.true ∙ c.is_quarantined.ensures.finds ∙ freed_looked (looked_last g
+    x.After-is_quarantined) c.in-Some.cell)
 
 pub returns-else-is_quarantined-clause-finds : goal.returns-else-is_quarantined-clause-finds
 returns-else-is_quarantined-clause-finds g c =

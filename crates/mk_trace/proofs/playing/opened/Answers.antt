@@ -22,8 +22,7 @@ returns c =
           c.caller.ensures.caller c.finish-caller.ensures.pass c.join_caller.ensures.came c.in_ok-heap.ensures.config
           c.requires.one home.table c.is_in_order.ensures.history;
       empty =
-          opened_empty w h c.caller.new.self c.finish-caller.result k c.args.config.now c.in_ok-heap.ensures.host
-          c.caller.ensures.host c.join_caller.ensures.own c.join_caller.ensures.came
-          (c.finish-caller.ensures.pass ∙ ap (λ (x : CallerState). x.pass) c.caller.ensures.caller)
-          c.in_ok-heap.ensures.config home.table c.is_in_order.ensures.history;
+          opened_empty w h c.caller.new.self c.finish-caller.result k _ c.in_ok-heap.ensures.host c.caller.ensures.host
+          c.join_caller.ensures.own c.join_caller.ensures.came (c.finish-caller.ensures.pass ∙ ap (λ (x : CallerState).
+          x.pass) c.caller.ensures.caller) c.in_ok-heap.ensures.config home.table c.is_in_order.ensures.history;
     }

@@ -5,8 +5,7 @@ use Rattle.mk_trace.proofs.resolving.event.Goals as goal
 
 within : (c : In-Some) → c.in-Some.number < length c.args.slots.now
 within c =
-    number_within c.args.slots.now c.args.line.now.slot
-    (sym (sym c.in-Some.is ∙ c.copied.ensures ∙ c.get.ensures.value ∙ c.requires c.as_bytes.result.now
+    number_within _ c.args.line.now.slot (sym (sym c.in-Some.is ∙ c.copied.ensures ∙ c.get.ensures.value ∙ c.requires _
     ∙ ap (slot_number c.args.slots.now) c.as_bytes.ensures))
 
 pub offset_bounds-slots-number : goal.offset_bounds-slots-number
