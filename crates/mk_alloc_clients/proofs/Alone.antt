@@ -1,17 +1,15 @@
 -- What other callers' operations leave of an object that one caller alone knows of: all of it.
-use Rattle.mk_laws.proofs.Vocabulary.{Kind, List, NeverState, Null, Num, Number, Op, Ptr, To, Unmapped, Value, WordOf}
-use Rattle.mk_laws.proofs.Vocabulary.{[], after_free, allocation_at, arith, get_or, get_or-set_other}
-use Rattle.mk_laws.proofs.Vocabulary.{get_or_append_left, is_same, is_unmapped, kinds_of, length, map, no_allocation}
-use Rattle.mk_laws.proofs.Vocabulary.{refl, register_at, set_by, subst, suc, sym, target_of, with_freed, with_global}
-use Rattle.mk_laws.proofs.Vocabulary.{with_new, with_register, with_word, word_at, words_of, zero, ℕ, ◌*◌, ◌++◌, ◌+◌}
-use Rattle.mk_laws.proofs.Vocabulary.{◌<◌, ◌∷◌, ◌≡◌, ◌≢◌}
+use Rattle.mk_laws.proofs.Vocabulary.{Kind, List, NeverAllocation as Allocation, NeverState, Null, Num, Number, Op, Ptr}
+use Rattle.mk_laws.proofs.Vocabulary.{To, Unmapped, Value, WordOf, ℕ, after_free, allocation_at, arith, get_or}
+use Rattle.mk_laws.proofs.Vocabulary.{get_or-set_other, get_or_append_left, is_same, is_unmapped, kinds_of, length, map}
+use Rattle.mk_laws.proofs.Vocabulary.{no_allocation, refl, register_at, set_by, subst, suc, sym, target_of, with_freed}
+use Rattle.mk_laws.proofs.Vocabulary.{with_global, with_new, with_register, with_word, word_at, words_of, zero, [], ◌*◌}
+use Rattle.mk_laws.proofs.Vocabulary.{◌++◌, ◌+◌, ◌<◌, ◌∷◌, ◌≡◌, ◌≢◌}
 use Rattle.mk_never.proofs.Edits.{if_by, left_at_by}
-use Rattle.mk_never.specs.Admitted.{OperandsAreInRange}
-use Rattle.mk_never.specs.NeverHeap.{Allocation, after_op, moved_on}
-use Rattle.mk_never.specs.Reach.{LeadsTo}
-use Rattle.mk_never.specs.Types.{zero_of}
+use Rattle.mk_never.specs.NeverHeap.{after_op, moved_on}
 use Rattle.mk_never.specs.declared.operations.Op.TheVariants.{CasPtr, Clear, Free, GetGlobal, GetNum, GetPtr, IsNull}
 use Rattle.mk_never.specs.declared.operations.Op.TheVariants.{Lea, Move, New, Same, SetGlobal, SetNum, SetPtr}
+use Rattle.mk_never.specs.{Admitted.OperandsAreInRange, Reach.LeadsTo, Types.zero_of}
 use Rattle.mk_alloc_clients.specs.Owned.{IsKnownToAlone, IsRegisterOf}
 
 -- what holds of the appended element and of what stood at the place holds of what stands there
@@ -60,60 +58,55 @@ module _ (n : NeverState) (k number : ℕ) (own : IsKnownToAlone n k number) (th
   nothing_stays = record { alone = own; same = refl }
 
   pub register_stays : (c d : ℕ) (v : Value) → LeadsElsewhere v → Stays (with_register n c d v)
-  register_stays c d v none =
-      record {
-        alone = record {
-          registers = λ j. set_by (λ x. LeadsTo x number → IsRegisterOf k j) n.registers (8 * c + d) j v Null
-              (λ e leads. absurd (none leads)) (own.registers j);
-          globals = own.globals;
-          words = own.words;
-        };
-        same = refl;
-      }
+  register_stays c d v none = record {
+    alone = record {
+      registers = λ j. set_by (λ x. LeadsTo x number → IsRegisterOf k j) n.registers (8 * c + d) j v Null
+          (λ e leads. absurd (none leads)) (own.registers j);
+      globals = own.globals;
+      words = own.words;
+    };
+    same = refl;
+  }
 
   global_stays : (g : ℕ) (v : Value) → LeadsElsewhere v → Stays (with_global n g v)
-  global_stays g v none =
-      record {
-        alone = record {
-          registers = own.registers;
-          globals = λ j. set_by (λ x. LeadsTo x number → ⊥) n.globals g j v Null (λ e. none) (own.globals j);
-          words = own.words;
-        };
-        same = refl;
-      }
+  global_stays g v none = record {
+    alone = record {
+      registers = own.registers;
+      globals = λ j. set_by (λ x. LeadsTo x number → ⊥) n.globals g j v Null (λ e. none) (own.globals j);
+      words = own.words;
+    };
+    same = refl;
+  }
 
   -- a store to any word
   pub word_alone : (a w : ℕ) (v : Value) → LeadsElsewhere v → IsKnownToAlone (with_word n a w v) k number
-  word_alone a w v none =
-      record {
-        registers = own.registers;
-        globals = own.globals;
-        words = λ from place.
-            set_by (λ (x : Allocation). LeadsTo (get_or x.words place Null) number → ⊥) n.allocations a from _
-            no_allocation
-            (λ e. set_by (λ x. LeadsTo x number → ⊥) (words_of n a) w place v Null (λ e'. none) (own.words a place))
-            (own.words from place);
-      }
+  word_alone a w v none = record {
+    registers = own.registers;
+    globals = own.globals;
+    words = λ from place.
+        set_by (λ (x : Allocation). LeadsTo (get_or x.words place Null) number → ⊥) n.allocations a from _
+        no_allocation
+        (λ e. set_by (λ x. LeadsTo x number → ⊥) (words_of n a) w place v Null (λ e'. none) (own.words a place))
+        (own.words from place);
+  }
 
   word_stays : (a w : ℕ) (v : Value) → a ≢ number → LeadsElsewhere v → Stays (with_word n a w v)
-  word_stays a w v other none =
-      record {
-        alone = word_alone a w v none;
-        same = get_or-set_other n.allocations a number _ no_allocation (λ e. other (sym e));
-      }
+  word_stays a w v other none = record {
+    alone = word_alone a w v none;
+    same = get_or-set_other n.allocations a number _ no_allocation (λ e. other (sym e));
+  }
 
   freed_stays : (a : ℕ) → a ≢ number → Stays (with_freed n a)
-  freed_stays a other =
-      record {
-        alone = record {
-          registers = own.registers;
-          globals = own.globals;
-          words = λ from place.
-              set_by (λ (x : Allocation). LeadsTo (get_or x.words place Null) number → ⊥) n.allocations a from _
-              no_allocation (λ e. own.words a place) (own.words from place);
-        };
-        same = get_or-set_other n.allocations a number _ no_allocation (λ e. other (sym e));
-      }
+  freed_stays a other = record {
+    alone = record {
+      registers = own.registers;
+      globals = own.globals;
+      words = λ from place.
+          set_by (λ (x : Allocation). LeadsTo (get_or x.words place Null) number → ⊥) n.allocations a from _
+          no_allocation (λ e. own.words a place) (own.words from place);
+    };
+    same = get_or-set_other n.allocations a number _ no_allocation (λ e. other (sym e));
+  }
 
   free_stays : (v : Value) → LeadsElsewhere v → Stays (after_free n v)
   free_stays Null none = nothing_stays
@@ -121,19 +114,18 @@ module _ (n : NeverState) (k number : ℕ) (own : IsKnownToAlone n k number) (th
   free_stays (Ptr a ty offset) none = freed_stays a none
 
   new_stays : (c d ty : ℕ) → Stays (with_register (with_new n ty) c d (Ptr (length n.allocations) ty 0))
-  new_stays c d ty =
-      record {
-        alone = record {
-          registers = λ j. set_by (λ x. LeadsTo x number → IsRegisterOf k j) n.registers (8 * c + d) j
-              (Ptr (length n.allocations) ty 0) Null
-              (λ e leads. absurd (let same : length n.allocations ≡ number = leads in omega arith)) (own.registers j);
-          globals = own.globals;
-          words = λ from place.
-              push_keeps (λ (x : Allocation). LeadsTo (get_or x.words place Null) number → ⊥) n.allocations _
-              no_allocation from (zeros_lead_nowhere (kinds_of n.types ty) place number) (own.words from place);
-        };
-        same = get_or_append_left n.allocations _ no_allocation number there;
-      }
+  new_stays c d ty = record {
+    alone = record {
+      registers = λ j. set_by (λ x. LeadsTo x number → IsRegisterOf k j) n.registers (8 * c + d) j
+          (Ptr (length n.allocations) ty 0) Null
+          (λ e leads. absurd (let same : length n.allocations ≡ number = leads in omega arith)) (own.registers j);
+      globals = own.globals;
+      words = λ from place.
+          push_keeps (λ (x : Allocation). LeadsTo (get_or x.words place Null) number → ⊥) n.allocations _
+          no_allocation from (zeros_lead_nowhere (kinds_of n.types ty) place number) (own.words from place);
+    };
+    same = get_or_append_left n.allocations _ no_allocation number there;
+  }
 
   module _ (c : ℕ) (other : c ≢ k) where
     register_elsewhere : (r : ℕ) → r < 8 → LeadsElsewhere (register_at n c r)
@@ -153,8 +145,7 @@ module _ (n : NeverState) (k number : ℕ) (own : IsKnownToAlone n k number) (th
         (λ e. nothing_stays))
 
     pub op_stays_alone : (o : Op) → OperandsAreInRange n o → Stays (after_op n c o)
-    op_stays_alone (New d ty full) h =
-        if_by (λ m. Stays m) full _ _ (λ e. nothing_stays) (λ e. new_stays c d ty)
+    op_stays_alone (New d ty full) h = if_by (λ m. Stays m) full _ _ (λ e. nothing_stays) (λ e. new_stays c d ty)
     op_stays_alone (Free p) h = free_stays (register_at n c p) (register_elsewhere p h)
     op_stays_alone (GetNum q i) h = nothing_stays
     op_stays_alone (SetNum q i m) h =

@@ -4,12 +4,11 @@ use Rattle.mk_laws.proofs.Vocabulary.{place_on_pages, sym, ◌∙◌, ◌≡◌}
 use Rattle.mk_alloc.proofs.Vocabulary.{FitsNowhere, IsPlaced, IsTurn, IsUnplaced, OnlyLooks, PassState, now_of}
 use Rattle.mk_alloc.proofs.Vocabulary.{object_for}
 use Rattle.mk_core.specs.Words.{page_of}
-use Rattle.mk_objects.proofs.JoinedLooks.{granted_behind_looks}
-use Rattle.mk_objects.proofs.PlacedNews.{fit_within, goes_behind, place_found}
-use Rattle.mk_objects.specs.Placing.{GoesTo, HeldIsExact, IsGranted}
-use Rattle.mk_alloc_clients.proofs.MadeNumbers.{page_kept}
-use Rattle.mk_alloc_clients.proofs.OnePage.{fit_on_page, place_on}
+use Rattle.mk_alloc_clients.proofs.{MadeNumbers.page_kept, OnePage.fit_on_page, OnePage.place_on}
 use Rattle.mk_alloc_clients.specs.Making.{one_number}
+use Rattle.mk_objects.proofs.PlacedNews.{fit_within, goes_behind, place_found}
+use Rattle.mk_objects.proofs.JoinedLooks.{granted_behind_looks}
+use Rattle.mk_objects.specs.Placing.{GoesTo, HeldIsExact, IsGranted}
 
 module _ (p q : PassState) (x : Option Op) (page : Page) (found : Option Place) (turn : IsTurn p x)
     (h : IsHistory p.table.config p.seen) (u : IsUnplaced p) (one : p.table.config.pages ≡ 1)
@@ -32,10 +31,9 @@ module _ (p q : PassState) (x : Option Op) (page : Page) (found : Option Place) 
   nowhere none = record { nowhere = place_found p x None turn h u (fit ∙ none); looks = looks }
 
   pub placed : (r : PassState) (place : Place) → found ≡ Some place → IsGranted q place r → HeldIsExact r → IsPlaced p r
-  placed r place there granted held =
-      record {
-        place = place;
-        fits = place_found p x (Some place) turn h u (fit ∙ there);
-        granted = granted_behind_looks p q r place looks granted;
-        held = held;
-      }
+  placed r place there granted held = record {
+    place = place;
+    fits = place_found p x (Some place) turn h u (fit ∙ there);
+    granted = granted_behind_looks p q r place looks granted;
+    held = held;
+  }

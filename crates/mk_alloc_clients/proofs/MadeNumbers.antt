@@ -1,26 +1,21 @@
 -- A turn that puts a number on the only page: what its looks say, and that its call is that of a New.
-use Rattle.std.proofs.lemmas.Bool.{ltb-false}
+use Rattle.std.proofs.Common.{ltb-false}
 use Rattle.mk_laws.proofs.Vocabulary.{Event, IsHistory, IsWithinLimits, Kind, List, Number, Op, Option, Page, Steady}
-use Rattle.mk_laws.proofs.Vocabulary.{Word, [], ap, append-nil, arith, cases_Bool, free_page, get_or_past, inl, inr}
-use Rattle.mk_laws.proofs.Vocabulary.{kinds_of, length, lt-ltb, ltb-true, nat_lt, phase_of, refl, slice_index_or, sym}
-use Rattle.mk_laws.proofs.Vocabulary.{true, ℕ, ◌<◌, ◌∙◌, ◌∷◌, ◌≡◌, ◌≤◌}
+use Rattle.mk_laws.proofs.Vocabulary.{Step, Word, ℕ, ap, append-nil, arith, cases_Bool, free_page, get_or_past, inl}
+use Rattle.mk_laws.proofs.Vocabulary.{inr, kinds_of, length, lt-ltb, ltb-true, nat_lt, phase_of, refl, slice_index_or}
+use Rattle.mk_laws.proofs.Vocabulary.{sym, true, [], ◌<◌, ◌∙◌, ◌∷◌, ◌≡◌, ◌≤◌}
 use Rattle.mk_alloc.proofs.Vocabulary.{Acts, Has, IsTurn, IsUnplaced, OnlyLooks, PassState, TakesTurn, call_of}
 use Rattle.mk_alloc.proofs.Vocabulary.{looks_left, new_is_acting, now_of}
 use Rattle.mk_core.specs.Words.{page_of}
-use Rattle.mk_words.specs.States.{WordsState}
-use Rattle.mk_words.specs.Steps.{Finds}
-use Rattle.mk_objects.proofs.JoinedLooks.{looks_pages}
-use Rattle.mk_objects.proofs.Looks.{acting_now, look_reaches}
-use Rattle.mk_objects.proofs.MayAct.{IsActing}
-use Rattle.mk_objects.proofs.Unchanged.{steady_is_plain}
-use Rattle.mk_objects.specs.Looking.{is_steady_word}
-use Rattle.mk_core.specs.declared.events.Step.TheVariants as step
+use Rattle.mk_objects.{proofs.JoinedLooks.looks_pages, proofs.Looks.acting_now, proofs.Looks.look_reaches}
+use Rattle.mk_objects.{proofs.MayAct.IsActing, proofs.Unchanged.steady_is_plain, specs.Looking.is_steady_word}
+use Rattle.mk_words.specs.{States.WordsState, Steps.Finds}
 
 pub acting : (p : PassState) (o : Option Op) → IsTurn p o → IsUnplaced p → IsActing p.table.config (now_of p) p.seat
 acting p o turn u = acting_now p o turn (new_is_acting (call_of p) u.new)
 
 pub looked : (p q : PassState) (o : Option Op) (x : Word) → IsTurn p o → IsUnplaced p → is_steady_word x ≡ true
-    → Acts p (step.Look x) q → Has p.seats p.seat → IsHistory q.table.config q.seen → OnlyLooks p q
+    → Acts p (Step.Look x) q → Has p.seats p.seat → IsHistory q.table.config q.seen → OnlyLooks p q
 looked p q o x turn u steady a own history =
     look_reaches p q o x turn (new_is_acting (call_of p) u.new) (steady_is_plain x steady) a
 
@@ -53,14 +48,13 @@ type_exists types ty is = elim (cases_Bool (nat_lt ty (length types))) [
 ]
 
 -- A turn that is taken at once is taken.
-pub taken_at_once : (p q : PassState) (o : Option Op) → Finds p (step.Take o) 0 q → TakesTurn p o q
-taken_at_once p q o f =
-    record {
-      waited = p;
-      waits = record {
-        more = [];
-        is = ap (λ (l : List Event). record p { seen = l }) (sym (append-nil p.seen));
-        only = refl;
-      };
-      takes = f;
-    }
+pub taken_at_once : (p q : PassState) (o : Option Op) → Finds p (Step.Take o) 0 q → TakesTurn p o q
+taken_at_once p q o f = record {
+  waited = p;
+  waits = record {
+    more = [];
+    is = ap (λ (l : List Event). record p { seen = l }) (sym (append-nil p.seen));
+    only = refl;
+  };
+  takes = f;
+}

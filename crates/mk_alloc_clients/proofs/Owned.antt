@@ -1,27 +1,18 @@
 -- A number that a caller owns: what other callers leave of it, and what its own calls do.
-use Rattle.std.proofs.Common.{set}
-use Rattle.std.proofs.lemmas.Bool.{ltb-false}
+use Rattle.std.proofs.Common.{ltb-false, set}
 use Rattle.mk_laws.proofs.Vocabulary.{AreAdmitted, Bool, Call, Continues, IsAdmitted, IsNumber, IsSound, IsTyped, Kind}
-use Rattle.mk_laws.proofs.Vocabulary.{List, Meets, NeverState, Null, Num, Number, Op, Ptr, Suits, To, Unmapped, Value}
-use Rattle.mk_laws.proofs.Vocabulary.{WordOf, [], after_calls, allocation_at, ap, arith, cases_Bool, false, get_or}
-use Rattle.mk_laws.proofs.Vocabulary.{get_or-set_same, get_or_past, if◌then◌else◌, inl, inr, is_large, kinds_of, length}
-use Rattle.mk_laws.proofs.Vocabulary.{length-set, ltb-true, nat_lt, no_allocation, refl, register_at, set_by, subst}
-use Rattle.mk_laws.proofs.Vocabulary.{sym, target_of, with_word, word_at, words_of, ℕ, ◌&&◌, ◌*◌, ◌+◌, ◌<◌, ◌∙◌, ◌∷◌}
-use Rattle.mk_laws.proofs.Vocabulary.{◌≡◌, ◌≢◌}
-use Rattle.mk_never.proofs.Edits.{exists}
-use Rattle.mk_never.proofs.Fresh.{new_adds}
-use Rattle.mk_never.proofs.Later.{op_stays}
-use Rattle.mk_never.proofs.Registers.{destination, op_keeps}
-use Rattle.mk_never.specs.Admitted.{IsCaller}
-use Rattle.mk_never.specs.Laws.{AreNotBy}
-use Rattle.mk_never.specs.NeverHeap.{Allocation, after_op, left_at, number_of as number_in, reply_at, reply_of}
-use Rattle.mk_never.specs.Reach.{LeadsTo}
-use Rattle.mk_never.specs.Types.{zero_words}
-use Rattle.mk_never.specs.declared.values.Target.{Target}
+use Rattle.mk_laws.proofs.Vocabulary.{List, Meets, NeverAllocation as Allocation, NeverState, Null, Num, Number, Op}
+use Rattle.mk_laws.proofs.Vocabulary.{Ptr, Suits, To, Unmapped, Value, WordOf, ℕ, after_calls, allocation_at, ap, arith}
+use Rattle.mk_laws.proofs.Vocabulary.{cases_Bool, false, get_or, get_or-set_same, get_or_past, if◌then◌else◌, inl, inr}
+use Rattle.mk_laws.proofs.Vocabulary.{is_large, kinds_of, length, length-set, ltb-true, nat_lt, no_allocation}
+use Rattle.mk_laws.proofs.Vocabulary.{number_of as number_in, refl, register_at, set_by, subst, sym, target_of}
+use Rattle.mk_laws.proofs.Vocabulary.{with_word, word_at, words_of, [], ◌&&◌, ◌*◌, ◌+◌, ◌<◌, ◌∙◌, ◌∷◌, ◌≡◌, ◌≢◌}
+use Rattle.mk_never.proofs.{Edits.exists, Fresh.new_adds, Later.op_stays, Registers.destination, Registers.op_keeps}
+use Rattle.mk_never.specs.NeverHeap.{after_op, left_at, reply_at, reply_of}
+use Rattle.mk_never.specs.{Admitted.IsCaller, Laws.AreNotBy, Reach.LeadsTo, Types.zero_words}
+use Rattle.mk_never.specs.{declared.operations.Reply.Reply, declared.values.Target.Target}
 use Rattle.mk_alloc_clients.proofs.Alone.{op_stays_alone, push_keeps, word_alone, zeros_lead_nowhere}
 use Rattle.mk_alloc_clients.specs.Owned.{IsRegisterOf, OwnsNumberIn, number_behind}
-use Rattle.mk_never.specs.declared.operations.Op.TheVariants as op
-use Rattle.mk_never.specs.declared.operations.Reply.TheVariants as reply
 
 -- It is owned still, and is the same number.
 pub record KeepsNumber (n : NeverState) (k d : ℕ) (m : NeverState) : Type 0 where
@@ -86,14 +77,14 @@ gets_to n k d owns =
 
 -- So a load is answered by it,
 pub load_replies : (n : NeverState) (k d : ℕ) → OwnsNumberIn n k d
-    → reply_of n k (op.GetNum d 0) ≡ reply.Num (number_behind n (register_at n k d))
+    → reply_of n k (Op.GetNum d 0) ≡ Reply.Num (number_behind n (register_at n k d))
 load_replies n k d owns =
-    ap (λ (t : Target). reply_at t (λ a w. reply.Num (number_in (word_at n a w)))) (gets_to n k d owns)
-    ∙ ap reply.Num (sym (number_is n k d owns.number owns.ty owns.pointer))
+    ap (λ (t : Target). reply_at t (λ a w. Reply.Num (number_in (word_at n a w)))) (gets_to n k d owns)
+    ∙ ap Reply.Num (sym (number_is n k d owns.number owns.ty owns.pointer))
 
 -- and a store is done,
-pub store_replies : (n : NeverState) (k d x : ℕ) → OwnsNumberIn n k d → reply_of n k (op.SetNum d 0 x) ≡ reply.Done
-store_replies n k d x owns = ap (λ (t : Target). reply_at t (λ a w. reply.Done)) (gets_to n k d owns)
+pub store_replies : (n : NeverState) (k d x : ℕ) → OwnsNumberIn n k d → reply_of n k (Op.SetNum d 0 x) ≡ Reply.Done
+store_replies n k d x owns = ap (λ (t : Target). reply_at t (λ a w. Reply.Done)) (gets_to n k d owns)
 
 -- which leaves another number.
 pub record HasStored (k d x : ℕ) (m : NeverState) : Type 0 where
@@ -127,7 +118,7 @@ stores_in n k d x owns =
           ∙ ap (λ (v : Value). number_in v) (get_or-set_same (words_of n a) 0 (Num x) Null owns.some);
     }
 
-pub store_leaves : (n : NeverState) (k d x : ℕ) → OwnsNumberIn n k d → HasStored k d x (after_op n k (op.SetNum d 0 x))
+pub store_leaves : (n : NeverState) (k d x : ℕ) → OwnsNumberIn n k d → HasStored k d x (after_op n k (Op.SetNum d 0 x))
 store_leaves n k d x owns =
     subst (λ (m : NeverState). HasStored k d x m)
     (sym (ap (λ (t : Target). left_at t n (λ a w. with_word n a w (Num x))) (gets_to n k d owns)))
@@ -164,12 +155,12 @@ word_leads globals n typed from place number leads = elim (cases_Bool (nat_lt pl
 
 -- A New of one number gives its caller one, which is 0.
 pub new_owns : (globals : List ℕ) (n : NeverState) (k d ty : ℕ) → IsTyped globals n → IsCaller n k → d < 8
-    → kinds_of n.types ty ≡ Number ∷ [] → HasStored k d 0 (after_op n k (op.New d ty false))
+    → kinds_of n.types ty ≡ Number ∷ [] → HasStored k d 0 (after_op n k (Op.New d ty false))
 new_owns globals n k d ty typed caller lt kinds =
     let a = length n.allocations in
-    let m : NeverState = after_op n k (op.New d ty false) in
+    let m : NeverState = after_op n k (Op.New d ty false) in
     let adds = new_adds n k d ty caller lt in
-    let on : Continues n m = op_stays n k (op.New d ty false) in
+    let on : Continues n m = op_stays n k (Op.New d ty false) in
     let words : words_of m a ≡ Num 0 ∷ [] = ap (λ (b : Allocation). b.words) adds.made
     ∙ ap (λ (ks : List Kind). zero_words ks) kinds in
     record {

@@ -1,31 +1,23 @@
 -- A number that is owned, along a history: other callers' calls keep it, and the caller's own are answered by it.
-use Rattle.std.proofs.Common.{length-append}
-use Rattle.std.specs.Prelude.{Err, IfOk, Ok, OnOk, Result}
+use Rattle.std.proofs.Common.{Err, IfOk, Ok, OnOk, Result, length-append}
 use Rattle.mk_laws.proofs.Vocabulary.{Answer, AreAdmitted, Bool, Config, Decided, Event, IsHistory, Kind, List}
-use Rattle.mk_laws.proofs.Vocabulary.{NeverState, Number, Op, Some, [], admitted_in_parts, after_calls, answer_of, ap}
-use Rattle.mk_laws.proofs.Vocabulary.{append-nil, append_assoc, arith, asked, bases_of, call_decided, calls, calls_from}
-use Rattle.mk_laws.proofs.Vocabulary.{earlier_part_is_history, entry_of, eq-eqb, false, first_world, flagged}
-use Rattle.mk_laws.proofs.Vocabulary.{if◌then◌else◌, kinds_of, left, length, never_behind, never_in_parts, refl, subst}
-use Rattle.mk_laws.proofs.Vocabulary.{sym, true, true≢false, ℕ, ◌++◌, ◌==◌, ◌∙◌, ◌∷◌, ◌≡◌}
+use Rattle.mk_laws.proofs.Vocabulary.{NeverState, Number, Op, Some, Step, ℕ, admitted_in_parts, after_calls, answer_of}
+use Rattle.mk_laws.proofs.Vocabulary.{ap, append-nil, append_assoc, arith, asked, bases_of, call_decided, calls}
+use Rattle.mk_laws.proofs.Vocabulary.{calls_from, earlier_part_is_history, entry_of, eq-eqb, false, first_world}
+use Rattle.mk_laws.proofs.Vocabulary.{flagged, if◌then◌else◌, kinds_of, left, length, never_behind, never_in_parts}
+use Rattle.mk_laws.proofs.Vocabulary.{refl, subst, sym, true, true≢false, [], ◌++◌, ◌==◌, ◌∙◌, ◌∷◌, ◌≡◌}
 use Rattle.mk_alloc.proofs.Vocabulary.{PassState, by_append, caller_of_pass, calls_by, calls_in_parts, calls_more}
 use Rattle.mk_alloc.proofs.Vocabulary.{comes_last, event_of, others_add_none, own_calls, stands}
-use Rattle.mk_never.specs.Laws.{AreNotBy}
-use Rattle.mk_never.specs.NeverHeap.{after_op}
-use Rattle.mk_never.specs.declared.operations.Reply.{Reply}
-use Rattle.mk_words.specs.declared.call_steps.Held.{Held}
-use Rattle.mk_caller.specs.Called.{Called, IsDecidedIn}
-use Rattle.mk_caller.specs.Causes.{FindsGateHeld, IsRefused}
-use Rattle.mk_caller.specs.States.{Admits, never_of, never_then}
-use Rattle.mk_caller.specs.declared.refusals.Refusal.TheVariants.{Fault, Null}
+use Rattle.mk_never.specs.{Laws.AreNotBy, NeverHeap.after_op, declared.operations.Reply.Reply}
 use Rattle.mk_alloc.proofs.Decisions.{same_last}
 use Rattle.mk_alloc_clients.proofs.Owned.{HasStored, KeepsNumber, access_admitted, keeps_by_others, load_replies}
 use Rattle.mk_alloc_clients.proofs.Owned.{new_owns, store_leaves, store_replies}
-use Rattle.mk_alloc_clients.specs.Laws.{OwnedNumbersStay}
-use Rattle.mk_alloc_clients.specs.Making.{store_then_load}
 use Rattle.mk_alloc_clients.specs.Owned.{HasNumber, OwnsNumber, OwnsNumberIn, number_owned}
-use Rattle.mk_never.specs.declared.operations.Op.TheVariants as op
-use Rattle.mk_core.specs.declared.events.Answer.TheVariants as answer
-use Rattle.mk_core.specs.declared.events.Step.TheVariants as step
+use Rattle.mk_alloc_clients.specs.{Laws.OwnedNumbersStay, Making.store_then_load}
+use Rattle.mk_caller.specs.States.{Admits, never_of, never_then}
+use Rattle.mk_caller.specs.declared.refusals.Refusal.TheVariants.{Fault, Null}
+use Rattle.mk_caller.specs.{Called.Called, Called.IsDecidedIn, Causes.FindsGateHeld, Causes.IsRefused}
+use Rattle.mk_words.specs.declared.call_steps.Held.{Held}
 
 -- Calls among which the caller has none are of others.
 none_by : (k : ℕ) (xs : List Decided) → calls_by k xs ≡ [] → AreNotBy k (asked xs)
@@ -150,12 +142,12 @@ module _ (p : PassState) (o : Op) (a : Answer) (more : List Event) (once : flagg
 
 -- A store is done, and the number is that one;
 pub record IsStored (a : Answer) (q : PassState) (d n : ℕ) : Type 0 where
-  pub done : a ≡ answer.Done
+  pub done : a ≡ Answer.Done
   pub has : HasNumber q d n
 
 -- a load is answered by the number, which stays.
 pub record IsLoaded (a : Answer) (q : PassState) (d n : ℕ) : Type 0 where
-  pub tells : a ≡ answer.Num n
+  pub tells : a ≡ Answer.Num n
   pub has : HasNumber q d n
 
 module _ {p q : PassState} {a : Answer} (d : ℕ) (owns : OwnsNumber p d) (h : IsHistory q.table.config q.seen) where
@@ -165,10 +157,10 @@ module _ {p q : PassState} {a : Answer} (d : ℕ) (owns : OwnsNumber p d) (h : I
   bases : {o : Op} → Called p o a q → List ℕ
   bases c = bases_of (left p.table.config (p.seen ++ c.decided.before ++ c.decided.event ∷ [])).allocations
 
-  pub stored : (n : ℕ) → Called p (op.SetNum d 0 n) a q → IsStored a q d n
+  pub stored : (n : ℕ) → Called p (Op.SetNum d 0 n) a q → IsStored a q d n
   unfolding bases
   stored n c =
-      let o : Op = op.SetNum d 0 n in
+      let o : Op = Op.SetNum d 0 n in
       let there = kept_before p o a c.more refl (seen_history c) c.entry c.decided d owns in
       record {
         done =
@@ -180,17 +172,17 @@ module _ {p q : PassState} {a : Answer} (d : ℕ) (owns : OwnsNumber p d) (h : I
             (store_leaves (never_then p c.decided.before) (caller_of_pass p) d n there.owns));
       }
 
-  pub loaded : Called p (op.GetNum d 0) a q → IsLoaded a q d (number_owned p d)
+  pub loaded : Called p (Op.GetNum d 0) a q → IsLoaded a q d (number_owned p d)
   unfolding bases
   loaded c =
-      let o : Op = op.GetNum d 0 in
+      let o : Op = Op.GetNum d 0 in
       let there = kept_before p o a c.more refl (seen_history c) c.entry c.decided d owns in
       record {
         tells =
             c.decided.reply
             ∙ ap (λ (r : Reply). answer_of (bases c) r)
             (load_replies (never_then p c.decided.before) (caller_of_pass p) d there.owns)
-            ∙ ap answer.Num there.same;
+            ∙ ap Answer.Num there.same;
         has = subst (λ (r : PassState). HasNumber r d (number_owned p d)) (sym c.is)
             (number_left p o a c.more refl (seen_history c) c.entry c.decided d (number_owned p d)
             (record { owns = there.owns; stored = there.same }));
@@ -199,31 +191,31 @@ module _ {p q : PassState} {a : Answer} (d : ℕ) (owns : OwnsNumber p d) (h : I
 -- So neither is refused,
 
 pub store_has_no_fault : {p q : PassState} (d n : ℕ) → OwnsNumber p d → IsHistory q.table.config q.seen
-    → IsRefused p (op.SetNum d 0 n) Fault q → ⊥
+    → IsRefused p (Op.SetNum d 0 n) Fault q → ⊥
 store_has_no_fault d n owns h r = let done = (stored d owns h n r.0).done in cc
 
 pub store_has_no_null : {p q : PassState} (d n : ℕ) → OwnsNumber p d → IsHistory q.table.config q.seen
-    → IsRefused p (op.SetNum d 0 n) Null q → ⊥
+    → IsRefused p (Op.SetNum d 0 n) Null q → ⊥
 store_has_no_null d n owns h r = let done = (stored d owns h n r.0).done in cc
 
 pub load_has_no_fault : {p q : PassState} (d : ℕ) → OwnsNumber p d → IsHistory q.table.config q.seen
-    → IsRefused p (op.GetNum d 0) Fault q → ⊥
+    → IsRefused p (Op.GetNum d 0) Fault q → ⊥
 load_has_no_fault d owns h r = let tells = (loaded d owns h r.0).tells in cc
 
 pub load_has_no_null : {p q : PassState} (d : ℕ) → OwnsNumber p d → IsHistory q.table.config q.seen
-    → IsRefused p (op.GetNum d 0) Null q → ⊥
+    → IsRefused p (Op.GetNum d 0) Null q → ⊥
 load_has_no_null d owns h r = let tells = (loaded d owns h r.0).tells in cc
 
 -- but where the gate is held: then there is no call.
 pub held_keeps : {p q : PassState} {o : Op} (d : ℕ) → OwnsNumber p d → IsHistory q.table.config q.seen
     → FindsGateHeld p o q → HasNumber q d (number_owned p d)
 held_keeps {p} {q} {o} d owns h f =
-    let more : List Event = f.finds.makes.others ++ event_of p (step.Enter o) ∷ [] in
+    let more : List Event = f.finds.makes.others ++ event_of p (Step.Enter o) ∷ [] in
     let c : Config = p.table.config in
     let is : q ≡ record p { seen = p.seen ++ more } =
     f.finds.makes.is
     ∙ ap (λ (l : List Event). record p { seen = l })
-    (append_assoc p.seen f.finds.makes.others (event_of p (step.Enter o) ∷ [])) in
+    (append_assoc p.seen f.finds.makes.others (event_of p (Step.Enter o) ∷ [])) in
     let whole : IsHistory c (p.seen ++ more) = subst (λ (r : PassState). IsHistory r.table.config r.seen) is h in
     let none : calls_by (caller_of_pass p) (calls_from c (left c p.seen) more) ≡ [] =
     same_last (own_calls p p.seen) (calls_by (caller_of_pass p) (calls_from c (left c p.seen) more)) []
@@ -236,38 +228,36 @@ held_keeps {p} {q} {o} d owns h f =
 -- A New of one number that was granted gives its caller that number, which is 0.
 pub granted : (p : PassState) (d ty : ℕ) (more : List Event) → IsHistory p.table.config (p.seen ++ more)
     → own_calls p (p.seen ++ more) ≡ own_calls p p.seen
-    ++ entry_of (caller_of_pass p) (op.New d ty false) (Some answer.Done)
-    → IsDecidedIn p (op.New d ty false) answer.Done more
+    ++ entry_of (caller_of_pass p) (Op.New d ty false) (Some Answer.Done)
+    → IsDecidedIn p (Op.New d ty false) Answer.Done more
     → kinds_of p.table.config.types ty ≡ Number ∷ [] → HasNumber (record p { seen = p.seen ++ more }) d 0
 granted p d ty more history entry decided kinds =
-    let o : Op = op.New d ty false in
+    let o : Op = Op.New d ty false in
     let c : Config = p.table.config in
     let before : List Event = p.seen ++ decided.before in
-    let all = (stands c before (before_history p o answer.Done more refl history entry decided)).all.mirrors in
-    let asks = (admitted_before p o answer.Done more refl history entry decided).0 in
-    number_left p o answer.Done more refl history entry decided d 0
+    let all = (stands c before (before_history p o Answer.Done more refl history entry decided)).all.mirrors in
+    let asks = (admitted_before p o Answer.Done more refl history entry decided).0 in
+    number_left p o Answer.Done more refl history entry decided d 0
     (new_owns c.globals (never_behind c before) (caller_of_pass p) d ty all.typed asks.of_a_caller asks.in_range.0
     (ap (λ (types : List (List Kind)). kinds_of types ty) all.types ∙ kinds))
 
 -- Its caller may store and load.
 
-pub may_store : (p : PassState) (d n : ℕ) → OwnsNumber p d → Admits p (op.SetNum d 0 n)
-may_store p d n owns =
-    record {
-      of_a_caller = owns.caller;
-      in_range = owns.register;
-      access = access_admitted (never_of p) (caller_of_pass p) d owns;
-      store = tt;
-    }
+pub may_store : (p : PassState) (d n : ℕ) → OwnsNumber p d → Admits p (Op.SetNum d 0 n)
+may_store p d n owns = record {
+  of_a_caller = owns.caller;
+  in_range = owns.register;
+  access = access_admitted (never_of p) (caller_of_pass p) d owns;
+  store = tt;
+}
 
-pub may_load : (p : PassState) (d : ℕ) → OwnsNumber p d → Admits p (op.GetNum d 0)
-may_load p d owns =
-    record {
-      of_a_caller = owns.caller;
-      in_range = owns.register;
-      access = access_admitted (never_of p) (caller_of_pass p) d owns;
-      store = tt;
-    }
+pub may_load : (p : PassState) (d : ℕ) → OwnsNumber p d → Admits p (Op.GetNum d 0)
+may_load p d owns = record {
+  of_a_caller = owns.caller;
+  in_range = owns.register;
+  access = access_admitted (never_of p) (caller_of_pass p) d owns;
+  store = tt;
+}
 
 -- Events of others keep it.
 pub owned_numbers_stay : OwnedNumbersStay
@@ -293,29 +283,27 @@ pub loads_stored : (b : PassState) (d n : ℕ) (r : Result ℕ Held) → HasNumb
 loads_stored b d n (Ok x) has is = is ∙ has.is
 loads_stored b d n (Err e) has is = tt
 
-pub both_done : (p b q : PassState) (d n : ℕ) (r : Result ℕ Held) → Called p (op.SetNum d 0 n) answer.Done b
-    → IfOk r (λ x. x ≡ n) → IfOk r (λ x. Called b (op.GetNum d 0) (answer.Num x) q)
+pub both_done : (p b q : PassState) (d n : ℕ) (r : Result ℕ Held) → Called p (Op.SetNum d 0 n) Answer.Done b
+    → IfOk r (λ x. x ≡ n) → IfOk r (λ x. Called b (Op.GetNum d 0) (Answer.Num x) q)
     → OnOk r (own_calls q q.seen ≡ own_calls p p.seen ++ store_then_load (caller_of_pass p) d n)
 both_done p b q d n (Err e) set is get = tt
 both_done p b q d n (Ok x) set is get =
     entry_now b q get.more _ get.is get.entry
-    ∙ ap (λ (k : ℕ). own_calls b b.seen ++ record { caller = k; op = op.GetNum d 0; answer = answer.Num x } ∷ [])
+    ∙ ap (λ (k : ℕ). own_calls b b.seen ++ record { caller = k; op = Op.GetNum d 0; answer = Answer.Num x } ∷ [])
     (ap (λ (r : PassState). caller_of_pass r) set.is)
     ∙ ap (λ (y : ℕ). own_calls b b.seen
-    ++ record { caller = caller_of_pass p; op = op.GetNum d 0; answer = answer.Num y } ∷ []) is
+    ++ record { caller = caller_of_pass p; op = Op.GetNum d 0; answer = Answer.Num y } ∷ []) is
     ∙ ap (λ (l : List Decided). l ++ record {
       caller = caller_of_pass p;
-      op = op.GetNum d 0;
-      answer =
-          answer.Num n;
+      op = Op.GetNum d 0;
+      answer = Answer.Num n;
     } ∷ [])
     (entry_now p b set.more _ set.is set.entry)
     ∙ append_assoc (own_calls p p.seen)
-    (record { caller = caller_of_pass p; op = op.SetNum d 0 n; answer = answer.Done } ∷ [])
-    (record { caller = caller_of_pass p; op = op.GetNum d 0; answer = answer.Num n } ∷ [])
+    (record { caller = caller_of_pass p; op = Op.SetNum d 0 n; answer = Answer.Done } ∷ [])
+    (record { caller = caller_of_pass p; op = Op.GetNum d 0; answer = Answer.Num n } ∷ [])
 
 -- after what was done before
 pub done_behind : (l l1 l2 : List Decided) (x : Decided) (xs : List Decided) → l1 ≡ l ++ x ∷ [] → l2 ≡ l1 ++ xs
     → l2 ≡ l ++ x ∷ xs
-done_behind l l1 l2 x xs first more =
-    more ∙ ap (λ (ys : List Decided). ys ++ xs) first ∙ append_assoc l (x ∷ []) xs
+done_behind l l1 l2 x xs first more = more ∙ ap (λ (ys : List Decided). ys ++ xs) first ∙ append_assoc l (x ∷ []) xs

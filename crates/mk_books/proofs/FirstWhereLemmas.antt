@@ -1,6 +1,6 @@
 -- The place of the first that passes, by places.
-use Rattle.std.proofs.Common.{◌≡◌, ℕ, zero, suc, ◌<◌, Bool, true, false, List, [], ◌∷◌, length, get_or, Some, None, ap}
-use Rattle.std.proofs.Common.{add-one, arith}
+use Rattle.std.proofs.Common.{Bool, List, None, Some, ℕ, add-one, ap, arith, false, get_or, length, suc, true, zero, []}
+use Rattle.std.proofs.Common.{◌<◌, ◌∷◌, ◌≡◌}
 use Rattle.mk_geom.specs.PageUses.{first_where}
 
 pub first_where_at : {A : Type 0} (p : A → Bool) (xs : List A) (n : ℕ) (d : A) → n < length xs

@@ -1,23 +1,20 @@
 -- The free cells of each class, page by page.
-use Rattle.std.proofs.Common.{◌≡◌, ◌≢◌, ℕ, zero, suc, ◌+◌, ◌-◌, ◌*◌, ◌^◌, ◌<◌, ◌≤◌, Bool, true, false, not, ◌&&◌}
-use Rattle.std.proofs.Common.{nat_eq, if◌then◌else◌, Option, Some, None, List, [], ◌∷◌, ◌++◌, length, map, take, set}
-use Rattle.std.proofs.Common.{get_or, count_by, ap, sym, refl, add-zero, ◌∙◌, inl, inr, arith}
-use Rattle.std.proofs.Math.Bool.{beq}
+use Rattle.std.proofs.Common.{Bool, List, None, Option, Some, ℕ, add-zero, ap, arith, count_by, eq-eqb, false, get_or}
+use Rattle.std.proofs.Common.{get_or-set_other, get_or-set_same, if◌then◌else◌, inl, inr, length, length-set}
+use Rattle.std.proofs.Common.{length-take-le, map, nat_eq, ne_eqb, not, refl, set, suc, sym, take, true, zero, [], ◌&&◌}
+use Rattle.std.proofs.Common.{◌*◌, ◌++◌, ◌+◌, ◌-◌, ◌<◌, ◌^◌, ◌∙◌, ◌∷◌, ◌≡◌, ◌≢◌, ◌≤◌}
+use Rattle.std.proofs.lemmas.List.{get_or-append_right, get_or_append_left, map_more, same_lists, set-append_left}
+use Rattle.std.proofs.lemmas.List.{set-append_right}
+use Rattle.std.proofs.lemmas.List.FromFn.{get_or-map-range_with_len, length-map-range_with_len}
+use Rattle.std.proofs.lemmas.List.Sums.{count_by-le-length, sum_by-cons, sum_by_push}
+use Rattle.std.proofs.{Math.Bool.beq, lemmas.Bool.and_right, lemmas.Bool.cases_eq}
 use Rattle.std.specs.List.{range_with_len}
-use Rattle.std.proofs.lemmas.Bool.{cases_eq, eq-eqb, ne_eqb, and_right}
-use Rattle.std.proofs.lemmas.List.{same_lists, length-set, get_or-set_same, get_or-set_other, set-append_left}
-use Rattle.std.proofs.lemmas.List.{set-append_right, get_or_append_left, get_or-append_right, map_more, length-take-le}
-use Rattle.std.proofs.lemmas.List.FromFn.{length-map-range_with_len, get_or-map-range_with_len}
-use Rattle.std.proofs.lemmas.List.Sums.{sum_by_push, sum_by-cons, count_by-le-length}
-use Rattle.mk_geom.specs.PageUses.{PageUse, Cells, cells_taken, is_same_sort, free_cells_among}
-use Rattle.mk_geom.specs.declared.pages.Page.{Page}
-use Rattle.mk_geom.specs.declared.headers.Header.{Header}
-use Rattle.mk_geom.specs.declared.headers.Header.TheVariants.{Free, Block, Run, Later, LeafBlock, LeafRun}
-use Rattle.mk_geom.specs.Headers.{header_of}
-use Rattle.mk_geom.specs.PageWords.{bits_of, use_under, use_of_page, uses_of_pages}
+use Rattle.mk_geom.specs.PageUses.{Cells, PageUse, cells_taken, free_cells_among, is_same_sort}
+use Rattle.mk_geom.specs.PageWords.{bits_of, use_of_page, use_under, uses_of_pages}
+use Rattle.mk_geom.specs.declared.headers.Header.TheVariants.{Block, Free, Later, LeafBlock, LeafRun, Run}
+use Rattle.mk_geom.specs.{Classes.cells_of, Headers.header_of, declared.headers.Header.Header, declared.pages.Page.Page}
 use Rattle.mk_books.proofs.UsedBitLemmas.{length-bits_of}
-use Rattle.mk_geom.specs.Classes.{cells_of}
-use Rattle.mk_books.specs.FreeCells.{free_cells_of_sort, free_cells_by_class, class_place, HasNoCells}
+use Rattle.mk_books.specs.FreeCells.{HasNoCells, class_place, free_cells_by_class, free_cells_of_sort}
 
 -- a list made from a function that differs at one place alone
 map_range-set : (f g : ℕ → ℕ) (n k y : ℕ) → k < n → g k ≡ y → ((j : ℕ) → j ≢ k → g j ≡ f j)

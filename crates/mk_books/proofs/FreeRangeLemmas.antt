@@ -1,12 +1,11 @@
 -- Ranges of free pages, page by page.
-use Rattle.std.proofs.Common.{◌≡◌, ℕ, zero, suc, ◌+◌, ◌<◌, ◌≤◌, max, Bool, true, false, List, [], ◌∷◌, length, get_or}
-use Rattle.std.proofs.Common.{drop, Option, Some, None, option_map, if◌then◌else◌, refl, ap, zero-add, ◌-◌, ◌∙◌, arith}
+use Rattle.std.proofs.Common.{Bool, List, None, Option, Some, ℕ, ap, arith, drop, drop-drop, false, get_or}
+use Rattle.std.proofs.Common.{if◌then◌else◌, le-leb, length, length-drop, max, option_map, refl, suc, true, zero}
+use Rattle.std.proofs.Common.{zero-add, [], ◌+◌, ◌-◌, ◌<◌, ◌∙◌, ◌∷◌, ◌≡◌, ◌≤◌}
+use Rattle.std.proofs.{lemmas.Bool.lt-leb, lemmas.List.at_drop_more, lemmas.List.drop-map, lemmas.List.length-map}
 use Rattle.std.specs.Option.{option_or}
-use Rattle.std.proofs.lemmas.Bool.{le-leb, lt-leb}
-use Rattle.std.proofs.lemmas.List.{at_drop_more, length-map, length-drop, drop-map, drop-drop}
-use Rattle.mk_geom.specs.declared.pages.Page.{Page}
-use Rattle.mk_geom.specs.PageUses.{PageUse, is_free_page, free_range, range_start, longest_free_range}
-use Rattle.mk_geom.specs.PageWords.{use_of_page, uses_of_pages}
+use Rattle.mk_geom.specs.PageUses.{PageUse, free_range, is_free_page, longest_free_range, range_start}
+use Rattle.mk_geom.specs.{PageWords.use_of_page, PageWords.uses_of_pages, declared.pages.Page.Page}
 
 -- the longest range, where this many free pages stand before these and the longest of before is known
 abbrev pub longest_with : ℕ → ℕ → List PageUse → ℕ

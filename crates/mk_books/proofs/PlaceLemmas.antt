@@ -1,14 +1,12 @@
 -- First fit, page by page: what the pages from one on give, and the pages before it.
-use Rattle.std.proofs.Common.{◌≡◌, ℕ, ◌+◌, ◌<◌, ◌≤◌, Bool, true, false, not, cond, List, [], ◌∷◌, length, get_or, drop}
-use Rattle.std.proofs.Common.{map, count_by, Option, Some, None, option_map, refl, ap, sym, ◌∙◌, zero-add, arith}
+use Rattle.std.proofs.Common.{Bool, List, None, Option, Some, ℕ, ap, arith, cond, count_by, drop, false, get_or, length}
+use Rattle.std.proofs.Common.{map, not, option_map, refl, sym, true, zero-add, [], ◌+◌, ◌<◌, ◌∙◌, ◌∷◌, ◌≡◌, ◌≤◌}
+use Rattle.std.proofs.{lemmas.List.at_drop_all, lemmas.List.at_drop_more, lemmas.List.Sums.sum_by-cons}
 use Rattle.std.specs.Option.{option_or}
-use Rattle.std.proofs.lemmas.List.{at_drop_more, at_drop_all}
-use Rattle.std.proofs.lemmas.List.Sums.{sum_by-cons}
-use Rattle.mk_geom.specs.declared.pages.Page.{Page}
-use Rattle.mk_geom.specs.declared.pages.Place.{Place}
-use Rattle.mk_geom.specs.PageUses.{is_free_page, is_resident_page, resident_pages, cells_taken, first_where}
-use Rattle.mk_geom.specs.PageUses.{page_behind, cell_place}
+use Rattle.mk_geom.specs.PageUses.{cell_place, cells_taken, first_where, is_free_page, is_resident_page, page_behind}
+use Rattle.mk_geom.specs.PageUses.{resident_pages}
 use Rattle.mk_geom.specs.PageWords.{use_of_page, uses_of_pages}
+use Rattle.mk_geom.specs.{declared.pages.Page.Page, declared.pages.Place.Place}
 
 -- a place among the pages from page n on, as a place among all
 abbrev pub place_behind : ℕ → Place → Place

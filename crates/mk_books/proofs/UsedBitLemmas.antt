@@ -1,21 +1,17 @@
 -- The low bits of a used word.
-use Rattle.std.proofs.Common.{◌≡◌, ℕ, zero, suc, ◌+◌, ◌-◌, ◌^◌, ◌<◌, ◌≤◌, min, Bool, true, false, not, cond, nat_eq}
-use Rattle.std.proofs.Common.{nat_lt, List, [], ◌∷◌, length, get_or, count_by, count_ones, bit_and, w64, ap, sym, ◌∙◌}
-use Rattle.std.proofs.Common.{inl, inr, eq-eqb, refl, arith}
-use Rattle.std.specs.Bool.{then_some}
-use Rattle.std.specs.Int.{bit_at, bit_not, trailing_zeros, trailing_ones}
-use Rattle.std.proofs.lemmas.Bool.{cases_lt, lt-ltb, le-ltb}
-use Rattle.std.proofs.lemmas.List.{map-id, get_or_past}
-use Rattle.std.proofs.lemmas.List.Sums.{sum_by-cons}
-use Rattle.std.proofs.lemmas.List.FromFn.{length-map-range_with_len, get_or-map-range_with_len}
-use Rattle.std.proofs.lemmas.Nat.Bits.{bit_at-trailing_ones, bit_at_ones, bit_at_ones_above, bit_at_and, bit_at-lt}
+use Rattle.std.proofs.Common.{Bool, List, ℕ, ap, arith, bit_and, cond, count_by, count_ones, eq-eqb, false, get_or, inl}
+use Rattle.std.proofs.Common.{inr, le-ltb, length, lt-ltb, map-id, min, nat_eq, nat_lt, not, refl, suc, sym, true, w64}
+use Rattle.std.proofs.Common.{zero, [], ◌+◌, ◌-◌, ◌<◌, ◌^◌, ◌∙◌, ◌∷◌, ◌≡◌, ◌≤◌}
+use Rattle.std.proofs.lemmas.List.FromFn.{get_or-map-range_with_len, length-map-range_with_len}
+use Rattle.std.proofs.lemmas.Nat.Bits.{bit_at-lt, bit_at-trailing_ones, bit_at_and, bit_at_ones, bit_at_ones_above}
 use Rattle.std.proofs.lemmas.Nat.Bits.{same_from_bits}
 use Rattle.std.proofs.lemmas.Simd.{bit_mask_l, ones-mask_l}
+use Rattle.std.proofs.{lemmas.Bool.cases_lt, lemmas.List.get_or_past, lemmas.List.Sums.sum_by-cons}
+use Rattle.std.specs.{Bool.then_some, Int.bit_at, Int.bit_not, Int.trailing_ones, Int.trailing_zeros}
+use Rattle.mk_geom.specs.{PageUses.first_where, PageWords.bits_of}
+use Rattle.mk_books.proofs.FirstWhereLemmas.{first_where_at, first_where_nowhere}
 use lib.Lanes.{mask_l}
 use lib.Count.{trailing_of_zero}
-use Rattle.mk_geom.specs.PageUses.{first_where}
-use Rattle.mk_geom.specs.PageWords.{bits_of}
-use Rattle.mk_books.proofs.FirstWhereLemmas.{first_where_at, first_where_nowhere}
 
 pub length-bits_of : (count used : ℕ) → length (bits_of count used) ≡ count
 length-bits_of count used = length-map-range_with_len (λ k. nat_eq (bit_at used k) 1) 0 count

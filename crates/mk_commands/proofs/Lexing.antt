@@ -1,17 +1,13 @@
 -- What a word says is what clap reads in it.
-use Rattle.std.proofs.Common.{◌≡◌, ◌∙◌, ◌++◌, ℕ, suc, ◌+◌, Bool, true, false, not, ◌==◌, [], ◌∷◌, Option}
-use Rattle.std.proofs.Common.{Some, None, refl, sym, ap, arith, take, drop, if◌then◌else◌}
-use Rattle.std.proofs.Common.{option_and_then}
-use Rattle.std.specs.Prelude.{unwrap_or}
-use Rattle.std.specs.List.{list_any, prefix_len}
-use Rattle.std.specs.Str.{bytes_eq, chars}
-use Rattle.std.proofs.lemmas.Slice.Eq.{bytes_eq-Decides}
-use Rattle.std.proofs.lemmas.Bool.Decides.{nat_tests}
-use lib.Chars.{codes}
-use Rattle.clap.specs.Lexer.{long_of, long_of_rest, short_of, strip_byte, name_and_value}
+use Rattle.std.proofs.Common.{Bool, None, Option, Some, ℕ, ap, arith, codes, drop, false, if◌then◌else◌, not}
+use Rattle.std.proofs.Common.{option_and_then, refl, suc, sym, take, true, unwrap_or, [], ◌++◌, ◌+◌, ◌==◌, ◌∙◌, ◌∷◌}
+use Rattle.std.proofs.Common.{◌≡◌}
+use Rattle.std.proofs.{lemmas.Bool.Decides.nat_tests, lemmas.Slice.Eq.bytes_eq-Decides}
+use Rattle.std.specs.{List.list_any, List.prefix_len, Str.bytes_eq, Str.chars}
+use Rattle.clap.specs.Lexer.{long_of, long_of_rest, name_and_value, short_of, strip_byte}
 use Rattle.clap.specs.Walk.{Text}
-use Rattle.mk_commands.specs.Given.{Said, sweep_flag, why_flag, markers_said, flag_said, unknown, said, said_dashed}
-use Rattle.mk_commands.specs.Given.{behind}
+use Rattle.mk_commands.specs.Given.{Said, behind, flag_said, markers_said, said, said_dashed, sweep_flag, unknown}
+use Rattle.mk_commands.specs.Given.{why_flag}
 
 -- ---- the parts of `--name=value`
 

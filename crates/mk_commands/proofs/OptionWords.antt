@@ -1,31 +1,27 @@
 -- A word more that is an option.
-use Rattle.std.proofs.Common.{◌≡◌, ◌∙◌, ◌++◌, Bool, true, false, List, [], ◌∷◌, Option, Some, None, is_some, refl, sym}
-use Rattle.std.proofs.Common.{ap, subst, if◌then◌else◌, option_and_then}
-use Rattle.std.specs.Str.{bytes_eq}
+use Rattle.std.proofs.Common.{Bool, List, None, Option, Some, ap, codes, false, if◌then◌else◌, is_some, option_and_then}
+use Rattle.std.proofs.Common.{refl, subst, sym, true, [], ◌++◌, ◌∙◌, ◌∷◌, ◌≡◌}
 use Rattle.std.proofs.lemmas.Slice.Eq.{bytes_eq-Decides}
-use lib.Chars.{codes}
-use Rattle.clap.specs.Lexer.{long_of}
-use Rattle.clap.specs.Walk.{Held, Row, Text, Walk, idle, option, next, arg_by_long, has_row, long_word, settled_rows}
-use Rattle.clap.specs.Walk.{with_values, without}
-use Rattle.clap.specs.Kinds.{Kinds}
+use Rattle.std.specs.Str.{bytes_eq}
 use Rattle.clap.specs.Faults.{long_fault, settle_fault}
-use Rattle.clap.specs.declared.error.kind.ErrorKind.TheVariants as kind
+use Rattle.clap.specs.Walk.{Held, Row, Text, Walk, arg_by_long, has_row, idle, long_word, next, option, settled_rows}
+use Rattle.clap.specs.Walk.{with_values, without}
 use Rattle.clap.specs.declared.builder.value_parser.Reading.TheVariants.{AsWritten}
-use Rattle.clap.specs.declared.parser.matches.ValueSource.TheVariants.{CommandLine}
-use Rattle.mk_commands.specs.Given.{Form, runs, gens, bare, takes_markers, takes_flags, Flag, sweep_flag, why_flag}
-use Rattle.mk_commands.specs.Given.{unknown, flag_said, Numbers, Given, with_markers, markers_by, has_flag, set_flag}
-use Rattle.mk_commands.specs.Given.{given_said, with_words}
+use Rattle.clap.specs.declared.error.kind.ErrorKind.{ErrorKind}
+use Rattle.clap.specs.{Kinds.Kinds, Lexer.long_of, declared.parser.matches.ValueSource.TheVariants.CommandLine}
+use Rattle.mk_commands.proofs.Standing.{Holds, IsAt, More, TellsAs, has_markers, has_the_flag, holds_flag}
+use Rattle.mk_commands.proofs.Standing.{holds_markers, passes_on, waits}
+use Rattle.mk_commands.proofs.Walking.{holding, long_is, position_of, rules, standing, word_stops}
+use Rattle.mk_commands.proofs.{Lexing.no_value, Lexing.said_long, Rows.row, Rows.values_set}
+use Rattle.mk_commands.specs.Given.{Flag, Form, Given, Numbers, bare, flag_said, gens, given_said, has_flag, markers_by}
+use Rattle.mk_commands.specs.Given.{runs, set_flag, sweep_flag, takes_flags, takes_markers, unknown, why_flag}
+use Rattle.mk_commands.specs.Given.{with_markers, with_words}
 use Rattle.mk_commands.specs.Told.{flag_name}
-use Rattle.mk_commands.proofs.Lexing.{no_value, said_long}
-use Rattle.mk_commands.proofs.Rows.{row, values_set}
-use Rattle.mk_commands.proofs.Walking.{long_is, word_stops, rules, standing, holding, position_of}
-use Rattle.mk_commands.proofs.Standing.{Holds, has_markers, has_the_flag, holds_markers, holds_flag, waits, IsAt, More}
-use Rattle.mk_commands.proofs.Standing.{TellsAs, passes_on}
 
 -- ---- a word with a name
 
 abbrev pub conflict_if : Bool → Kinds
-conflict_if true = kind.ArgumentConflict ∷ []
+conflict_if true = ErrorKind.ArgumentConflict ∷ []
 conflict_if false = []
 
 -- the value of `--markers=K`, where there is one already and where there is none
@@ -156,7 +152,7 @@ module _ (form : Form) (name word : Text) (words : List Text) (rows : List Row) 
     long_unknown : (id : Text) (v : Option Text) → long_of word ≡ Some (id, v) → arg_by_long (rules form) id ≡ None
         → Free None
     long_unknown id v l none =
-        long_refused id v l (λ g. let bad : kind.UnknownArgument ∷ [] ≡ [] = rw none at g in cc)
+        long_refused id v l (λ g. let bad : ErrorKind.UnknownArgument ∷ [] ≡ [] = rw none at g in cc)
 
     -- the word passes, and the walk goes on from there
     long_passes : (id : Text) (v : Option Text) → long_of word ≡ Some (id, v)
@@ -185,7 +181,7 @@ module _ (form : Form) (name word : Text) (words : List Text) (rows : List Row) 
     markers_value k x l true has =
         let kinds = markers_fault form k x rows p true i.0 (has_markers left t i.1 ∙ has) in
         subst Free (sym (some_markers t x true has)) (long_refused (codes "markers") (Some x) l
-        (λ g. let bad : kind.ArgumentConflict ∷ [] ≡ [] = sym kinds ∙ g in cc))
+        (λ g. let bad : ErrorKind.ArgumentConflict ∷ [] ≡ [] = sym kinds ∙ g in cc))
     markers_value k x l false has =
         let fresh = has_markers left t i.1 ∙ has in
         let u : Given = record t { markers = Some x; awaits = false } in
@@ -211,7 +207,7 @@ module _ (form : Form) (name word : Text) (words : List Text) (rows : List Row) 
         → Free (if b then None else Some (set_flag flag t))
     flag_sets k flag l true has =
         let kinds = flag_fault form k flag rows p true i.0 (has_the_flag left t i.1 flag ∙ has) in
-        long_refused (flag_name flag) None l (λ g. let bad : kind.ArgumentConflict ∷ [] ≡ [] = sym kinds ∙ g in cc)
+        long_refused (flag_name flag) None l (λ g. let bad : ErrorKind.ArgumentConflict ∷ [] ≡ [] = sym kinds ∙ g in cc)
     flag_sets k flag l false has =
         let fresh = has_the_flag left t i.1 flag ∙ has in
         let held = row_set (flag_name flag) (codes "true") (set_flag flag t) fresh (holds_flag left t i.1 flag has) in

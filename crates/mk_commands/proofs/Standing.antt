@@ -1,21 +1,19 @@
 -- Where the walk of clap stands, with what its rows hold, and a word more that is a number.
-use Rattle.std.proofs.Common.{◌≡◌, ◌∙◌, ◌++◌, Bool, true, false, ◌||◌, List, [], ◌∷◌, Option, Some, None, is_some, refl}
-use Rattle.std.proofs.Common.{sym, ap, subst, if◌then◌else◌, option_and_then}
-use lib.Chars.{codes}
-use Rattle.clap.specs.Walk.{Row, Text, Waiting, Walk, idle, option, value, after_step, has_row, is_pending, Held, Step}
-use Rattle.clap.specs.Walk.{settled_rows, word_met}
+use Rattle.std.proofs.Common.{Bool, List, None, Option, Some, ap, codes, false, if◌then◌else◌, is_some, option_and_then}
+use Rattle.std.proofs.Common.{refl, subst, sym, true, [], ◌++◌, ◌||◌, ◌∙◌, ◌∷◌, ◌≡◌}
 use Rattle.clap.specs.Faults.{settle_fault, step_fault, word_fault}
+use Rattle.clap.specs.Walk.{Held, Row, Step, Text, Waiting, Walk, after_step, has_row, idle, is_pending, option}
+use Rattle.clap.specs.Walk.{settled_rows, value, word_met}
 use Rattle.clap.specs.declared.builder.value_parser.Reading.{Reading}
 use Rattle.clap.specs.declared.builder.value_parser.Reading.TheVariants.{AsWritten}
 use Rattle.clap.specs.declared.parser.matches.ValueSource.TheVariants.{CommandLine}
-use Rattle.mk_commands.specs.Commands.{start_of, count_of}
-use Rattle.mk_commands.specs.Given.{Form, runs, gens, bare, Flag, sweep_flag, why_flag, said, takes_markers, Numbers}
-use Rattle.mk_commands.specs.Given.{no_number, one_number, two_numbers, Given, has_flag, set_flag, with_number}
-use Rattle.mk_commands.specs.Given.{given_said, given_awaited, given_with_word, with_words}
-use Rattle.mk_commands.specs.Told.{flag_name}
-use Rattle.mk_commands.proofs.Rows.{entry, row, has_entry, values_set, entry_other, entry_same}
-use Rattle.mk_commands.proofs.Walking.{goes_on, step_stops, shape, rules, standing, holding, rest_fault, rest_rows}
-use Rattle.mk_commands.proofs.Walking.{position_of, start_filled, count_filled, and_false}
+use Rattle.mk_commands.proofs.Walking.{and_false, count_filled, goes_on, holding, position_of, rest_fault, rest_rows}
+use Rattle.mk_commands.proofs.Walking.{rules, shape, standing, start_filled, step_stops}
+use Rattle.mk_commands.proofs.Rows.{entry, entry_other, entry_same, has_entry, row, values_set}
+use Rattle.mk_commands.specs.Given.{Flag, Form, Given, Numbers, bare, gens, given_awaited, given_said, given_with_word}
+use Rattle.mk_commands.specs.Given.{has_flag, no_number, one_number, runs, said, set_flag, sweep_flag, takes_markers}
+use Rattle.mk_commands.specs.Given.{two_numbers, why_flag, with_number, with_words}
+use Rattle.mk_commands.specs.{Commands.count_of, Commands.start_of, Told.flag_name}
 
 -- ---- what the rows hold
 

@@ -1,32 +1,25 @@
 -- What clap takes and finds, of a whole command line.
-use Rattle.std.proofs.Common.{◌≡◌, ◌≢◌, ◌∙◌, Bool, true, false, ◌||◌, List, [], ◌∷◌, Option, Some, None, is_some, refl}
-use Rattle.std.proofs.Common.{sym, ap, subst, if◌then◌else◌, option_and_then, option_map, slice_get, drop, fold}
-use Rattle.std.proofs.Common.{MatchOption}
+use Rattle.std.proofs.Common.{Bool, List, MatchOption, None, Option, Some, ap, codes, drop, false, fold, if◌then◌else◌}
+use Rattle.std.proofs.Common.{is_some, option_and_then, option_map, refl, slice_get, subst, sym, true, [], ◌||◌, ◌∙◌}
+use Rattle.std.proofs.Common.{◌∷◌, ◌≡◌, ◌≢◌}
 use Rattle.std.specs.Str.{bytes_eq}
-use lib.Chars.{codes}
-use Rattle.clap.specs.Values.{bool_text, read_as}
-use Rattle.clap.specs.Walk.{Row, Rule, Text, first_of, has_row, nothing_held, idle, one_of, with_default, with_values}
-use Rattle.clap.specs.Walk.{rows_of}
-use Rattle.clap.specs.Simple.{App, built, matches_of}
-use Rattle.clap.specs.Kinds.{Kinds, or_else}
-use Rattle.clap.specs.Faults.{check_fault, default_fault, defaults_fault, fault_of, given_default_fault}
-use Rattle.clap.specs.Faults.{settle_fault}
-use Rattle.clap.specs.declared.builder.value_parser.Reading.{Reading}
-use Rattle.clap.specs.declared.builder.value_parser.Reading.TheVariants.{AsWritten}
-use Rattle.clap.specs.declared.parser.matches.ValueSource.TheVariants.{DefaultValue}
 use Rattle.clap.proofs.FaultLemmas.{leaf_fault}
-use Rattle.mk_commands.specs.Commands.{start_of, count_of}
-use Rattle.mk_commands.specs.Given.{Form, runs, gens, bare, Given, nothing_given, no_number, given_by}
-use Rattle.mk_commands.specs.Told.{app_named, HasGiven}
-use Rattle.clap.specs.Matches.{found_of}
+use Rattle.clap.specs.Faults.{check_fault, default_fault, defaults_fault, fault_of, given_default_fault, settle_fault}
+use Rattle.clap.specs.Simple.{App, built, matches_of}
+use Rattle.clap.specs.declared.builder.value_parser.Reading.TheVariants.{AsWritten}
 use Rattle.clap.specs.declared.parser.matches.ArgMatches.{ArgMatches}
-use Rattle.mk_commands.specs.declared.commands.Command.{Command}
-use Rattle.mk_commands.proofs.Rows.{entry, row, has_entry, values_added, entry_other, entry_same, first_of_entry}
-use Rattle.mk_commands.proofs.Rows.{one_of_entry}
-use Rattle.mk_commands.proofs.Walking.{shape, rules, standing, rest_fault, rest_rows, flag_filled, markers_filled}
-use Rattle.mk_commands.proofs.Walking.{start_filled, count_filled}
-use Rattle.mk_commands.proofs.Standing.{Holds, TellsAs, as_entry, flag_entry}
-use Rattle.mk_commands.proofs.Tells.{tells}
+use Rattle.clap.specs.declared.parser.matches.ValueSource.TheVariants.{DefaultValue}
+use Rattle.clap.specs.{Kinds.Kinds, Kinds.or_else, Matches.found_of, Values.bool_text, Values.read_as, Walk.Row}
+use Rattle.clap.specs.{Walk.Rule, Walk.Text, Walk.first_of, Walk.has_row, Walk.idle, Walk.nothing_held, Walk.one_of}
+use Rattle.clap.specs.{Walk.rows_of, Walk.with_default, Walk.with_values, declared.builder.value_parser.Reading.Reading}
+use Rattle.mk_commands.proofs.Rows.{entry, entry_other, entry_same, first_of_entry, has_entry, one_of_entry, row}
+use Rattle.mk_commands.proofs.Rows.{values_added}
+use Rattle.mk_commands.proofs.Walking.{count_filled, flag_filled, markers_filled, rest_fault, rest_rows, rules, shape}
+use Rattle.mk_commands.proofs.Walking.{standing, start_filled}
+use Rattle.mk_commands.proofs.{Standing.Holds, Standing.TellsAs, Standing.as_entry, Standing.flag_entry, Tells.tells}
+use Rattle.mk_commands.specs.Commands.{count_of, start_of}
+use Rattle.mk_commands.specs.Given.{Form, Given, bare, gens, given_by, no_number, nothing_given, runs}
+use Rattle.mk_commands.specs.{Told.HasGiven, Told.app_named, declared.commands.Command.Command}
 
 -- ---- the values that stand where a flag wasn't given
 
@@ -184,8 +177,7 @@ matches_are gens name words = refl
 matches_are bare name words = refl
 
 holds_nothing : Holds [] nothing_given
-holds_nothing =
-    record { markers_are = refl; sweep_is = refl; why_is = refl; start_is = refl; count_is = refl }
+holds_nothing = record { markers_are = refl; sweep_is = refl; why_is = refl; start_is = refl; count_is = refl }
 
 -- clap takes the words where they tell something, and finds it
 abbrev TakesGiven : Form → Text → List Text → Option Given → Type 0

@@ -1,25 +1,22 @@
 -- What clap takes and finds is what the words say.
-use Rattle.std.proofs.Common.{◌≡◌, ◌∙◌, Bool, true, false, List, [], ◌∷◌, Option, Some, None, is_some, refl, sym, ap}
-use Rattle.std.proofs.Common.{subst, inl, inr, if◌then◌else◌, option_and_then}
+use Rattle.std.proofs.Common.{Bool, List, None, Option, Some, ap, codes, false, if◌then◌else◌, inl, inr, is_some}
+use Rattle.std.proofs.Common.{option_and_then, refl, subst, sym, true, [], ◌∙◌, ◌∷◌, ◌≡◌}
 use Rattle.std.specs.Str.{bytes_eq}
-use lib.Chars.{codes}
-use Rattle.clap.specs.Walk.{Row, Text, idle, option, next, trailing, arg_by_long, has_row, plain_word, settled_rows}
-use Rattle.clap.specs.Walk.{with_values, without}
-use Rattle.clap.specs.Faults.{settle_fault, walk_fault}
-use Rattle.clap.specs.declared.error.kind.ErrorKind.TheVariants as kind
 use Rattle.clap.specs.declared.builder.value_parser.Reading.TheVariants.{AsWritten}
-use Rattle.clap.specs.declared.parser.matches.ValueSource.TheVariants.{CommandLine}
-use Rattle.mk_commands.specs.Given.{Form, runs, gens, bare, takes_markers, Said, ends, markers_said, flag_said, unknown}
-use Rattle.mk_commands.specs.Given.{sweep_flag, why_flag, plain, said, Numbers, Given, with_markers, given_said}
-use Rattle.mk_commands.specs.Given.{given_awaited, given_with_word, with_words}
-use Rattle.mk_commands.proofs.Lexing.{no_value, said_long, says_long, says_dashed}
-use Rattle.mk_commands.proofs.Rows.{values_set}
-use Rattle.mk_commands.proofs.Walking.{View, is_ends, is_long, is_bundle, is_odd, is_plain, view, PassesBy}
-use Rattle.mk_commands.proofs.Walking.{plain_passes, odd_passes, long_is, bundle_is, bundle_stops, long_stops, lost}
-use Rattle.mk_commands.proofs.Walking.{word_stops, rules, standing, holding, position_of}
-use Rattle.mk_commands.proofs.Standing.{Holds, has_markers, holds_markers, IsAt, TellsAs, More, passes_on, if_true}
-use Rattle.mk_commands.proofs.Standing.{if_false, told_awaiting, told_ended, told_free, number_tells}
-use Rattle.mk_commands.proofs.OptionWords.{conflict_if, some_markers, is_none, Free, at_value, Awaiting, long_go}
+use Rattle.clap.specs.declared.error.kind.ErrorKind.{ErrorKind}
+use Rattle.clap.specs.{Faults.settle_fault, Faults.walk_fault, Walk.Row, Walk.Text, Walk.arg_by_long, Walk.has_row}
+use Rattle.clap.specs.{Walk.idle, Walk.next, Walk.option, Walk.plain_word, Walk.settled_rows, Walk.trailing}
+use Rattle.clap.specs.{Walk.with_values, Walk.without, declared.parser.matches.ValueSource.TheVariants.CommandLine}
+use Rattle.mk_commands.proofs.OptionWords.{Awaiting, Free, at_value, conflict_if, is_none, long_go, some_markers}
+use Rattle.mk_commands.proofs.Standing.{Holds, IsAt, More, TellsAs, has_markers, holds_markers, if_false, if_true}
+use Rattle.mk_commands.proofs.Standing.{number_tells, passes_on, told_awaiting, told_ended, told_free}
+use Rattle.mk_commands.proofs.Walking.{PassesBy, View, bundle_is, bundle_stops, holding, is_bundle, is_ends, is_long}
+use Rattle.mk_commands.proofs.Walking.{is_odd, is_plain, long_is, long_stops, lost, odd_passes, plain_passes}
+use Rattle.mk_commands.proofs.Walking.{position_of, rules, standing, view, word_stops}
+use Rattle.mk_commands.proofs.{Lexing.no_value, Lexing.said_long, Lexing.says_dashed, Lexing.says_long, Rows.values_set}
+use Rattle.mk_commands.specs.Given.{Form, Given, Numbers, Said, bare, ends, flag_said, gens, given_awaited, given_said}
+use Rattle.mk_commands.specs.Given.{given_with_word, markers_said, plain, runs, said, sweep_flag, takes_markers}
+use Rattle.mk_commands.specs.Given.{unknown, why_flag, with_markers, with_words}
 
 -- ---- a word where no number is awaited
 
@@ -134,7 +131,7 @@ awaiting_tells form name word words t rows ns is h a en k more = on_view (view w
         let kinds = awaited form k rows true (has_markers rows t h ∙ has) word in
         subst (Awaiting form name word words rows ns) (sym (some_markers t word true has)) (takes_number by None
         (lost form name words rows (Some (codes "markers", word ∷ [])) idle ns false
-        (λ g. let bad : kind.ArgumentConflict ∷ [] ≡ [] = sym kinds ∙ g in cc) (inr refl)))
+        (λ g. let bad : ErrorKind.ArgumentConflict ∷ [] ≡ [] = sym kinds ∙ g in cc) (inr refl)))
     by_markers by false has =
         let fresh = has_markers rows t h ∙ has in
         let u : Given = record t { markers = Some word; awaits = false } in

@@ -1,22 +1,18 @@
 -- The walk of clap over the words, word by word.
-use Rattle.std.proofs.Common.{◌≡◌, ◌⊎◌, ◌∙◌, ℕ, Bool, true, false, ◌&&◌, List, [], ◌∷◌, Option, Some, None, refl, sym}
-use Rattle.std.proofs.Common.{ap, subst, inl, inr, slice_get, length, fold, drop, encode_utf8}
+use Rattle.std.proofs.Common.{Bool, List, None, Option, Some, ℕ, ap, codes, drop, encode_utf8, false, fold, inl, inr}
+use Rattle.std.proofs.Common.{length, refl, slice_get, subst, sym, true, [], ◌&&◌, ◌∙◌, ◌∷◌, ◌≡◌, ◌⊎◌}
 use Rattle.std.specs.Str.{bytes_eq, chars}
-use lib.Chars.{codes}
-use Rattle.clap.specs.Lexer.{long_of, short_of}
-use Rattle.clap.specs.Walk.{Held, Row, Rule, Step, Text, Waiting, Walk, idle, option, trailing, value, plain as no_flag}
-use Rattle.clap.specs.Walk.{after_step, arg_by_long, is_pending, settled_rows, takes_values, walked, word_met}
-use Rattle.clap.specs.Walk.{plain_word, long_word, positional, subcommand_met, arg_by_short}
-use Rattle.clap.specs.Simple.{Shape, built, filled, filled_from, with_index}
-use Rattle.clap.specs.Kinds.{Kinds, or_else}
-use Rattle.clap.specs.Faults.{bundle_fault, flags_fault, long_fault, settle_fault, step_fault, turn_fault, walk_fault}
-use Rattle.clap.specs.Faults.{word_fault, short_fault}
-use Rattle.clap.specs.declared.error.kind.ErrorKind.TheVariants as kind
-use Rattle.clap.proofs.FaultLemmas.{fault_ends}
-use Rattle.clap.proofs.WalkLemmas.{bundle_ends}
-use Rattle.mk_commands.specs.Given.{Form, runs, gens, bare, Numbers, no_number, one_number, two_numbers, plain, said}
-use Rattle.mk_commands.specs.Told.{rules_of, app_named, markers_rule, flag_rule, positional_rule}
+use Rattle.clap.proofs.{FaultLemmas.fault_ends, WalkLemmas.bundle_ends}
+use Rattle.clap.specs.Faults.{bundle_fault, flags_fault, long_fault, settle_fault, short_fault, step_fault, turn_fault}
+use Rattle.clap.specs.Faults.{walk_fault, word_fault}
+use Rattle.clap.specs.Walk.{Held, Row, Rule, Step, Text, Waiting, Walk, after_step, arg_by_long, arg_by_short, idle}
+use Rattle.clap.specs.Walk.{is_pending, long_word, option, plain as no_flag, plain_word, positional, settled_rows}
+use Rattle.clap.specs.Walk.{subcommand_met, takes_values, trailing, value, walked, word_met}
+use Rattle.clap.specs.{Kinds.Kinds, Kinds.or_else, Lexer.long_of, Lexer.short_of, Simple.Shape, Simple.built}
+use Rattle.clap.specs.{Simple.filled, Simple.filled_from, Simple.with_index, declared.error.kind.ErrorKind.ErrorKind}
 use Rattle.mk_commands.proofs.Lexing.{says_dashed}
+use Rattle.mk_commands.specs.Given.{Form, Numbers, bare, gens, no_number, one_number, plain, runs, said, two_numbers}
+use Rattle.mk_commands.specs.Told.{app_named, flag_rule, markers_rule, positional_rule, rules_of}
 
 -- ---- the commands as clap builds them
 
@@ -142,7 +138,7 @@ long_stops c (Some a) v h bad e = by_takes (takes_values a) refl v e
     by_takes true t None e = bad (rw t at e)
     by_takes true t (Some x) e = bad (first_empty (settle_fault c false h) _ (rw t at e))
     by_takes false t None e = bad (first_empty (settle_fault c false h) _ (rw t at e))
-    by_takes false t (Some x) e = let no : kind.TooManyValues ∷ [] ≡ [] = rw t at e in cc
+    by_takes false t (Some x) e = let no : ErrorKind.TooManyValues ∷ [] ≡ [] = rw t at e in cc
 
 -- and at each number
 number_stops : (form : Form) (name : Text) (ns : Numbers) (rows : List Row) (p : Option (Text × List Text))

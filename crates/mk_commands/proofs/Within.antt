@@ -1,15 +1,14 @@
 -- The numbers of each command are in their bounds.
-use Rattle.std.proofs.Common.{◌≡◌, ◌≤◌, ℕ, Bool, true, false, ◌&&◌, List, [], ◌∷◌, Option, Some, None}
-use Rattle.std.proofs.Common.{IfSome, refl, arith, if◌then◌else◌, option_and_then, nat_lt, nat_le}
-use Rattle.std.specs.Str.{bytes_eq}
+use Rattle.std.proofs.Common.{Bool, IfSome, List, None, Option, Some, ℕ, arith, codes, false, if◌then◌else◌, nat_le}
+use Rattle.std.proofs.Common.{nat_lt, option_and_then, refl, true, [], ◌&&◌, ◌∷◌, ◌≡◌, ◌≤◌}
 use Rattle.std.proofs.lemmas.Bool.Decides.{nat_tests}
-use lib.Chars.{codes}
-use Rattle.mk_script.specs.Names.{number_of_word}
-use Rattle.mk_commands.specs.declared.commands.Command.{Command}
+use Rattle.std.specs.Str.{bytes_eq}
+use Rattle.mk_commands.specs.Commands.{IsWithin, alone_of, command_of, count_of, gen_from, gen_of, gen_with, markers_of}
+use Rattle.mk_commands.specs.Commands.{run_of, run_with, start_of}
+use Rattle.mk_commands.specs.Given.{Given, bare, gens, given_by, runs}
 use Rattle.mk_commands.specs.declared.commands.TextCommand.TheVariants.{Check, Print, Replay, Trace}
-use Rattle.mk_commands.specs.Given.{Given, runs, gens, bare, given_by}
-use Rattle.mk_commands.specs.Commands.{markers_of, run_with, run_of, gen_with, gen_from, gen_of, start_of, count_of}
-use Rattle.mk_commands.specs.Commands.{alone_of, command_of, IsWithin}
+use Rattle.mk_commands.specs.declared.commands.Command.{Command}
+use Rattle.mk_script.specs.Names.{number_of_word}
 
 few_if : (n : ℕ) (b : Bool) → nat_le n 8 ≡ b → IfSome (if b then Some n else None) (λ m. m ≤ 8)
 few_if n true e = grind (arith, nat_tests)

@@ -1,17 +1,7 @@
 -- Tests that hold of each number below one.
-use Rattle.std.proofs.Common.{◌≡◌, ℕ, zero, suc, ◌+◌, ◌<◌, Bool, true, false, ◌&&◌, refl, sym, ◌∙◌, ap, inl, inr, arith}
 use Rattle.std.proofs.Common.{add-one}
-use Rattle.std.proofs.lemmas.Bool.{cases_eq}
-use Rattle.mk_core.proofs.Vocabulary.{all_below}
-
-and_left : (a b : Bool) → (a && b) ≡ true → (a ≡ true) × (b ≡ true)
-and_left true true h = (refl, refl)
-and_left true false h = cc
-and_left false b h = cc
-
-and_false : (a : Bool) → (a && false) ≡ false
-and_false true = refl
-and_false false = refl
+use Rattle.mk_core.proofs.Vocabulary.{Bool, ℕ, all_below, and-false, and_parts, ap, arith, cases_eq, false, inl, inr}
+use Rattle.mk_core.proofs.Vocabulary.{refl, suc, sym, true, zero, ◌&&◌, ◌+◌, ◌<◌, ◌∙◌, ◌≡◌}
 
 pub all_below_zero_is : (test : ℕ → Bool) → all_below 0 test ≡ true
 unfolding all_below
@@ -28,7 +18,7 @@ pub all_below_not_is : (n k : ℕ) (test : ℕ → Bool) → k < n → test k �
 unfolding all_below
 all_below_not_is zero k test lt f = absurd (omega arith)
 all_below_not_is (suc n) k test lt f = elim (cases_eq k n) [
-  | inl e ↦ ap (λ b. all_below n test && b) (ap test (sym e) ∙ f) ∙ and_false (all_below n test)
+  | inl e ↦ ap (λ b. all_below n test && b) (ap test (sym e) ∙ f) ∙ and-false (all_below n test)
   | inr ne ↦ ap (λ b. b && test n) (all_below_not_is n k test (omega arith) f)
 ]
 
@@ -37,5 +27,5 @@ pub all_below-at : (n k : ℕ) (test : ℕ → Bool) → all_below n test ≡ tr
 unfolding all_below
 all_below-at zero k test h lt = absurd (omega arith)
 all_below-at (suc n) k test h lt =
-    let b = and_left (all_below n test) (test n) h in
+    let b = and_parts (all_below n test) (test n) h in
     elim (cases_eq k n) [ inl e ↦ ap test e ∙ b.1 | inr ne ↦ all_below-at n k test b.0 (omega arith) ]

@@ -1,7 +1,7 @@
 -- Tests of each number below a sum.
-use Rattle.std.proofs.Common.{◌≡◌, ℕ, zero, suc, ◌+◌, ◌-◌, ◌≤◌, Bool, false, ◌&&◌, refl, sym, ◌∙◌, ap, arith, add-suc}
-use Rattle.std.proofs.Math.Bool.{and_assoc, and-false, and-true}
-use Rattle.mk_core.proofs.Vocabulary.{all_below}
+use Rattle.std.proofs.{Common.add-suc, Math.Bool.and-true, Math.Bool.and_assoc}
+use Rattle.mk_core.proofs.Vocabulary.{Bool, ℕ, all_below, and-false, ap, arith, false, refl, suc, sym, zero, ◌&&◌, ◌+◌}
+use Rattle.mk_core.proofs.Vocabulary.{◌-◌, ◌∙◌, ◌≡◌, ◌≤◌}
 
 -- this many, and this many after them
 pub all_below-add : (a b : ℕ) (test : ℕ → Bool)
@@ -19,8 +19,7 @@ pub all_below_part_not_is : (n a b : ℕ) (test : ℕ → Bool) → a + b ≤ n 
 all_below_part_not_is n a b test le f =
     let e : n ≡ (a + b) + (n - (a + b)) = omega arith in
     let part : all_below (a + b) test ≡ false = rw (all_below-add a b test, f) (and-false (all_below a test)) in
-    ap (λ m. all_below m test) e ∙ all_below-add (a + b) (n - (a + b)) test
-    ∙ ap (λ t. t && all_below (n - (a + b)) (λ i. test (a + b + i))) part
+    cc (e, all_below-add (a + b) (n - (a + b)) test, part)
 
 pub all_below_same : (n : ℕ) (test other : ℕ → Bool) → ((i : ℕ) → test i ≡ other i)
     → all_below n test ≡ all_below n other

@@ -1,9 +1,6 @@
 -- Bits of words.
-use Rattle.std.proofs.Common.{◌≡◌, ℕ, ◌+◌, ◌^◌, ◌<◌, ◌≤◌, false, ap, arith, ◌==◌}
-use Rattle.std.proofs.Math.Pow.{pow_mono}
-use Rattle.std.proofs.lemmas.Bool.{ne_eqb}
-use Rattle.std.proofs.lemmas.Nat.Bits.{bit_at_above}
-use Rattle.mk_core.proofs.Vocabulary.{has_bit}
+use Rattle.std.proofs.{Math.Pow.pow_mono, lemmas.Nat.Bits.bit_at_above}
+use Rattle.mk_core.proofs.Vocabulary.{ℕ, ap, arith, false, has_bit, ne_eqb, ◌+◌, ◌<◌, ◌==◌, ◌^◌, ◌≡◌, ◌≤◌}
 
 -- a word has no bit after its last
 pub has_bit_past : (word k : ℕ) → word < 2 ^ 64 → 64 ≤ k → has_bit word k ≡ false

@@ -1,9 +1,9 @@
 -- The bits that a word has and another hasn't.
-use Rattle.std.proofs.Common.{◌≡◌, ℕ, zero, suc, ◌-◌, ◌/◌, ◌%◌, ◌<◌, ◌≤◌, min, ◌&&◌, not, bit_and, refl, sym, ◌∙◌, ap}
-use Rattle.std.proofs.Common.{arith, ◌==◌}
+use Rattle.std.proofs.lemmas.Nat.Bits.{bit_at-lt, bit_at-suc, bit_at_and, bit_at_lowest, same_from_bits}
+use Rattle.std.proofs.{Common.min, lemmas.Nat.and_le_l}
 use Rattle.std.specs.Int.{bit_at}
-use Rattle.std.proofs.lemmas.Nat.{and_le_l}
-use Rattle.std.proofs.lemmas.Nat.Bits.{bit_at_and, bit_at_lowest, bit_at-suc, bit_at-lt, same_from_bits}
+use Rattle.mk_core.proofs.Vocabulary.{ℕ, ap, arith, bit_and, not, refl, suc, sym, zero, ◌%◌, ◌&&◌, ◌-◌, ◌/◌, ◌<◌, ◌==◌}
+use Rattle.mk_core.proofs.Vocabulary.{◌∙◌, ◌≡◌, ◌≤◌}
 use Rattle.mk_core.specs.HistoryLaws.{BitsWithout}
 
 half_and : (a b : ℕ) → bit_and a b / 2 ≡ bit_and (a / 2) (b / 2)
@@ -14,17 +14,14 @@ half_and a b =
     ∙ sym (bit_at_and (a / 2) (b / 2) k))
 
 lowest_and : (a b : ℕ) → bit_and a b % 2 ≡ min (a % 2) (b % 2)
-lowest_and a b =
-    sym (bit_at_lowest (bit_and a b)) ∙ bit_at_and a b 0
-    ∙ ap (λ x. min x (bit_at b 0)) (bit_at_lowest a) ∙ ap (λ y. min (a % 2) y) (bit_at_lowest b)
+lowest_and a b = cc (bit_at_lowest (bit_and a b), bit_at_and a b 0, bit_at_lowest a, bit_at_lowest b)
 
 bit_without : (a b k : ℕ) → bit_at (a - bit_and a b) k ≡ min (bit_at a k) (1 - bit_at b k)
 bit_without a b zero =
     let low = lowest_and a b in
     let most : bit_and a b ≤ a = and_le_l a b in
     let here : (a - bit_and a b) % 2 ≡ min (a % 2) (1 - b % 2) = omega arith in
-    bit_at_lowest (a - bit_and a b) ∙ here
-    ∙ ap (λ x. min x (1 - b % 2)) (sym (bit_at_lowest a)) ∙ ap (λ y. min (bit_at a 0) (1 - y)) (sym (bit_at_lowest b))
+    cc (bit_at_lowest (a - bit_and a b), here, bit_at_lowest a, bit_at_lowest b)
 bit_without a b (suc k) =
     let low = lowest_and a b in
     let most : bit_and a b ≤ a = and_le_l a b in

@@ -1,15 +1,13 @@
 -- The cell in which an allocation stands.
-use Rattle.std.proofs.Common.{◌≡◌, ℕ, ◌*◌, ◌/◌, ◌<◌, true, false, sym, ◌∙◌, ap, inl, inr, arith}
-use Rattle.std.specs.Prelude.{not, ◌==◌, Option, Some, None}
-use Rattle.std.proofs.lemmas.Bool.{not-true, cases_eq, and_parts, and_from, eqb-true, eq-eqb}
-use Rattle.mk_core.proofs.Vocabulary.{BeginsAtCell, Block, Cell, cell_of_storage, cells_made, cells_of, cells_under}
-use Rattle.mk_core.proofs.Vocabulary.{class_words_of, Config, first_word, Free, HasItsHeaders, Header, header_in}
-use Rattle.mk_core.proofs.Vocabulary.{IsSized, IsWithinLimits, Later, LeafBlock, LeafRun, object_placed}
-use Rattle.mk_core.proofs.Vocabulary.{PlacedAllocation, Run, stands_in, StandsOnHeap, storage_of, Words, words_made}
-use Rattle.mk_core.proofs.Vocabulary.{words_under}
-use Rattle.mk_geom.proofs.ClassTable.{cell_ends}
+use Rattle.std.proofs.Common.{eq-eqb}
+use Rattle.mk_core.proofs.Vocabulary.{BeginsAtCell, Block, Cell, Config, Free, HasItsHeaders, Header, IsSized}
+use Rattle.mk_core.proofs.Vocabulary.{IsWithinLimits, Later, LeafBlock, LeafRun, None, Option, PlacedAllocation, Run}
+use Rattle.mk_core.proofs.Vocabulary.{Some, StandsOnHeap, Words, ℕ, and_from, and_parts, ap, arith, cases_eq, cell_ends}
+use Rattle.mk_core.proofs.Vocabulary.{cell_of_storage, cells_made, cells_of, cells_under, class_words_of, eqb-true}
+use Rattle.mk_core.proofs.Vocabulary.{false, first_word, header_in, inl, inr, not, not-true, object_placed, stands_in}
+use Rattle.mk_core.proofs.Vocabulary.{storage_of, sym, true, words_made, words_under, ◌*◌, ◌/◌, ◌<◌, ◌==◌, ◌∙◌, ◌≡◌}
+use Rattle.mk_core.proofs.StandingAllocations.{cells_begin, first_page_shows, placed_cell}
 use Rattle.mk_core.proofs.ObjectHeaders.{part_cells, part_words}
-use Rattle.mk_core.proofs.StandingAllocations.{placed_cell, first_page_shows, cells_begin}
 
 -- The first word of a cell lies on its page.
 block_on_page : (class index : ℕ) → index < cells_of class → index * class_words_of class < 64

@@ -1,18 +1,14 @@
 -- Allocations that change one by one, and stay at their places.
-use Rattle.std.proofs.Common.{◌≡◌, ℕ, ◌+◌, ◌/◌, ◌<◌, Bool, true, false, List, [], ◌∷◌, ◌++◌, map, length}
-use Rattle.std.proofs.Common.{get_or, refl, sym, ap, subst, ◌∙◌, ◌&&◌, not, if◌then◌else◌, Option, Some, None}
-use Rattle.std.proofs.Math.Bool.{and-false}
-use Rattle.std.proofs.Math.ListN.{get_or-map as get_or-map-default}
-use Rattle.std.proofs.Math.Seq.{get_or-append_seam}
-use Rattle.std.proofs.lemmas.List.{get_or_append_left}
-use Rattle.mk_core.proofs.Vocabulary.{Cell, Config, HasItsHeaders, header_at, is_small_object, IsHeaderOf, kinds_of}
-use Rattle.mk_core.proofs.Vocabulary.{never_granted, object_placed, pages_made, placed_at, PlacedAllocation, stands_in}
-use Rattle.mk_core.proofs.Vocabulary.{storage_of, unreleased_storage, Words}
+use Rattle.std.proofs.{Common.get_or, Math.ListN.get_or-map as get_or-map-default, Math.Seq.get_or-append_seam}
+use Rattle.mk_core.proofs.Vocabulary.{Bool, Cell, Config, HasItsHeaders, IsHeaderOf, List, None, Option}
+use Rattle.mk_core.proofs.Vocabulary.{PlacedAllocation, Some, Words, ℕ, and-false, ap, false, get_or_append_left}
+use Rattle.mk_core.proofs.Vocabulary.{header_at, if◌then◌else◌, is_small_object, kinds_of, length, map, never_granted}
+use Rattle.mk_core.proofs.Vocabulary.{not, object_placed, pages_made, placed_at, refl, stands_in, storage_of, subst}
+use Rattle.mk_core.proofs.Vocabulary.{sym, true, unreleased_storage, [], ◌&&◌, ◌++◌, ◌+◌, ◌/◌, ◌<◌, ◌∙◌, ◌∷◌, ◌≡◌}
 use Rattle.mk_never.specs.Types.{is_large}
+use Rattle.mk_core.proofs.{Sizes.large_is_not_small, UnreleasedStorage.unreleased_kept}
+use Rattle.mk_core.specs.Allocations.{freed_where_it_stands, no_longer_fresh, with_released}
 use Rattle.mk_core.specs.NewPlaces.{object_of}
-use Rattle.mk_core.specs.Allocations.{freed_where_it_stands, with_released, no_longer_fresh}
-use Rattle.mk_core.proofs.Sizes.{large_is_not_small}
-use Rattle.mk_core.proofs.UnreleasedStorage.{unreleased_kept}
 
 -- what a change leaves alone
 pub record LeavesPlaces (change : PlacedAllocation → PlacedAllocation) : Type 0 where
@@ -23,8 +19,7 @@ pub record LeavesPlaces (change : PlacedAllocation → PlacedAllocation) : Type 
 pub changed_at : (change : PlacedAllocation → PlacedAllocation) (xs : List PlacedAllocation) (i : ℕ)
     → change never_granted ≡ never_granted
     → placed_at (map change xs) i ≡ change (placed_at xs i)
-changed_at change xs i e = subst (λ d. get_or (map change xs) i d ≡ change (placed_at xs i)) e
-    (get_or-map-default change xs i never_granted)
+changed_at change xs i e = cc (e, get_or-map-default change xs i never_granted)
 
 -- with one more at the end
 pub granted_at : (xs : List PlacedAllocation) (a : PlacedAllocation) → placed_at (xs ++ a ∷ []) (length xs) ≡ a
@@ -76,14 +71,12 @@ freed_storage c w (Some cell) a small = by a small (stands_in w cell a)
     never_large : (a : PlacedAllocation) (freed : Bool) → is_small_object (object_placed c a) ≡ true
         → (not a.released && not (freed && is_large (kinds_of c.types a.ty))) ≡ (not a.released && true)
     never_large a freed small =
-        let large : is_large (kinds_of c.types a.ty) ≡ false = large_is_not_small (kinds_of c.types a.ty)
-        ∙ ap not small in
+        let large : is_large (kinds_of c.types a.ty) ≡ false = cc (large_is_not_small (kinds_of c.types a.ty), small) in
         ap (λ b. not a.released && not (freed && b)) large ∙ ap (λ b. not a.released && not b) (and-false freed)
 
     by : (a : PlacedAllocation) → is_small_object (object_placed c a) ≡ true → (b : Bool)
         → storage_of c (if b then record a { freed = true; fresh = true } else a) ≡ storage_of c a
-    by a small true = ap (λ b. record (storage_of c a) { mapped = b }) (never_large a true small
-        ∙ sym (never_large a a.freed small))
+    by a small true = cc (never_large a true small, never_large a a.freed small)
     by a small false = refl
 
 -- Where nothing is freed, nothing changes.

@@ -1,17 +1,9 @@
 -- What each condition says of an enabled event.
-use Rattle.std.proofs.Common.{◌≡◌, ℕ, Bool, true, false, refl, subst, arith, ◌&&◌, if◌then◌else◌}
-use Rattle.mk_core.proofs.Vocabulary.{Config, Event, flight_of, IsEnabled, Moment, Seat}
-use Rattle.mk_core.specs.Words.{phase_of}
-use Rattle.mk_core.specs.Moments.{marker_of, marker_at}
-use Rattle.mk_core.specs.Order.{seat_exists, group_of, is_open_to, is_in_order}
-use Rattle.mk_core.specs.Ranges.{is_in_range, has_gates, has_phase}
-use Rattle.mk_core.specs.declared.events.Seat.TheVariants as seat
-use Rattle.mk_core.specs.Enabled.{marker_may, holder_may, meets_own, MeetsAll, EnabledEventsMeetAll}
-
-and_parts : (a b : Bool) → (a && b) ≡ true → (a ≡ true) × (b ≡ true)
-and_parts true true h = (refl, refl)
-and_parts true false h = cc
-and_parts false b h = cc
+use Rattle.mk_core.proofs.Vocabulary.{Bool, Config, Event, IsEnabled, Moment, Seat, ℕ, arith, false, and_parts}
+use Rattle.mk_core.proofs.Vocabulary.{flight_of, if◌then◌else◌, refl, subst, true, ◌&&◌, ◌≡◌}
+use Rattle.mk_core.specs.Enabled.{EnabledEventsMeetAll, MeetsAll, holder_may, marker_may, meets_own}
+use Rattle.mk_core.specs.{Moments.marker_at, Moments.marker_of, Order.group_of, Order.is_in_order, Order.is_open_to}
+use Rattle.mk_core.specs.{Order.seat_exists, Ranges.has_gates, Ranges.has_phase, Ranges.is_in_range, Words.phase_of}
 
 all_hold : (a b c d e f g : Bool)
     → ◌≡◌ {A = ℕ} (if a then (if b
@@ -49,10 +41,9 @@ pub meets_enabled : (c : Config) (m : Moment) (e : Event) → MeetsAll c m e →
 meets_enabled c m e h = rw (h.seat, h.kind, h.order, h.range, h.gates, h.phase, h.marker, h.holder) refl
 
 -- a marker's own condition
-pub marker_meets : (c : Config) (m : Moment) (e : Event) (k : ℕ) → IsEnabled c m e → e.seat ≡ seat.Marker k
+pub marker_meets : (c : Config) (m : Moment) (e : Event) (k : ℕ) → IsEnabled c m e → e.seat ≡ Seat.Marker k
     → marker_may c (marker_of m k) e.step ≡ true
-marker_meets c m e k h is = subst (λ (s : Seat). marker_may c (marker_at m s) e.step ≡ true) is
-    (enabled_meets c m e h).marker
+marker_meets c m e k h is = cc (is, (enabled_meets c m e h).marker)
 
 pub enabled_events_meet_all : EnabledEventsMeetAll
 enabled_events_meet_all c m e = (enabled_meets c m e, meets_enabled c m e)

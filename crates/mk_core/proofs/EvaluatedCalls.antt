@@ -1,16 +1,13 @@
 -- Calls among events of other seats: gates that are held, what a call has found, and lists that go on.
-use Rattle.std.proofs.Common.{◌≡◌, true, false, List, [], ◌∷◌, ◌++◌, take, None, refl, sym, subst}
-use Rattle.std.proofs.lemmas.Bool.{false≢true}
 use Rattle.std.proofs.lemmas.List.{append_cancel_left}
-use Rattle.mk_core.proofs.Vocabulary.{all_below, AreOfOthers, Event, left_from, may_turn_black, pointed_cell}
-use Rattle.mk_never.specs.declared.operations.Op.TheVariants as op
-use Rattle.mk_core.specs.declared.events.Word.TheVariants as word
-use Rattle.mk_core.specs.declared.events.Step.TheVariants as step
-use Rattle.mk_core.specs.HeldGates.{is_gate_held_from, is_gate_held}
-use Rattle.mk_core.specs.Growing.{Grows, own_from, in_this_call}
+use Rattle.mk_core.proofs.Vocabulary.{AreOfOthers, Event, List, None, Op, Step, Word, all_below, false, false≢true}
+use Rattle.mk_core.proofs.Vocabulary.{left_from, may_turn_black, pointed_cell, refl, subst, sym, take, true, [], ◌++◌}
+use Rattle.mk_core.proofs.Vocabulary.{◌∷◌, ◌≡◌}
+use Rattle.mk_core.proofs.Schedules.{blackened_before_the_move, by, c0, fault, first_fault, freed_after_begin, host, m0}
+use Rattle.mk_core.proofs.Schedules.{one_page, pointer_page}
 use Rattle.mk_core.proofs.EventsAt.{events_from}
-use Rattle.mk_core.proofs.Schedules.{by, c0, m0, host, fault, first_fault, one_page, pointer_page, freed_after_begin}
-use Rattle.mk_core.proofs.Schedules.{blackened_before_the_move}
+use Rattle.mk_core.specs.Growing.{Grows, in_this_call, own_from}
+use Rattle.mk_core.specs.HeldGates.{is_gate_held, is_gate_held_from}
 
 -- In a call of its own a caller's gate isn't held. It is after the host's `hold`, and no longer after its `open`.
 pub not_held_in_call : is_gate_held one_page 0 (take 23 freed_after_begin) ≡ false
@@ -27,7 +24,7 @@ held_no_longer = refl
 
 -- A `hold` of a caller that is in a call finds its gate taken, and holds nothing.
 unfoldable pub hold_in_vain : List Event
-hold_in_vain = take 23 freed_after_begin ++ by host (step.Take None ∷ step.Hold 0 ∷ [])
+hold_in_vain = take 23 freed_after_begin ++ by host (Step.Take None ∷ Step.Hold 0 ∷ [])
 
 pub no_fault_in_vain : first_fault one_page hold_in_vain ≡ None
 unfolding first_fault fault by c0 host all_below pointed_cell one_page freed_after_begin hold_in_vain
@@ -43,9 +40,9 @@ before_the_load = take 41 blackened_before_the_move
 
 unfoldable pub load_among_a_scan : List Event
 load_among_a_scan =
-    by c0 (step.Enter (op.GetPtr 2 1 0) ∷ []) ++ by m0 (step.Attend ∷ step.Mlook (word.Head 0) ∷ [])
-    ++ by c0 (step.Reg ∷ []) ++ by m0 (step.Claim 0 0 ∷ step.Mload ∷ []) ++ by c0 (step.Probe ∷ [])
-    ++ by m0 (step.Mload ∷ step.Mblack ∷ step.Quit ∷ []) ++ by c0 (step.Read ∷ [])
+    by c0 (Step.Enter (Op.GetPtr 2 1 0) ∷ []) ++ by m0 (Step.Attend ∷ Step.Mlook (Word.Head 0) ∷ [])
+    ++ by c0 (Step.Reg ∷ []) ++ by m0 (Step.Claim 0 0 ∷ Step.Mload ∷ []) ++ by c0 (Step.Probe ∷ [])
+    ++ by m0 (Step.Mload ∷ Step.Mblack ∷ Step.Quit ∷ []) ++ by c0 (Step.Read ∷ [])
 
 pub no_fault_among : first_fault pointer_page (before_the_load ++ load_among_a_scan) ≡ None
 unfolding first_fault fault by c0 m0 all_below pointed_cell may_turn_black pointer_page blackened_before_the_move
@@ -55,10 +52,10 @@ no_fault_among = refl
 -- The caller's own steps have found its gate free, the address of the second object, at heap word 2, the header of
 -- cells of 2 words, and the address of the third object, at heap word 4.
 pub found_in_the_call : in_this_call pointer_page c0 before_the_load load_among_a_scan
-    ≡ record { event = record { seat = c0; step = step.Enter (op.GetPtr 2 1 0) }; found = 0 }
-    ∷ record { event = record { seat = c0; step = step.Reg }; found = 65552 }
-    ∷ record { event = record { seat = c0; step = step.Probe }; found = 1 }
-    ∷ record { event = record { seat = c0; step = step.Read }; found = 65568 } ∷ []
+    ≡ record { event = record { seat = c0; step = Step.Enter (Op.GetPtr 2 1 0) }; found = 0 }
+    ∷ record { event = record { seat = c0; step = Step.Reg }; found = 65552 }
+    ∷ record { event = record { seat = c0; step = Step.Probe }; found = 1 }
+    ∷ record { event = record { seat = c0; step = Step.Read }; found = 65568 } ∷ []
 unfolding by c0 m0 all_below pointed_cell may_turn_black pointer_page blackened_before_the_move before_the_load
     load_among_a_scan left_from own_from
 found_in_the_call = refl

@@ -1,15 +1,13 @@
 -- What the schedules leave, counted: allocations, held and fresh words, tallies, and frees that are due.
-use Rattle.std.proofs.Common.{◌≡◌, ℕ, ◌<◌, true, false, List, [], ◌∷◌, take, drop, refl, ap, arith}
-use Rattle.std.proofs.lemmas.Bool.{false≢true}
-use Rattle.mk_core.proofs.Vocabulary.{all_below, calls_from, Event, is_give, left, left_from, may_turn_black}
-use Rattle.mk_core.proofs.Vocabulary.{pointed_cell, unreleased_storage}
-use Rattle.mk_core.specs.declared.events.Step.TheVariants as step
-use Rattle.mk_core.specs.Allocations.{held_by_allocations, fresh_words_of}
-use Rattle.mk_core.specs.Counts.{ends, releases, full_answers, TalliesAreTidy, IsTidy, TalliesAreExact, IsDue}
-use Rattle.mk_core.proofs.EventsAt.{◌and◌, event_number, AtEach, Also, at_each}
-use Rattle.mk_core.proofs.Schedules.{by, c0, m0, host, one_page, pointer_page, freed_after_begin}
-use Rattle.mk_core.proofs.Schedules.{blackened_before_the_move}
-use Rattle.mk_core.proofs.MoreSchedules.{two_pages, full_then_reused, a_quarter_and_all}
+use Rattle.mk_core.proofs.Vocabulary.{Event, List, Step, ℕ, all_below, ap, arith, calls_from, drop, false, false≢true}
+use Rattle.mk_core.proofs.Vocabulary.{is_give, left, left_from, may_turn_black, pointed_cell, refl, take, true}
+use Rattle.mk_core.proofs.Vocabulary.{unreleased_storage, [], ◌<◌, ◌∷◌, ◌≡◌}
+use Rattle.mk_core.proofs.EventsAt.{Also, AtEach, at_each, event_number, ◌and◌}
+use Rattle.mk_core.proofs.Schedules.{blackened_before_the_move, by, c0, freed_after_begin, host, m0, one_page}
+use Rattle.mk_core.proofs.Schedules.{pointer_page}
+use Rattle.mk_core.proofs.MoreSchedules.{a_quarter_and_all, full_then_reused, two_pages}
+use Rattle.mk_core.specs.Counts.{IsDue, IsTidy, TalliesAreExact, TalliesAreTidy, ends, full_answers, releases}
+use Rattle.mk_core.specs.Allocations.{fresh_words_of, held_by_allocations}
 
 -- Both freed objects are released at the end. The third has taken the cell of the first.
 pub allocations_freed : (left one_page freed_after_begin).allocations
@@ -100,16 +98,16 @@ unfolding by c0 all_below pointed_cell may_turn_black one_page full_then_reused 
 full_is_exact = record { held = refl; fresh = refl }
 
 -- 2 fresh words of 8 are a quarter, and no more: the first free isn't due. The second is, with 8 of 8.
-pub first_free_is_not_due : IsDue two_pages (take 14 a_quarter_and_all) (record { seat = c0; step = step.Quar 0 1 }) → ⊥
+pub first_free_is_not_due : IsDue two_pages (take 14 a_quarter_and_all) (record { seat = c0; step = Step.Quar 0 1 }) → ⊥
 unfolding by c0 all_below pointed_cell two_pages a_quarter_and_all left_from unreleased_storage
 first_free_is_not_due h = let wrong : 8 < 8 = h.quarter in omega arith
 
-pub second_free_is_due : IsDue two_pages (take 19 a_quarter_and_all) (record { seat = c0; step = step.Quar 1 1 })
+pub second_free_is_due : IsDue two_pages (take 19 a_quarter_and_all) (record { seat = c0; step = Step.Quar 1 1 })
 unfolding by c0 all_below pointed_cell two_pages a_quarter_and_all left_from unreleased_storage
 second_free_is_due = record { decides = refl; quarter = omega arith }
 
 -- The step that takes the snapshot frees nothing, though half of the held words is fresh after it.
 pub snapshot_is_not_due : IsDue one_page (take 14 freed_after_begin)
-    (record { seat = c0; step = step.Quar 0 4294967297 }) → ⊥
+    (record { seat = c0; step = Step.Quar 0 4294967297 }) → ⊥
 unfolding by c0 host all_below pointed_cell one_page freed_after_begin left_from unreleased_storage
 snapshot_is_not_due h = let wrong : false ≡ true = h.decides in false≢true wrong

@@ -1,13 +1,12 @@
 -- Cycles in the schedules: their parts, their snapshots, and which marks sweep.
-use Rattle.std.proofs.Common.{◌≡◌, Bool, true, false, ◌||◌, List, [], ◌∷◌, refl, sym}
-use Rattle.std.proofs.lemmas.Bool.{false≢true}
-use Rattle.mk_core.proofs.Vocabulary.{all_below, Config, Event, flight_of, is_begin, is_close, is_end, is_release, left}
-use Rattle.mk_core.proofs.Vocabulary.{left_from, may_turn_black, placed_at, pointed_cell, World, world_behind}
-use Rattle.mk_core.specs.Cycles.{Cycle, IsInSnapshot, sweeps, NoneSweepsFrom, NoneSweeps}
-use Rattle.mk_core.proofs.EventsAt.{event_number, at_number, next_of, cycle_of}
-use Rattle.mk_core.proofs.Schedules.{by, c0, m0, host, one_page, pointer_page, freed_after_begin}
-use Rattle.mk_core.proofs.Schedules.{blackened_before_the_move}
-use Rattle.mk_core.proofs.MoreSchedules.{exchanged, before_the_sweep, sweeping_mark}
+use Rattle.mk_core.proofs.Vocabulary.{Bool, Config, Event, List, World, all_below, false, false≢true, flight_of}
+use Rattle.mk_core.proofs.Vocabulary.{is_begin, is_close, is_end, is_release, left, left_from, may_turn_black}
+use Rattle.mk_core.proofs.Vocabulary.{placed_at, pointed_cell, refl, sym, true, world_behind, [], ◌||◌, ◌∷◌, ◌≡◌}
+use Rattle.mk_core.proofs.EventsAt.{at_number, cycle_of, event_number, next_of}
+use Rattle.mk_core.proofs.Schedules.{blackened_before_the_move, by, c0, freed_after_begin, host, m0, one_page}
+use Rattle.mk_core.proofs.Schedules.{pointer_page}
+use Rattle.mk_core.proofs.MoreSchedules.{before_the_sweep, exchanged, sweeping_mark}
+use Rattle.mk_core.specs.Cycles.{Cycle, IsInSnapshot, NoneSweeps, NoneSweepsFrom, sweeps}
 
 -- The first cycle is begun in a caller's turn and ended in the host's.
 unfoldable pub first_cycle : Cycle freed_after_begin

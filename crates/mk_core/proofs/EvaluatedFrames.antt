@@ -1,27 +1,24 @@
 -- What others leave to a seat, in small cases: to a caller before its `probe`, while the host takes the turn, and to
 -- the host in its turn, while a caller tries to enter and a marker visits. An event of its own may leave less.
-use Rattle.std.proofs.Common.{List, [], ◌∷◌, ◌++◌, None, refl, ap}
-use Rattle.std.proofs.lemmas.Bool.{false≢true, eqb-false, ltb-true}
-use Rattle.mk_core.proofs.Vocabulary.{all_below, AreOfOthers, calls_from, Event, left, left_from, pointed_cell}
-use Rattle.mk_never.specs.declared.operations.Op.TheVariants as op
-use Rattle.mk_core.specs.declared.events.Seat.TheVariants as seat
-use Rattle.mk_core.specs.declared.events.Step.TheVariants as step
+use Rattle.mk_core.proofs.Vocabulary.{AreOfOthers, Event, List, None, Op, Seat, Step, all_below, ap, calls_from}
+use Rattle.mk_core.proofs.Vocabulary.{eqb-false, false≢true, left, left_from, ltb-true, pointed_cell, refl, [], ◌++◌}
+use Rattle.mk_core.proofs.Vocabulary.{◌∷◌}
+use Rattle.mk_core.proofs.SmallCycles.{begun_in_stop, by_caller, by_host, by_marker, small, three_objects}
+use Rattle.mk_core.specs.Frames.{CallIsLeft, CountsAreLeft, IsLeft, OwnIsLeft, Steady, TurnIsLeft}
 use Rattle.mk_core.specs.LongerLists.{IsStillTheSame}
-use Rattle.mk_core.specs.Frames.{OwnIsLeft, CallIsLeft, TurnIsLeft, CountsAreLeft, IsLeft, Steady}
-use Rattle.mk_core.proofs.SmallCycles.{by_caller, by_marker, by_host, small, three_objects, begun_in_stop}
 
 -- The caller has loaded the registers of a SetPtr. The host takes the turn, and finds the caller's gate taken.
 
 abbrev pub before_probe : List Event
-before_probe = three_objects ++ by_caller (step.Enter (op.SetPtr 0 0 1) ∷ step.Reg ∷ step.Reg ∷ [])
+before_probe = three_objects ++ by_caller (Step.Enter (Op.SetPtr 0 0 1) ∷ Step.Reg ∷ Step.Reg ∷ [])
 
 abbrev pub turn_taken : List Event
-turn_taken = by_host (step.Take None ∷ step.Hold 0 ∷ [])
+turn_taken = by_host (Step.Take None ∷ Step.Hold 0 ∷ [])
 
 abbrev pub probe : Event
-probe = record { seat = seat.Caller 0; step = step.Probe }
+probe = record { seat = Seat.Caller 0; step = Step.Probe }
 
-pub hosts_are_others : AreOfOthers (seat.Caller 0 ∷ []) turn_taken
+pub hosts_are_others : AreOfOthers (Seat.Caller 0 ∷ []) turn_taken
 unfolding AreOfOthers
 hosts_are_others = (refl, (refl, tt))
 
@@ -29,7 +26,7 @@ pub probe_is_the_same : IsStillTheSame small before_probe (before_probe ++ turn_
 unfolding left_from all_below pointed_cell three_objects
 probe_is_the_same = record { word = refl; of_the_table = ltb-true 0 1 refl; access = refl; decides = λ is. refl }
 
-pub own_is_left : OwnIsLeft small (seat.Caller 0) (left small before_probe) (left small (before_probe ++ turn_taken))
+pub own_is_left : OwnIsLeft small (Seat.Caller 0) (left small before_probe) (left small (before_probe ++ turn_taken))
 unfolding left_from all_below pointed_cell three_objects
 own_is_left = record {
   flight = refl;
@@ -45,9 +42,9 @@ call_is_left = record { gate = refl; mapped = λ p mapped. mapped }
 -- The host holds the turn and all gates. A caller finds its gate held, and a marker finds no marking.
 
 abbrev pub others_try : List Event
-others_try = by_caller (step.Enter (op.IsNull 0) ∷ []) ++ by_marker (step.Attend ∷ step.Quit ∷ [])
+others_try = by_caller (Step.Enter (Op.IsNull 0) ∷ []) ++ by_marker (Step.Attend ∷ Step.Quit ∷ [])
 
-pub triers_are_others : AreOfOthers (seat.Host ∷ []) others_try
+pub triers_are_others : AreOfOthers (Seat.Host ∷ []) others_try
 unfolding AreOfOthers
 triers_are_others = (refl, (refl, (refl, tt)))
 
@@ -70,7 +67,7 @@ counts_are_left : CountsAreLeft small begun_in_stop (begun_in_stop ++ others_try
 unfolding left_from calls_from all_below pointed_cell begun_in_stop three_objects
 counts_are_left = record { ends = refl; fulls = refl }
 
-host_is_left : OwnIsLeft small seat.Host (left small begun_in_stop) (left small (begun_in_stop ++ others_try))
+host_is_left : OwnIsLeft small Seat.Host (left small begun_in_stop) (left small (begun_in_stop ++ others_try))
 unfolding left_from all_below pointed_cell begun_in_stop three_objects
 host_is_left = record {
   flight = refl;
@@ -79,7 +76,7 @@ host_is_left = record {
   holding = λ holds. (holds, refl);
 }
 
-pub all_is_left : IsLeft small seat.Host begun_in_stop (begun_in_stop ++ others_try)
+pub all_is_left : IsLeft small Seat.Host begun_in_stop (begun_in_stop ++ others_try)
 unfolding left_from all_below pointed_cell begun_in_stop three_objects
 all_is_left = record {
   own = host_is_left;
@@ -92,6 +89,6 @@ all_is_left = record {
 
 -- its own `begin` changes the phase
 pub own_begin_leaves_less : TurnIsLeft (left small begun_in_stop)
-    (left small (begun_in_stop ++ by_host (step.Begin ∷ []))) → ⊥
+    (left small (begun_in_stop ++ by_host (Step.Begin ∷ []))) → ⊥
 unfolding left_from all_below pointed_cell begun_in_stop three_objects
 own_begin_leaves_less left = eqb-false 1 0 refl (ap (λ (x : Steady). x.phase) left.steady)

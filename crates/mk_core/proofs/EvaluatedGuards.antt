@@ -1,14 +1,13 @@
 -- What guards the words of black objects while a caller writes beside a marker: a marked target, a dirty page, and a
 -- call that owes the dirty mark. And a moment that no history leaves, where nothing does.
-use Rattle.std.proofs.Common.{◌≡◌, ℕ, ◌<◌, ◌+◌, ◌*◌, ◌/◌, zero, suc, true, false, [], ◌∷◌, ◌++◌, replicate, slice_index}
-use Rattle.std.proofs.Common.{refl, inl, arith}
-use Rattle.std.proofs.lemmas.Bool.{false≢true, ltb-true}
-use Rattle.mk_core.proofs.Vocabulary.{all_below, first_moment, left, left_from, Moment, pointed_cell, points_well}
-use Rattle.mk_core.proofs.Vocabulary.{word_points_well, zero_words_of}
+use Rattle.mk_core.proofs.Vocabulary.{Moment, ℕ, all_below, arith, false, false≢true, first_moment, inl, left}
+use Rattle.mk_core.proofs.Vocabulary.{left_from, ltb-true, pointed_cell, points_well, refl, replicate, slice_index, suc}
+use Rattle.mk_core.proofs.Vocabulary.{true, word_points_well, zero, zero_words_of, [], ◌*◌, ◌++◌, ◌+◌, ◌/◌, ◌<◌, ◌∷◌}
+use Rattle.mk_core.proofs.Vocabulary.{◌≡◌}
 use Rattle.mk_geom.specs.Addresses.{address_of}
-use Rattle.mk_core.specs.ClosedMarks.{OwesDirty, IsGuarded, PointsWell, PageIsDirty, DirtyIsOwed, MarkingIsGuarded}
+use Rattle.mk_core.proofs.SmallCycles.{marked_beside, page_dirtied, small, three_objects, written_beside}
 use Rattle.mk_core.proofs.ListTests.{list_all-at}
-use Rattle.mk_core.proofs.SmallCycles.{small, three_objects, page_dirtied, written_beside, marked_beside}
+use Rattle.mk_core.specs.ClosedMarks.{DirtyIsOwed, IsGuarded, MarkingIsGuarded, OwesDirty, PageIsDirty, PointsWell}
 
 -- After the `write` heap word 0, of a black object, points to an unmarked one, and its page isn't dirty yet.
 

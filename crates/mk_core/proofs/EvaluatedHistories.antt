@@ -1,23 +1,21 @@
 -- Each of the schedules is a history.
-use Rattle.std.proofs.Common.{◌≡◌, ℕ, ◌+◌, ◌<◌, ◌≤◌, le_refl, arith, Bool, true, false, ◌==◌, if◌then◌else◌, eqb-true}
-use Rattle.std.proofs.Common.{refl, List, [], ◌∷◌, ◌++◌, length, replicate, drop, Option, Some, None, All}
-use Rattle.std.proofs.lemmas.List.{length-replicate}
-use Rattle.std.proofs.lemmas.List.Elements.{All-nil, All-cons, All-replicate}
-use Rattle.mk_core.proofs.Vocabulary.{all_below, AreEnabledFrom, calls_from, Config, Event, failing, first_world}
-use Rattle.mk_core.proofs.Vocabulary.{IsHistory, IsWithinLimits, left_from, may_turn_black, NeverState, Op}
-use Rattle.mk_core.proofs.Vocabulary.{pointed_cell, To, World, world_behind}
-use Rattle.mk_never.specs.declared.types.Kind.{Kind}
-use Rattle.mk_never.specs.declared.types.Kind.TheVariants.{Num}
-use Rattle.mk_never.specs.Admitted.{IsAdmitted, IsCaller, OperandsAreInRange, AccessIsAdmitted, StoreIsAdmitted}
-use Rattle.mk_core.specs.Config.{IsBetween, IsAmong, IsTypeAmong}
+use Rattle.std.proofs.lemmas.List.Elements.{All-cons, All-nil, All-replicate}
+use Rattle.std.proofs.Common.{All, le_refl}
+use Rattle.mk_core.proofs.Vocabulary.{AreEnabledFrom, Bool, Config, Event, IsHistory, IsWithinLimits, List, NeverState}
+use Rattle.mk_core.proofs.Vocabulary.{None, Op, Option, Some, To, World, ℕ, all_below, arith, calls_from, drop}
+use Rattle.mk_core.proofs.Vocabulary.{eqb-true, failing, false, first_world, if◌then◌else◌, left_from, length}
+use Rattle.mk_core.proofs.Vocabulary.{length-replicate, may_turn_black, pointed_cell, refl, replicate, true}
+use Rattle.mk_core.proofs.Vocabulary.{world_behind, [], ◌++◌, ◌+◌, ◌<◌, ◌==◌, ◌∷◌, ◌≡◌, ◌≤◌}
+use Rattle.mk_never.specs.Admitted.{AccessIsAdmitted, IsAdmitted, IsCaller, OperandsAreInRange, StoreIsAdmitted}
+use Rattle.mk_never.specs.{declared.types.Kind.Kind, declared.types.Kind.TheVariants.Num}
+use Rattle.mk_core.proofs.MoreSchedules.{a_quarter_and_all, before_the_sweep, exchanged, full_then_reused}
+use Rattle.mk_core.proofs.MoreSchedules.{granted_while_marking, no_fault_full, no_fault_marking, no_fault_quarter}
+use Rattle.mk_core.proofs.MoreSchedules.{no_fault_swept, sweeping_mark, two_pages}
+use Rattle.mk_core.proofs.Schedules.{blackened_before_the_move, by, c0, fault, first_fault, freed_after_begin, host, m0}
+use Rattle.mk_core.proofs.Schedules.{no_fault_blackened, no_fault_freed, one_page, pointer_page}
+use Rattle.mk_core.proofs.{EventsAt.◌and◌, HistoryParts.earlier_part_is_history}
+use Rattle.mk_core.specs.Config.{IsAmong, IsBetween, IsTypeAmong}
 use Rattle.mk_core.specs.History.{AreEnabled, CallsAreAdmitted}
-use Rattle.mk_core.proofs.Schedules.{by, c0, m0, host, fault, first_fault, one_page, pointer_page, freed_after_begin}
-use Rattle.mk_core.proofs.Schedules.{blackened_before_the_move, no_fault_freed, no_fault_blackened}
-use Rattle.mk_core.proofs.MoreSchedules.{two_pages, full_then_reused, a_quarter_and_all, granted_while_marking}
-use Rattle.mk_core.proofs.MoreSchedules.{exchanged, before_the_sweep, sweeping_mark, no_fault_full, no_fault_quarter}
-use Rattle.mk_core.proofs.MoreSchedules.{no_fault_marking, no_fault_swept}
-use Rattle.mk_core.proofs.EventsAt.{◌and◌}
-use Rattle.mk_core.proofs.HistoryParts.{earlier_part_is_history}
 
 -- Where no fault is found, each event is enabled.
 
@@ -51,17 +49,16 @@ pub small_limits : (pages callers : ℕ) (types : List (List Kind)) → IsBetwee
       types = types;
       globals = [];
     })
-small_limits pages callers types few_pages few_callers few_types among =
-    record {
-      pages = (few_pages.0, omega (arith, few_pages.1));
-      resident = (few_pages.0, le_refl pages);
-      callers = (few_callers.0, omega (arith, few_callers.1));
-      markers = omega arith;
-      type_count = omega (arith, few_types);
-      global_count = omega arith;
-      types = among;
-      globals = All-nil (λ (ty : ℕ). ty < length types);
-    }
+small_limits pages callers types few_pages few_callers few_types among = record {
+  pages = (few_pages.0, omega (arith, few_pages.1));
+  resident = (few_pages.0, le_refl pages);
+  callers = (few_callers.0, omega (arith, few_callers.1));
+  markers = omega arith;
+  type_count = omega (arith, few_types);
+  global_count = omega arith;
+  types = among;
+  globals = All-nil (λ (ty : ℕ). ty < length types);
+}
 
 pub numbers : (types : List (List Kind)) (words : ℕ) → IsBetween 1 4096 words → IsTypeAmong types (replicate words Num)
 numbers types words within = (rw (length-replicate words Num) within, All-replicate (IsAmong types) words Num tt)
@@ -98,8 +95,7 @@ pointer_page_limits =
 
 pub admitted : {globals : List ℕ} {n : NeverState} {caller : ℕ} {op : Op} → IsCaller n caller → OperandsAreInRange n op
     → AccessIsAdmitted n caller op → StoreIsAdmitted globals n caller op → IsAdmitted globals n caller op
-admitted caller range access store =
-    record { of_a_caller = caller; in_range = range; access = access; store = store }
+admitted caller range access store = record { of_a_caller = caller; in_range = range; access = access; store = store }
 
 pub history : (c : Config) (es : List Event) → IsWithinLimits c → first_fault c es ≡ None → CallsAreAdmitted c es
     → IsHistory c es

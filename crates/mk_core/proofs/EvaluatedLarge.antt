@@ -1,21 +1,16 @@
 -- The schedule of a large object, evaluated: answers, counts, places and what is due.
-use Rattle.std.proofs.Common.{◌≡◌, ◌<◌, arith, true, false, List, [], ◌∷◌, replicate, take, Some, refl, ap}
-use Rattle.std.proofs.lemmas.Bool.{false≢true}
-use Rattle.mk_core.proofs.Vocabulary.{all_below, answered, calls, calls_from, Event, is_give, IsHistory, IsWithinLimits}
-use Rattle.mk_core.proofs.Vocabulary.{left, left_from, NoneServesFrom, pointed_cell, StandsAtItsPlace}
-use Rattle.mk_core.proofs.Vocabulary.{unreleased_storage}
+use Rattle.mk_core.proofs.Vocabulary.{Answer, Event, IsHistory, IsWithinLimits, List, NoneServesFrom, Op, Some}
+use Rattle.mk_core.proofs.Vocabulary.{StandsAtItsPlace, Step, all_below, answered, ap, arith, calls, calls_from, false}
+use Rattle.mk_core.proofs.Vocabulary.{false≢true, is_give, left, left_from, pointed_cell, refl, replicate, take, true}
+use Rattle.mk_core.proofs.Vocabulary.{unreleased_storage, [], ◌<◌, ◌∷◌, ◌≡◌}
 use Rattle.mk_never.specs.declared.types.Kind.TheVariants.{Num}
-use Rattle.mk_never.specs.declared.operations.Op.TheVariants as op
-use Rattle.mk_core.specs.declared.events.Answer.TheVariants as answer
-use Rattle.mk_core.specs.declared.events.Step.TheVariants as step
-use Rattle.mk_core.specs.Allocations.{held_by_allocations, fresh_words_of, place_among_allocations}
-use Rattle.mk_core.specs.Allocations.{FitsAmongAllocations}
-use Rattle.mk_core.specs.History.{CallsAreAdmitted, RefinesNever}
-use Rattle.mk_core.specs.Counts.{TalliesAreTidy, IsTidy, IsDue}
-use Rattle.mk_core.proofs.EventsAt.{◌and◌, event_number, turn_number, served, stands_at, AtEach, Also, at_each}
+use Rattle.mk_core.proofs.EvaluatedHistories.{admitted, history, numbers, one_type, small_limits}
+use Rattle.mk_core.proofs.EventsAt.{Also, AtEach, at_each, event_number, served, stands_at, turn_number, ◌and◌}
+use Rattle.mk_core.proofs.LargeSchedule.{large_freed, no_fault_large, three_pages}
 use Rattle.mk_core.proofs.Schedules.{by, c0}
-use Rattle.mk_core.proofs.LargeSchedule.{three_pages, large_freed, no_fault_large}
-use Rattle.mk_core.proofs.EvaluatedHistories.{small_limits, numbers, one_type, admitted, history}
+use Rattle.mk_core.specs.Counts.{IsDue, IsTidy, TalliesAreTidy}
+use Rattle.mk_core.specs.{Allocations.FitsAmongAllocations, Allocations.fresh_words_of, Allocations.held_by_allocations}
+use Rattle.mk_core.specs.{Allocations.place_among_allocations, History.CallsAreAdmitted, History.RefinesNever}
 
 three_pages_limits : IsWithinLimits three_pages
 unfolding three_pages
@@ -40,7 +35,7 @@ large_is_history = history three_pages large_freed three_pages_limits no_fault_l
 -- A New, a write and a Free are done. The read is refused as one of an unmapped object, and the second Free as one too
 -- many.
 pub answers_large : answered (calls three_pages large_freed)
-    ≡ answer.Done ∷ answer.Done ∷ answer.Done ∷ answer.Fault ∷ answer.Double ∷ answer.Done ∷ answer.Done ∷ []
+    ≡ Answer.Done ∷ Answer.Done ∷ Answer.Done ∷ Answer.Fault ∷ Answer.Double ∷ Answer.Done ∷ Answer.Done ∷ []
 unfolding by c0 all_below pointed_cell three_pages large_freed calls_from
 answers_large = refl
 
@@ -56,7 +51,7 @@ pub counts_large : (held_by_allocations three_pages (left three_pages (take 16 l
 unfolding by c0 all_below pointed_cell three_pages large_freed left_from unreleased_storage
 counts_large = (refl, refl, refl)
 
-pub large_free_is_not_due : IsDue three_pages (take 16 large_freed) (record { seat = c0; step = step.Quar 0 1 }) → ⊥
+pub large_free_is_not_due : IsDue three_pages (take 16 large_freed) (record { seat = c0; step = Step.Quar 0 1 }) → ⊥
 unfolding by c0 all_below pointed_cell three_pages large_freed left_from unreleased_storage
 large_free_is_not_due h = let wrong : 0 < 0 = h.quarter in omega arith
 
@@ -80,7 +75,7 @@ pub large_grant : StandsAtItsPlace three_pages (take 53 large_freed) c0
 unfolding by c0 all_below pointed_cell three_pages large_freed left_from unreleased_storage event_number
     turn_number NoneServesFrom
 large_grant =
-    stands_at (turn_number three_pages c0 34 (Some (op.New 1 0 false)) (take 53 large_freed) refl refl refl)
+    stands_at (turn_number three_pages c0 34 (Some (Op.New 1 0 false)) (take 53 large_freed) refl refl refl)
     (served _ 15 refl (refl and refl and refl and refl and refl and refl and refl and refl
     and refl and refl and refl and refl and refl and refl and refl and tt) refl)
     (record { page = 0; index = 0; carve = true }) refl refl

@@ -1,24 +1,21 @@
 -- Closed marks along two small cycles: open after a `begin` and beside a caller that writes, and closed before a
 -- `close`.
-use Rattle.std.proofs.Common.{[], ◌∷◌, ◌++◌, refl}
-use Rattle.std.proofs.lemmas.Bool.{false≢true, leb-true, ltb-true}
-use Rattle.mk_core.proofs.Vocabulary.{all_below, left, left_from, pointed_cell}
-use Rattle.mk_core.specs.declared.events.Step.TheVariants as step
+use Rattle.mk_core.proofs.Vocabulary.{Step, all_below, false≢true, leb-true, left, left_from, ltb-true, pointed_cell}
+use Rattle.mk_core.proofs.Vocabulary.{refl, [], ◌++◌, ◌∷◌}
+use Rattle.mk_core.proofs.SmallCycles.{begun_in_stop, by_host, marked_beside, marked_in_stop, small, three_objects}
+use Rattle.mk_core.proofs.SmallCycles.{written_beside}
+use Rattle.mk_core.proofs.{ListTests.numbered_all, MarkTests.marks_closed_by_test}
 use Rattle.mk_core.specs.ClosedMarks.{MarksAreClosed}
-use Rattle.mk_core.proofs.ListTests.{numbered_all}
-use Rattle.mk_core.proofs.MarkTests.{marks_closed_by_test}
-use Rattle.mk_core.proofs.SmallCycles.{by_host, small, three_objects, begun_in_stop, marked_in_stop, written_beside}
-use Rattle.mk_core.proofs.SmallCycles.{marked_beside}
 
 -- closed marks
 
-pub open_behind_begin : MarksAreClosed small (left small (begun_in_stop ++ by_host (step.Begin ∷ []))) → ⊥
+pub open_behind_begin : MarksAreClosed small (left small (begun_in_stop ++ by_host (Step.Begin ∷ []))) → ⊥
 unfolding left_from all_below pointed_cell begun_in_stop three_objects
 open_behind_begin closed = false≢true (closed.registers 0)
 
-pub closed_in_stop : MarksAreClosed small (left small (begun_in_stop ++ by_host (step.Begin ∷ []) ++ marked_in_stop))
+pub closed_in_stop : MarksAreClosed small (left small (begun_in_stop ++ by_host (Step.Begin ∷ []) ++ marked_in_stop))
 unfolding left_from all_below pointed_cell numbered_all begun_in_stop three_objects marked_in_stop
-closed_in_stop = marks_closed_by_test small (left small (begun_in_stop ++ by_host (step.Begin ∷ []) ++ marked_in_stop))
+closed_in_stop = marks_closed_by_test small (left small (begun_in_stop ++ by_host (Step.Begin ∷ []) ++ marked_in_stop))
     refl
 
 pub closed_beside : MarksAreClosed small (left small marked_beside)

@@ -1,17 +1,13 @@
 -- Places in the schedules: what fits, where each object is granted, and where a New is refused.
-use Rattle.std.proofs.Common.{◌≡◌, Bool, true, false, List, [], take, Some, refl, ap}
-use Rattle.std.proofs.lemmas.Bool.{false≢true}
-use Rattle.mk_core.proofs.Vocabulary.{all_below, Event, is_begin, is_close, is_end, is_release, left, left_from}
-use Rattle.mk_core.proofs.Vocabulary.{may_turn_black, NoneServesFrom, pointed_cell, StandsAtItsPlace, Step}
-use Rattle.mk_core.proofs.Vocabulary.{unreleased_storage}
-use Rattle.mk_never.specs.declared.operations.Op.TheVariants as op
-use Rattle.mk_core.specs.declared.events.Step.TheVariants as step
-use Rattle.mk_core.specs.Allocations.{place_among_allocations, FitsAmongAllocations}
-use Rattle.mk_core.specs.Placement.{GrantsStandAtTheirPlaces, FindsNoPlace, FullsFitNowhere}
-use Rattle.mk_core.proofs.EventsAt.{◌and◌, event_number, at_number, next_of, cycle_of, turn_number, served}
-use Rattle.mk_core.proofs.EventsAt.{stands_at, AtEach, Also, at_each}
-use Rattle.mk_core.proofs.Schedules.{by, c0, host, one_page, freed_after_begin}
-use Rattle.mk_core.proofs.MoreSchedules.{two_pages, full_then_reused, granted_while_marking}
+use Rattle.mk_core.proofs.Vocabulary.{Bool, Event, List, NoneServesFrom, Op, Some, StandsAtItsPlace, Step, all_below}
+use Rattle.mk_core.proofs.Vocabulary.{ap, false, false≢true, is_begin, is_close, is_end, is_release, left, left_from}
+use Rattle.mk_core.proofs.Vocabulary.{may_turn_black, pointed_cell, refl, take, true, unreleased_storage, [], ◌≡◌}
+use Rattle.mk_core.proofs.EventsAt.{Also, AtEach, at_each, at_number, cycle_of, event_number, next_of, served}
+use Rattle.mk_core.proofs.EventsAt.{stands_at, turn_number, ◌and◌}
+use Rattle.mk_core.proofs.Schedules.{by, c0, freed_after_begin, host, one_page}
+use Rattle.mk_core.proofs.MoreSchedules.{full_then_reused, granted_while_marking, two_pages}
+use Rattle.mk_core.specs.Placement.{FindsNoPlace, FullsFitNowhere, GrantsStandAtTheirPlaces}
+use Rattle.mk_core.specs.Allocations.{FitsAmongAllocations, place_among_allocations}
 
 -- One cell of 32 words is taken, and the other is free. An object of 2 words needs a page of its own size, which isn't
 -- there.
@@ -29,7 +25,7 @@ unfolding by c0 host all_below pointed_cell one_page freed_after_begin left_from
 other_size_fits_nowhere h = false≢true h
 
 abbrev pub is_grant : Step → Bool
-is_grant step.Grant = true
+is_grant Step.Grant = true
 is_grant _ = false
 
 -- The first object carves the page, and the second takes the cell beside it. The third is served only after the cycle
@@ -38,21 +34,21 @@ pub first_grant : StandsAtItsPlace one_page (take 3 freed_after_begin) c0
 unfolding by c0 host all_below pointed_cell one_page freed_after_begin left_from unreleased_storage event_number
     turn_number NoneServesFrom
 first_grant =
-    stands_at (turn_number one_page c0 0 (Some (op.New 0 0 false)) (take 3 freed_after_begin) refl refl refl)
+    stands_at (turn_number one_page c0 0 (Some (Op.New 0 0 false)) (take 3 freed_after_begin) refl refl refl)
     (served _ 0 refl tt refl) (record { page = 0; index = 0; carve = true }) refl refl
 
 pub second_grant : StandsAtItsPlace one_page (take 8 freed_after_begin) c0
 unfolding by c0 host all_below pointed_cell one_page freed_after_begin left_from unreleased_storage event_number
     turn_number NoneServesFrom
 second_grant =
-    stands_at (turn_number one_page c0 6 (Some (op.New 1 0 false)) (take 8 freed_after_begin) refl refl refl)
+    stands_at (turn_number one_page c0 6 (Some (Op.New 1 0 false)) (take 8 freed_after_begin) refl refl refl)
     (served _ 0 refl tt refl) (record { page = 0; index = 1; carve = false }) refl refl
 
 pub third_grant : StandsAtItsPlace one_page (take 53 freed_after_begin) c0
 unfolding by c0 host all_below pointed_cell one_page freed_after_begin left_from unreleased_storage event_number
     turn_number NoneServesFrom
 third_grant =
-    stands_at (turn_number one_page c0 39 (Some (op.New 2 0 false)) (take 53 freed_after_begin) refl refl refl)
+    stands_at (turn_number one_page c0 39 (Some (Op.New 2 0 false)) (take 53 freed_after_begin) refl refl refl)
     (served _ 11 refl (refl and refl and refl and refl and refl and refl and refl and refl and refl and refl and refl
     and tt) refl) (record { page = 0; index = 0; carve = true }) refl refl
 
@@ -67,23 +63,22 @@ pub grant_while_marking : StandsAtItsPlace two_pages (take 16 granted_while_mark
 unfolding by c0 all_below pointed_cell two_pages granted_while_marking left_from unreleased_storage event_number
     turn_number NoneServesFrom
 grant_while_marking =
-    stands_at (turn_number two_pages c0 12 (Some (op.New 1 1 false)) (take 16 granted_while_marking) refl refl refl)
+    stands_at (turn_number two_pages c0 12 (Some (Op.New 1 1 false)) (take 16 granted_while_marking) refl refl refl)
     (served _ 0 refl tt refl) (record { page = 1; index = 0; carve = true }) refl refl
 
 -- The refused New begins and ends a cycle in its turn. Both cells are still taken after it, so it doesn't fit.
 pub full : FindsNoPlace one_page (take 31 full_then_reused) c0
 unfolding by c0 all_below pointed_cell may_turn_black one_page full_then_reused left_from unreleased_storage
     event_number at_number turn_number
-full =
-    record {
-      turn = turn_number one_page c0 16 (Some (op.New 2 0 false)) (take 31 full_then_reused) refl refl refl;
-      cycle = cycle_of (at_number is_begin 2 _ refl refl) (next_of (at_number is_close 7 _ refl refl) refl)
-          (next_of (at_number is_release 0 _ refl refl) refl) (next_of (at_number is_end 0 _ refl refl) refl);
-      no_fit = λ h. false≢true h;
-    }
+full = record {
+  turn = turn_number one_page c0 16 (Some (Op.New 2 0 false)) (take 31 full_then_reused) refl refl refl;
+  cycle = cycle_of (at_number is_begin 2 _ refl refl) (next_of (at_number is_close 7 _ refl refl) refl)
+      (next_of (at_number is_release 0 _ refl refl) refl) (next_of (at_number is_end 0 _ refl refl) refl);
+  no_fit = λ h. false≢true h;
+}
 
 abbrev pub is_full_step : Step → Bool
-is_full_step step.Full = true
+is_full_step Step.Full = true
 is_full_step _ = false
 
 pub fulls_fit_nowhere : FullsFitNowhere one_page full_then_reused

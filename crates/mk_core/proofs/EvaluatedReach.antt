@@ -1,16 +1,13 @@
 -- What is reached after a small history: by a register, by a word of another object, and not at all.
-use Rattle.std.proofs.Common.{◌≡◌, ℕ, zero, suc, Bool, true, false, not, ◌&&◌, ◌||◌, [], ◌∷◌, replicate, refl, sym, ◌∙◌}
-use Rattle.std.proofs.Common.{ap, subst}
-use Rattle.std.specs.List.{list_all}
-use Rattle.std.proofs.lemmas.Bool.{and_parts, false≢true}
-use Rattle.mk_core.proofs.Vocabulary.{all_below, calls_from, left_from, never_behind, NeverState, Null, pointed_cell}
-use Rattle.mk_core.proofs.Vocabulary.{Ptr, Value}
-use Rattle.mk_never.specs.declared.values.Value.TheVariants.{Num}
-use Rattle.mk_never.specs.NeverHeap.{Allocation, no_allocation, allocation_at, word_at, is_unmapped}
-use Rattle.mk_never.specs.Reach.{LeadsTo, IsReachable, by_register, by_word, IsClosedUnderPointers}
+use Rattle.mk_core.proofs.Vocabulary.{Bool, NeverState, Null, Ptr, Value, ℕ, all_below, and_parts, ap, calls_from}
+use Rattle.mk_core.proofs.Vocabulary.{false, false≢true, left_from, list_all, never_behind, not, pointed_cell, refl}
+use Rattle.mk_core.proofs.Vocabulary.{replicate, subst, suc, sym, true, zero, [], ◌&&◌, ◌||◌, ◌∙◌, ◌∷◌, ◌≡◌}
 use Rattle.mk_never.proofs.Reached.{reached_is_in}
+use Rattle.mk_never.specs.NeverHeap.{Allocation, allocation_at, is_unmapped, no_allocation, word_at}
+use Rattle.mk_never.specs.Reach.{IsClosedUnderPointers, IsReachable, LeadsTo, by_register, by_word}
+use Rattle.mk_never.specs.declared.values.Value.TheVariants.{Num}
 use Rattle.mk_core.proofs.ListTests.{implied, list_all-at, numbered_all, numbered_all-at}
-use Rattle.mk_core.proofs.SmallCycles.{small, three_objects, begun_in_stop}
+use Rattle.mk_core.proofs.SmallCycles.{begun_in_stop, small, three_objects}
 
 -- A set is closed under pointers, as a test.
 

@@ -1,44 +1,38 @@
 -- What turn, gates and phase tell along two small cycles: in a call, in a New, in a stop after its `close`, and with a
 -- marker in.
-use Rattle.std.proofs.Common.{◌≡◌, ◌↔◌, ℕ, zero, suc, ◌+◌, ◌<◌, ◌≤◌, true, false, not, List, [], ◌∷◌, ◌++◌, slice_index}
-use Rattle.std.proofs.Common.{Some, refl, sym, ◌∙◌, arith}
-use Rattle.std.proofs.lemmas.Bool.{false≢true, eqb-false, not-true, leb-true, ltb-true}
-use Rattle.mk_core.proofs.Vocabulary.{all_below, Event, first_moment, flight_of, left, left_from, Moment, pointed_cell}
-use Rattle.mk_core.proofs.Vocabulary.{Seat, zero_words_of}
-use Rattle.mk_never.specs.declared.operations.Op.TheVariants as op
-use Rattle.mk_core.specs.declared.events.Seat.TheVariants as seat
-use Rattle.mk_core.specs.declared.events.Step.TheVariants as step
-use Rattle.mk_core.specs.declared.seats.Marker.{Marker}
-use Rattle.mk_core.specs.StopConditions.{is_attending, none_attends}
-use Rattle.mk_core.specs.Moments.{outside}
-use Rattle.mk_core.specs.HeldGates.{is_gate_held_from}
-use Rattle.mk_core.specs.Readings.{is_in_turn, Holds, NoneAttends, TurnTells, GateTells, PhaseTells}
-use Rattle.mk_core.specs.Readings.{WordsTellWhoHoldsWhat}
+use Rattle.mk_core.proofs.Vocabulary.{Event, List, Moment, Op, Seat, Some, Step, ℕ, all_below, arith, eqb-false, false}
+use Rattle.mk_core.proofs.Vocabulary.{false≢true, first_moment, flight_of, leb-true, left, left_from, ltb-true, not}
+use Rattle.mk_core.proofs.Vocabulary.{not-true, pointed_cell, refl, slice_index, suc, sym, true, zero, zero_words_of}
+use Rattle.mk_core.proofs.Vocabulary.{[], ◌++◌, ◌+◌, ◌<◌, ◌↔◌, ◌∙◌, ◌∷◌, ◌≡◌, ◌≤◌}
+use Rattle.mk_core.proofs.SmallCycles.{begun_in_stop, by_caller, by_host, first_marked, marked_in_stop, marker_in}
+use Rattle.mk_core.proofs.SmallCycles.{small, three_objects, written_beside}
 use Rattle.mk_core.proofs.ListTests.{list_all-at}
-use Rattle.mk_core.proofs.SmallCycles.{by_caller, by_host, small, three_objects, begun_in_stop, marked_in_stop}
-use Rattle.mk_core.proofs.SmallCycles.{first_marked, marker_in, written_beside}
+use Rattle.mk_core.specs.Readings.{GateTells, Holds, NoneAttends, PhaseTells, TurnTells, WordsTellWhoHoldsWhat}
+use Rattle.mk_core.specs.Readings.{is_in_turn}
+use Rattle.mk_core.specs.StopConditions.{is_attending, none_attends}
+use Rattle.mk_core.specs.{HeldGates.is_gate_held_from, Moments.outside, declared.seats.Marker.Marker}
 
 -- with one caller
 
 abbrev CallerTells : Moment → Type 0
-CallerTells m = (m.words.turn ≡ 1) ↔ (is_in_turn (flight_of m (seat.Caller 0)) ≡ true)
+CallerTells m = (m.words.turn ≡ 1) ↔ (is_in_turn (flight_of m (Seat.Caller 0)) ≡ true)
 
 sole_turn : (m : Moment) → CallerTells m
-    → (k : ℕ) → k < 1 → (m.words.turn ≡ 1 + k) ↔ (is_in_turn (flight_of m (seat.Caller k)) ≡ true)
+    → (k : ℕ) → k < 1 → (m.words.turn ≡ 1 + k) ↔ (is_in_turn (flight_of m (Seat.Caller k)) ≡ true)
 sole_turn m h zero lt = h
 sole_turn m h (suc k) lt = absurd (omega arith)
 
 nobody_holds : (m : Moment) → CallerTells m → m.words.turn ≡ 0 → (s : Seat) → Holds small m s → ⊥
-nobody_holds m h free (seat.Caller k) holds = let taken : m.words.turn ≡ 1 + k =
+nobody_holds m h free (Seat.Caller k) holds = let taken : m.words.turn ≡ 1 + k =
     (sole_turn m h k holds.0).1 holds.1 in omega arith
-nobody_holds m h free (seat.Marker k) holds = holds
-nobody_holds m h free seat.Host holds = eqb-false 0 2 refl (sym free ∙ holds)
+nobody_holds m h free (Seat.Marker k) holds = holds
+nobody_holds m h free Seat.Host holds = eqb-false 0 2 refl (sym free ∙ holds)
 
 somebody_holds : (m : Moment) (turn : ℕ) → m.words.turn ≡ turn → CallerTells m → turn ≤ 2
     → ((s : Seat) → Holds small m s → ⊥) → m.words.turn ≡ 0
 somebody_holds m zero is h le none = is
-somebody_holds m (suc zero) is h le none = absurd (none (seat.Caller 0) (leb-true 1 1 refl, h.0 is))
-somebody_holds m (suc (suc zero)) is h le none = absurd (none seat.Host is)
+somebody_holds m (suc zero) is h le none = absurd (none (Seat.Caller 0) (leb-true 1 1 refl, h.0 is))
+somebody_holds m (suc (suc zero)) is h le none = absurd (none Seat.Host is)
 somebody_holds m (suc (suc (suc n))) is h le none = absurd (omega arith)
 
 turn_tells : (m : Moment) → m.words.turn ≤ 2 → CallerTells m → TurnTells small m
@@ -65,25 +59,23 @@ turn_in_call = turn_tells (left small written_beside).now (leb-true 2 2 refl)
 
 gate_in_call : GateTells small written_beside 0
 unfolding left_from is_gate_held_from all_below pointed_cell written_beside three_objects
-gate_in_call =
-    record {
-      least = leb-true 1 2 refl;
-      in_call = (λ e. refl, λ h. refl);
-      held = (λ e. absurd (eqb-false 1 2 refl e), λ h. absurd (false≢true h));
-      by_another = λ e. absurd (eqb-false 1 2 refl e);
-    }
+gate_in_call = record {
+  least = leb-true 1 2 refl;
+  in_call = (λ e. refl, λ h. refl);
+  held = (λ e. absurd (eqb-false 1 2 refl e), λ h. absurd (false≢true h));
+  by_another = λ e. absurd (eqb-false 1 2 refl e);
+}
 
 phase_in_call : PhaseTells small (left small written_beside).now
 unfolding left_from all_below pointed_cell written_beside three_objects
-phase_in_call =
-    record {
-      low = leb-true 1 5 refl;
-      high = refl;
-      none_in = λ e. none_attends_at (left small written_beside).now refl;
-      attends = λ not_marking e. absurd (not_marking refl);
-      under_the_turn = λ least most free. eqb-false 2 0 refl free;
-      stopped = λ e. absurd (eqb-false 1 3 refl e);
-    }
+phase_in_call = record {
+  low = leb-true 1 5 refl;
+  high = refl;
+  none_in = λ e. none_attends_at (left small written_beside).now refl;
+  attends = λ not_marking e. absurd (not_marking refl);
+  under_the_turn = λ least most free. eqb-false 2 0 refl free;
+  stopped = λ e. absurd (eqb-false 1 3 refl e);
+}
 
 pub words_tell_in_call : WordsTellWhoHoldsWhat small written_beside
 words_tell_in_call = record {
@@ -95,7 +87,7 @@ words_tell_in_call = record {
 -- The caller is in a New.
 
 abbrev pub in_new : List Event
-in_new = three_objects ++ by_caller (step.Take (Some (op.New 1 0 false)) ∷ [])
+in_new = three_objects ++ by_caller (Step.Take (Some (Op.New 1 0 false)) ∷ [])
 
 pub turn_in_new : TurnTells small (left small in_new).now
 unfolding left_from all_below pointed_cell three_objects
@@ -103,13 +95,12 @@ turn_in_new = turn_tells (left small in_new).now (leb-true 1 2 refl) (λ e. refl
 
 pub gate_in_new : GateTells small in_new 0
 unfolding left_from is_gate_held_from all_below pointed_cell three_objects
-gate_in_new =
-    record {
-      least = leb-true 0 2 refl;
-      in_call = (λ e. absurd (eqb-false 0 1 refl e), λ h. absurd (false≢true h));
-      held = (λ e. absurd (eqb-false 0 2 refl e), λ h. absurd (false≢true h));
-      by_another = λ e. absurd (eqb-false 0 2 refl e);
-    }
+gate_in_new = record {
+  least = leb-true 0 2 refl;
+  in_call = (λ e. absurd (eqb-false 0 1 refl e), λ h. absurd (false≢true h));
+  held = (λ e. absurd (eqb-false 0 2 refl e), λ h. absurd (false≢true h));
+  by_another = λ e. absurd (eqb-false 0 2 refl e);
+}
 
 -- nobody holds the turn
 
@@ -121,8 +112,8 @@ turn_is_free = turn_tells (left small three_objects).now (leb-true 0 2 refl)
 -- The caller is stopped, and the marks are closed.
 
 abbrev pub closed_in_stop : List Event
-closed_in_stop = begun_in_stop ++ record { seat = seat.Host; step = step.Begin }
-    ∷ (marked_in_stop ++ by_host (step.Close ∷ []))
+closed_in_stop = begun_in_stop ++ record { seat = Seat.Host; step = Step.Begin }
+    ∷ (marked_in_stop ++ by_host (Step.Close ∷ []))
 
 turn_in_stop : TurnTells small (left small closed_in_stop).now
 unfolding left_from all_below pointed_cell begun_in_stop three_objects marked_in_stop
@@ -131,13 +122,12 @@ turn_in_stop = turn_tells (left small closed_in_stop).now (leb-true 2 2 refl)
 
 gate_in_stop : GateTells small closed_in_stop 0
 unfolding left_from is_gate_held_from all_below pointed_cell begun_in_stop three_objects marked_in_stop
-gate_in_stop =
-    record {
-      least = leb-true 2 2 refl;
-      in_call = (λ e. absurd (eqb-false 2 1 refl e), λ h. absurd (false≢true h));
-      held = (λ e. refl, λ h. refl);
-      by_another = λ e. (eqb-false 2 0 refl, eqb-false 2 1 refl);
-    }
+gate_in_stop = record {
+  least = leb-true 2 2 refl;
+  in_call = (λ e. absurd (eqb-false 2 1 refl e), λ h. absurd (false≢true h));
+  held = (λ e. refl, λ h. refl);
+  by_another = λ e. (eqb-false 2 0 refl, eqb-false 2 1 refl);
+}
 
 gate_is_held : (k : ℕ) → k < 1 → slice_index (left small closed_in_stop).now.words.gates k ≡ 2
 unfolding left_from all_below pointed_cell begun_in_stop three_objects marked_in_stop
@@ -146,15 +136,14 @@ gate_is_held (suc k) lt = absurd (omega arith)
 
 phase_in_stop : PhaseTells small (left small closed_in_stop).now
 unfolding left_from all_below pointed_cell begun_in_stop three_objects marked_in_stop
-phase_in_stop =
-    record {
-      low = leb-true 3 5 refl;
-      high = refl;
-      none_in = λ e. none_attends_at (left small closed_in_stop).now refl;
-      attends = λ not_marking not_wanted. none_attends_at (left small closed_in_stop).now refl;
-      under_the_turn = λ least most free. eqb-false 2 0 refl free;
-      stopped = λ e k lt other. gate_is_held k lt;
-    }
+phase_in_stop = record {
+  low = leb-true 3 5 refl;
+  high = refl;
+  none_in = λ e. none_attends_at (left small closed_in_stop).now refl;
+  attends = λ not_marking not_wanted. none_attends_at (left small closed_in_stop).now refl;
+  under_the_turn = λ least most free. eqb-false 2 0 refl free;
+  stopped = λ e k lt other. gate_is_held k lt;
+}
 
 pub words_tell_in_stop : WordsTellWhoHoldsWhat small closed_in_stop
 words_tell_in_stop = record {
@@ -167,15 +156,14 @@ words_tell_in_stop = record {
 
 pub phase_with_marker : PhaseTells small (left small (first_marked ++ marker_in)).now
 unfolding left_from all_below pointed_cell three_objects
-phase_with_marker =
-    record {
-      low = leb-true 1 5 refl;
-      high = refl;
-      none_in = λ e. absurd (eqb-false 1 0 refl e);
-      attends = λ not_marking e. absurd (not_marking refl);
-      under_the_turn = λ least most free. eqb-false 2 0 refl free;
-      stopped = λ e. absurd (eqb-false 1 3 refl e);
-    }
+phase_with_marker = record {
+  low = leb-true 1 5 refl;
+  high = refl;
+  none_in = λ e. absurd (eqb-false 1 0 refl e);
+  attends = λ not_marking e. absurd (not_marking refl);
+  under_the_turn = λ least most free. eqb-false 2 0 refl free;
+  stopped = λ e. absurd (eqb-false 1 3 refl e);
+}
 
 pub a_marker_attends : NoneAttends (left small (first_marked ++ marker_in)).now → ⊥
 unfolding left_from all_below pointed_cell three_objects
@@ -186,7 +174,7 @@ a_marker_attends none = false≢true (sym (none 0))
 turn_of_nobody : TurnTells small (record (first_moment small) { words = record (zero_words_of 1) { turn = 1 } }) → ⊥
 turn_of_nobody tells = false≢true ((tells.caller 0 (ltb-true 0 1 refl)).0 refl)
 
-held_without_turn : GateTells small (by_host (step.Hold 0 ∷ [])) 0 → ⊥
+held_without_turn : GateTells small (by_host (Step.Hold 0 ∷ [])) 0 → ⊥
 unfolding left_from is_gate_held_from all_below pointed_cell
 held_without_turn tells = (tells.by_another refl).0 refl
 

@@ -1,22 +1,16 @@
 -- What others leave besides, where calls are admitted, in small cases: to a caller in a call the objects that its
 -- registers point to, to the turn's holder all words outside the mapped objects, and to a marker all headers.
-use Rattle.std.proofs.Common.{◌≡◌, ℕ, zero, suc, ◌+◌, ◌*◌, true, false, List, [], ◌∷◌, ◌++◌, slice_index, refl, subst}
-use Rattle.std.proofs.Common.{inl}
-use Rattle.std.proofs.lemmas.Bool.{false≢true, leb-true, ltb-true}
-use Rattle.mk_core.proofs.Vocabulary.{all_below, AreOfOthers, calls_from, Event, IsWordOf, left, left_from}
-use Rattle.mk_core.proofs.Vocabulary.{never_behind, Null, placed_at, pointed_cell, storage_of}
-use Rattle.mk_never.specs.Reach.{LeadsTo}
-use Rattle.mk_never.specs.NeverHeap.{register_at}
-use Rattle.mk_core.specs.declared.events.Seat.TheVariants as seat
-use Rattle.mk_core.specs.declared.events.Step.TheVariants as step
-use Rattle.mk_core.specs.Allocations.{is_mapped}
-use Rattle.mk_core.specs.Readings.{Holds}
-use Rattle.mk_core.specs.Frames.{OwnIsLeft, ScanIsLeft, IsLeft, TargetsAreLeft, HeapIsLeft, HeadersAreLeft}
-use Rattle.mk_core.specs.Frames.{IsLeftByAdmitted}
-use Rattle.mk_core.proofs.ListTests.{list_all-at}
-use Rattle.mk_core.proofs.EvaluatedReach.{leads_into, led_into, below_two}
-use Rattle.mk_core.proofs.EvaluatedFrames.{before_probe, turn_taken}
-use Rattle.mk_core.proofs.SmallCycles.{by_marker, small, three_objects, pointer_written, first_marked}
+use Rattle.mk_core.proofs.Vocabulary.{AreOfOthers, Event, IsWordOf, List, Null, Seat, Step, ℕ, all_below, calls_from}
+use Rattle.mk_core.proofs.Vocabulary.{false, false≢true, inl, leb-true, left, left_from, ltb-true, never_behind}
+use Rattle.mk_core.proofs.Vocabulary.{placed_at, pointed_cell, refl, slice_index, storage_of, subst, suc, true, zero}
+use Rattle.mk_core.proofs.Vocabulary.{[], ◌*◌, ◌++◌, ◌+◌, ◌∷◌, ◌≡◌}
+use Rattle.mk_never.specs.{NeverHeap.register_at, Reach.LeadsTo}
+use Rattle.mk_core.proofs.EvaluatedReach.{below_two, leads_into, led_into}
+use Rattle.mk_core.proofs.SmallCycles.{by_marker, first_marked, pointer_written, small, three_objects}
+use Rattle.mk_core.proofs.{EvaluatedFrames.before_probe, EvaluatedFrames.turn_taken, ListTests.list_all-at}
+use Rattle.mk_core.specs.Frames.{HeadersAreLeft, HeapIsLeft, IsLeft, IsLeftByAdmitted, OwnIsLeft, ScanIsLeft}
+use Rattle.mk_core.specs.Frames.{TargetsAreLeft}
+use Rattle.mk_core.specs.{Allocations.is_mapped, Readings.Holds}
 
 -- A caller in a call, while the host takes the turn: its registers point to the first two objects.
 
@@ -47,20 +41,20 @@ targets_are_left = record {
   mapped = λ r a lt leads was. mapped a (targets r a leads);
 }
 
-values_are_left : (k r : ℕ) → seat.Caller 0 ≡ seat.Caller k
+values_are_left : (k r : ℕ) → Seat.Caller 0 ≡ Seat.Caller k
     → register_at (never_behind small (before_probe ++ turn_taken)) k r
     ≡ register_at (never_behind small before_probe) k r
 unfolding left_from calls_from all_below pointed_cell three_objects
 values_are_left k r is = refl
 
-same_caller : (k : ℕ) → seat.Caller 0 ≡ seat.Caller k → 0 ≡ k
+same_caller : (k : ℕ) → Seat.Caller 0 ≡ Seat.Caller k → 0 ≡ k
 same_caller k is = cc
 
-no_turn : Holds small (left small before_probe).now (seat.Caller 0) → ⊥
+no_turn : Holds small (left small before_probe).now (Seat.Caller 0) → ⊥
 unfolding left_from all_below pointed_cell three_objects
 no_turn holds = false≢true holds.1
 
-pub all_is_left_to_caller : IsLeftByAdmitted small (seat.Caller 0) before_probe (before_probe ++ turn_taken)
+pub all_is_left_to_caller : IsLeftByAdmitted small (Seat.Caller 0) before_probe (before_probe ++ turn_taken)
 all_is_left_to_caller = record {
   registers = λ k r is lt. values_are_left k r is;
   in_call = λ k is in_call. subst (λ i. TargetsAreLeft small before_probe (before_probe ++ turn_taken) i)
@@ -89,13 +83,13 @@ heap_is_left = record { outside = outside; well = λ marking u well. well }
 -- A marker that attends, while that caller writes.
 
 abbrev pub attending : List Event
-attending = first_marked ++ by_marker (step.Attend ∷ [])
+attending = first_marked ++ by_marker (Step.Attend ∷ [])
 
-pub writers_are_others : AreOfOthers (seat.Marker 0 ∷ []) pointer_written
+pub writers_are_others : AreOfOthers (Seat.Marker 0 ∷ []) pointer_written
 unfolding AreOfOthers
 writers_are_others = (refl, (refl, (refl, (refl, (refl, tt)))))
 
-marker_is_left : OwnIsLeft small (seat.Marker 0) (left small attending) (left small (attending ++ pointer_written))
+marker_is_left : OwnIsLeft small (Seat.Marker 0) (left small attending) (left small (attending ++ pointer_written))
 unfolding left_from all_below pointed_cell three_objects
 marker_is_left = record {
   flight = refl;
@@ -108,7 +102,7 @@ scan_is_left : ScanIsLeft (left small attending) (left small (attending ++ point
 unfolding left_from all_below pointed_cell three_objects
 scan_is_left = record { phase = inl refl; marks = λ p k has. has; blacks = λ p k has. has }
 
-pub all_is_left_to_marker : IsLeft small (seat.Marker 0) attending (attending ++ pointer_written)
+pub all_is_left_to_marker : IsLeft small (Seat.Marker 0) attending (attending ++ pointer_written)
 unfolding left_from all_below pointed_cell three_objects
 all_is_left_to_marker = record {
   own = marker_is_left;
@@ -123,7 +117,7 @@ headers_are_left : HeadersAreLeft small (left small attending) (left small (atte
 unfolding left_from all_below pointed_cell three_objects
 headers_are_left = record { some = λ p is. is; cells = λ p u cell is. is; well = λ u well. well }
 
-pub headers_are_left_to_marker : IsLeftByAdmitted small (seat.Marker 0) attending (attending ++ pointer_written)
+pub headers_are_left_to_marker : IsLeftByAdmitted small (Seat.Marker 0) attending (attending ++ pointer_written)
 headers_are_left_to_marker = record {
   registers = λ k r is lt. absurd cc;
   in_call = λ k is in_call. absurd in_call;

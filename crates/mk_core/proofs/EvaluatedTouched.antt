@@ -1,21 +1,14 @@
 -- What is touched in a small cycle: by a register, by a word of another object, and not at all, which is in the
 -- snapshot.
-use Rattle.std.proofs.Common.{◌≡◌, true, false, [], ◌∷◌, ◌++◌, refl, sym, append-nil}
-use Rattle.std.specs.List.{list_any}
-use Rattle.std.proofs.lemmas.Bool.{false≢true, leb-true, ltb-true}
-use Rattle.mk_core.proofs.Vocabulary.{all_below, calls_from, Event, is_close, IsClosedAlong, left_from, Marking}
-use Rattle.mk_core.proofs.Vocabulary.{pointed_cell}
-use Rattle.mk_core.specs.declared.events.Seat.TheVariants as seat
-use Rattle.mk_core.specs.declared.events.Tally.TheVariants as tally
-use Rattle.mk_core.specs.declared.events.Step.TheVariants as step
-use Rattle.mk_core.specs.Cycles.{through, IsInSnapshot}
-use Rattle.mk_core.specs.Touched.{LeadsToMoment, IsTouched, by_register, by_word}
-use Rattle.mk_core.proofs.Touched.{touched_is_least}
-use Rattle.mk_core.proofs.ListTests.{numbered_all, all_fronts}
-use Rattle.mk_core.proofs.TouchedTests.{closed_along_by_test}
-use Rattle.mk_core.proofs.EvaluatedReach.{below_two}
-use Rattle.mk_core.proofs.SmallCycles.{by_host, small, three_objects, begun_in_stop, marked_in_stop, third_released}
-use Rattle.mk_core.proofs.SmallCycles.{stopped_cycle}
+use Rattle.mk_core.proofs.Vocabulary.{Event, IsClosedAlong, Marking, Seat, Step, Tally, all_below, append-nil}
+use Rattle.mk_core.proofs.Vocabulary.{calls_from, false, false≢true, is_close, leb-true, left_from, list_any, ltb-true}
+use Rattle.mk_core.proofs.Vocabulary.{pointed_cell, refl, sym, true, [], ◌++◌, ◌∷◌, ◌≡◌}
+use Rattle.mk_core.proofs.ListTests.{all_fronts, numbered_all}
+use Rattle.mk_core.proofs.SmallCycles.{begun_in_stop, by_host, marked_in_stop, small, stopped_cycle, third_released}
+use Rattle.mk_core.proofs.SmallCycles.{three_objects}
+use Rattle.mk_core.proofs.{EvaluatedReach.below_two, Touched.touched_is_least, TouchedTests.closed_along_by_test}
+use Rattle.mk_core.specs.Touched.{IsTouched, LeadsToMoment, by_register, by_word}
+use Rattle.mk_core.specs.Cycles.{IsInSnapshot, through}
 
 pub none_closes : list_any (λ (e : Event). is_close e.step) marked_in_stop ≡ false
 unfolding marked_in_stop
@@ -25,7 +18,7 @@ abbrev pub marking : Marking stopped_cycle
 marking = record {
   begin = record {
     before = begun_in_stop;
-    event = record { seat = seat.Host; step = step.Begin };
+    event = record { seat = Seat.Host; step = Step.Begin };
     behind = marked_in_stop ++ third_released;
     is = refl;
     of_kind = refl;
@@ -33,9 +26,9 @@ marking = record {
   close = record {
     at = record {
       before = marked_in_stop;
-      event = record { seat = seat.Host; step = step.Close };
-      behind = by_host (step.Release ∷ step.Used 0 3 ∷ step.Quar 0 0 ∷ step.Tally tally.Held 4 ∷ step.End ∷ step.Open 0
-          ∷ step.Give ∷ []);
+      event = record { seat = Seat.Host; step = Step.Close };
+      behind = by_host (Step.Release ∷ Step.Used 0 3 ∷ Step.Quar 0 0 ∷ Step.Tally Tally.Held 4 ∷ Step.End ∷ Step.Open 0
+          ∷ Step.Give ∷ []);
       is = refl;
       of_kind = refl;
     };

@@ -1,16 +1,12 @@
 -- What is to be shown at each event of a kind in a list, as a product of one part for each of them.
-use Rattle.std.proofs.Common.{◌≡◌, ℕ, ◌+◌, Bool, true, false, ◌&&◌, List, [], ◌∷◌, ◌++◌, take, drop, Option, Some, sym}
-use Rattle.std.proofs.Common.{subst, append-nil, append_assoc}
-use Rattle.std.specs.Prelude.{⊤, slice_index_or}
-use Rattle.std.specs.List.{list_any}
-use Rattle.mk_core.proofs.Vocabulary.{base_made, Config, Event, flight_of, is_begin, is_close, is_end, is_give}
-use Rattle.mk_core.proofs.Vocabulary.{is_release, left, NoneServesFrom, Op, Place, Seat, StandsAtItsPlace, Step}
-use Rattle.mk_core.specs.declared.events.Seat.TheVariants as seat
-use Rattle.mk_core.specs.declared.events.Step.TheVariants as step
-use Rattle.mk_core.specs.Growing.{is_same_seat}
-use Rattle.mk_core.specs.Accesses.{granted_base}
-use Rattle.mk_core.specs.Placement.{event_serves, FirstServed, before_served, object_at, place_after}
-use Rattle.mk_core.specs.Cycles.{At, Next, Cycle, TurnOf}
+use Rattle.std.{proofs.Common.append_assoc, specs.Prelude.⊤}
+use Rattle.mk_core.proofs.Vocabulary.{Bool, Config, Event, List, NoneServesFrom, Op, Option, Place, Seat, Some}
+use Rattle.mk_core.proofs.Vocabulary.{StandsAtItsPlace, Step, ℕ, append-nil, base_made, drop, false, flight_of}
+use Rattle.mk_core.proofs.Vocabulary.{is_begin, is_close, is_end, is_give, is_release, left, list_any, slice_index_or}
+use Rattle.mk_core.proofs.Vocabulary.{subst, sym, take, true, [], ◌&&◌, ◌++◌, ◌+◌, ◌∷◌, ◌≡◌}
+use Rattle.mk_core.specs.Cycles.{At, Cycle, Next, TurnOf}
+use Rattle.mk_core.specs.Placement.{FirstServed, before_served, event_serves, object_at, place_after}
+use Rattle.mk_core.specs.{Accesses.granted_base, Growing.is_same_seat}
 
 -- a proof of the first, and one of the others
 infixr 10 ◌and◌
@@ -22,7 +18,7 @@ unfoldable pub events_from : ℕ → ℕ → List Event → List Event
 events_from first count es = take count (drop first es)
 
 unfoldable pub event_number : ℕ → List Event → Event
-event_number n es = slice_index_or es n (record { seat = seat.Host; step = step.Give })
+event_number n es = slice_index_or es n (record { seat = Seat.Host; step = Step.Give })
 
 -- an event of a kind by its number, and a turn by that of its `take`
 
@@ -44,7 +40,7 @@ cycle_of begin close release end =
     record { releasing = record { marking = record { begin = begin; close = close }; release = release }; end = end }
 
 unfoldable pub turn_number : (c : Config) (s : Seat) (n : ℕ) (o : Option Op) (es : List Event)
-    → es ≡ take n es ++ record { seat = s; step = step.Take o } ∷ drop (n + 1) es
+    → es ≡ take n es ++ record { seat = s; step = Step.Take o } ∷ drop (n + 1) es
     → (left c (take n es)).now.words.turn ≡ 0
     → list_any (λ (e : Event). is_same_seat s e.seat && is_give e.step) (drop (n + 1) es) ≡ false → TurnOf c s es
 turn_number c s n o es is took goes_on =
@@ -53,8 +49,8 @@ turn_number c s n o es is took goes_on =
 -- the first event that serves a New, by its number in its turn; and where its object stands
 abbrev pub served : {c : Config} {s : Seat} {es : List Event} (t : TurnOf c s es) (n : ℕ)
     → t.behind ≡ take n t.behind ++ event_number n t.behind ∷ drop (n + 1) t.behind
-    → NoneServesFrom c (left c (t.before ++ record { seat = s; step = step.Take t.op } ∷ [])) (take n t.behind)
-    → event_serves c (left c (t.before ++ record { seat = s; step = step.Take t.op } ∷ take n t.behind))
+    → NoneServesFrom c (left c (t.before ++ record { seat = s; step = Step.Take t.op } ∷ [])) (take n t.behind)
+    → event_serves c (left c (t.before ++ record { seat = s; step = Step.Take t.op } ∷ take n t.behind))
     (event_number n t.behind) ≡ true → FirstServed c t
 served t n is none serves = record {
   before = take n t.behind;

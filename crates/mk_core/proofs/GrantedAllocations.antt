@@ -1,36 +1,28 @@
 -- What is granted stands at its New's place.
-use Rattle.std.proofs.Common.{◌≡◌, ℕ, ◌+◌, ◌*◌, ◌/◌, ◌<◌, ◌≤◌, Bool, true, false, [], length, sym, ap, subst, ◌∙◌, inl}
-use Rattle.std.proofs.Common.{inr, arith, nat_lt}
-use Rattle.std.proofs.lemmas.Bool.{cases_Bool, and_parts, ltb-true, cond-true, cond-false, eqb-true}
-use Rattle.mk_core.proofs.Vocabulary.{base_made, BeginsAtCell, cells_made, cells_of, class_made, class_words_of, Config}
-use Rattle.mk_core.proofs.Vocabulary.{Flight, HasItsHeaders, header_at, header_made, is_small_object, IsSized}
-use Rattle.mk_core.proofs.Vocabulary.{IsWithinLimits, kinds_of, Moment, Object, object_made, object_placed, Op}
-use Rattle.mk_core.proofs.Vocabulary.{pages_made, Place, PlacedAllocation, StandsOnHeap, Words, words_made}
-use Rattle.mk_never.specs.declared.operations.Op.TheVariants as op
-use Rattle.mk_geom.proofs.ClassTable.{cell_ends}
-use Rattle.mk_core.specs.declared.seats.Placing.{Placing}
-use Rattle.mk_core.specs.declared.seats.Placing.TheVariants.{Used}
-use Rattle.mk_core.specs.Calls.{has_operands, has_type}
-use Rattle.mk_core.specs.Accesses.{granted_base}
-use Rattle.mk_core.specs.NewPlaces.{object_of, place_stands, is_undecided_new}
-use Rattle.mk_core.specs.Allocations.{type_made, granted}
-use Rattle.mk_core.proofs.AllBelow.{all_below-at}
-use Rattle.mk_core.proofs.Sizes.{small_cells, small_pages, small_words, large_words}
-use Rattle.mk_core.proofs.StandingAllocations.{made_begins}
-use Rattle.mk_core.proofs.PlacesNow.{undecided_new}
+use Rattle.mk_core.proofs.Vocabulary.{BeginsAtCell, Bool, Config, Flight, HasItsHeaders, IsSized, IsWithinLimits}
+use Rattle.mk_core.proofs.Vocabulary.{Moment, Object, Op, Place, PlacedAllocation, StandsOnHeap, Words, ℕ, and_parts}
+use Rattle.mk_core.proofs.Vocabulary.{ap, arith, base_made, cases_Bool, cell_ends, cells_made, cells_of, class_made}
+use Rattle.mk_core.proofs.Vocabulary.{class_words_of, cond-false, cond-true, eqb-true, false, header_at, header_made}
+use Rattle.mk_core.proofs.Vocabulary.{inl, inr, is_small_object, kinds_of, length, ltb-true, nat_lt, object_made}
+use Rattle.mk_core.proofs.Vocabulary.{object_placed, pages_made, subst, sym, true, words_made, [], ◌*◌, ◌+◌, ◌/◌, ◌<◌}
+use Rattle.mk_core.proofs.Vocabulary.{◌∙◌, ◌≡◌, ◌≤◌}
+use Rattle.mk_core.proofs.Sizes.{large_words, small_cells, small_pages, small_words}
+use Rattle.mk_core.proofs.{AllBelow.all_below-at, PlacesNow.undecided_new, StandingAllocations.made_begins}
+use Rattle.mk_core.specs.NewPlaces.{is_undecided_new, object_of, place_stands}
+use Rattle.mk_core.specs.{Accesses.granted_base, Allocations.granted, Allocations.type_made, Calls.has_operands}
+use Rattle.mk_core.specs.{Calls.has_type, declared.seats.Placing.Placing, declared.seats.Placing.TheVariants.Used}
 
 -- Its object is the one that the New makes,
-made_is : (c : Config) (o : Op) (d ty : ℕ) (full : Bool) → o ≡ op.New d ty full
+made_is : (c : Config) (o : Op) (d ty : ℕ) (full : Bool) → o ≡ Op.New d ty full
     → object_of (kinds_of c.types (type_made o)) ≡ object_made c o
-made_is c o d ty full is = ap (λ (x : Op). object_of (kinds_of c.types (type_made x))) is
-    ∙ sym (ap (λ (x : Op). object_made c x) is)
+made_is c o d ty full is = cc
 
 pub granted_object : (c : Config) (m : Moment) (f : Flight) → is_undecided_new f ≡ true
     → object_placed c (granted c m f) ≡ object_made c f.op
 granted_object c m f new = let n = undecided_new f new in made_is c f.op n.d n.ty n.full n.op
 
 -- whose type is there,
-typed_by : (c : Config) (o : Op) (d ty : ℕ) (full : Bool) → o ≡ op.New d ty full → has_operands c o ≡ true
+typed_by : (c : Config) (o : Op) (d ty : ℕ) (full : Bool) → o ≡ Op.New d ty full → has_operands c o ≡ true
     → type_made o < length c.types
 typed_by c o d ty full is h =
     let typed = (and_parts _ _ h).1 in
@@ -94,8 +86,7 @@ pub placed_headers : (c : Config) (w : Words) (a : PlacedAllocation) (place : Pl
     → place_stands w (object_placed c a) place ≡ true → HasItsHeaders c w a
 placed_headers c w a place limits typed base known h distance near =
     let sized : IsSized (object_placed c a) = (limits.types a.ty [] typed).0 in
-    let page : a.base / 64 ≡ place.page = ap (λ n. n / 64) base
-    ∙ (made_begins (object_placed c a) place sized known).2 in
+    let page : a.base / 64 ≡ place.page = cc (base, (made_begins (object_placed c a) place sized known).2) in
     let at : header_at w (place.page + distance) ≡ header_made (object_placed c a) distance =
     eqb-true _ _ (all_below-at (pages_made (object_placed c a)) distance _ h near) in
     inl (ap (λ p. header_at w (p + distance)) page ∙ at)

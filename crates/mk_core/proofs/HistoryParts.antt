@@ -1,14 +1,13 @@
 -- Histories in two parts: their calls, and what these leave in the heap that never reuses storage.
-use Rattle.std.proofs.Common.{◌≡◌, List, ◌++◌, sym, ◌∙◌, ap, subst}
 use Rattle.std.proofs.lemmas.List.{map-append}
-use Rattle.mk_core.proofs.Vocabulary.{asked, calls, calls_from, Config, Event, first_world, left, never_first}
-use Rattle.mk_never.specs.NeverHeap.{Call, after_calls, replies_of}
-use Rattle.mk_never.specs.Admitted.{AreAdmitted}
-use Rattle.mk_never.proofs.Parts.{after_append, replies_append, admitted_append}
+use Rattle.mk_core.proofs.Vocabulary.{Config, Event, List, ap, asked, calls, calls_from, first_world, left, never_first}
+use Rattle.mk_core.proofs.Vocabulary.{subst, sym, ◌++◌, ◌∙◌, ◌≡◌}
+use Rattle.mk_never.proofs.Parts.{admitted_append, after_append, replies_append}
+use Rattle.mk_never.specs.{Admitted.AreAdmitted, NeverHeap.Call, NeverHeap.after_calls, NeverHeap.replies_of}
+use Rattle.mk_core.proofs.Histories.{calls_append, enabled_append, enabled_parts, left_append}
+use Rattle.mk_core.specs.HistoryLaws.{CallsAreAdmittedInParts, CallsInParts, EarlierPartIsHistory, EnabledInParts}
+use Rattle.mk_core.specs.HistoryLaws.{LeftInParts, NeverInParts, NeverRepliesInParts}
 use Rattle.mk_core.specs.Decided.{Decided}
-use Rattle.mk_core.specs.HistoryLaws.{LeftInParts, EnabledInParts, CallsInParts, NeverInParts, NeverRepliesInParts}
-use Rattle.mk_core.specs.HistoryLaws.{CallsAreAdmittedInParts, EarlierPartIsHistory}
-use Rattle.mk_core.proofs.Histories.{left_append, enabled_append, enabled_parts, calls_append}
 
 pub left_in_parts : (c : Config) (es more : List Event) → LeftInParts c es more
 left_in_parts c es more = left_append c (first_world c) es more
@@ -45,9 +44,8 @@ admitted_in_parts c es more =
     )
 
 pub earlier_part_is_history : (c : Config) (es more : List Event) → EarlierPartIsHistory c es more
-earlier_part_is_history c es more h =
-    record {
-      within_limits = h.within_limits;
-      enabled = ((enabled_in_parts c es more).0 h.enabled).0;
-      admitted = ((admitted_in_parts c es more).0 h.admitted).0;
-    }
+earlier_part_is_history c es more h = record {
+  within_limits = h.within_limits;
+  enabled = ((enabled_in_parts c es more).0 h.enabled).0;
+  admitted = ((admitted_in_parts c es more).0 h.admitted).0;
+}

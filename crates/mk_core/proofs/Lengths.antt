@@ -1,41 +1,38 @@
 -- Each region of the words keeps its length.
-use Rattle.std.proofs.Common.{ℕ, ◌+◌, ◌*◌, List, [], ◌∷◌, length-set, refl, arith}
-use Rattle.std.proofs.lemmas.List.{length-replicate}
-use Rattle.mk_core.proofs.Vocabulary.{Access, Config, Event, first_world, left, left_from, Load, Named, Page, Store}
-use Rattle.mk_core.proofs.Vocabulary.{TableWord, Turn, Word, Words, World, world_behind, zero_words_of}
+use Rattle.std.proofs.Common.{length-set}
+use Rattle.mk_core.proofs.Vocabulary.{Access, Config, Event, List, Load, Named, Page, Store, TableWord, Turn, Word}
+use Rattle.mk_core.proofs.Vocabulary.{Words, World, ℕ, arith, first_world, left, left_from, length-replicate, refl}
+use Rattle.mk_core.proofs.Vocabulary.{world_behind, zero_words_of, [], ◌*◌, ◌+◌, ◌∷◌}
 use Rattle.mk_geom.specs.Storages.{free_page}
-use Rattle.mk_core.specs.declared.events.Word.TheVariants as word
-use Rattle.mk_core.specs.declared.accesses.Access.TheVariants.{Exchange, Or, Add, Sub}
-use Rattle.mk_core.specs.Words.{with_named, with_word_in, word_in, becomes, accessed}
-use Rattle.mk_core.specs.Layout.{AreOfPages}
-use Rattle.mk_core.specs.Accesses.{word_accessed, access}
+use Rattle.mk_core.specs.Words.{accessed, becomes, with_named, with_word_in, word_in}
+use Rattle.mk_core.specs.declared.accesses.Access.TheVariants.{Add, Exchange, Or, Sub}
+use Rattle.mk_core.specs.{Accesses.access, Accesses.word_accessed, Layout.AreOfPages}
 
 pub zero_lengths : (count : ℕ) → AreOfPages count (zero_words_of count)
-zero_lengths count =
-    record {
-      gates = refl;
-      registers = refl;
-      globals = refl;
-      pages = length-replicate count free_page;
-      freed = length-replicate count 0;
-      snapshot = length-replicate count 0;
-      marks = length-replicate count 0;
-      blacks = length-replicate count 0;
-      dirty = length-replicate count 0;
-      heap = length-replicate (64 * count) 0;
-    }
+zero_lengths count = record {
+  gates = refl;
+  registers = refl;
+  globals = refl;
+  pages = length-replicate count free_page;
+  freed = length-replicate count 0;
+  snapshot = length-replicate count 0;
+  marks = length-replicate count 0;
+  blacks = length-replicate count 0;
+  dirty = length-replicate count 0;
+  heap = length-replicate (64 * count) 0;
+}
 
 named_lengths : (count : ℕ) (w : Words) (x : Word) (v : ℕ) → AreOfPages count w → AreOfPages count (with_named w x v)
-named_lengths count w (word.Gate j) v h = omega (arith, length-set w.gates j v)
-named_lengths count w (word.Reg c r) v h = omega (arith, length-set w.registers (8 * c + r) v)
-named_lengths count w (word.Global g) v h = omega (arith, length-set w.globals g v)
-named_lengths count w (word.Head p) v h = omega (arith, length-set {A = Page})
-named_lengths count w (word.Used p) v h = omega (arith, length-set {A = Page})
-named_lengths count w (word.Quar p) v h = omega (arith, length-set {A = ℕ})
-named_lengths count w (word.Mark p) v h = omega (arith, length-set w.marks p v)
-named_lengths count w (word.Black p) v h = omega (arith, length-set w.blacks p v)
-named_lengths count w (word.Dirty p) v h = omega (arith, length-set w.dirty p v)
-named_lengths count w (word.Heap n) v h = omega (arith, length-set w.heap n v)
+named_lengths count w (Word.Gate j) v h = omega (arith, length-set w.gates j v)
+named_lengths count w (Word.Reg c r) v h = omega (arith, length-set w.registers (8 * c + r) v)
+named_lengths count w (Word.Global g) v h = omega (arith, length-set w.globals g v)
+named_lengths count w (Word.Head p) v h = omega (arith, length-set {A = Page})
+named_lengths count w (Word.Used p) v h = omega (arith, length-set {A = Page})
+named_lengths count w (Word.Quar p) v h = omega (arith, length-set {A = ℕ})
+named_lengths count w (Word.Mark p) v h = omega (arith, length-set w.marks p v)
+named_lengths count w (Word.Black p) v h = omega (arith, length-set w.blacks p v)
+named_lengths count w (Word.Dirty p) v h = omega (arith, length-set w.dirty p v)
+named_lengths count w (Word.Heap n) v h = omega (arith, length-set w.heap n v)
 named_lengths count w _ v h = omega arith
 
 word_lengths : (count : ℕ) (w : Words) (x : TableWord) (v : ℕ) → AreOfPages count w

@@ -1,8 +1,6 @@
 -- Tests of lists that compute: what they say of each element, at every index, and of each front of a list.
-use Rattle.std.proofs.Common.{◌≡◌, ℕ, zero, suc, Bool, true, false, not, ◌&&◌, ◌||◌, List, [], ◌∷◌, ◌++◌}
-use Rattle.std.proofs.Common.{slice_index_or, sym, ◌∙◌, ap}
-use Rattle.std.specs.List.{list_all}
-use Rattle.std.proofs.lemmas.Bool.{and_parts, false≢true}
+use Rattle.mk_core.proofs.Vocabulary.{Bool, List, ℕ, and_parts, ap, false, false≢true, list_all, not, slice_index_or}
+use Rattle.mk_core.proofs.Vocabulary.{suc, sym, true, zero, [], ◌&&◌, ◌++◌, ◌||◌, ◌∙◌, ◌∷◌, ◌≡◌}
 
 -- a test of the form `not a || b`
 pub implied : (a b : Bool) → (not a || b) ≡ true → a ≡ true → b ≡ true

@@ -1,12 +1,10 @@
 -- Closed marks as a test that computes.
-use Rattle.std.proofs.Common.{◌≡◌, ℕ, ◌+◌, Bool, true, not, ◌&&◌, ◌||◌, nat_le, nat_lt, refl, ◌∙◌, ap}
-use Rattle.std.specs.List.{list_all}
-use Rattle.std.proofs.Math.Bool.{or-true}
-use Rattle.std.proofs.lemmas.Bool.{and_parts, and_from, le-leb, lt-ltb}
-use Rattle.mk_core.proofs.Vocabulary.{Config, IsWordOf, never_granted, placed_at, PlacedAllocation, pointed_cell}
-use Rattle.mk_core.proofs.Vocabulary.{points_well, Storage, storage_of, Words, World}
-use Rattle.mk_core.specs.ClosedMarks.{MarksAreClosed, is_marked_allocation, is_scanned_allocation}
+use Rattle.std.proofs.{Common.lt-ltb, Math.Bool.or-true}
+use Rattle.mk_core.proofs.Vocabulary.{Bool, Config, IsWordOf, PlacedAllocation, Storage, Words, World, ℕ, and_from}
+use Rattle.mk_core.proofs.Vocabulary.{and_parts, ap, le-leb, list_all, nat_le, nat_lt, never_granted, not, placed_at}
+use Rattle.mk_core.proofs.Vocabulary.{pointed_cell, points_well, refl, storage_of, true, ◌&&◌, ◌+◌, ◌||◌, ◌∙◌, ◌≡◌}
 use Rattle.mk_core.proofs.ListTests.{implied, list_all-at, numbered_all, numbered_all-at}
+use Rattle.mk_core.specs.ClosedMarks.{MarksAreClosed, is_marked_allocation, is_scanned_allocation}
 
 abbrev pub is_word_of : Storage → ℕ → Bool
 is_word_of s n = nat_le s.first n && nat_lt n (s.first + s.words)

@@ -1,19 +1,16 @@
 -- What the header of each page of an object shows.
-use Rattle.std.proofs.Common.{◌≡◌, ◌≢◌, ℕ, zero, suc, ◌+◌, ◌<◌, ◌≤◌, Bool, true, false, refl, sym, ◌∙◌, ap, subst, inl}
-use Rattle.std.proofs.Common.{inr, arith, ◌&&◌, ◌||◌, Option, Some}
-use Rattle.std.proofs.lemmas.Bool.{cases_Bool, true≢false, cond-true, cond-false}
-use Rattle.mk_core.proofs.Vocabulary.{Block, cells_made, cells_under, class_made, Free, Header, header_made}
-use Rattle.mk_core.proofs.Vocabulary.{is_small_object, IsHeaderOf, IsSized, Later, LeafBlock, LeafRun, Object}
-use Rattle.mk_core.proofs.Vocabulary.{pages_made, Run, unmapped_header, words_made, words_under}
-use Rattle.mk_geom.specs.Headers.{word_of, header_of}
-use Rattle.mk_geom.specs.Storages.{block_header, run_header}
-use Rattle.mk_geom.specs.Classes.{run_pages_of}
+use Rattle.mk_core.proofs.Vocabulary.{Block, Bool, Free, Header, IsHeaderOf, IsSized, Later, LeafBlock, LeafRun, Object}
+use Rattle.mk_core.proofs.Vocabulary.{Option, Run, Some, ℕ, ap, arith, cases_Bool, cells_made, cells_under, class_made}
+use Rattle.mk_core.proofs.Vocabulary.{cond-false, cond-true, false, header_made, inl, inr, is_small_object, pages_made}
+use Rattle.mk_core.proofs.Vocabulary.{refl, subst, suc, sym, true, true≢false, unmapped_header, words_made, words_under}
+use Rattle.mk_core.proofs.Vocabulary.{zero, ◌&&◌, ◌+◌, ◌<◌, ◌||◌, ◌∙◌, ◌≡◌, ◌≢◌, ◌≤◌}
 use Rattle.mk_geom.proofs.HeaderLemmas.{header_of-word_of}
-use Rattle.mk_geom.specs.Addresses.{head_page_under}
-use Rattle.mk_core.specs.Cells.{heads_run, is_unmapped_header, has_no_pointers}
-use Rattle.mk_core.specs.ObjectHeaders.{ShowsPart, OfBlock, OfLeafBlock, OfRun, OfLeafRun, OfLater, FirstPartsHaveCells}
-use Rattle.mk_core.proofs.Sizes.{small_cells, large_cells, small_pages, large_pages, small_words, large_words}
-use Rattle.mk_core.proofs.Sizes.{class_known, large_count}
+use Rattle.mk_geom.specs.Headers.{header_of, word_of}
+use Rattle.mk_geom.specs.{Addresses.head_page_under, Classes.run_pages_of, Storages.block_header, Storages.run_header}
+use Rattle.mk_core.proofs.Sizes.{class_known, large_cells, large_count, large_pages, large_words, small_cells}
+use Rattle.mk_core.proofs.Sizes.{small_pages, small_words}
+use Rattle.mk_core.specs.ObjectHeaders.{FirstPartsHaveCells, OfBlock, OfLater, OfLeafBlock, OfLeafRun, OfRun, ShowsPart}
+use Rattle.mk_core.specs.Cells.{has_no_pointers, heads_run, is_unmapped_header}
 
 pub small_header : (o : Object) (distance : ℕ) → is_small_object o ≡ true
     → header_made o distance ≡ word_of (block_header (class_made o) o.leaf)
@@ -221,11 +218,9 @@ pub made_is_mapped : (o : Object) (distance : ℕ) → IsSized o → distance < 
     → is_unmapped_header (header_of (header_made o distance)) ≡ false
 made_is_mapped o distance sized lt = elim (cases_Bool (is_small_object o)) [
   | inl small ↦
-      ap (λ h. is_unmapped_header (header_of h)) (small_header o distance small)
-      ∙ block_mapped (class_made o) o.leaf (class_known o sized small).0
+      cc (small_header o distance small, block_mapped (class_made o) o.leaf (class_known o sized small).0)
   | inr large ↦
-      ap (λ h. is_unmapped_header (header_of h)) (large_header o distance large)
-      ∙ run_mapped (pages_made o) distance o.leaf (large_count o sized large) lt
+      cc (large_header o distance large, run_mapped (pages_made o) distance o.leaf (large_count o sized large) lt)
 ]
 
 pub unmapped_is_unmapped : (count distance : ℕ) → (1 ≤ count) × (count ≤ 64) → distance < count

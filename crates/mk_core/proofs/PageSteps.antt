@@ -1,20 +1,16 @@
 -- What the steps that change a page's header, used and quarantine words find and store.
-use Rattle.std.proofs.Common.{◌≡◌, ℕ, ◌-◌, ◌/◌, ◌%◌, ◌^◌, ◌<◌, Bool, true, false, refl, sym, ◌∙◌, ap, inl, inr, bit_and}
-use Rattle.std.proofs.Common.{◌⊎◌, ◌&&◌, ◌||◌, not, Option, Some, None, slice_index, if◌then◌else◌}
-use Rattle.std.proofs.lemmas.Bool.{cases_Bool, and_parts, eqb-true, not-true, true≢false}
-use Rattle.mk_core.proofs.Vocabulary.{cell_words, Config, first_word, Flight, has_bit, is_phase, Moment, object_made}
-use Rattle.mk_core.proofs.Vocabulary.{place_now, quarantine_word, unmapped_header, Words, words_are_zero}
-use Rattle.mk_core.specs.declared.seats.RunPages.{RunPages}
-use Rattle.mk_core.specs.Words.{used_at}
-use Rattle.mk_core.specs.Bits.{without}
-use Rattle.mk_core.specs.Cells.{head_page, left_unmarked, are_left_unmarked}
-use Rattle.mk_core.specs.NewPlaces.{target}
-use Rattle.mk_core.specs.TurnConditions.{carves, unmaps, empties, may_head, takes_cell, is_used_once, are_wiped}
-use Rattle.mk_core.specs.TurnConditions.{gives_back, may_use, frees, takes_snapshot, drops, may_quarantine}
-use Rattle.mk_core.proofs.AllBelow.{all_below-at}
-use Rattle.mk_core.proofs.BitsWithout.{has_bit_without}
-use Rattle.mk_core.proofs.WordBits.{fewer_bits, rest_bits, without_none, no_common}
-use Rattle.mk_core.proofs.ServingSteps.{IsNextHeader, next_header, Carves, carves_is, TakesCell, takes_is}
+use Rattle.mk_core.proofs.Vocabulary.{Bool, Config, Flight, Moment, None, Option, Some, Words, ℕ, and_parts, ap}
+use Rattle.mk_core.proofs.Vocabulary.{bit_and, cases_Bool, cell_words, eqb-true, false, first_word, has_bit}
+use Rattle.mk_core.proofs.Vocabulary.{if◌then◌else◌, inl, inr, is_phase, not, not-true, object_made, place_now}
+use Rattle.mk_core.proofs.Vocabulary.{quarantine_word, refl, slice_index, sym, true, true≢false, unmapped_header}
+use Rattle.mk_core.proofs.Vocabulary.{words_are_zero, ◌%◌, ◌&&◌, ◌-◌, ◌/◌, ◌<◌, ◌^◌, ◌||◌, ◌∙◌, ◌≡◌, ◌⊎◌}
+use Rattle.mk_core.proofs.ServingSteps.{Carves, IsNextHeader, TakesCell, carves_is, next_header, takes_is}
+use Rattle.mk_core.proofs.WordBits.{fewer_bits, no_common, rest_bits, without_none}
+use Rattle.mk_core.proofs.{AllBelow.all_below-at, BitsWithout.has_bit_without}
+use Rattle.mk_core.specs.Cells.{are_left_unmarked, head_page, left_unmarked}
+use Rattle.mk_core.specs.TurnConditions.{are_wiped, carves, drops, empties, frees, gives_back, is_used_once, may_head}
+use Rattle.mk_core.specs.TurnConditions.{may_quarantine, may_use, takes_cell, takes_snapshot, unmaps}
+use Rattle.mk_core.specs.{Bits.without, NewPlaces.target, Words.used_at, declared.seats.RunPages.RunPages}
 
 -- one of two tests holds
 either_holds : (a b : Bool) → (a || b) ≡ true → (a ≡ true) ⊎ (b ≡ true)

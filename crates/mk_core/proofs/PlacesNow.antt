@@ -1,19 +1,13 @@
 -- What is known where there is a place of a New, or a cell that a Free frees.
-use Rattle.std.proofs.Common.{◌≡◌, ℕ, ◌+◌, ◌^◌, Bool, true, false, refl, sym, ◌∙◌, ap, subst, ◌⊎◌, inl, inr, ◌&&◌, not}
-use Rattle.std.proofs.Common.{Option, Some, None, slice_index, if◌then◌else◌, List}
-use Rattle.std.proofs.lemmas.Bool.{and_parts, eqb-true, not-true}
-use Rattle.mk_core.proofs.Vocabulary.{Cell, Config, Flight, is_phase, Moment, Object, object_made, Op, Page, Place}
-use Rattle.mk_core.proofs.Vocabulary.{place_now, pointed_cell, quarantine_word, Words}
-use Rattle.mk_never.specs.declared.operations.Op.TheVariants as op
-use Rattle.mk_core.specs.declared.seats.Stage.{Stage}
-use Rattle.mk_core.specs.declared.seats.Stage.TheVariants as stage
-use Rattle.mk_core.specs.declared.seats.Placing.{Placing}
-use Rattle.mk_core.specs.declared.seats.Placing.TheVariants.{Unplaced, Chosen, Used, Granted}
-use Rattle.mk_core.specs.Cells.{is_freed}
-use Rattle.mk_core.specs.NewPlaces.{place_on_pages, place_by_placing, is_new_at, is_free_at, is_undecided_new}
-use Rattle.mk_core.specs.NewPlaces.{is_undecided_free, target}
-use Rattle.mk_core.specs.TurnConditions.{frees, cell_freed}
-use Rattle.mk_core.specs.Effects.{chosen, taken}
+use Rattle.mk_core.proofs.Vocabulary.{Bool, Cell, Config, Flight, List, Moment, None, Object, Op, Option, Page, Place}
+use Rattle.mk_core.proofs.Vocabulary.{Some, Words, ℕ, and_parts, ap, eqb-true, false, if◌then◌else◌, inl, inr, is_phase}
+use Rattle.mk_core.proofs.Vocabulary.{not, not-true, object_made, place_now, pointed_cell, quarantine_word, refl}
+use Rattle.mk_core.proofs.Vocabulary.{slice_index, subst, sym, true, ◌&&◌, ◌+◌, ◌^◌, ◌∙◌, ◌≡◌, ◌⊎◌}
+use Rattle.mk_core.specs.declared.seats.Placing.TheVariants.{Chosen, Granted, Unplaced, Used}
+use Rattle.mk_core.specs.{Cells.is_freed, Effects.chosen, Effects.taken, NewPlaces.is_free_at, NewPlaces.is_new_at}
+use Rattle.mk_core.specs.{NewPlaces.is_undecided_free, NewPlaces.is_undecided_new, NewPlaces.place_by_placing}
+use Rattle.mk_core.specs.{NewPlaces.place_on_pages, NewPlaces.target, TurnConditions.cell_freed, TurnConditions.frees}
+use Rattle.mk_core.specs.{declared.seats.Placing.Placing, declared.seats.Stage.Stage}
 
 -- what stands under a test, where something does
 some_under : {A : Type 0} (b : Bool) (o : Option A) (x : A) → (if b then o else None) ≡ Some x
@@ -24,23 +18,23 @@ some_under false o x h = cc
 -- A New or a Free that isn't decided yet.
 
 pub record NewAtTurn (s : Stage) (o : Op) : Type 0 where
-  pub stage : s ≡ stage.Turn
+  pub stage : s ≡ Stage.Turn
   pub d : ℕ
   pub ty : ℕ
   pub full : Bool
-  pub op : o ≡ op.New d ty full
+  pub op : o ≡ Op.New d ty full
 
 pub record FreeAtTurn (s : Stage) (o : Op) : Type 0 where
-  pub stage : s ≡ stage.Turn
+  pub stage : s ≡ Stage.Turn
   pub p : ℕ
-  pub op : o ≡ op.Free p
+  pub op : o ≡ Op.Free p
 
 new_at : (s : Stage) (o : Op) → is_new_at s o ≡ true → NewAtTurn s o
-new_at stage.Turn (op.New d ty full) h = record { stage = refl; d = d; ty = ty; full = full; op = refl }
+new_at Stage.Turn (Op.New d ty full) h = record { stage = refl; d = d; ty = ty; full = full; op = refl }
 new_at _ _ h = cc
 
 free_at : (s : Stage) (o : Op) → is_free_at s o ≡ true → FreeAtTurn s o
-free_at stage.Turn (op.Free p) h = record { stage = refl; p = p; op = refl }
+free_at Stage.Turn (Op.Free p) h = record { stage = refl; p = p; op = refl }
 free_at _ _ h = cc
 
 pub undecided_new : (f : Flight) → is_undecided_new f ≡ true → NewAtTurn f.stage f.op

@@ -1,27 +1,22 @@
 -- Which allocation a value points into, and what a release makes of one.
-use Rattle.std.proofs.Common.{◌≡◌, ℕ, ◌+◌, ◌*◌, ◌/◌, ◌%◌, ◌<◌, Bool, true, false, sym, ◌∙◌, ap, inl, inr, arith}
-use Rattle.std.specs.Prelude.{◌||◌, Option, Some, None, nat_lt, if◌then◌else◌}
 use Rattle.std.proofs.Math.Nat.{div-mul-le_self, lt-div-mul-add}
-use Rattle.std.proofs.lemmas.Bool.{cases_Bool}
-use Rattle.mk_core.proofs.Vocabulary.{Cell, cell_of_storage, cell_words, cells_of, class_words_of, Config, first_word}
-use Rattle.mk_core.proofs.Vocabulary.{HasItsHeaders, header_at, IsSized, IsWithinLimits, IsWordOf, object_placed}
-use Rattle.mk_core.proofs.Vocabulary.{page_at_address, placed_at, PlacedAllocation, pointed_cell, points_well}
-use Rattle.mk_core.proofs.Vocabulary.{StandsOnHeap, Storage, storage_of, Words, World}
-use Rattle.mk_geom.specs.Addresses.{address_of, word_at_address, cell_of_block, cell_at}
-use Rattle.mk_geom.specs.Storages.{is_small, stands_on, class_of_storage, IsStorage}
-use Rattle.mk_geom.specs.StorageWords.{PointsInto, ShowsStorage}
-use Rattle.mk_geom.proofs.Standing.{small_is_cell, large_is_run, has_words, cell_stands_at, stands_parts}
-use Rattle.mk_geom.proofs.PointedCells.{small_lookup, cell_index, class_has_words, small_cell_of, address_points_into}
+use Rattle.mk_core.proofs.Vocabulary.{Bool, Cell, Config, HasItsHeaders, IsSized, IsWithinLimits, IsWordOf, None}
+use Rattle.mk_core.proofs.Vocabulary.{Option, PlacedAllocation, Some, StandsOnHeap, Storage, Words, World, ℕ, ap, arith}
+use Rattle.mk_core.proofs.Vocabulary.{cases_Bool, cell_of_storage, cell_words, cells_of, class_words_of, false}
+use Rattle.mk_core.proofs.Vocabulary.{first_word, header_at, if◌then◌else◌, inl, inr, nat_lt, object_placed}
+use Rattle.mk_core.proofs.Vocabulary.{page_at_address, placed_at, pointed_cell, points_well, storage_of, sym, true, ◌%◌}
+use Rattle.mk_core.proofs.Vocabulary.{◌*◌, ◌+◌, ◌/◌, ◌<◌, ◌||◌, ◌∙◌, ◌≡◌}
+use Rattle.mk_geom.proofs.PointedCells.{address_points_into, cell_index, class_has_words, small_cell_of, small_lookup}
+use Rattle.mk_geom.proofs.Standing.{cell_stands_at, has_words, large_is_run, small_is_cell, stands_parts}
 use Rattle.mk_geom.proofs.CellsOnPages.{is_address}
-use Rattle.mk_core.specs.Bounded.{is_some_and, is_none_or}
-use Rattle.mk_core.specs.Cells.{is_marked, is_left_unmarked}
-use Rattle.mk_core.specs.Allocations.{with_released}
-use Rattle.mk_core.specs.ClosedMarks.{is_marked_allocation}
-use Rattle.mk_core.specs.Readings.{IsTaken}
-use Rattle.mk_core.proofs.Sizes.{words_within}
-use Rattle.mk_core.proofs.StandingAllocations.{typed_size, standing_has_storage, headers_show_storage, pointers_hit}
-use Rattle.mk_core.proofs.StandingAllocations.{cells_begin}
-use Rattle.mk_core.proofs.CellsOfAllocations.{stands_in_no_other}
+use Rattle.mk_geom.specs.Addresses.{address_of, cell_at, cell_of_block, word_at_address}
+use Rattle.mk_geom.specs.Storages.{IsStorage, class_of_storage, is_small, stands_on}
+use Rattle.mk_geom.specs.StorageWords.{PointsInto, ShowsStorage}
+use Rattle.mk_core.proofs.StandingAllocations.{cells_begin, headers_show_storage, pointers_hit, standing_has_storage}
+use Rattle.mk_core.proofs.StandingAllocations.{typed_size}
+use Rattle.mk_core.proofs.{CellsOfAllocations.stands_in_no_other, Sizes.words_within}
+use Rattle.mk_core.specs.{Allocations.with_released, Bounded.is_none_or, Bounded.is_some_and, Cells.is_left_unmarked}
+use Rattle.mk_core.specs.{Cells.is_marked, ClosedMarks.is_marked_allocation, Readings.IsTaken}
 
 -- a word of a block is in the cell that it points into
 block_index : (class page word : ℕ) (cell : Cell) → cell_of_block class page word ≡ Some cell
@@ -94,9 +89,7 @@ base_points c w a limits st has =
 pub released_where_left : (c : Config) (w : Words) (a : PlacedAllocation) → IsWithinLimits c → StandsOnHeap c a
     → HasItsHeaders c w a
     → (with_released c w a).released ≡ is_left_unmarked w (cell_of_storage (storage_of c a))
-released_where_left c w a limits st has =
-    ap (λ b. b || is_some_and (is_left_unmarked w) (pointed_cell c.pages w.pages (address_of a.base))) st.unreleased
-    ∙ ap (λ (x : Option Cell). is_some_and (is_left_unmarked w) x) (base_points c w a limits st has)
+released_where_left c w a limits st has = cc (st.unreleased, base_points c w a limits st has)
 
 -- It is marked where its cell is, and what points into it points well there.
 pub marked_where_its_cell_is : (c : Config) (w : Words) (a : PlacedAllocation) → IsWithinLimits c → StandsOnHeap c a

@@ -1,14 +1,13 @@
 -- Where the cell lies into which a value points.
-use Rattle.std.proofs.Common.{◌≡◌, ◌⊎◌, ℕ, ◌*◌, ◌/◌, ◌<◌, ◌≤◌, Bool, true, false, refl, sym, ◌∙◌, ap, subst, inl, inr}
-use Rattle.std.proofs.Common.{arith, option_and_then, Option, Some, None, nat_le, nat_lt, if◌then◌else◌}
-use Rattle.std.proofs.Math.Nat.{div-le_self, div-lt_iff_lt-mul}
-use Rattle.std.proofs.lemmas.Bool.{cases_eq, ltb-true}
-use Rattle.mk_core.proofs.Vocabulary.{Block, Cell, cells_of, cells_under, class_words_of, Free, Header, header_at}
-use Rattle.mk_core.proofs.Vocabulary.{header_in, Later, LeafBlock, LeafRun, page_at_address, pointed_cell, Run, Words}
-use Rattle.mk_geom.specs.Addresses.{is_heap_address, word_at_address, cell_of_block, head_page_under, run_of_page}
-use Rattle.mk_geom.specs.Addresses.{cell_under, cell_at}
-use Rattle.mk_geom.specs.Headers.{header_of}
-use Rattle.mk_geom.proofs.CellsOnPages.{is_address}
+use Rattle.std.proofs.{Common.option_and_then, Math.Nat.div-le_self, Math.Nat.div-lt_iff_lt-mul}
+use Rattle.mk_core.proofs.Vocabulary.{Block, Bool, Cell, Free, Header, Later, LeafBlock, LeafRun, None, Option, Run}
+use Rattle.mk_core.proofs.Vocabulary.{Some, Words, ℕ, ap, arith, cases_eq, cells_of, cells_under, class_words_of, false}
+use Rattle.mk_core.proofs.Vocabulary.{header_at, header_in, if◌then◌else◌, inl, inr, ltb-true, nat_le, nat_lt}
+use Rattle.mk_core.proofs.Vocabulary.{page_at_address, pointed_cell, refl, subst, sym, true, ◌*◌, ◌/◌, ◌<◌, ◌∙◌, ◌≡◌}
+use Rattle.mk_core.proofs.Vocabulary.{◌≤◌, ◌⊎◌}
+use Rattle.mk_geom.{proofs.CellsOnPages.is_address, specs.Addresses.cell_at, specs.Addresses.cell_of_block}
+use Rattle.mk_geom.{specs.Addresses.cell_under, specs.Addresses.head_page_under, specs.Addresses.is_heap_address}
+use Rattle.mk_geom.{specs.Addresses.run_of_page, specs.Addresses.word_at_address, specs.Headers.header_of}
 use Rattle.mk_core.specs.Cells.{head_page}
 
 -- It lies on the head page of the value's page, and is one of the 64 that a page has at most, and of those that the
@@ -112,11 +111,7 @@ cell_within count header value cell is =
   where
     not_behind : (h : Header) (page : ℕ) → head_page_under (Some h) page ≤ page
     not_behind Free page = omega arith
-    not_behind (Block class) page = omega arith
-    not_behind (LeafBlock class) page = omega arith
-    not_behind (Run pages mapped) page = omega arith
-    not_behind (LeafRun pages) page = omega arith
-    not_behind (Later distance mapped) page = omega arith
+    not_behind _ page = omega arith
 
 pub points_to : (count : ℕ) (w : Words) (value : ℕ) (cell : Cell) → pointed_cell count w.pages value ≡ Some cell
     → PointsTo count w value cell

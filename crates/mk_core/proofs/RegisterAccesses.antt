@@ -1,15 +1,9 @@
 -- What an access to a register or to a tally leaves alone.
-use Rattle.std.proofs.Common.{◌≡◌, ℕ, ◌<◌, true, refl, rules, nat_lt}
-use Rattle.std.proofs.lemmas.Bool.{and_parts, ltb-true}
-use Rattle.mk_core.proofs.Vocabulary.{Access, Config, Flight, Load, Named, Op, Store, Words}
-use Rattle.mk_core.specs.declared.events.Tally.{Tally}
-use Rattle.mk_core.specs.declared.events.Tally.TheVariants as tally
-use Rattle.mk_core.specs.declared.events.Word.TheVariants as word
-use Rattle.mk_core.specs.declared.seats.Stage.{Stage}
-use Rattle.mk_core.specs.declared.seats.Stage.TheVariants as stage
-use Rattle.mk_core.specs.Words.{accessed}
-use Rattle.mk_core.specs.Calls.{has_operands, has_type, q_of, p_of, r_of, d_of, g_of}
-use Rattle.mk_core.specs.Accesses.{register_met, tally_word}
+use Rattle.std.proofs.Common.{rules}
+use Rattle.mk_core.proofs.Vocabulary.{Access, Config, Flight, Load, Named, Op, Store, Tally, Word, Words, ℕ, and_parts}
+use Rattle.mk_core.proofs.Vocabulary.{ltb-true, nat_lt, refl, true, ◌<◌, ◌≡◌}
+use Rattle.mk_core.specs.Calls.{d_of, g_of, has_operands, has_type, p_of, q_of, r_of}
+use Rattle.mk_core.specs.{Accesses.register_met, Accesses.tally_word, Words.accessed, declared.seats.Stage.Stage}
 
 -- all that the words have but the registers and the tallies
 pub record LeavesTable (w v : Words) : Type 0 where
@@ -34,22 +28,22 @@ pub record LeavesTallies (w v : Words) : Type 0 where
   pub full : v.full ≡ w.full
 
 -- An access to a register leaves all but the registers,
-pub register_leaves : (w : Words) (k r : ℕ) (a : Access) → LeavesTable w (accessed w (Named (word.Reg k r)) a)
+pub register_leaves : (w : Words) (k r : ℕ) (a : Access) → LeavesTable w (accessed w (Named (Word.Reg k r)) a)
 register_leaves w k r Load = search rules
 register_leaves w k r _ = search rules
 
-pub register_leaves_tallies : (w : Words) (k r : ℕ) (a : Access) → LeavesTallies w (accessed w (Named (word.Reg k r)) a)
+pub register_leaves_tallies : (w : Words) (k r : ℕ) (a : Access) → LeavesTallies w (accessed w (Named (Word.Reg k r)) a)
 register_leaves_tallies w k r Load = record { held = refl; fresh = refl; cycles = refl; released = refl; full = refl }
 register_leaves_tallies w k r _ = record { held = refl; fresh = refl; cycles = refl; released = refl; full = refl }
 
 -- and one to a tally the tallies alone.
 pub tally_leaves : (w : Words) (n : Tally) (v : ℕ) → LeavesTable w (accessed w (Named (tally_word n)) (Store v))
-tally_leaves w tally.Held v = search rules
+tally_leaves w Tally.Held v = search rules
 tally_leaves w _ v = search rules
 
 pub tally_leaves_registers : (w : Words) (n : Tally) (v : ℕ)
     → (accessed w (Named (tally_word n)) (Store v)).registers ≡ w.registers
-tally_leaves_registers w tally.Held v = refl
+tally_leaves_registers w Tally.Held v = refl
 tally_leaves_registers w _ v = refl
 
 -- The register that a `reg` step meets is one of the eight.
@@ -65,7 +59,7 @@ register_is_small c f s h = by f s (parts c f.op h)
 
     by : (f : Flight) (s : Stage) → (q_of f.op < 8) × (p_of f.op < 8) × (r_of f.op < 8) × (d_of f.op < 8)
         → register_met f s < 8
-    by f stage.LoadQ h = h.0
-    by f stage.LoadP h = h.1
-    by f stage.LoadR h = h.2
+    by f Stage.LoadQ h = h.0
+    by f Stage.LoadP h = h.1
+    by f Stage.LoadR h = h.2
     by f _ h = h.3

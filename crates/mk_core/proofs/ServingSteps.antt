@@ -1,15 +1,11 @@
 -- What the steps that serve a new object find and store.
-use Rattle.std.proofs.Common.{◌≡◌, ◌≢◌, ℕ, ◌+◌, ◌-◌, ◌<◌, ◌≤◌, ◌^◌, true, false, refl}
-use Rattle.std.specs.Prelude.{not, ◌==◌, nat_lt, Option, Some, None}
-use Rattle.std.proofs.lemmas.Bool.{and_parts, eqb-true, eqb-false, leb-true, ltb-true, not-true}
-use Rattle.mk_core.proofs.Vocabulary.{all_below, has_bit, header_at, header_made, is_phase, Object, pages_made, Place}
-use Rattle.mk_core.proofs.Vocabulary.{stands, Words}
-use Rattle.mk_core.specs.declared.events.Step.TheVariants as step
-use Rattle.mk_core.specs.Words.{used_at}
-use Rattle.mk_core.specs.NewPlaces.{bits_made, is_next_header}
-use Rattle.mk_core.specs.TurnConditions.{carves, takes_cell, is_marked_first}
-use Rattle.mk_core.specs.StopConditions.{marks_place}
+use Rattle.mk_core.proofs.Vocabulary.{None, Object, Option, Place, Some, Words, ℕ, all_below, and_parts, eqb-false}
+use Rattle.mk_core.proofs.Vocabulary.{eqb-true, false, has_bit, header_at, header_made, is_phase, leb-true, ltb-true}
+use Rattle.mk_core.proofs.Vocabulary.{nat_lt, not, not-true, pages_made, refl, stands, true, ◌+◌, ◌-◌, ◌<◌, ◌==◌, ◌^◌}
+use Rattle.mk_core.proofs.Vocabulary.{◌≡◌, ◌≢◌, ◌≤◌}
 use Rattle.mk_core.proofs.AllBelow.{all_below-at}
+use Rattle.mk_core.specs.TurnConditions.{carves, is_marked_first, takes_cell}
+use Rattle.mk_core.specs.{NewPlaces.bits_made, NewPlaces.is_next_header, StopConditions.marks_place, Words.used_at}
 
 -- the first page of this many that hasn't the header that is wanted there, and that header
 pub record IsNextHeader (w : Words) (first count : ℕ) (wanted : ℕ → ℕ) (page value : ℕ) : Type 0 where

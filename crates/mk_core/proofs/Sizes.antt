@@ -1,15 +1,14 @@
 -- Small and large objects: their classes, cells, pages and words.
-use Rattle.std.proofs.Common.{◌≡◌, ℕ, ◌+◌, ◌*◌, ◌<◌, ◌≤◌, Bool, true, false, List, [], ◌∷◌, length, sym, ◌∙◌, ap, subst}
-use Rattle.std.proofs.Common.{inl, inr, arith, cond, lt-ltb, le-ltb}
-use Rattle.std.specs.Prelude.{Option, Some, None, not, nat_le, nat_lt, unwrap_or, ◌==◌, ◌||◌, if◌then◌else◌}
-use Rattle.std.specs.List.{list_any, position_or_len, position}
-use Rattle.std.proofs.lemmas.Bool.{cases_Bool, le-leb, lt-leb, leb-true, ne_eqb, or_left, or_right, cond-true}
-use Rattle.std.proofs.lemmas.Bool.{cond-false}
-use Rattle.std.proofs.lemmas.Bool.Decides.{leb_tells}
-use Rattle.mk_core.proofs.Vocabulary.{cells_made, cells_of, class_made, class_words_of, is_small_object, IsSized}
-use Rattle.mk_core.proofs.Vocabulary.{Object, pages_made, words_made}
-use Rattle.mk_geom.specs.Classes.{class_sizes, class_for, run_pages_of}
+use Rattle.std.proofs.Common.{cond, le-ltb, lt-ltb, unwrap_or}
+use Rattle.std.proofs.{lemmas.Bool.lt-leb, lemmas.Bool.or_left, lemmas.Bool.or_right, lemmas.Bool.Decides.leb_tells}
+use Rattle.std.specs.List.{position, position_or_len}
+use Rattle.mk_core.proofs.Vocabulary.{Bool, IsSized, List, None, Object, Option, Some, ℕ, ap, arith, cases_Bool}
+use Rattle.mk_core.proofs.Vocabulary.{cells_made, cells_of, class_made, class_words_of, cond-false, cond-true, false}
+use Rattle.mk_core.proofs.Vocabulary.{if◌then◌else◌, inl, inr, is_small_object, le-leb, leb-true, length, list_any}
+use Rattle.mk_core.proofs.Vocabulary.{nat_le, nat_lt, ne_eqb, not, pages_made, subst, sym, true, words_made, [], ◌*◌}
+use Rattle.mk_core.proofs.Vocabulary.{◌+◌, ◌<◌, ◌==◌, ◌||◌, ◌∙◌, ◌∷◌, ◌≡◌, ◌≤◌}
 use Rattle.mk_geom.proofs.ClassTable.{class_for-some, class_words_within, some_cells}
+use Rattle.mk_geom.specs.Classes.{class_for, class_sizes, run_pages_of}
 use Rattle.mk_core.specs.HistoryLaws.{LargeIsNotSmall}
 
 over_is_not : (n : ℕ) → nat_lt 32 n ≡ not (nat_le n 32)
@@ -57,9 +56,7 @@ class_for_small n some most =
     let any : list_any (λ size. nat_le n size) class_sizes ≡ true = last n (le-leb n 32 most) in
     let there = lt-ltb (position_or_len (λ size. nat_le n size) class_sizes) (length class_sizes)
     (first_passes (λ size. nat_le n size) class_sizes any) in
-    let is : class_for n ≡ Some (position_or_len (λ size. nat_le n size) class_sizes) =
-    ap (λ b. if b then None else position (λ size. nat_le n size) class_sizes) zero
-    ∙ ap (λ b. cond b (Some (position_or_len (λ size. nat_le n size) class_sizes)) None) there in
+    let is : class_for n ≡ Some (position_or_len (λ size. nat_le n size) class_sizes) = cc (zero, there) in
     is ∙ ap (λ (x : Option ℕ). Some (unwrap_or x 0)) (sym is)
   where
     last : (n : ℕ) → nat_le n 32 ≡ true → list_any (λ size. nat_le n size) class_sizes ≡ true

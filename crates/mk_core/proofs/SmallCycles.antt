@@ -1,26 +1,21 @@
 -- Two lists of a small heap along a cycle, as checked examples of the definitions: in one the caller is stopped from
 -- before the `begin` on, and in the other it writes beside a marker.
-use Rattle.std.proofs.Common.{◌≡◌, Bool, true, false, ◌&&◌, List, [], ◌∷◌, ◌++◌, map, Some, None, refl, ◌==◌}
-use Rattle.mk_core.proofs.Vocabulary.{all_below, Config, Event, failing, first_world, may_turn_black, pointed_cell}
-use Rattle.mk_core.proofs.Vocabulary.{Seat, Step, To, World, world_behind}
+use Rattle.mk_core.proofs.Vocabulary.{Bool, Config, Event, List, None, Op, Seat, Some, Step, Tally, To, Word, World}
+use Rattle.mk_core.proofs.Vocabulary.{all_below, failing, false, first_world, map, may_turn_black, pointed_cell, refl}
+use Rattle.mk_core.proofs.Vocabulary.{true, world_behind, [], ◌&&◌, ◌++◌, ◌==◌, ◌∷◌, ◌≡◌}
 use Rattle.mk_never.specs.declared.types.Kind.TheVariants.{Num}
-use Rattle.mk_never.specs.declared.operations.Op.TheVariants as op
-use Rattle.mk_core.specs.declared.events.Seat.TheVariants as seat
-use Rattle.mk_core.specs.declared.events.Word.TheVariants as word
-use Rattle.mk_core.specs.declared.events.Tally.TheVariants as tally
-use Rattle.mk_core.specs.declared.events.Step.TheVariants as step
 
 abbrev pub by : Seat → List Step → List Event
 by s steps = map (λ (x : Step). record { seat = s; step = x }) steps
 
 abbrev pub by_caller : List Step → List Event
-by_caller steps = by (seat.Caller 0) steps
+by_caller steps = by (Seat.Caller 0) steps
 
 abbrev pub by_marker : List Step → List Event
-by_marker steps = by (seat.Marker 0) steps
+by_marker steps = by (Seat.Marker 0) steps
 
 abbrev pub by_host : List Step → List Event
-by_host steps = by seat.Host steps
+by_host steps = by Seat.Host steps
 
 -- one page, and objects of a pointer to such an object and a number
 abbrev pub small : Config
@@ -29,65 +24,65 @@ small = record { pages = 1; resident = 1; callers = 1; markers = 1; types = (To 
 -- Three objects, of which register 0 holds the first and register 1 the second. The third is freed.
 unfoldable pub three_objects : List Event
 three_objects =
-    by_caller (step.Take (Some (op.New 0 0 false)) ∷ step.Head 0 1 ∷ step.Used 0 1 ∷ step.Grant
-    ∷ step.Tally tally.Held 2 ∷ step.Give ∷ [])
-    ++ by_caller (step.Take (Some (op.New 1 0 false)) ∷ step.Used 0 3 ∷ step.Grant ∷ step.Tally tally.Held 4 ∷ step.Give
+    by_caller (Step.Take (Some (Op.New 0 0 false)) ∷ Step.Head 0 1 ∷ Step.Used 0 1 ∷ Step.Grant
+    ∷ Step.Tally Tally.Held 2 ∷ Step.Give ∷ [])
+    ++ by_caller (Step.Take (Some (Op.New 1 0 false)) ∷ Step.Used 0 3 ∷ Step.Grant ∷ Step.Tally Tally.Held 4 ∷ Step.Give
     ∷ [])
-    ++ by_caller (step.Take (Some (op.New 2 0 false)) ∷ step.Used 0 7 ∷ step.Grant ∷ step.Tally tally.Held 6 ∷ step.Give
+    ++ by_caller (Step.Take (Some (Op.New 2 0 false)) ∷ Step.Used 0 7 ∷ Step.Grant ∷ Step.Tally Tally.Held 6 ∷ Step.Give
     ∷ [])
-    ++ by_caller (step.Take (Some (op.Free 2)) ∷ step.Reg ∷ step.Quar 0 4 ∷ step.Tally tally.Fresh 2 ∷ step.Give ∷ [])
-    ++ by_caller (step.Enter (op.Clear 2) ∷ step.Reg ∷ step.Leave ∷ [])
+    ++ by_caller (Step.Take (Some (Op.Free 2)) ∷ Step.Reg ∷ Step.Quar 0 4 ∷ Step.Tally Tally.Fresh 2 ∷ Step.Give ∷ [])
+    ++ by_caller (Step.Enter (Op.Clear 2) ∷ Step.Reg ∷ Step.Leave ∷ [])
 
 -- A pointer to the second is written to the first, up to the `write`, and then from there on.
 abbrev pub pointer_written : List Event
-pointer_written = by_caller (step.Enter (op.SetPtr 0 0 1) ∷ step.Reg ∷ step.Reg ∷ step.Probe ∷ step.Write ∷ [])
+pointer_written = by_caller (Step.Enter (Op.SetPtr 0 0 1) ∷ Step.Reg ∷ Step.Reg ∷ Step.Probe ∷ Step.Write ∷ [])
 
 abbrev pub page_dirtied : List Event
-page_dirtied = by_caller (step.Dirty ∷ step.Leave ∷ [])
+page_dirtied = by_caller (Step.Dirty ∷ Step.Leave ∷ [])
 
 abbrev pub second_cleared : List Event
-second_cleared = by_caller (step.Enter (op.Clear 1) ∷ step.Reg ∷ step.Leave ∷ [])
+second_cleared = by_caller (Step.Enter (Op.Clear 1) ∷ Step.Reg ∷ Step.Leave ∷ [])
 
 -- what releases the third, from the `close` on
 abbrev pub third_released : List Event
 third_released =
-    by_host (step.Close ∷ step.Release ∷ step.Used 0 3 ∷ step.Quar 0 0 ∷ step.Tally tally.Held 4 ∷ step.End
-    ∷ step.Open 0 ∷ step.Give ∷ [])
+    by_host (Step.Close ∷ Step.Release ∷ Step.Used 0 3 ∷ Step.Quar 0 0 ∷ Step.Tally Tally.Held 4 ∷ Step.End
+    ∷ Step.Open 0 ∷ Step.Give ∷ [])
 
 -- The caller is stopped, and the snapshot is taken: a `begin` may come next.
 unfoldable pub begun_in_stop : List Event
 begun_in_stop =
     three_objects ++ pointer_written ++ page_dirtied ++ second_cleared
-    ++ by_host (step.Take None ∷ step.Hold 0 ∷ step.Quar 0 17179869188 ∷ step.Tally tally.Fresh 0 ∷ step.Undirty 0 ∷ [])
+    ++ by_host (Step.Take None ∷ Step.Hold 0 ∷ Step.Quar 0 17179869188 ∷ Step.Tally Tally.Fresh 0 ∷ Step.Undirty 0 ∷ [])
 
 unfoldable pub marked_in_stop : List Event
 marked_in_stop =
-    by_host (step.Want ∷ step.Look (word.Reg 0 0) ∷ step.Mark 0 1 ∷ step.Look (word.Heap 0) ∷ step.Mark 0 2
-    ∷ step.Black 0 1 ∷ step.Black 0 2 ∷ [])
+    by_host (Step.Want ∷ Step.Look (Word.Reg 0 0) ∷ Step.Mark 0 1 ∷ Step.Look (Word.Heap 0) ∷ Step.Mark 0 2
+    ∷ Step.Black 0 1 ∷ Step.Black 0 2 ∷ [])
 
 abbrev pub stopped_cycle : List Event
-stopped_cycle = begun_in_stop ++ record { seat = seat.Host; step = step.Begin } ∷ (marked_in_stop ++ third_released)
+stopped_cycle = begun_in_stop ++ record { seat = Seat.Host; step = Step.Begin } ∷ (marked_in_stop ++ third_released)
 
 -- A cycle begins, and the first object is marked.
 abbrev pub first_marked : List Event
 first_marked =
     three_objects
-    ++ by_host (step.Take None ∷ step.Hold 0 ∷ step.Quar 0 17179869188 ∷ step.Tally tally.Fresh 0 ∷ step.Begin ∷
-    step.Look (word.Reg 0 0) ∷ step.Mark 0 1 ∷ step.Open 0 ∷ [])
+    ++ by_host (Step.Take None ∷ Step.Hold 0 ∷ Step.Quar 0 17179869188 ∷ Step.Tally Tally.Fresh 0 ∷ Step.Begin ∷
+    Step.Look (Word.Reg 0 0) ∷ Step.Mark 0 1 ∷ Step.Open 0 ∷ [])
 
 -- A marker blackens it.
 abbrev pub marker_in : List Event
-marker_in = by_marker (step.Attend ∷ step.Mlook (word.Head 0) ∷ step.Claim 0 0 ∷ step.Mload ∷ step.Mload ∷ step.Mblack
+marker_in = by_marker (Step.Attend ∷ Step.Mlook (Word.Head 0) ∷ Step.Claim 0 0 ∷ Step.Mload ∷ Step.Mload ∷ Step.Mblack
     ∷ [])
 
 -- The stop then scans the dirty page again.
 abbrev pub scanned_again : List Event
 scanned_again =
-    by_host (step.Hold 0 ∷ step.Want ∷ step.Unblack 0 ∷ step.Undirty 0 ∷ step.Look (word.Reg 0 0) ∷ step.Mark 0 1 ∷
-    step.Look (word.Heap 0) ∷ step.Mark 0 2 ∷ step.Black 0 1 ∷ step.Black 0 2 ∷ [])
+    by_host (Step.Hold 0 ∷ Step.Want ∷ Step.Unblack 0 ∷ Step.Undirty 0 ∷ Step.Look (Word.Reg 0 0) ∷ Step.Mark 0 1 ∷
+    Step.Look (Word.Heap 0) ∷ Step.Mark 0 2 ∷ Step.Black 0 1 ∷ Step.Black 0 2 ∷ [])
 
 unfoldable pub written_beside : List Event
-written_beside = first_marked ++ marker_in ++ by_marker (step.Quit ∷ []) ++ pointer_written
+written_beside = first_marked ++ marker_in ++ by_marker (Step.Quit ∷ []) ++ pointer_written
 
 unfoldable pub marked_beside : List Event
 marked_beside = written_beside ++ page_dirtied ++ second_cleared ++ scanned_again

@@ -1,20 +1,15 @@
 -- The two lists of a small heap are histories: within limits, enabled, and of admitted calls.
-use Rattle.std.proofs.Common.{◌≡◌, ℕ, true, false, List, [], ◌∷◌, ◌++◌, ◌<◌, All, refl, sym, subst, arith}
-use Rattle.std.proofs.lemmas.Bool.{and_parts, eqb-true, leb-true, ltb-true}
-use Rattle.std.proofs.lemmas.List.Elements.{All-nil, All-cons}
-use Rattle.mk_core.proofs.Vocabulary.{all_below, AreEnabledFrom, asked, calls, calls_from, Config, Event, first_world}
-use Rattle.mk_core.proofs.Vocabulary.{IsHistory, IsWithinLimits, left_from, never_first, pointed_cell, To, World}
-use Rattle.mk_core.proofs.Vocabulary.{world_behind}
-use Rattle.mk_never.specs.declared.types.Kind.TheVariants.{Num}
-use Rattle.mk_never.specs.declared.operations.Op.TheVariants as op
-use Rattle.mk_never.specs.NeverHeap.{Call}
-use Rattle.mk_never.specs.Admitted.{AreAdmitted}
+use Rattle.std.proofs.{Common.All, lemmas.List.Elements.All-cons, lemmas.List.Elements.All-nil}
+use Rattle.mk_core.proofs.Vocabulary.{AreEnabledFrom, Config, Event, IsHistory, IsWithinLimits, List, Op, To, World, ℕ}
+use Rattle.mk_core.proofs.Vocabulary.{all_below, and_parts, arith, asked, calls, calls_from, eqb-true, false}
+use Rattle.mk_core.proofs.Vocabulary.{first_world, leb-true, left_from, ltb-true, never_first, pointed_cell, refl}
+use Rattle.mk_core.proofs.Vocabulary.{subst, sym, true, world_behind, [], ◌++◌, ◌<◌, ◌∷◌, ◌≡◌}
+use Rattle.mk_never.specs.{Admitted.AreAdmitted, NeverHeap.Call, declared.types.Kind.TheVariants.Num}
+use Rattle.mk_core.proofs.SmallCycles.{all_enabled, begun_in_stop, beside_are_enabled, marked_beside, marked_in_stop}
+use Rattle.mk_core.proofs.SmallCycles.{small, stopped_are_enabled, stopped_cycle, third_released, three_objects}
+use Rattle.mk_core.proofs.SmallCycles.{written_beside}
+use Rattle.mk_core.proofs.{EvaluatedHistories.admitted, EventsAt.◌and◌}
 use Rattle.mk_core.specs.Config.{IsAmong, IsTypeAmong}
-use Rattle.mk_core.proofs.EventsAt.{◌and◌}
-use Rattle.mk_core.proofs.EvaluatedHistories.{admitted}
-use Rattle.mk_core.proofs.SmallCycles.{small, all_enabled, stopped_are_enabled, beside_are_enabled}
-use Rattle.mk_core.proofs.SmallCycles.{three_objects, begun_in_stop, marked_in_stop, written_beside, marked_beside}
-use Rattle.mk_core.proofs.SmallCycles.{third_released, stopped_cycle}
 
 pub enabled_by_test : (c : Config) (w : World) (es : List Event) → all_enabled c w es ≡ true → AreEnabledFrom c w es
 unfolding AreEnabledFrom all_enabled
@@ -46,11 +41,11 @@ small_is_within_limits = record {
 -- the calls of both
 abbrev pub small_calls : List Call
 small_calls =
-    record { caller = 0; op = op.New 0 0 false } ∷ record { caller = 0; op = op.New 1 0 false }
-    ∷ record { caller = 0; op = op.New 2 0 false }
-    ∷ record { caller = 0; op = op.Free 2 } ∷ record { caller = 0; op = op.Clear 2 }
-    ∷ record { caller = 0; op = op.SetPtr 0 0 1 }
-    ∷ record { caller = 0; op = op.Clear 1 } ∷ []
+    record { caller = 0; op = Op.New 0 0 false } ∷ record { caller = 0; op = Op.New 1 0 false }
+    ∷ record { caller = 0; op = Op.New 2 0 false }
+    ∷ record { caller = 0; op = Op.Free 2 } ∷ record { caller = 0; op = Op.Clear 2 }
+    ∷ record { caller = 0; op = Op.SetPtr 0 0 1 }
+    ∷ record { caller = 0; op = Op.Clear 1 } ∷ []
 
 small_calls_are_admitted : AreAdmitted [] (never_first small) small_calls
 small_calls_are_admitted =

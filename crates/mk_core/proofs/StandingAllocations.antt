@@ -1,28 +1,24 @@
 -- The storage and the cell of an allocation that stands on the heap.
-use Rattle.std.proofs.Common.{◌≡◌, ℕ, ◌+◌, ◌-◌, ◌*◌, ◌/◌, ◌%◌, ◌<◌, ◌≤◌, Bool, true, false, [], length, refl, sym, ◌∙◌}
-use Rattle.std.proofs.Common.{ap, subst, inl, inr, arith, ◌⊎◌, zero, suc, ◌&&◌, not}
-use Rattle.std.proofs.lemmas.Bool.{cases_Bool, true≢false, cond-true, cond-false}
-use Rattle.std.proofs.Math.Bool.{and-false}
-use Rattle.mk_core.proofs.Vocabulary.{base_made, BeginsAtCell, Cell, cell_of_storage, cells_made, cells_of, cells_under}
-use Rattle.mk_core.proofs.Vocabulary.{class_made, class_words_of, Config, HasItsHeaders, header_at, header_in}
-use Rattle.mk_core.proofs.Vocabulary.{is_small_object, IsHeaderOf, IsSized, IsWithinLimits, kinds_of, Object}
-use Rattle.mk_core.proofs.Vocabulary.{object_placed, page_at_address, pages_made, Place, PlacedAllocation, pointed_cell}
-use Rattle.mk_core.proofs.Vocabulary.{storage_of, unmapped_header, Words, words_made, words_under}
+use Rattle.mk_core.proofs.Vocabulary.{BeginsAtCell, Bool, Cell, Config, HasItsHeaders, IsHeaderOf, IsSized}
+use Rattle.mk_core.proofs.Vocabulary.{IsWithinLimits, Object, Place, PlacedAllocation, Words, ℕ, and-false, ap, arith}
+use Rattle.mk_core.proofs.Vocabulary.{base_made, cases_Bool, cell_ends, cell_of_storage, cells_made, cells_of}
+use Rattle.mk_core.proofs.Vocabulary.{cells_under, class_made, class_words_of, cond-false, cond-true, false, header_at}
+use Rattle.mk_core.proofs.Vocabulary.{header_in, inl, inr, is_small_object, kinds_of, length, not, object_placed}
+use Rattle.mk_core.proofs.Vocabulary.{page_at_address, pages_made, pointed_cell, refl, storage_of, subst, suc, sym}
+use Rattle.mk_core.proofs.Vocabulary.{true, true≢false, unmapped_header, words_made, words_under, zero, [], ◌%◌, ◌&&◌}
+use Rattle.mk_core.proofs.Vocabulary.{◌*◌, ◌+◌, ◌-◌, ◌/◌, ◌<◌, ◌∙◌, ◌≡◌, ◌≤◌, ◌⊎◌}
+use Rattle.mk_geom.proofs.PointedCells.{cell_first, cell_from_first, large_cell_of, points_into_cell, shows_cell}
+use Rattle.mk_geom.proofs.PointedCells.{shows_run, stands_at_address}
+use Rattle.mk_geom.proofs.{ClassTable.class_words_within, Standing.stands_parts}
+use Rattle.mk_geom.specs.Storages.{IsCell, IsRun, IsStorage, run_header, stands_on}
+use Rattle.mk_geom.specs.{Headers.word_of, StorageWords.ShowsStorage}
 use Rattle.mk_never.specs.Types.{is_large}
-use Rattle.mk_geom.specs.Headers.{word_of}
-use Rattle.mk_geom.specs.Storages.{stands_on, run_header, IsCell, IsRun, IsStorage}
-use Rattle.mk_geom.specs.StorageWords.{ShowsStorage}
-use Rattle.mk_geom.proofs.ClassTable.{cell_ends, class_words_within}
-use Rattle.mk_geom.proofs.Standing.{stands_parts}
-use Rattle.mk_geom.proofs.PointedCells.{cell_from_first, large_cell_of, cell_first, stands_at_address}
-use Rattle.mk_geom.proofs.PointedCells.{shows_cell, shows_run, points_into_cell}
-use Rattle.mk_core.specs.ObjectHeaders.{ShowsPart}
-use Rattle.mk_core.specs.Allocations.{is_mapped, storage_words}
-use Rattle.mk_core.specs.StandingAllocations.{StorageHoldsObjects, StandingHasStorage, HeadersShowStorage}
-use Rattle.mk_core.specs.StandingAllocations.{PointersHitAllocations, CellsBeginAtBases}
-use Rattle.mk_core.proofs.Sizes.{large_is_not_small, small_cells, large_cells, small_pages, small_words, large_words}
-use Rattle.mk_core.proofs.Sizes.{class_known, large_count, words_are_small, words_within, words_hold, pages_some}
-use Rattle.mk_core.proofs.ObjectHeaders.{small_header, large_header, header_shows, part_cells, part_words}
+use Rattle.mk_core.proofs.Sizes.{class_known, large_cells, large_count, large_is_not_small, large_words, pages_some}
+use Rattle.mk_core.proofs.Sizes.{small_cells, small_pages, small_words, words_are_small, words_hold, words_within}
+use Rattle.mk_core.proofs.ObjectHeaders.{header_shows, large_header, part_cells, part_words, small_header}
+use Rattle.mk_core.specs.StandingAllocations.{CellsBeginAtBases, HeadersShowStorage, PointersHitAllocations}
+use Rattle.mk_core.specs.StandingAllocations.{StandingHasStorage, StorageHoldsObjects}
+use Rattle.mk_core.specs.{Allocations.is_mapped, Allocations.storage_words, ObjectHeaders.ShowsPart}
 
 -- a type that there is has 1 to 4,096 words
 pub typed_size : (c : Config) (a : PlacedAllocation) → IsWithinLimits c → a.ty < length c.types
@@ -90,8 +86,7 @@ module _ (c : Config) (a : PlacedAllocation) (sized : IsSized (object_placed c a
         cell_from_first (storage_of c a) (a.base / 64) b.index (words_are_small o sized ∙ small)
         (words_within o sized).0 (cell_ends_within o a.base sized small b) (omega arith)
     | inr large ↦
-        large_cell_of (storage_of c a) (words_are_small o sized ∙ large)
-        ∙ ap (λ (n : ℕ). record { page = a.base / 64; index = n }) (sym (run_begins o a.base large b).0)
+        cc (large_cell_of (storage_of c a) (words_are_small o sized ∙ large), (run_begins o a.base large b).0)
   ]
 
   pub run_cell : is_small_object o ≡ false → cell_of_storage (storage_of c a) ≡ record { page = a.base / 64; index = 0 }
@@ -102,8 +97,7 @@ small_is_mapped : (c : Config) (a : PlacedAllocation) → a.released ≡ false �
     → is_mapped c a ≡ true
 small_is_mapped c a unreleased small =
     let large : is_large (kinds_of c.types a.ty) ≡ false = large_is_not_small (kinds_of c.types a.ty) ∙ ap not small in
-    ap (λ b. not b && not (a.freed && is_large (kinds_of c.types a.ty))) unreleased
-    ∙ ap (λ b. not (a.freed && b)) large ∙ ap not (and-false a.freed)
+    cc (unreleased, large, and-false a.freed)
 
 pub standing_has_storage : StandingHasStorage
 standing_has_storage c a limits st = by (cases_Bool (is_small_object (object_placed c a)))

@@ -1,17 +1,12 @@
 -- What a step says of the histories for which the core stood.
-use Rattle.std.proofs.Common.{◌≡◌, ◌↔◌, ◌≤◌, List, [], ◌∷◌, ◌++◌, Option, Result, Ok, Err, MatchResult, IsOk, IfOk}
-use Rattle.std.proofs.Common.{OnOk, refl, sym, ◌∙◌, ap, subst, arith}
-use Rattle.mk_core.proofs.Vocabulary.{AreEnabledFrom, calls, Config, CoreState, Event, failing, first_moment}
-use Rattle.mk_core.proofs.Vocabulary.{first_world, flight_of, IsEnabled, left, left_from, Moment, World}
+use Rattle.std.proofs.Common.{Err, IfOk, IsOk, MatchResult, Ok, OnOk, Result}
+use Rattle.mk_core.proofs.Vocabulary.{Answer, AreEnabledFrom, Config, CoreState, Event, IsEnabled, List, Moment, Option}
+use Rattle.mk_core.proofs.Vocabulary.{World, ap, arith, calls, failing, first_moment, first_world, flight_of, left}
+use Rattle.mk_core.proofs.Vocabulary.{left_from, refl, subst, sym, [], ◌++◌, ◌↔◌, ◌∙◌, ◌∷◌, ◌≡◌, ◌≤◌}
 use Rattle.mk_never.specs.declared.never_heap.NoMemory.{NoMemory}
-use Rattle.mk_core.specs.declared.events.Answer.{Answer}
-use Rattle.mk_core.specs.declared.events.NotEnabled.{NotEnabled}
-use Rattle.mk_core.specs.Accesses.{caller_number}
-use Rattle.mk_core.specs.Effects.{moment_behind, answer_decided}
-use Rattle.mk_core.specs.History.{AreEnabled}
-use Rattle.mk_core.specs.Decided.{entry_of}
-use Rattle.mk_core.specs.Standing.{CoreStandsFor}
-use Rattle.mk_core.proofs.Histories.{left_more, enabled_more, last_enabled, calls_more}
+use Rattle.mk_core.proofs.Histories.{calls_more, enabled_more, last_enabled, left_more}
+use Rattle.mk_core.specs.{Accesses.caller_number, Decided.entry_of, Effects.answer_decided, Effects.moment_behind}
+use Rattle.mk_core.specs.{History.AreEnabled, Standing.CoreStandsFor, declared.events.NotEnabled.NotEnabled}
 
 abbrev Tells : CoreState → Event → Result (Option Answer) NotEnabled → Type 0
 Tells core e r = MatchResult r (λ _. IsEnabled core.config core.now e)
@@ -35,11 +30,7 @@ pub answer_of : (core : CoreState) (es : List Event) (e : Event) (r : Result (Op
     → CoreStandsFor core es → IfOk r (λ a. a ≡ answer_decided core.config core.now e)
     → IfOk r (λ a. calls core.config (es ++ e ∷ [])
     ≡ calls core.config es ++ entry_of (caller_number e.seat) (flight_of (left core.config es).now e.seat).op a)
-answer_of core es e (Ok a) st h =
-    calls_more core.config (first_world core.config) es e
-    ∙ ap (λ (b : Option Answer). calls core.config es
-    ++ entry_of (caller_number e.seat) (flight_of (left core.config es).now e.seat).op b)
-    (sym (h ∙ ap (λ (m : Moment). answer_decided core.config m e) st.now))
+answer_of core es e (Ok a) st h = cc (calls_more core.config (first_world core.config) es e, h, st.now)
 answer_of core es e (Err x) st h = tt
 
 pub stands_of : (core new : CoreState) (es : List Event) (e : Event) (r : Result (Option Answer) NotEnabled)
@@ -50,8 +41,7 @@ stands_of core new es e (Ok a) st t h =
     subst (λ (x : CoreState). CoreStandsFor x (es ++ e ∷ [])) (sym h)
     (record {
       enabled = (exact_of core es e (Ok a) st t).0 refl;
-      now = ap (λ (m : Moment). moment_behind core.config m e) st.now
-          ∙ sym (ap (λ (w : World). w.now) (left_more core.config (first_world core.config) es e));
+      now = cc (st.now, left_more core.config (first_world core.config) es e);
     })
 stands_of core new es e (Err x) st t h = tt
 

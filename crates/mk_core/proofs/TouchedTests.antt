@@ -1,17 +1,14 @@
 -- A set is closed under pointers along a cycle: as a test of each of its moments.
-use Rattle.std.proofs.Common.{◌≡◌, ℕ, Bool, true, not, ◌&&◌, ◌||◌, nat_le, List, ◌++◌, slice_index, refl, sym, subst}
-use Rattle.std.specs.List.{list_all}
-use Rattle.std.proofs.Math.Bool.{or-true}
-use Rattle.std.proofs.lemmas.Bool.{and_parts, and_from, not_from_false, le-leb}
-use Rattle.mk_core.proofs.Vocabulary.{Config, Event, IsClosedAlong, left, Marking, never_behind, never_granted}
-use Rattle.mk_core.proofs.Vocabulary.{NeverState, Null, placed_at, PlacedAllocation, storage_of, Value, World}
+use Rattle.std.proofs.{Math.Bool.or-true, lemmas.Bool.not_from_false}
+use Rattle.mk_core.proofs.Vocabulary.{Bool, Config, Event, IsClosedAlong, List, Marking, NeverState, Null}
+use Rattle.mk_core.proofs.Vocabulary.{PlacedAllocation, Value, World, ℕ, and_from, and_parts, le-leb, left, list_all}
+use Rattle.mk_core.proofs.Vocabulary.{nat_le, never_behind, never_granted, not, placed_at, refl, slice_index}
+use Rattle.mk_core.proofs.Vocabulary.{storage_of, subst, sym, true, ◌&&◌, ◌++◌, ◌||◌, ◌≡◌}
 use Rattle.mk_geom.specs.Addresses.{heap_word_at}
-use Rattle.mk_core.specs.Image.{image_of}
-use Rattle.mk_core.specs.History.{bases_of}
-use Rattle.mk_core.specs.Cycles.{through}
-use Rattle.mk_core.specs.Touched.{LeadsToMoment, PointsIntoAllocation, IsWordOfAllocation}
-use Rattle.mk_core.proofs.ListTests.{implied, list_all-at, numbered_all, numbered_all-at, all_fronts, all_fronts-at}
+use Rattle.mk_core.proofs.ListTests.{all_fronts, all_fronts-at, implied, list_all-at, numbered_all, numbered_all-at}
 use Rattle.mk_core.proofs.MarkTests.{is_word_of, is_word_of_by}
+use Rattle.mk_core.specs.Touched.{IsWordOfAllocation, LeadsToMoment, PointsIntoAllocation}
+use Rattle.mk_core.specs.{Cycles.through, History.bases_of, Image.image_of}
 
 -- an address that points into the allocation points into a member
 abbrev pub points_into_member : Config → (ℕ → Bool) → ℕ → ℕ → PlacedAllocation → Bool
@@ -66,19 +63,18 @@ word_points_into c w S a n b h member inside points =
 pub closed_along_by_test : (c : Config) (es : List Event) (k : Marking es) (S : ℕ → Bool)
     → all_fronts (λ done. is_closed_behind c S (through k.begin ++ done)) k.close.at.before ≡ true
     → IsClosedAlong c k (λ b. S b ≡ true)
-closed_along_by_test c es k S h =
-    record {
-      registers = λ front i b at points.
-          points_into c (left c front) S _ b
-          (list_all-at (register_is_into_members c (left c front) S) (never_behind c front).registers Null
-          (parts front at).0 refl i) points;
-      globals = λ front g b at points.
-          points_into c (left c front) S _ b
-          (list_all-at (is_into_members c (left c front) S) (left c front).now.words.globals 0 (parts front at).1 refl
-          g) points;
-      words = λ front a n b at member inside points. word_points_into c (left c front) S a n b (parts front at).2 member
-          inside points;
-    }
+closed_along_by_test c es k S h = record {
+  registers = λ front i b at points.
+      points_into c (left c front) S _ b
+      (list_all-at (register_is_into_members c (left c front) S) (never_behind c front).registers Null
+      (parts front at).0 refl i) points;
+  globals = λ front g b at points.
+      points_into c (left c front) S _ b
+      (list_all-at (is_into_members c (left c front) S) (left c front).now.words.globals 0 (parts front at).1 refl
+      g) points;
+  words = λ front a n b at member inside points. word_points_into c (left c front) S a n b (parts front at).2 member
+      inside points;
+}
   where
     closed_at : (front : List Event) → LeadsToMoment k front → is_closed_behind c S front ≡ true
     closed_at front at =

@@ -1,9 +1,9 @@
 -- The unreleased storage: in parts, after changes, and which allocation has a storage of it.
-use Rattle.std.proofs.Common.{◌≡◌, ℕ, zero, suc, true, false, List, [], ◌∷◌, ◌++◌, map, refl, sym, ◌∙◌, ap, subst, inl}
-use Rattle.std.proofs.Common.{inr, arith, Contains}
-use Rattle.std.proofs.lemmas.Bool.{cases_Bool, true≢false, cond-true, cond-false}
-use Rattle.mk_core.proofs.Vocabulary.{Config, placed_at, PlacedAllocation, Storage, storage_of, unreleased_storage}
-use Rattle.mk_core.specs.StandingAllocations.{HasStorage, UnreleasedStorageIsOfAllocations, UnreleasedStorageInParts}
+use Rattle.std.proofs.Common.{Contains}
+use Rattle.mk_core.proofs.Vocabulary.{Config, List, PlacedAllocation, Storage, ℕ, ap, arith, cases_Bool, cond-false}
+use Rattle.mk_core.proofs.Vocabulary.{cond-true, false, inl, inr, map, placed_at, refl, storage_of, subst, suc, sym}
+use Rattle.mk_core.proofs.Vocabulary.{true, true≢false, unreleased_storage, zero, [], ◌++◌, ◌∙◌, ◌∷◌, ◌≡◌}
+use Rattle.mk_core.specs.StandingAllocations.{HasStorage, UnreleasedStorageInParts, UnreleasedStorageIsOfAllocations}
 
 -- one allocation more at the front
 pub unreleased_front : (c : Config) (a : PlacedAllocation) (xs : List PlacedAllocation) → a.released ≡ false
@@ -26,21 +26,16 @@ pub unreleased_in_parts : UnreleasedStorageInParts
 unreleased_in_parts c [] ys = ap (λ (ss : List Storage). ss ++ unreleased_storage c ys) (sym (none_unreleased c))
 unreleased_in_parts c (a ∷ xs) ys = elim (cases_Bool a.released) [
   | inl released ↦
-      released_front c a (xs ++ ys) released ∙ unreleased_in_parts c xs ys
-      ∙ ap (λ (ss : List Storage). ss ++ unreleased_storage c ys) (sym (released_front c a xs released))
+      cc (released_front c a (xs ++ ys) released, unreleased_in_parts c xs ys, released_front c a xs released)
   | inr unreleased ↦
-      unreleased_front c a (xs ++ ys) unreleased
-      ∙ ap (λ (ss : List Storage). storage_of c a ∷ ss) (unreleased_in_parts c xs ys)
-      ∙ ap (λ (ss : List Storage). ss ++ unreleased_storage c ys) (sym (unreleased_front c a xs unreleased))
+      cc (unreleased_front c a (xs ++ ys) unreleased, unreleased_in_parts c xs ys, unreleased_front c a xs unreleased)
 ]
 
 -- with one allocation more at the end
 pub unreleased_more : (c : Config) (xs : List PlacedAllocation) (a : PlacedAllocation) → a.released ≡ false
     → unreleased_storage c (xs ++ a ∷ []) ≡ unreleased_storage c xs ++ storage_of c a ∷ []
 unreleased_more c xs a unreleased =
-    unreleased_in_parts c xs (a ∷ [])
-    ∙ ap (λ (ss : List Storage). unreleased_storage c xs ++ ss) (unreleased_front c a [] unreleased
-    ∙ ap (λ (ss : List Storage). storage_of c a ∷ ss) (none_unreleased c))
+    cc (unreleased_in_parts c xs (a ∷ []), unreleased_front c a [] unreleased, none_unreleased c)
 
 -- A change of each allocation that releases none and leaves each storage leaves all.
 pub unreleased_kept : (c : Config) (f : PlacedAllocation → PlacedAllocation)

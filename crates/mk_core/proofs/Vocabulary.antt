@@ -1,4 +1,31 @@
 -- The words of the heap and of its steps, for what is proved of them here: a proof imports them from here.
+pub use Rattle.std.proofs.Common.{Bool, List, None, Option, Some, ℕ, ap, append-nil, arith, bit_and, drop, eqb-true}
+pub use Rattle.std.proofs.Common.{false, if◌then◌else◌, inl, inr, le-leb, leb-true, length, ltb-true, map, nat_le}
+pub use Rattle.std.proofs.Common.{nat_lt, ne_eqb, not, refl, replicate, slice_index, slice_index_or, slice_set, subst}
+pub use Rattle.std.proofs.Common.{suc, sym, take, true, true≢false, zero, [], ◌%◌, ◌&&◌, ◌*◌, ◌++◌, ◌+◌, ◌-◌, ◌/◌, ◌<◌}
+pub use Rattle.std.proofs.Common.{◌==◌, ◌^◌, ◌||◌, ◌↔◌, ◌∙◌, ◌∷◌, ◌≡◌, ◌≢◌, ◌≤◌, ◌⊎◌}
+pub use Rattle.std.proofs.Math.Bool.{and-false}
+pub use Rattle.std.proofs.lemmas.Bool.{and_from, and_parts, cases_Bool, cases_eq, cond-false, cond-true, eqb-false}
+pub use Rattle.std.proofs.lemmas.Bool.{false≢true, not-true}
+pub use Rattle.std.proofs.lemmas.Bool.Decides.{nat_tests}
+pub use Rattle.std.proofs.lemmas.List.{get_or_append_left, length-replicate}
+pub use Rattle.std.specs.List.{list_all, list_any}
+pub use Rattle.mk_geom.proofs.ClassTable.{cell_ends}
+pub use Rattle.mk_geom.specs.Addresses.{page_at_address}
+pub use Rattle.mk_geom.specs.Classes.{cells_of, class_words_of}
+pub use Rattle.mk_geom.specs.StorageWords.{IsWordOf, cell_of_storage}
+pub use Rattle.mk_geom.specs.Storages.{Storage}
+pub use Rattle.mk_geom.specs.declared.addresses.Cell.{Cell}
+pub use Rattle.mk_geom.specs.declared.headers.Header.{Header}
+pub use Rattle.mk_geom.specs.declared.headers.Header.TheVariants.{Block, Free, Later, LeafBlock, LeafRun, Run}
+pub use Rattle.mk_geom.specs.declared.pages.Page.{Page}
+pub use Rattle.mk_geom.specs.declared.pages.Place.{Place}
+pub use Rattle.mk_never.specs.NeverHeap.{NeverState}
+pub use Rattle.mk_never.specs.Types.{kinds_of}
+pub use Rattle.mk_never.specs.declared.operations.Op.{Op}
+pub use Rattle.mk_never.specs.declared.types.Kind.TheVariants.{To}
+pub use Rattle.mk_never.specs.declared.values.Value.{Value}
+pub use Rattle.mk_never.specs.declared.values.Value.TheVariants.{Null, Ptr}
 pub use Rattle.mk_core.specs.Allocations.{PlacedAllocation, never_granted, placed_at, stands_in, storage_of}
 unfoldable pub use Rattle.mk_core.specs.Allocations.{unreleased_storage}
 pub use Rattle.mk_core.specs.Bits.{has_bit}
@@ -31,24 +58,11 @@ pub use Rattle.mk_core.specs.declared.accesses.Access.TheVariants.{Load, Store}
 pub use Rattle.mk_core.specs.declared.accesses.TableWord.{TableWord}
 pub use Rattle.mk_core.specs.declared.accesses.TableWord.TheVariants.{Named, Turn}
 pub use Rattle.mk_core.specs.declared.config.Config.{Config}
+pub use Rattle.mk_core.specs.declared.events.Answer.{Answer}
 pub use Rattle.mk_core.specs.declared.events.Event.{Event}
 pub use Rattle.mk_core.specs.declared.events.Seat.{Seat}
 pub use Rattle.mk_core.specs.declared.events.Step.{Step}
+pub use Rattle.mk_core.specs.declared.events.Tally.{Tally}
 pub use Rattle.mk_core.specs.declared.events.Word.{Word}
 pub use Rattle.mk_core.specs.declared.seats.Flight.{Flight}
 pub use Rattle.mk_core.specs.declared.seats.Object.{Object}
-pub use Rattle.mk_geom.specs.Addresses.{page_at_address}
-pub use Rattle.mk_geom.specs.Classes.{cells_of, class_words_of}
-pub use Rattle.mk_geom.specs.StorageWords.{IsWordOf, cell_of_storage}
-pub use Rattle.mk_geom.specs.Storages.{Storage}
-pub use Rattle.mk_geom.specs.declared.addresses.Cell.{Cell}
-pub use Rattle.mk_geom.specs.declared.headers.Header.{Header}
-pub use Rattle.mk_geom.specs.declared.headers.Header.TheVariants.{Block, Free, Later, LeafBlock, LeafRun, Run}
-pub use Rattle.mk_geom.specs.declared.pages.Page.{Page}
-pub use Rattle.mk_geom.specs.declared.pages.Place.{Place}
-pub use Rattle.mk_never.specs.NeverHeap.{NeverState}
-pub use Rattle.mk_never.specs.Types.{kinds_of}
-pub use Rattle.mk_never.specs.declared.operations.Op.{Op}
-pub use Rattle.mk_never.specs.declared.types.Kind.TheVariants.{To}
-pub use Rattle.mk_never.specs.declared.values.Value.{Value}
-pub use Rattle.mk_never.specs.declared.values.Value.TheVariants.{Null, Ptr}

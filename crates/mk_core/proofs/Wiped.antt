@@ -1,9 +1,9 @@
 -- Runs and cells whose words are 0.
-use Rattle.std.proofs.Common.{◌≡◌, ℕ, ◌+◌, ◌*◌, ◌<◌, true, false, ◌&&◌, ◌||◌, not, ◌∙◌, ap, arith, slice_index, ◌==◌}
-use Rattle.mk_core.proofs.Vocabulary.{all_below, cell_words, first_word, has_bit, Words, words_are_zero}
-use Rattle.mk_core.specs.TurnConditions.{are_wiped}
-use Rattle.mk_core.proofs.AllBelow.{all_below_not_is}
+use Rattle.mk_core.proofs.Vocabulary.{Words, ℕ, all_below, ap, arith, cell_words, false, first_word, has_bit, not}
+use Rattle.mk_core.proofs.Vocabulary.{slice_index, true, words_are_zero, ◌&&◌, ◌*◌, ◌+◌, ◌<◌, ◌==◌, ◌||◌, ◌∙◌, ◌≡◌}
 use Rattle.mk_core.proofs.AllBelowParts.{all_below-add, all_below_part_not_is, all_below_same}
+use Rattle.mk_core.proofs.AllBelow.{all_below_not_is}
+use Rattle.mk_core.specs.TurnConditions.{are_wiped}
 
 -- a page of the run, among its words
 page_within : (w : Words) (head page : ℕ)

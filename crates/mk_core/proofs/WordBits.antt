@@ -1,16 +1,13 @@
 -- Words that get a bit, or lose some.
-use Rattle.std.proofs.Common.{◌≡◌, ◌≢◌, ◌⊎◌, ℕ, ◌+◌, ◌-◌, ◌*◌, ◌%◌, ◌^◌, ◌<◌, ◌≤◌, min, max, true, false, List, length}
-use Rattle.std.proofs.Common.{sym, ◌∙◌, ap, subst, inl, inr, arith, bit_and}
-use Rattle.std.specs.Prelude.{bit_or, bit_xor, ◌==◌, slice_index, slice_set}
+use Rattle.std.proofs.Common.{bit_or, bit_xor, eq-eqb, get_or-set_other, get_or-set_same, max, min, pow-add}
+use Rattle.std.proofs.lemmas.Nat.{and_le_l, or_disjoint}
+use Rattle.std.proofs.lemmas.Nat.Bits.{and_pow, bit_at-lt, bit_at-pow_other, bit_at-pow_same, bit_at-zero, bit_at_and}
+use Rattle.std.proofs.lemmas.Nat.Bits.{bit_at_or, bit_at_xor, same_from_bits}
+use Rattle.std.proofs.{Math.Nat.mul-mod_left, Math.Pow.pow_mono, lemmas.Bool.cases_lt, lemmas.List.set_past}
 use Rattle.std.specs.Int.{bit_at}
-use Rattle.std.proofs.lemmas.Bool.{cases_Bool, cases_eq, cases_lt, eqb-true, eqb-false, eq-eqb, ne_eqb, true≢false}
-use Rattle.std.proofs.Math.Nat.{mul-mod_left}
-use Rattle.std.proofs.Math.Pow.{pow_mono}
-use Rattle.std.proofs.lemmas.List.{get_or-set_same, get_or-set_other, set_past}
-use Rattle.std.proofs.lemmas.Nat.{or_disjoint, and_le_l, pow-add}
-use Rattle.std.proofs.lemmas.Nat.Bits.{and_pow, bit_at_or, bit_at_and, bit_at_xor, bit_at-pow_same, bit_at-pow_other}
-use Rattle.std.proofs.lemmas.Nat.Bits.{bit_at-lt, bit_at-zero, same_from_bits}
-use Rattle.mk_core.proofs.Vocabulary.{has_bit}
+use Rattle.mk_core.proofs.Vocabulary.{List, ℕ, ap, arith, bit_and, cases_Bool, cases_eq, eqb-false, eqb-true, false}
+use Rattle.mk_core.proofs.Vocabulary.{has_bit, inl, inr, length, ne_eqb, slice_index, slice_set, subst, sym, true}
+use Rattle.mk_core.proofs.Vocabulary.{true≢false, ◌%◌, ◌*◌, ◌+◌, ◌-◌, ◌<◌, ◌==◌, ◌^◌, ◌∙◌, ◌≡◌, ◌≢◌, ◌≤◌, ◌⊎◌}
 use Rattle.mk_core.specs.Bits.{bit_for, without}
 
 pub bit_is_one : (n k : ℕ) → has_bit n k ≡ true → bit_at n k ≡ 1
@@ -59,8 +56,7 @@ without_none n m z = let le = and_le_l n m in omega arith
 pub no_common : (n m k : ℕ) → bit_and n m ≡ 0 → has_bit n k ≡ true → has_bit m k ≡ false
 no_common n m k z h =
     let one = bit_is_one n k h in
-    let none : min (bit_at n k) (bit_at m k) ≡ 0 =
-    sym (bit_at_and n m k) ∙ ap (λ x. bit_at x k) z ∙ bit_at-zero k in
+    let none : min (bit_at n k) (bit_at m k) ≡ 0 = sym (bit_at_and n m k) ∙ ap (λ x. bit_at x k) z ∙ bit_at-zero k in
     ne_eqb (bit_at m k) 1 (λ e. omega arith)
 
 -- the bits that go, where some of a word's stay
@@ -182,5 +178,4 @@ bits_stay xs q b p i is = elim (cases_eq p q) [
 pub bits_added : (xs : List ℕ) (q b i : ℕ) → q < length xs → has_bit b i ≡ true
     → has_bit (slice_index (slice_set xs q (bit_or (slice_index xs q) b)) q) i ≡ true
 bits_added xs q b i lt is =
-    subst (λ n. has_bit n i ≡ true) (sym (get_or-set_same xs q (bit_or (slice_index xs q) b) 0 lt))
-    (has_bit_or_right (slice_index xs q) b i is)
+    cc (get_or-set_same xs q (bit_or (slice_index xs q) b) 0 lt, has_bit_or_right (slice_index xs q) b i is)

@@ -1,16 +1,13 @@
 -- How many operations a script without `if` asks for, whatever it is answered.
-use Rattle.std.proofs.Common.{◌≡◌, ℕ, zero, suc, ◌+◌, ◌*◌, Bool, true, false, List, [], ◌∷◌, length, Option, Some, None}
-use Rattle.std.proofs.Common.{refl, ap, ◌∙◌, sym, subst, arith, if◌then◌else◌}
-use Rattle.std.specs.Prelude.{⊤, is_some}
-use Rattle.std.proofs.lemmas.Bool.{false≢true}
-use Rattle.std.proofs.lemmas.List.{length_push}
-use Rattle.mk_gen.proofs.Vocabulary.{Item, blocks_from}
+use Rattle.std.{proofs.Common.if◌then◌else◌, proofs.Common.is_some, proofs.lemmas.List.length_push, specs.Prelude.⊤}
+use Rattle.mk_gen.proofs.Vocabulary.{Bool, Item, List, None, Option, Some, ℕ, ap, arith, blocks_from, false, false≢true}
+use Rattle.mk_gen.proofs.Vocabulary.{length, refl, subst, suc, sym, true, zero, [], ◌*◌, ◌+◌, ◌∙◌, ◌∷◌, ◌≡◌}
 use Rattle.mk_never.specs.declared.operations.Op.{Op}
 use Rattle.mk_core.specs.declared.events.Answer.{Answer}
-use Rattle.mk_script.specs.declared.items.Item.TheVariants.{Getn, Print, Else}
-use Rattle.mk_check.specs.Blocks.{Blocks, Done, Line, Rounds, Choice, followed_by, is_end_of_block, ScriptText}
-use Rattle.mk_check.specs.Feed.{Scope, Fed, op_of, run_line, run_rounds, run, with_answer, note, take_answer}
-use Rattle.mk_check.specs.Feed.{take_answers, fed_before_lines, fed_before_answers, feed_script, has_ended}
+use Rattle.mk_check.specs.Feed.{Fed, Scope, fed_before_answers, fed_before_lines, feed_script, has_ended, note, op_of}
+use Rattle.mk_check.specs.Feed.{run, run_line, run_rounds, take_answer, take_answers, with_answer}
+use Rattle.mk_check.specs.Blocks.{Blocks, Choice, Done, Line, Rounds, ScriptText, followed_by, is_end_of_block}
+use Rattle.mk_script.specs.declared.items.Item.TheVariants.{Else, Getn, Print}
 
 abbrev pub nowhere : Scope
 nowhere = record { types = []; globals = []; pointers = []; numbers = [] }
@@ -74,12 +71,11 @@ left_then {fed} go rest is plain goes true done =
       calls_are = omega (arith, behind.calls_are, is.calls_are, calls_of-done fed.left done);
       plain = behind.plain;
     }
-left_then {fed} go rest is plain goes false done =
-    record {
-      ops = is.ops;
-      calls_are = calls_of-followed_by fed.left rest ∙ ap (λ calls. calls + calls_of rest) is.calls_are;
-      plain = HasNoIf-followed_by fed.left rest is.plain plain;
-    }
+left_then {fed} go rest is plain goes false done = record {
+  ops = is.ops;
+  calls_are = calls_of-followed_by fed.left rest ∙ ap (λ calls. calls + calls_of rest) is.calls_are;
+  plain = HasNoIf-followed_by fed.left rest is.plain plain;
+}
 
 -- the same with another count of calls that is equal
 recounted : {n m : ℕ} {before after : Fed} → n ≡ m → IsLeft n before after → IsLeft m before after

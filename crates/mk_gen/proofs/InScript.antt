@@ -1,22 +1,16 @@
 -- The lines of a script are read by what stands after its first line alone.
-use Rattle.std.proofs.Common.{◌≡◌, ℕ, ◌+◌, Bool, true, false, List, [], ◌∷◌, ◌++◌, length, refl, ap, ◌∙◌, sym, Option}
-use Rattle.std.proofs.Common.{Some, None}
+use Rattle.std.proofs.{lemmas.Bool.or_right, lemmas.List.Folds.list_any-append, lemmas.List.Sums.fold-append}
 use Rattle.std.specs.List.{list_all}
-use Rattle.std.proofs.lemmas.List.Folds.{list_any-append}
-use Rattle.std.proofs.lemmas.List.Sums.{fold-append}
-use Rattle.std.proofs.lemmas.Bool.{false≢true, and_parts, or_right}
-use Rattle.mk_gen.proofs.Vocabulary.{Item, Script, checked_item, line_item, this_script, words_of_line}
-use Rattle.mk_script.specs.declared.items.Item.TheVariants.{TypeLine, Global, Ptr, Num, Repeat, If}
-use Rattle.mk_script.specs.declared.keywords.Keyword.{Keyword}
-use Rattle.mk_script.specs.declared.keywords.Keyword.TheVariants as keyword
-use Rattle.mk_script.specs.declared.faults.Which.TheVariants as which
-use Rattle.mk_script.specs.Keywords.{keyword_of}
-use Rattle.mk_script.specs.Scopes.{pointer_names, number_names, is_script, open_behind, open_blocks}
-use Rattle.mk_script.specs.Lines.{has_script, is_among, register_names, at_most, is_placed, placed_item, other_line}
-use Rattle.mk_script.specs.Lines.{is_twice, limit_fault}
+use Rattle.mk_gen.proofs.Vocabulary.{Bool, Item, List, None, Option, Script, Some, ℕ, and_parts, ap, checked_item}
+use Rattle.mk_gen.proofs.Vocabulary.{false, false≢true, length, line_item, refl, sym, this_script, this_script-push}
+use Rattle.mk_gen.proofs.Vocabulary.{true, words_of_line, [], ◌++◌, ◌+◌, ◌∙◌, ◌∷◌, ◌≡◌}
 use Rattle.mk_check.specs.Lookups.{lines_behind}
-use Rattle.mk_check.proofs.LookupLemmas.{this_script-push}
-use Rattle.mk_gen.proofs.ReadLines.{IsRead, AreRead}
+use Rattle.mk_gen.proofs.ReadLines.{AreRead, IsRead}
+use Rattle.mk_script.specs.Lines.{at_most, has_script, is_among, is_placed, is_twice, limit_fault, other_line}
+use Rattle.mk_script.specs.Lines.{placed_item, register_names}
+use Rattle.mk_script.specs.Scopes.{is_script, number_names, open_behind, open_blocks, pointer_names}
+use Rattle.mk_script.specs.declared.items.Item.TheVariants.{Global, If, Num, Ptr, Repeat, TypeLine}
+use Rattle.mk_script.specs.{Keywords.keyword_of, declared.faults.Which.Which, declared.keywords.Keyword.Keyword}
 
 -- the same script is open after both, at the same line and with the same open blocks
 pub record AreAlike (a b : List Item) : Type 0 where
@@ -64,10 +58,10 @@ other_line_of (first ∷ before) words has = refl
 
 module _ (a b : List Item) (alike : AreAlike a b) where
   placed_alike : (form : Keyword) → is_placed a form ≡ is_placed b form
-  placed_alike keyword.Heap = refl
-  placed_alike keyword.Script = refl
-  placed_alike keyword.Ptr = rw (alike.script, alike.script', alike.lines) refl
-  placed_alike keyword.Num = rw (alike.script, alike.script', alike.lines) refl
+  placed_alike Keyword.Heap = refl
+  placed_alike Keyword.Script = refl
+  placed_alike Keyword.Ptr = rw (alike.script, alike.script', alike.lines) refl
+  placed_alike Keyword.Num = rw (alike.script, alike.script', alike.lines) refl
   placed_alike form = rw (alike.script, alike.script') refl
 
   form_alike : (form : Option Keyword) (operands : List (List ℕ))
@@ -95,10 +89,10 @@ module _ (a b : List Item) (alike : AreAlike a b) where
   limit_alike (Global name ty) inside = absurd (false≢true inside)
   limit_alike (Script name) inside = absurd (false≢true inside)
   limit_alike (Ptr name at) inside =
-      ap (λ lines. at_most (length (pointer_names lines) + 1) 8 which.Pointers) alike.lines
-  limit_alike (Num name) inside = ap (λ lines. at_most (length (number_names lines) + 1) 8 which.Numbers) alike.lines
-  limit_alike (Repeat rounds) inside = ap (λ blocks. at_most (length blocks + 1) 32 which.Depth) alike.blocks
-  limit_alike (If number) inside = ap (λ blocks. at_most (length blocks + 1) 32 which.Depth) alike.blocks
+      ap (λ lines. at_most (length (pointer_names lines) + 1) 8 Which.Pointers) alike.lines
+  limit_alike (Num name) inside = ap (λ lines. at_most (length (number_names lines) + 1) 8 Which.Numbers) alike.lines
+  limit_alike (Repeat rounds) inside = ap (λ blocks. at_most (length blocks + 1) 32 Which.Depth) alike.blocks
+  limit_alike (If number) inside = ap (λ blocks. at_most (length blocks + 1) 32 Which.Depth) alike.blocks
   limit_alike item inside = refl
 
   checked_alike : (item : Item) → is_inside item ≡ true → checked_item a item ≡ checked_item b item

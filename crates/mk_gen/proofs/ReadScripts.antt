@@ -1,24 +1,15 @@
 -- The scripts are read, each after those before it.
-use Rattle.std.proofs.Common.{◌≡◌, ℕ, ◌+◌, ◌/◌, ◌<◌, ◌≤◌, ◌^◌, Bool, true, ◌&&◌, not, nat_le, List, [], ◌∷◌, ◌++◌}
-use Rattle.std.proofs.Common.{length, refl, ap, ◌∙◌, sym, arith, Ok}
-use Rattle.std.proofs.Math.Nat.{mod-lt}
-use Rattle.std.proofs.lemmas.Bool.{false≢true, and_parts, not-true, leb-true}
-use Rattle.std.proofs.lemmas.List.{append-nil}
-use Rattle.std.proofs.lemmas.List.Sums.{fold-append}
-use Rattle.mk_gen.proofs.Vocabulary.{Item, Script, body_lines, draw, line_item, lines_of_scripts, next_state}
-use Rattle.mk_gen.proofs.Vocabulary.{script_body, scripts}
-use lib.Chars.{codes}
-use Rattle.mk_core.proofs.EventsAt.{◌and◌}
-use Rattle.mk_script.specs.Names.{is_name}
-use Rattle.mk_script.specs.Operands.{item_from}
-use Rattle.mk_script.specs.ScopeOf.{has_lines}
-use Rattle.mk_script.specs.Scopes.{script_names, open_behind, open_blocks}
-use Rattle.mk_script.specs.Lines.{is_among}
-use Rattle.mk_script.proofs.Said.{is_word-name}
-use Rattle.mk_script.proofs.PrintedForms.{read_name}
-use Rattle.mk_gen.proofs.ReadLines.{IsRead, AreRead, AreRead-append}
-use Rattle.mk_gen.proofs.InScript.{alike_at_first, AreRead-alike}
-use Rattle.mk_gen.proofs.ReadBody.{by_words, body_is_read}
+use Rattle.std.proofs.Common.{not, ◌&&◌, ◌/◌}
+use Rattle.std.proofs.{Math.Nat.mod-lt, lemmas.Bool.not-true, lemmas.List.Sums.fold-append}
+use Rattle.mk_gen.proofs.Vocabulary.{Bool, Item, List, Ok, Script, ℕ, and_parts, ap, append-nil, arith, body_lines}
+use Rattle.mk_gen.proofs.Vocabulary.{codes, draw, false≢true, leb-true, length, line_item, lines_of_scripts, nat_le}
+use Rattle.mk_gen.proofs.Vocabulary.{next_state, refl, script_body, scripts, sym, true, [], ◌++◌, ◌+◌, ◌<◌, ◌^◌, ◌and◌}
+use Rattle.mk_gen.proofs.Vocabulary.{◌∙◌, ◌∷◌, ◌≡◌, ◌≤◌}
+use Rattle.mk_gen.proofs.ReadLines.{AreRead, AreRead-append, IsRead}
+use Rattle.mk_gen.proofs.{InScript.AreRead-alike, InScript.alike_at_first, ReadBody.body_is_read, ReadBody.by_words}
+use Rattle.mk_script.proofs.{PrintedForms.read_name, Said.is_word-name}
+use Rattle.mk_script.specs.Scopes.{open_behind, open_blocks, script_names}
+use Rattle.mk_script.specs.{Lines.is_among, Names.is_name, Operands.item_from, ScopeOf.has_lines}
 
 -- lines with these scripts, after which another may begin
 pub record AreReady (before : List Item) (names : List (List ℕ)) : Type 0 where

@@ -1,11 +1,9 @@
 -- The lines of a script after its name line are well typed.
-use Rattle.std.proofs.Common.{◌≡◌, ℕ, ◌+◌, ◌<◌, List, [], ◌++◌, refl, sym, arith, Some}
-use Rattle.std.specs.Prelude.{replicate, slice_get}
-use Rattle.std.proofs.lemmas.List.{length-replicate, get_or-replicate}
-use Rattle.std.proofs.lemmas.Option.{slice_get_read}
-use Rattle.mk_gen.proofs.Vocabulary.{Item, Number, declarations, script_body}
-use Rattle.mk_core.proofs.EventsAt.{◌and◌}
-use Rattle.mk_gen.proofs.TypedLines.{typed, AreTyped}
+use Rattle.std.proofs.lemmas.List.{get_or-replicate, length-replicate}
+use Rattle.std.proofs.{Common.slice_get, lemmas.Option.slice_get_read}
+use Rattle.mk_gen.proofs.Vocabulary.{Item, List, Number, Some, ℕ, arith, declarations, refl, replicate, script_body}
+use Rattle.mk_gen.proofs.Vocabulary.{sym, [], ◌++◌, ◌+◌, ◌<◌, ◌and◌, ◌≡◌}
+use Rattle.mk_gen.proofs.TypedLines.{AreTyped, typed}
 
 slice_get-replicate : {A : Type 0} (n i : ℕ) (x : A) → i < n → slice_get (replicate n x) i ≡ Some x
 slice_get-replicate n i x inside =

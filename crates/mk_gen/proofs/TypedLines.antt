@@ -1,13 +1,9 @@
 -- Lines of a script that are well typed after others.
-use Rattle.std.proofs.Common.{◌≡◌, ℕ, ◌+◌, true, List, [], ◌∷◌, ◌++◌, Option, None, refl, ap, ◌∙◌, sym, subst}
-use Rattle.std.proofs.Common.{append_assoc}
-use Rattle.std.proofs.lemmas.Bool.{false≢true}
-use Rattle.std.proofs.lemmas.List.{append-nil}
-use Rattle.mk_gen.proofs.Vocabulary.{Item, Script, this_script}
-use Rattle.mk_check.specs.declared.typing_faults.TypeKind.{TypeKind}
-use Rattle.mk_check.specs.Typing.{TypingFault, Around, typing_fault, at_line, fault_from}
-use Rattle.mk_check.specs.Lookups.{lines_behind}
-use Rattle.mk_check.proofs.LookupLemmas.{this_script-push}
+use Rattle.mk_gen.proofs.Vocabulary.{Item, List, None, Option, Script, ℕ, ap, append-nil, append_assoc, false≢true}
+use Rattle.mk_gen.proofs.Vocabulary.{refl, subst, sym, this_script, this_script-push, true, [], ◌++◌, ◌+◌, ◌∙◌, ◌∷◌}
+use Rattle.mk_gen.proofs.Vocabulary.{◌≡◌}
+use Rattle.mk_check.specs.Typing.{Around, TypingFault, at_line, fault_from, typing_fault}
+use Rattle.mk_check.specs.{Lookups.lines_behind, declared.typing_faults.TypeKind.TypeKind}
 use Rattle.mk_gen.proofs.InScript.{is_inside}
 
 -- a line of a script that is well typed, after these lines of it

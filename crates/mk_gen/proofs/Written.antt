@@ -1,12 +1,10 @@
 -- The text that is written, script by script.
-use Rattle.std.proofs.Common.{◌≡◌, ℕ, ◌+◌, ◌<◌, length, get_or, drop, map, Bor, List, [], ◌∷◌, ◌++◌, refl, ap, ◌∙◌, sym}
-use Rattle.std.proofs.Common.{append_assoc}
-use Rattle.std.proofs.lemmas.List.{get_or-map}
-use Rattle.mk_gen.proofs.Vocabulary.{all_names, body_lines, count_of_numbers, declaration_lines, draw, lines_of_scripts}
-use Rattle.mk_gen.proofs.Vocabulary.{next_state, text_of_lines, turns_of}
-use lib.Chars.{codes}
-use Rattle.mk_script.proofs.Spacing.{drop_next}
+use Rattle.std.proofs.{Common.Bor, Common.drop, Common.get_or, Common.map, lemmas.List.get_or-map}
+use Rattle.mk_gen.proofs.Vocabulary.{List, ℕ, all_names, ap, append_assoc, body_lines, codes, count_of_numbers}
+use Rattle.mk_gen.proofs.Vocabulary.{declaration_lines, draw, length, lines_of_scripts, next_state, refl, sym}
+use Rattle.mk_gen.proofs.Vocabulary.{text_of_lines, turns_of, [], ◌++◌, ◌+◌, ◌<◌, ◌∙◌, ◌∷◌, ◌≡◌}
 use Rattle.mk_gen.specs.GeneratedText.{generated_text}
+use Rattle.mk_script.proofs.Spacing.{drop_next}
 
 pub text_of_lines-append : (lines more : List (List ℕ))
     → text_of_lines (lines ++ more) ≡ text_of_lines lines ++ text_of_lines more

@@ -1,26 +1,21 @@
 -- What pages show is what the storages say that stand on them.
-use Rattle.std.proofs.Common.{◌≡◌, ℕ, zero, suc, ◌-◌, ◌/◌, ◌<◌, ◌≤◌, Bool, true, false, ◌&&◌, List, length, Option}
-use Rattle.std.proofs.Common.{Some, IsSome, inl, inr, refl, sym, ◌∙◌, ap, subst, arith, slice_index_or}
-use Rattle.std.proofs.lemmas.Bool.{cases_Bool, and_parts, cond-true, cond-false}
-use Rattle.std.proofs.lemmas.List.{same_lists, length-map, get_or-map}
+use Rattle.std.proofs.Common.{Bool, IsSome, List, Option, Some, ℕ, ap, arith, false, inl, inr, length, refl}
+use Rattle.std.proofs.Common.{slice_index_or, subst, suc, sym, true, zero, ◌&&◌, ◌-◌, ◌/◌, ◌<◌, ◌∙◌, ◌≡◌, ◌≤◌}
+use Rattle.std.proofs.lemmas.Bool.{and_parts, cases_Bool, cond-false, cond-true}
+use Rattle.std.proofs.lemmas.List.{get_or-map, length-map, same_lists}
+use Rattle.std.proofs.lemmas.List.FromFn.{get_or-map-range_with_len, length-map-range_with_len}
 use Rattle.std.proofs.lemmas.List.Elements.{All-contains}
-use Rattle.std.proofs.lemmas.List.FromFn.{length-map-range_with_len, get_or-map-range_with_len}
-use Rattle.mk_geom.specs.declared.pages.Page.{Page}
-use Rattle.mk_geom.specs.declared.headers.Header.{Header}
-use Rattle.mk_geom.specs.Classes.{cells_of}
-use Rattle.mk_geom.specs.Headers.{IsInRange, IsHeaderWord, word_of, header_of}
-use Rattle.mk_geom.specs.PageUses.{PageUse, Cells, PartOfRun, place_on_uses, census_among}
-use Rattle.mk_geom.specs.PageWords.{bits_of, use_under, use_of_page, uses_of_pages, HaveHeaderWords}
-use Rattle.mk_geom.specs.Storages.{Storage, is_small, first_page, stands_on, class_of_storage, taken_cells, use_by}
-use Rattle.mk_geom.specs.Storages.{use_of_storages, uses_of_storages, place_among_storages, census_of, block_header}
-use Rattle.mk_geom.specs.Storages.{run_header, run_used, free_page, block_page, run_page, used_word, words_by}
-use Rattle.mk_geom.specs.Storages.{words_of_storages, IsRun, IsStorage, AreLaidOut, PagesStandFor}
-use Rattle.mk_geom.proofs.HeaderLemmas.{header_of-word_of}
-use Rattle.mk_geom.proofs.ListSearch.{find_cases}
-use Rattle.mk_geom.proofs.Standing.{small_is_cell, large_is_run, class_of_cell, stands_parts}
-use Rattle.mk_geom.proofs.StoredWords.{words_by_small, words_by_large}
-use Rattle.mk_geom.proofs.TakenCells.{length-taken_cells}
-use Rattle.mk_geom.proofs.UsedWords.{bits_of-used_word}
+use Rattle.mk_geom.proofs.Standing.{class_of_cell, large_is_run, small_is_cell, stands_parts}
+use Rattle.mk_geom.proofs.{HeaderLemmas.header_of-word_of, ListSearch.find_cases, StoredWords.words_by_large}
+use Rattle.mk_geom.proofs.{StoredWords.words_by_small, TakenCells.length-taken_cells, UsedWords.bits_of-used_word}
+use Rattle.mk_geom.specs.Headers.{IsHeaderWord, IsInRange, header_of, word_of}
+use Rattle.mk_geom.specs.PageUses.{Cells, PageUse, PartOfRun, census_among, place_on_uses}
+use Rattle.mk_geom.specs.PageWords.{HaveHeaderWords, bits_of, use_of_page, use_under, uses_of_pages}
+use Rattle.mk_geom.specs.Storages.{AreLaidOut, IsRun, IsStorage, PagesStandFor, Storage, block_header, block_page}
+use Rattle.mk_geom.specs.Storages.{census_of, class_of_storage, first_page, free_page, is_small, place_among_storages}
+use Rattle.mk_geom.specs.Storages.{run_header, run_page, run_used, stands_on, taken_cells, use_by, use_of_storages}
+use Rattle.mk_geom.specs.Storages.{used_word, uses_of_storages, words_by, words_of_storages}
+use Rattle.mk_geom.specs.{Classes.cells_of, declared.headers.Header.Header, declared.pages.Page.Page}
 
 -- a page whose header word is one, and what it shows
 abbrev pub Shows : Page → PageUse → Type 0

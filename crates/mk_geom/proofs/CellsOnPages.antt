@@ -1,30 +1,27 @@
 -- What values point into on pages that stand for storages: their cells, and nothing else that is taken.
-use Rattle.std.proofs.Common.{◌≡◌, ℕ, ◌+◌, ◌*◌, ◌/◌, ◌%◌, ◌<◌, ◌≤◌, true, false, ◌==◌, nat_le, nat_lt, List, length}
-use Rattle.std.proofs.Common.{Some, None, Contains, find, ◌⊎◌, ◌↔◌, inl, inr, refl, sym, ◌∙◌, ap, subst, arith}
-use Rattle.std.proofs.Common.{leb-true, ltb-true, div-add-mod'}
-use Rattle.std.specs.Int.{bit_at}
-use Rattle.std.proofs.lemmas.Bool.{cases_Bool, and_parts, cond-true, cond-false}
+use Rattle.std.proofs.Common.{Contains, List, None, Some, ℕ, ap, arith, div-add-mod', false, find, inl, inr, leb-true}
+use Rattle.std.proofs.Common.{length, ltb-true, nat_le, nat_lt, refl, subst, sym, true, ◌%◌, ◌*◌, ◌+◌, ◌/◌, ◌<◌, ◌==◌}
+use Rattle.std.proofs.Common.{◌↔◌, ◌∙◌, ◌≡◌, ◌≤◌, ◌⊎◌}
+use Rattle.std.proofs.lemmas.Bool.{and_parts, cases_Bool, cond-false, cond-true}
+use Rattle.std.proofs.lemmas.Option.{cond_some, none-some, same_Some}
 use Rattle.std.proofs.lemmas.Nat.{div_below, mod_below}
-use Rattle.std.proofs.lemmas.Option.{none-some, same_Some, cond_some}
-use Rattle.mk_geom.specs.declared.addresses.Cell.{Cell}
-use Rattle.mk_geom.specs.declared.pages.Page.{Page}
+use Rattle.std.specs.Int.{bit_at}
+use Rattle.mk_geom.proofs.ClassTable.{cell_ends, class_words_within}
+use Rattle.mk_geom.proofs.PointedCells.{cell_first, cell_from_first, cell_index, class_has_words, large_cell_of}
+use Rattle.mk_geom.proofs.PointedCells.{large_lookup, looked_up, points_into_cell, small_cell_of, small_lookup}
+use Rattle.mk_geom.proofs.PointedCells.{stands_at_address}
+use Rattle.mk_geom.proofs.Standing.{AreAlike, class_of_cell, has_words, large_is_run, same_or_alike, same_or_apart}
+use Rattle.mk_geom.proofs.Standing.{small_is_cell, stands_at_first, stands_parts, storage_in}
+use Rattle.mk_geom.proofs.StoredWords.{words_at, words_by_large, words_by_small}
+use Rattle.mk_geom.proofs.TakenCells.{cell_taken_by, get_or-taken_cells, length-taken_cells}
+use Rattle.mk_geom.proofs.{ListSearch.find_cases, UsedWords.bit_at-used_word}
+use Rattle.mk_geom.specs.Addresses.{cell_at, is_heap_address, page_at_address, word_at_address}
+use Rattle.mk_geom.specs.Classes.{cells_of, class_words_of}
+use Rattle.mk_geom.specs.StorageWords.{PointsInto, ShowsStorage, cell_of_storage, cell_on, header_shown, page_in}
+use Rattle.mk_geom.specs.Storages.{AreLaidOut, IsStorage, PagesStandFor, Storage, class_of_storage, first_page}
+use Rattle.mk_geom.specs.Storages.{free_page, is_cell_taken, is_small, stands_on, taken_cells, used_word, words_by}
 use Rattle.mk_geom.specs.declared.headers.Header.TheVariants.{Free}
-use Rattle.mk_geom.specs.Addresses.{is_heap_address, page_at_address, word_at_address, cell_at}
-use Rattle.mk_geom.specs.Classes.{class_words_of, cells_of}
-use Rattle.mk_geom.specs.Headers.{word_of, header_of}
-use Rattle.mk_geom.specs.Storages.{Storage, is_small, first_page, stands_on, class_of_storage, is_cell_taken}
-use Rattle.mk_geom.specs.Storages.{taken_cells, used_word, free_page, words_by, IsStorage, AreLaidOut, PagesStandFor}
-use Rattle.mk_geom.specs.StorageWords.{PointsInto, cell_of_storage, header_shown, ShowsStorage, page_in, cell_on}
-use Rattle.mk_geom.proofs.ClassTable.{class_words_within, cell_ends}
-use Rattle.mk_geom.proofs.ListSearch.{find_cases}
-use Rattle.mk_geom.proofs.PointedCells.{class_has_words, cell_first, cell_from_first, looked_up, small_lookup}
-use Rattle.mk_geom.proofs.PointedCells.{large_lookup, cell_index, small_cell_of, large_cell_of, stands_at_address}
-use Rattle.mk_geom.proofs.PointedCells.{points_into_cell}
-use Rattle.mk_geom.proofs.Standing.{AreAlike, storage_in, same_or_apart, has_words, small_is_cell, large_is_run}
-use Rattle.mk_geom.proofs.Standing.{class_of_cell, stands_parts, stands_at_first, same_or_alike}
-use Rattle.mk_geom.proofs.StoredWords.{words_by_small, words_by_large, words_at}
-use Rattle.mk_geom.proofs.TakenCells.{cell_taken_by, length-taken_cells, get_or-taken_cells}
-use Rattle.mk_geom.proofs.UsedWords.{bit_at-used_word}
+use Rattle.mk_geom.specs.{Headers.header_of, Headers.word_of, declared.addresses.Cell.Cell, declared.pages.Page.Page}
 
 -- a storage's page has the header that it shows
 header_by : (xs : List Storage) (page : ℕ) (s : Storage)

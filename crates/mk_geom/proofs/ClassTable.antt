@@ -1,12 +1,10 @@
 -- The classes, one by one, and the cells of a page.
-use Rattle.std.proofs.Common.{◌≡◌, ℕ, zero, suc, ◌+◌, ◌*◌, ◌/◌, ◌<◌, ◌≤◌, ◌==◌, nat_le, Some, None, position, refl, sym}
-use Rattle.std.proofs.Common.{◌∙◌, inl, inr, arith, le_refl, div-add-mod', leb-true}
-use Rattle.std.specs.Prelude.{[], ◌∷◌, slice_index}
-use Rattle.std.proofs.lemmas.Bool.{cases_Bool, cond-true, cond-false}
-use Rattle.std.proofs.lemmas.List.Quantifiers.{position-Some}
-use Rattle.std.proofs.lemmas.Nat.{mul-le, le-div}
-use Rattle.std.proofs.lemmas.Option.{none-some}
-use Rattle.mk_geom.specs.Classes.{class_sizes, class_words_of, cells_of, class_for}
+use Rattle.std.proofs.Common.{None, Some, ℕ, arith, div-add-mod', inl, inr, le_refl, leb-true, nat_le, position, refl}
+use Rattle.std.proofs.Common.{slice_index, suc, sym, zero, [], ◌*◌, ◌+◌, ◌/◌, ◌<◌, ◌==◌, ◌∙◌, ◌∷◌, ◌≡◌, ◌≤◌}
+use Rattle.std.proofs.lemmas.Bool.{cases_Bool, cond-false, cond-true}
+use Rattle.std.proofs.lemmas.Nat.{le-div, mul-le}
+use Rattle.std.proofs.{lemmas.List.Quantifiers.position-Some, lemmas.Option.none-some}
+use Rattle.mk_geom.specs.Classes.{cells_of, class_for, class_sizes, class_words_of}
 
 pub class_for-class_words_of : (class : ℕ) → class < 8 → class_for (class_words_of class) ≡ Some class
 class_for-class_words_of zero known = refl

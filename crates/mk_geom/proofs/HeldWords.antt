@@ -1,28 +1,25 @@
 -- The words that pages hold are those of the mapped storages that stand on them.
-use Rattle.std.proofs.Common.{◌≡◌, ◌≢◌, ℕ, suc, ◌+◌, ◌*◌, ◌<◌, ◌≤◌, Bool, true, false, ◌==◌, ◌||◌, if◌then◌else◌, cond}
-use Rattle.std.proofs.Common.{List, [], ◌∷◌, length, get_or, set, find, Option, Some, Contains, inl, inr, refl, sym}
-use Rattle.std.proofs.Common.{◌∙◌, ap, subst, arith, ne_eqb, unwrap_or}
-use Rattle.std.specs.List.{count_by}
-use Rattle.std.proofs.lemmas.Bool.{cases_Bool, false≢true, false_from_ne_true, cond-true, cond-false}
+use Rattle.std.proofs.Common.{Bool, Contains, List, Option, Some, ℕ, ap, arith, cond, false, find, get_or}
+use Rattle.std.proofs.Common.{if◌then◌else◌, inl, inr, length, ne_eqb, refl, set, subst, suc, sym, true, unwrap_or, []}
+use Rattle.std.proofs.Common.{◌*◌, ◌+◌, ◌<◌, ◌==◌, ◌||◌, ◌∙◌, ◌∷◌, ◌≡◌, ◌≢◌, ◌≤◌}
+use Rattle.std.proofs.lemmas.Bool.{cases_Bool, cond-false, cond-true, false_from_ne_true, false≢true}
 use Rattle.std.proofs.lemmas.List.Elements.{All-head, All-tail}
 use Rattle.std.proofs.lemmas.List.Sums.{sum_by-cons, sum_by-set}
-use Rattle.mk_geom.specs.declared.pages.Page.{Page}
-use Rattle.mk_geom.specs.Classes.{class_for, class_words_of, cells_of}
-use Rattle.mk_geom.specs.PageUses.{PageUse, Cells, PartOfRun, held_by_use, held_by_uses}
-use Rattle.mk_geom.specs.PageWords.{uses_of_pages}
-use Rattle.mk_geom.specs.Storages.{Storage, is_small, first_page, last_page, stands_on, class_of_storage, is_cell_taken}
-use Rattle.mk_geom.specs.Storages.{taken_cells, use_by, use_of_storages, IsCell, IsStorage, LieApart, AreLaidOut}
-use Rattle.mk_geom.specs.Storages.{PagesStandFor}
-use Rattle.mk_geom.specs.StorageWords.{held_by_storages}
-use Rattle.mk_geom.proofs.Bridge.{same_uses}
-use Rattle.mk_geom.proofs.ClassTable.{class_words_within}
-use Rattle.mk_geom.proofs.ListSearch.{Contains-head, Contains-tail, Contains-cons_cases, find_cases}
-use Rattle.mk_geom.proofs.PageSums.{sum_below, sum_by-range, sum_below-add, sum_below-zero, sum_below-block}
+use Rattle.std.specs.List.{count_by}
+use Rattle.mk_geom.proofs.ListSearch.{Contains-cons_cases, Contains-head, Contains-tail, find_cases}
+use Rattle.mk_geom.proofs.PageSums.{sum_below, sum_below-add, sum_below-block, sum_below-zero, sum_by-range}
 use Rattle.mk_geom.proofs.PointedCells.{class_has_words, first_in_page}
-use Rattle.mk_geom.proofs.Standing.{storage_in, cell_within, has_words, small_is_cell, large_is_run, class_of_cell}
-use Rattle.mk_geom.proofs.Standing.{stands_parts, stands_from, cell_stands_at}
-use Rattle.mk_geom.proofs.TakenCells.{taken_same, cell_taken_by, cell_taken_from, length-taken_cells}
-use Rattle.mk_geom.proofs.TakenCells.{get_or-taken_cells, taken_cells-set, same_index, none_taken}
+use Rattle.mk_geom.proofs.Standing.{cell_stands_at, cell_within, class_of_cell, has_words, large_is_run, small_is_cell}
+use Rattle.mk_geom.proofs.Standing.{stands_from, stands_parts, storage_in}
+use Rattle.mk_geom.proofs.TakenCells.{cell_taken_by, cell_taken_from, get_or-taken_cells, length-taken_cells}
+use Rattle.mk_geom.proofs.TakenCells.{none_taken, same_index, taken_cells-set, taken_same}
+use Rattle.mk_geom.proofs.{Bridge.same_uses, ClassTable.class_words_within}
+use Rattle.mk_geom.specs.Classes.{cells_of, class_for, class_words_of}
+use Rattle.mk_geom.specs.PageUses.{Cells, PageUse, PartOfRun, held_by_use, held_by_uses}
+use Rattle.mk_geom.specs.Storages.{AreLaidOut, IsCell, IsStorage, LieApart, PagesStandFor, Storage, class_of_storage}
+use Rattle.mk_geom.specs.Storages.{first_page, is_cell_taken, is_small, last_page, stands_on, taken_cells, use_by}
+use Rattle.mk_geom.specs.Storages.{use_of_storages}
+use Rattle.mk_geom.specs.{PageWords.uses_of_pages, StorageWords.held_by_storages, declared.pages.Page.Page}
 
 -- the words of a storage that are on one page, where it is mapped
 abbrev pub words_there : Storage → ℕ

@@ -1,9 +1,8 @@
 -- Sums of a number that each page has.
-use Rattle.std.proofs.Common.{◌≡◌, ℕ, zero, suc, ◌+◌, ◌*◌, ◌<◌, ◌≤◌, map, inl, inr, refl, ◌∙◌, ap, subst, arith}
-use Rattle.std.proofs.Common.{add-one}
+use Rattle.std.proofs.Common.{ℕ, add-one, ap, arith, inl, inr, map, refl, subst, suc, zero, ◌*◌, ◌+◌, ◌<◌, ◌∙◌, ◌≡◌}
+use Rattle.std.proofs.Common.{◌≤◌}
+use Rattle.std.proofs.{lemmas.Bool.cases_lt, lemmas.List.FromFn.sum_by-map-range_with_len_more}
 use Rattle.std.specs.List.{range_with_len, sum_by}
-use Rattle.std.proofs.lemmas.Bool.{cases_lt}
-use Rattle.std.proofs.lemmas.List.FromFn.{sum_by-map-range_with_len_more}
 
 -- the sum over the pages below n
 abbrev pub sum_below : (ℕ → ℕ) → ℕ → ℕ

@@ -1,23 +1,20 @@
 -- What an address in a storage points into, and in which storage an address is that points into its cell.
-use Rattle.std.proofs.Common.{Option, ◌≡◌, ℕ, zero, suc, ◌+◌, ◌-◌, ◌*◌, ◌/◌, ◌%◌, ◌<◌, ◌≤◌, Bool, true, false, nat_le}
-use Rattle.std.proofs.Common.{nat_lt, Some, None, inl, inr, refl, sym, ◌∙◌, ap, subst, arith, le-leb, le_refl}
-use Rattle.std.proofs.Common.{option_and_then, ◌↔◌}
-use Rattle.std.proofs.lemmas.Bool.{cases_Bool, and_from, cond-true, cond-false, lt-ltb, lt-leb}
-use Rattle.std.proofs.lemmas.Nat.{mul-le, div-mul-add}
-use Rattle.mk_geom.specs.declared.addresses.Cell.{Cell}
-use Rattle.mk_geom.specs.declared.headers.Header.{Header}
-use Rattle.mk_geom.specs.Addresses.{address_of, heap_word_at, is_heap_address, page_at_address, word_at_address}
-use Rattle.mk_geom.specs.Addresses.{cell_of_block, cell_under, cell_at}
-use Rattle.mk_geom.specs.Classes.{class_words_of, cells_of}
-use Rattle.mk_geom.specs.Headers.{word_of, header_of}
-use Rattle.mk_geom.specs.Storages.{Storage, is_small, first_page, stands_on, class_of_storage, block_header, run_header}
-use Rattle.mk_geom.specs.Storages.{IsCell, IsStorage}
-use Rattle.mk_geom.specs.StorageWords.{IsWordOf, PointsInto, cell_of_storage, ShowsStorage}
+use Rattle.std.proofs.Common.{Bool, None, Option, Some, ℕ, ap, arith, false, inl, inr, le-leb, le_refl, lt-ltb, nat_le}
+use Rattle.std.proofs.Common.{nat_lt, option_and_then, refl, subst, suc, sym, true, zero, ◌%◌, ◌*◌, ◌+◌, ◌-◌, ◌/◌, ◌<◌}
+use Rattle.std.proofs.Common.{◌↔◌, ◌∙◌, ◌≡◌, ◌≤◌}
+use Rattle.std.proofs.lemmas.Bool.{and_from, cases_Bool, cond-false, cond-true, lt-leb}
+use Rattle.std.proofs.lemmas.Nat.{div-mul-add, mul-le}
 use Rattle.mk_geom.proofs.Bridge.{block_in_range, run_in_range, run_near}
-use Rattle.mk_geom.proofs.ClassTable.{class_words_within, cell_ends}
-use Rattle.mk_geom.proofs.HeaderLemmas.{header_of-word_of}
-use Rattle.mk_geom.proofs.Standing.{class_of_words, has_words, small_is_cell, large_is_run, class_of_cell}
-use Rattle.mk_geom.proofs.Standing.{cell_stands_at, stands_parts, stands_from}
+use Rattle.mk_geom.proofs.Standing.{cell_stands_at, class_of_cell, class_of_words, has_words, large_is_run}
+use Rattle.mk_geom.proofs.Standing.{small_is_cell, stands_from, stands_parts}
+use Rattle.mk_geom.proofs.{ClassTable.cell_ends, ClassTable.class_words_within, HeaderLemmas.header_of-word_of}
+use Rattle.mk_geom.specs.Addresses.{address_of, cell_at, cell_of_block, cell_under, heap_word_at, is_heap_address}
+use Rattle.mk_geom.specs.Addresses.{page_at_address, word_at_address}
+use Rattle.mk_geom.specs.StorageWords.{IsWordOf, PointsInto, ShowsStorage, cell_of_storage}
+use Rattle.mk_geom.specs.Storages.{IsCell, IsStorage, Storage, block_header, class_of_storage, first_page, is_small}
+use Rattle.mk_geom.specs.Storages.{run_header, stands_on}
+use Rattle.mk_geom.specs.{Classes.cells_of, Classes.class_words_of, Headers.header_of, Headers.word_of}
+use Rattle.mk_geom.specs.{declared.addresses.Cell.Cell, declared.headers.Header.Header}
 
 -- a heap address whose page has this header
 pub looked_up : (pages header u : ℕ) (h : Header) → 65536 ≤ u → page_at_address u < pages → header_of header ≡ Some h

@@ -1,13 +1,12 @@
 -- Which pages a storage stands on, and what two storages on one page share.
-use Rattle.std.proofs.Common.{◌≡◌, ℕ, ◌+◌, ◌-◌, ◌/◌, ◌%◌, ◌<◌, ◌≤◌, true, false, List, get_or, Contains, ◌⊎◌, inl, inr}
-use Rattle.std.proofs.Common.{refl, sym, ◌∙◌, ap, subst, arith, leb-true, le-leb, nat_le}
-use Rattle.std.proofs.lemmas.Bool.{false≢true, and_parts, and_from, cases_eq, lt-leb}
-use Rattle.std.proofs.lemmas.List.{get_or_default}
-use Rattle.std.proofs.lemmas.List.Elements.{All-contains}
+use Rattle.std.proofs.Common.{Contains, List, ℕ, ap, arith, false, get_or, inl, inr, le-leb, leb-true, nat_le, refl}
+use Rattle.std.proofs.Common.{subst, sym, true, ◌%◌, ◌+◌, ◌-◌, ◌/◌, ◌<◌, ◌∙◌, ◌≡◌, ◌≤◌, ◌⊎◌}
+use Rattle.std.proofs.lemmas.Bool.{and_from, and_parts, cases_eq, false≢true, lt-leb}
+use Rattle.std.proofs.{lemmas.List.get_or_default, lemmas.List.Elements.All-contains}
+use Rattle.mk_geom.proofs.ClassTable.{cell_ends, class_for-class_words_of, class_words_within}
+use Rattle.mk_geom.specs.Storages.{AreLaidOut, IsCell, IsRun, IsStorage, LieApart, Storage, class_of_storage}
+use Rattle.mk_geom.specs.Storages.{first_page, is_small, last_page, stands_on}
 use Rattle.mk_geom.specs.Classes.{class_words_of}
-use Rattle.mk_geom.specs.Storages.{Storage, is_small, first_page, last_page, stands_on, class_of_storage, IsCell, IsRun}
-use Rattle.mk_geom.specs.Storages.{IsStorage, LieApart, AreLaidOut}
-use Rattle.mk_geom.proofs.ClassTable.{class_for-class_words_of, class_words_within, cell_ends}
 
 -- a cell lies within a page
 pub cell_within : (s : Storage) → IsCell s → (1 ≤ s.words) × (s.words ≤ 32) × (s.first % 64 + s.words ≤ 64)

@@ -1,7 +1,7 @@
 -- Free pages, on which nothing stands.
-use Rattle.std.proofs.Common.{ℕ, [], replicate, arith}
-use Rattle.std.proofs.lemmas.List.{length-replicate, get_or-replicate}
-use Rattle.mk_geom.specs.Storages.{free_page, PagesStandFor}
+use Rattle.std.proofs.Common.{ℕ, arith, replicate, []}
+use Rattle.std.proofs.lemmas.List.{get_or-replicate, length-replicate}
+use Rattle.mk_geom.specs.Storages.{PagesStandFor, free_page}
 
 pub free_pages : (n : ℕ) → PagesStandFor (replicate n free_page) []
 free_pages n = record {

@@ -1,13 +1,12 @@
 -- The words of a page, by any storage that stands on it.
-use Rattle.std.proofs.Common.{◌≡◌, ℕ, ◌+◌, ◌-◌, ◌*◌, ◌/◌, ◌<◌, true, false, List, Some, Contains, inl, inr, sym, ◌∙◌}
-use Rattle.std.proofs.Common.{ap, arith, unwrap_or, le-leb}
-use Rattle.std.proofs.lemmas.Bool.{false≢true, cond-true, cond-false, lt-leb}
-use Rattle.mk_geom.specs.Classes.{class_words_of, class_for, cells_of}
-use Rattle.mk_geom.specs.Storages.{Storage, is_small, first_page, stands_on, class_of_storage, taken_cells, used_word}
-use Rattle.mk_geom.specs.Storages.{free_page, block_page, run_page, words_by, words_of_storages, AreLaidOut}
-use Rattle.mk_geom.proofs.ClassTable.{class_words_within, cell_ends}
-use Rattle.mk_geom.proofs.ListSearch.{find_cases}
-use Rattle.mk_geom.proofs.Standing.{class_of_words, storage_in, AreAlike, same_or_alike, stands_at_first, stands_from}
+use Rattle.std.proofs.Common.{Contains, List, Some, ℕ, ap, arith, false, inl, inr, le-leb, sym, true, unwrap_or, ◌*◌}
+use Rattle.std.proofs.Common.{◌+◌, ◌-◌, ◌/◌, ◌<◌, ◌∙◌, ◌≡◌}
+use Rattle.std.proofs.lemmas.Bool.{cond-false, cond-true, false≢true, lt-leb}
+use Rattle.mk_geom.proofs.Standing.{AreAlike, class_of_words, same_or_alike, stands_at_first, stands_from, storage_in}
+use Rattle.mk_geom.proofs.{ClassTable.cell_ends, ClassTable.class_words_within, ListSearch.find_cases}
+use Rattle.mk_geom.specs.Storages.{AreLaidOut, Storage, block_page, class_of_storage, first_page, free_page, is_small}
+use Rattle.mk_geom.specs.Storages.{run_page, stands_on, taken_cells, used_word, words_by, words_of_storages}
+use Rattle.mk_geom.specs.Classes.{cells_of, class_for, class_words_of}
 
 pub words_by_small : (page : ℕ) (xs : List Storage) (s : Storage) → is_small s ≡ true
     → words_by xs page (Some s)

@@ -1,17 +1,14 @@
 -- The cells of a page that storages take.
-use Rattle.std.proofs.Common.{◌≡◌, ◌≢◌, ℕ, suc, ◌+◌, ◌*◌, ◌<◌, ◌≤◌, Bool, true, false, ◌==◌, List, length, get_or, set}
-use Rattle.std.proofs.Common.{All, Contains, inl, inr, refl, sym, ◌∙◌, ap, arith, le_refl, eqb-true, eq-eqb, length-set}
-use Rattle.std.proofs.Common.{get_or-set_same, get_or-set_other}
-use Rattle.std.proofs.lemmas.Bool.{cases_eq, cases_order, false≢true, false_from_ne_true}
-use Rattle.std.proofs.lemmas.List.{same_lists}
-use Rattle.std.proofs.lemmas.List.Elements.{All-contains}
-use Rattle.std.proofs.lemmas.List.FromFn.{length-map-range_with_len, get_or-map-range_with_len}
-use Rattle.std.proofs.lemmas.Nat.{mul-le}
-use Rattle.mk_geom.specs.Classes.{class_words_of, cells_of}
-use Rattle.mk_geom.specs.Storages.{Storage, stands_on, is_cell_taken, taken_cells, IsStorage}
-use Rattle.mk_geom.proofs.ClassTable.{class_words_within, cell_ends}
-use Rattle.mk_geom.proofs.ListSearch.{list_any_from, list_any_found}
-use Rattle.mk_geom.proofs.Standing.{stands_at_first}
+use Rattle.std.proofs.Common.{All, Bool, Contains, List, ℕ, ap, arith, eq-eqb, eqb-true, false, get_or}
+use Rattle.std.proofs.Common.{get_or-set_other, get_or-set_same, inl, inr, le_refl, length, length-set, refl, set, suc}
+use Rattle.std.proofs.Common.{sym, true, ◌*◌, ◌+◌, ◌<◌, ◌==◌, ◌∙◌, ◌≡◌, ◌≢◌, ◌≤◌}
+use Rattle.std.proofs.lemmas.Bool.{cases_eq, cases_order, false_from_ne_true, false≢true}
+use Rattle.std.proofs.lemmas.List.FromFn.{get_or-map-range_with_len, length-map-range_with_len}
+use Rattle.std.proofs.{lemmas.List.same_lists, lemmas.List.Elements.All-contains, lemmas.Nat.mul-le}
+use Rattle.mk_geom.proofs.ClassTable.{cell_ends, class_words_within}
+use Rattle.mk_geom.proofs.{ListSearch.list_any_found, ListSearch.list_any_from, Standing.stands_at_first}
+use Rattle.mk_geom.specs.Storages.{IsStorage, Storage, is_cell_taken, stands_on, taken_cells}
+use Rattle.mk_geom.specs.Classes.{cells_of, class_words_of}
 
 -- each of these storages that stands on the page is one of those
 abbrev pub Carries : ℕ → List Storage → List Storage → Type 0

@@ -1,13 +1,10 @@
 -- Used words and the bits that they are made of.
-use Rattle.std.proofs.Common.{◌≡◌, ℕ, zero, suc, ◌+◌, ◌*◌, ◌/◌, ◌<◌, Bool, true, false, ◌==◌, List, [], ◌∷◌, length}
-use Rattle.std.proofs.Common.{get_or, map, refl, sym, ◌∙◌, ap, arith}
-use Rattle.std.specs.Int.{bit_at}
-use Rattle.std.specs.List.{range_with_len}
-use Rattle.std.proofs.lemmas.List.{same_lists}
-use Rattle.std.proofs.lemmas.List.FromFn.{length-map-range_with_len, get_or-map-range_with_len}
-use Rattle.std.proofs.lemmas.Nat.Bits.{bit_at_lowest, bit_at-suc}
-use Rattle.mk_geom.specs.PageWords.{bits_of}
-use Rattle.mk_geom.specs.Storages.{used_word}
+use Rattle.std.proofs.Common.{Bool, List, ℕ, ap, arith, false, get_or, length, map, refl, suc, sym, true, zero, [], ◌*◌}
+use Rattle.std.proofs.Common.{◌+◌, ◌/◌, ◌<◌, ◌==◌, ◌∙◌, ◌∷◌, ◌≡◌}
+use Rattle.std.proofs.lemmas.List.FromFn.{get_or-map-range_with_len, length-map-range_with_len}
+use Rattle.std.proofs.{lemmas.List.same_lists, lemmas.Nat.Bits.bit_at-suc, lemmas.Nat.Bits.bit_at_lowest}
+use Rattle.std.specs.{Int.bit_at, List.range_with_len}
+use Rattle.mk_geom.specs.{PageWords.bits_of, Storages.used_word}
 
 pub bit_at-used_word : (bits : List Bool) (k : ℕ) (d : Bool) → k < length bits
     → (bit_at (used_word bits) k == 1) ≡ get_or bits k d

@@ -1,10 +1,9 @@
 -- Calls one after another, at what a source or a sink says.
-use Rattle.std.proofs.Common.{◌≡◌, ℕ, ◌+◌, ◌-◌, List, ◌++◌, length, take, drop, Some, None, refl, ap, subst, ◌∙◌, arith}
-use Rattle.std.proofs.Common.{length-append, length-take, append_assoc}
-use Rattle.std.proofs.Math.Seq.{take-add}
-use Rattle.std.proofs.lemmas.List.{drop-drop, take_rest}
+use Rattle.std.proofs.Common.{List, None, Some, ℕ, ap, append_assoc, arith, drop, drop-drop, length, length-append}
+use Rattle.std.proofs.Common.{length-take, refl, subst, take, ◌++◌, ◌+◌, ◌-◌, ◌∙◌, ◌≡◌}
+use Rattle.std.proofs.{Math.Seq.take-add, lemmas.List.take_rest}
 use Rattle.std.specs.declared.option.Option.{Option}
-use Rattle.mk_io.specs.Bytes.{Takes, TakesCount, Appends}
+use Rattle.mk_io.specs.Bytes.{Appends, Takes, TakesCount}
 
 -- the bytes of a take, and then those of the next
 pub Takes-append : (a b c : Option (List ℕ)) (xs ys : List ℕ) →

@@ -1,10 +1,10 @@
 -- Whose step an event is: a caller's in its call, a marker's, one that takes the turn, or the holder's.
-use Rattle.mk_laws.proofs.Vocabulary.{Bool, Caller, Config, Flight, Host, Marker, MeetsAll, Moment, None, Op, Seat}
-use Rattle.mk_laws.proofs.Vocabulary.{Some, Stage, Step, ℕ, and_parts, ap, cases_Bool, comes_next, eqb-false, eqb-true}
-use Rattle.mk_laws.proofs.Vocabulary.{false, flight_of, group_of, host_has_turn, inl, inr, is_new_at, is_of_turn}
-use Rattle.mk_laws.proofs.Vocabulary.{is_open_to, is_undecided_new, is_under_turn, ltb-true, not-true, refl, sym, true}
-use Rattle.mk_laws.proofs.Vocabulary.{◌&&◌, ◌+◌, ◌<◌, ◌∙◌, ◌≡◌, ◌≢◌}
-use Rattle.mk_core.specs.{Order.comes_next_to_host, declared.events.Group.Group}
+use Rattle.mk_laws.proofs.Vocabulary.{Bool, Caller, Config, Flight, Group, Host, Marker, MeetsAll, Moment, None, Op}
+use Rattle.mk_laws.proofs.Vocabulary.{Seat, Some, Stage, Step, ℕ, and_parts, ap, cases_Bool, comes_next, eqb-false}
+use Rattle.mk_laws.proofs.Vocabulary.{eqb-true, false, flight_of, group_of, host_has_turn, inl, inr, is_new_at}
+use Rattle.mk_laws.proofs.Vocabulary.{is_of_turn, is_open_to, is_undecided_new, is_under_turn, ltb-true, not-true, refl}
+use Rattle.mk_laws.proofs.Vocabulary.{sym, true, ◌&&◌, ◌+◌, ◌<◌, ◌∙◌, ◌≡◌, ◌≢◌}
+use Rattle.mk_core.specs.Order.{comes_next_to_host}
 use Rattle.mk_laws.proofs.NextSteps.{at_no_take, at_take, is_take, of_turn}
 use Rattle.mk_laws.proofs.{Stages.turns_stand, Standings.is_astray, Standings.standing, Views.HoldsTurn, Views.view_of}
 
@@ -65,8 +65,7 @@ marker_acts c m k x h = by (group_of x) refl
     by : (g : Group) → group_of x ≡ g → Actor c m (Marker k) x
     by Group.Markers g = AsMarker k x (ltb-true k 8 h.seat) g
     by Group.Callers g = let e : false ≡ true = ap (λ (y : Group). is_open_to (Marker k) y) (sym g) ∙ h.kind in cc
-    by Group.Turn g = let e : false ≡ true = ap (λ (y : Group). is_open_to (Marker k) y) (sym g) ∙ h.kind in cc
-    by Group.Host g = let e : false ≡ true = ap (λ (y : Group). is_open_to (Marker k) y) (sym g) ∙ h.kind in cc
+    by _ g = let e : false ≡ true = ap (λ (y : Group). is_open_to (Marker k) y) (sym g) ∙ h.kind in cc
 
 -- the host: `take` with no operation, `over`, and what any holder does
 

@@ -45,13 +45,12 @@ module _ (globals : List ℕ) (n m : NeverState) (k : ℕ) (on : Continues n m) 
   store_on _ r h = tt
 
   admitted_on : (o : Op) → IsAdmitted globals n k o → IsAdmitted globals m k o
-  admitted_on o h =
-      record {
-        of_a_caller = rw on.registers h.of_a_caller;
-        in_range = operands_on o h.in_range;
-        access = access_on o h.in_range h.access;
-        store = store_on o h.in_range h.store;
-      }
+  admitted_on o h = record {
+    of_a_caller = rw on.registers h.of_a_caller;
+    in_range = operands_on o h.in_range;
+    access = access_on o h.in_range h.access;
+    store = store_on o h.in_range h.store;
+  }
 
   pub call_on : (o : Op) (a : Option Answer) → AreAdmitted globals n (asked (entry_of k o a))
       → AreAdmitted globals m (asked (entry_of k o a))

@@ -1,7 +1,7 @@
 -- What one event leaves of the allocations: each keeps its place, and a grant adds one.
-use Rattle.std.proofs.{Common.Option, lemmas.List.length-append}
-use Rattle.mk_laws.proofs.Vocabulary.{Cell, Config, Flight, LeavesPlaces, List, Moment, PlacedAllocation, Step, ℕ}
-use Rattle.mk_laws.proofs.Vocabulary.{address_of, ap, arith, cases_lt, cell_freed, changed_at, false, freed_leaves}
+use Rattle.std.proofs.Common.{length-append}
+use Rattle.mk_laws.proofs.Vocabulary.{Cell, Config, Flight, LeavesPlaces, List, Moment, Option, PlacedAllocation, Step}
+use Rattle.mk_laws.proofs.Vocabulary.{ℕ, address_of, ap, arith, cases_lt, cell_freed, changed_at, false, freed_leaves}
 use Rattle.mk_laws.proofs.Vocabulary.{freed_released, freed_where_it_stands, fresh_leaves, get_or_past, granted, inl}
 use Rattle.mk_laws.proofs.Vocabulary.{inr, is_release, length, length-map, map, never_granted, no_longer_fresh}
 use Rattle.mk_laws.proofs.Vocabulary.{or_parts, placed_at, pointed_cell, refl, released_leaves, sym, true≢false}

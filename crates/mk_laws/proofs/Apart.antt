@@ -184,11 +184,10 @@ module _ (c : Config) (w : Words) (xs : List PlacedAllocation) (i j : ℕ) (r : 
   lie_apart = by (is_small_object (object_placed c a)) refl (is_small_object (object_placed c b)) refl
 
 swapped : (s t : Storage) → LieApart s t → LieApart t s
-swapped s t l =
-    record {
-      apart = elim l.apart [ inl x ↦ inr x | inr x ↦ inl x ];
-      alike = λ p ht hs. let x = l.alike p hs ht in (x.1, x.0, sym x.2, sym x.3);
-    }
+swapped s t l = record {
+  apart = elim l.apart [ inl x ↦ inr x | inr x ↦ inl x ];
+  alike = λ p ht hs. let x = l.alike p hs ht in (x.1, x.0, sym x.2, sym x.3);
+}
 
 -- the storages of the list, in pairs
 abbrev LieInPairs : List Storage → Type 0

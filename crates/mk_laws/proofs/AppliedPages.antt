@@ -64,14 +64,13 @@ global_is_zero = words.unset_globals_are_zero three_pages large_freed large_is_h
 
 second_is_unmapped : IsOfUnmappedRun three_pages (left three_pages (take 19 large_freed)) 1
 unfolding by c0 all_below pointed_cell may_turn_black three_pages large_freed left_from
-second_is_unmapped =
-    record {
-      number = 0;
-      unreleased = refl;
-      freed = refl;
-      page = (leb-true 0 64 refl, ltb-true 64 128 refl);
-      unmapped = λ run is at. unmapped_run (left three_pages (take 19 large_freed)) unmapped_is_settled.unmapped run is;
-    }
+second_is_unmapped = record {
+  number = 0;
+  unreleased = refl;
+  freed = refl;
+  page = (leb-true 0 64 refl, ltb-true 64 128 refl);
+  unmapped = λ run is at. unmapped_run (left three_pages (take 19 large_freed)) unmapped_is_settled.unmapped run is;
+}
 
 up_to_the_next : IsHistory three_pages (take 50 large_freed)
 unfolding by c0 large_freed

@@ -1,8 +1,7 @@
 -- The promises on placement and tallies, applied to a small schedule: what each says there, read off.
-use Rattle.std.proofs.Common.{Some}
-use Rattle.mk_laws.proofs.Vocabulary.{Event, List, Place, TurnOf, ℕ, all_below, base_made, by, c0, drop, event_number}
-use Rattle.mk_laws.proofs.Vocabulary.{fresh_words_of, in_a_word, left, left_from, may_turn_black, one_page}
-use Rattle.mk_laws.proofs.Vocabulary.{pointed_cell, refl, sym, take, true, ◌≡◌}
+use Rattle.mk_laws.proofs.Vocabulary.{Event, List, Place, Some, TurnOf, ℕ, all_below, base_made, by, c0, drop}
+use Rattle.mk_laws.proofs.Vocabulary.{event_number, fresh_words_of, in_a_word, left, left_from, may_turn_black}
+use Rattle.mk_laws.proofs.Vocabulary.{one_page, pointed_cell, refl, sym, take, true, ◌≡◌}
 use Rattle.mk_core.proofs.{EvaluatedHistories.full_is_history, MoreSchedules.full_then_reused}
 use Rattle.mk_core.specs.Allocations.{FitsAmongAllocations, held_by_allocations}
 use Rattle.mk_core.specs.Placement.{FindsNoPlace, StandsAtItsPlace, before_served, object_at, place_after}
@@ -27,13 +26,12 @@ pub record HadItsPlaceAt (base : ℕ) : Type 0 where
 
 pub second_had_its_place : HadItsPlaceAt 32
 unfolding by c0 all_below pointed_cell may_turn_black one_page full_then_reused left_from
-second_had_its_place =
-    record {
-      front = before_served second_grant.turn second_grant.first;
-      place = second_grant.place;
-      fits = second_grant.fits;
-      is = sym second_grant.base;
-    }
+second_had_its_place = record {
+  front = before_served second_grant.turn second_grant.first;
+  place = second_grant.place;
+  fits = second_grant.fits;
+  is = sym second_grant.base;
+}
 
 -- The third New is full: a cycle was begun and ended in its turn, and no place is left.
 

@@ -1,6 +1,5 @@
 -- What headers, snapshots, releases and free words tell on small schedules, read off from the theorems.
-use Rattle.std.proofs.Common.{Some}
-use Rattle.mk_laws.proofs.Vocabulary.{At, Cell, IsHistory, IsTaken, Releasing, RunPages, Seat, Step, World, ℕ}
+use Rattle.mk_laws.proofs.Vocabulary.{At, Cell, IsHistory, IsTaken, Releasing, RunPages, Seat, Some, Step, World, ℕ}
 use Rattle.mk_laws.proofs.Vocabulary.{all_below, before_release, begun_in_stop, by, c0, calls_from, cell_of_allocation}
 use Rattle.mk_laws.proofs.Vocabulary.{drop, earlier_part_is_history, eqb-false, event_number, false, false≢true}
 use Rattle.mk_laws.proofs.Vocabulary.{header_in, is_begin, is_freed, is_quarantined, large_freed, large_is_history}

@@ -1,8 +1,8 @@
 -- The theorems over all histories, applied to small schedules: what each says there, read off by computation.
-use Rattle.std.proofs.Common.{None, Some, replicate}
+use Rattle.std.proofs.Common.{replicate}
 use Rattle.mk_laws.proofs.Vocabulary.{Answer, DirtyIsOwed, Event, IsGuarded, IsHeaderWord, IsHistory, IsSettled}
-use Rattle.mk_laws.proofs.Vocabulary.{IsWordOf, KeepsTheInvariant, List, NeverState, Null, OwesDirty, PageIsDirty}
-use Rattle.mk_laws.proofs.Vocabulary.{PointsWell, Seat, Value, WordOf, World, ℕ, all_below, answers_of, ap}
+use Rattle.mk_laws.proofs.Vocabulary.{IsWordOf, KeepsTheInvariant, List, NeverState, None, Null, OwesDirty, PageIsDirty}
+use Rattle.mk_laws.proofs.Vocabulary.{PointsWell, Seat, Some, Value, WordOf, World, ℕ, all_below, answers_of, ap}
 use Rattle.mk_laws.proofs.Vocabulary.{append_assoc, arith, asked, bases_of, begun_in_stop, by, c0, calls, calls_from}
 use Rattle.mk_laws.proofs.Vocabulary.{cell_of_allocation, drop, earlier_part_is_history, eqb-false, event_number, false}
 use Rattle.mk_laws.proofs.Vocabulary.{false≢true, free_page, has_bit_of, header_at, inl, is_begin, is_run_gone}

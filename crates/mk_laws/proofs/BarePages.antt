@@ -1,12 +1,12 @@
 -- While no cell is released, words that aren't 0 lie on the pages of unreleased allocations; on all others they are 0.
 use Rattle.mk_laws.proofs.Vocabulary.{Among, Claim, Config, HasZeros, IsClaimedRun, IsFreedWord, IsPlotShown, IsShown}
-use Rattle.mk_laws.proofs.Vocabulary.{IsWordOfMapped, MayHold, Object, OfFreedRun, OfMapped, OfReleased, Option}
-use Rattle.mk_laws.proofs.Vocabulary.{PlacedAllocation, RunPages, RunStands, ShowsPart, World, ℕ, and_parts, ap, arith}
-use Rattle.mk_laws.proofs.Vocabulary.{cases_eq, claim_of, claims_of, false, ground_of, head_on, header_made, header_of}
-use Rattle.mk_laws.proofs.Vocabulary.{header_on, inl, inr, is_phase, leb-true, ltb-true, made_shows, object_now}
-use Rattle.mk_laws.proofs.Vocabulary.{object_placed, pages_made, pages_some, part_head, placed_at, refl, shows_on}
-use Rattle.mk_laws.proofs.Vocabulary.{slice_index, storage_words, subst, sym, used_on, words_made, zero_scene_of, ◌+◌}
-use Rattle.mk_laws.proofs.Vocabulary.{◌-◌, ◌/◌, ◌<◌, ◌∙◌, ◌≡◌, ◌≢◌, ◌≤◌}
+use Rattle.mk_laws.proofs.Vocabulary.{IsWordOfMapped, MayHold, Object, OfFreedRun, OfMapped, OfReleased}
+use Rattle.mk_laws.proofs.Vocabulary.{PlacedAllocation, RunStands, ShowsPart, World, ℕ, and_parts, ap, arith, cases_eq}
+use Rattle.mk_laws.proofs.Vocabulary.{claim_of, claims_of, false, ground_of, head_on, header_made, header_of, header_on}
+use Rattle.mk_laws.proofs.Vocabulary.{inl, inr, is_phase, leb-true, ltb-true, made_shows, object_now, object_placed}
+use Rattle.mk_laws.proofs.Vocabulary.{pages_made, pages_some, part_head, placed_at, refl, shows_on, slice_index}
+use Rattle.mk_laws.proofs.Vocabulary.{storage_words, subst, sym, used_on, words_made, zero_scene_of, ◌+◌, ◌-◌, ◌/◌, ◌<◌}
+use Rattle.mk_laws.proofs.Vocabulary.{◌∙◌, ◌≡◌, ◌≢◌, ◌≤◌}
 use Rattle.mk_laws.proofs.Basics.{Laid, claim_among, claimed_some, ends_on_pages, mapped_stays, none_released, none_set}
 use Rattle.mk_laws.proofs.Basics.{own_claim}
 use Rattle.mk_laws.proofs.LayoutReadings.{claimed_head}

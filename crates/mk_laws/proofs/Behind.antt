@@ -35,8 +35,7 @@ seen_attends c m (Marker k) known some = elim (cases_Bool (is_attending (marker_
   | inl on ↦ known.orderly.attends k on
   | inr off ↦
       let none = (known.orderly.idle k off).seen in
-      let f : false ≡ true = ap (λ (x : Option SeenHeader). is_some (cell_seen c x (marker_of m k).hand)) (sym none)
-      ∙ some in
+      let f : false ≡ true = cc (none, some) in
       cc
 ]
 seen_attends c m _ known some = cc

@@ -1,6 +1,6 @@
 -- `close`: no dirty word, nothing owed, marked cells black; so the marks are closed.
-use Rattle.std.proofs.lemmas.Nat.Bits.{bit_at_and, bit_at_ones}
-use Rattle.std.specs.{List.list_all, Prelude.bit_and, Prelude.min}
+use Rattle.std.proofs.{Common.bit_and, Common.min, lemmas.Nat.Bits.bit_at_and, lemmas.Nat.Bits.bit_at_ones}
+use Rattle.std.specs.List.{list_all}
 use Rattle.mk_laws.proofs.Vocabulary.{AreOfPages, BlackIsGuarded, Caller, CellsAreClosed, Config, DirtyIsOwed, Host}
 use Rattle.mk_laws.proofs.Vocabulary.{IsGuarded, Marker, Moment, Page, PageIsDirty, PointsWell, Seat, Stage, Step}
 use Rattle.mk_laws.proofs.Vocabulary.{Words, ℕ, all_below, all_below-at, and_parts, ap, arith, at_rest, bit_at}
@@ -64,14 +64,13 @@ black_bit w p k h lt is =
 
 pub closed : (c : Config) (m : Moment) (seat : Seat) → Known c m → AreOfPages c.pages m.words
     → Meets c m seat Step.Close → BlackIsGuarded c m → CellsAreClosed c m.words
-closed c m seat known len h black =
-    record {
-      registers = λ i. list_all-at _ m.words.registers 0 roots.0 (null_points_well c m.words) i;
-      globals = λ g. list_all-at _ m.words.globals 0 roots.1 (null_points_well c m.words) g;
-      words = λ cell i lt is scanned li.
-          let there = page cell.page (in_heap cell.page cell.index lt) in
-          settled _ (black cell.page cell.index i lt (black_bit m.words cell.page cell.index there lt is) scanned li);
-    }
+closed c m seat known len h black = record {
+  registers = λ i. list_all-at _ m.words.registers 0 roots.0 (null_points_well c m.words) i;
+  globals = λ g. list_all-at _ m.words.globals 0 roots.1 (null_points_well c m.words) g;
+  words = λ cell i lt is scanned li.
+      let there = page cell.page (in_heap cell.page cell.index lt) in
+      settled _ (black cell.page cell.index i lt (black_bit m.words cell.page cell.index there lt is) scanned li);
+}
   where
     parts : (all_below c.pages (has_closed_page m.words) ≡ true) × (roots_point_well c.pages m.words ≡ true)
     parts =

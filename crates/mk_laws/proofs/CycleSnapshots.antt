@@ -1,5 +1,5 @@
 -- Along a list without a `begin`, what was freed before the last one stays told by the flags.
-use Rattle.std.proofs.lemmas.List.{length-append}
+use Rattle.std.proofs.Common.{length-append}
 use Rattle.mk_laws.proofs.Vocabulary.{AreEnabledFrom, AreOfPages, Bool, Cell, Config, Event, IsQuarantined}
 use Rattle.mk_laws.proofs.Vocabulary.{IsWithinLimits, LayoutPremisesFrom, LayoutStands, List, None, Option}
 use Rattle.mk_laws.proofs.Vocabulary.{PlacedAllocation, Seat, Some, StandsInOrder, Step, World, ℕ, access}
@@ -101,11 +101,10 @@ record Tells (xs : List PlacedAllocation) (w : World) : Type 0 where
 tells_behind : (c : Config) (xs : List PlacedAllocation) (w : World) (seat : Seat) (x : Step) → Before c w
     → Meets c w.now seat x → LayoutStands c w → IsQuarantined c w → is_begin x ≡ false
     → Tells xs w → Tells xs (WorldBehind c w seat x)
-tells_behind c xs w seat x b h laid q out t =
-    record {
-      longer = let l = longer c w seat x in let m = t.longer in omega arith;
-      flags = λ i u. by i (flags_step c w seat x i b h laid q out u);
-    }
+tells_behind c xs w seat x b h laid q out t = record {
+  longer = let l = longer c w seat x in let m = t.longer in omega arith;
+  flags = λ i u. by i (flags_step c w seat x i b h laid q out u);
+}
   where
     by : (i : ℕ) → FlagsStep w (WorldBehind c w seat x) i
         → is_freed_before (placed_at (WorldBehind c w seat x).allocations i) ≡ is_quarantined (placed_at xs i)
@@ -116,14 +115,13 @@ tells_behind c xs w seat x b h laid q out t =
 
 -- at the `begin`
 tells_at_begin : (c : Config) (w : World) (seat : Seat) → Tells w.allocations (WorldBehind c w seat Step.Begin)
-tells_at_begin c w seat =
-    record {
-      longer = longer c w seat Step.Begin;
-      flags = λ i u.
-          let x = before_change c no_longer_fresh w.allocations i fresh_cells u in
-          let a : PlacedAllocation = placed_at w.allocations i in
-          rw x.now (sym (rw x.was));
-    }
+tells_at_begin c w seat = record {
+  longer = longer c w seat Step.Begin;
+  flags = λ i u.
+      let x = before_change c no_longer_fresh w.allocations i fresh_cells u in
+      let a : PlacedAllocation = placed_at w.allocations i in
+      rw x.now (sym (rw x.was));
+}
 
 -- what is known of a world, and of the events after it
 record Along (c : Config) (w : World) (es : List Event) : Type 0 where
@@ -177,8 +175,7 @@ after c w e behind a is none =
 
 pub snapshots_are_of_cycles : SnapshotsAreOfCycles
 snapshots_are_of_cycles c es limits on others begin none cycling i u =
-    let first : Along c (first_world c) es =
-    record {
+    let first : Along c (first_world c) es = record {
       limits = limits;
       lengths = zero_lengths c.pages;
       known = known_at_first c limits;

@@ -1,8 +1,8 @@
 -- On a dirty page, and on one whose dirty mark a call owes, an unreleased allocation stands. Only a `release` could end
 -- that, and at a `release` no page is dirty and no mark is owed.
-use Rattle.mk_laws.proofs.Vocabulary.{Answer, AreAdmitted, AreEnabledFrom, Bool, Call, Caller, Cell, Config, Decided}
-use Rattle.mk_laws.proofs.Vocabulary.{Event, Flight, HasAllocation, Host, IsHistory, IsWordOfMapped, List, Marker}
-use Rattle.mk_laws.proofs.Vocabulary.{Moment, None, OfHistories, Op, Option, Seat, Some, Stage, Step, World, ℕ}
+use Rattle.mk_laws.proofs.Vocabulary.{Answer, AreAdmitted, AreEnabledFrom, Bool, Caller, Cell, Config, Decided, Event}
+use Rattle.mk_laws.proofs.Vocabulary.{Flight, HasAllocation, Host, IsHistory, IsWordOfMapped, List, Marker, Moment}
+use Rattle.mk_laws.proofs.Vocabulary.{None, OfHistories, Op, Option, Seat, Some, Stage, Step, World, ℕ}
 use Rattle.mk_laws.proofs.Vocabulary.{admitted_in_parts, all_below-at, and_parts, ap, append-nil, arith, asked, at_rest}
 use Rattle.mk_laws.proofs.Vocabulary.{begun, call_decided, calls_from, cases_eq, cases_lt, comes_next, decided}
 use Rattle.mk_laws.proofs.Vocabulary.{earlier_part_is_history, enabled_in_parts, eqb-true, false, first_world}
@@ -219,8 +219,7 @@ mark_since c m (Caller j) x known h k at = elim (cases_eq k j) [
   | inl e ↦
       let lt = ltb-true j c.callers h.seat in
       let here : flight_of (Behind c m (Caller j) x) (Caller k) ≡ flight =
-      ap (λ i. slice_index_or (slice_set m.seats.flights j flight) i at_rest) e
-      ∙ get_or-set_same m.seats.flights j flight at_rest (omega (arith, known.orderly.flights)) in
+      cc (e, get_or-set_same m.seats.flights j flight at_rest (omega (arith, known.orderly.flights))) in
       elim (owes_since c m _ _ x h.order (ap (λ (f : Flight). f.stage) (sym here) ∙ at)) [
         | inl same ↦ inl (here ∙ same ∙ ap (λ i. flight_of m (Caller i)) (sym e))
         | inr new ↦ inr (new.0, sym (ap page_met here ∙ new.1))
@@ -269,18 +268,17 @@ module _ (c : Config) (w : World) (seat : Seat) (x : Step) (known : KnownWorld c
 
   stands_at_release : phase_of w.now.words ≡ 3 → is_dirty x ≡ false → is_heap_store x ≡ false
       → DirtyStands c (WorldBehind c w seat x)
-  stands_at_release three undirty unstored =
-      record {
-        dirty = λ p some. elim (dirty_since c w.now seat x p some) [
-          | inl was ↦ absurd (was (d.clean three p))
-          | inr marks ↦ absurd (true≢false (sym marks.0 ∙ undirty))
-        ];
-        owed = λ k at. elim (mark_since c w.now seat x known.now h k at) [
-          | inl same ↦ absurd (none_owes c w.now known.now three k (ap (λ (f : Flight). f.stage) (sym same) ∙ at))
-          | inr new ↦ absurd (true≢false (sym new.0 ∙ unstored))
-        ];
-        clean = clean_behind;
-      }
+  stands_at_release three undirty unstored = record {
+    dirty = λ p some. elim (dirty_since c w.now seat x p some) [
+      | inl was ↦ absurd (was (d.clean three p))
+      | inr marks ↦ absurd (true≢false (sym marks.0 ∙ undirty))
+    ];
+    owed = λ k at. elim (mark_since c w.now seat x known.now h k at) [
+      | inl same ↦ absurd (none_owes c w.now known.now three k (ap (λ (f : Flight). f.stage) (sym same) ∙ at))
+      | inr new ↦ absurd (true≢false (sym new.0 ∙ unstored))
+    ];
+    clean = clean_behind;
+  }
 
   mark_has : is_dirty x ≡ true → HasAllocation c w (page_met (flight_of w.now seat))
   mark_has is =
@@ -290,27 +288,26 @@ module _ (c : Config) (w : World) (seat : Seat) (x : Step) (known : KnownWorld c
   stands_behind : is_release x ≡ false
       → (is_heap_store x ≡ true → IsWordOfMapped c w.allocations (word_met (flight_of w.now seat)))
       → DirtyStands c (WorldBehind c w seat x)
-  stands_behind out stored =
-      record {
-        dirty = λ p some. allocation_stays c w seat x p out (elim (dirty_since c w.now seat x p some) [
-          | inl was ↦ d.dirty p was
-          | inr marks ↦ subst (HasAllocation c w) marks.1 (mark_has marks.0)
-        ]);
-        owed = λ k at. allocation_stays c w seat x _ out (elim (mark_since c w.now seat x known.now h k at) [
-          | inl same ↦ subst (λ (f : Flight). HasAllocation c w (page_met f)) (sym same)
-              (d.owed k (ap (λ (f : Flight). f.stage) (sym same) ∙ at))
-          | inr new ↦
-              let m = stored new.0 in
-              subst (HasAllocation c w) new.1 (record {
-                number = m.number;
-                unreleased = mapped_stays c (placed_at w.allocations m.number) m.mapped;
-                word = word_met (flight_of w.now seat);
-                of_it = m.word;
-                page = refl;
-              })
-        ]);
-        clean = clean_behind;
-      }
+  stands_behind out stored = record {
+    dirty = λ p some. allocation_stays c w seat x p out (elim (dirty_since c w.now seat x p some) [
+      | inl was ↦ d.dirty p was
+      | inr marks ↦ subst (HasAllocation c w) marks.1 (mark_has marks.0)
+    ]);
+    owed = λ k at. allocation_stays c w seat x _ out (elim (mark_since c w.now seat x known.now h k at) [
+      | inl same ↦ subst (λ (f : Flight). HasAllocation c w (page_met f)) (sym same)
+          (d.owed k (ap (λ (f : Flight). f.stage) (sym same) ∙ at))
+      | inr new ↦
+          let m = stored new.0 in
+          subst (HasAllocation c w) new.1 (record {
+            number = m.number;
+            unreleased = mapped_stays c (placed_at w.allocations m.number) m.mapped;
+            word = word_met (flight_of w.now seat);
+            of_it = m.word;
+            page = refl;
+          })
+    ]);
+    clean = clean_behind;
+  }
 
 -- One event, whatever it is.
 by_event : (c : Config) (w : World) (seat : Seat) (x : Step) → KnownWorld c w → Meets c w.now seat x → DirtyStands c w
@@ -325,14 +322,13 @@ Stands c es = DirtyStands c (left c es)
 
 first_stands : (c : Config) → Stands c []
 unfolding left_from
-first_stands c =
-    record {
-      dirty = λ p some. absurd (some (at_first c.pages p 0));
-      owed = λ k at.
-          let bad : Stage.Idle ≡ Stage.Dirty = sym (ap (λ (f : Flight). f.stage) (at_first c.callers k at_rest)) ∙ at in
-          absurd (true≢false (let y : true ≡ false = cc in y));
-      clean = λ three p. at_first c.pages p 0;
-    }
+first_stands c = record {
+  dirty = λ p some. absurd (some (at_first c.pages p 0));
+  owed = λ k at.
+      let bad : Stage.Idle ≡ Stage.Dirty = sym (ap (λ (f : Flight). f.stage) (at_first c.callers k at_rest)) ∙ at in
+      absurd (true≢false (let y : true ≡ false = cc in y));
+  clean = λ three p. at_first c.pages p 0;
+}
 
 -- A store is to a word of a mapped allocation.
 stores_told : (c : Config) (es : List Event) (e : Event) → IsHistory c (es ++ e ∷ []) → is_heap_store e.step ≡ true
@@ -341,11 +337,9 @@ unfolding AreEnabledFrom calls_from
 stores_told c es e h =
     let before = earlier_part_is_history c es (e ∷ []) h in
     let xs : List Decided = call_decided c (left c es).now e ++ [] in
-    let one : asked xs ≡ asked (call_decided c (left c es).now e) =
-    ap (λ (ys : List Decided). asked ys) (append-nil _) in
+    let one : asked xs ≡ asked (call_decided c (left c es).now e) = ap asked (append-nil _) in
     let admitted : AreAdmitted c.globals (never_behind c es) (asked (call_decided c (left c es).now e)) =
-    subst (λ (ys : List Call). AreAdmitted c.globals (never_behind c es) ys) one
-    ((admitted_in_parts c es (e ∷ [])).0 h.admitted).1 in
+    subst (AreAdmitted c.globals (never_behind c es)) one ((admitted_in_parts c es (e ∷ [])).0 h.admitted).1 in
     (told_to_zeros c (left c es) _ (known_world c es before.within_limits before.enabled)
     (histories_keep_the_invariant c es before) e (((enabled_in_parts c es (e ∷ [])).0 h.enabled).1.0) admitted).stored
 

@@ -10,20 +10,19 @@ use Rattle.mk_laws.proofs.{Releasing.layout_ended, Serving.Laid}
 -- While the phase isn't releasing, no cell is released, whatever the snapshot, the freed cells and the marks.
 pub unreleasing : (c : Config) (o : Object) (marks other : List ℕ) (t : Ground) (freed snapshot : List ℕ)
     → HasLayout c o false marks t → HasLayout c o false other (record t { freed = freed; snapshot = snapshot })
-unreleasing c o marks other t freed snapshot st =
-    record {
-      scene = let s = st.scene in record {
-        shown = s.shown;
-        apart = s.apart;
-        used = s.used;
-        plot = s.plot;
-        occupied = s.occupied;
-        later = s.later;
-      };
-      gone = st.gone;
-      first = st.first;
-      cells = st.cells;
-    }
+unreleasing c o marks other t freed snapshot st = record {
+  scene = let s = st.scene in record {
+    shown = s.shown;
+    apart = s.apart;
+    used = s.used;
+    plot = s.plot;
+    occupied = s.occupied;
+    later = s.later;
+  };
+  gone = st.gone;
+  first = st.first;
+  cells = st.cells;
+}
 
 -- The freed cells aren't read at all.
 pub refreed : (c : Config) (o : Object) (releasing : Bool) (marks : List ℕ) (t : Ground) (freed : List ℕ)
@@ -97,13 +96,12 @@ settled_page w count p h lt =
 -- `end`
 pub ended : (c : Config) (o : Object) (w : World) → length w.now.words.pages ≡ c.pages → Laid c o true w (ground_of w)
     → may_end c.pages w.now.words ≡ true → Laid c o false w (ground_of w)
-ended c o w len st h =
-    record {
-      scene = layout_ended _ st.scene (record {
-        none = λ p k lt. (settled_page w.now.words c.pages p h (omega (arith, len))).none k;
-        settled = λ p lt some empty. (settled_page w.now.words c.pages p h (omega (arith, len))).used some empty;
-      });
-      gone = st.gone;
-      first = st.first;
-      cells = st.cells;
-    }
+ended c o w len st h = record {
+  scene = layout_ended _ st.scene (record {
+    none = λ p k lt. (settled_page w.now.words c.pages p h (omega (arith, len))).none k;
+    settled = λ p lt some empty. (settled_page w.now.words c.pages p h (omega (arith, len))).used some empty;
+  });
+  gone = st.gone;
+  first = st.first;
+  cells = st.cells;
+}

@@ -140,8 +140,7 @@ module _ (c : Config) (w : World) (runs : RunsAreWhole c w) where
   word_cell (Some (LeafRun count)) p k i y shown lk li used is =
       run_word (LeafRun count) p k i y shown refl lk li used is
   word_cell (Some Free) p k i y shown lk li used is = absurd (omega arith)
-  word_cell (Some (Later d mapped)) p k i y shown lk li used is = absurd (omega arith)
-  word_cell None p k i y shown lk li used is = absurd (omega arith)
+  word_cell _ p k i y shown lk li used is = absurd (omega arith)
 
 module _ (c : Config) (w v : World) (n : NeverState) (known : KnownWorld c w) (all : Invariant c w n)
     (pages : v.now.words.pages ≡ w.now.words.pages)

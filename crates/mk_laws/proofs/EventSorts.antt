@@ -9,27 +9,26 @@ use Rattle.mk_laws.proofs.Vocabulary.{caller_number, cases_Bool, cases_eq, cases
 use Rattle.mk_laws.proofs.Vocabulary.{eqb-true, false, false≢true, flight_among, flight_of, fresh_leaves, get_or_past}
 use Rattle.mk_laws.proofs.Vocabulary.{global_at, has_bit, has_bit_without, if◌then◌else◌, image_of, image_scene_of, inl}
 use Rattle.mk_laws.proofs.Vocabulary.{inr, is_left_unmarked, is_marked, is_none_or, is_open_to, is_past_probe, is_put}
-use Rattle.mk_laws.proofs.Vocabulary.{is_run_cell, is_run_gone, is_some_and, is_unmapped, kinds_of, length, ltb-true}
-use Rattle.mk_laws.proofs.Vocabulary.{map, no_longer_fresh, none_freed, not, or_cases, or_parts, others_are_held}
-use Rattle.mk_laws.proofs.Vocabulary.{placed_at, pointed_cell, points_well, refl, released_leaves, set-get_or}
-use Rattle.mk_laws.proofs.Vocabulary.{slice_index, slice_index_or, slice_set, storage_holds, storage_words, subst, sym}
-use Rattle.mk_laws.proofs.Vocabulary.{tally_word, target, true, with_released, word_at, words_of, world_behind, ◌%◌}
-use Rattle.mk_laws.proofs.Vocabulary.{◌&&◌, ◌+◌, ◌/◌, ◌<◌, ◌==◌, ◌||◌, ◌∙◌, ◌≡◌, ◌≢◌}
+use Rattle.mk_laws.proofs.Vocabulary.{is_run_cell, is_some_and, is_unmapped, kinds_of, length, ltb-true, map}
+use Rattle.mk_laws.proofs.Vocabulary.{no_longer_fresh, none_freed, not, or_cases, or_parts, others_are_held, placed_at}
+use Rattle.mk_laws.proofs.Vocabulary.{pointed_cell, points_well, refl, released_leaves, set-get_or, slice_index}
+use Rattle.mk_laws.proofs.Vocabulary.{slice_index_or, slice_set, storage_holds, storage_words, subst, sym, tally_word}
+use Rattle.mk_laws.proofs.Vocabulary.{target, true, with_released, word_at, words_of, world_behind, ◌%◌, ◌&&◌, ◌+◌, ◌/◌}
+use Rattle.mk_laws.proofs.Vocabulary.{◌<◌, ◌==◌, ◌||◌, ◌∙◌, ◌≡◌, ◌≢◌}
 use Rattle.mk_never.specs.Types.{is_leaf, is_number}
 use Rattle.mk_core.proofs.ListTests.{list_all-at}
 use Rattle.mk_core.specs.ClosedMarks.{is_marked_allocation, is_scanned_allocation}
-use Rattle.mk_laws.proofs.Basics.{InCall, KnownWorld, Leads, Move, Ready, Releases, Renews, Stands, at_its_stage}
-use Rattle.mk_laws.proofs.Basics.{at_no_take, base_at, calls_stand, exists_placed, gate_in, grants_new, is_astray}
-use Rattle.mk_laws.proofs.Basics.{is_call_stage, not_astray, others_held, pointed_word, standing, unmapped_is, view_of}
-use Rattle.mk_laws.proofs.Basics.{words_fit}
+use Rattle.mk_laws.proofs.Basics.{KnownWorld, Leads, Move, Ready, Releases, Renews, Stands, at_its_stage, at_no_take}
+use Rattle.mk_laws.proofs.Basics.{base_at, calls_stand, exists_placed, grants_new, is_astray, is_call_stage, not_astray}
+use Rattle.mk_laws.proofs.Basics.{others_held, pointed_word, standing, unmapped_is, view_of, words_fit}
 use Rattle.mk_laws.proofs.CallSorts.{bare_on, begins, cas_leads_at, dirty_leads, enter_leads, getg_leads_at}
 use Rattle.mk_laws.proofs.CallSorts.{leave_leads, probe_leads_at, read_leads_at, reg_leads_at, setg_leads_at}
 use Rattle.mk_laws.proofs.CallSorts.{write_leads_at}
+use Rattle.mk_laws.proofs.ImagesBefore.{shown_in_call, type_is}
 use Rattle.mk_laws.proofs.TurnMoves.{full_by, grant_by, look_by, quar_by}
-use Rattle.mk_laws.proofs.{FreeMoves.same_places, GrantMoves.wiped_outside, ImagesBefore.pages_show}
-use Rattle.mk_laws.proofs.{ImagesBefore.type_is, ImagesHeldGates.others_idle, ImagesMoves.Rests, ImagesMoves.Wipes}
-use Rattle.mk_laws.proofs.{ImagesStands.gone_shows, NextSteps.at_take, NextSteps.of_turn, Pairs.shows_plain}
-use Rattle.mk_laws.proofs.{Stages.is_turn_stage, Stages.new_stands, Standings.Shows}
+use Rattle.mk_laws.proofs.{FreeMoves.same_places, GrantMoves.wiped_outside, ImagesHeldGates.others_idle}
+use Rattle.mk_laws.proofs.{ImagesMoves.Rests, ImagesMoves.Wipes, NextSteps.at_take, NextSteps.of_turn}
+use Rattle.mk_laws.proofs.{Pairs.shows_plain, Stages.is_turn_stage, Stages.new_stands}
 
 -- A release cuts the safe set to the marked allocations.
 
@@ -114,31 +113,30 @@ module _ (c : Config) (w : World) (n : NeverState) (known : KnownWorld c w) (mir
   cut_allocations = map (with_released c w.now.words) w.allocations
 
   cut_safe : IsSafeSet cut cut_allocations n
-  cut_safe =
-      record {
-        registers = λ k. root_cut (slice_index w.now.words.registers k) (slice_index_or n.registers k Null)
-            (marks.registers k)
-            (sym (shows_plain (flight_among w.now.seats.flights (k / 8)) (k % 8) (slice_index w.now.words.registers k)
-            (plain (k / 8))) ∙ ready.images.registers k) (mirrors.typed.registers k) (ready.set.registers k);
-        globals = λ g. root_cut (slice_index w.now.words.globals g) (global_at n g) (marks.globals g)
-            (ready.images.globals g) (mirrors.typed.globals g) (ready.set.globals g);
-        closed = λ a i ka mapped. let parts =
-            and_parts (safe a) (is_marked w.now.words (cell_of_allocation c (placed a))) ka in word_cut
-            a i parts.0 parts.1 mapped;
-        unreleased = λ a ka.
-            let parts = and_parts (safe a) (is_marked w.now.words (cell_of_allocation c (placed a))) ka
-            in
-            let u = ready.set.unreleased a parts.0 in
-            let x = placed a in
-            let cell = cell_of_allocation c x in
-            ap (λ (y : PlacedAllocation). y.released) (changed_at (with_released c w.now.words) w.allocations a refl)
-            ∙ ap (λ b. b || is_some_and (is_left_unmarked w.now.words)
-            (pointed_cell c.pages w.now.words.pages (address_of x.base))) u
-            ∙ ap (λ (y : Option Cell). is_some_and (is_left_unmarked w.now.words) y) (base_cell_is a u)
-            ∙ has_bit_without (slice_index w.now.words.snapshot cell.page) (slice_index w.now.words.marks cell.page)
-            cell.index ∙ and_right (has_bit (slice_index w.now.words.snapshot cell.page) cell.index)
-            (not (is_marked w.now.words cell)) (ap not parts.1);
-      }
+  cut_safe = record {
+    registers = λ k. root_cut (slice_index w.now.words.registers k) (slice_index_or n.registers k Null)
+        (marks.registers k)
+        (sym (shows_plain (flight_among w.now.seats.flights (k / 8)) (k % 8) (slice_index w.now.words.registers k)
+        (plain (k / 8))) ∙ ready.images.registers k) (mirrors.typed.registers k) (ready.set.registers k);
+    globals = λ g. root_cut (slice_index w.now.words.globals g) (global_at n g) (marks.globals g)
+        (ready.images.globals g) (mirrors.typed.globals g) (ready.set.globals g);
+    closed = λ a i ka mapped. let parts =
+        and_parts (safe a) (is_marked w.now.words (cell_of_allocation c (placed a))) ka in word_cut
+        a i parts.0 parts.1 mapped;
+    unreleased = λ a ka.
+        let parts = and_parts (safe a) (is_marked w.now.words (cell_of_allocation c (placed a))) ka
+        in
+        let u = ready.set.unreleased a parts.0 in
+        let x = placed a in
+        let cell = cell_of_allocation c x in
+        ap (λ (y : PlacedAllocation). y.released) (changed_at (with_released c w.now.words) w.allocations a refl)
+        ∙ ap (λ b. b || is_some_and (is_left_unmarked w.now.words)
+        (pointed_cell c.pages w.now.words.pages (address_of x.base))) u
+        ∙ ap (λ (y : Option Cell). is_some_and (is_left_unmarked w.now.words) y) (base_cell_is a u)
+        ∙ has_bit_without (slice_index w.now.words.snapshot cell.page) (slice_index w.now.words.marks cell.page)
+        cell.index ∙ and_right (has_bit (slice_index w.now.words.snapshot cell.page) cell.index)
+        (not (is_marked w.now.words cell)) (ap not parts.1);
+  }
 
   pub releases : Move safe (image_scene_of w) n
       (record (image_scene_of w) { allocations = map (with_released c w.now.words) w.allocations }) n
@@ -246,25 +244,11 @@ module _ (c : Config) (w : World) (n : NeverState) (known : KnownWorld c w) (mir
   astray_not : (k : ℕ) → k < c.callers → is_astray (standing (flight_of w.now (Caller k))) ≡ false
   astray_not k lt = not_astray c w.now known.now.orderly k lt
 
-  -- who is in a call finds freed runs gone
-  gone_for : (k : ℕ) → k < c.callers → standing (flight_of w.now (Caller k)) ≡ InCall
-      → is_run_gone w.now.words w.now.seats.holding.freed ≡ true
-  gone_for k lt in_call = elim (cases_Bool (is_run_gone w.now.words w.now.seats.holding.freed)) [
-    | inl e ↦ e
-    | inr e ↦
-        let s : Shows w.now.words.turn (gate_in (view_of w.now) k) k InCall =
-        rw in_call at (known.now.orderly.each k lt) in
-        let g = others.gates e k lt s.1 in
-        let one = s.0 in
-        absurd (omega arith)
-  ]
-
   quiet_at : (k p v : ℕ) → MeetsOf c w (Caller k) (Step.Quar p v)
       → is_run_cell w.now.words (target c.pages w.now.words (flight_of w.now (Caller k))) ≡ true → (j : ℕ) → j ≢ k
       → is_past_probe (flight_among w.now.seats.flights j).stage ≡ false
   quiet_at k p v h run j ne =
-      let held : others_are_held c.callers w.now.words (Caller k) ≡ true =
-      either_held _ _ run h.gates in
+      let held : others_are_held c.callers w.now.words (Caller k) ≡ true = either_held _ _ run h.gates in
       ap is_past_probe (others_idle c (view_of w.now) k known.now.orderly (others_held c w.now (Caller k) held) j ne)
     where
       either_held : (a b : Bool) → a ≡ true → (not a || b) ≡ true → b ≡ true
@@ -288,7 +272,7 @@ module _ (c : Config) (w : World) (n : NeverState) (known : KnownWorld c w) (mir
       let in_call = calls_stand f.stage f.op (ap is_call_stage (at_its_stage f.stage f.op Step.Probe refl h.order))
       (astray_not k lt) in
       probe_leads_at c w n known mirrors safe ready k
-      (pages_show c w n known mirrors st (gone_shows c w known.limits others (gone_for k lt in_call))) h ad
+      (shown_in_call c w n known mirrors others st k lt in_call) h ad
   caller_goes k Step.Read h ad = read_leads_at c w n known mirrors safe ready k h ad
   caller_goes k Step.Write h ad = write_leads_at c w n known mirrors safe ready k h ad
   caller_goes k Step.Cas h ad = cas_leads_at c w n known mirrors safe ready k h ad

@@ -4,9 +4,9 @@ use Rattle.mk_laws.proofs.Vocabulary.{Answer, AreAdmitted, AreEnabledFrom, Bool,
 use Rattle.mk_laws.proofs.Vocabulary.{ImagePremisesAlong, IsAdmitted, IsHistory, MeetsAll, Mirrors, NeverState, Op}
 use Rattle.mk_laws.proofs.Vocabulary.{Some, Stage, Step, Value, WordOf, World, ℕ, admitted_in_parts, answer_decided, ap}
 use Rattle.mk_laws.proofs.Vocabulary.{asked, call_decided, calls_from, earlier_part_is_history, enabled_in_parts}
-use Rattle.mk_laws.proofs.Vocabulary.{enabled_meets, false, flight_of, is_same, is_under_turn, left, ltb-true, one_if}
-use Rattle.mk_laws.proofs.Vocabulary.{refl, register_at, slice_index, sym, target_of, true, word_at, word_met, ◌++◌}
-use Rattle.mk_laws.proofs.Vocabulary.{◌==◌, ◌↔◌, ◌∙◌, ◌∷◌, ◌≡◌}
+use Rattle.mk_laws.proofs.Vocabulary.{enabled_meets, false, flight_of, is_same, is_under_turn, ltb-true, one_if, refl}
+use Rattle.mk_laws.proofs.Vocabulary.{register_at, slice_index, sym, target_of, true, word_at, word_met, ◌++◌, ◌==◌}
+use Rattle.mk_laws.proofs.Vocabulary.{◌↔◌, ◌∙◌, ◌∷◌, ◌≡◌}
 use Rattle.mk_never.proofs.Sameness.{equal_from_same, same_from_equal}
 use Rattle.mk_laws.proofs.Basics.{KnownWorld, at_its_stage, flight, known_world, ready_of, stands_of}
 use Rattle.mk_laws.proofs.CallSorts.{admitted_call, own_registers, there_is}

@@ -246,22 +246,21 @@ module _ (c : Config) (w : World) (known : KnownWorld c w) (laid : LayoutStands 
 
   pub say_to_images : IsQuarantined c w → HasZeros c w → HoldsRunGates c w
       → (phase_of w.now.words ≡ 3 → MarksAreClosed c w) → ImagePremises c w
-  say_to_images q zeros gates marks =
-      record {
-        laid_out = laid_out;
-        apart = bases_apart;
-        taken = taken;
-        freed_run = freed_run;
-        gates = gates;
-        shown = q.shown;
-        freed = λ cell is. elim (q.owned cell.page cell.index is) [
-          | inl f ↦ inl (record { number = f.number; unreleased = f.unreleased; freed = f.freed; cell = f.cell })
-          | inr r ↦ inr (released_is w cell ∙ r)
-        ];
-        kept = λ i u. released_is w (cell_of_allocation c (placed_at xs i)) ∙ kept_at i u _ refl;
-        zero_words = zeros_tell_the_images c w zeros;
-        marks = marks;
-      }
+  say_to_images q zeros gates marks = record {
+    laid_out = laid_out;
+    apart = bases_apart;
+    taken = taken;
+    freed_run = freed_run;
+    gates = gates;
+    shown = q.shown;
+    freed = λ cell is. elim (q.owned cell.page cell.index is) [
+      | inl f ↦ inl (record { number = f.number; unreleased = f.unreleased; freed = f.freed; cell = f.cell })
+      | inr r ↦ inr (released_is w cell ∙ r)
+    ];
+    kept = λ i u. released_is w (cell_of_allocation c (placed_at xs i)) ∙ kept_at i u _ refl;
+    zero_words = zeros_tell_the_images c w zeros;
+    marks = marks;
+  }
     where
       kept_at : (i : ℕ) → (placed_at xs i).released ≡ false → (b : Bool) → is_phase w.now.words 4 ≡ b
           → is_released_in b w.now.words.snapshot w.now.words.marks (cell_of_allocation c (placed_at xs i)).page

@@ -56,14 +56,13 @@ run_cell_at pages header value distance o part large =
 unmapped_goes : (pages before after distance : ℕ) (o : Object) → is_small_object o ≡ false
     → ShowsPart o distance (header_of before) → ShowsPart o distance (header_of after)
     → is_unmapped_header (header_of after) ≡ true → HeaderGoesOn pages before after
-unmapped_goes pages before after distance o large b a unmapped =
-    record {
-      cell = λ v y is. run_cell_at pages after v distance o a large
-          ∙ sym (run_cell_at pages before v distance o b large) ∙ is;
-      count = λ some. same_cells o distance _ _ a b;
-      words = λ some. same_words o distance _ _ a b;
-      unscanned = λ some t. rw unmapped (or-true _);
-    }
+unmapped_goes pages before after distance o large b a unmapped = record {
+  cell = λ v y is. run_cell_at pages after v distance o a large
+      ∙ sym (run_cell_at pages before v distance o b large) ∙ is;
+  count = λ some. same_cells o distance _ _ a b;
+  words = λ some. same_words o distance _ _ a b;
+  unscanned = λ some t. rw unmapped (or-true _);
+}
 
 unmaps_find : (c : Config) (w : Words) (freed : Option RunPages) (p n : ℕ)
     → ((run : RunPages) → freed ≡ Some run → RunHasObject w run) → Unmaps w freed p n → HeadFinds c.pages w p n

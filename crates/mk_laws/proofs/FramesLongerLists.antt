@@ -133,8 +133,7 @@ module _ (c : Config) (es more : List Event) (k : ℕ) (x : Step) (h : IsHistory
       (not_astray c w.now here.known.now.orderly k lt)
 
   is_in : x ≡ Step.Probe → IsInCall w.now (Caller k)
-  is_in is = sym (in_call_told f.stage f.op (not_astray c w.now here.known.now.orderly k lt))
-      ∙ ap is_standing_in_call (in_call is)
+  is_in is = cc (in_call_told f.stage f.op (not_astray c w.now here.known.now.orderly k lt), in_call is)
 
   pub probes_the_same : x ≡ Step.Probe → probed v.now.words f ≡ probed w.now.words f
   probes_the_same is = elim (cases_Bool (probed w.now.words f)) [
@@ -238,13 +237,12 @@ splits_last (a ∷ xs) e (y ∷ ys) x zs is = one_longer a y xs e ys x (cc) (spl
 
 pub tallies_on : (c : Config) (es fs : List Event) → TurnIsLeft (left c es) (left c fs) → CountsAreLeft c es fs
     → TalliesAreTidy c es → TalliesAreTidy c fs
-tallies_on c es fs kept counts tidy =
-    record {
-      cycles = ap (λ (s : Steady). s.cycles) kept.steady ∙ tidy.cycles ∙ ap in_a_word (sym counts.ends);
-      released = ap (λ (s : Steady). s.released) kept.steady ∙ tidy.released
-          ∙ ap (λ (s : Steady). in_a_word (releases s.allocations)) (sym kept.steady);
-      full = ap (λ (s : Steady). s.full) kept.steady ∙ tidy.full ∙ ap in_a_word (sym counts.fulls);
-    }
+tallies_on c es fs kept counts tidy = record {
+  cycles = ap (λ (s : Steady). s.cycles) kept.steady ∙ tidy.cycles ∙ ap in_a_word (sym counts.ends);
+  released = ap (λ (s : Steady). s.released) kept.steady ∙ tidy.released
+      ∙ ap (λ (s : Steady). in_a_word (releases s.allocations)) (sym kept.steady);
+  full = ap (λ (s : Steady). s.full) kept.steady ∙ tidy.full ∙ ap in_a_word (sym counts.fulls);
+}
 
 -- The tallies are as they should be before each `give` of the longer list, and before the event where it is one.
 pub tidy_by_last : (c : Config) (xs : List Event) (e : Event) → IsTidy c xs → (e.step ≡ Step.Give → TalliesAreTidy c xs)

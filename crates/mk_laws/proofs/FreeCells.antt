@@ -105,8 +105,7 @@ within_cells : (o : Object) (distance base n : ℕ) (x : Option Header) → Show
 within_cells o distance base n x (OfBlock first small leaf) b at to = small_within o base n b small (omega arith) to
 within_cells o distance base n x (OfLeafBlock first small leaf) b at to = small_within o base n b small (omega arith) to
 within_cells o distance base n x (OfRun mapped first large leaf) b at to = omega arith
-within_cells o distance base n x (OfLeafRun first large leaf) b at to = omega arith
-within_cells o distance base n x (OfLater mapped far large) b at to = omega arith
+within_cells o distance base n x _ b at to = omega arith
 
 module _ (c : Config) (w : World) (n : NeverState) (known : KnownWorld c w) (all : Invariant c w n) where
   on_page : (x : ℕ) (one : IsOfOne c w x) → OnPage w.now.words (object_placed c (placed_at w.allocations one.number))
@@ -136,12 +135,11 @@ module _ (c : Config) (w : World) (n : NeverState) (known : KnownWorld c w) (all
 
   taken_by : (cell : Cell) (x : ℕ) (one : IsOfOne c w x) → cell.index < cells_under (header_in w.now.words cell.page)
       → (placed_at w.allocations one.number).base ≡ first_word w.now.words cell → IsTaken w cell
-  taken_by cell x one lt first =
-      record {
-        number = one.number;
-        in_range = lt;
-        stands = and_from _ _ (ap not one.unreleased) (eq-eqb (placed_at w.allocations one.number).base _ first);
-      }
+  taken_by cell x one lt first = record {
+    number = one.number;
+    in_range = lt;
+    stands = and_from _ _ (ap not one.unreleased) (eq-eqb (placed_at w.allocations one.number).base _ first);
+  }
 
   -- What has a word of a run begins where the run does.
   in_run : (o : Object) (base : ℕ) (cell : Cell) (i : ℕ) → OnPage w.now.words o base (first_word w.now.words cell + i)

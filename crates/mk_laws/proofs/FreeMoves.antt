@@ -24,12 +24,11 @@ same_bases change (a ∷ xs) h = rw (h.base a) (rw (same_bases change xs h))
 
 pub same_places : (change : PlacedAllocation → PlacedAllocation) (xs : List PlacedAllocation) → LeavesPlaces change
     → SamePlaces xs (map change xs)
-same_places change xs h =
-    record {
-      bases = same_bases change xs h;
-      count = length-map xs change;
-      each = λ i. rw (changed_at change xs i h.none) (h.ty _);
-    }
+same_places change xs h = record {
+  bases = same_bases change xs h;
+  count = length-map xs change;
+  each = λ i. rw (changed_at change xs i h.none) (h.ty _);
+}
 
 abbrev is_freed_in : Words → Option Cell → Bool
 is_freed_in w (Some cell) = is_freed w cell

@@ -29,16 +29,15 @@ module _ (c : Config) (w : World) (n : NeverState) (known : KnownWorld c w) (all
   none_freed p z k bit = absurd (omega (arith, no_cells p z, all.order.known p k bit))
 
   free_page : DirtyPagesHaveAllocations c w → (p : ℕ) → header_at w.now.words p ≡ 0 → HasNothing w.now.words p
-  free_page dirty p z =
-      record {
-        used = free_unused _ p all.order.laid.scene z;
-        freed = zero_where_none _ (none_freed p z);
-        snapshot = zero_where_none _ (λ k bit. none_freed p z k (all.order.quarantined.within p k bit));
-        dirty = elim (cases_eq (slice_index w.now.words.dirty p) 0) [
-          | inl is ↦ is
-          | inr some ↦ absurd (allocation_shows p (dirty p some) z)
-        ];
-      }
+  free_page dirty p z = record {
+    used = free_unused _ p all.order.laid.scene z;
+    freed = zero_where_none _ (none_freed p z);
+    snapshot = zero_where_none _ (λ k bit. none_freed p z k (all.order.quarantined.within p k bit));
+    dirty = elim (cases_eq (slice_index w.now.words.dirty p) 0) [
+      | inl is ↦ is
+      | inr some ↦ absurd (allocation_shows p (dirty p some) z)
+    ];
+  }
 
 pub dirty_pages_have_allocations : OfHistories (Leaves DirtyPagesHaveAllocations)
 dirty_pages_have_allocations c es h = (dirty_stands c es h).dirty

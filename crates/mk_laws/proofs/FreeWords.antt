@@ -1,6 +1,6 @@
 -- While the phase isn't releasing, a word that isn't 0 is one of an unreleased allocation.
 use Rattle.mk_laws.proofs.Vocabulary.{Config, Invariant, IsFreedWord, IsWordOf, IsWordOfMapped, Leaves, MayHold}
-use Rattle.mk_laws.proofs.Vocabulary.{NeverState, Object, OfFreedRun, OfHistories, OfMapped, OfReleased, Option}
+use Rattle.mk_laws.proofs.Vocabulary.{NeverState, Object, OfFreedRun, OfHistories, OfMapped, OfReleased}
 use Rattle.mk_laws.proofs.Vocabulary.{PlacedAllocation, RunPages, Some, Words, World, ℕ, all_below-at, and_parts, ap}
 use Rattle.mk_laws.proofs.Vocabulary.{arith, cases_eq, eqb-true, false, inl, inr, is_run_gone, is_run_unmapped}
 use Rattle.mk_laws.proofs.Vocabulary.{large_words, leb-true, left, ltb-true, object_placed, pages_made, phase_of}
@@ -48,8 +48,7 @@ module _ (c : Config) (w : World) (n : NeverState) (known : KnownWorld c w) (all
       let o : Object = object_placed c a in
       let stands = (standing c w known all.order.laid run.number run.unreleased).stands in
       let aligned = (run_begins o a.base run.large stands.begins).1 in
-      let word : is_in_run (run_of_allocation c a) x ≡ true = ap (λ (r : RunPages). is_in_run r x) (sym run.is)
-      ∙ f.word in
+      let word : is_in_run (run_of_allocation c a) x ≡ true = cc (run.is, f.word) in
       let at = in_run _ x word in
       record {
         number = run.number;
@@ -58,12 +57,11 @@ module _ (c : Config) (w : World) (n : NeverState) (known : KnownWorld c w) (all
       }
 
   of_mapped : (x : ℕ) → IsWordOfMapped c w.allocations x → IsOfOne c w x
-  of_mapped x m =
-      record {
-        number = m.number;
-        unreleased = mapped_stays c (placed_at w.allocations m.number) m.mapped;
-        word = m.word;
-      }
+  of_mapped x m = record {
+    number = m.number;
+    unreleased = mapped_stays c (placed_at w.allocations m.number) m.mapped;
+    word = m.word;
+  }
 
   -- A word that isn't 0 is one of an unreleased allocation,
   pub of_one : phase_of w.now.words ≢ 4 → (x : ℕ) → slice_index w.now.words.heap x ≢ 0 → IsOfOne c w x

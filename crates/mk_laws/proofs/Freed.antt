@@ -1,5 +1,5 @@
 -- `quar` (a) on the terrain: an object is freed, and the run that a call freed is gone.
-use Rattle.std.proofs.lemmas.List.{map-id}
+use Rattle.std.proofs.Common.{map-id}
 use Rattle.mk_laws.proofs.Vocabulary.{Among, Bool, Cell, Claim, Config, HasHeader, Header, IsClaimedRun, IsShown}
 use Rattle.mk_laws.proofs.Vocabulary.{IsSized, IsWithinLimits, None, Object, OfBlock, OfLater, OfLeafBlock, OfLeafRun}
 use Rattle.mk_laws.proofs.Vocabulary.{OfRun, Option, PlacedAllocation, RunPages, RunStands, ShowsPart, Some, Words}
@@ -113,14 +113,13 @@ module _ (c : Config) (o : Object) (w : World) (cell : Cell) (limits : IsWithinL
       → stands_in w.now.words cell (placed_at w.allocations i) ≡ true
       → is_small_object (object_placed c (placed_at w.allocations i)) ≡ false
       → is_unmapping run ((placed_at w.allocations i).base / 64) ≡ true) → Remodes c (ground_of w) run frees
-  modes run going =
-      record {
-        leaves = freeing_leaves w.now.words (Some cell);
-        keeps = keeps;
-        headers = λ i u d ld has.
-            at (placed_at w.allocations i) d (header_at w.now.words ((placed_at w.allocations i).base / 64 + d))
-            (stands_in w.now.words cell (placed_at w.allocations i)) refl (going i u) (rw none at has);
-      }
+  modes run going = record {
+    leaves = freeing_leaves w.now.words (Some cell);
+    keeps = keeps;
+    headers = λ i u d ld has.
+        at (placed_at w.allocations i) d (header_at w.now.words ((placed_at w.allocations i).base / 64 + d))
+        (stands_in w.now.words cell (placed_at w.allocations i)) refl (going i u) (rw none at has);
+  }
     where
       at : (a : PlacedAllocation) (d h : ℕ) (b : Bool) → stands_in w.now.words cell a ≡ b
           → (stands_in w.now.words cell a ≡ true → is_small_object (object_placed c a) ≡ false

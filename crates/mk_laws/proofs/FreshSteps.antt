@@ -1,5 +1,5 @@
 -- The count of fresh words that is kept beside the table is that of the allocations, after each kind of event.
-use Rattle.std.specs.Prelude.{min}
+use Rattle.std.proofs.Common.{min}
 use Rattle.mk_laws.proofs.Vocabulary.{Bool, Cell, Config, Header, KeepsSnapshot, List, None, Object, Option}
 use Rattle.mk_laws.proofs.Vocabulary.{PlacedAllocation, Seat, ShowsPart, Some, StandsInOrder, Step, World, ℕ, and_parts}
 use Rattle.mk_laws.proofs.Vocabulary.{ap, arith, cases_lt, cell_freed, cell_of_allocation, changed_at, cond-true, false}

@@ -1,9 +1,9 @@
 -- The words of the place of a New are 0 when it is granted, and a wiped word is in no mapped allocation.
-use Rattle.mk_laws.proofs.Vocabulary.{Bool, Cell, Config, ImagePremises, IsPlaceOfNone, MayHoldWords, Mirrors}
-use Rattle.mk_laws.proofs.Vocabulary.{NeverState, None, Option, Place, PlacedAllocation, RunPages, Some, Words, World}
-use Rattle.mk_laws.proofs.Vocabulary.{ℕ, address_of, all_below-at, allocation_at, and_parts, ap, arith, base_made}
+use Rattle.mk_laws.proofs.Vocabulary.{Bool, Config, ImagePremises, IsPlaceOfNone, MayHoldWords, Mirrors, NeverState}
+use Rattle.mk_laws.proofs.Vocabulary.{None, Option, Place, PlacedAllocation, RunPages, Some, Words, World, ℕ}
+use Rattle.mk_laws.proofs.Vocabulary.{address_of, all_below-at, allocation_at, and_parts, ap, arith, base_made}
 use Rattle.mk_laws.proofs.Vocabulary.{cases_eq, cell_of_allocation, cells_begin, eqb-true, false, false≢true}
-use Rattle.mk_laws.proofs.Vocabulary.{first_word, header_at, header_in, header_of, inl, inr, is_left_unmarked, is_phase}
+use Rattle.mk_laws.proofs.Vocabulary.{first_word, header_in, header_of, inl, inr, is_left_unmarked, is_phase}
 use Rattle.mk_laws.proofs.Vocabulary.{is_released_cell, is_run_unmapped, is_some_and, is_unmapped, is_unmapped_header}
 use Rattle.mk_laws.proofs.Vocabulary.{large_count, leb-true, length, ltb-true, nat_le, nat_lt, not, object_placed}
 use Rattle.mk_laws.proofs.Vocabulary.{or_cases, pages_made, phase_of, placed_at, pointed_cell, refl, slice_index}

@@ -53,16 +53,15 @@ pub granted_terrain : (c : Config) (releasing : Bool) (marks : List ℕ) (t : Gr
     (a : PlacedAllocation) → t.placing ≡ Used place → IsGrantedAt c a place
     → HasLayout c (object_placed c a) releasing marks t → HasLayout c (object_placed c a) releasing marks
     (record t { placing = Granted; allocations = t.allocations ++ a ∷ [] })
-granted_terrain c releasing marks t place a used is st =
-    record {
-      scene = rw claims at was;
-      gone = gone t.run st.gone;
-      first = tt;
-      cells = λ i u. elim (pushed_at t.allocations a i u) [
-        | inl old ↦ rw old.1 (st.cells i old.0)
-        | inr new ↦ rw new (record { typed = is.typed; begins = begins })
-      ];
-    }
+granted_terrain c releasing marks t place a used is st = record {
+  scene = rw claims at was;
+  gone = gone t.run st.gone;
+  first = tt;
+  cells = λ i u. elim (pushed_at t.allocations a i u) [
+    | inl old ↦ rw old.1 (st.cells i old.0)
+    | inr new ↦ rw new (record { typed = is.typed; begins = begins })
+  ];
+}
   where
     was : IsLaidOn (record (layout_scene_of c (object_placed c a) releasing marks t)
         { claims = claims_of c t.run t.allocations ++ place_claim (object_placed c a) place ∷ []; plot = NoPlot })
@@ -88,12 +87,11 @@ granted_terrain c releasing marks t place a used is st =
     gone : (r : Option RunPages) → RunStands (claims_of c t.run t.allocations) r
         → RunStands (claims_of c t.run (t.allocations ++ a ∷ [])) r
     gone None x = tt
-    gone (Some r) x =
-        record {
-          claim = x.claim;
-          among = rw (pushed_claims c t.run t.allocations a is.unreleased) (among_front _ _ x.claim x.among);
-          page = x.page;
-          count = x.count;
-          large = x.large;
-          mode = x.mode;
-        }
+    gone (Some r) x = record {
+      claim = x.claim;
+      among = rw (pushed_claims c t.run t.allocations a is.unreleased) (among_front _ _ x.claim x.among);
+      page = x.page;
+      count = x.count;
+      large = x.large;
+      mode = x.mode;
+    }

@@ -52,14 +52,13 @@ closed_word c w a limits st closed leaf marked n inside =
 pub closed_allocations : (c : Config) (w : World) → IsWithinLimits c
     → ((i : ℕ) → is_mapped c (placed_at w.allocations i) ≡ true
     → StandsMapped c w.now.words (placed_at w.allocations i)) → CellsAreClosed c w.now.words → MarksAreClosed c w
-closed_allocations c w limits stand closed =
-    record {
-      registers = closed.registers;
-      globals = closed.globals;
-      words = λ i n scanned marked inside.
-          let parts = and_parts _ _ scanned in
-          closed_word c w.now.words _ limits (stand i parts.0) closed (not-true _ parts.1) marked n inside;
-    }
+closed_allocations c w limits stand closed = record {
+  registers = closed.registers;
+  globals = closed.globals;
+  words = λ i n scanned marked inside.
+      let parts = and_parts _ _ scanned in
+      closed_word c w.now.words _ limits (stand i parts.0) closed (not-true _ parts.1) marked n inside;
+}
 
 pub events_keep_the_marks : EventsKeepTheMarks
 events_keep_the_marks c es e limits on enabled say g =
@@ -104,13 +103,12 @@ marking_guards c m g early = (g.guarded (elim early [
 ])).black
 
 pub others_at_first : GuardPremisesAtFirst
-others_at_first c =
-    record {
-      place = λ early seat place now. absurd (not_early early);
-      freed = λ early run is. absurd (not_early early);
-      later = λ early p count distance is some lt. absurd (not_early early);
-      mapped = λ i is. cc;
-    }
+others_at_first c = record {
+  place = λ early seat place now. absurd (not_early early);
+  freed = λ early run is. absurd (not_early early);
+  later = λ early p count distance is some lt. absurd (not_early early);
+  mapped = λ i is. cc;
+}
   where
     not_early : (◌≡◌ {A = ℕ} 0 1) ⊎ (◌≡◌ {A = ℕ} 0 2) → ⊥
     not_early (inl e) = absurd (omega arith)

@@ -1,13 +1,11 @@
 -- What the markers are in the middle of stands after an event that keeps what is guarded.
-use Rattle.mk_laws.proofs.Vocabulary.{AreOfPages, Bool, Caller, Cell, Config, Host, List, Marker, MarkerStands}
-use Rattle.mk_laws.proofs.Vocabulary.{MarkerState, Moment, None, Option, Seat, SeenHeader, Some, Step, Word, ℕ}
-use Rattle.mk_laws.proofs.Vocabulary.{and_parts, arith, behind_mlook, bit_or, cell_at, cell_seen, false, found}
-use Rattle.mk_laws.proofs.Vocabulary.{header_at, if◌then◌else◌, is_attending, is_none, is_some, marker_behind}
-use Rattle.mk_laws.proofs.Vocabulary.{marker_of, page_at_address, refl, slice_index, slice_set, sym, true, ◌<◌, ◌==◌}
-use Rattle.mk_laws.proofs.Vocabulary.{◌≡◌}
-use Rattle.mk_core.specs.declared.seats.Presence.TheVariants.{Out}
+use Rattle.mk_laws.proofs.Vocabulary.{AreOfPages, Bool, Caller, Cell, Config, Host, Marker, MarkerStands, MarkerState}
+use Rattle.mk_laws.proofs.Vocabulary.{Moment, None, Option, Seat, SeenHeader, Some, Step, Word, ℕ, and_parts, arith}
+use Rattle.mk_laws.proofs.Vocabulary.{behind_mlook, cell_at, cell_seen, false, found, header_at, if◌then◌else◌}
+use Rattle.mk_laws.proofs.Vocabulary.{is_attending, is_none, is_some, marker_behind, marker_of, page_at_address, refl}
+use Rattle.mk_laws.proofs.Vocabulary.{sym, true, ◌<◌, ◌==◌, ◌≡◌}
 use Rattle.mk_core.proofs.{PointedPages.cell_within, WordBits.bit_for_has, WordBits.bits_added}
-use Rattle.mk_core.specs.MarkerConditions.{is_markers_word}
+use Rattle.mk_core.specs.{MarkerConditions.is_markers_word, declared.seats.Presence.TheVariants.Out}
 use Rattle.mk_laws.proofs.Scans.{claim_stands, idle_stands, load_stands, look_stands, mark_stands, seen_well}
 use Rattle.mk_laws.proofs.Scans.{unscanning_stands, unseen_stands}
 use Rattle.mk_laws.proofs.{Basics.Behind, Basics.Keeps, Basics.Meets, Basics.marker_set, KeptGuard.marker_kept}
@@ -47,10 +45,6 @@ looks : (c : Config) (m : Moment) (x : Word) (y : MarkerState) (f : ℕ)
     → MarkerStands c m (behind_mlook c f x y)
 looks c m (Word.Head p) y f is h = rw (is p refl) (look_stands c m p y h)
 looks c m _ y f is h = unseen_stands c m y h
-
--- the marks with these bits more on a page
-abbrev marks_with : List ℕ → ℕ → ℕ → List ℕ
-marks_with marks page bits = slice_set marks page (bit_or (slice_index marks page) bits)
 
 -- a marker's own step
 own_marker : (c : Config) (m : Moment) (k : ℕ) (x : Step) → AreOfPages c.pages m.words → Meets c m (Marker k) x

@@ -152,17 +152,16 @@ undirty_kind c w seat q len early say h black p k i lt is scanned li =
 
 keeps_of : (c : Config) (m : Moment) (seat : Seat) (x : Step) → Known c m → AreOfPages c.pages m.words
     → IsMarking m.words → Meets c m seat x → is_head x ≡ false → is_undirty x ≡ false → Keeps c m (Behind c m seat x)
-keeps_of c m seat x known len early h no_head no_clean =
-    record {
-      wells = wells_from c m.words (Behind c m seat x).words (headers_kind c m seat x no_head)
-          (marks_kind c m seat x early h);
-      heap = heap_kind c m seat x known h;
-      dirty = dirty_kind c m seat x no_clean;
-      owed = owed_kind c m seat x len h;
-      headers = λ p. goes_equal c.pages (header_at m.words p) (header_at (Behind c m seat x).words p)
-          (headers_kind c m seat x no_head p);
-      marks = marks_kind c m seat x early h;
-    }
+keeps_of c m seat x known len early h no_head no_clean = record {
+  wells = wells_from c m.words (Behind c m seat x).words (headers_kind c m seat x no_head)
+      (marks_kind c m seat x early h);
+  heap = heap_kind c m seat x known h;
+  dirty = dirty_kind c m seat x no_clean;
+  owed = owed_kind c m seat x len h;
+  headers = λ p. goes_equal c.pages (header_at m.words p) (header_at (Behind c m seat x).words p)
+      (headers_kind c m seat x no_head p);
+  marks = marks_kind c m seat x early h;
+}
 
 keeps_head : (c : Config) (w : World) (seat : Seat) (p n : ℕ) → IsWithinLimits c → Known c w.now
     → AreOfPages c.pages w.now.words → IsMarking w.now.words → GuardPremises c w → Meets c w.now seat (Step.Head p n)
@@ -228,20 +227,18 @@ markers_behind c w seat x limits known len early say h g j at = rest x h refl re
 guard_behind : (c : Config) (w : World) (seat : Seat) (x : Step) → IsWithinLimits c → Known c w.now
     → AreOfPages c.pages w.now.words
     → IsMarking w.now.words → GuardPremises c w → Meets c w.now seat x → Guard c w.now → Guard c (Behind c w.now seat x)
-guard_behind c w seat x limits known len early say h g =
-    record {
-      black = black_behind c w seat x limits known len early say h g;
-      markers = markers_behind c w seat x limits known len early say h g;
-    }
+guard_behind c w seat x limits known len early say h g = record {
+  black = black_behind c w seat x limits known len early say h g;
+  markers = markers_behind c w seat x limits known len early say h g;
+}
 
 -- `begin`: nothing is black, and no marker attends
 begun : (c : Config) (m : Moment) (seat : Seat) → Known c m → AreOfPages c.pages m.words → Meets c m seat Step.Begin
     → Guard c (Behind c m seat Step.Begin)
-begun c m seat known len h =
-    record {
-      black = λ p k i lt is sc li. absurd (true≢false (sym is ∙ no_bit _ k (white p)));
-      markers = λ j at. absurd (alone seat h j at);
-    }
+begun c m seat known len h = record {
+  black = λ p k i lt is sc li. absurd (true≢false (sym is ∙ no_bit _ k (white p)));
+  markers = λ j at. absurd (alone seat h j at);
+}
   where
     own : all_below c.pages (has_clean_page m.words) ≡ true
     own = (and_parts _ (m.words.fresh == 0) h.holder).0
@@ -267,11 +264,10 @@ begun c m seat known len h =
 
 -- at a phase past the stop nothing is asked
 past : (c : Config) (m : Moment) (n : ℕ) → phase_of m.words ≡ n → (n ≡ 0) ⊎ (4 ≤ n) → MarksStand c m
-past c m n is out =
-    record {
-      guarded = λ early. absurd (elim early [ inl e ↦ late (omega arith) | inr e ↦ late (omega arith) ]);
-      closed = λ three. absurd (late (omega arith));
-    }
+past c m n is out = record {
+  guarded = λ early. absurd (elim early [ inl e ↦ late (omega arith) | inr e ↦ late (omega arith) ]);
+  closed = λ three. absurd (late (omega arith));
+}
   where
     late : (1 ≤ n) × (n ≤ 3) → ⊥
     late is = elim out [ inl z ↦ omega arith | inr le ↦ omega arith ]

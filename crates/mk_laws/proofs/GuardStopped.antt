@@ -21,15 +21,14 @@ pub record LeavesClosed (w v : Words) : Type 0 where
   pub heap : (n : ℕ) → (slice_index v.heap n ≡ slice_index w.heap n) ⊎ (slice_index v.heap n ≡ 0)
 
 pub stays_closed : (c : Config) (w v : Words) → LeavesClosed w v → CellsAreClosed c w → CellsAreClosed c v
-stays_closed c w v same h =
-    record {
-      registers = λ i. rw same.registers (over _ (h.registers i));
-      globals = λ g. rw same.globals (over _ (h.globals g));
-      words = λ cell i lt is scanned li.
-          let first : first_word v cell ≡ first_word w cell = rw (same.headers cell.page) in
-          rw first (word _ (h.words cell i (rw (same.headers cell.page) at lt) (rw same.marks at is)
-          (rw (same.headers cell.page) at scanned) (rw (same.headers cell.page) at li)));
-    }
+stays_closed c w v same h = record {
+  registers = λ i. rw same.registers (over _ (h.registers i));
+  globals = λ g. rw same.globals (over _ (h.globals g));
+  words = λ cell i lt is scanned li.
+      let first : first_word v cell ≡ first_word w cell = rw (same.headers cell.page) in
+      rw first (word _ (h.words cell i (rw (same.headers cell.page) at lt) (rw same.marks at is)
+      (rw (same.headers cell.page) at scanned) (rw (same.headers cell.page) at li)));
+}
   where
     over : (value : ℕ) → points_well c.pages w value ≡ true → points_well c.pages v value ≡ true
     over value is =
@@ -143,11 +142,10 @@ headers_still c m seat x three h p = rest x h refl
 
 pub leaves_closed : (c : Config) (m : Moment) (seat : Seat) (x : Step) → Known c m → phase_of m.words ≡ 3
     → Meets c m seat x → LeavesClosed m.words (Behind c m seat x).words
-leaves_closed c m seat x known three h =
-    record {
-      registers = registers_still c m seat x known three h;
-      globals = globals_still c m seat x known three h;
-      headers = headers_still c m seat x three h;
-      marks = marks_still c m seat x known three h;
-      heap = heap_still c m seat x known three h;
-    }
+leaves_closed c m seat x known three h = record {
+  registers = registers_still c m seat x known three h;
+  globals = globals_still c m seat x known three h;
+  headers = headers_still c m seat x three h;
+  marks = marks_still c m seat x known three h;
+  heap = heap_still c m seat x known three h;
+}

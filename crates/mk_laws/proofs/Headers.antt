@@ -26,13 +26,12 @@ free_shows pages v y is = by (is_heap_address pages v) is
     by false is = none-some _ is
 
 from_free : (pages n : ℕ) → HeaderGoesOn pages 0 n
-from_free pages n =
-    record {
-      cell = λ v y is. absurd (free_shows pages v y is);
-      count = λ some. absurd (some refl);
-      words = λ some. absurd (some refl);
-      unscanned = λ some. absurd (some refl);
-    }
+from_free pages n = record {
+  cell = λ v y is. absurd (free_shows pages v y is);
+  count = λ some. absurd (some refl);
+  words = λ some. absurd (some refl);
+  unscanned = λ some. absurd (some refl);
+}
 
 pub record HeadKeeps (c : Config) (m n : Moment) : Type 0 where
   pub some : (p : ℕ) → header_at m.words p ≢ 0 → header_at n.words p ≢ 0
@@ -42,30 +41,29 @@ pub record HeadKeeps (c : Config) (m n : Moment) : Type 0 where
 
 pub head_keeps : (c : Config) (m : Moment) (seat : Seat) (p n : ℕ) → AreOfPages c.pages m.words
     → Meets c m seat (Step.Head p n) → HeadFinds c.pages m.words p n → HeadKeeps c m (Behind c m seat (Step.Head p n))
-head_keeps c m seat p n len h finds =
-    record {
-      some = λ q not_free. elim (cases_eq q p) [
-        | inl e ↦ λ z. filled finds (subst (λ j. header_at m.words j ≢ 0) e not_free) (sym (here q e) ∙ z)
-        | inr ne ↦ λ z. not_free (sym (other q ne) ∙ z)
-      ];
-      wells = λ v is y at. elim (cases_eq (page_at_address v) p) [
-        | inl e ↦ well finds v e is y (subst (λ a. cell_at c.pages a v ≡ Some y) (here (page_at_address v) e) at)
-        | inr ne ↦ is y (subst (λ a. cell_at c.pages a v ≡ Some y) (other (page_at_address v) ne) at)
-      ];
-      headers = λ q. elim (cases_eq q p) [
-        | inl e ↦ subst (HeaderGoesOn c.pages (header_at m.words q)) (sym (here q e))
-            (subst (λ j. HeaderGoesOn c.pages (header_at m.words j) n) (sym e) (goes finds))
-        | inr ne ↦ subst (HeaderGoesOn c.pages (header_at m.words q)) (sym (other q ne))
-            (goes_same c.pages (header_at m.words q))
-      ];
-      new = λ q k i none lt li. elim (cases_eq q p) [
-        | inl e ↦ made finds q k i e (subst (λ j. cells_under (header_in m.words j) ≡ 0) e none)
-            (subst (λ a. k < cells_under (header_of a)) (here q e) lt)
-            (subst (λ a. i < words_under (header_of a)) (here q e) li)
-        | inr ne ↦ let bad : k < 0 = subst (λ a. k < a) (ap (λ a. cells_under (header_of a)) (other q ne)
-            ∙ none) lt in absurd (omega arith)
-      ];
-    }
+head_keeps c m seat p n len h finds = record {
+  some = λ q not_free. elim (cases_eq q p) [
+    | inl e ↦ λ z. filled finds (subst (λ j. header_at m.words j ≢ 0) e not_free) (sym (here q e) ∙ z)
+    | inr ne ↦ λ z. not_free (sym (other q ne) ∙ z)
+  ];
+  wells = λ v is y at. elim (cases_eq (page_at_address v) p) [
+    | inl e ↦ well finds v e is y (subst (λ a. cell_at c.pages a v ≡ Some y) (here (page_at_address v) e) at)
+    | inr ne ↦ is y (subst (λ a. cell_at c.pages a v ≡ Some y) (other (page_at_address v) ne) at)
+  ];
+  headers = λ q. elim (cases_eq q p) [
+    | inl e ↦ subst (HeaderGoesOn c.pages (header_at m.words q)) (sym (here q e))
+        (subst (λ j. HeaderGoesOn c.pages (header_at m.words j) n) (sym e) (goes finds))
+    | inr ne ↦ subst (HeaderGoesOn c.pages (header_at m.words q)) (sym (other q ne))
+        (goes_same c.pages (header_at m.words q))
+  ];
+  new = λ q k i none lt li. elim (cases_eq q p) [
+    | inl e ↦ made finds q k i e (subst (λ j. cells_under (header_in m.words j) ≡ 0) e none)
+        (subst (λ a. k < cells_under (header_of a)) (here q e) lt)
+        (subst (λ a. i < words_under (header_of a)) (here q e) li)
+    | inr ne ↦ let bad : k < 0 = subst (λ a. k < a) (ap (λ a. cells_under (header_of a)) (other q ne)
+        ∙ none) lt in absurd (omega arith)
+  ];
+}
   where
     here : (q : ℕ) → q ≡ p → header_at (Behind c m seat (Step.Head p n)).words q ≡ n
     here q e = ap (λ j. (slice_index_or (slice_set m.words.pages p (record { header = n; used = used_at m.words p })) j
@@ -96,8 +94,7 @@ head_keeps c m seat p n len h finds =
         (64 * q + k * words_under (header_in (Behind c m seat (Step.Head p n)).words q) + i)
     made (Carved free marked bare) q k i e none lt li =
         let first : 64 * q + k * words_under (header_in (Behind c m seat (Step.Head p n)).words q) + i
-        ≡ 64 * p + k * words_under (header_of n) + i = ap (λ a. 64 * q + k * words_under (header_of a) + i) (here q e)
-        ∙ ap (λ j. 64 * j + k * words_under (header_of n) + i) e in
+        ≡ 64 * p + k * words_under (header_of n) + i = cc (here q e, e) in
         bare_guarded c (Behind c m seat (Step.Head p n)) _ (ap (slice_index m.words.heap) first ∙ bare k i lt li)
     made (Unmapped some on back still) q k i e none lt li = let z = still none in absurd (omega arith)
 

@@ -2,7 +2,7 @@
 use Rattle.std.proofs.Common.{Contains, pow-suc}
 use Rattle.std.proofs.lemmas.Nat.Bits.{bit_at_above, bit_at_lowest, same_from_bits}
 use Rattle.std.proofs.{lemmas.List.get_or_default, lemmas.List.Elements.Contains-get_or}
-use Rattle.mk_laws.proofs.Vocabulary.{Bool, Claim, Config, HasHeader, Header, IsClaimed, IsShown, List, None, Object}
+use Rattle.mk_laws.proofs.Vocabulary.{Bool, Claim, Config, HasHeader, IsClaimed, IsShown, List, None, Object}
 use Rattle.mk_laws.proofs.Vocabulary.{PlacedAllocation, ShowsPart, Storage, Words, ℕ, ap, arith, bit_at, block_header}
 use Rattle.mk_laws.proofs.Vocabulary.{cases_Bool, cases_eq, cases_lt, cell_ends, cell_of_allocation, cells_of}
 use Rattle.mk_laws.proofs.Vocabulary.{cells_under, claim_of, claims_of, class_known, class_made, class_words_of, false}
@@ -19,8 +19,8 @@ use Rattle.mk_geom.proofs.StoredWords.{words_at, words_by_large, words_by_small,
 use Rattle.mk_geom.proofs.TakenCells.{cell_taken_by, cell_taken_from, get_or-taken_cells, length-taken_cells}
 use Rattle.mk_geom.proofs.TakenCells.{same_from_both, same_index}
 use Rattle.mk_geom.proofs.{ClassTable.class_words_within, UsedWords.bit_at-used_word}
-use Rattle.mk_geom.specs.Storages.{AreLaidOut, PagesStandFor, block_page, class_of_storage, first_page, is_cell_taken}
-use Rattle.mk_geom.specs.Storages.{run_page, run_used, taken_cells, used_word, words_of_storages}
+use Rattle.mk_geom.specs.Storages.{AreLaidOut, PagesStandFor, block_page, first_page, is_cell_taken, run_page, run_used}
+use Rattle.mk_geom.specs.Storages.{taken_cells, used_word, words_of_storages}
 use Rattle.mk_core.proofs.ObjectHeaders.{large_header, small_header}
 use Rattle.mk_core.proofs.{UnreleasedStorage.has_its_storage, WordBits.bit_is_none, WordBits.bit_is_one}
 use Rattle.mk_laws.proofs.Apart.{Rests, index_is, lie_apart, lie_in_pairs, on_its_pages, quiet_scene, same_block}
@@ -31,14 +31,13 @@ use Rattle.mk_laws.proofs.{Unmapping.cells_at_claim, Unmapping.shares_run, Whole
 
 pub laid_out : (c : Config) (w : Words) (xs : List PlacedAllocation) → Rests c w xs
     → AreLaidOut (length w.pages) (unreleased_storage c xs)
-laid_out c w xs r =
-    record {
-      each = λ i d within.
-          let h = storage_is_of c xs (get_or _ i d) (Contains-get_or (unreleased_storage c xs) i d within) in
-          rw h.storage (rw r.lengths (standing_has_storage c _ r.limits
-          (standing_of c w xs h.number r h.unreleased).stands));
-      apart = lie_in_pairs c xs r.laid.apart (λ i j u v other. lie_apart c w xs i j r u v other);
-    }
+laid_out c w xs r = record {
+  each = λ i d within.
+      let h = storage_is_of c xs (get_or _ i d) (Contains-get_or (unreleased_storage c xs) i d within) in
+      rw h.storage (rw r.lengths (standing_has_storage c _ r.limits
+      (standing_of c w xs h.number r h.unreleased).stands));
+  apart = lie_in_pairs c xs r.laid.apart (λ i j u v other. lie_apart c w xs i j r u v other);
+}
 
 -- Pages of a run.
 
@@ -211,8 +210,7 @@ module _ (c : Config) (w : Words) (xs : List PlacedAllocation) (i p : ℕ) (r : 
               let y = claim_is c None xs x.claim x.among in
               let j : ℕ = y.number in
               let page : (placed_at xs j).base / 64 ≡ p = ap (λ (z : Claim). z.page) (sym y.is) ∙ x.page in
-              let index : (cell_of_allocation c (placed_at xs j)).index ≡ n = ap (λ (z : Claim). z.index) (sym y.is)
-              ∙ x.index in
+              let index : (cell_of_allocation c (placed_at xs j)).index ≡ n = cc (y.is, x.index) in
               let same = alike_at c w xs i j p r u y.unreleased small at page in
               let first = begins_at j y.unreleased same.0 same.1 ∙ ap (λ m. m * class_words_of class) index in
               cell_taken_from p (class_words_of class) n (unreleased_storage c xs) (storage_of c (placed_at xs j))
@@ -274,8 +272,7 @@ on_page c w xs p r on =
     let y = claim_is c None xs on.claim on.among in
     let o : Object = object_placed c (placed_at xs y.number) in
     let near : on.distance < pages_made o = rw y.is at on.near in
-    let at : (placed_at xs y.number).base / 64 + on.distance ≡ p = ap (λ (z : Claim). z.page + on.distance) (sym y.is)
-    ∙ on.at in
+    let at : (placed_at xs y.number).base / 64 + on.distance ≡ p = cc (y.is, on.at) in
     elim (cases_Bool (is_small_object o)) [
       | inl s ↦ let one = small_pages o s in block_words c w xs y.number p r y.unreleased s (omega arith)
       | inr l ↦ run_words c w xs y.number p r y.unreleased on.distance l near at
@@ -283,13 +280,12 @@ on_page c w xs p r on =
 
 pub pages_stand : (c : Config) (w : Words) (xs : List PlacedAllocation) → Rests c w xs
     → PagesStandFor w.pages (unreleased_storage c xs)
-pages_stand c w xs r =
-    record {
-      laid_out = laid_out c w xs r;
-      words = λ p d lt. get_or_default w.pages p d free_page lt ∙ elim (cases_eq (header_at w p) 0) [
-        | inl z ↦ ap (λ h. record { header = h; used = used_at w p }) z
-            ∙ rw (free_unused _ p r.laid z) (sym (words_free p _
-            (λ s inside. false_from_ne_true (stands_on p s) (nothing_there c w xs p r z s inside))))
-        | inr some ↦ on_page c w xs p r (on_claim _ p r.laid refl refl some)
-      ];
-    }
+pages_stand c w xs r = record {
+  laid_out = laid_out c w xs r;
+  words = λ p d lt. get_or_default w.pages p d free_page lt ∙ elim (cases_eq (header_at w p) 0) [
+    | inl z ↦ ap (λ h. record { header = h; used = used_at w p }) z
+        ∙ rw (free_unused _ p r.laid z) (sym (words_free p _
+        (λ s inside. false_from_ne_true (stands_on p s) (nothing_there c w xs p r z s inside))))
+    | inr some ↦ on_page c w xs p r (on_claim _ p r.laid refl refl some)
+  ];
+}

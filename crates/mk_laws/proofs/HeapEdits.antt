@@ -25,11 +25,6 @@ written_alike n a i v b = set_by (λ (x : NeverAllocation). (length x.words ≡ 
       rw (length-set (words_of n a) i v) (rw (← e)),
     )) (refl, refl)
 
-pub word_same : (n : NeverState) (a i : ℕ) (v : Value) → i < length (words_of n a) → word_at (with_word n a i v) a i ≡ v
-word_same n a i v lt = ap (λ (x : NeverAllocation). slice_index_or x.words i Null)
-    (get_or-set_same n.allocations a (record (allocation_at n a) { words = slice_set (words_of n a) i v })
-    no_allocation (exists n a i lt)) ∙ get_or-set_same (words_of n a) i v Null lt
-
 pub word_other : (n : NeverState) (a i j : ℕ) (v : Value) → i < length (words_of n a) → j ≢ i
     → word_at (with_word n a i v) a j ≡ word_at n a j
 word_other n a i j v lt ne = ap (λ (x : NeverAllocation). slice_index_or x.words j Null)
@@ -120,9 +115,6 @@ old_placed xs y b ne = elim (cases_lt b (length xs)) [
   | inr le ↦ get_or_past (xs ++ y ∷ []) b never_granted (omega (arith, length-append xs (y ∷ [])))
       ∙ sym (get_or_past xs b never_granted le)
 ]
-
-pub new_placed : (xs : List PlacedAllocation) (y : PlacedAllocation) → placed_at (xs ++ y ∷ []) (length xs) ≡ y
-new_placed xs y = get_or_at xs y [] never_granted (length xs) refl
 
 pub meets_new : (n : NeverState) (ty : ℕ) (v : Value) (i : ℕ) → IsMet n v i → IsMet (with_new n ty) v i
 meets_new n ty (Ptr a t o) i h = λ lt. elim (cases_eq a (length n.allocations)) [

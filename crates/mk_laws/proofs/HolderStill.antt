@@ -1,5 +1,5 @@
 -- What a step of the turn's holder asks of the words still holds, whatever others did since.
-use Rattle.std.specs.Prelude.{bit_and}
+use Rattle.std.proofs.Common.{bit_and}
 use Rattle.mk_laws.proofs.Vocabulary.{Bool, Cell, Config, Flight, Holding, List, Object, Option, Page, Place, Seat}
 use Rattle.mk_laws.proofs.Vocabulary.{Steady, Step, TurnIsLeft, Words, World, Written, ℕ, all_below, and_parts, ap}
 use Rattle.mk_laws.proofs.Vocabulary.{arith, carves, cases_Bool, empties, eqb-true, frees, gives_back, has_closed_page}

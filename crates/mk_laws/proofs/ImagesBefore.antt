@@ -1,13 +1,15 @@
 -- What a step of a caller needs, from the groups.
-use Rattle.mk_laws.proofs.Vocabulary.{Bool, Cell, Config, Flight, IsSafeSet, IsTypedAllocation, List, Mirrors}
-use Rattle.mk_laws.proofs.Vocabulary.{NeverState, None, Option, PlacedAllocation, Some, Words, World, ℕ, address_of}
-use Rattle.mk_laws.proofs.Vocabulary.{allocation_at, ap, arith, cases_Bool, cell_of_allocation, false, first_word}
-use Rattle.mk_laws.proofs.Vocabulary.{flight_among, header_at, header_in, image_scene_of, inl, inr, is_unmapped}
-use Rattle.mk_laws.proofs.Vocabulary.{is_unmapped_header, kinds_of, length, placed_at, pointed_cell, storage_holds}
-use Rattle.mk_laws.proofs.Vocabulary.{storage_words, subst, sym, true, words_of, [], ◌+◌, ◌/◌, ◌<◌, ◌∙◌, ◌≡◌, ◌≢◌, ◌≤◌}
-use Rattle.mk_laws.proofs.ImagesKept.{AreApart, AreSmall}
-use Rattle.mk_laws.proofs.{HeapEdits.exists_placed, ImagesStands.Stands, ImagesStands.is_gone, Known.HaveOperands}
-use Rattle.mk_laws.proofs.{Known.operands_of, KnownWorlds.KnownWorld, Reached.PagesShow, Ready.Ready}
+use Rattle.mk_laws.proofs.Vocabulary.{Bool, Caller, Cell, Config, Flight, ImagePremises, IsSafeSet, IsTypedAllocation}
+use Rattle.mk_laws.proofs.Vocabulary.{List, Mirrors, NeverState, None, Option, PlacedAllocation, RunPages, Some, Words}
+use Rattle.mk_laws.proofs.Vocabulary.{World, ℕ, address_of, allocation_at, ap, arith, cases_Bool, cell_of_allocation}
+use Rattle.mk_laws.proofs.Vocabulary.{false, first_word, flight_among, flight_of, header_at, header_in, image_scene_of}
+use Rattle.mk_laws.proofs.Vocabulary.{inl, inr, is_run_gone, is_unmapped, is_unmapped_header, kinds_of, length}
+use Rattle.mk_laws.proofs.Vocabulary.{placed_at, pointed_cell, storage_holds, storage_words, subst, sym, true, words_of}
+use Rattle.mk_laws.proofs.Vocabulary.{[], ◌+◌, ◌/◌, ◌<◌, ◌∙◌, ◌≡◌, ◌≢◌, ◌≤◌}
+use Rattle.mk_laws.proofs.ImagesStands.{Stands, gone_shows, is_gone}
+use Rattle.mk_laws.proofs.{HeapEdits.exists_placed, ImagesKept.AreApart, ImagesKept.AreSmall, Known.HaveOperands}
+use Rattle.mk_laws.proofs.{Known.operands_of, KnownWorlds.KnownWorld, Orderly.shows_at, Reached.PagesShow, Ready.Ready}
+use Rattle.mk_laws.proofs.{Standings.InCall, Standings.standing, Views.view_of}
 
 pub small_operands : (c : Config) (fs : List Flight) → HaveOperands c fs → AreSmall fs
 small_operands c fs h j = let o = operands_of c (flight_among fs j).op (h j) in (o.q, o.p, o.r, o.d)
@@ -55,19 +57,18 @@ module _ (c : Config) (w : World) (n : NeverState) (known : KnownWorld c w) (mir
 
   pub ready_of : Stands c w.now.words w.allocations → (safe : ℕ → Bool) → IsSafeSet safe w.allocations n
       → Ready c.globals safe (image_scene_of w) n
-  ready_of st safe s =
-      record {
-        images = mirrors.images;
-        typed = mirrors.typed;
-        set = s;
-        count = mirrors.twins.count;
-        apart = are_apart st;
-        small = small_operands c w.now.seats.flights known.now.operands;
-        bound = λ a i u li. let f = words_fit a (exists_placed w.allocations a u) in let b =
-            st.inside a u in omega (arith, known.lengths.heap);
-        room = let p = known.limits.pages.1 in omega (arith, known.lengths.heap);
-        full = λ ty lt. rw mirrors.types (known.limits.types ty [] (rw mirrors.types at lt)).0.0;
-      }
+  ready_of st safe s = record {
+    images = mirrors.images;
+    typed = mirrors.typed;
+    set = s;
+    count = mirrors.twins.count;
+    apart = are_apart st;
+    small = small_operands c w.now.seats.flights known.now.operands;
+    bound = λ a i u li. let f = words_fit a (exists_placed w.allocations a u) in let b =
+        st.inside a u in omega (arith, known.lengths.heap);
+    room = let p = known.limits.pages.1 in omega (arith, known.lengths.heap);
+    full = λ ty lt. rw mirrors.types (known.limits.types ty [] (rw mirrors.types at lt)).0.0;
+  }
 
   -- headers say what is unmapped
   pub pages_show : Stands c w.now.words w.allocations
@@ -81,3 +82,19 @@ module _ (c : Config) (w : World) (n : NeverState) (known : KnownWorld c w) (mir
         | inl e ↦ un a i u e (omega arith) ∙ sym e ∙ sym (unmapped_is a lt)
         | inr e ↦ st.mapped a i u e (omega arith) ∙ sym e ∙ sym (unmapped_is a lt)
       ]
+
+  -- to who is in a call, since freed runs are gone then
+  pub shown_in_call : ImagePremises c w → Stands c w.now.words w.allocations → (k : ℕ) → k < c.callers
+      → standing (flight_of w.now (Caller k)) ≡ InCall → PagesShow (header_at w.now.words) (image_scene_of w) n
+  shown_in_call others st k lt in_call =
+      pages_show st (gone_shows c w known.limits others (elim (cases_Bool (is_run_gone w.now.words freed)) [
+        | inl gone ↦ gone
+        | inr there ↦
+            let s = shows_at c (view_of w.now) k InCall known.now.orderly lt in_call in
+            let g = others.gates there k lt s.1 in
+            let one = s.0 in
+            absurd (omega arith)
+      ]))
+    where
+      freed : Option RunPages
+      freed = w.now.seats.holding.freed

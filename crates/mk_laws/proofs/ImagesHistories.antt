@@ -10,9 +10,8 @@ use Rattle.mk_laws.proofs.Vocabulary.{◌/◌, ◌∙◌, ◌∷◌, ◌≡◌}
 use Rattle.mk_never.{proofs.Parts.admitted_split, proofs.Parts.after_append, proofs.Parts.replies_append}
 use Rattle.mk_never.{proofs.Reached.reached_is_in, proofs.TypedCalls.start_is_typed, specs.Reach.LeadsTo}
 use Rattle.mk_core.{proofs.Histories.enabled_more, specs.History.never_first}
-use Rattle.mk_laws.proofs.Basics.{KnownWorld, at_first, known_world}
-use Rattle.mk_laws.proofs.ImagesOneEvent.{Follows, one_event}
-use Rattle.mk_laws.proofs.{Bases.IsLonger, FreedRuns.never_after, Pairs.bare_carries, Saying.images_say}
+use Rattle.mk_laws.proofs.{Bases.IsLonger, Basics.KnownWorld, Basics.at_first, Basics.known_world}
+use Rattle.mk_laws.proofs.{ImagesOneEvent.Follows, ImagesOneEvent.one_event, Pairs.bare_carries, Saying.images_say}
 use Rattle.mk_laws.specs.Laws.{HistoriesMirrorNever, HistoriesRefineNever, HistoriesTellOthers, ReachedIsUnreleased}
 use Rattle.mk_laws.specs.SafeSets.{HasSafeSet}
 
@@ -78,24 +77,23 @@ first_safe c = (
 )
 
 pub first_mirrors : (c : Config) → Mirrors c (first_world c) (never_first c)
-first_mirrors c =
-    record {
-      types = refl;
-      register_count = length-replicate (8 * c.callers) Null;
-      global_count = refl;
-      typed = start_is_typed c.globals c.types c.callers;
-      twins = record { count = refl; ty = λ a lt. absurd (omega arith); freed = λ a lt. absurd (omega arith) };
-      images = record {
-        registers = λ k. rw (at_first c.callers (k / 8) at_rest)
-            (at_first 128 k 0 ∙ sym (ap (image_of []) (at_first (8 * c.callers) k Null)));
-        globals = λ g. at_first 64 g 0 ∙ sym (ap (image_of []) (at_first 64 g Null));
-        heap = λ a i u m lt. absurd (omega arith);
-        carried = λ j. rw (at_first c.callers j at_rest) (bare_carries [] at_rest _ _ _ refl);
-        probed = λ j. rw (at_first c.callers j at_rest) (λ past. cc);
-      };
-      freed_run = λ run e. cc;
-      safe = first_safe c;
-    }
+first_mirrors c = record {
+  types = refl;
+  register_count = length-replicate (8 * c.callers) Null;
+  global_count = refl;
+  typed = start_is_typed c.globals c.types c.callers;
+  twins = record { count = refl; ty = λ a lt. absurd (omega arith); freed = λ a lt. absurd (omega arith) };
+  images = record {
+    registers = λ k. rw (at_first c.callers (k / 8) at_rest)
+        (at_first 128 k 0 ∙ sym (ap (image_of []) (at_first (8 * c.callers) k Null)));
+    globals = λ g. at_first 64 g 0 ∙ sym (ap (image_of []) (at_first 64 g Null));
+    heap = λ a i u m lt. absurd (omega arith);
+    carried = λ j. rw (at_first c.callers j at_rest) (bare_carries [] at_rest _ _ _ refl);
+    probed = λ j. rw (at_first c.callers j at_rest) (λ past. cc);
+  };
+  freed_run = λ run e. cc;
+  safe = first_safe c;
+}
 
 all_follow : (c : Config) (es : List Event) → IsHistory c es → ImagePremisesAlong c es
     → FollowsAll c (first_world c) (never_first c) es

@@ -10,8 +10,10 @@ use Rattle.mk_laws.proofs.Vocabulary.{with_freed, with_global, with_new, with_re
 use Rattle.mk_laws.proofs.Vocabulary.{[], ◌%◌, ◌*◌, ◌++◌, ◌+◌, ◌/◌, ◌<◌, ◌∙◌, ◌∷◌, ◌≡◌, ◌≢◌}
 use Rattle.mk_never.{proofs.Edits.exists, specs.Types.zero_of, specs.Types.zero_words}
 use Rattle.mk_laws.proofs.HeapEdits.{AreAlike, freed_is, freed_was, freed_words, fresh_one, image_grown, meets_new}
-use Rattle.mk_laws.proofs.HeapEdits.{new_image, new_never, new_placed, new_words, old_never, old_placed, same_base}
-use Rattle.mk_laws.proofs.HeapEdits.{suits_grown, word_elsewhere, word_other, word_same, written_alike, zero_image}
+use Rattle.mk_never.proofs.Stores.{this_word}
+use Rattle.mk_core.proofs.ChangedAllocations.{granted_at}
+use Rattle.mk_laws.proofs.HeapEdits.{new_image, new_never, new_words, old_never, old_placed, same_base}
+use Rattle.mk_laws.proofs.HeapEdits.{suits_grown, word_elsewhere, word_other, written_alike, zero_image}
 use Rattle.mk_laws.proofs.ImagesMoves.{Decides, Flies, Frees, Grants, Move, Owes, Pays, Releases, Renews, Rests, Shares}
 use Rattle.mk_laws.proofs.ImagesMoves.{Stores, Wipes, Writes, is_bare}
 use Rattle.mk_laws.proofs.Pairs.{bare_carries, bare_owes_nothing, bare_unprobed, carries_same, met_same, put_carries}
@@ -103,43 +105,41 @@ module _ (s : ImageScene) (n : NeverState) (h : AreImages s n) (small : AreSmall
 
   flies : (k : ℕ) (f : Flight) → ((r x : ℕ) → shown f r x ≡ shown (flight_among s.flights k) r x)
       → CarriesOwn bases n k f → ProbedOwn n k f → AreImages (record s { flights = slice_set s.flights k f }) n
-  flies k f same carries probed =
-      record {
-        registers = λ i. set_by (λ (x : Flight). shown x (i % 8) (slice_index s.registers i)
-            ≡ image_of bases (slice_index_or n.registers i Null)) s.flights k (i / 8) f at_rest
-            (λ e. same (i % 8) _ ∙ rw (← e) (h.registers i)) (h.registers i);
-        globals = h.globals;
-        heap = h.heap;
-        carried = λ j. set_by (λ (x : Flight). CarriesOwn bases n j x) s.flights k j f at_rest
-            (λ e. rw e carries) (h.carried j);
-        probed = λ j. set_by (λ (x : Flight). ProbedOwn n j x) s.flights k j f at_rest (λ e. rw e probed) (h.probed j);
-      }
+  flies k f same carries probed = record {
+    registers = λ i. set_by (λ (x : Flight). shown x (i % 8) (slice_index s.registers i)
+        ≡ image_of bases (slice_index_or n.registers i Null)) s.flights k (i / 8) f at_rest
+        (λ e. same (i % 8) _ ∙ rw (← e) (h.registers i)) (h.registers i);
+    globals = h.globals;
+    heap = h.heap;
+    carried = λ j. set_by (λ (x : Flight). CarriesOwn bases n j x) s.flights k j f at_rest
+        (λ e. rw e carries) (h.carried j);
+    probed = λ j. set_by (λ (x : Flight). ProbedOwn n j x) s.flights k j f at_rest (λ e. rw e probed) (h.probed j);
+  }
 
   owes_one : (k : ℕ) (f : Flight) (v : Value) → k < length s.flights → 8 * k + 7 < length n.registers
       → is_put (flight_among s.flights k).stage ≡ false → f.stage ≡ Stage.Put → d_of f.op < 8
       → f.loaded ≡ image_of bases v
       → AreImages (record s { flights = slice_set s.flights k f }) (with_register n k (d_of f.op) v)
-  owes_one k f v there long was put ld is =
-      record {
-        registers = registers_from _ s.flights k f s.registers _ there (λ r lr. elim (cases_eq r (d_of f.op)) [
-          | inl e ↦ subst (λ j. shown f j (slice_index s.registers (8 * k + j)) ≡ image_of bases
-              (slice_index_or (slice_set n.registers (8 * k + d_of f.op) v) (8 * k + j) Null)) (sym e)
-              (shows_owed f _ put ∙ is ∙ ap (image_of bases)
-              (sym (get_or-set_same n.registers (8 * k + d_of f.op) v Null (omega arith))))
-          | inr ne ↦ shows_other f r _ put (λ e. ne (sym e)) ∙ own_plain s n h k r lr was ∙ ap (image_of bases)
-              (sym (get_or-set_other n.registers (8 * k + d_of f.op) (8 * k + r) v Null
-              (λ e. absurd (ne (omega arith)))))
-        ]) (λ i ne. h.registers i ∙ ap (image_of bases)
-            (sym (get_or-set_other n.registers (8 * k + d_of f.op) i v Null (λ e. absurd (ne (omega arith))))));
-        globals = h.globals;
-        heap = h.heap;
-        carried = others_carry _ _ s.flights k f n (with_register n k (d_of f.op) v) there small
-            (λ a b d. put_carries _ f a b d put)
-            (λ j r ne lr. ap (image_of bases) (other_register n k (d_of f.op) j r v ld lr ne)) h.carried;
-        probed = others_probed s.flights k f n (with_register n k (d_of f.op) v) there small (put_past f.stage put)
-            (λ j r ne lr. other_register n k (d_of f.op) j r v ld lr ne)
-            (λ j ne past v' i m. met_same n (with_register n k (d_of f.op) v) v' i (λ a. refl) (λ a u. u) m) h.probed;
-      }
+  owes_one k f v there long was put ld is = record {
+    registers = registers_from _ s.flights k f s.registers _ there (λ r lr. elim (cases_eq r (d_of f.op)) [
+      | inl e ↦ subst (λ j. shown f j (slice_index s.registers (8 * k + j)) ≡ image_of bases
+          (slice_index_or (slice_set n.registers (8 * k + d_of f.op) v) (8 * k + j) Null)) (sym e)
+          (shows_owed f _ put ∙ is ∙ ap (image_of bases)
+          (sym (get_or-set_same n.registers (8 * k + d_of f.op) v Null (omega arith))))
+      | inr ne ↦ shows_other f r _ put (λ e. ne (sym e)) ∙ own_plain s n h k r lr was ∙ ap (image_of bases)
+          (sym (get_or-set_other n.registers (8 * k + d_of f.op) (8 * k + r) v Null
+          (λ e. absurd (ne (omega arith)))))
+    ]) (λ i ne. h.registers i ∙ ap (image_of bases)
+        (sym (get_or-set_other n.registers (8 * k + d_of f.op) i v Null (λ e. absurd (ne (omega arith))))));
+    globals = h.globals;
+    heap = h.heap;
+    carried = others_carry _ _ s.flights k f n (with_register n k (d_of f.op) v) there small
+        (λ a b d. put_carries _ f a b d put)
+        (λ j r ne lr. ap (image_of bases) (other_register n k (d_of f.op) j r v ld lr ne)) h.carried;
+    probed = others_probed s.flights k f n (with_register n k (d_of f.op) v) there small (put_past f.stage put)
+        (λ j r ne lr. other_register n k (d_of f.op) j r v ld lr ne)
+        (λ j ne past v' i m. met_same n (with_register n k (d_of f.op) v) v' i (λ a. refl) (λ a u. u) m) h.probed;
+  }
 
   pays : (k : ℕ) (f : Flight) → k < length s.flights → 8 * k + 7 < length s.registers
       → (flight_among s.flights k).stage ≡ Stage.Put → d_of (flight_among s.flights k).op < 8 → is_bare f.stage ≡ true
@@ -210,30 +210,28 @@ module _ (s : ImageScene) (n : NeverState) (h : AreImages s n) (small : AreSmall
       → x ≡ image_of bases v
       → AreImages (record s { flights = slice_set s.flights k f; globals = slice_set s.globals g x })
       (with_global n g v)
-  shares k g x f v at lg ln is =
-      record {
-        registers = plain_registers k f at;
-        globals = λ i. set_both (λ y u. y ≡ image_of bases u) s.globals n.globals g i x 0 v Null lg
-            ln (λ e. is) (λ ne. h.globals i);
-        heap = h.heap;
-        carried = others_carry _ _ s.flights k f n (with_global n g v) at.there small
-            (λ a b d. bare_carries _ f a b d at.bare) (λ j r ne lr. refl) h.carried;
-        probed = others_probed s.flights k f n (with_global n g v) at.there small (bare_unprobed f.stage at.bare)
-            (λ j r ne lr. refl) (λ j ne past v' i m. met_same n (with_global n g v) v' i (λ a. refl) (λ a u. u) m)
-            h.probed;
-      }
+  shares k g x f v at lg ln is = record {
+    registers = plain_registers k f at;
+    globals = λ i. set_both (λ y u. y ≡ image_of bases u) s.globals n.globals g i x 0 v Null lg
+        ln (λ e. is) (λ ne. h.globals i);
+    heap = h.heap;
+    carried = others_carry _ _ s.flights k f n (with_global n g v) at.there small
+        (λ a b d. bare_carries _ f a b d at.bare) (λ j r ne lr. refl) h.carried;
+    probed = others_probed s.flights k f n (with_global n g v) at.there small (bare_unprobed f.stage at.bare)
+        (λ j r ne lr. refl) (λ j ne past v' i m. met_same n (with_global n g v) v' i (λ a. refl) (λ a u. u) m)
+        h.probed;
+  }
 
   wipes : (x : ℕ) → ((a i : ℕ) → (placed_at s.allocations a).released ≡ false → is_unmapped (allocation_at n a) ≡ false
       → i < length (words_of n a) → (placed_at s.allocations a).base + i ≢ x)
       → AreImages (record s { heap = slice_set s.heap x 0 }) n
-  wipes x out =
-      record {
-        registers = h.registers;
-        globals = h.globals;
-        heap = λ a i u m lt. get_or-set_other s.heap x _ 0 0 (out a i u m lt) ∙ h.heap a i u m lt;
-        carried = h.carried;
-        probed = h.probed;
-      }
+  wipes x out = record {
+    registers = h.registers;
+    globals = h.globals;
+    heap = λ a i u m lt. get_or-set_other s.heap x _ 0 0 (out a i u m lt) ∙ h.heap a i u m lt;
+    carried = h.carried;
+    probed = h.probed;
+  }
 
 module _ (s : ImageScene) (n : NeverState) (h : AreImages s n) (small : AreSmall s.flights) where
   writes : AreApart s.allocations n → (k a i x : ℕ) (f : Flight) (v : Value) → Decides s n k f
@@ -259,7 +257,7 @@ module _ (s : ImageScene) (n : NeverState) (h : AreImages s n) (small : AreSmall
                     ∙ get_or-set_same s.heap ((placed_at s.allocations a).base + i) x 0 inside ∙ is
                     ∙ ap (image_of (bases_of s.allocations))
                     (sym (ap (λ y. word_at (with_word n a i v) y j) e ∙ ap (word_at (with_word n a i v) a) e2
-                    ∙ word_same n a i v li))
+                    ∙ this_word n a i v li))
                 | inr ne2 ↦ get_or-set_other s.heap ((placed_at s.allocations a).base + i)
                     ((placed_at s.allocations b).base + j) x 0
                     (λ z. let y = ap (λ y. (placed_at s.allocations y).base) e in absurd (ne2 (omega (arith, y, z))))
@@ -282,35 +280,33 @@ module _ (s : ImageScene) (n : NeverState) (h : AreImages s n) where
   pub rebased : (xs : List PlacedAllocation) → bases_of xs ≡ bases_of s.allocations
       → ((a : ℕ) → (placed_at xs a).released ≡ false → (placed_at s.allocations a).released ≡ false)
       → AreImages (record s { allocations = xs }) n
-  rebased xs e u =
-      record {
-        registers = λ k. h.registers k ∙ rw (← e);
-        globals = λ g. h.globals g ∙ rw (← e);
-        heap = λ a i r m lt. rw (same_base s.allocations xs e a) (h.heap a i (u a r) m lt ∙ rw (← e));
-        carried = λ j. rw e (h.carried j);
-        probed = h.probed;
-      }
+  rebased xs e u = record {
+    registers = λ k. h.registers k ∙ rw (← e);
+    globals = λ g. h.globals g ∙ rw (← e);
+    heap = λ a i r m lt. rw (same_base s.allocations xs e a) (h.heap a i (u a r) m lt ∙ rw (← e));
+    carried = λ j. rw e (h.carried j);
+    probed = h.probed;
+  }
 
 module _ (s : ImageScene) (n : NeverState) (h : AreImages s n) (small : AreSmall s.flights) where
   frees : (k a : ℕ) (f : Flight) → Decides s n k f
       → (is_unmapped (record (allocation_at n a) { freed = true }) ≡ true → (j : ℕ) → j ≢ k
       → is_past_probe (flight_among s.flights j).stage ≡ false)
       → AreImages (record s { flights = slice_set s.flights k f }) (with_freed n a)
-  frees k a f at quiet =
-      record {
-        registers = plain_registers s n h small k f at;
-        globals = h.globals;
-        heap = λ b j u m lt. h.heap b j u (freed_was n a b m) (rw (freed_words n a b) at lt)
-            ∙ rw (← (freed_words n a b));
-        carried = others_carry _ _ s.flights k f n (with_freed n a) at.there small
-            (λ a b d. bare_carries _ f a b d at.bare) (λ j r ne lr. refl) h.carried;
-        probed = others_probed s.flights k f n (with_freed n a) at.there small (bare_unprobed f.stage at.bare)
-            (λ j r ne lr. refl)
-            (λ j ne past v i m. elim (cases_Bool (is_unmapped (record (allocation_at n a) { freed = true }))) [
-              | inl e ↦ let x : false ≡ true = sym (quiet e j ne) ∙ past in cc
-              | inr e ↦ met_same n (with_freed n a) v i (λ b. rw (freed_words n a b)) (λ b u. freed_is n a b e u) m
-            ]) h.probed;
-      }
+  frees k a f at quiet = record {
+    registers = plain_registers s n h small k f at;
+    globals = h.globals;
+    heap = λ b j u m lt. h.heap b j u (freed_was n a b m) (rw (freed_words n a b) at lt)
+        ∙ rw (← (freed_words n a b));
+    carried = others_carry _ _ s.flights k f n (with_freed n a) at.there small
+        (λ a b d. bare_carries _ f a b d at.bare) (λ j r ne lr. refl) h.carried;
+    probed = others_probed s.flights k f n (with_freed n a) at.there small (bare_unprobed f.stage at.bare)
+        (λ j r ne lr. refl)
+        (λ j ne past v i m. elim (cases_Bool (is_unmapped (record (allocation_at n a) { freed = true }))) [
+          | inl e ↦ let x : false ≡ true = sym (quiet e j ne) ∙ past in cc
+          | inr e ↦ met_same n (with_freed n a) v i (λ b. rw (freed_words n a b)) (λ b u. freed_is n a b e u) m
+        ]) h.probed;
+  }
 
 module _ (globals : List ℕ) (s : ImageScene) (n : NeverState) (h : AreImages s n) (small : AreSmall s.flights)
     (typed : IsTyped globals n) (same : length s.allocations ≡ length n.allocations) where
@@ -340,10 +336,8 @@ module _ (globals : List ℕ) (s : ImageScene) (n : NeverState) (h : AreImages s
         globals = λ g. h.globals g ∙ sym (grown _ (typed.globals g));
         heap = λ b j u m lj. elim (cases_eq b (length n.allocations)) [
           | inl e ↦
-              let na : allocation_at (with_new n ty) b ≡ new_words n ty = ap (allocation_at (with_new n ty)) e
-              ∙ new_never n ty in
-              let ga : placed_at (s.allocations ++ y ∷ []) b ≡ y = ap (placed_at (s.allocations ++ y ∷ [])) (e
-              ∙ sym same) ∙ new_placed s.allocations y in
+              let na : allocation_at (with_new n ty) b ≡ new_words n ty = cc (e, new_never n ty) in
+              let ga : placed_at (s.allocations ++ y ∷ []) b ≡ y = cc (e, same, granted_at s.allocations y) in
               let lj' : j < length (zero_words (kinds_of n.types ty)) =
               subst (λ (x : NeverAllocation). j < length x.words) na lj in
               rw ga (zero_there j (omega (arith, length-map (kinds_of n.types ty) zero_of))

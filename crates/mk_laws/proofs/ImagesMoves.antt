@@ -1,6 +1,5 @@
 -- The moves of the images: what an event may do to what they read.
-use Rattle.std.specs.Prelude.{Bool}
-use Rattle.mk_laws.proofs.Vocabulary.{CarriesOwn, Flight, ImageScene, IsSafe, IsSafeSet, List, NeverState}
+use Rattle.mk_laws.proofs.Vocabulary.{Bool, CarriesOwn, Flight, ImageScene, IsSafe, IsSafeSet, List, NeverState}
 use Rattle.mk_laws.proofs.Vocabulary.{PlacedAllocation, ProbedOwn, Ptr, Stage, Value, ℕ, address_of, allocation_at}
 use Rattle.mk_laws.proofs.Vocabulary.{bases_of, d_of, false, flight_among, image_of, is_past_probe, is_put, is_unmapped}
 use Rattle.mk_laws.proofs.Vocabulary.{kinds_of, length, placed_at, shown, slice_index, slice_set, true, with_freed}

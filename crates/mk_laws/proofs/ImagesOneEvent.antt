@@ -10,10 +10,11 @@ use Rattle.mk_laws.proofs.Vocabulary.{placed_at, refl, replies_of, set_by, slice
 use Rattle.mk_laws.proofs.Vocabulary.{true, with_freed, with_global, with_new, with_register, with_word, words_of}
 use Rattle.mk_laws.proofs.Vocabulary.{world_behind, zero, [], ◌*◌, ◌++◌, ◌+◌, ◌<◌, ◌==◌, ◌||◌, ◌∙◌, ◌∷◌, ◌≡◌, ◌≢◌}
 use Rattle.mk_never.{proofs.Later.calls_stay, proofs.TypedCalls.calls_keep, specs.Types.zero_of}
+use Rattle.mk_core.proofs.ChangedAllocations.{granted_at}
 use Rattle.mk_laws.proofs.Bases.{IsLonger, bases_grow}
 use Rattle.mk_laws.proofs.Basics.{Frees, Grants, KnownWorld, Move, Releases, Renews, Writes, ready_of, stands_of}
-use Rattle.mk_laws.proofs.HeapEdits.{freed_was, freed_words, fresh_one, new_never, new_placed, new_words, old_never}
-use Rattle.mk_laws.proofs.HeapEdits.{old_placed, written_alike}
+use Rattle.mk_laws.proofs.HeapEdits.{freed_was, freed_words, fresh_one, new_never, new_words, old_never, old_placed}
+use Rattle.mk_laws.proofs.HeapEdits.{written_alike}
 use Rattle.mk_laws.proofs.ImagesMoves.{Owes, SamePlaces, Shares, Stores}
 use Rattle.mk_laws.proofs.{EventSorts.goes, FreedRuns.freed_run_stays, FreedRuns.never_after, ImagesKept.images_kept}
 use Rattle.mk_laws.specs.{Images.AreTwins, SafeSets.HasSafeSet}
@@ -32,46 +33,42 @@ zero_safe safe (kind ∷ kinds) (suc i) = zero_safe safe kinds i
 
 module _ (safe : ℕ → Bool) (s : ImageScene) (n : NeverState) (h : IsSafeSet safe s.allocations n) where
   of_register : (k d : ℕ) (v : Value) → IsSafe safe v → IsSafeSet safe s.allocations (with_register n k d v)
-  of_register k d v is =
-      record {
-        registers = λ i. set_by (IsSafe safe) n.registers (8 * k + d) i v Null (λ e. is) (h.registers i);
-        globals = h.globals;
-        closed = h.closed;
-        unreleased = h.unreleased;
-      }
+  of_register k d v is = record {
+    registers = λ i. set_by (IsSafe safe) n.registers (8 * k + d) i v Null (λ e. is) (h.registers i);
+    globals = h.globals;
+    closed = h.closed;
+    unreleased = h.unreleased;
+  }
 
   of_global : (g : ℕ) (v : Value) → IsSafe safe v → IsSafeSet safe s.allocations (with_global n g v)
-  of_global g v is =
-      record {
-        registers = h.registers;
-        globals = λ i. set_by (IsSafe safe) n.globals g i v Null (λ e. is) (h.globals i);
-        closed = h.closed;
-        unreleased = h.unreleased;
-      }
+  of_global g v is = record {
+    registers = h.registers;
+    globals = λ i. set_by (IsSafe safe) n.globals g i v Null (λ e. is) (h.globals i);
+    closed = h.closed;
+    unreleased = h.unreleased;
+  }
 
   of_word : (a i : ℕ) (v : Value) → IsSafe safe v → IsSafeSet safe s.allocations (with_word n a i v)
-  of_word a i v is =
-      record {
-        registers = h.registers;
-        globals = h.globals;
-        closed = λ b j sb mb.
-            let was = h.closed b j sb (sym (written_alike n a i v b).1 ∙ mb) in
-            set_by (λ (x : NeverAllocation). IsSafe safe (slice_index_or x.words j Null)) n.allocations a b
-            (record (allocation_at n a) { words = slice_set (words_of n a) i v }) no_allocation
-            (λ e. set_by (IsSafe safe) (words_of n a) i j v Null (λ e2. is) (rw e at was)) was;
-        unreleased = h.unreleased;
-      }
+  of_word a i v is = record {
+    registers = h.registers;
+    globals = h.globals;
+    closed = λ b j sb mb.
+        let was = h.closed b j sb (sym (written_alike n a i v b).1 ∙ mb) in
+        set_by (λ (x : NeverAllocation). IsSafe safe (slice_index_or x.words j Null)) n.allocations a b
+        (record (allocation_at n a) { words = slice_set (words_of n a) i v }) no_allocation
+        (λ e. set_by (IsSafe safe) (words_of n a) i j v Null (λ e2. is) (rw e at was)) was;
+    unreleased = h.unreleased;
+  }
 
   of_freed : (a : ℕ) (xs : List PlacedAllocation)
       → ((b : ℕ) → (placed_at xs b).released ≡ (placed_at s.allocations b).released)
       → IsSafeSet safe xs (with_freed n a)
-  of_freed a xs same =
-      record {
-        registers = h.registers;
-        globals = h.globals;
-        closed = λ b j sb mb. rw (freed_words n a b) (h.closed b j sb (freed_was n a b mb));
-        unreleased = λ b sb. same b ∙ h.unreleased b sb;
-      }
+  of_freed a xs same = record {
+    registers = h.registers;
+    globals = h.globals;
+    closed = λ b j sb mb. rw (freed_words n a b) (h.closed b j sb (freed_was n a b mb));
+    unreleased = λ b sb. same b ∙ h.unreleased b sb;
+  }
 
   of_same : (xs : List PlacedAllocation) → ((b : ℕ) → (placed_at xs b).released ≡ (placed_at s.allocations b).released)
       → IsSafeSet safe xs n
@@ -102,7 +99,7 @@ module _ (safe : ℕ → Bool) (s : ImageScene) (n : NeverState) (h : IsSafeSet 
         unreleased = λ b sb. elim (cases_eq b m) [
           | inl e ↦ ap (λ (x : PlacedAllocation). x.released)
               (ap (placed_at (s.allocations ++ fresh_one base ty ∷ [])) (e ∙ sym same)
-              ∙ new_placed s.allocations (fresh_one base ty))
+              ∙ granted_at s.allocations (fresh_one base ty))
           | inr ne ↦ rw (old_placed s.allocations (fresh_one base ty) b (λ e. ne (e ∙ same)))
               (h.unreleased b (old b ne sb))
         ];
@@ -132,25 +129,23 @@ safe_kept safe s t n m h same _ = (safe, h)
 twins_changed : (xs : List PlacedAllocation) (n : NeverState) (a : ℕ) (x : NeverAllocation)
     → x.ty ≡ (allocation_at n a).ty → x.freed ≡ (allocation_at n a).freed
     → AreTwins xs n → AreTwins xs (record n { allocations = slice_set n.allocations a x })
-twins_changed xs n a x et ef h =
-    record {
-      count = h.count ∙ sym (length-set n.allocations a x);
-      ty = λ b lt. h.ty b lt
-          ∙ set_by (λ (y : NeverAllocation). (allocation_at n b).ty ≡ y.ty) n.allocations a b x no_allocation
-          (λ e. rw e (sym et)) refl;
-      freed = λ b lt. h.freed b lt
-          ∙ set_by (λ (y : NeverAllocation). (allocation_at n b).freed ≡ y.freed) n.allocations a b x no_allocation
-          (λ e. rw e (sym ef)) refl;
-    }
+twins_changed xs n a x et ef h = record {
+  count = h.count ∙ sym (length-set n.allocations a x);
+  ty = λ b lt. h.ty b lt
+      ∙ set_by (λ (y : NeverAllocation). (allocation_at n b).ty ≡ y.ty) n.allocations a b x no_allocation
+      (λ e. rw e (sym et)) refl;
+  freed = λ b lt. h.freed b lt
+      ∙ set_by (λ (y : NeverAllocation). (allocation_at n b).freed ≡ y.freed) n.allocations a b x no_allocation
+      (λ e. rw e (sym ef)) refl;
+}
 
 twins_same : (xs ys : List PlacedAllocation) (n : NeverState) → SamePlaces xs ys
     → ((a : ℕ) → (placed_at ys a).freed ≡ (placed_at xs a).freed) → AreTwins xs n → AreTwins ys n
-twins_same xs ys n p f h =
-    record {
-      count = p.count ∙ h.count;
-      ty = λ b lt. p.each b ∙ h.ty b (let e = p.count in omega (arith, e));
-      freed = λ b lt. f b ∙ h.freed b (let e = p.count in omega (arith, e));
-    }
+twins_same xs ys n p f h = record {
+  count = p.count ∙ h.count;
+  ty = λ b lt. p.each b ∙ h.ty b (let e = p.count in omega (arith, e));
+  freed = λ b lt. f b ∙ h.freed b (let e = p.count in omega (arith, e));
+}
 
 twins_freed : (xs ys : List PlacedAllocation) (n : NeverState) (a : ℕ) → SamePlaces xs ys → a < length n.allocations
     → ((b : ℕ) → b ≢ a → (placed_at ys b).freed ≡ (placed_at xs b).freed) → (placed_at ys a).freed ≡ true
@@ -179,13 +174,13 @@ twins_new xs n base ty h =
     record {
       count = length-append xs (y ∷ []) ∙ rw same (sym (length-append n.allocations (new_words n ty ∷ [])));
       ty = λ b lt. elim (cases_eq b (length xs)) [
-        | inl e ↦ ap (λ (x : PlacedAllocation). x.ty) (ap (placed_at (xs ++ y ∷ [])) e ∙ new_placed xs y)
+        | inl e ↦ ap (λ (x : PlacedAllocation). x.ty) (ap (placed_at (xs ++ y ∷ [])) e ∙ granted_at xs y)
             ∙ sym (rw (ap (allocation_at (with_new n ty)) (e ∙ same) ∙ new_never n ty))
         | inr ne ↦ rw (old_placed xs y b ne) (h.ty b (omega arith)
             ∙ sym (rw (old_never n ty b (λ e. ne (e ∙ sym same)))))
       ];
       freed = λ b lt. elim (cases_eq b (length xs)) [
-        | inl e ↦ ap (λ (x : PlacedAllocation). x.freed) (ap (placed_at (xs ++ y ∷ [])) e ∙ new_placed xs y)
+        | inl e ↦ ap (λ (x : PlacedAllocation). x.freed) (ap (placed_at (xs ++ y ∷ [])) e ∙ granted_at xs y)
             ∙ sym (rw (ap (allocation_at (with_new n ty)) (e ∙ same) ∙ new_never n ty))
         | inr ne ↦ rw (old_placed xs y b ne) (h.freed b (omega arith)
             ∙ sym (rw (old_never n ty b (λ e. ne (e ∙ sym same)))))

@@ -61,29 +61,28 @@ pub large_object : (c : Config) (a : PlacedAllocation) → is_large (kinds_of c.
 large_object c a large = not-true _ (sym (large_is_not_small _) ∙ large)
 
 pub stands_of : (c : Config) (w : World) → IsWithinLimits c → ImagePremises c w → Stands c w.now.words w.allocations
-stands_of c w limits others =
-    record {
-      cell = λ a i u lt.
-          let h = others.laid_out a u in word_points c w.now.words (placed_at w.allocations a) limits h.stands h.headers
-          ((placed_at w.allocations a).base + i) (omega arith, omega arith);
-      first = λ a u. let h =
-          others.laid_out a u in (cells_begin c w.now.words (placed_at w.allocations a) limits h.stands h.headers).0;
-      inside = λ a u. (others.laid_out a u).stands.within;
-      apart = others.apart;
-      mapped = λ a i u un lt.
-          let h = others.laid_out a u in
-          let sized = typed_size c (placed_at w.allocations a) limits h.stands.typed in
-          let at = page_of_word c (placed_at w.allocations a) i sized h.stands.begins lt in
-          ap (λ p. is_unmapped_header (header_in w.now.words p)) at.page ∙ ap (λ x. is_unmapped_header (header_of x))
-          (h.mapped (mapped_is c (placed_at w.allocations a) u ∙ ap not un) at.distance at.near)
-          ∙ made_is_mapped (object_placed c (placed_at w.allocations a)) at.distance sized at.near;
-      run = λ a u large.
-          let h = others.laid_out a u in
-          part_heads_run (object_placed c (placed_at w.allocations a)) _
-          (first_page_shows c w.now.words (placed_at w.allocations a)
-          (typed_size c (placed_at w.allocations a) limits h.stands.typed) h.headers)
-          (large_object c (placed_at w.allocations a) large);
-    }
+stands_of c w limits others = record {
+  cell = λ a i u lt.
+      let h = others.laid_out a u in word_points c w.now.words (placed_at w.allocations a) limits h.stands h.headers
+      ((placed_at w.allocations a).base + i) (omega arith, omega arith);
+  first = λ a u. let h =
+      others.laid_out a u in (cells_begin c w.now.words (placed_at w.allocations a) limits h.stands h.headers).0;
+  inside = λ a u. (others.laid_out a u).stands.within;
+  apart = others.apart;
+  mapped = λ a i u un lt.
+      let h = others.laid_out a u in
+      let sized = typed_size c (placed_at w.allocations a) limits h.stands.typed in
+      let at = page_of_word c (placed_at w.allocations a) i sized h.stands.begins lt in
+      ap (λ p. is_unmapped_header (header_in w.now.words p)) at.page ∙ ap (λ x. is_unmapped_header (header_of x))
+      (h.mapped (mapped_is c (placed_at w.allocations a) u ∙ ap not un) at.distance at.near)
+      ∙ made_is_mapped (object_placed c (placed_at w.allocations a)) at.distance sized at.near;
+  run = λ a u large.
+      let h = others.laid_out a u in
+      part_heads_run (object_placed c (placed_at w.allocations a)) _
+      (first_page_shows c w.now.words (placed_at w.allocations a)
+      (typed_size c (placed_at w.allocations a) limits h.stands.typed) h.headers)
+      (large_object c (placed_at w.allocations a) large);
+}
 
 -- A run that is gone shows on its pages that it is unmapped.
 

@@ -1,10 +1,9 @@
 -- Runs, places and scans lie in the heap, after every enabled list.
 use Rattle.mk_laws.proofs.Vocabulary.{AreEnabled, AreEnabledFrom, AreOfPages, Config, Event, IsWithinLimits, List}
-use Rattle.mk_laws.proofs.Vocabulary.{Marker, MarkerState, Moment, Seat, Step, Word, World, ℕ, access, accessed_lengths}
-use Rattle.mk_laws.proofs.Vocabulary.{and_parts, enabled_meets, first_moment, first_world, flight_of, found, free_page}
-use Rattle.mk_laws.proofs.Vocabulary.{ground_of, is_in_range, left, left_from, ltb-true, marker_behind, marker_of}
-use Rattle.mk_laws.proofs.Vocabulary.{nat_lt, outside, refl, true, word_accessed, world_behind, zero_lengths, [], ◌<◌}
-use Rattle.mk_laws.proofs.Vocabulary.{◌∷◌, ◌≡◌}
+use Rattle.mk_laws.proofs.Vocabulary.{Marker, Moment, Seat, Step, Word, World, ℕ, access, accessed_lengths, and_parts}
+use Rattle.mk_laws.proofs.Vocabulary.{enabled_meets, first_moment, first_world, flight_of, found, free_page, ground_of}
+use Rattle.mk_laws.proofs.Vocabulary.{is_in_range, left, left_from, ltb-true, marker_behind, marker_of, nat_lt, outside}
+use Rattle.mk_laws.proofs.Vocabulary.{refl, true, word_accessed, world_behind, zero_lengths, [], ◌<◌, ◌∷◌, ◌≡◌}
 use Rattle.mk_laws.proofs.Basics.{Known, Meets, WorldBehind, at_first, known_at_first, known_behind, marker_set}
 use Rattle.mk_laws.proofs.NewPlace.{PlacesFit, place_fits_now, places_behind}
 use Rattle.mk_laws.proofs.ScansInHeap.{MarkerFits, marker_fits_behind, nothing_fits}
@@ -59,13 +58,12 @@ in_heap_from c w (e ∷ es) known in_heap on = in_heap_from c (world_behind c w 
     (in_heap_behind c w e.seat e.step known in_heap (enabled_meets c w.now e on.0)) on.1
 
 in_heap_at_first : (c : Config) → InHeap c (first_moment c)
-in_heap_at_first c =
-    record {
-      lengths = zero_lengths c.pages;
-      runs = λ p. rw (at_first c.pages p free_page) (λ count shows. cc);
-      places = λ k lt new place held. cc;
-      markers = λ k. rw (at_first 8 k outside) (nothing_fits c outside refl refl);
-    }
+in_heap_at_first c = record {
+  lengths = zero_lengths c.pages;
+  runs = λ p. rw (at_first c.pages p free_page) (λ count shows. cc);
+  places = λ k lt new place held. cc;
+  markers = λ k. rw (at_first 8 k outside) (nothing_fits c outside refl refl);
+}
 
 pub in_heap_left : (c : Config) (es : List Event) → IsWithinLimits c → AreEnabled c es → InHeap c (left c es).now
 in_heap_left c es limits on = in_heap_from c (first_world c) es (known_at_first c limits) (in_heap_at_first c) on

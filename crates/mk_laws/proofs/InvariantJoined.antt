@@ -22,12 +22,11 @@ module _ (c : Config) (w : World) (n : NeverState) (known : KnownWorld c w) (all
   told_by_images = images_say c w n known told_to_images all.mirrors
 
   pub told_to_layout : LayoutPremises c w
-  told_to_layout =
-      record {
-        target = λ seat cell is. let x =
-            told_by_images.target seat cell is in record { number = x.number; unreleased = x.unreleased; is = x.cell };
-        marked = λ three run is. told_by_images.marked (eqb-true _ 3 three) run is;
-      }
+  told_to_layout = record {
+    target = λ seat cell is. let x =
+        told_by_images.target seat cell is in record { number = x.number; unreleased = x.unreleased; is = x.cell };
+    marked = λ three run is. told_by_images.marked (eqb-true _ 3 three) run is;
+  }
 
   pub told_to_zeros : (e : Event) → IsEnabled c w.now e → AreAdmitted c.globals n (asked (call_decided c w.now e))
       → zeros.ZeroPremises c w e
@@ -37,14 +36,13 @@ module _ (c : Config) (w : World) (n : NeverState) (known : KnownWorld c w) (all
 pub invariant_behind : (c : Config) (w : World) (n : NeverState) (e : Event) → KnownWorld c w → Invariant c w n
     → IsEnabled c w.now e
     → AreAdmitted c.globals n (asked (call_decided c w.now e)) → Invariant c (world_behind c w e) (never_after c w n e)
-invariant_behind c w n e known all on admitted =
-    record {
-      order = order_behind c w e known.limits known.lengths known.now on (told_to_layout c w n known all) all.order;
-      zeros = zeros_behind c w e known.limits known.lengths known.now on (told_to_zeros c w n known all e on admitted)
-          all.zeros;
-      run_gates = run_gates_behind c w known all.order.laid all.run_gates e.seat e.step (enabled_meets c w.now e on)
-          (told_to_zeros c w n known all e on admitted).stored;
-      mirrors = (one_event c w n e known (told_to_images c w n known all) all.mirrors on admitted).mirrors;
-      marks = marks_behind c w e.seat e.step known.limits known.now known.lengths (told_to_guard c w n known all)
-          (enabled_meets c w.now e on) all.marks;
-    }
+invariant_behind c w n e known all on admitted = record {
+  order = order_behind c w e known.limits known.lengths known.now on (told_to_layout c w n known all) all.order;
+  zeros = zeros_behind c w e known.limits known.lengths known.now on (told_to_zeros c w n known all e on admitted)
+      all.zeros;
+  run_gates = run_gates_behind c w known all.order.laid all.run_gates e.seat e.step (enabled_meets c w.now e on)
+      (told_to_zeros c w n known all e on admitted).stored;
+  mirrors = (one_event c w n e known (told_to_images c w n known all) all.mirrors on admitted).mirrors;
+  marks = marks_behind c w e.seat e.step known.limits known.now known.lengths (told_to_guard c w n known all)
+      (enabled_meets c w.now e on) all.marks;
+}

@@ -18,7 +18,7 @@ world_is_known c es h = known_world c es h.within_limits h.enabled
 
 images_are_told : (c : Config) (es : List Event) → IsHistory c es → ImagePremisesAlong c es
 images_are_told c es h front more e =
-    let whole : IsHistory c (front ++ more) = subst (λ (xs : List Event). IsHistory c xs) (sym e) h in
+    let whole : IsHistory c (front ++ more) = subst (IsHistory c) (sym e) h in
     let earlier = earlier_part_is_history c front more whole in
     told_to_images c (left c front) _ (world_is_known c front earlier) (histories_keep_the_invariant c front earlier)
 
@@ -68,7 +68,7 @@ pub closes_find_marks_closed : OfHistories ClosesFindMarksClosed
 unfolding AreEnabledFrom
 closes_find_marks_closed c es h before behind seat is =
     let e : Event = record { seat = seat; step = Step.Close } in
-    let parts : IsHistory c (before ++ e ∷ behind) = subst (λ (xs : List Event). IsHistory c xs) is h in
+    let parts : IsHistory c (before ++ e ∷ behind) = subst (IsHistory c) is h in
     let earlier = earlier_part_is_history c before (e ∷ behind) parts in
     let all = histories_keep_the_invariant c before earlier in
     let on = ((enabled_in_parts c before (e ∷ behind)).0 parts.enabled).1.0 in

@@ -14,13 +14,12 @@ pub goes_equal : (pages a b : ℕ) → b ≡ a → HeaderGoesOn pages a b
 goes_equal pages a b e = rw e (goes_same pages a)
 
 pub goes_joined : (pages a b d : ℕ) → HeaderGoesOn pages a b → HeaderGoesOn pages b d → HeaderGoesOn pages a d
-goes_joined pages a b d g h =
-    record {
-      cell = λ v y is. h.cell v y (g.cell v y is);
-      count = λ some. h.count (some_on some) ∙ g.count some;
-      words = λ some. h.words (some_on some) ∙ g.words some;
-      unscanned = λ some t. h.unscanned (some_on some) (g.unscanned some t);
-    }
+goes_joined pages a b d g h = record {
+  cell = λ v y is. h.cell v y (g.cell v y is);
+  count = λ some. h.count (some_on some) ∙ g.count some;
+  words = λ some. h.words (some_on some) ∙ g.words some;
+  unscanned = λ some t. h.unscanned (some_on some) (g.unscanned some t);
+}
   where
     some_on : cells_under (header_of a) ≢ 0 → cells_under (header_of b) ≢ 0
     some_on some z = some (sym (g.count some) ∙ z)
@@ -84,11 +83,10 @@ scan_kept c m n hand x k h =
     }
 
 pub marker_kept : (c : Config) (m n : Moment) (x : Marker) → Keeps c m n → MarkerStands c m x → MarkerStands c n x
-marker_kept c m n x k h =
-    record {
-      scan = λ s is. scan_kept c m n x.hand s k (h.scan s is);
-      seen = λ s is. goes_joined c.pages s.header _ _ (h.seen s is) (k.headers s.page);
-    }
+marker_kept c m n x k h = record {
+  scan = λ s is. scan_kept c m n x.hand s k (h.scan s is);
+  seen = λ s is. goes_joined c.pages s.header _ _ (h.seen s is) (k.headers s.page);
+}
 
 -- The guarded words of a cell stay so, where it is there and scanned before.
 pub cell_kept : (c : Config) (m n : Moment) (p k i : ℕ) → Keeps c m n → cells_under (header_in m.words p) ≢ 0

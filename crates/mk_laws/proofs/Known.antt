@@ -121,12 +121,11 @@ pub record Known (c : Config) (m : Moment) : Type 0 where
   pub operands : HaveOperands c m.seats.flights
 
 pub known_behind : (c : Config) (m : Moment) (e : Event) → Known c m → IsEnabled c m e → Known c (moment_behind c m e)
-known_behind c m e k on =
-    record {
-      small = k.small;
-      orderly = orderly_behind c m e.seat e.step k.small k.orderly (enabled_meets c m e on);
-      operands = operands_behind c m e.seat e.step k.operands (enabled_meets c m e on);
-    }
+known_behind c m e k on = record {
+  small = k.small;
+  orderly = orderly_behind c m e.seat e.step k.small k.orderly (enabled_meets c m e on);
+  operands = operands_behind c m e.seat e.step k.operands (enabled_meets c m e on);
+}
 
 pub known_from : (c : Config) (w : World) (es : List Event) → Known c w.now → AreEnabledFrom c w es
     → Known c (left_from c w es).now
@@ -135,12 +134,11 @@ known_from c w [] k on = k
 known_from c w (e ∷ es) k on = known_from c (world_behind c w e) es (known_behind c w.now e k on.0) on.1
 
 pub known_at_first : (c : Config) → IsWithinLimits c → Known c (first_moment c)
-known_at_first c limits =
-    record {
-      small = limits.callers.1;
-      orderly = orderly_at_first c limits.callers.1;
-      operands = λ k. rw (at_first c.callers k at_rest) refl;
-    }
+known_at_first c limits = record {
+  small = limits.callers.1;
+  orderly = orderly_at_first c limits.callers.1;
+  operands = λ k. rw (at_first c.callers k at_rest) refl;
+}
 
 pub known_left : (c : Config) (es : List Event) → IsWithinLimits c → AreEnabled c es → Known c (left c es).now
 known_left c es limits on = known_from c (first_world c) es (known_at_first c limits) on

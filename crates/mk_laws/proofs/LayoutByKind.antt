@@ -1,36 +1,32 @@
 -- What each kind of event makes of the terrain.
 use Rattle.mk_laws.proofs.Vocabulary.{Bool, Cell, Config, Flight, Granted, Ground, HasLayout, HeadStep, ItCarves}
 use Rattle.mk_laws.proofs.Vocabulary.{ItDrops, ItEmpties, ItFrees, ItGivesBack, ItTakes, ItTakesSnapshot, ItUnmaps}
-use Rattle.mk_laws.proofs.Vocabulary.{LayoutScene, LayoutStands, List, None, Object, Op, Option, Place}
-use Rattle.mk_laws.proofs.Vocabulary.{PlacedAllocation, Placing, QuarantineStep, RunPages, Seat, Some, Step, Unplaced}
-use Rattle.mk_laws.proofs.Vocabulary.{Used, UsedStep, Words, World, ℕ, and_parts, and_right, ap, arith, cell_freed}
-use Rattle.mk_laws.proofs.Vocabulary.{chosen, claims_of, decided, eqb-true, false, false_from_ne_true, flight_of}
-use Rattle.mk_laws.proofs.Vocabulary.{freed_cell, freed_where_it_stands, fresh_leaves, granted, granted_base_is}
-use Rattle.mk_laws.proofs.Vocabulary.{granted_object, granted_type, ground_of, has_place, head_step, header_at}
-use Rattle.mk_laws.proofs.Vocabulary.{held_by_pages, if◌then◌else◌, is_decided, is_phase, is_run_gone, is_run_unmapped}
-use Rattle.mk_laws.proofs.Vocabulary.{is_undecided_new, is_used_once, layout_scene_of, length, map, marks_is}
-use Rattle.mk_laws.proofs.Vocabulary.{marks_place, may_end, ne_eqb, no_longer_fresh, none_freed, not, nothing_done}
-use Rattle.mk_laws.proofs.Vocabulary.{object_made, object_now, object_placed, or_else, place_now, placed_now}
-use Rattle.mk_laws.proofs.Vocabulary.{quarantine_step, refl, run_of_cell, seat_exists, slice_set, sym, taken, true}
-use Rattle.mk_laws.proofs.Vocabulary.{true≢false, undecided_free, undecided_new, used_step, with_released}
-use Rattle.mk_laws.proofs.Vocabulary.{words_are_zero, [], ◌%◌, ◌&&◌, ◌*◌, ◌++◌, ◌/◌, ◌<◌, ◌==◌, ◌^◌, ◌∙◌, ◌∷◌, ◌≡◌, ◌≢◌}
+use Rattle.mk_laws.proofs.Vocabulary.{LayoutStands, List, None, Object, Op, Option, Place, PlacedAllocation, Placing}
+use Rattle.mk_laws.proofs.Vocabulary.{QuarantineStep, RunPages, Seat, Some, Step, Unplaced, Used, UsedStep, Words}
+use Rattle.mk_laws.proofs.Vocabulary.{World, ℕ, and_parts, and_right, ap, arith, cell_freed, chosen, claims_of, decided}
+use Rattle.mk_laws.proofs.Vocabulary.{eqb-true, false, false_from_ne_true, flight_of, freed_cell, freed_where_it_stands}
+use Rattle.mk_laws.proofs.Vocabulary.{fresh_leaves, granted, granted_base_is, granted_object, granted_type, ground_of}
+use Rattle.mk_laws.proofs.Vocabulary.{has_place, head_step, header_at, held_by_pages, if◌then◌else◌, is_decided}
+use Rattle.mk_laws.proofs.Vocabulary.{is_phase, is_run_gone, is_run_unmapped, is_undecided_new, is_used_once}
+use Rattle.mk_laws.proofs.Vocabulary.{layout_scene_of, length, map, marks_is, marks_place, may_end, ne_eqb}
+use Rattle.mk_laws.proofs.Vocabulary.{no_longer_fresh, none_freed, not, nothing_done, object_made, object_now, or_else}
+use Rattle.mk_laws.proofs.Vocabulary.{place_now, placed_now, quarantine_step, refl, run_of_cell, seat_exists, slice_set}
+use Rattle.mk_laws.proofs.Vocabulary.{sym, taken, true, true≢false, undecided_free, undecided_new, used_step}
+use Rattle.mk_laws.proofs.Vocabulary.{with_released, words_are_zero, [], ◌%◌, ◌&&◌, ◌*◌, ◌++◌, ◌/◌, ◌<◌, ◌==◌, ◌^◌, ◌∙◌}
+use Rattle.mk_laws.proofs.Vocabulary.{◌∷◌, ◌≡◌, ◌≢◌}
 use Rattle.mk_laws.proofs.Basics.{Before, Laid, LeavesCells, Meets, WorldBehind, first_header, free_has_turn}
 use Rattle.mk_laws.proofs.Basics.{gone_terrain, grants_new, holding_object, made_sized, new_has_turn, no_run}
 use Rattle.mk_laws.proofs.Basics.{none_on_its_way, page_within, placed_undecided, reg_leaves_ground, tally_ground}
 use Rattle.mk_laws.proofs.Basics.{with_header_on, with_used_on}
-use Rattle.mk_laws.proofs.Dropped.{dropped, ended, refreed, unreleasing}
+use Rattle.mk_laws.proofs.LayoutHolders.{giver_has_turn, seat_operands}
 use Rattle.mk_laws.proofs.Serving.{head_carves, head_empties, head_unmaps, mark_places, used_gives_back, used_takes}
-use Rattle.mk_laws.proofs.{Claims.cells_behind, Freed.freed_terrain, Granted.granted_terrain, Ground.KeepsGround}
-use Rattle.mk_laws.proofs.{Ground.with_quarantine, LayoutBefore.LaidBehind, LayoutBefore.LaidNow}
-use Rattle.mk_laws.proofs.{LayoutHolders.giver_has_turn, LayoutHolders.seat_operands, Released.released_terrain}
+use Rattle.mk_laws.proofs.{Claims.cells_behind, Dropped.dropped, Dropped.ended, Dropped.refreed, Dropped.unreleasing}
+use Rattle.mk_laws.proofs.{Freed.freed_terrain, Granted.granted_terrain, Ground.KeepsGround, Ground.with_quarantine}
+use Rattle.mk_laws.proofs.{LayoutBefore.LaidBehind, LayoutBefore.LaidNow, Released.released_terrain, Sorts.chosen_none}
 
 -- What the steps that store a page's words make of the terrain: `head`, `used`, `quar`.
 
 -- `head`
-pub none_chosen : (placing : Placing) → chosen placing None ≡ placing
-none_chosen Unplaced = refl
-none_chosen _ = refl
-
 abbrev HeadBehind : Config → World → ℕ → ℕ → Bool → Option Place → Type 0
 HeadBehind c w p n four place = Laid c (object_now c w.now) four w (record (ground_of w) {
   pages = with_header_on w.now.words.pages p n;
@@ -54,7 +50,7 @@ head_by c w seat p n b there lt laid (ItUnmaps off x) = rw off (by (place_now c 
         let turn = new_has_turn c w.now seat there placed.new in
         absurd (no_run c w.now seat b.known turn (undecided_new (flight_of w.now seat) placed.new).stage x.run x.there)
     by None at =
-        rw (none_chosen w.now.seats.holding.placing) (head_unmaps c (object_now c w.now) false w p n (rw off at laid) x)
+        rw (chosen_none w.now.seats.holding.placing) (head_unmaps c (object_now c w.now) false w p n (rw off at laid) x)
 head_by c w seat p n b there lt laid (ItEmpties on x) = rw on (head_empties c _ w p n lt (rw on at laid) x)
 
 pub head_kind : (c : Config) (w : World) (seat : Seat) (p n : ℕ) → Before c w → Meets c w.now seat (Step.Head p n)

@@ -1,12 +1,12 @@
 -- All is in order after every list of enabled events.
-use Rattle.std.specs.Prelude.{IsSome, replicate}
+use Rattle.std.proofs.Common.{IsSome, replicate}
 use Rattle.mk_laws.proofs.Vocabulary.{AreEnabledFrom, AreOfPages, Bool, Cell, Config, Empties, Event, Flight}
 use Rattle.mk_laws.proofs.Vocabulary.{HasQuarantine, Header, HeadStep, IsClaimedRun, IsEnabled, IsHeaderWord}
 use Rattle.mk_laws.proofs.Vocabulary.{IsQuarantined, IsWithinLimits, ItCarves, ItDrops, ItEmpties, ItFrees}
 use Rattle.mk_laws.proofs.Vocabulary.{ItTakesSnapshot, ItUnmaps, Later, LayoutPremises, LayoutPremisesFrom}
 use Rattle.mk_laws.proofs.Vocabulary.{LayoutStands, List, NoPlot, Object, OfBlock, Option, Page, PlacedAllocation}
-use Rattle.mk_laws.proofs.Vocabulary.{QuarantineStep, RunPages, RunStands, Seat, ShowsPart, Some, StandsInOrder, Step}
-use Rattle.mk_laws.proofs.Vocabulary.{World, ℕ, access, accessed_lengths, and_parts, ap, arith, cases_Bool, cases_eq}
+use Rattle.mk_laws.proofs.Vocabulary.{QuarantineStep, RunStands, Seat, ShowsPart, Some, StandsInOrder, Step, World, ℕ}
+use Rattle.mk_laws.proofs.Vocabulary.{access, accessed_lengths, and_parts, ap, arith, cases_Bool, cases_eq}
 use Rattle.mk_laws.proofs.Vocabulary.{cell_of_allocation, cells_made, cells_under, claim_of, claims_of, enabled_meets}
 use Rattle.mk_laws.proofs.Vocabulary.{false, first_world, flight_of, free_page, ground_of, has_bit, has_bit_without}
 use Rattle.mk_laws.proofs.Vocabulary.{head_page_under, head_step, header_in, header_made, header_of, header_on}
@@ -161,69 +161,65 @@ words_behind c w seat (Step.Tally n v) b h laid words = subst HaveWords (sym (ta
 words_behind c w seat _ b h laid words = words
 
 laid_at_first : (c : Config) → LayoutStands c (first_world c)
-laid_at_first c =
-    record {
-      scene = record {
-        shown = λ x i. absurd i;
-        apart = tt;
-        used = λ p k h. absurd (none_set (slice_index_or (replicate c.pages free_page) p free_page).used k
-            (rw (free p)) h);
-        plot = tt;
-        occupied = λ p some empty. absurd (some (ap (λ (x : Page). x.header) (free p)));
-        later = λ p d m is. let e = sym (ap (λ (x : Page). header_of x.header) (free p)) ∙ is in let y : true ≡ false =
-            cc in absurd (true≢false y);
-      };
-      gone = tt;
-      first = tt;
-      cells = λ i u. absurd (true≢false u);
-    }
+laid_at_first c = record {
+  scene = record {
+    shown = λ x i. absurd i;
+    apart = tt;
+    used = λ p k h. absurd (none_set (slice_index_or (replicate c.pages free_page) p free_page).used k
+        (rw (free p)) h);
+    plot = tt;
+    occupied = λ p some empty. absurd (some (ap (λ (x : Page). x.header) (free p)));
+    later = λ p d m is. let e = sym (ap (λ (x : Page). header_of x.header) (free p)) ∙ is in let y : true ≡ false =
+        cc in absurd (true≢false y);
+  };
+  gone = tt;
+  first = tt;
+  cells = λ i u. absurd (true≢false u);
+}
   where
     free : (p : ℕ) → slice_index_or (replicate c.pages free_page) p free_page ≡ free_page
     free p = at_first c.pages p free_page
 
 quarantined_at_first : (c : Config) → IsQuarantined c (first_world c)
-quarantined_at_first c =
-    record {
-      small = λ p. (let z = zero_at p in omega arith, let z = zero_at p in omega arith);
-      within = λ p k h. absurd (none_set _ k (zero_at p) h);
-      owned = λ p k h. absurd (none_set _ k (zero_at p) h);
-      shown = λ i u f. absurd (true≢false u);
-      taken = λ place is. let y : true ≡ false = cc in absurd (true≢false y);
-      kept = λ on i u. absurd (true≢false u);
-    }
+quarantined_at_first c = record {
+  small = λ p. (let z = zero_at p in omega arith, let z = zero_at p in omega arith);
+  within = λ p k h. absurd (none_set _ k (zero_at p) h);
+  owned = λ p k h. absurd (none_set _ k (zero_at p) h);
+  shown = λ i u f. absurd (true≢false u);
+  taken = λ place is. let y : true ≡ false = cc in absurd (true≢false y);
+  kept = λ on i u. absurd (true≢false u);
+}
   where
     zero_at : (p : ℕ) → slice_index (replicate c.pages 0) p ≡ 0
     zero_at p = at_first c.pages p 0
 
 pub in_order_at_first : (c : Config) → StandsInOrder c (first_world c)
-in_order_at_first c =
-    record {
-      laid = laid_at_first c;
-      quarantined = quarantined_at_first c;
-      known = λ p k h. absurd (none_set _ k (at_first c.pages p 0) h);
-      snapshot = record {
-        fresh = λ i f. absurd (true≢false (sym f));
-        quarantined = λ on. absurd (true≢false (sym on));
-      };
-      words = λ p. subst (λ (x : Page). IsHeaderWord x.header) (sym (at_first c.pages p free_page)) refl;
-      runs = λ p h. absurd
-          (true≢false (sym h ∙ ap (λ (x : Page). heads_run (header_of x.header)) (at_first c.pages p free_page)));
-      room = let none = count_none c.pages _ free in omega arith;
-    }
+in_order_at_first c = record {
+  laid = laid_at_first c;
+  quarantined = quarantined_at_first c;
+  known = λ p k h. absurd (none_set _ k (at_first c.pages p 0) h);
+  snapshot = record {
+    fresh = λ i f. absurd (true≢false (sym f));
+    quarantined = λ on. absurd (true≢false (sym on));
+  };
+  words = λ p. subst (λ (x : Page). IsHeaderWord x.header) (sym (at_first c.pages p free_page)) refl;
+  runs = λ p h. absurd
+      (true≢false (sym h ∙ ap (λ (x : Page). heads_run (header_of x.header)) (at_first c.pages p free_page)));
+  room = let none = count_none c.pages _ free in omega arith;
+}
   where
     free : (p : ℕ) → is_taken_page (replicate c.pages free_page) NoPlot p ≡ false
     free p = rw (at_first c.pages p free_page)
 
 pub known_before : (c : Config) (w : World) → IsWithinLimits c → AreOfPages c.pages w.now.words → Known c w.now
     → LayoutPremises c w → IsQuarantined c w → Before c w
-known_before c w limits lengths known others q =
-    record {
-      limits = limits;
-      lengths = lengths;
-      known = known;
-      others = others;
-      unreleased = λ four. none_released c _ w.now.words.marks (ground_of w) (rw four at q);
-    }
+known_before c w limits lengths known others q = record {
+  limits = limits;
+  lengths = lengths;
+  known = known;
+  others = others;
+  unreleased = λ four. none_released c _ w.now.words.marks (ground_of w) (rw four at q);
+}
 
 quarantine_behind : (c : Config) (w : World) (seat : Seat) (x : Step) → Before c w → Meets c w.now seat x
     → LayoutStands c w → IsQuarantined c w → IsQuarantined c (WorldBehind c w seat x)
@@ -271,8 +267,7 @@ order_from c w (e ∷ es) limits lengths known on others both = order_from c (wo
 
 pub histories_are_laid_out : HistoriesAreLaidOut
 histories_are_laid_out c es limits on others =
-    order_from c (first_world c) es limits (zero_lengths c.pages) (known_at_first c limits) on others
-    (in_order_at_first c)
+    order_from c _ es limits (zero_lengths c.pages) (known_at_first c limits) on others (in_order_at_first c)
 
 pub pages_have_header_words : LayoutHasHeaderWords
 pages_have_header_words c es limits on others = (histories_are_laid_out c es limits on others).words

@@ -17,14 +17,13 @@ none_more test es e none last =
 -- A cycle of the earlier part is one of the whole list.
 
 abbrev pub longer_at : {kind : Step → Bool} {es : List Event} (more : List Event) → At kind es → At kind (es ++ more)
-longer_at more at =
-    record {
-      before = at.before;
-      event = at.event;
-      behind = at.behind ++ more;
-      is = rw at.is (append_assoc at.before (at.event ∷ at.behind) more);
-      of_kind = at.of_kind;
-    }
+longer_at more at = record {
+  before = at.before;
+  event = at.event;
+  behind = at.behind ++ more;
+  is = rw at.is (append_assoc at.before (at.event ∷ at.behind) more);
+  of_kind = at.of_kind;
+}
 
 abbrev pub longer_next : {kind : Step → Bool} {es : List Event} (more : List Event) → Next kind es
     → Next kind (es ++ more)
@@ -34,8 +33,7 @@ abbrev pub longer_marking : {es : List Event} (more : List Event) → Marking es
 longer_marking more k = record { begin = longer_at more k.begin; close = longer_next more k.close }
 
 abbrev pub longer_releasing : {es : List Event} (more : List Event) → Releasing es → Releasing (es ++ more)
-longer_releasing more k =
-    record { marking = longer_marking more k.marking; release = longer_next more k.release }
+longer_releasing more k = record { marking = longer_marking more k.marking; release = longer_next more k.release }
 
 abbrev pub longer_cycle : {es : List Event} (more : List Event) → Cycle es → Cycle (es ++ more)
 longer_cycle more k = record { releasing = longer_releasing more k.releasing; end = longer_next more k.end }
@@ -60,28 +58,25 @@ taken {s = s} t = record { seat = s; step = Step.Take t.op }
 
 abbrev pub longer_turn : {c : Config} {s : Seat} {es : List Event} (t : TurnOf c s es) (e : Event)
     → gives_turn s e ≡ false → TurnOf c s (es ++ e ∷ [])
-longer_turn {s = s} t e on =
-    record {
-      before = t.before;
-      op = t.op;
-      behind = t.behind ++ e ∷ [];
-      is = ap (λ (xs : List Event). xs ++ e ∷ []) t.is ∙ append_assoc t.before (taken t ∷ t.behind) (e ∷ []);
-      took = t.took;
-      goes_on = none_more (gives_turn s) t.behind e t.goes_on on;
-    }
+longer_turn {s = s} t e on = record {
+  before = t.before;
+  op = t.op;
+  behind = t.behind ++ e ∷ [];
+  is = ap (λ (xs : List Event). xs ++ e ∷ []) t.is ∙ append_assoc t.before (taken t ∷ t.behind) (e ∷ []);
+  took = t.took;
+  goes_on = none_more (gives_turn s) t.behind e t.goes_on on;
+}
 
 abbrev pub longer_first : {c : Config} {s : Seat} {es : List Event} (t : TurnOf c s es) (e : Event)
     (on : gives_turn s e ≡ false) → FirstServed c t → FirstServed c (longer_turn t e on)
-longer_first t e on first =
-    record {
-      before = first.before;
-      event = first.event;
-      behind = first.behind ++ e ∷ [];
-      is = ap (λ (xs : List Event). xs ++ e ∷ []) first.is
-          ∙ append_assoc first.before (first.event ∷ first.behind) (e ∷ []);
-      none_before = first.none_before;
-      serves = first.serves;
-    }
+longer_first t e on first = record {
+  before = first.before;
+  event = first.event;
+  behind = first.behind ++ e ∷ [];
+  is = cc (first.is, append_assoc first.before (first.event ∷ first.behind) (e ∷ []));
+  none_before = first.none_before;
+  serves = first.serves;
+}
 
 -- what the turn's events leave, from after its `take` on
 pub left_in_turn : (c : Config) (s : Seat) (es : List Event) (t : TurnOf c s es)

@@ -127,42 +127,39 @@ scanned_cell c w n p k x i t known from to u word = ap (λ (q : ℕ). record { p
 -- A marker that is in the middle of nothing holds and has seen nothing.
 pub idle_is_precise : (c : Config) (s : PrecisionScene) (T : ℕ → Type 0) (x : MarkerState) → IsIdle x
     → MarkerIsPrecise c s T x
-idle_is_precise c s T x idle =
-    record {
-      hand = λ v is. absurd (none-some _ (sym idle.hand ∙ is));
-      scan = λ z is. absurd (none-some _ (sym idle.scan ∙ is));
-      seen = λ z is. absurd (none-some _ (sym idle.seen ∙ is));
-    }
+idle_is_precise c s T x idle = record {
+  hand = λ v is. absurd (none-some _ (sym idle.hand ∙ is));
+  scan = λ z is. absurd (none-some _ (sym idle.scan ∙ is));
+  seen = λ z is. absurd (none-some _ (sym idle.seen ∙ is));
+}
 
 -- what goes on after a step of another, or of its own
 pub marker_kept : (c : Config) (w : World) (n : NeverState) (seat : Seat) (x : Step) (after : NeverState)
     (T : ℕ → Type 0) (y : MarkerState) → Steps c w n seat x after T → MarkerStands c w.now y
     → MarkerIsPrecise c (precision_scene_of w) T y → MarkerIsPrecise c (precision_scene_of (WorldBehind c w seat x)) T y
-marker_kept c w n seat x after T y s stand precise =
-    record {
-      hand = λ v is. points_behind c w n seat x after T v s (precise.hand v is);
-      scan = λ z is lt. no_leaf_behind c w n seat x after T s z.page
-          (λ none. let known = (stand.scan z is).index in absurd (omega arith)) (precise.scan z is lt);
-      seen = λ z is some scanned.
-          no_leaf_behind c w n seat x after T s z.page (λ none. some (sym ((stand.seen z is).count some) ∙ none))
-          (precise.seen z is some scanned);
-    }
+marker_kept c w n seat x after T y s stand precise = record {
+  hand = λ v is. points_behind c w n seat x after T v s (precise.hand v is);
+  scan = λ z is lt. no_leaf_behind c w n seat x after T s z.page
+      (λ none. let known = (stand.scan z is).index in absurd (omega arith)) (precise.scan z is lt);
+  seen = λ z is some scanned.
+      no_leaf_behind c w n seat x after T s z.page (λ none. some (sym ((stand.seen z is).count some) ∙ none))
+      (precise.seen z is some scanned);
+}
 
 -- `mlook`
 look_precise : (c : Config) (w : World) (n : NeverState) (T : ℕ → Type 0) (y : MarkerState) (p f : ℕ) → Told c w n
     → f ≡ header_at w.now.words p → MarkerIsPrecise c (precision_scene_of w) T y
     → MarkerIsPrecise c (precision_scene_of w) T (behind_mlook c f (Word.Head p) y)
-look_precise c w n T y p f t is m =
-    record {
-      hand = λ v at. m.hand v (kept y.hand v at);
-      scan = m.scan;
-      seen = λ z at some scanned.
-          let e : record { page = p; header = f } ≡ z = same_Some _ _ at in
-          let page : p ≡ z.page = ap (λ (q : SeenHeader). q.page) e in
-          let header : f ≡ z.header = ap (λ (q : SeenHeader). q.header) e in
-          scanned_has_none c w n z.page t (ap (λ q. has_no_pointers (header_in w.now.words q)) (sym page)
-          ∙ ap (λ h. has_no_pointers (header_of h)) (sym is ∙ header) ∙ scanned);
-    }
+look_precise c w n T y p f t is m = record {
+  hand = λ v at. m.hand v (kept y.hand v at);
+  scan = m.scan;
+  seen = λ z at some scanned.
+      let e : record { page = p; header = f } ≡ z = same_Some _ _ at in
+      let page : p ≡ z.page = ap (λ (q : SeenHeader). q.page) e in
+      let header : f ≡ z.header = ap (λ (q : SeenHeader). q.header) e in
+      scanned_has_none c w n z.page t (ap (λ q. has_no_pointers (header_in w.now.words q)) (sym page)
+      ∙ ap (λ h. has_no_pointers (header_of h)) (sym is ∙ header) ∙ scanned);
+}
   where
     kept : (hand : Option ℕ) (v : ℕ) → hand_behind_look c p f hand ≡ Some v → hand ≡ Some v
     kept None v at = at
@@ -259,12 +256,11 @@ load_precise : (c : Config) (w : World) (n : NeverState) (seat : Seat) (x : Step
     → Steps c w n seat x after T → IsPrecise c w T → MarkerStands c w.now y → has_next_word y.scan ≡ true
     → MarkerIsPrecise c (precision_scene_of w) T y → MarkerIsPrecise c (precision_scene_of w) T
     (record y { scan = scan_onward y.scan; hand = open_hand c (slice_index w.now.words.heap (next_word y.scan)) })
-load_precise c w n seat x after T y s precise stand more m =
-    record {
-      hand = λ v is. opened y.scan more stand.scan m.scan v is;
-      scan = λ z is less. onward y.scan m.scan z is less;
-      seen = m.seen;
-    }
+load_precise c w n seat x after T y s precise stand more m = record {
+  hand = λ v is. opened y.scan more stand.scan m.scan v is;
+  scan = λ z is less. onward y.scan m.scan z is less;
+  seen = m.seen;
+}
   where
     opened : (scan : Option Scan) → has_next_word scan ≡ true
         → ((z : Scan) → scan ≡ Some z → ScanStands c w.now y.hand z)

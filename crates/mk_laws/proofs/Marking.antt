@@ -23,12 +23,11 @@ pub record More (c : Config) (front : List Event) (e : Event) : Type 0 where
 
 pub one_more : (c : Config) (front : List Event) (e : Event) → IsHistory c (front ++ e ∷ []) → More c front e
 unfolding AreEnabledFrom
-one_more c front e h =
-    record {
-      history = earlier_part_is_history c front (e ∷ []) h;
-      meets = enabled_meets c _ e ((enabled_in_parts c front (e ∷ [])).0 h.enabled).1.0;
-      left = left_more c (first_world c) front e;
-    }
+one_more c front e h = record {
+  history = earlier_part_is_history c front (e ∷ []) h;
+  meets = enabled_meets c _ e ((enabled_in_parts c front (e ∷ [])).0 h.enabled).1.0;
+  left = left_more c (first_world c) front e;
+}
 
 -- what stands at a moment of the marking
 pub record AtMoment (c : Config) (T : ℕ → Type 0) (front : List Event) : Type 0 where
@@ -39,12 +38,11 @@ pub record AtMoment (c : Config) (T : ℕ → Type 0) (front : List Event) : Typ
 -- At a moment of the cycle what is touched is closed.
 closed_at : (c : Config) (es : List Event) (k : Marking es) (front : List Event) → LeadsToMoment k front
     → IsClosedIn c (left c front) (never_behind c front) (IsTouched c k)
-closed_at c es k front at =
-    record {
-      registers = λ i b points. by_register front i b at points;
-      globals = λ g b points. by_global front g b at points;
-      words = λ a x touched inside b points. by_word front a x b at touched inside points;
-    }
+closed_at c es k front at = record {
+  registers = λ i b points. by_register front i b at points;
+  globals = λ g b points. by_global front g b at points;
+  words = λ a x touched inside b points. by_word front a x b at touched inside points;
+}
 
 -- one event of the marking
 moment_behind : (c : Config) (es : List Event) (k : Marking es) (front : List Event) (e : Event)
@@ -54,8 +52,7 @@ moment_behind : (c : Config) (es : List Event) (k : Marking es) (front : List Ev
 moment_behind c es k front e h here there other unswept at =
     let m = one_more c front e h in
     let w : World = left c front in
-    let s : Steps c w (never_behind c front) e.seat e.step (never_behind c (front ++ e ∷ [])) (IsTouched c k) =
-    record {
+    let s : Steps c w (never_behind c front) e.seat e.step (never_behind c (front ++ e ∷ [])) (IsTouched c k) = record {
       before = told c front at.history;
       behind = rw m.left at (told c _ h);
       meets = m.meets;
@@ -81,13 +78,12 @@ along : (c : Config) (es : List Event) (k : Marking es) (done rest : List Event)
     → NoneSweepsFrom c (left c (through k.begin ++ done)) rest
     → AtMoment c (IsTouched c k) (through k.begin ++ done) → Marked c k rest
 unfolding NoneSweepsFrom
-along c es k done [] is h none unswept at =
-    record {
-      at = subst (λ (xs : List Event). AtMoment c (IsTouched c k) (through k.begin ++ xs))
-          (sym (is ∙ append-nil done)) at;
-      begun = refl;
-      released = refl;
-    }
+along c es k done [] is h none unswept at = record {
+  at = subst (λ (xs : List Event). AtMoment c (IsTouched c k) (through k.begin ++ xs))
+      (sym (is ∙ append-nil done)) at;
+  begun = refl;
+  released = refl;
+}
 along c es k done (e ∷ rest) is h none unswept at =
     let first : List Event = through k.begin in
     let front : List Event = first ++ done in
@@ -120,13 +116,11 @@ at_begin c es k h =
     let m = one_more c k.begin.before e h in
     let w : World = left c k.begin.before in
     let is = begin_is e.step k.begin.of_kind in
-    let meets : Meets c w.now e.seat Step.Begin = subst (λ (x : Step). Meets c w.now e.seat x) is m.meets in
-    let zero = eqb-true _ 0 meets.phase in
-    let left_is : WorldBehind c w e.seat Step.Begin ≡ left c (through k.begin) =
-    ap (λ (x : Step). WorldBehind c w e.seat x) (sym is) ∙ sym m.left in
+    let meets : Meets c w.now e.seat Step.Begin = subst (Meets c w.now e.seat) is m.meets in
+    let left_is = ap (WorldBehind c w e.seat) (sym is) ∙ sym m.left in
     record {
       history = h;
-      early = subst (λ (v : World). IsMarking v.now.words) left_is (inl (omega arith));
+      early = subst (λ (v : World). IsMarking v.now.words) left_is (inl (omega (arith, eqb-true _ 0 meets.phase)));
       precise = subst (λ (v : World). IsPrecise c v (IsTouched c k)) left_is (precise_begun c w e.seat (IsTouched c k)
           (known_world c k.begin.before m.history.within_limits m.history.enabled) meets);
     }

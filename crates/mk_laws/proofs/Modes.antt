@@ -28,30 +28,29 @@ pub remoded : (c : Config) (o : Object) (releasing : Bool) (marks : List ℕ) (t
     (g : PlacedAllocation → PlacedAllocation)
     → HasLayout c o releasing marks t → Remodes c t run g → RunStands (claims_of c run (map g t.allocations)) run
     → HasLayout c o releasing marks (record t { run = run; allocations = map g t.allocations })
-remoded c o releasing marks t run g st r stands =
-    record {
-      scene = layout_changed _ _ st.scene (record {
-        from = λ y i. elim (among_parts _ _ y i) [
-          | inl j ↦ let b = was y j in (b.0, own_claim c o t (record y { mode = b.0 }) b.1)
-          | inr j ↦ (y.mode, placed_claim c o t y j)
-        ];
-        to = λ x i. elim (among_parts _ _ x i) [
-          | inl j ↦ let b = now x j
-              in (b.0, among_front _ _ (record x { mode = b.0 }) b.1)
-          | inr j ↦ (x.mode, among_back _ _ x j)
-        ];
-        apart = apart_joined _ _ (apart_behind c t.run run g t.allocations r.leaves (apart_left _ _ st.scene.apart))
-            (apart_right _ _ st.scene.apart) (λ x y ix iy same.
-            apart_across _ _ (record x { mode = (was x ix).0 }) y st.scene.apart (was x ix).1 iy same);
-        headers = λ y i d lt. elim (among_parts _ _ y i) [
-          | inl j ↦ headers y j d lt
-          | inr j ↦ (st.scene.shown y (placed_claim c o t y j)).headers d lt
-        ];
-      });
-      gone = stands;
-      first = st.first;
-      cells = cells_behind c g t.allocations r.leaves st.cells;
-    }
+remoded c o releasing marks t run g st r stands = record {
+  scene = layout_changed _ _ st.scene (record {
+    from = λ y i. elim (among_parts _ _ y i) [
+      | inl j ↦ let b = was y j in (b.0, own_claim c o t (record y { mode = b.0 }) b.1)
+      | inr j ↦ (y.mode, placed_claim c o t y j)
+    ];
+    to = λ x i. elim (among_parts _ _ x i) [
+      | inl j ↦ let b = now x j
+          in (b.0, among_front _ _ (record x { mode = b.0 }) b.1)
+      | inr j ↦ (x.mode, among_back _ _ x j)
+    ];
+    apart = apart_joined _ _ (apart_behind c t.run run g t.allocations r.leaves (apart_left _ _ st.scene.apart))
+        (apart_right _ _ st.scene.apart) (λ x y ix iy same.
+        apart_across _ _ (record x { mode = (was x ix).0 }) y st.scene.apart (was x ix).1 iy same);
+    headers = λ y i d lt. elim (among_parts _ _ y i) [
+      | inl j ↦ headers y j d lt
+      | inr j ↦ (st.scene.shown y (placed_claim c o t y j)).headers d lt
+    ];
+  });
+  gone = stands;
+  first = st.first;
+  cells = cells_behind c g t.allocations r.leaves st.cells;
+}
   where
     same : (i : ℕ) (m : Mode) → record (claim_of c run (g (placed_at t.allocations i))) { mode = m }
         ≡ record (claim_of c t.run (placed_at t.allocations i)) { mode = m }

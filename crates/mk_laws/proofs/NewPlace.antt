@@ -1,5 +1,5 @@
 -- The place of an undecided New lies in the heap.
-use Rattle.std.proofs.lemmas.Bool.{leb-false}
+use Rattle.std.proofs.Common.{leb-false}
 use Rattle.mk_laws.proofs.Vocabulary.{Bool, Caller, Chosen, Config, Flight, Granted, Ground, Holding, List, Moment}
 use Rattle.mk_laws.proofs.Vocabulary.{None, Object, Op, Option, Page, Place, Placing, Seat, Some, Stage, Step, Unplaced}
 use Rattle.mk_laws.proofs.Vocabulary.{Used, World, ℕ, ap, at_rest, cases_eq, cases_lt, chosen, false, flight_of}

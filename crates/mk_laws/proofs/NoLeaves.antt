@@ -16,11 +16,10 @@ use Rattle.mk_laws.proofs.{InvariantJoined.told_to_guard, Worlds.Told, Worlds.he
 -- What a header that is scanned shows.
 pub scanned_has_none : (c : Config) (w : World) (n : NeverState) (p : ℕ) → Told c w n
     → has_no_pointers (header_in w.now.words p) ≡ false → HasNoLeaf c (precision_scene_of w) p
-scanned_has_none c w n p t scanned =
-    record {
-      header = (or_parts _ _ scanned).0;
-      allocations = λ a u at. not_leaf c w n t a u (ap (λ q. has_no_pointers (header_in w.now.words q)) at ∙ scanned);
-    }
+scanned_has_none c w n p t scanned = record {
+  header = (or_parts _ _ scanned).0;
+  allocations = λ a u at. not_leaf c w n t a u (ap (λ q. has_no_pointers (header_in w.now.words q)) at ∙ scanned);
+}
 
 -- A mapped allocation whose page shows no leaf isn't one.
 mapped_not_leaf : (c : Config) (w : World) (n : NeverState) (i : ℕ) → Told c w n
@@ -107,11 +106,10 @@ module _ (c : Config) (w : World) (n : NeverState) (seat : Seat) (x : Step) (aft
 
   pub no_leaf_behind : (p : ℕ) → cells_under (header_in w.now.words p) ≢ 0 → HasNoLeaf c (precision_scene_of w) p
       → HasNoLeaf c (precision_scene_of (WorldBehind c w seat x)) p
-  no_leaf_behind p cells none =
-      record {
-        header = header_behind p cells none.header;
-        allocations = λ a u at. by a u at (came_behind c w seat x a u);
-      }
+  no_leaf_behind p cells none = record {
+    header = header_behind p cells none.header;
+    allocations = λ a u at. by a u at (came_behind c w seat x a u);
+  }
     where
       v : World
       v = WorldBehind c w seat x

@@ -1,7 +1,7 @@
 -- Allocations after events that grant none: what is unreleased was so before, and each keeps its place.
 use Rattle.mk_laws.proofs.Vocabulary.{Config, Event, IsHistory, List, PlacedAllocation, Seat, Step, World, ℕ, ap}
 use Rattle.mk_laws.proofs.Vocabulary.{append-nil, append_assoc, false, flight_of, is_release, left, length, placed_at}
-use Rattle.mk_laws.proofs.Vocabulary.{refl, subst, sym, true≢false, world_behind, [], ◌++◌, ◌<◌, ◌∙◌, ◌∷◌, ◌≡◌}
+use Rattle.mk_laws.proofs.Vocabulary.{refl, subst, sym, true≢false, [], ◌++◌, ◌<◌, ◌∙◌, ◌∷◌, ◌≡◌}
 use Rattle.mk_laws.proofs.AllocationSteps.{AreOfOne, GoesOn, allocation_step, goes_on, of_one_joined}
 use Rattle.mk_laws.proofs.Basics.{Came, IsNew, Stayed, WorldBehind, is_grant}
 use Rattle.mk_laws.proofs.{Marking.one_more, Precise.came_behind, Stretches.None_of, Stretches.along_without}
@@ -15,12 +15,11 @@ pub older_same : (xs : List PlacedAllocation) → AreOlder xs xs
 older_same xs = record { was = λ j u. u; there = λ i lt. lt; same = λ i lt. record { base = refl; ty = refl } }
 
 pub older_joined : (xs ys zs : List PlacedAllocation) → AreOlder xs ys → AreOlder ys zs → AreOlder xs zs
-older_joined xs ys zs a b =
-    record {
-      was = λ j u. a.was j (b.was j u);
-      there = λ i lt. b.there i (a.there i lt);
-      same = λ i lt. of_one_joined _ _ _ (a.same i lt) (b.same i (a.there i lt));
-    }
+older_joined xs ys zs a b = record {
+  was = λ j u. a.was j (b.was j u);
+  there = λ i lt. b.there i (a.there i lt);
+  same = λ i lt. of_one_joined _ _ _ (a.same i lt) (b.same i (a.there i lt));
+}
 
 goes_on_behind : (c : Config) (w : World) (seat : Seat) (x : Step) (i : ℕ) → i < length w.allocations
     → GoesOn w.allocations (WorldBehind c w seat x).allocations x i
@@ -29,12 +28,11 @@ goes_on_behind c w seat x i lt = goes_on w.allocations (WorldBehind c w seat x).
 
 pub older_behind : (c : Config) (w : World) (seat : Seat) (x : Step) → is_grant x ≡ false
     → AreOlder w.allocations (WorldBehind c w seat x).allocations
-older_behind c w seat x other =
-    record {
-      was = λ j u. by j (came_behind c w seat x j u);
-      there = λ i lt. (goes_on_behind c w seat x i lt).there;
-      same = λ i lt. (goes_on_behind c w seat x i lt).same;
-    }
+older_behind c w seat x other = record {
+  was = λ j u. by j (came_behind c w seat x j u);
+  there = λ i lt. (goes_on_behind c w seat x i lt).there;
+  same = λ i lt. (goes_on_behind c w seat x i lt).same;
+}
   where
     by : (j : ℕ) → Came w.allocations (WorldBehind c w seat x).allocations x j
         → (placed_at w.allocations j).released ≡ false

@@ -1,5 +1,5 @@
 -- One step of a cycle, whatever it is: after `begin` nothing is marked or held, and each step keeps it touched.
-use Rattle.std.specs.Prelude.{option_and_then}
+use Rattle.std.proofs.Common.{option_and_then}
 use Rattle.mk_laws.proofs.Vocabulary.{Bool, Caller, Cell, Config, Hand, Host, IsIdle, Marker, MarkerStands, MarkerState}
 use Rattle.mk_laws.proofs.Vocabulary.{Moment, NeverState, None, Null, Op, Option, PlacedAllocation, Placing, Seat, Some}
 use Rattle.mk_laws.proofs.Vocabulary.{Stage, Step, Word, Words, World, ℕ, address_of, all_below, all_below-at}
@@ -10,8 +10,8 @@ use Rattle.mk_laws.proofs.Vocabulary.{is_marked, is_number_of, is_put, is_unmark
 use Rattle.mk_laws.proofs.Vocabulary.{none-some, nothing_done, or_cases, or_else, placed_at, pointed_cell, refl}
 use Rattle.mk_laws.proofs.Vocabulary.{register_word, same_Some, slice_index, slice_index_or, subst, sym, true}
 use Rattle.mk_laws.proofs.Vocabulary.{true≢false, word_points, ◌%◌, ◌&&◌, ◌*◌, ◌+◌, ◌/◌, ◌∙◌, ◌≡◌, ◌≢◌, ◌≤◌, ◌⊎◌}
-use Rattle.mk_core.specs.declared.seats.Source.TheVariants.{Marked, Root, Unmarked}
 use Rattle.mk_core.specs.Effects.{hand_given, hand_of_cell, is_in_stop, is_mapped_cell}
+use Rattle.mk_core.specs.declared.seats.Source.TheVariants.{Marked, Root, Unmarked}
 use Rattle.mk_core.specs.Touched.{PointsIntoAllocation}
 use Rattle.mk_laws.proofs.Basics.{Behind, KnownWorld, Meets, WorldBehind, view_of}
 use Rattle.mk_laws.proofs.Precise.{IsPrecise, MarkerIsPrecise, PointsOnlyInto, PrecisionScene, Steps}
@@ -47,7 +47,7 @@ look_stage : (s : Stage) (o : Op) (y : Word) → comes_next s o (Step.Look y) �
 look_stage Stage.Put o y h = cc
 look_stage _ o y h = refl
 
-idle_owes_none : (s : Stage) → s ≡ Stage.Idle → is_put s ≡ false
+pub idle_owes_none : (s : Stage) → s ≡ Stage.Idle → is_put s ≡ false
 idle_owes_none s is = ap is_put is
 
 module _ (c : Config) (w : World) (n : NeverState) (t : Told c w n) where
@@ -174,11 +174,10 @@ module _ (c : Config) (w : World) (n : NeverState) (T : ℕ → Type 0) (precise
 -- What markers are in the middle of stands, whether they attend or not.
 
 idle_stands : (c : Config) (m : Moment) (x : MarkerState) → IsIdle x → MarkerStands c m x
-idle_stands c m x idle =
-    record {
-      scan = λ z is. absurd (none-some _ (sym idle.scan ∙ is));
-      seen = λ z is. absurd (none-some _ (sym idle.seen ∙ is));
-    }
+idle_stands c m x idle = record {
+  scan = λ z is. absurd (none-some _ (sym idle.scan ∙ is));
+  seen = λ z is. absurd (none-some _ (sym idle.seen ∙ is));
+}
 
 markers_stand : (c : Config) (w : World) (n : NeverState) (seat : Seat) (x : Step) (after : NeverState)
     (T : ℕ → Type 0) → Steps c w n seat x after T → (j : ℕ) → MarkerStands c w.now (marker_of w.now j)
@@ -200,14 +199,13 @@ precise_behind c w n seat x after T s precise =
 -- after `begin`
 pub precise_begun : (c : Config) (w : World) (seat : Seat) (T : ℕ → Type 0) → KnownWorld c w
     → Meets c w.now seat Step.Begin → IsPrecise c (WorldBehind c w seat Step.Begin) T
-precise_begun c w seat T known h =
-    record {
-      marked = λ b u is.
-          let cell : Cell = cell_of_allocation c (placed_at (WorldBehind c w seat Step.Begin).allocations b) in
-          absurd (true≢false (sym is ∙ no_bit _ cell.index (unmarked cell.page)));
-      hand = λ k is. absurd (none-some _ is);
-      markers = λ j. by seat h j;
-    }
+precise_begun c w seat T known h = record {
+  marked = λ b u is.
+      let cell : Cell = cell_of_allocation c (placed_at (WorldBehind c w seat Step.Begin).allocations b) in
+      absurd (true≢false (sym is ∙ no_bit _ cell.index (unmarked cell.page)));
+  hand = λ k is. absurd (none-some _ is);
+  markers = λ j. by seat h j;
+}
   where
     own : all_below c.pages (has_clean_page w.now.words) ≡ true
     own = (and_parts _ _ h.holder).0

@@ -1,5 +1,5 @@
 -- All is in order: what each move keeps, by what the protocol reads.
-use Rattle.std.{proofs.lemmas.List.Sums.count_by-le-length, proofs.lemmas.List.Sums.sum_by-set, specs.Prelude.count_by}
+use Rattle.std.proofs.{Common.count_by, lemmas.List.Sums.count_by-le-length, lemmas.List.Sums.sum_by-set}
 use Rattle.mk_laws.proofs.Vocabulary.{Caller, Config, Flight, Host, List, Marker, MarkerState, Seat, ℕ, ap, arith}
 use Rattle.mk_laws.proofs.Vocabulary.{at_rest, cases_eq, cases_lt, cond, false, get_or-set_other, get_or-set_same}
 use Rattle.mk_laws.proofs.Vocabulary.{get_or_past, holder_number, inl, inr, is_attending, is_in, length, length-set}

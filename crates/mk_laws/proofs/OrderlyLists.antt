@@ -1,5 +1,5 @@
 -- All is in order after every enabled list.
-use Rattle.std.{proofs.lemmas.List.get_or-replicate, proofs.lemmas.List.length-replicate, specs.Prelude.replicate}
+use Rattle.std.proofs.{Common.replicate, lemmas.List.get_or-replicate, lemmas.List.length-replicate}
 use Rattle.mk_laws.proofs.Vocabulary.{Caller, Config, MarkerState as Marker, Moment, Seat, Step, ℕ, ap, arith, at_rest}
 use Rattle.mk_laws.proofs.Vocabulary.{cases_lt, false, first_moment, flight_of, get_or_past, inl, inr, is_attending}
 use Rattle.mk_laws.proofs.Vocabulary.{outside, refl, slice_index_or, subst, sym, true, ◌<◌, ◌∙◌, ◌≡◌, ◌≤◌}
@@ -34,25 +34,24 @@ at_first n k x = elim (cases_lt k n) [
 ]
 
 pub orderly_at_first : (c : Config) → c.callers ≤ 16 → Orderly c (view_of (first_moment c))
-orderly_at_first c small =
-    record {
-      flights = length-replicate c.callers at_rest;
-      gates = refl;
-      markers = refl;
-      turn = omega arith;
-      each = λ k lt. rw (at_first c.callers k at_rest) (subst (λ (g : ℕ). Shows 0 g k Resting) (sym (at_first 16 k 0))
-          (λ e. absurd (omega arith), omega arith, λ e. refl, λ e. absurd (omega arith)));
-      served = nothing_served _ _;
-      free = λ e. refl;
-      phase = refl;
-      low = omega arith;
-      cycle = λ a b. absurd (omega arith);
-      stopped = λ e. absurd (omega arith);
-      attends = λ k a. let e : false ≡ true = ap (λ (x : Marker). is_attending x.presence) (sym (at_first 8 k outside))
-          ∙ a in cc;
-      idle = λ k a. record {
-        scan = rw (at_first 8 k outside);
-        hand = rw (at_first 8 k outside);
-        seen = rw (at_first 8 k outside);
-      };
-    }
+orderly_at_first c small = record {
+  flights = length-replicate c.callers at_rest;
+  gates = refl;
+  markers = refl;
+  turn = omega arith;
+  each = λ k lt. rw (at_first c.callers k at_rest) (subst (λ (g : ℕ). Shows 0 g k Resting) (sym (at_first 16 k 0))
+      (λ e. absurd (omega arith), omega arith, λ e. refl, λ e. absurd (omega arith)));
+  served = nothing_served _ _;
+  free = λ e. refl;
+  phase = refl;
+  low = omega arith;
+  cycle = λ a b. absurd (omega arith);
+  stopped = λ e. absurd (omega arith);
+  attends = λ k a. let e : false ≡ true = ap (λ (x : Marker). is_attending x.presence) (sym (at_first 8 k outside))
+      ∙ a in cc;
+  idle = λ k a. record {
+    scan = rw (at_first 8 k outside);
+    hand = rw (at_first 8 k outside);
+    seen = rw (at_first 8 k outside);
+  };
+}

@@ -1,5 +1,5 @@
 -- While a seat holds the turn, no other ends a cycle, and none is answered Full.
-use Rattle.std.{proofs.lemmas.List.Sums.sum_by-append, specs.Prelude.count_by}
+use Rattle.std.proofs.{Common.count_by, lemmas.List.Sums.sum_by-append}
 use Rattle.mk_laws.proofs.Vocabulary.{Answer, Bool, Caller, Config, Decided, Flight, Group, List, Moment, None, Op}
 use Rattle.mk_laws.proofs.Vocabulary.{Option, Progress, Seat, Some, Stage, Step, ℕ, answer_decided, answered, begun}
 use Rattle.mk_laws.proofs.Vocabulary.{cond, entry_of, false, flight_of, found, group_of, header_of, if◌then◌else◌}

@@ -17,12 +17,11 @@ headers_same : (c : Config) (w : World) → HeadersAreLeft c w w
 headers_same c w = record { some = λ p n. n; cells = λ p u cell is. is; well = λ u is. is }
 
 headers_joined : (c : Config) (w u v : World) → HeadersAreLeft c w u → HeadersAreLeft c u v → HeadersAreLeft c w v
-headers_joined c w u v a b =
-    record {
-      some = λ p n. b.some p (a.some p n);
-      cells = λ p x cell is. b.cells p x cell (a.cells p x cell is);
-      well = λ x is. b.well x (a.well x is);
-    }
+headers_joined c w u v a b = record {
+  some = λ p n. b.some p (a.some p n);
+  cells = λ p x cell is. b.cells p x cell (a.cells p x cell is);
+  well = λ x is. b.well x (a.well x is);
+}
 
 -- one event while a cycle marks, whoever steps
 pub headers_after : (c : Config) (w : World) (seat : Seat) (x : Step) → IsWithinLimits c → Known c w.now

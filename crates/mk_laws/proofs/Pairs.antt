@@ -37,14 +37,13 @@ bare_carries bs f a b d h =
     none _ o h = cc
 
 pub put_carries : (bs : List ℕ) (f : Flight) (a b d : Value) → f.stage ≡ Stage.Put → Carries bs f a b d
-put_carries bs f a b d h =
-    record {
-      q = λ e. let x : has_q Stage.Put f.op ≡ true = rw h at e in cc;
-      some_q = λ e. let x : has_some_q Stage.Put f.op ≡ true = rw h at e in cc;
-      p = λ e. let x : has_p Stage.Put f.op ≡ true = rw h at e in cc;
-      some_p = λ e. let x : has_some_p Stage.Put f.op ≡ true = rw h at e in cc;
-      r = λ e. let x : has_r Stage.Put f.op ≡ true = rw h at e in cc;
-    }
+put_carries bs f a b d h = record {
+  q = λ e. let x : has_q Stage.Put f.op ≡ true = rw h at e in cc;
+  some_q = λ e. let x : has_some_q Stage.Put f.op ≡ true = rw h at e in cc;
+  p = λ e. let x : has_p Stage.Put f.op ≡ true = rw h at e in cc;
+  some_p = λ e. let x : has_some_p Stage.Put f.op ≡ true = rw h at e in cc;
+  r = λ e. let x : has_r Stage.Put f.op ≡ true = rw h at e in cc;
+}
 
 pub bare_unprobed : (s : Stage) → is_bare s ≡ true → is_past_probe s ≡ false
 bare_unprobed Stage.Read h = cc
@@ -78,14 +77,13 @@ image_more n bs more _ e s = refl
 -- what is carried, where the values are others with the same images
 pub carries_same : (bs cs : List ℕ) (f : Flight) (a b d a2 b2 d2 : Value) → image_of cs a2 ≡ image_of bs a
     → image_of cs b2 ≡ image_of bs b → image_of cs d2 ≡ image_of bs d → Carries bs f a b d → Carries cs f a2 b2 d2
-carries_same bs cs f a b d a2 b2 d2 ea eb ed h =
-    record {
-      q = λ e. h.q e ∙ sym ea;
-      some_q = h.some_q;
-      p = λ e. h.p e ∙ sym eb;
-      some_p = h.some_p;
-      r = λ e. h.r e ∙ sym ed;
-    }
+carries_same bs cs f a b d a2 b2 d2 ea eb ed h = record {
+  q = λ e. h.q e ∙ sym ea;
+  some_q = h.some_q;
+  p = λ e. h.p e ∙ sym eb;
+  some_p = h.some_p;
+  r = λ e. h.r e ∙ sym ed;
+}
 
 -- an access that is met, where lengths and what is unmapped are the same
 pub met_same : (n m : NeverState) (v : Value) (i : ℕ) → ((a : ℕ) → length (words_of m a) ≡ length (words_of n a))

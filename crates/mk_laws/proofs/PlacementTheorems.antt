@@ -1,13 +1,12 @@
 -- Where the objects of all histories are granted, and when a New is full.
-use Rattle.std.specs.Prelude.{IsSome}
+use Rattle.std.proofs.Common.{IsSome}
 use Rattle.mk_laws.proofs.Vocabulary.{Caller, Config, Event, Holding, IsHistory, List, Moment, None, Object}
 use Rattle.mk_laws.proofs.Vocabulary.{OfHistories, Option, OwnCycle, Page, Place, Placing, Seat, Some, Step, Unplaced}
 use Rattle.mk_laws.proofs.Vocabulary.{Used, World, ℕ, ap, arith, eqb-true, false, flight_of, granted_base, is_none}
 use Rattle.mk_laws.proofs.Vocabulary.{is_phase, is_undecided_new, is_used_once, left, may_answer_full, ne_eqb, phase_of}
 use Rattle.mk_laws.proofs.Vocabulary.{place_on_pages, refl, subst, sym, true, true≢false, ◌++◌, ◌<◌, ◌∙◌, ◌∷◌, ◌≡◌}
-use Rattle.mk_core.specs.declared.seats.OwnCycle.TheVariants.{Ended}
-use Rattle.mk_core.specs.Placement.{FindsNoPlace, FullsFitNowhere, GrantsStandAtTheirPlaces, StandsAtItsPlace}
-use Rattle.mk_core.specs.Placement.{object_at}
+use Rattle.mk_core.specs.{Placement.FindsNoPlace, Placement.FullsFitNowhere, Placement.GrantsStandAtTheirPlaces}
+use Rattle.mk_core.specs.{Placement.StandsAtItsPlace, Placement.object_at, declared.seats.OwnCycle.TheVariants.Ended}
 use Rattle.mk_laws.proofs.Basics.{Meets, before_it, grants_new, held_place, new_holds}
 use Rattle.mk_laws.proofs.{Actors.fills_new, InvariantTheorems.first_fit_finds_the_place, OwnCycles.HasCycle}
 use Rattle.mk_laws.proofs.{Tracked.HasPlace, Tracked.news_are_tracked, Tracked.unplaced_settles, Undecided.HasNew}
@@ -76,13 +75,12 @@ full_there c es k h lt new meets =
     let y : Holding = w.now.seats.holding in
     let parts = full_is c.resident w.now.words.pages o y.placing y.cycle meets.holder in
     let t = news_are_tracked c es h k lt new in
-    let zero = eqb-true _ 0 meets.phase in
-    let off : is_phase w.now.words 4 ≡ false = ne_eqb _ 4 (λ four. omega arith) in
+    let off : is_phase w.now.words 4 ≡ false = ne_eqb _ 4 (λ four. omega (arith, eqb-true _ 0 meets.phase)) in
     let same = first_fit_finds_the_place c es h o (unplaced_settles c es k h lt new off parts.0) in
     record {
       turn = t.turn;
       cycle = subst (λ (x : OwnCycle). HasCycle t.turn.behind x (phase_of w.now.words)) parts.1 t.cycle;
-      no_fit = none_is_there _ (ap (λ (found : Option Place). is_none found) (sym same) ∙ parts.2);
+      no_fit = none_is_there _ (ap is_none (sym same) ∙ parts.2);
     }
 
 pub fulls_fit_nowhere : OfHistories FullsFitNowhere

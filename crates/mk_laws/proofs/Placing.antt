@@ -21,23 +21,22 @@ ChosenAt s first o = record s { plot = Plotted first o }
 pub layout_chosen : (s : LayoutScene) (first : ℕ) (o : Object) → IsLaidOn s → s.plot ≡ NoPlot → IsSized o
     → first + pages_made o ≤ length s.pages
     → ((d : ℕ) → d < pages_made o → header_on s.pages (first + d) ≡ 0) → IsLaidOn (ChosenAt s first o)
-layout_chosen s first o laid none sized within free =
-    record {
-      shown = laid.shown;
-      apart = laid.apart;
-      used = laid.used;
-      plot = record {
-        sized = sized;
-        within = within;
-        headers = λ d lt. inl (free d lt);
-        used = λ d lt. free_unused s (first + d) laid (free d lt);
-      };
-      occupied = λ p some empty. elim (laid.occupied p some empty) [
-        | inl on ↦ inl on
-        | inr here ↦ absurd (rw none at here)
-      ];
-      later = laid.later;
-    }
+layout_chosen s first o laid none sized within free = record {
+  shown = laid.shown;
+  apart = laid.apart;
+  used = laid.used;
+  plot = record {
+    sized = sized;
+    within = within;
+    headers = λ d lt. inl (free d lt);
+    used = λ d lt. free_unused s (first + d) laid (free d lt);
+  };
+  occupied = λ p some empty. elim (laid.occupied p some empty) [
+    | inl on ↦ inl on
+    | inr here ↦ absurd (rw none at here)
+  ];
+  later = laid.later;
+}
 
 -- `head` (a) and (b): the first page that hasn't its header gets it
 abbrev pub Carved : LayoutScene → ℕ → Object → ℕ → LayoutScene
@@ -205,24 +204,22 @@ module _ (s : LayoutScene) (x : Claim) (n : ℕ) (laid : IsLaidOn s) (t : Takes 
   grow q k h = same_bit q k (λ e ek. true≢false (sym h ∙ rw e (rw ek t.unset))) ∙ h
 
   grown : (y : Claim) → IsShown s.pages y → IsShown after y
-  grown y was =
-      record {
-        sized = was.sized;
-        known = was.known;
-        within = let l = len in let w = was.within in omega arith;
-        headers = λ d ld. rw (used_header s.pages x.page n (y.page + d) lt) (was.headers d ld);
-        used = grow y.page y.index was.used;
-      }
+  grown y was = record {
+    sized = was.sized;
+    known = was.known;
+    within = let l = len in let w = was.within in omega arith;
+    headers = λ d ld. rw (used_header s.pages x.page n (y.page + d) lt) (was.headers d ld);
+    used = grow y.page y.index was.used;
+  }
 
   own : IsShown after x
-  own =
-      record {
-        sized = t.sized;
-        known = t.index;
-        within = let l = len in let w = t.within in omega arith;
-        headers = λ d ld. rw t.mapped (used_header s.pages x.page n (x.page + d) lt ∙ t.headers d ld);
-        used = here_set;
-      }
+  own = record {
+    sized = t.sized;
+    known = t.index;
+    within = let l = len in let w = t.within in omega arith;
+    headers = λ d ld. rw t.mapped (used_header s.pages x.page n (x.page + d) lt ∙ t.headers d ld);
+    used = here_set;
+  }
 
   cells_here : cells_under (shows_on s.pages x.page) ≡ cells_made x.object
   cells_here =
@@ -272,24 +269,23 @@ module _ (s : LayoutScene) (x : Claim) (n : ℕ) (laid : IsLaidOn s) (t : Takes 
       none_set _ x.index (ap (used_on after) (sym head) ∙ empty) here_set
 
   pub layout_taken : IsLaidOn (Taken s x n)
-  layout_taken =
-      record {
-        shown = λ y among. elim (among_push s.claims x y among) [
-          | inl was ↦ grown y (laid.shown y was)
-          | inr e ↦ rw e own
+  layout_taken = record {
+    shown = λ y among. elim (among_push s.claims x y among) [
+      | inl was ↦ grown y (laid.shown y was)
+      | inr e ↦ rw e own
+    ];
+    apart = apart_push s.claims x laid.apart (λ y i same. true≢false (sym (laid.shown y i).used ∙ rw same.0
+        (rw same.1 t.unset)));
+    used = used;
+    plot = tt;
+    occupied = λ q some empty. elim
+        (laid.occupied q (λ z. some (used_header s.pages x.page n q lt ∙ z)) (unused q empty)) [
+          | inl on ↦ inl on
+          | inr here ↦ absurd (full q (t.plot q here) empty)
         ];
-        apart = apart_push s.claims x laid.apart (λ y i same. true≢false (sym (laid.shown y i).used ∙ rw same.0
-            (rw same.1 t.unset)));
-        used = used;
-        plot = tt;
-        occupied = λ q some empty. elim
-            (laid.occupied q (λ z. some (used_header s.pages x.page n q lt ∙ z)) (unused q empty)) [
-              | inl on ↦ inl on
-              | inr here ↦ absurd (full q (t.plot q here) empty)
-            ];
-        later = λ q d m is.
-            let l = laid.later q d m (rw (← (used_header s.pages x.page n q lt)) is) in (
-              l.0,
-              rw (used_header s.pages x.page n (q - d) lt) l.1,
-            );
-      }
+    later = λ q d m is.
+        let l = laid.later q d m (rw (← (used_header s.pages x.page n q lt)) is) in (
+          l.0,
+          rw (used_header s.pages x.page n (q - d) lt) l.1,
+        );
+  }

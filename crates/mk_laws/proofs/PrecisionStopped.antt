@@ -151,8 +151,7 @@ keeps_only_the_touched c es h k unswept i quarantined unreleased =
     let left_is : left c (through_release k) ≡ WorldBehind c w e.seat Step.Release =
     m.left ∙ ap (λ (x : Step). WorldBehind c w e.seat x) (release_is e.step k.release.at.of_kind) in
     let now : (with_released c w.now.words a).released ≡ false =
-    ap (λ (x : PlacedAllocation). x.released) (sym (changed_at (with_released c w.now.words) w.allocations i refl))
-    ∙ ap (λ (v : World). (placed_at v.allocations i).released) (sym left_is) ∙ unreleased in
+    cc (changed_at (with_released c w.now.words) w.allocations i refl, left_is, unreleased) in
     let u : a.released ≡ false = (or_parts a.released _ now).0 in
     let t = told c (before_release k) m.history in
     let taken : has_bit_of c w.now.words.snapshot a ≡ true =

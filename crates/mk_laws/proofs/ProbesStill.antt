@@ -2,16 +2,15 @@
 use Rattle.mk_laws.proofs.Vocabulary.{AccessIsAdmitted, Bool, Caller, CarriesOwn, Config, Continues, Flight}
 use Rattle.mk_laws.proofs.Vocabulary.{ImagePremises, Invariant, IsAdmitted, IsMet, IsSound, Meets, NeverState, Op, Ptr}
 use Rattle.mk_laws.proofs.Vocabulary.{Stage, Unmapped, Value, WordOf, World, ℕ, allocation_at, and_from, and_parts, ap}
-use Rattle.mk_laws.proofs.Vocabulary.{arith, bases_of, cases_Bool, false, flight_of, header_at, header_in, i_of}
-use Rattle.mk_laws.proofs.Vocabulary.{if◌then◌else◌, image_scene_of, inl, inr, is_large, is_run_gone, is_unmapped}
-use Rattle.mk_laws.proofs.Vocabulary.{is_unmapped_header, length, page_met, q_of, refl, register_at, subst, sym}
-use Rattle.mk_laws.proofs.Vocabulary.{target_of, true, true≢false, words_of, ◌*◌, ◌+◌, ◌<◌, ◌∙◌, ◌≡◌}
+use Rattle.mk_laws.proofs.Vocabulary.{bases_of, cases_Bool, false, flight_of, header_at, header_in, i_of, if◌then◌else◌}
+use Rattle.mk_laws.proofs.Vocabulary.{image_scene_of, inl, inr, is_large, is_unmapped, is_unmapped_header, length}
+use Rattle.mk_laws.proofs.Vocabulary.{page_met, q_of, refl, register_at, subst, sym, target_of, true, true≢false}
+use Rattle.mk_laws.proofs.Vocabulary.{words_of, ◌*◌, ◌+◌, ◌<◌, ◌∙◌, ◌≡◌}
 use Rattle.mk_laws.proofs.Basics.{InCall, KnownWorld, PagesShow, Ready, Stands, calls_stand, flight, is_astray}
-use Rattle.mk_laws.proofs.Basics.{is_call_stage, not_astray, ready_of, shows_at, standing, standing_at, stands_of}
-use Rattle.mk_laws.proofs.Basics.{view_of}
+use Rattle.mk_laws.proofs.Basics.{is_call_stage, not_astray, ready_of, standing, standing_at, stands_of}
 use Rattle.mk_laws.proofs.ImagesCallMoves.{access_meets, at_probe}
-use Rattle.mk_laws.proofs.{CallSorts.literal, ImagesBefore.pages_show, ImagesStands.gone_shows}
-use Rattle.mk_laws.proofs.{InvariantJoined.told_to_images, Reached.mapped_met, Reached.unmapped_target}
+use Rattle.mk_laws.proofs.Reached.{mapped_met, unmapped_target}
+use Rattle.mk_laws.proofs.{CallSorts.literal, ImagesBefore.shown_in_call, InvariantJoined.told_to_images}
 
 -- the access of an operation with a `probe`
 probe_meets : (n : NeverState) (k : ℕ) (o : Op) → is_astray (standing_at Stage.Probe o) ≡ false → AccessIsAdmitted n k o
@@ -50,21 +49,10 @@ module _ (c : Config) (w : World) (n : NeverState) (known : KnownWorld c w) (all
   pub ready : Ready c.globals all.mirrors.safe.0 (image_scene_of w) n
   ready = ready_of c w n known all.mirrors st all.mirrors.safe.0 all.mirrors.safe.1
 
-  -- Who is in a call finds freed runs gone,
-  pub gone_for : (k : ℕ) → k < c.callers → standing (flight_of w.now (Caller k)) ≡ InCall
-      → is_run_gone w.now.words w.now.seats.holding.freed ≡ true
-  gone_for k lt in_call = elim (cases_Bool (is_run_gone w.now.words w.now.seats.holding.freed)) [
-    | inl e ↦ e
-    | inr e ↦
-        let s = shows_at c (view_of w.now) k InCall known.now.orderly lt in_call in
-        absurd (omega (arith, all.run_gates e k lt s.1, s.0))
-  ]
-
-  -- so headers tell it what is unmapped.
+  -- Headers tell who is in a call what is unmapped.
   pub pages_tell : (k : ℕ) → k < c.callers → standing (flight_of w.now (Caller k)) ≡ InCall
       → PagesShow (header_at w.now.words) (image_scene_of w) n
-  pages_tell k lt in_call =
-      pages_show c w n known all.mirrors st (gone_shows c w known.limits others (gone_for k lt in_call))
+  pages_tell k lt in_call = shown_in_call c w n known all.mirrors others st k lt in_call
 
   own_sound : (k r : ℕ) → IsSound n (register_at n k r)
   own_sound k r = all.mirrors.typed.registers (8 * k + r)

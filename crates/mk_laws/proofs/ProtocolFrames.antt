@@ -1,5 +1,5 @@
 -- The frame law: what the events of other seats leave, for one event and for many.
-use Rattle.std.{proofs.lemmas.List.Sums.sum_by-append, specs.Prelude.◌/◌}
+use Rattle.std.proofs.lemmas.List.Sums.{sum_by-append}
 use Rattle.mk_laws.proofs.Vocabulary.{AreEnabledFrom, AreOfOthers, Caller, Config, Event, Flight, Holds, Host, IsInCall}
 use Rattle.mk_laws.proofs.Vocabulary.{IsLeft, List, Marker, MarkerState, Moment, Named, OnlyGrow, Protocol, Seat, Stage}
 use Rattle.mk_laws.proofs.Vocabulary.{Steady, Step, Store, Tally, TurnIsLeft, Word, Words, World, Written, ℕ, accessed}
@@ -9,8 +9,8 @@ use Rattle.mk_laws.proofs.Vocabulary.{false, first_world, flight_of, get_or-set_
 use Rattle.mk_laws.proofs.Vocabulary.{holder_number, inl, inr, is_attending, is_end, is_in, is_number_of, is_one_of}
 use Rattle.mk_laws.proofs.Vocabulary.{is_unmapped_header, left, left_append, left_from, marker_at, others_are_held}
 use Rattle.mk_laws.proofs.Vocabulary.{outside, phase_of, refl, reg_access, register_met, slice_index, slice_set, sym}
-use Rattle.mk_laws.proofs.Vocabulary.{true, world_behind, [], ◌*◌, ◌++◌, ◌+◌, ◌<◌, ◌==◌, ◌||◌, ◌∙◌, ◌∷◌, ◌≡◌, ◌≢◌, ◌≤◌}
-use Rattle.mk_laws.proofs.Vocabulary.{◌⊎◌}
+use Rattle.mk_laws.proofs.Vocabulary.{true, world_behind, [], ◌*◌, ◌++◌, ◌+◌, ◌/◌, ◌<◌, ◌==◌, ◌||◌, ◌∙◌, ◌∷◌, ◌≡◌, ◌≢◌}
+use Rattle.mk_laws.proofs.Vocabulary.{◌≤◌, ◌⊎◌}
 use Rattle.mk_core.proofs.{Histories.calls_append, RegisterAccesses.tally_leaves_registers}
 use Rattle.mk_core.specs.Frames.{Attends, CountsAreLeft, HoldsAll, IsIn, OthersLeave, OwnIsLeft, ScanIsLeft, written_of}
 use Rattle.mk_core.specs.{Growing.is_same_seat, Readings.is_in_call}
@@ -95,20 +95,19 @@ pub record Left (c : Config) (s : Seat) (w v : World) : Type 0 where
 
 own_after : (c : Config) (w : World) (seat s : Seat) (x : Step) → Known c w.now → Meets c w.now seat x → seat ≢ s
     → OwnIsLeft c s w (WorldBehind c w seat x)
-own_after c w seat s x known h ne =
-    record {
-      flight = others_flight c w seat s x ne;
-      marker = others_marker c w seat s x ne;
-      registers = λ k r is lt. others_registers w.now.words seat _ k r (register_step c w.now seat x known.operands h)
-          (λ e. ne (e ∙ sym is)) lt;
-      holding = λ holds.
-          let move = others_out c w seat s x known h ne holds in
-          let turn = turn_after c w seat _ known move in (
-            still_holds c s w (WorldBehind c w seat x) (others_flight c w seat s x ne)
-                (ap (λ (y : Steady). y.turn) turn.steady) holds,
-            holding_out c w seat _ move,
-          );
-    }
+own_after c w seat s x known h ne = record {
+  flight = others_flight c w seat s x ne;
+  marker = others_marker c w seat s x ne;
+  registers = λ k r is lt. others_registers w.now.words seat _ k r (register_step c w.now seat x known.operands h)
+      (λ e. ne (e ∙ sym is)) lt;
+  holding = λ holds.
+      let move = others_out c w seat s x known h ne holds in
+      let turn = turn_after c w seat _ known move in (
+        still_holds c s w (WorldBehind c w seat x) (others_flight c w seat s x ne)
+            (ap (λ (y : Steady). y.turn) turn.steady) holds,
+        holding_out c w seat _ move,
+      );
+}
 
 -- a call in flight is that of a caller, whose gate is 1
 in_call_gate : (c : Config) (m : Moment) (k : ℕ) → Known c m → is_in_call (flight_of m (Caller k)) ≡ true
@@ -164,24 +163,22 @@ scan_after c w seat _ x known h a = absurd a
 -- one event of another seat
 pub left_after : (c : Config) (w : World) (seat s : Seat) (x : Step) → Known c w.now → Meets c w.now seat x → seat ≢ s
     → Left c s w (WorldBehind c w seat x)
-left_after c w seat s x known h ne =
-    record {
-      own = own_after c w seat s x known h ne;
-      mapped = mapped_after c w seat s x known h ne;
-      turn = λ holds. turn_after c w seat _ known (others_out c w seat s x known h ne holds);
-      stop = λ all. stop_out c w seat s _ (others_out c w seat s x known h ne all.0) ne all.0 all.1;
-      scan = scan_after c w seat s x known h;
-    }
+left_after c w seat s x known h ne = record {
+  own = own_after c w seat s x known h ne;
+  mapped = mapped_after c w seat s x known h ne;
+  turn = λ holds. turn_after c w seat _ known (others_out c w seat s x known h ne holds);
+  stop = λ all. stop_out c w seat s _ (others_out c w seat s x known h ne all.0) ne all.0 all.1;
+  scan = scan_after c w seat s x known h;
+}
 
 pub left_same : (c : Config) (s : Seat) (w : World) → Left c s w w
-left_same c s w =
-    record {
-      own = record { flight = refl; marker = refl; registers = λ k r is lt. refl; holding = λ holds. (holds, refl) };
-      mapped = λ call p is. is;
-      turn = λ holds. turn_same w;
-      stop = λ all. refl;
-      scan = λ a. (grows_same w.now.words.marks, grows_same w.now.words.blacks);
-    }
+left_same c s w = record {
+  own = record { flight = refl; marker = refl; registers = λ k r is lt. refl; holding = λ holds. (holds, refl) };
+  mapped = λ call p is. is;
+  turn = λ holds. turn_same w;
+  stop = λ all. refl;
+  scan = λ a. (grows_same w.now.words.marks, grows_same w.now.words.blacks);
+}
 
 -- what the seat is in the middle of, it still is
 
@@ -205,23 +202,22 @@ still_stopped c s w u l all = (
 )
 
 pub left_joined : (c : Config) (s : Seat) (w u v : World) → Left c s w u → Left c s u v → Left c s w v
-left_joined c s w u v a b =
-    record {
-      own = record {
-        flight = b.own.flight ∙ a.own.flight;
-        marker = b.own.marker ∙ a.own.marker;
-        registers = λ k r is lt. b.own.registers k r is lt ∙ a.own.registers k r is lt;
-        holding = λ holds. let x = a.own.holding holds in let y = b.own.holding x.0 in (y.0, y.1 ∙ x.1);
-      };
-      mapped = λ call p is. b.mapped (still_calls c s w u a.own call) p (a.mapped call p is);
-      turn = λ holds. turn_joined w u v (a.turn holds) (b.turn (a.own.holding holds).0);
-      stop = λ all. b.stop (still_stopped c s w u a all) ∙ a.stop all;
-      scan = λ att.
-          let y = b.scan (still_attends c s w u a.own att) in (
-            grows_joined w.now.words.marks u.now.words.marks v.now.words.marks (a.scan att).0 y.0,
-            grows_joined w.now.words.blacks u.now.words.blacks v.now.words.blacks (a.scan att).1 y.1,
-          );
-    }
+left_joined c s w u v a b = record {
+  own = record {
+    flight = b.own.flight ∙ a.own.flight;
+    marker = b.own.marker ∙ a.own.marker;
+    registers = λ k r is lt. b.own.registers k r is lt ∙ a.own.registers k r is lt;
+    holding = λ holds. let x = a.own.holding holds in let y = b.own.holding x.0 in (y.0, y.1 ∙ x.1);
+  };
+  mapped = λ call p is. b.mapped (still_calls c s w u a.own call) p (a.mapped call p is);
+  turn = λ holds. turn_joined w u v (a.turn holds) (b.turn (a.own.holding holds).0);
+  stop = λ all. b.stop (still_stopped c s w u a all) ∙ a.stop all;
+  scan = λ att.
+      let y = b.scan (still_attends c s w u a.own att) in (
+        grows_joined w.now.words.marks u.now.words.marks v.now.words.marks (a.scan att).0 y.0,
+        grows_joined w.now.words.blacks u.now.words.blacks v.now.words.blacks (a.scan att).1 y.1,
+      );
+}
 
 -- the list goes on with events of others
 
@@ -271,11 +267,10 @@ counts_later c s w (e ∷ es) k on others holds =
     }
 
 counts_left : (c : Config) (es more : List Event) → CountsNothing c (left c es) more → CountsAreLeft c es (es ++ more)
-counts_left c es more h =
-    record {
-      ends = sum_by-append (λ (x : Event). cond {A = ℕ} (is_end x.step) 1 0) es more ∙ (omega (arith, h.none_ends));
-      fulls = rw (calls_append c (first_world c) es more) (fulls_append (calls c es) _ ∙ (omega (arith, h.none_full)));
-    }
+counts_left c es more h = record {
+  ends = sum_by-append (λ (x : Event). cond {A = ℕ} (is_end x.step) 1 0) es more ∙ (omega (arith, h.none_ends));
+  fulls = rw (calls_append c (first_world c) es more) (fulls_append (calls c es) _ ∙ (omega (arith, h.none_full)));
+}
 
 -- the law
 
@@ -295,18 +290,17 @@ visit_left c _ m p i = absurd i
 is_left : (c : Config) (s : Seat) (es more : List Event) → Left c s (left c es) (left c (es ++ more))
     → Known c (left c (es ++ more)).now
     → (Holds c (left c es).now s → CountsAreLeft c es (es ++ more)) → IsLeft c s es (es ++ more)
-is_left c s es more l known counts =
-    record {
-      own = l.own;
-      in_call = λ k is call. record {
-        gate = (in_call_gate c _ k known (rw is at (still_calls c s (left c es) _ l.own call))).1;
-        mapped = l.mapped call;
-      };
-      turn = λ holds. (l.turn holds, counts holds);
-      stop = l.stop;
-      scan = λ a. scan_left c s (left c es) _ l (protocol_of c _ known) a;
-      visit = λ i. visit_left c s _ (protocol_of c _ known) (still_in c s (left c es) _ l.own i);
-    }
+is_left c s es more l known counts = record {
+  own = l.own;
+  in_call = λ k is call. record {
+    gate = (in_call_gate c _ k known (rw is at (still_calls c s (left c es) _ l.own call))).1;
+    mapped = l.mapped call;
+  };
+  turn = λ holds. (l.turn holds, counts holds);
+  stop = l.stop;
+  scan = λ a. scan_left c s (left c es) _ l (protocol_of c _ known) a;
+  visit = λ i. visit_left c s _ (protocol_of c _ known) (still_in c s (left c es) _ l.own i);
+}
 
 pub others_leave : OthersLeave
 others_leave c es more s limits on others =

@@ -27,16 +27,15 @@ pub record PhaseKept (c : Config) (v : View) (p : ℕ) : Type 0 where
 -- from a phase in which no marker attends to one that isn't the stop
 quiet : (c : Config) (v : View) (p m : ℕ) → Orderly c v → (p % 8 ≡ m) × (p ≡ m + 8 * count_in v.markers) → m ≤ 5 → m ≢ 3
     → (v.phase % 8 ≡ 0) ⊎ (3 ≤ v.phase % 8) → PhaseKept c v p
-quiet c v p m h n low no_stop idle =
-    record {
-      phase = omega (arith, n.0, n.1);
-      low = omega (arith, n.0);
-      stopped = λ e. absurd (no_stop (sym n.0 ∙ e));
-      attends = λ k a. absurd (elim (h.attends k a) [
-        | inl e ↦ elim idle [ inl z ↦ omega arith | inr l ↦ omega arith ]
-        | inr e ↦ elim idle [ inl z ↦ omega arith | inr l ↦ omega arith ]
-      ]);
-    }
+quiet c v p m h n low no_stop idle = record {
+  phase = omega (arith, n.0, n.1);
+  low = omega (arith, n.0);
+  stopped = λ e. absurd (no_stop (sym n.0 ∙ e));
+  attends = λ k a. absurd (elim (h.attends k a) [
+    | inl e ↦ elim idle [ inl z ↦ omega arith | inr l ↦ omega arith ]
+    | inr e ↦ elim idle [ inl z ↦ omega arith | inr l ↦ omega arith ]
+  ]);
+}
 
 pub phase_kept : (c : Config) (v : View) (seat : Seat) (p : ℕ) → Orderly c v → HoldsTurn c v seat → PhaseStep c v seat p
     → PhaseKept c v p
@@ -133,44 +132,42 @@ seats_kept : (c : Config) (v : View) (fs : List Flight) (gs : List ℕ) (i : Hol
     → Served (slice_index_or fs (v.turn - 1) at_rest) i → (v.turn ≡ 0 → i ≡ nothing_done)
     → (v.phase % 8 ≡ 3 → (k : ℕ) → k < c.callers → v.turn ≢ 1 + k → slice_index gs k ≡ 2)
     → Orderly c (record v { flights = fs; gates = gs; holding = i })
-seats_kept c v fs gs i h flights gates each served free stopped =
-    record {
-      flights = flights;
-      gates = gates;
-      markers = h.markers;
-      turn = h.turn;
-      each = each;
-      served = served;
-      free = free;
-      phase = h.phase;
-      low = h.low;
-      cycle = h.cycle;
-      stopped = stopped;
-      attends = h.attends;
-      idle = h.idle;
-    }
+seats_kept c v fs gs i h flights gates each served free stopped = record {
+  flights = flights;
+  gates = gates;
+  markers = h.markers;
+  turn = h.turn;
+  each = each;
+  served = served;
+  free = free;
+  phase = h.phase;
+  low = h.low;
+  cycle = h.cycle;
+  stopped = stopped;
+  attends = h.attends;
+  idle = h.idle;
+}
 
 -- where the markers change, and how many of them are in, but not how far the phase is
 markers_kept : (c : Config) (v : View) (k : ℕ) (x : MarkerState) (p : ℕ) → Orderly c v → p % 8 ≡ v.phase % 8
     → p ≡ v.phase % 8 + 8 * count_in (slice_set v.markers k x)
     → (is_attending x.presence ≡ true → (v.phase % 8 ≡ 1) ⊎ (v.phase % 8 ≡ 2)) → (k < length v.markers → IdlesOutside x)
     → Orderly c (record v { phase = p; markers = slice_set v.markers k x })
-markers_kept c v k x p h same count own idle =
-    record {
-      flights = h.flights;
-      gates = h.gates;
-      markers = length-set v.markers k x ∙ h.markers;
-      turn = h.turn;
-      each = h.each;
-      served = h.served;
-      free = h.free;
-      phase = omega (arith, count, same);
-      low = omega (arith, same, h.low);
-      cycle = λ a b. h.cycle (omega (arith, same)) (omega (arith, same));
-      stopped = λ e. h.stopped (omega (arith, same));
-      attends = attends_set v (p % 8) k x own h.attends same;
-      idle = λ b. marker_set v.markers k b x (λ (y : MarkerState). IdlesOutside y) idle (h.idle b);
-    }
+markers_kept c v k x p h same count own idle = record {
+  flights = h.flights;
+  gates = h.gates;
+  markers = length-set v.markers k x ∙ h.markers;
+  turn = h.turn;
+  each = h.each;
+  served = h.served;
+  free = h.free;
+  phase = omega (arith, count, same);
+  low = omega (arith, same, h.low);
+  cycle = λ a b. h.cycle (omega (arith, same)) (omega (arith, same));
+  stopped = λ e. h.stopped (omega (arith, same));
+  attends = attends_set v (p % 8) k x own h.attends same;
+  idle = λ b. marker_set v.markers k b x (λ (y : MarkerState). IdlesOutside y) idle (h.idle b);
+}
 
 pub kept : (c : Config) (v : View) (seat : Seat) (n : View) → c.callers ≤ 16 → Orderly c v → Move c v seat n
     → Orderly c n
@@ -194,24 +191,23 @@ kept c v seat n small h (Leaves {k} lt was) =
     (all_but_both c.callers v.turn k 0 v.gates v.flights at_rest (omega (arith, h.gates)) (omega (arith, h.flights))
     (λ e. absurd (omega arith), omega arith, λ e. refl, s.1) h.each)
     (others_served c v k at_rest h s.1) h.free (λ e b lb ne. absurd (omega (arith, g, h.stopped e k lt s.1)))
-kept c v seat n small h (Takes f z may) =
-    record {
-      flights = flights_kept c v seat f h;
-      gates = h.gates;
-      markers = h.markers;
-      turn = omega (arith, taker_number c v seat f may);
-      each = all_but_seat c (1 + holder_number c seat) seat v.gates v.flights f (taker_shows c v seat f h z may)
-          (λ b lb ne. shows_taken (gate_in v b) b (holder_number c seat) (standing (flight_in v b)) ne
-          (rw z at (h.each b lb)));
-      served = nothing_served _ _;
-      free = λ e. absurd (omega arith);
-      phase = h.phase;
-      low = h.low;
-      cycle = λ a b e. absurd (omega arith);
-      stopped = λ e. absurd (h.cycle (omega arith) (omega arith) z);
-      attends = h.attends;
-      idle = h.idle;
-    }
+kept c v seat n small h (Takes f z may) = record {
+  flights = flights_kept c v seat f h;
+  gates = h.gates;
+  markers = h.markers;
+  turn = omega (arith, taker_number c v seat f may);
+  each = all_but_seat c (1 + holder_number c seat) seat v.gates v.flights f (taker_shows c v seat f h z may)
+      (λ b lb ne. shows_taken (gate_in v b) b (holder_number c seat) (standing (flight_in v b)) ne
+      (rw z at (h.each b lb)));
+  served = nothing_served _ _;
+  free = λ e. absurd (omega arith);
+  phase = h.phase;
+  low = h.low;
+  cycle = λ a b e. absurd (omega arith);
+  stopped = λ e. absurd (h.cycle (omega arith) (omega arith) z);
+  attends = h.attends;
+  idle = h.idle;
+}
 kept c v seat n small h (Gives t none at) =
     let turn = turn_of c v seat h t in
     record {

@@ -1,10 +1,10 @@
 -- What a look at the turn, at a gate and at the phase says.
-use Rattle.mk_laws.proofs.Vocabulary.{Caller, Config, Event, Holds, Host, List, Marker, MarkerState, Moment, Presence}
-use Rattle.mk_laws.proofs.Vocabulary.{Protocol, Seat, ℕ, ap, arith, cases_Bool, cases_eq, cases_lt, false, get_or_past}
-use Rattle.mk_laws.proofs.Vocabulary.{inl, inr, is_attending, is_in, left, length, marker_of, not, outside, refl, sym}
-use Rattle.mk_laws.proofs.Vocabulary.{true, ◌-◌, ◌/◌, ◌<◌, ◌∙◌, ◌≡◌, ◌≤◌}
-use Rattle.mk_core.specs.declared.seats.Presence.TheVariants.{Attending}
-use Rattle.mk_core.specs.{MarkerConditions.is_out, Readings.GateTells, Readings.PhaseTells, Readings.TurnTells}
+use Rattle.mk_laws.proofs.Vocabulary.{Caller, Config, Event, Holds, Host, List, Marker, Moment, Presence, Protocol}
+use Rattle.mk_laws.proofs.Vocabulary.{Seat, ℕ, ap, arith, cases_Bool, cases_eq, cases_lt, false, get_or_past, inl, inr}
+use Rattle.mk_laws.proofs.Vocabulary.{is_attending, is_in, left, length, marker_of, not, outside, refl, sym, true, ◌-◌}
+use Rattle.mk_laws.proofs.Vocabulary.{◌/◌, ◌<◌, ◌∙◌, ◌≡◌, ◌≤◌}
+use Rattle.mk_core.specs.Readings.{GateTells, PhaseTells, TurnTells}
+use Rattle.mk_core.specs.{MarkerConditions.is_out, declared.seats.Presence.TheVariants.Attending}
 use Rattle.mk_laws.proofs.{Orderly.count_in-at, ProtocolHeldGates.gates_tell_holds, Protocols.lists_keep_the_protocol}
 use Rattle.mk_laws.specs.HolderReadings.{WordsTell}
 
@@ -37,15 +37,14 @@ in_counts c m k p is = elim (cases_lt k (length m.seats.markers)) [
 ]
 
 phase_tells : (c : Config) (m : Moment) → Protocol c m → PhaseTells c m
-phase_tells c m p =
-    record {
-      low = p.low;
-      high = p.high;
-      none_in = λ z k. none k (λ a. let one = in_counts c m k p (attending_in _ a) in absurd (omega arith));
-      attends = λ n1 n2 k. none k (λ a. elim (p.attends k a) [ inl e ↦ n1 e | inr e ↦ n2 e ]);
-      under_the_turn = p.cycle;
-      stopped = p.stopped;
-    }
+phase_tells c m p = record {
+  low = p.low;
+  high = p.high;
+  none_in = λ z k. none k (λ a. let one = in_counts c m k p (attending_in _ a) in absurd (omega arith));
+  attends = λ n1 n2 k. none k (λ a. elim (p.attends k a) [ inl e ↦ n1 e | inr e ↦ n2 e ]);
+  under_the_turn = p.cycle;
+  stopped = p.stopped;
+}
   where
     none : (k : ℕ) → (is_attending (marker_of m k).presence ≡ true → ⊥) → is_attending (marker_of m k).presence ≡ false
     none k no_one = elim (cases_Bool (is_attending (marker_of m k).presence)) [ inl a ↦ absurd (no_one a) | inr a ↦ a ]

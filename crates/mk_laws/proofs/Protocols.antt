@@ -22,33 +22,32 @@ some_caller c m test o rests is = elim (cases_lt (m.words.turn - 1) c.callers) [
 ]
 
 told : (c : Config) (m : Moment) → Orderly c (view_of m) → HaveOperands c m.seats.flights → Protocol c m
-told c m o operands =
-    record {
-      callers = o.flights;
-      markers = o.markers;
-      low = o.low;
-      high = let e = o.phase in omega arith;
-      turn = o.turn;
-      gate = λ k lt. (gates k lt).0;
-      in_call = λ k lt.
-          let told = in_call_told (flight_of m (Caller k)).stage (flight_of m (Caller k)).op (not_astray c m o k lt) in
-          (λ x. sym told ∙ (gates k lt).1.0 x, λ x. (gates k lt).1.1 (told ∙ x));
-      held = λ k lt. (gates k lt).2;
-      holder = λ k lt.
-          let t = shows_turn m.words.turn (gate_in (view_of m) k) k (standing (flight_of m (Caller k))) (o.each k lt) in
-          let told = in_turn_told (flight_of m (Caller k)).stage (flight_of m (Caller k)).op (not_astray c m o k lt) in
-          (λ x. sym told ∙ t.0 x, λ x. t.1 (told ∙ x));
-      stage = λ k lt. stage_told (flight_of m (Caller k)).stage (flight_of m (Caller k)).op (not_astray c m o k lt);
-      operands = operands;
-      cycle = o.cycle;
-      stopped = o.stopped;
-      attends = o.attends;
-      idle = o.idle;
-      free = o.free;
-      placed = λ e. some_caller c m is_undecided_new o refl (o.served.placed e);
-      granted = λ e. some_caller c m is_decided_new o refl (o.served.granted e);
-      freed = λ run e. some_caller c m is_decided_free o refl (o.served.freed (rw e));
-    }
+told c m o operands = record {
+  callers = o.flights;
+  markers = o.markers;
+  low = o.low;
+  high = let e = o.phase in omega arith;
+  turn = o.turn;
+  gate = λ k lt. (gates k lt).0;
+  in_call = λ k lt.
+      let told = in_call_told (flight_of m (Caller k)).stage (flight_of m (Caller k)).op (not_astray c m o k lt) in
+      (λ x. sym told ∙ (gates k lt).1.0 x, λ x. (gates k lt).1.1 (told ∙ x));
+  held = λ k lt. (gates k lt).2;
+  holder = λ k lt.
+      let t = shows_turn m.words.turn (gate_in (view_of m) k) k (standing (flight_of m (Caller k))) (o.each k lt) in
+      let told = in_turn_told (flight_of m (Caller k)).stage (flight_of m (Caller k)).op (not_astray c m o k lt) in
+      (λ x. sym told ∙ t.0 x, λ x. t.1 (told ∙ x));
+  stage = λ k lt. stage_told (flight_of m (Caller k)).stage (flight_of m (Caller k)).op (not_astray c m o k lt);
+  operands = operands;
+  cycle = o.cycle;
+  stopped = o.stopped;
+  attends = o.attends;
+  idle = o.idle;
+  free = o.free;
+  placed = λ e. some_caller c m is_undecided_new o refl (o.served.placed e);
+  granted = λ e. some_caller c m is_decided_new o refl (o.served.granted e);
+  freed = λ run e. some_caller c m is_decided_free o refl (o.served.freed (rw e));
+}
   where
     gates : (k : ℕ) → k < c.callers → (gate_in (view_of m) k ≤ 2)
         × ((gate_in (view_of m) k ≡ 1) ↔ (is_standing_in_call (standing (flight_of m (Caller k))) ≡ true))

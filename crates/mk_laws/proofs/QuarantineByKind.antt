@@ -10,7 +10,7 @@ use Rattle.mk_laws.proofs.Vocabulary.{is_undecided_new, length, ltb-true, may_en
 use Rattle.mk_laws.proofs.Vocabulary.{object_now, object_placed, or_cases, phase_of, place_now, placed_at}
 use Rattle.mk_laws.proofs.Vocabulary.{quarantine_step, refl, set-get_or, slice_index, slice_set, stands_in}
 use Rattle.mk_laws.proofs.Vocabulary.{stands_in_its_cell, sym, taken, target, true, true≢false, undecided_free}
-use Rattle.mk_laws.proofs.Vocabulary.{undecided_new, used_step, ◌%◌, ◌&&◌, ◌/◌, ◌<◌, ◌==◌, ◌^◌, ◌||◌, ◌∙◌, ◌≡◌}
+use Rattle.mk_laws.proofs.Vocabulary.{undecided_new, used_step, ◌%◌, ◌/◌, ◌<◌, ◌==◌, ◌^◌, ◌||◌, ◌∙◌, ◌≡◌}
 use Rattle.mk_core.proofs.{EvaluatedPlaces.full, PlacesNow.FreesCell, PlacesNow.chosen_used}
 use Rattle.mk_laws.proofs.Basics.{Before, Laid, Meets, WorldBehind, all_stand, claim_among, free_has_turn}
 use Rattle.mk_laws.proofs.Basics.{is_releasing_behind, none_set, own_claim, placed_undecided, reg_leaves_ground}
@@ -90,8 +90,7 @@ frees_here c w seat p n cell b h laid x =
       in_snapshot = omega arith;
       index = omega arith;
       own = own;
-      stands = ap (λ (y : Cell). stands_in w.now.words y a) (sym own.is)
-          ∙ stands_in_its_cell c w.now.words a b.limits s.stands s.headers;
+      stands = cc (own.is, stands_in_its_cell c w.now.words a b.limits s.stands s.headers);
       others = standing_cell c (object_now c w.now) w cell b.lengths.pages own off;
       unset = x.unfreed;
       value = x.value ∙ rw page;

@@ -27,8 +27,7 @@ freed_behind c g xs p k leaves o u f =
       number = o.number;
       unreleased = ap (λ (b : PlacedAllocation). b.released) at ∙ u;
       freed = ap (λ (b : PlacedAllocation). b.freed) at ∙ f;
-      cell = ap (λ (b : PlacedAllocation). cell_of_allocation c b) at
-          ∙ same_cell c a (g a) (leaves.places.base a) (leaves.places.ty a) ∙ o.cell;
+      cell = cc (at, same_cell c a (g a) (leaves.places.base a) (leaves.places.ty a), o.cell);
     }
 
 -- An unreleased allocation after a change, at its number before it.
@@ -49,8 +48,7 @@ before_change c g xs i leaves u =
       now = at;
       unreleased = v;
       was = leaves.released a v;
-      cell = ap (λ (b : PlacedAllocation). cell_of_allocation c b) at
-          ∙ same_cell c a (g a) (leaves.places.base a) (leaves.places.ty a);
+      cell = cc (at, same_cell c a (g a) (leaves.places.base a) (leaves.places.ty a));
     }
 
 -- `release`: what stays isn't released, and what goes is
@@ -58,21 +56,20 @@ pub release_kept : (c : Config) (w : World) → IsWithinLimits c
     → ((i : ℕ) → (placed_at w.allocations i).released ≡ false → IsStanding c w.now.words (placed_at w.allocations i))
     → HasQuarantine c false w.now.words.marks (ground_of w) → HasQuarantine c true w.now.words.marks
     (record (ground_of w) { allocations = map (with_released c w.now.words) w.allocations })
-release_kept c w limits stand q =
-    record {
-      small = q.small;
-      within = q.within;
-      owned = λ p k h. owned p k (q.owned p k h);
-      shown = λ i u f.
-          let b = before_change c _ w.allocations i leaves u in
-          ap (λ (x : Cell). has_bit (slice_index w.now.words.freed x.page) x.index) b.cell
-          ∙ q.shown i b.was (ap (λ (x : PlacedAllocation). x.freed) (sym b.now) ∙ f);
-      taken = q.taken;
-      kept = λ on i u.
-          let b = before_change c _ w.allocations i leaves u in
-          ap (λ (x : Cell). is_released_in true w.now.words.snapshot w.now.words.marks x.page x.index) b.cell
-          ∙ sym (left_is c w.now.words _ limits (stand i b.was)) ∙ b.unreleased;
-    }
+release_kept c w limits stand q = record {
+  small = q.small;
+  within = q.within;
+  owned = λ p k h. owned p k (q.owned p k h);
+  shown = λ i u f.
+      let b = before_change c _ w.allocations i leaves u in
+      ap (λ (x : Cell). has_bit (slice_index w.now.words.freed x.page) x.index) b.cell
+      ∙ q.shown i b.was (ap (λ (x : PlacedAllocation). x.freed) (sym b.now) ∙ f);
+  taken = q.taken;
+  kept = λ on i u.
+      let b = before_change c _ w.allocations i leaves u in
+      ap (λ (x : Cell). is_released_in true w.now.words.snapshot w.now.words.marks x.page x.index) b.cell
+      ∙ sym (left_is c w.now.words _ limits (stand i b.was)) ∙ b.unreleased;
+}
   where
     leaves : LeavesCells (with_released c w.now.words)
     leaves = releasing_leaves c w.now.words
@@ -92,50 +89,48 @@ release_kept c w limits stand q =
 -- `begin`
 pub begin_kept : (c : Config) (releasing : Bool) (marks : List ℕ) (t : Ground) → HasQuarantine c releasing marks t
     → HasQuarantine c releasing marks (record t { allocations = map no_longer_fresh t.allocations })
-begin_kept c releasing marks t q =
-    record {
-      small = q.small;
-      within = q.within;
-      owned = λ p k h. elim (q.owned p k h) [
-        | inl o ↦ inl (freed_behind c no_longer_fresh t.allocations p k fresh_cells o o.unreleased o.freed)
-        | inr r ↦ inr r
-      ];
-      shown = λ i u f.
-          let b = before_change c no_longer_fresh t.allocations i fresh_cells u in
-          ap (λ (x : Cell). has_bit (slice_index t.freed x.page) x.index) b.cell
-          ∙ q.shown i b.was (ap (λ (x : PlacedAllocation). x.freed) (sym b.now) ∙ f);
-      taken = q.taken;
-      kept = λ on i u.
-          let b = before_change c no_longer_fresh t.allocations i fresh_cells u in
-          ap (λ (x : Cell). is_released_in true t.snapshot marks x.page x.index) b.cell ∙ q.kept on i b.was;
-    }
+begin_kept c releasing marks t q = record {
+  small = q.small;
+  within = q.within;
+  owned = λ p k h. elim (q.owned p k h) [
+    | inl o ↦ inl (freed_behind c no_longer_fresh t.allocations p k fresh_cells o o.unreleased o.freed)
+    | inr r ↦ inr r
+  ];
+  shown = λ i u f.
+      let b = before_change c no_longer_fresh t.allocations i fresh_cells u in
+      ap (λ (x : Cell). has_bit (slice_index t.freed x.page) x.index) b.cell
+      ∙ q.shown i b.was (ap (λ (x : PlacedAllocation). x.freed) (sym b.now) ∙ f);
+  taken = q.taken;
+  kept = λ on i u.
+      let b = before_change c no_longer_fresh t.allocations i fresh_cells u in
+      ap (λ (x : Cell). is_released_in true t.snapshot marks x.page x.index) b.cell ∙ q.kept on i b.was;
+}
 
 -- `grant`
 pub grant_kept : (c : Config) (marks : List ℕ) (t : Ground) (a : PlacedAllocation) → a.freed ≡ false
     → HasQuarantine c false marks t
     → HasQuarantine c false marks (record t { placing = Granted; allocations = t.allocations ++ a ∷ [] })
-grant_kept c marks t a unfreed q =
-    record {
-      small = q.small;
-      within = q.within;
-      owned = λ p k h. elim (q.owned p k h) [
-        | inl o ↦
-            let still = still_at t.allocations a o.number o.unreleased in
-            inl (record {
-              number = o.number;
-              unreleased = rw still o.unreleased;
-              freed = rw still o.freed;
-              cell = rw still o.cell;
-            })
-        | inr r ↦ inr r
-      ];
-      shown = λ i u f. elim (pushed_at t.allocations a i u) [
-        | inl old ↦ rw old.1 (q.shown i old.0 (rw (← old.1) f))
-        | inr new ↦ absurd (true≢false (sym f ∙ rw new unfreed))
-      ];
-      taken = λ place is. cc;
-      kept = λ on. absurd (true≢false (sym on));
-    }
+grant_kept c marks t a unfreed q = record {
+  small = q.small;
+  within = q.within;
+  owned = λ p k h. elim (q.owned p k h) [
+    | inl o ↦
+        let still = still_at t.allocations a o.number o.unreleased in
+        inl (record {
+          number = o.number;
+          unreleased = rw still o.unreleased;
+          freed = rw still o.freed;
+          cell = rw still o.cell;
+        })
+    | inr r ↦ inr r
+  ];
+  shown = λ i u f. elim (pushed_at t.allocations a i u) [
+    | inl old ↦ rw old.1 (q.shown i old.0 (rw (← old.1) f))
+    | inr new ↦ absurd (true≢false (sym f ∙ rw new unfreed))
+  ];
+  taken = λ place is. cc;
+  kept = λ on. absurd (true≢false (sym on));
+}
 
 -- a page has at most 32 cells
 pub index_small : (o : Object) (k : ℕ) → IsSized o → k < cells_made o → k < 32
@@ -207,28 +202,27 @@ pub free_kept : (c : Config) (w : World) (cell : Cell) (run : Option RunPages) (
       run = run;
       allocations = map (freed_where_it_stands w.now.words (Some cell)) w.allocations;
     })
-free_kept c w cell run n x q =
-    record {
-      small = λ i. (
-        least_set w.now.words.freed cell.page (n % 2 ^ 32) i x.page (omega arith) (q.small i).0,
-        least_set w.now.words.snapshot cell.page (n / 2 ^ 32) i x.in_snapshot
-            (let h = high in let s = (q.small cell.page).1 in omega arith) (q.small i).1,
-      );
-      within = λ i k h. grown i k (q.within i k (same_snap i k h));
-      owned = owned;
-      shown = λ i u f.
-          let b = before_change c (freed_where_it_stands w.now.words (Some cell)) w.allocations i leaves u in
-          let a : PlacedAllocation = placed_at w.allocations i in
-          ap (λ (y : Cell). has_bit (slice_index (slice_set w.now.words.freed cell.page (n % 2 ^ 32)) y.page) y.index)
-          b.cell ∙ elim (freed_by (stands_in w.now.words cell a) a (rw (← b.now) f)) [
-            | inl here ↦
-                ap (λ (y : Cell). has_bit (slice_index (slice_set w.now.words.freed cell.page (n % 2 ^ 32)) y.page)
-                y.index) (x.others i b.was here) ∙ set_here
-            | inr old ↦ grown (cell_of_allocation c a).page (cell_of_allocation c a).index (q.shown i b.was old)
-          ];
-      taken = λ place used. absurd (true≢false (ap (λ (p : Placing). has_place p) (sym used) ∙ x.unplaced));
-      kept = λ on. absurd (true≢false (sym on));
-    }
+free_kept c w cell run n x q = record {
+  small = λ i. (
+    least_set w.now.words.freed cell.page (n % 2 ^ 32) i x.page (omega arith) (q.small i).0,
+    least_set w.now.words.snapshot cell.page (n / 2 ^ 32) i x.in_snapshot
+        (let h = high in let s = (q.small cell.page).1 in omega arith) (q.small i).1,
+  );
+  within = λ i k h. grown i k (q.within i k (same_snap i k h));
+  owned = owned;
+  shown = λ i u f.
+      let b = before_change c (freed_where_it_stands w.now.words (Some cell)) w.allocations i leaves u in
+      let a : PlacedAllocation = placed_at w.allocations i in
+      ap (λ (y : Cell). has_bit (slice_index (slice_set w.now.words.freed cell.page (n % 2 ^ 32)) y.page) y.index)
+      b.cell ∙ elim (freed_by (stands_in w.now.words cell a) a (rw (← b.now) f)) [
+        | inl here ↦
+            ap (λ (y : Cell). has_bit (slice_index (slice_set w.now.words.freed cell.page (n % 2 ^ 32)) y.page)
+            y.index) (x.others i b.was here) ∙ set_here
+        | inr old ↦ grown (cell_of_allocation c a).page (cell_of_allocation c a).index (q.shown i b.was old)
+      ];
+  taken = λ place used. absurd (true≢false (ap (λ (p : Placing). has_place p) (sym used) ∙ x.unplaced));
+  kept = λ on. absurd (true≢false (sym on));
+}
   where
     leaves : LeavesCells (freed_where_it_stands w.now.words (Some cell))
     leaves = freeing_leaves w.now.words (Some cell)

@@ -154,89 +154,84 @@ module _ (c : Config) (w : World) (p f n : ℕ) (lf : p < length w.now.words.fre
 
   pub drop_kept : HasQuarantine c true w.now.words.marks
       (record (ground_of w) { freed = slice_set w.now.words.freed p f; snapshot = slice_set w.now.words.snapshot p n })
-  drop_kept =
-      record {
-        small = λ i. (
-          least_set w.now.words.freed p f i lf f_small (q.small i).0,
-          least_set w.now.words.snapshot p n i ls n_small (q.small i).1,
-        );
-        within = within;
-        owned = owned;
-        shown = λ i u x. stays (cell_of_allocation c (placed_at w.allocations i)).page
-            (cell_of_allocation c (placed_at w.allocations i)).index (q.shown i u x) (q.kept refl i u);
-        taken = λ place is. elim (bit_cases w.now.words.freed p f place.page place.index lf) [
-          | inl here ↦ here.1 ∙ false_from_ne_true (has_bit f place.index) (λ x.
-              true≢false (sym (was_freed place.index x) ∙ rw (← here.0) (q.taken place is)))
-          | inr other ↦ other.1 ∙ q.taken place is
-        ];
-        kept = λ on i u.
-            let x : Cell = cell_of_allocation c (placed_at w.allocations i) in
-            false_from_ne_true
-            (is_released_in true (slice_set w.now.words.snapshot p n) w.now.words.marks x.page x.index) (λ r.
-            let bits = released_bits (slice_set w.now.words.snapshot p n) w.now.words.marks x.page x.index r in
-            true≢false (sym (and_both (has_bit (slice_index w.now.words.snapshot x.page) x.index)
-            (has_bit (slice_index w.now.words.marks x.page) x.index) (was_snap x.page x.index bits.0) bits.1)
-            ∙ q.kept refl i u));
-      }
+  drop_kept = record {
+    small = λ i. (
+      least_set w.now.words.freed p f i lf f_small (q.small i).0,
+      least_set w.now.words.snapshot p n i ls n_small (q.small i).1,
+    );
+    within = within;
+    owned = owned;
+    shown = λ i u x. stays (cell_of_allocation c (placed_at w.allocations i)).page
+        (cell_of_allocation c (placed_at w.allocations i)).index (q.shown i u x) (q.kept refl i u);
+    taken = λ place is. elim (bit_cases w.now.words.freed p f place.page place.index lf) [
+      | inl here ↦ here.1 ∙ false_from_ne_true (has_bit f place.index) (λ x.
+          true≢false (sym (was_freed place.index x) ∙ rw (← here.0) (q.taken place is)))
+      | inr other ↦ other.1 ∙ q.taken place is
+    ];
+    kept = λ on i u.
+        let x : Cell = cell_of_allocation c (placed_at w.allocations i) in
+        false_from_ne_true
+        (is_released_in true (slice_set w.now.words.snapshot p n) w.now.words.marks x.page x.index) (λ r.
+        let bits = released_bits (slice_set w.now.words.snapshot p n) w.now.words.marks x.page x.index r in
+        true≢false (sym (and_both (has_bit (slice_index w.now.words.snapshot x.page) x.index)
+        (has_bit (slice_index w.now.words.marks x.page) x.index) (was_snap x.page x.index bits.0) bits.1)
+        ∙ q.kept refl i u));
+  }
 
 -- `quar` (b): the freed cells are the snapshot
 pub snapshot_kept : (c : Config) (marks : List ℕ) (t : Ground) (p : ℕ) → p < length t.snapshot
     → HasQuarantine c false marks t
     → HasQuarantine c false marks (record t { snapshot = slice_set t.snapshot p (slice_index t.freed p) })
-snapshot_kept c marks t p ls q =
-    record {
-      small = λ i. ((q.small i).0, least_set t.snapshot p (slice_index t.freed p) i ls (q.small p).0 (q.small i).1);
-      within = λ i k x. elim (bit_cases t.snapshot p (slice_index t.freed p) i k ls) [
-        | inl here ↦ rw here.0 (sym here.1 ∙ x)
-        | inr other ↦ q.within i k (sym other.1 ∙ x)
-      ];
-      owned = q.owned;
-      shown = q.shown;
-      taken = q.taken;
-      kept = λ on. absurd (true≢false (sym on));
-    }
+snapshot_kept c marks t p ls q = record {
+  small = λ i. ((q.small i).0, least_set t.snapshot p (slice_index t.freed p) i ls (q.small p).0 (q.small i).1);
+  within = λ i k x. elim (bit_cases t.snapshot p (slice_index t.freed p) i k ls) [
+    | inl here ↦ rw here.0 (sym here.1 ∙ x)
+    | inr other ↦ q.within i k (sym other.1 ∙ x)
+  ];
+  owned = q.owned;
+  shown = q.shown;
+  taken = q.taken;
+  kept = λ on. absurd (true≢false (sym on));
+}
 
 -- `end`
 pub end_kept : (c : Config) (marks : List ℕ) (t : Ground)
     → ((p k : ℕ) → is_released_in true t.snapshot marks p k ≡ false)
     → HasQuarantine c true marks t → HasQuarantine c false marks t
-end_kept c marks t none q =
-    record {
-      small = q.small;
-      within = q.within;
-      owned = λ p k h. elim (q.owned p k h) [ inl o ↦ inl o | inr r ↦ absurd (true≢false (sym r ∙ none p k)) ];
-      shown = q.shown;
-      taken = q.taken;
-      kept = λ on. absurd (true≢false (sym on));
-    }
+end_kept c marks t none q = record {
+  small = q.small;
+  within = q.within;
+  owned = λ p k h. elim (q.owned p k h) [ inl o ↦ inl o | inr r ↦ absurd (true≢false (sym r ∙ none p k)) ];
+  shown = q.shown;
+  taken = q.taken;
+  kept = λ on. absurd (true≢false (sym on));
+}
 
 -- While the phase isn't releasing, the marks don't matter.
 pub unmarked : (c : Config) (marks other : List ℕ) (t : Ground) → HasQuarantine c false marks t
     → HasQuarantine c false other t
-unmarked c marks other t q =
-    record {
-      small = q.small;
-      within = q.within;
-      owned = q.owned;
-      shown = q.shown;
-      taken = q.taken;
-      kept = λ on. absurd (true≢false (sym on));
-    }
+unmarked c marks other t q = record {
+  small = q.small;
+  within = q.within;
+  owned = q.owned;
+  shown = q.shown;
+  taken = q.taken;
+  kept = λ on. absurd (true≢false (sym on));
+}
 
 -- Headers, used words and runs aren't read, and no step but one takes a cell.
 pub replaced : (c : Config) (releasing : Bool) (marks : List ℕ) (t : Ground) (pages : List Page) (placing : Placing)
     (run : Option RunPages)
     → ((place : Place) → placing ≡ Used place → t.placing ≡ Used place) → HasQuarantine c releasing marks t
     → HasQuarantine c releasing marks (record t { pages = pages; placing = placing; run = run })
-replaced c releasing marks t pages placing run from q =
-    record {
-      small = q.small;
-      within = q.within;
-      owned = q.owned;
-      shown = q.shown;
-      taken = λ place is. q.taken place (from place is);
-      kept = q.kept;
-    }
+replaced c releasing marks t pages placing run from q = record {
+  small = q.small;
+  within = q.within;
+  owned = q.owned;
+  shown = q.shown;
+  taken = λ place is. q.taken place (from place is);
+  kept = q.kept;
+}
 
 -- `used` (a): a cell without a used bit is in no quarantine
 pub take_kept : (c : Config) (marks : List ℕ) (t : Ground) (pages : List Page) (place : Place)
@@ -245,15 +240,14 @@ pub take_kept : (c : Config) (marks : List ℕ) (t : Ground) (pages : List Page)
     (cell_of_allocation c (placed_at t.allocations i)).index ≡ true)
     → has_bit (used_on t.pages place.page) place.index ≡ false → HasQuarantine c false marks t
     → HasQuarantine c false marks (record t { pages = pages; placing = Used place })
-take_kept c marks t pages place used unset q =
-    record {
-      small = q.small;
-      within = q.within;
-      owned = q.owned;
-      shown = q.shown;
-      taken = λ found is. let e : place ≡ found = cc in rw e at clear;
-      kept = q.kept;
-    }
+take_kept c marks t pages place used unset q = record {
+  small = q.small;
+  within = q.within;
+  owned = q.owned;
+  shown = q.shown;
+  taken = λ found is. let e : place ≡ found = cc in rw e at clear;
+  kept = q.kept;
+}
   where
     clear : has_bit (slice_index t.freed place.page) place.index ≡ false
     clear = false_from_ne_true _ (λ h. elim (q.owned place.page place.index h) [

@@ -24,7 +24,7 @@ told_from c done (e ∷ es) h =
       told_to_layout c (left c done) _ (known_world c done here.within_limits here.enabled)
           (histories_keep_the_invariant c done here),
       subst (λ (w : World). LayoutPremisesFrom c w es) (left_in_parts c done (e ∷ []))
-          (told_from c (done ++ e ∷ []) es (subst (λ (xs : List Event). IsHistory c xs) split h)),
+          (told_from c (done ++ e ∷ []) es (subst (IsHistory c) split h)),
     )
 
 pub snapshot_is_the_cycles : OfHistories SnapshotIsTheCycles

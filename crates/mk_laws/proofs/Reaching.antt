@@ -1,10 +1,10 @@
 -- Which word an enabled event reaches, and how.
 use Rattle.mk_laws.proofs.Vocabulary.{Bool, Caller, Config, Flight, Holding, Holds, Host, Marker, MarkerState, Moment}
 use Rattle.mk_laws.proofs.Vocabulary.{Op, Placing, Seat, Stage, Step, Tally, Word, ℕ, access, and_parts, ap, arith}
-use Rattle.mk_laws.proofs.Vocabulary.{caller_number, enabled_meets, false, flight_of, has_next_word, holder_number}
-use Rattle.mk_laws.proofs.Vocabulary.{is_new_at, is_none, is_number_of, is_scanned, is_under_turn, left, ltb-true}
-use Rattle.mk_laws.proofs.Vocabulary.{marker_at, nat_lt, not, outside, page_met, refl, seat_exists, tally_word, true}
-use Rattle.mk_laws.proofs.Vocabulary.{word_accessed, word_met, ◌&&◌, ◌*◌, ◌++◌, ◌<◌, ◌∙◌, ◌≡◌, ◌≤◌}
+use Rattle.mk_laws.proofs.Vocabulary.{caller_number, enabled_meets, false, flight_of, holder_number, is_new_at}
+use Rattle.mk_laws.proofs.Vocabulary.{is_number_of, is_under_turn, left, ltb-true, marker_at, nat_lt, not, outside}
+use Rattle.mk_laws.proofs.Vocabulary.{page_met, refl, seat_exists, tally_word, true, word_accessed, word_met, ◌&&◌, ◌*◌}
+use Rattle.mk_laws.proofs.Vocabulary.{◌++◌, ◌<◌, ◌∙◌, ◌≡◌, ◌≤◌}
 use Rattle.mk_core.specs.Accesses.{access_by, word_reached}
 use Rattle.mk_core.specs.{Layout.IsOfTable, Layout.NamesWord, Ranges.is_word, Ranges.is_word_met, Readings.is_idle}
 use Rattle.mk_laws.proofs.Basics.{Known, Meets, grants_new, is_grant, known_left, new_holds, operands_of}

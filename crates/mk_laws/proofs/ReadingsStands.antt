@@ -1,11 +1,10 @@
 -- What headers and freed bits say of the allocations, after each history.
-use Rattle.std.specs.Prelude.{◌-◌}
 use Rattle.mk_laws.proofs.Vocabulary.{Bool, Cell, Config, HasItsHead, Header, Invariant, IsFreedCell, IsTaken, LeafRun}
 use Rattle.mk_laws.proofs.Vocabulary.{NeverState, OfHistories, Option, PlacedAllocation, Run, RunPages, Some, World, ℕ}
 use Rattle.mk_laws.proofs.Vocabulary.{and_parts, ap, arith, cell_of_allocation, false, header_in, inl, inr, is_freed}
 use Rattle.mk_laws.proofs.Vocabulary.{is_phase, is_released_in, left, ne_eqb, not-true, phase_of, placed_at, refl}
 use Rattle.mk_laws.proofs.Vocabulary.{run_count, run_headed, stands_in, stands_in_its_cell, sym, true, true≢false}
-use Rattle.mk_laws.proofs.Vocabulary.{typed_size, ◌<◌, ◌∙◌, ◌≡◌, ◌≢◌, ◌≤◌, ◌⊎◌}
+use Rattle.mk_laws.proofs.Vocabulary.{typed_size, ◌-◌, ◌<◌, ◌∙◌, ◌≡◌, ◌≢◌, ◌≤◌, ◌⊎◌}
 use Rattle.mk_core.{proofs.PointedAllocations.taken_cell_is, specs.Readings.WordsTellWhatStands}
 use Rattle.mk_laws.{proofs.Basics.KnownWorld, proofs.Basics.known_world, proofs.ForImages.standing}
 use Rattle.mk_laws.{proofs.InvariantHistories.histories_keep_the_invariant, specs.WordReadings.HeadersAndQuarantineTell}
@@ -53,8 +52,7 @@ module _ (c : Config) (w : World) (n : NeverState) (known : KnownWorld c w) (all
         record {
           number = o.number;
           in_range = all.order.known cell.page cell.index bit;
-          stands = ap (λ (x : Cell). stands_in w.now.words x a) (sym o.cell)
-              ∙ stands_in_its_cell c w.now.words a known.limits s.stands s.headers;
+          stands = cc (o.cell, stands_in_its_cell c w.now.words a known.limits s.stands s.headers);
         },
         o.freed,
       )
@@ -68,15 +66,14 @@ module _ (c : Config) (w : World) (n : NeverState) (known : KnownWorld c w) (all
       taken_cell_is c w cell t (typed_size c a known.limits s.stands.typed) s.headers
 
   words_tell : WordsTellWhatStands w
-  words_tell =
-      record {
-        headers = all.order.words;
-        later = λ quiet p distance mapped is. later_page quiet p distance
-            (all.order.laid.scene.later p distance mapped is);
-        freed = λ quiet cell bit. taken_freed cell bit (freed_cell quiet cell bit);
-        quarantined = λ cell t freed. ap (λ (x : Cell). is_freed w.now.words x) (sym (taken cell t).1)
-            ∙ all.order.quarantined.shown t.number (taken cell t).0 freed;
-      }
+  words_tell = record {
+    headers = all.order.words;
+    later = λ quiet p distance mapped is. later_page quiet p distance
+        (all.order.laid.scene.later p distance mapped is);
+    freed = λ quiet cell bit. taken_freed cell bit (freed_cell quiet cell bit);
+    quarantined = λ cell t freed. ap (λ (x : Cell). is_freed w.now.words x) (sym (taken cell t).1)
+        ∙ all.order.quarantined.shown t.number (taken cell t).0 freed;
+  }
 
 pub headers_and_quarantine_tell : OfHistories HeadersAndQuarantineTell
 headers_and_quarantine_tell c es h = words_tell c (left c es) _ (known_world c es h.within_limits h.enabled)

@@ -4,10 +4,10 @@ use Rattle.mk_laws.proofs.Vocabulary.{Stage, WordOf, ℕ, answer_of, ap, arith, 
 use Rattle.mk_laws.proofs.Vocabulary.{flight_among, i_of, if◌then◌else◌, is_put, is_same, length, number_of, q_of, refl}
 use Rattle.mk_laws.proofs.Vocabulary.{register_at, slice_set, stage_refused, subst, sym, target_of, true, with_register}
 use Rattle.mk_laws.proofs.Vocabulary.{with_word, word_at, ◌*◌, ◌++◌, ◌+◌, ◌<◌, ◌∙◌, ◌≡◌}
-use Rattle.mk_never.specs.declared.operations.Reply.TheVariants.{Num as Number, Val}
-use Rattle.mk_never.specs.declared.values.Target.TheVariants.{Nothing}
 use Rattle.mk_never.specs.NeverHeap.{after_op, left_at, reply_at, reply_of}
-use Rattle.mk_never.specs.{declared.operations.Reply.Reply, declared.values.Target.Target}
+use Rattle.mk_never.specs.declared.operations.Reply.{Reply}
+use Rattle.mk_never.specs.declared.operations.Reply.TheVariants.{Num as Number, Val}
+use Rattle.mk_never.specs.{declared.values.Target.Target, declared.values.Target.TheVariants.Nothing}
 use Rattle.mk_laws.proofs.ImagesMoves.{Flies, Move, Owes, is_bare}
 use Rattle.mk_laws.proofs.Pairs.{bare_carries, bare_owes_nothing, bare_unprobed, shows_plain}
 use Rattle.mk_laws.proofs.Ready.{Leads, one_right}

@@ -7,8 +7,8 @@ use Rattle.mk_laws.proofs.Vocabulary.{has_r, has_some_p, if◌then◌else◌, im
 use Rattle.mk_laws.proofs.Vocabulary.{length, one_if, onward, p_of, progress_p, progress_q, progress_reg, q_of, r_of}
 use Rattle.mk_laws.proofs.Vocabulary.{refl, refused, register_at, register_met, slice_set, stage_behind, steps_of}
 use Rattle.mk_laws.proofs.Vocabulary.{subst, sym, true, ◌%◌, ◌*◌, ◌++◌, ◌+◌, ◌<◌, ◌==◌, ◌^◌, ◌∙◌, ◌≡◌, ◌≢◌}
-use Rattle.mk_never.specs.declared.values.Target.TheVariants.{Nothing}
 use Rattle.mk_never.specs.NeverHeap.{free_reply, lea_reply, moved_on}
+use Rattle.mk_never.specs.declared.values.Target.TheVariants.{Nothing}
 use Rattle.mk_core.specs.Calls.{value_for}
 use Rattle.mk_laws.proofs.Ready.{Leads, LeadsBy, Ready, bit_is, either_leads, image_test, image_zero, one_right}
 use Rattle.mk_laws.proofs.Refusals.{accesses, decides_nothing, owes_null, refuses}

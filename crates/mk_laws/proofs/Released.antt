@@ -34,19 +34,18 @@ pub record IsStanding (c : Config) (w : Words) (a : PlacedAllocation) : Type 0 w
 
 pub stands_there : (c : Config) (run : Option RunPages) (w : Words) (a : PlacedAllocation) → length w.pages ≡ c.pages
     → IsShown w.pages (claim_of c run a) → a.released ≡ false → IsAtCell c a → IsStanding c w a
-stands_there c run w a len shown u at =
-    record {
-      stands = record {
-        typed = at.typed;
-        unreleased = u;
-        begins = at.begins;
-        within =
-            let inside : a.base / 64 + pages_made (object_placed c a) ≤ length w.pages = shown.within in
-            let words : storage_words c a ≡ words_made (object_placed c a) = refl in
-            omega (arith, ends_on_pages _ a.base shown.sized at.begins);
-      };
-      headers = λ d lt. header_of_mode _ _ d _ (shown.headers d lt);
-    }
+stands_there c run w a len shown u at = record {
+  stands = record {
+    typed = at.typed;
+    unreleased = u;
+    begins = at.begins;
+    within =
+        let inside : a.base / 64 + pages_made (object_placed c a) ≤ length w.pages = shown.within in
+        let words : storage_words c a ≡ words_made (object_placed c a) = refl in
+        omega (arith, ends_on_pages _ a.base shown.sized at.begins);
+  };
+  headers = λ d lt. header_of_mode _ _ d _ (shown.headers d lt);
+}
 
 -- The index of its cell, where it is large.
 pub large_index : (c : Config) (a : PlacedAllocation) → IsSized (object_placed c a)
@@ -75,8 +74,7 @@ all_stand c o releasing w len st i u =
     (st.cells i u)
 
 pub releasing_leaves : (c : Config) (w : Words) → LeavesCells (with_released c w)
-releasing_leaves c w =
-    record { places = released_leaves c w; released = λ a h. (or_parts a.released _ h).0 }
+releasing_leaves c w = record { places = released_leaves c w; released = λ a h. (or_parts a.released _ h).0 }
 
 -- whether a release of the allocation's cell releases it
 pub left_is : (c : Config) (w : Words) (a : PlacedAllocation) → IsWithinLimits c → IsStanding c w a

@@ -24,39 +24,35 @@ pub record CycleSoFar (p : ℕ) (es : List Event) : Type 0 where
   pub closed : p ≡ 3 → HasClosed es
 
 begun_longer : (es : List Event) (e : Event) → is_close e.step ≡ false → HasBegun es → HasBegun (es ++ e ∷ [])
-begun_longer es e out b =
-    record {
-      begin = longer_at (e ∷ []) b.begin;
-      open_yet = none_more (λ (x : Event). is_close x.step) b.begin.behind e b.open_yet out;
-    }
+begun_longer es e out b = record {
+  begin = longer_at (e ∷ []) b.begin;
+  open_yet = none_more (λ (x : Event). is_close x.step) b.begin.behind e b.open_yet out;
+}
 
 closed_longer : (es : List Event) (e : Event) → is_release e.step ≡ false → HasClosed es → HasClosed (es ++ e ∷ [])
-closed_longer es e out b =
-    record {
-      marking = longer_marking (e ∷ []) b.marking;
-      unreleased = none_more (λ (x : Event). is_release x.step) b.marking.close.at.behind e b.unreleased out;
-    }
+closed_longer es e out b = record {
+  marking = longer_marking (e ∷ []) b.marking;
+  unreleased = none_more (λ (x : Event). is_release x.step) b.marking.close.at.behind e b.unreleased out;
+}
 
 begun_here : (es : List Event) (e : Event) → is_begin e.step ≡ true → HasBegun (es ++ e ∷ [])
 begun_here es e is = record { begin = at_end es e is; open_yet = refl }
 
 closed_here : (es : List Event) (e : Event) → is_close e.step ≡ true → HasBegun es → HasClosed (es ++ e ∷ [])
-closed_here es e is b =
-    record {
-      marking = record {
-        begin = longer_at (e ∷ []) b.begin;
-        close = record { at = at_end b.begin.behind e is; none_before = b.open_yet };
-      };
-      unreleased = refl;
-    }
+closed_here es e is b = record {
+  marking = record {
+    begin = longer_at (e ∷ []) b.begin;
+    close = record { at = at_end b.begin.behind e is; none_before = b.open_yet };
+  };
+  unreleased = refl;
+}
 
 so_far : (seat : Seat) (x : Step) (p : ℕ) (es : List Event) → AsksPhase x p → CycleSoFar p es
     → CycleSoFar (phase_behind x p) (es ++ record { seat = seat; step = x } ∷ [])
-so_far seat Step.Begin p es asks k =
-    record {
-      begun = λ m. begun_here es (record { seat = seat; step = Step.Begin }) refl;
-      closed = λ e. absurd (omega arith);
-    }
+so_far seat Step.Begin p es asks k = record {
+  begun = λ m. begun_here es (record { seat = seat; step = Step.Begin }) refl;
+  closed = λ e. absurd (omega arith);
+}
 so_far seat Step.Want p es asks k =
     let m : IsMarking p = record { least = omega arith; most = omega arith } in
     record {

@@ -1,15 +1,13 @@
 -- What a cycle's `release` releases.
-use Rattle.std.specs.Prelude.{◌↔◌}
-use Rattle.mk_laws.proofs.Vocabulary.{AreEnabledFrom, At, Bool, Caller, Cell, Config, Decided, Event, IsHistory, List}
-use Rattle.mk_laws.proofs.Vocabulary.{Moment, NeverState, OfHistories, PlacedAllocation, Releasing, Seat, Step, World}
-use Rattle.mk_laws.proofs.Vocabulary.{ℕ, after_calls, and_from, and_parts, ap, append_assoc, arith, asked}
-use Rattle.mk_laws.proofs.Vocabulary.{before_release, call_decided, calls_from, cell_of_allocation, changed_at}
-use Rattle.mk_laws.proofs.Vocabulary.{earlier_part_is_history, enabled_in_parts, enabled_parts, false, flight_of}
-use Rattle.mk_laws.proofs.Vocabulary.{has_bit_of, has_bit_without, is_begin, is_close, is_marked, is_quarantined}
-use Rattle.mk_laws.proofs.Vocabulary.{is_release, left, left_from, left_in_parts, list_any, list_any-append, map}
-use Rattle.mk_laws.proofs.Vocabulary.{never_behind, never_in_parts, not, not-true, phase_of, placed_at, refl}
-use Rattle.mk_laws.proofs.Vocabulary.{released_leaves, released_where_left, subst, sym, true, with_released}
-use Rattle.mk_laws.proofs.Vocabulary.{world_behind, [], ◌&&◌, ◌++◌, ◌||◌, ◌∙◌, ◌∷◌, ◌≡◌}
+use Rattle.mk_laws.proofs.Vocabulary.{AreEnabledFrom, At, Bool, Caller, Config, Decided, Event, IsHistory, List, Moment}
+use Rattle.mk_laws.proofs.Vocabulary.{NeverState, OfHistories, PlacedAllocation, Releasing, Seat, Step, World, ℕ}
+use Rattle.mk_laws.proofs.Vocabulary.{after_calls, and_from, and_parts, ap, append_assoc, arith, asked, before_release}
+use Rattle.mk_laws.proofs.Vocabulary.{call_decided, calls_from, cell_of_allocation, changed_at, earlier_part_is_history}
+use Rattle.mk_laws.proofs.Vocabulary.{enabled_in_parts, enabled_parts, false, flight_of, has_bit_of, has_bit_without}
+use Rattle.mk_laws.proofs.Vocabulary.{is_begin, is_close, is_marked, is_quarantined, is_release, left, left_from}
+use Rattle.mk_laws.proofs.Vocabulary.{left_in_parts, list_any, list_any-append, map, never_behind, never_in_parts, not}
+use Rattle.mk_laws.proofs.Vocabulary.{not-true, phase_of, placed_at, refl, released_leaves, released_where_left, subst}
+use Rattle.mk_laws.proofs.Vocabulary.{sym, true, with_released, world_behind, [], ◌&&◌, ◌++◌, ◌||◌, ◌↔◌, ◌∙◌, ◌∷◌, ◌≡◌}
 use Rattle.mk_never.specs.Reach.{IsReachable}
 use Rattle.mk_core.specs.Allocations.{allocations_by}
 use Rattle.mk_laws.proofs.CyclePhases.{AsksPhase, IsMarking, IsUnreleased, begin_is, close_is, marking_goes_on}
@@ -101,14 +99,13 @@ module _ (c : Config) (es : List Event) (h : IsHistory c es) (r : Releasing es) 
 
   -- the `begin`, in the list up to the `release`
   abbrev begin_at : At is_begin front
-  begin_at =
-      record {
-        before = begin.before;
-        event = begin.event;
-        behind = close.before ++ close.event ∷ last.before;
-        is = up_to_release begin.before close.before last.before begin.event close.event;
-        of_kind = begin.of_kind;
-      }
+  begin_at = record {
+    before = begin.before;
+    event = begin.event;
+    behind = close.before ++ close.event ∷ last.before;
+    is = up_to_release begin.before close.before last.before begin.event close.event;
+    of_kind = begin.of_kind;
+  }
 
   no_other : list_any (λ (e : Event). is_begin e.step) begin_at.behind ≡ false
   no_other = none_begins c _ begin.event close.event close.before last.before
@@ -143,18 +140,16 @@ module _ (c : Config) (es : List Event) (h : IsHistory c es) (r : Releasing es) 
   unfolding left_from
   released_is i u =
       let a : PlacedAllocation = placed_at w.allocations i in
-      let cell : Cell = cell_of_allocation c a in
       let s = allocations_stand c front before_is_history i u in
       let by_kind : allocations_by c w.now (flight_of w.now last.event.seat) last.event.step w.allocations
       ≡ map (with_released c w.now.words) w.allocations =
       ap (λ (x : Step). allocations_by c w.now (flight_of w.now last.event.seat) x w.allocations) releases in
       let changed : (left c (front ++ last.event ∷ [])).allocations ≡ map (with_released c w.now.words) w.allocations =
       ap (λ (v : World). v.allocations) (left_in_parts c front (last.event ∷ [])) ∙ by_kind in
-      let at = changed_at _ w.allocations i (released_leaves c w.now.words).none in
       ap (λ (xs : List PlacedAllocation). (placed_at xs i).released) changed
-      ∙ ap (λ (x : PlacedAllocation). x.released) at
-      ∙ released_where_left c w.now.words a h.within_limits s.stands s.headers ∙ has_bit_without _ _ cell.index
-      ∙ ap (λ b. b && not (marked i)) (snapshot_is i u)
+      ∙ ap (λ (x : PlacedAllocation). x.released) (changed_at _ w.allocations i (released_leaves c w.now.words).none)
+      ∙ released_where_left c w.now.words a h.within_limits s.stands s.headers ∙ has_bit_without _ _
+      (cell_of_allocation c a).index ∙ ap (λ b. b && not (marked i)) (snapshot_is i u)
 
   pub exact : (i : ℕ) → (allocation_before c r i).released ≡ false
       → ((allocation_behind c r i).released ≡ true) ↔ ((in_snapshot i ≡ true) × (marked i ≡ false))

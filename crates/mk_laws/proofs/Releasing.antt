@@ -60,15 +60,14 @@ unclaimed s p laid z x among distance lt e = claimed_used s.pages x distance (la
 -- the pages of a claim are others
 pub shown_beside : (pages : List Page) (p n : ℕ) (x : Claim) → p < length pages → IsShown pages x
     → ((distance : ℕ) → distance < pages_made x.object → x.page + distance ≢ p) → IsShown (with_header_on pages p n) x
-shown_beside pages p n x lt shown apart =
-    record {
-      sized = shown.sized;
-      known = shown.known;
-      within = let len = length-set pages p (record { header = n; used = used_on pages p }) in let w =
-          shown.within in omega arith;
-      headers = λ d ld. rw (headed_other pages p n (x.page + d) (apart d ld)) (shown.headers d ld);
-      used = rw (headed_used pages p n x.page lt) shown.used;
-    }
+shown_beside pages p n x lt shown apart = record {
+  sized = shown.sized;
+  known = shown.known;
+  within = let len = length-set pages p (record { header = n; used = used_on pages p }) in let w =
+      shown.within in omega arith;
+  headers = λ d ld. rw (headed_other pages p n (x.page + d) (apart d ld)) (shown.headers d ld);
+  used = rw (headed_used pages p n x.page lt) shown.used;
+}
 
 -- where a page shows what it showed, so does its head
 pub head_of_other : (pages : List Page) (p n q : ℕ) → q ≢ p → head_on (with_header_on pages p n) q ≡ head_on pages q
@@ -80,46 +79,44 @@ Emptied s p = record s { pages = with_header_on s.pages p 0 }
 plot_emptied : (pages : List Page) (p : ℕ) (plot : Plot) → p < length pages → PlotStands pages plot
     → PlotStands (with_header_on pages p 0) plot
 plot_emptied pages p NoPlot lt stands = stands
-plot_emptied pages p (Plotted first o) lt stands =
-    record {
-      sized = stands.sized;
-      within = let len = length-set pages p (record { header = 0; used = used_on pages p }) in let w =
-          stands.within in omega arith;
-      headers = λ d ld. elim (cases_eq (first + d) p) [
-        | inl e ↦ inl (rw e (headed_here pages p 0 lt))
-        | inr ne ↦ rw (headed_other pages p 0 (first + d) ne) (stands.headers d ld)
-      ];
-      used = λ d ld. headed_used pages p 0 (first + d) lt ∙ stands.used d ld;
-    }
+plot_emptied pages p (Plotted first o) lt stands = record {
+  sized = stands.sized;
+  within = let len = length-set pages p (record { header = 0; used = used_on pages p }) in let w =
+      stands.within in omega arith;
+  headers = λ d ld. elim (cases_eq (first + d) p) [
+    | inl e ↦ inl (rw e (headed_here pages p 0 lt))
+    | inr ne ↦ rw (headed_other pages p 0 (first + d) ne) (stands.headers d ld)
+  ];
+  used = λ d ld. headed_used pages p 0 (first + d) lt ∙ stands.used d ld;
+}
 
 -- `head` (d): a page of which nothing is left is free
 pub layout_emptied : (s : LayoutScene) (p : ℕ) → IsLaidOn s → p < length s.pages → s.releasing ≡ true
     → used_on s.pages (head_on s.pages p) ≡ 0 → IsLaidOn (Emptied s p)
-layout_emptied s p laid lt on z =
-    record {
-      shown = λ x among. shown_beside s.pages p 0 x lt (laid.shown x among) (unclaimed s p laid z x among);
-      apart = laid.apart;
-      used = λ q k h. elim (cases_eq q p) [
-        | inl e ↦ absurd (none_set (used_on s.pages p) k (unused_by (shows_on s.pages p) refl z) (rw (← e) (old q k h)))
-        | inr ne ↦ let t = laid.used q k (old q k h) in (
-          rw (ap (λ h. cells_under (header_of h)) (sym (headed_other s.pages p 0 q ne))) at t.0,
-          t.1,
+layout_emptied s p laid lt on z = record {
+  shown = λ x among. shown_beside s.pages p 0 x lt (laid.shown x among) (unclaimed s p laid z x among);
+  apart = laid.apart;
+  used = λ q k h. elim (cases_eq q p) [
+    | inl e ↦ absurd (none_set (used_on s.pages p) k (unused_by (shows_on s.pages p) refl z) (rw (← e) (old q k h)))
+    | inr ne ↦ let t = laid.used q k (old q k h) in (
+      rw (ap (λ h. cells_under (header_of h)) (sym (headed_other s.pages p 0 q ne))) at t.0,
+      t.1,
+    )
+  ];
+  plot = plot_emptied s.pages p s.plot lt laid.plot;
+  occupied = λ q some empty. inl on;
+  later = λ q d m is. elim (cases_eq q p) [
+    | inl e ↦ absurd (not_later m d (ap (shows_on (with_header_on s.pages p 0)) (sym e) ∙ is))
+    | inr ne ↦
+        let l = laid.later q d m (rw (← (headed_other s.pages p 0 q ne)) is) in (
+          l.0,
+          elim (cases_eq (q - d) p) [
+            | inl e ↦ inr (on, rw e (headed_here s.pages p 0 lt))
+            | inr other ↦ rw (headed_other s.pages p 0 (q - d) other) l.1
+          ],
         )
-      ];
-      plot = plot_emptied s.pages p s.plot lt laid.plot;
-      occupied = λ q some empty. inl on;
-      later = λ q d m is. elim (cases_eq q p) [
-        | inl e ↦ absurd (not_later m d (ap (shows_on (with_header_on s.pages p 0)) (sym e) ∙ is))
-        | inr ne ↦
-            let l = laid.later q d m (rw (← (headed_other s.pages p 0 q ne)) is) in (
-              l.0,
-              elim (cases_eq (q - d) p) [
-                | inl e ↦ inr (on, rw e (headed_here s.pages p 0 lt))
-                | inr other ↦ rw (headed_other s.pages p 0 (q - d) other) l.1
-              ],
-            )
-      ];
-    }
+  ];
+}
   where
     old : (q k : ℕ) → has_bit (used_on (with_header_on s.pages p 0) q) k ≡ true → has_bit (used_on s.pages q) k ≡ true
     old q k h = rw (← (headed_used s.pages p 0 q lt)) h
@@ -144,20 +141,19 @@ pub record Gives (s : LayoutScene) (p n : ℕ) : Type 0 where
 
 pub layout_given_back : (s : LayoutScene) (p n : ℕ) → IsLaidOn s → p < length s.pages → s.releasing ≡ true → Gives s p n
     → ((x : Claim) → Among x s.claims → is_released_on s x.page x.index ≡ false) → IsLaidOn (GivenBack s p n)
-layout_given_back s p n laid lt on gives kept =
-    record {
-      shown = λ x among. shown x among (laid.shown x among);
-      apart = laid.apart;
-      used = λ q k h. let t = laid.used q k (fewer q k h)
-          in (rw (ap (λ h. cells_under (header_of h)) (sym (used_header s.pages p n q lt))) at t.0, t.1);
-      plot = plot s.plot laid.plot;
-      occupied = λ q some empty. inl on;
-      later = λ q d m is.
-          let l = laid.later q d m (rw (← (used_header s.pages p n q lt)) is) in (
-            l.0,
-            rw (used_header s.pages p n (q - d) lt) l.1,
-          );
-    }
+layout_given_back s p n laid lt on gives kept = record {
+  shown = λ x among. shown x among (laid.shown x among);
+  apart = laid.apart;
+  used = λ q k h. let t = laid.used q k (fewer q k h)
+      in (rw (ap (λ h. cells_under (header_of h)) (sym (used_header s.pages p n q lt))) at t.0, t.1);
+  plot = plot s.plot laid.plot;
+  occupied = λ q some empty. inl on;
+  later = λ q d m is.
+      let l = laid.later q d m (rw (← (used_header s.pages p n q lt)) is) in (
+        l.0,
+        rw (used_header s.pages p n (q - d) lt) l.1,
+      );
+}
   where
     len : length (with_used_on s.pages p n) ≡ length s.pages
     len = length-set s.pages p (record { header = header_on s.pages p; used = n })
@@ -180,24 +176,22 @@ layout_given_back s p n laid lt on gives kept =
     ]
 
     shown : (x : Claim) → Among x s.claims → IsShown s.pages x → IsShown (with_used_on s.pages p n) x
-    shown x among was =
-        record {
-          sized = was.sized;
-          known = was.known;
-          within = let l = len in let w = was.within in omega arith;
-          headers = λ d ld. rw (used_header s.pages p n (x.page + d) lt) (was.headers d ld);
-          used = bit x among was.used;
-        }
+    shown x among was = record {
+      sized = was.sized;
+      known = was.known;
+      within = let l = len in let w = was.within in omega arith;
+      headers = λ d ld. rw (used_header s.pages p n (x.page + d) lt) (was.headers d ld);
+      used = bit x among was.used;
+    }
 
     plot : (plot : Plot) → PlotStands s.pages plot → PlotStands (with_used_on s.pages p n) plot
     plot NoPlot stands = stands
-    plot (Plotted first o) stands =
-        record {
-          sized = stands.sized;
-          within = let l = len in let w = stands.within in omega arith;
-          headers = λ d ld. rw (used_header s.pages p n (first + d) lt) (stands.headers d ld);
-          used = λ d ld. zero_where_none _ (λ k h. none_set _ k (stands.used d ld) (fewer (first + d) k h));
-        }
+    plot (Plotted first o) stands = record {
+      sized = stands.sized;
+      within = let l = len in let w = stands.within in omega arith;
+      headers = λ d ld. rw (used_header s.pages p n (first + d) lt) (stands.headers d ld);
+      used = λ d ld. zero_where_none _ (λ k h. none_set _ k (stands.used d ld) (fewer (first + d) k h));
+    }
 
 -- `release`: some claims go, and their cells are released
 abbrev Released : LayoutScene → List Claim → LayoutScene
@@ -211,18 +205,17 @@ pub record Releases (s : LayoutScene) (claims : List Claim) : Type 0 where
 
 pub layout_released : (s : LayoutScene) (claims : List Claim) → IsLaidOn s → s.releasing ≡ false → Releases s claims
     → IsLaidOn (Released s claims)
-layout_released s claims laid off r =
-    record {
-      shown = λ x among. laid.shown x (r.fewer x among);
-      apart = r.apart;
-      used = λ p k h. let t = laid.used p k h in (t.0, by p k t.1);
-      plot = laid.plot;
-      occupied = λ p some empty. inl refl;
-      later = λ p d m is. let l = laid.later p d m is in (
-        l.0,
-        elim l.1 [ inl head ↦ inl head | inr lost ↦ absurd (true≢false (sym lost.0 ∙ off)) ],
-      );
-    }
+layout_released s claims laid off r = record {
+  shown = λ x among. laid.shown x (r.fewer x among);
+  apart = r.apart;
+  used = λ p k h. let t = laid.used p k h in (t.0, by p k t.1);
+  plot = laid.plot;
+  occupied = λ p some empty. inl refl;
+  later = λ p d m is. let l = laid.later p d m is in (
+    l.0,
+    elim l.1 [ inl head ↦ inl head | inr lost ↦ absurd (true≢false (sym lost.0 ∙ off)) ],
+  );
+}
   where
     by : (p k : ℕ) → IsClaimed s.claims p k ⊎ (is_released_on s p k ≡ true)
         → IsClaimed claims p k ⊎ (is_released_in true s.snapshot s.marks p k ≡ true)
@@ -241,18 +234,17 @@ pub record Ends (s : LayoutScene) : Type 0 where
   pub settled : (p : ℕ) → p < length s.pages → header_on s.pages p ≢ 0 → used_on s.pages (head_on s.pages p) ≢ 0
 
 pub layout_ended : (s : LayoutScene) → IsLaidOn s → Ends s → IsLaidOn (Ended s)
-layout_ended s laid ends =
-    record {
-      shown = laid.shown;
-      apart = laid.apart;
-      used = λ p k h. let t = laid.used p k h in (t.0, inl (by p k h t.1));
-      plot = laid.plot;
-      occupied = λ p some empty. absurd (ends.settled p (inside p some) some empty);
-      later = λ p d m is. let l = laid.later p d m is in (
-        l.0,
-        inl (elim l.1 [ inl head ↦ head | inr lost ↦ absurd (headless p d m is lost.1) ]),
-      );
-    }
+layout_ended s laid ends = record {
+  shown = laid.shown;
+  apart = laid.apart;
+  used = λ p k h. let t = laid.used p k h in (t.0, inl (by p k h t.1));
+  plot = laid.plot;
+  occupied = λ p some empty. absurd (ends.settled p (inside p some) some empty);
+  later = λ p d m is. let l = laid.later p d m is in (
+    l.0,
+    inl (elim l.1 [ inl head ↦ head | inr lost ↦ absurd (headless p d m is lost.1) ]),
+  );
+}
   where
     inside : (p : ℕ) → header_on s.pages p ≢ 0 → p < length s.pages
     inside p some = elim (cases_lt p (length s.pages)) [

@@ -17,7 +17,7 @@ use Rattle.mk_laws.proofs.Basics.{new_has_turn, no_run, own_claim, page_within, 
 use Rattle.mk_laws.proofs.Basics.{tally_ground, with_header_on, with_used_on}
 use Rattle.mk_laws.proofs.ResidentPages.{RoomOn, count_range, is_resident, resident_count, resident_gone}
 use Rattle.mk_laws.proofs.ResidentPages.{resident_other, resident_used, room_same, room_unplaced, unmapped_use}
-use Rattle.mk_laws.proofs.{Behind.object_kind, Fits.FitsOnFreePages, Fits.fits, LayoutByKind.none_chosen}
+use Rattle.mk_laws.proofs.{Behind.object_kind, Fits.FitsOnFreePages, Fits.fits, Sorts.chosen_none}
 use Rattle.mk_laws.specs.Room.{HasRoom, in_plot}
 
 -- The place is chosen, where this many pages are free.
@@ -120,7 +120,7 @@ head_room c w seat p n b there lt laid room (ItUnmaps off x) =
         let turn = new_has_turn c w.now seat there placed.new in
         absurd (no_run c w.now seat b.known turn (undecided_new (flight_of w.now seat) placed.new).stage x.run x.there)
     by None at = subst (λ (y : Placing). RoomOn c (object_now c w.now) (with_header_on w.now.words.pages p n) y)
-        (sym (none_chosen w.now.seats.holding.placing))
+        (sym (chosen_none w.now.seats.holding.placing))
         (room_same c (object_now c w.now) w.now.words.pages (with_header_on w.now.words.pages p n)
         w.now.seats.holding.placing (λ q lq r. or_left (is_resident w.now.words.pages q)
         (in_plot (plot_of (object_now c w.now) w.now.seats.holding.placing) q)

@@ -1,13 +1,13 @@
 -- While a run isn't unmapped and wiped, the gates of all but the turn's holder are held: after one event.
-use Rattle.std.specs.Prelude.{Bool}
 use Rattle.mk_laws.proofs.Vocabulary.{Bool, Caller, Cell, Config, Header, Host, IsWordOfMapped, LayoutStands, List}
 use Rattle.mk_laws.proofs.Vocabulary.{Marker, Moment, None, Option, Run, RunPages, Seat, Some, Stage, Step, Words}
 use Rattle.mk_laws.proofs.Vocabulary.{World, ℕ, ap, cases_Bool, cases_eq, cases_lt, cell_freed, false, flight_of}
 use Rattle.mk_laws.proofs.Vocabulary.{freed_cell, get_or-set_other, get_or-set_same, heads_run, holder_number}
-use Rattle.mk_laws.proofs.Vocabulary.{if◌then◌else◌, inl, inr, is_heap_store, is_run_cell, is_run_gone, length, not}
+use Rattle.mk_laws.proofs.Vocabulary.{if◌then◌else◌, inl, inr, is_heap_store, is_run_cell, is_run_gone, length}
 use Rattle.mk_laws.proofs.Vocabulary.{nothing_done, or_else, refl, run_headed, run_of_cell, set_past, slice_index}
-use Rattle.mk_laws.proofs.Vocabulary.{slice_set, subst, sym, target, true, true≢false, word_met, ◌+◌, ◌<◌, ◌==◌, ◌||◌}
-use Rattle.mk_laws.proofs.Vocabulary.{◌∙◌, ◌≡◌, ◌≢◌}
+use Rattle.mk_laws.proofs.Vocabulary.{slice_set, subst, sym, target, true, true≢false, word_met, ◌+◌, ◌<◌, ◌==◌, ◌∙◌}
+use Rattle.mk_laws.proofs.Vocabulary.{◌≡◌, ◌≢◌}
+use Rattle.mk_core.proofs.ListTests.{implied}
 use Rattle.mk_laws.proofs.Basics.{Behind, Known, KnownWorld, Meets, at_its_stage, free_has_turn, others_held, reg_keeps}
 use Rattle.mk_laws.proofs.Basics.{tally_keeps, turn_of, view_of}
 use Rattle.mk_laws.proofs.{ImagesHeldGates.held_idle, RunWords.gone_behind}
@@ -87,10 +87,6 @@ some_run : (w : Words) (cell : Option Cell) (r : RunPages) → run_of_cell w cel
 some_run w None r is = cc
 some_run w (Some x) r is = (x, (refl, heads _ x.page r is))
 
-either : (x y : Bool) → (not x || y) ≡ true → x ≡ true → y ≡ true
-either true y h is = h
-either false y h is = cc
-
 module _ (c : Config) (w : World) (known : KnownWorld c w) (laid : LayoutStands c w) (gates : HoldsRunGates c w) where
   -- the run of the call, where it is what it was
   stays : (seat : Seat) (x : Step) → Meets c w.now seat x
@@ -132,7 +128,7 @@ module _ (c : Config) (w : World) (known : KnownWorld c w) (laid : LayoutStands 
           let same : cell_freed c.pages w.now.words (flight_of w.now seat) p n
           ≡ target c.pages w.now.words (flight_of w.now seat) = x.1.0 ∙ sym frees.at in
           let run = subst (λ (y : Option Cell). is_run_cell w.now.words y ≡ true) same x.1.1 in
-          let held = others_held c w.now seat (either _ _ h.gates run) in
+          let held = others_held c w.now seat (implied _ _ h.gates run) in
           let turn = turn_of c (view_of w.now) seat known.now.orderly (free_has_turn c w.now seat h.seat frees.free) in
           λ k lt other. held k lt (λ e. other (turn ∙ ap (λ i. 1 + i) e))
 

@@ -1,5 +1,5 @@
 -- A mapped run that a header shows lies in the heap.
-use Rattle.std.specs.Prelude.{unwrap_or}
+use Rattle.std.proofs.Common.{unwrap_or}
 use Rattle.mk_laws.proofs.Vocabulary.{Bool, Config, Flight, Ground, List, None, Object, Option, Page, Place, Run}
 use Rattle.mk_laws.proofs.Vocabulary.{RunPages, Some, Words, World, ℕ, and_parts, arith, block_header, carves, cases_eq}
 use Rattle.mk_laws.proofs.Vocabulary.{class_made, empties, eqb-true, false, free_page, get_or-set_other, header_made}

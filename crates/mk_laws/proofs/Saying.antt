@@ -151,9 +151,8 @@ module _ (c : Config) (w : World) (n : NeverState) (known : KnownWorld c w) (oth
   stored_word k _ (inr e) h ad = cc
 
   pub images_say : ImagesSay c w n
-  images_say =
-      record {
-        target = target_cell;
-        marked = run_marked;
-        stored = λ k x now. stored_word k x now.step (enabled_meets c w.now _ now.enabled) now.admitted;
-      }
+  images_say = record {
+    target = target_cell;
+    marked = run_marked;
+    stored = λ k x now. stored_word k x now.step (enabled_meets c w.now _ now.enabled) now.admitted;
+  }

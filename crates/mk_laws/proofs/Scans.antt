@@ -22,15 +22,14 @@ outside_well c w v out y is = absurd (by (is_heap_address c.pages v) _ out is)
 other_hand : (c : Config) (m : Moment) (hand new : Option ℕ) (x : Scan) → ScanStands c m hand x
     → ((n : ℕ) → IsGuarded c m n ⊎ (hand ≡ Some (slice_index m.words.heap n))
     → IsGuarded c m n ⊎ (new ≡ Some (slice_index m.words.heap n))) → ScanStands c m new x
-other_hand c m hand new x h over =
-    record {
-      index = h.index;
-      marked = h.marked;
-      start = h.start;
-      next = h.next;
-      end = h.end;
-      passed = λ f n le lt. over n (h.passed f n le lt);
-    }
+other_hand c m hand new x h over = record {
+  index = h.index;
+  marked = h.marked;
+  start = h.start;
+  next = h.next;
+  end = h.end;
+  passed = λ f n le lt. over n (h.passed f n le lt);
+}
 
 -- `mlook` at a header: the hand that it closes points into nothing
 look_passes : (c : Config) (m : Moment) (p : ℕ) (hand : Option ℕ) (n : ℕ)
@@ -57,12 +56,11 @@ pub look_stands : (c : Config) (m : Moment) (p : ℕ) (x : Marker) → MarkerSta
   hand = hand_behind_look c p (header_at m.words p) x.hand;
   seen = Some (record { page = p; header = header_at m.words p });
 })
-look_stands c m p x h =
-    record {
-      scan = λ s is. other_hand c m x.hand _ s (h.scan s is) (look_passes c m p x.hand);
-      seen = λ s is. subst (λ (z : SeenHeader). HeaderGoesOn c.pages z.header (header_at m.words z.page))
-          (same_Some _ _ is) (goes_same c.pages _);
-    }
+look_stands c m p x h = record {
+  scan = λ s is. other_hand c m x.hand _ s (h.scan s is) (look_passes c m p x.hand);
+  seen = λ s is. subst (λ (z : SeenHeader). HeaderGoesOn c.pages z.header (header_at m.words z.page))
+      (same_Some _ _ is) (goes_same c.pages _);
+}
 
 pub unseen_stands : (c : Config) (m : Moment) (x : Marker) → MarkerStands c m x
     → MarkerStands c m (record x { seen = None })
@@ -80,15 +78,14 @@ idle_stands c m at = record { scan = λ s is. absurd (none-some _ is); seen = λ
 begun_stands : (c : Config) (m : Moment) (hand : Option ℕ) (p k header : ℕ) → k < cells_under (header_of header)
     → has_bit (slice_index m.words.marks p) k ≡ true
     → HeaderGoesOn c.pages header (header_at m.words p) → ScanStands c m hand (scan_begun p k header)
-begun_stands c m hand p k header lt is go =
-    record {
-      index = rw (go.count some) lt;
-      marked = is;
-      start = rw first (omega arith);
-      next = omega arith;
-      end = ends (has_no_pointers (header_of header)) refl;
-      passed = λ f n le l. (let low = rw first at le in absurd (omega arith));
-    }
+begun_stands c m hand p k header lt is go = record {
+  index = rw (go.count some) lt;
+  marked = is;
+  start = rw first (omega arith);
+  next = omega arith;
+  end = ends (has_no_pointers (header_of header)) refl;
+  passed = λ f n le l. (let low = rw first at le in absurd (omega arith));
+}
   where
     some : cells_under (header_of header) ≢ 0
     some z = omega (arith, lt, z)
@@ -135,18 +132,17 @@ load_stands c m x next more none at h = record { scan = λ s is. by x.scan more 
 
     onward : (z : Scan) → ScanStands c m x.hand z → z.next < z.end → z.next ≡ next
         → ScanStands c m (open_hand c (slice_index m.words.heap next)) (record z { next = z.next + 1 })
-    onward z st lt is =
-        record {
-          index = st.index;
-          marked = st.marked;
-          start = let le = st.start in omega arith;
-          next = omega arith;
-          end = st.end;
-          passed = λ f n le l. elim (cases_eq n z.next) [
-            | inl e ↦ rw (e ∙ is) (loaded next _ refl)
-            | inr ne ↦ inl (old n (st.passed f n le (omega arith)))
-          ];
-        }
+    onward z st lt is = record {
+      index = st.index;
+      marked = st.marked;
+      start = let le = st.start in omega arith;
+      next = omega arith;
+      end = st.end;
+      passed = λ f n le l. elim (cases_eq n z.next) [
+        | inl e ↦ rw (e ∙ is) (loaded next _ refl)
+        | inr ne ↦ inl (old n (st.passed f n le (omega arith)))
+      ];
+    }
 
     by : (scan : Option Scan) → has_next_word scan ≡ true → ((s : Scan) → scan ≡ Some s → s.next ≡ next)
         → ((s : Scan) → scan ≡ Some s → ScanStands c m x.hand s)

@@ -15,12 +15,11 @@ pub record MarkerFits (c : Config) (x : Marker) : Type 0 where
   pub end : (s : Scan) → x.scan ≡ Some s → s.end ≤ 64 * c.pages
 
 pub nothing_fits : (c : Config) (x : Marker) → x.seen ≡ None → x.scan ≡ None → MarkerFits c x
-nothing_fits c x no_seen no_scan =
-    record {
-      seen = λ s e. absurd (apart s (sym no_seen ∙ e));
-      page = λ s e. absurd (apart s (sym no_scan ∙ e));
-      end = λ s e. absurd (apart s (sym no_scan ∙ e));
-    }
+nothing_fits c x no_seen no_scan = record {
+  seen = λ s e. absurd (apart s (sym no_seen ∙ e));
+  page = λ s e. absurd (apart s (sym no_scan ∙ e));
+  end = λ s e. absurd (apart s (sym no_scan ∙ e));
+}
   where
     apart : {A : Type 0} (s : A) → None ≡ Some s → ⊥
     apart s e = cc
@@ -66,17 +65,16 @@ claimed_is p i marks (Some h) s e = (h, refl, by (has_bit marks i) e)
 
 claims : (c : Config) (p i marks : ℕ) (x : Marker) → p < c.pages → has_seen_cell x.seen p i ≡ true → MarkerFits c x
     → MarkerFits c (record x { scan = scan_claimed p i marks x.seen })
-claims c p i marks x lt seen h =
-    record {
-      seen = h.seen;
-      page = λ s e. let k = claimed_is p i marks x.seen s e in rw k.2 lt;
-      end = λ s e.
-          let k = claimed_is p i marks x.seen s e in
-          let at = seen_cell x.seen p i seen k.0 k.1 in
-          let fits : (count : ℕ) → header_of k.0.header ≡ Some (Run count true)
-          → p + count ≤ c.pages = λ count shows. rw at.0 at (h.seen k.0 k.1 count shows) in
-          rw k.2 (scan_end c p i _ lt at.1 fits);
-    }
+claims c p i marks x lt seen h = record {
+  seen = h.seen;
+  page = λ s e. let k = claimed_is p i marks x.seen s e in rw k.2 lt;
+  end = λ s e.
+      let k = claimed_is p i marks x.seen s e in
+      let at = seen_cell x.seen p i seen k.0 k.1 in
+      let fits : (count : ℕ) → header_of k.0.header ≡ Some (Run count true)
+      → p + count ≤ c.pages = λ count shows. rw at.0 at (h.seen k.0 k.1 count shows) in
+      rw k.2 (scan_end c p i _ lt at.1 fits);
+}
 
 loads : (c : Config) (hand : Option ℕ) (x : Marker) → MarkerFits c x
     → MarkerFits c (record x { scan = scan_onward x.scan; hand = hand })
@@ -104,12 +102,11 @@ loads c hand x h = record {
 
 looks : (c : Config) (n : ℕ) (w : Word) (x : Marker) → ((p : ℕ) → w ≡ Word.Head p → RunFits c p n) → MarkerFits c x
     → MarkerFits c (behind_mlook c n w x)
-looks c n (Word.Head p) x fits h =
-    record {
-      seen = λ s e. subst (λ (t : SeenHeader). RunFits c t.page t.header) (same _ s e) (fits p refl);
-      page = h.page;
-      end = h.end;
-    }
+looks c n (Word.Head p) x fits h = record {
+  seen = λ s e. subst (λ (t : SeenHeader). RunFits c t.page t.header) (same _ s e) (fits p refl);
+  page = h.page;
+  end = h.end;
+}
   where
     same : (a b : SeenHeader) → Some a ≡ Some b → a ≡ b
     same a b e = cc

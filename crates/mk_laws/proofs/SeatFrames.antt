@@ -1,27 +1,26 @@
 -- The frame law of histories: what the events of others leave where all calls are admitted.
-use Rattle.mk_laws.proofs.Vocabulary.{AreOfOthers, Call, Caller, Config, Event, Flight, GuardPremisesFrom, Holds, Host}
+use Rattle.mk_laws.proofs.Vocabulary.{AreOfOthers, Caller, Config, Event, Flight, GuardPremisesFrom, Holds, Host}
 use Rattle.mk_laws.proofs.Vocabulary.{IsHistory, IsInCall, IsSound, KeepsRegisters, List, Marker, Moment, NeverState}
 use Rattle.mk_laws.proofs.Vocabulary.{None, Null, Num, Op, PlacedAllocation, Ptr, Seat, Some, Stage, Step, Value, World}
 use Rattle.mk_laws.proofs.Vocabulary.{Written, ℕ, admitted_keep, after_calls, and_from, and_parts, ap, append-nil}
 use Rattle.mk_laws.proofs.Vocabulary.{append_assoc, arith, asked, at_rest, bases_of, call_decided, cases_eq, cases_lt}
 use Rattle.mk_laws.proofs.Vocabulary.{comes_next, earlier_part_is_history, false, false≢true, flight_of, found}
-use Rattle.mk_laws.proofs.Vocabulary.{get_or_append_left, get_or_past, header_at, header_in, holder_number}
-use Rattle.mk_laws.proofs.Vocabulary.{image_scene_of, inl, inr, is_mapped, is_one_of, is_unmapped_header, left, length}
-use Rattle.mk_laws.proofs.Vocabulary.{length-map, ltb-true, never_behind, not, not-true, placed_at, progress, refl}
-use Rattle.mk_laws.proofs.Vocabulary.{register_at, slice_index, sym, true, [], ◌*◌, ◌++◌, ◌+◌, ◌/◌, ◌<◌, ◌∙◌, ◌∷◌, ◌≡◌}
-use Rattle.mk_laws.proofs.Vocabulary.{◌≢◌}
+use Rattle.mk_laws.proofs.Vocabulary.{get_or_append_left, get_or_past, header_in, holder_number, image_scene_of, inl}
+use Rattle.mk_laws.proofs.Vocabulary.{inr, is_mapped, is_one_of, is_unmapped_header, left, length, length-map, ltb-true}
+use Rattle.mk_laws.proofs.Vocabulary.{never_behind, not, not-true, placed_at, progress, refl, register_at, slice_index}
+use Rattle.mk_laws.proofs.Vocabulary.{sym, true, [], ◌*◌, ◌++◌, ◌+◌, ◌/◌, ◌<◌, ◌∙◌, ◌∷◌, ◌≡◌, ◌≢◌}
 use Rattle.mk_never.specs.Reach.{LeadsTo, by_register}
 use Rattle.mk_core.specs.Frames.{AdmittedOthersLeave, HeapIsLeft, HoldsAll, TargetsAreLeft}
 use Rattle.mk_core.specs.Readings.{is_in_call}
-use Rattle.mk_laws.proofs.Basics.{InCall, Known, Meets, PagesShow, along_others, base_at, exists_placed, in_call_told}
-use Rattle.mk_laws.proofs.Basics.{not_astray, others_held, pointed_word, standing, unmapped_is, view_of}
+use Rattle.mk_laws.proofs.Basics.{InCall, Known, Meets, along_others, base_at, exists_placed, in_call_told, not_astray}
+use Rattle.mk_laws.proofs.Basics.{others_held, pointed_word, standing, unmapped_is, view_of}
 use Rattle.mk_laws.proofs.InvariantJoined.{told_to_guard, told_to_images}
 use Rattle.mk_laws.proofs.LastEvents.{Stands, comes_last, stands}
+use Rattle.mk_laws.proofs.OtherCalls.{call_not_by, registers_are_left}
 use Rattle.mk_laws.proofs.OthersLeave.{others_leave_headers, others_leave_wells}
 use Rattle.mk_laws.proofs.ProtocolFrames.{left_after, other_seat, others_leave}
 use Rattle.mk_laws.proofs.{Bases.IsLonger, FramesLongerLists.begins_nothing, FreedRuns.never_after}
-use Rattle.mk_laws.proofs.{ImagesHeldGates.held_idle, ImagesOneEvent.one_event, ImagesStands.is_gone}
-use Rattle.mk_laws.proofs.{InvariantTheorems.reach_is_kept, OtherCalls.call_not_by, OtherCalls.registers_are_left}
+use Rattle.mk_laws.proofs.{ImagesHeldGates.held_idle, ImagesOneEvent.one_event, InvariantTheorems.reach_is_kept}
 use Rattle.mk_laws.proofs.{ProbesStill.pages_tell, ProbesStill.ready, RunsStill.holder_finds, Standings.in_call_is}
 
 -- An allocation to which a caller's register leads stays unreleased, where it is, and in a call of the caller mapped.
@@ -29,8 +28,7 @@ use Rattle.mk_laws.proofs.{ProbesStill.pages_tell, ProbesStill.ready, RunsStill.
 -- Allocations stand where they stood.
 
 longer_joined : (xs ys zs : List ℕ) → IsLonger xs ys → IsLonger ys zs → IsLonger xs zs
-longer_joined xs ys zs a b =
-    record { more = a.more ++ b.more; is = b.is ∙ rw a.is (append_assoc xs a.more b.more) }
+longer_joined xs ys zs a b = record { more = a.more ++ b.more; is = b.is ∙ rw a.is (append_assoc xs a.more b.more) }
 
 bases_go_on : (c : Config) (seats : List Seat) (es more : List Event) → IsHistory c (es ++ more)
     → AreOfOthers seats more → IsLonger (bases_of (left c es).allocations) (bases_of (left c (es ++ more)).allocations)
@@ -54,7 +52,7 @@ in_call_stands c m k known is = elim (cases_lt k c.callers) [
   | inl lt ↦
       let f = flight_of m (Caller k) in
       (lt, in_call_is (standing f) (in_call_told f.stage f.op (not_astray c m known.orderly k lt) ∙ is))
-  | inr past ↦ absurd (false≢true (ap (λ (g : Flight). is_in_call g) (sym (get_or_past m.seats.flights k at_rest
+  | inr past ↦ absurd (false≢true (ap is_in_call (sym (get_or_past m.seats.flights k at_rest
       (omega (arith, known.orderly.flights)))) ∙ is))
 ]
 
@@ -97,19 +95,14 @@ module _ (c : Config) (es more : List Event) (k : ℕ) (h : IsHistory c (es ++ m
       let own = others_leave c es more (Caller k) h.within_limits h.enabled others in
       let call' : is_in_call (flight_of v.now (Caller k)) ≡ true = rw own.own.flight call in
       let at' = in_call_stands c v.now k there.known.now call' in
-      let shown : PagesShow (header_at w.now.words) (image_scene_of w) n =
-      pages_tell c w n here.known here.all k at.0 at.1 in
-      let shown' : PagesShow (header_at v.now.words) (image_scene_of v) m =
-      pages_tell c v m there.known there.all k at'.0 at'.1 in
-      let off : is_gone c (placed_at w.allocations a) ≡ false = not-true _ (and_parts _ _ mapped).1 in
-      let before : is_unmapped_header (header_in w.now.words (((placed_at w.allocations a).base + o) / 64)) ≡ false =
-      shown a o u inside ∙ unmapped_is c w n here.known here.all.mirrors a lt ∙ off in
+      let before = (pages_tell c w n here.known here.all k at.0 at.1) a o u inside ∙ unmapped_is c w n here.known
+      here.all.mirrors a lt ∙ (not-true _ (and_parts _ _ mapped).1) in
       let page : ((placed_at v.allocations a).base + o) / 64 ≡ ((placed_at w.allocations a).base + o) / 64 =
       rw (same_place w.allocations v.allocations a lt (bases_go_on c (Caller k ∷ []) es more h others)) in
       let behind : is_unmapped_header (header_in v.now.words (((placed_at v.allocations a).base + o) / 64)) ≡ false =
       rw page ((own.in_call k refl call).mapped _ before) in
-      let gone : is_gone c (placed_at v.allocations a) ≡ false =
-      sym (unmapped_is c v m there.known there.all.mirrors a lt') ∙ sym (shown' a o u' inside') ∙ behind in
+      let gone = sym (unmapped_is c v m there.known there.all.mirrors a lt')
+      ∙ sym ((pages_tell c v m there.known there.all k at'.0 at'.1) a o u' inside') ∙ behind in
       and_from _ _ (ap not u') (ap not gone)
 
   mapped_still : (r a : ℕ) → r < 8 → LeadsTo (register_at n k r) a → IsInCall w.now (Caller k)
@@ -208,7 +201,7 @@ all_step : (c : Config) (w : World) (n : NeverState) (s seat : Seat) (x : Step) 
     → seat ≢ s → HoldsAll c w.now s → never_after c w n (record { seat = seat; step = x }) ≡ n
 all_step c w n s (Caller j) x known h ne all =
     let lt = ltb-true j c.callers h.seat in
-    ap (λ (ys : List Call). after_calls n ys)
+    ap (after_calls n)
     (held_decides_nothing c w.now j x known h (others_held c w.now s all.1 j lt (other_number c w.now s j lt all.0 ne)))
 all_step c w n s _ x known h ne all = refl
 
@@ -217,11 +210,10 @@ all_one : (c : Config) (s : Seat) (es : List Event) (e : Event) → IsHistory c 
 all_one c s es e h other all =
     let last = comes_last c es e h in
     let known = (stands c es last.before).known.now in
-    let ne = other_seat s e.seat other in
-    let own = left_after c (left c es) e.seat s e.step known last.meets ne in
+    let own = left_after c (left c es) e.seat s e.step known last.meets (other_seat s e.seat other) in
     let gates = ap (λ (y : Written). y.gates) (own.stop all) in (
       rw last.leaves ((own.own.holding all.0).0, rw gates all.1),
-      last.never ∙ all_step c (left c es) _ s e.seat e.step known last.meets ne all,
+      last.never ∙ all_step c (left c es) _ s e.seat e.step known last.meets (other_seat s e.seat other) all,
     )
 
 pub never_stands_still : (c : Config) (s : Seat) (es more : List Event) → IsHistory c (es ++ more)
@@ -244,19 +236,17 @@ said_along c es (e ∷ more) h =
 
 heap_is_left : (c : Config) (es more : List Event) (s : Seat) → IsHistory c (es ++ more) → AreOfOthers (s ∷ []) more
     → Holds c (left c es).now s → HeapIsLeft c (left c es) (left c (es ++ more))
-heap_is_left c es more s h others holds =
-    record {
-      outside = λ n none. (holder_finds c s es more h others holds).outside n (λ m. none m.number m.mapped m.word);
-      well = λ early u is. others_leave_wells c es more s h.within_limits h.enabled others holds u is;
-    }
+heap_is_left c es more s h others holds = record {
+  outside = λ n none. (holder_finds c s es more h others holds).outside n (λ m. none m.number m.mapped m.word);
+  well = λ early u is. others_leave_wells c es more s h.within_limits h.enabled others holds u is;
+}
 
 pub admitted_others_leave : AdmittedOthersLeave
-admitted_others_leave c es more s h others =
-    record {
-      registers = λ k r is lt. registers_are_left c es more k h (rw is at others) r lt;
-      in_call = λ k is call. targets_are_left c es more k h (rw is at others) (rw is at call);
-      turn = heap_is_left c es more s h others;
-      held = λ holds k r lt two. held_registers c s es more k h others holds two r lt;
-      stop = never_stands_still c s es more h others;
-      scan = others_leave_headers c es more s h.within_limits h.enabled others (said_along c es more h);
-    }
+admitted_others_leave c es more s h others = record {
+  registers = λ k r is lt. registers_are_left c es more k h (rw is at others) r lt;
+  in_call = λ k is call. targets_are_left c es more k h (rw is at others) (rw is at call);
+  turn = heap_is_left c es more s h others;
+  held = λ holds k r lt two. held_registers c s es more k h others holds two r lt;
+  stop = never_stands_still c s es more h others;
+  scan = others_leave_headers c es more s h.within_limits h.enabled others (said_along c es more h);
+}

@@ -71,12 +71,11 @@ load_gives_none Stage.LoadP o h = (refl, refl, refl)
 load_gives_none _ o h = cc
 
 pub served_on : (f : Flight) (h : Holding) (g : Flight) (i : Holding) → Served f h → Service f h g i → Served g i
-served_on f h g i s (Goes _ p q) =
-    record {
-      placed = λ e. s.placed (ap has_place (sym p) ∙ e);
-      granted = λ e. s.granted (ap is_granted (sym p) ∙ e);
-      freed = λ e. s.freed (ap is_some (sym q) ∙ e);
-    }
+served_on f h g i s (Goes _ p q) = record {
+  placed = λ e. s.placed (ap has_place (sym p) ∙ e);
+  granted = λ e. s.granted (ap is_granted (sym p) ∙ e);
+  freed = λ e. s.freed (ap is_some (sym q) ∙ e);
+}
 served_on f h g i s (Loads _ at stands no_new) =
     let none = load_gives_none f.stage f.op at in
     record {
@@ -86,18 +85,16 @@ served_on f h g i s (Loads _ at stands no_new) =
     }
 served_on f h g i s (Places _ new p q) =
     record { placed = λ e. new; granted = λ e. s.granted (p e); freed = λ e. s.freed (ap is_some (sym q) ∙ e) }
-served_on f h g i s (Fills new p) =
-    record {
-      placed = λ e. let x : false ≡ true = ap has_place (sym p) ∙ e in cc;
-      granted = λ e. new_decided f.stage f.op new;
-      freed = λ e. let x : true ≡ false = sym (s.freed e) ∙ (new_gives_none f.stage f.op new).1 in cc;
-    }
-served_on f h g i s (Grants new) =
-    record {
-      placed = λ e. cc;
-      granted = λ e. new_decided f.stage f.op new;
-      freed = λ e. let x : true ≡ false = sym (s.freed e) ∙ (new_gives_none f.stage f.op new).1 in cc;
-    }
+served_on f h g i s (Fills new p) = record {
+  placed = λ e. let x : false ≡ true = ap has_place (sym p) ∙ e in cc;
+  granted = λ e. new_decided f.stage f.op new;
+  freed = λ e. let x : true ≡ false = sym (s.freed e) ∙ (new_gives_none f.stage f.op new).1 in cc;
+}
+served_on f h g i s (Grants new) = record {
+  placed = λ e. cc;
+  granted = λ e. new_decided f.stage f.op new;
+  freed = λ e. let x : true ≡ false = sym (s.freed e) ∙ (new_gives_none f.stage f.op new).1 in cc;
+}
 served_on f h g i s (Frees _ free p) =
     let none = free_gives_none f.stage f.op free in
     record {

@@ -76,13 +76,12 @@ placed_claim c o t x i = among_back _ _ x i
 pub head_empties : (c : Config) (o : Object) (w : World) (p n : ℕ) → p < length w.now.words.pages
     → Laid c o true w (ground_of w) → Empties w.now.words p n
     → Laid c o true w (record (ground_of w) { pages = with_header_on w.now.words.pages p n })
-head_empties c o w p n lt st h =
-    record {
-      scene = rw h.is (layout_emptied _ p st.scene lt refl h.unused);
-      gone = st.gone;
-      first = st.first;
-      cells = st.cells;
-    }
+head_empties c o w p n lt st h = record {
+  scene = rw h.is (layout_emptied _ p st.scene lt refl h.unused);
+  gone = st.gone;
+  first = st.first;
+  cells = st.cells;
+}
 
 -- `head` (c): a page of the run that the call freed is unmapped
 pub head_unmaps : (c : Config) (o : Object) (releasing : Bool) (w : World) (p n : ℕ)
@@ -113,15 +112,14 @@ chosen_free : (c : Config) (o : Object) (releasing : Bool) (w : World) (place : 
     → Laid c o releasing w (ground_of w) → w.now.seats.holding.placing ≡ Unplaced → IsSized o
     → FitsOnFreePages c.resident w.now.words.pages o place
     → Laid c o releasing w (record (ground_of w) { placing = Chosen place })
-chosen_free c o releasing w place st is sized fit =
-    record {
-      scene = layout_chosen (layout_scene_of c o releasing w.now.words.marks (record (ground_of w) {
-        placing = Unplaced;
-      })) place.page o (placed_as c o releasing w (ground_of w) Unplaced is st).scene refl sized fit.within fit.free;
-      gone = st.gone;
-      first = fit.index;
-      cells = st.cells;
-    }
+chosen_free c o releasing w place st is sized fit = record {
+  scene = layout_chosen (layout_scene_of c o releasing w.now.words.marks (record (ground_of w) {
+    placing = Unplaced;
+  })) place.page o (placed_as c o releasing w (ground_of w) Unplaced is st).scene refl sized fit.within fit.free;
+  gone = st.gone;
+  first = fit.index;
+  cells = st.cells;
+}
 
 -- `head` (b), where the place is chosen
 carved_on : (c : Config) (o : Object) (w : World) (place : Place) (p n : ℕ)
@@ -267,15 +265,14 @@ pub used_gives_back : (c : Config) (o : Object) (w : World) (p n : ℕ) → p < 
     → Laid c o true w (ground_of w) → GivesBack w.now.words p n → ((x : Claim) → Among x (claims_on c o (ground_of w))
     → is_released_in true w.now.words.snapshot w.now.words.marks x.page x.index ≡ false)
     → Laid c o true w (record (ground_of w) { pages = with_used_on w.now.words.pages p n })
-used_gives_back c o w p n lt st h apart =
-    record {
-      scene = layout_given_back _ p n st.scene lt refl (record {
-        fewer = λ k bit. fewer_bits n _ k h.fewer bit;
-        gone = λ k bit out.
-            let goes = h.gone k bit out in
-            rw goes.0 (ap not goes.1);
-      }) apart;
-      gone = st.gone;
-      first = st.first;
-      cells = st.cells;
-    }
+used_gives_back c o w p n lt st h apart = record {
+  scene = layout_given_back _ p n st.scene lt refl (record {
+    fewer = λ k bit. fewer_bits n _ k h.fewer bit;
+    gone = λ k bit out.
+        let goes = h.gone k bit out in
+        rw goes.0 (ap not goes.1);
+  }) apart;
+  gone = st.gone;
+  first = st.first;
+  cells = st.cells;
+}

@@ -1,10 +1,10 @@
 -- What a laid out world says of its allocations; where nothing is on its way, its pages stand for the unreleased
 -- storage.
 use Rattle.mk_laws.proofs.Vocabulary.{Cell, Claim, Config, Granted, IsSettled, IsWithinLimits, LayoutStands, None}
-use Rattle.mk_laws.proofs.Vocabulary.{NoPlot, Option, PlacedAllocation, Placing, RunPages, Some, Unplaced, Words, World}
-use Rattle.mk_laws.proofs.Vocabulary.{and_parts, ap, append-nil, claim_of, claims_of, claims_placed, false, ground_of}
-use Rattle.mk_laws.proofs.Vocabulary.{has_place, histories_keep_lengths, is_run_gone, is_run_unmapped, left, length}
-use Rattle.mk_laws.proofs.Vocabulary.{object_now, placed_at, plot_of, refl, sym, true, ◌++◌, ◌∙◌, ◌≡◌}
+use Rattle.mk_laws.proofs.Vocabulary.{NoPlot, Option, Placing, RunPages, Some, Unplaced, Words, World, and_parts, ap}
+use Rattle.mk_laws.proofs.Vocabulary.{append-nil, claim_of, claims_of, claims_placed, false, ground_of, has_place}
+use Rattle.mk_laws.proofs.Vocabulary.{histories_keep_lengths, is_run_gone, is_run_unmapped, left, length, object_now}
+use Rattle.mk_laws.proofs.Vocabulary.{placed_at, plot_of, refl, sym, true, ◌++◌, ◌∙◌, ◌≡◌}
 use Rattle.mk_geom.proofs.Bridge.{same_places}
 use Rattle.mk_laws.proofs.Basics.{Laid, all_stand, apart_left, claim_among, gone_terrain, own_claim}
 use Rattle.mk_laws.proofs.{Apart.Rests, ForImages.numbers_apart, HeadersStand.pages_stand}

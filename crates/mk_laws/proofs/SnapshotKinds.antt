@@ -74,12 +74,11 @@ quar_none : (c : Config) (w : World) (f : Flight) (p n : ℕ) → p < length w.n
 quar_none c w f p n ls none (ItFrees off x) q s = absurd (frees_some c.pages w.now.words f p n off x none)
 quar_none c w f p n ls none (ItTakesSnapshot x) q s =
     record { fresh = s.fresh; quarantined = λ on. absurd (cycling_at w 0 x.phase refl on) }
-quar_none c w f p n ls none (ItDrops four x) q s =
-    record {
-      fresh = s.fresh;
-      quarantined = λ on i u.
-          dropped_bits c w p (n % 2 ^ 32) (n / 2 ^ 32) i ls (rw four at q) x u ∙ s.quarantined on i u;
-    }
+quar_none c w f p n ls none (ItDrops four x) q s = record {
+  fresh = s.fresh;
+  quarantined = λ on i u.
+      dropped_bits c w p (n % 2 ^ 32) (n / 2 ^ 32) i ls (rw four at q) x u ∙ s.quarantined on i u;
+}
 
 quar_frees : (c : Config) (w : World) (cell : Cell) (n : ℕ) → FreesHere c w cell n
     → HasQuarantine c false w.now.words.marks (ground_of w) → KeepsSnapshot c w
@@ -169,21 +168,19 @@ cycling_step _ p asks = refl
 
 pub cycle_kind : (c : Config) (w : World) (seat : Seat) (x : Step) → Meets c w.now seat x
     → is_cycling (phase_of (WorldBehind c w seat x).now.words) ≡ is_cycling_behind x (is_cycling (phase_of w.now.words))
-cycle_kind c w seat x h =
-    ap is_cycling (phase_moves c w.now seat x h) ∙ cycling_step x _ (phase_asked c w.now seat x h)
+cycle_kind c w seat x h = ap is_cycling (phase_moves c w.now seat x h) ∙ cycling_step x _ (phase_asked c w.now seat x h)
 
 -- `begin`: what is freed is in the snapshot, and nothing is fresh
 begin_kind : (c : Config) (w : World) → Before c w → is_phase w.now.words 0 ≡ true
     → may_begin c.pages w.now.words ≡ true → LayoutStands c w → IsQuarantined c w
     → HasSnapshot c true w.now.words.snapshot (map no_longer_fresh w.allocations)
-begin_kind c w b quiet own laid q =
-    record {
-      fresh = λ i f. absurd (true≢false (sym f ∙ rw (at i)));
-      quarantined = λ on i u.
-          let x = before_change c no_longer_fresh w.allocations i fresh_cells u in
-          ap (λ (y : Cell). has_bit (slice_index w.now.words.snapshot y.page) y.index) x.cell
-          ∙ bit i x.was (cases_Bool (placed_at w.allocations i).freed) ∙ sym (rw (at i));
-    }
+begin_kind c w b quiet own laid q = record {
+  fresh = λ i f. absurd (true≢false (sym f ∙ rw (at i)));
+  quarantined = λ on i u.
+      let x = before_change c no_longer_fresh w.allocations i fresh_cells u in
+      ap (λ (y : Cell). has_bit (slice_index w.now.words.snapshot y.page) y.index) x.cell
+      ∙ bit i x.was (cases_Bool (placed_at w.allocations i).freed) ∙ sym (rw (at i));
+}
   where
     at : (i : ℕ) → placed_at (map no_longer_fresh w.allocations) i ≡ no_longer_fresh (placed_at w.allocations i)
     at i = changed_at no_longer_fresh w.allocations i refl
@@ -226,22 +223,21 @@ begin_kind c w b quiet own laid q =
 grant_kind : (c : Config) (w : World) (seat : Seat) → Before c w → Meets c w.now seat Step.Grant → LayoutStands c w
     → IsQuarantined c w → KeepsSnapshot c w → HasSnapshot c (is_cycling (phase_of w.now.words)) w.now.words.snapshot
     (w.allocations ++ granted c w.now (flight_of w.now seat) ∷ [])
-grant_kind c w seat b h laid q s =
-    record {
-      fresh = λ i f. elim (pushed_any w.allocations a i) [
-        | inl old ↦
-            let was = s.fresh i (rw (← old) f) in
-            (rw old was.0, rw old was.1)
-        | inr new ↦ absurd (true≢false (sym f ∙ rw new))
-      ];
-      quarantined = λ on i u. elim (pushed_at w.allocations a i u) [
-        | inl old ↦ ap (λ (x : PlacedAllocation). has_bit_of c w.now.words.snapshot x) old.1 ∙ s.quarantined on i old.0
-            ∙ sym (ap (λ (x : PlacedAllocation). x.freed && not x.fresh) old.1)
-        | inr new ↦ ap (λ (x : PlacedAllocation). has_bit_of c w.now.words.snapshot x) new
-            ∙ outside w.now.seats.holding.placing refl h.holder
-            ∙ sym (ap (λ (x : PlacedAllocation). x.freed && not x.fresh) new)
-      ];
-    }
+grant_kind c w seat b h laid q s = record {
+  fresh = λ i f. elim (pushed_any w.allocations a i) [
+    | inl old ↦
+        let was = s.fresh i (rw (← old) f) in
+        (rw old was.0, rw old was.1)
+    | inr new ↦ absurd (true≢false (sym f ∙ rw new))
+  ];
+  quarantined = λ on i u. elim (pushed_at w.allocations a i u) [
+    | inl old ↦ ap (λ (x : PlacedAllocation). has_bit_of c w.now.words.snapshot x) old.1 ∙ s.quarantined on i old.0
+        ∙ sym (ap (λ (x : PlacedAllocation). x.freed && not x.fresh) old.1)
+    | inr new ↦ ap (λ (x : PlacedAllocation). has_bit_of c w.now.words.snapshot x) new
+        ∙ outside w.now.seats.holding.placing refl h.holder
+        ∙ sym (ap (λ (x : PlacedAllocation). x.freed && not x.fresh) new)
+  ];
+}
   where
     a : PlacedAllocation
     a = granted c w.now (flight_of w.now seat)
@@ -271,19 +267,18 @@ grant_kind c w seat b h laid q s =
 release_kind : (c : Config) (w : World) → Before c w → is_phase w.now.words 3 ≡ true → LayoutStands c w
     → KeepsSnapshot c w → HasSnapshot c (is_cycling (phase_of w.now.words)) w.now.words.snapshot
     (map (with_released c w.now.words) w.allocations)
-release_kind c w b three laid s =
-    record {
-      fresh = λ i f.
-          let g : PlacedAllocation = with_released c w.now.words (placed_at w.allocations i) in
-          let was = s.fresh i (ap (λ (x : PlacedAllocation). x.fresh) (sym (at i)) ∙ f) in (
-            rw (at i) was.0,
-            rw (at i) (stays i was.0 was.1 (ap (λ (x : PlacedAllocation). x.fresh) (sym (at i)) ∙ f)),
-          );
-      quarantined = λ on i u.
-          let x = before_change c _ w.allocations i (releasing_leaves c w.now.words) u in
-          ap (λ (y : Cell). has_bit (slice_index w.now.words.snapshot y.page) y.index) x.cell ∙ s.quarantined on i x.was
-          ∙ sym (rw (at i));
-    }
+release_kind c w b three laid s = record {
+  fresh = λ i f.
+      let g : PlacedAllocation = with_released c w.now.words (placed_at w.allocations i) in
+      let was = s.fresh i (ap (λ (x : PlacedAllocation). x.fresh) (sym (at i)) ∙ f) in (
+        rw (at i) was.0,
+        rw (at i) (stays i was.0 was.1 (ap (λ (x : PlacedAllocation). x.fresh) (sym (at i)) ∙ f)),
+      );
+  quarantined = λ on i u.
+      let x = before_change c _ w.allocations i (releasing_leaves c w.now.words) u in
+      ap (λ (y : Cell). has_bit (slice_index w.now.words.snapshot y.page) y.index) x.cell ∙ s.quarantined on i x.was
+      ∙ sym (rw (at i));
+}
   where
     at : (i : ℕ) → placed_at (map (with_released c w.now.words) w.allocations) i
         ≡ with_released c w.now.words (placed_at w.allocations i)

@@ -106,16 +106,15 @@ module _ (c : Config) (es : List Event) (h : IsHistory c es) (begin : At is_begi
       (o.number, q, sym (same_cell o.number q) ∙ o.cell)
 
   pub told : SnapshotTells c begin
-  told =
-      record {
-        has = λ i q. ap (λ (x : Cell). is_in_snapshot w.now.words x) (sym (same_cell i q))
-            ∙ snapshot_is i (put_quarantined i q).unreleased ∙ q;
-        is = λ cell bit.
-            let known = known_world c es h.within_limits h.enabled in
-            let quiet = (unreleased_cycles _ phase).1 in
-            let freed = all.order.quarantined.within cell.page cell.index bit in
-            is_of cell bit (freed_cell c w (never_behind c es) known all quiet cell freed);
-      }
+  told = record {
+    has = λ i q. ap (λ (x : Cell). is_in_snapshot w.now.words x) (sym (same_cell i q))
+        ∙ snapshot_is i (put_quarantined i q).unreleased ∙ q;
+    is = λ cell bit.
+        let known = known_world c es h.within_limits h.enabled in
+        let quiet = (unreleased_cycles _ phase).1 in
+        let freed = all.order.quarantined.within cell.page cell.index bit in
+        is_of cell bit (freed_cell c w (never_behind c es) known all quiet cell freed);
+  }
 
 pub snapshots_tell : OfHistories SnapshotsTell
 snapshots_tell c es h begin none = told c es h begin none

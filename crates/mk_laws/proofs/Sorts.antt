@@ -1,5 +1,5 @@
 -- Each enabled event is one of the moves of the protocol.
-use Rattle.std.{proofs.lemmas.Bool.not_from_true, specs.Prelude.ℕ}
+use Rattle.std.proofs.lemmas.Bool.{not_from_true}
 use Rattle.mk_laws.proofs.Vocabulary.{Answer, Bool, Caller, Cell, Config, Event, Flight, Group, Hand, Holding, Host}
 use Rattle.mk_laws.proofs.Vocabulary.{List, Marker, Moment, Named, None, Object, Op, Option, OwnCycle, Page, Place}
 use Rattle.mk_laws.proofs.Vocabulary.{Placing, Seat, Some, Stage, Step, Store, Unplaced, Word, Words, ℕ, accessed}
@@ -70,7 +70,7 @@ looks pages w f h x hand = by (sees_double w (target pages w f) x) refl
 
 -- a place is chosen, or taken
 
-chosen_none : (p : Placing) → chosen p None ≡ p
+pub chosen_none : (p : Placing) → chosen p None ≡ p
 chosen_none Unplaced = refl
 chosen_none _ = refl
 
@@ -266,12 +266,6 @@ call_takes c m k o lt idle is = elim (cases_eq m.words.turn 0) [
       (Takes (begun o) z (lt, rw idle, begun_under_turn o is))
   | inr ne ↦ rw (ne_eqb m.words.turn 0 ne) (rw (same_flight (view_of m) k) Stays)
 ]
-
-abbrev taken_by_host : Config → View → Bool → View
-taken_by_host c v b = record v {
-  turn = if b then 1 + c.callers else v.turn;
-  holding = if b then nothing_done else v.holding;
-}
 
 pub host_takes : (c : Config) (m : Moment) → Moves c m Host (Step.Take None)
 host_takes c m = elim (cases_eq m.words.turn 0) [

@@ -1,7 +1,7 @@
 -- What the tallies count: before each `give`, and where nobody holds the turn.
 use Rattle.std.proofs.lemmas.List.Sums.{sum_by_push}
 use Rattle.mk_laws.proofs.Vocabulary.{Bool, Config, Decided, Event, Flight, IsHistory, IsSettled, IsTidy, List, Moment}
-use Rattle.mk_laws.proofs.Vocabulary.{OfHistories, PlacedAllocation, Seat, Stage, Step, TalliesAreTidy, Words, World, ℕ}
+use Rattle.mk_laws.proofs.Vocabulary.{OfHistories, PlacedAllocation, Seat, Step, TalliesAreTidy, Words, World, ℕ}
 use Rattle.mk_laws.proofs.Vocabulary.{and_parts, ap, append_assoc, arith, call_decided, calls, calls_from, cond, ends}
 use Rattle.mk_laws.proofs.Vocabulary.{eqb-true, false, false_from_ne_true, first_world, flight_of, fresh_words_of}
 use Rattle.mk_laws.proofs.Vocabulary.{held_by_pages, histories_keep_lengths, in_a_word, inl, inr, is_decided, is_end}
@@ -38,7 +38,7 @@ fresh_kept : KeptByEvents FreshIsTold
 fresh_kept c es e h told =
     let here = before_it c (es ++ e ∷ []) es e [] h refl in
     let order = (histories_keep_the_invariant c es here.0).order in
-    subst (λ (w : World). FreshTold c w) (sym (left_more c (first_world c) es e))
+    subst (FreshTold c) (sym (left_more c (first_world c) es e))
     (fresh_told_behind c (left c es) e.seat e.step (world_before c es here.0) here.1 order told)
 
 fresh_at_first : (c : Config) → FreshIsTold c []
@@ -63,11 +63,9 @@ exact_at_give c es seat h meets =
     let m : Moment = (left c es).now in
     let f : Flight = flight_of m seat in
     let known : Known c m = known_left c es h.within_limits h.enabled in
-    let gone : Bool = is_run_gone m.words m.seats.holding.freed in
     let held : Bool = m.words.held == held_by_pages m.words in
-    let a = and_parts _ _ meets.holder in
-    let b = and_parts _ held a.0 in
-    let d = and_parts _ gone b.0 in
+    let b = and_parts _ held (and_parts _ _ meets.holder).0 in
+    let d = and_parts _ (is_run_gone m.words m.seats.holding.freed) b.0 in
     let settled : IsSettled (left c es) = record {
       releasing = giving _ (give_phase _ meets.phase);
       placing = false_from_ne_true _
@@ -77,13 +75,13 @@ exact_at_give c es seat h meets =
     let shown = pages_show_the_storage c es h settled in
     record {
       held = eqb-true m.words.held _ b.1 ∙ pages_hold_mapped_words m.words.pages _ shown;
-      fresh = eqb-true m.words.fresh m.fresh_words a.1 ∙ fresh_is_told c es h;
+      fresh = eqb-true m.words.fresh m.fresh_words (and_parts _ _ meets.holder).1 ∙ fresh_is_told c es h;
     }
 
 pub tallies_are_exact_at_gives : OfHistories TalliesAreExactAtGives
 tallies_are_exact_at_gives c es h before e behind is gives =
     let here = before_it c es before e behind h is in
-    exact_at_give c before e.seat here.0 (subst (λ (x : Step). Meets c (left c before).now e.seat x) gives here.1)
+    exact_at_give c before e.seat here.0 (subst (Meets c (left c before).now e.seat) gives here.1)
 
 -- An event that counts nothing leaves the tallies exact and tidy.
 module _ (c : Config) (es : List Event) (e : Event) (nothing : CountsNothing c (left c es) e) where
@@ -109,27 +107,24 @@ module _ (c : Config) (es : List Event) (e : Event) (nothing : CountsNothing c (
       let ds : List Decided = call_decided c (left c es).now e in
       let m : Moment = (left c es).now in
       let last : fulls_of ds ≡ 0 = entry_fulls _ _ _ nothing.no_full in
-      let pushed : full_answers c (es ++ e ∷ []) ≡ full_answers c es + fulls_of ds =
-      ap (λ (xs : List Decided). fulls_of xs) (calls_more c (first_world c) es e) ∙ fulls_append (calls c es) ds in
+      let pushed = ap fulls_of (calls_more c (first_world c) es e) ∙ fulls_append (calls c es) ds in
       omega arith
 
   exact_more : TalliesAreExact c es → TalliesAreExact c (es ++ e ∷ [])
-  exact_more exact =
-      record {
-        held = tally (λ (w : Words). w.held) _ nothing.alike.tallies.held exact.held
-            ∙ ap (λ (xs : List PlacedAllocation). held_by_allocations c xs) same_allocations;
-        fresh = tally (λ (w : Words). w.fresh) _ nothing.alike.tallies.fresh exact.fresh
-            ∙ ap (λ (xs : List PlacedAllocation). in_a_word (fresh_words_of c xs)) same_allocations;
-      }
+  exact_more exact = record {
+    held = tally (λ (w : Words). w.held) _ nothing.alike.tallies.held exact.held
+        ∙ ap (λ (xs : List PlacedAllocation). held_by_allocations c xs) same_allocations;
+    fresh = tally (λ (w : Words). w.fresh) _ nothing.alike.tallies.fresh exact.fresh
+        ∙ ap (λ (xs : List PlacedAllocation). in_a_word (fresh_words_of c xs)) same_allocations;
+  }
 
   tidy_more : TalliesAreTidy c es → TalliesAreTidy c (es ++ e ∷ [])
-  tidy_more tidy =
-      record {
-        cycles = tally (λ (w : Words). w.cycles) _ nothing.alike.tallies.cycles tidy.cycles ∙ ap in_a_word same_ends;
-        released = tally (λ (w : Words). w.released) _ nothing.alike.tallies.released tidy.released
-            ∙ ap (λ (xs : List PlacedAllocation). in_a_word (releases xs)) same_allocations;
-        full = tally (λ (w : Words). w.full) _ nothing.alike.tallies.full tidy.full ∙ ap in_a_word same_fulls;
-      }
+  tidy_more tidy = record {
+    cycles = tally (λ (w : Words). w.cycles) _ nothing.alike.tallies.cycles tidy.cycles ∙ ap in_a_word same_ends;
+    released = tally (λ (w : Words). w.released) _ nothing.alike.tallies.released tidy.released
+        ∙ ap (λ (xs : List PlacedAllocation). in_a_word (releases xs)) same_allocations;
+    full = tally (λ (w : Words). w.full) _ nothing.alike.tallies.full tidy.full ∙ ap in_a_word same_fulls;
+  }
 
 -- the earlier part of a tidy list is tidy
 tidy_before : (c : Config) (es : List Event) (e : Event) → IsTidy c (es ++ e ∷ []) → IsTidy c es
@@ -145,7 +140,7 @@ told_behind : (c : Config) (es : List Event) (e : Event) → IsHistory c es → 
 told_behind c es e h meets tells (Takes held) free = absurd (held free)
 told_behind c es e h meets tells (Gives is) free =
     let nothing = give_counts_nothing c (left c es) e is in
-    let exact = exact_at_give c es e.seat h (subst (λ (x : Step). Meets c (left c es).now e.seat x) is meets) in
+    let exact = exact_at_give c es e.seat h (subst (Meets c (left c es).now e.seat) is meets) in
     (exact_more c es e nothing exact, λ tidy. tidy_more c es e nothing (tidy es e [] refl is))
 told_behind c es e h meets tells (Leaves same) free =
     let was : (left c es).now.words.turn ≡ 0 = sym same ∙ free in

@@ -30,11 +30,10 @@ alike c w seat Step.Release is = cc
 alike c w seat Step.Reg is =
     let f : Flight = flight_of w.now seat in
     record { tallies = register_leaves_tallies w.now.words _ _ (reg_access f f.stage); allocations = refl }
-alike c w seat _ is =
-    record {
-      tallies = record { held = refl; fresh = refl; cycles = refl; released = refl; full = refl };
-      allocations = refl;
-    }
+alike c w seat _ is = record {
+  tallies = record { held = refl; fresh = refl; cycles = refl; released = refl; full = refl };
+  allocations = refl;
+}
 
 -- What an event does to the turn: it takes one that is free, gives it back, or leaves it.
 pub data TurnStep (x : Step) (turn now : ℕ) : Type 0 where
@@ -79,13 +78,11 @@ pub record CountsNothing (c : Config) (w : World) (e : Event) : Type 0 where
   pub no_full : answers_full (answer_decided c w.now e) ≡ false
 
 pub give_counts_nothing : (c : Config) (w : World) (e : Event) → e.step ≡ Step.Give → CountsNothing c w e
-give_counts_nothing c w e is =
-    record {
-      alike = alike c w e.seat e.step (ap counts_alike is);
-      no_end = ap is_end is;
-      no_full = ap (λ (x : Step). answers_full (answer_decided c w.now (record { seat = e.seat; step = x }))) is
-          ∙ give_answers c w.now e.seat;
-    }
+give_counts_nothing c w e is = record {
+  alike = alike c w e.seat e.step (ap counts_alike is);
+  no_end = ap is_end is;
+  no_full = cc (is, give_answers c w.now e.seat);
+}
 
 pub others_count_nothing : (c : Config) (w : World) (e : Event) → Known c w.now → Meets c w.now e.seat e.step
     → w.now.words.turn ≡ 0 → CountsNothing c w e

@@ -1,6 +1,6 @@
 -- What the layout and the zero words tell the guard.
 use Rattle.mk_laws.proofs.Vocabulary.{Among, AreOfPages, AsChosen, AsUsed, Bool, ByFit, Caller, Chosen, Claim, Config}
-use Rattle.mk_laws.proofs.Vocabulary.{Flight, Granted, GuardPremises, HasHeader, HasZeros, Header, InPlot, IsClaimed}
+use Rattle.mk_laws.proofs.Vocabulary.{Granted, GuardPremises, HasHeader, HasZeros, Header, InPlot, IsClaimed}
 use Rattle.mk_laws.proofs.Vocabulary.{IsClaimedRun, IsHeaderOf, IsMarking, IsPlaced, IsPlotShown, IsSized, LayoutStands}
 use Rattle.mk_laws.proofs.Vocabulary.{Mapped, Mode, Moment, NoPlot, Object, OfLeafRun, OfRun, Option, Place}
 use Rattle.mk_laws.proofs.Vocabulary.{PlacedAllocation, Placing, Plot, PlotStands, Plotted, Run, RunPages, RunStands}
@@ -193,19 +193,18 @@ not_releasing n (inl e) = ne_eqb n 4 (λ f. absurd (omega arith))
 not_releasing n (inr e) = ne_eqb n 4 (λ f. absurd (omega arith))
 
 pub guard_in : (c : Config) (w : World) → KnownWorld c w → LayoutStands c w → HasZeros c w → GuardPremises c w
-guard_in c w known laid zeros =
-    record {
-      place = λ early seat place now.
-          let placed = placed_now c w.now (flight_of w.now seat) place now in
-          let there = new_exists c w.now seat known.now placed.new in
-          let own = holding_object c w.now seat known.now (new_has_turn c w.now seat there placed.new) in
-          bare_place c w (object_made c (flight_of w.now seat).op) place (quiet early)
-          (subst (λ (o : Object). Laid c o false w (ground_of w)) own (quiet early).laid)
-          (made_sized c w.now seat known.limits known.now placed.new) placed.placed;
-      freed = λ early run is. run_has_object c w run (quiet early) is;
-      later = λ early. later_pages c w (quiet early);
-      mapped = λ i is. mapped_stands c w i known.lengths laid is;
-    }
+guard_in c w known laid zeros = record {
+  place = λ early seat place now.
+      let placed = placed_now c w.now (flight_of w.now seat) place now in
+      let there = new_exists c w.now seat known.now placed.new in
+      let own = holding_object c w.now seat known.now (new_has_turn c w.now seat there placed.new) in
+      bare_place c w (object_made c (flight_of w.now seat).op) place (quiet early)
+      (subst (λ (o : Object). Laid c o false w (ground_of w)) own (quiet early).laid)
+      (made_sized c w.now seat known.limits known.now placed.new) placed.placed;
+  freed = λ early run is. run_has_object c w run (quiet early) is;
+  later = λ early. later_pages c w (quiet early);
+  mapped = λ i is. mapped_stands c w i known.lengths laid is;
+}
   where
     quiet : IsMarking w.now.words → Unreleasing c w
     quiet early =

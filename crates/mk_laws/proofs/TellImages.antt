@@ -38,13 +38,12 @@ stored_by c w n Host Step.Cas say on ad s =
 stored_by c w n _ _ say on ad s = absurd (false≢true s)
 
 pub images_tell_the_zeros : ImagesTellTheZeros
-images_tell_the_zeros c w n e laid say on ad =
-    record {
-      laid_out = laid;
-      target = λ cell at. let x = say.target e.seat cell at in record {
-        number = x.number;
-        unreleased = x.unreleased;
-        is = x.cell;
-      };
-      stored = λ s. stored_by c w n e.seat e.step say on ad s;
-    }
+images_tell_the_zeros c w n e laid say on ad = record {
+  laid_out = laid;
+  target = λ cell at. let x = say.target e.seat cell at in record {
+    number = x.number;
+    unreleased = x.unreleased;
+    is = x.cell;
+  };
+  stored = λ s. stored_by c w n e.seat e.step say on ad s;
+}

@@ -1,11 +1,10 @@
 -- What is said of a turn while its New is undecided, after every history.
 use Rattle.mk_laws.proofs.Vocabulary.{Caller, Config, Event, Flight, Holding, IsHistory, IsSettled, List, None, Object}
-use Rattle.mk_laws.proofs.Vocabulary.{OfHistories, Option, Place, Placing, RunPages, Seat, Some, Step, TurnOf, Unplaced}
-use Rattle.mk_laws.proofs.Vocabulary.{World, ℕ, and_parts, ap, arith, at_rest, eqb-true, false, false_from_ne_true}
-use Rattle.mk_laws.proofs.Vocabulary.{first_world, flight_of, get_or-set_same, has_place, is_phase, is_undecided_new}
-use Rattle.mk_laws.proofs.Vocabulary.{left, left_from, left_more, object_made, phase_of, place_on_pages, refl, subst}
-use Rattle.mk_laws.proofs.Vocabulary.{sym, true, true≢false, undecided_new, world_behind, [], ◌++◌, ◌<◌, ◌==◌, ◌∙◌, ◌∷◌}
-use Rattle.mk_laws.proofs.Vocabulary.{◌≡◌}
+use Rattle.mk_laws.proofs.Vocabulary.{OfHistories, Option, Place, Seat, Some, Step, TurnOf, Unplaced, World, ℕ}
+use Rattle.mk_laws.proofs.Vocabulary.{and_parts, ap, arith, at_rest, eqb-true, false, false_from_ne_true, first_world}
+use Rattle.mk_laws.proofs.Vocabulary.{flight_of, get_or-set_same, has_place, is_phase, is_undecided_new, left}
+use Rattle.mk_laws.proofs.Vocabulary.{left_from, left_more, object_made, phase_of, place_on_pages, refl, subst, sym}
+use Rattle.mk_laws.proofs.Vocabulary.{true, true≢false, undecided_new, world_behind, [], ◌++◌, ◌<◌, ◌==◌, ◌∙◌, ◌∷◌, ◌≡◌}
 use Rattle.mk_core.specs.Placement.{FirstServed, NoneServesFrom, before_served, event_serves, place_after}
 use Rattle.mk_core.specs.{Allocations.place_among_allocations, Cycles.is_give}
 use Rattle.mk_laws.proofs.Basics.{KeptByEvents, Known, Meets, WorldBehind, at_first, before_it, held_place}
@@ -82,7 +81,7 @@ module _ (c : Config) (es : List Event) (e : Event) (k : ℕ) (o : Object) (t : 
     (on : gives_turn (Caller k) e ≡ false) where
   to_place : (now place : Option Place) → now ≡ place → HasPlace c (Caller k) (longer_turn t e on) o place
       → HasPlace c (Caller k) (longer_turn t e on) o now
-  to_place now place is has = subst (λ (p : Option Place). HasPlace c (Caller k) (longer_turn t e on) o p) (sym is) has
+  to_place now place is has = subst (HasPlace c (Caller k) (longer_turn t e on) o) (sym is) has
 
   goes_on : (place : Place) → ServedFirst c (Caller k) t o place → ServedFirst c (Caller k) (longer_turn t e on) o place
   goes_on place served = record { first = longer_first t e on served.first; fits = served.fits }
@@ -97,7 +96,7 @@ module _ (c : Config) (es : List Event) (e : Event) (k : ℕ) (o : Object) (t : 
   fixes : (place : Place) → event_serves c (left c es) e ≡ true → place_after c es o ≡ Some place
       → HasPlace c (Caller k) t o None → ServedFirst c (Caller k) (longer_turn t e on) o place
   fixes place is fits none =
-      let here : left c (t.before ++ taken t ∷ t.behind) ≡ left c es = ap (λ (xs : List Event). left c xs) (sym t.is) in
+      let here : left c (t.before ++ taken t ∷ t.behind) ≡ left c es = ap (left c) (sym t.is) in
       record {
         first = record {
           before = t.behind;
@@ -114,9 +113,9 @@ module _ (c : Config) (es : List Event) (e : Event) (k : ℕ) (o : Object) (t : 
       → FitsHere c es o → HasPlace c (Caller k) t o was → HasPlace c (Caller k) (longer_turn t e on) o now
   place_more was now (Stays none same) fit has = to_place now was same (stays none was has)
   place_more was now (Fixes place is off at found empty there) fit has = to_place now (Some place) there
-      (fixes place is (fit place off at found) (subst (λ (p : Option Place). HasPlace c (Caller k) t o p) empty has))
+      (fixes place is (fit place off at found) (subst (HasPlace c (Caller k) t o) empty has))
   place_more was now (GoesOn place here there) fit has = to_place now (Some place) there
-      (goes_on place (subst (λ (p : Option Place). HasPlace c (Caller k) t o p) here has))
+      (goes_on place (subst (HasPlace c (Caller k) t o) here has))
 
 -- One event: the `take` of the New, or one after it.
 
@@ -138,26 +137,23 @@ tracked_behind c es seat x k (IsTaken o own take free begun) all h meets lt new 
     }
   where
     turn : TurnOf c (Caller k) (es ++ record { seat = seat; step = x } ∷ [])
-    turn =
-        record {
-          before = es;
-          op = Some o;
-          behind = [];
-          is = ap (λ (s : Seat). es ++ record { seat = s; step = x } ∷ []) own
-              ∙ ap (λ (y : Step). es ++ record { seat = Caller k; step = y } ∷ []) take;
-          took = free;
-          goes_on = refl;
-        }
+    turn = record {
+      before = es;
+      op = Some o;
+      behind = [];
+      is = cc (own, take);
+      took = free;
+      goes_on = refl;
+    }
 tracked_behind c es seat x k (WasNew same) all h meets lt new =
-    let was : HasNew (left c es) k = ap (λ (f : Flight). is_undecided_new f) (sym same) ∙ new in
+    let was : HasNew (left c es) k = ap is_undecided_new (sym same) ∙ new in
     let w : World = left c es in
-    let v : World = WorldBehind c (left c es) seat x in
     let o : Object = new_object c (left c es) k in
     let t : Tracked c es (left c es) k = all k lt was in
     record {
       turn = longer_turn t.turn e on;
-      placed = subst
-          (λ (y : Object). HasPlace c (Caller k) (longer_turn t.turn e on) y (held_place v.now.seats.holding.placing))
+      placed = subst (λ (y : Object). HasPlace c (Caller k) (longer_turn t.turn e on) y
+          (held_place (WorldBehind c (left c es) seat x).now.seats.holding.placing))
           (ap (λ (f : Flight). object_made c f.op) (sym same))
           (place_more c es e k o t.turn on _ _ (places_at c w seat x k known meets lt was new)
           (fits_here c es k o h lt was) t.placed);
@@ -185,8 +181,7 @@ one_more c es e h all k lt new =
 
 at_the_first : (c : Config) → NewsAreTracked c []
 unfolding left_from
-at_the_first c k lt new =
-    absurd (true≢false (sym new ∙ ap (λ (f : Flight). is_undecided_new f) (at_first c.callers k at_rest)))
+at_the_first c k lt new = absurd (true≢false (sym new ∙ ap is_undecided_new (at_first c.callers k at_rest)))
 
 pub news_are_tracked : OfHistories NewsAreTracked
 news_are_tracked = holds_of_histories NewsAreTracked at_the_first one_more

@@ -194,34 +194,32 @@ dirty_out c w seat v (Marks {k} y {x} lt write) p is = λ z. is (rw (← (same_w
 -- one event of another
 pub turn_after : (c : Config) (w : World) (seat : Seat) (v : World) → Known c w.now → OthersMove c w seat v
     → TurnIsLeft w v
-turn_after c w seat v known move =
-    record {
-      steady = steady_out c w seat v move;
-      held_gates = held_out c w seat v move;
-      other_gates = free_out c w seat v move;
-      held_callers = callers_out c w seat v move;
-      held_registers = registers_out c w seat v move;
-      marks_grow = (grow_out c w seat v move).0;
-      blacks_grow = (grow_out c w seat v move).1;
-      unmarked = unmarked_out c w seat v known move;
-      stopped = stopped_out c w seat v move;
-      dirty = dirty_out c w seat v move;
-    }
+turn_after c w seat v known move = record {
+  steady = steady_out c w seat v move;
+  held_gates = held_out c w seat v move;
+  other_gates = free_out c w seat v move;
+  held_callers = callers_out c w seat v move;
+  held_registers = registers_out c w seat v move;
+  marks_grow = (grow_out c w seat v move).0;
+  blacks_grow = (grow_out c w seat v move).1;
+  unmarked = unmarked_out c w seat v known move;
+  stopped = stopped_out c w seat v move;
+  dirty = dirty_out c w seat v move;
+}
 
 pub turn_same : (w : World) → TurnIsLeft w w
-turn_same w =
-    record {
-      steady = refl;
-      held_gates = λ j is. is;
-      other_gates = λ j is. is;
-      held_callers = λ j is. refl;
-      held_registers = λ j r lt is. refl;
-      marks_grow = grows_same w.now.words.marks;
-      blacks_grow = grows_same w.now.words.blacks;
-      unmarked = λ n1 n2. (refl, refl);
-      stopped = λ two none. (none, refl, refl);
-      dirty = λ p is. is;
-    }
+turn_same w = record {
+  steady = refl;
+  held_gates = λ j is. is;
+  other_gates = λ j is. is;
+  held_callers = λ j is. refl;
+  held_registers = λ j r lt is. refl;
+  marks_grow = grows_same w.now.words.marks;
+  blacks_grow = grows_same w.now.words.blacks;
+  unmarked = λ n1 n2. (refl, refl);
+  stopped = λ two none. (none, refl, refl);
+  dirty = λ p is. is;
+}
 
 pub turn_joined : (w u v : World) → TurnIsLeft w u → TurnIsLeft u v → TurnIsLeft w v
 turn_joined w u v a b =

@@ -3,11 +3,11 @@ use Rattle.mk_laws.proofs.Vocabulary.{Bool, Config, Event, HasHeader, Invariant,
 use Rattle.mk_laws.proofs.Vocabulary.{NeverState, None, Object, OfHistories, Option, Page, PlacedAllocation, RunPages}
 use Rattle.mk_laws.proofs.Vocabulary.{Seat, Some, Step, World, ℕ, and_from, and_parts, ap, arith, cases_Bool, cases_eq}
 use Rattle.mk_laws.proofs.Vocabulary.{cases_lt, claim_of, earlier_part_is_history, eq-eqb, eqb-true, false}
-use Rattle.mk_laws.proofs.Vocabulary.{false_from_ne_true, first_world, ground_of, header_at, header_of, inl, inr}
-use Rattle.mk_laws.proofs.Vocabulary.{is_phase, is_resident_page, is_small_object, is_unmapped_header, is_unmapping}
-use Rattle.mk_laws.proofs.Vocabulary.{large_count, large_words, left, left_append, left_from, length, list_any, mode_of}
-use Rattle.mk_laws.proofs.Vocabulary.{ne_eqb, not, not-true, object_now, object_placed, or_parts, pages_made, placed_at}
-use Rattle.mk_laws.proofs.Vocabulary.{refl, run_begins, set_past, storage_words, subst, sym, true, true≢false}
+use Rattle.mk_laws.proofs.Vocabulary.{false_from_ne_true, ground_of, header_at, header_of, inl, inr, is_phase}
+use Rattle.mk_laws.proofs.Vocabulary.{is_resident_page, is_small_object, is_unmapped_header, is_unmapping, large_count}
+use Rattle.mk_laws.proofs.Vocabulary.{large_words, left, left_append, left_from, length, list_any, mode_of, ne_eqb, not}
+use Rattle.mk_laws.proofs.Vocabulary.{not-true, object_now, object_placed, or_parts, pages_made, placed_at, refl}
+use Rattle.mk_laws.proofs.Vocabulary.{run_begins, set_past, storage_words, subst, sym, true, true≢false}
 use Rattle.mk_laws.proofs.Vocabulary.{unmapped_header, unmapped_is_unmapped, use_under, used_on, world_behind, [], ◌&&◌}
 use Rattle.mk_laws.proofs.Vocabulary.{◌*◌, ◌+◌, ◌-◌, ◌/◌, ◌<◌, ◌==◌, ◌∙◌, ◌∷◌, ◌≡◌}
 use Rattle.mk_laws.proofs.Basics.{Behind, KnownWorld, Laid, Table, claim_among, gone_terrain, known_world, own_claim}
@@ -129,9 +129,8 @@ module _ (c : Config) (w : World) (n : NeverState) (known : KnownWorld c w) (all
 
 pub unmapped_runs_take_no_memory : OfHistories UnmappedRunsTakeNoMemory
 unmapped_runs_take_no_memory c es h front more p is x none =
-    let before = earlier_part_is_history c front more (subst (λ (xs : List Event). IsHistory c xs) is h) in
-    let out = not_resident c (left c front) _
+    let before = earlier_part_is_history c front more (subst (IsHistory c) is h) in
+    let out = not_resident c _ _
     (known_world c front before.within_limits before.enabled) (histories_keep_the_invariant c front before) p x in
     ap (λ (xs : List Event). is_resident_in (left c xs) p) is
-    ∙ ap (λ (w : World). is_resident_in w p) (left_append c (first_world c) front more)
-    ∙ stays_along c (left c front) more p none out
+    ∙ ap (λ (w : World). is_resident_in w p) (left_append c _ front more) ∙ stays_along c _ more p none out

@@ -127,14 +127,13 @@ module _ (s : LayoutScene) (x : Claim) (d : ℕ) (laid : IsLaidOn s) (ix : Among
   ]
 
   own : IsShown after x
-  own =
-      record {
-        sized = sx.sized;
-        known = sx.known;
-        within = let l = len in let w = sx.within in omega arith;
-        headers = λ e le. rw mode (header_of_run e le);
-        used = rw (headed_used s.pages p n x.page lt) sx.used;
-      }
+  own = record {
+    sized = sx.sized;
+    known = sx.known;
+    within = let l = len in let w = sx.within in omega arith;
+    headers = λ e le. rw mode (header_of_run e le);
+    used = rw (headed_used s.pages p n x.page lt) sx.used;
+  }
 
   cells : (q : ℕ) → cells_under (shows_on after q) ≡ cells_under (shows_on s.pages q)
   cells q = elim (cases_eq q p) [
@@ -163,14 +162,13 @@ module _ (s : LayoutScene) (x : Claim) (d : ℕ) (laid : IsLaidOn s) (ix : Among
 
   plot : (plot : Plot) → PlotStands s.pages plot → PlotStands after plot
   plot NoPlot stands = stands
-  plot (Plotted first o) stands =
-      record {
-        sized = stands.sized;
-        within = let l = len in let w = stands.within in omega arith;
-        headers = λ e le. rw (headed_other s.pages p n (first + e) (apart_of_plot s x d first e o laid ix ld stands le))
-            (stands.headers e le);
-        used = λ e le. headed_used s.pages p n (first + e) lt ∙ stands.used e le;
-      }
+  plot (Plotted first o) stands = record {
+    sized = stands.sized;
+    within = let l = len in let w = stands.within in omega arith;
+    headers = λ e le. rw (headed_other s.pages p n (first + e) (apart_of_plot s x d first e o laid ix ld stands le))
+        (stands.headers e le);
+    used = λ e le. headed_used s.pages p n (first + e) lt ∙ stands.used e le;
+  }
 
   -- the page that a later page names keeps its count, and isn't freed
   kept : (q e : ℕ) (m : Bool) → HasItsHead s.pages s.releasing q e → HasItsHead after s.releasing q e
@@ -195,23 +193,22 @@ module _ (s : LayoutScene) (x : Claim) (d : ℕ) (laid : IsLaidOn s) (ix : Among
       ∙ ap (λ i. Some (Later i was.0)) (sym at.0)))
 
   pub layout_page_unmapped : IsLaidOn (PageUnmapped s x d)
-  layout_page_unmapped =
-      record {
-        shown = λ y iy. elim (same_or_not y x) [
-          | inl same ↦ let e = one_claim s.claims y x laid.apart iy ix same in rw e own
-          | inr other ↦ shown_beside s.pages p n y lt (laid.shown y iy)
-              (λ e le at. let is = shares_run s x y d e laid ix iy large ld le at in other (rw is, rw is))
-        ];
-        apart = laid.apart;
-        used = λ q k h. let t = laid.used q k (rw (← (headed_used s.pages p n q lt)) h) in (rw (cells q) t.0, t.1);
-        plot = plot s.plot laid.plot;
-        occupied = λ q some empty. laid.occupied q (was_some q some) (rw (← (head q))
-            (sym (headed_used s.pages p n (head_on after q) lt) ∙ empty));
-        later = λ q e m is. elim (cases_eq q p) [
-          | inl same ↦ own_later q e m same is
-          | inr ne ↦ kept q e m (laid.later q e m (rw (← (headed_other s.pages p n q ne)) is))
-        ];
-      }
+  layout_page_unmapped = record {
+    shown = λ y iy. elim (same_or_not y x) [
+      | inl same ↦ let e = one_claim s.claims y x laid.apart iy ix same in rw e own
+      | inr other ↦ shown_beside s.pages p n y lt (laid.shown y iy)
+          (λ e le at. let is = shares_run s x y d e laid ix iy large ld le at in other (rw is, rw is))
+    ];
+    apart = laid.apart;
+    used = λ q k h. let t = laid.used q k (rw (← (headed_used s.pages p n q lt)) h) in (rw (cells q) t.0, t.1);
+    plot = plot s.plot laid.plot;
+    occupied = λ q some empty. laid.occupied q (was_some q some) (rw (← (head q))
+        (sym (headed_used s.pages p n (head_on after q) lt) ∙ empty));
+    later = λ q e m is. elim (cases_eq q p) [
+      | inl same ↦ own_later q e m same is
+      | inr ne ↦ kept q e m (laid.later q e m (rw (← (headed_other s.pages p n q ne)) is))
+    ];
+  }
 
 -- Claims that change how far they are unmapped, where the headers stand for that.
 pub record Changes (s : LayoutScene) (claims : List Claim) : Type 0 where
@@ -223,21 +220,20 @@ pub record Changes (s : LayoutScene) (claims : List Claim) : Type 0 where
 
 pub layout_changed : (s : LayoutScene) (claims : List Claim) → IsLaidOn s → Changes s claims
     → IsLaidOn (record s { claims = claims })
-layout_changed s claims laid ch =
-    record {
-      shown = λ y iy. let was = laid.shown (record y { mode = (ch.from y iy).0 }) (ch.from y iy).1 in record {
-        sized = was.sized;
-        known = was.known;
-        within = was.within;
-        headers = ch.headers y iy;
-        used = was.used;
-      };
-      apart = ch.apart;
-      used = λ p k h. let t = laid.used p k h in (t.0, owner p k t.1);
-      plot = laid.plot;
-      occupied = laid.occupied;
-      later = laid.later;
-    }
+layout_changed s claims laid ch = record {
+  shown = λ y iy. let was = laid.shown (record y { mode = (ch.from y iy).0 }) (ch.from y iy).1 in record {
+    sized = was.sized;
+    known = was.known;
+    within = was.within;
+    headers = ch.headers y iy;
+    used = was.used;
+  };
+  apart = ch.apart;
+  used = λ p k h. let t = laid.used p k h in (t.0, owner p k t.1);
+  plot = laid.plot;
+  occupied = laid.occupied;
+  later = laid.later;
+}
   where
     owner : (p k : ℕ) → IsClaimed s.claims p k ⊎ (is_released_on s p k ≡ true)
         → IsClaimed claims p k ⊎ (is_released_on s p k ≡ true)

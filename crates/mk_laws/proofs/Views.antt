@@ -13,15 +13,14 @@ pub record View : Type 0 where
   pub markers : List MarkerState
 
 abbrev pub view_of : Moment → View
-view_of m =
-    record {
-      turn = m.words.turn;
-      phase = m.words.phase;
-      gates = m.words.gates;
-      flights = m.seats.flights;
-      holding = m.seats.holding;
-      markers = m.seats.markers;
-    }
+view_of m = record {
+  turn = m.words.turn;
+  phase = m.words.phase;
+  gates = m.words.gates;
+  flights = m.seats.flights;
+  holding = m.seats.holding;
+  markers = m.seats.markers;
+}
 
 abbrev pub flight_in : View → ℕ → Flight
 flight_in v k = slice_index_or v.flights k at_rest

@@ -124,8 +124,7 @@ module _ (c : Config) (w : World) (n : NeverState) (t : Told c w n) where
   held early x some = by (others.zero_words x some)
     where
       by : MayHoldWords c w x → IsHeld c w x
-      by (OfMapped i mapped word) =
-          record { number = i; unreleased = mapped_stays c (placed i) mapped; word = word }
+      by (OfMapped i mapped word) = record { number = i; unreleased = mapped_stays c (placed i) mapped; word = word }
       by (OfReleased cell pointed released) =
           let four = (and_parts (is_phase w.now.words 4) (is_left_unmarked w.now.words cell) released).0 in
           absurd (not_four (phase_of w.now.words) early (eqb-true (phase_of w.now.words) 4 four))

@@ -176,12 +176,11 @@ zeros_stand_behind_lists c es limits on others =
 pub others_at_first : (c : Config) (e : Event) → IsWithinLimits c → is_heap_store e.step ≡ false
     → ZeroPremises c (first_world c) e
 unfolding left_from AreEnabledFrom layout.LayoutPremisesFrom
-others_at_first c e limits still =
-    record {
-      laid_out = (histories_are_laid_out c [] limits tt tt).laid;
-      target = λ cell at. let none : None ≡ Some cell = sym (no_target e.seat) ∙ at in cc;
-      stored = λ s. absurd (true≢false (sym s ∙ still));
-    }
+others_at_first c e limits still = record {
+  laid_out = (histories_are_laid_out c [] limits tt tt).laid;
+  target = λ cell at. let none : None ≡ Some cell = sym (no_target e.seat) ∙ at in cc;
+  stored = λ s. absurd (true≢false (sym s ∙ still));
+}
   where
     no_target : (seat : Seat) → target c.pages (first_moment c).words (flight_of (first_moment c) seat) ≡ None
     no_target (Caller k) = ap (target c.pages (first_moment c).words) (at_first c.callers k at_rest)

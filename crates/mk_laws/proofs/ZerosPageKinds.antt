@@ -122,17 +122,16 @@ pub dropped_word : (c : Config) (w : World) (p f v n : ℕ) → Drops w.now.word
     → IsReleasedWord c w.now.words.pages (is_released_there (record (zero_scene_with true w.now.words.marks w) {
       snapshot = slice_set w.now.words.snapshot p v;
     })) n
-dropped_word c w p f v n h r =
-    record {
-      cell = r.cell;
-      small = r.small;
-      released = set_by (λ x. has_bit (without x (slice_index w.now.words.marks r.cell.page)) r.cell.index ≡ true)
-          _ p r.cell.page v 0 still r.released;
-      used = r.used;
-      pointed = r.pointed;
-      from = r.from;
-      to = r.to;
-    }
+dropped_word c w p f v n h r = record {
+  cell = r.cell;
+  small = r.small;
+  released = set_by (λ x. has_bit (without x (slice_index w.now.words.marks r.cell.page)) r.cell.index ≡ true)
+      _ p r.cell.page v 0 still r.released;
+  used = r.used;
+  pointed = r.pointed;
+  from = r.from;
+  to = r.to;
+}
   where
     bits : (has_bit (slice_index w.now.words.snapshot r.cell.page) r.cell.index ≡ true)
         × (not (has_bit (slice_index w.now.words.marks r.cell.page) r.cell.index) ≡ true)

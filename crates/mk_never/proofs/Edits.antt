@@ -1,10 +1,10 @@
 -- A fact about what is chosen, edited or reached, from the cases; and which allocations there are.
-use Rattle.std.proofs.Common.{◌≡◌, ℕ, suc, zero, ◌<◌, Bool, true, false, if◌then◌else◌, List, [], ◌∷◌, ◌++◌, length}
-use Rattle.std.proofs.Common.{get_or, set, refl, ap, arith}
+use Rattle.std.proofs.Common.{Bool, List, ℕ, ap, arith, false, get_or, if◌then◌else◌, length, refl, set, suc, true}
+use Rattle.std.proofs.Common.{zero, [], ◌++◌, ◌<◌, ◌∷◌, ◌≡◌}
 use Rattle.std.proofs.lemmas.Bool.{false≢true}
-use Rattle.mk_never.specs.declared.values.Target.{Target}
+use Rattle.mk_never.specs.NeverHeap.{Allocation, NeverState, allocation_at, left_at, no_allocation, words_of}
 use Rattle.mk_never.specs.declared.values.Target.TheVariants.{Nothing, Unmapped, WordOf}
-use Rattle.mk_never.specs.NeverHeap.{NeverState, Allocation, no_allocation, allocation_at, words_of, left_at}
+use Rattle.mk_never.specs.declared.values.Target.{Target}
 
 -- what holds where the access is refused and at each word that it reaches holds of what is left
 pub left_at_by : (P : NeverState → Type 0) (t : Target) (refused : NeverState) (at : ℕ → ℕ → NeverState)

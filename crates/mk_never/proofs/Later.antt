@@ -1,48 +1,44 @@
 -- Allocations stay: their types, their sizes, and that they are freed.
-use Rattle.std.proofs.Common.{◌≡◌, ℕ, ◌<◌, true, List, [], ◌∷◌, length, get_or, set, refl, ◌∙◌, ap, subst, arith}
-use Rattle.std.proofs.Common.{length-set, length-append}
+use Rattle.std.proofs.Common.{List, ℕ, ap, arith, get_or, length, length-append, length-set, refl, set, subst, true, []}
+use Rattle.std.proofs.Common.{◌<◌, ◌∙◌, ◌∷◌, ◌≡◌}
 use Rattle.std.proofs.lemmas.List.{get_or_append_left}
-use Rattle.mk_never.specs.declared.values.Value.{Value}
+use Rattle.mk_never.proofs.Edits.{freed_exists, if_by, left_at_by, set_by}
+use Rattle.mk_never.specs.Laws.{Continues, FreedStays, TypeStays}
+use Rattle.mk_never.specs.NeverHeap.{Allocation, Call, NeverState, after_calls, after_free, after_op, allocation_at}
+use Rattle.mk_never.specs.NeverHeap.{is_same, left_at, no_allocation, register_at, with_freed, with_global, with_new}
+use Rattle.mk_never.specs.NeverHeap.{with_register, with_word, word_at, words_of}
+use Rattle.mk_never.specs.declared.operations.Op.TheVariants.{CasPtr, Clear, Free, GetGlobal, GetPtr, Lea, Move, New}
+use Rattle.mk_never.specs.declared.operations.Op.TheVariants.{SetGlobal, SetNum, SetPtr}
 use Rattle.mk_never.specs.declared.values.Value.TheVariants.{Null, Num, Ptr}
-use Rattle.mk_never.specs.declared.values.Target.{Target}
-use Rattle.mk_never.specs.declared.operations.Op.{Op}
-use Rattle.mk_never.specs.declared.operations.Op.TheVariants.{New, Free, SetNum, GetPtr, SetPtr, CasPtr, Lea}
-use Rattle.mk_never.specs.declared.operations.Op.TheVariants.{Move, Clear, GetGlobal, SetGlobal}
-use Rattle.mk_never.specs.NeverHeap.{NeverState, Allocation, Call, no_allocation, register_at, allocation_at, words_of}
-use Rattle.mk_never.specs.NeverHeap.{word_at, with_register, with_global, with_word, with_freed, with_new, is_same}
-use Rattle.mk_never.specs.NeverHeap.{left_at, after_free, after_op, after_calls}
-use Rattle.mk_never.specs.Laws.{Continues, TypeStays, FreedStays}
-use Rattle.mk_never.proofs.Edits.{left_at_by, if_by, set_by, freed_exists}
+use Rattle.mk_never.specs.{declared.operations.Op.Op, declared.values.Target.Target, declared.values.Value.Value}
 
 -- the same allocations, with other registers or globals
 same_allocations : (n m : NeverState) → m.types ≡ n.types → m.allocations ≡ n.allocations
     → length m.registers ≡ length n.registers → length m.globals ≡ length n.globals → Continues n m
-same_allocations n m types allocations registers globals =
-    record {
-      types = types;
-      registers = registers;
-      globals = globals;
-      count = let same_count = ap length allocations in omega arith;
-      ty = λ number h. ap (λ xs. (get_or xs number no_allocation).ty) allocations;
-      size = λ number h. ap (λ xs. length (get_or xs number no_allocation).words) allocations;
-      freed = λ number h. ap (λ xs. (get_or xs number no_allocation).freed) allocations ∙ h;
-    }
+same_allocations n m types allocations registers globals = record {
+  types = types;
+  registers = registers;
+  globals = globals;
+  count = let same_count = ap length allocations in omega arith;
+  ty = λ number h. ap (λ xs. (get_or xs number no_allocation).ty) allocations;
+  size = λ number h. ap (λ xs. length (get_or xs number no_allocation).words) allocations;
+  freed = λ number h. ap (λ xs. (get_or xs number no_allocation).freed) allocations ∙ h;
+}
 
 pub same : (n : NeverState) → Continues n n
 same n = same_allocations n n refl refl refl refl
 
 pub join : (n m o : NeverState) → Continues n m → Continues m o → Continues n o
-join n m o first second =
-    record {
-      types = second.types ∙ first.types;
-      registers = second.registers ∙ first.registers;
-      globals = second.globals ∙ first.globals;
-      count = omega arith;
-      ty = λ number h. let h' : number < length m.allocations = omega arith in second.ty number h' ∙ first.ty number h;
-      size = λ number h. let h' : number < length m.allocations = omega arith in second.size number h'
-          ∙ first.size number h;
-      freed = λ number h. second.freed number (first.freed number h);
-    }
+join n m o first second = record {
+  types = second.types ∙ first.types;
+  registers = second.registers ∙ first.registers;
+  globals = second.globals ∙ first.globals;
+  count = omega arith;
+  ty = λ number h. let h' : number < length m.allocations = omega arith in second.ty number h' ∙ first.ty number h;
+  size = λ number h. let h' : number < length m.allocations = omega arith in second.size number h'
+      ∙ first.size number h;
+  freed = λ number h. second.freed number (first.freed number h);
+}
 
 pub register_stays : (n : NeverState) (c r : ℕ) (v : Value) → Continues n (with_register n c r v)
 register_stays n c r v = same_allocations n _ refl refl (length-set _ _ _) refl
@@ -55,19 +51,18 @@ pub edit_stays : (n : NeverState) (number : ℕ) (new : Allocation) → new.ty �
     → length new.words ≡ length (words_of n number)
     → ((allocation_at n number).freed ≡ true → new.freed ≡ true)
     → Continues n (record n { allocations = set n.allocations number new })
-edit_stays n number new ty size freed =
-    record {
-      types = refl;
-      registers = refl;
-      globals = refl;
-      count = omega (arith, length-set n.allocations number new);
-      ty = λ k h. set_by (λ a. a.ty ≡ (allocation_at n k).ty) n.allocations number k new no_allocation
-          (λ e. rw e ty) refl;
-      size = λ k h. set_by (λ a. length a.words ≡ length (words_of n k)) n.allocations number k new no_allocation
-          (λ e. rw e size) refl;
-      freed = λ k h. set_by (λ a. a.freed ≡ true) n.allocations number k new no_allocation
-          (λ e. freed (subst (λ j. (allocation_at n j).freed ≡ true) e h)) h;
-    }
+edit_stays n number new ty size freed = record {
+  types = refl;
+  registers = refl;
+  globals = refl;
+  count = omega (arith, length-set n.allocations number new);
+  ty = λ k h. set_by (λ a. a.ty ≡ (allocation_at n k).ty) n.allocations number k new no_allocation
+      (λ e. rw e ty) refl;
+  size = λ k h. set_by (λ a. length a.words ≡ length (words_of n k)) n.allocations number k new no_allocation
+      (λ e. rw e size) refl;
+  freed = λ k h. set_by (λ a. a.freed ≡ true) n.allocations number k new no_allocation
+      (λ e. freed (subst (λ j. (allocation_at n j).freed ≡ true) e h)) h;
+}
 
 pub word_stays : (n : NeverState) (number place : ℕ) (v : Value) → Continues n (with_word n number place v)
 word_stays n number place v = edit_stays n number _ refl (length-set _ _ _) (λ h. h)
@@ -80,17 +75,16 @@ pub old_stays : (n : NeverState) (ty number : ℕ) → number < length n.allocat
 old_stays n ty number h = get_or_append_left _ _ _ _ h
 
 pub new_stays : (n : NeverState) (ty : ℕ) → Continues n (with_new n ty)
-new_stays n ty =
-    record {
-      types = refl;
-      registers = refl;
-      globals = refl;
-      count = simp length-append (omega arith);
-      ty = λ number h. ap (λ a. a.ty) (old_stays n ty number h);
-      size = λ number h. ap (λ a. length a.words) (old_stays n ty number h);
-      freed = λ number h. let in_it : number < length n.allocations =
-          freed_exists n number h in ap (λ a. a.freed) (old_stays n ty number in_it) ∙ h;
-    }
+new_stays n ty = record {
+  types = refl;
+  registers = refl;
+  globals = refl;
+  count = simp length-append (omega arith);
+  ty = λ number h. ap (λ a. a.ty) (old_stays n ty number h);
+  size = λ number h. ap (λ a. length a.words) (old_stays n ty number h);
+  freed = λ number h. let in_it : number < length n.allocations =
+      freed_exists n number h in ap (λ a. a.freed) (old_stays n ty number in_it) ∙ h;
+}
 
 free_stays : (n : NeverState) (v : Value) → Continues n (after_free n v)
 free_stays n Null = same n

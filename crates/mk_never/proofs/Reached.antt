@@ -1,11 +1,11 @@
 -- What is reached is the least set that is closed under pointers; and a small state, in which a freed large
 -- allocation ends the reach.
-use Rattle.std.proofs.Common.{◌≡◌, ℕ, zero, suc, Bool, true, false, [], ◌∷◌, replicate, get_or, refl, sym, subst}
+use Rattle.std.proofs.Common.{Bool, ℕ, false, get_or, refl, replicate, subst, suc, sym, true, zero, [], ◌∷◌, ◌≡◌}
 use Rattle.std.proofs.lemmas.Bool.{false≢true}
+use Rattle.mk_never.specs.Reach.{IsClosedUnderPointers, IsReachable, LeadsTo, ReachIsLeast, WordLeadsTo, by_global}
+use Rattle.mk_never.specs.Reach.{by_register, by_word}
 use Rattle.mk_never.specs.declared.values.Value.TheVariants.{Null, Num, Ptr}
 use Rattle.mk_never.specs.NeverHeap.{NeverState}
-use Rattle.mk_never.specs.Reach.{LeadsTo, WordLeadsTo, IsReachable, by_register, by_global, by_word}
-use Rattle.mk_never.specs.Reach.{IsClosedUnderPointers, ReachIsLeast}
 
 pub reach_is_closed : (n : NeverState) → IsClosedUnderPointers n (IsReachable n)
 reach_is_closed n = record { registers = by_register; globals = by_global; words = by_word }

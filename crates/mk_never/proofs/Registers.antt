@@ -1,17 +1,14 @@
 -- The calls of others leave a caller's registers.
-use Rattle.std.proofs.Common.{◌≢◌, ℕ, ◌+◌, ◌*◌, ◌<◌, List, [], ◌∷◌, refl, ◌∙◌, arith}
-use Rattle.std.proofs.lemmas.List.{get_or-set_other}
-use Rattle.mk_never.specs.declared.values.Value.{Value}
+use Rattle.std.proofs.Common.{List, ℕ, arith, get_or-set_other, refl, [], ◌*◌, ◌+◌, ◌<◌, ◌∙◌, ◌∷◌, ◌≢◌}
+use Rattle.mk_never.proofs.Edits.{if_by, left_at_by}
+use Rattle.mk_never.specs.Admitted.{AreAdmitted, IsAdmitted, OperandsAreInRange}
+use Rattle.mk_never.specs.Laws.{AreByOthers, AreNotBy, DestinationIsInRange, KeepsRegisters}
+use Rattle.mk_never.specs.NeverHeap.{Call, NeverState, after_calls, after_free, after_op, is_same, left_at, register_at}
+use Rattle.mk_never.specs.NeverHeap.{with_new, with_register, word_at}
+use Rattle.mk_never.specs.declared.operations.Op.TheVariants.{CasPtr, Clear, Free, GetGlobal, GetPtr, Lea, Move, New}
+use Rattle.mk_never.specs.declared.operations.Op.TheVariants.{SetNum, SetPtr}
 use Rattle.mk_never.specs.declared.values.Value.TheVariants.{Null, Num, Ptr}
-use Rattle.mk_never.specs.declared.values.Target.{Target}
-use Rattle.mk_never.specs.declared.operations.Op.{Op}
-use Rattle.mk_never.specs.declared.operations.Op.TheVariants.{New, Free, SetNum, GetPtr, SetPtr, CasPtr, Lea}
-use Rattle.mk_never.specs.declared.operations.Op.TheVariants.{Move, Clear, GetGlobal}
-use Rattle.mk_never.specs.NeverHeap.{NeverState, Call, register_at, word_at, with_register, with_new, is_same, left_at}
-use Rattle.mk_never.specs.NeverHeap.{after_free, after_op, after_calls}
-use Rattle.mk_never.specs.Admitted.{OperandsAreInRange, IsAdmitted, AreAdmitted}
-use Rattle.mk_never.specs.Laws.{KeepsRegisters, DestinationIsInRange, AreByOthers, AreNotBy}
-use Rattle.mk_never.proofs.Edits.{left_at_by, if_by}
+use Rattle.mk_never.specs.{declared.operations.Op.Op, declared.values.Target.Target, declared.values.Value.Value}
 
 -- a register of another caller
 other_register : (n : NeverState) (caller c d : ℕ) (v : Value) → c ≢ caller → d < 8

@@ -1,16 +1,14 @@
 -- Sound values stay sound, and suit the kinds that they are of.
-use Rattle.std.proofs.Common.{◌≡◌, ℕ, zero, suc, ◌+◌, ◌<◌, List, [], ◌∷◌, length, map, get_or, sym, subst, ◌∙◌, inl}
-use Rattle.std.proofs.Common.{inr, arith}
+use Rattle.std.proofs.Common.{List, ℕ, arith, get_or, inl, inr, length, map, subst, suc, sym, zero, [], ◌+◌, ◌<◌, ◌∙◌}
+use Rattle.std.proofs.Common.{◌∷◌, ◌≡◌}
 use Rattle.std.proofs.lemmas.Bool.{false≢true}
-use Rattle.mk_never.specs.declared.types.Kind.{Kind}
-use Rattle.mk_never.specs.declared.types.Kind.TheVariants.{Num as Number, To}
-use Rattle.mk_never.specs.declared.values.Value.{Value}
-use Rattle.mk_never.specs.declared.values.Value.TheVariants.{Null, Num, Ptr}
+use Rattle.mk_never.specs.Admitted.{IsNumber, IsOfKind, IsPointer, Meets}
+use Rattle.mk_never.specs.NeverHeap.{Allocation, NeverState, allocation_at, moved_on, words_of}
+use Rattle.mk_never.specs.Typed.{IsPlaceIn, IsSound, IsTypedAllocation, Suits}
 use Rattle.mk_never.specs.Types.{kinds_of, zero_of}
-use Rattle.mk_never.specs.NeverHeap.{NeverState, Allocation, allocation_at, words_of, moved_on}
-use Rattle.mk_never.specs.Admitted.{Meets, IsNumber, IsPointer, IsOfKind}
-use Rattle.mk_never.specs.Laws.{Continues}
-use Rattle.mk_never.specs.Typed.{IsPlaceIn, IsSound, Suits, IsTypedAllocation}
+use Rattle.mk_never.specs.declared.types.Kind.TheVariants.{Num as Number, To}
+use Rattle.mk_never.specs.declared.values.Value.TheVariants.{Null, Num, Ptr}
+use Rattle.mk_never.specs.{Laws.Continues, declared.types.Kind.Kind, declared.values.Value.Value}
 
 -- In a type that has words, a place is one of them.
 pub place_is_inside : (kinds : List Kind) (offset : ℕ) → IsPlaceIn kinds offset → 0 < length kinds
@@ -33,14 +31,13 @@ suits_kept n m stays v (To ty offset) suits = (sound_kept n m stays v suits.0, s
 
 pub allocation_kept : (n m : NeverState) → Continues n m → (a : Allocation) → IsTypedAllocation n a
     → IsTypedAllocation m a
-allocation_kept n m stays a typed =
-    record {
-      ty = subst (λ types. a.ty < length types) (sym stays.types) typed.ty;
-      size = subst (λ types. length a.words ≡ length (kinds_of types a.ty)) (sym stays.types) typed.size;
-      words = λ place h. subst
-          (λ types. Suits m (get_or a.words place Null) (get_or (kinds_of types a.ty) place Number)) (sym stays.types)
-          (suits_kept n m stays _ _ (typed.words place h));
-    }
+allocation_kept n m stays a typed = record {
+  ty = subst (λ types. a.ty < length types) (sym stays.types) typed.ty;
+  size = subst (λ types. length a.words ≡ length (kinds_of types a.ty)) (sym stays.types) typed.size;
+  words = λ place h. subst
+      (λ types. Suits m (get_or a.words place Null) (get_or (kinds_of types a.ty) place Number)) (sym stays.types)
+      (suits_kept n m stays _ _ (typed.words place h));
+}
 
 pub number_suits : (n : NeverState) (m : ℕ) (kind : Kind) → IsNumber kind → Suits n (Num m) kind
 number_suits n m Number is = tt

@@ -1,25 +1,21 @@
 -- Words change by stores alone, and a load gives what was last stored.
-use Rattle.std.proofs.Common.{◌≡◌, ◌≢◌, ℕ, ◌+◌, ◌*◌, ◌<◌, true, if◌then◌else◌, List, [], ◌∷◌, length, get_or, refl, sym}
-use Rattle.std.proofs.Common.{ap, subst, ◌∙◌, arith}
-use Rattle.std.proofs.lemmas.List.{get_or-set_same, get_or-set_other, get_or_append_left}
-use Rattle.mk_never.specs.declared.types.Kind.{Kind}
-use Rattle.mk_never.specs.declared.values.Value.{Value}
-use Rattle.mk_never.specs.declared.values.Value.TheVariants.{Null, Num, Ptr}
-use Rattle.mk_never.specs.declared.values.Target.{Target}
-use Rattle.mk_never.specs.declared.values.Target.TheVariants.{Unmapped, WordOf}
+use Rattle.std.proofs.Common.{List, ℕ, ap, arith, get_or, get_or-set_other, get_or-set_same, if◌then◌else◌, length}
+use Rattle.std.proofs.Common.{refl, subst, sym, true, [], ◌*◌, ◌+◌, ◌<◌, ◌∙◌, ◌∷◌, ◌≡◌, ◌≢◌}
+use Rattle.std.proofs.lemmas.List.{get_or_append_left}
+use Rattle.mk_never.proofs.Edits.{exists, if_by, left_at_by, set_by}
+use Rattle.mk_never.proofs.{Later.op_stays, Sameness.equal_from_same, Sameness.same_from_equal}
+use Rattle.mk_never.specs.Laws.{Continues, LoadGivesStored, LoadsGive, Reaches, StoreIsInside, StoreLeaves, StoresTo}
+use Rattle.mk_never.specs.Laws.{UnstoredStays, stored_value}
+use Rattle.mk_never.specs.NeverHeap.{Call, NeverState, after_calls, after_free, after_op, allocation_at, is_same}
+use Rattle.mk_never.specs.NeverHeap.{is_unmapped, left_at, no_allocation, number_of, register_at, reply_at, target_of}
+use Rattle.mk_never.specs.NeverHeap.{with_freed, with_register, with_word, word_at, words_of}
 use Rattle.mk_never.specs.declared.operations.Op.{Op}
-use Rattle.mk_never.specs.declared.operations.Op.TheVariants.{New, Free, SetNum, GetPtr, SetPtr, CasPtr}
-use Rattle.mk_never.specs.declared.operations.Reply.{Reply}
+use Rattle.mk_never.specs.declared.operations.Op.TheVariants.{CasPtr, Free, GetPtr, New, SetNum, SetPtr}
 use Rattle.mk_never.specs.declared.operations.Reply.TheVariants.{Num as Number, Val}
-use Rattle.mk_never.specs.NeverHeap.{NeverState, Call, no_allocation, register_at, allocation_at, words_of, word_at}
-use Rattle.mk_never.specs.NeverHeap.{with_register, with_word, with_freed, is_same, is_unmapped, target_of, left_at}
-use Rattle.mk_never.specs.NeverHeap.{reply_at, number_of, after_free, after_op, after_calls}
-use Rattle.mk_never.specs.Admitted.{Meets, IsNumber, IsPointer}
-use Rattle.mk_never.specs.Laws.{Reaches, StoresTo, stored_value, LoadsGive, UnstoredStays, StoreLeaves, StoreIsInside}
-use Rattle.mk_never.specs.Laws.{LoadGivesStored, Continues}
-use Rattle.mk_never.proofs.Edits.{left_at_by, if_by, set_by, exists}
-use Rattle.mk_never.proofs.Later.{op_stays}
-use Rattle.mk_never.proofs.Sameness.{equal_from_same, same_from_equal}
+use Rattle.mk_never.specs.declared.values.Target.TheVariants.{Unmapped, WordOf}
+use Rattle.mk_never.specs.declared.values.Value.TheVariants.{Null, Num, Ptr}
+use Rattle.mk_never.specs.{Admitted.IsNumber, Admitted.IsPointer, Admitted.Meets, declared.operations.Reply.Reply}
+use Rattle.mk_never.specs.{declared.types.Kind.Kind, declared.values.Target.Target, declared.values.Value.Value}
 
 -- The word is as it was.
 abbrev WordStays : ℕ → ℕ → NeverState → NeverState → Type 0
@@ -113,17 +109,16 @@ store_leaves n c _ number place h stores = absurd stores
 -- a load from a word gives its value
 pub loads_give : (n : NeverState) (number place : ℕ) (v : Value) → word_at n number place ≡ v
     → LoadsGive n number place v
-loads_give n number place v is =
-    record {
-      a_number = λ c q i reaches. reply_reached _ _ number place reaches ∙ ap (λ v. Number (number_of v)) is;
-      a_pointer = λ c d q i reaches. reply_reached _ _ number place reaches ∙ ap Val is;
-      a_register = λ c d q i is_caller in_range reaches.
-          let here : 8 * c + d < length n.registers = omega arith in
-          ap (λ m. register_at m c d)
-          (left_reached _ (with_register n c d Null) (λ a w. with_register n c d (word_at n a w)) number place
-          reaches)
-          ∙ get_or-set_same n.registers (8 * c + d) _ Null here ∙ is;
-    }
+loads_give n number place v is = record {
+  a_number = λ c q i reaches. reply_reached _ _ number place reaches ∙ ap (λ v. Number (number_of v)) is;
+  a_pointer = λ c d q i reaches. reply_reached _ _ number place reaches ∙ ap Val is;
+  a_register = λ c d q i is_caller in_range reaches.
+      let here : 8 * c + d < length n.registers = omega arith in
+      ap (λ m. register_at m c d)
+      (left_reached _ (with_register n c d Null) (λ a w. with_register n c d (word_at n a w)) number place
+      reaches)
+      ∙ get_or-set_same n.registers (8 * c + d) _ Null here ∙ is;
+}
 
 pub load_gives_stored : (n : NeverState) (c : ℕ) (op : Op) (calls : List Call) (number place : ℕ)
     → LoadGivesStored n c op calls number place

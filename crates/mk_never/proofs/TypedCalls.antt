@@ -1,21 +1,18 @@
 -- Admitted calls leave a typed state.
-use Rattle.std.proofs.Common.{◌≡◌, ℕ, zero, suc, ◌+◌, ◌*◌, Bool, List, [], ◌∷◌, Option, None, Some, replicate, get_or}
-use Rattle.std.proofs.Common.{refl, sym, subst, arith, IfSome, slice_get}
-use Rattle.mk_never.specs.declared.types.Kind.{Kind}
-use Rattle.mk_never.specs.declared.types.Kind.TheVariants.{To}
+use Rattle.std.proofs.Common.{Bool, IfSome, List, None, Option, Some, ℕ, arith, get_or, refl, replicate, slice_get}
+use Rattle.std.proofs.Common.{subst, suc, sym, zero, [], ◌*◌, ◌+◌, ◌∷◌, ◌≡◌}
+use Rattle.mk_never.proofs.Soundness.{moved_is_sound, number_suits, pointer_suits, suited_is_sound}
+use Rattle.mk_never.proofs.{Edits.if_by, Typing.new_is_sound, Typing.typed_access, Typing.typed_free}
+use Rattle.mk_never.proofs.{Typing.typed_global, Typing.typed_new, Typing.typed_register, Typing.typed_word}
+use Rattle.mk_never.specs.NeverHeap.{Call, NeverState, after_op, allocation_at, is_same, register_at, start_of}
+use Rattle.mk_never.specs.NeverHeap.{with_new, word_at}
+use Rattle.mk_never.specs.Typed.{IsSound, IsTyped, IsTypedAllocation, KeepsTyped, StaysTyped, kind_in}
+use Rattle.mk_never.specs.declared.operations.Op.TheVariants.{CasPtr, Clear, Free, GetGlobal, GetPtr, Lea, Move, New}
+use Rattle.mk_never.specs.declared.operations.Op.TheVariants.{SetGlobal, SetNum, SetPtr}
 use Rattle.mk_never.specs.declared.values.Value.TheVariants.{Null, Num}
-use Rattle.mk_never.specs.declared.operations.Op.{Op}
-use Rattle.mk_never.specs.declared.operations.Op.TheVariants.{New, Free, SetNum, GetPtr, SetPtr, CasPtr, Lea}
-use Rattle.mk_never.specs.declared.operations.Op.TheVariants.{Move, Clear, GetGlobal, SetGlobal}
-use Rattle.mk_never.specs.NeverHeap.{NeverState, Call, register_at, allocation_at, word_at, with_new, is_same, start_of}
-use Rattle.mk_never.specs.NeverHeap.{after_op}
-use Rattle.mk_never.specs.Admitted.{IsNumber, IsPointer, IsOfKind, OperandsAreInRange, AccessIsAdmitted}
-use Rattle.mk_never.specs.Admitted.{StoreIsAdmitted, IsAdmitted}
-use Rattle.mk_never.specs.Typed.{IsSound, kind_in, IsTypedAllocation, IsTyped, KeepsTyped, StaysTyped}
-use Rattle.mk_never.proofs.Edits.{if_by}
-use Rattle.mk_never.proofs.Soundness.{number_suits, pointer_suits, suited_is_sound, moved_is_sound}
-use Rattle.mk_never.proofs.Typing.{typed_register, typed_global, typed_word, typed_new, typed_free, typed_access}
-use Rattle.mk_never.proofs.Typing.{new_is_sound}
+use Rattle.mk_never.specs.{Admitted.AccessIsAdmitted, Admitted.IsAdmitted, Admitted.IsNumber, Admitted.IsOfKind}
+use Rattle.mk_never.specs.{Admitted.IsPointer, Admitted.OperandsAreInRange, Admitted.StoreIsAdmitted}
+use Rattle.mk_never.specs.{declared.operations.Op.Op, declared.types.Kind.Kind, declared.types.Kind.TheVariants.To}
 
 module _ (listed : List ℕ) (n : NeverState) (c : ℕ) (typed : IsTyped listed n) where
   -- what an operation of these operands needs, and what it leaves

@@ -1,22 +1,19 @@
 -- A state stays typed under admitted operations.
-use Rattle.std.proofs.Common.{ℕ, ◌+◌, ◌*◌, ◌<◌, false, List, [], length, set, refl, sym, ap, subst, ◌∙◌, inl, arith}
-use Rattle.std.proofs.Common.{length-set, length-append, IfSome, slice_get}
-use Rattle.std.proofs.lemmas.List.{length-map, get_or_at}
-use Rattle.mk_never.specs.declared.types.Kind.{Kind}
-use Rattle.mk_never.specs.declared.types.Kind.TheVariants.{To}
-use Rattle.mk_never.specs.declared.values.Value.{Value}
-use Rattle.mk_never.specs.declared.values.Value.TheVariants.{Null, Num, Ptr}
+use Rattle.std.proofs.Common.{IfSome, List, ℕ, ap, arith, false, inl, length, length-append, length-set, refl, set}
+use Rattle.std.proofs.Common.{slice_get, subst, sym, [], ◌*◌, ◌+◌, ◌<◌, ◌∙◌}
+use Rattle.std.proofs.lemmas.List.{get_or_at, length-map}
+use Rattle.mk_never.proofs.Edits.{exists, if_by, push_by, set_by}
+use Rattle.mk_never.proofs.Later.{freed_stays, global_stays, new_stays, register_stays, word_stays}
+use Rattle.mk_never.proofs.Soundness.{allocation_kept, sound_kept, zero_suits}
+use Rattle.mk_never.specs.Admitted.{IsOfKind, Meets}
+use Rattle.mk_never.specs.NeverHeap.{Allocation, NeverState, after_free, allocation_at, is_unmapped, left_at}
+use Rattle.mk_never.specs.NeverHeap.{no_allocation, target_of, with_freed, with_global, with_new, with_register}
+use Rattle.mk_never.specs.NeverHeap.{with_word, words_of}
+use Rattle.mk_never.specs.Typed.{IsSound, IsTyped, IsTypedAllocation, Suits, kind_in}
 use Rattle.mk_never.specs.declared.values.Target.TheVariants.{Unmapped, WordOf}
-use Rattle.mk_never.specs.Types.{kinds_of, zero_words}
-use Rattle.mk_never.specs.NeverHeap.{NeverState, Allocation, no_allocation, allocation_at, words_of, with_register}
-use Rattle.mk_never.specs.NeverHeap.{with_global, with_word, with_freed, with_new, is_unmapped, target_of, left_at}
-use Rattle.mk_never.specs.NeverHeap.{after_free}
-use Rattle.mk_never.specs.Admitted.{Meets, IsOfKind}
-use Rattle.mk_never.specs.Laws.{Continues}
-use Rattle.mk_never.specs.Typed.{IsSound, Suits, kind_in, IsTypedAllocation, IsTyped}
-use Rattle.mk_never.proofs.Edits.{if_by, set_by, push_by, exists}
-use Rattle.mk_never.proofs.Later.{register_stays, global_stays, word_stays, freed_stays, new_stays}
-use Rattle.mk_never.proofs.Soundness.{sound_kept, allocation_kept, zero_suits}
+use Rattle.mk_never.specs.declared.values.Value.TheVariants.{Null, Num, Ptr}
+use Rattle.mk_never.specs.{Laws.Continues, Types.kinds_of, Types.zero_words, declared.types.Kind.Kind}
+use Rattle.mk_never.specs.{declared.types.Kind.TheVariants.To, declared.values.Value.Value}
 
 module _ (listed : List ℕ) (n : NeverState) (typed : IsTyped listed n) where
   pub typed_register : (c d : ℕ) (v : Value) → IsSound n v → IsTyped listed (with_register n c d v)
@@ -48,17 +45,16 @@ module _ (listed : List ℕ) (n : NeverState) (typed : IsTyped listed n) where
   typed_edit : (number : ℕ) (new : Allocation) → Continues n (record n { allocations = set n.allocations number new })
       → IsTypedAllocation n new
       → IsTyped listed (record n { allocations = set n.allocations number new })
-  typed_edit number new stays new_typed =
-      record {
-        allocations = λ k h.
-            let there : k < length n.allocations = omega (arith, length-set n.allocations number new) in
-            allocation_kept n _ stays _
-            (set_by (λ a. IsTypedAllocation n a) n.allocations number k new no_allocation (λ e. new_typed)
-            (typed.allocations k there));
-        registers = λ k. sound_kept n _ stays _ (typed.registers k);
-        globals = λ g. sound_kept n _ stays _ (typed.globals g);
-        listed = typed.listed;
-      }
+  typed_edit number new stays new_typed = record {
+    allocations = λ k h.
+        let there : k < length n.allocations = omega (arith, length-set n.allocations number new) in
+        allocation_kept n _ stays _
+        (set_by (λ a. IsTypedAllocation n a) n.allocations number k new no_allocation (λ e. new_typed)
+        (typed.allocations k there));
+    registers = λ k. sound_kept n _ stays _ (typed.registers k);
+    globals = λ g. sound_kept n _ stays _ (typed.globals g);
+    listed = typed.listed;
+  }
 
   pub typed_word : (number place : ℕ) (v : Value) → number < length n.allocations
       → Suits n v (kind_in n (allocation_at n number) place)

@@ -1,26 +1,21 @@
 -- What isn't reached stays so: operations get their pointers from where reached ones stand.
-use Rattle.std.proofs.Common.{◌≡◌, ◌⊎◌, inl, inr, ℕ, zero, suc, ◌+◌, ◌*◌, ◌<◌, Bool, true, false, ◌&&◌, List, [], ◌∷◌}
-use Rattle.std.proofs.Common.{◌++◌, length, map, get_or, refl, sym, subst, arith, length-set, nat_lt, IsTrue}
+use Rattle.std.proofs.Common.{Bool, IsTrue, List, ℕ, arith, false, get_or, inl, inr, length, length-set, map, nat_lt}
+use Rattle.std.proofs.Common.{refl, subst, suc, sym, true, zero, [], ◌&&◌, ◌*◌, ◌++◌, ◌+◌, ◌<◌, ◌∷◌, ◌≡◌, ◌⊎◌}
 use Rattle.std.proofs.lemmas.List.{get_or_past}
-use Rattle.mk_never.specs.declared.types.Kind.{Kind}
-use Rattle.mk_never.specs.declared.types.Kind.TheVariants.{Num as Number, To}
-use Rattle.mk_never.specs.declared.values.Value.{Value}
-use Rattle.mk_never.specs.declared.values.Value.TheVariants.{Null, Num, Ptr}
-use Rattle.mk_never.specs.declared.values.Target.{Target}
-use Rattle.mk_never.specs.declared.values.Target.TheVariants.{Unmapped, WordOf}
-use Rattle.mk_never.specs.declared.operations.Op.{Op}
-use Rattle.mk_never.specs.declared.operations.Op.TheVariants.{New, Free, SetNum, GetPtr, SetPtr, CasPtr, Lea}
-use Rattle.mk_never.specs.declared.operations.Op.TheVariants.{Move, Clear, GetGlobal, SetGlobal}
+use Rattle.mk_never.proofs.{Edits.if_by, Edits.left_at_by, Edits.set_by, Later.op_stays, Reached.reached_is_in}
+use Rattle.mk_never.specs.NeverHeap.{Call, NeverState, after_free, after_op, allocation_at, grants_object, is_same}
+use Rattle.mk_never.specs.NeverHeap.{is_unmapped, left_at, moved_on, no_allocation, register_at, target_of, with_freed}
+use Rattle.mk_never.specs.NeverHeap.{with_global, with_new, with_register, with_word, word_at, words_of}
+use Rattle.mk_never.specs.Reach.{AccessIsToReached, IsReachable, LeadsTo, ReachGrowsByGrants, UnreachedStays}
+use Rattle.mk_never.specs.Reach.{WordLeadsTo, by_global, by_register, by_word}
 use Rattle.mk_never.specs.Types.{kinds_of, zero_of, zero_words}
-use Rattle.mk_never.specs.NeverHeap.{NeverState, Call, no_allocation, register_at, allocation_at, words_of, word_at}
-use Rattle.mk_never.specs.NeverHeap.{with_register, with_global, with_word, with_freed, with_new, is_same, is_unmapped}
-use Rattle.mk_never.specs.NeverHeap.{grants_object, target_of, left_at, moved_on, after_free, after_op}
-use Rattle.mk_never.specs.Laws.{Continues, Reaches}
-use Rattle.mk_never.specs.Reach.{LeadsTo, WordLeadsTo, IsReachable, by_register, by_global, by_word, AccessIsToReached}
-use Rattle.mk_never.specs.Reach.{ReachGrowsByGrants, UnreachedStays}
-use Rattle.mk_never.proofs.Edits.{left_at_by, if_by, set_by}
-use Rattle.mk_never.proofs.Later.{op_stays}
-use Rattle.mk_never.proofs.Reached.{reached_is_in}
+use Rattle.mk_never.specs.declared.operations.Op.TheVariants.{CasPtr, Clear, Free, GetGlobal, GetPtr, Lea, Move, New}
+use Rattle.mk_never.specs.declared.operations.Op.TheVariants.{SetGlobal, SetNum, SetPtr}
+use Rattle.mk_never.specs.declared.types.Kind.TheVariants.{Num as Number, To}
+use Rattle.mk_never.specs.declared.values.Target.TheVariants.{Unmapped, WordOf}
+use Rattle.mk_never.specs.declared.values.Value.TheVariants.{Null, Num, Ptr}
+use Rattle.mk_never.specs.{Laws.Continues, Laws.Reaches, declared.operations.Op.Op, declared.types.Kind.Kind}
+use Rattle.mk_never.specs.{declared.values.Target.Target, declared.values.Value.Value}
 
 -- The value leads to what is reached alone.
 abbrev LeadsToReached : NeverState → Value → Type 0

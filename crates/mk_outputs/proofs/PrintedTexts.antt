@@ -1,26 +1,17 @@
 -- The texts of the scripts, one after the other, are all that a run prints.
-use Rattle.std.proofs.Common.{◌≡◌, ℕ, ◌+◌, ◌<◌, suc, List, [], ◌∷◌, ◌++◌, length, Bool, true, false, refl, ap}
-use Rattle.std.proofs.Common.{◌∙◌, arith}
 use Rattle.std.specs.List.{flat_map, range_with_len}
-use Rattle.std.specs.Prelude.{slice_index_or}
-use Rattle.mk_core.specs.declared.events.Event.{Event}
-use Rattle.mk_script.specs.declared.items.Item.{Item}
-use Rattle.mk_check.specs.declared.text.Text.{Text}
-use Rattle.mk_check.specs.Declarations.{config_of}
-use Rattle.mk_check.specs.Output.{text_behind, output}
-use Rattle.mk_replay.specs.Replays.{AreTextsOf}
+use Rattle.mk_laws.proofs.Vocabulary.{Bool, Event, List, ℕ, ap, arith, false, length, refl, slice_index_or, suc, true}
+use Rattle.mk_laws.proofs.Vocabulary.{[], ◌++◌, ◌+◌, ◌<◌, ◌∙◌, ◌∷◌, ◌≡◌}
+use Rattle.mk_check.specs.{Declarations.config_of, Output.output, Output.text_behind, declared.text.Text.Text}
 use Rattle.mk_engines.specs.Roots.{CyclesMarkRootsFirst}
-use Rattle.mk_heap.specs.Reports as report
-use Rattle.mk_run.specs.declared.outcomes.Outcome.{Outcome}
-use Rattle.mk_run.specs.Running.{IsRunOf}
-use Rattle.mk_run.specs.Unswept.{IsUnswept}
+use Rattle.mk_outputs.specs.{KeptText.kept_text, Outputs.TellsWhatIsKept}
+use Rattle.mk_replay.specs.Replays.{AreTextsOf}
+use Rattle.mk_run.proofs.Headline.{runs_print_their_texts, runs_stand_in_one_history}
 use Rattle.mk_run.specs.Headline.{StandsInOneHistory, cycles_go_on}
-use Rattle.mk_run.specs.LastCycle.{EndsWithCycle}
-use Rattle.mk_run.proofs.Headline.{runs_stand_in_one_history, runs_print_their_texts}
-use Rattle.mk_why.specs.declared.kept.Kept.{Kept}
-use Rattle.mk_why.specs.Chains.{AreKept}
-use Rattle.mk_outputs.specs.KeptText.{kept_text}
-use Rattle.mk_outputs.specs.Outputs.{TellsWhatIsKept}
+use Rattle.mk_run.specs.{LastCycle.EndsWithCycle, Running.IsRunOf, Unswept.IsUnswept, declared.outcomes.Outcome.Outcome}
+use Rattle.mk_script.specs.declared.items.Item.{Item}
+use Rattle.mk_why.specs.{Chains.AreKept, declared.kept.Kept.Kept}
+use Rattle.mk_heap.specs.Reports as report
 
 -- pieces that are those of their places
 pieces : {X A : Type 0} (f : X → List A) (g : ℕ → List A) (a : ℕ) (xs : List X)

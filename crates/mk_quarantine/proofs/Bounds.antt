@@ -1,18 +1,15 @@
 -- All bounds, from the theorems.
 use Rattle.mk_quarantine.proofs.Vocabulary.{Bool, Caller, Config, Event, Host, HostBeginsLast, IsHistory, List, Seat}
-use Rattle.mk_quarantine.proofs.Vocabulary.{TurnsOfAreExact, [], and_from, ap, append_assoc, arith}
+use Rattle.mk_quarantine.proofs.Vocabulary.{TurnsOfAreExact, ℕ, and_from, ap, append_assoc, arith}
 use Rattle.mk_quarantine.proofs.Vocabulary.{earlier_part_is_history, false, is_of_cycle, is_same_seat, left, list_any}
-use Rattle.mk_quarantine.proofs.Vocabulary.{list_any-append, or_parts, refl, subst, sym, true, true≢false, ℕ, ⊎_elim}
+use Rattle.mk_quarantine.proofs.Vocabulary.{list_any-append, or_parts, refl, subst, sym, true, true≢false, [], ⊎_elim}
 use Rattle.mk_quarantine.proofs.Vocabulary.{◌&&◌, ◌++◌, ◌∙◌, ◌∷◌, ◌≡◌}
 use Rattle.mk_core.specs.Growing.{AreOfOthers}
-use Rattle.mk_quarantine.proofs.CountedWords.{IsQuarter}
-use Rattle.mk_quarantine.proofs.EndedCycles.{fresh_is_quarter_of_held}
-use Rattle.mk_quarantine.proofs.EndedFrees.{CallersAreExact}
 use Rattle.mk_quarantine.proofs.HeldQuarters.{IsLate, quarter_or_late}
-use Rattle.mk_quarantine.proofs.KeptAllocations.{quarantine_is_fresh_or_kept}
 use Rattle.mk_quarantine.proofs.Quarters.{begin_is_of_cycle, fresh_is_quarter, quarantine_is_quarter_and_kept}
-use Rattle.mk_quarantine.proofs.TouchedAllocations.{kept_are_touched}
-use Rattle.mk_quarantine.proofs.UnmappedRuns.{freed_runs_take_no_memory}
+use Rattle.mk_quarantine.proofs.{CountedWords.IsQuarter, EndedCycles.fresh_is_quarter_of_held}
+use Rattle.mk_quarantine.proofs.{EndedFrees.CallersAreExact, KeptAllocations.quarantine_is_fresh_or_kept}
+use Rattle.mk_quarantine.proofs.{TouchedAllocations.kept_are_touched, UnmappedRuns.freed_runs_take_no_memory}
 use Rattle.mk_quarantine.specs.Bounds.{FreshIsQuarterWhereReleasedInTurn, QuarantineIsBounded, QuarantinesAreBounded}
 
 others_first : (seats : List Seat) (xs ys : List Event) → AreOfOthers seats (xs ++ ys) → AreOfOthers seats xs
@@ -67,23 +64,22 @@ idle_host_begins_last c es none before e behind is begins host k lt =
     (subst (λ (s : Seat). is_same_seat Host s ≡ true) (sym host) refl) (begin_is_of_cycle e.step begins)) ∙ off))
 
 pub quarantines_are_bounded : QuarantinesAreBounded
-quarantines_are_bounded on c es h exact last =
-    record {
-      with_given_back = λ front more is free.
-          fresh_is_quarter on c front (earlier c es front more is h) (exact_before c es front more is on exact) free;
-      released_in_turn = λ front more is free.
-          quarter_in_turn on c front (earlier c es front more is h) (exact_before c es front more is on exact) free;
-      of_held = λ off front more is free.
-          fresh_is_quarter_of_held c front (earlier c es front more is h)
-          (exact_before c es front more is false (subst (λ (b : Bool). CallersAreExact b c es) off exact))
-          (host_before c es front more is last) free;
-      quarantined = λ front more is. quarantine_is_fresh_or_kept c front (earlier c es front more is h);
-      kept = λ front more is. kept_are_touched c front (earlier c es front more is h);
-      in_memory = λ front more is free.
-          quarantine_is_quarter_and_kept on c front (earlier c es front more is h)
-          (exact_before c es front more is on exact) free;
-      large = λ front more is free. freed_runs_take_no_memory c front (earlier c es front more is h) free;
-    }
+quarantines_are_bounded on c es h exact last = record {
+  with_given_back = λ front more is free.
+      fresh_is_quarter on c front (earlier c es front more is h) (exact_before c es front more is on exact) free;
+  released_in_turn = λ front more is free.
+      quarter_in_turn on c front (earlier c es front more is h) (exact_before c es front more is on exact) free;
+  of_held = λ off front more is free.
+      fresh_is_quarter_of_held c front (earlier c es front more is h)
+      (exact_before c es front more is false (subst (λ (b : Bool). CallersAreExact b c es) off exact))
+      (host_before c es front more is last) free;
+  quarantined = λ front more is. quarantine_is_fresh_or_kept c front (earlier c es front more is h);
+  kept = λ front more is. kept_are_touched c front (earlier c es front more is h);
+  in_memory = λ front more is free.
+      quarantine_is_quarter_and_kept on c front (earlier c es front more is h)
+      (exact_before c es front more is on exact) free;
+  large = λ front more is free. freed_runs_take_no_memory c front (earlier c es front more is h) free;
+}
 
 -- a heap of one caller, with such a host
 pub quarantine_of_one_is_bounded : (on : Bool) (c : Config) (es : List Event) → c.callers ≡ 1 → IsHistory c es

@@ -1,19 +1,17 @@
 -- What one event makes of the words that are held, fresh and given back.
-use Rattle.std.proofs.lemmas.List.Sums.{sum_by-append, sum_by-cons}
-use Rattle.std.specs.Prelude.{filter, sum_by}
+use Rattle.std.proofs.{Common.filter, Common.sum_by, lemmas.List.Sums.sum_by-append, lemmas.List.Sums.sum_by-cons}
 use Rattle.mk_laws.proofs.Vocabulary.{address_of, is_large, is_left_unmarked, kinds_of, map, none_freed, pointed_cell}
 use Rattle.mk_quarantine.proofs.Vocabulary.{Bool, Cell, Config, Event, List, None, Option, PlacedAllocation, Seat, Some}
-use Rattle.mk_quarantine.proofs.Vocabulary.{Step, World, WorldBehind, [], ap, arith, cell_freed, decides_freed, false}
+use Rattle.mk_quarantine.proofs.Vocabulary.{Step, World, WorldBehind, ℕ, ap, arith, cell_freed, decides_freed, false}
 use Rattle.mk_quarantine.proofs.Vocabulary.{first_world, flight_of, freed_where_it_stands, fresh_words_of, given_back}
 use Rattle.mk_quarantine.proofs.Vocabulary.{given_back_behind, granted, held_by_allocations, if◌then◌else◌, is_begin}
 use Rattle.mk_quarantine.proofs.Vocabulary.{is_mapped, is_release, is_some, is_some_and, left, not, refl, storage_words}
-use Rattle.mk_quarantine.proofs.Vocabulary.{subst, sym, true, true≢false, with_released, world_behind, ℕ, ◌&&◌, ◌*◌}
+use Rattle.mk_quarantine.proofs.Vocabulary.{subst, sym, true, true≢false, with_released, world_behind, [], ◌&&◌, ◌*◌}
 use Rattle.mk_quarantine.proofs.Vocabulary.{◌++◌, ◌+◌, ◌||◌, ◌∙◌, ◌∷◌, ◌≡◌, ◌≤◌}
 use Rattle.mk_core.specs.History.{left_from}
 use Rattle.mk_laws.proofs.FreshWords.{fresh_part, fresh_pushed, none_fresh}
 use Rattle.mk_objects.proofs.HeldFreed.{held_part, held_sum}
 use Rattle.mk_quarantine.specs.GivenBack.{given_back_from, is_given_back, words_given_back}
-use Rattle.mk_core.specs.declared.events.Step.TheVariants as step
 
 -- The counts as sums over all.
 
@@ -21,8 +19,7 @@ pub sum_filtered : (f : PlacedAllocation → ℕ) (p : PlacedAllocation → Bool
     → sum_by f (filter p xs) ≡ sum_by (λ (a : PlacedAllocation). if p a then f a else 0) xs
 sum_filtered f p [] = refl
 sum_filtered f p (a ∷ xs) =
-    first (p a) ∙ ap (λ n. (if p a then f a else 0) + n) (sum_filtered f p xs)
-    ∙ sym (sum_by-cons (λ (b : PlacedAllocation). if p b then f b else 0) a xs)
+    cc (first (p a), sum_filtered f p xs, sum_by-cons (λ (b : PlacedAllocation). if p b then f b else 0) a xs)
   where
     rest : List PlacedAllocation
     rest = filter p xs
@@ -110,8 +107,7 @@ module _ (c : Config) (w : World) where
 
 held_pushed : (c : Config) (xs : List PlacedAllocation) (a : PlacedAllocation)
     → held_by_allocations c xs ≤ held_by_allocations c (xs ++ a ∷ [])
-held_pushed c xs a =
-    omega (arith, held_sum c xs, held_sum c (xs ++ a ∷ []), sum_by-append (held_part c) xs (a ∷ []))
+held_pushed c xs a = omega (arith, held_sum c xs, held_sum c (xs ++ a ∷ []), sum_by-append (held_part c) xs (a ∷ []))
 
 -- A quarter, where n words were given back.
 abbrev pub IsQuarter : Config → World → ℕ → Type 0
@@ -127,35 +123,32 @@ frees_none c w (Some cell) none = absurd (true≢false none)
 pub quarter_stays : (c : Config) (w : World) (seat : Seat) (x : Step) (n : ℕ)
     → decides_freed c w.now (flight_of w.now seat) x ≡ false → IsQuarter c w n
     → IsQuarter c (WorldBehind c w seat x) (given_back_behind c w x n)
-quarter_stays c w seat step.Grant n none quarter =
+quarter_stays c w seat Step.Grant n none quarter =
     let a : PlacedAllocation = granted c w.now (flight_of w.now seat) in
     omega (arith, held_pushed c w.allocations a, fresh_pushed c w.allocations a refl)
-quarter_stays c w seat (step.Quar p v) n none quarter =
-    subst
-    (λ (xs : List PlacedAllocation). 4 * fresh_words_of c xs ≤ held_by_allocations c xs + n)
-    (sym (frees_none c w (cell_freed c.pages w.now.words (flight_of w.now seat) p v) none)) quarter
-quarter_stays c w seat step.Begin n none quarter = let fresh = none_fresh c w.allocations in omega arith
-quarter_stays c w seat step.Release n none quarter =
-    omega (arith, held_released c w, fresh_released c w)
+quarter_stays c w seat (Step.Quar p v) n none quarter =
+    subst (λ (xs : List PlacedAllocation). 4 * fresh_words_of c xs ≤ held_by_allocations c xs + n) (sym (frees_none c w
+    _ none)) quarter
+quarter_stays c w seat Step.Begin n none quarter = let fresh = none_fresh c w.allocations in omega arith
+quarter_stays c w seat Step.Release n none quarter = omega (arith, held_released c w, fresh_released c w)
 quarter_stays c w seat _ n none quarter = quarter
 
 -- After a `begin` nothing is fresh,
 pub none_fresh_begun : (c : Config) (w : World) (seat : Seat) (x : Step) → is_begin x ≡ true
     → fresh_words_of c (WorldBehind c w seat x).allocations ≡ 0
-none_fresh_begun c w seat step.Begin is = none_fresh c w.allocations
+none_fresh_begun c w seat Step.Begin is = none_fresh c w.allocations
 none_fresh_begun c w seat _ is = cc
 
 -- and so it stays where nothing is freed.
 pub none_fresh_stays : (c : Config) (w : World) (seat : Seat) (x : Step)
     → decides_freed c w.now (flight_of w.now seat) x ≡ false → fresh_words_of c w.allocations ≡ 0
     → fresh_words_of c (WorldBehind c w seat x).allocations ≡ 0
-none_fresh_stays c w seat step.Grant none stale =
+none_fresh_stays c w seat Step.Grant none stale =
     fresh_pushed c w.allocations (granted c w.now (flight_of w.now seat)) refl ∙ stale
-none_fresh_stays c w seat (step.Quar p v) none stale =
-    ap (λ (xs : List PlacedAllocation). fresh_words_of c xs)
-    (frees_none c w (cell_freed c.pages w.now.words (flight_of w.now seat) p v) none) ∙ stale
-none_fresh_stays c w seat step.Begin none stale = none_fresh c w.allocations
-none_fresh_stays c w seat step.Release none stale = let fresh = fresh_released c w in omega arith
+none_fresh_stays c w seat (Step.Quar p v) none stale =
+    cc (frees_none c w (cell_freed c.pages w.now.words (flight_of w.now seat) p v) none, stale)
+none_fresh_stays c w seat Step.Begin none stale = none_fresh c w.allocations
+none_fresh_stays c w seat Step.Release none stale = let fresh = fresh_released c w in omega arith
 none_fresh_stays c w seat _ none stale = stale
 
 -- What was given back, with one event more.
@@ -165,8 +158,7 @@ given_more_from : (c : Config) (w : World) (n : ℕ) (es : List Event) (e : Even
     ≡ given_back_behind c (left_from c w es) e.step (given_back_from c w n es)
 unfolding given_back_from left_from
 given_more_from c w n [] e = refl
-given_more_from c w n (x ∷ es) e =
-    given_more_from c (world_behind c w x) (given_back_behind c w x.step n) es e
+given_more_from c w n (x ∷ es) e = given_more_from c (world_behind c w x) (given_back_behind c w x.step n) es e
 
 pub given_more : (c : Config) (es : List Event) (e : Event)
     → given_back c (es ++ e ∷ []) ≡ given_back_behind c (left c es) e.step (given_back c es)
@@ -178,6 +170,6 @@ none_given c = refl
 
 -- Only a `release` gives back.
 pub given_at : (c : Config) (w : World) (x : Step) → is_release x ≡ false → given_back_behind c w x 0 ≡ 0
-given_at c w step.Begin none = refl
-given_at c w step.Release none = cc
+given_at c w Step.Begin none = refl
+given_at c w Step.Release none = cc
 given_at c w _ none = refl

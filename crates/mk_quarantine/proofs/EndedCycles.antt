@@ -1,27 +1,23 @@
 -- Where calls end the cycles that they begin, no `release` stands in a later turn than its `begin`.
 use Rattle.mk_laws.proofs.Vocabulary.{AreEnabledFrom, is_one_of, is_under_turn, left_from}
 use Rattle.mk_alloc.proofs.Vocabulary.{RunsOneCycle}
-use Rattle.mk_quarantine.proofs.Vocabulary.{AsksPhase, At, CallIsExact, Caller, Config, EndsExactly, Event}
+use Rattle.mk_quarantine.proofs.Vocabulary.{AsksPhase, At, Caller, CallIsExact, Config, EndsExactly, Event}
 use Rattle.mk_quarantine.proofs.Vocabulary.{FreshIsQuarterOfHeld, HoldsTurn, Host, HostBeginsLast, IsHistory, Lacks}
-use Rattle.mk_quarantine.proofs.Vocabulary.{List, Marker, Next, None, Op, Option, Seat, Some, Step, TurnOf, World, []}
+use Rattle.mk_quarantine.proofs.Vocabulary.{List, Marker, Next, None, Op, Option, Seat, Some, Step, TurnOf, World, ℕ}
 use Rattle.mk_quarantine.proofs.Vocabulary.{ap, append_assoc, arith, at_no_take, before_it, comes_next}
 use Rattle.mk_quarantine.proofs.Vocabulary.{enabled_in_parts, eq-eqb, false, flight_of, fresh_after, has_step, inl, inr}
 use Rattle.mk_quarantine.proofs.Vocabulary.{is_begin, is_end, is_give, is_release, is_same_seat, known_left, lacks_at}
 use Rattle.mk_quarantine.proofs.Vocabulary.{left, ltb-true, or_from, or_parts, phase_behind, phase_of, refl}
 use Rattle.mk_quarantine.proofs.Vocabulary.{seat_exists, subst, sym, taken, through, true, true≢false, turn_of, view_of}
-use Rattle.mk_quarantine.proofs.Vocabulary.{world_behind, ℕ, ⊎_elim, ◌++◌, ◌<◌, ◌∙◌, ◌∷◌, ◌≡◌, ◌⊎◌}
+use Rattle.mk_quarantine.proofs.Vocabulary.{world_behind, [], ⊎_elim, ◌++◌, ◌<◌, ◌∙◌, ◌∷◌, ◌≡◌, ◌⊎◌}
 use Rattle.mk_core.specs.Growing.{AreOfOthers}
-use Rattle.mk_laws.proofs.CyclePhases.{moves_phase}
-use Rattle.mk_laws.proofs.NextSteps.{at_take}
+use Rattle.mk_laws.proofs.{CyclePhases.moves_phase, NextSteps.at_take}
 use Rattle.mk_alloc.proofs.ListParts.{lacks_second}
-use Rattle.mk_quarantine.proofs.CountedWords.{IsQuarter}
 use Rattle.mk_quarantine.proofs.EndedFrees.{CallersAreExact, caller_of}
 use Rattle.mk_quarantine.proofs.HeldQuarters.{FreesIn, IsLate, quarter_or_late, since_begin}
 use Rattle.mk_quarantine.proofs.HeldTurns.{begin_gives_none, beginner_holds, begun_in_turn, first_giver, next_of}
 use Rattle.mk_quarantine.proofs.HeldTurns.{turn_stays_taken}
-use Rattle.mk_quarantine.proofs.OpenFrees.{freer_has_free}
-use Rattle.mk_never.specs.declared.operations.Op.TheVariants as op
-use Rattle.mk_core.specs.declared.events.Step.TheVariants as step
+use Rattle.mk_quarantine.proofs.{CountedWords.IsQuarter, OpenFrees.freer_has_free}
 
 -- After an `end` no `release` comes before the next `begin`.
 
@@ -30,12 +26,12 @@ Rests p = (p ≡ 0) ⊎ (p ≡ 5)
 
 rest_step : (x : Step) (p : ℕ) → AsksPhase x p → Rests p → is_begin x ≡ false
     → Rests (phase_behind x p) × (is_release x ≡ false)
-rest_step step.Begin p asks rests none = cc
-rest_step step.Want p asks rests none = absurd (grind arith)
-rest_step step.Close p asks rests none = absurd (grind arith)
-rest_step step.Release p asks rests none = absurd (grind arith)
-rest_step step.End p asks rests none = (inl refl, refl)
-rest_step step.Over p asks rests none = (inr refl, refl)
+rest_step Step.Begin p asks rests none = cc
+rest_step Step.Want p asks rests none = absurd (grind arith)
+rest_step Step.Close p asks rests none = absurd (grind arith)
+rest_step Step.Release p asks rests none = absurd (grind arith)
+rest_step Step.End p asks rests none = (inl refl, refl)
+rest_step Step.Over p asks rests none = (inr refl, refl)
 rest_step _ p asks rests none = (rests, refl)
 
 releases_none : (c : Config) (w : World) (es : List Event) → AreEnabledFrom c w es → Rests (phase_of w.now.words)
@@ -48,8 +44,8 @@ releases_none c w (e ∷ es) on rests none =
     or_from (is_release e.step) (has_step is_release es) one.1
     (releases_none c (world_behind c w e) es moves.2 (subst Rests (sym moves.1) one.0) parts.1)
 
-end_is : (x : Step) → is_end x ≡ true → x ≡ step.End
-end_is step.End is = refl
+end_is : (x : Step) → is_end x ≡ true → x ≡ Step.End
+end_is Step.End is = refl
 end_is _ is = cc
 
 released_no_more : (c : Config) (es : List Event) (end : Event) (more : List Event) → IsHistory c (es ++ end ∷ more)
@@ -78,8 +74,8 @@ others_behind seats (x ∷ xs) e ys others = others_behind seats xs e ys others.
 
 is_for : (o : Op) → is_under_turn o ≡ true → (c : Config) (s : Seat) (es : List Event) (t : TurnOf c s es)
     → CallIsExact false t (Some o) → RunsOneCycle t.behind
-is_for (op.New d ty full) under c s es t exact = exact.one
-is_for (op.Free p) under c s es t exact = exact.one refl
+is_for (Op.New d ty full) under c s es t exact = exact.one
+is_for (Op.Free p) under c s es t exact = exact.one refl
 is_for _ under c s es t exact = cc
 
 runs_one : (c : Config) (k : ℕ) (es : List Event) → IsHistory c es → (ends : EndsExactly false c (Caller k) es)
@@ -91,14 +87,13 @@ runs_one c k es h ends = by ends.turn.op refl
         let meets = (before_it c es ends.turn.before (taken ends.turn) ends.turn.behind h ends.turn.is).1 in
         let f = flight_of (left c ends.turn.before).now (Caller k) in
         let under = (at_take f.stage f.op o
-        (subst (λ (x : Option Op). comes_next f.stage f.op (step.Take x) ≡ true) is meets.order)).1 in
-        is_for o under c (Caller k) es ends.turn
-        (subst (λ (x : Option Op). CallIsExact false ends.turn x) is ends.exact)
+        (subst (λ (x : Option Op). comes_next f.stage f.op (Step.Take x) ≡ true) is meets.order)).1 in
+        is_for o under c _ es ends.turn (subst (λ (x : Option Op). CallIsExact false ends.turn x) is ends.exact)
     by None is =
         let meets = (before_it c es ends.turn.before (taken ends.turn) ends.turn.behind h ends.turn.is).1 in
         let f = flight_of (left c ends.turn.before).now (Caller k) in
         absurd (at_no_take f.stage f.op
-        (subst (λ (x : Option Op). comes_next f.stage f.op (step.Take x) ≡ true) is meets.order))
+        (subst (λ (x : Option Op). comes_next f.stage f.op (Step.Take x) ≡ true) is meets.order))
 
 module _ (c : Config) (es : List Event) (h : IsHistory c es) (exact : CallersAreExact false c es) (l : IsLate es) where
   abbrev b : At is_begin es
@@ -118,17 +113,16 @@ module _ (c : Config) (es : List Event) (h : IsHistory c es) (exact : CallersAre
       ∙ append_assoc given.at.before (given.at.event ∷ given.at.behind) (l.release.event ∷ l.release.behind)
 
   abbrev next : Next is_give b.behind
-  next =
-      record {
-        at = record {
-          before = given.at.before;
-          event = given.at.event;
-          behind = later;
-          is = parts;
-          of_kind = given.at.of_kind;
-        };
-        none_before = given.none_before;
-      }
+  next = record {
+    at = record {
+      before = given.at.before;
+      event = given.at.event;
+      behind = later;
+      is = parts;
+      of_kind = given.at.of_kind;
+    };
+    none_before = given.none_before;
+  }
 
   whole : es ≡ through b ++ b.behind
   whole = b.is ∙ sym (append_assoc b.before (b.event ∷ []) b.behind)
@@ -138,20 +132,17 @@ module _ (c : Config) (es : List Event) (h : IsHistory c es) (exact : CallersAre
   no_release end =
       let tail : List Event = end.behind ++ given.at.event ∷ later in
       let split : b.behind ≡ end.before ++ end.event ∷ tail =
-      parts ∙ ap (λ (xs : List Event). xs ++ given.at.event ∷ later) end.is
-      ∙ append_assoc end.before (end.event ∷ end.behind) (given.at.event ∷ later) in
+      cc (parts, end.is, append_assoc end.before (end.event ∷ end.behind) (given.at.event ∷ later)) in
       let all : es ≡ (through b ++ end.before) ++ end.event ∷ tail =
-      whole ∙ ap (λ (xs : List Event). through b ++ xs) split
-      ∙ sym (append_assoc (through b) end.before (end.event ∷ tail)) in
+      cc (whole, split, append_assoc (through b) end.before (end.event ∷ tail)) in
       let last : Lacks is_begin (end.event ∷ tail) =
       lacks_second is_begin end.before (end.event ∷ tail)
       (ap (λ (xs : List Event). has_step is_begin xs) (sym split) ∙ l.last) in
       let none = released_no_more c (through b ++ end.before) end.event tail
       (subst (λ (xs : List Event). IsHistory c xs) all h) end.of_kind
       (or_parts (is_begin end.event.step) (has_step is_begin tail) last).1 in
-      lacks_at is_release tail (end.behind ++ given.at.event ∷ given.at.behind) l.release.event l.release.behind none
-      (sym (append_assoc end.behind (given.at.event ∷ given.at.behind) (l.release.event ∷ l.release.behind)))
-      l.release.of_kind
+      lacks_at is_release tail (end.behind ++ given.at.event ∷ given.at.behind) _ _ none (sym (append_assoc end.behind
+      (given.at.event ∷ given.at.behind) (l.release.event ∷ l.release.behind))) l.release.of_kind
 
   -- A caller ends its cycle in its turn.
   by_caller : (k : ℕ) → b.event.seat ≡ Caller k → ⊥
@@ -167,8 +158,7 @@ module _ (c : Config) (es : List Event) (h : IsHistory c es) (exact : CallersAre
       (kept ∙ turn) next in
       let front : List Event = b.before ++ b.event ∷ given.at.before in
       let split : es ≡ front ++ given.at.event ∷ later =
-      b.is ∙ ap (λ (xs : List Event). b.before ++ b.event ∷ xs) parts
-      ∙ sym (append_assoc b.before (b.event ∷ given.at.before) (given.at.event ∷ later)) in
+      cc (b.is, parts, append_assoc b.before (b.event ∷ given.at.before) (given.at.event ∷ later)) in
       let ends = exact k holds.0 front given.at.event later split giver.0 giver.1 in
       let at_front = (before_it c es front given.at.event later h split).0 in
       let i = begun_in_turn c k front
@@ -191,8 +181,7 @@ module _ (c : Config) (es : List Event) (h : IsHistory c es) (exact : CallersAre
           let w : World = left_from c (left c (through b)) f.before in
           let caller = caller_of w.now f.event.seat (freer_has_free c w f.event.seat f.event.step f.frees) in
           let one : es ≡ (through b ++ f.before) ++ f.event ∷ f.behind =
-          whole ∙ ap (λ (xs : List Event). through b ++ xs) f.is
-          ∙ sym (append_assoc (through b) f.before (f.event ∷ f.behind)) in
+          cc (whole, f.is, append_assoc (through b) f.before (f.event ∷ f.behind)) in
           let meets = (before_it c es (through b ++ f.before) f.event f.behind h one).1 in
           let lt : caller.0 < c.callers =
           ltb-true caller.0 c.callers (subst (λ (s : Seat). seat_exists c s ≡ true) caller.1 meets.seat) in

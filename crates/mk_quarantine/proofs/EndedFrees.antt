@@ -1,19 +1,17 @@
 -- A Free that has freed its object, and whose turn was given back: what that turn did.
 use Rattle.mk_laws.proofs.Vocabulary.{undecided_free}
 use Rattle.mk_alloc.proofs.Vocabulary.{FreeIsExact}
-use Rattle.mk_quarantine.proofs.Vocabulary.{Bool, CallIsExact, Caller, Config, EndsExactly, Event, Flight, GivesNone}
+use Rattle.mk_quarantine.proofs.Vocabulary.{Bool, Caller, CallIsExact, Config, EndsExactly, Event, Flight, GivesNone}
 use Rattle.mk_quarantine.proofs.Vocabulary.{Host, IsHistory, List, Marker, Meets, Moment, Next, Op, Option, Seat, Some}
-use Rattle.mk_quarantine.proofs.Vocabulary.{Step, TurnOf, TurnsOfAreExact, [], and-false, ap, append_assoc, arith}
+use Rattle.mk_quarantine.proofs.Vocabulary.{Step, TurnOf, TurnsOfAreExact, ℕ, and-false, ap, append_assoc, arith}
 use Rattle.mk_quarantine.proofs.Vocabulary.{before_it, decides_freed, earlier_part_is_history, false, flight_of}
 use Rattle.mk_quarantine.proofs.Vocabulary.{free_has_turn, is_give, is_same_seat, is_undecided_free, known_left, left}
 use Rattle.mk_quarantine.proofs.Vocabulary.{list_any, ltb-true, or_from, own_give, refl, seat_exists, subst, sym, taken}
-use Rattle.mk_quarantine.proofs.Vocabulary.{true, turn_of, view_of, ℕ, ◌&&◌, ◌++◌, ◌+◌, ◌<◌, ◌∙◌, ◌∷◌, ◌≡◌}
+use Rattle.mk_quarantine.proofs.Vocabulary.{true, turn_of, view_of, [], ◌&&◌, ◌++◌, ◌+◌, ◌<◌, ◌∙◌, ◌∷◌, ◌≡◌}
 use Rattle.mk_alloc.proofs.OwnGives.{gives_append}
 use Rattle.mk_quarantine.proofs.HeldTurns.{IsSameTurn, first_giver, lacks_own, next_of, one_turn, turn_stays_held}
 use Rattle.mk_quarantine.proofs.OpenFrees.{FreesNoneFrom, OpenFree, freer_has_free, open_frees_have_turns}
 use Rattle.mk_quarantine.proofs.OpenFrees.{undecided_is_open}
-use Rattle.mk_never.specs.declared.operations.Op.TheVariants as op
-use Rattle.mk_core.specs.declared.events.Step.TheVariants as step
 
 -- the callers' turns are exact
 abbrev pub CallersAreExact : Bool → Config → List Event → Type 0
@@ -39,24 +37,22 @@ caller_of m (Marker k) h = cc
 caller_of m Host h = cc
 
 no_give : (c : Config) (m : Moment) (f : Flight) (x : Step) → decides_freed c m f x ≡ true → is_give x ≡ false
-no_give c m f (step.Quar p v) h = refl
-no_give c m f step.Give h = cc
+no_give c m f (Step.Quar p v) h = refl
+no_give c m f Step.Give h = cc
 no_give c m f _ h = cc
 
 -- the turn of an open Free, longer
 module _ (c : Config) (before : List Event) (k : ℕ) (o : OpenFree c before (left c before) k) (e : Event)
     (more : List Event) (none : GivesNone (Caller k) (e ∷ more)) where
   abbrev longer : TurnOf c (Caller k) (before ++ e ∷ more)
-  longer =
-      record {
-        before = o.turn.before;
-        op = o.turn.op;
-        behind = o.turn.behind ++ e ∷ more;
-        is = ap (λ (l : List Event). l ++ e ∷ more) o.turn.is
-            ∙ append_assoc o.turn.before (taken o.turn ∷ o.turn.behind) (e ∷ more);
-        took = o.turn.took;
-        goes_on = gives_append (Caller k) o.turn.behind (e ∷ more) o.turn.goes_on none;
-      }
+  longer = record {
+    before = o.turn.before;
+    op = o.turn.op;
+    behind = o.turn.behind ++ e ∷ more;
+    is = cc (o.turn.is, append_assoc o.turn.before (taken o.turn ∷ o.turn.behind) (e ∷ more));
+    took = o.turn.took;
+    goes_on = gives_append (Caller k) o.turn.behind (e ∷ more) o.turn.goes_on none;
+  }
 
   -- whatever turn it is after these
   ends_free : (on : Bool) (behind rest : List Event) → behind ≡ more ++ rest → IsHistory c (before ++ e ∷ more)
@@ -66,12 +62,11 @@ module _ (c : Config) (before : List Event) (k : ℕ) (o : OpenFree c before (le
       let same : IsSameTurn c k (before ++ e ∷ more) longer ends.turn =
       one_turn c k (before ++ e ∷ more) longer ends.turn h in
       let free = undecided_free (flight_of (left c before).now (Caller k)) undecided in
-      let op : ends.turn.op ≡ Some (op.Free free.p) = same.op ∙ o.op ∙ ap Some free.op in
+      let op : ends.turn.op ≡ Some (Op.Free free.p) = same.op ∙ o.op ∙ ap Some free.op in
       let take : taken ends.turn ≡ taken o.turn =
-      ap (λ (x : Option Op). record { seat = Caller k; step = step.Take x }) same.op in
+      ap (λ (x : Option Op). record { seat = Caller k; step = Step.Take x }) same.op in
       let start : ends.turn.before ++ taken ends.turn ∷ [] ≡ o.turn.before ++ taken o.turn ∷ [] =
-      ap (λ (l : List Event). l ++ taken ends.turn ∷ []) same.before
-      ∙ ap (λ (x : Event). o.turn.before ++ x ∷ []) take in
+      cc (same.before, take) in
       record {
         caller = k;
         more = more;
@@ -80,10 +75,7 @@ module _ (c : Config) (before : List Event) (k : ℕ) (o : OpenFree c before (le
         turn = ends.turn;
         exact = subst (λ (x : Option Op). CallIsExact on ends.turn x) op ends.exact;
         done = o.turn.behind;
-        first =
-            o.turn.is
-            ∙ sym (ap (λ (l : List Event). l ++ taken ends.turn ∷ o.turn.behind) same.before
-            ∙ ap (λ (x : Event). o.turn.before ++ x ∷ o.turn.behind) take);
+        first = cc (o.turn.is, same.before, take);
         parts = same.behind;
         none = subst (λ (l : List Event). FreesNoneFrom c (left c l) o.turn.behind) (sym start) o.none;
       }
@@ -102,9 +94,7 @@ module _ (on : Bool) (c : Config) (es before : List Event) (e : Event) (behind :
     lt = ltb-true k c.callers exists
 
     undecided : is_undecided_free (flight_of (left c before).now (Caller k)) ≡ true
-    undecided =
-        subst (λ (s : Seat). is_undecided_free (flight_of (left c before).now s) ≡ true) seat
-        (freer_has_free c (left c before) e.seat e.step frees)
+    undecided = cc (seat, freer_has_free c (left c before) e.seat e.step frees)
 
     turn_before : (left c before).now.words.turn ≡ 1 + k
     turn_before =
@@ -114,9 +104,8 @@ module _ (on : Bool) (c : Config) (es before : List Event) (e : Event) (behind :
 
     not_given : own_give (Caller k) e ≡ false
     not_given =
-        ap (λ (b : Bool). is_same_seat (Caller k) e.seat && b)
-        (no_give c (left c before).now (flight_of (left c before).now e.seat) e.step frees)
-        ∙ and-false (is_same_seat (Caller k) e.seat)
+        ap (λ (b : Bool). is_same_seat (Caller k) e.seat && b) (no_give c (left c before).now (flight_of (left c
+        before).now e.seat) e.step frees) ∙ and-false _
 
     parts : es ≡ (before ++ e ∷ []) ++ behind
     parts = is ∙ sym (append_assoc before (e ∷ []) behind)

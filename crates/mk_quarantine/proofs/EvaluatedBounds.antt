@@ -2,16 +2,11 @@
 use Rattle.mk_laws.proofs.Vocabulary.{take}
 use Rattle.mk_quarantine.proofs.Vocabulary.{FreshIsQuarterOfHeld, IsKeptByLastCycle, arith, fresh_after, given_back}
 use Rattle.mk_quarantine.proofs.Vocabulary.{held_after, is_begin, is_close, is_end, is_release, left, refl, ◌≡◌, ◌≤◌}
-use Rattle.mk_core.proofs.EventsAt.{at_number, event_number}
-use Rattle.mk_core.proofs.MoreSchedules.{full_then_reused, two_pages}
-use Rattle.mk_core.proofs.Schedules.{by, c0, host, one_page}
+use Rattle.mk_core.proofs.{EventsAt.at_number, EventsAt.event_number, MoreSchedules.full_then_reused}
+use Rattle.mk_core.proofs.{MoreSchedules.two_pages, Schedules.by, Schedules.c0, Schedules.host, Schedules.one_page}
 use Rattle.mk_core.specs.Allocations.{unreleased_storage}
-use Rattle.mk_core.specs.Bounded.{all_below}
-use Rattle.mk_core.specs.Cells.{pointed_cell}
-use Rattle.mk_core.specs.History.{left_from}
-use Rattle.mk_core.specs.StopConditions.{may_turn_black}
-use Rattle.mk_quarantine.proofs.BoundSchedules.{released_later}
-use Rattle.mk_quarantine.specs.GivenBack.{given_back_from}
+use Rattle.mk_core.specs.{Bounded.all_below, Cells.pointed_cell, History.left_from, StopConditions.may_turn_black}
+use Rattle.mk_quarantine.{proofs.BoundSchedules.released_later, specs.GivenBack.given_back_from}
 
 -- Before the host's `release` 2 of 8 words are fresh, and nothing was given back; after it the 6 words of the larger
 -- object are.
@@ -42,19 +37,18 @@ given_back_at_last = (refl, refl)
 -- The first cycle of that schedule kept the object that a register still pointed to.
 pub kept_by_first : IsKeptByLastCycle one_page (take 36 full_then_reused) 1
 unfolding by c0 all_below pointed_cell may_turn_black one_page full_then_reused left_from event_number at_number
-kept_by_first =
-    record {
-      cycle = record {
-        releasing = record {
-          marking = record {
-            begin = at_number is_begin 19 (take 36 full_then_reused) refl refl;
-            close = record { at = at_number is_close 7 _ refl refl; none_before = refl };
-          };
-          release = record { at = at_number is_release 0 _ refl refl; none_before = refl };
-        };
-        end = record { at = at_number is_end 0 _ refl refl; none_before = refl };
+kept_by_first = record {
+  cycle = record {
+    releasing = record {
+      marking = record {
+        begin = at_number is_begin 19 (take 36 full_then_reused) refl refl;
+        close = record { at = at_number is_close 7 _ refl refl; none_before = refl };
       };
-      last = refl;
-      snapshot = refl;
-      unreleased = refl;
-    }
+      release = record { at = at_number is_release 0 _ refl refl; none_before = refl };
+    };
+    end = record { at = at_number is_end 0 _ refl refl; none_before = refl };
+  };
+  last = refl;
+  snapshot = refl;
+  unreleased = refl;
+}

@@ -1,24 +1,21 @@
 -- What was freed since the last `begin` is a quarter of what is held alone, where no `release` came in a later turn.
 use Rattle.mk_quarantine.proofs.Vocabulary.{At, Bool, Caller, Config, Event, IsHistory, KeptByEvents, Lacks, List}
-use Rattle.mk_quarantine.proofs.Vocabulary.{Meets, OfHistories, Seat, Step, TurnOf, World, [], ap, append_assoc, arith}
+use Rattle.mk_quarantine.proofs.Vocabulary.{Meets, OfHistories, Seat, Step, TurnOf, World, ℕ, ap, append_assoc, arith}
 use Rattle.mk_quarantine.proofs.Vocabulary.{before_it, cases_Bool, decides_freed, false, first_world, flight_of}
 use Rattle.mk_quarantine.proofs.Vocabulary.{fresh_after, fresh_words_of, has_step, holds_of_histories, inl, inr}
 use Rattle.mk_quarantine.proofs.Vocabulary.{is_begin, is_give, is_of_cycle, is_release, lacks_append, lacks_at}
 use Rattle.mk_quarantine.proofs.Vocabulary.{lacks_first, lacks_one, left, left_in_parts, left_more, list_any}
 use Rattle.mk_quarantine.proofs.Vocabulary.{list_any-append, longer_at, or_from, or_parts, own_give, phase_asked, refl}
-use Rattle.mk_quarantine.proofs.Vocabulary.{subst, sym, through, true, true≢false, world_behind, ℕ, ⊎_elim, ◌++◌, ◌∙◌}
+use Rattle.mk_quarantine.proofs.Vocabulary.{subst, sym, through, true, true≢false, world_behind, [], ⊎_elim, ◌++◌, ◌∙◌}
 use Rattle.mk_quarantine.proofs.Vocabulary.{◌∷◌, ◌≡◌, ◌⊎◌}
-use Rattle.mk_core.specs.Cycles.{BeginsIn}
-use Rattle.mk_core.specs.History.{left_from}
-use Rattle.mk_laws.proofs.CyclePhases.{release_is}
-use Rattle.mk_laws.proofs.ReleasedCycles.{HasClosed, cycle_so_far}
+use Rattle.mk_core.specs.{Cycles.BeginsIn, History.left_from}
+use Rattle.mk_laws.proofs.{CyclePhases.release_is, ReleasedCycles.HasClosed, ReleasedCycles.cycle_so_far}
 use Rattle.mk_alloc.proofs.ListParts.{none_at}
 use Rattle.mk_quarantine.proofs.CountedWords.{IsQuarter, given_at, none_fresh_begun, none_fresh_stays, quarter_stays}
 use Rattle.mk_quarantine.proofs.EndedFrees.{CallersAreExact, EndedFree, ended_free}
-use Rattle.mk_quarantine.proofs.HeldTurns.{BeginsInTurn, begun_in_turn}
 use Rattle.mk_quarantine.proofs.Quarters.{IsPending, begin_is_of_cycle, cycles_later, freed_or_due, none_pending}
 use Rattle.mk_quarantine.proofs.Quarters.{pending_longer}
-use Rattle.mk_core.specs.declared.events.Step.TheVariants as step
+use Rattle.mk_quarantine.proofs.HeldTurns.{BeginsInTurn, begun_in_turn}
 
 -- the last event of a kind, if there is one
 
@@ -83,16 +80,12 @@ pub since_begin : (c : Config) (es : List Event) (b : At is_begin es)
 since_begin c es b =
     let start = left_more c (first_world c) b.before b.event in
     let stale : fresh_words_of c (left c (through b)).allocations ≡ 0 =
-    ap (λ (w : World). fresh_words_of c w.allocations) start
-    ∙ none_fresh_begun c (left c b.before) b.event.seat b.event.step b.of_kind in
+    cc (start, none_fresh_begun c (left c b.before) b.event.seat b.event.step b.of_kind) in
     let whole : left_from c (left c (through b)) b.behind ≡ left c es =
-    sym (left_in_parts c (through b) b.behind)
-    ∙ ap (λ (l : List Event). left c l) (append_assoc b.before (b.event ∷ []) b.behind ∙ sym b.is) in
-    ⊎_elim
-    (λ (z : fresh_words_of c (left_from c (left c (through b)) b.behind).allocations ≡ 0).
-    inl (ap (λ (w : World). fresh_words_of c w.allocations) (sym whole) ∙ z))
-    (λ (f : FreesIn c (left c (through b)) b.behind). inr f)
-    (frees_or_stale c (left c (through b)) b.behind stale)
+    cc (left_in_parts c (through b) b.behind, append_assoc b.before (b.event ∷ []) b.behind, b.is) in
+    ⊎_elim (λ (z : fresh_words_of c (left_from c (left c (through b)) b.behind).allocations ≡ 0). inl (ap (λ (w :
+    World). fresh_words_of c w.allocations) (sym whole) ∙ z)) (λ (f : FreesIn c (left c (through b)) b.behind). inr f)
+    (frees_or_stale c _ _ stale)
 
 -- A `release` since the last `begin` stands in a later turn.
 pub record IsLate (es : List Event) : Type 0 where
@@ -108,28 +101,25 @@ pub record IsEarly (c : Config) (es : List Event) : Type 0 where
   pub in_turn : Lacks is_give free.before
 
 late_longer : (es : List Event) (e : Event) → is_begin e.step ≡ false → IsLate es → IsLate (es ++ e ∷ [])
-late_longer es e none l =
-    record {
-      begin = longer_at (e ∷ []) l.begin;
-      last = lacks_append is_begin l.begin.behind (e ∷ []) l.last (lacks_one is_begin e none);
-      release = longer_at (e ∷ []) l.release;
-      later = l.later;
-    }
+late_longer es e none l = record {
+  begin = longer_at (e ∷ []) l.begin;
+  last = lacks_append is_begin l.begin.behind (e ∷ []) l.last (lacks_one is_begin e none);
+  release = longer_at (e ∷ []) l.release;
+  later = l.later;
+}
 
 early_longer : (c : Config) (es : List Event) (e : Event) → IsEarly c es → IsEarly c (es ++ e ∷ [])
-early_longer c es e l =
-    record {
-      begin = longer_at (e ∷ []) l.begin;
-      free = record {
-        before = l.free.before;
-        event = l.free.event;
-        behind = l.free.behind ++ e ∷ [];
-        is = ap (λ (xs : List Event). xs ++ e ∷ []) l.free.is
-            ∙ append_assoc l.free.before (l.free.event ∷ l.free.behind) (e ∷ []);
-        frees = l.free.frees;
-      };
-      in_turn = l.in_turn;
-    }
+early_longer c es e l = record {
+  begin = longer_at (e ∷ []) l.begin;
+  free = record {
+    before = l.free.before;
+    event = l.free.event;
+    behind = l.free.behind ++ e ∷ [];
+    is = cc (l.free.is, append_assoc l.free.before (l.free.event ∷ l.free.behind) (e ∷ []));
+    frees = l.free.frees;
+  };
+  in_turn = l.in_turn;
+}
 
 pub data HeldQuarters (c : Config) (es : List Event) : Type 0 where
   Quarter : IsQuarter c (left c es) 0 → HeldQuarters c es
@@ -157,7 +147,7 @@ freed c es e frees =
 
 released_none : (c : Config) (w : World) (seat : Seat) (x : Step) → is_release x ≡ true
     → decides_freed c w.now (flight_of w.now seat) x ≡ false
-released_none c w seat step.Release is = refl
+released_none c w seat Step.Release is = refl
 released_none c w seat _ is = cc
 
 released : (c : Config) (es : List Event) (e : Event) → IsHistory c es → Meets c (left c es).now e.seat e.step
@@ -165,7 +155,7 @@ released : (c : Config) (es : List Event) (e : Event) → IsHistory c es → Mee
 released c es e h meets is =
     let asked = subst (λ (x : Step). Meets c (left c es).now e.seat x) (release_is e.step is) meets in
     let closed : HasClosed es =
-    (cycle_so_far c es h).closed (phase_asked c (left c es).now e.seat step.Release asked) in
+    (cycle_so_far c es h).closed (phase_asked c (left c es).now e.seat Step.Release asked) in
     let b = last_of is_begin es (λ lacks. none_at is_begin es lacks closed.marking.begin) in
     elim (cases_Bool (has_step is_give b.at.behind)) [
       | inl later ↦
@@ -188,7 +178,7 @@ released c es e h meets is =
     ]
   where
     no_begin : (x : Step) → is_release x ≡ true → is_begin x ≡ false
-    no_begin step.Release is = refl
+    no_begin Step.Release is = refl
     no_begin _ is = cc
 
     in_front : {w : World} {ys : List Event} (f : FreesIn c w ys) → Lacks is_give ys → Lacks is_give f.before
@@ -246,8 +236,7 @@ begun_before on c before e behind f h b none =
       before = i.before;
       event = b.event;
       behind = b.behind ++ e ∷ f.more;
-      is = f.parts ∙ ap (λ (l : List Event). l ++ e ∷ f.more) i.is
-          ∙ append_assoc i.before (b.event ∷ b.behind) (e ∷ f.more);
+      is = cc (f.parts, i.is, append_assoc i.before (b.event ∷ b.behind) (e ∷ f.more));
       of_kind = b.of_kind;
     } in
     lacks_at is_of_cycle f.done i.before b.event b.behind
@@ -263,8 +252,7 @@ none_early on c es h exact free l =
     ∙ sym (append_assoc l.begin.before (l.begin.event ∷ []) (l.free.before ++ l.free.event ∷ l.free.behind))
     ∙ sym (append_assoc (through l.begin) l.free.before (l.free.event ∷ l.free.behind)) in
     let frees : decides_freed c (left c before).now (flight_of (left c before).now l.free.event.seat) l.free.event.step
-    ≡ true =
-    ap (λ (w : World). decides_freed c w.now (flight_of w.now l.free.event.seat) l.free.event.step)
+    ≡ true = ap (λ (w : World). decides_freed c w.now (flight_of w.now l.free.event.seat) l.free.event.step)
     (left_in_parts c (through l.begin) l.free.before) ∙ l.free.frees in
     let f : EndedFree on c before l.free.event l.free.behind =
     ended_free on c es before l.free.event l.free.behind h exact free split frees in

@@ -1,23 +1,19 @@
 -- Turns that are held: the turn word meanwhile, that a turn of a seat is one, and who begins a cycle in one.
 use Rattle.std.proofs.lemmas.List.{append_cancel_left}
-use Rattle.mk_laws.proofs.Vocabulary.{enabled_meets, group_of, holder_number, ◌≢◌}
+use Rattle.mk_laws.proofs.Vocabulary.{Group, enabled_meets, group_of, holder_number, ◌≢◌}
 use Rattle.mk_quarantine.proofs.Vocabulary.{At, Bool, Caller, Config, Event, GivesNone, HoldsTurn, Host, InFirst}
 use Rattle.mk_quarantine.proofs.Vocabulary.{InSecond, IsHistory, Known, Lacks, List, Marker, Meets, Moment, Next, Op}
-use Rattle.mk_quarantine.proofs.Vocabulary.{Option, Seat, Step, TurnOf, World, WorldBehind, [], and-false, and_from, ap}
+use Rattle.mk_quarantine.proofs.Vocabulary.{Option, Seat, Step, TurnOf, World, WorldBehind, ℕ, and-false, and_from, ap}
 use Rattle.mk_quarantine.proofs.Vocabulary.{append-nil, append_assoc, arith, before_it, cases_Bool}
 use Rattle.mk_quarantine.proofs.Vocabulary.{earlier_part_is_history, enabled_in_parts, eq-eqb, false, first_world}
 use Rattle.mk_quarantine.proofs.Vocabulary.{has_step, if◌then◌else◌, is_begin, is_give, is_same_seat, known_left}
 use Rattle.mk_quarantine.proofs.Vocabulary.{lacks_first, left, left_in_parts, left_more, list_any, list_any-append}
 use Rattle.mk_quarantine.proofs.Vocabulary.{ltb-true, ne_eqb, or_from, or_parts, own_give, refl, reg_leaves, stands}
 use Rattle.mk_quarantine.proofs.Vocabulary.{subst, sym, taken, tally_keeps, true, true≢false, turn_of, view_of}
-use Rattle.mk_quarantine.proofs.Vocabulary.{world_behind, ℕ, ⊎_elim, ◌&&◌, ◌++◌, ◌+◌, ◌<◌, ◌∙◌, ◌∷◌, ◌≡◌}
+use Rattle.mk_quarantine.proofs.Vocabulary.{world_behind, [], ⊎_elim, ◌&&◌, ◌++◌, ◌+◌, ◌<◌, ◌∙◌, ◌∷◌, ◌≡◌}
 use Rattle.mk_core.specs.History.{AreEnabledFrom, left_from}
-use Rattle.mk_laws.proofs.Actors.{CallTakes, HostTakes}
 use Rattle.mk_laws.proofs.Basics.{Actor, AsHolder, AsMarker, InCallOf, actor_of, known_behind}
-use Rattle.mk_laws.proofs.CyclePhases.{begin_is}
-use Rattle.mk_laws.proofs.LayoutHolders.{giver_has_turn}
-use Rattle.mk_core.specs.declared.events.Step.TheVariants as step
-use Rattle.mk_core.specs.declared.events.Group.TheVariants as group
+use Rattle.mk_laws.proofs.{Actors.CallTakes, Actors.HostTakes, CyclePhases.begin_is, LayoutHolders.giver_has_turn}
 
 -- The turn word while nobody gives the turn back, and that a turn of a seat is one.
 
@@ -45,11 +41,11 @@ next_of kind (e ∷ es) some =
 -- One event: a turn that is held stays so, unless it is given back.
 turn_kept : (c : Config) (w : World) (seat : Seat) (x : Step) → w.now.words.turn ≢ 0 → is_give x ≡ false
     → (WorldBehind c w seat x).now.words.turn ≡ w.now.words.turn
-turn_kept c w seat (step.Take o) held none =
+turn_kept c w seat (Step.Take o) held none =
     ap (λ (b : Bool). if b then 1 + holder_number c seat else w.now.words.turn) (ne_eqb w.now.words.turn 0 held)
-turn_kept c w seat step.Give held none = cc
-turn_kept c w seat step.Reg held none = (reg_leaves c w seat).turn
-turn_kept c w seat (step.Tally n v) held none = (tally_keeps w.now.words n v).turn
+turn_kept c w seat Step.Give held none = cc
+turn_kept c w seat Step.Reg held none = (reg_leaves c w seat).turn
+turn_kept c w seat (Step.Tally n v) held none = (tally_keeps w.now.words n v).turn
 turn_kept c w seat _ held none = refl
 
 -- Whatever seat holds it, it stays held where nobody gives a turn back.
@@ -70,7 +66,7 @@ turn_stays_taken c es more held none =
 
 -- A caller is the one that gives its turn back.
 giver_is : (c : Config) (w : World) (seat : Seat) (k : ℕ) → Known c w.now → k < c.callers → w.now.words.turn ≡ 1 + k
-    → Meets c w.now seat step.Give → seat ≡ Caller k
+    → Meets c w.now seat Step.Give → seat ≡ Caller k
 giver_is c w seat k known lt turn meets = by seat (giver_has_turn c w.now seat known meets)
   where
     by : (seat : Seat) → HoldsTurn c (view_of w.now) seat → seat ≡ Caller k
@@ -80,8 +76,8 @@ giver_is c w seat k known lt turn meets = by seat (giver_has_turn c w.now seat k
     by (Marker j) holds = absurd holds
     by Host holds = let own : w.now.words.turn ≡ 1 + c.callers = holds in absurd (omega arith)
 
-give_is : (x : Step) → is_give x ≡ true → x ≡ step.Give
-give_is step.Give h = refl
+give_is : (x : Step) → is_give x ≡ true → x ≡ Step.Give
+give_is Step.Give h = refl
 give_is _ h = cc
 
 same_caller : (k : ℕ) → is_same_seat (Caller k) (Caller k) ≡ true
@@ -90,16 +86,10 @@ same_caller k = eq-eqb k k refl
 held_by_one : (c : Config) (w : World) (e : Event) (k : ℕ) → Known c w.now → k < c.callers → w.now.words.turn ≡ 1 + k
     → Meets c w.now e.seat e.step → own_give (Caller k) e ≡ false → (world_behind c w e).now.words.turn ≡ 1 + k
 held_by_one c w e k known lt turn meets none =
-    ⊎_elim
-    (λ (gives : is_give e.step ≡ true).
-    absurd (true≢false
-    (sym (and_from (is_same_seat (Caller k) e.seat) (is_give e.step)
-    (subst (λ (s : Seat). is_same_seat (Caller k) s ≡ true)
-    (sym (giver_is c w e.seat k known lt turn
-    (subst (λ (x : Step). Meets c w.now e.seat x) (give_is e.step gives) meets)))
-    (same_caller k)) gives) ∙ none)))
-    (λ (off : is_give e.step ≡ false). turn_kept c w e.seat e.step (λ z. omega arith) off ∙ turn)
-    (cases_Bool (is_give e.step))
+    ⊎_elim (λ (gives : is_give e.step ≡ true). absurd (true≢false (sym (and_from (is_same_seat (Caller k) e.seat)
+    (is_give e.step) (subst (λ (s : Seat). is_same_seat (Caller k) s ≡ true) (sym (giver_is c w e.seat k known lt turn
+    (subst (λ (x : Step). Meets c w.now e.seat x) (give_is e.step gives) meets))) (same_caller k)) gives) ∙ none))) (λ
+    (off : is_give e.step ≡ false). turn_kept c w e.seat e.step (λ z. omega arith) off ∙ turn) (cases_Bool _)
 
 held_from : (c : Config) (w : World) (k : ℕ) (es : List Event) → Known c w.now → AreEnabledFrom c w es → k < c.callers
     → w.now.words.turn ≡ 1 + k → GivesNone (Caller k) es → (left_from c w es).now.words.turn ≡ 1 + k
@@ -115,23 +105,21 @@ pub turn_stays_held : (c : Config) (es more : List Event) (k : ℕ) → IsHistor
     → (left c es).now.words.turn ≡ 1 + k → GivesNone (Caller k) more → (left c (es ++ more)).now.words.turn ≡ 1 + k
 turn_stays_held c es more k h lt turn none =
     let first = earlier_part_is_history c es more h in
-    ap (λ (w : World). w.now.words.turn) (left_in_parts c es more)
-    ∙ held_from c (left c es) k more (known_left c es first.within_limits first.enabled)
-    ((enabled_in_parts c es more).0 h.enabled).1 lt turn none
+    ap (λ (w : World). w.now.words.turn) (left_in_parts c es more) ∙ held_from c _ k more (known_left c es
+    first.within_limits first.enabled) ((enabled_in_parts c es more).0 h.enabled).1 lt turn none
 
 -- Where nobody gives a turn back, this caller doesn't.
 pub lacks_own : (s : Seat) (es : List Event) → Lacks is_give es → GivesNone s es
 lacks_own s [] none = refl
 lacks_own s (e ∷ es) none =
     let parts = or_parts (is_give e.step) (has_step is_give es) none in
-    or_from (own_give s e) (list_any (own_give s) es)
-    (ap (λ (b : Bool). is_same_seat s e.seat && b) parts.0 ∙ and-false (is_same_seat s e.seat))
-    (lacks_own s es parts.1)
+    or_from (own_give s e) (list_any (own_give s) es) (ap (λ (b : Bool). is_same_seat s e.seat && b) parts.0 ∙ and-false
+    _) (lacks_own s es parts.1)
 
 -- The first `give` is the holder's.
 pub first_giver : (c : Config) (es more : List Event) (k : ℕ) → IsHistory c (es ++ more) → k < c.callers
     → (left c es).now.words.turn ≡ 1 + k → (g : Next is_give more)
-    → (g.at.event.step ≡ step.Give) × (g.at.event.seat ≡ Caller k)
+    → (g.at.event.step ≡ Step.Give) × (g.at.event.seat ≡ Caller k)
 first_giver c es more k h lt turn g =
     let split : es ++ more ≡ (es ++ g.at.before) ++ g.at.event ∷ g.at.behind =
     ap (λ (l : List Event). es ++ l) g.at.is ∙ sym (append_assoc es g.at.before (g.at.event ∷ g.at.behind)) in
@@ -161,8 +149,7 @@ module _ (c : Config) (k : ℕ) (es : List Event) (h : IsHistory c es) (t : Turn
       → (left c (t.before ++ taken t ∷ part)).now.words.turn ≡ 1 + k
   turn_held_in part rest is =
       let whole : es ≡ (t.before ++ taken t ∷ part) ++ rest =
-      t.is ∙ ap (λ (l : List Event). t.before ++ taken t ∷ l) is
-      ∙ sym (append_assoc t.before (taken t ∷ part) rest) in
+      cc (t.is, is, append_assoc t.before (taken t ∷ part) rest) in
       let first : IsHistory c (t.before ++ taken t ∷ part) =
       earlier_part_is_history c (t.before ++ taken t ∷ part) rest
       (subst (λ (l : List Event). IsHistory c l) whole h) in
@@ -187,8 +174,7 @@ apart : (c : Config) (k : ℕ) (es : List Event) (t u : TurnOf c (Caller k) es) 
     → t.before ≡ u.before ++ taken u ∷ part → ⊥
 apart c k es t u h part is =
     let whole : u.before ++ taken u ∷ u.behind ≡ u.before ++ taken u ∷ (part ++ taken t ∷ t.behind) =
-    sym u.is ∙ t.is ∙ ap (λ (l : List Event). l ++ taken t ∷ t.behind) is
-    ∙ append_assoc u.before (taken u ∷ part) (taken t ∷ t.behind) in
+    cc (u.is, t.is, is, append_assoc u.before (taken u ∷ part) (taken t ∷ t.behind)) in
     let same : taken u ∷ u.behind ≡ taken u ∷ (part ++ taken t ∷ t.behind) =
     append_cancel_left u.before (taken u ∷ u.behind) (taken u ∷ (part ++ taken t ∷ t.behind)) whole in
     let parts : u.behind ≡ part ++ taken t ∷ t.behind = cc in
@@ -197,7 +183,7 @@ apart c k es t u h part is =
     ap (λ (l : List Event). (left c l).now.words.turn) (sym is) ∙ t.took in
     omega arith
 
-op_of_take : (x y : Option Op) → step.Take x ≡ step.Take y → x ≡ y
+op_of_take : (x y : Option Op) → Step.Take x ≡ Step.Take y → x ≡ y
 op_of_take x y h = cc
 
 pub one_turn : (c : Config) (k : ℕ) (es : List Event) (t u : TurnOf c (Caller k) es) → IsHistory c es
@@ -224,12 +210,12 @@ one_turn c k es t u h =
 
 -- Who begins a cycle holds the turn, so a turn that was taken before goes on over the `begin`.
 
-beginner_of : (c : Config) (m : Moment) (seat : Seat) (x : Step) → Actor c m seat x → x ≡ step.Begin
+beginner_of : (c : Config) (m : Moment) (seat : Seat) (x : Step) → Actor c m seat x → x ≡ Step.Begin
     → HoldsTurn c (view_of m) seat
 beginner_of c m seat x (InCallOf k y lt g) is =
-    let e : group.Turn ≡ group.Callers = ap group_of (sym is) ∙ g in cc
+    let e : Group.Turn ≡ Group.Callers = ap group_of (sym is) ∙ g in cc
 beginner_of c m seat x (AsMarker k y lt g) is =
-    let e : group.Turn ≡ group.Markers = ap group_of (sym is) ∙ g in cc
+    let e : Group.Turn ≡ Group.Markers = ap group_of (sym is) ∙ g in cc
 beginner_of c m seat x (CallTakes k o lt idle under) is = cc
 beginner_of c m seat x (HostTakes away) is = cc
 beginner_of c m seat x (AsHolder s y holds n) is = holds
@@ -240,9 +226,8 @@ pub beginner_holds : (c : Config) (es : List Event) (b : At is_begin es) → IsH
 beginner_holds c es b h =
     let here = before_it c es b.before b.event b.behind h b.is in
     let known = known_left c b.before here.0.within_limits here.0.enabled in
-    beginner_of c (left c b.before).now b.event.seat b.event.step
-    (actor_of c (left c b.before).now b.event.seat b.event.step known.orderly here.1)
-    (begin_is b.event.step b.of_kind)
+    beginner_of c (left c b.before).now _ _ (actor_of c (left c b.before).now _ _ known.orderly here.1) (begin_is _
+    b.of_kind)
 
 pub begun_under_turn : (c : Config) (es : List Event) (b : At is_begin es) → IsHistory c es
     → (left c b.before).now.words.turn ≢ 0
@@ -253,7 +238,7 @@ begun_under_turn c es b h none =
     omega arith
 
 pub begin_gives_none : (x : Step) → is_begin x ≡ true → is_give x ≡ false
-begin_gives_none step.Begin is = refl
+begin_gives_none Step.Begin is = refl
 begin_gives_none _ is = cc
 
 -- The `begin` stands in a turn that goes on after it, where nobody gave a turn back since.
@@ -273,8 +258,7 @@ begun_in_turn c k es b h none t =
     earlier : (part : List Event) → t.before ≡ b.before ++ b.event ∷ part → ⊥
     earlier part is =
         let whole : b.before ++ b.event ∷ b.behind ≡ b.before ++ b.event ∷ (part ++ taken t ∷ t.behind) =
-        sym b.is ∙ t.is ∙ ap (λ (l : List Event). l ++ taken t ∷ t.behind) is
-        ∙ append_assoc b.before (b.event ∷ part) (taken t ∷ t.behind) in
+        cc (b.is, t.is, is, append_assoc b.before (b.event ∷ part) (taken t ∷ t.behind)) in
         let same : b.event ∷ b.behind ≡ b.event ∷ (part ++ taken t ∷ t.behind) =
         append_cancel_left b.before (b.event ∷ b.behind) (b.event ∷ (part ++ taken t ∷ t.behind)) whole in
         let parts : b.behind ≡ part ++ taken t ∷ t.behind = cc in

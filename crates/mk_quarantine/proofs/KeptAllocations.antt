@@ -2,21 +2,18 @@
 use Rattle.mk_laws.proofs.Vocabulary.{Words, not-true, stands_in}
 use Rattle.mk_quarantine.proofs.Vocabulary.{AsksPhase, At, Bool, Cell, Config, Event, IsKeptByLastCycle, KeptByEvents}
 use Rattle.mk_quarantine.proofs.Vocabulary.{Lacks, List, Meets, Next, OfHistories, Option, PlacedAllocation, Seat, Step}
-use Rattle.mk_quarantine.proofs.Vocabulary.{World, WorldBehind, [], and_parts, ap, arith, before_it, cases_Bool}
+use Rattle.mk_quarantine.proofs.Vocabulary.{World, WorldBehind, ℕ, and_parts, ap, arith, before_it, cases_Bool}
 use Rattle.mk_quarantine.proofs.Vocabulary.{cases_eq, cases_lt, cell_freed, changed_at, earlier_at, false, first_world}
 use Rattle.mk_quarantine.proofs.Vocabulary.{flight_of, freed_leaves, freed_where_it_stands, get_or_past, granted}
 use Rattle.mk_quarantine.proofs.Vocabulary.{holds_of_histories, if◌then◌else◌, inl, inr, is_begin, is_close, is_end}
 use Rattle.mk_quarantine.proofs.Vocabulary.{is_quarantined, is_release, is_some_and, lacks_append, lacks_one, left}
 use Rattle.mk_quarantine.proofs.Vocabulary.{left_more, length, length-append, longer_at, never_granted, no_longer_fresh}
 use Rattle.mk_quarantine.proofs.Vocabulary.{not, phase_asked, phase_behind, phase_of, placed_at, refl, subst, sym, true}
-use Rattle.mk_quarantine.proofs.Vocabulary.{true≢false, with_released, world_behind, ℕ, ◌&&◌, ◌++◌, ◌||◌, ◌∙◌, ◌∷◌, ◌≡◌}
-use Rattle.mk_quarantine.proofs.Vocabulary.{◌⊎◌}
-use Rattle.mk_core.proofs.ChangedAllocations.{granted_at}
-use Rattle.mk_core.specs.History.{left_from}
-use Rattle.mk_laws.proofs.CyclePhases.{phase_moves}
-use Rattle.mk_laws.proofs.Longer.{longer_next, next_at_end}
+use Rattle.mk_quarantine.proofs.Vocabulary.{true≢false, with_released, world_behind, [], ◌&&◌, ◌++◌, ◌||◌, ◌∙◌, ◌∷◌}
+use Rattle.mk_quarantine.proofs.Vocabulary.{◌≡◌, ◌⊎◌}
+use Rattle.mk_core.{proofs.ChangedAllocations.granted_at, specs.History.left_from}
+use Rattle.mk_laws.proofs.{CyclePhases.phase_moves, Longer.longer_next, Longer.next_at_end}
 use Rattle.mk_quarantine.specs.KeptAllocations.{QuarantineIsFreshOrKept}
-use Rattle.mk_core.specs.declared.events.Step.TheVariants as step
 
 -- the cycle of a `begin` by the events after it, and the phase
 
@@ -45,53 +42,53 @@ quiet p es e close release end (Ended at k r x none) =
 
 -- the events that it waits for
 module _ (seat : Seat) (p : ℕ) (es : List Event) where
-  wants : p ≡ 1 → CycleSoFar p es → CycleSoFar 2 (es ++ record { seat = seat; step = step.Want } ∷ [])
+  wants : p ≡ 1 → CycleSoFar p es → CycleSoFar 2 (es ++ record { seat = seat; step = Step.Want } ∷ [])
   wants asks (Marks at none) =
-      Marks (inr refl) (lacks_append is_close es (record { seat = seat; step = step.Want } ∷ []) none refl)
+      Marks (inr refl) (lacks_append is_close es (record { seat = seat; step = Step.Want } ∷ []) none refl)
   wants asks (Stops at k none) = absurd (omega arith)
   wants asks (Releases at k r none) = absurd (omega arith)
   wants asks (Ended at k r x none) = absurd (grind arith)
 
-  closes : p ≡ 2 → CycleSoFar p es → CycleSoFar 3 (es ++ record { seat = seat; step = step.Close } ∷ [])
-  closes asks (Marks at none) = Stops refl (next_at_end es (record { seat = seat; step = step.Close }) none refl) refl
+  closes : p ≡ 2 → CycleSoFar p es → CycleSoFar 3 (es ++ record { seat = seat; step = Step.Close } ∷ [])
+  closes asks (Marks at none) = Stops refl (next_at_end es (record { seat = seat; step = Step.Close }) none refl) refl
   closes asks (Stops at k none) = absurd (omega arith)
   closes asks (Releases at k r none) = absurd (omega arith)
   closes asks (Ended at k r x none) = absurd (grind arith)
 
-  releases : p ≡ 3 → CycleSoFar p es → CycleSoFar 4 (es ++ record { seat = seat; step = step.Release } ∷ [])
+  releases : p ≡ 3 → CycleSoFar p es → CycleSoFar 4 (es ++ record { seat = seat; step = Step.Release } ∷ [])
   releases asks (Marks at none) = absurd (grind arith)
   releases asks (Stops at k none) =
-      Releases refl (longer_next (record { seat = seat; step = step.Release } ∷ []) k)
-      (next_at_end k.at.behind (record { seat = seat; step = step.Release }) none refl) refl
+      Releases refl (longer_next (record { seat = seat; step = Step.Release } ∷ []) k)
+      (next_at_end k.at.behind (record { seat = seat; step = Step.Release }) none refl) refl
   releases asks (Releases at k r none) = absurd (omega arith)
   releases asks (Ended at k r x none) = absurd (grind arith)
 
-  ends : p ≡ 4 → CycleSoFar p es → CycleSoFar 0 (es ++ record { seat = seat; step = step.End } ∷ [])
+  ends : p ≡ 4 → CycleSoFar p es → CycleSoFar 0 (es ++ record { seat = seat; step = Step.End } ∷ [])
   ends asks (Marks at none) = absurd (grind arith)
   ends asks (Stops at k none) = absurd (omega arith)
   ends asks (Releases at k r none) =
-      Ended (inl refl) (longer_next (record { seat = seat; step = step.End } ∷ []) k)
-      (longer_next (record { seat = seat; step = step.End } ∷ []) r)
-      (next_at_end r.at.behind (record { seat = seat; step = step.End }) none refl) refl
+      Ended (inl refl) (longer_next (record { seat = seat; step = Step.End } ∷ []) k)
+      (longer_next (record { seat = seat; step = Step.End } ∷ []) r)
+      (next_at_end r.at.behind (record { seat = seat; step = Step.End }) none refl) refl
   ends asks (Ended at k r x none) = absurd (grind arith)
 
-  overs : p ≡ 0 → CycleSoFar p es → CycleSoFar 5 (es ++ record { seat = seat; step = step.Over } ∷ [])
+  overs : p ≡ 0 → CycleSoFar p es → CycleSoFar 5 (es ++ record { seat = seat; step = Step.Over } ∷ [])
   overs asks (Marks at none) = absurd (grind arith)
   overs asks (Stops at k none) = absurd (omega arith)
   overs asks (Releases at k r none) = absurd (omega arith)
   overs asks (Ended at k r x none) =
-      let more : List Event = record { seat = seat; step = step.Over } ∷ [] in
+      let more : List Event = record { seat = seat; step = Step.Over } ∷ [] in
       Ended (inr refl) (longer_next more k) (longer_next more r) (longer_next more x)
       (lacks_append is_end x.at.behind more none refl)
 
 so_far : (seat : Seat) (x : Step) (p : ℕ) (es : List Event) → AsksPhase x p → is_begin x ≡ false → CycleSoFar p es
     → CycleSoFar (phase_behind x p) (es ++ record { seat = seat; step = x } ∷ [])
-so_far seat step.Begin p es asks none k = cc
-so_far seat step.Want p es asks none k = wants seat p es asks k
-so_far seat step.Close p es asks none k = closes seat p es asks k
-so_far seat step.Release p es asks none k = releases seat p es asks k
-so_far seat step.End p es asks none k = ends seat p es asks k
-so_far seat step.Over p es asks none k = overs seat p es asks k
+so_far seat Step.Begin p es asks none k = cc
+so_far seat Step.Want p es asks none k = wants seat p es asks k
+so_far seat Step.Close p es asks none k = closes seat p es asks k
+so_far seat Step.Release p es asks none k = releases seat p es asks k
+so_far seat Step.End p es asks none k = ends seat p es asks k
+so_far seat Step.Over p es asks none k = overs seat p es asks k
 so_far seat _ p es asks none k = quiet p es _ refl refl refl k
 
 -- What is in quarantine and was freed before the last `begin` was so before each event, but a `begin`.
@@ -135,15 +132,14 @@ stale_released freed released more h = grind arith
 
 stale_was : (c : Config) (w : World) (seat : Seat) (x : Step) (i : ℕ) → is_begin x ≡ false
     → IsStale (placed_at (WorldBehind c w seat x).allocations i) → IsStale (placed_at w.allocations i)
-stale_was c w seat step.Begin i none h = cc
-stale_was c w seat step.Grant i none h =
-    stale_granted w.allocations (granted c w.now (flight_of w.now seat)) i refl h
-stale_was c w seat (step.Quar p v) i none h =
+stale_was c w seat Step.Begin i none h = cc
+stale_was c w seat Step.Grant i none h = stale_granted w.allocations (granted c w.now (flight_of w.now seat)) i refl h
+stale_was c w seat (Step.Quar p v) i none h =
     let cell = cell_freed c.pages w.now.words (flight_of w.now seat) p v in
     stale_freed w.now.words cell (placed_at w.allocations i)
     (subst IsStale
     (changed_at (freed_where_it_stands w.now.words cell) w.allocations i (freed_leaves w.now.words cell).none) h)
-stale_was c w seat step.Release i none h =
+stale_was c w seat Step.Release i none h =
     let a : PlacedAllocation = placed_at w.allocations i in
     let at = subst IsStale (changed_at (with_released c w.now.words) w.allocations i refl) h in
     record {
@@ -156,7 +152,7 @@ stale_was c w seat _ i none h = h
 stale_begun : (c : Config) (w : World) (seat : Seat) (x : Step) (i : ℕ) → is_begin x ≡ true
     → is_quarantined (placed_at (WorldBehind c w seat x).allocations i) ≡ true
     → is_quarantined (placed_at w.allocations i) ≡ true
-stale_begun c w seat step.Begin i is h =
+stale_begun c w seat Step.Begin i is h =
     ap (λ (a : PlacedAllocation). is_quarantined a) (sym (changed_at no_longer_fresh w.allocations i refl)) ∙ h
 stale_begun c w seat _ i is h = cc
 
@@ -188,7 +184,7 @@ since_behind c es e meets since = elim (cases_Bool (is_begin e.step)) [
 ]
   where
     begun_phase : (x : Step) → is_begin x ≡ true → phase_behind x (phase_of (left c es).now.words) ≡ 1
-    begun_phase step.Begin is = refl
+    begun_phase Step.Begin is = refl
     begun_phase _ is = cc
 
     by : is_begin e.step ≡ false → SinceLastBegin c es → SinceBegin c (es ++ e ∷ []) (world_behind c (left c es) e)
@@ -227,16 +223,15 @@ quarantine_is_fresh_or_kept c es h idle i quarantined = elim
     ended : (b : At is_begin es) → (phase_of (left c es).now.words ≡ 0) ⊎ (phase_of (left c es).now.words ≡ 5)
         → IsQuarantinedIn (left c b.before) i
         → CycleSoFar (phase_of (left c es).now.words) b.behind → IsKeptByLastCycle c es i
-    ended b idle snapshot (Ended at k r e none) =
-        record {
-          cycle = record {
-            releasing = record { marking = record { begin = b; close = k }; release = r };
-            end = e;
-          };
-          last = none;
-          snapshot = snapshot;
-          unreleased = not-true a.released (and_parts a.freed (not a.released) quarantined).1;
-        }
+    ended b idle snapshot (Ended at k r e none) = record {
+      cycle = record {
+        releasing = record { marking = record { begin = b; close = k }; release = r };
+        end = e;
+      };
+      last = none;
+      snapshot = snapshot;
+      unreleased = not-true a.released (and_parts a.freed (not a.released) quarantined).1;
+    }
     ended b idle snapshot (Marks at none) = absurd (grind arith)
     ended b idle snapshot (Stops at k none) = absurd (grind arith)
     ended b idle snapshot (Releases at k r none) = absurd (grind arith)

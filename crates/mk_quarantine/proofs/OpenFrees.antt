@@ -1,34 +1,29 @@
 -- A Free that isn't decided yet: its turn, in which nothing was freed so far.
 use Rattle.std.specs.Prelude.{⊤}
-use Rattle.mk_laws.proofs.Vocabulary.{Stage, at_rest, begun, eqb-true, found, freed_cell, get_or-set_other}
+use Rattle.mk_laws.proofs.Vocabulary.{Answer, Stage, at_rest, begun, eqb-true, found, freed_cell, get_or-set_other}
 use Rattle.mk_laws.proofs.Vocabulary.{get_or-set_same, is_free_at, onward, progress_freed, progress_p, progress_reg}
 use Rattle.mk_laws.proofs.Vocabulary.{set_past, slice_index_or, slice_set, still, ◌==◌}
 use Rattle.mk_quarantine.proofs.Vocabulary.{Bool, Caller, Cell, Config, Event, Flight, Holding, Host, IsHistory}
 use Rattle.mk_quarantine.proofs.Vocabulary.{KeptByEvents, Known, List, Marker, Meets, None, OfHistories, Op, Option}
-use Rattle.mk_quarantine.proofs.Vocabulary.{Seat, Some, Step, TurnOf, World, WorldBehind, [], and_parts, ap, arith}
+use Rattle.mk_quarantine.proofs.Vocabulary.{Seat, Some, Step, TurnOf, World, WorldBehind, ℕ, and_parts, ap, arith}
 use Rattle.mk_quarantine.proofs.Vocabulary.{at_no_take, before_it, cases_eq, cases_lt, cell_freed, comes_next}
 use Rattle.mk_quarantine.proofs.Vocabulary.{decides_freed, eq-eqb, false, false_from_ne_true, first_world, flight_of}
 use Rattle.mk_quarantine.proofs.Vocabulary.{free_has_turn, holds_of_histories, if◌then◌else◌, inl, inr, is_give}
 use Rattle.mk_quarantine.proofs.Vocabulary.{is_some, is_undecided_free, known_left, left, left_more, length, refl}
 use Rattle.mk_quarantine.proofs.Vocabulary.{reg_leaves, subst, sym, taken, tally_keeps, true, true≢false, view_of}
-use Rattle.mk_quarantine.proofs.Vocabulary.{world_behind, ℕ, ◌&&◌, ◌++◌, ◌+◌, ◌<◌, ◌∙◌, ◌∷◌, ◌≡◌}
+use Rattle.mk_quarantine.proofs.Vocabulary.{world_behind, [], ◌&&◌, ◌++◌, ◌+◌, ◌<◌, ◌∙◌, ◌∷◌, ◌≡◌}
 use Rattle.mk_core.specs.History.{left_from}
 use Rattle.mk_laws.proofs.Basics.{InCall, View, at_first, flight_in, same_holder, standing, standing_at}
 use Rattle.mk_laws.proofs.Longer.{gives_turn, left_in_turn, longer_turn}
-use Rattle.mk_laws.proofs.OrderlyLists.{event_moves}
 use Rattle.mk_laws.proofs.ProtocolMoves.{Enters, Gives, GoesOn, Leaves, Move, Stays, Takes, Works}
 use Rattle.mk_laws.proofs.Services.{Fills, Frees, Goes, Grants, Loads, Places, Service}
-use Rattle.mk_laws.proofs.Standings.{UnderTurn}
-use Rattle.mk_never.specs.declared.operations.Op.TheVariants as op
-use Rattle.mk_core.specs.declared.events.Answer.TheVariants as answer
-use Rattle.mk_core.specs.declared.events.Step.TheVariants as step
-use Rattle.mk_core.specs.declared.seats.Stage.TheVariants as stage
+use Rattle.mk_laws.proofs.{OrderlyLists.event_moves, Standings.UnderTurn}
 
 -- before the event that decides it
 
 abbrev pub is_open_at : Stage → Op → Bool
-is_open_at stage.LoadP (op.Free p) = true
-is_open_at stage.Turn (op.Free p) = true
+is_open_at Stage.LoadP (Op.Free p) = true
+is_open_at Stage.Turn (Op.Free p) = true
 is_open_at _ _ = false
 
 abbrev pub is_open_free : Flight → Bool
@@ -38,12 +33,12 @@ abbrev HasOpen : World → ℕ → Type 0
 HasOpen w k = is_open_free (flight_of w.now (Caller k)) ≡ true
 
 open_stands : (s : Stage) (o : Op) → is_open_at s o ≡ true → standing_at s o ≡ UnderTurn
-open_stands stage.LoadP (op.Free p) h = refl
-open_stands stage.Turn (op.Free p) h = refl
+open_stands Stage.LoadP (Op.Free p) h = refl
+open_stands Stage.Turn (Op.Free p) h = refl
 open_stands _ _ h = cc
 
 pub undecided_is_open : (s : Stage) (o : Op) → is_free_at s o ≡ true → is_open_at s o ≡ true
-undecided_is_open stage.Turn (op.Free p) h = refl
+undecided_is_open Stage.Turn (Op.Free p) h = refl
 undecided_is_open _ _ h = cc
 
 call_not_open : (f : Flight) → standing f ≡ InCall → is_open_free f ≡ true → ⊥
@@ -52,7 +47,7 @@ call_not_open f is waits = let e : InCall ≡ UnderTurn = sym is ∙ open_stands
     apart : InCall ≡ UnderTurn → ⊥
     apart e = cc
 
-give_not_open : (o : Op) → is_open_at stage.Give o ≡ true → ⊥
+give_not_open : (o : Op) → is_open_at Stage.Give o ≡ true → ⊥
 give_not_open o h = cc
 
 -- Where it comes from, by what the protocol reads.
@@ -60,7 +55,7 @@ give_not_open o h = cc
 data Came (v : View) (k : ℕ) (n : View) : Type 0 where
   Stayed : flight_in n k ≡ flight_in v k → Came v k n
   Took : v.turn ≡ 0 → n.turn ≡ 1 + k → Came v k n
-  Loaded : (flight_in v k).stage ≡ stage.LoadP → standing (flight_in v k) ≡ UnderTurn → Came v k n
+  Loaded : (flight_in v k).stage ≡ Stage.LoadP → standing (flight_in v k) ≡ UnderTurn → Came v k n
 
 abbrev call_in : List Flight → ℕ → Flight
 call_in fs k = slice_index_or fs k at_rest
@@ -92,8 +87,7 @@ came c v k n (Works f i t s) waits = by f i s waits
     by f i (Places _ was p q) waits = Stayed (own_call v.flights k (flight_in v k) (λ x. refl) waits)
     by f i (Fills was p) waits =
         Stayed (own_call v.flights k _ (λ x. absurd (give_not_open (flight_in v k).op x)) waits)
-    by f i (Grants was) waits =
-        Stayed (own_call v.flights k _ (λ x. absurd (give_not_open (flight_in v k).op x)) waits)
+    by f i (Grants was) waits = Stayed (own_call v.flights k _ (λ x. absurd (give_not_open (flight_in v k).op x)) waits)
     by f i (Frees _ free p) waits =
         Stayed (own_call v.flights k _ (λ x. absurd (give_not_open (flight_in v k).op x)) waits)
 came c v k n _ waits = Stayed refl
@@ -102,40 +96,40 @@ came c v k n _ waits = Stayed refl
 
 record IsTake (x : Step) : Type 0 where
   op : Option Op
-  is : x ≡ step.Take op
+  is : x ≡ Step.Take op
 
 taken_by_take : (c : Config) (w : World) (seat : Seat) (x : Step) (n : ℕ) → w.now.words.turn ≡ 0
     → (WorldBehind c w seat x).now.words.turn ≡ 1 + n → IsTake x
-taken_by_take c w seat (step.Take o) n free now = record { op = o; is = refl }
-taken_by_take c w seat step.Give n free now = absurd (omega arith)
-taken_by_take c w seat step.Reg n free now = let same = (reg_leaves c w seat).turn in absurd (omega arith)
-taken_by_take c w seat (step.Tally t v) n free now =
+taken_by_take c w seat (Step.Take o) n free now = record { op = o; is = refl }
+taken_by_take c w seat Step.Give n free now = absurd (omega arith)
+taken_by_take c w seat Step.Reg n free now = let same = (reg_leaves c w seat).turn in absurd (omega arith)
+taken_by_take c w seat (Step.Tally t v) n free now =
     let same = (tally_keeps w.now.words t v).turn in absurd (omega arith)
 taken_by_take c w seat _ n free now = absurd (omega arith)
 
 -- Where it comes from, by events.
 data FreeCame (c : Config) (w : World) (seat : Seat) (x : Step) (k : ℕ) : Type 0 where
-  IsTaken : (o : Op) → seat ≡ Caller k → x ≡ step.Take (Some o) → w.now.words.turn ≡ 0
+  IsTaken : (o : Op) → seat ≡ Caller k → x ≡ Step.Take (Some o) → w.now.words.turn ≡ 0
       → (flight_of (WorldBehind c w seat x).now (Caller k)).op ≡ o → FreeCame c w seat x k
   WasOpen : HasOpen w k
       → (flight_of (WorldBehind c w seat x).now (Caller k)).op ≡ (flight_of w.now (Caller k)).op
       → FreeCame c w seat x k
 
-load_is_open : (o : Op) → standing_at stage.LoadP o ≡ UnderTurn → is_open_at stage.LoadP o ≡ true
-load_is_open (op.Free p) h = refl
+load_is_open : (o : Op) → standing_at Stage.LoadP o ≡ UnderTurn → is_open_at Stage.LoadP o ≡ true
+load_is_open (Op.Free p) h = refl
 load_is_open _ h = cc
 
-load_by_reg : (o : Op) (x : Step) → comes_next stage.LoadP o x ≡ true → x ≡ step.Reg
-load_by_reg o step.Reg h = refl
+load_by_reg : (o : Op) (x : Step) → comes_next Stage.LoadP o x ≡ true → x ≡ Step.Reg
+load_by_reg o Step.Reg h = refl
 load_by_reg o _ h = cc
 
 op_of_load : (f : Flight) (o : Op) (n : ℕ) → (progress_p f o n).flight.op ≡ f.op
-op_of_load f (op.IsNull p) n = refl
-op_of_load f (op.Free p) n = by (n == 0)
+op_of_load f (Op.IsNull p) n = refl
+op_of_load f (Op.Free p) n = by (n == 0)
   where
     by : (b : Bool)
         → (if b
-        then record { flight = record f { stage = stage.Give; p = n }; answer = Some answer.Done }
+        then record { flight = record f { stage = Stage.Give; p = n }; answer = Some Answer.Done }
         else onward (record f { p = n }) None).flight.op
         ≡ f.op
     by true = refl
@@ -150,26 +144,26 @@ module _ (c : Config) (w : World) (k : ℕ) (known : Known c w.now) (lt : k < c.
   within = omega (arith, known.orderly.flights)
 
   took_it : (o : Op) → w.now.words.turn ≡ 0
-      → (flight_of (WorldBehind c w (Caller k) (step.Take (Some o))).now (Caller k)).op ≡ o
+      → (flight_of (WorldBehind c w (Caller k) (Step.Take (Some o))).now (Caller k)).op ≡ o
   took_it o free =
       ap (λ (g : Flight). g.op) (get_or-set_same w.now.seats.flights k _ at_rest within)
       ∙ ap (λ (b : Bool). (if b then record { flight = begun o; answer = None } else still f).flight.op)
       (eq-eqb w.now.words.turn 0 free)
 
-  taken_free : (o : Option Op) → w.now.words.turn ≡ 0 → Meets c w.now (Caller k) (step.Take o)
-      → FreeCame c w (Caller k) (step.Take o) k
+  taken_free : (o : Option Op) → w.now.words.turn ≡ 0 → Meets c w.now (Caller k) (Step.Take o)
+      → FreeCame c w (Caller k) (Step.Take o) k
   taken_free (Some o) free meets = IsTaken o refl refl free (took_it o free)
   taken_free None free meets = absurd (at_no_take f.stage f.op meets.order)
 
-  loaded : f.stage ≡ stage.LoadP → standing f ≡ UnderTurn → FreeCame c w (Caller k) step.Reg k
+  loaded : f.stage ≡ Stage.LoadP → standing f ≡ UnderTurn → FreeCame c w (Caller k) Step.Reg k
   loaded at stands =
       WasOpen
       (ap (λ (s : Stage). is_open_at s f.op) at
       ∙ load_is_open f.op (ap (λ (s : Stage). standing_at s f.op) (sym at) ∙ stands))
       (ap (λ (g : Flight). g.op) (get_or-set_same w.now.seats.flights k _ at_rest within)
-      ∙ ap (λ (s : Stage). (progress_reg f s (found c w.now (record { seat = Caller k; step = step.Reg }))).flight.op)
+      ∙ ap (λ (s : Stage). (progress_reg f s (found c w.now (record { seat = Caller k; step = Step.Reg }))).flight.op)
       at
-      ∙ op_of_load f f.op (found c w.now (record { seat = Caller k; step = step.Reg })))
+      ∙ op_of_load f f.op (found c w.now (record { seat = Caller k; step = Step.Reg })))
 
   own_came : (x : Step) → Meets c w.now (Caller k) x → HasOpen (WorldBehind c w (Caller k) x) k
       → FreeCame c w (Caller k) x k
@@ -185,7 +179,7 @@ module _ (c : Config) (w : World) (k : ℕ) (known : Known c w.now) (lt : k < c.
           subst (λ (y : Step). FreeCame c w (Caller k) y k) (sym take.is)
           (taken_free take.op free (subst (λ (y : Step). Meets c w.now (Caller k) y) take.is meets))
       by (Loaded at stands) =
-          let reg : x ≡ step.Reg =
+          let reg : x ≡ Step.Reg =
           load_by_reg f.op x (subst (λ (s : Stage). comes_next s f.op x ≡ true) at meets.order) in
           subst (λ (y : Step). FreeCame c w (Caller k) y k) (sym reg) (loaded at stands)
 
@@ -204,24 +198,20 @@ free_came c w (Caller j) x k known meets lt waits = elim (cases_eq k j) [
 
 -- The event that frees an object decides its Free.
 
-decides_of_free : (c : Config) (w : World) (seat : Seat) (x : Step)
+pub freer_has_free : (c : Config) (w : World) (seat : Seat) (x : Step)
     → decides_freed c w.now (flight_of w.now seat) x ≡ true → is_undecided_free (flight_of w.now seat) ≡ true
-decides_of_free c w seat (step.Quar p v) h =
+freer_has_free c w seat (Step.Quar p v) h =
     by (cell_freed c.pages w.now.words (flight_of w.now seat) p v) refl h
   where
     by : (cell : Option Cell) → cell_freed c.pages w.now.words (flight_of w.now seat) p v ≡ cell → is_some cell ≡ true
         → is_undecided_free (flight_of w.now seat) ≡ true
     by (Some cell) is h = (freed_cell c.pages w.now.words (flight_of w.now seat) p v cell is).free
     by None is h = cc
-decides_of_free c w seat _ h = cc
-
-pub freer_has_free : (c : Config) (w : World) (seat : Seat) (x : Step)
-    → decides_freed c w.now (flight_of w.now seat) x ≡ true → is_undecided_free (flight_of w.now seat) ≡ true
-freer_has_free c w seat x h = decides_of_free c w seat x h
+freer_has_free c w seat _ h = cc
 
 decided_gives : (c : Config) (w : World) (k : ℕ) (x : Step) → k < length w.now.seats.flights
     → decides_freed c w.now (flight_of w.now (Caller k)) x ≡ true → HasOpen (WorldBehind c w (Caller k) x) k → ⊥
-decided_gives c w k (step.Quar p v) within h waits =
+decided_gives c w k (Step.Quar p v) within h waits =
     by (cell_freed c.pages w.now.words (flight_of w.now (Caller k)) p v) h
     (ap (λ (g : Flight). is_open_free g) (sym (get_or-set_same w.now.seats.flights k _ at_rest within)) ∙ waits)
   where
@@ -237,7 +227,7 @@ frees_off : (c : Config) (w : World) (seat : Seat) (x : Step) (k : ℕ) → Know
     → decides_freed c w.now (flight_of w.now seat) x ≡ false
 frees_off c w seat x k known meets lt was waits =
     false_from_ne_true (decides_freed c w.now (flight_of w.now seat) x) (λ frees.
-    let holds = free_has_turn c w.now seat meets.seat (decides_of_free c w seat x frees) in
+    let holds = free_has_turn c w.now seat meets.seat (freer_has_free c w seat x frees) in
     let same : seat ≡ Caller k =
     same_holder c (view_of w.now) seat (Caller k) known.orderly holds
     (lt, open_stands (flight_of w.now (Caller k)).stage (flight_of w.now (Caller k)).op was) in
@@ -255,10 +245,10 @@ gives_off c w (Caller j) x k known lt waits =
     (λ is. let both = and_parts (k == j) (is_give x) is in by j x (eqb-true k j both.0) both.1 waits)
   where
     by : (j : ℕ) (x : Step) → k ≡ j → is_give x ≡ true → HasOpen (WorldBehind c w (Caller j) x) k → ⊥
-    by j step.Give own is waits =
+    by j Step.Give own is waits =
         let rests = get_or-set_same w.now.seats.flights k at_rest at_rest (omega (arith, known.orderly.flights)) in
-        let mine : HasOpen (WorldBehind c w (Caller k) step.Give) k =
-        subst (λ i. HasOpen (WorldBehind c w (Caller i) step.Give) k) (sym own) waits in
+        let mine : HasOpen (WorldBehind c w (Caller k) Step.Give) k =
+        subst (λ i. HasOpen (WorldBehind c w (Caller i) Step.Give) k) (sym own) waits in
         true≢false (sym mine ∙ ap (λ (g : Flight). is_open_free g) rests)
     by j _ own is waits = cc
 
@@ -296,20 +286,18 @@ one_behind : (c : Config) (es : List Event) (seat : Seat) (x : Step) (k : ℕ) �
     → HasOpen (WorldBehind c (left c es) seat x) k
     → OpenFree c (es ++ record { seat = seat; step = x } ∷ []) (WorldBehind c (left c es) seat x) k
 unfolding FreesNoneFrom
-one_behind c es seat x k (IsTaken o own take free same) all h meets lt waits =
-    record {
-      turn = record {
-        before = es;
-        op = Some o;
-        behind = [];
-        is = ap (λ (s : Seat). es ++ record { seat = s; step = x } ∷ []) own
-            ∙ ap (λ (y : Step). es ++ record { seat = Caller k; step = y } ∷ []) take;
-        took = free;
-        goes_on = refl;
-      };
-      op = ap Some (sym same);
-      none = tt;
-    }
+one_behind c es seat x k (IsTaken o own take free same) all h meets lt waits = record {
+  turn = record {
+    before = es;
+    op = Some o;
+    behind = [];
+    is = cc (own, take);
+    took = free;
+    goes_on = refl;
+  };
+  op = ap Some (sym same);
+  none = tt;
+}
 one_behind c es seat x k (WasOpen was same) all h meets lt waits =
     let e : Event = record { seat = seat; step = x } in
     let known = known_left c es h.within_limits h.enabled in

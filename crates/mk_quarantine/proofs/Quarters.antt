@@ -1,13 +1,13 @@
 -- What was freed since the last `begin` is a quarter, unless a free that is due waits for its `begin`.
 use Rattle.mk_alloc.proofs.Vocabulary.{FreesFirst, IsDue, IsDueIn, within_turn}
 use Rattle.mk_quarantine.proofs.Vocabulary.{Bool, Config, Event, Flight, InFirst, InSecond, IsHistory, KeptByEvents}
-use Rattle.mk_quarantine.proofs.Vocabulary.{Lacks, List, Moment, OfHistories, PlacedAllocation, Step, World, [], ap}
+use Rattle.mk_quarantine.proofs.Vocabulary.{Lacks, List, Moment, OfHistories, PlacedAllocation, Step, World, ℕ, ap}
 use Rattle.mk_quarantine.proofs.Vocabulary.{append_assoc, arith, cases_Bool, cases_lt, decides_freed, false}
 use Rattle.mk_quarantine.proofs.Vocabulary.{first_world, flight_of, fresh_words_of, given_back, given_back_behind}
 use Rattle.mk_quarantine.proofs.Vocabulary.{has_step, held_by_allocations, holds_of_histories, if◌then◌else◌, inl, inr}
 use Rattle.mk_quarantine.proofs.Vocabulary.{is_begin, is_mapped, is_of_cycle, lacks_append, lacks_at, lacks_first}
 use Rattle.mk_quarantine.proofs.Vocabulary.{lacks_one, left, left_in_parts, left_more, not, refl, stands, storage_words}
-use Rattle.mk_quarantine.proofs.Vocabulary.{subst, sym, taken, true, true≢false, world_behind, ℕ, ⊎_elim, ◌&&◌, ◌*◌}
+use Rattle.mk_quarantine.proofs.Vocabulary.{subst, sym, taken, true, true≢false, world_behind, [], ⊎_elim, ◌&&◌, ◌*◌}
 use Rattle.mk_quarantine.proofs.Vocabulary.{◌++◌, ◌+◌, ◌<◌, ◌∙◌, ◌∷◌, ◌≡◌, ◌≤◌, ◌⊎◌}
 use Rattle.mk_core.specs.History.{left_from}
 use Rattle.mk_quarantine.proofs.CountedWords.{IsQuarter, filtered_in_parts, given_more, none_fresh_begun, quarter_stays}
@@ -15,7 +15,6 @@ use Rattle.mk_quarantine.proofs.EndedFrees.{CallersAreExact, EndedFree, ended_fr
 use Rattle.mk_quarantine.proofs.OpenFrees.{FreesNoneFrom, frees_none_at}
 use Rattle.mk_quarantine.specs.Bounds.{FreshIsQuarterWithGivenBack, QuarantineIsQuarterAndKept}
 use Rattle.mk_quarantine.specs.KeptAllocations.{kept_mapped, quarantined_mapped}
-use Rattle.mk_core.specs.declared.events.Step.TheVariants as step
 
 -- A free is due, and no cycle was begun since.
 pub record IsPending (c : Config) (es : List Event) : Type 0 where
@@ -28,19 +27,18 @@ pub record IsPending (c : Config) (es : List Event) : Type 0 where
 
 pub pending_longer : (c : Config) (es : List Event) (e : Event) → is_begin e.step ≡ false → IsPending c es
     → IsPending c (es ++ e ∷ [])
-pending_longer c es e none p =
-    record {
-      before = p.before;
-      event = p.event;
-      behind = p.behind ++ e ∷ [];
-      is = ap (λ (l : List Event). l ++ e ∷ []) p.is ∙ append_assoc p.before (p.event ∷ p.behind) (e ∷ []);
-      due = p.due;
-      none = lacks_append is_begin p.behind (e ∷ []) p.none (lacks_one is_begin e none);
-    }
+pending_longer c es e none p = record {
+  before = p.before;
+  event = p.event;
+  behind = p.behind ++ e ∷ [];
+  is = ap (λ (l : List Event). l ++ e ∷ []) p.is ∙ append_assoc p.before (p.event ∷ p.behind) (e ∷ []);
+  due = p.due;
+  none = lacks_append is_begin p.behind (e ∷ []) p.none (lacks_one is_begin e none);
+}
 
 begins_free_none : (c : Config) (m : Moment) (f : Flight) (x : Step) → decides_freed c m f x ≡ true
     → is_begin x ≡ false
-begins_free_none c m f step.Begin frees = cc
+begins_free_none c m f Step.Begin frees = cc
 begins_free_none c m f _ frees = refl
 
 -- An event that frees: it is a quarter after it, or the free is due.
@@ -58,9 +56,8 @@ freed_or_due c es e frees = elim
             is = refl;
             due = record {
               decides = frees;
-              quarter = subst
-                  (λ (w : World). held_by_allocations c w.allocations < 4 * fresh_words_of c w.allocations)
-                  (sym (left_more c (first_world c) es e)) lt;
+              quarter = subst (λ (w : World). held_by_allocations c w.allocations < 4 * fresh_words_of c w.allocations)
+                  (sym (left_more c _ es e)) lt;
             };
             none = refl;
           })
@@ -133,7 +130,7 @@ module _ (on : Bool) (c : Config) (before : List Event) (e : Event) (behind : Li
           ∙ off)
 
 pub begin_is_of_cycle : (x : Step) → is_begin x ≡ true → is_of_cycle x ≡ true
-begin_is_of_cycle step.Begin is = refl
+begin_is_of_cycle Step.Begin is = refl
 begin_is_of_cycle _ is = cc
 
 -- So a free isn't pending where the turn is free.
@@ -163,10 +160,8 @@ none_pending on c es h exact free p =
         → (rest : List Event) → p.event ∷ more ≡ rest ++ begin ∷ behind → ⊥
     by begin behind begins more none [] is =
         let same : p.event ≡ begin = cc in
-        true≢false
-        (sym begins ∙ ap (λ (x : Event). is_begin x.step) (sym same)
-        ∙ begins_free_none c (left c p.before).now (flight_of (left c p.before).now p.event.seat) p.event.step
-        p.due.decides)
+        true≢false (sym begins ∙ ap (λ (x : Event). is_begin x.step) (sym same) ∙ begins_free_none c (left c
+        p.before).now (flight_of (left c p.before).now p.event.seat) _ p.due.decides)
     by begin behind begins more none (y ∷ ys) is =
         let tail : more ≡ ys ++ begin ∷ behind = cc in
         lacks_at is_begin more ys begin behind none tail begins
@@ -190,9 +185,8 @@ fresh_or_kept n mapped freed fresh = grind arith
 pub quarantined_is_fresh_or_kept : (c : Config) (xs : List PlacedAllocation)
     → quarantined_mapped c xs ≤ fresh_words_of c xs + kept_mapped c xs
 quarantined_is_fresh_or_kept c xs =
-    filtered_in_parts (storage_words c) (λ a. is_mapped c a && a.freed) (λ a. is_mapped c a && a.fresh)
-    (λ a. is_mapped c a && a.freed && not a.fresh)
-    (λ a. fresh_or_kept (storage_words c a) (is_mapped c a) a.freed a.fresh) xs
+    filtered_in_parts _ (λ a. is_mapped c a && a.freed) (λ a. is_mapped c a && a.fresh) (λ a. is_mapped c a && a.freed
+    && not a.fresh) (λ a. fresh_or_kept (storage_words c a) (is_mapped c a) a.freed a.fresh) xs
 
 pub quarantine_is_quarter_and_kept : (on : Bool) (c : Config) (es : List Event) → IsHistory c es
     → CallersAreExact on c es → (left c es).now.words.turn ≡ 0 → QuarantineIsQuarterAndKept c es

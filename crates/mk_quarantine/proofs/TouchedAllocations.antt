@@ -1,18 +1,15 @@
 -- What the last cycle kept is touched: released allocations stay so, so it was kept at the cycle's `release`.
 use Rattle.mk_laws.proofs.Vocabulary.{Releasing, before_release, freed_released, length-map, through_release}
 use Rattle.mk_quarantine.proofs.Vocabulary.{Bool, Config, Event, List, OfHistories, PlacedAllocation, Seat, Step, World}
-use Rattle.mk_quarantine.proofs.Vocabulary.{WorldBehind, [], ap, append_assoc, arith, cases_lt, cell_freed, changed_at}
+use Rattle.mk_quarantine.proofs.Vocabulary.{WorldBehind, ℕ, ap, append_assoc, arith, cases_lt, cell_freed, changed_at}
 use Rattle.mk_quarantine.proofs.Vocabulary.{earlier_at, false, false_from_ne_true, flight_of, freed_leaves}
 use Rattle.mk_quarantine.proofs.Vocabulary.{freed_where_it_stands, get_or_past, granted, inl, inr, is_quarantined, left}
 use Rattle.mk_quarantine.proofs.Vocabulary.{left_in_parts, length, length-append, never_granted, no_longer_fresh}
 use Rattle.mk_quarantine.proofs.Vocabulary.{placed_at, refl, subst, sym, true, true≢false, with_released, world_behind}
-use Rattle.mk_quarantine.proofs.Vocabulary.{ℕ, ◌++◌, ◌<◌, ◌||◌, ◌∙◌, ◌∷◌, ◌≡◌}
-use Rattle.mk_core.specs.Cycles.{before_begin}
-use Rattle.mk_core.specs.History.{left_from}
-use Rattle.mk_laws.proofs.PrecisionStopped.{keeps_only_the_touched}
-use Rattle.mk_laws.proofs.Stretches.{at_release}
+use Rattle.mk_quarantine.proofs.Vocabulary.{[], ◌++◌, ◌<◌, ◌||◌, ◌∙◌, ◌∷◌, ◌≡◌}
+use Rattle.mk_core.specs.{Cycles.before_begin, History.left_from}
+use Rattle.mk_laws.proofs.{PrecisionStopped.keeps_only_the_touched, Stretches.at_release}
 use Rattle.mk_quarantine.specs.KeptAllocations.{KeptAreTouched}
-use Rattle.mk_core.specs.declared.events.Step.TheVariants as step
 
 -- The allocation was granted.
 abbrev IsThere : World → ℕ → Type 0
@@ -20,14 +17,14 @@ IsThere w i = i < length w.allocations
 
 there_behind : (c : Config) (w : World) (seat : Seat) (x : Step) (i : ℕ) → IsThere w i
     → IsThere (WorldBehind c w seat x) i
-there_behind c w seat step.Grant i there =
+there_behind c w seat Step.Grant i there =
     let both = length-append w.allocations (granted c w.now (flight_of w.now seat) ∷ []) in omega arith
-there_behind c w seat (step.Quar p v) i there =
+there_behind c w seat (Step.Quar p v) i there =
     let same = length-map w.allocations
     (freed_where_it_stands w.now.words (cell_freed c.pages w.now.words (flight_of w.now seat) p v)) in
     omega arith
-there_behind c w seat step.Begin i there = let same = length-map w.allocations no_longer_fresh in omega arith
-there_behind c w seat step.Release i there =
+there_behind c w seat Step.Begin i there = let same = length-map w.allocations no_longer_fresh in omega arith
+there_behind c w seat Step.Release i there =
     let same = length-map w.allocations (with_released c w.now.words) in omega arith
 there_behind c w seat _ i there = there
 
@@ -45,17 +42,17 @@ still_true a b is = grind arith
 
 released_behind : (c : Config) (w : World) (seat : Seat) (x : Step) (i : ℕ) → IsThere w i → IsReleased w i
     → IsReleased (WorldBehind c w seat x) i
-released_behind c w seat step.Grant i there is =
+released_behind c w seat Step.Grant i there is =
     ap (λ (a : PlacedAllocation). a.released)
     (earlier_at w.allocations (granted c w.now (flight_of w.now seat)) i there) ∙ is
-released_behind c w seat (step.Quar p v) i there is =
+released_behind c w seat (Step.Quar p v) i there is =
     let cell = cell_freed c.pages w.now.words (flight_of w.now seat) p v in
     ap (λ (a : PlacedAllocation). a.released)
     (changed_at (freed_where_it_stands w.now.words cell) w.allocations i (freed_leaves w.now.words cell).none)
     ∙ freed_released w.now.words cell (placed_at w.allocations i) ∙ is
-released_behind c w seat step.Begin i there is =
+released_behind c w seat Step.Begin i there is =
     ap (λ (a : PlacedAllocation). a.released) (changed_at no_longer_fresh w.allocations i refl) ∙ is
-released_behind c w seat step.Release i there is =
+released_behind c w seat Step.Release i there is =
     ap (λ (a : PlacedAllocation). a.released) (changed_at (with_released c w.now.words) w.allocations i refl)
     ∙ still_true (placed_at w.allocations i).released _ is
 released_behind c w seat _ i there is = is
@@ -102,9 +99,8 @@ module _ (c : Config) {es : List Event} (r : Releasing es) (i : ℕ)
   released_in_the_end released =
       let whole : es ≡ through_release r ++ r.release.at.behind =
       at_release r ∙ sym (append_assoc (before_release r) (r.release.at.event ∷ []) r.release.at.behind) in
-      subst (λ (w : World). IsReleased w i)
-      (sym (ap (λ (l : List Event). left c l) whole ∙ left_in_parts c (through_release r) r.release.at.behind))
-      (released_from c (left c (through_release r)) r.release.at.behind i there_at_release released)
+      subst (λ (w : World). IsReleased w i) (sym (ap (λ (l : List Event). left c l) whole ∙ left_in_parts c _ _))
+      (released_from c _ _ i there_at_release released)
 
 pub kept_are_touched : OfHistories KeptAreTouched
 kept_are_touched c es h i k unswept =

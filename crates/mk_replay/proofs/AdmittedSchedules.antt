@@ -1,41 +1,26 @@
 -- The history that a schedule makes of a checked program asks for nothing that isn't admitted, so it is a history of
 -- the program's heap, and keeps all promises.
-use Rattle.std.proofs.Common.{◌≡◌, ◌≢◌, ℕ, eq-eqb, ◌+◌, ◌<◌, Bool, true, false, List, [], ◌∷◌, ◌++◌, length, map}
-use Rattle.std.proofs.Common.{get_or, refl, sym, ◌∙◌, ap, subst, append-nil, append_assoc, arith, inl, inr}
-use Rattle.std.specs.Prelude.{Option, Some, None, if◌then◌else◌, ◌==◌, ◌&&◌, filter, All}
-use Rattle.std.proofs.lemmas.Bool.{cases_eq, ltb-true}
-use Rattle.std.proofs.lemmas.Bool.Decides.{nat_tests}
-use Rattle.std.proofs.lemmas.List.{map-append, length-append, get_or-replicate, get_or-set_same, get_or-set_other}
-use Rattle.std.proofs.lemmas.List.Elements.{filter-append, All-nil, All-push}
-use Rattle.std.proofs.lemmas.List.Sums.{sum_by_push}
+use Rattle.std.proofs.lemmas.List.Elements.{All-nil, All-push, filter-append}
+use Rattle.std.proofs.{Common.All, Common.filter, lemmas.List.get_or-replicate, lemmas.List.Sums.sum_by_push}
 use Rattle.mk_replay.proofs.Vocabulary.{Answer, AreEnabled, Caller, Config, Decided, Entry, Event, Flight, Form, Item}
 use Rattle.mk_replay.proofs.Vocabulary.{Moment, Op, Stage, Step, answer_decided, answers_given, asked, at_rest, calls}
 use Rattle.mk_replay.proofs.Vocabulary.{comes_next, config_of, ends_call, entry_of, event_of_entry, first_world}
-use Rattle.mk_replay.proofs.Vocabulary.{flight_of, history_of, is_same_seat, left, progress}
-use Rattle.mk_never.specs.declared.operations.Op.TheVariants as op
-use Rattle.mk_script.specs.Scopes.{script_names}
-use Rattle.mk_script.proofs.PassedLines.{is_whole}
-use Rattle.mk_core.specs.declared.events.Seat.{Seat}
-use Rattle.mk_core.specs.declared.events.Seat.TheVariants.{Marker, Host}
-use Rattle.mk_core.specs.declared.events.Step.TheVariants as step
-use Rattle.mk_core.specs.declared.seats.Stage.TheVariants as stage
-use Rattle.mk_core.specs.Accesses.{found}
-use Rattle.mk_core.specs.Effects.{flights_behind}
-use Rattle.mk_core.specs.History.{World, left_from, call_decided, calls_from, IsHistory}
-use Rattle.mk_core.specs.Order.{is_in_order}
-use Rattle.mk_core.proofs.Conditions.{enabled_meets}
-use Rattle.mk_core.proofs.Histories.{left_more, enabled_parts, last_enabled, calls_more}
-use Rattle.mk_check.specs.Feeding.{next_op}
-use Rattle.mk_check.specs.Laws.{IsChecked, IsScript}
-use Rattle.mk_check.specs.Output.{ends_call_of, ended_calls, answers_among}
+use Rattle.mk_replay.proofs.Vocabulary.{flight_of, history_of, is_same_seat, left, length-append, nat_tests, progress}
+use Rattle.mk_laws.proofs.Vocabulary.{Bool, Host, IsHistory, List, Marker, None, Option, Seat, Some, World, ℕ, ap}
+use Rattle.mk_laws.proofs.Vocabulary.{append-nil, append_assoc, arith, call_decided, cases_eq, enabled_meets}
+use Rattle.mk_laws.proofs.Vocabulary.{enabled_parts, eq-eqb, false, found, get_or, get_or-set_other, get_or-set_same}
+use Rattle.mk_laws.proofs.Vocabulary.{if◌then◌else◌, inl, inr, left_more, length, ltb-true, map, map-append, refl}
+use Rattle.mk_laws.proofs.Vocabulary.{subst, sym, true, [], ◌&&◌, ◌++◌, ◌+◌, ◌<◌, ◌==◌, ◌∙◌, ◌∷◌, ◌≡◌, ◌≢◌}
+use Rattle.mk_core.proofs.Histories.{calls_more, last_enabled}
+use Rattle.mk_core.specs.{Effects.flights_behind, History.calls_from, History.left_from, Order.is_in_order}
+use Rattle.mk_laws.{proofs.Promises.histories_keep_all_promises, specs.Promises.KeepsAllPromises}
 use Rattle.mk_check.proofs.AdmittedScripts.{first_are_noted, scripts_are_admitted}
-use Rattle.mk_check.proofs.ConfigLemmas.{config_within}
-use Rattle.mk_check.proofs.GivenAnswers.{as_list, counted, serves}
-use Rattle.mk_laws.specs.Promises.{KeepsAllPromises}
-use Rattle.mk_laws.proofs.Promises.{histories_keep_all_promises}
-use Rattle.mk_replay.specs.declared.schedule.Form.TheVariants as form
-use Rattle.mk_replay.specs.Replays.{next_op_for, step_of, history_from}
-use Rattle.mk_replay.proofs.AskedCalls.{Asks, BeginsAsAsked, Waits, same_asks, own_step, others_step, waits}
+use Rattle.mk_check.proofs.{ConfigLemmas.config_within, GivenAnswers.as_list, GivenAnswers.counted, GivenAnswers.serves}
+use Rattle.mk_check.specs.Output.{answers_among, ended_calls, ends_call_of}
+use Rattle.mk_check.specs.{Feeding.next_op, Laws.IsChecked, Laws.IsScript}
+use Rattle.mk_replay.proofs.AskedCalls.{Asks, BeginsAsAsked, Waits, others_step, own_step, same_asks, waits}
+use Rattle.mk_replay.specs.Replays.{history_from, next_op_for, step_of}
+use Rattle.mk_script.{proofs.PassedLines.is_whole, specs.Scopes.script_names}
 
 -- What one event more makes of a caller's answers, and of the count of its calls that ended.
 
@@ -82,18 +67,18 @@ asked_more xs ys = map-append _ xs ys
 
 -- A caller's event is its script's: where it begins a call, it carries what the script asks for next.
 
-no_new_enters : (s : Stage) (f : Op) (d ty : ℕ) (full : Bool) → comes_next s f (step.Enter (op.New d ty full)) ≡ true
+no_new_enters : (s : Stage) (f : Op) (d ty : ℕ) (full : Bool) → comes_next s f (Step.Enter (Op.New d ty full)) ≡ true
     → ⊥
-no_new_enters stage.Turn (op.New d' ty' full') d ty full h = cc
-no_new_enters stage.Turn f d ty full h = cc
+no_new_enters Stage.Turn (Op.New d' ty' full') d ty full h = cc
+no_new_enters Stage.Turn f d ty full h = cc
 no_new_enters s f d ty full h = cc
 
 begins_so : (program : List Item) (k : ℕ) (given : List Answer) (x : Form) (o : Option Op) (s : Stage) (f : Op)
     → next_op program k given ≡ o → comes_next s f (step_of x o) ≡ true → BeginsAsAsked program k given (step_of x o)
-begins_so program k given form.Enter (Some y) s f next order = next
-begins_so program k given form.Enter None s f next order = absurd (no_new_enters s f 0 0 false order)
-begins_so program k given form.Take (Some y) s f next order = next
-begins_so program k given form.Take None s f next order = tt
+begins_so program k given Form.Enter (Some y) s f next order = next
+begins_so program k given Form.Enter None s f next order = absurd (no_new_enters s f 0 0 false order)
+begins_so program k given Form.Take (Some y) s f next order = next
+begins_so program k given Form.Take None s f next order = tt
 begins_so program k given x o s f next order = tt
 
 -- what caller k has called after a history, as its script asks for it

@@ -1,30 +1,20 @@
 -- A caller's calls are those that its script notes, and its call in flight is what the script asks for next.
-use Rattle.std.proofs.Common.{◌≡◌, ◌≢◌, ℕ, ◌+◌, ◌≤◌, Bool, true, false, List, [], ◌∷◌, ◌++◌, length, take, refl, sym}
-use Rattle.std.proofs.Common.{◌∙◌, ap, subst, append-nil, arith}
-use Rattle.std.specs.Prelude.{⊤, Option, Some, None, if◌then◌else◌, ◌==◌}
-use Rattle.std.proofs.lemmas.List.{length-append, take_all}
+use Rattle.std.specs.Prelude.{⊤}
 use Rattle.mk_replay.proofs.Vocabulary.{Answer, AreEnabled, Caller, Config, Event, Flight, Item, Moment, Op, Stage}
 use Rattle.mk_replay.proofs.Vocabulary.{Step, asked, at_rest, calls, comes_next, ends_call, entry_of, flight_of, left}
-use Rattle.mk_replay.proofs.Vocabulary.{progress}
-use Rattle.mk_never.specs.declared.operations.Op.TheVariants as op
-use Rattle.mk_never.specs.NeverHeap.{Call}
-use Rattle.mk_geom.specs.declared.addresses.Cell.{Cell}
-use Rattle.mk_core.specs.declared.events.Step.TheVariants as step
-use Rattle.mk_core.specs.declared.seats.Stage.TheVariants as stage
-use Rattle.mk_core.specs.declared.seats.Progress.{Progress}
-use Rattle.mk_core.specs.Calls.{begun, still, progress_q, progress_p, progress_reg, progress_read}
-use Rattle.mk_core.specs.Effects.{progress_freed}
-use Rattle.mk_core.specs.TurnConditions.{cell_freed}
-use Rattle.mk_check.specs.Feeding.{next_op}
-use Rattle.mk_check.specs.Laws.{AreNotedBy}
-use Rattle.mk_check.specs.Output.{ended_calls, answers_among}
+use Rattle.mk_replay.proofs.Vocabulary.{length-append, progress, take_all}
+use Rattle.mk_laws.proofs.Vocabulary.{Bool, Call, Cell, List, None, Option, Progress, Some, ℕ, ap, append-nil, arith}
+use Rattle.mk_laws.proofs.Vocabulary.{begun, cell_freed, false, if◌then◌else◌, length, progress_freed, progress_p}
+use Rattle.mk_laws.proofs.Vocabulary.{progress_q, progress_read, progress_reg, refl, still, subst, sym, take, true, []}
+use Rattle.mk_laws.proofs.Vocabulary.{◌++◌, ◌+◌, ◌==◌, ◌∙◌, ◌∷◌, ◌≡◌, ◌≢◌, ◌≤◌}
+use Rattle.mk_check.proofs.GivenAnswers.{Serves, as_list, counted, serves}
 use Rattle.mk_check.proofs.AdmittedScripts.{answers_are_noted, others_are_ignored}
-use Rattle.mk_check.proofs.GivenAnswers.{as_list, counted, Serves, serves}
+use Rattle.mk_check.specs.{Feeding.next_op, Laws.AreNotedBy, Output.answers_among, Output.ended_calls}
 
 -- the first step of a call
 abbrev pub begins_call : Step → Bool
-begins_call (step.Enter o) = true
-begins_call (step.Take (Some o)) = true
+begins_call (Step.Enter o) = true
+begins_call (Step.Take (Some o)) = true
 begins_call _ = false
 
 -- A call keeps its operation up to its last step.
@@ -35,22 +25,22 @@ either_op true x y o a b = a
 either_op false x y o a b = b
 
 q_op : (f : Flight) (o : Op) (n : ℕ) → (progress_q f o n).flight.op ≡ f.op
-q_op f (op.Move d q) n = refl
-q_op f (op.Same p q) n = refl
+q_op f (Op.Move d q) n = refl
+q_op f (Op.Same p q) n = refl
 q_op f _ n = either_op (n == 0) _ _ f.op refl refl
 
 p_op : (f : Flight) (o : Op) (n : ℕ) → (progress_p f o n).flight.op ≡ f.op
-p_op f (op.IsNull p) n = refl
-p_op f (op.Free p) n = either_op (n == 0) _ _ f.op refl refl
+p_op f (Op.IsNull p) n = refl
+p_op f (Op.Free p) n = either_op (n == 0) _ _ f.op refl refl
 p_op f _ n = refl
 
 reg_op : (f : Flight) (s : Stage) (n : ℕ) → (progress_reg f s n).flight.op ≡ f.op
-reg_op f stage.LoadQ n = q_op f f.op n
-reg_op f stage.LoadP n = p_op f f.op n
+reg_op f Stage.LoadQ n = q_op f f.op n
+reg_op f Stage.LoadP n = p_op f f.op n
 reg_op f _ n = refl
 
 read_op : (f : Flight) (o : Op) (n : ℕ) → (progress_read f o n).flight.op ≡ f.op
-read_op f (op.GetPtr d q i) n = refl
+read_op f (Op.GetPtr d q i) n = refl
 read_op f _ n = refl
 
 freed_op : (f : Flight) (x : Option Cell) → (progress_freed f x).flight.op ≡ f.op
@@ -59,22 +49,22 @@ freed_op f None = refl
 
 op_stays : (c : Config) (m : Moment) (f : Flight) (n : ℕ) (x : Step) → begins_call x ≡ false → ends_call x ≡ false
     → (progress c m f n x).flight.op ≡ f.op
-op_stays c m f n (step.Enter o) b e = cc
-op_stays c m f n (step.Take (Some o)) b e = cc
-op_stays c m f n step.Leave b e = cc
-op_stays c m f n step.Give b e = cc
-op_stays c m f n step.Reg b e = reg_op f f.stage n
-op_stays c m f n step.Probe b e = either_op _ _ _ f.op refl refl
-op_stays c m f n step.Read b e = read_op f f.op n
-op_stays c m f n (step.Look x) b e = either_op _ _ _ f.op refl refl
-op_stays c m f n (step.Quar p v) b e = freed_op f (cell_freed c.pages m.words f p v)
+op_stays c m f n (Step.Enter o) b e = cc
+op_stays c m f n (Step.Take (Some o)) b e = cc
+op_stays c m f n Step.Leave b e = cc
+op_stays c m f n Step.Give b e = cc
+op_stays c m f n Step.Reg b e = reg_op f f.stage n
+op_stays c m f n Step.Probe b e = either_op _ _ _ f.op refl refl
+op_stays c m f n Step.Read b e = read_op f f.op n
+op_stays c m f n (Step.Look x) b e = either_op _ _ _ f.op refl refl
+op_stays c m f n (Step.Quar p v) b e = freed_op f (cell_freed c.pages m.words f p v)
 op_stays c m f n _ b e = refl
 
 -- only a call's first step comes next at rest
-not_at_rest : (s : Stage) (o : Op) (x : Step) → begins_call x ≡ false → comes_next s o x ≡ true → s ≢ stage.Idle
-not_at_rest stage.Idle o (step.Enter y) b h = cc
-not_at_rest stage.Idle o (step.Take (Some y)) b h = cc
-not_at_rest stage.Idle o _ b h = cc
+not_at_rest : (s : Stage) (o : Op) (x : Step) → begins_call x ≡ false → comes_next s o x ≡ true → s ≢ Stage.Idle
+not_at_rest Stage.Idle o (Step.Enter y) b h = cc
+not_at_rest Stage.Idle o (Step.Take (Some y)) b h = cc
+not_at_rest Stage.Idle o _ b h = cc
 not_at_rest _ o x b h = λ e. cc
 
 -- Where n calls of a caller have ended, n of its answers are decided, or one more.
@@ -87,7 +77,7 @@ Waits n answers = (n ≤ length answers) × (length answers ≤ n + 1)
 
 at_stage : (s : Stage) (o : Op) (q p r l n : ℕ) (answers : List Answer) → Serves 1 (flight s o q p r l ∷ []) 0 n answers
     → Waits n answers
-at_stage stage.Idle o q p r l n answers h = let d = h.decided in (omega arith, omega arith)
+at_stage Stage.Idle o q p r l n answers h = let d = h.decided in (omega arith, omega arith)
 at_stage _ o q p r l n answers h = let d = h.decided in (omega arith, omega arith)
 
 pub waits : (c : Config) (es : List Event) (k : ℕ) → AreEnabled c es
@@ -103,7 +93,7 @@ waits c es k enabled =
 pub record Asks (program : List Item) (k : ℕ) (f : Flight) (n : ℕ) (answers : List Answer) (calls : List Call) : Type 0
   where
     pub noted : AreNotedBy program k answers calls
-    pub next : length answers ≡ n → f.stage ≢ stage.Idle → next_op program k answers ≡ Some f.op
+    pub next : length answers ≡ n → f.stage ≢ Stage.Idle → next_op program k answers ≡ Some f.op
 
 pub same_asks : (program : List Item) (k : ℕ) (f g : Flight) (n i : ℕ) (answers given : List Answer)
     (calls made : List Call)
@@ -112,22 +102,22 @@ same_asks program k f g n i answers given calls made a b d e h = rw (a, b, d, e)
 
 -- What script k asks for next, where this is the step that begins a call.
 abbrev pub BeginsAsAsked : List Item → ℕ → List Answer → Step → Type 0
-BeginsAsAsked program k given (step.Enter o) = next_op program k given ≡ Some o
-BeginsAsAsked program k given (step.Take (Some o)) = next_op program k given ≡ Some o
+BeginsAsAsked program k given (Step.Enter o) = next_op program k given ≡ Some o
+BeginsAsAsked program k given (Step.Take (Some o)) = next_op program k given ≡ Some o
 BeginsAsAsked program k given _ = ⊤
 
 module _ (program : List Item) (k : ℕ) (f : Flight) (n : ℕ) (answers : List Answer) (calls : List Call)
     (h : Asks program k f n answers calls) where
   -- after a step that decides nothing
   quiet : (new : Flight) (i : ℕ)
-      → (length answers ≡ i → new.stage ≢ stage.Idle → next_op program k answers ≡ Some new.op)
+      → (length answers ≡ i → new.stage ≢ Stage.Idle → next_op program k answers ≡ Some new.op)
       → Asks program k new i (answers ++ []) (calls ++ [])
   quiet new i next =
       same_asks program k new new i i answers (answers ++ []) calls (calls ++ []) refl refl (append-nil answers)
       (append-nil calls) (record { noted = h.noted; next = next })
 
   -- after one that isn't its call's first or last one
-  decides : (new : Flight) (a : Option Answer) → new.op ≡ f.op → f.stage ≢ stage.Idle
+  decides : (new : Flight) (a : Option Answer) → new.op ≡ f.op → f.stage ≢ Stage.Idle
       → ((b : Answer) → a ≡ Some b → length answers ≡ n)
       → Asks program k new n (answers ++ as_list a) (calls ++ asked (entry_of k f.op a))
   decides new (Some a) same busy once = record {
@@ -162,10 +152,10 @@ module _ (program : List Item) (k : ℕ) (f : Flight) (n : ℕ) (answers : List 
       → comes_next f.stage f.op x ≡ true → BeginsAsAsked program k (take n answers) x
       → (ends_call x ≡ false → (b : Answer) → (progress c m f found x).answer ≡ Some b → length answers ≡ n)
       → OwnAsks (counted n (ends_call x)) (progress c m f found x)
-  own_step c m found (step.Enter o) order begun once = begins o begun (found == 0)
-  own_step c m found (step.Take (Some o)) order begun once = begins o begun (found == 0)
-  own_step c m found step.Leave order begun once = ends
-  own_step c m found step.Give order begun once = ends
+  own_step c m found (Step.Enter o) order begun once = begins o begun (found == 0)
+  own_step c m found (Step.Take (Some o)) order begun once = begins o begun (found == 0)
+  own_step c m found Step.Leave order begun once = ends
+  own_step c m found Step.Give order begun once = ends
   own_step c m found x order begun once = goes c m found x refl refl order (once refl)
 
   -- another's call, if one is decided

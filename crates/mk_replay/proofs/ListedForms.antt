@@ -1,20 +1,13 @@
 -- A form that is listed by its name, with words after it that aren't numbers.
-use Rattle.std.proofs.Common.{◌≡◌, ℕ, List, [], ◌∷◌, Bool, true, false, refl, ap, ◌∙◌, Option, Some, None, Ok, Err, map}
-use Rattle.std.proofs.Common.{ok_or}
-use Rattle.std.specs.Prelude.{if◌then◌else◌}
-use Rattle.std.specs.Option.{option_map}
-use Rattle.std.specs.Result.{IsErrAnd}
-use Rattle.std.specs.declared.result.Result.{Result}
-use Rattle.std.specs.Str.{bytes_eq}
-use Rattle.mk_replay.proofs.Vocabulary.{Form, value_among}
-use lib.Chars.{codes}
-use Rattle.mk_script.specs.declared.faults.TextKind.{TextKind}
-use Rattle.mk_script.specs.declared.faults.TextKind.TheVariants as kind
-use Rattle.mk_script.specs.Names.{number_of_word}
-use Rattle.mk_replay.specs.declared.forms.FormOfNumbers.{FormOfNumbers}
-use Rattle.mk_replay.specs.declared.forms.FormOfNumbers.TheVariants.{Head, Used, Quar, Mark, Black, Claim}
-use Rattle.mk_replay.specs.Forms.{both, number, forms_of_numbers, two_operands}
-use Rattle.mk_replay.specs.Numbered.{form_of_numbers}
+use Rattle.std.proofs.Common.{codes, ok_or}
+use Rattle.std.specs.{Option.option_map, Result.IsErrAnd, Str.bytes_eq, declared.result.Result.Result}
+use Rattle.mk_replay.proofs.Vocabulary.{Err, Form, Ok, value_among}
+use Rattle.mk_laws.proofs.Vocabulary.{Bool, List, None, Option, Some, ℕ, ap, false, if◌then◌else◌, map, refl, true, []}
+use Rattle.mk_laws.proofs.Vocabulary.{◌∙◌, ◌∷◌, ◌≡◌}
+use Rattle.mk_replay.specs.Forms.{both, forms_of_numbers, number, two_operands}
+use Rattle.mk_replay.specs.declared.forms.FormOfNumbers.TheVariants.{Black, Claim, Head, Mark, Quar, Used}
+use Rattle.mk_replay.specs.{Numbered.form_of_numbers, declared.forms.FormOfNumbers.FormOfNumbers}
+use Rattle.mk_script.specs.{Names.number_of_word, declared.faults.TextKind.TextKind}
 
 by_test : {A B : Type 0} (b : Bool) (f : A → B) (x : A) (rest : Option A) (others : Option B)
     → others ≡ option_map f rest → (if b then Some (f x) else others) ≡ option_map f (if b then Some x else rest)
@@ -31,19 +24,19 @@ listed =
     (codes "head", Head) ∷ (codes "used", Used) ∷ (codes "quar", Quar) ∷ (codes "mark", Mark) ∷ (codes "black", Black)
     ∷ (codes "claim", Claim) ∷ []
 
-was_some : {A : Type 0} (o : Option A) (x : A) → ok_or o kind.Word ≡ Ok x → o ≡ Some x
+was_some : {A : Type 0} (o : Option A) (x : A) → ok_or o TextKind.Word ≡ Ok x → o ≡ Some x
 was_some None x is = cc
 was_some (Some y) x is = cc
 
-unnumbered : (f : ℕ → ℕ → Form) (v w : Option ℕ) (e : TextKind) → ok_or v kind.Number ≡ Err e
-    → both f (ok_or v kind.Number) (ok_or w kind.Number) ≡ Err e
+unnumbered : (f : ℕ → ℕ → Form) (v w : Option ℕ) (e : TextKind) → ok_or v TextKind.Number ≡ Err e
+    → both f (ok_or v TextKind.Number) (ok_or w TextKind.Number) ≡ Err e
 unnumbered f None None e is = cc
 unnumbered f None (Some n) e is = cc
 unnumbered f (Some m) w e is = cc
 
 -- the first of two words that should be numbers is none
 pub first_is_no_number : (name v w : List ℕ) (form : FormOfNumbers) (e : TextKind)
-    → bytes_eq name (codes "tally") ≡ false → ok_or (value_among listed name) kind.Word ≡ Ok form
+    → bytes_eq name (codes "tally") ≡ false → ok_or (value_among listed name) TextKind.Word ≡ Ok form
     → number v ≡ Err e → two_operands name v w ≡ Err e
 first_is_no_number name v w form e other is fault =
     let named : value_among forms_of_numbers name ≡ Some (form_of_numbers form) =

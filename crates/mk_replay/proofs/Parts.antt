@@ -1,16 +1,12 @@
 -- A text as its script part and the lines after its schedule line.
-use Rattle.std.proofs.Common.{◌≡◌, ℕ, ◌+◌, ◌-◌, ◌≤◌, List, length, take, drop, Bor, ap, sym, ◌∙◌, arith, length-take}
-use Rattle.std.proofs.Common.{length-drop}
-use Rattle.std.proofs.lemmas.List.{take_all}
-use Rattle.std.proofs.lemmas.Bool.{le-leb, cond-true}
-use Rattle.std.specs.List.{take-map, drop-map}
-use Rattle.mk_replay.proofs.Vocabulary.{text_length, texts_of}
-use Rattle.mk_script.specs.Words.{lines_of}
-use Rattle.mk_script.specs.Grammar.{items_of_lines, program_of}
-use Rattle.mk_replay.specs.Reading.{StandsAt}
-use Rattle.mk_replay.specs.Schedules.{entries_of_lines, script_lines, schedule_lines, schedule_behind, with_schedule}
-use Rattle.mk_replay.specs.Schedules.{replay_of_lines, replay_of}
-use Rattle.mk_replay.proofs.ScriptPart.{lines_before}
+use Rattle.std.{proofs.Common.length-take, specs.List.drop-map, specs.List.take-map}
+use Rattle.mk_replay.proofs.Vocabulary.{Bor, length-drop, take_all, text_length, texts_of}
+use Rattle.mk_laws.proofs.Vocabulary.{List, ℕ, ap, arith, cond-true, drop, le-leb, length, sym, take, ◌+◌, ◌-◌, ◌∙◌}
+use Rattle.mk_laws.proofs.Vocabulary.{◌≡◌, ◌≤◌}
+use Rattle.mk_replay.{proofs.ScriptPart.lines_before, specs.Reading.StandsAt, specs.Schedules.entries_of_lines}
+use Rattle.mk_replay.{specs.Schedules.replay_of, specs.Schedules.replay_of_lines, specs.Schedules.schedule_behind}
+use Rattle.mk_replay.{specs.Schedules.schedule_lines, specs.Schedules.script_lines, specs.Schedules.with_schedule}
+use Rattle.mk_script.specs.{Grammar.items_of_lines, Grammar.program_of, Words.lines_of}
 
 not_too_long : (text : List ℕ) → length text ≤ 1048576 → program_of text ≡ items_of_lines (lines_of text)
 not_too_long text short = cond-true _ _ _ (le-leb _ _ short)

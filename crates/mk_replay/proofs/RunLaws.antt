@@ -1,31 +1,23 @@
 -- What a run's steps say of the histories that it stands for.
-use Rattle.std.proofs.Common.{◌≡◌, ◌≢◌, ℕ, eq-eqb, ◌<◌, true, false, List, [], ◌∷◌, ◌++◌, length, slice_set}
-use Rattle.std.proofs.Common.{slice_index_or, get_or, set, refl, sym, ◌∙◌, ap, subst, arith, inl, inr, IsTrue}
-use Rattle.std.specs.Prelude.{Option, Some, None, ◌==◌}
-use Rattle.std.proofs.lemmas.Bool.{cases_eq}
-use Rattle.std.proofs.lemmas.Bool.Decides.{nat_tests}
-use Rattle.std.proofs.lemmas.List.{append_cancel_left, length-append, get_or_default, get_or_push, get_or_append_left}
-use Rattle.std.proofs.lemmas.List.{get_or-set_same, get_or-set_other}
-use Rattle.std.specs.Option.{option_or}
+use Rattle.std.{proofs.Common.IsTrue, proofs.Common.set, proofs.lemmas.List.append_cancel_left}
+use Rattle.std.{proofs.lemmas.List.get_or_default, proofs.lemmas.List.get_or_push, specs.Option.option_or}
 use Rattle.mk_replay.proofs.Vocabulary.{Answer, AreEnabled, AreFirstTexts, ArePlayersOf, Config, Decided, Entry, Event}
 use Rattle.mk_replay.proofs.Vocabulary.{IsPlayerOf, Item, Op, TakesStep, answer_decided, calls, config_of, ends_call}
-use Rattle.mk_replay.proofs.Vocabulary.{entry_of, event_of_entry, first_world, flight_of, is_same_seat, left, served_to}
-use Rattle.mk_check.specs.Feed.{Fed, feed, has_ended, take_answer}
-use Rattle.mk_check.specs.Feeding.{FeedState, script_scope, FeedStandsFor, TakesAnswer as FeedTakesAnswer}
-use Rattle.mk_check.proofs.FeedLaws.{feed_push, feed_push-ended}
-use Rattle.mk_core.specs.declared.events.Seat.TheVariants as seat
+use Rattle.mk_replay.proofs.Vocabulary.{entry_of, event_of_entry, first_world, flight_of, is_same_seat, left}
+use Rattle.mk_replay.proofs.Vocabulary.{length-append, nat_tests, served_to}
+use Rattle.mk_laws.proofs.Vocabulary.{IsEnabled, List, None, Option, Seat, Some, ℕ, ap, arith, caller_number, cases_eq}
+use Rattle.mk_laws.proofs.Vocabulary.{enabled_meets, eq-eqb, false, get_or, get_or-set_other, get_or-set_same}
+use Rattle.mk_laws.proofs.Vocabulary.{get_or_append_left, inl, inr, length, refl, seat_exists, slice_index_or}
+use Rattle.mk_laws.proofs.Vocabulary.{slice_set, subst, sym, true, [], ◌++◌, ◌<◌, ◌==◌, ◌∙◌, ◌∷◌, ◌≡◌, ◌≢◌}
 use Rattle.mk_core.proofs.Histories.{calls_more, last_enabled}
+use Rattle.mk_core.specs.{Enabled.failing, Standing.CoreStandsFor, Standing.CoreState}
+use Rattle.mk_check.proofs.FeedLaws.{feed_push, feed_push-ended}
+use Rattle.mk_check.specs.Feed.{Fed, feed, has_ended, take_answer}
+use Rattle.mk_check.specs.Feeding.{FeedStandsFor, FeedState, TakesAnswer as FeedTakesAnswer, script_scope}
 use Rattle.mk_check.specs.declared.text.Text.{Text}
-use Rattle.mk_core.specs.Order.{seat_exists}
-use Rattle.mk_core.specs.Accesses.{caller_number}
-use Rattle.mk_core.specs.Enabled.{failing, IsEnabled}
-use Rattle.mk_core.specs.Standing.{CoreState, CoreStandsFor}
-use Rattle.mk_core.proofs.Conditions.{enabled_meets}
-use Rattle.mk_replay.specs.declared.players.Player.{Player}
-use Rattle.mk_replay.specs.declared.replaying.Run.{Run}
-use Rattle.mk_replay.specs.Replays.{IsReplayedText}
-use Rattle.mk_replay.specs.Players.{Served, served_by, IsFed, PlayerTakesAnswer, TakeEvent, IsRunAfter, TakesEntry}
-use Rattle.mk_replay.proofs.ServedMore.{served_more, served_first}
+use Rattle.mk_replay.proofs.ServedMore.{served_first, served_more}
+use Rattle.mk_replay.specs.Players.{IsFed, IsRunAfter, PlayerTakesAnswer, Served, TakeEvent, TakesEntry, served_by}
+use Rattle.mk_replay.specs.{Replays.IsReplayedText, declared.players.Player.Player, declared.replaying.Run.Run}
 
 -- A feed that waits takes the answer.
 pub fed_more : {program : List Item} {k : ℕ} {old : FeedState} (new : FeedState) {answers : List Answer} (a : Answer)
@@ -71,26 +63,26 @@ is_other : (j k : ℕ) → j ≢ k → (k == j) ≡ false
 is_other j k ne = grind (arith, nat_tests)
 
 mine : (players : List Player) (j : ℕ) (old new : Player) (e : Event) (a : Option Answer)
-    → j < length players → old ≡ slice_index_or players j old → e.seat ≡ seat.Caller j
+    → j < length players → old ≡ slice_index_or players j old → e.seat ≡ Seat.Caller j
     → TakesStep (ends_call e.step) a old new
     → (program : List Item) (d : Player) (x : Served) → IsPlayerOf program j x (get_or players j d)
     → IsPlayerOf program j (served_by j e a x) (get_or (set players j new) j d)
 mine players j old new e a lt at is takes program d x h =
-    let mine : is_same_seat (seat.Caller j) e.seat ≡ true = ap (is_same_seat (seat.Caller j)) is ∙ is_same j in
+    let mine : is_same_seat (Seat.Caller j) e.seat ≡ true = ap (is_same_seat (Seat.Caller j)) is ∙ is_same j in
     let here : get_or players j d ≡ old = get_or_default players j d old lt ∙ sym at in
     rw (mine, get_or-set_same players j new d lt) (takes program j x (subst (IsPlayerOf program j x) here h))
 
-others : (players : List Player) (j : ℕ) (new : Player) (e : Event) (a : Option Answer) → e.seat ≡ seat.Caller j
+others : (players : List Player) (j : ℕ) (new : Player) (e : Event) (a : Option Answer) → e.seat ≡ Seat.Caller j
     → {program : List Item} {k : ℕ} (d : Player) {x : Served} → j ≢ k → IsPlayerOf program k x (get_or players k d)
     → IsPlayerOf program k (served_by k e a x) (get_or (set players j new) k d)
 others players j new e a is {k} d other h =
-    let not_mine : is_same_seat (seat.Caller k) e.seat ≡ false = ap (is_same_seat (seat.Caller k)) is
+    let not_mine : is_same_seat (Seat.Caller k) e.seat ≡ false = ap (is_same_seat (Seat.Caller k)) is
     ∙ is_other j k other in
     rw (not_mine, get_or-set_other players j k new d (λ same. other (sym same))) h
 
 -- One player takes a step of its caller.
 pub one_takes : (players : List Player) (j : ℕ) (old new : Player) (e : Event) (a : Option Answer)
-    → j < length players → old ≡ slice_index_or players j old → e.seat ≡ seat.Caller j
+    → j < length players → old ≡ slice_index_or players j old → e.seat ≡ Seat.Caller j
     → TakesStep (ends_call e.step) a old new → TakeEvent e a players (slice_set players j new)
 one_takes players j old new e a lt at is takes = λ program k d x less h.
     elim (cases_eq j k) [

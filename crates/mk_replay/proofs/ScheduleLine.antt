@@ -1,10 +1,8 @@
 -- The first line whose only word is `schedule`, and the lines before it and after it.
-use Rattle.std.proofs.Common.{◌≡◌, ℕ, suc, ◌+◌, Bool, true, false, cond, List, [], ◌∷◌, drop, Some, None, refl, ap, sym}
-use Rattle.std.proofs.Common.{subst, ◌∙◌, arith}
-use Rattle.std.specs.List.{position_from}
-use Rattle.mk_replay.proofs.Vocabulary.{is_schedule_line}
-use Rattle.mk_replay.specs.Reading.{StandsAt, HasNone}
-use Rattle.mk_replay.specs.Schedules.{script_lines, schedule_lines}
+use Rattle.mk_replay.proofs.Vocabulary.{is_schedule_line, position_from}
+use Rattle.mk_laws.proofs.Vocabulary.{Bool, List, None, Some, ℕ, ap, arith, cond, drop, false, refl, subst, suc, sym}
+use Rattle.mk_laws.proofs.Vocabulary.{true, [], ◌+◌, ◌∙◌, ◌∷◌, ◌≡◌}
+use Rattle.mk_replay.specs.{Reading.HasNone, Reading.StandsAt, Schedules.schedule_lines, Schedules.script_lines}
 
 -- where it is found, counted from a number on
 record IsFound (lines : List (List ℕ)) (from found : ℕ) : Type 0 where

@@ -1,13 +1,13 @@
 -- The bytes before a line of a text: their lines are those before it.
-use Rattle.std.proofs.Common.{◌≡◌, ℕ, zero, suc, ◌+◌, ◌<◌, ◌≤◌, ◌==◌, Bool, true, false, if◌then◌else◌, List, [], ◌∷◌}
-use Rattle.std.proofs.Common.{◌++◌, inl, inr, length, get_or, take, refl, ap, sym, ◌∙◌, subst, arith, length-append}
-use Rattle.std.specs.List.{All, slice_split, position_or_len, before_first, after_first}
-use Rattle.std.proofs.lemmas.List.Splits.{slice_split_at, slice_split_none, length-slice_split}
-use Rattle.std.proofs.lemmas.List.Sums.{split_at_first, fails_before_first, passes_at_first}
-use Rattle.std.proofs.lemmas.Bool.{cases_lt}
+use Rattle.std.proofs.lemmas.List.Splits.{length-slice_split, slice_split_at, slice_split_none}
+use Rattle.std.proofs.lemmas.List.Sums.{fails_before_first, passes_at_first, split_at_first}
 use Rattle.std.proofs.lemmas.Grind.{common_steps}
-use Rattle.mk_replay.proofs.Vocabulary.{text_length}
-use Rattle.mk_script.specs.Words.{without_empty_last, lines_of}
+use Rattle.std.specs.List.{All, after_first, before_first, position_or_len, slice_split}
+use Rattle.mk_replay.proofs.Vocabulary.{length-append, text_length}
+use Rattle.mk_laws.proofs.Vocabulary.{Bool, List, ℕ, ap, arith, cases_lt, false, get_or, if◌then◌else◌, inl, inr}
+use Rattle.mk_laws.proofs.Vocabulary.{length, refl, subst, suc, sym, take, true, zero, [], ◌++◌, ◌+◌, ◌<◌, ◌==◌, ◌∙◌}
+use Rattle.mk_laws.proofs.Vocabulary.{◌∷◌, ◌≡◌, ◌≤◌}
+use Rattle.mk_script.specs.Words.{lines_of, without_empty_last}
 
 abbrev is_newline : ℕ → Bool
 is_newline byte = byte == 10

@@ -1,11 +1,11 @@
 -- What a caller was served, with one event more.
-use Rattle.std.proofs.Common.{◌≡◌, ℕ, Bool, true, false, List, [], ◌∷◌, ◌++◌, refl, ◌∙◌, append-nil}
-use Rattle.std.specs.Prelude.{Option, None, if◌then◌else◌}
 use Rattle.mk_replay.proofs.Vocabulary.{Answer, AreEnabled, Caller, Config, Event, answer_decided, answers_given}
 use Rattle.mk_replay.proofs.Vocabulary.{ends_call, is_same_seat, left, served_to}
+use Rattle.mk_laws.proofs.Vocabulary.{Bool, List, None, Option, ℕ, append-nil, false, if◌then◌else◌, refl, true, []}
+use Rattle.mk_laws.proofs.Vocabulary.{◌++◌, ◌∙◌, ◌∷◌, ◌≡◌}
 use Rattle.mk_core.specs.History.{calls_from}
+use Rattle.mk_check.proofs.GivenAnswers.{given_by, given_more, waiting_by, waiting_more}
 use Rattle.mk_check.specs.Output.{answer_waiting}
-use Rattle.mk_check.proofs.GivenAnswers.{given_by, waiting_by, given_more, waiting_more}
 use Rattle.mk_replay.specs.Players.{Served, served_behind, served_by}
 
 both_by : (b b' : Bool) (decided : Option Answer) (xs answers : List Answer) (was kept : Option Answer)

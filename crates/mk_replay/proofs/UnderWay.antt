@@ -1,20 +1,15 @@
 -- A run after the first entries of a schedule.
-use Rattle.std.proofs.Common.{◌≡◌, ℕ, ◌+◌, ◌<◌, ◌≤◌, false, List, [], ◌∷◌, ◌++◌, length, drop, get_or, refl, sym, ◌∙◌}
-use Rattle.std.proofs.Common.{ap, subst, arith, add-one, drop-cons}
-use Rattle.std.specs.Prelude.{Some, None, ◌==◌}
-use Rattle.std.proofs.lemmas.Bool.Decides.{nat_tests}
-use Rattle.std.proofs.lemmas.List.{length-append}
-use Rattle.std.proofs.Math.ListN.{drop_of_length-le}
-use Rattle.std.proofs.lemmas.List.Sums.{count_by-le-length}
+use Rattle.std.proofs.Common.{add-one, drop-cons}
+use Rattle.std.proofs.{Math.ListN.drop_of_length-le, lemmas.List.Sums.count_by-le-length}
 use Rattle.mk_replay.proofs.Vocabulary.{AreEnabled, Config, Entry, Event, Item, answers_given, config_of}
-use Rattle.mk_replay.proofs.Vocabulary.{event_of_entry, history_of}
-use Rattle.mk_replay.specs.declared.replaying.Run.{Run}
-use Rattle.mk_replay.specs.declared.replaying.ReplayStop.{ReplayStop}
-use Rattle.mk_replay.specs.declared.replaying.ReplayStop.TheVariants.{NotEnabled}
+use Rattle.mk_replay.proofs.Vocabulary.{event_of_entry, history_of, length-append, nat_tests}
+use Rattle.mk_laws.proofs.Vocabulary.{List, None, Some, ℕ, ap, arith, drop, false, get_or, length, refl, subst, sym, []}
+use Rattle.mk_laws.proofs.Vocabulary.{◌++◌, ◌+◌, ◌<◌, ◌==◌, ◌∙◌, ◌∷◌, ◌≡◌, ◌≤◌}
+use Rattle.mk_check.{proofs.GivenAnswers.few_answers, specs.Feed.is_refusal}
+use Rattle.mk_replay.specs.Players.{EachHasRoom, IsNotEnabled, IsRunAfter, IsUnderWay, TakesEntry}
 use Rattle.mk_replay.specs.Replays.{failing_entry, history_from, refusal_from, refusal_of}
-use Rattle.mk_replay.specs.Players.{EachHasRoom, IsRunAfter, TakesEntry, IsNotEnabled, IsUnderWay}
-use Rattle.mk_check.specs.Feed.{is_refusal}
-use Rattle.mk_check.proofs.GivenAnswers.{few_answers}
+use Rattle.mk_replay.specs.declared.replaying.ReplayStop.{ReplayStop}
+use Rattle.mk_replay.specs.{declared.replaying.ReplayStop.TheVariants.NotEnabled, declared.replaying.Run.Run}
 
 -- There are fewer answers than the counts can hold.
 pub room_of : {program : List Item} {schedule : List Entry} {n : ℕ} {run : Run} → IsUnderWay program schedule n run
@@ -52,11 +47,6 @@ refusal_none program es = refl
 history_none : (program : List Item) (es : List Event) → history_from program es [] ≡ es
 unfolding history_from
 history_none program es = refl
-
-pub first_under_way : (program : List Item) (schedule : List Entry) (run : Run) → IsRunAfter program [] run
-    → IsUnderWay program schedule 0 run
-first_under_way program schedule run h =
-    record { events = []; is_run = h; so_many = refl; refusal = refl; history = refl }
 
 item_at : (schedule entries : List Entry) (n : ℕ) (d : Entry) → entries ≡ schedule → n < length entries
     → drop n schedule ≡ get_or entries n d ∷ drop (n + 1) schedule

@@ -1,12 +1,12 @@
 -- The lines of a text's program close the blocks that they open. Of each open block it is said here whether it may have
 -- an `else`.
-use Rattle.std.proofs.Common.{◌≡◌, Bool, true, false, List, [], ◌∷◌, ◌++◌, map, refl, ap, sym, ◌∙◌, subst, append_assoc}
-use Rattle.std.proofs.lemmas.List.{append-nil}
 use Rattle.std.proofs.lemmas.List.Sums.{fold_push}
-use Rattle.mk_script.proofs.Vocabulary.{ends_rightly, has_none, IsOfSomeText, Item, open_behind, open_blocks}
-use Rattle.mk_script.specs.declared.items.Item.TheVariants.{Script, Repeat, If, Else, End}
-use Rattle.mk_script.specs.Scopes.{OpenBlock, InRepeat, InFirst, InSecond}
+use Rattle.mk_script.proofs.Vocabulary.{Bool, IsOfSomeText, Item, List, ap, append-nil, append_assoc, ends_rightly}
+use Rattle.mk_script.proofs.Vocabulary.{false, has_none, map, open_behind, open_blocks, refl, subst, sym, true, []}
+use Rattle.mk_script.proofs.Vocabulary.{◌++◌, ◌∙◌, ◌∷◌, ◌≡◌}
 use Rattle.mk_script.proofs.PassedLines.{ArePassed, is_whole}
+use Rattle.mk_script.specs.declared.items.Item.TheVariants.{Else, End, If, Repeat, Script}
+use Rattle.mk_script.specs.Scopes.{InFirst, InRepeat, InSecond, OpenBlock}
 
 -- After these open blocks no line ends one that isn't open, and at the end none is.
 abbrev pub Closes : List Bool → List Item → Type 0

@@ -1,11 +1,8 @@
 -- The number that digits stand for, digit by digit.
-use Rattle.std.proofs.Common.{◌≡◌, ℕ, ◌+◌, ◌-◌, ◌*◌, ◌^◌, ◌<◌, ◌≤◌, true, false, ltb, List, [], ◌∷◌, length, get_or}
-use Rattle.std.proofs.Common.{drop, Some, None, refl, ◌∙◌, arith}
-use Rattle.std.proofs.Math.Bool.{and-false}
-use Rattle.std.proofs.lemmas.Bool.{le-ltb, lt-ltb}
-use Rattle.std.proofs.lemmas.List.{at_drop_more, at_drop_all}
-use Rattle.std.specs.Str.{all_ascii_digits}
-use Rattle.mk_script.proofs.Vocabulary.{value_from}
+use Rattle.std.proofs.Common.{le-ltb, ltb, ◌*◌}
+use Rattle.std.proofs.{Math.Bool.and-false, lemmas.List.at_drop_all, lemmas.List.at_drop_more}
+use Rattle.mk_script.proofs.Vocabulary.{List, None, Some, ℕ, all_ascii_digits, arith, drop, false, get_or, length}
+use Rattle.mk_script.proofs.Vocabulary.{lt-ltb, refl, true, value_from, [], ◌+◌, ◌-◌, ◌<◌, ◌^◌, ◌∙◌, ◌∷◌, ◌≡◌, ◌≤◌}
 use Rattle.mk_script.specs.Names.{value_of_digits}
 
 pub value_from-le : (high : ℕ) (digits : List ℕ) → high ≤ value_from high digits

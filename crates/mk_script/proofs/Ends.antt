@@ -1,9 +1,8 @@
 -- How a text ends, by its blocks and its scripts.
-use Rattle.std.proofs.Common.{◌≡◌, ℕ, Bool, true, false, List, length, refl, sym, ◌∙◌, Ok, Err, not}
-use Rattle.mk_script.proofs.Vocabulary.{at_end, has_none, has_script, Item, open_blocks}
-use Rattle.mk_script.specs.declared.faults.TextStop.TheVariants.{Text, Limit}
-use Rattle.mk_script.specs.declared.faults.TextKind.TheVariants.{End}
-use Rattle.mk_script.specs.declared.faults.Which.TheVariants.{Scripts}
+use Rattle.mk_script.proofs.Vocabulary.{Bool, Err, Item, List, Ok, ℕ, at_end, false, has_none, has_script, length, not}
+use Rattle.mk_script.proofs.Vocabulary.{open_blocks, refl, sym, true, ◌∙◌, ◌≡◌}
+use Rattle.mk_script.specs.declared.faults.TextStop.TheVariants.{Limit, Text}
+use Rattle.mk_script.specs.{declared.faults.TextKind.TheVariants.End, declared.faults.Which.TheVariants.Scripts}
 
 closed_is : (b closed : Bool) → b ≡ not closed → b ≡ false → closed ≡ true
 closed_is b true e f = refl

@@ -1,11 +1,9 @@
 -- What stands around the first `+` of a word.
-use Rattle.std.proofs.Common.{◌≡◌, suc, ◌+◌, ◌-◌, ℕ, Bool, true, false, not, ◌||◌, cond, ltb, List, [], ◌∷◌, length}
-use Rattle.std.proofs.Common.{take, drop, Some, None, position, refl, ap, sym, ◌∙◌, arith}
-use Rattle.std.proofs.lemmas.Bool.{lt-ltb}
-use Rattle.std.proofs.lemmas.Bool.Decides.{nat_tests}
-use Rattle.std.proofs.lemmas.List.{length-drop, take_all}
-use Rattle.std.specs.List.{list_any, position_or_len}
-use Rattle.mk_script.specs.Operands.{is_plus, IsCutAtPlus}
+use Rattle.std.{proofs.Common.length-drop, proofs.Common.ltb, proofs.Common.position, specs.List.position_or_len}
+use Rattle.mk_script.proofs.Vocabulary.{Bool, List, None, Some, ℕ, ap, arith, cond, drop, false, length, list_any}
+use Rattle.mk_script.proofs.Vocabulary.{lt-ltb, nat_tests, not, refl, suc, sym, take, take_all, true, [], ◌+◌, ◌-◌}
+use Rattle.mk_script.proofs.Vocabulary.{◌||◌, ◌∙◌, ◌∷◌, ◌≡◌}
+use Rattle.mk_script.specs.Operands.{IsCutAtPlus, is_plus}
 
 behind : (here : Bool) (rest : Bool) (place count : ℕ) → rest ≡ ltb place count
     → (here || rest) ≡ ltb (cond (not here) (1 + place) 0) (suc count)

@@ -1,11 +1,9 @@
 -- A word is looked for among the keywords of its length alone.
-use Rattle.std.proofs.Common.{◌≡◌, ℕ, ◌≢◌, ◌==◌, Bool, true, false, List, [], ◌∷◌, length, filter, refl, ap, sym}
-use Rattle.std.proofs.Common.{◌∙◌, ⊎_elim, eq-eqb, if◌then◌else◌, Some}
-use Rattle.std.specs.Str.{bytes_eq}
-use Rattle.std.proofs.lemmas.Bool.{cases_Bool, false≢true}
-use Rattle.std.proofs.lemmas.Slice.Eq.{bytes_eq-Decides}
-use Rattle.mk_script.proofs.Vocabulary.{Keyword, keyword_of}
-use Rattle.mk_script.specs.Keywords.{keywords, keyword_among}
+use Rattle.std.proofs.Common.{eq-eqb, ⊎_elim}
+use Rattle.std.proofs.{lemmas.Bool.cases_Bool, lemmas.Bool.false≢true, lemmas.Slice.Eq.bytes_eq-Decides}
+use Rattle.mk_script.proofs.Vocabulary.{Bool, Keyword, List, Some, ℕ, ap, bytes_eq, false, filter, if◌then◌else◌}
+use Rattle.mk_script.proofs.Vocabulary.{keyword_of, length, refl, sym, true, [], ◌==◌, ◌∙◌, ◌∷◌, ◌≡◌, ◌≢◌}
+use Rattle.mk_script.specs.Keywords.{keyword_among, keywords}
 
 -- words of different lengths differ
 differ : (word other : List ℕ) → (length other == length word) ≡ false → bytes_eq word other ≡ false

@@ -1,8 +1,7 @@
 -- The lines of a text are the pieces between its newlines, without an empty last piece.
-use Rattle.std.proofs.Common.{◌≡◌, ℕ, ◌+◌, ◌-◌, ◌<◌, ◌==◌, true, false, List, [], ◌∷◌, ◌++◌, length, get_or, take, Bor}
-use Rattle.std.proofs.Common.{refl, ap, ◌∙◌, sym, arith}
-use Rattle.std.proofs.lemmas.List.{take_all, take_more, map-append}
-use Rattle.mk_script.proofs.Vocabulary.{texts_of, without_empty_last}
+use Rattle.std.proofs.{Common.Bor, lemmas.List.map-append, lemmas.List.take_more}
+use Rattle.mk_script.proofs.Vocabulary.{List, ℕ, ap, arith, false, get_or, length, refl, sym, take, take_all, texts_of}
+use Rattle.mk_script.proofs.Vocabulary.{true, without_empty_last, [], ◌++◌, ◌+◌, ◌-◌, ◌<◌, ◌==◌, ◌∙◌, ◌∷◌, ◌≡◌}
 
 last_empty : (front : List (List ℕ)) (last : List ℕ) → (length last == 0) ≡ true
     → without_empty_last (front ++ last ∷ []) ≡ front

@@ -1,22 +1,15 @@
 -- The line that said an item is said again by the item's own words.
-use Rattle.std.proofs.Common.{◌≡◌, ℕ, ◌+◌, ◌≤◌, Bool, true, false, ◌&&◌, nat_le, cond, List, [], ◌∷◌, length, refl, ap}
-use Rattle.std.proofs.Common.{◌∙◌, sym, subst, Option, Some, None, Ok, Err}
-use Rattle.std.specs.declared.result.Result.{Result}
-use Rattle.std.specs.Str.{bytes_eq}
-use Rattle.std.proofs.lemmas.Bool.{and_from, and_parts, leb-true, cond-true}
-use lib.Chars.{codes}
-use Rattle.std.specs.Option.{option_or}
-use Rattle.mk_script.proofs.Vocabulary.{ends_rightly, has_word_count, have_form, is_placed, is_twice, Item, item_from}
-use Rattle.mk_script.proofs.Vocabulary.{Keyword, keyword_of, line_of, LineFault, open_blocks, type_names, words_of_item}
-use Rattle.mk_script.specs.declared.items.Item.TheVariants as item
-use Rattle.mk_script.specs.declared.keywords.Keyword.TheVariants as keyword
+use Rattle.std.{proofs.Common.leb-true, specs.Option.option_or}
+use Rattle.mk_script.proofs.Vocabulary.{Bool, Err, Item, Keyword, LineFault, List, None, Ok, Option, Result, Some, ℕ}
+use Rattle.mk_script.proofs.Vocabulary.{and_from, and_parts, ap, bytes_eq, codes, cond, cond-true, ends_rightly, false}
+use Rattle.mk_script.proofs.Vocabulary.{has_word_count, have_form, is_placed, is_twice, item_from, keyword_of, length}
+use Rattle.mk_script.proofs.Vocabulary.{line_of, nat_le, open_blocks, refl, subst, sym, true, type_names, words_of_item}
+use Rattle.mk_script.proofs.Vocabulary.{[], ◌&&◌, ◌+◌, ◌∙◌, ◌∷◌, ◌≡◌, ◌≤◌}
+use Rattle.mk_script.proofs.PrintedForms.{IsShort, Printed, no_item, read_number, said}
+use Rattle.mk_script.proofs.Said.{is_this, then_again, with_number}
+use Rattle.mk_script.proofs.{LineWords.AreWords, LineWords.is_word-decimal, PassedLines.passed}
+use Rattle.mk_script.specs.Lines.{at_most, checked_item, heap_line, limit_fault, line_item, other_line, placed_item}
 use Rattle.mk_script.specs.declared.faults.Which.{Which}
-use Rattle.mk_script.specs.declared.faults.Which.TheVariants as which
-use Rattle.mk_script.specs.Lines.{heap_line, placed_item, other_line, line_item, at_most, limit_fault, checked_item}
-use Rattle.mk_script.proofs.LineWords.{AreWords, is_word-decimal}
-use Rattle.mk_script.proofs.Said.{then_again, with_number, is_this}
-use Rattle.mk_script.proofs.PassedLines.{passed}
-use Rattle.mk_script.proofs.PrintedForms.{Printed, IsShort, said, no_item, read_number}
 
 -- a line's item again, from words that are words of a line
 pub record IsAgain (before : List Item) (line : Item) : Type 0 where
@@ -34,7 +27,7 @@ cond_none false x e = absurd cc
 
 -- line 1
 
-heap_again : (line : Item) (operands : List (List ℕ)) → item_from keyword.Heap operands ≡ Ok line → IsAgain [] line
+heap_again : (line : Item) (operands : List (List ℕ)) → item_from Keyword.Heap operands ≡ Ok line → IsAgain [] line
 unfolding item_from
 heap_again line (a ∷ b ∷ []) e =
     with_number a e (λ pages p e. with_number b e (λ resident q e.
@@ -91,9 +84,9 @@ at_most_was : (found greatest : ℕ) (limit : Which) → at_most found greatest 
 at_most_was found greatest limit e = leb-true found greatest (cond_none (nat_le found greatest) _ e)
 
 is_short : (before : List Item) (line : Item) → limit_fault before line ≡ None → IsShort line
-is_short before (item.TypeLine name words) e =
-    at_most_was (length words) 4096 which.Words
-    (option_or_was (at_most (length (type_names before) + 1) 64 which.Types) _ e)
+is_short before (Item.TypeLine name words) e =
+    at_most_was (length words) 4096 Which.Words
+    (option_or_was (at_most (length (type_names before) + 1) 64 Which.Types) _ e)
 is_short before line e = tt
 
 checked_again : (before : List Item) (line : Item) → is_twice before line ≡ false → limit_fault before line ≡ None

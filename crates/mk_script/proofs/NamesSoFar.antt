@@ -1,11 +1,8 @@
 -- What a set says of the names that it has.
-use Rattle.std.proofs.Common.{◌≡◌, ℕ, Bool, true, false, ◌||◌, List, ◌++◌, length, Ok, Err, Result, refl, sym, ap, ◌∙◌}
+use Rattle.std.proofs.{Common.Result, lemmas.List.Sorted.length_permutation, lemmas.List.Sorted.list_any-IsPermutation}
 use Rattle.std.specs.Result.{OnOk}
-use Rattle.std.specs.List.Sorted.{IsPermutation}
-use Rattle.std.specs.Str.{bytes_eq}
-use Rattle.std.proofs.lemmas.List.Folds.{list_any-append}
-use Rattle.std.proofs.lemmas.List.Sorted.{list_any-IsPermutation, length_permutation}
-use Rattle.mk_script.proofs.Vocabulary.{is_among}
+use Rattle.mk_script.proofs.Vocabulary.{Bool, Err, IsPermutation, List, Ok, ℕ, ap, bytes_eq, false, is_among, length}
+use Rattle.mk_script.proofs.Vocabulary.{list_any-append, refl, sym, true, ◌++◌, ◌||◌, ◌∙◌, ◌≡◌}
 
 pub among : (name : List ℕ) (names set : List (List ℕ)) → IsPermutation names set
     → is_among name set ≡ is_among name names

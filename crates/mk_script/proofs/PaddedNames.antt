@@ -1,9 +1,8 @@
 -- Names of one length that are padded with zeros are the same where all their bytes are.
-use Rattle.std.proofs.Common.{◌≡◌, ℕ, ◌-◌, ◌≤◌, Bool, true, false, List, ◌++◌, length, take, drop, replicate, refl, ap}
-use Rattle.std.proofs.Common.{sym, ◌∙◌, arith}
-use Rattle.std.specs.Str.{bytes_eq}
-use Rattle.std.proofs.lemmas.List.{take-append-drop, drop_at, drop-replicate}
-use Rattle.std.proofs.lemmas.Slice.Eq.{bytes_eq-Decides}
+use Rattle.std.proofs.Common.{drop_at, take-append-drop}
+use Rattle.std.proofs.{lemmas.List.drop-replicate, lemmas.Slice.Eq.bytes_eq-Decides}
+use Rattle.mk_script.proofs.Vocabulary.{Bool, List, ℕ, ap, bytes_eq, drop, false, length, refl, replicate, sym, take}
+use Rattle.mk_script.proofs.Vocabulary.{true, ◌++◌, ◌-◌, ◌∙◌, ◌≡◌, ◌≤◌}
 
 same_test : (r s : Bool) → (r ≡ true → s ≡ true) → (s ≡ true → r ≡ true) → r ≡ s
 same_test true true there back = refl

@@ -1,13 +1,11 @@
 -- What each line of a program of some text keeps, after the lines before it.
-use Rattle.std.proofs.Common.{◌≡◌, ℕ, ◌+◌, Bool, true, false, List, [], ◌∷◌, ◌++◌, length, refl, ap, sym, ◌∙◌, subst}
-use Rattle.std.proofs.Common.{append_assoc, Ok, Err, Option, Some, None, if◌then◌else◌, nat_le}
-use Rattle.std.specs.declared.result.Result.{Result}
-use Rattle.std.proofs.lemmas.List.{append-nil}
-use Rattle.mk_script.proofs.Vocabulary.{ends_rightly, go_on, has_none, has_script, is_twice, IsOfSomeText, Item}
-use Rattle.mk_script.proofs.Vocabulary.{items_behind, items_of_lines, line_of, LineFault, lines_of, open_blocks}
-use Rattle.mk_script.proofs.Vocabulary.{words_of_line, ◌>>=◌}
+use Rattle.mk_script.proofs.Vocabulary.{Bool, Err, IsOfSomeText, Item, LineFault, List, None, Ok, Option, Result, Some}
+use Rattle.mk_script.proofs.Vocabulary.{ℕ, ap, append-nil, append_assoc, ends_rightly, false, go_on, has_none}
+use Rattle.mk_script.proofs.Vocabulary.{has_script, if◌then◌else◌, is_twice, items_behind, items_of_lines, length}
+use Rattle.mk_script.proofs.Vocabulary.{line_of, lines_of, nat_le, open_blocks, refl, subst, sym, true, words_of_line}
+use Rattle.mk_script.proofs.Vocabulary.{[], ◌++◌, ◌+◌, ◌>>=◌, ◌∙◌, ◌∷◌, ◌≡◌}
+use Rattle.mk_script.specs.Lines.{checked_item, limit_fault, line_item, or_item}
 use Rattle.mk_script.specs.declared.faults.TextStop.{TextStop}
-use Rattle.mk_script.specs.Lines.{line_item, checked_item, or_item, limit_fault}
 
 -- A line after these: what its words say; it declares no name twice, passes no limit, and ends no block that isn't
 -- open.

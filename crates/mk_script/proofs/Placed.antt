@@ -1,19 +1,15 @@
 -- Lines in their places.
-use Rattle.std.proofs.Common.{◌≡◌, ◌≢◌, ℕ, suc, ◌<◌, leb, Bool, true, false, ◌&&◌, if◌then◌else◌, List, [], ◌∷◌, length}
-use Rattle.std.proofs.Common.{Some, Ok, Err, refl, sym, arith}
-use Rattle.std.proofs.lemmas.Bool.{le-leb}
-use Rattle.std.specs.declared.result.Result.{Result}
-use Rattle.std.proofs.Math.Bool.{and-false}
-use Rattle.mk_script.proofs.Vocabulary.{are_fields, fields_of, has_word_count, have_form, is_placed, Item, item_from}
-use Rattle.mk_script.proofs.Vocabulary.{Keyword, LineFault, name, ◌>>=◌}
-use Rattle.mk_script.specs.declared.items.Item.TheVariants as item
-use Rattle.mk_script.specs.declared.keywords.Keyword.TheVariants.{Heap, TypeLine, Global, Script, Ptr, Num, New, Free}
-use Rattle.mk_script.specs.declared.keywords.Keyword.TheVariants.{Getn, Setn, Getp, Setp, Casp, Lea, Move, Clear, Loadg}
-use Rattle.mk_script.specs.declared.keywords.Keyword.TheVariants.{Storeg, Same, Isnull, Show, Const, Add, Sub, Print}
-use Rattle.mk_script.specs.declared.keywords.Keyword.TheVariants.{Repeat, If, Else, End}
-use Rattle.mk_script.specs.declared.faults.LineFault.TheVariants.{Text}
-use Rattle.mk_script.specs.declared.faults.TextKind.TheVariants.{Word}
+use Rattle.std.proofs.{Common.leb, Math.Bool.and-false}
+use Rattle.mk_script.proofs.Vocabulary.{Bool, Err, Item, Keyword, LineFault, List, Ok, Result, Some, ℕ, are_fields}
+use Rattle.mk_script.proofs.Vocabulary.{arith, false, fields_of, has_word_count, have_form, if◌then◌else◌, is_placed}
+use Rattle.mk_script.proofs.Vocabulary.{item_from, le-leb, length, name, refl, suc, sym, true, [], ◌&&◌, ◌<◌, ◌>>=◌}
+use Rattle.mk_script.proofs.Vocabulary.{◌∷◌, ◌≡◌, ◌≢◌}
 use Rattle.mk_script.specs.Lines.{placed_item}
+use Rattle.mk_script.specs.declared.keywords.Keyword.TheVariants.{Add, Casp, Clear, Const, Else, End, Free, Getn, Getp}
+use Rattle.mk_script.specs.declared.keywords.Keyword.TheVariants.{Global, Heap, If, Isnull, Lea, Loadg, Move, New, Num}
+use Rattle.mk_script.specs.declared.keywords.Keyword.TheVariants.{Print, Ptr, Repeat, Same, Script, Setn, Setp, Show}
+use Rattle.mk_script.specs.declared.keywords.Keyword.TheVariants.{Storeg, Sub, TypeLine}
+use Rattle.mk_script.specs.{declared.faults.LineFault.TheVariants.Text, declared.faults.TextKind.TheVariants.Word}
 
 -- a line with a number of words that its form hasn't
 miscounted : (keyword : Keyword) (words : List (List ℕ)) → keyword ≢ TypeLine
@@ -91,6 +87,6 @@ placed_type before word fields some placed formed =
 
 -- what the name of a type's line says
 pub named_type : (word : List ℕ) (fields : List (List ℕ))
-    → item_from TypeLine (word ∷ fields) ≡ (name word >>= (λ t. Ok (item.TypeLine t (fields_of fields))))
+    → item_from TypeLine (word ∷ fields) ≡ (name word >>= (λ t. Ok (Item.TypeLine t (fields_of fields))))
 unfolding item_from
 named_type word fields = refl

@@ -1,24 +1,20 @@
 -- The fields of a type's line: what they say, they say again as they are printed.
-use Rattle.std.proofs.Common.{◌≡◌, ℕ, zero, suc, ◌+◌, ◌<◌, ◌^◌, Bool, true, false, nat_eq, nat_le, cond, List, [], ◌∷◌}
-use Rattle.std.proofs.Common.{◌++◌, length, replicate, refl, ap, ◌∙◌, sym, subst, arith, append_assoc, Option, Some}
-use Rattle.std.proofs.Common.{None, Ok, Err, inl, inr}
-use Rattle.std.specs.declared.result.Result.{Result}
-use Rattle.std.specs.Option.{is_some, option_map, option_and_then, unwrap_or}
-use Rattle.std.specs.Fmt.{decimal}
-use Rattle.std.specs.List.{All, list_all}
-use Rattle.std.proofs.lemmas.List.{replicate_more, length-append, length-replicate}
-use Rattle.std.proofs.lemmas.List.Elements.{All-nil, All-cons, All-head, All-tail, All-append, All-replicate}
-use Rattle.std.proofs.lemmas.Bool.{and_from, and_parts, eqb-true, le-leb, leb-true, cond-true, cases_cond, cond_both}
-use lib.Chars.{codes}
-use Rattle.mk_script.proofs.Vocabulary.{At, at, at_text, fields_behind, fields_of, LineFault, number_of_word}
-use Rattle.mk_script.specs.declared.items.TypeWord.{TypeWord}
-use Rattle.mk_script.specs.declared.items.TypeWord.TheVariants.{Number, Pointer}
-use Rattle.std.specs.Result.{result_ok}
-use Rattle.mk_script.specs.Operands.{numbers, number_field, pointer_field, field_of}
-use Rattle.mk_script.specs.Canonical.{numbers_text, numbers_before}
+use Rattle.std.proofs.lemmas.List.Elements.{All-append, All-cons, All-head, All-nil, All-replicate, All-tail}
+use Rattle.std.proofs.{Common.eqb-true, Common.inl, Common.inr, Common.leb-true, lemmas.Bool.cases_cond}
+use Rattle.std.proofs.{lemmas.Bool.cond_both, lemmas.List.length-replicate, lemmas.List.replicate_more}
+use Rattle.std.specs.Option.{is_some, option_and_then, option_map, unwrap_or}
+use Rattle.std.specs.{List.All, Result.result_ok}
+use Rattle.mk_script.proofs.Vocabulary.{At, Bool, Err, LineFault, List, None, Ok, Option, Result, Some, ℕ, and_from}
+use Rattle.mk_script.proofs.Vocabulary.{and_parts, ap, append_assoc, arith, at, at_text, codes, cond, cond-true}
+use Rattle.mk_script.proofs.Vocabulary.{decimal, false, fields_behind, fields_of, le-leb, length, length-append}
+use Rattle.mk_script.proofs.Vocabulary.{list_all, nat_eq, nat_le, number_of_word, refl, replicate, subst, suc, sym}
+use Rattle.mk_script.proofs.Vocabulary.{true, zero, [], ◌++◌, ◌+◌, ◌<◌, ◌^◌, ◌∙◌, ◌∷◌, ◌≡◌}
+use Rattle.mk_script.proofs.LineWords.{AreWords, is_solid-decimal, is_word, is_word-append}
+use Rattle.mk_script.proofs.Said.{IsPlace, at_again, at_was, is_solid-at}
 use Rattle.mk_script.proofs.PrintedNumbers.{number_of_word-decimal}
-use Rattle.mk_script.proofs.LineWords.{is_word, is_solid-decimal, is_word-append, AreWords}
-use Rattle.mk_script.proofs.Said.{IsPlace, at_was, at_again, is_solid-at}
+use Rattle.mk_script.specs.Operands.{field_of, number_field, numbers, pointer_field}
+use Rattle.mk_script.specs.declared.items.TypeWord.TheVariants.{Number, Pointer}
+use Rattle.mk_script.specs.{Canonical.numbers_before, Canonical.numbers_text, declared.items.TypeWord.TypeWord}
 
 -- a word of a type whose place is one
 abbrev pub IsTypeWord : TypeWord → Type 0

@@ -1,23 +1,17 @@
 -- The item that a line's operands say, its own words say again.
-use Rattle.std.proofs.Common.{◌≡◌, ℕ, ◌<◌, ◌≤◌, ◌^◌, true, List, [], ◌∷◌, length, refl, ap, sym, subst, arith, Some, Ok}
-use Rattle.std.proofs.Common.{Err}
-use Rattle.std.specs.declared.result.Result.{Result}
-use Rattle.std.specs.Fmt.{decimal}
-use Rattle.std.proofs.lemmas.Bool.{le-leb}
-use lib.Chars.{codes}
-use Rattle.mk_script.proofs.Vocabulary.{At, at, at_text, fields_behind, fields_of, has_word_count, have_form, Item}
-use Rattle.mk_script.proofs.Vocabulary.{item_from, Keyword, keyword_of, LineFault, name, words_of_item, ◌>>=◌}
-use Rattle.mk_script.specs.declared.items.Item.TheVariants as item
-use Rattle.mk_script.specs.declared.keywords.Keyword.TheVariants.{Heap, TypeLine, Global, Script, Ptr, Num, New, Free}
-use Rattle.mk_script.specs.declared.keywords.Keyword.TheVariants.{Getn, Setn, Getp, Setp, Casp, Lea, Move, Clear, Loadg}
-use Rattle.mk_script.specs.declared.keywords.Keyword.TheVariants.{Storeg, Same, Isnull, Show, Const, Add, Sub, Print}
-use Rattle.mk_script.specs.declared.keywords.Keyword.TheVariants.{Repeat, If, Else, End}
-use Rattle.mk_script.specs.Names.{is_name}
-use Rattle.mk_script.specs.Operands.{number}
-use Rattle.mk_script.proofs.LineWords.{AreWords, is_word-decimal}
-use Rattle.mk_script.proofs.Said.{IsPlace, then_again, name_again, number_again, at_again, is_word-name, is_word-at}
-use Rattle.mk_script.proofs.Said.{with_name, with_number, with_at, is_this}
+use Rattle.mk_script.proofs.Vocabulary.{At, Err, Item, Keyword, LineFault, List, Ok, Result, Some, ℕ, ap, arith, at}
+use Rattle.mk_script.proofs.Vocabulary.{at_text, codes, decimal, fields_behind, fields_of, has_word_count, have_form}
+use Rattle.mk_script.proofs.Vocabulary.{item_from, keyword_of, le-leb, length, name, refl, subst, sym, true}
+use Rattle.mk_script.proofs.Vocabulary.{words_of_item, [], ◌<◌, ◌>>=◌, ◌^◌, ◌∷◌, ◌≡◌, ◌≤◌}
 use Rattle.mk_script.proofs.PrintedFields.{fields_again, fields_behind_some, fields_were, fields_were_some}
+use Rattle.mk_script.proofs.Said.{IsPlace, at_again, is_this, is_word-at, is_word-name, name_again, number_again}
+use Rattle.mk_script.proofs.Said.{then_again, with_at, with_name, with_number}
+use Rattle.mk_script.proofs.LineWords.{AreWords, is_word-decimal}
+use Rattle.mk_script.specs.declared.keywords.Keyword.TheVariants.{Add, Casp, Clear, Const, Else, End, Free, Getn, Getp}
+use Rattle.mk_script.specs.declared.keywords.Keyword.TheVariants.{Global, Heap, If, Isnull, Lea, Loadg, Move, New, Num}
+use Rattle.mk_script.specs.declared.keywords.Keyword.TheVariants.{Print, Ptr, Repeat, Same, Script, Setn, Setp, Show}
+use Rattle.mk_script.specs.declared.keywords.Keyword.TheVariants.{Storeg, Sub, TypeLine}
+use Rattle.mk_script.specs.{Names.is_name, Operands.number}
 
 -- its words are those of a line of the form, and say it
 pub record Printed (form : Keyword) (item : Item) : Type 0 where
@@ -34,17 +28,16 @@ printed : {form : Keyword} {item : Item} (word : List ℕ) (operands : List (Lis
     → words_of_item item ≡ word ∷ operands → keyword_of word ≡ Some form → has_word_count form (length operands) ≡ true
     → have_form form operands ≡ true → item_from form operands ≡ Ok item → AreWords (word ∷ operands)
     → Printed form item
-printed word operands words keyword count formed reads apart =
-    record {
-      word = word;
-      operands = operands;
-      words = words;
-      keyword = keyword;
-      count = count;
-      formed = formed;
-      reads = reads;
-      apart = apart;
-    }
+printed word operands words keyword count formed reads apart = record {
+  word = word;
+  operands = operands;
+  words = words;
+  keyword = keyword;
+  count = count;
+  formed = formed;
+  reads = reads;
+  apart = apart;
+}
 
 pub read_name : {A : Type 0} (n : List ℕ) → is_name n ≡ true
     → (f : List ℕ → Result A LineFault) {y : Result A LineFault} → f n ≡ y → (name n >>= f) ≡ y
@@ -60,7 +53,7 @@ read_at a p f {y} e = then_again (at (at_text a)) f a y (at_again a p) e
 
 -- a type has at most 4096 words
 abbrev pub IsShort : Item → Type 0
-IsShort (item.TypeLine name words) = length words ≤ 4096
+IsShort (Item.TypeLine name words) = length words ≤ 4096
 IsShort item = Unit {0}
 
 pub no_item : {A P : Type 0} {fault : LineFault} {x : A} → ◌≡◌ {A = Result A LineFault} (Err fault) (Ok x) → P
@@ -74,14 +67,14 @@ said TypeLine (t ∷ []) line short count form e = absurd cc
 said TypeLine (t ∷ field ∷ fields) line short count form e =
     with_name t e (λ n p e.
     let words = fields_of (field ∷ fields) in
-    let same : item.TypeLine n words ≡ line = cc in
+    let same : Item.TypeLine n words ≡ line = cc in
     let few : length words ≤ 4096 = subst IsShort (sym same) short in
     let again = fields_again words 0 (fields_were (field ∷ fields) form) (omega arith) in
     let some : 0 < length (fields_behind words 0) =
     fields_behind_some words 0 (omega (arith, fields_were_some field fields form)) in
     subst (Printed TypeLine) same
     (printed (codes "type") (n ∷ fields_behind words 0) refl refl (le-leb _ _ (omega arith)) again.each
-    (read_name n p _ (ap (λ ws. Ok (item.TypeLine n ws)) again.say)) (refl, (is_word-name n p, again.apart))))
+    (read_name n p _ (ap (λ ws. Ok (Item.TypeLine n ws)) again.say)) (refl, (is_word-name n p, again.apart))))
 said Heap (a ∷ b ∷ []) line short count form e =
     with_number a e (λ v p e. with_number b e (λ w q e.
     is_this e (Printed Heap)

@@ -1,13 +1,10 @@
 -- A number's digits say the number.
-use Rattle.std.proofs.Common.{◌≡◌, ℕ, zero, suc, ◌<◌, ◌^◌, true, ◌||◌, not, nat_eq, List, length, get_or, ap, ◌∙◌}
-use Rattle.std.proofs.Common.{arith, rules, Some}
-use Rattle.std.specs.Fmt.{decimal}
-use Rattle.std.specs.Str.{all_ascii_digits}
-use Rattle.std.proofs.lemmas.Fmt.{digits_decimal, digits_value-decimal, decimal_nonempty, first_decimal, decimal_digit}
+use Rattle.std.proofs.lemmas.Fmt.{decimal_digit, decimal_nonempty, digits_decimal, digits_value-decimal, first_decimal}
 use Rattle.std.proofs.lemmas.Str.Parse.{IsNumeralModel, numerals_by_fold}
-use Rattle.std.proofs.lemmas.Grind.{common_steps}
-use Rattle.std.proofs.lemmas.Bool.{and_from, or_right, lt-ltb, not_from_false, ne_eqb, cond-true}
-use Rattle.mk_script.proofs.Vocabulary.{number_of_word, value_from}
+use Rattle.std.proofs.{Common.ne_eqb, lemmas.Bool.not_from_false, lemmas.Bool.or_right, lemmas.Grind.common_steps}
+use Rattle.mk_script.proofs.Vocabulary.{List, Some, ℕ, all_ascii_digits, and_from, ap, arith, cond-true, decimal}
+use Rattle.mk_script.proofs.Vocabulary.{get_or, length, lt-ltb, nat_eq, not, number_of_word, rules, suc, true}
+use Rattle.mk_script.proofs.Vocabulary.{value_from, zero, ◌<◌, ◌^◌, ◌||◌, ◌∙◌, ◌≡◌}
 use Rattle.mk_script.specs.Names.{is_numeral}
 
 own : IsNumeralModel (λ ds. all_ascii_digits ds ≡ true) (value_from 0)

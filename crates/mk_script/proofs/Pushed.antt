@@ -1,13 +1,12 @@
 -- What lines say, with one line more.
-use Rattle.std.proofs.Common.{◌≡◌, ℕ, ◌-◌, ◌<◌, ◌+◌, if◌then◌else◌, List, [], ◌∷◌, ◌++◌, length, get_or, set, take}
-use Rattle.std.proofs.Common.{reverse, refl, ap, sym, ◌∙◌, arith}
-use Rattle.std.proofs.lemmas.List.{reverse-append, take_all, take_more, length-append}
-use Rattle.std.proofs.lemmas.List.Sums.{fold-append}
-use Rattle.std.proofs.Math.Seq.{set-append_seam}
-use Rattle.mk_script.proofs.Vocabulary.{global_names, is_script, Item, number_names, open_behind, open_blocks}
-use Rattle.mk_script.proofs.Vocabulary.{pointer_names, script_names, this_script, type_names}
-use Rattle.mk_script.specs.declared.items.Item.TheVariants.{TypeLine, Global, Script, Ptr, Num}
-use Rattle.mk_script.specs.Scopes.{OpenBlock, InSecond, behind_else}
+use Rattle.std.proofs.lemmas.List.{reverse-append, take_more}
+use Rattle.std.proofs.{Common.set, Math.Seq.set-append_seam, lemmas.List.Sums.fold-append}
+use Rattle.mk_script.proofs.Vocabulary.{Item, List, ℕ, ap, arith, get_or, global_names, if◌then◌else◌, is_script}
+use Rattle.mk_script.proofs.Vocabulary.{length, length-append, number_names, open_behind, open_blocks, pointer_names}
+use Rattle.mk_script.proofs.Vocabulary.{refl, reverse, script_names, sym, take, take_all, this_script, type_names, []}
+use Rattle.mk_script.proofs.Vocabulary.{◌++◌, ◌+◌, ◌-◌, ◌<◌, ◌∙◌, ◌∷◌, ◌≡◌}
+use Rattle.mk_script.specs.declared.items.Item.TheVariants.{Global, Num, Ptr, Script, TypeLine}
+use Rattle.mk_script.specs.Scopes.{InSecond, OpenBlock, behind_else}
 
 pub type_names-push : (before : List Item) (item : Item)
     → type_names (before ++ item ∷ []) ≡ type_names before ++ type_names (item ∷ [])

@@ -1,11 +1,8 @@
 -- The names of a set, and another that is put to them.
-use Rattle.std.proofs.Common.{◌≡◌, ℕ, Bool, true, false, not, ◌||◌, List, [], ◌∷◌, ◌++◌, map, refl, ap, sym, ◌∙◌}
+use Rattle.std.proofs.lemmas.List.Sorted.{IsPermutation-map, IsPermutation-to_front, IsPermutation-trans}
 use Rattle.std.specs.Bool.{MatchBool}
-use Rattle.std.specs.List.{list_any}
-use Rattle.std.specs.List.Sorted.{IsPermutation}
-use Rattle.std.specs.Str.{bytes_eq}
-use Rattle.std.proofs.lemmas.List.Sorted.{IsPermutation-trans, IsPermutation-to_front, IsPermutation-map}
-use Rattle.mk_script.proofs.Vocabulary.{is_among}
+use Rattle.mk_script.proofs.Vocabulary.{Bool, IsPermutation, List, ℕ, ap, bytes_eq, false, is_among, list_any, map, not}
+use Rattle.mk_script.proofs.Vocabulary.{refl, sym, true, [], ◌++◌, ◌||◌, ◌∙◌, ◌∷◌, ◌≡◌}
 
 pub list_any-map : {A B : Type 0} (p : B → Bool) (f : A → B) (xs : List A)
     → list_any p (map f xs) ≡ list_any (λ x. p (f x)) xs

@@ -1,18 +1,13 @@
 -- Lines, one after the others.
-use Rattle.std.proofs.Common.{◌≡◌, ◌≢◌, ◌<◌, ◌+◌, ℕ, List, [], ◌∷◌, ◌++◌, length}
-use Rattle.std.proofs.Common.{get_or, drop, Bor, Ok, Err, Result, refl, ap, sym, ◌∙◌, arith}
-use Rattle.std.specs.Result.{IfOk, IfErr, MatchResult}
-use Rattle.std.proofs.lemmas.List.{length-map, at_drop_more}
-use Rattle.mk_script.proofs.Vocabulary.{go_on, Item, items_behind, items_of_lines, line_of, texts_of, words_of_line}
-use Rattle.mk_script.specs.declared.scope.Scope.{Scope}
-use Rattle.mk_script.specs.declared.faults.TextKind.TheVariants as kind
-use Rattle.mk_script.specs.declared.faults.LineStop.{LineStop}
+use Rattle.std.proofs.{Common.Bor, Common.Result, lemmas.List.at_drop_more}
+use Rattle.std.specs.Result.{IfErr, IfOk, MatchResult}
+use Rattle.mk_script.proofs.Vocabulary.{Err, Item, List, Ok, ℕ, ap, arith, drop, get_or, go_on, items_behind}
+use Rattle.mk_script.proofs.Vocabulary.{items_of_lines, length, length-map, line_of, refl, sym, texts_of, words_of_line}
+use Rattle.mk_script.proofs.Vocabulary.{[], ◌++◌, ◌+◌, ◌<◌, ◌∙◌, ◌∷◌, ◌≡◌, ◌≢◌}
+use Rattle.mk_script.specs.ScopeOf.{IsStopOfLine, ReadsLine}
 use Rattle.mk_script.specs.declared.faults.LineStop.TheVariants.{Fault, NoMemory}
-use Rattle.mk_script.specs.declared.faults.TextStop.{TextStop}
-use Rattle.mk_script.specs.declared.faults.TextStop.TheVariants as stop
-use Rattle.mk_script.specs.Grammar.{fault_at}
-use Rattle.mk_script.specs.ScopeOf.{ReadsLine, IsStopOfLine}
-use Rattle.mk_script.specs.Stops.{stop_at}
+use Rattle.mk_script.specs.{Grammar.fault_at, Stops.stop_at, declared.faults.LineStop.LineStop}
+use Rattle.mk_script.specs.{declared.faults.TextStop.TextStop, declared.scope.Scope.Scope}
 
 -- what a text is read as whose next line has an item, or hasn't
 pub goes_on : (before : List Item) (line : List ℕ) (lines : List (List ℕ)) (item : Item)
@@ -22,7 +17,7 @@ goes_on before line lines item is =
     ap (λ read. go_on (length before + 1) read (λ item'. items_behind lines (before ++ item' ∷ []))) is
 
 pub stops : (before : List Item) (line : List ℕ) (lines : List (List ℕ)) (number : ℕ) (found : LineStop)
-    → number ≡ length before + 1 → IsStopOfLine before (words_of_line line) found → stop_at number found ≢ stop.NoMemory
+    → number ≡ length before + 1 → IsStopOfLine before (words_of_line line) found → stop_at number found ≢ TextStop.NoMemory
     → items_behind (line ∷ lines) before ≡ Err (stop_at number found)
 stops before line lines number (Fault fault) counts is memory =
     ap (λ read. go_on (length before + 1) read (λ item. items_behind lines (before ++ item ∷ []))) is
@@ -50,7 +45,7 @@ step lines i before items scope d inside read =
 
 pub stops_at : (lines : List (Bor (List ℕ))) (i : ℕ) (before : List Item) (d : Bor (List ℕ)) (found : LineStop)
     → i < length lines → length before ≡ i
-    → IsStopOfLine before (words_of_line (get_or lines i d).now) found → stop_at (i + 1) found ≢ stop.NoMemory
+    → IsStopOfLine before (words_of_line (get_or lines i d).now) found → stop_at (i + 1) found ≢ TextStop.NoMemory
     → items_behind (texts_of (drop i lines)) before ≡ Err (stop_at (i + 1) found)
 stops_at lines i before d found inside counts is memory =
     at_line lines i before d inside
@@ -72,6 +67,6 @@ ended_well view (Err stop) expected found is ended = tt
 pub ended_badly : {A : Type 0} (view : A
     → List Item) (result : Result A TextStop) (expected found : Result (List Item) TextStop) → expected ≡ found
     → MatchResult result (λ kept. found ≡ Ok (view kept)) (λ stop. found ≡ Err stop)
-    → IfErr result (λ found_stop. found_stop ≢ stop.NoMemory → expected ≡ Err found_stop)
+    → IfErr result (λ found_stop. found_stop ≢ TextStop.NoMemory → expected ≡ Err found_stop)
 ended_badly view (Ok kept) expected found is ended = tt
 ended_badly view (Err stop) expected found is ended = λ memory. is ∙ ended

@@ -1,24 +1,17 @@
 -- What operands say, they say again as they are printed.
-use Rattle.std.proofs.Common.{ok_or, ◌≡◌, ℕ, zero, suc, ◌+◌, ◌<◌, ◌^◌, Bool, true, false, nat_eq, cond, List, [], ◌∷◌}
-use Rattle.std.proofs.Common.{◌++◌, length, refl, ap, ◌∙◌, sym, subst, arith, one-add, Option, Some, None, Ok, Err}
-use Rattle.std.proofs.Common.{take, drop, inl, inr}
-use Rattle.std.specs.declared.result.Result.{Result}
-use Rattle.std.specs.Fmt.{decimal}
-use Rattle.std.specs.List.{list_any, list_all, before_first, after_first, position_or_len}
-use Rattle.std.proofs.lemmas.List.{take_at, drop_at, drop-drop}
-use Rattle.std.proofs.lemmas.List.Folds.{list_any-append}
-use Rattle.std.proofs.lemmas.Bool.Decides.{nat_tests}
-use Rattle.std.proofs.lemmas.Bool.{and_from, and_parts, or_from, or_right, not_from_false, ne_eqb, cond-true}
-use Rattle.std.proofs.lemmas.Bool.{cond-false, cases_cond, cond_both}
-use lib.Chars.{codes}
-use Rattle.mk_script.proofs.Vocabulary.{At, at, at_text, LineFault, name, number_of_word, ◌>>=◌}
-use Rattle.mk_script.specs.declared.faults.LineFault.TheVariants.{Text}
-use Rattle.mk_script.specs.declared.faults.TextKind.TheVariants as kind
-use Rattle.mk_script.specs.Names.{is_name, is_name_byte, name_of}
-use Rattle.mk_script.specs.Operands.{number, is_plus}
-use Rattle.mk_script.proofs.PrintedNumbers.{number_of_word-decimal, number_of_word-below}
-use Rattle.mk_script.proofs.LineWords.{is_solid, is_word, is_solid-names, is_solid-decimal, is_solid-append}
+use Rattle.std.proofs.Common.{drop-drop, drop_at, inl, inr, ne_eqb, ok_or, one-add, take_at}
+use Rattle.std.proofs.lemmas.Bool.{cases_cond, cond-false, cond_both, not_from_false, or_from, or_right}
+use Rattle.std.specs.List.{after_first, before_first, position_or_len}
+use Rattle.mk_script.proofs.Vocabulary.{At, Bool, Err, LineFault, List, None, Ok, Option, Result, Some, ℕ, and_from}
+use Rattle.mk_script.proofs.Vocabulary.{and_parts, ap, arith, at, at_text, codes, cond, cond-true, decimal, drop, false}
+use Rattle.mk_script.proofs.Vocabulary.{length, list_all, list_any, list_any-append, name, nat_eq, nat_tests}
+use Rattle.mk_script.proofs.Vocabulary.{number_of_word, refl, subst, suc, sym, take, true, zero, [], ◌++◌, ◌+◌, ◌<◌}
+use Rattle.mk_script.proofs.Vocabulary.{◌>>=◌, ◌^◌, ◌∙◌, ◌∷◌, ◌≡◌}
+use Rattle.mk_script.proofs.LineWords.{is_solid, is_solid-append, is_solid-decimal, is_solid-names, is_word}
 use Rattle.mk_script.proofs.LineWords.{is_word-append}
+use Rattle.mk_script.proofs.PrintedNumbers.{number_of_word-below, number_of_word-decimal}
+use Rattle.mk_script.specs.{Names.is_name, Names.is_name_byte, Names.name_of, Operands.is_plus, Operands.number}
+use Rattle.mk_script.specs.{declared.faults.LineFault.TheVariants.Text, declared.faults.TextKind.TextKind}
 
 -- a step that went well, and what comes of it
 
@@ -38,14 +31,14 @@ ok_or_was fault (Some y) x e = cc
 -- names
 
 pub name_again : (n : List ℕ) → is_name n ≡ true → name n ≡ Ok n
-name_again n h = ap (λ o. ok_or o (Text kind.Name)) (cond-true _ _ _ h)
+name_again n h = ap (λ o. ok_or o (Text TextKind.Name)) (cond-true _ _ _ h)
 
 name_of_is : (w n : List ℕ) (b : Bool) → is_name w ≡ b → cond b (Some w) None ≡ Some n → is_name n ≡ true
 name_of_is w n true h e = let same : w ≡ n = cc in subst (λ t. is_name t ≡ true) same h
 name_of_is w n false h e = absurd cc
 
 pub name_was : (w n : List ℕ) → name w ≡ Ok n → is_name n ≡ true
-name_was w n e = name_of_is w n (is_name w) refl (ok_or_was (Text kind.Name) (name_of w) n e)
+name_was w n e = name_of_is w n (is_name w) refl (ok_or_was (Text TextKind.Name) (name_of w) n e)
 
 name_bytes : (n : List ℕ) → is_name n ≡ true → list_all is_name_byte n ≡ true
 name_bytes n h = (and_parts _ _ h).1
@@ -59,10 +52,10 @@ is_word-name n h = and_from _ _ (and_parts _ _ (and_parts _ _ (and_parts _ _ h).
 -- numbers
 
 pub number_again : (n : ℕ) → n < 2 ^ 64 → number (decimal n) ≡ Ok n
-number_again n small = ap (λ o. ok_or o (Text kind.Number)) (number_of_word-decimal n small)
+number_again n small = ap (λ o. ok_or o (Text TextKind.Number)) (number_of_word-decimal n small)
 
 pub number_was : (w : List ℕ) (n : ℕ) → number w ≡ Ok n → n < 2 ^ 64
-number_was w n e = number_of_word-below w n (ok_or_was (Text kind.Number) (number_of_word w) n e)
+number_was w n e = number_of_word-below w n (ok_or_was (Text TextKind.Number) (number_of_word w) n e)
 
 -- places of types
 

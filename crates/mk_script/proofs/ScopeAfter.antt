@@ -1,19 +1,14 @@
 -- The scope after one line more, by the line's kind.
-use Rattle.std.proofs.Common.{◌≡◌, ℕ, Bool, true, false, ◌||◌, List, [], ◌∷◌, ◌++◌, reverse, refl, ap, sym, ◌∙◌}
-use Rattle.std.specs.List.{list_any}
-use Rattle.std.specs.List.Sorted.{IsPermutation}
-use Rattle.std.proofs.lemmas.List.{append-nil}
-use Rattle.std.proofs.lemmas.List.Folds.{list_any-append}
-use Rattle.std.proofs.lemmas.List.Sorted.{IsPermutation-refl, IsPermutation-trans, IsPermutation-append_left}
-use Rattle.mk_script.proofs.Vocabulary.{At, global_names, has_script, is_script, Item, number_names, open_behind}
-use Rattle.mk_script.proofs.Vocabulary.{pointer_names, script_names, this_script, type_names}
-use Rattle.mk_script.specs.declared.items.TypeWord.{TypeWord}
-use Rattle.mk_script.specs.declared.items.Item.TheVariants.{Heap, TypeLine, Global, Script, Ptr, Num}
-use Rattle.mk_script.specs.declared.scope.Scope.{Scope}
+use Rattle.std.proofs.lemmas.List.Sorted.{IsPermutation-append_left, IsPermutation-refl, IsPermutation-trans}
+use Rattle.mk_script.proofs.Vocabulary.{At, Bool, IsPermutation, Item, List, ℕ, ap, append-nil, false, global_names}
+use Rattle.mk_script.proofs.Vocabulary.{has_script, is_script, list_any, list_any-append, number_names, open_behind}
+use Rattle.mk_script.proofs.Vocabulary.{pointer_names, refl, reverse, script_names, sym, this_script, true, type_names}
+use Rattle.mk_script.proofs.Vocabulary.{[], ◌++◌, ◌||◌, ◌∙◌, ◌∷◌, ◌≡◌}
+use Rattle.mk_script.proofs.Pushed.{global_names-push, number_names-push, open_blocks-push, pointer_names-push}
+use Rattle.mk_script.proofs.Pushed.{script_names-push, this_script-push, type_names-push}
 use Rattle.mk_script.specs.ScopeOf.{IsScopeOf, has_lines}
-use Rattle.mk_script.specs.Scopes.{is_instruction}
-use Rattle.mk_script.proofs.Pushed.{type_names-push, global_names-push, script_names-push, pointer_names-push}
-use Rattle.mk_script.proofs.Pushed.{number_names-push, this_script-push, open_blocks-push}
+use Rattle.mk_script.specs.declared.items.Item.TheVariants.{Global, Heap, Num, Ptr, Script, TypeLine}
+use Rattle.mk_script.specs.{Scopes.is_instruction, declared.items.TypeWord.TypeWord, declared.scope.Scope.Scope}
 
 has_lines-push : (before : List Item) (item : Item) → true ≡ has_lines (before ++ item ∷ [])
 has_lines-push [] item = refl

@@ -1,11 +1,9 @@
 -- Words with a space before each, and lines of them.
-use Rattle.std.proofs.Common.{◌≡◌, ℕ, zero, suc, ◌+◌, ◌<◌, List, [], ◌∷◌, ◌++◌, length, get_or, drop, add-one}
-use Rattle.std.proofs.Common.{drop-cons, refl, ap, ◌∙◌, sym, append_assoc, IfOk, Ok, Err}
-use Rattle.std.specs.declared.result.Result.{Result}
-use Rattle.std.proofs.lemmas.List.{append-nil}
-use lib.Chars.{codes}
-use Rattle.mk_script.proofs.Vocabulary.{At, at_text, joined_words, spaced_words}
-use Rattle.mk_script.specs.Canonical.{numbers_before, line_text}
+use Rattle.std.proofs.Common.{IfOk, add-one, drop-cons}
+use Rattle.mk_script.proofs.Vocabulary.{At, Err, List, Ok, Result, ℕ, ap, append-nil, append_assoc, at_text, codes}
+use Rattle.mk_script.proofs.Vocabulary.{drop, get_or, joined_words, length, refl, spaced_words, suc, sym, zero, []}
+use Rattle.mk_script.proofs.Vocabulary.{◌++◌, ◌+◌, ◌<◌, ◌∙◌, ◌∷◌, ◌≡◌}
+use Rattle.mk_script.specs.Canonical.{line_text, numbers_before}
 
 pub spaced_words-append : (xs ys : List (List ℕ)) → spaced_words (xs ++ ys) ≡ spaced_words xs ++ spaced_words ys
 spaced_words-append [] ys = refl

@@ -1,4 +1,18 @@
 -- Words of the definitions, for what is proved of them: a proof imports them from here.
+pub use Rattle.std.proofs.Common.{Bool, Err, List, None, Ok, Option, Some, ℕ, ap, append-nil, append_assoc, arith}
+pub use Rattle.std.proofs.Common.{codes, cond, drop, false, filter, get_or, if◌then◌else◌, le-leb, length}
+pub use Rattle.std.proofs.Common.{length-append, lt-ltb, map, nat_eq, nat_le, not, refl, replicate, reverse, rules}
+pub use Rattle.std.proofs.Common.{subst, suc, sym, take, take_all, true, zero, [], ◌&&◌, ◌++◌, ◌+◌, ◌-◌, ◌<◌, ◌==◌, ◌^◌}
+pub use Rattle.std.proofs.Common.{◌||◌, ◌∙◌, ◌∷◌, ◌≡◌, ◌≢◌, ◌≤◌}
+pub use Rattle.std.proofs.lemmas.Bool.{and_from, and_parts, cond-true}
+pub use Rattle.std.proofs.lemmas.Bool.Decides.{nat_tests}
+pub use Rattle.std.proofs.lemmas.List.{length-map}
+pub use Rattle.std.proofs.lemmas.List.Folds.{list_any-append}
+pub use Rattle.std.specs.Fmt.{decimal}
+pub use Rattle.std.specs.List.{list_all, list_any}
+pub use Rattle.std.specs.List.Sorted.{IsPermutation}
+pub use Rattle.std.specs.Str.{all_ascii_digits, bytes_eq}
+pub use Rattle.std.specs.declared.result.Result.{Result}
 pub use Rattle.mk_script.specs.Canonical.{at_text, canonical_text, fields_behind, words_of_item}
 pub use Rattle.mk_script.specs.Grammar.{IsOfSomeText, at_end, go_on, items_behind, items_of_lines}
 pub use Rattle.mk_script.specs.Keywords.{has_word_count, keyword_of}

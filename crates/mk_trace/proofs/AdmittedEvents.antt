@@ -1,30 +1,22 @@
 -- The operations of an event are admitted where all registers are null, and leave them so.
-use Rattle.std.proofs.Common.{◌≡◌, ◌≢◌, ℕ, zero, suc, ◌+◌, ◌-◌, ◌*◌, ◌<◌, ◌≤◌, Bool, true, false, List, [], ◌∷◌, length}
-use Rattle.std.proofs.Common.{get_or, set, replicate, refl, sym, ◌∙◌, ap, subst, arith}
-use Rattle.std.specs.Prelude.{IfSome, slice_get, Some, Option}
-use Rattle.std.specs.List.{range_with_len}
-use Rattle.std.proofs.lemmas.List.{get_or-set_other, get_or-set_same, length-replicate}
-use Rattle.std.proofs.lemmas.Option.{slice_get-get_or}
-use Rattle.std.proofs.lemmas.List.Elements.{All-get_or}
+use Rattle.std.proofs.Common.{IfSome, set, slice_get}
 use Rattle.std.proofs.lemmas.List.FromFn.{get_or-range_with_len, length-range_with_len}
+use Rattle.std.proofs.{lemmas.List.Elements.All-get_or, lemmas.Option.slice_get-get_or}
 use Rattle.mk_trace.proofs.Vocabulary.{A, AreAdmitted, C, Config, Contents, Event, F, IsAdmitted, IsBetween, IsEventOf}
 use Rattle.mk_trace.proofs.Vocabulary.{IsHistory, IsPlayable, IsSound, K, Kind, NeverState, Null, Num, Op, Ptr, To}
 use Rattle.mk_trace.proofs.Vocabulary.{TraceEvent, Value, W, after_calls, after_free, allocation_at, asked, calls}
-use Rattle.mk_trace.proofs.Vocabulary.{calls_of_caller, config_of, global_at, kinds_of, never_behind, never_first}
-use Rattle.mk_trace.proofs.Vocabulary.{ops_of, register_at, types_from}
-use Rattle.mk_never.specs.declared.types.Kind.TheVariants.{Num as NumKind}
-use Rattle.mk_never.specs.declared.operations.Op.TheVariants.{New, Free, SetNum, SetPtr, Clear, GetGlobal, SetGlobal}
-use Rattle.mk_never.specs.NeverHeap.{words_of, target_of, after_op}
-use Rattle.mk_never.specs.Admitted.{AccessIsAdmitted, OperandsAreInRange, StoreIsAdmitted, IsCaller, Meets, IsNumber}
-use Rattle.mk_never.specs.Admitted.{IsPointer, IsOfKind, IsBase}
-use Rattle.mk_never.specs.Typed.{IsTypedAllocation, IsTyped}
-use Rattle.mk_never.proofs.Edits.{left_at_by}
-use Rattle.mk_never.proofs.Fresh.{new_adds}
-use Rattle.mk_never.proofs.Later.{op_stays, calls_stay}
-use Rattle.mk_never.proofs.TypedCalls.{op_keeps, stays_typed}
-use Rattle.mk_trace.specs.Calls.{EventsAreAdmitted}
-use Rattle.mk_trace.specs.Playing.{slot_type}
-use Rattle.mk_trace.proofs.SlotTypes.{length-types_from}
+use Rattle.mk_trace.proofs.Vocabulary.{calls_of_caller, config_of, global_at, kinds_of, length-replicate, never_behind}
+use Rattle.mk_trace.proofs.Vocabulary.{never_first, ops_of, range_with_len, register_at, replicate, types_from}
+use Rattle.mk_laws.proofs.Vocabulary.{AccessIsAdmitted, Bool, IsNumber, IsPointer, IsTyped, IsTypedAllocation, List}
+use Rattle.mk_laws.proofs.Vocabulary.{Meets, Number as NumKind, Option, Some, ℕ, ap, arith, false, get_or}
+use Rattle.mk_laws.proofs.Vocabulary.{get_or-set_other, get_or-set_same, length, refl, subst, suc, sym, target_of, true}
+use Rattle.mk_laws.proofs.Vocabulary.{words_of, zero, [], ◌*◌, ◌+◌, ◌-◌, ◌<◌, ◌∙◌, ◌∷◌, ◌≡◌, ◌≢◌, ◌≤◌}
+use Rattle.mk_never.proofs.Later.{calls_stay, op_stays}
+use Rattle.mk_never.proofs.{Edits.left_at_by, Fresh.new_adds, TypedCalls.op_keeps, TypedCalls.stays_typed}
+use Rattle.mk_never.specs.Admitted.{IsBase, IsCaller, IsOfKind, OperandsAreInRange, StoreIsAdmitted}
+use Rattle.mk_never.specs.declared.operations.Op.TheVariants.{Clear, Free, GetGlobal, New, SetGlobal, SetNum, SetPtr}
+use Rattle.mk_never.specs.NeverHeap.{after_op}
+use Rattle.mk_trace.{proofs.SlotTypes.length-types_from, specs.Calls.EventsAreAdmitted, specs.Playing.slot_type}
 
 -- The kinds of a slot's objects.
 
@@ -183,9 +175,8 @@ module _ (slots : List ℕ) where
     link_admitted : (n : NeverState) → 1 ≤ get_or slots slot 0 → Stands n → Points n 0 → Points n 1
         → IsAdmitted listed n 0 (SetPtr 0 0 1)
     link_admitted n some s points linked =
-        admitted_by n (SetPtr 0 0 1) s (omega arith, omega arith)
-        (at_register n s points 0 (omega arith) IsPointer refl)
-        (at_register n s points 0 (omega arith) (IsOfKind (register_at n 0 1)) linked)
+        admitted_by n _ s (omega arith, omega arith) (at_register n s points 0 (omega arith) IsPointer refl)
+        (at_register n s points 0 (omega arith) _ linked)
 
     -- what they leave in registers
 
@@ -206,9 +197,7 @@ module _ (slots : List ℕ) where
         points
 
     linked_same : (n : NeverState) (r : ℕ) → register_at (after_op n 0 (SetPtr 0 0 1)) 0 r ≡ register_at n 0 r
-    linked_same n r =
-        left_at_by (λ m. register_at m 0 r ≡ register_at n 0 r) (target_of n (register_at n 0 0) 0) n _ refl
-        (λ number place e. refl)
+    linked_same n r = left_at_by (λ m. register_at m 0 r ≡ register_at n 0 r) _ n _ refl (λ number place e. refl)
 
     numbered_same : (n : NeverState) (index value r : ℕ)
         → register_at (after_op n 0 (SetNum 0 index value)) 0 r ≡ register_at n 0 r

@@ -1,11 +1,10 @@
 -- Pairs of an age and how many have it: ages are counted one by one, in any order.
-use Rattle.std.proofs.Common.{◌≡◌, ℕ, ◌+◌, ◌≤◌, List, [], ◌∷◌, ◌++◌, map, refl, sym, ◌∙◌, ap, arith, ◌<◌, length, take}
-use Rattle.std.proofs.Common.{drop, subst}
-use Rattle.std.specs.Prelude.{◌==◌, fold, if◌then◌else◌, slice_index_or, slice_set}
-use Rattle.std.proofs.lemmas.Bool.Decides.{nat_tests}
-use Rattle.std.proofs.lemmas.List.Sums.{fold-append}
-use Rattle.std.proofs.lemmas.List.{drop-set-lt, drop_more, get_or-set_same, length-set, take-append-drop, take-set}
-use Rattle.mk_trace.proofs.Vocabulary.{counted, in_a_word, one_if, times, with_one}
+use Rattle.std.proofs.{Common.drop-set-lt, lemmas.List.take-set, lemmas.List.Sums.fold-append}
+use Rattle.mk_trace.proofs.Vocabulary.{counted, drop_more, fold, in_a_word, nat_tests, one_if, take-append-drop, times}
+use Rattle.mk_trace.proofs.Vocabulary.{with_one}
+use Rattle.mk_laws.proofs.Vocabulary.{List, ℕ, ap, arith, drop, get_or-set_same, if◌then◌else◌, length, length-set, map}
+use Rattle.mk_laws.proofs.Vocabulary.{refl, slice_index_or, slice_set, subst, sym, take, [], ◌++◌, ◌+◌, ◌<◌, ◌==◌, ◌∙◌}
+use Rattle.mk_laws.proofs.Vocabulary.{◌∷◌, ◌≡◌, ◌≤◌}
 use Rattle.mk_trace.specs.Peaks.{with_age}
 
 -- where a word holds each count
@@ -93,16 +92,10 @@ module _ (first now : List (ℕ × ℕ)) (i age : ℕ) (p : ℕ × ℕ) (same : 
     there = subst (λ (l : List (ℕ × ℕ)). i < length l) same lt
 
     left : drop i first ≡ p ∷ drop (i + 1) first
-    left =
-        drop_more first i p there ∙ ap (λ (q : ℕ × ℕ). q ∷ drop (i + 1) first)
-        (sym (at ∙ ap (λ (l : List (ℕ × ℕ)). slice_index_or l i p) same))
+    left = cc (drop_more first i p there, at, same)
 
     rest_is : with_one first age ≡ take i first ++ with_one (p ∷ drop (i + 1) first) age
     rest_is = rest ∙ ap (λ (l : List (ℕ × ℕ)). take i first ++ with_one l age) left
 
     pub set_there : (n : ℕ) → age ≡ p.0 → n ≡ in_a_word (p.1 + 1) → slice_set now i (p.0, n) ≡ with_one first age
-    set_there n equal is =
-        ap (λ (l : List (ℕ × ℕ)). slice_set l i (p.0, n)) same ∙ set_is first i (p.0, n) there
-        ∙ ap (λ (k : ℕ). take i first ++ (p.0, k) ∷ drop (i + 1) first) is
-        ∙ ap (λ (k : ℕ). take i first ++ (k, in_a_word (p.1 + 1)) ∷ drop (i + 1) first) (sym equal)
-        ∙ ap (λ (l : List (ℕ × ℕ)). take i first ++ l) (sym (same_one p (drop (i + 1) first) age equal)) ∙ sym rest_is
+    set_there n equal is = cc (same, set_is first i (p.0, n) there, same_one p (drop (i + 1) first) age equal, rest_is)

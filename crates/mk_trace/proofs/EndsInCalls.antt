@@ -1,36 +1,26 @@
 -- What ends find in a call of the caller: of a New, a Free, and a call beside the turn.
-use Rattle.std.proofs.Common.{inl, inr, ◌≡◌, ℕ, Bool, true, false, List, [], ◌∷◌, ◌++◌, refl, sym, ◌∙◌, ap, subst}
-use Rattle.std.proofs.Common.{append_assoc}
-use Rattle.std.specs.Prelude.{◌&&◌, ◌||◌, Some, if◌then◌else◌}
-use Rattle.std.specs.List.{list_any}
-use Rattle.std.proofs.lemmas.Bool.{and_parts, cases_Bool, or_from, or_parts}
 use Rattle.mk_trace.proofs.Vocabulary.{Answer, Caller, Calls, Config, Decided, EndsTell, Event, HostState}
-use Rattle.mk_trace.proofs.Vocabulary.{LeavesAllocations, Op, PassState, Seat, Step, World, call_decided, decides_freed}
-use Rattle.mk_trace.proofs.Vocabulary.{entry_of, flagged, flight_of, found, has_step, is_begin, is_of_cycle}
-use Rattle.mk_trace.proofs.Vocabulary.{is_same_seat, is_under_turn, left, object_made, unflagged, world_behind}
-use Rattle.mk_never.specs.declared.operations.Op.TheVariants as op
-use Rattle.mk_core.specs.declared.events.Answer.TheVariants as answer
-use Rattle.mk_core.specs.declared.events.Step.TheVariants as step
-use Rattle.mk_core.specs.Growing.{own_from}
-use Rattle.mk_core.specs.History.{AreEnabledFrom, calls_from, left_from}
-use Rattle.mk_core.specs.Order.{group_of, is_open_to}
-use Rattle.mk_core.proofs.Conditions.{enabled_meets}
-use Rattle.mk_core.proofs.Histories.{calls_append, left_append}
-use Rattle.mk_core.proofs.HistoryParts.{left_in_parts}
-use Rattle.mk_alloc.proofs.ListParts.{lacks_one, lacks_append}
-use Rattle.mk_words.proofs.Seats.{only_one, same_self}
-use Rattle.mk_turns.specs.Doing.{are_of}
-use Rattle.mk_alloc.specs.TurnCycles.{FreeIsExact, FreesFirst, NewIsExact, RunsOneCycle, finishes, within_turn}
+use Rattle.mk_trace.proofs.Vocabulary.{LeavesAllocations, Op, PassState, Seat, Step, World, call_decided, calls_append}
+use Rattle.mk_trace.proofs.Vocabulary.{decides_freed, entry_of, flagged, flight_of, found, has_step, is_begin}
+use Rattle.mk_trace.proofs.Vocabulary.{is_of_cycle, is_same_seat, is_under_turn, lacks_append, lacks_one, left}
+use Rattle.mk_trace.proofs.Vocabulary.{object_made, unflagged, world_behind}
+use Rattle.mk_laws.proofs.Vocabulary.{Bool, List, Some, ℕ, and_parts, ap, append_assoc, cases_Bool, enabled_meets}
+use Rattle.mk_laws.proofs.Vocabulary.{false, group_of, if◌then◌else◌, inl, inr, is_open_to, left_append, left_in_parts}
+use Rattle.mk_laws.proofs.Vocabulary.{list_any, or_from, or_parts, refl, subst, sym, true, [], ◌&&◌, ◌++◌, ◌||◌, ◌∙◌}
+use Rattle.mk_laws.proofs.Vocabulary.{◌∷◌, ◌≡◌}
+use Rattle.mk_core.specs.{Growing.own_from, History.AreEnabledFrom, History.calls_from, History.left_from}
 use Rattle.mk_alloc.proofs.OneCycles.{one_before, one_behind}
+use Rattle.mk_alloc.specs.TurnCycles.{FreeIsExact, FreesFirst, NewIsExact, RunsOneCycle, finishes, within_turn}
 use Rattle.mk_run.specs.Scripts.{is_beside_turns}
-use Rattle.mk_trace.proofs.JoinedCalls.{InTurn, Joined, OneSeat, acts, before, before_lacks, decided, elsewhere}
-use Rattle.mk_trace.proofs.JoinedCalls.{enabled, exact, in_parts, last, mine, only, the_rest}
-use Rattle.mk_trace.proofs.FreedMost.{one_of_three}
-use Rattle.mk_trace.proofs.EndsInLists.{first_at, lacks_by, changes, leaves_tell, leaves_then, tells_behind_none}
+use Rattle.mk_trace.proofs.EndsInLists.{changes, first_at, lacks_by, leaves_tell, leaves_then, tells_behind_none}
 use Rattle.mk_trace.proofs.EndsInLists.{tells_ends, tells_none}
 use Rattle.mk_trace.proofs.FreeCalls.{freeing_is, frees_decide, is_free, is_free_call}
-use Rattle.mk_trace.proofs.FoundByEnds.{FreesNoneFrom, is_over}
+use Rattle.mk_trace.proofs.JoinedCalls.{InTurn, Joined, OneSeat, acts, before, before_lacks, decided, elsewhere}
+use Rattle.mk_trace.proofs.JoinedCalls.{enabled, exact, in_parts, last, mine, only, the_rest}
 use Rattle.mk_trace.proofs.OwnPieces.{AreMine, has_mine, is_mine, mine_parts, within_is}
+use Rattle.mk_trace.proofs.{FoundByEnds.FreesNoneFrom, FoundByEnds.is_over, FreedMost.one_of_three}
+use Rattle.mk_turns.specs.Doing.{are_of}
+use Rattle.mk_words.proofs.Seats.{only_one, same_self}
 
 -- Where all events are of the one caller.
 
@@ -47,7 +37,7 @@ never_over c w e es on seat =
     by e.step (subst (λ (s : Seat). is_open_to s (group_of e.step) ≡ true) seat (enabled_meets c w.now e on.0).kind)
   where
     by : (s : Step) → is_open_to (Caller 0) (group_of s) ≡ true → is_over s ≡ false
-    by step.Over h = cc
+    by Step.Over h = cc
     by _ h = refl
 
 lacks_over : (c : Config) (w : World) (away : List Seat) (es : List Event) → OneSeat c away
@@ -61,24 +51,21 @@ lacks_over c w away (e ∷ es) all on own =
 -- What the caller does beside its turns changes no allocation.
 
 beside_changes_none : (s : Step) → is_beside_turns s ≡ true → changes s ≡ false
-beside_changes_none step.Grant h = cc
-beside_changes_none (step.Quar p v) h = cc
-beside_changes_none step.Begin h = cc
-beside_changes_none step.Want h = cc
-beside_changes_none step.Close h = cc
-beside_changes_none step.Release h = cc
-beside_changes_none step.End h = cc
-beside_changes_none step.Over h = cc
+beside_changes_none Step.Grant h = cc
+beside_changes_none (Step.Quar p v) h = cc
+beside_changes_none Step.Begin h = cc
+beside_changes_none Step.Want h = cc
+beside_changes_none Step.Close h = cc
+beside_changes_none Step.Release h = cc
+beside_changes_none Step.End h = cc
+beside_changes_none Step.Over h = cc
 beside_changes_none _ h = refl
 
 own_all : (c : Config) (w : World) (e : Event) (es : List Event) → e.seat ≡ Caller 0
     → are_of is_beside_turns (own_from c (Caller 0) w (e ∷ es))
     ≡ is_beside_turns e.step && are_of is_beside_turns (own_from c (Caller 0) (world_behind c w e) es)
 unfolding own_from
-own_all c w e es seat =
-    ap (λ (b : Bool). are_of is_beside_turns (if b
-    then record { event = e; found = found c w.now e } ∷ own_from c (Caller 0) (world_behind c w e) es
-    else own_from c (Caller 0) (world_behind c w e) es)) (ap (is_same_seat (Caller 0)) seat ∙ same_self (Caller 0))
+own_all c w e es seat = cc (seat, same_self (Caller 0))
 
 beside_lacks : (c : Config) (w : World) (away : List Seat) (es : List Event) → OneSeat c away
     → AreMine c away es → are_of is_beside_turns (own_from c (Caller 0) w es) ≡ true → has_step changes es ≡ false
@@ -102,8 +89,8 @@ none_behind_free c w xs e ys x is some =
     ∙ (one_of_three (calls_from c w xs) (call_decided c (left_from c w xs).now e)
     (calls_from c (world_behind c (left_from c w xs) e) ys) x (sym (calls_append c w xs (e ∷ ys)) ∙ is) some).2)
 
-flagged_new : (d ty : ℕ) (full : Bool) (a : Answer) → is_free (flagged (op.New d ty full) a) ≡ false
-flagged_new d ty full answer.Full = refl
+flagged_new : (d ty : ℕ) (full : Bool) (a : Answer) → is_free (flagged (Op.New d ty full) a) ≡ false
+flagged_new d ty full Answer.Full = refl
 flagged_new d ty full _ = refl
 
 -- the lists of a turn that frees
@@ -141,8 +128,7 @@ module _ {on : Bool} {h : HostState} {o : Op} {told : Answer} {q : PassState} {f
           let xs : List Event = before j x turn ++ d.before in
           let ys : List Event = d.behind ++ last j x turn in
           let is : more ≡ (xs ++ d.event ∷ []) ++ ys =
-          in_parts j x turn ∙ ap (λ (l : List Event). before j x turn ++ (l ++ last j x turn)) d.is
-          ∙ freed_list (before j x turn) d.before d.behind (last j x turn) d.event in
+          cc (in_parts j x turn, d.is, freed_list (before j x turn) d.before d.behind (last j x turn) d.event) in
           let there : left c (within_turn turn.ends.turn d.before) ≡ left_from c w xs =
           ap (left c) (within_is turn d.before) ∙ left_in_parts c es xs in
           let freed : decides_freed c (left_from c w xs).now (flight_of (left_from c w xs).now d.event.seat)
@@ -180,21 +166,19 @@ module _ {on : Bool} {h : HostState} {o : Op} {told : Answer} {q : PassState} {f
   beside_leaves out =
       let b = j.answers.beside out in
       let is = only j b.more b.is in
-      subst (LeavesAllocations c es) (sym j.own.is)
-      (leaves_then c es more (enabled j)
-      (ap (has_step changes) is ∙ beside_lacks c (left c es) (elsewhere j) b.more (the_rest j)
-      (subst (AreMine c (elsewhere j)) is (mine j)) b.steps))
+      subst (LeavesAllocations c es) (sym j.own.is) (leaves_then c es more (enabled j) (ap (has_step changes) is ∙
+      beside_lacks c _ (elsewhere j) b.more (the_rest j) (subst (AreMine c (elsewhere j)) is (mine j)) b.steps))
 
   told_by : (x : Op) (said : Answer) → on ≡ false → (is_under_turn x ≡ true → InTurn j (unflagged x))
       → (is_under_turn x ≡ false → LeavesAllocations c es fs)
       → calls_from c (left c es) more ≡ entry_of 0 x (Some said) → EndsTell c es (es ++ more)
-  told_by (op.New d ty full) said off in_turn beside entry =
-      let turn : InTurn j (op.New d ty false) = in_turn refl in
-      let exactly : NewIsExact turn.ends.turn (object_made c (op.New d ty false)) = exact j (op.New d ty false) turn in
-      tells_ends c es more (enabled j) overs (one_in_call (op.New d ty false) turn exactly.one)
+  told_by (Op.New d ty full) said off in_turn beside entry =
+      let turn : InTurn j (Op.New d ty false) = in_turn refl in
+      let exactly : NewIsExact turn.ends.turn (object_made c (Op.New d ty false)) = exact j (Op.New d ty false) turn in
+      tells_ends c es more (enabled j) overs (one_in_call (Op.New d ty false) turn exactly.one)
       (ap (list_any is_free_call) entry ∙ ap (λ (b : Bool). b || false) (flagged_new d ty full said))
-  told_by (op.Free r) said off in_turn beside entry =
-      free_tells (op.Free r) (in_turn refl) off _ entry (exact j (op.Free r) (in_turn refl))
+  told_by (Op.Free r) said off in_turn beside entry =
+      free_tells (Op.Free r) (in_turn refl) off _ entry (exact j (Op.Free r) (in_turn refl))
   told_by _ said off in_turn beside entry = subst (EndsTell c es) j.own.is (leaves_tell (beside refl))
 
   pub ends_told : on ≡ false → Calls c es o told fs → EndsTell c es fs

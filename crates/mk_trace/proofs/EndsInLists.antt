@@ -1,24 +1,19 @@
 -- What ends find in a list of events that has one cycle at most.
-use Rattle.std.proofs.Common.{◌≡◌, ◌⊎◌, ⊎_elim, inl, inr, ℕ, ◌+◌, Bool, true, false, List, [], ◌∷◌, ◌++◌, refl, sym}
-use Rattle.std.proofs.Common.{◌∙◌, ap, subst, append-nil, append_assoc, arith}
-use Rattle.std.proofs.lemmas.Bool.{cases_Bool, or_from, or_parts, true≢false}
 use Rattle.mk_trace.proofs.Vocabulary.{AreEnabledFrom, Config, EndsNone, EndsOne, EndsTell, Event, FreesNone}
 use Rattle.mk_trace.proofs.Vocabulary.{IsBetweenCycles, LeavesAllocations, PlacedAllocation, ReleasesNone, Step, World}
 use Rattle.mk_trace.proofs.Vocabulary.{allocations_by, ends, first_world, flight_of, has_step, is_begin, is_end, left}
-use Rattle.mk_trace.proofs.Vocabulary.{phase_of, world_behind}
-use Rattle.mk_core.specs.declared.events.Step.TheVariants as step
-use Rattle.mk_core.specs.Cycles.{At, Next}
-use Rattle.mk_core.specs.History.{left_from}
-use Rattle.mk_core.proofs.Histories.{enabled_parts, left_append}
-use Rattle.mk_core.proofs.HistoryParts.{left_in_parts}
-use Rattle.mk_laws.proofs.CyclePhases.{begin_is, moves_phase, phase_behind}
-use Rattle.mk_alloc.specs.TurnCycles.{RunsOneCycle}
-use Rattle.mk_alloc.proofs.ListParts.{lacks_first, lacks_second, none_at}
+use Rattle.mk_trace.proofs.Vocabulary.{moves_phase, none_at, phase_of, world_behind, ⊎_elim}
+use Rattle.mk_laws.proofs.Vocabulary.{At, Bool, List, ℕ, ap, append-nil, append_assoc, arith, cases_Bool, enabled_parts}
+use Rattle.mk_laws.proofs.Vocabulary.{false, inl, inr, left_append, left_in_parts, or_from, or_parts, refl, subst, sym}
+use Rattle.mk_laws.proofs.Vocabulary.{true, true≢false, [], ◌++◌, ◌+◌, ◌∙◌, ◌∷◌, ◌≡◌, ◌⊎◌}
+use Rattle.mk_core.specs.{Cycles.Next, History.left_from}
+use Rattle.mk_laws.proofs.CyclePhases.{begin_is, phase_behind}
+use Rattle.mk_alloc.{proofs.ListParts.lacks_first, proofs.ListParts.lacks_second, specs.TurnCycles.RunsOneCycle}
 use Rattle.mk_quarantine.proofs.HeldTurns.{next_of}
-use Rattle.mk_trace.specs.Peaks.{found_by_ends_from}
-use Rattle.mk_trace.proofs.FlagSteps.{releases_then, same_releases}
 use Rattle.mk_trace.proofs.FoundByEnds.{EndsOnce, FreesNoneFrom, IsOn, Rests, ends-append, ends_once, found-append}
 use Rattle.mk_trace.proofs.FoundByEnds.{found-none, frees_behind, frees_second, grows_by, is_over, no_end-cons, rests}
+use Rattle.mk_trace.proofs.FlagSteps.{releases_then, same_releases}
+use Rattle.mk_trace.specs.Peaks.{found_by_ends_from}
 
 -- What lacks one kind lacks another, where each step of that is one of the first.
 pub lacks_by : (kind other : Step → Bool) → ((x : Step) → kind x ≡ false → other x ≡ false) → (es : List Event)
@@ -39,7 +34,7 @@ has_at kind es at = elim (cases_Bool (has_step kind es)) [
 ]
 
 begins_no_end : (s : Step) → is_begin s ≡ true → is_end s ≡ false
-begins_no_end step.Begin h = refl
+begins_no_end Step.Begin h = refl
 begins_no_end _ h = cc
 
 module _ (c : Config) (w : World) (xs : List Event) (b : Event) (ys : List Event)
@@ -83,17 +78,12 @@ module _ (c : Config) (w : World) (xs : List Event) (b : Event) (ys : List Event
       record {
         finds = rest.finds;
         phase = ap (λ (x : World). phase_of x.now.words) left_is ∙ rest.phase;
-        found =
-            found-append c w xs (b ∷ ys)
-            ∙ ap (λ (l : List (List PlacedAllocation)). l ++ found_by_ends_from c first (b ∷ ys)) resting.found
-            ∙ found-none c first b ys none ∙ rest.found;
+        found = cc (found-append c w xs (b ∷ ys), resting.found, found-none c first b ys none, rest.found);
         count = ends-append xs (b ∷ ys) ∙ ap (λ (n : ℕ). n + ends (b ∷ ys)) resting.count
             ∙ (omega (arith, no_end-cons b ys none, rest.count));
         earlier = omega (arith, resting.released.count, grows_by c first b, rest.earlier);
-        freed =
-            subst (λ (x : World). FreesNone rest.finds x.allocations) (sym left_is) rest.freed;
-        released =
-            subst (λ (x : World). ReleasesNone rest.finds x.allocations) (sym left_is) rest.released;
+        freed = subst (λ (x : World). FreesNone rest.finds x.allocations) (sym left_is) rest.freed;
+        released = subst (λ (x : World). ReleasesNone rest.finds x.allocations) (sym left_is) rest.released;
       }
 
 one_second : (xs ys : List Event) → RunsOneCycle (xs ++ ys) → RunsOneCycle ys
@@ -113,15 +103,14 @@ none_twice h g =
     record { found = g.found ∙ h.found; count = g.count ∙ h.count; released = releases_then h.released g.released }
 
 one_behind_none : {c : Config} {es fs gs : List Event} → EndsNone c es fs → EndsOne c fs gs → EndsOne c es gs
-one_behind_none h g =
-    record {
-      finds = g.finds;
-      found = g.found ∙ ap (λ (l : List (List PlacedAllocation)). l ++ g.finds ∷ []) h.found;
-      count = g.count ∙ ap (λ (n : ℕ). n + 1) h.count;
-      earlier = omega (arith, h.released.count, g.earlier);
-      freed = g.freed;
-      released = g.released;
-    }
+one_behind_none h g = record {
+  finds = g.finds;
+  found = g.found ∙ ap (λ (l : List (List PlacedAllocation)). l ++ g.finds ∷ []) h.found;
+  count = g.count ∙ ap (λ (n : ℕ). n + 1) h.count;
+  earlier = omega (arith, h.released.count, g.earlier);
+  freed = g.freed;
+  released = g.released;
+}
 
 -- From one list to a longer one.
 
@@ -130,28 +119,21 @@ module _ (c : Config) (es more : List Event) where
   left_then = left_in_parts c es more
 
   pub none_then : Rests c (left c es) more → EndsNone c es (es ++ more)
-  none_then h =
-      record {
-        found =
-            found-append c (first_world c) es more
-            ∙ ap (λ (l : List (List PlacedAllocation)). found_by_ends_from c (first_world c) es ++ l) h.found
-            ∙ append-nil (found_by_ends_from c (first_world c) es);
-        count = ends-append es more ∙ (omega (arith, h.count));
-        released = subst (λ (x : World). ReleasesNone (left c es).allocations x.allocations) (sym left_then) h.released;
-      }
+  none_then h = record {
+    found = cc (found-append c (first_world c) es more, h.found, append-nil (found_by_ends_from c (first_world c) es));
+    count = ends-append es more ∙ (omega (arith, h.count));
+    released = subst (λ (x : World). ReleasesNone (left c es).allocations x.allocations) (sym left_then) h.released;
+  }
 
   pub one_then : EndsOnce c (left c es) more → EndsOne c es (es ++ more)
-  one_then h =
-      record {
-        finds = h.finds;
-        found =
-            found-append c (first_world c) es more
-            ∙ ap (λ (l : List (List PlacedAllocation)). found_by_ends_from c (first_world c) es ++ l) h.found;
-        count = ends-append es more ∙ (omega (arith, h.count));
-        earlier = h.earlier;
-        freed = subst (λ (x : World). FreesNone h.finds x.allocations) (sym left_then) h.freed;
-        released = subst (λ (x : World). ReleasesNone h.finds x.allocations) (sym left_then) h.released;
-      }
+  one_then h = record {
+    finds = h.finds;
+    found = cc (found-append c (first_world c) es more, h.found);
+    count = ends-append es more ∙ (omega (arith, h.count));
+    earlier = h.earlier;
+    freed = subst (λ (x : World). FreesNone h.finds x.allocations) (sym left_then) h.freed;
+    released = subst (λ (x : World). ReleasesNone h.finds x.allocations) (sym left_then) h.released;
+  }
 
   idle_then : phase_of (left_from c (left c es) more).now.words ≡ 0 → IsBetweenCycles c (es ++ more)
   idle_then h = ap (λ (x : World). phase_of x.now.words) left_then ∙ h
@@ -177,13 +159,10 @@ module _ (c : Config) (es more : List Event) where
             let next = first_at is_begin more has in
             let b = next.at in
             let h : EndsOnce c (left c es) more =
-            subst (EndsOnce c (left c es)) (sym b.is)
-            (one_cycle c (left c es) b.before b.event b.behind
-            (subst (AreEnabledFrom c (left c es)) b.is on) idle b.of_kind next.none_before
-            (one b).0 (sym (ap (has_step is_over) b.is) ∙ overs)
-            (frees_behind c (left_from c (left c es) b.before) b.event b.behind
-            (frees_second c (left c es) b.before (b.event ∷ b.behind) (subst (FreesNoneFrom c (left c es)) b.is frees)))
-            (has_at is_end b.behind (one b).1)) in
+            subst (EndsOnce c (left c es)) (sym b.is) (one_cycle c _ _ _ _ (subst (AreEnabledFrom c (left c es)) b.is
+            on) idle b.of_kind next.none_before (one b).0 (sym (ap (has_step is_over) b.is) ∙ overs) (frees_behind c _ _
+            _ (frees_second c _ _ (b.event ∷ b.behind) (subst (FreesNoneFrom c (left c es)) b.is frees))) (has_at is_end
+            _ (one b).1)) in
             (idle_then h.phase, inr (one_then h))
 
 -- A list in two parts, with no cycle in the first, and no Free in the second.
@@ -210,14 +189,14 @@ module _ (c : Config) (es xs ys : List Event) (on : AreEnabledFrom c (left c es)
 -- Steps that neither move a cycle on nor change allocations.
 
 abbrev pub changes : Step → Bool
-changes step.Grant = true
-changes (step.Quar p v) = true
-changes step.Begin = true
-changes step.Want = true
-changes step.Close = true
-changes step.Release = true
-changes step.End = true
-changes step.Over = true
+changes Step.Grant = true
+changes (Step.Quar p v) = true
+changes Step.Begin = true
+changes Step.Want = true
+changes Step.Close = true
+changes Step.Release = true
+changes Step.End = true
+changes Step.Over = true
 changes _ = false
 
 record Leaves (c : Config) (w : World) (es : List Event) : Type 0 where
@@ -227,16 +206,16 @@ record Leaves (c : Config) (w : World) (es : List Event) : Type 0 where
   allocations : (left_from c w es).allocations ≡ w.allocations
 
 no_end : (s : Step) → changes s ≡ false → is_end s ≡ false
-no_end step.End h = cc
+no_end Step.End h = cc
 no_end _ h = refl
 
 same_phase : (s : Step) (n : ℕ) → changes s ≡ false → phase_behind s n ≡ n
-same_phase step.Begin n h = cc
-same_phase step.Want n h = cc
-same_phase step.Close n h = cc
-same_phase step.Release n h = cc
-same_phase step.End n h = cc
-same_phase step.Over n h = cc
+same_phase Step.Begin n h = cc
+same_phase Step.Want n h = cc
+same_phase Step.Close n h = cc
+same_phase Step.Release n h = cc
+same_phase Step.End n h = cc
+same_phase Step.Over n h = cc
 same_phase _ n h = refl
 
 same_allocations : (c : Config) (w : World) (e : Event) → changes e.step ≡ false
@@ -245,10 +224,10 @@ same_allocations c w e none = by e.step none
   where
     by : (s : Step) → changes s ≡ false
         → allocations_by c w.now (flight_of w.now e.seat) s w.allocations ≡ w.allocations
-    by step.Grant h = cc
-    by (step.Quar p v) h = cc
-    by step.Begin h = cc
-    by step.Release h = cc
+    by Step.Grant h = cc
+    by (Step.Quar p v) h = cc
+    by Step.Begin h = cc
+    by Step.Release h = cc
     by _ h = refl
 
 leaves : (c : Config) (w : World) (es : List Event) → AreEnabledFrom c w es → has_step changes es ≡ false
@@ -274,9 +253,7 @@ leaves_then c es more on none =
     record {
       phase = ap (λ (x : World). phase_of x.now.words) there ∙ h.phase;
       found =
-          found-append c (first_world c) es more
-          ∙ ap (λ (l : List (List PlacedAllocation)). found_by_ends_from c (first_world c) es ++ l) h.found
-          ∙ append-nil (found_by_ends_from c (first_world c) es);
+          cc (found-append c (first_world c) es more, h.found, append-nil (found_by_ends_from c (first_world c) es));
       count = ends-append es more ∙ (omega (arith, h.count));
       allocations = ap (λ (x : World). x.allocations) there ∙ h.allocations;
     }
@@ -285,13 +262,12 @@ leaves_then c es more on none =
 
 pub leaves_twice : {c : Config} {es fs gs : List Event} → LeavesAllocations c es fs → LeavesAllocations c fs gs
     → LeavesAllocations c es gs
-leaves_twice h g =
-    record {
-      phase = g.phase ∙ h.phase;
-      found = g.found ∙ h.found;
-      count = g.count ∙ h.count;
-      allocations = g.allocations ∙ h.allocations;
-    }
+leaves_twice h g = record {
+  phase = g.phase ∙ h.phase;
+  found = g.found ∙ h.found;
+  count = g.count ∙ h.count;
+  allocations = g.allocations ∙ h.allocations;
+}
 
 pub leaves_tell : {c : Config} {es fs : List Event} → LeavesAllocations c es fs → EndsTell c es fs
 leaves_tell {c} {es} h idle = (
@@ -299,7 +275,6 @@ leaves_tell {c} {es} h idle = (
   inl (record {
     found = h.found;
     count = h.count;
-    released =
-        subst (ReleasesNone (left c es).allocations) (sym h.allocations) (same_releases (left c es).allocations);
+    released = subst (ReleasesNone (left c es).allocations) (sym h.allocations) (same_releases (left c es).allocations);
   }),
 )

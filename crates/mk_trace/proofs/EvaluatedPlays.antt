@@ -1,35 +1,22 @@
 -- A small trace that is played: a store through a slot that is null, which is refused, and a new object.
-use Rattle.std.proofs.Common.{◌≡◌, false, List, [], ◌∷◌, ◌++◌, Some, None, refl, sym, ◌∙◌, ap, subst, arith}
-use Rattle.std.proofs.lemmas.Bool.{or_parts}
-use Rattle.mk_trace.proofs.Vocabulary.{A, Caller, Config, Contents, Event, IsHistory, IsOfSomeTraceText, IsTidy}
-use Rattle.mk_trace.proofs.Vocabulary.{TalliesAreTidy, W, World, answered, calls, config_of, first_world, flight_of}
-use Rattle.mk_trace.proofs.Vocabulary.{has_step, is_begin, lets_go, peaks_of, refused_events, world_behind}
-use lib.Chars.{codes}
-use Rattle.mk_never.specs.declared.operations.Op.TheVariants as op
-use Rattle.mk_core.specs.declared.events.Step.TheVariants as step
-use Rattle.mk_core.specs.declared.events.Tally.TheVariants as tally
-use Rattle.mk_core.specs.Bounded.{all_below}
-use Rattle.mk_core.specs.Cells.{pointed_cell}
-use Rattle.mk_core.specs.Allocations.{unreleased_storage}
-use Rattle.mk_core.specs.Cycles.{NoneSweepsFrom, is_give}
-use Rattle.mk_core.specs.History.{left_from, calls_from, CallsAreAdmitted}
-use Rattle.mk_core.proofs.EvaluatedHistories.{enabled}
-use Rattle.mk_core.proofs.EventsAt.{◌and◌, AtEach, Also, at_each}
+use Rattle.mk_trace.proofs.Vocabulary.{A, Caller, Config, Contents, Event, IsHistory, IsOfSomeTraceText, IsTidy, Op}
+use Rattle.mk_trace.proofs.Vocabulary.{Step, TalliesAreTidy, W, World, answered, calls, codes, config_of, first_world}
+use Rattle.mk_trace.proofs.Vocabulary.{flight_of, has_step, is_begin, lets_go, none_at, peaks_of, refused_events}
+use Rattle.mk_trace.proofs.Vocabulary.{world_behind}
+use Rattle.mk_laws.proofs.Vocabulary.{List, None, Some, Tally, ap, arith, false, or_parts, refl, subst, sym, [], ◌++◌}
+use Rattle.mk_laws.proofs.Vocabulary.{◌∙◌, ◌∷◌, ◌≡◌}
 use Rattle.mk_core.proofs.Schedules.{by, c0, fault, first_fault}
+use Rattle.mk_core.proofs.{EvaluatedHistories.enabled, EventsAt.Also, EventsAt.AtEach, EventsAt.at_each, EventsAt.◌and◌}
+use Rattle.mk_core.specs.{Allocations.unreleased_storage, Bounded.all_below, Cells.pointed_cell, Cycles.NoneSweepsFrom}
+use Rattle.mk_core.specs.{Cycles.is_give, History.CallsAreAdmitted, History.calls_from, History.left_from}
 use Rattle.mk_laws.proofs.Promises.{histories_keep_all_promises}
-use Rattle.mk_turns.specs.Sweeping.{is_mark}
-use Rattle.mk_turns.proofs.Sweeping.{other_steps_sweep}
+use Rattle.mk_alloc.proofs.{ListParts.lacks_second, OwnGives.none_more, OwnGives.one_more}
 use Rattle.mk_alloc.specs.TurnCycles.{EndsExactly, TurnsOfAreExact, is_want}
-use Rattle.mk_alloc.proofs.ListParts.{lacks_second, none_at}
-use Rattle.mk_alloc.proofs.OwnGives.{none_more, one_more}
 use Rattle.mk_quarantine.proofs.Bounds.{quarantine_of_one_is_bounded}
-use Rattle.mk_run.specs.Unswept.{IsUnswept}
-use Rattle.mk_run.proofs.UnsweptHistories.{unswept_is_precise}
-use Rattle.mk_trace.specs.Grammar.{along}
-use Rattle.mk_trace.specs.Peaks.{greatest_from, found_by_ends_from}
-use Rattle.mk_trace.specs.Playing.{IsPlayed}
-use Rattle.mk_trace.proofs.ExactPlays.{nothing_given}
-use Rattle.mk_trace.proofs.Playable.{is_playable}
+use Rattle.mk_run.{proofs.UnsweptHistories.unswept_is_precise, specs.Unswept.IsUnswept}
+use Rattle.mk_trace.proofs.{ExactPlays.nothing_given, Playable.is_playable}
+use Rattle.mk_trace.specs.{Grammar.along, Peaks.found_by_ends_from, Peaks.greatest_from, Playing.IsPlayed}
+use Rattle.mk_turns.{proofs.Sweeping.other_steps_sweep, specs.Sweeping.is_mark}
 
 unfoldable pub stored_and_made : Contents
 stored_and_made = record { pages = 1; resident = 1; slots = 2 ∷ []; events = W 0 1 5 ∷ A 0 ∷ [] }
@@ -40,34 +27,34 @@ is_of_text = (codes "trace 1 1\nslot x 2\nw x 1 5\na x\n", refl)
 
 unfoldable pub played : List Event
 played =
-    by c0 (step.Enter (op.GetGlobal 0 0) ∷ step.Getg ∷ step.Reg ∷ step.Leave ∷ [])
-    ++ by c0 (step.Enter (op.SetNum 0 1 5) ∷ step.Reg ∷ step.Leave ∷ [])
-    ++ by c0 (step.Enter (op.Clear 0) ∷ step.Reg ∷ step.Leave ∷ [])
-    ++ by c0 (step.Take (Some (op.New 0 0 false)) ∷ step.Head 0 1 ∷ step.Used 0 1 ∷ step.Grant ∷ step.Tally
-    tally.Held 2 ∷ step.Give ∷ []) ++ by c0 (step.Enter (op.SetGlobal 0 0) ∷ step.Reg ∷ step.Setg ∷ step.Leave ∷ [])
-    ++ by c0 (step.Enter (op.Clear 0) ∷ step.Reg ∷ step.Leave ∷ [])
+    by c0 (Step.Enter (Op.GetGlobal 0 0) ∷ Step.Getg ∷ Step.Reg ∷ Step.Leave ∷ [])
+    ++ by c0 (Step.Enter (Op.SetNum 0 1 5) ∷ Step.Reg ∷ Step.Leave ∷ [])
+    ++ by c0 (Step.Enter (Op.Clear 0) ∷ Step.Reg ∷ Step.Leave ∷ [])
+    ++ by c0 (Step.Take (Some (Op.New 0 0 false)) ∷ Step.Head 0 1 ∷ Step.Used 0 1 ∷ Step.Grant ∷ Step.Tally
+    Tally.Held 2 ∷ Step.Give ∷ []) ++ by c0 (Step.Enter (Op.SetGlobal 0 0) ∷ Step.Reg ∷ Step.Setg ∷ Step.Leave ∷ [])
+    ++ by c0 (Step.Enter (Op.Clear 0) ∷ Step.Reg ∷ Step.Leave ∷ [])
 
 -- up to the take of the New, and from there up to its give, and what comes after it
 
 unfoldable stored : List Event
 stored =
-    by c0 (step.Enter (op.GetGlobal 0 0) ∷ step.Getg ∷ step.Reg ∷ step.Leave ∷ [])
-    ++ by c0 (step.Enter (op.SetNum 0 1 5) ∷ step.Reg ∷ step.Leave ∷ [])
-    ++ by c0 (step.Enter (op.Clear 0) ∷ step.Reg ∷ step.Leave ∷ [])
+    by c0 (Step.Enter (Op.GetGlobal 0 0) ∷ Step.Getg ∷ Step.Reg ∷ Step.Leave ∷ [])
+    ++ by c0 (Step.Enter (Op.SetNum 0 1 5) ∷ Step.Reg ∷ Step.Leave ∷ [])
+    ++ by c0 (Step.Enter (Op.Clear 0) ∷ Step.Reg ∷ Step.Leave ∷ [])
 
 unfoldable making : List Event
-making = by c0 (step.Head 0 1 ∷ step.Used 0 1 ∷ step.Grant ∷ step.Tally tally.Held 2 ∷ [])
+making = by c0 (Step.Head 0 1 ∷ Step.Used 0 1 ∷ Step.Grant ∷ Step.Tally Tally.Held 2 ∷ [])
 
 unfoldable behind : List Event
 behind =
-    by c0 (step.Enter (op.SetGlobal 0 0) ∷ step.Reg ∷ step.Setg ∷ step.Leave ∷ [])
-    ++ by c0 (step.Enter (op.Clear 0) ∷ step.Reg ∷ step.Leave ∷ [])
+    by c0 (Step.Enter (Op.SetGlobal 0 0) ∷ Step.Reg ∷ Step.Setg ∷ Step.Leave ∷ [])
+    ++ by c0 (Step.Enter (Op.Clear 0) ∷ Step.Reg ∷ Step.Leave ∷ [])
 
 abbrev upto_give : List Event
-upto_give = stored ++ record { seat = Caller 0; step = step.Take (Some (op.New 0 0 false)) } ∷ making
+upto_give = stored ++ record { seat = Caller 0; step = Step.Take (Some (Op.New 0 0 false)) } ∷ making
 
 abbrev gives : Event
-gives = record { seat = Caller 0; step = step.Give }
+gives = record { seat = Caller 0; step = Step.Give }
 
 no_fault : first_fault (config_of stored_and_made) played ≡ None
 unfolding first_fault fault by c0 all_below pointed_cell stored_and_made played
@@ -90,25 +77,24 @@ parts = refl
 -- The New does nothing with cycles, and nothing is freed or released in its turn.
 ends_exactly : EndsExactly false (config_of stored_and_made) (Caller 0) upto_give
 unfolding by c0 all_below pointed_cell stored_and_made stored making left_from
-ends_exactly =
-    record {
-      turn = record {
-        before = stored;
-        op = Some (op.New 0 0 false);
-        behind = making;
-        is = refl;
-        took = refl;
-        goes_on = refl;
-      };
-      exact = record {
-        begins = λ b. absurd (none_at is_begin making refl b);
-        ends = λ w. absurd (none_at is_want making refl w);
-        one = λ b. absurd (none_at is_begin making refl b);
-        keeps = λ g.
-            (or_parts (lets_go g.event.step) (has_step lets_go g.behind)
-            (lacks_second lets_go g.before (g.event ∷ g.behind) (ap (has_step lets_go) (sym g.is) ∙ refl))).1;
-      };
-    }
+ends_exactly = record {
+  turn = record {
+    before = stored;
+    op = Some (Op.New 0 0 false);
+    behind = making;
+    is = refl;
+    took = refl;
+    goes_on = refl;
+  };
+  exact = record {
+    begins = λ b. absurd (none_at is_begin making refl b);
+    ends = λ w. absurd (none_at is_want making refl w);
+    one = λ b. absurd (none_at is_begin making refl b);
+    keeps = λ g.
+        (or_parts (lets_go g.event.step) (has_step lets_go g.behind)
+        (lacks_second lets_go g.before (g.event ∷ g.behind) (ap (has_step lets_go) (sym g.is) ∙ refl))).1;
+  };
+}
 
 are_exact : TurnsOfAreExact false (config_of stored_and_made) (Caller 0) played
 unfolding by c0 stored making behind
@@ -145,22 +131,20 @@ is_history = record {
 
 pub is_played : IsPlayed stored_and_made played
 unfolding by c0 all_below pointed_cell stored_and_made played left_from calls_from
-is_played =
-    record {
-      history = is_history;
-      tidy = is_tidy;
-      refines = refl;
-      ops = refl;
-      at_rest = refl;
-      cycles = are_exact;
-      host = refl;
-      unswept = is_unswept;
-      precise =
-          unswept_is_precise (config_of stored_and_made) played
-          (histories_keep_all_promises (config_of stored_and_made) played is_history) is_unswept;
-      bounded =
-          quarantine_of_one_is_bounded false (config_of stored_and_made) played refl is_history are_exact refl;
-    }
+is_played = record {
+  history = is_history;
+  tidy = is_tidy;
+  refines = refl;
+  ops = refl;
+  at_rest = refl;
+  cycles = are_exact;
+  host = refl;
+  unswept = is_unswept;
+  precise =
+      unswept_is_precise (config_of stored_and_made) played
+      (histories_keep_all_promises (config_of stored_and_made) played is_history) is_unswept;
+  bounded = quarantine_of_one_is_bounded false (config_of stored_and_made) played refl is_history are_exact refl;
+}
 
 pub refused : refused_events stored_and_made.events (answered (calls (config_of stored_and_made) played)) ≡ 1
 unfolding by c0 all_below pointed_cell stored_and_made played left_from calls_from

@@ -1,28 +1,21 @@
 -- The turns of a trace's caller stay exact, and the host makes no cycle, from the first event to the last.
-use Rattle.std.proofs.Common.{◌≡◌, ℕ, Bool, true, false, List, ◌∷◌, ◌++◌, refl, sym, ◌∙◌, ap, subst, arith, []}
-use Rattle.std.specs.Prelude.{◌&&◌}
-use Rattle.std.specs.List.{list_any}
-use Rattle.std.proofs.lemmas.Bool.{ltb-true, or_from, or_parts}
-use Rattle.std.proofs.lemmas.List.Folds.{list_any-append}
-use Rattle.std.proofs.Math.Bool.{and-false}
 use Rattle.mk_trace.proofs.Vocabulary.{AllTurnsAreExact, Answer, Caller, Config, Contents, Event, Grows, Has, Host}
 use Rattle.mk_trace.proofs.Vocabulary.{HostState, IsHistory, Marker, Op, PassState, Seat, StayExact, SweepsNothing}
-use Rattle.mk_trace.proofs.Vocabulary.{Word, config_of, first_world, has_step, is_of_cycle, is_same_seat, pass_for}
-use Rattle.mk_trace.proofs.Vocabulary.{seat_exists}
+use Rattle.mk_trace.proofs.Vocabulary.{Word, and-false, config_of, first_world, has_first, has_step, is_of_cycle}
+use Rattle.mk_trace.proofs.Vocabulary.{is_same_seat, pass_for, seat_exists}
+use Rattle.mk_laws.proofs.Vocabulary.{Bool, List, ℕ, ap, arith, false, list_any, list_any-append, ltb-true, or_from}
+use Rattle.mk_laws.proofs.Vocabulary.{or_parts, refl, subst, sym, true, [], ◌&&◌, ◌++◌, ◌∙◌, ◌∷◌, ◌≡◌}
 use Rattle.mk_core.specs.Growing.{AreOfOthers}
-use Rattle.mk_words.proofs.Seats.{has_first, without_keeps}
-use Rattle.mk_turns.specs.Sweeping.{SweepsNothingFrom}
-use Rattle.mk_turns.proofs.Doing.{not_own}
-use Rattle.mk_alloc.specs.Laws.{OwnAreExact}
-use Rattle.mk_alloc.specs.TurnCycles.{TurnsOfAreExact}
 use Rattle.mk_alloc.proofs.ExactTurns.{stay_exact_behind_others}
-use Rattle.mk_run.specs.Unswept.{IsUnswept}
-use Rattle.mk_run.specs.UnsweptSeats.{SeatSweepsNothing}
-use Rattle.mk_run.proofs.UnsweptHistories.{markers_sweep, none_sweeps}
+use Rattle.mk_alloc.specs.{Laws.OwnAreExact, TurnCycles.TurnsOfAreExact}
 use Rattle.mk_run.proofs.UnsweptScripts.{first_sweeps, others_on, seat_on}
-use Rattle.mk_trace.specs.Playing.{MakesNoCycle}
-use Rattle.mk_trace.proofs.HeldLooks.{behind, first, seen_is, Looked, all_lack, moves}
+use Rattle.mk_run.proofs.UnsweptHistories.{markers_sweep, none_sweeps}
+use Rattle.mk_run.specs.{Unswept.IsUnswept, UnsweptSeats.SeatSweepsNothing}
+use Rattle.mk_trace.proofs.HeldLooks.{Looked, all_lack, behind, first, moves, seen_is}
 use Rattle.mk_trace.proofs.JoinedCalls.{Joined, elsewhere}
+use Rattle.mk_trace.specs.Playing.{MakesNoCycle}
+use Rattle.mk_turns.{proofs.Doing.not_own, specs.Sweeping.SweepsNothingFrom}
+use Rattle.mk_words.proofs.Seats.{without_keeps}
 
 -- Lists in which a seat makes no cycle.
 
@@ -37,9 +30,8 @@ lacks_no_cycle : (s : Seat) (es : List Event) → has_step is_of_cycle es ≡ fa
 lacks_no_cycle s [] h = refl
 lacks_no_cycle s (e ∷ es) h =
     let parts = or_parts (is_of_cycle e.step) (has_step is_of_cycle es) h in
-    or_from (of_cycle s e) (list_any (of_cycle s) es)
-    (ap (λ (b : Bool). is_same_seat s e.seat && b) parts.0 ∙ and-false (is_same_seat s e.seat))
-    (lacks_no_cycle s es parts.1)
+    or_from (of_cycle s e) (list_any (of_cycle s) es) (ap (λ (b : Bool). is_same_seat s e.seat && b) parts.0 ∙ and-false
+    _) (lacks_no_cycle s es parts.1)
 
 others_no_cycle : (s : Seat) (seats : List Seat) (es : List Event) → Has seats s → AreOfOthers seats es
     → MakesNoCycle s es
@@ -124,9 +116,7 @@ module _ {on : Bool} {h : HostState} {o : Op} {told : Answer} {q : PassState} {f
         subst (MakesNoCycle Host) (sym j.own.is)
         (no_cycle_append Host es j.own.more before.host
         (others_no_cycle Host (elsewhere j) j.own.more has_host j.own.of_others));
-    caller_unswept =
-        others_on config (Caller 0) q.seats q.seen fs has_caller j.came
-        (seat_on (pass_for h (Caller 0)) q sweeps before.caller_unswept);
+    caller_unswept = others_on config _ _ _ fs has_caller j.came (seat_on _ q sweeps before.caller_unswept);
     host_unswept = others_on config Host (elsewhere j) es fs has_host j.own before.host_unswept;
   }
 

@@ -1,24 +1,16 @@
 -- A trace has few events, each has few operations, and so few cycles end.
-use Rattle.std.proofs.Common.{◌≡◌, ℕ, ◌+◌, ◌≤◌, ◌==◌, nat_le, Bool, true, false, List, [], ◌∷◌, length, Ok, Result, sym}
-use Rattle.std.proofs.Common.{ap, subst, arith}
-use Rattle.std.specs.Prelude.{drop, if◌then◌else◌}
+use Rattle.std.proofs.{Common.Result, lemmas.List.Splits.length-slice_split, lemmas.List.Sums.count_by-le-length}
 use Rattle.std.specs.List.{slice_split}
-use Rattle.std.proofs.lemmas.Bool.Decides.{nat_tests}
-use Rattle.std.proofs.lemmas.List.{length-append}
-use Rattle.std.proofs.lemmas.List.Splits.{length-slice_split}
-use Rattle.std.proofs.lemmas.List.Sums.{count_by-le-length}
-use Rattle.mk_trace.proofs.Vocabulary.{A, C, Contents, Event, F, HeapPages, IsOfSomeTraceText, K, LinesSoFar, Op}
-use Rattle.mk_trace.proofs.Vocabulary.{TraceEvent, W, contents_of, ends, events_from, header_line_of, lines_of}
-use Rattle.mk_trace.proofs.Vocabulary.{nothing_written, ops_of, read_behind, text_fault_at, trace_of_lines}
-use Rattle.mk_trace.proofs.Vocabulary.{type_fault_at, typed_event, with_event, with_trace_line, words_of_line}
-use Rattle.mk_trace.proofs.Vocabulary.{written_from}
+use Rattle.mk_trace.proofs.Vocabulary.{A, C, Contents, Event, F, HeapPages, IsOfSomeTraceText, K, LinesSoFar, Ok, Op}
+use Rattle.mk_trace.proofs.Vocabulary.{TraceEvent, TraceStop, W, contents_of, ends, events_from, header_line_of}
+use Rattle.mk_trace.proofs.Vocabulary.{length-append, lines_of, nat_tests, nothing_written, ops_of, read_behind}
+use Rattle.mk_trace.proofs.Vocabulary.{text_fault_at, trace_of_lines, type_fault_at, typed_event, with_event}
+use Rattle.mk_trace.proofs.Vocabulary.{with_trace_line, words_of_line, written_from}
+use Rattle.mk_laws.proofs.Vocabulary.{Bool, List, ℕ, ap, arith, drop, false, if◌then◌else◌, length, nat_le, subst, sym}
+use Rattle.mk_laws.proofs.Vocabulary.{true, [], ◌+◌, ◌==◌, ◌∷◌, ◌≡◌, ◌≤◌}
 use Rattle.mk_script.specs.Words.{without_empty_last}
-use Rattle.mk_trace.specs.declared.faults.TraceStop.{TraceStop}
-use Rattle.mk_trace.specs.declared.lines.Line.{Line}
-use Rattle.mk_trace.specs.declared.lines.Line.TheVariants as line
-use Rattle.mk_trace.specs.Grammar.{along}
-use Rattle.mk_trace.specs.Traces.{contents_from, words_of_slots}
 use Rattle.mk_trace.proofs.ReadLines.{gone_on, passed_else, passed_then, then_next}
+use Rattle.mk_trace.specs.{Grammar.along, Traces.contents_from, Traces.words_of_slots, declared.lines.Line.Line}
 
 -- before any event
 pub none_ended : (es : List Event) → es ≡ [] → ends es ≡ 0
@@ -56,8 +48,8 @@ along_grows told read add measure grows number (line ∷ lines) before after h =
 
 line_adds : (before : LinesSoFar) (given : Line)
     → length (with_trace_line before given).events ≤ length before.events + 1
-line_adds before (line.Slot slot) = omega arith
-line_adds before (line.Event event) = let count = length-append before.events (event ∷ []) in omega (arith, count)
+line_adds before (Line.Slot slot) = omega arith
+line_adds before (Line.Event event) = let count = length-append before.events (event ∷ []) in omega (arith, count)
 
 event_adds : (before : List TraceEvent) (event : TraceEvent) → length (with_event before event) ≤ length before + 1
 event_adds before event = let count = length-append before (event ∷ []) in omega (arith, count)

@@ -1,24 +1,20 @@
 -- The flags of allocations: what stays of them, what one event does to them, and what a Free does.
-use Rattle.std.proofs.Common.{◌≡◌, ℕ, ◌<◌, Bool, true, false, List, [], ◌∷◌, ◌++◌, length, map, refl, ◌∙◌, ap, arith}
-use Rattle.std.proofs.Common.{length-append, zero, suc, ◌≤◌, sym, subst, inl, inr}
-use Rattle.std.specs.Prelude.{◌||◌, Option, Some, None, is_some, if◌then◌else◌, slice_index_or}
-use Rattle.std.proofs.lemmas.Bool.{or_parts, cases_eq, cases_lt}
-use Rattle.std.proofs.lemmas.List.{length-map, length-append, get_or-set_same, get_or-set_other, get_or_past}
-use Rattle.std.proofs.lemmas.List.{length-set, set_past}
 use Rattle.mk_trace.proofs.Vocabulary.{AreLater, Cell, Config, Event, Flight, FreesNone, IsHistory, Moment, NeverState}
 use Rattle.mk_trace.proofs.Vocabulary.{Null, Num, PlacedAllocation, Ptr, ReleasesNone, Step, Value, Words, World}
 use Rattle.mk_trace.proofs.Vocabulary.{address_of, after_free, allocation_at, allocations_by, cell_freed, decides_freed}
-use Rattle.mk_trace.proofs.Vocabulary.{flight_of, freed_where_it_stands, granted, has_step, is_left_unmarked}
-use Rattle.mk_trace.proofs.Vocabulary.{is_release, is_some_and, left, never_behind, never_granted, no_longer_fresh}
-use Rattle.mk_trace.proofs.Vocabulary.{placed_at, pointed_cell, unfreed, with_released, world_behind}
-use Rattle.mk_never.specs.NeverHeap.{Allocation, no_allocation, with_freed}
+use Rattle.mk_trace.proofs.Vocabulary.{flight_of, freed_where_it_stands, granted, has_step}
+use Rattle.mk_trace.proofs.Vocabulary.{histories_keep_the_invariant, is_left_unmarked, is_release, is_some_and, left}
+use Rattle.mk_trace.proofs.Vocabulary.{length-append, never_behind, never_granted, no_longer_fresh, placed_at}
+use Rattle.mk_trace.proofs.Vocabulary.{pointed_cell, unfreed, with_released, world_behind}
+use Rattle.mk_laws.proofs.Vocabulary.{Bool, LeavesPlaces, List, NeverAllocation as Allocation, None, Option, Some, ℕ}
+use Rattle.mk_laws.proofs.Vocabulary.{ap, arith, cases_eq, cases_lt, changed_at, false, freed_leaves, freed_released}
+use Rattle.mk_laws.proofs.Vocabulary.{fresh_leaves, get_or-set_other, get_or-set_same, get_or_past, if◌then◌else◌, inl}
+use Rattle.mk_laws.proofs.Vocabulary.{inr, is_some, length, length-map, length-set, map, no_allocation, none_freed}
+use Rattle.mk_laws.proofs.Vocabulary.{or_parts, refl, released_leaves, set_past, slice_index_or, subst, suc, sym, true}
+use Rattle.mk_laws.proofs.Vocabulary.{with_freed, zero, [], ◌++◌, ◌<◌, ◌||◌, ◌∙◌, ◌∷◌, ◌≡◌, ◌≤◌}
 use Rattle.mk_never.specs.Reach.{LeadsTo}
-use Rattle.mk_core.specs.declared.events.Step.TheVariants as step
-use Rattle.mk_core.specs.History.{left_from}
-use Rattle.mk_core.proofs.ChangedAllocations.{LeavesPlaces, changed_at, earlier_at, freed_leaves, freed_released}
-use Rattle.mk_core.proofs.ChangedAllocations.{fresh_leaves, released_leaves, none_freed}
+use Rattle.mk_core.{proofs.ChangedAllocations.earlier_at, specs.History.left_from}
 use Rattle.mk_laws.specs.Images.{AreTwins}
-use Rattle.mk_laws.proofs.InvariantHistories.{histories_keep_the_invariant}
 
 -- What stays of allocations over a list of events: their places and types, that they are released, and, where nothing
 -- is released, that they are not.
@@ -66,12 +62,12 @@ kept_release c w a is =
 
 step_later : (c : Config) (m : Moment) (f : Flight) (s : Step) (xs : List PlacedAllocation)
     → AreLater xs (allocations_by c m f s xs)
-step_later c m f step.Grant xs = more xs (granted c m f)
-step_later c m f (step.Quar p v) xs =
+step_later c m f Step.Grant xs = more xs (granted c m f)
+step_later c m f (Step.Quar p v) xs =
     let cell = cell_freed c.pages m.words f p v in
     changed xs (freed_leaves m.words cell) (λ a is. freed_released m.words cell a ∙ is)
-step_later c m f step.Begin xs = changed xs fresh_leaves (λ a is. is)
-step_later c m f step.Release xs = changed xs (released_leaves c m.words) (kept_release c m.words)
+step_later c m f Step.Begin xs = changed xs fresh_leaves (λ a is. is)
+step_later c m f Step.Release xs = changed xs (released_leaves c m.words) (kept_release c m.words)
 step_later c m f s xs = later_same xs
 
 pub later_left : (c : Config) (w : World) (es : List Event) → AreLater w.allocations (left_from c w es).allocations
@@ -88,11 +84,10 @@ pub same_releases : (xs : List PlacedAllocation) → ReleasesNone xs xs
 same_releases xs = record { count = omega arith; released = λ n lt. refl }
 
 pub releases_then : {xs ys zs : List PlacedAllocation} → ReleasesNone xs ys → ReleasesNone ys zs → ReleasesNone xs zs
-releases_then h g =
-    record {
-      count = omega (arith, h.count, g.count);
-      released = λ n lt. g.released n (omega (arith, lt, h.count)) ∙ h.released n lt;
-    }
+releases_then h g = record {
+  count = omega (arith, h.count, g.count);
+  released = λ n lt. g.released n (omega (arith, lt, h.count)) ∙ h.released n lt;
+}
 
 pub frees_then : (xs ys zs : List PlacedAllocation) → FreesNone xs ys → FreesNone ys zs → FreesNone xs zs
 frees_then xs ys zs h g n = g n ∙ h n
@@ -100,11 +95,10 @@ frees_then xs ys zs h g n = g n ∙ h n
 -- one more, and each changed
 
 more_releases : (xs : List PlacedAllocation) (a : PlacedAllocation) → ReleasesNone xs (xs ++ a ∷ [])
-more_releases xs a =
-    record {
-      count = omega (arith, length-append xs (a ∷ []));
-      released = λ n lt. ap (λ (x : PlacedAllocation). x.released) (earlier_at xs a n lt);
-    }
+more_releases xs a = record {
+  count = omega (arith, length-append xs (a ∷ []));
+  released = λ n lt. ap (λ (x : PlacedAllocation). x.released) (earlier_at xs a n lt);
+}
 
 more_frees : (xs : List PlacedAllocation) (a : PlacedAllocation) → a.freed ≡ false → FreesNone xs (xs ++ a ∷ [])
 more_frees [] a unfreed zero = unfreed
@@ -130,13 +124,13 @@ changed_frees change xs none keeps n =
 
 pub releases_by : (c : Config) (m : Moment) (f : Flight) (s : Step) (xs : List PlacedAllocation) → is_release s ≡ false
     → ReleasesNone xs (allocations_by c m f s xs)
-releases_by c m f step.Grant xs none = more_releases xs (granted c m f)
-releases_by c m f (step.Quar p v) xs none =
+releases_by c m f Step.Grant xs none = more_releases xs (granted c m f)
+releases_by c m f (Step.Quar p v) xs none =
     let cell = cell_freed c.pages m.words f p v in
     changed_releases (freed_where_it_stands m.words cell) xs (freed_leaves m.words cell).none
     (freed_released m.words cell)
-releases_by c m f step.Begin xs none = changed_releases no_longer_fresh xs refl (λ a. refl)
-releases_by c m f step.Release xs none = cc
+releases_by c m f Step.Begin xs none = changed_releases no_longer_fresh xs refl (λ a. refl)
+releases_by c m f Step.Release xs none = cc
 releases_by c m f _ xs none = same_releases xs
 
 -- What frees nothing changes nothing.
@@ -147,11 +141,11 @@ unfreed_all w (Some cell) xs none = cc
 
 pub frees_by : (c : Config) (m : Moment) (f : Flight) (s : Step) (xs : List PlacedAllocation)
     → decides_freed c m f s ≡ false → FreesNone xs (allocations_by c m f s xs)
-frees_by c m f step.Grant xs none = more_frees xs (granted c m f) refl
-frees_by c m f (step.Quar p v) xs none = λ n. ap (λ (l : List PlacedAllocation). (placed_at l n).freed)
+frees_by c m f Step.Grant xs none = more_frees xs (granted c m f) refl
+frees_by c m f (Step.Quar p v) xs none = λ n. ap (λ (l : List PlacedAllocation). (placed_at l n).freed)
     (unfreed_all m.words (cell_freed c.pages m.words f p v) xs none)
-frees_by c m f step.Begin xs none = changed_frees no_longer_fresh xs refl (λ a. refl)
-frees_by c m f step.Release xs none = changed_frees (with_released c m.words) xs refl (λ a. refl)
+frees_by c m f Step.Begin xs none = changed_frees no_longer_fresh xs refl (λ a. refl)
+frees_by c m f Step.Release xs none = changed_frees (with_released c m.words) xs refl (λ a. refl)
 frees_by c m f _ xs none = λ n. refl
 
 -- Where nothing is released, flags stay over a list.
@@ -215,8 +209,7 @@ kept_at : (n : NeverState) (i : ℕ) (b : Bool) → b ≡ (allocation_at n i).fr
     → ((if b then None else Some i) ≡ Some i → ⊥) → (allocation_at (with_freed n i) i).freed ≡ (allocation_at n i).freed
 kept_at n i false is out = absurd (out refl)
 kept_at n i true is out = elim (cases_lt i (length n.allocations)) [
-  | inl lt ↦ ap (λ (a : Allocation). a.freed)
-      (get_or-set_same n.allocations i (record (allocation_at n i) { freed = true }) no_allocation lt) ∙ is
+  | inl lt ↦ cc (get_or-set_same n.allocations i (record (allocation_at n i) { freed = true }) no_allocation lt, is)
   | inr le ↦ ap (λ (l : List Allocation). (slice_index_or l i no_allocation).freed)
       (set_past n.allocations i (record (allocation_at n i) { freed = true }) le)
 ]

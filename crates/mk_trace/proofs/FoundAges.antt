@@ -1,18 +1,14 @@
 -- The ages of allocations over a call: they are as they were, or one end has found them.
-use Rattle.std.proofs.Common.{◌≡◌, inl, inr, ℕ, ◌+◌, ◌≤◌, ◌<◌, Bool, true, false, List, [], ◌∷◌, ◌++◌, length, map, sym}
-use Rattle.std.proofs.Common.{◌∙◌, ap, arith}
-use Rattle.std.specs.Prelude.{◌&&◌, ◌||◌, not, filter, fold, Option, if◌then◌else◌}
-use Rattle.std.proofs.lemmas.Bool.{and_from, and_parts, cases_lt, false_from_ne_true, or_parts, true≢false, not-true}
-use Rattle.std.proofs.lemmas.List.{get_or_past, map-append}
-use Rattle.std.proofs.lemmas.List.Folds.{list_any-append}
-use Rattle.std.proofs.Math.Bool.{and-false}
 use Rattle.mk_trace.proofs.Vocabulary.{AreAgesOf, AreFound, AreThose, Config, Event, FlagsBehind, FreesNone}
-use Rattle.mk_trace.proofs.Vocabulary.{PlacedAllocation, ReleasesNone, age_in_a_word, age_of, counted, in_a_word, left}
-use Rattle.mk_trace.proofs.Vocabulary.{never_granted, one_if, placed_at, times, with_one}
-use Rattle.mk_trace.specs.Ledgers.{is_found_gone, is_gone}
-use Rattle.mk_trace.proofs.CountedAges.{counted_more}
+use Rattle.mk_trace.proofs.Vocabulary.{PlacedAllocation, ReleasesNone, age_in_a_word, age_of, and-false, counted}
+use Rattle.mk_trace.proofs.Vocabulary.{filter, fold, in_a_word, left, never_granted, one_if, placed_at, times, with_one}
+use Rattle.mk_laws.proofs.Vocabulary.{Bool, List, Option, ℕ, and_from, and_parts, ap, arith, cases_lt, false}
+use Rattle.mk_laws.proofs.Vocabulary.{false_from_ne_true, get_or_past, if◌then◌else◌, inl, inr, length, list_any-append}
+use Rattle.mk_laws.proofs.Vocabulary.{map, map-append, not, not-true, or_parts, sym, true, true≢false, [], ◌&&◌, ◌++◌}
+use Rattle.mk_laws.proofs.Vocabulary.{◌+◌, ◌<◌, ◌||◌, ◌∙◌, ◌∷◌, ◌≡◌, ◌≤◌}
 use Rattle.mk_trace.proofs.KeptObjects.{freed_before, maps_agree, unfreed_past, was_kept}
-use Rattle.mk_trace.proofs.NumberLists.{stands_passes, those_filtered}
+use Rattle.mk_trace.proofs.{CountedAges.counted_more, NumberLists.stands_passes, NumberLists.those_filtered}
+use Rattle.mk_trace.specs.Ledgers.{is_found_gone, is_gone}
 
 -- One end more
 

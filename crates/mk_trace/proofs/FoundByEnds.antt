@@ -1,27 +1,21 @@
 -- What ends find in a list of events that begins without a cycle, or in one.
-use Rattle.std.proofs.Common.{◌≡◌, ⊎_elim, ℕ, ◌+◌, ◌≤◌, Bool, true, false, List, [], ◌∷◌, ◌++◌, length, refl, sym, ◌∙◌}
-use Rattle.std.proofs.Common.{ap, subst, arith}
-use Rattle.std.specs.Prelude.{◌||◌, cond, if◌then◌else◌}
-use Rattle.std.specs.List.{list_any}
-use Rattle.std.proofs.lemmas.Bool.{cases_Bool, false_from_ne_true, or_parts, true≢false}
-use Rattle.std.proofs.lemmas.List.{length-append, length-map}
-use Rattle.std.proofs.lemmas.List.Folds.{list_any-append}
-use Rattle.std.proofs.lemmas.List.Sums.{sum_by-append, sum_by-cons}
 use Rattle.mk_trace.proofs.Vocabulary.{AreEnabledFrom, Config, Decided, Event, FreesNone, PlacedAllocation}
-use Rattle.mk_trace.proofs.Vocabulary.{ReleasesNone, Step, World, allocations_by, call_decided, cell_freed}
-use Rattle.mk_trace.proofs.Vocabulary.{decides_freed, ends, flight_of, freed_where_it_stands, granted, has_step}
-use Rattle.mk_trace.proofs.Vocabulary.{is_begin, is_end, is_release, no_longer_fresh, phase_of, with_released}
-use Rattle.mk_trace.proofs.Vocabulary.{world_behind}
-use Rattle.mk_core.specs.declared.events.Step.TheVariants as step
+use Rattle.mk_trace.proofs.Vocabulary.{ReleasesNone, Step, World, allocations_by, call_decided, calls_append}
+use Rattle.mk_trace.proofs.Vocabulary.{cell_freed, decides_freed, ends, flight_of, freed_where_it_stands, granted}
+use Rattle.mk_trace.proofs.Vocabulary.{has_step, is_begin, is_end, is_release, length-append, moves_phase}
+use Rattle.mk_trace.proofs.Vocabulary.{no_longer_fresh, phase_of, sum_by-append, sum_by-cons, with_released}
+use Rattle.mk_trace.proofs.Vocabulary.{world_behind, ⊎_elim}
+use Rattle.mk_laws.proofs.Vocabulary.{Bool, List, ℕ, ap, arith, cases_Bool, cond, false, false_from_ne_true}
+use Rattle.mk_laws.proofs.Vocabulary.{if◌then◌else◌, length, length-map, list_any, list_any-append, or_parts, refl}
+use Rattle.mk_laws.proofs.Vocabulary.{subst, sym, true, true≢false, [], ◌++◌, ◌+◌, ◌||◌, ◌∙◌, ◌∷◌, ◌≡◌, ◌≤◌}
 use Rattle.mk_core.specs.History.{calls_from, left_from}
-use Rattle.mk_core.proofs.Histories.{calls_append}
-use Rattle.mk_laws.proofs.CyclePhases.{AsksPhase, moves_phase, phase_behind}
-use Rattle.mk_trace.specs.Peaks.{found_by_ends_from}
+use Rattle.mk_laws.proofs.CyclePhases.{AsksPhase, phase_behind}
 use Rattle.mk_trace.proofs.FlagSteps.{frees_by, frees_then, releases_by, releases_then, same_releases}
 use Rattle.mk_trace.proofs.FreeCalls.{frees_decide, is_free_call}
+use Rattle.mk_trace.specs.Peaks.{found_by_ends_from}
 
 abbrev pub is_over : Step → Bool
-is_over step.Over = true
+is_over Step.Over = true
 is_over _ = false
 
 -- what an event adds
@@ -81,7 +75,7 @@ end_leaves : (c : Config) (w : World) (e : Event) → is_end e.step ≡ true
 end_leaves c w e is = by e.step is
   where
     by : (s : Step) → is_end s ≡ true → allocations_by c w.now (flight_of w.now e.seat) s w.allocations ≡ w.allocations
-    by step.End h = refl
+    by Step.End h = refl
     by _ h = cc
 
 one_releases_none : (c : Config) (w : World) (e : Event) → is_release e.step ≡ false
@@ -137,12 +131,12 @@ pub record Rests (c : Config) (w : World) (es : List Event) : Type 0 where
 
 idle_step : (s : Step) → AsksPhase s 0 → is_begin s ≡ false → is_over s ≡ false
     → (phase_behind s 0 ≡ 0) × (is_end s ≡ false) × (is_release s ≡ false)
-idle_step step.Begin asks begin over = cc
-idle_step step.Over asks begin over = cc
-idle_step step.Want asks begin over = absurd (omega arith)
-idle_step step.Close asks begin over = absurd (omega arith)
-idle_step step.Release asks begin over = absurd (omega arith)
-idle_step step.End asks begin over = absurd (omega arith)
+idle_step Step.Begin asks begin over = cc
+idle_step Step.Over asks begin over = cc
+idle_step Step.Want asks begin over = absurd (omega arith)
+idle_step Step.Close asks begin over = absurd (omega arith)
+idle_step Step.Release asks begin over = absurd (omega arith)
+idle_step Step.End asks begin over = absurd (omega arith)
 idle_step _ asks begin over = (refl, refl, refl)
 
 pub rests : (c : Config) (w : World) (es : List Event) → AreEnabledFrom c w es → phase_of w.now.words ≡ 0
@@ -162,8 +156,7 @@ rests c w (e ∷ es) on idle begins overs =
       phase = rest.phase;
       found = found-none c w e es one.1 ∙ rest.found;
       count = no_end-cons e es one.1 ∙ rest.count;
-      released =
-          releases_then (one_releases_none c w e one.2) rest.released;
+      released = releases_then (one_releases_none c w e one.2) rest.released;
     }
 
 -- Where a cycle is on, which ends, and none begins, that is the only end.
@@ -182,30 +175,30 @@ pub record IsOn (phase : ℕ) : Type 0 where
   pub most : phase ≤ 4
 
 on_step : (s : Step) {n : ℕ} → AsksPhase s n → IsOn n → is_end s ≡ false → IsOn (phase_behind s n)
-on_step step.Begin asks on none = record { least = omega arith; most = omega arith }
-on_step step.Want asks on none = record { least = omega arith; most = omega arith }
-on_step step.Close asks on none = record { least = omega arith; most = omega arith }
-on_step step.Release asks on none = record { least = omega arith; most = omega arith }
-on_step step.End asks on none = cc
-on_step step.Over asks on none = absurd (omega (arith, on.least))
+on_step Step.Begin asks on none = record { least = omega arith; most = omega arith }
+on_step Step.Want asks on none = record { least = omega arith; most = omega arith }
+on_step Step.Close asks on none = record { least = omega arith; most = omega arith }
+on_step Step.Release asks on none = record { least = omega arith; most = omega arith }
+on_step Step.End asks on none = cc
+on_step Step.Over asks on none = absurd (omega (arith, on.least))
 on_step _ asks on none = on
 
 end_step : (s : Step) (n : ℕ) → is_end s ≡ true → phase_behind s n ≡ 0
-end_step step.End n is = refl
+end_step Step.End n is = refl
 end_step _ n is = cc
 
 pub grows_by : (c : Config) (w : World) (e : Event) → length w.allocations ≤ length (world_behind c w e).allocations
 grows_by c w e = by e.step
   where
     by : (s : Step) → length w.allocations ≤ length (allocations_by c w.now (flight_of w.now e.seat) s w.allocations)
-    by step.Grant = omega (arith, length-append w.allocations (granted c w.now (flight_of w.now e.seat) ∷ []))
-    by (step.Quar p v) = omega (
+    by Step.Grant = omega (arith, length-append w.allocations (granted c w.now (flight_of w.now e.seat) ∷ []))
+    by (Step.Quar p v) = omega (
       arith,
       length-map w.allocations
           (freed_where_it_stands w.now.words (cell_freed c.pages w.now.words (flight_of w.now e.seat) p v)),
     )
-    by step.Begin = omega (arith, length-map w.allocations no_longer_fresh)
-    by step.Release = omega (arith, length-map w.allocations (with_released c w.now.words))
+    by Step.Begin = omega (arith, length-map w.allocations no_longer_fresh)
+    by Step.Release = omega (arith, length-map w.allocations (with_released c w.now.words))
     by _ = omega arith
 
 module _ (c : Config) (w : World) (e : Event) (es : List Event) (on : AreEnabledFrom c w (e ∷ es))
@@ -235,16 +228,15 @@ module _ (c : Config) (w : World) (e : Event) (es : List Event) (on : AreEnabled
 
   ends_later : is_end e.step ≡ false → EndsOnce c behind es → EndsOnce c w (e ∷ es)
   unfolding left_from
-  ends_later none rest =
-      record {
-        finds = rest.finds;
-        phase = rest.phase;
-        found = found-none c w e es none ∙ rest.found;
-        count = no_end-cons e es none ∙ rest.count;
-        earlier = omega (arith, grows_by c w e, rest.earlier);
-        freed = rest.freed;
-        released = rest.released;
-      }
+  ends_later none rest = record {
+    finds = rest.finds;
+    phase = rest.phase;
+    found = found-none c w e es none ∙ rest.found;
+    count = no_end-cons e es none ∙ rest.count;
+    earlier = omega (arith, grows_by c w e, rest.earlier);
+    freed = rest.freed;
+    released = rest.released;
+  }
 
 pub ends_once : (c : Config) (w : World) (es : List Event) → AreEnabledFrom c w es → IsOn (phase_of w.now.words)
     → has_step is_begin es ≡ false → has_step is_over es ≡ false → FreesNoneFrom c w es → has_step is_end es ≡ true
@@ -252,9 +244,8 @@ pub ends_once : (c : Config) (w : World) (es : List Event) → AreEnabledFrom c 
 ends_once c w [] on phase begins overs frees ends_in = absurd (true≢false (sym ends_in))
 ends_once c w (e ∷ es) on phase begins overs frees ends_in =
     let moves = moves_phase c w e es on in
-    ⊎_elim (ends_here c w e es on begins overs frees)
-    (λ (none : is_end e.step ≡ false). ends_later c w e es on begins overs frees none
-    (ends_once c (world_behind c w e) es moves.2 (subst IsOn (sym moves.1) (on_step e.step moves.0 phase none))
-    (or_parts (is_begin e.step) (has_step is_begin es) begins).1
-    (or_parts (is_over e.step) (has_step is_over es) overs).1 (free_parts c w e es frees).1
-    (sym (ap (λ (b : Bool). b || has_step is_end es) none) ∙ ends_in))) (cases_Bool (is_end e.step))
+    ⊎_elim (ends_here c w e es on begins overs frees) (λ (none : is_end e.step ≡ false). ends_later c w e es on begins
+    overs frees none (ends_once c (world_behind c w e) es moves.2 (subst IsOn (sym moves.1) (on_step e.step moves.0
+    phase none)) (or_parts (is_begin e.step) (has_step is_begin es) begins).1 (or_parts (is_over e.step) (has_step
+    is_over es) overs).1 (free_parts c w e es frees).1 (sym (ap (λ (b : Bool). b || has_step is_end es) none) ∙
+    ends_in))) (cases_Bool _)

@@ -1,22 +1,17 @@
 -- What looks between calls say of cells and of the objects in them.
-use Rattle.std.proofs.Common.{◌≡◌, ◌≢◌, ℕ, ◌+◌, ◌*◌, ◌%◌, ◌<◌, ◌≤◌, Bool, true, false, List, refl, sym, ◌∙◌, ap, arith}
-use Rattle.std.specs.Prelude.{not, nat_le, Option, Some, None, option_map, slice_index, if◌then◌else◌}
-use Rattle.std.proofs.lemmas.List.{get_or_past}
 use Rattle.mk_trace.proofs.Vocabulary.{Cell, Config, Event, FreedObject, HostOnlyLooks, IsBetweenCycles, IsHistory}
-use Rattle.mk_trace.proofs.Vocabulary.{PlacedAllocation, Words, cell_at, cell_of_allocation, cell_words}
-use Rattle.mk_trace.proofs.Vocabulary.{freed_object_of, global_at, header_at, is_freed, is_heap_address, large_words}
-use Rattle.mk_trace.proofs.Vocabulary.{left, never_behind, phase_of, placed_at, storage_words, unfreed}
-use Rattle.mk_geom.specs.Addresses.{page_at_address}
-use Rattle.mk_core.specs.declared.events.Word.TheVariants as word
-use Rattle.mk_core.specs.Bits.{has_bit}
+use Rattle.mk_trace.proofs.Vocabulary.{PlacedAllocation, Word, Words, cell_at, cell_of_allocation, cell_words}
+use Rattle.mk_trace.proofs.Vocabulary.{freed_object_of, global_at, header_at, histories_keep_the_invariant, is_freed}
+use Rattle.mk_trace.proofs.Vocabulary.{is_heap_address, large_words, left, never_behind, option_map, phase_of}
+use Rattle.mk_trace.proofs.Vocabulary.{placed_at, storage_words, unfreed}
+use Rattle.mk_laws.proofs.Vocabulary.{Bool, List, None, Option, Some, ℕ, ap, arith, false, get_or_past, has_bit}
+use Rattle.mk_laws.proofs.Vocabulary.{if◌then◌else◌, nat_le, no_bit, not, page_at_address, refl, slice_index, sym, true}
+use Rattle.mk_laws.proofs.Vocabulary.{◌%◌, ◌*◌, ◌+◌, ◌<◌, ◌∙◌, ◌≡◌, ◌≢◌, ◌≤◌}
 use Rattle.mk_core.specs.Cells.{pointed_cell}
-use Rattle.mk_core.proofs.WordBits.{no_bit}
 use Rattle.mk_laws.proofs.KnownWorlds.{known_world}
-use Rattle.mk_laws.proofs.InvariantHistories.{histories_keep_the_invariant}
-use Rattle.mk_trace.specs.Looking.{word_behind}
-use Rattle.mk_trace.proofs.EndsInLists.{leaves_twice}
 use Rattle.mk_trace.proofs.FoundObjects.{PointsToCell, frees_nothing, points_to_cell}
-use Rattle.mk_trace.proofs.LookedTables.{leaves_then}
+use Rattle.mk_trace.proofs.{EndsInLists.leaves_twice, LookedTables.leaves_then}
+use Rattle.mk_trace.specs.Looking.{word_behind}
 
 -- looks, one after the other
 
@@ -67,7 +62,7 @@ module _ (c : Config) (es : List Event) (history : IsHistory c es) where
   abbrev w : Words
   w = (left c es).now.words
 
-  pub quarantine_tells : (cell : Cell) (q : ℕ) → q ≡ word_behind c es (word.Quar cell.page)
+  pub quarantine_tells : (cell : Cell) (q : ℕ) → q ≡ word_behind c es (Word.Quar cell.page)
       → has_bit (q % 4294967296) cell.index ≡ is_freed w cell
   quarantine_tells cell q is =
       ap (λ (n : ℕ). has_bit n cell.index)
@@ -77,8 +72,7 @@ module _ (c : Config) (es : List Event) (history : IsHistory c es) where
   pub none_freed_there : (cell : Cell) → c.pages ≤ cell.page → is_freed w cell ≡ false
   none_freed_there cell past =
       let lengths = (known_world c es history.within_limits history.enabled).lengths in
-      no_bit (slice_index w.freed cell.page) cell.index
-      (get_or_past w.freed cell.page 0 (omega (arith, past, lengths.freed)))
+      no_bit _ cell.index (get_or_past _ cell.page 0 (omega (arith, past, lengths.freed)))
 
   -- The object of a slot
 
@@ -120,9 +114,7 @@ module _ (c : Config) (es : List Event) (history : IsHistory c es) where
           → object ≡ freed_object_of c xs it.number
       same_object object at words large young =
           let storage : object.storage ≡ storage_words c a = words ∙ it.words in
-          let reserved : object.reserved ≡ large_words c a =
-          large ∙ ap (λ (n : ℕ). if not (nat_le n 32) then n else 0) storage
-          ∙ ap (λ (b : Bool). if b then storage_words c a else 0) (sym it.large) in
+          let reserved : object.reserved ≡ large_words c a = cc (large, storage, it.large) in
           ap (λ (x : Cell). record object { cell = x }) (at ∙ it.is_cell)
           ∙ ap (λ (n : ℕ). record object { cell = cell_of_allocation c a; storage = n }) storage
           ∙ ap (λ (n : ℕ). record object {
@@ -135,6 +127,4 @@ module _ (c : Config) (es : List Event) (history : IsHistory c es) where
           → object.storage ≡ cell_words w cell
           → object.reserved ≡ (if not (nat_le object.storage 32) then object.storage else 0) → object.age ≡ 0
           → Some object ≡ found
-      unfreed_object object is at words large young =
-          ap Some (same_object object at words large young)
-          ∙ ap (option_map (freed_object_of c xs)) (sym (by_bit false is))
+      unfreed_object object is at words large young = cc (same_object object at words large young, by_bit false is)

@@ -1,43 +1,27 @@
 -- What freed bits and globals show between calls.
-use Rattle.std.proofs.Common.{◌≡◌, ◌≢◌, ⊎_elim, inl, inr, ℕ, ◌<◌, Bool, true, false, List, length, sym, ◌∙◌, ap, ◌+◌}
-use Rattle.std.proofs.Common.{refl, subst, arith}
-use Rattle.std.specs.Prelude.{not, nat_le, Some, None, slice_index, if◌then◌else◌}
-use Rattle.std.proofs.lemmas.Bool.{cases_Bool, eqb-true, false_from_ne_true, true≢false}
 use Rattle.std.proofs.Math.ListN.{get_or-map as get_or-map-default}
 use Rattle.mk_trace.proofs.Vocabulary.{AreLater, Cell, Config, Event, IsHistory, IsSound, Kind, NeverState, Null, Num}
 use Rattle.mk_trace.proofs.Vocabulary.{PlacedAllocation, Ptr, Value, Words, address_of, allocation_at}
-use Rattle.mk_trace.proofs.Vocabulary.{cell_of_allocation, cell_words, global_at, is_freed, is_large, is_phase}
-use Rattle.mk_trace.proofs.Vocabulary.{kinds_of, left, never_behind, never_granted, phase_of, placed_at, storage_words}
-use Rattle.mk_trace.proofs.Vocabulary.{unfreed}
-use Rattle.mk_never.specs.Reach.{LeadsTo}
-use Rattle.mk_never.specs.Reach.IsReachable.{by_global}
-use Rattle.mk_never.specs.Typed.{IsPlaceIn}
-use Rattle.mk_geom.specs.StorageWords.{IsWordOf}
-use Rattle.mk_core.specs.Allocations.{storage_of}
-use Rattle.mk_core.specs.Cells.{pointed_cell}
-use Rattle.mk_core.specs.History.{bases_of}
-use Rattle.mk_core.specs.StandingAllocations.{object_placed}
-use Rattle.mk_core.specs.Image.{image_of}
-use Rattle.mk_core.proofs.PointedAllocations.{word_points}
-use Rattle.mk_core.proofs.StandingAllocations.{cells_begin, storage_holds, typed_size}
-use Rattle.mk_core.proofs.Sizes.{large_is_not_small, words_are_small}
-use Rattle.mk_laws.specs.Quarantine.{IsFreedCell, IsQuarantined}
-use Rattle.mk_laws.specs.LayoutScene.{is_released_in}
-use Rattle.mk_laws.proofs.Settled.{unreleased_are_apart}
-use Rattle.mk_laws.proofs.InvariantHistories.{histories_keep_the_invariant}
+use Rattle.mk_trace.proofs.Vocabulary.{cell_of_allocation, cell_words, exists_placed, global_at}
+use Rattle.mk_trace.proofs.Vocabulary.{histories_keep_the_invariant, is_freed, is_large, is_phase, kinds_of, left}
+use Rattle.mk_trace.proofs.Vocabulary.{never_behind, never_granted, phase_of, placed_at, reach_is_kept, storage_words}
+use Rattle.mk_trace.proofs.Vocabulary.{unfreed, ⊎_elim}
+use Rattle.mk_laws.proofs.Vocabulary.{Bool, IsFreedCell, IsQuarantined, IsWordOf, List, Mirrors, None, Some, ℕ, ap}
+use Rattle.mk_laws.proofs.Vocabulary.{arith, bases_of, cases_Bool, cells_begin, eqb-true, false, false_from_ne_true}
+use Rattle.mk_laws.proofs.Vocabulary.{if◌then◌else◌, image_of, inl, inr, is_released_in, large_is_not_small, length}
+use Rattle.mk_laws.proofs.Vocabulary.{nat_le, not, object_placed, refl, slice_index, storage_holds, storage_of, subst}
+use Rattle.mk_laws.proofs.Vocabulary.{sym, true, true≢false, typed_size, word_points, ◌+◌, ◌<◌, ◌∙◌, ◌≡◌, ◌≢◌}
+use Rattle.mk_never.specs.{Reach.LeadsTo, Reach.IsReachable.by_global, Typed.IsPlaceIn}
+use Rattle.mk_core.{proofs.Sizes.words_are_small, specs.Cells.pointed_cell}
+use Rattle.mk_laws.proofs.{InvariantTheorems.allocations_stand, Settled.unreleased_are_apart}
 use Rattle.mk_laws.specs.SettledPages.{StandsUsed}
-use Rattle.mk_laws.specs.Mirrors.{Mirrors}
-use Rattle.mk_laws.proofs.ImagesKept.{exists_placed}
-use Rattle.mk_laws.proofs.InvariantTheorems.{allocations_stand, reach_is_kept}
 
 -- Freed bits between calls: those of the allocations that are freed and unreleased, and no others.
 
 -- The cell follows from the place and the type.
 pub cell_by : (c : Config) (a b : PlacedAllocation) → a.base ≡ b.base → a.ty ≡ b.ty
     → cell_of_allocation c a ≡ cell_of_allocation c b
-cell_by c a b base ty =
-    ap (λ (n : ℕ). cell_of_allocation c (record a { base = n })) base
-    ∙ ap (λ (n : ℕ). cell_of_allocation c (record b { ty = n })) ty
+cell_by c a b base ty = cc
 
 module _ (c : Config) (es : List Event) (history : IsHistory c es) (out : phase_of (left c es).now.words ≢ 4) where
   abbrev placed : List PlacedAllocation
@@ -96,8 +80,7 @@ module _ (c : Config) (es fs : List Event) (before : IsHistory c es) (behind : I
       → is_freed (left c fs).now.words (cell_of_allocation c (placed_at (left c es).allocations i))
       ≡ not (placed_at (left c fs).allocations i).released
   bit_tells_released i unreleased freed = elim (cases_Bool (placed_at (left c fs).allocations i).released) [
-    | inr still ↦ ap (is_freed (left c fs).now.words) (sym (same_cell i (old i freed)))
-        ∙ bit_tells_freed c fs behind out i still ∙ freed ∙ ap (λ (b : Bool). not b) (sym still)
+    | inr still ↦ cc (same_cell i (old i freed), bit_tells_freed c fs behind out i still, freed, still)
     | inl gone ↦
         false_from_ne_true _ (λ is.
         (let x = owner c fs behind out (cell_of_allocation c (placed_at (left c es).allocations i)) is in
@@ -150,9 +133,7 @@ module _ (c : Config) (es : List Event) (history : IsHistory c es) (slot : ℕ) 
     type_is = sound_pointer.1 ∙ sym (mirrors.twins.ty number (exists_placed xs number unreleased))
 
     as_many : length (kinds_of n.types ty) ≡ length (kinds_of c.types a.ty)
-    as_many =
-        ap (λ (l : List (List Kind)). length (kinds_of l ty)) mirrors.types
-        ∙ ap (λ (t : ℕ). length (kinds_of c.types t)) type_is
+    as_many = cc (mirrors.types, type_is)
 
     within : IsPlaceIn (kinds_of n.types ty) offset → offset < storage_words c a
     within (inl first) =
@@ -168,14 +149,11 @@ module _ (c : Config) (es : List Event) (history : IsHistory c es) (slot : ℕ) 
     is_word = let lt = within sound_pointer.2 in (omega arith, omega arith)
 
     image_is : slice_index w.globals slot ≡ address_of (a.base + offset)
-    image_is =
-        shows_image ∙ ap (image_of (bases_of xs)) points ∙ ap (λ (base : ℕ). address_of (base + offset))
-        (get_or-map-default (λ (x : PlacedAllocation). x.base) xs number never_granted)
+    image_is = cc (shows_image, points, get_or-map-default (λ (x : PlacedAllocation). x.base) xs number never_granted)
 
     pub points_into : pointed_cell c.pages w.pages (slice_index w.globals slot) ≡ Some (cell_of_allocation c a)
     points_into =
-        ap (pointed_cell c.pages w.pages) image_is
-        ∙ word_points c w a history.within_limits stands.stands stands.headers (a.base + offset) is_word
+        cc (image_is, word_points c w a history.within_limits stands.stands stands.headers (a.base + offset) is_word)
 
     pub words_shown : cell_words w (cell_of_allocation c a) ≡ storage_words c a
     words_shown = (cells_begin c w a history.within_limits stands.stands stands.headers).1

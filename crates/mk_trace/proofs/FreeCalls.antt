@@ -1,33 +1,26 @@
 -- What frees an object decides a Free.
-use Rattle.std.proofs.Common.{◌≡◌, ℕ, Bool, true, false, refl, ◌∙◌, ap}
-use Rattle.std.specs.Prelude.{◌&&◌, ◌||◌, not, Option, Some, None, is_some, if◌then◌else◌}
-use Rattle.std.specs.List.{list_any}
 use Rattle.mk_trace.proofs.Vocabulary.{Answer, Caller, Cell, Config, Decided, Flight, Host, Marker, Moment, Op, Seat}
 use Rattle.mk_trace.proofs.Vocabulary.{Stage, Step, call_decided, cell_freed, decides_freed, entry_of, flagged}
 use Rattle.mk_trace.proofs.Vocabulary.{flight_of, is_phase, pointed_cell}
-use Rattle.mk_never.specs.declared.operations.Op.TheVariants as op
-use Rattle.mk_core.specs.declared.events.Answer.TheVariants as answer
-use Rattle.mk_core.specs.declared.events.Step.TheVariants as step
-use Rattle.mk_core.specs.declared.seats.Stage.TheVariants as stage
-use Rattle.mk_core.specs.Effects.{progress_freed}
-use Rattle.mk_core.specs.NewPlaces.{is_free_at, is_undecided_free, target}
-use Rattle.mk_core.specs.TurnConditions.{frees}
+use Rattle.mk_laws.proofs.Vocabulary.{Bool, None, Option, Some, ℕ, ap, false, frees, if◌then◌else◌, is_free_at, is_some}
+use Rattle.mk_laws.proofs.Vocabulary.{is_undecided_free, list_any, not, progress_freed, refl, target, true, ◌&&◌, ◌||◌}
+use Rattle.mk_laws.proofs.Vocabulary.{◌∙◌, ◌≡◌}
 
 abbrev pub is_free : Op → Bool
-is_free (op.Free p) = true
+is_free (Op.Free p) = true
 is_free _ = false
 
 abbrev pub is_free_call : Decided → Bool
 is_free_call x = is_free x.op
 
 pub flagged_free : (o : Op) (a : Answer) → is_free (flagged o a) ≡ is_free o
-flagged_free (op.New d ty full) answer.Full = refl
-flagged_free (op.New d ty full) _ = refl
+flagged_free (Op.New d ty full) Answer.Full = refl
+flagged_free (Op.New d ty full) _ = refl
 flagged_free o a = refl
 
 frees_at : (s : Stage) (o : Op) → is_free_at s o ≡ true → is_free o ≡ true
-frees_at stage.Turn (op.Free p) h = refl
-frees_at stage.Turn _ h = cc
+frees_at Stage.Turn (Op.Free p) h = refl
+frees_at Stage.Turn _ h = cc
 frees_at _ o h = cc
 
 some_by_test : (b : Bool) (x : Option Cell) → is_some (if b then x else None) ≡ true → (b ≡ true) × (is_some x ≡ true)
@@ -43,12 +36,12 @@ freed_by_free c m f p v some =
 
 decided_by_cell : (k : ℕ) (f : Flight) (cell : Option Cell) → is_some cell ≡ true → is_free f.op ≡ true
     → list_any is_free_call (entry_of k f.op (progress_freed f cell).answer) ≡ true
-decided_by_cell k f (Some cell) some free = ap (λ (b : Bool). b || false) (flagged_free f.op answer.Done ∙ free)
+decided_by_cell k f (Some cell) some free = ap (λ (b : Bool). b || false) (flagged_free f.op Answer.Done ∙ free)
 decided_by_cell k f None some free = cc
 
 quar_decides : (c : Config) (m : Moment) (seat : Seat) (p v : ℕ)
     → is_some (cell_freed c.pages m.words (flight_of m seat) p v) ≡ true
-    → list_any is_free_call (call_decided c m (record { seat = seat; step = step.Quar p v })) ≡ true
+    → list_any is_free_call (call_decided c m (record { seat = seat; step = Step.Quar p v })) ≡ true
 quar_decides c m (Caller k) p v some =
     let f : Flight = flight_of m (Caller k) in
     decided_by_cell k f (cell_freed c.pages m.words f p v) some (freed_by_free c m f p v some)
@@ -57,11 +50,11 @@ quar_decides c m Host p v some = let free = freed_by_free c m (flight_of m Host)
 
 pub frees_decide : (c : Config) (m : Moment) (seat : Seat) (s : Step) → decides_freed c m (flight_of m seat) s ≡ true
     → list_any is_free_call (call_decided c m (record { seat = seat; step = s })) ≡ true
-frees_decide c m seat (step.Quar p v) h = quar_decides c m seat p v h
+frees_decide c m seat (Step.Quar p v) h = quar_decides c m seat p v h
 frees_decide c m seat _ h = cc
 
 -- What frees is a `quar`.
-pub freeing_is : (kind : Step → Bool) → ((p v : ℕ) → kind (step.Quar p v) ≡ false) → (c : Config) (m : Moment)
+pub freeing_is : (kind : Step → Bool) → ((p v : ℕ) → kind (Step.Quar p v) ≡ false) → (c : Config) (m : Moment)
     (f : Flight) (x : Step) → decides_freed c m f x ≡ true → kind x ≡ false
-freeing_is kind quar c m f (step.Quar p v) h = quar p v
+freeing_is kind quar c m f (Step.Quar p v) h = quar p v
 freeing_is kind quar c m f _ h = cc

@@ -1,39 +1,29 @@
 -- What is freed and quarantined over a call of the caller, and all that the call does.
-use Rattle.std.proofs.Common.{◌≡◌, ℕ, ◌+◌, ◌*◌, ◌<◌, Bool, false, List, ◌++◌, length, refl, sym, ◌∙◌, ap, subst, arith}
-use Rattle.std.proofs.Common.{inl, inr, true, append_assoc, max, ◌∷◌, []}
-use Rattle.std.specs.Prelude.{◌||◌, Some}
-use Rattle.std.specs.List.{list_any}
-use Rattle.std.proofs.lemmas.Bool.{true≢false, cases_Bool}
 use Rattle.mk_trace.proofs.Vocabulary.{Answer, AreLater, CallerIsHome, Calls, Config, Decided, EndsTell, Event}
 use Rattle.mk_trace.proofs.Vocabulary.{FlagsBehind, FlagsBehindCall, HoldsMostAtEnd, HostState, IsHistory}
 use Rattle.mk_trace.proofs.Vocabulary.{IsMostWhereFreed, LeavesAllocations, NeverState, Op, PassState, PlacedAllocation}
 use Rattle.mk_trace.proofs.Vocabulary.{QuarantinesMostWhereFreed, Step, WordsState, World, after_calls, after_free}
-use Rattle.mk_trace.proofs.Vocabulary.{allocation_at, asked, calls_from, decides_freed, entry_of, first_world}
-use Rattle.mk_trace.proofs.Vocabulary.{flight_of, freed_words, greatest, has_step, is_begin, is_of_cycle, is_release}
-use Rattle.mk_trace.proofs.Vocabulary.{is_under_turn, left, never_behind, number_freed, placed_at, quarantined_words}
-use Rattle.mk_trace.proofs.Vocabulary.{register_at, reserved_words, unflagged, world_behind}
-use Rattle.mk_never.specs.declared.operations.Op.TheVariants as op
+use Rattle.mk_trace.proofs.Vocabulary.{allocation_at, asked, calls_from, decides_freed, entry_of, exists_placed}
+use Rattle.mk_trace.proofs.Vocabulary.{first_world, flight_of, freed_words, greatest, has_step, is_begin, is_of_cycle}
+use Rattle.mk_trace.proofs.Vocabulary.{is_release, is_under_turn, lacks_append, left, max, never_behind, none_at}
+use Rattle.mk_trace.proofs.Vocabulary.{number_freed, placed_at, quarantined_words, reach_is_kept, register_at}
+use Rattle.mk_trace.proofs.Vocabulary.{reserved_words, unflagged, world_behind}
+use Rattle.mk_laws.proofs.Vocabulary.{Bool, List, Some, ℕ, ap, append_assoc, arith, cases_Bool, earlier_part_is_history}
+use Rattle.mk_laws.proofs.Vocabulary.{false, inl, inr, left_in_parts, length, list_any, never_in_parts, refl, subst}
+use Rattle.mk_laws.proofs.Vocabulary.{sym, true, true≢false, [], ◌*◌, ◌++◌, ◌+◌, ◌<◌, ◌||◌, ◌∙◌, ◌∷◌, ◌≡◌}
 use Rattle.mk_never.specs.Reach.IsReachable.{by_register}
-use Rattle.mk_core.proofs.HistoryParts.{earlier_part_is_history, left_in_parts, never_in_parts}
-use Rattle.mk_core.specs.declared.events.Step.TheVariants as step
-use Rattle.mk_laws.proofs.ImagesKept.{exists_placed}
-use Rattle.mk_laws.proofs.InvariantTheorems.{reach_is_kept}
-use Rattle.mk_alloc.proofs.ListParts.{none_at, lacks_append}
 use Rattle.mk_alloc.specs.TurnCycles.{FreeIsExact, FreesFirst, IsDueIn}
-use Rattle.mk_trace.specs.Peaks.{greatest_from}
-use Rattle.mk_trace.proofs.FlagSteps.{is_freed_behind, is_freed_there, others_kept, points_there, twins, was_unfreed}
-use Rattle.mk_trace.proofs.FlagSteps.{later_left}
+use Rattle.mk_trace.proofs.EndsInCalls.{beside_leaves, ends_told}
+use Rattle.mk_trace.proofs.FlagSteps.{is_freed_behind, is_freed_there, later_left, others_kept, points_there, twins}
+use Rattle.mk_trace.proofs.FlagSteps.{was_unfreed}
 use Rattle.mk_trace.proofs.FreeCalls.{flagged_free, is_free, is_free_call}
-use Rattle.mk_trace.proofs.FoundByEnds.{none_freed_from}
-use Rattle.mk_trace.proofs.JoinedCalls.{InTurn, Joined, acts, before, before_lacks, exact, in_parts, last, called}
-use Rattle.mk_trace.proofs.JoinedCalls.{decided, whole}
-use Rattle.mk_trace.proofs.EndsInLists.{first_at, lacks_by}
-use Rattle.mk_trace.proofs.FreedMost.{FreesBefore, ReleasesLate, MostWhereFreed, free_most, no_more_without_free}
-use Rattle.mk_trace.proofs.OwnPieces.{within_is}
-use Rattle.mk_trace.proofs.OneCaller.{callers_at_home}
-use Rattle.mk_trace.proofs.HeldCalls.{held_at_end}
-use Rattle.mk_trace.proofs.EndsInCalls.{ends_told, beside_leaves}
+use Rattle.mk_trace.proofs.FreedMost.{FreesBefore, MostWhereFreed, ReleasesLate, free_most, no_more_without_free}
 use Rattle.mk_trace.proofs.FreedWords.{large_weight, quarantined_is, reserved_is, storage_weight, weighed}
+use Rattle.mk_trace.proofs.JoinedCalls.{InTurn, Joined, acts, before, before_lacks, called, decided, exact, in_parts}
+use Rattle.mk_trace.proofs.JoinedCalls.{last, whole}
+use Rattle.mk_trace.proofs.{EndsInLists.first_at, EndsInLists.lacks_by, FoundByEnds.none_freed_from}
+use Rattle.mk_trace.proofs.{HeldCalls.held_at_end, OneCaller.callers_at_home, OwnPieces.within_is}
+use Rattle.mk_trace.specs.Peaks.{greatest_from}
 
 -- What a call does to the flags of allocations: its operation frees one, or none.
 
@@ -49,7 +39,7 @@ module _ (c : Config) (es more : List Event) (whole : IsHistory c (es ++ more)) 
       subst (λ (w : World). AreLater xs w.allocations) (sym (left_in_parts c es more)) (later_left c (left c es) more)
 
   none_by : (n : NeverState) (o : Op) → is_free o ≡ false → (i : ℕ) → number_freed n o ≡ Some i → ⊥
-  none_by n (op.Free p) other i is = true≢false other
+  none_by n (Op.Free p) other i is = true≢false other
   none_by n o other i is = absurd cc
 
   flags_of_other : (o : Op) (a : Answer) → is_free o ≡ false → calls_from c (left c es) more ≡ entry_of 0 o (Some a)
@@ -62,8 +52,8 @@ module _ (c : Config) (es more : List Event) (whole : IsHistory c (es ++ more)) 
     frees = λ i is. absurd (none_by (never_behind c es) o other i is);
   }
 
-  flags_of_free : (r : ℕ) (a : Answer) → calls_from c (left c es) more ≡ entry_of 0 (op.Free r) (Some a)
-      → FlagsBehind xs ys (number_freed (never_behind c es) (op.Free r))
+  flags_of_free : (r : ℕ) (a : Answer) → calls_from c (left c es) more ≡ entry_of 0 (Op.Free r) (Some a)
+      → FlagsBehind xs ys (number_freed (never_behind c es) (Op.Free r))
   flags_of_free r a one =
       let n : NeverState = never_behind c es in
       let v = register_at n 0 r in
@@ -89,37 +79,37 @@ module _ (c : Config) (es more : List Event) (whole : IsHistory c (es ++ more)) 
 
   pub flags_behind : (o : Op) (a : Answer) → calls_from c (left c es) more ≡ entry_of 0 o (Some a)
       → FlagsBehind xs ys (number_freed (never_behind c es) o)
-  flags_behind (op.Free r) a one = flags_of_free r a one
+  flags_behind (Op.Free r) a one = flags_of_free r a one
   flags_behind o a one = flags_of_other o a refl one
 
 -- What is seen of a Free's call: where something is released, an event before that frees.
 
 release_of_cycle : (s : Step) → is_of_cycle s ≡ false → is_release s ≡ false
-release_of_cycle step.Release h = cc
+release_of_cycle Step.Release h = cc
 release_of_cycle _ h = refl
 
 module _ {on : Bool} {h : HostState} {o : Op} {told : Answer} {q : PassState} {fs : List Event}
-    (j : Joined on h o told q fs) (r : ℕ) (turn : InTurn j (op.Free r)) where
+    (j : Joined on h o told q fs) (r : ℕ) (turn : InTurn j (Op.Free r)) where
   abbrev config : Config
   config = h.pass.table.config
 
   abbrev prior : List Event
-  prior = before j (op.Free r) turn
+  prior = before j (Op.Free r) turn
 
   abbrev part : List Event
-  part = acts j (op.Free r) turn
+  part = acts j (Op.Free r) turn
 
   abbrev give : List Event
-  give = last j (op.Free r) turn
+  give = last j (Op.Free r) turn
 
   is_exact : FreeIsExact on turn.ends.turn
-  is_exact = exact j (op.Free r) turn
+  is_exact = exact j (Op.Free r) turn
 
   releases_none : (es : List Event) → has_step is_of_cycle es ≡ false → has_step is_release es ≡ false
   releases_none es none = lacks_by is_of_cycle is_release release_of_cycle es none
 
   none_prior : has_step is_release prior ≡ false
-  none_prior = before_lacks j (op.Free r) turn is_release (λ y. refl)
+  none_prior = before_lacks j (Op.Free r) turn is_release (λ y. refl)
 
   frees_before : FreesFirst turn.ends.turn → FreesBefore config h.pass.seen j.own.more
   frees_before first =
@@ -128,11 +118,9 @@ module _ {on : Bool} {h : HostState} {o : Op} {told : Answer} {q : PassState} {f
         before = prior ++ d.before;
         event = d.event;
         behind = d.behind ++ give;
-        is = in_parts j (op.Free r) turn ∙ ap (λ (l : List Event). prior ++ (l ++ give)) d.is ∙ simp append_assoc;
+        is = in_parts j (Op.Free r) turn ∙ ap (λ (l : List Event). prior ++ (l ++ give)) d.is ∙ simp append_assoc;
         none_before = lacks_append is_release prior d.before none_prior (releases_none d.before first.no_cycle);
-        decides =
-            subst (λ (w : World). decides_freed config w.now (flight_of w.now d.event.seat) d.event.step ≡ true)
-            (ap (left config) (within_is turn d.before)) d.due.decides;
+        decides = cc (within_is turn d.before, d.due.decides);
       }
 
   -- A cycle begins in the turn, after what frees, or nothing is released.
@@ -140,7 +128,7 @@ module _ {on : Bool} {h : HostState} {o : Op} {told : Answer} {q : PassState} {f
   releases_late = elim (cases_Bool (has_step is_begin part)) [
     | inl begins ↦ inr (frees_before (is_exact.first (is_exact.begins.0 (first_at is_begin part begins).at)))
     | inr none ↦
-        inl (ap (has_step is_release) (in_parts j (op.Free r) turn)
+        inl (ap (has_step is_release) (in_parts j (Op.Free r) turn)
         ∙ lacks_append is_release prior (part ++ give) none_prior
         (lacks_append is_release part give
         (releases_none part (is_exact.undue
@@ -155,26 +143,21 @@ greatest_alike : (c : Config) (f g : List PlacedAllocation → ℕ) → ((xs : L
     → (w : World) (es : List Event) → greatest_from c w f es ≡ greatest_from c w g es
 unfolding greatest_from
 greatest_alike c f g same w [] = same w.allocations
-greatest_alike c f g same w (e ∷ es) =
-    ap (λ (n : ℕ). max n (greatest_from c (world_behind c w e) f es)) (same w.allocations)
-    ∙ ap (max (g w.allocations)) (greatest_alike c f g same (world_behind c w e) es)
+greatest_alike c f g same w (e ∷ es) = cc (same w.allocations, greatest_alike c f g same (world_behind c w e) es)
 
 in_other_words : (c : Config) (measure : List PlacedAllocation → ℕ) (weight : ℕ → ℕ)
     → ((xs : List PlacedAllocation) → measure xs ≡ weighed weight xs) → (es : List Event) (o : Op) (fs : List Event)
     → MostWhereFreed weight c es o fs → IsMostWhereFreed c measure (λ (a : PlacedAllocation). weight a.ty) es o fs
 in_other_words c measure weight same es o fs most =
-    greatest_alike c measure (weighed weight) same (first_world c) fs ∙ most
-    ∙ ap (λ (n : ℕ). max n (weighed weight (left c es).allocations
-    + freed_words c (λ (a : PlacedAllocation). weight a.ty) es o))
-    (sym (greatest_alike c measure (weighed weight) same (first_world c) es))
-    ∙ ap (λ (n : ℕ). max (greatest c measure es) (n + freed_words c (λ (a : PlacedAllocation). weight a.ty) es o))
-    (sym (same (left c es).allocations))
+    greatest_alike c measure (weighed weight) same _ fs ∙ most ∙ ap (λ (n : ℕ). max n (weighed weight (left c
+    es).allocations + freed_words c (λ (a : PlacedAllocation). weight a.ty) es o)) (sym (greatest_alike c measure
+    (weighed weight) same (first_world c) es)) ∙ ap (λ (n : ℕ). max (greatest c measure es) (n + freed_words c (λ (a :
+    PlacedAllocation). weight a.ty) es o)) (sym (same (left c es).allocations))
 
 quarantines_most : (c : Config) (es : List Event) (o : Op) (fs : List Event)
     → ((weight : ℕ → ℕ) → MostWhereFreed weight c es o fs) → QuarantinesMostWhereFreed c es o fs
 quarantines_most c es o fs most = record {
-  quarantined = in_other_words c (quarantined_words c) (storage_weight c) (quarantined_is c) es o fs
-      (most (storage_weight c));
+  quarantined = in_other_words c _ (storage_weight c) (quarantined_is c) es o fs (most (storage_weight c));
   reserved = in_other_words c (reserved_words c) (large_weight c) (reserved_is c) es o fs (most (large_weight c));
 }
 
@@ -188,7 +171,7 @@ module _ {on : Bool} {h : HostState} {o : Op} {told : Answer} {q : PassState} {f
 
   most_by : (weight : ℕ → ℕ) (x : Op) (said : Answer) → (is_under_turn x ≡ true → InTurn j (unflagged x))
       → calls_from c (left c es) j.own.more ≡ entry_of 0 x (Some said) → MostWhereFreed weight c es x (es ++ j.own.more)
-  most_by weight (op.Free r) said in_turn one =
+  most_by weight (Op.Free r) said in_turn one =
       free_most weight es j.own.more r said (whole j) one (releases_late j r (in_turn refl))
   most_by weight x said in_turn one = no_more_without_free weight c es j.own.more x said one refl
 

@@ -1,31 +1,24 @@
 -- The most words that were quarantined over a call.
-use Rattle.std.proofs.Common.{◌≡◌, ℕ, ◌≤◌, Bool, true, false, List, [], ◌∷◌, ◌++◌, refl, ap, arith, inl, inr, ◌⊎◌, ◌+◌}
-use Rattle.std.proofs.Common.{◌*◌, max, sym, ◌∙◌, subst, append_assoc, append-nil}
-use Rattle.std.specs.Prelude.{◌&&◌, ◌||◌, not, Option, if◌then◌else◌, Some, None}
-use Rattle.std.specs.List.{list_any}
-use Rattle.std.proofs.lemmas.Bool.{or_parts, true≢false}
-use Rattle.std.proofs.lemmas.List.Sums.{sum_by-cons, sum_by-append}
 use Rattle.mk_trace.proofs.Vocabulary.{Answer, AreLater, Cell, Config, Decided, Event, Flight, IsHistory, Moment}
 use Rattle.mk_trace.proofs.Vocabulary.{NeverState, Op, PlacedAllocation, Step, Value, Words, World, address_of}
-use Rattle.mk_trace.proofs.Vocabulary.{after_calls, after_free, allocations_by, asked, call_decided, cell_freed}
-use Rattle.mk_trace.proofs.Vocabulary.{decides_freed, entry_of, first_world, flight_of, freed_where_it_stands, granted}
-use Rattle.mk_trace.proofs.Vocabulary.{greatest, has_step, is_left_unmarked, is_release, is_some_and, left}
-use Rattle.mk_trace.proofs.Vocabulary.{never_behind, no_longer_fresh, number_freed, pointed_cell, register_at}
-use Rattle.mk_trace.proofs.Vocabulary.{stands_in, unfreed, with_released, words_of_some, world_behind}
-use Rattle.mk_never.specs.declared.operations.Op.TheVariants as op
-use Rattle.mk_never.specs.Reach.{IsReachable}
-use Rattle.mk_never.specs.Reach.IsReachable.{by_register}
-use Rattle.mk_core.specs.declared.events.Step.TheVariants as step
-use Rattle.mk_core.specs.History.{left_from, calls_from}
-use Rattle.mk_core.proofs.Histories.{calls_append}
-use Rattle.mk_core.proofs.HistoryParts.{earlier_part_is_history, left_in_parts, never_in_parts}
-use Rattle.mk_alloc.proofs.ListParts.{lacks_one, lacks_append}
-use Rattle.mk_trace.specs.Peaks.{greatest_from}
-use Rattle.mk_trace.proofs.FreedWords.{part, weighed, sum_falls, sum_rises, freed_adds}
-use Rattle.mk_trace.proofs.FlagSteps.{unfreed_all, points_there, SameReleased, later_left, same_released}
-use Rattle.mk_trace.proofs.FoundByEnds.{FreesNoneFrom, free_parts}
+use Rattle.mk_trace.proofs.Vocabulary.{after_calls, after_free, allocations_by, asked, call_decided, calls_append}
+use Rattle.mk_trace.proofs.Vocabulary.{cell_freed, decides_freed, entry_of, first_world, flight_of}
+use Rattle.mk_trace.proofs.Vocabulary.{freed_where_it_stands, granted, greatest, has_step, is_left_unmarked, is_release}
+use Rattle.mk_trace.proofs.Vocabulary.{is_some_and, lacks_append, lacks_one, left, max, never_behind, no_longer_fresh}
+use Rattle.mk_trace.proofs.Vocabulary.{number_freed, pointed_cell, register_at, stands_in, sum_by-append, sum_by-cons}
+use Rattle.mk_trace.proofs.Vocabulary.{unfreed, with_released, words_of_some, world_behind}
+use Rattle.mk_laws.proofs.Vocabulary.{Bool, List, None, Option, Some, ℕ, ap, append-nil, append_assoc, arith}
+use Rattle.mk_laws.proofs.Vocabulary.{earlier_part_is_history, false, if◌then◌else◌, inl, inr, left_in_parts, list_any}
+use Rattle.mk_laws.proofs.Vocabulary.{never_in_parts, not, or_parts, refl, subst, sym, true, true≢false, [], ◌&&◌, ◌*◌}
+use Rattle.mk_laws.proofs.Vocabulary.{◌++◌, ◌+◌, ◌||◌, ◌∙◌, ◌∷◌, ◌≡◌, ◌≤◌, ◌⊎◌}
+use Rattle.mk_never.specs.{Reach.IsReachable, Reach.IsReachable.by_register}
+use Rattle.mk_core.specs.History.{calls_from, left_from}
+use Rattle.mk_trace.proofs.FlagSteps.{SameReleased, later_left, points_there, same_released, unfreed_all}
+use Rattle.mk_trace.proofs.FreeCalls.{flagged_free, freeing_is, frees_decide, is_free, is_free_call}
+use Rattle.mk_trace.proofs.FreedWords.{freed_adds, part, sum_falls, sum_rises, weighed}
 use Rattle.mk_trace.proofs.PeakParts.{first_below, from-append, last_below}
-use Rattle.mk_trace.proofs.FreeCalls.{freeing_is, flagged_free, is_free, is_free_call, frees_decide}
+use Rattle.mk_trace.proofs.FoundByEnds.{FreesNoneFrom, free_parts}
+use Rattle.mk_trace.specs.Peaks.{greatest_from}
 
 -- What events do to the words of the quarantined allocations: a free alone makes them more, and a release alone less.
 
@@ -41,9 +34,7 @@ freed_part n freed released = grind arith
 
 module _ (weight : ℕ → ℕ) where
   release_falls : (c : Config) (w : Words) (a : PlacedAllocation) → part weight (with_released c w a) ≤ part weight a
-  release_falls c w a =
-      released_part (weight a.ty) a.freed a.released
-      (is_some_and (is_left_unmarked w) (pointed_cell c.pages w.pages (address_of a.base)))
+  release_falls c w a = released_part (weight a.ty) _ a.released _
 
   by_test : (a : PlacedAllocation) (b : Bool)
       → part weight a ≤ part weight (if b then record a { freed = true; fresh = true } else a)
@@ -63,22 +54,22 @@ module _ (weight : ℕ → ℕ) where
 
   step_falls : (c : Config) (m : Moment) (f : Flight) (s : Step) (xs : List PlacedAllocation)
       → decides_freed c m f s ≡ false → weighed weight (allocations_by c m f s xs) ≤ weighed weight xs
-  step_falls c m f step.Grant xs none = let same = grant_adds_none c m f xs in omega arith
-  step_falls c m f (step.Quar p v) xs none =
+  step_falls c m f Step.Grant xs none = let same = grant_adds_none c m f xs in omega arith
+  step_falls c m f (Step.Quar p v) xs none =
       let same = ap (weighed weight) (unfreed_all m.words (cell_freed c.pages m.words f p v) xs none) in
       omega arith
-  step_falls c m f step.Begin xs none = sum_falls (part weight) no_longer_fresh (λ a. omega arith) xs
-  step_falls c m f step.Release xs none = sum_falls (part weight) (with_released c m.words) (release_falls c m.words) xs
+  step_falls c m f Step.Begin xs none = sum_falls (part weight) no_longer_fresh (λ a. omega arith) xs
+  step_falls c m f Step.Release xs none = sum_falls (part weight) (with_released c m.words) (release_falls c m.words) xs
   step_falls c m f s xs none = omega arith
 
   step_rises : (c : Config) (m : Moment) (f : Flight) (s : Step) (xs : List PlacedAllocation) → is_release s ≡ false
       → weighed weight xs ≤ weighed weight (allocations_by c m f s xs)
-  step_rises c m f step.Release xs none = absurd (true≢false none)
-  step_rises c m f step.Grant xs none = let same = grant_adds_none c m f xs in omega arith
-  step_rises c m f (step.Quar p v) xs none =
+  step_rises c m f Step.Release xs none = absurd (true≢false none)
+  step_rises c m f Step.Grant xs none = let same = grant_adds_none c m f xs in omega arith
+  step_rises c m f (Step.Quar p v) xs none =
       sum_rises (part weight) (freed_where_it_stands m.words (cell_freed c.pages m.words f p v))
       (free_rises m.words (cell_freed c.pages m.words f p v)) xs
-  step_rises c m f step.Begin xs none =
+  step_rises c m f Step.Begin xs none =
       sum_rises (part weight) no_longer_fresh (λ (a : PlacedAllocation). omega arith) xs
   step_rises c m f s xs none = omega arith
 
@@ -136,7 +127,7 @@ MostWhereFreed weight c es o fs =
 -- A call that is no Free
 
 frees_nothing : (n : NeverState) (o : Op) → is_free o ≡ false → number_freed n o ≡ None
-frees_nothing n (op.Free p) other = absurd (true≢false other)
+frees_nothing n (Op.Free p) other = absurd (true≢false other)
 frees_nothing n o other = refl
 
 module _ (weight : ℕ → ℕ) (c : Config) (es more : List Event) (o : Op) (a : Answer)
@@ -154,7 +145,7 @@ module _ (weight : ℕ → ℕ) (c : Config) (es more : List Event) (o : Op) (a 
 
 -- and a Free that releases nothing.
 module _ (weight : ℕ → ℕ) (c : Config) (es more : List Event) (r : ℕ) (a : Answer) (whole : IsHistory c (es ++ more))
-    (one : calls_from c (left c es) more ≡ entry_of 0 (op.Free r) (Some a)) where
+    (one : calls_from c (left c es) more ≡ entry_of 0 (Op.Free r) (Some a)) where
   abbrev value : Value
   value = register_at (never_behind c es) 0 r
 
@@ -165,15 +156,14 @@ module _ (weight : ℕ → ℕ) (c : Config) (es more : List Event) (r : ℕ) (a
   reached number is = by_register (8 * 0 + r) number (points_there (never_behind c es) value number is)
 
   adds : has_step is_release more ≡ false → weighed weight (left c (es ++ more)).allocations
-      ≡ weighed weight (left c es).allocations + freed_weight weight c es (op.Free r)
+      ≡ weighed weight (left c es).allocations + freed_weight weight c es (Op.Free r)
   adds none =
-      freed_adds c es (es ++ more) (earlier_part_is_history c es more whole) whole value reached never
-      (subst (λ (w : World). AreLater (left c es).allocations w.allocations) (sym (left_in_parts c es more))
-      (later_left c (left c es) more))
+      freed_adds c es (es ++ more) (earlier_part_is_history c es more whole) whole value reached never (subst (λ (w :
+      World). AreLater (left c es).allocations w.allocations) (sym (left_in_parts c es more)) (later_left c _ more))
       (subst (λ (w : World). SameReleased (left c es).allocations w.allocations) (sym (left_in_parts c es more))
-      (same_released c (left c es) more none)) weight
+      (same_released c _ more none)) weight
 
-  pub most_of_free : has_step is_release more ≡ false → MostWhereFreed weight c es (op.Free r) (es ++ more)
+  pub most_of_free : has_step is_release more ≡ false → MostWhereFreed weight c es (Op.Free r) (es ++ more)
   most_of_free none =
       let parts = from-append c (weighed weight) (first_world c) es more in
       let rises = rises_without_release weight c (left c es) more none in
@@ -195,7 +185,7 @@ one_of_three (v ∷ []) (y ∷ ys) zs x is some = absurd cc
 one_of_three (v ∷ (u ∷ xs)) (y ∷ ys) zs x is some = absurd cc
 
 module _ (weight : ℕ → ℕ) (c : Config) (es more : List Event) (r : ℕ) (a : Answer) (whole : IsHistory c (es ++ more))
-    (one : calls_from c (left c es) more ≡ entry_of 0 (op.Free r) (Some a)) (f : FreesBefore c es more) where
+    (one : calls_from c (left c es) more ≡ entry_of 0 (Op.Free r) (Some a)) (f : FreesBefore c es more) where
   abbrev first : List Event
   first = f.before ++ f.event ∷ []
 
@@ -206,24 +196,20 @@ module _ (weight : ℕ → ℕ) (c : Config) (es more : List Event) (r : ℕ) (a
   at_is = left_in_parts c es f.before
 
   decides : list_any is_free_call (call_decided c at.now f.event) ≡ true
-  decides =
-      subst (λ (w : World). list_any is_free_call (call_decided c w.now f.event) ≡ true) at_is
-      (frees_decide c (left c (es ++ f.before)).now f.event.seat f.event.step f.decides)
+  decides = cc (at_is, frees_decide c (left c (es ++ f.before)).now f.event.seat f.event.step f.decides)
 
   split : calls_from c (left c es) f.before
       ++ (call_decided c at.now f.event ++ calls_from c (world_behind c at f.event) f.behind)
-      ≡ entry_of 0 (op.Free r) (Some a)
+      ≡ entry_of 0 (Op.Free r) (Some a)
   unfolding calls_from
   split =
       sym (calls_append c (left c es) f.before (f.event ∷ f.behind)) ∙ ap (calls_from c (left c es)) (sym f.is) ∙ one
 
-  three : (calls_from c (left c es) f.before ≡ []) × (call_decided c at.now f.event ≡ entry_of 0 (op.Free r) (Some a))
+  three : (calls_from c (left c es) f.before ≡ []) × (call_decided c at.now f.event ≡ entry_of 0 (Op.Free r) (Some a))
       × (calls_from c (world_behind c at f.event) f.behind ≡ [])
-  three =
-      one_of_three (calls_from c (left c es) f.before) (call_decided c at.now f.event)
-      (calls_from c (world_behind c at f.event) f.behind) _ split decides
+  three = one_of_three _ _ _ _ split decides
 
-  first_decides : calls_from c (left c es) first ≡ entry_of 0 (op.Free r) (Some a)
+  first_decides : calls_from c (left c es) first ≡ entry_of 0 (Op.Free r) (Some a)
   unfolding calls_from
   first_decides =
       calls_append c (left c es) f.before (f.event ∷ [])
@@ -242,9 +228,7 @@ module _ (weight : ℕ → ℕ) (c : Config) (es more : List Event) (r : ℕ) (a
 
   mid_is : left c (es ++ first) ≡ world_behind c at f.event
   unfolding left_from
-  mid_is =
-      ap (left c) (sym (append_assoc es f.before (f.event ∷ []))) ∙ left_in_parts c (es ++ f.before) (f.event ∷ [])
-      ∙ ap (λ (w : World). world_behind c w f.event) at_is
+  mid_is = cc (append_assoc es f.before (f.event ∷ []), left_in_parts c (es ++ f.before) (f.event ∷ []), at_is)
 
   falls : greatest_from c (left c (es ++ first)) (weighed weight) f.behind
       ≡ weighed weight (left c (es ++ first)).allocations
@@ -252,7 +236,7 @@ module _ (weight : ℕ → ℕ) (c : Config) (es more : List Event) (r : ℕ) (a
       falls_without_free weight c (left c (es ++ first)) f.behind
       (ap (λ (w : World). list_any is_free_call (calls_from c w f.behind)) mid_is ∙ ap (list_any is_free_call) three.2)
 
-  pub most_of_late : MostWhereFreed weight c es (op.Free r) (es ++ more)
+  pub most_of_late : MostWhereFreed weight c es (Op.Free r) (es ++ more)
   most_of_late =
       let done = most_of_free weight c es first r a
       (earlier_part_is_history c (es ++ first) f.behind (subst (IsHistory c) in_parts whole))
@@ -265,7 +249,7 @@ module _ (weight : ℕ → ℕ) (c : Config) (es more : List Event) (r : ℕ) (a
       omega arith
 
 pub free_most : (weight : ℕ → ℕ) {c : Config} (es more : List Event) (r : ℕ) (a : Answer) → IsHistory c (es ++ more)
-    → calls_from c (left c es) more ≡ entry_of 0 (op.Free r) (Some a) → ReleasesLate c es more
-    → MostWhereFreed weight c es (op.Free r) (es ++ more)
+    → calls_from c (left c es) more ≡ entry_of 0 (Op.Free r) (Some a) → ReleasesLate c es more
+    → MostWhereFreed weight c es (Op.Free r) (es ++ more)
 free_most weight {c} es more r a whole one (inl none) = most_of_free weight c es more r a whole one none
 free_most weight {c} es more r a whole one (inr f) = most_of_late weight c es more r a whole one f

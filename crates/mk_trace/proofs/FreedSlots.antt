@@ -1,23 +1,16 @@
 -- The register of a trace's Free points to what the event's slot points to.
-use Rattle.std.proofs.Common.{◌≡◌, ℕ, ◌+◌, ◌*◌, ◌<◌, Bool, false, List, [], ◌∷◌, ◌++◌, length, get_or, refl, sym, ◌∙◌}
-use Rattle.std.proofs.Common.{ap, subst, arith}
-use Rattle.std.specs.Prelude.{◌||◌, take, drop}
-use Rattle.std.specs.List.{list_any}
-use Rattle.std.proofs.lemmas.Bool.{or_parts, true≢false}
-use Rattle.std.proofs.lemmas.List.{drop_more, get_or-drop, get_or-set_same, length-drop, take-append-drop}
-use Rattle.std.proofs.lemmas.List.Folds.{list_any-append}
+use Rattle.std.proofs.Common.{get_or-drop}
 use Rattle.mk_trace.proofs.Vocabulary.{A, C, Config, Event, F, IsHistory, K, NeverState, Null, Op, TraceEvent, W}
-use Rattle.mk_trace.proofs.Vocabulary.{after_calls, calls_of_caller, global_at, never_behind, ops_of, register_at}
-use Rattle.mk_never.specs.declared.operations.Op.TheVariants as op
-use Rattle.mk_laws.proofs.InvariantHistories.{histories_keep_the_invariant}
-use Rattle.mk_trace.specs.Freeing.{FreesItsSlot, FreesSlot}
-use Rattle.mk_trace.specs.Traces.{slot_of}
-use Rattle.mk_trace.proofs.LaterOps.{either_way, AreCalled}
-use Rattle.mk_trace.proofs.OneCaller.{never_behind_all}
-use Rattle.mk_trace.proofs.FreeCalls.{is_free}
+use Rattle.mk_trace.proofs.Vocabulary.{after_calls, calls_of_caller, drop_more, global_at, histories_keep_the_invariant}
+use Rattle.mk_trace.proofs.Vocabulary.{length-drop, never_behind, ops_of, register_at, take-append-drop}
+use Rattle.mk_laws.proofs.Vocabulary.{Bool, List, ℕ, ap, arith, drop, false, get_or, get_or-set_same, length, list_any}
+use Rattle.mk_laws.proofs.Vocabulary.{list_any-append, or_parts, refl, subst, sym, take, true≢false, [], ◌*◌, ◌++◌, ◌+◌}
+use Rattle.mk_laws.proofs.Vocabulary.{◌<◌, ◌||◌, ◌∙◌, ◌∷◌, ◌≡◌}
+use Rattle.mk_trace.proofs.{FreeCalls.is_free, LaterOps.AreCalled, LaterOps.either_way, OneCaller.never_behind_all}
+use Rattle.mk_trace.specs.{Freeing.FreesItsSlot, Freeing.FreesSlot, Traces.slot_of}
 
 no_free : (ops before : List Op) (o : Op) (rest : List Op) (p : ℕ) → list_any is_free ops ≡ false
-    → ops ≡ before ++ o ∷ rest → o ≡ op.Free p → ⊥
+    → ops ≡ before ++ o ∷ rest → o ≡ Op.Free p → ⊥
 no_free ops before o rest p none split is =
     let parts = or_parts (list_any is_free before) (is_free o || list_any is_free rest)
     (sym (list_any-append is_free before (o ∷ rest)) ∙ sym (ap (list_any is_free) split) ∙ none) in
@@ -27,23 +20,19 @@ abbrev FreesNone : TraceEvent → Bool → Type 0
 FreesNone event full = list_any is_free (ops_of full event) ≡ false
 
 module _ (n : NeverState) (count : length n.registers ≡ 8) (slot : ℕ) where
-  loaded : (b : Op) (p : ℕ) → b ≡ op.GetGlobal 0 slot → p ≡ 0
+  loaded : (b : Op) (p : ℕ) → b ≡ Op.GetGlobal 0 slot → p ≡ 0
       → register_at (after_calls n (calls_of_caller (b ∷ []))) 0 p
       ≡ global_at (after_calls n (calls_of_caller (b ∷ []))) slot
-  loaded b p is at =
-      subst (λ (x : Op). register_at (after_calls n (calls_of_caller (x ∷ []))) 0 p
-      ≡ global_at (after_calls n (calls_of_caller (x ∷ []))) slot) (sym is)
-      (ap (register_at (after_calls n (calls_of_caller (op.GetGlobal 0 slot ∷ []))) 0) at
-      ∙ get_or-set_same n.registers (8 * 0 + 0) (global_at n slot) Null (omega (arith, count)))
+  loaded b p is at = cc (is, at, get_or-set_same n.registers (8 * 0 + 0) (global_at n slot) Null (omega (arith, count)))
 
   by_place : (before : List Op) (o : Op) (rest : List Op) (p : ℕ)
-      → op.GetGlobal 0 slot ∷ op.Free 0 ∷ op.Clear 0 ∷ [] ≡ before ++ o ∷ rest → o ≡ op.Free p
+      → Op.GetGlobal 0 slot ∷ Op.Free 0 ∷ Op.Clear 0 ∷ [] ≡ before ++ o ∷ rest → o ≡ Op.Free p
       → register_at (after_calls n (calls_of_caller before)) 0 p
       ≡ global_at (after_calls n (calls_of_caller before)) slot
   by_place [] o rest p split is = absurd cc
   by_place (b ∷ []) o rest p split is =
-      let first : b ≡ op.GetGlobal 0 slot = cc in
-      let at : op.Free p ≡ op.Free 0 = cc in
+      let first : b ≡ Op.GetGlobal 0 slot = cc in
+      let at : Op.Free p ≡ Op.Free 0 = cc in
       let zero_is : p ≡ 0 = cc in
       loaded b p first zero_is
   by_place (b ∷ d ∷ []) o rest p split is = absurd cc
@@ -62,8 +51,8 @@ module _ (n : NeverState) (count : length n.registers ≡ 8) (slot : ℕ) where
       (either_way (FreesNone (W s index value)) refl refl full) split is)
   frees_event (F s) same full before o rest split p is =
       by_place before o rest p
-      (ap (λ (k : ℕ). op.GetGlobal 0 k ∷ op.Free 0 ∷ op.Clear 0 ∷ []) (sym same)
-      ∙ sym (either_way (λ b. ops_of b (F s) ≡ op.GetGlobal 0 s ∷ op.Free 0 ∷ op.Clear 0 ∷ []) refl refl full)
+      (ap (λ (k : ℕ). Op.GetGlobal 0 k ∷ Op.Free 0 ∷ Op.Clear 0 ∷ []) (sym same)
+      ∙ sym (either_way (λ b. ops_of b (F s) ≡ Op.GetGlobal 0 s ∷ Op.Free 0 ∷ Op.Clear 0 ∷ []) refl refl full)
       ∙ split) is ∙ ap (global_at (after_calls n (calls_of_caller before))) (sym same)
 
 pub frees_its_slot : {c : Config} {es : List Event} → c.callers ≡ 1 → IsHistory c es → (event : TraceEvent)
@@ -89,7 +78,6 @@ frees_now {event} {items} {i} h o within here frees =
     ap (λ (k : ℕ). get_or ops k o) (omega arith) ∙ sym (get_or-drop 1 ops i o)
     ∙ sym (ap (λ (l : List Op). get_or l i o) h.items_are) ∙ sym here in
     let split : ops ≡ take (i + 1) ops ++ o ∷ drop (i + 1 + 1) ops =
-    sym (take-append-drop (i + 1) ops) ∙ ap (λ (l : List Op). take (i + 1) ops ++ l)
-    (drop_more ops (i + 1) o inside ∙ ap (λ (x : Op). x ∷ drop (i + 1 + 1) ops) at) in
+    cc (take-append-drop (i + 1) ops, drop_more ops (i + 1) o inside, at) in
     subst (λ (n : NeverState). FreesSlot n (slot_of event) o) (sym (never_behind_all h.calls))
     (frees h.full (take (i + 1) ops) o (drop (i + 1 + 1) ops) split)

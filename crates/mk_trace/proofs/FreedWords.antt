@@ -1,28 +1,22 @@
 -- The words of quarantined allocations, and of held ones, where a type says how many words one has.
-use Rattle.std.proofs.Common.{◌≡◌, ◌≢◌, ℕ, zero, suc, ◌+◌, ◌≤◌, Bool, List, [], ◌∷◌, length, map, refl, ◌∙◌, arith, ◌<◌}
-use Rattle.std.proofs.Common.{true, false, sym, ap, inl, inr, ◌++◌}
-use Rattle.std.specs.Prelude.{◌&&◌, sum_by, if◌then◌else◌, not, Option, Some, None, ◌||◌}
-use Rattle.std.proofs.lemmas.List.Sums.{sum_by-cons, sum_by-append}
-use Rattle.std.proofs.lemmas.Bool.{cases_lt}
-use Rattle.std.proofs.lemmas.List.{get_or_past}
 use Rattle.mk_trace.proofs.Vocabulary.{AreLater, Cell, Config, Event, Flight, IsHistory, Moment, NeverState}
 use Rattle.mk_trace.proofs.Vocabulary.{PlacedAllocation, Step, Value, Words, World, address_of, after_free}
-use Rattle.mk_trace.proofs.Vocabulary.{allocation_at, allocations_by, cell_freed, flight_of, freed_where_it_stands}
-use Rattle.mk_trace.proofs.Vocabulary.{granted, held_by_allocations, is_grant, is_large, is_left_unmarked}
-use Rattle.mk_trace.proofs.Vocabulary.{is_quarantined, is_some_and, kinds_of, left, lets_go, never_behind}
-use Rattle.mk_trace.proofs.Vocabulary.{never_granted, no_longer_fresh, placed_at, pointed_cell, quarantined_words}
-use Rattle.mk_trace.proofs.Vocabulary.{reserved_words, stands_in, storage_words, unfreed, with_released, words_of_some}
+use Rattle.mk_trace.proofs.Vocabulary.{allocation_at, allocations_by, cell_freed, exists_placed, flight_of}
+use Rattle.mk_trace.proofs.Vocabulary.{freed_where_it_stands, granted, held_by_allocations, is_grant, is_large}
+use Rattle.mk_trace.proofs.Vocabulary.{is_left_unmarked, is_quarantined, is_some_and, kinds_of, left, lets_go}
+use Rattle.mk_trace.proofs.Vocabulary.{never_behind, never_granted, no_longer_fresh, placed_at, pointed_cell}
+use Rattle.mk_trace.proofs.Vocabulary.{quarantined_words, reach_is_kept, reserved_words, stands_in, storage_words}
+use Rattle.mk_trace.proofs.Vocabulary.{sum_by, sum_by-append, sum_by-cons, unfreed, with_released, words_of_some}
 use Rattle.mk_trace.proofs.Vocabulary.{world_behind}
+use Rattle.mk_laws.proofs.Vocabulary.{Bool, List, None, Option, Some, ℕ, ap, arith, cases_lt, false, get_or_past}
+use Rattle.mk_laws.proofs.Vocabulary.{if◌then◌else◌, inl, inr, length, map, not, refl, suc, sym, true, words_made, zero}
+use Rattle.mk_laws.proofs.Vocabulary.{[], ◌&&◌, ◌++◌, ◌+◌, ◌<◌, ◌||◌, ◌∙◌, ◌∷◌, ◌≡◌, ◌≢◌, ◌≤◌}
 use Rattle.mk_never.specs.Reach.{IsReachable}
 use Rattle.mk_core.specs.NewPlaces.{object_of}
-use Rattle.mk_core.specs.ObjectHeaders.{words_made}
-use Rattle.mk_core.specs.declared.events.Step.TheVariants as step
-use Rattle.mk_quarantine.proofs.CountedWords.{sum_filtered}
-use Rattle.mk_laws.proofs.ImagesKept.{exists_placed}
-use Rattle.mk_laws.proofs.InvariantTheorems.{reach_is_kept}
 use Rattle.mk_objects.proofs.HeldFreed.{held_part, held_sum}
-use Rattle.mk_trace.proofs.FlagSteps.{as_many_behind, is_freed_behind, is_freed_there, others_kept, twins, was_unfreed}
-use Rattle.mk_trace.proofs.FlagSteps.{SameReleased}
+use Rattle.mk_quarantine.proofs.CountedWords.{sum_filtered}
+use Rattle.mk_trace.proofs.FlagSteps.{SameReleased, as_many_behind, is_freed_behind, is_freed_there, others_kept, twins}
+use Rattle.mk_trace.proofs.FlagSteps.{was_unfreed}
 
 -- The words of quarantined allocations, where a type says how many words one has.
 
@@ -123,14 +117,10 @@ module _ (c : Config) (es fs : List Event) (history : IsHistory c es) (whole : I
   n = never_behind c es
 
   count : length xs ≡ length ys
-  count =
-      (twins history).count ∙ sym (as_many_behind n v)
-      ∙ ap (λ (m : NeverState). length m.allocations) (sym never) ∙ sym (twins whole).count
+  count = cc ((twins history).count, as_many_behind n v, never, (twins whole).count)
 
   freed_kept : (i : ℕ) → (unfreed n v ≡ Some i → ⊥) → (placed_at xs i).freed ≡ (placed_at ys i).freed
-  freed_kept i out =
-      is_freed_there history i ∙ sym (others_kept n v i out)
-      ∙ ap (λ (m : NeverState). (allocation_at m i).freed) (sym never) ∙ sym (is_freed_there whole i)
+  freed_kept i out = cc (is_freed_there history i, others_kept n v i out, never, is_freed_there whole i)
 
   past_both : (i : ℕ) → length xs ≤ i → placed_at xs i ≡ placed_at ys i
   past_both i le = get_or_past xs i never_granted le ∙ sym (get_or_past ys i never_granted (omega (arith, le, count)))
@@ -147,9 +137,7 @@ module _ (c : Config) (es fs : List Event) (history : IsHistory c es) (whole : I
     unreleased number is = reach_is_kept c es history number (reached number is)
 
     none_before : (number : ℕ) → unfreed n v ≡ Some number → part weight (placed_at xs number) ≡ 0
-    none_before number is =
-        ap (λ (x : Bool). if x && not (placed_at xs number).released then weight (placed_at xs number).ty else 0)
-        (is_freed_there history number ∙ was_unfreed n v number is)
+    none_before number is = cc (is_freed_there history number, was_unfreed n v number is)
 
     all_behind : (number : ℕ) → unfreed n v ≡ Some number
         → part weight (placed_at ys number) ≡ weight (placed_at xs number).ty
@@ -158,9 +146,7 @@ module _ (c : Config) (es fs : List Event) (history : IsHistory c es) (whole : I
         let freed : (placed_at ys number).freed ≡ true =
         is_freed_there whole number ∙ ap (λ (m : NeverState). (allocation_at m number).freed) never
         ∙ is_freed_behind n v number is (omega (arith, lt, (twins history).count)) in
-        ap (λ (x : Bool). if x && not (placed_at ys number).released then weight (placed_at ys number).ty else 0) freed
-        ∙ ap (λ (x : Bool). if true && not x then weight (placed_at ys number).ty else 0)
-        (same number lt ∙ unreleased number is) ∙ ap weight (later.ty number lt)
+        cc (freed, same number lt, unreleased number is, later.ty number lt)
 
     by_number : (x : Option ℕ) → unfreed n v ≡ x
         → weighed weight ys ≡ weighed weight xs + words_of_some (λ (a : PlacedAllocation). weight a.ty) xs x
@@ -205,9 +191,7 @@ free_falls : (c : Config) (w : Words) (cell : Option Cell) (a : PlacedAllocation
 free_falls c w cell a = free_by_test c a (is_some_and (λ (x : Cell). stands_in w x a) cell)
 
 release_falls : (c : Config) (w : Words) (a : PlacedAllocation) → held_part c (with_released c w a) ≤ held_part c a
-release_falls c w a =
-    released_part (storage_words c a) a.released (not (a.freed && is_large (kinds_of c.types a.ty)))
-    (is_some_and (is_left_unmarked w) (pointed_cell c.pages w.pages (address_of a.base)))
+release_falls c w a = released_part _ a.released (not (a.freed && is_large (kinds_of c.types a.ty))) _
 
 more_rises : (c : Config) (xs : List PlacedAllocation) (a : PlacedAllocation)
     → held_by_allocations c xs ≤ held_by_allocations c (xs ++ a ∷ [])
@@ -217,19 +201,19 @@ more_rises c xs a = omega (arith, held_sum c xs, held_sum c (xs ++ a ∷ []), su
 
 step_falls : (c : Config) (m : Moment) (f : Flight) (s : Step) (xs : List PlacedAllocation) → is_grant s ≡ false
     → held_by_allocations c (allocations_by c m f s xs) ≤ held_by_allocations c xs
-step_falls c m f step.Grant xs h = cc
-step_falls c m f (step.Quar p v) xs h = held_falls c (freed_where_it_stands m.words (cell_freed c.pages m.words f p v))
+step_falls c m f Step.Grant xs h = cc
+step_falls c m f (Step.Quar p v) xs h = held_falls c (freed_where_it_stands m.words (cell_freed c.pages m.words f p v))
     (free_falls c m.words (cell_freed c.pages m.words f p v)) xs
-step_falls c m f step.Begin xs h = held_falls c no_longer_fresh (λ a. omega arith) xs
-step_falls c m f step.Release xs h = held_falls c (with_released c m.words) (release_falls c m.words) xs
+step_falls c m f Step.Begin xs h = held_falls c no_longer_fresh (λ a. omega arith) xs
+step_falls c m f Step.Release xs h = held_falls c (with_released c m.words) (release_falls c m.words) xs
 step_falls c m f s xs h = omega arith
 
 step_rises : (c : Config) (m : Moment) (f : Flight) (s : Step) (xs : List PlacedAllocation) → lets_go s ≡ false
     → held_by_allocations c xs ≤ held_by_allocations c (allocations_by c m f s xs)
-step_rises c m f (step.Quar p v) xs h = cc
-step_rises c m f step.Release xs h = cc
-step_rises c m f step.Grant xs h = more_rises c xs (granted c m f)
-step_rises c m f step.Begin xs h =
+step_rises c m f (Step.Quar p v) xs h = cc
+step_rises c m f Step.Release xs h = cc
+step_rises c m f Step.Grant xs h = more_rises c xs (granted c m f)
+step_rises c m f Step.Begin xs h =
     let rises = sum_rises (held_part c) no_longer_fresh (λ a. omega arith) xs in
     omega (arith, held_sum c xs, held_sum c (map no_longer_fresh xs), rises)
 step_rises c m f s xs h = omega arith

@@ -1,52 +1,41 @@
 -- What is held over a call of the caller: no more than before, or than at its end.
-use Rattle.std.proofs.Common.{◌≡◌, Bool, true, false, List, ◌∷◌, refl, sym, ◌∙◌, ap, subst, [], ℕ, ◌<◌, ◌++◌, arith}
-use Rattle.std.specs.Prelude.{◌&&◌, ◌||◌, Some}
-use Rattle.std.specs.List.{list_any}
-use Rattle.std.proofs.lemmas.Bool.{false_from_ne_true, or_from, or_parts, true≢false}
-use Rattle.std.proofs.lemmas.List.Folds.{list_any-append}
 use Rattle.mk_trace.proofs.Vocabulary.{Answer, AreOfOthers, Caller, Calls, Config, Contents, Decided, Event, Grows}
 use Rattle.mk_trace.proofs.Vocabulary.{HoldsMostAtEnd, Host, HostState, IsHistory, Marker, Moment, Op, PassState, Seat}
 use Rattle.mk_trace.proofs.Vocabulary.{Stage, Step, WordsState, World, call_decided, config_of, entry_of, first_host}
 use Rattle.mk_trace.proofs.Vocabulary.{first_world, flagged, flight_of, has_step, held_by_allocations, in_a_word}
-use Rattle.mk_trace.proofs.Vocabulary.{is_grant, is_under_turn, left, most_held, object_made, pass_for, peaks_of}
-use Rattle.mk_trace.proofs.Vocabulary.{unflagged, without_seat, world_behind}
-use Rattle.mk_never.specs.declared.operations.Op.TheVariants as op
-use Rattle.mk_core.specs.declared.events.Answer.TheVariants as answer
-use Rattle.mk_core.specs.declared.events.Step.TheVariants as step
-use Rattle.mk_core.specs.declared.seats.Stage.TheVariants as stage
-use Rattle.mk_core.specs.Enabled.{IsEnabled, MeetsAll}
+use Rattle.mk_trace.proofs.Vocabulary.{is_grant, is_under_turn, left, most_held, none_at, object_made, pass_for}
+use Rattle.mk_trace.proofs.Vocabulary.{peaks_of, unflagged, without_seat, world_behind}
+use Rattle.mk_laws.proofs.Vocabulary.{Bool, IsEnabled, List, MeetsAll, Some, ℕ, ap, arith, comes_next, enabled_meets}
+use Rattle.mk_laws.proofs.Vocabulary.{false, false_from_ne_true, host_has_turn, list_any, list_any-append, or_from}
+use Rattle.mk_laws.proofs.Vocabulary.{or_parts, refl, subst, sym, true, true≢false, [], ◌&&◌, ◌++◌, ◌<◌, ◌||◌, ◌∙◌, ◌∷◌}
+use Rattle.mk_laws.proofs.Vocabulary.{◌≡◌}
 use Rattle.mk_core.specs.History.{AreEnabledFrom, calls_from}
-use Rattle.mk_core.specs.Order.{comes_next, host_has_turn}
-use Rattle.mk_core.proofs.Conditions.{enabled_meets}
-use Rattle.mk_alloc.specs.TurnCycles.{NewIsExact}
-use Rattle.mk_alloc.proofs.ListParts.{none_at}
-use Rattle.mk_words.specs.Seats.{all_seats}
-use Rattle.mk_words.proofs.Seats.{has_all}
-use Rattle.mk_heap.specs.Hosts.{with_caller_made}
 use Rattle.mk_alloc.proofs.GrantParts.{LastIn, last_before, last_then}
+use Rattle.mk_alloc.specs.TurnCycles.{NewIsExact}
+use Rattle.mk_heap.specs.Hosts.{with_caller_made}
 use Rattle.mk_trace.proofs.JoinedCalls.{InTurn, Joined, acts, before, before_lacks, decided, enabled, exact, in_parts}
 use Rattle.mk_trace.proofs.JoinedCalls.{last}
-use Rattle.mk_trace.proofs.FreedWords.{held_falls_at, held_rises_at}
 use Rattle.mk_trace.proofs.OwnPieces.{AreMine, all_again, are_mine, none_of_others}
-use Rattle.mk_trace.proofs.PeakParts.{most_then}
+use Rattle.mk_trace.proofs.{FreedWords.held_falls_at, FreedWords.held_rises_at, PeakParts.most_then}
+use Rattle.mk_words.{proofs.Seats.has_all, specs.Seats.all_seats}
 
 -- A grant decides a New, so a call of another operation grants nothing.
 
 abbrev pub is_new : Op → Bool
-is_new (op.New d ty full) = true
+is_new (Op.New d ty full) = true
 is_new _ = false
 
 abbrev is_new_call : Decided → Bool
 is_new_call x = is_new x.op
 
-grant_is : (s : Step) → is_grant s ≡ true → s ≡ step.Grant
-grant_is step.Grant h = refl
+grant_is : (s : Step) → is_grant s ≡ true → s ≡ Step.Grant
+grant_is Step.Grant h = refl
 grant_is _ h = cc
 
-grants_new : (at : Stage) (o : Op) → comes_next at o step.Grant ≡ true → is_new o ≡ true
-grants_new stage.Turn (op.New d ty full) h = refl
-grants_new stage.Turn _ h = cc
-grants_new stage.Give o h = cc
+grants_new : (at : Stage) (o : Op) → comes_next at o Step.Grant ≡ true → is_new o ≡ true
+grants_new Stage.Turn (Op.New d ty full) h = refl
+grants_new Stage.Turn _ h = cc
+grants_new Stage.Give o h = cc
 grants_new _ o h = cc
 
 never : (b : Bool) → (b && false) ≡ true → ⊥
@@ -54,15 +43,15 @@ never true h = cc
 never false h = cc
 
 flagged_new : (o : Op) (a : Answer) → is_new (flagged o a) ≡ is_new o
-flagged_new (op.New d ty full) answer.Full = refl
-flagged_new (op.New d ty full) _ = refl
+flagged_new (Op.New d ty full) Answer.Full = refl
+flagged_new (Op.New d ty full) _ = refl
 flagged_new o a = refl
 
-decides_new : {c : Config} {m : Moment} (seat : Seat) → MeetsAll c m (record { seat = seat; step = step.Grant })
-    → list_any is_new_call (call_decided c m (record { seat = seat; step = step.Grant })) ≡ true
+decides_new : {c : Config} {m : Moment} (seat : Seat) → MeetsAll c m (record { seat = seat; step = Step.Grant })
+    → list_any is_new_call (call_decided c m (record { seat = seat; step = Step.Grant })) ≡ true
 decides_new {m} (Caller k) h =
     ap (λ (b : Bool). b || false)
-    (flagged_new (flight_of m (Caller k)).op answer.Done
+    (flagged_new (flight_of m (Caller k)).op Answer.Done
     ∙ grants_new (flight_of m (Caller k)).stage (flight_of m (Caller k)).op h.order)
 decides_new (Marker k) h = let none : false ≡ true = h.kind in cc
 decides_new {c} {m} Host h = absurd (never (host_has_turn c m) h.order)
@@ -107,9 +96,9 @@ module _ {on : Bool} {h : HostState} {o : Op} {told : Answer} {q : PassState} {f
   es = h.pass.seen
 
   -- After the grant of a New's object nothing is let go.
-  new_last : (d ty : ℕ) → InTurn j (op.New d ty false) → LastIn j.own.more
+  new_last : (d ty : ℕ) → InTurn j (Op.New d ty false) → LastIn j.own.more
   new_last d ty turn =
-      let o : Op = op.New d ty false in
+      let o : Op = Op.New d ty false in
       let exactly : NewIsExact turn.ends.turn (object_made c o) = exact j o turn in
       subst LastIn (sym (in_parts j o turn))
       (last_then (before j o turn) (acts j o turn ++ last j o turn) (before_lacks j o turn is_grant (λ y. refl))
@@ -117,15 +106,13 @@ module _ {on : Bool} {h : HostState} {o : Op} {told : Answer} {q : PassState} {f
 
   last_by : (x : Op) → (is_under_turn x ≡ true → InTurn j (unflagged x))
       → (is_new x ≡ false → has_step is_grant j.own.more ≡ false) → LastIn j.own.more
-  last_by (op.New d ty full) in_turn none = new_last d ty (in_turn refl)
+  last_by (Op.New d ty full) in_turn none = new_last d ty (in_turn refl)
   last_by _ in_turn none = λ g. absurd (none_at is_grant j.own.more (none refl) g)
 
   pub held_at_end : Calls c es o told fs → HoldsMostAtEnd c es fs
   held_at_end made =
-      subst (HoldsMostAtEnd c es) (sym j.own.is)
-      (most_then c (held_by_allocations c) (held_falls_at c) (held_rises_at c) es j.own.more
-      (last_by o j.answers.in_turn
-      (others_grant_none c (left c es) j.own.more o made.answer (enabled j) (decided j made))))
+      subst (HoldsMostAtEnd c es) (sym j.own.is) (most_then c _ (held_falls_at c) (held_rises_at c) es j.own.more
+      (last_by o j.answers.in_turn (others_grant_none c _ j.own.more o made.answer (enabled j) (decided j made))))
 
 -- Of a heap that nobody has used there are no events.
 nothing_seen : {c : Config} {es : List Event} → Grows (without_seat (Caller 0) (all_seats c)) [] es
@@ -133,8 +120,7 @@ nothing_seen : {c : Config} {es : List Event} → Grows (without_seat (Caller 0)
 nothing_seen {c} {es} own came history =
     let elsewhere : List Seat = without_seat (Caller 0) (all_seats c) in
     let mine : AreMine c elsewhere es =
-    are_mine c (first_world c) elsewhere es history.enabled
-    (subst (AreOfOthers elsewhere) (sym own.is) own.of_others) in
+    are_mine c _ elsewhere es history.enabled (subst (AreOfOthers elsewhere) (sym own.is) own.of_others) in
     none_of_others c elsewhere (Caller 0 ∷ []) es (all_again c (Caller 0) (all_seats c) (has_all c)) mine
     (subst (AreOfOthers (Caller 0 ∷ [])) (sym came.is) came.of_others)
 

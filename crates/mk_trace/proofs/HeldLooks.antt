@@ -1,22 +1,16 @@
 -- The host looks at the tally of held words: it reports what is held, and nothing is granted or let go meanwhile.
-use Rattle.std.proofs.Common.{◌≡◌, ℕ, Bool, false, List, ◌∷◌, ◌++◌, refl, sym, ◌∙◌, ap, subst, []}
-use Rattle.std.specs.Prelude.{None, Option}
 use Rattle.mk_trace.proofs.Vocabulary.{AreOfOthers, Config, Event, Has, HasAll, IsHistory, Op, PassState, Step, Word}
-use Rattle.mk_trace.proofs.Vocabulary.{event_of, has_step, left}
-use Rattle.mk_core.specs.declared.events.Step.TheVariants as step
+use Rattle.mk_trace.proofs.Vocabulary.{event_of, has_step, lacks_append, lacks_one, left, seen_made}
+use Rattle.mk_laws.proofs.Vocabulary.{Bool, List, None, Option, ℕ, ap, earlier_part_is_history, enabled_in_parts, false}
+use Rattle.mk_laws.proofs.Vocabulary.{refl, subst, sym, [], ◌++◌, ◌∙◌, ◌∷◌, ◌≡◌}
 use Rattle.mk_core.specs.Counts.{TalliesAreExact}
-use Rattle.mk_core.proofs.HistoryParts.{earlier_part_is_history, enabled_in_parts}
-use Rattle.mk_heap.specs.Turns.{TellsWord}
-use Rattle.mk_laws.proofs.Tallies.{tallies_tell}
-use Rattle.mk_laws.proofs.TallySteps.{others_count_nothing}
-use Rattle.mk_words.proofs.Made.{made}
-use Rattle.mk_words.proofs.Seats.{others_nobody}
-use Rattle.mk_words.proofs.Tallies.{exact_more}
-use Rattle.mk_waiting.specs.Taking.{TakesTurn}
-use Rattle.mk_alloc.proofs.ListParts.{lacks_append, lacks_one}
-use Rattle.mk_alloc.proofs.Parts.{seen_made, seen_then}
+use Rattle.mk_laws.proofs.{Tallies.tallies_tell, TallySteps.others_count_nothing}
+use Rattle.mk_alloc.proofs.Parts.{seen_then}
 use Rattle.mk_heap.proofs.MovedHosts.{MovesOn, moves_more, turn_moves}
+use Rattle.mk_heap.specs.Turns.{TellsWord}
 use Rattle.mk_trace.proofs.OwnPieces.{AreMine, are_mine, mine_parts, none_of_others, others_lack, waiting_lacks}
+use Rattle.mk_waiting.specs.Taking.{TakesTurn}
+use Rattle.mk_words.proofs.{Made.made, Seats.others_nobody, Tallies.exact_more}
 
 -- Where the turn is taken, the tallies are what they count.
 exact_taken : {p q : PassState} (t : TakesTurn p None q) → Has t.waited.seats t.waited.seat
@@ -25,19 +19,18 @@ exact_taken {q} t own history =
     let w : PassState = t.waited in
     let c : Config = w.table.config in
     let m = t.takes.makes in
-    let x = made w (step.Take None) q m in
+    let x = made w (Step.Take None) q m in
     let es : List Event = w.seen ++ m.others in
     let free : (left c es).now.words.turn ≡ 0 = sym t.takes.finds in
     let told = tallies_tell c es x.history free in
-    subst (λ (r : PassState). TalliesAreExact r.table.config r.seen) (sym m.is)
-    (exact_more c es (event_of w (step.Take None))
-    (others_count_nothing c (left c es) (event_of w (step.Take None)) x.known x.meets free) told.0)
+    subst (λ (r : PassState). TalliesAreExact r.table.config r.seen) (sym m.is) (exact_more c es _ (others_count_nothing
+    c _ _ x.known x.meets free) told.0)
 
 -- a kind that isn't what the host does
 pub record IsApart (kind : Step → Bool) : Type 0 where
-  pub take : (o : Option Op) → kind (step.Take o) ≡ false
-  pub look : (x : Word) → kind (step.Look x) ≡ false
-  pub give : kind step.Give ≡ false
+  pub take : (o : Option Op) → kind (Step.Take o) ≡ false
+  pub look : (x : Word) → kind (Step.Look x) ≡ false
+  pub give : kind Step.Give ≡ false
 
 -- A pass of the same seats goes on.
 same_pass : (p w r : PassState) (l : List Event) → w ≡ record p { seen = w.seen } → r ≡ record w { seen = l }
@@ -76,13 +69,13 @@ module _ {p q : PassState} {x : Word} {n : ℕ} (l : Looked p x n q) where
   looked_same = same_pass p taken h.looked _ taken_same h.looks.makes.is
 
   abbrev taking : List Event
-  taking = h.takes.takes.makes.others ++ event_of waited (step.Take None) ∷ []
+  taking = h.takes.takes.makes.others ++ event_of waited (Step.Take None) ∷ []
 
   abbrev pub looking : List Event
-  looking = h.looks.makes.others ++ event_of taken (step.Look x) ∷ []
+  looking = h.looks.makes.others ++ event_of taken (Step.Look x) ∷ []
 
   abbrev pub giving : List Event
-  giving = h.gives.others ++ event_of h.looked step.Give ∷ []
+  giving = h.gives.others ++ event_of h.looked Step.Give ∷ []
 
   abbrev pub first : List Event
   first = h.takes.waits.more ++ taking
@@ -93,12 +86,12 @@ module _ {p q : PassState} {x : Word} {n : ℕ} (l : Looked p x n q) where
   pub taken_seen : taken.seen ≡ p.seen ++ first
   taken_seen =
       seen_then p.seen waited.seen taken.seen h.takes.waits.more taking
-      (ap (λ (r : PassState). r.seen) h.takes.waits.is) (seen_made waited taken (step.Take None) h.takes.takes.makes)
+      (ap (λ (r : PassState). r.seen) h.takes.waits.is) (seen_made waited taken (Step.Take None) h.takes.takes.makes)
 
   behind_seen : q.seen ≡ taken.seen ++ behind
   behind_seen =
-      seen_then taken.seen h.looked.seen q.seen looking giving (seen_made taken h.looked (step.Look x) h.looks.makes)
-      (seen_made h.looked q step.Give h.gives)
+      seen_then taken.seen h.looked.seen q.seen looking giving (seen_made taken h.looked (Step.Look x) h.looks.makes)
+      (seen_made h.looked q Step.Give h.gives)
 
   pub seen_is : q.seen ≡ p.seen ++ (first ++ behind)
   seen_is = seen_then p.seen taken.seen q.seen first behind taken_seen behind_seen
@@ -123,18 +116,16 @@ module _ {p q : PassState} {x : Word} {n : ℕ} (l : Looked p x n q) where
   pub behind_lacks : (kind : Step → Bool) → IsApart kind → has_step kind behind ≡ false
   behind_lacks kind apart =
       let parts = mine_parts c [] looking giving mine.1 in
-      lacks_append kind looking giving
-      (others_none h.looks.makes.others (event_of taken (step.Look x)) kind parts.0
-      (of_pass taken h.looks.makes.others taken_same h.looks.makes.of_others) (apart.look x))
-      (others_none h.gives.others (event_of h.looked step.Give) kind parts.1
-      (of_pass h.looked h.gives.others looked_same h.gives.of_others) apart.give)
+      lacks_append kind looking giving (others_none h.looks.makes.others (event_of taken (Step.Look x)) kind parts.0
+      (of_pass taken h.looks.makes.others taken_same h.looks.makes.of_others) (apart.look x)) (others_none
+      h.gives.others _ kind parts.1 (of_pass h.looked h.gives.others looked_same h.gives.of_others) apart.give)
 
   pub first_lacks : (kind : Step → Bool) → IsApart kind → has_step kind first ≡ false
   first_lacks kind apart =
       let parts = mine_parts c [] h.takes.waits.more taking mine.0 in
       lacks_append kind h.takes.waits.more taking
       (waiting_lacks kind c [] p h.takes.waits.more apart.take l.all parts.0 h.takes.waits.only)
-      (others_none h.takes.takes.makes.others (event_of waited (step.Take None)) kind parts.1
+      (others_none h.takes.takes.makes.others (event_of waited (Step.Take None)) kind parts.1
       (of_pass waited h.takes.takes.makes.others waited_same h.takes.takes.makes.of_others) (apart.take None))
 
   pub all_lack : (kind : Step → Bool) → IsApart kind → has_step kind (first ++ behind) ≡ false
@@ -153,12 +144,12 @@ module _ {p q : PassState} {x : Word} {n : ℕ} (l : Looked p x n q) where
   pub looks_alone : h.looks.makes.others ≡ []
   looks_alone =
       none_of_others c [] p.seats h.looks.makes.others l.all
-      (mine_parts c [] h.looks.makes.others (event_of taken (step.Look x) ∷ [])
+      (mine_parts c [] h.looks.makes.others (event_of taken (Step.Look x) ∷ [])
       (mine_parts c [] looking giving mine.1).0).0
       (of_pass taken h.looks.makes.others taken_same h.looks.makes.of_others)
 
   -- what the pass moves on by
   pub moves : MovesOn p q
   moves =
-      let looked = moves_more p taken h.looked (step.Look x) (turn_moves p taken h.takes) h.looks.makes in
-      moves_more p h.looked q step.Give looked h.gives
+      let looked = moves_more p taken h.looked (Step.Look x) (turn_moves p taken h.takes) h.looks.makes in
+      moves_more p h.looked q Step.Give looked h.gives

@@ -1,18 +1,16 @@
 -- A call of the one caller, which the host makes again and then joins: all that came meanwhile is what the call made.
-use Rattle.std.proofs.Common.{◌≡◌, Bool, false, List, ◌∷◌, ◌++◌, sym, ◌∙◌, ap, subst, append-nil, append_assoc, ◌+◌, []}
-use Rattle.std.specs.Prelude.{Option, Some}
 use Rattle.std.proofs.lemmas.List.{append_cancel_left}
 use Rattle.mk_trace.proofs.Vocabulary.{Answer, AreEnabledFrom, AreOfOthers, Caller, Calls, Config, Decided, Event}
 use Rattle.mk_trace.proofs.Vocabulary.{Grows, HasAll, HostState, IsHistory, Op, PassState, Seat, Step, calls}
 use Rattle.mk_trace.proofs.Vocabulary.{calls_from, entry_of, has_step, left, pass_for, without_seat}
-use Rattle.mk_core.specs.declared.events.Step.TheVariants as step
-use Rattle.mk_core.proofs.HistoryParts.{calls_in_parts, enabled_in_parts, earlier_part_is_history}
-use Rattle.mk_alloc.specs.TurnCalls.{CalledInTurn}
-use Rattle.mk_alloc.specs.TurnCycles.{CallIsExact}
+use Rattle.mk_laws.proofs.Vocabulary.{Bool, List, Option, Some, ap, append-nil, append_assoc, earlier_part_is_history}
+use Rattle.mk_laws.proofs.Vocabulary.{enabled_in_parts, false, subst, sym, [], ◌++◌, ◌+◌, ◌∙◌, ◌∷◌, ◌≡◌}
+use Rattle.mk_core.proofs.HistoryParts.{calls_in_parts}
+use Rattle.mk_alloc.specs.{TurnCalls.CalledInTurn, TurnCycles.CallIsExact}
 use Rattle.mk_run.specs.Scripts.{Answers}
-use Rattle.mk_trace.proofs.OwnPieces.{AreMine, HasTheRest, all_again, are_mine, mine_parts, none_of_others, before_turn}
-use Rattle.mk_trace.proofs.OwnPieces.{before_turn_lacks, giving, turn_seen}
-use Rattle.mk_trace.proofs.OneCaller.{none_called, calls_are_own}
+use Rattle.mk_trace.proofs.OwnPieces.{AreMine, HasTheRest, all_again, are_mine, before_turn, before_turn_lacks, giving}
+use Rattle.mk_trace.proofs.OwnPieces.{mine_parts, none_of_others, turn_seen}
+use Rattle.mk_trace.proofs.OneCaller.{calls_are_own, none_called}
 
 -- Where all events are of the one caller.
 abbrev pub OneSeat : Config → List Seat → Type 0
@@ -98,7 +96,7 @@ module _ {on : Bool} {h : HostState} {o : Op} {told : Answer} {q : PassState} {f
     pub in_parts : j.own.more ≡ before ++ (acts ++ last)
     in_parts = only (before ++ (acts ++ last)) (turn_seen turn)
 
-    pub before_lacks : (kind : Step → Bool) → ((y : Option Op) → kind (step.Take y) ≡ false)
+    pub before_lacks : (kind : Step → Bool) → ((y : Option Op) → kind (Step.Take y) ≡ false)
         → has_step kind before ≡ false
     before_lacks kind apart =
         before_turn_lacks turn kind apart elsewhere the_rest

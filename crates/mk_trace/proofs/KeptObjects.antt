@@ -1,21 +1,17 @@
 -- The kept objects are those of the quarantined allocations: over a call that frees one, or none, and after it, where
 -- those are let go that were released.
-use Rattle.std.proofs.Common.{◌≡◌, ◌≢◌, inl, inr, ℕ, ◌+◌, ◌≤◌, ◌<◌, Bool, true, false, List, [], ◌∷◌, ◌++◌, length, map}
-use Rattle.std.proofs.Common.{refl, sym, ◌∙◌, ap, subst, arith, append-nil}
-use Rattle.std.specs.Prelude.{◌&&◌, ◌==◌, not, filter, Option, Some, None, option_map, if◌then◌else◌}
-use Rattle.std.proofs.lemmas.Bool.{and_parts, cases_eq, cases_lt, true≢false, not-true}
-use Rattle.std.proofs.lemmas.List.{get_or_past, map-append}
-use Rattle.std.proofs.Math.Bool.{and-false}
 use Rattle.mk_trace.proofs.Vocabulary.{AreFound, AreObjectsOf, AreThose, Config, Event, FlagsBehind, FreedObject}
-use Rattle.mk_trace.proofs.Vocabulary.{IsHistory, PlacedAllocation, Words, age_in_a_word, age_of, aged}
-use Rattle.mk_trace.proofs.Vocabulary.{cell_of_allocation, freed_object_of, in_a_word, is_freed, is_quarantined}
-use Rattle.mk_trace.proofs.Vocabulary.{large_words, left, never_granted, one_if, phase_of, placed_at, storage_words}
-use Rattle.mk_trace.proofs.Vocabulary.{times}
-use Rattle.mk_laws.proofs.ImagesKept.{exists_placed}
-use Rattle.mk_trace.specs.Freeing.{FreesFlag}
-use Rattle.mk_trace.specs.Ledgers.{aged_object, one_or_none}
+use Rattle.mk_trace.proofs.Vocabulary.{IsHistory, PlacedAllocation, Words, age_in_a_word, age_of, aged, and-false}
+use Rattle.mk_trace.proofs.Vocabulary.{cell_of_allocation, exists_placed, filter, freed_object_of, in_a_word, is_freed}
+use Rattle.mk_trace.proofs.Vocabulary.{is_quarantined, large_words, left, never_granted, one_if, option_map, phase_of}
+use Rattle.mk_trace.proofs.Vocabulary.{placed_at, storage_words, times}
+use Rattle.mk_laws.proofs.Vocabulary.{Bool, List, None, Option, Some, ℕ, and_parts, ap, append-nil, arith, cases_eq}
+use Rattle.mk_laws.proofs.Vocabulary.{cases_lt, false, get_or_past, if◌then◌else◌, inl, inr, length, map, map-append}
+use Rattle.mk_laws.proofs.Vocabulary.{not, not-true, refl, subst, sym, true, true≢false, [], ◌&&◌, ◌++◌, ◌+◌, ◌<◌, ◌==◌}
+use Rattle.mk_laws.proofs.Vocabulary.{◌∙◌, ◌∷◌, ◌≡◌, ◌≢◌, ◌≤◌}
 use Rattle.mk_trace.proofs.NumberLists.{equal_is, filters_agree, stands_passes, those_filtered, times_more, unequal_is}
 use Rattle.mk_trace.proofs.FoundObjects.{bit_tells_released, cell_by}
+use Rattle.mk_trace.specs.{Freeing.FreesFlag, Ledgers.aged_object, Ledgers.one_or_none}
 
 -- lists
 
@@ -25,8 +21,7 @@ maps_agree f g [] agree = refl
 maps_agree {X} f g (x ∷ numbers) agree =
     let first : 1 ≤ one_if (x == x) + times x numbers =
     subst (λ (b : Bool). 1 ≤ one_if b + times x numbers) (sym (equal_is x)) (omega arith) in
-    ap (λ (y : X). y ∷ map f numbers) (agree x first) ∙ ap (λ (l : List X). g x ∷ l)
-    (maps_agree f g numbers (λ i some. agree i (omega (arith, some))))
+    cc (agree x first, maps_agree f g numbers (λ i some. agree i (omega (arith, some))))
 
 filter_head : (f : ℕ → FreedObject) (x : ℕ) (xs : List FreedObject) (numbers : List ℕ) (b : Bool)
     → xs ≡ map f numbers → (if b then f x ∷ xs else xs) ≡ map f (if b then x ∷ numbers else numbers)
@@ -116,9 +111,7 @@ module _ (c : Config) (es fs : List Event) (x : Option ℕ)
       → AreObjectsOf c found xs was_kept (objects ++ freed_object_of c xs k ∷ [])
   one_noted found objects k is ends kept = record {
     numbers = kept.numbers ++ k ∷ [];
-    are = ap (λ (l : List FreedObject). l ++ freed_object_of c xs k ∷ []) kept.are
-        ∙ ap (λ (n : ℕ). map (aged_object c found xs) kept.numbers ++ record (freed_object_of c xs k) { age = n } ∷ [])
-        (sym young) ∙ sym (map-append (aged_object c found xs) kept.numbers (k ∷ []));
+    are = cc (kept.are, young, map-append (aged_object c found xs) kept.numbers (k ∷ []));
     those = those;
   }
     where
@@ -137,9 +130,7 @@ module _ (c : Config) (es fs : List Event) (x : Option ℕ)
 
       those : AreThose was_kept (kept.numbers ++ k ∷ [])
       those i = elim (cases_eq k i) [
-        | inl same ↦ subst (λ (j : ℕ). times j (kept.numbers ++ k ∷ []) ≡ one_if (was_kept j)) same
-            (times_more k kept.numbers k ∙ ap (λ (n : ℕ). n + one_if (k == k)) at_k
-            ∙ ap (λ (b : Bool). 0 + one_if b) (equal_is k) ∙ ap one_if (sym was))
+        | inl same ↦ cc (same, times_more k kept.numbers k, at_k, equal_is k, was)
         | inr ne ↦ times_more i kept.numbers k ∙ ap (λ (b : Bool). times i kept.numbers + one_if b) (unequal_is k i ne)
             ∙ (let rest : times i kept.numbers ≡ one_if (was_kept i) =
             kept.those i ∙ ap (λ (b : Bool). one_if (b && not (placed_at xs i).released))

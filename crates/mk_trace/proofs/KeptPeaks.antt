@@ -1,24 +1,23 @@
 -- All is kept of freed objects after a call, once what it freed is noted, and what it released is let go.
-use Rattle.std.proofs.Common.{◌≡◌, ◌≢◌, ◌⊎◌, inl, inr, ℕ, ◌+◌, ◌<◌, Bool, true, false, List, [], ◌∷◌, ◌++◌, map, refl}
-use Rattle.std.proofs.Common.{sym, ◌∙◌, ap, subst, arith}
-use Rattle.std.specs.Prelude.{◌==◌, fold, sum_by, Option, Some, None, option_map}
-use Rattle.std.proofs.lemmas.Bool.{eq-eqb, eqb-true, true≢false}
-use Rattle.std.proofs.lemmas.List.Sums.{sum_by-append, sum_by-cons, sum_by_push}
+use Rattle.std.proofs.lemmas.List.Sums.{sum_by_push}
 use Rattle.mk_trace.proofs.Vocabulary.{AreAgesOf, AreFound, AreObjectsOf, Config, EndsNone, EndsOne, Event}
 use Rattle.mk_trace.proofs.Vocabulary.{FlagsBehindCall, Freed, FreedObject, IsBetweenCycles, IsHistory}
 use Rattle.mk_trace.proofs.Vocabulary.{IsMostWhereFreed, Keeps, Op, PlacedAllocation, QuarantinesMostWhereFreed}
-use Rattle.mk_trace.proofs.Vocabulary.{SettlesFreed, Words, age_in_a_word, age_of, aged, ends, freed_object_of}
+use Rattle.mk_trace.proofs.Vocabulary.{SettlesFreed, Words, age_in_a_word, age_of, aged, ends, fold, freed_object_of}
 use Rattle.mk_trace.proofs.Vocabulary.{freed_words, greatest, in_a_word, is_quarantined, left, never_behind}
-use Rattle.mk_trace.proofs.Vocabulary.{number_freed, objects_kept, phase_of, placed_at, quarantined_words}
-use Rattle.mk_trace.proofs.Vocabulary.{reserved_words, still_kept, with_one, words_of_some}
-use Rattle.mk_trace.specs.declared.ledger.Peak.{Peak}
-use Rattle.mk_trace.specs.Ledgers.{IsPeakOf, Notes, SettlesWhere, aged_object, is_count_same, one_or_none, risen}
-use Rattle.mk_trace.specs.Ledgers.{some_words, weighed_anew}
-use Rattle.mk_trace.specs.Peaks.{found_by_ends}
+use Rattle.mk_trace.proofs.Vocabulary.{number_freed, objects_kept, option_map, phase_of, placed_at, quarantined_words}
+use Rattle.mk_trace.proofs.Vocabulary.{reserved_words, still_kept, sum_by, sum_by-append, sum_by-cons, with_one}
+use Rattle.mk_trace.proofs.Vocabulary.{words_of_some}
+use Rattle.mk_laws.proofs.Vocabulary.{Bool, List, None, Option, Some, ℕ, ap, arith, eq-eqb, eqb-true, false, inl, inr}
+use Rattle.mk_laws.proofs.Vocabulary.{map, refl, subst, sym, true, true≢false, [], ◌++◌, ◌+◌, ◌<◌, ◌==◌, ◌∙◌, ◌∷◌, ◌≡◌}
+use Rattle.mk_laws.proofs.Vocabulary.{◌≢◌, ◌⊎◌}
 use Rattle.mk_trace.proofs.FoundAges.{kept_age, none_ages, none_found, one_ages, one_found}
-use Rattle.mk_trace.proofs.FreedWords.{large_weight, quarantined_is, reserved_is, storage_weight, weighed, sum_alike}
+use Rattle.mk_trace.proofs.FreedWords.{large_weight, quarantined_is, reserved_is, storage_weight, sum_alike, weighed}
 use Rattle.mk_trace.proofs.KeptObjects.{ages_gone, let_go, none_released, noted, was_kept}
 use Rattle.mk_trace.proofs.NumberLists.{words_of_numbers}
+use Rattle.mk_trace.specs.Ledgers.{IsPeakOf, Notes, SettlesWhere, aged_object, is_count_same, one_or_none, risen}
+use Rattle.mk_trace.specs.Ledgers.{some_words, weighed_anew}
+use Rattle.mk_trace.specs.{Peaks.found_by_ends, declared.ledger.Peak.Peak}
 
 -- sums
 
@@ -138,9 +137,8 @@ module _ (c : Config) (es fs : List Event) (o : Op) (before : IsHistory c es) (b
 
   with_freed : AreObjectsOf c found xs (was_kept c es fs x_number flags) (objects_kept first ++ one_or_none x)
   with_freed =
-      subst (λ (y : Option FreedObject). AreObjectsOf c found xs (was_kept c es fs x_number flags)
-      (objects_kept first ++ one_or_none y)) (sym is)
-      (noted c es fs x_number flags found (objects_kept first) keeps.found keeps.objects)
+      subst (λ (y : Option FreedObject). AreObjectsOf c found xs (was_kept c es fs x_number flags) (objects_kept first
+      ++ one_or_none y)) (sym is) (noted c es fs x_number flags found _ keeps.found keeps.objects)
 
   noted_objects : AreObjectsOf c found xs (was_kept c es fs x_number flags) (objects_kept second)
   noted_objects = subst (AreObjectsOf c found xs (was_kept c es fs x_number flags)) (sym notes.objects) with_freed
@@ -148,9 +146,7 @@ module _ (c : Config) (es fs : List Event) (o : Op) (before : IsHistory c es) (b
   -- No cycle ended.
   module _ (none : EndsNone c es fs) where
     none_gone : Kept found (objects_kept first ++ one_or_none x)
-    none_gone =
-        none_released c es fs x_number flags none.released.released found (objects_kept first ++ one_or_none x)
-        with_freed
+    none_gone = none_released c es fs x_number flags none.released.released found _ with_freed
 
     keeps_none : SettlesWhere true w.freed second third → Keeps c fs third
     keeps_none s = record {

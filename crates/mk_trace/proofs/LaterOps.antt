@@ -1,20 +1,16 @@
 -- The operations of events: of one more, and those after the first one.
-use Rattle.std.proofs.Common.{zero, suc, ◌≡◌, ℕ, ◌+◌, ◌-◌, ◌≤◌, Bool, true, false, List, [], ◌∷◌, ◌++◌, length, sym}
-use Rattle.std.proofs.Common.{◌∙◌, ap, arith, append_assoc, append-nil, ◌<◌, get_or, refl, subst}
-use Rattle.std.specs.Prelude.{if◌then◌else◌, take, drop, ◌||◌}
-use Rattle.std.specs.List.{list_any, list_all}
-use Rattle.std.proofs.lemmas.List.{length-append, length-drop, take_all, take-append-le, drop-append-le, take_more}
-use Rattle.std.proofs.lemmas.List.{get_or-drop, length-take, take-append-drop, drop_more}
-use Rattle.std.proofs.lemmas.Bool.{and_parts}
+use Rattle.std.proofs.{Common.get_or-drop, Common.length-take, lemmas.List.drop-append-le, lemmas.List.take-append-le}
+use Rattle.std.specs.List.{list_all}
 use Rattle.mk_trace.proofs.Vocabulary.{A, Answer, AreAdmitted, C, Calls, Config, Event, F, K, Op, TraceEvent, W}
-use Rattle.mk_trace.proofs.Vocabulary.{begins_full, calls_of_caller, flagged, is_refusal, never_behind, one_if, ops_of}
-use Rattle.mk_trace.proofs.Vocabulary.{refused_events}
-use Rattle.mk_never.specs.declared.operations.Op.TheVariants as op
-use Rattle.mk_core.specs.declared.events.Answer.TheVariants as answer
+use Rattle.mk_trace.proofs.Vocabulary.{begins_full, calls_of_caller, drop_more, flagged, is_refusal, length-append}
+use Rattle.mk_trace.proofs.Vocabulary.{length-drop, never_behind, one_if, ops_of, refused_events, take-append-drop}
+use Rattle.mk_trace.proofs.Vocabulary.{take_all, take_more}
+use Rattle.mk_laws.proofs.Vocabulary.{Bool, List, ℕ, and_parts, ap, append-nil, append_assoc, arith, drop, false}
+use Rattle.mk_laws.proofs.Vocabulary.{get_or, if◌then◌else◌, length, list_any, refl, subst, suc, sym, take, true, zero}
+use Rattle.mk_laws.proofs.Vocabulary.{[], ◌++◌, ◌+◌, ◌-◌, ◌<◌, ◌||◌, ◌∙◌, ◌∷◌, ◌≡◌, ◌≤◌}
 use Rattle.mk_core.specs.Counts.{is_full_answer}
-use Rattle.mk_trace.specs.Playing.{ops_played}
-use Rattle.mk_trace.specs.Calls.{MayCome, CallsAll, PlaysEvent}
 use Rattle.mk_trace.proofs.OneCaller.{begins_alike, calls_first, calls_more, full_as_told, next_may_come}
+use Rattle.mk_trace.specs.{Calls.CallsAll, Calls.MayCome, Calls.PlaysEvent, Playing.ops_played}
 
 -- The operations of events, and how many are refused, with one event more.
 
@@ -24,16 +20,11 @@ either_way P one two true = one
 either_way P one two false = two
 
 -- an event has an operation
-
-abbrev HasSome : TraceEvent → Bool → Type 0
-HasSome event full = 1 ≤ length (ops_of full event)
-
 pub some_ops : (full : Bool) (event : TraceEvent) → 1 ≤ length (ops_of full event)
-some_ops full (A slot) = either_way (HasSome (A slot)) (omega arith) (omega arith) full
-some_ops full (K slot) = either_way (HasSome (K slot)) (omega arith) (omega arith) full
-some_ops full (F slot) = either_way (HasSome (F slot)) (omega arith) (omega arith) full
-some_ops full (C slot) = either_way (HasSome (C slot)) (omega arith) (omega arith) full
-some_ops full (W slot index value) = either_way (HasSome (W slot index value)) (omega arith) (omega arith) full
+some_ops true (A slot) = omega arith
+some_ops true _ = omega arith
+some_ops false (A slot) = omega arith
+some_ops false _ = omega arith
 
 counted_more : (refused : Bool) (later behind n : ℕ) → behind ≡ later + n
     → (if refused then behind + 1 else behind) ≡ (if refused then later + 1 else later) + n
@@ -88,37 +79,33 @@ module _ (event : TraceEvent) (more : List Answer) where
       → refused_events (events ++ event ∷ []) (answers ++ more)
       ≡ refused_events events answers + one_if (list_any is_refusal more)
   refused_more [] [] count size =
-      ap (λ (l : List Answer). if list_any is_refusal l then 0 + 1 else 0)
-      (ap (λ (n : ℕ). take n more) (sym size) ∙ take_all (length more) more (omega arith))
-      ∙ first_refused (list_any is_refusal more)
+      cc (size, take_all (length more) more (omega arith), first_refused (list_any is_refusal more))
   refused_more [] (a ∷ answers) count size = absurd cc
   refused_more (x ∷ events) answers count size =
       let own : List Op = own_ops x events answers count in
       let left : List Answer = rest x events answers count in
       let fits = within x events answers count in
       let later = refused_events (events ++ event ∷ []) in
-      ap (λ (full : Bool). if list_any is_refusal (take (length (ops_of full x)) (answers ++ more))
-      then later (drop (length (ops_of full x)) (answers ++ more)) + 1
-      else later (drop (length (ops_of full x)) (answers ++ more))) (alike x events answers count more)
-      ∙ ap (λ (l : List Answer). if list_any is_refusal l then later (drop (length own) (answers ++ more)) + 1
-      else later (drop (length own) (answers ++ more))) (take-append-le (length own) answers more fits)
-      ∙ counted_more (list_any is_refusal (take (length own) answers)) (refused_events events left)
-      (later (drop (length own) (answers ++ more))) (one_if (list_any is_refusal more))
-      (ap later (drop-append-le (length own) answers more fits)
-      ∙ refused_more events left (rest_count x events answers count) size)
+      ap (λ (full : Bool). if list_any is_refusal (take (length (ops_of full x)) (answers ++ more)) then later (drop
+      (length (ops_of full x)) (answers ++ more)) + 1 else later (drop (length (ops_of full x)) (answers ++ more)))
+      (alike x events answers count more) ∙ ap (λ (l : List Answer). if list_any is_refusal l then later (drop (length
+      own) (answers ++ more)) + 1 else later (drop (length own) (answers ++ more))) (take-append-le (length own) answers
+      more fits) ∙ counted_more (list_any is_refusal (take (length own) answers)) (refused_events events left) (later
+      (drop (length own) (answers ++ more))) _ (ap later (drop-append-le (length own) answers more fits) ∙ refused_more
+      events left (rest_count x events answers count) size)
 
 -- The operations of an event after its first one, called one by one.
 
 -- An event's operations are its first one and those after it.
 
 made_first : (slot : ℕ) (a : Answer)
-    → ops_of (is_full_answer a) (A slot) ≡ flagged (op.New 0 slot false) a ∷ drop 1 (ops_of (is_full_answer a) (A slot))
-made_first slot answer.Full = refl
+    → ops_of (is_full_answer a) (A slot) ≡ flagged (Op.New 0 slot false) a ∷ drop 1 (ops_of (is_full_answer a) (A slot))
+made_first slot Answer.Full = refl
 made_first slot a = refl
 
 linked_first : (slot : ℕ) (a : Answer)
-    → ops_of (is_full_answer a) (K slot) ≡ flagged (op.New 0 slot false) a ∷ drop 1 (ops_of (is_full_answer a) (K slot))
-linked_first slot answer.Full = refl
+    → ops_of (is_full_answer a) (K slot) ≡ flagged (Op.New 0 slot false) a ∷ drop 1 (ops_of (is_full_answer a) (K slot))
+linked_first slot Answer.Full = refl
 linked_first slot a = refl
 
 abbrev BeginsWith : Op → TraceEvent → Bool → Type 0
@@ -126,24 +113,24 @@ BeginsWith o event full = ops_of full event ≡ o ∷ drop 1 (ops_of full event)
 
 first_of : (o : Op) (a : Answer) (event : TraceEvent) → ops_of false event ≡ o ∷ drop 1 (ops_of false event)
     → ops_of (is_full_answer a) event ≡ flagged o a ∷ drop 1 (ops_of (is_full_answer a) event)
-first_of o a (A slot) is = let same : o ≡ op.New 0 slot false = cc in rw same (made_first slot a)
-first_of o a (K slot) is = let same : o ≡ op.New 0 slot false = cc in rw same (linked_first slot a)
+first_of o a (A slot) is = let same : o ≡ Op.New 0 slot false = cc in rw same (made_first slot a)
+first_of o a (K slot) is = let same : o ≡ Op.New 0 slot false = cc in rw same (linked_first slot a)
 first_of o a (F slot) is =
-    let same : o ≡ op.GetGlobal 0 slot = cc in
-    rw same (either_way (BeginsWith (op.GetGlobal 0 slot) (F slot)) refl refl (is_full_answer a))
+    let same : o ≡ Op.GetGlobal 0 slot = cc in
+    rw same (either_way (BeginsWith (Op.GetGlobal 0 slot) (F slot)) refl refl (is_full_answer a))
 first_of o a (C slot) is =
-    let same : o ≡ op.SetGlobal slot 0 = cc in
-    rw same (either_way (BeginsWith (op.SetGlobal slot 0) (C slot)) refl refl (is_full_answer a))
+    let same : o ≡ Op.SetGlobal slot 0 = cc in
+    rw same (either_way (BeginsWith (Op.SetGlobal slot 0) (C slot)) refl refl (is_full_answer a))
 first_of o a (W slot index value) is =
-    let same : o ≡ op.GetGlobal 0 slot = cc in
-    rw same (either_way (BeginsWith (op.GetGlobal 0 slot) (W slot index value)) refl refl (is_full_answer a))
+    let same : o ≡ Op.GetGlobal 0 slot = cc in
+    rw same (either_way (BeginsWith (Op.GetGlobal 0 slot) (W slot index value)) refl refl (is_full_answer a))
 
 -- The operation is noted as it is, whatever its answer.
 abbrev IsPlain : Op → Type 0
 IsPlain o = (a : Answer) → flagged o a ≡ o
 
 abbrev is_plain : Op → Bool
-is_plain (op.New d ty full) = false
+is_plain (Op.New d ty full) = false
 is_plain _ = true
 
 are_plain : (ops : List Op) (i : ℕ) (o : Op) → list_all is_plain ops ≡ true → i < length ops → o ≡ get_or ops i o
@@ -153,21 +140,17 @@ are_plain (x ∷ ops) zero o plain lt at =
     subst IsPlain (sym at) (by x (and_parts (is_plain x) (list_all is_plain ops) plain).0)
   where
     by : (x : Op) → is_plain x ≡ true → IsPlain x
-    by (op.New d ty full) h = cc
+    by (Op.New d ty full) h = cc
     by _ h = λ a. refl
 are_plain (x ∷ ops) (suc i) o plain lt at =
     are_plain ops i o (and_parts (is_plain x) (list_all is_plain ops) plain).1 (omega (arith, lt)) at
 
 -- Only the first may be a New.
-abbrev LaterArePlain : TraceEvent → Bool → Type 0
-LaterArePlain event full = list_all is_plain (drop 1 (ops_of full event)) ≡ true
-
 later_plain : (full : Bool) (event : TraceEvent) → list_all is_plain (drop 1 (ops_of full event)) ≡ true
-later_plain full (A slot) = either_way (LaterArePlain (A slot)) refl refl full
-later_plain full (K slot) = either_way (LaterArePlain (K slot)) refl refl full
-later_plain full (F slot) = either_way (LaterArePlain (F slot)) refl refl full
-later_plain full (C slot) = either_way (LaterArePlain (C slot)) refl refl full
-later_plain full (W slot index value) = either_way (LaterArePlain (W slot index value)) refl refl full
+later_plain true (A slot) = refl
+later_plain true _ = refl
+later_plain false (A slot) = refl
+later_plain false _ = refl
 
 module _ (c : Config) (es : List Event) (full : Bool) (event : TraceEvent) (i : ℕ) (o : Op)
     (within : i < length (drop 1 (ops_of full event))) (at : o ≡ get_or (drop 1 (ops_of full event)) i o) where
@@ -229,8 +212,7 @@ pub begun : {c : Config} {es : List Event} (event : TraceEvent) {o : Op} {told :
 begun event {o} {told} is g =
     let same : is_full_answer told ≡ is_full_answer g.answer = ap is_full_answer g.is_told ∙ full_as_told g.answer in
     let first : ops_of (is_full_answer told) event ≡ flagged o g.answer ∷ drop 1 (ops_of (is_full_answer told) event) =
-    subst (λ (full : Bool). ops_of full event ≡ flagged o g.answer ∷ drop 1 (ops_of full event)) (sym same)
-    (first_of o g.answer event is) in
+    cc (same, first_of o g.answer event is) in
     first_all event (flagged o g.answer) first (calls_first g)
 
 -- What the calls of an event come to.

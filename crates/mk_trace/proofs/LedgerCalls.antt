@@ -1,6 +1,4 @@
 -- What the ledger keeps: before any event, over a call, and at the end.
-use Rattle.std.proofs.Common.{◌≡◌, ℕ, List, [], refl, sym, ◌∙◌, ap, subst, ◌⊎◌, inl, inr, ◌+◌, ◌≤◌, ◌<◌, false, arith}
-use Rattle.std.specs.Prelude.{Option, option_map}
 use Rattle.mk_trace.proofs.Vocabulary.{AreAgesOf, AreFound, AreObjectsOf, Config, Contents, Decided, EndsNone, EndsOne}
 use Rattle.mk_trace.proofs.Vocabulary.{EndsTell, Event, FlagsBehindCall, Freed, FreedObject, HoldsMostAtEnd}
 use Rattle.mk_trace.proofs.Vocabulary.{HostOnlyLooks, IsBetweenCycles, IsHistory, IsMostWhereFreed, Keeps}
@@ -8,17 +6,14 @@ use Rattle.mk_trace.proofs.Vocabulary.{LeavesAllocations, NeverState, Op, Placed
 use Rattle.mk_trace.proofs.Vocabulary.{SettlesFreed, Words, after_calls, asked, config_of, ends, first_world}
 use Rattle.mk_trace.proofs.Vocabulary.{freed_object_of, freed_words, greatest, held_by_allocations, in_a_word}
 use Rattle.mk_trace.proofs.Vocabulary.{is_quarantined, is_under_turn, large_words, left, most_held, never_behind}
-use Rattle.mk_trace.proofs.Vocabulary.{never_first, number_freed, objects_kept, peaks_of, placed_at, quarantined_words}
-use Rattle.mk_trace.proofs.Vocabulary.{reserved_words, storage_words}
-use Rattle.mk_never.specs.declared.operations.Op.TheVariants as op
-use Rattle.mk_core.specs.Allocations.{unreleased_storage}
-use Rattle.mk_core.specs.History.{left_from}
-use Rattle.mk_trace.specs.declared.ledger.Peak.{Peak}
-use Rattle.mk_trace.specs.Ledgers.{IsPeakOf, Notes}
+use Rattle.mk_trace.proofs.Vocabulary.{never_first, number_freed, objects_kept, option_map, peaks_of, placed_at}
+use Rattle.mk_trace.proofs.Vocabulary.{quarantined_words, reserved_words, storage_words}
+use Rattle.mk_laws.proofs.Vocabulary.{List, Option, ℕ, ap, arith, false, inl, inr, refl, subst, sym, [], ◌+◌, ◌<◌, ◌∙◌}
+use Rattle.mk_laws.proofs.Vocabulary.{◌≡◌, ◌≤◌, ◌⊎◌}
+use Rattle.mk_core.specs.{Allocations.unreleased_storage, History.left_from}
+use Rattle.mk_trace.proofs.{KeptPeaks.keeps_on, PeakParts.last_below, ReleasedAreFreed.ages_counted}
 use Rattle.mk_trace.specs.Peaks.{HistoryPeaks, found_by_ends, found_by_ends_from, greatest_from}
-use Rattle.mk_trace.proofs.ReleasedAreFreed.{ages_counted}
-use Rattle.mk_trace.proofs.PeakParts.{last_below}
-use Rattle.mk_trace.proofs.KeptPeaks.{keeps_on}
+use Rattle.mk_trace.specs.{Ledgers.IsPeakOf, Ledgers.Notes, declared.ledger.Peak.Peak}
 
 -- The ledger before any event, and what it comes to at the end.
 
@@ -49,9 +44,7 @@ first_keeps c es f empty quarantined reserved objects ages ends =
 pub most_of : (trace : Contents) (c : Config) (measure : Config → List PlacedAllocation → ℕ) (es fs : List Event)
     (most : ℕ) → fs ≡ es → c ≡ config_of trace → most ≡ in_a_word (greatest c (measure c) es)
     → most ≡ in_a_word (greatest (config_of trace) (measure (config_of trace)) fs)
-most_of trace c measure es fs most same config is =
-    is ∙ ap (λ (d : Config). in_a_word (greatest d (measure d) es)) config
-    ∙ ap (λ (l : List Event). in_a_word (greatest (config_of trace) (measure (config_of trace)) l)) (sym same)
+most_of trace c measure es fs most same config is = cc
 
 pub ages_of : (trace : Contents) (c : Config) (es : List Event) {fs : List Event} {pairs : List (ℕ × ℕ)} → fs ≡ es
     → c ≡ config_of trace → IsHistory (config_of trace) fs
@@ -112,7 +105,7 @@ keeps_looked {c} looks h = keeps_left looks.leaves (looks.most (quarantined_word
 
 frees_nothing : (c : Config) (words : PlacedAllocation → ℕ) (es : List Event) (o : Op) → is_under_turn o ≡ false
     → freed_words c words es o ≡ 0
-frees_nothing c words es (op.Free p) beside = cc
+frees_nothing c words es (Op.Free p) beside = cc
 frees_nothing c words es o beside = refl
 
 most_beside : (c : Config) (measure : List PlacedAllocation → ℕ) (words : PlacedAllocation → ℕ) (es : List Event)
@@ -159,11 +152,7 @@ module _ (c : Config) (es0 es1 es2 es3 es4 : List Event) (o : Op) (first second 
   told = tells (idle_looked before idle)
 
   is_now : x ≡ option_map (freed_object_of c (left c es1).allocations) (number_freed (never_behind c es1) o)
-  is_now =
-      is ∙ ap (λ (xs : List PlacedAllocation). option_map (freed_object_of c xs) (number_freed (never_behind c es0) o))
-      (sym before.table.allocations)
-      ∙ ap (λ (n : NeverState). option_map (freed_object_of c (left c es1).allocations) (number_freed n o))
-      (sym (never_looked before))
+  is_now = cc (is, before.table.allocations, never_looked before)
 
   settles_now : SettlesFreed (left c es2).now.words.freed (in_a_word (ends es2)) second third
   settles_now =

@@ -1,24 +1,19 @@
 -- Looks of the turn's holder leave the table as it is, but for the turn word, and the allocations.
-use Rattle.std.proofs.Common.{◌≡◌, ℕ, Bool, true, false, List, [], ◌∷◌, refl, ◌∙◌, ap, arith}
-use Rattle.std.proofs.lemmas.Bool.{or_parts}
 use Rattle.mk_trace.proofs.Vocabulary.{Config, Event, PlacedAllocation, Seat, Step, Word, Words, World, has_step}
 use Rattle.mk_trace.proofs.Vocabulary.{world_behind}
-use Rattle.mk_core.specs.declared.events.Step.TheVariants as step
-use Rattle.mk_core.specs.declared.events.Word.TheVariants as word
-use Rattle.mk_core.specs.History.{left_from}
-use Rattle.mk_core.specs.Words.{named_word}
-use Rattle.mk_trace.specs.Looking.{LeavesTable}
-use Rattle.mk_trace.specs.Peaks.{greatest_from}
+use Rattle.mk_laws.proofs.Vocabulary.{Bool, List, ℕ, ap, arith, false, or_parts, refl, true, [], ◌∙◌, ◌∷◌, ◌≡◌}
+use Rattle.mk_core.specs.{History.left_from, Words.named_word}
+use Rattle.mk_trace.specs.{Looking.LeavesTable, Peaks.greatest_from}
 
 -- no step of one who looks at words
 abbrev pub is_no_look : Step → Bool
-is_no_look (step.Take o) = false
-is_no_look (step.Look x) = false
-is_no_look step.Give = false
+is_no_look (Step.Take o) = false
+is_no_look (Step.Look x) = false
+is_no_look Step.Give = false
 is_no_look _ = true
 
 pub named_same : (w : Words) (turn : ℕ) (x : Word) → named_word (record w { turn = turn }) x ≡ named_word w x
-named_same w turn word.Phase = refl
+named_same w turn Word.Phase = refl
 named_same w turn _ = refl
 
 pub word_left : {w v : World} → LeavesTable w v → (x : Word) → named_word v.now.words x ≡ named_word w.now.words x
@@ -32,9 +27,9 @@ leaves_then u v w one two = record {
 
 step_leaves : (c : Config) (w : World) (seat : Seat) (s : Step) → is_no_look s ≡ false
     → LeavesTable w (world_behind c w (record { seat = seat; step = s }))
-step_leaves c w seat (step.Take o) looks = record { allocations = refl; words = refl }
-step_leaves c w seat (step.Look x) looks = record { allocations = refl; words = refl }
-step_leaves c w seat step.Give looks = record { allocations = refl; words = refl }
+step_leaves c w seat (Step.Take o) looks = record { allocations = refl; words = refl }
+step_leaves c w seat (Step.Look x) looks = record { allocations = refl; words = refl }
+step_leaves c w seat Step.Give looks = record { allocations = refl; words = refl }
 step_leaves c w seat _ looks = cc
 
 pub looks_leave : (c : Config) (w : World) (es : List Event) → has_step is_no_look es ≡ false

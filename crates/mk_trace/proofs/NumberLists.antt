@@ -1,17 +1,13 @@
 -- Lists that have each number once that passes a test.
-use Rattle.std.proofs.Common.{◌≡◌, ℕ, suc, ◌+◌, ◌≤◌, ◌<◌, Bool, true, false, List, [], ◌∷◌, ◌++◌, length, refl, sym}
-use Rattle.std.proofs.Common.{◌∙◌, ap, subst, arith, inl, inr}
-use Rattle.std.specs.Prelude.{◌&&◌, ◌==◌, sum_by, filter, slice_set, if◌then◌else◌}
-use Rattle.std.proofs.lemmas.Bool.{cases_eq, eq-eqb, eqb-true, false_from_ne_true, not-true, and_parts}
-use Rattle.std.proofs.lemmas.List.{get_or-set_same, get_or-set_other}
-use Rattle.std.proofs.lemmas.List.Sums.{sum_by-cons, sum_by-set}
-use Rattle.std.proofs.Math.Bool.{and-false}
-use Rattle.std.proofs.lemmas.Bool.Decides.{nat_tests}
-use Rattle.mk_trace.proofs.Vocabulary.{AreThose, PlacedAllocation, is_quarantined, never_granted, one_if, placed_at}
-use Rattle.mk_trace.proofs.Vocabulary.{times}
-use Rattle.mk_laws.proofs.ImagesKept.{exists_placed}
+use Rattle.std.proofs.lemmas.List.Sums.{sum_by-set}
+use Rattle.mk_trace.proofs.Vocabulary.{AreThose, PlacedAllocation, and-false, exists_placed, filter, is_quarantined}
+use Rattle.mk_trace.proofs.Vocabulary.{nat_tests, never_granted, one_if, placed_at, sum_by, sum_by-cons, times}
+use Rattle.mk_laws.proofs.Vocabulary.{Bool, List, ℕ, and_parts, ap, arith, cases_eq, eq-eqb, eqb-true, false}
+use Rattle.mk_laws.proofs.Vocabulary.{false_from_ne_true, get_or-set_other, get_or-set_same, if◌then◌else◌, inl, inr}
+use Rattle.mk_laws.proofs.Vocabulary.{length, not-true, refl, slice_set, subst, suc, sym, true, [], ◌&&◌, ◌++◌, ◌+◌}
+use Rattle.mk_laws.proofs.Vocabulary.{◌<◌, ◌==◌, ◌∙◌, ◌∷◌, ◌≡◌, ◌≤◌}
+use Rattle.mk_trace.proofs.FreedWords.{part, sum_alike, weighed}
 use Rattle.mk_trace.specs.Numbers.{AreOfQuarantined}
-use Rattle.mk_trace.proofs.FreedWords.{part, weighed, sum_alike}
 
 pub equal_is : (i : ℕ) → (i == i) ≡ true
 equal_is i = eq-eqb i i refl
@@ -94,9 +90,7 @@ module _ (weight : ℕ → ℕ) (xs : List PlacedAllocation) (n : ℕ) (numbers 
   ys = slice_set xs n gone
 
   at_n : (is_quarantined (placed_at xs n) ≡ true) × (times n numbers ≡ 0)
-  at_n =
-      some_one (times n numbers) (is_quarantined (placed_at xs n))
-      (ap (λ (b : Bool). one_if b + times n numbers) (sym (equal_is n)) ∙ those n)
+  at_n = some_one (times n numbers) _ (ap (λ (b : Bool). one_if b + times n numbers) (sym (equal_is n)) ∙ those n)
 
   exists : n < length xs
   exists = exists_placed xs n (not-true (placed_at xs n).released (and_parts _ _ at_n.0).1)
@@ -109,11 +103,8 @@ module _ (weight : ℕ → ℕ) (xs : List PlacedAllocation) (n : ℕ) (numbers 
 
   pub those_left : AreOfQuarantined ys numbers
   those_left i = elim (cases_eq i n) [
-    | inl same ↦ ap (λ (k : ℕ). times k numbers) same ∙ at_n.1 ∙ ap one_if
-        (sym (ap (λ (k : ℕ). is_quarantined (placed_at ys k)) same ∙ ap is_quarantined set_is
-        ∙ and-false (placed_at xs n).freed))
-    | inr ne ↦ sym (none_more (n == i) (times i numbers) (unequal_is n i (λ e. ne (sym e)))) ∙ those i
-        ∙ ap (λ (a : PlacedAllocation). one_if (is_quarantined a)) (sym (other_is i ne))
+    | inl same ↦ cc (same, at_n.1, set_is, and-false (placed_at xs n).freed)
+    | inr ne ↦ cc (none_more (n == i) (times i numbers) (unequal_is n i (λ e. ne (sym e))), those i, other_is i ne)
   ]
 
   pub types_left : (i : ℕ) → (placed_at ys i).ty ≡ (placed_at xs i).ty

@@ -1,30 +1,21 @@
 -- In a heap of one caller all calls are its own: what one call more makes of them.
-use Rattle.std.proofs.Common.{◌≡◌, ℕ, ◌*◌, ◌<◌, ◌≤◌, Bool, true, false, List, [], ◌∷◌, ◌++◌, length, refl, sym, ◌∙◌, ap}
-use Rattle.std.proofs.Common.{subst, arith, append_assoc}
-use Rattle.std.specs.Prelude.{◌==◌, ◌||◌, if◌then◌else◌, Some, replicate}
-use Rattle.std.specs.List.{list_any}
-use Rattle.std.proofs.lemmas.Bool.{eq-eqb}
-use Rattle.std.proofs.lemmas.List.{length-replicate, length-map, map-append}
-use Rattle.std.proofs.lemmas.List.Folds.{list_any-append}
 use Rattle.mk_trace.proofs.Vocabulary.{Answer, AreAdmitted, Call, Caller, CallerIsHome, CallerState, Calls, Config}
 use Rattle.mk_trace.proofs.Vocabulary.{Decided, Event, Grows, Has, HasAll, HostState, IsAdmitted, IsHistory, NeverState}
 use Rattle.mk_trace.proofs.Vocabulary.{Null, Op, PassState, Seat, WordsState, after_calls, answered, asked, begins_full}
-use Rattle.mk_trace.proofs.Vocabulary.{calls, calls_of_caller, entry_of, first_host, flagged, is_refusal, never_behind}
-use Rattle.mk_trace.proofs.Vocabulary.{never_first, pass_for, without_seat}
-use Rattle.mk_never.specs.NeverHeap.{after_op}
-use Rattle.mk_never.specs.Admitted.{IsCaller}
-use Rattle.mk_never.proofs.Later.{op_stays}
-use Rattle.mk_never.proofs.Parts.{after_append, admitted_split}
-use Rattle.mk_core.specs.declared.events.Answer.TheVariants as answer
+use Rattle.mk_trace.proofs.Vocabulary.{calls, calls_of_caller, entry_of, first_host, flagged, has_first, is_refusal}
+use Rattle.mk_trace.proofs.Vocabulary.{length-replicate, never_behind, never_first, pass_for, replicate, without_seat}
+use Rattle.mk_laws.proofs.Vocabulary.{Bool, List, Some, ℕ, ap, append_assoc, arith, eq-eqb, false, if◌then◌else◌}
+use Rattle.mk_laws.proofs.Vocabulary.{length, length-map, list_any, list_any-append, map-append, refl, subst, sym, true}
+use Rattle.mk_laws.proofs.Vocabulary.{[], ◌*◌, ◌++◌, ◌<◌, ◌==◌, ◌||◌, ◌∙◌, ◌∷◌, ◌≡◌, ◌≤◌}
+use Rattle.mk_never.proofs.{Later.op_stays, Parts.admitted_split, Parts.after_append}
+use Rattle.mk_never.specs.{Admitted.IsCaller, NeverHeap.after_op}
 use Rattle.mk_core.specs.Counts.{is_full_answer}
-use Rattle.mk_words.specs.Seats.{all_seats, has_over}
-use Rattle.mk_words.proofs.Seats.{has_all, has_first, has_right}
-use Rattle.mk_caller.specs.States.{at_home, caller_of_pass}
 use Rattle.mk_caller.proofs.OwnSteps.{calls_by, others_add_none}
+use Rattle.mk_caller.specs.States.{at_home, caller_of_pass}
 use Rattle.mk_heap.specs.Hosts.{AllAreJoined, with_caller_made, with_caller_out, with_joined, with_seen}
-use Rattle.mk_run.specs.Scripts.{as_told, IsAdmittedByOwnCalls}
-use Rattle.mk_trace.specs.Calls.{MayCome, SameCalls, CallsAll}
-use Rattle.mk_trace.proofs.OwnPieces.{all_again}
+use Rattle.mk_run.specs.Scripts.{IsAdmittedByOwnCalls, as_told}
+use Rattle.mk_trace.{proofs.OwnPieces.all_again, specs.Calls.CallsAll, specs.Calls.MayCome, specs.Calls.SameCalls}
+use Rattle.mk_words.{proofs.Seats.has_all, proofs.Seats.has_right, specs.Seats.all_seats, specs.Seats.has_over}
 
 by_test : (x : Decided) (xs ys : List Decided) (b : Bool) → b ≡ true → ys ≡ xs → (if b then x ∷ ys else ys) ≡ x ∷ xs
 by_test x xs ys true is same = ap (λ (l : List Decided). x ∷ l) same
@@ -70,14 +61,14 @@ pub never_behind_all : {c : Config} {es : List Event} {full : Bool} {ops : List 
 never_behind_all {c} {es} {fs} h = never_then_calls c es fs h.more h.is ∙ ap (after_calls (never_behind c es)) h.asks
 
 refused_as_told : (a : Answer) → is_refusal (as_told a) ≡ is_refusal a
-refused_as_told (answer.Word w) = refl
+refused_as_told (Answer.Word w) = refl
 refused_as_told a = refl
 
 or_none : (b : Bool) → (b || false) ≡ b
 or_none b = grind arith
 
 pub full_as_told : (a : Answer) → is_full_answer (as_told a) ≡ is_full_answer a
-full_as_told (answer.Word w) = refl
+full_as_told (Answer.Word w) = refl
 full_as_told a = refl
 
 -- as many operations as answers
@@ -89,9 +80,7 @@ as_many xs ops is =
 
 any_more : (xs : List Answer) (told a : Answer) → told ≡ as_told a
     → list_any is_refusal (xs ++ a ∷ []) ≡ list_any is_refusal xs || is_refusal told
-any_more xs told a is =
-    list_any-append is_refusal xs (a ∷ []) ∙ ap (λ (b : Bool). list_any is_refusal xs || b)
-    (or_none (is_refusal a) ∙ sym (refused_as_told a) ∙ ap is_refusal (sym is))
+any_more xs told a is = cc (list_any-append is_refusal xs (a ∷ []), or_none (is_refusal a), refused_as_told a, is)
 
 -- the first call of all
 pub calls_first : {c : Config} {es : List Event} {o : Op} {told : Answer} {fs : List Event} → (g : Calls c es o told fs)
@@ -118,9 +107,8 @@ module _ (c : Config) (es : List Event) (full : Bool) (ops : List Op) (refused :
       record {
         more = h.more ++ entry;
         begins =
-            ap begins_full (map-append (λ (x : Decided). x.answer) h.more entry)
-            ∙ begins_alike (answered h.more) (answered entry) (omega (arith, some, as_many h.more ops h.asks))
-            ∙ h.begins;
+            ap begins_full (map-append (λ (x : Decided). x.answer) h.more entry) ∙ begins_alike _ (answered entry)
+            (omega (arith, some, as_many h.more ops h.asks)) ∙ h.begins;
         is = g.entry ∙ ap (λ (l : List Decided). l ++ entry) h.is ∙ append_assoc (calls c es) h.more entry;
         asks = map-append (λ (x : Decided). record { caller = x.caller; op = x.op }) h.more entry
             ∙ ap (λ (l : List Call). l ++ record { caller = 0; op = flagged o g.answer } ∷ []) h.asks

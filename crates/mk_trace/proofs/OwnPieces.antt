@@ -1,24 +1,17 @@
 -- What a pass may have seen since, and what is seen of a call under the turn.
-use Rattle.std.proofs.Common.{◌≡◌, ⊎_elim, Bool, true, false, List, ◌∷◌, ◌++◌, refl, sym, ◌∙◌, ap, subst, []}
-use Rattle.std.proofs.Common.{append_assoc}
-use Rattle.std.specs.Prelude.{◌&&◌, not, Option, Some}
-use Rattle.std.specs.List.{list_all}
-use Rattle.std.proofs.lemmas.Bool.{and_from, and_parts, cases_Bool, not-true, or_cases, or_from, true≢false}
-use Rattle.std.proofs.lemmas.List.Folds.{list_all-append}
-use Rattle.std.proofs.lemmas.List.{append_cancel_right}
+use Rattle.std.{proofs.lemmas.List.append_cancel_right, proofs.lemmas.List.Folds.list_all-append, specs.List.list_all}
 use Rattle.mk_trace.proofs.Vocabulary.{Answer, Config, Event, Has, HasAll, Op, PassState, Seat, Step, World, event_of}
-use Rattle.mk_trace.proofs.Vocabulary.{has_step, is_same_seat, seat_exists, without_seat, world_behind}
-use Rattle.mk_core.specs.Growing.{AreOfOthers, is_one_of}
-use Rattle.mk_core.specs.History.{AreEnabledFrom}
-use Rattle.mk_core.proofs.Conditions.{enabled_meets}
-use Rattle.mk_core.specs.declared.events.Step.TheVariants as step
-use Rattle.mk_words.proofs.Seats.{has_either, has_first, has_left, has_right, not_both, same_seat, without_keeps}
+use Rattle.mk_trace.proofs.Vocabulary.{has_first, has_step, is_same_seat, lacks_append, lacks_one, seat_exists}
+use Rattle.mk_trace.proofs.Vocabulary.{seen_made, without_seat, world_behind, ⊎_elim}
+use Rattle.mk_laws.proofs.Vocabulary.{Bool, List, Option, Some, and_from, and_parts, ap, append_assoc, cases_Bool}
+use Rattle.mk_laws.proofs.Vocabulary.{enabled_meets, false, is_one_of, not, not-true, or_cases, or_from, refl, subst}
+use Rattle.mk_laws.proofs.Vocabulary.{sym, true, true≢false, [], ◌&&◌, ◌++◌, ◌∙◌, ◌∷◌, ◌≡◌}
+use Rattle.mk_core.specs.{Growing.AreOfOthers, History.AreEnabledFrom}
+use Rattle.mk_alloc.proofs.Parts.{seen_behind, seen_then}
+use Rattle.mk_alloc.specs.{TurnCalls.CalledInTurn, TurnCycles.within_turn}
 use Rattle.mk_waiting.specs.Taking.{is_take, waits_for}
-use Rattle.mk_alloc.specs.TurnCycles.{within_turn}
+use Rattle.mk_words.proofs.Seats.{has_either, has_left, has_right, not_both, same_seat, without_keeps}
 use Rattle.mk_words.specs.TurnSteps.{turn_stays}
-use Rattle.mk_alloc.specs.TurnCalls.{CalledInTurn}
-use Rattle.mk_alloc.proofs.ListParts.{lacks_append, lacks_one}
-use Rattle.mk_alloc.proofs.Parts.{seen_behind, seen_made, seen_then}
 
 -- What a pass may have seen since: events of seats that there are, and none of those that are elsewhere.
 
@@ -52,9 +45,8 @@ pub has_mine : (c : Config) (elsewhere seats : List Seat) (e : Event) → HasThe
     → is_mine c elsewhere e ≡ true → Has seats e.seat
 has_mine c elsewhere seats e all mine =
     let parts = and_parts (seat_exists c e.seat) (not (is_one_of elsewhere e.seat)) mine in
-    ⊎_elim
-    (λ (there : Has elsewhere e.seat). absurd (true≢false (sym there ∙ not-true (is_one_of elsewhere e.seat) parts.1)))
-    (λ (here : Has seats e.seat). here) (has_either elsewhere seats e.seat (all e.seat parts.0))
+    ⊎_elim (λ (there : Has elsewhere e.seat). absurd (true≢false (sym there ∙ not-true (is_one_of elsewhere e.seat)
+    parts.1))) (λ (here : Has seats e.seat). here) (has_either elsewhere seats _ (all _ parts.0))
 
 -- So there are no others.
 pub none_of_others : (c : Config) (elsewhere seats : List Seat) (es : List Event) → HasTheRest c elsewhere seats
@@ -65,27 +57,24 @@ none_of_others c elsewhere seats (e ∷ es) all mine others =
     absurd (not_both seats e.seat others.0 (has_mine c elsewhere seats e all
     (and_parts (is_mine c elsewhere e) (list_all (is_mine c elsewhere) es) mine).0))
 
-take_alone : (kind : Step → Bool) → ((x : Option Op) → kind (step.Take x) ≡ false) → (s : Step) → is_take s ≡ true
+take_alone : (kind : Step → Bool) → ((x : Option Op) → kind (Step.Take x) ≡ false) → (s : Step) → is_take s ≡ true
     → kind s ≡ false
-take_alone kind none (step.Take x) h = none x
+take_alone kind none (Step.Take x) h = none x
 take_alone kind none _ h = cc
 
 -- and who waits for the turn makes no step but takes.
 pub waiting_lacks : (kind : Step → Bool) (c : Config) (elsewhere : List Seat) (p : PassState) (es : List Event)
-    → ((x : Option Op) → kind (step.Take x) ≡ false) → HasTheRest c elsewhere p.seats → AreMine c elsewhere es
+    → ((x : Option Op) → kind (Step.Take x) ≡ false) → HasTheRest c elsewhere p.seats → AreMine c elsewhere es
     → list_all (waits_for p) es ≡ true → has_step kind es ≡ false
 waiting_lacks kind c elsewhere p [] apart all mine waits = refl
 waiting_lacks kind c elsewhere p (e ∷ es) apart all mine waits =
     let mines = and_parts (is_mine c elsewhere e) (list_all (is_mine c elsewhere) es) mine in
     let parts = and_parts (waits_for p e) (list_all (waits_for p) es) waits in
-    or_from (kind e.step) (has_step kind es)
-    (⊎_elim
-    (λ (out : not (is_one_of p.seats e.seat) ≡ true).
-    absurd (true≢false (sym (has_mine c elsewhere p.seats e all mines.0) ∙ not-true (is_one_of p.seats e.seat) out)))
-    (λ (take : (is_take e.step && is_same_seat e.seat p.seat) ≡ true).
-    take_alone kind apart e.step (and_parts (is_take e.step) (is_same_seat e.seat p.seat) take).0)
-    (or_cases (not (is_one_of p.seats e.seat)) (is_take e.step && is_same_seat e.seat p.seat) parts.0))
-    (waiting_lacks kind c elsewhere p es apart all mines.1 parts.1)
+    or_from (kind _) (has_step kind es) (⊎_elim (λ (out : not (is_one_of p.seats e.seat) ≡ true). absurd (true≢false
+    (sym (has_mine c elsewhere p.seats e all mines.0) ∙ not-true (is_one_of p.seats e.seat) out))) (λ (take : (is_take
+    e.step && is_same_seat e.seat p.seat) ≡ true). take_alone kind apart e.step (and_parts (is_take e.step)
+    (is_same_seat e.seat p.seat) take).0) (or_cases (not _) _ parts.0)) (waiting_lacks kind c elsewhere p es apart all
+    mines.1 parts.1)
 
 pub others_lack : (kind : Step → Bool) (c : Config) (elsewhere seats : List Seat) (es : List Event)
     → HasTheRest c elsewhere seats → AreMine c elsewhere es → AreOfOthers seats es → has_step kind es ≡ false
@@ -110,19 +99,19 @@ module _ {on : Bool} {p : PassState} {o : Op} {a : Answer} {q : PassState} (h : 
   waits = h.takes.waits.more
 
   abbrev taking : List Event
-  taking = h.takes.takes.makes.others ++ event_of h.takes.waited (step.Take (Some o)) ∷ []
+  taking = h.takes.takes.makes.others ++ event_of h.takes.waited (Step.Take (Some o)) ∷ []
 
   -- up to the `take`, and with it
   abbrev pub before_turn : List Event
   before_turn = waits ++ taking
 
   abbrev pub giving : List Event
-  giving = event_of h.done step.Give ∷ []
+  giving = event_of h.done Step.Give ∷ []
 
   taken_seen : h.taken.seen ≡ p.seen ++ before_turn
   taken_seen =
       seen_then p.seen h.takes.waited.seen h.taken.seen waits taking (ap (λ (x : PassState). x.seen) h.takes.waits.is)
-      (seen_made h.takes.waited h.taken (step.Take (Some o)) h.takes.takes.makes)
+      (seen_made h.takes.waited h.taken (Step.Take (Some o)) h.takes.takes.makes)
 
   done_seen : h.done.seen ++ h.gives.others ≡ (p.seen ++ before_turn) ++ h.ends.turn.behind
   done_seen =
@@ -133,19 +122,18 @@ module _ {on : Bool} {p : PassState} {o : Op} {a : Answer} {q : PassState} (h : 
 
   pub turn_seen : q.seen ≡ p.seen ++ (before_turn ++ (h.ends.turn.behind ++ giving))
   turn_seen =
-      seen_made h.done q step.Give h.gives ∙ sym (append_assoc h.done.seen h.gives.others giving)
+      seen_made h.done q Step.Give h.gives ∙ sym (append_assoc h.done.seen h.gives.others giving)
       ∙ ap (λ (l : List Event). l ++ giving) done_seen ∙ append_assoc (p.seen ++ before_turn) h.ends.turn.behind giving
       ∙ append_assoc p.seen before_turn (h.ends.turn.behind ++ giving)
 
   -- what the turn has seen so far
   pub within_is : (part : List Event) → within_turn h.ends.turn part ≡ p.seen ++ (before_turn ++ part)
   within_is part =
-      let take : Event = record { seat = p.seat; step = step.Take h.ends.turn.op } in
+      let take : Event = record { seat = p.seat; step = Step.Take h.ends.turn.op } in
       let before : p.seen ++ before_turn ≡ h.ends.turn.before ++ take ∷ [] =
       append_cancel_right (p.seen ++ before_turn) (h.ends.turn.before ++ take ∷ []) h.ends.turn.behind
       (sym done_seen ∙ h.ends.turn.is ∙ sym (append_assoc h.ends.turn.before (take ∷ []) h.ends.turn.behind)) in
-      sym (append_assoc h.ends.turn.before (take ∷ []) part) ∙ ap (λ (l : List Event). l ++ part) (sym before)
-      ∙ append_assoc p.seen before_turn part
+      cc (append_assoc h.ends.turn.before (take ∷ []) part, before, append_assoc p.seen before_turn part)
 
   taking_others : AreOfOthers p.seats h.takes.takes.makes.others
   taking_others =
@@ -153,15 +141,15 @@ module _ {on : Bool} {p : PassState} {o : Op} {a : Answer} {q : PassState} (h : 
       h.takes.takes.makes.of_others
 
   -- Before the turn there are only takes.
-  pub before_turn_lacks : (kind : Step → Bool) → ((x : Option Op) → kind (step.Take x) ≡ false)
+  pub before_turn_lacks : (kind : Step → Bool) → ((x : Option Op) → kind (Step.Take x) ≡ false)
       → (elsewhere : List Seat) → HasTheRest p.table.config elsewhere p.seats
       → AreMine p.table.config elsewhere before_turn → has_step kind before_turn ≡ false
   before_turn_lacks kind apart elsewhere all mine =
       let parts = mine_parts p.table.config elsewhere waits taking mine in
       let taken = mine_parts p.table.config elsewhere h.takes.takes.makes.others
-      (event_of h.takes.waited (step.Take (Some o)) ∷ []) parts.1 in
+      (event_of h.takes.waited (Step.Take (Some o)) ∷ []) parts.1 in
       lacks_append kind waits taking
       (waiting_lacks kind p.table.config elsewhere p waits apart all parts.0 h.takes.waits.only)
-      (lacks_append kind h.takes.takes.makes.others (event_of h.takes.waited (step.Take (Some o)) ∷ [])
+      (lacks_append kind h.takes.takes.makes.others (event_of h.takes.waited (Step.Take (Some o)) ∷ [])
       (others_lack kind p.table.config elsewhere p.seats h.takes.takes.makes.others all taken.0 taking_others)
-      (lacks_one kind (event_of h.takes.waited (step.Take (Some o))) (apart (Some o))))
+      (lacks_one kind (event_of h.takes.waited (Step.Take (Some o))) (apart (Some o))))

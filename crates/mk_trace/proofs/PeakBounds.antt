@@ -1,19 +1,15 @@
 -- The peaks bound what quarantine costs.
-use Rattle.std.proofs.Common.{◌≡◌, ℕ, ◌+◌, ◌≤◌, Bool, true, false, List, ◌++◌, refl, subst, arith}
-use Rattle.std.specs.Prelude.{◌&&◌, not, if◌then◌else◌}
 use Rattle.mk_trace.proofs.Vocabulary.{Config, Event, IsHistory, PlacedAllocation, held_by_allocations, is_large}
 use Rattle.mk_trace.proofs.Vocabulary.{is_quarantined, kinds_of, left, peaks_of, quarantined_words, reserved_words}
 use Rattle.mk_trace.proofs.Vocabulary.{storage_words}
-use Rattle.mk_core.specs.Allocations.{is_mapped}
-use Rattle.mk_core.proofs.HistoryParts.{earlier_part_is_history}
-use Rattle.mk_quarantine.specs.Bounds.{QuarantineIsBounded, held_after}
-use Rattle.mk_quarantine.specs.KeptAllocations.{quarantined_mapped}
+use Rattle.mk_laws.proofs.Vocabulary.{Bool, List, ℕ, arith, earlier_part_is_history, false, if◌then◌else◌, is_mapped}
+use Rattle.mk_laws.proofs.Vocabulary.{not, refl, subst, true, ◌&&◌, ◌++◌, ◌+◌, ◌≡◌, ◌≤◌}
 use Rattle.mk_quarantine.proofs.CountedWords.{filtered_in_parts}
-use Rattle.mk_quarantine.proofs.LittleHeld.{held_is_little_where_free}
-use Rattle.mk_quarantine.proofs.Quarters.{quarantined_is_fresh_or_kept}
+use Rattle.mk_quarantine.proofs.{LittleHeld.held_is_little_where_free, Quarters.quarantined_is_fresh_or_kept}
+use Rattle.mk_quarantine.specs.{Bounds.QuarantineIsBounded, Bounds.held_after, KeptAllocations.quarantined_mapped}
+use Rattle.mk_trace.proofs.PeakParts.{is_greatest}
 use Rattle.mk_trace.specs.PeakBounds.{BoundsMeetPeaks, FreshIsQuarterOfPeak, QuarantineIsQuarterOfPeak}
 use Rattle.mk_trace.specs.Peaks.{is_reserved}
-use Rattle.mk_trace.proofs.PeakParts.{is_greatest}
 
 -- What is quarantined is reserved, or mapped; and what is mapped is fresh, or was freed before the last `begin`.
 
@@ -49,8 +45,7 @@ module _ (c : Config) (es front more : List Event) (h : IsHistory c es) (bounded
       omega (arith, fresh_below_peak, quarantined_in_parts c (left c front).allocations, mapped)
 
 pub bounds_meet_peaks : BoundsMeetPeaks
-bounds_meet_peaks c es h bounded =
-    record {
-      fresh = λ front more is free. fresh_below_peak c es front more h bounded is free;
-      quarantined = λ front more is free. quarantine_below_peak c es front more h bounded is free;
-    }
+bounds_meet_peaks c es h bounded = record {
+  fresh = λ front more is free. fresh_below_peak c es front more h bounded is free;
+  quarantined = λ front more is free. quarantine_below_peak c es front more h bounded is free;
+}

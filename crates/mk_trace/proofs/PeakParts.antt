@@ -1,16 +1,11 @@
 -- The greatest measure over a history: over its beginnings, and in two parts.
-use Rattle.std.proofs.Common.{◌≡◌, ℕ, ◌≤◌, max, List, [], ◌∷◌, ◌++◌, arith, Bool, true, false, nat_le, refl, sym, ap}
-use Rattle.std.proofs.Common.{subst, ⊎_elim, ◌∙◌}
-use Rattle.std.proofs.lemmas.Bool.Decides.{nat_tests}
-use Rattle.std.proofs.lemmas.Bool.{cases_Bool, or_parts}
 use Rattle.mk_trace.proofs.Vocabulary.{Config, Event, PlacedAllocation, Step, World, first_world, greatest, has_step}
-use Rattle.mk_trace.proofs.Vocabulary.{is_grant, left, lets_go, world_behind}
+use Rattle.mk_trace.proofs.Vocabulary.{is_grant, left, lets_go, max, nat_tests, world_behind, ⊎_elim}
+use Rattle.mk_laws.proofs.Vocabulary.{Bool, List, ℕ, ap, arith, cases_Bool, false, left_in_parts, nat_le, or_parts}
+use Rattle.mk_laws.proofs.Vocabulary.{refl, subst, sym, true, [], ◌++◌, ◌∙◌, ◌∷◌, ◌≡◌, ◌≤◌}
 use Rattle.mk_core.specs.History.{left_from}
-use Rattle.mk_core.specs.declared.events.Step.TheVariants as step
-use Rattle.mk_core.proofs.HistoryParts.{left_in_parts}
 use Rattle.mk_alloc.proofs.GrantParts.{LastIn}
-use Rattle.mk_trace.specs.Peaks.{greatest_from}
-use Rattle.mk_trace.specs.Laws.{IsGreatest}
+use Rattle.mk_trace.specs.{Laws.IsGreatest, Peaks.greatest_from}
 
 -- The greatest measure over a history in two parts.
 
@@ -86,7 +81,7 @@ module _ (c : Config) (measure : List PlacedAllocation → ℕ) where
 -- go alone makes it less.
 
 grant_keeps : (s : Step) → is_grant s ≡ true → lets_go s ≡ false
-grant_keeps step.Grant h = refl
+grant_keeps Step.Grant h = refl
 grant_keeps _ h = cc
 
 -- After each grant of a longer list nothing is let go.

@@ -1,36 +1,28 @@
 -- A trace of some text can be played.
-use Rattle.std.proofs.Common.{◌≡◌, ℕ, ◌+◌, ◌≤◌, ◌==◌, Bool, true, false, List, [], ◌∷◌, ◌++◌, length, Ok, subst, arith}
-use Rattle.std.proofs.Common.{◌<◌, nat_le, get_or, refl}
-use Rattle.std.specs.Prelude.{All, is_some, if◌then◌else◌, Option, Some, None}
+use Rattle.std.proofs.lemmas.List.{get_or-map}
+use Rattle.std.proofs.lemmas.List.Elements.{All-append, All-cons, All-map, All-nil}
+use Rattle.std.proofs.{lemmas.List.FromFn.length-range_with_len, lemmas.List.Quantifiers.position-Some}
 use Rattle.std.specs.Str.{bytes_eq}
-use Rattle.std.proofs.lemmas.List.{length-append, length-map, get_or-map}
-use Rattle.std.proofs.lemmas.List.Elements.{All-nil, All-cons, All-append, All-map}
-use Rattle.std.proofs.lemmas.Bool.Decides.{nat_tests}
-use Rattle.std.proofs.lemmas.List.Quantifiers.{position-Some}
-use Rattle.std.proofs.lemmas.List.FromFn.{length-range_with_len}
-use Rattle.mk_trace.proofs.Vocabulary.{A, C, Contents, F, HeapPages, IsBetween, IsEventOf, IsOfSomeTraceText}
-use Rattle.mk_trace.proofs.Vocabulary.{IsPlayable, IsWithinLimits, K, LinesSoFar, TraceEvent, W, config_of, contents_of}
-use Rattle.mk_trace.proofs.Vocabulary.{events_from, header_line_of, lines_of, nothing_written, read_behind}
-use Rattle.mk_trace.proofs.Vocabulary.{text_fault_at, trace_of_lines, type_fault_at, typed_event, types_from}
-use Rattle.mk_trace.proofs.Vocabulary.{with_event, with_trace_line, words_of_line, written_from}
-use lib.Chars.{codes}
-use Rattle.mk_script.specs.declared.faults.Which.TheVariants as which
-use Rattle.mk_script.specs.Lines.{at_most, heap_limit, within}
-use Rattle.mk_script.specs.Operands.{name, number}
+use Rattle.mk_trace.proofs.Vocabulary.{A, All, C, Contents, F, HeapPages, IsBetween, IsEventOf, IsOfSomeTraceText}
+use Rattle.mk_trace.proofs.Vocabulary.{IsPlayable, IsWithinLimits, K, LinesSoFar, Ok, TraceEvent, W, Which, codes}
+use Rattle.mk_trace.proofs.Vocabulary.{config_of, contents_of, events_from, header_line_of, length-append, lines_of}
+use Rattle.mk_trace.proofs.Vocabulary.{nat_tests, nothing_written, read_behind, slot_number, text_fault_at}
+use Rattle.mk_trace.proofs.Vocabulary.{trace_of_lines, type_fault_at, typed_event, types_from, with_event}
+use Rattle.mk_trace.proofs.Vocabulary.{with_trace_line, words_of_line, written_from}
+use Rattle.mk_laws.proofs.Vocabulary.{Bool, List, None, Option, Some, ℕ, arith, false, get_or, if◌then◌else◌, is_some}
+use Rattle.mk_laws.proofs.Vocabulary.{length, length-map, nat_le, refl, subst, true, [], ◌++◌, ◌+◌, ◌<◌, ◌==◌, ◌∷◌, ◌≡◌}
+use Rattle.mk_laws.proofs.Vocabulary.{◌≤◌}
 use Rattle.mk_check.proofs.GrammarLemmas.{at_most-None, option_or-None}
-use Rattle.mk_trace.specs.declared.lines.Slot.{Slot}
-use Rattle.mk_trace.specs.declared.lines.Line.{Line}
-use Rattle.mk_trace.specs.declared.lines.Line.TheVariants as line
-use Rattle.mk_trace.specs.Lines.{heap_pages, slot_number, slot_limit, checked_slot, slot_from, slot_line, event_line_of}
-use Rattle.mk_trace.specs.Lines.{event_line, trace_line_of}
-use Rattle.mk_trace.specs.declared.lines.Action.{Action}
-use Rattle.mk_trace.specs.declared.lines.Action.TheVariants.{New, Link, Free, Clear, Write}
-use Rattle.mk_trace.specs.declared.lines.EventLine.{EventLine}
-use Rattle.mk_trace.specs.Typing.{typed_write, event_on, words_at, on_slot}
-use Rattle.mk_trace.specs.Traces.{words_of_slots, contents_from}
-use Rattle.mk_trace.proofs.ReadLines.{bound, unless_none, passed_else, passed_then, within_none, gone_on, then_next}
-use Rattle.mk_trace.proofs.ReadLines.{along_keeps}
-use Rattle.mk_trace.proofs.SlotTypes.{length-types_from, types_among, range_below}
+use Rattle.mk_script.specs.{Lines.at_most, Lines.heap_limit, Lines.within, Operands.name, Operands.number}
+use Rattle.mk_trace.proofs.ReadLines.{along_keeps, bound, gone_on, passed_else, passed_then, then_next, unless_none}
+use Rattle.mk_trace.proofs.ReadLines.{within_none}
+use Rattle.mk_trace.proofs.SlotTypes.{length-types_from, range_below, types_among}
+use Rattle.mk_trace.specs.Traces.{contents_from, words_of_slots}
+use Rattle.mk_trace.specs.Typing.{event_on, on_slot, typed_write, words_at}
+use Rattle.mk_trace.specs.declared.lines.Action.TheVariants.{Clear, Free, Link, New, Write}
+use Rattle.mk_trace.specs.{Lines.checked_slot, Lines.event_line, Lines.event_line_of, Lines.heap_pages, Lines.slot_from}
+use Rattle.mk_trace.specs.{Lines.slot_limit, Lines.slot_line, Lines.trace_line_of, declared.lines.Action.Action}
+use Rattle.mk_trace.specs.{declared.lines.EventLine.EventLine, declared.lines.Line.Line, declared.lines.Slot.Slot}
 
 -- The slots of lines are within their limits, and so is the heap of a header.
 
@@ -46,10 +38,10 @@ one_more : (before : List Slot) (slot found : Slot) → checked_slot before slot
 one_more before slot found h are =
     let fresh = passed_else (is_some (slot_number before slot.name)) _ _ found h in
     let is = unless_none (slot_limit (length before + 1) slot.words) slot found fresh.1 in
-    let limits = option_or-None (at_most (length before + 1) 64 which.Types)
-    (within 1 slot.words 4096 which.Words) is.0 in
-    let count = at_most-None (length before + 1) 64 which.Types limits.0 in
-    let size = within_none 1 slot.words 4096 which.Words limits.1 in
+    let limits = option_or-None (at_most (length before + 1) 64 Which.Types)
+    (within 1 slot.words 4096 Which.Words) is.0 in
+    let count = at_most-None (length before + 1) 64 Which.Types limits.0 in
+    let size = within_none 1 slot.words 4096 Which.Words limits.1 in
     record {
       few = omega (arith, count, length-append before (found ∷ []));
       sizes = All-append SlotIsWithin before (found ∷ []) are.sizes
@@ -70,7 +62,7 @@ slot_line_more before (a ∷ []) given h are = absurd cc
 slot_line_more before (word ∷ words ∷ []) given h are =
     let placed = passed_then (length before.events == 0) _ _ given h in
     let found = bound (slot_from before.slots word words) _ given placed.1 in
-    let is : line.Slot found.value ≡ given = cc in
+    let is : Line.Slot found.value ≡ given = cc in
     subst (λ (x : Line). AreWithin (with_trace_line before x).slots) is
     (slot_more before.slots word words found.value found.is are)
 slot_line_more before (a ∷ b ∷ c ∷ rest) given h are = absurd cc
@@ -81,7 +73,7 @@ event_line_more : (before : LinesSoFar) (word : List ℕ) (operands : List (List
 event_line_more before word operands given h are =
     let placed = passed_else (length before.slots == 0) _ _ given h in
     let found = bound (event_line_of word operands) _ given placed.1 in
-    let is : line.Event found.value ≡ given = cc in
+    let is : Line.Event found.value ≡ given = cc in
     subst (λ (x : Line). AreWithin (with_trace_line before x).slots) is are
 
 by_word : (is_slot : Bool) (before : LinesSoFar) (word : List ℕ) (operands : List (List ℕ)) (given : Line)
@@ -104,10 +96,10 @@ heap_within pages resident heap h =
     let p = bound (number pages) _ heap h in
     let r = bound (number resident) _ heap p.behind in
     let is = unless_none (heap_limit p.value r.value) (record { pages = p.value; resident = r.value }) heap r.behind in
-    let limits = option_or-None (within 1 p.value 4096 which.Pages) (within 1 r.value p.value which.Resident) is.0 in
+    let limits = option_or-None (within 1 p.value 4096 Which.Pages) (within 1 r.value p.value Which.Resident) is.0 in
     subst HeapIsWithin is.1 (record {
-      pages = within_none 1 p.value 4096 which.Pages limits.0;
-      resident = within_none 1 r.value p.value which.Resident limits.1;
+      pages = within_none 1 p.value 4096 Which.Pages limits.0;
+      resident = within_none 1 r.value p.value Which.Resident limits.1;
     })
 
 pub header_within : (words : List (List ℕ)) (heap : HeapPages) → header_line_of words ≡ Ok heap → HeapIsWithin heap

@@ -1,29 +1,25 @@
 -- What was played so far, with one event more, and at the end.
-use Rattle.std.proofs.Common.{◌≡◌, ℕ, zero, suc, ◌+◌, ◌*◌, ◌<◌, ◌≤◌, Bool, true, false, List, [], ◌∷◌, ◌++◌, length}
-use Rattle.std.proofs.Common.{refl, sym, ◌∙◌, ap, subst, arith, get_or}
-use Rattle.std.specs.Prelude.{All, if◌then◌else◌, take, replicate}
-use Rattle.std.specs.List.{list_any}
-use Rattle.std.proofs.lemmas.List.{map-append, take_more, take_all}
 use Rattle.std.proofs.lemmas.List.Elements.{All-get_or}
-use Rattle.mk_trace.proofs.Vocabulary.{A, AllTurnsAreExact, Answer, AreAdmitted, C, Call, Caller, CallerState, Config}
-use Rattle.mk_trace.proofs.Vocabulary.{Contents, Decided, Event, F, Grows, HostState, IsEventOf, IsHistory, IsPlayable}
-use Rattle.mk_trace.proofs.Vocabulary.{K, NeverState, Null, Op, PassState, TraceEvent, W, WordsState, after_calls}
-use Rattle.mk_trace.proofs.Vocabulary.{answered, asked, begins_full, calls, calls_of_caller, config_of, first_host}
-use Rattle.mk_trace.proofs.Vocabulary.{is_refusal, never_behind, never_first, one_if, ops_of, pass_for, refused_events}
-use Rattle.mk_trace.proofs.Vocabulary.{register_at}
+use Rattle.mk_trace.proofs.Vocabulary.{A, All, AllTurnsAreExact, Answer, AreAdmitted, C, Call, Caller, CallerState}
+use Rattle.mk_trace.proofs.Vocabulary.{Config, Contents, Decided, Event, F, Grows, HostState, IsEventOf, IsHistory}
+use Rattle.mk_trace.proofs.Vocabulary.{IsPlayable, K, NeverState, Null, Op, PassState, TraceEvent, W, WordsState}
+use Rattle.mk_trace.proofs.Vocabulary.{after_calls, answered, asked, begins_full, calls, calls_of_caller, config_of}
+use Rattle.mk_trace.proofs.Vocabulary.{first_host, is_refusal, never_behind, never_first, one_if, ops_of, pass_for}
+use Rattle.mk_trace.proofs.Vocabulary.{refused_events, register_at, replicate, take_all, take_more}
+use Rattle.mk_laws.proofs.Vocabulary.{Bool, List, ℕ, ap, arith, false, get_or, if◌then◌else◌, length, list_any}
+use Rattle.mk_laws.proofs.Vocabulary.{map-append, refl, subst, suc, sym, take, true, zero, [], ◌*◌, ◌++◌, ◌+◌, ◌<◌, ◌∙◌}
+use Rattle.mk_laws.proofs.Vocabulary.{◌∷◌, ◌≡◌, ◌≤◌}
 use Rattle.mk_core.specs.History.{calls_from}
+use Rattle.mk_laws.proofs.Promises.{histories_keep_all_promises}
 use Rattle.mk_caller.specs.States.{at_home}
 use Rattle.mk_heap.specs.Reports.{IsWhole}
-use Rattle.mk_laws.proofs.Promises.{histories_keep_all_promises}
 use Rattle.mk_quarantine.proofs.Bounds.{quarantine_of_one_is_bounded}
 use Rattle.mk_run.proofs.UnsweptHistories.{unswept_is_precise}
-use Rattle.mk_trace.specs.Calls.{AreNull, MayBePlayed, SameCalls, PlaysEvent, EventsAreAdmitted, HasPlayed}
-use Rattle.mk_trace.specs.Playing.{ops_played, IsPlayed}
-use Rattle.mk_trace.specs.Traces.{slot_of}
-use Rattle.mk_trace.proofs.AdmittedEvents.{events_are_admitted}
-use Rattle.mk_trace.proofs.ExactPlays.{play_is_unswept}
-use Rattle.mk_trace.proofs.OneCaller.{as_many, calls_are_own, never_then_calls, none_called}
 use Rattle.mk_trace.proofs.LaterOps.{ops-played_more, refused_more}
+use Rattle.mk_trace.proofs.OneCaller.{as_many, calls_are_own, never_then_calls, none_called}
+use Rattle.mk_trace.proofs.{AdmittedEvents.events_are_admitted, ExactPlays.play_is_unswept}
+use Rattle.mk_trace.specs.Calls.{AreNull, EventsAreAdmitted, HasPlayed, MayBePlayed, PlaysEvent, SameCalls}
+use Rattle.mk_trace.specs.{Playing.IsPlayed, Playing.ops_played, Traces.slot_of}
 
 -- Before the first event.
 pub played_none : (trace : Contents) → HasPlayed trace [] 0 []

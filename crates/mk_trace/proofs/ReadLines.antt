@@ -1,26 +1,15 @@
 -- Lines, read and printed one after the other.
-use Rattle.std.proofs.Common.{◌≡◌, ℕ, ◌+◌, List, [], ◌∷◌, Ok, Err, Result, ap, sym, ◌∙◌, arith, Bool, true, false, ◌&&◌}
-use Rattle.std.proofs.Common.{nat_le, refl, subst, ◌≢◌, length, ◌-◌, ◌<◌, ◌≤◌, get_or, take, drop, Bor, ◌++◌}
-use Rattle.std.proofs.Common.{append_assoc, append-nil}
-use Rattle.std.specs.Prelude.{Option, Some, None, if◌then◌else◌}
-use Rattle.std.specs.Result.{IfErr, IsErrAnd, OnOk}
-use Rattle.std.proofs.lemmas.Bool.Decides.{nat_tests}
-use Rattle.std.proofs.lemmas.List.{at_drop_more, take_all, length-drop}
-use Rattle.std.proofs.lemmas.Bool.{le-leb, cond-true}
-use Rattle.mk_trace.proofs.Vocabulary.{Contents, HeapPages, IsBetween, LinesSoFar, contents_of, header_line_of}
-use Rattle.mk_trace.proofs.Vocabulary.{lines_of, nothing_written, text_fault_at, texts_of, trace_of_lines}
-use Rattle.mk_trace.proofs.Vocabulary.{words_of_line, written_from}
-use Rattle.mk_script.specs.declared.faults.LineFault.{LineFault}
-use Rattle.mk_script.specs.declared.faults.Which.{Which}
-use Rattle.mk_script.specs.Lines.{within}
-use Rattle.mk_script.specs.Operands.{◌>>=◌}
-use Rattle.mk_script.specs.declared.faults.LineFault.TheVariants.{Text}
-use Rattle.mk_script.specs.declared.faults.TextKind.TheVariants.{Word}
-use Rattle.mk_trace.specs.declared.faults.TraceStop.{TraceStop}
-use Rattle.mk_trace.specs.Grammar.{go_on, along}
-use Rattle.mk_trace.specs.Lines.{ok_unless, slot_line, event_line_of}
-use Rattle.mk_trace.specs.Traces.{and_then, trace_of}
-use Rattle.mk_trace.specs.declared.faults.TraceStop.TheVariants.{NoMemory}
+use Rattle.std.{proofs.Common.Bor, proofs.Common.Err, proofs.Common.Result, specs.Result.IfErr, specs.Result.OnOk}
+use Rattle.mk_trace.proofs.Vocabulary.{Contents, HeapPages, IsBetween, LinesSoFar, Ok, TraceStop, Which, at_drop_more}
+use Rattle.mk_trace.proofs.Vocabulary.{contents_of, header_line_of, length-drop, lines_of, nat_tests, nothing_written}
+use Rattle.mk_trace.proofs.Vocabulary.{take_all, text_fault_at, texts_of, trace_of_lines, words_of_line, written_from}
+use Rattle.mk_laws.proofs.Vocabulary.{Bool, List, None, Option, Some, ℕ, ap, append-nil, append_assoc, arith, cond-true}
+use Rattle.mk_laws.proofs.Vocabulary.{drop, false, get_or, if◌then◌else◌, le-leb, length, nat_le, refl, subst, sym}
+use Rattle.mk_laws.proofs.Vocabulary.{take, true, [], ◌&&◌, ◌++◌, ◌+◌, ◌-◌, ◌<◌, ◌∙◌, ◌∷◌, ◌≡◌, ◌≢◌, ◌≤◌}
+use Rattle.mk_script.specs.{Lines.within, Operands.◌>>=◌, declared.faults.LineFault.LineFault}
+use Rattle.mk_script.specs.{declared.faults.LineFault.TheVariants.Text, declared.faults.TextKind.TheVariants.Word}
+use Rattle.mk_trace.specs.{Grammar.along, Grammar.go_on, Lines.event_line_of, Lines.ok_unless, Lines.slot_line}
+use Rattle.mk_trace.specs.{Traces.and_then, Traces.trace_of, declared.faults.TraceStop.TheVariants.NoMemory}
 
 -- What lines keep one after the other, and what their results say.
 
@@ -86,13 +75,7 @@ along_keeps told read add P keeps number (line ∷ lines) before after holds h =
     along_keeps told read add P keeps (number + 1) lines (add before parts.value) after
     (keeps before line parts.value holds parts.is) parts.behind
 
--- What is said of an error that a `?` hands on, and of a success.
-
-pub hands_on : {X Fault : Type 0} (found : Result X Fault) (fault : Fault) (P : Fault → Type 0)
-    → IsErrAnd found (λ handed. handed ≡ fault) → P fault → IfErr found P
-hands_on (Ok x) fault P is told = absurd is
-hands_on (Err handed) fault P is told = subst P (sym is) told
-
+-- what is said of a success
 pub on_ok : {X Fault : Type 0} {A B : Type 0} (found : Result X Fault) → OnOk found A → (A → B) → OnOk found B
 on_ok (Ok x) told next = next told
 on_ok (Err fault) told next = tt
@@ -122,10 +105,7 @@ short text small = cond-true _ _ _ (le-leb _ _ small)
 read : (first : List ℕ) (rest : List (List ℕ)) (heap : HeapPages) (written : LinesSoFar)
     → header_line_of (words_of_line first) ≡ Ok heap → written_from 2 rest nothing_written ≡ Ok written
     → trace_of_lines (first ∷ rest) ≡ contents_of heap written
-read first rest heap written header lines =
-    ap (λ found. go_on (text_fault_at 1) found
-    (λ heap'. and_then (written_from 2 rest nothing_written) (contents_of heap'))) header
-    ∙ ap (λ found. and_then found (contents_of heap)) lines
+read first rest heap written header lines = cc (header, lines)
 
 -- the first of these lines, and the others
 pub read_whole : (text : List ℕ) (lines : List (Bor (List ℕ))) (d : Bor (List ℕ)) (heap : HeapPages)

@@ -1,29 +1,18 @@
 -- Of the allocations of a history only freed ones are released, and which they are, as a list of numbers.
-use Rattle.std.proofs.Common.{◌≡◌, inl, inr, ℕ, zero, suc, ◌+◌, ◌<◌, Bool, true, false, List, [], ◌∷◌, ◌++◌, length}
-use Rattle.std.proofs.Common.{map, refl, sym, ◌∙◌, ap, subst, arith, append-nil, append_assoc, length-append}
-use Rattle.std.specs.Prelude.{◌&&◌, not, slice_index, if◌then◌else◌}
-use Rattle.std.proofs.lemmas.Bool.{and_parts, cases_Bool, cases_lt, true≢false}
-use Rattle.std.proofs.lemmas.List.{length-map}
-use Rattle.std.proofs.lemmas.Bool.Decides.{nat_tests}
 use Rattle.mk_trace.proofs.Vocabulary.{AreAgesOf, Cell, Config, Event, IsHistory, PlacedAllocation, Step, Words, World}
 use Rattle.mk_trace.proofs.Vocabulary.{age_in_a_word, allocations_by, cell_freed, cell_of_allocation, counted}
-use Rattle.mk_trace.proofs.Vocabulary.{first_world, flight_of, freed_where_it_stands, is_some_and, left, never_granted}
+use Rattle.mk_trace.proofs.Vocabulary.{first_world, flight_of, freed_where_it_stands, histories_keep_the_invariant}
+use Rattle.mk_trace.proofs.Vocabulary.{is_some_and, left, length-append, moves_phase, nat_tests, never_granted}
 use Rattle.mk_trace.proofs.Vocabulary.{no_longer_fresh, one_if, phase_of, placed_at, stands_in, times, with_released}
-use Rattle.mk_core.specs.declared.events.Step.TheVariants as step
-use Rattle.mk_core.specs.History.{left_from}
-use Rattle.mk_core.proofs.BitsWithout.{has_bit_without}
-use Rattle.mk_core.proofs.ChangedAllocations.{changed_at, earlier_at, freed_leaves, freed_released, fresh_leaves}
-use Rattle.mk_core.proofs.ChangedAllocations.{granted_at, released_leaves}
-use Rattle.mk_core.proofs.Histories.{left_more}
-use Rattle.mk_core.proofs.HistoryParts.{earlier_part_is_history, enabled_in_parts}
-use Rattle.mk_core.proofs.PointedAllocations.{released_where_left}
-use Rattle.mk_laws.proofs.InvariantHistories.{histories_keep_the_invariant}
-use Rattle.mk_laws.proofs.InvariantTheorems.{allocations_stand}
-use Rattle.mk_laws.proofs.CyclePhases.{AsksPhase, moves_phase}
-use Rattle.mk_laws.proofs.Snapshots.{unreleased_cycles}
-use Rattle.mk_trace.specs.Ledgers.{is_gone}
-use Rattle.mk_trace.specs.Peaks.{released_ages}
-use Rattle.mk_trace.proofs.CountedAges.{same_counted}
+use Rattle.mk_laws.proofs.Vocabulary.{Bool, List, ℕ, and_parts, ap, append-nil, append_assoc, arith, cases_Bool}
+use Rattle.mk_laws.proofs.Vocabulary.{cases_lt, changed_at, earlier_part_is_history, enabled_in_parts, false}
+use Rattle.mk_laws.proofs.Vocabulary.{freed_leaves, freed_released, fresh_leaves, has_bit_without, if◌then◌else◌, inl}
+use Rattle.mk_laws.proofs.Vocabulary.{inr, left_more, length, length-map, map, not, refl, released_leaves}
+use Rattle.mk_laws.proofs.Vocabulary.{released_where_left, slice_index, subst, suc, sym, true, true≢false, zero, []}
+use Rattle.mk_laws.proofs.Vocabulary.{◌&&◌, ◌++◌, ◌+◌, ◌<◌, ◌∙◌, ◌∷◌, ◌≡◌}
+use Rattle.mk_core.{proofs.ChangedAllocations.earlier_at, proofs.ChangedAllocations.granted_at, specs.History.left_from}
+use Rattle.mk_laws.proofs.{CyclePhases.AsksPhase, InvariantTheorems.allocations_stand, Snapshots.unreleased_cycles}
+use Rattle.mk_trace.{proofs.CountedAges.same_counted, specs.Ledgers.is_gone, specs.Peaks.released_ages}
 
 abbrev pub AreFreed : List PlacedAllocation → Type 0
 AreFreed xs = (i : ℕ) → i < length xs → (placed_at xs i).released ≡ true → (placed_at xs i).freed ≡ true
@@ -36,9 +25,8 @@ changed_freed : (change : PlacedAllocation → PlacedAllocation) (xs : List Plac
 changed_freed change xs none same keeps h i lt gone =
     let at = changed_at change xs i none in
     let there : i < length xs = omega (arith, lt, length-map xs change) in
-    ap (λ (a : PlacedAllocation). a.freed) at
-    ∙ keeps (placed_at xs i) (h i there (sym (ap (λ (a : PlacedAllocation). a.released) at ∙ same (placed_at xs i))
-    ∙ gone))
+    ap (λ (a : PlacedAllocation). a.freed) at ∙ keeps _ (h i there (sym (ap (λ (a : PlacedAllocation). a.released) at ∙
+    same _) ∙ gone))
 
 freed_by : (b : Bool) (a : PlacedAllocation) → a.freed ≡ true
     → (if b then record a { freed = true; fresh = true } else a).freed ≡ true
@@ -50,8 +38,7 @@ more_freed : (xs : List PlacedAllocation) (a : PlacedAllocation) → a.released 
 more_freed xs a unreleased h i lt gone = elim (cases_lt i (length xs)) [
   | inl before ↦
       let same = earlier_at xs a i before in
-      ap (λ (x : PlacedAllocation). x.freed) same
-      ∙ h i before (sym (ap (λ (x : PlacedAllocation). x.released) same) ∙ gone)
+      cc (same, h i before (sym (ap (λ (x : PlacedAllocation). x.released) same) ∙ gone))
   | inr le ↦
       let last : i ≡ length xs = omega (arith, lt, le, length-append xs (a ∷ [])) in
       let at : placed_at (xs ++ a ∷ []) i ≡ a = ap (placed_at (xs ++ a ∷ [])) last ∙ granted_at xs a in
@@ -92,14 +79,14 @@ module _ (c : Config) (front : List Event) (history : IsHistory c front) where
 
   step_freed : (e : Event) (s : Step) → e.step ≡ s → AsksPhase s (phase_of w) → AreFreed xs
       → AreFreed (allocations_by c (left c front).now (flight_of (left c front).now e.seat) s xs)
-  step_freed e step.Grant is asks h = more_freed xs _ refl h
-  step_freed e (step.Quar p v) is asks h =
+  step_freed e Step.Grant is asks h = more_freed xs _ refl h
+  step_freed e (Step.Quar p v) is asks h =
       let cell = cell_freed c.pages w (flight_of (left c front).now e.seat) p v in
       changed_freed (freed_where_it_stands w cell) xs (freed_leaves w cell).none (freed_released w cell)
       (λ a freed. freed_by (is_some_and (λ (x : Cell). stands_in w x a) cell) a freed) h
-  step_freed e step.Begin is asks h =
+  step_freed e Step.Begin is asks h =
       changed_freed no_longer_fresh xs fresh_leaves.none (λ a. refl) (λ a freed. freed) h
-  step_freed e step.Release is asks h = released_freed asks h
+  step_freed e Step.Release is asks h = released_freed asks h
   step_freed e s is asks h = h
 
 -- all of them

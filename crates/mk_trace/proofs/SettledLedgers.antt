@@ -1,14 +1,11 @@
 -- What is kept once what was released is let go.
-use Rattle.std.proofs.Common.{◌≡◌, ℕ, ◌+◌, ◌<◌, ◌≤◌, List, ◌∙◌, ap, arith, length, take, get_or, Bool, true, false, []}
-use Rattle.std.proofs.Common.{◌∷◌, ◌++◌, refl, sym, subst}
-use Rattle.std.specs.Prelude.{sum_by, filter, fold, map, not, if◌then◌else◌}
-use Rattle.std.proofs.lemmas.List.{take_all, map-append, take_more}
-use Rattle.std.proofs.lemmas.List.Sums.{sum_by_more, fold-append}
-use Rattle.std.proofs.lemmas.List.Elements.{filter-append}
-use Rattle.mk_trace.proofs.Vocabulary.{Freed, FreedObject, SettlesFreed, aged, in_a_word, objects_kept, still_kept}
-use Rattle.mk_trace.proofs.Vocabulary.{with_one}
-use Rattle.mk_trace.specs.Ledgers.{SettlesWhere, ages_let_go, is_freed_among, weighed_anew}
+use Rattle.std.proofs.{lemmas.List.Elements.filter-append, lemmas.List.Sums.fold-append, lemmas.List.Sums.sum_by_more}
+use Rattle.mk_trace.proofs.Vocabulary.{Freed, FreedObject, SettlesFreed, aged, filter, fold, in_a_word, objects_kept}
+use Rattle.mk_trace.proofs.Vocabulary.{still_kept, sum_by, take_all, take_more, with_one}
+use Rattle.mk_laws.proofs.Vocabulary.{Bool, List, ℕ, ap, arith, false, get_or, if◌then◌else◌, length, map, map-append}
+use Rattle.mk_laws.proofs.Vocabulary.{not, refl, subst, sym, take, true, [], ◌++◌, ◌+◌, ◌<◌, ◌∙◌, ◌∷◌, ◌≡◌, ◌≤◌}
 use Rattle.mk_trace.proofs.NumberLists.{unequal_is}
+use Rattle.mk_trace.specs.Ledgers.{SettlesWhere, ages_let_go, is_freed_among, weighed_anew}
 
 -- Words of kept objects, summed up one by one, where a number above 2^64 - 1 stands as 2^64 - 1.
 
@@ -91,9 +88,7 @@ pub settles_anew : (freed shown : List ℕ) (count told : ℕ) (old new : Freed)
     → new.ages.items ≡ fold with_one old.ages.items (ages_let_go shown (map aged found))
     → new.ends ≡ count → SettlesFreed freed told old new
 settles_anew freed shown count told old new found kept at is other all still quarantined reserved objects ages ends =
-    let kept_is : kept ≡ still_kept freed (map aged (objects_kept old)) =
-    still ∙ ap (λ (l : List ℕ). still_kept l (map aged found)) at
-    ∙ ap (λ (l : List FreedObject). still_kept freed (map aged l)) all in
+    let kept_is : kept ≡ still_kept freed (map aged (objects_kept old)) = cc (still, at, all) in
     subst (λ (n : ℕ). SettlesFreed freed n old new) is
     (record {
       ends = ends;

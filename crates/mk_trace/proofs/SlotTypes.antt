@@ -1,13 +1,10 @@
 -- The types of slots, and the globals that hold pointers to them.
-use Rattle.std.proofs.Common.{◌≡◌, ℕ, ◌+◌, ◌-◌, ◌<◌, ◌≤◌, suc, zero, List, [], ◌∷◌, ◌++◌, length, replicate, refl, sym}
-use Rattle.std.proofs.Common.{ap, ◌∙◌, subst, append_assoc, arith}
-use Rattle.std.specs.Prelude.{All}
-use Rattle.std.specs.List.{range_with_len}
+use Rattle.std.proofs.lemmas.List.Elements.{All-cons, All-head, All-nil, All-replicate, All-tail}
 use Rattle.std.proofs.Math.Seq.{get_or-append_seam}
-use Rattle.std.proofs.lemmas.List.{length-append, length-replicate}
-use Rattle.std.proofs.lemmas.List.Elements.{All-nil, All-cons, All-head, All-tail, All-replicate}
-use Rattle.mk_trace.proofs.Vocabulary.{Contents, IsBetween, Kind, To, config_of, kinds_of, types_from}
-use Rattle.mk_never.specs.declared.types.Kind.TheVariants.{Num}
+use Rattle.mk_trace.proofs.Vocabulary.{All, Contents, IsBetween, Kind, To, config_of, kinds_of, length-append}
+use Rattle.mk_trace.proofs.Vocabulary.{length-replicate, range_with_len, replicate, types_from}
+use Rattle.mk_laws.proofs.Vocabulary.{List, Number as Num, ℕ, ap, append_assoc, arith, length, refl, subst, suc, sym}
+use Rattle.mk_laws.proofs.Vocabulary.{zero, [], ◌++◌, ◌+◌, ◌-◌, ◌<◌, ◌∙◌, ◌∷◌, ◌≡◌, ◌≤◌}
 use Rattle.mk_core.specs.Config.{IsAmong, IsTypeAmong}
 use Rattle.mk_trace.specs.Playing.{slot_type}
 

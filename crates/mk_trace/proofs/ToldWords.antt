@@ -1,27 +1,21 @@
 -- The host looks at a word between calls: it is told the word, and leaves all as it is.
-use Rattle.std.proofs.Common.{◌≡◌, ℕ, false, List, ◌++◌, refl, sym, ◌∙◌, ap, subst, append-nil, arith, ◌∷◌}
-use Rattle.std.proofs.Common.{append_assoc, []}
 use Rattle.mk_trace.proofs.Vocabulary.{Caller, CallerIsHome, Config, Event, Has, HasAll, Host, HostOnlyLooks, HostState}
-use Rattle.mk_trace.proofs.Vocabulary.{IsHistory, IsTidy, LeavesAllocations, PassState, PlacedAllocation, SweepsNothing}
-use Rattle.mk_trace.proofs.Vocabulary.{TalliesAreTidy, Word, WordsState, World, calls, ends, event_of, first_world}
-use Rattle.mk_trace.proofs.Vocabulary.{found, greatest, has_step, held_by_allocations, in_a_word, is_end, left}
-use Rattle.mk_core.specs.declared.events.Step.TheVariants as step
-use Rattle.mk_core.proofs.HistoryParts.{left_in_parts, enabled_in_parts, earlier_part_is_history}
-use Rattle.mk_core.specs.declared.events.Word.TheVariants as word
-use Rattle.mk_core.proofs.Histories.{left_more}
+use Rattle.mk_trace.proofs.Vocabulary.{IsHistory, IsTidy, LeavesAllocations, PassState, PlacedAllocation, Step}
+use Rattle.mk_trace.proofs.Vocabulary.{SweepsNothing, TalliesAreTidy, Word, WordsState, World, calls, ends, event_of}
+use Rattle.mk_trace.proofs.Vocabulary.{first_world, found, greatest, has_step, held_by_allocations, in_a_word, is_end}
+use Rattle.mk_trace.proofs.Vocabulary.{left, seen_made}
+use Rattle.mk_laws.proofs.Vocabulary.{List, ℕ, ap, append-nil, append_assoc, arith, earlier_part_is_history}
+use Rattle.mk_laws.proofs.Vocabulary.{enabled_in_parts, false, left_in_parts, left_more, refl, subst, sym, [], ◌++◌}
+use Rattle.mk_laws.proofs.Vocabulary.{◌∙◌, ◌∷◌, ◌≡◌}
 use Rattle.mk_heap.specs.Turns.{TellsWord}
-use Rattle.mk_alloc.proofs.Parts.{seen_made}
-use Rattle.mk_trace.specs.Calls.{held_behind}
-use Rattle.mk_trace.specs.Looking.{LeavesTable, word_behind}
-use Rattle.mk_trace.proofs.PeakParts.{from-append, last_below}
-use Rattle.mk_trace.proofs.HeldLooks.{IsApart, behind, first, first_lacks, looks_alone, seen_is, taken_same, taken_seen}
-use Rattle.mk_trace.proofs.HeldLooks.{giving, looked_same, looking, mine, of_pass, Looked, all_lack, exact}
-use Rattle.mk_trace.proofs.LookedTables.{is_no_look, looks_leave, looks_measure, word_left}
 use Rattle.mk_trace.proofs.FoundByEnds.{ends-append, no_end-cons, none_end}
-use Rattle.mk_trace.proofs.OwnPieces.{mine_parts, none_of_others}
-use Rattle.mk_trace.proofs.EndsInLists.{changes, leaves_then}
-use Rattle.mk_trace.proofs.ExactPlays.{caller_is_still, look_stays_exact}
-use Rattle.mk_trace.proofs.OneCaller.{callers_at_home, same_calls}
+use Rattle.mk_trace.proofs.HeldLooks.{IsApart, Looked, all_lack, behind, exact, first, first_lacks, giving, looked_same}
+use Rattle.mk_trace.proofs.HeldLooks.{looking, looks_alone, mine, of_pass, seen_is, taken_same, taken_seen}
+use Rattle.mk_trace.proofs.LookedTables.{is_no_look, looks_leave, looks_measure, word_left}
+use Rattle.mk_trace.proofs.{EndsInLists.changes, EndsInLists.leaves_then, ExactPlays.caller_is_still}
+use Rattle.mk_trace.proofs.{ExactPlays.look_stays_exact, OneCaller.callers_at_home, OneCaller.same_calls}
+use Rattle.mk_trace.proofs.{OwnPieces.mine_parts, OwnPieces.none_of_others, PeakParts.from-append, PeakParts.last_below}
+use Rattle.mk_trace.specs.{Calls.held_behind, Looking.LeavesTable, Looking.word_behind}
 
 -- With looks alone the most is as it was.
 most_looked : (c : Config) (measure : List PlacedAllocation → ℕ) (es more : List Event)
@@ -31,11 +25,9 @@ most_looked c measure es more looks =
     omega (arith, parts, last_below c measure (first_world c) es, looks_measure c (left c es) measure more looks)
 
 word_found : (r : PassState) (x : Word) (others : List Event) → others ≡ []
-    → found r.table.config (left r.table.config (r.seen ++ others)).now (event_of r (step.Look x))
+    → found r.table.config (left r.table.config (r.seen ++ others)).now (event_of r (Step.Look x))
     ≡ word_behind r.table.config r.seen x
-word_found r x others none =
-    ap (λ (l : List Event). word_behind r.table.config (r.seen ++ l) x) none
-    ∙ ap (λ (l : List Event). word_behind r.table.config l x) (append-nil r.seen)
+word_found r x others none = cc (append-nil r.seen)
 
 module _ {p q : PassState} {x : Word} {n : ℕ} (l : Looked p x n q) where
   abbrev c : Config
@@ -53,8 +45,7 @@ module _ {p q : PassState} {x : Word} {n : ℕ} (l : Looked p x n q) where
   leaves_table : (es more : List Event) → es ≡ p.seen ++ more → has_step is_no_look more ≡ false
       → LeavesTable (left c p.seen) (left c es)
   leaves_table es more is looks =
-      subst (LeavesTable (left c p.seen)) (sym (ap (left c) is ∙ left_in_parts c p.seen more))
-      (looks_leave c (left c p.seen) more looks)
+      subst (LeavesTable (left c p.seen)) (sym (ap (left c) is ∙ left_in_parts c _ more)) (looks_leave c _ more looks)
 
   leaves_taken : LeavesTable (left c p.seen) (left c at)
   leaves_taken = leaves_table at (first l) (taken_seen l) (first_lacks l is_no_look no_look)
@@ -65,14 +56,14 @@ module _ {p q : PassState} {x : Word} {n : ℕ} (l : Looked p x n q) where
       ∙ ap (λ (r : PassState). word_behind r.table.config at x) (taken_same l)
 
   -- how much is held
-  told_held : x ≡ word.Held → n ≡ held_by_allocations c (left c p.seen).allocations
+  told_held : x ≡ Word.Held → n ≡ held_by_allocations c (left c p.seen).allocations
   told_held is =
       told_taken ∙ ap (word_behind c at) is ∙ (exact l).held ∙ ap (held_by_allocations c) leaves_taken.allocations
 
   -- and how many cycles ended
 
   abbrev look : Event
-  look = event_of h.taken (step.Look x)
+  look = event_of h.taken (Step.Look x)
 
   abbrev last : List Event
   last = h.looked.seen ++ h.gives.others
@@ -80,15 +71,13 @@ module _ {p q : PassState} {x : Word} {n : ℕ} (l : Looked p x n q) where
   gives_alone : h.gives.others ≡ []
   gives_alone =
       none_of_others c [] p.seats h.gives.others l.all
-      (mine_parts c [] h.gives.others (event_of h.looked step.Give ∷ [])
+      (mine_parts c [] h.gives.others (event_of h.looked Step.Give ∷ [])
       (mine_parts c [] (looking l) (giving l) (mine l).1).1).0
       (of_pass l h.looked h.gives.others (looked_same l) h.gives.of_others)
 
   last_is : last ≡ at ++ look ∷ []
   last_is =
-      ap (λ (es : List Event). h.looked.seen ++ es) gives_alone ∙ append-nil h.looked.seen
-      ∙ seen_made h.taken h.looked (step.Look x) h.looks.makes
-      ∙ ap (λ (es : List Event). at ++ (es ++ look ∷ [])) (looks_alone l)
+      cc (gives_alone, append-nil h.looked.seen, seen_made h.taken h.looked (Step.Look x) h.looks.makes, looks_alone l)
 
   ended : ends (at ++ look ∷ []) ≡ ends p.seen
   ended =
@@ -100,12 +89,12 @@ module _ {p q : PassState} {x : Word} {n : ℕ} (l : Looked p x n q) where
       (first_lacks l is_end (record { take = λ o. refl; look = λ y. refl; give = refl })) in
       omega arith
 
-  told_ends : IsTidy c q.seen → x ≡ word.Cycles → n ≡ in_a_word (ends p.seen)
+  told_ends : IsTidy c q.seen → x ≡ Word.Cycles → n ≡ in_a_word (ends p.seen)
   told_ends tidy is =
       let tidy_then : TalliesAreTidy c last =
-      tidy last (event_of h.looked step.Give) []
-      (seen_made h.looked q step.Give h.gives
-      ∙ sym (append_assoc h.looked.seen h.gives.others (event_of h.looked step.Give ∷ []))) refl in
+      tidy last (event_of h.looked Step.Give) []
+      (seen_made h.looked q Step.Give h.gives
+      ∙ sym (append_assoc h.looked.seen h.gives.others (event_of h.looked Step.Give ∷ []))) refl in
       told_taken ∙ ap (word_behind c at) is
       ∙ sym (ap (λ (w : World). w.now.words.cycles) (left_more c (first_world c) at look))
       ∙ ap (λ (es : List Event). (left c es).now.words.cycles) (sym last_is) ∙ tidy_then.cycles
@@ -123,8 +112,7 @@ module _ {p q : PassState} {x : Word} {n : ℕ} (l : Looked p x n q) where
   looks : p.seat ≡ Host → Has p.seats (Caller 0) → c.callers ≡ 1 → SweepsNothing p q → HostOnlyLooks c p.seen q.seen
   looks host joined one sweeps = record {
     calls =
-        same_calls one
-        (earlier_part_is_history c p.seen (first l ++ behind l) (subst (IsHistory c) (seen_is l) l.history))
+        same_calls one (earlier_part_is_history c _ (first l ++ behind l) (subst (IsHistory c) (seen_is l) l.history))
         l.history (caller_is_still l host joined);
     leaves = leaves;
     table = leaves_table q.seen (first l ++ behind l) (seen_is l) (all_lack l is_no_look no_look);
@@ -137,8 +125,8 @@ module _ {p q : PassState} {x : Word} {n : ℕ} (l : Looked p x n q) where
 pub record Reports (c : Config) (es : List Event) (x : Word) (n : ℕ) (fs : List Event) : Type 0 where
   pub looks : HostOnlyLooks c es fs
   pub tells : n ≡ word_behind c es x
-  pub holds : x ≡ word.Held → n ≡ held_behind c es
-  pub counts : IsTidy c fs → x ≡ word.Cycles → n ≡ in_a_word (ends es)
+  pub holds : x ≡ Word.Held → n ≡ held_behind c es
+  pub counts : IsTidy c fs → x ≡ Word.Cycles → n ≡ in_a_word (ends es)
 
 pub reports : {w : WordsState} {h : HostState} → CallerIsHome w h → h.pass.seat ≡ Host
     → {x : Word} {n : ℕ} (k : HostState)

@@ -1,25 +1,19 @@
-use Rattle.mk_alloc.proofs.Vocabulary.{Seeks}
-use Rattle.mk_laws.proofs.Vocabulary.{Bool, Some, false, refl, subst, sym, true}
-use Rattle.mk_alloc.proofs.Vocabulary.{CalledInTurn, CallerState, IsEnabledTo, PassState, in_turn}
-use Rattle.mk_words.specs.Steps.{Finds}
-use Rattle.mk_alloc.proofs.CalledTurns.{taken_turn}
+use Rattle.mk_alloc.proofs.Vocabulary.{CalledInTurn, CallerState, IsEnabledTo, PassState, Seeks, in_turn}
+use Rattle.mk_laws.proofs.Vocabulary.{Answer, Bool, Op, Some, Step, false, refl, subst, sym, true}
 use Rattle.mk_alloc.proofs.NewTurns.{begun_quiet, begun_unplaced, new_called}
 use Rattle.mk_alloc.proofs.OneCycles.{none_runs_one, placed_begins_none}
-use Rattle.mk_alloc.proofs.QuietTurns.{give_allowed}
-use Rattle.mk_alloc.proofs.SeekingTurns.{seeks_placed}
+use Rattle.mk_alloc.proofs.{CalledTurns.taken_turn, QuietTurns.give_allowed, SeekingTurns.seeks_placed}
 use Rattle.mk_alloc_clients.proofs.MadeCalls.{TakenNew, made_owns, may_take, taken_new}
 use Rattle.mk_alloc_clients.proofs.making.make_number.Goals.{After-give-home, After-is_in_order}
 use Rattle.mk_alloc_clients.proofs.making.make_number.Goals.{After-is_in_order-in-Ok}
 use Rattle.mk_alloc_clients.specs.Owned.{HasNumber}
-use Rattle.mk_never.specs.declared.operations.Op.TheVariants as op
-use Rattle.mk_core.specs.declared.events.Answer.TheVariants as answer
-use Rattle.mk_core.specs.declared.events.Step.TheVariants as step
+use Rattle.mk_words.specs.Steps.{Finds}
 use Rattle.mk_alloc_clients.proofs.making.make_number.Goals as goal
 
 pub try_take-requires-clause-enabled : goal.try_take-requires-clause-enabled
 try_take-requires-clause-enabled c =
     let p : PassState = c.args.caller.now.pass in
-    subst (λ (x : PassState). IsEnabledTo x (step.Take (Some (op.New c.args.d c.args.ty false))))
+    subst (λ (x : PassState). IsEnabledTo x (Step.Take (Some (Op.New c.args.d c.args.ty false))))
     (sym c.lend-home.ensures.pass)
     (may_take p c.args.d c.args.ty c.is_idle.ensures.idle c.requires.exists c.requires.register c.requires.number)
 
@@ -30,7 +24,7 @@ taken c =
     let e = c.in-Ok.ensures in
     let i = c.is_in_order.ensures in
     taken_new p c.args.d c.args.ty c.is_idle.ensures.idle c.requires.exists c.in-Ok.turn.pass c.requires.alone
-    (subst (λ (x : PassState). Finds x (step.Take (Some (op.New c.args.d c.args.ty false))) 0 c.in-Ok.turn.pass)
+    (subst (λ (x : PassState). Finds x (Step.Take (Some (Op.New c.args.d c.args.ty false))) 0 c.in-Ok.turn.pass)
     c.lend-home.ensures.pass e.made)
     e.fresh e.exact e.tidy i.before_over
 
@@ -41,7 +35,7 @@ place_number-requires-clause-unplaced c =
 
 -- The object was placed.
 seeks : (c : After-is_in_order-in-Ok) → TakenNew c.args.caller.now.pass c.args.d c.args.ty c.in-Ok.turn.pass
-    → Seeks (Some answer.Done) c.in-Ok.turn.pass c.place_number.new.turn.pass
+    → Seeks (Some Answer.Done) c.in-Ok.turn.pass c.place_number.new.turn.pass
 seeks c t =
     let taken : PassState = c.in-Ok.turn.pass in
     seeks_placed taken c.place_number.new.turn.pass (taken_turn t.took)
@@ -62,8 +56,8 @@ give-home-requires-clause-tidy c =
     (seeks x.After-is_in_order-in-Ok (taken x.After-is_in_order)).on.quiet.tidy
 
 called : (c : After-give-home) → TakenNew c.args.caller.now.pass c.args.d c.args.ty c.in-Ok.turn.pass
-    → Seeks (Some answer.Done) c.in-Ok.turn.pass c.place_number.new.turn.pass → (on : Bool)
-    → CalledInTurn on c.args.caller.now.pass (op.New c.args.d c.args.ty false) answer.Done c.give-home.result
+    → Seeks (Some Answer.Done) c.in-Ok.turn.pass c.place_number.new.turn.pass → (on : Bool)
+    → CalledInTurn on c.args.caller.now.pass (Op.New c.args.d c.args.ty false) Answer.Done c.give-home.result
 called c t seeks on =
     let taken : PassState = c.in-Ok.turn.pass in
     let done : PassState = c.place_number.new.turn.pass in
@@ -83,10 +77,10 @@ called c t seeks on =
 pub returns-else-not-place_number-clause-made : goal.returns-else-not-place_number-clause-made
 returns-else-not-place_number-clause-made c =
     let x = goal.at.returns-else-not-place_number-clause-made c in
-    let o = op.New c.args.d c.args.ty false in
+    let o = Op.New c.args.d c.args.ty false in
     let t = taken x.After-is_in_order in
     λ on.
-    subst (λ (x : CallerState). CalledInTurn on c.args.caller.now.pass o answer.Done x.pass)
+    subst (λ (x : CallerState). CalledInTurn on c.args.caller.now.pass o Answer.Done x.pass)
     (sym c.back-in-Ok.ensures) (called x.After-give-home t (seeks x.After-is_in_order-in-Ok t) on)
 
 pub returns-else-not-place_number-clause-owned : goal.returns-else-not-place_number-clause-owned

@@ -1,9 +1,7 @@
-use Rattle.mk_laws.proofs.Vocabulary.{subst}
+use Rattle.mk_laws.proofs.Vocabulary.{Op, subst}
 use Rattle.mk_alloc.proofs.Vocabulary.{PassState}
-use Rattle.mk_caller.specs.Causes.{IsRefused}
-use Rattle.mk_caller.specs.declared.refusals.Refusal.{Refusal}
 use Rattle.mk_alloc_clients.proofs.OwnedCalls.{held_keeps, load_has_no_fault, load_has_no_null, loaded, may_load}
-use Rattle.mk_never.specs.declared.operations.Op.TheVariants as op
+use Rattle.mk_caller.specs.{Causes.IsRefused, declared.refusals.Refusal.Refusal}
 use Rattle.mk_alloc_clients.proofs.numbers.load.Goals as goal
 
 pub get_num-loaded-requires-clause-admitted : goal.get_num-loaded-requires-clause-admitted
@@ -14,26 +12,25 @@ unreachable-requires c =
     let p : PassState = c.args.caller.now.pass in
     let q : PassState = c.get_num-loaded.new.self.pass in
     load_has_no_fault c.args.d c.requires.owned c.is_idle.ensures.history
-    (subst (λ (e : Refusal). IsRefused p (op.GetNum c.args.d 0) e q) c.in-Fault.is c.in-Err.ensures.refused)
+    (subst (λ (e : Refusal). IsRefused p (Op.GetNum c.args.d 0) e q) c.in-Fault.is c.in-Err.ensures.refused)
 
 pub unreachable-requires-in-Null : goal.unreachable-requires-in-Null
 unreachable-requires-in-Null c =
     let p : PassState = c.args.caller.now.pass in
     let q : PassState = c.get_num-loaded.new.self.pass in
     load_has_no_null c.args.d c.requires.owned c.is_idle.ensures.history
-    (subst (λ (e : Refusal). IsRefused p (op.GetNum c.args.d 0) e q) c.in-Null.is c.in-Err.ensures.refused)
+    (subst (λ (e : Refusal). IsRefused p (Op.GetNum c.args.d 0) e q) c.in-Null.is c.in-Err.ensures.refused)
 
 pub returns-in-Ok-clause-loaded : goal.returns-in-Ok-clause-loaded
 returns-in-Ok-clause-loaded c =
     let tells = (loaded c.args.d c.requires.owned c.is_idle.ensures.history c.in-Ok.ensures.called).tells in cc
 
 pub returns-in-Ok-clause-still : goal.returns-in-Ok-clause-still
-returns-in-Ok-clause-still c =
-    (loaded c.args.d c.requires.owned c.is_idle.ensures.history c.in-Ok.ensures.called).has
+returns-in-Ok-clause-still c = (loaded c.args.d c.requires.owned c.is_idle.ensures.history c.in-Ok.ensures.called).has
 
 pub returns-in-Held-clause-still : goal.returns-in-Held-clause-still
 returns-in-Held-clause-still c =
     let p : PassState = c.args.caller.now.pass in
     let q : PassState = c.get_num-loaded.new.self.pass in
     held_keeps c.args.d c.requires.owned c.is_idle.ensures.history
-    (subst (λ (e : Refusal). IsRefused p (op.GetNum c.args.d 0) e q) c.in-Held.is c.in-Err.ensures.refused)
+    (subst (λ (e : Refusal). IsRefused p (Op.GetNum c.args.d 0) e q) c.in-Held.is c.in-Err.ensures.refused)

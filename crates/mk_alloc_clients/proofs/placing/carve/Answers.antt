@@ -1,8 +1,7 @@
-use Rattle.mk_laws.proofs.Vocabulary.{Object, ap, arith, header_made, pages_made, subst, sym, ◌+◌, ◌∙◌, ◌≡◌}
+use Rattle.mk_laws.proofs.Vocabulary.{Object, Step, ap, arith, header_made, pages_made, subst, sym, ◌+◌, ◌∙◌, ◌≡◌}
 use Rattle.mk_alloc.proofs.Vocabulary.{Acts, IsEnabledTo, PassState, object_for}
 use Rattle.mk_objects.proofs.Serves.{carved_all, head_may, heads_on, knows_place}
 use Rattle.mk_objects.specs.Placing.{HasCarved}
-use Rattle.mk_core.specs.declared.events.Step.TheVariants as step
 use Rattle.mk_alloc_clients.proofs.placing.carve.Goals as goal
 
 pub head-requires-clause-enabled : goal.head-requires-clause-enabled
@@ -13,9 +12,9 @@ head-requires-clause-enabled c =
     let k = knows_place p c.args.turn.now.op c.args.place i.turn i.history c.requires.goes in
     let count : pages_made (object_for p) ≡ 1 = ap (λ (o : Object). pages_made o) c.requires.number in
     let first : c.args.place.page + 0 ≡ c.args.place.page = omega arith in
-    subst (λ n. IsEnabledTo q (step.Head c.args.place.page n))
+    subst (λ n. IsEnabledTo q (Step.Head c.args.place.page n))
     (ap (λ (o : Object). header_made o 0) c.requires.number ∙ sym c.block_word.ensures)
-    (subst (λ page. IsEnabledTo q (step.Head page (header_made (object_for p) 0))) first
+    (subst (λ page. IsEnabledTo q (Step.Head page (header_made (object_for p) 0))) first
     (head_may p c.args.place c.requires.goes k c.requires.free q 0 c.mark_first.ensures.carved (omega arith)))
 
 pub returns-clause-ready : goal.returns-clause-ready
@@ -27,9 +26,9 @@ returns-clause-ready c =
     let k = knows_place p c.args.turn.now.op c.args.place i.turn i.history c.requires.goes in
     let count : pages_made (object_for p) ≡ 1 = ap (λ (o : Object). pages_made o) c.requires.number in
     let first : c.args.place.page + 0 ≡ c.args.place.page = omega arith in
-    let a : Acts q (step.Head (c.args.place.page + 0) (header_made (object_for p) 0)) r =
-    subst (λ page. Acts q (step.Head page (header_made (object_for p) 0)) r) (sym first)
-    (subst (λ n. Acts q (step.Head c.args.place.page n) r)
+    let a : Acts q (Step.Head (c.args.place.page + 0) (header_made (object_for p) 0)) r =
+    subst (λ page. Acts q (Step.Head page (header_made (object_for p) 0)) r) (sym first)
+    (subst (λ n. Acts q (Step.Head c.args.place.page n) r)
     (c.block_word.ensures ∙ sym (ap (λ (o : Object). header_made o 0) c.requires.number)) c.head.ensures.acts) in
     carved_all p c.args.place c.requires.goes k c.requires.free r
     (subst (λ n. HasCarved p c.args.place n r) (sym count)

@@ -1,10 +1,7 @@
-use Rattle.mk_laws.proofs.Vocabulary.{ap, ◌==◌, ◌∙◌}
+use Rattle.mk_laws.proofs.Vocabulary.{Word, ap, ◌==◌, ◌∙◌}
 use Rattle.mk_alloc.proofs.Vocabulary.{call_of, new_is_acting}
-use Rattle.mk_objects.proofs.Looks.{found_phase, look_reaches}
-use Rattle.mk_objects.proofs.MayAct.{may_look_phase}
-use Rattle.mk_objects.proofs.Unchanged.{OfPhase}
 use Rattle.mk_alloc_clients.proofs.MadeNumbers.{acting}
-use Rattle.mk_core.specs.declared.events.Word.TheVariants as word
+use Rattle.mk_objects.proofs.{Looks.found_phase, Looks.look_reaches, MayAct.may_look_phase, Unchanged.OfPhase}
 use Rattle.mk_alloc_clients.proofs.placing.is_marking.Goals as goal
 
 pub look-found-requires-clause-enabled : goal.look-found-requires-clause-enabled
@@ -15,7 +12,7 @@ look-found-requires-clause-enabled c =
 pub returns-clause-looks : goal.returns-clause-looks
 returns-clause-looks c =
     let t = c.args.turn.now in
-    look_reaches t.pass c.look-found.new.self.pass t.op word.Phase c.is_in_order.ensures.turn
+    look_reaches t.pass c.look-found.new.self.pass t.op Word.Phase c.is_in_order.ensures.turn
     (new_is_acting (call_of t.pass) c.requires.unplaced.new) OfPhase c.look-found.ensures.acts
 
 pub returns-clause-finds : goal.returns-clause-finds

@@ -1,8 +1,6 @@
 use Rattle.mk_alloc.proofs.Vocabulary.{PassState}
-use Rattle.mk_objects.proofs.JoinedLooks.{looks_unplaced}
-use Rattle.mk_objects.proofs.Looks.{found_steady}
-use Rattle.mk_objects.proofs.MayAct.{may_look}
 use Rattle.mk_alloc_clients.proofs.MadeNumbers.{acting, looked}
+use Rattle.mk_objects.proofs.{JoinedLooks.looks_unplaced, Looks.found_steady, MayAct.may_look}
 use Rattle.mk_alloc_clients.proofs.placing.look_at.Goals as goal
 
 pub look-found-requires-clause-enabled : goal.look-found-requires-clause-enabled

@@ -1,8 +1,7 @@
-use Rattle.mk_laws.proofs.Vocabulary.{Object, ap, eqb-false, eqb-true, phase_of, subst, sym, ◌∙◌}
+use Rattle.mk_laws.proofs.Vocabulary.{Object, Step, ap, eqb-false, eqb-true, phase_of, subst, sym, ◌∙◌}
 use Rattle.mk_alloc.proofs.Vocabulary.{Acts, IsEnabledTo, PassState, now_of}
 use Rattle.mk_core.specs.NewPlaces.{bits_made}
 use Rattle.mk_objects.proofs.Serves.{knows_place, mark_may, marks_first, marks_none}
-use Rattle.mk_core.specs.declared.events.Step.TheVariants as step
 use Rattle.mk_alloc_clients.proofs.placing.mark_first.Goals as goal
 
 pub mark-requires-clause-enabled : goal.mark-requires-clause-enabled
@@ -11,7 +10,7 @@ mark-requires-clause-enabled c =
     let i = c.is_in_order.ensures in
     let k = knows_place p c.args.turn.now.op c.args.place i.turn i.history c.requires.goes in
     let one = eqb-true (phase_of (now_of p).words) 1 (sym c.requires.marking ∙ c.if-marking.true) in
-    subst (λ n. IsEnabledTo p (step.Mark c.args.place.page n)) (ap (λ (o : Object). bits_made o) c.requires.number)
+    subst (λ n. IsEnabledTo p (Step.Mark c.args.place.page n)) (ap (λ (o : Object). bits_made o) c.requires.number)
     (mark_may p c.args.place c.requires.goes k c.requires.free one)
 
 pub returns-then-marking-clause-carved : goal.returns-then-marking-clause-carved
@@ -21,7 +20,7 @@ returns-then-marking-clause-carved c =
     let i = c.is_in_order.ensures in
     let k = knows_place p c.args.turn.now.op c.args.place i.turn i.history c.requires.goes in
     let one = eqb-true (phase_of (now_of p).words) 1 (sym c.requires.marking ∙ c.if-marking.true) in
-    let a = subst (λ n. Acts p (step.Mark c.args.place.page n) q)
+    let a = subst (λ n. Acts p (Step.Mark c.args.place.page n) q)
     (sym (ap (λ (o : Object). bits_made o) c.requires.number)) c.mark.ensures.acts in
     marks_first p c.args.place c.requires.goes k c.requires.free q one a
 

@@ -1,8 +1,8 @@
 use Rattle.mk_laws.proofs.Vocabulary.{None, Some, ap, refl, ◌∙◌}
 use Rattle.mk_alloc.proofs.Vocabulary.{PassState}
-use Rattle.mk_words.specs.States.{WordsState}
-use Rattle.mk_objects.proofs.JoinedLooks.{looks_exact, looks_object}
 use Rattle.mk_alloc_clients.proofs.FoundRoom.{goes, nowhere, placed, sees_page}
+use Rattle.mk_objects.proofs.JoinedLooks.{looks_exact, looks_object}
+use Rattle.mk_words.specs.States.{WordsState}
 use Rattle.mk_alloc_clients.proofs.placing.place_number.Goals as goal
 
 pub serve-requires-clause-number : goal.serve-requires-clause-number

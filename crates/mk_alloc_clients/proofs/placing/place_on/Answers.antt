@@ -1,5 +1,5 @@
 use Rattle.std.specs.Bool.{then_some}
-use Rattle.mk_laws.proofs.Vocabulary.{Page, ap, nat_lt, sym, ℕ, ◌∙◌}
+use Rattle.mk_laws.proofs.Vocabulary.{Page, ℕ, ap, nat_lt, sym, ◌∙◌}
 use Rattle.mk_alloc_clients.proofs.OnePage.{at_cell, block_place, free_page_place, other_page_place}
 use Rattle.mk_alloc_clients.proofs.placing.place_on.Goals as goal
 

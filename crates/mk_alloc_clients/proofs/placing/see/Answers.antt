@@ -1,8 +1,8 @@
 use Rattle.mk_laws.proofs.Vocabulary.{ap, ◌==◌, ◌∙◌}
 use Rattle.mk_alloc.proofs.Vocabulary.{PassState}
-use Rattle.mk_objects.proofs.FilledBooks.{page_found}
-use Rattle.mk_objects.proofs.JoinedLooks.{looks_joined, looks_nothing, looks_table}
 use Rattle.mk_alloc_clients.proofs.MadeNumbers.{first_page, held_kept, page_kept, phase_kept}
+use Rattle.mk_objects.proofs.JoinedLooks.{looks_joined, looks_nothing, looks_table}
+use Rattle.mk_objects.proofs.FilledBooks.{page_found}
 use Rattle.mk_alloc_clients.proofs.placing.see.Goals as goal
 
 pub look_at-header-requires-clause-in_range : goal.look_at-header-requires-clause-in_range

@@ -1,11 +1,10 @@
-use Rattle.mk_laws.proofs.Vocabulary.{Object, Page, ap, arith, has_bit, subst, sym, used_at, words_made, words_within}
-use Rattle.mk_laws.proofs.Vocabulary.{◌+◌, ◌∙◌, ◌≡◌}
+use Rattle.mk_laws.proofs.Vocabulary.{Object, Page, Step, ap, arith, has_bit, subst, sym, used_at, words_made}
+use Rattle.mk_laws.proofs.Vocabulary.{words_within, ◌+◌, ◌∙◌, ◌≡◌}
 use Rattle.mk_alloc.proofs.Vocabulary.{IsEnabledTo, PassState, now_of, object_for}
-use Rattle.mk_objects.proofs.Serves.{KnowsPlace, knows_place, place_unused}
+use Rattle.mk_alloc_clients.proofs.placing.serve.Goals.{After-grant, After-is_in_order, After-used}
 use Rattle.mk_objects.proofs.Takes.{HasGranted, HasTaken, counted, counted_held, few_held, grant_admits, grant_may}
 use Rattle.mk_objects.proofs.Takes.{grant_on, one_bit_more, small_index, tally_may, tally_on, used_may, used_on}
-use Rattle.mk_alloc_clients.proofs.placing.serve.Goals.{After-grant, After-is_in_order, After-used}
-use Rattle.mk_core.specs.declared.events.Step.TheVariants as step
+use Rattle.mk_objects.proofs.Serves.{KnowsPlace, knows_place, place_unused}
 use Rattle.mk_alloc_clients.proofs.placing.serve.Goals as goal
 
 -- what is known of the place
@@ -41,7 +40,7 @@ used-requires-clause-enabled c =
     sym (ap (λ (x : Page). x.used) c.requires.page) in
     let clear : has_bit c.args.seen.page.used c.args.place.index ≡ _ =
     sym (ap (λ n. has_bit n c.args.place.index) known) ∙ place_unused p c.args.place k in
-    subst (λ n. IsEnabledTo c.make_ready.new.turn.pass (step.Used c.args.place.page n))
+    subst (λ n. IsEnabledTo c.make_ready.new.turn.pass (Step.Used c.args.place.page n))
     (sym (one_bit_more c.args.seen.page.used c.args.place.index (small_index p c.args.place k) clear))
     (used_may p c.args.place c.requires.goes k c.make_ready.new.turn.pass c.args.seen.page.used
     c.make_ready.ensures.ready known)

@@ -1,13 +1,11 @@
-use Rattle.std.proofs.Common.{◌≡◌, sym, ◌∙◌, arith}
-use Rattle.std.proofs.lemmas.Grind.{common_steps}
-use Rattle.mk_geom.specs.PageUses.{range_start, resident_pages}
-use Rattle.mk_geom.specs.PageWords.{uses_of_pages}
-use Rattle.mk_books.proofs.PlaceLemmas.{resident_from-end}
-use Rattle.mk_books.proofs.FreeRangeLemmas.{free_range_from-free, free_range_from-taken, first-skip, first-here}
-use Rattle.mk_books.proofs.FreeRangeLemmas.{first-end, first-known}
-use Rattle.mk_books.proofs.fitting.large_fit.Goals as goal
-use Rattle.mk_books.proofs.fitting.large_fit.Goals.{then-not-is_free, else-not-is_free+then-number-range}
+use Rattle.std.proofs.{Common.arith, Common.sym, Common.◌∙◌, Common.◌≡◌, lemmas.Grind.common_steps}
+use Rattle.mk_geom.specs.{PageUses.range_start, PageUses.resident_pages, PageWords.uses_of_pages}
+use Rattle.mk_books.proofs.FreeRangeLemmas.{first-end, first-here, first-known, first-skip, free_range_from-free}
+use Rattle.mk_books.proofs.FreeRangeLemmas.{free_range_from-taken}
 use Rattle.mk_books.proofs.fitting.large_fit.Goals.{else-not-is_free+else-number-range}
+use Rattle.mk_books.proofs.fitting.large_fit.Goals.{else-not-is_free+then-number-range, then-not-is_free}
+use Rattle.mk_books.proofs.PlaceLemmas.{resident_from-end}
+use Rattle.mk_books.proofs.fitting.large_fit.Goals as goal
 
 pub loop-number-preserved : goal.loop-number-preserved
 loop-number-preserved c =

@@ -1,10 +1,9 @@
-use Rattle.std.proofs.Common.{◌+◌, true, false, sym, ap, ◌∙◌, arith}
-use Rattle.std.proofs.lemmas.Grind.{common_steps}
-use Rattle.std.specs.Option.{option_or}
-use Rattle.mk_books.proofs.PlaceLemmas.{free_page_from, cell_from-next, resident_from-next, free_page_from-next}
-use Rattle.mk_books.proofs.PlaceLemmas.{free_page_from-here, or_known}
+use Rattle.std.{proofs.Common.ap, proofs.Common.arith, proofs.Common.false, proofs.Common.sym, proofs.Common.true}
+use Rattle.std.{proofs.Common.◌+◌, proofs.Common.◌∙◌, proofs.lemmas.Grind.common_steps, specs.Option.option_or}
+use Rattle.mk_books.proofs.PlaceLemmas.{cell_from-next, free_page_from, free_page_from-here, free_page_from-next}
+use Rattle.mk_books.proofs.PlaceLemmas.{or_known, resident_from-next}
+use Rattle.mk_books.proofs.fitting.small_fit.Goals.{else-is_free, else-is_resident, then-is_free, then-is_resident}
 use Rattle.mk_books.proofs.fitting.small_fit.Goals as goal
-use Rattle.mk_books.proofs.fitting.small_fit.Goals.{then-is_free, else-is_free, then-is_resident, else-is_resident}
 
 pub loop-number-preserved : goal.loop-number-preserved
 loop-number-preserved c =

@@ -1,10 +1,7 @@
-use Rattle.std.proofs.Common.{Option, Some, None, map, refl, string_bytes, subst}
-use Rattle.clap.specs.Words.{app_of}
-use Rattle.clap.specs.declared.parser.matches.ArgMatches.{ArgMatches}
-use Rattle.mk_commands.specs.declared.commands.Command.TheVariants.{OnText}
-use Rattle.mk_commands.specs.Commands.{alone_of}
-use Rattle.mk_commands.specs.Given.{bare}
+use Rattle.std.proofs.Common.{None, Option, Some, map, refl, string_bytes, subst}
+use Rattle.clap.specs.{Words.app_of, declared.parser.matches.ArgMatches.ArgMatches}
 use Rattle.mk_commands.proofs.Taken.{Finds, answer_is}
+use Rattle.mk_commands.specs.{Commands.alone_of, Given.bare, declared.commands.Command.TheVariants.OnText}
 use Rattle.mk_commands.proofs.words.alone_by.Goals as goal
 
 pub returns-in-Some : goal.returns-in-Some

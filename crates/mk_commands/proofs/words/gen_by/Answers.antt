@@ -1,10 +1,7 @@
-use Rattle.std.proofs.Common.{Option, Some, None, map, refl, string_bytes, subst}
-use Rattle.clap.specs.Words.{app_of, found_of}
-use Rattle.clap.specs.declared.parser.matches.ArgMatches.{ArgMatches}
-use Rattle.mk_commands.specs.Commands.{gen_of}
-use Rattle.mk_commands.specs.Given.{gens}
-use Rattle.mk_commands.proofs.Getting.{gen_reads}
-use Rattle.mk_commands.proofs.Taken.{Finds, answer_is}
+use Rattle.std.proofs.Common.{None, Option, Some, map, refl, string_bytes, subst}
+use Rattle.clap.specs.{Words.app_of, Words.found_of, declared.parser.matches.ArgMatches.ArgMatches}
+use Rattle.mk_commands.proofs.{Getting.gen_reads, Taken.Finds, Taken.answer_is}
+use Rattle.mk_commands.specs.{Commands.gen_of, Given.gens}
 use Rattle.mk_commands.proofs.words.gen_by.Goals as goal
 
 pub returns-in-Some : goal.returns-in-Some

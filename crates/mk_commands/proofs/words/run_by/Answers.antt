@@ -1,10 +1,7 @@
-use Rattle.std.proofs.Common.{Option, Some, None, map, refl, string_bytes, subst}
-use Rattle.clap.specs.Words.{app_of, found_of}
-use Rattle.clap.specs.declared.parser.matches.ArgMatches.{ArgMatches}
-use Rattle.mk_commands.specs.Commands.{run_of}
-use Rattle.mk_commands.specs.Given.{runs}
-use Rattle.mk_commands.proofs.Getting.{run_reads}
-use Rattle.mk_commands.proofs.Taken.{Finds, answer_is}
+use Rattle.std.proofs.Common.{None, Option, Some, map, refl, string_bytes, subst}
+use Rattle.clap.specs.{Words.app_of, Words.found_of, declared.parser.matches.ArgMatches.ArgMatches}
+use Rattle.mk_commands.proofs.{Getting.run_reads, Taken.Finds, Taken.answer_is}
+use Rattle.mk_commands.specs.{Commands.run_of, Given.runs}
 use Rattle.mk_commands.proofs.words.run_by.Goals as goal
 
 pub returns-in-Some : goal.returns-in-Some

@@ -1,11 +1,10 @@
-use Rattle.std.proofs.Common.{◌≡◌, ◌∙◌, ℕ, Bool, true, false, Some, None, refl, sym, ap, ap₂, arith, option_and_then}
+use Rattle.std.proofs.Common.{Bool, None, Some, ℕ, ap, ap₂, arith, false, nat_lt, option_and_then, refl, sym, true, ◌∙◌}
+use Rattle.std.proofs.Common.{◌≡◌}
 use Rattle.std.proofs.lemmas.Bool.Decides.{nat_tests}
-use Rattle.std.specs.Prelude.{nat_lt}
-use Rattle.mk_commands.specs.declared.commands.Command.TheVariants.{OnText}
-use Rattle.mk_commands.specs.declared.commands.TextCommand.TheVariants.{Run}
-use Rattle.mk_commands.specs.Commands.{run_with}
+use Rattle.mk_commands.proofs.words.run_in.Goals.{else-sweep-via-else-sweep, else-sweep-via-then-sweep+else-markers-gt0}
 use Rattle.mk_commands.proofs.Getting.{flag_is}
-use Rattle.mk_commands.proofs.words.run_in.Goals.{else-sweep-via-then-sweep+else-markers-gt0, else-sweep-via-else-sweep}
+use Rattle.mk_commands.specs.declared.commands.Command.TheVariants.{OnText}
+use Rattle.mk_commands.specs.{Commands.run_with, declared.commands.TextCommand.TheVariants.Run}
 use Rattle.mk_commands.proofs.words.run_in.Goals as goal
 
 pub returns-in_err-markers : goal.returns-in_err-markers

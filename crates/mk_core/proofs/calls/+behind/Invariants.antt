@@ -1,4 +1,4 @@
-use Rattle.std.proofs.Common.{length}
+use Rattle.mk_core.proofs.Vocabulary.{length}
 use Rattle.mk_core.proofs.calls.+behind.Given as goal
 
 abbrev pub decreases-behind : goal.decreases-behind

@@ -1,6 +1,5 @@
-use Rattle.std.proofs.Common.{◌≡◌, ℕ, ◌-◌, ◌*◌, ◌%◌, ◌^◌, ◌≤◌, ap, ◌∙◌, arith}
-use Rattle.std.proofs.Math.Nat.{mul-mod_left}
-use Rattle.std.proofs.lemmas.Nat.{pow-add}
+use Rattle.std.proofs.{Common.pow-add, Math.Nat.mul-mod_left}
+use Rattle.mk_core.proofs.Vocabulary.{ℕ, ap, arith, ◌%◌, ◌*◌, ◌-◌, ◌^◌, ◌∙◌, ◌≡◌, ◌≤◌}
 use Rattle.mk_core.specs.Bits.{bit_for}
 use Rattle.mk_core.proofs.cells.bit_for.Goals as goal
 

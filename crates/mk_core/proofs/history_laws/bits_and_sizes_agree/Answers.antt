@@ -1,5 +1,4 @@
-use Rattle.mk_core.proofs.BitsWithout.{has_bit_without}
-use Rattle.mk_core.proofs.Sizes.{large_is_not_small}
+use Rattle.mk_core.proofs.{BitsWithout.has_bit_without, Sizes.large_is_not_small}
 use Rattle.mk_core.proofs.history_laws.bits_and_sizes_agree.Goals as goal
 
 pub returns-clause-without : goal.returns-clause-without

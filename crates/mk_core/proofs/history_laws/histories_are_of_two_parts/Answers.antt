@@ -1,5 +1,5 @@
-use Rattle.mk_core.proofs.HistoryParts.{left_in_parts, enabled_in_parts, calls_in_parts, never_in_parts}
-use Rattle.mk_core.proofs.HistoryParts.{replies_in_parts, admitted_in_parts, earlier_part_is_history}
+use Rattle.mk_core.proofs.HistoryParts.{admitted_in_parts, calls_in_parts, earlier_part_is_history, enabled_in_parts}
+use Rattle.mk_core.proofs.HistoryParts.{left_in_parts, never_in_parts, replies_in_parts}
 use Rattle.mk_core.proofs.history_laws.histories_are_of_two_parts.Goals as goal
 
 pub returns-clause-left : goal.returns-clause-left

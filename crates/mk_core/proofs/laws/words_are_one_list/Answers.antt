@@ -1,4 +1,4 @@
-use Rattle.mk_core.proofs.RegionLemmas.{has_all_words, first_are_zero, accesses_change}
+use Rattle.mk_core.proofs.RegionLemmas.{accesses_change, first_are_zero, has_all_words}
 use Rattle.mk_core.proofs.laws.words_are_one_list.Goals as goal
 
 pub returns-clause-count : goal.returns-clause-count

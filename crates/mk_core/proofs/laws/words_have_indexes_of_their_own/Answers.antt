@@ -1,6 +1,5 @@
-use Rattle.mk_core.proofs.LayoutLemmas.{names_apart, indexes_within}
-use Rattle.mk_core.proofs.RegionLemmas.{words_stand, words_change}
-use Rattle.mk_core.proofs.Lengths.{histories_keep_lengths}
+use Rattle.mk_core.proofs.LayoutLemmas.{indexes_within, names_apart}
+use Rattle.mk_core.proofs.{Lengths.histories_keep_lengths, RegionLemmas.words_change, RegionLemmas.words_stand}
 use Rattle.mk_core.proofs.laws.words_have_indexes_of_their_own.Goals as goal
 
 pub returns-clause-apart : goal.returns-clause-apart

@@ -1,5 +1,5 @@
-use Rattle.mk_core.proofs.StandingAllocations.{storage_holds, standing_has_storage, headers_show_storage, pointers_hit}
-use Rattle.mk_core.proofs.StandingAllocations.{cells_begin}
+use Rattle.mk_core.proofs.StandingAllocations.{cells_begin, headers_show_storage, pointers_hit, standing_has_storage}
+use Rattle.mk_core.proofs.StandingAllocations.{storage_holds}
 use Rattle.mk_core.proofs.storage_laws.an_allocation_has_its_cell.Goals as goal
 
 pub returns-clause-words : goal.returns-clause-words

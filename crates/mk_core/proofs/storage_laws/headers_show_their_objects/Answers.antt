@@ -1,4 +1,4 @@
-use Rattle.mk_core.proofs.ObjectHeaders.{header_shows, part_head, first_part, later_cells}
+use Rattle.mk_core.proofs.ObjectHeaders.{first_part, header_shows, later_cells, part_head}
 use Rattle.mk_core.proofs.storage_laws.headers_show_their_objects.Goals as goal
 
 pub returns-clause-parts : goal.returns-clause-parts

@@ -1,4 +1,4 @@
-use Rattle.mk_gen.proofs.GeneratedLaws.{generated_is_of_its_text, generated_is_checked}
+use Rattle.mk_gen.proofs.GeneratedLaws.{generated_is_checked, generated_is_of_its_text}
 use Rattle.mk_gen.proofs.laws.generated_programs_are_checked.Goals as goal
 
 pub returns-clause-text : goal.returns-clause-text

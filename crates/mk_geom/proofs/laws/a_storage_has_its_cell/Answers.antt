@@ -1,5 +1,5 @@
-use Rattle.mk_geom.proofs.CellsOnPages.{shown_cell_has_value, points_into_iff, same_from_cells, used_cell_has_storage}
-use Rattle.mk_geom.proofs.PointedCells.{points_into_cell, cell_first, address_points_into}
+use Rattle.mk_geom.proofs.CellsOnPages.{points_into_iff, same_from_cells, shown_cell_has_value, used_cell_has_storage}
+use Rattle.mk_geom.proofs.PointedCells.{address_points_into, cell_first, points_into_cell}
 use Rattle.mk_geom.proofs.laws.a_storage_has_its_cell.Goals as goal
 
 pub returns-clause-points_into : goal.returns-clause-points_into

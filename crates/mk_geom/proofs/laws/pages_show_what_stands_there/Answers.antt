@@ -1,4 +1,4 @@
-use Rattle.mk_geom.proofs.Bridge.{same_uses, same_places, same_census, have_header_words}
+use Rattle.mk_geom.proofs.Bridge.{have_header_words, same_census, same_places, same_uses}
 use Rattle.mk_geom.proofs.HeldWords.{pages_hold_mapped_words}
 use Rattle.mk_geom.proofs.laws.pages_show_what_stands_there.Goals as goal
 

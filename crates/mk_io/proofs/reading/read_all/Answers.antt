@@ -1,5 +1,4 @@
-use Rattle.std.proofs.Common.{◌≡◌, ◌+◌, ◌++◌, take, arith, length-take}
-use Rattle.std.proofs.lemmas.List.{length-take-le}
+use Rattle.std.proofs.Common.{arith, length-take, length-take-le, take, ◌++◌, ◌+◌, ◌≡◌}
 use Rattle.std.proofs.lemmas.Grind.{common_steps}
 use Rattle.mk_io.proofs.Told.{Takes-append, TakesCount-append}
 use Rattle.mk_io.proofs.reading.read_all.Goals as goal
@@ -25,8 +24,7 @@ loop-count-preserved g c = record {
   within = grind (arith, common_steps);
   taken =
       let part = take c.in-Ok.count c.read.new.buf in
-      let kept : c.extend_from_slice.new.self.items ≡ c.loop-count.bytes.items ++ part =
-      grind (arith, common_steps) in
+      let kept : c.extend_from_slice.new.self.items ≡ c.loop-count.bytes.items ++ part = grind (arith, common_steps) in
       rw kept (Takes-append _ _ _ _ _ c.loop-count.invariant.taken c.in-Ok.ensures.bytes);
   sound = λ h. c.in-Ok.ensures.stays_sound (c.loop-count.invariant.sound h);
   no_fault = omega (arith, c.in-Ok.ensures.no_fault, c.loop-count.invariant.no_fault);

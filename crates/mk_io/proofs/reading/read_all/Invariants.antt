@@ -1,4 +1,4 @@
-use Rattle.std.proofs.Common.{◌≡◌, ◌+◌, ◌-◌, ◌≤◌, vec_len, true}
+use Rattle.std.proofs.Common.{true, vec_len, ◌+◌, ◌-◌, ◌≡◌, ◌≤◌}
 use Rattle.mk_io.specs.Bytes.{Takes, longest_input}
 use Rattle.mk_io.proofs.reading.read_all.Given as goal
 

@@ -1,4 +1,4 @@
-use Rattle.std.proofs.Common.{◌≡◌, ◌+◌, true, subst, arith, length-drop}
+use Rattle.std.proofs.Common.{arith, length-drop, subst, true, ◌+◌, ◌≡◌}
 use Rattle.mk_io.proofs.Told.{Appends-next}
 use Rattle.mk_io.proofs.writing.write_all.Goals as goal
 

@@ -1,4 +1,4 @@
-use Rattle.std.proofs.Common.{◌≡◌, length, ◌-◌, ◌≤◌, take}
+use Rattle.std.proofs.Common.{length, take, ◌-◌, ◌≡◌, ◌≤◌}
 use Rattle.mk_io.specs.Bytes.{Appends, KeepsRoom}
 use Rattle.mk_io.proofs.writing.write_all.Given as goal
 

@@ -1,6 +1,6 @@
-use Rattle.std.proofs.Common.{◌≡◌, ◌+◌, ◌*◌, ◌≤◌, ◌++◌, drop}
-use Rattle.std.specs.Prelude.{string_bytes}
-use Rattle.mk_outputs.specs.SummedTexts.{lines_from, all_ops}
+use Rattle.std.proofs.Common.{string_bytes}
+use Rattle.mk_laws.proofs.Vocabulary.{drop, ◌*◌, ◌++◌, ◌+◌, ◌≡◌, ◌≤◌}
+use Rattle.mk_outputs.specs.SummedTexts.{all_ops, lines_from}
 use Rattle.mk_outputs.proofs.generating.summary_of.Given as goal
 
 abbrev pub invariant-loop-text : goal.invariant-loop-text

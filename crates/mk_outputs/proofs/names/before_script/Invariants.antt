@@ -1,4 +1,4 @@
-use Rattle.std.proofs.Common.{◌≡◌, ◌++◌, take, drop}
+use Rattle.mk_laws.proofs.Vocabulary.{drop, take, ◌++◌, ◌≡◌}
 use Rattle.mk_check.specs.Blocks.{before_next_script}
 use Rattle.mk_outputs.proofs.names.before_script.Given as goal
 

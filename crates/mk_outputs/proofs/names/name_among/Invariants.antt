@@ -1,5 +1,4 @@
-use Rattle.std.proofs.Common.{◌≡◌, [], drop}
-use Rattle.std.specs.Prelude.{slice_index_or}
+use Rattle.mk_laws.proofs.Vocabulary.{drop, slice_index_or, [], ◌≡◌}
 use Rattle.mk_outputs.specs.DeclaredNames.{names_of}
 use Rattle.mk_outputs.proofs.names.name_among.Given as goal
 

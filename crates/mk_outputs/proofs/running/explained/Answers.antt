@@ -1,10 +1,9 @@
-use Rattle.std.proofs.Common.{List, ◌++◌, ap, ◌∙◌}
 use Rattle.std.specs.List.{flat_map}
-use Rattle.mk_script.specs.declared.items.Item.{Item}
+use Rattle.mk_laws.proofs.Vocabulary.{List, ap, ◌++◌, ◌∙◌}
 use Rattle.mk_check.specs.declared.text.Text.{Text}
+use Rattle.mk_outputs.{proofs.PrintedTexts.run_is_explained, specs.KeptText.kept_text}
+use Rattle.mk_script.specs.declared.items.Item.{Item}
 use Rattle.mk_why.specs.declared.kept.Kept.{Kept}
-use Rattle.mk_outputs.specs.KeptText.{kept_text}
-use Rattle.mk_outputs.proofs.PrintedTexts.{run_is_explained}
 use Rattle.mk_outputs.proofs.running.explained.Goals as goal
 
 pub returns : goal.returns

@@ -1,10 +1,8 @@
-use Rattle.std.proofs.Common.{ap, ◌∙◌, false}
-use Rattle.std.proofs.lemmas.Result.{IfOk-weaker}
-use Rattle.std.specs.List.{flat_map}
-use Rattle.mk_check.specs.declared.text.Text.{Text}
-use Rattle.mk_check.specs.Output.{output}
-use Rattle.mk_run.specs.Headline.{StandsInOneHistory}
+use Rattle.std.{proofs.lemmas.Result.IfOk-weaker, specs.List.flat_map}
+use Rattle.mk_laws.proofs.Vocabulary.{ap, false, ◌∙◌}
+use Rattle.mk_check.specs.{Output.output, declared.text.Text.Text}
 use Rattle.mk_outputs.proofs.PrintedTexts.{run_is_printed}
+use Rattle.mk_run.specs.Headline.{StandsInOneHistory}
 use Rattle.mk_outputs.proofs.running.printed.Goals as goal
 
 pub returns : goal.returns

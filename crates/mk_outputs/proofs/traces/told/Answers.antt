@@ -1,6 +1,6 @@
 use Rattle.std.proofs.lemmas.Result.{IfOk-weaker}
-use Rattle.mk_trace.specs.Playing.{history_of}
 use Rattle.mk_outputs.specs.Outputs.{TellsOfPlay}
+use Rattle.mk_trace.specs.Playing.{history_of}
 use Rattle.mk_outputs.proofs.traces.told.Goals as goal
 
 pub returns : goal.returns

@@ -1,8 +1,7 @@
-use Rattle.std.proofs.Common.{◌≡◌, ◌≤◌, ◌-◌, ℕ, List, [], ◌∷◌, length, get_or, take, drop, Bor, ap, refl, sym, ◌∙◌}
-use Rattle.std.proofs.Common.{arith}
-use Rattle.std.proofs.lemmas.List.{take_all, length-drop}
-use Rattle.mk_replay.proofs.Vocabulary.{texts_of, value_among}
-use Rattle.mk_replay.specs.Forms.{form_of, with_table_word, forms_of_word}
+use Rattle.mk_replay.proofs.Vocabulary.{Bor, form_of, length-drop, take_all, texts_of, value_among}
+use Rattle.mk_laws.proofs.Vocabulary.{List, ℕ, ap, arith, drop, get_or, length, refl, sym, take, [], ◌-◌, ◌∙◌, ◌∷◌, ◌≡◌}
+use Rattle.mk_laws.proofs.Vocabulary.{◌≤◌}
+use Rattle.mk_replay.specs.Forms.{forms_of_word, with_table_word}
 use Rattle.mk_replay.proofs.forms.form.Goals as goal
 
 -- more than three words

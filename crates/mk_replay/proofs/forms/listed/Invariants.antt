@@ -1,5 +1,5 @@
-use Rattle.std.proofs.Common.{◌≡◌, map, drop}
 use Rattle.mk_replay.proofs.Vocabulary.{value_among}
+use Rattle.mk_laws.proofs.Vocabulary.{drop, map, ◌≡◌}
 use Rattle.mk_replay.proofs.forms.listed.Given as goal
 
 -- the entries that are left decide

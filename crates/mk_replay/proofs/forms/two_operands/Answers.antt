@@ -1,7 +1,7 @@
-use Rattle.std.proofs.Common.{sym, ap, ◌∙◌}
-use lib.Dec.{eqb}
-use lib.Pointwise.{pointwise}
+use Rattle.std.proofs.Common.{eqb}
+use Rattle.mk_laws.proofs.Vocabulary.{ap, sym, ◌∙◌}
 use Rattle.mk_replay.proofs.ListedForms.{first_is_no_number, refused}
+use lib.Pointwise.{pointwise}
 use Rattle.mk_replay.proofs.forms.two_operands.Goals as goal
 
 pub returns-in_err-first-in-Ok : goal.returns-in_err-first-in-Ok

@@ -1,5 +1,5 @@
-use Rattle.std.proofs.Common.{◌∙◌}
-use Rattle.mk_replay.proofs.Pieces.{glue_first, goes_on, ends, no_end, tested}
+use Rattle.mk_laws.proofs.Vocabulary.{◌∙◌}
+use Rattle.mk_replay.proofs.Pieces.{ends, glue_first, goes_on, no_end, tested}
 use Rattle.mk_replay.proofs.lines.end_of_piece.Goals as goal
 
 pub loop-end-init : goal.loop-end-init

@@ -1,4 +1,4 @@
-use Rattle.std.proofs.Common.{◌≡◌, ◌++◌, ◌+◌, drop}
+use Rattle.mk_laws.proofs.Vocabulary.{drop, ◌++◌, ◌+◌, ◌≡◌}
 use Rattle.mk_replay.specs.Schedules.{entries_from}
 use Rattle.mk_replay.proofs.lines.push_entries.Given as goal
 

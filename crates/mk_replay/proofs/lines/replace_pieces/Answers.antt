@@ -1,4 +1,4 @@
-use Rattle.std.proofs.Common.{arith}
+use Rattle.mk_laws.proofs.Vocabulary.{arith}
 use Rattle.mk_replay.proofs.lines.replace_pieces.Goals as goal
 
 pub overflow_add-rest : goal.overflow_add-rest

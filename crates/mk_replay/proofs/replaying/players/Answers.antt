@@ -1,6 +1,5 @@
-use Rattle.std.proofs.Common.{[], ℕ, sym, subst, rules}
-use Rattle.std.specs.Prelude.{None}
-use Rattle.mk_replay.proofs.Vocabulary.{ArePlayersOf, IsPlayerOf}
+use Rattle.mk_replay.proofs.Vocabulary.{ArePlayersOf, IsPlayerOf, rules}
+use Rattle.mk_laws.proofs.Vocabulary.{None, ℕ, subst, sym, []}
 use Rattle.mk_replay.proofs.RunLaws.{players_push}
 use Rattle.mk_replay.proofs.replaying.players.Goals as goal
 

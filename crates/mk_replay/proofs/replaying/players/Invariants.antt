@@ -1,5 +1,5 @@
-use Rattle.std.proofs.Common.{◌≡◌, [], length}
 use Rattle.mk_replay.proofs.Vocabulary.{ArePlayersOf}
+use Rattle.mk_laws.proofs.Vocabulary.{length, [], ◌≡◌}
 use Rattle.mk_replay.proofs.replaying.players.Given as goal
 
 abbrev pub invariant-loop-script : goal.invariant-loop-script

@@ -1,7 +1,6 @@
-use Rattle.std.proofs.Common.{◌≡◌, Some, None, arith}
-use Rattle.std.specs.List.{position_from}
 use Rattle.std.proofs.lemmas.Grind.{common_steps}
-use Rattle.mk_replay.proofs.Vocabulary.{is_schedule_line, texts_of}
+use Rattle.mk_replay.proofs.Vocabulary.{is_schedule_line, position_from, texts_of}
+use Rattle.mk_laws.proofs.Vocabulary.{None, Some, arith, ◌≡◌}
 use Rattle.mk_replay.proofs.ScheduleLine.{found_first, found_none}
 use Rattle.mk_replay.proofs.schedule_parsing.schedule_place.Goals as goal
 

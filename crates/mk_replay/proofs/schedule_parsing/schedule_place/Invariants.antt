@@ -1,6 +1,5 @@
-use Rattle.std.proofs.Common.{◌≡◌, drop}
-use Rattle.std.specs.List.{position_from}
-use Rattle.mk_replay.proofs.Vocabulary.{is_schedule_line, texts_of}
+use Rattle.mk_replay.proofs.Vocabulary.{is_schedule_line, position_from, texts_of}
+use Rattle.mk_laws.proofs.Vocabulary.{drop, ◌≡◌}
 use Rattle.mk_replay.proofs.schedule_parsing.schedule_place.Given as goal
 
 -- the lines that are left decide

@@ -1,5 +1,5 @@
-use Rattle.std.proofs.Common.{◌≡◌, ◌+◌, drop}
 use Rattle.mk_replay.proofs.Vocabulary.{text_length, texts_of}
+use Rattle.mk_laws.proofs.Vocabulary.{drop, ◌+◌, ◌≡◌}
 use Rattle.mk_replay.proofs.schedule_parsing.text_length.Given as goal
 
 abbrev pub invariant-loop-line : goal.invariant-loop-line

@@ -1,5 +1,4 @@
-use Rattle.std.proofs.Common.{◌≡◌, take}
-use Rattle.mk_script.proofs.Vocabulary.{fields_of, texts_of}
+use Rattle.mk_script.proofs.Vocabulary.{fields_of, take, texts_of, ◌≡◌}
 use Rattle.mk_script.proofs.fields.type_words.Given as goal
 
 -- the words of the fields so far

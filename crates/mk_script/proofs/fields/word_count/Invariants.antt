@@ -1,5 +1,5 @@
-use Rattle.std.proofs.Common.{◌≡◌, ◌-◌, ◌^◌, min, length, take, drop}
-use Rattle.mk_script.proofs.Vocabulary.{are_fields, fields_of, texts_of}
+use Rattle.std.proofs.Common.{min}
+use Rattle.mk_script.proofs.Vocabulary.{are_fields, drop, fields_of, length, take, texts_of, ◌-◌, ◌^◌, ◌≡◌}
 use Rattle.mk_script.proofs.fields.word_count.Given as goal
 
 -- the fields so far have a form, and `count` counts their words

@@ -1,6 +1,4 @@
-use Rattle.std.proofs.Common.{arith, sym}
-use Rattle.std.proofs.lemmas.List.{length-map}
-use Rattle.mk_script.proofs.Vocabulary.{texts_of}
+use Rattle.mk_script.proofs.Vocabulary.{arith, length-map, sym, texts_of}
 use Rattle.mk_script.proofs.NoForm.{of_no_form}
 use Rattle.mk_script.proofs.forms.item.Goals as goal
 

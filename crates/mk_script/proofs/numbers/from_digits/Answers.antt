@@ -1,5 +1,5 @@
-use Rattle.std.proofs.Common.{sym, ◌∙◌, arith}
-use Rattle.mk_script.proofs.Digits.{too_great, from_all}
+use Rattle.mk_script.proofs.Vocabulary.{arith, sym, ◌∙◌}
+use Rattle.mk_script.proofs.Digits.{from_all, too_great}
 use Rattle.mk_script.proofs.numbers.from_digits.Goals as goal
 
 pub returns-in_err-checked_mul : goal.returns-in_err-checked_mul

@@ -1,6 +1,4 @@
-use Rattle.std.proofs.Common.{◌≡◌, ◌<◌, ◌^◌, drop}
-use Rattle.std.specs.Str.{all_ascii_digits}
-use Rattle.mk_script.proofs.Vocabulary.{value_from}
+use Rattle.mk_script.proofs.Vocabulary.{all_ascii_digits, drop, value_from, ◌<◌, ◌^◌, ◌≡◌}
 use Rattle.mk_script.proofs.numbers.from_digits.Given as goal
 
 -- the digits so far are digits, and `value` is what they stand for

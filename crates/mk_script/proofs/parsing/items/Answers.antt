@@ -1,10 +1,8 @@
-use Rattle.std.proofs.Common.{◌≡◌, ◌≢◌, ◌<◌, ◌+◌, Err, length, ◌∙◌, ap, sym, arith}
-use Rattle.std.proofs.lemmas.Bool.Decides.{nat_tests}
-use Rattle.std.proofs.lemmas.List.{at_drop_all, length-append}
-use Rattle.mk_script.proofs.Vocabulary.{at_end, Item, items_behind, items_of_lines, lines_of, texts_of}
-use Rattle.mk_script.specs.declared.faults.TextStop.TheVariants.{NoMemory}
-use Rattle.mk_script.specs.Stops.{stop_at}
-use Rattle.mk_script.proofs.Reading.{step, stops_at, whole, ended_well, ended_badly}
+use Rattle.std.proofs.lemmas.List.{at_drop_all}
+use Rattle.mk_script.proofs.Vocabulary.{Err, Item, ap, arith, at_end, items_behind, items_of_lines, length}
+use Rattle.mk_script.proofs.Vocabulary.{length-append, lines_of, nat_tests, sym, texts_of, ◌+◌, ◌<◌, ◌∙◌, ◌≡◌, ◌≢◌}
+use Rattle.mk_script.proofs.Reading.{ended_badly, ended_well, step, stops_at, whole}
+use Rattle.mk_script.specs.{Stops.stop_at, declared.faults.TextStop.TheVariants.NoMemory}
 use Rattle.mk_script.proofs.parsing.items.Goals as goal
 
 pub loop-index-preserved : goal.loop-index-preserved

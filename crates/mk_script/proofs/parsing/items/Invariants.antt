@@ -1,5 +1,4 @@
-use Rattle.std.proofs.Common.{◌≡◌, [], drop, length}
-use Rattle.mk_script.proofs.Vocabulary.{items_behind, texts_of}
+use Rattle.mk_script.proofs.Vocabulary.{drop, items_behind, length, texts_of, [], ◌≡◌}
 use Rattle.mk_script.specs.ScopeOf.{IsScopeOf}
 use Rattle.mk_script.proofs.parsing.items.Given as goal
 

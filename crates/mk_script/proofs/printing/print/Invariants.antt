@@ -1,5 +1,4 @@
-use Rattle.std.proofs.Common.{◌≡◌, take}
-use Rattle.mk_script.proofs.Vocabulary.{canonical_text}
+use Rattle.mk_script.proofs.Vocabulary.{canonical_text, take, ◌≡◌}
 use Rattle.mk_script.proofs.printing.print.Given as goal
 
 abbrev pub invariant-loop-item : goal.invariant-loop-item

@@ -1,5 +1,4 @@
-use Rattle.std.proofs.Common.{◌≡◌, not, filter}
-use Rattle.mk_script.proofs.Vocabulary.{is_empty, texts_of}
+use Rattle.mk_script.proofs.Vocabulary.{filter, is_empty, not, texts_of, ◌≡◌}
 use Rattle.mk_script.proofs.splitting.replace_words.Given as goal
 
 -- the words so far, of the pieces so far

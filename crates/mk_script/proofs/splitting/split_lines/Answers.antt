@@ -1,8 +1,8 @@
-use Rattle.std.proofs.Common.{◌≡◌, ◌-◌, ◌<◌, ◌==◌, true, false, length, get_or, take, ap, sym, ◌∙◌, arith}
-use Rattle.mk_script.proofs.Vocabulary.{texts_of, without_empty_last}
+use Rattle.mk_script.proofs.Vocabulary.{ap, arith, false, get_or, length, sym, take, texts_of, true, without_empty_last}
+use Rattle.mk_script.proofs.Vocabulary.{◌-◌, ◌<◌, ◌==◌, ◌∙◌, ◌≡◌}
 use Rattle.mk_script.proofs.LastPiece.{with_last, without_last}
+use Rattle.mk_script.proofs.splitting.split_lines.Goals.{else-is_empty, then-is_empty}
 use Rattle.mk_script.proofs.splitting.split_lines.Goals as goal
-use Rattle.mk_script.proofs.splitting.split_lines.Goals.{then-is_empty, else-is_empty}
 
 pub returns : goal.returns
 returns c =

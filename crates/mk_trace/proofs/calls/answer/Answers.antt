@@ -1,25 +1,22 @@
-use Rattle.std.proofs.Common.{◌∙◌, arith, subst, sym}
 use Rattle.mk_trace.proofs.Vocabulary.{IsHistory, WordsState}
-use Rattle.mk_trace.proofs.ExactPlays.{exact_over}
+use Rattle.mk_laws.proofs.Vocabulary.{arith, subst, sym, ◌∙◌}
 use Rattle.mk_trace.proofs.LedgerCalls.{ends_over, held_beside, keeps_behind, keeps_beside}
+use Rattle.mk_trace.proofs.ExactPlays.{exact_over}
 use Rattle.mk_trace.proofs.calls.answer.Goals as goal
 
 -- under the turn
 
 pub returns-in_ok-settle-clause-keeps : goal.returns-in_ok-settle-clause-keeps
 returns-in_ok-settle-clause-keeps g c =
-    keeps_behind c.args.heap.now.config c.args.host.now.pass.seen c.object_to_free-freed.new.host.pass.seen
-    c.call-told.new.host.pass.seen c.look-now.new.host.pass.seen c.settle.new.host.pass.seen c.args.op
-    c.args.ledger.now.freed c.note.new.self c.settle.new.freed c.object_to_free-freed.result
-    c.object_to_free-freed.ensures.looks
-    (subst (λ (x : WordsState). IsHistory x.config c.object_to_free-freed.new.host.pass.seen)
-    c.object_to_free-freed.ensures.home.table c.is_in_order.ensures.history)
+    keeps_behind _ _ c.object_to_free-freed.new.host.pass.seen c.call-told.new.host.pass.seen
+    c.look-now.new.host.pass.seen _ _ _ c.note.new.self _ c.object_to_free-freed.result
+    c.object_to_free-freed.ensures.looks (subst (λ (x : WordsState). IsHistory x.config
+    c.object_to_free-freed.new.host.pass.seen) c.object_to_free-freed.ensures.home.table c.is_in_order.ensures.history)
     (subst (λ (x : WordsState). IsHistory x.config c.call-told.new.host.pass.seen) c.call-told.ensures.home.table
-    c.is_in_order-then-is_under_turn.ensures.history)
-    c.requires.few c.requires.idle (c.call-told.ensures.ends c.requires.off) c.call-told.ensures.quarantines
-    c.call-told.ensures.flags
-    c.look-now.ensures.looks c.settle.ensures.looks c.object_to_free-freed.ensures.finds c.requires.keeps
-    c.in_ok-note.ensures c.in_ok-settle.ensures.settles
+    c.is_in_order-then-is_under_turn.ensures.history) c.requires.few c.requires.idle (c.call-told.ensures.ends
+    c.requires.off) c.call-told.ensures.quarantines c.call-told.ensures.flags c.look-now.ensures.looks
+    c.settle.ensures.looks c.object_to_free-freed.ensures.finds c.requires.keeps c.in_ok-note.ensures
+    c.in_ok-settle.ensures.settles
 
 pub returns-in_ok-settle-clause-ends : goal.returns-in_ok-settle-clause-ends
 returns-in_ok-settle-clause-ends g c =
@@ -28,10 +25,9 @@ returns-in_ok-settle-clause-ends g c =
 
 pub returns-in_ok-settle-clause-exact : goal.returns-in_ok-settle-clause-exact
 returns-in_ok-settle-clause-exact g c =
-    exact_over c.args.heap.now.config c.args.host.now.pass.seen c.object_to_free-freed.new.host.pass.seen
-    c.call-told.new.host.pass.seen c.look-now.new.host.pass.seen c.settle.new.host.pass.seen
-    c.object_to_free-freed.ensures.looks.exact (c.call-told.ensures.exact c.requires.off c.requires.unswept)
-    c.look-now.ensures.looks.exact c.settle.ensures.looks.exact
+    exact_over _ _ c.object_to_free-freed.new.host.pass.seen c.call-told.new.host.pass.seen
+    c.look-now.new.host.pass.seen _ c.object_to_free-freed.ensures.looks.exact (c.call-told.ensures.exact c.requires.off
+    c.requires.unswept) c.look-now.ensures.looks.exact c.settle.ensures.looks.exact
 
 -- beside it
 

@@ -1,23 +1,19 @@
-use Rattle.std.proofs.Common.{◌∙◌, ap, subst, sym}
 use Rattle.mk_trace.proofs.Vocabulary.{CallerState, Grows, HasAll, HostState, IsHistory, PassState, StayExact}
 use Rattle.mk_trace.proofs.Vocabulary.{SweepsNothing, WordsState}
+use Rattle.mk_laws.proofs.Vocabulary.{ap, subst, sym, ◌∙◌}
 use Rattle.mk_run.specs.Scripts.{Answers}
-use Rattle.mk_trace.proofs.ExactPlays.{call_stays_exact}
 use Rattle.mk_trace.proofs.FreedCalls.{Does, call_does}
-use Rattle.mk_trace.proofs.JoinedCalls.{Joined}
-use Rattle.mk_trace.proofs.OneCaller.{joined_home, made_seats, made_alone, made_exists, made_admits}
+use Rattle.mk_trace.proofs.OneCaller.{joined_home, made_admits, made_alone, made_exists, made_seats}
+use Rattle.mk_trace.proofs.{ExactPlays.call_stays_exact, JoinedCalls.Joined, calls.call.Goals.After-is_in_order}
 use Rattle.mk_trace.proofs.calls.call.Goals as goal
-use Rattle.mk_trace.proofs.calls.call.Goals.{After-is_in_order}
 
 pub answer_to-answer-requires-clause-exists : goal.answer_to-answer-requires-clause-exists
 answer_to-answer-requires-clause-exists g c κs within =
-    made_exists c.args.heap.now c.args.host.now c.requires.home c.caller_again-caller.result
-    c.caller_again-caller.ensures.caller
+    made_exists _ _ c.requires.home c.caller_again-caller.result c.caller_again-caller.ensures.caller
 
 pub answer_to-answer-requires-clause-alone : goal.answer_to-answer-requires-clause-alone
 answer_to-answer-requires-clause-alone g c κs within =
-    made_alone c.args.heap.now c.args.host.now c.requires.home c.caller_again-caller.result
-    c.caller_again-caller.ensures.caller
+    made_alone _ _ c.requires.home c.caller_again-caller.result c.caller_again-caller.ensures.caller
 
 pub answer_to-answer-requires-clause-admitted : goal.answer_to-answer-requires-clause-admitted
 answer_to-answer-requires-clause-admitted g c κs within =
@@ -26,12 +22,10 @@ answer_to-answer-requires-clause-admitted g c κs within =
 
 pub returns-clause-home : goal.returns-clause-home
 returns-clause-home g c =
-    joined_home c.caller_again-caller.new.self c.join_caller.new.self c.finish.result
-    c.requires.home c.caller_again-caller.ensures.host c.join_caller.ensures.host
-    (ap (λ (p : PassState). p.seats) c.finish.ensures.pass
-    ∙ ap (λ (p : PassState). p.seats) c.answer_to-answer.ensures.answers.is
-    ∙ made_seats c.args.heap.now c.args.host.now c.requires.home c.caller_again-caller.result
-    c.caller_again-caller.ensures.caller) c.join_caller.ensures.overs
+    joined_home c.caller_again-caller.new.self c.join_caller.new.self c.finish.result c.requires.home
+    c.caller_again-caller.ensures.host c.join_caller.ensures.host (ap (λ (p : PassState). p.seats) c.finish.ensures.pass
+    ∙ ap (λ (p : PassState). p.seats) c.answer_to-answer.ensures.answers.is ∙ made_seats _ _ c.requires.home
+    c.caller_again-caller.result c.caller_again-caller.ensures.caller) c.join_caller.ensures.overs
 
 -- The caller was made again, and is joined.
 joined : (g : _) (c : After-is_in_order g)

@@ -1,12 +1,10 @@
-use Rattle.std.proofs.Common.{ℕ, ◌∙◌, Bool, List, false, get_or, ap, arith, subst, sym}
-use Rattle.std.specs.Prelude.{◌||◌}
 use Rattle.std.proofs.lemmas.List.{get_or_default}
 use Rattle.mk_trace.proofs.Vocabulary.{Op, never_behind}
+use Rattle.mk_laws.proofs.Vocabulary.{Bool, List, ℕ, ap, arith, false, get_or, subst, sym, ◌||◌, ◌∙◌}
 use Rattle.mk_never.specs.declared.operations.Op.TheVariants.{New}
-use Rattle.mk_trace.specs.Freeing.{FreesSlot}
-use Rattle.mk_trace.proofs.FreedSlots.{frees_now}
 use Rattle.mk_trace.proofs.LaterOps.{called_all, called_first, called_one_more, may_come_now}
-use Rattle.mk_trace.proofs.FewEvents.{few_later}
+use Rattle.mk_trace.proofs.{FewEvents.few_later, FreedSlots.frees_now}
+use Rattle.mk_trace.specs.Freeing.{FreesSlot}
 use Rattle.mk_trace.proofs.calls.refuses.Goals as goal
 
 pub loop-op-init : goal.loop-op-init
@@ -77,10 +75,9 @@ loop-op-preserved g c =
       keeps = c.in_ok-later.ensures.keeps;
       exact = λ before. c.in_ok-later.ensures.exact (c.loop-op.invariant.exact before);
       calls =
-          called_one_more c.args.heap.now.config c.args.host.now.pass.seen c.args.event ops i c.loop-op.refused
-          c.loop-op.host.pass.seen c.loop-op.invariant.calls o c.loop-op-test.true there c.in_ok-later.later
-          c.answer-in-loop-op.new.host.pass.seen _ c.in_ok-later.ensures.calls
-          (ap (λ (b : Bool). c.loop-op.refused || b) c.is_refusal-also.ensures);
+          called_one_more _ _ _ ops i c.loop-op.refused c.loop-op.host.pass.seen c.loop-op.invariant.calls o
+          c.loop-op-test.true there c.in_ok-later.later c.answer-in-loop-op.new.host.pass.seen _
+          c.in_ok-later.ensures.calls (ap (λ (b : Bool). c.loop-op.refused || b) c.is_refusal-also.ensures);
     }
 
 pub returns-clause-plays : goal.returns-clause-plays

@@ -1,5 +1,5 @@
-use Rattle.std.proofs.Common.{◌≡◌, ◌+◌, ◌≤◌, length}
 use Rattle.mk_trace.proofs.Vocabulary.{CallerIsHome, IsBetweenCycles, Keeps, StayExact, ends, most_held}
+use Rattle.mk_laws.proofs.Vocabulary.{length, ◌+◌, ◌≡◌, ◌≤◌}
 use Rattle.mk_trace.proofs.LaterOps.{AreCalled}
 use Rattle.mk_trace.proofs.calls.refuses.Given as goal
 

@@ -1,5 +1,5 @@
-use Rattle.std.proofs.Common.{◌≡◌, ◌-◌, ◌++◌, length}
-use Rattle.std.specs.List.{range_with_len}
+use Rattle.mk_laws.proofs.Vocabulary.{length, ◌++◌, ◌-◌, ◌≡◌}
+use Rattle.mk_trace.proofs.Vocabulary.{range_with_len}
 use Rattle.mk_trace.proofs.configs.slot_globals.Given as goal
 
 -- the globals so far, and those that are left

@@ -1,7 +1,6 @@
-use Rattle.std.proofs.Common.{◌-◌, ℕ, ◌≤◌, ◌<◌, [], ◌∷◌, ◌++◌, List, replicate, ◌∙◌, ap, arith}
 use Rattle.std.proofs.lemmas.List.{replicate_more}
-use Rattle.mk_trace.proofs.Vocabulary.{Kind, To}
-use Rattle.mk_never.specs.declared.types.Kind.TheVariants.{Num}
+use Rattle.mk_trace.proofs.Vocabulary.{Kind, To, replicate}
+use Rattle.mk_laws.proofs.Vocabulary.{List, Number as Num, ℕ, ap, arith, [], ◌++◌, ◌-◌, ◌<◌, ◌∙◌, ◌∷◌, ◌≤◌}
 use Rattle.mk_trace.proofs.configs.slot_type.Goals as goal
 
 pub loop-word-preserved : goal.loop-word-preserved

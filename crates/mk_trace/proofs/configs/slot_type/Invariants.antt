@@ -1,6 +1,5 @@
-use Rattle.std.proofs.Common.{◌≡◌, ◌-◌, ◌≤◌, ◌∷◌, replicate}
-use Rattle.mk_trace.proofs.Vocabulary.{To}
-use Rattle.mk_never.specs.declared.types.Kind.TheVariants.{Num}
+use Rattle.mk_trace.proofs.Vocabulary.{To, replicate}
+use Rattle.mk_laws.proofs.Vocabulary.{Number as Num, ◌-◌, ◌∷◌, ◌≡◌, ◌≤◌}
 use Rattle.mk_trace.proofs.configs.slot_type.Given as goal
 
 -- a pointer, and a number for each word so far

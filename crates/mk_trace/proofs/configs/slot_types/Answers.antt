@@ -1,6 +1,6 @@
-use Rattle.std.proofs.Common.{◌+◌, ◌++◌, [], ◌∷◌, drop, List, ◌∙◌, ap, sym, append_assoc, append-nil}
-use Rattle.std.proofs.lemmas.List.{at_drop_more, at_drop_all}
-use Rattle.mk_trace.proofs.Vocabulary.{Kind, types_from}
+use Rattle.std.proofs.lemmas.List.{at_drop_all}
+use Rattle.mk_trace.proofs.Vocabulary.{Kind, at_drop_more, types_from}
+use Rattle.mk_laws.proofs.Vocabulary.{List, ap, append-nil, append_assoc, drop, sym, [], ◌++◌, ◌+◌, ◌∙◌, ◌∷◌}
 use Rattle.mk_trace.proofs.configs.slot_types.Goals as goal
 
 pub loop-slot-preserved : goal.loop-slot-preserved
@@ -20,6 +20,4 @@ returns c =
     let slots = c.args.slots.now in
     let i = c.loop-slot.slot in
     let old : List (List Kind) = c.loop-slot.types in
-    sym (append-nil old)
-    ∙ sym (ap (λ (l : List (List Kind)). old ++ l) (at_drop_all (types_from i) slots i c.loop-slot-test.false))
-    ∙ c.loop-slot.invariant
+    cc (append-nil old, at_drop_all (types_from i) slots i c.loop-slot-test.false, c.loop-slot.invariant)

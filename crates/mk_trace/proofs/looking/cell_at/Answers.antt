@@ -1,5 +1,5 @@
-use Rattle.std.proofs.Common.{◌≡◌, ℕ, false, ◌∙◌, ap, subst}
 use Rattle.mk_trace.proofs.Vocabulary.{WordsState, cell_at, header_at, is_heap_address, left}
+use Rattle.mk_laws.proofs.Vocabulary.{ℕ, ap, false, subst, ◌∙◌, ◌≡◌}
 use Rattle.mk_trace.proofs.FoundCells.{cell_found, nothing_found}
 use Rattle.mk_trace.proofs.looking.cell_at.Goals as goal
 
@@ -14,6 +14,5 @@ pub returns-clause-finds : goal.returns-clause-finds
 returns-clause-finds g c =
     let w = (left c.args.heap.now.config c.args.host.now.pass.seen).now.words in
     let pages = c.pages-pages.ensures ∙ ap (λ (x : WordsState). x.config.pages) c.words.ensures in
-    cell_found c.args.heap.now.config.pages w c.args.address c.look-header.result c.lookup.result
-    (c.look-header.ensures.tells ∙ ap (header_at w) c.in_ok-page.ensures.page)
-    (c.lookup.ensures ∙ ap (λ (n : ℕ). cell_at n c.look-header.result c.args.address) pages)
+    cell_found _ w c.args.address c.look-header.result c.lookup.result (c.look-header.ensures.tells ∙ ap (header_at w)
+    c.in_ok-page.ensures.page) (c.lookup.ensures ∙ ap (λ (n : ℕ). cell_at n c.look-header.result c.args.address) pages)

@@ -1,13 +1,10 @@
-use Rattle.std.proofs.Common.{◌≡◌, ℕ, ◌∙◌, ap, arith, subst, sym}
-use Rattle.std.specs.Prelude.{not, nat_le, if◌then◌else◌, slice_index}
-use Rattle.std.proofs.lemmas.Bool.Decides.{nat_tests}
-use Rattle.mk_trace.proofs.Vocabulary.{HostOnlyLooks, IsHistory, WordsState, left, pointed_cell}
-use Rattle.mk_geom.specs.Headers.{header_of}
-use Rattle.mk_core.specs.Cells.{words_under}
+use Rattle.mk_trace.proofs.Vocabulary.{HostOnlyLooks, IsHistory, WordsState, left, nat_tests, pointed_cell}
+use Rattle.mk_laws.proofs.Vocabulary.{ℕ, ap, arith, header_of, if◌then◌else◌, nat_le, not, slice_index, subst, sym}
+use Rattle.mk_laws.proofs.Vocabulary.{words_under, ◌∙◌, ◌≡◌}
 use Rattle.mk_trace.proofs.FoundCells.{cell_within, freed_looked, freed_object, header_looked, looks_twice, no_object}
 use Rattle.mk_trace.proofs.FoundCells.{pointed_looked, unfreed_object}
+use Rattle.mk_trace.proofs.looking.object_of_slot.Goals.{After-cell_at, After-is_in_order, After-is_quarantined}
 use Rattle.mk_trace.proofs.looking.object_of_slot.Goals as goal
-use Rattle.mk_trace.proofs.looking.object_of_slot.Goals.{After-is_in_order, After-cell_at, After-is_quarantined}
 
 -- Between the looks nothing changes, so the cell that was found is the one that the slot points into.
 
@@ -50,10 +47,9 @@ look-header-requires-clause-word g c =
 pub returns-then-is_quarantined-clause-finds : goal.returns-then-is_quarantined-clause-finds
 returns-then-is_quarantined-clause-finds g c =
     let x = goal.at.returns-then-is_quarantined-clause-finds g c in
-    freed_object c.args.heap.now.config c.args.host.now.pass.seen (before g x.After-is_in_order) c.args.slot
-    c.requires.idle c.in-Some.cell (sym c.in-Some.is ∙ found g x.After-cell_at)
-    (sym c.if-is_quarantined.true ∙ c.is_quarantined.ensures.finds ∙ freed_looked
-    (looked_last g x.After-is_quarantined) c.in-Some.cell)
+    freed_object _ _ (before g x.After-is_in_order) c.args.slot c.requires.idle c.in-Some.cell (sym c.in-Some.is ∙ found
+    g x.After-cell_at) (sym c.if-is_quarantined.true ∙ c.is_quarantined.ensures.finds ∙ freed_looked (looked_last g
+    x.After-is_quarantined) c.in-Some.cell)
 
 pub returns-else-is_quarantined-clause-finds : goal.returns-else-is_quarantined-clause-finds
 returns-else-is_quarantined-clause-finds g c =

@@ -1,5 +1,5 @@
-use Rattle.std.proofs.Common.{◌<◌, length, ◌∙◌, ap, arith}
 use Rattle.mk_trace.proofs.Vocabulary.{contents_of, texts_of}
+use Rattle.mk_laws.proofs.Vocabulary.{ap, arith, length, ◌<◌, ◌∙◌}
 use Rattle.mk_trace.proofs.ReadLines.{read_whole, stops_whole}
 use Rattle.mk_trace.proofs.parsing.parse_trace.Goals as goal
 
@@ -17,7 +17,6 @@ pub returns-clause-fault : goal.returns-clause-fault
 returns-clause-fault c =
     let lines = c.as_slice.result.now in
     let some : 0 < length lines = omega (arith, c.in-len1-up.len_at_least) in
-    stops_whole c.at_end.result (contents_of c.in_ok-heap.heap c.in_ok-draft.draft) _
-    (read_whole c.args.bytes.now lines _ c.in_ok-heap.heap c.in_ok-draft.draft c.if-bytes-gt-TEXT_LIMIT.false
-    (ap texts_of c.as_slice.ensures.value
-    ∙ c.in_ok-lines.ensures) some c.in_ok-heap.ensures.heap c.in_ok-draft.ensures.draft) c.at_end.ensures.fault
+    stops_whole c.at_end.result _ _ (read_whole _ lines _ c.in_ok-heap.heap c.in_ok-draft.draft
+    c.if-bytes-gt-TEXT_LIMIT.false (ap texts_of c.as_slice.ensures.value ∙ c.in_ok-lines.ensures) some
+    c.in_ok-heap.ensures.heap c.in_ok-draft.ensures.draft) c.at_end.ensures.fault

@@ -1,5 +1,5 @@
-use Rattle.std.proofs.Common.{◌≡◌, ◌++◌, drop}
 use Rattle.std.specs.String.{string_bytes}
+use Rattle.mk_laws.proofs.Vocabulary.{drop, ◌++◌, ◌≡◌}
 use Rattle.mk_trace.specs.Printed.{text_of_ages}
 use Rattle.mk_trace.proofs.peaks.push_ages.Given as goal
 

@@ -1,8 +1,6 @@
-use Rattle.std.proofs.Common.{◌∙◌, ap}
 use Rattle.mk_trace.proofs.Vocabulary.{CallerIsHome, CallerState, Config, HostState, WordsState}
-use Rattle.mk_trace.proofs.HeldCalls.{opened_empty}
-use Rattle.mk_trace.proofs.OneCaller.{first_home}
-use Rattle.mk_trace.proofs.Played.{first_seats, joined_first}
+use Rattle.mk_laws.proofs.Vocabulary.{ap, ◌∙◌}
+use Rattle.mk_trace.proofs.{HeldCalls.opened_empty, OneCaller.first_home, Played.first_seats, Played.joined_first}
 use Rattle.mk_trace.proofs.playing.opened.Goals as goal
 
 pub returns : goal.returns
@@ -24,8 +22,7 @@ returns c =
           c.caller.ensures.caller c.finish-caller.ensures.pass c.join_caller.ensures.came c.in_ok-heap.ensures.config
           c.requires.one home.table c.is_in_order.ensures.history;
       empty =
-          opened_empty w h c.caller.new.self c.finish-caller.result k c.args.config.now c.in_ok-heap.ensures.host
-          c.caller.ensures.host c.join_caller.ensures.own c.join_caller.ensures.came
-          (c.finish-caller.ensures.pass ∙ ap (λ (x : CallerState). x.pass) c.caller.ensures.caller)
-          c.in_ok-heap.ensures.config home.table c.is_in_order.ensures.history;
+          opened_empty w h c.caller.new.self c.finish-caller.result k _ c.in_ok-heap.ensures.host c.caller.ensures.host
+          c.join_caller.ensures.own c.join_caller.ensures.came (c.finish-caller.ensures.pass ∙ ap (λ (x : CallerState).
+          x.pass) c.caller.ensures.caller) c.in_ok-heap.ensures.config home.table c.is_in_order.ensures.history;
     }

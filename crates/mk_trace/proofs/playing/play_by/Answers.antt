@@ -1,11 +1,8 @@
-use Rattle.std.proofs.Common.{◌∙◌, ap, length, subst, sym}
 use Rattle.mk_trace.proofs.Vocabulary.{AllTurnsAreExact, Config, quarantined_words, reserved_words}
-use Rattle.mk_trace.proofs.ExactPlays.{first_exact}
-use Rattle.mk_trace.proofs.FewEvents.{none_ended}
+use Rattle.mk_laws.proofs.Vocabulary.{ap, length, subst, sym, ◌∙◌}
 use Rattle.mk_trace.proofs.LedgerCalls.{ages_of, first_held, first_idle, first_keeps, most_of, peaks_by}
-use Rattle.mk_trace.proofs.HeldCalls.{most_told}
-use Rattle.mk_trace.proofs.OneCaller.{home_joined}
 use Rattle.mk_trace.proofs.Played.{closed, refused_at}
+use Rattle.mk_trace.proofs.{ExactPlays.first_exact, FewEvents.none_ended, HeldCalls.most_told, OneCaller.home_joined}
 use Rattle.mk_trace.proofs.playing.play_by.Goals as goal
 
 pub close-report-requires-clause-joined : goal.close-report-requires-clause-joined
@@ -33,8 +30,7 @@ returns-clause-peaks g c =
     let keeps = c.in_ok-refused.ensures.keeps in
     record {
       events = ap length c.events.ensures.events;
-      refused =
-          refused_at _ c.close-report.ensures.history c.in_ok-refused.ensures.played;
+      refused = refused_at _ c.close-report.ensures.history c.in_ok-refused.ensures.played;
       of_history =
           peaks_by _ _
           (most_told trace d es _ c.held_at_most-held.result c.close-report.ensures.history at

@@ -1,6 +1,5 @@
-use Rattle.std.proofs.Common.{◌≡◌, ◌*◌, ◌≤◌, length}
-use Rattle.std.specs.Prelude.{take}
 use Rattle.mk_trace.proofs.Vocabulary.{CallerIsHome, IsBetweenCycles, Keeps, StayExact, ends, most_held}
+use Rattle.mk_laws.proofs.Vocabulary.{length, take, ◌*◌, ◌≡◌, ◌≤◌}
 use Rattle.mk_trace.specs.Calls.{HasPlayed}
 use Rattle.mk_trace.proofs.playing.play_events.Given as goal
 

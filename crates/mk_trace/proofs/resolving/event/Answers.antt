@@ -1,13 +1,11 @@
-use Rattle.std.proofs.Common.{◌<◌, length, ap, sym, ◌∙◌, rules}
-use Rattle.mk_trace.specs.Lines.{slot_number}
-use Rattle.mk_trace.proofs.SlotNumbers.{number_within}
+use Rattle.mk_laws.proofs.Vocabulary.{ap, length, sym, ◌<◌, ◌∙◌}
+use Rattle.mk_trace.proofs.Vocabulary.{rules, slot_number}
+use Rattle.mk_trace.proofs.{SlotNumbers.number_within, resolving.event.Goals.In-Some}
 use Rattle.mk_trace.proofs.resolving.event.Goals as goal
-use Rattle.mk_trace.proofs.resolving.event.Goals.{In-Some}
 
 within : (c : In-Some) → c.in-Some.number < length c.args.slots.now
 within c =
-    number_within c.args.slots.now c.args.line.now.slot
-    (sym (sym c.in-Some.is ∙ c.copied.ensures ∙ c.get.ensures.value ∙ c.requires c.as_bytes.result.now
+    number_within _ c.args.line.now.slot (sym (sym c.in-Some.is ∙ c.copied.ensures ∙ c.get.ensures.value ∙ c.requires _
     ∙ ap (slot_number c.args.slots.now) c.as_bytes.ensures))
 
 pub offset_bounds-slots-number : goal.offset_bounds-slots-number

@@ -1,5 +1,5 @@
-use Rattle.std.proofs.Common.{◌-◌, arith}
-use Rattle.mk_trace.proofs.SlotNumbers.{none_put, one_more, all_put}
+use Rattle.mk_laws.proofs.Vocabulary.{arith, ◌-◌}
+use Rattle.mk_trace.proofs.SlotNumbers.{all_put, none_put, one_more}
 use Rattle.mk_trace.proofs.resolving.slot_numbers.Goals as goal
 
 pub loop-number-init : goal.loop-number-init

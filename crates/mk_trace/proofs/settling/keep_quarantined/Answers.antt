@@ -1,7 +1,7 @@
-use Rattle.std.proofs.Common.{◌∙◌}
 use Rattle.mk_trace.proofs.Vocabulary.{left}
-use Rattle.mk_trace.proofs.FoundCells.{freed_looked, looks_twice}
+use Rattle.mk_laws.proofs.Vocabulary.{◌∙◌}
 use Rattle.mk_trace.proofs.SettledLedgers.{ages_all, ages_more, kept_all, kept_more}
+use Rattle.mk_trace.proofs.FoundCells.{freed_looked, looks_twice}
 use Rattle.mk_trace.proofs.settling.keep_quarantined.Goals as goal
 
 pub loop-object-preserved : goal.loop-object-preserved
@@ -11,16 +11,14 @@ loop-object-preserved g c =
     record {
       home = c.is_quarantined-is_kept.ensures.home;
       looks = looks_twice c.loop-object.invariant.looks c.is_quarantined-is_kept.ensures.looks;
-      kept = kept_more (left d es).now.words.freed c.args.found.now c.loop-object.object-index _ c.aged.result
-          c.loop-object.kept.items c.keep_or_count.new.kept.items
-          c.is_quarantined-is_kept.result c.loop-object-test.true c.loop-object.invariant.kept c.aged.ensures
-          (c.is_quarantined-is_kept.ensures.finds ∙ freed_looked c.loop-object.invariant.looks _)
-          c.in_ok-keep_or_count.ensures.kept;
-      ages = ages_more (left d es).now.words.freed c.args.found.now c.loop-object.object-index _ c.aged.result
-          c.args.ages.now.items c.loop-object.ages.items c.keep_or_count.new.ages.items
-          c.is_quarantined-is_kept.result c.loop-object-test.true c.loop-object.invariant.ages c.aged.ensures
-          (c.is_quarantined-is_kept.ensures.finds ∙ freed_looked c.loop-object.invariant.looks _)
-          c.in_ok-keep_or_count.ensures.ages;
+      kept = kept_more (left d es).now.words.freed _ c.loop-object.object-index _ c.aged.result c.loop-object.kept.items
+          c.keep_or_count.new.kept.items c.is_quarantined-is_kept.result c.loop-object-test.true
+          c.loop-object.invariant.kept c.aged.ensures (c.is_quarantined-is_kept.ensures.finds ∙ freed_looked
+          c.loop-object.invariant.looks _) c.in_ok-keep_or_count.ensures.kept;
+      ages = ages_more (left d es).now.words.freed _ c.loop-object.object-index _ c.aged.result c.args.ages.now.items
+          c.loop-object.ages.items c.keep_or_count.new.ages.items c.is_quarantined-is_kept.result
+          c.loop-object-test.true c.loop-object.invariant.ages c.aged.ensures (c.is_quarantined-is_kept.ensures.finds ∙
+          freed_looked c.loop-object.invariant.looks _) c.in_ok-keep_or_count.ensures.ages;
     }
 
 pub returns-clause-kept : goal.returns-clause-kept
@@ -30,6 +28,5 @@ returns-clause-kept g c =
 
 pub returns-clause-ages : goal.returns-clause-ages
 returns-clause-ages g c =
-    ages_all (left c.args.heap.now.config c.args.host.now.pass.seen).now.words.freed c.args.found.now
-    c.loop-object.object-index c.args.ages.now.items c.loop-object.ages.items c.loop-object-test.false
-    c.loop-object.invariant.ages
+    ages_all (left c.args.heap.now.config c.args.host.now.pass.seen).now.words.freed _ c.loop-object.object-index
+    c.args.ages.now.items c.loop-object.ages.items c.loop-object-test.false c.loop-object.invariant.ages

@@ -1,6 +1,5 @@
-use Rattle.std.proofs.Common.{◌≡◌, map, take}
-use Rattle.std.specs.Prelude.{fold}
-use Rattle.mk_trace.proofs.Vocabulary.{CallerIsHome, HostOnlyLooks, aged, left, still_kept, with_one}
+use Rattle.mk_trace.proofs.Vocabulary.{CallerIsHome, HostOnlyLooks, aged, fold, left, still_kept, with_one}
+use Rattle.mk_laws.proofs.Vocabulary.{map, take, ◌≡◌}
 use Rattle.mk_trace.specs.Ledgers.{ages_let_go}
 use Rattle.mk_trace.proofs.settling.keep_quarantined.Given as goal
 

@@ -1,5 +1,5 @@
-use Rattle.std.proofs.Common.{◌≡◌, ap, refl, rules}
-use Rattle.mk_trace.proofs.Vocabulary.{Words, ends, in_a_word, left}
+use Rattle.mk_trace.proofs.Vocabulary.{Words, ends, in_a_word, left, rules}
+use Rattle.mk_laws.proofs.Vocabulary.{ap, refl, ◌≡◌}
 use Rattle.mk_trace.proofs.SettledLedgers.{settles_anew}
 use Rattle.mk_trace.proofs.settling.settle.Goals as goal
 
@@ -7,9 +7,8 @@ pub returns-clause-settles : goal.returns-clause-settles
 returns-clause-settles g c =
     let d = c.args.heap.now.config in
     let all : c.as_slice.result.now ≡ c.args.freed.now.quarantine.items = search rules in
-    settles_anew (left d c.args.host.now.pass.seen).now.words.freed
-    (left d c.look-count.new.host.pass.seen).now.words.freed
-    c.look-count.result (in_a_word (ends c.args.host.now.pass.seen)) c.args.freed.now c.keep.new.self
-    c.as_slice.result.now c.in_ok-kept.kept.items (ap (λ (w : Words). w.freed) c.look-count.ensures.looks.table.words)
-    (c.look-count.ensures.counts refl) c.if-count-freed.false all c.in_ok-kept.ensures.kept
-    c.keep.ensures.quarantined c.keep.ensures.reserved c.keep.ensures.objects (search rules) c.keep.ensures.ends
+    settles_anew (left d c.args.host.now.pass.seen).now.words.freed (left d
+    c.look-count.new.host.pass.seen).now.words.freed c.look-count.result _ _ c.keep.new.self _ c.in_ok-kept.kept.items
+    (ap (λ (w : Words). w.freed) c.look-count.ensures.looks.table.words) (c.look-count.ensures.counts refl)
+    c.if-count-freed.false all c.in_ok-kept.ensures.kept c.keep.ensures.quarantined c.keep.ensures.reserved
+    c.keep.ensures.objects (search rules) c.keep.ensures.ends

@@ -1,7 +1,5 @@
-use Rattle.std.proofs.Common.{sym, ◌∙◌, ap, arith, not}
-use Rattle.mk_core.proofs.Vocabulary.{CoreState}
-use Rattle.mk_core.specs.Moments.{is_held, none_is_held}
-use Rattle.mk_core.proofs.AllBelow.{all_below_not_is}
+use Rattle.mk_core.proofs.Vocabulary.{CoreState, ap, arith, not, sym, ◌∙◌}
+use Rattle.mk_core.{proofs.AllBelow.all_below_not_is, specs.Moments.is_held, specs.Moments.none_is_held}
 use Rattle.mk_core.proofs.machine.Core.none_is_held.Goals as goal
 
 pub returns-then-is_held : goal.returns-then-is_held

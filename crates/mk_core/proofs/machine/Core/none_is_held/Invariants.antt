@@ -1,4 +1,4 @@
-use Rattle.std.proofs.Common.{◌≡◌, true}
+use Rattle.mk_core.proofs.Vocabulary.{true, ◌≡◌}
 use Rattle.mk_core.specs.Moments.{none_is_held}
 use Rattle.mk_core.proofs.machine.Core.none_is_held.Given as goal
 

@@ -1,7 +1,6 @@
-use Rattle.std.proofs.Common.{sym, ◌∙◌, ap, arith, ◌||◌}
-use Rattle.mk_core.proofs.Vocabulary.{CoreState}
-use Rattle.mk_core.specs.Moments.{is_number_of, is_held, others_are_held}
+use Rattle.mk_core.proofs.Vocabulary.{CoreState, ap, arith, sym, ◌||◌, ◌∙◌}
 use Rattle.mk_core.proofs.AllBelow.{all_below_not_is}
+use Rattle.mk_core.specs.Moments.{is_held, is_number_of, others_are_held}
 use Rattle.mk_core.proofs.machine.Core.others_are_held.Goals as goal
 
 pub returns-then-not-is_held : goal.returns-then-not-is_held

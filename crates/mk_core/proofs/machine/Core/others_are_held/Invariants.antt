@@ -1,4 +1,4 @@
-use Rattle.std.proofs.Common.{◌≡◌, true}
+use Rattle.mk_core.proofs.Vocabulary.{true, ◌≡◌}
 use Rattle.mk_core.specs.Moments.{others_are_held}
 use Rattle.mk_core.proofs.machine.Core.others_are_held.Given as goal
 

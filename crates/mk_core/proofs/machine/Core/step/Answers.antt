@@ -1,4 +1,4 @@
-use Rattle.mk_core.proofs.Steps.{exact_of, answer_of, stands_of}
+use Rattle.mk_core.proofs.Steps.{answer_of, exact_of, stands_of}
 use Rattle.mk_core.proofs.machine.Core.step.Goals as goal
 
 pub returns-clause-exact : goal.returns-clause-exact

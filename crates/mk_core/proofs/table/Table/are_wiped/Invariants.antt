@@ -1,5 +1,4 @@
-use Rattle.std.proofs.Common.{◌≡◌, true, ◌||◌, not}
-use Rattle.mk_core.proofs.Vocabulary.{all_below, cell_words, first_word, has_bit, words_are_zero}
+use Rattle.mk_core.proofs.Vocabulary.{all_below, cell_words, first_word, has_bit, not, true, words_are_zero, ◌||◌, ◌≡◌}
 use Rattle.mk_core.proofs.table.Table.are_wiped.Given as goal
 
 abbrev pub invariant-loop-index : goal.invariant-loop-index

@@ -1,6 +1,5 @@
-use Rattle.std.proofs.Common.{sym, ◌∙◌, ap, arith, not}
-use Rattle.mk_core.specs.StopConditions.{blackens}
-use Rattle.mk_core.proofs.AllBelow.{all_below_not_is}
+use Rattle.mk_core.proofs.Vocabulary.{ap, arith, not, sym, ◌∙◌}
+use Rattle.mk_core.{proofs.AllBelow.all_below_not_is, specs.StopConditions.blackens}
 use Rattle.mk_core.proofs.table.Table.blackens_none.Goals as goal
 
 pub returns-then-blackens : goal.returns-then-blackens

@@ -1,5 +1,4 @@
-use Rattle.std.proofs.Common.{◌≡◌, true, not}
-use Rattle.mk_core.proofs.Vocabulary.{all_below}
+use Rattle.mk_core.proofs.Vocabulary.{all_below, not, true, ◌≡◌}
 use Rattle.mk_core.specs.StopConditions.{blackens}
 use Rattle.mk_core.proofs.table.Table.blackens_none.Given as goal
 

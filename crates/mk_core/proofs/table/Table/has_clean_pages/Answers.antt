@@ -1,6 +1,5 @@
-use Rattle.std.proofs.Common.{sym, ◌∙◌, arith}
-use Rattle.mk_core.specs.StopConditions.{has_clean_page}
-use Rattle.mk_core.proofs.AllBelow.{all_below_not_is}
+use Rattle.mk_core.proofs.Vocabulary.{arith, sym, ◌∙◌}
+use Rattle.mk_core.{proofs.AllBelow.all_below_not_is, specs.StopConditions.has_clean_page}
 use Rattle.mk_core.proofs.table.Table.has_clean_pages.Goals as goal
 
 pub returns-then-not-has_clean_page : goal.returns-then-not-has_clean_page

@@ -1,5 +1,4 @@
-use Rattle.std.proofs.Common.{◌≡◌, true}
-use Rattle.mk_core.proofs.Vocabulary.{all_below}
+use Rattle.mk_core.proofs.Vocabulary.{all_below, true, ◌≡◌}
 use Rattle.mk_core.specs.StopConditions.{has_closed_page}
 use Rattle.mk_core.proofs.table.Table.has_closed_pages.Given as goal
 

@@ -1,8 +1,5 @@
-use Rattle.std.proofs.Common.{sym, arith}
-use Rattle.std.proofs.lemmas.Bool.Decides.{nat_tests}
-use Rattle.mk_core.proofs.Vocabulary.{stands}
-use Rattle.mk_core.specs.PageHeaders.{header_wanted}
-use Rattle.mk_core.proofs.AllBelow.{all_below_not_is}
+use Rattle.mk_core.proofs.Vocabulary.{arith, nat_tests, stands, sym}
+use Rattle.mk_core.{proofs.AllBelow.all_below_not_is, specs.PageHeaders.header_wanted}
 use Rattle.mk_core.proofs.table.Table.headers_stand.Goals as goal
 
 pub returns-then-header-word : goal.returns-then-header-word

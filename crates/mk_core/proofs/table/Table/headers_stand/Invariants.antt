@@ -1,5 +1,4 @@
-use Rattle.std.proofs.Common.{◌≡◌, true}
-use Rattle.mk_core.proofs.Vocabulary.{all_below, stands}
+use Rattle.mk_core.proofs.Vocabulary.{all_below, stands, true, ◌≡◌}
 use Rattle.mk_core.specs.PageHeaders.{header_wanted}
 use Rattle.mk_core.proofs.table.Table.headers_stand.Given as goal
 

@@ -1,5 +1,4 @@
-use Rattle.std.proofs.Common.{◌≡◌, ◌*◌, true}
-use Rattle.mk_core.proofs.Vocabulary.{words_are_zero}
+use Rattle.mk_core.proofs.Vocabulary.{true, words_are_zero, ◌*◌, ◌≡◌}
 use Rattle.mk_core.proofs.table.Table.is_run_wiped.Given as goal
 
 abbrev pub invariant-loop-page : goal.invariant-loop-page

@@ -1,5 +1,4 @@
-use Rattle.std.proofs.Common.{◌+◌, sym, arith, slice_index, ◌==◌}
-use Rattle.std.proofs.lemmas.Bool.Decides.{nat_tests}
+use Rattle.mk_core.proofs.Vocabulary.{arith, nat_tests, slice_index, sym, ◌+◌, ◌==◌}
 use Rattle.mk_core.proofs.AllBelow.{all_below_not_is}
 use Rattle.mk_core.proofs.table.Table.words_are_zero.Goals as goal
 

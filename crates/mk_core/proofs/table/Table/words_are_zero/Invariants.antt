@@ -1,5 +1,4 @@
-use Rattle.std.proofs.Common.{◌≡◌, ◌+◌, true, slice_index, ◌==◌}
-use Rattle.mk_core.proofs.Vocabulary.{all_below}
+use Rattle.mk_core.proofs.Vocabulary.{all_below, slice_index, true, ◌+◌, ◌==◌, ◌≡◌}
 use Rattle.mk_core.proofs.table.Table.words_are_zero.Given as goal
 
 abbrev pub invariant-loop-i : goal.invariant-loop-i

@@ -1,5 +1,4 @@
-use Rattle.std.proofs.Common.{◌+◌, sym, ◌∙◌, ap, arith}
-use Rattle.mk_core.proofs.Vocabulary.{cell_words, first_word, word_points_well}
+use Rattle.mk_core.proofs.Vocabulary.{ap, arith, cell_words, first_word, sym, word_points_well, ◌+◌, ◌∙◌}
 use Rattle.mk_core.proofs.AllBelow.{all_below_not_is}
 use Rattle.mk_core.proofs.table.Table.words_point_well.Goals as goal
 

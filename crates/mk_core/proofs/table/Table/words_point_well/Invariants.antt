@@ -1,5 +1,4 @@
-use Rattle.std.proofs.Common.{◌≡◌, ◌+◌, true}
-use Rattle.mk_core.proofs.Vocabulary.{all_below, word_points_well}
+use Rattle.mk_core.proofs.Vocabulary.{all_below, true, word_points_well, ◌+◌, ◌≡◌}
 use Rattle.mk_core.proofs.table.Table.words_point_well.Given as goal
 
 abbrev pub invariant-loop-i : goal.invariant-loop-i

@@ -1,4 +1,4 @@
-use Rattle.std.proofs.Common.{◌≡◌, take}
+use Rattle.std.proofs.Common.{take, ◌≡◌}
 use Rattle.mk_never.proofs.types.TypeTable.try_clone.Given as goal
 
 abbrev pub invariant-loop-ty : goal.invariant-loop-ty

@@ -1,5 +1,5 @@
-use Rattle.std.proofs.Common.{◌≡◌, List, length}
 use Rattle.mk_replay.proofs.Vocabulary.{AreFirstTexts, ArePlayersOf, Event, Item}
+use Rattle.mk_laws.proofs.Vocabulary.{List, length, ◌≡◌}
 use Rattle.mk_replay.proofs.replaying.Run.texts.Given as goal
 
 abbrev pub invariant-loop-player : goal.invariant-loop-player

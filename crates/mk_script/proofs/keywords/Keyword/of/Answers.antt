@@ -1,4 +1,4 @@
-use Rattle.std.proofs.Common.{◌≡◌, length, ◌∙◌, sym, refl}
+use Rattle.mk_script.proofs.Vocabulary.{length, refl, ◌∙◌, ◌≡◌}
 use Rattle.mk_script.proofs.KeywordLengths.{of_length}
 use Rattle.mk_script.proofs.keywords.Keyword.of.Goals as goal
 

@@ -1,7 +1,4 @@
-use Rattle.std.proofs.Common.{◌∙◌, sym, ap}
-use Rattle.std.specs.List.{list_any}
-use Rattle.std.specs.Str.{bytes_eq}
-use Rattle.mk_script.proofs.Vocabulary.{is_among}
+use Rattle.mk_script.proofs.Vocabulary.{ap, bytes_eq, is_among, list_any, sym, ◌∙◌}
 use Rattle.mk_script.proofs.PutName.{list_any-map}
 use Rattle.mk_script.proofs.name_set.NameSet.contains.Goals as goal
 

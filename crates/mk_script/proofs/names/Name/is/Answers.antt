@@ -1,5 +1,4 @@
-use Rattle.std.proofs.Common.{ap, take, ◌∙◌}
-use Rattle.std.specs.Str.{bytes_eq}
+use Rattle.mk_script.proofs.Vocabulary.{ap, bytes_eq, take, ◌∙◌}
 use Rattle.mk_script.proofs.PaddedNames.{of_one_length}
 use Rattle.mk_script.proofs.names.Name.is.Goals as goal
 

@@ -1,9 +1,7 @@
-use Rattle.std.proofs.Common.{◌++◌, arith, ap, ◌∙◌}
-use Rattle.mk_script.proofs.Vocabulary.{fields_behind, spaced_words}
-use Rattle.mk_script.proofs.Spacing.{drop_next, pointer_behind}
+use Rattle.mk_script.proofs.Vocabulary.{ap, arith, fields_behind, spaced_words, ◌++◌, ◌∙◌}
+use Rattle.mk_script.proofs.{Spacing.drop_next, Spacing.pointer_behind, printing.Printer.fields.Goals.in-Number}
+use Rattle.mk_script.proofs.{printing.Printer.fields.Goals.in-Pointer+in_ok-numbers-in-Pointer+in_ok-word-in-Pointer+in_ok-printer-in-Pointer}
 use Rattle.mk_script.proofs.printing.Printer.fields.Goals as goal
-use Rattle.mk_script.proofs.printing.Printer.fields.Goals.{in-Number}
-use Rattle.mk_script.proofs.printing.Printer.fields.Goals.{in-Pointer+in_ok-numbers-in-Pointer+in_ok-word-in-Pointer+in_ok-printer-in-Pointer}
 
 pub loop-word-preserved : goal.loop-word-preserved
 loop-word-preserved c =

@@ -1,5 +1,4 @@
-use Rattle.std.proofs.Common.{◌≡◌, ◌++◌, ◌≤◌, drop}
-use Rattle.mk_script.proofs.Vocabulary.{fields_behind, spaced_words}
+use Rattle.mk_script.proofs.Vocabulary.{drop, fields_behind, spaced_words, ◌++◌, ◌≡◌, ◌≤◌}
 use Rattle.mk_script.proofs.printing.Printer.fields.Given as goal
 
 abbrev pub invariant-loop-word : goal.invariant-loop-word

@@ -1,9 +1,9 @@
-use Rattle.std.proofs.Common.{◌≡◌, ◌∙◌, false, ◌||◌, [], ◌∷◌, reverse, ap, refl, sym}
-use Rattle.mk_script.proofs.Vocabulary.{global_names, is_among, is_script, is_twice, number_names, pointer_names}
-use Rattle.mk_script.proofs.Vocabulary.{script_names, this_script, type_names}
+use Rattle.mk_script.proofs.Vocabulary.{ap, false, global_names, is_among, is_script, is_twice, number_names}
+use Rattle.mk_script.proofs.Vocabulary.{pointer_names, refl, reverse, script_names, sym, this_script, type_names, []}
+use Rattle.mk_script.proofs.Vocabulary.{◌||◌, ◌∙◌, ◌∷◌, ◌≡◌}
+use Rattle.mk_script.proofs.ScopeAfter.{adds, after_line, after_script, kept, or-false, or-true, other_adds}
+use Rattle.mk_script.proofs.NamesSoFar.{among, among_neither, on_ok}
 use Rattle.mk_script.specs.Scopes.{is_instruction}
-use Rattle.mk_script.proofs.NamesSoFar.{among, on_ok, among_neither}
-use Rattle.mk_script.proofs.ScopeAfter.{adds, other_adds, kept, after_line, after_script, or-false, or-true}
 use Rattle.mk_script.proofs.scope.Scope.add.Goals as goal
 
 pub returns-in-Heap : goal.returns-in-Heap
