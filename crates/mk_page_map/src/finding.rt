@@ -21,7 +21,7 @@ fn next_page(count: usize, sets: &[u64], set: usize, from: u64) -> Option<u64>
     requires no_others { (number : ℕ) → count ≤ number → number < 4096 → is_member sets.now set number ≡ false }
     ensures { IsNext (is_member sets.now set) from count result }
 {
-    if count == 0 {
+    if from >= count as u64 {
         return None;
     }
     next_in(sets, set, from)
