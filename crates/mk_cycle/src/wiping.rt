@@ -9,8 +9,9 @@ ghost use Rattle.mk_cycle.specs.EngineLaw.{IsFreeForCycle, IsAtPhase};
 ghost use Rattle.mk_cycle.specs.Freeing.{GivesNothingBack, HasFreeCells, IsUnmapped, IsZero, IsUnmappedWord};
 
 use crate::bits::lowest_bit;
+use crate::reading::ReadHeader;
 use crate::turn_steps::{look, wipe};
-use mk_core::{Word, bit, is_unmapped, without, words_under};
+use mk_core::{Word, bit, without};
 use mk_words::{Turn, Words};
 
 /// Sets a word of no mapped allocation to 0.
@@ -69,22 +70,28 @@ fn wipe_cells(turn: &mut Turn, words: &Words, page: u64, cells: u64, size: u64)
 
 /// Sets the words of these released cells of a page to 0. Those of an unmapped run aren't looked at: its Free wiped
 /// them.
-pub(crate) fn wipe_released(turn: &mut Turn, words: &Words, page: u64, header: u64, cells: u64)
+pub(crate) fn wipe_released(
+    turn: &mut Turn,
+    words: &Words,
+    page: u64,
+    header: &ReadHeader,
+    cells: u64,
+)
     requires one_table { turn.old.pass.table ≡ words.now }
     requires free { IsFreeForCycle turn.old.pass }
     requires phase { IsAtPhase turn.old.pass 4 }
     requires within { page < words.now.config.pages }
-    requires header { header ≡ header_at (now_of turn.old.pass).words page }
+    requires header { header.now ≡ header_at (now_of turn.old.pass).words page }
     requires released { (k : ℕ) → has_bit cells k ≡ true
         → has_bit (left_unmarked (now_of turn.old.pass).words page) k ≡ true }
     requires cells { HasFreeCells turn.old.pass page }
     ensures op { turn.new.op ≡ turn.old.op }
     ensures frees { GivesNothingBack turn.old.pass turn.new.pass }
-    ensures zeros { (k : ℕ) → k < 32 → (i : ℕ) → has_bit cells k ≡ true → i < words_under (header_of header)
-        → IsZero turn.new.pass (64 * page + k * words_under (header_of header) + i) }
+    ensures zeros { (k : ℕ) → k < 32 → (i : ℕ) → has_bit cells k ≡ true → i < words_under (header_of header.now)
+        → IsZero turn.new.pass (64 * page + k * words_under (header_of header.now) + i) }
 {
-    if is_unmapped(header) {
+    if header.is_unmapped() {
         return;
     }
-    wipe_cells(turn, words, page, cells, words_under(header));
+    wipe_cells(turn, words, page, cells, header.size());
 }

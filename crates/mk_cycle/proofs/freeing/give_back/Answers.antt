@@ -55,7 +55,7 @@ give_cells-requires-clause-gives c =
     let p = c.args.turn.now.pass in
     let b = c.wipe_released.new.turn.pass in
     ap (λ (n : ℕ). gives_back (now_of b).words c.args.page n) c.without.ensures
-    ∙ gives_here p b c.args.page c.look-used.result c.args.gone (words_under (header_of c.args.header))
+    ∙ gives_here p b c.args.page c.look-used.result c.args.gone (words_under (header_of c.args.header.now))
     (none_then _ _ _ first c.wipe_released.ensures.frees)
     (c.look-used.ensures.reads ∙ same_used p c.look-used.new.turn.pass c.args.page (first.same c.args.page))
     c.requires.gone (ap (λ (n : ℕ). words_under (header_of n)) c.requires.header) c.wipe_released.ensures.zeros
