@@ -11,6 +11,7 @@ abbrev pub distance_under : Option Header → ℕ
 distance_under (Some (Later distance mapped)) = distance
 distance_under _ = 0
 
+-- The numbers are those of the header word. No cell has more than 4,096 words.
 pub record IsRight (word size : ℕ) (unmapped : Bool) (distance pages : ℕ) : Type 0 where
   pub size_of : size ≡ words_under (header_of word)
   pub few : size ≤ 4096

@@ -8,8 +8,8 @@ pub wipe_cells-requires-clause-unmapped : goal.wipe_cells-requires-clause-unmapp
 wipe_cells-requires-clause-unmapped c k i has lt =
     let size = c.size.ensures.exact in
     subst (λ (n : ℕ). IsUnmappedWord c.args.turn.now.pass (64 * c.args.page + k * n + i)) (sym size)
-    (chosen_unmapped c.args.turn.now.pass c.args.page c.args.header.now c.args.cells c.requires.header c.requires.released
-    c.requires.cells k i has (subst (λ (n : ℕ). i < n) size lt))
+    (chosen_unmapped c.args.turn.now.pass c.args.page c.args.header.now c.args.cells c.requires.header
+    c.requires.released c.requires.cells k i has (subst (λ (n : ℕ). i < n) size lt))
 
 pub returns-then-is_unmapped-clause-frees : goal.returns-then-is_unmapped-clause-frees
 returns-then-is_unmapped-clause-frees c = none_at_once c.args.turn.now.pass

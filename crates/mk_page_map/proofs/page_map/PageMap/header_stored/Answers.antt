@@ -51,8 +51,8 @@ is_counted c =
 
 enough : (c : After-from) → c.from-was_resident.result ≤ c.self.inside.resident + c.from.result
 enough c =
-    counted_anew c.self.inside.pages.items c.args.page c.self.inside.resident c.from-was_resident.result c.from.result (now c)
-    (within c) (was_counted c) (is_counted c) c.self.invariant.counted
+    counted_anew c.self.inside.pages.items c.args.page c.self.inside.resident c.from-was_resident.result
+    c.from.result (now c) (within c) (was_counted c) (is_counted c) c.self.invariant.counted
 
 pub overflow_sub-self : goal.overflow_sub-self
 overflow_sub-self c = enough c
