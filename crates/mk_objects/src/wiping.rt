@@ -30,7 +30,8 @@ fn are_zero(words: &Words, turn: &mut Turn, pages: u64, run: RunPages, first: u6
     words.is_within_limits();
     turn.is_in_order();
     let mut all = 0;
-    for word in first..first + GROUP {
+    for i in 0..GROUP {
+        let word = first + i;
         all |= turn.look_among(words, pages, Word::Heap(PAGE_WORDS * run.page + word));
     }
     all == 0
