@@ -1,4 +1,4 @@
-use Rattle.std.proofs.Common.{◌≡◌, ℕ, ◌+◌, refl, subst, ◌∙◌, arith}
+use Rattle.std.proofs.Common.{◌≡◌, ℕ, ◌+◌, ◌*◌, refl, subst, ◌∙◌, arith}
 use Rattle.std.proofs.lemmas.Bool.{eqb-true}
 use Rattle.std.proofs.lemmas.Nat.{le_or_l, le_or_r}
 use Rattle.mk_words.specs.States.{PassState}
@@ -10,8 +10,8 @@ use Rattle.mk_objects.proofs.wiping.are_zero.Goals as goal
 pub loop-i-init : goal.loop-i-init
 loop-i-init c =
     let p : PassState = c.args.turn.now.pass in
-    let none = wiped_from p c.args.run c.args.first c.requires.wiped in
-    let start : c.args.first ≡ c.args.first + 0 = omega arith in
+    let none = wiped_from p c.args.run (8 * c.args.group) c.requires.wiped in
+    let start : 8 * c.args.group ≡ 8 * c.args.group + 0 = omega arith in
     record { op = refl; still = none; zero = λ zero. subst (λ n. WipesTo p c.args.run n p) start none }
 
 pub look_among-all-requires-clause-enabled : goal.look_among-all-requires-clause-enabled
@@ -19,7 +19,7 @@ look_among-all-requires-clause-enabled c =
     let may = c.requires.may in
     let group = c.requires.group in
     look_may c.args.turn.now.pass c.args.turn.now.op c.args.run c.is_in_order.ensures.turn may.decided may.stopped
-    c.loop-i.turn.pass c.args.first (c.args.first + c.loop-i.i) c.loop-i.invariant.still
+    c.loop-i.turn.pass (8 * c.args.group) (8 * c.args.group + c.loop-i.i) c.loop-i.invariant.still
     (omega (arith, group, c.loop-i-test.true)) may.within
 
 pub loop-i-preserved : goal.loop-i-preserved
@@ -28,8 +28,8 @@ loop-i-preserved c =
     let may = c.requires.may in
     let group = c.requires.group in
     let i = c.loop-i.invariant in
-    let word : ℕ = c.args.first + c.loop-i.i in
-    let next : word + 1 ≡ c.args.first + (c.loop-i.i + 1) = omega arith in
+    let word : ℕ = 8 * c.args.group + c.loop-i.i in
+    let next : word + 1 ≡ 8 * c.args.group + (c.loop-i.i + 1) = omega arith in
     let q : PassState = c.look_among-all.new.self.pass in
     let found : ℕ = c.look_among-all.result in
     let seen : (n : ℕ) → WipesTo p c.args.run n c.loop-i.turn.pass → WipesTo p c.args.run n q =
@@ -38,7 +38,7 @@ loop-i-preserved c =
     c.look_among-all.ensures.acts in
     record {
       op = c.look_among-all.ensures.op ∙ i.op;
-      still = seen c.args.first i.still;
+      still = seen (8 * c.args.group) i.still;
       zero = λ none.
           let before : c.loop-i.all ≡ 0 =
           let most = le_or_l c.loop-i.all found in omega (arith, most, none) in
@@ -50,6 +50,7 @@ loop-i-preserved c =
 
 pub returns-clause-zero : goal.returns-clause-zero
 returns-clause-zero c is =
-    let all : c.args.first + c.loop-i.i ≡ c.args.first + 8 = omega (arith, c.loop-i-test.false, c.loop-i.auto.i-end) in
+    let all : 8 * c.args.group + c.loop-i.i ≡ 8 * c.args.group + 8 =
+    omega (arith, c.loop-i-test.false, c.loop-i.auto.i-end) in
     subst (λ n. WipesTo c.args.turn.now.pass c.args.run n c.loop-i.turn.pass) all
     (c.loop-i.invariant.zero (eqb-true c.loop-i.all 0 is))
