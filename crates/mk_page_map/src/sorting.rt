@@ -71,6 +71,24 @@ fn join_blocks(sets: &mut [u64], page: u64, kind: PageKind, used: u64)
     }
 }
 
+/// Puts a page among the free ones, where it may be marked, or among those in use.
+#[inline(always)]
+fn put_free(sets: &mut [u64], page: u64, is_free: bool)
+    requires sets { AreSets sets.old }
+    requires page { page < 4096 }
+    ensures sets { AreSets sets.new }
+    ensures free { is_member sets.new 16 page ≡ is_free }
+    ensures in_use { is_member sets.new 17 page ≡ not is_free }
+    ensures uncleaned { is_member sets.new 19 page ≡ is_free }
+    ensures other_sets { (set : ℕ) → set < 19 → (set ≡ 16 → ⊥) → (set ≡ 17 → ⊥)
+        → is_member sets.new set page ≡ is_member sets.old set page }
+    ensures other_pages { OthersStay sets.old sets.new page }
+{
+    put(sets, FREE, page, is_free);
+    put(sets, IN_USE, page, !is_free);
+    put(sets, UNCLEANED, page, is_free);
+}
+
 /// Sorts a page anew whose header word has changed. One that stays in use stays there.
 pub(crate) fn sort_by_header(
     sets: &mut [u64],
@@ -94,12 +112,11 @@ pub(crate) fn sort_by_header(
     join_blocks(sets, page, after, used);
     let was_free = before.is_free();
     let is_free = after.is_free();
-    if !was_free && !is_free {
-        return;
+    if is_free {
+        put_free(sets, page, true);
+    } else if was_free {
+        put_free(sets, page, false);
     }
-    put(sets, FREE, page, is_free);
-    put(sets, IN_USE, page, !is_free);
-    put(sets, UNCLEANED, page, is_free);
 }
 
 /// Sorts a page anew whose used word has changed.
