@@ -12,7 +12,7 @@ use crate::counting::{self, held_words, released_cells};
 use crate::finishing::Released;
 use crate::reading::ReadHeader;
 use crate::settling::Settled;
-use crate::turn_steps::{drop_cells, give_cells, look};
+use crate::turn_steps::{drop_cells, give_cells, look_among};
 use crate::wiping::wipe_released;
 use mk_core::{Word, without};
 use mk_words::{Turn, Words};
@@ -21,12 +21,14 @@ use mk_words::{Turn, Words};
 fn give_back(
     turn: &mut Turn,
     words: &Words,
+    pages: u64,
     page: u64,
     header: &ReadHeader,
     quarantine: u64,
     gone: u64,
 )
     requires one_table { turn.old.pass.table ≡ words.now }
+    requires pages { pages ≡ words.now.config.pages }
     requires free { IsFreeForCycle turn.old.pass }
     requires phase { IsAtPhase turn.old.pass 4 }
     requires within { page < words.now.config.pages }
@@ -37,8 +39,8 @@ fn give_back(
     ensures op { turn.new.op ≡ turn.old.op }
     ensures gives { GivesBack page turn.old.pass turn.new.pass }
 {
-    let used = look(turn, words, Word::Used(page));
-    wipe_released(turn, words, page, header, used & gone);
+    let used = look_among(turn, words, pages, Word::Used(page));
+    wipe_released(turn, words, pages, page, header, used & gone);
     give_cells(turn, words, page, without(used, gone));
     let freed = without(quarantine % FREED_END, gone);
     let snapshot = quarantine / FREED_END - gone;
@@ -87,6 +89,6 @@ pub(crate) fn release_cells(
     if gone == 0 {
         return here;
     }
-    give_back(turn, words, page, header, quarantine, gone);
+    give_back(turn, words, pages, page, header, quarantine, gone);
     here
 }
