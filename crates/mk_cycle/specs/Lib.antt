@@ -8,6 +8,7 @@ pub mod Releasing
 pub mod Freeing
 pub mod GivingAll
 pub mod FinishCycle
+pub mod ReadHeaders
 pub mod ReleasedPages
 pub mod Tallying
 pub mod Telling

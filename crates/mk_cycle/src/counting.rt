@@ -13,32 +13,33 @@ ghost use Rattle.mk_cycle.specs.Freeing.{GivesNothingBack};
 ghost use Rattle.mk_cycle.specs.TurnKeeps.{InTurn};
 
 use crate::finishing::Released;
+use crate::reading::ReadHeader;
 use crate::turn_steps;
-use mk_core::{Word, is_unmapped, without, words_under};
+use mk_core::{Word, without};
 use mk_words::{Turn, Words};
 
 /// What the words of a page say: its released cells, their words, and its marked cells of the snapshot.
-pub(crate) fn released_cells(snapshot: u64, marks: u64, header: u64) -> Released
+pub(crate) fn released_cells(snapshot: u64, marks: u64, header: &ReadHeader) -> Released
     ensures count { result.count ≡ count_ones (without snapshot marks) }
-    ensures words { result.words ≡ count_ones (without snapshot marks) * words_under (header_of header) }
+    ensures words { result.words ≡ count_ones (without snapshot marks) * words_under (header_of header.now) }
     ensures kept { result.kept ≡ count_ones (bit_and snapshot marks) }
     ensures few { IsOfOnePage result }
 {
     let count = u64::from(without(snapshot, marks).count_ones());
     Released {
         count,
-        words: count * words_under(header),
+        words: count * header.size(),
         kept: u64::from((snapshot & marks).count_ones()),
     }
 }
 
 /// How many of the words that were released on a page with this header were held until then: none of an unmapped run.
 #[inline(always)]
-pub(crate) fn held_words(header: u64, words: u64) -> u64
-    ensures is { result ≡ (if is_unmapped_header (header_of header) then 0 else words) }
+pub(crate) fn held_words(header: &ReadHeader, words: u64) -> u64
+    ensures is { result ≡ (if is_unmapped_header (header_of header.now) then 0 else words) }
     ensures part { result ≤ words }
 {
-    if is_unmapped(header) { 0 } else { words }
+    if header.is_unmapped() { 0 } else { words }
 }
 
 /// Looks at a word that is no register, while nothing is given back, in a table of this many pages.

@@ -10,27 +10,37 @@ ghost use Rattle.mk_cycle.specs.ReleasedPages.{IsOfOnePage, held_unmarked, relea
 use crate::bits::FREED_END;
 use crate::counting::{self, held_words, released_cells};
 use crate::finishing::Released;
+use crate::reading::ReadHeader;
 use crate::settling::Settled;
-use crate::turn_steps::{drop_cells, give_cells, look};
+use crate::turn_steps::{drop_cells, give_cells, look_among};
 use crate::wiping::wipe_released;
 use mk_core::{Word, without};
 use mk_words::{Turn, Words};
 
 /// Gives back the released cells of a page: those of the snapshot that have no mark.
-fn give_back(turn: &mut Turn, words: &Words, page: u64, header: u64, quarantine: u64, gone: u64)
+fn give_back(
+    turn: &mut Turn,
+    words: &Words,
+    pages: u64,
+    page: u64,
+    header: &ReadHeader,
+    quarantine: u64,
+    gone: u64,
+)
     requires one_table { turn.old.pass.table ≡ words.now }
+    requires pages { pages ≡ words.now.config.pages }
     requires free { IsFreeForCycle turn.old.pass }
     requires phase { IsAtPhase turn.old.pass 4 }
     requires within { page < words.now.config.pages }
-    requires header { header ≡ header_at (now_of turn.old.pass).words page }
+    requires header { header.now ≡ header_at (now_of turn.old.pass).words page }
     requires quarantine { IsQuarantineWord turn.old.pass page quarantine }
     requires gone { gone ≡ left_unmarked (now_of turn.old.pass).words page }
     requires cells { HasFreeCells turn.old.pass page }
     ensures op { turn.new.op ≡ turn.old.op }
     ensures gives { GivesBack page turn.old.pass turn.new.pass }
 {
-    let used = look(turn, words, Word::Used(page));
-    wipe_released(turn, words, page, header, used & gone);
+    let used = look_among(turn, words, pages, Word::Used(page));
+    wipe_released(turn, words, pages, page, header, used & gone);
     give_cells(turn, words, page, without(used, gone));
     let freed = without(quarantine % FREED_END, gone);
     let snapshot = quarantine / FREED_END - gone;
@@ -45,14 +55,14 @@ pub(crate) fn release_cells(
     words: &Words,
     pages: u64,
     page: u64,
-    header: u64,
+    header: &ReadHeader,
 ) -> Settled
     requires one_table { turn.old.pass.table ≡ words.now }
     requires pages { pages ≡ words.now.config.pages }
     requires free { IsFreeForCycle turn.old.pass }
     requires phase { IsAtPhase turn.old.pass 4 }
     requires within { page < words.now.config.pages }
-    requires header { header ≡ header_at (now_of turn.old.pass).words page }
+    requires header { header.now ≡ header_at (now_of turn.old.pass).words page }
     requires cells { HasFreeCells turn.old.pass page }
     ensures op { turn.new.op ≡ turn.old.op }
     ensures gives { GivesBack page turn.old.pass turn.new.pass }
@@ -79,6 +89,6 @@ pub(crate) fn release_cells(
     if gone == 0 {
         return here;
     }
-    give_back(turn, words, page, header, quarantine, gone);
+    give_back(turn, words, pages, page, header, quarantine, gone);
     here
 }

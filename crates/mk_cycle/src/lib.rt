@@ -14,6 +14,7 @@ mod finishing;
 mod freeing;
 mod giving;
 mod holding;
+mod reading;
 mod releasing;
 mod settling;
 mod tallying;

@@ -1,11 +1,8 @@
 //! Page by page, what was released is counted and given back, and pages on which nothing is left are freed: in one
 //! pass, which looks at the pages that have freed cells, and at the later pages of their runs.
-ghost use Rattle.std.specs.Prelude.{◌≡◌, ◌+◌, ◌<◌, ◌≤◌, ℕ};
+ghost use Rattle.std.specs.Prelude.{◌≡◌, ◌<◌, ◌≤◌, ℕ};
 ghost use Rattle.mk_core.specs.Cells.{head_page, left_unmarked};
-ghost use Rattle.mk_core.specs.Counts.{in_a_word};
 ghost use Rattle.mk_core.specs.Words.{header_at};
-ghost use Rattle.mk_geom.specs.Headers.{header_of};
-ghost use Rattle.mk_laws.specs.LayoutScene.{run_count};
 ghost use Rattle.mk_page_map.specs.Members.{IsNext};
 ghost use Rattle.mk_words.specs.States.{now_of};
 ghost use Rattle.mk_cycle.specs.EngineLaw.{IsFreeForCycle, IsAtPhase};
@@ -15,8 +12,8 @@ ghost use Rattle.mk_cycle.specs.TurnKeeps.{InTurn};
 
 use crate::finishing::Released;
 use crate::freeing::release_cells;
+use crate::reading::ReadHeader;
 use crate::turn_steps::{free_head, known_page, next_quarantined};
-use mk_geom::{Header, decode, head_page_under};
 use mk_words::{Turn, Words};
 
 /// What was released, and how many of its words were held until then.
@@ -47,13 +44,19 @@ fn free_unused(turn: &mut Turn, words: &Words, page: u64, head: u64)
 
 /// Gives back the released cells of a page with this header word, and frees it if nothing is left on it.
 #[inline(always)]
-fn settle_taken(turn: &mut Turn, words: &Words, pages: u64, page: u64, header: u64) -> Settled
+fn settle_taken(
+    turn: &mut Turn,
+    words: &Words,
+    pages: u64,
+    page: u64,
+    header: &ReadHeader,
+) -> Settled
     requires one_table { turn.old.pass.table ≡ words.now }
     requires pages { pages ≡ words.now.config.pages }
     requires free { IsFreeForCycle turn.old.pass }
     requires phase { IsAtPhase turn.old.pass 4 }
     requires within { page < words.now.config.pages }
-    requires header { header ≡ header_at (now_of turn.old.pass).words page }
+    requires header { header.now ≡ header_at (now_of turn.old.pass).words page }
     requires cells { HasFreeCells turn.old.pass page }
     requires settled { (r : ℕ) → r < page → IsSettledPage turn.old.pass r }
     ensures op { turn.new.op ≡ turn.old.op }
@@ -65,19 +68,8 @@ fn settle_taken(turn: &mut Turn, words: &Words, pages: u64, page: u64, header: u
     ensures part { result.held ≤ result.released.words }
 {
     let here = release_cells(turn, words, pages, page, header);
-    free_unused(turn, words, page, head_page_under(header, page));
+    free_unused(turn, words, page, header.head_page(page));
     here
-}
-
-/// Where the run ends that has its head at this page, with this header word. Another page's end is the page itself.
-#[inline(always)]
-fn run_end(header: u64, page: u64) -> u64
-    ensures { result ≡ in_a_word (page + run_count (header_of header)) }
-{
-    match decode(header) {
-        Some(Header::Run { pages, .. } | Header::LeafRun { pages }) => page.saturating_add(pages),
-        _ => page,
-    }
 }
 
 /// The next page, from this one on, that may be unsettled: up to the end of a run each may be, and after it those that
@@ -122,13 +114,14 @@ pub(crate) fn settle_pages(turn: &mut Turn, words: &Words) -> Settled
     let mut from = 0;
     let mut end = 0;
     while let Some(page) = next_to_settle(turn, pages, from, end) {
-        let header = known_page(turn, page).header;
-        let here = settle_taken(turn, words, pages, page, header);
+        let word = known_page(turn, page).header;
+        let header = ReadHeader::of(word);
+        let here = settle_taken(turn, words, pages, page, &header);
         all.count += here.released.count;
         all.words += here.released.words;
         all.kept += here.released.kept;
         held += here.held;
-        end = end.max(run_end(header, page));
+        end = end.max(header.run_end(page));
         from = page + 1;
     }
     Settled {

@@ -15,40 +15,44 @@ use mk_words::{Turn, Words};
 /// The words of a page are groups of this many.
 const GROUP: u64 = 8;
 
-/// Looks at a group of words of the run, from this one on. Returns true only where all are 0.
+/// Looks at a group of words of the run. Returns true only where all are 0.
 #[inline(always)]
-fn are_zero(words: &Words, turn: &mut Turn, pages: u64, run: RunPages, first: u64) -> bool
+fn are_zero(words: &Words, turn: &mut Turn, pages: u64, run: RunPages, group: u64) -> bool
     requires one_table { turn.old.pass.table ≡ words.now }
     requires pages { pages ≡ words.now.config.pages }
     requires may { MayWipe turn.old.pass run }
-    requires group { first + 8 ≤ 64 * run.count }
-    requires wiped { AreWiped (now_of turn.old.pass).words run first }
+    requires group { 8 * group + 8 ≤ 64 * run.count }
+    requires wiped { AreWiped (now_of turn.old.pass).words run (8 * group) }
     ensures op { turn.new.op ≡ turn.old.op }
-    ensures still { WipesTo turn.old.pass run first turn.new.pass }
-    ensures zero { result ≡ true → WipesTo turn.old.pass run (first + 8) turn.new.pass }
+    ensures still { WipesTo turn.old.pass run (8 * group) turn.new.pass }
+    ensures zero { result ≡ true → WipesTo turn.old.pass run (8 * group + 8) turn.new.pass }
 {
     words.is_within_limits();
     turn.is_in_order();
+    let first = GROUP * group;
     let mut all = 0;
-    for word in first..first + GROUP {
+    for i in 0..GROUP {
+        let word = first + i;
         all |= turn.look_among(words, pages, Word::Heap(PAGE_WORDS * run.page + word));
     }
     all == 0
 }
 
-/// Wipes a group of words of the run, from this one on. It isn't inlined, since few groups need it.
+/// Wipes a group of words of the run. It isn't inlined, since few groups need it. It takes the group's number and not
+/// its first word, so the loop over groups keeps no word number beside an address.
 #[inline(never)]
-fn wipe_words(words: &Words, turn: &mut Turn, pages: u64, run: RunPages, first: u64)
+fn wipe_words(words: &Words, turn: &mut Turn, pages: u64, run: RunPages, group: u64)
     requires one_table { turn.old.pass.table ≡ words.now }
     requires pages { pages ≡ words.now.config.pages }
     requires may { MayWipe turn.old.pass run }
-    requires group { first + 8 ≤ 64 * run.count }
-    requires wiped { AreWiped (now_of turn.old.pass).words run first }
+    requires group { 8 * group + 8 ≤ 64 * run.count }
+    requires wiped { AreWiped (now_of turn.old.pass).words run (8 * group) }
     ensures op { turn.new.op ≡ turn.old.op }
-    ensures wipes { WipesTo turn.old.pass run (first + 8) turn.new.pass }
+    ensures wipes { WipesTo turn.old.pass run (8 * group + 8) turn.new.pass }
 {
     words.is_within_limits();
     turn.is_in_order();
+    let first = GROUP * group;
     for word in first..first + GROUP {
         let found = turn.look_among(words, pages, Word::Heap(PAGE_WORDS * run.page + word));
         if found != 0 {
@@ -57,21 +61,21 @@ fn wipe_words(words: &Words, turn: &mut Turn, pages: u64, run: RunPages, first: 
     }
 }
 
-/// Wipes what isn't 0 of a group of words of the run, from this one on.
+/// Wipes what isn't 0 of a group of words of the run.
 #[inline(always)]
-fn wipe_group(words: &Words, turn: &mut Turn, pages: u64, run: RunPages, first: u64)
+fn wipe_group(words: &Words, turn: &mut Turn, pages: u64, run: RunPages, group: u64)
     requires one_table { turn.old.pass.table ≡ words.now }
     requires pages { pages ≡ words.now.config.pages }
     requires may { MayWipe turn.old.pass run }
-    requires group { first + 8 ≤ 64 * run.count }
-    requires wiped { AreWiped (now_of turn.old.pass).words run first }
+    requires group { 8 * group + 8 ≤ 64 * run.count }
+    requires wiped { AreWiped (now_of turn.old.pass).words run (8 * group) }
     ensures op { turn.new.op ≡ turn.old.op }
-    ensures wipes { WipesTo turn.old.pass run (first + 8) turn.new.pass }
+    ensures wipes { WipesTo turn.old.pass run (8 * group + 8) turn.new.pass }
 {
-    if are_zero(words, turn, pages, run, first) {
+    if are_zero(words, turn, pages, run, group) {
         return;
     }
-    wipe_words(words, turn, pages, run, first);
+    wipe_words(words, turn, pages, run, group);
 }
 
 /// Wipes the words of the run that the call has freed and unmapped.
@@ -88,6 +92,6 @@ pub(crate) fn wipe_run(words: &Words, turn: &mut Turn, run: RunPages)
 {
     let pages = words.pages();
     for group in 0..PAGE_WORDS / GROUP * run.count {
-        wipe_group(words, turn, pages, run, GROUP * group);
+        wipe_group(words, turn, pages, run, group);
     }
 }

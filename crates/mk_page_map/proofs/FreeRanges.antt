@@ -1,12 +1,12 @@
 -- The lowest range of free pages, from one range to the next.
-use Rattle.std.proofs.Common.{◌≡◌, ℕ, zero, suc, ◌+◌, ◌-◌, ◌<◌, ◌≤◌, Bool, true, false, List, length}
-use Rattle.std.proofs.Common.{Option, Some, None, ap, sym, ◌∙◌, inl, inr, arith}
+use Rattle.std.proofs.Common.{◌≡◌, ℕ, zero, suc, ◌+◌, ◌-◌, ◌<◌, ◌≤◌, nat_le, Bool, true, false, if◌then◌else◌, refl}
+use Rattle.std.proofs.Common.{List, [], ◌∷◌, length, Option, Some, None, option_map, ap, sym, ◌∙◌, inl, inr, arith}
 use Rattle.std.specs.Option.{unwrap_or}
-use Rattle.std.proofs.lemmas.Bool.{both_ways, cases_lt, not-false, not-true}
+use Rattle.std.proofs.lemmas.Bool.{both_ways, cases_lt, le-leb, not-false, not-true}
 use Rattle.std.proofs.lemmas.List.{at_drop_all}
 use Rattle.mk_geom.specs.declared.pages.Page.{Page}
 use Rattle.mk_geom.specs.Storages.{free_page}
-use Rattle.mk_geom.specs.PageUses.{is_free_page, free_range}
+use Rattle.mk_geom.specs.PageUses.{PageUse, first_where, free_range, is_free_page, range_start}
 use Rattle.mk_geom.specs.PageWords.{use_of_page, uses_of_pages}
 use Rattle.mk_books.proofs.FreeRangeLemmas.{free_range_from, free_range_from-free, free_range_from-taken}
 use Rattle.mk_books.proofs.FreeRangeLemmas.{range_start_from, first-skip, first-here, first-end}
@@ -14,6 +14,20 @@ use Rattle.mk_page_map.specs.Members.{IsNext, is_in_use, page_at}
 
 abbrev pub is_free_at : List Page → ℕ → Bool
 is_free_at pages number = is_free_page (use_of_page (page_at pages number))
+
+-- a page alone
+
+one_page : (free : Bool) (range : ℕ) (rest other : Option ℕ) → rest ≡ other
+    → (if free then Some 0 else option_map (λ n. n + 1) rest)
+    ≡ (if nat_le 1 (if free then range + 1 else 0) then Some 0 else option_map (λ n. n + 1) other)
+one_page true range rest other same = rw (le-leb 1 (range + 1) (omega arith)) refl
+one_page false range rest other same = ap (option_map (λ n. n + 1)) same
+
+pub lowest_page_is_range : (uses : List PageUse) → first_where is_free_page uses ≡ range_start 1 uses
+lowest_page_is_range [] = refl
+lowest_page_is_range (page ∷ pages) =
+    one_page (is_free_page page) (free_range pages) (first_where is_free_page pages) (range_start 1 pages)
+    (lowest_page_is_range pages)
 
 -- past pages in use, of which there are this many
 past_used : (gap from count : ℕ) (pages : List Page) → 1 ≤ count → from + gap ≤ length pages

@@ -77,14 +77,11 @@ byte_is true = refl
 byte_is false = refl
 
 -- the byte that the code counts a page by
-pub resident_byte : (page : Page) (kind : PageKind) (is_resident : Bool) (byte : ℕ)
-    → ((used : ℕ) → use_under (header_of page.header) used ≡ use_of_kind kind used)
-    → ((used : ℕ) → is_resident_page (use_of_kind kind used) ≡ is_resident) → byte ≡ from_bool is_resident
-    → byte ≡ resident_one page
-resident_byte page kind is_resident byte is_kind resident is =
-    is
-    ∙ byte_is is_resident
-    ∙ ap (λ b. cond b 1 0) (sym (ap is_resident_page (is_kind page.used) ∙ resident page.used))
+pub resident_byte : (page : Page) (is_resident : Bool) (byte : ℕ)
+    → ((used : ℕ) → is_resident_page (use_under (header_of page.header) used) ≡ is_resident)
+    → byte ≡ from_bool is_resident → byte ≡ resident_one page
+resident_byte page is_resident byte resident is =
+    is ∙ byte_is is_resident ∙ ap (λ b. cond b 1 0) (sym (resident page.used))
 
 -- one page more or less
 pub counted_anew : (held : List Page) (page resident was is : ℕ) (now : Page) → page < length held

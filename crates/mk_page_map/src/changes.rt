@@ -4,7 +4,7 @@ ghost use Rattle.mk_geom.specs.declared.pages.Page.{Page};
 ghost use Rattle.mk_page_map.specs.KnownPages.{Shows, is_uncleaned, with_header, with_used};
 ghost use Rattle.mk_page_map.specs.Members.{page_at};
 
-use crate::kinds::kind_of;
+use crate::kinds::{is_resident, kind_of};
 use crate::page_map::PageMap;
 use crate::sets::put;
 use crate::sorting::{UNCLEANED, sort_by_header, sort_by_quarantine, sort_by_used};
@@ -24,10 +24,10 @@ impl PageMap {
         let used = self.pages[place].used;
         let before = kind_of(self.pages[place].header);
         let after = kind_of(header);
+        let was_resident = u64::from(is_resident(self.pages[place].header));
         self.pages[place] = Page { header, used };
         sort_by_header(&mut self.sets, page, before, after, used);
-        self.resident = self.resident + u64::from(after.is_resident())
-            - u64::from(before.is_resident());
+        self.resident = self.resident + u64::from(is_resident(header)) - was_resident;
     }
 
     /// A used word was stored.

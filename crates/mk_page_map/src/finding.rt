@@ -21,7 +21,7 @@ fn next_page(count: usize, sets: &[u64], set: usize, from: u64) -> Option<u64>
     requires no_others { (number : ℕ) → count ≤ number → number < 4096 → is_member sets.now set number ≡ false }
     ensures { IsNext (is_member sets.now set) from count result }
 {
-    if count == 0 {
+    if from >= count as u64 {
         return None;
     }
     next_in(sets, set, from)
@@ -68,12 +68,16 @@ impl PageMap {
         next_page(self.pages.len(), &self.sets, UNCLEANED, from)
     }
 
-    /// The lowest of this many neighbours that are free. It goes from one range of free pages to the next.
+    /// The lowest of this many neighbours that are free. A page alone is the lowest free one. Else it goes from one
+    /// range of free pages to the next.
     pub fn first_range(&self, count: u64) -> Option<u64>
         requires { 1 ≤ count }
         ensures { (pages : List Page) (freed : List ℕ) → Shows self.now pages freed
             → result ≡ range_start count (uses_of_pages pages) }
     {
+        if count == 1 {
+            return self.first_free();
+        }
         let pages = self.pages.len();
         let mut from = 0;
         while let Some(start) = next_page(pages, &self.sets, FREE, from) {

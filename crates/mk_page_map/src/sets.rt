@@ -33,13 +33,11 @@ fn lowest_from(word: u64, from: u64) -> Option<u64>
 pub(crate) fn next_in(sets: &[u64], set: usize, from: u64) -> Option<u64>
     requires sets { AreSets sets.now }
     requires set { set < 20 }
+    requires from { from < 4096 }
     ensures { IsNext (is_member sets.now set) from 4096 result }
 {
     let summary = SET_WORDS * set;
     let word = from / 64;
-    if word >= 64 {
-        return None;
-    }
     let here = sets[summary + 1 + word as usize];
     if let Some(bit) = lowest_from(here, from % 64) {
         return Some(64 * word + bit);

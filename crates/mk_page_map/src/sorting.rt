@@ -1,5 +1,5 @@
 //! The sets that a page is in by what stands on it.
-ghost use Rattle.std.specs.Prelude.{◌≡◌, ℕ, ◌<◌, ◌≤◌, ◌==◌, ◌&&◌, IfOk, false, nat_lt, not};
+ghost use Rattle.std.specs.Prelude.{◌≡◌, ℕ, ◌<◌, ◌≤◌, ◌==◌, ◌&&◌, IfOk, false, true, nat_lt, not};
 ghost use Rattle.mk_books.specs.FreeCells.{class_place};
 ghost use Rattle.mk_geom.specs.PageUses.{is_free_page};
 ghost use Rattle.mk_page_map.specs.PageSets.{AreSets, HasClass, IsInItsSets, OthersStay, is_member, is_of_set};
@@ -71,7 +71,25 @@ fn join_blocks(sets: &mut [u64], page: u64, kind: PageKind, used: u64)
     }
 }
 
-/// Sorts a page anew whose header word has changed.
+/// Puts a page among the free ones, where it may be marked, or among those in use.
+#[inline(always)]
+fn put_free(sets: &mut [u64], page: u64, is_free: bool)
+    requires sets { AreSets sets.old }
+    requires page { page < 4096 }
+    ensures sets { AreSets sets.new }
+    ensures free { is_member sets.new 16 page ≡ is_free }
+    ensures in_use { is_member sets.new 17 page ≡ not is_free }
+    ensures uncleaned { is_member sets.new 19 page ≡ is_free }
+    ensures other_sets { (set : ℕ) → set < 19 → (set ≡ 16 → ⊥) → (set ≡ 17 → ⊥)
+        → is_member sets.new set page ≡ is_member sets.old set page }
+    ensures other_pages { OthersStay sets.old sets.new page }
+{
+    put(sets, FREE, page, is_free);
+    put(sets, IN_USE, page, !is_free);
+    put(sets, UNCLEANED, page, is_free);
+}
+
+/// Sorts a page anew whose header word has changed. One that stays in use stays there.
 pub(crate) fn sort_by_header(
     sets: &mut [u64],
     page: u64,
@@ -86,16 +104,19 @@ pub(crate) fn sort_by_header(
     requires sorted { IsInItsSets sets.old page (use_of_kind before used) }
     ensures sets { AreSets sets.new }
     ensures sorted { IsInItsSets sets.new page (use_of_kind after used) }
-    ensures uncleaned { is_member sets.new 19 page ≡ is_free_page (use_of_kind after used) }
+    ensures uncleaned { is_free_page (use_of_kind after used) ≡ true → is_member sets.new 19 page ≡ true }
     ensures other_sets { (set : ℕ) → 18 ≤ set → set < 19 → is_member sets.new set page ≡ is_member sets.old set page }
     ensures other_pages { OthersStay sets.old sets.new page }
 {
     leave_blocks(sets, page, before);
     join_blocks(sets, page, after, used);
+    let was_free = before.is_free();
     let is_free = after.is_free();
-    put(sets, FREE, page, is_free);
-    put(sets, IN_USE, page, !is_free);
-    put(sets, UNCLEANED, page, is_free);
+    if is_free {
+        put_free(sets, page, true);
+    } else if was_free {
+        put_free(sets, page, false);
+    }
 }
 
 /// Sorts a page anew whose used word has changed.

@@ -10,16 +10,14 @@ use mk_core::Config;
 use mk_geom::{Cell, HEAP_START, WORD_BYTES, class_of, class_words};
 use mk_never::Op;
 
-/// The cell that is known after a store to a used word.
+/// Learns the cell that is taken by a store to a used word, which found this one; most take none.
 #[inline(always)]
-pub(crate) fn cell_behind(page: u64, v: u64, found: u64, cell: Option<Cell>) -> Option<Cell>
-    ensures { result ≡ cell_behind page v found cell }
+pub(crate) fn learn_cell(cell: &mut Option<Cell>, page: u64, v: u64, found: u64)
+    ensures { cell.new ≡ cell_behind page v found cell.old }
 {
     if found < v {
         let index = (v - found).trailing_zeros() as u64;
-        Some(Cell { page, index })
-    } else {
-        cell
+        *cell = Some(Cell { page, index });
     }
 }
 

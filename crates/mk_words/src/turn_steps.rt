@@ -13,7 +13,7 @@ ghost use Rattle.mk_words.specs.Steps.{IsEnabledTo, IsAdmittedTo, Finds, Goes, m
 ghost use Rattle.mk_words.specs.TurnSteps.{Acts};
 
 use crate::gates::Gates;
-use crate::granting::{address_of, cell_base, cell_behind, register_granted};
+use crate::granting::{address_of, cell_base, learn_cell, register_granted};
 use crate::indexes::page_of;
 use crate::turns::{Turn, TurnAt};
 use crate::words::Words;
@@ -239,7 +239,7 @@ impl<G: Gates> TurnAt<G> {
             v,
         );
         let carried = &mut *self.carried;
-        carried.cell = cell_behind(page, v, found, carried.cell);
+        learn_cell(&mut carried.cell, page, v, found);
         carried.map.used_stored(page, v);
     }
 }

@@ -42,7 +42,7 @@ returns-then-snapshot-eq0-clause-gives c =
 both : (c : After-without-gone) → GivesNothingBack c.args.turn.now.pass c.look-marks.new.turn.pass
 both c = none_then _ _ _ c.look-quarantine.ensures.frees c.look-marks.ensures.frees
 
-header : (c : After-without-gone) → c.args.header ≡ header_at (now_of c.look-marks.new.turn.pass).words c.args.page
+header : (c : After-without-gone) → c.args.header.now ≡ header_at (now_of c.look-marks.new.turn.pass).words c.args.page
 header c =
     c.requires.header
     ∙ sym (same_header c.args.turn.now.pass c.look-marks.new.turn.pass c.args.page ((both c).same c.args.page))
@@ -64,7 +64,7 @@ counted c =
     let x = c.look-quarantine.ensures in
     let y = c.look-marks.ensures in
     let r = c.released_cells-released.ensures in
-    counted_on p b b c.args.page (c.look-quarantine.result / 2 ^ 32) c.look-marks.result c.args.header
+    counted_on p b b c.args.page (c.look-quarantine.result / 2 ^ 32) c.look-marks.result c.args.header.now
     c.released_cells-released.result (both c) (none_at_once b)
     (snapshot_told p c.look-quarantine.new.turn.pass c.args.page c.look-quarantine.result x.is x.frees x.reads)
     y.reads (header c) r.count r.words r.kept
@@ -73,7 +73,7 @@ held : (c : After-without-gone)
     → c.held_words-held.result ≡ held_unmarked (now_of c.args.turn.now.pass).words c.args.page
 held c =
     c.held_words-held.ensures.is
-    ∙ held_by_header (now_of c.args.turn.now.pass).words c.args.page c.args.header
+    ∙ held_by_header (now_of c.args.turn.now.pass).words c.args.page c.args.header.now
     c.released_cells-released.result.words c.requires.header (ap (λ (r : Released). r.words) (counted c))
 
 pub returns-then-gone-eq0-clause-held : goal.returns-then-gone-eq0-clause-held

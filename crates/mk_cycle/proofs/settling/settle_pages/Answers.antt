@@ -8,7 +8,7 @@ use Rattle.mk_words.specs.States.{PassState, WordsState, now_of}
 use Rattle.mk_cycle.proofs.FreeingSteps.{freed_table}
 use Rattle.mk_cycle.proofs.PageByPage.{AreSettledBelow, settled_more, settled_none, settled_to}
 use Rattle.mk_cycle.proofs.settling.settle_pages.Goals as goal
-use Rattle.mk_cycle.proofs.settling.settle_pages.Goals.{After-known_page-header, In_default}
+use Rattle.mk_cycle.proofs.settling.settle_pages.Goals.{After-known_page-word, In_default}
 
 pub loop-page-init : goal.loop-page-init
 loop-page-init c =
@@ -24,7 +24,7 @@ loop-page-init c =
     }
 
 -- up to the next page that may be unsettled
-to_next : (c : After-known_page-header)
+to_next : (c : After-known_page-word)
     → AreSettledBelow c.args.turn.now.pass c.loop-page.turn.pass c.args.words.now.config.pages c.in-Some.page
     c.loop-page.end c.loop-page.all c.loop-page.held
 to_next c =
@@ -40,7 +40,7 @@ to_next c =
 
 pub settle_taken-here-requires-clause-settled : goal.settle_taken-here-requires-clause-settled
 settle_taken-here-requires-clause-settled c =
-    (to_next (goal.at.settle_taken-here-requires-clause-settled c).After-known_page-header).settled
+    (to_next (goal.at.settle_taken-here-requires-clause-settled c).After-known_page-word).settled
 
 pub loop-page-preserved : goal.loop-page-preserved
 loop-page-preserved c =
@@ -50,12 +50,12 @@ loop-page-preserved c =
     let q : PassState = c.loop-page.turn.pass in
     let n : ℕ = c.in-Some.page in
     let pages : ℕ = c.args.words.now.config.pages in
-    let before = to_next (goal.at.loop-page-preserved c).After-known_page-header in
+    let before = to_next (goal.at.loop-page-preserved c).After-known_page-word in
     let after = c.in-Some.ensures.next.0 in
     let same_pages : q.table.config.pages ≡ pages =
     ap (λ (w : WordsState). w.config.pages) (freed_table p q c.args.words.now i.settled.frees c.requires.one_table) in
     let within : n < q.table.config.pages = c.in-Some.ensures.next.1 in
-    let known = ap (λ (y : Page). y.header) c.known_page-header.ensures.page in
+    let known = c.of-header.ensures ∙ ap (λ (y : Page). y.header) c.known_page-word.ensures.page in
     let end : c.run_end.result ≡ in_a_word (n + run_count (header_in (now_of q).words n)) =
     c.run_end.ensures ∙ ap (λ (h : ℕ). in_a_word (n + run_count (header_of h))) known in
     let furthest = c.max-end.ensures in

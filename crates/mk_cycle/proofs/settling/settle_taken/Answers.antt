@@ -12,16 +12,16 @@ free_unused-requires-clause-free c =
 
 pub free_unused-requires-clause-head : goal.free_unused-requires-clause-head
 free_unused-requires-clause-head c =
-    c.head_page_under.ensures.exact
+    c.head_page.ensures
     ∙ ap (λ (n : ℕ). head_page_under (header_of n) c.args.page)
     (c.requires.header ∙ sym c.release_cells-here.ensures.gives.header)
 
 pub free_unused-requires-clause-none_at_head : goal.free_unused-requires-clause-none_at_head
 free_unused-requires-clause-none_at_head c =
-    none_at c.args.turn.now.pass c.release_cells-here.new.turn.pass c.args.page c.head_page_under.result
+    none_at c.args.turn.now.pass c.release_cells-here.new.turn.pass c.args.page c.head_page.result
     c.release_cells-here.ensures.gives
-    (subst (λ (n : ℕ). n ≤ c.args.page) (sym c.head_page_under.ensures.exact)
-    (head_before (header_of c.args.header) c.args.page))
+    (subst (λ (n : ℕ). n ≤ c.args.page) (sym c.head_page.ensures)
+    (head_before (header_of c.args.header.now) c.args.page))
     c.requires.settled
 
 pub returns-clause-frees : goal.returns-clause-frees

@@ -5,36 +5,38 @@ use Rattle.mk_cycle.proofs.wiping.wipe_word.Goals as goal
 
 pub wipe-requires-clause-free : goal.wipe-requires-clause-free
 wipe-requires-clause-free c =
-    let first = look_frees _ _ c.look.ensures.was c.look.ensures.is c.requires.free c.requires.phase _
-    c.look.ensures.acts in
+    let first = look_frees _ _ c.look_among.ensures.was c.look_among.ensures.is c.requires.free c.requires.phase _
+    c.look_among.ensures.acts in
     freed_free _ _ first.frees c.requires.free
 
 pub wipe-requires-clause-phase : goal.wipe-requires-clause-phase
 wipe-requires-clause-phase c =
-    let first = look_frees _ _ c.look.ensures.was c.look.ensures.is c.requires.free c.requires.phase _
-    c.look.ensures.acts in
+    let first = look_frees _ _ c.look_among.ensures.was c.look_among.ensures.is c.requires.free c.requires.phase _
+    c.look_among.ensures.acts in
     freed_phase _ _ first.frees c.requires.phase
 
 pub wipe-requires-clause-released : goal.wipe-requires-clause-released
 wipe-requires-clause-released c =
-    let first = look_frees _ _ c.look.ensures.was c.look.ensures.is c.requires.free c.requires.phase _
-    c.look.ensures.acts in
-    holds_released c.look.new.turn.pass c.look.ensures.is (freed_free _ _ first.frees c.requires.free)
+    let first = look_frees _ _ c.look_among.ensures.was c.look_among.ensures.is c.requires.free c.requires.phase _
+    c.look_among.ensures.acts in
+    holds_released c.look_among.new.turn.pass c.look_among.ensures.is (freed_free _ _ first.frees c.requires.free)
     (freed_phase _ _ first.frees c.requires.phase)
     c.args.word (still_unmapped _ _ c.args.word first.frees.keeps c.requires.unmapped.unmapped)
-    (λ z. c.if-look-ne0.true (c.look.ensures.reads ∙ z))
+    (λ z. c.if-look_among-ne0.true (c.look_among.ensures.reads ∙ z))
 
-pub returns-then-look-ne0-clause-frees : goal.returns-then-look-ne0-clause-frees
-returns-then-look-ne0-clause-frees c =
-    let first = look_frees _ _ c.look.ensures.was c.look.ensures.is c.requires.free c.requires.phase _
-    c.look.ensures.acts in
+pub returns-then-look_among-ne0-clause-frees : goal.returns-then-look_among-ne0-clause-frees
+returns-then-look_among-ne0-clause-frees c =
+    let first = look_frees _ _ c.look_among.ensures.was c.look_among.ensures.is c.requires.free c.requires.phase _
+    c.look_among.ensures.acts in
     none_then _ _ _ first
     (wipe_frees _ _ c.wipe.ensures.was c.wipe.ensures.is (freed_free _ _ first.frees c.requires.free)
     (freed_phase _ _ first.frees c.requires.phase) _ c.wipe.ensures.acts)
 
-pub returns-then-look-ne0-clause-zero : goal.returns-then-look-ne0-clause-zero
-returns-then-look-ne0-clause-zero c = wiped _ _ c.wipe.ensures.was c.wipe.ensures.is c.args.word c.wipe.ensures.acts
+pub returns-then-look_among-ne0-clause-zero : goal.returns-then-look_among-ne0-clause-zero
+returns-then-look_among-ne0-clause-zero c =
+    wiped _ _ c.wipe.ensures.was c.wipe.ensures.is c.args.word c.wipe.ensures.acts
 
-pub returns-else-look-ne0-clause-frees : goal.returns-else-look-ne0-clause-frees
-returns-else-look-ne0-clause-frees c =
-    look_frees _ _ c.look.ensures.was c.look.ensures.is c.requires.free c.requires.phase _ c.look.ensures.acts
+pub returns-else-look_among-ne0-clause-frees : goal.returns-else-look_among-ne0-clause-frees
+returns-else-look_among-ne0-clause-frees c =
+    look_frees _ _ c.look_among.ensures.was c.look_among.ensures.is c.requires.free c.requires.phase _
+    c.look_among.ensures.acts

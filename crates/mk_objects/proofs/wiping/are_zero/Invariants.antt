@@ -1,11 +1,11 @@
-use Rattle.std.proofs.Common.{◌≡◌}
+use Rattle.std.proofs.Common.{◌≡◌, ◌+◌, ◌*◌}
 use Rattle.mk_objects.specs.Unmapping.{WipesTo}
 use Rattle.mk_objects.proofs.wiping.are_zero.Given as goal
 
-abbrev pub invariant-loop-word : goal.invariant-loop-word
-invariant-loop-word l =
+abbrev pub invariant-loop-i : goal.invariant-loop-i
+invariant-loop-i l =
     record {
       op : l.turn.op ≡ l.fn.turn.op;
-      still : WipesTo l.fn.turn.pass l.run l.first l.turn.pass;
-      zero : l.all ≡ 0 → WipesTo l.fn.turn.pass l.run l.word l.turn.pass;
+      still : WipesTo l.fn.turn.pass l.run (8 * l.group) l.turn.pass;
+      zero : l.all ≡ 0 → WipesTo l.fn.turn.pass l.run (8 * l.group + l.i) l.turn.pass;
     }

@@ -10,7 +10,7 @@ pub loop-word-init : goal.loop-word-init
 loop-word-init c =
     record {
       op = refl;
-      wiped = wiped_from c.args.turn.now.pass c.args.run c.args.first c.requires.wiped;
+      wiped = wiped_from c.args.turn.now.pass c.args.run (8 * c.args.group) c.requires.wiped;
     }
 
 pub look_among-found-requires-clause-enabled : goal.look_among-found-requires-clause-enabled
@@ -63,5 +63,6 @@ loop-word-preserved c =
 
 pub returns-clause-wipes : goal.returns-clause-wipes
 returns-clause-wipes c =
-    let all : c.loop-word.word ≡ c.args.first + 8 = omega (arith, c.loop-word-test.false, c.loop-word.auto.word-end) in
+    let all : c.loop-word.word ≡ 8 * c.args.group + 8 =
+    omega (arith, c.loop-word-test.false, c.loop-word.auto.word-end) in
     subst (λ n. WipesTo c.args.turn.now.pass c.args.run n c.loop-word.turn.pass) all c.loop-word.invariant.wiped

@@ -1,39 +1,79 @@
-use Rattle.std.proofs.Common.{◌≡◌, not, sym, ◌∙◌, ap, arith}
+use Rattle.std.proofs.Common.{◌≡◌, ℕ, ◌<◌, ◌≤◌, not, sym, ◌∙◌, ap, arith}
+use Rattle.mk_geom.specs.PageUses.{is_free_page}
 use Rattle.mk_page_map.specs.PageSets.{is_member, is_of_set, use_of_kind}
 use Rattle.mk_page_map.proofs.BlockSets.{each_set}
 use Rattle.mk_page_map.proofs.sorting.sort_by_header.Goals as goal
 
-pub returns-clause-sorted : goal.returns-clause-sorted
-returns-clause-sorted c =
-    each_set (λ s. is_member c.put-3.new.sets s c.args.page ≡ is_of_set s (use_of_kind c.args.after c.args.used))
-    (λ s block.
-    c.put-3.ensures.other_sets s (omega arith) (λ same. absurd (omega arith))
-    ∙ c.put-2.ensures.other_sets s (omega arith) (λ same. absurd (omega arith))
-    ∙ c.put.ensures.other_sets s (omega arith) (λ same. absurd (omega arith))
-    ∙ c.join_blocks.ensures.joined s block)
-    (c.put-3.ensures.other_sets 16 (omega arith) (λ same. absurd (omega arith))
-    ∙ c.put-2.ensures.other_sets 16 (omega arith) (λ same. absurd (omega arith))
-    ∙ c.put.ensures.this
-    ∙ sym (c.is_free-is_free.ensures c.args.used))
-    (c.put-3.ensures.other_sets 17 (omega arith) (λ same. absurd (omega arith))
-    ∙ c.put-2.ensures.this
-    ∙ ap not (sym (c.is_free-is_free.ensures c.args.used)))
+-- a page that becomes free
 
-pub returns-clause-other_sets : goal.returns-clause-other_sets
-returns-clause-other_sets c s above is_set =
-    c.put-3.ensures.other_sets s (omega arith) (λ same. absurd (omega arith))
-    ∙ c.put-2.ensures.other_sets s (omega arith) (λ same. absurd (omega arith))
-    ∙ c.put.ensures.other_sets s (omega arith) (λ same. absurd (omega arith))
+pub returns-then-is_free-clause-sorted : goal.returns-then-is_free-clause-sorted
+returns-then-is_free-clause-sorted c =
+    let free = sym (c.is_free-is_free.ensures c.args.used ∙ c.if-is_free.true) in
+    each_set (λ s. is_member c.put_free.new.sets s c.args.page ≡ is_of_set s (use_of_kind c.args.after c.args.used))
+    (λ s block.
+    c.put_free.ensures.other_sets s (omega arith) (λ same. absurd (omega arith)) (λ same. absurd (omega arith))
+    ∙ c.join_blocks.ensures.joined s block)
+    (c.put_free.ensures.free ∙ free)
+    (c.put_free.ensures.in_use ∙ ap not free)
+
+pub returns-then-is_free-clause-other_sets : goal.returns-then-is_free-clause-other_sets
+returns-then-is_free-clause-other_sets c s above is_set =
+    c.put_free.ensures.other_sets s (omega arith) (λ same. absurd (omega arith)) (λ same. absurd (omega arith))
     ∙ c.join_blocks.ensures.other_sets s (omega arith) (omega arith)
     ∙ c.leave_blocks.ensures.other_sets s (omega arith) (omega arith)
 
-pub returns-clause-other_pages : goal.returns-clause-other_pages
-returns-clause-other_pages c s number is_set few differ =
-    c.put-3.ensures.other_pages s number is_set few differ
-    ∙ c.put-2.ensures.other_pages s number is_set few differ
-    ∙ c.put.ensures.other_pages s number is_set few differ
+pub returns-then-is_free-clause-other_pages : goal.returns-then-is_free-clause-other_pages
+returns-then-is_free-clause-other_pages c s number is_set few differ =
+    c.put_free.ensures.other_pages s number is_set few differ
     ∙ c.join_blocks.ensures.other_pages s number is_set few differ
     ∙ c.leave_blocks.ensures.other_pages s number is_set few differ
 
-pub returns-clause-uncleaned : goal.returns-clause-uncleaned
-returns-clause-uncleaned c = c.put-3.ensures.this ∙ sym (c.is_free-is_free.ensures c.args.used)
+-- and one that is so no more
+
+pub returns-then-was_free-clause-sorted : goal.returns-then-was_free-clause-sorted
+returns-then-was_free-clause-sorted c =
+    let free = sym (c.is_free-is_free.ensures c.args.used ∙ c.if-is_free.false) in
+    each_set (λ s. is_member c.put_free-then-was_free.new.sets s c.args.page
+    ≡ is_of_set s (use_of_kind c.args.after c.args.used))
+    (λ s block.
+    c.put_free-then-was_free.ensures.other_sets s (omega arith) (λ same. absurd (omega arith))
+    (λ same. absurd (omega arith))
+    ∙ c.join_blocks.ensures.joined s block)
+    (c.put_free-then-was_free.ensures.free ∙ free)
+    (c.put_free-then-was_free.ensures.in_use ∙ ap not free)
+
+pub returns-then-was_free-clause-other_sets : goal.returns-then-was_free-clause-other_sets
+returns-then-was_free-clause-other_sets c s above is_set =
+    c.put_free-then-was_free.ensures.other_sets s (omega arith) (λ same. absurd (omega arith))
+    (λ same. absurd (omega arith))
+    ∙ c.join_blocks.ensures.other_sets s (omega arith) (omega arith)
+    ∙ c.leave_blocks.ensures.other_sets s (omega arith) (omega arith)
+
+pub returns-then-was_free-clause-other_pages : goal.returns-then-was_free-clause-other_pages
+returns-then-was_free-clause-other_pages c s number is_set few differ =
+    c.put_free-then-was_free.ensures.other_pages s number is_set few differ
+    ∙ c.join_blocks.ensures.other_pages s number is_set few differ
+    ∙ c.leave_blocks.ensures.other_pages s number is_set few differ
+
+-- a page that stays in use
+
+in_use : (c : goal.Else-was_free) → is_free_page (use_of_kind c.args.before c.args.used)
+    ≡ is_free_page (use_of_kind c.args.after c.args.used)
+in_use c =
+    c.is_free-was_free.ensures c.args.used
+    ∙ c.if-was_free.false
+    ∙ sym (c.is_free-is_free.ensures c.args.used ∙ c.if-is_free.false)
+
+stays : (c : goal.Else-was_free) (s : ℕ) → 16 ≤ s → s < 18
+    → is_member c.join_blocks.new.sets s c.args.page ≡ is_of_set s (use_of_kind c.args.before c.args.used)
+stays c s above is_set =
+    c.join_blocks.ensures.other_sets s above (omega arith)
+    ∙ c.leave_blocks.ensures.other_sets s above (omega arith)
+    ∙ c.requires.sorted s is_set
+
+pub returns-else-was_free-clause-sorted : goal.returns-else-was_free-clause-sorted
+returns-else-was_free-clause-sorted c =
+    each_set (λ s. is_member c.join_blocks.new.sets s c.args.page ≡ is_of_set s (use_of_kind c.args.after c.args.used))
+    c.join_blocks.ensures.joined
+    (stays c 16 (omega arith) (omega arith) ∙ in_use c)
+    (stays c 17 (omega arith) (omega arith) ∙ ap not (in_use c))

@@ -4,11 +4,17 @@ use Rattle.mk_geom.specs.PageUses.{range_start}
 use Rattle.mk_geom.specs.PageWords.{uses_of_pages}
 use Rattle.mk_books.proofs.FreeRangeLemmas.{range_start_from}
 use Rattle.mk_page_map.specs.Members.{IsNext, is_in_use}
-use Rattle.mk_page_map.proofs.FreeRanges.{IsRange, is_free_at, no_range, past_pages_in_use, range_from, range_is_long}
-use Rattle.mk_page_map.proofs.FreeRanges.{range_is_short}
+use Rattle.mk_page_map.proofs.FreeRanges.{IsRange, is_free_at, lowest_page_is_range, no_range, past_pages_in_use}
+use Rattle.mk_page_map.proofs.FreeRanges.{range_from, range_is_long, range_is_short}
 use Rattle.mk_page_map.proofs.Reading.{next_of_held, no_others_there}
 use Rattle.mk_page_map.proofs.page_map.PageMap.first_range.Goals as goal
 use Rattle.mk_page_map.proofs.page_map.PageMap.first_range.Goals.{After-unwrap_or-end}
+
+pub returns-then-count-eq1 : goal.returns-then-count-eq1
+returns-then-count-eq1 c pages freed shows =
+    c.first_free.ensures pages freed shows
+    ∙ lowest_page_is_range (uses_of_pages pages)
+    ∙ ap (λ n. range_start n (uses_of_pages pages)) (sym c.if-count-eq1.true)
 
 pub next_page-requires-clause-no_others : goal.next_page-requires-clause-no_others
 next_page-requires-clause-no_others c =

@@ -12,16 +12,16 @@ use Rattle.mk_page_map.proofs.Storing.{Stores, counted_anew, page_read, page_wit
 use Rattle.mk_page_map.proofs.Storing.{store_shows}
 use Rattle.mk_page_map.proofs.Uncleaned.{others_kept, this_uncleaned}
 use Rattle.mk_page_map.proofs.page_map.PageMap.header_stored.Goals as goal
-use Rattle.mk_page_map.proofs.page_map.PageMap.header_stored.Goals.{After-from-2}
+use Rattle.mk_page_map.proofs.page_map.PageMap.header_stored.Goals.{After-from}
 
-abbrev now : After-from-2 → Page
+abbrev now : After-from → Page
 now c = record { header = c.args.header; used = c.index.result.now.used }
 
-within : (c : After-from-2) → c.args.page < length c.self.inside.pages.items
+within : (c : After-from) → c.args.page < length c.self.inside.pages.items
 within c = page_within c.args.self.now c.self.inside.pages.items c.self.inside.sets.items c.args.page c.self.view_is
     c.requires
 
-stores : (c : After-from-2)
+stores : (c : After-from)
     → Stores c.self.inside.pages.items c.self.inside.sets.items c.deref_mut.result.now c.sort_by_header.new.sets
     c.self.inside.resident c.args.page (now c)
 stores c =
@@ -37,27 +37,27 @@ stores c =
       others = c.sort_by_header.ensures.other_pages;
     }
 
-was_counted : (c : After-from-2) → c.from-2.result ≡ resident_one (page_at c.self.inside.pages.items c.args.page)
+was_counted : (c : After-from)
+    → c.from-was_resident.result ≡ resident_one (page_at c.self.inside.pages.items c.args.page)
 was_counted c =
-    resident_byte c.index-2.result.now c.kind_of-before.result c.is_resident-2.result c.from-2.result
-    c.kind_of-before.ensures.kind c.is_resident-2.ensures c.from-2.ensures
+    resident_byte c.index-3.result.now c.is_resident.result c.from-was_resident.result c.is_resident.ensures
+    c.from-was_resident.ensures
     ∙ ap resident_one
-    (page_read c.self.inside.pages.items c.args.page c.index-2.result.now (within c) c.index-2.ensures)
+    (page_read c.self.inside.pages.items c.args.page c.index-3.result.now (within c) c.index-3.ensures)
 
-is_counted : (c : After-from-2) → c.from.result ≡ resident_one (now c)
+is_counted : (c : After-from) → c.from.result ≡ resident_one (now c)
 is_counted c =
-    resident_byte (now c) c.kind_of-after.result c.is_resident.result c.from.result c.kind_of-after.ensures.kind
-    c.is_resident.ensures c.from.ensures
+    resident_byte (now c) c.is_resident-2.result c.from.result c.is_resident-2.ensures c.from.ensures
 
-enough : (c : After-from-2) → c.from-2.result ≤ c.self.inside.resident + c.from.result
+enough : (c : After-from) → c.from-was_resident.result ≤ c.self.inside.resident + c.from.result
 enough c =
-    counted_anew c.self.inside.pages.items c.args.page c.self.inside.resident c.from-2.result c.from.result (now c)
-    (within c) (was_counted c) (is_counted c) c.self.invariant.counted
+    counted_anew c.self.inside.pages.items c.args.page c.self.inside.resident c.from-was_resident.result
+    c.from.result (now c) (within c) (was_counted c) (is_counted c) c.self.invariant.counted
 
 pub overflow_sub-self : goal.overflow_sub-self
 overflow_sub-self c = enough c
 
-same_sets : (c : After-from-2)
+same_sets : (c : After-from)
     → take c.self.inside.sets.len
     (c.sort_by_header.new.sets ++ drop (length c.sort_by_header.new.sets) c.self.inside.sets.items)
     ≡ c.sort_by_header.new.sets
@@ -72,14 +72,14 @@ same_sets c =
 
 pub invariant_of-self : goal.invariant_of-self
 invariant_of-self c =
-    let x = (goal.at.invariant_of-self c).After-from-2 in
+    let x = (goal.at.invariant_of-self c).After-from in
     store_fits c.self.inside.pages.items c.self.inside.sets.items c.deref_mut.result.now c.sort_by_header.new.sets _
     c.self.inside.resident _ c.args.page (now x) (stores x) (same_sets x)
     (omega (arith, was_counted x, is_counted x, enough x))
 
 pub returns-clause-shows : goal.returns-clause-shows
 returns-clause-shows c pages freed shows =
-    let x = (goal.at.returns-clause-shows c).After-from-2 in
+    let x = (goal.at.returns-clause-shows c).After-from in
     store_shows c.args.self.now c.self.inside.pages.items pages c.self.inside.sets.items c.deref_mut.result.now
     c.sort_by_header.new.sets _ freed c.self.inside.resident c.args.page (now x) _ (stores x) (same_sets x)
     c.self.view_is
@@ -91,16 +91,16 @@ returns-clause-shows c pages freed shows =
 
 pub returns-clause-freed : goal.returns-clause-freed
 returns-clause-freed c free =
-    let x = (goal.at.returns-clause-freed c).After-from-2 in
+    let x = (goal.at.returns-clause-freed c).After-from in
     this_uncleaned (set c.self.inside.pages.items c.args.page (now x)) c.sort_by_header.new.sets _ c.args.page true
     (omega (arith, within x, length-set c.self.inside.pages.items c.args.page (now x))) (same_sets x)
     (c.sort_by_header.ensures.uncleaned
-    ∙ ap is_free_page (sym (c.kind_of-after.ensures.kind c.index.result.now.used))
-    ∙ ap (λ (n : ℕ). is_free_page (use_under (header_of n) c.index.result.now.used)) free)
+    (ap is_free_page (sym (c.kind_of-after.ensures.kind c.index.result.now.used))
+    ∙ ap (λ (n : ℕ). is_free_page (use_under (header_of n) c.index.result.now.used)) free))
 
 pub returns-clause-others : goal.returns-clause-others
 returns-clause-others c number differ =
-    let x = (goal.at.returns-clause-others c).After-from-2 in
+    let x = (goal.at.returns-clause-others c).After-from in
     others_kept c.args.self.now c.self.inside.pages.items (set c.self.inside.pages.items c.args.page (now x))
     c.self.inside.sets.items c.deref_mut.result.now c.sort_by_header.new.sets _ c.args.page number c.self.view_is
     c.deref_mut.ensures.value (same_sets x) (length-set c.self.inside.pages.items c.args.page (now x))

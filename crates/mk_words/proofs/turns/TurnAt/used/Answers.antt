@@ -25,7 +25,7 @@ invariant_of-self g c =
     let makes = f.ensures.finds.makes in
     record {
       turn = still_turn t.pass s f.new.self makes c.deref_mut-carried.result.now.op refl held.turn;
-      knows = subst (λ (cell : Option Cell). KnowsCell f.new.self cell) (sym c.cell_behind-carried.ensures)
+      knows = subst (λ (cell : Option Cell). KnowsCell f.new.self cell) (sym c.learn_cell.ensures)
           (used_turn t.pass c.args.page c.args.v f.result f.new.self makes
           c.deref_mut-carried.result.now.cell c.self.invariant.turn.holds f.ensures.finds.finds c.ranges.v.fits
           held.knows);

@@ -1,0 +1,23 @@
+use Rattle.std.proofs.Common.{◌≡◌, ℕ, ◌-◌, Option, Some, None, refl, ap, ◌∙◌, arith}
+use Rattle.mk_geom.specs.declared.headers.Header.{Header}
+use Rattle.mk_geom.specs.declared.headers.Header.TheVariants.{Free, Block, Run, Later, LeafBlock, LeafRun}
+use Rattle.mk_geom.specs.Addresses.{head_page_under}
+use Rattle.mk_geom.specs.Headers.{header_of}
+use Rattle.mk_cycle.specs.ReadHeaders.{distance_under}
+use Rattle.mk_cycle.proofs.reading.ReadHeader.head_page.Goals as goal
+
+head_by_distance : (x : Option Header) (page : ℕ) → page - distance_under x ≡ head_page_under x page
+head_by_distance (Some (Later distance mapped)) page = refl
+head_by_distance None page = omega arith
+head_by_distance (Some Free) page = omega arith
+head_by_distance (Some (Block class)) page = omega arith
+head_by_distance (Some (LeafBlock class)) page = omega arith
+head_by_distance (Some (Run pages mapped)) page = omega arith
+head_by_distance (Some (LeafRun pages)) page = omega arith
+
+pub returns : goal.returns
+returns c =
+    c.saturating_sub.ensures
+    ∙ ap (λ n. c.args.page - n) c.self.invariant.distance_of
+    ∙ ap (λ w. c.args.page - distance_under (header_of w)) c.self.view_is
+    ∙ head_by_distance (header_of c.args.self.now) c.args.page
