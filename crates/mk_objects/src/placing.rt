@@ -1,10 +1,8 @@
 //! Placing the object of a New.
-ghost use Rattle.std.specs.Prelude.{◌≡◌, ◌==◌, Some, true, false, length};
-ghost use Rattle.mk_never.specs.declared.operations.Op.{Op};
-ghost use Rattle.mk_core.specs.Calls.{has_type};
-ghost use Rattle.mk_core.specs.NewPlaces.{object_made};
+ghost use Rattle.std.specs.Prelude.{◌≡◌, ◌==◌, true, false, length};
+ghost use Rattle.mk_core.specs.Calls.{d_of};
 ghost use Rattle.mk_core.specs.Words.{header_at, page_of, phase_of};
-ghost use Rattle.mk_words.specs.States.{now_of};
+ghost use Rattle.mk_words.specs.States.{call_of, now_of};
 ghost use Rattle.mk_turns.specs.Sweeping.{SweepsNothing};
 ghost use Rattle.mk_objects.specs.Placing.{GoesTo, HasCarved, HeldIsExact, MayTake, IsUnplaced, IsPlaced, FitsNowhere};
 ghost use Rattle.mk_objects.specs.Placing.{IsGranted, object_for};
@@ -81,9 +79,11 @@ fn serve(
     page: Page,
     marking: bool,
     held: u64,
+    register: u8,
 )
     requires one_table { turn.old.pass.table ≡ words.now }
     requires shape { object_shaped shape ≡ object_for turn.old.pass }
+    requires register { register ≡ d_of (call_of turn.old.pass).op }
     requires goes { GoesTo turn.old.pass place }
     requires page { page ≡ page_of (now_of turn.old.pass).words place.page }
     requires marking { marking ≡ (phase_of (now_of turn.old.pass).words == 1) }
@@ -97,13 +97,14 @@ fn serve(
     turn.is_in_order();
     make_ready(words, turn, shape, place, page, marking);
     turn.used(words, place.page, page.used | 1 << place.index);
-    turn.grant(words);
+    turn.grant(words, register, shape.address(place));
     turn.tally(words, Tally::Held, held + shape.storage());
 }
 
 /// Gives the object its place, after a look at the tally of held words and one at the phase.
-fn serve_now(words: &Words, turn: &mut Turn, shape: Shape, place: Place, page: Page)
+fn serve_now(words: &Words, turn: &mut Turn, register: u8, shape: Shape, place: Place, page: Page)
     requires one_table { turn.old.pass.table ≡ words.now }
+    requires register { register ≡ d_of (call_of turn.old.pass).op }
     requires shape { object_shaped shape ≡ object_for turn.old.pass }
     requires goes { GoesTo turn.old.pass place }
     requires page { page ≡ page_of (now_of turn.old.pass).words place.page }
@@ -115,35 +116,7 @@ fn serve_now(words: &Words, turn: &mut Turn, shape: Shape, place: Place, page: P
 {
     let held = look_at(words, turn, Word::Held);
     let marking = is_marking(words, turn);
-    serve(words, turn, shape, place, page, marking, held);
-}
-
-/// The shape of the object that the operation creates.
-fn shape_made(words: &Words, op: Op) -> Shape
-    requires { has_type words.now.config op ≡ true }
-    ensures { object_shaped result ≡ object_made words.now.config op }
-{
-    match op {
-        Op::New { ty, .. } => shape_of(words.types(), ty),
-        _ => Shape {
-            words: 0,
-            leaf: true,
-        },
-    }
-}
-
-/// The shape of the object that a turn for this operation makes.
-fn shape_asked(words: &Words, op: Option<Op>) -> Shape
-    requires { (o : Op) → op ≡ Some o → has_type words.now.config o ≡ true }
-    ensures { (o : Op) → op ≡ Some o → object_shaped result ≡ object_made words.now.config o }
-{
-    match op {
-        Some(op) => shape_made(words, op),
-        None => Shape {
-            words: 0,
-            leaf: true,
-        },
-    }
+    serve(words, turn, shape, place, page, marking, held, register);
 }
 
 /// Grants the object of a New at its place. Returns false where nothing fits; the book then has the words of all pages.
@@ -160,7 +133,11 @@ pub fn place_object(words: &Words, turn: &mut Turn, book: &mut Book) -> bool
     ensures reached { SweepsNothing turn.old.pass turn.new.pass }
 {
     turn.is_in_order();
-    let shape = shape_asked(words, turn.op());
+    let Some(op) = turn.op() else { unreachable!() };
+    let Op::New { d, ty, .. } = op else {
+        unreachable!()
+    };
+    let shape = shape_of(words.types(), ty);
     match seek(words, turn, shape) {
         None => {
             fill(words, turn, book);
@@ -168,7 +145,7 @@ pub fn place_object(words: &Words, turn: &mut Turn, book: &mut Book) -> bool
         }
         Some(place) => {
             let page = turn.page(place.page);
-            serve_now(words, turn, shape, place, page);
+            serve_now(words, turn, d, shape, place, page);
             true
         }
     }

@@ -1,6 +1,6 @@
 //! The search for the place of an object, by first fit. The page map that travels with the turn answers it: no word of
 //! the table is looked at.
-ghost use Rattle.std.specs.Prelude.{◌≡◌, ◌+◌, ◌<◌, ◌≤◌, ◌^◌, nat_le, nat_lt, if◌then◌else◌, not, true, None};
+ghost use Rattle.std.specs.Prelude.{◌≡◌, ◌+◌, ◌<◌, ◌≤◌, ◌^◌, nat_lt, if◌then◌else◌, not, true, None, Some};
 ghost use Rattle.std.specs.Prelude.{option_map};
 ghost use Rattle.mk_geom.specs.Classes.{cells_of};
 ghost use Rattle.mk_geom.specs.PageUses.{first_where, is_free_page, place_on_uses, small_place};
@@ -26,18 +26,20 @@ fn lowest_free(used: u64, class: u64) -> Option<u64>
 }
 
 /// The lowest free cell of a block of the class and sort that has one.
-fn free_cell(turn: &Turn, page: u64, class: u64, leaf: bool) -> Option<Place>
+fn free_cell(turn: &Turn, page: u64, class: u64, leaf: bool) -> Place
     requires within { page < turn.now.pass.table.config.pages }
     requires class { class < 8 }
     requires block { has_free_cell class leaf (use_of_page (page_of (now_of turn.now.pass).words page)) ≡ true }
-    ensures { result ≡ free_cell_on class leaf (now_of turn.now.pass).words.pages page }
+    ensures { free_cell_on class leaf (now_of turn.now.pass).words.pages page ≡ Some result }
 {
-    let index = lowest_free(turn.page(page).used, class)?;
-    Some(Place {
+    let Some(index) = lowest_free(turn.page(page).used, class) else {
+        unreachable!()
+    };
+    Place {
         page,
         index,
         carve: false,
-    })
+    }
 }
 
 /// Free pages from this one on, as a place.
@@ -74,7 +76,7 @@ fn seek_small(words: &Words, turn: &Turn, class: u64, leaf: bool) -> Option<Plac
 {
     the_lowest_block_has_the_place();
     match turn.first_block(class, leaf) {
-        Some(page) => free_cell(turn, page, class, leaf),
+        Some(page) => Some(free_cell(turn, page, class, leaf)),
         None => free_place(turn, words.resident()),
     }
 }
