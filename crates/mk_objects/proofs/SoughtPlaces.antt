@@ -1,7 +1,7 @@
 -- What the answers of the page map say of an object's place.
 use Rattle.std.proofs.Common.{◌≡◌, ◌≢◌, ℕ, ◌+◌, ◌<◌, ◌≤◌, Bool, true, false, not, ◌&&◌, nat_eq, List, [], length}
 use Rattle.std.proofs.Common.{◌∷◌, refl, sym, ap, ◌∙◌, inl, inr, add-one, arith}
-use Rattle.std.specs.Prelude.{Option, Some, None, is_some, option_map, option_and_then, nat_lt, if◌then◌else◌}
+use Rattle.std.specs.Prelude.{◌==◌, Option, Some, None, is_some, option_map, option_and_then, nat_lt, if◌then◌else◌}
 use Rattle.std.proofs.lemmas.Bool.{cases_Bool, cases_eq, cond-false, cond-true, ne_eqb}
 use Rattle.std.proofs.lemmas.List.{length-map}
 use Rattle.std.proofs.lemmas.List.Sums.{count_by-le-length}
@@ -135,6 +135,17 @@ cell_told pages page class used leaf found known is free by_word =
     ap (option_map (λ index. record { page = page; index = index; carve = false }))
     (by_word ∙ ap (λ n. first_where not (bits_of (cells_of class) n)) is
     ∙ ap (first_where not) (sym (cells_of_block (page_at pages page) class leaf known free)))
+
+-- Such a page has a header.
+pub block_has_header : (page : Page) (class : ℕ) (leaf : Bool) → has_free_cell class leaf (use_of_page page) ≡ true
+    → (page.header == 0) ≡ false
+block_has_header page class leaf free = ne_eqb page.header 0 (λ zero. none zero)
+  where
+    none : page.header ≢ 0
+    none zero =
+        let clash : false ≡ true = ap (λ h. has_free_cell class leaf (use_under (header_of h) page.used)) (sym zero)
+        ∙ free in
+        cc
 
 -- It has one.
 

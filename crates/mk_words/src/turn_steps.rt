@@ -188,6 +188,7 @@ impl<G: Gates> TurnAt<G> {
     }
 
     /// Stores a page's used word.
+    #[inline(always)]
     pub fn used(&mut self, words: &Words, page: u64, v: u64)
         requires one_table { self.old.pass.table ≡ words.now }
         requires enabled { IsEnabledTo self.old.pass (step.Used page v) }

@@ -1,6 +1,5 @@
 use Rattle.std.proofs.Common.{◌≡◌, ◌+◌, ◌%◌, ◌^◌, refl, sym, ◌∙◌, ap, subst, arith}
 use Rattle.mk_geom.specs.Addresses.{address_of}
-use Rattle.mk_geom.specs.declared.pages.Page.{Page}
 use Rattle.mk_core.specs.declared.events.Step.TheVariants as step
 use Rattle.mk_core.specs.declared.seats.Object.{Object}
 use Rattle.mk_core.specs.ObjectHeaders.{IsSized, words_made}
@@ -48,13 +47,13 @@ pub used-requires-clause-enabled : goal.used-requires-clause-enabled
 used-requires-clause-enabled c =
     let p : PassState = c.args.turn.now.pass in
     let k = knows (goal.at.used-requires-clause-enabled c).After-is_in_order in
-    let known : used_at (now_of p).words c.args.place.page ≡ c.args.page.used =
-    sym (ap (λ (x : Page). x.used) c.requires.page) in
-    let clear : has_bit c.args.page.used c.args.place.index ≡ _ =
+    let known : used_at (now_of p).words c.args.place.page ≡ c.args.used =
+    sym c.requires.used in
+    let clear : has_bit c.args.used c.args.place.index ≡ _ =
     sym (ap (λ n. has_bit n c.args.place.index) known) ∙ place_unused p c.args.place k in
     subst (λ n. IsEnabledTo c.make_ready.new.turn.pass (step.Used c.args.place.page n))
-    (sym (one_bit_more c.args.page.used c.args.place.index (small_index p c.args.place k) clear))
-    (used_may p c.args.place c.requires.goes k c.make_ready.new.turn.pass c.args.page.used
+    (sym (one_bit_more c.args.used c.args.place.index (small_index p c.args.place k) clear))
+    (used_may p c.args.place c.requires.goes k c.make_ready.new.turn.pass c.args.used
     c.make_ready.ensures.ready known)
 
 pub grant-requires-clause-enabled : goal.grant-requires-clause-enabled

@@ -23,7 +23,7 @@ unreachable-requires c =
     c.lowest_free.result (told x) c.requires.block in
     c.in_default.not-Some some.0 some.1
 
-pub returns : goal.returns
-returns c =
-    sym (told (goal.at.returns c).After-lowest_free)
+pub returns-clause-cell : goal.returns-clause-cell
+returns-clause-cell c =
+    sym (told (goal.at.returns-clause-cell c).After-lowest_free)
     ∙ ap (option_map (λ index. record { page = c.args.page; index = index; carve = false })) c.in-Some.is
