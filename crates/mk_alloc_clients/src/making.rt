@@ -39,7 +39,7 @@ pub fn make_number(caller: &mut Caller, d: u8, ty: u64) -> Result<(), Unmade>
         }
         Ok(mut turn) => {
             turn.is_in_order();
-            if !place_number(words, &mut turn) {
+            if !place_number(words, &mut turn, d) {
                 return Err(Unmade::NoRoom(turn));
             }
             turn.is_in_order();

@@ -1,18 +1,20 @@
 //! The steps that put an object of one number on the only page of a heap.
-ghost use Rattle.std.specs.Prelude.{◌≡◌, ◌==◌, ◌∷◌, [], true, false};
-ghost use Rattle.mk_core.specs.NewPlaces.{header_made};
+ghost use Rattle.std.specs.Prelude.{◌≡◌, ◌<◌, ◌==◌, ◌%◌, ◌^◌, ◌∷◌, [], true, false};
+ghost use Rattle.mk_core.specs.Calls.{d_of};
+ghost use Rattle.mk_core.specs.NewPlaces.{base_made, header_made};
 ghost use Rattle.mk_core.specs.Ranges.{is_word};
 ghost use Rattle.mk_core.specs.Words.{header_at, named_word, page_of, phase_of};
+ghost use Rattle.mk_geom.specs.Addresses.{address_of};
 ghost use Rattle.mk_geom.specs.PageUses.{small_place};
 ghost use Rattle.mk_geom.specs.PageWords.{use_of_page};
-ghost use Rattle.mk_words.specs.States.{now_of};
+ghost use Rattle.mk_words.specs.States.{call_of, now_of};
 ghost use Rattle.mk_objects.specs.Looking.{is_steady_word};
 ghost use Rattle.mk_objects.specs.Placing.{FitsNowhere, GoesTo, HasCarved, HeldIsExact, IsGranted, IsPlaced};
 ghost use Rattle.mk_objects.specs.Placing.{IsUnplaced, MayTake, OnlyLooks, object_for};
 ghost use Rattle.mk_alloc_clients.specs.Making.{one_number};
 
 use mk_core::{Phase, Tally, Word};
-use mk_geom::{Header, Page, Place, encode};
+use mk_geom::{HEAP_START, Header, PAGE_WORDS, Page, Place, WORD_BYTES, encode};
 use mk_words::{Turn, Words};
 
 /// The class of the cells of one number, how many a block has, their bits, and how many words each has.
@@ -159,9 +161,19 @@ fn make_ready(words: &Words, turn: &mut Turn, place: Place, seen: Seen)
     }
 }
 
+/// The address of the number at this place.
+fn address(place: Place) -> u64
+    requires page { place.page < 4096 }
+    requires index { place.index < 64 }
+    ensures { result ≡ address_of (base_made one_number place) % 2 ^ 64 }
+{
+    HEAP_START + WORD_BYTES * (PAGE_WORDS * place.page + CELL_WORDS * place.index)
+}
+
 /// Takes the cell of the place, grants the object and counts its words.
-fn serve(words: &Words, turn: &mut Turn, place: Place, seen: Seen)
+fn serve(words: &Words, turn: &mut Turn, register: u8, place: Place, seen: Seen)
     requires one_table { turn.old.pass.table ≡ words.now }
+    requires register { register ≡ d_of (call_of turn.old.pass).op }
     requires number { object_for turn.old.pass ≡ one_number }
     requires goes { GoesTo turn.old.pass place }
     requires page { seen.page ≡ page_of (now_of turn.old.pass).words place.page }
@@ -175,13 +187,14 @@ fn serve(words: &Words, turn: &mut Turn, place: Place, seen: Seen)
     turn.is_in_order();
     make_ready(words, turn, place, seen);
     turn.used(words, place.page, seen.page.used | 1 << place.index);
-    turn.grant(words);
+    turn.grant(words, register, address(place));
     turn.tally(words, Tally::Held, seen.held + CELL_WORDS);
 }
 
-/// Grants the object of a New of one number, or answers false where it fits nowhere.
-pub(crate) fn place_number(words: &Words, turn: &mut Turn) -> bool
+/// Grants the object of a New of one number for this register, or answers false where it fits nowhere.
+pub(crate) fn place_number(words: &Words, turn: &mut Turn, register: u8) -> bool
     requires one_table { turn.old.pass.table ≡ words.now }
+    requires register { register ≡ d_of (call_of turn.old.pass).op }
     requires one_page { words.now.config.pages ≡ 1 }
     requires unplaced { IsUnplaced turn.old.pass }
     requires number { object_for turn.old.pass ≡ one_number }
@@ -195,7 +208,7 @@ pub(crate) fn place_number(words: &Words, turn: &mut Turn) -> bool
     match place_on(seen.page.header, seen.page.used) {
         None => false,
         Some(place) => {
-            serve(words, turn, place, seen);
+            serve(words, turn, register, place, seen);
             true
         }
     }

@@ -44,23 +44,26 @@ type_of c o h = (and_parts
     (nat_lt (q_of o) 8 && nat_lt (p_of o) 8 && nat_lt (r_of o) 8 && nat_lt (d_of o) 8 && nat_lt (g_of o) 64)
     (has_type c o) h).1
 
+-- It is known where it is looked at.
+pub op_known : (p : PassState) (x y : Option Op) (o : Op) → IsTurn p x → is_undecided_new (call_of p) ≡ true → y ≡ x
+    → y ≡ Some o → (call_of p).op ≡ o
+op_known p x y o turn new same is =
+    let e : Some (call_of p).op ≡ Some o = sym (op_is p x turn new) ∙ sym same ∙ is in cc e
+
 -- Its type exists,
-pub type_asked : (p : PassState) (w : WordsState) (x y : Option Op) → p.table ≡ w → IsTurn p x
-    → IsHistory p.table.config p.seen
-    → is_undecided_new (call_of p) ≡ true → y ≡ x → (o : Op) → y ≡ Some o → has_type w.config o ≡ true
-type_asked p w x y table turn h new same o is =
-    let e : o ≡ (call_of p).op = let z : Some o ≡ Some (call_of p).op = sym is ∙ same ∙ op_is p x turn new in cc z in
-    ap (λ (v : Op). has_type w.config v) e ∙ ap (λ (t : WordsState). has_type t.config (call_of p).op) (sym table)
+pub type_asked : (p : PassState) (w : WordsState) (o : Op) → p.table ≡ w → IsHistory p.table.config p.seen
+    → (call_of p).op ≡ o → has_type w.config o ≡ true
+type_asked p w o table h is =
+    ap (λ (v : Op). has_type w.config v) (sym is)
+    ∙ ap (λ (t : WordsState). has_type t.config (call_of p).op) (sym table)
     ∙ type_of p.table.config (call_of p).op (seat_operands p.table.config (now_of p) p.seat
     (known_left p.table.config p.seen h.within_limits h.enabled))
 
 -- and its shape is that of the object.
-pub shape_asked : (p : PassState) (w : WordsState) (x y : Option Op) (shape : Shape) → p.table ≡ w → IsTurn p x
-    → is_undecided_new (call_of p) ≡ true
-    → y ≡ x → ((o : Op) → y ≡ Some o → object_shaped shape ≡ object_made w.config o)
-    → object_shaped shape ≡ object_for p
-shape_asked p w x y shape table turn new same made =
-    made (call_of p).op (same ∙ op_is p x turn new)
+pub shape_asked : (p : PassState) (w : WordsState) (o : Op) (shape : Shape) → p.table ≡ w → (call_of p).op ≡ o
+    → object_shaped shape ≡ object_made w.config o → object_shaped shape ≡ object_for p
+shape_asked p w o shape table is made =
+    made ∙ ap (λ (v : Op). object_made w.config v) (sym is)
     ∙ ap (λ (t : WordsState). object_made t.config (call_of p).op) (sym table)
 
 -- The first fit on pages that are filled is that on the words.
@@ -74,17 +77,6 @@ fit_found p w pages resident shape x table limit filled is found =
     ∙ sym limit)
     ∙ ap (λ (ps : List Page). place_on_pages resident ps (object_for p)) (sym filled)
     ∙ ap (λ (o : Object). place_on_pages resident pages o) (sym is) ∙ sym found
-
--- So is the place that was sought on the words for an object of the shape that was asked.
-pub fit_sought : (p : PassState) (w : WordsState) (x y : Option Op) (shape : Shape) (found : Option Place) → p.table ≡ w
-    → IsTurn p x
-    → is_undecided_new (call_of p) ≡ true
-    → y ≡ x → ((o : Op) → y ≡ Some o → object_shaped shape ≡ object_made w.config o)
-    → found ≡ place_on_uses w.config.resident shape.words shape.leaf (uses_of_pages (now_of p).words.pages)
-    → place_on_pages p.table.config.resident (now_of p).words.pages (object_for p) ≡ found
-fit_sought p w x y shape found table turn new same made is =
-    fit_found p w (now_of p).words.pages w.config.resident shape found table refl refl
-    (shape_asked p w x y shape table turn new same made) is
 
 -- It is where the New goes, after looks too,
 pub goes_behind : (p q : PassState) (place : Place) → OnlyLooks p q → IsUnplaced p

@@ -1,7 +1,7 @@
 -- What the answers of the page map say of an object's place.
 use Rattle.std.proofs.Common.{◌≡◌, ◌≢◌, ℕ, ◌+◌, ◌<◌, ◌≤◌, Bool, true, false, not, ◌&&◌, nat_eq, List, [], length}
 use Rattle.std.proofs.Common.{◌∷◌, refl, sym, ap, ◌∙◌, inl, inr, add-one, arith}
-use Rattle.std.specs.Prelude.{Option, Some, None, is_some, option_map, option_and_then, nat_lt, if◌then◌else◌}
+use Rattle.std.specs.Prelude.{◌==◌, Option, Some, None, is_some, option_map, option_and_then, nat_lt, if◌then◌else◌}
 use Rattle.std.proofs.lemmas.Bool.{cases_Bool, cases_eq, cond-false, cond-true, ne_eqb}
 use Rattle.std.proofs.lemmas.List.{length-map}
 use Rattle.std.proofs.lemmas.List.Sums.{count_by-le-length}
@@ -136,15 +136,43 @@ cell_told pages page class used leaf found known is free by_word =
     (by_word ∙ ap (λ n. first_where not (bits_of (cells_of class) n)) is
     ∙ ap (first_where not) (sym (cells_of_block (page_at pages page) class leaf known free)))
 
+-- Such a page has a header.
+pub block_has_header : (page : Page) (class : ℕ) (leaf : Bool) → has_free_cell class leaf (use_of_page page) ≡ true
+    → (page.header == 0) ≡ false
+block_has_header page class leaf free = ne_eqb page.header 0 (λ zero. none zero)
+  where
+    none : page.header ≢ 0
+    none zero =
+        let clash : false ≡ true = ap (λ h. has_free_cell class leaf (use_under (header_of h) page.used)) (sym zero)
+        ∙ free in
+        cc
+
+-- It has one.
+
+mapped_some : {A : Type 0} (f : ℕ → A) (found : Option ℕ) → is_some (option_map f found) ≡ is_some found
+mapped_some f None = refl
+mapped_some f (Some n) = refl
+
+some_index : {A : Type 0} (f : ℕ → A) (found : Option ℕ) → is_some (option_map f found) ≡ true
+    → (index : ℕ) × (found ≡ Some index)
+some_index f None some = cc
+some_index f (Some index) some = (index, refl)
+
+pub cell_is_there : (pages : List Page) (page class : ℕ) (leaf : Bool) (found : Option ℕ)
+    → option_map (λ index. record { page = page; index = index; carve = false }) found
+    ≡ free_cell_on class leaf pages page
+    → has_free_cell class leaf (use_of_page (page_at pages page)) ≡ true → (index : ℕ) × (found ≡ Some index)
+cell_is_there pages page class leaf found told free =
+    some_index (λ index. record { page = page; index = index; carve = false }) found
+    (ap (λ (place : Option Place). is_some place) told
+    ∙ mapped_some (λ index. record { page = page; index = index; carve = false })
+    (first_where not (cells_taken class leaf (use_of_page (page_at pages page)))) ∙ free)
+
 -- The place is in that block.
 
 or_first : (place other : Option Place) → is_some place ≡ true → or_else place other ≡ place
 or_first (Some place) other some = refl
 or_first None other some = cc
-
-mapped_some : {A : Type 0} (f : ℕ → A) (found : Option ℕ) → is_some (option_map f found) ≡ is_some found
-mapped_some f None = refl
-mapped_some f (Some n) = refl
 
 pub place_in_block : LowestBlockHasThePlace → (limit class page : ℕ) (leaf : Bool) (pages : List Page)
     → first_where (has_free_cell class leaf) (uses_of_pages pages) ≡ Some page

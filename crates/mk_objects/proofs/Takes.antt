@@ -8,6 +8,7 @@ use Rattle.std.proofs.lemmas.Nat.{or_disjoint}
 use Rattle.std.proofs.lemmas.Nat.Bits.{bit_at_and}
 use Rattle.std.proofs.Math.Nat.{div-le_self}
 use Rattle.mk_geom.specs.declared.pages.Place.{Place}
+use Rattle.mk_geom.specs.Addresses.{address_of}
 use Rattle.mk_geom.specs.Classes.{cells_of, class_words_of}
 use Rattle.mk_core.specs.declared.config.Config.{Config}
 use Rattle.mk_core.specs.declared.events.Answer.TheVariants as answer
@@ -27,19 +28,19 @@ use Rattle.mk_core.specs.Frames.{Steady}
 use Rattle.mk_core.specs.History.{IsAdmittedBehind, IsHistory, World, left}
 use Rattle.mk_core.specs.Layout.{AreOfPages}
 use Rattle.mk_core.specs.Moments.{flight_of}
-use Rattle.mk_core.specs.NewPlaces.{class_made, is_small_object, is_undecided_new}
+use Rattle.mk_core.specs.NewPlaces.{base_made, class_made, is_small_object, is_undecided_new, object_made}
 use Rattle.mk_core.specs.ObjectHeaders.{cells_made, words_made}
 use Rattle.mk_core.specs.Order.{seat_exists}
 use Rattle.mk_core.specs.TurnConditions.{is_used_once}
 use Rattle.mk_core.specs.Words.{header_at, phase_of, used_at}
-use Rattle.mk_core.proofs.GrantedAllocations.{granted_object}
+use Rattle.mk_core.proofs.GrantedAllocations.{granted_base_is, granted_object}
 use Rattle.mk_core.proofs.WordBits.{bit_for_small, bit_is_none, bit_of_power, zero_from_bits}
 use Rattle.mk_laws.specs.SettledPages.{IsSettled}
 use Rattle.mk_laws.proofs.Tracked.{unplaced_settles}
 use Rattle.mk_laws.proofs.Known.{Known, known_left}
 use Rattle.mk_words.specs.States.{PassState, call_of, now_of, world_of}
 use Rattle.mk_words.specs.Steps.{IsAdmittedTo, IsEnabledTo}
-use Rattle.mk_words.specs.TurnSteps.{Acts}
+use Rattle.mk_words.specs.TurnSteps.{Acts, granted_address}
 use Rattle.mk_objects.specs.Looking.{is_acting}
 use Rattle.mk_objects.specs.Placing.{GoesTo, HeldIsExact, IsGrantedAt, IsOutOfStop, IsUnplaced, MayTake, ComesTo}
 use Rattle.mk_objects.specs.Placing.{entry_for, is_placing, object_at_place, object_for}
@@ -161,6 +162,22 @@ module _ (p : PassState) (place : Place) (goes : GoesTo p place) (k : KnowsPlace
       subst (λ (x : PassState). IsEnabledTo x step.Grant) (sym reached.same)
       (may_grant c w.now p.seat (taken_acting w reached.world) (taken_new w reached.world)
       (low_still w (ap (λ (x : Steady). x.phase) reached.world.steady)) (ap is_used_once reached.world.placing))
+
+  -- the register that it stores to, and the address
+  pub grant_register : (q : PassState) → HasTaken q → d_of (call_of q).op ≡ d_of (call_of p).op
+  grant_register q reached =
+      subst (λ (x : PassState). d_of (call_of x).op ≡ d_of (call_of p).op) (sym reached.same)
+      (ap (λ (f : Flight). d_of f.op) reached.world.call)
+
+  pub grant_address : (q : PassState) → HasTaken q
+      → granted_address q ≡ address_of (base_made (object_for p) place) % 2 ^ 64
+  grant_address q reached =
+      let w : World = left c q.seen in
+      subst (λ (x : PassState). granted_address x ≡ address_of (base_made (object_for p) place) % 2 ^ 64)
+      (sym reached.same)
+      (ap (λ n. address_of n % 2 ^ 64)
+      (granted_base_is c (flight_of w.now p.seat) w.now.seats.holding.placing place reached.world.placing
+      ∙ ap (λ (f : Flight). base_made (object_made c f.op) place) reached.world.call))
 
   operands : IsHistory c p.seen → has_operands c (call_of p).op ≡ true
   operands h = by p.seat k.caller.number k.caller.is

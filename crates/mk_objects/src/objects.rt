@@ -1,14 +1,19 @@
 //! The objects of a program's types: how large they are, and what their pages become.
-ghost use Rattle.std.specs.Prelude.{◌≡◌, ◌<◌, ◌≤◌, length, true};
+ghost use Rattle.std.specs.Prelude.{◌≡◌, ◌<◌, ◌≤◌, ◌*◌, ◌%◌, ◌^◌, if◌then◌else◌, length, true};
 ghost use Rattle.mk_never.specs.Types.{kinds_of};
 ghost use Rattle.mk_core.specs.NewPlaces.{object_of, is_small_object, class_made, pages_made, header_made, bits_made};
+ghost use Rattle.mk_core.specs.NewPlaces.{base_made};
+ghost use Rattle.mk_geom.specs.Addresses.{address_of};
 ghost use Rattle.mk_core.specs.ObjectHeaders.{IsSized, words_made};
-ghost use Rattle.mk_geom.specs.Classes.{run_pages_of};
+ghost use Rattle.mk_geom.specs.Classes.{class_words_of, run_pages_of};
 ghost use Rattle.mk_geom.specs.Headers.{IsInRange};
 ghost use Rattle.mk_geom.specs.Storages.{block_header, run_header};
 ghost use Rattle.mk_objects.specs.Shapes.{object_shaped};
 
-use mk_geom::{Header, cells, class_of, class_words, encode, run_pages};
+use mk_geom::{
+    HEAP_START, Header, PAGE_WORDS, Place, WORD_BYTES, cells, class_of, class_words, encode,
+    run_pages,
+};
 use mk_never::TypeTable;
 
 /// The largest object that takes a cell, in words.
@@ -128,5 +133,29 @@ impl Shape {
         } else {
             1
         }
+    }
+
+    /// The word of its page where the object in this cell begins.
+    fn first_word(self, index: u64) -> u64
+        requires { index < 64 }
+        ensures exact { result ≡ (if is_small_object (object_shaped self)
+            then index * class_words_of (class_made (object_shaped self)) else 0) }
+        ensures few { result ≤ 2048 }
+    {
+        if self.is_small() {
+            index * class_words(self.class())
+        } else {
+            0
+        }
+    }
+
+    /// The address of its object at this place.
+    pub(crate) fn address(self, place: Place) -> u64
+        requires page { place.page < 4096 }
+        requires index { place.index < 64 }
+        ensures { result ≡ address_of (base_made (object_shaped self) place) % 2 ^ 64 }
+    {
+        let word = PAGE_WORDS * place.page + self.first_word(place.index);
+        HEAP_START + WORD_BYTES * word
     }
 }

@@ -1,10 +1,8 @@
 //! Placing the object of a New.
-ghost use Rattle.std.specs.Prelude.{◌≡◌, ◌==◌, Some, true, false, length};
-ghost use Rattle.mk_never.specs.declared.operations.Op.{Op};
-ghost use Rattle.mk_core.specs.Calls.{has_type};
-ghost use Rattle.mk_core.specs.NewPlaces.{object_made};
-ghost use Rattle.mk_core.specs.Words.{header_at, page_of, phase_of};
-ghost use Rattle.mk_words.specs.States.{now_of};
+ghost use Rattle.std.specs.Prelude.{◌≡◌, ◌==◌, true, false, length};
+ghost use Rattle.mk_core.specs.Calls.{d_of};
+ghost use Rattle.mk_core.specs.Words.{header_at, phase_of, used_at};
+ghost use Rattle.mk_words.specs.States.{call_of, now_of};
 ghost use Rattle.mk_turns.specs.Sweeping.{SweepsNothing};
 ghost use Rattle.mk_objects.specs.Placing.{GoesTo, HasCarved, HeldIsExact, MayTake, IsUnplaced, IsPlaced, FitsNowhere};
 ghost use Rattle.mk_objects.specs.Placing.{IsGranted, object_for};
@@ -12,10 +10,10 @@ ghost use Rattle.mk_objects.specs.Shapes.{object_shaped};
 
 use crate::looking::{fill, is_marking, look_at};
 use crate::objects::{Shape, shape_of};
-use crate::seeking::seek;
+use crate::seeking::{seek, seek_cell};
 use mk_books::Book;
 use mk_core::{Tally, Word};
-use mk_geom::{Page, Place};
+use mk_geom::Place;
 use mk_never::Op;
 use mk_words::{Turn, Words};
 
@@ -55,37 +53,43 @@ fn carve(words: &Words, turn: &mut Turn, shape: Shape, place: Place, marking: bo
     }
 }
 
-/// Makes the place's page ready, where it is free.
-fn make_ready(words: &Words, turn: &mut Turn, shape: Shape, place: Place, page: Page, marking: bool)
+/// Makes the place's pages ready, where they are free.
+#[inline(always)]
+fn make_ready(words: &Words, turn: &mut Turn, shape: Shape, place: Place, free: bool, marking: bool)
     requires one_table { turn.old.pass.table ≡ words.now }
     requires shape { object_shaped shape ≡ object_for turn.old.pass }
     requires goes { GoesTo turn.old.pass place }
-    requires page { page ≡ page_of (now_of turn.old.pass).words place.page }
+    requires free { free ≡ (header_at (now_of turn.old.pass).words place.page == 0) }
     requires marking { marking ≡ (phase_of (now_of turn.old.pass).words == 1) }
     ensures op { turn.new.op ≡ turn.old.op }
     ensures ready { MayTake turn.old.pass place turn.new.pass }
     ensures reached { SweepsNothing turn.old.pass turn.new.pass }
 {
     turn.is_in_order();
-    if page.header == 0 {
+    if free {
         carve(words, turn, shape, place, marking);
     }
 }
 
-/// Gives the object its place.
+/// Gives the object its place, on a page with this used word, or on free pages.
+#[inline(always)]
 fn serve(
     words: &Words,
     turn: &mut Turn,
+    register: u8,
     shape: Shape,
     place: Place,
-    page: Page,
+    used: u64,
+    free: bool,
     marking: bool,
     held: u64,
 )
     requires one_table { turn.old.pass.table ≡ words.now }
+    requires register { register ≡ d_of (call_of turn.old.pass).op }
     requires shape { object_shaped shape ≡ object_for turn.old.pass }
     requires goes { GoesTo turn.old.pass place }
-    requires page { page ≡ page_of (now_of turn.old.pass).words place.page }
+    requires used { used ≡ used_at (now_of turn.old.pass).words place.page }
+    requires free { free ≡ (header_at (now_of turn.old.pass).words place.page == 0) }
     requires marking { marking ≡ (phase_of (now_of turn.old.pass).words == 1) }
     requires held { held ≡ (now_of turn.old.pass).words.held }
     requires exact { HeldIsExact turn.old.pass }
@@ -95,18 +99,29 @@ fn serve(
     ensures reached { SweepsNothing turn.old.pass turn.new.pass }
 {
     turn.is_in_order();
-    make_ready(words, turn, shape, place, page, marking);
-    turn.used(words, place.page, page.used | 1 << place.index);
-    turn.grant(words);
+    make_ready(words, turn, shape, place, free, marking);
+    turn.used(words, place.page, used | 1 << place.index);
+    turn.grant(words, register, shape.address(place));
     turn.tally(words, Tally::Held, held + shape.storage());
 }
 
 /// Gives the object its place, after a look at the tally of held words and one at the phase.
-fn serve_now(words: &Words, turn: &mut Turn, shape: Shape, place: Place, page: Page)
+#[inline(always)]
+fn serve_now(
+    words: &Words,
+    turn: &mut Turn,
+    register: u8,
+    shape: Shape,
+    place: Place,
+    used: u64,
+    free: bool,
+)
     requires one_table { turn.old.pass.table ≡ words.now }
+    requires register { register ≡ d_of (call_of turn.old.pass).op }
     requires shape { object_shaped shape ≡ object_for turn.old.pass }
     requires goes { GoesTo turn.old.pass place }
-    requires page { page ≡ page_of (now_of turn.old.pass).words place.page }
+    requires used { used ≡ used_at (now_of turn.old.pass).words place.page }
+    requires free { free ≡ (header_at (now_of turn.old.pass).words place.page == 0) }
     requires exact { HeldIsExact turn.old.pass }
     ensures op { turn.new.op ≡ turn.old.op }
     ensures granted { IsGranted turn.old.pass place turn.new.pass }
@@ -115,34 +130,48 @@ fn serve_now(words: &Words, turn: &mut Turn, shape: Shape, place: Place, page: P
 {
     let held = look_at(words, turn, Word::Held);
     let marking = is_marking(words, turn);
-    serve(words, turn, shape, place, page, marking, held);
+    serve(
+        words, turn, register, shape, place, used, free, marking, held,
+    );
 }
 
-/// The shape of the object that the operation creates.
-fn shape_made(words: &Words, op: Op) -> Shape
-    requires { has_type words.now.config op ≡ true }
-    ensures { object_shaped result ≡ object_made words.now.config op }
+/// Grants the object, which no block has a free cell for or which is large, at its place. Returns false where nothing
+/// fits; the book then has the words of all pages. It isn't inlined: an object that goes into a block needs few
+/// registers without it.
+#[inline(never)]
+fn place_apart(words: &Words, turn: &mut Turn, register: u8, shape: Shape, book: &mut Book) -> bool
+    requires one_table { turn.old.pass.table ≡ words.now }
+    requires register { register ≡ d_of (call_of turn.old.pass).op }
+    requires shape { object_shaped shape ≡ object_for turn.old.pass }
+    requires unplaced { IsUnplaced turn.old.pass }
+    requires exact { HeldIsExact turn.old.pass }
+    requires book { length book.old ≡ turn.old.pass.table.config.pages }
+    ensures op { turn.new.op ≡ turn.old.op }
+    ensures book { length book.new ≡ length book.old }
+    ensures placed { result ≡ true → IsPlaced turn.old.pass turn.new.pass }
+    ensures nowhere { result ≡ false → FitsNowhere turn.old.pass turn.new.pass }
+    ensures shows { result ≡ false → book.new ≡ (now_of turn.new.pass).words.pages }
+    ensures reached { SweepsNothing turn.old.pass turn.new.pass }
 {
-    match op {
-        Op::New { ty, .. } => shape_of(words.types(), ty),
-        _ => Shape {
-            words: 0,
-            leaf: true,
-        },
-    }
-}
-
-/// The shape of the object that a turn for this operation makes.
-fn shape_asked(words: &Words, op: Option<Op>) -> Shape
-    requires { (o : Op) → op ≡ Some o → has_type words.now.config o ≡ true }
-    ensures { (o : Op) → op ≡ Some o → object_shaped result ≡ object_made words.now.config o }
-{
-    match op {
-        Some(op) => shape_made(words, op),
-        None => Shape {
-            words: 0,
-            leaf: true,
-        },
+    turn.is_in_order();
+    match seek(words, turn, shape) {
+        None => {
+            fill(words, turn, book);
+            false
+        }
+        Some(place) => {
+            let page = turn.page(place.page);
+            serve_now(
+                words,
+                turn,
+                register,
+                shape,
+                place,
+                page.used,
+                page.header == 0,
+            );
+            true
+        }
     }
 }
 
@@ -160,15 +189,16 @@ pub fn place_object(words: &Words, turn: &mut Turn, book: &mut Book) -> bool
     ensures reached { SweepsNothing turn.old.pass turn.new.pass }
 {
     turn.is_in_order();
-    let shape = shape_asked(words, turn.op());
-    match seek(words, turn, shape) {
-        None => {
-            fill(words, turn, book);
-            false
-        }
+    let Some(op) = turn.op() else { unreachable!() };
+    let Op::New { d, ty, .. } = op else {
+        unreachable!()
+    };
+    let shape = shape_of(words.types(), ty);
+    match seek_cell(words, turn, shape) {
+        None => place_apart(words, turn, d, shape, book),
         Some(place) => {
-            let page = turn.page(place.page);
-            serve_now(words, turn, shape, place, page);
+            let used = turn.page(place.page).used;
+            serve_now(words, turn, d, shape, place, used, false);
             true
         }
     }

@@ -13,7 +13,7 @@ ghost use Rattle.mk_objects.specs.Dues.{FreesOnce};
 ghost use Rattle.mk_objects.specs.Retiring.{HasFreed, HasLoaded, HasSeen, IsFreeAt, IsUnloaded, loaded_free, value_of};
 
 use crate::looking::look_at;
-use mk_core::{Word, has_bit};
+use mk_core::{Word, has_cell};
 use mk_geom::{Cell, lookup, page_at};
 use mk_words::{Turn, Words};
 
@@ -22,9 +22,10 @@ const HALF_WORD: u64 = 4294967296;
 
 /// Whether the cell's bit is set among the freed bits of its page's quarantine word.
 pub(crate) fn is_freed(quar: u64, cell: Cell) -> bool
+    requires { cell.index < 32 }
     ensures { result ≡ has_bit (quar % 4294967296) cell.index }
 {
-    has_bit(quar % HALF_WORD, cell.index)
+    has_cell(quar % HALF_WORD, cell.index)
 }
 
 /// Loads the register of a Free. Null decides it.
@@ -56,7 +57,10 @@ pub(crate) fn find_cell(words: &Words, turn: &mut Turn, value: u64) -> Cell
     turn.is_in_order();
     let page = page_at(value);
     let header = look_at(words, turn, Word::Head(page));
-    lookup(words.pages(), header, value).unwrap_or(Cell { page: 0, index: 0 })
+    let Some(cell) = lookup(words.pages(), header, value) else {
+        unreachable!()
+    };
+    cell
 }
 
 /// Looks at the quarantine word of the page of a Free's target. Where the target is freed already, that decides the

@@ -1,12 +1,12 @@
 //! The search for the place of an object, by first fit. The page map that travels with the turn answers it: no word of
 //! the table is looked at.
-ghost use Rattle.std.specs.Prelude.{◌≡◌, ◌+◌, ◌<◌, ◌≤◌, ◌^◌, nat_le, nat_lt, if◌then◌else◌, not, true, None};
-ghost use Rattle.std.specs.Prelude.{option_map};
+ghost use Rattle.std.specs.Prelude.{◌≡◌, ◌+◌, ◌<◌, ◌≤◌, ◌^◌, nat_lt, if◌then◌else◌, not, true, None, Some};
+ghost use Rattle.std.specs.Prelude.{option_map, false, ◌==◌, IfSome};
 ghost use Rattle.mk_geom.specs.Classes.{cells_of};
 ghost use Rattle.mk_geom.specs.PageUses.{first_where, is_free_page, place_on_uses, small_place};
 ghost use Rattle.mk_geom.specs.PageUses.{large_place, carved, resident_pages};
 ghost use Rattle.mk_geom.specs.PageWords.{bits_of, use_of_page, uses_of_pages};
-ghost use Rattle.mk_core.specs.Words.{page_of};
+ghost use Rattle.mk_core.specs.Words.{header_at, page_of};
 ghost use Rattle.mk_page_map.specs.Laws.{free_cell_on};
 ghost use Rattle.mk_page_map.specs.Members.{has_free_cell};
 ghost use Rattle.mk_words.specs.States.{now_of};
@@ -26,18 +26,21 @@ fn lowest_free(used: u64, class: u64) -> Option<u64>
 }
 
 /// The lowest free cell of a block of the class and sort that has one.
-fn free_cell(turn: &Turn, page: u64, class: u64, leaf: bool) -> Option<Place>
+fn free_cell(turn: &Turn, page: u64, class: u64, leaf: bool) -> Place
     requires within { page < turn.now.pass.table.config.pages }
     requires class { class < 8 }
     requires block { has_free_cell class leaf (use_of_page (page_of (now_of turn.now.pass).words page)) ≡ true }
-    ensures { result ≡ free_cell_on class leaf (now_of turn.now.pass).words.pages page }
+    ensures cell { free_cell_on class leaf (now_of turn.now.pass).words.pages page ≡ Some result }
+    ensures page { result.page ≡ page }
 {
-    let index = lowest_free(turn.page(page).used, class)?;
-    Some(Place {
+    let Some(index) = lowest_free(turn.page(page).used, class) else {
+        unreachable!()
+    };
+    Place {
         page,
         index,
         carve: false,
-    })
+    }
 }
 
 /// Free pages from this one on, as a place.
@@ -74,7 +77,7 @@ fn seek_small(words: &Words, turn: &Turn, class: u64, leaf: bool) -> Option<Plac
 {
     the_lowest_block_has_the_place();
     match turn.first_block(class, leaf) {
-        Some(page) => free_cell(turn, page, class, leaf),
+        Some(page) => Some(free_cell(turn, page, class, leaf)),
         None => free_place(turn, words.resident()),
     }
 }
@@ -93,6 +96,28 @@ fn seek_large(words: &Words, turn: &Turn, count: u64) -> Option<Place>
     } else {
         None
     }
+}
+
+/// The place of an object of this shape, where it goes into a block that stands.
+#[inline(always)]
+pub(crate) fn seek_cell(words: &Words, turn: &Turn, shape: Shape) -> Option<Place>
+    requires one_table { turn.now.pass.table ≡ words.now }
+    ensures fits { IfSome result (λ place.
+        place_on_uses words.now.config.resident shape.words shape.leaf
+        (uses_of_pages (now_of turn.now.pass).words.pages) ≡ Some place) }
+    ensures block { IfSome result (λ place. (header_at (now_of turn.now.pass).words place.page == 0) ≡ false) }
+{
+    the_lowest_block_has_the_place();
+    if shape.words > SMALL_WORDS {
+        return None;
+    }
+    let Some(class) = class_of(shape.words) else {
+        return None;
+    };
+    let Some(page) = turn.first_block(class, shape.leaf) else {
+        return None;
+    };
+    Some(free_cell(turn, page, class, shape.leaf))
 }
 
 /// The place of an object of this shape.

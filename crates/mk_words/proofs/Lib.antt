@@ -14,7 +14,6 @@ pub mod HandingCalls
 pub mod Made
 pub mod CallSteps
 pub mod TurnSteps
-pub mod TakenCells
 pub mod MapSteps
 pub mod Closing
 pub mod Markers

@@ -5,7 +5,6 @@ use Rattle.std.specs.Prelude.{◌%◌, ◌^◌, slice_index, slice_set}
 use Rattle.std.proofs.lemmas.Bool.{cases_eq, ltb-true}
 use Rattle.std.proofs.lemmas.List.{get_or-set_other, get_or-set_same}
 use Rattle.mk_never.specs.declared.operations.Op.{Op}
-use Rattle.mk_geom.specs.declared.addresses.Cell.{Cell}
 use Rattle.mk_geom.specs.declared.pages.Page.{Page}
 use Rattle.mk_geom.specs.Storages.{free_page}
 use Rattle.mk_page_map.specs.KnownPages.{KnownPages, Shows, is_uncleaned, with_header, with_used}
@@ -36,13 +35,8 @@ use Rattle.mk_words.specs.TurnSteps.{turn_stays, gates_stay, world_at, Acts, IsT
 use Rattle.mk_words.proofs.FreeTurns.{map_left, map_stays, page_words}
 use Rattle.mk_words.proofs.Made.{own_before}
 use Rattle.mk_words.proofs.Seats.{others_own}
-use Rattle.mk_words.proofs.TakenCells.{may_take_cell, knows_still}
 use Rattle.mk_words.proofs.TurnSteps.{still_turn, turn_stays_too, gates_still}
 use Rattle.mk_words.proofs.Unmarked.{is_mark, stays_unmarked}
-
-pub takes_none : (s : Step) → is_told s ≡ false → may_take_cell s ≡ false
-takes_none (step.Used p v) leaves = cc
-takes_none _ leaves = refl
 
 no_mark : (s : Step) → is_told s ≡ false → is_mark s ≡ false
 no_mark (step.Mark p v) untold = cc
@@ -263,28 +257,26 @@ shows_that w map same is shows = subst (λ (m : KnownPages). IsMapOf m w) (sym i
 
 -- What is carried with a turn is carried by another name too.
 pub as_carried : {held : Bool} (p : PassState) (carried same : Carried) → same ≡ carried
-    → IsTurnWithMap held p carried.op carried.cell carried.map → IsTurnWithMap held p same.op same.cell same.map
+    → IsTurnWithMap held p carried.op carried.map → IsTurnWithMap held p same.op same.map
 as_carried {held} p carried same is turn =
-    subst (λ (k : Carried). IsTurnWithMap held p k.op k.cell k.map) (sym is) turn
+    subst (λ (k : Carried). IsTurnWithMap held p k.op k.map) (sym is) turn
 
--- A step that takes no cell leaves the turn, where its map shows what is left then, and the gates are as known.
+-- A step leaves the turn, where its map shows what is left then, and the gates are as known.
 pub turn_with_map : {held : Bool} (p : PassState) (s : Step) (q : PassState) (a : Acts p s q) (o : Option Op)
-    (cell : Option Cell) (old new : KnownPages) → turn_stays s ≡ true → may_take_cell s ≡ false
-    → GatesAre held (record { pass = q; op = o }) → IsMapOf new (now_of q).words → IsTurnWithMap held p o cell old
-    → IsTurnWithMap held q o cell new
-turn_with_map p s q a o cell old new stays none gates shows turn = record {
+    (old new : KnownPages) → turn_stays s ≡ true → GatesAre held (record { pass = q; op = o })
+    → IsMapOf new (now_of q).words → IsTurnWithMap held p o old → IsTurnWithMap held q o new
+turn_with_map p s q a o old new stays gates shows turn = record {
   turn = still_turn p s q a.makes o stays turn.turn;
-  knows = knows_still p s q a cell stays none turn.knows;
   shows = shows;
   gates = gates;
 }
 
 -- Most steps leave the gates.
 pub turn_still : {held : Bool} (p : PassState) (s : Step) (q : PassState) (a : Acts p s q) (o : Option Op)
-    (cell : Option Cell) (old new : KnownPages) → gates_stay s ≡ true → may_take_cell s ≡ false
-    → IsMapOf new (now_of q).words → IsTurnWithMap held p o cell old → IsTurnWithMap held q o cell new
-turn_still {held} p s q a o cell old new stays none shows turn =
-    turn_with_map p s q a o cell old new (turn_stays_too s stays) none
+    (old new : KnownPages) → gates_stay s ≡ true → IsMapOf new (now_of q).words → IsTurnWithMap held p o old
+    → IsTurnWithMap held q o new
+turn_still {held} p s q a o old new stays shows turn =
+    turn_with_map p s q a o old new (turn_stays_too s stays)
     (gates_still held (record { pass = p; op = o }) s (record { pass = q; op = o }) a stays turn.gates) shows turn
 
 -- The map has all pages of the heap.

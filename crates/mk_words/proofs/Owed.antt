@@ -31,7 +31,7 @@ use Rattle.mk_words.specs.Rule.{Kept, Mine, told_by, no_step, adds, stores_word,
 use Rattle.mk_words.specs.Rule.{copy_of}
 use Rattle.mk_words.specs.Rule.{beside, nobody, first_view, Adds}
 use Rattle.mk_words.specs.Passes.{state_of, IsInOrder}
-use Rattle.mk_words.specs.Steps.{May, Tells, Finds}
+use Rattle.mk_words.specs.Steps.{May, Tells}
 use Rattle.mk_words.proofs.Tidy.{none_tidy}
 use Rattle.mk_words.proofs.Undecided.{undecided_admitted}
 use Rattle.mk_words.proofs.Keeps.{place_there, access_there, performs_at, settles_at, opens, closes, Ended}
@@ -253,24 +253,6 @@ perform_learns p pid qid me n seat s a answer picked p_is q_is picked_is a_is or
     (a_is ∙ ap (λ (r : PassState). access r.table.config (now_of r) (event_of r s)) back) order on.0 on.1 on.2 in
     subst (λ (z : TableId). Tells p s answer (state_of z n seat)) (sym q_is)
     (subst (λ (r : PassState). Tells r s answer (state_of pid n seat)) p_is learnt.tells)
-
-pub perform_finds : (pid qid : TableId) (me n : Mine) (seat : Seat) (s : Step) (found : ℕ) (picked : Event) → qid ≡ pid
-    → picked ≡ event_of (state_of pid me seat) s → IsInOrder me seat
-    → adds picked no_step me found n → Finds (state_of pid me seat) s found (state_of qid n seat)
-perform_finds pid qid me n seat s found picked q_is picked_is order on_picked =
-    let on : adds (event_of (state_of pid me seat) s) no_step me found n =
-    subst (λ (d : Event). adds d no_step me found n) picked_is on_picked in
-    let then = in_order_still me n seat (event_of (state_of pid me seat) s) found order on.1 in
-    subst (λ (z : TableId). Finds (state_of pid me seat) s found (state_of z n seat)) (sym q_is)
-    (record {
-      makes = record {
-        others = on.1.others;
-        of_others = on.1.of_others;
-        is = ap (λ (w : View). state_of pid (w, []) seat) on.1.is;
-        pass = record { own = then.own; history = then.history };
-      };
-      finds = on.1.finds;
-    })
 
 pub perform_keeps : (me n : Mine) (seat : Seat) (found : ℕ) (picked : Event) → IsInOrder me seat
     → adds picked no_step me found n → IsInOrder n seat

@@ -20,7 +20,6 @@ use Rattle.mk_core.specs.declared.seats.Stage.TheVariants as stage
 use Rattle.mk_core.specs.declared.seats.Flight.{Flight}
 use Rattle.mk_core.specs.declared.seats.Progress.{Progress}
 use Rattle.mk_core.specs.declared.seats.Holding.{Holding}
-use Rattle.mk_core.specs.declared.seats.Placing.TheVariants.{Unplaced, Used}
 use Rattle.mk_core.specs.Bounded.{all_below}
 use Rattle.mk_core.specs.Words.{phase_of}
 use Rattle.mk_core.specs.Ranges.{has_phase}
@@ -51,7 +50,7 @@ use Rattle.mk_laws.proofs.Protocols.{lists_keep_the_protocol}
 use Rattle.mk_words.specs.States.{PassState, TurnState, now_of, call_of, world_of, event_of}
 use Rattle.mk_words.specs.Steps.{IsEnabledTo, Makes, moment_of, Finds, Tells}
 use Rattle.mk_words.specs.TurnSteps.{op_for, IsTurn, begun_for, IsFresh, turn_stays, gates_stay, world_at, Acts}
-use Rattle.mk_words.specs.TurnSteps.{KnowsCell, GatesAre}
+use Rattle.mk_words.specs.TurnSteps.{GatesAre}
 use Rattle.mk_words.proofs.FreeTurns.{turn_word_stays, hands_none}
 use Rattle.mk_words.proofs.Made.{Made, made}
 use Rattle.mk_words.proofs.CallSteps.{begins, goes, waits}
@@ -393,10 +392,6 @@ module _ (p : PassState) (o : Option Op) (n : ℕ) (q : PassState) (t : Tells p 
               ∙ (free_tallies c (p.seen ++ t.makes.others) e.history e.protocol free).1
               ∙ sym (ap (λ (w : World). w.now.fresh_words) e.world);
         }
-
-pub fresh_knows : (p : PassState) (o : Option Op) → IsFresh p o → KnowsCell p None
-fresh_knows p o fresh x e = let no_place : Unplaced ≡ Used x = ap (λ (h : Holding). h.placing) (sym fresh.holding)
-    ∙ e in cc
 
 -- a `take` that finds another holder leaves all as it was
 

@@ -1,20 +1,14 @@
 -- What the steps of the turn's holder leave.
-use Rattle.std.specs.Prelude.{◌≡◌, ℕ, ◌+◌, ◌-◌, ◌*◌, ◌++◌, Option, Some, None, Bool, true, false, nat_lt, if◌then◌else◌}
-use Rattle.std.specs.Int.{trailing_zeros}
-use Rattle.std.proofs.Common.{w64}
-use Rattle.mk_geom.specs.declared.addresses.Cell.{Cell}
-use Rattle.mk_geom.specs.declared.pages.Place.{Place}
-use Rattle.mk_geom.specs.Classes.{class_words_of}
-use Rattle.mk_core.specs.declared.config.Config.{Config}
-use Rattle.mk_core.specs.declared.seats.Placing.TheVariants.{Used}
-use Rattle.mk_core.specs.NewPlaces.{object_made, is_small_object, class_made}
+use Rattle.std.specs.Prelude.{◌≡◌, ℕ, ◌%◌, ◌^◌, ◌++◌, Option, Some, None, Bool, true, false}
+use Rattle.mk_geom.specs.Addresses.{address_of}
 use Rattle.mk_never.specs.declared.operations.Op.{Op}
 use Rattle.mk_core.specs.declared.events.Seat.{Seat}
 use Rattle.mk_core.specs.declared.events.Seat.TheVariants.{Caller}
 use Rattle.mk_core.specs.declared.events.Step.{Step}
 use Rattle.mk_core.specs.declared.events.Step.TheVariants as step
 use Rattle.mk_core.specs.declared.seats.Flight.{Flight}
-use Rattle.mk_core.specs.Calls.{at_rest, begun, d_of}
+use Rattle.mk_core.specs.Accesses.{granted_base}
+use Rattle.mk_core.specs.Calls.{at_rest, begun}
 use Rattle.mk_core.specs.Moments.{nothing_done, none_is_held, others_are_held}
 use Rattle.mk_core.specs.Words.{phase_of}
 use Rattle.mk_core.specs.Ranges.{has_phase}
@@ -94,33 +88,13 @@ abbrev pub GatesAre : Bool → TurnState → Type 0
 GatesAre true t = IsStopped t
 GatesAre false t = Unit {0}
 
--- the register of the operation into which an object is put, and the base of the object that it makes in that cell
+-- the address that a `grant` stores, of the object of the New whose cell is taken
+abbrev pub granted_address : PassState → ℕ
+granted_address p = address_of (granted_base p.table.config (call_of p) (now_of p).seats.holding.placing) % 2 ^ 64
 
-abbrev pub register_granted : Option Op → ℕ
-register_granted (Some o) = d_of o
-register_granted None = 0
-
-abbrev pub cell_base : Config → Option Op → Option Cell → ℕ
-cell_base c (Some o) (Some cell) =
-    64 * cell.page + (if is_small_object (object_made c o)
-    then cell.index * class_words_of (class_made (object_made c o)) else 0)
-cell_base c _ _ = 0
-
--- The cell that the turn has taken for its New is known.
-abbrev pub KnowsCell : PassState → Option Cell → Type 0
-KnowsCell p cell = (x : Place) → (now_of p).seats.holding.placing ≡ Used x
-    → cell ≡ Some (record { page = x.page; index = x.index })
-
--- The pass's seat holds the turn, for this operation, and knows the cell that it has taken. Its map shows what is left
--- after all that the pass has seen, and the gates are held, where that is known.
-pub record IsTurnWithMap (held : Bool) (p : PassState) (o : Option Op) (cell : Option Cell) (map : KnownPages)
-    : Type 0 where
+-- The pass's seat holds the turn, for this operation. Its map shows what is left after all that the pass has seen, and
+-- the gates are held, where that is known.
+pub record IsTurnWithMap (held : Bool) (p : PassState) (o : Option Op) (map : KnownPages) : Type 0 where
   pub turn : IsTurn p o
-  pub knows : KnowsCell p cell
   pub shows : IsMapOf map (now_of p).words
   pub gates : GatesAre held (record { pass = p; op = o })
-
--- the cell that is known after a `used` that stores a value over this one: one bit more is a cell that is taken
-abbrev pub cell_behind : ℕ → ℕ → ℕ → Option Cell → Option Cell
-cell_behind page value found cell =
-    if nat_lt found value then Some (record { page = page; index = trailing_zeros w64 (value - found) }) else cell

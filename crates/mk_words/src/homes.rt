@@ -1,28 +1,25 @@
 //! Where the page map lies while nobody has the turn, and what is carried with the turn.
-ghost use Rattle.std.specs.Prelude.{◌≡◌, ◌<◌, None, length};
+ghost use Rattle.std.specs.Prelude.{◌≡◌, ◌<◌, length};
 
-use mk_geom::Cell;
 use mk_never::Op;
 use mk_page_map::PageMap;
 use std::marker::Model;
 
-/// What is carried with the turn: the map of the heap's pages, the operation that the turn is for, and the cell that
-/// its New has taken. It is behind a pointer, so that a turn is moved in few words.
+/// What is carried with the turn: the map of the heap's pages, and the operation that the turn is for. It is behind a
+/// pointer, so that a turn is moved in few words.
 #[derive(Drop)]
 pub struct Carried {
     pub(crate) map: PageMap,
     pub(crate) op: Option<Op>,
-    pub(crate) cell: Option<Cell>,
 }
 
 impl Carried {
-    /// A turn begins for this operation, and no cell is taken.
+    /// A turn begins for this operation.
     #[inline(always)]
     pub(crate) fn begin(&mut self, op: Option<Op>)
-        ensures { self.new ≡ record { map = self.old.map; op = op; cell = None } }
+        ensures { self.new ≡ record { map = self.old.map; op = op } }
     {
         self.op = op;
-        self.cell = None;
     }
 }
 

@@ -9,7 +9,6 @@
 mod call_steps;
 mod finals;
 mod gates;
-mod granting;
 mod handing;
 mod homes;
 mod indexes;

@@ -1,7 +1,6 @@
 //! An access to a word of the table, which makes an event.
 ghost use Rattle.std.specs.Prelude.{◌≡◌, ◌<◌, ℕ};
 ghost use Rattle.atomic_table.specs.Table.{Allows};
-ghost use Rattle.mk_core.specs.declared.accesses.Access.TheVariants.{Store};
 ghost use Rattle.mk_core.specs.Words.{becomes};
 ghost use Rattle.mk_words.specs.Rule.{Kept, told_by, adds, no_step};
 
@@ -40,22 +39,4 @@ pub(crate) fn access_as<J: Making>(
         Access::Add(n) => table.fetch_add::<Make<J>>(token, index, n),
         Access::Sub(n) => table.fetch_sub::<Make<J>>(token, index, n),
     }
-}
-
-/// Performs a store, and returns what it found.
-#[inline(always)]
-pub(crate) fn swap_as<J: Making>(
-    table: &Shared<MapHome, View, Config, OneHistory>,
-    token: &mut Token<MapHome, View>,
-    index: usize,
-    value: u64,
-) -> u64
-    requires table { token.old.table_id ≡ table.now.table_id }
-    requires within { index < table.now.table_id.words }
-    requires allowed { Allows (Kept table.now.key) table.now.table_id.slots token.old.id token.old.me index
-        (becomes (Store value)) (λ n m. adds J.event no_step token.old.me n m) }
-    ensures table { token.new.table_id ≡ token.old.table_id }
-    ensures told { adds J.event no_step token.old.me result token.new.me }
-{
-    table.swap::<Make<J>>(token, index, value)
 }

@@ -3,17 +3,16 @@ ghost use Rattle.std.specs.Prelude.{◌≡◌, false, true};
 ghost use Rattle.mk_core.specs.Accesses.{caller_number, word_accessed, access};
 ghost use Rattle.mk_core.specs.History.{IsHistory};
 ghost use Rattle.mk_core.specs.Counts.{IsTidy};
-ghost use Rattle.mk_core.specs.declared.accesses.Access.TheVariants.{Store};
 ghost use Rattle.mk_words.specs.Indexes.{IsOnPage};
 ghost use Rattle.mk_words.specs.PageMaps.{is_handing};
 ghost use Rattle.mk_words.specs.Seats.{CallersAreBeforeOver, Has, is_caller};
 ghost use Rattle.mk_words.specs.States.{now_of, event_of};
 ghost use Rattle.mk_words.specs.Passes.{state_of, IsInOrder};
-ghost use Rattle.mk_words.specs.Steps.{May, Tells, Finds};
+ghost use Rattle.mk_words.specs.Steps.{May, Tells};
 
 use crate::homes::MapHome;
-use crate::indexes::{index_near, index_of, page_of};
-use crate::performing::{access_as, swap_as};
+use crate::indexes::{index_near, page_of};
+use crate::performing::access_as;
 use crate::rule::View;
 use crate::telling::Making;
 use crate::words::Words;
@@ -106,35 +105,6 @@ fn perform_as<J: Making>(
     let shared = &words.table.shared;
     let index = index_near(pages, page, word);
     access_as::<J>(shared, token, index, by)
-}
-
-/// Takes a step that stores, and returns what the store found.
-#[inline(always)]
-fn replace_as<J: Making>(
-    words: &Words,
-    token: &mut Token<MapHome, View>,
-    seat: Seat,
-    step: Step,
-    word: TableWord,
-    value: u64,
-) -> u64
-    requires picked { J.event ≡ record { seat = seat; step = step } }
-    requires order { IsInOrder token.old.me seat }
-    requires one_table { (state_of token.old.table_id token.old.me seat).table ≡ words.now }
-    requires hands_none { is_handing step ≡ false }
-    requires may { May (state_of token.old.table_id token.old.me seat) step }
-    requires word { word ≡ word_accessed token.old.me.0.config (now_of (state_of token.old.table_id token.old.me seat))
-        (record { seat = seat; step = step }) }
-    requires access { Store value
-        ≡ access token.old.me.0.config (now_of (state_of token.old.table_id token.old.me seat))
-        (record { seat = seat; step = step }) }
-    ensures finds { Finds (state_of token.old.table_id token.old.me seat) step result
-        (state_of token.new.table_id token.new.me seat) }
-    ensures order { IsInOrder token.new.me seat }
-    ensures slots { token.new.me.1 ≡ token.old.me.1 }
-{
-    let index = index_of(words.config.pages, word);
-    swap_as::<J>(&words.table.shared, token, index, value)
 }
 
 impl<S: Slots> TokenWith<S> {
@@ -241,19 +211,5 @@ impl TurnToken {
             Seat::Caller(caller) => caller,
             Seat::Marker(_) | Seat::Host => 0,
         }
-    }
-
-    /// Takes a step that stores, and returns what the store found.
-    #[inline(always)]
-    pub(crate) fn replace(&mut self, words: &Words, step: Step, word: TableWord, value: u64) -> u64
-        requires one_table { self.old.table ≡ words.now }
-        requires hands_none { is_handing step ≡ false }
-        requires may { May self.old step }
-        requires word { word ≡ word_accessed self.old.table.config (now_of self.old) (event_of self.old step) }
-        requires access { Store value ≡ access self.old.table.config (now_of self.old) (event_of self.old step) }
-        ensures finds { Finds self.old step result self.new }
-    {
-        let seat = self.seat;
-        replace_as::<Brand>(words, &mut self.token, seat, step, word, value)
     }
 }

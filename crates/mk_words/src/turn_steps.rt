@@ -4,16 +4,14 @@ ghost use Rattle.mk_core.specs.declared.events.Step.TheVariants as step;
 ghost use Rattle.mk_core.specs.declared.accesses.Access.TheVariants.{Load};
 ghost use Rattle.mk_core.specs.declared.accesses.TableWord.TheVariants.{Named};
 ghost use Rattle.mk_core.specs.Accesses.{tally_word, register_met, reg_access};
-ghost use Rattle.mk_core.specs.Calls.{progress_reg};
-ghost use Rattle.mk_core.specs.Words.{header_at};
+ghost use Rattle.mk_core.specs.Calls.{d_of, progress_reg};
 ghost use Rattle.mk_words.specs.Indexes.{IsOnPage};
-ghost use Rattle.mk_words.specs.States.{call_of, now_of};
+ghost use Rattle.mk_words.specs.States.{call_of};
 ghost use Rattle.mk_words.specs.CallSteps.{register_of};
 ghost use Rattle.mk_words.specs.Steps.{IsEnabledTo, IsAdmittedTo, Finds, Goes, may_decide};
-ghost use Rattle.mk_words.specs.TurnSteps.{Acts};
+ghost use Rattle.mk_words.specs.TurnSteps.{Acts, granted_address};
 
 use crate::gates::Gates;
-use crate::granting::{address_of, cell_base, learn_cell, register_granted};
 use crate::indexes::page_of;
 use crate::turns::{Turn, TurnAt};
 use crate::words::Words;
@@ -225,22 +223,17 @@ impl<G: Gates> TurnAt<G> {
         );
     }
 
-    /// Stores a page's used word. Where the word gains a bit, its cell is the one that the turn's New takes.
+    /// Stores a page's used word.
+    #[inline(always)]
     pub fn used(&mut self, words: &Words, page: u64, v: u64)
         requires one_table { self.old.pass.table ≡ words.now }
         requires enabled { IsEnabledTo self.old.pass (step.Used page v) }
         ensures op { self.new.op ≡ self.old.op }
         ensures acts { Acts self.old.pass (step.Used page v) self.new.pass }
     {
-        let found = self.pass.replace(
-            words,
-            Step::Used { page, value: v },
-            TableWord::Named(Word::Used(page)),
-            v,
-        );
-        let carried = &mut *self.carried;
-        learn_cell(&mut carried.cell, page, v, found);
-        carried.map.used_stored(page, v);
+        let used = TableWord::Named(Word::Used(page));
+        self.pass.perform(words, Step::Used { page, value: v }, used, Access::Store(v));
+        self.carried.map.used_stored(page, v);
     }
 }
 
@@ -267,21 +260,19 @@ impl Turn {
     }
 
     /// Puts the address of the new object into the register of a New whose cell is taken, which decides it.
-    pub fn grant(&mut self, words: &Words)
+    pub fn grant(&mut self, words: &Words, r: u8, address: u64)
         requires one_table { self.old.pass.table ≡ words.now }
         requires enabled { IsEnabledTo self.old.pass step.Grant }
         requires admitted { IsAdmittedTo self.old.pass step.Grant }
+        requires register { r ≡ d_of (call_of self.old.pass).op }
+        requires address { address ≡ granted_address self.old.pass }
         ensures op { self.new.op ≡ self.old.op }
         ensures acts { Acts self.old.pass step.Grant self.new.pass }
     {
-        let carried = &*self.carried;
-        let (op, cell) = (carried.op, carried.cell);
-        self.pass.is_in_order();
         let register = TableWord::Named(Word::Reg {
             caller: self.pass.caller(),
-            register: register_granted(op) as u64,
+            register: r as u64,
         });
-        let address = address_of(cell_base(&words.config, op, cell));
         self.perform(words, Step::Grant, register, Access::Store(address));
     }
 }

@@ -44,8 +44,7 @@ impl<G: Gates> Model for TurnAt<G> {
 
     ghost view = { λ t. record { pass = t.pass; op = t.carried.value.op } };
 
-    ghost invariant = { λ t. IsTurnWithMap G.are_held t.pass t.carried.value.op t.carried.value.cell
-        t.carried.value.map };
+    ghost invariant = { λ t. IsTurnWithMap G.are_held t.pass t.carried.value.op t.carried.value.map };
 }
 
 /// Another seat has the turn, by its number: a caller's own, or for the host the number of callers.

@@ -108,7 +108,6 @@ impl Words {
         let first = Carried {
             map: pages,
             op: None,
-            cell: None,
         };
         let carried = Box::new(alloc, first)?;
         let mut slots = Vec::new(alloc);

@@ -1,9 +1,17 @@
-use Rattle.mk_laws.proofs.Vocabulary.{None, Some, ap, refl, ◌∙◌}
+use Rattle.mk_laws.proofs.Vocabulary.{None, Some, ap, refl, sym, ◌∙◌}
+use Rattle.mk_core.specs.declared.seats.Flight.{Flight}
+use Rattle.mk_core.specs.Calls.{d_of}
 use Rattle.mk_alloc.proofs.Vocabulary.{PassState}
 use Rattle.mk_alloc_clients.proofs.FoundRoom.{goes, nowhere, placed, sees_page}
-use Rattle.mk_objects.proofs.JoinedLooks.{looks_exact, looks_object}
+use Rattle.mk_objects.proofs.JoinedLooks.{looks_call, looks_exact, looks_object}
 use Rattle.mk_words.specs.States.{WordsState}
 use Rattle.mk_alloc_clients.proofs.placing.place_number.Goals as goal
+
+pub serve-requires-clause-register : goal.serve-requires-clause-register
+serve-requires-clause-register c =
+    c.requires.register
+    ∙ sym (ap (λ (f : Flight). d_of f.op)
+    (looks_call c.args.turn.now.pass c.see-seen.new.turn.pass c.see-seen.ensures.looks))
 
 pub serve-requires-clause-number : goal.serve-requires-clause-number
 serve-requires-clause-number c =

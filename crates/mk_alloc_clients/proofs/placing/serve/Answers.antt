@@ -5,6 +5,10 @@ use Rattle.mk_alloc_clients.proofs.placing.serve.Goals.{After-grant, After-is_in
 use Rattle.mk_objects.proofs.Takes.{HasGranted, HasTaken, counted, counted_held, few_held, grant_admits, grant_may}
 use Rattle.mk_objects.proofs.Takes.{grant_on, one_bit_more, small_index, tally_may, tally_on, used_may, used_on}
 use Rattle.mk_objects.proofs.Serves.{KnowsPlace, knows_place, place_unused}
+use Rattle.mk_objects.proofs.Takes.{grant_address, grant_register}
+use Rattle.std.specs.Prelude.{◌%◌, ◌^◌}
+use Rattle.mk_geom.specs.Addresses.{address_of}
+use Rattle.mk_core.specs.NewPlaces.{base_made}
 use Rattle.mk_alloc_clients.proofs.placing.serve.Goals as goal
 
 -- what is known of the place
@@ -57,6 +61,29 @@ grant-requires-clause-admitted c =
     let k = knows x.After-is_in_order in
     grant_admits c.args.turn.now.pass c.args.place c.requires.goes k c.used.new.self.pass
     (taken x.After-used k) c.used.ensures.acts.makes.pass.history c.is_in_order.ensures.history
+
+pub grant-requires-clause-register : goal.grant-requires-clause-register
+grant-requires-clause-register c =
+    let x = goal.at.grant-requires-clause-register c in
+    let k = knows x.After-is_in_order in
+    c.requires.register
+    ∙ sym (grant_register c.args.turn.now.pass c.args.place c.requires.goes k c.used.new.self.pass (taken x.After-used k))
+
+pub grant-requires-clause-address : goal.grant-requires-clause-address
+grant-requires-clause-address c =
+    let x = goal.at.grant-requires-clause-address c in
+    let k = knows x.After-is_in_order in
+    c.address.ensures ∙ ap (λ (o : Object). address_of (base_made o c.args.place) % 2 ^ 64) (sym c.requires.number)
+    ∙ sym (grant_address c.args.turn.now.pass c.args.place c.requires.goes k c.used.new.self.pass (taken x.After-used k))
+
+pub address-requires-clause-page : goal.address-requires-clause-page
+address-requires-clause-page c =
+    let k = knows (goal.at.address-requires-clause-page c).After-is_in_order in
+    omega (arith, k.within, c.is_in_order.ensures.history.within_limits.pages.1)
+
+pub address-requires-clause-index : goal.address-requires-clause-index
+address-requires-clause-index c =
+    small_index c.args.turn.now.pass c.args.place (knows (goal.at.address-requires-clause-index c).After-is_in_order)
 
 pub overflow_add-seen : goal.overflow_add-seen
 overflow_add-seen c =

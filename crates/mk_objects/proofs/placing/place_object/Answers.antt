@@ -1,81 +1,115 @@
-use Rattle.std.proofs.Common.{List, length, sym, ◌∙◌, ap, arith}
-use Rattle.std.specs.Prelude.{Some, None}
-use Rattle.mk_geom.specs.declared.pages.Page.{Page}
+use Rattle.std.proofs.Common.{◌≡◌, ◌<◌, List, length, refl, sym, ◌∙◌, ap, subst, arith}
+use Rattle.std.specs.Prelude.{Some}
+use Rattle.std.proofs.lemmas.Bool.{ltb-true}
+use Rattle.mk_never.specs.declared.operations.Op.{Op}
+use Rattle.mk_never.specs.declared.types.Kind.{Kind}
+use Rattle.mk_never.specs.Types.{kinds_of}
+use Rattle.mk_core.specs.Calls.{d_of}
+use Rattle.mk_never.specs.declared.operations.Op.TheVariants as op
 use Rattle.mk_core.proofs.Lengths.{histories_keep_lengths}
-use Rattle.mk_words.specs.States.{PassState}
-use Rattle.mk_objects.proofs.JoinedLooks.{granted_behind_looks, looks_nothing, looks_pages}
-use Rattle.mk_objects.proofs.PlacedNews.{fit_sought, fit_within, goes_behind, place_found, shape_asked, type_asked}
-use Rattle.mk_objects.proofs.UnsweptNews.{looks_sweep}
+use Rattle.mk_core.proofs.PlacesNow.{undecided_new}
+use Rattle.mk_core.specs.NewPlaces.{object_of, place_on_pages}
+use Rattle.mk_words.specs.States.{PassState, call_of, now_of}
+use Rattle.mk_objects.specs.Placing.{object_for}
+use Rattle.mk_objects.specs.Shapes.{object_shaped}
+use Rattle.mk_objects.proofs.JoinedLooks.{granted_behind_looks, looks_nothing}
+use Rattle.mk_objects.proofs.PlacedNews.{fit_found, fit_within, goes_behind, op_is, op_known, place_found, shape_asked}
+use Rattle.mk_objects.proofs.PlacedNews.{type_asked}
 use Rattle.mk_objects.proofs.placing.place_object.Goals as goal
+use Rattle.mk_objects.proofs.placing.place_object.Goals.{After-shape_of-shape, In-New, In-Some-seek_cell}
 
-pub shape_asked-shape-requires : goal.shape_asked-shape-requires
-shape_asked-shape-requires c =
-    let p : PassState = c.args.turn.now.pass in
-    type_asked p c.args.words.now c.args.turn.now.op c.op.result c.requires.one_table c.is_in_order.ensures.turn
-    c.is_in_order.ensures.history c.requires.unplaced.new c.op.ensures
+-- the operation is the New that was looked at
+asked : (c : In-New) → (call_of c.args.turn.now.pass).op ≡ op.New c.in-New.d c.in-New.ty c.in-New.full
+asked c =
+    op_known c.args.turn.now.pass c.args.turn.now.op c.op.result c.in-Some.op c.is_in_order.ensures.turn
+    c.requires.unplaced.new c.op.ensures c.in-Some.is ∙ c.in-New.is
 
-pub page-page-requires : goal.page-page-requires
-page-page-requires c =
+-- and the shape is that of its object
+shape_is : (c : After-shape_of-shape) → (call_of c.args.turn.now.pass).op
+    ≡ op.New c.in-New.d c.in-New.ty c.in-New.full
+    → object_shaped c.shape_of-shape.result ≡ object_for c.args.turn.now.pass
+shape_is c is =
+    shape_asked c.args.turn.now.pass c.args.words.now
+    (op.New c.in-New.d c.in-New.ty c.in-New.full) c.shape_of-shape.result c.requires.one_table is
+    (c.shape_of-shape.ensures
+    ∙ ap (λ (ts : List (List Kind)). object_of (kinds_of ts c.in-New.ty)) c.types.ensures)
+
+-- the cell that was found is where it fits
+fit : (c : In-Some-seek_cell) → object_shaped c.shape_of-shape.result ≡ object_for c.args.turn.now.pass
+    → place_on_pages c.args.turn.now.pass.table.config.resident (now_of c.args.turn.now.pass).words.pages
+    (object_for c.args.turn.now.pass)
+    ≡ Some c.in-Some-seek_cell.place
+fit c is =
     let p : PassState = c.args.turn.now.pass in
-    let fit = fit_sought p c.args.words.now c.args.turn.now.op c.op.result c.shape_asked-shape.result c.seek.result
-    c.requires.one_table c.is_in_order.ensures.turn c.requires.unplaced.new c.op.ensures c.shape_asked-shape.ensures
-    c.seek.ensures in
-    let within = fit_within p c.args.turn.now.op c.in-Some.place c.is_in_order.ensures.turn
-    c.is_in_order.ensures.history c.requires.unplaced (fit ∙ c.in-Some.is) in
+    fit_found p c.args.words.now (now_of p).words.pages c.args.words.now.config.resident c.shape_of-shape.result
+    (Some c.in-Some-seek_cell.place) c.requires.one_table refl refl is (sym c.in-Some-seek_cell.ensures.fits)
+
+pub unreachable-requires : goal.unreachable-requires
+unreachable-requires c =
+    c.in_default.not-Some (call_of c.args.turn.now.pass).op
+    (c.op.ensures
+    ∙ op_is c.args.turn.now.pass c.args.turn.now.op c.is_in_order.ensures.turn c.requires.unplaced.new)
+
+pub unreachable-requires-in_default-op : goal.unreachable-requires-in_default-op
+unreachable-requires-in_default-op c =
+    let p : PassState = c.args.turn.now.pass in
+    let new = undecided_new (call_of p) c.requires.unplaced.new in
+    let known = op_known p c.args.turn.now.op c.op.result c.in-Some.op c.is_in_order.ensures.turn
+    c.requires.unplaced.new c.op.ensures c.in-Some.is in
+    c.in_default-op.not-New new.d new.ty new.full (sym known ∙ new.op)
+
+pub shape_of-shape-requires : goal.shape_of-shape-requires
+shape_of-shape-requires c =
+    let has = type_asked c.args.turn.now.pass c.args.words.now
+    (op.New c.in-New.d c.in-New.ty c.in-New.full) c.requires.one_table c.is_in_order.ensures.history
+    (asked (goal.at.shape_of-shape-requires c).In-New) in
+    subst (λ (ts : List (List Kind)). c.in-New.ty < length ts) (sym c.types.ensures)
+    (ltb-true c.in-New.ty (length c.args.words.now.config.types) has)
+
+pub page-used-requires : goal.page-used-requires
+page-used-requires c =
+    let x = goal.at.page-used-requires c in
+    let p : PassState = c.args.turn.now.pass in
+    let within = fit_within p c.args.turn.now.op c.in-Some-seek_cell.place c.is_in_order.ensures.turn
+    c.is_in_order.ensures.history c.requires.unplaced
+    (fit x.In-Some-seek_cell (shape_is x.After-shape_of-shape (asked x.In-New))) in
     omega (arith, within, (histories_keep_lengths p.table.config p.seen).pages)
+
+pub place_apart-requires-clause-register : goal.place_apart-requires-clause-register
+place_apart-requires-clause-register c =
+    sym (ap (λ (o : Op). d_of o) (asked (goal.at.place_apart-requires-clause-register c).In-New))
+
+pub place_apart-requires-clause-shape : goal.place_apart-requires-clause-shape
+place_apart-requires-clause-shape c =
+    let x = goal.at.place_apart-requires-clause-shape c in
+    shape_is x.After-shape_of-shape (asked x.In-New)
+
+pub serve_now-requires-clause-register : goal.serve_now-requires-clause-register
+serve_now-requires-clause-register c =
+    sym (ap (λ (o : Op). d_of o) (asked (goal.at.serve_now-requires-clause-register c).In-New))
 
 pub serve_now-requires-clause-shape : goal.serve_now-requires-clause-shape
 serve_now-requires-clause-shape c =
-    shape_asked c.args.turn.now.pass c.args.words.now c.args.turn.now.op c.op.result c.shape_asked-shape.result
-    c.requires.one_table c.is_in_order.ensures.turn c.requires.unplaced.new c.op.ensures c.shape_asked-shape.ensures
+    let x = goal.at.serve_now-requires-clause-shape c in
+    shape_is x.After-shape_of-shape (asked x.In-New)
 
 pub serve_now-requires-clause-goes : goal.serve_now-requires-clause-goes
 serve_now-requires-clause-goes c =
+    let x = goal.at.serve_now-requires-clause-goes c in
     let p : PassState = c.args.turn.now.pass in
-    let fit = fit_sought p c.args.words.now c.args.turn.now.op c.op.result c.shape_asked-shape.result c.seek.result
-    c.requires.one_table c.is_in_order.ensures.turn c.requires.unplaced.new c.op.ensures c.shape_asked-shape.ensures
-    c.seek.ensures in
-    goes_behind p p c.in-Some.place (looks_nothing p) c.requires.unplaced (fit ∙ c.in-Some.is)
+    goes_behind p p c.in-Some-seek_cell.place (looks_nothing p) c.requires.unplaced
+    (fit x.In-Some-seek_cell (shape_is x.After-shape_of-shape (asked x.In-New)))
 
-pub returns-in-None-clause-book : goal.returns-in-None-clause-book
-returns-in-None-clause-book c =
+pub returns-in-Some-seek_cell-clause-placed : goal.returns-in-Some-seek_cell-clause-placed
+returns-in-Some-seek_cell-clause-placed c =
+    let x = goal.at.returns-in-Some-seek_cell-clause-placed c in
     let p : PassState = c.args.turn.now.pass in
-    ap (λ (ps : List Page). length ps) c.fill.ensures.filled
-    ∙ (histories_keep_lengths p.table.config p.seen).pages ∙ sym c.requires.book
-
-pub returns-in-None-clause-nowhere : goal.returns-in-None-clause-nowhere
-returns-in-None-clause-nowhere c =
-    let p : PassState = c.args.turn.now.pass in
-    let fit = fit_sought p c.args.words.now c.args.turn.now.op c.op.result c.shape_asked-shape.result c.seek.result
-    c.requires.one_table c.is_in_order.ensures.turn c.requires.unplaced.new c.op.ensures c.shape_asked-shape.ensures
-    c.seek.ensures in
     λ h. record {
-      nowhere = place_found p c.args.turn.now.op None c.is_in_order.ensures.turn c.is_in_order.ensures.history
-          c.requires.unplaced
-          (fit ∙ c.in-None.is);
-      looks = c.fill.ensures.looks;
-    }
-
-pub returns-in-None-clause-shows : goal.returns-in-None-clause-shows
-returns-in-None-clause-shows c =
-    let p : PassState = c.args.turn.now.pass in
-    λ h. c.fill.ensures.filled ∙ sym (looks_pages p c.fill.new.turn.pass c.fill.ensures.looks)
-
-pub returns-in-Some-clause-placed : goal.returns-in-Some-clause-placed
-returns-in-Some-clause-placed c =
-    let p : PassState = c.args.turn.now.pass in
-    let fit = fit_sought p c.args.words.now c.args.turn.now.op c.op.result c.shape_asked-shape.result c.seek.result
-    c.requires.one_table c.is_in_order.ensures.turn c.requires.unplaced.new c.op.ensures c.shape_asked-shape.ensures
-    c.seek.ensures in
-    λ h. record {
-      place = c.in-Some.place;
-      fits = place_found p c.args.turn.now.op
-          (Some c.in-Some.place) c.is_in_order.ensures.turn c.is_in_order.ensures.history c.requires.unplaced (fit
-          ∙ c.in-Some.is);
-      granted = granted_behind_looks p p c.serve_now.new.turn.pass c.in-Some.place (looks_nothing p)
+      place = c.in-Some-seek_cell.place;
+      fits = place_found p c.args.turn.now.op (Some c.in-Some-seek_cell.place) c.is_in_order.ensures.turn
+          c.is_in_order.ensures.history c.requires.unplaced
+          (fit x.In-Some-seek_cell (shape_is x.After-shape_of-shape (asked x.In-New)));
+      granted = granted_behind_looks p p c.serve_now.new.turn.pass c.in-Some-seek_cell.place (looks_nothing p)
           c.serve_now.ensures.granted;
       held = c.serve_now.ensures.held;
     }
-
-pub returns-in-None-clause-reached : goal.returns-in-None-clause-reached
-returns-in-None-clause-reached c = looks_sweep c.args.turn.now.pass c.fill.new.turn.pass c.fill.ensures.looks

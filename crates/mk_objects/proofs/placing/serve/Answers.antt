@@ -1,8 +1,9 @@
-use Rattle.std.proofs.Common.{◌≡◌, ◌+◌, refl, sym, ◌∙◌, ap, subst, arith}
-use Rattle.mk_geom.specs.declared.pages.Page.{Page}
+use Rattle.std.proofs.Common.{◌≡◌, ◌+◌, ◌%◌, ◌^◌, refl, sym, ◌∙◌, ap, subst, arith}
+use Rattle.mk_geom.specs.Addresses.{address_of}
 use Rattle.mk_core.specs.declared.events.Step.TheVariants as step
 use Rattle.mk_core.specs.declared.seats.Object.{Object}
 use Rattle.mk_core.specs.ObjectHeaders.{IsSized, words_made}
+use Rattle.mk_core.specs.NewPlaces.{base_made}
 use Rattle.mk_core.specs.Words.{used_at}
 use Rattle.mk_core.proofs.Sizes.{words_within}
 use Rattle.mk_words.specs.States.{PassState, now_of}
@@ -11,7 +12,7 @@ use Rattle.mk_objects.specs.Placing.{object_for}
 use Rattle.mk_core.specs.Bits.{has_bit}
 use Rattle.mk_objects.proofs.Serves.{KnowsPlace, knows_place, place_unused}
 use Rattle.mk_objects.proofs.Takes.{HasGranted, HasTaken, counted, counted_held, few_held}
-use Rattle.mk_objects.proofs.Takes.{grant_admits, grant_may, grant_on}
+use Rattle.mk_objects.proofs.Takes.{grant_address, grant_admits, grant_may, grant_on, grant_register}
 use Rattle.mk_objects.proofs.Takes.{one_bit_more, small_index, tally_may, tally_on, used_may, used_on}
 use Rattle.mk_objects.proofs.UnsweptNews.{serving_sweeps}
 use Rattle.mk_objects.proofs.placing.serve.Goals as goal
@@ -46,13 +47,13 @@ pub used-requires-clause-enabled : goal.used-requires-clause-enabled
 used-requires-clause-enabled c =
     let p : PassState = c.args.turn.now.pass in
     let k = knows (goal.at.used-requires-clause-enabled c).After-is_in_order in
-    let known : used_at (now_of p).words c.args.place.page ≡ c.args.page.used =
-    sym (ap (λ (x : Page). x.used) c.requires.page) in
-    let clear : has_bit c.args.page.used c.args.place.index ≡ _ =
+    let known : used_at (now_of p).words c.args.place.page ≡ c.args.used =
+    sym c.requires.used in
+    let clear : has_bit c.args.used c.args.place.index ≡ _ =
     sym (ap (λ n. has_bit n c.args.place.index) known) ∙ place_unused p c.args.place k in
     subst (λ n. IsEnabledTo c.make_ready.new.turn.pass (step.Used c.args.place.page n))
-    (sym (one_bit_more c.args.page.used c.args.place.index (small_index p c.args.place k) clear))
-    (used_may p c.args.place c.requires.goes k c.make_ready.new.turn.pass c.args.page.used
+    (sym (one_bit_more c.args.used c.args.place.index (small_index p c.args.place k) clear))
+    (used_may p c.args.place c.requires.goes k c.make_ready.new.turn.pass c.args.used
     c.make_ready.ensures.ready known)
 
 pub grant-requires-clause-enabled : goal.grant-requires-clause-enabled
@@ -67,6 +68,29 @@ grant-requires-clause-admitted c =
     let k = knows x.After-is_in_order in
     grant_admits c.args.turn.now.pass c.args.place c.requires.goes k c.used.new.self.pass
     (taken x.After-used k) c.used.ensures.acts.makes.pass.history c.is_in_order.ensures.history
+
+pub grant-requires-clause-register : goal.grant-requires-clause-register
+grant-requires-clause-register c =
+    let x = goal.at.grant-requires-clause-register c in
+    let k = knows x.After-is_in_order in
+    c.requires.register
+    ∙ sym (grant_register c.args.turn.now.pass c.args.place c.requires.goes k c.used.new.self.pass (taken x.After-used k))
+
+pub grant-requires-clause-address : goal.grant-requires-clause-address
+grant-requires-clause-address c =
+    let x = goal.at.grant-requires-clause-address c in
+    let k = knows x.After-is_in_order in
+    c.address.ensures ∙ ap (λ (o : Object). address_of (base_made o c.args.place) % 2 ^ 64) c.requires.shape
+    ∙ sym (grant_address c.args.turn.now.pass c.args.place c.requires.goes k c.used.new.self.pass (taken x.After-used k))
+
+pub address-requires-clause-page : goal.address-requires-clause-page
+address-requires-clause-page c =
+    let k = knows (goal.at.address-requires-clause-page c).After-is_in_order in
+    omega (arith, k.within, c.is_in_order.ensures.history.within_limits.pages.1)
+
+pub address-requires-clause-index : goal.address-requires-clause-index
+address-requires-clause-index c =
+    small_index c.args.turn.now.pass c.args.place (knows (goal.at.address-requires-clause-index c).After-is_in_order)
 
 pub storage-requires : goal.storage-requires
 storage-requires c =

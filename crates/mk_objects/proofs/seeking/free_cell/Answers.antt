@@ -1,23 +1,29 @@
-use Rattle.std.proofs.Common.{rules, ap}
+use Rattle.std.proofs.Common.{◌≡◌, sym, ap, ◌∙◌}
+use Rattle.std.specs.Prelude.{option_map, false}
 use Rattle.mk_geom.specs.declared.pages.Page.{Page}
+use Rattle.mk_page_map.specs.Laws.{free_cell_on}
 use Rattle.mk_words.specs.States.{now_of}
-use Rattle.mk_objects.proofs.SoughtPlaces.{cell_told}
+use Rattle.mk_objects.proofs.SoughtPlaces.{cell_told, cell_is_there}
 use Rattle.mk_objects.proofs.seeking.free_cell.Goals as goal
+use Rattle.mk_objects.proofs.seeking.free_cell.Goals.{After-lowest_free}
 
-pub returns-in_err-index : goal.returns-in_err-index
-returns-in_err-index c =
-    let told =
+-- the lowest free cell by the used word is that of the page
+told : (c : After-lowest_free)
+    → option_map (λ index. record { page = c.args.page; index = index; carve = false }) c.lowest_free.result
+    ≡ free_cell_on c.args.class c.args.leaf (now_of c.args.turn.now.pass).words.pages c.args.page
+told c =
     cell_told (now_of c.args.turn.now.pass).words.pages c.args.page c.args.class c.page.result.used c.args.leaf
-    c.lowest_free.result c.requires.class (ap (λ
-    (p : Page). p.used) c.page.ensures) c.requires.block c.lowest_free.ensures
-    in
-    search rules
+    c.lowest_free.result c.requires.class (ap (λ (p : Page). p.used) c.page.ensures) c.requires.block
+    c.lowest_free.ensures
 
-pub returns : goal.returns
-returns c =
-    let told =
-    cell_told (now_of c.args.turn.now.pass).words.pages c.args.page c.args.class c.page.result.used c.args.leaf
-    c.lowest_free.result c.requires.class (ap (λ
-    (p : Page). p.used) c.page.ensures) c.requires.block c.lowest_free.ensures
-    in
-    search rules
+pub unreachable-requires : goal.unreachable-requires
+unreachable-requires c =
+    let x = (goal.at.unreachable-requires c).After-lowest_free in
+    let some = cell_is_there (now_of c.args.turn.now.pass).words.pages c.args.page c.args.class c.args.leaf
+    c.lowest_free.result (told x) c.requires.block in
+    c.in_default.not-Some some.0 some.1
+
+pub returns-clause-cell : goal.returns-clause-cell
+returns-clause-cell c =
+    sym (told (goal.at.returns-clause-cell c).After-lowest_free)
+    ∙ ap (option_map (λ index. record { page = c.args.page; index = index; carve = false })) c.in-Some.is

@@ -18,6 +18,6 @@ free_cell-requires-clause-block c =
 
 pub returns-in-Some : goal.returns-in-Some
 returns-in-Some c =
-    c.free_cell.ensures
+    sym c.free_cell.ensures.cell
     ∙ place_in_block c.the_lowest_block_has_the_place.ensures c.args.words.now.config.resident c.args.class
     c.in-Some.page c.args.leaf (now_of c.args.turn.now.pass).words.pages (sym c.first_block.ensures ∙ c.in-Some.is)

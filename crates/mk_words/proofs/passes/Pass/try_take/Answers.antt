@@ -1,7 +1,7 @@
 use Rattle.std.proofs.Common.{sym, refl, ap, arith}
 use Rattle.mk_words.specs.declared.homes.Carried.{Carried}
 use Rattle.mk_words.proofs.MapSteps.{as_carried, shows_that}
-use Rattle.mk_words.proofs.TurnSteps.{takes, take_finds, takes_fresh, fresh_knows, take_counts, take_waits}
+use Rattle.mk_words.proofs.TurnSteps.{takes, take_finds, takes_fresh, take_counts, take_waits}
 use Rattle.mk_words.proofs.passes.Pass.try_take.Goals as goal
 
 pub invariant_of-result : goal.invariant_of-result
@@ -12,7 +12,6 @@ invariant_of-result c =
     (record {
       turn =
           takes p c.args.op 0 h.pass h.ensures.taken refl;
-      knows = fresh_knows h.pass c.args.op (takes_fresh p c.args.op 0 h.pass h.ensures.taken refl);
       shows = shows_that _ _ _ (ap (λ (k : Carried). k.map) c.deref_mut.ensures.value) h.ensures.map;
       gates = tt;
     })

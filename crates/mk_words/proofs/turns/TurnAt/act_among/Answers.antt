@@ -3,7 +3,7 @@ use Rattle.mk_words.specs.States.{TurnState}
 use Rattle.mk_words.specs.TurnSteps.{Acts}
 use Rattle.mk_words.proofs.TurnSteps.{acts}
 use Rattle.mk_words.proofs.FreeTurns.{hands_none}
-use Rattle.mk_words.proofs.MapSteps.{takes_none, shows_still, turn_with_map}
+use Rattle.mk_words.proofs.MapSteps.{shows_still, turn_with_map}
 use Rattle.mk_words.proofs.turns.TurnAt.act_among.Goals as goal
 
 pub perform_among-requires-clause-hands_none : goal.perform_among-requires-clause-hands_none
@@ -14,8 +14,8 @@ invariant_of-self g c =
     let f = c.perform_among in
     let t = c.self.inside in
     let a = acts t.pass c.args.step f.new.self f.ensures.told.makes c.self.invariant.turn.holds in
-    turn_with_map t.pass c.args.step f.new.self a t.carried.value.op t.carried.value.cell t.carried.value.map
-    t.carried.value.map c.requires.stays (takes_none c.args.step c.requires.untold)
+    turn_with_map t.pass c.args.step f.new.self a t.carried.value.op t.carried.value.map t.carried.value.map
+    c.requires.stays
     (c.requires.gates _ (subst (λ (v : TurnState). Acts v.pass c.args.step f.new.self) c.self.view_is a))
     (shows_still t.pass c.args.step f.new.self a t.carried.value.map c.requires.untold c.self.invariant.shows)
     c.self.invariant

@@ -14,8 +14,8 @@ invariant_of-self g c =
     let t = c.self.inside in
     let s : Step = step.Look c.args.x in
     let a = acts t.pass s f.new.self f.ensures.told.makes c.self.invariant.turn.holds in
-    turn_still t.pass s f.new.self a t.carried.value.op t.carried.value.cell t.carried.value.map t.carried.value.map
-    refl refl (shows_still t.pass s f.new.self a t.carried.value.map refl c.self.invariant.shows) c.self.invariant
+    turn_still t.pass s f.new.self a t.carried.value.op t.carried.value.map t.carried.value.map refl
+    (shows_still t.pass s f.new.self a t.carried.value.map refl c.self.invariant.shows) c.self.invariant
 
 pub returns-clause-acts : goal.returns-clause-acts
 returns-clause-acts g c =

@@ -17,7 +17,7 @@ invariant_of-self g c =
     let a = acts t.pass s f.new.self f.ensures.told.makes c.self.invariant.turn.holds in
     let map : KnownPages = t.carried.value.map in
     let shown = c.self.invariant.shows in
-    turn_still t.pass s f.new.self a t.carried.value.op t.carried.value.cell map map refl refl
+    turn_still t.pass s f.new.self a t.carried.value.op map map refl
     (shows_mark t.pass c.args.page c.args.v f.new.self a map map
     (untold_mark map (now_of t.pass).words c.args.page
     (subst (λ (v : TurnState). header_at (now_of v.pass).words c.args.page ≢ 0) (sym c.self.view_is) c.requires.in_use)

@@ -22,8 +22,8 @@ invariant_of-self g c =
     let held = as_carried _ _ _ c.deref_mut.ensures.value c.self.invariant in
     let s : Step = step.Quar c.args.page c.args.v in
     let a = acts t.pass s f.new.self f.ensures.told.makes c.self.invariant.turn.holds in
-    turn_still t.pass s f.new.self a c.deref_mut.result.now.op c.deref_mut.result.now.cell c.deref_mut.result.now.map
-    c.quarantine_stored.new.self refl refl
+    turn_still t.pass s f.new.self a c.deref_mut.result.now.op c.deref_mut.result.now.map c.quarantine_stored.new.self
+    refl
     (shows_quar t.pass c.args.page c.args.v f.new.self
     a c.deref_mut.result.now.map c.quarantine_stored.new.self
     (record {

@@ -1,0 +1,76 @@
+use Rattle.std.proofs.Common.{◌≡◌, List, length, refl, sym, ◌∙◌, ap, arith}
+use Rattle.std.specs.Prelude.{Some, None}
+use Rattle.mk_geom.specs.declared.pages.Page.{Page}
+use Rattle.mk_core.proofs.Lengths.{histories_keep_lengths}
+use Rattle.mk_core.specs.NewPlaces.{place_on_pages}
+use Rattle.mk_words.specs.States.{PassState, now_of}
+use Rattle.mk_objects.specs.Placing.{object_for}
+use Rattle.mk_objects.proofs.JoinedLooks.{granted_behind_looks, looks_nothing, looks_pages}
+use Rattle.mk_objects.proofs.PlacedNews.{fit_found, fit_within, goes_behind, place_found}
+use Rattle.mk_objects.proofs.UnsweptNews.{looks_sweep}
+use Rattle.mk_objects.proofs.placing.place_apart.Goals as goal
+use Rattle.mk_objects.proofs.placing.place_apart.Goals.{After-seek}
+
+-- the place that was sought is where it fits
+fit : (c : After-seek)
+    → place_on_pages c.args.turn.now.pass.table.config.resident (now_of c.args.turn.now.pass).words.pages
+    (object_for c.args.turn.now.pass)
+    ≡ c.seek.result
+fit c =
+    let p : PassState = c.args.turn.now.pass in
+    fit_found p c.args.words.now (now_of p).words.pages c.args.words.now.config.resident c.args.shape
+    c.seek.result c.requires.one_table refl refl c.requires.shape c.seek.ensures
+
+pub page-page-requires : goal.page-page-requires
+page-page-requires c =
+    let x = goal.at.page-page-requires c in
+    let p : PassState = c.args.turn.now.pass in
+    let within = fit_within p c.args.turn.now.op c.in-Some.place c.is_in_order.ensures.turn
+    c.is_in_order.ensures.history c.requires.unplaced (fit x.After-seek ∙ c.in-Some.is) in
+    omega (arith, within, (histories_keep_lengths p.table.config p.seen).pages)
+
+pub serve_now-requires-clause-goes : goal.serve_now-requires-clause-goes
+serve_now-requires-clause-goes c =
+    let x = goal.at.serve_now-requires-clause-goes c in
+    let p : PassState = c.args.turn.now.pass in
+    goes_behind p p c.in-Some.place (looks_nothing p) c.requires.unplaced
+    (fit x.After-seek ∙ c.in-Some.is)
+
+pub returns-in-None-clause-book : goal.returns-in-None-clause-book
+returns-in-None-clause-book c =
+    let p : PassState = c.args.turn.now.pass in
+    ap (λ (ps : List Page). length ps) c.fill.ensures.filled
+    ∙ (histories_keep_lengths p.table.config p.seen).pages ∙ sym c.requires.book
+
+pub returns-in-None-clause-nowhere : goal.returns-in-None-clause-nowhere
+returns-in-None-clause-nowhere c =
+    let x = goal.at.returns-in-None-clause-nowhere c in
+    let p : PassState = c.args.turn.now.pass in
+    λ h. record {
+      nowhere = place_found p c.args.turn.now.op None c.is_in_order.ensures.turn c.is_in_order.ensures.history
+          c.requires.unplaced
+          (fit x.After-seek ∙ c.in-None.is);
+      looks = c.fill.ensures.looks;
+    }
+
+pub returns-in-None-clause-shows : goal.returns-in-None-clause-shows
+returns-in-None-clause-shows c =
+    let p : PassState = c.args.turn.now.pass in
+    λ h. c.fill.ensures.filled ∙ sym (looks_pages p c.fill.new.turn.pass c.fill.ensures.looks)
+
+pub returns-in-None-clause-reached : goal.returns-in-None-clause-reached
+returns-in-None-clause-reached c = looks_sweep c.args.turn.now.pass c.fill.new.turn.pass c.fill.ensures.looks
+
+pub returns-in-Some-clause-placed : goal.returns-in-Some-clause-placed
+returns-in-Some-clause-placed c =
+    let x = goal.at.returns-in-Some-clause-placed c in
+    let p : PassState = c.args.turn.now.pass in
+    λ h. record {
+      place = c.in-Some.place;
+      fits = place_found p c.args.turn.now.op (Some c.in-Some.place) c.is_in_order.ensures.turn
+          c.is_in_order.ensures.history c.requires.unplaced
+          (fit x.After-seek ∙ c.in-Some.is);
+      granted = granted_behind_looks p p c.serve_now.new.turn.pass c.in-Some.place (looks_nothing p)
+          c.serve_now.ensures.granted;
+      held = c.serve_now.ensures.held;
+    }

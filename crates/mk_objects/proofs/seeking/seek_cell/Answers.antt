@@ -1,0 +1,54 @@
+use Rattle.std.proofs.Common.{◌≡◌, sym, ap, ◌∙◌, arith}
+use Rattle.std.specs.Prelude.{◌==◌, Option, option_and_then, true}
+use Rattle.std.proofs.lemmas.Bool.{cond-true, le-leb}
+use Rattle.mk_geom.specs.Classes.{is_small_size}
+use Rattle.mk_geom.specs.PageUses.{small_place}
+use Rattle.mk_geom.specs.PageWords.{uses_of_pages}
+use Rattle.mk_core.proofs.Lengths.{histories_keep_lengths}
+use Rattle.mk_core.specs.Words.{header_at}
+use Rattle.mk_page_map.specs.Members.{page_at}
+use Rattle.mk_words.specs.States.{PassState, now_of}
+use Rattle.mk_objects.proofs.SoughtPlaces.{IsBlock, block_found, block_has_header, place_in_block}
+use Rattle.mk_objects.proofs.seeking.seek_cell.Goals as goal
+use Rattle.mk_objects.proofs.seeking.seek_cell.Goals.{In-Some-first_block}
+
+-- the block that was found
+block : (c : In-Some-first_block)
+    → IsBlock (now_of c.args.turn.now.pass).words.pages c.in-Some.class c.args.shape.leaf c.in-Some-first_block.page
+block c =
+    block_found (now_of c.args.turn.now.pass).words.pages c.in-Some.class c.args.shape.leaf c.in-Some-first_block.page
+    (sym c.first_block.ensures ∙ c.in-Some-first_block.is)
+
+pub free_cell-requires-clause-within : goal.free_cell-requires-clause-within
+free_cell-requires-clause-within c =
+    let p : PassState = c.args.turn.now.pass in
+    omega (
+      arith,
+      (block (goal.at.free_cell-requires-clause-within c).In-Some-first_block).within,
+      (histories_keep_lengths p.table.config p.seen).pages,
+    )
+
+pub free_cell-requires-clause-block : goal.free_cell-requires-clause-block
+free_cell-requires-clause-block c =
+    (block (goal.at.free_cell-requires-clause-block c).In-Some-first_block).free
+
+pub returns-clause-fits : goal.returns-clause-fits
+returns-clause-fits c =
+    let p : PassState = c.args.turn.now.pass in
+    let limit = c.args.words.now.config.resident in
+    let small : is_small_size c.args.shape.words ≡ true = le-leb c.args.shape.words 32 (omega
+    (arith, c.if-shape-gt-SMALL_WORDS.false)) in
+    cond-true (is_small_size c.args.shape.words) _ _ small
+    ∙ ap (λ (class : Option _). option_and_then
+    (λ k. small_place limit k c.args.shape.leaf (uses_of_pages (now_of p).words.pages)) class)
+    (sym c.class_of.ensures.exact ∙ c.in-Some.is)
+    ∙ sym (place_in_block c.the_lowest_block_has_the_place.ensures limit c.in-Some.class c.in-Some-first_block.page
+    c.args.shape.leaf (now_of p).words.pages (sym c.first_block.ensures ∙ c.in-Some-first_block.is))
+    ∙ c.free_cell.ensures.cell
+
+pub returns-clause-block : goal.returns-clause-block
+returns-clause-block c =
+    let pages = (now_of c.args.turn.now.pass).words.pages in
+    ap (λ n. header_at (now_of c.args.turn.now.pass).words n == 0) c.free_cell.ensures.page
+    ∙ block_has_header (page_at pages c.in-Some-first_block.page) c.in-Some.class c.args.shape.leaf
+    (block (goal.at.returns-clause-block c).In-Some-first_block).free
