@@ -7,6 +7,7 @@ use Rattle.std.proofs.lemmas.Bool.{and_from, and_parts, cases_lt, eqb-true, fals
 use Rattle.std.proofs.lemmas.List.{get_or-set_same, get_or-set_other, get_or_past, set_past}
 use Rattle.mk_geom.specs.declared.addresses.Cell.{Cell}
 use Rattle.mk_geom.specs.declared.pages.Place.{Place}
+use Rattle.mk_geom.specs.Addresses.{page_at_address}
 use Rattle.mk_geom.specs.PageUses.{or_else}
 use Rattle.mk_geom.specs.Headers.{header_of}
 use Rattle.mk_core.specs.declared.config.Config.{Config}
@@ -44,24 +45,25 @@ use Rattle.mk_marker.proofs.PointedCells.{pointed_is_cell}
 use Rattle.mk_words.specs.States.{PassState, TurnState, now_of, call_of, event_of}
 use Rattle.mk_words.specs.Steps.{Finds, IsEnabledTo, found_by}
 use Rattle.mk_words.specs.TurnSteps.{Acts, world_at}
-use Rattle.mk_words.proofs.Made.{stands_behind_others}
+use Rattle.mk_words.proofs.Made.{own_before, pass_before, stands_behind_others}
+use Rattle.mk_turns.specs.Pointing.{LooksForCell, MayLookAtHeaders}
 use Rattle.mk_turns.proofs.Doing.{does_step}
+use Rattle.mk_turns.proofs.PointedCells.{found_there, looked_for}
 use Rattle.mk_tracing.specs.Grays.{IsInHand, HandPointsInto, MarksReached, TracesReached}
 use Rattle.mk_tracing.specs.Stops.{hand_of, is_root}
 use Rattle.mk_tracing.proofs.MaySteps.{marks_by}
 use Rattle.mk_tracing.proofs.MoreMarks.{marked_now}
-use Rattle.mk_tracing.proofs.Steps.{found_there}
 use Rattle.mk_cycle.specs.EngineLaw.{is_register}
 use Rattle.mk_cycle.specs.Kinds.{begins_marking}
-use Rattle.mk_cycle.specs.TurnKeeps.{InTurn, LeavesTurn, unchanged}
-use Rattle.mk_cycle.proofs.Allowed.{protocol}
+use Rattle.mk_cycle.specs.TurnKeeps.{InTurn, KeepsGates, LeavesTurn, unchanged}
+use Rattle.mk_cycle.proofs.Allowed.{in_turn_after, look_allowed, protocol}
 use Rattle.mk_cycle.proofs.CleaningSteps.{calm_keeps}
-use Rattle.mk_cycle.proofs.KeptInParts.{held_so}
+use Rattle.mk_cycle.proofs.KeptInParts.{gates_behind, held_so}
 use Rattle.mk_cycle.proofs.MayAct.{may_act}
 use Rattle.mk_cycle.proofs.OwnSteps.{done_in, keeps_call, keeps_counts}
 use Rattle.mk_engines.specs.Beside.{FindsInRoot, GoesBeside, IsBeside, IsOpenToLook, KeepsOtherGates, StaysWell}
 use Rattle.mk_engines.specs.Beside.{found_well, gives_no_hand, looks_at_root}
-use Rattle.mk_engines.proofs.MarksBeside.{still_beside}
+use Rattle.mk_engines.proofs.MarksBeside.{gates_at_once, goes_nowhere, still_beside}
 use Rattle.mk_engines.proofs.Since.{done_step, keeps_step}
 
 -- words that give no hand
@@ -224,6 +226,26 @@ module _ (p q : PassState) (x : Word) (a : Acts p (step.Look x) q) where
       by (word.Reg j r) value h = refl
       by (word.Global g) value h = refl
       by _ value h = cc
+
+-- The cell into which a value points is looked for.
+
+pub may_look_at_headers : (p : PassState) → InTurn p → IsBeside p → MayLookAtHeaders p
+may_look_at_headers p t b page lt = look_allowed p t b.free (word.Head page) (lt-ltb page _ lt) refl
+
+-- before a step of the turn
+in_turn_before : {p : PassState} {s : Step} {q : PassState} → Acts p s q → InTurn p
+in_turn_before a = record { own = own_before a.makes; holds = a.holds; history = (pass_before a.makes).history }
+
+module _ {value : ℕ} {t u : TurnState} (l : LooksForCell value t u) where
+  pub goes_for_cell : IsBeside t.pass → GoesBeside t u
+  goes_for_cell b =
+      looked_for (λ (v : TurnState). GoesBeside t v) l (goes_nowhere t b)
+      (λ a. goes_look t u (in_turn_before a) (in_turn_after a refl) b l.op (word.Head (page_at_address value)) a refl)
+
+  pub gates_for_cell : KeepsGates t.pass u.pass
+  gates_for_cell =
+      looked_for (λ (v : TurnState). KeepsGates t.pass v.pass) l (gates_at_once t.pass)
+      (λ a. gates_behind t.pass (step.Look (word.Head (page_at_address value))) u.pass a refl)
 
 -- A mark by the hand: the cell's page has a header, so it isn't the place of a New.
 

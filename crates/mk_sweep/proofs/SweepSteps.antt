@@ -9,7 +9,7 @@ use Rattle.mk_sweep.proofs.Vocabulary.{Step, SweepsBy, SweepsOn, TurnState, Unto
 use Rattle.mk_sweep.proofs.Vocabulary.{cell_of_allocation, event_of, has_no_pointers, header_in, heap_looks, is_mapped}
 use Rattle.mk_sweep.proofs.Vocabulary.{is_marked, is_phase, now_of, others_are_held, phase_of, placed_at, pointed_cell}
 use Rattle.mk_sweep.proofs.Vocabulary.{still_words, storage_of, untouched_of, world_of}
-use Rattle.mk_geom.specs.Addresses.{address_of}
+use Rattle.mk_geom.specs.Addresses.{address_of, page_at_address}
 use Rattle.mk_geom.specs.PageUses.{or_else}
 use Rattle.mk_core.specs.declared.events.Step.TheVariants as step
 use Rattle.mk_core.specs.declared.events.Word.{Word}
@@ -29,13 +29,16 @@ use Rattle.mk_laws.specs.Protocol.{has_place}
 use Rattle.mk_laws.proofs.MappedWords.{mapped_stays}
 use Rattle.mk_words.specs.Steps.{Finds}
 use Rattle.mk_words.specs.TurnSteps.{world_at}
+use Rattle.mk_words.proofs.Made.{own_before}
+use Rattle.mk_turns.specs.Pointing.{LooksForCell, MayLookAtHeaders}
+use Rattle.mk_turns.proofs.PointedCells.{found_there, looked_for}
 use Rattle.mk_tracing.specs.Stops.{IsWanted, hand_of, is_page_word, is_root}
 use Rattle.mk_tracing.specs.Tracing.{Traces, is_marking}
-use Rattle.mk_tracing.proofs.MaySteps.{may_mark_by_hand, marks_by}
+use Rattle.mk_tracing.proofs.MaySteps.{may_look, may_mark_by_hand, marks_by}
 use Rattle.mk_tracing.proofs.Parts.{traces_alike, traces_nothing, traces_then}
-use Rattle.mk_tracing.proofs.Steps.{found_there, step_untouched}
+use Rattle.mk_tracing.proofs.Steps.{step_untouched}
 use Rattle.mk_tracing.proofs.Stilled.{but_phase, found_now, hand_now, is_stopped_step, phase_there, root_hand}
-use Rattle.mk_tracing.proofs.Stilled.{still_wanted, stopped_traces, words_there}
+use Rattle.mk_tracing.proofs.Stilled.{look_words, still_wanted, stopped_traces, words_there}
 use Rattle.mk_sweep.specs.Swept.{IsSweptCell}
 use Rattle.mk_sweep.specs.Sweeping.{HasInHand, IsReachedCell, IsSweeping, word_looked_at}
 use Rattle.mk_sweep.proofs.Done.{looks_in_parts, looks_of_nothing, looks_of_step}
@@ -167,6 +170,24 @@ module _ (t u : TurnState) (sweeping : IsSweeping t.pass)
 
   pub on_undirty : (page : ℕ) → Acts t.pass (step.Undirty page) u.pass → SweepsOn t u []
   on_undirty page a = sweeps_by_step (step.Undirty page) a refl refl tt
+
+-- The cell into which a value points is looked for.
+
+pub may_look_at_headers : {p : PassState} → IsSweeping p → HoldsAll p.table.config (now_of p) p.seat
+    → MayLookAtHeaders p
+may_look_at_headers {p} sweeping all page lt = may_look p sweeping.wanted all (word.Head page) (lt-ltb page _ lt)
+
+module _ {value : ℕ} {t u : TurnState} (l : LooksForCell value t u) (sweeping : IsSweeping t.pass)
+    (all : HoldsAll t.pass.table.config (now_of t.pass) t.pass.seat) where
+  pub sweeps_for_cell : SweepsOn t u []
+  sweeps_for_cell =
+      looked_for (λ (v : TurnState). SweepsOn t v []) l (sweeps_from t sweeping)
+      (λ a. on_plain t u sweeping all (own_before a.makes) l.op (word.Head (page_at_address value)) a refl)
+
+  pub words_for_cell : still_words u.pass ≡ still_words t.pass
+  words_for_cell =
+      looked_for (λ (v : TurnState). still_words v.pass ≡ still_words t.pass) l refl
+      (λ a. look_words t.pass u.pass sweeping.wanted all (word.Head (page_at_address value)) a refl)
 
 -- The hand stays, through looks that leave it.
 pub hand_kept : {t u : TurnState} {ns : List ℕ} {n : ℕ} → SweepsOn t u ns → hand_of u.pass ≡ hand_of t.pass

@@ -2,12 +2,13 @@
 use Rattle.std.proofs.Common.{◌≡◌, ◌∙◌, ℕ, true, false, List, refl, sym, ap, subst, zero, suc, ◌+◌, Bool, cond, [], ◌∷◌}
 use Rattle.std.proofs.Common.{◌++◌, count_by, append_assoc, arith}
 use Rattle.std.specs.Prelude.{slice_index_or, ◌&&◌, not}
-use Rattle.std.proofs.lemmas.Bool.{and_from, and_parts, eq-eqb, not-true, true≢false}
+use Rattle.std.proofs.lemmas.Bool.{and_from, and_parts, eq-eqb, lt-ltb, not-true, true≢false}
 use Rattle.std.proofs.lemmas.List.{append_cancel_left}
 use Rattle.std.proofs.lemmas.List.Sums.{sum_by-append, sum_by-cons}
 use Rattle.mk_why.proofs.Vocabulary.{Config, Event, IsHistory, IsStill, LooksOn, PassState, TurnState, View, Words}
 use Rattle.mk_why.proofs.Vocabulary.{World, is_still_word, is_word, left, named_word, now_of, others_are_held, phase_of}
 use Rattle.mk_why.proofs.Vocabulary.{view_by, view_of}
+use Rattle.mk_geom.specs.Addresses.{page_at_address}
 use Rattle.mk_core.specs.declared.events.Seat.{Seat}
 use Rattle.mk_core.specs.declared.events.Seat.TheVariants.{Caller, Host, Marker}
 use Rattle.mk_core.specs.declared.events.Step.{Step}
@@ -28,9 +29,11 @@ use Rattle.mk_words.specs.States.{event_of}
 use Rattle.mk_words.specs.Steps.{Finds, IsAdmittedTo, IsEnabledTo}
 use Rattle.mk_words.specs.TurnSteps.{Acts, world_at}
 use Rattle.mk_turns.proofs.Doing.{does_nothing, does_step, does_then, done_in_parts}
+use Rattle.mk_turns.specs.Pointing.{LooksForCell, MayLookAtHeaders}
+use Rattle.mk_turns.proofs.PointedCells.{found_there, looked_for}
 use Rattle.mk_tracing.specs.Stops.{IsWanted}
 use Rattle.mk_tracing.proofs.MaySteps.{may_look}
-use Rattle.mk_tracing.proofs.Steps.{found_there, may_step}
+use Rattle.mk_tracing.proofs.Steps.{may_step}
 use Rattle.mk_cycle.specs.TurnKeeps.{InTurn, LeavesTurn, but_phase}
 use Rattle.mk_cycle.proofs.CleaningSteps.{calm_keeps}
 use Rattle.mk_cycle.proofs.KeptInParts.{free_then, keeps_at_once, keeps_then}
@@ -173,6 +176,19 @@ looks_then {t} {u} {v} one two =
       view = two.view ∙ one.view;
       still = two.still;
     }
+
+-- The cell into which a value points is looked for.
+
+module _ (t : TurnState) (turn : InTurn t.pass)
+    (gates : others_are_held t.pass.table.config.callers (now_of t.pass).words t.pass.seat ≡ true)
+    (still : IsStill t.pass) where
+  pub may_look_at_headers : MayLookAtHeaders t.pass
+  may_look_at_headers page lt = look_enabled t.pass turn gates still (word.Head page) (lt-ltb page _ lt)
+
+  pub looks_for_cell : {value : ℕ} {u : TurnState} → LooksForCell value t u → LooksOn t u
+  looks_for_cell {value} {u} l =
+      looked_for (λ (v : TurnState). LooksOn t v) l (looks_at_nothing t still)
+      (λ a. look_on t u (word.Head (page_at_address value)) a turn gates a.makes.pass.history still l.op)
 
 -- Looks after an engine's marks leave its law, and what is said of the view.
 
