@@ -187,7 +187,7 @@ module _ {value : ℕ} {t u : TurnState} (l : LooksForCell value t u) (sweeping 
   pub words_for_cell : still_words u.pass ≡ still_words t.pass
   words_for_cell =
       looked_for (λ (v : TurnState). still_words v.pass ≡ still_words t.pass) l refl
-      (λ a. look_words t.pass u.pass sweeping.wanted all (word.Head (page_at_address value)) a refl)
+      (λ a. look_words t.pass u.pass sweeping.wanted all (word.Head (page_at_address value)) a)
 
 -- The hand stays, through looks that leave it.
 pub hand_kept : {t u : TurnState} {ns : List ℕ} {n : ℕ} → SweepsOn t u ns → hand_of u.pass ≡ hand_of t.pass
@@ -255,7 +255,7 @@ module _ (p q : PassState) (sweeping : IsSweeping p) (all : HoldsAll p.table.con
     m = (world_at acts.makes).now
 
     still : but_phase (world_at acts.makes).now.words ≡ still_words p
-    still = words_there p q (step.Look (word.Heap n)) acts sweeping.wanted all refl
+    still = words_there p q (step.Look (word.Heap n)) acts sweeping.wanted all
 
     abbrev gives : Bool → Bool → Bool → ℕ → Option Hand
     gives bare marked mapped value =
@@ -279,7 +279,7 @@ module _ (p q : PassState) (sweeping : IsSweeping p) (all : HoldsAll p.table.con
         and_from (is_in_stop p.table.config.callers m.words p.seat) (is_mapped_cell m.words m.seats.holding.placing
         cell)
         (and_from (is_phase m.words 2) (others_are_held p.table.config.callers m.words p.seat)
-        (eq-eqb (phase_of m.words) 2 (phase_there p q (step.Look (word.Heap n)) acts sweeping.wanted all refl))
+        (eq-eqb (phase_of m.words) 2 (phase_there p q (step.Look (word.Heap n)) acts sweeping.wanted all))
         (ap (λ (w : Words). others_are_held p.table.config.callers w p.seat) still ∙ all.1))
         (ap (λ (w : Words). is_mapped_cell w m.seats.holding.placing cell) still
         ∙ ap (λ (x : Holding). is_mapped_cell (now_of p).words x.placing cell) acts.holding

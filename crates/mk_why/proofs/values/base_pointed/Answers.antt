@@ -14,17 +14,14 @@ use Rattle.mk_why.proofs.values.base_pointed.Goals.{After-cell_pointed, In-Some}
 
 pub cell_pointed-requires-clause-may : goal.cell_pointed-requires-clause-may
 cell_pointed-requires-clause-may c =
-    may_look_at_headers c.args.stop.now
+    may_look_at_headers
     (in_turn _ _ c.is_in_order.ensures.own c.is_in_order.ensures.turn c.is_in_order.ensures.history)
     c.is_in_order.ensures.gates c.requires.still
 
 -- what looking for the cell leaves, and what the value points into by the view as it was
 
 looks : (c : After-cell_pointed) → LooksOn c.args.stop.now c.cell_pointed.new.turn
-looks c =
-    looks_for_cell c.args.stop.now
-    (in_turn _ _ c.is_in_order.ensures.own c.is_in_order.ensures.turn c.is_in_order.ensures.history)
-    c.is_in_order.ensures.gates c.requires.still c.cell_pointed.ensures.looks
+looks c = looks_for_cell c.cell_pointed.ensures.looks c.is_in_order.ensures.gates c.requires.still
 
 here : (c : After-cell_pointed) (cell : Option Cell)
     → cell ≡ pointed_cell c.args.words.now.config.pages (now_of c.cell_pointed.new.turn.pass).words.pages c.args.value
