@@ -3,7 +3,7 @@ use Rattle.std.proofs.Common.{◌≡◌, ◌∙◌, ℕ, ◌+◌, ◌*◌, ◌^�
 use Rattle.std.proofs.Common.{option_and_then, refl, sym, ap, subst, arith, append-nil}
 use Rattle.std.specs.Prelude.{Some, None, slice_index, if◌then◌else◌, ◌&&◌, not}
 use Rattle.std.proofs.lemmas.Bool.{and_from, and_parts, eq-eqb, lt-ltb, ne_eqb}
-use Rattle.mk_sweep.proofs.Vocabulary.{Acts, Cell, Config, Has, InGlobal, InRegister, InWord, IsEnabledTo, IsHistory}
+use Rattle.mk_sweep.proofs.Vocabulary.{Acts, Cell, Config, InGlobal, InRegister, InWord, IsEnabledTo, IsHistory}
 use Rattle.mk_sweep.proofs.Vocabulary.{IsScannedWord, IsSettled, IsSweptValue, Moment, PassState, PlacedAllocation}
 use Rattle.mk_sweep.proofs.Vocabulary.{Step, SweepsBy, SweepsOn, TurnState, Untouched, Words, WordsState, World}
 use Rattle.mk_sweep.proofs.Vocabulary.{cell_of_allocation, event_of, has_no_pointers, header_in, heap_looks, is_mapped}
@@ -114,11 +114,11 @@ settled_kept p q pass same two settled =
     }
 
 module _ (t u : TurnState) (sweeping : IsSweeping t.pass)
-    (all : HoldsAll t.pass.table.config (now_of t.pass) t.pass.seat)
-    (own : Has t.pass.seats t.pass.seat) (same : u.op ≡ t.op) where
+    (all : HoldsAll t.pass.table.config (now_of t.pass) t.pass.seat) (same : u.op ≡ t.op) where
   pub sweeps_by_step : (s : Step) (a : Acts t.pass s u.pass) → is_stopped_step s ≡ true → is_marking s ≡ true
       → SweepsBy (world_of t.pass) t.pass.table.config (world_at a.makes).now s → SweepsOn t u (word_looked_at s)
   sweeps_by_step s a stopped kind ruled =
+      let own = own_before a.makes in
       let traces = stopped_traces t.pass u.pass s a sweeping.wanted all stopped own (SweepsBy (world_of t.pass))
       kind ruled in
       let wanted = still_wanted t.pass u.pass s a sweeping.wanted all stopped in
@@ -182,7 +182,7 @@ module _ {value : ℕ} {t u : TurnState} (l : LooksForCell value t u) (sweeping 
   pub sweeps_for_cell : SweepsOn t u []
   sweeps_for_cell =
       looked_for (λ (v : TurnState). SweepsOn t v []) l (sweeps_from t sweeping)
-      (λ a. on_plain t u sweeping all (own_before a.makes) l.op (word.Head (page_at_address value)) a refl)
+      (λ a. on_plain t u sweeping all l.op (word.Head (page_at_address value)) a refl)
 
   pub words_for_cell : still_words u.pass ≡ still_words t.pass
   words_for_cell =

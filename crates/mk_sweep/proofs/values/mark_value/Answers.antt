@@ -1,4 +1,4 @@
-use Rattle.std.proofs.Common.{◌≡◌, ◌∙◌, ap, sym, [], ℕ}
+use Rattle.std.proofs.Common.{◌≡◌, ◌∙◌, ap, sym, []}
 use Rattle.std.specs.Prelude.{Some}
 use Rattle.mk_sweep.proofs.Vocabulary.{SweepsOn, Words, WordsState, now_of, pointed_cell, still_words}
 use Rattle.mk_core.proofs.PointedPages.{pointed_within}
